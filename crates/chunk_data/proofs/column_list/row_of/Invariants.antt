@@ -1,0 +1,7 @@
+use Rattle.std.proofs.Common.{◌≡◌, map, take}
+use Rattle.chunk_data.specs.Values.{value_at}
+use Rattle.chunk_data.specs.Columns.{values}
+use Rattle.chunk_data.proofs.column_list.row_of.Given as goal
+
+abbrev pub invariant-loop-column : goal.invariant-loop-column
+invariant-loop-column l = l.row.items ≡ map (λ column. value_at column l.i) (map values (take l.column-index l.columns))

@@ -1,0 +1,8 @@
+use Rattle.std.proofs.Common.{◌≡◌, ◌+◌, ◌-◌, ◌≤◌, ◌++◌, length, map, take}
+use Rattle.std.specs.Vec.{vec_len, vec_capacity}
+use Rattle.chunk_data.proofs.text_column.push_shifted.Given as goal
+
+abbrev pub invariant-loop-end : goal.invariant-loop-end
+invariant-loop-end l =
+    (l.ends.items ≡ l.initial.ends.items ++ map (λ e. l.by + e) (take l.end-index l.others))
+    × (vec_len l.ends + (length l.others - l.end-index) ≤ vec_capacity l.ends)

@@ -1,0 +1,5 @@
+pub mod formers
+pub mod Texts
+pub mod Values
+pub mod Rows
+pub mod Columns

@@ -1,0 +1,170 @@
+ghost use Rattle.std.specs.Prelude.{◌≡◌, ℕ, ◌+◌, ◌≤◌, ◌<◌, ◌++◌, ◌∷◌, [], length, map, take, drop, OnOk, OnErr, IfOk};
+ghost use Rattle.std.specs.List.{All, count_by};
+ghost use Rattle.chunk_data.specs.Values.{type_of, value_at};
+ghost use Rattle.chunk_data.specs.Columns.{kind_of, values};
+ghost use Rattle.chunk_data.specs.Rows.{kept, joined, AreLong};
+
+use crate::lists::Memory;
+use crate::lists::List;
+use crate::typed_column::Column;
+use crate::typed_value::{ColumnType, Value};
+use std::alloc::Global;
+
+/// How many are true.
+pub(crate) fn count_true(mask: &[bool]) -> usize
+    ensures { result ≡ count_by (λ m. m) mask.now }
+{
+    mask.iter().filter(|stays| **stays).count()
+}
+
+/// A column without values of each type.
+pub(crate) fn empty_columns(alloc: Global, kinds: &[ColumnType]) -> Result<Vec<Column>, Memory>
+    ensures kinds { IfOk result (λ v. map kind_of v.items ≡ kinds.now) }
+    ensures empty { IfOk result (λ v. map values v.items ≡ map (λ _. []) kinds.now) }
+{
+    let mut columns = Vec::new(alloc);
+    for kind in kinds {
+        columns.push(Column::new(alloc, *kind))?;
+    }
+    Ok(columns)
+}
+
+/// Keeps in each column the values whose place in the mask has true.
+pub(crate) fn keep_all(columns: &mut [Column], mask: &[bool])
+    requires { AreLong (length mask.now) (map values columns.old) }
+    ensures kinds { map kind_of columns.new ≡ map kind_of columns.old }
+    ensures kept { map values columns.new ≡ map (kept mask.now) (map values columns.old) }
+{
+    for i in 0..columns.len() {
+        columns[i].keep(mask);
+    }
+}
+
+/// Leaves of each column the first n values.
+pub(crate) fn truncate_all(columns: &mut [Column], n: usize)
+    ensures kinds { map kind_of columns.new ≡ map kind_of columns.old }
+    ensures front { map values columns.new ≡ map (take n) (map values columns.old) }
+{
+    for i in 0..columns.len() {
+        columns[i].truncate(n);
+    }
+}
+
+/// Appends each column of the others to the one beside it; after an error none has changed.
+pub(crate) fn append_all(
+    columns: &mut [Column],
+    others: &[Column],
+    count: usize,
+) -> Result<(), Memory>
+    requires agree { map kind_of others.now ≡ map kind_of columns.old }
+    requires long { AreLong count (map values columns.old) }
+    ensures kinds { map kind_of columns.new ≡ map kind_of columns.old }
+    ensures ok { OnOk result (map values columns.new ≡ joined (map values columns.old) (map values others.now)) }
+    ensures err { OnErr result (map values columns.new ≡ map values columns.old) }
+{
+    for i in 0..columns.len() {
+        match columns[i].append(&others[i]) {
+            Ok(()) => {}
+            Err(memory) => {
+                truncate_all(columns, count);
+                return Err(memory);
+            }
+        }
+    }
+    Ok(())
+}
+
+/// Appends each value of the row to the column beside it; after an error none has changed.
+pub(crate) fn push_all(columns: &mut [Column], row: &[Value], count: usize) -> Result<(), Memory>
+    requires agree { map type_of row.now ≡ map kind_of columns.old }
+    requires long { AreLong count (map values columns.old) }
+    ensures kinds { map kind_of columns.new ≡ map kind_of columns.old }
+    ensures ok { OnOk result (map values columns.new ≡ joined (map values columns.old) (map (λ v. v ∷ []) row.now)) }
+    ensures err { OnErr result (map values columns.new ≡ map values columns.old) }
+{
+    for i in 0..columns.len() {
+        match columns[i].push_copy(&row[i]) {
+            Ok(()) => {}
+            Err(memory) => {
+                truncate_all(columns, count);
+                return Err(memory);
+            }
+        }
+    }
+    Ok(())
+}
+
+/// The same types.
+pub(crate) fn copy_kinds(
+    alloc: Global,
+    kinds: &List<ColumnType>,
+) -> Result<List<ColumnType>, Memory>
+    ensures { IfOk result (λ l. l ≡ kinds.now) }
+{
+    let mut copy = List::new(alloc);
+    for kind in kinds.as_slice() {
+        if copy.push(*kind).is_err() {
+            return Err(Memory);
+        }
+    }
+    Ok(copy)
+}
+
+/// Each column's values at the places.
+pub(crate) fn gather_all(
+    alloc: Global,
+    columns: &[Column],
+    places: &[usize],
+    count: usize,
+) -> Result<Vec<Column>, Memory>
+    requires long { AreLong count (map values columns.now) }
+    requires in_range { All (λ p. p < count) places.now }
+    ensures kinds { IfOk result (λ v. map kind_of v.items ≡ map kind_of columns.now) }
+    ensures gathered { IfOk result (λ v. map values v.items ≡ map (λ column. map (value_at column) places.now) (map values columns.now)) }
+{
+    let mut gathered = Vec::new(alloc);
+    for column in columns {
+        gathered.push(column.gather(alloc, places)?)?;
+    }
+    Ok(gathered)
+}
+
+/// Each column's value at i.
+pub(crate) fn row_of(
+    alloc: Global,
+    columns: &[Column],
+    i: usize,
+    count: usize,
+) -> Result<List<Value>, Memory>
+    requires long { AreLong count (map values columns.now) }
+    requires in_range { i < count }
+    ensures { IfOk result (λ row. row ≡ map (λ column. value_at column i) (map values columns.now)) }
+{
+    let mut row = Vec::new(alloc);
+    for column in columns {
+        row.push(column.value(alloc, i)?)?;
+    }
+    Ok(List::from_vec(row))
+}
+
+/// Each column's first n values, copied.
+pub(crate) fn front_all(alloc: Global, columns: &[Column], n: usize) -> Result<Vec<Column>, Memory>
+    ensures kinds { IfOk result (λ v. map kind_of v.items ≡ map kind_of columns.now) }
+    ensures front { IfOk result (λ v. map values v.items ≡ map (take n) (map values columns.now)) }
+{
+    let mut front = Vec::new(alloc);
+    for column in columns {
+        front.push(column.front(alloc, n)?)?;
+    }
+    Ok(front)
+}
+
+/// Leaves of each column what follows its first n values.
+pub(crate) fn remove_front_all(columns: &mut [Column], n: usize)
+    ensures kinds { map kind_of columns.new ≡ map kind_of columns.old }
+    ensures rest { map values columns.new ≡ map (drop n) (map values columns.old) }
+{
+    for i in 0..columns.len() {
+        columns[i].remove_front(n);
+    }
+}

@@ -1,0 +1,166 @@
+ghost use Rattle.std.specs.Prelude.{◌≡◌, ℕ, ◌+◌, ◌≤◌, ◌<◌, ◌++◌, ◌∷◌, [], length, map, take, drop, slice_index_or, OnOk, OnErr, IfOk, MatchResult};
+ghost use Rattle.std.specs.List.{All};
+ghost use Rattle.chunk_data.specs.Values.{type_of, value_at};
+ghost use Rattle.chunk_data.specs.Columns.{kind_of, values};
+ghost use Rattle.chunk_data.specs.Rows.{kept, row_at};
+
+use crate::lists::Memory;
+use crate::column_list::{
+    append_all, copy_kinds, count_true, empty_columns, front_all, gather_all, keep_all, push_all,
+    remove_front_all, row_of,
+};
+use crate::lists::List;
+use crate::typed_column::Column;
+use crate::typed_value::{ColumnType, Value};
+use std::alloc::Global;
+use std::marker::Model;
+
+/// Rows of one list of types, kept by column.
+#[derive(Debug, Drop)]
+pub struct Chunk {
+    alloc: Global,
+    kinds: List<ColumnType>,
+    columns: Vec<Column>,
+    count: usize,
+}
+
+impl Model for Chunk {
+    ghost use Rattle.std.specs.Prelude.{map};
+    ghost use Rattle.chunk_data.specs.Columns.{values};
+    ghost use Rattle.chunk_data.specs.Rows.{rows_of};
+    ghost use Rattle.chunk_data.specs.Values.{Table};
+    ghost use Rattle.chunk_data.specs.Columns.{AreColumns};
+
+    ghost Value = { Table };
+
+    ghost view = { λ c. record { types = c.kinds; rows = rows_of c.count (map values c.columns.items) } };
+
+    ghost invariant = { λ c. AreColumns c.kinds c.columns.items c.count };
+}
+
+#[tactic(auto, using(crate::proofs::Chunks::chunks))]
+impl Chunk {
+    /// A chunk without rows.
+    pub fn new(alloc: Global, types: List<ColumnType>) -> Result<Chunk, Memory>
+        ensures types { IfOk result (λ c. c.types ≡ types) }
+        ensures rows { IfOk result (λ c. c.rows ≡ []) }
+    {
+        let columns = empty_columns(alloc, types.as_slice())?;
+        Ok(Chunk {
+            alloc,
+            kinds: types,
+            columns,
+            count: 0,
+        })
+    }
+
+    pub fn types(&self) -> &List<ColumnType>
+        ensures { result.now ≡ self.now.types }
+    {
+        &self.kinds
+    }
+
+    pub fn rows(&self) -> usize
+        ensures { result ≡ length self.now.rows }
+    {
+        self.count
+    }
+
+    /// Column c, which has each row's value at c.
+    pub fn column(&self, c: usize) -> &Column
+        requires { c < length self.now.types }
+        ensures kind { kind_of result.now ≡ slice_index_or self.now.types c (kind_of result.now) }
+        ensures values { values result.now ≡ map (λ row. value_at row c) self.now.rows }
+    {
+        &self.columns[c]
+    }
+
+    /// Adds the row at the end; after an error nothing has changed.
+    pub fn push_row(&mut self, row: List<Value>) -> Result<(), Memory>
+        requires { map type_of row ≡ self.old.types }
+        ensures types { self.new.types ≡ self.old.types }
+        ensures ok { OnOk result (self.new.rows ≡ self.old.rows ++ row ∷ []) }
+        ensures err { OnErr result (self.new.rows ≡ self.old.rows) }
+    {
+        let Some(count) = self.count.checked_add(1) else {
+            return Err(Memory);
+        };
+        push_all(&mut self.columns, row.as_slice(), self.count)?;
+        self.count = count;
+        Ok(())
+    }
+
+    /// Exactly the rows whose place in the mask has true stay, in order.
+    pub fn keep(&mut self, mask: &[bool])
+        requires { length mask.now ≡ length self.old.rows }
+        ensures types { self.new.types ≡ self.old.types }
+        ensures rows { self.new.rows ≡ kept mask.now self.old.rows }
+    {
+        keep_all(&mut self.columns, mask);
+        self.count = count_true(mask);
+    }
+
+    /// The other's rows after its own; after an error the other comes back and nothing has changed.
+    pub fn append(&mut self, other: Chunk) -> Result<(), Chunk>
+        requires { other.types ≡ self.old.types }
+        ensures types { self.new.types ≡ self.old.types }
+        ensures ok { OnOk result (self.new.rows ≡ self.old.rows ++ other.rows) }
+        ensures err { MatchResult result (λ _. Unit {0}) (λ c. (c ≡ other) × (self.new.rows ≡ self.old.rows)) }
+    {
+        let Some(count) = self.count.checked_add(other.count) else {
+            return Err(other);
+        };
+        match append_all(&mut self.columns, other.columns.as_slice(), self.count) {
+            Ok(()) => {
+                self.count = count;
+                Ok(())
+            }
+            Err(_) => Err(other),
+        }
+    }
+
+    /// The rows at the places, in the places' order.
+    pub fn gather(&self, places: &[usize]) -> Result<Chunk, Memory>
+        requires { All (λ p. p < length self.now.rows) places.now }
+        ensures types { IfOk result (λ c. c.types ≡ self.now.types) }
+        ensures rows { IfOk result (λ c. c.rows ≡ map (row_at self.now.rows) places.now) }
+    {
+        let kinds = copy_kinds(self.alloc, &self.kinds)?;
+        let columns = gather_all(self.alloc, self.columns.as_slice(), places, self.count)?;
+        Ok(Chunk {
+            alloc: self.alloc,
+            kinds,
+            columns,
+            count: places.len(),
+        })
+    }
+
+    /// A copy of row i.
+    pub fn row(&self, i: usize) -> Result<List<Value>, Memory>
+        requires { i < length self.now.rows }
+        ensures { IfOk result (λ row. row ≡ row_at self.now.rows i) }
+    {
+        let row = row_of(self.alloc, self.columns.as_slice(), i, self.count)?;
+        Ok(row)
+    }
+
+    /// The first n rows, and the rest stay; after an error nothing has changed.
+    pub fn split_front(&mut self, n: usize) -> Result<Chunk, Memory>
+        requires { n ≤ length self.old.rows }
+        ensures types { self.new.types ≡ self.old.types }
+        ensures front_types { IfOk result (λ c. c.types ≡ self.old.types) }
+        ensures ok { IfOk result (λ c. (c.rows ≡ take n self.old.rows) × (self.new.rows ≡ drop n self.old.rows)) }
+        ensures err { OnErr result (self.new.rows ≡ self.old.rows) }
+    {
+        let kinds = copy_kinds(self.alloc, &self.kinds)?;
+        let columns = front_all(self.alloc, self.columns.as_slice(), n)?;
+        remove_front_all(&mut self.columns, n);
+        self.count -= n;
+        Ok(Chunk {
+            alloc: self.alloc,
+            kinds,
+            columns,
+            count: n,
+        })
+    }
+}

@@ -1,0 +1,235 @@
+ghost use Rattle.std.specs.Prelude.{◌≡◌, ℕ, ◌+◌, ◌≤◌, ◌<◌, ◌++◌, ◌∷◌, List, [], length, map, take, drop, slice_index_or, OnOk, OnErr, IfOk};
+ghost use Rattle.std.specs.List.{All};
+ghost use Rattle.chunk_data.specs.Values.{type_of, value_at};
+ghost use Rattle.chunk_data.specs.Columns.{kind_of, values};
+ghost use Rattle.chunk_data.specs.Rows.{kept};
+
+use crate::lists::{Bytes, Memory};
+use crate::compact::{gather_ints, gather_uints, keep_items, remove_front};
+use crate::text_column::Texts;
+use crate::typed_value::{ColumnType, Value};
+use std::alloc::Global;
+
+/// Values of one type, kept in one vector of that type.
+#[derive(Debug, Drop)]
+pub enum Column {
+    Int64(Vec<i64>),
+    UInt64(Vec<u64>),
+    Text(Texts),
+}
+
+impl Column {
+    pub fn new(alloc: Global, kind: ColumnType) -> Self
+        ensures kind { kind_of result ≡ kind }
+        ensures empty { values result ≡ [] }
+    {
+        match kind {
+            ColumnType::Int64 => Column::Int64(Vec::new(alloc)),
+            ColumnType::UInt64 => Column::UInt64(Vec::new(alloc)),
+            ColumnType::Text => Column::Text(Texts::new(alloc)),
+        }
+    }
+
+    pub fn kind(&self) -> ColumnType
+        ensures { result ≡ kind_of self.now }
+    {
+        match self {
+            Column::Int64(_) => ColumnType::Int64,
+            Column::UInt64(_) => ColumnType::UInt64,
+            Column::Text(_) => ColumnType::Text,
+        }
+    }
+
+    pub fn len(&self) -> usize
+        ensures { result ≡ length (values self.now) }
+    {
+        match self {
+            Column::Int64(numbers) => numbers.len(),
+            Column::UInt64(numbers) => numbers.len(),
+            Column::Text(texts) => texts.len(),
+        }
+    }
+
+    pub fn push(&mut self, value: Value) -> Result<(), Memory>
+        requires { type_of value ≡ kind_of self.old }
+        ensures kind { kind_of self.new ≡ kind_of self.old }
+        ensures ok { OnOk result (values self.new ≡ values self.old ++ value ∷ []) }
+        ensures err { OnErr result (values self.new ≡ values self.old) }
+    {
+        match (self, value) {
+            (Column::Int64(numbers), Value::Int(number)) => numbers.push(number)?,
+            (Column::UInt64(numbers), Value::UInt(number)) => numbers.push(number)?,
+            (Column::Text(texts), Value::Text(text)) => texts.push(text.as_slice())?,
+            _ => unreachable!(),
+        }
+        Ok(())
+    }
+
+    /// The same for a value that is only lent.
+    pub fn push_copy(&mut self, value: &Value) -> Result<(), Memory>
+        requires { type_of value.now ≡ kind_of self.old }
+        ensures kind { kind_of self.new ≡ kind_of self.old }
+        ensures ok { OnOk result (values self.new ≡ values self.old ++ value.now ∷ []) }
+        ensures err { OnErr result (values self.new ≡ values self.old) }
+    {
+        match (self, value) {
+            (Column::Int64(numbers), Value::Int(number)) => numbers.push(*number)?,
+            (Column::UInt64(numbers), Value::UInt(number)) => numbers.push(*number)?,
+            (Column::Text(texts), Value::Text(text)) => texts.push(text.as_slice())?,
+            _ => unreachable!(),
+        }
+        Ok(())
+    }
+
+    pub fn push_int(&mut self, number: i64) -> Result<(), Memory>
+        requires { kind_of self.old ≡ ColumnType.Int64 }
+        ensures kind { kind_of self.new ≡ kind_of self.old }
+        ensures ok { OnOk result (values self.new ≡ values self.old ++ Value.Int number ∷ []) }
+        ensures err { OnErr result (values self.new ≡ values self.old) }
+    {
+        match self {
+            Column::Int64(numbers) => numbers.push(number)?,
+            _ => unreachable!(),
+        }
+        Ok(())
+    }
+
+    pub fn push_text(&mut self, text: &[u8]) -> Result<(), Memory>
+        requires { kind_of self.old ≡ ColumnType.Text }
+        ensures kind { kind_of self.new ≡ kind_of self.old }
+        ensures ok { OnOk result (values self.new ≡ values self.old ++ Value.Text text.now ∷ []) }
+        ensures err { OnErr result (values self.new ≡ values self.old) }
+    {
+        match self {
+            Column::Text(texts) => texts.push(text),
+            _ => unreachable!(),
+        }
+    }
+
+    pub fn text(&self, i: usize) -> &[u8]
+        requires kind { kind_of self.now ≡ ColumnType.Text }
+        requires in_range { i < length (values self.now) }
+        ensures { Value.Text result.now ≡ slice_index_or (values self.now) i (Value.Text []) }
+    {
+        match self {
+            Column::Text(texts) => texts.get(i),
+            _ => unreachable!(),
+        }
+    }
+
+    pub fn value(&self, alloc: Global, i: usize) -> Result<Value, Memory>
+        requires { i < length (values self.now) }
+        ensures { IfOk result (λ v. v ≡ slice_index_or (values self.now) i v) }
+    {
+        match self {
+            Column::Int64(numbers) => Ok(Value::Int(numbers[i])),
+            Column::UInt64(numbers) => Ok(Value::UInt(numbers[i])),
+            Column::Text(texts) => Ok(Value::Text(Bytes::from_slice(alloc, texts.get(i))?)),
+        }
+    }
+
+    #[tactic(auto, using(crate::proofs::Cells::maps))]
+    /// Exactly the values whose place in the mask has true stay, in order.
+    pub fn keep(&mut self, mask: &[bool])
+        requires { length mask.now ≡ length (values self.old) }
+        ensures kind { kind_of self.new ≡ kind_of self.old }
+        ensures kept { values self.new ≡ kept mask.now (values self.old) }
+    {
+        match self {
+            Column::Int64(numbers) => keep_items(numbers, mask),
+            Column::UInt64(numbers) => keep_items(numbers, mask),
+            Column::Text(texts) => texts.keep(mask),
+        }
+    }
+
+    #[tactic(auto, using(crate::proofs::Cells::maps))]
+    /// The first n stay.
+    pub fn truncate(&mut self, n: usize)
+        ensures kind { kind_of self.new ≡ kind_of self.old }
+        ensures front { values self.new ≡ take n (values self.old) }
+    {
+        match self {
+            Column::Int64(numbers) => numbers.truncate(n),
+            Column::UInt64(numbers) => numbers.truncate(n),
+            Column::Text(texts) => texts.truncate(n),
+        }
+    }
+
+    /// The other's values after its own; after an error nothing has changed.
+    pub fn append(&mut self, other: &Column) -> Result<(), Memory>
+        requires { kind_of other.now ≡ kind_of self.old }
+        ensures kind { kind_of self.new ≡ kind_of self.old }
+        ensures ok { OnOk result (values self.new ≡ values self.old ++ values other.now) }
+        ensures err { OnErr result (values self.new ≡ values self.old) }
+    {
+        match (self, other) {
+            (Column::Int64(numbers), Column::Int64(more)) => {
+                numbers.extend_from_slice(more.as_slice())?
+            }
+            (Column::UInt64(numbers), Column::UInt64(more)) => {
+                numbers.extend_from_slice(more.as_slice())?
+            }
+            (Column::Text(texts), Column::Text(more)) => texts.append(more)?,
+            _ => unreachable!(),
+        }
+        Ok(())
+    }
+
+    #[tactic(auto, using(crate::proofs::Cells::maps))]
+    /// The values at the places, in the places' order.
+    pub fn gather(&self, alloc: Global, places: &[usize]) -> Result<Column, Memory>
+        requires { All (λ p. p < length (values self.now)) places.now }
+        ensures kind { IfOk result (λ c. kind_of c ≡ kind_of self.now) }
+        ensures values { IfOk result (λ c. values c ≡ map (value_at (values self.now)) places.now) }
+    {
+        match self {
+            Column::Int64(numbers) => {
+                Ok(Column::Int64(gather_ints(alloc, numbers.as_slice(), places)?))
+            }
+            Column::UInt64(numbers) => {
+                Ok(Column::UInt64(gather_uints(alloc, numbers.as_slice(), places)?))
+            }
+            Column::Text(texts) => Ok(Column::Text(texts.gather(alloc, places)?)),
+        }
+    }
+
+    pub fn copy(&self, alloc: Global) -> Result<Column, Memory>
+        ensures kind { IfOk result (λ c. kind_of c ≡ kind_of self.now) }
+        ensures values { IfOk result (λ c. values c ≡ values self.now) }
+    {
+        match self {
+            Column::Int64(numbers) => Ok(Column::Int64(Vec::from_slice(
+                alloc,
+                numbers.as_slice(),
+            )?)),
+            Column::UInt64(numbers) => Ok(Column::UInt64(Vec::from_slice(
+                alloc,
+                numbers.as_slice(),
+            )?)),
+            Column::Text(texts) => Ok(Column::Text(texts.copy(alloc)?)),
+        }
+    }
+
+    /// A copy of the first n values.
+    pub fn front(&self, alloc: Global, n: usize) -> Result<Column, Memory>
+        ensures kind { IfOk result (λ c. kind_of c ≡ kind_of self.now) }
+        ensures front { IfOk result (λ c. values c ≡ take n (values self.now)) }
+    {
+        let mut column = self.copy(alloc)?;
+        column.truncate(n);
+        Ok(column)
+    }
+
+    /// What follows the first n values stays.
+    #[tactic(auto, using(crate::proofs::Cells::maps))]
+    pub fn remove_front(&mut self, n: usize)
+        ensures kind { kind_of self.new ≡ kind_of self.old }
+        ensures rest { values self.new ≡ drop n (values self.old) }
+    {
+        match self {
+            Column::Int64(numbers) => remove_front(numbers, n),
+            Column::UInt64(numbers) => remove_front(numbers, n),
+            Column::Text(texts) => texts.remove_front(n),
+        }
+    }
+}

@@ -1,0 +1,87 @@
+-- Refused queries, by computation.
+use Rattle.std.specs.Prelude.{◌≡◌, ℕ, false, List, [], ◌∷◌, Some, None, codes, refl, replicate}
+use Rattle.std.specs.Fmt.{digits}
+use Rattle.query_model.specs.Refusals.{refusal_of, expr_columns, cond_operands, expr_kind, cond_fits}
+use Rattle.chunk_data.specs.declared.typed_value.ColumnType.TheVariants as column
+use Rattle.query_model.specs.declared.query.ArithOp.TheVariants.{Add}
+use Rattle.query_model.specs.declared.query.ColumnRef.{ColumnRef}
+use Rattle.query_model.specs.declared.query.ExprOf.{ExprOf}
+use Rattle.query_model.specs.declared.query.ExprOf.TheVariants as expr
+use Rattle.query_model.specs.declared.query.Item.{Item}
+use Rattle.query_model.specs.declared.query.ItemKind.TheVariants as kind
+use Rattle.query_model.specs.declared.query.Items.TheVariants.{Listed}
+use Rattle.query_model.specs.declared.query.TableRef.TheVariants.{Named}
+use Rattle.query_model.specs.declared.query.Query.{Query}
+use Rattle.query_model.specs.declared.query.Schema.{Schema}
+use Rattle.query_model.specs.declared.query.Refusal.TheVariants as refuse
+use Rattle.query_model.proofs.WorkedRows.{Place}
+use Rattle.query_model.specs.Checks.{IsChecked}
+use Rattle.query_model.specs.declared.checked.TableUse.TheVariants as checked
+use Rattle.query_model.specs.declared.checked.Shape.TheVariants as shape
+
+abbrev pub schemas : List Schema
+schemas =
+    record { name = codes "t"; columns = record { name = codes "a"; kind = column.Int64 } ∷ record { name = codes "b"; kind = column.Text } ∷ [] }
+    ∷ record { name = codes "u"; columns = record { name = codes "a"; kind = column.UInt64 } ∷ [] } ∷ []
+
+abbrev pub bare : List ℕ → ColumnRef
+bare name = record { table = None; name = name }
+
+abbrev pub item : ExprOf ColumnRef → Item
+item e = record { what = kind.Plain e; alias = None }
+
+abbrev pub select_items : List Item → List ℕ → Query
+select_items items table = record { items = Listed items; from = Named table; join = None; filter = None; keys = []; having = None; order = []; limit = None }
+
+abbrev pub select : List ℕ → List ℕ → Query
+select name table = select_items (item (expr.Column (bare name)) ∷ []) table
+
+-- SELECT b FROM t GROUP BY a
+pub b_is_no_key : refusal_of (record (select (codes "b") (codes "t")) { keys = bare (codes "a") ∷ [] }) schemas ≡ Some (refuse.NotGrouped (codes "b"))
+unfolding refusal_of expr_columns cond_operands expr_kind cond_fits
+b_is_no_key = refl
+
+pub no_table : refusal_of (select (codes "a") (codes "x")) schemas ≡ Some (refuse.UnknownTable (codes "x"))
+unfolding refusal_of
+no_table = refl
+
+pub no_column : refusal_of (select (codes "c") (codes "t")) schemas ≡ Some (refuse.UnknownColumn (codes "c"))
+unfolding refusal_of expr_columns cond_operands expr_kind cond_fits
+no_column = refl
+
+abbrev pub of_table : List ℕ → List ℕ → ColumnRef
+of_table table name = record { table = Some table; name = name }
+
+abbrev pub joined : List ℕ → Query
+joined name = record (select name (codes "t")) { join = Some (record { table = Named (codes "u"); pairs = record { left = of_table (codes "t") (codes "a"); right = of_table (codes "u") (codes "a") } ∷ [] }) }
+
+pub two_columns : refusal_of (joined (codes "a")) schemas ≡ Some (refuse.AmbiguousColumn (codes "a"))
+unfolding refusal_of expr_columns cond_operands expr_kind cond_fits
+two_columns = refl
+
+pub two_types : refusal_of (joined (codes "b")) schemas ≡ Some refuse.BadJoinKey
+unfolding refusal_of expr_columns cond_operands expr_kind cond_fits
+two_types = refl
+
+-- SELECT a + b FROM t
+pub sum_with_text : (p q : Place) → refusal_of (select_items (item (expr.Arith' Add p (expr.Column (bare (codes "a"))) q (expr.Column (bare (codes "b")))) ∷ []) (codes "t")) schemas ≡ Some refuse.TypeMismatch
+unfolding refusal_of expr_columns cond_operands expr_kind cond_fits
+sum_with_text p q = refl
+
+pub no_output_b : refusal_of (record (select (codes "a") (codes "t")) { order = record { name = codes "b"; descending = false } ∷ [] }) schemas ≡ Some (refuse.BadOrderKey (codes "b"))
+unfolding refusal_of expr_columns cond_operands expr_kind cond_fits digits
+no_output_b = refl
+
+pub items_65 : refusal_of (select_items (replicate 65 (item (expr.Column (bare (codes "a"))))) (codes "t")) schemas ≡ Some refuse.TooWide
+unfolding refusal_of expr_columns cond_operands expr_kind cond_fits digits
+items_65 = refl
+
+pub fits : refusal_of (select (codes "a") (codes "t")) schemas ≡ None
+unfolding refusal_of expr_columns cond_operands expr_kind cond_fits digits
+fits = refl
+
+-- SELECT a FROM t: its checked query
+pub checked_a : IsChecked (select (codes "a") (codes "t")) schemas
+    (record { from = checked.Declared 0; join = None; filter = None; shape = shape.Plain (expr.Column 0 ∷ []); names = codes "a" ∷ []; types = column.Int64 ∷ []; order = []; limit = None })
+unfolding refusal_of expr_columns cond_operands expr_kind cond_fits digits
+checked_a = record { from = refl; join = tt; filter = tt; shape = (refl, tt); names = refl; types = refl; order = refl; limit = refl }

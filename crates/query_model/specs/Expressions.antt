@@ -1,0 +1,110 @@
+-- The value of an expression and the truth of a condition, at a row.
+use Rattle.std.specs.Prelude.{ℕ, ◌<◌, Bool, true, false, not, ◌&&◌, ◌||◌, if◌then◌else◌, List, [], ℤ, pos, negsuc, ◌+ℤ◌, ◌-ℤ◌, ◌*ℤ◌, neg_ℤ, slice_index_or, filter, Option, Some, None}
+use Rattle.std.specs.Ordering.{int_cmp, is_lt, is_le, is_gt, is_ge, is_eq, is_ne}
+use Rattle.std.specs.declared.cmp.Ordering.{Ordering}
+use Rattle.chunk_data.specs.Values.{Row, value_at, text_cmp, type_of as type_of_value}
+use Rattle.query_model.specs.Numbers.{exact, is_uint, wrapped}
+use Rattle.chunk_data.specs.declared.typed_value.Value.{Value}
+use Rattle.chunk_data.specs.declared.typed_value.Value.TheVariants as value
+use Rattle.chunk_data.specs.declared.typed_value.ColumnType.{ColumnType}
+use Rattle.chunk_data.specs.declared.typed_value.ColumnType.TheVariants as column
+use Rattle.query_model.specs.declared.query.ArithOp.{ArithOp}
+use Rattle.query_model.specs.declared.query.ArithOp.TheVariants.{Add, Sub, Mul}
+use Rattle.query_model.specs.declared.query.CompareOp.{CompareOp}
+use Rattle.query_model.specs.declared.query.CompareOp.TheVariants as compare
+use Rattle.query_model.specs.declared.query.Number.{Number}
+use Rattle.query_model.specs.declared.query.ExprOf.{ExprOf}
+use Rattle.query_model.specs.declared.query.ExprOf.TheVariants as expr
+use Rattle.query_model.specs.declared.query.Operand.{Operand}
+use Rattle.query_model.specs.declared.query.Operand.TheVariants as operand
+use Rattle.query_model.specs.declared.query.CondOf.{CondOf}
+use Rattle.query_model.specs.declared.query.CondOf.TheVariants as cond'
+
+abbrev pub Expr : Type 0
+Expr = ExprOf ℕ
+
+abbrev pub Cond : Type 0
+Cond = CondOf ℕ
+
+-- a plain number as it is written
+abbrev pub number_of : Number → ℤ
+number_of n = if n.negative then neg_ℤ (pos n.size) else pos n.size
+
+-- A plain number is a UInt64 where it is not negative. Beside an Int64 it counts as one, by `arith`.
+abbrev pub plain_value : ℤ → Value
+plain_value (pos n) = value.UInt n
+plain_value (negsuc n) = value.Int (negsuc n)
+
+abbrev pub exact_result : ArithOp → ℤ → ℤ → ℤ
+exact_result Add a b = a +ℤ b
+exact_result Sub a b = a -ℤ b
+exact_result Mul a b = a *ℤ b
+
+-- whether the result is a UInt64: that of + and * of two such
+abbrev pub gives_uint : ArithOp → Bool → Bool → Bool
+gives_uint Add a b = a && b
+gives_uint Sub a b = false
+gives_uint Mul a b = a && b
+
+-- the number of the result's type that equals the exact result modulo 2 ^ 64
+abbrev pub arith_value : ArithOp → Value → Value → Value
+arith_value op a b = wrapped (gives_uint op (is_uint a) (is_uint b)) (exact_result op (exact a) (exact b))
+
+-- the value of an expression at a row
+unfoldable pub value_of : Expr → Row → Value
+value_of (expr.Column c) row = value_at row c
+value_of (expr.Number n) row = plain_value (number_of n)
+value_of (expr.Arith' op p a q b) row = arith_value op (value_of a row) (value_of b row)
+
+abbrev pub is_uint_column : ColumnType → Bool
+is_uint_column column.Int64 = false
+is_uint_column column.UInt64 = true
+is_uint_column column.Text = false
+
+-- the type of an expression over columns of these types
+unfoldable pub type_of : Expr → List ColumnType → ColumnType
+type_of (expr.Column c) types = slice_index_or types c column.Text
+type_of (expr.Number n) types = type_of_value (plain_value (number_of n))
+type_of (expr.Arith' op p a q b) types =
+    if gives_uint op (is_uint_column (type_of a types)) (is_uint_column (type_of b types)) then column.UInt64 else column.Int64
+
+-- texts are compared by bytes, and numbers by their exact values
+abbrev pub compared : Value → Value → Ordering
+compared (value.Text a) (value.Text b) = text_cmp a b
+compared a b = int_cmp (exact a) (exact b)
+
+abbrev pub passes : CompareOp → Ordering → Bool
+passes compare.Eq o = is_eq o
+passes compare.Ne o = is_ne o
+passes compare.Lt o = is_lt o
+passes compare.Le o = is_le o
+passes compare.Gt o = is_gt o
+passes compare.Ge o = is_ge o
+
+-- The value of a side of a comparison. A checked condition has no aggregate call: it has the column of its value.
+unfoldable pub operand_value : Operand ℕ → Row → Value
+operand_value (operand.Plain e) row = value_of e row
+operand_value (operand.Text bytes) row = value.Text bytes
+operand_value (operand.Agg call) row = value.Text []
+
+-- the truth of a condition at a row
+unfoldable pub truth_of : Cond → Row → Bool
+truth_of (cond'.Compare op a b) row = passes op (compared (operand_value a row) (operand_value b row))
+truth_of (cond'.And' p a q b) row = truth_of a row && truth_of b row
+truth_of (cond'.Or' p a q b) row = truth_of a row || truth_of b row
+truth_of (cond'.Not' p a) row = not (truth_of a row)
+
+-- whether a condition is true at a row
+abbrev pub holds : Cond → Row → Bool
+holds c row = truth_of c row
+
+-- the rows at which a condition is true; all rows where there is none
+abbrev pub rows_where : Option Cond → List Row → List Row
+rows_where None rows = rows
+rows_where (Some c) rows = filter (holds c) rows
+
+-- each column of the expression is one of the first n
+abbrev pub IsWithin : Expr → ℕ → Type 0
+IsWithin (expr.Column c) n = c < n
+IsWithin (expr.Number m) n = Unit {0}
+IsWithin (expr.Arith' op p a q b) n = IsWithin a n × IsWithin b n

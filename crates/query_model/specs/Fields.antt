@@ -1,0 +1,48 @@
+-- The value that a field of a CSV record spells, and what a value is written as.
+use Rattle.std.specs.Prelude.{ℕ, ◌+◌, ◌-◌, ◌*◌, ◌^◌, Bool, false, ◌&&◌, ◌==◌, nat_lt, nat_le, if◌then◌else◌, List, [], ◌∷◌, fold, ℤ, pos, neg_ℤ, Option, Some, None, option_map}
+use Rattle.std.specs.List.{list_all}
+use Rattle.chunk_data.specs.Values.{Row}
+use Rattle.chunk_data.specs.declared.typed_value.Value.{Value}
+use Rattle.chunk_data.specs.declared.typed_value.Value.TheVariants.{Int, UInt, Text}
+use Rattle.chunk_data.specs.declared.typed_value.ColumnType.{ColumnType}
+use Rattle.chunk_data.specs.declared.typed_value.ColumnType.TheVariants as column
+
+abbrev pub is_digit : ℕ → Bool
+is_digit b = nat_le 48 b && nat_le b 57
+
+-- one or more digits, and the number that they spell
+abbrev pub is_numeral : List ℕ → Bool
+is_numeral [] = false
+is_numeral (b ∷ bytes) = list_all is_digit (b ∷ bytes)
+
+abbrev pub numeral_value : List ℕ → ℕ
+numeral_value bytes = fold (λ n b. n * 10 + (b - 48)) 0 bytes
+
+-- a numeral below a limit
+abbrev pub numeral_below : ℕ → List ℕ → Option ℕ
+numeral_below limit bytes = if is_numeral bytes && nat_lt (numeral_value bytes) limit then Some (numeral_value bytes) else None
+
+abbrev pub spelled_int : List ℕ → Option ℤ
+spelled_int [] = None
+spelled_int (b ∷ bytes) =
+    if b == 45 then option_map (λ n. neg_ℤ (pos n)) (numeral_below (2 ^ 63 + 1) bytes)
+    else option_map pos (numeral_below (2 ^ 63) (b ∷ bytes))
+
+-- the value of a type that a field spells
+abbrev pub spelled_value : ColumnType → List ℕ → Option Value
+spelled_value column.Int64 field = option_map Int (spelled_int field)
+spelled_value column.UInt64 field = option_map UInt (numeral_below (2 ^ 64) field)
+spelled_value column.Text field = Some (Text field)
+
+-- a value in front of a row, where both are there
+abbrev pub both_spelled : Option Value → Option Row → Option Row
+both_spelled None row = None
+both_spelled (Some v) row = option_map (λ r. v ∷ r) row
+
+-- the row that a record spells: one field for each column, and each spells a value
+unfoldable pub spelled_row : List ColumnType → List (List ℕ) → Option Row
+spelled_row [] [] = Some []
+spelled_row [] (field ∷ fields) = None
+spelled_row (type ∷ types) [] = None
+spelled_row (type ∷ types) (field ∷ fields) =
+    both_spelled (spelled_value type field) (spelled_row types fields)

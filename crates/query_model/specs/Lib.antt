@@ -1,0 +1,15 @@
+pub use Rattle.chunk_data.specs.Values
+pub mod Numbers
+pub mod Fields
+pub mod Parts
+pub mod Expressions
+pub mod Sources
+pub mod Groups
+pub mod Answers
+pub mod Texts
+pub mod Refusals
+pub mod Formulas
+pub mod Later
+pub mod ListFiles
+pub mod Unions
+pub mod Checks

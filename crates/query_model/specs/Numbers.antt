@@ -1,0 +1,22 @@
+-- The numbers of values, and how results are brought back into 64 bits.
+use Rattle.std.specs.Prelude.{ℕ, ◌^◌, Bool, true, false, ℤ, pos, unsigned_abs}
+use Rattle.std.specs.Int.{int_wrap, int_rem_euclid}
+use mir.Syntax.{w64}
+use Rattle.chunk_data.specs.declared.typed_value.Value.{Value}
+use Rattle.chunk_data.specs.declared.typed_value.Value.TheVariants.{Int, UInt, Text}
+
+-- the exact number of a value
+abbrev pub exact : Value → ℤ
+exact (Int z) = z
+exact (UInt n) = pos n
+exact (Text bytes) = pos 0
+
+abbrev pub is_uint : Value → Bool
+is_uint (Int z) = false
+is_uint (UInt n) = true
+is_uint (Text bytes) = false
+
+-- the number of the type, UInt64 or else Int64, that equals z modulo 2 ^ 64
+unfoldable pub wrapped : Bool → ℤ → Value
+wrapped true z = UInt (unsigned_abs (int_rem_euclid z (pos (2 ^ 64))))
+wrapped false z = Int (int_wrap w64 z)

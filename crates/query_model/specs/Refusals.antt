@@ -1,0 +1,384 @@
+-- Why a query is refused: conditions over the whole query, of which the first in this order counts.
+use Rattle.std.specs.Prelude.{ℕ, ◌+◌, ◌^◌, Bool, true, false, not, ◌&&◌, ◌||◌, ◌==◌, nat_lt, is_some, if◌then◌else◌, List, [], ◌∷◌, ◌++◌, length, map, filter, flat_map, find, bytes_eq, codes, decimal, ℤ, pos, negsuc, Option, Some, None, option_map}
+use Rattle.std.specs.List.{list_any, list_all}
+use Rattle.query_model.specs.Expressions.{number_of}
+use Rattle.chunk_data.specs.declared.typed_value.ColumnType.{ColumnType}
+use Rattle.chunk_data.specs.declared.typed_value.ColumnType.TheVariants as column
+use Rattle.query_model.specs.declared.query.ArithOp.{ArithOp}
+use Rattle.query_model.specs.declared.query.ArithOp.TheVariants.{Add, Sub, Mul}
+use Rattle.query_model.specs.declared.query.AggOp.{AggOp}
+use Rattle.query_model.specs.declared.query.AggOp.TheVariants.{Count, Sum}
+use Rattle.query_model.specs.declared.query.ColumnRef.{ColumnRef}
+use Rattle.query_model.specs.declared.query.ExprOf.{ExprOf}
+use Rattle.query_model.specs.declared.query.ExprOf.TheVariants as expr
+use Rattle.query_model.specs.declared.query.Operand.{Operand}
+use Rattle.query_model.specs.declared.query.Operand.TheVariants as operand
+use Rattle.query_model.specs.declared.query.CondOf.{CondOf}
+use Rattle.query_model.specs.declared.query.CondOf.TheVariants as condition
+use Rattle.query_model.specs.declared.query.Item.{Item}
+use Rattle.query_model.specs.declared.query.ItemKind.{ItemKind}
+use Rattle.query_model.specs.declared.query.ItemKind.TheVariants as kind
+use Rattle.query_model.specs.declared.query.Items.{Items}
+use Rattle.query_model.specs.declared.query.Items.TheVariants.{Star, Listed}
+use Rattle.query_model.specs.declared.query.TableRef.{TableRef}
+use Rattle.query_model.specs.declared.query.TableRef.TheVariants.{Named, Numbers}
+use Rattle.query_model.specs.declared.query.NamePair.{NamePair}
+use Rattle.query_model.specs.declared.query.Join.{Join}
+use Rattle.query_model.specs.declared.query.OrderKey.{OrderKey}
+use Rattle.query_model.specs.declared.query.Query.{Query}
+use Rattle.query_model.specs.declared.query.Schema.{Schema}
+use Rattle.query_model.specs.declared.query.ColumnDecl.{ColumnDecl}
+use Rattle.query_model.specs.declared.query.Refusal.{Refusal}
+use Rattle.query_model.specs.declared.query.Refusal.TheVariants as refuse
+
+-- the tables and columns that a query reads
+
+-- a column of FROM or JOIN
+pub record FromColumn : Type 0 where
+  pub table : List ℕ
+  pub name : List ℕ
+  pub type : ColumnType
+
+-- the columns of a declared table
+abbrev pub schema_columns : Schema → List FromColumn
+schema_columns s = map (λ (c : ColumnDecl). record { table = s.name; name = c.name; type = c.kind }) s.columns
+
+abbrev pub table_columns : List Schema → TableRef → List FromColumn
+table_columns schemas (Named t) = flat_map schema_columns (filter (λ (s : Schema). bytes_eq s.name t) schemas)
+table_columns schemas (Numbers n) = record { table = codes "numbers"; name = codes "number"; type = column.UInt64 } ∷ []
+
+abbrev pub join_tables : Option Join → List TableRef
+join_tables None = []
+join_tables (Some join) = join.table ∷ []
+
+abbrev pub join_pairs : Option Join → List NamePair
+join_pairs None = []
+join_pairs (Some join) = join.pairs
+
+abbrev pub query_tables : Query → List TableRef
+query_tables q = q.from ∷ join_tables q.join
+
+-- the columns of From: those of the FROM table, and then those of the JOIN table
+abbrev pub from_columns : Query → List Schema → List FromColumn
+from_columns q schemas = flat_map (table_columns schemas) (query_tables q)
+
+abbrev pub is_in_table : Option (List ℕ) → List ℕ → Bool
+is_in_table None table = true
+is_in_table (Some t) table = bytes_eq t table
+
+-- whether a name means a column
+abbrev pub means : ColumnRef → FromColumn → Bool
+means c column' = is_in_table c.table column'.table && bytes_eq c.name column'.name
+
+-- the columns that a name means
+abbrev pub meant : ColumnRef → List FromColumn → List FromColumn
+meant c columns = filter (means c) columns
+
+-- the columns that stand in the text, in its order
+
+unfoldable pub expr_columns : ExprOf ColumnRef → List ColumnRef
+expr_columns (expr.Column c) = c ∷ []
+expr_columns (expr.Number n) = []
+expr_columns (expr.Arith' op p a q b) = expr_columns a ++ expr_columns b
+
+abbrev pub argument_columns : Option (ExprOf ColumnRef) → List ColumnRef
+argument_columns None = []
+argument_columns (Some e) = expr_columns e
+
+-- the operands of a condition's comparisons
+unfoldable pub cond_operands : {C : Type 0} → CondOf C → List (Operand C)
+cond_operands (condition.Compare op a b) = a ∷ b ∷ []
+cond_operands (condition.And' p a q b) = cond_operands a ++ cond_operands b
+cond_operands (condition.Or' p a q b) = cond_operands a ++ cond_operands b
+cond_operands (condition.Not' p a) = cond_operands a
+
+abbrev pub operands_of : Option (CondOf ColumnRef) → List (Operand ColumnRef)
+operands_of None = []
+operands_of (Some c) = cond_operands c
+
+abbrev pub operand_columns : Operand ColumnRef → List ColumnRef
+operand_columns (operand.Plain e) = expr_columns e
+operand_columns (operand.Text bytes) = []
+operand_columns (operand.Agg call) = argument_columns call.arg
+
+-- those outside an aggregate call
+abbrev pub bare_columns : Operand ColumnRef → List ColumnRef
+bare_columns (operand.Plain e) = expr_columns e
+bare_columns (operand.Text bytes) = []
+bare_columns (operand.Agg call) = []
+
+abbrev pub item_columns : ItemKind → List ColumnRef
+item_columns (kind.Plain e) = expr_columns e
+item_columns (kind.Agg call) = argument_columns call.arg
+
+abbrev pub listed : Items → List Item
+listed Star = []
+listed (Listed items) = items
+
+abbrev pub text_columns : Query → List ColumnRef
+text_columns q =
+    flat_map (λ (i : Item). item_columns i.what) (listed q.items)
+    ++ flat_map (λ (p : NamePair). p.left ∷ p.right ∷ []) (join_pairs q.join)
+    ++ flat_map operand_columns (operands_of q.filter)
+    ++ q.keys
+    ++ flat_map operand_columns (operands_of q.having)
+
+-- a column as it is written
+abbrev pub written_behind : Option (List ℕ) → List ℕ → List ℕ
+written_behind None name = name
+written_behind (Some table) name = table ++ codes "." ++ name
+
+abbrev pub written : ColumnRef → List ℕ
+written c = written_behind c.table c.name
+
+-- the first conditions
+
+abbrev pub is_declared : List Schema → TableRef → Bool
+is_declared schemas (Named t) = list_any (λ (s : Schema). bytes_eq s.name t) schemas
+is_declared schemas (Numbers n) = true
+
+abbrev pub table_name : TableRef → List ℕ
+table_name (Named t) = t
+table_name (Numbers n) = codes "numbers"
+
+abbrev pub unknown_table : Query → List Schema → Option Refusal
+unknown_table q schemas = option_map (λ t. refuse.UnknownTable (table_name t)) (find (λ t. not (is_declared schemas t)) (query_tables q))
+
+abbrev pub unknown_column : Query → List Schema → Option Refusal
+unknown_column q schemas =
+    option_map (λ c. refuse.UnknownColumn (written c)) (find (λ c. length (meant c (from_columns q schemas)) == 0) (text_columns q))
+
+abbrev pub ambiguous_column : Query → List Schema → Option Refusal
+ambiguous_column q schemas =
+    option_map (λ c. refuse.AmbiguousColumn (written c)) (find (λ c. nat_lt 1 (length (meant c (from_columns q schemas)))) (text_columns q))
+
+-- the type of the column that a name means
+abbrev pub meant_type : List FromColumn → ColumnRef → Option ColumnType
+meant_type columns c = option_map (λ (m : FromColumn). m.type) (find (means c) columns)
+
+abbrev pub same_type : ColumnType → ColumnType → Bool
+same_type column.Int64 t = is_int64 t
+  where
+    is_int64 : ColumnType → Bool
+    is_int64 column.Int64 = true
+    is_int64 _ = false
+same_type column.UInt64 t = is_uint64 t
+  where
+    is_uint64 : ColumnType → Bool
+    is_uint64 column.UInt64 = true
+    is_uint64 _ = false
+same_type column.Text t = is_text t
+  where
+    is_text : ColumnType → Bool
+    is_text column.Text = true
+    is_text _ = false
+
+abbrev pub same_known_type : Option ColumnType → Option ColumnType → Bool
+same_known_type (Some a) (Some b) = same_type a b
+same_known_type _ _ = false
+
+-- one column of each of two tables, of one type
+abbrev pub joins : List FromColumn → List FromColumn → ColumnRef → ColumnRef → Bool
+joins left right a b = same_known_type (meant_type left a) (meant_type right b)
+
+abbrev pub is_join_pair : List FromColumn → List FromColumn → NamePair → Bool
+is_join_pair left right p = joins left right p.left p.right || joins left right p.right p.left
+
+abbrev pub holds_pairs : Query → List Schema → Option Join → Bool
+holds_pairs q schemas None = true
+holds_pairs q schemas (Some join) = list_all (is_join_pair (table_columns schemas q.from) (table_columns schemas join.table)) join.pairs
+
+abbrev pub bad_join_key : Query → List Schema → Option Refusal
+bad_join_key q schemas = if holds_pairs q schemas q.join then None else Some refuse.BadJoinKey
+
+-- types
+
+-- what an operand is: a plain number, a value of a type, or neither, where types don't fit
+pub data Kind : Type 0 where
+  plain : ℤ → Kind
+  typed : ColumnType → Kind
+  unfit : Kind
+
+abbrev pub can_hold : ColumnType → ℤ → Bool
+can_hold column.Int64 (pos n) = nat_lt n (2 ^ 63)
+can_hold column.Int64 (negsuc n) = nat_lt n (2 ^ 63)
+can_hold column.UInt64 (pos n) = true
+can_hold column.UInt64 (negsuc n) = false
+can_hold column.Text z = false
+
+abbrev pub is_text_type : ColumnType → Bool
+is_text_type t = same_type t column.Text
+
+-- the type of a result of operands of one type
+abbrev pub result_type : ArithOp → ColumnType → ColumnType
+result_type Add t = t
+result_type Sub t = column.Int64
+result_type Mul t = t
+
+abbrev pub arith_kind : ArithOp → Kind → Kind → Kind
+arith_kind op (typed s) (typed t) = if same_type s t && not (is_text_type s) then typed (result_type op s) else unfit
+arith_kind op (typed t) (plain z) = if can_hold t z then typed (result_type op t) else unfit
+arith_kind op (plain z) (typed t) = if can_hold t z then typed (result_type op t) else unfit
+arith_kind op _ _ = unfit
+
+abbrev pub known_kind : Option ColumnType → Kind
+known_kind None = unfit
+known_kind (Some t) = typed t
+
+unfoldable pub expr_kind : List FromColumn → ExprOf ColumnRef → Kind
+expr_kind columns (expr.Column c) = known_kind (meant_type columns c)
+expr_kind columns (expr.Number n) = plain (number_of n)
+expr_kind columns (expr.Arith' op p a q b) = arith_kind op (expr_kind columns a) (expr_kind columns b)
+
+-- the kind of a call over an argument of a kind
+abbrev pub call_kind : AggOp → Kind → Kind
+call_kind Sum (typed t) = if is_text_type t then unfit else typed t
+call_kind Count _ = typed column.UInt64
+call_kind op (typed t) = typed t
+call_kind op _ = unfit
+
+abbrev pub agg_kind : List FromColumn → AggOp → Option (ExprOf ColumnRef) → Kind
+agg_kind columns op None = typed column.UInt64
+agg_kind columns op (Some e) = call_kind op (expr_kind columns e)
+
+abbrev pub operand_kind : List FromColumn → Operand ColumnRef → Kind
+operand_kind columns (operand.Plain e) = expr_kind columns e
+operand_kind columns (operand.Text bytes) = typed column.Text
+operand_kind columns (operand.Agg call) = agg_kind columns call.op call.arg
+
+-- texts are compared with texts, and numbers with numbers
+abbrev pub comparable : Kind → Kind → Bool
+comparable (typed s) (typed t) = is_text_type s == is_text_type t
+  where
+    infix 5 ◌==◌
+    ◌==◌ : Bool → Bool → Bool
+    true == b = b
+    false == b = not b
+comparable (typed s) (plain z) = not (is_text_type s)
+comparable (plain z) (typed t) = not (is_text_type t)
+comparable (plain y) (plain z) = true
+comparable _ _ = false
+
+unfoldable pub cond_fits : List FromColumn → CondOf ColumnRef → Bool
+cond_fits columns (condition.Compare op a b) = comparable (operand_kind columns a) (operand_kind columns b)
+cond_fits columns (condition.And' p a q b) = cond_fits columns a && cond_fits columns b
+cond_fits columns (condition.Or' p a q b) = cond_fits columns a && cond_fits columns b
+cond_fits columns (condition.Not' p a) = cond_fits columns a
+
+abbrev pub fits_where : List FromColumn → Option (CondOf ColumnRef) → Bool
+fits_where columns None = true
+fits_where columns (Some c) = cond_fits columns c
+
+abbrev pub is_typed : Kind → Bool
+is_typed (typed t) = true
+is_typed _ = false
+
+abbrev pub item_kind : List FromColumn → ItemKind → Kind
+item_kind columns (kind.Plain e) = expr_kind columns e
+item_kind columns (kind.Agg call) = agg_kind columns call.op call.arg
+
+abbrev pub type_mismatch : Query → List Schema → Option Refusal
+type_mismatch q schemas =
+    let columns = from_columns q schemas in
+    if list_all (λ (i : Item). is_typed (item_kind columns i.what)) (listed q.items) && fits_where columns q.filter && fits_where columns q.having
+    then None else Some refuse.TypeMismatch
+
+-- grouping
+
+abbrev pub is_call : ItemKind → Bool
+is_call (kind.Plain e) = false
+is_call (kind.Agg call) = true
+
+-- a query is grouped where it has GROUP BY, HAVING or an aggregate call
+abbrev pub is_grouped : Query → Bool
+is_grouped q = not (length q.keys == 0) || is_some q.having || list_any (λ (i : Item). is_call i.what) (listed q.items)
+
+-- two names mean one column
+abbrev pub same_column : List FromColumn → ColumnRef → ColumnRef → Bool
+same_column columns a b = list_any (λ m. means a m && means b m) columns
+
+-- the columns of an item that must be keys: those outside a call, of which arithmetic never is one
+abbrev pub not_keys : (ColumnRef → Bool) → ItemKind → List ColumnRef
+not_keys is_key (kind.Plain (expr.Column c)) = if is_key c then [] else c ∷ []
+not_keys is_key (kind.Plain (expr.Number n)) = []
+not_keys is_key (kind.Plain (expr.Arith' op p a q b)) = expr_columns a ++ expr_columns b
+not_keys is_key (kind.Agg call) = []
+
+abbrev pub star_name : Items → List (List ℕ)
+star_name Star = codes "*" ∷ []
+star_name (Listed items) = []
+
+-- what may not stand in a grouped query, in the order of the text
+abbrev pub ungrouped_names : Query → List Schema → List (List ℕ)
+ungrouped_names q schemas =
+    let is_key : ColumnRef → Bool = λ c. list_any (same_column (from_columns q schemas) c) q.keys in
+    star_name q.items
+    ++ map written (flat_map (λ (i : Item). not_keys is_key i.what) (listed q.items))
+    ++ map written (filter (λ c. not (is_key c)) (flat_map bare_columns (operands_of q.having)))
+
+abbrev pub first_name : List (List ℕ) → Option (List ℕ)
+first_name [] = None
+first_name (name ∷ names) = Some name
+
+abbrev pub not_grouped : Query → List Schema → Option Refusal
+not_grouped q schemas = if is_grouped q then option_map refuse.NotGrouped (first_name (ungrouped_names q schemas)) else None
+
+-- output names and order
+
+abbrev pub plain_name : ItemKind → ℕ → List ℕ
+plain_name (kind.Plain (expr.Column c)) k = c.name
+plain_name (kind.Plain (expr.Number n)) k = codes "item_" ++ decimal k
+plain_name (kind.Plain (expr.Arith' op p a q b)) k = codes "item_" ++ decimal k
+plain_name (kind.Agg call) k = codes "item_" ++ decimal k
+
+abbrev pub name_or : Option (List ℕ) → List ℕ → List ℕ
+name_or None name = name
+name_or (Some alias) name = alias
+
+-- the names of items of which the first has place k
+abbrev pub item_names : ℕ → List Item → List (List ℕ)
+item_names k [] = []
+item_names k (i ∷ items) = name_or i.alias (plain_name i.what k) ∷ item_names (k + 1) items
+
+abbrev pub output_names : Items → List FromColumn → List (List ℕ)
+output_names Star columns = map (λ (c : FromColumn). c.name) columns
+output_names (Listed items) columns = item_names 1 items
+
+abbrev pub bad_order_key : Query → List Schema → Option Refusal
+bad_order_key q schemas =
+    let names = output_names q.items (from_columns q schemas) in
+    option_map (λ (key : OrderKey). refuse.BadOrderKey key.name)
+    (find (λ (key : OrderKey). not (length (filter (bytes_eq key.name) names) == 1)) q.order)
+
+-- widths
+
+abbrev pub operand_calls : Operand ColumnRef → ℕ
+operand_calls (operand.Plain e) = 0
+operand_calls (operand.Text bytes) = 0
+operand_calls (operand.Agg call) = 1
+
+abbrev pub total : List ℕ → ℕ
+total [] = 0
+total (n ∷ ns) = n + total ns
+
+abbrev pub calls_in : Query → ℕ
+calls_in q = length (filter (λ (i : Item). is_call i.what) (listed q.items)) + total (map operand_calls (operands_of q.having))
+
+-- what may not be more than 64
+abbrev pub widths : Query → List Schema → List ℕ
+widths q schemas =
+    length (from_columns q schemas) ∷ length (listed q.items) ∷ length q.keys ∷ length q.order ∷ length (join_pairs q.join) ∷ calls_in q ∷ []
+
+abbrev pub too_wide : Query → List Schema → Option Refusal
+too_wide q schemas = if list_any (λ n. nat_lt 64 n) (widths q schemas) then Some refuse.TooWide else None
+
+abbrev pub first_of_all : {X : Type 0} → List (Option X) → Option X
+first_of_all [] = None
+first_of_all (None ∷ rest) = first_of_all rest
+first_of_all (Some x ∷ rest) = Some x
+
+-- the first condition that the query meets, with the name that it carries
+unfoldable pub refusal_of : Query → List Schema → Option Refusal
+refusal_of q schemas = first_of_all (
+    unknown_table q schemas ∷ unknown_column q schemas ∷ ambiguous_column q schemas ∷ bad_join_key q schemas
+    ∷ type_mismatch q schemas ∷ not_grouped q schemas ∷ bad_order_key q schemas ∷ too_wide q schemas ∷ [])

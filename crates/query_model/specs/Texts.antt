@@ -1,0 +1,28 @@
+-- The text of an answer.
+use Rattle.std.specs.Prelude.{ℕ, ◌==◌, if◌then◌else◌, Bool, true, false, List, [], ◌∷◌, ◌++◌, map, flat_map, decimal}
+use Rattle.std.specs.Fmt.{signed_decimal}
+use Rattle.std.specs.List.{join_with_byte}
+use Rattle.chunk_data.specs.Values.{Row}
+use Rattle.chunk_data.specs.declared.typed_value.Value.{Value}
+use Rattle.chunk_data.specs.declared.typed_value.Value.TheVariants.{Int, UInt, Text}
+
+-- a text in quotes, with each quote doubled
+abbrev pub quoted : List ℕ → List ℕ
+quoted bytes = 34 ∷ (flat_map (λ b. if b == 34 then 34 ∷ 34 ∷ [] else b ∷ []) bytes ++ 34 ∷ [])
+
+abbrev pub value_text : Value → List ℕ
+value_text (Int z) = signed_decimal z
+value_text (UInt n) = decimal n
+value_text (Text bytes) = quoted bytes
+
+-- the values with commas between them, and a line feed
+abbrev pub row_text : Row → List ℕ
+row_text row = join_with_byte 44 (map value_text row) ++ 10 ∷ []
+
+abbrev pub rows_text : List Row → List ℕ
+rows_text rows = flat_map row_text rows
+
+-- the text of an answer, behind the line of names where that is asked for
+abbrev pub answer_text : Bool → List (List ℕ) → List Row → List ℕ
+answer_text true names rows = row_text (map Text names) ++ rows_text rows
+answer_text false names rows = rows_text rows
