@@ -1,13 +1,9 @@
 -- The answers of a query: its output rows, their order, and the limit.
-use Rattle.std.specs.Prelude.{◌≡◌, Bool, true, false, List, [], ◌∷◌, map, take, drop, IsPermutation, IsSorted, Option, Some, None}
-use Rattle.std.specs.Ordering.{ordering_then}
-use Rattle.std.specs.declared.cmp.Ordering.{Ordering}
-use Rattle.std.specs.declared.cmp.Ordering.TheVariants.{Equal}
-use Rattle.chunk_data.specs.Values.{Row, value_at, values_at, value_cmp}
+use Rattle.std.specs.Prelude.{◌≡◌, List, map, take, drop, IsPermutation, IsSorted, Option, Some, None}
+use Rattle.chunk_data.specs.Values.{Row, values_at, row_cmp}
 use Rattle.query_model.specs.Expressions.{Expr, value_of, rows_where}
 use Rattle.query_model.specs.Sources.{Database, source_table, filtered_rows}
 use Rattle.query_model.specs.Groups.{groups, groups_or_default, default_row}
-use Rattle.chunk_data.specs.declared.typed_value.Value.{Value}
 use Rattle.chunk_data.specs.declared.typed_value.ColumnType.{ColumnType}
 use Rattle.chunk_data.specs.declared.typed_value.SortKey.{SortKey}
 use Rattle.query_model.specs.declared.query.Span.{Span}
