@@ -1,0 +1,9 @@
+//! Parts as typed rows, and rows as text: the records of a CSV file are read straight into typed
+//! columns, and columns are written as the text of an answer.
+#![tactic(auto)]
+
+mod record_reader;
+mod text;
+
+pub use record_reader::RecordReader;
+pub use text::write_rows;
