@@ -5,3 +5,4 @@ pub mod Cells
 pub mod Rows
 pub mod ColumnLists
 pub mod Chunks
+pub mod Laws

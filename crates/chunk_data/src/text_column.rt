@@ -4,8 +4,8 @@ ghost use Rattle.std.specs.Vec.{vec_len, vec_capacity};
 ghost use Rattle.chunk_data.specs.Rows.{kept};
 ghost use Rattle.chunk_data.specs.Texts.{cut, AreEnds};
 
-use crate::lists::Memory;
-use crate::compact::remove_front;
+use crate::compact::{copy_items, remove_front};
+use crate::lists::{Bytes, Memory};
 use std::alloc::Global;
 use std::marker::Model;
 
@@ -108,21 +108,30 @@ impl Texts {
         Ok(())
     }
 
-    pub fn copy(&self, alloc: Global) -> Result<Texts, Memory>
+    /// The same texts.
+    pub fn copy(&self) -> Result<Texts, Memory>
         ensures { IfOk result (λ t. t ≡ self.now) }
     {
         Ok(Texts {
-            bytes: Vec::from_slice(alloc, self.bytes.as_slice())?,
-            ends: Vec::from_slice(alloc, self.ends.as_slice())?,
+            bytes: copy_items(&self.bytes)?,
+            ends: copy_items(&self.ends)?,
         })
     }
 
+    /// A copy of text i.
+    pub fn copy_at(&self, i: usize) -> Result<Bytes, Memory>
+        requires { i < length self.now }
+        ensures { IfOk result (λ b. b ≡ slice_index_or self.now i []) }
+    {
+        Bytes::from_slice(*self.bytes.allocator(), self.get(i))
+    }
+
     /// The texts at the places, in the places' order.
-    pub fn gather(&self, alloc: Global, places: &[usize]) -> Result<Texts, Memory>
+    pub fn gather(&self, places: &[usize]) -> Result<Texts, Memory>
         requires { All (λ p. p < length self.now) places.now }
         ensures { IfOk result (λ t. t ≡ map (λ p. slice_index_or self.now p []) places.now) }
     {
-        let mut texts = Texts::new(alloc);
+        let mut texts = Texts::new(*self.bytes.allocator());
         for place in places {
             texts.push(self.get(*place))?;
         }
