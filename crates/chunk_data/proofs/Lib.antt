@@ -6,3 +6,4 @@ pub mod Rows
 pub mod ColumnLists
 pub mod Chunks
 pub mod Laws
+pub mod RowOrder
