@@ -5,7 +5,7 @@ use Rattle.std.specs.List.{count_by, All}
 use Rattle.chunk_data.specs.declared.typed_column.Column.{Column}
 use Rattle.chunk_data.specs.declared.typed_value.ColumnType.{ColumnType}
 use Rattle.chunk_data.specs.declared.typed_value.Value.{Value}
-use Rattle.chunk_data.specs.Values.{FitsTypes, IsTable, Table, value_at}
+use Rattle.chunk_data.specs.Values.{FitsTypes, IsTable, Row, Table, value_at}
 use Rattle.chunk_data.specs.Columns.{kind_of, values}
 use Rattle.chunk_data.specs.Rows.{row_at, kept, rows_of, AreLong, joined}
 use Rattle.chunk_data.specs.Columns.{AreColumns}
@@ -86,6 +86,16 @@ is_table types columns n t h e =
     let P : List ColumnType → Type 0 = λ ts. IsTable (record { types = ts; rows = rows_of n (map values columns) }) in
     let Q : Table → Type 0 = IsTable in
     subst Q e (subst P h.kinds (rows_fit columns n h.long))
+
+nothing_in : {X : Type 0} (xs : List X) → length xs ≡ 0 → xs ≡ []
+nothing_in [] e = refl
+nothing_in (x ∷ xs) e = absurd (omega arith)
+
+-- rows after no rows
+pub taken_step : (types : List ColumnType) (columns : List Column) (n : ℕ) (old other : Table) (rows : List Row) → AreColumns types columns n → n ≡ 0 → record { types = types; rows = rows_of n (map values columns) } ≡ old → rows ≡ other.rows → rows ≡ old.rows ++ other.rows
+taken_step types columns n old other rows h z o e =
+    let none : old.rows ≡ [] = nothing_in old.rows (ap (λ t. length t.rows) (sym o) ∙ length_rows types columns n h ∙ z) in
+    rw none e
 
 pub ruleset chunks = (length_rows, AreColumns-empty, rows_of_empty, column_of)
 

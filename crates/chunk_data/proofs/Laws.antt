@@ -8,10 +8,11 @@ use Rattle.chunk_data.specs.declared.typed_column.Column.{Column}
 use Rattle.chunk_data.specs.declared.typed_column.Column.TheVariants.{Int64, UInt64, Text}
 use Rattle.chunk_data.specs.declared.typed_value.ColumnType.TheVariants as type
 use Rattle.chunk_data.specs.declared.typed_value.Value.TheVariants as value
-use Rattle.chunk_data.specs.Values.{Row, FitsType, FitsTypes}
+use Rattle.chunk_data.specs.Values.{Row, FitsType, FitsTypes, value_at}
 use Rattle.chunk_data.specs.Columns.{kind_of, values}
 use Rattle.chunk_data.specs.Rows.{adds, rows_of, AreLong, joined}
-use Rattle.chunk_data.proofs.Rows.{rows_of_push, AreLong-joined, AreLong-row, length-rows_of}
+use Rattle.chunk_data.proofs.Rows.{AreLong-joined, AreLong-row}
+pub use Rattle.chunk_data.proofs.Rows.{length-rows_of, column_of-rows_of, row_of-rows_of, rows_of_push}
 
 -- ---- columns made from rows: one for each `e`, with `value e row` at each row
 pub AreLong-made : {E X R : Type 0} (value : E → R → X) (es : List E) (rows : List R) → AreLong (length rows) (map (λ e. map (λ row. value e row) rows) es)
@@ -86,3 +87,11 @@ all_adds t types (x ∷ column) (row ∷ rows) e h r =
 pub rows_fit : (columns : List Column) (n : ℕ) → AreLong n (map values columns) → All (FitsTypes (map kind_of columns)) (rows_of n (map values columns))
 rows_fit [] n h = λ k d lt. (let e : get_or (replicate n []) k d ≡ [] = get_or-replicate n k [] d (omega (arith, let none : Row = [] in length-replicate n none)) in let P : Row → Type 0 = FitsTypes [] in subst P (sym e) tt)
 rows_fit (column ∷ columns) n h = all_adds (kind_of column) (map kind_of columns) (values column) (rows_of n (map values columns)) (h.0 ∙ sym (length-rows_of n (map values columns) h.1)) (all_fit column) (rows_fit columns n h.1)
+
+-- ---- a column of rows that fit
+pub column_fits : (types : List ColumnType) (rows : List Row) (c : ℕ) (t : ColumnType) → All (FitsTypes types) rows → c < length types → All (FitsType (get_or types c t)) (map (λ row. value_at row c) rows)
+column_fits types [] c t h lt = λ k d l. absurd (omega arith)
+column_fits types (row ∷ rows) c t h lt =
+    let here : FitsTypes types row = h 0 row (omega arith) in
+    let more : All (FitsType (get_or types c t)) (map (λ row. value_at row c) rows) = column_fits types rows c t (λ k d l. h (suc k) d (omega arith)) lt in
+    λ k d l. elim k as (λ k. k < length (map (λ row. value_at row c) (row ∷ rows)) → FitsType (get_or types c t) (get_or (map (λ row. value_at row c) (row ∷ rows)) k d)) [ zero ↦ λ _. FitsTypes-at types row c t _ here (omega (arith, length-FitsTypes types row here)) | suc k ↦ λ l. more k d (omega arith) ] l

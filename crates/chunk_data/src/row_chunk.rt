@@ -127,8 +127,23 @@ impl Chunk {
         self.count = count_true(mask);
     }
 
-    /// The other's rows after its own; after an error the other comes back and nothing has changed.
+    /// The other's rows after its own, which are copied, but a chunk without rows takes the other's columns.
+    /// `Err` means want of memory: the other comes back and nothing has changed.
     pub fn append(&mut self, other: Chunk) -> Result<(), Chunk>
+        requires { other.types ≡ self.old.types }
+        ensures types { self.new.types ≡ self.old.types }
+        ensures ok { OnOk result (self.new.rows ≡ self.old.rows ++ other.rows) }
+        ensures err { MatchResult result (λ _. Unit {0}) (λ c. (c ≡ other) × (self.new.rows ≡ self.old.rows)) }
+    {
+        if self.count == 0 {
+            *self = other;
+            return Ok(());
+        }
+        self.append_copied(other)
+    }
+
+    // The same, whatever rows there are.
+    fn append_copied(&mut self, other: Chunk) -> Result<(), Chunk>
         requires { other.types ≡ self.old.types }
         ensures types { self.new.types ≡ self.old.types }
         ensures ok { OnOk result (self.new.rows ≡ self.old.rows ++ other.rows) }

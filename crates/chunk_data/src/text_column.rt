@@ -29,6 +29,7 @@ impl Model for Texts {
 
 #[tactic(auto, using(crate::proofs::Cuts::cuts))]
 impl Texts {
+    /// No texts; it takes no memory.
     pub fn new(alloc: Global) -> Self
         ensures { result ≡ [] }
     {
@@ -38,12 +39,22 @@ impl Texts {
         }
     }
 
+    /// How many texts there are.
     pub fn len(&self) -> usize
         ensures { result ≡ length self.now }
     {
         self.ends.len()
     }
 
+    /// Makes room for n more texts, without their bytes; the texts stay.
+    pub fn reserve(&mut self, n: usize) -> Result<(), Memory>
+        ensures { self.new ≡ self.old }
+    {
+        self.ends.try_reserve(n)?;
+        Ok(())
+    }
+
+    /// Adds the text at the end; after an error nothing has changed.
     pub fn push(&mut self, text: &[u8]) -> Result<(), Memory>
         ensures ok { OnOk result (self.new ≡ self.old ++ text.now ∷ []) }
         ensures err { OnErr result (self.new ≡ self.old) }
@@ -54,6 +65,7 @@ impl Texts {
         Ok(())
     }
 
+    /// Text i.
     pub fn get(&self, i: usize) -> &[u8]
         requires { i < length self.now }
         ensures { result.now ≡ slice_index_or self.now i [] }

@@ -25,6 +25,14 @@ impl Column {
         Column::UInt64(numbers)
     }
 
+    /// A column of these texts, which are moved.
+    pub fn of_texts(texts: Texts) -> Self
+        ensures kind { kind_of result ≡ ColumnType.Text }
+        ensures values { values result ≡ map Value.Text texts }
+    {
+        Column::Text(texts)
+    }
+
     /// The numbers of an Int64 column.
     pub fn ints(&self) -> &[i64]
         requires { kind_of self.now ≡ ColumnType.Int64 }
@@ -88,6 +96,17 @@ impl Column {
     {
         match self {
             Column::UInt64(numbers) => numbers,
+            _ => unreachable!(),
+        }
+    }
+
+    /// The texts of a Text column, which is moved.
+    pub fn into_texts(self) -> Texts
+        requires { kind_of self ≡ ColumnType.Text }
+        ensures { values self ≡ map Value.Text result }
+    {
+        match self {
+            Column::Text(texts) => texts,
             _ => unreachable!(),
         }
     }

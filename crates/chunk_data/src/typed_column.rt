@@ -20,6 +20,7 @@ pub enum Column {
 }
 
 impl Column {
+    /// A column without values; it takes no memory.
     pub fn new(alloc: Global, kind: ColumnType) -> Self
         ensures kind { kind_of result ≡ kind }
         ensures empty { values result ≡ [] }
@@ -31,6 +32,7 @@ impl Column {
         }
     }
 
+    /// The type of its values.
     pub fn kind(&self) -> ColumnType
         ensures { result ≡ kind_of self.now }
     {
@@ -41,6 +43,7 @@ impl Column {
         }
     }
 
+    /// How many values it has.
     pub fn len(&self) -> usize
         ensures { result ≡ length (values self.now) }
     {
@@ -51,6 +54,20 @@ impl Column {
         }
     }
 
+    /// Makes room for n more values, of a Text column without their bytes; the values stay.
+    pub fn reserve(&mut self, n: usize) -> Result<(), Memory>
+        ensures kind { kind_of self.new ≡ kind_of self.old }
+        ensures values { values self.new ≡ values self.old }
+    {
+        match self {
+            Column::Int64(numbers) => numbers.try_reserve(n)?,
+            Column::UInt64(numbers) => numbers.try_reserve(n)?,
+            Column::Text(texts) => texts.reserve(n)?,
+        }
+        Ok(())
+    }
+
+    /// Adds a value that fits the column's type; after an error nothing has changed and the value is dropped.
     pub fn push(&mut self, value: Value) -> Result<(), Memory>
         requires { FitsType (kind_of self.old) value }
         ensures kind { kind_of self.new ≡ kind_of self.old }
@@ -174,6 +191,7 @@ impl Column {
         }
     }
 
+    /// The same values.
     pub fn copy(&self) -> Result<Column, Memory>
         ensures kind { IfOk result (λ c. kind_of c ≡ kind_of self.now) }
         ensures values { IfOk result (λ c. values c ≡ values self.now) }
