@@ -2,3 +2,5 @@ pub mod Counts
 pub mod Growth
 pub mod Told
 pub mod Reads
+pub mod Scripts
+pub mod MemStates

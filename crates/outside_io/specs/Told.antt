@@ -1,12 +1,12 @@
 -- The files that a reader tells, and where it stands in one of them.
-use Rattle.std.specs.Prelude.{◌≡◌, ℕ, ◌+◌, ◌≤◌, List, length, take, drop, find, Option, Some, None, IfSome}
-use Rattle.std.specs.Option.{option_map}
+use Rattle.std.specs.Prelude.{◌≡◌, ℕ, ◌+◌, ◌≤◌, if◌then◌else◌, List, [], ◌∷◌, length, take, drop, Option, Some, None, IfSome}
 use Rattle.std.specs.Str.{bytes_eq}
 use Rattle.outside_io.specs.declared.entries.FileEntry.{FileEntry}
 
 -- the bytes of the first file with this path
 unfoldable pub file_bytes : List FileEntry → List ℕ → Option (List ℕ)
-file_bytes files path = option_map (λ (e : FileEntry). e.bytes) (find (λ (e : FileEntry). bytes_eq e.path path) files)
+file_bytes [] path = None
+file_bytes (e ∷ es) path = if bytes_eq e.path path then Some e.bytes else file_bytes es path
 
 -- the bytes of the file in which the reader stands, where files are told
 abbrev pub told_content : Option (List FileEntry) → Option (List ℕ × ℕ) → Option (List ℕ)

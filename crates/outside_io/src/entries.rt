@@ -22,3 +22,17 @@ pub struct FileEntry {
     pub path: Bytes,
     pub bytes: Bytes,
 }
+
+/// What a call does in place of its work: it fails, or finds nothing yet.
+#[derive(Clone, Copy, Debug, PartialEq, Eq, Drop)]
+pub enum FakeKind {
+    Fail,
+    Pend,
+}
+
+/// A call of a script; calls are numbered from 1.
+#[derive(Clone, Copy, Debug, PartialEq, Eq, Drop)]
+pub struct Fake {
+    pub call: u64,
+    pub kind: FakeKind,
+}

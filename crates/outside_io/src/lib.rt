@@ -6,9 +6,12 @@
 #![tactic(auto)]
 
 mod entries;
+mod memory_sink;
 mod reader;
+mod script;
 mod sink;
 
-pub use entries::{Failed, FileEntry, Got, WriteFault};
+pub use entries::{Failed, Fake, FakeKind, FileEntry, Got, WriteFault};
+pub use memory_sink::MemSink;
 pub use reader::FileReader;
 pub use sink::{Sink, write_all};
