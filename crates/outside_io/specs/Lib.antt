@@ -4,3 +4,4 @@ pub mod Told
 pub mod Reads
 pub mod Scripts
 pub mod MemStates
+pub mod MemEntries

@@ -1,5 +1,5 @@
 -- Scripts of fakes: which calls of a reader fail or find nothing yet.
-use Rattle.std.specs.Prelude.{ℕ, ◌+◌, ◌-◌, ◌^◌, ◌<◌, ◌≤◌, ◌==◌, nat_lt, min, if◌then◌else◌, List, [], ◌∷◌, Option, Some, None, ⊤}
+use Rattle.std.specs.Prelude.{ℕ, ◌+◌, ◌-◌, ◌^◌, ◌<◌, ◌≤◌, ◌==◌, nat_lt, min, if◌then◌else◌, List, [], ◌∷◌, length, take, drop, Option, Some, None, ⊤}
 use Rattle.outside_io.specs.declared.entries.Fake.{Fake}
 use Rattle.outside_io.specs.declared.entries.FakeKind.{FakeKind}
 
@@ -30,3 +30,9 @@ IsRising (f ∷ fs) = RisesFrom f.call fs
 abbrev pub IsPassed : ℕ → List Fake → Type 0
 IsPassed n [] = ⊤
 IsPassed n (f ∷ fs) = (f.call ≤ n) × IsPassed n fs
+
+-- so many calls were made, and the first `next` fakes are those that they have passed
+pub record IsPlacedAt (fakes : List Fake) (next calls : ℕ) : Type 0 where
+  pub within : next ≤ length fakes
+  pub passed : IsPassed calls (take next fakes)
+  pub coming : RisesFrom calls (drop next fakes)

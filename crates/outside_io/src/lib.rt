@@ -6,12 +6,18 @@
 #![tactic(auto)]
 
 mod entries;
+mod memory_files;
 mod memory_sink;
 mod reader;
+mod real_files;
+mod real_sink;
 mod script;
 mod sink;
 
 pub use entries::{Failed, Fake, FakeKind, FileEntry, Got, WriteFault};
+pub use memory_files::MemFiles;
 pub use memory_sink::MemSink;
 pub use reader::FileReader;
+pub use real_files::RealFiles;
+pub use real_sink::RealSink;
 pub use sink::{Sink, write_all};

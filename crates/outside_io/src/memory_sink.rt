@@ -61,6 +61,8 @@ impl Sink for MemSink {
         ensures answer { result ≡ write_answer self.old (length piece.now) }
         ensures grew { IfOk result (λ n. self.new ≡ record self.old { taken = self.old.taken ++ take n piece.now }) }
         ensures fault { OnErr result (self.new ≡ record self.old { faults = min (self.old.faults + 1) (2 ^ 64 - 1) }) }
+        ensures some { IfOk result (λ n. 0 < length piece.now → 0 < n) }
+        ensures faults_kept { self.old.faults ≤ self.new.faults }
     {
         if piece.is_empty() {
             return Ok(0);

@@ -14,15 +14,15 @@ pub(crate) struct Script {
 }
 
 impl Model for Script {
-    ghost use Rattle.std.specs.Prelude.{ℕ, ◌≤◌, List as Seq, length, take, drop};
+    ghost use Rattle.std.specs.Prelude.{ℕ, List as Seq};
     ghost use Rattle.outside_io.specs.declared.entries.Fake.{Fake};
-    ghost use Rattle.outside_io.specs.Scripts.{RisesFrom, IsPassed};
+    ghost use Rattle.outside_io.specs.Scripts.{IsPlacedAt};
 
     ghost Value = { Seq Fake × ℕ };
 
     ghost view = { λ s. (s.fakes, s.calls) };
 
-    ghost invariant = { λ s. (s.next ≤ length s.fakes) × IsPassed s.calls (take s.next s.fakes) × RisesFrom s.calls (drop s.next s.fakes) };
+    ghost invariant = { λ s. IsPlacedAt s.fakes s.next s.calls };
 }
 
 impl Script {
