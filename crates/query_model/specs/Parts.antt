@@ -4,9 +4,9 @@ use Rattle.csv.specs.Reading.{records, default_config, strip_bom}
 use Rattle.chunk_data.specs.Values.{Row}
 use Rattle.query_model.specs.Fields.{spelled_value, spelled_row}
 use Rattle.chunk_data.specs.declared.typed_value.ColumnType.{ColumnType}
-use Rattle.query_model.specs.declared.query.BadPlace.{BadPlace}
-use Rattle.query_model.specs.declared.query.BadField.{BadField}
-use Rattle.query_model.specs.declared.query.BadField.TheVariants.{Column, Fields}
+use Rattle.query_model.specs.declared.places.BadPlace.{BadPlace}
+use Rattle.query_model.specs.declared.places.BadField.{BadField}
+use Rattle.query_model.specs.declared.places.BadField.TheVariants.{Column, Fields}
 
 -- the records of a part: those of its bytes behind a byte order mark, without the first where that is a header
 unfoldable pub part_records : Bool → List ℕ → List (List (List ℕ))

@@ -4,8 +4,8 @@ ghost use Rattle.query_model.specs.Formulas.{formula};
 ghost use Rattle.query_model.specs.Expressions.{type_of, gives_uint, IsWithin};
 
 use crate::checked::Expr;
-use chunk_data::ColumnType;
 use crate::query::{ArithOp, ExprOf};
+use chunk_data::ColumnType;
 use std::alloc::{AllocError, Global};
 
 /// The same expression in boxes of its own.
