@@ -12,5 +12,6 @@ pub mod Formulas
 pub mod ListFiles
 pub mod Checks
 pub mod Kinds
+pub mod Numerals
 pub mod Database
 pub mod Projection

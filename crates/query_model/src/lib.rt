@@ -2,6 +2,7 @@
 #![tactic(auto)]
 
 pub mod checked;
+pub mod numerals;
 pub mod places;
 pub mod plain;
 pub mod processor_spec;
