@@ -4,7 +4,7 @@ use Rattle.chunk_data.specs.Values.{Row, Table}
 use Rattle.query_model.specs.Parts.{parts_rows, part_records, bad_place}
 use Rattle.query_model.specs.Expressions.{Expr, Cond}
 use Rattle.query_model.specs.ListFiles.{bad_line, lines_from}
-use Rattle.query_model.specs.declared.query.BadField.TheVariants as bad
+use Rattle.query_model.specs.declared.places.BadField.TheVariants as bad
 use Rattle.std.specs.Prelude.{flat_map, replicate}
 use Rattle.query_model.specs.Sources.{Database}
 use Rattle.chunk_data.specs.Values.{row_cmp}

@@ -1,6 +1,6 @@
 // Queries as they are checked: places in the place of names.
-use chunk_data::{Bytes, ColumnType, List, SortKey};
 use crate::query::{AggCall, CondOf, ExprOf, Span};
+use chunk_data::{Bytes, ColumnType, List, SortKey};
 
 pub type Expr = ExprOf<u32>;
 

@@ -163,17 +163,3 @@ pub enum Refusal {
     TooWide,
     Memory,
 }
-
-/// What is wrong with a record: the field that spells no value, from 1, or the number of its fields.
-#[derive(Clone, Copy, Debug, PartialEq, Eq)]
-pub enum BadField {
-    Column(u32),
-    Fields(u64),
-}
-
-/// The record that isn't good, from 1.
-#[derive(Clone, Copy, Debug, PartialEq, Eq)]
-pub struct BadPlace {
-    pub row: u64,
-    pub field: BadField,
-}
