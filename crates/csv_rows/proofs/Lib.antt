@@ -1,3 +1,4 @@
 pub mod Lines
 pub mod NextRecord
 pub mod RecordsLeft
+pub mod Pushing

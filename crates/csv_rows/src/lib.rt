@@ -3,7 +3,9 @@
 #![tactic(auto)]
 
 mod record_reader;
+mod rows;
 mod text;
 
 pub use record_reader::RecordReader;
+pub use rows::{RowsFault, read_rows};
 pub use text::write_rows;

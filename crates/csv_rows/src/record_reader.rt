@@ -1,6 +1,6 @@
-ghost use Rattle.std.specs.Prelude.{◌≡◌, ◌∷◌, [], true, false, OnErr, Ok, length, option_map};
+ghost use Rattle.std.specs.Prelude.{◌≡◌, ◌∷◌, [], true, false, ◌<◌, OnErr, Ok, length, slice_index_or};
 ghost use Rattle.csv.specs.Reading.{records, default_config, strip_bom};
-ghost use Rattle.csv.specs.Records.{field_at, fields_of};
+ghost use Rattle.csv.specs.Records.{fields_of};
 ghost use Rattle.csv_rows.specs.RecordsLeft.{records_left, IsBetween};
 
 use chunk_data::Memory;
@@ -77,10 +77,14 @@ impl RecordReader {
     }
 
     /// A field of the record at hand, counted from 0.
-    pub fn field(&self, i: usize) -> Option<&[u8]>
-        ensures { option_map (λ field. field.now) result ≡ field_at self.now.fields i }
+    pub fn field(&self, i: usize) -> &[u8]
+        requires { i < length self.now.fields }
+        ensures { result.now ≡ slice_index_or self.now.fields i [] }
     {
-        self.current.get(i)
+        match self.current.get(i) {
+            Some(field) => field,
+            None => unreachable!(),
+        }
     }
 }
 

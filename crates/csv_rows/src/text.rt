@@ -66,7 +66,8 @@ fn append_row(
     chunk: &Chunk,
     i: usize,
 ) -> Result<(), Memory>
-    requires { i < length chunk.now.rows }
+    requires in_range { i < length chunk.now.rows }
+    requires wide { length (row_at chunk.now.rows i) ≡ length chunk.now.types }
     ensures { OnOk result (out.new.items ≡ out.old.items ++ row_text (row_at chunk.now.rows i)) }
 {
     for c in 0..chunk.types().len() {
