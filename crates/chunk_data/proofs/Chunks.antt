@@ -1,6 +1,6 @@
 -- chunks
 use Rattle.std.proofs.Common.{◌≡◌, ℕ, ◌+◌, ◌-◌, ◌<◌, ◌≤◌, Bool, List, [], ◌∷◌, ◌++◌, length, get_or, take, drop, map, refl, ap, sym, arith, suc, zero, ◌∙◌, subst}
-use Rattle.std.proofs.lemmas.List.{length-map, take_at, get_or-map, get_or_read, take_more, map-append}
+use Rattle.std.proofs.lemmas.List.{length-map, take_at, get_or-map, get_or_read, take_more, map-append, nil_from_length}
 use Rattle.std.specs.List.{count_by, All}
 use Rattle.chunk_data.specs.declared.typed_column.Column.{Column}
 use Rattle.chunk_data.specs.declared.typed_value.ColumnType.{ColumnType}
@@ -87,14 +87,10 @@ is_table types columns n t h e =
     let Q : Table → Type 0 = IsTable in
     subst Q e (subst P h.kinds (rows_fit columns n h.long))
 
-nothing_in : {X : Type 0} (xs : List X) → length xs ≡ 0 → xs ≡ []
-nothing_in [] e = refl
-nothing_in (x ∷ xs) e = absurd (omega arith)
-
 -- rows after no rows
 pub taken_step : (types : List ColumnType) (columns : List Column) (n : ℕ) (old other : Table) (rows : List Row) → AreColumns types columns n → n ≡ 0 → record { types = types; rows = rows_of n (map values columns) } ≡ old → rows ≡ other.rows → rows ≡ old.rows ++ other.rows
 taken_step types columns n old other rows h z o e =
-    let none : old.rows ≡ [] = nothing_in old.rows (ap (λ t. length t.rows) (sym o) ∙ length_rows types columns n h ∙ z) in
+    let none : old.rows ≡ [] = nil_from_length old.rows (ap (λ t. length t.rows) (sym o) ∙ length_rows types columns n h ∙ z) in
     rw none e
 
 pub ruleset chunks = (length_rows, AreColumns-empty, rows_of_empty, column_of)
