@@ -38,12 +38,12 @@ impl Model for MemFiles {
     ghost use Rattle.outside_io.specs.MemEntries.{stand_of, StandsWithin};
 
     ghost view = { λ s. record {
-        files = s.entries;
-        stands = stand_of s.entries s.standing;
-        faults = s.faults;
-        pendings = s.pendings;
-        script = s.script.0;
-        calls = s.script.1;
+      files = s.entries;
+      stands = stand_of s.entries s.standing;
+      faults = s.faults;
+      pendings = s.pendings;
+      script = s.script.0;
+      calls = s.script.1;
     } };
 
     ghost invariant = { λ s. StandsWithin s.entries s.standing };
