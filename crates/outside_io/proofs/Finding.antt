@@ -1,5 +1,5 @@
 -- A search for the first entry with a path.
-use Rattle.std.proofs.Common.{◌≡◌, ℕ, ◌+◌, ◌<◌, ◌≤◌, true, false, cond, List, [], ◌∷◌, length, drop, slice_index_or, Some, None, ◌∙◌, sym, ap, arith, add-one, suc}
+use Rattle.std.proofs.Common.{◌≡◌, ℕ, ◌+◌, ◌<◌, ◌≤◌, true, false, cond, List, [], ◌∷◌, length, drop, slice_index_or, Some, None, ◌∙◌, sym, ap, add-one, suc}
 use Rattle.std.specs.Str.{bytes_eq}
 use Rattle.std.proofs.lemmas.List.{get_or-map}
 use Rattle.std.proofs.lemmas.Slice.Eq.{bytes_eq-Decides}
@@ -7,7 +7,7 @@ use Rattle.std.proofs.Math.Seq.{drop-cons}
 use Rattle.std.proofs.Math.ListN.{drop_of_length-le}
 use Rattle.outside_io.specs.declared.entries.FileEntry.{FileEntry}
 use Rattle.outside_io.specs.Told.{file_bytes}
-use Rattle.outside_io.specs.MemEntries.{IsEntryOf, path_at, bytes_at}
+use Rattle.outside_io.specs.MemEntries.{IsEntryOf}
 
 -- the entries from the place on
 coming_are : (entries : List FileEntry) (i : ℕ) (e : FileEntry) → i < length entries → e ≡ slice_index_or entries i e → drop i entries ≡ e ∷ drop (i + 1) entries

@@ -132,6 +132,7 @@ impl FileReader for MemFiles {
         ensures at_end { OnEnd result (self.new ≡ record self.old { calls = one_more self.old.calls }) }
         ensures pending { OnPending result (self.new ≡ record self.old { pendings = min (self.old.pendings + 1) (2 ^ 64 - 1); calls = one_more self.old.calls }) }
         ensures fault { OnErr result (self.new ≡ record self.old { faults = min (self.old.faults + 1) (2 ^ 64 - 1); calls = one_more self.old.calls }) }
+        ensures stays_open { IsSome self.new.stands }
         ensures faults_kept { self.old.faults ≤ self.new.faults }
         ensures pendings_kept { self.old.pendings ≤ self.new.pendings }
     {

@@ -1,4 +1,4 @@
-use Rattle.std.proofs.Common.{◌≡◌, drop, length}
+use Rattle.std.proofs.Common.{◌≡◌, drop}
 use Rattle.outside_io.specs.Told.{file_bytes}
 use Rattle.outside_io.proofs.memory_files.find_entry.Given as goal
 
