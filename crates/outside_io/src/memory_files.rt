@@ -1,9 +1,8 @@
-ghost use Rattle.std.specs.Prelude.{◌≡◌, ℕ, ◌<◌, ◌≤◌, ◌+◌, ◌^◌, ◌-◌, min, [], ◌++◌, length, take, drop, Some, None, IfSome, IfNone, IsSome, IsNone, IsOk, IfOk, OnOk, OnErr, ◌↔◌};
+ghost use Rattle.std.specs.Prelude.{◌≡◌, ◌<◌, ◌≤◌, ◌+◌, ◌^◌, ◌-◌, min, length, take, drop, Some, None, IfSome, IfNone, IsSome, IsNone, IsOk, OnOk, OnErr, ◌↔◌};
 ghost use Rattle.outside_io.specs.MemStates.{FilesState, fake_of, bytes_left, read_answer};
-ghost use Rattle.outside_io.specs.Told.{file_bytes, told_content, place_of, moved_by, GivesNext, StandsAtEnd};
+ghost use Rattle.outside_io.specs.Told.{file_bytes, moved_by, GivesNext, StandsAtEnd};
 ghost use Rattle.outside_io.specs.Scripts.{one_more, IsRising};
-ghost use Rattle.outside_io.specs.Reads.{OnBytes, OnEnd, OnPending, UnlessPending};
-ghost use Rattle.outside_io.specs.Counts.{Rose};
+ghost use Rattle.outside_io.specs.Reads.{OnBytes, OnEnd, OnPending};
 ghost use Rattle.outside_io.specs.MemEntries.{IsEntryOf};
 
 use crate::entries::{Failed, Fake, FakeKind, FileEntry, Got};
