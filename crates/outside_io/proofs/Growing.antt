@@ -1,5 +1,5 @@
 -- How the growths of several writes make one.
-use Rattle.std.proofs.Common.{◌≡◌, ℕ, ◌+◌, ◌≤◌, List, [], ◌++◌, length, take, drop, ◌-◌, length-drop, Option, Some, None, ◌∙◌, sym, ap, append_assoc, refl, arith, length-append}
+use Rattle.std.proofs.Common.{◌≡◌, ℕ, ◌+◌, List, [], ◌++◌, length, take, drop, ◌-◌, length-drop, Option, Some, None, ◌∙◌, sym, ap, append_assoc, refl, arith, length-append}
 use Rattle.std.proofs.lemmas.List.{append-nil, take-append-le}
 use Rattle.std.proofs.Math.Seq.{take-length, take-append-add, take-add}
 use Rattle.outside_io.specs.Growth.{grown, GrewBy, GrewByPrefix, Untouched}

@@ -33,7 +33,7 @@ block_got room left = if left == 0 then End else Bytes (min room left)
 
 -- the answer to a read, by the fake that it meets
 abbrev pub read_answer : Option FakeKind → ℕ → ℕ → Result Got Failed
-read_answer (Some Fail) room left = Err (record { })
+read_answer (Some Fail) room left = Err (record {})
 read_answer (Some Pend) room left = Ok Pending
 read_answer None room left = Ok (block_got room left)
 
@@ -48,5 +48,5 @@ pub record SinkState : Type 0 where
 abbrev pub write_answer : SinkState → ℕ → Result ℕ Failed
 write_answer s size =
     if size == 0 then Ok 0
-    else if length s.taken == s.room then Err (record { })
+    else if length s.taken == s.room then Err (record {})
     else Ok (min size (min s.step (s.room - length s.taken)))

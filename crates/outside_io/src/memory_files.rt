@@ -1,9 +1,8 @@
-ghost use Rattle.std.specs.Prelude.{◌≡◌, ℕ, ◌<◌, ◌≤◌, ◌+◌, ◌^◌, ◌-◌, min, [], ◌++◌, length, take, drop, Some, None, IfSome, IfNone, IsSome, IsNone, IsOk, IfOk, OnOk, OnErr, ◌↔◌};
+ghost use Rattle.std.specs.Prelude.{◌≡◌, ◌<◌, ◌≤◌, ◌+◌, ◌^◌, ◌-◌, min, length, take, drop, Some, None, IfSome, IfNone, IsSome, IsNone, IsOk, OnOk, OnErr, ◌↔◌};
 ghost use Rattle.outside_io.specs.MemStates.{FilesState, fake_of, bytes_left, read_answer};
-ghost use Rattle.outside_io.specs.Told.{file_bytes, told_content, place_of, moved_by, GivesNext, StandsAtEnd};
+ghost use Rattle.outside_io.specs.Told.{file_bytes, moved_by, GivesNext, StandsAtEnd};
 ghost use Rattle.outside_io.specs.Scripts.{one_more, IsRising};
-ghost use Rattle.outside_io.specs.Reads.{OnBytes, OnEnd, OnPending, UnlessPending};
-ghost use Rattle.outside_io.specs.Counts.{Rose};
+ghost use Rattle.outside_io.specs.Reads.{OnBytes, OnEnd, OnPending};
 ghost use Rattle.outside_io.specs.MemEntries.{IsEntryOf};
 
 use crate::entries::{Failed, Fake, FakeKind, FileEntry, Got};
@@ -38,12 +37,12 @@ impl Model for MemFiles {
     ghost use Rattle.outside_io.specs.MemEntries.{stand_of, StandsWithin};
 
     ghost view = { λ s. record {
-        files = s.entries;
-        stands = stand_of s.entries s.standing;
-        faults = s.faults;
-        pendings = s.pendings;
-        script = s.script.0;
-        calls = s.script.1;
+      files = s.entries;
+      stands = stand_of s.entries s.standing;
+      faults = s.faults;
+      pendings = s.pendings;
+      script = s.script.0;
+      calls = s.script.1;
     } };
 
     ghost invariant = { λ s. StandsWithin s.entries s.standing };
@@ -132,6 +131,7 @@ impl FileReader for MemFiles {
         ensures at_end { OnEnd result (self.new ≡ record self.old { calls = one_more self.old.calls }) }
         ensures pending { OnPending result (self.new ≡ record self.old { pendings = min (self.old.pendings + 1) (2 ^ 64 - 1); calls = one_more self.old.calls }) }
         ensures fault { OnErr result (self.new ≡ record self.old { faults = min (self.old.faults + 1) (2 ^ 64 - 1); calls = one_more self.old.calls }) }
+        ensures stays_open { IsSome self.new.stands }
         ensures faults_kept { self.old.faults ≤ self.new.faults }
         ensures pendings_kept { self.old.pendings ≤ self.new.pendings }
     {

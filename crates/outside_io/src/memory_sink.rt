@@ -1,4 +1,4 @@
-ghost use Rattle.std.specs.Prelude.{◌≡◌, ℕ, ◌<◌, ◌≤◌, ◌+◌, ◌^◌, ◌-◌, min, [], ◌++◌, length, take, Some, IfOk, OnOk, OnErr};
+ghost use Rattle.std.specs.Prelude.{◌≡◌, ◌<◌, ◌≤◌, ◌+◌, ◌^◌, ◌-◌, min, [], ◌++◌, length, take, Some, IfOk, OnErr};
 ghost use Rattle.outside_io.specs.MemStates.{write_answer};
 
 use crate::entries::Failed;

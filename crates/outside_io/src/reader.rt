@@ -40,6 +40,7 @@ pub trait FileReader: Drop + Send {
         ensures bytes { OnBytes result (λ n. GivesNext (files self.old) (stands self.old) n buf.new) }
         ensures moved { OnBytes result (λ n. stands self.new ≡ moved_by n (stands self.old)) }
         ensures end { OnEnd result (StandsAtEnd (files self.old) (stands self.old)) }
+        ensures stays_open { IsSome (stands self.new) }
         ensures stays_at_end { OnEnd result (stands self.new ≡ stands self.old) }
         ensures stays_pending { OnPending result (stands self.new ≡ stands self.old) }
         ensures stays_failed { OnErr result (stands self.new ≡ stands self.old) }

@@ -26,9 +26,17 @@ pub struct RealFiles<R: Files> {
     faults: u64,
 }
 
-impl<R: Files + Clone + Drop + Send> RealFiles<R> {
+impl<R: Files + Clone + Drop + Send> RealFiles<R>
+where
+    R::File: Send,
+{
     /// A reader of the system's files, none of which stands open.
-    pub fn new(rt: R) -> RealFiles<R> {
+    pub fn new(rt: R) -> RealFiles<R>
+        ensures told { ⟦<RealFiles<R> as FileReader>⟧.files result ≡ None }
+        ensures closed { ⟦<RealFiles<R> as FileReader>⟧.stands result ≡ None }
+        ensures faults { ⟦<RealFiles<R> as FileReader>⟧.faults result ≡ 0 }
+        ensures pendings { ⟦<RealFiles<R> as FileReader>⟧.pendings result ≡ 0 }
+    {
         RealFiles {
             rt,
             opened: None,

@@ -1,4 +1,4 @@
-ghost use Rattle.std.specs.Prelude.{◌<◌, ◌≤◌, length, IfSome};
+ghost use Rattle.std.specs.Prelude.{◌≡◌, ◌<◌, ◌≤◌, length, IfSome, None};
 
 use crate::entries::Failed;
 use crate::sink::Sink;
@@ -14,7 +14,10 @@ pub struct RealSink<W> {
 
 impl<W: Write + Drop> RealSink<W> {
     /// A sink over the writer.
-    pub fn new(writer: W) -> RealSink<W> {
+    pub fn new(writer: W) -> RealSink<W>
+        ensures told { ⟦<RealSink<W> as Sink>⟧.written result ≡ None }
+        ensures faults { ⟦<RealSink<W> as Sink>⟧.faults result ≡ 0 }
+    {
         RealSink { writer, faults: 0 }
     }
 }

@@ -53,7 +53,7 @@ impl Script {
         if self.next == self.fakes.len() {
             return None;
         }
-        let fake = self.fakes.as_slice()[self.next];
+        let fake = *self.fakes.get(self.next);
         if fake.call != self.calls {
             return None;
         }
