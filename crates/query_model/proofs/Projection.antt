@@ -294,3 +294,42 @@ pub projection-answers : (s : Schema) (names : List (List ℕ)) (table : Table)
     → IsAnswer (projection_checked s names) (table ∷ []) (map (values_at (column_places s names)) table.rows)
 projection-answers s names table =
     any_order_answers _ _ (subst (λ rows. IsPermutation rows (map (values_at (column_places s names)) table.rows)) (sym (projection-output s names table)) (IsPermutation-refl _))
+
+-- The first name that is no column's.
+
+find-map : {A B : Type 0} (p : B → Bool) (test : A → Bool) (f : A → B) → ((x : A) → p (f x) ≡ test x) → (xs : List A) → find p (map f xs) ≡ option_map f (find test xs)
+find-map p test f same [] = refl
+find-map {A} {B} p test f same (x ∷ xs) = ap (λ b. cond b (Some (f x)) (find p (map f xs))) (same x) ∙ go (test x) (find-map p test f same xs)
+  where
+    go : (b : Bool) → find p (map f xs) ≡ option_map f (find test xs) → cond b (Some (f x)) (find p (map f xs)) ≡ option_map f (cond b (Some x) (find test xs))
+    go true more = refl
+    go false more = more
+
+unmatched : (s : Schema) (n : List ℕ) → are_distinct (column_names s) ≡ true → (length (matches s.name n s.columns) == 0) ≡ not (list_any (bytes_eq n) (column_names s))
+unmatched s n distinct = go (list_any (bytes_eq n) (column_names s)) refl
+  where
+    go : (b : Bool) → list_any (bytes_eq n) (column_names s) ≡ b → (length (matches s.name n s.columns) == 0) ≡ not b
+    go true e = ap (λ m. m == 0) (one_match s.name n s.columns e distinct)
+    go false e = ap (λ (l : List FromColumn). length l == 0) (no_match s.name n s.columns e)
+
+-- an item that is no column
+pub projection-unknown_column : (s : Schema) (names : List (List ℕ)) (name : List ℕ) → are_distinct (column_names s) ≡ true
+    → find (λ n. not (list_any (bytes_eq n) (column_names s))) names ≡ Some name
+    → refusal_of (projection_query names s.name) (s ∷ []) ≡ Some (refuse.UnknownColumn name)
+unfolding refusal_of
+projection-unknown_column s names name distinct first =
+    skipped (unknown_table query (s ∷ [])) _ (known_table s names) ∙ ap (λ o. first_of_all (o ∷ rest)) unknown
+  where
+    query : Query
+    query = projection_query names s.name
+
+    rest : List (Option Refusal)
+    rest = ambiguous_column query (s ∷ []) ∷ bad_join_key query (s ∷ []) ∷ type_mismatch query (s ∷ []) ∷ not_grouped query (s ∷ [])
+        ∷ bad_order_key query (s ∷ []) ∷ too_wide query (s ∷ []) ∷ []
+
+    unknown : unknown_column query (s ∷ []) ≡ Some (refuse.UnknownColumn name)
+    unknown =
+        ap (option_map (λ (c : ColumnRef). refuse.UnknownColumn (written c))) (
+        ap₂ (λ (columns : List FromColumn) (cs : List ColumnRef). find (λ c. length (meant c columns) == 0) cs) (from_columns-is s names) (text_columns-is names s.name)
+        ∙ find-map (λ c. length (meant c (schema_columns s)) == 0) (λ n. not (list_any (bytes_eq n) (column_names s))) bare (λ n. unmatched s n distinct) names
+        ∙ ap (option_map bare) first)
