@@ -1,6 +1,7 @@
 -- Reading a part field by field and record by record.
-use Rattle.std.proofs.Common.{◌≡◌, ◌≢◌, ℕ, zero, suc, ◌+◌, ◌<◌, Bool, true, false, cond, List, [], ◌∷◌, ◌++◌, length, get_or, drop, refl, sym, ap, ap₂, ◌∙◌, subst, arith, ℤ, pos, append_assoc, Option, Some, None}
+use Rattle.std.proofs.Common.{◌≡◌, ◌≢◌, ℕ, zero, suc, ◌+◌, ◌<◌, Bool, true, false, cond, List, [], ◌∷◌, ◌++◌, length, get_or, drop, refl, sym, ap, ap₂, ◌∙◌, subst, arith, ℤ, pos, length-append, Option, Some, None}
 use Rattle.std.specs.Prelude.{◌==◌, is_some, option_map, ◌^◌}
+use Rattle.std.proofs.lemmas.List.{drop_more, drop_all}
 use Rattle.chunk_data.specs.Values.{Row, type_of, FitsType, FitsTypes}
 use Rattle.query_model.specs.Fields.{spelled_value, spelled_row, spelled_int, both_spelled, numeral_below}
 use Rattle.query_model.specs.Parts.{part_records, good_rows, bad_place, bad_column, bad_field, row_then, SpelledFront}
@@ -81,6 +82,21 @@ bad_field-stops types fields row d e same front few is =
     ap (λ b. cond b (Column (bad_column 1 types fields)) (Fields (length fields))) (same_number _ _ same)
     ∙ ap Column (bad_column-stops 1 types fields row d e front few (omega (arith, same, few)) is ∙ (omega arith))
 
+-- from column i on
+pub bad_column-step : (types : List ColumnType) (fields : List (List ℕ)) (i : ℕ) (d : ColumnType) (e f : List ℕ) (c : ℕ)
+    → i < length types → i < length fields → f ≡ get_or fields i e
+    → bad_column c (drop i types) (drop i fields) ≡ cond (is_some (spelled_value (get_or types i d) f)) (bad_column (c + 1) (drop (i + 1) types) (drop (i + 1) fields)) c
+unfolding bad_column
+bad_column-step types fields i d e f c few long is =
+    ap₂ (bad_column c) (drop_more types i d few) (drop_more fields i e long)
+    ∙ ap (λ g. cond (is_some (spelled_value (get_or types i d) g)) (bad_column (c + 1) (drop (i + 1) types) (drop (i + 1) fields)) c) (sym is)
+
+pub bad_column-end : (types : List ColumnType) (fields : List (List ℕ)) (i : ℕ) → i ≡ length types
+    → bad_column (i + 1) (drop i types) (drop i fields) ≡ length types + 1
+unfolding bad_column
+bad_column-end types fields i whole =
+    ap (λ ts. bad_column (i + 1) ts (drop i fields)) (drop_all i types (omega (arith, whole))) ∙ ap (λ k. k + 1) whole
+
 -- another number of fields
 
 pub bad_field-lengths : (types : List ColumnType) (fields : List (List ℕ)) → length fields ≢ length types → bad_field types fields ≡ Fields (length fields)
@@ -134,3 +150,31 @@ spelled_row-lengths types fields other = go (spelled_row types fields) refl
     go : (o : Option Row) → spelled_row types fields ≡ o → o ≡ None
     go None e = refl
     go (Some row) e = absurd (other (spelled_row-length types fields row e))
+
+-- The same, as a loop over the columns has them: with i columns read, the field at place i is f.
+
+pub front_starts : (types : List ColumnType) (fields : List (List ℕ)) (row : Row) → row ≡ [] → SpelledFront types fields row × (length row ≡ 0)
+front_starts types fields row e = let P : Row → Type 0 = λ r. SpelledFront types fields r × (length r ≡ 0) in subst P (sym e) (tt, refl)
+
+pub none_spelled : (types : List ColumnType) (fields : List (List ℕ)) (row : Row) (i : ℕ) (d : ColumnType) (e f : List ℕ)
+    → length types ≡ length fields → SpelledFront types fields row → length row ≡ i → i < length types → f ≡ get_or fields i e
+    → spelled_value (get_or types i d) f ≡ None → spelled_row types fields ≡ None
+none_spelled types fields row i d e f same front long inside is no_value =
+    spelled_row-stops types fields row d e front (omega (arith, long, inside)) (omega (arith, same, long, inside))
+    (ap (λ k. spelled_value (get_or types k d) (get_or fields k e)) long ∙ ap (spelled_value (get_or types i d)) (sym is) ∙ no_value)
+
+pub front_grows : (types : List ColumnType) (fields : List (List ℕ)) (row grown : Row) (v : Value) (i : ℕ) (d : ColumnType) (e f : List ℕ)
+    → length types ≡ length fields → SpelledFront types fields row → length row ≡ i → i < length types → f ≡ get_or fields i e
+    → spelled_value (get_or types i d) f ≡ Some v → grown ≡ row ++ v ∷ [] → SpelledFront types fields grown × (length grown ≡ i + 1)
+front_grows types fields row grown v i d e f same front long inside is value grows =
+    let P : Row → Type 0 = λ r. SpelledFront types fields r × (length r ≡ i + 1) in
+    let one_more = length-append row (v ∷ []) in
+    subst P (sym grows) (
+      SpelledFront-snoc types fields row v d e front (omega (arith, long, inside)) (omega (arith, same, long, inside))
+          (ap (λ k. spelled_value (get_or types k d) (get_or fields k e)) long ∙ ap (spelled_value (get_or types i d)) (sym is) ∙ value),
+      omega (arith, one_more, long),
+    )
+
+pub front_whole : (types : List ColumnType) (fields : List (List ℕ)) (row whole : Row)
+    → length types ≡ length fields → SpelledFront types fields row → length types ≡ length row → whole ≡ row → spelled_row types fields ≡ Some whole
+front_whole types fields row whole same front long is = spelled_row-front types fields row front long (omega (arith, same, long)) ∙ ap Some (sym is)

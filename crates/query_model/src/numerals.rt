@@ -43,13 +43,7 @@ fn spelled_below(limit: u64, field: &[u8]) -> Option<u64>
     ensures { result ≡ numeral_below limit field.now }
 {
     match spelled_uint(field) {
-        Some(number) => {
-            if number < limit {
-                Some(number)
-            } else {
-                None
-            }
-        }
+        Some(number) => { if number < limit { Some(number) } else { None } }
         None => None,
     }
 }

@@ -1,16 +1,16 @@
 // Plain, slow functions of the definitions.
-ghost use Rattle.std.specs.Prelude.{is_some, ◌-◌, ◌^◌, ◌++◌};
+ghost use Rattle.std.specs.Prelude.{is_some, OnOk, ◌-◌, ◌^◌, ◌++◌};
 ghost use Rattle.query_model.specs.Fields.{spelled_value, spelled_row};
 ghost use Rattle.query_model.specs.Parts.{bad_column, bad_field as bad_field_of};
-ghost use Rattle.query_model.specs.Texts.{quoted, value_text as text_of_value, row_text as text_of_row, rows_text as text_of_rows};
+ghost use Rattle.query_model.specs.Texts.{quoted, doubled, separator, value_text as text_of_value, row_text as text_of_row, rows_text as text_of_rows};
 ghost use Rattle.std.specs.Prelude.{◌≡◌, IfOk, length, ◌<◌};
 ghost use Rattle.query_model.specs.Formulas.{formula};
 ghost use Rattle.query_model.specs.Expressions.{type_of, gives_uint, IsWithin};
 
 use crate::checked::Expr;
-use crate::query::{ArithOp, ExprOf};
 use crate::numerals::{spelled_int, spelled_uint};
 use crate::places::BadField;
+use crate::query::{ArithOp, ExprOf};
 use chunk_data::{Bytes, ColumnType, List, Memory, Value};
 use std::alloc::{AllocError, Global};
 
@@ -96,7 +96,11 @@ pub fn spells(kind: ColumnType, field: &[u8]) -> bool
 }
 
 /// The row that a record spells, if it spells one.
-pub fn row_spelled(alloc: Global, types: &[ColumnType], fields: &[Bytes]) -> Result<Option<List<Value>>, Memory>
+pub fn row_spelled(
+    alloc: Global,
+    types: &[ColumnType],
+    fields: &[Bytes],
+) -> Result<Option<List<Value>>, Memory>
     ensures { IfOk result (λ row. row ≡ spelled_row types.now fields.now) }
 {
     if types.len() != fields.len() {
@@ -138,6 +142,17 @@ pub fn bad_field(types: &[ColumnType], fields: &[Bytes]) -> BadField
     }
 }
 
+/// Adds a byte as it stands inside of quotes.
+fn push_quoted(text: &mut Vec<u8>, byte: u8) -> Result<(), Memory>
+    ensures { OnOk result (text.new.items ≡ text.old.items ++ doubled byte) }
+{
+    if byte == b'"' {
+        text.push(b'"')?;
+    }
+    text.push(byte)?;
+    Ok(())
+}
+
 /// A text in quotes.
 fn quoted_text(alloc: Global, bytes: &[u8]) -> Result<Vec<u8>, Memory>
     ensures { IfOk result (λ text. text.items ≡ quoted bytes.now) }
@@ -145,10 +160,7 @@ fn quoted_text(alloc: Global, bytes: &[u8]) -> Result<Vec<u8>, Memory>
     let mut text = Vec::new(alloc);
     text.push(b'"')?;
     for byte in bytes {
-        if *byte == b'"' {
-            text.push(b'"')?;
-        }
-        text.push(*byte)?;
+        push_quoted(&mut text, *byte)?;
     }
     text.push(b'"')?;
     Ok(text)
@@ -165,15 +177,23 @@ pub fn value_text(alloc: Global, value: &Value) -> Result<Vec<u8>, Memory>
     }
 }
 
+/// Adds the comma in front of the value with place `i`.
+fn push_separator(text: &mut Vec<u8>, i: usize) -> Result<(), Memory>
+    ensures { OnOk result (text.new.items ≡ text.old.items ++ separator i) }
+{
+    if i > 0 {
+        text.push(b',')?;
+    }
+    Ok(())
+}
+
 /// The text of a row, with its line feed.
 pub fn row_text(alloc: Global, row: &[Value]) -> Result<Vec<u8>, Memory>
     ensures { IfOk result (λ text. text.items ≡ text_of_row row.now) }
 {
     let mut text = Vec::new(alloc);
     for i in 0..row.len() {
-        if i > 0 {
-            text.push(b',')?;
-        }
+        push_separator(&mut text, i)?;
         let more = value_text(alloc, &row[i])?;
         text.extend_from_slice(&more)?;
     }

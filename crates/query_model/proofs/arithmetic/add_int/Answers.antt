@@ -3,7 +3,7 @@ use Rattle.std.proofs.lemmas.Int.{wrapping_add_is}
 use mir.Syntax.{w64}
 use Rattle.query_model.specs.Numbers.{wrapped}
 use Rattle.chunk_data.specs.declared.typed_value.Value.TheVariants as value
-use Rattle.query_model.proofs.sums.add_int.Goals as goal
+use Rattle.query_model.proofs.arithmetic.add_int.Goals as goal
 
 pub returns : goal.returns
 unfolding wrapped

@@ -3,7 +3,7 @@ use Rattle.std.proofs.lemmas.Int.{to_z-of_z}
 use mir.Syntax.{w64}
 use Rattle.chunk_data.specs.declared.typed_value.Value.TheVariants as value
 use Rattle.query_model.proofs.Wrapping.{wrapped-difference}
-use Rattle.query_model.proofs.sums.sub_uint.Goals as goal
+use Rattle.query_model.proofs.arithmetic.sub_uint.Goals as goal
 
 pub returns : goal.returns
 returns c =
