@@ -2,10 +2,12 @@
 //! columns, and columns are written as the text of an answer.
 #![tactic(auto)]
 
+mod file_fetch;
 mod record_reader;
 mod rows;
 mod text;
 
+pub use file_fetch::{FetchFault, Fetched, FileFault, fetch, fetch_file};
 pub use record_reader::RecordReader;
 pub use rows::{RowsFault, read_rows};
 pub use text::write_rows;
