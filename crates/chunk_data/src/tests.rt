@@ -1,6 +1,7 @@
 ghost use Rattle.std.specs.Prelude.{◌≡◌, ◌∷◌, [], IfOk};
 
 use crate::{Bytes, Chunk, Column, ColumnType, List, Memory, SortKey, Texts, Value};
+use crate::{empty_columns, truncate_columns};
 use std::alloc::Global;
 use std::cmp::Ordering;
 use std::process::Abort;
@@ -178,5 +179,63 @@ fn lists_are_pushed_to_and_copied(rt: HostRuntime) -> Result<(), Fail> {
     assert_eq!(rt; text.copy()?.into_vec().as_slice(), b"ab\0c".as_slice());
     let keys = List::from_vec(vec![in alloc; SortKey { column: 1, descending: true }]?);
     assert_eq!(rt; keys.copy()?.as_slice(), keys.as_slice());
+    Ok(())
+}
+
+#[test]
+fn signed_columns_grow(rt: HostRuntime) -> Result<(), Fail> {
+    let alloc = rt.alloc();
+    let mut ints = Column::new(alloc, ColumnType::Int64);
+    ints.reserve(2)?;
+    ints.push_int(4)?;
+    ints.push(Value::Int(-4))?;
+    assert_eq!(rt; ints.ints(), [4, -4].as_slice());
+    let front = ints.front(1)?;
+    assert!(rt; ints.append_moved(front).is_ok());
+    assert_eq!(rt; ints.into_ints().as_slice(), [4, -4, 4].as_slice());
+    Ok(())
+}
+
+#[test]
+fn unsigned_columns_grow(rt: HostRuntime) -> Result<(), Fail> {
+    let alloc = rt.alloc();
+    let mut uints = Column::new(alloc, ColumnType::UInt64);
+    uints.push_uint(6)?;
+    uints.push_copy(&Value::UInt(7))?;
+    uints.remove_front(1);
+    assert_eq!(rt; uints.uints(), [7].as_slice());
+    assert_eq!(rt; uints.into_uints().as_slice(), [7].as_slice());
+    Ok(())
+}
+
+#[test]
+fn text_columns_grow(rt: HostRuntime) -> Result<(), Fail> {
+    let alloc = rt.alloc();
+    let more = column_of_texts(alloc, &[b"cd", b"", b"e"])?;
+    let mut texts = Column::new(alloc, ColumnType::Text);
+    texts.push_text(b"ab")?;
+    assert!(rt; more.kind() == ColumnType::Text);
+    texts.append(&more)?;
+    texts.truncate(3);
+    texts.remove_front(1);
+    assert_eq!(rt; texts.len(), 2);
+    assert_eq!(rt; texts.text(0), b"cd".as_slice());
+    let texts = texts.into_texts();
+    assert_eq!(rt; texts.len(), 2);
+    assert_eq!(rt; texts.get(1), b"".as_slice());
+    Ok(())
+}
+
+#[test]
+fn columns_are_taken_and_truncated(rt: HostRuntime) -> Result<(), Fail> {
+    let alloc = rt.alloc();
+    let mut columns = places(alloc)?.into_columns().into_vec();
+    truncate_columns(&mut columns, 3);
+    for column in &columns {
+        assert_eq!(rt; column.len(), 3);
+    }
+    let empty = empty_columns(alloc, &[ColumnType::Text, ColumnType::Int64])?;
+    assert_eq!(rt; empty.len(), 2);
+    assert!(rt; empty[1].kind() == ColumnType::Int64);
     Ok(())
 }
