@@ -7,6 +7,7 @@ use Rattle.outside_io.specs.declared.entries.FakeKind.TheVariants.{Fail, Pend}
 use Rattle.outside_io.specs.declared.entries.FileEntry.{FileEntry}
 use Rattle.outside_io.specs.declared.entries.Got.{Got}
 use Rattle.outside_io.specs.declared.entries.Got.TheVariants.{Bytes, End, Pending}
+use Rattle.outside_io.specs.Counts.{one_more}
 use Rattle.outside_io.specs.Told.{told_content, place_of}
 use Rattle.outside_io.specs.Scripts.{next_fake}
 
@@ -18,6 +19,10 @@ pub record FilesState : Type 0 where
   pub pendings : ℕ
   pub script : List Fake
   pub calls : ℕ
+
+-- the state with one more call counted
+abbrev pub counted : FilesState → FilesState
+counted s = record s { calls = one_more s.calls }
 
 -- the fake that the next call meets
 abbrev pub fake_of : FilesState → Option FakeKind

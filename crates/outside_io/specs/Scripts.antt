@@ -1,5 +1,5 @@
 -- Scripts of fakes: which calls of a reader fail or find nothing yet.
-use Rattle.std.specs.Prelude.{ℕ, ◌+◌, ◌-◌, ◌^◌, ◌<◌, ◌≤◌, ◌==◌, nat_lt, min, if◌then◌else◌, List, [], ◌∷◌, length, take, drop, Option, Some, None, ⊤}
+use Rattle.std.specs.Prelude.{ℕ, ◌+◌, ◌-◌, ◌^◌, ◌<◌, ◌≤◌, ◌==◌, nat_lt, if◌then◌else◌, List, [], ◌∷◌, length, take, drop, Option, Some, None, ⊤}
 use Rattle.outside_io.specs.declared.entries.Fake.{Fake}
 use Rattle.outside_io.specs.declared.entries.FakeKind.{FakeKind}
 
@@ -11,10 +11,6 @@ fake_at (f ∷ fs) call = if f.call == call then Some f.kind else fake_at fs cal
 -- what the script says of the call after so many calls; their count stands at its last value, and no call is a fake from there on
 abbrev pub next_fake : List Fake → ℕ → Option FakeKind
 next_fake script calls = if nat_lt calls (2 ^ 64 - 1) then fake_at script (calls + 1) else None
-
--- the count after one more call
-abbrev pub one_more : ℕ → ℕ
-one_more calls = min (calls + 1) (2 ^ 64 - 1)
 
 -- the calls' numbers rise, from above n
 abbrev pub RisesFrom : ℕ → List Fake → Type 0

@@ -1,7 +1,8 @@
-ghost use Rattle.std.specs.Prelude.{◌≡◌, ◌<◌, ◌≤◌, ◌+◌, ◌^◌, ◌-◌, min, length, take, drop, Some, None, IfSome, IfNone, IsSome, IsNone, IsOk, OnOk, OnErr, ◌↔◌};
-ghost use Rattle.outside_io.specs.MemStates.{FilesState, fake_of, bytes_left, read_answer};
+ghost use Rattle.std.specs.Prelude.{◌≡◌, ◌<◌, ◌≤◌, ◌-◌, min, length, take, drop, Some, None, IfSome, IfNone, IsSome, IsNone, IsOk, OnOk, OnErr, ◌↔◌};
+ghost use Rattle.outside_io.specs.MemStates.{counted, fake_of, bytes_left, read_answer};
 ghost use Rattle.outside_io.specs.Told.{file_bytes, moved_by, GivesNext, StandsAtEnd};
-ghost use Rattle.outside_io.specs.Scripts.{one_more, IsRising};
+ghost use Rattle.outside_io.specs.Counts.{one_more};
+ghost use Rattle.outside_io.specs.Scripts.{IsRising};
 ghost use Rattle.outside_io.specs.Reads.{OnBytes, OnEnd, OnPending};
 ghost use Rattle.outside_io.specs.MemEntries.{IsEntryOf};
 
@@ -77,7 +78,14 @@ impl MemFiles {
     /// succeed for paths that are there. Calls of `open_path` and `read_some` are counted together.
     pub fn new(_alloc: Global, files: List<FileEntry>, script: List<Fake>) -> MemFiles
         requires { IsRising script }
-        ensures { result ≡ record { files = files; stands = None; faults = 0; pendings = 0; script = script; calls = 0 } }
+        ensures { result ≡ record {
+          files = files;
+          stands = None;
+          faults = 0;
+          pendings = 0;
+          script = script;
+          calls = 0;
+        } }
     {
         MemFiles {
             entries: files,
@@ -101,9 +109,12 @@ impl FileReader for MemFiles {
     ghost pendings = { λ s. s.pendings };
 
     fn open_path(&mut self, path: &Bytes) -> Result<(), Failed>
-        ensures exact { IsOk result ↔ (IsNone (fake_of self.old) × IsSome (file_bytes self.old.files path.now)) }
-        ensures opened { OnOk result (self.new ≡ record self.old { stands = Some (path.now, 0); calls = one_more self.old.calls }) }
-        ensures fault { OnErr result (self.new ≡ record self.old { stands = None; faults = min (self.old.faults + 1) (2 ^ 64 - 1); calls = one_more self.old.calls }) }
+        ensures exact { IsOk result ↔
+            (IsNone (fake_of self.old) × IsSome (file_bytes self.old.files path.now)) }
+        ensures opened { OnOk result
+            (self.new ≡ record (counted self.old) { stands = Some (path.now, 0) }) }
+        ensures fault { OnErr result
+            (self.new ≡ record (counted self.old) { stands = None; faults = one_more self.old.faults }) }
         ensures faults_kept { self.old.faults ≤ self.new.faults }
     {
         self.standing = None;
@@ -124,13 +135,18 @@ impl FileReader for MemFiles {
     fn read_some(&mut self, buf: &mut [u8]) -> Result<Got, Failed>
         requires stands { IsSome self.old.stands }
         requires room { 0 < length buf.old }
-        ensures answer { result ≡ read_answer (fake_of self.old) (length buf.old) (bytes_left self.old) }
-        ensures bytes { OnBytes result (λ n. GivesNext (Some self.old.files) self.old.stands n buf.new) }
-        ensures moved { OnBytes result (λ n. self.new ≡ record self.old { stands = moved_by n self.old.stands; calls = one_more self.old.calls }) }
+        ensures answer { result ≡
+            read_answer (fake_of self.old) (length buf.old) (bytes_left self.old) }
+        ensures bytes { OnBytes result
+            (λ n. GivesNext (Some self.old.files) self.old.stands n buf.new) }
+        ensures moved { OnBytes result
+            (λ n. self.new ≡ record (counted self.old) { stands = moved_by n self.old.stands }) }
         ensures end { OnEnd result (StandsAtEnd (Some self.old.files) self.old.stands) }
-        ensures at_end { OnEnd result (self.new ≡ record self.old { calls = one_more self.old.calls }) }
-        ensures pending { OnPending result (self.new ≡ record self.old { pendings = min (self.old.pendings + 1) (2 ^ 64 - 1); calls = one_more self.old.calls }) }
-        ensures fault { OnErr result (self.new ≡ record self.old { faults = min (self.old.faults + 1) (2 ^ 64 - 1); calls = one_more self.old.calls }) }
+        ensures at_end { OnEnd result (self.new ≡ counted self.old) }
+        ensures pending { OnPending result
+            (self.new ≡ record (counted self.old) { pendings = one_more self.old.pendings }) }
+        ensures fault { OnErr result
+            (self.new ≡ record (counted self.old) { faults = one_more self.old.faults }) }
         ensures stays_open { IsSome self.new.stands }
         ensures faults_kept { self.old.faults ≤ self.new.faults }
         ensures pendings_kept { self.old.pendings ≤ self.new.pendings }

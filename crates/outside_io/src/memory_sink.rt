@@ -1,4 +1,5 @@
-ghost use Rattle.std.specs.Prelude.{◌≡◌, ◌<◌, ◌≤◌, ◌+◌, ◌^◌, ◌-◌, min, [], ◌++◌, length, take, Some, IfOk, OnErr};
+ghost use Rattle.std.specs.Prelude.{◌≡◌, ◌<◌, ◌≤◌, ◌-◌, min, [], ◌++◌, length, take, Some, IfOk, OnErr};
+ghost use Rattle.outside_io.specs.Counts.{one_more};
 ghost use Rattle.outside_io.specs.MemStates.{write_answer};
 
 use crate::entries::Failed;
@@ -18,6 +19,7 @@ pub struct MemSink {
 
 impl Model for MemSink {
     ghost use Rattle.std.specs.Prelude.{◌<◌, ◌≤◌, length, vec_capacity};
+    ghost use Rattle.outside_io.specs.Counts.{one_more};
     ghost use Rattle.outside_io.specs.MemStates.{SinkState};
 
     ghost Value = { SinkState };
@@ -60,7 +62,7 @@ impl Sink for MemSink {
     fn write_some(&mut self, piece: &[u8]) -> Result<usize, Failed>
         ensures answer { result ≡ write_answer self.old (length piece.now) }
         ensures grew { IfOk result (λ n. self.new ≡ record self.old { taken = self.old.taken ++ take n piece.now }) }
-        ensures fault { OnErr result (self.new ≡ record self.old { faults = min (self.old.faults + 1) (2 ^ 64 - 1) }) }
+        ensures fault { OnErr result (self.new ≡ record self.old { faults = one_more self.old.faults }) }
         ensures some { IfOk result (λ n. 0 < length piece.now → 0 < n) }
         ensures faults_kept { self.old.faults ≤ self.new.faults }
     {

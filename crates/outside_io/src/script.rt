@@ -1,5 +1,6 @@
 ghost use Rattle.std.specs.Prelude.{◌≡◌, ℕ, List as Seq};
-ghost use Rattle.outside_io.specs.Scripts.{next_fake, one_more, IsRising};
+ghost use Rattle.outside_io.specs.Counts.{one_more};
+ghost use Rattle.outside_io.specs.Scripts.{next_fake, IsRising};
 
 use crate::entries::{Fake, FakeKind};
 use chunk_data::List;
