@@ -105,6 +105,20 @@ pub(crate) fn kinds_of(alloc: Global, columns: &[Column]) -> Result<List<ColumnT
     Ok(List::from_vec(kinds))
 }
 
+/// The columns, then the others.
+pub(crate) fn beside_all(
+    mut columns: Vec<Column>,
+    others: Vec<Column>,
+) -> Result<List<Column>, Memory>
+    ensures { IfOk result (λ l. l ≡ columns.items ++ others.items) }
+{
+    columns.try_reserve(others.len())?;
+    for column in others {
+        columns.push(column)?;
+    }
+    Ok(List::from_vec(columns))
+}
+
 /// Each column's values at the places.
 pub(crate) fn gather_all(
     alloc: Global,

@@ -183,6 +183,18 @@ fn lists_are_pushed_to_and_copied(rt: HostRuntime) -> Result<(), Fail> {
 }
 
 #[test]
+fn chunks_are_cut_and_put_side_by_side(rt: HostRuntime) -> Result<(), Fail> {
+    let alloc = rt.alloc();
+    let mut left = numbers(alloc, &[1, 2, 3, 4])?;
+    left.truncate(3);
+    left.remove_front(1);
+    expect_rows(&rt, alloc, &left, "2|\n3|\n")?;
+    let right = numbers(alloc, &[5, 6])?;
+    assert_eq!(rt; right.rows(), left.rows());
+    expect_rows(&rt, alloc, &left.beside(right)?, "2|5|\n3|6|\n")
+}
+
+#[test]
 fn signed_columns_grow(rt: HostRuntime) -> Result<(), Fail> {
     let alloc = rt.alloc();
     let mut ints = Column::new(alloc, ColumnType::Int64);

@@ -144,6 +144,7 @@ impl Texts {
         ensures { IfOk result (λ t. t ≡ map (λ p. slice_index_or self.now p []) places.now) }
     {
         let mut texts = Texts::new(*self.bytes.allocator());
+        texts.reserve(places.len())?;
         for place in places {
             texts.push(self.get(*place))?;
         }
