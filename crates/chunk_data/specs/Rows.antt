@@ -1,5 +1,5 @@
 -- Rows and columns: how columns of one length are read as rows.
-use Rattle.std.specs.Prelude.{◌≡◌, ℕ, ◌≤◌, Bool, cond, List, [], ◌∷◌, ◌++◌, length, map, slice_index_or, replicate}
+use Rattle.std.specs.Prelude.{◌≡◌, ℕ, Bool, cond, List, [], ◌∷◌, ◌++◌, length, slice_index_or, replicate}
 
 -- the elements whose place in the mask has true
 abbrev pub kept : {X : Type 0} → List Bool → List X → List X

@@ -4,8 +4,7 @@ ghost use Rattle.chunk_data.specs.Values.{FitsTypes, value_at};
 ghost use Rattle.chunk_data.specs.Columns.{kind_of, values};
 ghost use Rattle.chunk_data.specs.Rows.{kept, joined, AreLong};
 
-use crate::lists::Memory;
-use crate::lists::List;
+use crate::lists::{List, Memory};
 use crate::typed_column::Column;
 use crate::typed_value::{ColumnType, Value};
 use std::alloc::Global;

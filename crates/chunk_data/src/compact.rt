@@ -24,7 +24,12 @@ pub(crate) fn gather_ints(items: &Vec<i64>, places: &[usize]) -> Result<Vec<i64>
     ensures { IfOk result (λ v. v.items ≡ map (λ p. slice_index_or items.now.items p (pos 0)) places.now) }
 {
     let numbers = items.as_slice();
-    Ok(places.iter().map(|p| numbers[*p]).collect(*items.allocator())?)
+    Ok(
+        places
+            .iter()
+            .map(|p| numbers[*p])
+            .collect(*items.allocator())?,
+    )
 }
 
 /// The same for numbers without a sign.
@@ -33,7 +38,12 @@ pub(crate) fn gather_uints(items: &Vec<u64>, places: &[usize]) -> Result<Vec<u64
     ensures { IfOk result (λ v. v.items ≡ map (λ p. slice_index_or items.now.items p 0) places.now) }
 {
     let numbers = items.as_slice();
-    Ok(places.iter().map(|p| numbers[*p]).collect(*items.allocator())?)
+    Ok(
+        places
+            .iter()
+            .map(|p| numbers[*p])
+            .collect(*items.allocator())?,
+    )
 }
 
 /// The same elements.

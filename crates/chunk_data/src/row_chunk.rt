@@ -5,8 +5,8 @@ ghost use Rattle.chunk_data.specs.Columns.{kind_of, values};
 ghost use Rattle.chunk_data.specs.Rows.{joined, kept, row_at, rows_of, AreLong};
 
 use crate::column_list::{
-    append_all, beside_all, count_true, empty_columns, front_all, gather_all, keep_all, kinds_of, push_all,
-    remove_front_all, row_of, truncate_columns,
+    append_all, beside_all, count_true, empty_columns, front_all, gather_all, keep_all, kinds_of,
+    push_all, remove_front_all, row_of, truncate_columns,
 };
 use crate::lists::{List, Memory};
 use crate::typed_column::Column;
@@ -155,7 +155,10 @@ impl Chunk {
     {
         let alloc = self.alloc;
         let rows = self.rows();
-        let columns = beside_all(self.into_columns().into_vec(), other.into_columns().into_vec())?;
+        let columns = beside_all(
+            self.into_columns().into_vec(),
+            other.into_columns().into_vec(),
+        )?;
         let chunk = Chunk::of_columns(alloc, columns, rows)?;
         Ok(chunk)
     }

@@ -181,12 +181,8 @@ impl Column {
         ensures values { IfOk result (λ c. values c ≡ map (value_at (values self.now)) places.now) }
     {
         match self {
-            Column::Int64(numbers) => {
-                Ok(Column::Int64(gather_ints(numbers, places)?))
-            }
-            Column::UInt64(numbers) => {
-                Ok(Column::UInt64(gather_uints(numbers, places)?))
-            }
+            Column::Int64(numbers) => { Ok(Column::Int64(gather_ints(numbers, places)?)) }
+            Column::UInt64(numbers) => { Ok(Column::UInt64(gather_uints(numbers, places)?)) }
             Column::Text(texts) => Ok(Column::Text(texts.gather(places)?)),
         }
     }
