@@ -8,7 +8,8 @@ use Rattle.chunk_data.specs.declared.typed_column.Column.{Column}
 use Rattle.chunk_data.specs.declared.typed_column.Column.TheVariants.{Int64, UInt64, Text}
 use Rattle.chunk_data.specs.declared.typed_value.ColumnType.TheVariants as type
 use Rattle.chunk_data.specs.declared.typed_value.Value.TheVariants as value
-use Rattle.chunk_data.specs.Values.{Row, FitsType, FitsTypes, value_at}
+use Rattle.chunk_data.specs.declared.typed_value.SortKey.{SortKey}
+use Rattle.chunk_data.specs.Values.{AgreeOnKey, Row, FitsType, FitsTypes, value_at}
 use Rattle.chunk_data.specs.Columns.{kind_of, values}
 use Rattle.chunk_data.specs.Rows.{adds, rows_of, AreLong, joined}
 use Rattle.chunk_data.proofs.Rows.{AreLong-joined, AreLong-row}
@@ -121,3 +122,7 @@ column_fits types (row ∷ rows) c t h lt =
     let here : FitsTypes types row = h 0 row (omega arith) in
     let more : All (FitsType (get_or types c t)) (map (λ row. value_at row c) rows) = column_fits types rows c t (λ k d l. h (suc k) d (omega arith)) lt in
     λ k d l. elim k as (λ k. k < length (map (λ row. value_at row c) (row ∷ rows)) → FitsType (get_or types c t) (get_or (map (λ row. value_at row c) (row ∷ rows)) k d)) [ zero ↦ λ _. FitsTypes-at types row c t _ here (omega (arith, length-FitsTypes types row here)) | suc k ↦ λ l. more k d (omega arith) ] l
+
+-- ---- keys of chunks of the same types
+pub agree_on_keys : (types : List ColumnType) (keys : List SortKey) → All (λ key. key.column < length types) keys → All (AgreeOnKey types types) keys
+agree_on_keys types keys h = λ k d lt. (h k d lt, h k d lt, refl)
