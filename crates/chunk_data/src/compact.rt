@@ -1,4 +1,4 @@
-ghost use Rattle.std.specs.Prelude.{◌≡◌, length, vec_len, slice_index_or, map, ◌<◌, IfOk, pos, ◌≤◌, drop};
+ghost use Rattle.std.specs.Prelude.{◌≡◌, length, vec_len, slice_index_or, map, ◌<◌, IfOk, pos, ◌≤◌, drop, take};
 ghost use Rattle.std.specs.List.{All};
 ghost use Rattle.chunk_data.specs.Rows.{kept};
 
@@ -51,6 +51,16 @@ pub(crate) fn copy_items<T: Copy>(items: &Vec<T>) -> Result<Vec<T>, Memory>
     ensures { IfOk result (λ v. v.items ≡ items.now.items) }
 {
     Ok(Vec::from_slice(*items.allocator(), items.as_slice())?)
+}
+
+/// A copy of the first n.
+pub(crate) fn front_items<T: Copy>(items: &Vec<T>, n: usize) -> Result<Vec<T>, Memory>
+    ensures { IfOk result (λ v. v.items ≡ take n items.now.items) }
+{
+    if items.len() <= n {
+        return copy_items(items);
+    }
+    Ok(Vec::from_slice(*items.allocator(), &items.as_slice()[..n])?)
 }
 
 /// Drops the first n.

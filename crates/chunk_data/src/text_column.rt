@@ -4,7 +4,7 @@ ghost use Rattle.std.specs.Vec.{vec_len, vec_capacity};
 ghost use Rattle.chunk_data.specs.Rows.{kept};
 ghost use Rattle.chunk_data.specs.Texts.{cut, AreEnds};
 
-use crate::compact::{copy_items, remove_front};
+use crate::compact::{copy_items, front_items, remove_front};
 use crate::lists::{Bytes, Memory};
 use std::alloc::Global;
 use std::marker::Model;
@@ -127,6 +127,21 @@ impl Texts {
         Ok(Texts {
             bytes: copy_items(&self.bytes)?,
             ends: copy_items(&self.ends)?,
+        })
+    }
+
+    /// A copy of the first n texts.
+    pub fn front(&self, n: usize) -> Result<Texts, Memory>
+        ensures { IfOk result (λ t. t ≡ take n self.now) }
+    {
+        if self.ends.len() <= n {
+            let texts = self.copy()?;
+            return Ok(texts);
+        }
+        let size = start_of(self.ends.as_slice(), n);
+        Ok(Texts {
+            bytes: front_items(&self.bytes, size)?,
+            ends: front_items(&self.ends, n)?,
         })
     }
 
