@@ -1,16 +1,17 @@
 -- chunks
-use Rattle.std.proofs.Common.{◌≡◌, ℕ, ◌+◌, ◌-◌, ◌<◌, ◌≤◌, Bool, List, [], ◌∷◌, ◌++◌, length, get_or, take, drop, map, refl, ap, sym, arith, suc, zero, ◌∙◌}
-use Rattle.std.proofs.lemmas.List.{length-map, take_at, get_or-map, get_or_read, take_more, map-append}
+use Rattle.std.proofs.Common.{◌≡◌, ℕ, ◌+◌, ◌-◌, ◌<◌, ◌≤◌, Bool, List, [], ◌∷◌, ◌++◌, length, get_or, take, drop, map, refl, ap, sym, arith, suc, zero, ◌∙◌, subst}
+use Rattle.std.proofs.lemmas.List.{length-map, take_at, get_or-map, get_or_read, take_more, map-append, nil_from_length}
 use Rattle.std.specs.List.{count_by, All}
 use Rattle.chunk_data.specs.declared.typed_column.Column.{Column}
 use Rattle.chunk_data.specs.declared.typed_value.ColumnType.{ColumnType}
 use Rattle.chunk_data.specs.declared.typed_value.Value.{Value}
-use Rattle.chunk_data.specs.Values.{type_of, value_at}
+use Rattle.chunk_data.specs.Values.{FitsTypes, IsTable, Row, Table, value_at}
 use Rattle.chunk_data.specs.Columns.{kind_of, values}
 use Rattle.chunk_data.specs.Rows.{row_at, kept, rows_of, AreLong, joined}
 use Rattle.chunk_data.specs.Columns.{AreColumns}
 use Rattle.chunk_data.proofs.Rows.{length-rows_of, AreLong-joined, rows_of-joined, AreLong-row, rows_of-row, rows_of_push, AreLong-kept, rows_of-kept, column_of-rows_of, row_of-rows_of, AreLong-places, rows_of-places, AreLong-take, rows_of-take, AreLong-drop, rows_of-drop}
 use Rattle.chunk_data.proofs.ColumnLists.{AreLong-at}
+use Rattle.chunk_data.proofs.Laws.{length-FitsTypes, rows_fit}
 
 -- what a `&mut` slice of a Vec leaves
 pub written_back : {X : Type 0} (old now : List X) (n : ℕ) → length now ≡ length old → n ≡ length old → take n (now ++ drop (length now) old) ≡ now
@@ -42,9 +43,9 @@ rows_of_joined types columns others now n m h k v = rw v (rows_of-joined n m _ _
 pub AreColumns-push : (types : List ColumnType) (columns now : List Column) (row : List Value) (n : ℕ) → AreColumns types columns n → map kind_of now ≡ map kind_of columns → map values now ≡ joined (map values columns) (map (λ v. v ∷ []) row) → AreColumns types now (n + 1)
 AreColumns-push types columns now row n h e v = record { kinds = e ∙ h.kinds; long = rw v (AreLong-joined n 1 _ _ h.long (AreLong-row row)) }
 
-pub rows_of_pushed : (types : List ColumnType) (columns now : List Column) (row : List Value) (n : ℕ) → AreColumns types columns n → map type_of row ≡ types → map values now ≡ joined (map values columns) (map (λ v. v ∷ []) row) → rows_of (n + 1) (map values now) ≡ rows_of n (map values columns) ++ row ∷ []
+pub rows_of_pushed : (types : List ColumnType) (columns now : List Column) (row : List Value) (n : ℕ) → AreColumns types columns n → FitsTypes types row → map values now ≡ joined (map values columns) (map (λ v. v ∷ []) row) → rows_of (n + 1) (map values now) ≡ rows_of n (map values columns) ++ row ∷ []
 rows_of_pushed types columns now row n h t v =
-    let e : length row ≡ length (map values columns) = sym (length-map row type_of) ∙ ap length (t ∙ sym h.kinds) ∙ length-map columns kind_of ∙ sym (length-map columns values) in
+    let e : length row ≡ length (map values columns) = length-FitsTypes types row t ∙ ap length (sym h.kinds) ∙ length-map columns kind_of ∙ sym (length-map columns values) in
     rw v (rows_of_push n (map values columns) row h.long e)
 
 pub AreColumns-kept : (types : List ColumnType) (columns now : List Column) (mask : List Bool) (n : ℕ) → AreColumns types columns n → length mask ≡ n → map kind_of now ≡ map kind_of columns → map values now ≡ map (kept mask) (map values columns) → AreColumns types now (count_by (λ m. m) mask)
@@ -70,7 +71,7 @@ joined_step types columns given now others others_given n m count len h o g og l
     let cells : map values now ≡ joined (map values columns) (map values others) = v ∙ ap (λ l. joined (map values l) (map values others_given)) g ∙ ap (λ l. joined (map values columns) (map values l)) og in
     rw (back, e) (AreColumns-joined types columns others now n m h o (k ∙ ap (λ l. map kind_of l) g) cells, rows_of_joined types columns others now n m h o cells)
 
-pub push_step : (types : List ColumnType) (columns given now : List Column) (row row_given : List Value) (n count len : ℕ) → AreColumns types columns n → map type_of row ≡ types → given ≡ columns → row_given ≡ row → length now ≡ length given → len ≡ length columns → count ≡ n + 1 → map kind_of now ≡ map kind_of given → map values now ≡ joined (map values given) (map (λ v. v ∷ []) row_given) → (AreColumns types (take len (now ++ drop (length now) columns)) count) × (rows_of count (map values (take len (now ++ drop (length now) columns))) ≡ rows_of n (map values columns) ++ row ∷ [])
+pub push_step : (types : List ColumnType) (columns given now : List Column) (row row_given : List Value) (n count len : ℕ) → AreColumns types columns n → FitsTypes types row → given ≡ columns → row_given ≡ row → length now ≡ length given → len ≡ length columns → count ≡ n + 1 → map kind_of now ≡ map kind_of given → map values now ≡ joined (map values given) (map (λ v. v ∷ []) row_given) → (AreColumns types (take len (now ++ drop (length now) columns)) count) × (rows_of count (map values (take len (now ++ drop (length now) columns))) ≡ rows_of n (map values columns) ++ row ∷ [])
 push_step types columns given now row row_given n count len h t g rg l w e k v =
     let back : take len (now ++ drop (length now) columns) ≡ now = written_back columns now len (l ∙ ap length g) w in
     let cells : map values now ≡ joined (map values columns) (map (λ v. v ∷ []) row) = v ∙ ap (λ l. joined (map values l) (map (λ v. v ∷ []) row_given)) g ∙ ap (λ r. joined (map values columns) (map (λ v. v ∷ []) r)) rg in
@@ -78,6 +79,19 @@ push_step types columns given now row row_given n count len h t g rg l w e k v =
 
 pub length_rows : (types : List ColumnType) (columns : List Column) (n : ℕ) → AreColumns types columns n → length (rows_of n (map values columns)) ≡ n
 length_rows types columns n h = length-rows_of n (map values columns) h.long
+
+-- a chunk is a table
+pub is_table : (types : List ColumnType) (columns : List Column) (n : ℕ) (t : Table) → AreColumns types columns n → record { types = types; rows = rows_of n (map values columns) } ≡ t → IsTable t
+is_table types columns n t h e =
+    let P : List ColumnType → Type 0 = λ ts. IsTable (record { types = ts; rows = rows_of n (map values columns) }) in
+    let Q : Table → Type 0 = IsTable in
+    subst Q e (subst P h.kinds (rows_fit columns n h.long))
+
+-- rows after no rows
+pub taken_step : (types : List ColumnType) (columns : List Column) (n : ℕ) (old other : Table) (rows : List Row) → AreColumns types columns n → n ≡ 0 → record { types = types; rows = rows_of n (map values columns) } ≡ old → rows ≡ other.rows → rows ≡ old.rows ++ other.rows
+taken_step types columns n old other rows h z o e =
+    let none : old.rows ≡ [] = nil_from_length old.rows (ap (λ t. length t.rows) (sym o) ∙ length_rows types columns n h ∙ z) in
+    rw none e
 
 pub ruleset chunks = (length_rows, AreColumns-empty, rows_of_empty, column_of)
 
@@ -94,13 +108,11 @@ places_step types columns given now places n h a g k v =
     let cells : map values now ≡ map (λ column. map (value_at column) places) (map values columns) = v ∙ ap (λ l. map (λ column. map (value_at column) places) (map values l)) g in
     (record { kinds = k ∙ ap (λ l. map kind_of l) g ∙ h.kinds; long = rw cells (AreLong-places places (map values columns) _) }, rw cells (rows_of-places n (map values columns) places _ h.long a))
 
-pub row_more : (columns : List Column) (n i at : ℕ) (x : Column) (v : Value) (row : List Value) → AreLong n (map values columns) → i < n → at < length columns → x ≡ get_or columns at x → v ≡ get_or (values x) i v → row ≡ map (λ column. value_at column i) (map values (take at columns)) → row ++ v ∷ [] ≡ map (λ column. value_at column i) (map values (take (at + 1) columns))
+pub row_more : (columns : List Column) (n i at : ℕ) (x : Column) (v : Value) (row : List Value) → AreLong n (map values columns) → i < n → at < length columns → x ≡ get_or columns at x → v ≡ value_at (values x) i → row ≡ map (λ column. value_at column i) (map values (take at columns)) → row ++ v ∷ [] ≡ map (λ column. value_at column i) (map values (take (at + 1) columns))
 row_more columns n i at x v row h lt la is e r =
-    let long : length (values x) ≡ n = column_long columns n at x h la is in
-    let read : v ≡ value_at (values x) i = get_or_read (values x) i v (omega arith) e _ in
     let more : take (at + 1) columns ≡ take at columns ++ get_or columns at x ∷ [] = take_more columns at x la in
     let same : get_or columns at x ≡ x = sym is in
-    rw (more, same, map-append, map-append, ← r, ← read) refl
+    rw (more, same, map-append, map-append, ← r, ← e) refl
 
 pub front_step : (types : List ColumnType) (columns given now : List Column) (m n : ℕ) → AreColumns types columns n → m ≤ n → given ≡ columns → map kind_of now ≡ map kind_of given → map values now ≡ map (take m) (map values given) → (AreColumns types now m) × (rows_of m (map values now) ≡ take m (rows_of n (map values columns)))
 front_step types columns given now m n h le g k v =
