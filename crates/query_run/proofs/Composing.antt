@@ -1,6 +1,6 @@
 -- from the steps of an answer to the text of one answer of a command
-use Rattle.std.proofs.Common.{◌≡◌, ℕ, ◌+◌, ◌<◌, ◌≤◌, Bool, true, false, cond, List, [], ◌∷◌, ◌++◌, length, get_or, take, map, refl, ap, ap₂, sym, subst, ◌∙◌, arith, suc, zero, Option, Some, None}
-use Rattle.std.specs.Prelude.{IfSome, IsSome, is_some, ◌&&◌, bytes_eq, ⊤}
+use Rattle.std.proofs.Common.{◌≡◌, ℕ, ◌+◌, ◌<◌, ◌≤◌, Bool, true, false, cond, List, [], ◌∷◌, ◌++◌, length, get_or, take, map, refl, ap, ap₂, sym, subst, ◌∙◌, arith, suc, zero, Option, Some, None, Result, Ok, Err, Vec, Global}
+use Rattle.std.specs.Prelude.{IfSome, IfOk, IsSome, is_some, ◌&&◌, bytes_eq, ⊤}
 use Rattle.std.specs.List.{All, list_all, list_any}
 use Rattle.std.proofs.lemmas.List.{length-map, take_more, map-append}
 use Rattle.std.proofs.lemmas.List.Folds.{list_all-append}
@@ -172,3 +172,9 @@ command_text_told command p choice h (Some told) text t =
       is_answer = rw base (projection-answers s choice.names (record { types = column_types s; rows = rows }));
       is = t.is ∙ ap (λ places. answer_text command.header choice.names (map (values_at places) rows)) h.places;
     }
+
+-- the same under an answer that may be a failure
+pub command_text_ok : (command : Command) (p : IsPlainCommand command) (choice : Choice) → IsChoice p.table.schema command.query choice → (files : Option (List FileEntry)) (r : Result (Vec ℕ Global) Failure)
+    → IfOk r (λ (text : Vec ℕ Global). IfSome files (λ told. IsPartText command.header p.table choice told text.items)) → IfOk r (λ (text : Vec ℕ Global). IfSome files (λ told. IsTextOfCommand command told text.items))
+command_text_ok command p choice h files (Ok text) t = command_text_told command p choice h files text.items t
+command_text_ok command p choice h files (Err f) t = tt

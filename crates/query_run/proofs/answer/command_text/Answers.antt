@@ -1,13 +1,13 @@
-use Rattle.std.proofs.Common.{rules, ◌≡◌, ◌≤◌, map, string_bytes, IfOk, IfErr, IfSome, OnOk, ℕ, ◌+◌, ◌-◌, ◌*◌, ◌<◌, length, ◌/◌, ◌%◌, Bool, true, false, nat_eq, nat_lt, List, [], ◌∷◌, ◌++◌, slice_index_or, slice_set, bit_and, bit_or, Fits, w8, w32, w64, Bor, MutBor}
-use Rattle.outside_io.specs.Counts.{Rose}
-use Rattle.command_line.specs.Words.{IsPlainCommand}
-use Rattle.query_run.specs.Headline.{CommandFailsFor, FailsFor, IsBuilt, IsTextOfCommand, MakesText}
+use Rattle.std.proofs.Common.{◌≡◌, ap, sym, ◌∙◌}
+use Rattle.query_model.specs.declared.query.TableDecl.{TableDecl}
+use Rattle.query_run.specs.Choices.{IsChoice}
+use Rattle.query_run.proofs.Composing.{first_table, choice_within, command_text_ok}
 use Rattle.query_run.proofs.answer.command_text.Goals as goal
 
--- src/answer.rt:47:23
 pub part_text-requires-clause-in_range : goal.part_text-requires-clause-in_range
-part_text-requires-clause-in_range g c κs within = ?
+part_text-requires-clause-in_range g c κs within = choice_within c.get-table.result.now.schema c.args.command.now.query c.in-Ok.choice c.in-Ok.ensures.ok
 
--- src/answer.rt:32:1
 pub returns-in-Ok-clause-text : goal.returns-in-Ok-clause-text
-returns-in-Ok-clause-text g c = ?
+returns-in-Ok-clause-text g c =
+    let t : c.get-table.result.now ≡ c.requires.table = first_table c.args.command.now c.requires c.get-table.result.now c.get-table.ensures in
+    command_text_ok c.args.command.now c.requires c.in-Ok.choice (rw t at c.in-Ok.ensures.ok) (g.F.FileReader.files c.args.files.now) c.part_text.result (rw t at c.part_text.ensures.text)

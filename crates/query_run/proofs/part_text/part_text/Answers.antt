@@ -1,23 +1,16 @@
-use Rattle.std.proofs.Common.{rules, ◌≡◌, ◌≤◌, ◌<◌, length, map, IfOk, IfErr, OnOk, IfSome, Some, None, if◌then◌else◌, ℕ, ◌+◌, ◌-◌, ◌*◌, ◌/◌, ◌%◌, Bool, true, false, nat_eq, nat_lt, List, [], ◌∷◌, ◌++◌, slice_index_or, slice_set, bit_and, bit_or, Fits, w8, w32, w64, Bor, MutBor}
-use Rattle.std.specs.List.{All}
-use Rattle.std.specs.Option.{option_copied}
-use Rattle.outside_io.specs.Counts.{Rose}
-use Rattle.chunk_data.specs.Values.{values_at}
-use Rattle.query_model.specs.Database.{column_types}
-use Rattle.query_model.specs.Parts.{bad_place, good_rows, part_records}
-use Rattle.query_model.specs.Texts.{answer_text}
-use Rattle.csv_rows.specs.Pushing.{OnBad}
-use Rattle.query_run.specs.Choices.{failure_of_file, failure_of_rows, HasOnePath, IsPartText, only_path, PartFailsFor}
+use Rattle.query_run.proofs.Composing.{part_text_told, rows_cause, file_cause}
 use Rattle.query_run.proofs.part_text.part_text.Goals as goal
 
--- src/part_text.rt:24:1
 pub returns-in-Ok-bytes_text-clause-text : goal.returns-in-Ok-bytes_text-clause-text
-returns-in-Ok-bytes_text-clause-text g c = ?
+returns-in-Ok-bytes_text-clause-text g c =
+    part_text_told c.args.header c.args.table.now c.path_of.result.now c.in-Ok.bytes c.path_of.ensures (g.F.FileReader.files c.args.files.now) c.args.choice.now c.in-Ok-bytes_text.text.items
+    c.in-Ok.ensures.bytes c.in-Ok-bytes_text.ensures.text c.in-Ok-bytes_text.ensures.valid
 
--- src/part_text.rt:24:1
 pub returns-in-Err-bytes_text-clause-cause : goal.returns-in-Err-bytes_text-clause-cause
-returns-in-Err-bytes_text-clause-cause g c = ?
+returns-in-Err-bytes_text-clause-cause g c =
+    rw c.rows_failure.ensures (rows_cause c.args.header c.args.table.now c.path_of.result.now c.in-Ok.bytes c.path_of.ensures (g.F.FileReader.files c.args.files.now) c.in-Err-bytes_text.fault _ _
+        c.in-Ok.ensures.bytes c.in-Err-bytes_text.ensures.bad)
 
--- src/part_text.rt:24:1
 pub returns-in-Err-clause-cause : goal.returns-in-Err-clause-cause
-returns-in-Err-clause-cause g c = ?
+returns-in-Err-clause-cause g c =
+    rw c.file_failure.ensures (file_cause c.args.header c.args.table.now c.path_of.result.now c.path_of.ensures (g.F.FileReader.files c.args.files.now) c.in-Err.fault _ _ c.in-Err.ensures.cause)
