@@ -8,6 +8,6 @@ mod names;
 mod projection_text;
 mod words;
 
-pub use names::{is_name, is_word_byte};
-pub use projection_text::{Projection, ProjectionRefusal, read_projection};
+pub use names::{is_keyword, is_name, is_word, is_word_byte};
+pub use projection_text::{Projection, ProjectionRefusal};
 pub use words::{Command, WordsRefusal, read_words};
