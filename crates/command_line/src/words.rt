@@ -1,8 +1,9 @@
-ghost use Rattle.std.specs.Prelude.{◌≡◌, ◌==◌, ◌≤◌, [], ◌∷◌, length, map, bytes_eq, IfOk, Err, Some, None};
+ghost use Rattle.std.specs.Prelude.{◌≡◌, ◌==◌, ◌≤◌, ◌&&◌, [], ◌∷◌, length, map, bytes_eq, IfOk, Err, Some, None};
 ghost use Rattle.std.specs.List.{list_all, list_any, before_first, after_first, position_or_len, slice_split};
 ghost use Rattle.std.specs.String.{string_bytes};
 ghost use Rattle.query_model.specs.Projection.{are_distinct};
-ghost use Rattle.command_line.specs.Words.{type_named as type_meant, column_of, columns_of_entries, are_columns as columns_test, columns_of, is_path_byte as path_byte_test, is_path as path_test, table_of, declaration_of, command_with, command_of};
+ghost use Rattle.command_line.specs.Names.{is_name as name_test};
+ghost use Rattle.command_line.specs.Words.{type_named as type_meant, column_of, columns_of_entries, are_columns as columns_test, columns_of, is_path_byte as path_byte_test, is_path as path_test, table_of, table_with, declaration_of, command_with, command_of};
 ghost use Rattle.command_line.specs.PlainCommands.{IsPlainCommand};
 ghost use Rattle.command_line.specs.declared.words.WordsRefusal.{WordsRefusal};
 
@@ -113,16 +114,33 @@ fn read_declaration(alloc: Global, text: &[u8]) -> Result<Option<TableDecl>, Mem
     let name = text_before(text, b'=');
     let behind = text_after(text, b'=');
     let path = text_before(behind, b':');
-    match read_columns(alloc, text_after(behind, b':'))? {
+    read_table(alloc, name, path, text_after(behind, b':'))
+}
+
+fn read_table(
+    alloc: Global,
+    name: &[u8],
+    path: &[u8],
+    columns: &[u8],
+) -> Result<Option<TableDecl>, Memory>
+    ensures { IfOk result (λ o. o ≡ table_with name.now path.now (columns_of columns.now)) }
+{
+    match read_columns(alloc, columns)? {
         None => Ok(None),
         Some(columns) => {
-            if is_name(name) && is_path(path) {
+            if are_name_and_path(name, path) {
                 Ok(Some(table_over(alloc, name, path, columns)?))
             } else {
                 Ok(None)
             }
         }
     }
+}
+
+fn are_name_and_path(name: &[u8], path: &[u8]) -> bool
+    ensures { result ≡ (name_test name.now && path_test path.now) }
+{
+    is_name(name) && is_path(path)
 }
 
 fn table_over(
