@@ -6,6 +6,8 @@
 
 mod names;
 mod projection_text;
+#[cfg(test)]
+mod tests;
 mod words;
 
 pub use names::{is_keyword, is_name, is_word, is_word_byte};
