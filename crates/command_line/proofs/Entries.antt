@@ -1,5 +1,5 @@
 -- Entries that commas separate, read one by one.
-use Rattle.std.proofs.Common.{◌≡◌, ℕ, ◌+◌, ◌<◌, ◌≤◌, Bool, true, false, ◌==◌, List, [], ◌∷◌, ◌++◌, length, take, refl, sym, ap, ◌∙◌, inl, inr, arith, append_assoc, Option, Some, None}
+use Rattle.std.proofs.Common.{◌≡◌, ℕ, ◌<◌, Bool, ◌==◌, List, [], ◌∷◌, ◌++◌, length, refl, sym, ap, ◌∙◌, inl, inr, arith, append_assoc, Option, Some, None}
 use Rattle.std.specs.List.{slice_split, before_first, after_first, position_or_len}
 use Rattle.std.proofs.lemmas.List.{take_all}
 use Rattle.std.proofs.lemmas.List.Splits.{slice_split_first, slice_split_none}
@@ -49,9 +49,10 @@ pub entry_refused : (text rest : List ℕ) (columns : List ColumnDecl) (o : Opti
 entry_refused text rest columns o inv is none =
     let start : column_of (before_first is_comma rest) ≡ None = sym is ∙ none in
     inv ∙ ap (joined columns)
-      (elim (cases_lt (position_or_len is_comma rest) (length rest)) [
-         inl lt ↦ columns_first rest lt ∙ both_none _ _ start
-       | inr le ↦ columns_last rest (omega (arith, prefix_len-le-length (λ x. not (is_comma x)) rest)) ∙ both_none _ _ start ])
+    (elim (cases_lt (position_or_len is_comma rest) (length rest)) [
+      | inl lt ↦ columns_first rest lt ∙ both_none _ _ start
+      | inr le ↦ columns_last rest (omega (arith, prefix_len-le-length (λ x. not (is_comma x)) rest)) ∙ both_none _ _ start
+    ])
 
 pub entry_last : (text rest : List ℕ) (columns whole : List ColumnDecl) (o : Option ColumnDecl) (c : ColumnDecl) → columns_in text ≡ joined columns (columns_in rest) → o ≡ column_of (before_first is_comma rest) → o ≡ Some c → position_or_len is_comma rest ≡ length rest → whole ≡ columns ++ c ∷ [] → columns_in text ≡ Some whole
 entry_last text rest columns whole o c inv is some end grown =

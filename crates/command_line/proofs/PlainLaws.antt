@@ -1,5 +1,5 @@
 -- What every command that words mean is.
-use Rattle.std.proofs.Common.{◌≡◌, ℕ, ◌+◌, ◌<◌, ◌≤◌, Bool, true, false, ◌==◌, ◌&&◌, if◌then◌else◌, List, [], ◌∷◌, length, map, refl, sym, ap, subst, ◌∙◌, arith, Option, Some, None}
+use Rattle.std.proofs.Common.{◌≡◌, ℕ, ◌<◌, ◌≤◌, Bool, true, false, ◌==◌, ◌&&◌, if◌then◌else◌, List, [], ◌∷◌, length, map, refl, ap, subst, arith, Option, Some, None}
 use Rattle.std.specs.Str.{bytes_eq}
 use lib.Chars.{codes}
 use Rattle.std.specs.Prelude.{nat_le}
@@ -49,7 +49,7 @@ record AreRead (entries : List (List ℕ)) (columns : List ColumnDecl) : Type 0 
   named : All (λ name. is_name name ≡ true) (map (λ (c : ColumnDecl). c.name) columns)
 
 read_both : (entry : List ℕ) (entries : List (List ℕ)) (o : Option ColumnDecl) (more : Option (List ColumnDecl)) (columns : List ColumnDecl)
-  → ((c : ColumnDecl) → o ≡ Some c → is_name c.name ≡ true) → ((cs : List ColumnDecl) → more ≡ Some cs → AreRead entries cs) → both_columns o more ≡ Some columns → AreRead (entry ∷ entries) columns
+    → ((c : ColumnDecl) → o ≡ Some c → is_name c.name ≡ true) → ((cs : List ColumnDecl) → more ≡ Some cs → AreRead entries cs) → both_columns o more ≡ Some columns → AreRead (entry ∷ entries) columns
 read_both entry entries None more columns h g e = absurd (none_some columns None refl e)
 read_both entry entries (Some c) None columns h g e = absurd (none_some columns None refl e)
 read_both entry entries (Some c) (Some cs) columns h g e =
@@ -105,21 +105,21 @@ command_plain : (query : List ℕ) (t : TableDecl) (c : Command) → IsPlainTabl
 command_plain query t c p e =
     subst IsPlainCommand (some_same _ c e)
     (subst (λ (u : TableDecl). IsPlainCommand (record { query = query; tables = u ∷ []; threads = 4; chunk_rows = 8192; header = false })) p.whole
-     (record {
-        table = table_of p.name p.path p.columns;
-        one_table = refl;
-        path = p.path;
-        one_path = refl;
-        good_path = p.good_path;
-        table_name = p.good_name;
-        some_columns = p.some_columns;
-        few_columns = at_most (length p.columns) 64 (both_left (nat_le (length p.columns) 64) (are_distinct (map (λ (d : ColumnDecl). d.name) p.columns)) p.few_columns);
-        distinct_names = both_right (nat_le (length p.columns) 64) (are_distinct (map (λ (d : ColumnDecl). d.name) p.columns)) p.few_columns;
-        good_names = p.good_names;
-        no_header = refl;
-        four_threads = refl;
-        rows_of_chunks = refl;
-      }))
+    (record {
+      table = table_of p.name p.path p.columns;
+      one_table = refl;
+      path = p.path;
+      one_path = refl;
+      good_path = p.good_path;
+      table_name = p.good_name;
+      some_columns = p.some_columns;
+      few_columns = at_most (length p.columns) 64 (both_left (nat_le (length p.columns) 64) (are_distinct (map (λ (d : ColumnDecl). d.name) p.columns)) p.few_columns);
+      distinct_names = both_right (nat_le (length p.columns) 64) (are_distinct (map (λ (d : ColumnDecl). d.name) p.columns)) p.few_columns;
+      good_names = p.good_names;
+      no_header = refl;
+      four_threads = refl;
+      rows_of_chunks = refl;
+    }))
 
 four_plain : (b : Bool) (query : List ℕ) (o : Option TableDecl) (c : Command) → ((t : TableDecl) → o ≡ Some t → IsPlainTable t) → (if b then command_with query o else None) ≡ Some c → IsPlainCommand c
 four_plain false query o c h e = absurd (none_some c None refl e)

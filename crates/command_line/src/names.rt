@@ -88,7 +88,11 @@ fn keyword_at(i: usize) -> &'static [u8]
 fn upper_case(byte: u8) -> u8
     ensures { result ≡ upper byte }
 {
-    if b'a' <= byte && byte <= b'z' { byte - 32 } else { byte }
+    if b'a' <= byte && byte <= b'z' {
+        byte - 32
+    } else {
+        byte
+    }
 }
 
 fn is_upper_case_of(keyword: &[u8], word: &[u8]) -> bool

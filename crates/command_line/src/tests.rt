@@ -122,7 +122,11 @@ fn declarations_follow_their_grammar(rt: HostRuntime) -> Result<(), Fail> {
     ];
     for (declaration, want) in cases {
         let words = declaring(alloc, declaration)?;
-        assert_eq!(rt; shown(alloc, words.as_slice())?.as_str(), want, "{declaration}");
+        assert_eq!(rt;
+            shown(alloc, words.as_slice())?.as_str(),
+            want,
+            "{declaration}"
+        );
     }
     Ok(())
 }

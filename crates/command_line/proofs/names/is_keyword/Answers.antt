@@ -11,7 +11,7 @@ loop-i-init c = refl
 pub returns-then-is_upper_case_of : goal.returns-then-is_upper_case_of
 returns-then-is_upper_case_of c =
     sym (found (bytes_eq (map upper c.args.word.now)) keywords (is_keyword c.args.word.now) c.loop-i.i [] c.loop-i-test.true c.loop-i.invariant
-      (ap (bytes_eq (map upper c.args.word.now)) (sym c.keyword_at.ensures) ∙ sym (c.if-is_upper_case_of.ensures)))
+    (ap (bytes_eq (map upper c.args.word.now)) (sym c.keyword_at.ensures) ∙ sym (c.if-is_upper_case_of.ensures)))
 
 pub loop-i-preserved : goal.loop-i-preserved
 loop-i-preserved c =
