@@ -1,6 +1,6 @@
 -- chunks
-use Rattle.std.proofs.Common.{◌≡◌, ℕ, ◌+◌, ◌-◌, ◌<◌, ◌≤◌, Bool, List, [], ◌∷◌, ◌++◌, length, get_or, take, drop, map, refl, ap, sym, arith, suc, zero, ◌∙◌, subst}
-use Rattle.std.proofs.lemmas.List.{length-map, take_at, get_or-map, get_or_read, take_more, map-append, nil_from_length}
+use Rattle.std.proofs.Common.{◌≡◌, ℕ, ◌+◌, ◌-◌, ◌<◌, ◌≤◌, Bool, List, [], ◌∷◌, ◌++◌, length, get_or, take, drop, map, refl, ap, sym, ◌∙◌, subst}
+use Rattle.std.proofs.lemmas.List.{length-map, take_at, get_or-map, take_more, map-append, nil_from_length}
 use Rattle.std.specs.List.{count_by, All}
 use Rattle.chunk_data.specs.declared.typed_column.Column.{Column}
 use Rattle.chunk_data.specs.declared.typed_value.ColumnType.{ColumnType}
@@ -9,9 +9,9 @@ use Rattle.chunk_data.specs.Values.{FitsTypes, IsTable, Row, Table, value_at}
 use Rattle.chunk_data.specs.Columns.{kind_of, values}
 use Rattle.chunk_data.specs.Rows.{row_at, kept, rows_of, AreLong, joined}
 use Rattle.chunk_data.specs.Columns.{AreColumns}
-use Rattle.chunk_data.proofs.Rows.{length-rows_of, AreLong-joined, rows_of-joined, AreLong-row, rows_of-row, rows_of_push, AreLong-kept, rows_of-kept, column_of-rows_of, row_of-rows_of, AreLong-places, rows_of-places, AreLong-take, rows_of-take, AreLong-drop, rows_of-drop}
+use Rattle.chunk_data.proofs.Rows.{length-rows_of, AreLong-joined, rows_of-joined, AreLong-row, rows_of_push, AreLong-kept, rows_of-kept, column_of-rows_of, AreLong-places, rows_of-places, AreLong-take, rows_of-take, AreLong-drop, rows_of-drop}
 use Rattle.chunk_data.proofs.ColumnLists.{AreLong-at}
-use Rattle.chunk_data.proofs.Laws.{length-FitsTypes, rows_fit}
+use Rattle.chunk_data.proofs.Laws.{length-FitsTypes, rows_fit, AreLong-append, rows_of-append}
 
 -- what a `&mut` slice of a Vec leaves
 pub written_back : {X : Type 0} (old now : List X) (n : ℕ) → length now ≡ length old → n ≡ length old → take n (now ++ drop (length now) old) ≡ now
@@ -59,6 +59,9 @@ column_of types columns n c d h lt =
     let wide : c < length (map values columns) = rw length-map lt in
     sym (get_or-map values columns c d [] lt) ∙ sym (column_of-rows_of n (map values columns) c _ h.long wide)
 
+pub appended : {X : Type 0} {xs us ys vs : List X} → xs ≡ us → ys ≡ vs → xs ++ ys ≡ us ++ vs
+appended {us = us} {ys = ys} e k = ap (λ l. l ++ ys) e ∙ ap (λ l. us ++ l) k
+
 -- ---- the steps of the calls: `given` is the slice that was passed, `now` what is left there, and the Vec has `len` columns
 pub kept_step : (types : List ColumnType) (columns given now : List Column) (mask : List Bool) (n count len : ℕ) → AreColumns types columns n → given ≡ columns → length now ≡ length given → len ≡ length columns → length mask ≡ n → count ≡ count_by (λ m. m) mask → map kind_of now ≡ map kind_of given → map values now ≡ map (kept mask) (map values given) → (AreColumns types (take len (now ++ drop (length now) columns)) count) × (rows_of count (map values (take len (now ++ drop (length now) columns))) ≡ kept mask (rows_of n (map values columns)))
 kept_step types columns given now mask n count len h g l w m e k v =
@@ -93,10 +96,24 @@ taken_step types columns n old other rows h z o e =
     let none : old.rows ≡ [] = nil_from_length old.rows (ap (λ t. length t.rows) (sym o) ∙ length_rows types columns n h ∙ z) in
     rw none e
 
-pub ruleset chunks = (length_rows, AreColumns-empty, rows_of_empty, column_of)
+-- columns beside columns
+pub beside_long : (columns others all : List Column) (n m k : ℕ) → all ≡ columns ++ others → k ≡ n → m ≡ n → AreLong n (map values columns) → AreLong m (map values others) → AreLong k (map values all)
+beside_long columns others all n m k e kn mn h g =
+    let cells : map values all ≡ map values columns ++ map values others = ap (λ l. map values l) e ∙ map-append values columns others in
+    let P : ℕ → Type 0 = λ j. AreLong j (map values others) in
+    rw (cells, kn) (AreLong-append n (map values columns) (map values others) h (subst P mn g))
 
-pub appended : {X : Type 0} {xs us ys vs : List X} → xs ≡ us → ys ≡ vs → xs ++ ys ≡ us ++ vs
-appended {us = us} {ys = ys} e k = ap (λ l. l ++ ys) e ∙ ap (λ l. us ++ l) k
+pub beside_kinds : (columns others all : List Column) (types more : List ColumnType) → all ≡ columns ++ others → map kind_of columns ≡ types → map kind_of others ≡ more → map kind_of all ≡ types ++ more
+beside_kinds columns others all types more e k l = ap (λ l. map kind_of l) e ∙ map-append kind_of columns others ∙ appended k l
+
+pub beside_rows : (columns others all : List Column) (n m k : ℕ) (rows more : List Row) → all ≡ columns ++ others → k ≡ n → m ≡ n → AreLong m (map values others) → rows_of n (map values columns) ≡ rows → rows_of m (map values others) ≡ more → rows_of k (map values all) ≡ joined rows more
+beside_rows columns others all n m k rows more e kn mn g r t =
+    let cells : map values all ≡ map values columns ++ map values others = ap (λ l. map values l) e ∙ map-append values columns others in
+    let P : ℕ → Type 0 = λ j. AreLong j (map values others) in
+    let there : rows_of n (map values others) ≡ more = ap (λ j. rows_of j (map values others)) (sym mn) ∙ t in
+    rw (cells, kn) (rows_of-append n (map values columns) (map values others) (subst P mn g) ∙ rw (r, there) refl)
+
+pub ruleset chunks = (length_rows, AreColumns-empty, rows_of_empty, column_of)
 
 pub column_long : (columns : List Column) (n i : ℕ) (x : Column) → AreLong n (map values columns) → i < length columns → x ≡ get_or columns i x → length (values x) ≡ n
 column_long columns n i x h lt is =
@@ -119,8 +136,17 @@ front_step types columns given now m n h le g k v =
     let cells : map values now ≡ map (take m) (map values columns) = v ∙ ap (λ l. map (take m) (map values l)) g in
     (record { kinds = k ∙ ap (λ l. map kind_of l) g ∙ h.kinds; long = rw cells (AreLong-take m n _ h.long le) }, rw cells (rows_of-take m n _ le))
 
+-- the first m of n rows are left
+pub left_step : (types : List ColumnType) (columns given now : List Column) (m n len : ℕ) → AreColumns types columns n → m ≤ n → given ≡ columns → length now ≡ length given → len ≡ length columns → map kind_of now ≡ map kind_of given → map values now ≡ map (take m) (map values given) → (AreColumns types (take len (now ++ drop (length now) columns)) m) × (rows_of m (map values (take len (now ++ drop (length now) columns))) ≡ take m (rows_of n (map values columns)))
+left_step types columns given now m n len h le g l w k v =
+    let back : take len (now ++ drop (length now) columns) ≡ now = written_back columns now len (l ∙ ap length g) w in
+    rw back (front_step types columns given now m n h le g k v)
+
 pub rest_step : (types : List ColumnType) (columns given now : List Column) (m n len : ℕ) → AreColumns types columns n → given ≡ columns → length now ≡ length given → len ≡ length columns → map kind_of now ≡ map kind_of given → map values now ≡ map (drop m) (map values given) → (AreColumns types (take len (now ++ drop (length now) columns)) (n - m)) × (rows_of (n - m) (map values (take len (now ++ drop (length now) columns))) ≡ drop m (rows_of n (map values columns)))
 rest_step types columns given now m n len h g l w k v =
     let back : take len (now ++ drop (length now) columns) ≡ now = written_back columns now len (l ∙ ap length g) w in
     let cells : map values now ≡ map (drop m) (map values columns) = v ∙ ap (λ l. map (drop m) (map values l)) g in
     rw back (record { kinds = k ∙ ap (λ l. map kind_of l) g ∙ h.kinds; long = rw cells (AreLong-drop m n _ h.long) }, rw cells (rows_of-drop m n _ h.long))
+
+pub rest_step_at : (types : List ColumnType) (columns given now : List Column) (m n len count : ℕ) → AreColumns types columns n → given ≡ columns → length now ≡ length given → len ≡ length columns → map kind_of now ≡ map kind_of given → map values now ≡ map (drop m) (map values given) → count ≡ n - m → (AreColumns types (take len (now ++ drop (length now) columns)) count) × (rows_of count (map values (take len (now ++ drop (length now) columns))) ≡ drop m (rows_of n (map values columns)))
+rest_step_at types columns given now m n len count h g l w k v e = rw e (rest_step types columns given now m n len h g l w k v)

@@ -1,6 +1,6 @@
 -- loops over the columns of a list
-use Rattle.std.proofs.Common.{◌≡◌, ℕ, ◌+◌, ◌<◌, ◌≤◌, List, [], ◌∷◌, ◌++◌, length, get_or, set, take, map, refl, ap, sym, arith, suc, zero, ◌∙◌, subst, length-append, add-one}
-use Rattle.std.proofs.lemmas.List.{map-set, get_or-map, set-get_or, length-map, take_at, take_all, get_or_read, length-set}
+use Rattle.std.proofs.Common.{◌≡◌, ℕ, ◌+◌, ◌<◌, ◌≤◌, List, [], ◌∷◌, ◌++◌, length, get_or, set, take, map, refl, ap, sym, arith, suc, zero, ◌∙◌, subst, add-one}
+use Rattle.std.proofs.lemmas.List.{map-set, get_or-map, set-get_or, length-map, take_at, take_all}
 use Rattle.chunk_data.specs.declared.typed_column.Column.{Column}
 use Rattle.chunk_data.specs.declared.typed_value.ColumnType.{ColumnType}
 use Rattle.chunk_data.specs.declared.typed_value.Value.{Value}

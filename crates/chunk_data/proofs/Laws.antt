@@ -8,7 +8,8 @@ use Rattle.chunk_data.specs.declared.typed_column.Column.{Column}
 use Rattle.chunk_data.specs.declared.typed_column.Column.TheVariants.{Int64, UInt64, Text}
 use Rattle.chunk_data.specs.declared.typed_value.ColumnType.TheVariants as type
 use Rattle.chunk_data.specs.declared.typed_value.Value.TheVariants as value
-use Rattle.chunk_data.specs.Values.{Row, FitsType, FitsTypes, value_at}
+use Rattle.chunk_data.specs.declared.typed_value.SortKey.{SortKey}
+use Rattle.chunk_data.specs.Values.{AgreeOnKey, Row, FitsType, FitsTypes, value_at}
 use Rattle.chunk_data.specs.Columns.{kind_of, values}
 use Rattle.chunk_data.specs.Rows.{adds, rows_of, AreLong, joined}
 use Rattle.chunk_data.proofs.Rows.{AreLong-joined, AreLong-row}
@@ -38,6 +39,32 @@ AreLong_of_made value es rows columns n c e = rw (c, e) (AreLong-made value es r
 
 pub rows_of_made : {E X R : Type 0} (value : E → R → X) (es : List E) (rows : List R) (columns : List (List X)) (n : ℕ) → columns ≡ map (λ e. map (λ row. value e row) rows) es → n ≡ length rows → rows_of n columns ≡ map (λ row. map (λ e. value e row) es) rows
 rows_of_made value es rows columns n c e = rw (c, e) (rows_of-made value es rows)
+
+-- ---- columns beside columns make longer rows
+joined-replicate : {X : Type 0} (n : ℕ) (rows : List (List X)) → length rows ≡ n → joined (replicate n []) rows ≡ rows
+joined-replicate zero [] e = refl
+joined-replicate zero (row ∷ rows) e = absurd (omega arith)
+joined-replicate (suc n) [] e = absurd (omega arith)
+joined-replicate (suc n) (row ∷ rows) e = ap (λ l. row ∷ l) (joined-replicate n rows (omega arith))
+
+joined-adds : {X : Type 0} (column : List X) (rows others : List (List X)) → adds column (joined rows others) ≡ joined (adds column rows) others
+joined-adds [] rows others = refl
+joined-adds (x ∷ column) [] others = refl
+joined-adds (x ∷ column) (row ∷ rows) [] = refl
+joined-adds (x ∷ column) (row ∷ rows) (other ∷ others) = ap (λ l. (x ∷ (row ++ other)) ∷ l) (joined-adds column rows others)
+
+pub AreLong-append : {X : Type 0} (n : ℕ) (columns others : List (List X)) → AreLong n columns → AreLong n others → AreLong n (columns ++ others)
+AreLong-append n [] others h k = k
+AreLong-append n (column ∷ columns) others h k = (h.0, AreLong-append n columns others h.1 k)
+
+pub rows_of-append : {X : Type 0} (n : ℕ) (columns others : List (List X)) → AreLong n others → rows_of n (columns ++ others) ≡ joined (rows_of n columns) (rows_of n others)
+rows_of-append n [] others k = sym (joined-replicate n (rows_of n others) (length-rows_of n others k))
+rows_of-append n (column ∷ columns) others k = ap (λ l. adds column l) (rows_of-append n columns others k) ∙ joined-adds column (rows_of n columns) (rows_of n others)
+
+-- pairs of rows that are gathered by pairs of places
+pub joined-map : {K X : Type 0} (f g : K → List X) (ks : List K) → joined (map f ks) (map g ks) ≡ map (λ k. f k ++ g k) ks
+joined-map f g [] = refl
+joined-map f g (k ∷ ks) = ap (λ l. (f k ++ g k) ∷ l) (joined-map f g ks)
 
 -- ---- a row that is pushed value by value
 pub AreLong_push : {X : Type 0} (n : ℕ) (columns : List (List X)) (row : List X) → AreLong n columns → AreLong (n + 1) (joined columns (map (λ v. v ∷ []) row))
@@ -95,3 +122,7 @@ column_fits types (row ∷ rows) c t h lt =
     let here : FitsTypes types row = h 0 row (omega arith) in
     let more : All (FitsType (get_or types c t)) (map (λ row. value_at row c) rows) = column_fits types rows c t (λ k d l. h (suc k) d (omega arith)) lt in
     λ k d l. elim k as (λ k. k < length (map (λ row. value_at row c) (row ∷ rows)) → FitsType (get_or types c t) (get_or (map (λ row. value_at row c) (row ∷ rows)) k d)) [ zero ↦ λ _. FitsTypes-at types row c t _ here (omega (arith, length-FitsTypes types row here)) | suc k ↦ λ l. more k d (omega arith) ] l
+
+-- ---- keys of chunks of the same types
+pub agree_on_keys : (types : List ColumnType) (keys : List SortKey) → All (λ key. key.column < length types) keys → All (AgreeOnKey types types) keys
+agree_on_keys types keys h = λ k d lt. (h k d lt, h k d lt, refl)

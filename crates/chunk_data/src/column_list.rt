@@ -4,8 +4,7 @@ ghost use Rattle.chunk_data.specs.Values.{FitsTypes, value_at};
 ghost use Rattle.chunk_data.specs.Columns.{kind_of, values};
 ghost use Rattle.chunk_data.specs.Rows.{kept, joined, AreLong};
 
-use crate::lists::Memory;
-use crate::lists::List;
+use crate::lists::{List, Memory};
 use crate::typed_column::Column;
 use crate::typed_value::{ColumnType, Value};
 use std::alloc::Global;
@@ -103,6 +102,20 @@ pub(crate) fn kinds_of(alloc: Global, columns: &[Column]) -> Result<List<ColumnT
         kinds.push(column.kind())?;
     }
     Ok(List::from_vec(kinds))
+}
+
+/// The columns, then the others.
+pub(crate) fn beside_all(
+    mut columns: Vec<Column>,
+    others: Vec<Column>,
+) -> Result<List<Column>, Memory>
+    ensures { IfOk result (λ l. l ≡ columns.items ++ others.items) }
+{
+    columns.try_reserve(others.len())?;
+    for column in others {
+        columns.push(column)?;
+    }
+    Ok(List::from_vec(columns))
 }
 
 /// Each column's values at the places.

@@ -1,4 +1,4 @@
-ghost use Rattle.std.specs.Prelude.{◌≡◌, length, vec_len, slice_index_or, map, ◌<◌, IfOk, pos, ◌≤◌, drop};
+ghost use Rattle.std.specs.Prelude.{◌≡◌, length, vec_len, slice_index_or, map, ◌<◌, IfOk, pos, ◌≤◌, drop, take};
 ghost use Rattle.std.specs.List.{All};
 ghost use Rattle.chunk_data.specs.Rows.{kept};
 
@@ -24,7 +24,12 @@ pub(crate) fn gather_ints(items: &Vec<i64>, places: &[usize]) -> Result<Vec<i64>
     ensures { IfOk result (λ v. v.items ≡ map (λ p. slice_index_or items.now.items p (pos 0)) places.now) }
 {
     let numbers = items.as_slice();
-    Ok(places.iter().map(|p| numbers[*p]).collect(*items.allocator())?)
+    Ok(
+        places
+            .iter()
+            .map(|p| numbers[*p])
+            .collect(*items.allocator())?,
+    )
 }
 
 /// The same for numbers without a sign.
@@ -33,7 +38,12 @@ pub(crate) fn gather_uints(items: &Vec<u64>, places: &[usize]) -> Result<Vec<u64
     ensures { IfOk result (λ v. v.items ≡ map (λ p. slice_index_or items.now.items p 0) places.now) }
 {
     let numbers = items.as_slice();
-    Ok(places.iter().map(|p| numbers[*p]).collect(*items.allocator())?)
+    Ok(
+        places
+            .iter()
+            .map(|p| numbers[*p])
+            .collect(*items.allocator())?,
+    )
 }
 
 /// The same elements.
@@ -41,6 +51,16 @@ pub(crate) fn copy_items<T: Copy>(items: &Vec<T>) -> Result<Vec<T>, Memory>
     ensures { IfOk result (λ v. v.items ≡ items.now.items) }
 {
     Ok(Vec::from_slice(*items.allocator(), items.as_slice())?)
+}
+
+/// A copy of the first n.
+pub(crate) fn front_items<T: Copy>(items: &Vec<T>, n: usize) -> Result<Vec<T>, Memory>
+    ensures { IfOk result (λ v. v.items ≡ take n items.now.items) }
+{
+    if items.len() <= n {
+        return copy_items(items);
+    }
+    Ok(Vec::from_slice(*items.allocator(), &items.as_slice()[..n])?)
 }
 
 /// Drops the first n.

@@ -2,11 +2,11 @@ ghost use Rattle.std.specs.Prelude.{◌≡◌, ℕ, ◌+◌, ◌≤◌, ◌<◌,
 ghost use Rattle.std.specs.List.{All};
 ghost use Rattle.chunk_data.specs.Values.{FitsTypes, IsTable, value_at};
 ghost use Rattle.chunk_data.specs.Columns.{kind_of, values};
-ghost use Rattle.chunk_data.specs.Rows.{kept, row_at, rows_of, AreLong};
+ghost use Rattle.chunk_data.specs.Rows.{joined, kept, row_at, rows_of, AreLong};
 
 use crate::column_list::{
-    append_all, count_true, empty_columns, front_all, gather_all, keep_all, kinds_of, push_all,
-    remove_front_all, row_of,
+    append_all, beside_all, count_true, empty_columns, front_all, gather_all, keep_all, kinds_of,
+    push_all, remove_front_all, row_of, truncate_columns,
 };
 use crate::lists::{List, Memory};
 use crate::typed_column::Column;
@@ -125,6 +125,42 @@ impl Chunk {
     {
         keep_all(&mut self.columns, mask);
         self.count = count_true(mask);
+    }
+
+    /// The first n rows stay; it takes no memory.
+    pub fn truncate(&mut self, n: usize)
+        ensures types { self.new.types ≡ self.old.types }
+        ensures rows { self.new.rows ≡ take n self.old.rows }
+    {
+        if n < self.count {
+            truncate_columns(&mut self.columns, n);
+            self.count = n;
+        }
+    }
+
+    /// What follows the first n rows stays; it takes no memory.
+    pub fn remove_front(&mut self, n: usize)
+        ensures types { self.new.types ≡ self.old.types }
+        ensures rows { self.new.rows ≡ drop n self.old.rows }
+    {
+        remove_front_all(&mut self.columns, n);
+        self.count = self.count.saturating_sub(n);
+    }
+
+    /// Each row with the other's row beside it after its own values.
+    pub fn beside(self, other: Chunk) -> Result<Chunk, Memory>
+        requires { length other.rows ≡ length self.rows }
+        ensures types { IfOk result (λ c. c.types ≡ self.types ++ other.types) }
+        ensures rows { IfOk result (λ c. c.rows ≡ joined self.rows other.rows) }
+    {
+        let alloc = self.alloc;
+        let rows = self.rows();
+        let columns = beside_all(
+            self.into_columns().into_vec(),
+            other.into_columns().into_vec(),
+        )?;
+        let chunk = Chunk::of_columns(alloc, columns, rows)?;
+        Ok(chunk)
     }
 
     /// The other's rows after its own, which are copied, but a chunk without rows takes the other's columns.

@@ -1,7 +1,9 @@
 ghost use Rattle.std.specs.Prelude.{◌≡◌, ◌∷◌, [], IfOk};
 
-use crate::{Bytes, Chunk, Column, ColumnType, List, Memory, SortKey, Texts, Value};
-use crate::{empty_columns, truncate_columns};
+use crate::{
+    Bytes, Chunk, Column, ColumnType, List, Memory, SortKey, Texts, Value, empty_columns,
+    truncate_columns,
+};
 use std::alloc::Global;
 use std::cmp::Ordering;
 use std::process::Abort;
@@ -95,7 +97,11 @@ fn places(alloc: Global) -> Result<Chunk, Memory> {
     if uints.len() != rows || texts.len() != rows {
         return Err(Memory);
     }
-    Chunk::of_columns(alloc, List::from_vec(vec![in alloc; ints, uints, texts]?), rows)
+    Chunk::of_columns(
+        alloc,
+        List::from_vec(vec![in alloc; ints, uints, texts]?),
+        rows,
+    )
 }
 
 #[test]
@@ -122,7 +128,12 @@ fn texts_are_kept_and_gathered(rt: HostRuntime) -> Result<(), Fail> {
     let alloc = rt.alloc();
     let mut chunk = places(alloc)?;
     assert_eq!(rt; chunk.rows(), 4);
-    expect_rows(&rt, alloc, &chunk.gather(&[1, 3, 1])?, "3|0|ab|\n0|18446744073709551615||\n3|0|ab|\n")?;
+    expect_rows(
+        &rt,
+        alloc,
+        &chunk.gather(&[1, 3, 1])?,
+        "3|0|ab|\n0|18446744073709551615||\n3|0|ab|\n",
+    )?;
     chunk.keep(&[false, true, true, false]);
     expect_rows(&rt, alloc, &chunk, "3|0|ab|\n-5|1|a|\n")
 }
@@ -135,7 +146,12 @@ fn texts_are_split_and_appended(rt: HostRuntime) -> Result<(), Fail> {
     let mut front = chunk.split_front(2)?;
     expect_rows(&rt, alloc, &front, "-5|7|b|\n3|0|ab|\n")?;
     assert!(rt; front.append(chunk).is_ok());
-    expect_rows(&rt, alloc, &front, "-5|7|b|\n3|0|ab|\n-5|1|a|\n0|18446744073709551615||\n")
+    expect_rows(
+        &rt,
+        alloc,
+        &front,
+        "-5|7|b|\n3|0|ab|\n-5|1|a|\n0|18446744073709551615||\n",
+    )
 }
 
 // A row of a number and a text.
@@ -177,9 +193,26 @@ fn lists_are_pushed_to_and_copied(rt: HostRuntime) -> Result<(), Fail> {
     assert!(rt; text.push(0).is_ok());
     text.extend_from_slice(b"c")?;
     assert_eq!(rt; text.copy()?.into_vec().as_slice(), b"ab\0c".as_slice());
-    let keys = List::from_vec(vec![in alloc; SortKey { column: 1, descending: true }]?);
+    let keys = List::from_vec(vec![in alloc;
+        SortKey {
+            column: 1,
+            descending: true
+        },
+    ]?);
     assert_eq!(rt; keys.copy()?.as_slice(), keys.as_slice());
     Ok(())
+}
+
+#[test]
+fn chunks_are_cut_and_put_side_by_side(rt: HostRuntime) -> Result<(), Fail> {
+    let alloc = rt.alloc();
+    let mut left = numbers(alloc, &[1, 2, 3, 4])?;
+    left.truncate(3);
+    left.remove_front(1);
+    expect_rows(&rt, alloc, &left, "2|\n3|\n")?;
+    let right = numbers(alloc, &[5, 6])?;
+    assert_eq!(rt; right.rows(), left.rows());
+    expect_rows(&rt, alloc, &left.beside(right)?, "2|5|\n3|6|\n")
 }
 
 #[test]

@@ -4,7 +4,7 @@ ghost use Rattle.std.specs.Vec.{vec_len, vec_capacity};
 ghost use Rattle.chunk_data.specs.Rows.{kept};
 ghost use Rattle.chunk_data.specs.Texts.{cut, AreEnds};
 
-use crate::compact::{copy_items, remove_front};
+use crate::compact::{copy_items, front_items, remove_front};
 use crate::lists::{Bytes, Memory};
 use std::alloc::Global;
 use std::marker::Model;
@@ -130,6 +130,21 @@ impl Texts {
         })
     }
 
+    /// A copy of the first n texts.
+    pub fn front(&self, n: usize) -> Result<Texts, Memory>
+        ensures { IfOk result (λ t. t ≡ take n self.now) }
+    {
+        if self.ends.len() <= n {
+            let texts = self.copy()?;
+            return Ok(texts);
+        }
+        let size = start_of(self.ends.as_slice(), n);
+        Ok(Texts {
+            bytes: front_items(&self.bytes, size)?,
+            ends: front_items(&self.ends, n)?,
+        })
+    }
+
     /// A copy of text i.
     pub fn copy_at(&self, i: usize) -> Result<Bytes, Memory>
         requires { i < length self.now }
@@ -144,6 +159,7 @@ impl Texts {
         ensures { IfOk result (λ t. t ≡ map (λ p. slice_index_or self.now p []) places.now) }
     {
         let mut texts = Texts::new(*self.bytes.allocator());
+        texts.reserve(places.len())?;
         for place in places {
             texts.push(self.get(*place))?;
         }

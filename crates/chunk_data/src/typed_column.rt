@@ -4,7 +4,9 @@ ghost use Rattle.chunk_data.specs.Values.{FitsType, value_at, value_cmp};
 ghost use Rattle.chunk_data.specs.Columns.{kind_of, values};
 ghost use Rattle.chunk_data.specs.Rows.{kept};
 
-use crate::compact::{copy_items, gather_ints, gather_uints, keep_items, remove_front};
+use crate::compact::{
+    copy_items, front_items, gather_ints, gather_uints, keep_items, remove_front,
+};
 use crate::lists::Memory;
 use crate::text_column::Texts;
 use crate::typed_value::{ColumnType, Value};
@@ -181,12 +183,8 @@ impl Column {
         ensures values { IfOk result (λ c. values c ≡ map (value_at (values self.now)) places.now) }
     {
         match self {
-            Column::Int64(numbers) => {
-                Ok(Column::Int64(gather_ints(numbers, places)?))
-            }
-            Column::UInt64(numbers) => {
-                Ok(Column::UInt64(gather_uints(numbers, places)?))
-            }
+            Column::Int64(numbers) => { Ok(Column::Int64(gather_ints(numbers, places)?)) }
+            Column::UInt64(numbers) => { Ok(Column::UInt64(gather_uints(numbers, places)?)) }
             Column::Text(texts) => Ok(Column::Text(texts.gather(places)?)),
         }
     }
@@ -204,13 +202,16 @@ impl Column {
     }
 
     /// A copy of the first n values.
+    #[tactic(auto, using(crate::proofs::Cells::maps))]
     pub fn front(&self, n: usize) -> Result<Column, Memory>
         ensures kind { IfOk result (λ c. kind_of c ≡ kind_of self.now) }
         ensures front { IfOk result (λ c. values c ≡ take n (values self.now)) }
     {
-        let mut column = self.copy()?;
-        column.truncate(n);
-        Ok(column)
+        match self {
+            Column::Int64(numbers) => Ok(Column::Int64(front_items(numbers, n)?)),
+            Column::UInt64(numbers) => Ok(Column::UInt64(front_items(numbers, n)?)),
+            Column::Text(texts) => Ok(Column::Text(texts.front(n)?)),
+        }
     }
 
     /// What follows the first n values stays.

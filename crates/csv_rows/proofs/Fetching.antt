@@ -4,7 +4,7 @@ use Rattle.std.specs.Prelude.{IfSome, IsSome}
 use Rattle.std.proofs.lemmas.List.{take_all, take-append-drop, take-take, drop-take}
 use Rattle.outside_io.specs.declared.entries.FileEntry.{FileEntry}
 use Rattle.outside_io.specs.Told.{file_bytes, told_content, moved_by, GivesNext, StandsAtEnd}
-use Rattle.csv_rows.specs.Fetching.{ReadsBlock, HoldsMore, PassesLimit, HoldsFront, IsFile, IsLongFile}
+use Rattle.csv_rows.specs.Fetching.{ReadsBlock, HoldsMore, PassesLimit, HoldsFront, IsFile, IsLongFile, PassesAll}
 
 -- what stays true from block to block
 pub record Fetches (told files : Option (List FileEntry)) (stands : Option (List ℕ × ℕ)) (path held : List ℕ) (limit faults₀ faults pendings₀ pendings : ℕ) : Type 0 where
@@ -56,13 +56,16 @@ HoldsFront-whole {files = files} {stands = stands} {path = path} {held = held} h
     go None f e s = tt
     go (Some all) f e s = whole (file_bytes all path) f e s
 
-pub HoldsFront-long : {files : Option (List FileEntry)} {old new : Option (List ℕ × ℕ)} {path held : List ℕ} {limit : ℕ} → HoldsFront files old path held → PassesLimit files old new held limit → IsLongFile files path limit
-HoldsFront-long {files = files} {old = old} {path = path} {held = held} {limit = limit} h p = go files (rw h.at at p.reads.next)
+pub HoldsFront-long : {files : Option (List FileEntry)} {old new : Option (List ℕ × ℕ)} {path held : List ℕ} {limit : ℕ} → HoldsFront files old path held → PassesLimit files old new held limit
+    → IfSome files (λ all. IsSome (file_bytes all path)) → IsLongFile files path limit
+HoldsFront-long {files = files} {old = old} {path = path} {held = held} {limit = limit} h p found = go files (rw h.at at p.reads.next) found
   where
-    long : (o : Option (List ℕ)) → IfSome o (λ content. (length held + length p.block ≤ length content) × (take (length p.block) p.block ≡ take (length p.block) (drop (length held) content))) → IfSome o (λ bytes. limit < length bytes)
-    long None n = tt
-    long (Some content) n = let b = p.beyond in omega (arith, n.0, b)
+    long : (all : List FileEntry) (o : Option (List ℕ)) → file_bytes all path ≡ o
+        → IfSome o (λ content. (length held + length p.block ≤ length content) × (take (length p.block) p.block ≡ take (length p.block) (drop (length held) content)))
+        → IsSome o → PassesAll all path limit
+    long all None e n s = absurd cc
+    long all (Some content) e n s = let b = p.beyond in record { bytes = content; are = e; long = omega (arith, n.0, b) }
 
-    go : (files : Option (List FileEntry)) → GivesNext files (Some (path, length held)) (length p.block) p.block → IsLongFile files path limit
-    go None n = tt
-    go (Some all) n = long (file_bytes all path) n
+    go : (files : Option (List FileEntry)) → GivesNext files (Some (path, length held)) (length p.block) p.block → IfSome files (λ all. IsSome (file_bytes all path)) → IsLongFile files path limit
+    go None n s = tt
+    go (Some all) n s = long all (file_bytes all path) refl n s

@@ -73,9 +73,15 @@ pub record HoldsFront (files : Option (List FileEntry)) (stands : Option (List �
 abbrev pub IsFile : Option (List FileEntry) → List ℕ → List ℕ → Type 0
 IsFile files path bytes = IfSome files (λ all. file_bytes all path ≡ Some bytes)
 
--- the file has more bytes than the limit, where it is told
+-- the file is there and has more bytes than the limit
+pub record PassesAll (all : List FileEntry) (path : List ℕ) (limit : ℕ) : Type 0 where
+  pub bytes : List ℕ
+  pub are : file_bytes all path ≡ Some bytes
+  pub long : limit < length bytes
+
+-- the same, where the file is told
 abbrev pub IsLongFile : Option (List FileEntry) → List ℕ → ℕ → Type 0
-IsLongFile files path limit = IfSome files (λ all. IfSome (file_bytes all path) (λ bytes. limit < length bytes))
+IsLongFile files path limit = IfSome files (λ all. PassesAll all path limit)
 
 -- why a file was not fetched: each answer but want of memory has its cause
 abbrev pub HasCause : FileFault → (read stalled long : Type 0) → Type 0

@@ -1,9 +1,9 @@
 -- Digits read in turn spell the number of the whole numeral.
-use Rattle.std.proofs.Common.{◌≡◌, ℕ, ◌+◌, ◌-◌, ◌*◌, ◌^◌, ◌<◌, ◌≤◌, Bool, true, false, ◌&&◌, cond, List, [], ◌∷◌, fold, length, drop, get_or, refl, sym, ap, ◌∙◌, subst, arith, Option, Some, None}
+use Rattle.std.proofs.Common.{◌≡◌, ℕ, ◌+◌, ◌-◌, ◌*◌, ◌^◌, ◌<◌, ◌≤◌, Bool, true, false, ◌&&◌, cond, List, [], ◌∷◌, fold, length, drop, get_or, refl, ap, arith, Some, None}
 use Rattle.std.specs.Prelude.{nat_lt}
 use Rattle.std.specs.List.{list_all}
 use Rattle.std.proofs.lemmas.List.{drop_more, drop_all}
-use Rattle.query_model.specs.Fields.{is_digit, is_numeral, numeral_value, numeral_below}
+use Rattle.query_model.specs.Fields.{is_digit, numeral_below}
 use Rattle.query_model.specs.Numerals.{with_digit, with_digits, and_then}
 
 abbrev pub next : ℕ → ℕ → ℕ

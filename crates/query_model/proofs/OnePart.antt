@@ -1,8 +1,8 @@
 -- A table of one part: its rows, and whether it is valid.
-use Rattle.std.proofs.Common.{◌≡◌, ℕ, zero, suc, ◌<◌, Bool, List, [], ◌∷◌, ◌++◌, flat_map, length, refl, sym, ap, ◌∙◌, subst, arith}
+use Rattle.std.proofs.Common.{◌≡◌, ℕ, zero, suc, Bool, List, [], ◌∷◌, ◌++◌, flat_map, sym, ap, ◌∙◌, subst, arith}
 use Rattle.std.specs.List.{All}
 use Rattle.std.proofs.lemmas.List.{append-nil}
-use Rattle.chunk_data.specs.Values.{Row, Table}
+use Rattle.chunk_data.specs.Values.{Row}
 use Rattle.query_model.specs.Sources.{Database}
 use Rattle.query_model.specs.Database.{UsedPart, column_types, part_paths, part_rows, IsValidPart, IsValidUsed, numbered_parts, database, AllPartsValid}
 use Rattle.query_model.specs.Projection.{projection_checked}

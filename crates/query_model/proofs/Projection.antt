@@ -1,21 +1,18 @@
 -- A query that chooses columns of one table: when it is refused, its checked query, and its answers.
-use Rattle.std.proofs.Common.{◌≡◌, ℕ, zero, suc, ◌+◌, ◌<◌, ◌≤◌, Bool, true, false, ◌&&◌, ◌||◌, not, cond, List, [], ◌∷◌, ◌++◌, map, filter, flat_map, length, get_or, refl, sym, ap, ap₂, ◌∙◌, subst, arith, Option, Some, None, IsPermutation}
-use Rattle.std.specs.Prelude.{nat_lt, ◌==◌, is_some, bytes_eq, find, option_map}
+use Rattle.std.proofs.Common.{◌≡◌, ℕ, suc, ◌+◌, ◌≤◌, Bool, true, false, ◌&&◌, ◌||◌, not, cond, List, [], ◌∷◌, ◌++◌, map, filter, flat_map, length, refl, sym, ap, ap₂, ◌∙◌, subst, arith, Option, Some, None, IsPermutation}
+use Rattle.std.specs.Prelude.{nat_lt, ◌==◌, bytes_eq, find, option_map}
 use Rattle.std.specs.List.{list_any, list_all}
 use Rattle.std.proofs.lemmas.List.{append-nil}
 use Rattle.std.proofs.lemmas.List.Sorted.{IsPermutation-refl}
 use Rattle.std.proofs.lemmas.Slice.Eq.{bytes_eq-Decides}
 use Rattle.chunk_data.specs.Values.{Row, Table, value_at, values_at}
 use Rattle.query_model.specs.Expressions.{value_of}
-use Rattle.query_model.specs.Refusals.{FromColumn, table_name, written, bad_join_key, bad_order_key, first_name, ungrouped_names, schema_columns, table_columns, from_columns, means, meant, meant_type, is_declared, text_columns, item_columns, listed, expr_columns, expr_kind, known_kind, item_kind, is_typed, is_call, is_grouped, item_names, calls_in, unknown_table, unknown_column, ambiguous_column, type_mismatch, not_grouped, too_wide, widths, first_of_all, refusal_of}
+use Rattle.query_model.specs.Refusals.{FromColumn, table_name, written, bad_join_key, bad_order_key, first_name, ungrouped_names, schema_columns, table_columns, from_columns, means, meant, meant_type, is_declared, text_columns, item_columns, expr_columns, expr_kind, known_kind, item_kind, is_typed, is_call, is_grouped, item_names, calls_in, unknown_table, unknown_column, ambiguous_column, type_mismatch, not_grouped, too_wide, first_of_all, refusal_of}
 use Rattle.query_model.specs.Checks.{IsChecked, IsShape, IsPlacedItem, EachWith, place_of, known_type}
 use Rattle.query_model.specs.Answers.{item_row, output_rows, IsAnswer}
 use Rattle.query_model.specs.Database.{column_types}
-use Rattle.query_model.specs.Projection.{column_item, projection_query, column_names, has_columns, are_distinct, column_place, column_places, type_at, column_expr, projection_checked}
-use Rattle.chunk_data.specs.declared.typed_value.ColumnType.{ColumnType}
-use Rattle.chunk_data.specs.declared.typed_value.ColumnType.TheVariants as column
+use Rattle.query_model.specs.Projection.{column_item, projection_query, column_names, has_columns, are_distinct, column_places, type_at, column_expr, projection_checked}
 use Rattle.query_model.specs.declared.query.ColumnRef.{ColumnRef}
-use Rattle.query_model.specs.declared.query.ExprOf.TheVariants as expr
 use Rattle.query_model.specs.declared.query.Item.{Item}
 use Rattle.query_model.specs.declared.query.ColumnDecl.{ColumnDecl}
 use Rattle.query_model.specs.declared.query.Query.{Query}

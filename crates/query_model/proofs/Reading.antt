@@ -1,16 +1,14 @@
 -- Reading a part field by field and record by record.
-use Rattle.std.proofs.Common.{◌≡◌, ◌≢◌, ℕ, zero, suc, ◌+◌, ◌<◌, Bool, true, false, cond, List, [], ◌∷◌, ◌++◌, length, get_or, drop, refl, sym, ap, ap₂, ◌∙◌, subst, arith, ℤ, pos, length-append, Option, Some, None}
+use Rattle.std.proofs.Common.{◌≡◌, ◌≢◌, ℕ, suc, ◌+◌, ◌<◌, true, false, cond, List, [], ◌∷◌, ◌++◌, length, get_or, drop, refl, sym, ap, ap₂, ◌∙◌, subst, arith, ℤ, length-append, Option, Some, None}
 use Rattle.std.specs.Prelude.{◌==◌, is_some, option_map, ◌^◌}
 use Rattle.std.proofs.lemmas.List.{drop_more, drop_all}
 use Rattle.chunk_data.specs.Values.{Row, type_of, FitsType, FitsTypes}
 use Rattle.query_model.specs.Fields.{spelled_value, spelled_row, spelled_int, both_spelled, numeral_below}
-use Rattle.query_model.specs.Parts.{part_records, good_rows, bad_place, bad_column, bad_field, row_then, SpelledFront}
+use Rattle.query_model.specs.Parts.{bad_column, bad_field, SpelledFront}
 use Rattle.chunk_data.specs.declared.typed_value.Value.{Value}
-use Rattle.chunk_data.specs.declared.typed_value.Value.TheVariants.{Int, UInt, Text}
+use Rattle.chunk_data.specs.declared.typed_value.Value.TheVariants.{Int, UInt}
 use Rattle.chunk_data.specs.declared.typed_value.ColumnType.{ColumnType}
 use Rattle.chunk_data.specs.declared.typed_value.ColumnType.TheVariants as column
-use Rattle.query_model.specs.declared.places.BadPlace.{BadPlace}
-use Rattle.query_model.specs.declared.places.BadField.{BadField}
 use Rattle.query_model.specs.declared.places.BadField.TheVariants.{Column, Fields}
 
 some_is : {A : Type 0} (x y : A) → Some x ≡ Some y → x ≡ y

@@ -1,5 +1,5 @@
 -- The files of a run, the tables that declarations make of them, and the parts that a query uses.
-use Rattle.std.specs.Prelude.{◌≡◌, ℕ, ◌+◌, Bool, if◌then◌else◌, List, [], ◌∷◌, ◌++◌, map, flat_map, bytes_eq, slice_get, Option, Some, None, IsSome}
+use Rattle.std.specs.Prelude.{◌≡◌, ℕ, ◌+◌, Bool, if◌then◌else◌, List, [], ◌∷◌, map, flat_map, bytes_eq, slice_get, Option, Some, None, IsSome}
 use Rattle.std.specs.List.{All}
 use Rattle.chunk_data.specs.Values.{Row, Table}
 use Rattle.query_model.specs.Parts.{part_records, good_rows, bad_place}

@@ -1,5 +1,5 @@
 -- Queries that choose columns of one table, `SELECT a, b FROM t`.
-use Rattle.std.specs.Prelude.{ℕ, Bool, true, not, ◌&&◌, List, [], ◌∷◌, map, bytes_eq, slice_index_or, Option, Some, None}
+use Rattle.std.specs.Prelude.{ℕ, Bool, true, not, ◌&&◌, List, [], ◌∷◌, map, bytes_eq, slice_index_or, None}
 use Rattle.std.specs.List.{list_any, list_all}
 use Rattle.query_model.specs.Expressions.{Expr}
 use Rattle.query_model.specs.Checks.{place_of}

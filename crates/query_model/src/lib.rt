@@ -8,3 +8,5 @@ pub mod places;
 pub mod plain;
 pub mod processor_spec;
 pub mod query;
+#[cfg(test)]
+mod tests;

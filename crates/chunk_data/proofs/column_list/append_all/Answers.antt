@@ -1,6 +1,5 @@
-use Rattle.std.proofs.Common.{arith, ap, sym, ◌∙◌, length, ◌<◌, ◌≡◌, map, ◌∷◌, []}
+use Rattle.std.proofs.Common.{arith, ◌∙◌, length, ◌<◌, ◌≡◌, map}
 use Rattle.std.proofs.lemmas.List.{length-map}
-use Rattle.chunk_data.specs.Values.{type_of}
 use Rattle.chunk_data.specs.Columns.{values, kind_of}
 use Rattle.chunk_data.proofs.ColumnLists.{Joined-more, Joined-all, Joined-back, Joined-same, Joined-long, agrees_at, agreed_long, other_at}
 use Rattle.chunk_data.proofs.column_list.append_all.Goals as goal

@@ -1,4 +1,3 @@
-use Rattle.std.proofs.Common.{sym, ◌∙◌}
 use Rattle.chunk_data.proofs.RowOrder.{row_cmp_found, row_cmp_more, row_cmp_equal}
 use Rattle.chunk_data.proofs.row_chunk.Chunk.compare_rows.Goals as goal
 

@@ -1,5 +1,4 @@
-use Rattle.std.proofs.Common.{ap, ◌∙◌, pos, []}
-use Rattle.chunk_data.specs.Columns.{values}
+use Rattle.std.proofs.Common.{pos, []}
 use Rattle.chunk_data.proofs.Cells.{places_of}
 use Rattle.chunk_data.proofs.typed_column.Column.gather.Goals as goal
 
