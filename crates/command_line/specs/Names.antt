@@ -1,5 +1,5 @@
 -- Names of tables and columns: words that are no keyword.
-use Rattle.std.specs.Prelude.{ℕ, ◌-◌, Bool, true, false, not, nat_le, ◌==◌, ◌&&◌, ◌||◌, if◌then◌else◌, List, [], ◌∷◌, map, bytes_eq, codes}
+use Rattle.std.specs.Prelude.{ℕ, ◌-◌, Bool, false, not, nat_le, ◌==◌, ◌&&◌, ◌||◌, if◌then◌else◌, List, [], ◌∷◌, map, bytes_eq, codes}
 use Rattle.std.specs.List.{list_all, list_any}
 
 abbrev pub is_digit : ℕ → Bool

@@ -1,13 +1,12 @@
 -- The command that a list of words means.
-use Rattle.std.specs.Prelude.{ℕ, ◌+◌, Bool, true, false, not, nat_le, ◌==◌, ◌&&◌, ◌||◌, if◌then◌else◌, List, [], ◌∷◌, length, map, bytes_eq, codes, Option, Some, None, option_map, option_and_then}
-use Rattle.std.specs.List.{list_all, before_first, after_first, slice_split}
+use Rattle.std.specs.Prelude.{◌≡◌, ℕ, ◌<◌, ◌≤◌, Bool, true, false, not, nat_le, ◌==◌, ◌&&◌, ◌||◌, if◌then◌else◌, List, [], ◌∷◌, length, map, bytes_eq, codes, Option, Some, None}
+use Rattle.std.specs.List.{All, list_all, before_first, after_first, slice_split}
 use Rattle.chunk_data.specs.declared.typed_value.ColumnType.{ColumnType}
 use Rattle.chunk_data.specs.declared.typed_value.ColumnType.TheVariants as column
 use Rattle.query_model.specs.declared.query.ColumnDecl.{ColumnDecl}
-use Rattle.query_model.specs.declared.query.Schema.{Schema}
 use Rattle.query_model.specs.declared.query.PartsDecl.TheVariants.{Paths}
 use Rattle.query_model.specs.declared.query.TableDecl.{TableDecl}
-use Rattle.query_model.specs.Projection.{are_distinct}
+use Rattle.query_model.specs.Projection.{are_distinct, column_names}
 use Rattle.command_line.specs.Names.{is_name}
 use Rattle.command_line.specs.declared.words.Command.{Command}
 
@@ -57,11 +56,14 @@ abbrev pub is_path : List ℕ → Bool
 is_path [] = false
 is_path (b ∷ bytes) = not (b == 64) && list_all is_path_byte (b ∷ bytes)
 
+abbrev pub table_of : List ℕ → List ℕ → List ColumnDecl → TableDecl
+table_of name path columns = record { schema = record { name = name; columns = columns }; parts = Paths (path ∷ []) }
+
 abbrev pub table_with : List ℕ → List ℕ → Option (List ColumnDecl) → Option TableDecl
 table_with name path None = None
 table_with name path (Some columns) =
     if is_name name && is_path path
-    then Some (record { schema = record { name = name; columns = columns }; parts = Paths (path ∷ []) })
+    then Some (table_of name path columns)
     else None
 
 -- `name=path:columns`
@@ -79,3 +81,20 @@ abbrev pub command_of : List (List ℕ) → Option Command
 command_of (first ∷ query ∷ third ∷ tables ∷ []) =
     if bytes_eq first (codes "--query") && bytes_eq third (codes "--tables") then command_with query (declaration_of tables) else None
 command_of _ = None
+
+-- What every command of four words is: one table with one part, one to 64 columns whose names differ,
+-- and the numbers that stand where the words give none.
+pub record IsPlainCommand (c : Command) : Type 0 where
+  pub table : TableDecl
+  pub one_table : c.tables ≡ table ∷ []
+  pub path : List ℕ
+  pub one_path : table.parts ≡ Paths (path ∷ [])
+  pub good_path : is_path path ≡ true
+  pub table_name : is_name table.schema.name ≡ true
+  pub some_columns : 0 < length table.schema.columns
+  pub few_columns : length table.schema.columns ≤ 64
+  pub distinct_names : are_distinct (column_names table.schema) ≡ true
+  pub good_names : All (λ name. is_name name ≡ true) (column_names table.schema)
+  pub no_header : c.header ≡ false
+  pub four_threads : c.threads ≡ 4
+  pub rows_of_chunks : c.chunk_rows ≡ 8192

@@ -1,0 +1,4 @@
+pub mod Scans
+pub mod Entries
+pub mod PlainLaws
+pub mod Tables
