@@ -119,3 +119,85 @@ fn after<'a>(text: &'a [u8], front: &[u8]) -> Option<&'a [u8]>
 {
     text.strip_prefix(front)
 }
+
+#[cfg(test)]
+mod tests {
+    use super::{ProjectionRefusal, read_projection};
+    use std::alloc::Global;
+    use std::test::Fail;
+
+    fn push_bytes(shown: &mut String, bytes: &[u8]) -> Result<(), Fail> {
+        for byte in bytes {
+            shown.push(*byte as char)?;
+        }
+        Ok(())
+    }
+
+    // The names with a bar behind each, and the table.
+    fn reading(alloc: Global, text: &[u8]) -> Result<String, Fail> {
+        let mut shown = String::new(alloc);
+        match read_projection(alloc, text) {
+            Ok(projection) => {
+                for name in projection.names.as_slice() {
+                    push_bytes(&mut shown, name.as_slice())?;
+                    shown.push('|')?;
+                }
+                push_bytes(&mut shown, projection.table.as_slice())?;
+            }
+            Err(ProjectionRefusal::NotBuilt) => shown.push_str("not built")?,
+            Err(ProjectionRefusal::Memory) => shown.push_str("memory")?,
+        }
+        Ok(shown)
+    }
+
+    #[test]
+    fn texts_choose_columns(rt: HostRuntime) -> Result<(), Fail> {
+        let alloc = rt.alloc();
+        for (text, want) in [
+            ("SELECT a FROM t", "a|t"),
+            ("SELECT a, b, c FROM t", "a|b|c|t"),
+            ("SELECT _a1 FROM T", "_a1|T"),
+            ("SELECT a, a FROM a", "a|a|a"),
+            ("SELECT selected, fromage FROM bys", "selected|fromage|bys"),
+        ] {
+            let shown = reading(alloc, text.as_bytes())?;
+            assert_eq!(rt; shown.as_str(), want, "at {text}");
+        }
+        Ok(())
+    }
+
+    #[test]
+    fn other_texts_are_refused(rt: HostRuntime) -> Result<(), Fail> {
+        let alloc = rt.alloc();
+        for text in [
+            "",
+            "SELECT ",
+            "SELECT FROM t",
+            "SELECT  FROM t",
+            "SELECT a,b FROM t",
+            "SELECT a , b FROM t",
+            "SELECT a,  b FROM t",
+            "SELECT a  FROM t",
+            "SELECT a FROM  t",
+            "SELECT  a FROM t",
+            " SELECT a FROM t",
+            "select a from t",
+            "SELECT a from t",
+            "SELECT a FROM t ",
+            "SELECT a FROM t;",
+            "SELECT a, FROM t",
+            "SELECT a FROM",
+            "SELECT a FROM ",
+            "SELECT a b FROM t",
+            "SELECT 1a FROM t",
+            "SELECT a FROM 1t",
+            "SELECT group FROM t",
+            "SELECT a FROM Limit",
+            "SELECT * FROM t",
+        ] {
+            let shown = reading(alloc, text.as_bytes())?;
+            assert_eq!(rt; shown.as_str(), "not built", "at {text}");
+        }
+        Ok(())
+    }
+}
