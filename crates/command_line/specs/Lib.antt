@@ -1,4 +1,5 @@
 pub mod Names
 pub mod Words
+pub mod PlainCommands
 pub mod Projections
 pub mod Tails

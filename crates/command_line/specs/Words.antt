@@ -57,11 +57,14 @@ abbrev pub is_path : List ℕ → Bool
 is_path [] = false
 is_path (b ∷ bytes) = not (b == 64) && list_all is_path_byte (b ∷ bytes)
 
+abbrev pub table_of : List ℕ → List ℕ → List ColumnDecl → TableDecl
+table_of name path columns = record { schema = record { name = name; columns = columns }; parts = Paths (path ∷ []) }
+
 abbrev pub table_with : List ℕ → List ℕ → Option (List ColumnDecl) → Option TableDecl
 table_with name path None = None
 table_with name path (Some columns) =
     if is_name name && is_path path
-    then Some (record { schema = record { name = name; columns = columns }; parts = Paths (path ∷ []) })
+    then Some (table_of name path columns)
     else None
 
 -- `name=path:columns`

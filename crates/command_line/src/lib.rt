@@ -6,8 +6,10 @@
 
 mod names;
 mod projection_text;
+#[cfg(test)]
+mod tests;
 mod words;
 
-pub use names::{is_name, is_word_byte};
+pub use names::{is_keyword, is_name, is_word, is_word_byte};
 pub use projection_text::{Projection, ProjectionRefusal, read_projection};
 pub use words::{Command, WordsRefusal, read_words};

@@ -71,7 +71,11 @@ fn push_name(alloc: Global, names: &mut List<Bytes>, name: &[u8]) -> Result<(), 
 }
 
 /// Reads ` FROM ` and the table's name behind the last column's.
-fn with_table(alloc: Global, names: List<Bytes>, behind: &[u8]) -> Result<Projection, ProjectionRefusal>
+fn with_table(
+    alloc: Global,
+    names: List<Bytes>,
+    behind: &[u8],
+) -> Result<Projection, ProjectionRefusal>
     ensures names { IfOk result (λ p. p.names ≡ names) }
     ensures is_table { IfOk result (λ p. name_test p.table ≡ true) }
     ensures is { IfOk result (λ p. behind.now ≡ codes " FROM " ++ p.table) }

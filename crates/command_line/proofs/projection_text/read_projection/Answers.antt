@@ -24,9 +24,10 @@ refused text rest (Err f) e h = λ is. no_tail text rest e (h is)
 
 pub returns-in-Some : goal.returns-in-Some
 returns-in-Some c = record {
-    ok = spelled c.args.text.now c.in-Some.tail.now c.read_tail.result c.in-Some.ensures c.read_tail.ensures.ok;
-    one = one_reading c.args.text.now c.in-Some.tail.now c.read_tail.result c.in-Some.ensures c.read_tail.ensures.one;
-    not_built = refused c.args.text.now c.in-Some.tail.now c.read_tail.result c.in-Some.ensures c.read_tail.ensures.not_built }
+  ok = spelled c.args.text.now c.in-Some.tail.now c.read_tail.result c.in-Some.ensures c.read_tail.ensures.ok;
+  one = one_reading c.args.text.now c.in-Some.tail.now c.read_tail.result c.in-Some.ensures c.read_tail.ensures.one;
+  not_built = refused c.args.text.now c.in-Some.tail.now c.read_tail.result c.in-Some.ensures c.read_tail.ensures.not_built;
+}
 
 pub returns-in-None : goal.returns-in-None
 returns-in-None c = record { ok = tt; one = tt; not_built = λ _. no_select c.args.text.now c.in-None.ensures }

@@ -30,33 +30,33 @@ refused text behind (Err e) apart h = λ is. apart (h is)
 pub returns-then-not-is_name-clause-not_built : goal.returns-then-not-is_name-clause-not_built
 returns-then-not-is_name-clause-not_built c = λ _.
     no_name c.args.text.now c.loop-word.names c.split_word.result.0.now c.split_word.result.1.now c.split_word.ensures.word c.split_word.ensures.behind
-      (sym c.is_name.ensures ∙ c.if-not-is_name.true)
-      (subst (IsReadTo c.args.text.now c.loop-word.names) c.split_word.ensures.whole c.loop-word.invariant)
+    (sym c.is_name.ensures ∙ c.if-not-is_name.true)
+    (subst (IsReadTo c.args.text.now c.loop-word.names) c.split_word.ensures.whole c.loop-word.invariant)
 
 pub loop-word-preserved : goal.loop-word-preserved
 loop-word-preserved c =
     subst (λ (ns : List (List ℕ)). IsReadTo c.args.text.now ns c.in-Some.next.now) (sym c.in-Ok.ensures)
-      (read_one c.args.text.now c.loop-word.names c.split_word.result.0.now c.split_word.result.1.now c.in-Some.next.now c.split_word.ensures.word c.split_word.ensures.behind
-        (sym c.is_name.ensures ∙ c.if-not-is_name.false) c.in-Some.ensures
-        (subst (IsReadTo c.args.text.now c.loop-word.names) c.split_word.ensures.whole c.loop-word.invariant))
+    (read_one c.args.text.now c.loop-word.names c.split_word.result.0.now c.split_word.result.1.now c.in-Some.next.now c.split_word.ensures.word c.split_word.ensures.behind
+    (sym c.is_name.ensures ∙ c.if-not-is_name.false) c.in-Some.ensures
+    (subst (IsReadTo c.args.text.now c.loop-word.names) c.split_word.ensures.whole c.loop-word.invariant))
 
 pub returns-in-None-clause-ok : goal.returns-in-None-clause-ok
 returns-in-None-clause-ok c =
     spelled c.args.text.now c.loop-word.names c.push_name.new.names c.split_word.result.0.now c.split_word.result.1.now c.with_table.result
-      (sym c.is_name.ensures ∙ c.if-not-is_name.false)
-      (subst (IsReadTo c.args.text.now c.loop-word.names) c.split_word.ensures.whole c.loop-word.invariant)
-      c.in-Ok.ensures c.with_table.ensures.names c.with_table.ensures.is_table c.with_table.ensures.is
+    (sym c.is_name.ensures ∙ c.if-not-is_name.false)
+    (subst (IsReadTo c.args.text.now c.loop-word.names) c.split_word.ensures.whole c.loop-word.invariant)
+    c.in-Ok.ensures c.with_table.ensures.names c.with_table.ensures.is_table c.with_table.ensures.is
 
 pub returns-in-None-clause-one : goal.returns-in-None-clause-one
 returns-in-None-clause-one c =
     one_reading c.args.text.now c.loop-word.names c.push_name.new.names c.split_word.result.0.now c.split_word.result.1.now c.with_table.result
-      c.split_word.ensures.word c.split_word.ensures.behind
-      (subst (IsReadTo c.args.text.now c.loop-word.names) c.split_word.ensures.whole c.loop-word.invariant)
-      c.in-Ok.ensures c.with_table.ensures.names c.with_table.ensures.is
+    c.split_word.ensures.word c.split_word.ensures.behind
+    (subst (IsReadTo c.args.text.now c.loop-word.names) c.split_word.ensures.whole c.loop-word.invariant)
+    c.in-Ok.ensures c.with_table.ensures.names c.with_table.ensures.is
 
 pub returns-in-None-clause-not_built : goal.returns-in-None-clause-not_built
 returns-in-None-clause-not_built c =
     refused c.args.text.now c.split_word.result.1.now c.with_table.result
-      (λ h. no_end c.args.text.now c.loop-word.names c.split_word.result.0.now c.split_word.result.1.now c.split_word.ensures.word c.split_word.ensures.behind
-        c.in-None.ensures h (subst (IsReadTo c.args.text.now c.loop-word.names) c.split_word.ensures.whole c.loop-word.invariant))
-      c.with_table.ensures.not_built
+    (λ h. no_end c.args.text.now c.loop-word.names c.split_word.result.0.now c.split_word.result.1.now c.split_word.ensures.word c.split_word.ensures.behind
+    c.in-None.ensures h (subst (IsReadTo c.args.text.now c.loop-word.names) c.split_word.ensures.whole c.loop-word.invariant))
+    c.with_table.ensures.not_built
