@@ -24,3 +24,11 @@ pub record Spells (q : Query) (text : List ℕ) : Type 0 where
   pub table : List ℕ
   pub is_projection : IsProjection names table text
   pub query : q ≡ projection_query names table
+
+-- no other names and table spell the text
+pub record IsOnlyProjection (names : List (List ℕ)) (table : List ℕ) (text : List ℕ) : Type 0 where
+  pub same : (others : List (List ℕ)) (other : List ℕ) → IsProjection others other text → (others ≡ names) × (other ≡ table)
+
+-- no names and table spell the text
+pub record IsNoProjection (text : List ℕ) : Type 0 where
+  pub apart : (names : List (List ℕ)) (table : List ℕ) → IsProjection names table text → ⊥

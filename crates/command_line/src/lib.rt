@@ -11,5 +11,5 @@ mod tests;
 mod words;
 
 pub use names::{is_keyword, is_name, is_word, is_word_byte};
-pub use projection_text::{Projection, ProjectionRefusal};
+pub use projection_text::{Projection, ProjectionRefusal, read_projection};
 pub use words::{Command, WordsRefusal, read_words};
