@@ -28,9 +28,10 @@ front_more : (o : Option (List ℕ)) (held block : List ℕ) → IfSome o (λ co
     → IfSome o (λ content. (length held + length block ≤ length content) × (take (length block) block ≡ take (length block) (drop (length held) content)))
     → IfSome o (λ content. (length (held ++ block) ≤ length content) × (held ++ block ≡ take (length (held ++ block)) content))
 front_more None held block h n = tt
-front_more (Some content) held block h n =
-    (rw length-append n.0,
-      ap₂ ◌++◌ h.1 (sym (take_all (length block) block (omega arith)) ∙ n.1) ∙ sym (take_both (length held) (length block) content) ∙ ap (λ k. take k content) (sym (length-append held block)))
+front_more (Some content) held block h n = (
+  rw length-append n.0,
+  ap₂ ◌++◌ h.1 (sym (take_all (length block) block (omega arith)) ∙ n.1) ∙ sym (take_both (length held) (length block) content) ∙ ap (λ k. take k content) (sym (length-append held block)),
+)
 
 pub HoldsFront-more : {files : Option (List FileEntry)} {old new : Option (List ℕ × ℕ)} {path held grown : List ℕ} {limit : ℕ} → HoldsFront files old path held → HoldsMore files old new held grown limit → HoldsFront files new path grown
 HoldsFront-more {files = files} {old = old} {new = new} {path = path} {held = held} h m =

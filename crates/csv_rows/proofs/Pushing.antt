@@ -79,10 +79,10 @@ Pushed-more {fields = fields} {old = old} {now = now} {i = i} d y h long lt k a 
     let wide : length h.row < length (map values old) = rw length-map (omega (arith, h.count)) in
     let few : length h.row < length (map kind_of old) = rw length-map (omega (arith, h.count)) in
     let value : spelled_value (get_or (map kind_of old) (length h.row) (kind_of d)) (get_or fields (length h.row) []) ≡ _ =
-        rw h.count (ap (λ t. spelled_value t (get_or fields i [])) (sym (kind_at d h lt)) ∙ a.spells) in
+    rw h.count (ap (λ t. spelled_value t (get_or fields i [])) (sym (kind_at d h lt)) ∙ a.spells) in
     let here : values (get_or now i d) ≡ get_or (map values old) (length h.row) (values d) =
-        sym (get_or-map values now i d (values d) lt) ∙ ap (λ l. get_or l i (values d)) h.cells
-        ∙ ap (λ j. get_or (pushed_front h.row (map values old)) j (values d)) (sym h.count) ∙ get_or-pushed h.row (map values old) (values d) in
+    sym (get_or-map values now i d (values d) lt) ∙ ap (λ l. get_or l i (values d)) h.cells
+    ∙ ap (λ j. get_or (pushed_front h.row (map values old)) j (values d)) (sym h.count) ∙ get_or-pushed h.row (map values old) (values d) in
     record {
       row = h.row ++ a.value ∷ [];
       count = length-append h.row (a.value ∷ []) ∙ ap (λ n. n + 1) h.count;
@@ -123,7 +123,7 @@ Pushed-stops {fields = fields} {old = old} {i = i} Unspelled rows d h long lt u 
     let many = Pushed-long h in
     let few : length h.row < length (map kind_of old) = rw length-map (omega (arith, h.count, many)) in
     let none : spelled_value (get_or (map kind_of old) (length h.row) (kind_of d)) (get_or fields (length h.row) []) ≡ None =
-        rw h.count (ap (λ t. spelled_value t (get_or fields i [])) (sym (kind_at d h lt)) ∙ u) in
+    rw h.count (ap (λ t. spelled_value t (get_or fields i [])) (sym (kind_at d h lt)) ∙ u) in
     record {
       unspelled = spelled_row-stops (map kind_of old) fields h.row (kind_of d) [] h.spelled few (omega (arith, h.count, many)) none;
       is = ap (λ f. record { row = rows + 1; field = f }) (sym (bad_field-stops (map kind_of old) fields h.row (kind_of d) [] (long ∙ sym (length-map old kind_of)) h.spelled few none
@@ -178,7 +178,7 @@ ReadSoFar-more {old = old} {now = now} {new = new} {more = more} {rows = rows} f
     let types = map kind_of old in
     let spells : spelled_row types fields ≡ Some a.row = ap (λ t. spelled_row t fields) (sym h.kinds) ∙ a.spells in
     let wide : length a.row ≡ length (map values now) =
-        length-FitsTypes types a.row (spelled_row-fits types fields a.row spells) ∙ ap length (sym h.kinds) ∙ length-map now kind_of ∙ sym (length-map now values) in
+    length-FitsTypes types a.row (spelled_row-fits types fields a.row spells) ∙ ap length (sym h.kinds) ∙ length-map now kind_of ∙ sym (length-map now values) in
     let more_rows : rows_of (rows + 1) (map values new) ≡ rows_of rows (map values now) ++ a.row ∷ [] = rw a.added (rows_of_push rows (map values now) a.row h.long wide) in
     record {
       kinds = k ∙ h.kinds;

@@ -51,9 +51,10 @@ found_next s s2 xs (Some ys) fields start h = go (next_record default_config s [
         → (ends_at_end s2 ≡ false) × (records_behind s (Some xs) ≡ fields ∷ records_behind s2 (Some ys))
     go None e n = absurd cc
     go (Some p) e n =
-        let step = records_from-next default_config s xs p start e in
-        (ap ends_at_end n.2 ∙ (leaves default_config s [] [] xs p e).starts,
-          step ∙ ap₂ (λ f l. f ∷ l) (sym n.1) (sym (ap₂ (λ t l. records_behind t (Some l)) n.2 n.3)))
+        let step = records_from-next default_config s xs p start e in (
+          ap ends_at_end n.2 ∙ (leaves default_config s [] [] xs p e).starts,
+          step ∙ ap₂ (λ f l. f ∷ l) (sym n.1) (sym (ap₂ (λ t l. records_behind t (Some l)) n.2 n.3)),
+        )
 
 -- the end of the bytes
 none_next : (s s2 : State) (xs : List ℕ) (after : Option (List ℕ)) (fields : List (List ℕ))
@@ -70,23 +71,25 @@ read_found {old = old} {new = new} {fields = fields} h r =
     let k = known old h.going in
     let read = r.reads h.untrimmed (ready_from old h) in
     let next : ReadsNext default_config old.state (Some k.0) (pending_of (bytes_left new.rdr) new) true fields new.state =
-        rw (← h.dialect, ← k.1) read.0 in
-    let f = found_next old.state new.state k.0 _ fields h.starts next in
-    (record {
-      going = r.goes ∙ h.going;
-      dialect = read.2 ∙ h.dialect;
-      untrimmed = read.3 ∙ h.untrimmed;
-      any_length = r.flexible ∙ h.any_length;
-      without_header = rw (r.ready h.untrimmed) refl;
-      starts = f.0;
-    }, ap (records_behind old.state) k.1 ∙ f.1 ∙ ap (λ l. fields ∷ records_behind new.state l) (sym (same_source new read.1)))
+    rw (← h.dialect, ← k.1) read.0 in
+    let f = found_next old.state new.state k.0 _ fields h.starts next in (
+      record {
+        going = r.goes ∙ h.going;
+        dialect = read.2 ∙ h.dialect;
+        untrimmed = read.3 ∙ h.untrimmed;
+        any_length = r.flexible ∙ h.any_length;
+        without_header = rw (r.ready h.untrimmed) refl;
+        starts = f.0;
+      },
+      ap (records_behind old.state) k.1 ∙ f.1 ∙ ap (λ l. fields ∷ records_behind new.state l) (sym (same_source new read.1)),
+    )
 
 pub read_over : {old new : PartReader} {fields : List (List ℕ)} → IsBetween old → Reads old new fields (Ok false) → records_left old ≡ []
 read_over {old = old} {new = new} {fields = fields} h r =
     let k = known old h.going in
     let read = r.reads h.untrimmed (ready_from old h) in
     let next : ReadsNext default_config old.state (Some k.0) (pending_of (bytes_left new.rdr) new) false fields new.state =
-        rw (← h.dialect, ← k.1) read.0 in
+    rw (← h.dialect, ← k.1) read.0 in
     ap (records_behind old.state) k.1 ∙ none_next old.state new.state k.0 _ fields next
 
 -- the same through a change of the error

@@ -89,10 +89,7 @@ impl RecordReader {
 }
 
 // A read of a cursor never fails, so the one error is want of memory.
-fn read_next(
-    reader: &mut Reader<Cursor<Vec<u8>>>,
-    current: &mut ByteRecord,
-) -> Result<bool, Memory>
+fn read_next(reader: &mut Reader<Cursor<Vec<u8>>>, current: &mut ByteRecord) -> Result<bool, Memory>
     requires { IsBetween reader.old }
     ensures found { result ≡ Ok true → IsBetween reader.new × (records_left reader.old ≡ fields_of current.new ∷ records_left reader.new) }
     ensures over { result ≡ Ok false → records_left reader.old ≡ [] }

@@ -129,11 +129,7 @@ fn read_columns(columns: &mut [Column], reader: &mut RecordReader) -> Result<usi
 }
 
 // Adds the record at hand as one row more; after an error the columns are as they were.
-fn push_record(
-    columns: &mut [Column],
-    reader: &RecordReader,
-    rows: usize,
-) -> Result<(), RowsFault>
+fn push_record(columns: &mut [Column], reader: &RecordReader, rows: usize) -> Result<(), RowsFault>
     requires long { AreLong rows (map values columns.old) }
     requires few { length columns.old < 2 ^ 32 }
     requires room { rows + 1 < 2 ^ 64 }

@@ -3,8 +3,8 @@ ghost use Rattle.std.specs.Option.{option_copied};
 ghost use Rattle.chunk_data.specs.Values.{value_at, Table};
 ghost use Rattle.chunk_data.specs.Rows.{row_at};
 ghost use Rattle.chunk_data.specs.Columns.{values};
-ghost use Rattle.query_model.specs.Texts.{quoted, value_text, row_text, rows_text};
-ghost use Rattle.csv_rows.specs.Lines.{heading, comma_at, doubled};
+ghost use Rattle.query_model.specs.Texts.{doubled, quoted, row_text, rows_text, separator, value_text};
+ghost use Rattle.csv_rows.specs.Lines.{heading};
 
 use chunk_data::{Bytes, Chunk, Column, List, Memory};
 use itoa::{Buffer, Integer};
@@ -60,12 +60,7 @@ fn append_chunk(out: &mut Vec<u8>, chunk: &Chunk) -> Result<(), Memory>
     Ok(())
 }
 
-fn append_row(
-    out: &mut Vec<u8>,
-    digits: &mut Buffer,
-    chunk: &Chunk,
-    i: usize,
-) -> Result<(), Memory>
+fn append_row(out: &mut Vec<u8>, digits: &mut Buffer, chunk: &Chunk, i: usize) -> Result<(), Memory>
     requires in_range { i < length chunk.now.rows }
     requires wide { length (row_at chunk.now.rows i) ≡ length chunk.now.types }
     ensures { OnOk result (out.new.items ≡ out.old.items ++ row_text (row_at chunk.now.rows i)) }
@@ -80,7 +75,7 @@ fn append_row(
 
 // The comma in front of every value but the first.
 fn append_comma(out: &mut Vec<u8>, place: usize) -> Result<(), Memory>
-    ensures { OnOk result (out.new.items ≡ out.old.items ++ comma_at place) }
+    ensures { OnOk result (out.new.items ≡ out.old.items ++ separator place) }
 {
     if place > 0 {
         out.push(b',')?;
@@ -126,7 +121,7 @@ fn append_quoted(out: &mut Vec<u8>, text: &[u8]) -> Result<(), Memory>
 
 // The bytes with each quote doubled. Most texts have no quote, and looking for one first is faster.
 fn append_doubled(out: &mut Vec<u8>, text: &[u8]) -> Result<(), Memory>
-    ensures { OnOk result (out.new.items ≡ out.old.items ++ doubled text.now) }
+    ensures { OnOk result (out.new.items ≡ out.old.items ++ flat_map doubled text.now) }
 {
     if !text.contains(&b'"') {
         out.extend_from_slice(text)?;

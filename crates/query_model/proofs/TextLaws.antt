@@ -40,7 +40,7 @@ join-snoc : (x : List ℕ) (xs : List (List ℕ)) (y : List ℕ) → join_with_b
 join-snoc x [] y = refl
 join-snoc x (z ∷ xs) y = ap (λ l. x ++ (44 ∷ l)) (join-snoc z xs y) ∙ sym (append_assoc x (44 ∷ join_with_byte 44 (z ∷ xs)) (44 ∷ y))
 
-joined-snoc : (xs : List (List ℕ)) (y : List ℕ) → join_with_byte 44 (xs ++ y ∷ []) ≡ join_with_byte 44 xs ++ separator (length xs) ++ y
+pub joined-snoc : (xs : List (List ℕ)) (y : List ℕ) → join_with_byte 44 (xs ++ y ∷ []) ≡ join_with_byte 44 xs ++ separator (length xs) ++ y
 joined-snoc [] y = refl
 joined-snoc (x ∷ xs) y = join-snoc x xs y ∙ apart
   where

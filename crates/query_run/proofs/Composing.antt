@@ -84,9 +84,10 @@ pub choice_more : (s : Schema) (names : List (List ℕ)) (i : ℕ) (d : List ℕ
     → list_any (bytes_eq (get_or names i d)) (column_names s) ≡ true → more ≡ places ++ place ∷ [] → place ≡ place_of (bytes_eq (get_or names i d)) (column_names s)
     → (more ≡ column_places s (take (i + 1) names)) × (has_columns s (take (i + 1) names) ≡ true)
 choice_more s names i d places more place lt p h known m is =
-    let next : take (i + 1) names ≡ take i names ++ get_or names i d ∷ [] = take_more names i d lt in
-    (m ∙ ap₂ (λ l q. l ++ q ∷ []) p is ∙ sym (map-append (column_place s) (take i names) (get_or names i d ∷ [])) ∙ ap (column_places s) (sym next),
-      ap (has_columns s) next ∙ list_all-append (λ name. list_any (bytes_eq name) (column_names s)) (take i names) (get_or names i d ∷ []) ∙ rw (h, known) refl)
+    let next : take (i + 1) names ≡ take i names ++ get_or names i d ∷ [] = take_more names i d lt in (
+      m ∙ ap₂ (λ l q. l ++ q ∷ []) p is ∙ sym (map-append (column_place s) (take i names) (get_or names i d ∷ [])) ∙ ap (column_places s) (sym next),
+      ap (has_columns s) next ∙ list_all-append (λ name. list_any (bytes_eq name) (column_names s)) (take i names) (get_or names i d ∷ []) ∙ rw (h, known) refl,
+    )
 
 -- a name that is no column's
 pub choice_stops : (s : Schema) (names : List (List ℕ)) (i : ℕ) (d : List ℕ) → i < length names → (list_any (bytes_eq (get_or names i d)) (column_names s) ≡ true → ⊥) → has_columns s names ≡ false
@@ -160,7 +161,7 @@ command_text_told command p choice h (Some told) text t =
     let path = only_path p.table.parts in
     let rows : List Row = part_rows command.header (column_types s) (files_of told) path in
     let base : database command.header (files_of told) command.tables ≡ record { types = column_types s; rows = rows } ∷ [] =
-        ap (database command.header (files_of told)) p.one_table ∙ database-one_part command.header (files_of told) p.table path parts in
+    ap (database command.header (files_of told)) p.one_table ∙ database-one_part command.header (files_of told) p.table path parts in
     record {
       query = projection_query choice.names s.name;
       spells = record { names = choice.names; table = s.name; is_projection = h.chooses.is_projection; query = refl };

@@ -22,11 +22,7 @@ pub(crate) struct Choice {
 }
 
 /// The columns of the table that a query's text chooses.
-pub(crate) fn read_choice(
-    alloc: Global,
-    text: &Bytes,
-    schema: &Schema,
-) -> Result<Choice, Failure>
+pub(crate) fn read_choice(alloc: Global, text: &Bytes, schema: &Schema) -> Result<Choice, Failure>
     ensures ok { IfOk result (IsChoice schema.now text.now) }
     ensures only { IfErr result IsRefusal }
     ensures not_built { result ≡ Err Failure.NotBuilt → (names : Seq (Seq ℕ)) → ChoosesColumns schema.now text.now names → ⊥ }

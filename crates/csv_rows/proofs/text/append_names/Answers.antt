@@ -13,5 +13,5 @@ loop-i-preserved c =
     line_more _ _ _ _ (map value_text (map Text c.args.names.now)) (quoted c.as_slice.result.now) c.loop-i.i (quoted name)
     c.loop-i.invariant c.in_ok-append_comma.ensures c.in_ok-append_quoted.ensures
     (ap quoted (c.as_slice.ensures ∙ c.index-names-i.is) ∙ ap value_text (sym (get_or-map Text c.args.names.now c.loop-i.i name (Text name) c.loop-i-test.true))
-        ∙ sym (get_or-map value_text (map Text c.args.names.now) c.loop-i.i (Text name) (quoted name) lt))
+    ∙ sym (get_or-map value_text (map Text c.args.names.now) c.loop-i.i (Text name) (quoted name) lt))
     lt2

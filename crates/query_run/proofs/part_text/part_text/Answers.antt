@@ -9,7 +9,7 @@ returns-in-Ok-bytes_text-clause-text g c =
 pub returns-in-Err-bytes_text-clause-cause : goal.returns-in-Err-bytes_text-clause-cause
 returns-in-Err-bytes_text-clause-cause g c =
     rw c.rows_failure.ensures (rows_cause c.args.header c.args.table.now c.path_of.result.now c.in-Ok.bytes c.path_of.ensures (g.F.FileReader.files c.args.files.now) c.in-Err-bytes_text.fault _ _
-        c.in-Ok.ensures.bytes c.in-Err-bytes_text.ensures.bad)
+    c.in-Ok.ensures.bytes c.in-Err-bytes_text.ensures.bad)
 
 pub returns-in-Err-clause-cause : goal.returns-in-Err-clause-cause
 returns-in-Err-clause-cause g c =
