@@ -24,5 +24,5 @@ line_more start before mid after pieces piece i d b m a p lt =
     let n : length (take i pieces) ≡ i = length-take-le i pieces (omega arith) in
     let more : take (i + 1) pieces ≡ take i pieces ++ piece ∷ [] = take_more pieces i d lt ∙ ap (λ q. take i pieces ++ q ∷ []) (sym p) in
     let text : join_with_byte 44 (take (i + 1) pieces) ≡ (join_with_byte 44 (take i pieces) ++ separator i) ++ piece =
-        ap (join_with_byte 44) more ∙ joined-snoc (take i pieces) piece ∙ ap (λ k. (join_with_byte 44 (take i pieces) ++ separator k) ++ piece) n in
+    ap (join_with_byte 44) more ∙ joined-snoc (take i pieces) piece ∙ ap (λ k. (join_with_byte 44 (take i pieces) ++ separator k) ++ piece) n in
     a ∙ ap (λ l. l ++ piece) (m ∙ ap (λ l. l ++ separator i) b ∙ append_assoc start _ _) ∙ append_assoc start _ piece ∙ ap (λ l. start ++ l) (sym text)
