@@ -1,10 +1,10 @@
 -- a file that is fetched block by block
-use Rattle.std.proofs.Common.{◌≡◌, ℕ, ◌+◌, ◌<◌, ◌≤◌, List, [], ◌++◌, length, take, drop, refl, ap, ap₂, sym, ◌∙◌, arith, length-append, Option, Some, None}
+use Rattle.std.proofs.Common.{◌≡◌, ℕ, ◌+◌, ◌≤◌, List, [], ◌++◌, length, take, drop, refl, ap, ap₂, sym, ◌∙◌, arith, length-append, Option, Some, None}
 use Rattle.std.specs.Prelude.{IfSome, IsSome}
 use Rattle.std.proofs.lemmas.List.{take_all, take-append-drop, take-take, drop-take}
 use Rattle.outside_io.specs.declared.entries.FileEntry.{FileEntry}
 use Rattle.outside_io.specs.Told.{file_bytes, told_content, moved_by, GivesNext, StandsAtEnd}
-use Rattle.csv_rows.specs.Fetching.{ReadsBlock, HoldsMore, PassesLimit, HoldsFront, IsFile, IsLongFile, PassesAll}
+use Rattle.csv_rows.specs.Fetching.{HoldsMore, PassesLimit, HoldsFront, IsFile, IsLongFile, PassesAll}
 
 -- what stays true from block to block
 pub record Fetches (told files : Option (List FileEntry)) (stands : Option (List ℕ × ℕ)) (path held : List ℕ) (limit faults₀ faults pendings₀ pendings : ℕ) : Type 0 where

@@ -1,5 +1,5 @@
 -- a record that is added to columns field by field
-use Rattle.std.proofs.Common.{◌≡◌, ◌≢◌, ℕ, ◌+◌, ◌<◌, ◌≤◌, List, [], ◌∷◌, ◌++◌, length, get_or, set, take, map, refl, ap, ap₂, sym, ◌∙◌, arith, suc, zero, add-one, length-append, append_assoc, Some, None}
+use Rattle.std.proofs.Common.{◌≡◌, ◌≢◌, ℕ, ◌+◌, ◌<◌, ◌≤◌, List, [], ◌∷◌, ◌++◌, length, get_or, set, take, map, refl, ap, ap₂, sym, ◌∙◌, arith, length-append, append_assoc, Some, None}
 use Rattle.std.proofs.lemmas.List.{map-set, get_or-map, set-get_or, length-map, take_at, take_all, append-nil}
 use Rattle.chunk_data.specs.declared.typed_column.Column.{Column}
 use Rattle.chunk_data.specs.declared.typed_value.ColumnType.{ColumnType}

@@ -1,13 +1,13 @@
 -- what a read does to the records that are left
-use Rattle.std.proofs.Common.{◌≡◌, ℕ, Bool, true, false, cond, List, [], ◌∷◌, refl, ap, ap₂, sym, inl, inr, ◌⊎◌, ◌∙◌, Option, Some, None, Result, Ok, Err, arith}
-use Rattle.std.specs.Prelude.{◌||◌, ◌&&◌, not, is_none, is_some, IfOk, OnOk, IsSome, MatchResult, IsErrAnd}
+use Rattle.std.proofs.Common.{◌≡◌, ℕ, Bool, true, false, cond, List, [], ◌∷◌, refl, ap, ap₂, sym, inl, inr, ◌⊎◌, ◌∙◌, Option, Some, None, Result, Ok, Err}
+use Rattle.std.specs.Prelude.{◌||◌, ◌&&◌, not, is_none, IfOk, OnOk, IsSome, MatchResult, IsErrAnd}
 use Rattle.chunk_data.specs.declared.lists.Memory.{Memory}
 use Rattle.csv.specs.Machine.{Read, next_record, ends_at_end}
-use Rattle.csv.specs.Reading.{Ready, ReadRecord, ReadsNext, NextIs, ExplainsRead, default_config, source_of, pending_of, has_failed, is_flexible, names_headers, reader_config, reader_headers, reader_state, reader_trim, took_first, stops_reader, error_kind}
+use Rattle.csv.specs.Reading.{Ready, ReadRecord, ReadsNext, NextIs, default_config, source_of, pending_of, has_failed, is_flexible, reader_trim, took_first}
 use Rattle.csv.specs.declared.parser.State.{State}
 use Rattle.csv.specs.declared.reader.Trim.TheVariants as trim
 use Rattle.csv.specs.declared.error.Error.{Error}
-use Rattle.csv_rows.specs.RecordsLeft.{PartReader, bytes_left, records_behind, records_left, IsBetween, IsUsable}
+use Rattle.csv_rows.specs.RecordsLeft.{PartReader, bytes_left, records_behind, records_left, IsBetween}
 use Rattle.csv_rows.proofs.NextRecord.{leaves, records_from-next, records_from-none}
 
 -- what the `csv` crate says of one read

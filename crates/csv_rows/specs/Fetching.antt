@@ -1,7 +1,7 @@
 -- What a fetch of a file's bytes gives, block by block.
-use Rattle.std.specs.Prelude.{◌≡◌, ℕ, ◌+◌, ◌<◌, ◌≤◌, List, [], ◌++◌, length, take, Option, Some, None, IfSome, IsSome, Result, Ok, Err, ⊤}
+use Rattle.std.specs.Prelude.{◌≡◌, ℕ, ◌+◌, ◌<◌, ◌≤◌, List, ◌++◌, length, take, Option, Some, IfSome, Result, Ok, Err, ⊤}
 use Rattle.outside_io.specs.declared.entries.FileEntry.{FileEntry}
-use Rattle.outside_io.specs.Told.{file_bytes, told_content, moved_by, GivesNext, StandsAtEnd}
+use Rattle.outside_io.specs.Told.{file_bytes, told_content, moved_by, GivesNext}
 use Rattle.csv_rows.specs.declared.file_fetch.Fetched.{Fetched}
 use Rattle.csv_rows.specs.declared.file_fetch.Fetched.TheVariants.{More, Whole, Pending}
 use Rattle.csv_rows.specs.declared.file_fetch.FetchFault.{FetchFault}

@@ -1,15 +1,12 @@
 -- valid commands over valid files are answered, unless a device failed or memory ran out
-use Rattle.std.proofs.Common.{◌≡◌, ◌⊎◌, inl, inr, ℕ, ◌<◌, ◌≤◌, true, List, [], ◌∷◌, length, get_or, refl, ap, sym, subst, ◌∙◌, arith, Option, Some, None}
-use Rattle.std.specs.Prelude.{IsSome, is_some}
+use Rattle.std.proofs.Common.{◌≡◌, ◌⊎◌, inl, inr, ℕ, ◌≤◌, true, List, [], ◌∷◌, length, get_or, ap, sym, subst, ◌∙◌, arith, Option, Some, None}
+use Rattle.std.specs.Prelude.{is_some}
 use Rattle.outside_io.specs.declared.entries.FileEntry.{FileEntry}
 use Rattle.query_model.specs.Database.{file_bytes, part_paths, part_bad_place, column_types}
 use Rattle.query_model.specs.declared.query.TableDecl.{TableDecl}
-use Rattle.query_model.specs.declared.places.BadPlace.{BadPlace}
-use Rattle.command_line.specs.Words.{command_of}
 use Rattle.command_line.specs.declared.words.Command.{Command}
-use Rattle.query_run.specs.Headline.{files_of, OfCommand, IsBuilt, IsOnePart, HasBadPart, HasLongPart, IsAnswerable, EndsFor, SucceedsUnless}
+use Rattle.query_run.specs.Headline.{files_of, OfCommand, IsBuilt, HasBadPart, HasLongPart, IsAnswerable, EndsFor, SucceedsUnless}
 use Rattle.query_run.specs.Endings.{status_of}
-use Rattle.query_run.specs.declared.ending.Failure.{Failure}
 use Rattle.query_run.specs.declared.ending.Failure.TheVariants as failure
 use Rattle.query_run.specs.declared.ending.Ending.{Ending}
 use Rattle.query_run.specs.declared.ending.Ending.TheVariants.{Answered, Failed, WriteFailed}

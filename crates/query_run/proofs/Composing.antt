@@ -1,7 +1,7 @@
 -- from the steps of an answer to the text of one answer of a command
-use Rattle.std.proofs.Common.{◌≡◌, ℕ, ◌+◌, ◌<◌, ◌≤◌, Bool, true, false, cond, List, [], ◌∷◌, ◌++◌, length, get_or, take, map, refl, ap, ap₂, sym, subst, ◌∙◌, arith, suc, zero, Option, Some, None, Result, Ok, Err, Vec, Global}
-use Rattle.std.specs.Prelude.{IfSome, IfOk, IsSome, is_some, ◌&&◌, bytes_eq, ⊤}
-use Rattle.std.specs.List.{All, list_all, list_any}
+use Rattle.std.proofs.Common.{◌≡◌, ℕ, ◌+◌, ◌<◌, Bool, true, false, cond, List, [], ◌∷◌, ◌++◌, length, get_or, take, map, refl, ap, ap₂, sym, ◌∙◌, arith, suc, zero, Option, Some, None, Result, Ok, Err, Vec, Global}
+use Rattle.std.specs.Prelude.{IfSome, IfOk, is_some, ◌&&◌, bytes_eq}
+use Rattle.std.specs.List.{All, list_any}
 use Rattle.std.proofs.lemmas.List.{length-map, take_more, map-append}
 use Rattle.std.proofs.lemmas.List.Folds.{list_all-append}
 use Rattle.outside_io.specs.declared.entries.FileEntry.{FileEntry}
@@ -16,7 +16,7 @@ use Rattle.chunk_data.specs.Values.{Row, values_at}
 use Rattle.query_model.specs.Checks.{place_of}
 use Rattle.query_model.specs.Parts.{bad_place, good_rows, part_records}
 use Rattle.query_model.specs.Texts.{answer_text}
-use Rattle.query_model.specs.Database.{file_bytes, part_rows, rows_in, bad_place_in, column_types, database, AllPartsValid, part_paths}
+use Rattle.query_model.specs.Database.{file_bytes, part_rows, rows_in, bad_place_in, column_types, database}
 use Rattle.query_model.specs.Projection.{column_names, column_place, column_places, has_columns, projection_query, projection_checked}
 use Rattle.query_model.proofs.Projection.{projection-allowed, projection-checked, projection-answers}
 use Rattle.query_model.proofs.OnePart.{database-one_part, AllPartsValid-one_part}
@@ -24,14 +24,12 @@ use Rattle.query_model.specs.declared.query.Schema.{Schema}
 use Rattle.query_model.specs.declared.query.PartsDecl.{PartsDecl}
 use Rattle.query_model.specs.declared.query.PartsDecl.TheVariants.{Paths}
 use Rattle.query_model.specs.declared.query.TableDecl.{TableDecl}
-use Rattle.query_model.specs.declared.query.ColumnDecl.{ColumnDecl}
 use Rattle.command_line.specs.Words.{IsPlainCommand}
 use Rattle.command_line.specs.declared.words.Command.{Command}
 use Rattle.query_run.specs.declared.choice.Choice.{Choice}
-use Rattle.query_run.specs.Headline.{files_of, schemas_of, ChoosesColumns, IsBuilt, IsOnePart, HasBadPart, HasLongPart, IsTextOfCommand, CommandFailsFor}
-use Rattle.query_run.specs.Choices.{IsChoice, only_path, HasOnePath, IsPartText, IsBadFile, IsLongFile, PartFailsFor, failure_of_file, failure_of_rows}
+use Rattle.query_run.specs.Headline.{files_of, schemas_of, IsTextOfCommand}
+use Rattle.query_run.specs.Choices.{IsChoice, only_path, HasOnePath, IsPartText, PartFailsFor, failure_of_file, failure_of_rows}
 use Rattle.query_run.specs.declared.ending.Failure.{Failure}
-use Rattle.query_run.specs.declared.ending.Failure.TheVariants as failure
 use Rattle.query_run.proofs.Places.{place_within}
 
 -- the reader's told bytes are those of the files as pairs
@@ -89,20 +87,6 @@ choice_more s names i d places more place lt p h known m is =
       ap (has_columns s) next ∙ list_all-append (λ name. list_any (bytes_eq name) (column_names s)) (take i names) (get_or names i d ∷ []) ∙ rw (h, known) refl,
     )
 
--- a name that is no column's
-pub choice_stops : (s : Schema) (names : List (List ℕ)) (i : ℕ) (d : List ℕ) → i < length names → (list_any (bytes_eq (get_or names i d)) (column_names s) ≡ true → ⊥) → has_columns s names ≡ false
-choice_stops s [] i d lt no_ = absurd (omega arith)
-choice_stops s (n ∷ names) zero d lt no_ = go (list_any (bytes_eq n) (column_names s)) no_
-  where
-    go : (b : Bool) → (b ≡ true → ⊥) → (b && has_columns s names) ≡ false
-    go true h = absurd (h refl)
-    go false h = refl
-choice_stops s (n ∷ names) (suc i) d lt no_ = go (list_any (bytes_eq n) (column_names s)) (choice_stops s names i d (omega arith) no_)
-  where
-    go : (b : Bool) → has_columns s names ≡ false → (b && has_columns s names) ≡ false
-    go true h = h
-    go false h = refl
-
 places_within : (s : Schema) (names : List (List ℕ)) → has_columns s names ≡ true → All (λ p. p < length s.columns) (column_places s names)
 places_within s [] h = λ k d lt. absurd (omega arith)
 places_within s (n ∷ names) h =
@@ -113,9 +97,6 @@ places_within s (n ∷ names) h =
 
 -- ---- the text of a command
 
-same_table : (a b : TableDecl) (tables : List TableDecl) → tables ≡ a ∷ [] → tables ≡ b ∷ [] → a ≡ b
-same_table a b tables e f = ap (λ l. get_or l 0 a) (sym e ∙ f)
-
 -- the first of the command's tables is its one table
 pub first_table : (command : Command) (p : IsPlainCommand command) (t : TableDecl) → t ≡ get_or command.tables 0 t → t ≡ p.table
 first_table command p t h = h ∙ ap (λ l. get_or l 0 t) p.one_table
@@ -125,31 +106,6 @@ one_path_of command p = p.one_path ∙ ap (λ (parts : PartsDecl). Paths (only_p
 
 pub choice_within : (s : Schema) (text : List ℕ) (choice : Choice) → IsChoice s text choice → All (λ p. p < length s.columns) choice.places.items
 choice_within s text choice h = rw h.places (places_within s choice.names h.chooses.known)
-
-pub built_of : (command : Command) (p : IsPlainCommand command) (choice : Choice) → IsChoice p.table.schema command.query choice → IsBuilt command
-built_of command p choice h = record { table = p.table; one_table = p.one_table; names = choice.names; chooses = h.chooses }
-
-pub unbuilt_of : (command : Command) (p : IsPlainCommand command) → ((names : List (List ℕ)) → ChoosesColumns p.table.schema command.query names → ⊥) → IsBuilt command → ⊥
-unbuilt_of command p none b =
-    let same : b.table ≡ p.table = same_table b.table p.table command.tables b.one_table p.one_table in
-    none b.names (subst (λ (t : TableDecl). ChoosesColumns t.schema command.query b.names) same b.chooses)
-
-part_of : (command : Command) (p : IsPlainCommand command) (told : List FileEntry) → IsOnePart command told p.table (only_path p.table.parts)
-part_of command p told = record { one_table = p.one_table; one_part = ap (part_paths (files_of told)) (one_path_of command p) }
-
--- the causes of a part's failure are those of the command's
-pub command_cause : (command : Command) (p : IsPlainCommand command) → IsBuilt command → (files : Option (List FileEntry)) (f : Failure) (read stalled : Type 0)
-    → PartFailsFor f command.header p.table files read stalled → CommandFailsFor f command files read stalled
-command_cause command p b files failure.Usage read stalled h = absurd h
-command_cause command p b files failure.NotBuilt read stalled h = absurd h
-command_cause command p b None (failure.Bad place) read stalled h = (b, tt)
-command_cause command p b (Some told) (failure.Bad place) read stalled h = (b, record { table = p.table; path = only_path p.table.parts; part = part_of command p told; bad = h })
-command_cause command p b files failure.Read read stalled h = (b, h)
-command_cause command p b files failure.Stalled read stalled h = (b, h)
-command_cause command p b None failure.TooLong read stalled h = (b, tt)
-command_cause command p b (Some told) failure.TooLong read stalled h =
-    (b, record { table = p.table; path = only_path p.table.parts; part = part_of command p told; bytes = h.bytes; are = h.are; long = h.long })
-command_cause command p b files failure.Memory read stalled h = tt
 
 pub command_text_told : (command : Command) (p : IsPlainCommand command) (choice : Choice) → IsChoice p.table.schema command.query choice → (files : Option (List FileEntry)) (text : List ℕ)
     → IfSome files (λ told. IsPartText command.header p.table choice told text) → IfSome files (λ told. IsTextOfCommand command told text)

@@ -1,5 +1,5 @@
 -- What the steps of an answer give: chosen columns, and the text of a part's rows.
-use Rattle.std.specs.Prelude.{◌≡◌, ℕ, ◌<◌, ◌≤◌, Bool, true, List, [], ◌∷◌, ◌++◌, length, map, IsSome, IfSome, Some, Option, ⊤}
+use Rattle.std.specs.Prelude.{◌≡◌, ℕ, ◌<◌, Bool, List, [], ◌∷◌, length, map, IsSome, IfSome, Some, Option, ⊤}
 use Rattle.outside_io.specs.declared.entries.FileEntry.{FileEntry}
 use Rattle.query_model.specs.Texts.{answer_text}
 use Rattle.chunk_data.specs.Values.{values_at}

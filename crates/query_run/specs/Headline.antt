@@ -1,7 +1,6 @@
 -- What a run means: the text that an answer of its query has over the files' rows, and the causes of every other end.
-use Rattle.std.specs.Prelude.{◌≡◌, ◌⊎◌, ℕ, ◌<◌, ◌≤◌, true, List, [], ◌∷◌, ◌++◌, length, map, IfSome, IsSome, Option, Some, None, ⊤}
+use Rattle.std.specs.Prelude.{◌≡◌, ◌⊎◌, ℕ, ◌<◌, ◌≤◌, true, List, [], ◌∷◌, length, map, IfSome, IsSome, Option, Some, None, ⊤}
 use Rattle.outside_io.specs.declared.entries.FileEntry.{FileEntry}
-use Rattle.outside_io.specs.Counts.{Rose}
 use Rattle.outside_io.specs.Growth.{GrewBy, GrewByPrefix, Untouched}
 use Rattle.chunk_data.specs.Values.{Row}
 use Rattle.query_model.specs.Answers.{IsAnswer}

@@ -1,4 +1,4 @@
-use Rattle.std.proofs.Common.{◌≡◌, ◌-◌, length}
+use Rattle.std.proofs.Common.{◌-◌, length}
 use Rattle.csv_rows.proofs.Fetching.{Fetches}
 use Rattle.csv_rows.proofs.file_fetch.fetch_blocks.Given as goal
 

@@ -1,5 +1,5 @@
 use Rattle.csv.specs.Records.{fields_of}
-use Rattle.csv_rows.proofs.RecordsLeft.{Reads, found_through, over_through}
+use Rattle.csv_rows.proofs.RecordsLeft.{found_through, over_through}
 use Rattle.csv_rows.proofs.record_reader.read_next.Goals as goal
 
 pub returns-clause-found : goal.returns-clause-found

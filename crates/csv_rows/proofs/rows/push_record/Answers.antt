@@ -1,7 +1,4 @@
-use Rattle.std.proofs.Common.{◌≡◌, ap, sym, ◌∙◌, arith, length}
-use Rattle.chunk_data.specs.Columns.{kind_of}
-use Rattle.query_model.specs.Fields.{spelled_value}
-use Rattle.csv_rows.specs.Pushing.{OnBad, OnUnspelled, IsBadRecord}
+use Rattle.std.proofs.Common.{◌∙◌, arith}
 use Rattle.csv_rows.proofs.Pushing.{Pushed-more, Pushed-all, Pushed-back, Pushed-kinds, Pushed-stops, wrong_length}
 use Rattle.csv_rows.proofs.rows.push_record.Goals as goal
 

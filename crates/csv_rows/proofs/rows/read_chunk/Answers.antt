@@ -1,4 +1,3 @@
-use Rattle.std.proofs.Common.{map}
 use Rattle.chunk_data.proofs.Chunks.{AreColumns-empty}
 use Rattle.csv_rows.proofs.rows.read_chunk.Goals as goal
 

@@ -1,5 +1,5 @@
-use Rattle.std.proofs.Common.{ap, sym, ◌∙◌, Ok}
-use Rattle.csv_rows.proofs.Pushing.{ReadSoFar, ReadSoFar-none, ReadSoFar-more, ReadSoFar-all, ReadSoFar-bad}
+use Rattle.std.proofs.Common.{ap, ◌∙◌, Ok}
+use Rattle.csv_rows.proofs.Pushing.{ReadSoFar-none, ReadSoFar-more, ReadSoFar-all, ReadSoFar-bad}
 use Rattle.csv_rows.proofs.rows.read_columns.Goals as goal
 
 pub records-init : goal.records-init

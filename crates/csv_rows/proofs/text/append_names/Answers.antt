@@ -1,4 +1,4 @@
-use Rattle.std.proofs.Common.{ap, sym, ◌∙◌, arith, length, map, get_or, ◌≡◌, ◌<◌}
+use Rattle.std.proofs.Common.{ap, sym, ◌∙◌, length, map, ◌<◌}
 use Rattle.std.proofs.lemmas.List.{length-map, get_or-map}
 use Rattle.query_model.specs.Texts.{quoted, value_text}
 use Rattle.chunk_data.specs.declared.typed_value.Value.TheVariants.{Text}

@@ -1,4 +1,4 @@
-use Rattle.std.proofs.Common.{arith, ap, sym, ◌∙◌, length, map, get_or, ◌≡◌, ◌<◌, ◌++◌, ◌∷◌, [], append_assoc, take}
+use Rattle.std.proofs.Common.{arith, ap, sym, ◌∙◌, length, map, ◌≡◌, ◌<◌, ◌++◌, ◌∷◌, [], append_assoc, take}
 use Rattle.std.specs.List.{join_with_byte}
 use Rattle.std.proofs.lemmas.List.{length-map, get_or-map, take_all}
 use Rattle.chunk_data.specs.Values.{value_at}

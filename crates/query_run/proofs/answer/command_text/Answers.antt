@@ -1,6 +1,4 @@
-use Rattle.std.proofs.Common.{◌≡◌, ap, sym, ◌∙◌}
-use Rattle.query_model.specs.declared.query.TableDecl.{TableDecl}
-use Rattle.query_run.specs.Choices.{IsChoice}
+use Rattle.std.proofs.Common.{◌≡◌}
 use Rattle.query_run.proofs.Composing.{first_table, choice_within, command_text_ok}
 use Rattle.query_run.proofs.answer.command_text.Goals as goal
 

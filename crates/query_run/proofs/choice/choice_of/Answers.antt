@@ -1,4 +1,4 @@
-use Rattle.std.proofs.Common.{◌≡◌, ap, sym, ◌∙◌, true, get_or, map, refl}
+use Rattle.std.proofs.Common.{◌≡◌, ◌∙◌, true, get_or, map, refl}
 use Rattle.std.specs.Prelude.{bytes_eq}
 use Rattle.std.specs.List.{list_any}
 use Rattle.query_model.specs.Checks.{place_of}

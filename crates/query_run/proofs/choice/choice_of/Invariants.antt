@@ -1,4 +1,4 @@
-use Rattle.std.proofs.Common.{◌≡◌, true, take, map}
+use Rattle.std.proofs.Common.{◌≡◌, true, take}
 use Rattle.query_model.specs.Projection.{column_places, has_columns}
 use Rattle.query_run.proofs.choice.choice_of.Given as goal
 

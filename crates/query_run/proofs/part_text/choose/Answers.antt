@@ -1,4 +1,4 @@
-use Rattle.std.proofs.Common.{◌≡◌, ap, sym, ◌∙◌, arith, map}
+use Rattle.std.proofs.Common.{◌≡◌, ap, ◌∙◌, arith, map}
 use Rattle.std.proofs.lemmas.List.{take_all}
 use Rattle.chunk_data.specs.Values.{value_at}
 use Rattle.chunk_data.specs.Columns.{values}

@@ -1,4 +1,4 @@
-use Rattle.std.proofs.Common.{◌≡◌, ◌<◌, ap, sym, ◌∙◌, arith, length, slice_index_or, []}
+use Rattle.std.proofs.Common.{◌≡◌, ap, sym, ◌∙◌, slice_index_or, []}
 use Rattle.csv.specs.Records.{fields_of}
 use Rattle.csv.proofs.RecordFacts.{field-get, field-there}
 use Rattle.csv_rows.proofs.record_reader.RecordReader.field.Goals as goal
