@@ -1,12 +1,12 @@
 -- A text behind `SELECT ` has one reading: its first name is the longest word at its front.
-use Rattle.std.proofs.Common.{◌≡◌, ℕ, ◌<◌, Bool, true, false, not, ◌&&◌, ◌⊎◌, inl, inr, List, [], ◌∷◌, ◌++◌, length, codes, refl, sym, ◌∙◌, ap, subst, append_assoc, arith}
+use Rattle.std.proofs.Common.{◌≡◌, ℕ, Bool, true, false, not, List, [], ◌∷◌, ◌++◌, codes, refl, sym, ◌∙◌, ap, subst, append_assoc, arith}
 use Rattle.std.proofs.lemmas.Bool.{and_parts, and_from, or_left, both_ways}
 use Rattle.std.proofs.lemmas.List.{append_cancel_left}
 use Rattle.std.proofs.lemmas.List.Elements.{All-nil, All-cons, All-head, All-tail}
-use Rattle.std.specs.List.{All, list_all}
+use Rattle.std.specs.List.{list_all}
 use Rattle.command_line.specs.Names.{is_name, is_word, is_letter, is_word_byte, is_keyword}
 use Rattle.command_line.specs.Projections.{listed_names, IsProjection, IsOnlyProjection, IsNoProjection}
-use Rattle.command_line.specs.Tails.{IsTail, IsOnlyTail, IsNoTail, IsNoFrom, starts, IsLeft, IsReadTo}
+use Rattle.command_line.specs.Tails.{IsTail, IsOnlyTail, IsNoTail, IsNoFrom, starts, IsReadTo}
 
 -- the longest words at the front of one text are the same
 same_front : (p : ℕ → Bool) (a b c d : List ℕ) → list_all p a ≡ true → starts p b ≡ false → list_all p c ≡ true → starts p d ≡ false → a ++ b ≡ c ++ d → (a ≡ c) × (b ≡ d)
