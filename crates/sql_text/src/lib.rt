@@ -1,0 +1,4 @@
+//! The parser of a query's text.
+#![tactic(auto)]
+
+mod part;
