@@ -12,13 +12,13 @@ abbrev pub no_dot : List Token → Bool
 no_dot (token.Sign sign.Dot ∷ ts) = false
 no_dot _ = true
 
-abbrev le_false : (a b : ℕ) → b < a → nat_le a b ≡ false
+pub le_false : (a b : ℕ) → b < a → nat_le a b ≡ false
 le_false a b h = grind arith
 
-abbrev le_true : (a b : ℕ) → a ≤ b → nat_le a b ≡ true
+pub le_true : (a b : ℕ) → a ≤ b → nat_le a b ≡ true
 le_true a b h = grind arith
 
-level_below : (j : Joint) → level j < 7
+pub level_below : (j : Joint) → level j < 7
 level_below joint.Or = omega arith
 level_below joint.And = omega arith
 level_below (joint.Compare o) = omega arith
