@@ -83,7 +83,9 @@ closed_spelled : (v : Parsed) (ts mid : Tokens) → IsPart 1 v ts mid
     → IfSome (closed_at v mid) (λ r. IsPart 7 r.0 (token.Sign sign.Open ∷ ts) r.1)
 closed_spelled (expression e) ts (token.Sign sign.Close ∷ rest) is = a_factor 7 (enclosed is.expr)
 closed_spelled (truth c) ts (token.Sign sign.Close ∷ rest) is = a_neg 7 (enclosed_cond is.cond')
-closed_spelled _ ts _ is = tt
+closed_spelled (expression e) ts _ is = tt
+closed_spelled (truth c) ts _ is = tt
+closed_spelled (string t) ts mid is = tt
 
 negation_spelled : (v : Parsed) (ts rest : Tokens) → IsPart 4 v ts rest
     → IfSome (negation_at v rest) (λ r. IsPart 7 r.0 (token.Keyword keyword.Not ∷ ts) r.1)

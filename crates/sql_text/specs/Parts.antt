@@ -85,12 +85,25 @@ side_of (expression e) = Some (plain e)
 side_of (string t) = Some (text t)
 side_of (truth c) = None
 
+abbrev pub plain_of : Parsed → Option Expression
+plain_of (expression e) = Some e
+plain_of (string t) = None
+plain_of (truth c) = None
+
+abbrev pub condition_of : Parsed → Option Condition
+condition_of (expression e) = None
+condition_of (string t) = None
+condition_of (truth c) = Some c
+
+-- the two of them joined, where both are there
+abbrev pub if_both : {A : Type 0} → (A → A → Parsed) → Option A → Option A → Option Parsed
+if_both join a b = option_and_then (λ l. option_map (λ r. join l r) b) a
+
 abbrev pub combined : Joint → Parsed → Parsed → Option Parsed
-combined (joint.Arith o) (expression a) (expression b) = Some (expression (arith o a b))
-combined (joint.Compare o) a b = option_and_then (λ l. option_map (λ r. truth (compare o l r)) (side_of b)) (side_of a)
-combined joint.And (truth a) (truth b) = Some (truth (both a b))
-combined joint.Or (truth a) (truth b) = Some (truth (either a b))
-combined _ _ _ = None
+combined (joint.Arith o) a b = if_both (λ l r. expression (arith o l r)) (plain_of a) (plain_of b)
+combined (joint.Compare o) a b = if_both (λ l r. truth (compare o l r)) (side_of a) (side_of b)
+combined joint.And a b = if_both (λ l r. truth (both l r)) (condition_of a) (condition_of b)
+combined joint.Or a b = if_both (λ l r. truth (either l r)) (condition_of a) (condition_of b)
 
 -- ---- single parts
 
@@ -106,10 +119,14 @@ abbrev pub negative_at : List Token → Reading Parsed
 negative_at (token.Number n ∷ ts) = Some (expression (number (record { negative = true; size = n })), ts)
 negative_at _ = None
 
+abbrev pub after_close : List Token → Option (List Token)
+after_close (token.Sign sign.Close ∷ ts) = Some ts
+after_close _ = None
+
 abbrev pub closed_at : Parsed → List Token → Reading Parsed
-closed_at (expression e) (token.Sign sign.Close ∷ ts) = Some (expression e, ts)
-closed_at (truth c) (token.Sign sign.Close ∷ ts) = Some (truth c, ts)
-closed_at _ _ = None
+closed_at (expression e) ts = option_map (λ rest. (expression e, rest)) (after_close ts)
+closed_at (string t) ts = None
+closed_at (truth c) ts = option_map (λ rest. (truth c, rest)) (after_close ts)
 
 abbrev pub negation_at : Parsed → List Token → Reading Parsed
 negation_at (truth c) ts = Some (truth (negated c), ts)

@@ -1,10 +1,21 @@
 // Expressions and conditions.
+ghost use Rattle.std.specs.Prelude.{◌≡◌, ℕ, ◌+◌, ◌<◌, ◌≤◌, length, List, Some, None, option_map, OnOk, IfOk};
+ghost use Rattle.query_model.specs.Formulas.{formula, arith};
+ghost use Rattle.sql_text.specs.declared.part.Joint.TheVariants.{Arith, Compare, And, Or};
+ghost use Rattle.sql_grammar.specs.declared.Token.{Token};
+ghost use Rattle.sql_grammar.specs.Trees.{side, condition, both, either};
+ghost use Rattle.sql_text.specs.Answers.{Gives};
+ghost use Rattle.sql_text.specs.Parts.{parsed, sign_joint, keyword_joint, joint_of, level, next_joint, combined, side_of, plain_of, condition_of, column_at, negative_at, after_close, closed_at, negation_at, first_sign, first_keyword, first_part, joined, part_at};
+
+use crate::stop::{Stop, next_token};
 use chunk_data::Bytes;
-use query_model::query::{ArithOp, ColumnRef, CompareOp, CondOf, ExprOf};
+use query_model::query::{ArithOp, ColumnRef, CompareOp, CondOf, ExprOf, Number, Operand};
+use sql_grammar::{Keyword, Sign, Token};
+use std::alloc::Global;
 
 // What joins two parts.
 #[derive(Clone, Copy)]
-enum Joint {
+pub enum Joint {
     Arith(ArithOp),
     Compare(CompareOp),
     And,
@@ -13,8 +24,289 @@ enum Joint {
 
 // A part of an expression or a condition.
 #[derive(Drop)]
-enum Part {
+pub enum Part {
     Plain(ExprOf<ColumnRef>),
     Text(Bytes),
     Condition(CondOf<ColumnRef>),
+}
+
+pub fn sign_joint(sign: Sign) -> Option<Joint>
+    ensures { result ≡ sign_joint sign }
+{
+    match sign {
+        Sign::Plus => Some(Joint::Arith(ArithOp::Add)),
+        Sign::Minus => Some(Joint::Arith(ArithOp::Sub)),
+        Sign::Star => Some(Joint::Arith(ArithOp::Mul)),
+        Sign::Equal => Some(Joint::Compare(CompareOp::Eq)),
+        Sign::NotEqual => Some(Joint::Compare(CompareOp::Ne)),
+        Sign::Less => Some(Joint::Compare(CompareOp::Lt)),
+        Sign::LessEqual => Some(Joint::Compare(CompareOp::Le)),
+        Sign::Greater => Some(Joint::Compare(CompareOp::Gt)),
+        Sign::GreaterEqual => Some(Joint::Compare(CompareOp::Ge)),
+        Sign::Open | Sign::Close | Sign::Comma | Sign::Dot | Sign::Semicolon => None,
+    }
+}
+
+pub fn keyword_joint(keyword: Keyword) -> Option<Joint>
+    ensures { result ≡ keyword_joint keyword }
+{
+    match keyword {
+        Keyword::And => Some(Joint::And),
+        Keyword::Or => Some(Joint::Or),
+        _ => None,
+    }
+}
+
+pub fn joint_of(token: &Token) -> Option<Joint>
+    ensures { result ≡ joint_of token.now }
+{
+    match token {
+        Token::Sign(sign) => sign_joint(*sign),
+        Token::Keyword(keyword) => keyword_joint(*keyword),
+        Token::Name(_) | Token::Number(_) | Token::LargeNumber | Token::Text(_) => None,
+    }
+}
+
+pub fn level(joint: Joint) -> u8
+    ensures { result ≡ level joint }
+{
+    match joint {
+        Joint::Or => 1,
+        Joint::And => 2,
+        Joint::Compare(_) => 4,
+        Joint::Arith(ArithOp::Add | ArithOp::Sub) => 5,
+        Joint::Arith(ArithOp::Mul) => 6,
+    }
+}
+
+pub fn next_joint(least: u8, tokens: &[Token]) -> Option<(Joint, &[Token])>
+    ensures { option_map (λ p. (p.0, p.1.now)) result ≡ next_joint least tokens.now }
+{
+    let (token, rest) = tokens.split_first()?;
+    let joint = joint_of(token)?;
+    if least <= level(joint) {
+        Some((joint, rest))
+    } else {
+        None
+    }
+}
+
+pub fn side_of(part: Part) -> Result<Operand<ColumnRef>, Stop>
+    ensures { Gives side result (side_of (parsed part)) }
+{
+    match part {
+        Part::Plain(e) => Ok(Operand::Plain(e)),
+        Part::Text(t) => Ok(Operand::Text(t)),
+        Part::Condition(_) => Err(Stop::Syntax),
+    }
+}
+
+pub fn plain_of(part: Part) -> Result<ExprOf<ColumnRef>, Stop>
+    ensures { Gives formula result (plain_of (parsed part)) }
+{
+    match part {
+        Part::Plain(e) => Ok(e),
+        Part::Text(_) | Part::Condition(_) => Err(Stop::Syntax),
+    }
+}
+
+pub fn condition_of(part: Part) -> Result<CondOf<ColumnRef>, Stop>
+    ensures { Gives condition result (condition_of (parsed part)) }
+{
+    match part {
+        Part::Condition(c) => Ok(c),
+        Part::Plain(_) | Part::Text(_) => Err(Stop::Syntax),
+    }
+}
+
+fn arithmetic(alloc: Global, op: ArithOp, a: ExprOf<ColumnRef>, b: ExprOf<ColumnRef>) -> Result<ExprOf<ColumnRef>, Stop>
+    ensures { Gives formula result (Some (arith op (formula a) (formula b))) }
+{
+    let a = Box::new(alloc, a)?;
+    let b = Box::new(alloc, b)?;
+    Ok(ExprOf::Arith(op, a, b))
+}
+
+fn conjunction(alloc: Global, a: CondOf<ColumnRef>, b: CondOf<ColumnRef>) -> Result<CondOf<ColumnRef>, Stop>
+    ensures { Gives condition result (Some (both (condition a) (condition b))) }
+{
+    let a = Box::new(alloc, a)?;
+    let b = Box::new(alloc, b)?;
+    Ok(CondOf::And(a, b))
+}
+
+fn disjunction(alloc: Global, a: CondOf<ColumnRef>, b: CondOf<ColumnRef>) -> Result<CondOf<ColumnRef>, Stop>
+    ensures { Gives condition result (Some (either (condition a) (condition b))) }
+{
+    let a = Box::new(alloc, a)?;
+    let b = Box::new(alloc, b)?;
+    Ok(CondOf::Or(a, b))
+}
+
+fn calculated(alloc: Global, op: ArithOp, left: Part, right: Part) -> Result<Part, Stop>
+    ensures { Gives parsed result (combined (Arith op) (parsed left) (parsed right)) }
+{
+    let a = plain_of(left)?;
+    let b = plain_of(right)?;
+    Ok(Part::Plain(arithmetic(alloc, op, a, b)?))
+}
+
+fn compared(op: CompareOp, left: Part, right: Part) -> Result<Part, Stop>
+    ensures { Gives parsed result (combined (Compare op) (parsed left) (parsed right)) }
+{
+    let a = side_of(left)?;
+    let b = side_of(right)?;
+    Ok(Part::Condition(CondOf::Compare(op, a, b)))
+}
+
+fn both_of(alloc: Global, left: Part, right: Part) -> Result<Part, Stop>
+    ensures { Gives parsed result (combined And (parsed left) (parsed right)) }
+{
+    let a = condition_of(left)?;
+    let b = condition_of(right)?;
+    Ok(Part::Condition(conjunction(alloc, a, b)?))
+}
+
+fn either_of(alloc: Global, left: Part, right: Part) -> Result<Part, Stop>
+    ensures { Gives parsed result (combined Or (parsed left) (parsed right)) }
+{
+    let a = condition_of(left)?;
+    let b = condition_of(right)?;
+    Ok(Part::Condition(disjunction(alloc, a, b)?))
+}
+
+fn combined(alloc: Global, joint: Joint, left: Part, right: Part) -> Result<Part, Stop>
+    ensures { Gives parsed result (combined joint (parsed left) (parsed right)) }
+{
+    match joint {
+        Joint::Arith(op) => calculated(alloc, op, left, right),
+        Joint::Compare(op) => compared(op, left, right),
+        Joint::And => both_of(alloc, left, right),
+        Joint::Or => either_of(alloc, left, right),
+    }
+}
+
+pub fn column_at<'a>(name: &Bytes, tokens: &'a [Token]) -> Result<(Part, &'a [Token]), Stop>
+    ensures { Gives (λ p. (parsed p.0, p.1.now)) result (Some (column_at name.now tokens.now)) }
+{
+    let first = name.copy()?;
+    if let [Token::Sign(Sign::Dot), Token::Name(column), ..] = tokens {
+        let name = column.copy()?;
+        let column = ColumnRef { table: Some(first), name };
+        return Ok((Part::Plain(ExprOf::Column(column)), &tokens[2..]));
+    }
+    let column = ColumnRef { table: None, name: first };
+    Ok((Part::Plain(ExprOf::Column(column)), tokens))
+}
+
+pub fn negative_at(tokens: &[Token]) -> Result<(Part, &[Token]), Stop>
+    ensures { Gives (λ p. (parsed p.0, p.1.now)) result (negative_at tokens.now) }
+{
+    let (token, rest) = next_token(tokens)?;
+    match token {
+        Token::Number(size) => {
+            let number = Number { negative: true, size: *size };
+            Ok((Part::Plain(ExprOf::Number(number)), rest))
+        }
+        _ => Err(Stop::Syntax),
+    }
+}
+
+pub fn after_close(tokens: &[Token]) -> Result<&[Token], Stop>
+    ensures { Gives (λ rest. rest.now) result (after_close tokens.now) }
+{
+    let (token, rest) = next_token(tokens)?;
+    match token {
+        Token::Sign(Sign::Close) => Ok(rest),
+        _ => Err(Stop::Syntax),
+    }
+}
+
+pub fn closed_at(part: Part, tokens: &[Token]) -> Result<(Part, &[Token]), Stop>
+    ensures { Gives (λ p. (parsed p.0, p.1.now)) result (closed_at (parsed part) tokens.now) }
+{
+    match part {
+        Part::Plain(e) => Ok((Part::Plain(e), after_close(tokens)?)),
+        Part::Text(_) => Err(Stop::Syntax),
+        Part::Condition(c) => Ok((Part::Condition(c), after_close(tokens)?)),
+    }
+}
+
+pub fn negated(alloc: Global, part: Part) -> Result<Part, Stop>
+    ensures { (rest : List Token) → Gives (λ p. (parsed p, rest)) result (negation_at (parsed part) rest) }
+{
+    match part {
+        Part::Condition(c) => Ok(Part::Condition(CondOf::Not(Box::new(alloc, c)?))),
+        Part::Plain(_) | Part::Text(_) => Err(Stop::Syntax),
+    }
+}
+
+#[cycle(part)]
+pub fn first_sign<'a>(alloc: Global, sign: Sign, tokens: &'a [Token], depth: usize) -> Result<(Part, &'a [Token]), Stop>
+    ensures { Gives (λ p. (parsed p.0, p.1.now)) result (first_sign (part_at depth) sign tokens.now) }
+{
+    match sign {
+        Sign::Minus => negative_at(tokens),
+        Sign::Open => {
+            let (part, rest) = part_at(alloc, 1, tokens, depth)?;
+            closed_at(part, rest)
+        }
+        _ => Err(Stop::Syntax),
+    }
+}
+
+#[cycle(part)]
+pub fn first_keyword<'a>(alloc: Global, keyword: Keyword, tokens: &'a [Token], depth: usize) -> Result<(Part, &'a [Token]), Stop>
+    ensures { Gives (λ p. (parsed p.0, p.1.now)) result (first_keyword (part_at depth) keyword tokens.now) }
+{
+    match keyword {
+        Keyword::Not => {
+            let (part, rest) = part_at(alloc, 4, tokens, depth)?;
+            Ok((negated(alloc, part)?, rest))
+        }
+        _ => Err(Stop::Syntax),
+    }
+}
+
+#[cycle(part)]
+pub fn first_part<'a>(alloc: Global, tokens: &'a [Token], depth: usize) -> Result<(Part, &'a [Token]), Stop>
+    ensures { Gives (λ p. (parsed p.0, p.1.now)) result (first_part (part_at depth) tokens.now) }
+{
+    let (token, rest) = next_token(tokens)?;
+    match token {
+        Token::Name(name) => column_at(name, rest),
+        Token::Keyword(keyword) => first_keyword(alloc, *keyword, rest, depth),
+        Token::Number(size) => {
+            let number = Number { negative: false, size: *size };
+            Ok((Part::Plain(ExprOf::Number(number)), rest))
+        }
+        Token::LargeNumber => Err(Stop::Syntax),
+        Token::Text(text) => Ok((Part::Text(text.copy()?), rest)),
+        Token::Sign(sign) => first_sign(alloc, *sign, rest, depth),
+    }
+}
+
+#[cycle(part)]
+pub fn part_at<'a>(alloc: Global, least: u8, tokens: &'a [Token], depth: usize) -> Result<(Part, &'a [Token]), Stop>
+    ensures { Gives (λ p. (parsed p.0, p.1.now)) result (part_at depth least tokens.now) }
+{
+    if depth == 0 {
+        return Err(Stop::Syntax);
+    }
+    let (first, rest) = first_part(alloc, tokens, depth - 1)?;
+    joined(alloc, least, first, rest, depth - 1)
+}
+
+#[cycle(part)]
+pub fn joined<'a>(alloc: Global, least: u8, first: Part, tokens: &'a [Token], depth: usize) -> Result<(Part, &'a [Token]), Stop>
+    ensures { Gives (λ p. (parsed p.0, p.1.now)) result (joined (part_at depth) least (length tokens.now + 1) (parsed first) tokens.now) }
+{
+    let mut part = first;
+    let mut rest = tokens;
+    while let Some((joint, behind)) = next_joint(least, rest) {
+        let (right, after) = part_at(alloc, level(joint) + 1, behind, depth)?;
+        part = combined(alloc, joint, part, right)?;
+        rest = after;
+    }
+    Ok((part, rest))
 }
