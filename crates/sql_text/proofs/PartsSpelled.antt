@@ -16,13 +16,19 @@ use Rattle.sql_grammar.specs.Trees.{Expression, Side, plain, text, call, Conditi
 use Rattle.sql_grammar.specs.Grammar.{Tokens, IsColumn, unqualified, qualified, IsExpr, one_term, sum, difference, IsTerm, one_factor, product, IsFactor, a_column, a_number, negative, enclosed, IsOperand, an_expr, a_string, IsComparison, equal, not_equal, less, less_equal, greater, greater_equal, IsCond, one_conj, disjunction, IsConj, one_neg, conjunction, IsNeg, negation, enclosed_cond, comparison}
 use Rattle.sql_text.specs.declared.part.Joint.{Joint}
 use Rattle.sql_text.specs.declared.part.Joint.TheVariants as joint
-use Rattle.sql_text.specs.Parts.{Parsed, expression, string, truth, Reading, Reads, sign_joint, keyword_joint, joint_of, level, if_level, next_joint, combined, side_of, column_at, negative_at, closed_at, negation_at, first_sign, first_keyword, first_part, joined_at, joined, part_at}
-use Rattle.sql_text.proofs.Turns.{le_false, le_true, level_below, loose, tighter}
+use Rattle.sql_text.specs.Parts.{Parsed, expression, string, truth, Reading, Reads, sign_joint, keyword_joint, joint_of, level, if_level, next_joint, combined, side_of, column_at, negative_at, closed_at, negation_at, first_sign, first_keyword, first_part, turn_of, joined_at, joined, part_at}
+use Rattle.sql_text.proofs.Turns.{level_below, loose, tighter}
+use Rattle.sql_text.proofs.PartsFound.{expr_shorter, cond_shorter}
 
 pub bind : {A B : Type 0} (P : A → Type 0) (Q : B → Type 0) (f : A → Option B) (o : Option A)
     → IfSome o P → ((x : A) → P x → IfSome (f x) Q) → IfSome (option_and_then f o) Q
 bind P Q f None h k = tt
 bind P Q f (Some x) h k = k x h
+
+map_some : {A B : Type 0} (P : A → Type 0) (Q : B → Type 0) (f : A → B) (o : Option A)
+    → IfSome o P → ((x : A) → P x → Q (f x)) → IfSome (option_map f o) Q
+map_some P Q f None h k = tt
+map_some P Q f (Some x) h k = k x h
 
 -- ---- parts by how tightly they hold together
 
@@ -239,6 +245,20 @@ combined_spelled (joint.Compare o) bound v w ts mid rest t is h l r =
 combined_spelled joint.And bound v w ts mid rest t is h l r = and_spelled bound v w ts mid rest t is h l r
 combined_spelled joint.Or bound v w ts mid rest t is h l r = or_spelled bound v w ts mid rest t is l r
 
+-- a part with all that joints of its level join to it
+record IsTurned (tight : ℕ) (v : Parsed) (ts rest : Tokens) : Type 0 where
+  is : IsPart tight v ts rest
+  none : next_joint (suc tight) rest ≡ None
+
+turn_spelled : (right : Reads) → AreSpelled right → (j : Joint) (bound : ℕ) (v : Parsed) (ts mid : Tokens) (t : Token)
+    → IsJoint j t → level j ≤ bound → IsPart bound v ts (t ∷ mid) → IfSome (turn_of right j v mid) (λ r. IsTurned (level j) r.0 ts r.1)
+turn_spelled right h j bound v ts mid t is high left =
+    bind (λ r. Found (suc (level j)) r.0 mid r.1) (λ r. IsTurned (level j) r.0 ts r.1) (λ r. option_map (λ p. (p, r.1)) (combined j v r.0))
+    (right (suc (level j)) mid) (h (suc (level j)) mid (level_below j))
+    (λ r found. map_some (λ u. IsPart (level j) u ts r.1) (λ r. IsTurned (level j) r.0 ts r.1) (λ p. (p, r.1)) (combined j v r.0)
+        (combined_spelled j bound v r.0 ts mid r.1 t is high left found.is)
+        (λ u part. record { is = part; none = found.none }))
+
 -- what the turns keep: the part at the left, behind which none binds more tightly than bound
 abbrev GoOn : (Parsed → Tokens → Reading Parsed) → ℕ → Type 0
 GoOn more least = (bound : ℕ) (v : Parsed) (ts mid : Tokens) → least ≤ bound → IsPart bound v ts mid
@@ -250,13 +270,9 @@ joined_at-spelled : (right : Reads) → AreSpelled right → (more : Parsed → 
     → IfSome (joined_at right more v mid o) (λ r. Found least r.0 ts r.1)
 joined_at-spelled right h more least go bound v ts mid k is None e joins = record { is = lower least bound v ts mid k is; none = e }
 joined_at-spelled right h more least go bound v ts mid k is (Some n) e joins =
-    let j = n.0 in
-    let left = subst (λ (x : Tokens). IsPart bound v ts x) joins.front is in
-    bind (λ r. Found (suc (level j)) r.0 n.1 r.1) (λ r. Found least r.0 ts r.1) (λ r. option_and_then (λ p. more p r.1) (combined j v r.0))
-    (right (suc (level j)) n.1) (h (suc (level j)) n.1 (level_below j))
-    (λ r found. bind (λ u. IsPart (level j) u ts r.1) (λ r. Found least r.0 ts r.1) (λ p. more p r.1) (combined j v r.0)
-        (combined_spelled j bound v r.0 ts n.1 r.1 joins.token joins.is joins.high left found.is)
-        (λ u part. go (level j) u ts r.1 joins.low part found.none))
+    bind (λ r. IsTurned (level n.0) r.0 ts r.1) (λ r. Found least r.0 ts r.1) (λ p. more p.0 p.1) (turn_of right n.0 v n.1)
+    (turn_spelled right h n.0 bound v ts n.1 joins.token joins.is joins.high (subst (λ (x : Tokens). IsPart bound v ts x) joins.front is))
+    (λ r turned. go (level n.0) r.0 ts r.1 joins.low turned.is turned.none)
 
 joined_spelled : (right : Reads) → AreSpelled right → (least turns : ℕ) → GoOn (joined right least turns) least
 unfolding joined
@@ -273,3 +289,32 @@ part_spelled (suc depth) least ts k =
     (λ p. joined (part_at depth) least (suc (length p.1)) p.0 p.1) (first_part (part_at depth) ts)
     (first_spelled (part_at depth) (part_spelled depth) ts)
     (λ p is. joined_spelled (part_at depth) (part_spelled depth) least (suc (length p.1)) 7 p.0 ts p.1 k is (tighter 7 8 p.1 (omega arith) (loose p.1)))
+
+is_shorter : (tight : ℕ) (v : Parsed) (ts rest : Tokens) → IsPart tight v ts rest → length rest < length ts
+is_shorter tight (expression e) ts rest is = expr_shorter is.expr
+is_shorter tight (string t) ts rest is = omega (arith, ap (length {A = Token}) is)
+is_shorter tight (truth c) ts rest is = cond_shorter is.cond'
+
+-- what is read takes a token
+reads_shorter : (depth least : ℕ) (ts : Tokens) → least ≤ 7 → IfSome (part_at depth least ts) (λ r. length r.1 < length ts)
+reads_shorter depth least ts h =
+    if_some _ _ (part_at depth least ts) (part_spelled depth least ts h) (λ r found. is_shorter least r.0 ts r.1 found.is)
+  where
+    if_some : {A : Type 0} (P Q : A → Type 0) (o : Option A) → IfSome o P → ((x : A) → P x → Q x) → IfSome o Q
+    if_some P Q None h k = tt
+    if_some P Q (Some x) h k = k x h
+
+pub turn_shorter : (depth : ℕ) (j : Joint) (v : Parsed) (ts : Tokens) → IfSome (turn_of (part_at depth) j v ts) (λ r. length r.1 < length ts)
+turn_shorter depth j v ts =
+    bind (λ r. length r.1 < length ts) (λ r. length r.1 < length ts) (λ r. option_map (λ p. (p, r.1)) (combined j v r.0))
+    (part_at depth (suc (level j)) ts) (reads_shorter depth (suc (level j)) ts (level_below j))
+    (λ r less. map_some (λ u. Unit {0}) (λ r. length r.1 < length ts) (λ p. (p, r.1)) (combined j v r.0) (any_some (combined j v r.0)) (λ u n. less))
+  where
+    any_some : (o : Option Parsed) → IfSome o (λ u. Unit {0})
+    any_some None = tt
+    any_some (Some u) = tt
+
+pub turn_takes : (depth : ℕ) (j : Joint) (v u : Parsed) (ts rest : Tokens) → turn_of (part_at depth) j v ts ≡ Some (u, rest)
+    → length rest < length ts
+turn_takes depth j v u ts rest turned =
+    subst (λ (r : Reading Parsed). IfSome r (λ r. length r.1 < length ts)) turned (turn_shorter depth j v ts)

@@ -1,12 +1,15 @@
 -- One turn of the reading of parts, and when it ends.
-use Rattle.std.proofs.Common.{◌≡◌, ℕ, zero, suc, ◌+◌, ◌<◌, ◌≤◌, Bool, true, false, nat_le, List, [], ◌∷◌, length, Option, Some, None, option_and_then, refl, sym, ap, ◌∙◌, arith}
+use Rattle.std.proofs.Common.{◌≡◌, ℕ, zero, suc, ◌+◌, ◌-◌, ◌<◌, ◌≤◌, Bool, true, false, nat_le, List, [], ◌∷◌, length, Option, Some, None, option_and_then, option_map, refl, sym, ap, ◌∙◌, arith}
 use Rattle.query_model.specs.declared.query.ArithOp.TheVariants as op
 use Rattle.sql_grammar.specs.declared.Token.{Token}
 use Rattle.sql_grammar.specs.declared.Token.TheVariants as token
 use Rattle.sql_grammar.specs.declared.Sign.TheVariants as sign
 use Rattle.sql_text.specs.declared.part.Joint.{Joint}
 use Rattle.sql_text.specs.declared.part.Joint.TheVariants as joint
-use Rattle.sql_text.specs.Parts.{Parsed, Reading, Reads, joint_of, level, if_level, next_joint, combined, first_part, joined_at, joined, part_at}
+use Rattle.sql_text.specs.declared.stop.Stop.{Stop}
+use Rattle.sql_text.specs.declared.stop.Stop.TheVariants as stop
+use Rattle.sql_text.specs.Answers.{Fails}
+use Rattle.sql_text.specs.Parts.{Parsed, Reading, Reads, joint_of, level, if_level, next_joint, combined, first_part, turn_of, joined_at, joined, part_at}
 
 abbrev pub no_dot : List Token → Bool
 no_dot (token.Sign sign.Dot ∷ ts) = false
@@ -65,19 +68,23 @@ from_first n least v ts rest h = record {
   goes = ap (option_and_then (λ p. joined (part_at n) least (suc (length p.1)) p.0 p.1)) h;
 }
 
-stop : (right : Reads) (least turns : ℕ) (v : Parsed) (ts : List Token) → 0 < turns → next_joint least ts ≡ None → joined right least turns v ts ≡ Some (v, ts)
+end_of_turns : (right : Reads) (least turns : ℕ) (v : Parsed) (ts : List Token) → 0 < turns → next_joint least ts ≡ None → joined right least turns v ts ≡ Some (v, ts)
 unfolding joined
-stop right least zero v ts h none = absurd (omega arith)
-stop right least (suc turns) v ts h none = ap (joined_at right (joined right least turns) v ts) none
+end_of_turns right least zero v ts h none = absurd (omega arith)
+end_of_turns right least (suc turns) v ts h none = ap (joined_at right (joined right least turns) v ts) none
 
-turn : (right : Reads) (least turns : ℕ) (j : Joint) (v w u : Parsed) (ts mid rest : List Token)
-    → next_joint least ts ≡ Some (j, mid) → right (suc (level j)) mid ≡ Some (w, rest) → combined j v w ≡ Some u
+turned_by : (right : Reads) (j : Joint) (v w u : Parsed) (mid rest : List Token)
+    → right (suc (level j)) mid ≡ Some (w, rest) → combined j v w ≡ Some u → turn_of right j v mid ≡ Some (u, rest)
+turned_by right j v w u mid rest read join =
+    ap (option_and_then (λ r. option_map (λ p. (p, r.1)) (combined j v r.0))) read ∙ ap (option_map (λ p. (p, rest))) join
+
+turn : (right : Reads) (least turns : ℕ) (j : Joint) (v u : Parsed) (ts mid rest : List Token)
+    → next_joint least ts ≡ Some (j, mid) → turn_of right j v mid ≡ Some (u, rest)
     → joined right least (suc turns) v ts ≡ joined right least turns u rest
 unfolding joined
-turn right least turns j v w u ts mid rest next read join =
+turn right least turns j v u ts mid rest next turned =
     let more = joined right least turns in
-    ap (joined_at right more v ts) next ∙ ap (option_and_then (λ r. option_and_then (λ p. more p r.1) (combined j v r.0))) read
-        ∙ ap (option_and_then (λ p. more p rest)) join
+    ap (joined_at right more v ts) next ∙ ap (option_and_then (λ p. more p.0 p.1)) turned
 
 some_turns : (turns : ℕ) → 0 < turns → (k : ℕ) × (turns ≡ suc k)
 some_turns zero h = absurd (omega arith)
@@ -91,15 +98,80 @@ onward n least j v w u ts at mid rest g next read join shorter later =
     record {
       turns = k.0;
       enough = omega (arith, g.enough, k.1);
-      goes = g.goes ∙ ap (λ t. joined (part_at n) least t v at) k.1 ∙ turn (part_at n) least k.0 j v w u at mid rest next read join;
+      goes = g.goes ∙ ap (λ t. joined (part_at n) least t v at) k.1 ∙ turn (part_at n) least k.0 j v u at mid rest next (turned_by (part_at n) j v w u mid rest read join);
     }
 
 pub whole : (n least : ℕ) (v : Parsed) (ts rest : List Token) → Goes n least v ts rest → next_joint least rest ≡ None
     → part_at (suc n) least ts ≡ Some (v, rest)
-whole n least v ts rest g none = g.goes ∙ stop (part_at n) least g.turns v rest (omega (arith, g.enough)) none
+whole n least v ts rest g none = g.goes ∙ end_of_turns (part_at n) least g.turns v rest (omega (arith, g.enough)) none
 
 -- the same at any depth that is enough
 pub deeper : (n least : ℕ) (v : Parsed) (ts rest : List Token) → length ts ≤ n → length rest < length ts
     → ((m : ℕ) → length ts ≤ suc m → Goes m least v ts rest) → next_joint least rest ≡ None → part_at n least ts ≡ Some (v, rest)
 deeper zero least v ts rest h shorter goes none = absurd (omega arith)
 deeper (suc m) least v ts rest h shorter goes none = whole m least v ts rest (goes m h) none
+
+-- The reading is the one that goes on behind the part v, at ts.
+pub record IsAt (right : Reads) (least : ℕ) (reading : Reading Parsed) (v : Parsed) (ts : List Token) : Type 0 where
+  pub turns : ℕ
+  pub enough : length ts < turns
+  pub same : reading ≡ joined right least turns v ts
+
+pub at_first : (right : Reads) (least : ℕ) (v : Parsed) (ts : List Token) → IsAt right least (joined right least (suc (length ts)) v ts) v ts
+at_first right least v ts = record { turns = suc (length ts); enough = omega arith; same = refl }
+
+pub at_next : (right : Reads) (least : ℕ) (reading : Reading Parsed) (j : Joint) (v u : Parsed) (ts mid rest : List Token)
+    → IsAt right least reading v ts → next_joint least ts ≡ Some (j, mid) → turn_of right j v mid ≡ Some (u, rest)
+    → length rest < length ts → IsAt right least reading u rest
+at_next right least reading j v u ts mid rest at next turned shorter =
+    let k = some_turns at.turns (omega (arith, at.enough)) in
+    record {
+      turns = k.0;
+      enough = omega (arith, at.enough, k.1);
+      same = at.same ∙ ap (λ t. joined right least t v ts) k.1 ∙ turn right least k.0 j v u ts mid rest next turned;
+    }
+
+pub at_end : (right : Reads) (least : ℕ) (reading : Reading Parsed) (v : Parsed) (ts : List Token)
+    → IsAt right least reading v ts → next_joint least ts ≡ None → reading ≡ Some (v, ts)
+at_end right least reading v ts at none = at.same ∙ end_of_turns right least at.turns v ts (omega (arith, at.enough)) none
+
+no_turn : (right : Reads) (least turns : ℕ) (j : Joint) (v : Parsed) (ts mid : List Token) → next_joint least ts ≡ Some (j, mid)
+    → turn_of right j v mid ≡ None → joined right least (suc turns) v ts ≡ None
+unfolding joined
+no_turn right least turns j v ts mid next none =
+    let more = joined right least turns in
+    ap (joined_at right more v ts) next ∙ ap (option_and_then (λ p. more p.0 p.1)) none
+
+pub at_fault : (right : Reads) (least : ℕ) (reading : Reading Parsed) (j : Joint) (v : Parsed) (ts mid : List Token)
+    → IsAt right least reading v ts → next_joint least ts ≡ Some (j, mid) → turn_of right j v mid ≡ None → reading ≡ None
+at_fault right least reading j v ts mid at next none =
+    let k = some_turns at.turns (omega (arith, at.enough)) in
+    at.same ∙ ap (λ t. joined right least t v ts) k.1 ∙ no_turn right least k.0 j v ts mid next none
+
+pub no_depth : (least : ℕ) (ts : List Token) → part_at 0 least ts ≡ None
+unfolding part_at
+no_depth least ts = refl
+
+pub part_goes : (depth least : ℕ) (ts : List Token) → 0 < depth → part_at depth least ts
+    ≡ option_and_then (λ p. joined (part_at (depth - 1)) least (suc (length p.1)) p.0 p.1) (first_part (part_at (depth - 1)) ts)
+unfolding part_at
+part_goes zero least ts h = absurd (omega arith)
+part_goes (suc depth) least ts h =
+    ap (λ d. option_and_then (λ p. joined (part_at d) least (suc (length p.1)) p.0 p.1) (first_part (part_at d) ts)) (depth_is depth)
+  where
+    depth_is : (depth : ℕ) → depth ≡ suc depth - 1
+    depth_is depth = omega arith
+
+-- a fault inside is a fault of the whole
+pub fault_goes : {Y W : Type 0} (e : Stop) (read : Option Y) (outer : Option W) → Fails e read → (read ≡ None → outer ≡ None) → Fails e outer
+fault_goes stop.Syntax read outer h k = k h
+fault_goes stop.Memory read outer h k = tt
+
+front_shorter : (least : ℕ) (ts mid : List Token) (o : Option Joint) (j : Joint) → if_level least ts o ≡ Some (j, mid) → mid ≡ ts
+front_shorter least ts mid None j h = cc
+front_shorter least ts mid (Some i) j h = grind arith
+
+-- a joint takes a token
+pub next_shorter : (least : ℕ) (ts mid : List Token) (j : Joint) → next_joint least ts ≡ Some (j, mid) → length mid < length ts
+next_shorter least [] mid j h = cc
+next_shorter least (t ∷ ts) mid j h = omega (arith, ap (length {A = Token}) (front_shorter least ts mid (joint_of t) j h))

@@ -153,10 +153,13 @@ first_part inner (token.Sign s ∷ ts) = first_sign inner s ts
 
 -- ---- parts with their joints
 
+-- the part at the left with what the joint joins to it
+abbrev pub turn_of : Reads → Joint → Parsed → List Token → Reading Parsed
+turn_of right j left ts = option_and_then (λ r. option_map (λ p. (p, r.1)) (combined j left r.0)) (right (suc (level j)) ts)
+
 abbrev pub joined_at : Reads → (Parsed → List Token → Reading Parsed) → Parsed → List Token → Option (Joint × List Token) → Reading Parsed
 joined_at right more left ts None = Some (left, ts)
-joined_at right more left ts (Some j) =
-    option_and_then (λ r. option_and_then (λ p. more p r.1) (combined j.0 left r.0)) (right (suc (level j.0)) j.1)
+joined_at right more left ts (Some j) = option_and_then (λ p. more p.0 p.1) (turn_of right j.0 left j.1)
 
 -- The part at the left, and what joints as tight as least join to it from the left on. The last number bounds the turns.
 unfoldable pub joined : Reads → ℕ → ℕ → Parsed → List Token → Reading Parsed

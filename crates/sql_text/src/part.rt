@@ -1,11 +1,11 @@
 // Expressions and conditions.
-ghost use Rattle.std.specs.Prelude.{◌≡◌, ℕ, ◌+◌, ◌<◌, ◌≤◌, length, List, Some, None, option_map, OnOk, IfOk};
+ghost use Rattle.std.specs.Prelude.{◌≡◌, ℕ, suc, ◌+◌, ◌<◌, ◌≤◌, length, List, Some, None, option_map, OnOk, IfOk};
 ghost use Rattle.query_model.specs.Formulas.{formula, arith};
 ghost use Rattle.sql_text.specs.declared.part.Joint.TheVariants.{Arith, Compare, And, Or};
 ghost use Rattle.sql_grammar.specs.declared.Token.{Token};
 ghost use Rattle.sql_grammar.specs.Trees.{side, condition, both, either};
 ghost use Rattle.sql_text.specs.Answers.{Gives};
-ghost use Rattle.sql_text.specs.Parts.{parsed, sign_joint, keyword_joint, joint_of, level, next_joint, combined, side_of, plain_of, condition_of, column_at, negative_at, after_close, closed_at, negation_at, first_sign, first_keyword, first_part, joined, part_at};
+ghost use Rattle.sql_text.specs.Parts.{parsed, sign_joint, keyword_joint, joint_of, level, next_joint, combined, side_of, plain_of, condition_of, column_at, negative_at, after_close, closed_at, negation_at, first_sign, first_keyword, first_part, turn_of, joined, part_at};
 
 use crate::stop::{Stop, next_token};
 use chunk_data::Bytes;
@@ -30,7 +30,7 @@ pub enum Part {
     Condition(CondOf<ColumnRef>),
 }
 
-pub fn sign_joint(sign: Sign) -> Option<Joint>
+fn sign_joint(sign: Sign) -> Option<Joint>
     ensures { result ≡ sign_joint sign }
 {
     match sign {
@@ -47,7 +47,7 @@ pub fn sign_joint(sign: Sign) -> Option<Joint>
     }
 }
 
-pub fn keyword_joint(keyword: Keyword) -> Option<Joint>
+fn keyword_joint(keyword: Keyword) -> Option<Joint>
     ensures { result ≡ keyword_joint keyword }
 {
     match keyword {
@@ -57,7 +57,7 @@ pub fn keyword_joint(keyword: Keyword) -> Option<Joint>
     }
 }
 
-pub fn joint_of(token: &Token) -> Option<Joint>
+fn joint_of(token: &Token) -> Option<Joint>
     ensures { result ≡ joint_of token.now }
 {
     match token {
@@ -67,8 +67,9 @@ pub fn joint_of(token: &Token) -> Option<Joint>
     }
 }
 
-pub fn level(joint: Joint) -> u8
-    ensures { result ≡ level joint }
+fn level(joint: Joint) -> u8
+    ensures is { result ≡ level joint }
+    ensures bound { result ≤ 6 }
 {
     match joint {
         Joint::Or => 1,
@@ -79,7 +80,15 @@ pub fn level(joint: Joint) -> u8
     }
 }
 
-pub fn next_joint(least: u8, tokens: &[Token]) -> Option<(Joint, &[Token])>
+// The level of what may stand at a joint's right.
+fn level_above(joint: Joint) -> u8
+    ensures is { result ≡ suc (level joint) }
+    ensures bound { result ≤ 7 }
+{
+    level(joint) + 1
+}
+
+fn next_joint(least: u8, tokens: &[Token]) -> Option<(Joint, &[Token])>
     ensures { option_map (λ p. (p.0, p.1.now)) result ≡ next_joint least tokens.now }
 {
     let (token, rest) = tokens.split_first()?;
@@ -91,7 +100,7 @@ pub fn next_joint(least: u8, tokens: &[Token]) -> Option<(Joint, &[Token])>
     }
 }
 
-pub fn side_of(part: Part) -> Result<Operand<ColumnRef>, Stop>
+fn side_of(part: Part) -> Result<Operand<ColumnRef>, Stop>
     ensures { Gives side result (side_of (parsed part)) }
 {
     match part {
@@ -101,7 +110,7 @@ pub fn side_of(part: Part) -> Result<Operand<ColumnRef>, Stop>
     }
 }
 
-pub fn plain_of(part: Part) -> Result<ExprOf<ColumnRef>, Stop>
+fn plain_of(part: Part) -> Result<ExprOf<ColumnRef>, Stop>
     ensures { Gives formula result (plain_of (parsed part)) }
 {
     match part {
@@ -110,7 +119,7 @@ pub fn plain_of(part: Part) -> Result<ExprOf<ColumnRef>, Stop>
     }
 }
 
-pub fn condition_of(part: Part) -> Result<CondOf<ColumnRef>, Stop>
+fn condition_of(part: Part) -> Result<CondOf<ColumnRef>, Stop>
     ensures { Gives condition result (condition_of (parsed part)) }
 {
     match part {
@@ -186,7 +195,7 @@ fn combined(alloc: Global, joint: Joint, left: Part, right: Part) -> Result<Part
     }
 }
 
-pub fn column_at<'a>(name: &Bytes, tokens: &'a [Token]) -> Result<(Part, &'a [Token]), Stop>
+fn column_at<'a>(name: &Bytes, tokens: &'a [Token]) -> Result<(Part, &'a [Token]), Stop>
     ensures { Gives (λ p. (parsed p.0, p.1.now)) result (Some (column_at name.now tokens.now)) }
 {
     let first = name.copy()?;
@@ -199,7 +208,7 @@ pub fn column_at<'a>(name: &Bytes, tokens: &'a [Token]) -> Result<(Part, &'a [To
     Ok((Part::Plain(ExprOf::Column(column)), tokens))
 }
 
-pub fn negative_at(tokens: &[Token]) -> Result<(Part, &[Token]), Stop>
+fn negative_at(tokens: &[Token]) -> Result<(Part, &[Token]), Stop>
     ensures { Gives (λ p. (parsed p.0, p.1.now)) result (negative_at tokens.now) }
 {
     let (token, rest) = next_token(tokens)?;
@@ -212,7 +221,7 @@ pub fn negative_at(tokens: &[Token]) -> Result<(Part, &[Token]), Stop>
     }
 }
 
-pub fn after_close(tokens: &[Token]) -> Result<&[Token], Stop>
+fn after_close(tokens: &[Token]) -> Result<&[Token], Stop>
     ensures { Gives (λ rest. rest.now) result (after_close tokens.now) }
 {
     let (token, rest) = next_token(tokens)?;
@@ -222,7 +231,7 @@ pub fn after_close(tokens: &[Token]) -> Result<&[Token], Stop>
     }
 }
 
-pub fn closed_at(part: Part, tokens: &[Token]) -> Result<(Part, &[Token]), Stop>
+fn closed_at(part: Part, tokens: &[Token]) -> Result<(Part, &[Token]), Stop>
     ensures { Gives (λ p. (parsed p.0, p.1.now)) result (closed_at (parsed part) tokens.now) }
 {
     match part {
@@ -232,7 +241,7 @@ pub fn closed_at(part: Part, tokens: &[Token]) -> Result<(Part, &[Token]), Stop>
     }
 }
 
-pub fn negated(alloc: Global, part: Part) -> Result<Part, Stop>
+fn negated(alloc: Global, part: Part) -> Result<Part, Stop>
     ensures { (rest : List Token) → Gives (λ p. (parsed p, rest)) result (negation_at (parsed part) rest) }
 {
     match part {
@@ -242,7 +251,7 @@ pub fn negated(alloc: Global, part: Part) -> Result<Part, Stop>
 }
 
 #[cycle(part)]
-pub fn first_sign<'a>(alloc: Global, sign: Sign, tokens: &'a [Token], depth: usize) -> Result<(Part, &'a [Token]), Stop>
+fn first_sign<'a>(alloc: Global, sign: Sign, tokens: &'a [Token], depth: usize) -> Result<(Part, &'a [Token]), Stop>
     ensures { Gives (λ p. (parsed p.0, p.1.now)) result (first_sign (part_at depth) sign tokens.now) }
 {
     match sign {
@@ -256,7 +265,7 @@ pub fn first_sign<'a>(alloc: Global, sign: Sign, tokens: &'a [Token], depth: usi
 }
 
 #[cycle(part)]
-pub fn first_keyword<'a>(alloc: Global, keyword: Keyword, tokens: &'a [Token], depth: usize) -> Result<(Part, &'a [Token]), Stop>
+fn first_keyword<'a>(alloc: Global, keyword: Keyword, tokens: &'a [Token], depth: usize) -> Result<(Part, &'a [Token]), Stop>
     ensures { Gives (λ p. (parsed p.0, p.1.now)) result (first_keyword (part_at depth) keyword tokens.now) }
 {
     match keyword {
@@ -269,7 +278,7 @@ pub fn first_keyword<'a>(alloc: Global, keyword: Keyword, tokens: &'a [Token], d
 }
 
 #[cycle(part)]
-pub fn first_part<'a>(alloc: Global, tokens: &'a [Token], depth: usize) -> Result<(Part, &'a [Token]), Stop>
+fn first_part<'a>(alloc: Global, tokens: &'a [Token], depth: usize) -> Result<(Part, &'a [Token]), Stop>
     ensures { Gives (λ p. (parsed p.0, p.1.now)) result (first_part (part_at depth) tokens.now) }
 {
     let (token, rest) = next_token(tokens)?;
@@ -298,15 +307,27 @@ pub fn part_at<'a>(alloc: Global, least: u8, tokens: &'a [Token], depth: usize) 
 }
 
 #[cycle(part)]
-pub fn joined<'a>(alloc: Global, least: u8, first: Part, tokens: &'a [Token], depth: usize) -> Result<(Part, &'a [Token]), Stop>
-    ensures { Gives (λ p. (parsed p.0, p.1.now)) result (joined (part_at depth) least (length tokens.now + 1) (parsed first) tokens.now) }
+fn turn_of<'a>(alloc: Global, joint: Joint, left: Part, tokens: &'a [Token], depth: usize) -> Result<(Part, &'a [Token]), Stop>
+    ensures { Gives (λ p. (parsed p.0, p.1.now)) result (turn_of (part_at depth) joint (parsed left) tokens.now) }
+{
+    let (right, rest) = part_at(alloc, level_above(joint), tokens, depth)?;
+    Ok((combined(alloc, joint, left, right)?, rest))
+}
+
+#[cycle(part)]
+fn joined<'a>(alloc: Global, least: u8, first: Part, tokens: &'a [Token], depth: usize) -> Result<(Part, &'a [Token]), Stop>
+    ensures { Gives (λ p. (parsed p.0, p.1.now)) result (joined (part_at depth) least (suc (length tokens.now)) (parsed first) tokens.now) }
 {
     let mut part = first;
     let mut rest = tokens;
     while let Some((joint, behind)) = next_joint(least, rest) {
-        let (right, after) = part_at(alloc, level(joint) + 1, behind, depth)?;
-        part = combined(alloc, joint, part, right)?;
-        rest = after;
+        match turn_of(alloc, joint, part, behind, depth) {
+            Ok((next, after)) => {
+                part = next;
+                rest = after;
+            }
+            Err(stop) => return Err(stop),
+        }
     }
     Ok((part, rest))
 }
