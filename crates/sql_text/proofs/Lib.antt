@@ -1,3 +1,4 @@
 pub mod Turns
 pub mod PartsFound
 pub mod PartsSpelled
+pub mod Queries

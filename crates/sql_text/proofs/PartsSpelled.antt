@@ -25,7 +25,7 @@ pub bind : {A B : Type 0} (P : A → Type 0) (Q : B → Type 0) (f : A → Optio
 bind P Q f None h k = tt
 bind P Q f (Some x) h k = k x h
 
-map_some : {A B : Type 0} (P : A → Type 0) (Q : B → Type 0) (f : A → B) (o : Option A)
+pub map_some : {A B : Type 0} (P : A → Type 0) (Q : B → Type 0) (f : A → B) (o : Option A)
     → IfSome o P → ((x : A) → P x → Q (f x)) → IfSome (option_map f o) Q
 map_some P Q f None h k = tt
 map_some P Q f (Some x) h k = k x h
