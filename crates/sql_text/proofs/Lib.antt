@@ -1,4 +1,4 @@
 pub mod Turns
 pub mod PartsFound
 pub mod PartsSpelled
-pub mod Queries
+pub mod QueryTexts

@@ -2,4 +2,5 @@
 #![tactic(auto)]
 
 mod part;
+mod queries;
 mod stop;

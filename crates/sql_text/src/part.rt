@@ -110,7 +110,7 @@ fn side_of(part: Part) -> Result<Operand<ColumnRef>, Stop>
     }
 }
 
-fn plain_of(part: Part) -> Result<ExprOf<ColumnRef>, Stop>
+pub fn plain_of(part: Part) -> Result<ExprOf<ColumnRef>, Stop>
     ensures { Gives formula result (plain_of (parsed part)) }
 {
     match part {
@@ -119,7 +119,7 @@ fn plain_of(part: Part) -> Result<ExprOf<ColumnRef>, Stop>
     }
 }
 
-fn condition_of(part: Part) -> Result<CondOf<ColumnRef>, Stop>
+pub fn condition_of(part: Part) -> Result<CondOf<ColumnRef>, Stop>
     ensures { Gives condition result (condition_of (parsed part)) }
 {
     match part {
