@@ -2,3 +2,4 @@ pub mod Turns
 pub mod PartsFound
 pub mod PartsSpelled
 pub mod QueryTexts
+pub mod ItemTurns

@@ -40,7 +40,7 @@ item_found (unnamed {e = e} {ts = ts} {rest = rest} is) n l ends =
 item_found (named {e = e} {name = name} {ts = ts} {rest = rest} is) n l ends =
     item_from n e (Some name) ts _ rest (plain_found n is l refl refl) refl
 
-item_shorter : {i : ItemTree} {ts rest : Tokens} → IsItem i ts rest → length rest < length ts
+pub item_shorter : {i : ItemTree} {ts rest : Tokens} → IsItem i ts rest → length rest < length ts
 item_shorter (unnamed is) = expr_shorter is
 item_shorter (named is) = omega (arith, expr_shorter is)
 
@@ -159,7 +159,7 @@ alias_spelled : (e : Expression) (ts mid : Tokens) → IsExpr e ts mid
 alias_spelled e ts (token.Keyword keyword.As ∷ mid) is = name_spelled e ts mid is
 alias_spelled e ts _ is = unnamed is
 
-item_spelled : (n : ℕ) (ts : Tokens) → IfSome (item_at n ts) (λ r. IsItem r.0 ts r.1)
+pub item_spelled : (n : ℕ) (ts : Tokens) → IfSome (item_at n ts) (λ r. IsItem r.0 ts r.1)
 item_spelled n ts =
     bind (λ p. Found 5 p.0 ts p.1) (λ r. IsItem r.0 ts r.1)
     (λ p. option_and_then (λ e. with_alias e (alias_at p.1)) (plain_of p.0)) (part_at n 5 ts)
@@ -172,6 +172,10 @@ behind_spelled : (more : Tokens → Reading (List ItemTree)) → ((ts : Tokens) 
 behind_spelled more h i ts (token.Sign sign.Comma ∷ rest) is =
     map_some (λ r. AreItems r.0 rest r.1) (λ r. AreItems r.0 ts r.1) (λ is. (i ∷ is.0, is.1)) (more rest) (h rest) (λ r are. more_items is are)
 behind_spelled more h i ts _ is = last_item is
+
+pub item_takes : (n : ℕ) (ts rest : Tokens) (i : ItemTree) → item_at n ts ≡ Some (i, rest) → length rest < length ts
+item_takes n ts rest i read =
+    item_shorter (subst (λ (r : Reading ItemTree). IfSome r (λ r. IsItem r.0 ts r.1)) read (item_spelled n ts))
 
 items_spelled : (n turns : ℕ) (ts : Tokens) → IfSome (items_at n turns ts) (λ r. AreItems r.0 ts r.1)
 unfolding items_at

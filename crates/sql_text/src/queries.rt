@@ -58,11 +58,15 @@ fn items_at<'a>(alloc: Global, tokens: &'a [Token], depth: usize) -> Result<(Lis
     let mut items = Vec::new(alloc);
     let mut rest = tokens;
     loop {
-        let (item, after) = item_at(alloc, rest, depth)?;
-        items.push(item)?;
-        match after_comma(after) {
-            Some(behind) => rest = behind,
-            None => return Ok((List::from_vec(items), after)),
+        match item_at(alloc, rest, depth) {
+            Err(stop) => return Err(stop),
+            Ok((item, after)) => {
+                items.push(item)?;
+                match after_comma(after) {
+                    Some(behind) => rest = behind,
+                    None => return Ok((List::from_vec(items), after)),
+                }
+            }
         }
     }
 }
@@ -141,4 +145,39 @@ fn is_end(tokens: &[Token]) -> bool
         [Token::Sign(Sign::Semicolon)] => true,
         _ => false,
     }
+}
+
+fn ended(alloc: Global, items: Items, name: Bytes, filter: Option<CondOf<ColumnRef>>, tokens: &[Token]) -> Result<Query, Stop>
+    ensures { Gives query_tree result (ended (selection items) name (option_map condition filter) tokens.now) }
+{
+    if !is_end(tokens) {
+        return Err(Stop::Syntax);
+    }
+    Ok(Query {
+        items,
+        from: TableRef::Named(name),
+        join: None,
+        filter,
+        keys: List::new(alloc),
+        having: None,
+        order: List::new(alloc),
+        limit: None,
+    })
+}
+
+fn query_behind(alloc: Global, items: Items, tokens: &[Token], depth: usize) -> Result<Query, Stop>
+    ensures { Gives query_tree result (query_behind depth (selection items) tokens.now) }
+{
+    let (name, rest) = table_at(tokens)?;
+    let (filter, rest) = filter_at(alloc, rest, depth)?;
+    ended(alloc, items, name, filter, rest)
+}
+
+// The query that the tokens are, all of them.
+pub fn query_at(alloc: Global, tokens: &[Token], depth: usize) -> Result<Query, Stop>
+    ensures { Gives query_tree result (query_at depth tokens.now) }
+{
+    let rest = after_select(tokens)?;
+    let (items, rest) = selection_at(alloc, rest, depth)?;
+    query_behind(alloc, items, rest, depth)
 }
