@@ -90,3 +90,24 @@ pub enum Token {
     Text(Bytes),
     Sign(Sign),
 }
+
+/// Where a string is: in its middle, or behind a quote or a backslash, which may stand for more than themselves.
+#[derive(Clone, Copy, Debug, PartialEq, Eq)]
+pub enum TextPlace {
+    Middle,
+    BehindQuote,
+    BehindBackslash,
+}
+
+/// What a byte is to a string.
+#[derive(Clone, Copy, Debug, PartialEq, Eq)]
+pub enum TextByte {
+    /// It is one of the content, and the string goes on.
+    Content,
+    /// It is none of the content, and the string goes on at that place.
+    Passed(TextPlace),
+    /// It is behind the string.
+    Behind,
+    /// It can't stand there.
+    Bad,
+}

@@ -3,4 +3,5 @@
 
 mod part;
 mod queries;
+mod scan;
 mod stop;
