@@ -147,16 +147,21 @@ abbrev pub sign_or : Option Sign → Option (Sign × ℕ) → Option (Sign × �
 sign_or (Some s) other = Some (s, 1)
 sign_or None other = other
 
+abbrev pub sign_front : ℕ → List ℕ → Option (Token × ℕ)
+sign_front b bs = option_map (λ r. (token.Sign r.0, r.1)) (sign_or (single_sign b) (comparison_sign b bs))
+
 -- ---- texts
+
+-- the string behind a quote, and how many bytes it takes with that
+abbrev pub text_front : List ℕ → Option (Token × ℕ)
+text_front bs = option_map (λ r. (token.Text r.0, suc r.1)) (text_at place.Middle bs)
 
 -- the token at the front and how many bytes it takes
 abbrev pub token_front : List ℕ → Option (Token × ℕ)
 token_front [] = None
 token_front (b ∷ bs) =
     if is_letter b then Some (word_front (b ∷ bs))
-    else if is_ascii_digit b then number_front (b ∷ bs)
-    else if b == 39 then option_map (λ r. (token.Text r.0, suc r.1)) (text_at place.Middle bs)
-    else option_map (λ r. (token.Sign r.0, r.1)) (sign_or (single_sign b) (comparison_sign b bs))
+    else if is_ascii_digit b then number_front (b ∷ bs) else if b == 39 then text_front bs else sign_front b bs
 
 -- the tokens behind a token, which are those behind its bytes
 abbrev pub behind_token : Option (Token × ℕ) → (ℕ → Option (List Token)) → Option (List Token)

@@ -3,3 +3,4 @@ pub mod PartsFound
 pub mod PartsSpelled
 pub mod QueryTexts
 pub mod ItemTurns
+pub mod Bytes

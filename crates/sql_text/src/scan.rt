@@ -1,7 +1,7 @@
 // The tokens of a text.
-ghost use Rattle.std.specs.Prelude.{◌≡◌, ℕ, suc, ◌+◌, ◌-◌, ◌*◌, ◌<◌, ◌≤◌, ◌∷◌, length, drop, take_while, Some, option_map, IfOk, OnOk};
+ghost use Rattle.std.specs.Prelude.{◌≡◌, ℕ, suc, ◌+◌, ◌-◌, ◌*◌, ◌<◌, ◌≤◌, ◌∷◌, length, drop, take_while, [], MatchOption, Some, option_map, IfOk, OnOk};
 ghost use Rattle.std.specs.Char.{is_ascii_digit};
-ghost use Rattle.sql_grammar.specs.Tokens.{is_blank, is_letter, is_word_byte, keyword_text, is_word, keyword_of, word_token, word_front, number_of, fitting, number_token, begins_with_letter, number_front, text_byte, text_end, text_at, begins_with, single_sign, less_sign, comparison_sign, token_front, tokens_behind, tokens_of};
+ghost use Rattle.sql_grammar.specs.Tokens.{is_blank, is_letter, is_word_byte, keyword_text, is_word, keyword_of, word_token, word_front, number_of, fitting, number_token, begins_with_letter, number_front, text_byte, text_end, text_at, begins_with, single_sign, less_sign, comparison_sign, text_front, sign_front, token_front, tokens_behind, tokens_of};
 ghost use Rattle.sql_grammar.specs.declared.TextPlace.TheVariants.{Middle};
 ghost use Rattle.sql_text.specs.Answers.{Gives};
 
@@ -71,10 +71,17 @@ fn keyword_of(word: &[u8]) -> Option<Keyword>
     KEYWORDS.iter().copied().find(|k| is_word(word, keyword_text(*k)))
 }
 
+fn word_len(bytes: &[u8]) -> usize
+    ensures is { result ≡ length (take_while is_word_byte bytes.now) }
+    ensures within { result ≤ length bytes.now }
+{
+    bytes.iter().take_while(|b| is_word_byte(**b)).count()
+}
+
 fn word_at(bytes: &[u8]) -> &[u8]
     ensures { result.now ≡ take_while is_word_byte bytes.now }
 {
-    &bytes[..bytes.iter().take_while(|b| is_word_byte(**b)).count()]
+    &bytes[..word_len(bytes)]
 }
 
 fn word_token(alloc: Global, word: &[u8]) -> Result<Token, Stop>
@@ -86,10 +93,17 @@ fn word_token(alloc: Global, word: &[u8]) -> Result<Token, Stop>
     }
 }
 
+fn digits_len(bytes: &[u8]) -> usize
+    ensures is { result ≡ length (take_while is_ascii_digit bytes.now) }
+    ensures within { result ≤ length bytes.now }
+{
+    bytes.iter().take_while(|b| b.is_ascii_digit()).count()
+}
+
 fn digits_at(bytes: &[u8]) -> &[u8]
     ensures { result.now ≡ take_while is_ascii_digit bytes.now }
 {
-    &bytes[..bytes.iter().take_while(|b| b.is_ascii_digit()).count()]
+    &bytes[..digits_len(bytes)]
 }
 
 // The number with one more digit, where both fit.
@@ -167,6 +181,28 @@ fn text_byte(place: TextPlace, b: u8) -> TextByte
     }
 }
 
+fn text_at(alloc: Global, bytes: &[u8]) -> Result<(Bytes, usize), Stop>
+    ensures { Gives (λ p. p) result (text_at Middle bytes.now) }
+{
+    let mut content = Vec::new(alloc);
+    let mut place = TextPlace::Middle;
+    for (i, b) in bytes.iter().enumerate() {
+        match text_byte(place, *b) {
+            TextByte::Content => {
+                content.push(*b)?;
+                place = TextPlace::Middle;
+            }
+            TextByte::Passed(next) => place = next,
+            TextByte::Behind => return Ok((Bytes::from_vec(content), i)),
+            TextByte::Bad => return Err(Stop::Syntax),
+        }
+    }
+    match place {
+        TextPlace::BehindQuote => Ok((Bytes::from_vec(content), bytes.len())),
+        TextPlace::Middle | TextPlace::BehindBackslash => Err(Stop::Syntax),
+    }
+}
+
 fn single_sign(b: u8) -> Option<Sign>
     ensures { result ≡ single_sign b }
 {
@@ -207,4 +243,85 @@ fn comparison_sign(b: u8, more: &[u8]) -> Option<(Sign, usize)>
         b'>' => Some((Sign::Greater, 1)),
         _ => None,
     }
+}
+
+fn word_front(alloc: Global, bytes: &[u8]) -> Result<(Token, usize), Stop>
+    ensures { Gives (λ p. p) result (Some (word_front bytes.now)) }
+{
+    let word = word_at(bytes);
+    Ok((word_token(alloc, word)?, word.len()))
+}
+
+fn number_front(bytes: &[u8]) -> Result<(Token, usize), Stop>
+    ensures { Gives (λ p. p) result (number_front bytes.now) }
+{
+    let digits = digits_at(bytes);
+    if begins_with_letter(&bytes[digits.len()..]) {
+        return Err(Stop::Syntax);
+    }
+    Ok((number_token(digits), digits.len()))
+}
+
+fn text_front(alloc: Global, bytes: &[u8]) -> Result<(Token, usize), Stop>
+    ensures { Gives (λ p. p) result (text_front bytes.now) }
+{
+    let (content, len) = text_at(alloc, bytes)?;
+    Ok((Token::Text(content), len + 1))
+}
+
+fn sign_front(b: u8, more: &[u8]) -> Result<(Token, usize), Stop>
+    ensures { Gives (λ p. p) result (sign_front b more.now) }
+{
+    if let Some(sign) = single_sign(b) {
+        return Ok((Token::Sign(sign), 1));
+    }
+    match comparison_sign(b, more) {
+        Some((sign, len)) => Ok((Token::Sign(sign), len)),
+        None => Err(Stop::Syntax),
+    }
+}
+
+fn token_at(alloc: Global, first: u8, more: &[u8], bytes: &[u8]) -> Result<(Token, usize), Stop>
+    requires { bytes.now ≡ first ∷ more.now }
+    ensures { Gives (λ p. p) result (token_front bytes.now) }
+{
+    if is_letter(first) {
+        word_front(alloc, bytes)
+    } else if first.is_ascii_digit() {
+        number_front(bytes)
+    } else if first == b'\'' {
+        text_front(alloc, more)
+    } else {
+        sign_front(first, more)
+    }
+}
+
+// The byte at the front, and the bytes behind it.
+fn next_byte(bytes: &[u8]) -> Option<(u8, &[u8])>
+    ensures { MatchOption result (bytes.now ≡ []) (λ p. bytes.now ≡ p.0 ∷ p.1.now) }
+{
+    let (first, more) = bytes.split_first()?;
+    Some((*first, more))
+}
+
+/// The tokens of a text.
+pub fn tokens_of(alloc: Global, text: &[u8]) -> Result<Vec<Token>, Stop>
+    ensures { Gives (λ v. v.items) result (tokens_of text.now) }
+{
+    let mut tokens = Vec::new(alloc);
+    let mut rest = text;
+    while let Some((first, more)) = next_byte(rest) {
+        if is_blank(first) {
+            rest = more;
+            continue;
+        }
+        match token_at(alloc, first, more, rest) {
+            Ok((token, len)) => {
+                tokens.push(token)?;
+                rest = &rest[len..];
+            }
+            Err(stop) => return Err(stop),
+        }
+    }
+    Ok(tokens)
 }
