@@ -15,10 +15,6 @@ use Rattle.sql_grammar.specs.declared.TextByte.{TextByte}
 use Rattle.sql_grammar.specs.declared.TextByte.TheVariants as byte
 use Rattle.sql_grammar.specs.Tokens.{is_blank, is_letter, is_word_byte, word_front, number_front, begins_with_letter, begins_with, single_sign, less_sign, comparison_sign, sign_or, sign_front, text_byte, text_on, text_end, text_at, text_front, token_front, behind_token, tokens_behind}
 
--- the bytes that pass, by how many they are
-pub take_passing : (p : ℕ → Bool) (bs : List ℕ) → take (length (take_while p bs)) bs ≡ take_while p bs
-take_passing p bs = ap (λ n. take n bs) (length-prefix_len p bs)
-
 passing_within : (p : ℕ → Bool) (bs : List ℕ) → length (take_while p bs) ≤ length bs
 passing_within p bs = omega (arith, length-prefix_len p bs, prefix_len-le-length p bs)
 
@@ -68,31 +64,40 @@ pub text_passed : (whole : Option (List ℕ × ℕ)) (bytes front : List ℕ) (i
 text_passed whole bytes front i b p next at h is byte =
     turn whole bytes front i b p _ at h is byte ∙ pass_step front i (text_at next (drop (i + 1) bytes))
 
+append_empty : {A : Type 0} (xs : List A) → xs ++ [] ≡ xs
+append_empty [] = refl
+append_empty (x ∷ xs) = ap (λ l. x ∷ l) (append_empty xs)
+
+pub whole_text : (front : List ℕ) (n : ℕ) → text_behind front n (Some ([], 0)) ≡ Some (front, n)
+whole_text front n =
+    let count : n + 0 ≡ n = omega arith in ap (λ f. Some (f, n + 0)) (append_empty front) ∙ ap (λ k. Some (front, k)) count
+
 pub text_over : (whole : Option (List ℕ × ℕ)) (bytes front : List ℕ) (i b : ℕ) (p : TextPlace)
     → whole ≡ text_behind front i (text_at p (drop i bytes)) → i < length bytes → b ≡ get_or bytes i 0 → text_byte p b ≡ byte.Behind
     → whole ≡ Some (front, i)
 text_over whole bytes front i b p at h is byte =
-    let count : i + 0 ≡ i = omega arith in
-    turn whole bytes front i b p _ at h is byte ∙ ap (λ f. Some (f, i + 0)) (append_empty front) ∙ ap (λ k. Some (front, k)) count
-  where
-    append_empty : (xs : List ℕ) → xs ++ [] ≡ xs
-    append_empty [] = refl
-    append_empty (x ∷ xs) = ap (λ l. x ∷ l) (append_empty xs)
+    turn whole bytes front i b p _ at h is byte ∙ whole_text front i
 
 pub text_bad : (whole : Option (List ℕ × ℕ)) (bytes front : List ℕ) (i b : ℕ) (p : TextPlace)
     → whole ≡ text_behind front i (text_at p (drop i bytes)) → i < length bytes → b ≡ get_or bytes i 0 → text_byte p b ≡ byte.Bad
     → whole ≡ None
 text_bad whole bytes front i b p at h is byte = turn whole bytes front i b p _ at h is byte
 
-pub text_ends : (whole : Option (List ℕ × ℕ)) (bytes front : List ℕ) (p : TextPlace)
-    → whole ≡ text_behind front (length bytes) (text_at p (drop (length bytes) bytes))
-    → whole ≡ text_behind front (length bytes) (text_end p)
+drop_all : (xs : List ℕ) → drop (length xs) xs ≡ []
+drop_all [] = refl
+drop_all (x ∷ xs) = drop_all xs
+
+text_at_end : (p : TextPlace) → text_at p [] ≡ text_end p
 unfolding text_at
-text_ends whole bytes front p at = at ∙ ap (λ bs. text_behind front (length bytes) (text_at p bs)) (drop_all bytes)
-  where
-    drop_all : (xs : List ℕ) → drop (length xs) xs ≡ []
-    drop_all [] = refl
-    drop_all (x ∷ xs) = drop_all xs
+text_at_end p = refl
+
+pub text_ends : (whole : Option (List ℕ × ℕ)) (bytes front : List ℕ) (i : ℕ) (p q : TextPlace)
+    → whole ≡ text_behind front i (text_at p (drop i bytes)) → i ≡ length bytes → p ≡ q
+    → whole ≡ text_behind front (length bytes) (text_end q)
+text_ends whole bytes front i p q at last is =
+    at ∙ ap (λ i. text_behind front i (text_at p (drop i bytes))) last
+        ∙ ap (λ bs. text_behind front (length bytes) (text_at p bs)) (drop_all bytes)
+        ∙ ap (text_behind front (length bytes)) (text_at_end p ∙ ap text_end is)
 
 -- ---- how many bytes a token takes
 
@@ -218,9 +223,13 @@ front_takes b bs = by_byte (is_letter b) refl (is_ascii_digit b) refl (b == 39)
     by_byte false e false f false =
         sign_takes bs (sign_or (single_sign b) (comparison_sign b bs)) (sign_or_takes bs (single_sign b) (comparison_sign b bs) (comparison_takes b bs))
 
-pub token_takes : (b : ℕ) (bs : List ℕ) (t : Token) (n : ℕ) → token_front (b ∷ bs) ≡ Some (t, n) → (0 < n) × (n ≤ length (b ∷ bs))
+token_takes : (b : ℕ) (bs : List ℕ) (t : Token) (n : ℕ) → token_front (b ∷ bs) ≡ Some (t, n) → (0 < n) × (n ≤ length (b ∷ bs))
 token_takes b bs t n read =
     subst (λ (r : Option (Token × ℕ)). IfSome r (λ r. Takes r.1 (length (b ∷ bs)))) read (front_takes b bs)
+
+pub front_takes_at : (b : ℕ) (bs rest : List ℕ) (t : Token) (n : ℕ) → rest ≡ b ∷ bs → token_front rest ≡ Some (t, n) → (0 < n) × (n ≤ length rest)
+front_takes_at b bs rest t n is read =
+    let takes = token_takes b bs t n (ap token_front (sym is) ∙ read) in (takes.0, omega (arith, ap (length {A = ℕ}) is, takes.1))
 
 -- ---- one token after another
 
@@ -281,7 +290,3 @@ pub tokens_end : (whole : Option (List Token)) (front : List Token) (rest : List
     → whole ≡ tokens_with front (tokens_behind 0 rest) → rest ≡ [] → whole ≡ Some front
 unfolding tokens_behind
 tokens_end whole front rest at is = at ∙ ap (λ r. tokens_with front (tokens_behind 0 r)) is ∙ ap Some (append_empty front)
-  where
-    append_empty : (xs : List Token) → xs ++ [] ≡ xs
-    append_empty [] = refl
-    append_empty (x ∷ xs) = ap (λ l. x ∷ l) (append_empty xs)

@@ -304,6 +304,13 @@ fn next_byte(bytes: &[u8]) -> Option<(u8, &[u8])>
     Some((*first, more))
 }
 
+fn behind(bytes: &[u8], len: usize) -> &[u8]
+    requires { len ≤ length bytes.now }
+    ensures { result.now ≡ drop len bytes.now }
+{
+    &bytes[len..]
+}
+
 /// The tokens of a text.
 pub fn tokens_of(alloc: Global, text: &[u8]) -> Result<Vec<Token>, Stop>
     ensures { Gives (λ v. v.items) result (tokens_of text.now) }
@@ -318,7 +325,7 @@ pub fn tokens_of(alloc: Global, text: &[u8]) -> Result<Vec<Token>, Stop>
         match token_at(alloc, first, more, rest) {
             Ok((token, len)) => {
                 tokens.push(token)?;
-                rest = &rest[len..];
+                rest = behind(rest, len);
             }
             Err(stop) => return Err(stop),
         }
