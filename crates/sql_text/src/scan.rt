@@ -59,7 +59,7 @@ fn keyword_text(keyword: Keyword) -> &'static [u8]
     }
 }
 
-fn is_word(word: &[u8], text: &[u8]) -> bool
+pub fn is_word(word: &[u8], text: &[u8]) -> bool
     ensures { result ≡ is_word word.now text.now }
 {
     word.eq_ignore_ascii_case(text)
