@@ -4,3 +4,4 @@ pub mod PartsSpelled
 pub mod QueryTexts
 pub mod ItemTurns
 pub mod Bytes
+pub mod Readings

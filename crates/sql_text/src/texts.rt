@@ -36,10 +36,11 @@ pub fn parse(alloc: Global, text: &[u8]) -> Result<Query, ParseRefusal>
         Ok(tokens) => tokens,
         Err(stop) => return Err(refusal_of(stop)),
     };
-    if let Some(refusal) = token_refusal(tokens.as_slice()) {
+    let tokens = tokens.as_slice();
+    if let Some(refusal) = token_refusal(tokens) {
         return Err(refusal);
     }
-    match query_at(alloc, tokens.as_slice(), tokens.len()) {
+    match query_at(alloc, tokens, tokens.len()) {
         Ok(query) => Ok(query),
         Err(stop) => Err(refusal_of(stop)),
     }
