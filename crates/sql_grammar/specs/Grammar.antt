@@ -8,6 +8,7 @@ use Rattle.query_model.specs.declared.query.ArithOp.{ArithOp}
 use Rattle.query_model.specs.declared.query.ArithOp.TheVariants as op
 use Rattle.query_model.specs.declared.query.CompareOp.{CompareOp}
 use Rattle.query_model.specs.declared.query.CompareOp.TheVariants as order
+use Rattle.query_model.specs.declared.query.TableRef.{TableRef}
 use Rattle.query_model.specs.declared.query.TableRef.TheVariants as table
 use Rattle.query_model.specs.declared.query.Query.{Query}
 use Rattle.sql_grammar.specs.declared.Token.{Token}
@@ -104,6 +105,10 @@ pub data IsSelection : Selection → Tokens → Tokens → Type 0 where
   all_columns : {rest : Tokens} → IsSelection star (token.Sign sign.Star ∷ rest) rest
   some_items : {is : List ItemTree} {ts rest : Tokens} → AreItems is ts rest → IsSelection (listed is) ts rest
 
+-- table = name
+pub data IsTable : TableRef → Tokens → Tokens → Type 0 where
+  named_table : {name : List ℕ} {rest : Tokens} → IsTable (table.Named name) (token.Name name ∷ rest) rest
+
 -- [WHERE cond]
 pub data IsFilter : Option Condition → Tokens → Tokens → Type 0 where
   no_filter : {rest : Tokens} → IsFilter None rest rest
@@ -111,12 +116,13 @@ pub data IsFilter : Option Condition → Tokens → Tokens → Type 0 where
 
 -- query = SELECT items FROM table [WHERE cond]
 pub data IsQuery : QueryTree → Tokens → Tokens → Type 0 where
-  select_query : {s : Selection} {name : List ℕ} {f : Option Condition} {ts mid rest : Tokens}
-      → IsSelection s ts (token.Keyword keyword.From ∷ token.Name name ∷ mid)
-      → IsFilter f mid rest
+  select_query : {s : Selection} {t : TableRef} {f : Option Condition} {ts mid behind rest : Tokens}
+      → IsSelection s ts (token.Keyword keyword.From ∷ mid)
+      → IsTable t mid behind
+      → IsFilter f behind rest
       → IsQuery (record {
         items = s;
-        from = table.Named name;
+        from = t;
         join = None;
         filter = f;
         keys = [];

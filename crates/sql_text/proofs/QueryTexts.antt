@@ -1,15 +1,16 @@
 -- A query is read exactly where one is spelled.
 use Rattle.std.proofs.Common.{◌≡◌, ℕ, zero, suc, ◌+◌, ◌<◌, ◌≤◌, Bool, true, false, cond, List, [], ◌∷◌, length, Option, Some, None, option_and_then, option_map, IfSome, refl, sym, ap, subst, ◌∙◌, arith}
 use Rattle.query_model.specs.declared.query.ColumnRef.{ColumnRef}
+use Rattle.query_model.specs.declared.query.TableRef.{TableRef}
 use Rattle.sql_grammar.specs.declared.Token.{Token}
 use Rattle.sql_grammar.specs.declared.Token.TheVariants as token
 use Rattle.sql_grammar.specs.declared.Keyword.TheVariants as keyword
 use Rattle.sql_grammar.specs.declared.Sign.{Sign}
 use Rattle.sql_grammar.specs.declared.Sign.TheVariants as sign
 use Rattle.sql_grammar.specs.Trees.{Expression, Condition, ItemTree, plain_item, Selection, star, listed, QueryTree}
-use Rattle.sql_grammar.specs.Grammar.{Tokens, IsExpr, IsColumn, unqualified, qualified, one_term, sum, difference, IsTerm, one_factor, product, IsFactor, a_column, a_number, negative, enclosed, IsCond, IsItem, unnamed, named, AreItems, last_item, more_items, IsSelection, all_columns, some_items, IsFilter, no_filter, filter_by as filtered, IsQuery, select_query, IsText, bare, with_semicolon}
+use Rattle.sql_grammar.specs.Grammar.{Tokens, IsExpr, IsColumn, unqualified, qualified, one_term, sum, difference, IsTerm, one_factor, product, IsFactor, a_column, a_number, negative, enclosed, IsCond, IsItem, unnamed, named, AreItems, last_item, more_items, IsSelection, all_columns, some_items, IsTable, named_table, IsFilter, no_filter, filter_by as filtered, IsQuery, select_query, IsText, bare, with_semicolon}
 use Rattle.sql_text.specs.Parts.{Parsed, expression, string, truth, Reading, next_joint, plain_of, condition_of, part_at}
-use Rattle.sql_text.specs.Queries.{name_at, alias_at, item_of, with_alias, item_at, after_comma, items_behind, items_at, after_star, selection_by, selection_at, after_select, after_from, table_at, after_where, filter_by, filter_at, is_end, query_of, ended, query_behind, query_at}
+use Rattle.sql_text.specs.Queries.{name_at, alias_at, item_of, with_alias, item_at, after_comma, items_behind, items_at, after_star, selection_by, selection_at, after_select, after_from, table_at, from_at, after_where, filter_by, filter_at, is_end, query_of, ended, query_behind, query_at}
 use Rattle.sql_text.proofs.Turns.{no_dot, tighter, deeper}
 use Rattle.sql_text.proofs.PartsFound.{expr_found, cond_found, expr_shorter, cond_shorter}
 use Rattle.sql_text.proofs.PartsSpelled.{IsPart, Found, bind, map_some, part_spelled}
@@ -126,12 +127,19 @@ filter_found (filtered {c = c} {ts = ts} {rest = rest} is) n l ends =
     (deeper n 1 (truth c) ts rest (omega arith) (cond_shorter is)
         (λ m k. cond_found is m 1 (omega arith) ends.dot (tighter 1 2 rest (omega arith) ends.joint) k) ends.joint)
 
+table_found : {t : TableRef} {ts rest : Tokens} → IsTable t ts rest → table_at ts ≡ Some (t, rest)
+table_found named_table = refl
+
+table_shorter : {t : TableRef} {ts rest : Tokens} → IsTable t ts rest → length rest < length ts
+table_shorter named_table = omega arith
+
 query_found : {q : QueryTree} {ts rest : Tokens} → IsQuery q ts rest → (n : ℕ) → length ts ≤ n → EndsQuery rest → query_at n ts ≡ Some q
-query_found (select_query {s = s} {name = name} {f = f} {ts = ts} {mid = mid} {rest = rest} items filter) n l ends =
+query_found (select_query {s = s} {t = t} {f = f} {ts = ts} {mid = mid} {behind = behind} {rest = rest} items is filter) n l ends =
     ap (option_and_then (λ s. query_behind n s.0 s.1))
     (selection_found items n (omega arith) (record { dot = refl; joint = refl; alias = refl }) refl)
-    ∙ ap (option_and_then (λ f. ended s name f.0 f.1)) (filter_found filter n (omega (arith, selection_shorter items)) ends)
-    ∙ ap (λ b. cond b (Some (query_of s name f)) None) ends.end
+    ∙ ap (option_and_then (λ t. option_and_then (λ f. ended s t.0 f.0 f.1) (filter_at n t.1))) (table_found is)
+    ∙ ap (option_and_then (λ f. ended s t f.0 f.1)) (filter_found filter n (omega (arith, selection_shorter items, table_shorter is)) ends)
+    ∙ ap (λ b. cond b (Some (query_of s t f)) None) ends.end
 
 pub text_found : {q : QueryTree} {ts : Tokens} → IsText q ts → (n : ℕ) → length ts ≤ n → query_at n ts ≡ Some q
 text_found (bare is) n l = query_found is n l (record { dot = refl; joint = refl; no_where = refl; end = refl })
@@ -222,18 +230,24 @@ filter_spelled n (token.Keyword keyword.Where ∷ ts) =
         (truth_spelled p.0 ts p.1 found.is) (λ c is. filtered is))
 filter_spelled n _ = no_filter
 
-ended_spelled : (s : Selection) (name : List ℕ) (f : Option Condition) (ts mid rest : Tokens)
-    → IsSelection s ts (token.Keyword keyword.From ∷ token.Name name ∷ mid) → IsFilter f mid rest
-    → IfSome (ended s name f rest) (λ q. IsText q (token.Keyword keyword.Select ∷ ts))
-ended_spelled s name f ts mid [] items filter = bare (select_query items filter)
-ended_spelled s name f ts mid (token.Sign sign.Semicolon ∷ []) items filter = with_semicolon (select_query items filter)
-ended_spelled s name f ts mid _ items filter = tt
+table_spelled : (ts : Tokens) → IfSome (table_at ts) (λ r. IsTable r.0 ts r.1)
+table_spelled (token.Name name ∷ ts) = named_table
+table_spelled _ = tt
+
+ended_spelled : (s : Selection) (t : TableRef) (f : Option Condition) (ts mid behind rest : Tokens)
+    → IsSelection s ts (token.Keyword keyword.From ∷ mid) → IsTable t mid behind → IsFilter f behind rest
+    → IfSome (ended s t f rest) (λ q. IsText q (token.Keyword keyword.Select ∷ ts))
+ended_spelled s t f ts mid behind [] items is where_is = bare (select_query items is where_is)
+ended_spelled s t f ts mid behind (token.Sign sign.Semicolon ∷ []) items is where_is = with_semicolon (select_query items is where_is)
+ended_spelled s t f ts mid behind _ items is where_is = tt
 
 behind_from : (n : ℕ) (s : Selection) (ts mid : Tokens) → IsSelection s ts mid
     → IfSome (query_behind n s mid) (λ q. IsText q (token.Keyword keyword.Select ∷ ts))
-behind_from n s ts (token.Keyword keyword.From ∷ token.Name name ∷ mid) items =
-    bind (λ f. IsFilter f.0 mid f.1) (λ q. IsText q (token.Keyword keyword.Select ∷ ts)) (λ f. ended s name f.0 f.1) (filter_at n mid)
-    (filter_spelled n mid) (λ f filter. ended_spelled s name f.0 ts mid f.1 items filter)
+behind_from n s ts (token.Keyword keyword.From ∷ mid) items =
+    bind (λ t. IsTable t.0 mid t.1) (λ q. IsText q (token.Keyword keyword.Select ∷ ts))
+    (λ t. option_and_then (λ f. ended s t.0 f.0 f.1) (filter_at n t.1)) (table_at mid) (table_spelled mid)
+    (λ t is. bind (λ f. IsFilter f.0 t.1 f.1) (λ q. IsText q (token.Keyword keyword.Select ∷ ts)) (λ f. ended s t.0 f.0 f.1) (filter_at n t.1)
+        (filter_spelled n t.1) (λ f where_is. ended_spelled s t.0 f.0 ts mid t.1 f.1 items is where_is))
 behind_from n s ts _ items = tt
 
 pub text_spelled : (n : ℕ) (ts : Tokens) → IfSome (query_at n ts) (λ q. IsText q ts)

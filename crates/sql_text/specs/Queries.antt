@@ -1,5 +1,6 @@
 -- How a query is read, from the left.
 use Rattle.std.specs.Prelude.{◌≡◌, ℕ, zero, suc, Bool, true, false, if◌then◌else◌, List, [], ◌∷◌, length, Option, Some, None, option_map, option_and_then}
+use Rattle.query_model.specs.declared.query.TableRef.{TableRef}
 use Rattle.query_model.specs.declared.query.TableRef.TheVariants as table
 use Rattle.sql_grammar.specs.declared.Token.{Token}
 use Rattle.sql_grammar.specs.declared.Token.TheVariants as token
@@ -62,8 +63,11 @@ abbrev pub after_from : List Token → Option (List Token)
 after_from (token.Keyword keyword.From ∷ ts) = Some ts
 after_from _ = None
 
-abbrev pub table_at : List Token → Reading (List ℕ)
-table_at ts = option_and_then name_at (after_from ts)
+abbrev pub table_at : List Token → Reading TableRef
+table_at ts = option_map (λ n. (table.Named n.0, n.1)) (name_at ts)
+
+abbrev pub from_at : List Token → Reading TableRef
+from_at ts = option_and_then table_at (after_from ts)
 
 abbrev pub after_where : List Token → Option (List Token)
 after_where (token.Keyword keyword.Where ∷ ts) = Some ts
@@ -81,10 +85,10 @@ is_end [] = true
 is_end (token.Sign sign.Semicolon ∷ []) = true
 is_end _ = false
 
-abbrev pub query_of : Selection → List ℕ → Option Condition → QueryTree
-query_of s name filter = record {
+abbrev pub query_of : Selection → TableRef → Option Condition → QueryTree
+query_of s t filter = record {
   items = s;
-  from = table.Named name;
+  from = t;
   join = None;
   filter = filter;
   keys = [];
@@ -95,11 +99,11 @@ query_of s name filter = record {
 
 -- ---- queries
 
-abbrev pub ended : Selection → List ℕ → Option Condition → List Token → Option QueryTree
-ended s name filter ts = if is_end ts then Some (query_of s name filter) else None
+abbrev pub ended : Selection → TableRef → Option Condition → List Token → Option QueryTree
+ended s t filter ts = if is_end ts then Some (query_of s t filter) else None
 
 abbrev pub query_behind : ℕ → Selection → List Token → Option QueryTree
-query_behind depth s ts = option_and_then (λ t. option_and_then (λ f. ended s t.0 f.0 f.1) (filter_at depth t.1)) (table_at ts)
+query_behind depth s ts = option_and_then (λ t. option_and_then (λ f. ended s t.0 f.0 f.1) (filter_at depth t.1)) (from_at ts)
 
 -- the query that the tokens are, all of them
 abbrev pub query_at : ℕ → List Token → Option QueryTree

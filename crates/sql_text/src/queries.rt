@@ -2,7 +2,7 @@
 ghost use Rattle.std.specs.Prelude.{◌≡◌, ℕ, suc, length, map, Some, None, option_map, OnOk, IfOk};
 ghost use Rattle.sql_grammar.specs.Trees.{condition, item_tree, selection, query_tree};
 ghost use Rattle.sql_text.specs.Answers.{Gives};
-ghost use Rattle.sql_text.specs.Queries.{name_at, alias_at, item_at, after_comma, items_at, after_star, selection_at, after_select, after_from, table_at, after_where, filter_at, is_end, ended, query_behind, query_at};
+ghost use Rattle.sql_text.specs.Queries.{name_at, alias_at, item_at, after_comma, items_at, after_star, selection_at, after_select, after_from, table_at, from_at, after_where, filter_at, is_end, ended, query_behind, query_at};
 
 use crate::part::{condition_of, part_at, plain_of};
 use crate::stop::{Stop, next_token};
@@ -110,10 +110,17 @@ fn after_from(tokens: &[Token]) -> Result<&[Token], Stop>
     }
 }
 
-fn table_at(tokens: &[Token]) -> Result<(Bytes, &[Token]), Stop>
+fn table_at(tokens: &[Token]) -> Result<(TableRef, &[Token]), Stop>
     ensures { Gives (λ p. (p.0, p.1.now)) result (table_at tokens.now) }
 {
-    name_at(after_from(tokens)?)
+    let (name, rest) = name_at(tokens)?;
+    Ok((TableRef::Named(name), rest))
+}
+
+fn from_at(tokens: &[Token]) -> Result<(TableRef, &[Token]), Stop>
+    ensures { Gives (λ p. (p.0, p.1.now)) result (from_at tokens.now) }
+{
+    table_at(after_from(tokens)?)
 }
 
 fn after_where(tokens: &[Token]) -> Option<&[Token]>
@@ -147,15 +154,15 @@ fn is_end(tokens: &[Token]) -> bool
     }
 }
 
-fn ended(alloc: Global, items: Items, name: Bytes, filter: Option<CondOf<ColumnRef>>, tokens: &[Token]) -> Result<Query, Stop>
-    ensures { Gives query_tree result (ended (selection items) name (option_map condition filter) tokens.now) }
+fn ended(alloc: Global, items: Items, from: TableRef, filter: Option<CondOf<ColumnRef>>, tokens: &[Token]) -> Result<Query, Stop>
+    ensures { Gives query_tree result (ended (selection items) from (option_map condition filter) tokens.now) }
 {
     if !is_end(tokens) {
         return Err(Stop::Syntax);
     }
     Ok(Query {
         items,
-        from: TableRef::Named(name),
+        from,
         join: None,
         filter,
         keys: List::new(alloc),
@@ -168,9 +175,9 @@ fn ended(alloc: Global, items: Items, name: Bytes, filter: Option<CondOf<ColumnR
 fn query_behind(alloc: Global, items: Items, tokens: &[Token], depth: usize) -> Result<Query, Stop>
     ensures { Gives query_tree result (query_behind depth (selection items) tokens.now) }
 {
-    let (name, rest) = table_at(tokens)?;
+    let (from, rest) = from_at(tokens)?;
     let (filter, rest) = filter_at(alloc, rest, depth)?;
-    ended(alloc, items, name, filter, rest)
+    ended(alloc, items, from, filter, rest)
 }
 
 // The query that the tokens are, all of them.
