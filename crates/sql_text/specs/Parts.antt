@@ -23,9 +23,9 @@ pub data Parsed : Type 0 where
   truth : Condition → Parsed
 
 abbrev pub parsed : Part → Parsed
-parsed (part'.Plain e) = expression (formula e)
+parsed (part'.Plain e) = expression (formula e.value)
 parsed (part'.Text t) = string t
-parsed (part'.Condition c) = truth (condition c)
+parsed (part'.Condition c) = truth (condition c.value)
 
 -- what is read, and the tokens behind it
 abbrev pub Reading : Type 0 → Type 0

@@ -10,3 +10,6 @@ mod texts;
 
 pub use limits::{MAX_OPERATORS, MAX_TEXT, ParseRefusal};
 pub use texts::{one_reading, parse};
+
+#[cfg(test)]
+mod tests;

@@ -1,11 +1,11 @@
 // Expressions and conditions.
 ghost use Rattle.std.specs.Prelude.{◌≡◌, ℕ, suc, ◌+◌, ◌<◌, ◌≤◌, length, List, Some, None, option_map, OnOk, IfOk};
-ghost use Rattle.query_model.specs.Formulas.{formula, arith};
+ghost use Rattle.query_model.specs.Formulas.{formula};
 ghost use Rattle.sql_text.specs.declared.part.Joint.TheVariants.{Arith, Compare, And, Or};
 ghost use Rattle.sql_grammar.specs.declared.Token.{Token};
-ghost use Rattle.sql_grammar.specs.Trees.{side, condition, both, either};
+ghost use Rattle.sql_grammar.specs.Trees.{side, condition, condition as condition_tree};
 ghost use Rattle.sql_text.specs.Answers.{Gives};
-ghost use Rattle.sql_text.specs.Parts.{parsed, sign_joint, keyword_joint, joint_of, level, next_joint, combined, side_of, plain_of, condition_of, column_at, negative_at, after_close, closed_at, negation_at, first_sign, first_keyword, first_part, turn_of, joined, part_at};
+ghost use Rattle.sql_text.specs.Parts.{expression, truth, parsed, sign_joint, keyword_joint, joint_of, level, next_joint, combined, side_of, plain_of, condition_of, column_at, negative_at, after_close, closed_at, negation_at, first_sign, first_keyword, first_part, turn_of, joined, part_at};
 
 use crate::stop::{Stop, next_token};
 use chunk_data::Bytes;
@@ -22,12 +22,12 @@ pub enum Joint {
     Or,
 }
 
-// A part of an expression or a condition.
+// A part of an expression or a condition. It is small, since the reading of nested parts holds many of them on the stack.
 #[derive(Drop)]
 pub enum Part {
-    Plain(ExprOf<ColumnRef>),
+    Plain(Box<ExprOf<ColumnRef>>),
     Text(Bytes),
-    Condition(CondOf<ColumnRef>),
+    Condition(Box<CondOf<ColumnRef>>),
 }
 
 fn sign_joint(sign: Sign) -> Option<Joint>
@@ -104,14 +104,14 @@ fn side_of(part: Part) -> Result<Operand<ColumnRef>, Stop>
     ensures { Gives side result (side_of (parsed part)) }
 {
     match part {
-        Part::Plain(e) => Ok(Operand::Plain(e)),
+        Part::Plain(e) => Ok(Operand::Plain(Box::into_inner(e))),
         Part::Text(t) => Ok(Operand::Text(t)),
         Part::Condition(_) => Err(Stop::Syntax),
     }
 }
 
-pub fn plain_of(part: Part) -> Result<ExprOf<ColumnRef>, Stop>
-    ensures { Gives formula result (plain_of (parsed part)) }
+pub fn plain_of(part: Part) -> Result<Box<ExprOf<ColumnRef>>, Stop>
+    ensures { Gives (λ e. formula e.value) result (plain_of (parsed part)) }
 {
     match part {
         Part::Plain(e) => Ok(e),
@@ -119,8 +119,8 @@ pub fn plain_of(part: Part) -> Result<ExprOf<ColumnRef>, Stop>
     }
 }
 
-pub fn condition_of(part: Part) -> Result<CondOf<ColumnRef>, Stop>
-    ensures { Gives condition result (condition_of (parsed part)) }
+pub fn condition_of(part: Part) -> Result<Box<CondOf<ColumnRef>>, Stop>
+    ensures { Gives (λ c. condition c.value) result (condition_of (parsed part)) }
 {
     match part {
         Part::Condition(c) => Ok(c),
@@ -128,28 +128,16 @@ pub fn condition_of(part: Part) -> Result<CondOf<ColumnRef>, Stop>
     }
 }
 
-fn arithmetic(alloc: Global, op: ArithOp, a: ExprOf<ColumnRef>, b: ExprOf<ColumnRef>) -> Result<ExprOf<ColumnRef>, Stop>
-    ensures { Gives formula result (Some (arith op (formula a) (formula b))) }
+fn plain_part(alloc: Global, expr: ExprOf<ColumnRef>) -> Result<Part, Stop>
+    ensures { Gives parsed result (Some (expression (formula expr))) }
 {
-    let a = Box::new(alloc, a)?;
-    let b = Box::new(alloc, b)?;
-    Ok(ExprOf::Arith(op, a, b))
+    Ok(Part::Plain(Box::new(alloc, expr)?))
 }
 
-fn conjunction(alloc: Global, a: CondOf<ColumnRef>, b: CondOf<ColumnRef>) -> Result<CondOf<ColumnRef>, Stop>
-    ensures { Gives condition result (Some (both (condition a) (condition b))) }
+fn condition_part(alloc: Global, condition: CondOf<ColumnRef>) -> Result<Part, Stop>
+    ensures { Gives parsed result (Some (truth (condition_tree condition))) }
 {
-    let a = Box::new(alloc, a)?;
-    let b = Box::new(alloc, b)?;
-    Ok(CondOf::And(a, b))
-}
-
-fn disjunction(alloc: Global, a: CondOf<ColumnRef>, b: CondOf<ColumnRef>) -> Result<CondOf<ColumnRef>, Stop>
-    ensures { Gives condition result (Some (either (condition a) (condition b))) }
-{
-    let a = Box::new(alloc, a)?;
-    let b = Box::new(alloc, b)?;
-    Ok(CondOf::Or(a, b))
+    Ok(Part::Condition(Box::new(alloc, condition)?))
 }
 
 fn calculated(alloc: Global, op: ArithOp, left: Part, right: Part) -> Result<Part, Stop>
@@ -157,15 +145,15 @@ fn calculated(alloc: Global, op: ArithOp, left: Part, right: Part) -> Result<Par
 {
     let a = plain_of(left)?;
     let b = plain_of(right)?;
-    Ok(Part::Plain(arithmetic(alloc, op, a, b)?))
+    plain_part(alloc, ExprOf::Arith(op, a, b))
 }
 
-fn compared(op: CompareOp, left: Part, right: Part) -> Result<Part, Stop>
+fn compared(alloc: Global, op: CompareOp, left: Part, right: Part) -> Result<Part, Stop>
     ensures { Gives parsed result (combined (Compare op) (parsed left) (parsed right)) }
 {
     let a = side_of(left)?;
     let b = side_of(right)?;
-    Ok(Part::Condition(CondOf::Compare(op, a, b)))
+    condition_part(alloc, CondOf::Compare(op, a, b))
 }
 
 fn both_of(alloc: Global, left: Part, right: Part) -> Result<Part, Stop>
@@ -173,7 +161,7 @@ fn both_of(alloc: Global, left: Part, right: Part) -> Result<Part, Stop>
 {
     let a = condition_of(left)?;
     let b = condition_of(right)?;
-    Ok(Part::Condition(conjunction(alloc, a, b)?))
+    condition_part(alloc, CondOf::And(a, b))
 }
 
 fn either_of(alloc: Global, left: Part, right: Part) -> Result<Part, Stop>
@@ -181,7 +169,7 @@ fn either_of(alloc: Global, left: Part, right: Part) -> Result<Part, Stop>
 {
     let a = condition_of(left)?;
     let b = condition_of(right)?;
-    Ok(Part::Condition(disjunction(alloc, a, b)?))
+    condition_part(alloc, CondOf::Or(a, b))
 }
 
 fn combined(alloc: Global, joint: Joint, left: Part, right: Part) -> Result<Part, Stop>
@@ -189,33 +177,34 @@ fn combined(alloc: Global, joint: Joint, left: Part, right: Part) -> Result<Part
 {
     match joint {
         Joint::Arith(op) => calculated(alloc, op, left, right),
-        Joint::Compare(op) => compared(op, left, right),
+        Joint::Compare(op) => compared(alloc, op, left, right),
         Joint::And => both_of(alloc, left, right),
         Joint::Or => either_of(alloc, left, right),
     }
 }
 
-fn column_at<'a>(name: &Bytes, tokens: &'a [Token]) -> Result<(Part, &'a [Token]), Stop>
+fn column_at<'a>(alloc: Global, name: &Bytes, tokens: &'a [Token]) -> Result<(Part, &'a [Token]), Stop>
     ensures { Gives (λ p. (parsed p.0, p.1.now)) result (Some (column_at name.now tokens.now)) }
 {
     let first = name.copy()?;
     if let [Token::Sign(Sign::Dot), Token::Name(column), ..] = tokens {
         let name = column.copy()?;
         let column = ColumnRef { table: Some(first), name };
-        return Ok((Part::Plain(ExprOf::Column(column)), &tokens[2..]));
+        let part = plain_part(alloc, ExprOf::Column(column))?;
+        return Ok((part, &tokens[2..]));
     }
     let column = ColumnRef { table: None, name: first };
-    Ok((Part::Plain(ExprOf::Column(column)), tokens))
+    Ok((plain_part(alloc, ExprOf::Column(column))?, tokens))
 }
 
-fn negative_at(tokens: &[Token]) -> Result<(Part, &[Token]), Stop>
+fn negative_at(alloc: Global, tokens: &[Token]) -> Result<(Part, &[Token]), Stop>
     ensures { Gives (λ p. (parsed p.0, p.1.now)) result (negative_at tokens.now) }
 {
     let (token, rest) = next_token(tokens)?;
     match token {
         Token::Number(size) => {
             let number = Number { negative: true, size: *size };
-            Ok((Part::Plain(ExprOf::Number(number)), rest))
+            Ok((plain_part(alloc, ExprOf::Number(number))?, rest))
         }
         _ => Err(Stop::Syntax),
     }
@@ -245,7 +234,7 @@ fn negated(alloc: Global, part: Part) -> Result<Part, Stop>
     ensures { (rest : List Token) → Gives (λ p. (parsed p, rest)) result (negation_at (parsed part) rest) }
 {
     match part {
-        Part::Condition(c) => Ok(Part::Condition(CondOf::Not(Box::new(alloc, c)?))),
+        Part::Condition(c) => condition_part(alloc, CondOf::Not(c)),
         Part::Plain(_) | Part::Text(_) => Err(Stop::Syntax),
     }
 }
@@ -255,7 +244,7 @@ fn first_sign<'a>(alloc: Global, sign: Sign, tokens: &'a [Token], depth: usize) 
     ensures { Gives (λ p. (parsed p.0, p.1.now)) result (first_sign (part_at depth) sign tokens.now) }
 {
     match sign {
-        Sign::Minus => negative_at(tokens),
+        Sign::Minus => negative_at(alloc, tokens),
         Sign::Open => {
             let (part, rest) = part_at(alloc, 1, tokens, depth)?;
             closed_at(part, rest)
@@ -283,11 +272,11 @@ fn first_part<'a>(alloc: Global, tokens: &'a [Token], depth: usize) -> Result<(P
 {
     let (token, rest) = next_token(tokens)?;
     match token {
-        Token::Name(name) => column_at(name, rest),
+        Token::Name(name) => column_at(alloc, name, rest),
         Token::Keyword(keyword) => first_keyword(alloc, *keyword, rest, depth),
         Token::Number(size) => {
             let number = Number { negative: false, size: *size };
-            Ok((Part::Plain(ExprOf::Number(number)), rest))
+            Ok((plain_part(alloc, ExprOf::Number(number))?, rest))
         }
         Token::LargeNumber => Err(Stop::Syntax),
         Token::Text(text) => Ok((Part::Text(text.copy()?), rest)),

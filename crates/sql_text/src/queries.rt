@@ -39,7 +39,7 @@ fn item_at<'a>(alloc: Global, tokens: &'a [Token], depth: usize) -> Result<(Item
     let (part, rest) = part_at(alloc, 5, tokens, depth)?;
     let expr = plain_of(part)?;
     let (alias, rest) = alias_at(rest)?;
-    let what = ItemKind::Plain(expr);
+    let what = ItemKind::Plain(Box::into_inner(expr));
     Ok((Item { what, alias }, rest))
 }
 
@@ -139,7 +139,7 @@ fn filter_at<'a>(alloc: Global, tokens: &'a [Token], depth: usize) -> Result<(Op
         None => Ok((None, tokens)),
         Some(rest) => {
             let (part, rest) = part_at(alloc, 1, rest, depth)?;
-            Ok((Some(condition_of(part)?), rest))
+            Ok((Some(Box::into_inner(condition_of(part)?)), rest))
         }
     }
 }
