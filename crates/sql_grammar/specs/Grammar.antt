@@ -1,10 +1,8 @@
 -- Which tokens spell a query. Each relation has a case for each line of the grammar: `IsTerm e ts rest` says that the tokens ts
 -- begin with a spelling of the term e, and that rest is what follows it.
 use Rattle.std.specs.Prelude.{◌≡◌, ℕ, true, false, List, [], ◌∷◌, Option, Some, None}
-use Rattle.query_model.specs.Formulas.{Formula, column, number, arith}
-use Rattle.query_model.specs.declared.query.Number.{Number}
+use Rattle.query_model.specs.Formulas.{column, number, arith}
 use Rattle.query_model.specs.declared.query.ColumnRef.{ColumnRef}
-use Rattle.query_model.specs.declared.query.ArithOp.{ArithOp}
 use Rattle.query_model.specs.declared.query.ArithOp.TheVariants as op
 use Rattle.query_model.specs.declared.query.CompareOp.{CompareOp}
 use Rattle.query_model.specs.declared.query.CompareOp.TheVariants as order

@@ -1,11 +1,10 @@
 -- Queries apart from where their boxes lie.
-use Rattle.std.specs.Prelude.{ℕ, List, [], ◌∷◌, map, Option, Some, None, option_map}
+use Rattle.std.specs.Prelude.{ℕ, List, map, Option, option_map}
 use Rattle.query_model.specs.Formulas.{Formula, formula}
 use Rattle.query_model.specs.declared.query.ColumnRef.{ColumnRef}
 use Rattle.query_model.specs.declared.query.AggOp.{AggOp}
 use Rattle.query_model.specs.declared.query.AggCall.{AggCall}
 use Rattle.query_model.specs.declared.query.CompareOp.{CompareOp}
-use Rattle.query_model.specs.declared.query.ExprOf.{ExprOf}
 use Rattle.query_model.specs.declared.query.Operand.{Operand}
 use Rattle.query_model.specs.declared.query.Operand.TheVariants as operand
 use Rattle.query_model.specs.declared.query.CondOf.{CondOf}

@@ -1,5 +1,5 @@
 -- One turn of the scanner.
-use Rattle.std.proofs.Common.{◌≡◌, ℕ, zero, suc, ◌+◌, ◌-◌, ◌*◌, ◌^◌, ◌<◌, ◌≤◌, Bool, true, false, cond, ◌==◌, List, [], ◌∷◌, ◌++◌, length, take, drop, get_or, Option, Some, None, option_map, IfSome, refl, sym, ap, subst, ◌∙◌, append_assoc, add-one, arith}
+use Rattle.std.proofs.Common.{◌≡◌, ℕ, zero, suc, ◌+◌, ◌-◌, ◌<◌, ◌≤◌, Bool, true, false, cond, ◌==◌, List, [], ◌∷◌, ◌++◌, length, drop, get_or, Option, Some, None, option_map, IfSome, refl, sym, ap, subst, ◌∙◌, append_assoc, add-one, arith}
 use Rattle.std.specs.List.{prefix_len, take_while}
 use Rattle.std.specs.Char.{is_ascii_digit}
 use Rattle.std.proofs.lemmas.List.Sums.{prefix_len-le-length}
@@ -49,8 +49,8 @@ turn : (whole : Option (List ℕ × ℕ)) (bytes front : List ℕ) (i b : ℕ) (
     → whole ≡ text_behind front i (text_on what b (λ next. text_at next (drop (i + 1) bytes)))
 turn whole bytes front i b p what at h is byte =
     at ∙ ap (λ bs. text_behind front i (text_at p bs)) (front_of bytes i b h is)
-        ∙ ap (text_behind front i) (text_goes p b (drop (i + 1) bytes))
-        ∙ ap (λ w. text_behind front i (text_on w b (λ next. text_at next (drop (i + 1) bytes)))) byte
+    ∙ ap (text_behind front i) (text_goes p b (drop (i + 1) bytes))
+    ∙ ap (λ w. text_behind front i (text_on w b (λ next. text_at next (drop (i + 1) bytes)))) byte
 
 pub text_content : (whole : Option (List ℕ × ℕ)) (bytes front : List ℕ) (i b : ℕ) (p : TextPlace)
     → whole ≡ text_behind front i (text_at p (drop i bytes)) → i < length bytes → b ≡ get_or bytes i 0 → text_byte p b ≡ byte.Content
@@ -96,8 +96,8 @@ pub text_ends : (whole : Option (List ℕ × ℕ)) (bytes front : List ℕ) (i :
     → whole ≡ text_behind front (length bytes) (text_end q)
 text_ends whole bytes front i p q at last is =
     at ∙ ap (λ i. text_behind front i (text_at p (drop i bytes))) last
-        ∙ ap (λ bs. text_behind front (length bytes) (text_at p bs)) (drop_all bytes)
-        ∙ ap (text_behind front (length bytes)) (text_at_end p ∙ ap text_end is)
+    ∙ ap (λ bs. text_behind front (length bytes) (text_at p bs)) (drop_all bytes)
+    ∙ ap (text_behind front (length bytes)) (text_at_end p ∙ ap text_end is)
 
 -- ---- how many bytes a token takes
 
@@ -147,6 +147,7 @@ number_takes b bs h = by_letter _ (begins_with_letter (drop (length (take_while 
   where
     passing : (b : ℕ) (bs : List ℕ) → is_ascii_digit b ≡ true → prefix_len is_ascii_digit (b ∷ bs) ≡ 1 + prefix_len is_ascii_digit bs
     passing b bs h = rw h refl
+
     by_letter : (t : Token) (w : Bool) → IfSome {T = Token × ℕ} (cond w None (Some (t, length (take_while is_ascii_digit (b ∷ bs))))) (λ r. Takes r.1 (length (b ∷ bs)))
     by_letter t true = tt
     by_letter t false = (omega (arith, length-prefix_len is_ascii_digit (b ∷ bs), passing b bs h), passing_within is_ascii_digit (b ∷ bs))
@@ -181,8 +182,8 @@ comparison_takes b bs = by_byte (b == 61) (b == 33) (b == 60) (b == 62)
   where
     by_byte : (x y z w : Bool)
         → IfSome {T = Sign × ℕ} (cond x (Some (sign.Equal, cond (begins_with 61 bs) 2 1))
-            (cond y (cond (begins_with 61 bs) (Some (sign.NotEqual, 2)) None)
-            (cond z (Some (less_sign bs)) (cond w (cond (begins_with 61 bs) (Some (sign.GreaterEqual, 2)) (Some (sign.Greater, 1))) None))))
+        (cond y (cond (begins_with 61 bs) (Some (sign.NotEqual, 2)) None)
+        (cond z (Some (less_sign bs)) (cond w (cond (begins_with 61 bs) (Some (sign.GreaterEqual, 2)) (Some (sign.Greater, 1))) None))))
         (λ r. Takes r.1 (suc (length bs)))
     by_byte true y z w = two_or_one 61 bs
     by_byte false true z w = by_next bs
@@ -252,7 +253,7 @@ pub tokens_blank : (whole : Option (List Token)) (front : List Token) (b : ℕ) 
 unfolding tokens_behind
 tokens_blank whole front b bs rest at is blank =
     at ∙ ap (λ r. tokens_with front (tokens_behind 0 r)) is
-        ∙ ap (λ w. tokens_with front (cond w (tokens_behind 0 bs) (behind_token (token_front (b ∷ bs)) (λ n. tokens_behind n bs)))) blank
+    ∙ ap (λ w. tokens_with front (cond w (tokens_behind 0 bs) (behind_token (token_front (b ∷ bs)) (λ n. tokens_behind n bs)))) blank
 
 token_step : (front : List Token) (t : Token) (read : Option (List Token))
     → tokens_with front (option_map (λ ts. t ∷ ts) read) ≡ tokens_with (front ++ t ∷ []) read
@@ -264,7 +265,7 @@ at_token : (front : List Token) (b : ℕ) (bs : List ℕ) (read : Option (Token 
 unfolding tokens_behind
 at_token front b bs read blank is =
     ap (λ w. tokens_with front (cond w (tokens_behind 0 bs) (behind_token (token_front (b ∷ bs)) (λ n. tokens_behind n bs)))) blank
-        ∙ ap (λ r. tokens_with front (behind_token r (λ n. tokens_behind n bs))) is
+    ∙ ap (λ r. tokens_with front (behind_token r (λ n. tokens_behind n bs))) is
 
 pub tokens_more : (whole : Option (List Token)) (front : List Token) (b : ℕ) (bs rest : List ℕ) (t : Token) (n : ℕ)
     → whole ≡ tokens_with front (tokens_behind 0 rest) → rest ≡ b ∷ bs → is_blank b ≡ false → token_front rest ≡ Some (t, n)
@@ -273,9 +274,9 @@ tokens_more whole front b bs rest t n at is blank read =
     let read_here : token_front (b ∷ bs) ≡ Some (t, n) = ap token_front (sym is) ∙ read in
     let takes = token_takes b bs t n read_here in
     at ∙ ap (λ r. tokens_with front (tokens_behind 0 r)) is ∙ at_token front b bs (Some (t, n)) blank read_here
-        ∙ token_step front t (tokens_behind (n - 1) bs)
-        ∙ ap (tokens_with (front ++ t ∷ [])) (behind_drop (n - 1) bs)
-        ∙ ap (λ r. tokens_with (front ++ t ∷ []) (tokens_behind 0 r)) (drop_one n takes.0 ∙ ap (drop n) (sym is))
+    ∙ token_step front t (tokens_behind (n - 1) bs)
+    ∙ ap (tokens_with (front ++ t ∷ [])) (behind_drop (n - 1) bs)
+    ∙ ap (λ r. tokens_with (front ++ t ∷ []) (tokens_behind 0 r)) (drop_one n takes.0 ∙ ap (drop n) (sym is))
   where
     drop_one : (n : ℕ) → 0 < n → drop (n - 1) bs ≡ drop n (b ∷ bs)
     drop_one zero h = absurd (omega arith)

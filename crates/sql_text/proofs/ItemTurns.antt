@@ -1,5 +1,5 @@
 -- One turn of the reading of items.
-use Rattle.std.proofs.Common.{◌≡◌, ℕ, zero, suc, ◌+◌, ◌<◌, ◌≤◌, List, [], ◌∷◌, ◌++◌, length, map, Option, Some, None, option_and_then, option_map, refl, sym, ap, ◌∙◌, append_assoc, arith}
+use Rattle.std.proofs.Common.{◌≡◌, ℕ, zero, suc, ◌<◌, List, [], ◌∷◌, ◌++◌, length, map, Some, None, option_and_then, option_map, refl, sym, ap, ◌∙◌, append_assoc, arith}
 use Rattle.query_model.specs.declared.query.Item.{Item}
 use Rattle.sql_grammar.specs.declared.Token.{Token}
 use Rattle.sql_grammar.specs.declared.Token.TheVariants as token
@@ -42,14 +42,14 @@ one_more : (depth turns : ℕ) (i : ItemTree) (ts mid behind : List Token) → i
 unfolding items_at
 one_more depth turns i ts mid behind read comma =
     ap (option_and_then (λ i. items_behind (items_at depth turns) i.0 i.1 (after_comma i.1))) read
-        ∙ ap (items_behind (items_at depth turns) i mid) comma
+    ∙ ap (items_behind (items_at depth turns) i mid) comma
 
 last_one : (depth turns : ℕ) (i : ItemTree) (ts rest : List Token) → item_at depth ts ≡ Some (i, rest) → after_comma rest ≡ None
     → items_at depth (suc turns) ts ≡ Some (i ∷ [], rest)
 unfolding items_at
 last_one depth turns i ts rest read none =
     ap (option_and_then (λ i. items_behind (items_at depth turns) i.0 i.1 (after_comma i.1))) read
-        ∙ ap (items_behind (items_at depth turns) i rest) none
+    ∙ ap (items_behind (items_at depth turns) i rest) none
 
 no_item : (depth turns : ℕ) (ts : List Token) → item_at depth ts ≡ None → items_at depth (suc turns) ts ≡ None
 unfolding items_at

@@ -1,20 +1,17 @@
 -- What is spelled is read.
-use Rattle.std.proofs.Common.{◌≡◌, ℕ, zero, suc, ◌+◌, ◌<◌, ◌≤◌, Bool, true, false, List, [], ◌∷◌, length, Option, Some, None, option_and_then, option_map, refl, sym, ap, ◌∙◌, arith}
+use Rattle.std.proofs.Common.{◌≡◌, ℕ, suc, ◌<◌, ◌≤◌, true, List, [], ◌∷◌, length, Some, None, option_and_then, option_map, refl, ap, ◌∙◌, arith}
 use Rattle.query_model.specs.Formulas.{column}
 use Rattle.query_model.specs.declared.query.ArithOp.TheVariants as op
 use Rattle.query_model.specs.declared.query.ColumnRef.{ColumnRef}
 use Rattle.query_model.specs.declared.query.CompareOp.{CompareOp}
-use Rattle.sql_grammar.specs.declared.Token.{Token}
 use Rattle.sql_grammar.specs.declared.Token.TheVariants as token
-use Rattle.sql_grammar.specs.declared.Keyword.TheVariants as keyword
 use Rattle.sql_grammar.specs.declared.Sign.{Sign}
 use Rattle.sql_grammar.specs.declared.Sign.TheVariants as sign
-use Rattle.sql_grammar.specs.Trees.{Expression, Side, plain, text, call, Condition, compare, both, either, negated}
+use Rattle.sql_grammar.specs.Trees.{Expression, Side, plain, text, call, Condition, compare}
 use Rattle.sql_grammar.specs.Grammar.{Tokens, IsColumn, unqualified, qualified, IsExpr, one_term, sum, difference, IsTerm, one_factor, product, IsFactor, a_column, a_number, negative, enclosed, IsOperand, an_expr, a_string, IsComparison, equal, not_equal, less, less_equal, greater, greater_equal, IsCond, one_conj, disjunction, IsConj, one_neg, conjunction, IsNeg, negation, enclosed_cond, comparison}
-use Rattle.sql_text.specs.declared.part.Joint.{Joint}
 use Rattle.sql_text.specs.declared.part.Joint.TheVariants as joint
-use Rattle.sql_text.specs.Parts.{Parsed, expression, string, truth, Reading, Reads, joint_of, level, if_level, next_joint, combined, side_of, column_at, closed_at, negation_at, first_part, part_at}
-use Rattle.sql_text.proofs.Turns.{no_dot, if_level-found, if_level-none, loose, tighter, Goes, from_first, onward, whole, deeper}
+use Rattle.sql_text.specs.Parts.{Parsed, expression, string, truth, joint_of, if_level, next_joint, combined, side_of, column_at, closed_at, negation_at, first_part, part_at}
+use Rattle.sql_text.proofs.Turns.{no_dot, if_level-found, if_level-none, loose, tighter, Goes, from_first, onward, deeper}
 
 -- ---- a spelling takes a token
 
@@ -91,7 +88,7 @@ mutual
       onward n least (joint.Arith op.Mul) (expression a) (expression b) _ ts _ mid rest (term_found left n least k refl l)
       (if_level-found least mid (joint.Arith op.Mul) k)
       (deeper n 7 (expression b) mid rest (omega (arith, term_shorter left)) (factor_shorter right)
-          (λ m i. from_first m 7 _ _ _ (factor_found right m h i)) (loose rest))
+      (λ m i. from_first m 7 _ _ _ (factor_found right m h i)) (loose rest))
       refl (factor_shorter right) (omega arith)
 
   pub expr_found : {e : Expression} {ts rest : Tokens} → IsExpr e ts rest → (n least : ℕ) → least ≤ 5 → no_dot rest ≡ true
@@ -101,13 +98,13 @@ mutual
       onward n least (joint.Arith op.Add) (expression a) (expression b) _ ts _ mid rest (expr_found left n least k refl refl l)
       (if_level-found least mid (joint.Arith op.Add) k)
       (deeper n 6 (expression b) mid rest (omega (arith, expr_shorter left)) (term_shorter right)
-          (λ m i. term_found right m 6 (omega arith) h i) none)
+      (λ m i. term_found right m 6 (omega arith) h i) none)
       refl (term_shorter right) (omega arith)
   expr_found (difference {a = a} {b = b} {ts = ts} {mid = mid} {rest = rest} left right) n least k h none l =
       onward n least (joint.Arith op.Sub) (expression a) (expression b) _ ts _ mid rest (expr_found left n least k refl refl l)
       (if_level-found least mid (joint.Arith op.Sub) k)
       (deeper n 6 (expression b) mid rest (omega (arith, expr_shorter left)) (term_shorter right)
-          (λ m i. term_found right m 6 (omega arith) h i) none)
+      (λ m i. term_found right m 6 (omega arith) h i) none)
       refl (term_shorter right) (omega arith)
 
 -- ---- conditions
@@ -146,7 +143,7 @@ compared : (o : CompareOp) (a b : Side) → side_of (of_side a) ≡ Some a → s
     → combined (joint.Compare o) (of_side a) (of_side b) ≡ Some (truth (compare o a b))
 compared o a b is_a is_b =
     ap (option_and_then (λ l. option_map (λ r. truth (compare o l r)) (side_of (of_side b)))) is_a
-        ∙ ap (option_map (λ r. truth (compare o a r))) is_b
+    ∙ ap (option_map (λ r. truth (compare o a r))) is_b
 
 comparison_found : {o : CompareOp} {s : Sign} {a b : Side} {ts mid rest : Tokens} → IsOperand a ts (token.Sign s ∷ mid)
     → IsComparison o s → IsOperand b mid rest → (n least : ℕ) → least ≤ 4 → no_dot rest ≡ true → next_joint 5 rest ≡ None
@@ -154,10 +151,10 @@ comparison_found : {o : CompareOp} {s : Sign} {a b : Side} {ts mid rest : Tokens
 comparison_found {o = o} {s = s} {a = a} {b = b} {ts = ts} {mid = mid} {rest = rest} left is right n least k h none l =
     onward n least (joint.Compare o) (of_side a) (of_side b) _ ts _ mid rest
     (operand_found left n least (omega arith) (comparison_no_dot mid is)
-        (ap (if_level 6 mid) (comparison_joint is) ∙ if_level-none 6 mid (joint.Compare o) (omega arith)) l)
+    (ap (if_level 6 mid) (comparison_joint is) ∙ if_level-none 6 mid (joint.Compare o) (omega arith)) l)
     (ap (if_level least mid) (comparison_joint is) ∙ if_level-found least mid (joint.Compare o) k)
     (deeper n 5 (of_side b) mid rest (omega (arith, operand_shorter left)) (operand_shorter right)
-        (λ m i. operand_found right m 5 (omega arith) h (tighter 5 6 rest (omega arith) none) i) none)
+    (λ m i. operand_found right m 5 (omega arith) h (tighter 5 6 rest (omega arith) none) i) none)
     (compared o a b (of_operand left) (of_operand right)) (operand_shorter right) (omega arith)
 
 mutual
@@ -165,10 +162,10 @@ mutual
       → next_joint 4 rest ≡ None → length ts ≤ suc n → Goes n least (truth c) ts rest
   neg_found (negation {c = c} {ts = ts} {rest = rest} a) n least k h none l =
       from_first n least _ _ _ (ap (option_and_then (λ p. negation_at p.0 p.1))
-          (deeper n 4 (truth c) ts rest (omega arith) (neg_shorter a) (λ m i. neg_found a m 4 (omega arith) h none i) none))
+      (deeper n 4 (truth c) ts rest (omega arith) (neg_shorter a) (λ m i. neg_found a m 4 (omega arith) h none i) none))
   neg_found (enclosed_cond {c = c} {ts = ts} {rest = rest} a) n least k h none l =
       from_first n least _ _ _ (inside_found n (truth c) ts rest
-          (deeper n 1 (truth c) ts _ (omega arith) (cond_shorter a) (λ m i. cond_found a m 1 (omega arith) refl refl i) refl) refl)
+      (deeper n 1 (truth c) ts _ (omega arith) (cond_shorter a) (λ m i. cond_found a m 1 (omega arith) refl refl i) refl) refl)
   neg_found (comparison {rest = rest} left is right) n least k h none l =
       comparison_found left is right n least k h (tighter 4 5 rest (omega arith) none) l
 
@@ -179,7 +176,7 @@ mutual
       onward n least joint.And (truth a) (truth b) _ ts _ mid rest (conj_found left n least k refl refl l)
       (if_level-found least mid joint.And k)
       (deeper n 3 (truth b) mid rest (omega (arith, conj_shorter left)) (neg_shorter right)
-          (λ m i. neg_found right m 3 (omega arith) h (tighter 3 4 rest (omega arith) none) i) none)
+      (λ m i. neg_found right m 3 (omega arith) h (tighter 3 4 rest (omega arith) none) i) none)
       refl (neg_shorter right) (omega arith)
 
   pub cond_found : {c : Condition} {ts rest : Tokens} → IsCond c ts rest → (n least : ℕ) → least ≤ 1 → no_dot rest ≡ true
@@ -189,5 +186,5 @@ mutual
       onward n least joint.Or (truth a) (truth b) _ ts _ mid rest (cond_found left n least k refl refl l)
       (if_level-found least mid joint.Or k)
       (deeper n 2 (truth b) mid rest (omega (arith, cond_shorter left)) (conj_shorter right)
-          (λ m i. conj_found right m 2 (omega arith) h (tighter 2 3 rest (omega arith) none) i) none)
+      (λ m i. conj_found right m 2 (omega arith) h (tighter 2 3 rest (omega arith) none) i) none)
       refl (conj_shorter right) (omega arith)

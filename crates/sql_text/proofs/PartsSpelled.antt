@@ -1,10 +1,8 @@
 -- What is read is spelled so.
-use Rattle.std.proofs.Common.{◌≡◌, ℕ, zero, suc, ◌+◌, ◌<◌, ◌≤◌, Bool, true, false, cond, nat_le, List, [], ◌∷◌, length, Option, Some, None, option_and_then, option_map, IfSome, refl, sym, ap, subst, ◌∙◌, arith}
-use Rattle.std.proofs.lemmas.Option.{same_Some}
-use Rattle.query_model.specs.Formulas.{column, number, arith as arithmetic}
+use Rattle.std.proofs.Common.{◌≡◌, ℕ, zero, suc, ◌<◌, ◌≤◌, Bool, true, false, cond, nat_le, List, [], ◌∷◌, length, Option, Some, None, option_and_then, option_map, IfSome, refl, sym, ap, subst, arith}
+use Rattle.query_model.specs.Formulas.{arith as arithmetic}
 use Rattle.query_model.specs.declared.query.ArithOp.{ArithOp}
 use Rattle.query_model.specs.declared.query.ArithOp.TheVariants as op
-use Rattle.query_model.specs.declared.query.ColumnRef.{ColumnRef}
 use Rattle.query_model.specs.declared.query.CompareOp.{CompareOp}
 use Rattle.sql_grammar.specs.declared.Token.{Token}
 use Rattle.sql_grammar.specs.declared.Token.TheVariants as token
@@ -12,8 +10,8 @@ use Rattle.sql_grammar.specs.declared.Keyword.{Keyword}
 use Rattle.sql_grammar.specs.declared.Keyword.TheVariants as keyword
 use Rattle.sql_grammar.specs.declared.Sign.{Sign}
 use Rattle.sql_grammar.specs.declared.Sign.TheVariants as sign
-use Rattle.sql_grammar.specs.Trees.{Expression, Side, plain, text, call, Condition, compare, both, either, negated}
-use Rattle.sql_grammar.specs.Grammar.{Tokens, IsColumn, unqualified, qualified, IsExpr, one_term, sum, difference, IsTerm, one_factor, product, IsFactor, a_column, a_number, negative, enclosed, IsOperand, an_expr, a_string, IsComparison, equal, not_equal, less, less_equal, greater, greater_equal, IsCond, one_conj, disjunction, IsConj, one_neg, conjunction, IsNeg, negation, enclosed_cond, comparison}
+use Rattle.sql_grammar.specs.Trees.{Expression, text, Condition, both}
+use Rattle.sql_grammar.specs.Grammar.{Tokens, unqualified, qualified, IsExpr, one_term, sum, difference, IsTerm, one_factor, product, IsFactor, a_column, a_number, negative, enclosed, IsOperand, an_expr, a_string, IsComparison, equal, not_equal, less, less_equal, greater, greater_equal, IsCond, one_conj, disjunction, IsConj, one_neg, conjunction, IsNeg, negation, enclosed_cond, comparison}
 use Rattle.sql_text.specs.declared.part.Joint.{Joint}
 use Rattle.sql_text.specs.declared.part.Joint.TheVariants as joint
 use Rattle.sql_text.specs.Parts.{Parsed, expression, string, truth, Reading, Reads, sign_joint, keyword_joint, joint_of, level, if_level, next_joint, combined, side_of, column_at, negative_at, closed_at, negation_at, first_sign, first_keyword, first_part, turn_of, joined_at, joined, part_at}
@@ -256,8 +254,8 @@ turn_spelled right h j bound v ts mid t is high left =
     bind (λ r. Found (suc (level j)) r.0 mid r.1) (λ r. IsTurned (level j) r.0 ts r.1) (λ r. option_map (λ p. (p, r.1)) (combined j v r.0))
     (right (suc (level j)) mid) (h (suc (level j)) mid (level_below j))
     (λ r found. map_some (λ u. IsPart (level j) u ts r.1) (λ r. IsTurned (level j) r.0 ts r.1) (λ p. (p, r.1)) (combined j v r.0)
-        (combined_spelled j bound v r.0 ts mid r.1 t is high left found.is)
-        (λ u part. record { is = part; none = found.none }))
+    (combined_spelled j bound v r.0 ts mid r.1 t is high left found.is)
+    (λ u part. record { is = part; none = found.none }))
 
 -- what the turns keep: the part at the left, behind which none binds more tightly than bound
 abbrev GoOn : (Parsed → Tokens → Reading Parsed) → ℕ → Type 0

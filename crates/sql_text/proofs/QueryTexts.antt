@@ -1,16 +1,15 @@
 -- A query is read exactly where one is spelled.
-use Rattle.std.proofs.Common.{◌≡◌, ℕ, zero, suc, ◌+◌, ◌<◌, ◌≤◌, Bool, true, false, cond, List, [], ◌∷◌, length, Option, Some, None, option_and_then, option_map, IfSome, refl, sym, ap, subst, ◌∙◌, arith}
+use Rattle.std.proofs.Common.{◌≡◌, ℕ, zero, suc, ◌<◌, ◌≤◌, true, cond, List, [], ◌∷◌, length, Option, Some, None, option_and_then, option_map, IfSome, refl, ap, subst, ◌∙◌, arith}
 use Rattle.query_model.specs.declared.query.ColumnRef.{ColumnRef}
 use Rattle.query_model.specs.declared.query.TableRef.{TableRef}
-use Rattle.sql_grammar.specs.declared.Token.{Token}
 use Rattle.sql_grammar.specs.declared.Token.TheVariants as token
 use Rattle.sql_grammar.specs.declared.Keyword.TheVariants as keyword
 use Rattle.sql_grammar.specs.declared.Sign.{Sign}
 use Rattle.sql_grammar.specs.declared.Sign.TheVariants as sign
-use Rattle.sql_grammar.specs.Trees.{Expression, Condition, ItemTree, plain_item, Selection, star, listed, QueryTree}
+use Rattle.sql_grammar.specs.Trees.{Expression, Condition, ItemTree, Selection, listed, QueryTree}
 use Rattle.sql_grammar.specs.Grammar.{Tokens, IsExpr, IsColumn, unqualified, qualified, one_term, sum, difference, IsTerm, one_factor, product, IsFactor, a_column, a_number, negative, enclosed, IsCond, IsItem, unnamed, named, AreItems, last_item, more_items, IsSelection, all_columns, some_items, IsTable, named_table, IsFilter, no_filter, filter_by as filtered, IsQuery, select_query, IsText, bare, with_semicolon}
 use Rattle.sql_text.specs.Parts.{Parsed, expression, string, truth, Reading, next_joint, plain_of, condition_of, part_at}
-use Rattle.sql_text.specs.Queries.{name_at, alias_at, item_of, with_alias, item_at, after_comma, items_behind, items_at, after_star, selection_by, selection_at, after_select, after_from, table_at, from_at, after_where, filter_by, filter_at, is_end, query_of, ended, query_behind, query_at}
+use Rattle.sql_text.specs.Queries.{alias_at, item_of, with_alias, item_at, after_comma, items_behind, items_at, after_star, selection_by, selection_at, table_at, after_where, filter_by, filter_at, is_end, query_of, ended, query_behind, query_at}
 use Rattle.sql_text.proofs.Turns.{no_dot, tighter, deeper}
 use Rattle.sql_text.proofs.PartsFound.{expr_found, cond_found, expr_shorter, cond_shorter}
 use Rattle.sql_text.proofs.PartsSpelled.{IsPart, Found, bind, map_some, part_spelled}
@@ -27,7 +26,7 @@ item_from : (n : ℕ) (e : Expression) (alias : Option (List ℕ)) (ts mid rest 
     → alias_at mid ≡ Some (alias, rest) → item_at n ts ≡ Some (item_of e alias, rest)
 item_from n e alias ts mid rest read more =
     ap (option_and_then (λ p. option_and_then (λ e. with_alias e (alias_at p.1)) (plain_of p.0))) read
-        ∙ ap (with_alias e) more
+    ∙ ap (with_alias e) more
 
 -- what ends an item
 record EndsItem (rest : Tokens) : Type 0 where
@@ -57,7 +56,7 @@ more_from : (n turns : ℕ) (i : ItemTree) (is : List ItemTree) (ts mid behind r
 unfolding items_at
 more_from n turns i is ts mid behind rest read comma more =
     ap (option_and_then (λ i. items_behind (items_at n turns) i.0 i.1 (after_comma i.1))) read
-        ∙ ap (items_behind (items_at n turns) i mid) comma ∙ ap (option_map (λ is. (i ∷ is.0, is.1))) more
+    ∙ ap (items_behind (items_at n turns) i mid) comma ∙ ap (option_map (λ is. (i ∷ is.0, is.1))) more
 
 items_found : {is : List ItemTree} {ts rest : Tokens} → AreItems is ts rest → (n turns : ℕ) → length ts ≤ n → length ts < turns
     → EndsItem rest → after_comma rest ≡ None → items_at n turns ts ≡ Some (is, rest)
@@ -125,7 +124,7 @@ filter_found (no_filter {rest = rest}) n l ends = ap (filter_by n rest) ends.no_
 filter_found (filtered {c = c} {ts = ts} {rest = rest} is) n l ends =
     ap (option_and_then (λ p. option_map (λ c. (Some c, p.1)) (condition_of p.0)))
     (deeper n 1 (truth c) ts rest (omega arith) (cond_shorter is)
-        (λ m k. cond_found is m 1 (omega arith) ends.dot (tighter 1 2 rest (omega arith) ends.joint) k) ends.joint)
+    (λ m k. cond_found is m 1 (omega arith) ends.dot (tighter 1 2 rest (omega arith) ends.joint) k) ends.joint)
 
 table_found : {t : TableRef} {ts rest : Tokens} → IsTable t ts rest → table_at ts ≡ Some (t, rest)
 table_found named_table = refl
@@ -173,7 +172,7 @@ item_spelled n ts =
     (λ p. option_and_then (λ e. with_alias e (alias_at p.1)) (plain_of p.0)) (part_at n 5 ts)
     (part_spelled n 5 ts (omega arith))
     (λ p found. bind (λ e. IsExpr e ts p.1) (λ r. IsItem r.0 ts r.1) (λ e. with_alias e (alias_at p.1)) (plain_of p.0)
-        (plain_spelled p.0 ts p.1 found.is) (λ e is. alias_spelled e ts p.1 is))
+    (plain_spelled p.0 ts p.1 found.is) (λ e is. alias_spelled e ts p.1 is))
 
 behind_spelled : (more : Tokens → Reading (List ItemTree)) → ((ts : Tokens) → IfSome (more ts) (λ r. AreItems r.0 ts r.1))
     → (i : ItemTree) (ts mid : Tokens) → IsItem i ts mid → IfSome (items_behind more i mid (after_comma mid)) (λ r. AreItems r.0 ts r.1)
@@ -227,7 +226,7 @@ filter_spelled n (token.Keyword keyword.Where ∷ ts) =
     bind (λ p. Found 1 p.0 ts p.1) (λ r. IsFilter r.0 (token.Keyword keyword.Where ∷ ts) r.1)
     (λ p. option_map (λ c. (Some c, p.1)) (condition_of p.0)) (part_at n 1 ts) (part_spelled n 1 ts (omega arith))
     (λ p found. map_some (λ c. IsCond c ts p.1) (λ r. IsFilter r.0 (token.Keyword keyword.Where ∷ ts) r.1) (λ c. (Some c, p.1)) (condition_of p.0)
-        (truth_spelled p.0 ts p.1 found.is) (λ c is. filtered is))
+    (truth_spelled p.0 ts p.1 found.is) (λ c is. filtered is))
 filter_spelled n _ = no_filter
 
 table_spelled : (ts : Tokens) → IfSome (table_at ts) (λ r. IsTable r.0 ts r.1)
@@ -247,7 +246,7 @@ behind_from n s ts (token.Keyword keyword.From ∷ mid) items =
     bind (λ t. IsTable t.0 mid t.1) (λ q. IsText q (token.Keyword keyword.Select ∷ ts))
     (λ t. option_and_then (λ f. ended s t.0 f.0 f.1) (filter_at n t.1)) (table_at mid) (table_spelled mid)
     (λ t is. bind (λ f. IsFilter f.0 t.1 f.1) (λ q. IsText q (token.Keyword keyword.Select ∷ ts)) (λ f. ended s t.0 f.0 f.1) (filter_at n t.1)
-        (filter_spelled n t.1) (λ f where_is. ended_spelled s t.0 f.0 ts mid t.1 f.1 items is where_is))
+    (filter_spelled n t.1) (λ f where_is. ended_spelled s t.0 f.0 ts mid t.1 f.1 items is where_is))
 behind_from n s ts _ items = tt
 
 pub text_spelled : (n : ℕ) (ts : Tokens) → IfSome (query_at n ts) (λ q. IsText q ts)

@@ -1,13 +1,11 @@
 -- What the reading of a text's tokens says of the text.
-use Rattle.std.proofs.Common.{◌≡◌, ℕ, ◌<◌, ◌≤◌, Bool, true, false, cond, List, length, Option, Some, None, IfSome, inr, refl, sym, ap, subst, ◌∙◌, arith}
+use Rattle.std.proofs.Common.{◌≡◌, ℕ, ◌≤◌, false, cond, List, length, Option, Some, None, IfSome, inr, sym, ap, subst, ◌∙◌, arith}
 use Rattle.std.specs.Prelude.{nat_lt}
 use Rattle.std.proofs.lemmas.Option.{same_Some, none-some}
 use Rattle.query_model.specs.declared.query.Query.{Query}
-use Rattle.sql_grammar.specs.declared.Token.{Token}
 use Rattle.sql_grammar.specs.Tokens.{tokens_of}
 use Rattle.sql_grammar.specs.Trees.{QueryTree, query_tree}
 use Rattle.sql_grammar.specs.Grammar.{Tokens, IsText, Spells}
-use Rattle.sql_text.specs.declared.limits.ParseRefusal.{ParseRefusal}
 use Rattle.sql_text.specs.declared.limits.ParseRefusal.TheVariants as refusal
 use Rattle.sql_text.specs.declared.limits.TheConstants.{MAX_TEXT}
 use Rattle.sql_text.specs.declared.stop.Stop.{Stop}

@@ -1,9 +1,8 @@
 -- How parts of expressions and conditions are read, from the left.
-use Rattle.std.specs.Prelude.{◌≡◌, ℕ, zero, suc, Bool, true, false, nat_le, if◌then◌else◌, List, [], ◌∷◌, length, Option, Some, None, option_map, option_and_then}
+use Rattle.std.specs.Prelude.{ℕ, zero, suc, true, false, nat_le, if◌then◌else◌, List, [], ◌∷◌, length, Option, Some, None, option_map, option_and_then}
 use Rattle.query_model.specs.Formulas.{column, number, arith, formula}
 use Rattle.query_model.specs.declared.query.ArithOp.TheVariants as op
 use Rattle.query_model.specs.declared.query.CompareOp.TheVariants as order
-use Rattle.query_model.specs.declared.query.ColumnRef.{ColumnRef}
 use Rattle.sql_grammar.specs.declared.Token.{Token}
 use Rattle.sql_grammar.specs.declared.Token.TheVariants as token
 use Rattle.sql_grammar.specs.declared.Keyword.{Keyword}

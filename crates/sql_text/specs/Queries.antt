@@ -1,5 +1,5 @@
 -- How a query is read, from the left.
-use Rattle.std.specs.Prelude.{◌≡◌, ℕ, zero, suc, Bool, true, false, if◌then◌else◌, List, [], ◌∷◌, length, Option, Some, None, option_map, option_and_then}
+use Rattle.std.specs.Prelude.{ℕ, zero, suc, Bool, true, false, if◌then◌else◌, List, [], ◌∷◌, length, Option, Some, None, option_map, option_and_then}
 use Rattle.query_model.specs.declared.query.TableRef.{TableRef}
 use Rattle.query_model.specs.declared.query.TableRef.TheVariants as table
 use Rattle.sql_grammar.specs.declared.Token.{Token}
@@ -7,7 +7,7 @@ use Rattle.sql_grammar.specs.declared.Token.TheVariants as token
 use Rattle.sql_grammar.specs.declared.Keyword.TheVariants as keyword
 use Rattle.sql_grammar.specs.declared.Sign.TheVariants as sign
 use Rattle.sql_grammar.specs.Trees.{Expression, Condition, ItemTree, plain_item, Selection, star, listed, QueryTree}
-use Rattle.sql_text.specs.Parts.{Parsed, Reading, plain_of, condition_of, part_at}
+use Rattle.sql_text.specs.Parts.{Reading, plain_of, condition_of, part_at}
 
 -- ---- items
 

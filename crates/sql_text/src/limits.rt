@@ -35,7 +35,8 @@ fn is_large(token: &Token) -> bool
 {
     match token {
         Token::LargeNumber => true,
-        Token::Name(_) | Token::Keyword(_) | Token::Number(_) | Token::Text(_) | Token::Sign(_) => false,
+        Token::Name(_) | Token::Keyword(_) | Token::Number(_) | Token::Text(_) | Token::Sign(_) =>
+            false,
     }
 }
 
@@ -98,7 +99,10 @@ fn is_unbuilt_keyword(keyword: Keyword) -> bool
 fn is_aggregate(word: &[u8]) -> bool
     ensures { result ≡ is_aggregate word.now }
 {
-    is_word(word, b"count") || is_word(word, b"sum") || is_word(word, b"min") || is_word(word, b"max")
+    is_word(word, b"count")
+        || is_word(word, b"sum")
+        || is_word(word, b"min")
+        || is_word(word, b"max")
 }
 
 fn is_call_word(word: &[u8]) -> bool

@@ -1,6 +1,6 @@
 // Expressions and conditions.
 ghost use Rattle.std.specs.Prelude.{◌≡◌, ℕ, suc, ◌+◌, ◌<◌, ◌≤◌, length, List, Some, None, option_map, OnOk, IfOk};
-ghost use Rattle.query_model.specs.Formulas.{formula};
+ghost use Rattle.query_model.specs.Formulas.{formula, number};
 ghost use Rattle.sql_text.specs.declared.part.Joint.TheVariants.{Arith, Compare, And, Or};
 ghost use Rattle.sql_grammar.specs.declared.Token.{Token};
 ghost use Rattle.sql_grammar.specs.Trees.{side, condition, condition as condition_tree};
@@ -183,29 +183,41 @@ fn combined(alloc: Global, joint: Joint, left: Part, right: Part) -> Result<Part
     }
 }
 
-fn column_at<'a>(alloc: Global, name: &Bytes, tokens: &'a [Token]) -> Result<(Part, &'a [Token]), Stop>
+fn column_at<'a>(
+    alloc: Global,
+    name: &Bytes,
+    tokens: &'a [Token],
+) -> Result<(Part, &'a [Token]), Stop>
     ensures { Gives (λ p. (parsed p.0, p.1.now)) result (Some (column_at name.now tokens.now)) }
 {
     let first = name.copy()?;
     if let [Token::Sign(Sign::Dot), Token::Name(column), ..] = tokens {
         let name = column.copy()?;
-        let column = ColumnRef { table: Some(first), name };
+        let column = ColumnRef {
+            table: Some(first),
+            name,
+        };
         let part = plain_part(alloc, ExprOf::Column(column))?;
         return Ok((part, &tokens[2..]));
     }
-    let column = ColumnRef { table: None, name: first };
+    let column = ColumnRef {
+        table: None,
+        name: first,
+    };
     Ok((plain_part(alloc, ExprOf::Column(column))?, tokens))
+}
+
+fn number_part(alloc: Global, negative: bool, size: u64) -> Result<Part, Stop>
+    ensures { Gives parsed result (Some (expression (number (record { negative = negative; size = size })))) }
+{
+    plain_part(alloc, ExprOf::Number(Number { negative, size }))
 }
 
 fn negative_at(alloc: Global, tokens: &[Token]) -> Result<(Part, &[Token]), Stop>
     ensures { Gives (λ p. (parsed p.0, p.1.now)) result (negative_at tokens.now) }
 {
-    let (token, rest) = next_token(tokens)?;
-    match token {
-        Token::Number(size) => {
-            let number = Number { negative: true, size: *size };
-            Ok((plain_part(alloc, ExprOf::Number(number))?, rest))
-        }
+    match next_token(tokens)? {
+        (Token::Number(size), rest) => Ok((number_part(alloc, true, *size)?, rest)),
         _ => Err(Stop::Syntax),
     }
 }
@@ -240,7 +252,12 @@ fn negated(alloc: Global, part: Part) -> Result<Part, Stop>
 }
 
 #[cycle(part)]
-fn first_sign<'a>(alloc: Global, sign: Sign, tokens: &'a [Token], depth: usize) -> Result<(Part, &'a [Token]), Stop>
+fn first_sign<'a>(
+    alloc: Global,
+    sign: Sign,
+    tokens: &'a [Token],
+    depth: usize,
+) -> Result<(Part, &'a [Token]), Stop>
     ensures { Gives (λ p. (parsed p.0, p.1.now)) result (first_sign (part_at depth) sign tokens.now) }
 {
     match sign {
@@ -254,7 +271,12 @@ fn first_sign<'a>(alloc: Global, sign: Sign, tokens: &'a [Token], depth: usize) 
 }
 
 #[cycle(part)]
-fn first_keyword<'a>(alloc: Global, keyword: Keyword, tokens: &'a [Token], depth: usize) -> Result<(Part, &'a [Token]), Stop>
+fn first_keyword<'a>(
+    alloc: Global,
+    keyword: Keyword,
+    tokens: &'a [Token],
+    depth: usize,
+) -> Result<(Part, &'a [Token]), Stop>
     ensures { Gives (λ p. (parsed p.0, p.1.now)) result (first_keyword (part_at depth) keyword tokens.now) }
 {
     match keyword {
@@ -267,17 +289,18 @@ fn first_keyword<'a>(alloc: Global, keyword: Keyword, tokens: &'a [Token], depth
 }
 
 #[cycle(part)]
-fn first_part<'a>(alloc: Global, tokens: &'a [Token], depth: usize) -> Result<(Part, &'a [Token]), Stop>
+fn first_part<'a>(
+    alloc: Global,
+    tokens: &'a [Token],
+    depth: usize,
+) -> Result<(Part, &'a [Token]), Stop>
     ensures { Gives (λ p. (parsed p.0, p.1.now)) result (first_part (part_at depth) tokens.now) }
 {
     let (token, rest) = next_token(tokens)?;
     match token {
         Token::Name(name) => column_at(alloc, name, rest),
         Token::Keyword(keyword) => first_keyword(alloc, *keyword, rest, depth),
-        Token::Number(size) => {
-            let number = Number { negative: false, size: *size };
-            Ok((plain_part(alloc, ExprOf::Number(number))?, rest))
-        }
+        Token::Number(size) => Ok((number_part(alloc, false, *size)?, rest)),
         Token::LargeNumber => Err(Stop::Syntax),
         Token::Text(text) => Ok((Part::Text(text.copy()?), rest)),
         Token::Sign(sign) => first_sign(alloc, *sign, rest, depth),
@@ -285,7 +308,12 @@ fn first_part<'a>(alloc: Global, tokens: &'a [Token], depth: usize) -> Result<(P
 }
 
 #[cycle(part)]
-pub fn part_at<'a>(alloc: Global, least: u8, tokens: &'a [Token], depth: usize) -> Result<(Part, &'a [Token]), Stop>
+pub fn part_at<'a>(
+    alloc: Global,
+    least: u8,
+    tokens: &'a [Token],
+    depth: usize,
+) -> Result<(Part, &'a [Token]), Stop>
     ensures { Gives (λ p. (parsed p.0, p.1.now)) result (part_at depth least tokens.now) }
 {
     if depth == 0 {
@@ -296,7 +324,13 @@ pub fn part_at<'a>(alloc: Global, least: u8, tokens: &'a [Token], depth: usize) 
 }
 
 #[cycle(part)]
-fn turn_of<'a>(alloc: Global, joint: Joint, left: Part, tokens: &'a [Token], depth: usize) -> Result<(Part, &'a [Token]), Stop>
+fn turn_of<'a>(
+    alloc: Global,
+    joint: Joint,
+    left: Part,
+    tokens: &'a [Token],
+    depth: usize,
+) -> Result<(Part, &'a [Token]), Stop>
     ensures { Gives (λ p. (parsed p.0, p.1.now)) result (turn_of (part_at depth) joint (parsed left) tokens.now) }
 {
     let (right, rest) = part_at(alloc, level_above(joint), tokens, depth)?;
@@ -304,7 +338,13 @@ fn turn_of<'a>(alloc: Global, joint: Joint, left: Part, tokens: &'a [Token], dep
 }
 
 #[cycle(part)]
-fn joined<'a>(alloc: Global, least: u8, first: Part, tokens: &'a [Token], depth: usize) -> Result<(Part, &'a [Token]), Stop>
+fn joined<'a>(
+    alloc: Global,
+    least: u8,
+    first: Part,
+    tokens: &'a [Token],
+    depth: usize,
+) -> Result<(Part, &'a [Token]), Stop>
     ensures { Gives (λ p. (parsed p.0, p.1.now)) result (joined (part_at depth) least (suc (length tokens.now)) (parsed first) tokens.now) }
 {
     let mut part = first;

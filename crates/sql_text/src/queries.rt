@@ -33,7 +33,11 @@ fn alias_at(tokens: &[Token]) -> Result<(Option<Bytes>, &[Token]), Stop>
     }
 }
 
-fn item_at<'a>(alloc: Global, tokens: &'a [Token], depth: usize) -> Result<(Item, &'a [Token]), Stop>
+fn item_at<'a>(
+    alloc: Global,
+    tokens: &'a [Token],
+    depth: usize,
+) -> Result<(Item, &'a [Token]), Stop>
     ensures { Gives (λ p. (item_tree p.0, p.1.now)) result (item_at depth tokens.now) }
 {
     let (part, rest) = part_at(alloc, 5, tokens, depth)?;
@@ -52,7 +56,11 @@ fn after_comma(tokens: &[Token]) -> Option<&[Token]>
     }
 }
 
-fn items_at<'a>(alloc: Global, tokens: &'a [Token], depth: usize) -> Result<(List<Item>, &'a [Token]), Stop>
+fn items_at<'a>(
+    alloc: Global,
+    tokens: &'a [Token],
+    depth: usize,
+) -> Result<(List<Item>, &'a [Token]), Stop>
     ensures { Gives (λ p. (map item_tree p.0, p.1.now)) result (items_at depth (suc (length tokens.now)) tokens.now) }
 {
     let mut items = Vec::new(alloc);
@@ -80,7 +88,11 @@ fn after_star(tokens: &[Token]) -> Option<&[Token]>
     }
 }
 
-fn selection_at<'a>(alloc: Global, tokens: &'a [Token], depth: usize) -> Result<(Items, &'a [Token]), Stop>
+fn selection_at<'a>(
+    alloc: Global,
+    tokens: &'a [Token],
+    depth: usize,
+) -> Result<(Items, &'a [Token]), Stop>
     ensures { Gives (λ p. (selection p.0, p.1.now)) result (selection_at depth tokens.now) }
 {
     match after_star(tokens) {
@@ -132,7 +144,11 @@ fn after_where(tokens: &[Token]) -> Option<&[Token]>
     }
 }
 
-fn filter_at<'a>(alloc: Global, tokens: &'a [Token], depth: usize) -> Result<(Option<CondOf<ColumnRef>>, &'a [Token]), Stop>
+fn filter_at<'a>(
+    alloc: Global,
+    tokens: &'a [Token],
+    depth: usize,
+) -> Result<(Option<CondOf<ColumnRef>>, &'a [Token]), Stop>
     ensures { Gives (λ p. (option_map condition p.0, p.1.now)) result (filter_at depth tokens.now) }
 {
     match after_where(tokens) {
@@ -154,7 +170,13 @@ fn is_end(tokens: &[Token]) -> bool
     }
 }
 
-fn ended(alloc: Global, items: Items, from: TableRef, filter: Option<CondOf<ColumnRef>>, tokens: &[Token]) -> Result<Query, Stop>
+fn ended(
+    alloc: Global,
+    items: Items,
+    from: TableRef,
+    filter: Option<CondOf<ColumnRef>>,
+    tokens: &[Token],
+) -> Result<Query, Stop>
     ensures { Gives query_tree result (ended (selection items) from (option_map condition filter) tokens.now) }
 {
     if !is_end(tokens) {

@@ -68,7 +68,10 @@ pub fn is_word(word: &[u8], text: &[u8]) -> bool
 fn keyword_of(word: &[u8]) -> Option<Keyword>
     ensures { result ≡ keyword_of word.now }
 {
-    KEYWORDS.iter().copied().find(|k| is_word(word, keyword_text(*k)))
+    KEYWORDS
+        .iter()
+        .copied()
+        .find(|k| is_word(word, keyword_text(*k)))
 }
 
 fn word_len(bytes: &[u8]) -> usize
@@ -111,7 +114,9 @@ fn with_digit(number: Option<u64>, digit: u8) -> Option<u64>
     ensures { (n : ℕ) → number ≡ fitting n → result ≡ fitting (10 * n + (digit - 48)) }
 {
     let number = number?;
-    number.checked_mul(10)?.checked_add(u64::from(digit.saturating_sub(b'0')))
+    number
+        .checked_mul(10)?
+        .checked_add(u64::from(digit.saturating_sub(b'0')))
 }
 
 fn number_of(digits: &[u8]) -> Option<u64>

@@ -1,6 +1,9 @@
 use super::{ParseRefusal, parse};
 use chunk_data::Bytes;
-use query_model::query::{ArithOp, ColumnRef, CompareOp, CondOf, ExprOf, Item, ItemKind, Items, Number, Operand, Query, TableRef};
+use query_model::query::{
+    ArithOp, ColumnRef, CompareOp, CondOf, ExprOf, Item, ItemKind, Items, Number, Operand, Query,
+    TableRef,
+};
 use std::alloc::{AllocError, Global};
 use std::test::Fail;
 
@@ -30,7 +33,11 @@ fn arith_sign(op: ArithOp) -> &'static [u8] {
 }
 
 // A column, a number, or arithmetic in parentheses.
-fn write_expr(alloc: Global, out: &mut Vec<u8>, expr: &ExprOf<ColumnRef>) -> Result<(), AllocError> {
+fn write_expr(
+    alloc: Global,
+    out: &mut Vec<u8>,
+    expr: &ExprOf<ColumnRef>,
+) -> Result<(), AllocError> {
     match expr {
         ExprOf::Column(column) => write_column(out, column),
         ExprOf::Number(number) => write_number(alloc, out, *number),
@@ -50,7 +57,11 @@ fn write_text(out: &mut Vec<u8>, text: &Bytes) -> Result<(), AllocError> {
     out.extend_from_slice(b">")
 }
 
-fn write_operand(alloc: Global, out: &mut Vec<u8>, operand: &Operand<ColumnRef>) -> Result<(), AllocError> {
+fn write_operand(
+    alloc: Global,
+    out: &mut Vec<u8>,
+    operand: &Operand<ColumnRef>,
+) -> Result<(), AllocError> {
     match operand {
         Operand::Plain(expr) => write_expr(alloc, out, expr),
         Operand::Text(text) => write_text(out, text),
@@ -70,7 +81,11 @@ fn compare_sign(op: CompareOp) -> &'static [u8] {
 }
 
 // Comparisons stand in brackets, AND and OR in braces.
-fn write_condition(alloc: Global, out: &mut Vec<u8>, condition: &CondOf<ColumnRef>) -> Result<(), AllocError> {
+fn write_condition(
+    alloc: Global,
+    out: &mut Vec<u8>,
+    condition: &CondOf<ColumnRef>,
+) -> Result<(), AllocError> {
     match condition {
         CondOf::Compare(op, left, right) => {
             out.extend_from_slice(b"[")?;
@@ -179,7 +194,10 @@ static ITEMS: [(&str, &str); 32] = [
     ("SELECT a+-1 FROM t", "(a + -1) of t"),
     ("SELECT a - - 1 FROM t", "(a - -1) of t"),
     ("SELECT a - -b FROM t", "Syntax"),
-    ("SELECT -5, 0, 18446744073709551615 FROM t", "-5, 0, 18446744073709551615 of t"),
+    (
+        "SELECT -5, 0, 18446744073709551615 FROM t",
+        "-5, 0, 18446744073709551615 of t",
+    ),
     ("SELECT 007 FROM t", "7 of t"),
     ("SELECT ((a)) FROM t", "a of t"),
     ("SELECT (a FROM t", "Syntax"),
@@ -189,7 +207,10 @@ static ITEMS: [(&str, &str); 32] = [
     ("SELECT a AS FROM t", "Syntax"),
     ("SELECT a b FROM t", "Syntax"),
     ("SELECT a,\tb\r\nFROM t ; ", "a, b of t"),
-    ("SELECT count, sum, numbers FROM min", "count, sum, numbers of min"),
+    (
+        "SELECT count, sum, numbers FROM min",
+        "count, sum, numbers of min",
+    ),
     ("SELECT _a1 FROM _", "_a1 of _"),
     ("SELECT a, FROM t", "Syntax"),
 ];
@@ -199,29 +220,71 @@ static FILTERS: [(&str, &str); 28] = [
     ("SELECT a FROM t WHERE a == 1", "a of t where [a = 1]"),
     ("SELECT a FROM t WHERE a != 1", "a of t where [a != 1]"),
     ("SELECT a FROM t WHERE a <> 1", "a of t where [a != 1]"),
-    ("SELECT a FROM t WHERE a<1 OR a<=1", "a of t where {[a < 1] OR [a <= 1]}"),
-    ("SELECT a FROM t WHERE a>1 AND a>=1", "a of t where {[a > 1] AND [a >= 1]}"),
-    ("SELECT a FROM t WHERE a = 1 OR b = 2 AND c = 3", "a of t where {[a = 1] OR {[b = 2] AND [c = 3]}}"),
-    ("SELECT a FROM t WHERE a = 1 AND b = 2 OR c = 3", "a of t where {{[a = 1] AND [b = 2]} OR [c = 3]}"),
-    ("SELECT a FROM t WHERE (a = 1 OR b = 2) AND c = 3", "a of t where {{[a = 1] OR [b = 2]} AND [c = 3]}"),
-    ("SELECT a FROM t WHERE a = 1 OR b = 2 OR c = 3", "a of t where {{[a = 1] OR [b = 2]} OR [c = 3]}"),
-    ("SELECT a FROM t WHERE NOT NOT a = 1", "a of t where NOT NOT [a = 1]"),
-    ("SELECT a FROM t WHERE NOT a = 1 AND b = 2", "a of t where {NOT [a = 1] AND [b = 2]}"),
-    ("SELECT a FROM t WHERE NOT (a = 1 AND b = 2)", "a of t where NOT {[a = 1] AND [b = 2]}"),
+    (
+        "SELECT a FROM t WHERE a<1 OR a<=1",
+        "a of t where {[a < 1] OR [a <= 1]}",
+    ),
+    (
+        "SELECT a FROM t WHERE a>1 AND a>=1",
+        "a of t where {[a > 1] AND [a >= 1]}",
+    ),
+    (
+        "SELECT a FROM t WHERE a = 1 OR b = 2 AND c = 3",
+        "a of t where {[a = 1] OR {[b = 2] AND [c = 3]}}",
+    ),
+    (
+        "SELECT a FROM t WHERE a = 1 AND b = 2 OR c = 3",
+        "a of t where {{[a = 1] AND [b = 2]} OR [c = 3]}",
+    ),
+    (
+        "SELECT a FROM t WHERE (a = 1 OR b = 2) AND c = 3",
+        "a of t where {{[a = 1] OR [b = 2]} AND [c = 3]}",
+    ),
+    (
+        "SELECT a FROM t WHERE a = 1 OR b = 2 OR c = 3",
+        "a of t where {{[a = 1] OR [b = 2]} OR [c = 3]}",
+    ),
+    (
+        "SELECT a FROM t WHERE NOT NOT a = 1",
+        "a of t where NOT NOT [a = 1]",
+    ),
+    (
+        "SELECT a FROM t WHERE NOT a = 1 AND b = 2",
+        "a of t where {NOT [a = 1] AND [b = 2]}",
+    ),
+    (
+        "SELECT a FROM t WHERE NOT (a = 1 AND b = 2)",
+        "a of t where NOT {[a = 1] AND [b = 2]}",
+    ),
     ("SELECT a FROM t WHERE (a) = 1", "a of t where [a = 1]"),
     ("SELECT a FROM t WHERE (a = 1)", "a of t where [a = 1]"),
-    ("SELECT a FROM t WHERE ((a + 1) * 2 = (b))", "a of t where [((a + 1) * 2) = b]"),
+    (
+        "SELECT a FROM t WHERE ((a + 1) * 2 = (b))",
+        "a of t where [((a + 1) * 2) = b]",
+    ),
     ("SELECT a FROM t WHERE a", "Syntax"),
     ("SELECT a FROM t WHERE (a = 1) = 1", "Syntax"),
     ("SELECT a FROM t WHERE a = b = c", "Syntax"),
     ("SELECT a FROM t WHERE a + NOT b = c", "Syntax"),
     ("SELECT a FROM t WHERE ('x') = a", "Syntax"),
-    ("SELECT a FROM t WHERE a < 'it''s'", "a of t where [a < <it's>]"),
-    ("SELECT a FROM t WHERE a = 'it\\'s'", "a of t where [a = <it's>]"),
-    ("SELECT a FROM t WHERE '\\\\' = ''", "a of t where [<\\> = <>]"),
+    (
+        "SELECT a FROM t WHERE a < 'it''s'",
+        "a of t where [a < <it's>]",
+    ),
+    (
+        "SELECT a FROM t WHERE a = 'it\\'s'",
+        "a of t where [a = <it's>]",
+    ),
+    (
+        "SELECT a FROM t WHERE '\\\\' = ''",
+        "a of t where [<\\> = <>]",
+    ),
     ("SELECT a FROM t WHERE a = '\\x'", "Syntax"),
     ("SELECT a FROM t WHERE a = 'x", "Syntax"),
-    ("SELECT a FROM t WHERE a = '\u{e9}' AND b = 'FROM'", "a of t where {[a = <\u{e9}>] AND [b = <FROM>]}"),
+    (
+        "SELECT a FROM t WHERE a = '\u{e9}' AND b = 'FROM'",
+        "a of t where {[a = <\u{e9}>] AND [b = <FROM>]}",
+    ),
     ("SELECT a FROM t WHERE", "Syntax"),
 ];
 
@@ -245,7 +308,10 @@ static REFUSED: [(&str, &str); 30] = [
     ("SELECT DISTINCT a FROM t", "Syntax"),
     ("SELECT a IS NULL FROM t", "Syntax"),
     ("SELECT 18446744073709551616 FROM t", "NumberTooLarge"),
-    ("SELECT a FROM t LIMIT 18446744073709551616", "NumberTooLarge"),
+    (
+        "SELECT a FROM t LIMIT 18446744073709551616",
+        "NumberTooLarge",
+    ),
     ("SELECT a FROM t LIMIT 1", "NotBuilt"),
     ("SELECT a FROM numbers(3)", "NotBuilt"),
     ("SELECT a FROM NUMBERS(3)", "Syntax"),
@@ -276,7 +342,13 @@ fn texts_have_their_answers(rt: HostRuntime) -> Result<(), Fail> {
 }
 
 // `front`, n times `middle`, and `back`
-fn repeated(alloc: Global, front: &[u8], middle: &[u8], n: usize, back: &[u8]) -> Result<Vec<u8>, AllocError> {
+fn repeated(
+    alloc: Global,
+    front: &[u8],
+    middle: &[u8],
+    n: usize,
+    back: &[u8],
+) -> Result<Vec<u8>, AllocError> {
     let mut text = Vec::from_slice(alloc, front)?;
     for _ in 0..n {
         text.extend_from_slice(middle)?;
@@ -297,16 +369,28 @@ fn limits_are_kept(rt: HostRuntime) -> Result<(), Fail> {
     assert_eq!(rt; long.len(), 65_536);
     assert_eq!(rt; refusal_of(alloc, long.as_slice()), None);
     let longer = repeated(alloc, front, b" ", 65_537 - 15, b"")?;
-    assert_eq!(rt; refusal_of(alloc, longer.as_slice()), Some(ParseRefusal::TooLong));
+    assert_eq!(rt;
+        refusal_of(alloc, longer.as_slice()),
+        Some(ParseRefusal::TooLong)
+    );
     let many = repeated(alloc, b"SELECT a", b"+a", 1_000, b" FROM t")?;
     assert_eq!(rt; refusal_of(alloc, many.as_slice()), None);
     let more = repeated(alloc, b"SELECT a", b"+a", 1_001, b" FROM t")?;
-    assert_eq!(rt; refusal_of(alloc, more.as_slice()), Some(ParseRefusal::TooComplex));
+    assert_eq!(rt;
+        refusal_of(alloc, more.as_slice()),
+        Some(ParseRefusal::TooComplex)
+    );
     let deep = repeated(alloc, b"SELECT ", b"(", 1_000, b"a FROM t")?;
-    assert_eq!(rt; refusal_of(alloc, deep.as_slice()), Some(ParseRefusal::Syntax));
+    assert_eq!(rt;
+        refusal_of(alloc, deep.as_slice()),
+        Some(ParseRefusal::Syntax)
+    );
     let nots = repeated(alloc, b"SELECT a FROM t WHERE", b" NOT", 1_000, b" a = 1")?;
     assert_eq!(rt; refusal_of(alloc, nots.as_slice()), None);
     let nested = repeated(alloc, b"SELECT a FROM t WHERE ", b"a = (", 1_000, b"")?;
-    assert_eq!(rt; refusal_of(alloc, nested.as_slice()), Some(ParseRefusal::Syntax));
+    assert_eq!(rt;
+        refusal_of(alloc, nested.as_slice()),
+        Some(ParseRefusal::Syntax)
+    );
     Ok(())
 }

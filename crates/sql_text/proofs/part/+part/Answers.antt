@@ -1,5 +1,5 @@
-use Rattle.std.proofs.Common.{◌≡◌, ◌<◌, length, None, Some, sym, ap, ◌∙◌, arith, rules}
-use Rattle.sql_text.specs.Parts.{Parsed, parsed, next_joint, turn_of, part_at}
+use Rattle.std.proofs.Common.{◌<◌, length, sym, ap, ◌∙◌, arith, rules}
+use Rattle.sql_text.specs.Parts.{parsed, part_at}
 use Rattle.sql_text.proofs.Turns.{no_depth, part_goes, fault_goes, at_next, at_end, at_fault, next_shorter}
 use Rattle.sql_text.proofs.PartsSpelled.{turn_takes}
 use Rattle.sql_text.proofs.part.+part.Goals as goal
@@ -18,12 +18,15 @@ pub joined-returns-in-Err : goal.joined-returns-in-Err
 joined-returns-in-Err t c =
     fault_goes c.in-Err.stop _ _ c.in-Err.ensures
     (at_fault (part_at c.args.depth) c.args.least _ c.in-Some.joint (parsed c.loop-joint.part) c.loop-joint.rest.now c.in-Some.behind.now
-        c.loop-joint.invariant (sym c.in-Some.ensures))
+    c.loop-joint.invariant (sym c.in-Some.ensures))
 
 shorter : (t : _) (c : joined-In-Ok t) → length c.in-Ok.after.now < length c.loop-joint.rest.now
 shorter t c =
-    omega (arith, next_shorter c.args.least c.loop-joint.rest.now c.in-Some.behind.now c.in-Some.joint (sym c.in-Some.ensures),
-        turn_takes c.args.depth c.in-Some.joint (parsed c.loop-joint.part) (parsed c.in-Ok.next) c.in-Some.behind.now c.in-Ok.after.now c.in-Ok.ensures)
+    omega (
+      arith,
+      next_shorter c.args.least c.loop-joint.rest.now c.in-Some.behind.now c.in-Some.joint (sym c.in-Some.ensures),
+      turn_takes c.args.depth c.in-Some.joint (parsed c.loop-joint.part) (parsed c.in-Ok.next) c.in-Some.behind.now c.in-Ok.after.now c.in-Ok.ensures,
+    )
 
 pub joined-loop-joint-smaller : goal.joined-loop-joint-smaller
 joined-loop-joint-smaller t c = shorter t c

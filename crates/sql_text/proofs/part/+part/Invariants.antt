@@ -1,4 +1,4 @@
-use Rattle.std.proofs.Common.{◌≡◌, ℕ, suc, ◌+◌, ◌*◌, ◌<◌, length}
+use Rattle.std.proofs.Common.{suc, ◌+◌, ◌*◌, length}
 use Rattle.sql_text.specs.Parts.{parsed, joined, part_at}
 use Rattle.sql_text.proofs.Turns.{IsAt}
 use Rattle.sql_text.proofs.part.+part.Given as goal

@@ -1,4 +1,4 @@
-use Rattle.std.proofs.Common.{◌≡◌, ◌∷◌, ◌++◌, ◌<◌, ◌≤◌, ℕ, [], length, length-drop, drop, refl, sym, ap, ◌∙◌, arith, rules}
+use Rattle.std.proofs.Common.{◌<◌, ◌≤◌, ℕ, length, length-drop, drop, sym, ap, ◌∙◌, arith}
 use Rattle.sql_grammar.specs.Tokens.{tokens_behind}
 use Rattle.sql_text.proofs.Turns.{fault_goes}
 use Rattle.sql_text.proofs.Bytes.{tokens_with, tokens_blank, tokens_more, tokens_fault, tokens_end, front_takes_at}
@@ -22,8 +22,8 @@ pub loop-first-preserved : goal.loop-first-preserved
 loop-first-preserved c =
     tokens_more _ c.loop-first.tokens.items c.in-Some.first c.in-Some.more.now c.loop-first.rest.now c.in-Ok.token c.in-Ok.len c.loop-first.invariant
     c.in-Some.ensures (sym c.if-is_blank.ensures) c.in-Ok.ensures
-        ∙ ap (λ f. tokens_with f (tokens_behind 0 (drop c.in-Ok.len c.loop-first.rest.now))) (sym c.in_ok-push-in-Ok.ensures.items)
-        ∙ ap (λ r. tokens_with c.push.new.self.items (tokens_behind 0 r)) (sym c.behind-rest.ensures)
+    ∙ ap (λ f. tokens_with f (tokens_behind 0 (drop c.in-Ok.len c.loop-first.rest.now))) (sym c.in_ok-push-in-Ok.ensures.items)
+    ∙ ap (λ r. tokens_with c.push.new.self.items (tokens_behind 0 r)) (sym c.behind-rest.ensures)
 
 pub returns-in-Err : goal.returns-in-Err
 returns-in-Err c =

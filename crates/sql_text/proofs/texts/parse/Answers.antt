@@ -1,9 +1,6 @@
-use Rattle.std.proofs.Common.{◌≡◌, length, None, Some, sym, ap, subst, ◌∙◌, arith}
-use Rattle.sql_grammar.specs.Trees.{query_tree}
+use Rattle.std.proofs.Common.{Some, sym, ap, subst, ◌∙◌, arith}
 use Rattle.sql_text.specs.declared.limits.ParseRefusal.{ParseRefusal}
-use Rattle.sql_text.specs.Answers.{Fails}
-use Rattle.sql_text.specs.Queries.{query_at}
-use Rattle.sql_text.specs.Refusals.{token_refusal, IsRefused, refusal_of}
+use Rattle.sql_text.specs.Refusals.{IsRefused}
 use Rattle.sql_text.proofs.Readings.{is_read, is_refused}
 use Rattle.sql_text.proofs.texts.parse.Goals as goal
 
