@@ -61,7 +61,8 @@ joint_of token.LargeNumber = None
 joint_of (token.Text t) = None
 joint_of (token.Sign s) = sign_joint s
 
--- How tightly a joint binds. NOT stands at 3.
+-- How tightly a joint binds: those of a condition from 1 on, those of a negation from 4 on, since NOT stands at 3, and those of
+-- an expression from 5 on.
 abbrev pub level : Joint → ℕ
 level joint.Or = 1
 level joint.And = 2

@@ -13,6 +13,11 @@ use query_model::query::{ArithOp, ColumnRef, CompareOp, CondOf, ExprOf, Number, 
 use sql_grammar::{Keyword, Sign, Token};
 use std::alloc::Global;
 
+/// The least level of the joints of a condition, of a comparison, and of an expression.
+pub const CONDITION: u8 = 1;
+pub const COMPARISON: u8 = 4;
+pub const EXPRESSION: u8 = 5;
+
 // What joins two parts.
 #[derive(Clone, Copy)]
 pub enum Joint {
@@ -67,6 +72,7 @@ fn joint_of(token: &Token) -> Option<Joint>
     }
 }
 
+// How tightly a joint binds; NOT stands between AND and the comparisons.
 fn level(joint: Joint) -> u8
     ensures is { result ≡ level joint }
     ensures bound { result ≤ 6 }
@@ -88,6 +94,7 @@ fn level_above(joint: Joint) -> u8
     level(joint) + 1
 }
 
+// The joint at the front, where it binds at least so tightly, and the tokens behind it.
 fn next_joint(least: u8, tokens: &[Token]) -> Option<(Joint, &[Token])>
     ensures { option_map (λ p. (p.0, p.1.now)) result ≡ next_joint least tokens.now }
 {
@@ -183,6 +190,7 @@ fn combined(alloc: Global, joint: Joint, left: Part, right: Part) -> Result<Part
     }
 }
 
+// The column that begins with the name, and the tokens behind it.
 fn column_at<'a>(
     alloc: Global,
     name: &Bytes,
@@ -263,7 +271,7 @@ fn first_sign<'a>(
     match sign {
         Sign::Minus => negative_at(alloc, tokens),
         Sign::Open => {
-            let (part, rest) = part_at(alloc, 1, tokens, depth)?;
+            let (part, rest) = part_at(alloc, CONDITION, tokens, depth)?;
             closed_at(part, rest)
         }
         _ => Err(Stop::Syntax),
@@ -281,13 +289,14 @@ fn first_keyword<'a>(
 {
     match keyword {
         Keyword::Not => {
-            let (part, rest) = part_at(alloc, 4, tokens, depth)?;
+            let (part, rest) = part_at(alloc, COMPARISON, tokens, depth)?;
             Ok((negated(alloc, part)?, rest))
         }
         _ => Err(Stop::Syntax),
     }
 }
 
+// A part without joints: a column, a number, a string, what stands in parentheses, or a negation.
 #[cycle(part)]
 fn first_part<'a>(
     alloc: Global,
@@ -307,6 +316,8 @@ fn first_part<'a>(
     }
 }
 
+/// The part at the front whose joints bind at least so tightly, and the tokens behind it. `depth` bounds how deep parts
+/// stand in parts; the count of the tokens is always enough.
 #[cycle(part)]
 pub fn part_at<'a>(
     alloc: Global,
@@ -323,6 +334,7 @@ pub fn part_at<'a>(
     joined(alloc, least, first, rest, depth - 1)
 }
 
+// The part at the left, and what the joint joins to it.
 #[cycle(part)]
 fn turn_of<'a>(
     alloc: Global,
@@ -337,6 +349,7 @@ fn turn_of<'a>(
     Ok((combined(alloc, joint, left, right)?, rest))
 }
 
+// The part at the left, and all that joints as tight as `least` join to it.
 #[cycle(part)]
 fn joined<'a>(
     alloc: Global,

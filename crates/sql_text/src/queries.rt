@@ -4,7 +4,7 @@ ghost use Rattle.sql_grammar.specs.Trees.{condition, item_tree, selection, query
 ghost use Rattle.sql_text.specs.Answers.{Gives};
 ghost use Rattle.sql_text.specs.Queries.{name_at, alias_at, item_at, after_comma, items_at, after_star, selection_at, after_select, after_from, table_at, from_at, after_where, filter_at, is_end, ended, query_behind, query_at};
 
-use crate::part::{condition_of, part_at, plain_of};
+use crate::part::{CONDITION, EXPRESSION, condition_of, part_at, plain_of};
 use crate::stop::{Stop, next_token};
 use chunk_data::{Bytes, List};
 use query_model::query::{ColumnRef, CondOf, Item, ItemKind, Items, Query, TableRef};
@@ -40,7 +40,7 @@ fn item_at<'a>(
 ) -> Result<(Item, &'a [Token]), Stop>
     ensures { Gives (λ p. (item_tree p.0, p.1.now)) result (item_at depth tokens.now) }
 {
-    let (part, rest) = part_at(alloc, 5, tokens, depth)?;
+    let (part, rest) = part_at(alloc, EXPRESSION, tokens, depth)?;
     let expr = plain_of(part)?;
     let (alias, rest) = alias_at(rest)?;
     let what = ItemKind::Plain(Box::into_inner(expr));
@@ -154,7 +154,7 @@ fn filter_at<'a>(
     match after_where(tokens) {
         None => Ok((None, tokens)),
         Some(rest) => {
-            let (part, rest) = part_at(alloc, 1, rest, depth)?;
+            let (part, rest) = part_at(alloc, CONDITION, rest, depth)?;
             Ok((Some(Box::into_inner(condition_of(part)?)), rest))
         }
     }
@@ -202,7 +202,7 @@ fn query_behind(alloc: Global, items: Items, tokens: &[Token], depth: usize) -> 
     ended(alloc, items, from, filter, rest)
 }
 
-// The query that the tokens are, all of them.
+/// The query that the tokens are, all of them. `depth` is that of `part_at`.
 pub fn query_at(alloc: Global, tokens: &[Token], depth: usize) -> Result<Query, Stop>
     ensures { Gives query_tree result (query_at depth tokens.now) }
 {

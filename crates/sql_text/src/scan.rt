@@ -186,6 +186,7 @@ fn text_byte(place: TextPlace, b: u8) -> TextByte
     }
 }
 
+// The content of the string that begins behind its quote, and how many bytes it takes with its last quote.
 fn text_at(alloc: Global, bytes: &[u8]) -> Result<(Bytes, usize), Stop>
     ensures { Gives (λ p. p) result (text_at Middle bytes.now) }
 {
@@ -286,6 +287,7 @@ fn sign_front(b: u8, more: &[u8]) -> Result<(Token, usize), Stop>
     }
 }
 
+// The token at the front, and how many bytes it takes.
 fn token_at(alloc: Global, first: u8, more: &[u8], bytes: &[u8]) -> Result<(Token, usize), Stop>
     requires { bytes.now ≡ first ∷ more.now }
     ensures { Gives (λ p. p) result (token_front bytes.now) }
