@@ -1,5 +1,5 @@
 -- a list under a map
-use Rattle.std.proofs.Common.{◌≡◌, ℕ, ◌+◌, ◌<◌, Bool, true, false, List, [], ◌∷◌, length, get_or, map, refl, ap, sym, arith, suc, zero, ◌∙◌}
+use Rattle.std.proofs.Common.{◌≡◌, ℕ, ◌<◌, Bool, true, false, List, [], ◌∷◌, length, get_or, map, refl, ap, sym, arith, suc}
 use Rattle.std.proofs.lemmas.List.{get_or-map, take-map, drop-map, length-map}
 use Rattle.std.specs.List.{All}
 use Rattle.chunk_data.specs.Rows.{kept}

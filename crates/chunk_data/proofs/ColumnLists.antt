@@ -1,11 +1,13 @@
 -- loops over the columns of a list
-use Rattle.std.proofs.Common.{◌≡◌, ℕ, ◌+◌, ◌<◌, ◌≤◌, List, [], ◌∷◌, ◌++◌, length, get_or, set, take, map, refl, ap, sym, arith, suc, zero, ◌∙◌, length-append, add-one}
-use Rattle.std.proofs.lemmas.List.{map-set, get_or-map, set-get_or, length-map, take_at, take_all, get_or_read, length-set}
+use Rattle.std.proofs.Common.{◌≡◌, ℕ, ◌+◌, ◌<◌, ◌≤◌, List, [], ◌∷◌, ◌++◌, length, get_or, set, take, map, refl, ap, sym, arith, suc, zero, ◌∙◌, subst, add-one}
+use Rattle.std.proofs.lemmas.List.{map-set, get_or-map, set-get_or, length-map, take_at, take_all}
 use Rattle.chunk_data.specs.declared.typed_column.Column.{Column}
 use Rattle.chunk_data.specs.declared.typed_value.ColumnType.{ColumnType}
 use Rattle.chunk_data.specs.declared.typed_value.Value.{Value}
 use Rattle.chunk_data.specs.Columns.{kind_of, values}
 use Rattle.chunk_data.specs.Rows.{AreLong, joined}
+use Rattle.chunk_data.specs.Values.{FitsType, FitsTypes}
+use Rattle.chunk_data.proofs.Laws.{length-FitsTypes, FitsTypes-at}
 
 -- the first i elements changed
 abbrev pub changed : {X : Type 0} → (X → X) → ℕ → List X → List X
@@ -155,3 +157,16 @@ agreed_long f others old g e = length-map others g ∙ sym (length-map others f)
 
 pub other_at : {X Y : Type 0} (g : X → Y) (others : List X) (i : ℕ) (o : X) → o ≡ get_or others i o → i < length others → g o ≡ get_or (map g others) i (g o)
 other_at g others i o is lt = ap g is ∙ sym (get_or-map g others i o (g o) lt)
+
+-- what a row that fits puts beside a column fits it
+pub fits_at : (old now : List Column) (row : List Value) (i : ℕ) (v : Value) (d : Column) → FitsTypes (map kind_of old) row → map kind_of now ≡ map kind_of old → i < length now → v ≡ get_or row i v → FitsType (kind_of (get_or now i d)) v
+fits_at old now row i v d h k lt is =
+    let wide : length row ≡ length now = length-FitsTypes (map kind_of old) row h ∙ ap length (sym k) ∙ length-map now kind_of in
+    let here : FitsType (get_or (map kind_of old) i (kind_of d)) (get_or row i v) = FitsTypes-at (map kind_of old) row i (kind_of d) v h (omega arith) in
+    let kind : get_or (map kind_of old) i (kind_of d) ≡ kind_of (get_or now i d) = ap (λ l. get_or l i (kind_of d)) (sym k) ∙ get_or-map kind_of now i d (kind_of d) lt in
+    let P : ColumnType → Type 0 = λ t. FitsType t (get_or row i v) in
+    let Q : Value → Type 0 = λ w. FitsType (kind_of (get_or now i d)) w in
+    subst Q (sym is) (subst P kind here)
+
+pub fits_long : {Y : Type 0} (columns : List Column) (row : List Value) (g : Value → Y) → FitsTypes (map kind_of columns) row → length (map g row) ≡ length columns
+fits_long columns row g h = length-map row g ∙ length-FitsTypes (map kind_of columns) row h ∙ length-map columns kind_of

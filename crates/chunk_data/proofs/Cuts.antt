@@ -1,6 +1,5 @@
 -- texts that lie one after another
 use Rattle.std.proofs.Common.{◌≡◌, ℕ, ◌+◌, ◌-◌, ◌<◌, ◌≤◌, List, [], ◌∷◌, ◌++◌, length, get_or, take, drop, refl, ap, arith, suc, zero, ◌∙◌, length-append, sym, map}
-use Rattle.std.proofs.lemmas.Grind.{common_steps}
 use Rattle.std.proofs.lemmas.List.{take-append-le, drop-append-le, drop_at, take_all, length-drop, length-take-le, get_or_default, drop-drop, drop-take, take-take}
 use Rattle.std.specs.List.{slice_range, All}
 use Rattle.chunk_data.specs.Texts.{cut, AreEnds}

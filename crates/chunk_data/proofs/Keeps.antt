@@ -1,7 +1,6 @@
 -- a list that is compacted in place by a mask
-use Rattle.std.proofs.Common.{◌≡◌, ℕ, ◌+◌, ◌-◌, ◌<◌, ◌≤◌, Bool, true, false, cond, List, [], ◌∷◌, ◌++◌, length, get_or, set, take, drop, refl, ap, sym, arith, suc, zero, ◌∙◌, length-append, add-zero}
-use Rattle.std.proofs.lemmas.Grind.{common_steps}
-use Rattle.std.proofs.lemmas.List.{append-nil, take_more, take_more_set, take-set, drop-set-lt, drop-drop, length-set, length-take, length-take-le, take_all, take-set-le, set_past, drop_more, get_or-drop, get_or_read, get_or_default}
+use Rattle.std.proofs.Common.{◌≡◌, ℕ, ◌+◌, ◌<◌, ◌≤◌, Bool, true, false, cond, List, [], ◌∷◌, ◌++◌, length, get_or, set, take, drop, refl, ap, sym, arith, ◌∙◌, add-zero}
+use Rattle.std.proofs.lemmas.List.{append-nil, take_more, take_more_set, take-set, drop-set-lt, drop-drop, length-set, length-take-le, take_all, get_or-drop}
 use Rattle.chunk_data.specs.Rows.{kept}
 use mir.Val.{bool_byte}
 

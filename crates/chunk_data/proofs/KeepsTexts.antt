@@ -1,5 +1,5 @@
 -- texts that are compacted in place by a mask
-use Rattle.std.proofs.Common.{◌≡◌, ℕ, ◌+◌, ◌-◌, ◌<◌, ◌≤◌, Bool, true, false, cond, List, [], ◌∷◌, ◌++◌, length, get_or, set, take, drop, refl, ap, sym, arith, suc, zero, ◌∙◌, length-append, add-one}
+use Rattle.std.proofs.Common.{◌≡◌, ℕ, ◌+◌, ◌-◌, ◌<◌, ◌≤◌, Bool, true, false, cond, List, [], ◌∷◌, ◌++◌, length, get_or, set, take, drop, refl, ap, sym, arith, ◌∙◌, length-append, add-one}
 use Rattle.std.proofs.lemmas.List.{append-nil, take_more_set, drop-set-lt, length-set, length-take, length-take-le, take_all, take_at, length-drop, drop-drop, get_or_read}
 use Rattle.std.proofs.lemmas.Slice.{drop-append-drop}
 use Rattle.std.specs.List.{slice_range, copy_within}

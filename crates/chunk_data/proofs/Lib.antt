@@ -5,3 +5,5 @@ pub mod Cells
 pub mod Rows
 pub mod ColumnLists
 pub mod Chunks
+pub mod Laws
+pub mod RowOrder

@@ -1,5 +1,5 @@
 -- rows and the columns that they are made of
-use Rattle.std.proofs.Common.{◌≡◌, ℕ, ◌+◌, ◌-◌, ◌<◌, ◌≤◌, Bool, true, false, cond, List, [], ◌∷◌, ◌++◌, length, get_or, take, drop, map, replicate, refl, ap, sym, arith, suc, zero, ◌∙◌, length-append, add-one, zero-add}
+use Rattle.std.proofs.Common.{◌≡◌, ℕ, ◌+◌, ◌-◌, ◌<◌, ◌≤◌, Bool, true, false, cond, List, [], ◌∷◌, ◌++◌, length, get_or, take, drop, map, replicate, refl, ap, sym, arith, suc, zero, ◌∙◌, length-append}
 use Rattle.std.proofs.lemmas.List.{replicate-append-replicate, length-replicate, get_or-replicate, length-map, length-take-le, length-drop, take-replicate, drop-replicate}
 use Rattle.std.proofs.lemmas.List.Recursion.{is_count_by}
 use Rattle.std.specs.List.{All, count_by}

@@ -1,5 +1,5 @@
 -- Rows and columns: how columns of one length are read as rows.
-use Rattle.std.specs.Prelude.{◌≡◌, ℕ, ◌≤◌, Bool, cond, List, [], ◌∷◌, ◌++◌, length, map, slice_index_or, replicate}
+use Rattle.std.specs.Prelude.{◌≡◌, ℕ, Bool, cond, List, [], ◌∷◌, ◌++◌, length, slice_index_or, replicate}
 
 -- the elements whose place in the mask has true
 abbrev pub kept : {X : Type 0} → List Bool → List X → List X
@@ -23,7 +23,7 @@ abbrev pub AreLong : {X : Type 0} → ℕ → List (List X) → Type 0
 AreLong n [] = Unit {0}
 AreLong n (column ∷ columns) = (length column ≡ n) × AreLong n columns
 
--- each column with the values of the one beside it after its own
+-- each column with the values of the one beside it after its own, or each row with those of the row beside it
 abbrev pub joined : {X : Type 0} → List (List X) → List (List X) → List (List X)
 joined [] others = []
 joined (column ∷ columns) [] = []

@@ -1,5 +1,6 @@
 -- Values, rows and tables, and how they are ordered.
-use Rattle.std.specs.Prelude.{◌≡◌, ℕ, Bool, true, false, List, [], ◌∷◌, pos, slice_index_or}
+use Rattle.std.specs.Prelude.{◌≡◌, ℕ, ◌<◌, Bool, true, false, List, [], ◌∷◌, length, pos, slice_get, slice_index_or}
+use Rattle.std.specs.List.{All}
 use Rattle.std.specs.Ordering.{nat_cmp, int_cmp, is_eq, ordering_then}
 use Rattle.std.specs.declared.cmp.Ordering.{Ordering}
 use Rattle.std.specs.declared.cmp.Ordering.TheVariants.{Less, Equal, Greater}
@@ -34,6 +35,10 @@ FitsTypes [] [] = Unit {0}
 FitsTypes [] (v ∷ row) = ⊥
 FitsTypes (t ∷ types) [] = ⊥
 FitsTypes (t ∷ types) (v ∷ row) = FitsType t v × FitsTypes types row
+
+-- each row fits the types
+abbrev pub IsTable : Table → Type 0
+IsTable t = All (FitsTypes t.types) t.rows
 
 -- 0, or the empty text
 abbrev pub default_value : ColumnType → Value
@@ -74,6 +79,11 @@ same_row a b = is_eq (slice_cmp value_cmp a b)
 abbrev pub key_cmp : Bool → Value → Value → Ordering
 key_cmp false a b = value_cmp a b
 key_cmp true a b = value_cmp b a
+
+-- the key's column stands in both lists of types, with one type
+abbrev pub AgreeOnKey : List ColumnType → List ColumnType → SortKey → Type 0
+AgreeOnKey left right key =
+    (key.column < length left) × (key.column < length right) × (slice_get left key.column ≡ slice_get right key.column)
 
 -- rows are compared by the keys in turn
 unfoldable pub row_cmp : List SortKey → Row → Row → Ordering

@@ -1,11 +1,10 @@
 ghost use Rattle.std.specs.Prelude.{◌≡◌, ℕ, ◌+◌, ◌≤◌, ◌<◌, ◌++◌, ◌∷◌, [], length, map, take, drop, OnOk, OnErr, IfOk};
 ghost use Rattle.std.specs.List.{All, count_by};
-ghost use Rattle.chunk_data.specs.Values.{type_of, value_at};
+ghost use Rattle.chunk_data.specs.Values.{FitsTypes, value_at};
 ghost use Rattle.chunk_data.specs.Columns.{kind_of, values};
 ghost use Rattle.chunk_data.specs.Rows.{kept, joined, AreLong};
 
-use crate::lists::Memory;
-use crate::lists::List;
+use crate::lists::{List, Memory};
 use crate::typed_column::Column;
 use crate::typed_value::{ColumnType, Value};
 use std::alloc::Global;
@@ -17,8 +16,8 @@ pub(crate) fn count_true(mask: &[bool]) -> usize
     mask.iter().filter(|stays| **stays).count()
 }
 
-/// A column without values of each type.
-pub(crate) fn empty_columns(alloc: Global, kinds: &[ColumnType]) -> Result<Vec<Column>, Memory>
+/// A column without values for each type.
+pub fn empty_columns(alloc: Global, kinds: &[ColumnType]) -> Result<Vec<Column>, Memory>
     ensures kinds { IfOk result (λ v. map kind_of v.items ≡ kinds.now) }
     ensures empty { IfOk result (λ v. map values v.items ≡ map (λ _. []) kinds.now) }
 {
@@ -40,8 +39,8 @@ pub(crate) fn keep_all(columns: &mut [Column], mask: &[bool])
     }
 }
 
-/// Leaves of each column the first n values.
-pub(crate) fn truncate_all(columns: &mut [Column], n: usize)
+/// Leaves of each column the first n values: a reader takes back the fields of a record that it gives up.
+pub fn truncate_columns(columns: &mut [Column], n: usize)
     ensures kinds { map kind_of columns.new ≡ map kind_of columns.old }
     ensures front { map values columns.new ≡ map (take n) (map values columns.old) }
 {
@@ -66,7 +65,7 @@ pub(crate) fn append_all(
         match columns[i].append(&others[i]) {
             Ok(()) => {}
             Err(memory) => {
-                truncate_all(columns, count);
+                truncate_columns(columns, count);
                 return Err(memory);
             }
         }
@@ -76,7 +75,7 @@ pub(crate) fn append_all(
 
 /// Appends each value of the row to the column beside it; after an error none has changed.
 pub(crate) fn push_all(columns: &mut [Column], row: &[Value], count: usize) -> Result<(), Memory>
-    requires agree { map type_of row.now ≡ map kind_of columns.old }
+    requires fits { FitsTypes (map kind_of columns.old) row.now }
     requires long { AreLong count (map values columns.old) }
     ensures kinds { map kind_of columns.new ≡ map kind_of columns.old }
     ensures ok { OnOk result (map values columns.new ≡ joined (map values columns.old) (map (λ v. v ∷ []) row.now)) }
@@ -86,7 +85,7 @@ pub(crate) fn push_all(columns: &mut [Column], row: &[Value], count: usize) -> R
         match columns[i].push_copy(&row[i]) {
             Ok(()) => {}
             Err(memory) => {
-                truncate_all(columns, count);
+                truncate_columns(columns, count);
                 return Err(memory);
             }
         }
@@ -94,20 +93,29 @@ pub(crate) fn push_all(columns: &mut [Column], row: &[Value], count: usize) -> R
     Ok(())
 }
 
-/// The same types.
-pub(crate) fn copy_kinds(
-    alloc: Global,
-    kinds: &List<ColumnType>,
-) -> Result<List<ColumnType>, Memory>
-    ensures { IfOk result (λ l. l ≡ kinds.now) }
+/// The types of the columns.
+pub(crate) fn kinds_of(alloc: Global, columns: &[Column]) -> Result<List<ColumnType>, Memory>
+    ensures { IfOk result (λ l. l ≡ map kind_of columns.now) }
 {
-    let mut copy = List::new(alloc);
-    for kind in kinds.as_slice() {
-        if copy.push(*kind).is_err() {
-            return Err(Memory);
-        }
+    let mut kinds = Vec::with_capacity(alloc, columns.len())?;
+    for column in columns {
+        kinds.push(column.kind())?;
     }
-    Ok(copy)
+    Ok(List::from_vec(kinds))
+}
+
+/// The columns, then the others.
+pub(crate) fn beside_all(
+    mut columns: Vec<Column>,
+    others: Vec<Column>,
+) -> Result<List<Column>, Memory>
+    ensures { IfOk result (λ l. l ≡ columns.items ++ others.items) }
+{
+    columns.try_reserve(others.len())?;
+    for column in others {
+        columns.push(column)?;
+    }
+    Ok(List::from_vec(columns))
 }
 
 /// Each column's values at the places.
@@ -124,7 +132,7 @@ pub(crate) fn gather_all(
 {
     let mut gathered = Vec::new(alloc);
     for column in columns {
-        gathered.push(column.gather(alloc, places)?)?;
+        gathered.push(column.gather(places)?)?;
     }
     Ok(gathered)
 }
@@ -142,7 +150,7 @@ pub(crate) fn row_of(
 {
     let mut row = Vec::new(alloc);
     for column in columns {
-        row.push(column.value(alloc, i)?)?;
+        row.push(column.value(i)?)?;
     }
     Ok(List::from_vec(row))
 }
@@ -154,7 +162,7 @@ pub(crate) fn front_all(alloc: Global, columns: &[Column], n: usize) -> Result<V
 {
     let mut front = Vec::new(alloc);
     for column in columns {
-        front.push(column.front(alloc, n)?)?;
+        front.push(column.front(n)?)?;
     }
     Ok(front)
 }

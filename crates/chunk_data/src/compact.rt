@@ -1,9 +1,8 @@
-ghost use Rattle.std.specs.Prelude.{◌≡◌, length, vec_len, slice_index_or, map, ◌<◌, IfOk, pos, ◌≤◌, drop};
+ghost use Rattle.std.specs.Prelude.{◌≡◌, length, vec_len, slice_index_or, map, ◌<◌, IfOk, pos, ◌≤◌, drop, take};
 ghost use Rattle.std.specs.List.{All};
 ghost use Rattle.chunk_data.specs.Rows.{kept};
 
 use crate::lists::Memory;
-use std::alloc::Global;
 
 /// Keeps the elements whose place in the mask has true, in order, without a branch.
 #[tactic(auto, using(crate::proofs::Keeps::keeps))]
@@ -20,27 +19,48 @@ pub(crate) fn keep_items<T: Copy>(items: &mut Vec<T>, mask: &[bool])
 }
 
 /// The numbers at the places, in the places' order.
-pub(crate) fn gather_ints(
-    alloc: Global,
-    items: &[i64],
-    places: &[usize],
-) -> Result<Vec<i64>, Memory>
-    requires { All (λ p. p < length items.now) places.now }
-    ensures { IfOk result (λ v. v.items ≡ map (λ p. slice_index_or items.now p (pos 0)) places.now) }
+pub(crate) fn gather_ints(items: &Vec<i64>, places: &[usize]) -> Result<Vec<i64>, Memory>
+    requires { All (λ p. p < length items.now.items) places.now }
+    ensures { IfOk result (λ v. v.items ≡ map (λ p. slice_index_or items.now.items p (pos 0)) places.now) }
 {
-    Ok(places.iter().map(|p| items[*p]).collect(alloc)?)
+    let numbers = items.as_slice();
+    Ok(
+        places
+            .iter()
+            .map(|p| numbers[*p])
+            .collect(*items.allocator())?,
+    )
 }
 
 /// The same for numbers without a sign.
-pub(crate) fn gather_uints(
-    alloc: Global,
-    items: &[u64],
-    places: &[usize],
-) -> Result<Vec<u64>, Memory>
-    requires { All (λ p. p < length items.now) places.now }
-    ensures { IfOk result (λ v. v.items ≡ map (λ p. slice_index_or items.now p 0) places.now) }
+pub(crate) fn gather_uints(items: &Vec<u64>, places: &[usize]) -> Result<Vec<u64>, Memory>
+    requires { All (λ p. p < length items.now.items) places.now }
+    ensures { IfOk result (λ v. v.items ≡ map (λ p. slice_index_or items.now.items p 0) places.now) }
 {
-    Ok(places.iter().map(|p| items[*p]).collect(alloc)?)
+    let numbers = items.as_slice();
+    Ok(
+        places
+            .iter()
+            .map(|p| numbers[*p])
+            .collect(*items.allocator())?,
+    )
+}
+
+/// The same elements.
+pub(crate) fn copy_items<T: Copy>(items: &Vec<T>) -> Result<Vec<T>, Memory>
+    ensures { IfOk result (λ v. v.items ≡ items.now.items) }
+{
+    Ok(Vec::from_slice(*items.allocator(), items.as_slice())?)
+}
+
+/// A copy of the first n.
+pub(crate) fn front_items<T: Copy>(items: &Vec<T>, n: usize) -> Result<Vec<T>, Memory>
+    ensures { IfOk result (λ v. v.items ≡ take n items.now.items) }
+{
+    if items.len() <= n {
+        return copy_items(items);
+    }
+    Ok(Vec::from_slice(*items.allocator(), &items.as_slice()[..n])?)
 }
 
 /// Drops the first n.

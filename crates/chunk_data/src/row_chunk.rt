@@ -1,15 +1,14 @@
 ghost use Rattle.std.specs.Prelude.{◌≡◌, ℕ, ◌+◌, ◌≤◌, ◌<◌, ◌++◌, ◌∷◌, [], length, map, take, drop, slice_index_or, OnOk, OnErr, IfOk, MatchResult};
 ghost use Rattle.std.specs.List.{All};
-ghost use Rattle.chunk_data.specs.Values.{type_of, value_at};
+ghost use Rattle.chunk_data.specs.Values.{FitsTypes, IsTable, value_at};
 ghost use Rattle.chunk_data.specs.Columns.{kind_of, values};
-ghost use Rattle.chunk_data.specs.Rows.{kept, row_at};
+ghost use Rattle.chunk_data.specs.Rows.{joined, kept, row_at, rows_of, AreLong};
 
-use crate::lists::Memory;
 use crate::column_list::{
-    append_all, copy_kinds, count_true, empty_columns, front_all, gather_all, keep_all, push_all,
-    remove_front_all, row_of,
+    append_all, beside_all, count_true, empty_columns, front_all, gather_all, keep_all, kinds_of,
+    push_all, remove_front_all, row_of, truncate_columns,
 };
-use crate::lists::List;
+use crate::lists::{List, Memory};
 use crate::typed_column::Column;
 use crate::typed_value::{ColumnType, Value};
 use std::alloc::Global;
@@ -41,27 +40,55 @@ impl Model for Chunk {
 #[tactic(auto, using(crate::proofs::Chunks::chunks))]
 impl Chunk {
     /// A chunk without rows.
-    pub fn new(alloc: Global, types: List<ColumnType>) -> Result<Chunk, Memory>
-        ensures types { IfOk result (λ c. c.types ≡ types) }
+    pub fn new(alloc: Global, types: &List<ColumnType>) -> Result<Chunk, Memory>
+        ensures types { IfOk result (λ c. c.types ≡ types.now) }
         ensures rows { IfOk result (λ c. c.rows ≡ []) }
     {
         let columns = empty_columns(alloc, types.as_slice())?;
         Ok(Chunk {
             alloc,
-            kinds: types,
+            kinds: types.copy()?,
             columns,
             count: 0,
         })
     }
 
+    /// A chunk of these columns, which are moved; without columns it may have any number of rows.
+    pub fn of_columns(alloc: Global, columns: List<Column>, rows: usize) -> Result<Chunk, Memory>
+        requires { AreLong rows (map values columns) }
+        ensures types { IfOk result (λ c. c.types ≡ map kind_of columns) }
+        ensures rows { IfOk result (λ c. c.rows ≡ rows_of rows (map values columns)) }
+    {
+        let kinds = kinds_of(alloc, columns.as_slice())?;
+        Ok(Chunk {
+            alloc,
+            kinds,
+            columns: columns.into_vec(),
+            count: rows,
+        })
+    }
+
+    /// The columns, which are moved.
+    pub fn into_columns(self) -> List<Column>
+        ensures types { map kind_of result ≡ self.types }
+        ensures long { AreLong (length self.rows) (map values result) }
+        ensures rows { rows_of (length self.rows) (map values result) ≡ self.rows }
+    {
+        let Chunk { columns, .. } = self;
+        List::from_vec(columns)
+    }
+
+    /// The types of its columns.
     pub fn types(&self) -> &List<ColumnType>
         ensures { result.now ≡ self.now.types }
     {
         &self.kinds
     }
 
+    /// How many rows it has.
     pub fn rows(&self) -> usize
-        ensures { result ≡ length self.now.rows }
+        ensures count { result ≡ length self.now.rows }
+        ensures fit { IsTable self.now }
     {
         self.count
     }
@@ -77,7 +104,7 @@ impl Chunk {
 
     /// Adds the row at the end; after an error nothing has changed.
     pub fn push_row(&mut self, row: List<Value>) -> Result<(), Memory>
-        requires { map type_of row ≡ self.old.types }
+        requires { FitsTypes self.old.types row }
         ensures types { self.new.types ≡ self.old.types }
         ensures ok { OnOk result (self.new.rows ≡ self.old.rows ++ row ∷ []) }
         ensures err { OnErr result (self.new.rows ≡ self.old.rows) }
@@ -100,8 +127,59 @@ impl Chunk {
         self.count = count_true(mask);
     }
 
-    /// The other's rows after its own; after an error the other comes back and nothing has changed.
+    /// The first n rows stay; it takes no memory.
+    pub fn truncate(&mut self, n: usize)
+        ensures types { self.new.types ≡ self.old.types }
+        ensures rows { self.new.rows ≡ take n self.old.rows }
+    {
+        if n < self.count {
+            truncate_columns(&mut self.columns, n);
+            self.count = n;
+        }
+    }
+
+    /// What follows the first n rows stays; it takes no memory.
+    pub fn remove_front(&mut self, n: usize)
+        ensures types { self.new.types ≡ self.old.types }
+        ensures rows { self.new.rows ≡ drop n self.old.rows }
+    {
+        remove_front_all(&mut self.columns, n);
+        self.count = self.count.saturating_sub(n);
+    }
+
+    /// Each row with the other's row beside it after its own values.
+    pub fn beside(self, other: Chunk) -> Result<Chunk, Memory>
+        requires { length other.rows ≡ length self.rows }
+        ensures types { IfOk result (λ c. c.types ≡ self.types ++ other.types) }
+        ensures rows { IfOk result (λ c. c.rows ≡ joined self.rows other.rows) }
+    {
+        let alloc = self.alloc;
+        let rows = self.rows();
+        let columns = beside_all(
+            self.into_columns().into_vec(),
+            other.into_columns().into_vec(),
+        )?;
+        let chunk = Chunk::of_columns(alloc, columns, rows)?;
+        Ok(chunk)
+    }
+
+    /// The other's rows after its own, which are copied, but a chunk without rows takes the other's columns.
+    /// `Err` means want of memory: the other comes back and nothing has changed.
     pub fn append(&mut self, other: Chunk) -> Result<(), Chunk>
+        requires { other.types ≡ self.old.types }
+        ensures types { self.new.types ≡ self.old.types }
+        ensures ok { OnOk result (self.new.rows ≡ self.old.rows ++ other.rows) }
+        ensures err { MatchResult result (λ _. Unit {0}) (λ c. (c ≡ other) × (self.new.rows ≡ self.old.rows)) }
+    {
+        if self.count == 0 {
+            *self = other;
+            return Ok(());
+        }
+        self.append_copied(other)
+    }
+
+    // The same, whatever rows there are.
+    fn append_copied(&mut self, other: Chunk) -> Result<(), Chunk>
         requires { other.types ≡ self.old.types }
         ensures types { self.new.types ≡ self.old.types }
         ensures ok { OnOk result (self.new.rows ≡ self.old.rows ++ other.rows) }
@@ -125,7 +203,7 @@ impl Chunk {
         ensures types { IfOk result (λ c. c.types ≡ self.now.types) }
         ensures rows { IfOk result (λ c. c.rows ≡ map (row_at self.now.rows) places.now) }
     {
-        let kinds = copy_kinds(self.alloc, &self.kinds)?;
+        let kinds = self.kinds.copy()?;
         let columns = gather_all(self.alloc, self.columns.as_slice(), places, self.count)?;
         Ok(Chunk {
             alloc: self.alloc,
@@ -152,7 +230,7 @@ impl Chunk {
         ensures ok { IfOk result (λ c. (c.rows ≡ take n self.old.rows) × (self.new.rows ≡ drop n self.old.rows)) }
         ensures err { OnErr result (self.new.rows ≡ self.old.rows) }
     {
-        let kinds = copy_kinds(self.alloc, &self.kinds)?;
+        let kinds = self.kinds.copy()?;
         let columns = front_all(self.alloc, self.columns.as_slice(), n)?;
         remove_front_all(&mut self.columns, n);
         self.count -= n;

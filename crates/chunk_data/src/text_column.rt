@@ -4,8 +4,8 @@ ghost use Rattle.std.specs.Vec.{vec_len, vec_capacity};
 ghost use Rattle.chunk_data.specs.Rows.{kept};
 ghost use Rattle.chunk_data.specs.Texts.{cut, AreEnds};
 
-use crate::lists::Memory;
-use crate::compact::remove_front;
+use crate::compact::{copy_items, front_items, remove_front};
+use crate::lists::{Bytes, Memory};
 use std::alloc::Global;
 use std::marker::Model;
 
@@ -29,6 +29,7 @@ impl Model for Texts {
 
 #[tactic(auto, using(crate::proofs::Cuts::cuts))]
 impl Texts {
+    /// No texts; it takes no memory.
     pub fn new(alloc: Global) -> Self
         ensures { result ≡ [] }
     {
@@ -38,12 +39,22 @@ impl Texts {
         }
     }
 
+    /// How many texts there are.
     pub fn len(&self) -> usize
         ensures { result ≡ length self.now }
     {
         self.ends.len()
     }
 
+    /// Makes room for n more texts, without their bytes; the texts stay.
+    pub fn reserve(&mut self, n: usize) -> Result<(), Memory>
+        ensures { self.new ≡ self.old }
+    {
+        self.ends.try_reserve(n)?;
+        Ok(())
+    }
+
+    /// Adds the text at the end; after an error nothing has changed.
     pub fn push(&mut self, text: &[u8]) -> Result<(), Memory>
         ensures ok { OnOk result (self.new ≡ self.old ++ text.now ∷ []) }
         ensures err { OnErr result (self.new ≡ self.old) }
@@ -54,6 +65,7 @@ impl Texts {
         Ok(())
     }
 
+    /// Text i.
     pub fn get(&self, i: usize) -> &[u8]
         requires { i < length self.now }
         ensures { result.now ≡ slice_index_or self.now i [] }
@@ -108,21 +120,46 @@ impl Texts {
         Ok(())
     }
 
-    pub fn copy(&self, alloc: Global) -> Result<Texts, Memory>
+    /// The same texts.
+    pub fn copy(&self) -> Result<Texts, Memory>
         ensures { IfOk result (λ t. t ≡ self.now) }
     {
         Ok(Texts {
-            bytes: Vec::from_slice(alloc, self.bytes.as_slice())?,
-            ends: Vec::from_slice(alloc, self.ends.as_slice())?,
+            bytes: copy_items(&self.bytes)?,
+            ends: copy_items(&self.ends)?,
         })
     }
 
+    /// A copy of the first n texts.
+    pub fn front(&self, n: usize) -> Result<Texts, Memory>
+        ensures { IfOk result (λ t. t ≡ take n self.now) }
+    {
+        if self.ends.len() <= n {
+            let texts = self.copy()?;
+            return Ok(texts);
+        }
+        let size = start_of(self.ends.as_slice(), n);
+        Ok(Texts {
+            bytes: front_items(&self.bytes, size)?,
+            ends: front_items(&self.ends, n)?,
+        })
+    }
+
+    /// A copy of text i.
+    pub fn copy_at(&self, i: usize) -> Result<Bytes, Memory>
+        requires { i < length self.now }
+        ensures { IfOk result (λ b. b ≡ slice_index_or self.now i []) }
+    {
+        Bytes::from_slice(*self.bytes.allocator(), self.get(i))
+    }
+
     /// The texts at the places, in the places' order.
-    pub fn gather(&self, alloc: Global, places: &[usize]) -> Result<Texts, Memory>
+    pub fn gather(&self, places: &[usize]) -> Result<Texts, Memory>
         requires { All (λ p. p < length self.now) places.now }
         ensures { IfOk result (λ t. t ≡ map (λ p. slice_index_or self.now p []) places.now) }
     {
-        let mut texts = Texts::new(alloc);
+        let mut texts = Texts::new(*self.bytes.allocator());
+        texts.reserve(places.len())?;
         for place in places {
             texts.push(self.get(*place))?;
         }

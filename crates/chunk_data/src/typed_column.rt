@@ -1,14 +1,17 @@
 ghost use Rattle.std.specs.Prelude.{◌≡◌, ℕ, ◌+◌, ◌≤◌, ◌<◌, ◌++◌, ◌∷◌, List, [], length, map, take, drop, slice_index_or, OnOk, OnErr, IfOk};
 ghost use Rattle.std.specs.List.{All};
-ghost use Rattle.chunk_data.specs.Values.{type_of, value_at};
+ghost use Rattle.chunk_data.specs.Values.{FitsType, value_at, value_cmp};
 ghost use Rattle.chunk_data.specs.Columns.{kind_of, values};
 ghost use Rattle.chunk_data.specs.Rows.{kept};
 
-use crate::lists::{Bytes, Memory};
-use crate::compact::{gather_ints, gather_uints, keep_items, remove_front};
+use crate::compact::{
+    copy_items, front_items, gather_ints, gather_uints, keep_items, remove_front,
+};
+use crate::lists::Memory;
 use crate::text_column::Texts;
 use crate::typed_value::{ColumnType, Value};
 use std::alloc::Global;
+use std::cmp::Ordering;
 
 /// Values of one type, kept in one vector of that type.
 #[derive(Debug, Drop)]
@@ -19,6 +22,7 @@ pub enum Column {
 }
 
 impl Column {
+    /// A column without values; it takes no memory.
     pub fn new(alloc: Global, kind: ColumnType) -> Self
         ensures kind { kind_of result ≡ kind }
         ensures empty { values result ≡ [] }
@@ -30,6 +34,7 @@ impl Column {
         }
     }
 
+    /// The type of its values.
     pub fn kind(&self) -> ColumnType
         ensures { result ≡ kind_of self.now }
     {
@@ -40,6 +45,7 @@ impl Column {
         }
     }
 
+    /// How many values it has.
     pub fn len(&self) -> usize
         ensures { result ≡ length (values self.now) }
     {
@@ -50,8 +56,22 @@ impl Column {
         }
     }
 
+    /// Makes room for n more values, of a Text column without their bytes; the values stay.
+    pub fn reserve(&mut self, n: usize) -> Result<(), Memory>
+        ensures kind { kind_of self.new ≡ kind_of self.old }
+        ensures values { values self.new ≡ values self.old }
+    {
+        match self {
+            Column::Int64(numbers) => numbers.try_reserve(n)?,
+            Column::UInt64(numbers) => numbers.try_reserve(n)?,
+            Column::Text(texts) => texts.reserve(n)?,
+        }
+        Ok(())
+    }
+
+    /// Adds a value that fits the column's type; after an error nothing has changed and the value is dropped.
     pub fn push(&mut self, value: Value) -> Result<(), Memory>
-        requires { type_of value ≡ kind_of self.old }
+        requires { FitsType (kind_of self.old) value }
         ensures kind { kind_of self.new ≡ kind_of self.old }
         ensures ok { OnOk result (values self.new ≡ values self.old ++ value ∷ []) }
         ensures err { OnErr result (values self.new ≡ values self.old) }
@@ -67,7 +87,7 @@ impl Column {
 
     /// The same for a value that is only lent.
     pub fn push_copy(&mut self, value: &Value) -> Result<(), Memory>
-        requires { type_of value.now ≡ kind_of self.old }
+        requires { FitsType (kind_of self.old) value.now }
         ensures kind { kind_of self.new ≡ kind_of self.old }
         ensures ok { OnOk result (values self.new ≡ values self.old ++ value.now ∷ []) }
         ensures err { OnErr result (values self.new ≡ values self.old) }
@@ -81,55 +101,35 @@ impl Column {
         Ok(())
     }
 
-    pub fn push_int(&mut self, number: i64) -> Result<(), Memory>
-        requires { kind_of self.old ≡ ColumnType.Int64 }
-        ensures kind { kind_of self.new ≡ kind_of self.old }
-        ensures ok { OnOk result (values self.new ≡ values self.old ++ Value.Int number ∷ []) }
-        ensures err { OnErr result (values self.new ≡ values self.old) }
-    {
-        match self {
-            Column::Int64(numbers) => numbers.push(number)?,
-            _ => unreachable!(),
-        }
-        Ok(())
-    }
-
-    pub fn push_text(&mut self, text: &[u8]) -> Result<(), Memory>
-        requires { kind_of self.old ≡ ColumnType.Text }
-        ensures kind { kind_of self.new ≡ kind_of self.old }
-        ensures ok { OnOk result (values self.new ≡ values self.old ++ Value.Text text.now ∷ []) }
-        ensures err { OnErr result (values self.new ≡ values self.old) }
-    {
-        match self {
-            Column::Text(texts) => texts.push(text),
-            _ => unreachable!(),
-        }
-    }
-
-    pub fn text(&self, i: usize) -> &[u8]
-        requires kind { kind_of self.now ≡ ColumnType.Text }
-        requires in_range { i < length (values self.now) }
-        ensures { Value.Text result.now ≡ slice_index_or (values self.now) i (Value.Text []) }
-    {
-        match self {
-            Column::Text(texts) => texts.get(i),
-            _ => unreachable!(),
-        }
-    }
-
-    pub fn value(&self, alloc: Global, i: usize) -> Result<Value, Memory>
+    /// A copy of value i.
+    pub fn value(&self, i: usize) -> Result<Value, Memory>
         requires { i < length (values self.now) }
-        ensures { IfOk result (λ v. v ≡ slice_index_or (values self.now) i v) }
+        ensures { IfOk result (λ v. v ≡ value_at (values self.now) i) }
     {
         match self {
             Column::Int64(numbers) => Ok(Value::Int(numbers[i])),
             Column::UInt64(numbers) => Ok(Value::UInt(numbers[i])),
-            Column::Text(texts) => Ok(Value::Text(Bytes::from_slice(alloc, texts.get(i))?)),
+            Column::Text(texts) => Ok(Value::Text(texts.copy_at(i)?)),
         }
     }
 
-    #[tactic(auto, using(crate::proofs::Cells::maps))]
+    /// How value i compares with the other column's value j.
+    pub fn compare(&self, i: usize, other: &Column, j: usize) -> Ordering
+        requires kinds { kind_of other.now ≡ kind_of self.now }
+        requires here { i < length (values self.now) }
+        requires there { j < length (values other.now) }
+        ensures { result ≡ value_cmp (value_at (values self.now) i) (value_at (values other.now) j) }
+    {
+        match (self, other) {
+            (Column::Int64(numbers), Column::Int64(others)) => numbers[i].cmp(&others[j]),
+            (Column::UInt64(numbers), Column::UInt64(others)) => numbers[i].cmp(&others[j]),
+            (Column::Text(texts), Column::Text(others)) => texts.get(i).cmp(others.get(j)),
+            _ => unreachable!(),
+        }
+    }
+
     /// Exactly the values whose place in the mask has true stay, in order.
+    #[tactic(auto, using(crate::proofs::Cells::maps))]
     pub fn keep(&mut self, mask: &[bool])
         requires { length mask.now ≡ length (values self.old) }
         ensures kind { kind_of self.new ≡ kind_of self.old }
@@ -142,8 +142,8 @@ impl Column {
         }
     }
 
-    #[tactic(auto, using(crate::proofs::Cells::maps))]
     /// The first n stay.
+    #[tactic(auto, using(crate::proofs::Cells::maps))]
     pub fn truncate(&mut self, n: usize)
         ensures kind { kind_of self.new ≡ kind_of self.old }
         ensures front { values self.new ≡ take n (values self.old) }
@@ -175,49 +175,43 @@ impl Column {
         Ok(())
     }
 
-    #[tactic(auto, using(crate::proofs::Cells::maps))]
     /// The values at the places, in the places' order.
-    pub fn gather(&self, alloc: Global, places: &[usize]) -> Result<Column, Memory>
+    #[tactic(auto, using(crate::proofs::Cells::maps))]
+    pub fn gather(&self, places: &[usize]) -> Result<Column, Memory>
         requires { All (λ p. p < length (values self.now)) places.now }
         ensures kind { IfOk result (λ c. kind_of c ≡ kind_of self.now) }
         ensures values { IfOk result (λ c. values c ≡ map (value_at (values self.now)) places.now) }
     {
         match self {
-            Column::Int64(numbers) => {
-                Ok(Column::Int64(gather_ints(alloc, numbers.as_slice(), places)?))
-            }
-            Column::UInt64(numbers) => {
-                Ok(Column::UInt64(gather_uints(alloc, numbers.as_slice(), places)?))
-            }
-            Column::Text(texts) => Ok(Column::Text(texts.gather(alloc, places)?)),
+            Column::Int64(numbers) => { Ok(Column::Int64(gather_ints(numbers, places)?)) }
+            Column::UInt64(numbers) => { Ok(Column::UInt64(gather_uints(numbers, places)?)) }
+            Column::Text(texts) => Ok(Column::Text(texts.gather(places)?)),
         }
     }
 
-    pub fn copy(&self, alloc: Global) -> Result<Column, Memory>
+    /// The same values.
+    pub fn copy(&self) -> Result<Column, Memory>
         ensures kind { IfOk result (λ c. kind_of c ≡ kind_of self.now) }
         ensures values { IfOk result (λ c. values c ≡ values self.now) }
     {
         match self {
-            Column::Int64(numbers) => Ok(Column::Int64(Vec::from_slice(
-                alloc,
-                numbers.as_slice(),
-            )?)),
-            Column::UInt64(numbers) => Ok(Column::UInt64(Vec::from_slice(
-                alloc,
-                numbers.as_slice(),
-            )?)),
-            Column::Text(texts) => Ok(Column::Text(texts.copy(alloc)?)),
+            Column::Int64(numbers) => Ok(Column::Int64(copy_items(numbers)?)),
+            Column::UInt64(numbers) => Ok(Column::UInt64(copy_items(numbers)?)),
+            Column::Text(texts) => Ok(Column::Text(texts.copy()?)),
         }
     }
 
     /// A copy of the first n values.
-    pub fn front(&self, alloc: Global, n: usize) -> Result<Column, Memory>
+    #[tactic(auto, using(crate::proofs::Cells::maps))]
+    pub fn front(&self, n: usize) -> Result<Column, Memory>
         ensures kind { IfOk result (λ c. kind_of c ≡ kind_of self.now) }
         ensures front { IfOk result (λ c. values c ≡ take n (values self.now)) }
     {
-        let mut column = self.copy(alloc)?;
-        column.truncate(n);
-        Ok(column)
+        match self {
+            Column::Int64(numbers) => Ok(Column::Int64(front_items(numbers, n)?)),
+            Column::UInt64(numbers) => Ok(Column::UInt64(front_items(numbers, n)?)),
+            Column::Text(texts) => Ok(Column::Text(texts.front(n)?)),
+        }
     }
 
     /// What follows the first n values stays.

@@ -9,7 +9,7 @@ use Rattle.query_model.specs.Expressions.{Expr, Cond, rows_where}
 use Rattle.query_model.specs.Sources.{agree, joined_rows}
 use Rattle.query_model.specs.Answers.{selected_rows}
 use Rattle.chunk_data.specs.declared.typed_value.ColumnType.{ColumnType}
-use Rattle.query_model.specs.declared.query.BadPlace.{BadPlace}
+use Rattle.query_model.specs.declared.places.BadPlace.{BadPlace}
 use Rattle.query_model.specs.declared.checked.KeyPair.{KeyPair}
 use Rattle.query_model.specs.declared.checked.Shape.TheVariants.{Plain}
 use Rattle.query_model.proofs.Lists.{IsPermutation-filter, IsPermutation-flat_map}

@@ -1,15 +1,15 @@
 -- Refused queries, by computation.
-use Rattle.std.specs.Prelude.{◌≡◌, ℕ, false, List, [], ◌∷◌, Some, None, codes, refl, replicate}
+use Rattle.std.specs.Prelude.{◌≡◌, ℕ, true, false, List, [], ◌∷◌, Some, None, codes, refl, replicate}
 use Rattle.std.specs.Fmt.{digits}
 use Rattle.query_model.specs.Refusals.{refusal_of, expr_columns, cond_operands, expr_kind, cond_fits}
 use Rattle.chunk_data.specs.declared.typed_value.ColumnType.TheVariants as column
-use Rattle.query_model.specs.declared.query.ArithOp.TheVariants.{Add}
+use Rattle.query_model.specs.declared.query.ArithOp.TheVariants.{Add, Sub}
 use Rattle.query_model.specs.declared.query.ColumnRef.{ColumnRef}
 use Rattle.query_model.specs.declared.query.ExprOf.{ExprOf}
 use Rattle.query_model.specs.declared.query.ExprOf.TheVariants as expr
 use Rattle.query_model.specs.declared.query.Item.{Item}
 use Rattle.query_model.specs.declared.query.ItemKind.TheVariants as kind
-use Rattle.query_model.specs.declared.query.Items.TheVariants.{Listed}
+use Rattle.query_model.specs.declared.query.Items.TheVariants.{Star, Listed}
 use Rattle.query_model.specs.declared.query.TableRef.TheVariants.{Named}
 use Rattle.query_model.specs.declared.query.Query.{Query}
 use Rattle.query_model.specs.declared.query.Schema.{Schema}
@@ -85,3 +85,40 @@ pub checked_a : IsChecked (select (codes "a") (codes "t")) schemas
     (record { from = checked.Declared 0; join = None; filter = None; shape = shape.Plain (expr.Column 0 ∷ []); names = codes "a" ∷ []; types = column.Int64 ∷ []; order = []; limit = None })
 unfolding refusal_of expr_columns cond_operands expr_kind cond_fits digits
 checked_a = record { from = refl; join = tt; filter = tt; shape = (refl, tt); names = refl; types = refl; order = refl; limit = refl }
+
+abbrev pub plain : List ℕ → ExprOf ColumnRef
+plain name = expr.Column (bare name)
+
+-- SELECT a - 9223372036854775808 FROM t: no Int64
+pub number_too_large : (p q : Place)
+    → refusal_of (select_items (item (expr.Arith' Sub p (plain (codes "a")) q (expr.Number (record { negative = false; size = 9223372036854775808 }))) ∷ []) (codes "t")) schemas ≡ Some refuse.TypeMismatch
+unfolding refusal_of expr_columns cond_operands expr_kind cond_fits
+number_too_large p q = refl
+
+-- SELECT a + -0 FROM u: a UInt64
+pub minus_zero : (p q : Place)
+    → refusal_of (select_items (item (expr.Arith' Add p (plain (codes "a")) q (expr.Number (record { negative = true; size = 0 }))) ∷ []) (codes "u")) schemas ≡ None
+unfolding refusal_of expr_columns cond_operands expr_kind cond_fits digits
+minus_zero p q = refl
+
+-- SELECT 1 FROM t
+pub number_alone : refusal_of (select_items (item (expr.Number (record { negative = false; size = 1 })) ∷ []) (codes "t")) schemas ≡ Some refuse.TypeMismatch
+unfolding refusal_of expr_columns cond_operands expr_kind cond_fits
+number_alone = refl
+
+-- SELECT a + a FROM t GROUP BY a: the first column's name
+pub sum_of_keys : (p q : Place)
+    → refusal_of (record (select_items (item (expr.Arith' Add p (plain (codes "a")) q (plain (codes "a"))) ∷ []) (codes "t")) { keys = bare (codes "a") ∷ [] }) schemas
+    ≡ Some (refuse.NotGrouped (codes "a"))
+unfolding refusal_of expr_columns cond_operands expr_kind cond_fits
+sum_of_keys p q = refl
+
+-- SELECT * FROM t GROUP BY a
+pub star_grouped : refusal_of (record (select (codes "a") (codes "t")) { items = Star; keys = bare (codes "a") ∷ [] }) schemas ≡ Some (refuse.NotGrouped (codes "*"))
+unfolding refusal_of expr_columns cond_operands expr_kind cond_fits
+star_grouped = refl
+
+-- SELECT x.a FROM t: the name as it is written
+pub qualified_name : refusal_of (select_items (item (expr.Column (of_table (codes "x") (codes "a"))) ∷ []) (codes "t")) schemas ≡ Some (refuse.UnknownColumn (codes "x.a"))
+unfolding refusal_of expr_columns cond_operands expr_kind cond_fits
+qualified_name = refl

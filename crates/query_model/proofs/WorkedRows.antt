@@ -1,10 +1,10 @@
 -- Worked queries, by computation.
-use Rattle.std.specs.Prelude.{◌≡◌, ℕ, true, false, List, [], ◌∷◌, ◌++◌, pos, Option, Some, None, codes, refl}
+use Rattle.std.specs.Prelude.{◌≡◌, ℕ, true, false, List, [], ◌∷◌, ◌++◌, pos, negsuc, Option, Some, None, codes, refl}
 use Rattle.chunk_data.specs.Values.{Row, Table}
 use Rattle.query_model.specs.Parts.{parts_rows, part_records, bad_place}
 use Rattle.query_model.specs.Expressions.{Expr, Cond}
 use Rattle.query_model.specs.ListFiles.{bad_line, lines_from}
-use Rattle.query_model.specs.declared.query.BadField.TheVariants as bad
+use Rattle.query_model.specs.declared.places.BadField.TheVariants as bad
 use Rattle.std.specs.Prelude.{flat_map, replicate}
 use Rattle.query_model.specs.Sources.{Database}
 use Rattle.chunk_data.specs.Values.{row_cmp}
@@ -29,6 +29,10 @@ use Rattle.query_model.specs.declared.checked.Shape.{Shape}
 use Rattle.query_model.specs.declared.checked.Shape.TheVariants.{Plain, Grouped}
 use Rattle.query_model.specs.declared.checked.TableUse.TheVariants.{Declared}
 use Rattle.query_model.specs.declared.query.ExprOf.TheVariants as expr
+use Rattle.query_model.specs.Database.{database}
+use Rattle.query_model.specs.Projection.{projection_checked}
+use Rattle.query_model.specs.declared.query.TableDecl.{TableDecl}
+use Rattle.query_model.specs.declared.query.PartsDecl.TheVariants.{Paths}
 
 -- a table from the bytes of its parts
 abbrev pub table_of : List ColumnType → List (List ℕ) → Table
@@ -232,3 +236,49 @@ joined_answers = record {
   in_order = IsSorted-tested (row_cmp joined_lr.order) (three 10 ++ three 11) refl;
   is = refl;
 }
+
+-- SELECT a FROM t ORDER BY a, over the greatest and the least Int64
+abbrev pub ends : Database
+ends = table_of (column.Int64 ∷ []) (codes "9223372036854775807\n-9223372036854775808\n" ∷ []) ∷ []
+
+abbrev pub sorted_a : Checked
+sorted_a = record select_a { order = record { column = 0; descending = false } ∷ [] }
+
+abbrev pub least_first : List Row
+least_first = (Int (negsuc 9223372036854775807) ∷ []) ∷ (Int (pos 9223372036854775807) ∷ []) ∷ []
+
+pub ends_answers : IsAnswer sorted_a ends least_first
+unfolding meaning_on_literals
+ends_answers = record {
+  ordered = least_first;
+  same_rows = record { moves = (0, 1) ∷ []; below = (lit< tt, lit< tt, tt); is = refl };
+  in_order = IsSorted-tested (row_cmp sorted_a.order) least_first refl;
+  is = refl;
+}
+
+pub ends_text : answer_text false (codes "a" ∷ []) least_first ≡ codes "-9223372036854775808\n9223372036854775807\n"
+unfolding meaning_on_literals
+ends_text = refl
+
+-- a field that spells no number, in the second record
+pub bad_letter : bad_place 1 (column.Int64 ∷ []) (part_records false (codes "1\nz\n")) ≡ Some (record { row = 2; field = bad.Column 1 })
+unfolding meaning_on_literals
+bad_letter = refl
+
+-- SELECT a FROM t, from the declaration `t=f.csv:a Int64,b String` and the file's bytes to the text
+abbrev pub declared_t : TableDecl
+declared_t = record {
+  schema = record { name = codes "t"; columns = record { name = codes "a"; kind = column.Int64 } ∷ record { name = codes "b"; kind = column.Text } ∷ [] };
+  parts = Paths (codes "f.csv" ∷ []);
+}
+
+abbrev pub text_over : List ℕ → List ℕ
+text_over bytes = text_of (projection_checked declared_t.schema (codes "a" ∷ [])) (database false ((codes "f.csv", bytes) ∷ []) (declared_t ∷ []))
+
+pub file_to_text : text_over (codes "7,x\n7,y\n") ≡ codes "7\n7\n"
+unfolding meaning_on_literals
+file_to_text = refl
+
+pub empty_file : text_over [] ≡ []
+unfolding meaning_on_literals
+empty_file = refl

@@ -9,7 +9,9 @@ pub mod Answers
 pub mod Texts
 pub mod Refusals
 pub mod Formulas
-pub mod Later
 pub mod ListFiles
-pub mod Unions
 pub mod Checks
+pub mod Kinds
+pub mod Numerals
+pub mod Database
+pub mod Projection

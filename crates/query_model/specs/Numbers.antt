@@ -1,5 +1,5 @@
 -- The numbers of values, and how results are brought back into 64 bits.
-use Rattle.std.specs.Prelude.{ℕ, ◌^◌, Bool, true, false, ℤ, pos, unsigned_abs}
+use Rattle.std.specs.Prelude.{◌^◌, Bool, true, false, ℤ, pos, unsigned_abs}
 use Rattle.std.specs.Int.{int_wrap, int_rem_euclid}
 use mir.Syntax.{w64}
 use Rattle.chunk_data.specs.declared.typed_value.Value.{Value}

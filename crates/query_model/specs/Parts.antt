@@ -1,12 +1,12 @@
 -- The rows of a part, a file of comma-separated records, and its first bad place.
-use Rattle.std.specs.Prelude.{ℕ, ◌+◌, Bool, ◌==◌, is_some, if◌then◌else◌, List, [], ◌∷◌, length, drop, flat_map, Option, Some, None}
+use Rattle.std.specs.Prelude.{◌≡◌, ℕ, ◌+◌, Bool, ◌==◌, is_some, if◌then◌else◌, List, [], ◌∷◌, length, drop, flat_map, Option, Some, None}
 use Rattle.csv.specs.Reading.{records, default_config, strip_bom}
 use Rattle.chunk_data.specs.Values.{Row}
 use Rattle.query_model.specs.Fields.{spelled_value, spelled_row}
 use Rattle.chunk_data.specs.declared.typed_value.ColumnType.{ColumnType}
-use Rattle.query_model.specs.declared.query.BadPlace.{BadPlace}
-use Rattle.query_model.specs.declared.query.BadField.{BadField}
-use Rattle.query_model.specs.declared.query.BadField.TheVariants.{Column, Fields}
+use Rattle.query_model.specs.declared.places.BadPlace.{BadPlace}
+use Rattle.query_model.specs.declared.places.BadField.{BadField}
+use Rattle.query_model.specs.declared.places.BadField.TheVariants.{Column, Fields}
 
 -- the records of a part: those of its bytes behind a byte order mark, without the first where that is a header
 unfoldable pub part_records : Bool → List ℕ → List (List (List ℕ))
@@ -42,3 +42,10 @@ bad_place n types (record' ∷ more) =
 -- the rows of a table of parts, in order of the parts
 abbrev pub parts_rows : List ColumnType → Bool → List (List ℕ) → List Row
 parts_rows types header parts = flat_map (λ bytes. good_rows types (part_records header bytes)) parts
+
+-- the first fields of a record spell these values of the first columns
+abbrev pub SpelledFront : List ColumnType → List (List ℕ) → Row → Type 0
+SpelledFront types fields [] = Unit {0}
+SpelledFront [] fields (v ∷ row) = ⊥
+SpelledFront (type ∷ types) [] (v ∷ row) = ⊥
+SpelledFront (type ∷ types) (field ∷ fields) (v ∷ row) = (spelled_value type field ≡ Some v) × SpelledFront types fields row

@@ -1,14 +1,18 @@
 -- The text of an answer.
-use Rattle.std.specs.Prelude.{ℕ, ◌==◌, if◌then◌else◌, Bool, true, false, List, [], ◌∷◌, ◌++◌, map, flat_map, decimal}
+use Rattle.std.specs.Prelude.{ℕ, zero, suc, ◌==◌, if◌then◌else◌, Bool, true, false, List, [], ◌∷◌, ◌++◌, map, flat_map, take, decimal}
 use Rattle.std.specs.Fmt.{signed_decimal}
 use Rattle.std.specs.List.{join_with_byte}
 use Rattle.chunk_data.specs.Values.{Row}
 use Rattle.chunk_data.specs.declared.typed_value.Value.{Value}
 use Rattle.chunk_data.specs.declared.typed_value.Value.TheVariants.{Int, UInt, Text}
 
+-- a byte inside of quotes: a quote is doubled
+abbrev pub doubled : ℕ → List ℕ
+doubled b = if b == 34 then 34 ∷ 34 ∷ [] else b ∷ []
+
 -- a text in quotes, with each quote doubled
 abbrev pub quoted : List ℕ → List ℕ
-quoted bytes = 34 ∷ (flat_map (λ b. if b == 34 then 34 ∷ 34 ∷ [] else b ∷ []) bytes ++ 34 ∷ [])
+quoted bytes = 34 ∷ (flat_map doubled bytes ++ 34 ∷ [])
 
 abbrev pub value_text : Value → List ℕ
 value_text (Int z) = signed_decimal z
@@ -18,6 +22,15 @@ value_text (Text bytes) = quoted bytes
 -- the values with commas between them, and a line feed
 abbrev pub row_text : Row → List ℕ
 row_text row = join_with_byte 44 (map value_text row) ++ 10 ∷ []
+
+-- what stands in front of the value with place i
+abbrev pub separator : ℕ → List ℕ
+separator zero = []
+separator (suc i) = 44 ∷ []
+
+-- the first i values with commas between them
+abbrev pub row_front : Row → ℕ → List ℕ
+row_front row i = join_with_byte 44 (map value_text (take i row))
 
 abbrev pub rows_text : List Row → List ℕ
 rows_text rows = flat_map row_text rows

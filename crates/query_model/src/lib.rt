@@ -1,8 +1,12 @@
-// The types of queries, and the plain meaning of a query.
+//! The types of queries and of the specs of processors, and the definitions of a query's plain meaning.
 #![tactic(auto)]
 
+pub mod arithmetic;
 pub mod checked;
+pub mod numerals;
+pub mod places;
 pub mod plain;
+pub mod processor_spec;
 pub mod query;
-pub mod sums;
-pub mod unions;
+#[cfg(test)]
+mod tests;

@@ -1,18 +1,21 @@
 // Queries as they are parsed.
 use chunk_data::{Bytes, ColumnType, List};
 
-#[derive(Drop)]
+/// A column as it is named in a query, with its table where it is qualified.
+#[derive(Debug, Drop)]
 pub struct ColumnRef {
     pub table: Option<Bytes>,
     pub name: Bytes,
 }
 
+/// A plain number: its digits' value, and whether `-` stands in front. `-0` is 0.
 #[derive(Clone, Copy, Debug, PartialEq, Eq)]
 pub struct Number {
     pub negative: bool,
     pub size: u64,
 }
 
+/// `+`, `-` and `*`.
 #[derive(Clone, Copy, Debug, PartialEq, Eq)]
 pub enum ArithOp {
     Add,
@@ -20,6 +23,7 @@ pub enum ArithOp {
     Mul,
 }
 
+/// `=`, `!=`, `<`, `<=`, `>` and `>=`.
 #[derive(Clone, Copy, Debug, PartialEq, Eq)]
 pub enum CompareOp {
     Eq,
@@ -30,6 +34,7 @@ pub enum CompareOp {
     Ge,
 }
 
+/// The aggregates `count`, `sum`, `min` and `max`.
 #[derive(Clone, Copy, Debug, PartialEq, Eq)]
 pub enum AggOp {
     Count,
@@ -38,27 +43,31 @@ pub enum AggOp {
     Max,
 }
 
-#[derive(Drop)]
+/// An expression over columns: names in a parsed query, places in a checked one.
+#[derive(Debug, Drop)]
 pub enum ExprOf<C> {
     Column(C),
     Number(Number),
     Arith(ArithOp, Box<ExprOf<C>>, Box<ExprOf<C>>),
 }
 
-#[derive(Drop)]
+/// A call of an aggregate; `count` has no argument, each other has one.
+#[derive(Debug, Drop)]
 pub struct AggCall<C> {
     pub op: AggOp,
     pub arg: Option<ExprOf<C>>,
 }
 
-#[derive(Drop)]
+/// A side of a comparison. A call stands only in HAVING of a parsed query.
+#[derive(Debug, Drop)]
 pub enum Operand<C> {
     Plain(ExprOf<C>),
     Text(Bytes),
     Agg(AggCall<C>),
 }
 
-#[derive(Drop)]
+/// A condition on rows.
+#[derive(Debug, Drop)]
 pub enum CondOf<C> {
     Compare(CompareOp, Operand<C>, Operand<C>),
     And(Box<CondOf<C>>, Box<CondOf<C>>),
@@ -66,55 +75,64 @@ pub enum CondOf<C> {
     Not(Box<CondOf<C>>),
 }
 
-#[derive(Drop)]
+/// What an item of SELECT is.
+#[derive(Debug, Drop)]
 pub enum ItemKind {
     Plain(ExprOf<ColumnRef>),
     Agg(AggCall<ColumnRef>),
 }
 
-#[derive(Drop)]
+/// An item of SELECT, with its name behind AS.
+#[derive(Debug, Drop)]
 pub struct Item {
     pub what: ItemKind,
     pub alias: Option<Bytes>,
 }
 
-#[derive(Drop)]
+/// All columns, or a list of items.
+#[derive(Debug, Drop)]
 pub enum Items {
     Star,
     Listed(List<Item>),
 }
 
-#[derive(Drop)]
+/// A declared table, or `numbers(N)`.
+#[derive(Debug, Drop)]
 pub enum TableRef {
     Named(Bytes),
     Numbers(u64),
 }
 
-#[derive(Drop)]
+/// A pair of columns of ON, as it is written.
+#[derive(Debug, Drop)]
 pub struct NamePair {
     pub left: ColumnRef,
     pub right: ColumnRef,
 }
 
-#[derive(Drop)]
+/// The table that is joined, and the pairs of ON.
+#[derive(Debug, Drop)]
 pub struct Join {
     pub table: TableRef,
     pub pairs: List<NamePair>,
 }
 
-#[derive(Drop)]
+/// A key of ORDER BY: the name of an item, and whether DESC stands behind it.
+#[derive(Debug, Drop)]
 pub struct OrderKey {
     pub name: Bytes,
     pub descending: bool,
 }
 
+/// LIMIT and OFFSET; `skip` is 0 where there is no OFFSET.
 #[derive(Clone, Copy, Debug, PartialEq, Eq)]
 pub struct Span {
     pub count: u64,
     pub skip: u64,
 }
 
-#[derive(Drop)]
+/// A query as it is parsed. `keys` are those of GROUP BY, `filter` is the condition of WHERE.
+#[derive(Debug, Drop)]
 pub struct Query {
     pub items: Items,
     pub from: TableRef,
@@ -126,32 +144,37 @@ pub struct Query {
     pub limit: Option<Span>,
 }
 
-#[derive(Drop)]
+/// A declared column.
+#[derive(Debug, Drop)]
 pub struct ColumnDecl {
     pub name: Bytes,
     pub kind: ColumnType,
 }
 
-#[derive(Drop)]
+/// A table's name and columns.
+#[derive(Debug, Drop)]
 pub struct Schema {
     pub name: Bytes,
     pub columns: List<ColumnDecl>,
 }
 
-#[derive(Drop)]
+/// The paths of a table's parts, or the path of the file that lists them.
+#[derive(Debug, Drop)]
 pub enum PartsDecl {
     Paths(List<Bytes>),
     ListFile(Bytes),
 }
 
-#[derive(Drop)]
+/// A declared table.
+#[derive(Debug, Drop)]
 pub struct TableDecl {
     pub schema: Schema,
     pub parts: PartsDecl,
 }
 
-/// Why a query is refused.
-#[derive(Drop)]
+/// Why a query is refused, in the order of the causes. A name is carried as it is written, `t.c` where it is
+/// qualified.
+#[derive(Debug, Drop)]
 pub enum Refusal {
     UnknownTable(Bytes),
     UnknownColumn(Bytes),
@@ -162,18 +185,4 @@ pub enum Refusal {
     BadOrderKey(Bytes),
     TooWide,
     Memory,
-}
-
-/// What is wrong with a record: the field that spells no value, from 1, or the number of its fields.
-#[derive(Clone, Copy, Debug, PartialEq, Eq)]
-pub enum BadField {
-    Column(u32),
-    Fields(u64),
-}
-
-/// The record that isn't good, from 1.
-#[derive(Clone, Copy, Debug, PartialEq, Eq)]
-pub struct BadPlace {
-    pub row: u64,
-    pub field: BadField,
 }

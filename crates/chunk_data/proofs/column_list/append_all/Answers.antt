@@ -1,6 +1,5 @@
-use Rattle.std.proofs.Common.{arith, ap, sym, ◌∙◌, length, ◌<◌, ◌≡◌, map, ◌∷◌, []}
+use Rattle.std.proofs.Common.{arith, ◌∙◌, length, ◌<◌, ◌≡◌, map}
 use Rattle.std.proofs.lemmas.List.{length-map}
-use Rattle.chunk_data.specs.Values.{type_of}
 use Rattle.chunk_data.specs.Columns.{values, kind_of}
 use Rattle.chunk_data.proofs.ColumnLists.{Joined-more, Joined-all, Joined-back, Joined-same, Joined-long, agrees_at, agreed_long, other_at}
 use Rattle.chunk_data.proofs.column_list.append_all.Goals as goal
@@ -10,11 +9,11 @@ append-requires c = agrees_at kind_of _ _ _ _ _ _ c.requires.agree c.loop-i.inva
 
 pub returns-in-Err-clause-kinds : goal.returns-in-Err-clause-kinds
 returns-in-Err-clause-kinds c =
-    c.truncate_all.ensures.kinds ∙ (Joined-same c.index-columns-i.result _ c.loop-i.invariant (omega arith) c.append.ensures.kind c.in-Err.ensures.err).kinds
+    c.truncate_columns.ensures.kinds ∙ (Joined-same c.index-columns-i.result _ c.loop-i.invariant (omega arith) c.append.ensures.kind c.in-Err.ensures.err).kinds
 
 pub returns-in-Err-clause-err : goal.returns-in-Err-clause-err
 returns-in-Err-clause-err c =
-    c.truncate_all.ensures.front ∙ Joined-back _ (Joined-same c.index-columns-i.result _ c.loop-i.invariant (omega arith) c.append.ensures.kind c.in-Err.ensures.err) c.requires.long
+    c.truncate_columns.ensures.front ∙ Joined-back _ (Joined-same c.index-columns-i.result _ c.loop-i.invariant (omega arith) c.append.ensures.kind c.in-Err.ensures.err) c.requires.long
 
 pub loop-i-preserved : goal.loop-i-preserved
 loop-i-preserved c =

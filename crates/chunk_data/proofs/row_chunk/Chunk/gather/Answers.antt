@@ -1,6 +1,4 @@
-use Rattle.std.proofs.Common.{arith, ap, sym, ◌∙◌, ◌≡◌, ◌<◌, length, map}
-use Rattle.std.specs.List.{All}
-use Rattle.chunk_data.specs.Columns.{AreColumns}
+use Rattle.std.proofs.Common.{ap, sym, ◌∙◌, ◌≡◌, length, map}
 use Rattle.chunk_data.specs.Rows.{row_at}
 use Rattle.chunk_data.proofs.Chunks.{places_step, length_rows}
 use Rattle.chunk_data.proofs.row_chunk.Chunk.gather.Goals as goal

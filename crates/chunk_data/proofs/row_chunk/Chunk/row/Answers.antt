@@ -1,4 +1,4 @@
-use Rattle.std.proofs.Common.{arith, ap, sym, ◌∙◌, ◌≡◌, ◌<◌, length, map}
+use Rattle.std.proofs.Common.{arith, ap, sym, ◌∙◌, ◌≡◌, length, map}
 use Rattle.chunk_data.specs.Values.{value_at}
 use Rattle.chunk_data.specs.Columns.{values}
 use Rattle.chunk_data.specs.Rows.{row_at}

@@ -1,4 +1,4 @@
-use Rattle.std.proofs.Common.{arith, length, ◌≤◌, ◌+◌, length-append, get_or, ap}
+use Rattle.std.proofs.Common.{arith, length, ◌≤◌, ◌+◌, get_or}
 use Rattle.chunk_data.proofs.Cuts.{ends_below}
 use Rattle.chunk_data.proofs.text_column.Texts.append.Goals as goal
 

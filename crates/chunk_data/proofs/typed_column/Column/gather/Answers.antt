@@ -1,15 +1,14 @@
-use Rattle.std.proofs.Common.{ap, ◌∙◌, pos, []}
-use Rattle.chunk_data.specs.Columns.{values}
+use Rattle.std.proofs.Common.{pos, []}
 use Rattle.chunk_data.proofs.Cells.{places_of}
 use Rattle.chunk_data.proofs.typed_column.Column.gather.Goals as goal
 
 pub returns-in_ok-gather_ints-in-Int64-clause-values : goal.returns-in_ok-gather_ints-in-Int64-clause-values
 returns-in_ok-gather_ints-in-Int64-clause-values c =
-    places_of _ c.as_slice.result.now _ _ _ (pos 0) _ (rw (c.as_slice.ensures.value, c.in-Int64.is)) c.requires c.in_ok-gather_ints-in-Int64.ensures
+    places_of _ c.in-Int64.numbers.items _ _ _ (pos 0) _ (rw c.in-Int64.is) c.requires c.in_ok-gather_ints-in-Int64.ensures
 
 pub returns-in_ok-gather_uints-in-UInt64-clause-values : goal.returns-in_ok-gather_uints-in-UInt64-clause-values
 returns-in_ok-gather_uints-in-UInt64-clause-values c =
-    places_of _ c.as_slice-in-UInt64.result.now _ _ _ 0 _ (rw (c.as_slice-in-UInt64.ensures.value, c.in-UInt64.is)) c.requires c.in_ok-gather_uints-in-UInt64.ensures
+    places_of _ c.in-UInt64.numbers.items _ _ _ 0 _ (rw c.in-UInt64.is) c.requires c.in_ok-gather_uints-in-UInt64.ensures
 
 pub returns-in_ok-gather-in-Text-clause-values : goal.returns-in_ok-gather-in-Text-clause-values
 returns-in_ok-gather-in-Text-clause-values c =

@@ -1,0 +1,5 @@
+pub mod Entries
+pub mod PlainLaws
+pub mod Scans
+pub mod Tables
+pub mod Tails

@@ -1,0 +1,208 @@
+-- a record that is added to columns field by field
+use Rattle.std.proofs.Common.{◌≡◌, ◌≢◌, ℕ, ◌+◌, ◌<◌, ◌≤◌, List, [], ◌∷◌, ◌++◌, length, get_or, set, take, map, refl, ap, ap₂, sym, ◌∙◌, arith, length-append, append_assoc, Some, None}
+use Rattle.std.proofs.lemmas.List.{map-set, get_or-map, set-get_or, length-map, take_at, take_all, append-nil}
+use Rattle.chunk_data.specs.declared.typed_column.Column.{Column}
+use Rattle.chunk_data.specs.declared.typed_value.ColumnType.{ColumnType}
+use Rattle.chunk_data.specs.declared.typed_value.Value.{Value}
+use Rattle.chunk_data.specs.Values.{Row}
+use Rattle.chunk_data.specs.Columns.{kind_of, values}
+use Rattle.chunk_data.specs.Rows.{AreLong, joined, rows_of}
+use Rattle.query_model.specs.Fields.{spelled_value, spelled_row}
+use Rattle.query_model.specs.Parts.{SpelledFront, bad_field, bad_place, good_rows, row_then}
+use Rattle.query_model.specs.declared.places.BadField.TheVariants.{Column as column_field, Fields as fields_field}
+use Rattle.query_model.proofs.Reading.{SpelledFront-snoc, spelled_row-front, spelled_row-stops, spelled_row-lengths, bad_field-stops, bad_field-lengths, spelled_row-fits}
+use Rattle.chunk_data.proofs.Laws.{length-FitsTypes, length-rows_of, rows_of_push, AreLong_push}
+use Rattle.csv_rows.specs.declared.rows.FieldFault.{FieldFault}
+use Rattle.csv_rows.specs.declared.rows.FieldFault.TheVariants.{Unspelled, Memory}
+use Rattle.csv_rows.specs.declared.rows.RowsFault.{RowsFault}
+use Rattle.csv_rows.specs.declared.rows.RowsFault.TheVariants.{Bad, Memory as NoMemory}
+use Rattle.csv_rows.specs.Pushing.{AddsSpelled, AddsRecord, HoldsRows, IsBadRecord, OnBad, OnUnspelled, record_fault}
+
+-- the first columns with a value of the row at their ends
+abbrev pub pushed_front : Row → List (List Value) → List (List Value)
+pushed_front [] columns = columns
+pushed_front (v ∷ row) [] = []
+pushed_front (v ∷ row) (column ∷ columns) = (column ++ v ∷ []) ∷ pushed_front row columns
+
+pushed_more : (row : Row) (columns : List (List Value)) (v : Value) (d : List Value) → length row < length columns
+    → set (pushed_front row columns) (length row) (get_or columns (length row) d ++ v ∷ []) ≡ pushed_front (row ++ v ∷ []) columns
+pushed_more row [] v d h = absurd (omega arith)
+pushed_more [] (column ∷ columns) v d h = refl
+pushed_more (w ∷ row) (column ∷ columns) v d h = ap (λ l. (column ++ w ∷ []) ∷ l) (pushed_more row columns v d (omega arith))
+
+get_or-pushed : (row : Row) (columns : List (List Value)) (d : List Value) → get_or (pushed_front row columns) (length row) d ≡ get_or columns (length row) d
+get_or-pushed [] columns d = refl
+get_or-pushed (v ∷ row) [] d = refl
+get_or-pushed (v ∷ row) (column ∷ columns) d = get_or-pushed row columns d
+
+pushed_all : (row : Row) (columns : List (List Value)) → length row ≡ length columns → pushed_front row columns ≡ joined columns (map (λ v. v ∷ []) row)
+pushed_all [] [] e = refl
+pushed_all [] (column ∷ columns) e = absurd (omega arith)
+pushed_all (v ∷ row) [] e = absurd (omega arith)
+pushed_all (v ∷ row) (column ∷ columns) e = ap (λ l. (column ++ v ∷ []) ∷ l) (pushed_all row columns (omega arith))
+
+same_front : (n : ℕ) (columns : List (List Value)) → AreLong n columns → map (take n) columns ≡ columns
+same_front n [] h = refl
+same_front n (column ∷ columns) h = ap₂ ◌∷◌ (take_all n column (omega (arith, h.0))) (same_front n columns h.1)
+
+pushed_back : (n : ℕ) (row : Row) (columns : List (List Value)) → AreLong n columns → map (take n) (pushed_front row columns) ≡ columns
+pushed_back n [] columns h = same_front n columns h
+pushed_back n (v ∷ row) [] h = refl
+pushed_back n (v ∷ row) (column ∷ columns) h = ap₂ ◌∷◌ (take_at column (v ∷ []) n h.0) (pushed_back n row columns h.1)
+
+-- the first i fields spell values, which stand at the ends of the first i columns
+pub record Pushed (fields : List (List ℕ)) (old now : List Column) (i : ℕ) : Type 0 where
+  pub row : Row
+  pub count : length row ≡ i
+  pub spelled : SpelledFront (map kind_of old) fields row
+  pub kinds : map kind_of now ≡ map kind_of old
+  pub cells : map values now ≡ pushed_front row (map values old)
+
+pub Pushed-none : (fields : List (List ℕ)) (old : List Column) → Pushed fields old old 0
+Pushed-none fields old = record { row = []; count = refl; spelled = tt; kinds = refl; cells = refl }
+
+pub Pushed-long : {fields : List (List ℕ)} {old now : List Column} {i : ℕ} → Pushed fields old now i → length now ≡ length old
+Pushed-long {old = old} {now = now} h = sym (length-map now kind_of) ∙ ap length h.kinds ∙ length-map old kind_of
+
+kinds_kept : (now : List Column) (i : ℕ) (y d : Column) → kind_of y ≡ kind_of (get_or now i d) → i < length now → map kind_of (set now i y) ≡ map kind_of now
+kinds_kept now i y d e lt =
+    map-set kind_of now i y ∙ rw e (ap (λ k. set (map kind_of now) i k) (sym (get_or-map kind_of now i d (kind_of d) lt)) ∙ set-get_or (map kind_of now) i (kind_of d))
+
+-- the type of column i
+kind_at : {fields : List (List ℕ)} {old now : List Column} {i : ℕ} → (d : Column) → Pushed fields old now i → i < length now → kind_of (get_or now i d) ≡ get_or (map kind_of old) i (kind_of d)
+kind_at {now = now} {i = i} d h lt = sym (get_or-map kind_of now i d (kind_of d) lt) ∙ ap (λ l. get_or l i (kind_of d)) h.kinds
+
+pub Pushed-more : {fields : List (List ℕ)} {old now : List Column} {i : ℕ} → (d y : Column) → Pushed fields old now i → length fields ≡ length old → i < length now
+    → kind_of y ≡ kind_of (get_or now i d) → AddsSpelled (kind_of (get_or now i d)) (get_or fields i []) (values (get_or now i d)) (values y) → Pushed fields old (set now i y) (i + 1)
+Pushed-more {fields = fields} {old = old} {now = now} {i = i} d y h long lt k a =
+    let many : length now ≡ length old = Pushed-long h in
+    let wide : length h.row < length (map values old) = rw length-map (omega (arith, h.count)) in
+    let few : length h.row < length (map kind_of old) = rw length-map (omega (arith, h.count)) in
+    let value : spelled_value (get_or (map kind_of old) (length h.row) (kind_of d)) (get_or fields (length h.row) []) ≡ _ =
+    rw h.count (ap (λ t. spelled_value t (get_or fields i [])) (sym (kind_at d h lt)) ∙ a.spells) in
+    let here : values (get_or now i d) ≡ get_or (map values old) (length h.row) (values d) =
+    sym (get_or-map values now i d (values d) lt) ∙ ap (λ l. get_or l i (values d)) h.cells
+    ∙ ap (λ j. get_or (pushed_front h.row (map values old)) j (values d)) (sym h.count) ∙ get_or-pushed h.row (map values old) (values d) in
+    record {
+      row = h.row ++ a.value ∷ [];
+      count = length-append h.row (a.value ∷ []) ∙ ap (λ n. n + 1) h.count;
+      spelled = SpelledFront-snoc (map kind_of old) fields h.row a.value (kind_of d) [] h.spelled few (omega (arith, h.count)) value;
+      kinds = kinds_kept now i y d k lt ∙ h.kinds;
+      cells = map-set values now i y ∙ ap₂ (λ l v. set l i v) h.cells (a.added ∙ ap (λ l. l ++ a.value ∷ []) here)
+          ∙ ap (λ j. set (pushed_front h.row (map values old)) j (get_or (map values old) (length h.row) (values d) ++ a.value ∷ [])) (sym h.count)
+          ∙ pushed_more h.row (map values old) a.value (values d) wide;
+    }
+
+-- all fields were added
+pub Pushed-all : {fields : List (List ℕ)} {old now : List Column} {i : ℕ} → Pushed fields old now i → length fields ≡ length old → i ≤ length now → length now ≤ i
+    → AddsRecord (map kind_of old) fields (map values old) (map values now)
+Pushed-all {fields = fields} {old = old} h long le ge =
+    let many = Pushed-long h in
+    record {
+      row = h.row;
+      spells = spelled_row-front (map kind_of old) fields h.row h.spelled (length-map old kind_of ∙ omega (arith, h.count, many)) (omega (arith, h.count, many));
+      added = h.cells ∙ pushed_all h.row (map values old) (omega (arith, h.count, many) ∙ sym (length-map old values));
+    }
+
+-- column i was left as it is, and what was added is taken back
+pub Pushed-back : {fields : List (List ℕ)} {old now : List Column} {i : ℕ} → (n : ℕ) (d y : Column) → Pushed fields old now i → AreLong n (map values old) → i < length now → values y ≡ values (get_or now i d)
+    → map (take n) (map values (set now i y)) ≡ map values old
+Pushed-back {old = old} {now = now} {i = i} n d y h long lt v =
+    let same : map values (set now i y) ≡ map values now = map-set values now i y ∙ rw v (ap (λ l. set (map values now) i l) (sym (get_or-map values now i d (values d) lt)) ∙ set-get_or (map values now) i (values d)) in
+    ap (map (take n)) (same ∙ h.cells) ∙ pushed_back n h.row (map values old) long
+
+-- the kinds then are those that they were
+pub Pushed-kinds : {fields : List (List ℕ)} {old now : List Column} {i : ℕ} → (d y : Column) → Pushed fields old now i → i < length now → kind_of y ≡ kind_of (get_or now i d) → map kind_of (set now i y) ≡ map kind_of old
+Pushed-kinds {now = now} {i = i} d y h lt k = kinds_kept now i y d k lt ∙ h.kinds
+
+-- field i spells no value
+pub Pushed-stops : {fields : List (List ℕ)} {old now : List Column} {i : ℕ} → (fault : FieldFault) (rows : ℕ) (d : Column) → Pushed fields old now i → length fields ≡ length old → i < length now
+    → OnUnspelled fault (spelled_value (kind_of (get_or now i d)) (get_or fields i []) ≡ None) → OnBad (record_fault fault rows i) (IsBadRecord (map kind_of old) fields (rows + 1))
+Pushed-stops Memory rows d h long lt u = tt
+Pushed-stops {fields = fields} {old = old} {i = i} Unspelled rows d h long lt u =
+    let many = Pushed-long h in
+    let few : length h.row < length (map kind_of old) = rw length-map (omega (arith, h.count, many)) in
+    let none : spelled_value (get_or (map kind_of old) (length h.row) (kind_of d)) (get_or fields (length h.row) []) ≡ None =
+    rw h.count (ap (λ t. spelled_value t (get_or fields i [])) (sym (kind_at d h lt)) ∙ u) in
+    record {
+      unspelled = spelled_row-stops (map kind_of old) fields h.row (kind_of d) [] h.spelled few (omega (arith, h.count, many)) none;
+      is = ap (λ f. record { row = rows + 1; field = f }) (sym (bad_field-stops (map kind_of old) fields h.row (kind_of d) [] (long ∙ sym (length-map old kind_of)) h.spelled few none
+          ∙ ap (λ n. column_field (n + 1)) h.count));
+    }
+
+-- another number of fields than columns
+pub wrong_length : (fields : List (List ℕ)) (old : List Column) (rows : ℕ) → length fields ≢ length old
+    → IsBadRecord (map kind_of old) fields (rows + 1) (record { row = rows + 1; field = fields_field (length fields) })
+wrong_length fields old rows h =
+    let other : length fields ≢ length (map kind_of old) = λ e. h (e ∙ length-map old kind_of) in
+    record {
+      unspelled = spelled_row-lengths (map kind_of old) fields other;
+      is = ap (λ f. record { row = rows + 1; field = f }) (sym (bad_field-lengths (map kind_of old) fields other));
+    }
+
+-- the records in front of those that are left are rows of the columns
+pub record ReadSoFar (old now : List Column) (all left : List (List (List ℕ))) (rows : ℕ) : Type 0 where
+  pub kinds : map kind_of now ≡ map kind_of old
+  pub long : AreLong rows (map values now)
+  pub good : good_rows (map kind_of old) all ≡ rows_of rows (map values now) ++ good_rows (map kind_of old) left
+  pub places : bad_place 1 (map kind_of old) all ≡ bad_place (rows + 1) (map kind_of old) left
+
+no_rows : {X : Type 0} (rows : List X) → length rows ≡ 0 → rows ≡ []
+no_rows [] h = refl
+no_rows (row ∷ rows) h = absurd (omega arith)
+
+pub ReadSoFar-none : (old : List Column) (all : List (List (List ℕ))) → AreLong 0 (map values old) → ReadSoFar old old all all 0
+ReadSoFar-none old all h = record {
+  kinds = refl;
+  long = h;
+  good = ap (λ l. l ++ good_rows (map kind_of old) all) (sym (no_rows (rows_of 0 (map values old)) (length-rows_of 0 (map values old) h)));
+  places = refl;
+}
+
+good_rows-cons : (types : List ColumnType) (fields : List (List ℕ)) (more : List (List (List ℕ))) (row : Row) → spelled_row types fields ≡ Some row → good_rows types (fields ∷ more) ≡ row ∷ good_rows types more
+unfolding good_rows
+good_rows-cons types fields more row h = ap (λ o. row_then o (good_rows types more)) h
+
+bad_place-cons : (n : ℕ) (types : List ColumnType) (fields : List (List ℕ)) (more : List (List (List ℕ))) (row : Row) → spelled_row types fields ≡ Some row → bad_place n types (fields ∷ more) ≡ bad_place (n + 1) types more
+unfolding bad_place
+bad_place-cons n types fields more row h = rw h refl
+
+bad_place-here : (n : ℕ) (types : List ColumnType) (fields : List (List ℕ)) (more : List (List (List ℕ))) → spelled_row types fields ≡ None → bad_place n types (fields ∷ more) ≡ Some (record { row = n; field = bad_field types fields })
+unfolding bad_place
+bad_place-here n types fields more h = rw h refl
+
+-- one record more
+pub ReadSoFar-more : {old now new : List Column} {all left more : List (List (List ℕ))} {rows : ℕ} → (fields : List (List ℕ)) → ReadSoFar old now all left rows → left ≡ fields ∷ more
+    → map kind_of new ≡ map kind_of now → AddsRecord (map kind_of now) fields (map values now) (map values new) → ReadSoFar old new all more (rows + 1)
+ReadSoFar-more {old = old} {now = now} {new = new} {more = more} {rows = rows} fields h is k a =
+    let types = map kind_of old in
+    let spells : spelled_row types fields ≡ Some a.row = ap (λ t. spelled_row t fields) (sym h.kinds) ∙ a.spells in
+    let wide : length a.row ≡ length (map values now) =
+    length-FitsTypes types a.row (spelled_row-fits types fields a.row spells) ∙ ap length (sym h.kinds) ∙ length-map now kind_of ∙ sym (length-map now values) in
+    let more_rows : rows_of (rows + 1) (map values new) ≡ rows_of rows (map values now) ++ a.row ∷ [] = rw a.added (rows_of_push rows (map values now) a.row h.long wide) in
+    record {
+      kinds = k ∙ h.kinds;
+      long = rw a.added (AreLong_push rows (map values now) a.row h.long);
+      good = h.good ∙ ap (λ l. rows_of rows (map values now) ++ good_rows types l) is ∙ ap (λ l. rows_of rows (map values now) ++ l) (good_rows-cons types fields more a.row spells)
+          ∙ sym (append_assoc (rows_of rows (map values now)) (a.row ∷ []) (good_rows types more)) ∙ ap (λ l. l ++ good_rows types more) (sym more_rows);
+      places = h.places ∙ ap (bad_place (rows + 1) types) is ∙ bad_place-cons (rows + 1) types fields more a.row spells;
+    }
+
+-- no record is left
+pub ReadSoFar-all : {old now : List Column} {all left : List (List (List ℕ))} {rows : ℕ} → ReadSoFar old now all left rows → left ≡ [] → HoldsRows (map kind_of old) all (map values now) rows
+unfolding good_rows bad_place
+ReadSoFar-all {old = old} {now = now} {rows = rows} h is = record {
+  long = h.long;
+  rows = sym (h.good ∙ ap (λ l. rows_of rows (map values now) ++ good_rows (map kind_of old) l) is ∙ append-nil (rows_of rows (map values now)));
+  good = h.places ∙ ap (bad_place (rows + 1) (map kind_of old)) is;
+}
+
+-- the next record is bad
+pub ReadSoFar-bad : {old now : List Column} {all left more : List (List (List ℕ))} {rows : ℕ} → (fault : RowsFault) (fields : List (List ℕ)) → ReadSoFar old now all left rows → left ≡ fields ∷ more
+    → OnBad fault (IsBadRecord (map kind_of now) fields (rows + 1)) → OnBad fault (λ place. bad_place 1 (map kind_of old) all ≡ Some place)
+ReadSoFar-bad NoMemory fields h is b = tt
+ReadSoFar-bad {old = old} {more = more} {rows = rows} (Bad place) fields h is b =
+    let types = map kind_of old in
+    let none : spelled_row types fields ≡ None = ap (λ t. spelled_row t fields) (sym h.kinds) ∙ b.unspelled in
+    h.places ∙ ap (bad_place (rows + 1) types) is ∙ bad_place-here (rows + 1) types fields more none
+    ∙ ap Some (ap (λ t. record { row = rows + 1; field = bad_field t fields }) (sym h.kinds) ∙ sym b.is)

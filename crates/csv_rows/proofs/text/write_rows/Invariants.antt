@@ -1,0 +1,9 @@
+use Rattle.std.proofs.Common.{◌≡◌, ◌++◌, take, flat_map}
+use Rattle.std.specs.Option.{option_copied}
+use Rattle.chunk_data.specs.Values.{Table}
+use Rattle.query_model.specs.Texts.{rows_text}
+use Rattle.csv_rows.specs.Lines.{heading}
+use Rattle.csv_rows.proofs.text.write_rows.Given as goal
+
+abbrev pub invariant-loop-chunk : goal.invariant-loop-chunk
+invariant-loop-chunk l = l.out.items ≡ heading (option_copied l.fn.names) ++ rows_text (flat_map (λ (c : Table). c.rows) (take l.chunk-index l.chunks))

@@ -1,0 +1,4 @@
+pub mod Lines
+pub mod RecordsLeft
+pub mod Pushing
+pub mod Fetching

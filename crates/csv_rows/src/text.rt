@@ -1,0 +1,137 @@
+ghost use Rattle.std.specs.Prelude.{◌≡◌, ℕ, ◌<◌, ◌++◌, [], length, map, flat_map, Some, IfOk, OnOk};
+ghost use Rattle.std.specs.Option.{option_copied};
+ghost use Rattle.chunk_data.specs.Values.{value_at, Table};
+ghost use Rattle.chunk_data.specs.Rows.{row_at};
+ghost use Rattle.chunk_data.specs.Columns.{values};
+ghost use Rattle.query_model.specs.Texts.{doubled, quoted, row_text, rows_text, separator, value_text};
+ghost use Rattle.csv_rows.specs.Lines.{heading};
+
+use chunk_data::{Bytes, Chunk, Column, List, Memory};
+use itoa::{Buffer, Integer};
+use std::alloc::Global;
+
+/// The text of an answer: a line of names, if any are given, and then a line for each row.
+///
+/// Strings stand in double quotes with inner quotes doubled, numbers stand bare, commas separate
+/// and LF ends each line, as in RFC 4180 but for the line's end.
+pub fn write_rows(
+    alloc: Global,
+    names: Option<&List<Bytes>>,
+    chunks: &[Chunk],
+) -> Result<Vec<u8>, Memory>
+    ensures { IfOk result (λ v. v.items ≡ heading (option_copied names.entry) ++ rows_text (flat_map (λ (c : Table). c.rows) chunks.now)) }
+{
+    let mut out = Vec::new(alloc);
+    append_heading(&mut out, names)?;
+    for chunk in chunks {
+        append_chunk(&mut out, chunk)?;
+    }
+    Ok(out)
+}
+
+fn append_heading(out: &mut Vec<u8>, names: Option<&List<Bytes>>) -> Result<(), Memory>
+    ensures { OnOk result (out.new.items ≡ out.old.items ++ heading (option_copied names.entry)) }
+{
+    match names {
+        None => Ok(()),
+        Some(names) => append_names(out, names.as_slice()),
+    }
+}
+
+// A line of names, each written as a text.
+fn append_names(out: &mut Vec<u8>, names: &[Bytes]) -> Result<(), Memory>
+    ensures { OnOk result (out.new.items ≡ out.old.items ++ heading (Some names.now)) }
+{
+    for i in 0..names.len() {
+        append_comma(out, i)?;
+        append_quoted(out, names[i].as_slice())?;
+    }
+    out.push(b'\n')?;
+    Ok(())
+}
+
+fn append_chunk(out: &mut Vec<u8>, chunk: &Chunk) -> Result<(), Memory>
+    ensures { OnOk result (out.new.items ≡ out.old.items ++ rows_text chunk.now.rows) }
+{
+    let mut digits = Buffer::new();
+    for i in 0..chunk.rows() {
+        append_row(out, &mut digits, chunk, i)?;
+    }
+    Ok(())
+}
+
+fn append_row(out: &mut Vec<u8>, digits: &mut Buffer, chunk: &Chunk, i: usize) -> Result<(), Memory>
+    requires in_range { i < length chunk.now.rows }
+    requires wide { length (row_at chunk.now.rows i) ≡ length chunk.now.types }
+    ensures { OnOk result (out.new.items ≡ out.old.items ++ row_text (row_at chunk.now.rows i)) }
+{
+    for c in 0..chunk.types().len() {
+        append_comma(out, c)?;
+        append_value(out, digits, chunk.column(c), i)?;
+    }
+    out.push(b'\n')?;
+    Ok(())
+}
+
+// The comma in front of every value but the first.
+fn append_comma(out: &mut Vec<u8>, place: usize) -> Result<(), Memory>
+    ensures { OnOk result (out.new.items ≡ out.old.items ++ separator place) }
+{
+    if place > 0 {
+        out.push(b',')?;
+    }
+    Ok(())
+}
+
+fn append_value(
+    out: &mut Vec<u8>,
+    digits: &mut Buffer,
+    column: &Column,
+    i: usize,
+) -> Result<(), Memory>
+    requires { i < length (values column.now) }
+    ensures { OnOk result (out.new.items ≡ out.old.items ++ value_text (value_at (values column.now) i)) }
+{
+    match column {
+        Column::Int64(numbers) => append_number(out, digits, numbers[i]),
+        Column::UInt64(numbers) => append_number(out, digits, numbers[i]),
+        Column::Text(texts) => append_quoted(out, texts.get(i)),
+    }
+}
+
+fn append_number<I: Integer>(
+    out: &mut Vec<u8>,
+    digits: &mut Buffer,
+    number: I,
+) -> Result<(), Memory>
+    ensures { OnOk result (out.new.items ≡ out.old.items ++ I.text number) }
+{
+    out.extend_from_slice(digits.format(number).as_bytes())?;
+    Ok(())
+}
+
+fn append_quoted(out: &mut Vec<u8>, text: &[u8]) -> Result<(), Memory>
+    ensures { OnOk result (out.new.items ≡ out.old.items ++ quoted text.now) }
+{
+    out.push(b'"')?;
+    append_doubled(out, text)?;
+    out.push(b'"')?;
+    Ok(())
+}
+
+// The bytes with each quote doubled. Most texts have no quote, and looking for one first is faster.
+fn append_doubled(out: &mut Vec<u8>, text: &[u8]) -> Result<(), Memory>
+    ensures { OnOk result (out.new.items ≡ out.old.items ++ flat_map doubled text.now) }
+{
+    if !text.contains(&b'"') {
+        out.extend_from_slice(text)?;
+        return Ok(());
+    }
+    for byte in text {
+        if *byte == b'"' {
+            out.push(b'"')?;
+        }
+        out.push(*byte)?;
+    }
+    Ok(())
+}

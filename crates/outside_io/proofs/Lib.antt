@@ -1,0 +1,4 @@
+pub mod Growing
+pub mod Fakes
+pub mod Finding
+pub mod Reading

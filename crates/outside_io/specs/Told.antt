@@ -1,0 +1,35 @@
+-- The files that a reader tells, and where it stands in one of them.
+use Rattle.std.specs.Prelude.{◌≡◌, ℕ, ◌+◌, ◌≤◌, if◌then◌else◌, List, [], ◌∷◌, length, take, drop, Option, Some, None, IfSome}
+use Rattle.std.specs.Str.{bytes_eq}
+use Rattle.outside_io.specs.declared.entries.FileEntry.{FileEntry}
+
+-- the bytes of the first file with this path
+unfoldable pub file_bytes : List FileEntry → List ℕ → Option (List ℕ)
+file_bytes [] path = None
+file_bytes (e ∷ es) path = if bytes_eq e.path path then Some e.bytes else file_bytes es path
+
+-- the bytes of the file in which the reader stands, where files are told
+abbrev pub told_content : Option (List FileEntry) → Option (List ℕ × ℕ) → Option (List ℕ)
+told_content None stand = None
+told_content (Some files) None = None
+told_content (Some files) (Some stand) = file_bytes files stand.0
+
+-- the place at which the reader stands
+abbrev pub place_of : Option (List ℕ × ℕ) → ℕ
+place_of None = 0
+place_of (Some stand) = stand.1
+
+-- the same file, n bytes further on
+abbrev pub moved_by : ℕ → Option (List ℕ × ℕ) → Option (List ℕ × ℕ)
+moved_by n None = None
+moved_by n (Some stand) = Some (stand.0, stand.1 + n)
+
+-- a buffer begins with the next n bytes of the file, where it is told
+abbrev pub GivesNext : Option (List FileEntry) → Option (List ℕ × ℕ) → ℕ → List ℕ → Type 0
+GivesNext files stand n buffer =
+    IfSome (told_content files stand)
+    (λ content. (place_of stand + n ≤ length content) × (take n buffer ≡ take n (drop (place_of stand) content)))
+
+-- the reader stands at the end of the file, where it is told
+abbrev pub StandsAtEnd : Option (List FileEntry) → Option (List ℕ × ℕ) → Type 0
+StandsAtEnd files stand = IfSome (told_content files stand) (λ content. place_of stand ≡ length content)
