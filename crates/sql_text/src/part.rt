@@ -15,7 +15,9 @@ use std::alloc::Global;
 
 /// The least level of the joints of a condition, of a comparison, and of an expression.
 pub const CONDITION: u8 = 1;
+
 pub const COMPARISON: u8 = 4;
+
 pub const EXPRESSION: u8 = 5;
 
 // What joins two parts.
