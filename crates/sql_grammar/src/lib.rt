@@ -1,0 +1,113 @@
+//! The tokens of a query's text. The definitions beside it say which tokens a text has, and which tokens spell a query.
+#![tactic(auto)]
+
+use chunk_data::Bytes;
+
+/// A word that is never a name, in any ASCII case.
+#[derive(Clone, Copy, Debug, PartialEq, Eq)]
+pub enum Keyword {
+    Select,
+    From,
+    Where,
+    Group,
+    By,
+    Having,
+    Order,
+    Limit,
+    Offset,
+    As,
+    And,
+    Or,
+    Not,
+    Inner,
+    Join,
+    On,
+    Asc,
+    Desc,
+    Union,
+    All,
+    Distinct,
+    Left,
+    Is,
+    Null,
+}
+
+/// The keywords, each once.
+pub const KEYWORDS: [Keyword; 24] = [
+    Keyword::Select,
+    Keyword::From,
+    Keyword::Where,
+    Keyword::Group,
+    Keyword::By,
+    Keyword::Having,
+    Keyword::Order,
+    Keyword::Limit,
+    Keyword::Offset,
+    Keyword::As,
+    Keyword::And,
+    Keyword::Or,
+    Keyword::Not,
+    Keyword::Inner,
+    Keyword::Join,
+    Keyword::On,
+    Keyword::Asc,
+    Keyword::Desc,
+    Keyword::Union,
+    Keyword::All,
+    Keyword::Distinct,
+    Keyword::Left,
+    Keyword::Is,
+    Keyword::Null,
+];
+
+/// A sign. `=` and `==` are one sign, and so are `!=` and `<>`.
+#[derive(Clone, Copy, Debug, PartialEq, Eq)]
+pub enum Sign {
+    Open,
+    Close,
+    Comma,
+    Dot,
+    Semicolon,
+    Star,
+    Plus,
+    Minus,
+    Equal,
+    NotEqual,
+    Less,
+    LessEqual,
+    Greater,
+    GreaterEqual,
+}
+
+#[derive(Debug, Drop)]
+pub enum Token {
+    Name(Bytes),
+    Keyword(Keyword),
+    Number(u64),
+    /// A number above 18446744073709551615.
+    LargeNumber,
+    /// A string's content, without its quotes and escapes.
+    Text(Bytes),
+    Sign(Sign),
+}
+
+/// Where a string is: in its middle, or behind a quote or a backslash, which may stand for more than themselves.
+#[derive(Clone, Copy, Debug, PartialEq, Eq)]
+pub enum TextPlace {
+    Middle,
+    BehindQuote,
+    BehindBackslash,
+}
+
+/// What a byte is to a string.
+#[derive(Clone, Copy, Debug, PartialEq, Eq)]
+pub enum TextByte {
+    /// It is one of the content, and the string goes on.
+    Content,
+    /// It is none of the content, and the string goes on at that place.
+    Passed(TextPlace),
+    /// It is behind the string.
+    Behind,
+    /// It can't stand there.
+    Bad,
+}

@@ -1,0 +1,177 @@
+-- One turn of the reading of parts, and when it ends.
+use Rattle.std.proofs.Common.{◌≡◌, ℕ, zero, suc, ◌-◌, ◌<◌, ◌≤◌, Bool, true, false, nat_le, List, [], ◌∷◌, length, Option, Some, None, option_and_then, option_map, refl, ap, ◌∙◌, arith}
+use Rattle.query_model.specs.declared.query.ArithOp.TheVariants as op
+use Rattle.sql_grammar.specs.declared.Token.{Token}
+use Rattle.sql_grammar.specs.declared.Token.TheVariants as token
+use Rattle.sql_grammar.specs.declared.Sign.TheVariants as sign
+use Rattle.sql_text.specs.declared.part.Joint.{Joint}
+use Rattle.sql_text.specs.declared.part.Joint.TheVariants as joint
+use Rattle.sql_text.specs.declared.stop.Stop.{Stop}
+use Rattle.sql_text.specs.declared.stop.Stop.TheVariants as stop
+use Rattle.sql_text.specs.Answers.{Fails}
+use Rattle.sql_text.specs.Parts.{Parsed, Reading, Reads, joint_of, level, if_level, next_joint, combined, first_part, turn_of, joined_at, joined, part_at}
+
+abbrev pub no_dot : List Token → Bool
+no_dot (token.Sign sign.Dot ∷ ts) = false
+no_dot _ = true
+
+pub le_false : (a b : ℕ) → b < a → nat_le a b ≡ false
+le_false a b h = grind arith
+
+pub le_true : (a b : ℕ) → a ≤ b → nat_le a b ≡ true
+le_true a b h = grind arith
+
+pub level_below : (j : Joint) → level j < 7
+level_below joint.Or = omega arith
+level_below joint.And = omega arith
+level_below (joint.Compare o) = omega arith
+level_below (joint.Arith op.Add) = omega arith
+level_below (joint.Arith op.Sub) = omega arith
+level_below (joint.Arith op.Mul) = omega arith
+
+-- a joint at the front, where it binds tightly enough
+pub if_level-found : (least : ℕ) (ts : List Token) (j : Joint) → least ≤ level j → if_level least ts (Some j) ≡ Some (j, ts)
+if_level-found least ts j h = rw (le_true least (level j) h) refl
+
+pub if_level-none : (least : ℕ) (ts : List Token) (j : Joint) → level j < least → if_level least ts (Some j) ≡ None
+if_level-none least ts j h = rw (le_false least (level j) h) refl
+
+loose_joint : (ts : List Token) (o : Option Joint) → if_level 7 ts o ≡ None
+loose_joint ts None = refl
+loose_joint ts (Some j) = if_level-none 7 ts j (level_below j)
+
+-- no joint binds tighter than a product
+pub loose : (ts : List Token) → next_joint 7 ts ≡ None
+loose [] = refl
+loose (t ∷ ts) = loose_joint ts (joint_of t)
+
+tighter_joint : (p q : ℕ) (ts : List Token) (o : Option Joint) → p ≤ q → if_level p ts o ≡ None → if_level q ts o ≡ None
+tighter_joint p q ts None h none = refl
+tighter_joint p q ts (Some j) h none = grind arith
+
+-- where no joint binds so tightly, none binds more tightly
+pub tighter : (p q : ℕ) (ts : List Token) → p ≤ q → next_joint p ts ≡ None → next_joint q ts ≡ None
+tighter p q [] h none = refl
+tighter p q (t ∷ ts) h none = tighter_joint p q ts (joint_of t) h none
+
+-- The reading of the part at ts goes on behind the part v, at rest.
+pub record Goes (n least : ℕ) (v : Parsed) (ts rest : List Token) : Type 0 where
+  pub turns : ℕ
+  pub enough : length rest < turns
+  pub goes : part_at (suc n) least ts ≡ joined (part_at n) least turns v rest
+
+pub from_first : (n least : ℕ) (v : Parsed) (ts rest : List Token) → first_part (part_at n) ts ≡ Some (v, rest) → Goes n least v ts rest
+unfolding part_at
+from_first n least v ts rest h = record {
+  turns = suc (length rest);
+  enough = omega arith;
+  goes = ap (option_and_then (λ p. joined (part_at n) least (suc (length p.1)) p.0 p.1)) h;
+}
+
+end_of_turns : (right : Reads) (least turns : ℕ) (v : Parsed) (ts : List Token) → 0 < turns → next_joint least ts ≡ None → joined right least turns v ts ≡ Some (v, ts)
+unfolding joined
+end_of_turns right least zero v ts h none = absurd (omega arith)
+end_of_turns right least (suc turns) v ts h none = ap (joined_at right (joined right least turns) v ts) none
+
+turned_by : (right : Reads) (j : Joint) (v w u : Parsed) (mid rest : List Token)
+    → right (suc (level j)) mid ≡ Some (w, rest) → combined j v w ≡ Some u → turn_of right j v mid ≡ Some (u, rest)
+turned_by right j v w u mid rest read join =
+    ap (option_and_then (λ r. option_map (λ p. (p, r.1)) (combined j v r.0))) read ∙ ap (option_map (λ p. (p, rest))) join
+
+turn : (right : Reads) (least turns : ℕ) (j : Joint) (v u : Parsed) (ts mid rest : List Token)
+    → next_joint least ts ≡ Some (j, mid) → turn_of right j v mid ≡ Some (u, rest)
+    → joined right least (suc turns) v ts ≡ joined right least turns u rest
+unfolding joined
+turn right least turns j v u ts mid rest next turned =
+    let more = joined right least turns in
+    ap (joined_at right more v ts) next ∙ ap (option_and_then (λ p. more p.0 p.1)) turned
+
+some_turns : (turns : ℕ) → 0 < turns → (k : ℕ) × (turns ≡ suc k)
+some_turns zero h = absurd (omega arith)
+some_turns (suc k) h = (k, refl)
+
+pub onward : (n least : ℕ) (j : Joint) (v w u : Parsed) (ts at mid rest : List Token) → Goes n least v ts at
+    → next_joint least at ≡ Some (j, mid) → part_at n (suc (level j)) mid ≡ Some (w, rest) → combined j v w ≡ Some u
+    → length rest < length mid → length mid < length at → Goes n least u ts rest
+onward n least j v w u ts at mid rest g next read join shorter later =
+    let k = some_turns g.turns (omega (arith, g.enough)) in
+    record {
+      turns = k.0;
+      enough = omega (arith, g.enough, k.1);
+      goes = g.goes ∙ ap (λ t. joined (part_at n) least t v at) k.1 ∙ turn (part_at n) least k.0 j v u at mid rest next (turned_by (part_at n) j v w u mid rest read join);
+    }
+
+pub whole : (n least : ℕ) (v : Parsed) (ts rest : List Token) → Goes n least v ts rest → next_joint least rest ≡ None
+    → part_at (suc n) least ts ≡ Some (v, rest)
+whole n least v ts rest g none = g.goes ∙ end_of_turns (part_at n) least g.turns v rest (omega (arith, g.enough)) none
+
+-- the same at any depth that is enough
+pub deeper : (n least : ℕ) (v : Parsed) (ts rest : List Token) → length ts ≤ n → length rest < length ts
+    → ((m : ℕ) → length ts ≤ suc m → Goes m least v ts rest) → next_joint least rest ≡ None → part_at n least ts ≡ Some (v, rest)
+deeper zero least v ts rest h shorter goes none = absurd (omega arith)
+deeper (suc m) least v ts rest h shorter goes none = whole m least v ts rest (goes m h) none
+
+-- The reading is the one that goes on behind the part v, at ts.
+pub record IsAt (right : Reads) (least : ℕ) (reading : Reading Parsed) (v : Parsed) (ts : List Token) : Type 0 where
+  pub turns : ℕ
+  pub enough : length ts < turns
+  pub same : reading ≡ joined right least turns v ts
+
+pub at_first : (right : Reads) (least : ℕ) (v : Parsed) (ts : List Token) → IsAt right least (joined right least (suc (length ts)) v ts) v ts
+at_first right least v ts = record { turns = suc (length ts); enough = omega arith; same = refl }
+
+pub at_next : (right : Reads) (least : ℕ) (reading : Reading Parsed) (j : Joint) (v u : Parsed) (ts mid rest : List Token)
+    → IsAt right least reading v ts → next_joint least ts ≡ Some (j, mid) → turn_of right j v mid ≡ Some (u, rest)
+    → length rest < length ts → IsAt right least reading u rest
+at_next right least reading j v u ts mid rest at next turned shorter =
+    let k = some_turns at.turns (omega (arith, at.enough)) in
+    record {
+      turns = k.0;
+      enough = omega (arith, at.enough, k.1);
+      same = at.same ∙ ap (λ t. joined right least t v ts) k.1 ∙ turn right least k.0 j v u ts mid rest next turned;
+    }
+
+pub at_end : (right : Reads) (least : ℕ) (reading : Reading Parsed) (v : Parsed) (ts : List Token)
+    → IsAt right least reading v ts → next_joint least ts ≡ None → reading ≡ Some (v, ts)
+at_end right least reading v ts at none = at.same ∙ end_of_turns right least at.turns v ts (omega (arith, at.enough)) none
+
+no_turn : (right : Reads) (least turns : ℕ) (j : Joint) (v : Parsed) (ts mid : List Token) → next_joint least ts ≡ Some (j, mid)
+    → turn_of right j v mid ≡ None → joined right least (suc turns) v ts ≡ None
+unfolding joined
+no_turn right least turns j v ts mid next none =
+    let more = joined right least turns in
+    ap (joined_at right more v ts) next ∙ ap (option_and_then (λ p. more p.0 p.1)) none
+
+pub at_fault : (right : Reads) (least : ℕ) (reading : Reading Parsed) (j : Joint) (v : Parsed) (ts mid : List Token)
+    → IsAt right least reading v ts → next_joint least ts ≡ Some (j, mid) → turn_of right j v mid ≡ None → reading ≡ None
+at_fault right least reading j v ts mid at next none =
+    let k = some_turns at.turns (omega (arith, at.enough)) in
+    at.same ∙ ap (λ t. joined right least t v ts) k.1 ∙ no_turn right least k.0 j v ts mid next none
+
+pub no_depth : (least : ℕ) (ts : List Token) → part_at 0 least ts ≡ None
+unfolding part_at
+no_depth least ts = refl
+
+pub part_goes : (depth least : ℕ) (ts : List Token) → 0 < depth → part_at depth least ts
+    ≡ option_and_then (λ p. joined (part_at (depth - 1)) least (suc (length p.1)) p.0 p.1) (first_part (part_at (depth - 1)) ts)
+unfolding part_at
+part_goes zero least ts h = absurd (omega arith)
+part_goes (suc depth) least ts h =
+    ap (λ d. option_and_then (λ p. joined (part_at d) least (suc (length p.1)) p.0 p.1) (first_part (part_at d) ts)) (depth_is depth)
+  where
+    depth_is : (depth : ℕ) → depth ≡ suc depth - 1
+    depth_is depth = omega arith
+
+-- a fault inside is a fault of the whole
+pub fault_goes : {Y W : Type 0} (e : Stop) (read : Option Y) (outer : Option W) → Fails e read → (read ≡ None → outer ≡ None) → Fails e outer
+fault_goes stop.Syntax read outer h k = k h
+fault_goes stop.Memory read outer h k = tt
+
+front_shorter : (least : ℕ) (ts mid : List Token) (o : Option Joint) (j : Joint) → if_level least ts o ≡ Some (j, mid) → mid ≡ ts
+front_shorter least ts mid None j h = cc
+front_shorter least ts mid (Some i) j h = grind arith
+
+-- a joint takes a token
+pub next_shorter : (least : ℕ) (ts mid : List Token) (j : Joint) → next_joint least ts ≡ Some (j, mid) → length mid < length ts
+next_shorter least [] mid j h = cc
+next_shorter least (t ∷ ts) mid j h = omega (arith, ap (length {A = Token}) (front_shorter least ts mid (joint_of t) j h))

@@ -1,0 +1,29 @@
+use Rattle.std.proofs.Common.{suc, ◌+◌, ◌*◌, length}
+use Rattle.sql_text.specs.Parts.{parsed, joined, part_at}
+use Rattle.sql_text.proofs.Turns.{IsAt}
+use Rattle.sql_text.proofs.part.+part.Given as goal
+
+abbrev pub decreases-part_at : goal.decreases-part_at
+decreases-part_at l = 4 * l.depth
+
+abbrev pub decreases-joined : goal.decreases-joined
+decreases-joined l = 4 * l.depth + 2
+
+abbrev pub decreases-turn_of : goal.decreases-turn_of
+decreases-turn_of l = 4 * l.depth + 1
+
+abbrev pub decreases-first_part : goal.decreases-first_part
+decreases-first_part l = 4 * l.depth + 2
+
+abbrev pub decreases-first_sign : goal.decreases-first_sign
+decreases-first_sign l = 4 * l.depth + 1
+
+abbrev pub decreases-first_keyword : goal.decreases-first_keyword
+decreases-first_keyword l = 4 * l.depth + 1
+
+abbrev pub invariant-joined-loop-joint : goal.invariant-joined-loop-joint
+invariant-joined-loop-joint l =
+    IsAt (part_at l.depth) l.least (joined (part_at l.depth) l.least (suc (length l.fn.tokens)) (parsed l.fn.first) l.fn.tokens) (parsed l.part) l.rest
+
+abbrev pub decreases-joined-loop-joint : goal.decreases-joined-loop-joint
+decreases-joined-loop-joint l = length l.rest

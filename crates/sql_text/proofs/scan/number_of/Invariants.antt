@@ -1,0 +1,6 @@
+use Rattle.std.proofs.Common.{◌≡◌, take}
+use Rattle.sql_grammar.specs.Tokens.{number_of, fitting}
+use Rattle.sql_text.proofs.scan.number_of.Given as goal
+
+abbrev pub invariant-loop-digit : goal.invariant-loop-digit
+invariant-loop-digit l = l.number ≡ fitting (number_of (take l.digit-index l.digits))

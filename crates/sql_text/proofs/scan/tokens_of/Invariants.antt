@@ -1,0 +1,10 @@
+use Rattle.std.proofs.Common.{◌≡◌, length}
+use Rattle.sql_grammar.specs.Tokens.{tokens_behind}
+use Rattle.sql_text.proofs.Bytes.{tokens_with}
+use Rattle.sql_text.proofs.scan.tokens_of.Given as goal
+
+abbrev pub invariant-loop-first : goal.invariant-loop-first
+invariant-loop-first l = tokens_behind 0 l.text ≡ tokens_with l.tokens.items (tokens_behind 0 l.rest)
+
+abbrev pub decreases-loop-first : goal.decreases-loop-first
+decreases-loop-first l = length l.rest

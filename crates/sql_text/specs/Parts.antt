@@ -1,0 +1,174 @@
+-- How parts of expressions and conditions are read, from the left.
+use Rattle.std.specs.Prelude.{ℕ, zero, suc, true, false, nat_le, if◌then◌else◌, List, [], ◌∷◌, length, Option, Some, None, option_map, option_and_then}
+use Rattle.query_model.specs.Formulas.{column, number, arith, formula}
+use Rattle.query_model.specs.declared.query.ArithOp.TheVariants as op
+use Rattle.query_model.specs.declared.query.CompareOp.TheVariants as order
+use Rattle.sql_grammar.specs.declared.Token.{Token}
+use Rattle.sql_grammar.specs.declared.Token.TheVariants as token
+use Rattle.sql_grammar.specs.declared.Keyword.{Keyword}
+use Rattle.sql_grammar.specs.declared.Keyword.TheVariants as keyword
+use Rattle.sql_grammar.specs.declared.Sign.{Sign}
+use Rattle.sql_grammar.specs.declared.Sign.TheVariants as sign
+use Rattle.sql_grammar.specs.Trees.{Expression, Side, plain, text, Condition, compare, both, either, negated, condition}
+use Rattle.sql_text.specs.declared.part.Joint.{Joint}
+use Rattle.sql_text.specs.declared.part.Joint.TheVariants as joint
+use Rattle.sql_text.specs.declared.part.Part.{Part}
+use Rattle.sql_text.specs.declared.part.Part.TheVariants as part'
+
+-- a part apart from where its boxes lie
+pub data Parsed : Type 0 where
+  expression : Expression → Parsed
+  string : List ℕ → Parsed
+  truth : Condition → Parsed
+
+abbrev pub parsed : Part → Parsed
+parsed (part'.Plain e) = expression (formula e.value)
+parsed (part'.Text t) = string t
+parsed (part'.Condition c) = truth (condition c.value)
+
+-- what is read, and the tokens behind it
+abbrev pub Reading : Type 0 → Type 0
+Reading A = Option (A × List Token)
+
+-- ---- what joins two parts
+
+abbrev pub sign_joint : Sign → Option Joint
+sign_joint sign.Plus = Some (joint.Arith op.Add)
+sign_joint sign.Minus = Some (joint.Arith op.Sub)
+sign_joint sign.Star = Some (joint.Arith op.Mul)
+sign_joint sign.Equal = Some (joint.Compare order.Eq)
+sign_joint sign.NotEqual = Some (joint.Compare order.Ne)
+sign_joint sign.Less = Some (joint.Compare order.Lt)
+sign_joint sign.LessEqual = Some (joint.Compare order.Le)
+sign_joint sign.Greater = Some (joint.Compare order.Gt)
+sign_joint sign.GreaterEqual = Some (joint.Compare order.Ge)
+sign_joint sign.Open = None
+sign_joint sign.Close = None
+sign_joint sign.Comma = None
+sign_joint sign.Dot = None
+sign_joint sign.Semicolon = None
+
+abbrev pub keyword_joint : Keyword → Option Joint
+keyword_joint keyword.And = Some joint.And
+keyword_joint keyword.Or = Some joint.Or
+keyword_joint _ = None
+
+abbrev pub joint_of : Token → Option Joint
+joint_of (token.Name w) = None
+joint_of (token.Keyword k) = keyword_joint k
+joint_of (token.Number n) = None
+joint_of token.LargeNumber = None
+joint_of (token.Text t) = None
+joint_of (token.Sign s) = sign_joint s
+
+-- How tightly a joint binds: those of a condition from 1 on, those of a negation from 4 on, since NOT stands at 3, and those of
+-- an expression from 5 on.
+abbrev pub level : Joint → ℕ
+level joint.Or = 1
+level joint.And = 2
+level (joint.Compare o) = 4
+level (joint.Arith op.Add) = 5
+level (joint.Arith op.Sub) = 5
+level (joint.Arith op.Mul) = 6
+
+abbrev pub if_level : ℕ → List Token → Option Joint → Option (Joint × List Token)
+if_level least ts None = None
+if_level least ts (Some j) = if nat_le least (level j) then Some (j, ts) else None
+
+-- the joint at the front, where it binds at least so tightly
+abbrev pub next_joint : ℕ → List Token → Option (Joint × List Token)
+next_joint least [] = None
+next_joint least (t ∷ ts) = if_level least ts (joint_of t)
+
+abbrev pub side_of : Parsed → Option Side
+side_of (expression e) = Some (plain e)
+side_of (string t) = Some (text t)
+side_of (truth c) = None
+
+abbrev pub plain_of : Parsed → Option Expression
+plain_of (expression e) = Some e
+plain_of (string t) = None
+plain_of (truth c) = None
+
+abbrev pub condition_of : Parsed → Option Condition
+condition_of (expression e) = None
+condition_of (string t) = None
+condition_of (truth c) = Some c
+
+-- the two of them joined, where both are there
+abbrev pub if_both : {A : Type 0} → (A → A → Parsed) → Option A → Option A → Option Parsed
+if_both join a b = option_and_then (λ l. option_map (λ r. join l r) b) a
+
+abbrev pub combined : Joint → Parsed → Parsed → Option Parsed
+combined (joint.Arith o) a b = if_both (λ l r. expression (arith o l r)) (plain_of a) (plain_of b)
+combined (joint.Compare o) a b = if_both (λ l r. truth (compare o l r)) (side_of a) (side_of b)
+combined joint.And a b = if_both (λ l r. truth (both l r)) (condition_of a) (condition_of b)
+combined joint.Or a b = if_both (λ l r. truth (either l r)) (condition_of a) (condition_of b)
+
+-- ---- single parts
+
+-- what reads a part whose joints bind at least so tightly
+abbrev pub Reads : Type 0
+Reads = ℕ → List Token → Reading Parsed
+
+abbrev pub column_at : List ℕ → List Token → Parsed × List Token
+column_at name (token.Sign sign.Dot ∷ token.Name c ∷ ts) = (expression (column (record { table = Some name; name = c })), ts)
+column_at name ts = (expression (column (record { table = None; name = name })), ts)
+
+abbrev pub negative_at : List Token → Reading Parsed
+negative_at (token.Number n ∷ ts) = Some (expression (number (record { negative = true; size = n })), ts)
+negative_at _ = None
+
+abbrev pub after_close : List Token → Option (List Token)
+after_close (token.Sign sign.Close ∷ ts) = Some ts
+after_close _ = None
+
+abbrev pub closed_at : Parsed → List Token → Reading Parsed
+closed_at (expression e) ts = option_map (λ rest. (expression e, rest)) (after_close ts)
+closed_at (string t) ts = None
+closed_at (truth c) ts = option_map (λ rest. (truth c, rest)) (after_close ts)
+
+abbrev pub negation_at : Parsed → List Token → Reading Parsed
+negation_at (truth c) ts = Some (truth (negated c), ts)
+negation_at _ _ = None
+
+abbrev pub first_sign : Reads → Sign → List Token → Reading Parsed
+first_sign inner sign.Open ts = option_and_then (λ p. closed_at p.0 p.1) (inner 1 ts)
+first_sign inner sign.Minus ts = negative_at ts
+first_sign inner _ ts = None
+
+abbrev pub first_keyword : Reads → Keyword → List Token → Reading Parsed
+first_keyword inner keyword.Not ts = option_and_then (λ p. negation_at p.0 p.1) (inner 4 ts)
+first_keyword inner _ ts = None
+
+-- a part without joints: a column, a number, a string, what stands in parentheses, or a negation
+abbrev pub first_part : Reads → List Token → Reading Parsed
+first_part inner [] = None
+first_part inner (token.Name w ∷ ts) = Some (column_at w ts)
+first_part inner (token.Keyword k ∷ ts) = first_keyword inner k ts
+first_part inner (token.Number n ∷ ts) = Some (expression (number (record { negative = false; size = n })), ts)
+first_part inner (token.LargeNumber ∷ ts) = None
+first_part inner (token.Text t ∷ ts) = Some (string t, ts)
+first_part inner (token.Sign s ∷ ts) = first_sign inner s ts
+
+-- ---- parts with their joints
+
+-- the part at the left with what the joint joins to it
+abbrev pub turn_of : Reads → Joint → Parsed → List Token → Reading Parsed
+turn_of right j left ts = option_and_then (λ r. option_map (λ p. (p, r.1)) (combined j left r.0)) (right (suc (level j)) ts)
+
+abbrev pub joined_at : Reads → (Parsed → List Token → Reading Parsed) → Parsed → List Token → Option (Joint × List Token) → Reading Parsed
+joined_at right more left ts None = Some (left, ts)
+joined_at right more left ts (Some j) = option_and_then (λ p. more p.0 p.1) (turn_of right j.0 left j.1)
+
+-- The part at the left, and what joints as tight as least join to it from the left on. The last number bounds the turns.
+unfoldable pub joined : Reads → ℕ → ℕ → Parsed → List Token → Reading Parsed
+joined right least zero left ts = None
+joined right least (suc turns) left ts = joined_at right (joined right least turns) left ts (next_joint least ts)
+
+-- A part whose joints bind at least so tightly. The first number bounds how deep parts stand in parts; the count of the
+-- tokens is always enough.
+unfoldable pub part_at : ℕ → Reads
+part_at zero least ts = None
+part_at (suc depth) least ts =
+    option_and_then (λ p. joined (part_at depth) least (suc (length p.1)) p.0 p.1) (first_part (part_at depth) ts)

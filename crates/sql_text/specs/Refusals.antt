@@ -1,0 +1,121 @@
+-- Why a text is refused.
+use Rattle.std.specs.Prelude.{◌≡◌, ◌⊎◌, ℕ, Bool, true, false, nat_lt, ◌||◌, ◌&&◌, if◌then◌else◌, List, [], ◌∷◌, length, codes, count_by, Option, Some, None}
+use Rattle.std.specs.List.{list_any}
+use Rattle.std.specs.Str.{bytes_eq}
+use Rattle.query_model.specs.declared.query.Query.{Query}
+use Rattle.sql_grammar.specs.declared.Token.{Token}
+use Rattle.sql_grammar.specs.declared.Token.TheVariants as token
+use Rattle.sql_grammar.specs.declared.Keyword.{Keyword}
+use Rattle.sql_grammar.specs.declared.Keyword.TheVariants as keyword
+use Rattle.sql_grammar.specs.declared.Sign.{Sign}
+use Rattle.sql_grammar.specs.declared.Sign.TheVariants as sign
+use Rattle.sql_grammar.specs.Tokens.{is_word, tokens_of}
+use Rattle.sql_grammar.specs.Grammar.{Spells}
+use Rattle.sql_text.specs.declared.limits.ParseRefusal.{ParseRefusal}
+use Rattle.sql_text.specs.declared.limits.ParseRefusal.TheVariants as refusal
+use Rattle.sql_text.specs.declared.stop.Stop.{Stop}
+use Rattle.sql_text.specs.declared.stop.Stop.TheVariants as stop
+use Rattle.sql_text.specs.declared.limits.TheConstants.{MAX_TEXT, MAX_OPERATORS}
+
+abbrev pub is_large : Token → Bool
+is_large (token.Name w) = false
+is_large (token.Keyword k) = false
+is_large (token.Number n) = false
+is_large token.LargeNumber = true
+is_large (token.Text t) = false
+is_large (token.Sign s) = false
+
+-- ---- operators and parentheses
+
+abbrev pub is_operator_sign : Sign → Bool
+is_operator_sign sign.Open = true
+is_operator_sign sign.Plus = true
+is_operator_sign sign.Minus = true
+is_operator_sign sign.Star = true
+is_operator_sign _ = false
+
+abbrev pub is_operator_keyword : Keyword → Bool
+is_operator_keyword keyword.And = true
+is_operator_keyword keyword.Or = true
+is_operator_keyword keyword.Not = true
+is_operator_keyword _ = false
+
+abbrev pub is_operator : Token → Bool
+is_operator (token.Name w) = false
+is_operator (token.Keyword k) = is_operator_keyword k
+is_operator (token.Number n) = false
+is_operator token.LargeNumber = false
+is_operator (token.Text t) = false
+is_operator (token.Sign s) = is_operator_sign s
+
+-- ---- clauses that aren't there yet
+
+abbrev pub is_unbuilt_keyword : Keyword → Bool
+is_unbuilt_keyword keyword.Limit = true
+is_unbuilt_keyword keyword.Offset = true
+is_unbuilt_keyword keyword.Group = true
+is_unbuilt_keyword keyword.Having = true
+is_unbuilt_keyword keyword.Order = true
+is_unbuilt_keyword keyword.Inner = true
+is_unbuilt_keyword keyword.Join = true
+is_unbuilt_keyword keyword.On = true
+is_unbuilt_keyword _ = false
+
+-- an aggregate, in any ASCII case
+abbrev pub is_aggregate : List ℕ → Bool
+is_aggregate w = ((is_word w (codes "count") || is_word w (codes "sum")) || is_word w (codes "min")) || is_word w (codes "max")
+
+-- an aggregate, or the table of numbers in lower case
+abbrev pub is_call_word : List ℕ → Bool
+is_call_word w = is_aggregate w || bytes_eq w (codes "numbers")
+
+abbrev pub begins_with_open : List Token → Bool
+begins_with_open (token.Sign sign.Open ∷ ts) = true
+begins_with_open _ = false
+
+abbrev pub is_unbuilt : Token → List Token → Bool
+is_unbuilt (token.Name w) ts = is_call_word w && begins_with_open ts
+is_unbuilt (token.Keyword k) ts = is_unbuilt_keyword k
+is_unbuilt (token.Number n) ts = false
+is_unbuilt token.LargeNumber ts = false
+is_unbuilt (token.Text t) ts = false
+is_unbuilt (token.Sign s) ts = false
+
+unfoldable pub has_unbuilt : List Token → Bool
+has_unbuilt [] = false
+has_unbuilt (t ∷ ts) = is_unbuilt t ts || has_unbuilt ts
+
+-- ---- refusals
+
+abbrev pub token_refusal : List Token → Option ParseRefusal
+token_refusal ts =
+    if list_any is_large ts then Some refusal.NumberTooLarge
+    else if nat_lt MAX_OPERATORS (count_by is_operator ts) then Some refusal.TooComplex
+    else if has_unbuilt ts then Some refusal.NotBuilt else None
+
+abbrev pub refusal_of_tokens : Option (List Token) → Option ParseRefusal
+refusal_of_tokens None = Some refusal.Syntax
+refusal_of_tokens (Some ts) = token_refusal ts
+
+-- the refusal that comes before a query is read, where one does
+abbrev pub early_refusal : List ℕ → Option ParseRefusal
+early_refusal text = if nat_lt MAX_TEXT (length text) then Some refusal.TooLong else refusal_of_tokens (tokens_of text)
+
+-- when each refusal comes
+abbrev pub IsRefused : ParseRefusal → List ℕ → Type 0
+IsRefused refusal.TooLong text = early_refusal text ≡ Some refusal.TooLong
+IsRefused refusal.Syntax text =
+    (early_refusal text ≡ Some refusal.Syntax) ⊎ ((early_refusal text ≡ None) × ((q : Query) → Spells q text → ⊥))
+IsRefused refusal.NumberTooLarge text = early_refusal text ≡ Some refusal.NumberTooLarge
+IsRefused refusal.TooComplex text = early_refusal text ≡ Some refusal.TooComplex
+IsRefused refusal.NotBuilt text = early_refusal text ≡ Some refusal.NotBuilt
+IsRefused refusal.Memory text = Unit {0}
+
+abbrev pub refusal_of : Stop → ParseRefusal
+refusal_of stop.Syntax = refusal.Syntax
+refusal_of stop.Memory = refusal.Memory
+
+-- a query that is read from a text
+pub record IsReadFrom (q : Query) (text : List ℕ) : Type 0 where
+  pub early : early_refusal text ≡ None
+  pub spells : Spells q text

@@ -1,0 +1,15 @@
+//! The parser of a query's text: `parse` answers the query that spells it.
+#![tactic(auto)]
+
+mod limits;
+mod part;
+mod queries;
+mod scan;
+mod stop;
+mod texts;
+
+pub use limits::{MAX_OPERATORS, MAX_TEXT, ParseRefusal};
+pub use texts::{one_reading, parse};
+
+#[cfg(test)]
+mod tests;

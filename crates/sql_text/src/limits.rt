@@ -1,0 +1,161 @@
+// What is refused before a query is read.
+ghost use Rattle.std.specs.Prelude.{◌≡◌, count_by};
+ghost use Rattle.std.specs.List.{list_any};
+ghost use Rattle.sql_text.specs.Refusals.{is_large, is_operator_sign, is_operator_keyword, is_operator, is_unbuilt_keyword, is_aggregate, is_call_word, begins_with_open, is_unbuilt, has_unbuilt, token_refusal};
+
+use crate::scan::is_word;
+use crate::stop::next_token;
+use sql_grammar::{Keyword, Sign, Token};
+
+/// The most bytes of a query's text.
+pub const MAX_TEXT: usize = 65_536;
+
+/// The most operators and parentheses of a query.
+pub const MAX_OPERATORS: usize = 1_000;
+
+/// Why a text is refused.
+#[derive(Clone, Copy, Debug, PartialEq, Eq)]
+pub enum ParseRefusal {
+    /// It has more than `MAX_TEXT` bytes.
+    TooLong,
+    /// It isn't a list of tokens, or no query spells it.
+    Syntax,
+    /// One of its numbers doesn't fit 64 bits.
+    NumberTooLarge,
+    /// It has more than `MAX_OPERATORS` tokens `(`, `+`, `-`, `*`, AND, OR and NOT.
+    TooComplex,
+    /// It has a clause that isn't there yet.
+    NotBuilt,
+    /// There wasn't enough memory.
+    Memory,
+}
+
+fn is_large(token: &Token) -> bool
+    ensures { result ≡ is_large token.now }
+{
+    match token {
+        Token::LargeNumber => true,
+        Token::Name(_) | Token::Keyword(_) | Token::Number(_) | Token::Text(_) | Token::Sign(_) =>
+            false,
+    }
+}
+
+fn has_large(tokens: &[Token]) -> bool
+    ensures { result ≡ list_any is_large tokens.now }
+{
+    tokens.iter().any(|token| is_large(token))
+}
+
+fn is_operator_sign(sign: Sign) -> bool
+    ensures { result ≡ is_operator_sign sign }
+{
+    match sign {
+        Sign::Open | Sign::Plus | Sign::Minus | Sign::Star => true,
+        _ => false,
+    }
+}
+
+fn is_operator_keyword(keyword: Keyword) -> bool
+    ensures { result ≡ is_operator_keyword keyword }
+{
+    match keyword {
+        Keyword::And | Keyword::Or | Keyword::Not => true,
+        _ => false,
+    }
+}
+
+fn is_operator(token: &Token) -> bool
+    ensures { result ≡ is_operator token.now }
+{
+    match token {
+        Token::Sign(sign) => is_operator_sign(*sign),
+        Token::Keyword(keyword) => is_operator_keyword(*keyword),
+        Token::Name(_) | Token::Number(_) | Token::LargeNumber | Token::Text(_) => false,
+    }
+}
+
+fn operator_count(tokens: &[Token]) -> usize
+    ensures { result ≡ count_by is_operator tokens.now }
+{
+    tokens.iter().filter(|token| is_operator(token)).count()
+}
+
+fn is_unbuilt_keyword(keyword: Keyword) -> bool
+    ensures { result ≡ is_unbuilt_keyword keyword }
+{
+    match keyword {
+        Keyword::Limit
+        | Keyword::Offset
+        | Keyword::Group
+        | Keyword::Having
+        | Keyword::Order
+        | Keyword::Inner
+        | Keyword::Join
+        | Keyword::On => true,
+        _ => false,
+    }
+}
+
+fn is_aggregate(word: &[u8]) -> bool
+    ensures { result ≡ is_aggregate word.now }
+{
+    is_word(word, b"count")
+        || is_word(word, b"sum")
+        || is_word(word, b"min")
+        || is_word(word, b"max")
+}
+
+fn is_call_word(word: &[u8]) -> bool
+    ensures { result ≡ is_call_word word.now }
+{
+    is_aggregate(word) || word == b"numbers".as_slice()
+}
+
+fn begins_with_open(tokens: &[Token]) -> bool
+    ensures { result ≡ begins_with_open tokens.now }
+{
+    match tokens.first() {
+        Some(Token::Sign(Sign::Open)) => true,
+        _ => false,
+    }
+}
+
+fn is_unbuilt(token: &Token, behind: &[Token]) -> bool
+    ensures { result ≡ is_unbuilt token.now behind.now }
+{
+    match token {
+        Token::Name(word) => is_call_word(word.as_slice()) && begins_with_open(behind),
+        Token::Keyword(keyword) => is_unbuilt_keyword(*keyword),
+        Token::Number(_) | Token::LargeNumber | Token::Text(_) | Token::Sign(_) => false,
+    }
+}
+
+#[tactic(auto, unfolding(crate::specs::Refusals::has_unbuilt))]
+fn has_unbuilt(tokens: &[Token]) -> bool
+    ensures { result ≡ has_unbuilt tokens.now }
+{
+    let mut rest = tokens;
+    while let Ok((token, behind)) = next_token(rest) {
+        if is_unbuilt(token, behind) {
+            return true;
+        }
+        rest = behind;
+    }
+    false
+}
+
+/// The refusal for the tokens, where there is one.
+pub fn token_refusal(tokens: &[Token]) -> Option<ParseRefusal>
+    ensures { result ≡ token_refusal tokens.now }
+{
+    if has_large(tokens) {
+        return Some(ParseRefusal::NumberTooLarge);
+    }
+    if operator_count(tokens) > MAX_OPERATORS {
+        return Some(ParseRefusal::TooComplex);
+    }
+    if has_unbuilt(tokens) {
+        return Some(ParseRefusal::NotBuilt);
+    }
+    None
+}

@@ -1,0 +1,377 @@
+// Expressions and conditions.
+ghost use Rattle.std.specs.Prelude.{◌≡◌, ℕ, suc, ◌+◌, ◌<◌, ◌≤◌, length, List, Some, None, option_map, OnOk, IfOk};
+ghost use Rattle.query_model.specs.Formulas.{formula, number};
+ghost use Rattle.sql_text.specs.declared.part.Joint.TheVariants.{Arith, Compare, And, Or};
+ghost use Rattle.sql_grammar.specs.declared.Token.{Token};
+ghost use Rattle.sql_grammar.specs.Trees.{side, condition, condition as condition_tree};
+ghost use Rattle.sql_text.specs.Answers.{Gives};
+ghost use Rattle.sql_text.specs.Parts.{expression, truth, parsed, sign_joint, keyword_joint, joint_of, level, next_joint, combined, side_of, plain_of, condition_of, column_at, negative_at, after_close, closed_at, negation_at, first_sign, first_keyword, first_part, turn_of, joined, part_at};
+
+use crate::stop::{Stop, next_token};
+use chunk_data::Bytes;
+use query_model::query::{ArithOp, ColumnRef, CompareOp, CondOf, ExprOf, Number, Operand};
+use sql_grammar::{Keyword, Sign, Token};
+use std::alloc::Global;
+
+/// The least level of the joints of a condition, of a comparison, and of an expression.
+pub const CONDITION: u8 = 1;
+
+pub const COMPARISON: u8 = 4;
+
+pub const EXPRESSION: u8 = 5;
+
+// What joins two parts.
+#[derive(Clone, Copy)]
+pub enum Joint {
+    Arith(ArithOp),
+    Compare(CompareOp),
+    And,
+    Or,
+}
+
+// A part of an expression or a condition. It is small, since the reading of nested parts holds many of them on the stack.
+#[derive(Drop)]
+pub enum Part {
+    Plain(Box<ExprOf<ColumnRef>>),
+    Text(Bytes),
+    Condition(Box<CondOf<ColumnRef>>),
+}
+
+fn sign_joint(sign: Sign) -> Option<Joint>
+    ensures { result ≡ sign_joint sign }
+{
+    match sign {
+        Sign::Plus => Some(Joint::Arith(ArithOp::Add)),
+        Sign::Minus => Some(Joint::Arith(ArithOp::Sub)),
+        Sign::Star => Some(Joint::Arith(ArithOp::Mul)),
+        Sign::Equal => Some(Joint::Compare(CompareOp::Eq)),
+        Sign::NotEqual => Some(Joint::Compare(CompareOp::Ne)),
+        Sign::Less => Some(Joint::Compare(CompareOp::Lt)),
+        Sign::LessEqual => Some(Joint::Compare(CompareOp::Le)),
+        Sign::Greater => Some(Joint::Compare(CompareOp::Gt)),
+        Sign::GreaterEqual => Some(Joint::Compare(CompareOp::Ge)),
+        Sign::Open | Sign::Close | Sign::Comma | Sign::Dot | Sign::Semicolon => None,
+    }
+}
+
+fn keyword_joint(keyword: Keyword) -> Option<Joint>
+    ensures { result ≡ keyword_joint keyword }
+{
+    match keyword {
+        Keyword::And => Some(Joint::And),
+        Keyword::Or => Some(Joint::Or),
+        _ => None,
+    }
+}
+
+fn joint_of(token: &Token) -> Option<Joint>
+    ensures { result ≡ joint_of token.now }
+{
+    match token {
+        Token::Sign(sign) => sign_joint(*sign),
+        Token::Keyword(keyword) => keyword_joint(*keyword),
+        Token::Name(_) | Token::Number(_) | Token::LargeNumber | Token::Text(_) => None,
+    }
+}
+
+// How tightly a joint binds; NOT stands between AND and the comparisons.
+fn level(joint: Joint) -> u8
+    ensures is { result ≡ level joint }
+    ensures bound { result ≤ 6 }
+{
+    match joint {
+        Joint::Or => 1,
+        Joint::And => 2,
+        Joint::Compare(_) => 4,
+        Joint::Arith(ArithOp::Add | ArithOp::Sub) => 5,
+        Joint::Arith(ArithOp::Mul) => 6,
+    }
+}
+
+// The level of what may stand at a joint's right.
+fn level_above(joint: Joint) -> u8
+    ensures is { result ≡ suc (level joint) }
+    ensures bound { result ≤ 7 }
+{
+    level(joint) + 1
+}
+
+// The joint at the front, where it binds at least so tightly, and the tokens behind it.
+fn next_joint(least: u8, tokens: &[Token]) -> Option<(Joint, &[Token])>
+    ensures { option_map (λ p. (p.0, p.1.now)) result ≡ next_joint least tokens.now }
+{
+    let (token, rest) = tokens.split_first()?;
+    let joint = joint_of(token)?;
+    if least <= level(joint) {
+        Some((joint, rest))
+    } else {
+        None
+    }
+}
+
+fn side_of(part: Part) -> Result<Operand<ColumnRef>, Stop>
+    ensures { Gives side result (side_of (parsed part)) }
+{
+    match part {
+        Part::Plain(e) => Ok(Operand::Plain(Box::into_inner(e))),
+        Part::Text(t) => Ok(Operand::Text(t)),
+        Part::Condition(_) => Err(Stop::Syntax),
+    }
+}
+
+pub fn plain_of(part: Part) -> Result<Box<ExprOf<ColumnRef>>, Stop>
+    ensures { Gives (λ e. formula e.value) result (plain_of (parsed part)) }
+{
+    match part {
+        Part::Plain(e) => Ok(e),
+        Part::Text(_) | Part::Condition(_) => Err(Stop::Syntax),
+    }
+}
+
+pub fn condition_of(part: Part) -> Result<Box<CondOf<ColumnRef>>, Stop>
+    ensures { Gives (λ c. condition c.value) result (condition_of (parsed part)) }
+{
+    match part {
+        Part::Condition(c) => Ok(c),
+        Part::Plain(_) | Part::Text(_) => Err(Stop::Syntax),
+    }
+}
+
+fn plain_part(alloc: Global, expr: ExprOf<ColumnRef>) -> Result<Part, Stop>
+    ensures { Gives parsed result (Some (expression (formula expr))) }
+{
+    Ok(Part::Plain(Box::new(alloc, expr)?))
+}
+
+fn condition_part(alloc: Global, condition: CondOf<ColumnRef>) -> Result<Part, Stop>
+    ensures { Gives parsed result (Some (truth (condition_tree condition))) }
+{
+    Ok(Part::Condition(Box::new(alloc, condition)?))
+}
+
+fn calculated(alloc: Global, op: ArithOp, left: Part, right: Part) -> Result<Part, Stop>
+    ensures { Gives parsed result (combined (Arith op) (parsed left) (parsed right)) }
+{
+    let a = plain_of(left)?;
+    let b = plain_of(right)?;
+    plain_part(alloc, ExprOf::Arith(op, a, b))
+}
+
+fn compared(alloc: Global, op: CompareOp, left: Part, right: Part) -> Result<Part, Stop>
+    ensures { Gives parsed result (combined (Compare op) (parsed left) (parsed right)) }
+{
+    let a = side_of(left)?;
+    let b = side_of(right)?;
+    condition_part(alloc, CondOf::Compare(op, a, b))
+}
+
+fn both_of(alloc: Global, left: Part, right: Part) -> Result<Part, Stop>
+    ensures { Gives parsed result (combined And (parsed left) (parsed right)) }
+{
+    let a = condition_of(left)?;
+    let b = condition_of(right)?;
+    condition_part(alloc, CondOf::And(a, b))
+}
+
+fn either_of(alloc: Global, left: Part, right: Part) -> Result<Part, Stop>
+    ensures { Gives parsed result (combined Or (parsed left) (parsed right)) }
+{
+    let a = condition_of(left)?;
+    let b = condition_of(right)?;
+    condition_part(alloc, CondOf::Or(a, b))
+}
+
+fn combined(alloc: Global, joint: Joint, left: Part, right: Part) -> Result<Part, Stop>
+    ensures { Gives parsed result (combined joint (parsed left) (parsed right)) }
+{
+    match joint {
+        Joint::Arith(op) => calculated(alloc, op, left, right),
+        Joint::Compare(op) => compared(alloc, op, left, right),
+        Joint::And => both_of(alloc, left, right),
+        Joint::Or => either_of(alloc, left, right),
+    }
+}
+
+// The column that begins with the name, and the tokens behind it.
+fn column_at<'a>(
+    alloc: Global,
+    name: &Bytes,
+    tokens: &'a [Token],
+) -> Result<(Part, &'a [Token]), Stop>
+    ensures { Gives (λ p. (parsed p.0, p.1.now)) result (Some (column_at name.now tokens.now)) }
+{
+    let first = name.copy()?;
+    if let [Token::Sign(Sign::Dot), Token::Name(column), ..] = tokens {
+        let name = column.copy()?;
+        let column = ColumnRef {
+            table: Some(first),
+            name,
+        };
+        let part = plain_part(alloc, ExprOf::Column(column))?;
+        return Ok((part, &tokens[2..]));
+    }
+    let column = ColumnRef {
+        table: None,
+        name: first,
+    };
+    Ok((plain_part(alloc, ExprOf::Column(column))?, tokens))
+}
+
+fn number_part(alloc: Global, negative: bool, size: u64) -> Result<Part, Stop>
+    ensures { Gives parsed result (Some (expression (number (record { negative = negative; size = size })))) }
+{
+    plain_part(alloc, ExprOf::Number(Number { negative, size }))
+}
+
+fn negative_at(alloc: Global, tokens: &[Token]) -> Result<(Part, &[Token]), Stop>
+    ensures { Gives (λ p. (parsed p.0, p.1.now)) result (negative_at tokens.now) }
+{
+    match next_token(tokens)? {
+        (Token::Number(size), rest) => Ok((number_part(alloc, true, *size)?, rest)),
+        _ => Err(Stop::Syntax),
+    }
+}
+
+fn after_close(tokens: &[Token]) -> Result<&[Token], Stop>
+    ensures { Gives (λ rest. rest.now) result (after_close tokens.now) }
+{
+    let (token, rest) = next_token(tokens)?;
+    match token {
+        Token::Sign(Sign::Close) => Ok(rest),
+        _ => Err(Stop::Syntax),
+    }
+}
+
+fn closed_at(part: Part, tokens: &[Token]) -> Result<(Part, &[Token]), Stop>
+    ensures { Gives (λ p. (parsed p.0, p.1.now)) result (closed_at (parsed part) tokens.now) }
+{
+    match part {
+        Part::Plain(e) => Ok((Part::Plain(e), after_close(tokens)?)),
+        Part::Text(_) => Err(Stop::Syntax),
+        Part::Condition(c) => Ok((Part::Condition(c), after_close(tokens)?)),
+    }
+}
+
+fn negated(alloc: Global, part: Part) -> Result<Part, Stop>
+    ensures { (rest : List Token) → Gives (λ p. (parsed p, rest)) result (negation_at (parsed part) rest) }
+{
+    match part {
+        Part::Condition(c) => condition_part(alloc, CondOf::Not(c)),
+        Part::Plain(_) | Part::Text(_) => Err(Stop::Syntax),
+    }
+}
+
+#[cycle(part)]
+fn first_sign<'a>(
+    alloc: Global,
+    sign: Sign,
+    tokens: &'a [Token],
+    depth: usize,
+) -> Result<(Part, &'a [Token]), Stop>
+    ensures { Gives (λ p. (parsed p.0, p.1.now)) result (first_sign (part_at depth) sign tokens.now) }
+{
+    match sign {
+        Sign::Minus => negative_at(alloc, tokens),
+        Sign::Open => {
+            let (part, rest) = part_at(alloc, CONDITION, tokens, depth)?;
+            closed_at(part, rest)
+        }
+        _ => Err(Stop::Syntax),
+    }
+}
+
+#[cycle(part)]
+fn first_keyword<'a>(
+    alloc: Global,
+    keyword: Keyword,
+    tokens: &'a [Token],
+    depth: usize,
+) -> Result<(Part, &'a [Token]), Stop>
+    ensures { Gives (λ p. (parsed p.0, p.1.now)) result (first_keyword (part_at depth) keyword tokens.now) }
+{
+    match keyword {
+        Keyword::Not => {
+            let (part, rest) = part_at(alloc, COMPARISON, tokens, depth)?;
+            Ok((negated(alloc, part)?, rest))
+        }
+        _ => Err(Stop::Syntax),
+    }
+}
+
+// A part without joints: a column, a number, a string, what stands in parentheses, or a negation.
+#[cycle(part)]
+fn first_part<'a>(
+    alloc: Global,
+    tokens: &'a [Token],
+    depth: usize,
+) -> Result<(Part, &'a [Token]), Stop>
+    ensures { Gives (λ p. (parsed p.0, p.1.now)) result (first_part (part_at depth) tokens.now) }
+{
+    let (token, rest) = next_token(tokens)?;
+    match token {
+        Token::Name(name) => column_at(alloc, name, rest),
+        Token::Keyword(keyword) => first_keyword(alloc, *keyword, rest, depth),
+        Token::Number(size) => Ok((number_part(alloc, false, *size)?, rest)),
+        Token::LargeNumber => Err(Stop::Syntax),
+        Token::Text(text) => Ok((Part::Text(text.copy()?), rest)),
+        Token::Sign(sign) => first_sign(alloc, *sign, rest, depth),
+    }
+}
+
+/// The part at the front whose joints bind at least so tightly, and the tokens behind it. `depth` bounds how deep parts
+/// stand in parts; the count of the tokens is always enough.
+#[cycle(part)]
+pub fn part_at<'a>(
+    alloc: Global,
+    least: u8,
+    tokens: &'a [Token],
+    depth: usize,
+) -> Result<(Part, &'a [Token]), Stop>
+    ensures { Gives (λ p. (parsed p.0, p.1.now)) result (part_at depth least tokens.now) }
+{
+    if depth == 0 {
+        return Err(Stop::Syntax);
+    }
+    let (first, rest) = first_part(alloc, tokens, depth - 1)?;
+    joined(alloc, least, first, rest, depth - 1)
+}
+
+// The part at the left, and what the joint joins to it.
+#[cycle(part)]
+fn turn_of<'a>(
+    alloc: Global,
+    joint: Joint,
+    left: Part,
+    tokens: &'a [Token],
+    depth: usize,
+) -> Result<(Part, &'a [Token]), Stop>
+    ensures { Gives (λ p. (parsed p.0, p.1.now)) result (turn_of (part_at depth) joint (parsed left) tokens.now) }
+{
+    let (right, rest) = part_at(alloc, level_above(joint), tokens, depth)?;
+    Ok((combined(alloc, joint, left, right)?, rest))
+}
+
+// The part at the left, and all that joints as tight as `least` join to it.
+#[cycle(part)]
+fn joined<'a>(
+    alloc: Global,
+    least: u8,
+    first: Part,
+    tokens: &'a [Token],
+    depth: usize,
+) -> Result<(Part, &'a [Token]), Stop>
+    ensures { Gives (λ p. (parsed p.0, p.1.now)) result (joined (part_at depth) least (suc (length tokens.now)) (parsed first) tokens.now) }
+{
+    let mut part = first;
+    let mut rest = tokens;
+    while let Some((joint, behind)) = next_joint(least, rest) {
+        match turn_of(alloc, joint, part, behind, depth) {
+            Ok((next, after)) => {
+                part = next;
+                rest = after;
+            }
+            Err(stop) => return Err(stop),
+        }
+    }
+    Ok((part, rest))
+}

@@ -1,0 +1,341 @@
+// The tokens of a text.
+ghost use Rattle.std.specs.Prelude.{◌≡◌, ℕ, suc, ◌+◌, ◌-◌, ◌*◌, ◌<◌, ◌≤◌, ◌∷◌, length, drop, take_while, [], MatchOption, Some, option_map, IfOk, OnOk};
+ghost use Rattle.std.specs.Char.{is_ascii_digit};
+ghost use Rattle.sql_grammar.specs.Tokens.{is_blank, is_letter, is_word_byte, keyword_text, is_word, keyword_of, word_token, word_front, number_of, fitting, number_token, begins_with_letter, number_front, text_byte, text_end, text_at, begins_with, single_sign, less_sign, comparison_sign, text_front, sign_front, token_front, tokens_behind, tokens_of};
+ghost use Rattle.sql_grammar.specs.declared.TextPlace.TheVariants.{Middle};
+ghost use Rattle.sql_text.specs.Answers.{Gives};
+
+use crate::stop::Stop;
+use chunk_data::Bytes;
+use sql_grammar::{KEYWORDS, Keyword, Sign, TextByte, TextPlace, Token};
+use std::alloc::Global;
+
+fn is_blank(b: u8) -> bool
+    ensures { result ≡ is_blank b }
+{
+    b == b' ' || b == b'\t' || b == b'\r' || b == b'\n'
+}
+
+fn is_letter(b: u8) -> bool
+    ensures { result ≡ is_letter b }
+{
+    b.is_ascii_alphabetic() || b == b'_'
+}
+
+fn is_word_byte(b: u8) -> bool
+    ensures { result ≡ is_word_byte b }
+{
+    is_letter(b) || b.is_ascii_digit()
+}
+
+fn keyword_text(keyword: Keyword) -> &'static [u8]
+    ensures { result.now ≡ keyword_text keyword }
+{
+    match keyword {
+        Keyword::Select => b"SELECT",
+        Keyword::From => b"FROM",
+        Keyword::Where => b"WHERE",
+        Keyword::Group => b"GROUP",
+        Keyword::By => b"BY",
+        Keyword::Having => b"HAVING",
+        Keyword::Order => b"ORDER",
+        Keyword::Limit => b"LIMIT",
+        Keyword::Offset => b"OFFSET",
+        Keyword::As => b"AS",
+        Keyword::And => b"AND",
+        Keyword::Or => b"OR",
+        Keyword::Not => b"NOT",
+        Keyword::Inner => b"INNER",
+        Keyword::Join => b"JOIN",
+        Keyword::On => b"ON",
+        Keyword::Asc => b"ASC",
+        Keyword::Desc => b"DESC",
+        Keyword::Union => b"UNION",
+        Keyword::All => b"ALL",
+        Keyword::Distinct => b"DISTINCT",
+        Keyword::Left => b"LEFT",
+        Keyword::Is => b"IS",
+        Keyword::Null => b"NULL",
+    }
+}
+
+pub fn is_word(word: &[u8], text: &[u8]) -> bool
+    ensures { result ≡ is_word word.now text.now }
+{
+    word.eq_ignore_ascii_case(text)
+}
+
+fn keyword_of(word: &[u8]) -> Option<Keyword>
+    ensures { result ≡ keyword_of word.now }
+{
+    KEYWORDS
+        .iter()
+        .copied()
+        .find(|k| is_word(word, keyword_text(*k)))
+}
+
+fn word_len(bytes: &[u8]) -> usize
+    ensures is { result ≡ length (take_while is_word_byte bytes.now) }
+    ensures within { result ≤ length bytes.now }
+{
+    bytes.iter().take_while(|b| is_word_byte(**b)).count()
+}
+
+fn word_at(bytes: &[u8]) -> &[u8]
+    ensures { result.now ≡ take_while is_word_byte bytes.now }
+{
+    &bytes[..word_len(bytes)]
+}
+
+fn word_token(alloc: Global, word: &[u8]) -> Result<Token, Stop>
+    ensures { Gives (λ t. t) result (Some (word_token word.now (keyword_of word.now))) }
+{
+    match keyword_of(word) {
+        Some(keyword) => Ok(Token::Keyword(keyword)),
+        None => Ok(Token::Name(Bytes::from_slice(alloc, word)?)),
+    }
+}
+
+fn digits_len(bytes: &[u8]) -> usize
+    ensures is { result ≡ length (take_while is_ascii_digit bytes.now) }
+    ensures within { result ≤ length bytes.now }
+{
+    bytes.iter().take_while(|b| b.is_ascii_digit()).count()
+}
+
+fn digits_at(bytes: &[u8]) -> &[u8]
+    ensures { result.now ≡ take_while is_ascii_digit bytes.now }
+{
+    &bytes[..digits_len(bytes)]
+}
+
+// The number with one more digit, where both fit.
+fn with_digit(number: Option<u64>, digit: u8) -> Option<u64>
+    ensures { (n : ℕ) → number ≡ fitting n → result ≡ fitting (10 * n + (digit - 48)) }
+{
+    let number = number?;
+    number
+        .checked_mul(10)?
+        .checked_add(u64::from(digit.saturating_sub(b'0')))
+}
+
+fn number_of(digits: &[u8]) -> Option<u64>
+    ensures { result ≡ fitting (number_of digits.now) }
+{
+    let mut number = Some(0);
+    for digit in digits {
+        number = with_digit(number, *digit);
+    }
+    number
+}
+
+fn number_token(digits: &[u8]) -> Token
+    ensures { result ≡ number_token (fitting (number_of digits.now)) }
+{
+    match number_of(digits) {
+        Some(number) => Token::Number(number),
+        None => Token::LargeNumber,
+    }
+}
+
+fn begins_with_letter(bytes: &[u8]) -> bool
+    ensures { result ≡ begins_with_letter bytes.now }
+{
+    match bytes.first() {
+        Some(b) => is_letter(*b),
+        None => false,
+    }
+}
+
+fn begins_with(byte: u8, bytes: &[u8]) -> bool
+    ensures { result ≡ begins_with byte bytes.now }
+{
+    match bytes.first() {
+        Some(b) => *b == byte,
+        None => false,
+    }
+}
+
+fn text_byte(place: TextPlace, b: u8) -> TextByte
+    ensures { result ≡ text_byte place b }
+{
+    match place {
+        TextPlace::Middle => {
+            if b == b'\'' {
+                TextByte::Passed(TextPlace::BehindQuote)
+            } else if b == b'\\' {
+                TextByte::Passed(TextPlace::BehindBackslash)
+            } else {
+                TextByte::Content
+            }
+        }
+        TextPlace::BehindQuote => {
+            if b == b'\'' {
+                TextByte::Content
+            } else {
+                TextByte::Behind
+            }
+        }
+        TextPlace::BehindBackslash => {
+            if b == b'\'' || b == b'\\' {
+                TextByte::Content
+            } else {
+                TextByte::Bad
+            }
+        }
+    }
+}
+
+// The content of the string that begins behind its quote, and how many bytes it takes with its last quote.
+fn text_at(alloc: Global, bytes: &[u8]) -> Result<(Bytes, usize), Stop>
+    ensures { Gives (λ p. p) result (text_at Middle bytes.now) }
+{
+    let mut content = Vec::new(alloc);
+    let mut place = TextPlace::Middle;
+    for (i, b) in bytes.iter().enumerate() {
+        match text_byte(place, *b) {
+            TextByte::Content => {
+                content.push(*b)?;
+                place = TextPlace::Middle;
+            }
+            TextByte::Passed(next) => place = next,
+            TextByte::Behind => return Ok((Bytes::from_vec(content), i)),
+            TextByte::Bad => return Err(Stop::Syntax),
+        }
+    }
+    match place {
+        TextPlace::BehindQuote => Ok((Bytes::from_vec(content), bytes.len())),
+        TextPlace::Middle | TextPlace::BehindBackslash => Err(Stop::Syntax),
+    }
+}
+
+fn single_sign(b: u8) -> Option<Sign>
+    ensures { result ≡ single_sign b }
+{
+    match b {
+        b'(' => Some(Sign::Open),
+        b')' => Some(Sign::Close),
+        b',' => Some(Sign::Comma),
+        b'.' => Some(Sign::Dot),
+        b';' => Some(Sign::Semicolon),
+        b'*' => Some(Sign::Star),
+        b'+' => Some(Sign::Plus),
+        b'-' => Some(Sign::Minus),
+        _ => None,
+    }
+}
+
+fn less_sign(more: &[u8]) -> (Sign, usize)
+    ensures { result ≡ less_sign more.now }
+{
+    if begins_with(b'>', more) {
+        (Sign::NotEqual, 2)
+    } else if begins_with(b'=', more) {
+        (Sign::LessEqual, 2)
+    } else {
+        (Sign::Less, 1)
+    }
+}
+
+fn comparison_sign(b: u8, more: &[u8]) -> Option<(Sign, usize)>
+    ensures { result ≡ comparison_sign b more.now }
+{
+    let equal = begins_with(b'=', more);
+    match b {
+        b'=' => Some((Sign::Equal, if equal { 2 } else { 1 })),
+        b'!' if equal => Some((Sign::NotEqual, 2)),
+        b'<' => Some(less_sign(more)),
+        b'>' if equal => Some((Sign::GreaterEqual, 2)),
+        b'>' => Some((Sign::Greater, 1)),
+        _ => None,
+    }
+}
+
+fn word_front(alloc: Global, bytes: &[u8]) -> Result<(Token, usize), Stop>
+    ensures { Gives (λ p. p) result (Some (word_front bytes.now)) }
+{
+    let word = word_at(bytes);
+    Ok((word_token(alloc, word)?, word.len()))
+}
+
+fn number_front(bytes: &[u8]) -> Result<(Token, usize), Stop>
+    ensures { Gives (λ p. p) result (number_front bytes.now) }
+{
+    let digits = digits_at(bytes);
+    if begins_with_letter(&bytes[digits.len()..]) {
+        return Err(Stop::Syntax);
+    }
+    Ok((number_token(digits), digits.len()))
+}
+
+fn text_front(alloc: Global, bytes: &[u8]) -> Result<(Token, usize), Stop>
+    ensures { Gives (λ p. p) result (text_front bytes.now) }
+{
+    let (content, len) = text_at(alloc, bytes)?;
+    Ok((Token::Text(content), len + 1))
+}
+
+fn sign_front(b: u8, more: &[u8]) -> Result<(Token, usize), Stop>
+    ensures { Gives (λ p. p) result (sign_front b more.now) }
+{
+    if let Some(sign) = single_sign(b) {
+        return Ok((Token::Sign(sign), 1));
+    }
+    match comparison_sign(b, more) {
+        Some((sign, len)) => Ok((Token::Sign(sign), len)),
+        None => Err(Stop::Syntax),
+    }
+}
+
+// The token at the front, and how many bytes it takes.
+fn token_at(alloc: Global, first: u8, more: &[u8], bytes: &[u8]) -> Result<(Token, usize), Stop>
+    requires { bytes.now ≡ first ∷ more.now }
+    ensures { Gives (λ p. p) result (token_front bytes.now) }
+{
+    if is_letter(first) {
+        word_front(alloc, bytes)
+    } else if first.is_ascii_digit() {
+        number_front(bytes)
+    } else if first == b'\'' {
+        text_front(alloc, more)
+    } else {
+        sign_front(first, more)
+    }
+}
+
+// The byte at the front, and the bytes behind it.
+fn next_byte(bytes: &[u8]) -> Option<(u8, &[u8])>
+    ensures { MatchOption result (bytes.now ≡ []) (λ p. bytes.now ≡ p.0 ∷ p.1.now) }
+{
+    let (first, more) = bytes.split_first()?;
+    Some((*first, more))
+}
+
+fn behind(bytes: &[u8], len: usize) -> &[u8]
+    requires { len ≤ length bytes.now }
+    ensures { result.now ≡ drop len bytes.now }
+{
+    &bytes[len..]
+}
+
+/// The tokens of a text.
+pub fn tokens_of(alloc: Global, text: &[u8]) -> Result<Vec<Token>, Stop>
+    ensures { Gives (λ v. v.items) result (tokens_of text.now) }
+{
+    let mut tokens = Vec::new(alloc);
+    let mut rest = text;
+    while let Some((first, more)) = next_byte(rest) {
+        if is_blank(first) {
+            rest = more;
+            continue;
+        }
+        match token_at(alloc, first, more, rest) {
+            Ok((token, len)) => {
+                tokens.push(token)?;
+                rest = behind(rest, len);
+            }
+            Err(stop) => return Err(stop),
+        }
+    }
+    Ok(tokens)
+}
