@@ -8,6 +8,8 @@ use Rattle.chunk_data.specs.declared.typed_value.ColumnType.{ColumnType}
 use Rattle.chunk_data.specs.declared.typed_value.ColumnType.TheVariants as column
 use Rattle.chunk_data.specs.declared.typed_column.Column.{Column}
 use Rattle.query_model.specs.declared.query.ArithOp.{ArithOp}
+use Rattle.query_model.specs.declared.query.CompareOp.{CompareOp}
+use Rattle.query_model.specs.declared.query.CompareOp.TheVariants as compare
 use Rattle.query_model.specs.declared.query.ExprOf.TheVariants as expr
 use Rattle.query_model.specs.Expressions.{Expr, value_of, type_of, gives_uint, is_uint_column}
 
@@ -35,3 +37,12 @@ IsMade (expr.Column c) table made = made ≡ None
 IsMade (expr.Number n) table made = made ≡ None
 IsMade (expr.Arith' op p a q b) table None = ⊥
 IsMade (expr.Arith' op p a q b) table (Some c) = (kind_of c ≡ type_of (expr.Arith' op p a q b) table.types) × (values c ≡ map (value_of (expr.Arith' op p a q b)) table.rows)
+
+-- the comparison that is true of two operands in the other order
+abbrev pub flipped : CompareOp → CompareOp
+flipped compare.Eq = compare.Eq
+flipped compare.Ne = compare.Ne
+flipped compare.Lt = compare.Gt
+flipped compare.Le = compare.Ge
+flipped compare.Gt = compare.Lt
+flipped compare.Ge = compare.Le

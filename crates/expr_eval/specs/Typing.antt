@@ -36,7 +36,7 @@ AreAlike (Some z) s None t = CanHold t z
 AreAlike (Some y) s (Some z) t = ⊥
 
 -- the expression is typed by the columns' types; a plain number alone is
-unfoldable pub IsTyped : List ColumnType → Expr → Type 0
+abbrev pub IsTyped : List ColumnType → Expr → Type 0
 IsTyped types (expr.Column c) = c < length types
 IsTyped types (expr.Number n) = Unit {0}
 IsTyped types (expr.Arith' op p a q b) = IsTyped types a × IsTyped types b × AreAlike (plain_of a) (type_of a types) (plain_of b) (type_of b types)
@@ -47,13 +47,13 @@ pub record IsItem (types : List ColumnType) (e : Expr) : Type 0 where
   pub not_plain : plain_of e ≡ None
 
 -- the type of a side of a comparison
-unfoldable pub operand_type : Operand ℕ → List ColumnType → ColumnType
+abbrev pub operand_type : Operand ℕ → List ColumnType → ColumnType
 operand_type (operand.Plain e) types = type_of e types
 operand_type (operand.Text bytes) types = column.Text
 operand_type (operand.Agg call) types = column.Text
 
 -- an aggregate call stands in no checked condition
-unfoldable pub IsTypedOperand : List ColumnType → Operand ℕ → Type 0
+abbrev pub IsTypedOperand : List ColumnType → Operand ℕ → Type 0
 IsTypedOperand types (operand.Plain e) = IsTyped types e
 IsTypedOperand types (operand.Text bytes) = Unit {0}
 IsTypedOperand types (operand.Agg call) = ⊥
@@ -64,7 +64,7 @@ is_text column.UInt64 = false
 is_text column.Text = true
 
 -- the condition is typed by the columns' types: a comparison is of two numbers or of two texts
-unfoldable pub IsTypedCond : List ColumnType → Cond → Type 0
+abbrev pub IsTypedCond : List ColumnType → Cond → Type 0
 IsTypedCond types (cond'.Compare op a b) = IsTypedOperand types a × IsTypedOperand types b × (is_text (operand_type a types) ≡ is_text (operand_type b types))
 IsTypedCond types (cond'.And' p a q b) = IsTypedCond types a × IsTypedCond types b
 IsTypedCond types (cond'.Or' p a q b) = IsTypedCond types a × IsTypedCond types b

@@ -145,20 +145,63 @@ pub(crate) fn column_at<'a>(expr: &Expr, made: &'a Option<Column>, chunk: &'a Ch
     }
 }
 
+// The operator at the values of an expression and a plain number, which is written in front where `swapped` is
+// true.
+fn number_beside(alloc: Global, swapped: bool, op: ArithOp, n: Number, expr: &Expr, made: Option<Column>, chunk: &Chunk) -> Result<Column, Memory>
+    requires typed { IsTyped chunk.now.types expr.now }
+    requires not_plain { plain_of expr.now ≡ None }
+    requires made { IsMade expr.now chunk.now made }
+    requires held { CanHold (type_of expr.now chunk.now.types) (number_of n) }
+    ensures kind { IfOk result (λ c. kind_of c ≡ result_type op (type_of expr.now chunk.now.types)) }
+    ensures values { IfOk result (λ c. values c ≡ map (λ row. sided swapped (arith_value op) (value_of expr.now row) (plain_value (number_of n))) chunk.now.rows) }
+{
+    let column = beside(alloc, swapped, op, column_at(expr, &made, chunk), n)?;
+    Ok(column)
+}
+
+// The operator at the values of two expressions, neither of which is a plain number.
+fn expressions(alloc: Global, op: ArithOp, left: &Expr, left_made: Option<Column>, right: &Expr, right_made: Option<Column>, chunk: &Chunk) -> Result<Column, Memory>
+    requires left { IsTyped chunk.now.types left.now }
+    requires right { IsTyped chunk.now.types right.now }
+    requires left_not_plain { plain_of left.now ≡ None }
+    requires right_not_plain { plain_of right.now ≡ None }
+    requires alike { AreNumbersAlike (type_of left.now chunk.now.types) (type_of right.now chunk.now.types) }
+    requires left_made { IsMade left.now chunk.now left_made }
+    requires right_made { IsMade right.now chunk.now right_made }
+    ensures kind { IfOk result (λ c. kind_of c ≡ result_type op (type_of left.now chunk.now.types)) }
+    ensures values { IfOk result (λ c. values c ≡ map (λ row. arith_value op (value_of left.now row) (value_of right.now row)) chunk.now.rows) }
+{
+    let here = column_at(left, &left_made, chunk);
+    let there = column_at(right, &right_made, chunk);
+    let column = pairs(alloc, op, here, there)?;
+    Ok(column)
+}
+
 // The operator at the values of two expressions.
-fn arith(alloc: Global, op: ArithOp, left: &Expr, left_made: &Option<Column>, right: &Expr, right_made: &Option<Column>, chunk: &Chunk) -> Result<Column, Memory>
+fn arith(alloc: Global, op: ArithOp, left: &Expr, left_made: Option<Column>, right: &Expr, right_made: Option<Column>, chunk: &Chunk) -> Result<Column, Memory>
     requires left { IsTyped chunk.now.types left.now }
     requires right { IsTyped chunk.now.types right.now }
     requires alike { AreAlike (plain_of left.now) (type_of left.now chunk.now.types) (plain_of right.now) (type_of right.now chunk.now.types) }
-    requires left_made { IsMade left.now chunk.now left_made.now }
-    requires right_made { IsMade right.now chunk.now right_made.now }
+    requires left_made { IsMade left.now chunk.now left_made }
+    requires right_made { IsMade right.now chunk.now right_made }
     ensures kind { IfOk result (λ c. kind_of c ≡ arith_type op (type_of left.now chunk.now.types) (type_of right.now chunk.now.types)) }
     ensures values { IfOk result (λ c. values c ≡ map (λ row. arith_value op (value_of left.now row) (value_of right.now row)) chunk.now.rows) }
 {
-    match (plain_number(left), plain_number(right)) {
-        (Some(n), _) => beside(alloc, true, op, column_at(right, right_made, chunk), n),
-        (None, Some(n)) => beside(alloc, false, op, column_at(left, left_made, chunk), n),
-        (None, None) => pairs(alloc, op, column_at(left, left_made, chunk), column_at(right, right_made, chunk)),
+    match plain_number(left) {
+        Some(n) => {
+            let column = number_beside(alloc, true, op, n, right, right_made, chunk)?;
+            Ok(column)
+        }
+        None => match plain_number(right) {
+            Some(m) => {
+                let column = number_beside(alloc, false, op, m, left, left_made, chunk)?;
+                Ok(column)
+            }
+            None => {
+                let column = expressions(alloc, op, left, left_made, right, right_made, chunk)?;
+                Ok(column)
+            }
+        },
     }
 }
 
@@ -173,7 +216,7 @@ pub(crate) fn made(alloc: Global, expr: &Expr, chunk: &Chunk) -> Result<Option<C
         ExprOf::Arith(op, left, right) => {
             let left_made = made(alloc, left, chunk)?;
             let right_made = made(alloc, right, chunk)?;
-            let column = arith(alloc, *op, left, &left_made, right, &right_made, chunk)?;
+            let column = arith(alloc, *op, left, left_made, right, right_made, chunk)?;
             Ok(Some(column))
         }
     }
@@ -187,7 +230,10 @@ pub fn eval(alloc: Global, expr: &Expr, chunk: &Chunk) -> Result<Column, Memory>
     ensures values { IfOk result (λ c. values c ≡ map (value_of expr.now) chunk.now.rows) }
 {
     match expr {
-        ExprOf::Column(c) => chunk.column(*c as usize).copy(),
+        ExprOf::Column(c) => {
+            let column = chunk.column(*c as usize).copy()?;
+            Ok(column)
+        }
         ExprOf::Number(_) => unreachable!(),
         ExprOf::Arith(_, _, _) => match made(alloc, expr, chunk)? {
             Some(column) => Ok(column),

@@ -2,6 +2,9 @@
 #![tactic(auto)]
 
 mod arith_loops;
+mod compare_loops;
+mod condition;
 mod expression;
 
+pub use condition::mask;
 pub use expression::eval;
