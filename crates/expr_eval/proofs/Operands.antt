@@ -1,5 +1,5 @@
 -- The operands of typed arithmetic.
-use Rattle.std.proofs.Common.{◌≡◌, ℕ, ◌<◌, Bool, true, false, List, length, map, get_or, refl, ap, sym, subst, ◌∙◌, ℤ, pos, negsuc, Option, Some, None}
+use Rattle.std.proofs.Common.{◌≡◌, ℕ, ◌<◌, Bool, true, false, List, length, map, get_or, refl, ap, sym, subst, ◌∙◌, ℤ, pos, negsuc, Option, Some, None, if◌then◌else◌}
 use Rattle.chunk_data.specs.Values.{Row, Table, type_of as type_of_value}
 use Rattle.chunk_data.specs.Columns.{kind_of, values}
 use Rattle.chunk_data.specs.declared.typed_value.Value.{Value}
@@ -79,3 +79,8 @@ pub made_values : (e : Expr) (table : Table) (c : Column) → IsMade e table (So
 made_values (expr.Column k) table c h = absurd cc
 made_values (expr.Number n) table c h = absurd cc
 made_values (expr.Arith' op p a q b) table c h = h.1
+
+-- arithmetic gives no text
+pub arith_not_text : (b : Bool) → (if b then column.UInt64 else column.Int64) ≡ column.Text → ⊥
+arith_not_text true e = absurd cc
+arith_not_text false e = absurd cc
