@@ -1,6 +1,6 @@
 // One loop for each comparison and shape of its operands. Each is written once for all comparisons and inlined at
 // each of them, so that the comparison is a constant within the loop.
-ghost use Rattle.std.specs.Prelude.{◌≡◌, pos, length, map, IfOk, not, ◌&&◌, ◌||◌};
+ghost use Rattle.std.specs.Prelude.{◌≡◌, pos, length, map, replicate, IfOk, not, ◌&&◌, ◌||◌};
 ghost use Rattle.std.specs.List.{zip};
 ghost use Rattle.std.specs.Ordering.{int_cmp};
 ghost use Rattle.chunk_data.specs.Values.{text_cmp};
@@ -299,8 +299,8 @@ pub(crate) fn text_mask(alloc: Global, op: CompareOp, xs: &Texts, ys: &Texts) ->
     Ok(mask)
 }
 
-/// Each place true where both are.
-pub(crate) fn both_onto(mask: &mut [bool], other: &[bool])
+// Each place true where both are.
+fn both_onto(mask: &mut [bool], other: &[bool])
     requires { length other.now ≡ length mask.old }
     ensures { mask.new ≡ map (λ p. p.0 && p.1) (zip mask.old other.now) }
 {
@@ -309,8 +309,8 @@ pub(crate) fn both_onto(mask: &mut [bool], other: &[bool])
     }
 }
 
-/// Each place true where either is.
-pub(crate) fn either_onto(mask: &mut [bool], other: &[bool])
+// Each place true where either is.
+fn either_onto(mask: &mut [bool], other: &[bool])
     requires { length other.now ≡ length mask.old }
     ensures { mask.new ≡ map (λ p. p.0 || p.1) (zip mask.old other.now) }
 {
@@ -319,11 +319,45 @@ pub(crate) fn either_onto(mask: &mut [bool], other: &[bool])
     }
 }
 
-/// Each place true where it was not.
-pub(crate) fn negate(mask: &mut [bool])
+// Each place true where it was not.
+fn negate_onto(mask: &mut [bool])
     ensures { mask.new ≡ map (λ m. not m) mask.old }
 {
     for i in 0..mask.len() {
         mask[i] = !mask[i];
     }
+}
+
+/// The conjunction of two masks, in the first one's memory.
+pub(crate) fn both(mut mask: Vec<bool>, other: &[bool]) -> Vec<bool>
+    requires { length other.now ≡ length mask.items }
+    ensures { result.items ≡ map (λ p. p.0 && p.1) (zip mask.items other.now) }
+{
+    both_onto(&mut mask, other);
+    mask
+}
+
+/// The disjunction of two masks, in the first one's memory.
+pub(crate) fn either(mut mask: Vec<bool>, other: &[bool]) -> Vec<bool>
+    requires { length other.now ≡ length mask.items }
+    ensures { result.items ≡ map (λ p. p.0 || p.1) (zip mask.items other.now) }
+{
+    either_onto(&mut mask, other);
+    mask
+}
+
+/// The negation of a mask, in its memory.
+pub(crate) fn negated(mut mask: Vec<bool>) -> Vec<bool>
+    ensures { result.items ≡ map (λ m. not m) mask.items }
+{
+    negate_onto(&mut mask);
+    mask
+}
+
+/// A mask with the same at each of n places.
+pub(crate) fn filled(alloc: Global, truth: bool, n: usize) -> Result<Vec<bool>, Memory>
+    ensures { IfOk result (λ m. m.items ≡ replicate n truth) }
+{
+    let mask = vec![in alloc; truth; n]?;
+    Ok(mask)
 }

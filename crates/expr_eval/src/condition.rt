@@ -6,7 +6,7 @@ ghost use Rattle.query_model.specs.Expressions.{value_of, type_of, operand_value
 ghost use Rattle.expr_eval.specs.Typing.{IsTyped, IsTypedOperand, IsTypedCond, operand_type, is_text, plain_of};
 
 use crate::compare_loops::{
-    both_onto, either_onto, flip, int_far_mask, int_mask, int_mask_beside, int_uint_mask, negate,
+    both, either, filled, flip, int_far_mask, int_mask, int_mask_beside, int_uint_mask, negated,
     number_as_wide, numbers_pass, text_mask, text_mask_beside, text_passes, uint_far_mask,
     uint_mask, uint_mask_beside,
 };
@@ -172,7 +172,7 @@ fn plain_compared(alloc: Global, op: CompareOp, n: Number, right: &Expr, chunk: 
 {
     match plain_number(right) {
         Some(k) => {
-            let mask = vec![in alloc; numbers_pass(op, n, k); chunk.rows()]?;
+            let mask = filled(alloc, numbers_pass(op, n, k), chunk.rows())?;
             Ok(mask)
         }
         None => {
@@ -236,34 +236,50 @@ fn beside_text(alloc: Global, op: CompareOp, left: &Operand<u32>, text: &Bytes, 
             Ok(mask)
         }
         Operand::Text(bytes) => {
-            let mask = vec![in alloc; text_passes(op, bytes.as_slice(), text.as_slice()); chunk.rows()]?;
+            let mask = filled(alloc, text_passes(op, bytes.as_slice(), text.as_slice()), chunk.rows())?;
             Ok(mask)
         }
         Operand::Agg(_) => unreachable!(),
     }
 }
 
-// The comparison at each row.
+// The comparison of an operand and an expression at each row.
+fn beside_expression(alloc: Global, op: CompareOp, left: &Operand<u32>, right: &Expr, chunk: &Chunk) -> Result<Vec<bool>, Memory>
+    requires left { IsTypedOperand chunk.now.types left.now }
+    requires right { IsTyped chunk.now.types right.now }
+    requires alike { is_text (operand_type left.now chunk.now.types) ≡ is_text (type_of right.now chunk.now.types) }
+    ensures { IfOk result (λ m. m.items ≡ map (λ row. passes op (compared (operand_value left.now row) (value_of right.now row))) chunk.now.rows) }
+{
+    match left {
+        Operand::Plain(expr) => {
+            let mask = plain_operands(alloc, op, expr, right, chunk)?;
+            Ok(mask)
+        }
+        Operand::Text(text) => {
+            let mask = text_compared(alloc, flip(op), right, text, chunk)?;
+            Ok(mask)
+        }
+        Operand::Agg(_) => unreachable!(),
+    }
+}
+
+// The comparison of two operands at each row.
 fn compare(alloc: Global, op: CompareOp, left: &Operand<u32>, right: &Operand<u32>, chunk: &Chunk) -> Result<Vec<bool>, Memory>
     requires left { IsTypedOperand chunk.now.types left.now }
     requires right { IsTypedOperand chunk.now.types right.now }
     requires alike { is_text (operand_type left.now chunk.now.types) ≡ is_text (operand_type right.now chunk.now.types) }
     ensures { IfOk result (λ m. m.items ≡ map (λ row. passes op (compared (operand_value left.now row) (operand_value right.now row))) chunk.now.rows) }
 {
-    match (left, right) {
-        (_, Operand::Text(text)) => {
+    match right {
+        Operand::Plain(expr) => {
+            let mask = beside_expression(alloc, op, left, expr, chunk)?;
+            Ok(mask)
+        }
+        Operand::Text(text) => {
             let mask = beside_text(alloc, op, left, text, chunk)?;
             Ok(mask)
         }
-        (Operand::Text(text), _) => {
-            let mask = beside_text(alloc, flip(op), right, text, chunk)?;
-            Ok(mask)
-        }
-        (Operand::Plain(here), Operand::Plain(there)) => {
-            let mask = plain_operands(alloc, op, here, there, chunk)?;
-            Ok(mask)
-        }
-        _ => unreachable!(),
+        Operand::Agg(_) => unreachable!(),
     }
 }
 
@@ -279,21 +295,18 @@ pub fn mask(alloc: Global, cond: &Cond, chunk: &Chunk) -> Result<Vec<bool>, Memo
             Ok(truths)
         }
         CondOf::And(left, right) => {
-            let mut truths = mask(alloc, left, chunk)?;
+            let truths = mask(alloc, left, chunk)?;
             let others = mask(alloc, right, chunk)?;
-            both_onto(&mut truths, others.as_slice());
-            Ok(truths)
+            Ok(both(truths, others.as_slice()))
         }
         CondOf::Or(left, right) => {
-            let mut truths = mask(alloc, left, chunk)?;
+            let truths = mask(alloc, left, chunk)?;
             let others = mask(alloc, right, chunk)?;
-            either_onto(&mut truths, others.as_slice());
-            Ok(truths)
+            Ok(either(truths, others.as_slice()))
         }
         CondOf::Not(inner) => {
-            let mut truths = mask(alloc, inner, chunk)?;
-            negate(&mut truths);
-            Ok(truths)
+            let truths = mask(alloc, inner, chunk)?;
+            Ok(negated(truths))
         }
     }
 }

@@ -1,6 +1,6 @@
 use Rattle.std.proofs.Common.{arith, rules, ◌∙◌, false, refl, not}
 use Rattle.expr_eval.proofs.Onto.{onto_more, onto_all, map_first}
-use Rattle.expr_eval.proofs.compare_loops.negate.Goals as goal
+use Rattle.expr_eval.proofs.compare_loops.negate_onto.Goals as goal
 
 pub loop-i-preserved : goal.loop-i-preserved
 loop-i-preserved c =
