@@ -1,15 +1,13 @@
 -- Comparisons on numbers and texts are those on values.
-use Rattle.std.proofs.Common.{◌≡◌, ℕ, Bool, true, false, List, map, refl, ap, sym, ◌∙◌, ℤ, pos, negsuc, Option, Some, None}
+use Rattle.std.proofs.Common.{◌≡◌, ℕ, false, refl, ap, ◌∙◌, ℤ, pos, negsuc}
 use Rattle.std.specs.Ordering.{int_cmp, ordering_reverse}
 use Rattle.std.specs.declared.cmp.Ordering.{Ordering}
 use Rattle.std.specs.declared.cmp.Ordering.TheVariants.{Less, Equal, Greater}
 use Rattle.std.proofs.lemmas.Cmp.{nat_list_cmp_total}
 use Rattle.std.specs.Cmp.{int_cmp_total}
-use Rattle.chunk_data.specs.Values.{text_cmp, type_of as type_of_value}
+use Rattle.chunk_data.specs.Values.{type_of as type_of_value}
 use Rattle.chunk_data.specs.declared.typed_value.Value.{Value}
 use Rattle.chunk_data.specs.declared.typed_value.Value.TheVariants.{Int, UInt, Text}
-use Rattle.chunk_data.specs.declared.typed_value.ColumnType.{ColumnType}
-use Rattle.chunk_data.specs.declared.typed_value.ColumnType.TheVariants as column
 use Rattle.query_model.specs.declared.query.CompareOp.{CompareOp}
 use Rattle.query_model.specs.declared.query.CompareOp.TheVariants.{Eq, Ne, Lt, Le, Gt, Ge}
 use Rattle.query_model.specs.Numbers.{exact}

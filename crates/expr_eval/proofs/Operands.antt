@@ -1,8 +1,7 @@
 -- The operands of typed arithmetic.
-use Rattle.std.proofs.Common.{◌≡◌, ℕ, ◌<◌, Bool, true, false, List, length, map, get_or, refl, ap, sym, subst, ◌∙◌, ℤ, pos, negsuc, Option, Some, None, if◌then◌else◌}
+use Rattle.std.proofs.Common.{◌≡◌, Bool, true, false, List, map, refl, ap, subst, ℤ, pos, negsuc, Option, Some, None, if◌then◌else◌}
 use Rattle.chunk_data.specs.Values.{Row, Table, type_of as type_of_value}
 use Rattle.chunk_data.specs.Columns.{kind_of, values}
-use Rattle.chunk_data.specs.declared.typed_value.Value.{Value}
 use Rattle.chunk_data.specs.declared.typed_value.ColumnType.{ColumnType}
 use Rattle.chunk_data.specs.declared.typed_value.ColumnType.TheVariants as column
 use Rattle.chunk_data.specs.declared.typed_column.Column.{Column}

@@ -116,7 +116,13 @@ pub(crate) fn uint_differences(alloc: Global, xs: &[u64], ys: &[u64]) -> Result<
 }
 
 #[inline(always)]
-fn each_int_beside(alloc: Global, swapped: bool, op: ArithOp, xs: &[i64], y: i64) -> Result<Vec<i64>, Memory>
+fn each_int_beside(
+    alloc: Global,
+    swapped: bool,
+    op: ArithOp,
+    xs: &[i64],
+    y: i64,
+) -> Result<Vec<i64>, Memory>
     ensures { IfOk result (λ v. v.items ≡ map (λ x. int_wrap w64 (sided swapped (exact_result op) x y)) xs.now) }
 {
     Ok(
@@ -127,7 +133,13 @@ fn each_int_beside(alloc: Global, swapped: bool, op: ArithOp, xs: &[i64], y: i64
 }
 
 #[inline(always)]
-fn each_uint_beside(alloc: Global, swapped: bool, op: ArithOp, xs: &[u64], y: u64) -> Result<Vec<u64>, Memory>
+fn each_uint_beside(
+    alloc: Global,
+    swapped: bool,
+    op: ArithOp,
+    xs: &[u64],
+    y: u64,
+) -> Result<Vec<u64>, Memory>
     ensures { IfOk result (λ v. v.items ≡ map (λ x. residue (sided swapped (exact_result op) (pos x) (pos y))) xs.now) }
 {
     Ok(
@@ -138,7 +150,12 @@ fn each_uint_beside(alloc: Global, swapped: bool, op: ArithOp, xs: &[u64], y: u6
 }
 
 /// The differences of UInt64 and one number, which are Int64.
-pub(crate) fn uint_differences_beside(alloc: Global, swapped: bool, xs: &[u64], y: u64) -> Result<Vec<i64>, Memory>
+pub(crate) fn uint_differences_beside(
+    alloc: Global,
+    swapped: bool,
+    xs: &[u64],
+    y: u64,
+) -> Result<Vec<i64>, Memory>
     ensures { IfOk result (λ v. v.items ≡ map (λ x. int_wrap w64 (sided swapped (λ a b. a -ℤ b) (pos x) (pos y))) xs.now) }
 {
     Ok(
@@ -149,7 +166,12 @@ pub(crate) fn uint_differences_beside(alloc: Global, swapped: bool, xs: &[u64], 
 }
 
 /// The results at each pair.
-pub(crate) fn int_results(alloc: Global, op: ArithOp, xs: &[i64], ys: &[i64]) -> Result<Vec<i64>, Memory>
+pub(crate) fn int_results(
+    alloc: Global,
+    op: ArithOp,
+    xs: &[i64],
+    ys: &[i64],
+) -> Result<Vec<i64>, Memory>
     ensures { IfOk result (λ v. v.items ≡ map (λ p. int_wrap w64 (exact_result op p.0 p.1)) (zip xs.now ys.now)) }
 {
     match op {
@@ -160,7 +182,12 @@ pub(crate) fn int_results(alloc: Global, op: ArithOp, xs: &[i64], ys: &[i64]) ->
 }
 
 /// The results at each pair.
-pub(crate) fn uint_results(alloc: Global, op: ArithOp, xs: &[u64], ys: &[u64]) -> Result<Vec<u64>, Memory>
+pub(crate) fn uint_results(
+    alloc: Global,
+    op: ArithOp,
+    xs: &[u64],
+    ys: &[u64],
+) -> Result<Vec<u64>, Memory>
     ensures { IfOk result (λ v. v.items ≡ map (λ p. residue (exact_result op (pos p.0) (pos p.1))) (zip xs.now ys.now)) }
 {
     match op {
@@ -171,7 +198,13 @@ pub(crate) fn uint_results(alloc: Global, op: ArithOp, xs: &[u64], ys: &[u64]) -
 }
 
 /// The results at each number and one more, which is written in front where `swapped` is true.
-pub(crate) fn int_results_beside(alloc: Global, swapped: bool, op: ArithOp, xs: &[i64], y: i64) -> Result<Vec<i64>, Memory>
+pub(crate) fn int_results_beside(
+    alloc: Global,
+    swapped: bool,
+    op: ArithOp,
+    xs: &[i64],
+    y: i64,
+) -> Result<Vec<i64>, Memory>
     ensures { IfOk result (λ v. v.items ≡ map (λ x. int_wrap w64 (sided swapped (exact_result op) x y)) xs.now) }
 {
     match op {
@@ -182,7 +215,13 @@ pub(crate) fn int_results_beside(alloc: Global, swapped: bool, op: ArithOp, xs: 
 }
 
 /// The results at each number and one more, which is written in front where `swapped` is true.
-pub(crate) fn uint_results_beside(alloc: Global, swapped: bool, op: ArithOp, xs: &[u64], y: u64) -> Result<Vec<u64>, Memory>
+pub(crate) fn uint_results_beside(
+    alloc: Global,
+    swapped: bool,
+    op: ArithOp,
+    xs: &[u64],
+    y: u64,
+) -> Result<Vec<u64>, Memory>
     ensures { IfOk result (λ v. v.items ≡ map (λ x. residue (sided swapped (exact_result op) (pos x) (pos y))) xs.now) }
 {
     match op {

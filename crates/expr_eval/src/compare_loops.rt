@@ -149,7 +149,12 @@ fn each_uint_pair(alloc: Global, op: CompareOp, xs: &[u64], ys: &[u64]) -> Resul
 }
 
 #[inline(always)]
-fn each_int_uint_pair(alloc: Global, op: CompareOp, xs: &[i64], ys: &[u64]) -> Result<Vec<bool>, Memory>
+fn each_int_uint_pair(
+    alloc: Global,
+    op: CompareOp,
+    xs: &[i64],
+    ys: &[u64],
+) -> Result<Vec<bool>, Memory>
     ensures { IfOk result (λ v. v.items ≡ map (λ p. passes op (int_cmp p.0 (pos p.1))) (zip xs.now ys.now)) }
 {
     Ok(
@@ -164,37 +169,35 @@ fn each_int_uint_pair(alloc: Global, op: CompareOp, xs: &[i64], ys: &[u64]) -> R
 fn each_int_beside(alloc: Global, op: CompareOp, xs: &[i64], y: i64) -> Result<Vec<bool>, Memory>
     ensures { IfOk result (λ v. v.items ≡ map (λ x. passes op (int_cmp x y)) xs.now) }
 {
-    Ok(
-        xs.iter()
-            .map(|x| int_passes(op, *x, y))
-            .collect(alloc)?,
-    )
+    Ok(xs.iter().map(|x| int_passes(op, *x, y)).collect(alloc)?)
 }
 
 #[inline(always)]
 fn each_uint_beside(alloc: Global, op: CompareOp, xs: &[u64], y: u64) -> Result<Vec<bool>, Memory>
     ensures { IfOk result (λ v. v.items ≡ map (λ x. passes op (int_cmp (pos x) (pos y))) xs.now) }
 {
-    Ok(
-        xs.iter()
-            .map(|x| uint_passes(op, *x, y))
-            .collect(alloc)?,
-    )
+    Ok(xs.iter().map(|x| uint_passes(op, *x, y)).collect(alloc)?)
 }
 
 /// The comparison at each Int64 and a plain number that no Int64 is.
-pub(crate) fn int_far_mask(alloc: Global, op: CompareOp, xs: &[i64], n: Number) -> Result<Vec<bool>, Memory>
+pub(crate) fn int_far_mask(
+    alloc: Global,
+    op: CompareOp,
+    xs: &[i64],
+    n: Number,
+) -> Result<Vec<bool>, Memory>
     ensures { IfOk result (λ v. v.items ≡ map (λ x. passes op (int_cmp x (number_of n))) xs.now) }
 {
-    Ok(
-        xs.iter()
-            .map(|x| int_far_passes(op, *x, n))
-            .collect(alloc)?,
-    )
+    Ok(xs.iter().map(|x| int_far_passes(op, *x, n)).collect(alloc)?)
 }
 
 /// The comparison at each UInt64 and a plain number that no UInt64 is.
-pub(crate) fn uint_far_mask(alloc: Global, op: CompareOp, xs: &[u64], n: Number) -> Result<Vec<bool>, Memory>
+pub(crate) fn uint_far_mask(
+    alloc: Global,
+    op: CompareOp,
+    xs: &[u64],
+    n: Number,
+) -> Result<Vec<bool>, Memory>
     ensures { IfOk result (λ v. v.items ≡ map (λ x. passes op (int_cmp (pos x) (number_of n))) xs.now) }
 {
     Ok(
@@ -205,7 +208,12 @@ pub(crate) fn uint_far_mask(alloc: Global, op: CompareOp, xs: &[u64], n: Number)
 }
 
 /// The comparison at each pair of Int64.
-pub(crate) fn int_mask(alloc: Global, op: CompareOp, xs: &[i64], ys: &[i64]) -> Result<Vec<bool>, Memory>
+pub(crate) fn int_mask(
+    alloc: Global,
+    op: CompareOp,
+    xs: &[i64],
+    ys: &[i64],
+) -> Result<Vec<bool>, Memory>
     ensures { IfOk result (λ v. v.items ≡ map (λ p. passes op (int_cmp p.0 p.1)) (zip xs.now ys.now)) }
 {
     match op {
@@ -219,7 +227,12 @@ pub(crate) fn int_mask(alloc: Global, op: CompareOp, xs: &[i64], ys: &[i64]) -> 
 }
 
 /// The comparison at each pair of UInt64.
-pub(crate) fn uint_mask(alloc: Global, op: CompareOp, xs: &[u64], ys: &[u64]) -> Result<Vec<bool>, Memory>
+pub(crate) fn uint_mask(
+    alloc: Global,
+    op: CompareOp,
+    xs: &[u64],
+    ys: &[u64],
+) -> Result<Vec<bool>, Memory>
     ensures { IfOk result (λ v. v.items ≡ map (λ p. passes op (int_cmp (pos p.0) (pos p.1))) (zip xs.now ys.now)) }
 {
     match op {
@@ -233,7 +246,12 @@ pub(crate) fn uint_mask(alloc: Global, op: CompareOp, xs: &[u64], ys: &[u64]) ->
 }
 
 /// The comparison at each pair of an Int64 and a UInt64.
-pub(crate) fn int_uint_mask(alloc: Global, op: CompareOp, xs: &[i64], ys: &[u64]) -> Result<Vec<bool>, Memory>
+pub(crate) fn int_uint_mask(
+    alloc: Global,
+    op: CompareOp,
+    xs: &[i64],
+    ys: &[u64],
+) -> Result<Vec<bool>, Memory>
     ensures { IfOk result (λ v. v.items ≡ map (λ p. passes op (int_cmp p.0 (pos p.1))) (zip xs.now ys.now)) }
 {
     match op {
@@ -247,7 +265,12 @@ pub(crate) fn int_uint_mask(alloc: Global, op: CompareOp, xs: &[i64], ys: &[u64]
 }
 
 /// The comparison at each Int64 and one more.
-pub(crate) fn int_mask_beside(alloc: Global, op: CompareOp, xs: &[i64], y: i64) -> Result<Vec<bool>, Memory>
+pub(crate) fn int_mask_beside(
+    alloc: Global,
+    op: CompareOp,
+    xs: &[i64],
+    y: i64,
+) -> Result<Vec<bool>, Memory>
     ensures { IfOk result (λ v. v.items ≡ map (λ x. passes op (int_cmp x y)) xs.now) }
 {
     match op {
@@ -261,7 +284,12 @@ pub(crate) fn int_mask_beside(alloc: Global, op: CompareOp, xs: &[i64], y: i64) 
 }
 
 /// The comparison at each UInt64 and one more.
-pub(crate) fn uint_mask_beside(alloc: Global, op: CompareOp, xs: &[u64], y: u64) -> Result<Vec<bool>, Memory>
+pub(crate) fn uint_mask_beside(
+    alloc: Global,
+    op: CompareOp,
+    xs: &[u64],
+    y: u64,
+) -> Result<Vec<bool>, Memory>
     ensures { IfOk result (λ v. v.items ≡ map (λ x. passes op (int_cmp (pos x) (pos y))) xs.now) }
 {
     match op {
@@ -275,7 +303,12 @@ pub(crate) fn uint_mask_beside(alloc: Global, op: CompareOp, xs: &[u64], y: u64)
 }
 
 /// The comparison at each text and one more.
-pub(crate) fn text_mask_beside(alloc: Global, op: CompareOp, xs: &Texts, y: &[u8]) -> Result<Vec<bool>, Memory>
+pub(crate) fn text_mask_beside(
+    alloc: Global,
+    op: CompareOp,
+    xs: &Texts,
+    y: &[u8],
+) -> Result<Vec<bool>, Memory>
     ensures { IfOk result (λ v. v.items ≡ map (λ x. passes op (text_cmp x y.now)) xs.now) }
 {
     let mut mask = Vec::new(alloc);
@@ -287,7 +320,12 @@ pub(crate) fn text_mask_beside(alloc: Global, op: CompareOp, xs: &Texts, y: &[u8
 }
 
 /// The comparison at each pair of texts.
-pub(crate) fn text_mask(alloc: Global, op: CompareOp, xs: &Texts, ys: &Texts) -> Result<Vec<bool>, Memory>
+pub(crate) fn text_mask(
+    alloc: Global,
+    op: CompareOp,
+    xs: &Texts,
+    ys: &Texts,
+) -> Result<Vec<bool>, Memory>
     requires { length ys.now ≡ length xs.now }
     ensures { IfOk result (λ v. v.items ≡ map (λ p. passes op (text_cmp p.0 p.1)) (zip xs.now ys.now)) }
 {

@@ -60,7 +60,12 @@ fn uints_beside(alloc: Global, op: CompareOp, xs: &[u64], n: Number) -> Result<V
 }
 
 // The comparison at each value of a column of numbers and a plain number.
-fn column_beside(alloc: Global, op: CompareOp, column: &Column, n: Number) -> Result<Vec<bool>, Memory>
+fn column_beside(
+    alloc: Global,
+    op: CompareOp,
+    column: &Column,
+    n: Number,
+) -> Result<Vec<bool>, Memory>
     requires { is_text (kind_of column.now) ≡ false }
     ensures { IfOk result (λ m. m.items ≡ map (λ v. passes op (compared v (plain_value (number_of n)))) (values column.now)) }
 {
@@ -78,7 +83,12 @@ fn column_beside(alloc: Global, op: CompareOp, column: &Column, n: Number) -> Re
 }
 
 // The comparison at each Int64 and the value of a column of numbers beside it.
-fn ints_and_column(alloc: Global, op: CompareOp, xs: &[i64], right: &Column) -> Result<Vec<bool>, Memory>
+fn ints_and_column(
+    alloc: Global,
+    op: CompareOp,
+    xs: &[i64],
+    right: &Column,
+) -> Result<Vec<bool>, Memory>
     requires { is_text (kind_of right.now) ≡ false }
     ensures { IfOk result (λ m. m.items ≡ map (λ p. passes op (compared p.0 p.1)) (zip (map Value.Int xs.now) (values right.now))) }
 {
@@ -96,7 +106,12 @@ fn ints_and_column(alloc: Global, op: CompareOp, xs: &[i64], right: &Column) -> 
 }
 
 // The comparison at each UInt64 and the value of a column of numbers beside it.
-fn uints_and_column(alloc: Global, op: CompareOp, xs: &[u64], right: &Column) -> Result<Vec<bool>, Memory>
+fn uints_and_column(
+    alloc: Global,
+    op: CompareOp,
+    xs: &[u64],
+    right: &Column,
+) -> Result<Vec<bool>, Memory>
     requires { is_text (kind_of right.now) ≡ false }
     ensures { IfOk result (λ m. m.items ≡ map (λ p. passes op (compared p.0 p.1)) (zip (map Value.UInt xs.now) (values right.now))) }
 {
@@ -136,7 +151,13 @@ fn columns(alloc: Global, op: CompareOp, left: &Column, right: &Column) -> Resul
 }
 
 // The comparison of an expression and a plain number at each row.
-fn number_compared(alloc: Global, op: CompareOp, expr: &Expr, n: Number, chunk: &Chunk) -> Result<Vec<bool>, Memory>
+fn number_compared(
+    alloc: Global,
+    op: CompareOp,
+    expr: &Expr,
+    n: Number,
+    chunk: &Chunk,
+) -> Result<Vec<bool>, Memory>
     requires typed { IsTyped chunk.now.types expr.now }
     requires not_plain { plain_of expr.now ≡ None }
     requires not_text { is_text (type_of expr.now chunk.now.types) ≡ false }
@@ -148,7 +169,13 @@ fn number_compared(alloc: Global, op: CompareOp, expr: &Expr, n: Number, chunk: 
 }
 
 // The comparison of two expressions, neither of which is a plain number, at each row.
-fn expressions_compared(alloc: Global, op: CompareOp, left: &Expr, right: &Expr, chunk: &Chunk) -> Result<Vec<bool>, Memory>
+fn expressions_compared(
+    alloc: Global,
+    op: CompareOp,
+    left: &Expr,
+    right: &Expr,
+    chunk: &Chunk,
+) -> Result<Vec<bool>, Memory>
     requires left { IsTyped chunk.now.types left.now }
     requires right { IsTyped chunk.now.types right.now }
     requires left_not_plain { plain_of left.now ≡ None }
@@ -165,7 +192,13 @@ fn expressions_compared(alloc: Global, op: CompareOp, left: &Expr, right: &Expr,
 }
 
 // The comparison of a plain number and an expression at each row.
-fn plain_compared(alloc: Global, op: CompareOp, n: Number, right: &Expr, chunk: &Chunk) -> Result<Vec<bool>, Memory>
+fn plain_compared(
+    alloc: Global,
+    op: CompareOp,
+    n: Number,
+    right: &Expr,
+    chunk: &Chunk,
+) -> Result<Vec<bool>, Memory>
     requires right { IsTyped chunk.now.types right.now }
     requires not_text { is_text (type_of right.now chunk.now.types) ≡ false }
     ensures { IfOk result (λ m. m.items ≡ map (λ row. passes op (compared (plain_value (number_of n)) (value_of right.now row))) chunk.now.rows) }
@@ -183,7 +216,13 @@ fn plain_compared(alloc: Global, op: CompareOp, n: Number, right: &Expr, chunk: 
 }
 
 // The comparison of two expressions at each row.
-fn plain_operands(alloc: Global, op: CompareOp, left: &Expr, right: &Expr, chunk: &Chunk) -> Result<Vec<bool>, Memory>
+fn plain_operands(
+    alloc: Global,
+    op: CompareOp,
+    left: &Expr,
+    right: &Expr,
+    chunk: &Chunk,
+) -> Result<Vec<bool>, Memory>
     requires left { IsTyped chunk.now.types left.now }
     requires right { IsTyped chunk.now.types right.now }
     requires alike { is_text (type_of left.now chunk.now.types) ≡ is_text (type_of right.now chunk.now.types) }
@@ -208,7 +247,13 @@ fn plain_operands(alloc: Global, op: CompareOp, left: &Expr, right: &Expr, chunk
 }
 
 // The comparison of a Text column and a text at each row.
-fn text_compared(alloc: Global, op: CompareOp, expr: &Expr, text: &Bytes, chunk: &Chunk) -> Result<Vec<bool>, Memory>
+fn text_compared(
+    alloc: Global,
+    op: CompareOp,
+    expr: &Expr,
+    text: &Bytes,
+    chunk: &Chunk,
+) -> Result<Vec<bool>, Memory>
     requires typed { IsTyped chunk.now.types expr.now }
     requires is_text { type_of expr.now chunk.now.types ≡ ColumnType.Text }
     ensures { IfOk result (λ m. m.items ≡ map (λ row. passes op (compared (value_of expr.now row) (Value.Text text.now))) chunk.now.rows) }
@@ -225,7 +270,13 @@ fn text_compared(alloc: Global, op: CompareOp, expr: &Expr, text: &Bytes, chunk:
 }
 
 // The comparison of an operand and a text at each row.
-fn beside_text(alloc: Global, op: CompareOp, left: &Operand<u32>, text: &Bytes, chunk: &Chunk) -> Result<Vec<bool>, Memory>
+fn beside_text(
+    alloc: Global,
+    op: CompareOp,
+    left: &Operand<u32>,
+    text: &Bytes,
+    chunk: &Chunk,
+) -> Result<Vec<bool>, Memory>
     requires typed { IsTypedOperand chunk.now.types left.now }
     requires is_text { operand_type left.now chunk.now.types ≡ ColumnType.Text }
     ensures { IfOk result (λ m. m.items ≡ map (λ row. passes op (compared (operand_value left.now row) (Value.Text text.now))) chunk.now.rows) }
@@ -236,7 +287,11 @@ fn beside_text(alloc: Global, op: CompareOp, left: &Operand<u32>, text: &Bytes, 
             Ok(mask)
         }
         Operand::Text(bytes) => {
-            let mask = filled(alloc, text_passes(op, bytes.as_slice(), text.as_slice()), chunk.rows())?;
+            let mask = filled(
+                alloc,
+                text_passes(op, bytes.as_slice(), text.as_slice()),
+                chunk.rows(),
+            )?;
             Ok(mask)
         }
         Operand::Agg(_) => unreachable!(),
@@ -244,7 +299,13 @@ fn beside_text(alloc: Global, op: CompareOp, left: &Operand<u32>, text: &Bytes, 
 }
 
 // The comparison of an operand and an expression at each row.
-fn beside_expression(alloc: Global, op: CompareOp, left: &Operand<u32>, right: &Expr, chunk: &Chunk) -> Result<Vec<bool>, Memory>
+fn beside_expression(
+    alloc: Global,
+    op: CompareOp,
+    left: &Operand<u32>,
+    right: &Expr,
+    chunk: &Chunk,
+) -> Result<Vec<bool>, Memory>
     requires left { IsTypedOperand chunk.now.types left.now }
     requires right { IsTyped chunk.now.types right.now }
     requires alike { is_text (operand_type left.now chunk.now.types) ≡ is_text (type_of right.now chunk.now.types) }
@@ -264,7 +325,13 @@ fn beside_expression(alloc: Global, op: CompareOp, left: &Operand<u32>, right: &
 }
 
 // The comparison of two operands at each row.
-fn compare(alloc: Global, op: CompareOp, left: &Operand<u32>, right: &Operand<u32>, chunk: &Chunk) -> Result<Vec<bool>, Memory>
+fn compare(
+    alloc: Global,
+    op: CompareOp,
+    left: &Operand<u32>,
+    right: &Operand<u32>,
+    chunk: &Chunk,
+) -> Result<Vec<bool>, Memory>
     requires left { IsTypedOperand chunk.now.types left.now }
     requires right { IsTypedOperand chunk.now.types right.now }
     requires alike { is_text (operand_type left.now chunk.now.types) ≡ is_text (operand_type right.now chunk.now.types) }

@@ -47,7 +47,13 @@ pub(crate) fn plain_number(expr: &Expr) -> Option<Number>
 }
 
 // The operator at each Int64 and one number.
-fn int_beside(alloc: Global, swapped: bool, op: ArithOp, xs: &[i64], y: i64) -> Result<Column, Memory>
+fn int_beside(
+    alloc: Global,
+    swapped: bool,
+    op: ArithOp,
+    xs: &[i64],
+    y: i64,
+) -> Result<Column, Memory>
     ensures kind { IfOk result (λ c. kind_of c ≡ ColumnType.Int64) }
     ensures values { IfOk result (λ c. values c ≡ map (λ v. sided swapped (arith_value op) v (plain_value y)) (map Value.Int xs.now)) }
 {
@@ -58,7 +64,13 @@ fn int_beside(alloc: Global, swapped: bool, op: ArithOp, xs: &[i64], y: i64) -> 
 }
 
 // The operator at each UInt64 and one number.
-fn uint_beside(alloc: Global, swapped: bool, op: ArithOp, xs: &[u64], y: u64) -> Result<Column, Memory>
+fn uint_beside(
+    alloc: Global,
+    swapped: bool,
+    op: ArithOp,
+    xs: &[u64],
+    y: u64,
+) -> Result<Column, Memory>
     ensures kind { IfOk result (λ c. kind_of c ≡ result_type op ColumnType.UInt64) }
     ensures values { IfOk result (λ c. values c ≡ map (λ v. sided swapped (arith_value op) v (Value.UInt y)) (map Value.UInt xs.now)) }
 {
@@ -75,7 +87,13 @@ fn uint_beside(alloc: Global, swapped: bool, op: ArithOp, xs: &[u64], y: u64) ->
 }
 
 // The operator at each value and a plain number, which is written in front where `swapped` is true.
-fn beside(alloc: Global, swapped: bool, op: ArithOp, column: &Column, n: Number) -> Result<Column, Memory>
+fn beside(
+    alloc: Global,
+    swapped: bool,
+    op: ArithOp,
+    column: &Column,
+    n: Number,
+) -> Result<Column, Memory>
     requires { CanHold (kind_of column.now) (number_of n) }
     ensures kind { IfOk result (λ c. kind_of c ≡ result_type op (kind_of column.now)) }
     ensures values { IfOk result (λ c. values c ≡ map (λ v. sided swapped (arith_value op) v (plain_value (number_of n))) (values column.now)) }
@@ -147,7 +165,15 @@ pub(crate) fn column_at<'a>(expr: &Expr, made: &'a Option<Column>, chunk: &'a Ch
 
 // The operator at the values of an expression and a plain number, which is written in front where `swapped` is
 // true.
-fn number_beside(alloc: Global, swapped: bool, op: ArithOp, n: Number, expr: &Expr, made: Option<Column>, chunk: &Chunk) -> Result<Column, Memory>
+fn number_beside(
+    alloc: Global,
+    swapped: bool,
+    op: ArithOp,
+    n: Number,
+    expr: &Expr,
+    made: Option<Column>,
+    chunk: &Chunk,
+) -> Result<Column, Memory>
     requires typed { IsTyped chunk.now.types expr.now }
     requires not_plain { plain_of expr.now ≡ None }
     requires made { IsMade expr.now chunk.now made }
@@ -160,7 +186,15 @@ fn number_beside(alloc: Global, swapped: bool, op: ArithOp, n: Number, expr: &Ex
 }
 
 // The operator at the values of two expressions, neither of which is a plain number.
-fn expressions(alloc: Global, op: ArithOp, left: &Expr, left_made: Option<Column>, right: &Expr, right_made: Option<Column>, chunk: &Chunk) -> Result<Column, Memory>
+fn expressions(
+    alloc: Global,
+    op: ArithOp,
+    left: &Expr,
+    left_made: Option<Column>,
+    right: &Expr,
+    right_made: Option<Column>,
+    chunk: &Chunk,
+) -> Result<Column, Memory>
     requires left { IsTyped chunk.now.types left.now }
     requires right { IsTyped chunk.now.types right.now }
     requires left_not_plain { plain_of left.now ≡ None }
@@ -178,7 +212,15 @@ fn expressions(alloc: Global, op: ArithOp, left: &Expr, left_made: Option<Column
 }
 
 // The operator at the values of two expressions.
-fn arith(alloc: Global, op: ArithOp, left: &Expr, left_made: Option<Column>, right: &Expr, right_made: Option<Column>, chunk: &Chunk) -> Result<Column, Memory>
+fn arith(
+    alloc: Global,
+    op: ArithOp,
+    left: &Expr,
+    left_made: Option<Column>,
+    right: &Expr,
+    right_made: Option<Column>,
+    chunk: &Chunk,
+) -> Result<Column, Memory>
     requires left { IsTyped chunk.now.types left.now }
     requires right { IsTyped chunk.now.types right.now }
     requires alike { AreAlike (plain_of left.now) (type_of left.now chunk.now.types) (plain_of right.now) (type_of right.now chunk.now.types) }

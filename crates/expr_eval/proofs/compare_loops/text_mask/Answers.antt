@@ -1,4 +1,4 @@
-use Rattle.std.proofs.Common.{refl, ◌≡◌, ◌++◌, ◌∷◌, [], rules, arith, get_or}
+use Rattle.std.proofs.Common.{◌≡◌, ◌++◌, ◌∷◌, [], rules, arith, get_or}
 use Rattle.chunk_data.specs.Values.{text_cmp}
 use Rattle.query_model.specs.Expressions.{passes}
 use Rattle.expr_eval.proofs.Onto.{mask_more}

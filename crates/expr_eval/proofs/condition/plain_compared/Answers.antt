@@ -1,15 +1,11 @@
-use Rattle.std.proofs.Common.{refl, ap, sym, ◌∙◌, ◌≡◌, ◌<◌, length, map, pos, Some, None, rules, arith, false, get_or}
+use Rattle.std.proofs.Common.{ap, sym, ◌∙◌, ◌≡◌, Some}
 use Rattle.std.specs.Ordering.{int_cmp}
-use Rattle.chunk_data.specs.Values.{text_cmp, value_at}
-use Rattle.chunk_data.specs.Columns.{values, kind_of}
-use Rattle.chunk_data.specs.declared.typed_value.Value.TheVariants.{Int, UInt, Text}
-use Rattle.query_model.specs.Expressions.{value_of, type_of, operand_value, truth_of, plain_value, number_of, passes, compared}
-use Rattle.expr_eval.specs.Typing.{plain_of, is_text}
+use Rattle.query_model.specs.Expressions.{value_of, plain_value, number_of, passes, compared}
+use Rattle.expr_eval.specs.Typing.{plain_of}
 use Rattle.expr_eval.specs.Results.{flipped}
-use Rattle.expr_eval.proofs.Onto.{zip_turned, same_maps, same_value, each_is, pairs_are}
-use Rattle.expr_eval.proofs.Applied.{masked_one, masked_pairs}
-use Rattle.expr_eval.proofs.Operands.{plain_value_of, plain_type_of, arith_not_text}
-use Rattle.expr_eval.proofs.Comparisons.{turned, int_compared, uint_compared, plains_compared, plain_is_number}
+use Rattle.expr_eval.proofs.Onto.{same_maps, same_value}
+use Rattle.expr_eval.proofs.Operands.{plain_value_of}
+use Rattle.expr_eval.proofs.Comparisons.{turned, plains_compared}
 use Rattle.expr_eval.proofs.condition.plain_compared.Goals as goal
 
 pub returns-in_ok-mask-in-None : goal.returns-in_ok-mask-in-None
@@ -23,4 +19,4 @@ returns-in_ok-mask-in-Some c =
     let h = rw (c.rows.ensures.count, c.numbers_pass.ensures) at c.in_ok-mask-in-Some.ensures in
     h ∙ same_value (passes c.args.op (int_cmp (number_of c.args.n) (number_of c.in-Some.k))) c.args.chunk.now.rows
     ∙ same_maps (λ row. passes c.args.op (int_cmp (number_of c.args.n) (number_of c.in-Some.k))) (λ row. passes c.args.op (compared (plain_value (number_of c.args.n)) (value_of c.args.right.now row))) c.args.chunk.now.rows
-      (λ row. ap (passes c.args.op) (sym (ap (λ v. compared (plain_value (number_of c.args.n)) v) (plain_value_of c.args.right.now _ row e) ∙ plains_compared (number_of c.args.n) (number_of c.in-Some.k))))
+    (λ row. ap (passes c.args.op) (sym (ap (λ v. compared (plain_value (number_of c.args.n)) v) (plain_value_of c.args.right.now _ row e) ∙ plains_compared (number_of c.args.n) (number_of c.in-Some.k))))

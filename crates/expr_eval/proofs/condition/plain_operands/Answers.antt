@@ -1,15 +1,9 @@
-use Rattle.std.proofs.Common.{refl, ap, sym, ◌∙◌, ◌≡◌, ◌<◌, length, map, pos, Some, None, rules, arith, false, get_or}
-use Rattle.std.specs.Ordering.{int_cmp}
-use Rattle.chunk_data.specs.Values.{text_cmp, value_at}
-use Rattle.chunk_data.specs.Columns.{values, kind_of}
-use Rattle.chunk_data.specs.declared.typed_value.Value.TheVariants.{Int, UInt, Text}
-use Rattle.query_model.specs.Expressions.{value_of, type_of, operand_value, truth_of, plain_value, number_of, passes, compared}
+use Rattle.std.proofs.Common.{ap, sym, ◌∙◌, ◌≡◌, Some}
+use Rattle.query_model.specs.Expressions.{value_of, plain_value, number_of, passes, compared}
 use Rattle.expr_eval.specs.Typing.{plain_of, is_text}
-use Rattle.expr_eval.specs.Results.{flipped}
-use Rattle.expr_eval.proofs.Onto.{zip_turned, same_maps, same_value, each_is, pairs_are}
-use Rattle.expr_eval.proofs.Applied.{masked_one, masked_pairs}
-use Rattle.expr_eval.proofs.Operands.{plain_value_of, plain_type_of, arith_not_text}
-use Rattle.expr_eval.proofs.Comparisons.{turned, int_compared, uint_compared, plains_compared, plain_is_number}
+use Rattle.expr_eval.proofs.Onto.{same_maps}
+use Rattle.expr_eval.proofs.Operands.{plain_value_of, plain_type_of}
+use Rattle.expr_eval.proofs.Comparisons.{plain_is_number}
 use Rattle.expr_eval.proofs.condition.plain_operands.Goals as goal
 
 pub plain_compared-requires-clause-not_text : goal.plain_compared-requires-clause-not_text

@@ -1,4 +1,3 @@
-use Rattle.std.proofs.Common.{refl, rules, ◌∙◌}
 use Rattle.query_model.specs.Expressions.{value_of, type_of}
 use Rattle.expr_eval.proofs.expression.+made.Goals as goal
 

@@ -1,9 +1,9 @@
-use Rattle.std.proofs.Common.{refl, ap, sym, ◌∙◌, ◌≡◌, Some, None, rules}
+use Rattle.std.proofs.Common.{ap, sym, ◌∙◌, ◌≡◌, Some, None}
 use Rattle.query_model.specs.Expressions.{value_of, type_of, arith_value, number_of, plain_value}
 use Rattle.expr_eval.specs.Typing.{plain_of}
 use Rattle.expr_eval.specs.Results.{arith_type}
 use Rattle.expr_eval.proofs.Onto.{same_maps}
-use Rattle.expr_eval.proofs.Operands.{plain_before, plain_behind, neither_plain, plain_value_of, plain_type_of, type_before, type_behind, types_alike}
+use Rattle.expr_eval.proofs.Operands.{plain_before, plain_behind, plain_value_of, plain_type_of, type_before, type_behind}
 use Rattle.expr_eval.proofs.expression.arith.Goals as goal
 
 pub returns-in_ok-column-in-Some-clause-kind : goal.returns-in_ok-column-in-Some-clause-kind

@@ -1,9 +1,9 @@
-use Rattle.std.proofs.Common.{refl, pos, ◌-ℤ◌, ◌∙◌, sym, ap}
+use Rattle.std.proofs.Common.{◌∙◌}
 use Rattle.std.proofs.lemmas.Int.{to_z-of_z}
 use Rattle.std.specs.Int.{int_wrap, w64}
-use Rattle.chunk_data.specs.declared.typed_value.Value.TheVariants.{Int, UInt}
+use Rattle.chunk_data.specs.declared.typed_value.Value.TheVariants.{Int}
 use Rattle.query_model.specs.Expressions.{arith_value, plain_value, exact_result}
-use Rattle.expr_eval.specs.Results.{residue, sided, result_type}
+use Rattle.expr_eval.specs.Results.{sided}
 use Rattle.expr_eval.proofs.Applied.{under_one, int_beside_at}
 use Rattle.expr_eval.proofs.expression.int_beside.Goals as goal
 

@@ -1,8 +1,7 @@
-use Rattle.std.proofs.Common.{refl, pos, ◌-ℤ◌, ◌∙◌, sym, ap}
+use Rattle.std.proofs.Common.{refl, ◌∙◌}
 use Rattle.std.specs.Int.{int_wrap, w64}
-use Rattle.chunk_data.specs.declared.typed_value.Value.TheVariants.{Int, UInt}
-use Rattle.query_model.specs.Expressions.{arith_value, plain_value, exact_result}
-use Rattle.expr_eval.specs.Results.{residue, sided, result_type}
+use Rattle.chunk_data.specs.declared.typed_value.Value.TheVariants.{Int}
+use Rattle.query_model.specs.Expressions.{arith_value, exact_result}
 use Rattle.expr_eval.proofs.Onto.{under}
 use Rattle.expr_eval.proofs.Applied.{int_pair_at}
 use Rattle.expr_eval.proofs.expression.int_pairs.Goals as goal
