@@ -5,6 +5,8 @@ mod arith_loops;
 mod compare_loops;
 mod condition;
 mod expression;
+mod type_test;
 
 pub use condition::mask;
 pub use expression::eval;
+pub use type_test::{is_typed, is_typed_cond};
