@@ -5,6 +5,8 @@ mod arith_loops;
 mod compare_loops;
 mod condition;
 mod expression;
+#[cfg(test)]
+mod tests;
 mod type_test;
 
 pub use condition::mask;
