@@ -1,0 +1,78 @@
+-- Operators on numbers are those on values.
+use Rattle.std.proofs.Common.{◌≡◌, ℕ, Bool, true, false, List, map, refl, ap, sym, ◌∙◌, ℤ, pos, negsuc, ◌-ℤ◌}
+use Rattle.std.specs.Int.{int_wrap, w64}
+use Rattle.chunk_data.specs.declared.typed_value.Value.TheVariants.{Int, UInt}
+use Rattle.chunk_data.specs.declared.typed_value.ColumnType.TheVariants as column
+use Rattle.query_model.specs.declared.query.ArithOp.{ArithOp}
+use Rattle.query_model.specs.declared.query.ArithOp.TheVariants.{Add, Sub, Mul}
+use Rattle.query_model.specs.Numbers.{wrapped}
+use Rattle.query_model.specs.Expressions.{exact_result, arith_value, plain_value}
+use Rattle.expr_eval.specs.Results.{residue, sided, result_type}
+use Rattle.std.specs.List.{zip}
+use Rattle.expr_eval.proofs.Onto.{map-map, same_maps, zip-map}
+
+-- one list under a constructor
+pub under_one : {A X Z W : Type 0} (f : A → X) (w : Z → W) (h : X → W) (k : A → Z) (us : List A) {zs : List Z} → zs ≡ map k us → ((a : A) → h (f a) ≡ w (k a)) → map w zs ≡ map h (map f us)
+under_one f w h k us e q =
+    ap (λ l. map w l) e ∙ map-map w k us ∙ same_maps (λ a. w (k a)) (λ a. h (f a)) us (λ a. sym (q a)) ∙ sym (map-map h f us)
+
+pub int_pair_at : (op : ArithOp) (x y : ℤ) → arith_value op (Int x) (Int y) ≡ Int (int_wrap w64 (exact_result op x y))
+unfolding wrapped
+int_pair_at Add x y = refl
+int_pair_at Sub x y = refl
+int_pair_at Mul x y = refl
+
+pub uint_pair_at : (op : ArithOp) (x y : ℕ) → (op ≡ Sub → ⊥) → arith_value op (UInt x) (UInt y) ≡ UInt (residue (exact_result op (pos x) (pos y)))
+unfolding wrapped
+uint_pair_at Add x y not = refl
+uint_pair_at Sub x y not = absurd (not refl)
+uint_pair_at Mul x y not = refl
+
+pub uint_difference_at : (op : ArithOp) (x y : ℕ) → op ≡ Sub → arith_value op (UInt x) (UInt y) ≡ Int (int_wrap w64 (pos x -ℤ pos y))
+unfolding wrapped
+uint_difference_at op x y e = rw e refl
+
+pub uint_type : (op : ArithOp) → (op ≡ Sub → ⊥) → result_type op column.UInt64 ≡ column.UInt64
+uint_type Add not = refl
+uint_type Sub not = absurd (not refl)
+uint_type Mul not = refl
+
+int_before_plain : (op : ArithOp) (x z : ℤ) → arith_value op (Int x) (plain_value z) ≡ Int (int_wrap w64 (exact_result op x z))
+unfolding wrapped
+int_before_plain Add x (pos n) = refl
+int_before_plain Add x (negsuc n) = refl
+int_before_plain Sub x (pos n) = refl
+int_before_plain Sub x (negsuc n) = refl
+int_before_plain Mul x (pos n) = refl
+int_before_plain Mul x (negsuc n) = refl
+
+int_behind_plain : (op : ArithOp) (x z : ℤ) → arith_value op (plain_value z) (Int x) ≡ Int (int_wrap w64 (exact_result op z x))
+unfolding wrapped
+int_behind_plain Add x (pos n) = refl
+int_behind_plain Add x (negsuc n) = refl
+int_behind_plain Sub x (pos n) = refl
+int_behind_plain Sub x (negsuc n) = refl
+int_behind_plain Mul x (pos n) = refl
+int_behind_plain Mul x (negsuc n) = refl
+
+pub int_beside_at : (swapped : Bool) (op : ArithOp) (x z : ℤ) → sided swapped (arith_value op) (Int x) (plain_value z) ≡ Int (int_wrap w64 (sided swapped (exact_result op) x z))
+int_beside_at false op x z = int_before_plain op x z
+int_beside_at true op x z = int_behind_plain op x z
+
+pub uint_beside_at : (swapped : Bool) (op : ArithOp) (x y : ℕ) → (op ≡ Sub → ⊥) → sided swapped (arith_value op) (UInt x) (UInt y) ≡ UInt (residue (sided swapped (exact_result op) (pos x) (pos y)))
+uint_beside_at false op x y not = uint_pair_at op x y not
+uint_beside_at true op x y not = uint_pair_at op y x not
+
+pub uint_difference_beside_at : (swapped : Bool) (op : ArithOp) (x y : ℕ) → op ≡ Sub → sided swapped (arith_value op) (UInt x) (UInt y) ≡ Int (int_wrap w64 (sided swapped (λ a b. a -ℤ b) (pos x) (pos y)))
+uint_difference_beside_at false op x y e = uint_difference_at op x y e
+uint_difference_beside_at true op x y e = uint_difference_at op y x e
+
+-- what one list gives, seen under a constructor
+pub masked_one : {A X Z : Type 0} (f : A → X) (h : X → Z) (k : A → Z) (us : List A) {zs : List Z} {xs : List X} → zs ≡ map k us → xs ≡ map f us → ((a : A) → h (f a) ≡ k a) → zs ≡ map h xs
+masked_one f h k us e x q = e ∙ same_maps k (λ a. h (f a)) us (λ a. sym (q a)) ∙ sym (map-map h f us) ∙ ap (λ l. map h l) (sym x)
+
+-- what two lists give, each seen under a constructor
+pub masked_pairs : {A B X Y Z : Type 0} (f : A → X) (g : B → Y) (h : X → Y → Z) (k : A → B → Z) (us : List A) (bs : List B) {zs : List Z} {xs : List X} {ys : List Y} → zs ≡ map (λ p. k p.0 p.1) (zip us bs) → xs ≡ map f us → ys ≡ map g bs → ((a : A) (b : B) → h (f a) (g b) ≡ k a b) → zs ≡ map (λ p. h p.0 p.1) (zip xs ys)
+masked_pairs f g h k us bs {xs = xs} e x y q =
+    e ∙ same_maps (λ p. k p.0 p.1) (λ p. h (f p.0) (g p.1)) (zip us bs) (λ p. sym (q p.0 p.1))
+    ∙ sym (zip-map f g (λ p. h p.0 p.1) us bs) ∙ ap (λ l. map (λ p. h p.0 p.1) (zip l (map g bs))) (sym x) ∙ ap (λ l. map (λ p. h p.0 p.1) (zip xs l)) (sym y)

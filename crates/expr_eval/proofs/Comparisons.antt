@@ -1,0 +1,73 @@
+-- Comparisons on numbers and texts are those on values.
+use Rattle.std.proofs.Common.{◌≡◌, ℕ, false, refl, ap, ◌∙◌, ℤ, pos, negsuc}
+use Rattle.std.specs.Ordering.{int_cmp, ordering_reverse}
+use Rattle.std.specs.declared.cmp.Ordering.{Ordering}
+use Rattle.std.specs.declared.cmp.Ordering.TheVariants.{Less, Equal, Greater}
+use Rattle.std.proofs.lemmas.Cmp.{nat_list_cmp_total}
+use Rattle.std.specs.Cmp.{int_cmp_total}
+use Rattle.chunk_data.specs.Values.{type_of as type_of_value}
+use Rattle.chunk_data.specs.declared.typed_value.Value.{Value}
+use Rattle.chunk_data.specs.declared.typed_value.Value.TheVariants.{Int, UInt, Text}
+use Rattle.query_model.specs.declared.query.CompareOp.{CompareOp}
+use Rattle.query_model.specs.declared.query.CompareOp.TheVariants.{Eq, Ne, Lt, Le, Gt, Ge}
+use Rattle.query_model.specs.Numbers.{exact}
+use Rattle.query_model.specs.Expressions.{compared, passes, plain_value}
+use Rattle.expr_eval.specs.Typing.{is_text}
+use Rattle.expr_eval.specs.Results.{flipped}
+
+passes-reverse : (op : CompareOp) (o : Ordering) → passes (flipped op) (ordering_reverse o) ≡ passes op o
+passes-reverse Eq Less = refl
+passes-reverse Eq Equal = refl
+passes-reverse Eq Greater = refl
+passes-reverse Ne Less = refl
+passes-reverse Ne Equal = refl
+passes-reverse Ne Greater = refl
+passes-reverse Lt Less = refl
+passes-reverse Lt Equal = refl
+passes-reverse Lt Greater = refl
+passes-reverse Le Less = refl
+passes-reverse Le Equal = refl
+passes-reverse Le Greater = refl
+passes-reverse Gt Less = refl
+passes-reverse Gt Equal = refl
+passes-reverse Gt Greater = refl
+passes-reverse Ge Less = refl
+passes-reverse Ge Equal = refl
+passes-reverse Ge Greater = refl
+
+compared-reverse : (a b : Value) → compared b a ≡ ordering_reverse (compared a b)
+compared-reverse (Text a) (Text b) = nat_list_cmp_total.antisymm b a
+compared-reverse (Text a) (Int b) = int_cmp_total.antisymm b (pos 0)
+compared-reverse (Text a) (UInt b) = int_cmp_total.antisymm (pos b) (pos 0)
+compared-reverse (Int a) (Text b) = int_cmp_total.antisymm (pos 0) a
+compared-reverse (Int a) (Int b) = int_cmp_total.antisymm b a
+compared-reverse (Int a) (UInt b) = int_cmp_total.antisymm (pos b) a
+compared-reverse (UInt a) (Text b) = int_cmp_total.antisymm (pos 0) (pos a)
+compared-reverse (UInt a) (Int b) = int_cmp_total.antisymm b (pos a)
+compared-reverse (UInt a) (UInt b) = int_cmp_total.antisymm (pos b) (pos a)
+
+-- a comparison turned round
+pub turned : (op : CompareOp) (a b : Value) → passes (flipped op) (compared b a) ≡ passes op (compared a b)
+turned op a b = ap (passes (flipped op)) (compared-reverse a b) ∙ passes-reverse op (compared a b)
+
+pub exact_plain : (z : ℤ) → exact (plain_value z) ≡ z
+exact_plain (pos n) = refl
+exact_plain (negsuc n) = refl
+
+pub int_compared : (x z : ℤ) → compared (Int x) (plain_value z) ≡ int_cmp x z
+int_compared x (pos n) = refl
+int_compared x (negsuc n) = refl
+
+pub uint_compared : (x : ℕ) (z : ℤ) → compared (UInt x) (plain_value z) ≡ int_cmp (pos x) z
+uint_compared x (pos n) = refl
+uint_compared x (negsuc n) = refl
+
+pub plains_compared : (y z : ℤ) → compared (plain_value y) (plain_value z) ≡ int_cmp y z
+plains_compared (pos m) (pos n) = refl
+plains_compared (pos m) (negsuc n) = refl
+plains_compared (negsuc m) (pos n) = refl
+plains_compared (negsuc m) (negsuc n) = refl
+
+pub plain_is_number : (z : ℤ) → is_text (type_of_value (plain_value z)) ≡ false
+plain_is_number (pos n) = refl
+plain_is_number (negsuc n) = refl

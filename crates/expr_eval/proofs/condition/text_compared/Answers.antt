@@ -1,0 +1,34 @@
+use Rattle.std.proofs.Common.{refl, ap, ◌∙◌, ◌<◌, length}
+use Rattle.chunk_data.specs.Values.{text_cmp, value_at}
+use Rattle.chunk_data.specs.declared.typed_value.Value.TheVariants.{Text}
+use Rattle.query_model.specs.Expressions.{value_of, type_of, number_of, passes, compared}
+use Rattle.expr_eval.specs.Typing.{is_text}
+use Rattle.expr_eval.proofs.Onto.{each_is}
+use Rattle.expr_eval.proofs.Applied.{masked_one}
+use Rattle.expr_eval.proofs.Operands.{arith_not_text}
+use Rattle.expr_eval.proofs.Comparisons.{plain_is_number}
+use Rattle.expr_eval.proofs.condition.text_compared.Goals as goal
+use Rattle.std.proofs.lemmas.List.{get_or_default}
+
+pub texts-requires : goal.texts-requires
+unfolding type_of
+texts-requires c =
+    let lt : c.in-Column.c < length c.args.chunk.now.types = rw c.in-Column.is at c.requires.typed in
+    c.column-column.ensures.kind ∙ get_or_default c.args.chunk.now.types c.in-Column.c _ _ lt ∙ (rw c.in-Column.is at c.requires.is_text)
+
+pub unreachable-requires : goal.unreachable-requires
+unfolding type_of
+unreachable-requires c =
+    let e = ap is_text (rw c.in-Number.is at c.requires.is_text) in
+    let f = plain_is_number (number_of c.in-Number.field-0) in absurd cc
+
+pub unreachable-requires-in-Arith : goal.unreachable-requires-in-Arith
+unfolding type_of
+unreachable-requires-in-Arith c = arith_not_text _ (rw c.in-Arith.is at c.requires.is_text)
+
+pub returns : goal.returns
+unfolding value_of
+returns c =
+    each_is (λ v. passes c.args.op (compared v (Text c.args.text.now))) (λ row. value_at row c.in-Column.c) (λ row. passes c.args.op (compared (value_of c.args.expr.now row) (Text c.args.text.now))) c.args.chunk.now.rows
+    (masked_one Text (λ v. passes c.args.op (compared v (Text c.args.text.now))) (λ x. passes c.args.op (text_cmp x c.args.text.now)) c.texts.result.now (rw c.as_slice.ensures at c.in_ok-mask-in-Column.ensures) c.texts.ensures (λ x. refl))
+    c.column-column.ensures.values (λ row. rw c.in-Column.is refl)

@@ -1,0 +1,12 @@
+use Rattle.std.proofs.Common.{◌∙◌}
+use Rattle.std.proofs.lemmas.Int.{to_z-of_z}
+use Rattle.std.specs.Int.{int_wrap, w64}
+use Rattle.chunk_data.specs.declared.typed_value.Value.TheVariants.{Int}
+use Rattle.query_model.specs.Expressions.{arith_value, plain_value, exact_result}
+use Rattle.expr_eval.specs.Results.{sided}
+use Rattle.expr_eval.proofs.Applied.{under_one, int_beside_at}
+use Rattle.expr_eval.proofs.expression.int_beside.Goals as goal
+
+pub returns-in-Ok-clause-values : goal.returns-in-Ok-clause-values
+returns-in-Ok-clause-values c =
+    c.of_ints.ensures.values ∙ under_one Int Int (λ v. sided c.args.swapped (arith_value c.args.op) v (plain_value c.args.y)) (λ x. int_wrap w64 (sided c.args.swapped (exact_result c.args.op) x c.args.y)) c.args.xs.now (rw (to_z-of_z w64 c.args.y c.ranges.y) at c.in-Ok.ensures) (λ x. int_beside_at c.args.swapped c.args.op x c.args.y)

@@ -1,0 +1,47 @@
+-- What operators give at each pair of values.
+use Rattle.std.specs.Prelude.{◌≡◌, ℕ, ◌^◌, ℤ, pos, unsigned_abs, Bool, true, false, map, Option, Some, None, if◌then◌else◌}
+use Rattle.std.specs.Int.{int_rem_euclid}
+use Rattle.chunk_data.specs.Values.{Table}
+use Rattle.chunk_data.specs.Columns.{kind_of, values}
+use Rattle.chunk_data.specs.declared.typed_value.ColumnType.{ColumnType}
+use Rattle.chunk_data.specs.declared.typed_value.ColumnType.TheVariants as column
+use Rattle.chunk_data.specs.declared.typed_column.Column.{Column}
+use Rattle.query_model.specs.declared.query.ArithOp.{ArithOp}
+use Rattle.query_model.specs.declared.query.CompareOp.{CompareOp}
+use Rattle.query_model.specs.declared.query.CompareOp.TheVariants as compare
+use Rattle.query_model.specs.declared.query.ExprOf.TheVariants as expr
+use Rattle.query_model.specs.Expressions.{Expr, value_of, type_of, gives_uint, is_uint_column}
+
+-- the number from 0 to 2 ^ 64 - 1 that equals z modulo 2 ^ 64
+abbrev pub residue : ℤ → ℕ
+residue z = unsigned_abs (int_rem_euclid z (pos (2 ^ 64)))
+
+-- the operator at two operands, the second of which is written in front where `swapped` is true
+abbrev pub sided : {X Y : Type 0} → Bool → (X → X → Y) → X → X → Y
+sided false f x y = f x y
+sided true f x y = f y x
+
+-- the type of the result of an operator at operands of these types
+abbrev pub arith_type : ArithOp → ColumnType → ColumnType → ColumnType
+arith_type op s t = if gives_uint op (is_uint_column s) (is_uint_column t) then column.UInt64 else column.Int64
+
+-- the type of the result of an operator at operands of this type of numbers
+abbrev pub result_type : ArithOp → ColumnType → ColumnType
+result_type op kind = arith_type op kind kind
+
+-- The column that was made of an expression at each row. None is made of a column reference, which is read in
+-- place, and none of a plain number.
+abbrev pub IsMade : Expr → Table → Option Column → Type 0
+IsMade (expr.Column c) table made = made ≡ None
+IsMade (expr.Number n) table made = made ≡ None
+IsMade (expr.Arith' op p a q b) table None = ⊥
+IsMade (expr.Arith' op p a q b) table (Some c) = (kind_of c ≡ type_of (expr.Arith' op p a q b) table.types) × (values c ≡ map (value_of (expr.Arith' op p a q b)) table.rows)
+
+-- the comparison that is true of two operands in the other order
+abbrev pub flipped : CompareOp → CompareOp
+flipped compare.Eq = compare.Eq
+flipped compare.Ne = compare.Ne
+flipped compare.Lt = compare.Gt
+flipped compare.Le = compare.Ge
+flipped compare.Gt = compare.Lt
+flipped compare.Ge = compare.Le

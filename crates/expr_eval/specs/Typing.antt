@@ -1,0 +1,71 @@
+-- Which expressions and conditions may be evaluated over columns of given types.
+use Rattle.std.specs.Prelude.{◌≡◌, ℕ, ◌^◌, ◌<◌, List, length, ℤ, pos, negsuc, Option, Some, None, Bool, true, false}
+use Rattle.chunk_data.specs.declared.typed_value.ColumnType.{ColumnType}
+use Rattle.chunk_data.specs.declared.typed_value.ColumnType.TheVariants as column
+use Rattle.query_model.specs.declared.query.ExprOf.TheVariants as expr
+use Rattle.query_model.specs.declared.query.Operand.{Operand}
+use Rattle.query_model.specs.declared.query.Operand.TheVariants as operand
+use Rattle.query_model.specs.declared.query.CondOf.TheVariants as cond'
+use Rattle.query_model.specs.Expressions.{Expr, Cond, number_of, type_of}
+
+-- the number of an expression that is a plain number
+abbrev pub plain_of : Expr → Option ℤ
+plain_of (expr.Column c) = None
+plain_of (expr.Number n) = Some (number_of n)
+plain_of (expr.Arith' op p a q b) = None
+
+-- the type has the number
+abbrev pub CanHold : ColumnType → ℤ → Type 0
+CanHold column.Int64 (pos n) = n < 2 ^ 63
+CanHold column.Int64 (negsuc n) = n < 2 ^ 63
+CanHold column.UInt64 (pos n) = n < 2 ^ 64
+CanHold column.UInt64 (negsuc n) = ⊥
+CanHold column.Text z = ⊥
+
+-- two columns of numbers of one type
+abbrev pub AreNumbersAlike : ColumnType → ColumnType → Type 0
+AreNumbersAlike column.Int64 t = t ≡ column.Int64
+AreNumbersAlike column.UInt64 t = t ≡ column.UInt64
+AreNumbersAlike column.Text t = ⊥
+
+-- Arithmetic is of two operands of one type of numbers. One of them may be a plain number that the other's type has.
+abbrev pub AreAlike : Option ℤ → ColumnType → Option ℤ → ColumnType → Type 0
+AreAlike None s None t = AreNumbersAlike s t
+AreAlike None s (Some z) t = CanHold s z
+AreAlike (Some z) s None t = CanHold t z
+AreAlike (Some y) s (Some z) t = ⊥
+
+-- the expression is typed by the columns' types; a plain number alone is
+abbrev pub IsTyped : List ColumnType → Expr → Type 0
+IsTyped types (expr.Column c) = c < length types
+IsTyped types (expr.Number n) = Unit {0}
+IsTyped types (expr.Arith' op p a q b) = IsTyped types a × IsTyped types b × AreAlike (plain_of a) (type_of a types) (plain_of b) (type_of b types)
+
+-- what an item of SELECT may be: typed, and not a plain number alone
+pub record IsItem (types : List ColumnType) (e : Expr) : Type 0 where
+  pub typed : IsTyped types e
+  pub not_plain : plain_of e ≡ None
+
+-- the type of a side of a comparison
+abbrev pub operand_type : Operand ℕ → List ColumnType → ColumnType
+operand_type (operand.Plain e) types = type_of e types
+operand_type (operand.Text bytes) types = column.Text
+operand_type (operand.Agg call) types = column.Text
+
+-- an aggregate call stands in no checked condition
+abbrev pub IsTypedOperand : List ColumnType → Operand ℕ → Type 0
+IsTypedOperand types (operand.Plain e) = IsTyped types e
+IsTypedOperand types (operand.Text bytes) = Unit {0}
+IsTypedOperand types (operand.Agg call) = ⊥
+
+abbrev pub is_text : ColumnType → Bool
+is_text column.Int64 = false
+is_text column.UInt64 = false
+is_text column.Text = true
+
+-- the condition is typed by the columns' types: a comparison is of two numbers or of two texts
+abbrev pub IsTypedCond : List ColumnType → Cond → Type 0
+IsTypedCond types (cond'.Compare op a b) = IsTypedOperand types a × IsTypedOperand types b × (is_text (operand_type a types) ≡ is_text (operand_type b types))
+IsTypedCond types (cond'.And' p a q b) = IsTypedCond types a × IsTypedCond types b
+IsTypedCond types (cond'.Or' p a q b) = IsTypedCond types a × IsTypedCond types b
+IsTypedCond types (cond'.Not' p a) = IsTypedCond types a

@@ -1,0 +1,232 @@
+// One loop for each operator and shape of its operands. Each is written once for all operators and inlined at
+// each of them, so that the operator is a constant within the loop.
+ghost use Rattle.std.specs.Prelude.{◌≡◌, ◌-ℤ◌, pos, length, map, IfOk};
+ghost use Rattle.std.specs.List.{zip};
+ghost use Rattle.std.specs.Int.{int_wrap, w64};
+ghost use Rattle.query_model.specs.Expressions.{exact_result};
+ghost use Rattle.expr_eval.specs.Results.{residue, sided};
+
+use chunk_data::Memory;
+use query_model::arithmetic::{add_int, add_uint, mul_int, mul_uint, sub_int, sub_uint};
+use query_model::query::ArithOp;
+use std::alloc::Global;
+
+/// The result of Int64, modulo 2^64.
+#[inline(always)]
+#[tactic(auto, unfolding(query_model::specs::Numbers::wrapped))]
+pub(crate) fn int_result(op: ArithOp, x: i64, y: i64) -> i64
+    ensures { result ≡ int_wrap w64 (exact_result op x y) }
+{
+    match op {
+        ArithOp::Add => add_int(x, y),
+        ArithOp::Sub => sub_int(x, y),
+        ArithOp::Mul => mul_int(x, y),
+    }
+}
+
+/// The result of UInt64, modulo 2^64.
+#[inline(always)]
+#[tactic(auto, unfolding(query_model::specs::Numbers::wrapped))]
+pub(crate) fn uint_result(op: ArithOp, x: u64, y: u64) -> u64
+    ensures { result ≡ residue (exact_result op (pos x) (pos y)) }
+{
+    match op {
+        ArithOp::Add => add_uint(x, y),
+        ArithOp::Sub => x.wrapping_sub(y),
+        ArithOp::Mul => mul_uint(x, y),
+    }
+}
+
+/// The difference of UInt64 as an Int64, modulo 2^64.
+#[inline(always)]
+#[tactic(auto, unfolding(query_model::specs::Numbers::wrapped))]
+pub(crate) fn uint_difference(x: u64, y: u64) -> i64
+    ensures { result ≡ int_wrap w64 (pos x -ℤ pos y) }
+{
+    sub_uint(x, y)
+}
+
+#[inline(always)]
+fn sided_int_result(swapped: bool, op: ArithOp, x: i64, y: i64) -> i64
+    ensures { result ≡ int_wrap w64 (sided swapped (exact_result op) x y) }
+{
+    if swapped {
+        int_result(op, y, x)
+    } else {
+        int_result(op, x, y)
+    }
+}
+
+#[inline(always)]
+fn sided_uint_result(swapped: bool, op: ArithOp, x: u64, y: u64) -> u64
+    ensures { result ≡ residue (sided swapped (exact_result op) (pos x) (pos y)) }
+{
+    if swapped {
+        uint_result(op, y, x)
+    } else {
+        uint_result(op, x, y)
+    }
+}
+
+#[inline(always)]
+fn sided_uint_difference(swapped: bool, x: u64, y: u64) -> i64
+    ensures { result ≡ int_wrap w64 (sided swapped (λ a b. a -ℤ b) (pos x) (pos y)) }
+{
+    if swapped {
+        uint_difference(y, x)
+    } else {
+        uint_difference(x, y)
+    }
+}
+
+#[inline(always)]
+fn each_int_pair(alloc: Global, op: ArithOp, xs: &[i64], ys: &[i64]) -> Result<Vec<i64>, Memory>
+    ensures { IfOk result (λ v. v.items ≡ map (λ p. int_wrap w64 (exact_result op p.0 p.1)) (zip xs.now ys.now)) }
+{
+    Ok(
+        xs.iter()
+            .zip(ys.iter())
+            .map(|(x, y)| int_result(op, *x, *y))
+            .collect(alloc)?,
+    )
+}
+
+#[inline(always)]
+fn each_uint_pair(alloc: Global, op: ArithOp, xs: &[u64], ys: &[u64]) -> Result<Vec<u64>, Memory>
+    ensures { IfOk result (λ v. v.items ≡ map (λ p. residue (exact_result op (pos p.0) (pos p.1))) (zip xs.now ys.now)) }
+{
+    Ok(
+        xs.iter()
+            .zip(ys.iter())
+            .map(|(x, y)| uint_result(op, *x, *y))
+            .collect(alloc)?,
+    )
+}
+
+/// The differences of UInt64, which are Int64.
+pub(crate) fn uint_differences(alloc: Global, xs: &[u64], ys: &[u64]) -> Result<Vec<i64>, Memory>
+    ensures { IfOk result (λ v. v.items ≡ map (λ p. int_wrap w64 (pos p.0 -ℤ pos p.1)) (zip xs.now ys.now)) }
+{
+    Ok(
+        xs.iter()
+            .zip(ys.iter())
+            .map(|(x, y)| uint_difference(*x, *y))
+            .collect(alloc)?,
+    )
+}
+
+#[inline(always)]
+fn each_int_beside(
+    alloc: Global,
+    swapped: bool,
+    op: ArithOp,
+    xs: &[i64],
+    y: i64,
+) -> Result<Vec<i64>, Memory>
+    ensures { IfOk result (λ v. v.items ≡ map (λ x. int_wrap w64 (sided swapped (exact_result op) x y)) xs.now) }
+{
+    Ok(
+        xs.iter()
+            .map(|x| sided_int_result(swapped, op, *x, y))
+            .collect(alloc)?,
+    )
+}
+
+#[inline(always)]
+fn each_uint_beside(
+    alloc: Global,
+    swapped: bool,
+    op: ArithOp,
+    xs: &[u64],
+    y: u64,
+) -> Result<Vec<u64>, Memory>
+    ensures { IfOk result (λ v. v.items ≡ map (λ x. residue (sided swapped (exact_result op) (pos x) (pos y))) xs.now) }
+{
+    Ok(
+        xs.iter()
+            .map(|x| sided_uint_result(swapped, op, *x, y))
+            .collect(alloc)?,
+    )
+}
+
+/// The differences of UInt64 and one number, which are Int64.
+pub(crate) fn uint_differences_beside(
+    alloc: Global,
+    swapped: bool,
+    xs: &[u64],
+    y: u64,
+) -> Result<Vec<i64>, Memory>
+    ensures { IfOk result (λ v. v.items ≡ map (λ x. int_wrap w64 (sided swapped (λ a b. a -ℤ b) (pos x) (pos y))) xs.now) }
+{
+    Ok(
+        xs.iter()
+            .map(|x| sided_uint_difference(swapped, *x, y))
+            .collect(alloc)?,
+    )
+}
+
+/// The results at each pair.
+pub(crate) fn int_results(
+    alloc: Global,
+    op: ArithOp,
+    xs: &[i64],
+    ys: &[i64],
+) -> Result<Vec<i64>, Memory>
+    ensures { IfOk result (λ v. v.items ≡ map (λ p. int_wrap w64 (exact_result op p.0 p.1)) (zip xs.now ys.now)) }
+{
+    match op {
+        ArithOp::Add => each_int_pair(alloc, ArithOp::Add, xs, ys),
+        ArithOp::Sub => each_int_pair(alloc, ArithOp::Sub, xs, ys),
+        ArithOp::Mul => each_int_pair(alloc, ArithOp::Mul, xs, ys),
+    }
+}
+
+/// The results at each pair.
+pub(crate) fn uint_results(
+    alloc: Global,
+    op: ArithOp,
+    xs: &[u64],
+    ys: &[u64],
+) -> Result<Vec<u64>, Memory>
+    ensures { IfOk result (λ v. v.items ≡ map (λ p. residue (exact_result op (pos p.0) (pos p.1))) (zip xs.now ys.now)) }
+{
+    match op {
+        ArithOp::Add => each_uint_pair(alloc, ArithOp::Add, xs, ys),
+        ArithOp::Sub => each_uint_pair(alloc, ArithOp::Sub, xs, ys),
+        ArithOp::Mul => each_uint_pair(alloc, ArithOp::Mul, xs, ys),
+    }
+}
+
+/// The results at each number and one more, which is written in front where `swapped` is true.
+pub(crate) fn int_results_beside(
+    alloc: Global,
+    swapped: bool,
+    op: ArithOp,
+    xs: &[i64],
+    y: i64,
+) -> Result<Vec<i64>, Memory>
+    ensures { IfOk result (λ v. v.items ≡ map (λ x. int_wrap w64 (sided swapped (exact_result op) x y)) xs.now) }
+{
+    match op {
+        ArithOp::Add => each_int_beside(alloc, swapped, ArithOp::Add, xs, y),
+        ArithOp::Sub => each_int_beside(alloc, swapped, ArithOp::Sub, xs, y),
+        ArithOp::Mul => each_int_beside(alloc, swapped, ArithOp::Mul, xs, y),
+    }
+}
+
+/// The results at each number and one more, which is written in front where `swapped` is true.
+pub(crate) fn uint_results_beside(
+    alloc: Global,
+    swapped: bool,
+    op: ArithOp,
+    xs: &[u64],
+    y: u64,
+) -> Result<Vec<u64>, Memory>
+    ensures { IfOk result (λ v. v.items ≡ map (λ x. residue (sided swapped (exact_result op) (pos x) (pos y))) xs.now) }
+{
+    match op {
+        ArithOp::Add => each_uint_beside(alloc, swapped, ArithOp::Add, xs, y),
+        ArithOp::Sub => each_uint_beside(alloc, swapped, ArithOp::Sub, xs, y),
+        ArithOp::Mul => each_uint_beside(alloc, swapped, ArithOp::Mul, xs, y),
+    }
+}

@@ -1,0 +1,379 @@
+ghost use Rattle.std.specs.Prelude.{◌≡◌, pos, length, map, IfOk, IfSome, None, false};
+ghost use Rattle.std.specs.List.{zip};
+ghost use Rattle.std.specs.Ordering.{int_cmp};
+ghost use Rattle.chunk_data.specs.Columns.{kind_of, values};
+ghost use Rattle.query_model.specs.Expressions.{value_of, type_of, operand_value, truth_of, number_of, plain_value, passes, compared};
+ghost use Rattle.expr_eval.specs.Typing.{IsTyped, IsTypedOperand, IsTypedCond, operand_type, is_text, plain_of};
+
+use crate::compare_loops::{
+    both, either, filled, flip, int_far_mask, int_mask, int_mask_beside, int_uint_mask, negated,
+    number_as_wide, numbers_pass, text_mask, text_mask_beside, text_passes, uint_far_mask,
+    uint_mask, uint_mask_beside,
+};
+use crate::expression::{column_at, made, plain_number};
+use chunk_data::{Bytes, Chunk, Column, ColumnType, Memory, Value};
+use query_model::checked::{Cond, Expr};
+use query_model::query::{CompareOp, CondOf, ExprOf, Number, Operand};
+use std::alloc::Global;
+
+/// A plain number as an Int64, if it is one.
+fn number_in_int(n: Number) -> Option<i64>
+    ensures { IfSome result (λ k. k ≡ number_of n) }
+{
+    let wide = number_as_wide(n);
+    if wide >= -9223372036854775808 && wide <= 9223372036854775807 {
+        Some(wide as i64)
+    } else {
+        None
+    }
+}
+
+/// A plain number as a UInt64, if it is one.
+fn number_in_uint(n: Number) -> Option<u64>
+    ensures { IfSome result (λ k. pos k ≡ number_of n) }
+{
+    if n.negative && n.size > 0 {
+        None
+    } else {
+        Some(n.size)
+    }
+}
+
+// The comparison at each Int64 and a plain number.
+fn ints_beside(alloc: Global, op: CompareOp, xs: &[i64], n: Number) -> Result<Vec<bool>, Memory>
+    ensures { IfOk result (λ m. m.items ≡ map (λ x. passes op (int_cmp x (number_of n))) xs.now) }
+{
+    match number_in_int(n) {
+        Some(y) => int_mask_beside(alloc, op, xs, y),
+        None => int_far_mask(alloc, op, xs, n),
+    }
+}
+
+// The comparison at each UInt64 and a plain number.
+fn uints_beside(alloc: Global, op: CompareOp, xs: &[u64], n: Number) -> Result<Vec<bool>, Memory>
+    ensures { IfOk result (λ m. m.items ≡ map (λ x. passes op (int_cmp (pos x) (number_of n))) xs.now) }
+{
+    match number_in_uint(n) {
+        Some(y) => uint_mask_beside(alloc, op, xs, y),
+        None => uint_far_mask(alloc, op, xs, n),
+    }
+}
+
+// The comparison at each value of a column of numbers and a plain number.
+fn column_beside(
+    alloc: Global,
+    op: CompareOp,
+    column: &Column,
+    n: Number,
+) -> Result<Vec<bool>, Memory>
+    requires { is_text (kind_of column.now) ≡ false }
+    ensures { IfOk result (λ m. m.items ≡ map (λ v. passes op (compared v (plain_value (number_of n)))) (values column.now)) }
+{
+    match column.kind() {
+        ColumnType::Int64 => {
+            let mask = ints_beside(alloc, op, column.ints(), n)?;
+            Ok(mask)
+        }
+        ColumnType::UInt64 => {
+            let mask = uints_beside(alloc, op, column.uints(), n)?;
+            Ok(mask)
+        }
+        ColumnType::Text => unreachable!(),
+    }
+}
+
+// The comparison at each Int64 and the value of a column of numbers beside it.
+fn ints_and_column(
+    alloc: Global,
+    op: CompareOp,
+    xs: &[i64],
+    right: &Column,
+) -> Result<Vec<bool>, Memory>
+    requires { is_text (kind_of right.now) ≡ false }
+    ensures { IfOk result (λ m. m.items ≡ map (λ p. passes op (compared p.0 p.1)) (zip (map Value.Int xs.now) (values right.now))) }
+{
+    match right.kind() {
+        ColumnType::Int64 => {
+            let mask = int_mask(alloc, op, xs, right.ints())?;
+            Ok(mask)
+        }
+        ColumnType::UInt64 => {
+            let mask = int_uint_mask(alloc, op, xs, right.uints())?;
+            Ok(mask)
+        }
+        ColumnType::Text => unreachable!(),
+    }
+}
+
+// The comparison at each UInt64 and the value of a column of numbers beside it.
+fn uints_and_column(
+    alloc: Global,
+    op: CompareOp,
+    xs: &[u64],
+    right: &Column,
+) -> Result<Vec<bool>, Memory>
+    requires { is_text (kind_of right.now) ≡ false }
+    ensures { IfOk result (λ m. m.items ≡ map (λ p. passes op (compared p.0 p.1)) (zip (map Value.UInt xs.now) (values right.now))) }
+{
+    match right.kind() {
+        ColumnType::Int64 => {
+            let mask = int_uint_mask(alloc, flip(op), right.ints(), xs)?;
+            Ok(mask)
+        }
+        ColumnType::UInt64 => {
+            let mask = uint_mask(alloc, op, xs, right.uints())?;
+            Ok(mask)
+        }
+        ColumnType::Text => unreachable!(),
+    }
+}
+
+// The comparison at each pair of values of two columns, both of numbers or both of texts.
+fn columns(alloc: Global, op: CompareOp, left: &Column, right: &Column) -> Result<Vec<bool>, Memory>
+    requires alike { is_text (kind_of left.now) ≡ is_text (kind_of right.now) }
+    requires long { length (values right.now) ≡ length (values left.now) }
+    ensures { IfOk result (λ m. m.items ≡ map (λ p. passes op (compared p.0 p.1)) (zip (values left.now) (values right.now))) }
+{
+    match left.kind() {
+        ColumnType::Int64 => {
+            let mask = ints_and_column(alloc, op, left.ints(), right)?;
+            Ok(mask)
+        }
+        ColumnType::UInt64 => {
+            let mask = uints_and_column(alloc, op, left.uints(), right)?;
+            Ok(mask)
+        }
+        ColumnType::Text => {
+            let mask = text_mask(alloc, op, left.texts(), right.texts())?;
+            Ok(mask)
+        }
+    }
+}
+
+// The comparison of an expression and a plain number at each row.
+fn number_compared(
+    alloc: Global,
+    op: CompareOp,
+    expr: &Expr,
+    n: Number,
+    chunk: &Chunk,
+) -> Result<Vec<bool>, Memory>
+    requires typed { IsTyped chunk.now.types expr.now }
+    requires not_plain { plain_of expr.now ≡ None }
+    requires not_text { is_text (type_of expr.now chunk.now.types) ≡ false }
+    ensures { IfOk result (λ m. m.items ≡ map (λ row. passes op (compared (value_of expr.now row) (plain_value (number_of n)))) chunk.now.rows) }
+{
+    let column = made(alloc, expr, chunk)?;
+    let mask = column_beside(alloc, op, column_at(expr, &column, chunk), n)?;
+    Ok(mask)
+}
+
+// The comparison of two expressions, neither of which is a plain number, at each row.
+fn expressions_compared(
+    alloc: Global,
+    op: CompareOp,
+    left: &Expr,
+    right: &Expr,
+    chunk: &Chunk,
+) -> Result<Vec<bool>, Memory>
+    requires left { IsTyped chunk.now.types left.now }
+    requires right { IsTyped chunk.now.types right.now }
+    requires left_not_plain { plain_of left.now ≡ None }
+    requires right_not_plain { plain_of right.now ≡ None }
+    requires alike { is_text (type_of left.now chunk.now.types) ≡ is_text (type_of right.now chunk.now.types) }
+    ensures { IfOk result (λ m. m.items ≡ map (λ row. passes op (compared (value_of left.now row) (value_of right.now row))) chunk.now.rows) }
+{
+    let left_made = made(alloc, left, chunk)?;
+    let right_made = made(alloc, right, chunk)?;
+    let here = column_at(left, &left_made, chunk);
+    let there = column_at(right, &right_made, chunk);
+    let mask = columns(alloc, op, here, there)?;
+    Ok(mask)
+}
+
+// The comparison of a plain number and an expression at each row.
+fn plain_compared(
+    alloc: Global,
+    op: CompareOp,
+    n: Number,
+    right: &Expr,
+    chunk: &Chunk,
+) -> Result<Vec<bool>, Memory>
+    requires right { IsTyped chunk.now.types right.now }
+    requires not_text { is_text (type_of right.now chunk.now.types) ≡ false }
+    ensures { IfOk result (λ m. m.items ≡ map (λ row. passes op (compared (plain_value (number_of n)) (value_of right.now row))) chunk.now.rows) }
+{
+    match plain_number(right) {
+        Some(k) => {
+            let mask = filled(alloc, numbers_pass(op, n, k), chunk.rows())?;
+            Ok(mask)
+        }
+        None => {
+            let mask = number_compared(alloc, flip(op), right, n, chunk)?;
+            Ok(mask)
+        }
+    }
+}
+
+// The comparison of two expressions at each row.
+fn plain_operands(
+    alloc: Global,
+    op: CompareOp,
+    left: &Expr,
+    right: &Expr,
+    chunk: &Chunk,
+) -> Result<Vec<bool>, Memory>
+    requires left { IsTyped chunk.now.types left.now }
+    requires right { IsTyped chunk.now.types right.now }
+    requires alike { is_text (type_of left.now chunk.now.types) ≡ is_text (type_of right.now chunk.now.types) }
+    ensures { IfOk result (λ m. m.items ≡ map (λ row. passes op (compared (value_of left.now row) (value_of right.now row))) chunk.now.rows) }
+{
+    match plain_number(left) {
+        Some(n) => {
+            let mask = plain_compared(alloc, op, n, right, chunk)?;
+            Ok(mask)
+        }
+        None => match plain_number(right) {
+            Some(k) => {
+                let mask = number_compared(alloc, op, left, k, chunk)?;
+                Ok(mask)
+            }
+            None => {
+                let mask = expressions_compared(alloc, op, left, right, chunk)?;
+                Ok(mask)
+            }
+        },
+    }
+}
+
+// The comparison of a Text column and a text at each row.
+fn text_compared(
+    alloc: Global,
+    op: CompareOp,
+    expr: &Expr,
+    text: &Bytes,
+    chunk: &Chunk,
+) -> Result<Vec<bool>, Memory>
+    requires typed { IsTyped chunk.now.types expr.now }
+    requires is_text { type_of expr.now chunk.now.types ≡ ColumnType.Text }
+    ensures { IfOk result (λ m. m.items ≡ map (λ row. passes op (compared (value_of expr.now row) (Value.Text text.now))) chunk.now.rows) }
+{
+    match expr {
+        ExprOf::Column(c) => {
+            let column = chunk.column(*c as usize);
+            let mask = text_mask_beside(alloc, op, column.texts(), text.as_slice())?;
+            Ok(mask)
+        }
+        ExprOf::Number(_) => unreachable!(),
+        ExprOf::Arith(_, _, _) => unreachable!(),
+    }
+}
+
+// The comparison of an operand and a text at each row.
+fn beside_text(
+    alloc: Global,
+    op: CompareOp,
+    left: &Operand<u32>,
+    text: &Bytes,
+    chunk: &Chunk,
+) -> Result<Vec<bool>, Memory>
+    requires typed { IsTypedOperand chunk.now.types left.now }
+    requires is_text { operand_type left.now chunk.now.types ≡ ColumnType.Text }
+    ensures { IfOk result (λ m. m.items ≡ map (λ row. passes op (compared (operand_value left.now row) (Value.Text text.now))) chunk.now.rows) }
+{
+    match left {
+        Operand::Plain(expr) => {
+            let mask = text_compared(alloc, op, expr, text, chunk)?;
+            Ok(mask)
+        }
+        Operand::Text(bytes) => {
+            let mask = filled(
+                alloc,
+                text_passes(op, bytes.as_slice(), text.as_slice()),
+                chunk.rows(),
+            )?;
+            Ok(mask)
+        }
+        Operand::Agg(_) => unreachable!(),
+    }
+}
+
+// The comparison of an operand and an expression at each row.
+fn beside_expression(
+    alloc: Global,
+    op: CompareOp,
+    left: &Operand<u32>,
+    right: &Expr,
+    chunk: &Chunk,
+) -> Result<Vec<bool>, Memory>
+    requires left { IsTypedOperand chunk.now.types left.now }
+    requires right { IsTyped chunk.now.types right.now }
+    requires alike { is_text (operand_type left.now chunk.now.types) ≡ is_text (type_of right.now chunk.now.types) }
+    ensures { IfOk result (λ m. m.items ≡ map (λ row. passes op (compared (operand_value left.now row) (value_of right.now row))) chunk.now.rows) }
+{
+    match left {
+        Operand::Plain(expr) => {
+            let mask = plain_operands(alloc, op, expr, right, chunk)?;
+            Ok(mask)
+        }
+        Operand::Text(text) => {
+            let mask = text_compared(alloc, flip(op), right, text, chunk)?;
+            Ok(mask)
+        }
+        Operand::Agg(_) => unreachable!(),
+    }
+}
+
+// The comparison of two operands at each row.
+fn compare(
+    alloc: Global,
+    op: CompareOp,
+    left: &Operand<u32>,
+    right: &Operand<u32>,
+    chunk: &Chunk,
+) -> Result<Vec<bool>, Memory>
+    requires left { IsTypedOperand chunk.now.types left.now }
+    requires right { IsTypedOperand chunk.now.types right.now }
+    requires alike { is_text (operand_type left.now chunk.now.types) ≡ is_text (operand_type right.now chunk.now.types) }
+    ensures { IfOk result (λ m. m.items ≡ map (λ row. passes op (compared (operand_value left.now row) (operand_value right.now row))) chunk.now.rows) }
+{
+    match right {
+        Operand::Plain(expr) => {
+            let mask = beside_expression(alloc, op, left, expr, chunk)?;
+            Ok(mask)
+        }
+        Operand::Text(text) => {
+            let mask = beside_text(alloc, op, left, text, chunk)?;
+            Ok(mask)
+        }
+        Operand::Agg(_) => unreachable!(),
+    }
+}
+
+/// The condition's truth at each row. Numbers are compared by their exact values, whatever their types, and texts
+/// by bytes.
+pub fn mask(alloc: Global, cond: &Cond, chunk: &Chunk) -> Result<Vec<bool>, Memory>
+    requires { IsTypedCond chunk.now.types cond.now }
+    ensures { IfOk result (λ m. m.items ≡ map (truth_of cond.now) chunk.now.rows) }
+{
+    match cond {
+        CondOf::Compare(op, left, right) => {
+            let truths = compare(alloc, *op, left, right, chunk)?;
+            Ok(truths)
+        }
+        CondOf::And(left, right) => {
+            let truths = mask(alloc, left, chunk)?;
+            let others = mask(alloc, right, chunk)?;
+            Ok(both(truths, others.as_slice()))
+        }
+        CondOf::Or(left, right) => {
+            let truths = mask(alloc, left, chunk)?;
+            let others = mask(alloc, right, chunk)?;
+            Ok(either(truths, others.as_slice()))
+        }
+        CondOf::Not(inner) => {
+            let truths = mask(alloc, inner, chunk)?;
+            Ok(negated(truths))
+        }
+    }
+}

@@ -1,0 +1,285 @@
+ghost use Rattle.std.specs.Prelude.{◌≡◌, pos, length, map, IfOk, None, Some};
+ghost use Rattle.std.specs.Option.{option_map};
+ghost use Rattle.std.specs.List.{zip};
+ghost use Rattle.chunk_data.specs.Columns.{kind_of, values};
+ghost use Rattle.query_model.specs.Expressions.{value_of, type_of, number_of, plain_value, arith_value};
+ghost use Rattle.expr_eval.specs.Typing.{IsItem, IsTyped, plain_of, CanHold, AreNumbersAlike, AreAlike};
+ghost use Rattle.expr_eval.specs.Results.{IsMade, sided, result_type, arith_type};
+
+use crate::arith_loops::{
+    int_results, int_results_beside, uint_differences, uint_differences_beside, uint_results,
+    uint_results_beside,
+};
+use chunk_data::{Chunk, Column, ColumnType, Memory, Value};
+use query_model::checked::Expr;
+use query_model::query::{ArithOp, ExprOf, Number};
+use std::alloc::Global;
+
+/// A plain number as an Int64.
+pub(crate) fn number_as_int(n: Number) -> i64
+    requires { CanHold ColumnType.Int64 (number_of n) }
+    ensures { result ≡ number_of n }
+{
+    if n.negative {
+        n.size.wrapping_neg().cast_signed()
+    } else {
+        n.size.cast_signed()
+    }
+}
+
+/// A plain number as a UInt64.
+pub(crate) fn number_as_uint(n: Number) -> u64
+    requires { CanHold ColumnType.UInt64 (number_of n) }
+    ensures { pos result ≡ number_of n }
+{
+    n.size
+}
+
+/// The expression's plain number, if it is one.
+pub(crate) fn plain_number(expr: &Expr) -> Option<Number>
+    ensures { plain_of expr.now ≡ option_map number_of result }
+{
+    match expr {
+        ExprOf::Number(n) => Some(*n),
+        ExprOf::Column(_) => None,
+        ExprOf::Arith(_, _, _) => None,
+    }
+}
+
+// The operator at each Int64 and one number.
+fn int_beside(
+    alloc: Global,
+    swapped: bool,
+    op: ArithOp,
+    xs: &[i64],
+    y: i64,
+) -> Result<Column, Memory>
+    ensures kind { IfOk result (λ c. kind_of c ≡ ColumnType.Int64) }
+    ensures values { IfOk result (λ c. values c ≡ map (λ v. sided swapped (arith_value op) v (plain_value y)) (map Value.Int xs.now)) }
+{
+    match int_results_beside(alloc, swapped, op, xs, y) {
+        Ok(numbers) => Ok(Column::of_ints(numbers)),
+        Err(error) => Err(error),
+    }
+}
+
+// The operator at each UInt64 and one number.
+fn uint_beside(
+    alloc: Global,
+    swapped: bool,
+    op: ArithOp,
+    xs: &[u64],
+    y: u64,
+) -> Result<Column, Memory>
+    ensures kind { IfOk result (λ c. kind_of c ≡ result_type op ColumnType.UInt64) }
+    ensures values { IfOk result (λ c. values c ≡ map (λ v. sided swapped (arith_value op) v (Value.UInt y)) (map Value.UInt xs.now)) }
+{
+    match op {
+        ArithOp::Sub => match uint_differences_beside(alloc, swapped, xs, y) {
+            Ok(numbers) => Ok(Column::of_ints(numbers)),
+            Err(error) => Err(error),
+        },
+        _ => match uint_results_beside(alloc, swapped, op, xs, y) {
+            Ok(numbers) => Ok(Column::of_uints(numbers)),
+            Err(error) => Err(error),
+        },
+    }
+}
+
+// The operator at each value and a plain number, which is written in front where `swapped` is true.
+fn beside(
+    alloc: Global,
+    swapped: bool,
+    op: ArithOp,
+    column: &Column,
+    n: Number,
+) -> Result<Column, Memory>
+    requires { CanHold (kind_of column.now) (number_of n) }
+    ensures kind { IfOk result (λ c. kind_of c ≡ result_type op (kind_of column.now)) }
+    ensures values { IfOk result (λ c. values c ≡ map (λ v. sided swapped (arith_value op) v (plain_value (number_of n))) (values column.now)) }
+{
+    match column.kind() {
+        ColumnType::Int64 => int_beside(alloc, swapped, op, column.ints(), number_as_int(n)),
+        ColumnType::UInt64 => uint_beside(alloc, swapped, op, column.uints(), number_as_uint(n)),
+        ColumnType::Text => unreachable!(),
+    }
+}
+
+// The operator at each pair of Int64.
+fn int_pairs(alloc: Global, op: ArithOp, xs: &[i64], ys: &[i64]) -> Result<Column, Memory>
+    ensures kind { IfOk result (λ c. kind_of c ≡ ColumnType.Int64) }
+    ensures values { IfOk result (λ c. values c ≡ map (λ p. arith_value op p.0 p.1) (zip (map Value.Int xs.now) (map Value.Int ys.now))) }
+{
+    match int_results(alloc, op, xs, ys) {
+        Ok(numbers) => Ok(Column::of_ints(numbers)),
+        Err(error) => Err(error),
+    }
+}
+
+// The operator at each pair of UInt64.
+fn uint_pairs(alloc: Global, op: ArithOp, xs: &[u64], ys: &[u64]) -> Result<Column, Memory>
+    ensures kind { IfOk result (λ c. kind_of c ≡ result_type op ColumnType.UInt64) }
+    ensures values { IfOk result (λ c. values c ≡ map (λ p. arith_value op p.0 p.1) (zip (map Value.UInt xs.now) (map Value.UInt ys.now))) }
+{
+    match op {
+        ArithOp::Sub => match uint_differences(alloc, xs, ys) {
+            Ok(numbers) => Ok(Column::of_ints(numbers)),
+            Err(error) => Err(error),
+        },
+        _ => match uint_results(alloc, op, xs, ys) {
+            Ok(numbers) => Ok(Column::of_uints(numbers)),
+            Err(error) => Err(error),
+        },
+    }
+}
+
+// The operator at each pair of values.
+fn pairs(alloc: Global, op: ArithOp, left: &Column, right: &Column) -> Result<Column, Memory>
+    requires { AreNumbersAlike (kind_of left.now) (kind_of right.now) }
+    ensures kind { IfOk result (λ c. kind_of c ≡ result_type op (kind_of left.now)) }
+    ensures values { IfOk result (λ c. values c ≡ map (λ p. arith_value op p.0 p.1) (zip (values left.now) (values right.now))) }
+{
+    match left.kind() {
+        ColumnType::Int64 => int_pairs(alloc, op, left.ints(), right.ints()),
+        ColumnType::UInt64 => uint_pairs(alloc, op, left.uints(), right.uints()),
+        ColumnType::Text => unreachable!(),
+    }
+}
+
+/// The column of the expression's values: the one that was made, or that of a column reference.
+pub(crate) fn column_at<'a>(expr: &Expr, made: &'a Option<Column>, chunk: &'a Chunk) -> &'a Column
+    requires typed { IsTyped chunk.now.types expr.now }
+    requires not_plain { plain_of expr.now ≡ None }
+    requires made { IsMade expr.now chunk.now made.now }
+    ensures kind { kind_of result.now ≡ type_of expr.now chunk.now.types }
+    ensures values { values result.now ≡ map (value_of expr.now) chunk.now.rows }
+{
+    match made {
+        Some(column) => column,
+        None => match expr {
+            ExprOf::Column(c) => chunk.column(*c as usize),
+            _ => unreachable!(),
+        },
+    }
+}
+
+// The operator at the values of an expression and a plain number, which is written in front where `swapped` is
+// true.
+fn number_beside(
+    alloc: Global,
+    swapped: bool,
+    op: ArithOp,
+    n: Number,
+    expr: &Expr,
+    made: Option<Column>,
+    chunk: &Chunk,
+) -> Result<Column, Memory>
+    requires typed { IsTyped chunk.now.types expr.now }
+    requires not_plain { plain_of expr.now ≡ None }
+    requires made { IsMade expr.now chunk.now made }
+    requires held { CanHold (type_of expr.now chunk.now.types) (number_of n) }
+    ensures kind { IfOk result (λ c. kind_of c ≡ result_type op (type_of expr.now chunk.now.types)) }
+    ensures values { IfOk result (λ c. values c ≡ map (λ row. sided swapped (arith_value op) (value_of expr.now row) (plain_value (number_of n))) chunk.now.rows) }
+{
+    let column = beside(alloc, swapped, op, column_at(expr, &made, chunk), n)?;
+    Ok(column)
+}
+
+// The operator at the values of two expressions, neither of which is a plain number.
+fn expressions(
+    alloc: Global,
+    op: ArithOp,
+    left: &Expr,
+    left_made: Option<Column>,
+    right: &Expr,
+    right_made: Option<Column>,
+    chunk: &Chunk,
+) -> Result<Column, Memory>
+    requires left { IsTyped chunk.now.types left.now }
+    requires right { IsTyped chunk.now.types right.now }
+    requires left_not_plain { plain_of left.now ≡ None }
+    requires right_not_plain { plain_of right.now ≡ None }
+    requires alike { AreNumbersAlike (type_of left.now chunk.now.types) (type_of right.now chunk.now.types) }
+    requires left_made { IsMade left.now chunk.now left_made }
+    requires right_made { IsMade right.now chunk.now right_made }
+    ensures kind { IfOk result (λ c. kind_of c ≡ result_type op (type_of left.now chunk.now.types)) }
+    ensures values { IfOk result (λ c. values c ≡ map (λ row. arith_value op (value_of left.now row) (value_of right.now row)) chunk.now.rows) }
+{
+    let here = column_at(left, &left_made, chunk);
+    let there = column_at(right, &right_made, chunk);
+    let column = pairs(alloc, op, here, there)?;
+    Ok(column)
+}
+
+// The operator at the values of two expressions.
+fn arith(
+    alloc: Global,
+    op: ArithOp,
+    left: &Expr,
+    left_made: Option<Column>,
+    right: &Expr,
+    right_made: Option<Column>,
+    chunk: &Chunk,
+) -> Result<Column, Memory>
+    requires left { IsTyped chunk.now.types left.now }
+    requires right { IsTyped chunk.now.types right.now }
+    requires alike { AreAlike (plain_of left.now) (type_of left.now chunk.now.types) (plain_of right.now) (type_of right.now chunk.now.types) }
+    requires left_made { IsMade left.now chunk.now left_made }
+    requires right_made { IsMade right.now chunk.now right_made }
+    ensures kind { IfOk result (λ c. kind_of c ≡ arith_type op (type_of left.now chunk.now.types) (type_of right.now chunk.now.types)) }
+    ensures values { IfOk result (λ c. values c ≡ map (λ row. arith_value op (value_of left.now row) (value_of right.now row)) chunk.now.rows) }
+{
+    match plain_number(left) {
+        Some(n) => {
+            let column = number_beside(alloc, true, op, n, right, right_made, chunk)?;
+            Ok(column)
+        }
+        None => match plain_number(right) {
+            Some(m) => {
+                let column = number_beside(alloc, false, op, m, left, left_made, chunk)?;
+                Ok(column)
+            }
+            None => {
+                let column = expressions(alloc, op, left, left_made, right, right_made, chunk)?;
+                Ok(column)
+            }
+        },
+    }
+}
+
+/// The column of the expression's values, where it is neither a column reference nor a plain number.
+pub(crate) fn made(alloc: Global, expr: &Expr, chunk: &Chunk) -> Result<Option<Column>, Memory>
+    requires { IsTyped chunk.now.types expr.now }
+    ensures { IfOk result (λ m. IsMade expr.now chunk.now m) }
+{
+    match expr {
+        ExprOf::Column(_) => Ok(None),
+        ExprOf::Number(_) => Ok(None),
+        ExprOf::Arith(op, left, right) => {
+            let left_made = made(alloc, left, chunk)?;
+            let right_made = made(alloc, right, chunk)?;
+            let column = arith(alloc, *op, left, left_made, right, right_made, chunk)?;
+            Ok(Some(column))
+        }
+    }
+}
+
+/// The expression's value at each row. A column reference alone is copied; within an expression it is read in
+/// place.
+pub fn eval(alloc: Global, expr: &Expr, chunk: &Chunk) -> Result<Column, Memory>
+    requires { IsItem chunk.now.types expr.now }
+    ensures kind { IfOk result (λ c. kind_of c ≡ type_of expr.now chunk.now.types) }
+    ensures values { IfOk result (λ c. values c ≡ map (value_of expr.now) chunk.now.rows) }
+{
+    match expr {
+        ExprOf::Column(c) => {
+            let column = chunk.column(*c as usize).copy()?;
+            Ok(column)
+        }
+        ExprOf::Number(_) => unreachable!(),
+        ExprOf::Arith(_, _, _) => match made(alloc, expr, chunk)? {
+            Some(column) => Ok(column),
+            None => unreachable!(),
+        },
+    }
+}

@@ -1,0 +1,140 @@
+ghost use Rattle.std.specs.Prelude.{◌≡◌, ◌↔◌, length, IsTrue};
+ghost use Rattle.std.specs.Option.{option_map};
+ghost use Rattle.query_model.specs.Expressions.{type_of, number_of};
+ghost use Rattle.expr_eval.specs.Typing.{IsTyped, IsTypedOperand, IsTypedCond, operand_type, is_text, plain_of, CanHold, AreAlike, AreNumbersAlike};
+
+use crate::expression::plain_number;
+use chunk_data::ColumnType;
+use query_model::checked::{Cond, Expr};
+use query_model::plain::expr_type;
+use query_model::query::{CondOf, ExprOf, Number, Operand};
+
+// Whether the type has the number.
+fn can_hold(kind: ColumnType, n: Number) -> bool
+    ensures { IsTrue result ↔ CanHold kind (number_of n) }
+{
+    match kind {
+        ColumnType::Int64 => {
+            if n.negative {
+                n.size <= 9223372036854775808
+            } else {
+                n.size < 9223372036854775808
+            }
+        }
+        ColumnType::UInt64 => !n.negative || n.size == 0,
+        ColumnType::Text => false,
+    }
+}
+
+// Whether the types are one type of numbers.
+fn numbers_alike(s: ColumnType, t: ColumnType) -> bool
+    ensures { IsTrue result ↔ AreNumbersAlike s t }
+{
+    match s {
+        ColumnType::Int64 => matches!(t, ColumnType::Int64),
+        ColumnType::UInt64 => matches!(t, ColumnType::UInt64),
+        ColumnType::Text => false,
+    }
+}
+
+// Whether two operands, plain numbers or of these types, may stand in arithmetic.
+fn alike(p: Option<Number>, s: ColumnType, q: Option<Number>, t: ColumnType) -> bool
+    ensures { IsTrue result ↔ AreAlike (option_map number_of p) s (option_map number_of q) t }
+{
+    match p {
+        Some(n) => match q {
+            Some(_) => false,
+            None => can_hold(t, n),
+        },
+        None => match q {
+            Some(n) => can_hold(s, n),
+            None => numbers_alike(s, t),
+        },
+    }
+}
+
+// Whether two typed expressions may stand in arithmetic.
+fn operands_alike(left: &Expr, right: &Expr, types: &[ColumnType]) -> bool
+    requires left { IsTyped types.now left.now }
+    requires right { IsTyped types.now right.now }
+    ensures { IsTrue result ↔ AreAlike (plain_of left.now) (type_of left.now types.now) (plain_of right.now) (type_of right.now types.now) }
+{
+    alike(
+        plain_number(left),
+        expr_type(left, types),
+        plain_number(right),
+        expr_type(right, types),
+    )
+}
+
+/// Whether the expression is typed by the columns' types. A plain number alone is.
+pub fn is_typed(expr: &Expr, types: &[ColumnType]) -> bool
+    ensures { IsTrue result ↔ IsTyped types.now expr.now }
+{
+    match expr {
+        ExprOf::Column(c) => (*c as usize) < types.len(),
+        ExprOf::Number(_) => true,
+        ExprOf::Arith(_, left, right) => {
+            if !is_typed(left, types) {
+                return false;
+            }
+            if !is_typed(right, types) {
+                return false;
+            }
+            operands_alike(left, right, types)
+        }
+    }
+}
+
+// Whether the side of a comparison is typed by the columns' types.
+fn is_typed_operand(operand: &Operand<u32>, types: &[ColumnType]) -> bool
+    ensures { IsTrue result ↔ IsTypedOperand types.now operand.now }
+{
+    match operand {
+        Operand::Plain(expr) => is_typed(expr, types),
+        Operand::Text(_) => true,
+        Operand::Agg(_) => false,
+    }
+}
+
+// Whether a typed side of a comparison is a text.
+fn operand_is_text(operand: &Operand<u32>, types: &[ColumnType]) -> bool
+    requires { IsTypedOperand types.now operand.now }
+    ensures { result ≡ is_text (operand_type operand.now types.now) }
+{
+    match operand {
+        Operand::Plain(expr) => matches!(expr_type(expr, types), ColumnType::Text),
+        Operand::Text(_) => true,
+        Operand::Agg(_) => true,
+    }
+}
+
+/// Whether the condition is typed by the columns' types.
+pub fn is_typed_cond(cond: &Cond, types: &[ColumnType]) -> bool
+    ensures { IsTrue result ↔ IsTypedCond types.now cond.now }
+{
+    match cond {
+        CondOf::Compare(_, left, right) => {
+            if !is_typed_operand(left, types) {
+                return false;
+            }
+            if !is_typed_operand(right, types) {
+                return false;
+            }
+            operand_is_text(left, types) == operand_is_text(right, types)
+        }
+        CondOf::And(left, right) => {
+            if !is_typed_cond(left, types) {
+                return false;
+            }
+            is_typed_cond(right, types)
+        }
+        CondOf::Or(left, right) => {
+            if !is_typed_cond(left, types) {
+                return false;
+            }
+            is_typed_cond(right, types)
+        }
+        CondOf::Not(inner) => is_typed_cond(inner, types),
+    }
+}
