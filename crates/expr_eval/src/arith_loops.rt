@@ -230,3 +230,34 @@ pub(crate) fn uint_results_beside(
         ArithOp::Mul => each_uint_beside(alloc, swapped, ArithOp::Mul, xs, y),
     }
 }
+
+#[inline(always)]
+fn each_int_pair_onto(op: ArithOp, xs: &mut [i64], ys: &[i64])
+    requires { length ys.now ≡ length xs.old }
+    ensures { xs.new ≡ map (λ p. int_wrap w64 (exact_result op p.0 p.1)) (zip xs.old ys.now) }
+{
+    for i in 0..xs.len() {
+        xs[i] = int_result(op, xs[i], ys[i]);
+    }
+}
+
+/// The results at each pair, in the first ones' memory.
+pub(crate) fn int_results_onto(op: ArithOp, mut xs: Vec<i64>, ys: &[i64]) -> Vec<i64>
+    requires { length ys.now ≡ length xs.items }
+    ensures { result.items ≡ map (λ p. int_wrap w64 (exact_result op p.0 p.1)) (zip xs.items ys.now) }
+{
+    match op {
+        ArithOp::Add => {
+            each_int_pair_onto(ArithOp::Add, &mut xs, ys);
+            xs
+        }
+        ArithOp::Sub => {
+            each_int_pair_onto(ArithOp::Sub, &mut xs, ys);
+            xs
+        }
+        ArithOp::Mul => {
+            each_int_pair_onto(ArithOp::Mul, &mut xs, ys);
+            xs
+        }
+    }
+}

@@ -7,8 +7,8 @@ ghost use Rattle.expr_eval.specs.Typing.{IsItem, IsTyped, plain_of, CanHold, Are
 ghost use Rattle.expr_eval.specs.Results.{IsMade, sided, result_type, arith_type};
 
 use crate::arith_loops::{
-    int_results, int_results_beside, uint_differences, uint_differences_beside, uint_results,
-    uint_results_beside,
+    int_results, int_results_beside, int_results_onto, uint_differences, uint_differences_beside,
+    uint_results, uint_results_beside,
 };
 use chunk_data::{Chunk, Column, ColumnType, Memory, Value};
 use query_model::checked::Expr;
@@ -146,6 +146,22 @@ fn pairs(alloc: Global, op: ArithOp, left: &Column, right: &Column) -> Result<Co
     }
 }
 
+// The same in the left column's memory, where the results are of its type.
+fn pairs_onto(alloc: Global, op: ArithOp, left: Column, right: &Column) -> Result<Column, Memory>
+    requires alike { AreNumbersAlike (kind_of left) (kind_of right.now) }
+    requires long { length (values right.now) ≡ length (values left) }
+    ensures kind { IfOk result (λ c. kind_of c ≡ result_type op (kind_of left)) }
+    ensures values { IfOk result (λ c. values c ≡ map (λ p. arith_value op p.0 p.1) (zip (values left) (values right.now))) }
+{
+    match left {
+        Column::Int64(xs) => Ok(Column::of_ints(int_results_onto(op, xs, right.ints()))),
+        other => {
+            let made = pairs(alloc, op, &other, right)?;
+            Ok(made)
+        }
+    }
+}
+
 /// The column of the expression's values: the one that was made, or that of a column reference.
 pub(crate) fn column_at<'a>(expr: &Expr, made: &'a Option<Column>, chunk: &'a Chunk) -> &'a Column
     requires typed { IsTyped chunk.now.types expr.now }
@@ -205,10 +221,18 @@ fn expressions(
     ensures kind { IfOk result (λ c. kind_of c ≡ result_type op (type_of left.now chunk.now.types)) }
     ensures values { IfOk result (λ c. values c ≡ map (λ row. arith_value op (value_of left.now row) (value_of right.now row)) chunk.now.rows) }
 {
-    let here = column_at(left, &left_made, chunk);
     let there = column_at(right, &right_made, chunk);
-    let column = pairs(alloc, op, here, there)?;
-    Ok(column)
+    match left_made {
+        Some(column) => {
+            let changed = pairs_onto(alloc, op, column, there)?;
+            Ok(changed)
+        }
+        None => {
+            let none = None;
+            let column = pairs(alloc, op, column_at(left, &none, chunk), there)?;
+            Ok(column)
+        }
+    }
 }
 
 // The operator at the values of two expressions.

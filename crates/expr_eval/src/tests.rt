@@ -1,3 +1,6 @@
+ghost use Rattle.std.specs.Prelude.{◌≡◌, length, IfOk};
+ghost use Rattle.chunk_data.specs.Columns.{values};
+
 use crate::expression::plain_number;
 use crate::{eval, is_typed, is_typed_cond, mask};
 use chunk_data::{Bytes, Chunk, Column, List, Texts};
@@ -46,19 +49,27 @@ fn compare(op: CompareOp, left: Leaf, right: Leaf) -> Cond {
     )
 }
 
-// A chunk of one row.
-fn row(alloc: Global, int: i64, uint: u64, text: &str) -> Result<Chunk, Fail> {
+// A Text column of one text.
+fn text_column(alloc: Global, text: &str) -> Result<Column, Fail>
+    ensures { IfOk result (λ c. length (values c) ≡ 1) }
+{
     let mut texts = Texts::new(alloc);
     texts.push(text.as_bytes())?;
+    Ok(Column::of_texts(texts))
+}
+
+// A chunk of one row.
+fn row(alloc: Global, int: i64, uint: u64, text: &str) -> Result<Chunk, Fail> {
+    let texts = text_column(alloc, text)?;
     let ints = Column::of_ints(Vec::from_slice(alloc, &[int])?);
     let uints = Column::of_uints(Vec::from_slice(alloc, &[uint])?);
-    let columns = vec![in alloc; ints, uints, Column::of_texts(texts)]?;
-    let chunk = Chunk::of_columns(alloc, List::from_vec(columns), 1)?;
+    let columns = List::from_vec(vec![in alloc; ints, uints, texts]?);
+    let chunk = Chunk::of_columns(alloc, columns, 1)?;
     Ok(chunk)
 }
 
 // The column of an item's values, printed; empty where it is no item.
-fn values(alloc: Global, expr: &Expr, chunk: &Chunk) -> Result<String, Fail> {
+fn printed(alloc: Global, expr: &Expr, chunk: &Chunk) -> Result<String, Fail> {
     if !is_typed(expr, chunk.types().as_slice()) {
         return Ok(String::new(alloc));
     }
@@ -107,7 +118,7 @@ fn results_are_taken_modulo_2_to_64(rt: HostRuntime) -> Result<(), Fail> {
     ] {
         let chunk = row(alloc, int, uint, "")?;
         let expr = arith(alloc, op, left, right)?;
-        assert_eq!(rt; values(alloc, &expr, &chunk)?.as_str(), want);
+        assert_eq!(rt; printed(alloc, &expr, &chunk)?.as_str(), want);
     }
     Ok(())
 }
@@ -195,28 +206,42 @@ fn texts_are_compared_by_bytes(rt: HostRuntime) -> Result<(), Fail> {
     Ok(())
 }
 
+// Whether the column has 1.
+fn is_one(alloc: Global, leaf: Leaf) -> Result<Box<Cond>, Fail> {
+    let cond = Box::new(alloc, compare(CompareOp::Eq, leaf, Leaf::Plus(1)))?;
+    Ok(cond)
+}
+
+fn both(alloc: Global) -> Result<Cond, Fail> {
+    let left = is_one(alloc, Leaf::Int)?;
+    let right = is_one(alloc, Leaf::UInt)?;
+    Ok(CondOf::And(left, right))
+}
+
+fn either(alloc: Global) -> Result<Cond, Fail> {
+    let left = is_one(alloc, Leaf::Int)?;
+    let right = is_one(alloc, Leaf::UInt)?;
+    Ok(CondOf::Or(left, right))
+}
+
+fn neither(alloc: Global) -> Result<Cond, Fail> {
+    let inner = Box::new(alloc, either(alloc)?)?;
+    Ok(CondOf::Not(inner))
+}
+
 #[test]
 fn conditions_are_combined(rt: HostRuntime) -> Result<(), Fail> {
     let alloc = rt.alloc();
-    for (int, uint, both, either) in [
+    for (int, uint, all, any) in [
         (1, 1, true, true),
         (1, 0, false, true),
         (0, 1, false, true),
         (0, 0, false, false),
     ] {
         let chunk = row(alloc, int, uint, "")?;
-        let left = Box::new(alloc, compare(CompareOp::Eq, Leaf::Int, Leaf::Plus(1)))?;
-        let right = Box::new(alloc, compare(CompareOp::Eq, Leaf::UInt, Leaf::Plus(1)))?;
-        assert_eq!(rt;
-            truth(alloc, &CondOf::And(left, right), &chunk)?,
-            Some(both)
-        );
-        let left = Box::new(alloc, compare(CompareOp::Eq, Leaf::Int, Leaf::Plus(1)))?;
-        let right = Box::new(alloc, compare(CompareOp::Eq, Leaf::UInt, Leaf::Plus(1)))?;
-        let cond = CondOf::Or(left, right);
-        assert_eq!(rt; truth(alloc, &cond, &chunk)?, Some(either));
-        let negated = CondOf::Not(Box::new(alloc, cond)?);
-        assert_eq!(rt; truth(alloc, &negated, &chunk)?, Some(!either));
+        assert_eq!(rt; truth(alloc, &both(alloc)?, &chunk)?, Some(all));
+        assert_eq!(rt; truth(alloc, &either(alloc)?, &chunk)?, Some(any));
+        assert_eq!(rt; truth(alloc, &neither(alloc)?, &chunk)?, Some(!any));
     }
     Ok(())
 }
