@@ -1,0 +1,6 @@
+pub mod Pictures
+pub mod Actions
+pub mod Calls
+pub mod Sights
+pub mod Status
+pub mod Sound
