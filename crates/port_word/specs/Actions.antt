@@ -1,6 +1,5 @@
 -- What actions do to ports: the flags and chunks of a port after a list of actions, in their order.
 use Rattle.std.specs.Prelude.{◌≡◌, ◌≢◌, ℕ, ◌+◌, ◌*◌, ◌==◌, Bool, true, false, not, ◌&&◌, ◌||◌, cond, List, [], ◌∷◌, Option, Some, None}
-use Rattle.std.specs.List.{All}
 use Rattle.chunk_data.specs.Values.{Table}
 use Rattle.port_word.specs.declared.flags.Flags.{Flags}
 use Rattle.port_word.specs.declared.flags.Action.{Action}
@@ -87,10 +86,15 @@ action_slot (Close i) = 5 * i + 2
 action_slot (Push o chunk) = 5 * o + 3
 action_slot (Finish o) = 5 * o + 4
 
+-- P holds of each action
+abbrev pub EachAction : (Action → Type 0) → List Action → Type 0
+EachAction P [] = Unit {0}
+EachAction P (a ∷ actions) = P a × EachAction P actions
+
 -- no two actions have one slot
 abbrev pub IsOnce : List Action → Type 0
 IsOnce [] = Unit {0}
-IsOnce (a ∷ actions) = All (λ b. action_slot b ≢ action_slot a) actions × IsOnce actions
+IsOnce (a ∷ actions) = EachAction (λ b. action_slot b ≢ action_slot a) actions × IsOnce actions
 
 abbrev pub want_of : Bool → ℕ → Action
 want_of true i = Want i

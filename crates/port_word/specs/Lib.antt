@@ -4,3 +4,4 @@ pub mod Calls
 pub mod Sights
 pub mod Status
 pub mod Sound
+pub mod Laws

@@ -5,7 +5,7 @@ use crate::flags::Action;
 
 /// Puts an action at the end of the list, in room that is there.
 pub(crate) fn note(actions: &mut Vec<Action>, action: Action)
-    requires { vec_len actions.old < vec_capacity actions.old }
+    requires { length actions.old.items < vec_capacity actions.old }
     ensures items { actions.new.items ≡ actions.old.items ++ action ∷ [] }
     ensures room { vec_capacity actions.old ≤ vec_capacity actions.new }
 {

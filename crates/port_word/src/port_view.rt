@@ -2,7 +2,7 @@ ghost use Rattle.std.specs.Prelude.{◌≡◌, ◌≢◌, ℕ, ◌<◌, ◌≤�
 ghost use Rattle.port_word.specs.Pictures.{input_at, output_at, in_count, out_count, holds_data, is_in_finished, may_push, is_out_finished, new_input, no_flags};
 ghost use Rattle.port_word.specs.Calls.{new_picture, after_pull, after_need, after_close, after_push, after_finish, after_grow, TakesFirst};
 ghost use Rattle.port_word.specs.Sights.{MaySee, after_see};
-ghost use Rattle.port_word.specs.Sound.{IsSound, action_room};
+ghost use Rattle.port_word.specs.Sound.{IsSound};
 
 use crate::flags::{Action, Flags, Port};
 use crate::notes::{note, note_want};
@@ -26,20 +26,15 @@ pub struct PortView {
 }
 
 impl Model for PortView {
-    ghost use Rattle.std.specs.Prelude.{ℕ, ◌≤◌, length, vec_capacity};
+    ghost use Rattle.std.specs.Prelude.{vec_capacity};
     ghost use Rattle.port_word.specs.Pictures.{Picture};
-    ghost use Rattle.port_word.specs.Sound.{IsSound, action_room};
+    ghost use Rattle.port_word.specs.Sound.{Fits};
 
     ghost Value = { Picture };
 
     ghost view = { λ v. record { inputs = v.inputs.items; outputs = v.outputs.items; actions = v.actions.items } };
 
-    ghost invariant = { λ v. record {
-        sound : IsSound (record { inputs = v.inputs.items; outputs = v.outputs.items; actions = v.actions.items });
-        room : action_room (length v.inputs.items) (length v.outputs.items) ≤ vec_capacity v.actions;
-        few_inputs : length v.inputs.items ≤ 32;
-        few_outputs : length v.outputs.items ≤ 16;
-    } };
+    ghost invariant = { λ v. Fits (record { inputs = v.inputs.items; outputs = v.outputs.items; actions = v.actions.items }) (vec_capacity v.actions) };
 }
 
 const NO_FLAGS: Flags = Flags {
@@ -182,11 +177,11 @@ impl PortView {
         ensures handed_back { IfErr result (λ c. c ≡ chunk) }
         ensures after { self.new ≡ after_push self.old o chunk }
     {
-        let flags = self.outputs[o];
-        if !flags.needed || flags.has_data || flags.fin_out {
+        let port = &mut self.outputs[o];
+        if !port.needed || port.has_data || port.fin_out {
             return Err(chunk);
         }
-        self.outputs[o].has_data = true;
+        port.has_data = true;
         note(&mut self.actions, Action::Push(o, chunk));
         Ok(())
     }
@@ -196,11 +191,11 @@ impl PortView {
         requires { o < out_count self.old }
         ensures { self.new ≡ after_finish self.old o }
     {
-        let flags = self.outputs[o];
-        if flags.fin_out || flags.fin_in {
+        let port = &mut self.outputs[o];
+        if port.fin_out || port.fin_in {
             return;
         }
-        self.outputs[o].fin_out = true;
+        port.fin_out = true;
         note(&mut self.actions, Action::Finish(o));
     }
 
@@ -235,10 +230,7 @@ impl PortView {
         self.inputs.reserve(more_inputs)?;
         self.outputs.reserve(more_outputs)?;
         let room = 5 * inputs.max(outputs);
-        let listed = self.actions.len();
-        if listed < room {
-            self.actions.reserve(room - listed)?;
-        }
+        self.actions.reserve(room.saturating_sub(self.actions.len()))?;
         add_inputs(&mut self.inputs, more_inputs);
         add_outputs(&mut self.outputs, more_outputs);
         Ok(())
