@@ -22,6 +22,14 @@ pub output-in-range : (p q : Picture) (o : ℕ) → p ≡ q → o < out_count q 
 unfolding out_count
 output-in-range p q o e h = subst (λ r. o < length r.outputs) (sym e) h
 
+pub inputs-below : (p q : Picture) (n : ℕ) → p ≡ q → in_count q ≤ n → length p.inputs ≤ n
+unfolding in_count
+inputs-below p q n e h = subst (λ r. length r.inputs ≤ n) (sym e) h
+
+pub outputs-below : (p q : Picture) (n : ℕ) → p ≡ q → out_count q ≤ n → length p.outputs ≤ n
+unfolding out_count
+outputs-below p q n e h = subst (λ r. length r.outputs ≤ n) (sym e) h
+
 fits-input : (p : Picture) (i : ℕ) (x : InputPort) (actions : List Action) (old new : ℕ) → Fits p old → IsSound (with_actions (with_input p i x) actions) → old ≤ new → Fits (with_actions (with_input p i x) actions) new
 unfolding with_input with_actions
 fits-input p i x actions old new f s le = record {
@@ -168,17 +176,6 @@ sound-grow p m n s =
       shown = λ i. grown-at (λ x. is_some x.chunk ≡ true → x.flags.has_data ≡ true) p.inputs m i new_input no_input (λ e. cc) (λ e. cc) (s.shown i);
     }
 
-pub fits-grow : (p : Picture) (inputs outputs old new : ℕ) → Fits p old → length p.inputs ≤ inputs → length p.outputs ≤ outputs → inputs ≤ 32 → outputs ≤ 16 → action_room inputs outputs ≤ new → Fits (record { inputs = p.inputs ++ replicate (inputs - length p.inputs) new_input; outputs = p.outputs ++ replicate (outputs - length p.outputs) no_flags; actions = p.actions }) new
-fits-grow p inputs outputs old new f mi mo fi fo room =
-    let a : length (p.inputs ++ replicate (inputs - length p.inputs) new_input) ≡ inputs = simp (length-append, length-replicate) (omega arith) in
-    let b : length (p.outputs ++ replicate (outputs - length p.outputs) no_flags) ≡ outputs = simp (length-append, length-replicate) (omega arith) in
-    record {
-      sound = sound-grow p (inputs - length p.inputs) (outputs - length p.outputs) f.sound;
-      room = rw (a, b) room;
-      few_inputs = rw a fi;
-      few_outputs = rw b fo;
-    }
-
 pub fits-new : (inputs outputs new : ℕ) → inputs ≤ 32 → outputs ≤ 16 → action_room inputs outputs ≤ new → Fits (record { inputs = replicate inputs new_input; outputs = replicate outputs no_flags; actions = [] }) new
 unfolding input_at
 fits-new inputs outputs new fi fo room = record {
@@ -192,3 +189,17 @@ fits-new inputs outputs new fi fo room = record {
   few_inputs = rw (length-replicate inputs new_input) fi;
   few_outputs = rw (length-replicate outputs no_flags) fo;
 }
+
+pub fits-grown : (p : Picture) (inputs outputs old new m n : ℕ) (ins : List InputPort) (outs : List Flags) (actions : List Action) → Fits p old → length p.inputs + m ≡ inputs → length p.outputs + n ≡ outputs → inputs ≤ 32 → outputs ≤ 16 → action_room inputs outputs ≤ new → ins ≡ p.inputs ++ replicate m new_input → outs ≡ p.outputs ++ replicate n no_flags → actions ≡ p.actions → Fits (record { inputs = ins; outputs = outs; actions = actions }) new
+fits-grown p inputs outputs old new m n ins outs actions f mi mo fi fo room ei eo ea =
+    let a : length (p.inputs ++ replicate m new_input) ≡ inputs = simp (length-append, length-replicate) mi in
+    let b : length (p.outputs ++ replicate n no_flags) ≡ outputs = simp (length-append, length-replicate) mo in
+    let grown : Fits (record { inputs = p.inputs ++ replicate m new_input; outputs = p.outputs ++ replicate n no_flags; actions = p.actions }) new = record {
+      sound = sound-grow p m n f.sound;
+      room = rw (a, b) room;
+      few_inputs = rw a fi;
+      few_outputs = rw b fo;
+    } in
+    subst (λ l. Fits (record { inputs = l; outputs = outs; actions = actions }) new) (sym ei)
+    (subst (λ l. Fits (record { inputs = p.inputs ++ replicate m new_input; outputs = l; actions = actions }) new) (sym eo)
+    (subst (λ l. Fits (record { inputs = p.inputs ++ replicate m new_input; outputs = p.outputs ++ replicate n no_flags; actions = l }) new) (sym ea) grown))
