@@ -1,3 +1,5 @@
 pub mod Slots
 pub mod Soundness
 pub mod Fitting
+pub mod Steps
+pub mod Differences

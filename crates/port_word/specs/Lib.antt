@@ -4,4 +4,5 @@ pub mod Calls
 pub mod Sights
 pub mod Status
 pub mod Sound
+pub mod Differences
 pub mod Laws
