@@ -9,7 +9,7 @@ use Rattle.port_word.specs.declared.flags.Action.TheVariants.{Want, Unwant, Pull
 use Rattle.port_word.specs.declared.port_view.InputPort.{InputPort}
 use Rattle.port_word.specs.Pictures.{Picture, input_at, output_at, in_count, out_count, with_input, with_output, with_actions, no_input, new_input, no_flags, over_flags, holds_data}
 use Rattle.port_word.specs.Actions.{EachAction, noted_want}
-use Rattle.port_word.specs.Calls.{noted, emptied, closed, with_needed}
+use Rattle.port_word.specs.Calls.{new_picture, noted, emptied, closed, with_needed}
 use Rattle.port_word.specs.Sound.{IsDone, IsSound, Fits, action_room}
 use Rattle.port_word.proofs.Slots.{each-map}
 use Rattle.port_word.proofs.Soundness.{Follows, done-follows, actions-fit, sound-pull, sound-close, sound-push, sound-finish, sound-want}
@@ -176,18 +176,14 @@ sound-grow p m n s =
       shown = λ i. grown-at (λ x. is_some x.chunk ≡ true → x.flags.has_data ≡ true) p.inputs m i new_input no_input (λ e. cc) (λ e. cc) (s.shown i);
     }
 
-pub fits-new : (inputs outputs new : ℕ) → inputs ≤ 32 → outputs ≤ 16 → action_room inputs outputs ≤ new → Fits (record { inputs = replicate inputs new_input; outputs = replicate outputs no_flags; actions = [] }) new
+-- a new picture is sound
+pub sound-new : (inputs outputs : ℕ) → IsSound (new_picture inputs outputs)
 unfolding input_at
-fits-new inputs outputs new fi fo room = record {
-  sound = record {
-    done = tt;
-    once = tt;
-    held = λ i. repeated-at (λ x. holds_data x.flags ≡ true → is_some x.chunk ≡ true) inputs i new_input no_input (λ e. cc) (λ e. cc);
-    shown = λ i. repeated-at (λ x. is_some x.chunk ≡ true → x.flags.has_data ≡ true) inputs i new_input no_input (λ e. cc) (λ e. cc);
-  };
-  room = rw (length-replicate inputs new_input, length-replicate outputs no_flags) room;
-  few_inputs = rw (length-replicate inputs new_input) fi;
-  few_outputs = rw (length-replicate outputs no_flags) fo;
+sound-new inputs outputs = record {
+  done = tt;
+  once = tt;
+  held = λ i. repeated-at (λ x. holds_data x.flags ≡ true → is_some x.chunk ≡ true) inputs i new_input no_input (λ e. cc) (λ e. cc);
+  shown = λ i. repeated-at (λ x. is_some x.chunk ≡ true → x.flags.has_data ≡ true) inputs i new_input no_input (λ e. cc) (λ e. cc);
 }
 
 pub fits-grown : (p : Picture) (inputs outputs old new m n : ℕ) (ins : List InputPort) (outs : List Flags) (actions : List Action) → Fits p old → length p.inputs + m ≡ inputs → length p.outputs + n ≡ outputs → inputs ≤ 32 → outputs ≤ 16 → action_room inputs outputs ≤ new → ins ≡ p.inputs ++ replicate m new_input → outs ≡ p.outputs ++ replicate n no_flags → actions ≡ p.actions → Fits (record { inputs = ins; outputs = outs; actions = actions }) new

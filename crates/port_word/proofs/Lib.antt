@@ -3,3 +3,4 @@ pub mod Soundness
 pub mod Fitting
 pub mod Steps
 pub mod Differences
+pub mod Laws

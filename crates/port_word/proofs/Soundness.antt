@@ -7,11 +7,11 @@ use Rattle.port_word.specs.declared.flags.Flags.{Flags}
 use Rattle.port_word.specs.declared.flags.Action.{Action}
 use Rattle.port_word.specs.declared.flags.Action.TheVariants.{Want, Unwant, Pull, Close, Push, Finish}
 use Rattle.port_word.specs.declared.port_view.InputPort.{InputPort}
-use Rattle.port_word.specs.Pictures.{Picture, input_at, output_at, in_count, out_count, with_input, with_output, with_actions, holds_data, may_push, is_out_finished}
+use Rattle.port_word.specs.Pictures.{Picture, input_at, output_at, in_count, out_count, with_input, with_output, with_actions, holds_data, can_push, is_out_finished}
 use Rattle.port_word.specs.Actions.{EachAction, IsOnce, action_slot, want_of, is_want, noted_want}
 use Rattle.port_word.specs.Calls.{noted, emptied, closed, with_needed}
 use Rattle.port_word.specs.Sound.{IsDone, IsSound, action_room}
-use Rattle.port_word.specs.Laws.{input_at-with_input, input_at-with_input-other, output_at-with_output, output_at-with_output-other, output_at-with_input, input_at-with_output, in_count-with_input, out_count-with_input, in_count-with_output, out_count-with_output, input_at-with_actions, output_at-with_actions, in_count-with_actions, out_count-with_actions, actions-with_actions, actions-with_input, actions-with_output, picture_laws}
+use Rattle.port_word.proofs.Laws.{input_at-with_input, input_at-with_input-other, output_at-with_output, output_at-with_output-other, output_at-with_input, input_at-with_output, in_count-with_input, out_count-with_input, in_count-with_output, out_count-with_output, input_at-with_actions, output_at-with_actions, in_count-with_actions, out_count-with_actions, actions-with_actions, actions-with_input, actions-with_output, picture_laws}
 use Rattle.port_word.proofs.Slots.{each-append, each-map, once-append, once-fits, each-noted_want, once-noted_want}
 
 -- what q shows goes on from what p shows: an emptied, closed, filled or finished port stays so
@@ -48,14 +48,16 @@ actions-fit p s =
 picked : (P : InputPort → Type 0) (p : Picture) (i : ℕ) (x : InputPort) (actions : List Action) (j : ℕ) → i < in_count p → (j ≡ i → P x) → P (input_at p j) → P (input_at (with_actions (with_input p i x) actions) j)
 unfolding with_actions input_at
 picked P p i x actions j lt px pj = elim (cases_eq j i) [
-    inl k ↦ subst P (sym (ap (λ n. input_at (with_input p i x) n) k ∙ input_at-with_input p i x lt)) (px k)
-  | inr ne ↦ subst P (sym (input_at-with_input-other p i j x ne)) pj ]
+  | inl k ↦ subst P (sym (ap (λ n. input_at (with_input p i x) n) k ∙ input_at-with_input p i x lt)) (px k)
+  | inr ne ↦ subst P (sym (input_at-with_input-other p i j x ne)) pj
+]
 
 picked-output : (P : Flags → Type 0) (p : Picture) (i : ℕ) (x : Flags) (actions : List Action) (j : ℕ) → i < out_count p → (j ≡ i → P x) → P (output_at p j) → P (output_at (with_actions (with_output p i x) actions) j)
 unfolding with_actions output_at
 picked-output P p i x actions j lt px pj = elim (cases_eq j i) [
-    inl k ↦ subst P (sym (ap (λ n. output_at (with_output p i x) n) k ∙ output_at-with_output p i x lt)) (px k)
-  | inr ne ↦ subst P (sym (output_at-with_output-other p i j x ne)) pj ]
+  | inl k ↦ subst P (sym (ap (λ n. output_at (with_output p i x) n) k ∙ output_at-with_output p i x lt)) (px k)
+  | inr ne ↦ subst P (sym (output_at-with_output-other p i j x ne)) pj
+]
 
 -- input i becomes x, and the actions become these: no data comes, and a closed input stays so
 pub record InputTurns (p : Picture) (i : ℕ) (x : InputPort) : Type 0 where

@@ -5,7 +5,7 @@ use Rattle.chunk_data.specs.Values.{Table}
 use Rattle.port_word.specs.declared.flags.Flags.{Flags}
 use Rattle.port_word.specs.declared.flags.Action.{Action}
 use Rattle.port_word.specs.declared.flags.Action.TheVariants.{Want, Unwant, Pull, Close, Push, Finish}
-use Rattle.port_word.specs.Pictures.{holds_data, may_push, is_out_finished}
+use Rattle.port_word.specs.Pictures.{holds_data, can_push, is_out_finished}
 use Rattle.port_word.proofs.Slots.{each-map, slot-is_want}
 use Rattle.port_word.specs.Actions.{input_step, chunk_step, output_step, input_after, chunk_after, output_after, input_allows, output_allows, InputAllows, OutputAllows, EachAction, IsOnce, action_slot, want_of, is_want, noted_want}
 
@@ -245,9 +245,10 @@ allows-replaced-at i b c xs f false h k = k
 
 inputs_allow-want-at : (i j : ℕ) (b : Bool) (x : Action) (xs : List Action) (f : Flags) (t : Bool) → is_want j x ≡ t → IsOnce (x ∷ xs) → InputAllows i (x ∷ xs) f → InputAllows i (noted_want j b xs) (input_step i x f) → InputAllows i (cond t (want_of b j ∷ xs) (x ∷ noted_want j b xs)) f
 unfolding needs
-inputs_allow-want-at i j b x xs f true e o h r =
-    (allows-want_of i j b f (allows-is_want i j x f e h.0),
-     subst (λ g. InputAllows i xs g) (sym (step-want_of i j b f)) (allows-replaced-at i b (asks x) xs f (i == j) (apart i j x xs (slot-is_want j x e) o) (subst (λ g. InputAllows i xs g) (step-is_want i j x f e) h.1)))
+inputs_allow-want-at i j b x xs f true e o h r = (
+  allows-want_of i j b f (allows-is_want i j x f e h.0),
+  subst (λ g. InputAllows i xs g) (sym (step-want_of i j b f)) (allows-replaced-at i b (asks x) xs f (i == j) (apart i j x xs (slot-is_want j x e) o) (subst (λ g. InputAllows i xs g) (step-is_want i j x f e) h.1)),
+)
 inputs_allow-want-at i j b x xs f false e o h r = (h.0, r)
 
 pub inputs_allow-want : (i j : ℕ) (b : Bool) (xs : List Action) (f : Flags) → IsOnce xs → InputAllows i xs f → (not (i == j) || not (input_after i xs f).fin_in) ≡ true → InputAllows i (noted_want j b xs) f

@@ -4,7 +4,7 @@ use Rattle.chunk_data.specs.Values.{Table}
 use Rattle.port_word.specs.declared.flags.Flags.{Flags}
 use Rattle.port_word.specs.declared.flags.Action.{Action}
 use Rattle.port_word.specs.declared.flags.Action.TheVariants.{Want, Unwant, Pull, Close, Push, Finish}
-use Rattle.port_word.specs.Pictures.{holds_data, may_push, is_out_finished}
+use Rattle.port_word.specs.Pictures.{holds_data, can_push, is_out_finished}
 
 -- the flags of input i after an action
 abbrev pub input_step : ℕ → Action → Flags → Flags
@@ -63,7 +63,7 @@ output_allows o (Want j) f = true
 output_allows o (Unwant j) f = true
 output_allows o (Pull j) f = true
 output_allows o (Close j) f = true
-output_allows o (Push j chunk) f = not (o == j) || may_push f
+output_allows o (Push j chunk) f = not (o == j) || can_push f
 output_allows o (Finish j) f = not (o == j) || not (is_out_finished f)
 
 -- each action stands where input i allows it

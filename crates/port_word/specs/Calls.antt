@@ -5,7 +5,7 @@ use Rattle.port_word.specs.declared.flags.Flags.{Flags}
 use Rattle.port_word.specs.declared.flags.Action.{Action}
 use Rattle.port_word.specs.declared.flags.Action.TheVariants.{Want, Unwant, Pull, Close, Push, Finish}
 use Rattle.port_word.specs.declared.port_view.InputPort.{InputPort}
-use Rattle.port_word.specs.Pictures.{Picture, input_at, output_at, in_count, out_count, with_input, with_output, with_actions, new_input, no_flags, holds_data, may_push, is_out_finished}
+use Rattle.port_word.specs.Pictures.{Picture, input_at, output_at, in_count, out_count, with_input, with_output, with_actions, new_input, no_flags, holds_data, can_push, is_out_finished}
 use Rattle.port_word.specs.Actions.{noted_want}
 
 -- a new picture of so many ports, with no flag set
@@ -39,7 +39,7 @@ after_close p i = cond (input_at p i).flags.fin_in p (noted (with_input p i (clo
 
 -- the chunk is pushed, where the port allows it
 abbrev pub after_push : Picture → ℕ → Table → Picture
-after_push p o chunk = cond (may_push (output_at p o)) (noted (with_output p o (record (output_at p o) { has_data = true })) (Push o chunk)) p
+after_push p o chunk = cond (can_push (output_at p o)) (noted (with_output p o (record (output_at p o) { has_data = true })) (Push o chunk)) p
 
 abbrev pub after_finish : Picture → ℕ → Picture
 after_finish p o = cond (is_out_finished (output_at p o)) p (noted (with_output p o (record (output_at p o) { fin_out = true })) (Finish o))

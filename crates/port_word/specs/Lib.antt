@@ -5,4 +5,3 @@ pub mod Sights
 pub mod Status
 pub mod Sound
 pub mod Differences
-pub mod Laws

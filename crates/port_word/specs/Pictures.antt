@@ -48,10 +48,6 @@ with_output p o f = record p { outputs = slice_set p.outputs o f }
 unfoldable pub with_actions : Picture → List Action → Picture
 with_actions p actions = record p { actions = actions }
 
--- the node closed the input
-abbrev pub is_closed : Flags → Bool
-is_closed f = f.fin_in
-
 -- data lies at an input that the node hasn't closed
 abbrev pub holds_data : Flags → Bool
 holds_data f = f.has_data && not f.fin_in
@@ -61,8 +57,8 @@ abbrev pub is_in_finished : Flags → Bool
 is_in_finished f = f.fin_in || (f.fin_out && not f.has_data)
 
 -- the port is needed, has no data, and its producer hasn't finished it
-abbrev pub may_push : Flags → Bool
-may_push f = f.needed && (not f.has_data && not f.fin_out)
+abbrev pub can_push : Flags → Bool
+can_push f = f.needed && (not f.has_data && not f.fin_out)
 
 -- a finished flag of the port is set
 abbrev pub is_out_finished : Flags → Bool

@@ -1,5 +1,5 @@
 ghost use Rattle.std.specs.Prelude.{◌≡◌, ◌≢◌, ℕ, ◌<◌, ◌≤◌, ◌↔◌, Bool, true, false, is_some, length, None, Some, [], drop, IfOk, OnOk, OnErr, OnSome, IfErr, IsTrue, MatchOption, MatchResult, slice_index_or, vec_capacity, vec_len, replicate, ◌+◌, ◌++◌};
-ghost use Rattle.port_word.specs.Pictures.{input_at, output_at, in_count, out_count, holds_data, is_in_finished, may_push, is_out_finished, new_input, no_flags};
+ghost use Rattle.port_word.specs.Pictures.{input_at, output_at, in_count, out_count, holds_data, is_in_finished, can_push, is_out_finished, new_input, no_flags};
 ghost use Rattle.port_word.specs.Calls.{new_picture, after_pull, after_need, after_close, after_push, after_finish, after_grow, TakesFirst};
 ghost use Rattle.port_word.specs.Sights.{MaySee, after_see};
 ghost use Rattle.port_word.specs.Sound.{IsSound};
@@ -154,7 +154,7 @@ impl PortView {
     /// Whether the output is needed, has no data, and this node hasn't finished it.
     pub fn can_push(&self, o: usize) -> bool
         requires { o < out_count self.now }
-        ensures { result ≡ may_push (output_at self.now o) }
+        ensures { result ≡ can_push (output_at self.now o) }
     {
         let flags = self.outputs[o];
         flags.needed && (!flags.has_data && !flags.fin_out)
@@ -172,8 +172,8 @@ impl PortView {
     /// Pushes the chunk; where `can_push` is false it is handed back.
     pub fn push(&mut self, o: usize, chunk: Chunk) -> Result<(), Chunk>
         requires { o < out_count self.old }
-        ensures ok { OnOk result (may_push (output_at self.old o) ≡ true) }
-        ensures refused { OnErr result (may_push (output_at self.old o) ≡ false) }
+        ensures ok { OnOk result (can_push (output_at self.old o) ≡ true) }
+        ensures refused { OnErr result (can_push (output_at self.old o) ≡ false) }
         ensures handed_back { IfErr result (λ c. c ≡ chunk) }
         ensures after { self.new ≡ after_push self.old o chunk }
     {
@@ -202,7 +202,8 @@ impl PortView {
     /// Brings a port up to date with what the executor read of it.
     pub fn see(&mut self, port: Port, flags: Flags, chunk: Option<Chunk>)
         requires { MaySee self.old port flags chunk }
-        ensures { self.new ≡ after_see self.old port flags chunk }
+        ensures after { self.new ≡ after_see self.old port flags chunk }
+        ensures sound { IsSound self.new }
     {
         match port {
             Port::Input(i) => {
@@ -230,7 +231,8 @@ impl PortView {
         self.inputs.reserve(more_inputs)?;
         self.outputs.reserve(more_outputs)?;
         let room = 5 * inputs.max(outputs);
-        self.actions.reserve(room.saturating_sub(self.actions.len()))?;
+        self.actions
+            .reserve(room.saturating_sub(self.actions.len()))?;
         add_inputs(&mut self.inputs, more_inputs);
         add_outputs(&mut self.outputs, more_outputs);
         Ok(())
