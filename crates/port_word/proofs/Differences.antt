@@ -1,15 +1,15 @@
 -- Each call keeps the law of a list of actions, and what is true of every picture.
-use Rattle.std.proofs.Common.{◌≡◌, ◌≢◌, ℕ, ◌+◌, ◌*◌, ◌<◌, ◌≤◌, ◌==◌, not, ◌&&◌, ◌||◌, Bool, true, false, cond, Option, Some, None, List, [], ◌∷◌, ◌++◌, length, get_or, refl, sym, ap, subst, arith, ◌∙◌, inl, inr, ◌⊎◌}
+use Rattle.std.proofs.Common.{◌≡◌, ℕ, ◌<◌, ◌==◌, not, ◌&&◌, ◌||◌, Bool, true, false, cond, Option, List, [], ◌∷◌, ◌++◌, length, get_or, refl, sym, ap, subst, ◌∙◌, inl, inr}
 use Rattle.std.proofs.lemmas.Bool.{eqb-true, eqb-false, cases_lt}
 use Rattle.std.proofs.Math.ListN.{get_or-eq_default}
 use Rattle.chunk_data.specs.Values.{Table}
 use Rattle.port_word.specs.declared.flags.Flags.{Flags}
 use Rattle.port_word.specs.declared.flags.Action.{Action}
-use Rattle.port_word.specs.declared.flags.Action.TheVariants.{Want, Unwant, Pull, Close, Push, Finish}
+use Rattle.port_word.specs.declared.flags.Action.TheVariants.{Pull, Close, Push, Finish}
 use Rattle.port_word.specs.declared.port_view.InputPort.{InputPort}
 use Rattle.port_word.specs.Pictures.{Picture, input_at, output_at, in_count, out_count, with_input, with_output, with_actions, no_input, over_flags, holds_data, can_push, is_out_finished}
-use Rattle.port_word.specs.Actions.{input_step, chunk_step, output_step, input_after, chunk_after, output_after, input_allows, output_allows, InputAllows, OutputAllows, IsOnce, noted_want}
-use Rattle.port_word.specs.Calls.{noted, emptied, closed, with_needed, after_pull, after_need, after_close, after_push, after_finish}
+use Rattle.port_word.specs.Actions.{input_step, chunk_step, output_step, input_allows, output_allows, IsOnce, noted_want}
+use Rattle.port_word.specs.Calls.{noted, emptied, closed, with_needed}
 use Rattle.port_word.proofs.Laws.{input_at-with_input, input_at-with_input-other, output_at-with_output, output_at-with_output-other}
 use Rattle.port_word.specs.Sound.{IsSound}
 use Rattle.port_word.specs.Differences.{Explains, IsDifference, PortCall, pull_call, need_call, close_call, push_call, finish_call, after_call, after_calls, ChangedByCalls}

@@ -1,14 +1,13 @@
 -- Each call leaves room for the actions that may still come.
-use Rattle.std.proofs.Common.{◌≡◌, ◌≢◌, ℕ, ◌+◌, ◌-◌, ◌*◌, ◌<◌, ◌≤◌, ◌==◌, max, not, ◌&&◌, ◌||◌, Bool, true, false, cond, Option, Some, None, is_some, List, [], ◌∷◌, ◌++◌, length, get_or, set, zero, suc, refl, sym, ap, subst, arith, ◌∙◌, length-append, replicate}
+use Rattle.std.proofs.Common.{◌≡◌, ℕ, ◌+◌, ◌<◌, ◌≤◌, Bool, true, false, Option, None, is_some, List, [], ◌∷◌, ◌++◌, length, get_or, set, zero, suc, sym, ap, subst, arith, ◌∙◌, length-append, replicate}
 use Rattle.std.proofs.lemmas.List.{length-set, get_or_default, length-replicate, get_or_append_left}
-use Rattle.std.proofs.lemmas.Grind.{common_steps}
 use Rattle.chunk_data.specs.Values.{Table}
 use Rattle.port_word.specs.declared.flags.Flags.{Flags}
 use Rattle.port_word.specs.declared.flags.Action.{Action}
-use Rattle.port_word.specs.declared.flags.Action.TheVariants.{Want, Unwant, Pull, Close, Push, Finish}
+use Rattle.port_word.specs.declared.flags.Action.TheVariants.{Pull, Close, Push, Finish}
 use Rattle.port_word.specs.declared.port_view.InputPort.{InputPort}
 use Rattle.port_word.specs.Pictures.{Picture, input_at, output_at, in_count, out_count, with_input, with_output, with_actions, no_input, new_input, no_flags, over_flags, holds_data}
-use Rattle.port_word.specs.Actions.{EachAction, noted_want}
+use Rattle.port_word.specs.Actions.{noted_want}
 use Rattle.port_word.specs.Calls.{new_picture, noted, emptied, closed, with_needed}
 use Rattle.port_word.specs.Sound.{IsDone, IsSound, Fits, action_room}
 use Rattle.port_word.proofs.Slots.{each-map}

@@ -1,9 +1,9 @@
 -- The law of a list of actions: what it makes of the ports as they were.
-use Rattle.std.specs.Prelude.{◌≡◌, ℕ, Bool, true, false, List, [], ◌∷◌, Option}
+use Rattle.std.specs.Prelude.{◌≡◌, ℕ, Bool, List, [], ◌∷◌, Option}
 use Rattle.chunk_data.specs.Values.{Table}
 use Rattle.port_word.specs.declared.flags.Flags.{Flags}
 use Rattle.port_word.specs.declared.flags.Action.{Action}
-use Rattle.port_word.specs.Pictures.{Picture, input_at, output_at, in_count, out_count}
+use Rattle.port_word.specs.Pictures.{Picture, input_at, output_at}
 use Rattle.port_word.specs.Actions.{input_after, chunk_after, output_after, InputAllows, OutputAllows}
 use Rattle.port_word.specs.Calls.{after_pull, after_need, after_close, after_push, after_finish}
 

@@ -1,6 +1,5 @@
 -- A node's picture of its ports, as plain data, and the words by which contracts read it.
-use Rattle.std.specs.Prelude.{◌≡◌, ℕ, Bool, true, false, not, ◌&&◌, ◌||◌, cond, List, length, Option, Some, None, is_some, slice_index_or, slice_set}
-use Rattle.chunk_data.specs.Values.{Table}
+use Rattle.std.specs.Prelude.{ℕ, Bool, true, false, not, ◌&&◌, ◌||◌, List, length, None, slice_index_or, slice_set}
 use Rattle.port_word.specs.declared.flags.Flags.{Flags}
 use Rattle.port_word.specs.declared.flags.Action.{Action}
 use Rattle.port_word.specs.declared.port_view.InputPort.{InputPort}

@@ -1,5 +1,5 @@
 -- What a processor's answer says of its ports, by their flags.
-use Rattle.std.specs.Prelude.{◌≡◌, ℕ, ◌<◌, Bool, true, false, not}
+use Rattle.std.specs.Prelude.{◌≡◌, ℕ, ◌<◌, true, false}
 use Rattle.port_word.specs.Pictures.{Picture, input_at, output_at, in_count, out_count, is_in_finished, is_out_finished}
 
 -- some input is needed, empty and not finished
