@@ -22,7 +22,7 @@ pub record IsSound (p : Picture) : Type 0 where
   pub held : (i : ℕ) → holds_data (input_at p i).flags ≡ true → is_some (input_at p i).chunk ≡ true
   pub shown : (i : ℕ) → is_some (input_at p i).chunk ≡ true → (input_at p i).flags.has_data ≡ true
 
--- room for every action that can stand in a list, of so many inputs and outputs
+-- room for every action that can stand in a list: a port number has three slots as an input and two as an output
 abbrev pub action_room : ℕ → ℕ → ℕ
 action_room inputs outputs = 5 * max inputs outputs
 

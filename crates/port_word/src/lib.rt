@@ -8,8 +8,9 @@
 //!
 //! An executor brings a port up to date by `see`, lets the processor prepare, and then takes the actions one
 //! by one by `next_action` and carries each out on the shared port. Carried out in this order on the flags
-//! that it showed, they give the flags of the picture (`specs/Actions.antt`), and each stands where the port
-//! allows it: a push where the port is needed, empty and open, a pull where there is data.
+//! that it showed, they give the flags of the picture, and each stands where the port allows it: a push where
+//! the port is needed, empty and open, a pull where there is data (`Explains` of `specs/Differences.antt`, kept
+//! by every call as `proofs/Differences.antt` shows).
 #![tactic(auto, unfolding(crate::specs::Pictures::input_at, crate::specs::Pictures::output_at, crate::specs::Pictures::with_input, crate::specs::Pictures::with_output, crate::specs::Pictures::with_actions, crate::specs::Pictures::in_count, crate::specs::Pictures::out_count))]
 
 mod flags;

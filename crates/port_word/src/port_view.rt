@@ -1,4 +1,4 @@
-ghost use Rattle.std.specs.Prelude.{◌≡◌, ◌≢◌, ℕ, ◌<◌, ◌≤◌, ◌↔◌, Bool, true, false, is_some, length, None, Some, [], drop, IfOk, OnOk, OnErr, OnSome, IfErr, IsTrue, MatchOption, MatchResult, slice_index_or, vec_capacity, vec_len, replicate, ◌+◌, ◌++◌};
+ghost use Rattle.std.specs.Prelude.{◌≡◌, ◌+◌, ◌<◌, ◌≤◌, ◌++◌, true, false, is_some, IfOk, OnOk, OnErr, IfErr, replicate, vec_capacity, vec_len};
 ghost use Rattle.port_word.specs.Pictures.{input_at, output_at, in_count, out_count, holds_data, is_in_finished, can_push, is_out_finished, new_input, no_flags};
 ghost use Rattle.port_word.specs.Calls.{new_picture, after_pull, after_need, after_close, after_push, after_finish, after_grow, TakesFirst};
 ghost use Rattle.port_word.specs.Sights.{MaySee, after_see};
@@ -17,7 +17,8 @@ pub struct InputPort {
     pub chunk: Option<Chunk>,
 }
 
-/// A node's picture of its ports. Every number of a port is in range as a condition.
+/// A node's picture of its ports. Every number of a port is in range as a condition. No call but `new` and
+/// `grow` takes memory.
 #[derive(Debug, Drop)]
 pub struct PortView {
     inputs: Vec<InputPort>,
