@@ -14,7 +14,7 @@ use Rattle.port_word.proofs.Laws.{input_at-with_input, input_at-with_input-other
 use Rattle.port_word.specs.Sound.{IsSound}
 use Rattle.port_word.specs.Differences.{Explains, IsDifference, PortCall, pull_call, need_call, close_call, push_call, finish_call, after_call, after_calls, ChangedByCalls}
 use Rattle.port_word.proofs.Soundness.{sound-pull, sound-close, sound-push, sound-finish, sound-want}
-use Rattle.port_word.proofs.Steps.{cond-ap, needs, input_after-append, chunk_after-append, output_after-append, inputs_allow-append, outputs_allow-append, input_after-want, chunk_after-want, output_after-want, inputs_allow-want, outputs_allow-want, input_after-fin_out, input_after-fin_in, output_after-needed, output_after-fin_in, output_after-fin_out}
+use Rattle.port_word.proofs.Steps.{cond-ap, cond-same, needs, input_after-append, chunk_after-append, output_after-append, inputs_allow-append, outputs_allow-append, input_after-want, chunk_after-want, output_after-want, inputs_allow-want, outputs_allow-want, input_after-fin_out, input_after-fin_in, output_after-needed, output_after-fin_in, output_after-fin_out}
 
 -- the picture q is p after the action, which each port allows
 record StepsTo (p : Picture) (a : Action) (q : Picture) : Type 0 where
@@ -58,10 +58,6 @@ allowed-at P i j false e h = refl
 allowed : (P : ℕ → Bool) (i j : ℕ) → P j ≡ true → (not (i == j) || P i) ≡ true
 allowed P i j h = allowed-at P i j (i == j) refl h
 
-cond-same-at : {A B : Type 0} (h : A → B) (b : Bool) (x y : A) → h x ≡ h y → h (cond b x y) ≡ h y
-cond-same-at h true x y e = e
-cond-same-at h false x y e = refl
-
 steps-pull : (p : Picture) (j : ℕ) → j < in_count p → holds_data (input_at p j).flags ≡ true → StepsTo p (Pull j) (noted (with_input p j (emptied (input_at p j))) (Pull j))
 unfolding with_actions with_input input_at output_at
 steps-pull p j lt h = record {
@@ -76,7 +72,7 @@ steps-close : (p : Picture) (j : ℕ) → j < in_count p → (input_at p j).flag
 unfolding with_actions with_input input_at output_at
 steps-close p j lt h = record {
   flags = λ i. ap (λ y. y.flags) (turned closed p j i lt) ∙ cond-ap (λ y. y.flags) (i == j) (closed (input_at p i)) (input_at p i);
-  chunk = λ i. ap (λ y. y.chunk) (turned closed p j i lt) ∙ cond-same-at (λ y. y.chunk) (i == j) (closed (input_at p i)) (input_at p i) refl;
+  chunk = λ i. ap (λ y. y.chunk) (turned closed p j i lt) ∙ cond-same (λ y. y.chunk) (i == j) (closed (input_at p i)) (input_at p i) refl;
   output = λ o. refl;
   input_may = λ i. allowed (λ n. not (input_at p n).flags.fin_in) i j (ap not h);
   output_may = λ o. refl;
@@ -112,7 +108,7 @@ explains-want ins chunks outs p j b once lt h e = record {
       ∙ sym (input_after-want i j b p.actions (ins i) once);
   input_chunks = λ i.
       ap (λ y. y.chunk) (turned (λ y. with_needed y b) p j i lt)
-      ∙ cond-same-at (λ y. y.chunk) (i == j) (with_needed (input_at p i) b) (input_at p i) refl
+      ∙ cond-same (λ y. y.chunk) (i == j) (with_needed (input_at p i) b) (input_at p i) refl
       ∙ e.input_chunks i ∙ sym (chunk_after-want i j b p.actions (chunks i));
   output_flags = λ o. e.output_flags o ∙ sym (output_after-want o j b p.actions (outs o));
   inputs_allow = λ i. inputs_allow-want i j b p.actions (ins i) once (e.inputs_allow i) (ap (λ f. not (i == j) || not f.fin_in) (sym (e.input_flags i)) ∙ allowed (λ n. not (input_at p n).flags.fin_in) i j (ap not h));

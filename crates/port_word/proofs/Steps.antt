@@ -12,7 +12,7 @@ pub cond-ap : {A B : Type 0} (h : A → B) (b : Bool) (x y : A) → h (cond b x 
 cond-ap h true x y = refl
 cond-ap h false x y = refl
 
-cond-same : {A B : Type 0} (h : A → B) (b : Bool) (x y : A) → h x ≡ h y → h (cond b x y) ≡ h y
+pub cond-same : {A B : Type 0} (h : A → B) (b : Bool) (x y : A) → h x ≡ h y → h (cond b x y) ≡ h y
 cond-same h true x y e = e
 cond-same h false x y e = refl
 
