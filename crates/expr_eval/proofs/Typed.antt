@@ -1,15 +1,14 @@
 -- Laws of typed expressions.
-use Rattle.std.proofs.Common.{◌≡◌, ℕ, ◌<◌, Bool, true, false, List, [], length, refl, ap, sym, ◌∙◌, arith, ℤ, pos, negsuc, if◌then◌else◌}
-use Rattle.chunk_data.specs.Values.{Row, FitsType, FitsTypes, value_at, type_of as type_of_value}
+use Rattle.std.proofs.Common.{◌≡◌, Bool, true, false, List, [], length, refl, ap, ◌∙◌, arith, ℤ, if◌then◌else◌}
+use Rattle.chunk_data.specs.Values.{Row, FitsType, FitsTypes, type_of as type_of_value}
 use Rattle.chunk_data.proofs.Laws.{FitsTypes-at, length-FitsTypes}
 use Rattle.chunk_data.specs.declared.typed_value.Value.{Value}
 use Rattle.chunk_data.specs.declared.typed_value.Value.TheVariants.{Int, UInt, Text}
 use Rattle.chunk_data.specs.declared.typed_value.ColumnType.{ColumnType}
 use Rattle.chunk_data.specs.declared.typed_value.ColumnType.TheVariants as column
-use Rattle.query_model.specs.declared.query.ArithOp.{ArithOp}
 use Rattle.query_model.specs.declared.query.ExprOf.TheVariants as expr
 use Rattle.query_model.specs.Numbers.{wrapped, is_uint}
-use Rattle.query_model.specs.Expressions.{Expr, IsWithin, value_of, type_of, plain_value, number_of, gives_uint, is_uint_column}
+use Rattle.query_model.specs.Expressions.{Expr, IsWithin, value_of, type_of, gives_uint, is_uint_column}
 use Rattle.expr_eval.specs.Typing.{IsTyped}
 
 -- the columns of a typed expression are there

@@ -1,5 +1,5 @@
-// One loop for each operator and shape of its operands. Each is written once for all operators and inlined at
-// each of them, so that the operator is a constant within the loop.
+// One loop for each operator and shape of its operands. Each stands by itself, since a closure is compiled once: with the
+// operator taken from outside it would be told apart at every row.
 ghost use Rattle.std.specs.Prelude.{◌≡◌, ◌-ℤ◌, pos, length, map, IfOk};
 ghost use Rattle.std.specs.List.{zip};
 ghost use Rattle.std.specs.Int.{int_wrap, w64};
@@ -46,63 +46,6 @@ pub(crate) fn uint_difference(x: u64, y: u64) -> i64
     sub_uint(x, y)
 }
 
-#[inline(always)]
-fn sided_int_result(swapped: bool, op: ArithOp, x: i64, y: i64) -> i64
-    ensures { result ≡ int_wrap w64 (sided swapped (exact_result op) x y) }
-{
-    if swapped {
-        int_result(op, y, x)
-    } else {
-        int_result(op, x, y)
-    }
-}
-
-#[inline(always)]
-fn sided_uint_result(swapped: bool, op: ArithOp, x: u64, y: u64) -> u64
-    ensures { result ≡ residue (sided swapped (exact_result op) (pos x) (pos y)) }
-{
-    if swapped {
-        uint_result(op, y, x)
-    } else {
-        uint_result(op, x, y)
-    }
-}
-
-#[inline(always)]
-fn sided_uint_difference(swapped: bool, x: u64, y: u64) -> i64
-    ensures { result ≡ int_wrap w64 (sided swapped (λ a b. a -ℤ b) (pos x) (pos y)) }
-{
-    if swapped {
-        uint_difference(y, x)
-    } else {
-        uint_difference(x, y)
-    }
-}
-
-#[inline(always)]
-fn each_int_pair(alloc: Global, op: ArithOp, xs: &[i64], ys: &[i64]) -> Result<Vec<i64>, Memory>
-    ensures { IfOk result (λ v. v.items ≡ map (λ p. int_wrap w64 (exact_result op p.0 p.1)) (zip xs.now ys.now)) }
-{
-    Ok(
-        xs.iter()
-            .zip(ys.iter())
-            .map(|(x, y)| int_result(op, *x, *y))
-            .collect(alloc)?,
-    )
-}
-
-#[inline(always)]
-fn each_uint_pair(alloc: Global, op: ArithOp, xs: &[u64], ys: &[u64]) -> Result<Vec<u64>, Memory>
-    ensures { IfOk result (λ v. v.items ≡ map (λ p. residue (exact_result op (pos p.0) (pos p.1))) (zip xs.now ys.now)) }
-{
-    Ok(
-        xs.iter()
-            .zip(ys.iter())
-            .map(|(x, y)| uint_result(op, *x, *y))
-            .collect(alloc)?,
-    )
-}
-
 /// The differences of UInt64, which are Int64.
 pub(crate) fn uint_differences(alloc: Global, xs: &[u64], ys: &[u64]) -> Result<Vec<i64>, Memory>
     ensures { IfOk result (λ v. v.items ≡ map (λ p. int_wrap w64 (pos p.0 -ℤ pos p.1)) (zip xs.now ys.now)) }
@@ -111,40 +54,6 @@ pub(crate) fn uint_differences(alloc: Global, xs: &[u64], ys: &[u64]) -> Result<
         xs.iter()
             .zip(ys.iter())
             .map(|(x, y)| uint_difference(*x, *y))
-            .collect(alloc)?,
-    )
-}
-
-#[inline(always)]
-fn each_int_beside(
-    alloc: Global,
-    swapped: bool,
-    op: ArithOp,
-    xs: &[i64],
-    y: i64,
-) -> Result<Vec<i64>, Memory>
-    ensures { IfOk result (λ v. v.items ≡ map (λ x. int_wrap w64 (sided swapped (exact_result op) x y)) xs.now) }
-{
-    Ok(
-        xs.iter()
-            .map(|x| sided_int_result(swapped, op, *x, y))
-            .collect(alloc)?,
-    )
-}
-
-#[inline(always)]
-fn each_uint_beside(
-    alloc: Global,
-    swapped: bool,
-    op: ArithOp,
-    xs: &[u64],
-    y: u64,
-) -> Result<Vec<u64>, Memory>
-    ensures { IfOk result (λ v. v.items ≡ map (λ x. residue (sided swapped (exact_result op) (pos x) (pos y))) xs.now) }
-{
-    Ok(
-        xs.iter()
-            .map(|x| sided_uint_result(swapped, op, *x, y))
             .collect(alloc)?,
     )
 }
@@ -158,11 +67,11 @@ pub(crate) fn uint_differences_beside(
 ) -> Result<Vec<i64>, Memory>
     ensures { IfOk result (λ v. v.items ≡ map (λ x. int_wrap w64 (sided swapped (λ a b. a -ℤ b) (pos x) (pos y))) xs.now) }
 {
-    Ok(
-        xs.iter()
-            .map(|x| sided_uint_difference(swapped, *x, y))
-            .collect(alloc)?,
-    )
+    if swapped {
+        Ok(xs.iter().map(|x| uint_difference(y, *x)).collect(alloc)?)
+    } else {
+        Ok(xs.iter().map(|x| uint_difference(*x, y)).collect(alloc)?)
+    }
 }
 
 /// The results at each pair.
@@ -175,9 +84,24 @@ pub(crate) fn int_results(
     ensures { IfOk result (λ v. v.items ≡ map (λ p. int_wrap w64 (exact_result op p.0 p.1)) (zip xs.now ys.now)) }
 {
     match op {
-        ArithOp::Add => each_int_pair(alloc, ArithOp::Add, xs, ys),
-        ArithOp::Sub => each_int_pair(alloc, ArithOp::Sub, xs, ys),
-        ArithOp::Mul => each_int_pair(alloc, ArithOp::Mul, xs, ys),
+        ArithOp::Add => Ok(
+            xs.iter()
+                .zip(ys.iter())
+                .map(|(x, y)| int_result(ArithOp::Add, *x, *y))
+                .collect(alloc)?,
+        ),
+        ArithOp::Sub => Ok(
+            xs.iter()
+                .zip(ys.iter())
+                .map(|(x, y)| int_result(ArithOp::Sub, *x, *y))
+                .collect(alloc)?,
+        ),
+        ArithOp::Mul => Ok(
+            xs.iter()
+                .zip(ys.iter())
+                .map(|(x, y)| int_result(ArithOp::Mul, *x, *y))
+                .collect(alloc)?,
+        ),
     }
 }
 
@@ -191,9 +115,24 @@ pub(crate) fn uint_results(
     ensures { IfOk result (λ v. v.items ≡ map (λ p. residue (exact_result op (pos p.0) (pos p.1))) (zip xs.now ys.now)) }
 {
     match op {
-        ArithOp::Add => each_uint_pair(alloc, ArithOp::Add, xs, ys),
-        ArithOp::Sub => each_uint_pair(alloc, ArithOp::Sub, xs, ys),
-        ArithOp::Mul => each_uint_pair(alloc, ArithOp::Mul, xs, ys),
+        ArithOp::Add => Ok(
+            xs.iter()
+                .zip(ys.iter())
+                .map(|(x, y)| uint_result(ArithOp::Add, *x, *y))
+                .collect(alloc)?,
+        ),
+        ArithOp::Sub => Ok(
+            xs.iter()
+                .zip(ys.iter())
+                .map(|(x, y)| uint_result(ArithOp::Sub, *x, *y))
+                .collect(alloc)?,
+        ),
+        ArithOp::Mul => Ok(
+            xs.iter()
+                .zip(ys.iter())
+                .map(|(x, y)| uint_result(ArithOp::Mul, *x, *y))
+                .collect(alloc)?,
+        ),
     }
 }
 
@@ -207,10 +146,37 @@ pub(crate) fn int_results_beside(
 ) -> Result<Vec<i64>, Memory>
     ensures { IfOk result (λ v. v.items ≡ map (λ x. int_wrap w64 (sided swapped (exact_result op) x y)) xs.now) }
 {
-    match op {
-        ArithOp::Add => each_int_beside(alloc, swapped, ArithOp::Add, xs, y),
-        ArithOp::Sub => each_int_beside(alloc, swapped, ArithOp::Sub, xs, y),
-        ArithOp::Mul => each_int_beside(alloc, swapped, ArithOp::Mul, xs, y),
+    match (op, swapped) {
+        (ArithOp::Add, true) => Ok(
+            xs.iter()
+                .map(|x| int_result(ArithOp::Add, y, *x))
+                .collect(alloc)?,
+        ),
+        (ArithOp::Add, false) => Ok(
+            xs.iter()
+                .map(|x| int_result(ArithOp::Add, *x, y))
+                .collect(alloc)?,
+        ),
+        (ArithOp::Sub, true) => Ok(
+            xs.iter()
+                .map(|x| int_result(ArithOp::Sub, y, *x))
+                .collect(alloc)?,
+        ),
+        (ArithOp::Sub, false) => Ok(
+            xs.iter()
+                .map(|x| int_result(ArithOp::Sub, *x, y))
+                .collect(alloc)?,
+        ),
+        (ArithOp::Mul, true) => Ok(
+            xs.iter()
+                .map(|x| int_result(ArithOp::Mul, y, *x))
+                .collect(alloc)?,
+        ),
+        (ArithOp::Mul, false) => Ok(
+            xs.iter()
+                .map(|x| int_result(ArithOp::Mul, *x, y))
+                .collect(alloc)?,
+        ),
     }
 }
 
@@ -224,10 +190,37 @@ pub(crate) fn uint_results_beside(
 ) -> Result<Vec<u64>, Memory>
     ensures { IfOk result (λ v. v.items ≡ map (λ x. residue (sided swapped (exact_result op) (pos x) (pos y))) xs.now) }
 {
-    match op {
-        ArithOp::Add => each_uint_beside(alloc, swapped, ArithOp::Add, xs, y),
-        ArithOp::Sub => each_uint_beside(alloc, swapped, ArithOp::Sub, xs, y),
-        ArithOp::Mul => each_uint_beside(alloc, swapped, ArithOp::Mul, xs, y),
+    match (op, swapped) {
+        (ArithOp::Add, true) => Ok(
+            xs.iter()
+                .map(|x| uint_result(ArithOp::Add, y, *x))
+                .collect(alloc)?,
+        ),
+        (ArithOp::Add, false) => Ok(
+            xs.iter()
+                .map(|x| uint_result(ArithOp::Add, *x, y))
+                .collect(alloc)?,
+        ),
+        (ArithOp::Sub, true) => Ok(
+            xs.iter()
+                .map(|x| uint_result(ArithOp::Sub, y, *x))
+                .collect(alloc)?,
+        ),
+        (ArithOp::Sub, false) => Ok(
+            xs.iter()
+                .map(|x| uint_result(ArithOp::Sub, *x, y))
+                .collect(alloc)?,
+        ),
+        (ArithOp::Mul, true) => Ok(
+            xs.iter()
+                .map(|x| uint_result(ArithOp::Mul, y, *x))
+                .collect(alloc)?,
+        ),
+        (ArithOp::Mul, false) => Ok(
+            xs.iter()
+                .map(|x| uint_result(ArithOp::Mul, *x, y))
+                .collect(alloc)?,
+        ),
     }
 }
 

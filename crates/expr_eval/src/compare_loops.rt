@@ -1,5 +1,5 @@
-// One loop for each comparison and shape of its operands. Each is written once for all comparisons and inlined at
-// each of them, so that the comparison is a constant within the loop.
+// One loop for each comparison and shape of its operands. Each stands by itself, since a closure is compiled once: with the
+// comparison taken from outside it would be told apart at every row.
 ghost use Rattle.std.specs.Prelude.{◌≡◌, pos, length, map, replicate, IfOk, not, ◌&&◌, ◌||◌};
 ghost use Rattle.std.specs.List.{zip};
 ghost use Rattle.std.specs.Ordering.{int_cmp};
@@ -124,61 +124,6 @@ pub(crate) fn text_passes(op: CompareOp, x: &[u8], y: &[u8]) -> bool
     order_passes(op, x.cmp(y))
 }
 
-#[inline(always)]
-fn each_int_pair(alloc: Global, op: CompareOp, xs: &[i64], ys: &[i64]) -> Result<Vec<bool>, Memory>
-    ensures { IfOk result (λ v. v.items ≡ map (λ p. passes op (int_cmp p.0 p.1)) (zip xs.now ys.now)) }
-{
-    Ok(
-        xs.iter()
-            .zip(ys.iter())
-            .map(|(x, y)| int_passes(op, *x, *y))
-            .collect(alloc)?,
-    )
-}
-
-#[inline(always)]
-fn each_uint_pair(alloc: Global, op: CompareOp, xs: &[u64], ys: &[u64]) -> Result<Vec<bool>, Memory>
-    ensures { IfOk result (λ v. v.items ≡ map (λ p. passes op (int_cmp (pos p.0) (pos p.1))) (zip xs.now ys.now)) }
-{
-    Ok(
-        xs.iter()
-            .zip(ys.iter())
-            .map(|(x, y)| uint_passes(op, *x, *y))
-            .collect(alloc)?,
-    )
-}
-
-#[inline(always)]
-fn each_int_uint_pair(
-    alloc: Global,
-    op: CompareOp,
-    xs: &[i64],
-    ys: &[u64],
-) -> Result<Vec<bool>, Memory>
-    ensures { IfOk result (λ v. v.items ≡ map (λ p. passes op (int_cmp p.0 (pos p.1))) (zip xs.now ys.now)) }
-{
-    Ok(
-        xs.iter()
-            .zip(ys.iter())
-            .map(|(x, y)| int_uint_passes(op, *x, *y))
-            .collect(alloc)?,
-    )
-}
-
-#[inline(always)]
-fn each_int_beside(alloc: Global, op: CompareOp, xs: &[i64], y: i64) -> Result<Vec<bool>, Memory>
-    ensures { IfOk result (λ v. v.items ≡ map (λ x. passes op (int_cmp x y)) xs.now) }
-{
-    Ok(xs.iter().map(|x| int_passes(op, *x, y)).collect(alloc)?)
-}
-
-#[inline(always)]
-fn each_uint_beside(alloc: Global, op: CompareOp, xs: &[u64], y: u64) -> Result<Vec<bool>, Memory>
-    ensures { IfOk result (λ v. v.items ≡ map (λ x. passes op (int_cmp (pos x) (pos y))) xs.now) }
-{
-    Ok(xs.iter().map(|x| uint_passes(op, *x, y)).collect(alloc)?)
-}
-
 /// The comparison at each Int64 and a plain number that no Int64 is.
 pub(crate) fn int_far_mask(
     alloc: Global,
@@ -217,12 +162,42 @@ pub(crate) fn int_mask(
     ensures { IfOk result (λ v. v.items ≡ map (λ p. passes op (int_cmp p.0 p.1)) (zip xs.now ys.now)) }
 {
     match op {
-        CompareOp::Eq => each_int_pair(alloc, CompareOp::Eq, xs, ys),
-        CompareOp::Ne => each_int_pair(alloc, CompareOp::Ne, xs, ys),
-        CompareOp::Lt => each_int_pair(alloc, CompareOp::Lt, xs, ys),
-        CompareOp::Le => each_int_pair(alloc, CompareOp::Le, xs, ys),
-        CompareOp::Gt => each_int_pair(alloc, CompareOp::Gt, xs, ys),
-        CompareOp::Ge => each_int_pair(alloc, CompareOp::Ge, xs, ys),
+        CompareOp::Eq => Ok(
+            xs.iter()
+                .zip(ys.iter())
+                .map(|(x, y)| int_passes(CompareOp::Eq, *x, *y))
+                .collect(alloc)?,
+        ),
+        CompareOp::Ne => Ok(
+            xs.iter()
+                .zip(ys.iter())
+                .map(|(x, y)| int_passes(CompareOp::Ne, *x, *y))
+                .collect(alloc)?,
+        ),
+        CompareOp::Lt => Ok(
+            xs.iter()
+                .zip(ys.iter())
+                .map(|(x, y)| int_passes(CompareOp::Lt, *x, *y))
+                .collect(alloc)?,
+        ),
+        CompareOp::Le => Ok(
+            xs.iter()
+                .zip(ys.iter())
+                .map(|(x, y)| int_passes(CompareOp::Le, *x, *y))
+                .collect(alloc)?,
+        ),
+        CompareOp::Gt => Ok(
+            xs.iter()
+                .zip(ys.iter())
+                .map(|(x, y)| int_passes(CompareOp::Gt, *x, *y))
+                .collect(alloc)?,
+        ),
+        CompareOp::Ge => Ok(
+            xs.iter()
+                .zip(ys.iter())
+                .map(|(x, y)| int_passes(CompareOp::Ge, *x, *y))
+                .collect(alloc)?,
+        ),
     }
 }
 
@@ -236,12 +211,42 @@ pub(crate) fn uint_mask(
     ensures { IfOk result (λ v. v.items ≡ map (λ p. passes op (int_cmp (pos p.0) (pos p.1))) (zip xs.now ys.now)) }
 {
     match op {
-        CompareOp::Eq => each_uint_pair(alloc, CompareOp::Eq, xs, ys),
-        CompareOp::Ne => each_uint_pair(alloc, CompareOp::Ne, xs, ys),
-        CompareOp::Lt => each_uint_pair(alloc, CompareOp::Lt, xs, ys),
-        CompareOp::Le => each_uint_pair(alloc, CompareOp::Le, xs, ys),
-        CompareOp::Gt => each_uint_pair(alloc, CompareOp::Gt, xs, ys),
-        CompareOp::Ge => each_uint_pair(alloc, CompareOp::Ge, xs, ys),
+        CompareOp::Eq => Ok(
+            xs.iter()
+                .zip(ys.iter())
+                .map(|(x, y)| uint_passes(CompareOp::Eq, *x, *y))
+                .collect(alloc)?,
+        ),
+        CompareOp::Ne => Ok(
+            xs.iter()
+                .zip(ys.iter())
+                .map(|(x, y)| uint_passes(CompareOp::Ne, *x, *y))
+                .collect(alloc)?,
+        ),
+        CompareOp::Lt => Ok(
+            xs.iter()
+                .zip(ys.iter())
+                .map(|(x, y)| uint_passes(CompareOp::Lt, *x, *y))
+                .collect(alloc)?,
+        ),
+        CompareOp::Le => Ok(
+            xs.iter()
+                .zip(ys.iter())
+                .map(|(x, y)| uint_passes(CompareOp::Le, *x, *y))
+                .collect(alloc)?,
+        ),
+        CompareOp::Gt => Ok(
+            xs.iter()
+                .zip(ys.iter())
+                .map(|(x, y)| uint_passes(CompareOp::Gt, *x, *y))
+                .collect(alloc)?,
+        ),
+        CompareOp::Ge => Ok(
+            xs.iter()
+                .zip(ys.iter())
+                .map(|(x, y)| uint_passes(CompareOp::Ge, *x, *y))
+                .collect(alloc)?,
+        ),
     }
 }
 
@@ -255,12 +260,42 @@ pub(crate) fn int_uint_mask(
     ensures { IfOk result (λ v. v.items ≡ map (λ p. passes op (int_cmp p.0 (pos p.1))) (zip xs.now ys.now)) }
 {
     match op {
-        CompareOp::Eq => each_int_uint_pair(alloc, CompareOp::Eq, xs, ys),
-        CompareOp::Ne => each_int_uint_pair(alloc, CompareOp::Ne, xs, ys),
-        CompareOp::Lt => each_int_uint_pair(alloc, CompareOp::Lt, xs, ys),
-        CompareOp::Le => each_int_uint_pair(alloc, CompareOp::Le, xs, ys),
-        CompareOp::Gt => each_int_uint_pair(alloc, CompareOp::Gt, xs, ys),
-        CompareOp::Ge => each_int_uint_pair(alloc, CompareOp::Ge, xs, ys),
+        CompareOp::Eq => Ok(
+            xs.iter()
+                .zip(ys.iter())
+                .map(|(x, y)| int_uint_passes(CompareOp::Eq, *x, *y))
+                .collect(alloc)?,
+        ),
+        CompareOp::Ne => Ok(
+            xs.iter()
+                .zip(ys.iter())
+                .map(|(x, y)| int_uint_passes(CompareOp::Ne, *x, *y))
+                .collect(alloc)?,
+        ),
+        CompareOp::Lt => Ok(
+            xs.iter()
+                .zip(ys.iter())
+                .map(|(x, y)| int_uint_passes(CompareOp::Lt, *x, *y))
+                .collect(alloc)?,
+        ),
+        CompareOp::Le => Ok(
+            xs.iter()
+                .zip(ys.iter())
+                .map(|(x, y)| int_uint_passes(CompareOp::Le, *x, *y))
+                .collect(alloc)?,
+        ),
+        CompareOp::Gt => Ok(
+            xs.iter()
+                .zip(ys.iter())
+                .map(|(x, y)| int_uint_passes(CompareOp::Gt, *x, *y))
+                .collect(alloc)?,
+        ),
+        CompareOp::Ge => Ok(
+            xs.iter()
+                .zip(ys.iter())
+                .map(|(x, y)| int_uint_passes(CompareOp::Ge, *x, *y))
+                .collect(alloc)?,
+        ),
     }
 }
 
@@ -274,12 +309,36 @@ pub(crate) fn int_mask_beside(
     ensures { IfOk result (λ v. v.items ≡ map (λ x. passes op (int_cmp x y)) xs.now) }
 {
     match op {
-        CompareOp::Eq => each_int_beside(alloc, CompareOp::Eq, xs, y),
-        CompareOp::Ne => each_int_beside(alloc, CompareOp::Ne, xs, y),
-        CompareOp::Lt => each_int_beside(alloc, CompareOp::Lt, xs, y),
-        CompareOp::Le => each_int_beside(alloc, CompareOp::Le, xs, y),
-        CompareOp::Gt => each_int_beside(alloc, CompareOp::Gt, xs, y),
-        CompareOp::Ge => each_int_beside(alloc, CompareOp::Ge, xs, y),
+        CompareOp::Eq => Ok(
+            xs.iter()
+                .map(|x| int_passes(CompareOp::Eq, *x, y))
+                .collect(alloc)?,
+        ),
+        CompareOp::Ne => Ok(
+            xs.iter()
+                .map(|x| int_passes(CompareOp::Ne, *x, y))
+                .collect(alloc)?,
+        ),
+        CompareOp::Lt => Ok(
+            xs.iter()
+                .map(|x| int_passes(CompareOp::Lt, *x, y))
+                .collect(alloc)?,
+        ),
+        CompareOp::Le => Ok(
+            xs.iter()
+                .map(|x| int_passes(CompareOp::Le, *x, y))
+                .collect(alloc)?,
+        ),
+        CompareOp::Gt => Ok(
+            xs.iter()
+                .map(|x| int_passes(CompareOp::Gt, *x, y))
+                .collect(alloc)?,
+        ),
+        CompareOp::Ge => Ok(
+            xs.iter()
+                .map(|x| int_passes(CompareOp::Ge, *x, y))
+                .collect(alloc)?,
+        ),
     }
 }
 
@@ -293,12 +352,36 @@ pub(crate) fn uint_mask_beside(
     ensures { IfOk result (λ v. v.items ≡ map (λ x. passes op (int_cmp (pos x) (pos y))) xs.now) }
 {
     match op {
-        CompareOp::Eq => each_uint_beside(alloc, CompareOp::Eq, xs, y),
-        CompareOp::Ne => each_uint_beside(alloc, CompareOp::Ne, xs, y),
-        CompareOp::Lt => each_uint_beside(alloc, CompareOp::Lt, xs, y),
-        CompareOp::Le => each_uint_beside(alloc, CompareOp::Le, xs, y),
-        CompareOp::Gt => each_uint_beside(alloc, CompareOp::Gt, xs, y),
-        CompareOp::Ge => each_uint_beside(alloc, CompareOp::Ge, xs, y),
+        CompareOp::Eq => Ok(
+            xs.iter()
+                .map(|x| uint_passes(CompareOp::Eq, *x, y))
+                .collect(alloc)?,
+        ),
+        CompareOp::Ne => Ok(
+            xs.iter()
+                .map(|x| uint_passes(CompareOp::Ne, *x, y))
+                .collect(alloc)?,
+        ),
+        CompareOp::Lt => Ok(
+            xs.iter()
+                .map(|x| uint_passes(CompareOp::Lt, *x, y))
+                .collect(alloc)?,
+        ),
+        CompareOp::Le => Ok(
+            xs.iter()
+                .map(|x| uint_passes(CompareOp::Le, *x, y))
+                .collect(alloc)?,
+        ),
+        CompareOp::Gt => Ok(
+            xs.iter()
+                .map(|x| uint_passes(CompareOp::Gt, *x, y))
+                .collect(alloc)?,
+        ),
+        CompareOp::Ge => Ok(
+            xs.iter()
+                .map(|x| uint_passes(CompareOp::Ge, *x, y))
+                .collect(alloc)?,
+        ),
     }
 }
 
