@@ -1,6 +1,6 @@
 #!/usr/bin/env bash
 # Times `quantity * price` and `price > 50 AND quantity < 3` over chunks of Int64 columns, beside plain loops over slices
-# that make the same vectors, and prints a table. It is no test. The program (expressions.rt) is proved and built in a
+# that make the same vectors, and prints a table. It is no test. The program (expressions.rattle) is proved and built in a
 # temporary copy of the crates.
 set -euo pipefail
 here=$(cd "$(dirname "${BASH_SOURCE[0]}")" && pwd)
@@ -14,7 +14,7 @@ done
 grep -E '^(chunk_data|query_model|expr_eval):' "$here/../crates.txt" >"$copy/crates.txt"
 echo 'expr_bench: chunk_data query_model expr_eval' >>"$copy/crates.txt"
 mkdir -p "$copy/crates/expr_bench/src"
-cp "$here/expressions.rt" "$copy/crates/expr_bench/src/main.rt"
+cp "$here/expressions.rattle" "$copy/crates/expr_bench/src/main.rt"
 (cd "$copy/crates/expr_bench" && rt run -- eval 10 10) >"$copy/log" 2>&1 || { cat "$copy/log" >&2; exit 1; }
 
 # KIND ROWS: the least processor time of five runs over some 10^9 rows, in seconds
