@@ -1,6 +1,9 @@
 //! The tokens of a query's text. The definitions beside it say which tokens a text has, and which tokens spell a query.
 #![tactic(auto)]
 
+ghost use Rattle.std.specs.Prelude.{◌≡◌, Some};
+ghost use Rattle.sql_grammar.specs.Tokens.{keyword_of, keyword_text};
+
 use chunk_data::Bytes;
 
 /// A word that is never a name, in any ASCII case.
@@ -59,6 +62,11 @@ pub const KEYWORDS: [Keyword; 24] = [
     Keyword::Is,
     Keyword::Null,
 ];
+
+/// Each keyword is the one that its word is read as, so that none is missing among `KEYWORDS`.
+pub fn keywords_are_read()
+    ensures { (k : Keyword) → keyword_of (keyword_text k) ≡ Some k }
+{}
 
 /// A sign. `=` and `==` are one sign, and so are `!=` and `<>`.
 #[derive(Clone, Copy, Debug, PartialEq, Eq)]
