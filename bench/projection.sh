@@ -14,23 +14,9 @@ if [ ! -s "$file" ]; then
             printf "%d,shop %d,%d,%d,2024-%02d-%02d\n", i * 7919 % 1000003 - 500000, i % 997, rand() * 100000, i * 31 % 1000007, i % 12 + 1, i % 28 + 1
     }' >"$file"
 fi
-bytes=$(stat -c %s "$file")
 "$here/../qrun" --query "SELECT id FROM t" --tables "t=/dev/null:id Int64" # builds what is missing
 
-# NAME COMMAND..: runs the command three times, and prints the fastest, with the largest memory of it.
-measure() {
-    local name=$1 best=999999 memory=0
-    shift
-    for _ in 1 2 3; do
-        /usr/bin/time -f '%e %M' -o "$data/time" "$@" >"$data/out"
-        read -r seconds kilobytes <"$data/time"
-        if awk "BEGIN { exit !($seconds < $best) }"; then best=$seconds memory=$kilobytes; fi
-    done
-    awk -v name="$name" -v s="$best" -v k="$memory" -v b="$bytes" -v n="$rows" \
-        'BEGIN { printf "%-22s %8.2f s %9.2f M rows/s %8.0f MB/s %8.2f x the file\n", name, s, n / s / 1e6, b / s / 1e6, k * 1024 / b }'
-}
-
-echo "$rows rows, $((bytes / 1000000)) MB"
+. "$here/measure.sh"
 measure qrun "$here/../qrun" --query 'SELECT shop, price FROM t' --tables "t=$file:id Int64,shop String,quantity UInt64,price Int64,day String"
 if command -v sqlite3 >/dev/null; then
     measure 'sqlite3 (import, select)' sqlite3 -csv :memory: \

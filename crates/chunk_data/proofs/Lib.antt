@@ -7,3 +7,4 @@ pub mod ColumnLists
 pub mod Chunks
 pub mod Laws
 pub mod RowOrder
+pub mod Crossing

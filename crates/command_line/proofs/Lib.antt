@@ -2,4 +2,3 @@ pub mod Entries
 pub mod PlainLaws
 pub mod Scans
 pub mod Tables
-pub mod Tails

@@ -11,7 +11,7 @@ use Rattle.chunk_data.specs.declared.typed_value.ColumnType.{ColumnType}
 use Rattle.query_model.specs.declared.query.ColumnDecl.{ColumnDecl}
 use Rattle.query_model.specs.declared.query.TableDecl.{TableDecl}
 use Rattle.query_model.specs.Projection.{are_distinct}
-use Rattle.command_line.specs.Names.{is_name}
+use Rattle.sql_grammar.specs.Tokens.{is_name}
 use Rattle.command_line.specs.Words.{type_named, column_with, column_of, both_columns, columns_of_entries, are_columns, columns_if, columns_of, is_path, table_of, table_with, declaration_of, command_with, command_of, IsPlainCommand}
 use Rattle.command_line.specs.declared.words.Command.{Command}
 

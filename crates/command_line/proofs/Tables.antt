@@ -1,7 +1,7 @@
 -- A declaration whose columns were read.
 use Rattle.std.proofs.Common.{◌≡◌, ◌==◌, ℕ, Bool, true, false, ◌&&◌, if◌then◌else◌, List, ap, ◌∙◌, Option, Some, None}
 use Rattle.query_model.specs.declared.query.ColumnDecl.{ColumnDecl}
-use Rattle.command_line.specs.Names.{is_name}
+use Rattle.sql_grammar.specs.Tokens.{is_name}
 use Rattle.command_line.specs.Words.{is_path, columns_of, table_of, table_with, declaration_of}
 use Rattle.std.specs.List.{before_first, after_first}
 

@@ -1,4 +1,1 @@
-pub mod Names
 pub mod Words
-pub mod Projections
-pub mod Tails

@@ -7,7 +7,7 @@ use Rattle.query_model.specs.declared.query.ColumnDecl.{ColumnDecl}
 use Rattle.query_model.specs.declared.query.PartsDecl.TheVariants.{Paths}
 use Rattle.query_model.specs.declared.query.TableDecl.{TableDecl}
 use Rattle.query_model.specs.Projection.{are_distinct, column_names}
-use Rattle.command_line.specs.Names.{is_name}
+use Rattle.sql_grammar.specs.Tokens.{is_name}
 use Rattle.command_line.specs.declared.words.Command.{Command}
 
 -- the types, spelled so

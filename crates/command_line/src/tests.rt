@@ -1,4 +1,4 @@
-use crate::{Command, WordsRefusal, is_keyword, is_name, is_word, is_word_byte, read_words};
+use crate::{Command, WordsRefusal, read_words};
 use chunk_data::ColumnType;
 use query_model::query::PartsDecl;
 use std::alloc::Global;
@@ -146,32 +146,5 @@ fn at_most_64_columns_are_declared(rt: HostRuntime) -> Result<(), Fail> {
     let alloc = rt.alloc();
     assert!(rt; takes_columns(alloc, 64)?);
     assert!(rt; !takes_columns(alloc, 65)?);
-    Ok(())
-}
-
-#[test]
-fn names_are_words_and_no_keywords(rt: HostRuntime) -> Result<(), Fail> {
-    let cases = [
-        ("a", true, true),
-        ("_", true, true),
-        ("Z9_", true, true),
-        ("9z", false, false),
-        ("", false, false),
-        ("a-b", false, false),
-        ("distinct", true, false),
-        ("DISTINCT", true, false),
-        ("By", true, false),
-        ("distinc", true, true),
-        ("selects", true, true),
-        ("count", true, true),
-        ("numbers", true, true),
-    ];
-    for (text, word, name) in cases {
-        assert_eq!(rt; is_word(text.as_bytes()), word, "{text}");
-        assert_eq!(rt; is_name(text.as_bytes()), name, "{text}");
-        assert_eq!(rt; is_keyword(text.as_bytes()), word && !name, "{text}");
-    }
-    assert!(rt; is_word_byte(b'_') && is_word_byte(b'0') && !is_word_byte(b' '));
-    assert!(rt; !is_word_byte(b'@') && !is_word_byte(b'[') && !is_word_byte(b'{'));
     Ok(())
 }

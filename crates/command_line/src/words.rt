@@ -2,13 +2,13 @@ ghost use Rattle.std.specs.Prelude.{◌≡◌, ◌==◌, ◌≤◌, ◌&&◌, []
 ghost use Rattle.std.specs.List.{list_all, list_any, before_first, after_first, position_or_len, slice_split};
 ghost use Rattle.std.specs.String.{string_bytes};
 ghost use Rattle.query_model.specs.Projection.{are_distinct};
-ghost use Rattle.command_line.specs.Names.{is_name as name_test};
+ghost use Rattle.sql_grammar.specs.Tokens.{is_name as name_test};
 ghost use Rattle.command_line.specs.Words.{type_named as type_meant, column_of, columns_of_entries, are_columns as columns_test, columns_of, is_path_byte as path_byte_test, is_path as path_test, table_of, table_with, declaration_of, command_with, command_of, IsPlainCommand};
 ghost use Rattle.command_line.specs.declared.words.WordsRefusal.{WordsRefusal};
 
-use crate::names::is_name;
 use chunk_data::{Bytes, ColumnType, List, Memory};
 use query_model::query::{ColumnDecl, PartsDecl, Schema, TableDecl};
+use sql_grammar::is_name;
 use std::alloc::Global;
 
 /// What the words ask for.

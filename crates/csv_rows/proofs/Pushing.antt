@@ -1,5 +1,5 @@
 -- a record that is added to columns field by field
-use Rattle.std.proofs.Common.{◌≡◌, ◌≢◌, ℕ, ◌+◌, ◌<◌, ◌≤◌, List, [], ◌∷◌, ◌++◌, length, get_or, set, take, map, refl, ap, ap₂, sym, ◌∙◌, arith, length-append, append_assoc, Some, None}
+use Rattle.std.proofs.Common.{◌≡◌, ◌≢◌, ◌⊎◌, inl, inr, zero, suc, Bool, true, false, ℕ, ◌+◌, ◌<◌, ◌≤◌, List, [], ◌∷◌, ◌++◌, length, get_or, set, take, map, refl, ap, ap₂, sym, ◌∙◌, arith, length-append, append_assoc, Some, None}
 use Rattle.std.proofs.lemmas.List.{map-set, get_or-map, set-get_or, length-map, take_at, take_all, append-nil}
 use Rattle.chunk_data.specs.declared.typed_column.Column.{Column}
 use Rattle.chunk_data.specs.declared.typed_value.ColumnType.{ColumnType}
@@ -9,6 +9,8 @@ use Rattle.chunk_data.specs.Columns.{kind_of, values}
 use Rattle.chunk_data.specs.Rows.{AreLong, joined, rows_of}
 use Rattle.query_model.specs.Fields.{spelled_value, spelled_row}
 use Rattle.query_model.specs.Parts.{SpelledFront, bad_field, bad_place, good_rows, row_then}
+use Rattle.std.specs.Prelude.{Result, Ok, Err, IfOk, IfErr}
+use Rattle.query_model.specs.declared.places.BadPlace.{BadPlace}
 use Rattle.query_model.specs.declared.places.BadField.TheVariants.{Column as column_field, Fields as fields_field}
 use Rattle.query_model.proofs.Reading.{SpelledFront-snoc, spelled_row-front, spelled_row-stops, spelled_row-lengths, bad_field-stops, bad_field-lengths, spelled_row-fits}
 use Rattle.chunk_data.proofs.Laws.{length-FitsTypes, length-rows_of, rows_of_push, AreLong_push}
@@ -16,7 +18,9 @@ use Rattle.csv_rows.specs.declared.rows.FieldFault.{FieldFault}
 use Rattle.csv_rows.specs.declared.rows.FieldFault.TheVariants.{Unspelled, Memory}
 use Rattle.csv_rows.specs.declared.rows.RowsFault.{RowsFault}
 use Rattle.csv_rows.specs.declared.rows.RowsFault.TheVariants.{Bad, Memory as NoMemory}
-use Rattle.csv_rows.specs.Pushing.{AddsSpelled, AddsRecord, HoldsRows, IsBadRecord, OnBad, OnUnspelled, record_fault}
+use Rattle.csv_rows.specs.Pushing.{AddsSpelled, AddsRecord, IsBadRecord, OnBad, OnUnspelled, record_fault}
+use Rattle.csv_rows.specs.RecordsLeft.{Position}
+use Rattle.csv_rows.specs.RowsLeft.{RowsLeft, ReadsFront, TakesRows, at_end, first_record, records_from}
 
 -- the first columns with a value of the row at their ends
 abbrev pub pushed_front : Row → List (List Value) → List (List Value)
@@ -116,47 +120,51 @@ pub Pushed-kinds : {fields : List (List ℕ)} {old now : List Column} {i : ℕ} 
 Pushed-kinds {now = now} {i = i} d y h lt k = kinds_kept now i y d k lt ∙ h.kinds
 
 -- field i spells no value
-pub Pushed-stops : {fields : List (List ℕ)} {old now : List Column} {i : ℕ} → (fault : FieldFault) (rows : ℕ) (d : Column) → Pushed fields old now i → length fields ≡ length old → i < length now
-    → OnUnspelled fault (spelled_value (kind_of (get_or now i d)) (get_or fields i []) ≡ None) → OnBad (record_fault fault rows i) (IsBadRecord (map kind_of old) fields (rows + 1))
-Pushed-stops Memory rows d h long lt u = tt
-Pushed-stops {fields = fields} {old = old} {i = i} Unspelled rows d h long lt u =
+pub Pushed-stops : {fields : List (List ℕ)} {old now : List Column} {i : ℕ} → (fault : FieldFault) (number : ℕ) (d : Column) → Pushed fields old now i → length fields ≡ length old → i < length now
+    → OnUnspelled fault (spelled_value (kind_of (get_or now i d)) (get_or fields i []) ≡ None) → OnBad (record_fault fault number i) (IsBadRecord (map kind_of old) fields number)
+Pushed-stops Memory number d h long lt u = tt
+Pushed-stops {fields = fields} {old = old} {i = i} Unspelled number d h long lt u =
     let many = Pushed-long h in
     let few : length h.row < length (map kind_of old) = rw length-map (omega (arith, h.count, many)) in
     let none : spelled_value (get_or (map kind_of old) (length h.row) (kind_of d)) (get_or fields (length h.row) []) ≡ None =
     rw h.count (ap (λ t. spelled_value t (get_or fields i [])) (sym (kind_at d h lt)) ∙ u) in
     record {
       unspelled = spelled_row-stops (map kind_of old) fields h.row (kind_of d) [] h.spelled few (omega (arith, h.count, many)) none;
-      is = ap (λ f. record { row = rows + 1; field = f }) (sym (bad_field-stops (map kind_of old) fields h.row (kind_of d) [] (long ∙ sym (length-map old kind_of)) h.spelled few none
+      is = ap (λ f. record { row = number; field = f }) (sym (bad_field-stops (map kind_of old) fields h.row (kind_of d) [] (long ∙ sym (length-map old kind_of)) h.spelled few none
           ∙ ap (λ n. column_field (n + 1)) h.count));
     }
 
 -- another number of fields than columns
-pub wrong_length : (fields : List (List ℕ)) (old : List Column) (rows : ℕ) → length fields ≢ length old
-    → IsBadRecord (map kind_of old) fields (rows + 1) (record { row = rows + 1; field = fields_field (length fields) })
-wrong_length fields old rows h =
+pub wrong_length : (fields : List (List ℕ)) (old : List Column) (number : ℕ) → length fields ≢ length old
+    → IsBadRecord (map kind_of old) fields number (record { row = number; field = fields_field (length fields) })
+wrong_length fields old number h =
     let other : length fields ≢ length (map kind_of old) = λ e. h (e ∙ length-map old kind_of) in
     record {
       unspelled = spelled_row-lengths (map kind_of old) fields other;
-      is = ap (λ f. record { row = rows + 1; field = f }) (sym (bad_field-lengths (map kind_of old) fields other));
+      is = ap (λ f. record { row = number; field = f }) (sym (bad_field-lengths (map kind_of old) fields other));
     }
 
--- the records in front of those that are left are rows of the columns
-pub record ReadSoFar (old now : List Column) (all left : List (List (List ℕ))) (rows : ℕ) : Type 0 where
+-- the records in front of those that are left now are rows of the columns
+pub record ReadSoFar (old now : List Column) (before after : RowsLeft) (rows most : ℕ) : Type 0 where
   pub kinds : map kind_of now ≡ map kind_of old
   pub long : AreLong rows (map values now)
-  pub good : good_rows (map kind_of old) all ≡ rows_of rows (map values now) ++ good_rows (map kind_of old) left
-  pub places : bad_place 1 (map kind_of old) all ≡ bad_place (rows + 1) (map kind_of old) left
+  pub good : good_rows (map kind_of old) before.rest ≡ rows_of rows (map values now) ++ good_rows (map kind_of old) after.rest
+  pub places : bad_place (before.count + 1) (map kind_of old) before.rest ≡ bad_place (after.count + 1) (map kind_of old) after.rest
+  pub within : rows ≤ most
+  pub unread : rows ≡ 0 → after.rest ≡ before.rest
 
 no_rows : {X : Type 0} (rows : List X) → length rows ≡ 0 → rows ≡ []
 no_rows [] h = refl
 no_rows (row ∷ rows) h = absurd (omega arith)
 
-pub ReadSoFar-none : (old : List Column) (all : List (List (List ℕ))) → AreLong 0 (map values old) → ReadSoFar old old all all 0
-ReadSoFar-none old all h = record {
+pub ReadSoFar-none : (old : List Column) (before : RowsLeft) (most : ℕ) → AreLong 0 (map values old) → ReadSoFar old old before before 0 most
+ReadSoFar-none old before most h = record {
   kinds = refl;
   long = h;
-  good = ap (λ l. l ++ good_rows (map kind_of old) all) (sym (no_rows (rows_of 0 (map values old)) (length-rows_of 0 (map values old) h)));
+  good = ap (λ l. l ++ good_rows (map kind_of old) before.rest) (sym (no_rows (rows_of 0 (map values old)) (length-rows_of 0 (map values old) h)));
   places = refl;
+  within = omega arith;
+  unread = λ e. refl;
 }
 
 good_rows-cons : (types : List ColumnType) (fields : List (List ℕ)) (more : List (List (List ℕ))) (row : Row) → spelled_row types fields ≡ Some row → good_rows types (fields ∷ more) ≡ row ∷ good_rows types more
@@ -172,9 +180,10 @@ unfolding bad_place
 bad_place-here n types fields more h = rw h refl
 
 -- one record more
-pub ReadSoFar-more : {old now new : List Column} {all left more : List (List (List ℕ))} {rows : ℕ} → (fields : List (List ℕ)) → ReadSoFar old now all left rows → left ≡ fields ∷ more
-    → map kind_of new ≡ map kind_of now → AddsRecord (map kind_of now) fields (map values now) (map values new) → ReadSoFar old new all more (rows + 1)
-ReadSoFar-more {old = old} {now = now} {new = new} {more = more} {rows = rows} fields h is k a =
+pub ReadSoFar-more : {old now new : List Column} {before after later : RowsLeft} {rows most : ℕ} → (fields : List (List ℕ)) → ReadSoFar old now before after rows most → after.rest ≡ fields ∷ later.rest
+    → later.count ≡ after.count + 1 → rows < most
+    → map kind_of new ≡ map kind_of now → AddsRecord (map kind_of now) fields (map values now) (map values new) → ReadSoFar old new before later (rows + 1) most
+ReadSoFar-more {old = old} {now = now} {new = new} {before = before} {after = after} {later = later} {rows = rows} fields h is c lt k a =
     let types = map kind_of old in
     let spells : spelled_row types fields ≡ Some a.row = ap (λ t. spelled_row t fields) (sym h.kinds) ∙ a.spells in
     let wide : length a.row ≡ length (map values now) =
@@ -183,26 +192,72 @@ ReadSoFar-more {old = old} {now = now} {new = new} {more = more} {rows = rows} f
     record {
       kinds = k ∙ h.kinds;
       long = rw a.added (AreLong_push rows (map values now) a.row h.long);
-      good = h.good ∙ ap (λ l. rows_of rows (map values now) ++ good_rows types l) is ∙ ap (λ l. rows_of rows (map values now) ++ l) (good_rows-cons types fields more a.row spells)
-          ∙ sym (append_assoc (rows_of rows (map values now)) (a.row ∷ []) (good_rows types more)) ∙ ap (λ l. l ++ good_rows types more) (sym more_rows);
-      places = h.places ∙ ap (bad_place (rows + 1) types) is ∙ bad_place-cons (rows + 1) types fields more a.row spells;
+      good = h.good ∙ ap (λ l. rows_of rows (map values now) ++ good_rows types l) is ∙ ap (λ l. rows_of rows (map values now) ++ l) (good_rows-cons types fields later.rest a.row spells)
+          ∙ sym (append_assoc (rows_of rows (map values now)) (a.row ∷ []) (good_rows types later.rest)) ∙ ap (λ l. l ++ good_rows types later.rest) (sym more_rows);
+      places = h.places ∙ ap (bad_place (after.count + 1) types) is ∙ bad_place-cons (after.count + 1) types fields later.rest a.row spells ∙ ap (λ n. bad_place (n + 1) types later.rest) (sym c);
+      within = omega (arith, lt);
+      unread = λ e. absurd (omega (arith, e));
     }
 
--- no record is left
-pub ReadSoFar-all : {old now : List Column} {all left : List (List (List ℕ))} {rows : ℕ} → ReadSoFar old now all left rows → left ≡ [] → HoldsRows (map kind_of old) all (map values now) rows
-unfolding good_rows bad_place
-ReadSoFar-all {old = old} {now = now} {rows = rows} h is = record {
-  long = h.long;
-  rows = sym (h.good ∙ ap (λ l. rows_of rows (map values now) ++ good_rows (map kind_of old) l) is ∙ append-nil (rows_of rows (map values now)));
-  good = h.places ∙ ap (bad_place (rows + 1) (map kind_of old)) is;
-}
+-- what was read so far is what is given
+pub ReadSoFar-stop : {old now : List Column} {before after : RowsLeft} {rows most : ℕ} → ReadSoFar old now before after rows most → (rows ≡ 0 → (most ≡ 0) ⊎ (at_end after.rest ≡ true))
+    → ReadsFront (map kind_of old) before after (map values now) rows most
+ReadSoFar-stop {now = now} {before = before} {after = after} {rows = rows} {most = most} h stops =
+    let count = length-rows_of rows (map values now) h.long in
+    record {
+      long = h.long;
+      takes = record {
+        good = h.good;
+        places = h.places;
+        within = omega (arith, count, h.within);
+        some = λ left lt. go rows refl left lt;
+      };
+    }
+  where
+    go : (n : ℕ) → rows ≡ n → at_end before.rest ≡ false → 0 < most → 0 < length (rows_of rows (map values now))
+    go (suc n) e left lt = let count = length-rows_of rows (map values now) h.long in omega (arith, count, e)
+    go zero e left lt = elim (stops e) [
+      | inl z ↦ absurd (omega (arith, z, lt))
+      | inr over ↦ let f : false ≡ true = sym left ∙ ap at_end (sym (h.unread e)) ∙ over in absurd cc
+    ]
 
 -- the next record is bad
-pub ReadSoFar-bad : {old now : List Column} {all left more : List (List (List ℕ))} {rows : ℕ} → (fault : RowsFault) (fields : List (List ℕ)) → ReadSoFar old now all left rows → left ≡ fields ∷ more
-    → OnBad fault (IsBadRecord (map kind_of now) fields (rows + 1)) → OnBad fault (λ place. bad_place 1 (map kind_of old) all ≡ Some place)
-ReadSoFar-bad NoMemory fields h is b = tt
-ReadSoFar-bad {old = old} {more = more} {rows = rows} (Bad place) fields h is b =
-    let types = map kind_of old in
-    let none : spelled_row types fields ≡ None = ap (λ t. spelled_row t fields) (sym h.kinds) ∙ b.unspelled in
-    h.places ∙ ap (bad_place (rows + 1) types) is ∙ bad_place-here (rows + 1) types fields more none
-    ∙ ap Some (ap (λ t. record { row = rows + 1; field = bad_field t fields }) (sym h.kinds) ∙ sym b.is)
+pub ReadSoFar-bad : {old now : List Column} {before after : RowsLeft} {rows most : ℕ} → (fault : RowsFault) → ReadSoFar old now before after rows most → at_end after.rest ≡ false
+    → OnBad fault (IsBadRecord (map kind_of now) (first_record after.rest) (after.count + 1)) → OnBad fault (λ place. bad_place (before.count + 1) (map kind_of old) before.rest ≡ Some place)
+ReadSoFar-bad NoMemory h left b = tt
+ReadSoFar-bad {old = old} {now = now} {before = before} {after = after} (Bad place) h left b = go after.rest refl left b
+  where
+    types : List ColumnType
+    types = map kind_of old
+
+    go : (rest : List (List (List ℕ))) → after.rest ≡ rest → at_end rest ≡ false → IsBadRecord (map kind_of now) (first_record rest) (after.count + 1) place → bad_place (before.count + 1) types before.rest ≡ Some place
+    go [] e left b = absurd cc
+    go (fields ∷ more) e left b =
+        let none : spelled_row types fields ≡ None = ap (λ t. spelled_row t fields) (sym h.kinds) ∙ b.unspelled in
+        h.places ∙ ap (bad_place (after.count + 1) types) e ∙ bad_place-here (after.count + 1) types fields more none
+        ∙ ap Some (ap (λ t. record { row = after.count + 1; field = bad_field t fields }) (sym h.kinds) ∙ sym b.is)
+
+-- what stands in front of a bad record is given
+pub stopped-ok : {old now : List Column} {before after : RowsLeft} {rows most : ℕ} → (new : List Column) (r : Result ℕ RowsFault) → IfOk r (λ n. (n ≡ rows) × (0 < rows)) → ReadSoFar old now before after rows most
+    → map values new ≡ map values now → IfOk r (λ n. ReadsFront (map kind_of old) before after (map values new) n most)
+stopped-ok new (Err e) x h v = tt
+stopped-ok {rows = rows} new (Ok n) x h v = rw (x.0, v) (ReadSoFar-stop h (λ z. absurd (omega (arith, z, x.1))))
+
+pub stopped-bad : (P : BadPlace → Type 0) (r : Result ℕ RowsFault) (fault : RowsFault) → IfErr r (λ e. e ≡ fault) → OnBad fault P → IfErr r (λ e. OnBad e P)
+stopped-bad P (Ok n) fault x h = tt
+stopped-bad P (Err e) fault x h = rw x h
+
+-- the rows that were taken are all that were left
+pub takes-all : {types : List ColumnType} {old new : RowsLeft} {rows : List Row} {most : ℕ} → TakesRows types old new rows most → at_end new.rest ≡ true
+    → (rows ≡ good_rows types old.rest) × (bad_place (old.count + 1) types old.rest ≡ None)
+unfolding good_rows bad_place
+takes-all {types = types} {old = old} {new = new} {rows = rows} h over = go new.rest refl over
+  where
+    go : (rest : List (List (List ℕ))) → new.rest ≡ rest → at_end rest ≡ true → (rows ≡ good_rows types old.rest) × (bad_place (old.count + 1) types old.rest ≡ None)
+    go [] e over = (sym (h.good ∙ ap (λ l. rows ++ good_rows types l) e ∙ append-nil rows), h.places ∙ ap (bad_place (new.count + 1) types) e)
+    go (fields ∷ more) e over = absurd cc
+
+-- a record is left
+pub first-then : (rest : List (List (List ℕ))) (ahead : Bool) (p : Position) → rest ≡ records_from ahead p → at_end rest ≡ false → (first_record rest ≡ p.fields) × (rest ≡ p.fields ∷ p.left)
+first-then rest true p e left = (ap first_record e, e)
+first-then rest false p e left = let f : true ≡ false = ap at_end (sym e) ∙ left in absurd cc

@@ -23,10 +23,11 @@ pub record HoldsMore (files : Option (List FileEntry)) (old new : Option (List �
   pub added : grown ≡ held ++ block
   pub within : length grown ≤ limit
 
--- the held bytes and those of one read are more than the limit
-pub record PassesLimit (files : Option (List FileEntry)) (old new : Option (List ℕ × ℕ)) (held : List ℕ) (limit : ℕ) : Type 0 where
+-- the held bytes and those of one read, so many, are more than the limit
+pub record PassesLimit (files : Option (List FileEntry)) (old new : Option (List ℕ × ℕ)) (held : List ℕ) (limit count : ℕ) : Type 0 where
   pub block : List ℕ
   pub reads : ReadsBlock files old new block
+  pub counted : count ≡ length block
   pub beyond : limit < length held + length block
 
 -- facts for one answer of a fetch
@@ -56,12 +57,12 @@ UnlessMore (Err e) P = P
 
 abbrev pub OnRead : FetchFault → Type 0 → Type 0
 OnRead Read P = P
-OnRead TooLong P = ⊤
+OnRead (TooLong n) P = ⊤
 OnRead Memory P = ⊤
 
-abbrev pub OnTooLong : FetchFault → Type 0 → Type 0
+abbrev pub OnTooLong : FetchFault → (ℕ → Type 0) → Type 0
 OnTooLong Read P = ⊤
-OnTooLong TooLong P = P
+OnTooLong (TooLong n) P = P n
 OnTooLong Memory P = ⊤
 
 -- the reader stands behind the held bytes, which begin the file where it is told

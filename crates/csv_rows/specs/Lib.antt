@@ -1,4 +1,5 @@
 pub mod Lines
 pub mod RecordsLeft
 pub mod Pushing
+pub mod RowsLeft
 pub mod Fetching

@@ -3,9 +3,9 @@ use Rattle.std.specs.Prelude.{◌≡◌, ℕ, ◌+◌, List, [], ◌∷◌, ◌+
 use Rattle.chunk_data.specs.declared.typed_value.Value.{Value}
 use Rattle.chunk_data.specs.declared.typed_value.ColumnType.{ColumnType}
 use Rattle.chunk_data.specs.Values.{Row}
-use Rattle.chunk_data.specs.Rows.{AreLong, joined, rows_of}
+use Rattle.chunk_data.specs.Rows.{joined}
 use Rattle.query_model.specs.Fields.{spelled_value, spelled_row}
-use Rattle.query_model.specs.Parts.{bad_field, bad_place, good_rows}
+use Rattle.query_model.specs.Parts.{bad_field}
 use Rattle.query_model.specs.declared.places.BadPlace.{BadPlace}
 use Rattle.query_model.specs.declared.places.BadField.TheVariants as bad
 use Rattle.csv_rows.specs.declared.rows.RowsFault.{RowsFault}
@@ -23,10 +23,10 @@ abbrev pub OnUnspelled : FieldFault → Type 0 → Type 0
 OnUnspelled field.Unspelled P = P
 OnUnspelled field.Memory P = ⊤
 
--- what field i makes of a record behind so many rows
+-- what field i makes of the record with this number
 abbrev pub record_fault : FieldFault → ℕ → ℕ → RowsFault
-record_fault field.Unspelled rows i = Bad (record { row = rows + 1; field = bad.Column (i + 1) })
-record_fault field.Memory rows i = Memory
+record_fault field.Unspelled number i = Bad (record { row = number; field = bad.Column (i + 1) })
+record_fault field.Memory number i = Memory
 
 -- a column got the value that the field spells at its end
 pub record AddsSpelled (type : ColumnType) (field : List ℕ) (old new : List Value) : Type 0 where
@@ -44,9 +44,3 @@ pub record AddsRecord (types : List ColumnType) (fields : List (List ℕ)) (old 
 pub record IsBadRecord (types : List ColumnType) (fields : List (List ℕ)) (number : ℕ) (place : BadPlace) : Type 0 where
   pub unspelled : spelled_row types fields ≡ None
   pub is : place ≡ record { row = number; field = bad_field types fields }
-
--- the columns hold the rows of all records, each of which is good
-pub record HoldsRows (types : List ColumnType) (records : List (List (List ℕ))) (columns : List (List Value)) (count : ℕ) : Type 0 where
-  pub long : AreLong count columns
-  pub rows : rows_of count columns ≡ good_rows types records
-  pub good : bad_place 1 types records ≡ None

@@ -23,7 +23,8 @@ pub enum Fetched {
 #[derive(Clone, Copy, Debug, PartialEq, Eq)]
 pub enum FetchFault {
     Read,
-    TooLong,
+    /// So many bytes were read that with those held they are more than the limit.
+    TooLong(usize),
     Memory,
 }
 
@@ -49,7 +50,9 @@ pub fn fetch<F: FileReader>(
     ensures told { F.files reader.new ≡ F.files reader.old }
     ensures more { OnMore result (HoldsMore (F.files reader.old) (F.stands reader.old) (F.stands reader.new) held.old held.new limit) }
     ensures whole { OnWhole result (StandsAtEnd (F.files reader.old) (F.stands reader.old)) }
+    ensures stays_at_end { OnWhole result (F.stands reader.new ≡ F.stands reader.old) }
     ensures pending { OnPending result (Rose (F.pendings reader.old) (F.pendings reader.new)) }
+    ensures stays_pending { OnPending result (F.stands reader.new ≡ F.stands reader.old) }
     ensures read { IfErr result (λ e. OnRead e (Rose (F.faults reader.old) (F.faults reader.new))) }
     ensures too_long { IfErr result (λ e. OnTooLong e (PassesLimit (F.files reader.old) (F.stands reader.old) (F.stands reader.new) held.old limit)) }
     ensures held { UnlessMore result (held.new ≡ held.old) }
@@ -58,25 +61,25 @@ pub fn fetch<F: FileReader>(
 {
     let mut buffer = [0; BLOCK];
     match reader.read_some(&mut buffer) {
-        Ok(Got::Bytes(n)) => hold(held, &buffer[..n], limit),
+        Ok(Got::Bytes(n)) => hold_block(held, &buffer[..n], limit),
         Ok(Got::End) => Ok(Fetched::Whole),
         Ok(Got::Pending) => Ok(Fetched::Pending),
         Err(Failed) => Err(FetchFault::Read),
     }
 }
 
-// Adds a block to the held bytes, if both are within the limit.
-fn hold(held: &mut Bytes, block: &[u8], limit: u64) -> Result<Fetched, FetchFault>
+/// Adds a block that was read to the held bytes, if both are within the limit. After a fault these are as they were.
+pub fn hold_block(held: &mut Bytes, block: &[u8], limit: u64) -> Result<Fetched, FetchFault>
     ensures answers { IfOk result (λ f. f ≡ Fetched.More) }
     ensures ok { OnOk result (held.new ≡ held.old ++ block.now) }
     ensures within { OnOk result (length held.new ≤ limit) }
     ensures err { OnErr result (held.new ≡ held.old) }
     ensures not_read { IfErr result (λ e. OnRead e ⊥) }
-    ensures too_long { IfErr result (λ e. OnTooLong e (limit < length held.old + length block.now)) }
+    ensures too_long { IfErr result (λ e. OnTooLong e (λ n. (n ≡ length block.now) × (limit < length held.old + n))) }
 {
     let had = held.len() as u64;
     if had > limit || block.len() as u64 > limit - had {
-        return Err(FetchFault::TooLong);
+        return Err(FetchFault::TooLong(block.len()));
     }
     match held.extend_from_slice(block) {
         Ok(()) => Ok(Fetched::More),
@@ -134,7 +137,7 @@ fn fetch_blocks<F: FileReader>(
             Ok(Fetched::Whole) => return Ok(held),
             Ok(Fetched::Pending) => return Err(FileFault::Stalled),
             Err(FetchFault::Read) => return Err(FileFault::Read),
-            Err(FetchFault::TooLong) => return Err(FileFault::TooLong),
+            Err(FetchFault::TooLong(_)) => return Err(FileFault::TooLong),
             Err(FetchFault::Memory) => return Err(FileFault::Memory),
         }
     }

@@ -4,10 +4,12 @@
 
 mod file_fetch;
 mod record_reader;
+mod row_reader;
 mod rows;
 mod text;
 
-pub use file_fetch::{FetchFault, Fetched, FileFault, fetch, fetch_file};
+pub use file_fetch::{FetchFault, Fetched, FileFault, fetch, fetch_file, hold_block};
 pub use record_reader::RecordReader;
+pub use row_reader::RowReader;
 pub use rows::{RowsFault, read_rows};
 pub use text::write_rows;

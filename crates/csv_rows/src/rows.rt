@@ -1,13 +1,13 @@
-ghost use Rattle.std.specs.Prelude.{◌≡◌, ℕ, ◌+◌, ◌<◌, ◌^◌, length, map, slice_index_or, IfOk, IfErr, OnOk, OnErr, Some, None, if◌then◌else◌, drop};
+ghost use Rattle.std.specs.Prelude.{◌≡◌, ◌+◌, ◌<◌, ◌^◌, length, map, slice_index_or, IfOk, IfErr, OnOk, OnErr, Some, None};
 ghost use Rattle.chunk_data.specs.Columns.{kind_of, values};
 ghost use Rattle.chunk_data.specs.Rows.{AreLong, rows_of};
 ghost use Rattle.query_model.specs.Fields.{spelled_value};
 ghost use Rattle.query_model.specs.Parts.{bad_field, bad_place, good_rows, part_records};
-ghost use Rattle.csv_rows.specs.RecordsLeft.{Position};
-ghost use Rattle.csv_rows.specs.Pushing.{AddsSpelled, AddsRecord, HoldsRows, IsBadRecord, OnBad, OnUnspelled, record_fault};
+ghost use Rattle.csv_rows.specs.Pushing.{AddsSpelled, AddsRecord, IsBadRecord, OnBad, OnUnspelled, record_fault};
 
 use crate::record_reader::RecordReader;
-use chunk_data::{Chunk, Column, ColumnType, List, Memory, empty_columns, truncate_columns};
+use crate::row_reader::RowReader;
+use chunk_data::{Chunk, Column, ColumnType, List, truncate_columns};
 use query_model::numerals::{spelled_int, spelled_uint};
 use query_model::places::{BadField, BadPlace};
 use std::alloc::Global;
@@ -43,104 +43,55 @@ pub fn read_rows(
     ensures valid { OnOk result (bad_place 1 types.now (part_records header bytes.items) ≡ None) }
     ensures bad { IfErr result (λ e. OnBad e (λ place. bad_place 1 types.now (part_records header bytes.items) ≡ Some place)) }
 {
-    match first_record(alloc, bytes, header) {
-        Ok(mut reader) => read_chunk(alloc, &mut reader, types),
+    match RowReader::new(alloc, bytes, header) {
+        Ok(mut reader) => read_all(alloc, &mut reader, types),
         Err(_) => Err(RowsFault::Memory),
-    }
-}
-
-// A reader in front of the first record that is a row.
-fn first_record(alloc: Global, bytes: Vec<u8>, header: bool) -> Result<RecordReader, Memory>
-    ensures { IfOk result (λ (reader : Position). reader.left ≡ part_records header bytes.items) }
-{
-    let mut reader = RecordReader::new(alloc, bytes);
-    match skip_header(&mut reader, header) {
-        Ok(()) => Ok(reader),
-        Err(memory) => Err(memory),
     }
 }
 
 // The rows of all records that are left.
-fn read_chunk(
+fn read_all(
     alloc: Global,
-    reader: &mut RecordReader,
+    reader: &mut RowReader,
     types: &List<ColumnType>,
 ) -> Result<Chunk, RowsFault>
     requires { length types.now < 2 ^ 32 }
     ensures types { IfOk result (λ c. c.types ≡ types.now) }
-    ensures rows { IfOk result (λ c. c.rows ≡ good_rows types.now reader.old.left) }
-    ensures valid { OnOk result (bad_place 1 types.now reader.old.left ≡ None) }
-    ensures bad { IfErr result (λ e. OnBad e (λ place. bad_place 1 types.now reader.old.left ≡ Some place)) }
+    ensures rows { IfOk result (λ c. c.rows ≡ good_rows types.now reader.old.rest) }
+    ensures valid { OnOk result (bad_place (reader.old.count + 1) types.now reader.old.rest ≡ None) }
+    ensures bad { IfErr result (λ e. OnBad e (λ place. bad_place (reader.old.count + 1) types.now reader.old.rest ≡ Some place)) }
 {
-    let mut columns = match empty_columns(alloc, types.as_slice()) {
-        Ok(columns) => columns,
-        Err(_) => return Err(RowsFault::Memory),
-    };
-    match read_columns(&mut columns, reader) {
-        Ok(rows) => chunk_of(alloc, columns, rows),
+    match reader.next_chunk(alloc, types, usize::MAX) {
+        Ok(chunk) => {
+            if reader.is_over() {
+                return Ok(chunk);
+            }
+            match reader.next_chunk(alloc, types, usize::MAX) {
+                Ok(_) => Err(RowsFault::Memory),
+                Err(fault) => Err(fault),
+            }
+        }
         Err(fault) => Err(fault),
     }
 }
 
-fn chunk_of(alloc: Global, columns: Vec<Column>, rows: usize) -> Result<Chunk, RowsFault>
-    requires { AreLong rows (map values columns.items) }
-    ensures types { IfOk result (λ c. c.types ≡ map kind_of columns.items) }
-    ensures rows { IfOk result (λ c. c.rows ≡ rows_of rows (map values columns.items)) }
-    ensures err { IfErr result (λ e. e ≡ RowsFault.Memory) }
-{
-    match Chunk::of_columns(alloc, List::from_vec(columns), rows) {
-        Ok(chunk) => Ok(chunk),
-        Err(_) => Err(RowsFault::Memory),
-    }
-}
-
-fn skip_header(reader: &mut RecordReader, header: bool) -> Result<(), Memory>
-    ensures { OnOk result (reader.new.left ≡ drop (if header then 1 else 0) reader.old.left) }
-{
-    if header {
-        reader.advance()?;
-    }
-    Ok(())
-}
-
-// Adds the rows of all records that are left to the columns, which are empty, and counts them.
-fn read_columns(columns: &mut [Column], reader: &mut RecordReader) -> Result<usize, RowsFault>
-    requires empty { AreLong 0 (map values columns.old) }
-    requires few { length columns.old < 2 ^ 32 }
-    ensures kinds { map kind_of columns.new ≡ map kind_of columns.old }
-    ensures ok { IfOk result (λ n. HoldsRows (map kind_of columns.old) reader.old.left (map values columns.new) n) }
-    ensures bad { IfErr result (λ e. OnBad e (λ place. bad_place 1 (map kind_of columns.old) reader.old.left ≡ Some place)) }
-{
-    let mut rows = 0usize;
-    'records: loop {
-        match reader.advance() {
-            Ok(true) => {}
-            Ok(false) => return Ok(rows),
-            Err(_) => return Err(RowsFault::Memory),
-        }
-        let Some(next) = rows.checked_add(1) else {
-            return Err(RowsFault::Memory);
-        };
-        match push_record(columns, reader, rows) {
-            Ok(()) => rows = next,
-            Err(fault) => return Err(fault),
-        }
-    }
-}
-
-// Adds the record at hand as one row more; after an error the columns are as they were.
-fn push_record(columns: &mut [Column], reader: &RecordReader, rows: usize) -> Result<(), RowsFault>
+/// Adds the record at hand, which has this number, as one row behind so many; after an error the columns are as they were.
+pub(crate) fn push_record(
+    columns: &mut [Column],
+    reader: &RecordReader,
+    rows: usize,
+    number: u64,
+) -> Result<(), RowsFault>
     requires long { AreLong rows (map values columns.old) }
     requires few { length columns.old < 2 ^ 32 }
-    requires room { rows + 1 < 2 ^ 64 }
     ensures kinds { map kind_of columns.new ≡ map kind_of columns.old }
     ensures ok { OnOk result (AddsRecord (map kind_of columns.old) reader.now.fields (map values columns.old) (map values columns.new)) }
-    ensures bad { IfErr result (λ e. OnBad e (IsBadRecord (map kind_of columns.old) reader.now.fields (rows + 1))) }
+    ensures bad { IfErr result (λ e. OnBad e (IsBadRecord (map kind_of columns.old) reader.now.fields number)) }
     ensures err { OnErr result (map values columns.new ≡ map values columns.old) }
 {
     if reader.len() != columns.len() {
         return Err(RowsFault::Bad(BadPlace {
-            row: rows as u64 + 1,
+            row: number,
             field: BadField::Fields(reader.len() as u64),
         }));
     }
@@ -149,22 +100,21 @@ fn push_record(columns: &mut [Column], reader: &RecordReader, rows: usize) -> Re
             Ok(()) => {}
             Err(fault) => {
                 truncate_columns(columns, rows);
-                return Err(fault_at(fault, rows, i));
+                return Err(fault_at(fault, number, i));
             }
         }
     }
     Ok(())
 }
 
-// The fault of field i of the record behind so many rows.
-fn fault_at(fault: FieldFault, rows: usize, i: usize) -> RowsFault
-    requires few { i + 1 < 2 ^ 32 }
-    requires room { rows + 1 < 2 ^ 64 }
-    ensures { result ≡ record_fault fault rows i }
+// The fault of field i of the record with this number.
+fn fault_at(fault: FieldFault, number: u64, i: usize) -> RowsFault
+    requires { i + 1 < 2 ^ 32 }
+    ensures { result ≡ record_fault fault number i }
 {
     match fault {
         FieldFault::Unspelled => RowsFault::Bad(BadPlace {
-            row: rows as u64 + 1,
+            row: number,
             field: BadField::Column(i as u32 + 1),
         }),
         FieldFault::Memory => RowsFault::Memory,

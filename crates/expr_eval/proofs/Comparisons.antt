@@ -12,7 +12,7 @@ use Rattle.query_model.specs.declared.query.CompareOp.{CompareOp}
 use Rattle.query_model.specs.declared.query.CompareOp.TheVariants.{Eq, Ne, Lt, Le, Gt, Ge}
 use Rattle.query_model.specs.Numbers.{exact}
 use Rattle.query_model.specs.Expressions.{compared, passes, plain_value}
-use Rattle.expr_eval.specs.Typing.{is_text}
+use Rattle.query_model.specs.Typing.{is_text}
 use Rattle.expr_eval.specs.Results.{flipped}
 
 passes-reverse : (op : CompareOp) (o : Ordering) → passes (flipped op) (ordering_reverse o) ≡ passes op o

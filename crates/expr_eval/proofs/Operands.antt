@@ -9,7 +9,7 @@ use Rattle.query_model.specs.declared.query.ArithOp.{ArithOp}
 use Rattle.query_model.specs.declared.query.ArithOp.TheVariants.{Add, Sub, Mul}
 use Rattle.query_model.specs.declared.query.ExprOf.TheVariants as expr
 use Rattle.query_model.specs.Expressions.{Expr, value_of, type_of, plain_value}
-use Rattle.expr_eval.specs.Typing.{plain_of, CanHold, AreNumbersAlike, AreAlike}
+use Rattle.query_model.specs.Typing.{plain_of, CanHold, AreNumbersAlike, AreAlike}
 use Rattle.expr_eval.specs.Results.{IsMade, arith_type, result_type}
 
 pub plain_before : (p q : Option ℤ) (s t : ColumnType) (z : ℤ) → p ≡ Some z → AreAlike p s q t → (q ≡ None) × CanHold t z

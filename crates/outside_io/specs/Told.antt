@@ -1,7 +1,11 @@
 -- The files that a reader tells, and where it stands in one of them.
-use Rattle.std.specs.Prelude.{◌≡◌, ℕ, ◌+◌, ◌≤◌, if◌then◌else◌, List, [], ◌∷◌, length, take, drop, Option, Some, None, IfSome}
+use Rattle.std.specs.Prelude.{◌≡◌, ℕ, ◌+◌, ◌≤◌, if◌then◌else◌, List, [], ◌∷◌, length, map, take, drop, Option, Some, None, IfSome}
 use Rattle.std.specs.Str.{bytes_eq}
 use Rattle.outside_io.specs.declared.entries.FileEntry.{FileEntry}
+
+-- told files as pairs of a path and its bytes
+abbrev pub files_of : List FileEntry → List (List ℕ × List ℕ)
+files_of entries = map (λ (e : FileEntry). (e.path, e.bytes)) entries
 
 -- the bytes of the first file with this path
 unfoldable pub file_bytes : List FileEntry → List ℕ → Option (List ℕ)

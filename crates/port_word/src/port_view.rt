@@ -66,15 +66,33 @@ impl PortView {
 
     pub fn inputs(&self) -> usize
         ensures count { result ≡ in_count self.now }
+        ensures few { result ≤ 32 }
         ensures sound { IsSound self.now }
     {
         self.inputs.len()
     }
 
     pub fn outputs(&self) -> usize
-        ensures { result ≡ out_count self.now }
+        ensures count { result ≡ out_count self.now }
+        ensures few { result ≤ 16 }
     {
         self.outputs.len()
+    }
+
+    /// The flags of the input, as last seen and changed by this node.
+    pub fn input_flags(&self, i: usize) -> Flags
+        requires { i < in_count self.now }
+        ensures { result ≡ (input_at self.now i).flags }
+    {
+        self.inputs[i].flags
+    }
+
+    /// The flags of the output, as last seen and changed by this node.
+    pub fn output_flags(&self, o: usize) -> Flags
+        requires { o < out_count self.now }
+        ensures { result ≡ output_at self.now o }
+    {
+        self.outputs[o]
     }
 
     /// Whether a chunk can be pulled; false on an input that this node closed.

@@ -18,6 +18,15 @@ struct Outcome {
     err: Vec<u8>,
 }
 
+/// What was written, or the line that was told.
+fn told_by(outcome: &Outcome) -> &[u8] {
+    if outcome.status == 0 {
+        outcome.out.as_slice()
+    } else {
+        outcome.err.as_slice()
+    }
+}
+
 fn text(alloc: Global, bytes: &[u8]) -> Result<Bytes, AllocError> {
     Ok(Bytes::from_vec(Vec::from_slice(alloc, bytes)?))
 }
@@ -161,7 +170,7 @@ fn answers_are_written(rt: HostRuntime) -> Result<(), Fail> {
 /// What is not answered: the columns, the query, the file, the status and the line.
 #[test]
 fn other_ends_tell_their_line(rt: HostRuntime) -> Result<(), Fail> {
-    let cases: [(&str, &str, &[u8], u8, &str); 16] = [
+    let cases: [(&str, &str, &[u8], u8, &str); 11] = [
         (
             "a Int64",
             "SELECT a FROM t",
@@ -206,35 +215,6 @@ fn other_ends_tell_their_line(rt: HostRuntime) -> Result<(), Fail> {
             3,
             "qrun: bad data\n",
         ),
-        (
-            "a Int64",
-            "SELECT x FROM t",
-            b"1\n",
-            2,
-            "qrun: refused: NotBuilt\n",
-        ),
-        (
-            "a Int64",
-            "SELECT a FROM u",
-            b"1\n",
-            2,
-            "qrun: refused: NotBuilt\n",
-        ),
-        (
-            "a Int64",
-            "SELECT a FROM t LIMIT 1",
-            b"1\n",
-            2,
-            "qrun: refused: NotBuilt\n",
-        ),
-        (
-            "a Int64",
-            "select a from t",
-            b"1\n",
-            2,
-            "qrun: refused: NotBuilt\n",
-        ),
-        ("a Int64", "", b"1\n", 2, "qrun: refused: NotBuilt\n"),
         ("a Int32", "SELECT a FROM t", b"1\n", 1, "qrun: usage\n"),
         (
             "a Int64,a Int64",
@@ -254,6 +234,299 @@ fn other_ends_tell_their_line(rt: HostRuntime) -> Result<(), Fail> {
             "line of {query} over {columns}"
         );
         assert_eq!(rt; outcome.out.len(), 0, "nothing written for {query}");
+    }
+    Ok(())
+}
+
+/// Items with arithmetic: the columns, the query, the file, and what is written.
+#[test]
+fn items_are_evaluated(rt: HostRuntime) -> Result<(), Fail> {
+    let cases: [(&str, &str, &[u8], &[u8]); 7] = [
+        // arithmetic wraps, and a difference is an Int64
+        (
+            "a UInt64,b UInt64",
+            "SELECT a - b FROM t",
+            b"0,1\n",
+            b"-1\n",
+        ),
+        (
+            "a UInt64",
+            "SELECT a + 1 FROM t",
+            b"18446744073709551615\n",
+            b"0\n",
+        ),
+        (
+            "a Int64",
+            "SELECT a * 2 FROM t",
+            b"4611686018427387904\n",
+            b"-9223372036854775808\n",
+        ),
+        // precedence, grouping to the left, parentheses
+        (
+            "a Int64,b Int64",
+            "SELECT a + b * 2, (a + b) * 2 FROM t",
+            b"1,2\n",
+            b"5,6\n",
+        ),
+        (
+            "a Int64",
+            "SELECT a - 1 - 1, a - (1 - a) FROM t",
+            b"5\n",
+            b"3,9\n",
+        ),
+        ("a Int64", "SELECT a * -1, 2 - a FROM t", b"5\n", b"-5,-3\n"),
+        ("u UInt64", "SELECT u + -0 FROM t", b"5\n", b"5\n"),
+    ];
+    for (columns, query, bytes, written) in cases.iter() {
+        let outcome = answer(&rt, columns, query, bytes)?;
+        assert_eq!(rt; outcome.status, 0, "status of {query}");
+        assert_eq!(rt; outcome.out.as_slice(), *written, "text of {query}");
+        assert_eq!(rt; outcome.err.len(), 0, "no line for {query}");
+    }
+    Ok(())
+}
+
+/// Conditions on numbers: the columns, the query, the file, and what is written.
+#[test]
+fn conditions_choose_rows(rt: HostRuntime) -> Result<(), Fail> {
+    let cases: [(&str, &str, &[u8], &[u8]); 9] = [
+        // no row passes
+        ("a Int64", "SELECT a FROM t WHERE a > 5", b"1\n2\n3\n", b""),
+        // numbers of two types are compared by value
+        (
+            "a Int64,b UInt64",
+            "SELECT a FROM t WHERE a < b AND NOT a = 7",
+            b"-1,0\n7,9\n5,5\n",
+            b"-1\n",
+        ),
+        (
+            "a Int64",
+            "SELECT a FROM t WHERE a = 1 OR a = 2 AND a = 3",
+            b"1\n2\n3\n",
+            b"1\n",
+        ),
+        (
+            "a Int64",
+            "SELECT a FROM t WHERE (a = 1 OR a = 2) AND a != 1",
+            b"1\n2\n3\n",
+            b"2\n",
+        ),
+        (
+            "a Int64",
+            "SELECT a FROM t WHERE NOT (a < 2 OR a >= 3)",
+            b"1\n2\n3\n",
+            b"2\n",
+        ),
+        (
+            "a Int64",
+            "SELECT a FROM t WHERE a + 1 = 2 * a",
+            b"1\n2\n",
+            b"1\n",
+        ),
+        (
+            "a Int64",
+            "SELECT a FROM t WHERE 1 = 1",
+            b"1\n2\n",
+            b"1\n2\n",
+        ),
+        ("a Int64", "SELECT a FROM t WHERE 1 <> 1", b"1\n2\n", b""),
+        ("a Int64", "SELECT a FROM t WHERE 2 <= a", b"1\n2\n", b"2\n"),
+    ];
+    for (columns, query, bytes, written) in cases.iter() {
+        let outcome = answer(&rt, columns, query, bytes)?;
+        assert_eq!(rt; outcome.status, 0, "status of {query}");
+        assert_eq!(rt; outcome.out.as_slice(), *written, "text of {query}");
+        assert_eq!(rt; outcome.err.len(), 0, "no line for {query}");
+    }
+    Ok(())
+}
+
+/// Conditions on texts, names, and the ways that a query may be written.
+#[test]
+fn texts_and_names_are_read(rt: HostRuntime) -> Result<(), Fail> {
+    let cases: [(&str, &str, &[u8], &[u8]); 10] = [
+        // texts are compared by bytes
+        (
+            "a Int64,b String",
+            "SELECT a FROM t WHERE b = 'x'",
+            b"1,x\n2,y\n3,x\n",
+            b"1\n3\n",
+        ),
+        (
+            "b String",
+            "SELECT b FROM t WHERE b < 'b'",
+            b"a\nB\nb\n",
+            b"\"a\"\n\"B\"\n",
+        ),
+        (
+            "b String",
+            "SELECT b FROM t WHERE b == 'it''s'",
+            b"it's\nits\n",
+            b"\"it's\"\n",
+        ),
+        (
+            "a String,b String",
+            "SELECT a FROM t WHERE a > b",
+            b"x,y\ny,x\n",
+            b"\"y\"\n",
+        ),
+        // all columns, names with the table, aliases
+        (
+            "a Int64,b String",
+            "SELECT * FROM t",
+            b"1,x\n2,y\n",
+            b"1,\"x\"\n2,\"y\"\n",
+        ),
+        ("a Int64", "SELECT t.a, t . a + 1 FROM t", b"1\n", b"1,2\n"),
+        (
+            "a Int64,b String",
+            "SELECT b AS a, a AS b FROM t WHERE a = 1",
+            b"1,x\n",
+            b"\"x\",1\n",
+        ),
+        // the way that it is written
+        ("a Int64", "select a from t where a = 1;", b"1\n2\n", b"1\n"),
+        ("a Int64", "\tSELECT\r\na ,(a+1)FROM t", b"1\n", b"1,2\n"),
+        ("count Int64", "SELECT count FROM t", b"1\n", b"1\n"),
+    ];
+    for (columns, query, bytes, written) in cases.iter() {
+        let outcome = answer(&rt, columns, query, bytes)?;
+        assert_eq!(rt; outcome.status, 0, "status of {query}");
+        assert_eq!(rt; outcome.out.as_slice(), *written, "text of {query}");
+        assert_eq!(rt; outcome.err.len(), 0, "no line for {query}");
+    }
+    Ok(())
+}
+
+/// Refused texts and queries over `a Int64,b String`, and what the line says behind `refused: `.
+#[test]
+fn refusals_are_told(rt: HostRuntime) -> Result<(), Fail> {
+    let cases: [(&str, &str); 25] = [
+        ("", "Syntax"),
+        ("SELECT FROM t", "Syntax"),
+        ("SELECT a b FROM t", "Syntax"),
+        ("SELECT a FROM t WHERE a", "Syntax"),
+        ("SELECT a FROM t; ;", "Syntax"),
+        ("SELECT a FROM t WHERE b = 'x", "Syntax"),
+        (
+            "SELECT a FROM t LIMIT 18446744073709551616",
+            "NumberTooLarge",
+        ),
+        ("SELECT a FROM t LIMIT 1", "NotBuilt"),
+        ("SELECT a FROM t GROUP BY a", "NotBuilt"),
+        ("SELECT count() FROM t", "NotBuilt"),
+        ("SELECT a FROM t ORDER BY a", "NotBuilt"),
+        ("SELECT a FROM t JOIN u ON t.a = u.a", "NotBuilt"),
+        ("SELECT number FROM numbers(3)", "NotBuilt"),
+        ("SELECT a FROM x", "UnknownTable x"),
+        ("SELECT c FROM x", "UnknownTable x"),
+        ("SELECT c FROM t", "UnknownColumn c"),
+        ("SELECT A FROM t", "UnknownColumn A"),
+        ("SELECT a, d + c FROM t WHERE e = 1", "UnknownColumn d"),
+        ("SELECT u . a FROM t", "UnknownColumn u.a"),
+        ("SELECT a FROM t WHERE c = 1", "UnknownColumn c"),
+        ("SELECT a + b FROM t", "TypeMismatch"),
+        ("SELECT a FROM t WHERE b = 1", "TypeMismatch"),
+        ("SELECT 1 FROM t", "TypeMismatch"),
+        ("SELECT 1 + 1 FROM t", "TypeMismatch"),
+        ("SELECT a - 9223372036854775808 FROM t", "TypeMismatch"),
+    ];
+    for (query, code) in cases.iter() {
+        let outcome = answer(&rt, "a Int64,b String", query, b"1,x\n")?;
+        let line = format!(in rt.alloc(); "qrun: refused: {code}\n")?;
+        assert_eq!(rt; outcome.err.as_slice(), line.as_bytes(), "line of {query}");
+        assert_eq!(rt; outcome.status, 2, "status of {query}");
+        assert_eq!(rt; outcome.out.len(), 0, "nothing written for {query}");
+    }
+    Ok(())
+}
+
+/// A front, a piece so many times, and an end.
+fn repeated(
+    alloc: Global,
+    front: &str,
+    piece: &str,
+    times: u32,
+    end: &str,
+) -> Result<String, AllocError> {
+    let mut query = String::from_str(alloc, front)?;
+    for _ in 0..times {
+        query.push_str(piece)?;
+    }
+    query.push_str(end)?;
+    Ok(query)
+}
+
+/// Queries at a limit and one beyond it: the front, the piece and how often it stands, the end, the status, and what is
+/// written or told.
+#[test]
+fn queries_keep_the_limits(rt: HostRuntime) -> Result<(), Fail> {
+    let cases: [(&str, &str, u32, &str, u8, &str); 6] = [
+        ("SELECT a", "+a", 1000, " FROM t", 0, "1001\n"),
+        (
+            "SELECT a",
+            "+a",
+            1001,
+            " FROM t",
+            2,
+            "qrun: refused: TooComplex\n",
+        ),
+        ("SELECT a", ",b", 63, " FROM t WHERE a = 2", 0, ""),
+        (
+            "SELECT a",
+            ",a",
+            64,
+            " FROM t",
+            2,
+            "qrun: refused: TooWide\n",
+        ),
+        ("SELECT a FROM t", " ", 65_521, "", 0, "1\n"),
+        (
+            "SELECT a FROM t",
+            " ",
+            65_522,
+            "",
+            2,
+            "qrun: refused: TooLong\n",
+        ),
+    ];
+    for (front, piece, times, end, status, told) in cases.iter() {
+        let query = repeated(rt.alloc(), front, piece, *times, end)?;
+        let outcome = answer(&rt, "a Int64,b String", query.as_str(), b"1,x\n")?;
+        assert_eq!(rt;
+            outcome.status,
+            *status,
+            "status of {front}{piece} {times} times"
+        );
+        assert_eq!(rt;
+            told_by(&outcome),
+            told.as_bytes(),
+            "{front}{piece} {times} times"
+        );
+    }
+    Ok(())
+}
+
+/// A sink of lines that takes three bytes a call, and fails after so many: the line is cut there, and all else is the same.
+#[test]
+fn lines_are_cut_where_their_sink_fails(rt: HostRuntime) -> Result<(), Fail> {
+    let words = words_of(rt.alloc(), "SELECT cost FROM t", "t=f.csv:a Int64")?;
+    let cases: [(usize, &str); 5] = [
+        (0, ""),
+        (10, "qrun: refu"),
+        (32, "qrun: refused: UnknownColumn cos"),
+        (33, "qrun: refused: UnknownColumn cost"),
+        (34, "qrun: refused: UnknownColumn cost\n"),
+    ];
+    for (room, line) in cases.iter() {
+        let script = script_of(rt.alloc(), None)?;
+        let mut files = MemFiles::new(rt.alloc(), files_of(rt.alloc(), b"1\n")?, script);
+        let mut out = MemSink::new(rt.alloc(), 80, 80)?;
+        let mut err = MemSink::new(rt.alloc(), 3, *room)?;
+        let status = run(&rt, words.as_slice(), &mut files, &mut out, &mut err);
+        assert_eq!(rt; status, 2);
+        assert_eq!(rt; out.written().len(), 0);
+        assert_eq!(rt; err.written(), line.as_bytes());
     }
     Ok(())
 }
@@ -365,7 +638,7 @@ fn first_fetch(alloc: Global, files: &mut MemFiles, held: &mut Bytes) -> Result<
     match fetch(files, held, 10) {
         Ok(Fetched::Whole) => String::from_str(alloc, "whole"),
         Ok(Fetched::Pending) => String::from_str(alloc, "pending"),
-        Err(FetchFault::TooLong) => String::from_str(alloc, "too long"),
+        Err(FetchFault::TooLong(_)) => String::from_str(alloc, "too long"),
         Err(_) => String::from_str(alloc, "failed"),
         Ok(Fetched::More) => second_fetch(alloc, files, held),
     }

@@ -7,7 +7,7 @@ use Rattle.std.proofs.lemmas.List.Sorted.{IsPermutation-refl}
 use Rattle.std.proofs.lemmas.Slice.Eq.{bytes_eq-Decides}
 use Rattle.chunk_data.specs.Values.{Row, Table, value_at, values_at}
 use Rattle.query_model.specs.Expressions.{value_of}
-use Rattle.query_model.specs.Refusals.{FromColumn, table_name, written, bad_join_key, bad_order_key, first_name, ungrouped_names, schema_columns, table_columns, from_columns, means, meant, meant_type, is_declared, text_columns, item_columns, expr_columns, expr_kind, known_kind, item_kind, is_typed, is_call, is_grouped, item_names, calls_in, unknown_table, unknown_column, ambiguous_column, type_mismatch, not_grouped, too_wide, first_of_all, refusal_of}
+use Rattle.query_model.specs.Refusals.{FromColumn, table_name, written, bad_join_key, bad_order_key, first_name, ungrouped_names, declared_column, schema_columns, table_columns, from_columns, means, meant, meant_type, is_declared, text_columns, item_columns, expr_columns, expr_kind, known_kind, item_kind, is_typed, is_call, is_grouped, item_names, calls_in, unknown_table, unknown_column, ambiguous_column, type_mismatch, not_grouped, too_wide, first_of_all, refusal_of}
 use Rattle.query_model.specs.Checks.{IsChecked, IsShape, IsPlacedItem, EachWith, place_of, known_type}
 use Rattle.query_model.specs.Answers.{item_row, output_rows, IsAnswer}
 use Rattle.query_model.specs.Database.{column_types}
@@ -28,10 +28,6 @@ use Rattle.query_model.proofs.AnswerLaws.{any_order_answers}
 
 abbrev bare : List ℕ → ColumnRef
 bare name = record { table = None; name = name }
-
--- a column of a declared table, as it stands in From
-abbrev from_column : List ℕ → ColumnDecl → FromColumn
-from_column table c = record { table = table; name = c.name; type = c.kind }
 
 abbrev names_of : List ColumnDecl → List (List ℕ)
 names_of cs = map (λ (c : ColumnDecl). c.name) cs
@@ -57,14 +53,14 @@ is_false false h = refl
 -- The columns that a name means.
 
 abbrev matches : List ℕ → List ℕ → List ColumnDecl → List FromColumn
-matches table name cs = filter (means (bare name)) (map (from_column table) cs)
+matches table name cs = filter (means (bare name)) (map (declared_column table) cs)
 
 no_match : (table name : List ℕ) (cs : List ColumnDecl) → list_any (bytes_eq name) (names_of cs) ≡ false → matches table name cs ≡ []
 no_match table name [] h = refl
 no_match table name (c ∷ cs) h = go (bytes_eq name c.name) h (λ k. no_match table name cs k)
   where
     go : (b : Bool) → (b || list_any (bytes_eq name) (names_of cs)) ≡ false → (list_any (bytes_eq name) (names_of cs) ≡ false → matches table name cs ≡ [])
-        → cond b (from_column table c ∷ matches table name cs) (matches table name cs) ≡ []
+        → cond b (declared_column table c ∷ matches table name cs) (matches table name cs) ≡ []
     go true k more = absurd cc
     go false k more = more k
 
@@ -76,7 +72,7 @@ one_match table name (c ∷ cs) h d = go (bytes_eq name c.name) refl h (λ k. on
   where
     go : (b : Bool) → bytes_eq name c.name ≡ b → (b || list_any (bytes_eq name) (names_of cs)) ≡ true
         → (list_any (bytes_eq name) (names_of cs) ≡ true → length (matches table name cs) ≡ 1)
-        → length (cond b (from_column table c ∷ matches table name cs) (matches table name cs)) ≡ 1
+        → length (cond b (declared_column table c ∷ matches table name cs) (matches table name cs)) ≡ 1
     go true e k more =
         let same : name ≡ c.name = bytes_are name c.name e in
         let none : list_any (bytes_eq name) (names_of cs) ≡ false =
@@ -86,13 +82,13 @@ one_match table name (c ∷ cs) h d = go (bytes_eq name c.name) refl h (λ k. on
 
 -- and it has a type
 typed_match : (table name : List ℕ) (cs : List ColumnDecl) → list_any (bytes_eq name) (names_of cs) ≡ true
-    → is_typed (known_kind (meant_type (map (from_column table) cs) (bare name))) ≡ true
+    → is_typed (known_kind (meant_type (map (declared_column table) cs) (bare name))) ≡ true
 typed_match table name [] h = absurd cc
 typed_match table name (c ∷ cs) h = go (bytes_eq name c.name) h (λ k. typed_match table name cs k)
   where
     go : (b : Bool) → (b || list_any (bytes_eq name) (names_of cs)) ≡ true
-        → (list_any (bytes_eq name) (names_of cs) ≡ true → is_typed (known_kind (meant_type (map (from_column table) cs) (bare name))) ≡ true)
-        → is_typed (known_kind (option_map (λ (m : FromColumn). m.type) (cond b (Some (from_column table c)) (find (means (bare name)) (map (from_column table) cs))))) ≡ true
+        → (list_any (bytes_eq name) (names_of cs) ≡ true → is_typed (known_kind (meant_type (map (declared_column table) cs) (bare name))) ≡ true)
+        → is_typed (known_kind (option_map (λ (m : FromColumn). m.type) (cond b (Some (declared_column table c)) (find (means (bare name)) (map (declared_column table) cs))))) ≡ true
     go true k more = refl
     go false k more = more k
 
@@ -191,7 +187,7 @@ module _ (s : Schema) (names : List (List ℕ)) where
   not_wide few narrow =
       ap (λ b. cond b (Some refuse.TooWide) None) (
       narrow_enough (length (from_columns q (s ∷ []))) (length (map column_item names)) (calls_in q)
-      (let a = ap length (from_columns-is s names) in let b = length-map' (from_column s.name) s.columns in omega (arith, a, b, narrow))
+      (let a = ap length (from_columns-is s names) in let b = length-map' (declared_column s.name) s.columns in omega (arith, a, b, narrow))
       (let b = length-map' column_item names in omega (arith, b, few))
       (ap (λ (l : List Item). length l + 0) (calls_none names)))
     where
@@ -224,18 +220,18 @@ projection-unknown_table s names t other =
 
 -- Its checked query.
 
-placed : (table name : List ℕ) (cs : List ColumnDecl) → place_of (bytes_eq name) (names_of cs) ≡ place_of (means (bare name)) (map (from_column table) cs)
+placed : (table name : List ℕ) (cs : List ColumnDecl) → place_of (bytes_eq name) (names_of cs) ≡ place_of (means (bare name)) (map (declared_column table) cs)
 placed table name [] = refl
 placed table name (c ∷ cs) = ap (λ n. cond (bytes_eq name c.name) 0 (n + 1)) (placed table name cs)
 
 typed_place : (table name : List ℕ) (cs : List ColumnDecl)
-    → type_at (map (λ (c : ColumnDecl). c.kind) cs) (place_of (bytes_eq name) (names_of cs)) ≡ known_type (known_kind (meant_type (map (from_column table) cs) (bare name)))
+    → type_at (map (λ (c : ColumnDecl). c.kind) cs) (place_of (bytes_eq name) (names_of cs)) ≡ known_type (known_kind (meant_type (map (declared_column table) cs) (bare name)))
 typed_place table name [] = refl
 typed_place table name (c ∷ cs) = go (bytes_eq name c.name) (typed_place table name cs)
   where
-    go : (b : Bool) → type_at (map (λ (c : ColumnDecl). c.kind) cs) (place_of (bytes_eq name) (names_of cs)) ≡ known_type (known_kind (meant_type (map (from_column table) cs) (bare name)))
+    go : (b : Bool) → type_at (map (λ (c : ColumnDecl). c.kind) cs) (place_of (bytes_eq name) (names_of cs)) ≡ known_type (known_kind (meant_type (map (declared_column table) cs) (bare name)))
         → type_at (c.kind ∷ map (λ (c : ColumnDecl). c.kind) cs) (cond b 0 (place_of (bytes_eq name) (names_of cs) + 1))
-        ≡ known_type (known_kind (option_map (λ (m : FromColumn). m.type) (cond b (Some (from_column table c)) (find (means (bare name)) (map (from_column table) cs)))))
+        ≡ known_type (known_kind (option_map (λ (m : FromColumn). m.type) (cond b (Some (declared_column table c)) (find (means (bare name)) (map (declared_column table) cs)))))
     go true more = refl
     go false more =
         let next : place_of (bytes_eq name) (names_of cs) + 1 ≡ suc (place_of (bytes_eq name) (names_of cs)) = omega arith in

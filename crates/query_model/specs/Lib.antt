@@ -12,6 +12,10 @@ pub mod Formulas
 pub mod ListFiles
 pub mod Checks
 pub mod Kinds
+pub mod Flow
 pub mod Numerals
 pub mod Database
 pub mod Projection
+pub mod Typing
+pub mod Analysis
+pub mod Placing

@@ -1,7 +1,8 @@
 -- Why a query is refused: conditions over the whole query, of which the first in this order counts.
 use Rattle.std.specs.Prelude.{ℕ, ◌+◌, ◌^◌, Bool, true, false, not, ◌&&◌, ◌||◌, ◌==◌, nat_lt, is_some, if◌then◌else◌, List, [], ◌∷◌, ◌++◌, length, map, filter, flat_map, find, bytes_eq, codes, decimal, ℤ, pos, negsuc, Option, Some, None, option_map}
 use Rattle.std.specs.List.{list_any, list_all}
-use Rattle.query_model.specs.Expressions.{number_of}
+use Rattle.query_model.specs.Expressions.{number_of, is_uint_column}
+use Rattle.query_model.specs.Typing.{is_text}
 use Rattle.chunk_data.specs.declared.typed_value.ColumnType.{ColumnType}
 use Rattle.chunk_data.specs.declared.typed_value.ColumnType.TheVariants as column
 use Rattle.query_model.specs.declared.query.ArithOp.{ArithOp}
@@ -39,9 +40,13 @@ pub record FromColumn : Type 0 where
   pub name : List ℕ
   pub type : ColumnType
 
+-- a declared column of a table
+abbrev pub declared_column : List ℕ → ColumnDecl → FromColumn
+declared_column table c = record { table = table; name = c.name; type = c.kind }
+
 -- the columns of a declared table
 abbrev pub schema_columns : Schema → List FromColumn
-schema_columns s = map (λ (c : ColumnDecl). record { table = s.name; name = c.name; type = c.kind }) s.columns
+schema_columns s = map (declared_column s.name) s.columns
 
 abbrev pub table_columns : List Schema → TableRef → List FromColumn
 table_columns schemas (Named t) = flat_map schema_columns (filter (λ (s : Schema). bytes_eq s.name t) schemas)
@@ -162,16 +167,8 @@ same_type column.Int64 t = is_int64 t
     is_int64 : ColumnType → Bool
     is_int64 column.Int64 = true
     is_int64 _ = false
-same_type column.UInt64 t = is_uint64 t
-  where
-    is_uint64 : ColumnType → Bool
-    is_uint64 column.UInt64 = true
-    is_uint64 _ = false
+same_type column.UInt64 t = is_uint_column t
 same_type column.Text t = is_text t
-  where
-    is_text : ColumnType → Bool
-    is_text column.Text = true
-    is_text _ = false
 
 abbrev pub same_known_type : Option ColumnType → Option ColumnType → Bool
 same_known_type (Some a) (Some b) = same_type a b
@@ -206,9 +203,6 @@ can_hold column.UInt64 (pos n) = true
 can_hold column.UInt64 (negsuc n) = false
 can_hold column.Text z = false
 
-abbrev pub is_text_type : ColumnType → Bool
-is_text_type t = same_type t column.Text
-
 -- the type of a result of operands of one type
 abbrev pub result_type : ArithOp → ColumnType → ColumnType
 result_type Add t = t
@@ -216,7 +210,7 @@ result_type Sub t = column.Int64
 result_type Mul t = t
 
 abbrev pub arith_kind : ArithOp → Kind → Kind → Kind
-arith_kind op (typed s) (typed t) = if same_type s t && not (is_text_type s) then typed (result_type op s) else unfit
+arith_kind op (typed s) (typed t) = if same_type s t && not (is_text s) then typed (result_type op s) else unfit
 arith_kind op (typed t) (plain z) = if can_hold t z then typed (result_type op t) else unfit
 arith_kind op (plain z) (typed t) = if can_hold t z then typed (result_type op t) else unfit
 arith_kind op _ _ = unfit
@@ -232,7 +226,7 @@ expr_kind columns (expr.Arith' op p a q b) = arith_kind op (expr_kind columns a)
 
 -- the kind of a call over an argument of a kind
 abbrev pub call_kind : AggOp → Kind → Kind
-call_kind Sum (typed t) = if is_text_type t then unfit else typed t
+call_kind Sum (typed t) = if is_text t then unfit else typed t
 call_kind Count _ = typed column.UInt64
 call_kind op (typed t) = typed t
 call_kind op _ = unfit
@@ -248,14 +242,14 @@ operand_kind columns (operand.Agg call) = agg_kind columns call.op call.arg
 
 -- texts are compared with texts, and numbers with numbers
 abbrev pub comparable : Kind → Kind → Bool
-comparable (typed s) (typed t) = is_text_type s == is_text_type t
+comparable (typed s) (typed t) = is_text s == is_text t
   where
     infix 5 ◌==◌
     ◌==◌ : Bool → Bool → Bool
     true == b = b
     false == b = not b
-comparable (typed s) (plain z) = not (is_text_type s)
-comparable (plain z) (typed t) = not (is_text_type t)
+comparable (typed s) (plain z) = not (is_text s)
+comparable (plain z) (typed t) = not (is_text t)
 comparable (plain y) (plain z) = true
 comparable _ _ = false
 

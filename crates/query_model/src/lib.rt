@@ -1,6 +1,7 @@
 //! The types of queries and of the specs of processors, and the definitions of a query's plain meaning.
 #![tactic(auto)]
 
+pub mod analysis;
 pub mod arithmetic;
 pub mod checked;
 pub mod numerals;

@@ -1,3 +1,5 @@
-pub mod Places
+pub mod Tables
+pub mod Filtering
+pub mod Lines
 pub mod Composing
 pub mod Completeness

@@ -1,14 +1,28 @@
 -- How a run ends: its status, and the line that tells of it.
 use Rattle.std.specs.Prelude.{◌⊎◌, ℕ, List, [], ◌∷◌, ◌++◌, codes, Option}
 use Rattle.outside_io.specs.Growth.{GrewBy, GrewByPrefix}
+use Rattle.query_model.specs.declared.query.Refusal.{Refusal}
+use Rattle.query_model.specs.declared.query.Refusal.TheVariants as refuse
+use Rattle.sql_text.specs.declared.limits.ParseRefusal.{ParseRefusal}
+use Rattle.sql_text.specs.declared.limits.ParseRefusal.TheVariants as parse
 use Rattle.query_run.specs.declared.ending.Failure.{Failure}
 use Rattle.query_run.specs.declared.ending.Failure.TheVariants as failure
 use Rattle.query_run.specs.declared.ending.Ending.{Ending}
 use Rattle.query_run.specs.declared.ending.Ending.TheVariants.{Answered, Failed, WriteFailed}
 
+-- the status of a refused text, and of one for which memory ran out
+abbrev pub text_status : ParseRefusal → ℕ
+text_status parse.Memory = 7
+text_status _ = 2
+
+abbrev pub query_status : Refusal → ℕ
+query_status refuse.Memory = 7
+query_status _ = 2
+
 abbrev pub failure_status : Failure → ℕ
 failure_status failure.Usage = 1
-failure_status failure.NotBuilt = 2
+failure_status (failure.RefusedText refusal) = text_status refusal
+failure_status (failure.RefusedQuery refusal) = query_status refusal
 failure_status (failure.Bad place) = 3
 failure_status failure.Read = 4
 failure_status failure.Stalled = 4
@@ -20,9 +34,30 @@ status_of Answered = 0
 status_of (Failed f) = failure_status f
 status_of WriteFailed = 5
 
+abbrev pub text_line : ParseRefusal → List ℕ
+text_line parse.TooLong = codes "qrun: refused: TooLong"
+text_line parse.Syntax = codes "qrun: refused: Syntax"
+text_line parse.NumberTooLarge = codes "qrun: refused: NumberTooLarge"
+text_line parse.TooComplex = codes "qrun: refused: TooComplex"
+text_line parse.NotBuilt = codes "qrun: refused: NotBuilt"
+text_line parse.Memory = codes "qrun: out of memory"
+
+-- the refusal's name, and the name that it carries
+abbrev pub query_line : Refusal → List ℕ
+query_line (refuse.UnknownTable name) = codes "qrun: refused: UnknownTable " ++ name
+query_line (refuse.UnknownColumn name) = codes "qrun: refused: UnknownColumn " ++ name
+query_line (refuse.AmbiguousColumn name) = codes "qrun: refused: AmbiguousColumn " ++ name
+query_line refuse.BadJoinKey = codes "qrun: refused: BadJoinKey"
+query_line refuse.TypeMismatch = codes "qrun: refused: TypeMismatch"
+query_line (refuse.NotGrouped name) = codes "qrun: refused: NotGrouped " ++ name
+query_line (refuse.BadOrderKey name) = codes "qrun: refused: BadOrderKey " ++ name
+query_line refuse.TooWide = codes "qrun: refused: TooWide"
+query_line refuse.Memory = codes "qrun: out of memory"
+
 abbrev pub failure_line : Failure → List ℕ
 failure_line failure.Usage = codes "qrun: usage"
-failure_line failure.NotBuilt = codes "qrun: refused: NotBuilt"
+failure_line (failure.RefusedText refusal) = text_line refusal
+failure_line (failure.RefusedQuery refusal) = query_line refusal
 failure_line (failure.Bad place) = codes "qrun: bad data"
 failure_line failure.Read = codes "qrun: read fault"
 failure_line failure.Stalled = codes "qrun: stalled"

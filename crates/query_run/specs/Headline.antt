@@ -1,30 +1,29 @@
 -- What a run means: the text that an answer of its query has over the files' rows, and the causes of every other end.
-use Rattle.std.specs.Prelude.{◌≡◌, ◌⊎◌, ℕ, ◌<◌, ◌≤◌, true, List, [], ◌∷◌, length, map, IfSome, IsSome, Option, Some, None, ⊤}
+use Rattle.std.specs.Prelude.{◌≡◌, ◌⊎◌, ℕ, ◌<◌, ◌≤◌, List, [], ◌∷◌, length, map, IfSome, IsSome, Option, Some, None, ⊤}
 use Rattle.outside_io.specs.declared.entries.FileEntry.{FileEntry}
+use Rattle.outside_io.specs.Told.{files_of}
 use Rattle.outside_io.specs.Growth.{GrewBy, GrewByPrefix, Untouched}
 use Rattle.chunk_data.specs.Values.{Row}
+use Rattle.query_model.specs.Analysis.{IsDue}
 use Rattle.query_model.specs.Answers.{IsAnswer}
 use Rattle.query_model.specs.Checks.{IsChecked}
 use Rattle.query_model.specs.Refusals.{refusal_of}
 use Rattle.query_model.specs.Texts.{answer_text}
 use Rattle.query_model.specs.Database.{database, file_bytes, part_paths, part_bad_place, column_types, AllPartsValid, IsValidPart}
-use Rattle.query_model.specs.Projection.{has_columns}
 use Rattle.query_model.specs.declared.query.Query.{Query}
 use Rattle.query_model.specs.declared.query.Schema.{Schema}
 use Rattle.query_model.specs.declared.query.TableDecl.{TableDecl}
+use Rattle.query_model.specs.declared.query.Refusal.{Refusal}
 use Rattle.query_model.specs.declared.checked.Checked.{Checked}
+use Rattle.sql_grammar.specs.Grammar.{Spells}
+use Rattle.sql_text.specs.Refusals.{IsReadFrom, IsRefused}
 use Rattle.command_line.specs.Words.{command_of}
-use Rattle.command_line.specs.Projections.{IsProjection, Spells}
 use Rattle.command_line.specs.declared.words.Command.{Command}
 use Rattle.query_run.specs.declared.ending.Failure.{Failure}
 use Rattle.query_run.specs.declared.ending.Failure.TheVariants as failure
 use Rattle.query_run.specs.declared.ending.Ending.{Ending}
 use Rattle.query_run.specs.declared.ending.Ending.TheVariants.{Answered, Failed, WriteFailed}
 use Rattle.query_run.specs.Endings.{status_of, line_of, TellsLine}
-
--- told files as pairs of a path and its bytes
-abbrev pub files_of : List FileEntry → List (List ℕ × List ℕ)
-files_of entries = map (λ (e : FileEntry). (e.path, e.bytes)) entries
 
 abbrev pub schemas_of : Command → List Schema
 schemas_of command = map (λ (t : TableDecl). t.schema) command.tables
@@ -51,18 +50,17 @@ pub record OfCommand (words : List (List ℕ)) (P : Command → Type 0) : Type 0
 abbrev pub IsTextOfAnswer : (words : List (List ℕ)) → (files : List FileEntry) → (text : List ℕ) → Type 0
 IsTextOfAnswer words files text = OfCommand words (λ command. IsTextOfCommand command files text)
 
--- the text chooses one to 64 columns of the table by these names
-pub record ChoosesColumns (schema : Schema) (text : List ℕ) (names : List (List ℕ)) : Type 0 where
-  pub is_projection : IsProjection names schema.name text
-  pub known : has_columns schema names ≡ true
-  pub few : length names ≤ 64
+-- the command's text is accepted: a query is read from it, within the limits of a text, and no condition refuses that query
+pub record IsAccepted (command : Command) : Type 0 where
+  pub query : Query
+  pub read : IsReadFrom query command.query
+  pub accepted : refusal_of query (schemas_of command) ≡ None
 
--- The text of the command's query has the form that is built: it chooses one to 64 columns of the one declared table, by name.
-pub record IsBuilt (command : Command) : Type 0 where
-  pub table : TableDecl
-  pub one_table : command.tables ≡ table ∷ []
-  pub names : List (List ℕ)
-  pub chooses : ChoosesColumns table.schema command.query names
+-- a query is read from the command's text, and the refusal is the one that is due of it
+pub record IsRefusedQuery (command : Command) (refusal : Refusal) : Type 0 where
+  pub query : Query
+  pub read : IsReadFrom query command.query
+  pub due : IsDue query (schemas_of command) refusal
 
 -- a part of the one table that a command declares
 pub record IsOnePart (command : Command) (files : List FileEntry) (table : TableDecl) (path : List ℕ) : Type 0 where
@@ -85,29 +83,31 @@ pub record HasLongPart (command : Command) (files : List FileEntry) : Type 0 whe
   pub are : file_bytes (files_of files) path ≡ Some bytes
   pub long : 1073741824 < length bytes
 
--- Why a command was not answered. Want of memory is free; the causes behind NotBuilt come only of a command whose text has the form.
+-- Why a command was not answered. Want of memory is free; the causes behind the refusals come only of a command whose text is accepted.
 abbrev pub CommandFailsFor : Failure → Command → (files : Option (List FileEntry)) → (read stalled : Type 0) → Type 0
 CommandFailsFor failure.Usage command files read stalled = ⊥
-CommandFailsFor failure.NotBuilt command files read stalled = IsBuilt command → ⊥
-CommandFailsFor (failure.Bad place) command files read stalled = IsBuilt command × IfSome files (HasBadPart command)
-CommandFailsFor failure.Read command files read stalled = IsBuilt command × read
-CommandFailsFor failure.Stalled command files read stalled = IsBuilt command × stalled
-CommandFailsFor failure.TooLong command files read stalled = IsBuilt command × IfSome files (HasLongPart command)
+CommandFailsFor (failure.RefusedText refusal) command files read stalled = IsRefused refusal command.query
+CommandFailsFor (failure.RefusedQuery refusal) command files read stalled = IsRefusedQuery command refusal
+CommandFailsFor (failure.Bad place) command files read stalled = IsAccepted command × IfSome files (HasBadPart command)
+CommandFailsFor failure.Read command files read stalled = IsAccepted command × read
+CommandFailsFor failure.Stalled command files read stalled = IsAccepted command × stalled
+CommandFailsFor failure.TooLong command files read stalled = IsAccepted command × IfSome files (HasLongPart command)
 CommandFailsFor failure.Memory command files read stalled = ⊤
 
 -- why a run failed before its first byte was written
 abbrev pub FailsFor : Failure → (words : List (List ℕ)) → (files : Option (List FileEntry)) → (read stalled : Type 0) → Type 0
 FailsFor failure.Usage words files read stalled = command_of words ≡ None
-FailsFor failure.NotBuilt words files read stalled = OfCommand words (λ c. CommandFailsFor failure.NotBuilt c files read stalled)
+FailsFor (failure.RefusedText refusal) words files read stalled = OfCommand words (λ c. CommandFailsFor (failure.RefusedText refusal) c files read stalled)
+FailsFor (failure.RefusedQuery refusal) words files read stalled = OfCommand words (λ c. CommandFailsFor (failure.RefusedQuery refusal) c files read stalled)
 FailsFor (failure.Bad place) words files read stalled = OfCommand words (λ c. CommandFailsFor (failure.Bad place) c files read stalled)
 FailsFor failure.Read words files read stalled = OfCommand words (λ c. CommandFailsFor failure.Read c files read stalled)
 FailsFor failure.Stalled words files read stalled = OfCommand words (λ c. CommandFailsFor failure.Stalled c files read stalled)
 FailsFor failure.TooLong words files read stalled = OfCommand words (λ c. CommandFailsFor failure.TooLong c files read stalled)
 FailsFor failure.Memory words files read stalled = ⊤
 
--- a text was made of a command whose text has the form, and where files are told it is that of one answer
+-- a text was made of a command whose query is accepted, and where files are told it is that of one answer
 abbrev pub MakesText : (words : List (List ℕ)) → (files : Option (List FileEntry)) → (text : List ℕ) → Type 0
-MakesText words files text = OfCommand words (λ c. IsBuilt c × IfSome files (λ told. IsTextOfCommand c told text))
+MakesText words files text = OfCommand words (λ c. IsAccepted c × IfSome files (λ told. IsTextOfCommand c told text))
 
 -- What an end says of the sink, and why it came. What speaks of answers goes by the files that the reader tells.
 abbrev pub EndsFor : Ending → (words : List (List ℕ)) → (files : Option (List FileEntry)) → (before after : Option (List ℕ)) → (read stalled write : Type 0) → Type 0
@@ -126,12 +126,13 @@ pub record Ends (words : List (List ℕ)) (files : Option (List FileEntry)) (sta
 abbrev pub WritesAnswer : (words : List (List ℕ)) → (files : Option (List FileEntry)) → (before after : Option (List ℕ)) → Type 0
 WritesAnswer words files before after = IfSome files (λ told. (text : List ℕ) × IsTextOfAnswer words told text × GrewBy before after text)
 
--- what a command needs to be answered: its text has the form that is built, and its part is there, valid and within the limit
+-- what a command needs to be answered: its text is accepted, and its part is there, valid and within the limit
 pub record IsAnswerable (files : List FileEntry) (command : Command) : Type 0 where
-  pub built : IsBuilt command
+  pub accepted : IsAccepted command
+  pub table : TableDecl
   pub path : List ℕ
-  pub part : IsOnePart command files built.table path
-  pub valid : IsValidPart command.header (column_types built.table.schema) (files_of files) path
+  pub part : IsOnePart command files table path
+  pub valid : IsValidPart command.header (column_types table.schema) (files_of files) path
   pub within : (bytes : List ℕ) → file_bytes (files_of files) path ≡ Some bytes → length bytes ≤ 1073741824
 
 -- such a command is answered, or memory ran out, unless a device failed or the reader stalled

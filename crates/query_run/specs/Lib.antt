@@ -1,3 +1,3 @@
 pub mod Endings
 pub mod Headline
-pub mod Choices
+pub mod Steps

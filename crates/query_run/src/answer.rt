@@ -1,9 +1,9 @@
 ghost use Rattle.std.specs.Prelude.{◌≡◌, ◌≤◌, map, string_bytes, IfOk, IfErr, IfSome, OnOk};
 ghost use Rattle.outside_io.specs.Counts.{Rose};
 ghost use Rattle.command_line.specs.Words.{IsPlainCommand};
-ghost use Rattle.query_run.specs.Headline.{CommandFailsFor, FailsFor, IsBuilt, IsTextOfCommand, MakesText};
+ghost use Rattle.query_run.specs.Headline.{CommandFailsFor, FailsFor, IsAccepted, IsTextOfCommand, MakesText};
 
-use crate::choice::read_choice;
+use crate::checking::checked_query;
 use crate::ending::Failure;
 use crate::part_text::part_text;
 use command_line::{Command, WordsRefusal, read_words};
@@ -36,15 +36,20 @@ fn command_text<F: FileReader>(
 ) -> Result<Vec<u8>, Failure>
     requires { IsPlainCommand command.now }
     ensures told { F.files files.new ≡ F.files files.old }
-    ensures built { OnOk result (IsBuilt command.now) }
+    ensures built { OnOk result (IsAccepted command.now) }
     ensures text { IfOk result (λ text. IfSome (F.files files.old) (λ told. IsTextOfCommand command.now told text.items)) }
     ensures cause { IfErr result (λ f. CommandFailsFor f command.now (F.files files.old) (Rose (F.faults files.old) (F.faults files.new)) (Rose (F.pendings files.old) (F.pendings files.new))) }
     ensures faults_kept { F.faults files.old ≤ F.faults files.new }
     ensures pendings_kept { F.pendings files.old ≤ F.pendings files.new }
 {
-    let table = command.tables.get(0);
-    match read_choice(alloc, &command.query, &table.schema) {
-        Ok(choice) => part_text(alloc, table, &choice, command.header, files),
+    match checked_query(alloc, command) {
+        Ok(checked) => part_text(
+            alloc,
+            command.tables.get(0),
+            &checked,
+            command.header,
+            files,
+        ),
         Err(failure) => Err(failure),
     }
 }

@@ -2,7 +2,7 @@
 #![tactic(auto)]
 
 mod answer;
-mod choice;
+mod checking;
 mod ending;
 mod part_text;
 mod top_call;

@@ -2,7 +2,7 @@ ghost use Rattle.std.specs.Prelude.{◌≡◌, ◌≢◌, ◌⊎◌, map, string
 ghost use Rattle.outside_io.specs.Counts.{Rose};
 ghost use Rattle.outside_io.specs.Growth.{Untouched};
 ghost use Rattle.command_line.specs.Words.{command_of};
-ghost use Rattle.query_run.specs.Headline.{Ends, EndsFor, IsBuilt, OfCommand, SucceedsUnless, WritesAnswer};
+ghost use Rattle.query_run.specs.Headline.{Ends, EndsFor, IsAccepted, OfCommand, SucceedsUnless, WritesAnswer};
 
 use crate::answer::make_text;
 use crate::ending::Ending;
@@ -31,7 +31,7 @@ pub fn run<R: AllocGlobal, F: FileReader, O: Sink, E: Sink>(
     ensures ends { Ends (map string_bytes words.now) (F.files files.old) result (O.written out.old) (O.written out.new) (E.written err.old) (E.written err.new)
         (Rose (F.faults files.old) (F.faults files.new)) (Rose (F.pendings files.old) (F.pendings files.new)) (Rose (O.faults out.old) (O.faults out.new)) (Rose (E.faults err.old) (E.faults err.new)) }
     ensures usage { command_of (map string_bytes words.now) ≡ None → (result ≡ 1) ⊎ (result ≡ 7) }
-    ensures refused { OfCommand (map string_bytes words.now) (λ c. IsBuilt c → ⊥) → (result ≡ 2) ⊎ (result ≡ 7) }
+    ensures refused { OfCommand (map string_bytes words.now) (λ c. IsAccepted c → ⊥) → (result ≡ 2) ⊎ (result ≡ 7) }
 
     // Completeness: a valid command over valid files ends answered or out of memory.
     ensures succeeds { SucceedsUnless (map string_bytes words.now) (F.files files.old)

@@ -1,5 +1,6 @@
 -- The tokens of a text, each as long as it can be.
-use Rattle.std.specs.Prelude.{ℕ, zero, suc, ◌+◌, ◌-◌, ◌*◌, ◌^◌, Bool, false, nat_lt, ◌==◌, ◌||◌, if◌then◌else◌, List, [], ◌∷◌, length, drop, map, find, take_while, fold, codes, Option, Some, None, option_map}
+use Rattle.std.specs.Prelude.{ℕ, zero, suc, ◌+◌, ◌-◌, ◌*◌, ◌^◌, Bool, false, not, nat_lt, ◌==◌, ◌&&◌, ◌||◌, if◌then◌else◌, List, [], ◌∷◌, length, drop, map, find, take_while, fold, codes, Option, Some, None, option_map, is_some}
+use Rattle.std.specs.List.{list_all}
 use Rattle.std.specs.Char.{is_ascii_digit, is_ascii_alphabetic, to_ascii_lowercase}
 use Rattle.std.specs.Str.{bytes_eq}
 use Rattle.sql_grammar.specs.declared.Token.{Token}
@@ -69,6 +70,14 @@ word_token word None = token.Name word
 abbrev pub word_front : List ℕ → Token × ℕ
 word_front bs = let word = take_while is_word_byte bs in (word_token word (keyword_of word), length word)
 
+abbrev pub begins_with_letter : List ℕ → Bool
+begins_with_letter [] = false
+begins_with_letter (b ∷ bs) = is_letter b
+
+-- a letter or an underscore, then letters, digits and underscores, and no keyword
+unfoldable pub is_name : List ℕ → Bool
+is_name word = begins_with_letter word && list_all is_word_byte word && not (is_some (keyword_of word))
+
 -- ---- numbers
 
 abbrev pub number_of : List ℕ → ℕ
@@ -81,10 +90,6 @@ fitting n = if nat_lt n (2 ^ 64) then Some n else None
 abbrev pub number_token : Option ℕ → Token
 number_token (Some n) = token.Number n
 number_token None = token.LargeNumber
-
-abbrev pub begins_with_letter : List ℕ → Bool
-begins_with_letter [] = false
-begins_with_letter (b ∷ bs) = is_letter b
 
 -- the number at the front and how many bytes it takes; no letter follows it
 abbrev pub number_front : List ℕ → Option (Token × ℕ)

@@ -1,10 +1,16 @@
-//! The tokens of a query's text. The definitions beside it say which tokens a text has, and which tokens spell a query.
+//! The tokens of a query's text, keywords and names. The definitions beside it say which tokens a text has, and which tokens
+//! spell a query.
 #![tactic(auto)]
 
 ghost use Rattle.std.specs.Prelude.{◌≡◌, Some};
 ghost use Rattle.sql_grammar.specs.Tokens.{keyword_of, keyword_text};
 
+#[cfg(test)]
+mod tests;
+mod words;
+
 use chunk_data::Bytes;
+pub use words::{begins_with_letter, is_letter, is_name, is_word, is_word_byte, keyword_of};
 
 /// A word that is never a name, in any ASCII case.
 #[derive(Clone, Copy, Debug, PartialEq, Eq)]

@@ -3,9 +3,8 @@ ghost use Rattle.std.specs.Prelude.{◌≡◌, count_by};
 ghost use Rattle.std.specs.List.{list_any};
 ghost use Rattle.sql_text.specs.Refusals.{is_large, is_operator_sign, is_operator_keyword, is_operator, is_unbuilt_keyword, is_aggregate, is_call_word, begins_with_open, is_unbuilt, has_unbuilt, token_refusal};
 
-use crate::scan::is_word;
 use crate::stop::next_token;
-use sql_grammar::{Keyword, Sign, Token};
+use sql_grammar::{Keyword, Sign, Token, is_word};
 
 /// The most bytes of a query's text.
 pub const MAX_TEXT: usize = 65_536;

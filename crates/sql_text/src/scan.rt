@@ -1,77 +1,21 @@
 // The tokens of a text.
 ghost use Rattle.std.specs.Prelude.{◌≡◌, ℕ, suc, ◌+◌, ◌-◌, ◌*◌, ◌<◌, ◌≤◌, ◌∷◌, length, drop, take_while, [], MatchOption, Some, option_map, IfOk, OnOk};
 ghost use Rattle.std.specs.Char.{is_ascii_digit};
-ghost use Rattle.sql_grammar.specs.Tokens.{is_blank, is_letter, is_word_byte, keyword_text, is_word, keyword_of, word_token, word_front, number_of, fitting, number_token, begins_with_letter, number_front, text_byte, text_end, text_at, begins_with, single_sign, less_sign, comparison_sign, text_front, sign_front, token_front, tokens_behind, tokens_of};
+ghost use Rattle.sql_grammar.specs.Tokens.{is_blank, is_word_byte, keyword_of, word_token, word_front, number_of, fitting, number_token, begins_with_letter, number_front, text_byte, text_end, text_at, begins_with, single_sign, less_sign, comparison_sign, text_front, sign_front, token_front, tokens_behind, tokens_of};
 ghost use Rattle.sql_grammar.specs.declared.TextPlace.TheVariants.{Middle};
 ghost use Rattle.sql_text.specs.Answers.{Gives};
 
 use crate::stop::Stop;
 use chunk_data::Bytes;
-use sql_grammar::{KEYWORDS, Keyword, Sign, TextByte, TextPlace, Token};
+use sql_grammar::{
+    Sign, TextByte, TextPlace, Token, begins_with_letter, is_letter, is_word_byte, keyword_of,
+};
 use std::alloc::Global;
 
 fn is_blank(b: u8) -> bool
     ensures { result ≡ is_blank b }
 {
     b == b' ' || b == b'\t' || b == b'\r' || b == b'\n'
-}
-
-fn is_letter(b: u8) -> bool
-    ensures { result ≡ is_letter b }
-{
-    b.is_ascii_alphabetic() || b == b'_'
-}
-
-fn is_word_byte(b: u8) -> bool
-    ensures { result ≡ is_word_byte b }
-{
-    is_letter(b) || b.is_ascii_digit()
-}
-
-fn keyword_text(keyword: Keyword) -> &'static [u8]
-    ensures { result.now ≡ keyword_text keyword }
-{
-    match keyword {
-        Keyword::Select => b"SELECT",
-        Keyword::From => b"FROM",
-        Keyword::Where => b"WHERE",
-        Keyword::Group => b"GROUP",
-        Keyword::By => b"BY",
-        Keyword::Having => b"HAVING",
-        Keyword::Order => b"ORDER",
-        Keyword::Limit => b"LIMIT",
-        Keyword::Offset => b"OFFSET",
-        Keyword::As => b"AS",
-        Keyword::And => b"AND",
-        Keyword::Or => b"OR",
-        Keyword::Not => b"NOT",
-        Keyword::Inner => b"INNER",
-        Keyword::Join => b"JOIN",
-        Keyword::On => b"ON",
-        Keyword::Asc => b"ASC",
-        Keyword::Desc => b"DESC",
-        Keyword::Union => b"UNION",
-        Keyword::All => b"ALL",
-        Keyword::Distinct => b"DISTINCT",
-        Keyword::Left => b"LEFT",
-        Keyword::Is => b"IS",
-        Keyword::Null => b"NULL",
-    }
-}
-
-pub fn is_word(word: &[u8], text: &[u8]) -> bool
-    ensures { result ≡ is_word word.now text.now }
-{
-    word.eq_ignore_ascii_case(text)
-}
-
-fn keyword_of(word: &[u8]) -> Option<Keyword>
-    ensures { result ≡ keyword_of word.now }
-{
-    KEYWORDS
-        .iter()
-        .copied()
-        .find(|k| is_word(word, keyword_text(*k)))
 }
 
 fn word_len(bytes: &[u8]) -> usize
@@ -135,15 +79,6 @@ fn number_token(digits: &[u8]) -> Token
     match number_of(digits) {
         Some(number) => Token::Number(number),
         None => Token::LargeNumber,
-    }
-}
-
-fn begins_with_letter(bytes: &[u8]) -> bool
-    ensures { result ≡ begins_with_letter bytes.now }
-{
-    match bytes.first() {
-        Some(b) => is_letter(*b),
-        None => false,
     }
 }
 

@@ -4,7 +4,7 @@ use Rattle.csv_rows.proofs.rows.push_record.Goals as goal
 
 pub returns-then-len-columns-clause-bad : goal.returns-then-len-columns-clause-bad
 returns-then-len-columns-clause-bad c =
-    rw c.len-then-len-columns.ensures (wrong_length c.args.reader.now.fields c.args.columns.now c.args.rows (λ e. c.if-len-columns.true (c.len.ensures ∙ e)))
+    rw c.len-then-len-columns.ensures (wrong_length c.args.reader.now.fields c.args.columns.now c.args.number (λ e. c.if-len-columns.true (c.len.ensures ∙ e)))
 
 pub returns-in-Err-clause-kinds : goal.returns-in-Err-clause-kinds
 returns-in-Err-clause-kinds c =
@@ -12,7 +12,7 @@ returns-in-Err-clause-kinds c =
 
 pub returns-in-Err-clause-bad : goal.returns-in-Err-clause-bad
 returns-in-Err-clause-bad c =
-    rw c.fault_at.ensures (Pushed-stops c.in-Err.fault c.args.rows c.index-columns-i.result c.loop-i.invariant (omega arith) (omega arith) (rw c.field.ensures at c.in-Err.ensures.unspelled))
+    rw c.fault_at.ensures (Pushed-stops c.in-Err.fault c.args.number c.index-columns-i.result c.loop-i.invariant (omega arith) (omega arith) (rw c.field.ensures at c.in-Err.ensures.unspelled))
 
 pub returns-in-Err-clause-err : goal.returns-in-Err-clause-err
 returns-in-Err-clause-err c =

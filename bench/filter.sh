@@ -1,0 +1,26 @@
+#!/usr/bin/env bash
+# Times `SELECT a * b + 1 FROM t WHERE c > 50 AND d = 'x'` over a file of some 200 MB, of whose rows a quarter pass, beside the
+# projection of the same columns, and beside sqlite3 and mlr where they are installed, and prints a table. It is no test. The
+# data is made once, in bench/data/, which isn't committed.
+set -euo pipefail
+here=$(cd "$(dirname "${BASH_SOURCE[0]}")" && pwd)
+rows=${ROWS:-8000000}
+data=$here/data
+file=$data/numbers_$rows.csv
+mkdir -p "$data"
+. "$here/numbers.sh"
+[ -s "$file" ] || numbers "$rows" >"$file"
+"$here/../qrun" --query "SELECT a FROM t" --tables "t=/dev/null:a Int64" # builds what is missing
+
+. "$here/measure.sh"
+tables="t=$file:a Int64,b Int64,c Int64,d String"
+measure 'qrun' "$here/../qrun" --query "SELECT a * b + 1 FROM t WHERE c > 50 AND d = 'x'" --tables "$tables"
+measure 'qrun (all columns)' "$here/../qrun" --query 'SELECT a, b, c, d FROM t' --tables "$tables"
+if command -v sqlite3 >/dev/null; then
+    measure 'sqlite3 (import, select)' sqlite3 -csv :memory: \
+        'CREATE TABLE t(a INTEGER, b INTEGER, c INTEGER, d TEXT)' ".import $file t" "SELECT a * b + 1 FROM t WHERE c > 50 AND d = 'x'"
+fi
+if command -v mlr >/dev/null; then
+    measure 'mlr filter, put' mlr --csv --implicit-csv-header --headerless-csv-output \
+        filter '$3 > 50 && $4 == "x"' then put '$5 = $1 * $2 + 1' then cut -f 5 "$file"
+fi

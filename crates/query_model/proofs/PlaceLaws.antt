@@ -1,0 +1,51 @@
+-- The place of the first that passes a test.
+use Rattle.std.proofs.Common.{◌≡◌, ℕ, ◌+◌, ◌<◌, ◌≤◌, Bool, true, false, cond, List, [], ◌∷◌, length, get_or, take, refl, ap, ◌∙◌, arith, suc, zero}
+use Rattle.std.specs.Prelude.{◌||◌}
+use Rattle.std.specs.List.{list_any}
+use Rattle.std.proofs.lemmas.List.{take_more}
+use Rattle.std.proofs.lemmas.List.Folds.{list_any-append}
+use Rattle.query_model.specs.Checks.{place_of}
+
+-- the first that passes
+pub place_found : {A : Type 0} (test : A → Bool) (xs : List A) (i : ℕ) (d : A) → list_any test (take i xs) ≡ false → i < length xs → test (get_or xs i d) ≡ true
+    → (list_any test xs ≡ true) × (i ≡ place_of test xs)
+place_found test [] i d none lt t = absurd (omega arith)
+place_found test (x ∷ xs) zero d none lt t = (rw t refl, rw t refl)
+place_found test (x ∷ xs) (suc i) d none lt t = go (test x) none (λ n. place_found test xs i d n (omega arith) t)
+  where
+    go : (b : Bool) → (b || list_any test (take i xs)) ≡ false → (list_any test (take i xs) ≡ false → (list_any test xs ≡ true) × (i ≡ place_of test xs))
+        → ((b || list_any test xs) ≡ true) × (suc i ≡ cond b 0 (place_of test xs + 1))
+    go true n more = absurd cc
+    go false n more = ((more n).0, let e = (more n).1 in omega (arith, e))
+
+-- none so far
+pub none_more : {A : Type 0} (test : A → Bool) (xs : List A) (i : ℕ) (d : A) → list_any test (take i xs) ≡ false → i < length xs → test (get_or xs i d) ≡ false → list_any test (take (i + 1) xs) ≡ false
+none_more test xs i d none lt t =
+    ap (list_any test) (take_more xs i d lt) ∙ list_any-append test (take i xs) (get_or xs i d ∷ []) ∙ rw (none, t) refl
+
+-- a place that was found is one of the places
+pub place_within : {A : Type 0} (test : A → Bool) (xs : List A) → list_any test xs ≡ true → place_of test xs < length xs
+place_within test [] h = absurd cc
+place_within test (x ∷ xs) h = go (test x) h (place_within test xs)
+  where
+    go : (b : Bool) → (b || list_any test xs) ≡ true → (list_any test xs ≡ true → place_of test xs < length xs) → cond b 0 (place_of test xs + 1) < suc (length xs)
+    go true h more = omega arith
+    go false h more = let m = more h in omega (arith, m)
+
+-- none passes
+pub place_at_end : {A : Type 0} (test : A → Bool) (xs : List A) (i : ℕ) → list_any test (take i xs) ≡ false → length xs ≤ i → length xs ≡ place_of test xs
+place_at_end test [] i none le = refl
+place_at_end test (x ∷ xs) zero none le = absurd (omega (arith, le))
+place_at_end test (x ∷ xs) (suc i) none le = go (test x) none (λ n. place_at_end test xs i n (omega (arith, le)))
+  where
+    go : (b : Bool) → (b || list_any test (take i xs)) ≡ false → (list_any test (take i xs) ≡ false → length xs ≡ place_of test xs) → suc (length xs) ≡ cond b 0 (place_of test xs + 1)
+    go true n more = absurd cc
+    go false n more = let m = more n in omega (arith, m)
+
+pub place_of-le : {A : Type 0} (test : A → Bool) (xs : List A) → place_of test xs ≤ length xs
+place_of-le test [] = omega arith
+place_of-le test (x ∷ xs) = go (test x) (place_of-le test xs)
+  where
+    go : (b : Bool) → place_of test xs ≤ length xs → cond b 0 (place_of test xs + 1) ≤ suc (length xs)
+    go true m = omega arith
+    go false m = omega arith

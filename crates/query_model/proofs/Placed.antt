@@ -1,0 +1,54 @@
+-- Lists that are placed one by one.
+use Rattle.std.proofs.Common.{◌≡◌, ℕ, suc, ◌+◌, ◌<◌, List, [], ◌∷◌, ◌++◌, length, get_or, take, length-take, refl, ap, arith, subst, sym}
+use Rattle.std.specs.List.{All}
+use Rattle.std.proofs.lemmas.List.{take_more}
+use Rattle.std.proofs.lemmas.List.Elements.{All-nil, All-cons, All-head, All-tail}
+use Rattle.chunk_data.specs.declared.typed_value.ColumnType.TheVariants as column
+use Rattle.query_model.specs.Expressions.{Expr}
+use Rattle.query_model.specs.Refusals.{FromColumn, name_or, plain_name, item_names}
+use Rattle.query_model.specs.Checks.{EachWith, AreColumnsFrom}
+use Rattle.query_model.specs.declared.query.ExprOf.TheVariants as expr
+use Rattle.query_model.specs.declared.query.Item.{Item}
+
+pub All-front : {A : Type 0} (P : A → Type 0) (xs ys : List A) → All P (xs ++ ys) → All P xs
+All-front P [] ys h = All-nil P
+All-front P (x ∷ xs) ys h = All-cons P x xs (All-head P x (xs ++ ys) h) (All-front P xs ys (All-tail P x (xs ++ ys) h))
+
+pub All-behind : {A : Type 0} (P : A → Type 0) (xs ys : List A) → All P (xs ++ ys) → All P ys
+All-behind P [] ys h = h
+All-behind P (x ∷ xs) ys h = All-behind P xs ys (All-tail P x (xs ++ ys) h)
+
+each_last : {A B : Type 0} (R : A → B → Type 0) (xs : List A) (ys : List B) (x : A) (y : B) → EachWith R xs ys → R x y → EachWith R (xs ++ x ∷ []) (ys ++ y ∷ [])
+each_last R [] [] x y h r = (r, tt)
+each_last R [] (b ∷ ys) x y h r = absurd h
+each_last R (a ∷ xs) [] x y h r = absurd h
+each_last R (a ∷ xs) (b ∷ ys) x y h r = (h.0, each_last R xs ys x y h.1 r)
+
+pub each_more : {A B : Type 0} (R : A → B → Type 0) (xs : List A) (ys : List B) (i : ℕ) (d : A) (y : B) → i < length xs → EachWith R (take i xs) ys → R (get_or xs i d) y
+    → EachWith R (take (i + 1) xs) (ys ++ y ∷ [])
+each_more R xs ys i d y lt h r = subst (λ l. EachWith R l (ys ++ y ∷ [])) (sym (take_more xs i d lt)) (each_last R (take i xs) ys (get_or xs i d) y h r)
+
+columns_last : (k n : ℕ) (cs : List FromColumn) (es : List Expr) (c : FromColumn) → AreColumnsFrom k cs es → n ≡ k + length cs → AreColumnsFrom k (cs ++ c ∷ []) (es ++ expr.Column n ∷ [])
+columns_last k n [] [] c h e = (omega (arith, e), tt)
+columns_last k n [] (x ∷ es) c h e = absurd h
+columns_last k n (x ∷ cs) [] c h e = absurd h
+columns_last k n (x ∷ cs) (expr.Column m ∷ es) c h e = (h.0, columns_last (k + 1) n cs es c h.1 (omega (arith, e)))
+columns_last k n (x ∷ cs) (expr.Number m ∷ es) c h e = absurd h
+columns_last k n (x ∷ cs) (expr.Arith' op p a q b ∷ es) c h e = absurd h
+
+pub columns_more : (cs : List FromColumn) (es : List Expr) (i : ℕ) → i < length cs → AreColumnsFrom 0 (take i cs) es → AreColumnsFrom 0 (take (i + 1) cs) (es ++ expr.Column i ∷ [])
+columns_more cs es i lt h =
+    subst (λ l. AreColumnsFrom 0 l (es ++ expr.Column i ∷ [])) (sym (take_more cs i none lt))
+    (columns_last 0 i (take i cs) es (get_or cs i none) h (let e = length-take i cs in omega (arith, e, lt)))
+  where
+    none : FromColumn
+    none = record { table = []; name = []; type = column.Text }
+
+-- names of items, of which the last has a place behind them
+pub names_last : (k n : ℕ) (items : List Item) (i : Item) → n ≡ k + length items → item_names k (items ++ i ∷ []) ≡ item_names k items ++ name_or i.alias (plain_name i.what n) ∷ []
+names_last k n [] i e = ap (λ m. name_or i.alias (plain_name i.what m) ∷ []) (omega (arith, e))
+names_last k n (x ∷ items) i e = ap (λ l. name_or x.alias (plain_name x.what k) ∷ l) (names_last (k + 1) n items i (omega (arith, e)))
+
+pub length-item_names : (k : ℕ) (items : List Item) → length (item_names k items) ≡ length items
+length-item_names k [] = refl
+length-item_names k (x ∷ items) = ap suc (length-item_names (k + 1) items)

@@ -1,0 +1,8 @@
+use Rattle.std.proofs.Common.{◌≡◌, map, take}
+use Rattle.query_model.specs.Refusals.{item_kind}
+use Rattle.query_model.specs.Checks.{known_type}
+use Rattle.query_model.specs.declared.query.Item.{Item}
+use Rattle.query_model.proofs.analysis.outputs.item_types.Given as goal
+
+abbrev pub invariant-loop-item : goal.invariant-loop-item
+invariant-loop-item l = l.types.items ≡ map (λ (i : Item). known_type (item_kind l.columns i.what)) (take l.item-index l.items)

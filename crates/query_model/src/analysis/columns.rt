@@ -1,0 +1,122 @@
+// The columns of From.
+ghost use Rattle.std.specs.Prelude.{◌≡◌, ◌++◌, [], IfOk, OnOk};
+ghost use Rattle.query_model.specs.Refusals.{FromColumn as Column, declared_column, is_in_table as is_of_table, means, schema_columns, table_columns};
+
+use crate::query::{ColumnDecl, ColumnRef, Schema, TableRef};
+use chunk_data::{Bytes, ColumnType, Memory};
+use std::alloc::Global;
+use std::marker::Model;
+
+/// A column of From: its table's name, its own name and its type.
+#[derive(Debug, Drop)]
+pub(crate) struct FromColumn {
+    table: Bytes,
+    own: Bytes,
+    kind: ColumnType,
+}
+
+impl Model for FromColumn {
+    ghost use Rattle.query_model.specs.Refusals.{FromColumn as Column};
+
+    ghost Value = { Column };
+
+    ghost view = { λ c. record { table = c.table; name = c.own; type = c.kind } };
+}
+
+impl FromColumn {
+    /// A declared column of the table.
+    fn declared(alloc: Global, table: &[u8], column: &ColumnDecl) -> Result<Self, Memory>
+        ensures { IfOk result (λ c. c ≡ declared_column table.now column.now) }
+    {
+        Ok(FromColumn {
+            table: Bytes::from_slice(alloc, table)?,
+            own: column.name.copy()?,
+            kind: column.kind,
+        })
+    }
+
+    /// Whether the name means this column.
+    pub(crate) fn is_meant(&self, c: &ColumnRef) -> bool
+        ensures { result ≡ means c.now self.now }
+    {
+        is_in_table(&c.table, self.table.as_slice()) && c.name.as_slice() == self.own.as_slice()
+    }
+
+    pub(crate) fn kind(&self) -> ColumnType
+        ensures { result ≡ self.now.type }
+    {
+        self.kind
+    }
+
+    pub(crate) fn into_name(self) -> Bytes
+        ensures { result ≡ self.name }
+    {
+        let FromColumn {
+            table: _,
+            own,
+            kind: _,
+        } = self;
+        own
+    }
+}
+
+fn is_in_table(qualifier: &Option<Bytes>, table: &[u8]) -> bool
+    ensures { result ≡ is_of_table qualifier.now table.now }
+{
+    match qualifier {
+        Some(name) => name.as_slice() == table,
+        None => true,
+    }
+}
+
+fn push_columns(alloc: Global, columns: &mut Vec<FromColumn>, schema: &Schema) -> Result<(), Memory>
+    ensures { OnOk result (columns.new.items ≡ columns.old.items ++ schema_columns schema.now) }
+{
+    for column in schema.columns.as_slice() {
+        let declared = FromColumn::declared(alloc, schema.name.as_slice(), column)?;
+        columns.push(declared)?;
+    }
+    Ok(())
+}
+
+fn declared_columns(
+    alloc: Global,
+    table: &[u8],
+    tables: &[Schema],
+) -> Result<Vec<FromColumn>, Memory>
+    ensures { IfOk result (λ columns. columns.items ≡ table_columns tables.now (TableRef.Named table.now)) }
+{
+    let mut columns = Vec::new(alloc);
+    for schema in tables {
+        if schema.name.as_slice() == table {
+            push_columns(alloc, &mut columns, schema)?;
+        }
+    }
+    Ok(columns)
+}
+
+fn numbers_columns(alloc: Global, count: u64) -> Result<Vec<FromColumn>, Memory>
+    ensures { IfOk result (λ columns. columns.items ≡ table_columns [] (TableRef.Numbers count)) }
+{
+    let mut columns = Vec::new(alloc);
+    columns.push(FromColumn {
+        table: Bytes::from_slice(alloc, b"numbers")?,
+        own: Bytes::from_slice(alloc, b"number")?,
+        kind: ColumnType::UInt64,
+    })?;
+    Ok(columns)
+}
+
+/// The columns of a table.
+pub(crate) fn table_columns_of(
+    alloc: Global,
+    table: &TableRef,
+    tables: &[Schema],
+) -> Result<Vec<FromColumn>, Memory>
+    ensures { IfOk result (λ columns. columns.items ≡ table_columns tables.now table.now) }
+{
+    match table {
+        TableRef::Named(name) => declared_columns(alloc, name.as_slice(), tables),
+        TableRef::Numbers(count) => numbers_columns(alloc, *count),
+    }
+}

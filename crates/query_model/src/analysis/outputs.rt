@@ -1,0 +1,197 @@
+// The outputs of a query: items with places, and their names and types.
+ghost use Rattle.std.specs.Prelude.{◌≡◌, ◌++◌, ◌≤◌, codes, decimal, length, map, true, IfOk};
+ghost use Rattle.std.specs.List.{All, list_all};
+ghost use Rattle.query_model.specs.Refusals.{FromColumn as Column, plain_name as name_of_kind, name_or, item_names as names_of_items, output_names, item_kind as kind_of_item, is_typed as has_type, listed};
+ghost use Rattle.query_model.specs.Checks.{AreColumnsFrom, ArePlainItems, output_types, known_type as type_known};
+ghost use Rattle.query_model.specs.Placing.{types_of, place_in, as_kind};
+ghost use Rattle.query_model.specs.Typing.{IsItem};
+ghost use Rattle.query_model.specs.Analysis.{HasNoCall};
+
+use crate::analysis::columns::FromColumn;
+use crate::analysis::kinds::{ExprKind, item_kind};
+use crate::analysis::placing::place_items;
+use crate::checked::Expr;
+use crate::query::{ColumnRef, ExprOf, Item, ItemKind, Items};
+use chunk_data::{Bytes, ColumnType, List, Memory};
+use std::alloc::Global;
+
+/// The outputs of a query.
+#[derive(Debug, Drop)]
+pub(crate) struct Outputs {
+    pub(crate) exprs: List<Expr>,
+    pub(crate) names: List<Bytes>,
+    pub(crate) types: List<ColumnType>,
+}
+
+/// `item_K`.
+fn numbered_name(alloc: Global, k: usize) -> Result<Bytes, Memory>
+    ensures { IfOk result (λ name. name ≡ codes "item_" ++ decimal k) }
+{
+    let name = format!(in alloc; "item_{k}")?;
+    Ok(Bytes::from_vec(name.into_bytes()))
+}
+
+fn expr_name(alloc: Global, e: ExprOf<ColumnRef>, k: usize) -> Result<Bytes, Memory>
+    ensures { IfOk result (λ name. name ≡ name_of_kind (ItemKind.Plain e) k) }
+{
+    match e {
+        ExprOf::Column(c) => {
+            let ColumnRef { table: _, name } = c;
+            Ok(name)
+        }
+        ExprOf::Number(_) => numbered_name(alloc, k),
+        ExprOf::Arith(_, _, _) => numbered_name(alloc, k),
+    }
+}
+
+fn plain_name(alloc: Global, what: ItemKind, k: usize) -> Result<Bytes, Memory>
+    ensures { IfOk result (λ name. name ≡ name_of_kind what k) }
+{
+    match what {
+        ItemKind::Plain(e) => expr_name(alloc, e, k),
+        ItemKind::Agg(_) => numbered_name(alloc, k),
+    }
+}
+
+/// The output name of the item with place `k`, counted from 1.
+fn item_name(alloc: Global, item: Item, k: usize) -> Result<Bytes, Memory>
+    ensures { IfOk result (λ name. name ≡ name_or item.alias (name_of_kind item.what k)) }
+{
+    let Item { what, alias } = item;
+    match alias {
+        Some(name) => Ok(name),
+        None => plain_name(alloc, what, k),
+    }
+}
+
+fn item_names(alloc: Global, items: Vec<Item>) -> Result<List<Bytes>, Memory>
+    requires { length items.items ≤ 64 }
+    ensures { IfOk result (λ names. names ≡ names_of_items 1 items.items) }
+{
+    let mut names = Vec::with_capacity(alloc, items.len())?;
+    for item in items {
+        let name = item_name(alloc, item, names.len() + 1)?;
+        names.push(name)?;
+    }
+    Ok(List::from_vec(names))
+}
+
+/// The type of an item that has one.
+fn known_type(kind: ExprKind) -> ColumnType
+    ensures { result ≡ type_known (as_kind kind) }
+{
+    match kind {
+        ExprKind::Typed(t) => t,
+        ExprKind::Plain(_) => ColumnType::Text,
+        ExprKind::Unfit => ColumnType::Text,
+    }
+}
+
+fn item_type(item: &Item, columns: &[FromColumn]) -> ColumnType
+    ensures { result ≡ type_known (kind_of_item columns.now item.now.what) }
+{
+    known_type(item_kind(item, columns))
+}
+
+fn item_types(
+    alloc: Global,
+    items: &[Item],
+    columns: &[FromColumn],
+) -> Result<List<ColumnType>, Memory>
+    ensures { IfOk result (λ types. types ≡ map (λ (i : Item). type_known (kind_of_item columns.now i.what)) items.now) }
+{
+    let mut types = Vec::with_capacity(alloc, items.len())?;
+    for item in items {
+        types.push(item_type(item, columns))?;
+    }
+    Ok(List::from_vec(types))
+}
+
+fn listed_outputs(
+    alloc: Global,
+    items: List<Item>,
+    columns: &[FromColumn],
+) -> Result<Outputs, Memory>
+    requires no_calls { All (λ (i : Item). HasNoCall i.what) items }
+    requires few { length items ≤ 64 }
+    requires few_columns { length columns.now ≤ 64 }
+    requires typed { list_all (λ (i : Item). has_type (kind_of_item columns.now i.what)) items ≡ true }
+    ensures items { IfOk result (λ o. ArePlainItems (place_in columns.now) columns.now (Items.Listed items) o.exprs) }
+    ensures names { IfOk result (λ o. o.names ≡ output_names (Items.Listed items) columns.now) }
+    ensures types { IfOk result (λ o. o.types ≡ output_types (Items.Listed items) columns.now) }
+    ensures typed { IfOk result (λ o. All (IsItem (types_of columns.now)) o.exprs) }
+{
+    let exprs = place_items(alloc, items.as_slice(), columns)?;
+    let types = item_types(alloc, items.as_slice(), columns)?;
+    let names = item_names(alloc, items.into_vec())?;
+    Ok(Outputs {
+        exprs,
+        names,
+        types,
+    })
+}
+
+fn all_columns(alloc: Global, columns: &[FromColumn]) -> Result<List<Expr>, Memory>
+    requires { length columns.now ≤ 64 }
+    ensures { IfOk result (AreColumnsFrom 0 columns.now) }
+{
+    let mut exprs = Vec::with_capacity(alloc, columns.len())?;
+    for i in 0..columns.len() {
+        exprs.push(ExprOf::Column(i as u32))?;
+    }
+    Ok(List::from_vec(exprs))
+}
+
+fn column_types(alloc: Global, columns: &[FromColumn]) -> Result<List<ColumnType>, Memory>
+    ensures { IfOk result (λ types. types ≡ types_of columns.now) }
+{
+    let mut types = Vec::with_capacity(alloc, columns.len())?;
+    for column in columns {
+        types.push(column.kind())?;
+    }
+    Ok(List::from_vec(types))
+}
+
+fn column_names(alloc: Global, columns: Vec<FromColumn>) -> Result<List<Bytes>, Memory>
+    ensures { IfOk result (λ names. names ≡ map (λ (c : Column). c.name) columns.items) }
+{
+    Ok(List::from_vec(columns.into_iter().map(|c| c.into_name()).collect(alloc)?))
+}
+
+fn star_outputs(alloc: Global, columns: Vec<FromColumn>) -> Result<Outputs, Memory>
+    requires { length columns.items ≤ 64 }
+    ensures items { IfOk result (λ o. ArePlainItems (place_in columns.items) columns.items Items.Star o.exprs) }
+    ensures names { IfOk result (λ o. o.names ≡ output_names Items.Star columns.items) }
+    ensures types { IfOk result (λ o. o.types ≡ output_types Items.Star columns.items) }
+    ensures typed { IfOk result (λ o. All (IsItem (types_of columns.items)) o.exprs) }
+{
+    let exprs = all_columns(alloc, &columns)?;
+    let types = column_types(alloc, &columns)?;
+    let names = column_names(alloc, columns)?;
+    Ok(Outputs {
+        exprs,
+        names,
+        types,
+    })
+}
+
+/// The outputs of typed items over From.
+pub(crate) fn made_outputs(
+    alloc: Global,
+    items: Items,
+    columns: Vec<FromColumn>,
+) -> Result<Outputs, Memory>
+    requires no_calls { All (λ (i : Item). HasNoCall i.what) (listed items) }
+    requires few { length (listed items) ≤ 64 }
+    requires few_columns { length columns.items ≤ 64 }
+    requires typed { list_all (λ (i : Item). has_type (kind_of_item columns.items i.what)) (listed items) ≡ true }
+    ensures items { IfOk result (λ o. ArePlainItems (place_in columns.items) columns.items items o.exprs) }
+    ensures names { IfOk result (λ o. o.names ≡ output_names items columns.items) }
+    ensures types { IfOk result (λ o. o.types ≡ output_types items columns.items) }
+    ensures typed { IfOk result (λ o. All (IsItem (types_of columns.items)) o.exprs) }
+{
+    match items {
+        Items::Star => star_outputs(alloc, columns),
+        Items::Listed(items) => listed_outputs(alloc, items, &columns),
+    }
+}

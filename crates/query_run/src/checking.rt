@@ -1,0 +1,80 @@
+ghost use Rattle.std.specs.Prelude.{◌≡◌, map, IfOk, IfErr};
+ghost use Rattle.query_model.specs.declared.query.Query.{Query};
+ghost use Rattle.sql_text.specs.Refusals.{IsReadFrom};
+ghost use Rattle.command_line.specs.Words.{IsPlainCommand};
+ghost use Rattle.query_run.specs.Steps.{CheckFailsFor, IsCheckedCommand};
+
+use crate::ending::Failure;
+use chunk_data::{List, Memory};
+use command_line::Command;
+use query_model::analysis::analyse;
+use query_model::checked::Checked;
+use query_model::query::{ColumnDecl, Query, Schema, TableDecl};
+use sql_text::parse;
+use std::alloc::Global;
+
+/// The checked query of the command's text.
+pub(crate) fn checked_query(alloc: Global, command: &Command) -> Result<Checked, Failure>
+    ensures checked { IfOk result (IsCheckedCommand command.now) }
+    ensures cause { IfErr result (λ f. CheckFailsFor f command.now) }
+{
+    match parse(alloc, command.query.as_slice()) {
+        Ok(query) => analysed(alloc, query, command),
+        Err(refusal) => Err(Failure::RefusedText(refusal)),
+    }
+}
+
+// The query, which was read from the command's text, checked against its tables.
+fn analysed(alloc: Global, query: Query, command: &Command) -> Result<Checked, Failure>
+    requires { IsReadFrom query command.now.query }
+    ensures checked { IfOk result (IsCheckedCommand command.now) }
+    ensures cause { IfErr result (λ f. CheckFailsFor f command.now) }
+{
+    let Ok(schemas) = schemas_of(alloc, command.tables.as_slice()) else {
+        return Err(Failure::Memory);
+    };
+    match analyse(alloc, query, &schemas) {
+        Ok(checked) => Ok(checked),
+        Err(refusal) => Err(Failure::RefusedQuery(refusal)),
+    }
+}
+
+// Copies of the tables' names and columns.
+fn schemas_of(alloc: Global, tables: &[TableDecl]) -> Result<List<Schema>, Memory>
+    ensures { IfOk result (λ schemas. schemas ≡ map (λ (t : TableDecl). t.schema) tables.now) }
+{
+    let mut schemas = Vec::new(alloc);
+    for table in tables {
+        schemas.push(schema_copy(alloc, &table.schema)?)?;
+    }
+    Ok(List::from_vec(schemas))
+}
+
+fn schema_copy(alloc: Global, schema: &Schema) -> Result<Schema, Memory>
+    ensures { IfOk result (λ copy. copy ≡ schema.now) }
+{
+    let columns = columns_copy(alloc, schema.columns.as_slice())?;
+    Ok(Schema {
+        name: schema.name.copy()?,
+        columns,
+    })
+}
+
+fn columns_copy(alloc: Global, columns: &[ColumnDecl]) -> Result<List<ColumnDecl>, Memory>
+    ensures { IfOk result (λ copy. copy ≡ columns.now) }
+{
+    let mut copies = Vec::new(alloc);
+    for column in columns {
+        copies.push(column_copy(column)?)?;
+    }
+    Ok(List::from_vec(copies))
+}
+
+fn column_copy(column: &ColumnDecl) -> Result<ColumnDecl, Memory>
+    ensures { IfOk result (λ copy. copy ≡ column.now) }
+{
+    Ok(ColumnDecl {
+        name: column.name.copy()?,
+        kind: column.kind,
+    })
+}
