@@ -1,0 +1,85 @@
+-- What the actions of a view push.
+use Rattle.std.proofs.Common.{◌≡◌, ℕ, ◌==◌, Bool, true, false, cond, Option, Some, None, List, [], ◌∷◌, ◌++◌, refl, sym, ap, ◌∙◌}
+use Rattle.std.proofs.lemmas.Bool.{eqb-true}
+use Rattle.chunk_data.specs.Values.{Table}
+use Rattle.port_word.specs.declared.flags.Action.{Action}
+use Rattle.port_word.specs.declared.flags.Action.TheVariants.{Want, Unwant, Pull, Close, Push, Finish}
+use Rattle.port_word.specs.Pictures.{Picture, input_at, output_at}
+use Rattle.port_word.specs.Actions.{noted_want, want_of, EachAction}
+use Rattle.port_word.specs.Sound.{IsSound, IsDone}
+use Rattle.proc_api.specs.Histories.{pushes_to, pushed_at, pulled_at, taken_out}
+
+more-or-same : (b : Bool) (chunk : Table) (xs ys zs : List Table) → xs ≡ ys ++ zs → cond b (chunk ∷ xs) xs ≡ cond b (chunk ∷ ys) ys ++ zs
+more-or-same true chunk xs ys zs e = ap (λ l. chunk ∷ l) e
+more-or-same false chunk xs ys zs e = e
+
+pub pushes_to-append : (o : ℕ) (xs ys : List Action) → pushes_to o (xs ++ ys) ≡ pushes_to o xs ++ pushes_to o ys
+unfolding pushes_to
+pushes_to-append o [] ys = refl
+pushes_to-append o (Push j chunk ∷ xs) ys = more-or-same (o == j) chunk (pushes_to o (xs ++ ys)) (pushes_to o xs) (pushes_to o ys) (pushes_to-append o xs ys)
+pushes_to-append o (Want j ∷ xs) ys = pushes_to-append o xs ys
+pushes_to-append o (Unwant j ∷ xs) ys = pushes_to-append o xs ys
+pushes_to-append o (Pull j ∷ xs) ys = pushes_to-append o xs ys
+pushes_to-append o (Close j ∷ xs) ys = pushes_to-append o xs ys
+pushes_to-append o (Finish j ∷ xs) ys = pushes_to-append o xs ys
+
+pushes_to-want_of : (o i : ℕ) (b : Bool) (xs : List Action) → pushes_to o (want_of b i ∷ xs) ≡ pushes_to o xs
+unfolding pushes_to
+pushes_to-want_of o i true xs = refl
+pushes_to-want_of o i false xs = refl
+
+either-pushes : (o : ℕ) (b : Bool) (xs ys : List Action) (chunks : List Table) → pushes_to o xs ≡ chunks → pushes_to o ys ≡ chunks → pushes_to o (cond b xs ys) ≡ chunks
+either-pushes o true xs ys chunks e f = e
+either-pushes o false xs ys chunks e f = f
+
+pub pushes_to-noted_want : (o i : ℕ) (b : Bool) (xs : List Action) → pushes_to o (noted_want i b xs) ≡ pushes_to o xs
+unfolding pushes_to
+pushes_to-noted_want o i b [] = pushes_to-want_of o i b []
+pushes_to-noted_want o i b (Push j chunk ∷ xs) = ap (λ l. cond (o == j) (chunk ∷ l) l) (pushes_to-noted_want o i b xs)
+pushes_to-noted_want o i b (Want j ∷ xs) = either-pushes o (j == i) (want_of b i ∷ xs) (Want j ∷ noted_want i b xs) (pushes_to o xs) (pushes_to-want_of o i b xs) (pushes_to-noted_want o i b xs)
+pushes_to-noted_want o i b (Unwant j ∷ xs) = either-pushes o (j == i) (want_of b i ∷ xs) (Unwant j ∷ noted_want i b xs) (pushes_to o xs) (pushes_to-want_of o i b xs) (pushes_to-noted_want o i b xs)
+pushes_to-noted_want o i b (Pull j ∷ xs) = pushes_to-noted_want o i b xs
+pushes_to-noted_want o i b (Close j ∷ xs) = pushes_to-noted_want o i b xs
+pushes_to-noted_want o i b (Finish j ∷ xs) = pushes_to-noted_want o i b xs
+
+unless-pushed : (b : Bool) (chunk : Table) (xs : List Table) → (b ≡ true → ⊥) → xs ≡ [] → cond b (chunk ∷ xs) xs ≡ []
+unless-pushed true chunk xs never e = absurd (never refl)
+unless-pushed false chunk xs never e = e
+
+true-and-false : (b : Bool) → b ≡ true → b ≡ false → ⊥
+true-and-false b t f = let e : true ≡ false = sym t ∙ f in absurd (cc)
+
+-- a port without data has no push among actions that show
+pushes-shown : (p : Picture) (o : ℕ) (xs : List Action) → (output_at p o).has_data ≡ false → EachAction (IsDone p) xs → pushes_to o xs ≡ []
+unfolding pushes_to
+pushes-shown p o [] e h = refl
+pushes-shown p o (Push j chunk ∷ xs) e h =
+    unless-pushed (o == j) chunk (pushes_to o xs) (λ k. true-and-false (output_at p o).has_data (ap (λ n. (output_at p n).has_data) (eqb-true o j k) ∙ h.0.1) e) (pushes-shown p o xs e h.1)
+pushes-shown p o (Want j ∷ xs) e h = pushes-shown p o xs e h.1
+pushes-shown p o (Unwant j ∷ xs) e h = pushes-shown p o xs e h.1
+pushes-shown p o (Pull j ∷ xs) e h = pushes-shown p o xs e h.1
+pushes-shown p o (Close j ∷ xs) e h = pushes-shown p o xs e h.1
+pushes-shown p o (Finish j ∷ xs) e h = pushes-shown p o xs e h.1
+
+pub no-pushes : (p : Picture) (o : ℕ) → IsSound p → (output_at p o).has_data ≡ false → pushes_to o p.actions ≡ []
+no-pushes p o s e = pushes-shown p o p.actions e s.done
+
+pub taken_out-same : (c : Option Table) → taken_out c c ≡ []
+taken_out-same None = refl
+taken_out-same (Some c) = refl
+
+-- nothing was pushed where the actions push the same as before
+pub none-pushed : (v w : Picture) (o : ℕ) → IsSound v → pushes_to o w.actions ≡ pushes_to o v.actions → pushed_at v w o ≡ []
+none-pushed v w o s e = go (output_at v o).has_data refl
+  where
+    go : (b : Bool) → (output_at v o).has_data ≡ b → cond b [] (pushes_to o w.actions) ≡ []
+    go true d = refl
+    go false d = e ∙ no-pushes v o s d
+
+-- the chunks that were added to the pushes of an empty port were pushed
+pub just-pushed : (v w : Picture) (o : ℕ) (chunks : List Table) → IsSound v → (output_at v o).has_data ≡ false → pushes_to o w.actions ≡ pushes_to o v.actions ++ chunks → pushed_at v w o ≡ chunks
+just-pushed v w o chunks s d e = ap (λ b. cond b [] (pushes_to o w.actions)) d ∙ e ∙ ap (λ l. l ++ chunks) (no-pushes v o s d)
+
+-- nothing was pulled where the chunk is the same
+pub none-pulled : (v w : Picture) (i : ℕ) → (input_at w i).chunk ≡ (input_at v i).chunk → pulled_at v w i ≡ []
+none-pulled v w i e = ap (λ c. taken_out (input_at v i).chunk c) e ∙ taken_out-same (input_at v i).chunk

@@ -1,0 +1,161 @@
+-- The view of a node is one that its box may be prepared against.
+use Rattle.std.proofs.Common.{◌≡◌, ◌≢◌, ℕ, ◌<◌, ◌≤◌, not, ◌&&◌, ◌||◌, Bool, true, false, cond, Option, Some, None, List, [], ◌∷◌, length, get_or, is_some, refl, sym, ap, subst, ◌∙◌, arith, inl, inr, ◌⊎◌}
+use Rattle.std.proofs.lemmas.Bool.{both_ways, cases_eq}
+use Rattle.chunk_data.specs.Values.{Table}
+use Rattle.query_model.specs.declared.processor_spec.Spec.{Spec}
+use Rattle.query_model.specs.declared.processor_spec.Spec.TheVariants as spec
+use Rattle.port_word.specs.declared.flags.Flags.{Flags}
+use Rattle.port_word.specs.declared.flags.Port.TheVariants.{Input, Output}
+use Rattle.port_word.specs.declared.port_view.InputPort.{InputPort}
+use Rattle.port_word.specs.Pictures.{Picture, input_at, output_at, in_count, out_count, with_input, with_output, with_actions, new_input, no_input, no_flags, over_flags, holds_data}
+use Rattle.port_word.specs.Calls.{new_picture, TakesFirst}
+use Rattle.port_word.specs.declared.flags.Action.{Action}
+use Rattle.std.proofs.lemmas.List.{get_or-replicate, length-replicate}
+use Rattle.port_word.specs.Sights.{MaySee, after_see, seen_chunk}
+use Rattle.port_word.specs.Sound.{IsSound}
+use Rattle.port_word.proofs.Laws.{input_at-with_input, input_at-with_input-other, output_at-with_output, output_at-with_output-other, output_at-with_input, input_at-with_output, in_count-with_input, out_count-with_input, in_count-with_output, out_count-with_output}
+use Rattle.proc_api.specs.Boxes.{BoxPicture, PortFlags, no_notes, kept_input, kept_output, kept_inputs, kept_outputs, kept_ports}
+use Rattle.proc_api.specs.Clauses.{port_flags}
+use Rattle.proc_api.specs.Ports.{FollowsKept, InputFollows, OutputFollows, AreAsKept, StandStill, AreCounts}
+use Rattle.proc_api.proofs.KeptFlags.{kept_input-of, kept_output-of, kept_inputs-of, kept_outputs-of}
+use Rattle.proc_api.proofs.ShutPorts.{by-place}
+
+held-data : (f : Flags) → holds_data f ≡ true → f.has_data ≡ true
+held-data f e = bits f.has_data f.fin_in e
+  where
+    bits : (d i : Bool) → (d && not i) ≡ true → d ≡ true
+    bits true i e = refl
+    bits false i e = absurd (cc)
+
+input-itself : (f : Flags) → InputFollows f f
+input-itself f = record { needed = refl; fin_in = refl; fin_out = λ e. e; stays_empty = λ a b. b; stays_full = held-data f }
+
+output-itself : (f : Flags) → OutputFollows f f
+output-itself f = record { fin_out = refl; fin_in = λ e. e }
+
+-- the view that a `prepare` leaves
+pub follows-noted : (q : BoxPicture) (w : Picture) → q.notes.view ≡ Some (port_flags w) → FollowsKept q w
+follows-noted q w e =
+    let ins = kept_inputs-of q w e in
+    let outs = kept_outputs-of q w e in
+    record {
+      inputs_stay = omega (arith, ins);
+      outputs_stay = omega (arith, outs);
+      inputs = λ i lt. subst (λ f. InputFollows f (input_at w i).flags) (sym (kept_input-of q w e i lt)) (input-itself (input_at w i).flags);
+      outputs = λ o lt. subst (λ f. OutputFollows f (output_at w o)) (sym (kept_output-of q w e o lt)) (output-itself (output_at w o));
+    }
+
+-- a box that keeps the same view
+pub follows-same : (p q : BoxPicture) (v : Picture) → q.notes.view ≡ p.notes.view → FollowsKept p v → FollowsKept q v
+unfolding kept_input kept_output kept_inputs kept_outputs
+follows-same p q v e f =
+    let ins : kept_inputs q ≡ kept_inputs p = ap (λ k. length (kept_ports k).inputs) e in
+    let outs : kept_outputs q ≡ kept_outputs p = ap (λ k. length (kept_ports k).outputs) e in
+    record {
+      inputs_stay = subst (λ n. n ≤ in_count v) (sym ins) f.inputs_stay;
+      outputs_stay = subst (λ n. n ≤ out_count v) (sym outs) f.outputs_stay;
+      inputs = λ i lt. subst (λ g. InputFollows g (input_at v i).flags) (sym (ap (λ k. get_or (kept_ports k).inputs i no_flags) e)) (f.inputs i lt);
+      outputs = λ o lt. subst (λ g. OutputFollows g (output_at v o)) (sym (ap (λ k. get_or (kept_ports k).outputs o no_flags) e)) (f.outputs o lt);
+    }
+
+-- as many ports as the last view had are those that the spec's ports stand still at
+pub stands-still : (s : Option Spec) (kept : Option PortFlags) (m n : ℕ) → AreAsKept kept m n → StandStill s kept m n
+stands-still None kept m n h = tt
+stands-still (Some (spec.Csv part)) kept m n h = tt
+stands-still (Some (spec.List list)) kept m n h = tt
+stands-still (Some (spec.Numbers k rows)) kept m n h = tt
+stands-still (Some (spec.Filter c)) kept m n h = tt
+stands-still (Some (spec.Expression items)) kept m n h = tt
+stands-still (Some spec.Resize) kept m n h = h
+stands-still (Some (spec.PartialAggregate groups)) kept m n h = tt
+stands-still (Some (spec.MergeAggregate groups)) kept m n h = h
+stands-still (Some (spec.HashJoin join)) kept m n h = tt
+stands-still (Some (spec.Sort order)) kept m n h = tt
+stands-still (Some (spec.MergeSorted order)) kept m n h = h
+stands-still (Some (spec.Limit span)) kept m n h = tt
+stands-still (Some spec.Collect) kept m n h = tt
+
+kept-at : (k : Option PortFlags) (ports : PortFlags) (m n : ℕ) → k ≡ Some ports → length ports.inputs ≡ m → length ports.outputs ≡ n → AreAsKept k m n
+kept-at k ports m n e ins outs = subst (λ x. AreAsKept x m n) (sym e) (sym ins, sym outs)
+
+pub as-kept-noted : (q : BoxPicture) (w : Picture) (m n : ℕ) → q.notes.view ≡ Some (port_flags w) → in_count w ≡ m → out_count w ≡ n → AreAsKept q.notes.view m n
+unfolding kept_inputs kept_outputs
+as-kept-noted q w m n e ins outs =
+    let i : length (port_flags w).inputs ≡ m = sym (ap (λ k. length (kept_ports k).inputs) e) ∙ kept_inputs-of q w e ∙ ins in
+    let o : length (port_flags w).outputs ≡ n = sym (ap (λ k. length (kept_ports k).outputs) e) ∙ kept_outputs-of q w e ∙ outs in
+    kept-at q.notes.view (port_flags w) m n e i o
+
+-- ---- a port that was brought up to date
+
+holds-when : (f g : Flags) → g.fin_in ≡ f.fin_in → g.has_data ≡ true → holds_data f ≡ true → holds_data g ≡ true
+holds-when f g same there e = bits f.has_data f.fin_in g.has_data g.fin_in same there e
+  where
+    bits : (d i d' i' : Bool) → i' ≡ i → d' ≡ true → (d && not i) ≡ true → (d' && not i') ≡ true
+    bits true true d' i' s t e = absurd (cc)
+    bits true false true true s t e = absurd (cc)
+    bits true false true false s t e = refl
+    bits true false false i' s t e = absurd (cc)
+    bits false i d' i' s t e = absurd (cc)
+
+follows-input : (p : BoxPicture) (v : Picture) (i : ℕ) (g : Flags) (c : Option Table) → IsSound v → MaySee v (Input i) g c → InputFollows (kept_input p i) (input_at v i).flags → InputFollows (kept_input p i) g
+follows-input p v i g c sound may f = record {
+  needed = may.own_bits.0 ∙ f.needed;
+  fin_in = may.own_bits.1 ∙ f.fin_in;
+  fin_out = λ e. may.fin_out (f.fin_out e);
+  stays_empty = λ e d. may.stays_empty (f.fin_out e) (f.stays_empty e d);
+  stays_full = λ e. may.keeps_chunk (sound.held i (holds-when (kept_input p i) (input_at v i).flags f.fin_in (f.stays_full e) e));
+}
+
+pub follows-seen-input : (p : BoxPicture) (v : Picture) (i : ℕ) (g : Flags) (c : Option Table) → IsSound v → MaySee v (Input i) g c → FollowsKept p v → FollowsKept p (after_see v (Input i) g c)
+follows-seen-input p v i g c sound may f =
+    let x : InputPort = record { flags = g; chunk = seen_chunk c (input_at v i).chunk } in
+    let ins : in_count (with_input v i x) ≡ in_count v = in_count-with_input v i x in
+    let outs : out_count (with_input v i x) ≡ out_count v = out_count-with_input v i x in
+    record {
+      inputs_stay = subst (λ n. kept_inputs p ≤ n) (sym ins) f.inputs_stay;
+      outputs_stay = subst (λ n. kept_outputs p ≤ n) (sym outs) f.outputs_stay;
+      inputs = λ j lt.
+          let before : j < in_count v = subst (λ n. j < n) ins lt in
+          by-place (λ k. InputFollows (kept_input p k) (input_at v k).flags → InputFollows (kept_input p k) (input_at (with_input v i x) k).flags) i j
+          (λ h. subst (λ y. InputFollows (kept_input p i) y.flags) (sym (input_at-with_input v i x may.ours)) (follows-input p v i g c sound may h))
+          (λ ne h. subst (λ y. InputFollows (kept_input p j) y.flags) (sym (input_at-with_input-other v i j x ne)) h) (f.inputs j before);
+      outputs = λ o lt. subst (λ y. OutputFollows (kept_output p o) y) (sym (output_at-with_input v i o x)) (f.outputs o (subst (λ n. o < n) outs lt));
+    }
+
+follows-output : (p : BoxPicture) (v : Picture) (o : ℕ) (g : Flags) → MaySee v (Output o) g None → OutputFollows (kept_output p o) (output_at v o) → OutputFollows (kept_output p o) g
+follows-output p v o g may f = record { fin_out = may.own_bits ∙ f.fin_out; fin_in = λ e. may.fin_in (f.fin_in e) }
+
+pub follows-seen-output : (p : BoxPicture) (v : Picture) (o : ℕ) (g : Flags) → MaySee v (Output o) g None → FollowsKept p v → FollowsKept p (after_see v (Output o) g None)
+follows-seen-output p v o g may f =
+    let ins : in_count (with_output v o g) ≡ in_count v = in_count-with_output v o g in
+    let outs : out_count (with_output v o g) ≡ out_count v = out_count-with_output v o g in
+    record {
+      inputs_stay = subst (λ n. kept_inputs p ≤ n) (sym ins) f.inputs_stay;
+      outputs_stay = subst (λ n. kept_outputs p ≤ n) (sym outs) f.outputs_stay;
+      inputs = λ i lt. subst (λ y. InputFollows (kept_input p i) y.flags) (sym (input_at-with_output v o i g)) (f.inputs i (subst (λ n. i < n) ins lt));
+      outputs = λ j lt.
+          let before : j < out_count v = subst (λ n. j < n) outs lt in
+          by-place (λ k. OutputFollows (kept_output p k) (output_at v k) → OutputFollows (kept_output p k) (output_at (with_output v o g) k)) o j
+          (λ h. subst (λ y. OutputFollows (kept_output p o) y) (sym (output_at-with_output v o g may.ours)) (follows-output p v o g may h))
+          (λ ne h. subst (λ y. OutputFollows (kept_output p j) y) (sym (output_at-with_output-other v o j g ne)) h) (f.outputs j before);
+    }
+
+-- a new view before the first prepare
+pub follows-new : (p : BoxPicture) (inputs outputs : ℕ) → p.notes ≡ no_notes → FollowsKept p (new_picture inputs outputs)
+unfolding kept_input kept_output kept_inputs kept_outputs input_at output_at in_count out_count
+follows-new p inputs outputs e = rw e record {
+  inputs_stay = omega arith;
+  outputs_stay = omega arith;
+  inputs = λ i lt. rw (get_or-replicate inputs i new_input no_input (rw length-replicate at lt)) record { needed = refl; fin_in = refl; fin_out = λ f. f; stays_empty = λ f d. d; stays_full = λ h. h };
+  outputs = λ o lt. rw (get_or-replicate outputs o no_flags over_flags (rw length-replicate at lt)) record { fin_out = refl; fin_in = λ f. f };
+}
+
+-- the view once actions were taken
+pub follows-taken : (p : BoxPicture) (v : Picture) (actions : List Action) → FollowsKept p v → FollowsKept p (with_actions v actions)
+unfolding with_actions input_at output_at in_count out_count
+follows-taken p v actions f = record { inputs_stay = f.inputs_stay; outputs_stay = f.outputs_stay; inputs = f.inputs; outputs = f.outputs }
+
+-- the view once its first action was taken, if there was one
+pub follows-first : (p : BoxPicture) (v w : Picture) (a : Option Action) → TakesFirst v a w → FollowsKept p v → FollowsKept p w
+follows-first p v w None t f = subst (λ x. FollowsKept p x) (sym t.1) f
+follows-first p v w (Some a) t f = subst (λ x. FollowsKept p x) (sym t.1) (follows-taken p v w.actions f)

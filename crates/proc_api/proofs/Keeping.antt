@@ -1,0 +1,98 @@
+-- How what a box keeps goes on with what a `prepare` pulls and pushes.
+use Rattle.std.proofs.Common.{◌≡◌, ◌⊎◌, ℕ, zero, suc, ◌+◌, ◌<◌, ◌≤◌, List, [], ◌∷◌, ◌++◌, length, get_or, Option, Some, None, refl, sym, ap, subst, ◌∙◌, arith, inl, inr}
+use Rattle.std.specs.List.{All}
+use Rattle.std.proofs.lemmas.List.{length-append, get_or_append_left, get_or-append-add, get_or_default}
+use Rattle.std.proofs.lemmas.Grind.{flat_map-append}
+use Rattle.std.proofs.lemmas.Bool.{cases_lt}
+use Rattle.chunk_data.specs.Values.{Table}
+use Rattle.chunk_data.specs.declared.typed_value.ColumnType.{ColumnType}
+use Rattle.query_model.specs.declared.processor_spec.Spec.{Spec}
+use Rattle.query_model.specs.declared.processor_spec.Spec.TheVariants as spec
+use Rattle.port_word.specs.Pictures.{Picture, input_at, in_count, no_input}
+use Rattle.proc_api.specs.Boxes.{BoxPicture}
+use Rattle.proc_api.specs.Histories.{Lists, chunk_rows, pulled_at, with_pulled, total_rows, rows_pulled, raised, last_count}
+use Rattle.proc_api.specs.Keeping.{IsPulled, IsMadeOfPulled, MakesTypes, AllFit, FitsInput, no_table}
+use Rattle.proc_api.specs.Clauses.{PulledOn}
+
+-- ---- chunks that were pulled
+
+pub pulled-more : (v w : Picture) (ins : Lists) (types : List ColumnType) → IsPulled ins types → IsPulled (with_pulled v w ins) types
+pulled-more v w ins types h = record {
+  input = h.input;
+  place = h.place;
+  in_range = let l = length-append (ins h.input) (pulled_at v w h.input) in omega (arith, l, h.in_range);
+  is = ap (λ (t : Table). t.types) (get_or_append_left (ins h.input) (pulled_at v w h.input) no_table h.place h.in_range) ∙ h.is;
+}
+
+pub makes-more : (s : Option Spec) (v w : Picture) (ins : Lists) (types : List ColumnType) → MakesTypes s ins types → MakesTypes s (with_pulled v w ins) types
+makes-more None v w ins types h = tt
+makes-more (Some (spec.Csv part)) v w ins types h = h
+makes-more (Some (spec.List list)) v w ins types h = tt
+makes-more (Some (spec.Numbers n rows)) v w ins types h = tt
+makes-more (Some (spec.Filter c)) v w ins types h = pulled-more v w ins types h
+makes-more (Some (spec.Expression items)) v w ins types h = record { from = h.from; pulled = pulled-more v w ins h.from h.pulled; is = h.is }
+makes-more (Some spec.Resize) v w ins types h = tt
+makes-more (Some (spec.PartialAggregate groups)) v w ins types h = tt
+makes-more (Some (spec.MergeAggregate groups)) v w ins types h = tt
+makes-more (Some (spec.HashJoin join)) v w ins types h = tt
+makes-more (Some (spec.Sort order)) v w ins types h = tt
+makes-more (Some (spec.MergeSorted order)) v w ins types h = tt
+makes-more (Some (spec.Limit span)) v w ins types h = tt
+makes-more (Some spec.Collect) v w ins types h = tt
+
+-- what is true of all chunks of a longer list is true of its front
+pub front-all : (P : Table → Type 0) (xs ys : List Table) → All P (xs ++ ys) → All P xs
+front-all P xs ys h = λ k d lt. subst P (get_or_append_left xs ys d k lt) (h k d (let l = length-append xs ys in omega (arith, l, lt)))
+
+pub fits-front : (s : Option Spec) (v w : Picture) (ins : Lists) → AllFit s (with_pulled v w ins) → AllFit s ins
+fits-front s v w ins h = λ i. front-all (λ (t : Table). FitsInput s i t.types) (ins i) (pulled_at v w i) (h i)
+
+-- the last of the longer list was pulled
+pub pulled-last : (v w : Picture) (ins : Lists) (i : ℕ) → All (λ (t : Table). IsPulled (with_pulled v w ins) t.types) (pulled_at v w i)
+pulled-last v w ins i = λ k d lt. record {
+  input = i;
+  place = length (ins i) + k;
+  in_range = let l = length-append (ins i) (pulled_at v w i) in omega (arith, l, lt);
+  is = ap (λ (t : Table). t.types) (get_or-append-add (ins i) (pulled_at v w i) k no_table ∙ get_or_default (pulled_at v w i) k no_table d lt);
+}
+
+-- ---- counts
+
+pub rows-append : (xs ys : List Table) → chunk_rows (xs ++ ys) ≡ chunk_rows xs ++ chunk_rows ys
+rows-append xs ys = flat_map-append (λ (t : Table). t.rows) xs ys
+
+pub total-append : (n : ℕ) (a b : Lists) → total_rows n (λ i. a i ++ b i) ≡ total_rows n a + total_rows n b
+unfolding total_rows
+total-append zero a b = refl
+total-append (suc n) a b =
+    let rest = total-append n a b in
+    let here = ap length (rows-append (a n) (b n)) ∙ length-append (chunk_rows (a n)) (chunk_rows (b n)) in
+    omega (arith, rest, here)
+
+-- nothing is there behind the first list
+pub total-first : (n : ℕ) (a : Lists) → ((i : ℕ) → 0 < i → a i ≡ []) → total_rows (suc n) a ≡ length (chunk_rows (a 0))
+unfolding total_rows
+total-first zero a e = omega arith
+total-first (suc n) a e =
+    let rest = total-first n a e in
+    let here = ap (λ l. length (chunk_rows l)) (e (suc n) (omega arith)) in
+    omega (arith, rest, here)
+
+pub total-nothing : (n : ℕ) (a : Lists) → ((i : ℕ) → a i ≡ []) → total_rows n a ≡ 0
+unfolding total_rows
+total-nothing zero a e = refl
+total-nothing (suc n) a e =
+    let rest = total-nothing n a e in
+    let here = ap (λ l. length (chunk_rows l)) (e n) in
+    omega (arith, rest, here)
+
+-- the count of pulled rows goes on with what a prepare pulls
+pub counted-more : (p q : BoxPicture) (v w : Picture) (ins : Lists) → PulledOn p q → q.pulled ≡ raised p.pulled (rows_pulled v w)
+    → (p.notes.pulled ≡ total_rows 32 ins) ⊎ (p.pulled ≡ last_count) → (q.notes.pulled ≡ total_rows 32 (with_pulled v w ins)) ⊎ (q.pulled ≡ last_count)
+counted-more p q v w ins on e h =
+    let more = total-append 32 ins (pulled_at v w) in
+    let since = on.since in
+    elim (cases_lt (p.pulled + rows_pulled v w) last_count) [
+      | inl less ↦ elim h [ inl kept ↦ inl (omega (arith, more, since, e, less, kept)) | inr full ↦ absurd (omega (arith, less, full)) ]
+      | inr reached ↦ inr (omega (arith, e, reached))
+    ]

@@ -1,0 +1,36 @@
+-- The flags that a box keeps are those of the view that its last prepare left.
+use Rattle.std.proofs.Common.{◌≡◌, ℕ, ◌<◌, ◌≤◌, List, length, map, get_or, Option, Some, None, refl, sym, ap, ◌∙◌, arith}
+use Rattle.std.proofs.lemmas.List.{get_or-map, get_or_default, length-map}
+use Rattle.std.proofs.Math.ListN.{get_or-eq_default}
+use Rattle.port_word.specs.declared.flags.Flags.{Flags}
+use Rattle.port_word.specs.declared.port_view.InputPort.{InputPort}
+use Rattle.port_word.specs.Pictures.{Picture, input_at, output_at, in_count, out_count, no_flags, no_input, over_flags}
+use Rattle.proc_api.specs.Boxes.{BoxPicture, kept_input, kept_output, kept_inputs, kept_outputs, kept_ports}
+use Rattle.proc_api.specs.Clauses.{port_flags}
+
+module _ (q : BoxPicture) (w : Picture) (e : q.notes.view ≡ Some (port_flags w)) where
+  pub kept_inputs-of : kept_inputs q ≡ in_count w
+  unfolding kept_inputs in_count
+  kept_inputs-of = ap (λ p. length (kept_ports p).inputs) e ∙ rw length-map refl
+
+  pub kept_outputs-of : kept_outputs q ≡ out_count w
+  unfolding kept_outputs out_count
+  kept_outputs-of = ap (λ p. length (kept_ports p).outputs) e
+
+  pub kept_input-of : (i : ℕ) → i < in_count w → kept_input q i ≡ (input_at w i).flags
+  unfolding kept_input in_count input_at
+  kept_input-of i lt =
+      let flags = λ (x : InputPort). x.flags in
+      ap (λ p. get_or (kept_ports p).inputs i no_flags) e ∙ get_or_default (map flags w.inputs) i no_flags (flags no_input) (rw length-map lt) ∙ get_or-map flags w.inputs i no_input (flags no_input) lt
+
+  pub kept_input-past : (i : ℕ) → in_count w ≤ i → kept_input q i ≡ no_flags
+  unfolding kept_input in_count
+  kept_input-past i le = ap (λ p. get_or (kept_ports p).inputs i no_flags) e ∙ get_or-eq_default (map (λ (x : InputPort). x.flags) w.inputs) no_flags (rw length-map le)
+
+  pub kept_output-of : (o : ℕ) → o < out_count w → kept_output q o ≡ output_at w o
+  unfolding kept_output out_count output_at
+  kept_output-of o lt = ap (λ p. get_or (kept_ports p).outputs o no_flags) e ∙ get_or_default w.outputs o no_flags over_flags lt
+
+  pub kept_output-past : (o : ℕ) → out_count w ≤ o → kept_output q o ≡ no_flags
+  unfolding kept_output out_count
+  kept_output-past o le = ap (λ p. get_or (kept_ports p).outputs o no_flags) e ∙ get_or-eq_default w.outputs no_flags le

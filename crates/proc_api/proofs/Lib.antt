@@ -1,0 +1,11 @@
+pub mod Settled
+pub mod RackLaws
+pub mod ViewFlags
+pub mod CallLaws
+pub mod Turns
+pub mod ShutPorts
+pub mod Keeping
+pub mod KeptFlags
+pub mod Follows
+pub mod PortCounts
+pub mod Graphs

@@ -1,0 +1,65 @@
+-- Closing inputs and finishing outputs, one after another.
+use Rattle.std.proofs.Common.{◌≡◌, ◌≢◌, ℕ, ◌+◌, ◌<◌, Bool, true, false, cond, ◌||◌, refl, sym, ap, subst, ◌∙◌, arith, inl, inr, List, [], ◌∷◌, ◌++◌}
+use Rattle.std.proofs.lemmas.Bool.{cases_eq}
+use Rattle.std.proofs.lemmas.List.{append-nil}
+use Rattle.port_word.specs.declared.flags.Flags.{Flags}
+use Rattle.port_word.specs.Pictures.{Picture, input_at, output_at, in_count, out_count, is_out_finished}
+use Rattle.port_word.specs.Calls.{closed, after_close, after_finish}
+use Rattle.port_word.specs.Differences.{ChangedByCalls, close_call, finish_call}
+use Rattle.port_word.proofs.Differences.{changed-by-none, changed-by-one, changed-by-both}
+use Rattle.proc_api.specs.Histories.{pushes_to}
+use Rattle.proc_api.specs.Ports.{SameChunks, ClosesFront, FinishesFront, IsShut}
+use Rattle.proc_api.proofs.Turns.{TurnsInput, TurnsOutput, close-turns, finish-turns, finishing}
+
+-- what holds of every input, where it holds of the changed one and of the others
+pub by-place : (P : ℕ → Type 0) (n i : ℕ) → P n → (i ≢ n → P i) → P i
+by-place P n i here others = elim (cases_eq i n) [ inl e ↦ subst P (sym e) here | inr ne ↦ others ne ]
+
+same-chunks : (v : Picture) → SameChunks v v
+same-chunks v = record { inputs = λ i. refl; outputs = λ o. refl }
+
+both-same : (v w u : Picture) → SameChunks v w → SameChunks w u → SameChunks v u
+both-same v w u a b = record { inputs = λ i. b.inputs i ∙ a.inputs i; outputs = λ o. b.outputs o ∙ a.outputs o }
+
+pub closes-none : (v : Picture) → ClosesFront 0 v v
+closes-none v = record { changed = changed-by-none v; ins = refl; outs = refl; closed = λ i lt. absurd (omega arith); outputs = λ o. refl; chunks = same-chunks v }
+
+pub closes-next : (n : ℕ) (v w u : Picture) → n < in_count v → u ≡ after_close w n → ClosesFront n v w → ClosesFront (n + 1) v u
+closes-next n v w u lt e c =
+    let t = close-turns w n (omega (arith, c.ins)) in
+    rw e record {
+      changed = changed-by-both v w (after_close w n) c.changed (changed-by-one w (after_close w n) (close_call n) refl);
+      ins = t.ins ∙ c.ins;
+      outs = t.outs ∙ c.outs;
+      closed = λ i less. by-place (λ j. (input_at (after_close w n) j).flags.fin_in ≡ true) n i (ap (λ x. x.flags.fin_in) t.here) (λ ne. ap (λ x. x.flags.fin_in) (t.others i ne) ∙ c.closed i (omega (arith, ne)));
+      outputs = λ o. t.outputs o ∙ c.outputs o;
+      chunks = both-same v w (after_close w n) c.chunks record {
+        inputs = λ i. by-place (λ j. (input_at (after_close w n) j).chunk ≡ (input_at w j).chunk) n i (ap (λ x. x.chunk) t.here) (λ ne. ap (λ x. x.chunk) (t.others i ne));
+        outputs = t.pushes;
+      };
+    }
+
+pub finishes-none : (v : Picture) → FinishesFront 0 v v
+finishes-none v = record { changed = changed-by-none v; ins = refl; outs = refl; finished = λ o lt. absurd (omega arith); inputs = λ i. refl; chunks = same-chunks v }
+
+pub is-finished : (f : Flags) → is_out_finished (finishing f) ≡ true
+is-finished f = go (f.fin_out || f.fin_in) refl
+  where
+    go : (b : Bool) → (f.fin_out || f.fin_in) ≡ b → is_out_finished (cond b f (record f { fin_out = true })) ≡ true
+    go true e = e
+    go false e = refl
+
+pub finishes-next : (n : ℕ) (v w u : Picture) → n < out_count v → u ≡ after_finish w n → FinishesFront n v w → FinishesFront (n + 1) v u
+finishes-next n v w u lt e c =
+    let t = finish-turns w n (omega (arith, c.outs)) in
+    rw e record {
+      changed = changed-by-both v w (after_finish w n) c.changed (changed-by-one w (after_finish w n) (finish_call n) refl);
+      ins = t.ins ∙ c.ins;
+      outs = t.outs ∙ c.outs;
+      finished = λ o less. by-place (λ j. is_out_finished (output_at (after_finish w n) j) ≡ true) n o (ap is_out_finished t.here ∙ is-finished (output_at w n)) (λ ne. ap is_out_finished (t.others o ne) ∙ c.finished o (omega (arith, ne)));
+      inputs = λ i. t.inputs i ∙ c.inputs i;
+      chunks = both-same v w (after_finish w n) c.chunks record {
+        inputs = λ i. ap (λ x. x.chunk) (t.inputs i);
+        outputs = λ o. by-place (λ j. pushes_to j (after_finish w n).actions ≡ pushes_to j w.actions) n o (t.pushes ∙ append-nil (pushes_to n w.actions)) (λ ne. t.other_pushes o ne);
+      };
+    }

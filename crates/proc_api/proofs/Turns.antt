@@ -1,0 +1,183 @@
+-- What each call of a view changes, port by port. A processor's proof takes these in the place of the calls' pictures.
+use Rattle.std.proofs.Common.{rules, ◌≡◌, ◌≢◌, ℕ, ◌<◌, ◌==◌, Bool, true, false, cond, not, ◌&&◌, ◌||◌, Option, List, [], ◌∷◌, ◌++◌, refl, sym, ap, ◌∙◌}
+use Rattle.std.proofs.lemmas.List.{append-nil}
+use Rattle.std.proofs.lemmas.Bool.{eqb-false}
+use Rattle.chunk_data.specs.Values.{Table}
+use Rattle.port_word.specs.declared.flags.Flags.{Flags}
+use Rattle.port_word.specs.declared.flags.Action.{Action}
+use Rattle.port_word.specs.declared.flags.Action.TheVariants.{Pull, Close, Push, Finish}
+use Rattle.port_word.specs.declared.port_view.InputPort.{InputPort}
+use Rattle.port_word.specs.Pictures.{Picture, input_at, output_at, in_count, out_count, with_input, with_output, with_actions, holds_data, can_push, is_out_finished}
+use Rattle.port_word.specs.Actions.{noted_want}
+use Rattle.port_word.specs.Calls.{noted, emptied, closed, with_needed, after_pull, after_need, after_close, after_push, after_finish}
+use Rattle.port_word.proofs.Laws.{input_at-with_input, input_at-with_input-other, output_at-with_output, output_at-with_output-other, output_at-with_input, input_at-with_output, in_count-with_input, out_count-with_input, in_count-with_output, out_count-with_output}
+use Rattle.proc_api.specs.Histories.{pushes_to}
+use Rattle.proc_api.proofs.CallLaws.{pushes_to-append, pushes_to-noted_want}
+
+-- input i alone is changed, to x, and nothing is pushed
+pub record TurnsInput (p : Picture) (i : ℕ) (x : InputPort) (q : Picture) : Type 0 where
+  pub here : input_at q i ≡ x
+  pub others : (j : ℕ) → j ≢ i → input_at q j ≡ input_at p j
+  pub outputs : (o : ℕ) → output_at q o ≡ output_at p o
+  pub ins : in_count q ≡ in_count p
+  pub outs : out_count q ≡ out_count p
+  pub pushes : (o : ℕ) → pushes_to o q.actions ≡ pushes_to o p.actions
+
+-- output o alone is changed, to f, and these chunks are pushed there
+pub record TurnsOutput (p : Picture) (o : ℕ) (f : Flags) (chunks : List Table) (q : Picture) : Type 0 where
+  pub here : output_at q o ≡ f
+  pub others : (j : ℕ) → j ≢ o → output_at q j ≡ output_at p j
+  pub inputs : (i : ℕ) → input_at q i ≡ input_at p i
+  pub ins : in_count q ≡ in_count p
+  pub outs : out_count q ≡ out_count p
+  pub pushes : pushes_to o q.actions ≡ pushes_to o p.actions ++ chunks
+  pub other_pushes : (j : ℕ) → j ≢ o → pushes_to j q.actions ≡ pushes_to j p.actions
+
+same-input : (p : Picture) (i : ℕ) (x : InputPort) → input_at p i ≡ x → TurnsInput p i x p
+same-input p i x e = record { here = e; others = λ j ne. refl; outputs = λ o. refl; ins = refl; outs = refl; pushes = λ o. refl }
+
+-- input i is set to x, and the actions become others that push the same
+set-input : (p : Picture) (i : ℕ) (x : InputPort) (actions : List Action) → i < in_count p → ((o : ℕ) → pushes_to o actions ≡ pushes_to o p.actions) → TurnsInput p i x (with_actions (with_input p i x) actions)
+unfolding with_actions input_at output_at in_count out_count
+set-input p i x actions lt same = record {
+  here = input_at-with_input p i x lt;
+  others = λ j ne. input_at-with_input-other p i j x ne;
+  outputs = λ o. output_at-with_input p i o x;
+  ins = in_count-with_input p i x;
+  outs = out_count-with_input p i x;
+  pushes = same;
+}
+
+nothing-more : (o : ℕ) (a : Action) (xs : List Action) → pushes_to o (a ∷ []) ≡ [] → pushes_to o (xs ++ a ∷ []) ≡ pushes_to o xs
+nothing-more o a xs e = pushes_to-append o xs (a ∷ []) ∙ ap (λ l. pushes_to o xs ++ l) e ∙ append-nil (pushes_to o xs)
+
+noted-input : (p : Picture) (i : ℕ) (x : InputPort) (a : Action) → i < in_count p → ((o : ℕ) → pushes_to o (a ∷ []) ≡ []) → TurnsInput p i x (noted (with_input p i x) a)
+unfolding with_input
+noted-input p i x a lt e = set-input p i x (p.actions ++ a ∷ []) lt (λ o. nothing-more o a p.actions (e o))
+
+by-bool : (P : Picture → Type 0) (b : Bool) (x y : Picture) → (b ≡ true → P x) → (b ≡ false → P y) → P (cond b x y)
+by-bool P true x y f g = f refl
+by-bool P false x y f g = g refl
+
+closed-already : (x : InputPort) → x.flags.fin_in ≡ true → x ≡ closed x
+closed-already x e = λ i. record { flags = record x.flags { fin_in = e i }; chunk = x.chunk }
+
+pub close-turns : (p : Picture) (i : ℕ) → i < in_count p → TurnsInput p i (closed (input_at p i)) (after_close p i)
+unfolding pushes_to
+close-turns p i lt =
+    by-bool (TurnsInput p i (closed (input_at p i))) (input_at p i).flags.fin_in p (noted (with_input p i (closed (input_at p i))) (Close i))
+    (λ e. same-input p i (closed (input_at p i)) (closed-already (input_at p i) e))
+    (λ e. noted-input p i (closed (input_at p i)) (Close i) lt (λ o. refl))
+
+-- an input once needed is set, where it is open
+abbrev pub needing : InputPort → Bool → InputPort
+needing x b = cond x.flags.fin_in x (with_needed x b)
+
+needed-already : (x : InputPort) (b : Bool) → x.flags.needed ≡ b → x ≡ with_needed x b
+needed-already x b e = λ i. record { flags = record x.flags { needed = e i }; chunk = x.chunk }
+
+when-closed : (x : InputPort) (b : Bool) → x.flags.fin_in ≡ true → x ≡ needing x b
+when-closed x b e = ap (λ t. cond t x (with_needed x b)) (sym e)
+
+when-open : (x : InputPort) (b : Bool) → x.flags.fin_in ≡ false → with_needed x b ≡ needing x b
+when-open x b e = ap (λ t. cond t x (with_needed x b)) (sym e)
+
+closed-or-needed : (x : InputPort) (b : Bool) (t n : Bool) → x.flags.fin_in ≡ t → x.flags.needed ≡ n → (t || n) ≡ true → (n ≡ true → x.flags.needed ≡ b) → x ≡ needing x b
+closed-or-needed x b true n e f h k = when-closed x b e
+closed-or-needed x b false n e f h k = needed-already x b (k h) ∙ when-open x b e
+
+not-true : (n : Bool) → not n ≡ true → n ≡ false
+not-true true e = absurd (cc)
+not-true false e = refl
+
+closed-or-unneeded : (x : InputPort) (t n : Bool) → x.flags.fin_in ≡ t → x.flags.needed ≡ n → (t || not n) ≡ true → x ≡ needing x false
+closed-or-unneeded x true n e f h = when-closed x false e
+closed-or-unneeded x false n e f h = needed-already x false (f ∙ not-true n h) ∙ when-open x false e
+
+left-false : (a b : Bool) → (a || b) ≡ false → a ≡ false
+left-false true b e = absurd (cc)
+left-false false b e = refl
+
+pub need-turns : (p : Picture) (i : ℕ) (b : Bool) → i < in_count p → TurnsInput p i (needing (input_at p i) b) (after_need p i b)
+unfolding with_input
+need-turns p i true lt =
+    by-bool (TurnsInput p i (needing (input_at p i) true)) ((input_at p i).flags.fin_in || (input_at p i).flags.needed) p (with_actions (with_input p i (with_needed (input_at p i) true)) (noted_want i true p.actions))
+    (λ e. same-input p i (needing (input_at p i) true) (closed-or-needed (input_at p i) true (input_at p i).flags.fin_in (input_at p i).flags.needed refl refl e (λ n. n)))
+    (λ e. rw (← when-open (input_at p i) true (left-false _ _ e)) (set-input p i (with_needed (input_at p i) true) (noted_want i true p.actions) lt (λ o. pushes_to-noted_want o i true p.actions)))
+need-turns p i false lt =
+    by-bool (TurnsInput p i (needing (input_at p i) false)) ((input_at p i).flags.fin_in || not (input_at p i).flags.needed) p (with_actions (with_input p i (with_needed (input_at p i) false)) (noted_want i false p.actions))
+    (λ e. same-input p i (needing (input_at p i) false) (closed-or-unneeded (input_at p i) (input_at p i).flags.fin_in (input_at p i).flags.needed refl refl e))
+    (λ e. rw (← when-open (input_at p i) false (left-false _ _ e)) (set-input p i (with_needed (input_at p i) false) (noted_want i false p.actions) lt (λ o. pushes_to-noted_want o i false p.actions)))
+
+pub pull-turns : (p : Picture) (i : ℕ) → i < in_count p → holds_data (input_at p i).flags ≡ true → TurnsInput p i (emptied (input_at p i)) (after_pull p i)
+unfolding pushes_to
+pull-turns p i lt h =
+    rw h (noted-input p i (emptied (input_at p i)) (Pull i) lt (λ o. refl))
+
+same-output : (p : Picture) (o : ℕ) (f : Flags) → output_at p o ≡ f → TurnsOutput p o f [] p
+same-output p o f e = record { here = e; others = λ j ne. refl; inputs = λ i. refl; ins = refl; outs = refl; pushes = sym (append-nil (pushes_to o p.actions)); other_pushes = λ j ne. refl }
+
+noted-output : (p : Picture) (o : ℕ) (f : Flags) (a : Action) → o < out_count p → ((j : ℕ) → j ≢ o → pushes_to j (a ∷ []) ≡ []) → TurnsOutput p o f (pushes_to o (a ∷ [])) (noted (with_output p o f) a)
+unfolding with_actions with_output input_at output_at in_count out_count
+noted-output p o f a lt e = record {
+  here = output_at-with_output p o f lt;
+  others = λ j ne. output_at-with_output-other p o j f ne;
+  inputs = λ i. input_at-with_output p o i f;
+  ins = in_count-with_output p o f;
+  outs = out_count-with_output p o f;
+  pushes = pushes_to-append o p.actions (a ∷ []);
+  other_pushes = λ j ne. nothing-more j a p.actions (e j ne);
+}
+
+pushes-here : (o : ℕ) (chunk : Table) → pushes_to o (Push o chunk ∷ []) ≡ chunk ∷ []
+unfolding pushes_to
+pushes-here o chunk = rw (same o) refl
+  where
+    same : (n : ℕ) → (n == n) ≡ true
+    same n = search rules
+
+pushes-elsewhere : (o j : ℕ) (chunk : Table) → j ≢ o → pushes_to j (Push o chunk ∷ []) ≡ []
+unfolding pushes_to
+pushes-elsewhere o j chunk ne = rw (differ j o ne) refl
+  where
+    differ : (a b : ℕ) → a ≢ b → (a == b) ≡ false
+    differ a b ne = search rules
+
+pub push-turns : (p : Picture) (o : ℕ) (chunk : Table) → o < out_count p → can_push (output_at p o) ≡ true → TurnsOutput p o (record (output_at p o) { has_data = true }) (chunk ∷ []) (after_push p o chunk)
+push-turns p o chunk lt h =
+    rw h (rw (← pushes-here o chunk) (noted-output p o (record (output_at p o) { has_data = true }) (Push o chunk) lt (λ j ne. pushes-elsewhere o j chunk ne)))
+
+-- an output once it is finished, where neither end had finished it
+abbrev pub finishing : Flags → Flags
+finishing f = cond (is_out_finished f) f (record f { fin_out = true })
+
+pub finish-turns : (p : Picture) (o : ℕ) → o < out_count p → TurnsOutput p o (finishing (output_at p o)) [] (after_finish p o)
+unfolding pushes_to
+finish-turns p o lt =
+    by-bool (TurnsOutput p o (finishing (output_at p o)) []) (is_out_finished (output_at p o)) p (noted (with_output p o (record (output_at p o) { fin_out = true })) (Finish o))
+    (λ e. same-output p o (finishing (output_at p o)) (ap (λ t. cond t (output_at p o) (record (output_at p o) { fin_out = true })) (sym e)))
+    (λ e. rw e (noted-output p o (record (output_at p o) { fin_out = true }) (Finish o) lt (λ j ne. refl)))
+
+-- what asking leaves of an input
+pub record LeavesInput (x y : InputPort) : Type 0 where
+  pub chunk : y.chunk ≡ x.chunk
+  pub has_data : y.flags.has_data ≡ x.flags.has_data
+  pub fin_out : y.flags.fin_out ≡ x.flags.fin_out
+  pub fin_in : y.flags.fin_in ≡ x.flags.fin_in
+
+pub needing-leaves : (x : InputPort) (b : Bool) → LeavesInput x (needing x b)
+needing-leaves x b = by-flag x.flags.fin_in
+  where
+    by-flag : (t : Bool) → LeavesInput x (cond t x (with_needed x b))
+    by-flag true = record { chunk = refl; has_data = refl; fin_out = refl; fin_in = refl }
+    by-flag false = record { chunk = refl; has_data = refl; fin_out = refl; fin_in = refl }
+
+pub needing-needs : (x : InputPort) → x.flags.fin_in ≡ false → (needing x true).flags.needed ≡ true
+needing-needs x e = ap (λ t. (cond t x (with_needed x true)).flags.needed) e
+
+pub finishing-leaves : (f : Flags) → (finishing f).fin_in ≡ f.fin_in
+finishing-leaves f = by-flag (is_out_finished f)
+  where
+    by-flag : (t : Bool) → (cond t f (record f { fin_out = true })).fin_in ≡ f.fin_in
+    by-flag true = refl
+    by-flag false = refl

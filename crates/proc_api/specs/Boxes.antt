@@ -1,0 +1,129 @@
+-- What contracts see of a boxed processor, as plain data.
+use Rattle.std.specs.Prelude.{ℕ, Bool, true, false, List, [], length, slice_index_or, Option, Some, None}
+use Rattle.chunk_data.specs.Values.{Row, Table}
+use Rattle.query_model.specs.Database.{Files}
+use Rattle.query_model.specs.declared.places.BadPlace.{BadPlace}
+use Rattle.query_model.specs.declared.processor_spec.Kind.{Kind}
+use Rattle.query_model.specs.declared.processor_spec.Kind.TheVariants as kind
+use Rattle.query_model.specs.declared.processor_spec.Spec.{Spec}
+use Rattle.port_word.specs.declared.flags.Flags.{Flags}
+use Rattle.port_word.specs.Pictures.{no_flags}
+use Rattle.proc_api.specs.Forms.{GrowthForm}
+use Rattle.proc_api.specs.declared.status.Answer.{Answer}
+use Rattle.proc_api.specs.declared.status.WorkFault.{WorkFault}
+
+-- the flags of each port of a view
+pub record PortFlags : Type 0 where
+  pub inputs : List Flags
+  pub outputs : List Flags
+
+-- The state of a processor. A later kind may add a field, which is as `idle_work` has it in every other kind.
+pub record WorkState : Type 0 where
+  -- the chunks that were pulled and are not worked yet, in order
+  pub unworked : List Table
+  -- the chunks that are made and not pushed yet, in order
+  pub made : List Table
+  -- the rows that can be pushed once they are made, in order
+  pub unmade : List Row
+  -- the chunks that it has gathered, in order, and whether they were handed out
+  pub gathered : List Table
+  pub handed_out : Bool
+  -- whether a source has opened its file, and whether it has fetched it whole
+  pub opened : Bool
+  pub fetched : Bool
+  -- the bad place of the part that it has fetched
+  pub bad : Option BadPlace
+
+-- a count of pulled rows, and by how much it rose since `load`
+pub record RowCount : Type 0 where
+  pub total : ℕ
+  pub since : ℕ
+
+-- What a processor keeps besides from `load` on: how many bytes its reader gave, by how much its counts rose, its last answer, whether `work`
+-- or `expand` was called on it, the fault that it answered, the flags of the view that its last `prepare` left, and whether each view had the
+-- ports of its spec and growth.
+pub record Notes : Type 0 where
+  pub given : ℕ
+  pub faults : ℕ
+  pub pendings : ℕ
+  pub pulled : ℕ
+  pub answer : Option Answer
+  pub acted : Bool
+  pub fault : Option WorkFault
+  pub view : Option PortFlags
+  pub fits : Bool
+
+-- A boxed processor. A blank one has no spec. `faults` and `pendings` are its reader's, and `pulled` counts the rows that it pulled; none of
+-- the three ever falls. `files` are those that its reader tells, and `growth` is the last that it answered since `load`.
+pub record BoxPicture : Type 0 where
+  pub kind : Kind
+  pub lawful : Bool
+  pub files : Option Files
+  pub spec : Option Spec
+  pub faults : ℕ
+  pub pendings : ℕ
+  pub pulled : ℕ
+  pub work : WorkState
+  pub notes : Notes
+  pub growth : Option GrowthForm
+
+abbrev pub idle_work : WorkState
+idle_work = record {
+  unworked = [];
+  made = [];
+  unmade = [];
+  gathered = [];
+  handed_out = false;
+  opened = false;
+  fetched = false;
+  bad = None;
+}
+
+-- what a processor keeps as `load` leaves it
+abbrev pub no_notes : Notes
+no_notes = record {
+  given = 0;
+  faults = 0;
+  pendings = 0;
+  pulled = 0;
+  answer = None;
+  acted = false;
+  fault = None;
+  view = None;
+  fits = true;
+}
+
+-- a blank box that keeps no contract, as a box past the last one of a list is read
+abbrev pub no_box : BoxPicture
+no_box = record {
+  kind = kind.Collect;
+  lawful = false;
+  files = None;
+  spec = None;
+  faults = 0;
+  pendings = 0;
+  pulled = 0;
+  work = idle_work;
+  notes = no_notes;
+  growth = None;
+}
+
+abbrev pub no_ports : PortFlags
+no_ports = record { inputs = []; outputs = [] }
+
+abbrev pub kept_ports : Option PortFlags → PortFlags
+kept_ports None = no_ports
+kept_ports (Some ports) = ports
+
+-- the flags that the processor keeps of an input and of an output; none is set where it keeps none
+unfoldable pub kept_input : BoxPicture → ℕ → Flags
+kept_input p i = slice_index_or (kept_ports p.notes.view).inputs i no_flags
+
+unfoldable pub kept_output : BoxPicture → ℕ → Flags
+kept_output p o = slice_index_or (kept_ports p.notes.view).outputs o no_flags
+
+unfoldable pub kept_inputs : BoxPicture → ℕ
+kept_inputs p = length (kept_ports p.notes.view).inputs
+
+unfoldable pub kept_outputs : BoxPicture → ℕ
+kept_outputs p = length (kept_ports p.notes.view).outputs

@@ -1,0 +1,338 @@
+-- The clauses of a processor's calls, over what is seen of the box before and after a call.
+use Rattle.std.specs.Prelude.{◌≡◌, ◌≢◌, ◌⊎◌, ℕ, ◌+◌, ◌<◌, ◌≤◌, true, false, IsTrue, List, [], length, map, Option, Some, None, IsSome, IfSome, ⊤}
+use Rattle.chunk_data.specs.Values.{Table}
+use Rattle.query_model.specs.Kinds.{kind_of}
+use Rattle.query_model.specs.Database.{Files, file_bytes, part_bad_place, bad_line_in}
+use Rattle.query_model.specs.declared.places.BadPlace.{BadPlace}
+use Rattle.query_model.specs.declared.processor_spec.Kind.{Kind}
+use Rattle.query_model.specs.declared.processor_spec.Kind.TheVariants as kind
+use Rattle.query_model.specs.declared.processor_spec.PartSpec.{PartSpec}
+use Rattle.query_model.specs.declared.processor_spec.Spec.{Spec}
+use Rattle.query_model.specs.declared.processor_spec.Spec.TheVariants as spec
+use Rattle.port_word.specs.declared.port_view.InputPort.{InputPort}
+use Rattle.port_word.specs.Pictures.{Picture, input_at, output_at, in_count, out_count, is_out_finished}
+use Rattle.port_word.specs.Status.{WaitsForData, WaitsForRoom, IsAllFinished}
+use Rattle.proc_api.specs.declared.status.Status.{Status}
+use Rattle.proc_api.specs.declared.status.Status.TheVariants as status
+use Rattle.proc_api.specs.declared.status.Wake.{Wake}
+use Rattle.proc_api.specs.declared.status.Wake.TheVariants as wake
+use Rattle.proc_api.specs.declared.status.Answer.{Answer}
+use Rattle.proc_api.specs.declared.status.Answer.TheVariants.{Prepared, Scheduled}
+use Rattle.proc_api.specs.declared.status.LoadRefusal.{LoadRefusal}
+use Rattle.proc_api.specs.declared.status.LoadRefusal.TheVariants as refusal
+use Rattle.proc_api.specs.declared.status.WorkFault.{WorkFault}
+use Rattle.proc_api.specs.declared.status.WorkFault.TheVariants as fault
+use Rattle.proc_api.specs.declared.growth.Growth.{Growth}
+use Rattle.proc_api.specs.Forms.{growth_form}
+use Rattle.proc_api.specs.Boxes.{BoxPicture, PortFlags, WorkState, no_notes}
+use Rattle.proc_api.specs.Histories.{Lists, no_lists, chunk_rows, with_pulled, with_pushed, rows_pulled, raised}
+use Rattle.proc_api.specs.Ports.{HasPorts, IsShut, StaysFit}
+use Rattle.proc_api.specs.Keeping.{Keeps}
+
+-- ---- what stays
+
+-- what no call but `load` and `unload` changes
+pub record SameBox (p q : BoxPicture) : Type 0 where
+  pub kind : q.kind ≡ p.kind
+  pub lawful : q.lawful ≡ p.lawful
+  pub files : q.files ≡ p.files
+  pub spec : q.spec ≡ p.spec
+
+-- The reader's counts never fall, and what they rose since `load` is no more than they rose: whatever count a reader had at `load`, by what
+-- is kept, it may still have had. At its last value a count stands still.
+pub record CountsOn (p q : BoxPicture) : Type 0 where
+  pub faults : p.faults ≤ q.faults
+  pub pendings : p.pendings ≤ q.pendings
+  pub given : p.notes.given ≤ q.notes.given
+  pub faults_since : (base : ℕ) → raised base p.notes.faults ≤ p.faults → raised base q.notes.faults ≤ q.faults
+  pub pendings_since : (base : ℕ) → raised base p.notes.pendings ≤ p.pendings → raised base q.notes.pendings ≤ q.pendings
+
+-- the count of pulled rows never falls, and what it rose since `load` is exactly that
+pub record PulledOn (p q : BoxPicture) : Type 0 where
+  pub count : p.pulled ≤ q.pulled
+  pub since : q.pulled + p.notes.pulled ≡ p.pulled + q.notes.pulled
+
+-- the count of pulled rows stands still
+pub record SamePulled (p q : BoxPicture) : Type 0 where
+  pub count : q.pulled ≡ p.pulled
+  pub since : q.notes.pulled ≡ p.notes.pulled
+
+-- all three counts stand still
+pub record SameCounts (p q : BoxPicture) : Type 0 where
+  pub faults : q.faults ≡ p.faults
+  pub pendings : q.pendings ≡ p.pendings
+  pub pulled : q.pulled ≡ p.pulled
+
+-- ---- loading
+
+-- as `load` leaves it, before any other call
+pub record IsFresh (p : BoxPicture) : Type 0 where
+  pub loaded : IsSome p.spec
+  pub of_kind : IfSome p.spec (λ s. kind_of s ≡ p.kind)
+  pub notes : p.notes ≡ no_notes
+  pub ungrown : p.growth ≡ None
+  pub not_handed_out : p.work.handed_out ≡ false
+  pub keeps : IsTrue p.lawful → Keeps p no_lists no_lists
+
+abbrev pub IsBlank : BoxPicture → Type 0
+IsBlank p = p.spec ≡ None
+
+-- a blank box was loaded
+pub record Loads (p : BoxPicture) (s : Spec) (q : BoxPicture) : Type 0 where
+  pub was_blank : IsBlank p
+  pub of_kind : kind_of s ≡ p.kind
+  pub kind : q.kind ≡ p.kind
+  pub lawful : q.lawful ≡ p.lawful
+  pub files : q.files ≡ p.files
+  pub spec : q.spec ≡ Some s
+  pub counts : SameCounts p q
+  pub fresh : IsFresh q
+
+-- a load is refused where the box is loaded, or else where the spec is of another kind; want of memory is free
+abbrev pub IsLoadRefused : LoadRefusal → BoxPicture → Spec → Type 0
+IsLoadRefused refusal.NotBlank p s = IsSome p.spec
+IsLoadRefused refusal.WrongKind p s = IsBlank p × (kind_of s ≢ p.kind)
+IsLoadRefused refusal.Memory p s = IsBlank p × (kind_of s ≡ p.kind)
+
+-- the box is blank, and its counts stay
+pub record Unloads (p q : BoxPicture) : Type 0 where
+  pub kind : q.kind ≡ p.kind
+  pub lawful : q.lawful ≡ p.lawful
+  pub files : q.files ≡ p.files
+  pub blank : IsBlank q
+  pub notes : q.notes ≡ no_notes
+  pub ungrown : q.growth ≡ None
+  pub counts : SameCounts p q
+
+-- a blank box of the kind that keeps the contract, with a count of pulled rows of 0
+pub record IsLawfulBlank (k : Kind) (p : BoxPicture) : Type 0 where
+  pub kind : p.kind ≡ k
+  pub lawful : p.lawful ≡ true
+  pub blank : IsBlank p
+  pub notes : p.notes ≡ no_notes
+  pub ungrown : p.growth ≡ None
+  pub pulled : p.pulled ≡ 0
+
+-- the kinds that read a file
+abbrev pub IsSourceKind : Kind → Type 0
+IsSourceKind kind.Csv = ⊤
+IsSourceKind kind.List = ⊤
+IsSourceKind _ = ⊥
+
+-- no reader: it tells no files, and its counts are 0
+pub record HasNoReader (p : BoxPicture) : Type 0 where
+  pub files : p.files ≡ None
+  pub faults : p.faults ≡ 0
+  pub pendings : p.pendings ≡ 0
+  pub given : p.notes.given ≡ 0
+
+-- loaded, without a fault, and its rows not handed out: every call may come whose own condition holds
+pub record IsRunning (p : BoxPicture) : Type 0 where
+  pub loaded : IsSome p.spec
+  pub faultless : p.notes.fault ≡ None
+  pub not_handed_out : p.work.handed_out ≡ false
+
+-- ---- limits
+
+abbrev pub UnlessStalled : Option WorkFault → Type 0 → Type 0
+UnlessStalled (Some fault.Stalled) P = ⊤
+UnlessStalled _ P = P
+
+abbrev pub UnlessTooLong : Option WorkFault → Type 0 → Type 0
+UnlessTooLong (Some fault.TooLong) P = ⊤
+UnlessTooLong _ P = P
+
+-- A lawful box stalls as soon as its reader was pending 1,000,000 times, and its file is too long as soon as its bytes pass 1,073,741,824. It opens
+-- its file once, and fetches it once.
+pub record KeepsLimits (p q : BoxPicture) : Type 0 where
+  pub pendings : p.notes.pendings < 1000000 → UnlessStalled q.notes.fault (q.notes.pendings < 1000000)
+  pub given : p.notes.given ≤ 1073741824 → UnlessTooLong q.notes.fault (q.notes.given ≤ 1073741824)
+  pub opened : p.work.opened ≡ true → q.work.opened ≡ true
+  pub fetched : p.work.fetched ≡ true → q.work.fetched ≡ true
+
+-- ---- prepare
+
+-- the flags of each port of a picture
+abbrev pub port_flags : Picture → PortFlags
+port_flags v = record { inputs = map (λ (x : InputPort). x.flags) v.inputs; outputs = v.outputs }
+
+-- what a prepare leaves besides: the view's flags and the answer
+pub record NotesView (p q : BoxPicture) (w : Picture) (s : Status) : Type 0 where
+  pub view : q.notes.view ≡ Some (port_flags w)
+  pub answer : q.notes.answer ≡ Some (Prepared s)
+  pub not_acted : q.notes.acted ≡ false
+  pub growth : q.growth ≡ p.growth
+  pub faultless : q.notes.fault ≡ None
+  pub not_handed_out : q.work.handed_out ≡ false
+
+-- The status law: what an answer says of the ports.
+abbrev pub StatusHolds : Status → Picture → Type 0
+StatusHolds status.NeedData w = WaitsForData w
+StatusHolds status.PortFull w = WaitsForRoom w
+StatusHolds status.Ready w = ⊤
+StatusHolds status.Async w = ⊤
+StatusHolds status.ExpandPipeline w = ⊤
+StatusHolds status.Finished w = IsAllFinished w
+
+-- A chunk isn't worked, rows that can be pushed aren't made, or a source has to answer its part's bad place.
+abbrev pub MayBeReady : BoxPicture → Type 0
+MayBeReady p = (0 < length p.work.unworked) ⊎ ((0 < length p.work.unmade) ⊎ ((p.kind ≡ kind.Csv) × IsSome p.work.bad))
+
+-- a source whose file isn't fetched whole
+pub record IsFetching (p : BoxPicture) : Type 0 where
+  pub source : IsSourceKind p.kind
+  pub unfetched : p.work.fetched ≡ false
+
+-- when an answer may come
+abbrev pub StatusComes : Status → BoxPicture → Type 0
+StatusComes status.NeedData p = ⊤
+StatusComes status.PortFull p = ⊤
+StatusComes status.Ready p = MayBeReady p
+StatusComes status.Async p = IsFetching p
+StatusComes status.ExpandPipeline p = p.kind ≡ kind.List
+StatusComes status.Finished p = ⊤
+
+-- whatever the box kept of its lists, it keeps with what the call pulled and pushed
+abbrev pub KeepsOver : BoxPicture → Picture → BoxPicture → Picture → Type 0
+KeepsOver p v q w = (ins outs : Lists) → Keeps p ins outs → Keeps q (with_pulled v w ins) (with_pushed v w outs)
+
+-- each input is closed and each output is finished, and this was answered
+pub record ShutsDown (w : Picture) (s : Status) : Type 0 where
+  pub answer : s ≡ status.Finished
+  pub shut : IsShut w
+
+-- A prepare of a lawful box, from the view v to w. Where the view hasn't the ports of its spec and growth it shuts down.
+pub record PreparesLawfully (p : BoxPicture) (v : Picture) (q : BoxPicture) (w : Picture) (s : Status) : Type 0 where
+  pub law : StatusHolds s w
+  pub comes : StatusComes s q
+  pub pulled : q.pulled ≡ raised p.pulled (rows_pulled v w)
+  pub limits : KeepsLimits p q
+  pub fits : StaysFit p v → q.notes.fits ≡ true
+  pub keeps : StaysFit p v → KeepsOver p v q w
+  pub misfit : (HasPorts p v → ⊥) → ShutsDown w s
+
+-- ---- work, schedule, expand
+
+-- whatever the box kept of its lists, it keeps
+abbrev pub KeepsSame : BoxPicture → BoxPicture → Type 0
+KeepsSame p q = (ins outs : Lists) → Keeps p ins outs → Keeps q ins outs
+
+abbrev pub MayWork : Option Answer → Type 0
+MayWork (Some (Prepared status.Ready)) = ⊤
+MayWork (Some (Scheduled wake.Ready)) = ⊤
+MayWork _ = ⊥
+
+abbrev pub MaySchedule : Option Answer → Type 0
+MaySchedule (Some (Prepared status.Async)) = ⊤
+MaySchedule (Some (Scheduled wake.Later)) = ⊤
+MaySchedule _ = ⊥
+
+-- a call that leaves the kept view, answer and growth
+pub record SameNotes (p q : BoxPicture) : Type 0 where
+  pub view : q.notes.view ≡ p.notes.view
+  pub fits : q.notes.fits ≡ p.notes.fits
+  pub answer : q.notes.answer ≡ p.notes.answer
+  pub growth : q.growth ≡ p.growth
+  pub not_handed_out : q.work.handed_out ≡ false
+
+-- fewer chunks are unworked, or more rows are made, or nothing is left to be ready for
+abbrev pub Progresses : BoxPicture → BoxPicture → Type 0
+Progresses p q = (length q.work.unworked < length p.work.unworked) ⊎ ((length (chunk_rows p.work.made) < length (chunk_rows q.work.made)) ⊎ (MayBeReady q → ⊥))
+
+-- every kind so far progresses with each work
+abbrev pub ProgressesBy : Kind → BoxPicture → BoxPicture → Type 0
+ProgressesBy _ p q = Progresses p q
+
+-- a work without a fault
+pub record Works (p q : BoxPicture) : Type 0 where
+  pub same : SameNotes p q
+  pub acted : q.notes.acted ≡ true
+  pub faultless : q.notes.fault ≡ None
+  pub keeps : IsTrue p.lawful → KeepsSame p q
+  pub progresses : IsTrue p.lawful → ProgressesBy p.kind p q
+
+-- a source wakes later where it opened its path, fetched a byte, or its reader was pending, and is ready where it has read its file's end
+abbrev pub WakeComes : Wake → BoxPicture → BoxPicture → Type 0
+WakeComes wake.Later p q = ((p.work.opened ≡ false) × (q.work.opened ≡ true)) ⊎ ((p.notes.given < q.notes.given) ⊎ (p.notes.pendings < q.notes.pendings))
+WakeComes wake.Ready p q = (p.work.fetched ≡ false) × (q.work.fetched ≡ true)
+
+-- a schedule without a fault
+pub record Schedules (a : Wake) (p q : BoxPicture) : Type 0 where
+  pub view : q.notes.view ≡ p.notes.view
+  pub fits : q.notes.fits ≡ p.notes.fits
+  pub answer : q.notes.answer ≡ Some (Scheduled a)
+  pub not_acted : q.notes.acted ≡ false
+  pub growth : q.growth ≡ p.growth
+  pub not_handed_out : q.work.handed_out ≡ false
+  pub faultless : q.notes.fault ≡ None
+  pub keeps : IsTrue p.lawful → KeepsSame p q
+  pub comes : IsTrue p.lawful → WakeComes a p q
+
+-- an expand without a fault
+pub record Expands (g : Growth) (p q : BoxPicture) : Type 0 where
+  pub view : q.notes.view ≡ p.notes.view
+  pub fits : q.notes.fits ≡ p.notes.fits
+  pub answer : q.notes.answer ≡ p.notes.answer
+  pub acted : q.notes.acted ≡ true
+  pub growth : q.growth ≡ Some (growth_form g)
+  pub not_handed_out : q.work.handed_out ≡ false
+  pub faultless : q.notes.fault ≡ None
+  pub keeps : IsTrue p.lawful → KeepsSame p q
+
+-- ---- faults
+
+-- What is true of every box that keeps a fault. Want of memory is free.
+abbrev pub FaultHolds : Option WorkFault → BoxPicture → Type 0
+FaultHolds None p = ⊤
+FaultHolds (Some fault.Memory) p = ⊤
+FaultHolds (Some fault.Read) p = 0 < p.notes.faults
+FaultHolds (Some fault.Stalled) p = 1000000 ≤ p.notes.pendings
+FaultHolds (Some fault.TooLong) p = 1073741824 < p.notes.given
+FaultHolds (Some (fault.Bad place)) p = p.kind ≡ kind.Csv
+FaultHolds (Some (fault.BadList line)) p = p.kind ≡ kind.List
+
+-- the part or list file of a spec
+abbrev pub OfPart : Option Spec → (PartSpec → Type 0) → Type 0
+OfPart (Some (spec.Csv part)) P = P part
+OfPart (Some (spec.List list)) P = P list
+OfPart _ P = ⊥
+
+-- the file has more bytes than a part or list may have
+pub record IsLongFile (files : Files) (path : List ℕ) : Type 0 where
+  pub bytes : List ℕ
+  pub are : file_bytes files path ≡ Some bytes
+  pub long : 1073741824 < length bytes
+
+-- What is true besides of a lawful box that keeps a fault, by the files that its reader tells.
+abbrev pub FaultIsDue : Option WorkFault → BoxPicture → Type 0
+FaultIsDue None p = ⊤
+FaultIsDue (Some fault.Memory) p = ⊤
+FaultIsDue (Some fault.Read) p = ⊤
+FaultIsDue (Some fault.Stalled) p = p.notes.pendings ≡ 1000000
+FaultIsDue (Some fault.TooLong) p = OfPart p.spec (λ part. IfSome p.files (λ files. IsLongFile files part.path))
+FaultIsDue (Some (fault.Bad place)) p = OfPart p.spec (λ part. IfSome p.files (λ files. part_bad_place part.header part.types files part.path ≡ Some place))
+FaultIsDue (Some (fault.BadList line)) p = OfPart p.spec (λ part. IfSome p.files (λ files. bad_line_in (file_bytes files part.path) ≡ Some line))
+
+-- A read fault comes only in a call in which the reader's faults rose.
+abbrev pub FaultInCall : WorkFault → BoxPicture → BoxPicture → Type 0
+FaultInCall fault.Read p q = raised p.faults 1 ≤ q.faults
+FaultInCall _ p q = ⊤
+
+-- a call that answers a fault, which the box keeps until it is unloaded
+pub record Faults (f : WorkFault) (p q : BoxPicture) : Type 0 where
+  pub same : SameNotes p q
+  pub kept : q.notes.fault ≡ Some f
+  pub in_call : FaultInCall f p q
+  pub holds : FaultHolds (Some f) q
+  pub is_due : IsTrue p.lawful → FaultIsDue (Some f) q
+
+-- ---- handing out
+
+-- what `take_rows` gives: the chunks of a collector, and none of any other kind
+abbrev pub handed_out_by : Kind → WorkState → List Table
+handed_out_by kind.Collect w = w.gathered
+handed_out_by _ w = []
+
+-- what a lawful box keeps when it hands out its chunks; a box that has handed them out for good keeps nothing of them
+abbrev pub KeepsUnlessOut : BoxPicture → BoxPicture → Type 0
+KeepsUnlessOut p q = q.work.handed_out ≡ false → KeepsSame p q

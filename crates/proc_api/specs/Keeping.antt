@@ -1,0 +1,203 @@
+-- The processor contract: what a box keeps of the chunks that it pulled and pushed, by cases on its spec.
+use Rattle.std.specs.Prelude.{◌≡◌, ◌⊎◌, ℕ, ◌+◌, ◌<◌, ◌≤◌, ◌==◌, max, cond, drop, true, false, List, [], ◌++◌, length, map, filter, slice_index_or, Option, Some, None, ⊤}
+use Rattle.std.specs.List.{All}
+use Rattle.chunk_data.specs.Values.{Row, Table}
+use Rattle.chunk_data.specs.declared.typed_value.ColumnType.{ColumnType}
+use Rattle.query_model.specs.Expressions.{Cond, Expr, holds, type_of}
+use Rattle.query_model.specs.Answers.{item_row}
+use Rattle.query_model.specs.Typing.{IsItem, IsTypedCond}
+use Rattle.query_model.specs.Parts.{part_records, good_rows, bad_place}
+use Rattle.query_model.specs.Database.{Files, file_bytes}
+use Rattle.query_model.specs.declared.query.Span.{Span}
+use Rattle.query_model.specs.declared.processor_spec.PartSpec.{PartSpec}
+use Rattle.query_model.specs.declared.processor_spec.Spec.{Spec}
+use Rattle.query_model.specs.declared.processor_spec.Spec.TheVariants as spec
+use Rattle.port_word.specs.Pictures.{is_in_finished}
+use Rattle.proc_api.specs.Boxes.{BoxPicture, PortFlags, WorkState, idle_work, kept_input, kept_output, kept_inputs, kept_outputs}
+use Rattle.proc_api.specs.Histories.{Lists, chunk_rows, total_rows, last_count}
+use Rattle.proc_api.specs.Ports.{ArePortsOf}
+
+-- ---- rows, kind by kind
+
+-- the first chunks of a list are worked, and these aren't yet
+pub record AreLastPulled (unworked ins : List Table) : Type 0 where
+  pub worked : ℕ
+  pub are : unworked ≡ drop worked ins
+
+-- The rows of out, those that wait to be pushed, and what is made of the rows not yet worked, are what is made of the rows of in. Once it has
+-- itself finished its output, nothing waits and nothing is unworked.
+pub record KeepsThrough (make : List Row → List Row) (p : BoxPicture) (ins outs : Lists) : Type 0 where
+  pub rows : chunk_rows (outs 0) ++ (chunk_rows p.work.made ++ make (chunk_rows p.work.unworked)) ≡ make (chunk_rows (ins 0))
+  pub nothing_waits : (kept_output p 0).fin_out ≡ true → p.work.made ≡ []
+  pub all_worked : (kept_output p 0).fin_out ≡ true → p.work.unworked ≡ []
+  pub last : AreLastPulled p.work.unworked (ins 0)
+
+-- a filter gives the rows at which its condition is true
+abbrev pub KeepsFilter : Cond → BoxPicture → Lists → Lists → Type 0
+KeepsFilter c p ins outs = KeepsThrough (filter (holds c)) p ins outs
+
+-- an expression gives the row of its items' values for each row
+abbrev pub KeepsExpression : List Expr → BoxPicture → Lists → Lists → Type 0
+KeepsExpression items p ins outs = KeepsThrough (map (item_row items)) p ins outs
+
+-- what a collector hands out are the chunks that it pulled
+pub record KeepsCollect (p : BoxPicture) (ins : Lists) : Type 0 where
+  pub gathered : p.work.handed_out ≡ false → p.work.gathered ≡ ins 0
+  pub last : AreLastPulled p.work.unworked (ins 0)
+
+-- the bytes of a part: those of its file, where files are told, and else any
+abbrev pub ArePartBytes : Option Files → List ℕ → List ℕ → Type 0
+ArePartBytes None path bytes = ⊤
+ArePartBytes (Some files) path bytes = file_bytes files path ≡ Some bytes
+
+-- the rows of out, those that wait and those not yet made are the good rows of the part, and its bad place is known
+pub record KeepsPartRows (part : PartSpec) (p : BoxPicture) (out : List Row) : Type 0 where
+  pub bytes : List ℕ
+  pub are : ArePartBytes p.files part.path bytes
+  pub rows : out ++ (chunk_rows p.work.made ++ p.work.unmade) ≡ good_rows part.types (part_records part.header bytes)
+  pub bad : p.work.bad ≡ bad_place 1 part.types (part_records part.header bytes)
+
+-- no row was made so far
+pub record HasMadeNothing (p : BoxPicture) (out : List Row) : Type 0 where
+  pub nothing_out : out ≡ []
+  pub nothing_waits : p.work.made ≡ []
+  pub nothing_unmade : p.work.unmade ≡ []
+  pub nothing_bad : p.work.bad ≡ None
+
+-- all rows of a valid part were pushed
+pub record HasPushedPart (p : BoxPicture) : Type 0 where
+  pub fetched : p.work.fetched ≡ true
+  pub nothing_waits : p.work.made ≡ []
+  pub all_made : p.work.unmade ≡ []
+  pub valid : p.work.bad ≡ None
+
+-- A source gives the good rows of its part, those before its first bad place. Once it has itself finished its output they are all pushed, and the
+-- part is valid.
+pub record KeepsPart (part : PartSpec) (p : BoxPicture) (outs : Lists) : Type 0 where
+  pub before : p.work.fetched ≡ false → HasMadeNothing p (chunk_rows (outs 0))
+  pub fetched : p.work.fetched ≡ true → KeepsPartRows part p (chunk_rows (outs 0))
+  pub finished : (kept_output p 0).fin_out ≡ true → HasPushedPart p
+
+-- The rows that a box keeps. Nothing is asked yet of a kind that isn't named here.
+abbrev pub KeepsRows : Option Spec → BoxPicture → Lists → Lists → Type 0
+KeepsRows (Some (spec.Csv part)) p ins outs = KeepsPart part p outs
+KeepsRows (Some (spec.Filter c)) p ins outs = KeepsFilter c p ins outs
+KeepsRows (Some (spec.Expression items)) p ins outs = KeepsExpression items p ins outs
+KeepsRows (Some spec.Collect) p ins outs = KeepsCollect p ins
+KeepsRows _ p ins outs = ⊤
+
+-- ---- what fits
+
+-- Chunks of these types fit an input of the spec: they are the types that it gives, or type its condition, expressions and columns. A spec that
+-- isn't named here takes every chunk so far.
+abbrev pub FitsInput : Option Spec → ℕ → List ColumnType → Type 0
+FitsInput (Some (spec.Filter c)) i types = IsTypedCond types c
+FitsInput (Some (spec.Expression items)) i types = All (IsItem types) items
+FitsInput _ i types = ⊤
+
+-- each chunk that was pulled fits
+abbrev pub AllFit : Option Spec → Lists → Type 0
+AllFit s ins = (i : ℕ) → All (λ (t : Table). FitsInput s i t.types) (ins i)
+
+abbrev pub no_table : Table
+no_table = record { types = []; rows = [] }
+
+-- a chunk that was pulled
+pub record IsPulled (ins : Lists) (types : List ColumnType) : Type 0 where
+  pub input : ℕ
+  pub place : ℕ
+  pub in_range : place < length (ins input)
+  pub is : (slice_index_or (ins input) place no_table).types ≡ types
+
+-- a pulled chunk has types of which the items make these
+pub record IsMadeOfPulled (items : List Expr) (ins : Lists) (types : List ColumnType) : Type 0 where
+  pub from : List ColumnType
+  pub pulled : IsPulled ins from
+  pub is : types ≡ map (λ e. type_of e from) items
+
+-- Chunks of these types may be pushed: they are the types of the rows that the spec makes, or of a chunk that was pulled where rows are passed on
+-- as they are. Nothing is asked yet of a kind that isn't named here.
+abbrev pub MakesTypes : Option Spec → Lists → List ColumnType → Type 0
+MakesTypes (Some (spec.Csv part)) ins types = types ≡ part.types
+MakesTypes (Some (spec.Filter c)) ins types = IsPulled ins types
+MakesTypes (Some (spec.Expression items)) ins types = IsMadeOfPulled items ins types
+MakesTypes _ ins types = ⊤
+
+-- ---- the size of chunks
+
+-- the most rows of a chunk, where the spec states a number
+abbrev pub most_rows : Option Spec → Option ℕ
+most_rows (Some (spec.Csv part)) = Some part.rows
+most_rows (Some (spec.List list)) = Some list.rows
+most_rows (Some (spec.Numbers n rows)) = Some rows
+most_rows (Some (spec.PartialAggregate groups)) = Some groups.rows
+most_rows (Some (spec.MergeAggregate groups)) = Some groups.rows
+most_rows (Some (spec.HashJoin join)) = Some join.rows
+most_rows (Some (spec.Sort order)) = Some order.rows
+most_rows (Some (spec.MergeSorted order)) = Some order.rows
+most_rows _ = None
+
+-- 0 is read as 1
+abbrev pub IsAtMost : Option ℕ → ℕ → Type 0
+IsAtMost None n = ⊤
+IsAtMost (Some most) n = n ≤ max most 1
+
+-- a pushed chunk has a row, and no more than the spec states
+abbrev pub HasSize : Option Spec → Table → Type 0
+HasSize s t = (0 < length t.rows) × IsAtMost (most_rows s) (length t.rows)
+
+-- ---- ends of ports
+
+-- how many rows a limit must read, at least one
+abbrev pub enough : Span → ℕ
+enough span = cond (span.count == 0) 1 (span.skip + span.count)
+
+-- a limit that has read enough
+abbrev pub HasReadEnough : Option Spec → Lists → Type 0
+HasReadEnough (Some (spec.Limit span)) ins = enough span ≤ length (chunk_rows (ins 0))
+HasReadEnough _ ins = ⊥
+
+-- each input is finished or closed
+abbrev pub AllInputsFinished : BoxPicture → Type 0
+AllInputsFinished p = (i : ℕ) → i < kept_inputs p → is_in_finished (kept_input p i) ≡ true
+
+-- there is an output, and each was finished by its consumer
+pub record AllOutputsClosed (p : BoxPicture) : Type 0 where
+  pub some : 0 < kept_outputs p
+  pub closed : (o : ℕ) → o < kept_outputs p → (kept_output p o).fin_in ≡ true
+
+-- ---- the contract
+
+-- what a kind doesn't use of the state is idle
+abbrev pub IsWorkOf : Option Spec → WorkState → Type 0
+IsWorkOf (Some (spec.Csv part)) w = w ≡ record idle_work { made = w.made; unmade = w.unmade; opened = w.opened; fetched = w.fetched; bad = w.bad }
+IsWorkOf (Some (spec.Filter c)) w = w ≡ record idle_work { unworked = w.unworked; made = w.made }
+IsWorkOf (Some (spec.Expression items)) w = w ≡ record idle_work { unworked = w.unworked; made = w.made }
+IsWorkOf (Some spec.Collect) w = w ≡ record idle_work { unworked = w.unworked; gathered = w.gathered; handed_out = w.handed_out }
+IsWorkOf _ w = ⊤
+
+-- the kept view had the ports of the spec, as they were before or after its growth
+abbrev pub HadPorts : Option PortFlags → BoxPicture → Type 0
+HadPorts None p = ⊤
+HadPorts (Some ports) p = ArePortsOf p.spec None (length ports.inputs) (length ports.outputs) ⊎ ArePortsOf p.spec p.growth (length ports.inputs) (length ports.outputs)
+
+-- What a box keeps of the chunks that it pulled and pushed so far, as long as its views have the ports of its spec and growth. Which ports are
+-- finished or closed is as the flags say that it keeps of the view that its last `prepare` left.
+pub record Keeps (p : BoxPicture) (ins outs : Lists) : Type 0 where
+  pub ports : HadPorts p.notes.view p
+  pub idle : IsWorkOf p.spec p.work
+  -- what its kind keeps, as long as each chunk that was pulled fits
+  pub rows : AllFit p.spec ins → KeepsRows p.spec p ins outs
+  -- the types and sizes of the chunks that were pushed, and of those that are made
+  pub types : AllFit p.spec ins → (o : ℕ) → All (λ (t : Table). MakesTypes p.spec ins t.types) (outs o)
+  pub made_types : AllFit p.spec ins → All (λ (t : Table). MakesTypes p.spec ins t.types) p.work.made
+  pub sizes : (o : ℕ) → All (HasSize p.spec) (outs o)
+  pub made_sizes : All (HasSize p.spec) p.work.made
+  -- what is not worked yet was pulled
+  pub unworked : All (λ (t : Table). IsPulled ins t.types) p.work.unworked
+  -- the count of pulled rows rose by the rows of its inputs, or stands at its last value
+  pub counted : (p.notes.pulled ≡ total_rows 32 ins) ⊎ (p.pulled ≡ last_count)
+  -- an output that it finished by itself
+  pub finishes : (o : ℕ) → (kept_output p o).fin_out ≡ true → AllInputsFinished p ⊎ HasReadEnough p.spec ins
+  -- an input that it closed
+  pub closes : (i : ℕ) → (kept_input p i).fin_in ≡ true → AllOutputsClosed p ⊎ HasReadEnough p.spec ins

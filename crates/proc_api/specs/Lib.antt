@@ -1,0 +1,9 @@
+pub mod Settled
+pub mod Graphs
+pub mod Forms
+pub mod Boxes
+pub mod Histories
+pub mod Ports
+pub mod Keeping
+pub mod Clauses
+pub mod Racks

@@ -1,0 +1,113 @@
+-- The ports of a processor, by its spec and its growth, and the view that it may be prepared against.
+use Rattle.std.specs.Prelude.{◌≡◌, ℕ, ◌<◌, ◌≤◌, Bool, true, false, List, length, count_by, Option, Some, None, ⊤}
+use Rattle.query_model.specs.declared.processor_spec.Spec.{Spec}
+use Rattle.query_model.specs.declared.processor_spec.Spec.TheVariants as spec
+use Rattle.port_word.specs.declared.flags.Flags.{Flags}
+use Rattle.port_word.specs.Pictures.{Picture, input_at, output_at, in_count, out_count, holds_data, is_out_finished}
+use Rattle.port_word.specs.Differences.{ChangedByCalls}
+use Rattle.proc_api.specs.declared.growth.Who.{Who}
+use Rattle.proc_api.specs.declared.growth.Who.TheVariants.{Me, New}
+use Rattle.proc_api.specs.declared.growth.Edge.{Edge}
+use Rattle.proc_api.specs.Forms.{GrowthForm}
+use Rattle.proc_api.specs.Histories.{pushes_to}
+use Rattle.proc_api.specs.Boxes.{BoxPicture, PortFlags, kept_input, kept_output, kept_inputs, kept_outputs}
+
+abbrev pub is_me : Who → Bool
+is_me Me = true
+is_me (New n) = false
+
+-- the inputs that a growth adds to the processor that grows
+abbrev pub grown_inputs : Option GrowthForm → ℕ
+grown_inputs None = 0
+grown_inputs (Some g) = count_by (λ (e : Edge). is_me e.to.who) g.edges
+
+abbrev pub AreCounts : (inputs outputs m n : ℕ) → Type 0
+AreCounts inputs outputs m n = (inputs ≡ m) × (outputs ≡ n)
+
+-- So many inputs and outputs are the ports of the spec and the growth. Where the spec fixes no number, any will do; a Resize has an output.
+abbrev pub ArePortsOf : Option Spec → Option GrowthForm → (inputs outputs : ℕ) → Type 0
+ArePortsOf None growth inputs outputs = ⊥
+ArePortsOf (Some (spec.Csv part)) growth inputs outputs = AreCounts inputs outputs 0 1
+ArePortsOf (Some (spec.List list)) growth inputs outputs = AreCounts inputs outputs (grown_inputs growth) 1
+ArePortsOf (Some (spec.Numbers n rows)) growth inputs outputs = AreCounts inputs outputs 0 1
+ArePortsOf (Some (spec.Filter c)) growth inputs outputs = AreCounts inputs outputs 1 1
+ArePortsOf (Some (spec.Expression items)) growth inputs outputs = AreCounts inputs outputs 1 1
+ArePortsOf (Some spec.Resize) growth inputs outputs = 0 < outputs
+ArePortsOf (Some (spec.PartialAggregate groups)) growth inputs outputs = AreCounts inputs outputs 1 1
+ArePortsOf (Some (spec.MergeAggregate groups)) growth inputs outputs = outputs ≡ 1
+ArePortsOf (Some (spec.HashJoin join)) growth inputs outputs = AreCounts inputs outputs 2 1
+ArePortsOf (Some (spec.Sort order)) growth inputs outputs = AreCounts inputs outputs 1 1
+ArePortsOf (Some (spec.MergeSorted order)) growth inputs outputs = outputs ≡ 1
+ArePortsOf (Some (spec.Limit span)) growth inputs outputs = AreCounts inputs outputs 1 1
+ArePortsOf (Some spec.Collect) growth inputs outputs = AreCounts inputs outputs 1 0
+
+-- the view has the ports of the processor's spec and growth
+abbrev pub HasPorts : BoxPicture → Picture → Type 0
+HasPorts p v = ArePortsOf p.spec p.growth (in_count v) (out_count v)
+
+-- as many ports as the last view had
+abbrev pub AreAsKept : Option PortFlags → (inputs outputs : ℕ) → Type 0
+AreAsKept None inputs outputs = ⊤
+AreAsKept (Some ports) inputs outputs = AreCounts inputs outputs (length ports.inputs) (length ports.outputs)
+
+-- where the spec fixes no number of ports, it is that of the last view
+abbrev pub StandStill : Option Spec → Option PortFlags → (inputs outputs : ℕ) → Type 0
+StandStill (Some spec.Resize) kept inputs outputs = AreAsKept kept inputs outputs
+StandStill (Some (spec.MergeAggregate groups)) kept inputs outputs = AreAsKept kept inputs outputs
+StandStill (Some (spec.MergeSorted order)) kept inputs outputs = AreAsKept kept inputs outputs
+StandStill _ kept inputs outputs = ⊤
+
+-- every view so far had the ports of the processor's spec and growth, and so has this one
+pub record StaysFit (p : BoxPicture) (v : Picture) : Type 0 where
+  pub fits : p.notes.fits ≡ true
+  pub ports : HasPorts p v
+  pub still : StandStill p.spec p.notes.view (in_count v) (out_count v)
+
+-- An input as it may be seen after it had these flags: the node's own bits stay, a finished flag stays, and a chunk stays until it is pulled.
+pub record InputFollows (kept seen : Flags) : Type 0 where
+  pub needed : seen.needed ≡ kept.needed
+  pub fin_in : seen.fin_in ≡ kept.fin_in
+  pub fin_out : kept.fin_out ≡ true → seen.fin_out ≡ true
+  pub stays_empty : kept.fin_out ≡ true → kept.has_data ≡ false → seen.has_data ≡ false
+  pub stays_full : holds_data kept ≡ true → seen.has_data ≡ true
+
+-- an output as it may be seen after it had these flags
+pub record OutputFollows (kept seen : Flags) : Type 0 where
+  pub fin_out : seen.fin_out ≡ kept.fin_out
+  pub fin_in : kept.fin_in ≡ true → seen.fin_in ≡ true
+
+-- The view is the one that the last `prepare` left, but for what its actions' carrying out, `see` and `grow` changed; before the first
+-- `prepare` it is a new one. A port that was added since is as a new one.
+pub record FollowsKept (p : BoxPicture) (v : Picture) : Type 0 where
+  pub inputs_stay : kept_inputs p ≤ in_count v
+  pub outputs_stay : kept_outputs p ≤ out_count v
+  pub inputs : (i : ℕ) → i < in_count v → InputFollows (kept_input p i) (input_at v i).flags
+  pub outputs : (o : ℕ) → o < out_count v → OutputFollows (kept_output p o) (output_at v o)
+
+-- each input is closed, and each output is finished
+pub record IsShut (w : Picture) : Type 0 where
+  pub inputs : (i : ℕ) → i < in_count w → (input_at w i).flags.fin_in ≡ true
+  pub outputs : (o : ℕ) → o < out_count w → is_out_finished (output_at w o) ≡ true
+
+-- no chunk was pulled and none was pushed
+pub record SameChunks (v w : Picture) : Type 0 where
+  pub inputs : (i : ℕ) → (input_at w i).chunk ≡ (input_at v i).chunk
+  pub outputs : (o : ℕ) → pushes_to o w.actions ≡ pushes_to o v.actions
+
+-- the first n inputs were closed, and nothing else changed but actions
+pub record ClosesFront (n : ℕ) (v w : Picture) : Type 0 where
+  pub changed : ChangedByCalls v w
+  pub ins : in_count w ≡ in_count v
+  pub outs : out_count w ≡ out_count v
+  pub closed : (i : ℕ) → i < n → (input_at w i).flags.fin_in ≡ true
+  pub outputs : (o : ℕ) → output_at w o ≡ output_at v o
+  pub chunks : SameChunks v w
+
+-- the first n outputs were finished, and nothing else changed but actions
+pub record FinishesFront (n : ℕ) (v w : Picture) : Type 0 where
+  pub changed : ChangedByCalls v w
+  pub ins : in_count w ≡ in_count v
+  pub outs : out_count w ≡ out_count v
+  pub finished : (o : ℕ) → o < n → is_out_finished (output_at w o) ≡ true
+  pub inputs : (i : ℕ) → input_at w i ≡ input_at v i
+  pub chunks : SameChunks v w

@@ -1,0 +1,32 @@
+ghost use Rattle.std.specs.Prelude.{◌≡◌, ℕ, ◌<◌, true};
+ghost use Rattle.port_word.specs.Pictures.{in_count, out_count};
+ghost use Rattle.port_word.specs.Differences.{ChangedByCalls};
+ghost use Rattle.proc_api.specs.Ports.{ClosesFront, FinishesFront, IsShut, SameChunks};
+
+use port_word::PortView;
+
+/// Closes each input and finishes each output, as a processor does over a view that hasn't its ports.
+pub fn shut_down(view: &mut PortView)
+    ensures changed { ChangedByCalls view.old view.new }
+    ensures shut { IsShut view.new }
+    ensures chunks { SameChunks view.old view.new }
+{
+    close_all(view);
+    finish_all(view);
+}
+
+fn close_all(view: &mut PortView)
+    ensures { ClosesFront (in_count view.old) view.old view.new }
+{
+    for i in 0..view.inputs() {
+        view.close(i);
+    }
+}
+
+fn finish_all(view: &mut PortView)
+    ensures { FinishesFront (out_count view.old) view.old view.new }
+{
+    for o in 0..view.outputs() {
+        view.finish(o);
+    }
+}
