@@ -1,0 +1,5 @@
+pub mod Edges
+pub mod Pushing
+pub mod Plans
+pub mod Ended
+pub mod Flows
