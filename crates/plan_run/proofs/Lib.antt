@@ -1,0 +1,4 @@
+pub mod Chains
+pub mod Taking
+pub mod Loading
+pub mod Telling

@@ -1,0 +1,213 @@
+-- What a run of a plan tells, from the steps that it is made of.
+use Rattle.std.proofs.Common.{◌≡◌, ◌⊎◌, ℕ, ◌+◌, ◌<◌, ◌≤◌, true, List, [], ◌++◌, map, length, Some, None, Result, Ok, Err, IfOk, IfErr, refl, ap, subst, ◌∙◌, sym, arith}
+use Rattle.std.specs.List.{All}
+use Rattle.std.proofs.lemmas.Bool.{both_ways}
+use Rattle.std.proofs.lemmas.List.{append-nil, get_or-map, length-map, ext_get_or}
+use Rattle.std.proofs.lemmas.List.Elements.{All-append}
+use Rattle.chunk_data.specs.Values.{Table}
+use Rattle.query_model.specs.Kinds.{kind_of}
+use Rattle.query_model.specs.declared.processor_spec.Kind.{Kind}
+use Rattle.query_model.specs.declared.processor_spec.Spec.{Spec}
+use Rattle.query_model.specs.declared.processor_spec.Spec.TheVariants as spec
+use Rattle.proc_api.specs.Boxes.{BoxPicture, Notes, no_box, no_notes}
+use Rattle.proc_api.specs.Clauses.{IsBlank, IsSourceKind, HasNoReader, Loads, Unloads}
+use Rattle.proc_api.specs.Histories.{raised}
+use Rattle.exec_laws.specs.Runs.{box_at}
+use Rattle.exec_laws.specs.Moves.{StaysBox}
+use Rattle.exec_laws.specs.Ends.{GivenBack}
+use Rattle.plan_run.specs.declared.run.PlanFault.{PlanFault}
+use Rattle.plan_run.specs.declared.run.PlanFault.TheVariants as end
+use Rattle.plan_run.specs.Stock.{taken_for, left_after, HasStock}
+use Rattle.plan_run.specs.Plans.{kinds_of, spec_at, specs_of, taken_at, PlanFaultHolds, GivesBack, GivesRows, HasUnlawful, IsBlankAgain, RanWith, ReadsByKind, RunsPlan}
+use Rattle.plan_run.specs.Steps.{AreLater, AreStill, GivesUnloaded, IsLater, IsStill, LoadsFirst, RunsLoaded, RunsTaken}
+use Rattle.plan_run.proofs.Loading.{all-at, at-all}
+use Rattle.plan_run.proofs.Taking.{left-all, taken-all, taken-length}
+
+-- ---- one box
+
+le-of : (a b : ℕ) → b ≡ a → a ≤ b
+le-of a b e = omega (arith, e)
+
+pub still-later : (p q : BoxPicture) → IsStill p q → IsLater p q
+still-later p q s = record {
+  kind = s.kind;
+  lawful = s.lawful;
+  files = s.files;
+  faults = le-of p.faults q.faults s.counts.faults;
+  pendings = le-of p.pendings q.pendings s.counts.pendings;
+  pulled = le-of p.pulled q.pulled s.counts.pulled;
+}
+
+stays-later : (p q : BoxPicture) → StaysBox p q → IsLater p q
+stays-later p q s = record { kind = s.same.kind; lawful = s.same.lawful; files = s.same.files; faults = s.counts.faults; pendings = s.counts.pendings; pulled = s.pulled.count }
+
+le-trans : (a b c : ℕ) → a ≤ b → b ≤ c → a ≤ c
+le-trans a b c x y = omega (arith, x, y)
+
+later-later : (p q r : BoxPicture) → IsLater p q → IsLater q r → IsLater p r
+later-later p q r a b = record {
+  kind = b.kind ∙ a.kind;
+  lawful = b.lawful ∙ a.lawful;
+  files = b.files ∙ a.files;
+  faults = le-trans p.faults q.faults r.faults a.faults b.faults;
+  pendings = le-trans p.pendings q.pendings r.pendings a.pendings b.pendings;
+  pulled = le-trans p.pulled q.pulled r.pulled a.pulled b.pulled;
+}
+
+-- a count that is at most the last one, before it rose by nothing
+from-none : (count k : ℕ) → k ≡ 0 → raised count k ≤ count
+from-none count k e = subst (λ n. raised count n ≤ count) (sym e) (omega arith)
+
+pub ran-box : (s : Spec) (p m q : BoxPicture) → Loads p s m → StaysBox m q → RanWith s p q
+ran-box s p m q l t =
+    let notes : m.notes ≡ no_notes = l.fresh.notes in
+    let no_pulled : m.notes.pulled ≡ 0 = ap (λ (n : Notes). n.pulled) notes in
+    let since : q.pulled + m.notes.pulled ≡ m.pulled + q.notes.pulled = t.pulled.since in
+    let pulled : m.pulled ≡ p.pulled = l.counts.pulled in
+    record {
+      kind = t.same.kind ∙ l.kind;
+      lawful = t.same.lawful ∙ l.lawful;
+      files = t.same.files ∙ l.files;
+      of_kind = l.of_kind;
+      spec = t.same.spec ∙ l.spec;
+      faults = subst (λ n. n ≤ q.faults) l.counts.faults t.counts.faults;
+      pendings = subst (λ n. n ≤ q.pendings) l.counts.pendings t.counts.pendings;
+      faults_since = t.counts.faults_since p.faults (subst (λ n. raised p.faults m.notes.faults ≤ n) (sym l.counts.faults) (from-none p.faults m.notes.faults (ap (λ (n : Notes). n.faults) notes)));
+      pendings_since = t.counts.pendings_since p.pendings (subst (λ n. raised p.pendings m.notes.pendings ≤ n) (sym l.counts.pendings) (from-none p.pendings m.notes.pendings (ap (λ (n : Notes). n.pendings) notes)));
+      pulled = omega (arith, no_pulled, since, pulled);
+    }
+
+unloads-after : (p q r : BoxPicture) → IsStill p q → Unloads q r → Unloads p r
+unloads-after p q r s u = record {
+  kind = u.kind ∙ s.kind;
+  lawful = u.lawful ∙ s.lawful;
+  files = u.files ∙ s.files;
+  blank = u.blank;
+  notes = u.notes;
+  ungrown = u.ungrown;
+  counts = record { faults = u.counts.faults ∙ s.counts.faults; pendings = u.counts.pendings ∙ s.counts.pendings; pulled = u.counts.pulled ∙ s.counts.pulled };
+}
+
+again-after : (p q r : BoxPicture) → IsLater p q → Unloads q r → IsBlankAgain p r
+again-after p q r l u =
+    let s = later-later p q r l (record {
+      kind = u.kind;
+      lawful = u.lawful;
+      files = u.files;
+      faults = le-of q.faults r.faults u.counts.faults;
+      pendings = le-of q.pendings r.pendings u.counts.pendings;
+      pulled = le-of q.pulled r.pulled u.counts.pulled;
+    }) in
+    record { kind = s.kind; lawful = s.lawful; files = s.files; blank = u.blank; faults = s.faults; pendings = s.pendings; pulled = s.pulled }
+
+-- ---- lists of boxes
+
+pub still-all-later : (before after : List BoxPicture) → AreStill before after → AreLater before after
+still-all-later before after s = record { count = s.count; each = λ n lt. still-later (box_at before n) (box_at after n) (s.each n lt) }
+
+pub still-then-later : (before mid after : List BoxPicture) → AreStill before mid → AreLater mid after → AreLater before after
+still-then-later before mid after s l = record {
+  count = l.count ∙ s.count;
+  each = λ n lt. later-later (box_at before n) (box_at mid n) (box_at after n) (still-later (box_at before n) (box_at mid n) (s.each n lt)) (l.each n (subst (λ k. n < k) (sym s.count) lt));
+}
+
+pub run-later : (loaded ended after : List BoxPicture) → GivenBack loaded ended → AreStill ended after → AreLater loaded after
+run-later loaded ended after g s = record {
+  count = s.count ∙ g.count;
+  each = λ n lt. later-later (box_at loaded n) (box_at ended n) (box_at after n) (stays-later (box_at loaded n) (box_at ended n) (g.each n lt)) (still-later (box_at ended n) (box_at after n) (s.each n (subst (λ k. n < k) (sym g.count) lt)));
+}
+
+-- ---- what each step makes of the boxes that a run left
+
+pub taken-runs : (specs : List Spec) (taken loaded after ended : List BoxPicture) → length taken ≡ length specs → LoadsFirst (length specs) specs taken loaded → RunsLoaded loaded after ended → RunsTaken specs taken after ended
+taken-runs specs taken loaded after ended len f r =
+    let loaded_len : length loaded ≡ length specs = f.count ∙ len in
+    record {
+      count = r.back.count ∙ loaded_len;
+      ran = λ n lt. ran-box (spec_at specs n) (box_at taken n) (box_at loaded n) (box_at ended n) (f.loaded n lt) (r.back.each n (subst (λ k. n < k) (sym loaded_len) lt));
+      still = r.still;
+    }
+
+loaded-specs : (specs : List Spec) (ended : List BoxPicture) → length ended ≡ length specs → ((n : ℕ) → n < length specs → (box_at ended n).spec ≡ Some (spec_at specs n)) → specs_of ended ≡ map Some specs
+unfolding box_at spec_at
+loaded-specs specs ended len each =
+    let ended_len : length (specs_of ended) ≡ length ended = length-map ended (λ (p : BoxPicture). p.spec) in
+    let specs_len : length (map Some specs) ≡ length specs = length-map specs Some in
+    ext_get_or None (specs_of ended) (map Some specs) (ended_len ∙ len ∙ sym specs_len) (λ n lt.
+    let in_ended : n < length ended = subst (λ k. n < k) ended_len lt in
+    let in_specs : n < length specs = subst (λ k. n < k) len in_ended in
+    get_or-map (λ (p : BoxPicture). p.spec) ended n no_box None in_ended ∙ each n in_specs ∙ sym (get_or-map Some specs n spec.Collect None in_specs))
+
+pub plan-runs : (specs : List Spec) (before taken left rack after ended : List BoxPicture) → taken ≡ taken_for (kinds_of specs) before → left ≡ left_after (kinds_of specs) before → GivesUnloaded after left rack → RunsTaken specs taken after ended
+    → RunsPlan specs before rack ended
+plan-runs specs before taken left rack after ended t l g h =
+    let r : RunsTaken specs (taken_for (kinds_of specs) before) after ended = subst (λ boxes. RunsTaken specs boxes after ended) t h in
+    let after_len : length after ≡ length specs = r.still.count ∙ r.count in
+    record {
+      count = r.count;
+      loaded = loaded-specs specs ended r.count (λ n lt. (r.ran n lt).spec);
+      ran = r.ran;
+      given = g.given;
+      rack = g.rack ∙ ap (λ l. l ++ g.given) l;
+      given_count = g.unloaded.count ∙ after_len;
+      unloaded = λ n lt. unloads-after (box_at ended n) (box_at after n) (box_at g.given n) (r.still.each n (subst (λ k. n < k) (sym r.count) lt)) (g.unloaded.unloaded n (subst (λ k. n < k) (sym after_len) lt));
+    }
+
+pub plan-gives-back : (kinds : List Kind) (before taken left rack after : List BoxPicture) → taken ≡ taken_for kinds before → left ≡ left_after kinds before → GivesUnloaded after left rack → AreLater taken after → GivesBack kinds before rack
+plan-gives-back kinds before taken left rack after t l g h =
+    let later : AreLater (taken_for kinds before) after = subst (λ boxes. AreLater boxes after) t h in
+    let taken_len : length (taken_for kinds before) ≡ length kinds = taken-length kinds before in
+    let after_len : length after ≡ length kinds = later.count ∙ taken_len in
+    record {
+      given = g.given;
+      rack = g.rack ∙ ap (λ l. l ++ g.given) l;
+      count = g.unloaded.count ∙ after_len;
+      each = λ n lt. again-after (taken_at kinds before n) (box_at after n) (box_at g.given n) (later.each n (subst (λ k. n < k) (sym taken_len) lt)) (g.unloaded.unloaded n (subst (λ k. n < k) (sym after_len) lt));
+    }
+
+pub back-blank : (kinds : List Kind) (before after : List BoxPicture) → All IsBlank before → GivesBack kinds before after → All IsBlank after
+back-blank kinds before after blank g =
+    subst (All IsBlank) (sym g.rack) (All-append IsBlank (left_after kinds before) g.given (left-all IsBlank kinds before blank)
+    (all-at IsBlank g.given (λ n lt. (g.each n (subst (λ k. n < k) g.count lt)).blank)))
+
+-- where nothing is taken
+pub none-taken : (boxes : List BoxPicture) → GivesBack [] boxes boxes
+none-taken boxes = record { given = []; rack = sym (append-nil boxes); count = refl; each = λ n lt. absurd (omega (arith, lt)) }
+
+-- of lawful boxes none is told to be unlawful
+pub lawful-not-stuck : (specs : List Spec) (before after : List BoxPicture) (k : Kind) → HasStock (kinds_of specs) before → All (λ (p : BoxPicture). p.lawful ≡ true) before → HasUnlawful (RunsPlan specs before after) k → ⊥
+lawful-not-stuck specs before after k stock lawful h =
+    let in_specs : h.node < length specs = subst (λ n. h.node < n) h.runs.count h.in_range in
+    let in_taken : h.node < length (taken_for (kinds_of specs) before) = subst (λ n. h.node < n) (sym (taken-length (kinds_of specs) before ∙ length-map specs kind_of)) in_specs in
+    let taken : (taken_at (kinds_of specs) before h.node).lawful ≡ true = at-all (λ (p : BoxPicture). p.lawful ≡ true) (taken_for (kinds_of specs) before) h.node in_taken (taken-all (λ (p : BoxPicture). p.lawful ≡ true) (kinds_of specs) before stock lawful) in
+    both_ways (box_at h.ended h.node).lawful h.unlawful ((h.runs.ran h.node in_specs).lawful ∙ taken)
+
+-- ---- the ends
+
+-- what a call of `kind` says of a box's reader
+pub reads-at : (at p : BoxPicture) (k : Kind) → at ≡ p → k ≡ p.kind → IsSourceKind k ⊎ HasNoReader p → ReadsByKind at
+reads-at at p k same is h = subst ReadsByKind (sym same) (subst (λ j. IsSourceKind j ⊎ HasNoReader p) is h)
+
+pub rows-by : (R S : List BoxPicture → Type 0) (nodes : ℕ) (chunks : List Table) → ((ended : List BoxPicture) → R ended → S ended) → GivesRows R nodes chunks → GivesRows S nodes chunks
+rows-by R S nodes chunks by r = record { ended = r.ended; runs = by r.ended r.runs; done = r.done; rows = r.rows }
+
+pub fault-by : (R S : List BoxPicture → Type 0) (f : PlanFault) → ((ended : List BoxPicture) → R ended → S ended) → PlanFaultHolds f R → PlanFaultHolds f S
+fault-by R S (end.Fault node f) by h = record { ended = h.ended; runs = by h.ended h.runs; fault = h.fault; reader = h.reader }
+fault-by R S (end.Stuck k) by h = record { ended = h.ended; runs = by h.ended h.runs; node = h.node; in_range = h.in_range; of_kind = h.of_kind; unlawful = h.unlawful }
+fault-by R S end.Memory by h = h
+
+pub if-ok : {A E : Type 0} (r : Result A E) (P Q : A → Type 0) → ((x : A) → P x → Q x) → IfOk r P → IfOk r Q
+if-ok (Ok x) P Q by h = by x h
+if-ok (Err e) P Q by h = h
+
+pub if-err : {A E : Type 0} (r : Result A E) (P Q : E → Type 0) → ((e : E) → P e → Q e) → IfErr r P → IfErr r Q
+if-err (Ok x) P Q by h = h
+if-err (Err e) P Q by h = by e h
+
+-- the rows of loaded boxes are those of the boxes as they were taken
+pub taken-rows : {V E : Type 0} (specs : List Spec) (taken loaded after : List BoxPicture) (nodes : ℕ) (r : Result V E) (chunks : V → List Table) → length taken ≡ length specs → length loaded ≡ nodes → LoadsFirst (length specs) specs taken loaded
+    → IfOk r (λ v. GivesRows (RunsLoaded loaded after) nodes (chunks v)) → IfOk r (λ v. GivesRows (RunsTaken specs taken after) (length specs) (chunks v))
+taken-rows specs taken loaded after nodes r chunks len nodes_are f h =
+    let same : nodes ≡ length specs = sym nodes_are ∙ f.count ∙ len in
+    if-ok r (λ v. GivesRows (RunsLoaded loaded after) nodes (chunks v)) (λ v. GivesRows (RunsTaken specs taken after) (length specs) (chunks v))
+    (λ v k. rows-by (RunsLoaded loaded after) (RunsTaken specs taken after) (length specs) (chunks v) (λ ended. taken-runs specs taken loaded after ended len f) (subst (λ n. GivesRows (RunsLoaded loaded after) n (chunks v)) same k)) h

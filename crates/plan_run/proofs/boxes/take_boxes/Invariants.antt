@@ -1,0 +1,15 @@
+use Rattle.std.proofs.Common.{◌≡◌, ◌+◌, ◌≤◌, length, map, take, vec_capacity}
+use Rattle.plan_run.specs.Plans.{kinds_of}
+use Rattle.plan_run.specs.Stock.{taken_for, left_after}
+use Rattle.plan_run.proofs.boxes.take_boxes.Given as goal
+
+abbrev pub invariant-loop-i : goal.invariant-loop-i
+invariant-loop-i g l =
+    record {
+      taken : map (λ b. (goal.Processor-dyn g (b.vtable, b.value)).seen b.value) l.boxes.items ≡ taken_for (take l.i (kinds_of l.specs.items)) (map (λ b. (goal.Processor-dyn g (b.vtable, b.value)).seen b.value) l.initial.rack.boxes.items);
+      left : map (λ b. (goal.Processor-dyn g (b.vtable, b.value)).seen b.value) l.rack.boxes.items ≡ left_after (take l.i (kinds_of l.specs.items)) (map (λ b. (goal.Processor-dyn g (b.vtable, b.value)).seen b.value) l.initial.rack.boxes.items);
+      count : length l.boxes.items ≡ l.i;
+      rest : length l.rack.boxes.items + l.i ≡ length l.initial.rack.boxes.items;
+      room : vec_capacity l.initial.boxes ≤ vec_capacity l.boxes;
+      rack_room : vec_capacity l.initial.rack.boxes ≤ vec_capacity l.rack.boxes;
+    }

@@ -1,0 +1,4 @@
+pub mod Chains
+pub mod Stock
+pub mod Plans
+pub mod Steps

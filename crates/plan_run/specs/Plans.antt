@@ -1,0 +1,117 @@
+-- What a run of a plan tells: how it ended, of which boxes, and what the rack has afterwards.
+use Rattle.std.specs.Prelude.{◌≡◌, ◌⊎◌, ℕ, ◌+◌, ◌-◌, ◌<◌, ◌≤◌, ◌++◌, false, List, length, map, slice_index_or, Option, Some, ⊤}
+use Rattle.chunk_data.specs.Values.{Table}
+use Rattle.query_model.specs.Kinds.{kind_of}
+use Rattle.query_model.specs.declared.processor_spec.Kind.{Kind}
+use Rattle.query_model.specs.declared.processor_spec.Spec.{Spec}
+use Rattle.query_model.specs.declared.processor_spec.Spec.TheVariants as spec
+use Rattle.proc_api.specs.declared.status.WorkFault.{WorkFault}
+use Rattle.proc_api.specs.Boxes.{BoxPicture}
+use Rattle.proc_api.specs.Clauses.{IsBlank, IsSourceKind, HasNoReader, Unloads, handed_out_by}
+use Rattle.proc_api.specs.Histories.{raised}
+use Rattle.exec_laws.specs.Runs.{box_at}
+use Rattle.exec_laws.specs.Ends.{IsDone, IsFault}
+use Rattle.plan_run.specs.Chains.{chain_wires}
+use Rattle.plan_run.specs.Stock.{taken_for, left_after}
+use Rattle.plan_run.specs.declared.run.PlanFault.{PlanFault}
+use Rattle.plan_run.specs.declared.run.PlanFault.TheVariants as end
+
+unfoldable pub spec_at : List Spec → ℕ → Spec
+spec_at specs n = slice_index_or specs n spec.Collect
+
+abbrev pub kinds_of : List Spec → List Kind
+kinds_of specs = map kind_of specs
+
+-- the kinds of boxes, and their specs
+abbrev pub kinds_in : List BoxPicture → List Kind
+kinds_in boxes = map (λ (p : BoxPicture). p.kind) boxes
+
+abbrev pub specs_of : List BoxPicture → List (Option Spec)
+specs_of boxes = map (λ (p : BoxPicture). p.spec) boxes
+
+-- ---- the boxes
+
+-- A blank box that was loaded with the spec and run, as the run left it: the same box, whose counts since then are what they rose.
+pub record RanWith (s : Spec) (p q : BoxPicture) : Type 0 where
+  pub kind : q.kind ≡ p.kind
+  pub lawful : q.lawful ≡ p.lawful
+  pub files : q.files ≡ p.files
+  pub of_kind : kind_of s ≡ p.kind
+  pub spec : q.spec ≡ Some s
+  pub faults : p.faults ≤ q.faults
+  pub pendings : p.pendings ≤ q.pendings
+  pub faults_since : raised p.faults q.notes.faults ≤ q.faults
+  pub pendings_since : raised p.pendings q.notes.pendings ≤ q.pendings
+  pub pulled : q.pulled ≡ p.pulled + q.notes.pulled
+
+-- a box of a rack that was taken and given back: the same box, blank again, none of whose counts has fallen
+pub record IsBlankAgain (p q : BoxPicture) : Type 0 where
+  pub kind : q.kind ≡ p.kind
+  pub lawful : q.lawful ≡ p.lawful
+  pub files : q.files ≡ p.files
+  pub blank : IsBlank q
+  pub faults : p.faults ≤ q.faults
+  pub pendings : p.pendings ≤ q.pendings
+  pub pulled : p.pulled ≤ q.pulled
+
+-- ---- the rack
+
+-- the nth box that is taken
+abbrev pub taken_at : List Kind → List BoxPicture → ℕ → BoxPicture
+taken_at kinds before n = box_at (taken_for kinds before) n
+
+-- The first box of each kind in turn was taken from the rack. It has the boxes that weren't taken, in their order, and then the taken ones in
+-- the order in which they were taken.
+pub record GivesBack (kinds : List Kind) (before after : List BoxPicture) : Type 0 where
+  pub given : List BoxPicture
+  pub rack : after ≡ left_after kinds before ++ given
+  pub count : length given ≡ length kinds
+  pub each : (n : ℕ) → n < length kinds → IsBlankAgain (taken_at kinds before n) (box_at given n)
+
+-- all boxes were taken and given back, or none was touched
+abbrev pub LeavesRack : List Kind → List BoxPicture → List BoxPicture → Type 0
+LeavesRack kinds before after = GivesBack kinds before after ⊎ (after ≡ before)
+
+-- The boxes that were taken for the specs, as the run left them, and as they were given back.
+pub record RunsPlan (specs : List Spec) (before after ended : List BoxPicture) : Type 0 where
+  pub count : length ended ≡ length specs
+  pub loaded : specs_of ended ≡ map Some specs
+  pub ran : (n : ℕ) → n < length specs → RanWith (spec_at specs n) (taken_at (kinds_of specs) before n) (box_at ended n)
+  pub given : List BoxPicture
+  pub rack : after ≡ left_after (kinds_of specs) before ++ given
+  pub given_count : length given ≡ length specs
+  pub unloaded : (n : ℕ) → n < length specs → Unloads (box_at ended n) (box_at given n)
+
+-- ---- the ends, where R says which lists of boxes a run may have left
+
+-- each node of the chain is over, and the last one handed out these chunks
+pub record GivesRows (R : List BoxPicture → Type 0) (nodes : ℕ) (chunks : List Table) : Type 0 where
+  pub ended : List BoxPicture
+  pub runs : R ended
+  pub done : IsDone (chain_wires nodes) ended
+  pub rows : chunks ≡ handed_out_by (box_at ended (nodes - 1)).kind (box_at ended (nodes - 1)).work
+
+-- a box of a kind that reads no file has no reader
+abbrev pub ReadsByKind : BoxPicture → Type 0
+ReadsByKind p = IsSourceKind p.kind ⊎ HasNoReader p
+
+-- the box of the node keeps this fault
+pub record FailsWith (R : List BoxPicture → Type 0) (node : ℕ) (f : WorkFault) : Type 0 where
+  pub ended : List BoxPicture
+  pub runs : R ended
+  pub fault : IsFault ended node f
+  pub reader : ReadsByKind (box_at ended node)
+
+-- a box of the kind isn't lawful
+pub record HasUnlawful (R : List BoxPicture → Type 0) (k : Kind) : Type 0 where
+  pub ended : List BoxPicture
+  pub runs : R ended
+  pub node : ℕ
+  pub in_range : node < length ended
+  pub of_kind : (box_at ended node).kind ≡ k
+  pub unlawful : (box_at ended node).lawful ≡ false
+
+abbrev pub PlanFaultHolds : PlanFault → (List BoxPicture → Type 0) → Type 0
+PlanFaultHolds (end.Fault node f) R = FailsWith R node f
+PlanFaultHolds (end.Stuck k) R = HasUnlawful R k
+PlanFaultHolds end.Memory R = ⊤
