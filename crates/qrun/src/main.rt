@@ -1,11 +1,16 @@
 //! `qrun` runs a SELECT query over CSV files and writes the answer's rows as CSV.
 #![tactic(auto)]
 
+mod racks;
 #[cfg(test)]
 mod tests;
 
+use crate::racks::unload_rack;
 use chunk_data::Memory;
-use outside_io::{RealFiles, RealSink};
+use csv_procs::CsvSource;
+use flow_procs::{Collect, Expression, Filter};
+use outside_io::{RealFiles, RealSink, Sink};
+use proc_api::Rack;
 use query_run::run;
 use std::env;
 use std::io::ErrorKind;
@@ -14,14 +19,26 @@ use std::process::ExitCode;
 /// The exit status where memory ran out.
 const OUT_OF_MEMORY: u8 = 7;
 
+/// The standard rack: how many sources, filters and expressions lie in it, beside one collector.
+const SOURCES: u32 = 64;
+
+const FILTERS: u32 = 17;
+
+const EXPRESSIONS: u32 = 17;
+
 fn main(rt: HostRuntime) -> ExitCode {
-    match words_of(&rt) {
-        Ok(words) => ExitCode::from(run_words(&rt, words.as_slice())),
+    match status_of(&rt) {
+        Ok(status) => ExitCode::from(status),
         Err(Memory) => {
             let _ = eprintln!(rt; "qrun: out of memory");
             ExitCode::from(OUT_OF_MEMORY)
         }
     }
+}
+
+fn status_of(rt: &HostRuntime) -> Result<u8, Memory> {
+    let words = words_of(rt)?;
+    run_words(rt, words.as_slice())
 }
 
 // The words after the program's name. Words that aren't UTF-8 are no command, as no words are.
@@ -41,9 +58,37 @@ fn words_of(rt: &HostRuntime) -> Result<Vec<String>, Memory> {
     }
 }
 
-fn run_words(rt: &HostRuntime, words: &[String]) -> u8 {
-    let mut files = RealFiles::new(*rt);
+// Runs the words by the boxes of the standard rack, over files of the system.
+fn run_words(rt: &HostRuntime, words: &[String]) -> Result<u8, Memory> {
+    let alloc = rt.alloc();
+    let mut rack = Rack::new(alloc);
+    for _source in 0..SOURCES {
+        let source = Box::new(alloc, CsvSource::new(alloc, RealFiles::new(*rt)))?;
+        rack.boxes.push(source)?;
+    }
+    for _filter in 0..FILTERS {
+        let filter = Box::new(alloc, Filter::new(alloc))?;
+        rack.boxes.push(filter)?;
+    }
+    for _expression in 0..EXPRESSIONS {
+        let expression = Box::new(alloc, Expression::new(alloc))?;
+        rack.boxes.push(expression)?;
+    }
+    let collect = Box::new(alloc, Collect::new(alloc))?;
+    rack.boxes.push(collect)?;
     let mut out = RealSink::new(rt.stdout());
     let mut err = RealSink::new(rt.stderr());
-    run(rt, words, &mut files, &mut out, &mut err)
+    Ok(run_blank(rt, words, &mut rack, &mut out, &mut err))
+}
+
+// That a box is blank is lost where it is made one of any kind, so that each is unloaded first.
+fn run_blank<R: AllocGlobal, O: Sink, E: Sink>(
+    rt: &R,
+    words: &[String],
+    rack: &mut Rack,
+    out: &mut O,
+    err: &mut E,
+) -> u8 {
+    unload_rack(rack);
+    run(rt, words, rack, out, err)
 }

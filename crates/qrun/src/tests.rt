@@ -1,14 +1,113 @@
 // Worked runs over files and sinks in memory. What each must give is told by the description of
 // the program, and not taken from its output.
-ghost use Rattle.std.specs.Prelude.{IfOk, IsSome, ◌<◌};
+ghost use Rattle.std.specs.Prelude.{map, IfOk, IsSome};
+ghost use Rattle.std.specs.List.{All};
 ghost use Rattle.outside_io.specs.Scripts.{IsRising};
+ghost use Rattle.proc_api.specs.Clauses.{IsBlank};
 
-use chunk_data::{Bytes, List};
+use crate::racks::unload_rack;
+use chunk_data::{Bytes, Chunk, List};
+use csv_procs::CsvSource;
 use csv_rows::{FetchFault, Fetched, fetch};
-use outside_io::{Fake, FakeKind, FileEntry, FileReader, MemFiles, MemSink};
+use flow_procs::{Collect, Expression, Filter};
+use outside_io::{Failed, Fake, FakeKind, FileEntry, FileReader, Got, MemFiles, MemSink};
+use port_word::PortView;
+use proc_api::{Growth, LoadRefusal, Processor, Rack, Status, Wake, WorkFault};
+use query_model::processor_spec::{Kind, Spec};
 use query_run::run;
 use std::alloc::{AllocError, Global};
+use std::sync::Arc;
+use std::sync::atomic::{AtomicU64, Ordering};
 use std::test::Fail;
+
+/// Files in memory whose reader has nothing yet so many times before the first byte.
+#[derive(Drop)]
+struct SlowFiles {
+    files: MemFiles,
+    waits: u64,
+    pendings: u64,
+}
+
+impl FileReader for SlowFiles {
+    ghost use Rattle.std.specs.Prelude.{Some};
+
+    ghost files = { λ s. Some s.files.files };
+
+    ghost stands = { λ s. s.files.stands };
+
+    ghost faults = { λ s. s.files.faults };
+
+    ghost pendings = { λ s. s.pendings };
+
+    fn open_path(&mut self, path: &Bytes) -> Result<(), Failed> {
+        self.files.open_path(path)
+    }
+
+    fn read_some(&mut self, buf: &mut [u8]) -> Result<Got, Failed> {
+        if self.waits > 0 {
+            self.waits -= 1;
+            self.pendings = self.pendings.saturating_add(1);
+            return Ok(Got::Pending);
+        }
+        match self.files.read_some(buf) {
+            Ok(Got::Pending) => {
+                self.pendings = self.pendings.saturating_add(1);
+                Ok(Got::Pending)
+            }
+            other => other,
+        }
+    }
+
+    fn shut(&mut self) {
+        self.files.shut()
+    }
+}
+
+/// A source that counts its calls of `prepare`.
+#[derive(Drop)]
+struct Counted {
+    source: CsvSource<SlowFiles>,
+    prepared: Arc<AtomicU64, Global>,
+}
+
+impl Processor for Counted {
+    ghost use Rattle.csv_procs.specs.PartSeen.{source_seen};
+
+    ghost seen = { λ c. source_seen c.source };
+
+    fn kind(&self) -> Kind {
+        self.source.kind()
+    }
+
+    fn load(&mut self, spec: Spec) -> Result<(), LoadRefusal> {
+        self.source.load(spec)
+    }
+
+    fn prepare(&mut self, view: &mut PortView) -> Status {
+        self.prepared.fetch_add(1, Ordering::Relaxed);
+        self.source.prepare(view)
+    }
+
+    fn work(&mut self) -> Result<(), WorkFault> {
+        self.source.work()
+    }
+
+    fn schedule(&mut self) -> Result<Wake, WorkFault> {
+        self.source.schedule()
+    }
+
+    fn expand(&mut self) -> Result<Growth, WorkFault> {
+        self.source.expand()
+    }
+
+    fn take_rows(&mut self) -> Vec<Chunk> {
+        self.source.take_rows()
+    }
+
+    fn unload(&mut self) {
+        self.source.unload()
+    }
+}
 
 /// What a run gave: its status, and what came to its sinks.
 #[derive(Debug, Drop)]
@@ -16,6 +115,41 @@ struct Outcome {
     status: u8,
     out: Vec<u8>,
     err: Vec<u8>,
+}
+
+/// What a rack is made of, and the sink that takes its answer.
+#[derive(Clone, Copy)]
+struct Setting<'a> {
+    /// The bytes of the one file, `f.csv`.
+    bytes: &'a [u8],
+    /// The call of a reader that fails or has nothing yet.
+    fake: Option<Fake>,
+    /// How often a reader has nothing yet before its first byte.
+    waits: u64,
+    /// How many boxes of each kind lie in the rack, beside one collector.
+    sources: u32,
+    filters: u32,
+    expressions: u32,
+    /// How often the words run.
+    runs: u32,
+    /// How many bytes the sink takes in a call, and in all.
+    step: usize,
+    room: usize,
+}
+
+/// The stock of the standard rack over the file, and ample room.
+fn ample(bytes: &[u8]) -> Setting<'_> {
+    Setting {
+        bytes,
+        fake: None,
+        waits: 0,
+        sources: 64,
+        filters: 17,
+        expressions: 17,
+        runs: 1,
+        step: 4096,
+        room: 4096,
+    }
 }
 
 /// What was written, or the line that was told.
@@ -64,35 +198,116 @@ fn script_of(alloc: Global, fake: Option<Fake>) -> Result<List<Fake>, AllocError
     }
 }
 
-/// The words over the one file, by a reader that meets the fake, with a sink of so many bytes a call
-/// and in all.
-fn run_with(
-    rt: &HostRuntime,
+fn source_of(alloc: Global, setting: &Setting<'_>) -> Result<CsvSource<SlowFiles>, AllocError> {
+    let script = script_of(alloc, setting.fake)?;
+    let files = SlowFiles {
+        files: MemFiles::new(alloc, files_of(alloc, setting.bytes)?, script),
+        waits: setting.waits,
+        pendings: 0,
+    };
+    Ok(CsvSource::new(alloc, files))
+}
+
+/// The outcomes of words that run over one rack, and the kinds of its boxes before and after each run.
+#[derive(Drop)]
+struct Runs {
+    outcomes: Vec<Outcome>,
+    kinds: String,
+}
+
+/// The words over a rack of the setting.
+fn run_setting(rt: &HostRuntime, words: &[String], setting: &Setting<'_>) -> Result<Runs, Fail> {
+    let alloc = rt.alloc();
+    let mut rack = Rack::new(alloc);
+    for _source in 0..setting.sources {
+        let source = Box::new(alloc, source_of(alloc, setting)?)?;
+        rack.boxes.push(source)?;
+    }
+    for _filter in 0..setting.filters {
+        let filter = Box::new(alloc, Filter::new(alloc))?;
+        rack.boxes.push(filter)?;
+    }
+    for _expression in 0..setting.expressions {
+        let expression = Box::new(alloc, Expression::new(alloc))?;
+        rack.boxes.push(expression)?;
+    }
+    let collect = Box::new(alloc, Collect::new(alloc))?;
+    rack.boxes.push(collect)?;
+    run_unloaded(rt, words, &mut rack, setting)
+}
+
+fn run_unloaded<R: AllocGlobal>(
+    rt: &R,
     words: &[String],
-    bytes: &[u8],
-    fake: Option<Fake>,
-    step: usize,
-    room: usize,
-) -> Result<Outcome, Fail>
-    requires { 0 < step }
+    rack: &mut Rack,
+    setting: &Setting<'_>,
+) -> Result<Runs, Fail> {
+    let mut kinds = String::new(rt.alloc());
+    show_kinds(&mut kinds, rack)?;
+    unload_rack(rack);
+    let outcomes = run_racked(rt, words, rack, setting, &mut kinds)?;
+    Ok(Runs { outcomes, kinds })
+}
+
+fn run_racked<R: AllocGlobal>(
+    rt: &R,
+    words: &[String],
+    rack: &mut Rack,
+    setting: &Setting<'_>,
+    kinds: &mut String,
+) -> Result<Vec<Outcome>, Fail>
+    requires { All IsBlank (map (λ b. seen (b.vtable, b.value)) rack.old.boxes.items) }
 {
-    let script = script_of(rt.alloc(), fake)?;
-    let mut files = MemFiles::new(rt.alloc(), files_of(rt.alloc(), bytes)?, script);
-    let mut out = MemSink::new(rt.alloc(), step, room)?;
-    let mut err = MemSink::new(rt.alloc(), 80, 400)?;
-    let status = run(rt, words, &mut files, &mut out, &mut err);
-    Ok(Outcome {
-        status,
-        out: Vec::from_slice(rt.alloc(), out.written())?,
-        err: Vec::from_slice(rt.alloc(), err.written())?,
-    })
+    let mut outcomes = Vec::new(rt.alloc());
+    let step = if setting.step == 0 { 1 } else { setting.step };
+    for _run in 0..setting.runs {
+        let mut out = MemSink::new(rt.alloc(), step, setting.room)?;
+        let mut err = MemSink::new(rt.alloc(), 80, 400)?;
+        let status = run(rt, words, rack, &mut out, &mut err);
+        outcomes.push(Outcome {
+            status,
+            out: Vec::from_slice(rt.alloc(), out.written())?,
+            err: Vec::from_slice(rt.alloc(), err.written())?,
+        })?;
+        show_kinds(kinds, rack)?;
+    }
+    Ok(outcomes)
+}
+
+// A letter for each box of a rack, and a bar.
+fn show_kinds(kinds: &mut String, rack: &Rack) -> Result<(), Fail> {
+    for b in rack.boxes.as_slice() {
+        kinds.push(letter_of(b))?;
+    }
+    kinds.push('|')?;
+    Ok(())
+}
+
+fn letter_of(b: &Box<dyn Processor + Send>) -> char {
+    match b.kind() {
+        Kind::Csv => 's',
+        Kind::Filter => 'f',
+        Kind::Expression => 'e',
+        Kind::Collect => 'c',
+        _ => '?',
+    }
+}
+
+/// The first outcome of the words over a rack of the setting.
+fn run_once(rt: &HostRuntime, words: &[String], setting: &Setting<'_>) -> Result<Outcome, Fail> {
+    let Runs { outcomes, .. } = run_setting(rt, words, setting)?;
+    let mut outcomes = outcomes;
+    if outcomes.is_empty() {
+        return Err("nothing ran".into());
+    }
+    Ok(outcomes.remove(0))
 }
 
 /// The query over the one file, with ample room.
 fn answer(rt: &HostRuntime, columns: &str, query: &str, bytes: &[u8]) -> Result<Outcome, Fail> {
     let declaration = format!(in rt.alloc(); "t=f.csv:{columns}")?;
     let words = words_of(rt.alloc(), query, declaration.as_str())?;
-    run_with(rt, words.as_slice(), bytes, None, 4096, 4096)
+    run_once(rt, words.as_slice(), &ample(bytes))
 }
 
 /// Valid files: the columns, the query, the file, and what is written.
@@ -176,44 +391,56 @@ fn other_ends_tell_their_line(rt: HostRuntime) -> Result<(), Fail> {
             "SELECT a FROM t",
             b"1\nz\n",
             3,
-            "qrun: bad data\n",
+            "qrun: bad data: table t part 1 row 2 column 1\n",
         ),
         (
             "a Int64",
             "SELECT a FROM t",
             b"1\n2,3\n",
             3,
-            "qrun: bad data\n",
+            "qrun: bad data: table t part 1 row 2 fields 2\n",
         ),
         (
             "a Int64,b Int64",
             "SELECT a FROM t",
             b"1,2\n3\n",
             3,
-            "qrun: bad data\n",
+            "qrun: bad data: table t part 1 row 2 fields 1\n",
         ),
         (
             "a Int64",
             "SELECT a FROM t",
             b"9223372036854775808\n",
             3,
-            "qrun: bad data\n",
+            "qrun: bad data: table t part 1 row 1 column 1\n",
         ),
         (
             "a UInt64",
             "SELECT a FROM t",
             b"-1\n",
             3,
-            "qrun: bad data\n",
+            "qrun: bad data: table t part 1 row 1 column 1\n",
         ),
-        ("a Int64", "SELECT a FROM t", b"+1\n", 3, "qrun: bad data\n"),
-        ("a Int64", "SELECT a FROM t", b" 1\n", 3, "qrun: bad data\n"),
+        (
+            "a Int64",
+            "SELECT a FROM t",
+            b"+1\n",
+            3,
+            "qrun: bad data: table t part 1 row 1 column 1\n",
+        ),
+        (
+            "a Int64",
+            "SELECT a FROM t",
+            b" 1\n",
+            3,
+            "qrun: bad data: table t part 1 row 1 column 1\n",
+        ),
         (
             "a Int64,b Int64",
             "SELECT a FROM t",
             b"1,x\n",
             3,
-            "qrun: bad data\n",
+            "qrun: bad data: table t part 1 row 1 column 2\n",
         ),
         ("a Int32", "SELECT a FROM t", b"1\n", 1, "qrun: usage\n"),
         (
@@ -519,11 +746,10 @@ fn lines_are_cut_where_their_sink_fails(rt: HostRuntime) -> Result<(), Fail> {
         (34, "qrun: refused: UnknownColumn cost\n"),
     ];
     for (room, line) in cases.iter() {
-        let script = script_of(rt.alloc(), None)?;
-        let mut files = MemFiles::new(rt.alloc(), files_of(rt.alloc(), b"1\n")?, script);
+        let mut rack = Rack::new(rt.alloc());
         let mut out = MemSink::new(rt.alloc(), 80, 80)?;
         let mut err = MemSink::new(rt.alloc(), 3, *room)?;
-        let status = run(&rt, words.as_slice(), &mut files, &mut out, &mut err);
+        let status = run(&rt, words.as_slice(), &mut rack, &mut out, &mut err);
         assert_eq!(rt; status, 2);
         assert_eq!(rt; out.written().len(), 0);
         assert_eq!(rt; err.written(), line.as_bytes());
@@ -531,26 +757,44 @@ fn lines_are_cut_where_their_sink_fails(rt: HostRuntime) -> Result<(), Fail> {
     Ok(())
 }
 
+/// A line with numbers, cut where its sink fails.
+#[test]
+fn numbers_are_cut_where_their_sink_fails(rt: HostRuntime) -> Result<(), Fail> {
+    let words = words_of(rt.alloc(), "SELECT a FROM t", "t=f.csv:a Int64")?;
+    let line = "qrun: limit: boxes of kind Csv needed 1, rack has 0\n";
+    for room in 0..53 {
+        let mut rack = Rack::new(rt.alloc());
+        let mut out = MemSink::new(rt.alloc(), 80, 80)?;
+        let mut err = MemSink::new(rt.alloc(), 80, room)?;
+        let status = run(&rt, words.as_slice(), &mut rack, &mut out, &mut err);
+        assert_eq!(rt; status, 6);
+        assert_eq!(rt; err.written(), &line.as_bytes()[..room.min(line.len())]);
+    }
+    Ok(())
+}
+
 /// A reader that fails, or has nothing yet, at each of its calls in turn: opening, a block, the end.
 #[test]
-fn readers_fail_and_stall(rt: HostRuntime) -> Result<(), Fail> {
+fn readers_fail_and_wait(rt: HostRuntime) -> Result<(), Fail> {
     let words = words_of(rt.alloc(), "SELECT a FROM t", "t=f.csv:a Int64")?;
+    let fault = "qrun: read fault: table t part 1\n";
     let cases: [(u64, FakeKind, u8, &str, &str); 8] = [
-        (1, FakeKind::Fail, 4, "", "qrun: read fault\n"),
-        (2, FakeKind::Fail, 4, "", "qrun: read fault\n"),
-        (3, FakeKind::Fail, 4, "", "qrun: read fault\n"),
+        (1, FakeKind::Fail, 4, "", fault),
+        (2, FakeKind::Fail, 4, "", fault),
+        (3, FakeKind::Fail, 4, "", fault),
         (4, FakeKind::Fail, 0, "7\n", ""),
-        (1, FakeKind::Pend, 4, "", "qrun: read fault\n"),
-        (2, FakeKind::Pend, 4, "", "qrun: stalled\n"),
-        (3, FakeKind::Pend, 4, "", "qrun: stalled\n"),
+        (1, FakeKind::Pend, 4, "", fault),
+        (2, FakeKind::Pend, 0, "7\n", ""),
+        (3, FakeKind::Pend, 0, "7\n", ""),
         (4, FakeKind::Pend, 0, "7\n", ""),
     ];
     for (call, kind, status, written, line) in cases.iter() {
-        let fake = Fake {
+        let mut setting = ample(b"7\n");
+        setting.fake = Some(Fake {
             call: *call,
             kind: *kind,
-        };
-        let outcome = run_with(&rt, words.as_slice(), b"7\n", Some(fake), 4096, 4096)?;
+        });
+        let outcome = run_once(&rt, words.as_slice(), &setting)?;
         assert_eq!(rt; outcome.status, *status, "status at call {call}");
         assert_eq!(rt;
             outcome.out.as_slice(),
@@ -566,6 +810,183 @@ fn readers_fail_and_stall(rt: HostRuntime) -> Result<(), Fail> {
     Ok(())
 }
 
+/// A reader that has nothing yet 999,999 times before its block.
+#[test]
+fn a_reader_may_wait_many_times(rt: HostRuntime) -> Result<(), Fail> {
+    let words = words_of(rt.alloc(), "SELECT a FROM t", "t=f.csv:a Int64")?;
+    let mut setting = ample(b"7\n");
+    setting.waits = 999_999;
+    let waited = run_once(&rt, words.as_slice(), &setting)?;
+    assert_eq!(rt; waited.status, 0);
+    assert_eq!(rt; waited.out.as_slice(), b"7\n".as_slice());
+    Ok(())
+}
+
+/// And one more time.
+#[test]
+fn a_reader_stalls_at_a_million_waits(rt: HostRuntime) -> Result<(), Fail> {
+    let words = words_of(rt.alloc(), "SELECT a FROM t", "t=f.csv:a Int64")?;
+    let mut setting = ample(b"7\n");
+    setting.waits = 1_000_000;
+    let stalled = run_once(&rt, words.as_slice(), &setting)?;
+    assert_eq!(rt; stalled.status, 4);
+    assert_eq!(rt; stalled.out.len(), 0);
+    assert_eq!(rt;
+        stalled.err.as_slice(),
+        b"qrun: stalled: table t part 1\n".as_slice()
+    );
+    Ok(())
+}
+
+/// A rack that lacks a kind: how many sources, filters and expressions it has, the query, and the line.
+#[test]
+fn a_missing_kind_is_told(rt: HostRuntime) -> Result<(), Fail> {
+    let cases: [(u32, u32, u32, &str, &str); 5] = [
+        (
+            1,
+            0,
+            1,
+            "SELECT a FROM t WHERE a = 7",
+            "qrun: limit: boxes of kind Filter needed 1, rack has 0\n",
+        ),
+        (1, 0, 1, "SELECT a FROM t", "7\n"),
+        (
+            0,
+            0,
+            0,
+            "SELECT a FROM t WHERE a = 7",
+            "qrun: limit: boxes of kind Csv needed 1, rack has 0\n",
+        ),
+        (
+            1,
+            1,
+            0,
+            "SELECT a FROM t WHERE a = 7",
+            "qrun: limit: boxes of kind Expression needed 1, rack has 0\n",
+        ),
+        (
+            0,
+            0,
+            0,
+            "SELECT b FROM t",
+            "qrun: refused: UnknownColumn b\n",
+        ),
+    ];
+    for (sources, filters, expressions, query, told) in cases.iter() {
+        let words = words_of(rt.alloc(), query, "t=f.csv:a Int64")?;
+        let mut setting = ample(b"7\n");
+        setting.sources = *sources;
+        setting.filters = *filters;
+        setting.expressions = *expressions;
+        let outcome = run_once(&rt, words.as_slice(), &setting)?;
+        assert_eq!(rt; told_by(&outcome), told.as_bytes(), "{query}");
+    }
+    Ok(())
+}
+
+/// The boxes that weren't taken lie in front, and then the taken ones in the order of the plan. The same words run again.
+#[test]
+fn boxes_come_back_in_their_order(rt: HostRuntime) -> Result<(), Fail> {
+    let cases: [(&str, u8, &str, &str); 4] = [
+        (
+            "SELECT a FROM t WHERE a = 7",
+            0,
+            "7\n",
+            "ssffeec|sfesfec|sfesfec|",
+        ),
+        ("SELECT a FROM t", 0, "7\n8\n", "ssffeec|sffesec|ffsesec|"),
+        (
+            "SELECT b FROM t",
+            2,
+            "qrun: refused: UnknownColumn b\n",
+            "ssffeec|ssffeec|ssffeec|",
+        ),
+        ("", 2, "qrun: refused: Syntax\n", "ssffeec|ssffeec|ssffeec|"),
+    ];
+    for (query, status, told, kinds) in cases.iter() {
+        let words = words_of(rt.alloc(), query, "t=f.csv:a Int64")?;
+        let mut setting = ample(b"7\n8\n");
+        setting.sources = 2;
+        setting.filters = 2;
+        setting.expressions = 2;
+        setting.runs = 2;
+        let runs = run_setting(&rt, words.as_slice(), &setting)?;
+        assert_eq!(rt; runs.outcomes.len(), 2);
+        for outcome in runs.outcomes.as_slice() {
+            assert_eq!(rt; outcome.status, *status, "status of {query}");
+            assert_eq!(rt; told_by(outcome), told.as_bytes(), "{query}");
+        }
+        assert_eq!(rt; runs.kinds.as_str(), *kinds, "rack of {query}");
+    }
+    Ok(())
+}
+
+/// After a fault the same words run again by the same rack.
+#[test]
+fn a_fault_leaves_the_rack_for_another_run(rt: HostRuntime) -> Result<(), Fail> {
+    let words = words_of(rt.alloc(), "SELECT a FROM t", "t=f.csv:a Int64")?;
+    let mut setting = ample(b"7\n");
+    setting.sources = 1;
+    setting.runs = 2;
+    setting.fake = Some(Fake {
+        call: 3,
+        kind: FakeKind::Fail,
+    });
+    let runs = run_setting(&rt, words.as_slice(), &setting)?;
+    let wanted: [(u8, &str); 2] = [(4, ""), (0, "7\n")];
+    assert_eq!(rt; runs.outcomes.len(), 2);
+    for ((status, written), outcome) in wanted.iter().zip(runs.outcomes.as_slice().iter()) {
+        assert_eq!(rt; outcome.status, *status);
+        assert_eq!(rt; outcome.out.as_slice(), written.as_bytes());
+    }
+    Ok(())
+}
+
+/// A source that counts is prepared: the query runs through the boxes.
+#[test]
+fn a_source_is_prepared(rt: HostRuntime) -> Result<(), Fail> {
+    let alloc = rt.alloc();
+    let words = words_of(alloc, "SELECT a FROM t", "t=f.csv:a Int64")?;
+    let setting = ample(b"7\n");
+    let prepared = Arc::new(alloc, AtomicU64::new(0))?;
+    let mut rack = Rack::new(alloc);
+    let source = Counted {
+        source: source_of(alloc, &setting)?,
+        prepared: Arc::try_clone(&prepared)?,
+    };
+    let source = Box::new(alloc, source)?;
+    rack.boxes.push(source)?;
+    let expression = Box::new(alloc, Expression::new(alloc))?;
+    rack.boxes.push(expression)?;
+    let collect = Box::new(alloc, Collect::new(alloc))?;
+    rack.boxes.push(collect)?;
+    let runs = run_unloaded(&rt, words.as_slice(), &mut rack, &setting)?;
+    assert_eq!(rt; runs.outcomes.len(), 1);
+    for outcome in runs.outcomes.as_slice() {
+        assert_eq!(rt; outcome.status, 0);
+        assert_eq!(rt; outcome.out.as_slice(), b"7\n".as_slice());
+    }
+    assert!(rt; prepared.load(Ordering::Relaxed) > 0);
+    Ok(())
+}
+
+/// More rows than one chunk holds.
+#[test]
+fn chunks_follow_each_other(rt: HostRuntime) -> Result<(), Fail> {
+    let mut bytes = Vec::new(rt.alloc());
+    for _row in 0..20_000 {
+        bytes.extend_from_slice(b"7\n")?;
+    }
+    let words = words_of(rt.alloc(), "SELECT a FROM t WHERE a = 7", "t=f.csv:a Int64")?;
+    let mut setting = ample(bytes.as_slice());
+    setting.sources = 1;
+    setting.room = 65_536;
+    let outcome = run_once(&rt, words.as_slice(), &setting)?;
+    assert_eq!(rt; outcome.status, 0);
+    assert!(rt; outcome.out.as_slice() == bytes.as_slice());
+    Ok(())
+}
+
 /// A sink that takes one byte a call, one that fails after five bytes, and one that takes nothing.
 #[test]
 fn sinks_take_little(rt: HostRuntime) -> Result<(), Fail> {
@@ -577,7 +998,10 @@ fn sinks_take_little(rt: HostRuntime) -> Result<(), Fail> {
         (0, 5, "", "qrun: write fault\n"),
     ];
     for (room, status, written, line) in cases.iter() {
-        let outcome = run_with(&rt, words.as_slice(), b"123\n4567\n", None, 1, *room)?;
+        let mut setting = ample(b"123\n4567\n");
+        setting.step = 1;
+        setting.room = *room;
+        let outcome = run_once(&rt, words.as_slice(), &setting)?;
         assert_eq!(rt; outcome.status, *status, "status with room for {room}");
         assert_eq!(rt;
             outcome.out.as_slice(),
@@ -597,10 +1021,13 @@ fn sinks_take_little(rt: HostRuntime) -> Result<(), Fail> {
 #[test]
 fn words_and_files_may_be_missing(rt: HostRuntime) -> Result<(), Fail> {
     let words = words_of(rt.alloc(), "SELECT a FROM t", "t=g.csv:a Int64")?;
-    let missing = run_with(&rt, words.as_slice(), b"1\n", None, 4096, 4096)?;
+    let missing = run_once(&rt, words.as_slice(), &ample(b"1\n"))?;
     assert_eq!(rt; missing.status, 4);
-    assert_eq!(rt; missing.err.as_slice(), b"qrun: read fault\n".as_slice());
-    let none = run_with(&rt, &[], b"1\n", None, 4096, 4096)?;
+    assert_eq!(rt;
+        missing.err.as_slice(),
+        b"qrun: read fault: table t part 1\n".as_slice()
+    );
+    let none = run_once(&rt, &[], &ample(b"1\n"))?;
     assert_eq!(rt; none.status, 1);
     assert_eq!(rt; none.err.as_slice(), b"qrun: usage\n".as_slice());
     Ok(())

@@ -1,22 +1,19 @@
 -- from the steps of an answer to the text of one answer of a command
-use Rattle.std.proofs.Common.{◌≡◌, ℕ, Bool, cond, List, [], ◌∷◌, get_or, map, refl, ap, sym, subst, ◌∙◌, Option, Some, None, Result, Ok, Err, Vec, Global}
-use Rattle.std.specs.Prelude.{IfSome, IfOk, is_some, bytes_eq}
-use Rattle.outside_io.specs.declared.entries.FileEntry.{FileEntry}
-use Rattle.outside_io.specs.Told.{file_bytes as told_bytes}
-use Rattle.csv_rows.specs.Fetching.{IsFile, IsLongFile as IsLong, HasCause}
-use Rattle.csv_rows.specs.Pushing.{OnBad}
-use Rattle.csv_rows.specs.declared.file_fetch.FileFault.{FileFault}
-use Rattle.csv_rows.specs.declared.file_fetch.FileFault.TheVariants as file
-use Rattle.csv_rows.specs.declared.rows.RowsFault.{RowsFault}
-use Rattle.csv_rows.specs.declared.rows.RowsFault.TheVariants as rows
-use Rattle.chunk_data.specs.Values.{Row}
-use Rattle.query_model.specs.Analysis.{IsTypedQuery, from_types}
-use Rattle.query_model.specs.Answers.{selected_rows}
+use Rattle.std.proofs.Common.{◌≡◌, ℕ, ◌+◌, ◌-◌, ◌<◌, Bool, true, cond, List, [], ◌∷◌, get_or, map, length, refl, ap, sym, subst, ◌∙◌, arith, Option, Some, None, is_some}
+use Rattle.std.specs.Prelude.{IfSome}
+use Rattle.std.specs.List.{All}
+use Rattle.chunk_data.specs.Values.{Row, Table}
+use Rattle.chunk_data.specs.declared.typed_value.ColumnType.{ColumnType}
+use Rattle.query_model.specs.Analysis.{IsTypedQuery, IsTypedShape, IsTypedFilter, from_types}
+use Rattle.query_model.specs.Answers.{item_row, output_rows, selected_rows}
 use Rattle.query_model.specs.Checks.{IsChecked}
-use Rattle.query_model.specs.Expressions.{rows_where}
+use Rattle.query_model.specs.Expressions.{Cond, Expr, rows_where}
+use Rattle.query_model.specs.Flow.{flow, rows_tested, groups_tested, if_grouped, if_ordered, if_plain, rows_joined}
 use Rattle.query_model.specs.Parts.{bad_place, good_rows, part_records}
+use Rattle.query_model.specs.Sources.{Database, source_table, source_rows, filtered_rows, used_table}
 use Rattle.query_model.specs.Texts.{answer_text}
-use Rattle.query_model.specs.Database.{file_bytes, part_rows, rows_in, bad_place_in, column_types, database, AllPartsValid}
+use Rattle.query_model.specs.Typing.{IsItem}
+use Rattle.query_model.specs.Database.{Files, file_bytes, part_rows, rows_in, bad_place_in, column_types, database, AllPartsValid}
 use Rattle.query_model.specs.Refusals.{refusal_of}
 use Rattle.query_model.proofs.OnePart.{database-one_part}
 use Rattle.query_model.specs.declared.query.Query.{Query}
@@ -25,60 +22,46 @@ use Rattle.query_model.specs.declared.query.PartsDecl.{PartsDecl}
 use Rattle.query_model.specs.declared.query.PartsDecl.TheVariants.{Paths}
 use Rattle.query_model.specs.declared.query.TableDecl.{TableDecl}
 use Rattle.query_model.specs.declared.checked.Checked.{Checked}
+use Rattle.query_model.specs.declared.checked.Shape.{Shape}
+use Rattle.query_model.specs.declared.checked.Shape.TheVariants.{Plain, Grouped}
+use Rattle.query_model.specs.declared.processor_spec.Kind.{Kind}
+use Rattle.query_model.specs.declared.processor_spec.Kind.TheVariants as kind
+use Rattle.query_model.specs.declared.processor_spec.PartSpec.{PartSpec}
+use Rattle.query_model.specs.declared.processor_spec.Spec.{Spec}
+use Rattle.query_model.specs.Kinds.{kind_of}
 use Rattle.sql_text.specs.Refusals.{IsReadFrom}
 use Rattle.command_line.specs.Words.{IsPlainCommand}
 use Rattle.command_line.specs.declared.words.Command.{Command}
-use Rattle.outside_io.specs.Told.{files_of}
-use Rattle.csv_rows.proofs.Fetching.{told_as_pairs}
-use Rattle.query_run.specs.Headline.{schemas_of, IsAccepted, IsTextOfCommand, CommandFailsFor}
-use Rattle.query_run.specs.Steps.{IsCheckedCommand, CheckFailsFor, only_path, HasOnePath, IsPartText, PartFailsFor, failure_of_file, failure_of_rows}
+use Rattle.proc_api.specs.Boxes.{BoxPicture}
+use Rattle.proc_api.specs.Clauses.{handed_out_by, IsSourceKind}
+use Rattle.proc_api.specs.Histories.{chunk_rows}
+use Rattle.proc_api.specs.Keeping.{ArePartBytes}
+use Rattle.exec_laws.specs.Ends.{IsDone}
+use Rattle.exec_laws.specs.Runs.{box_at}
+use Rattle.plan_laws.specs.Plans.{plan_specs, plan_wires, collect_place, gathered_rows, IsPlanDone, PlanAnswers, PlanFlows}
+use Rattle.plan_laws.proofs.Plans.{plan-answers}
+use Rattle.plan_laws.proofs.Flows.{plan-flows}
+use Rattle.plan_run.specs.Chains.{chain_wires}
+use Rattle.plan_run.specs.Stock.{HasStock}
+use Rattle.plan_run.specs.Plans.{kinds_of, spec_at, RunsPlan}
+use Rattle.query_run.specs.Racks.{HasBoxes, IsHonest, PulledMore}
+use Rattle.query_run.specs.Headline.{schemas_of, AnswersCommand, IsAccepted, IsCheckedCommand, IsTextOfCommand, CommandFailsFor, PulledItsFlow}
+use Rattle.query_run.specs.Steps.{CheckFailsFor, GivesText, only_path, HasOnePath, IsPartText, IsPlainShape, items_of, part_spec}
 use Rattle.query_run.specs.declared.ending.Failure.{Failure}
 use Rattle.query_run.specs.declared.ending.Failure.TheVariants as failure
 use Rattle.sql_grammar.proofs.PlainQueries.{plain_of_spelled}
-use Rattle.query_run.proofs.Tables.{IsOfOneTable, from_types-is, of_one_table, selected_answers, parts_valid}
+use Rattle.query_run.proofs.Plans.{plan-stock, ended-kind, ended-lawful, ended-files, first-spec}
+use Rattle.query_run.proofs.Pulling.{plan-pulled, PlanPulled, WithoutFilter}
+use Rattle.query_run.proofs.Tables.{IsOfOneTable, from_types-is, of_one_table, selected_answers, source_is, parts_valid}
 
--- ---- the text of a part
-
-module _ (header : Bool) (table : TableDecl) (path bytes : List ℕ) (at : path ≡ only_path table.parts) where
-  told_file : (told : List FileEntry) → told_bytes told path ≡ Some bytes → file_bytes (files_of told) (only_path table.parts) ≡ Some bytes
-  told_file told e = rw at at (told_as_pairs told path ∙ e)
-
-  pub part_text_told : (files : Option (List FileEntry)) (checked : Checked) (text : List ℕ) → IsFile files path bytes
-      → text ≡ answer_text header checked.names (selected_rows checked.shape (column_types table.schema) (rows_where checked.filter (good_rows (column_types table.schema) (part_records header bytes))))
-      → bad_place 1 (column_types table.schema) (part_records header bytes) ≡ None → IfSome files (λ told. IsPartText header table checked told text)
-  part_text_told None checked text f t b = tt
-  part_text_told (Some told) checked text f t b =
-      let e = told_file told f in
-      let types = column_types table.schema in
-      record {
-        valid = (ap is_some e, ap (bad_place_in header types) e ∙ b);
-        is = t ∙ ap (λ (l : List Row). answer_text header checked.names (selected_rows checked.shape types (rows_where checked.filter l))) (sym (ap (rows_in header types) e));
-      }
-
-  pub rows_cause : (files : Option (List FileEntry)) (fault : RowsFault) (read stalled : Type 0) → IsFile files path bytes
-      → OnBad fault (λ place. bad_place 1 (column_types table.schema) (part_records header bytes) ≡ Some place) → PartFailsFor (failure_of_rows fault) header table files read stalled
-  rows_cause files rows.Memory read stalled f b = tt
-  rows_cause None (rows.Bad place) read stalled f b = tt
-  rows_cause (Some told) (rows.Bad place) read stalled f b =
-      ap is_some (ap (bad_place_in header (column_types table.schema)) (told_file told f) ∙ b)
-
-pub file_cause : (header : Bool) (table : TableDecl) (path : List ℕ) → path ≡ only_path table.parts → (files : Option (List FileEntry)) (fault : FileFault) (read stalled : Type 0)
-    → HasCause fault read stalled (IsLong files path 1073741824) → PartFailsFor (failure_of_file fault) header table files read stalled
-file_cause header table path at files file.Read read stalled h = h
-file_cause header table path at files file.Stalled read stalled h = h
-file_cause header table path at files file.Memory read stalled h = tt
-file_cause header table path at None file.TooLong read stalled h = tt
-file_cause header table path at (Some told) file.TooLong read stalled h =
-    record { bytes = h.bytes; are = rw at at (told_as_pairs told path ∙ h.are); long = h.long }
-
--- ---- the text of a command
-
--- the first of the command's tables is its one table
-pub first_table : (command : Command) (p : IsPlainCommand command) (t : TableDecl) → t ≡ get_or command.tables 0 t → t ≡ p.table
-first_table command p t h = h ∙ ap (λ l. get_or l 0 t) p.one_table
+-- ---- the query of a command
 
 pub one_path_of : (command : Command) (p : IsPlainCommand command) → HasOnePath p.table.parts
 one_path_of command p = p.one_path ∙ ap (λ (parts : PartsDecl). Paths (only_path parts ∷ [])) (sym p.one_path)
+
+-- the table that was moved out of a command is its one table
+pub same_table : (command : Command) (p : IsPlainCommand command) (t : TableDecl) → command.tables ≡ t ∷ [] → t ≡ p.table
+same_table command p t h = ap (λ l. get_or l 0 t) (sym h ∙ p.one_table)
 
 -- the schemas are those of the one table
 one_schema : (command : Command) (p : IsPlainCommand command) → schemas_of command ≡ p.table.schema ∷ []
@@ -104,49 +87,236 @@ typed_by_table command p checked h =
     ap (from_types h.query) one ∙ from_types-is p.table.schema h.query plain (rw one at h.accepted) in
     subst (λ types. IsTypedQuery types checked) types h.typed
 
-pub command_text_told : (command : Command) (p : IsPlainCommand command) (checked : Checked) → IsCheckedCommand command checked → (files : Option (List FileEntry)) (text : List ℕ)
-    → IfSome files (λ told. IsPartText command.header p.table checked told text) → IfSome files (λ told. IsTextOfCommand command told text)
-command_text_told command p checked h None text t = tt
-command_text_told command p checked h (Some told) text t =
-    let s : Schema = p.table.schema in
-    let one : schemas_of command ≡ s ∷ [] = one_schema command p in
+-- it is a query of the one table
+pub of_the_table : (command : Command) (p : IsPlainCommand command) (checked : Checked) → IsCheckedCommand command checked → IsOfOneTable checked
+of_the_table command p checked h =
+    let one : schemas_of command ≡ p.table.schema ∷ [] = one_schema command p in
     let plain = plain_of_spelled h.query command.query h.read.spells in
-    let single : IsOfOneTable checked = of_one_table s h.query plain (rw one at h.accepted) checked (rw one at h.is) in
-    let parts = one_path_of command p in
+    of_one_table p.table.schema h.query plain (rw one at h.accepted) checked (rw one at h.is)
+
+-- the database of the files has the part's rows
+pub database_is : (command : Command) (p : IsPlainCommand command) (files : Files)
+    → database command.header files command.tables ≡ record { types = column_types p.table.schema; rows = part_rows command.header (column_types p.table.schema) files (only_path p.table.parts) } ∷ []
+database_is command p files =
+    ap (database command.header files) p.one_table ∙ database-one_part command.header files p.table (only_path p.table.parts) (one_path_of command p)
+
+-- the text of the valid part's rows is that of an answer
+pub command_text_told : (command : Command) (p : IsPlainCommand command) (checked : Checked) → IsCheckedCommand command checked → (files : Files) (text : List ℕ)
+    → IsPartText command.header p.table checked files text → IsTextOfCommand command files text
+command_text_told command p checked h files text t =
+    let s : Schema = p.table.schema in
+    let single : IsOfOneTable checked = of_the_table command p checked h in
     let path = only_path p.table.parts in
-    let rows : List Row = part_rows command.header (column_types s) (files_of told) path in
-    let base : database command.header (files_of told) command.tables ≡ record { types = column_types s; rows = rows } ∷ [] =
-    ap (database command.header (files_of told)) p.one_table ∙ database-one_part command.header (files_of told) p.table path parts in
+    let rows : List Row = part_rows command.header (column_types s) files path in
+    let base = database_is command p files in
     record {
       query = h.query;
       spells = h.read.spells;
       accepted = h.accepted;
       checked = checked;
       is_checked = h.is;
-      valid = subst (λ (tables : List TableDecl). AllPartsValid command.header (files_of told) tables checked) (sym p.one_table)
-          (parts_valid checked single command.header (files_of told) p.table path parts t.valid);
+      valid = subst (λ (tables : List TableDecl). AllPartsValid command.header files tables checked) (sym p.one_table)
+          (parts_valid checked single command.header files p.table path (one_path_of command p) t.valid);
       answer = selected_rows checked.shape (column_types s) (rows_where checked.filter rows);
-      is_answer = selected_answers checked single (database command.header (files_of told) command.tables) (column_types s) rows base;
+      is_answer = selected_answers checked single (database command.header files command.tables) (column_types s) rows base;
       is = t.is;
     }
-
--- the same under an answer that may be a failure
-pub command_text_ok : (command : Command) (p : IsPlainCommand command) (checked : Checked) → IsCheckedCommand command checked → (files : Option (List FileEntry)) (r : Result (Vec ℕ Global) Failure)
-    → IfOk r (λ (text : Vec ℕ Global). IfSome files (λ told. IsPartText command.header p.table checked told text.items)) → IfOk r (λ (text : Vec ℕ Global). IfSome files (λ told. IsTextOfCommand command told text.items))
-command_text_ok command p checked h files (Ok text) t = command_text_told command p checked h files text.items t
-command_text_ok command p checked h files (Err f) t = tt
 
 -- a command that is checked is accepted
 pub accepted_of : (command : Command) (checked : Checked) → IsCheckedCommand command checked → IsAccepted command
 accepted_of command checked h = record { query = h.query; read = h.read; accepted = h.accepted }
 
 -- why a query was not checked is why its command fails
-pub check_cause : (command : Command) (f : Failure) (files : Option (List FileEntry)) (read stalled : Type 0) → CheckFailsFor f command → CommandFailsFor f command files read stalled
-check_cause command failure.Usage files read stalled h = absurd h
-check_cause command (failure.RefusedText refusal) files read stalled h = h
-check_cause command (failure.RefusedQuery refusal) files read stalled h = h
-check_cause command (failure.Bad place) files read stalled h = absurd h
-check_cause command failure.Read files read stalled h = absurd h
-check_cause command failure.Stalled files read stalled h = absurd h
-check_cause command failure.TooLong files read stalled h = absurd h
-check_cause command failure.Memory files read stalled h = tt
+pub check_cause : (command : Command) (f : Failure) (before after : List BoxPicture) → CheckFailsFor f command → CommandFailsFor f command before after
+check_cause command failure.Usage before after h = h
+check_cause command (failure.RefusedText refusal) before after h = h
+check_cause command (failure.RefusedQuery refusal) before after h = h
+check_cause command (failure.Stock s) before after h = absurd h
+check_cause command (failure.Bad name place) before after h = absurd h
+check_cause command (failure.Read name) before after h = absurd h
+check_cause command (failure.Stalled name) before after h = absurd h
+check_cause command (failure.TooLong name) before after h = absurd h
+check_cause command (failure.Unlawful k) before after h = absurd h
+check_cause command failure.Memory before after h = tt
+
+-- ---- the items
+
+pub plain_shape : (types : List ColumnType) (s : Shape) → IsTypedShape types s → IsPlainShape s
+plain_shape types (Plain items) h = tt
+plain_shape types (Grouped g) h = h
+
+shape_is : (types : List ColumnType) (s : Shape) → IsTypedShape types s → s ≡ Plain (items_of s)
+shape_is types (Plain items) h = refl
+shape_is types (Grouped g) h = absurd h
+
+items_typed : (types : List ColumnType) (s : Shape) → IsTypedShape types s → All (IsItem types) (items_of s)
+items_typed types (Plain items) h = h
+items_typed types (Grouped g) h = absurd h
+
+-- ---- an ended plan
+
+wires_are : (part : PartSpec) (items : List Expr) (f : Option Cond) → chain_wires (length (plan_specs part f items)) ≡ plan_wires f
+wires_are part items None = refl
+wires_are part items (Some c) = refl
+
+-- the last box hands out what the collector gathered
+handed_out : (part : PartSpec) (items : List Expr) (f : Option Cond) (ended : List BoxPicture) → kind_of (spec_at (plan_specs part f items) (collect_place f)) ≡ (box_at ended (collect_place f)).kind
+    → chunk_rows (handed_out_by (box_at ended (length (plan_specs part f items) - 1)).kind (box_at ended (length (plan_specs part f items) - 1)).work) ≡ gathered_rows f ended
+unfolding spec_at
+handed_out part items None ended e = ap (λ k. chunk_rows (handed_out_by k (box_at ended 2).work)) (sym e)
+handed_out part items (Some c) ended e = ap (λ k. chunk_rows (handed_out_by k (box_at ended 3).work)) (sym e)
+
+last_in_range : (part : PartSpec) (items : List Expr) (f : Option Cond) (n : ℕ) → n ≡ length (plan_specs part f items) → collect_place f < n
+last_in_range part items None n e = omega (arith, e)
+last_in_range part items (Some c) n e = omega (arith, e)
+
+first_is_source : (part : PartSpec) (items : List Expr) (f : Option Cond) → IsSourceKind (kind_of (spec_at (plan_specs part f items) 0))
+first_is_source part items f = subst (λ s. IsSourceKind (kind_of s)) (sym (first-spec part items f)) tt
+
+some_nodes : (part : PartSpec) (items : List Expr) (f : Option Cond) (n : ℕ) → n ≡ length (plan_specs part f items) → 0 < n
+some_nodes part items None n e = omega (arith, e)
+some_nodes part items (Some c) n e = omega (arith, e)
+
+module _ (command : Command) (p : IsPlainCommand command) (checked : Checked) (h : IsCheckedCommand command checked) (rows : ℕ) (before after : List BoxPicture) (boxes : HasBoxes checked before) (text : List ℕ)
+    (g : GivesText command.header checked.names (plan_specs (part_spec command.header rows p.table) checked.filter (items_of checked.shape)) before after text) (files : Files) (honest : IsHonest files before) where
+  abbrev part : PartSpec
+  part = part_spec command.header rows p.table
+
+  abbrev items : List Expr
+  items = items_of checked.shape
+
+  abbrev specs : List Spec
+  specs = plan_specs part checked.filter items
+
+  abbrev ended : List BoxPicture
+  ended = g.gives.ended
+
+  abbrev types : List ColumnType
+  types = column_types p.table.schema
+
+  stock : HasStock (kinds_of specs) before
+  stock = plan-stock part items checked before boxes
+
+  typed : IsTypedQuery types checked
+  typed = typed_by_table command p checked h
+
+  plan_done : IsPlanDone part checked.filter items ended
+  plan_done = record {
+    specs = g.gives.runs.loaded;
+    lawful = ended-lawful specs before after ended stock g.gives.runs files honest;
+    done = subst (λ wires. IsDone wires ended) (wires_are part items checked.filter) g.gives.done;
+  }
+
+  answers : PlanAnswers part checked.filter items ended
+  answers = plan-answers part checked.filter items ended typed.filter (items_typed types checked.shape typed.items) plan_done
+
+  in_0 : 0 < length ended
+  in_0 = some_nodes part items checked.filter (length ended) g.gives.runs.count
+
+  bytes_are : file_bytes files (only_path p.table.parts) ≡ Some answers.bytes
+  bytes_are =
+      let told : (box_at ended 0).files ≡ Some files =
+      ended-files specs before after ended stock g.gives.runs files honest 0 in_0 (first_is_source part items checked.filter) in
+      subst (λ o. ArePartBytes o (only_path p.table.parts) answers.bytes) told answers.are
+
+  abbrev good : List Row
+  good = good_rows types (part_records command.header answers.bytes)
+
+  abbrev part_has : List Row
+  part_has = part_rows command.header types files (only_path p.table.parts)
+
+  rows_are : part_has ≡ good
+  rows_are = ap (rows_in command.header types) bytes_are
+
+  abbrev selected : List Row
+  selected = selected_rows checked.shape types (rows_where checked.filter part_has)
+
+  gathered_are : gathered_rows checked.filter ended ≡ selected
+  gathered_are =
+      answers.rows
+      ∙ ap (λ s. selected_rows s types (rows_where checked.filter good)) (sym (shape_is types checked.shape typed.items))
+      ∙ ap (λ l. selected_rows checked.shape types (rows_where checked.filter l)) (sym rows_are)
+
+  handed : chunk_rows g.chunks ≡ gathered_rows checked.filter ended
+  handed =
+      let last : collect_place checked.filter < length ended = last_in_range part items checked.filter (length ended) g.gives.runs.count in
+      ap (λ c. chunk_rows c) g.gives.rows
+      ∙ handed_out part items checked.filter ended (sym (ended-kind specs before after ended stock g.gives.runs (collect_place checked.filter) last))
+
+  text_is : text ≡ answer_text command.header checked.names selected
+  text_is = g.is ∙ ap (λ l. answer_text command.header checked.names l) (handed ∙ gathered_are)
+
+  pub answer_told : IsTextOfCommand command files text
+  answer_told = command_text_told command p checked h files text (record {
+    valid = (ap is_some bytes_are, ap (bad_place_in command.header types) bytes_are ∙ answers.valid);
+    is = text_is;
+  })
+
+  abbrev db : Database
+  db = database command.header files command.tables
+
+  source : source_rows checked db ≡ good
+  source = ap (λ (t : Table). t.rows) (source_is checked (of_the_table command p checked h) db types part_has (database_is command p files)) ∙ rows_are
+
+  flows : PlanFlows checked db ended
+  flows = plan-flows part checked items db ended (shape_is types checked.shape typed.items) answers source
+
+  abbrev gathered : List Row
+  gathered = gathered_rows checked.filter ended
+
+  abbrev filtered : ℕ
+  filtered = rows_tested checked.filter (source_rows checked db) + groups_tested checked.shape (source_table checked db).types (filtered_rows checked db)
+
+  none_tested : WithoutFilter checked.filter (filtered ≡ 0)
+  none_tested = no_filter checked.filter (source_rows checked db) _ (ap (λ s. groups_tested s (source_table checked db).types (filtered_rows checked db)) (shape_is types checked.shape typed.items))
+    where
+      no_filter : (f : Option Cond) (l : List Row) (more : ℕ) → more ≡ 0 → WithoutFilter f (rows_tested f l + more ≡ 0)
+      no_filter None l more e = omega (arith, e)
+      no_filter (Some c) l more e = tt
+
+  pulled : PlanPulled before after filtered (length (filtered_rows checked db) + if_grouped checked.shape (length (output_rows checked db))) (length gathered)
+  pulled = plan-pulled part items checked.filter before after ended filtered _ _ stock g.gives.runs flows.filter none_tested flows.expression flows.collect
+
+  none_of : (k : Kind) (n : ℕ) → n ≡ 0 → PulledMore k before after (Some 0) → PulledMore k before after (Some n)
+  none_of k n e more = subst (λ m. PulledMore k before after (Some m)) (sym e) more
+
+  one : IsOfOneTable checked
+  one = of_the_table command p checked h
+
+  each_kind : (k : Kind) → PulledMore k before after (flow k checked db gathered)
+  each_kind kind.Csv = tt
+  each_kind kind.List = tt
+  each_kind kind.Numbers = tt
+  each_kind kind.Filter = pulled.filter
+  each_kind kind.Expression = pulled.expression
+  each_kind kind.Resize = tt
+  each_kind kind.PartialAggregate =
+      none_of kind.PartialAggregate _ (ap (λ s. if_grouped s (length (filtered_rows checked db))) (shape_is types checked.shape typed.items))
+      (pulled.others kind.PartialAggregate (record { no_source = refl; no_filter = refl; no_expression = refl; no_collector = refl }))
+  each_kind kind.MergeAggregate = tt
+  each_kind kind.HashJoin =
+      none_of kind.HashJoin _ (ap (λ j. rows_joined j db (used_table db checked.from).rows) one.join)
+      (pulled.others kind.HashJoin (record { no_source = refl; no_filter = refl; no_expression = refl; no_collector = refl }))
+  each_kind kind.Sort =
+      none_of kind.Sort _ (ap (λ o. if_ordered o (length (output_rows checked db))) one.order)
+      (pulled.others kind.Sort (record { no_source = refl; no_filter = refl; no_expression = refl; no_collector = refl }))
+  each_kind kind.MergeSorted =
+      none_of kind.MergeSorted _ (ap (λ o. if_ordered o (if_plain checked.shape (length (output_rows checked db)))) one.order)
+      (pulled.others kind.MergeSorted (record { no_source = refl; no_filter = refl; no_expression = refl; no_collector = refl }))
+  each_kind kind.Limit = tt
+  each_kind kind.Collect = pulled.collect
+
+  pub flow_told : PulledItsFlow command files text before after
+  flow_told = record {
+    checked = checked;
+    is_checked = h;
+    answer = selected;
+    is_answer = selected_answers checked one db types part_has (database_is command p files);
+    is = text_is;
+    pulled = λ k. subst (λ l. PulledMore k before after (flow k checked db l)) gathered_are (each_kind k);
+  }
+
+pub command_answers : (command : Command) (p : IsPlainCommand command) (checked : Checked) → IsCheckedCommand command checked → (rows : ℕ) (before after : List BoxPicture) → HasBoxes checked before → (text : List ℕ)
+    → GivesText command.header checked.names (plan_specs (part_spec command.header rows p.table) checked.filter (items_of checked.shape)) before after text → AnswersCommand command text before after
+command_answers command p checked h rows before after boxes text g =
+    λ files honest. (answer_told command p checked h rows before after boxes text g files honest, flow_told command p checked h rows before after boxes text g files honest)

@@ -1,5 +1,9 @@
 pub mod Tables
-pub mod Filtering
 pub mod Lines
+pub mod Plans
+pub mod Causes
+pub mod Pulling
 pub mod Composing
 pub mod Completeness
+pub mod Stocked
+pub mod Stocks

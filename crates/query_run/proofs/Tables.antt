@@ -87,14 +87,18 @@ module _ (s : Schema) where
       limit = is.limit ∙ plain.unlimited;
     }
 
+-- its source is the table
+pub source_is : (c : Checked) → IsOfOneTable c → (db : Database) (types : List ColumnType) (rows : List Row) → db ≡ record { types = types; rows = rows } ∷ []
+    → source_table c db ≡ record { types = types; rows = rows }
+source_is c one db types rows is =
+    ap₂ (λ (join : Option CheckedJoin) (from : TableUse). joined_table join db (used_table db from)) one.join one.from ∙ ap (λ d. used_table d (Declared 0)) is
+
 -- its answer is what it selects of the table's rows
 pub selected_answers : (c : Checked) → IsOfOneTable c → (db : Database) (types : List ColumnType) (rows : List Row) → db ≡ record { types = types; rows = rows } ∷ []
     → IsAnswer c db (selected_rows c.shape types (rows_where c.filter rows))
 selected_answers c one db types rows is =
     let answer : List Row = selected_rows c.shape types (rows_where c.filter rows) in
-    let table : Table = record { types = types; rows = rows } in
-    let source : source_table c db ≡ table =
-    ap₂ (λ (join : Option CheckedJoin) (from : TableUse). joined_table join db (used_table db from)) one.join one.from ∙ ap (λ d. used_table d (Declared 0)) is in
+    let source : source_table c db ≡ record { types = types; rows = rows } = source_is c one db types rows is in
     let output : output_rows c db ≡ answer = ap (λ (t : Table). selected_rows c.shape t.types (rows_where c.filter t.rows)) source in
     subst (λ o. IsOrderedAnswer c.order c.limit o answer) (sym output)
     (subst (λ keys. IsOrderedAnswer keys c.limit answer answer) (sym one.order)

@@ -1,14 +1,21 @@
 -- How a run ends: its status, and the line that tells of it.
-use Rattle.std.specs.Prelude.{◌⊎◌, ℕ, List, [], ◌∷◌, ◌++◌, codes, Option}
+use Rattle.std.specs.Prelude.{◌≡◌, ◌⊎◌, ℕ, List, [], ◌∷◌, ◌++◌, codes, decimal, Option, Result, OnOk, OnErr}
 use Rattle.outside_io.specs.Growth.{GrewBy, GrewByPrefix}
+use Rattle.query_model.specs.declared.places.BadField.{BadField}
+use Rattle.query_model.specs.declared.places.BadField.TheVariants as field
 use Rattle.query_model.specs.declared.query.Refusal.{Refusal}
 use Rattle.query_model.specs.declared.query.Refusal.TheVariants as refuse
+use Rattle.query_model.specs.declared.processor_spec.Kind.{Kind}
+use Rattle.query_model.specs.declared.processor_spec.Kind.TheVariants as kind
 use Rattle.sql_text.specs.declared.limits.ParseRefusal.{ParseRefusal}
 use Rattle.sql_text.specs.declared.limits.ParseRefusal.TheVariants as parse
+use Rattle.query_run.specs.declared.ending.PartName.{PartName}
 use Rattle.query_run.specs.declared.ending.Failure.{Failure}
 use Rattle.query_run.specs.declared.ending.Failure.TheVariants as failure
 use Rattle.query_run.specs.declared.ending.Ending.{Ending}
 use Rattle.query_run.specs.declared.ending.Ending.TheVariants.{Answered, Failed, WriteFailed}
+
+-- ---- statuses
 
 -- the status of a refused text, and of one for which memory ran out
 abbrev pub text_status : ParseRefusal → ℕ
@@ -23,16 +30,20 @@ abbrev pub failure_status : Failure → ℕ
 failure_status failure.Usage = 1
 failure_status (failure.RefusedText refusal) = text_status refusal
 failure_status (failure.RefusedQuery refusal) = query_status refusal
-failure_status (failure.Bad place) = 3
-failure_status failure.Read = 4
-failure_status failure.Stalled = 4
-failure_status failure.TooLong = 6
+failure_status (failure.Bad name place) = 3
+failure_status (failure.Read name) = 4
+failure_status (failure.Stalled name) = 4
+failure_status (failure.Stock s) = 6
+failure_status (failure.TooLong name) = 6
+failure_status (failure.Unlawful k) = 6
 failure_status failure.Memory = 7
 
 abbrev pub status_of : Ending → ℕ
 status_of Answered = 0
 status_of (Failed f) = failure_status f
 status_of WriteFailed = 5
+
+-- ---- lines
 
 abbrev pub text_line : ParseRefusal → List ℕ
 text_line parse.TooLong = codes "qrun: refused: TooLong"
@@ -54,14 +65,40 @@ query_line (refuse.BadOrderKey name) = codes "qrun: refused: BadOrderKey " ++ na
 query_line refuse.TooWide = codes "qrun: refused: TooWide"
 query_line refuse.Memory = codes "qrun: out of memory"
 
+abbrev pub kind_name : Kind → List ℕ
+kind_name kind.Csv = codes "Csv"
+kind_name kind.List = codes "List"
+kind_name kind.Numbers = codes "Numbers"
+kind_name kind.Filter = codes "Filter"
+kind_name kind.Expression = codes "Expression"
+kind_name kind.Resize = codes "Resize"
+kind_name kind.PartialAggregate = codes "PartialAggregate"
+kind_name kind.MergeAggregate = codes "MergeAggregate"
+kind_name kind.HashJoin = codes "HashJoin"
+kind_name kind.Sort = codes "Sort"
+kind_name kind.MergeSorted = codes "MergeSorted"
+kind_name kind.Limit = codes "Limit"
+kind_name kind.Collect = codes "Collect"
+
+-- a table's part, as lines name it
+abbrev pub part_words : PartName → List ℕ
+part_words name = codes "table " ++ name.table ++ codes " part " ++ decimal name.part
+
+-- what is wrong with a record, as lines say it
+abbrev pub field_words : BadField → List ℕ
+field_words (field.Column c) = codes " column " ++ decimal c
+field_words (field.Fields n) = codes " fields " ++ decimal n
+
 abbrev pub failure_line : Failure → List ℕ
 failure_line failure.Usage = codes "qrun: usage"
 failure_line (failure.RefusedText refusal) = text_line refusal
 failure_line (failure.RefusedQuery refusal) = query_line refusal
-failure_line (failure.Bad place) = codes "qrun: bad data"
-failure_line failure.Read = codes "qrun: read fault"
-failure_line failure.Stalled = codes "qrun: stalled"
-failure_line failure.TooLong = codes "qrun: limit: bytes"
+failure_line (failure.Bad name place) = codes "qrun: bad data: " ++ part_words name ++ codes " row " ++ decimal place.row ++ field_words place.field
+failure_line (failure.Read name) = codes "qrun: read fault: " ++ part_words name
+failure_line (failure.Stalled name) = codes "qrun: stalled: " ++ part_words name
+failure_line (failure.Stock s) = codes "qrun: limit: boxes of kind " ++ kind_name s.kind ++ codes " needed " ++ decimal s.needed ++ codes ", rack has " ++ decimal s.there
+failure_line (failure.TooLong name) = codes "qrun: limit: bytes of " ++ part_words name ++ codes ", at most 1073741824"
+failure_line (failure.Unlawful k) = codes "qrun: limit: unlawful box of kind " ++ kind_name k
 failure_line failure.Memory = codes "qrun: out of memory"
 
 -- the line with LF behind it; none for an answer
@@ -73,3 +110,9 @@ line_of WriteFailed = codes "qrun: write fault" ++ 10 ∷ []
 -- exactly the line was written, or a prefix of it where the sink failed
 abbrev pub TellsLine : List ℕ → (before after : Option (List ℕ)) → (failed : Type 0) → Type 0
 TellsLine line before after failed = GrewBy before after line ⊎ (failed × GrewByPrefix before after line)
+
+-- bytes were written whole, or a front of them where the sink failed
+pub record Writes {A E : Type 0} (bytes : List ℕ) (before after : Option (List ℕ)) (failed : Type 0) (r : Result A E) : Type 0 where
+  pub grew : OnOk r (GrewBy before after bytes)
+  pub grew_by_prefix : OnErr r (GrewByPrefix before after bytes)
+  pub fault : OnErr r failed

@@ -1,3 +1,4 @@
 pub mod Endings
+pub mod Racks
 pub mod Headline
 pub mod Steps

@@ -1,47 +1,46 @@
--- What the steps of an answer give: the checked query, and the text of a part's rows.
-use Rattle.std.specs.Prelude.{◌≡◌, ℕ, ◌<◌, Bool, List, [], ◌∷◌, length, IsSome, IfSome, Some, None, Option, ⊤}
-use Rattle.outside_io.specs.declared.entries.FileEntry.{FileEntry}
-use Rattle.query_model.specs.Analysis.{IsTypedQuery, from_types}
+-- What the steps of an answer give: the checked query, the plan, and the text of what it gives.
+use Rattle.std.specs.Prelude.{◌≡◌, ℕ, Bool, List, [], ◌∷◌, length, ⊤}
+use Rattle.chunk_data.specs.Values.{Row, Table}
 use Rattle.query_model.specs.Answers.{selected_rows}
-use Rattle.query_model.specs.Checks.{IsChecked}
-use Rattle.query_model.specs.Expressions.{rows_where}
-use Rattle.query_model.specs.Refusals.{refusal_of}
+use Rattle.query_model.specs.Expressions.{Expr, rows_where}
 use Rattle.query_model.specs.Texts.{answer_text}
-use Rattle.query_model.specs.Database.{file_bytes, part_rows, part_bad_place, IsValidPart, column_types}
+use Rattle.query_model.specs.Database.{Files, part_rows, IsValidPart, column_types}
 use Rattle.query_model.specs.declared.query.PartsDecl.{PartsDecl}
 use Rattle.query_model.specs.declared.query.PartsDecl.TheVariants.{Paths, ListFile}
-use Rattle.query_model.specs.declared.query.Query.{Query}
 use Rattle.query_model.specs.declared.query.TableDecl.{TableDecl}
-use Rattle.outside_io.specs.Told.{files_of}
 use Rattle.query_model.specs.declared.checked.Checked.{Checked}
-use Rattle.sql_text.specs.Refusals.{IsReadFrom, IsRefused}
+use Rattle.query_model.specs.declared.checked.Shape.{Shape}
+use Rattle.query_model.specs.declared.checked.Shape.TheVariants.{Plain, Grouped}
+use Rattle.query_model.specs.declared.processor_spec.PartSpec.{PartSpec}
+use Rattle.query_model.specs.declared.processor_spec.Spec.{Spec}
+use Rattle.sql_text.specs.Refusals.{IsRefused}
 use Rattle.command_line.specs.declared.words.Command.{Command}
-use Rattle.query_run.specs.Headline.{schemas_of, IsRefusedQuery}
+use Rattle.proc_api.specs.Boxes.{BoxPicture}
+use Rattle.proc_api.specs.Histories.{chunk_rows}
+use Rattle.proc_api.specs.declared.status.WorkFault.{WorkFault}
+use Rattle.proc_api.specs.declared.status.WorkFault.TheVariants as fault
+use Rattle.plan_run.specs.Plans.{FailsWith, GivesRows, HasUnlawful, RunsPlan}
+use Rattle.plan_run.specs.declared.run.PlanFault.{PlanFault}
+use Rattle.plan_run.specs.declared.run.PlanFault.TheVariants as end
+use Rattle.query_run.specs.Headline.{IsRefusedQuery}
+use Rattle.query_run.specs.declared.ending.PartName.{PartName}
 use Rattle.query_run.specs.declared.ending.Failure.{Failure}
 use Rattle.query_run.specs.declared.ending.Failure.TheVariants as failure
-use Rattle.csv_rows.specs.declared.file_fetch.FileFault.{FileFault}
-use Rattle.csv_rows.specs.declared.file_fetch.FileFault.TheVariants as file
-use Rattle.csv_rows.specs.declared.rows.RowsFault.{RowsFault}
-use Rattle.csv_rows.specs.declared.rows.RowsFault.TheVariants as rows
-
--- a query that is read from the command's text and not refused is checked so
-pub record IsCheckedCommand (command : Command) (checked : Checked) : Type 0 where
-  pub query : Query
-  pub read : IsReadFrom query command.query
-  pub accepted : refusal_of query (schemas_of command) ≡ None
-  pub is : IsChecked query (schemas_of command) checked
-  pub typed : IsTypedQuery (from_types query (schemas_of command)) checked
 
 -- why a command's query was not checked; want of memory is free
 abbrev pub CheckFailsFor : Failure → Command → Type 0
 CheckFailsFor failure.Usage command = ⊥
 CheckFailsFor (failure.RefusedText refusal) command = IsRefused refusal command.query
 CheckFailsFor (failure.RefusedQuery refusal) command = IsRefusedQuery command refusal
-CheckFailsFor (failure.Bad place) command = ⊥
-CheckFailsFor failure.Read command = ⊥
-CheckFailsFor failure.Stalled command = ⊥
-CheckFailsFor failure.TooLong command = ⊥
+CheckFailsFor (failure.Stock s) command = ⊥
+CheckFailsFor (failure.Bad name place) command = ⊥
+CheckFailsFor (failure.Read name) command = ⊥
+CheckFailsFor (failure.Stalled name) command = ⊥
+CheckFailsFor (failure.TooLong name) command = ⊥
+CheckFailsFor (failure.Unlawful k) command = ⊥
 CheckFailsFor failure.Memory command = ⊤
+
+-- ---- the plan
 
 -- the path of a table with one part
 abbrev pub only_path : PartsDecl → List ℕ
@@ -52,39 +51,69 @@ only_path (ListFile path) = []
 abbrev pub HasOnePath : PartsDecl → Type 0
 HasOnePath parts = parts ≡ Paths (only_path parts ∷ [])
 
+-- the first part of a table, as lines name it
+abbrev pub first_part : TableDecl → PartName
+first_part table = record { table = table.schema.name; part = 1 }
+
+-- what the source of the first part of the first table is loaded with
+abbrev pub part_spec : Bool → ℕ → TableDecl → PartSpec
+part_spec header rows table = record { table = 0; part = 1; path = only_path table.parts; types = column_types table.schema; header = header; rows = rows }
+
+abbrev pub IsPlainShape : Shape → Type 0
+IsPlainShape (Plain items) = ⊤
+IsPlainShape (Grouped g) = ⊥
+
+-- the items of a query without groups
+abbrev pub items_of : Shape → List Expr
+items_of (Plain items) = items
+items_of (Grouped g) = []
+
+-- ---- what it gives
+
+-- a run of these specs gave chunks, and this is the text of their rows
+pub record GivesText (header : Bool) (names : List (List ℕ)) (specs : List Spec) (before after : List BoxPicture) (text : List ℕ) : Type 0 where
+  pub chunks : List Table
+  pub gives : GivesRows (RunsPlan specs before after) (length specs) chunks
+  pub is : text ≡ answer_text header names (chunk_rows chunks)
+
 -- the part is valid, and the text is that of what the checked query selects of its rows
-pub record IsPartText (header : Bool) (table : TableDecl) (checked : Checked) (files : List FileEntry) (text : List ℕ) : Type 0 where
-  pub valid : IsValidPart header (column_types table.schema) (files_of files) (only_path table.parts)
+pub record IsPartText (header : Bool) (table : TableDecl) (checked : Checked) (files : Files) (text : List ℕ) : Type 0 where
+  pub valid : IsValidPart header (column_types table.schema) files (only_path table.parts)
   pub is : text ≡ answer_text header checked.names
-      (selected_rows checked.shape (column_types table.schema) (rows_where checked.filter (part_rows header (column_types table.schema) (files_of files) (only_path table.parts))))
+      (selected_rows checked.shape (column_types table.schema) (rows_where checked.filter (part_rows header (column_types table.schema) files (only_path table.parts))))
 
--- the part has a bad place
-abbrev pub IsBadFile : Bool → TableDecl → List FileEntry → Type 0
-IsBadFile header table files = IsSome (part_bad_place header (column_types table.schema) (files_of files) (only_path table.parts))
+-- ---- why it gives nothing
 
--- the part has more bytes than a part may have
-pub record IsLongFile (table : TableDecl) (files : List FileEntry) : Type 0 where
-  pub bytes : List ℕ
-  pub are : file_bytes (files_of files) (only_path table.parts) ≡ Some bytes
-  pub long : 1073741824 < length bytes
+-- the box of some node keeps this fault
+pub record HasFault (R : List BoxPicture → Type 0) (f : WorkFault) : Type 0 where
+  pub node : ℕ
+  pub fails : FailsWith R node f
 
--- why the text of a part was not made; want of memory is free
-abbrev pub PartFailsFor : Failure → Bool → TableDecl → (files : Option (List FileEntry)) → (read stalled : Type 0) → Type 0
-PartFailsFor failure.Usage header table files read stalled = ⊥
-PartFailsFor (failure.RefusedText refusal) header table files read stalled = ⊥
-PartFailsFor (failure.RefusedQuery refusal) header table files read stalled = ⊥
-PartFailsFor (failure.Bad place) header table files read stalled = IfSome files (IsBadFile header table)
-PartFailsFor failure.Read header table files read stalled = read
-PartFailsFor failure.Stalled header table files read stalled = stalled
-PartFailsFor failure.TooLong header table files read stalled = IfSome files (IsLongFile table)
-PartFailsFor failure.Memory header table files read stalled = ⊤
+-- why a run of a plan that reads this part gave no text
+abbrev pub PlanFailsFor : Failure → PartName → (List BoxPicture → Type 0) → Type 0
+PlanFailsFor failure.Usage name R = ⊥
+PlanFailsFor (failure.RefusedText refusal) name R = ⊥
+PlanFailsFor (failure.RefusedQuery refusal) name R = ⊥
+PlanFailsFor (failure.Stock s) name R = ⊥
+PlanFailsFor (failure.Bad part place) name R = (part ≡ name) × HasFault R (fault.Bad place)
+PlanFailsFor (failure.Read part) name R = (part ≡ name) × HasFault R fault.Read
+PlanFailsFor (failure.Stalled part) name R = (part ≡ name) × HasFault R fault.Stalled
+PlanFailsFor (failure.TooLong part) name R = (part ≡ name) × HasFault R fault.TooLong
+PlanFailsFor (failure.Unlawful k) name R = HasUnlawful R k
+PlanFailsFor failure.Memory name R = ⊤
 
-abbrev pub failure_of_file : FileFault → Failure
-failure_of_file file.Read = failure.Read
-failure_of_file file.Stalled = failure.Stalled
-failure_of_file file.TooLong = failure.TooLong
-failure_of_file file.Memory = failure.Memory
+-- a fault of a plan without list files, which isn't want of memory
+abbrev pub IsPlanFault : PlanFault → Type 0
+IsPlanFault (end.Fault node fault.Memory) = ⊥
+IsPlanFault (end.Fault node (fault.BadList line)) = ⊥
+IsPlanFault _ = ⊤
 
-abbrev pub failure_of_rows : RowsFault → Failure
-failure_of_rows (rows.Bad place) = failure.Bad place
-failure_of_rows rows.Memory = failure.Memory
+abbrev pub failure_of : PlanFault → PartName → Failure
+failure_of (end.Fault node (fault.Bad place)) name = failure.Bad name place
+failure_of (end.Fault node fault.Read) name = failure.Read name
+failure_of (end.Fault node fault.Stalled) name = failure.Stalled name
+failure_of (end.Fault node fault.TooLong) name = failure.TooLong name
+failure_of (end.Fault node fault.Memory) name = failure.Memory
+failure_of (end.Fault node (fault.BadList line)) name = failure.Memory
+failure_of (end.Stuck k) name = failure.Unlawful k
+failure_of end.Memory name = failure.Memory

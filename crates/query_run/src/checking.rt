@@ -2,7 +2,8 @@ ghost use Rattle.std.specs.Prelude.{◌≡◌, map, IfOk, IfErr};
 ghost use Rattle.query_model.specs.declared.query.Query.{Query};
 ghost use Rattle.sql_text.specs.Refusals.{IsReadFrom};
 ghost use Rattle.command_line.specs.Words.{IsPlainCommand};
-ghost use Rattle.query_run.specs.Steps.{CheckFailsFor, IsCheckedCommand};
+ghost use Rattle.query_run.specs.Headline.{IsCheckedCommand};
+ghost use Rattle.query_run.specs.Steps.{CheckFailsFor};
 
 use crate::ending::Failure;
 use chunk_data::{List, Memory};

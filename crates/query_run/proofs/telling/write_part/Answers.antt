@@ -1,0 +1,14 @@
+use Rattle.std.specs.Prelude.{◌++◌, codes, decimal}
+use Rattle.outside_io.specs.Counts.{Rose-earlier}
+use Rattle.query_run.proofs.Lines.{writes-after, writes-cut, writes-same, group-part}
+use Rattle.query_run.proofs.telling.write_part.Goals as goal
+
+pub returns-in-Ok-clause-line : goal.returns-in-Ok-clause-line
+returns-in-Ok-clause-line g c =
+    writes-same _ _ _ _ _ _ (group-part c.args.front.now (codes "table ") c.args.name.now.table (codes " part ") (decimal c.args.name.now.part))
+    (writes-after _ _ _ (c.args.front.now ++ codes "table ") (c.args.name.now.table ++ (codes " part " ++ decimal c.args.name.now.part)) _ _ _ (Rose-earlier _ _ _ c.write_two.ensures.faults_kept) c.in-Ok.ensures.line.grew c.write_table.ensures.line)
+
+pub returns-in-Err-clause-line : goal.returns-in-Err-clause-line
+returns-in-Err-clause-line g c =
+    writes-same _ _ _ _ _ _ (group-part c.args.front.now (codes "table ") c.args.name.now.table (codes " part ") (decimal c.args.name.now.part))
+    (writes-cut _ _ (c.args.front.now ++ codes "table ") (c.args.name.now.table ++ (codes " part " ++ decimal c.args.name.now.part)) _ _ c.in-Err.ensures.line.grew_by_prefix c.in-Err.ensures.line.fault)

@@ -1,0 +1,13 @@
+use Rattle.std.specs.Prelude.{◌++◌, codes}
+use Rattle.query_run.specs.Endings.{part_words}
+use Rattle.outside_io.specs.Counts.{Rose-earlier}
+use Rattle.query_run.proofs.Lines.{writes-after, writes-cut}
+use Rattle.query_run.proofs.telling.write_too_long.Goals as goal
+
+pub returns-in-Ok-clause-line : goal.returns-in-Ok-clause-line
+returns-in-Ok-clause-line g c =
+    writes-after _ _ _ (codes "qrun: limit: bytes of " ++ part_words c.args.name.now) (codes ", at most 1073741824") _ _ _ (Rose-earlier _ _ _ c.write_part.ensures.faults_kept) c.in-Ok.ensures.line.grew c.write_piece.ensures.line
+
+pub returns-in-Err-clause-line : goal.returns-in-Err-clause-line
+returns-in-Err-clause-line g c =
+    writes-cut _ _ (codes "qrun: limit: bytes of " ++ part_words c.args.name.now) (codes ", at most 1073741824") _ _ c.in-Err.ensures.line.grew_by_prefix c.in-Err.ensures.line.fault

@@ -1,0 +1,51 @@
+ghost use Rattle.std.specs.Prelude.{map, IfSome, IfNone};
+ghost use Rattle.query_run.specs.Racks.{HasBoxes, IsShort};
+
+use plan_laws::need;
+use proc_api::Rack;
+use query_model::checked::Checked;
+use query_model::processor_spec::Kind;
+
+/// All kinds, in their order.
+const KINDS: [Kind; 13] = [
+    Kind::Csv,
+    Kind::List,
+    Kind::Numbers,
+    Kind::Filter,
+    Kind::Expression,
+    Kind::Resize,
+    Kind::PartialAggregate,
+    Kind::MergeAggregate,
+    Kind::HashJoin,
+    Kind::Sort,
+    Kind::MergeSorted,
+    Kind::Limit,
+    Kind::Collect,
+];
+
+/// A rack has fewer boxes of a kind than are needed.
+#[derive(Clone, Copy, Debug)]
+pub(crate) struct Shortage {
+    pub kind: Kind,
+    pub needed: usize,
+    pub there: usize,
+}
+
+/// The first kind of which the rack has too few boxes for the plan of the query.
+pub(crate) fn first_shortage(checked: &Checked, rack: &Rack) -> Option<Shortage>
+    ensures short { IfSome result (λ s. IsShort checked.now (map (λ b. seen (b.vtable, b.value)) rack.now.boxes.items) s) }
+    ensures enough { IfNone result (HasBoxes checked.now (map (λ b. seen (b.vtable, b.value)) rack.now.boxes.items)) }
+{
+    for kind in KINDS {
+        let needed = need(checked, kind);
+        let there = rack.count(kind);
+        if there < needed {
+            return Some(Shortage {
+                kind,
+                needed,
+                there,
+            });
+        }
+    }
+    None
+}
