@@ -1,0 +1,5 @@
+pub mod Counts
+pub mod QueueRule
+pub mod ShelfRule
+pub mod SlotValues
+pub mod Seats

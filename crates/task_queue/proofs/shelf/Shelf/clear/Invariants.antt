@@ -1,0 +1,17 @@
+use Rattle.std.proofs.Common.{◌≡◌, ◌+◌, [], length, All}
+use Rattle.task_queue.specs.Numbers.{total}
+use Rattle.task_queue.specs.Rules.{all_parts}
+use Rattle.task_queue.specs.Shelves.{parts, held}
+use Rattle.task_queue.proofs.shelf.Shelf.clear.Given as goal
+
+abbrev pub invariant-loop-next : goal.invariant-loop-next
+invariant-loop-next g l = record {
+  table : l.seat.table_id ≡ l.table.shared.table_id;
+  bare : l.seat.me.1 ≡ [];
+  none : l.seat.me.0.held ≡ [];
+  whole : l.seat.me.0.parts + total parts l.seats.items ≡ all_parts;
+  idle : All (λ s. (s.seat.table_id ≡ l.table.shared.table_id) × (held s ≡ [])) l.seats.items;
+}
+
+abbrev pub decreases-loop-next : goal.decreases-loop-next
+decreases-loop-next g l = length l.seats.items

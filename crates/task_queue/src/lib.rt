@@ -1,0 +1,23 @@
+//! How the workers of an executor get their nodes: a queue of node numbers, and a shelf of what
+//! belongs to each node, from which one worker at a time takes it.
+//!
+//! A `TaskQueue` is used through passes. At every moment the numbers that were put through all
+//! passes are those that were taken through all passes and those that are left, each as often. A
+//! `Shelf` is used through seats. A seat takes the value of a place, which nobody else has until
+//! that seat puts it back. Whatever the threads do, the value at a place fits that place, as the
+//! trait `Placed` of its type says.
+//!
+//! - `queue.rt`: the queue, its rule and its passes
+//! - `shelf.rt`: the shelf and its calls
+//! - `seat.rt`: the rule of a shelf, its seats, and what each of their steps tells
+//! - `layout.rt`: how values lie in slots, and the room that is kept for `clear`
+#![tactic(auto)]
+
+mod layout;
+mod queue;
+mod seat;
+mod shelf;
+
+pub use queue::{QueuePass, TaskQueue};
+pub use seat::ShelfSeat;
+pub use shelf::{Placed, Shelf};
