@@ -1,0 +1,86 @@
+-- Places in lists, sets of edges as lists, and sights in lists.
+use Rattle.std.proofs.Common.{◌≡◌, ◌≢◌, ℕ, ◌<◌, eqb, List, [], ◌∷◌, ◌++◌, length, set, get_or, Bool, true, false, ◌||◌, refl, sym, ap, subst, ◌∙◌, inl, inr, arith}
+use Rattle.std.proofs.lemmas.Bool.{cases_eq}
+use Rattle.std.proofs.lemmas.List.{get_or-set_same, get_or-set_other}
+use Rattle.port_word.specs.declared.flags.Flags.{Flags}
+use Rattle.core_laws.specs.declared.types.Sight.{Sight}
+use Rattle.core_laws.specs.Views.{no_flags, has, once, adding, kept, edges_of, knows, flags_at, seeing}
+
+-- what holds of a place of a list in which one place was set
+pub at_put : {A : Type 0} (P : A → Type 0) (l : List A) (n m : ℕ) (x d : A) → n < length l
+    → (m ≡ n → P x) → (m ≢ n → P (get_or l m d)) → P (get_or (set l n x) m d)
+at_put P l n m x d h here other = elim (cases_eq m n) [
+  | inl e ↦ subst P (sym (ap (λ k. get_or (set l n x) k d) e ∙ get_or-set_same l n x d h)) (here e)
+  | inr ne ↦ subst P (sym (get_or-set_other l n m x d ne)) (other ne)
+]
+
+-- ---- sets
+
+-- what is kept was there
+pub kept-sub : (t : ℕ → Bool) (l : List ℕ) (d : ℕ) → has d (kept t l) ≡ true → has d l ≡ true
+kept-sub t [] d h = h
+kept-sub t (x ∷ xs) d h = grind (arith, kept-sub t xs d)
+
+-- what was there and passes the test is kept
+pub kept-has : (t : ℕ → Bool) (l : List ℕ) (d : ℕ) → t d ≡ true → has d l ≡ true
+    → has d (kept t l) ≡ true
+kept-has t [] d p h = h
+kept-has t (x ∷ xs) d p h = grind (arith, kept-has t xs d)
+
+-- each is kept at most once
+pub kept-once : (t : ℕ → Bool) (l : List ℕ) → once l ≡ true → once (kept t l) ≡ true
+kept-once t [] h = h
+kept-once t (x ∷ xs) h = grind (arith, kept-once t xs, kept-sub t xs x)
+
+-- what a list has with one more at its end
+pub has-last : (e d : ℕ) (l : List ℕ) → has d (l ++ e ∷ []) ≡ (has d l || eqb e d)
+has-last e d [] = grind arith
+has-last e d (x ∷ xs) = grind (arith, has-last e d xs)
+
+-- a list with one more that it hasn't names each at most once
+pub once-last : (e : ℕ) (l : List ℕ) → has e l ≡ false → once l ≡ true → once (l ++ e ∷ []) ≡ true
+once-last e [] n h = refl
+once-last e (x ∷ xs) n h = grind (arith, once-last e xs, has-last e x xs)
+
+-- what a set has with one more
+pub has-adding : (e d : ℕ) (l : List ℕ) → has d (adding e l) ≡ (has d l || eqb e d)
+has-adding e d l = grind (arith, has-last e d l)
+
+-- a set with one more names each at most once
+pub once-adding : (e : ℕ) (l : List ℕ) → once l ≡ true → once (adding e l) ≡ true
+once-adding e l h = grind (arith, once-last e l)
+
+-- ---- sights
+
+-- the edges seen stay
+pub edges-seeing : (e : ℕ) (f : Flags) (l : List Sight) → edges_of (seeing e f l) ≡ edges_of l
+edges-seeing e f [] = refl
+edges-seeing e f (g ∷ gs) = grind (arith, edges-seeing e f gs)
+
+-- the edge is seen as f
+pub seeing-here : (e : ℕ) (f : Flags) (l : List Sight) → knows e l ≡ true
+    → flags_at e (seeing e f l) ≡ f
+seeing-here e f [] h = grind arith
+seeing-here e f (g ∷ gs) h = grind (arith, seeing-here e f gs)
+
+-- every other edge is seen as before
+pub seeing-other : (e d : ℕ) (f : Flags) (l : List Sight) → d ≢ e
+    → flags_at d (seeing e f l) ≡ flags_at d l
+seeing-other e d f [] ne = refl
+seeing-other e d f (g ∷ gs) ne = grind (arith, seeing-other e d f gs)
+
+-- an edge that isn't known is seen with no flag
+pub flags-unknown : (e : ℕ) (l : List Sight) → knows e l ≡ false → flags_at e l ≡ no_flags
+flags-unknown e [] h = refl
+flags-unknown e (g ∷ gs) h = grind (arith, flags-unknown e gs)
+
+-- an edge that was learned is seen with no flag, and every other one as before
+pub flags-last : (e d : ℕ) (l : List Sight) → knows e l ≡ false
+    → flags_at d (l ++ record { edge = e; flags = no_flags } ∷ []) ≡ flags_at d l
+flags-last e d [] h = grind arith
+flags-last e d (g ∷ gs) h = grind (arith, flags-last e d gs)
+
+-- the edge goes last
+pub edges-last : (s : Sight) (l : List Sight) → edges_of (l ++ s ∷ []) ≡ edges_of l ++ s.edge ∷ []
+edges-last s [] = refl
+edges-last s (g ∷ gs) = ap (λ z. g.edge ∷ z) (edges-last s gs)

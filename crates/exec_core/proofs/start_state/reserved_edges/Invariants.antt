@@ -1,0 +1,6 @@
+use Rattle.std.proofs.Common.{◌≡◌, ◌+◌, drop}
+use Rattle.core_laws.specs.Views.{reserved_edges}
+use Rattle.exec_core.proofs.start_state.reserved_edges.Given as goal
+
+abbrev pub invariant-loop-r : goal.invariant-loop-r
+invariant-loop-r l = reserved_edges l.reserves ≡ l.edges + reserved_edges (drop l.r-index l.reserves)
