@@ -1,5 +1,11 @@
 pub mod Lines
 pub mod NextRecord
-pub mod RecordsLeft
 pub mod Pushing
+pub mod MachineSteps
+pub mod ByteRuns
+pub mod ByteLanes
+pub mod FieldPlaces
+pub mod QuotedFields
+pub mod RecordPlaces
+pub mod PartPlaces
 pub mod Fetching

@@ -6,25 +6,26 @@ use Rattle.csv_rows.specs.declared.file_fetch.Fetched.{Fetched}
 use Rattle.csv_rows.specs.declared.file_fetch.Fetched.TheVariants.{More, Whole, Pending}
 use Rattle.csv_rows.specs.declared.file_fetch.FetchFault.{FetchFault}
 use Rattle.csv_rows.specs.declared.file_fetch.FetchFault.TheVariants.{Read, TooLong, Memory}
-use Rattle.csv_rows.specs.declared.file_fetch.FileFault.{FileFault}
-use Rattle.csv_rows.specs.declared.file_fetch.FileFault.TheVariants as file
 
 -- the bytes of one read, from where the reader stood to where it stands
-pub record ReadsBlock (files : Option (List FileEntry)) (old new : Option (List ℕ × ℕ)) (block : List ℕ) : Type 0 where
+pub record ReadsBlock (files : Option (List FileEntry)) (old new : Option (List ℕ × ℕ))
+    (block : List ℕ) : Type 0 where
   pub some : 0 < length block
   pub bound : length block ≤ 65536
   pub next : GivesNext files old (length block) block
   pub moved : new ≡ moved_by (length block) old
 
 -- the held bytes grew by those of one read, within the limit
-pub record HoldsMore (files : Option (List FileEntry)) (old new : Option (List ℕ × ℕ)) (held grown : List ℕ) (limit : ℕ) : Type 0 where
+pub record HoldsMore (files : Option (List FileEntry)) (old new : Option (List ℕ × ℕ))
+    (held grown : List ℕ) (limit : ℕ) : Type 0 where
   pub block : List ℕ
   pub reads : ReadsBlock files old new block
   pub added : grown ≡ held ++ block
   pub within : length grown ≤ limit
 
 -- the held bytes and those of one read, so many, are more than the limit
-pub record PassesLimit (files : Option (List FileEntry)) (old new : Option (List ℕ × ℕ)) (held : List ℕ) (limit count : ℕ) : Type 0 where
+pub record PassesLimit (files : Option (List FileEntry)) (old new : Option (List ℕ × ℕ))
+    (held : List ℕ) (limit count : ℕ) : Type 0 where
   pub block : List ℕ
   pub reads : ReadsBlock files old new block
   pub counted : count ≡ length block
@@ -66,9 +67,11 @@ OnTooLong (TooLong n) P = P n
 OnTooLong Memory P = ⊤
 
 -- the reader stands behind the held bytes, which begin the file where it is told
-pub record HoldsFront (files : Option (List FileEntry)) (stands : Option (List ℕ × ℕ)) (path held : List ℕ) : Type 0 where
+pub record HoldsFront (files : Option (List FileEntry)) (stands : Option (List ℕ × ℕ))
+    (path held : List ℕ) : Type 0 where
   pub at : stands ≡ Some (path, length held)
-  pub front : IfSome (told_content files stands) (λ content. (length held ≤ length content) × (held ≡ take (length held) content))
+  pub front : IfSome (told_content files stands)
+      (λ content. (length held ≤ length content) × (held ≡ take (length held) content))
 
 -- these are the bytes of the file, where it is told
 abbrev pub IsFile : Option (List FileEntry) → List ℕ → List ℕ → Type 0
@@ -83,10 +86,3 @@ pub record PassesAll (all : List FileEntry) (path : List ℕ) (limit : ℕ) : Ty
 -- the same, where the file is told
 abbrev pub IsLongFile : Option (List FileEntry) → List ℕ → ℕ → Type 0
 IsLongFile files path limit = IfSome files (λ all. PassesAll all path limit)
-
--- why a file was not fetched: each answer but want of memory has its cause
-abbrev pub HasCause : FileFault → (read stalled long : Type 0) → Type 0
-HasCause file.Read read stalled long = read
-HasCause file.Stalled read stalled long = stalled
-HasCause file.TooLong read stalled long = long
-HasCause file.Memory read stalled long = ⊤

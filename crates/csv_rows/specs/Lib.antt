@@ -1,5 +1,7 @@
 pub mod Lines
-pub mod RecordsLeft
 pub mod Pushing
 pub mod RowsLeft
+pub mod Marks
+pub mod FieldPlaces
+pub mod RecordPlaces
 pub mod Fetching

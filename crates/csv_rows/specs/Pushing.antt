@@ -1,7 +1,8 @@
 -- What a record adds to columns, and what columns hold of records.
 use Rattle.std.specs.Prelude.{◌≡◌, ℕ, ◌+◌, List, [], ◌∷◌, ◌++◌, map, Some, None, ⊤}
 use Rattle.chunk_data.specs.declared.typed_value.Value.{Value}
-use Rattle.chunk_data.specs.declared.typed_value.ColumnType.{ColumnType}
+use Rattle.chunk_data.specs.declared.typed_column.Column.{Column}
+use Rattle.chunk_data.specs.Columns.{kind_of, values}
 use Rattle.chunk_data.specs.Values.{Row}
 use Rattle.chunk_data.specs.Rows.{joined}
 use Rattle.query_model.specs.Fields.{spelled_value, spelled_row}
@@ -29,18 +30,19 @@ record_fault field.Unspelled number i = Bad (record { row = number; field = bad.
 record_fault field.Memory number i = Memory
 
 -- a column got the value that the field spells at its end
-pub record AddsSpelled (type : ColumnType) (field : List ℕ) (old new : List Value) : Type 0 where
+pub record AddsSpelled (field : List ℕ) (old new : Column) : Type 0 where
   pub value : Value
-  pub spells : spelled_value type field ≡ Some value
-  pub added : new ≡ old ++ value ∷ []
+  pub spells : spelled_value (kind_of old) field ≡ Some value
+  pub added : values new ≡ values old ++ value ∷ []
 
 -- each column got its value of the row that the fields spell
-pub record AddsRecord (types : List ColumnType) (fields : List (List ℕ)) (old new : List (List Value)) : Type 0 where
+pub record AddsRecord (fields : List (List ℕ)) (old new : List Column) : Type 0 where
   pub row : Row
-  pub spells : spelled_row types fields ≡ Some row
-  pub added : new ≡ joined old (map (λ v. v ∷ []) row)
+  pub spells : spelled_row (map kind_of old) fields ≡ Some row
+  pub added : map values new ≡ joined (map values old) (map (λ v. v ∷ []) row)
 
--- the record with the number spells no row, and the place says why
-pub record IsBadRecord (types : List ColumnType) (fields : List (List ℕ)) (number : ℕ) (place : BadPlace) : Type 0 where
-  pub unspelled : spelled_row types fields ≡ None
-  pub is : place ≡ record { row = number; field = bad_field types fields }
+-- the record with the number spells no row of the columns, and the place says why
+pub record IsBadRecord (columns : List Column) (fields : List (List ℕ)) (number : ℕ)
+    (place : BadPlace) : Type 0 where
+  pub unspelled : spelled_row (map kind_of columns) fields ≡ None
+  pub is : place ≡ record { row = number; field = bad_field (map kind_of columns) fields }

@@ -1,21 +1,15 @@
--- The records of a part that are left, the first of which is read ahead.
+-- The records of a part that are left.
 use Rattle.std.specs.Prelude.{◌≡◌, ℕ, ◌+◌, ◌<◌, ◌≤◌, Bool, true, false, List, [], ◌∷◌, ◌++◌, length}
 use Rattle.chunk_data.specs.declared.typed_value.Value.{Value}
 use Rattle.chunk_data.specs.declared.typed_value.ColumnType.{ColumnType}
 use Rattle.chunk_data.specs.Values.{Row}
 use Rattle.chunk_data.specs.Rows.{AreLong, rows_of}
 use Rattle.query_model.specs.Parts.{bad_place, good_rows}
-use Rattle.csv_rows.specs.RecordsLeft.{Position}
 
 -- what a contract sees: the records that are left, and how many were passed
 pub record RowsLeft : Type 0 where
   pub rest : List (List (List ℕ))
   pub count : ℕ
-
--- the record at hand, where it is one read ahead, and those behind it
-abbrev pub records_from : Bool → Position → List (List (List ℕ))
-records_from true p = p.fields ∷ p.left
-records_from false p = []
 
 abbrev pub at_end : List (List (List ℕ)) → Bool
 at_end [] = true
@@ -25,15 +19,18 @@ abbrev pub first_record : List (List (List ℕ)) → List (List ℕ)
 first_record [] = []
 first_record (fields ∷ more) = fields
 
--- The good rows of the records that were left are the rows taken, at most so many, and those of the records that are left now. A row at least was
--- taken where a record was left.
-pub record TakesRows (types : List ColumnType) (old new : RowsLeft) (rows : List Row) (most : ℕ) : Type 0 where
+-- The good rows of the records that were left are the rows taken, at most so many, and those of the
+-- records that are left now. A row at least was taken where a record was left.
+pub record TakesRows (types : List ColumnType) (old new : RowsLeft) (rows : List Row) (most : ℕ)
+    : Type 0 where
   pub good : good_rows types old.rest ≡ rows ++ good_rows types new.rest
-  pub places : bad_place (old.count + 1) types old.rest ≡ bad_place (new.count + 1) types new.rest
+  pub places :
+      bad_place (old.count + 1) types old.rest ≡ bad_place (new.count + 1) types new.rest
   pub within : length rows ≤ most
   pub some : at_end old.rest ≡ false → 0 < most → 0 < length rows
 
 -- the rows that were taken are those of the columns
-pub record ReadsFront (types : List ColumnType) (old new : RowsLeft) (columns : List (List Value)) (count most : ℕ) : Type 0 where
+pub record ReadsFront (types : List ColumnType) (old new : RowsLeft) (columns : List (List Value))
+    (count most : ℕ) : Type 0 where
   pub long : AreLong count columns
   pub takes : TakesRows types old new (rows_of count columns) most

@@ -1,15 +1,22 @@
-//! Parts as typed rows, and rows as text: the records of a CSV file are read straight into typed
+//! Parts as typed rows, and rows as text: the bytes of a CSV file are read straight into typed
 //! columns, and columns are written as the text of an answer.
+//!
+//! A record is read field by field into its columns (`record_by_field`), numbers while their digits
+//! are passed over (`digits`). Where anything surprises, what it added is taken back and the same
+//! record is read whole (`whole_record`), which tells why it is no row.
 #![tactic(auto)]
 
+mod digits;
+mod field_ends;
 mod file_fetch;
-mod record_reader;
+mod line_ends;
+mod record_by_field;
 mod row_reader;
 mod rows;
 mod text;
+mod whole_record;
 
-pub use file_fetch::{FetchFault, Fetched, FileFault, fetch, fetch_file, hold_block};
-pub use record_reader::RecordReader;
+pub use file_fetch::{FetchFault, Fetched, fetch, hold_block};
 pub use row_reader::RowReader;
-pub use rows::{RowsFault, read_rows};
+pub use rows::RowsFault;
 pub use text::write_rows;

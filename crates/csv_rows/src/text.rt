@@ -19,7 +19,8 @@ pub fn write_rows(
     names: Option<&List<Bytes>>,
     chunks: &[Chunk],
 ) -> Result<Vec<u8>, Memory>
-    ensures { IfOk result (λ v. v.items ≡ heading (option_copied names.entry) ++ rows_text (flat_map (λ (c : Table). c.rows) chunks.now)) }
+    ensures { IfOk result (λ v. v.items ≡ heading (option_copied names.entry)
+        ++ rows_text (flat_map (λ (c : Table). c.rows) chunks.now)) }
 {
     let mut out = Vec::new(alloc);
     append_heading(&mut out, names)?;
@@ -90,7 +91,8 @@ fn append_value(
     i: usize,
 ) -> Result<(), Memory>
     requires { i < length (values column.now) }
-    ensures { OnOk result (out.new.items ≡ out.old.items ++ value_text (value_at (values column.now) i)) }
+    ensures { OnOk result (
+        out.new.items ≡ out.old.items ++ value_text (value_at (values column.now) i)) }
 {
     match column {
         Column::Int64(numbers) => append_number(out, digits, numbers[i]),

@@ -10,8 +10,12 @@ loop-i-preserved c =
     let lt : c.loop-i.i < length (map Text c.args.names.now) = rw length-map c.loop-i-test.true in
     let lt2 : c.loop-i.i < length (map value_text (map Text c.args.names.now)) = rw length-map lt in
     let name = c.index-names-i.result in
-    line_more _ _ _ _ (map value_text (map Text c.args.names.now)) (quoted c.as_slice.result.now) c.loop-i.i (quoted name)
+    line_more _ _ _ _ (map value_text (map Text c.args.names.now))
+    (quoted c.as_slice.result.now) c.loop-i.i (quoted name)
     c.loop-i.invariant c.in_ok-append_comma.ensures c.in_ok-append_quoted.ensures
-    (ap quoted (c.as_slice.ensures ∙ c.index-names-i.is) ∙ ap value_text (sym (get_or-map Text c.args.names.now c.loop-i.i name (Text name) c.loop-i-test.true))
-    ∙ sym (get_or-map value_text (map Text c.args.names.now) c.loop-i.i (Text name) (quoted name) lt))
+    (ap quoted (c.as_slice.ensures ∙ c.index-names-i.is)
+    ∙ ap value_text
+    (sym (get_or-map Text c.args.names.now c.loop-i.i name (Text name) c.loop-i-test.true))
+    ∙ sym (get_or-map value_text (map Text c.args.names.now) c.loop-i.i (Text name)
+    (quoted name) lt))
     lt2

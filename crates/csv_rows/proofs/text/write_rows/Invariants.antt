@@ -6,4 +6,6 @@ use Rattle.csv_rows.specs.Lines.{heading}
 use Rattle.csv_rows.proofs.text.write_rows.Given as goal
 
 abbrev pub invariant-loop-chunk : goal.invariant-loop-chunk
-invariant-loop-chunk l = l.out.items ≡ heading (option_copied l.fn.names) ++ rows_text (flat_map (λ (c : Table). c.rows) (take l.chunk-index l.chunks))
+invariant-loop-chunk l =
+    l.out.items ≡ heading (option_copied l.fn.names)
+    ++ rows_text (flat_map (λ (c : Table). c.rows) (take l.chunk-index l.chunks))

@@ -1,0 +1,10 @@
+use Rattle.std.proofs.Common.{◌-◌, ◌<◌, ◌≤◌, length}
+use Rattle.csv_rows.proofs.QuotedFields.{QuotedSoFar}
+use Rattle.csv_rows.proofs.field_ends.quoted_end.Given as goal
+
+abbrev pub invariant-runs : goal.invariant-runs
+invariant-runs l =
+    QuotedSoFar l.bytes l.at l.field.items l.i × (l.at < l.i) × (l.i ≤ length l.bytes)
+
+abbrev pub decreases-runs : goal.decreases-runs
+decreases-runs l = length l.bytes - l.i

@@ -1,0 +1,8 @@
+use Rattle.std.proofs.Common.{◌≡◌, map, take, []}
+use Rattle.chunk_data.specs.Columns.{kind_of, values}
+use Rattle.csv_rows.proofs.row_reader.roomy_columns.Given as goal
+
+abbrev pub invariant-loop-kind : goal.invariant-loop-kind
+invariant-loop-kind l =
+    (map kind_of l.columns.items ≡ take l.kind-index l.kinds)
+    × (map values l.columns.items ≡ map (λ _. []) (take l.kind-index l.kinds))
