@@ -1,4 +1,7 @@
-pub mod Entries
-pub mod PlainLaws
-pub mod Scans
-pub mod Tables
+pub mod Cuts
+pub mod Meanings
+pub mod NameLaws
+pub mod PieceLaws
+pub mod Readings
+pub mod TableLaws
+pub mod WrittenLaws

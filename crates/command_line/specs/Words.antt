@@ -1,100 +1,105 @@
 -- The command that a list of words means.
-use Rattle.std.specs.Prelude.{◌≡◌, ℕ, ◌<◌, ◌≤◌, Bool, true, false, not, nat_le, ◌==◌, ◌&&◌, ◌||◌, if◌then◌else◌, List, [], ◌∷◌, length, map, bytes_eq, codes, Option, Some, None}
-use Rattle.std.specs.List.{All, list_all, before_first, after_first, slice_split}
-use Rattle.chunk_data.specs.declared.typed_value.ColumnType.{ColumnType}
-use Rattle.chunk_data.specs.declared.typed_value.ColumnType.TheVariants as column
-use Rattle.query_model.specs.declared.query.ColumnDecl.{ColumnDecl}
-use Rattle.query_model.specs.declared.query.PartsDecl.TheVariants.{Paths}
+use Rattle.std.specs.Prelude.{◌≡◌, ℕ, ◌^◌, ◌≤◌, Bool, false, nat_le, ◌==◌, ◌&&◌, if◌then◌else◌, List, [], ◌∷◌, length, Option, Some, None, option_and_then}
+use Rattle.query_model.specs.Fields.{numeral_below}
+use Rattle.query_model.specs.declared.query.PartsDecl.{PartsDecl}
+use Rattle.query_model.specs.declared.query.PartsDecl.TheVariants.{Paths, ListFile}
 use Rattle.query_model.specs.declared.query.TableDecl.{TableDecl}
-use Rattle.query_model.specs.Projection.{are_distinct, column_names}
-use Rattle.sql_grammar.specs.Tokens.{is_name}
+use Rattle.command_options.specs.Options.{options_of}
+use Rattle.command_options.specs.declared.options.OptionTexts.{OptionTexts}
+use Rattle.command_line.specs.Tables.{tables_of}
+use Rattle.command_line.specs.Written.{Declares}
 use Rattle.command_line.specs.declared.words.Command.{Command}
 
--- the types, spelled so
-abbrev pub type_named : List ℕ → Option ColumnType
-type_named text =
-    if bytes_eq text (codes "Int64") then Some column.Int64
-    else if bytes_eq text (codes "UInt64") then Some column.UInt64
-    else if bytes_eq text (codes "String") then Some column.Text
+abbrev pub number_in : ℕ → ℕ → Option ℕ
+number_in most n = if nat_le 1 n && nat_le n most then Some n else None
+
+-- one to five digits, and the number that they spell, where it is one of 1 to `most`
+abbrev pub number_up_to : ℕ → List ℕ → Option ℕ
+number_up_to most text =
+    if nat_le (length text) 5 then option_and_then (number_in most) (numeral_below (2 ^ 64) text)
     else None
 
-abbrev pub column_with : List ℕ → Option ColumnType → Option ColumnDecl
-column_with name None = None
-column_with name (Some kind) = if is_name name then Some (record { name = name; kind = kind }) else None
+abbrev pub number_given : ℕ → ℕ → Option (List ℕ) → Option ℕ
+number_given default most None = Some default
+number_given default most (Some text) = number_up_to most text
 
--- a name, one space and a type
-abbrev pub column_of : List ℕ → Option ColumnDecl
-column_of entry = column_with (before_first (λ b. b == 32) entry) (type_named (after_first (λ b. b == 32) entry))
+-- no tables where none are given
+abbrev pub tables_given : Option (List ℕ) → Option (List TableDecl)
+tables_given None = Some []
+tables_given (Some text) = tables_of text
 
-abbrev pub both_columns : Option ColumnDecl → Option (List ColumnDecl) → Option (List ColumnDecl)
-both_columns None more = None
-both_columns (Some c) None = None
-both_columns (Some c) (Some more) = Some (c ∷ more)
+abbrev pub command_with : OptionTexts → Option ℕ → Option ℕ → Option (List TableDecl)
+    → Option Command
+command_with texts None chunk_rows tables = None
+command_with texts (Some threads) None tables = None
+command_with texts (Some threads) (Some chunk_rows) None = None
+command_with texts (Some threads) (Some chunk_rows) (Some tables) = Some (record {
+  query = texts.query;
+  tables = tables;
+  threads = threads;
+  chunk_rows = chunk_rows;
+  header = texts.header;
+})
 
--- each entry's column, where each has one
-unfoldable pub columns_of_entries : List (List ℕ) → Option (List ColumnDecl)
-columns_of_entries [] = Some []
-columns_of_entries (entry ∷ entries) = both_columns (column_of entry) (columns_of_entries entries)
+-- 4 workers and chunks of 8,192 rows where the words name none, 16 and 65,536 at most
+abbrev pub command_in : OptionTexts → Option Command
+command_in texts =
+    command_with texts (number_given 4 16 texts.threads) (number_given 8192 65536 texts.chunk)
+    (tables_given texts.tables)
 
--- one to 64 columns whose names differ
-abbrev pub are_columns : List ColumnDecl → Bool
-are_columns columns = nat_le (length columns) 64 && are_distinct (map (λ (c : ColumnDecl). c.name) columns)
+-- the command that the words mean: what `clap` reads of them, where each text has its form
+unfoldable pub command_of : List (List ℕ) → Option Command
+command_of words = option_and_then command_in (options_of words)
 
-abbrev pub columns_if : Option (List ColumnDecl) → Option (List ColumnDecl)
-columns_if None = None
-columns_if (Some columns) = if are_columns columns then Some columns else None
+-- ---- the same as a relation, by the parts of the words
 
--- entries separated by commas
-abbrev pub columns_of : List ℕ → Option (List ColumnDecl)
-columns_of text = columns_if (columns_of_entries (slice_split (λ b. b == 44) text))
+-- one to five digits spell the number, which is one of 1 to `most`
+pub record SpellsNumber (most : ℕ) (text : List ℕ) (n : ℕ) : Type 0 where
+  pub digits : length text ≤ 5
+  pub spells : numeral_below (2 ^ 64) text ≡ Some n
+  pub some : 1 ≤ n
+  pub few : n ≤ most
 
-abbrev pub is_path_byte : ℕ → Bool
-is_path_byte b = not ((b == 43) || (b == 58) || (b == 59))
+abbrev pub GivesNumber : (default most : ℕ) → Option (List ℕ) → ℕ → Type 0
+GivesNumber default most None n = n ≡ default
+GivesNumber default most (Some text) n = SpellsNumber most text n
 
--- one or more characters other than `+`, `:` and `;`, of which the first isn't `@`
-abbrev pub is_path : List ℕ → Bool
-is_path [] = false
-is_path (b ∷ bytes) = not (b == 64) && list_all is_path_byte (b ∷ bytes)
+abbrev pub GivesTables : Option (List ℕ) → List TableDecl → Type 0
+GivesTables None tables = tables ≡ []
+GivesTables (Some text) tables = Declares text tables
 
-abbrev pub table_of : List ℕ → List ℕ → List ColumnDecl → TableDecl
-table_of name path columns = record { schema = record { name = name; columns = columns }; parts = Paths (path ∷ []) }
+-- the words give the texts of the options, and the command is what these spell
+pub record Means (words : List (List ℕ)) (c : Command) : Type 0 where
+  pub texts : OptionTexts
+  pub given : options_of words ≡ Some texts
+  pub query : c.query ≡ texts.query
+  pub tables : GivesTables texts.tables c.tables
+  pub threads : GivesNumber 4 16 texts.threads c.threads
+  pub chunk_rows : GivesNumber 8192 65536 texts.chunk c.chunk_rows
+  pub header : c.header ≡ texts.header
 
-abbrev pub table_with : List ℕ → List ℕ → Option (List ColumnDecl) → Option TableDecl
-table_with name path None = None
-table_with name path (Some columns) =
-    if is_name name && is_path path
-    then Some (table_of name path columns)
-    else None
+-- ---- what every command is
 
--- `name=path:columns`
-abbrev pub declaration_of : List ℕ → Option TableDecl
-declaration_of text =
-    let behind = after_first (λ b. b == 61) text in
-    table_with (before_first (λ b. b == 61) text) (before_first (λ b. b == 58) behind) (columns_of (after_first (λ b. b == 58) behind))
+pub record IsWithinLimits (c : Command) : Type 0 where
+  pub some_threads : 1 ≤ c.threads
+  pub few_threads : c.threads ≤ 16
+  pub some_rows : 1 ≤ c.chunk_rows
+  pub few_rows : c.chunk_rows ≤ 65536
 
-abbrev pub command_with : List ℕ → Option TableDecl → Option Command
-command_with query None = None
-command_with query (Some table) = Some (record { query = query; tables = table ∷ []; threads = 4; chunk_rows = 8192; header = false })
+-- ---- one table with one part
 
--- the words `--query`, a text, `--tables` and one declaration
-abbrev pub command_of : List (List ℕ) → Option Command
-command_of (first ∷ query ∷ third ∷ tables ∷ []) =
-    if bytes_eq first (codes "--query") && bytes_eq third (codes "--tables") then command_with query (declaration_of tables) else None
-command_of _ = None
+abbrev pub has_one_path : PartsDecl → Bool
+has_one_path (Paths paths) = length paths == 1
+has_one_path (ListFile path) = false
 
--- What every command of four words is: one table with one part, one to 64 columns whose names differ,
--- and the numbers that stand where the words give none.
+abbrev pub has_one_table : List TableDecl → Bool
+has_one_table [] = false
+has_one_table (t ∷ []) = has_one_path t.parts
+has_one_table (t ∷ next ∷ more) = false
+
 pub record IsPlainCommand (c : Command) : Type 0 where
   pub table : TableDecl
   pub one_table : c.tables ≡ table ∷ []
   pub path : List ℕ
   pub one_path : table.parts ≡ Paths (path ∷ [])
-  pub good_path : is_path path ≡ true
-  pub table_name : is_name table.schema.name ≡ true
-  pub some_columns : 0 < length table.schema.columns
-  pub few_columns : length table.schema.columns ≤ 64
-  pub distinct_names : are_distinct (column_names table.schema) ≡ true
-  pub good_names : All (λ name. is_name name ≡ true) (column_names table.schema)
-  pub no_header : c.header ≡ false
-  pub four_threads : c.threads ≡ 4
-  pub rows_of_chunks : c.chunk_rows ≡ 8192
+  pub within : IsWithinLimits c

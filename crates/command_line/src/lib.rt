@@ -1,11 +1,13 @@
 //! The words of the command line.
 //!
-//! A command is read from exactly four words: `--query`, a text, `--tables` and one declaration of a
-//! table with one part.
+//! `words` reads the command, `tables` the declarations of `--tables`, `pieces` what separators
+//! part, and `names` tests that names differ. Which option has which text is for `command_options`
+//! to say.
 #![tactic(auto)]
 
-#[cfg(test)]
-mod tests;
+mod names;
+mod pieces;
+mod tables;
 mod words;
 
 pub use words::{Command, WordsRefusal, read_words};

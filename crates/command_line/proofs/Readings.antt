@@ -1,0 +1,137 @@
+-- What is read of pieces, and what they are written as.
+use Rattle.std.proofs.Common.{◌≡◌, ℕ, ◌+◌, ◌≤◌, Bool, true, false, ◌&&◌, ◌==◌, if◌then◌else◌, List, [], ◌∷◌, length, map, refl, sym, ap, ap₂, subst, ◌∙◌, arith, Option, Some, None}
+use Rattle.std.specs.Prelude.{nat_le, option_map}
+use Rattle.std.specs.List.{All, count_by, slice_split, join_with_byte}
+use Rattle.std.proofs.lemmas.Bool.Decides.{nat_tests}
+use Rattle.std.proofs.lemmas.List.{length-map}
+use Rattle.std.proofs.lemmas.List.Elements.{All-cons, All-head, All-map, All-nil, All-tail, All-weaker}
+use Rattle.std.proofs.lemmas.List.Splits.{join_with_byte-slice_split, length-slice_split}
+use Rattle.query_model.specs.Projection.{are_distinct}
+use Rattle.command_line.specs.Pieces.{all_read, both_read, pieces_of}
+use Rattle.command_line.specs.Tables.{few_named, few_of}
+use Rattle.command_line.specs.Written.{AreFew}
+use Rattle.command_line.proofs.Cuts.{Lacks, both_left, both_right, joined_split}
+
+pub none_some : {X : Type 0} (x : X) → None ≡ Some x → ⊥
+none_some x e = cc
+
+pub some_same : {X : Type 0} (x y : X) → Some x ≡ Some y → x ≡ y
+some_same x y e = cc
+
+pub if_true : {X : Type 0} (b : Bool) (x y : X) → (if b then Some x else None) ≡ Some y → b ≡ true
+if_true true x y e = refl
+if_true false x y e = absurd (none_some y e)
+
+pub if_same : {X : Type 0} (b : Bool) (x y : X) → (if b then Some x else None) ≡ Some y → x ≡ y
+if_same true x y e = some_same x y e
+if_same false x y e = absurd (none_some y e)
+
+-- what a map gives, it gives of something
+pub record IsMapped {X Y : Type 0} (f : X → Y) (o : Option X) (y : Y) : Type 0 where
+  pub of : X
+  pub some : o ≡ Some of
+  pub is : f of ≡ y
+
+pub mapped : {X Y : Type 0} (f : X → Y) (o : Option X) (y : Y) → option_map f o ≡ Some y
+    → IsMapped f o y
+mapped f None y e = absurd (none_some y e)
+mapped f (Some x) y e = record { of = x; some = refl; is = some_same (f x) y e }
+
+pub at_most : (n m : ℕ) → nat_le n m ≡ true → n ≤ m
+at_most n m e = grind (arith, nat_tests)
+
+pub at_most_test : (n m : ℕ) → n ≤ m → nat_le n m ≡ true
+at_most_test n m e = grind (arith, nat_tests)
+
+module _ {X : Type 0} (read : List ℕ → Option X) (text_of : X → List ℕ) (Good : X → Type 0) where
+  -- these are good, and are written as these texts
+  pub record AreWritten (texts : List (List ℕ)) (xs : List X) : Type 0 where
+    pub each : All Good xs
+    pub written : map text_of xs ≡ texts
+
+  module _ (reads : (t : List ℕ) (x : X) → read t ≡ Some x → Good x × (text_of x ≡ t)) where
+    both_written : (t : List ℕ) (ts : List (List ℕ)) (o : Option X) (more : Option (List X))
+        (xs : List X)
+        → ((x : X) → o ≡ Some x → Good x × (text_of x ≡ t))
+        → ((ys : List X) → more ≡ Some ys → AreWritten ts ys)
+        → both_read o more ≡ Some xs → AreWritten (t ∷ ts) xs
+    both_written t ts None more xs one others e = absurd (none_some xs e)
+    both_written t ts (Some x) None xs one others e = absurd (none_some xs e)
+    both_written t ts (Some x) (Some ys) xs one others e =
+        let first = one x refl in
+        let rest = others ys refl in
+        subst (AreWritten (t ∷ ts)) (some_same (x ∷ ys) xs e)
+        (record {
+          each = All-cons Good x ys first.0 rest.each;
+          written = ap₂ (λ (p : List ℕ) (ps : List (List ℕ)). p ∷ ps) first.1 rest.written;
+        })
+
+    all_written : (ts : List (List ℕ)) (xs : List X) → all_read read ts ≡ Some xs → AreWritten ts xs
+    unfolding all_read
+    all_written [] xs e = subst (AreWritten []) (some_same [] xs e)
+        (record { each = All-nil Good; written = refl })
+    all_written (t ∷ ts) xs e = both_written t ts (read t) (all_read read ts) xs (reads t)
+        (all_written ts) e
+
+    -- one or more are read, which are written as the text
+    pub pieces_written : (s : ℕ) (text : List ℕ) (xs : List X) → pieces_of read s text ≡ Some xs
+        → All Good xs × (1 ≤ length xs) × (join_with_byte s (map text_of xs) ≡ text)
+    pieces_written s text xs e =
+        let all = all_written (slice_split (λ b. b == s) text) xs e in
+        let count : length xs ≡ count_by (λ b. b == s) text + 1 = sym (length-map xs text_of)
+        ∙ ap length all.written ∙ length-slice_split (λ b. b == s) text in (
+          all.each,
+          omega (arith, count),
+          ap (join_with_byte s) all.written
+              ∙ join_with_byte-slice_split s text,
+        )
+
+    -- a few are read
+    pub few_written : (name : X → List ℕ) (most s : ℕ) (text : List ℕ) (xs : List X)
+        → few_of name most (pieces_of read s text) ≡ Some xs
+        → AreFew Good name most xs × (join_with_byte s (map text_of xs) ≡ text)
+    few_written name most s text xs e = go (pieces_of read s text) refl e
+      where
+        go : (o : Option (List X)) → pieces_of read s text ≡ o → few_of name most o ≡ Some xs
+            → AreFew Good name most xs × (join_with_byte s (map text_of xs) ≡ text)
+        go None is e = absurd (none_some xs e)
+        go (Some ys) is e =
+            let same = if_same (few_named name most ys) ys xs e in
+            let passes = ap (few_named name most) (sym same)
+            ∙ if_true (few_named name most ys) ys xs e in
+            let read = pieces_written s text xs (is ∙ ap Some same) in (
+              record {
+                each = read.0;
+                some = read.1;
+                few = at_most (length xs) most
+                    (both_left (nat_le (length xs) most) (are_distinct (map name xs)) passes);
+                distinct = both_right (nat_le (length xs) most) (are_distinct (map name xs)) passes;
+              },
+              read.2,
+            )
+
+  module _ (whole : (x : X) → Good x → read (text_of x) ≡ Some x) where
+    all_whole : (xs : List X) → All Good xs → all_read read (map text_of xs) ≡ Some xs
+    unfolding all_read
+    all_whole [] h = refl
+    all_whole (x ∷ xs) h = ap₂ both_read (whole x (All-head Good x xs h))
+        (all_whole xs (All-tail Good x xs h))
+
+    -- what is written is read
+    pub pieces_whole : (s : ℕ) (xs : List X) → ((x : X) → Good x → Lacks s (text_of x))
+        → All Good xs → 1 ≤ length xs
+        → pieces_of read s (join_with_byte s (map text_of xs)) ≡ Some xs
+    pieces_whole s xs lacks h some =
+        ap (all_read read) (joined_split s (map text_of xs)
+        (All-map (Lacks s) text_of xs (All-weaker Good (λ x. Lacks s (text_of x)) lacks xs h))
+        (omega (arith, some, length-map xs text_of)))
+        ∙ all_whole xs h
+
+    -- a few that are written are read
+    pub few_whole : (name : X → List ℕ) (most s : ℕ) (xs : List X)
+        → ((x : X) → Good x → Lacks s (text_of x)) → AreFew Good name most xs
+        → few_of name most (pieces_of read s (join_with_byte s (map text_of xs))) ≡ Some xs
+    few_whole name most s xs lacks h =
+        ap (few_of name most) (pieces_whole s xs lacks h.each h.some)
+        ∙ ap (λ (b : Bool). if b then Some xs else None)
+        (ap₂ (λ (a b : Bool). a && b) (at_most_test (length xs) most h.few) h.distinct)

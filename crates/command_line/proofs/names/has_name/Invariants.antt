@@ -1,0 +1,8 @@
+use Rattle.std.proofs.Common.{◌≡◌, map, drop}
+use Rattle.std.specs.List.{list_any}
+use Rattle.std.specs.Str.{bytes_eq}
+use Rattle.command_line.proofs.names.has_name.Given as goal
+
+abbrev pub invariant-loop-i : goal.invariant-loop-i
+invariant-loop-i g l = list_any (bytes_eq l.name) (map g.T.Named.named l.items) ≡ list_any
+    (bytes_eq l.name) (map g.T.Named.named (drop l.i l.items))
