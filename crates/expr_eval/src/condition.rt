@@ -2,7 +2,7 @@ ghost use Rattle.std.specs.Prelude.{◌≡◌, pos, length, map, IfOk, IfSome, N
 ghost use Rattle.std.specs.List.{zip};
 ghost use Rattle.std.specs.Ordering.{int_cmp};
 ghost use Rattle.chunk_data.specs.Columns.{kind_of, values};
-ghost use Rattle.query_model.specs.Expressions.{value_of, type_of, operand_value, truth_of, number_of, plain_value, passes, compared};
+ghost use Rattle.query_model.specs.Expressions.{value_of, type_of, operand_value, holds, number_of, plain_value, passes, compared};
 ghost use Rattle.query_model.specs.Typing.{IsTyped, IsTypedOperand, IsTypedCond, operand_type, is_text, plain_of};
 
 use crate::compare_loops::{
@@ -354,7 +354,7 @@ fn compare(
 /// by bytes.
 pub fn mask(alloc: Global, cond: &Cond, chunk: &Chunk) -> Result<Vec<bool>, Memory>
     requires { IsTypedCond chunk.now.types cond.now }
-    ensures { IfOk result (λ m. m.items ≡ map (truth_of cond.now) chunk.now.rows) }
+    ensures { IfOk result (λ m. m.items ≡ map (holds cond.now) chunk.now.rows) }
 {
     match cond {
         CondOf::Compare(op, left, right) => {

@@ -6,8 +6,6 @@ mod compare_loops;
 mod condition;
 mod expression;
 mod items;
-#[cfg(test)]
-mod tests;
 mod type_test;
 
 pub use condition::mask;

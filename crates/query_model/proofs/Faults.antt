@@ -6,7 +6,7 @@ use Rattle.std.proofs.lemmas.List.{take_more, append-nil}
 use Rattle.std.proofs.lemmas.List.Folds.{find-append}
 use Rattle.std.proofs.lemmas.Grind.{flat_map-append}
 use Rattle.query_model.specs.Refusals.{FromColumn, written, text_columns, item_columns, operand_columns, operands_of, listed}
-use Rattle.query_model.specs.Analysis.{IsPlainQuery}
+use Rattle.query_model.specs.Analysis.{IsUngrouped}
 use Rattle.query_model.specs.Placing.{has_fault, first_fault}
 use Rattle.query_model.specs.declared.query.ColumnRef.{ColumnRef}
 use Rattle.query_model.specs.declared.query.Item.{Item}
@@ -57,7 +57,7 @@ module _ (fault : NameFault) (columns : List FromColumn) where
         ∙ fault_behind (flat_map names (take i xs)) (names (get_or xs i d)) none ∙ here
 
 -- the names of a query without further clauses
-pub plain_text_columns : (q : Query) → IsPlainQuery q
+pub plain_text_columns : (q : Query) → IsUngrouped q
     → text_columns q ≡ flat_map (λ (i : Item). item_columns i.what) (listed q.items) ++ flat_map operand_columns (operands_of q.filter)
 plain_text_columns q h =
     let items = flat_map (λ (i : Item). item_columns i.what) (listed q.items) in

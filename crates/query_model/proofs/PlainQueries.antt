@@ -1,5 +1,5 @@
 -- What the conditions are on a query without further clauses, and its checked query.
-use Rattle.std.proofs.Common.{◌≡◌, ℕ, ◌≤◌, Bool, true, false, ◌&&◌, ◌||◌, cond, List, [], ◌∷◌, ◌++◌, filter, length, refl, sym, ap, ap₂, ◌∙◌, subst, arith, Option, Some, None}
+use Rattle.std.proofs.Common.{◌≡◌, ℕ, ◌≤◌, Bool, true, false, ◌&&◌, ◌||◌, cond, List, [], ◌∷◌, ◌++◌, filter, length, map, refl, sym, ap, ap₂, ◌∙◌, subst, arith, Option, Some, None}
 use Rattle.std.specs.Prelude.{nat_lt, find, option_map}
 use Rattle.std.specs.List.{All, list_any, list_all}
 use Rattle.std.proofs.Math.Bool.{or-false}
@@ -12,8 +12,8 @@ use Rattle.query_model.specs.declared.checked.TableUse.{TableUse}
 use Rattle.query_model.specs.declared.checked.Shape.TheVariants.{Plain}
 use Rattle.query_model.specs.Refusals.{FromColumn, output_names, written, table_columns, from_columns, text_columns, listed, item_kind, is_typed, is_call, is_grouped, fits_where, unknown_table, unknown_column, ambiguous_column, bad_join_key, type_mismatch, not_grouped, bad_order_key, too_wide, first_of_all, refusal_of}
 use Rattle.query_model.specs.Checks.{IsChecked, IsCheckedJoin, IsShape, IsPlacedCond, BothOrNone, ArePlainItems, output_types, use_of}
-use Rattle.query_model.specs.Placing.{place_in, has_fault, unknown_over, ambiguous_over, mismatch_over, width_over, types_fit_over}
-use Rattle.query_model.specs.Analysis.{IsPlainQuery, HasNoCall, IsDue}
+use Rattle.query_model.specs.Placing.{place_in, has_fault, unknown_over, ambiguous_over, mismatch_over, order_over, sort_key, width_over, types_fit_over}
+use Rattle.query_model.specs.Analysis.{IsUngrouped, HasNoCall, IsDue}
 use Rattle.query_model.proofs.TypedQueries.{both}
 use Rattle.query_model.specs.declared.analysis.names.NameFault.TheVariants.{Unknown, Ambiguous}
 use Rattle.query_model.specs.declared.query.ColumnRef.{ColumnRef}
@@ -37,17 +37,17 @@ none_first : {X : Type 0} (o : Option X) (rest : List (Option X)) → first_of_a
 none_first None rest h = (refl, h)
 none_first (Some x) rest h = absurd cc
 
--- three of the conditions never stand
-five_stand : (a b c e w : Option Refusal) → first_of_all (a ∷ b ∷ c ∷ None ∷ e ∷ None ∷ None ∷ w ∷ []) ≡ first_of_all (a ∷ b ∷ c ∷ e ∷ w ∷ [])
-five_stand (Some a) b c e w = refl
-five_stand None (Some b) c e w = refl
-five_stand None None (Some c) e w = refl
-five_stand None None None (Some e) w = refl
-five_stand None None None None w = refl
+-- two of the conditions never stand
+six_stand : (a b c e g w : Option Refusal) → first_of_all (a ∷ b ∷ c ∷ None ∷ e ∷ None ∷ g ∷ w ∷ []) ≡ first_of_all (a ∷ b ∷ c ∷ e ∷ g ∷ w ∷ [])
+six_stand (Some a) b c e g w = refl
+six_stand None (Some b) c e g w = refl
+six_stand None None (Some c) e g w = refl
+six_stand None None None (Some e) g w = refl
+six_stand None None None None g w = refl
 
-of_eight : (a b c d e f g w b' c' e' w' : Option Refusal) → b ≡ b' → c ≡ c' → d ≡ None → e ≡ e' → f ≡ None → g ≡ None → w ≡ w'
-    → first_of_all (a ∷ b ∷ c ∷ d ∷ e ∷ f ∷ g ∷ w ∷ []) ≡ first_of_all (a ∷ b' ∷ c' ∷ e' ∷ w' ∷ [])
-of_eight a b c d e f g w b' c' e' w' bs cs ds es fs gs ws = rw (bs, cs, ds, es, fs, gs, ws) (five_stand a b' c' e' w')
+of_eight : (a b c d e f g w b' c' e' w' : Option Refusal) → b ≡ b' → c ≡ c' → d ≡ None → e ≡ e' → f ≡ None → w ≡ w'
+    → first_of_all (a ∷ b ∷ c ∷ d ∷ e ∷ f ∷ g ∷ w ∷ []) ≡ first_of_all (a ∷ b' ∷ c' ∷ e' ∷ g ∷ w' ∷ [])
+of_eight a b c d e f g w b' c' e' w' bs cs ds es fs ws = rw (bs, cs, ds, es, fs, ws) (six_stand a b' c' e' g w')
 
 -- No call, and no group.
 
@@ -66,7 +66,7 @@ no_calls (i ∷ items) h =
     ap (λ b. length (cond b (i ∷ filter (λ (i : Item). is_call i.what) items) (filter (λ (i : Item). is_call i.what) items))) (no_call i.what (All-head (λ (i : Item). HasNoCall i.what) i items h))
     ∙ no_calls items (All-tail (λ (i : Item). HasNoCall i.what) i items h)
 
-module _ (q : Query) (schemas : List Schema) (h : IsPlainQuery q) where
+module _ (q : Query) (schemas : List Schema) (h : IsUngrouped q) where
   pub plain_from_columns : from_columns q schemas ≡ table_columns schemas q.from
   plain_from_columns = rw h.one_table (append-nil (table_columns schemas q.from))
 
@@ -101,37 +101,38 @@ module _ (q : Query) (schemas : List Schema) (h : IsPlainQuery q) where
   none_ungrouped : not_grouped q schemas ≡ None
   none_ungrouped = rw plain_is_ungrouped refl
 
-  well_ordered : bad_order_key q schemas ≡ None
-  well_ordered = rw h.unordered refl
-
   width_is : too_wide q schemas ≡ width_over (from_columns q schemas) q
-  width_is = rw (h.ungrouped, h.unordered, h.one_table, h.no_having, no_calls (listed q.items) h.items) (ap (λ b. cond b (Some refuse.TooWide) None) (ap (λ b. nat_lt 64 (length (table_columns schemas q.from ++ [])) || b) (or-false (nat_lt 64 (length (listed q.items))))))
+  width_is =
+      rw (h.ungrouped, h.one_table, h.no_having, no_calls (listed q.items) h.items)
+      (ap (λ b. cond b (Some refuse.TooWide) None)
+      (ap (λ b. nat_lt 64 (length (table_columns schemas q.from ++ [])) || (nat_lt 64 (length (listed q.items)) || b)) (or-false (nat_lt 64 (length q.order)))))
 
   -- the first of the conditions that such a query can meet
-  pub plain_refusal : refusal_of q schemas ≡ first_of_all (unknown_table q schemas ∷ unknown_over (from_columns q schemas) q ∷ ambiguous_over (from_columns q schemas) q ∷ mismatch_over (from_columns q schemas) q ∷ width_over (from_columns q schemas) q ∷ [])
+  pub plain_refusal : refusal_of q schemas ≡ first_of_all (unknown_table q schemas ∷ unknown_over (from_columns q schemas) q ∷ ambiguous_over (from_columns q schemas) q ∷ mismatch_over (from_columns q schemas) q ∷ order_over (from_columns q schemas) q ∷ width_over (from_columns q schemas) q ∷ [])
   unfolding refusal_of
   plain_refusal =
       of_eight (unknown_table q schemas) (unknown_column q schemas) (ambiguous_column q schemas) (bad_join_key q schemas) (type_mismatch q schemas) (not_grouped q schemas) (bad_order_key q schemas) (too_wide q schemas)
       (unknown_over (from_columns q schemas) q) (ambiguous_over (from_columns q schemas) q) (mismatch_over (from_columns q schemas) q) (width_over (from_columns q schemas) q)
-      unknown_is ambiguous_is joins_well mismatch_is none_ungrouped well_ordered width_is
+      unknown_is ambiguous_is joins_well mismatch_is none_ungrouped width_is
 
   -- of a declared table, over columns that are those of From
   pub later_refusal : (from : List FromColumn) → from ≡ from_columns q schemas → unknown_table q schemas ≡ None
-      → refusal_of q schemas ≡ first_of_all (unknown_over from q ∷ ambiguous_over from q ∷ mismatch_over from q ∷ width_over from q ∷ [])
+      → refusal_of q schemas ≡ first_of_all (unknown_over from q ∷ ambiguous_over from q ∷ mismatch_over from q ∷ order_over from q ∷ width_over from q ∷ [])
   later_refusal from e known =
-      let rest : List FromColumn → List (Option Refusal) = λ c. unknown_over c q ∷ ambiguous_over c q ∷ mismatch_over c q ∷ width_over c q ∷ [] in
+      let rest : List FromColumn → List (Option Refusal) = λ c. unknown_over c q ∷ ambiguous_over c q ∷ mismatch_over c q ∷ order_over c q ∷ width_over c q ∷ [] in
       plain_refusal ∙ passed_over (unknown_table q schemas) (rest (from_columns q schemas)) known ∙ ap (λ c. first_of_all (rest c)) (sym e)
 
   -- What holds of a query that is not refused.
 
   accepted_conditions : refusal_of q schemas ≡ None → (mismatch_over (from_columns q schemas) q ≡ None) × (width_over (from_columns q schemas) q ≡ None)
   accepted_conditions e =
-      let known = none_first (unknown_table q schemas) (unknown_over (from_columns q schemas) q ∷ ambiguous_over (from_columns q schemas) q ∷ mismatch_over (from_columns q schemas) q ∷ width_over (from_columns q schemas) q ∷ [])
+      let known = none_first (unknown_table q schemas) (unknown_over (from_columns q schemas) q ∷ ambiguous_over (from_columns q schemas) q ∷ mismatch_over (from_columns q schemas) q ∷ order_over (from_columns q schemas) q ∷ width_over (from_columns q schemas) q ∷ [])
       (sym plain_refusal ∙ e) in
-      let found = none_first (unknown_over (from_columns q schemas) q) (ambiguous_over (from_columns q schemas) q ∷ mismatch_over (from_columns q schemas) q ∷ width_over (from_columns q schemas) q ∷ []) known.1 in
-      let one = none_first (ambiguous_over (from_columns q schemas) q) (mismatch_over (from_columns q schemas) q ∷ width_over (from_columns q schemas) q ∷ []) found.1 in
-      let fit = none_first (mismatch_over (from_columns q schemas) q) (width_over (from_columns q schemas) q ∷ []) one.1 in
-      (fit.0, (none_first (width_over (from_columns q schemas) q) [] fit.1).0)
+      let found = none_first (unknown_over (from_columns q schemas) q) (ambiguous_over (from_columns q schemas) q ∷ mismatch_over (from_columns q schemas) q ∷ order_over (from_columns q schemas) q ∷ width_over (from_columns q schemas) q ∷ []) known.1 in
+      let one = none_first (ambiguous_over (from_columns q schemas) q) (mismatch_over (from_columns q schemas) q ∷ order_over (from_columns q schemas) q ∷ width_over (from_columns q schemas) q ∷ []) found.1 in
+      let fit = none_first (mismatch_over (from_columns q schemas) q) (order_over (from_columns q schemas) q ∷ width_over (from_columns q schemas) q ∷ []) one.1 in
+      let ordered = none_first (order_over (from_columns q schemas) q) (width_over (from_columns q schemas) q ∷ []) fit.1 in
+      (fit.0, (none_first (width_over (from_columns q schemas) q) [] ordered.1).0)
 
   pub accepted_types : refusal_of q schemas ≡ None → (list_all (λ (i : Item). is_typed (item_kind (from_columns q schemas) i.what)) (listed q.items) ≡ true) × (fits_where (from_columns q schemas) q.filter ≡ true)
   accepted_types e =
@@ -143,15 +144,15 @@ module _ (q : Query) (schemas : List Schema) (h : IsPlainQuery q) where
       fitting false k = absurd cc
 
   pub accepted_widths : refusal_of q schemas ≡ None → (length (from_columns q schemas) ≤ 64) × (length (listed q.items) ≤ 64)
-  accepted_widths e = narrow (length (from_columns q schemas)) (length (listed q.items)) (accepted_conditions e).1
+  accepted_widths e = narrow (length (from_columns q schemas)) (length (listed q.items)) (nat_lt 64 (length q.order)) (accepted_conditions e).1
     where
       at_most : (n : ℕ) → nat_lt 64 n ≡ false → n ≤ 64
       at_most n k = grind arith
 
-      narrow : (m n : ℕ) → cond (nat_lt 64 m || nat_lt 64 n) (Some refuse.TooWide) None ≡ None → (m ≤ 64) × (n ≤ 64)
-      narrow m n k = go (nat_lt 64 m) (nat_lt 64 n) refl refl k
+      narrow : (m n : ℕ) (z : Bool) → cond (nat_lt 64 m || (nat_lt 64 n || z)) (Some refuse.TooWide) None ≡ None → (m ≤ 64) × (n ≤ 64)
+      narrow m n z k = go (nat_lt 64 m) (nat_lt 64 n) refl refl k
         where
-          go : (x y : Bool) → nat_lt 64 m ≡ x → nat_lt 64 n ≡ y → cond (x || y) (Some refuse.TooWide) None ≡ None → (m ≤ 64) × (n ≤ 64)
+          go : (x y : Bool) → nat_lt 64 m ≡ x → nat_lt 64 n ≡ y → cond (x || (y || z)) (Some refuse.TooWide) None ≡ None → (m ≤ 64) × (n ≤ 64)
           go false false a b k = (at_most m a, at_most n b)
           go true y a b k = absurd cc
           go false true a b k = absurd cc
@@ -161,7 +162,7 @@ module _ (q : Query) (schemas : List Schema) (h : IsPlainQuery q) where
   pub plain_checked : (used : TableUse) (placed : Option Cond) (es : List Expr) (names : List (List ℕ)) (types : List ColumnType) (order : List SortKey)
       → used ≡ use_of schemas q.from → BothOrNone (IsPlacedCond (place_in (from_columns q schemas)) 0) q.filter placed
       → ArePlainItems (place_in (from_columns q schemas)) (from_columns q schemas) q.items es
-      → names ≡ output_names q.items (from_columns q schemas) → types ≡ output_types q.items (from_columns q schemas) → order ≡ []
+      → names ≡ output_names q.items (from_columns q schemas) → types ≡ output_types q.items (from_columns q schemas) → order ≡ map (sort_key (output_names q.items (from_columns q schemas))) q.order
       → IsChecked q schemas (record { from = used; join = None; filter = placed; shape = Plain es; names = names; types = types; order = order; limit = q.limit })
   plain_checked used placed es names types order u p i n t o = record {
     from = u;
@@ -170,7 +171,7 @@ module _ (q : Query) (schemas : List Schema) (h : IsPlainQuery q) where
     shape = subst (λ grouped. IsShape q (from_columns q schemas) grouped (Plain es)) (sym plain_is_ungrouped) i;
     names = n;
     types = t;
-    order = rw h.unordered o;
+    order = o;
     limit = refl;
   }
 

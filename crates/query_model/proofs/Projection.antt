@@ -7,7 +7,9 @@ use Rattle.std.proofs.lemmas.List.Sorted.{IsPermutation-refl}
 use Rattle.std.proofs.lemmas.Slice.Eq.{bytes_eq-Decides}
 use Rattle.chunk_data.specs.Values.{Row, Table, value_at, values_at}
 use Rattle.query_model.specs.Expressions.{value_of}
-use Rattle.query_model.specs.Refusals.{FromColumn, table_name, written, bad_join_key, bad_order_key, first_name, ungrouped_names, declared_column, schema_columns, table_columns, from_columns, means, meant, meant_type, is_declared, text_columns, item_columns, expr_columns, expr_kind, known_kind, item_kind, is_typed, is_call, is_grouped, item_names, calls_in, unknown_table, unknown_column, ambiguous_column, type_mismatch, not_grouped, too_wide, first_of_all, refusal_of}
+use Rattle.query_model.specs.Typing.{plain_type}
+use Rattle.query_model.proofs.TypedQueries.{not_nullable}
+use Rattle.query_model.specs.Refusals.{FromColumn, table_name, written, bad_join_key, bad_order_key, first_name, ungrouped_names, declared_column, schema_columns, columns_if, table_columns, from_columns, means, meant, meant_type, is_declared, text_columns, item_columns, expr_columns, expr_kind, known_kind, item_kind, is_typed, is_call, is_grouped, item_names, calls_in, unknown_table, unknown_column, ambiguous_column, type_mismatch, not_grouped, too_wide, first_of_all, refusal_of}
 use Rattle.query_model.specs.Checks.{IsChecked, IsShape, IsPlacedItem, EachWith, place_of, known_type}
 use Rattle.query_model.specs.Answers.{item_row, output_rows, IsAnswer}
 use Rattle.query_model.specs.Database.{column_types}
@@ -88,8 +90,8 @@ typed_match table name (c ∷ cs) h = go (bytes_eq name c.name) h (λ k. typed_m
   where
     go : (b : Bool) → (b || list_any (bytes_eq name) (names_of cs)) ≡ true
         → (list_any (bytes_eq name) (names_of cs) ≡ true → is_typed (known_kind (meant_type (map (declared_column table) cs) (bare name))) ≡ true)
-        → is_typed (known_kind (option_map (λ (m : FromColumn). m.type) (cond b (Some (declared_column table c)) (find (means (bare name)) (map (declared_column table) cs))))) ≡ true
-    go true k more = refl
+        → is_typed (known_kind (option_map (λ (m : FromColumn). plain_type m.type) (cond b (Some (declared_column table c)) (find (means (bare name)) (map (declared_column table) cs))))) ≡ true
+    go true k more = ap (λ t. is_typed (known_kind (Some t))) (sym (not_nullable c.kind))
     go false k more = more k
 
 -- Lists of names.
@@ -135,8 +137,7 @@ declared-is s = ap (λ b. b || false) (same_bytes s.name)
 
 from_columns-is : (s : Schema) (names : List (List ℕ)) → from_columns (projection_query names s.name) (s ∷ []) ≡ schema_columns s
 from_columns-is s names =
-    append-nil (table_columns (s ∷ []) (Named s.name))
-    ∙ ap (λ b. flat_map schema_columns (cond b (s ∷ []) [])) (same_bytes s.name) ∙ append-nil (schema_columns s)
+    append-nil (table_columns (s ∷ []) (Named s.name)) ∙ ap (λ b. columns_if (cond b (Some s) None)) (same_bytes s.name)
 
 -- Its refusals.
 
@@ -231,8 +232,8 @@ typed_place table name (c ∷ cs) = go (bytes_eq name c.name) (typed_place table
   where
     go : (b : Bool) → type_at (map (λ (c : ColumnDecl). c.kind) cs) (place_of (bytes_eq name) (names_of cs)) ≡ known_type (known_kind (meant_type (map (declared_column table) cs) (bare name)))
         → type_at (c.kind ∷ map (λ (c : ColumnDecl). c.kind) cs) (cond b 0 (place_of (bytes_eq name) (names_of cs) + 1))
-        ≡ known_type (known_kind (option_map (λ (m : FromColumn). m.type) (cond b (Some (declared_column table c)) (find (means (bare name)) (map (declared_column table) cs)))))
-    go true more = refl
+        ≡ known_type (known_kind (option_map (λ (m : FromColumn). plain_type m.type) (cond b (Some (declared_column table c)) (find (means (bare name)) (map (declared_column table) cs)))))
+    go true more = not_nullable c.kind
     go false more =
         let next : place_of (bytes_eq name) (names_of cs) + 1 ≡ suc (place_of (bytes_eq name) (names_of cs)) = omega arith in
         ap (type_at (c.kind ∷ map (λ (c : ColumnDecl). c.kind) cs)) next ∙ more

@@ -17,13 +17,19 @@ use Rattle.query_model.specs.declared.query.Operand.TheVariants as operand
 use Rattle.query_model.specs.declared.query.CondOf.TheVariants as cond'
 use Rattle.query_model.specs.declared.query.Item.{Item}
 use Rattle.query_model.specs.Expressions.{Expr, number_of, plain_value, type_of, gives_uint, is_uint_column}
-use Rattle.query_model.specs.Typing.{IsTypedCond, IsItem, CanHold, AreNumbersAlike, plain_of, is_text}
+use Rattle.query_model.specs.Typing.{IsTypedCond, IsItem, CanHold, AreNumbersAlike, plain_of, plain_type as type_without_null, is_text}
 use Rattle.query_model.specs.Refusals.{FromColumn, Kind, plain, typed, unfit, means, meant_type, known_kind, arith_kind, can_hold, same_type, result_type, comparable, is_typed, item_kind}
 use Rattle.query_model.specs.Checks.{EachWith, AreColumnsFrom, place_of}
 use Rattle.query_model.specs.Placing.{types_of, IsSized, IsOfKind, IsOperandOfKind}
 use Rattle.query_model.proofs.WorkedRows.{Place}
 
 -- A column.
+
+-- no type is Nullable
+pub not_nullable : (t : ColumnType) → t ≡ type_without_null t
+not_nullable column.Int64 = refl
+not_nullable column.UInt64 = refl
+not_nullable column.Text = refl
 
 pub column_is_of_kind : (c : ColumnRef) (columns : List FromColumn) → IsOfKind (types_of columns) (expr.Column (place_of (means c) columns)) (known_kind (meant_type columns c))
 unfolding type_of
@@ -40,8 +46,8 @@ column_is_of_kind c (x ∷ columns) = go (means c x) (column_is_of_kind c column
         rw next (let k = h.0 in omega (arith, k), refl, h.2)
 
     go : (b : Bool) → IsOfKind (types_of columns) (expr.Column (place_of (means c) columns)) (known_kind (meant_type columns c))
-        → IsOfKind (x.type ∷ types_of columns) (expr.Column (cond b 0 (place_of (means c) columns + 1))) (known_kind (option_map (λ (m : FromColumn). m.type) (cond b (Some x) (find (means c) columns))))
-    go true h = (omega arith, refl, refl)
+        → IsOfKind (x.type ∷ types_of columns) (expr.Column (cond b 0 (place_of (means c) columns + 1))) (known_kind (option_map (λ (m : FromColumn). type_without_null m.type) (cond b (Some x) (find (means c) columns))))
+    go true h = (omega arith, refl, not_nullable x.type)
     go false h = moved (meant_type columns c) h
 
 -- A plain number.

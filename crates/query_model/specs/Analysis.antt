@@ -34,6 +34,14 @@ IsNoCall (operand.Plain e) = ⊤
 IsNoCall (operand.Text bytes) = ⊤
 IsNoCall (operand.Agg call) = ⊥
 
+-- a query of one table, without grouping: what is analysed so far
+pub record IsUngrouped (q : Query) : Type 0 where
+  pub one_table : q.join ≡ None
+  pub items : All (λ (i : Item). HasNoCall i.what) (listed q.items)
+  pub filter : All IsNoCall (operands_of q.filter)
+  pub ungrouped : q.keys ≡ []
+  pub no_having : q.having ≡ None
+
 -- a query of one declared table, without grouping, order and limit
 pub record IsPlainQuery (q : Query) : Type 0 where
   pub named : IsNamed q.from

@@ -1,5 +1,5 @@
 -- The answers of a query: its output rows, their order, and the limit.
-use Rattle.std.specs.Prelude.{◌≡◌, List, map, take, drop, IsPermutation, IsSorted, Option, Some, None}
+use Rattle.std.specs.Prelude.{◌≡◌, ℕ, ◌+◌, ◌==◌, cond, List, map, take, drop, IsPermutation, IsSorted, Option, Some, None}
 use Rattle.chunk_data.specs.Values.{Row, values_at, row_cmp}
 use Rattle.query_model.specs.Expressions.{Expr, value_of, rows_where}
 use Rattle.query_model.specs.Sources.{Database, source_table, filtered_rows}
@@ -33,6 +33,10 @@ output_rows q db = selected_rows q.shape (source_table q db).types (filtered_row
 abbrev pub limited : Option Span → List Row → List Row
 limited None rows = rows
 limited (Some span) rows = take span.count (drop span.skip rows)
+
+-- how many rows a limit must read, at least one
+abbrev pub enough : Span → ℕ
+enough span = cond (span.count == 0) 1 (span.skip + span.count)
 
 -- the rows in some order that the keys allow, of which the limit leaves the answer
 pub record IsOrderedAnswer (keys : List SortKey) (limit : Option Span) (rows answer : List Row) : Type 0 where

@@ -110,16 +110,18 @@ item_calls (kind.Agg call) = call ∷ []
 abbrev pub query_calls : Query → List (AggCall ColumnRef)
 query_calls q = flat_map (λ (i : Item). item_calls i.what) (listed q.items) ++ flat_map calls_of (operands_of q.having)
 
--- the places of items in a row of keys and calls, of which the next call stands in column k
-abbrev pub picks_from : (ColumnRef → ℕ) → ℕ → List Item → List ℕ
-picks_from place k [] = []
-picks_from place k (i ∷ items) = pick i.what (picks_from place k items) (picks_from place (k + 1) items)
-  where
-    pick : ItemKind → List ℕ → List ℕ → List ℕ
-    pick (kind.Plain (expr.Column c)) same next = place c ∷ same
-    pick (kind.Plain (expr.Number n)) same next = same
-    pick (kind.Plain (expr.Arith' op p a q b)) same next = same
-    pick (kind.Agg call) same next = k ∷ next
+-- the place of an item in a row of keys and calls, of which the next call stands in column k; arithmetic has none
+abbrev pub IsPick : (ColumnRef → ℕ) → ℕ → ItemKind → ℕ → Type 0
+IsPick place k (kind.Plain (expr.Column c)) p = p ≡ place c
+IsPick place k (kind.Plain (expr.Number n)) p = ⊥
+IsPick place k (kind.Plain (expr.Arith' op l a r b)) p = ⊥
+IsPick place k (kind.Agg call) p = p ≡ k
+
+-- the places of items, of which the first call stands in column k
+abbrev pub ArePicks : (ColumnRef → ℕ) → ℕ → List Item → List ℕ → Type 0
+ArePicks place k [] [] = Unit {0}
+ArePicks place k (i ∷ items) (p ∷ picks) = IsPick place k i.what p × ArePicks place (k + length (item_calls i.what)) items picks
+ArePicks place k _ _ = ⊥
 
 abbrev pub IsPlacedItem : (ColumnRef → ℕ) → Item → Expr → Type 0
 IsPlacedItem place i e = go i.what
@@ -143,7 +145,7 @@ pub record IsGrouping (q : Query) (columns : List FromColumn) (g : Grouping) : T
   pub keys : g.keys ≡ map (λ c. place_of (means c) columns) q.keys
   pub calls : EachWith (IsPlacedCall (λ c. place_of (means c) columns)) (query_calls q) g.calls
   pub having : BothOrNone (IsPlacedCond (λ c. place_of (same_column columns c) q.keys) (length q.keys + length (flat_map (λ (i : Item). item_calls i.what) (listed q.items)))) q.having g.having
-  pub picks : g.picks ≡ picks_from (λ c. place_of (same_column columns c) q.keys) (length q.keys) (listed q.items)
+  pub picks : ArePicks (λ c. place_of (same_column columns c) q.keys) (length q.keys) (listed q.items) g.picks
   pub lone : g.lone ≡ (length q.keys == 0)
 
 abbrev pub IsShape : Query → List FromColumn → Bool → Shape → Type 0

@@ -29,10 +29,15 @@ file_bytes (file ∷ files) path = if bytes_eq file.0 path then Some file.1 else
 abbrev pub column_types : Schema → List ColumnType
 column_types s = map (λ (c : ColumnDecl). c.kind) s.columns
 
--- the paths of a list file; none where it is not there
+-- the paths, where no line is bad
+abbrev pub paths_unless : Option ℕ → List (List ℕ) → List (List ℕ)
+paths_unless None paths = paths
+paths_unless (Some line) paths = []
+
+-- the paths of a list file; none where it is not there or has a bad line
 abbrev pub paths_in : Option (List ℕ) → List (List ℕ)
 paths_in None = []
-paths_in (Some text) = list_paths text
+paths_in (Some text) = paths_unless (list_bad_line text) (list_paths text)
 
 -- the paths of a table's parts, in order
 abbrev pub part_paths : List (List ℕ × List ℕ) → PartsDecl → List (List ℕ)

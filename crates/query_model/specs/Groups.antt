@@ -104,6 +104,7 @@ merged_groups n ops rows = grouped_by (take n) (state_calls n ops) rows
 
 -- the type of a call's value
 abbrev pub call_type : AggOp → Option (ExprOf ℕ) → List ColumnType → ColumnType
+call_type Count arg types = column.UInt64
 call_type op None types = column.UInt64
 call_type op (Some e) types = type_of e types
 

@@ -1,10 +1,10 @@
 -- What the steps of analysis answer.
-use Rattle.std.specs.Prelude.{◌≡◌, ℕ, ◌+◌, ◌^◌, ◌<◌, ◌==◌, nat_lt, Bool, false, ◌&&◌, ◌||◌, if◌then◌else◌, List, length, map, find, ℤ, pos, negsuc, Option, Some, None, option_map, ⊤}
+use Rattle.std.specs.Prelude.{◌≡◌, ℕ, ◌+◌, ◌^◌, ◌<◌, ◌==◌, nat_lt, Bool, false, ◌&&◌, ◌||◌, if◌then◌else◌, not, List, length, map, filter, find, bytes_eq, ℤ, pos, negsuc, Option, Some, None, option_map, ⊤}
 use Rattle.std.specs.List.{list_all}
 use Rattle.chunk_data.specs.declared.typed_value.ColumnType.{ColumnType}
 use Rattle.query_model.specs.Expressions.{Expr, number_of, type_of}
 use Rattle.query_model.specs.Typing.{IsTyped, IsTypedOperand, operand_type, plain_of, is_text}
-use Rattle.query_model.specs.Refusals.{FromColumn, Kind, plain, typed, unfit, means, meant, written, text_columns, listed, item_kind, is_typed, fits_where}
+use Rattle.query_model.specs.Refusals.{FromColumn, Kind, plain, typed, unfit, means, meant, written, text_columns, listed, output_names, item_kind, is_typed, fits_where}
 use Rattle.query_model.specs.Checks.{place_of}
 use Rattle.query_model.specs.declared.query.ColumnRef.{ColumnRef}
 use Rattle.query_model.specs.declared.query.ExprOf.TheVariants as expr
@@ -12,6 +12,8 @@ use Rattle.query_model.specs.declared.query.Operand.{Operand}
 use Rattle.query_model.specs.declared.query.CondOf.{CondOf}
 use Rattle.query_model.specs.declared.query.CondOf.TheVariants as condition
 use Rattle.query_model.specs.declared.query.Item.{Item}
+use Rattle.chunk_data.specs.declared.typed_value.SortKey.{SortKey}
+use Rattle.query_model.specs.declared.query.OrderKey.{OrderKey}
 use Rattle.query_model.specs.declared.query.Query.{Query}
 use Rattle.query_model.specs.declared.query.Refusal.{Refusal}
 use Rattle.query_model.specs.declared.query.Refusal.TheVariants as refuse
@@ -36,7 +38,7 @@ has_fault Ambiguous columns c = nat_lt 1 (length (meant c columns))
 abbrev pub first_fault : NameFault → List FromColumn → List ColumnRef → Option (List ℕ)
 first_fault fault columns cs = option_map written (find (has_fault fault columns) cs)
 
--- The conditions on a query without further clauses, over the columns of its From.
+-- The conditions on a query of one table without grouping, over the columns of its From.
 
 abbrev pub unknown_over : List FromColumn → Query → Option Refusal
 unknown_over columns q = option_map refuse.UnknownColumn (first_fault Unknown columns (text_columns q))
@@ -50,8 +52,22 @@ types_fit_over columns q = list_all (λ (i : Item). is_typed (item_kind columns 
 abbrev pub mismatch_over : List FromColumn → Query → Option Refusal
 mismatch_over columns q = if types_fit_over columns q then None else Some refuse.TypeMismatch
 
+-- the first key that is not exactly one of the output names
+abbrev pub order_refusal : List (List ℕ) → List OrderKey → Option Refusal
+order_refusal names order =
+    option_map (λ (key : OrderKey). refuse.BadOrderKey key.name)
+    (find (λ (key : OrderKey). not (length (filter (bytes_eq key.name) names) == 1)) order)
+
+abbrev pub order_over : List FromColumn → Query → Option Refusal
+order_over columns q = order_refusal (output_names q.items columns) q.order
+
+-- a key with the place of its name
+abbrev pub sort_key : List (List ℕ) → OrderKey → SortKey
+sort_key names key = record { column = place_of (bytes_eq key.name) names; descending = key.descending }
+
 abbrev pub width_over : List FromColumn → Query → Option Refusal
-width_over columns q = if nat_lt 64 (length columns) || nat_lt 64 (length (listed q.items)) then Some refuse.TooWide else None
+width_over columns q =
+    if nat_lt 64 (length columns) || (nat_lt 64 (length (listed q.items)) || nat_lt 64 (length q.order)) then Some refuse.TooWide else None
 
 -- what an expression is, with a plain number's value in the place of its spelling
 abbrev pub as_kind : ExprKind → Kind

@@ -2,7 +2,7 @@
 use Rattle.std.specs.Prelude.{ℕ, ◌+◌, ◌^◌, Bool, true, false, not, ◌&&◌, ◌||◌, ◌==◌, nat_lt, is_some, if◌then◌else◌, List, [], ◌∷◌, ◌++◌, length, map, filter, flat_map, find, bytes_eq, codes, decimal, ℤ, pos, negsuc, Option, Some, None, option_map}
 use Rattle.std.specs.List.{list_any, list_all}
 use Rattle.query_model.specs.Expressions.{number_of, is_uint_column}
-use Rattle.query_model.specs.Typing.{is_text}
+use Rattle.query_model.specs.Typing.{is_text, plain_type}
 use Rattle.chunk_data.specs.declared.typed_value.ColumnType.{ColumnType}
 use Rattle.chunk_data.specs.declared.typed_value.ColumnType.TheVariants as column
 use Rattle.query_model.specs.declared.query.ArithOp.{ArithOp}
@@ -48,8 +48,13 @@ declared_column table c = record { table = table; name = c.name; type = c.kind }
 abbrev pub schema_columns : Schema → List FromColumn
 schema_columns s = map (declared_column s.name) s.columns
 
+abbrev pub columns_if : Option Schema → List FromColumn
+columns_if None = []
+columns_if (Some s) = schema_columns s
+
+-- the first declared table with a name is meant
 abbrev pub table_columns : List Schema → TableRef → List FromColumn
-table_columns schemas (Named t) = flat_map schema_columns (filter (λ (s : Schema). bytes_eq s.name t) schemas)
+table_columns schemas (Named t) = columns_if (find (λ (s : Schema). bytes_eq s.name t) schemas)
 table_columns schemas (Numbers n) = record { table = codes "numbers"; name = codes "number"; type = column.UInt64 } ∷ []
 
 abbrev pub join_tables : Option Join → List TableRef
@@ -157,9 +162,9 @@ abbrev pub ambiguous_column : Query → List Schema → Option Refusal
 ambiguous_column q schemas =
     option_map (λ c. refuse.AmbiguousColumn (written c)) (find (λ c. nat_lt 1 (length (meant c (from_columns q schemas)))) (text_columns q))
 
--- the type of the column that a name means
+-- the type of the column that a name means, taken without Nullable
 abbrev pub meant_type : List FromColumn → ColumnRef → Option ColumnType
-meant_type columns c = option_map (λ (m : FromColumn). m.type) (find (means c) columns)
+meant_type columns c = option_map (λ (m : FromColumn). plain_type m.type) (find (means c) columns)
 
 abbrev pub same_type : ColumnType → ColumnType → Bool
 same_type column.Int64 t = is_int64 t

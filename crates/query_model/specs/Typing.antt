@@ -8,6 +8,18 @@ use Rattle.query_model.specs.declared.query.Operand.TheVariants as operand
 use Rattle.query_model.specs.declared.query.CondOf.TheVariants as cond'
 use Rattle.query_model.specs.Expressions.{Expr, Cond, number_of, type_of}
 
+-- the type without Nullable; no type is Nullable yet
+abbrev pub plain_type : ColumnType → ColumnType
+plain_type column.Int64 = column.Int64
+plain_type column.UInt64 = column.UInt64
+plain_type column.Text = column.Text
+
+-- whether a column of the type may have NULL
+abbrev pub is_nullable : ColumnType → Bool
+is_nullable column.Int64 = false
+is_nullable column.UInt64 = false
+is_nullable column.Text = false
+
 -- the number of an expression that is a plain number
 abbrev pub plain_of : Expr → Option ℤ
 plain_of (expr.Column c) = None

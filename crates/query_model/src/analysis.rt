@@ -1,12 +1,13 @@
 // Queries checked against the declared tables.
 ghost use Rattle.std.specs.Prelude.{◌≡◌, None, IfOk, IfErr, OnOk};
-ghost use Rattle.query_model.specs.Refusals.{from_columns, refusal_of};
+ghost use Rattle.query_model.specs.Refusals.{from_columns, output_names, refusal_of};
 ghost use Rattle.query_model.specs.Checks.{IsChecked};
-ghost use Rattle.query_model.specs.Analysis.{IsPlainQuery, IsDue, IsTypedQuery, from_types};
+ghost use Rattle.query_model.specs.Analysis.{IsUngrouped, IsDue, IsTypedQuery, from_types};
 
 mod columns;
 mod kinds;
 mod names;
+mod ordering;
 mod outputs;
 mod placing;
 mod refusals;
@@ -14,12 +15,13 @@ mod refusals;
 mod tests;
 
 use crate::analysis::columns::{FromColumn, table_columns_of};
-use crate::analysis::outputs::{Outputs, made_outputs};
+use crate::analysis::ordering::place_order;
+use crate::analysis::outputs::{Outputs, made_outputs, names_of};
 use crate::analysis::placing::{place_filter, table_use};
 use crate::analysis::refusals::first_refusal;
 use crate::checked::{Checked, Shape};
 use crate::query::{Query, Refusal, Schema};
-use chunk_data::{List, Memory};
+use chunk_data::{Bytes, List, Memory};
 use std::alloc::Global;
 
 /// The checked query of a query that no condition refuses.
@@ -27,10 +29,12 @@ fn checked_query(
     alloc: Global,
     query: Query,
     tables: &[Schema],
-    columns: Vec<FromColumn>,
+    columns: &[FromColumn],
+    names: List<Bytes>,
 ) -> Result<Checked, Memory>
-    requires plain { IsPlainQuery query }
-    requires columns { columns.items ≡ from_columns query tables.now }
+    requires plain { IsUngrouped query }
+    requires columns { columns.now ≡ from_columns query tables.now }
+    requires names { names ≡ output_names query.items columns.now }
     requires accepted { refusal_of query tables.now ≡ None }
     ensures checked { IfOk result (IsChecked query tables.now) }
     ensures typed { IfOk result (IsTypedQuery (from_types query tables.now)) }
@@ -42,17 +46,14 @@ fn checked_query(
         filter,
         keys: _,
         having: _,
-        order: _,
+        order,
         limit,
     } = query;
     let used = table_use(&from, tables)?;
-    let placed = place_filter(alloc, filter, &columns)?;
+    let placed = place_filter(alloc, filter, columns)?;
+    let keys = place_order(alloc, order.as_slice(), names.as_slice())?;
     let outputs = made_outputs(alloc, items, columns)?;
-    let Outputs {
-        exprs,
-        names,
-        types,
-    } = outputs;
+    let Outputs { exprs, types } = outputs;
     Ok(Checked {
         from: used,
         join: None,
@@ -60,15 +61,42 @@ fn checked_query(
         shape: Shape::Plain(exprs),
         names,
         types,
-        order: List::new(alloc),
+        order: keys,
         limit,
     })
+}
+
+/// The query over the columns of its From.
+fn analysed(
+    alloc: Global,
+    query: Query,
+    tables: &[Schema],
+    columns: &[FromColumn],
+) -> Result<Checked, Refusal>
+    requires plain { IsUngrouped query }
+    requires columns { columns.now ≡ from_columns query tables.now }
+    ensures checked { IfOk result (IsChecked query tables.now) }
+    ensures accepted { OnOk result (refusal_of query tables.now ≡ None) }
+    ensures typed { IfOk result (IsTypedQuery (from_types query tables.now)) }
+    ensures refused { IfErr result (IsDue query tables.now) }
+{
+    match names_of(alloc, &query.items, columns) {
+        Ok(names) => match first_refusal(&query, tables, columns, names.as_slice()) {
+            Ok(None) => match checked_query(alloc, query, tables, columns, names) {
+                Ok(checked) => Ok(checked),
+                Err(_) => Err(Refusal::Memory),
+            },
+            Ok(Some(refusal)) => Err(refusal),
+            Err(_) => Err(Refusal::Memory),
+        },
+        Err(_) => Err(Refusal::Memory),
+    }
 }
 
 /// The query with places in the place of names. Refusals come in the order of `Refusal`, and a name that one
 /// carries is the first in the text's order: items, ON, WHERE, GROUP BY, HAVING, ORDER BY.
 pub fn analyse(alloc: Global, query: Query, tables: &List<Schema>) -> Result<Checked, Refusal>
-    requires plain { IsPlainQuery query }
+    requires plain { IsUngrouped query }
     ensures checked { IfOk result (IsChecked query tables.now) }
     ensures accepted { OnOk result (refusal_of query tables.now ≡ None) }
     ensures typed { IfOk result (IsTypedQuery (from_types query tables.now)) }
@@ -76,14 +104,7 @@ pub fn analyse(alloc: Global, query: Query, tables: &List<Schema>) -> Result<Che
 {
     let schemas = tables.as_slice();
     match table_columns_of(alloc, &query.from, schemas) {
-        Ok(columns) => match first_refusal(&query, schemas, &columns) {
-            Ok(None) => match checked_query(alloc, query, schemas, columns) {
-                Ok(checked) => Ok(checked),
-                Err(_) => Err(Refusal::Memory),
-            },
-            Ok(Some(refusal)) => Err(refusal),
-            Err(_) => Err(Refusal::Memory),
-        },
+        Ok(columns) => analysed(alloc, query, schemas, columns.as_slice()),
         Err(_) => Err(Refusal::Memory),
     }
 }

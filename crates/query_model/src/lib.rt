@@ -1,4 +1,5 @@
-//! The types of queries and of the specs of processors, and the definitions of a query's plain meaning.
+//! The types of queries and of the specs of processors, and the definitions of a query's plain
+//! meaning.
 #![tactic(auto)]
 
 pub mod analysis;
@@ -9,5 +10,3 @@ pub mod places;
 pub mod plain;
 pub mod processor_spec;
 pub mod query;
-#[cfg(test)]
-mod tests;

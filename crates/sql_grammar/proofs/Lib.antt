@@ -1,2 +1,1 @@
-pub mod PlainQueries
 pub mod Trees

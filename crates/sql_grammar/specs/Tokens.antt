@@ -1,8 +1,10 @@
 -- The tokens of a text, each as long as it can be.
-use Rattle.std.specs.Prelude.{ℕ, zero, suc, ◌+◌, ◌-◌, ◌*◌, ◌^◌, Bool, false, not, nat_lt, ◌==◌, ◌&&◌, ◌||◌, if◌then◌else◌, List, [], ◌∷◌, length, drop, map, find, take_while, fold, codes, Option, Some, None, option_map, is_some}
+use Rattle.std.specs.Prelude.{ℕ, zero, suc, ◌+◌, ◌-◌, ◌*◌, ◌^◌, Bool, true, false, not, nat_lt, ◌==◌, ◌&&◌, ◌||◌, if◌then◌else◌, List, [], ◌∷◌, length, drop, map, find, take_while, fold, codes, Option, Some, None, option_map, is_some}
 use Rattle.std.specs.List.{list_all}
 use Rattle.std.specs.Char.{is_ascii_digit, is_ascii_alphabetic, to_ascii_lowercase}
 use Rattle.std.specs.Str.{bytes_eq}
+use Rattle.query_model.specs.declared.query.AggOp.{AggOp}
+use Rattle.query_model.specs.declared.query.AggOp.TheVariants as agg
 use Rattle.sql_grammar.specs.declared.Token.{Token}
 use Rattle.sql_grammar.specs.declared.Token.TheVariants as token
 use Rattle.sql_grammar.specs.declared.Keyword.{Keyword}
@@ -77,6 +79,19 @@ begins_with_letter (b ∷ bs) = is_letter b
 -- a letter or an underscore, then letters, digits and underscores, and no keyword
 unfoldable pub is_name : List ℕ → Bool
 is_name word = begins_with_letter word && list_all is_word_byte word && not (is_some (keyword_of word))
+
+-- the aggregate that a word means before "(", in any ASCII case
+abbrev pub aggregate_of : List ℕ → Option AggOp
+aggregate_of word =
+    if is_word word (codes "count") then Some agg.Count else if is_word word (codes "sum") then Some agg.Sum
+    else if is_word word (codes "min") then Some agg.Min else if is_word word (codes "max") then Some agg.Max else None
+
+-- `count` has no argument, each other call has one
+abbrev pub has_argument : AggOp → Bool
+has_argument agg.Count = false
+has_argument agg.Sum = true
+has_argument agg.Min = true
+has_argument agg.Max = true
 
 -- ---- numbers
 

@@ -5,12 +5,12 @@
 ghost use Rattle.std.specs.Prelude.{◌≡◌, Some};
 ghost use Rattle.sql_grammar.specs.Tokens.{keyword_of, keyword_text};
 
-#[cfg(test)]
-mod tests;
 mod words;
 
 use chunk_data::Bytes;
-pub use words::{begins_with_letter, is_letter, is_name, is_word, is_word_byte, keyword_of};
+pub use words::{
+    aggregate_of, begins_with_letter, is_letter, is_name, is_word, is_word_byte, keyword_of,
+};
 
 /// A word that is never a name, in any ASCII case.
 #[derive(Clone, Copy, Debug, PartialEq, Eq)]

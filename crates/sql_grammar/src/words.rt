@@ -1,9 +1,10 @@
 // Words: keywords and names.
 ghost use Rattle.std.specs.Prelude.{◌≡◌};
 ghost use Rattle.std.specs.List.{list_all};
-ghost use Rattle.sql_grammar.specs.Tokens.{begins_with_letter, is_letter, is_name, is_word, is_word_byte, keyword_of, keyword_text};
+ghost use Rattle.sql_grammar.specs.Tokens.{aggregate_of, begins_with_letter, is_letter, is_name, is_word, is_word_byte, keyword_of, keyword_text};
 
 use crate::{KEYWORDS, Keyword};
+use query_model::query::AggOp;
 
 /// Whether a byte is an ASCII letter or an underscore.
 pub fn is_letter(b: u8) -> bool
@@ -65,6 +66,23 @@ pub fn keyword_of(word: &[u8]) -> Option<Keyword>
         .iter()
         .copied()
         .find(|k| is_word(word, keyword_text(*k)))
+}
+
+/// The aggregate that a word means before `(`.
+pub fn aggregate_of(word: &[u8]) -> Option<AggOp>
+    ensures { result ≡ aggregate_of word.now }
+{
+    if is_word(word, b"count") {
+        Some(AggOp::Count)
+    } else if is_word(word, b"sum") {
+        Some(AggOp::Sum)
+    } else if is_word(word, b"min") {
+        Some(AggOp::Min)
+    } else if is_word(word, b"max") {
+        Some(AggOp::Max)
+    } else {
+        None
+    }
 }
 
 /// Whether a letter or an underscore stands at the front.

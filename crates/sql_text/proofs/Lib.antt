@@ -1,7 +1,9 @@
+pub mod Behind
 pub mod Turns
 pub mod PartsFound
 pub mod PartsSpelled
 pub mod QueryTexts
-pub mod ItemTurns
+pub mod ListTurns
 pub mod Bytes
 pub mod Readings
+pub mod BuiltQueries

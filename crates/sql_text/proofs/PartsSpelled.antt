@@ -1,6 +1,9 @@
 -- What is read is spelled so.
-use Rattle.std.proofs.Common.{◌≡◌, ℕ, zero, suc, ◌<◌, ◌≤◌, Bool, true, false, cond, nat_le, List, [], ◌∷◌, length, Option, Some, None, option_and_then, option_map, IfSome, refl, sym, ap, subst, arith}
-use Rattle.query_model.specs.Formulas.{arith as arithmetic}
+use Rattle.std.proofs.Common.{◌≡◌, ℕ, zero, suc, ◌<◌, ◌≤◌, Bool, true, false, cond, nat_le, List, [], ◌∷◌, length, Option, Some, None, option_and_then, option_map, IfSome, refl, sym, ap, subst, ◌∙◌, arith}
+use Rattle.std.proofs.lemmas.Option.{same_Some}
+use Rattle.query_model.specs.Formulas.{number, arith as arithmetic}
+use Rattle.query_model.specs.declared.query.AggOp.{AggOp}
+use Rattle.query_model.specs.declared.query.AggOp.TheVariants as agg
 use Rattle.query_model.specs.declared.query.ArithOp.{ArithOp}
 use Rattle.query_model.specs.declared.query.ArithOp.TheVariants as op
 use Rattle.query_model.specs.declared.query.CompareOp.{CompareOp}
@@ -10,13 +13,17 @@ use Rattle.sql_grammar.specs.declared.Keyword.{Keyword}
 use Rattle.sql_grammar.specs.declared.Keyword.TheVariants as keyword
 use Rattle.sql_grammar.specs.declared.Sign.{Sign}
 use Rattle.sql_grammar.specs.declared.Sign.TheVariants as sign
-use Rattle.sql_grammar.specs.Trees.{Expression, text, Condition, both}
-use Rattle.sql_grammar.specs.Grammar.{Tokens, unqualified, qualified, IsExpr, one_term, sum, difference, IsTerm, one_factor, product, IsFactor, a_column, a_number, negative, enclosed, IsOperand, an_expr, a_string, IsComparison, equal, not_equal, less, less_equal, greater, greater_equal, IsCond, one_conj, disjunction, IsConj, one_neg, conjunction, IsNeg, negation, enclosed_cond, comparison}
+use Rattle.sql_grammar.specs.Tokens.{aggregate_of, has_argument}
+use Rattle.sql_grammar.specs.Trees.{Expression, CallTree, Side, plain, text, Condition, compare, both}
+use Rattle.sql_grammar.specs.Grammar.{Tokens, unqualified, qualified, IsExpr, one_term, sum, difference, IsTerm, one_factor, product, IsFactor, a_column, a_number, negative, enclosed, IsAgg, count_rows, count_star, call_over as called_over, IsOperand, an_expr, a_string, IsGroupOperand, a_key, a_call, a_constant, a_negative, a_text, IsComparison, equal, not_equal, less, less_equal, greater, greater_equal, IsCond, one_conj, disjunction, IsConj, one_neg, conjunction, IsNeg, negation, enclosed_cond, comparison}
 use Rattle.sql_text.specs.declared.part.Joint.{Joint}
 use Rattle.sql_text.specs.declared.part.Joint.TheVariants as joint
-use Rattle.sql_text.specs.Parts.{Parsed, expression, string, truth, Reading, Reads, sign_joint, keyword_joint, joint_of, level, if_level, next_joint, combined, side_of, column_at, negative_at, closed_at, negation_at, first_sign, first_keyword, first_part, turn_of, joined_at, joined, part_at}
+use Rattle.sql_text.specs.declared.part.Clause.{Clause}
+use Rattle.sql_text.specs.declared.part.Clause.TheVariants as clause
+use Rattle.sql_text.specs.Parts.{Parsed, expression, string, aggregate, truth, Reading, Reads, sign_joint, keyword_joint, joint_of, level, if_level, next_joint, if_both, calculated, combined, side_of, plain_of, column_at, negative_at, closed_at, count_at, over, call_over, call_at, called, call_or_column, word_at, negation_at, first_sign, first_keyword, first_part, turn_of, joined_at, joined, part_at}
 use Rattle.sql_text.proofs.Turns.{level_below, loose, tighter}
-use Rattle.sql_text.proofs.PartsFound.{expr_shorter, cond_shorter}
+use Rattle.sql_text.proofs.Behind.{shorter, group_operand_behind, agg_behind}
+use Rattle.sql_text.proofs.PartsFound.{operands_in, expr_shorter, cond_shorter}
 
 pub bind : {A B : Type 0} (P : A → Type 0) (Q : B → Type 0) (f : A → Option B) (o : Option A)
     → IfSome o P → ((x : A) → P x → IfSome (f x) Q) → IfSome (option_and_then f o) Q
@@ -35,89 +42,176 @@ pub record AsExpr (tight : ℕ) (e : Expression) (ts rest : Tokens) : Type 0 whe
   pub term : 6 ≤ tight → IsTerm e ts rest
   pub factor : 7 ≤ tight → IsFactor e ts rest
 
-pub record AsCond (tight : ℕ) (c : Condition) (ts rest : Tokens) : Type 0 where
-  pub cond' : IsCond c ts rest
-  pub conj : 2 ≤ tight → IsConj c ts rest
-  pub neg : 3 ≤ tight → IsNeg c ts rest
+pub record AsCond (k : Clause) (tight : ℕ) (c : Condition) (ts rest : Tokens) : Type 0 where
+  pub cond' : IsCond (operands_in k) c ts rest
+  pub conj : 2 ≤ tight → IsConj (operands_in k) c ts rest
+  pub neg : 3 ≤ tight → IsNeg (operands_in k) c ts rest
+
+-- an expression; in HAVING a column or a number alone
+abbrev pub AsPlain : Clause → ℕ → Expression → Tokens → Tokens → Type 0
+AsPlain clause.OfRows tight e ts rest = AsExpr tight e ts rest
+AsPlain clause.OfGroups tight e ts rest = IsGroupOperand (plain e) ts rest
+
+-- a call, which stands in HAVING alone
+abbrev pub AsCall : Clause → CallTree → Tokens → Tokens → Type 0
+AsCall clause.OfRows c ts rest = ⊥
+AsCall clause.OfGroups c ts rest = IsAgg c ts rest
 
 -- a part that may stand beside a joint of a lower level
-abbrev pub IsPart : ℕ → Parsed → Tokens → Tokens → Type 0
-IsPart tight (expression e) ts rest = AsExpr tight e ts rest
-IsPart tight (string t) ts rest = ts ≡ token.Text t ∷ rest
-IsPart tight (truth c) ts rest = AsCond tight c ts rest
+abbrev pub IsPart : Clause → ℕ → Parsed → Tokens → Tokens → Type 0
+IsPart k tight (expression e) ts rest = AsPlain k tight e ts rest
+IsPart k tight (string t) ts rest = ts ≡ token.Text t ∷ rest
+IsPart k tight (aggregate c) ts rest = AsCall k c ts rest
+IsPart k tight (truth c) ts rest = AsCond k tight c ts rest
 
-lower : (p q : ℕ) (v : Parsed) (ts rest : Tokens) → p ≤ q → IsPart q v ts rest → IsPart p v ts rest
-lower p q (expression e) ts rest h is = record {
+lower : (k : Clause) (p q : ℕ) (v : Parsed) (ts rest : Tokens) → p ≤ q → IsPart k q v ts rest → IsPart k p v ts rest
+lower clause.OfRows p q (expression e) ts rest h is = record {
   expr = is.expr;
-  term = λ k. is.term (omega arith);
-  factor = λ k. is.factor (omega arith);
+  term = λ i. is.term (omega arith);
+  factor = λ i. is.factor (omega arith);
 }
-lower p q (string t) ts rest h is = is
-lower p q (truth c) ts rest h is = record {
+lower clause.OfGroups p q (expression e) ts rest h is = is
+lower k p q (string t) ts rest h is = is
+lower k p q (aggregate c) ts rest h is = is
+lower k p q (truth c) ts rest h is = record {
   cond' = is.cond';
-  conj = λ k. is.conj (omega arith);
-  neg = λ k. is.neg (omega arith);
+  conj = λ i. is.conj (omega arith);
+  neg = λ i. is.neg (omega arith);
 }
 
 pub a_factor : (tight : ℕ) {e : Expression} {ts rest : Tokens} → IsFactor e ts rest → AsExpr tight e ts rest
 a_factor tight f = record { expr = one_term (one_factor f); term = λ k. one_factor f; factor = λ k. f }
 
-pub a_neg : (tight : ℕ) {c : Condition} {ts rest : Tokens} → IsNeg c ts rest → AsCond tight c ts rest
-a_neg tight n = record { cond' = one_conj (one_neg n); conj = λ k. one_neg n; neg = λ k. n }
+pub a_neg : (k : Clause) (tight : ℕ) {c : Condition} {ts rest : Tokens} → IsNeg (operands_in k) c ts rest → AsCond k tight c ts rest
+a_neg k tight n = record { cond' = one_conj (one_neg n); conj = λ i. one_neg n; neg = λ i. n }
 
 -- A part, behind which no joint binds so tightly.
-pub record Found (least : ℕ) (v : Parsed) (ts rest : Tokens) : Type 0 where
-  pub is : IsPart least v ts rest
+pub record Found (k : Clause) (least : ℕ) (v : Parsed) (ts rest : Tokens) : Type 0 where
+  pub is : IsPart k least v ts rest
   pub none : next_joint least rest ≡ None
 
 abbrev pub AreSpelled : Reads → Type 0
-AreSpelled right = (least : ℕ) (ts : Tokens) → least ≤ 7 → IfSome (right least ts) (λ r. Found least r.0 ts r.1)
+AreSpelled inner = (k : Clause) (least : ℕ) (ts : Tokens) → least ≤ 7 → IfSome (inner k least ts) (λ r. Found k least r.0 ts r.1)
+
+-- ---- calls
+
+count_spelled : (w : List ℕ) (ts : Tokens) → aggregate_of w ≡ Some agg.Count
+    → IfSome (count_at ts) (λ r. IsAgg r.0 (token.Name w ∷ token.Sign sign.Open ∷ ts) r.1)
+count_spelled w (token.Sign sign.Close ∷ ts) h = count_rows h
+count_spelled w (token.Sign sign.Star ∷ token.Sign sign.Close ∷ ts) h = count_star h
+count_spelled w _ h = tt
+
+over_spelled : (w : List ℕ) (op : AggOp) (v : Parsed) (ts mid : Tokens) → aggregate_of w ≡ Some op → has_argument op ≡ true
+    → IsPart clause.OfRows 5 v ts mid
+    → IfSome (option_and_then (λ e. over op e mid) (plain_of v)) (λ r. IsAgg r.0 (token.Name w ∷ token.Sign sign.Open ∷ ts) r.1)
+over_spelled w op (expression e) ts (token.Sign sign.Close ∷ rest) h k is = called_over h k is.expr
+over_spelled w op (expression e) ts _ h k is = tt
+over_spelled w op (string t) ts mid h k is = tt
+over_spelled w op (aggregate c) ts mid h k is = tt
+over_spelled w op (truth c) ts mid h k is = tt
+
+read_over_spelled : (inner : Reads) → AreSpelled inner → (w : List ℕ) (op : AggOp) (ts : Tokens) → aggregate_of w ≡ Some op → has_argument op ≡ true
+    → IfSome (call_over op (inner clause.OfRows 5 ts)) (λ r. IsAgg r.0 (token.Name w ∷ token.Sign sign.Open ∷ ts) r.1)
+read_over_spelled inner h w op ts known has =
+    bind (λ p. Found clause.OfRows 5 p.0 ts p.1) (λ r. IsAgg r.0 (token.Name w ∷ token.Sign sign.Open ∷ ts) r.1)
+    (λ p. option_and_then (λ e. over op e p.1) (plain_of p.0)) (inner clause.OfRows 5 ts) (h clause.OfRows 5 ts (omega arith))
+    (λ p found. over_spelled w op p.0 ts p.1 known has found.is)
+
+pub call_spelled : (inner : Reads) → AreSpelled inner → (w : List ℕ) (op : AggOp) (ts : Tokens) → aggregate_of w ≡ Some op
+    → IfSome (call_at inner op ts) (λ r. IsAgg r.0 (token.Name w ∷ token.Sign sign.Open ∷ ts) r.1)
+call_spelled inner h w agg.Count ts known = count_spelled w ts known
+call_spelled inner h w agg.Sum ts known = read_over_spelled inner h w agg.Sum ts known refl
+call_spelled inner h w agg.Min ts known = read_over_spelled inner h w agg.Min ts known refl
+call_spelled inner h w agg.Max ts known = read_over_spelled inner h w agg.Max ts known refl
+
+-- what is called stands behind a parenthesis
+pub called_is : (w : List ℕ) (ts : Tokens) (c : AggOp × Tokens) → called w ts ≡ Some c → (ts ≡ token.Sign sign.Open ∷ c.1) × (aggregate_of w ≡ Some c.0)
+called_is w (token.Sign sign.Open ∷ ts) c e = go (aggregate_of w) refl e
+  where
+    go : (o : Option AggOp) → aggregate_of w ≡ o → option_map (λ op. (op, ts)) o ≡ Some c
+        → (token.Sign sign.Open ∷ ts ≡ token.Sign sign.Open ∷ c.1) × (aggregate_of w ≡ Some c.0)
+    go None k m = absurd cc
+    go (Some op) k m =
+        let same : (op, ts) ≡ c = same_Some (op, ts) c m in
+        (ap (λ (p : AggOp × Tokens). token.Sign sign.Open ∷ p.1) same, k ∙ ap (λ (p : AggOp × Tokens). Some p.0) same)
+called_is w _ c e = absurd cc
+
+-- a call that is found at a word
+pub word_called : (inner : Reads) → AreSpelled inner → (w : List ℕ) (ts : Tokens) (c : AggOp × Tokens) → called w ts ≡ Some c
+    → IfSome (call_at inner c.0 c.1) (λ r. IsAgg r.0 (token.Name w ∷ ts) r.1)
+word_called inner h w ts c e =
+    let is = called_is w ts c e in
+    subst (λ (x : Tokens). IfSome (call_at inner c.0 c.1) (λ r. IsAgg r.0 (token.Name w ∷ x) r.1)) (sym is.0) (call_spelled inner h w c.0 c.1 is.1)
 
 -- ---- single parts
 
-column_spelled : (w : List ℕ) (ts : Tokens) → IsPart 7 (column_at w ts).0 (token.Name w ∷ ts) (column_at w ts).1
-column_spelled w (token.Sign sign.Dot ∷ token.Name c ∷ ts) = a_factor 7 (a_column qualified)
-column_spelled w _ = a_factor 7 (a_column unqualified)
+column_spelled : (k : Clause) (w : List ℕ) (ts : Tokens) → IsPart k 7 (column_at w ts).0 (token.Name w ∷ ts) (column_at w ts).1
+column_spelled clause.OfRows w (token.Sign sign.Dot ∷ token.Name c ∷ ts) = a_factor 7 (a_column qualified)
+column_spelled clause.OfRows w _ = a_factor 7 (a_column unqualified)
+column_spelled clause.OfGroups w (token.Sign sign.Dot ∷ token.Name c ∷ ts) = a_key qualified
+column_spelled clause.OfGroups w _ = a_key unqualified
 
-negative_spelled : (ts : Tokens) → IfSome (negative_at ts) (λ r. IsPart 7 r.0 (token.Sign sign.Minus ∷ ts) r.1)
-negative_spelled (token.Number n ∷ ts) = a_factor 7 negative
-negative_spelled _ = tt
+word_spelled : (k : Clause) (inner : Reads) → AreSpelled inner → (w : List ℕ) (ts : Tokens)
+    → IfSome (word_at k inner w ts) (λ r. IsPart k 7 r.0 (token.Name w ∷ ts) r.1)
+word_spelled clause.OfRows inner h w ts = column_spelled clause.OfRows w ts
+word_spelled clause.OfGroups inner h w ts = go (called w ts) refl
+  where
+    go : (o : Option (AggOp × Tokens)) → called w ts ≡ o
+        → IfSome (call_or_column inner w ts o) (λ r. IsPart clause.OfGroups 7 r.0 (token.Name w ∷ ts) r.1)
+    go None e = column_spelled clause.OfGroups w ts
+    go (Some c) e =
+        map_some (λ r. IsAgg r.0 (token.Name w ∷ ts) r.1) (λ r. IsPart clause.OfGroups 7 r.0 (token.Name w ∷ ts) r.1) (λ r. (aggregate r.0, r.1))
+        (call_at inner c.0 c.1) (word_called inner h w ts c e) (λ r is. is)
 
-closed_spelled : (v : Parsed) (ts mid : Tokens) → IsPart 1 v ts mid
-    → IfSome (closed_at v mid) (λ r. IsPart 7 r.0 (token.Sign sign.Open ∷ ts) r.1)
-closed_spelled (expression e) ts (token.Sign sign.Close ∷ rest) is = a_factor 7 (enclosed is.expr)
-closed_spelled (truth c) ts (token.Sign sign.Close ∷ rest) is = a_neg 7 (enclosed_cond is.cond')
-closed_spelled (expression e) ts _ is = tt
-closed_spelled (truth c) ts _ is = tt
-closed_spelled (string t) ts mid is = tt
+number_spelled : (k : Clause) (n : ℕ) (ts : Tokens) → IsPart k 7 (expression (number (record { negative = false; size = n }))) (token.Number n ∷ ts) ts
+number_spelled clause.OfRows n ts = a_factor 7 a_number
+number_spelled clause.OfGroups n ts = a_constant
 
-negation_spelled : (v : Parsed) (ts rest : Tokens) → IsPart 4 v ts rest
-    → IfSome (negation_at v rest) (λ r. IsPart 7 r.0 (token.Keyword keyword.Not ∷ ts) r.1)
-negation_spelled (expression e) ts rest is = tt
-negation_spelled (string t) ts rest is = tt
-negation_spelled (truth c) ts rest is = a_neg 7 (negation (is.neg (omega arith)))
+negative_spelled : (k : Clause) (ts : Tokens) → IfSome (negative_at ts) (λ r. IsPart k 7 r.0 (token.Sign sign.Minus ∷ ts) r.1)
+negative_spelled clause.OfRows (token.Number n ∷ ts) = a_factor 7 negative
+negative_spelled clause.OfGroups (token.Number n ∷ ts) = a_negative
+negative_spelled k _ = tt
 
-sign_spelled : (inner : Reads) → AreSpelled inner → (s : Sign) (ts : Tokens)
-    → IfSome (first_sign inner s ts) (λ r. IsPart 7 r.0 (token.Sign s ∷ ts) r.1)
-sign_spelled inner h sign.Open ts =
-    bind (λ p. Found 1 p.0 ts p.1) (λ r. IsPart 7 r.0 (token.Sign sign.Open ∷ ts) r.1) (λ p. closed_at p.0 p.1) (inner 1 ts) (h 1 ts (omega arith)) (λ p found. closed_spelled p.0 ts p.1 found.is)
-sign_spelled inner h sign.Minus ts = negative_spelled ts
-sign_spelled inner h _ ts = tt
+closed_spelled : (k : Clause) (v : Parsed) (ts mid : Tokens) → IsPart k 1 v ts mid
+    → IfSome (closed_at k v mid) (λ r. IsPart k 7 r.0 (token.Sign sign.Open ∷ ts) r.1)
+closed_spelled clause.OfRows (expression e) ts (token.Sign sign.Close ∷ rest) is = a_factor 7 (enclosed is.expr)
+closed_spelled clause.OfRows (expression e) ts _ is = tt
+closed_spelled clause.OfGroups (expression e) ts mid is = tt
+closed_spelled k (truth c) ts (token.Sign sign.Close ∷ rest) is = a_neg k 7 (enclosed_cond is.cond')
+closed_spelled k (truth c) ts _ is = tt
+closed_spelled k (string t) ts mid is = tt
+closed_spelled k (aggregate c) ts mid is = tt
 
-keyword_spelled : (inner : Reads) → AreSpelled inner → (k : Keyword) (ts : Tokens)
-    → IfSome (first_keyword inner k ts) (λ r. IsPart 7 r.0 (token.Keyword k ∷ ts) r.1)
-keyword_spelled inner h keyword.Not ts =
-    bind (λ p. Found 4 p.0 ts p.1) (λ r. IsPart 7 r.0 (token.Keyword keyword.Not ∷ ts) r.1) (λ p. negation_at p.0 p.1) (inner 4 ts) (h 4 ts (omega arith)) (λ p found. negation_spelled p.0 ts p.1 found.is)
-keyword_spelled inner h _ ts = tt
+negation_spelled : (k : Clause) (v : Parsed) (ts rest : Tokens) → IsPart k 4 v ts rest
+    → IfSome (negation_at v rest) (λ r. IsPart k 7 r.0 (token.Keyword keyword.Not ∷ ts) r.1)
+negation_spelled k (expression e) ts rest is = tt
+negation_spelled k (string t) ts rest is = tt
+negation_spelled k (aggregate c) ts rest is = tt
+negation_spelled k (truth c) ts rest is = a_neg k 7 (negation (is.neg (omega arith)))
 
-first_spelled : (inner : Reads) → AreSpelled inner → (ts : Tokens) → IfSome (first_part inner ts) (λ r. IsPart 7 r.0 ts r.1)
-first_spelled inner h [] = tt
-first_spelled inner h (token.Name w ∷ ts) = column_spelled w ts
-first_spelled inner h (token.Keyword k ∷ ts) = keyword_spelled inner h k ts
-first_spelled inner h (token.Number n ∷ ts) = a_factor 7 a_number
-first_spelled inner h (token.LargeNumber ∷ ts) = tt
-first_spelled inner h (token.Text t ∷ ts) = refl
-first_spelled inner h (token.Sign s ∷ ts) = sign_spelled inner h s ts
+sign_spelled : (k : Clause) (inner : Reads) → AreSpelled inner → (s : Sign) (ts : Tokens)
+    → IfSome (first_sign k inner s ts) (λ r. IsPart k 7 r.0 (token.Sign s ∷ ts) r.1)
+sign_spelled k inner h sign.Open ts =
+    bind (λ p. Found k 1 p.0 ts p.1) (λ r. IsPart k 7 r.0 (token.Sign sign.Open ∷ ts) r.1) (λ p. closed_at k p.0 p.1) (inner k 1 ts)
+    (h k 1 ts (omega arith)) (λ p found. closed_spelled k p.0 ts p.1 found.is)
+sign_spelled k inner h sign.Minus ts = negative_spelled k ts
+sign_spelled k inner h _ ts = tt
+
+keyword_spelled : (k : Clause) (inner : Reads) → AreSpelled inner → (w : Keyword) (ts : Tokens)
+    → IfSome (first_keyword k inner w ts) (λ r. IsPart k 7 r.0 (token.Keyword w ∷ ts) r.1)
+keyword_spelled k inner h keyword.Not ts =
+    bind (λ p. Found k 4 p.0 ts p.1) (λ r. IsPart k 7 r.0 (token.Keyword keyword.Not ∷ ts) r.1) (λ p. negation_at p.0 p.1) (inner k 4 ts)
+    (h k 4 ts (omega arith)) (λ p found. negation_spelled k p.0 ts p.1 found.is)
+keyword_spelled k inner h _ ts = tt
+
+first_spelled : (k : Clause) (inner : Reads) → AreSpelled inner → (ts : Tokens) → IfSome (first_part k inner ts) (λ r. IsPart k 7 r.0 ts r.1)
+first_spelled k inner h [] = tt
+first_spelled k inner h (token.Name w ∷ ts) = word_spelled k inner h w ts
+first_spelled k inner h (token.Keyword w ∷ ts) = keyword_spelled k inner h w ts
+first_spelled k inner h (token.Number n ∷ ts) = number_spelled k n ts
+first_spelled k inner h (token.LargeNumber ∷ ts) = tt
+first_spelled k inner h (token.Text t ∷ ts) = refl
+first_spelled k inner h (token.Sign s ∷ ts) = sign_spelled k inner h s ts
 
 -- ---- parts with their joints
 
@@ -182,137 +276,150 @@ next_joins : (least bound : ℕ) (ts : Tokens) → next_joint (suc bound) ts ≡
 next_joins least bound [] none = tt
 next_joins least bound (t ∷ ts) none = if_level-joins least bound t ts (joint_of t) (token_is t) none
 
-arith_spelled : (o : ArithOp) (bound : ℕ) (v w : Parsed) (ts mid rest : Tokens) (t : Token) → IsJoint (joint.Arith o) t
-    → level (joint.Arith o) ≤ bound → IsPart bound v ts (t ∷ mid) → IsPart (suc (level (joint.Arith o))) w mid rest
-    → IfSome (combined (joint.Arith o) v w) (λ u. IsPart (level (joint.Arith o)) u ts rest)
-arith_spelled op.Add bound (expression a) (expression b) ts mid rest t is h l r =
+-- arithmetic of two expressions, which HAVING hasn't
+arith_spelled : (k : Clause) (o : ArithOp) (bound : ℕ) (v w : Parsed) (ts mid rest : Tokens) (t : Token) → IsJoint (joint.Arith o) t
+    → level (joint.Arith o) ≤ bound → IsPart k bound v ts (t ∷ mid) → IsPart k (suc (level (joint.Arith o))) w mid rest
+    → IfSome (calculated k o v w) (λ u. IsPart k (level (joint.Arith o)) u ts rest)
+arith_spelled clause.OfGroups o bound v w ts mid rest t is h l r = tt
+arith_spelled clause.OfRows op.Add bound (expression a) (expression b) ts mid rest t is h l r =
     record { expr = sum (subst (λ (x : Token). IsExpr a ts (x ∷ mid)) is l.expr) (r.term (omega arith)); term = λ k. absurd (omega arith); factor = λ k. absurd (omega arith) }
-arith_spelled op.Sub bound (expression a) (expression b) ts mid rest t is h l r =
+arith_spelled clause.OfRows op.Sub bound (expression a) (expression b) ts mid rest t is h l r =
     record { expr = difference (subst (λ (x : Token). IsExpr a ts (x ∷ mid)) is l.expr) (r.term (omega arith)); term = λ k. absurd (omega arith); factor = λ k. absurd (omega arith) }
-arith_spelled op.Mul bound (expression a) (expression b) ts mid rest t is h l r =
+arith_spelled clause.OfRows op.Mul bound (expression a) (expression b) ts mid rest t is h l r =
     let p : IsTerm (arithmetic op.Mul a b) ts rest = product (subst (λ (x : Token). IsTerm a ts (x ∷ mid)) is (l.term (omega arith))) (r.factor (omega arith)) in
     record { expr = one_term p; term = λ k. p; factor = λ k. absurd (omega arith) }
-arith_spelled o bound (expression a) (string b) ts mid rest t is h l r = tt
-arith_spelled o bound (expression a) (truth b) ts mid rest t is h l r = tt
-arith_spelled o bound (string a) w ts mid rest t is h l r = tt
-arith_spelled o bound (truth a) w ts mid rest t is h l r = tt
+arith_spelled clause.OfRows o bound (expression a) (string b) ts mid rest t is h l r = tt
+arith_spelled clause.OfRows o bound (expression a) (aggregate b) ts mid rest t is h l r = tt
+arith_spelled clause.OfRows o bound (expression a) (truth b) ts mid rest t is h l r = tt
+arith_spelled clause.OfRows o bound (string a) w ts mid rest t is h l r = tt
+arith_spelled clause.OfRows o bound (aggregate a) w ts mid rest t is h l r = tt
+arith_spelled clause.OfRows o bound (truth a) w ts mid rest t is h l r = tt
 
 -- a part that may be a side of a comparison
-as_operand : (tight : ℕ) (v : Parsed) (ts rest : Tokens) → IsPart tight v ts rest → IfSome (side_of v) (λ s. IsOperand s ts rest)
-as_operand tight (expression e) ts rest is = an_expr is.expr
-as_operand tight (string t) ts rest is = subst (λ (x : Tokens). IsOperand (text t) x rest) (sym is) a_string
-as_operand tight (truth c) ts rest is = tt
+as_operand : (k : Clause) (tight : ℕ) (v : Parsed) (ts rest : Tokens) → IsPart k tight v ts rest → IfSome (side_of v) (λ s. operands_in k s ts rest)
+as_operand clause.OfRows tight (expression e) ts rest is = an_expr is.expr
+as_operand clause.OfGroups tight (expression e) ts rest is = is
+as_operand clause.OfRows tight (string t) ts rest is = subst (λ (x : Tokens). IsOperand (text t) x rest) (sym is) a_string
+as_operand clause.OfGroups tight (string t) ts rest is = subst (λ (x : Tokens). IsGroupOperand (text t) x rest) (sym is) a_text
+as_operand clause.OfRows tight (aggregate c) ts rest is = absurd is
+as_operand clause.OfGroups tight (aggregate c) ts rest is = a_call is
+as_operand k tight (truth c) ts rest is = tt
 
-compare_spelled : (o : CompareOp) (v w : Parsed) (ts mid rest : Tokens) (s : Sign) → IsComparison o s
-    → IfSome (side_of v) (λ a. IsOperand a ts (token.Sign s ∷ mid)) → IfSome (side_of w) (λ b. IsOperand b mid rest)
-    → IfSome (combined (joint.Compare o) v w) (λ u. IsPart 4 u ts rest)
-compare_spelled o (expression a) (expression b) ts mid rest s is l r = a_neg 4 (comparison l is r)
-compare_spelled o (expression a) (string b) ts mid rest s is l r = a_neg 4 (comparison l is r)
-compare_spelled o (expression a) (truth b) ts mid rest s is l r = tt
-compare_spelled o (string a) (expression b) ts mid rest s is l r = a_neg 4 (comparison l is r)
-compare_spelled o (string a) (string b) ts mid rest s is l r = a_neg 4 (comparison l is r)
-compare_spelled o (string a) (truth b) ts mid rest s is l r = tt
-compare_spelled o (truth a) w ts mid rest s is l r = tt
+module _ (k : Clause) where
+  sides_compared : (o : CompareOp) (v w : Option Side) (ts mid rest : Tokens) (s : Sign) → IsComparison o s
+      → IfSome v (λ a. operands_in k a ts (token.Sign s ∷ mid)) → IfSome w (λ b. operands_in k b mid rest)
+      → IfSome (if_both (λ l r. truth (compare o l r)) v w) (λ u. IsPart k 4 u ts rest)
+  sides_compared o None w ts mid rest s is l r = tt
+  sides_compared o (Some a) None ts mid rest s is l r = tt
+  sides_compared o (Some a) (Some b) ts mid rest s is l r = a_neg k 4 (comparison l is r)
 
-and_spelled : (bound : ℕ) (v w : Parsed) (ts mid rest : Tokens) (t : Token) → t ≡ token.Keyword keyword.And → 2 ≤ bound
-    → IsPart bound v ts (t ∷ mid) → IsPart 3 w mid rest → IfSome (combined joint.And v w) (λ u. IsPart 2 u ts rest)
-and_spelled bound (truth a) (truth b) ts mid rest t is h l r =
-    let c : IsConj (both a b) ts rest = conjunction (subst (λ (x : Token). IsConj a ts (x ∷ mid)) is (l.conj h)) (r.neg (omega arith)) in
-    record { cond' = one_conj c; conj = λ k. c; neg = λ k. absurd (omega arith) }
-and_spelled bound (truth a) (expression b) ts mid rest t is h l r = tt
-and_spelled bound (truth a) (string b) ts mid rest t is h l r = tt
-and_spelled bound (expression a) w ts mid rest t is h l r = tt
-and_spelled bound (string a) w ts mid rest t is h l r = tt
+  and_spelled : (bound : ℕ) (v w : Parsed) (ts mid rest : Tokens) (t : Token) → t ≡ token.Keyword keyword.And → 2 ≤ bound
+      → IsPart k bound v ts (t ∷ mid) → IsPart k 3 w mid rest → IfSome (combined k joint.And v w) (λ u. IsPart k 2 u ts rest)
+  and_spelled bound (truth a) (truth b) ts mid rest t is h l r =
+      let c : IsConj (operands_in k) (both a b) ts rest = conjunction (subst (λ (x : Token). IsConj (operands_in k) a ts (x ∷ mid)) is (l.conj h)) (r.neg (omega arith)) in
+      record { cond' = one_conj c; conj = λ i. c; neg = λ i. absurd (omega arith) }
+  and_spelled bound (truth a) (expression b) ts mid rest t is h l r = tt
+  and_spelled bound (truth a) (string b) ts mid rest t is h l r = tt
+  and_spelled bound (truth a) (aggregate b) ts mid rest t is h l r = tt
+  and_spelled bound (expression a) w ts mid rest t is h l r = tt
+  and_spelled bound (string a) w ts mid rest t is h l r = tt
+  and_spelled bound (aggregate a) w ts mid rest t is h l r = tt
 
-or_spelled : (bound : ℕ) (v w : Parsed) (ts mid rest : Tokens) (t : Token) → t ≡ token.Keyword keyword.Or
-    → IsPart bound v ts (t ∷ mid) → IsPart 2 w mid rest → IfSome (combined joint.Or v w) (λ u. IsPart 1 u ts rest)
-or_spelled bound (truth a) (truth b) ts mid rest t is l r =
-    record { cond' = disjunction (subst (λ (x : Token). IsCond a ts (x ∷ mid)) is l.cond') (r.conj (omega arith)); conj = λ k. absurd (omega arith); neg = λ k. absurd (omega arith) }
-or_spelled bound (truth a) (expression b) ts mid rest t is l r = tt
-or_spelled bound (truth a) (string b) ts mid rest t is l r = tt
-or_spelled bound (expression a) w ts mid rest t is l r = tt
-or_spelled bound (string a) w ts mid rest t is l r = tt
+  or_spelled : (bound : ℕ) (v w : Parsed) (ts mid rest : Tokens) (t : Token) → t ≡ token.Keyword keyword.Or
+      → IsPart k bound v ts (t ∷ mid) → IsPart k 2 w mid rest → IfSome (combined k joint.Or v w) (λ u. IsPart k 1 u ts rest)
+  or_spelled bound (truth a) (truth b) ts mid rest t is l r =
+      record { cond' = disjunction (subst (λ (x : Token). IsCond (operands_in k) a ts (x ∷ mid)) is l.cond') (r.conj (omega arith)); conj = λ i. absurd (omega arith); neg = λ i. absurd (omega arith) }
+  or_spelled bound (truth a) (expression b) ts mid rest t is l r = tt
+  or_spelled bound (truth a) (string b) ts mid rest t is l r = tt
+  or_spelled bound (truth a) (aggregate b) ts mid rest t is l r = tt
+  or_spelled bound (expression a) w ts mid rest t is l r = tt
+  or_spelled bound (string a) w ts mid rest t is l r = tt
+  or_spelled bound (aggregate a) w ts mid rest t is l r = tt
 
-combined_spelled : (j : Joint) (bound : ℕ) (v w : Parsed) (ts mid rest : Tokens) (t : Token) → IsJoint j t → level j ≤ bound
-    → IsPart bound v ts (t ∷ mid) → IsPart (suc (level j)) w mid rest → IfSome (combined j v w) (λ u. IsPart (level j) u ts rest)
-combined_spelled (joint.Arith o) bound v w ts mid rest t is h l r = arith_spelled o bound v w ts mid rest t is h l r
-combined_spelled (joint.Compare o) bound v w ts mid rest t is h l r =
-    compare_spelled o v w ts mid rest is.0 is.2
-    (subst (λ (x : Token). IfSome (side_of v) (λ a. IsOperand a ts (x ∷ mid))) is.1 (as_operand bound v ts (t ∷ mid) l))
-    (as_operand 5 w mid rest r)
-combined_spelled joint.And bound v w ts mid rest t is h l r = and_spelled bound v w ts mid rest t is h l r
-combined_spelled joint.Or bound v w ts mid rest t is h l r = or_spelled bound v w ts mid rest t is l r
+  combined_spelled : (j : Joint) (bound : ℕ) (v w : Parsed) (ts mid rest : Tokens) (t : Token) → IsJoint j t → level j ≤ bound
+      → IsPart k bound v ts (t ∷ mid) → IsPart k (suc (level j)) w mid rest → IfSome (combined k j v w) (λ u. IsPart k (level j) u ts rest)
+  combined_spelled (joint.Arith o) bound v w ts mid rest t is h l r = arith_spelled k o bound v w ts mid rest t is h l r
+  combined_spelled (joint.Compare o) bound v w ts mid rest t is h l r =
+      sides_compared o (side_of v) (side_of w) ts mid rest is.0 is.2
+      (subst (λ (x : Token). IfSome (side_of v) (λ a. operands_in k a ts (x ∷ mid))) is.1 (as_operand k bound v ts (t ∷ mid) l))
+      (as_operand k 5 w mid rest r)
+  combined_spelled joint.And bound v w ts mid rest t is h l r = and_spelled bound v w ts mid rest t is h l r
+  combined_spelled joint.Or bound v w ts mid rest t is h l r = or_spelled bound v w ts mid rest t is l r
 
 -- a part with all that joints of its level join to it
-record IsTurned (tight : ℕ) (v : Parsed) (ts rest : Tokens) : Type 0 where
-  is : IsPart tight v ts rest
+record IsTurned (k : Clause) (tight : ℕ) (v : Parsed) (ts rest : Tokens) : Type 0 where
+  is : IsPart k tight v ts rest
   none : next_joint (suc tight) rest ≡ None
 
-turn_spelled : (right : Reads) → AreSpelled right → (j : Joint) (bound : ℕ) (v : Parsed) (ts mid : Tokens) (t : Token)
-    → IsJoint j t → level j ≤ bound → IsPart bound v ts (t ∷ mid) → IfSome (turn_of right j v mid) (λ r. IsTurned (level j) r.0 ts r.1)
-turn_spelled right h j bound v ts mid t is high left =
-    bind (λ r. Found (suc (level j)) r.0 mid r.1) (λ r. IsTurned (level j) r.0 ts r.1) (λ r. option_map (λ p. (p, r.1)) (combined j v r.0))
-    (right (suc (level j)) mid) (h (suc (level j)) mid (level_below j))
-    (λ r found. map_some (λ u. IsPart (level j) u ts r.1) (λ r. IsTurned (level j) r.0 ts r.1) (λ p. (p, r.1)) (combined j v r.0)
-    (combined_spelled j bound v r.0 ts mid r.1 t is high left found.is)
-    (λ u part. record { is = part; none = found.none }))
-
 -- what the turns keep: the part at the left, behind which none binds more tightly than bound
-abbrev GoOn : (Parsed → Tokens → Reading Parsed) → ℕ → Type 0
-GoOn more least = (bound : ℕ) (v : Parsed) (ts mid : Tokens) → least ≤ bound → IsPart bound v ts mid
-    → next_joint (suc bound) mid ≡ None → IfSome (more v mid) (λ r. Found least r.0 ts r.1)
+abbrev GoOn : Clause → (Parsed → Tokens → Reading Parsed) → ℕ → Type 0
+GoOn k more least = (bound : ℕ) (v : Parsed) (ts mid : Tokens) → least ≤ bound → IsPart k bound v ts mid
+    → next_joint (suc bound) mid ≡ None → IfSome (more v mid) (λ r. Found k least r.0 ts r.1)
 
-joined_at-spelled : (right : Reads) → AreSpelled right → (more : Parsed → Tokens → Reading Parsed) (least : ℕ) → GoOn more least
-    → (bound : ℕ) (v : Parsed) (ts mid : Tokens) → least ≤ bound → IsPart bound v ts mid → (o : Option (Joint × Tokens))
-    → next_joint least mid ≡ o → IfSome o (λ n. Joins least bound mid n.1 n.0)
-    → IfSome (joined_at right more v mid o) (λ r. Found least r.0 ts r.1)
-joined_at-spelled right h more least go bound v ts mid k is None e joins = record { is = lower least bound v ts mid k is; none = e }
-joined_at-spelled right h more least go bound v ts mid k is (Some n) e joins =
-    bind (λ r. IsTurned (level n.0) r.0 ts r.1) (λ r. Found least r.0 ts r.1) (λ p. more p.0 p.1) (turn_of right n.0 v n.1)
-    (turn_spelled right h n.0 bound v ts n.1 joins.token joins.is joins.high (subst (λ (x : Tokens). IsPart bound v ts x) joins.front is))
-    (λ r turned. go (level n.0) r.0 ts r.1 joins.low turned.is turned.none)
+module _ (k : Clause) (right : Reads) (h : AreSpelled right) where
+  turn_spelled : (j : Joint) (bound : ℕ) (v : Parsed) (ts mid : Tokens) (t : Token)
+      → IsJoint j t → level j ≤ bound → IsPart k bound v ts (t ∷ mid) → IfSome (turn_of k right j v mid) (λ r. IsTurned k (level j) r.0 ts r.1)
+  turn_spelled j bound v ts mid t is high left =
+      bind (λ r. Found k (suc (level j)) r.0 mid r.1) (λ r. IsTurned k (level j) r.0 ts r.1) (λ r. option_map (λ p. (p, r.1)) (combined k j v r.0))
+      (right k (suc (level j)) mid) (h k (suc (level j)) mid (level_below j))
+      (λ r found. map_some (λ u. IsPart k (level j) u ts r.1) (λ r. IsTurned k (level j) r.0 ts r.1) (λ p. (p, r.1)) (combined k j v r.0)
+      (combined_spelled k j bound v r.0 ts mid r.1 t is high left found.is)
+      (λ u part. record { is = part; none = found.none }))
 
-joined_spelled : (right : Reads) → AreSpelled right → (least turns : ℕ) → GoOn (joined right least turns) least
-unfolding joined
-joined_spelled right h least zero bound v ts mid k is none = tt
-joined_spelled right h least (suc turns) bound v ts mid k is none =
-    joined_at-spelled right h (joined right least turns) least (joined_spelled right h least turns) bound v ts mid k is
-    (next_joint least mid) refl (next_joins least bound mid none)
+  joined_at-spelled : (more : Parsed → Tokens → Reading Parsed) (least : ℕ) → GoOn k more least
+      → (bound : ℕ) (v : Parsed) (ts mid : Tokens) → least ≤ bound → IsPart k bound v ts mid → (o : Option (Joint × Tokens))
+      → next_joint least mid ≡ o → IfSome o (λ n. Joins least bound mid n.1 n.0)
+      → IfSome (joined_at k right more v mid o) (λ r. Found k least r.0 ts r.1)
+  joined_at-spelled more least go bound v ts mid i is None e joins = record { is = lower k least bound v ts mid i is; none = e }
+  joined_at-spelled more least go bound v ts mid i is (Some n) e joins =
+      bind (λ r. IsTurned k (level n.0) r.0 ts r.1) (λ r. Found k least r.0 ts r.1) (λ p. more p.0 p.1) (turn_of k right n.0 v n.1)
+      (turn_spelled n.0 bound v ts n.1 joins.token joins.is joins.high (subst (λ (x : Tokens). IsPart k bound v ts x) joins.front is))
+      (λ r turned. go (level n.0) r.0 ts r.1 joins.low turned.is turned.none)
+
+  joined_spelled : (least turns : ℕ) → GoOn k (joined k right least turns) least
+  unfolding joined
+  joined_spelled least zero bound v ts mid i is none = tt
+  joined_spelled least (suc turns) bound v ts mid i is none =
+      joined_at-spelled (joined k right least turns) least (joined_spelled least turns) bound v ts mid i is
+      (next_joint least mid) refl (next_joins least bound mid none)
 
 pub part_spelled : (depth : ℕ) → AreSpelled (part_at depth)
 unfolding part_at
-part_spelled zero least ts k = tt
-part_spelled (suc depth) least ts k =
-    bind (λ p. IsPart 7 p.0 ts p.1) (λ r. Found least r.0 ts r.1)
-    (λ p. joined (part_at depth) least (suc (length p.1)) p.0 p.1) (first_part (part_at depth) ts)
-    (first_spelled (part_at depth) (part_spelled depth) ts)
-    (λ p is. joined_spelled (part_at depth) (part_spelled depth) least (suc (length p.1)) 7 p.0 ts p.1 k is (tighter 7 8 p.1 (omega arith) (loose p.1)))
+part_spelled zero k least ts i = tt
+part_spelled (suc depth) k least ts i =
+    bind (λ p. IsPart k 7 p.0 ts p.1) (λ r. Found k least r.0 ts r.1)
+    (λ p. joined k (part_at depth) least (suc (length p.1)) p.0 p.1) (first_part k (part_at depth) ts)
+    (first_spelled k (part_at depth) (part_spelled depth) ts)
+    (λ p is. joined_spelled k (part_at depth) (part_spelled depth) least (suc (length p.1)) 7 p.0 ts p.1 i is (tighter 7 8 p.1 (omega arith) (loose p.1)))
 
-is_shorter : (tight : ℕ) (v : Parsed) (ts rest : Tokens) → IsPart tight v ts rest → length rest < length ts
-is_shorter tight (expression e) ts rest is = expr_shorter is.expr
-is_shorter tight (string t) ts rest is = omega (arith, ap (length {A = Token}) is)
-is_shorter tight (truth c) ts rest is = cond_shorter is.cond'
+is_shorter : (k : Clause) (tight : ℕ) (v : Parsed) (ts rest : Tokens) → IsPart k tight v ts rest → length rest < length ts
+is_shorter clause.OfRows tight (expression e) ts rest is = expr_shorter is.expr
+is_shorter clause.OfGroups tight (expression e) ts rest is = shorter (group_operand_behind is)
+is_shorter k tight (string t) ts rest is = omega (arith, ap (length {A = Token}) is)
+is_shorter clause.OfRows tight (aggregate c) ts rest is = absurd is
+is_shorter clause.OfGroups tight (aggregate c) ts rest is = shorter (agg_behind is)
+is_shorter k tight (truth c) ts rest is = cond_shorter k is.cond'
 
 -- what is read takes a token
-reads_shorter : (depth least : ℕ) (ts : Tokens) → least ≤ 7 → IfSome (part_at depth least ts) (λ r. length r.1 < length ts)
-reads_shorter depth least ts h =
-    if_some _ _ (part_at depth least ts) (part_spelled depth least ts h) (λ r found. is_shorter least r.0 ts r.1 found.is)
+reads_shorter : (k : Clause) (depth least : ℕ) (ts : Tokens) → least ≤ 7 → IfSome (part_at depth k least ts) (λ r. length r.1 < length ts)
+reads_shorter k depth least ts h =
+    if_some _ _ (part_at depth k least ts) (part_spelled depth k least ts h) (λ r found. is_shorter k least r.0 ts r.1 found.is)
   where
     if_some : {A : Type 0} (P Q : A → Type 0) (o : Option A) → IfSome o P → ((x : A) → P x → Q x) → IfSome o Q
     if_some P Q None h k = tt
     if_some P Q (Some x) h k = k x h
 
-pub turn_shorter : (depth : ℕ) (j : Joint) (v : Parsed) (ts : Tokens) → IfSome (turn_of (part_at depth) j v ts) (λ r. length r.1 < length ts)
-turn_shorter depth j v ts =
-    bind (λ r. length r.1 < length ts) (λ r. length r.1 < length ts) (λ r. option_map (λ p. (p, r.1)) (combined j v r.0))
-    (part_at depth (suc (level j)) ts) (reads_shorter depth (suc (level j)) ts (level_below j))
-    (λ r less. map_some (λ u. Unit {0}) (λ r. length r.1 < length ts) (λ p. (p, r.1)) (combined j v r.0) (any_some (combined j v r.0)) (λ u n. less))
+pub turn_shorter : (k : Clause) (depth : ℕ) (j : Joint) (v : Parsed) (ts : Tokens) → IfSome (turn_of k (part_at depth) j v ts) (λ r. length r.1 < length ts)
+turn_shorter k depth j v ts =
+    bind (λ r. length r.1 < length ts) (λ r. length r.1 < length ts) (λ r. option_map (λ p. (p, r.1)) (combined k j v r.0))
+    (part_at depth k (suc (level j)) ts) (reads_shorter k depth (suc (level j)) ts (level_below j))
+    (λ r less. map_some (λ u. Unit {0}) (λ r. length r.1 < length ts) (λ p. (p, r.1)) (combined k j v r.0) (any_some (combined k j v r.0)) (λ u n. less))
   where
     any_some : (o : Option Parsed) → IfSome o (λ u. Unit {0})
     any_some None = tt
     any_some (Some u) = tt
 
-pub turn_takes : (depth : ℕ) (j : Joint) (v u : Parsed) (ts rest : Tokens) → turn_of (part_at depth) j v ts ≡ Some (u, rest)
+pub turn_takes : (k : Clause) (depth : ℕ) (j : Joint) (v u : Parsed) (ts rest : Tokens) → turn_of k (part_at depth) j v ts ≡ Some (u, rest)
     → length rest < length ts
-turn_takes depth j v u ts rest turned =
-    subst (λ (r : Reading Parsed). IfSome r (λ r. length r.1 < length ts)) turned (turn_shorter depth j v ts)
+turn_takes k depth j v u ts rest turned =
+    subst (λ (r : Reading Parsed). IfSome r (λ r. length r.1 < length ts)) turned (turn_shorter k depth j v ts)

@@ -9,11 +9,14 @@ use Rattle.sql_text.specs.declared.part.Joint.TheVariants as joint
 use Rattle.sql_text.specs.declared.stop.Stop.{Stop}
 use Rattle.sql_text.specs.declared.stop.Stop.TheVariants as stop
 use Rattle.sql_text.specs.Answers.{Fails}
+use Rattle.sql_text.specs.declared.part.Clause.{Clause}
 use Rattle.sql_text.specs.Parts.{Parsed, Reading, Reads, joint_of, level, if_level, next_joint, combined, first_part, turn_of, joined_at, joined, part_at}
 
-abbrev pub no_dot : List Token → Bool
-no_dot (token.Sign sign.Dot ∷ ts) = false
-no_dot _ = true
+-- what may stand behind a name: no dot, and no parenthesis
+abbrev pub ends_name : List Token → Bool
+ends_name (token.Sign sign.Dot ∷ ts) = false
+ends_name (token.Sign sign.Open ∷ ts) = false
+ends_name _ = true
 
 pub le_false : (a b : ℕ) → b < a → nat_le a b ≡ false
 le_false a b h = grind arith
@@ -55,109 +58,113 @@ tighter p q [] h none = refl
 tighter p q (t ∷ ts) h none = tighter_joint p q ts (joint_of t) h none
 
 -- The reading of the part at ts goes on behind the part v, at rest.
-pub record Goes (n least : ℕ) (v : Parsed) (ts rest : List Token) : Type 0 where
+pub record Goes (k : Clause) (n least : ℕ) (v : Parsed) (ts rest : List Token) : Type 0 where
   pub turns : ℕ
   pub enough : length rest < turns
-  pub goes : part_at (suc n) least ts ≡ joined (part_at n) least turns v rest
+  pub goes : part_at (suc n) k least ts ≡ joined k (part_at n) least turns v rest
 
-pub from_first : (n least : ℕ) (v : Parsed) (ts rest : List Token) → first_part (part_at n) ts ≡ Some (v, rest) → Goes n least v ts rest
+pub from_first : (k : Clause) (n least : ℕ) (v : Parsed) (ts rest : List Token) → first_part k (part_at n) ts ≡ Some (v, rest)
+    → Goes k n least v ts rest
 unfolding part_at
-from_first n least v ts rest h = record {
+from_first k n least v ts rest h = record {
   turns = suc (length rest);
   enough = omega arith;
-  goes = ap (option_and_then (λ p. joined (part_at n) least (suc (length p.1)) p.0 p.1)) h;
+  goes = ap (option_and_then (λ p. joined k (part_at n) least (suc (length p.1)) p.0 p.1)) h;
 }
 
-end_of_turns : (right : Reads) (least turns : ℕ) (v : Parsed) (ts : List Token) → 0 < turns → next_joint least ts ≡ None → joined right least turns v ts ≡ Some (v, ts)
+end_of_turns : (k : Clause) (right : Reads) (least turns : ℕ) (v : Parsed) (ts : List Token) → 0 < turns → next_joint least ts ≡ None
+    → joined k right least turns v ts ≡ Some (v, ts)
 unfolding joined
-end_of_turns right least zero v ts h none = absurd (omega arith)
-end_of_turns right least (suc turns) v ts h none = ap (joined_at right (joined right least turns) v ts) none
+end_of_turns k right least zero v ts h none = absurd (omega arith)
+end_of_turns k right least (suc turns) v ts h none = ap (joined_at k right (joined k right least turns) v ts) none
 
-turned_by : (right : Reads) (j : Joint) (v w u : Parsed) (mid rest : List Token)
-    → right (suc (level j)) mid ≡ Some (w, rest) → combined j v w ≡ Some u → turn_of right j v mid ≡ Some (u, rest)
-turned_by right j v w u mid rest read join =
-    ap (option_and_then (λ r. option_map (λ p. (p, r.1)) (combined j v r.0))) read ∙ ap (option_map (λ p. (p, rest))) join
+turned_by : (k : Clause) (right : Reads) (j : Joint) (v w u : Parsed) (mid rest : List Token)
+    → right k (suc (level j)) mid ≡ Some (w, rest) → combined k j v w ≡ Some u → turn_of k right j v mid ≡ Some (u, rest)
+turned_by k right j v w u mid rest read join =
+    ap (option_and_then (λ r. option_map (λ p. (p, r.1)) (combined k j v r.0))) read ∙ ap (option_map (λ p. (p, rest))) join
 
-turn : (right : Reads) (least turns : ℕ) (j : Joint) (v u : Parsed) (ts mid rest : List Token)
-    → next_joint least ts ≡ Some (j, mid) → turn_of right j v mid ≡ Some (u, rest)
-    → joined right least (suc turns) v ts ≡ joined right least turns u rest
+turn : (k : Clause) (right : Reads) (least turns : ℕ) (j : Joint) (v u : Parsed) (ts mid rest : List Token)
+    → next_joint least ts ≡ Some (j, mid) → turn_of k right j v mid ≡ Some (u, rest)
+    → joined k right least (suc turns) v ts ≡ joined k right least turns u rest
 unfolding joined
-turn right least turns j v u ts mid rest next turned =
-    let more = joined right least turns in
-    ap (joined_at right more v ts) next ∙ ap (option_and_then (λ p. more p.0 p.1)) turned
+turn k right least turns j v u ts mid rest next turned =
+    let more = joined k right least turns in
+    ap (joined_at k right more v ts) next ∙ ap (option_and_then (λ p. more p.0 p.1)) turned
 
-some_turns : (turns : ℕ) → 0 < turns → (k : ℕ) × (turns ≡ suc k)
+pub some_turns : (turns : ℕ) → 0 < turns → (k : ℕ) × (turns ≡ suc k)
 some_turns zero h = absurd (omega arith)
 some_turns (suc k) h = (k, refl)
 
-pub onward : (n least : ℕ) (j : Joint) (v w u : Parsed) (ts at mid rest : List Token) → Goes n least v ts at
-    → next_joint least at ≡ Some (j, mid) → part_at n (suc (level j)) mid ≡ Some (w, rest) → combined j v w ≡ Some u
-    → length rest < length mid → length mid < length at → Goes n least u ts rest
-onward n least j v w u ts at mid rest g next read join shorter later =
-    let k = some_turns g.turns (omega (arith, g.enough)) in
+pub onward : (k : Clause) (n least : ℕ) (j : Joint) (v w u : Parsed) (ts at mid rest : List Token) → Goes k n least v ts at
+    → next_joint least at ≡ Some (j, mid) → part_at n k (suc (level j)) mid ≡ Some (w, rest) → combined k j v w ≡ Some u
+    → length rest < length mid → length mid < length at → Goes k n least u ts rest
+onward k n least j v w u ts at mid rest g next read join shorter later =
+    let t = some_turns g.turns (omega (arith, g.enough)) in
     record {
-      turns = k.0;
-      enough = omega (arith, g.enough, k.1);
-      goes = g.goes ∙ ap (λ t. joined (part_at n) least t v at) k.1 ∙ turn (part_at n) least k.0 j v u at mid rest next (turned_by (part_at n) j v w u mid rest read join);
+      turns = t.0;
+      enough = omega (arith, g.enough, t.1);
+      goes = g.goes ∙ ap (λ m. joined k (part_at n) least m v at) t.1
+          ∙ turn k (part_at n) least t.0 j v u at mid rest next (turned_by k (part_at n) j v w u mid rest read join);
     }
 
-pub whole : (n least : ℕ) (v : Parsed) (ts rest : List Token) → Goes n least v ts rest → next_joint least rest ≡ None
-    → part_at (suc n) least ts ≡ Some (v, rest)
-whole n least v ts rest g none = g.goes ∙ end_of_turns (part_at n) least g.turns v rest (omega (arith, g.enough)) none
+pub whole : (k : Clause) (n least : ℕ) (v : Parsed) (ts rest : List Token) → Goes k n least v ts rest → next_joint least rest ≡ None
+    → part_at (suc n) k least ts ≡ Some (v, rest)
+whole k n least v ts rest g none = g.goes ∙ end_of_turns k (part_at n) least g.turns v rest (omega (arith, g.enough)) none
 
 -- the same at any depth that is enough
-pub deeper : (n least : ℕ) (v : Parsed) (ts rest : List Token) → length ts ≤ n → length rest < length ts
-    → ((m : ℕ) → length ts ≤ suc m → Goes m least v ts rest) → next_joint least rest ≡ None → part_at n least ts ≡ Some (v, rest)
-deeper zero least v ts rest h shorter goes none = absurd (omega arith)
-deeper (suc m) least v ts rest h shorter goes none = whole m least v ts rest (goes m h) none
+pub deeper : (k : Clause) (n least : ℕ) (v : Parsed) (ts rest : List Token) → length ts ≤ n → length rest < length ts
+    → ((m : ℕ) → length ts ≤ suc m → Goes k m least v ts rest) → next_joint least rest ≡ None → part_at n k least ts ≡ Some (v, rest)
+deeper k zero least v ts rest h shorter goes none = absurd (omega arith)
+deeper k (suc m) least v ts rest h shorter goes none = whole k m least v ts rest (goes m h) none
 
 -- The reading is the one that goes on behind the part v, at ts.
-pub record IsAt (right : Reads) (least : ℕ) (reading : Reading Parsed) (v : Parsed) (ts : List Token) : Type 0 where
+pub record IsAt (k : Clause) (right : Reads) (least : ℕ) (reading : Reading Parsed) (v : Parsed) (ts : List Token) : Type 0 where
   pub turns : ℕ
   pub enough : length ts < turns
-  pub same : reading ≡ joined right least turns v ts
+  pub same : reading ≡ joined k right least turns v ts
 
-pub at_first : (right : Reads) (least : ℕ) (v : Parsed) (ts : List Token) → IsAt right least (joined right least (suc (length ts)) v ts) v ts
-at_first right least v ts = record { turns = suc (length ts); enough = omega arith; same = refl }
+pub at_first : (k : Clause) (right : Reads) (least : ℕ) (v : Parsed) (ts : List Token)
+    → IsAt k right least (joined k right least (suc (length ts)) v ts) v ts
+at_first k right least v ts = record { turns = suc (length ts); enough = omega arith; same = refl }
 
-pub at_next : (right : Reads) (least : ℕ) (reading : Reading Parsed) (j : Joint) (v u : Parsed) (ts mid rest : List Token)
-    → IsAt right least reading v ts → next_joint least ts ≡ Some (j, mid) → turn_of right j v mid ≡ Some (u, rest)
-    → length rest < length ts → IsAt right least reading u rest
-at_next right least reading j v u ts mid rest at next turned shorter =
-    let k = some_turns at.turns (omega (arith, at.enough)) in
+pub at_next : (k : Clause) (right : Reads) (least : ℕ) (reading : Reading Parsed) (j : Joint) (v u : Parsed) (ts mid rest : List Token)
+    → IsAt k right least reading v ts → next_joint least ts ≡ Some (j, mid) → turn_of k right j v mid ≡ Some (u, rest)
+    → length rest < length ts → IsAt k right least reading u rest
+at_next k right least reading j v u ts mid rest at next turned shorter =
+    let t = some_turns at.turns (omega (arith, at.enough)) in
     record {
-      turns = k.0;
-      enough = omega (arith, at.enough, k.1);
-      same = at.same ∙ ap (λ t. joined right least t v ts) k.1 ∙ turn right least k.0 j v u ts mid rest next turned;
+      turns = t.0;
+      enough = omega (arith, at.enough, t.1);
+      same = at.same ∙ ap (λ m. joined k right least m v ts) t.1 ∙ turn k right least t.0 j v u ts mid rest next turned;
     }
 
-pub at_end : (right : Reads) (least : ℕ) (reading : Reading Parsed) (v : Parsed) (ts : List Token)
-    → IsAt right least reading v ts → next_joint least ts ≡ None → reading ≡ Some (v, ts)
-at_end right least reading v ts at none = at.same ∙ end_of_turns right least at.turns v ts (omega (arith, at.enough)) none
+pub at_end : (k : Clause) (right : Reads) (least : ℕ) (reading : Reading Parsed) (v : Parsed) (ts : List Token)
+    → IsAt k right least reading v ts → next_joint least ts ≡ None → reading ≡ Some (v, ts)
+at_end k right least reading v ts at none = at.same ∙ end_of_turns k right least at.turns v ts (omega (arith, at.enough)) none
 
-no_turn : (right : Reads) (least turns : ℕ) (j : Joint) (v : Parsed) (ts mid : List Token) → next_joint least ts ≡ Some (j, mid)
-    → turn_of right j v mid ≡ None → joined right least (suc turns) v ts ≡ None
+no_turn : (k : Clause) (right : Reads) (least turns : ℕ) (j : Joint) (v : Parsed) (ts mid : List Token) → next_joint least ts ≡ Some (j, mid)
+    → turn_of k right j v mid ≡ None → joined k right least (suc turns) v ts ≡ None
 unfolding joined
-no_turn right least turns j v ts mid next none =
-    let more = joined right least turns in
-    ap (joined_at right more v ts) next ∙ ap (option_and_then (λ p. more p.0 p.1)) none
+no_turn k right least turns j v ts mid next none =
+    let more = joined k right least turns in
+    ap (joined_at k right more v ts) next ∙ ap (option_and_then (λ p. more p.0 p.1)) none
 
-pub at_fault : (right : Reads) (least : ℕ) (reading : Reading Parsed) (j : Joint) (v : Parsed) (ts mid : List Token)
-    → IsAt right least reading v ts → next_joint least ts ≡ Some (j, mid) → turn_of right j v mid ≡ None → reading ≡ None
-at_fault right least reading j v ts mid at next none =
-    let k = some_turns at.turns (omega (arith, at.enough)) in
-    at.same ∙ ap (λ t. joined right least t v ts) k.1 ∙ no_turn right least k.0 j v ts mid next none
+pub at_fault : (k : Clause) (right : Reads) (least : ℕ) (reading : Reading Parsed) (j : Joint) (v : Parsed) (ts mid : List Token)
+    → IsAt k right least reading v ts → next_joint least ts ≡ Some (j, mid) → turn_of k right j v mid ≡ None → reading ≡ None
+at_fault k right least reading j v ts mid at next none =
+    let t = some_turns at.turns (omega (arith, at.enough)) in
+    at.same ∙ ap (λ m. joined k right least m v ts) t.1 ∙ no_turn k right least t.0 j v ts mid next none
 
-pub no_depth : (least : ℕ) (ts : List Token) → part_at 0 least ts ≡ None
+pub no_depth : (k : Clause) (least : ℕ) (ts : List Token) → part_at 0 k least ts ≡ None
 unfolding part_at
-no_depth least ts = refl
+no_depth k least ts = refl
 
-pub part_goes : (depth least : ℕ) (ts : List Token) → 0 < depth → part_at depth least ts
-    ≡ option_and_then (λ p. joined (part_at (depth - 1)) least (suc (length p.1)) p.0 p.1) (first_part (part_at (depth - 1)) ts)
+pub part_goes : (k : Clause) (depth least : ℕ) (ts : List Token) → 0 < depth → part_at depth k least ts
+    ≡ option_and_then (λ p. joined k (part_at (depth - 1)) least (suc (length p.1)) p.0 p.1) (first_part k (part_at (depth - 1)) ts)
 unfolding part_at
-part_goes zero least ts h = absurd (omega arith)
-part_goes (suc depth) least ts h =
-    ap (λ d. option_and_then (λ p. joined (part_at d) least (suc (length p.1)) p.0 p.1) (first_part (part_at d) ts)) (depth_is depth)
+part_goes k zero least ts h = absurd (omega arith)
+part_goes k (suc depth) least ts h =
+    ap (λ d. option_and_then (λ p. joined k (part_at d) least (suc (length p.1)) p.0 p.1) (first_part k (part_at d) ts)) (depth_is depth)
   where
     depth_is : (depth : ℕ) → depth ≡ suc depth - 1
     depth_is depth = omega arith

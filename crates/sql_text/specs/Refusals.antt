@@ -1,5 +1,5 @@
 -- Why a text is refused.
-use Rattle.std.specs.Prelude.{◌≡◌, ◌⊎◌, ℕ, Bool, true, false, nat_lt, ◌||◌, ◌&&◌, if◌then◌else◌, List, [], ◌∷◌, length, codes, count_by, Option, Some, None}
+use Rattle.std.specs.Prelude.{◌≡◌, ◌⊎◌, ℕ, Bool, true, false, nat_lt, is_some, ◌||◌, ◌&&◌, if◌then◌else◌, List, [], ◌∷◌, length, codes, count_by, Option, Some, None}
 use Rattle.std.specs.List.{list_any}
 use Rattle.std.specs.Str.{bytes_eq}
 use Rattle.query_model.specs.declared.query.Query.{Query}
@@ -9,7 +9,7 @@ use Rattle.sql_grammar.specs.declared.Keyword.{Keyword}
 use Rattle.sql_grammar.specs.declared.Keyword.TheVariants as keyword
 use Rattle.sql_grammar.specs.declared.Sign.{Sign}
 use Rattle.sql_grammar.specs.declared.Sign.TheVariants as sign
-use Rattle.sql_grammar.specs.Tokens.{is_word, tokens_of}
+use Rattle.sql_grammar.specs.Tokens.{aggregate_of, tokens_of}
 use Rattle.sql_grammar.specs.Grammar.{Spells}
 use Rattle.sql_text.specs.declared.limits.ParseRefusal.{ParseRefusal}
 use Rattle.sql_text.specs.declared.limits.ParseRefusal.TheVariants as refusal
@@ -63,7 +63,7 @@ is_unbuilt_keyword _ = false
 
 -- an aggregate, in any ASCII case
 abbrev pub is_aggregate : List ℕ → Bool
-is_aggregate w = ((is_word w (codes "count") || is_word w (codes "sum")) || is_word w (codes "min")) || is_word w (codes "max")
+is_aggregate w = is_some (aggregate_of w)
 
 -- an aggregate, or the table of numbers in lower case
 abbrev pub is_call_word : List ℕ → Bool
@@ -87,35 +87,49 @@ has_unbuilt (t ∷ ts) = is_unbuilt t ts || has_unbuilt ts
 
 -- ---- refusals
 
-abbrev pub token_refusal : List Token → Option ParseRefusal
-token_refusal ts =
-    if list_any is_large ts then Some refusal.NumberTooLarge
-    else if nat_lt MAX_OPERATORS (count_by is_operator ts) then Some refusal.TooComplex
-    else if has_unbuilt ts then Some refusal.NotBuilt else None
+-- the tokens that a part of the grammar has which isn't there yet, where those are refused
+abbrev pub unbuilt_refusal : Bool → List Token → Option ParseRefusal
+unbuilt_refusal false ts = None
+unbuilt_refusal true ts = if has_unbuilt ts then Some refusal.NotBuilt else None
 
-abbrev pub refusal_of_tokens : Option (List Token) → Option ParseRefusal
-refusal_of_tokens None = Some refusal.Syntax
-refusal_of_tokens (Some ts) = token_refusal ts
+abbrev pub token_refusal : Bool → List Token → Option ParseRefusal
+token_refusal strict ts =
+    if list_any is_large ts then Some refusal.NumberTooLarge
+    else if nat_lt MAX_OPERATORS (count_by is_operator ts) then Some refusal.TooComplex else unbuilt_refusal strict ts
+
+abbrev pub refusal_of_tokens : Bool → Option (List Token) → Option ParseRefusal
+refusal_of_tokens strict None = Some refusal.Syntax
+refusal_of_tokens strict (Some ts) = token_refusal strict ts
 
 -- the refusal that comes before a query is read, where one does
-abbrev pub early_refusal : List ℕ → Option ParseRefusal
-early_refusal text = if nat_lt MAX_TEXT (length text) then Some refusal.TooLong else refusal_of_tokens (tokens_of text)
+abbrev pub early_by : Bool → List ℕ → Option ParseRefusal
+early_by strict text = if nat_lt MAX_TEXT (length text) then Some refusal.TooLong else refusal_of_tokens strict (tokens_of text)
 
 -- when each refusal comes
+abbrev pub IsRefusedBy : Bool → ParseRefusal → List ℕ → Type 0
+IsRefusedBy strict refusal.TooLong text = early_by strict text ≡ Some refusal.TooLong
+IsRefusedBy strict refusal.Syntax text =
+    (early_by strict text ≡ Some refusal.Syntax) ⊎ ((early_by strict text ≡ None) × ((q : Query) → Spells q text → ⊥))
+IsRefusedBy strict refusal.NumberTooLarge text = early_by strict text ≡ Some refusal.NumberTooLarge
+IsRefusedBy strict refusal.TooComplex text = early_by strict text ≡ Some refusal.TooComplex
+IsRefusedBy strict refusal.NotBuilt text = early_by strict text ≡ Some refusal.NotBuilt
+IsRefusedBy strict refusal.Memory text = Unit {0}
+
+-- those of `parse`, which refuses what isn't there yet
+abbrev pub early_refusal : List ℕ → Option ParseRefusal
+early_refusal text = early_by true text
+
 abbrev pub IsRefused : ParseRefusal → List ℕ → Type 0
-IsRefused refusal.TooLong text = early_refusal text ≡ Some refusal.TooLong
-IsRefused refusal.Syntax text =
-    (early_refusal text ≡ Some refusal.Syntax) ⊎ ((early_refusal text ≡ None) × ((q : Query) → Spells q text → ⊥))
-IsRefused refusal.NumberTooLarge text = early_refusal text ≡ Some refusal.NumberTooLarge
-IsRefused refusal.TooComplex text = early_refusal text ≡ Some refusal.TooComplex
-IsRefused refusal.NotBuilt text = early_refusal text ≡ Some refusal.NotBuilt
-IsRefused refusal.Memory text = Unit {0}
+IsRefused e text = IsRefusedBy true e text
 
 abbrev pub refusal_of : Stop → ParseRefusal
 refusal_of stop.Syntax = refusal.Syntax
 refusal_of stop.Memory = refusal.Memory
 
 -- a query that is read from a text
-pub record IsReadFrom (q : Query) (text : List ℕ) : Type 0 where
-  pub early : early_refusal text ≡ None
+pub record IsReadBy (strict : Bool) (q : Query) (text : List ℕ) : Type 0 where
+  pub early : early_by strict text ≡ None
   pub spells : Spells q text
+
+abbrev pub IsReadFrom : Query → List ℕ → Type 0
+IsReadFrom q text = IsReadBy true q text

@@ -2,14 +2,13 @@
 #![tactic(auto)]
 
 mod limits;
+mod lists;
 mod part;
 mod queries;
 mod scan;
 mod stop;
+mod tables;
 mod texts;
 
 pub use limits::{MAX_OPERATORS, MAX_TEXT, ParseRefusal};
-pub use texts::{one_reading, parse};
-
-#[cfg(test)]
-mod tests;
+pub use texts::{one_reading, parse, parse_whole};

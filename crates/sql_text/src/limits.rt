@@ -1,10 +1,10 @@
 // What is refused before a query is read.
 ghost use Rattle.std.specs.Prelude.{◌≡◌, count_by};
 ghost use Rattle.std.specs.List.{list_any};
-ghost use Rattle.sql_text.specs.Refusals.{is_large, is_operator_sign, is_operator_keyword, is_operator, is_unbuilt_keyword, is_aggregate, is_call_word, begins_with_open, is_unbuilt, has_unbuilt, token_refusal};
+ghost use Rattle.sql_text.specs.Refusals.{is_large, is_operator_sign, is_operator_keyword, is_operator, is_unbuilt_keyword, is_aggregate, is_call_word, begins_with_open, is_unbuilt, has_unbuilt, unbuilt_refusal, token_refusal};
 
 use crate::stop::next_token;
-use sql_grammar::{Keyword, Sign, Token, is_word};
+use sql_grammar::{Keyword, Sign, Token, aggregate_of};
 
 /// The most bytes of a query's text.
 pub const MAX_TEXT: usize = 65_536;
@@ -98,10 +98,7 @@ fn is_unbuilt_keyword(keyword: Keyword) -> bool
 fn is_aggregate(word: &[u8]) -> bool
     ensures { result ≡ is_aggregate word.now }
 {
-    is_word(word, b"count")
-        || is_word(word, b"sum")
-        || is_word(word, b"min")
-        || is_word(word, b"max")
+    aggregate_of(word).is_some()
 }
 
 fn is_call_word(word: &[u8]) -> bool
@@ -143,9 +140,19 @@ fn has_unbuilt(tokens: &[Token]) -> bool
     false
 }
 
-/// The refusal for the tokens, where there is one.
-pub fn token_refusal(tokens: &[Token]) -> Option<ParseRefusal>
-    ensures { result ≡ token_refusal tokens.now }
+fn unbuilt_refusal(strict: bool, tokens: &[Token]) -> Option<ParseRefusal>
+    ensures { result ≡ unbuilt_refusal strict tokens.now }
+{
+    if strict && has_unbuilt(tokens) {
+        Some(ParseRefusal::NotBuilt)
+    } else {
+        None
+    }
+}
+
+/// The refusal for the tokens, where there is one. What isn't there yet is refused where `strict` says so.
+pub fn token_refusal(strict: bool, tokens: &[Token]) -> Option<ParseRefusal>
+    ensures { result ≡ token_refusal strict tokens.now }
 {
     if has_large(tokens) {
         return Some(ParseRefusal::NumberTooLarge);
@@ -153,8 +160,5 @@ pub fn token_refusal(tokens: &[Token]) -> Option<ParseRefusal>
     if operator_count(tokens) > MAX_OPERATORS {
         return Some(ParseRefusal::TooComplex);
     }
-    if has_unbuilt(tokens) {
-        return Some(ParseRefusal::NotBuilt);
-    }
-    None
+    unbuilt_refusal(strict, tokens)
 }

@@ -3,14 +3,17 @@ ghost use Rattle.std.specs.Prelude.{◌≡◌, ℕ, suc, ◌+◌, ◌<◌, ◌�
 ghost use Rattle.query_model.specs.Formulas.{formula, number};
 ghost use Rattle.sql_text.specs.declared.part.Joint.TheVariants.{Arith, Compare, And, Or};
 ghost use Rattle.sql_grammar.specs.declared.Token.{Token};
-ghost use Rattle.sql_grammar.specs.Trees.{side, condition, condition as condition_tree};
+ghost use Rattle.sql_grammar.specs.Trees.{side, call_tree, condition, condition as condition_tree};
+ghost use Rattle.sql_text.specs.declared.part.Clause.{Clause as Kind};
 ghost use Rattle.sql_text.specs.Answers.{Gives};
-ghost use Rattle.sql_text.specs.Parts.{expression, truth, parsed, sign_joint, keyword_joint, joint_of, level, next_joint, combined, side_of, plain_of, condition_of, column_at, negative_at, after_close, closed_at, negation_at, first_sign, first_keyword, first_part, turn_of, joined, part_at};
+ghost use Rattle.sql_text.specs.Parts.{expression, truth, parsed, calculated, sign_joint, keyword_joint, joint_of, level, next_joint, combined, side_of, plain_of, condition_of, column_at, negative_at, after_close, closed_at, count_at, call_over, called, call_at, word_at, negation_at, first_sign, first_keyword, first_part, turn_of, joined, part_at};
 
 use crate::stop::{Stop, next_token};
 use chunk_data::Bytes;
-use query_model::query::{ArithOp, ColumnRef, CompareOp, CondOf, ExprOf, Number, Operand};
-use sql_grammar::{Keyword, Sign, Token};
+use query_model::query::{
+    AggCall, AggOp, ArithOp, ColumnRef, CompareOp, CondOf, ExprOf, Number, Operand,
+};
+use sql_grammar::{Keyword, Sign, Token, aggregate_of};
 use std::alloc::Global;
 
 /// The least level of the joints of a condition, of a comparison, and of an expression.
@@ -19,6 +22,13 @@ pub const CONDITION: u8 = 1;
 pub const COMPARISON: u8 = 4;
 
 pub const EXPRESSION: u8 = 5;
+
+/// The clause in which a part stands. HAVING is over groups: its operands are a column, a call, a plain number or a string.
+#[derive(Clone, Copy, Debug, PartialEq, Eq)]
+pub enum Clause {
+    OfRows,
+    OfGroups,
+}
 
 // What joins two parts.
 #[derive(Clone, Copy)]
@@ -34,6 +44,7 @@ pub enum Joint {
 pub enum Part {
     Plain(Box<ExprOf<ColumnRef>>),
     Text(Bytes),
+    Call(Box<AggCall<ColumnRef>>),
     Condition(Box<CondOf<ColumnRef>>),
 }
 
@@ -115,6 +126,7 @@ fn side_of(part: Part) -> Result<Operand<ColumnRef>, Stop>
     match part {
         Part::Plain(e) => Ok(Operand::Plain(Box::into_inner(e))),
         Part::Text(t) => Ok(Operand::Text(t)),
+        Part::Call(c) => Ok(Operand::Agg(Box::into_inner(c))),
         Part::Condition(_) => Err(Stop::Syntax),
     }
 }
@@ -124,7 +136,7 @@ pub fn plain_of(part: Part) -> Result<Box<ExprOf<ColumnRef>>, Stop>
 {
     match part {
         Part::Plain(e) => Ok(e),
-        Part::Text(_) | Part::Condition(_) => Err(Stop::Syntax),
+        Part::Text(_) | Part::Call(_) | Part::Condition(_) => Err(Stop::Syntax),
     }
 }
 
@@ -133,7 +145,7 @@ pub fn condition_of(part: Part) -> Result<Box<CondOf<ColumnRef>>, Stop>
 {
     match part {
         Part::Condition(c) => Ok(c),
-        Part::Plain(_) | Part::Text(_) => Err(Stop::Syntax),
+        Part::Plain(_) | Part::Text(_) | Part::Call(_) => Err(Stop::Syntax),
     }
 }
 
@@ -149,16 +161,28 @@ fn condition_part(alloc: Global, condition: CondOf<ColumnRef>) -> Result<Part, S
     Ok(Part::Condition(Box::new(alloc, condition)?))
 }
 
-fn calculated(alloc: Global, op: ArithOp, left: Part, right: Part) -> Result<Part, Stop>
-    ensures { Gives parsed result (combined (Arith op) (parsed left) (parsed right)) }
+// HAVING has no arithmetic.
+fn calculated(
+    alloc: Global,
+    clause: Clause,
+    op: ArithOp,
+    left: Part,
+    right: Part,
+) -> Result<Part, Stop>
+    ensures { Gives parsed result (calculated clause op (parsed left) (parsed right)) }
 {
-    let a = plain_of(left)?;
-    let b = plain_of(right)?;
-    plain_part(alloc, ExprOf::Arith(op, a, b))
+    match clause {
+        Clause::OfRows => {
+            let a = plain_of(left)?;
+            let b = plain_of(right)?;
+            plain_part(alloc, ExprOf::Arith(op, a, b))
+        }
+        Clause::OfGroups => Err(Stop::Syntax),
+    }
 }
 
 fn compared(alloc: Global, op: CompareOp, left: Part, right: Part) -> Result<Part, Stop>
-    ensures { Gives parsed result (combined (Compare op) (parsed left) (parsed right)) }
+    ensures { (k : Kind) → Gives parsed result (combined k (Compare op) (parsed left) (parsed right)) }
 {
     let a = side_of(left)?;
     let b = side_of(right)?;
@@ -166,7 +190,7 @@ fn compared(alloc: Global, op: CompareOp, left: Part, right: Part) -> Result<Par
 }
 
 fn both_of(alloc: Global, left: Part, right: Part) -> Result<Part, Stop>
-    ensures { Gives parsed result (combined And (parsed left) (parsed right)) }
+    ensures { (k : Kind) → Gives parsed result (combined k And (parsed left) (parsed right)) }
 {
     let a = condition_of(left)?;
     let b = condition_of(right)?;
@@ -174,18 +198,24 @@ fn both_of(alloc: Global, left: Part, right: Part) -> Result<Part, Stop>
 }
 
 fn either_of(alloc: Global, left: Part, right: Part) -> Result<Part, Stop>
-    ensures { Gives parsed result (combined Or (parsed left) (parsed right)) }
+    ensures { (k : Kind) → Gives parsed result (combined k Or (parsed left) (parsed right)) }
 {
     let a = condition_of(left)?;
     let b = condition_of(right)?;
     condition_part(alloc, CondOf::Or(a, b))
 }
 
-fn combined(alloc: Global, joint: Joint, left: Part, right: Part) -> Result<Part, Stop>
-    ensures { Gives parsed result (combined joint (parsed left) (parsed right)) }
+fn combined(
+    alloc: Global,
+    clause: Clause,
+    joint: Joint,
+    left: Part,
+    right: Part,
+) -> Result<Part, Stop>
+    ensures { Gives parsed result (combined clause joint (parsed left) (parsed right)) }
 {
     match joint {
-        Joint::Arith(op) => calculated(alloc, op, left, right),
+        Joint::Arith(op) => calculated(alloc, clause, op, left, right),
         Joint::Compare(op) => compared(alloc, op, left, right),
         Joint::And => both_of(alloc, left, right),
         Joint::Or => either_of(alloc, left, right),
@@ -242,13 +272,56 @@ fn after_close(tokens: &[Token]) -> Result<&[Token], Stop>
     }
 }
 
-fn closed_at(part: Part, tokens: &[Token]) -> Result<(Part, &[Token]), Stop>
-    ensures { Gives (λ p. (parsed p.0, p.1.now)) result (closed_at (parsed part) tokens.now) }
+// An expression stands in parentheses, but not in HAVING.
+fn closed_at(clause: Clause, part: Part, tokens: &[Token]) -> Result<(Part, &[Token]), Stop>
+    ensures { Gives (λ p. (parsed p.0, p.1.now)) result (closed_at clause (parsed part) tokens.now) }
 {
     match part {
-        Part::Plain(e) => Ok((Part::Plain(e), after_close(tokens)?)),
-        Part::Text(_) => Err(Stop::Syntax),
+        Part::Plain(e) => match clause {
+            Clause::OfRows => Ok((Part::Plain(e), after_close(tokens)?)),
+            Clause::OfGroups => Err(Stop::Syntax),
+        },
+        Part::Text(_) | Part::Call(_) => Err(Stop::Syntax),
         Part::Condition(c) => Ok((Part::Condition(c), after_close(tokens)?)),
+    }
+}
+
+// What `count` is called with, behind the first parenthesis: nothing, or a star.
+fn count_at(tokens: &[Token]) -> Result<(AggCall<ColumnRef>, &[Token]), Stop>
+    ensures { Gives (λ p. (call_tree p.0, p.1.now)) result (count_at tokens.now) }
+{
+    let count = AggCall {
+        op: AggOp::Count,
+        arg: None,
+    };
+    match tokens {
+        [Token::Sign(Sign::Close), ..] => Ok((count, &tokens[1..])),
+        [Token::Sign(Sign::Star), Token::Sign(Sign::Close), ..] => Ok((count, &tokens[2..])),
+        _ => Err(Stop::Syntax),
+    }
+}
+
+// A call over the expression that was read.
+fn call_over(
+    op: AggOp,
+    part: Part,
+    tokens: &[Token],
+) -> Result<(AggCall<ColumnRef>, &[Token]), Stop>
+    ensures { Gives (λ p. (call_tree p.0, p.1.now)) result (call_over op (Some (parsed part, tokens.now))) }
+{
+    let e = plain_of(part)?;
+    let rest = after_close(tokens)?;
+    let arg = Some(Box::into_inner(e));
+    Ok((AggCall { op, arg }, rest))
+}
+
+/// The aggregate that the word calls where a parenthesis stands behind it, and the tokens behind that.
+pub fn called<'a>(word: &[u8], tokens: &'a [Token]) -> Option<(AggOp, &'a [Token])>
+    ensures { option_map (λ p. (p.0, p.1.now)) result ≡ called word.now tokens.now }
+{
+    match tokens.split_first() {
+        Some((Token::Sign(Sign::Open), rest)) => Some((aggregate_of(word)?, rest)),
+        _ => None,
     }
 }
 
@@ -257,24 +330,67 @@ fn negated(alloc: Global, part: Part) -> Result<Part, Stop>
 {
     match part {
         Part::Condition(c) => condition_part(alloc, CondOf::Not(c)),
-        Part::Plain(_) | Part::Text(_) => Err(Stop::Syntax),
+        Part::Plain(_) | Part::Text(_) | Part::Call(_) => Err(Stop::Syntax),
+    }
+}
+
+/// The call of an aggregate, behind its first parenthesis. `depth` is that of `part_at`.
+#[cycle(part)]
+pub fn call_at<'a>(
+    alloc: Global,
+    op: AggOp,
+    tokens: &'a [Token],
+    depth: usize,
+) -> Result<(AggCall<ColumnRef>, &'a [Token]), Stop>
+    ensures { Gives (λ p. (call_tree p.0, p.1.now)) result (call_at (part_at depth) op tokens.now) }
+{
+    match op {
+        AggOp::Count => count_at(tokens),
+        AggOp::Sum | AggOp::Min | AggOp::Max => {
+            let (part, rest) = part_at(alloc, Clause::OfRows, EXPRESSION, tokens, depth)?;
+            call_over(op, part, rest)
+        }
+    }
+}
+
+// A column, or in HAVING the call that begins with the word.
+#[cycle(part)]
+fn word_at<'a>(
+    alloc: Global,
+    clause: Clause,
+    word: &Bytes,
+    tokens: &'a [Token],
+    depth: usize,
+) -> Result<(Part, &'a [Token]), Stop>
+    ensures { Gives (λ p. (parsed p.0, p.1.now)) result (word_at clause (part_at depth) word.now tokens.now) }
+{
+    match clause {
+        Clause::OfRows => column_at(alloc, word, tokens),
+        Clause::OfGroups => match called(word.as_slice(), tokens) {
+            Some((op, rest)) => {
+                let (call, rest) = call_at(alloc, op, rest, depth)?;
+                Ok((Part::Call(Box::new(alloc, call)?), rest))
+            }
+            None => column_at(alloc, word, tokens),
+        },
     }
 }
 
 #[cycle(part)]
 fn first_sign<'a>(
     alloc: Global,
+    clause: Clause,
     sign: Sign,
     tokens: &'a [Token],
     depth: usize,
 ) -> Result<(Part, &'a [Token]), Stop>
-    ensures { Gives (λ p. (parsed p.0, p.1.now)) result (first_sign (part_at depth) sign tokens.now) }
+    ensures { Gives (λ p. (parsed p.0, p.1.now)) result (first_sign clause (part_at depth) sign tokens.now) }
 {
     match sign {
         Sign::Minus => negative_at(alloc, tokens),
         Sign::Open => {
-            let (part, rest) = part_at(alloc, CONDITION, tokens, depth)?;
-            closed_at(part, rest)
+            let (part, rest) = part_at(alloc, clause, CONDITION, tokens, depth)?;
+            closed_at(clause, part, rest)
         }
         _ => Err(Stop::Syntax),
     }
@@ -283,38 +399,40 @@ fn first_sign<'a>(
 #[cycle(part)]
 fn first_keyword<'a>(
     alloc: Global,
+    clause: Clause,
     keyword: Keyword,
     tokens: &'a [Token],
     depth: usize,
 ) -> Result<(Part, &'a [Token]), Stop>
-    ensures { Gives (λ p. (parsed p.0, p.1.now)) result (first_keyword (part_at depth) keyword tokens.now) }
+    ensures { Gives (λ p. (parsed p.0, p.1.now)) result (first_keyword clause (part_at depth) keyword tokens.now) }
 {
     match keyword {
         Keyword::Not => {
-            let (part, rest) = part_at(alloc, COMPARISON, tokens, depth)?;
+            let (part, rest) = part_at(alloc, clause, COMPARISON, tokens, depth)?;
             Ok((negated(alloc, part)?, rest))
         }
         _ => Err(Stop::Syntax),
     }
 }
 
-// A part without joints: a column, a number, a string, what stands in parentheses, or a negation.
+// A part without joints: a column, a number, a string, a call, what stands in parentheses, or a negation.
 #[cycle(part)]
 fn first_part<'a>(
     alloc: Global,
+    clause: Clause,
     tokens: &'a [Token],
     depth: usize,
 ) -> Result<(Part, &'a [Token]), Stop>
-    ensures { Gives (λ p. (parsed p.0, p.1.now)) result (first_part (part_at depth) tokens.now) }
+    ensures { Gives (λ p. (parsed p.0, p.1.now)) result (first_part clause (part_at depth) tokens.now) }
 {
     let (token, rest) = next_token(tokens)?;
     match token {
-        Token::Name(name) => column_at(alloc, name, rest),
-        Token::Keyword(keyword) => first_keyword(alloc, *keyword, rest, depth),
+        Token::Name(name) => word_at(alloc, clause, name, rest, depth),
+        Token::Keyword(keyword) => first_keyword(alloc, clause, *keyword, rest, depth),
         Token::Number(size) => Ok((number_part(alloc, false, *size)?, rest)),
         Token::LargeNumber => Err(Stop::Syntax),
         Token::Text(text) => Ok((Part::Text(text.copy()?), rest)),
-        Token::Sign(sign) => first_sign(alloc, *sign, rest, depth),
+        Token::Sign(sign) => first_sign(alloc, clause, *sign, rest, depth),
     }
 }
 
@@ -323,49 +441,52 @@ fn first_part<'a>(
 #[cycle(part)]
 pub fn part_at<'a>(
     alloc: Global,
+    clause: Clause,
     least: u8,
     tokens: &'a [Token],
     depth: usize,
 ) -> Result<(Part, &'a [Token]), Stop>
-    ensures { Gives (λ p. (parsed p.0, p.1.now)) result (part_at depth least tokens.now) }
+    ensures { Gives (λ p. (parsed p.0, p.1.now)) result (part_at depth clause least tokens.now) }
 {
     if depth == 0 {
         return Err(Stop::Syntax);
     }
-    let (first, rest) = first_part(alloc, tokens, depth - 1)?;
-    joined(alloc, least, first, rest, depth - 1)
+    let (first, rest) = first_part(alloc, clause, tokens, depth - 1)?;
+    joined(alloc, clause, least, first, rest, depth - 1)
 }
 
 // The part at the left, and what the joint joins to it.
 #[cycle(part)]
 fn turn_of<'a>(
     alloc: Global,
+    clause: Clause,
     joint: Joint,
     left: Part,
     tokens: &'a [Token],
     depth: usize,
 ) -> Result<(Part, &'a [Token]), Stop>
-    ensures { Gives (λ p. (parsed p.0, p.1.now)) result (turn_of (part_at depth) joint (parsed left) tokens.now) }
+    ensures { Gives (λ p. (parsed p.0, p.1.now)) result (turn_of clause (part_at depth) joint (parsed left) tokens.now) }
 {
-    let (right, rest) = part_at(alloc, level_above(joint), tokens, depth)?;
-    Ok((combined(alloc, joint, left, right)?, rest))
+    let (right, rest) = part_at(alloc, clause, level_above(joint), tokens, depth)?;
+    Ok((combined(alloc, clause, joint, left, right)?, rest))
 }
 
 // The part at the left, and all that joints as tight as `least` join to it.
 #[cycle(part)]
 fn joined<'a>(
     alloc: Global,
+    clause: Clause,
     least: u8,
     first: Part,
     tokens: &'a [Token],
     depth: usize,
 ) -> Result<(Part, &'a [Token]), Stop>
-    ensures { Gives (λ p. (parsed p.0, p.1.now)) result (joined (part_at depth) least (suc (length tokens.now)) (parsed first) tokens.now) }
+    ensures { Gives (λ p. (parsed p.0, p.1.now)) result (joined clause (part_at depth) least (suc (length tokens.now)) (parsed first) tokens.now) }
 {
     let mut part = first;
     let mut rest = tokens;
     while let Some((joint, behind)) = next_joint(least, rest) {
-        match turn_of(alloc, joint, part, behind, depth) {
+        match turn_of(alloc, clause, joint, part, behind, depth) {
             Ok((next, after)) => {
                 part = next;
                 rest = after;

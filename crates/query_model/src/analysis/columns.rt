@@ -48,15 +48,11 @@ impl FromColumn {
         self.kind
     }
 
-    pub(crate) fn into_name(self) -> Bytes
-        ensures { result ≡ self.name }
+    /// A copy of its own name.
+    pub(crate) fn name(&self) -> Result<Bytes, Memory>
+        ensures { IfOk result (λ name. name ≡ self.now.name) }
     {
-        let FromColumn {
-            table: _,
-            own,
-            kind: _,
-        } = self;
-        own
+        self.own.copy()
     }
 }
 
@@ -79,6 +75,14 @@ fn push_columns(alloc: Global, columns: &mut Vec<FromColumn>, schema: &Schema) -
     Ok(())
 }
 
+fn columns_of(alloc: Global, schema: &Schema) -> Result<Vec<FromColumn>, Memory>
+    ensures { IfOk result (λ columns. columns.items ≡ schema_columns schema.now) }
+{
+    let mut columns = Vec::new(alloc);
+    push_columns(alloc, &mut columns, schema)?;
+    Ok(columns)
+}
+
 fn declared_columns(
     alloc: Global,
     table: &[u8],
@@ -86,13 +90,14 @@ fn declared_columns(
 ) -> Result<Vec<FromColumn>, Memory>
     ensures { IfOk result (λ columns. columns.items ≡ table_columns tables.now (TableRef.Named table.now)) }
 {
-    let mut columns = Vec::new(alloc);
-    for schema in tables {
+    let mut rest = tables;
+    while let Some((schema, behind)) = rest.split_first() {
         if schema.name.as_slice() == table {
-            push_columns(alloc, &mut columns, schema)?;
+            return columns_of(alloc, schema);
         }
+        rest = behind;
     }
-    Ok(columns)
+    Ok(Vec::new(alloc))
 }
 
 fn numbers_columns(alloc: Global, count: u64) -> Result<Vec<FromColumn>, Memory>

@@ -2,9 +2,10 @@
 ghost use Rattle.std.specs.Prelude.{◌≡◌, ◌∷◌, [], IfOk, bytes_eq, length, flat_map};
 ghost use Rattle.std.specs.List.{list_any};
 ghost use Rattle.query_model.specs.Refusals.{meant, meant_type as type_meant, means, written as written_name, expr_columns, argument_columns, operand_columns, cond_operands, operands_of, item_columns, text_columns, listed};
+ghost use Rattle.query_model.specs.Typing.{plain_type as type_without_null};
 ghost use Rattle.query_model.specs.Checks.{place_of};
 ghost use Rattle.query_model.specs.Placing.{has_fault as is_at_fault, first_fault};
-ghost use Rattle.query_model.specs.Analysis.{IsPlainQuery};
+ghost use Rattle.query_model.specs.Analysis.{IsUngrouped};
 
 use crate::analysis::columns::FromColumn;
 use crate::query::{
@@ -27,12 +28,23 @@ pub(crate) fn has_schema(name: &[u8], tables: &[Schema]) -> bool
     tables.iter().any(|schema| schema.name.as_slice() == name)
 }
 
-/// The type of the first column that the name means.
+/// The type without Nullable.
+fn plain_type(kind: ColumnType) -> ColumnType
+    ensures { result ≡ type_without_null kind }
+{
+    match kind {
+        ColumnType::Int64 => ColumnType::Int64,
+        ColumnType::UInt64 => ColumnType::UInt64,
+        ColumnType::Text => ColumnType::Text,
+    }
+}
+
+/// The type of the first column that the name means, without Nullable.
 pub(crate) fn meant_type(c: &ColumnRef, columns: &[FromColumn]) -> Option<ColumnType>
     ensures { result ≡ type_meant columns.now c.now }
 {
     match columns.iter().find(|column| column.is_meant(c)) {
-        Some(column) => Some(column.kind()),
+        Some(column) => Some(plain_type(column.kind())),
         None => None,
     }
 }
@@ -225,7 +237,7 @@ pub(crate) fn fault_in_query(
     query: &Query,
     columns: &[FromColumn],
 ) -> Result<Option<Bytes>, Memory>
-    requires { IsPlainQuery query.now }
+    requires { IsUngrouped query.now }
     ensures { IfOk result (λ name. name ≡ first_fault fault columns.now (text_columns query.now)) }
 {
     match fault_in_items(fault, &query.items, columns)? {

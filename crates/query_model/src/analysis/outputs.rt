@@ -19,7 +19,6 @@ use std::alloc::Global;
 #[derive(Debug, Drop)]
 pub(crate) struct Outputs {
     pub(crate) exprs: List<Expr>,
-    pub(crate) names: List<Bytes>,
     pub(crate) types: List<ColumnType>,
 }
 
@@ -31,21 +30,18 @@ fn numbered_name(alloc: Global, k: usize) -> Result<Bytes, Memory>
     Ok(Bytes::from_vec(name.into_bytes()))
 }
 
-fn expr_name(alloc: Global, e: ExprOf<ColumnRef>, k: usize) -> Result<Bytes, Memory>
-    ensures { IfOk result (λ name. name ≡ name_of_kind (ItemKind.Plain e) k) }
+fn expr_name(alloc: Global, e: &ExprOf<ColumnRef>, k: usize) -> Result<Bytes, Memory>
+    ensures { IfOk result (λ name. name ≡ name_of_kind (ItemKind.Plain e.now) k) }
 {
     match e {
-        ExprOf::Column(c) => {
-            let ColumnRef { table: _, name } = c;
-            Ok(name)
-        }
+        ExprOf::Column(c) => c.name.copy(),
         ExprOf::Number(_) => numbered_name(alloc, k),
         ExprOf::Arith(_, _, _) => numbered_name(alloc, k),
     }
 }
 
-fn plain_name(alloc: Global, what: ItemKind, k: usize) -> Result<Bytes, Memory>
-    ensures { IfOk result (λ name. name ≡ name_of_kind what k) }
+fn plain_name(alloc: Global, what: &ItemKind, k: usize) -> Result<Bytes, Memory>
+    ensures { IfOk result (λ name. name ≡ name_of_kind what.now k) }
 {
     match what {
         ItemKind::Plain(e) => expr_name(alloc, e, k),
@@ -54,26 +50,52 @@ fn plain_name(alloc: Global, what: ItemKind, k: usize) -> Result<Bytes, Memory>
 }
 
 /// The output name of the item with place `k`, counted from 1.
-fn item_name(alloc: Global, item: Item, k: usize) -> Result<Bytes, Memory>
-    ensures { IfOk result (λ name. name ≡ name_or item.alias (name_of_kind item.what k)) }
+fn item_name(alloc: Global, item: &Item, k: usize) -> Result<Bytes, Memory>
+    ensures { IfOk result (λ name. name ≡ name_or item.now.alias (name_of_kind item.now.what k)) }
 {
-    let Item { what, alias } = item;
-    match alias {
-        Some(name) => Ok(name),
-        None => plain_name(alloc, what, k),
+    match &item.alias {
+        Some(name) => name.copy(),
+        None => plain_name(alloc, &item.what, k),
     }
 }
 
-fn item_names(alloc: Global, items: Vec<Item>) -> Result<List<Bytes>, Memory>
-    requires { length items.items ≤ 64 }
-    ensures { IfOk result (λ names. names ≡ names_of_items 1 items.items) }
+fn item_names(alloc: Global, items: &[Item]) -> Result<List<Bytes>, Memory>
+    ensures { IfOk result (λ names. names ≡ names_of_items 1 items.now) }
 {
     let mut names = Vec::with_capacity(alloc, items.len())?;
     for item in items {
-        let name = item_name(alloc, item, names.len() + 1)?;
+        let Some(k) = names.len().checked_add(1) else {
+            return Err(Memory);
+        };
+        let name = item_name(alloc, item, k)?;
         names.push(name)?;
     }
     Ok(List::from_vec(names))
+}
+
+fn column_names(alloc: Global, columns: &[FromColumn]) -> Result<List<Bytes>, Memory>
+    ensures { IfOk result (λ names. names ≡ map (λ (c : Column). c.name) columns.now) }
+{
+    let mut names = Vec::with_capacity(alloc, columns.len())?;
+    for column in columns {
+        let name = column.name()?;
+        names.push(name)?;
+    }
+    Ok(List::from_vec(names))
+}
+
+/// The output names of a query's items.
+pub(crate) fn names_of(
+    alloc: Global,
+    items: &Items,
+    columns: &[FromColumn],
+) -> Result<List<Bytes>, Memory>
+    ensures { IfOk result (λ names. names ≡ output_names items.now columns.now) }
+{
+    match items {
+        Items::Star => column_names(alloc, columns),
+        Items::Listed(items) => item_names(alloc, items.as_slice()),
+    }
 }
 
 /// The type of an item that has one.
@@ -117,18 +139,12 @@ fn listed_outputs(
     requires few_columns { length columns.now ≤ 64 }
     requires typed { list_all (λ (i : Item). has_type (kind_of_item columns.now i.what)) items ≡ true }
     ensures items { IfOk result (λ o. ArePlainItems (place_in columns.now) columns.now (Items.Listed items) o.exprs) }
-    ensures names { IfOk result (λ o. o.names ≡ output_names (Items.Listed items) columns.now) }
     ensures types { IfOk result (λ o. o.types ≡ output_types (Items.Listed items) columns.now) }
     ensures typed { IfOk result (λ o. All (IsItem (types_of columns.now)) o.exprs) }
 {
     let exprs = place_items(alloc, items.as_slice(), columns)?;
     let types = item_types(alloc, items.as_slice(), columns)?;
-    let names = item_names(alloc, items.into_vec())?;
-    Ok(Outputs {
-        exprs,
-        names,
-        types,
-    })
+    Ok(Outputs { exprs, types })
 }
 
 fn all_columns(alloc: Global, columns: &[FromColumn]) -> Result<List<Expr>, Memory>
@@ -152,46 +168,33 @@ fn column_types(alloc: Global, columns: &[FromColumn]) -> Result<List<ColumnType
     Ok(List::from_vec(types))
 }
 
-fn column_names(alloc: Global, columns: Vec<FromColumn>) -> Result<List<Bytes>, Memory>
-    ensures { IfOk result (λ names. names ≡ map (λ (c : Column). c.name) columns.items) }
+fn star_outputs(alloc: Global, columns: &[FromColumn]) -> Result<Outputs, Memory>
+    requires { length columns.now ≤ 64 }
+    ensures items { IfOk result (λ o. ArePlainItems (place_in columns.now) columns.now Items.Star o.exprs) }
+    ensures types { IfOk result (λ o. o.types ≡ output_types Items.Star columns.now) }
+    ensures typed { IfOk result (λ o. All (IsItem (types_of columns.now)) o.exprs) }
 {
-    Ok(List::from_vec(columns.into_iter().map(|c| c.into_name()).collect(alloc)?))
-}
-
-fn star_outputs(alloc: Global, columns: Vec<FromColumn>) -> Result<Outputs, Memory>
-    requires { length columns.items ≤ 64 }
-    ensures items { IfOk result (λ o. ArePlainItems (place_in columns.items) columns.items Items.Star o.exprs) }
-    ensures names { IfOk result (λ o. o.names ≡ output_names Items.Star columns.items) }
-    ensures types { IfOk result (λ o. o.types ≡ output_types Items.Star columns.items) }
-    ensures typed { IfOk result (λ o. All (IsItem (types_of columns.items)) o.exprs) }
-{
-    let exprs = all_columns(alloc, &columns)?;
-    let types = column_types(alloc, &columns)?;
-    let names = column_names(alloc, columns)?;
-    Ok(Outputs {
-        exprs,
-        names,
-        types,
-    })
+    let exprs = all_columns(alloc, columns)?;
+    let types = column_types(alloc, columns)?;
+    Ok(Outputs { exprs, types })
 }
 
 /// The outputs of typed items over From.
 pub(crate) fn made_outputs(
     alloc: Global,
     items: Items,
-    columns: Vec<FromColumn>,
+    columns: &[FromColumn],
 ) -> Result<Outputs, Memory>
     requires no_calls { All (λ (i : Item). HasNoCall i.what) (listed items) }
     requires few { length (listed items) ≤ 64 }
-    requires few_columns { length columns.items ≤ 64 }
-    requires typed { list_all (λ (i : Item). has_type (kind_of_item columns.items i.what)) (listed items) ≡ true }
-    ensures items { IfOk result (λ o. ArePlainItems (place_in columns.items) columns.items items o.exprs) }
-    ensures names { IfOk result (λ o. o.names ≡ output_names items columns.items) }
-    ensures types { IfOk result (λ o. o.types ≡ output_types items columns.items) }
-    ensures typed { IfOk result (λ o. All (IsItem (types_of columns.items)) o.exprs) }
+    requires few_columns { length columns.now ≤ 64 }
+    requires typed { list_all (λ (i : Item). has_type (kind_of_item columns.now i.what)) (listed items) ≡ true }
+    ensures items { IfOk result (λ o. ArePlainItems (place_in columns.now) columns.now items o.exprs) }
+    ensures types { IfOk result (λ o. o.types ≡ output_types items columns.now) }
+    ensures typed { IfOk result (λ o. All (IsItem (types_of columns.now)) o.exprs) }
 {
     match items {
         Items::Star => star_outputs(alloc, columns),
-        Items::Listed(items) => listed_outputs(alloc, items, &columns),
+        Items::Listed(items) => listed_outputs(alloc, items, columns),
     }
 }

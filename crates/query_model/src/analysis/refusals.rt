@@ -1,21 +1,22 @@
 // Why a query is refused: each condition over the whole query, and the first that it meets.
 ghost use Rattle.std.specs.Prelude.{◌≡◌, ◌∷◌, [], length, IfOk};
-ghost use Rattle.query_model.specs.Refusals.{unknown_table as table_refusal, from_columns, listed, first_of_all, refusal_of};
-ghost use Rattle.query_model.specs.Placing.{unknown_over, ambiguous_over, mismatch_over, width_over};
-ghost use Rattle.query_model.specs.Analysis.{IsPlainQuery};
+ghost use Rattle.query_model.specs.Refusals.{unknown_table as table_refusal, from_columns, listed, output_names, first_of_all, refusal_of};
+ghost use Rattle.query_model.specs.Placing.{unknown_over, ambiguous_over, mismatch_over, order_over, width_over};
+ghost use Rattle.query_model.specs.Analysis.{IsUngrouped};
 
 use crate::analysis::columns::FromColumn;
 use crate::analysis::kinds::types_fit;
 use crate::analysis::names::{NameFault, fault_in_query, has_schema};
+use crate::analysis::ordering::bad_order_key;
 use crate::query::{Items, Query, Refusal, Schema, TableRef};
-use chunk_data::Memory;
+use chunk_data::{Bytes, Memory};
 
-/// The most columns of From, and the most items.
+/// The most columns of From, the most items, and the most keys of an order.
 const WIDEST: usize = 64;
 
 /// FROM names no declared table.
 fn unknown_table(query: &Query, tables: &[Schema]) -> Result<Option<Refusal>, Memory>
-    requires { IsPlainQuery query.now }
+    requires { IsUngrouped query.now }
     ensures { IfOk result (λ refusal. refusal ≡ table_refusal query.now tables.now) }
 {
     match &query.from {
@@ -33,7 +34,7 @@ fn unknown_table(query: &Query, tables: &[Schema]) -> Result<Option<Refusal>, Me
 
 /// A column names no column of From.
 fn unknown_column(query: &Query, columns: &[FromColumn]) -> Result<Option<Refusal>, Memory>
-    requires { IsPlainQuery query.now }
+    requires { IsUngrouped query.now }
     ensures { IfOk result (λ refusal. refusal ≡ unknown_over columns.now query.now) }
 {
     match fault_in_query(NameFault::Unknown, query, columns)? {
@@ -44,7 +45,7 @@ fn unknown_column(query: &Query, columns: &[FromColumn]) -> Result<Option<Refusa
 
 /// A column names more than one column of From.
 fn ambiguous_column(query: &Query, columns: &[FromColumn]) -> Result<Option<Refusal>, Memory>
-    requires { IsPlainQuery query.now }
+    requires { IsUngrouped query.now }
     ensures { IfOk result (λ refusal. refusal ≡ ambiguous_over columns.now query.now) }
 {
     match fault_in_query(NameFault::Ambiguous, query, columns)? {
@@ -73,54 +74,80 @@ fn count_items(items: &Items) -> usize
     }
 }
 
-/// There are too many columns of From or items.
+/// There are too many columns of From, items or keys.
 fn too_wide(query: &Query, columns: &[FromColumn]) -> Option<Refusal>
     ensures { result ≡ width_over columns.now query.now }
 {
-    if columns.len() > WIDEST || count_items(&query.items) > WIDEST {
+    if columns.len() > WIDEST || count_items(&query.items) > WIDEST || query.order.len() > WIDEST {
         Some(Refusal::TooWide)
     } else {
         None
     }
 }
 
-/// The first condition on types or widths.
-fn shape_refusal(query: &Query, columns: &[FromColumn]) -> Option<Refusal>
-    requires { IsPlainQuery query.now }
-    ensures { result ≡ first_of_all (mismatch_over columns.now query.now ∷ width_over columns.now query.now ∷ []) }
+/// The first condition on order or widths.
+fn order_or_width(
+    query: &Query,
+    columns: &[FromColumn],
+    names: &[Bytes],
+) -> Result<Option<Refusal>, Memory>
+    requires { names.now ≡ output_names query.now.items columns.now }
+    ensures { IfOk result (λ refusal. refusal ≡ first_of_all (order_over columns.now query.now ∷ width_over columns.now query.now ∷ [])) }
 {
-    match type_mismatch(query, columns) {
-        Some(refusal) => Some(refusal),
-        None => too_wide(query, columns),
+    match bad_order_key(query.order.as_slice(), names)? {
+        Some(refusal) => Ok(Some(refusal)),
+        None => Ok(too_wide(query, columns)),
     }
 }
 
-/// The first condition on columns, types or widths.
-fn column_refusal(query: &Query, columns: &[FromColumn]) -> Result<Option<Refusal>, Memory>
-    requires { IsPlainQuery query.now }
-    ensures { IfOk result (λ refusal. refusal ≡ first_of_all (unknown_over columns.now query.now ∷ ambiguous_over columns.now query.now ∷ mismatch_over columns.now query.now ∷ width_over columns.now query.now ∷ [])) }
+/// The first condition on types, order or widths.
+fn shape_refusal(
+    query: &Query,
+    columns: &[FromColumn],
+    names: &[Bytes],
+) -> Result<Option<Refusal>, Memory>
+    requires { names.now ≡ output_names query.now.items columns.now }
+    ensures { IfOk result (λ refusal. refusal ≡ first_of_all (mismatch_over columns.now query.now ∷ order_over columns.now query.now ∷ width_over columns.now query.now ∷ [])) }
+{
+    match type_mismatch(query, columns) {
+        Some(refusal) => Ok(Some(refusal)),
+        None => order_or_width(query, columns, names),
+    }
+}
+
+/// The first condition on columns, types, order or widths.
+fn column_refusal(
+    query: &Query,
+    columns: &[FromColumn],
+    names: &[Bytes],
+) -> Result<Option<Refusal>, Memory>
+    requires plain { IsUngrouped query.now }
+    requires names { names.now ≡ output_names query.now.items columns.now }
+    ensures { IfOk result (λ refusal. refusal ≡ first_of_all (unknown_over columns.now query.now ∷ ambiguous_over columns.now query.now ∷ mismatch_over columns.now query.now ∷ order_over columns.now query.now ∷ width_over columns.now query.now ∷ [])) }
 {
     match unknown_column(query, columns)? {
         Some(refusal) => Ok(Some(refusal)),
         None => match ambiguous_column(query, columns)? {
             Some(refusal) => Ok(Some(refusal)),
-            None => Ok(shape_refusal(query, columns)),
+            None => shape_refusal(query, columns, names),
         },
     }
 }
 
-/// The first condition that the query meets.
+/// The first condition that the query meets. `names` are those of its outputs.
 pub(crate) fn first_refusal(
     query: &Query,
     tables: &[Schema],
     columns: &[FromColumn],
+    names: &[Bytes],
 ) -> Result<Option<Refusal>, Memory>
-    requires plain { IsPlainQuery query.now }
+    requires plain { IsUngrouped query.now }
     requires columns { columns.now ≡ from_columns query.now tables.now }
+    requires names { names.now ≡ output_names query.now.items columns.now }
     ensures { IfOk result (λ refusal. refusal ≡ refusal_of query.now tables.now) }
 {
     match unknown_table(query, tables)? {
         Some(refusal) => Ok(Some(refusal)),
-        None => column_refusal(query, columns),
+        None => column_refusal(query, columns, names),
     }
 }

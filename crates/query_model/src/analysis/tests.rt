@@ -2,13 +2,13 @@
 ghost use Rattle.std.specs.Prelude.{◌≡◌, IfOk};
 ghost use Rattle.std.specs.List.{All};
 ghost use Rattle.query_model.specs.Refusals.{operands_of, listed};
-ghost use Rattle.query_model.specs.Analysis.{HasNoCall, IsNoCall, IsPlainQuery};
+ghost use Rattle.query_model.specs.Analysis.{HasNoCall, IsNoCall, IsUngrouped};
 
 use crate::analysis::analyse;
 use crate::checked::Checked;
 use crate::query::{
     ArithOp, ColumnDecl, ColumnRef, CompareOp, CondOf, ExprOf, Item, ItemKind, Items, Number,
-    Operand, Query, Refusal, Schema, TableRef,
+    Operand, OrderKey, Query, Refusal, Schema, TableRef,
 };
 use chunk_data::{Bytes, ColumnType, List};
 use std::alloc::Global;
@@ -143,7 +143,7 @@ fn comparison(alloc: Global, text: &str) -> Result<Option<CondOf<ColumnRef>>, Fa
 /// The query of these items, with WHERE where there is a comparison.
 fn query(alloc: Global, items: Items, table: &str, cond: &str) -> Result<Query, Fail>
     requires { All (λ (i : Item). HasNoCall i.what) (listed items) }
-    ensures { IfOk result IsPlainQuery }
+    ensures { IfOk result IsUngrouped }
 {
     let filter = comparison(alloc, cond)?;
     let name = bytes(alloc, table)?;
@@ -331,5 +331,78 @@ fn at_most_64_items_are_taken(rt: HostRuntime) -> Result<(), Fail> {
     let query = query(alloc, Items::Listed(most), "t", "")?;
     let told = outcome(alloc, analyse(alloc, query, &tables(alloc)?))?;
     assert_eq!(rt; told.len(), 128);
+    Ok(())
+}
+
+/// The keys with these names, of which `-a` is `a DESC`.
+fn order_keys(alloc: Global, names: &str) -> Result<List<OrderKey>, Fail> {
+    let mut keys = Vec::new(alloc);
+    for name in names.split(' ') {
+        let (name, descending) = match name.strip_prefix('-') {
+            Some(behind) => (behind, true),
+            None => (name, false),
+        };
+        keys.push(OrderKey {
+            name: bytes(alloc, name)?,
+            descending,
+        })?;
+    }
+    Ok(List::from_vec(keys))
+}
+
+/// The places of the keys, with `-` before those that descend, or the refusal.
+fn places(alloc: Global, answer: Result<Checked, Refusal>) -> Result<Vec<u8>, Fail> {
+    match answer {
+        Ok(checked) => {
+            let mut text = Vec::new(alloc);
+            for key in checked.order.as_slice() {
+                let sign = if key.descending { "-" } else { "+" };
+                let column = key.column;
+                text.extend_from_slice(format!(in alloc; "{sign}{column} ")?.as_bytes())?;
+            }
+            Ok(text)
+        }
+        Err(refusal) => refused(alloc, refusal),
+    }
+}
+
+#[test]
+fn keys_name_one_item(rt: HostRuntime) -> Result<(), Fail> {
+    let alloc = rt.alloc();
+    for (items, names, expected) in [
+        ("a, b", "b -a", "+1 -0 "),
+        ("t.a, b AS x", "-x a", "-1 +0 "),
+        ("a * a, b", "item_1", "+0 "),
+        ("a", "b", "BadOrderKey b"),
+        ("a, b AS a", "a", "BadOrderKey a"),
+        ("a AS x", "a", "BadOrderKey a"),
+        ("a, b", "a c d", "BadOrderKey c"),
+    ] {
+        let list = listed_items(alloc, items)?;
+        let plain = query(alloc, Items::Listed(list), "t", "")?;
+        let order = order_keys(alloc, names)?;
+        let ordered = Query { order, ..plain };
+        let told = places(alloc, analyse(alloc, ordered, &tables(alloc)?))?;
+        assert_eq!(rt; told.as_slice(), expected.as_bytes(), "{items} by {names}");
+    }
+    Ok(())
+}
+
+#[test]
+fn numbers_have_one_column(rt: HostRuntime) -> Result<(), Fail> {
+    let alloc = rt.alloc();
+    for (item, expected) in [
+        ("number", "number "),
+        ("numbers.number", "number "),
+        ("number + -1", "TypeMismatch"),
+        ("a", "UnknownColumn a"),
+    ] {
+        let list = listed_items(alloc, item)?;
+        let named = query(alloc, Items::Listed(list), "t", "")?;
+        let from = TableRef::Numbers(3);
+        let query = Query { from, ..named };
+        let told = outcome(alloc, analyse(alloc, query, &tables(alloc)?))?;
+        assert_eq!(rt; told.as_slice(), expected.as_bytes(), "{item}");
+    }
     Ok(())
 }

@@ -13,7 +13,13 @@ abbrev pub decreases-turn_of : goal.decreases-turn_of
 decreases-turn_of l = 4 * l.depth + 1
 
 abbrev pub decreases-first_part : goal.decreases-first_part
-decreases-first_part l = 4 * l.depth + 2
+decreases-first_part l = 4 * l.depth + 3
+
+abbrev pub decreases-word_at : goal.decreases-word_at
+decreases-word_at l = 4 * l.depth + 2
+
+abbrev pub decreases-call_at : goal.decreases-call_at
+decreases-call_at l = 4 * l.depth + 1
 
 abbrev pub decreases-first_sign : goal.decreases-first_sign
 decreases-first_sign l = 4 * l.depth + 1
@@ -23,7 +29,7 @@ decreases-first_keyword l = 4 * l.depth + 1
 
 abbrev pub invariant-joined-loop-joint : goal.invariant-joined-loop-joint
 invariant-joined-loop-joint l =
-    IsAt (part_at l.depth) l.least (joined (part_at l.depth) l.least (suc (length l.fn.tokens)) (parsed l.fn.first) l.fn.tokens) (parsed l.part) l.rest
+    IsAt l.clause (part_at l.depth) l.least (joined l.clause (part_at l.depth) l.least (suc (length l.fn.tokens)) (parsed l.fn.first) l.fn.tokens) (parsed l.part) l.rest
 
 abbrev pub decreases-joined-loop-joint : goal.decreases-joined-loop-joint
 decreases-joined-loop-joint l = length l.rest

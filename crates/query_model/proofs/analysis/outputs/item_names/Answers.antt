@@ -1,11 +1,17 @@
-use Rattle.std.proofs.Common.{◌≡◌, ◌+◌, ◌++◌, ◌∷◌, [], length, ap, ap₂, sym, ◌∙◌, arith}
+use Rattle.std.proofs.Common.{◌≡◌, ◌+◌, ◌++◌, ◌∷◌, [], length, take, ap, ap₂, subst, sym, ◌∙◌, arith}
+use Rattle.std.proofs.lemmas.List.{take_more}
+use Rattle.query_model.specs.Refusals.{item_names}
 use Rattle.query_model.proofs.Placed.{names_last, length-item_names}
+use Rattle.query_model.specs.declared.query.Item.{Item}
 use Rattle.query_model.proofs.analysis.outputs.item_names.Goals as goal
 
 pub loop-item-preserved : goal.loop-item-preserved
 loop-item-preserved c =
-    let long = length-item_names 1 c.loop-item.yielded in
+    let before = take c.loop-item.item-index c.args.items.now in
+    let long = length-item_names 1 before in
     let same = ap length c.loop-item.invariant in
-    let n : c.len-in-loop-item.result + 1 ≡ 1 + length c.loop-item.yielded = omega (arith, long, same, c.len-in-loop-item.ensures) in
+    let n : c.in-Some.k ≡ 1 + length before = omega (arith, long, same, c.len.ensures, c.in-Some.ensures) in
     c.in_ok-push.ensures.items ∙ ap₂ (λ l name. l ++ name ∷ []) c.loop-item.invariant c.in_ok-name.ensures
-    ∙ sym (names_last 1 (c.len-in-loop-item.result + 1) c.loop-item.yielded c.in-Some.item n)
+    ∙ sym (names_last 1 c.in-Some.k before c.item-item.result n)
+    ∙ ap (λ (i : Item). item_names 1 (before ++ i ∷ [])) c.item-item.is
+    ∙ ap (item_names 1) (sym (take_more c.args.items.now c.loop-item.item-index c.item-item.result c.loop-item-test.true))

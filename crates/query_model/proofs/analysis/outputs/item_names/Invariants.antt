@@ -1,6 +1,6 @@
-use Rattle.std.proofs.Common.{◌≡◌}
+use Rattle.std.proofs.Common.{◌≡◌, take}
 use Rattle.query_model.specs.Refusals.{item_names}
 use Rattle.query_model.proofs.analysis.outputs.item_names.Given as goal
 
 abbrev pub invariant-loop-item : goal.invariant-loop-item
-invariant-loop-item l = l.names.items ≡ item_names 1 l.yielded
+invariant-loop-item l = l.names.items ≡ item_names 1 (take l.item-index l.items)

@@ -7,5 +7,5 @@ use Rattle.query_model.proofs.analysis.outputs.star_outputs.Goals as goal
 
 pub returns-clause-typed : goal.returns-clause-typed
 returns-clause-typed c =
-    columns_are_typed (types_of c.args.columns.items) 0 c.args.columns.items c.in_ok-exprs.exprs (rw c.deref.ensures.value at c.in_ok-exprs.ensures)
-    (let e = length-map c.args.columns.items (λ (x : FromColumn). x.type) in omega (arith, e))
+    columns_are_typed (types_of c.args.columns.now) 0 c.args.columns.now c.in_ok-exprs.exprs c.in_ok-exprs.ensures
+    (let e = length-map c.args.columns.now (λ (x : FromColumn). x.type) in omega (arith, e))

@@ -1,0 +1,6 @@
+use Rattle.std.proofs.Common.{◌≡◌, map, take}
+use Rattle.query_model.specs.Refusals.{FromColumn}
+use Rattle.query_model.proofs.analysis.outputs.column_names.Given as goal
+
+abbrev pub invariant-loop-column : goal.invariant-loop-column
+invariant-loop-column l = l.names.items ≡ map (λ (c : FromColumn). c.name) (take l.column-index l.columns)

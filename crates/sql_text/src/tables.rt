@@ -1,0 +1,132 @@
+// Tables, columns and joins.
+ghost use Rattle.std.specs.Prelude.{◌≡◌, Some, option_map, OnOk, IfOk};
+ghost use Rattle.sql_text.specs.Answers.{Gives};
+ghost use Rattle.sql_text.specs.Queries.{name_at, count_behind, table_named, table_at, after_from, from_at, dotted_at, column_ref_at, after_equal, pair_at, after_on, on_at, joined_table_at};
+
+use crate::lists::pairs_at;
+use crate::stop::{Stop, next_token};
+use chunk_data::Bytes;
+use query_model::query::{ColumnRef, Join, NamePair, TableRef};
+use sql_grammar::{Keyword, Sign, Token};
+use std::alloc::Global;
+
+pub fn name_at(tokens: &[Token]) -> Result<(Bytes, &[Token]), Stop>
+    ensures { Gives (λ p. (p.0, p.1.now)) result (name_at tokens.now) }
+{
+    let (token, rest) = next_token(tokens)?;
+    match token {
+        Token::Name(name) => Ok((name.copy()?, rest)),
+        _ => Err(Stop::Syntax),
+    }
+}
+
+// The number of `numbers`, behind the parenthesis.
+fn count_behind(tokens: &[Token]) -> Result<(TableRef, &[Token]), Stop>
+    ensures { Gives (λ p. (p.0, p.1.now)) result (count_behind tokens.now) }
+{
+    match tokens {
+        [Token::Number(count), Token::Sign(Sign::Close), ..] => {
+            Ok((TableRef::Numbers(*count), &tokens[2..]))
+        }
+        _ => Err(Stop::Syntax),
+    }
+}
+
+// `numbers` has a meaning of its own only before a parenthesis, which stands behind no other name of a table.
+fn table_named(name: Bytes, tokens: &[Token]) -> Result<(TableRef, &[Token]), Stop>
+    ensures { Gives (λ p. (p.0, p.1.now)) result (table_named name tokens.now) }
+{
+    match tokens.split_first() {
+        Some((Token::Sign(Sign::Open), rest)) => {
+            if name.as_slice() == b"numbers".as_slice() {
+                count_behind(rest)
+            } else {
+                Err(Stop::Syntax)
+            }
+        }
+        _ => Ok((TableRef::Named(name), tokens)),
+    }
+}
+
+fn table_at(tokens: &[Token]) -> Result<(TableRef, &[Token]), Stop>
+    ensures { Gives (λ p. (p.0, p.1.now)) result (table_at tokens.now) }
+{
+    let (name, rest) = name_at(tokens)?;
+    table_named(name, rest)
+}
+
+fn after_from(tokens: &[Token]) -> Result<&[Token], Stop>
+    ensures { Gives (λ rest. rest.now) result (after_from tokens.now) }
+{
+    match next_token(tokens)? {
+        (Token::Keyword(Keyword::From), rest) => Ok(rest),
+        _ => Err(Stop::Syntax),
+    }
+}
+
+pub fn from_at(tokens: &[Token]) -> Result<(TableRef, &[Token]), Stop>
+    ensures { Gives (λ p. (p.0, p.1.now)) result (from_at tokens.now) }
+{
+    table_at(after_from(tokens)?)
+}
+
+fn dotted_at(name: Bytes, tokens: &[Token]) -> Result<(ColumnRef, &[Token]), Stop>
+    ensures { Gives (λ p. (p.0, p.1.now)) result (dotted_at name tokens.now) }
+{
+    if let [Token::Sign(Sign::Dot), Token::Name(column), ..] = tokens {
+        let column = ColumnRef {
+            table: Some(name),
+            name: column.copy()?,
+        };
+        return Ok((column, &tokens[2..]));
+    }
+    Ok((ColumnRef { table: None, name }, tokens))
+}
+
+pub fn column_ref_at(tokens: &[Token]) -> Result<(ColumnRef, &[Token]), Stop>
+    ensures { Gives (λ p. (p.0, p.1.now)) result (column_ref_at tokens.now) }
+{
+    let (name, rest) = name_at(tokens)?;
+    dotted_at(name, rest)
+}
+
+fn after_equal(tokens: &[Token]) -> Result<&[Token], Stop>
+    ensures { Gives (λ rest. rest.now) result (after_equal tokens.now) }
+{
+    match next_token(tokens)? {
+        (Token::Sign(Sign::Equal), rest) => Ok(rest),
+        _ => Err(Stop::Syntax),
+    }
+}
+
+pub fn pair_at(tokens: &[Token]) -> Result<(NamePair, &[Token]), Stop>
+    ensures { Gives (λ p. (p.0, p.1.now)) result (pair_at tokens.now) }
+{
+    let (left, rest) = column_ref_at(tokens)?;
+    let (right, rest) = column_ref_at(after_equal(rest)?)?;
+    Ok((NamePair { left, right }, rest))
+}
+
+fn after_on(tokens: &[Token]) -> Result<&[Token], Stop>
+    ensures { Gives (λ rest. rest.now) result (after_on tokens.now) }
+{
+    match next_token(tokens)? {
+        (Token::Keyword(Keyword::On), rest) => Ok(rest),
+        _ => Err(Stop::Syntax),
+    }
+}
+
+fn on_at(alloc: Global, table: TableRef, tokens: &[Token]) -> Result<(Join, &[Token]), Stop>
+    ensures { Gives (λ p. (p.0, p.1.now)) result (on_at table tokens.now) }
+{
+    let (pairs, rest) = pairs_at(alloc, after_on(tokens)?)?;
+    Ok((Join { table, pairs }, rest))
+}
+
+/// The table and the pairs behind JOIN.
+pub fn joined_table_at(alloc: Global, tokens: &[Token]) -> Result<(Join, &[Token]), Stop>
+    ensures { Gives (λ p. (p.0, p.1.now)) result (joined_table_at tokens.now) }
+{
+    let (table, rest) = table_at(tokens)?;
+    on_at(alloc, table, rest)
+}
