@@ -49,8 +49,8 @@ module _ (files : Option Files) (f pd : ℕ) (part : PartSpec) where
     ports = tt;
     idle = refl;
     rows = λ a. fresh-part;
-    types = λ a o. all-of-none (λ (t : Table). t.types ≡ part.types);
-    made_types = λ a. all-of-none (λ (t : Table). t.types ≡ part.types);
+    types = λ o. all-of-none (λ (t : Table). t.types ≡ part.types);
+    made_types = all-of-none (λ (t : Table). t.types ≡ part.types);
     sizes = λ o. all-of-none (HasSize (Some (spec.Csv part)));
     made_sizes = all-of-none (HasSize (Some (spec.Csv part)));
     unworked = all-of-none (λ (t : Table). IsPulled no_lists t.types);

@@ -10,12 +10,12 @@ use Rattle.query_model.specs.Parts.{part_records, good_rows, bad_place}
 use Rattle.query_model.specs.declared.processor_spec.PartSpec.{PartSpec}
 use Rattle.query_model.specs.declared.processor_spec.Spec.TheVariants as spec
 use Rattle.port_word.specs.declared.flags.Flags.{Flags}
-use Rattle.port_word.specs.Pictures.{Picture, input_at, output_at, in_count, out_count, is_in_finished, no_flags}
+use Rattle.port_word.specs.Pictures.{Picture, input_at, output_at, in_count, out_count, no_flags}
 use Rattle.proc_api.specs.declared.status.Status.{Status}
 use Rattle.proc_api.specs.Boxes.{BoxPicture, Notes, PortFlags, kept_ports, kept_input, kept_output, kept_inputs, kept_outputs}
 use Rattle.proc_api.specs.Histories.{Lists, chunk_rows, pulled_at, pushed_at, with_pulled, with_pushed, raised, rows_pulled}
-use Rattle.proc_api.specs.Ports.{FollowsKept}
-use Rattle.proc_api.specs.Keeping.{KeepsPart, KeepsPartRows, HasMadeNothing, HasPushedPart, Keeps, AllFit, MakesTypes, IsPulled, HasSize, HadPorts, AllInputsFinished, AllOutputsClosed, HasReadEnough}
+use Rattle.proc_api.specs.Ports.{FollowsKept, is_ended}
+use Rattle.proc_api.specs.Keeping.{KeepsPart, KeepsPartRows, HasMadeNothing, HasPushedPart, Keeps, AllFit, MakesTypes, IsPulled, HasSize, HadPorts, AllInputsEnded, AllOutputsClosed, HasReadEnough}
 use Rattle.proc_api.specs.Clauses.{KeepsSame, PulledOn, port_flags}
 use Rattle.proc_api.proofs.Keeping.{front-all, fits-front, rows-append, counted-more, total-nothing}
 use Rattle.proc_api.proofs.KeptFlags.{kept_inputs-of, kept_outputs-of, kept_input-past, kept_output-of, kept_output-past}
@@ -136,14 +136,13 @@ module _ (files : Option Files) (f pd : ℕ) (part : PartSpec) (s : PartState) (
     ports = rw view (inl (kept-count w ∙ m.ins, outs-count w ∙ m.outs));
     idle = refl;
     rows = λ a. pushed-part outs (kept.rows (fits-front (Some (spec.Csv part)) v w ins a));
-    types = λ a o. All-append (λ (t : Table). t.types ≡ part.types) (outs o) (pushed_at v w o) (kept.types (fits-front (Some (spec.Csv part)) v w ins a) o)
-        (pushed-all (λ (t : Table). t.types ≡ part.types) (kept.made_types (fits-front (Some (spec.Csv part)) v w ins a)) o);
-    made_types = λ a. made-all (λ (t : Table). t.types ≡ part.types) (kept.made_types (fits-front (Some (spec.Csv part)) v w ins a));
+    types = λ o. All-append (λ (t : Table). t.types ≡ part.types) (outs o) (pushed_at v w o) (kept.types o) (pushed-all (λ (t : Table). t.types ≡ part.types) kept.made_types o);
+    made_types = made-all (λ (t : Table). t.types ≡ part.types) kept.made_types;
     sizes = λ o. All-append (HasSize (Some (spec.Csv part))) (outs o) (pushed_at v w o) (kept.sizes o) (pushed-all (HasSize (Some (spec.Csv part))) kept.made_sizes o);
     made_sizes = made-all (HasSize (Some (spec.Csv part))) kept.made_sizes;
     unworked = all-none (λ (t : Table). IsPulled (with_pulled v w ins) t.types) [] refl;
     counted = counted-more P Q v w ins (record { count = omega arith; since = refl }) (ap (raised 0) (sym nothing-pulled)) kept.counted;
-    finishes = λ o. by-place (λ j. (kept_output Q j).fin_out ≡ true → AllInputsFinished Q ⊎ HasReadEnough (Some (spec.Csv part)) (with_pulled v w ins)) 0 o
+    finishes = λ o. by-place (λ j. (kept_output Q j).fin_out ≡ true → AllInputsEnded Q ⊎ HasReadEnough (Some (spec.Csv part)) (with_pulled v w ins)) 0 o
         (λ fin. inl (λ i lt. absurd (let c = kept_inputs-of Q w view in omega (arith, c, m.ins, lt)))) (λ ne fin. absurd (past-none o ne fin));
     closes = λ i e. absurd (past-open i e);
   }
@@ -186,13 +185,13 @@ module _ (files : Option Files) (f pd f' pd' : ℕ) (part : PartSpec) (s s' : Pa
     idle = refl;
     rows = λ a. rows outs (kept.rows a);
     types = kept.types;
-    made_types = λ a. types (kept.made_types a);
+    made_types = types kept.made_types;
     sizes = kept.sizes;
     made_sizes = sizes kept.made_sizes;
     unworked = kept.unworked;
     counted = kept.counted;
     finishes = λ o fin. elim (kept.finishes o (ap (λ g. g.fin_out) (sym (same-output o)) ∙ fin)) [
-      | inl all ↦ inl (λ i lt. ap is_in_finished (same-input i) ∙ all i (omega (arith, lt, same-inputs)))
+      | inl all ↦ inl (λ i lt. ap is_ended (same-input i) ∙ all i (omega (arith, lt, same-inputs)))
       | inr enough ↦ absurd enough
     ];
     closes = λ i fin. elim (kept.closes i (ap (λ g. g.fin_in) (sym (same-input i)) ∙ fin)) [

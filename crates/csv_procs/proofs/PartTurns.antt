@@ -1,5 +1,5 @@
 -- What each turn of a source moves.
-use Rattle.std.proofs.Common.{◌≡◌, ◌≢◌, ◌⊎◌, ℕ, ◌<◌, Bool, true, false, cond, not, ◌&&◌, ◌||◌, Option, Some, None, List, [], ◌∷◌, ◌++◌, refl, sym, ap, subst, ◌∙◌, arith, inl, inr}
+use Rattle.std.proofs.Common.{◌≡◌, ◌≢◌, ◌⊎◌, ℕ, ◌<◌, Bool, true, false, cond, not, ◌&&◌, ◌||◌, Option, Some, None, List, [], ◌∷◌, ◌++◌, length, refl, sym, ap, subst, ◌∙◌, arith, inl, inr}
 use Rattle.std.proofs.lemmas.List.{append-nil}
 use Rattle.chunk_data.specs.Values.{Table}
 use Rattle.port_word.specs.declared.flags.Flags.{Flags}
@@ -12,7 +12,8 @@ use Rattle.port_word.proofs.Differences.{changed-by-none, changed-by-one}
 use Rattle.proc_api.specs.declared.status.Status.{Status}
 use Rattle.proc_api.specs.declared.status.Status.TheVariants as status
 use Rattle.proc_api.specs.Histories.{pulled_at, pushed_at}
-use Rattle.proc_api.specs.Clauses.{StatusHolds}
+use Rattle.proc_api.specs.Ports.{AllOutputsFinished, HasNoRoom, HasRoom}
+use Rattle.proc_api.specs.Clauses.{EndsAtOnce, NeedsRoom, StatusHolds}
 use Rattle.proc_api.proofs.CallLaws.{none-pushed, just-pushed, none-pulled}
 use Rattle.proc_api.proofs.Turns.{finishing, push-turns, finish-turns}
 use Rattle.proc_api.proofs.ShutPorts.{by-place, is-finished}
@@ -105,12 +106,23 @@ pub record Moves (s : PartState) (h k : Option Table) (v w : Picture) (st : Stat
   pub ready : st ≡ status.Ready → LeavesRows s × (k ≡ None)
   pub waits : st ≡ status.Async → (is_unfetched s None ≡ true) × (k ≡ None)
   pub no_growth : st ≡ status.ExpandPipeline → ⊥
+  pub at_once : AllOutputsFinished v → EndsAtOnce v w st
+  pub unpushed : 0 < length (waiting k) → HasNoRoom w
+  pub room : NeedsRoom st → HasRoom w
 
 apart : (i : ℕ) → 0 < i → i ≢ 0
 apart i lt = λ e. omega (arith, lt, e)
 
 never-true : (b : Bool) {A : Type 0} → b ≡ false → b ≡ true → A
 never-true b e f = let c : false ≡ true = sym e ∙ f in absurd (cc)
+
+no-push : (f : Flags) → (not f.needed || f.has_data) ≡ true → can_push f ≡ false
+no-push f e = go f.needed f.has_data f.fin_out e
+  where
+    go : (n d o : Bool) → (not n || d) ≡ true → (n && (not d && not o)) ≡ false
+    go true true o e = refl
+    go true false o e = absurd (cc)
+    go false d o e = refl
 
 module _ (v : Picture) (one : HasOneOutput v) (sound : IsSound v) where
   out-lt : 0 < out_count v
@@ -130,6 +142,16 @@ module _ (v : Picture) (one : HasOneOutput v) (sound : IsSound v) where
     full = λ o lt. by-place (λ j. is_out_finished (output_at w j) ≡ false → (output_at w j).needed ≡ true → (output_at w j).has_data ≡ true) 0 o (λ u. f) (λ ne. absurd (omega (arith, lt, e, ne)));
   }
 
+  -- the output has room, so that it isn't finished
+  roomy-ends : IsRoomy (output_at v 0) → {X : Type 0} → AllOutputsFinished v → X
+  roomy-ends r all = never-true (is_out_finished (output_at v 0)) r.unfinished (all 0 out-lt)
+
+  roomy-room : IsRoomy (output_at v 0) → HasRoom v
+  roomy-room r = record { output = 0; in_range = out-lt; room = rw (r.needed, r.empty, r.not_ended) refl; unfinished = r.unfinished }
+
+  none-waits : {A : Type 0} → 0 < 0 → A
+  none-waits lt = absurd (omega (arith, lt))
+
   still-pulled : (i : ℕ) → pulled_at v v i ≡ []
   still-pulled i = none-pulled v v i refl
 
@@ -138,8 +160,8 @@ module _ (v : Picture) (one : HasOneOutput v) (sound : IsSound v) where
 
   -- the view stays as it is
   still-moves : (s : PartState) (h : Option Table) (st : Status) → StatusHolds st v → (st ≡ status.NeedData → ⊥) → (st ≡ status.Ready → LeavesRows s × (h ≡ None)) → (st ≡ status.Async → (is_unfetched s None ≡ true) × (h ≡ None))
-      → (st ≡ status.ExpandPipeline → ⊥) → Moves s h h v v st
-  still-moves s h st l n r a g = record {
+      → (st ≡ status.ExpandPipeline → ⊥) → (AllOutputsFinished v → EndsAtOnce v v st) → (0 < length (waiting h) → HasNoRoom v) → (NeedsRoom st → HasRoom v) → Moves s h h v v st
+  still-moves s h st l n r a g at_once unpushed room = record {
     changed = changed-by-none v;
     ins = one.ins;
     outs = one.outs;
@@ -152,24 +174,32 @@ module _ (v : Picture) (one : HasOneOutput v) (sound : IsSound v) where
     ready = r;
     waits = a;
     no_growth = g;
+    at_once = at_once;
+    unpushed = unpushed;
+    room = room;
   }
 
   moves-over : (s : PartState) (h : Option Table) → is_out_finished (output_at v 0) ≡ true → Moves s h h v v status.Finished
-  moves-over s h e = still-moves s h status.Finished (only-output v one.ins one.outs e) (λ c. absurd (cc)) (λ c. absurd (cc)) (λ c. absurd (cc)) (λ c. absurd (cc))
+  moves-over s h e =
+      let ended = only-output v one.ins one.outs e in
+      still-moves s h status.Finished ended (λ c. absurd (cc)) (λ c. absurd (cc)) (λ c. absurd (cc)) (λ c. absurd (cc))
+      (λ all. record { answer = refl; chunks = record { inputs = λ i. refl; outputs = λ o. refl } }) (λ some o lt n. never-true (is_out_finished (output_at v o)) n (ended.outputs o lt)) (λ n. absurd n)
 
   moves-full : (s : PartState) (h : Option Table) → is_out_finished (output_at v 0) ≡ false → (not (output_at v 0).needed || (output_at v 0).has_data) ≡ true → Moves s h h v v status.PortFull
   moves-full s h n e =
       still-moves s h status.PortFull (waits-for-room v one.outs n (λ needed. has-data (output_at v 0).needed (output_at v 0).has_data needed e)) (λ c. absurd (cc)) (λ c. absurd (cc)) (λ c. absurd (cc)) (λ c. absurd (cc))
+      (λ all. never-true (is_out_finished (output_at v 0)) n (all 0 out-lt))
+      (λ some o lt un. by-place (λ k. can_push (output_at v k) ≡ false) 0 o (no-push (output_at v 0) e) (λ ne. absurd (let outs = one.outs in omega (arith, lt, outs, ne)))) (λ need. absurd need)
     where
       has-data : (a b : Bool) → a ≡ true → (not a || b) ≡ true → b ≡ true
       has-data true b x y = y
       has-data false b x y = absurd (cc)
 
-  moves-fetch : (s : PartState) → is_unfetched s None ≡ true → Moves s None None v v status.Async
-  moves-fetch s e = still-moves s None status.Async tt (λ c. absurd (cc)) (λ c. absurd (cc)) (λ c. (e, refl)) (λ c. absurd (cc))
+  moves-fetch : (s : PartState) → IsRoomy (output_at v 0) → is_unfetched s None ≡ true → Moves s None None v v status.Async
+  moves-fetch s r e = still-moves s None status.Async tt (λ c. absurd (cc)) (λ c. absurd (cc)) (λ c. (e, refl)) (λ c. absurd (cc)) (roomy-ends r) none-waits (λ n. roomy-room r)
 
-  moves-make : (s : PartState) → LeavesRows s → Moves s None None v v status.Ready
-  moves-make s e = still-moves s None status.Ready tt (λ c. absurd (cc)) (λ c. (e, refl)) (λ c. absurd (cc)) (λ c. absurd (cc))
+  moves-make : (s : PartState) → IsRoomy (output_at v 0) → LeavesRows s → Moves s None None v v status.Ready
+  moves-make s r e = still-moves s None status.Ready tt (λ c. absurd (cc)) (λ c. (e, refl)) (λ c. absurd (cc)) (λ c. absurd (cc)) (roomy-ends r) none-waits (λ n. roomy-room r)
 
   moves-push : (s : PartState) (c : Table) → IsRoomy (output_at v 0) → Moves s (Some c) None v (after_push v 0 c) status.PortFull
   moves-push s c r =
@@ -189,6 +219,9 @@ module _ (v : Picture) (one : HasOneOutput v) (sound : IsSound v) where
         ready = λ e. absurd (cc);
         waits = λ e. absurd (cc);
         no_growth = λ e. absurd (cc);
+        at_once = roomy-ends r;
+        unpushed = none-waits;
+        room = λ need. absurd need;
       }
 
   moves-finish : (s : PartState) → IsRoomy (output_at v 0) → IsOver s → Moves s None None v (after_finish v 0) status.Finished
@@ -209,6 +242,9 @@ module _ (v : Picture) (one : HasOneOutput v) (sound : IsSound v) where
         ready = λ c. absurd (cc);
         waits = λ c. absurd (cc);
         no_growth = λ c. absurd (cc);
+        at_once = roomy-ends r;
+        unpushed = none-waits;
+        room = λ need. absurd need;
       }
 
   -- the turn that is due moves as it says
@@ -219,6 +255,6 @@ module _ (v : Picture) (one : HasOneOutput v) (sound : IsSound v) where
       (moves-over s h)
       (moves-full s h)
       (λ r c e. subst (λ k. Moves s k None v (pushed_view k v) status.PortFull) (sym e) (moves-push s c r))
-      (λ r e x. subst (λ k. Moves s k k v v status.Async) (sym e) (moves-fetch s x))
-      (λ r e x. subst (λ k. Moves s k k v v status.Ready) (sym e) (moves-make s x))
+      (λ r e x. subst (λ k. Moves s k k v v status.Async) (sym e) (moves-fetch s r x))
+      (λ r e x. subst (λ k. Moves s k k v v status.Ready) (sym e) (moves-make s r x))
       (λ r e x. subst (λ k. Moves s k k v (after_finish v 0) status.Finished) (sym e) (moves-finish s r x)))

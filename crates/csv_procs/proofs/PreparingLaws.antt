@@ -17,8 +17,8 @@ use Rattle.proc_api.specs.declared.status.Status.TheVariants as status
 use Rattle.proc_api.specs.declared.status.Answer.TheVariants.{Prepared}
 use Rattle.proc_api.specs.Boxes.{BoxPicture, Notes}
 use Rattle.proc_api.specs.Histories.{pulled_at, raised, rows_pulled}
-use Rattle.proc_api.specs.Ports.{HasPorts, StaysFit, FollowsKept, IsShut}
-use Rattle.proc_api.specs.Clauses.{PreparesLawfully, KeepsLimits, StatusComes, StatusHolds, MayBeReady, IsRunning, NotesView, port_flags}
+use Rattle.proc_api.specs.Ports.{HasPorts, SameChunks, StaysFit, FollowsKept, IsShut}
+use Rattle.proc_api.specs.Clauses.{PreparesLawfully, KeepsLimits, NeedsRoom, StatusComes, StatusHolds, MayBeReady, IsRunning, NotesView, port_flags}
 use Rattle.proc_api.proofs.CallLaws.{none-pulled}
 use Rattle.proc_api.proofs.Keeping.{total-nothing}
 use Rattle.csv_rows.specs.RowsLeft.{RowsLeft, at_end}
@@ -92,6 +92,9 @@ module _ (files : Option Files) (f pd : ℕ) (part : PartSpec) (s : PartState) (
         limits = limits-kept (ap (λ x. x.given) notes) (ap (λ x. x.pendings) notes) (ap (λ x. x.fault) notes ∙ faultless);
         fits = λ fit. ap (λ x. x.fits) notes ∙ fit.fits;
         keeps = λ fit ins outs kept. keeps-over files f pd part s h k n n' v w st m view follows one ins outs kept;
+        ends = λ some all. m.at_once all;
+        pushes = m.unpushed;
+        room = λ need some. m.room need;
         misfit = λ never. absurd (never (one.ins, one.outs));
       }
 
@@ -101,15 +104,18 @@ module _ (files : Option Files) (f pd : ℕ) (part : PartSpec) (s : PartState) (
   shut-law : IsShut w → (a : Status) → a ≡ status.Finished → StatusHolds a w
   shut-law x a e = subst (λ t. StatusHolds t w) (sym e) (record { inputs = λ i lt. rw (x.inputs i lt) refl; outputs = x.outputs })
 
-  prepares-misfit : (HasOneOutput v → ⊥) → IsShut w → ((i : ℕ) → pulled_at v w i ≡ []) → st ≡ status.Finished → n' ≡ record n { view = Some (port_flags w); answer = Some (Prepared st); acted = false; fits = false } → n.fault ≡ None
+  prepares-misfit : (HasOneOutput v → ⊥) → IsShut w → SameChunks v w → st ≡ status.Finished → n' ≡ record n { view = Some (port_flags w); answer = Some (Prepared st); acted = false; fits = false } → n.fault ≡ None
       → PreparesLawfully P v Q w st
-  prepares-misfit never shut pulled st_is notes faultless = record {
+  prepares-misfit never shut chunks st_is notes faultless = record {
     law = shut-law shut st st_is;
     comes = subst (λ t. StatusComes t Q) (sym st_is) tt;
-    pulled = ap (raised 0) (sym (total-nothing 32 (pulled_at v w) pulled));
+    pulled = ap (raised 0) (sym (total-nothing 32 (pulled_at v w) (λ i. none-pulled v w i (chunks.inputs i))));
     limits = limits-kept (ap (λ x. x.given) notes) (ap (λ x. x.pendings) notes) (ap (λ x. x.fault) notes ∙ faultless);
     fits = λ fit. absurd (never (fit-ports fit));
     keeps = λ fit. absurd (never (fit-ports fit));
+    ends = λ some all. record { answer = st_is; chunks = chunks };
+    pushes = λ some o lt n. absurd (let e : true ≡ false = sym (shut.outputs o lt) ∙ n in cc);
+    room = λ need some. absurd (subst NeedsRoom st_is need);
     misfit = λ none. record { answer = st_is; shut = shut };
   }
 
@@ -173,7 +179,7 @@ module _ (files : Option Files) (f pd : ℕ) (o : Option LoadedPart) (l m : Load
       (λ one. let x = fit one in prepares-fit files f pd l.part l.state l.made m.made l.notes m.notes v w st one (moves-so one x) x.notes kept run.faultless)
       (λ never.
       let x = misfit never in
-      prepares-misfit files f pd l.part l.state l.made m.made l.notes m.notes v w st never x.shut (λ i. none-pulled v w i (x.chunks.inputs i)) x.status x.notes run.faultless)))
+      prepares-misfit files f pd l.part l.state l.made m.made l.notes m.notes v w st never x.shut x.chunks x.status x.notes run.faultless)))
 
   pub notes-view : IsRunning (loaded_seen files f pd o) → NotesView (loaded_seen files f pd o) (loaded_seen files f pd (Some m)) w st
   notes-view running =

@@ -68,6 +68,8 @@ pub record SourceView : Type 0 where
   pub files : Option Files
   pub faults : ℕ
   pub pendings : ℕ
+  -- where the reader stands
+  pub stands : Option (List ℕ × ℕ)
   pub loaded : Option LoadedPart
 
 abbrev pub loaded_seen : Option Files → (faults pendings : ℕ) → Option LoadedPart → BoxPicture

@@ -35,6 +35,7 @@ impl<R: FileReader> Model for CsvSource<R> {
       files = option_map files_of (R.files s.reader);
       faults = R.faults s.reader;
       pendings = R.pendings s.reader;
+      stands = R.stands s.reader;
       loaded = s.loaded;
     } };
 
@@ -68,6 +69,8 @@ impl<R: FileReader> Processor for CsvSource<R> {
     ghost use Rattle.csv_procs.specs.PartSeen.{source_seen};
 
     ghost seen = { source_seen };
+
+    ghost stands = { λ s. s.stands };
 
     fn kind(&self) -> Kind {
         Kind::Csv

@@ -36,6 +36,8 @@ impl<R: Abort + Drop + Send> Processor for Idle<R> {
       growth = None;
     } };
 
+    ghost stands = { λ p. None };
+
     fn kind(&self) -> Kind {
         Kind::Csv
     }

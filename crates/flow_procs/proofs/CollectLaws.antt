@@ -1,8 +1,9 @@
 -- A collector hands out the chunks that it pulled.
-use Rattle.std.proofs.Common.{◌≡◌, ◌≢◌, ◌⊎◌, ℕ, true, false, List, [], ◌++◌, length, is_some, OnOk, Option, Some, None, Result, Ok, Err, refl, sym, ap, subst, ◌∙◌, arith, inl, inr}
+use Rattle.std.proofs.Common.{◌≡◌, ◌≢◌, ◌⊎◌, ℕ, true, false, List, [], ◌++◌, length, drop, is_some, OnOk, Option, Some, None, Result, Ok, Err, refl, sym, ap, subst, ◌∙◌, arith, inl, inr}
 use Rattle.std.specs.List.{All}
-use Rattle.std.proofs.lemmas.Bool.{cases_eq}
-use Rattle.std.proofs.lemmas.List.{append-nil, drop_all}
+use Rattle.std.proofs.lemmas.Bool.{cases_eq, cases_lt}
+use Rattle.std.proofs.lemmas.Grind.{common_steps}
+use Rattle.std.proofs.lemmas.List.{append-nil, drop-append-le, drop_all}
 use Rattle.std.proofs.lemmas.List.Elements.{All-append}
 use Rattle.chunk_data.specs.Values.{Table}
 use Rattle.query_model.specs.Kinds.{kind_of}
@@ -19,31 +20,40 @@ use Rattle.proc_api.specs.declared.status.WorkFault.{WorkFault}
 use Rattle.proc_api.specs.Boxes.{RowCount, PortFlags, kept_input, kept_output, kept_outputs, kept_ports}
 use Rattle.proc_api.specs.Histories.{Lists, no_lists, chunk_rows, pulled_at, with_pulled, with_pushed, rows_pulled, raised, total_rows}
 use Rattle.proc_api.specs.Ports.{StaysFit, FollowsKept}
-use Rattle.proc_api.specs.Keeping.{KeepsCollect, Keeps, IsPulled, HasSize, HadPorts, HasReadEnough, AllOutputsClosed}
-use Rattle.proc_api.specs.Clauses.{HasNoReader, IsLoadRefused, IsRunning, KeepsLimits, KeepsOver, KeepsSame, Loads, MayBeReady, PreparesLawfully, PulledOn, StatusComes, StatusHolds, Works, port_flags}
+use Rattle.proc_api.specs.Keeping.{AreLastPulled, KeepsCollect, Keeps, IsPulled, HasSize, HadPorts, HasReadEnough, AllOutputsClosed}
+use Rattle.proc_api.specs.Clauses.{HasNoReader, IsLoadRefused, IsRunning, KeepsLimits, KeepsOver, KeepsSame, Loads, MayBeReady, NeedsRoom, PreparesLawfully, PulledOn, StatusComes, StatusHolds, Works, port_flags}
 use Rattle.proc_api.proofs.CallLaws.{none-pulled}
 use Rattle.proc_api.proofs.Keeping.{pulled-more, pulled-last, total-first, total-nothing, counted-more}
 use Rattle.proc_api.proofs.KeptFlags.{kept_input-of, kept_input-past, kept_output-past}
 use Rattle.proc_api.proofs.ShutPorts.{by-place}
 use Rattle.flow_procs.specs.declared.collect.LoadedCollect.{LoadedCollect}
 use Rattle.flow_procs.specs.Collecting.{HasInput, status_gathered, unworked_chunks}
-use Rattle.flow_procs.specs.CollectSeen.{CollectWorks, Gathers, IsEmpty, ShutsCollect, collect_work, loaded_seen}
-use Rattle.flow_procs.proofs.PortMoves.{shut-law}
-use Rattle.flow_procs.proofs.Through.{all-map, kept-count, last-more, outs-count}
-use Rattle.flow_procs.proofs.SameView.{had-still, finishes-still, closes-still}
-use Rattle.flow_procs.proofs.PassingCalls.{all-of-none}
-use Rattle.flow_procs.proofs.PassingBoxes.{no-reader-blank, no-reader-loaded, wrong-kind-blank}
+use Rattle.flow_procs.specs.CollectSeen.{CollectWorks, Gathers, IsEmpty, ShutsCollect, loaded_seen}
+use Rattle.proc_shell.proofs.PortMoves.{shut-law}
+use Rattle.proc_shell.proofs.KeepLaws.{all-map, kept-count, outs-count}
+use Rattle.proc_shell.proofs.SameView.{had-still, finishes-still, closes-still}
+use Rattle.proc_shell.proofs.BoxLaws.{all-of-none}
 use Rattle.flow_procs.proofs.CollectMoves.{Collects, collects}
 
 -- every chunk fits, and may be of any types
 all-true : (xs : List Table) → All (λ (t : Table). Unit {0}) xs
 all-true xs = λ k d lt. tt
 
+-- the last chunks of a longer list
+last-more : (u xs ys : List Table) → AreLastPulled u xs → AreLastPulled (u ++ ys) (xs ++ ys)
+last-more u xs ys h = elim (cases_lt (length xs) h.worked) [
+  | inl less ↦ record { worked = length xs; are = ap (λ l. l ++ ys) (h.are ∙ drop_all h.worked xs (omega (arith, less))) ∙ sym (drop-length xs ys) }
+  | inr le ↦ record { worked = h.worked; are = ap (λ l. l ++ ys) h.are ∙ sym (drop-append-le h.worked xs ys le) }
+]
+  where
+    drop-length : (xs ys : List Table) → drop (length xs) (xs ++ ys) ≡ ys
+    drop-length xs ys = grind (arith, common_steps)
+
 -- ---- load
 
 pub no-reader : (count : RowCount) (l : Option LoadedCollect) → HasNoReader (loaded_seen count l)
-no-reader count None = no-reader-blank kind.Collect count
-no-reader count (Some l) = no-reader-loaded kind.Collect spec.Collect count (collect_work l) l.notes
+no-reader count None = record { files = refl; faults = refl; pendings = refl; given = refl }
+no-reader count (Some l) = record { files = refl; faults = refl; pendings = refl; given = refl }
 
 fresh-keeps : (count : RowCount) (l : LoadedCollect) → IsEmpty l → count.since ≡ 0 → Keeps (loaded_seen count (Some l)) no_lists no_lists
 unfolding kept_output kept_input total_rows
@@ -51,8 +61,8 @@ fresh-keeps count l e c = record {
   ports = rw e.notes tt;
   idle = refl;
   rows = λ f. record { gathered = λ out. e.chunks; last = record { worked = 0; are = ap (λ u. unworked_chunks u l.chunks.items) e.unworked } };
-  types = λ f o. all-true [];
-  made_types = λ f. all-true [];
+  types = λ o. all-true [];
+  made_types = all-true [];
   sizes = λ o. all-of-none (HasSize (Some spec.Collect));
   made_sizes = all-of-none (HasSize (Some spec.Collect));
   unworked = rw e.unworked (all-of-none (λ (t : Table). IsPulled no_lists t.types));
@@ -101,7 +111,7 @@ loads count more None s l none sk e m = record {
 -- a blank collector that was given another kind's spec
 pub wrong-kind : (count : RowCount) (o : Option LoadedCollect) (s : Spec) → is_some o ≡ false → kind_of s ≢ kind.Collect → IsLoadRefused refusal.WrongKind (loaded_seen count o) s
 wrong-kind count (Some l) s none h = absurd (cc)
-wrong-kind count None s none h = wrong-kind-blank kind.Collect count s h
+wrong-kind count None s none h = (refl, h)
 
 -- a blank collector for which there was no memory
 pub refused-memory : (count : RowCount) (o : Option LoadedCollect) (s : Spec) → is_some o ≡ false → kind_of s ≡ kind.Collect → IsLoadRefused refusal.Memory (loaded_seen count o) s
@@ -168,8 +178,8 @@ module _ (n k : RowCount) (l m : LoadedCollect) (v w : Picture) (st : Status) (s
             gathered = λ out. gathered-so ∙ ap (λ y. y ++ pulled_at v w 0) (old.gathered not_out);
             last = rw unworked-so (last-more (unworked_chunks l.unworked l.chunks.items) (ins 0) (pulled_at v w 0) old.last);
           };
-      types = λ fits o. all-true (with_pushed v w outs o);
-      made_types = λ fits. all-true [];
+      types = λ o. all-true (with_pushed v w outs o);
+      made_types = all-true [];
       sizes = λ o. rw (c.nothing_pushed o, append-nil (outs o)) (kept.sizes o);
       made_sizes = all-of-none (HasSize (Some spec.Collect));
       unworked = rw unworked-so (All-append (λ (t : Table). IsPulled (with_pulled v w ins) t.types) (unworked_chunks l.unworked l.chunks.items) (pulled_at v w 0)
@@ -209,6 +219,9 @@ module _ (n k : RowCount) (l m : LoadedCollect) (v w : Picture) (st : Status) (s
     limits = limits-kept (ap (λ z. z.fault) x.notes ∙ running.faultless);
     fits = λ fit. ap (λ z. z.fits) x.notes ∙ fit.fits;
     keeps = λ fit. keeps-over one x f running.not_handed_out;
+    ends = λ some. absurd (let none = one.outs in omega (arith, some, none));
+    pushes = λ some. absurd (omega (arith, some));
+    room = λ need some. absurd (let none = (collects-so one x).outs in omega (arith, some, none));
     misfit = λ never. absurd (never (one.ins, one.outs));
   }
 
@@ -222,6 +235,9 @@ module _ (n k : RowCount) (l m : LoadedCollect) (v w : Picture) (st : Status) (s
         limits = limits-kept (ap (λ z. z.fault) x.notes ∙ running.faultless);
         fits = λ fit. absurd (never (fit-ports fit));
         keeps = λ fit. absurd (never (fit-ports fit));
+        ends = λ some all. record { answer = x.status; chunks = x.chunks };
+        pushes = λ some. absurd (omega (arith, some));
+        room = λ need some. absurd (subst NeedsRoom x.status need);
         misfit = λ none. record { answer = x.status; shut = x.shut };
       }
 
@@ -267,8 +283,8 @@ module _ (n : RowCount) (l m : LoadedCollect) (x : CollectWorks l m) where
           gathered = λ out. x.chunks ∙ old.gathered not_out;
           last = record { worked = length (ins 0); are = worked-so ∙ sym (drop_all (length (ins 0)) (ins 0) (omega arith)) };
         };
-    types = λ fits o. all-true (outs o);
-    made_types = λ fits. all-true [];
+    types = λ o. all-true (outs o);
+    made_types = all-true [];
     sizes = kept.sizes;
     made_sizes = all-of-none (HasSize (Some spec.Collect));
     unworked = rw worked-so (all-of-none (λ (t : Table). IsPulled ins t.types));

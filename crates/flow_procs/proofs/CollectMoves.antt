@@ -18,7 +18,7 @@ use Rattle.proc_api.proofs.Turns.{needing, need-turns, pull-turns, needing-leave
 use Rattle.flow_procs.specs.declared.collect.Gathering.{Gathering}
 use Rattle.flow_procs.specs.declared.collect.Gathering.TheVariants as gathering
 use Rattle.flow_procs.specs.Collecting.{chunk_list, gathering_of, given, HasInput, status_gathered, unworked_after, unworked_chunks, view_gathered}
-use Rattle.flow_procs.proofs.PortMoves.{by-cond, both-false, never-true, still-pulled, still-pushed, input-pulls-nothing, only-input, asked-waits}
+use Rattle.proc_shell.proofs.PortMoves.{by-cond, both-false, never-true, still-pulled, still-pushed, input-pulls-nothing, only-input, asked-waits}
 
 pub record Collects (g : Gathering) (u : Bool) (chunks : List Table) (v w : Picture) (s : Status) : Type 0 where
   pub changed : ChangedByCalls v w

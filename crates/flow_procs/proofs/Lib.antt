@@ -1,12 +1,3 @@
-pub mod PortMoves
-pub mod PassingLaws
-pub mod Through
-pub mod SameView
-pub mod PassingCalls
-pub mod PassingBoxes
-pub mod CollectMoves
-pub mod CollectLaws
-pub mod FilterLaws
-pub mod ExpressionLaws
-pub mod Crossing
-pub mod SeenPorts
+mod CollectMoves
+mod CollectLaws
+mod FilterLaws

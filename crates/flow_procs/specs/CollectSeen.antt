@@ -16,8 +16,8 @@ use Rattle.proc_api.specs.Clauses.{port_flags}
 use Rattle.flow_procs.specs.declared.collect.Gathering.{Gathering}
 use Rattle.flow_procs.specs.declared.collect.Collect.{Collect}
 use Rattle.flow_procs.specs.declared.collect.LoadedCollect.{LoadedCollect}
-use Rattle.flow_procs.specs.Turning.{CountsRows}
-use Rattle.flow_procs.specs.PassingSeen.{blank_seen, box_seen}
+use Rattle.proc_shell.specs.Turning.{CountsRows}
+use Rattle.proc_shell.specs.Shells.{blank_seen}
 use Rattle.flow_procs.specs.Collecting.{gathering_of, given, status_gathered, unworked_after, unworked_chunks, view_gathered}
 
 abbrev pub collect_work : LoadedCollect → WorkState
@@ -25,7 +25,18 @@ collect_work l = record idle_work { unworked = unworked_chunks l.unworked l.chun
 
 abbrev pub loaded_seen : RowCount → Option LoadedCollect → BoxPicture
 loaded_seen count None = blank_seen kind.Collect count
-loaded_seen count (Some l) = box_seen kind.Collect spec.Collect count (collect_work l) l.notes
+loaded_seen count (Some l) = record {
+  kind = kind.Collect;
+  lawful = true;
+  files = None;
+  spec = Some spec.Collect;
+  faults = 0;
+  pendings = 0;
+  pulled = count.total;
+  work = collect_work l;
+  notes = record l.notes { given = 0; faults = 0; pendings = 0; pulled = count.since };
+  growth = None;
+}
 
 abbrev pub collect_seen : Collect → BoxPicture
 collect_seen c = loaded_seen c.pulled c.loaded

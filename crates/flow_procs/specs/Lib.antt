@@ -1,10 +1,4 @@
-pub mod Turning
-pub mod Passes
-pub mod Making
-pub mod PassingSeen
-pub mod FilterSeen
-pub mod FilterWork
-pub mod ExpressionSeen
-pub mod ExpressionWork
+pub mod Filters
+pub mod Expressions
 pub mod Collecting
 pub mod CollectSeen

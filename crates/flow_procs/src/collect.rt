@@ -220,9 +220,12 @@ impl LoadedCollect {
 }
 
 impl Processor for Collect {
+    ghost use Rattle.std.specs.Prelude.{None};
     ghost use Rattle.flow_procs.specs.CollectSeen.{collect_seen};
 
     ghost seen = { collect_seen };
+
+    ghost stands = { λ c. None };
 
     fn kind(&self) -> Kind {
         Kind::Collect

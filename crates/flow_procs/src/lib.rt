@@ -4,11 +4,7 @@
 mod collect;
 mod expression;
 mod filter;
-mod passing;
-#[cfg(test)]
-mod tests;
-mod turns;
 
 pub use collect::Collect;
-pub use expression::Expression;
-pub use filter::Filter;
+pub use expression::{Evaluating, Expression};
+pub use filter::{Filter, Filtering};

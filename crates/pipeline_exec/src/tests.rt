@@ -55,6 +55,8 @@ impl Processor for Scripted {
       growth = None;
     } };
 
+    ghost stands = { λ p. None };
+
     fn kind(&self) -> Kind {
         Kind::Csv
     }
@@ -248,8 +250,8 @@ fn connect(builder: &mut GraphBuilder, from: u32, to: u32) -> Result<(), Fail>
     }
 }
 
-// Runs the boxes, of which the next is the last of the list: those of a chain have ranks that rise, and in a row of pairs
-// each second one is joined to the one before it.
+// Runs the boxes, of which the next is the last of the list: those of a chain have ranks that rise,
+// and in a row of pairs each second one is joined to the one before it.
 fn run_boxes<R: AllocGlobal>(
     rt: &R,
     boxes: Vec<Box<dyn Processor + Send>>,

@@ -12,7 +12,7 @@ use Rattle.query_model.specs.declared.processor_spec.Spec.{Spec}
 use Rattle.query_model.specs.declared.processor_spec.Spec.TheVariants as spec
 use Rattle.proc_api.specs.Boxes.{BoxPicture, kept_output}
 use Rattle.proc_api.specs.Histories.{Lists, chunk_rows, total_rows}
-use Rattle.proc_api.specs.Keeping.{Keeps, KeepsRows, KeepsThrough, KeepsPart, KeepsCollect, AllFit, FitsInput, MakesTypes, IsPulled, IsMadeOfPulled, no_table}
+use Rattle.proc_api.specs.Keeping.{Keeps, KeepsRows, KeepsThrough, KeepsPart, KeepsCollect, AllFit, FitsInput, MakesTypes, IsPulled, IsFitPulled, IsMadeOfPulled, no_table}
 use Rattle.proc_api.proofs.Keeping.{total-first}
 use Rattle.plan_laws.specs.Streams.{IsStream, OnlyFirst, HasPulled, IsPartPushed}
 
@@ -53,7 +53,7 @@ source-pushes part p ins outs e k finished =
     let fit : AllFit (Some (spec.Csv part)) ins = (λ i n d lt. tt) in
     let keeps : KeepsPart part p outs = subst (λ s. AllFit s ins → KeepsRows s p ins outs) e k.rows fit in
     let typed : All (λ (t : Table). t.types ≡ part.types) (outs 0) =
-    subst (λ s. AllFit s ins → (o : ℕ) → All (λ (t : Table). MakesTypes s ins t.types) (outs o)) e k.types fit 0 in
+    subst (λ s. (o : ℕ) → All (λ (t : Table). MakesTypes s ins t.types) (outs o)) e k.types 0 in
     let end = keeps.finished finished in
     let part_rows = keeps.fetched end.fetched in
     let out : List Row = chunk_rows (outs 0) in
@@ -93,10 +93,10 @@ pub filter-pushes : (c : Cond) (types : List ColumnType) (rows : List Row) (p : 
 filter-pushes c types rows p ins outs e typed only h k finished =
     let fit : AllFit (Some (spec.Filter c)) ins = fits-stream (spec.Filter c) types rows ins only h (λ i. typed) in
     let keeps : KeepsThrough (filter (holds c)) p ins outs = subst (λ s. AllFit s ins → KeepsRows s p ins outs) e k.rows fit in
-    let made : All (λ (t : Table). IsPulled ins t.types) (outs 0) =
-    subst (λ s. AllFit s ins → (o : ℕ) → All (λ (t : Table). MakesTypes s ins t.types) (outs o)) e k.types fit 0 in
+    let made : All (λ (t : Table). IsFitPulled c ins t.types) (outs 0) =
+    subst (λ s. (o : ℕ) → All (λ (t : Table). MakesTypes s ins t.types) (outs o)) e k.types 0 in
     record {
-      typed = λ n d lt. pulled-type types rows ins only h (get_or (outs 0) n d).types (made n d lt);
+      typed = λ n d lt. pulled-type types rows ins only h (get_or (outs 0) n d).types (made n d lt).pulled;
       rows_are = through-rows (filter (holds c)) p ins outs rows keeps refl finished h.rows_are;
     }
 
@@ -108,7 +108,7 @@ expression-pushes items types rows p ins outs e typed only h k finished =
     let fit : AllFit (Some (spec.Expression items)) ins = fits-stream (spec.Expression items) types rows ins only h (λ i. typed) in
     let keeps : KeepsThrough (map (item_row items)) p ins outs = subst (λ s. AllFit s ins → KeepsRows s p ins outs) e k.rows fit in
     let made : All (λ (t : Table). IsMadeOfPulled items ins t.types) (outs 0) =
-    subst (λ s. AllFit s ins → (o : ℕ) → All (λ (t : Table). MakesTypes s ins t.types) (outs o)) e k.types fit 0 in
+    subst (λ s. (o : ℕ) → All (λ (t : Table). MakesTypes s ins t.types) (outs o)) e k.types 0 in
     record {
       typed = λ n d lt. let m = made n d lt in m.is ∙ ap (λ z. map (λ e. type_of e z) items) (pulled-type types rows ins only h m.from m.pulled);
       rows_are = through-rows (map (item_row items)) p ins outs rows keeps refl finished h.rows_are;

@@ -53,10 +53,18 @@ collect_place (Some c) = 3
 -- How many boxes of a kind the plan of a query over one part needs.
 abbrev pub need : Checked → Kind → ℕ
 need q kind.Csv = 1
+need q kind.List = 0
+need q kind.Numbers = 0
 need q kind.Filter = cond (is_some q.filter) 1 0
 need q kind.Expression = 1
+need q kind.Resize = 0
+need q kind.PartialAggregate = 0
+need q kind.MergeAggregate = 0
+need q kind.HashJoin = 0
+need q kind.Sort = 0
+need q kind.MergeSorted = 0
+need q kind.Limit = 0
 need q kind.Collect = 1
-need q _ = 0
 
 -- ---- its run
 

@@ -1,6 +1,5 @@
 -- The view of a node is one that its box may be prepared against.
-use Rattle.std.proofs.Common.{◌≡◌, ◌≢◌, ℕ, ◌<◌, ◌≤◌, not, ◌&&◌, ◌||◌, Bool, true, false, cond, Option, Some, None, List, [], ◌∷◌, length, get_or, is_some, refl, sym, ap, subst, ◌∙◌, arith, inl, inr, ◌⊎◌}
-use Rattle.std.proofs.lemmas.Bool.{both_ways, cases_eq}
+use Rattle.std.proofs.Common.{◌≡◌, ℕ, ◌<◌, ◌≤◌, not, ◌&&◌, Bool, true, false, Option, Some, None, List, length, get_or, refl, sym, ap, subst, ◌∙◌, arith}
 use Rattle.chunk_data.specs.Values.{Table}
 use Rattle.query_model.specs.declared.processor_spec.Spec.{Spec}
 use Rattle.query_model.specs.declared.processor_spec.Spec.TheVariants as spec
@@ -16,7 +15,7 @@ use Rattle.port_word.specs.Sound.{IsSound}
 use Rattle.port_word.proofs.Laws.{input_at-with_input, input_at-with_input-other, output_at-with_output, output_at-with_output-other, output_at-with_input, input_at-with_output, in_count-with_input, out_count-with_input, in_count-with_output, out_count-with_output}
 use Rattle.proc_api.specs.Boxes.{BoxPicture, PortFlags, no_notes, kept_input, kept_output, kept_inputs, kept_outputs, kept_ports}
 use Rattle.proc_api.specs.Clauses.{port_flags}
-use Rattle.proc_api.specs.Ports.{FollowsKept, InputFollows, OutputFollows, AreAsKept, StandStill, AreCounts}
+use Rattle.proc_api.specs.Ports.{FollowsKept, InputFollows, OutputFollows, AreAsKept, StandStill}
 use Rattle.proc_api.proofs.KeptFlags.{kept_input-of, kept_output-of, kept_inputs-of, kept_outputs-of}
 use Rattle.proc_api.proofs.ShutPorts.{by-place}
 

@@ -1,5 +1,5 @@
 -- How what a box keeps goes on with what a `prepare` pulls and pushes.
-use Rattle.std.proofs.Common.{◌≡◌, ◌⊎◌, ℕ, zero, suc, ◌+◌, ◌<◌, ◌≤◌, List, [], ◌∷◌, ◌++◌, length, get_or, Option, Some, None, refl, sym, ap, subst, ◌∙◌, arith, inl, inr}
+use Rattle.std.proofs.Common.{◌≡◌, ◌⊎◌, ℕ, zero, suc, ◌+◌, ◌<◌, List, [], ◌++◌, length, Option, Some, None, refl, ap, subst, ◌∙◌, arith, inl, inr}
 use Rattle.std.specs.List.{All}
 use Rattle.std.proofs.lemmas.List.{length-append, get_or_append_left, get_or-append-add, get_or_default}
 use Rattle.std.proofs.lemmas.Grind.{flat_map-append}
@@ -8,10 +8,10 @@ use Rattle.chunk_data.specs.Values.{Table}
 use Rattle.chunk_data.specs.declared.typed_value.ColumnType.{ColumnType}
 use Rattle.query_model.specs.declared.processor_spec.Spec.{Spec}
 use Rattle.query_model.specs.declared.processor_spec.Spec.TheVariants as spec
-use Rattle.port_word.specs.Pictures.{Picture, input_at, in_count, no_input}
+use Rattle.port_word.specs.Pictures.{Picture}
 use Rattle.proc_api.specs.Boxes.{BoxPicture}
 use Rattle.proc_api.specs.Histories.{Lists, chunk_rows, pulled_at, with_pulled, total_rows, rows_pulled, raised, last_count}
-use Rattle.proc_api.specs.Keeping.{IsPulled, IsMadeOfPulled, MakesTypes, AllFit, FitsInput, no_table}
+use Rattle.proc_api.specs.Keeping.{IsPulled, MakesTypes, AllFit, FitsInput, no_table}
 use Rattle.proc_api.specs.Clauses.{PulledOn}
 
 -- ---- chunks that were pulled
@@ -29,8 +29,8 @@ makes-more None v w ins types h = tt
 makes-more (Some (spec.Csv part)) v w ins types h = h
 makes-more (Some (spec.List list)) v w ins types h = tt
 makes-more (Some (spec.Numbers n rows)) v w ins types h = tt
-makes-more (Some (spec.Filter c)) v w ins types h = pulled-more v w ins types h
-makes-more (Some (spec.Expression items)) v w ins types h = record { from = h.from; pulled = pulled-more v w ins h.from h.pulled; is = h.is }
+makes-more (Some (spec.Filter c)) v w ins types h = record { pulled = pulled-more v w ins types h.pulled; fits = h.fits }
+makes-more (Some (spec.Expression items)) v w ins types h = record { from = h.from; pulled = pulled-more v w ins h.from h.pulled; fits = h.fits; is = h.is }
 makes-more (Some spec.Resize) v w ins types h = tt
 makes-more (Some (spec.PartialAggregate groups)) v w ins types h = tt
 makes-more (Some (spec.MergeAggregate groups)) v w ins types h = tt

@@ -1,8 +1,7 @@
 -- The flags that a box keeps are those of the view that its last prepare left.
-use Rattle.std.proofs.Common.{◌≡◌, ℕ, ◌<◌, ◌≤◌, List, length, map, get_or, Option, Some, None, refl, sym, ap, ◌∙◌, arith}
+use Rattle.std.proofs.Common.{◌≡◌, ℕ, ◌<◌, ◌≤◌, length, map, get_or, Some, refl, ap, ◌∙◌}
 use Rattle.std.proofs.lemmas.List.{get_or-map, get_or_default, length-map}
 use Rattle.std.proofs.Math.ListN.{get_or-eq_default}
-use Rattle.port_word.specs.declared.flags.Flags.{Flags}
 use Rattle.port_word.specs.declared.port_view.InputPort.{InputPort}
 use Rattle.port_word.specs.Pictures.{Picture, input_at, output_at, in_count, out_count, no_flags, no_input, over_flags}
 use Rattle.proc_api.specs.Boxes.{BoxPicture, kept_input, kept_output, kept_inputs, kept_outputs, kept_ports}

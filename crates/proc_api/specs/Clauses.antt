@@ -3,14 +3,13 @@ use Rattle.std.specs.Prelude.{◌≡◌, ◌≢◌, ◌⊎◌, ℕ, ◌+◌, ◌
 use Rattle.chunk_data.specs.Values.{Table}
 use Rattle.query_model.specs.Kinds.{kind_of}
 use Rattle.query_model.specs.Database.{Files, file_bytes, part_bad_place, bad_line_in}
-use Rattle.query_model.specs.declared.places.BadPlace.{BadPlace}
 use Rattle.query_model.specs.declared.processor_spec.Kind.{Kind}
 use Rattle.query_model.specs.declared.processor_spec.Kind.TheVariants as kind
 use Rattle.query_model.specs.declared.processor_spec.PartSpec.{PartSpec}
 use Rattle.query_model.specs.declared.processor_spec.Spec.{Spec}
 use Rattle.query_model.specs.declared.processor_spec.Spec.TheVariants as spec
 use Rattle.port_word.specs.declared.port_view.InputPort.{InputPort}
-use Rattle.port_word.specs.Pictures.{Picture, input_at, output_at, in_count, out_count, is_out_finished}
+use Rattle.port_word.specs.Pictures.{Picture, out_count}
 use Rattle.port_word.specs.Status.{WaitsForData, WaitsForRoom, IsAllFinished}
 use Rattle.proc_api.specs.declared.status.Status.{Status}
 use Rattle.proc_api.specs.declared.status.Status.TheVariants as status
@@ -26,7 +25,7 @@ use Rattle.proc_api.specs.declared.growth.Growth.{Growth}
 use Rattle.proc_api.specs.Forms.{growth_form}
 use Rattle.proc_api.specs.Boxes.{BoxPicture, PortFlags, WorkState, no_notes}
 use Rattle.proc_api.specs.Histories.{Lists, no_lists, chunk_rows, with_pulled, with_pushed, rows_pulled, raised}
-use Rattle.proc_api.specs.Ports.{HasPorts, IsShut, StaysFit}
+use Rattle.proc_api.specs.Ports.{AllOutputsFinished, HasNoRoom, HasPorts, HasRoom, IsShut, SameChunks, StaysFit}
 use Rattle.proc_api.specs.Keeping.{Keeps}
 
 -- ---- what stays
@@ -201,7 +200,23 @@ pub record ShutsDown (w : Picture) (s : Status) : Type 0 where
   pub answer : s ≡ status.Finished
   pub shut : IsShut w
 
--- A prepare of a lawful box, from the view v to w. Where the view hasn't the ports of its spec and growth it shuts down.
+-- there is room where a chunk is to be fetched or made
+abbrev pub NeedsRoom : Status → Type 0
+NeedsRoom status.NeedData = ⊥
+NeedsRoom status.PortFull = ⊥
+NeedsRoom status.Ready = ⊤
+NeedsRoom status.Async = ⊤
+NeedsRoom status.ExpandPipeline = ⊥
+NeedsRoom status.Finished = ⊥
+
+-- no chunk was moved, and this was answered
+pub record EndsAtOnce (v w : Picture) (s : Status) : Type 0 where
+  pub answer : s ≡ status.Finished
+  pub chunks : SameChunks v w
+
+-- A prepare of a lawful box, from the view v to w. The outputs are looked at first: where all are finished it ends, a
+-- chunk that waits is pushed where there is room, and nothing is fetched or made where there is none. Where the view
+-- hasn't the ports of its spec and growth it shuts down.
 pub record PreparesLawfully (p : BoxPicture) (v : Picture) (q : BoxPicture) (w : Picture) (s : Status) : Type 0 where
   pub law : StatusHolds s w
   pub comes : StatusComes s q
@@ -209,6 +224,9 @@ pub record PreparesLawfully (p : BoxPicture) (v : Picture) (q : BoxPicture) (w :
   pub limits : KeepsLimits p q
   pub fits : StaysFit p v → q.notes.fits ≡ true
   pub keeps : StaysFit p v → KeepsOver p v q w
+  pub ends : 0 < out_count v → AllOutputsFinished v → EndsAtOnce v w s
+  pub pushes : 0 < length q.work.made → HasNoRoom w
+  pub room : NeedsRoom s → 0 < out_count w → HasRoom w
   pub misfit : (HasPorts p v → ⊥) → ShutsDown w s
 
 -- ---- work, schedule, expand

@@ -1,10 +1,10 @@
 -- The processor contract: what a box keeps of the chunks that it pulled and pushed, by cases on its spec.
-use Rattle.std.specs.Prelude.{◌≡◌, ◌⊎◌, ℕ, ◌+◌, ◌<◌, ◌≤◌, ◌==◌, max, cond, drop, true, false, List, [], ◌++◌, length, map, filter, slice_index_or, Option, Some, None, ⊤}
+use Rattle.std.specs.Prelude.{◌≡◌, ◌⊎◌, ℕ, ◌+◌, ◌<◌, ◌≤◌, max, drop, true, false, List, [], ◌++◌, length, map, filter, slice_index_or, Option, Some, None, ⊤}
 use Rattle.std.specs.List.{All}
 use Rattle.chunk_data.specs.Values.{Row, Table}
 use Rattle.chunk_data.specs.declared.typed_value.ColumnType.{ColumnType}
 use Rattle.query_model.specs.Expressions.{Cond, Expr, holds, type_of}
-use Rattle.query_model.specs.Answers.{item_row}
+use Rattle.query_model.specs.Answers.{item_row, enough}
 use Rattle.query_model.specs.Typing.{IsItem, IsTypedCond}
 use Rattle.query_model.specs.Parts.{part_records, good_rows, bad_place}
 use Rattle.query_model.specs.Database.{Files, file_bytes}
@@ -15,7 +15,7 @@ use Rattle.query_model.specs.declared.processor_spec.Spec.TheVariants as spec
 use Rattle.port_word.specs.Pictures.{is_in_finished}
 use Rattle.proc_api.specs.Boxes.{BoxPicture, PortFlags, WorkState, idle_work, kept_input, kept_output, kept_inputs, kept_outputs}
 use Rattle.proc_api.specs.Histories.{Lists, chunk_rows, total_rows, last_count}
-use Rattle.proc_api.specs.Ports.{ArePortsOf}
+use Rattle.proc_api.specs.Ports.{ArePortsOf, is_ended}
 
 -- ---- rows, kind by kind
 
@@ -109,17 +109,23 @@ pub record IsPulled (ins : Lists) (types : List ColumnType) : Type 0 where
   pub in_range : place < length (ins input)
   pub is : (slice_index_or (ins input) place no_table).types ≡ types
 
--- a pulled chunk has types of which the items make these
+-- a chunk of these types was pulled, and fits the condition
+pub record IsFitPulled (c : Cond) (ins : Lists) (types : List ColumnType) : Type 0 where
+  pub pulled : IsPulled ins types
+  pub fits : IsTypedCond types c
+
+-- a chunk was pulled that fits the items, of which they make these types
 pub record IsMadeOfPulled (items : List Expr) (ins : Lists) (types : List ColumnType) : Type 0 where
   pub from : List ColumnType
   pub pulled : IsPulled ins from
+  pub fits : All (IsItem from) items
   pub is : types ≡ map (λ e. type_of e from) items
 
--- Chunks of these types may be pushed: they are the types of the rows that the spec makes, or of a chunk that was pulled where rows are passed on
--- as they are. Nothing is asked yet of a kind that isn't named here.
+-- Chunks of these types may be pushed: they are the types of the rows that the spec makes, or of a chunk that was
+-- pulled and fits, where rows are passed on as they are. Nothing is asked yet of a kind that isn't named here.
 abbrev pub MakesTypes : Option Spec → Lists → List ColumnType → Type 0
 MakesTypes (Some (spec.Csv part)) ins types = types ≡ part.types
-MakesTypes (Some (spec.Filter c)) ins types = IsPulled ins types
+MakesTypes (Some (spec.Filter c)) ins types = IsFitPulled c ins types
 MakesTypes (Some (spec.Expression items)) ins types = IsMadeOfPulled items ins types
 MakesTypes _ ins types = ⊤
 
@@ -148,10 +154,6 @@ HasSize s t = (0 < length t.rows) × IsAtMost (most_rows s) (length t.rows)
 
 -- ---- ends of ports
 
--- how many rows a limit must read, at least one
-abbrev pub enough : Span → ℕ
-enough span = cond (span.count == 0) 1 (span.skip + span.count)
-
 -- a limit that has read enough
 abbrev pub HasReadEnough : Option Spec → Lists → Type 0
 HasReadEnough (Some (spec.Limit span)) ins = enough span ≤ length (chunk_rows (ins 0))
@@ -160,6 +162,10 @@ HasReadEnough _ ins = ⊥
 -- each input is finished or closed
 abbrev pub AllInputsFinished : BoxPicture → Type 0
 AllInputsFinished p = (i : ℕ) → i < kept_inputs p → is_in_finished (kept_input p i) ≡ true
+
+-- of each input the finish was seen and no data is left, whether or not it was closed besides
+abbrev pub AllInputsEnded : BoxPicture → Type 0
+AllInputsEnded p = (i : ℕ) → i < kept_inputs p → is_ended (kept_input p i) ≡ true
 
 -- there is an output, and each was finished by its consumer
 pub record AllOutputsClosed (p : BoxPicture) : Type 0 where
@@ -189,8 +195,8 @@ pub record Keeps (p : BoxPicture) (ins outs : Lists) : Type 0 where
   -- what its kind keeps, as long as each chunk that was pulled fits
   pub rows : AllFit p.spec ins → KeepsRows p.spec p ins outs
   -- the types and sizes of the chunks that were pushed, and of those that are made
-  pub types : AllFit p.spec ins → (o : ℕ) → All (λ (t : Table). MakesTypes p.spec ins t.types) (outs o)
-  pub made_types : AllFit p.spec ins → All (λ (t : Table). MakesTypes p.spec ins t.types) p.work.made
+  pub types : (o : ℕ) → All (λ (t : Table). MakesTypes p.spec ins t.types) (outs o)
+  pub made_types : All (λ (t : Table). MakesTypes p.spec ins t.types) p.work.made
   pub sizes : (o : ℕ) → All (HasSize p.spec) (outs o)
   pub made_sizes : All (HasSize p.spec) p.work.made
   -- what is not worked yet was pulled
@@ -198,6 +204,6 @@ pub record Keeps (p : BoxPicture) (ins outs : Lists) : Type 0 where
   -- the count of pulled rows rose by the rows of its inputs, or stands at its last value
   pub counted : (p.notes.pulled ≡ total_rows 32 ins) ⊎ (p.pulled ≡ last_count)
   -- an output that it finished by itself
-  pub finishes : (o : ℕ) → (kept_output p o).fin_out ≡ true → AllInputsFinished p ⊎ HasReadEnough p.spec ins
+  pub finishes : (o : ℕ) → (kept_output p o).fin_out ≡ true → AllInputsEnded p ⊎ HasReadEnough p.spec ins
   -- an input that it closed
   pub closes : (i : ℕ) → (kept_input p i).fin_in ≡ true → AllOutputsClosed p ⊎ HasReadEnough p.spec ins

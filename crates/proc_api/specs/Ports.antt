@@ -1,9 +1,9 @@
 -- The ports of a processor, by its spec and its growth, and the view that it may be prepared against.
-use Rattle.std.specs.Prelude.{◌≡◌, ℕ, ◌<◌, ◌≤◌, Bool, true, false, List, length, count_by, Option, Some, None, ⊤}
+use Rattle.std.specs.Prelude.{◌≡◌, ℕ, ◌<◌, ◌≤◌, Bool, true, false, not, ◌&&◌, length, count_by, Option, Some, None, ⊤}
 use Rattle.query_model.specs.declared.processor_spec.Spec.{Spec}
 use Rattle.query_model.specs.declared.processor_spec.Spec.TheVariants as spec
 use Rattle.port_word.specs.declared.flags.Flags.{Flags}
-use Rattle.port_word.specs.Pictures.{Picture, input_at, output_at, in_count, out_count, holds_data, is_out_finished}
+use Rattle.port_word.specs.Pictures.{Picture, input_at, output_at, in_count, out_count, holds_data, can_push, is_out_finished}
 use Rattle.port_word.specs.Differences.{ChangedByCalls}
 use Rattle.proc_api.specs.declared.growth.Who.{Who}
 use Rattle.proc_api.specs.declared.growth.Who.TheVariants.{Me, New}
@@ -88,6 +88,25 @@ pub record FollowsKept (p : BoxPicture) (v : Picture) : Type 0 where
 pub record IsShut (w : Picture) : Type 0 where
   pub inputs : (i : ℕ) → i < in_count w → (input_at w i).flags.fin_in ≡ true
   pub outputs : (o : ℕ) → o < out_count w → is_out_finished (output_at w o) ≡ true
+
+-- nothing will come any more: its producer has finished it, and no data is left
+abbrev pub is_ended : Flags → Bool
+is_ended f = f.fin_out && not f.has_data
+
+-- each output was finished, by either end
+abbrev pub AllOutputsFinished : Picture → Type 0
+AllOutputsFinished v = (o : ℕ) → o < out_count v → is_out_finished (output_at v o) ≡ true
+
+-- no output that isn't finished has room
+abbrev pub HasNoRoom : Picture → Type 0
+HasNoRoom v = (o : ℕ) → o < out_count v → is_out_finished (output_at v o) ≡ false → can_push (output_at v o) ≡ false
+
+-- there is room at an output that isn't finished
+pub record HasRoom (v : Picture) : Type 0 where
+  pub output : ℕ
+  pub in_range : output < out_count v
+  pub room : can_push (output_at v output) ≡ true
+  pub unfinished : is_out_finished (output_at v output) ≡ false
 
 -- no chunk was pulled and none was pushed
 pub record SameChunks (v w : Picture) : Type 0 where

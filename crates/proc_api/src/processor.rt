@@ -1,4 +1,4 @@
-ghost use Rattle.std.specs.Prelude.{◌≡◌, ◌⊎◌, false, Some, IsTrue, IfOk, IfErr, OnOk};
+ghost use Rattle.std.specs.Prelude.{◌≡◌, ◌≢◌, ◌⊎◌, ℕ, List, Option, false, Some, None, IsTrue, IfOk, IfErr, OnOk};
 ghost use Rattle.port_word.specs.Differences.{ChangedByCalls};
 ghost use Rattle.proc_api.specs.declared.status.Answer.TheVariants.{Prepared};
 ghost use Rattle.proc_api.specs.declared.status.Status.TheVariants.{ExpandPipeline};
@@ -19,6 +19,9 @@ use query_model::processor_spec::{Kind, Spec};
 /// `kind`, `take_rows` and `unload` may be called, and after a Collect's rows were taken only `kind` and `unload`.
 pub trait Processor: Drop + Send {
     ghost seen: { Self → BoxPicture };
+
+    /// Where its reader stands: a path, and the place in its file; none where it has no reader, or that is shut.
+    ghost stands: { Self → Option (List ℕ × ℕ) };
 
     /// The kind of processor, which never changes.
     fn kind(&self) -> Kind
@@ -85,16 +88,20 @@ pub trait Processor: Drop + Send {
         ensures counts { SameCounts (seen self.old) (seen self.new) }
         ensures notes { (seen self.new).notes ≡ (seen self.old).notes }
         ensures growth { (seen self.new).growth ≡ (seen self.old).growth }
-        ensures keeps { IsTrue (seen self.old).lawful → KeepsUnlessOut (seen self.old) (seen self.new) };
+        ensures keeps { IsTrue (seen self.old).lawful → KeepsUnlessOut (seen self.old) (seen self.new) }
+        ensures usable { (seen self.old).kind ≢ Kind.Collect → seen self.new ≡ seen self.old };
 
     /// Makes the processor blank, and shuts its reader.
     fn unload(&mut self)
-        ensures { Unloads (seen self.old) (seen self.new) };
+        ensures unloads { Unloads (seen self.old) (seen self.new) }
+        ensures shut { stands self.new ≡ None };
 }
 
 /// A box is a processor as what it holds, so that code for processors serves boxes.
 impl Processor for Box<dyn Processor + Send> {
     ghost seen = { λ b. (Processor-box b).seen b.value };
+
+    ghost stands = { λ b. (Processor-box b).stands b.value };
 
     fn kind(&self) -> Kind {
         (**self).kind()

@@ -1,7 +1,5 @@
-use Rattle.std.proofs.Common.{rules, ◌≡◌, ap, ◌∙◌, sym, ◌++◌, ◌∷◌, [], arith}
+use Rattle.std.proofs.Common.{arith}
 use Rattle.std.proofs.lemmas.Grind.{common_steps}
-use Rattle.std.proofs.lemmas.List.{take_all, length-map}
-use Rattle.port_word.specs.Pictures.{in_count}
 use Rattle.proc_api.proofs.ViewFlags.{next_input, all_inputs}
 use Rattle.proc_api.proofs.notes.copy_inputs.Goals as goal
 

@@ -1,6 +1,5 @@
-use Rattle.std.proofs.Common.{rules, ◌≡◌, ap, ◌∙◌, sym, ◌++◌, ◌∷◌, [], arith}
+use Rattle.std.proofs.Common.{arith}
 use Rattle.std.proofs.lemmas.Grind.{common_steps}
-use Rattle.port_word.specs.Pictures.{out_count}
 use Rattle.proc_api.proofs.ViewFlags.{next_output, all_outputs}
 use Rattle.proc_api.proofs.notes.copy_outputs.Goals as goal
 

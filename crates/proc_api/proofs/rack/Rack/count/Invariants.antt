@@ -1,4 +1,4 @@
-use Rattle.std.proofs.Common.{◌≡◌, ◌≤◌, map, take, count_by}
+use Rattle.std.proofs.Common.{◌≡◌, ◌≤◌, take, count_by}
 use Rattle.proc_api.specs.Racks.{is_of}
 use Rattle.proc_api.proofs.rack.Rack.count.Given as goal
 

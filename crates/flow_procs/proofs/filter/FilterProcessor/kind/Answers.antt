@@ -1,6 +1,0 @@
-use Rattle.std.proofs.Common.{inr}
-use Rattle.flow_procs.proofs.FilterLaws.{no-reader}
-use Rattle.flow_procs.proofs.filter.FilterProcessor.kind.Goals as goal
-
-pub returns-clause-reader : goal.returns-clause-reader
-returns-clause-reader c = inr (no-reader c.args.self.now.pulled c.args.self.now.loaded)

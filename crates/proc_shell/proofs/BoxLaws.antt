@@ -1,0 +1,483 @@
+-- The clauses of the calls of a shell, from what its kernel and its notes do.
+use Rattle.std.proofs.Common.{◌≡◌, ◌≢◌, ℕ, ◌<◌, Bool, true, false, List, [], ◌∷◌, ◌++◌, length, get_or, is_some, Option, Some, None, IfSome, OnOk, Result, Ok, Err, refl, sym, ap, subst, ◌∙◌, arith, inl, inr}
+use Rattle.std.specs.List.{All}
+use Rattle.std.specs.Option.{option_map}
+use Rattle.std.proofs.lemmas.Bool.{cases_eq}
+use Rattle.std.proofs.lemmas.List.{append-nil}
+use Rattle.chunk_data.specs.Values.{Row, Table}
+use Rattle.query_model.specs.Kinds.{kind_of}
+use Rattle.query_model.specs.declared.processor_spec.Kind.{Kind}
+use Rattle.query_model.specs.declared.processor_spec.Spec.{Spec}
+use Rattle.port_word.specs.Pictures.{Picture, output_at, in_count, out_count, is_out_finished}
+use Rattle.port_word.specs.Sound.{IsSound}
+use Rattle.port_word.specs.Differences.{ChangedByCalls}
+use Rattle.proc_api.specs.declared.status.Answer.{Answer}
+use Rattle.proc_api.specs.declared.status.Answer.TheVariants.{Prepared, Scheduled}
+use Rattle.proc_api.specs.declared.status.Status.{Status}
+use Rattle.proc_api.specs.declared.status.Status.TheVariants as status
+use Rattle.proc_api.specs.declared.status.LoadRefusal.TheVariants as refusal
+use Rattle.proc_api.specs.declared.status.WorkFault.{WorkFault}
+use Rattle.proc_api.specs.Boxes.{BoxPicture, RowCount, no_notes, kept_input, kept_output}
+use Rattle.proc_api.specs.Histories.{Lists, no_lists, chunk_rows, pulled_at, rows_pulled, raised, total_rows}
+use Rattle.proc_api.specs.Ports.{StaysFit, FollowsKept}
+use Rattle.proc_api.specs.Keeping.{Keeps, KeepsRows, IsWorkOf, IsAtMost, AllFit, FitsInput, MakesTypes, IsPulled, HasSize, most_rows, no_table}
+use Rattle.proc_api.specs.Clauses.{PreparesLawfully, KeepsLimits, IsLoadRefused, IsRunning, HasNoReader, Loads, MayWork, NeedsRoom, NotesView, StatusComes, StatusHolds, KeepsSame, Progresses, MayBeReady, Works}
+use Rattle.proc_api.proofs.CallLaws.{none-pulled}
+use Rattle.proc_api.proofs.Keeping.{total-first, total-nothing}
+use Rattle.proc_shell.specs.Made.{HasMade, KeepsMade}
+use Rattle.proc_shell.specs.declared.kernel.Offer.{Offer}
+use Rattle.proc_shell.specs.declared.kernel.Offer.TheVariants as offer
+use Rattle.proc_shell.specs.declared.turns.Held.{Held}
+use Rattle.proc_shell.specs.declared.turns.Held.TheVariants.{Nothing, Unworked, Made}
+use Rattle.proc_shell.specs.Turning.{held_unworked, held_made, held_option, held_rows, suits, turn_rows, status_of, view_after, HasOneEach}
+use Rattle.proc_shell.specs.Kernels.{Begins, IsPassing, OfferComes, rows_of}
+use Rattle.proc_shell.specs.Shells.{MakesHeld, OffersHeld, PartWorks, Passes, ShellPart, ShutsPart, TakesHeld, WorksHeld, part_seen, part_work, shell_seen}
+use Rattle.proc_shell.proofs.PortMoves.{never-true, shut-law}
+use Rattle.proc_shell.proofs.TurnLaws.{Moves, moves}
+use Rattle.proc_shell.proofs.SameView.{same-output, had-still, finishes-still, closes-still}
+use Rattle.proc_shell.proofs.KeepLaws.{Goes, through, keeps-over}
+
+pub all-of-none : (P : Table → Type 0) → All P []
+all-of-none P = λ k d lt. absurd (omega arith)
+
+all-of-one : (P : Table → Type 0) (t : Table) → P t → All P (t ∷ [])
+all-of-one P t p = λ k d lt. let z : k ≡ 0 = omega (arith, lt) in subst (λ n. P (get_or (t ∷ []) n d)) (sym z) p
+
+-- ---- a chunk that can be pushed
+
+held-rows : (o : Option Table) → chunk_rows (held_made (held_option o)) ≡ rows_of o
+held-rows None = refl
+held-rows (Some t) = go t.rows refl
+  where
+    go : (rows : List Row) → rows ≡ t.rows → chunk_rows (held_made (held_rows rows t)) ≡ t.rows
+    go [] e = e
+    go (row ∷ rows) e = append-nil t.rows
+
+held-worked : (o : Option Table) → held_unworked (held_option o) ≡ []
+held-worked None = refl
+held-worked (Some t) = go t.rows
+  where
+    go : (rows : List Row) → held_unworked (held_rows rows t) ≡ []
+    go [] = refl
+    go (row ∷ rows) = refl
+
+held-all : (P : Table → Type 0) (o : Option Table) → IfSome o (λ (t : Table). 0 < length t.rows → P t) → All P (held_made (held_option o))
+held-all P None h = all-of-none P
+held-all P (Some t) h = go t.rows refl
+  where
+    go : (rows : List Row) → rows ≡ t.rows → All P (held_made (held_rows rows t))
+    go [] e = all-of-none P
+    go (row ∷ rows) e = all-of-one P t (h (let l = ap length e in omega (arith, l)))
+
+each-some : (P Q : Table → Type 0) (o : Option Table) → ((t : Table) → P t → Q t) → IfSome o P → IfSome o Q
+each-some P Q None f h = tt
+each-some P Q (Some t) f h = f t h
+
+-- ---- where `work` may be called
+
+pub suits-nothing : (a : Option Answer) (b : Bool) (h : Held) → suits a b h ≡ true → suits a b Nothing ≡ true
+suits-nothing None b h e = refl
+suits-nothing (Some (Prepared status.NeedData)) b h e = refl
+suits-nothing (Some (Prepared status.PortFull)) b h e = refl
+suits-nothing (Some (Prepared status.Ready)) true h e = refl
+suits-nothing (Some (Prepared status.Ready)) false h e = refl
+suits-nothing (Some (Prepared status.Async)) b h e = refl
+suits-nothing (Some (Prepared status.ExpandPipeline)) b h e = refl
+suits-nothing (Some (Prepared status.Finished)) b h e = refl
+suits-nothing (Some (Scheduled wake)) b h e = absurd (cc)
+
+pub suits-acted : (a : Option Answer) (b : Bool) (h k : Held) → suits a b h ≡ true → suits a true k ≡ true
+suits-acted None b h k e = refl
+suits-acted (Some (Prepared status.NeedData)) b h k e = refl
+suits-acted (Some (Prepared status.PortFull)) b h k e = refl
+suits-acted (Some (Prepared status.Ready)) b h k e = refl
+suits-acted (Some (Prepared status.Async)) b h k e = refl
+suits-acted (Some (Prepared status.ExpandPipeline)) b h k e = refl
+suits-acted (Some (Prepared status.Finished)) b h k e = refl
+suits-acted (Some (Scheduled wake)) b h k e = absurd (cc)
+
+pub suits-work : (a : Option Answer) (b : Bool) (t : Table) → suits a b (Made t) ≡ true → MayWork a → b ≡ false → ⊥
+suits-work None b t e m f = m
+suits-work (Some (Prepared status.NeedData)) b t e m f = m
+suits-work (Some (Prepared status.PortFull)) b t e m f = m
+suits-work (Some (Prepared status.Ready)) true t e m f = absurd (cc)
+suits-work (Some (Prepared status.Ready)) false t e m f = absurd (cc)
+suits-work (Some (Prepared status.Async)) b t e m f = m
+suits-work (Some (Prepared status.ExpandPipeline)) b t e m f = m
+suits-work (Some (Prepared status.Finished)) b t e m f = m
+suits-work (Some (Scheduled wake)) b t e m f = absurd (cc)
+
+-- ---- load
+
+pub none-mapped : {A : Type 0} {B : Type 0} (f : A → B) (o : Option A) → is_some o ≡ false → is_some (option_map f o) ≡ false
+none-mapped f None e = e
+none-mapped f (Some x) e = absurd (cc)
+
+pub no-reader : (k : Kind) (count : RowCount) (o : Option ShellPart) → HasNoReader (shell_seen k count o)
+no-reader k count None = record { files = refl; faults = refl; pendings = refl; given = refl }
+no-reader k count (Some p) = record { files = refl; faults = refl; pendings = refl; given = refl }
+
+pub kind-seen : (k : Kind) (count : RowCount) (o : Option ShellPart) → k ≡ (shell_seen k count o).kind
+kind-seen k count None = refl
+kind-seen k count (Some p) = refl
+
+-- a blank box that was given another kind's spec, or a spec of its kind
+pub wrong-kind : (k : Kind) (count : RowCount) (o : Option ShellPart) (s : Spec) → is_some o ≡ false → kind_of s ≢ k → IsLoadRefused refusal.WrongKind (shell_seen k count o) s
+wrong-kind k count (Some p) s none h = absurd (cc)
+wrong-kind k count None s none h = (refl, h)
+
+pub no-memory : (k : Kind) (count : RowCount) (o : Option ShellPart) (s : Spec) → is_some o ≡ false → kind_of s ≡ k → IsLoadRefused refusal.Memory (shell_seen k count o) s
+no-memory k count (Some p) s none h = absurd (cc)
+no-memory k count None s none h = (refl, h)
+
+fresh-keeps : (k : Kind) (count : RowCount) (p : ShellPart) → IsPassing p.spec → IsWorkOf (Some p.spec) (part_work p) → HasMade p.spec p.own [] [] → p.held ≡ Nothing → p.notes ≡ no_notes → count.since ≡ 0
+    → Keeps (part_seen k count p) no_lists no_lists
+unfolding kept_output kept_input total_rows
+fresh-keeps k count p passing uses made e n c = record {
+  ports = rw n tt;
+  idle = uses;
+  rows = λ f. passing.into (part_seen k count p) no_lists no_lists (record {
+    worked = [];
+    ins_are = sym (ap held_unworked e);
+    rows = rw e made;
+    nothing_waits = λ fin. ap held_made e;
+    all_worked = λ fin. ap held_unworked e;
+    all_made = λ fin. let f : false ≡ true = rw n at fin in absurd (cc);
+  });
+  types = λ o. all-of-none (λ (t : Table). MakesTypes (Some p.spec) no_lists t.types);
+  made_types = rw e (all-of-none (λ (t : Table). MakesTypes (Some p.spec) no_lists t.types));
+  sizes = λ o. all-of-none (HasSize (Some p.spec));
+  made_sizes = rw e (all-of-none (HasSize (Some p.spec)));
+  unworked = rw e (all-of-none (λ (t : Table). IsPulled no_lists t.types));
+  counted = inl c;
+  finishes = λ o fin. let f : false ≡ true = rw n at fin in absurd (cc);
+  closes = λ i fin. let f : false ≡ true = rw n at fin in absurd (cc);
+}
+
+-- a blank shell that was loaded
+pub loads : (k : Kind) (count more : RowCount) (o : Option ShellPart) (s : Spec) (p : ShellPart) → is_some o ≡ false → IsPassing p.spec → IsWorkOf (Some p.spec) (part_work p) → kind_of s ≡ k → Begins s p.spec p.own → p.held ≡ Nothing → p.notes ≡ no_notes
+    → more ≡ record { total = count.total; since = 0 } → Loads (shell_seen k count o) s (part_seen k more p)
+loads k count more (Some x) s p none passing uses sk b h n m = absurd (cc)
+loads k count more None s p none passing uses sk b h n m =
+    let since : more.since ≡ 0 = ap (λ x. x.since) m in
+    record {
+      was_blank = refl;
+      of_kind = sk;
+      kind = refl;
+      lawful = refl;
+      files = refl;
+      spec = ap Some b.spec;
+      counts = record { faults = refl; pendings = refl; pulled = ap (λ x. x.total) m };
+      fresh = record {
+        loaded = refl;
+        of_kind = ap kind_of b.spec ∙ sk;
+        notes = rw (n, since) refl;
+        ungrown = refl;
+        not_handed_out = refl;
+        keeps = λ l. fresh-keeps k more p passing uses (subst (λ z. HasMade z p.own [] []) (sym b.spec) b.nothing) h n since;
+      };
+    }
+
+-- ---- prepare
+
+module _ (k : Kind) (p q : ShellPart) (passing : IsPassing p.spec) (uses : IsWorkOf (Some p.spec) (part_work q)) (n m : RowCount) (v w : Picture) (st : Status) (sound : IsSound v) where
+  moves-so : HasOneEach v → (x : Passes p v n q w m st) → Moves x.offer p.held q.held v w st (turn_rows x.turn q.held)
+  moves-so one x =
+      let a = moves x.offer v one sound p.held x.turn x.due in
+      let A : Held → Type 0 = λ h. Moves x.offer p.held h v (view_after x.turn p.held v) (status_of x.turn) (turn_rows x.turn h) in
+      let B : Picture → Type 0 = λ u. Moves x.offer p.held q.held v u (status_of x.turn) (turn_rows x.turn q.held) in
+      let C : Status → Type 0 = λ t. Moves x.offer p.held q.held v w t (turn_rows x.turn q.held) in
+      subst C (sym x.status) (subst B (sym x.view) (subst A (sym x.held) a))
+
+  rows-so : (o : Offer) (rows : ℕ) → Moves o p.held q.held v w st rows → rows ≡ rows_pulled v w
+  rows-so o rows x = x.rows_are ∙ sym (total-first 31 (pulled_at v w) x.other_pulled)
+
+  goes : HasOneEach v → (x : Passes p v n q w m st) → FollowsKept (part_seen k n p) v → Goes p.spec (part_seen k n p) (part_seen k m q) v w x.offer p.own q.own p.held q.held st (turn_rows x.turn q.held)
+  goes one x f =
+      let a = moves-so one x in
+      let t = x.counts.total in
+      record {
+        spec = refl;
+        spec_stays = ap Some x.spec;
+        before = refl;
+        after = refl;
+        offers = x.offers;
+        moves = a;
+        view = ap (λ z. z.view) x.notes;
+        pulled_on = record { count = x.counts.grows; since = x.counts.since };
+        pulled = t ∙ ap (raised n.total) (rows-so x.offer (turn_rows x.turn q.held) a);
+        follows = f;
+        one = one;
+      }
+
+  fit-ports : StaysFit (part_seen k n p) v → HasOneEach v
+  fit-ports fit = let a = passing.ports_of None (in_count v) (out_count v) fit.ports in record { ins = a.0; outs = a.1 }
+
+  limits-kept : q.notes.fault ≡ None → KeepsLimits (part_seen k n p) (part_seen k m q)
+  limits-kept e = record {
+    pendings = λ lt. rw e lt;
+    given = λ le. rw e le;
+    opened = λ f. f;
+    fetched = λ f. f;
+  }
+
+  -- the kernel can make rows
+  can-make : (o : Offer) (h : Held) → h ≡ Nothing → o ≡ offer.Rows → (f : Bool) → OffersHeld p.spec h f p.own q.own o → 0 < length q.own.unmade
+  can-make o Nothing e z f x = subst (λ y. OfferComes y p.spec f q.own) z x.comes
+  can-make o (Unworked c) e z f x = absurd (cc)
+  can-make o (Made c) e z f x = absurd (cc)
+
+  may-come : (x : Passes p v n q w m st) → Moves x.offer p.held q.held v w st (turn_rows x.turn q.held) → (u : Status) → st ≡ u → StatusComes u (part_seen k m q)
+  may-come x y status.NeedData e = tt
+  may-come x y status.PortFull e = tt
+  may-come x y status.Ready e = elim (y.comes e) [ inl some ↦ inl some | inr z ↦ inr (inl (can-make x.offer p.held z.0 z.2 _ x.offers)) ]
+  may-come x y status.Async e = absurd (y.no_wait e)
+  may-come x y status.ExpandPipeline e = absurd (y.no_growth e)
+  may-come x y status.Finished e = tt
+
+  prepares-fit : HasOneEach v → Passes p v n q w m st → FollowsKept (part_seen k n p) v → p.notes.fault ≡ None → PreparesLawfully (part_seen k n p) v (part_seen k m q) w st
+  prepares-fit one x f faultless =
+      let g = goes one x f in
+      record {
+        law = g.moves.law;
+        comes = may-come x g.moves st refl;
+        pulled = g.pulled;
+        limits = limits-kept (ap (λ z. z.fault) x.notes ∙ faultless);
+        fits = λ fit. ap (λ z. z.fits) x.notes ∙ fit.fits;
+        keeps = λ fit ins outs kept.
+            let idle : IsWorkOf (Some p.spec) (part_work p) = kept.idle in
+            keeps-over p.spec passing (part_seen k n p) (part_seen k m q) v w x.offer p.own q.own p.held q.held st (turn_rows x.turn q.held) g ins outs uses
+            (λ rows. passing.into (part_seen k m q) _ _ (through p.spec passing (part_seen k n p) (part_seen k m q) v w x.offer p.own q.own p.held q.held st (turn_rows x.turn q.held) g ins outs (passing.from (part_seen k n p) ins outs idle rows))) kept;
+        ends = λ some all. g.moves.at_once all;
+        pushes = g.moves.waits;
+        room = λ need some. g.moves.room need;
+        misfit = λ never. absurd (never (passing.ports None (in_count v) (out_count v) (one.ins, one.outs)));
+      }
+
+  prepares-misfit : (HasOneEach v → ⊥) → ShutsPart p v n q w m st → p.notes.fault ≡ None → PreparesLawfully (part_seen k n p) v (part_seen k m q) w st
+  prepares-misfit never x faultless =
+      let nothing = total-nothing 32 (pulled_at v w) (λ i. none-pulled v w i (x.chunks.inputs i)) in
+      record {
+        law = subst (λ t. StatusHolds t w) (sym x.status) (shut-law w x.shut);
+        comes = subst (λ t. StatusComes t (part_seen k m q)) (sym x.status) tt;
+        pulled = x.counts.total ∙ ap (raised n.total) (sym nothing);
+        limits = limits-kept (ap (λ z. z.fault) x.notes ∙ faultless);
+        fits = λ fit. absurd (never (fit-ports fit));
+        keeps = λ fit. absurd (never (fit-ports fit));
+        ends = λ some all. record { answer = x.status; chunks = x.chunks };
+        pushes = λ some o lt n. never-true (is_out_finished (output_at w o)) n (x.shut.outputs o lt);
+        room = λ need some. absurd (subst NeedsRoom x.status need);
+        misfit = λ none. record { answer = x.status; shut = x.shut };
+      }
+
+  by-ports : (X : Type 0) → (HasOneEach v → X) → ((HasOneEach v → ⊥) → X) → X
+  by-ports X on_one never = elim (cases_eq (in_count v) 1) [
+    | inl a ↦ elim (cases_eq (out_count v) 1) [ inl b ↦ on_one (record { ins = a; outs = b }) | inr b ↦ never (λ one. b one.outs) ]
+    | inr a ↦ never (λ one. a one.ins)
+  ]
+
+  prepares-part : (HasOneEach v → Passes p v n q w m st) → ((HasOneEach v → ⊥) → ShutsPart p v n q w m st) → FollowsKept (part_seen k n p) v → p.notes.fault ≡ None
+      → PreparesLawfully (part_seen k n p) v (part_seen k m q) w st
+  prepares-part fit misfit f faultless = by-ports (PreparesLawfully (part_seen k n p) v (part_seen k m q) w st) (λ one. prepares-fit one (fit one) f faultless) (λ never. prepares-misfit never (misfit never) faultless)
+
+  -- a prepare of a loaded shell
+  pub prepares : (o : Option ShellPart) → o ≡ Some p → (HasOneEach v → Passes p v n q w m st) → ((HasOneEach v → ⊥) → ShutsPart p v n q w m st) → IsRunning (shell_seen k n o) → FollowsKept (shell_seen k n o) v
+      → PreparesLawfully (shell_seen k n o) v (part_seen k m q) w st
+  prepares o e fit misfit =
+      let P : Option ShellPart → Type 0 = λ x. IsRunning (shell_seen k n x) → FollowsKept (shell_seen k n x) v → PreparesLawfully (shell_seen k n x) v (part_seen k m q) w st in
+      subst P (sym e) (λ run f. prepares-part fit misfit f run.faultless)
+
+  pub changes : (HasOneEach v → Passes p v n q w m st) → ((HasOneEach v → ⊥) → ShutsPart p v n q w m st) → ChangedByCalls v w
+  changes fit misfit = by-ports (ChangedByCalls v w) (λ one. (moves-so one (fit one)).changed) (λ never. (misfit never).changed)
+
+  notes-part : (HasOneEach v → Passes p v n q w m st) → ((HasOneEach v → ⊥) → ShutsPart p v n q w m st) → p.notes.fault ≡ None → NotesView (part_seen k n p) (part_seen k m q) w st
+  notes-part fit misfit faultless = by-ports (NotesView (part_seen k n p) (part_seen k m q) w st)
+      (λ one. let x = fit one in record {
+        view = ap (λ z. z.view) x.notes;
+        answer = ap (λ z. z.answer) x.notes;
+        not_acted = ap (λ z. z.acted) x.notes;
+        growth = refl;
+        faultless = ap (λ z. z.fault) x.notes ∙ faultless;
+        not_handed_out = refl;
+      })
+      (λ never. let x = misfit never in record {
+        view = ap (λ z. z.view) x.notes;
+        answer = ap (λ z. z.answer) x.notes;
+        not_acted = ap (λ z. z.acted) x.notes;
+        growth = refl;
+        faultless = ap (λ z. z.fault) x.notes ∙ faultless;
+        not_handed_out = refl;
+      })
+
+  pub notes-view : (o : Option ShellPart) → o ≡ Some p → (HasOneEach v → Passes p v n q w m st) → ((HasOneEach v → ⊥) → ShutsPart p v n q w m st) → IsRunning (shell_seen k n o) → NotesView (shell_seen k n o) (part_seen k m q) w st
+  notes-view o e fit misfit =
+      let A : Option ShellPart → Type 0 = λ x. IsRunning (shell_seen k n x) → NotesView (shell_seen k n x) (part_seen k m q) w st in
+      subst A (sym e) (λ run. notes-part fit misfit run.faultless)
+
+-- ---- work
+
+module _ (k : Kind) (count : RowCount) (p q : ShellPart) (passing : IsPassing p.spec) (uses : IsWorkOf (Some p.spec) (part_work q)) (x : PartWorks p q) where
+  abbrev P : BoxPicture
+  P = part_seen k count p
+
+  abbrev Q : BoxPicture
+  Q = part_seen k count q
+
+  same-spec : Some q.spec ≡ Some p.spec
+  same-spec = ap Some x.spec
+
+  same-view : q.notes.view ≡ p.notes.view
+  same-view = ap (λ n. n.view) x.notes
+
+  fin-before : (kept_output Q 0).fin_out ≡ true → (kept_output P 0).fin_out ≡ true
+  fin-before e = ap (λ g. g.fin_out) (sym (same-output P Q same-view same-spec refl 0)) ∙ e
+
+  -- a chunk that was pulled fits where all that were pulled fit
+  fits-pulled : (ins : Lists) (t : Table) → AllFit (Some p.spec) ins → IsPulled ins t.types → FitsInput (Some p.spec) 0 t.types
+  fits-pulled ins t f y = passing.any_input y.input t.types (subst (λ types. FitsInput (Some p.spec) y.input types) y.is (f y.input y.place no_table y.in_range))
+
+  none-of-one : {A : Type 0} {B : Type 0} {y : A} {ys : List A} → y ∷ ys ≡ [] → B
+  none-of-one z = absurd (cc)
+
+  -- nothing was held, and rows were made
+  makes-so : (ins outs : Lists) → p.held ≡ Nothing → MakesHeld p.spec p.own q.own q.held → KeepsMade p.spec P ins outs → KeepsMade p.spec Q ins outs
+  makes-so ins outs e y t =
+      let none : held_unworked p.held ≡ [] = ap held_unworked e in
+      let left : held_unworked q.held ≡ [] = ap held_unworked y.held ∙ held-worked y.out in
+      let made : chunk_rows (held_made q.held) ≡ rows_of y.out = ap (λ h. chunk_rows (held_made h)) y.held ∙ held-rows y.out in
+      let over : (kept_output Q 0).fin_out ≡ true → (q.own ≡ p.own) × (y.out ≡ None) = λ fin. y.makes.nothing (t.all_made (fin-before fin)) in
+      record {
+        worked = t.worked;
+        ins_are = t.ins_are ∙ ap (λ l. t.worked ++ l) (none ∙ sym left);
+        rows =
+            let old : HasMade p.spec p.own t.worked (chunk_rows (outs 0)) = subst (HasMade p.spec p.own t.worked) (ap (λ h. chunk_rows (outs 0) ++ chunk_rows (held_made h)) e ∙ append-nil (chunk_rows (outs 0))) t.rows in
+            subst (HasMade p.spec q.own t.worked) (ap (λ l. chunk_rows (outs 0) ++ l) (sym made)) (y.makes.means t.worked (chunk_rows (outs 0)) old);
+        nothing_waits = λ fin. ap held_made (y.held ∙ ap held_option (over fin).1);
+        all_worked = λ fin. left;
+        all_made = λ fin. ap (λ z. z.unmade) (over fin).0 ∙ t.all_made (fin-before fin);
+      }
+
+  -- the chunk was worked
+  takes-so : (ins outs : Lists) (c : Table) → p.held ≡ Unworked c → TakesHeld p.spec p.own c q.own q.held → FitsInput (Some p.spec) 0 c.types → KeepsMade p.spec P ins outs → KeepsMade p.spec Q ins outs
+  takes-so ins outs c e y fits t =
+      let one : held_unworked p.held ≡ c ∷ [] = ap held_unworked e in
+      let left : held_unworked q.held ≡ [] = ap held_unworked y.held ∙ held-worked y.out in
+      let made : chunk_rows (held_made q.held) ≡ rows_of y.out = ap (λ h. chunk_rows (held_made h)) y.held ∙ held-rows y.out in
+      record {
+        worked = t.worked ++ c ∷ [];
+        ins_are = t.ins_are ∙ ap (λ l. t.worked ++ l) one ∙ sym (append-nil (t.worked ++ c ∷ [])) ∙ ap (λ l. (t.worked ++ c ∷ []) ++ l) (sym left);
+        rows =
+            let old : HasMade p.spec p.own t.worked (chunk_rows (outs 0)) = subst (HasMade p.spec p.own t.worked) (ap (λ h. chunk_rows (outs 0) ++ chunk_rows (held_made h)) e ∙ append-nil (chunk_rows (outs 0))) t.rows in
+            subst (HasMade p.spec q.own (t.worked ++ c ∷ [])) (ap (λ l. chunk_rows (outs 0) ++ l) (sym made)) (y.takes.means fits t.worked (chunk_rows (outs 0)) old);
+        nothing_waits = λ fin. none-of-one (sym one ∙ t.all_worked (fin-before fin));
+        all_worked = λ fin. left;
+        all_made = λ fin. none-of-one (sym one ∙ t.all_worked (fin-before fin));
+      }
+
+  -- a chunk waits already
+  stays-so : (ins outs : Lists) → q.own ≡ p.own → q.held ≡ p.held → KeepsMade p.spec P ins outs → KeepsMade p.spec Q ins outs
+  stays-so ins outs e f t = record {
+    worked = t.worked;
+    ins_are = t.ins_are ∙ ap (λ h. t.worked ++ held_unworked h) (sym f);
+    rows =
+        subst (λ z. HasMade p.spec z t.worked (chunk_rows (outs 0) ++ chunk_rows (held_made q.held))) (sym e)
+        (subst (λ h. HasMade p.spec p.own t.worked (chunk_rows (outs 0) ++ chunk_rows (held_made h))) (sym f) t.rows);
+    nothing_waits = λ fin. ap held_made f ∙ t.nothing_waits (fin-before fin);
+    all_worked = λ fin. ap held_unworked f ∙ t.all_worked (fin-before fin);
+    all_made = λ fin. ap (λ z. z.unmade) e ∙ t.all_made (fin-before fin);
+  }
+
+  by-held : (X : Type 0) → (p.held ≡ Nothing → MakesHeld p.spec p.own q.own q.held → X) → ((c : Table) → p.held ≡ Unworked c → TakesHeld p.spec p.own c q.own q.held → X) → ((c : Table) → p.held ≡ Made c → q.own ≡ p.own → q.held ≡ Made c → X) → X
+  by-held X on_nothing on_unworked on_made = go p.held refl x.works
+    where
+      go : (h : Held) → p.held ≡ h → WorksHeld p.spec p.own h q.own q.held → X
+      go Nothing e y = on_nothing e y
+      go (Unworked c) e y = on_unworked c e y
+      go (Made c) e y = on_made c e y.0 y.1
+
+  pulled-one : (ins : Lists) (c : Table) → p.held ≡ Unworked c → All (λ (z : Table). IsPulled ins z.types) (held_unworked p.held) → IsPulled ins c.types
+  pulled-one ins c e y = (subst (λ h. All (λ (z : Table). IsPulled ins z.types) (held_unworked h)) e y) 0 no_table (omega arith)
+
+  all-held : (R : Table → Type 0) (o : Option Table) → q.held ≡ held_option o → IfSome o (λ (t : Table). 0 < length t.rows → R t) → All R (held_made q.held)
+  all-held R o e f = subst (λ h. All R (held_made h)) (sym e) (held-all R o f)
+
+  works-rows : (ins outs : Lists) → AllFit (Some p.spec) ins → All (λ (z : Table). IsPulled ins z.types) (held_unworked p.held) → KeepsMade p.spec P ins outs → KeepsMade p.spec Q ins outs
+  works-rows ins outs fit pulled t = by-held (KeepsMade p.spec Q ins outs)
+      (λ e y. makes-so ins outs e y t)
+      (λ c e y. takes-so ins outs c e y (fits-pulled ins c fit (pulled-one ins c e pulled)) t)
+      (λ c e y z. stays-so ins outs y (z ∙ sym e) t)
+
+  keeps-work : KeepsSame P Q
+  keeps-work ins outs kept = record {
+    ports = had-still P Q same-view same-spec refl kept.ports;
+    idle = subst (λ z. IsWorkOf z (part_work q)) (sym same-spec) uses;
+    rows = λ f.
+        let fit : AllFit (Some p.spec) ins = subst (λ z. AllFit z ins) same-spec f in
+        subst (λ z. KeepsRows z Q ins outs) (sym same-spec) (passing.into Q ins outs (works-rows ins outs fit kept.unworked (passing.from P ins outs kept.idle (kept.rows fit))));
+    types = subst (λ z. (o : ℕ) → All (λ (t : Table). MakesTypes z ins t.types) (outs o)) (sym same-spec) kept.types;
+    made_types =
+        let R : Table → Type 0 = λ t. MakesTypes (Some p.spec) ins t.types in
+        subst (λ z. All (λ (t : Table). MakesTypes z ins t.types) (held_made q.held)) (sym same-spec) (by-held (All R (held_made q.held))
+        (λ e y. all-held R y.out y.held (each-some R (λ t. 0 < length t.rows → R t) y.out (λ t r some. r) (y.makes.types ins)))
+        (λ c e y. all-held R y.out y.held (each-some R (λ t. 0 < length t.rows → R t) y.out (λ t r some. r) (y.takes.types ins (pulled-one ins c e kept.unworked))))
+        (λ c e y z. subst (λ h. All R (held_made h)) (e ∙ sym z) kept.made_types));
+    sizes = λ o. subst (λ z. All (HasSize z) (outs o)) (sym same-spec) (kept.sizes o);
+    made_sizes =
+        let R : Table → Type 0 = HasSize (Some p.spec) in
+        let M : Table → Type 0 = λ t. IsAtMost (most_rows (Some p.spec)) (length t.rows) in
+        subst (λ z. All (HasSize z) (held_made q.held)) (sym same-spec) (by-held (All R (held_made q.held))
+        (λ e y. all-held R y.out y.held (each-some M (λ t. 0 < length t.rows → R t) y.out (λ t r some. (some, r)) y.makes.sizes))
+        (λ c e y. all-held R y.out y.held (each-some M (λ t. 0 < length t.rows → R t) y.out (λ t r some. (some, r)) y.takes.sizes))
+        (λ c e y z. subst (λ h. All R (held_made h)) (e ∙ sym z) kept.made_sizes));
+    unworked =
+        let U : Held → Type 0 = λ h. All (λ (z : Table). IsPulled ins z.types) (held_unworked h) in
+        let none : held_unworked q.held ≡ [] → U q.held = λ e. subst (λ l. All (λ (z : Table). IsPulled ins z.types) l) (sym e) (all-of-none (λ (z : Table). IsPulled ins z.types)) in
+        by-held (U q.held)
+        (λ e y. none (ap held_unworked y.held ∙ held-worked y.out))
+        (λ c e y. none (ap held_unworked y.held ∙ held-worked y.out))
+        (λ c e y z. subst U (e ∙ sym z) kept.unworked);
+    counted = kept.counted;
+    finishes = λ o. finishes-still P Q same-view same-spec refl ins o (kept.finishes o);
+    closes = λ i. closes-still P Q same-view same-spec refl ins i (kept.closes i);
+  }
+
+  not-ready : held_unworked q.held ≡ [] → q.own.unmade ≡ [] → MayBeReady Q → ⊥
+  not-ready e f r = elim r [
+    | inl some ↦ let l = ap length e in omega (arith, l, some)
+    | inr other ↦ elim other [
+      | inl unmade ↦ let l = ap length f in omega (arith, l, unmade)
+      | inr bad ↦ let b : true ≡ false = sym bad.1 in absurd (cc)
+    ]
+  ]
+
+  progresses : ((c : Table) → p.held ≡ Made c → ⊥) → Progresses P Q
+  progresses never = by-held (Progresses P Q)
+      (λ e y.
+      let made : length (chunk_rows (held_made q.held)) ≡ length (rows_of y.out) = ap (λ h. length (chunk_rows (held_made h))) y.held ∙ ap length (held-rows y.out) in
+      let none : length (chunk_rows (held_made p.held)) ≡ 0 = ap (λ h. length (chunk_rows (held_made h))) e in
+      elim y.makes.progress [
+        | inl some ↦ inr (inl (omega (arith, made, none, some)))
+        | inr over ↦ inr (inr (not-ready (ap held_unworked y.held ∙ held-worked y.out) over))
+      ])
+      (λ c e y.
+      let one : length (held_unworked p.held) ≡ 1 = ap (λ h. length (held_unworked h)) e in
+      let left : length (held_unworked q.held) ≡ 0 = ap (λ h. length (held_unworked h)) y.held ∙ ap length (held-worked y.out) in
+      inl (omega (arith, one, left)))
+      (λ c e y z. absurd (never c e))
+
+  works-part : p.notes.fault ≡ None → ((c : Table) → p.held ≡ Made c → ⊥) → Works P Q
+  works-part faultless never = record {
+    same = record { view = same-view; fits = ap (λ n. n.fits) x.notes; answer = ap (λ n. n.answer) x.notes; growth = refl; not_handed_out = refl };
+    acted = ap (λ n. n.acted) x.notes;
+    faultless = ap (λ n. n.fault) x.notes ∙ faultless;
+    keeps = λ lawful. keeps-work;
+    progresses = λ lawful. progresses never;
+  }
+
+-- a work of a loaded shell
+pub works : (k : Kind) (count : RowCount) (o : Option ShellPart) (p q : ShellPart) (r : Result (Unit {0}) WorkFault) → IsPassing p.spec → IsWorkOf (Some p.spec) (part_work q) → o ≡ Some p → suits p.notes.answer p.notes.acted p.held ≡ true
+    → IsRunning (shell_seen k count o) → MayWork (shell_seen k count o).notes.answer → (shell_seen k count o).notes.acted ≡ false → OnOk r (PartWorks p q) → OnOk r (Works (shell_seen k count o) (part_seen k count q))
+works k count o p q (Err f) passing uses e suiting run ready once w = tt
+works k count o p q (Ok u) passing uses e suiting run ready once w =
+    let A : Option ShellPart → Type 0 = λ z. IsRunning (shell_seen k count z) → MayWork (shell_seen k count z).notes.answer → (shell_seen k count z).notes.acted ≡ false → Works (shell_seen k count z) (part_seen k count q) in
+    subst A (sym e) (λ run ready once. works-part k count p q passing uses w run.faultless (λ c h. suits-work p.notes.answer p.notes.acted c (subst (λ z. suits p.notes.answer p.notes.acted z ≡ true) h suiting) ready once)) run ready once

@@ -1,0 +1,4 @@
+pub mod Turning
+pub mod Made
+pub mod Kernels
+pub mod Shells
