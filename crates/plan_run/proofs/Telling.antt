@@ -18,7 +18,7 @@ use Rattle.exec_laws.specs.Ends.{GivenBack}
 use Rattle.plan_run.specs.declared.run.PlanFault.{PlanFault}
 use Rattle.plan_run.specs.declared.run.PlanFault.TheVariants as end
 use Rattle.plan_run.specs.Stock.{taken_for, left_after, HasStock}
-use Rattle.plan_run.specs.Plans.{kinds_of, spec_at, specs_of, taken_at, PlanFaultHolds, GivesBack, GivesRows, HasUnlawful, IsBlankAgain, RanWith, ReadsByKind, RunsPlan}
+use Rattle.plan_run.specs.Plans.{kinds_of, spec_at, specs_of, taken_at, PlanFaultHolds, GivesBack, GivesRows, StuckWith, IsBlankAgain, RanWith, ReadsByKind, RunsPlan}
 use Rattle.plan_run.specs.Steps.{AreLater, AreStill, GivesUnloaded, IsLater, IsStill, LoadsFirst, RunsLoaded, RunsTaken}
 use Rattle.plan_run.proofs.Loading.{all-at, at-all}
 use Rattle.plan_run.proofs.Taking.{left-all, taken-all, taken-length}
@@ -174,13 +174,46 @@ back-blank kinds before after blank g =
 pub none-taken : (boxes : List BoxPicture) → GivesBack [] boxes boxes
 none-taken boxes = record { given = []; rack = sym (append-nil boxes); count = refl; each = λ n lt. absurd (omega (arith, lt)) }
 
--- of lawful boxes none is told to be unlawful
-pub lawful-not-stuck : (specs : List Spec) (before after : List BoxPicture) (k : Kind) → HasStock (kinds_of specs) before → All (λ (p : BoxPicture). p.lawful ≡ true) before → HasUnlawful (RunsPlan specs before after) k → ⊥
+-- with lawful boxes no run ends stuck
+pub lawful-not-stuck : (specs : List Spec) (before after : List BoxPicture) (k : Kind)
+    → HasStock (kinds_of specs) before → All (λ (p : BoxPicture). p.lawful ≡ true) before
+    → StuckWith (RunsPlan specs before after) k → ⊥
 lawful-not-stuck specs before after k stock lawful h =
-    let in_specs : h.node < length specs = subst (λ n. h.node < n) h.runs.count h.in_range in
-    let in_taken : h.node < length (taken_for (kinds_of specs) before) = subst (λ n. h.node < n) (sym (taken-length (kinds_of specs) before ∙ length-map specs kind_of)) in_specs in
-    let taken : (taken_at (kinds_of specs) before h.node).lawful ≡ true = at-all (λ (p : BoxPicture). p.lawful ≡ true) (taken_for (kinds_of specs) before) h.node in_taken (taken-all (λ (p : BoxPicture). p.lawful ≡ true) (kinds_of specs) before stock lawful) in
-    both_ways (box_at h.ended h.node).lawful h.unlawful ((h.runs.ran h.node in_specs).lawful ∙ taken)
+    let is_lawful : BoxPicture → Type 0 = λ p. p.lawful ≡ true in
+    let taken : List BoxPicture = taken_for (kinds_of specs) before in
+    let count : length taken ≡ length specs =
+    taken-length (kinds_of specs) before ∙ length-map specs kind_of in
+    let in_specs : h.node < length specs = subst (λ n. h.node < n) h.runs.count h.stuck.in_range in
+    let in_taken : h.node < length taken = subst (λ n. h.node < n) (sym count) in_specs in
+    let one : (taken_at (kinds_of specs) before h.node).lawful ≡ true =
+    at-all is_lawful taken h.node in_taken (taken-all is_lawful (kinds_of specs) before stock lawful) in
+    both_ways (box_at h.ended h.node).lawful h.stuck.unlawful ((h.runs.ran h.node in_specs).lawful ∙ one)
+
+-- a box that was run and unloaded is the same box, none of whose counts has fallen
+ran-again : (s : Spec) (p q r : BoxPicture) → RanWith s p q → Unloads q r → IsBlankAgain p r
+ran-again s p q r ran u = again-after p q r (record {
+  kind = ran.kind;
+  lawful = ran.lawful;
+  files = ran.files;
+  faults = ran.faults;
+  pendings = ran.pendings;
+  pulled = let more = ran.pulled in omega (arith, more);
+}) u
+
+-- a run of a plan gives its boxes back
+pub runs-give-back : (specs : List Spec) (before after ended : List BoxPicture)
+    → RunsPlan specs before after ended → GivesBack (kinds_of specs) before after
+runs-give-back specs before after ended run =
+    let kinds : length (kinds_of specs) ≡ length specs = length-map specs kind_of in
+    record {
+      given = run.given;
+      rack = run.rack;
+      count = run.given_count ∙ sym kinds;
+      each = λ n lt.
+          let in_specs : n < length specs = subst (λ k. n < k) kinds lt in
+          ran-again (spec_at specs n) (taken_at (kinds_of specs) before n) (box_at ended n)
+          (box_at run.given n) (run.ran n in_specs) (run.unloaded n in_specs);
+    }
 
 -- ---- the ends
 
@@ -193,7 +226,14 @@ rows-by R S nodes chunks by r = record { ended = r.ended; runs = by r.ended r.ru
 
 pub fault-by : (R S : List BoxPicture → Type 0) (f : PlanFault) → ((ended : List BoxPicture) → R ended → S ended) → PlanFaultHolds f R → PlanFaultHolds f S
 fault-by R S (end.Fault node f) by h = record { ended = h.ended; runs = by h.ended h.runs; fault = h.fault; reader = h.reader }
-fault-by R S (end.Stuck k) by h = record { ended = h.ended; runs = by h.ended h.runs; node = h.node; in_range = h.in_range; of_kind = h.of_kind; unlawful = h.unlawful }
+fault-by R S (end.Stuck k) by h = record {
+  ended = h.ended;
+  runs = by h.ended h.runs;
+  report = h.report;
+  node = h.node;
+  stuck = h.stuck;
+  of_kind = h.of_kind;
+}
 fault-by R S end.Memory by h = h
 
 pub if-ok : {A E : Type 0} (r : Result A E) (P Q : A → Type 0) → ((x : A) → P x → Q x) → IfOk r P → IfOk r Q

@@ -1,5 +1,5 @@
 -- What a run of a plan tells: how it ended, of which boxes, and what the rack has afterwards.
-use Rattle.std.specs.Prelude.{◌≡◌, ◌⊎◌, ℕ, ◌+◌, ◌-◌, ◌<◌, ◌≤◌, ◌++◌, false, List, length, map, slice_index_or, Option, Some, ⊤}
+use Rattle.std.specs.Prelude.{◌≡◌, ◌⊎◌, ℕ, ◌+◌, ◌-◌, ◌<◌, ◌≤◌, ◌++◌, List, length, map, slice_index_or, Option, Some, ⊤}
 use Rattle.chunk_data.specs.Values.{Table}
 use Rattle.query_model.specs.Kinds.{kind_of}
 use Rattle.query_model.specs.declared.processor_spec.Kind.{Kind}
@@ -10,7 +10,8 @@ use Rattle.proc_api.specs.Boxes.{BoxPicture}
 use Rattle.proc_api.specs.Clauses.{IsBlank, IsSourceKind, HasNoReader, Unloads, handed_out_by}
 use Rattle.proc_api.specs.Histories.{raised}
 use Rattle.exec_laws.specs.Runs.{box_at}
-use Rattle.exec_laws.specs.Ends.{IsDone, IsFault}
+use Rattle.exec_laws.specs.Ends.{IsDone, IsFault, IsStuck}
+use Rattle.exec_laws.specs.declared.edges.StuckNode.{StuckNode}
 use Rattle.plan_run.specs.Chains.{chain_wires}
 use Rattle.plan_run.specs.Stock.{taken_for, left_after}
 use Rattle.plan_run.specs.declared.run.PlanFault.{PlanFault}
@@ -102,16 +103,16 @@ pub record FailsWith (R : List BoxPicture → Type 0) (node : ℕ) (f : WorkFaul
   pub fault : IsFault ended node f
   pub reader : ReadsByKind (box_at ended node)
 
--- a box of the kind isn't lawful
-pub record HasUnlawful (R : List BoxPicture → Type 0) (k : Kind) : Type 0 where
+-- the run ended stuck, at a node whose box is of the kind and isn't lawful
+pub record StuckWith (R : List BoxPicture → Type 0) (k : Kind) : Type 0 where
   pub ended : List BoxPicture
   pub runs : R ended
+  pub report : List StuckNode
   pub node : ℕ
-  pub in_range : node < length ended
+  pub stuck : IsStuck ended report node
   pub of_kind : (box_at ended node).kind ≡ k
-  pub unlawful : (box_at ended node).lawful ≡ false
 
 abbrev pub PlanFaultHolds : PlanFault → (List BoxPicture → Type 0) → Type 0
 PlanFaultHolds (end.Fault node f) R = FailsWith R node f
-PlanFaultHolds (end.Stuck k) R = HasUnlawful R k
+PlanFaultHolds (end.Stuck k) R = StuckWith R k
 PlanFaultHolds end.Memory R = ⊤

@@ -62,6 +62,8 @@ impl<R: Abort + AllocGlobal + Drop + Send> Processor for Scripted<R> {
       growth = None;
     } };
 
+    ghost stands = { λ p. None };
+
     fn kind(&self) -> Kind {
         self.kind
     }

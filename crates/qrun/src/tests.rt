@@ -75,6 +75,8 @@ impl Processor for Counted {
 
     ghost seen = { λ c. source_seen c.source };
 
+    ghost stands = { λ c. c.source.stands };
+
     fn kind(&self) -> Kind {
         self.source.kind()
     }
@@ -442,15 +444,27 @@ fn other_ends_tell_their_line(rt: HostRuntime) -> Result<(), Fail> {
             3,
             "qrun: bad data: table t part 1 row 1 column 2\n",
         ),
-        ("a Int32", "SELECT a FROM t", b"1\n", 1, "qrun: usage\n"),
+        (
+            "a Int32",
+            "SELECT a FROM t",
+            b"1\n",
+            1,
+            "qrun: usage: qrun --query QUERY [--tables TABLES] [--threads N] [--chunk N] [--header]\n",
+        ),
         (
             "a Int64,a Int64",
             "SELECT a FROM t",
             b"1\n",
             1,
-            "qrun: usage\n",
+            "qrun: usage: qrun --query QUERY [--tables TABLES] [--threads N] [--chunk N] [--header]\n",
         ),
-        ("", "SELECT a FROM t", b"1\n", 1, "qrun: usage\n"),
+        (
+            "",
+            "SELECT a FROM t",
+            b"1\n",
+            1,
+            "qrun: usage: qrun --query QUERY [--tables TABLES] [--threads N] [--chunk N] [--header]\n",
+        ),
     ];
     for (columns, query, bytes, status, line) in cases.iter() {
         let outcome = answer(&rt, columns, query, bytes)?;
@@ -1029,7 +1043,10 @@ fn words_and_files_may_be_missing(rt: HostRuntime) -> Result<(), Fail> {
     );
     let none = run_once(&rt, &[], &ample(b"1\n"))?;
     assert_eq!(rt; none.status, 1);
-    assert_eq!(rt; none.err.as_slice(), b"qrun: usage\n".as_slice());
+    assert_eq!(rt;
+        none.err.as_slice(),
+        b"qrun: usage: qrun --query QUERY [--tables TABLES] [--threads N] [--chunk N] [--header]\n".as_slice()
+    );
     Ok(())
 }
 

@@ -1,15 +1,14 @@
 -- from the steps of an answer to the text of one answer of a command
-use Rattle.std.proofs.Common.{◌≡◌, ℕ, ◌+◌, ◌-◌, ◌<◌, Bool, true, cond, List, [], ◌∷◌, get_or, map, length, refl, ap, sym, subst, ◌∙◌, arith, Option, Some, None, is_some}
-use Rattle.std.specs.Prelude.{IfSome}
+use Rattle.std.proofs.Common.{◌≡◌, ℕ, ◌+◌, ◌-◌, ◌<◌, List, [], ◌∷◌, get_or, map, length, refl, ap, sym, subst, ◌∙◌, arith, Option, Some, None, is_some, true}
 use Rattle.std.specs.List.{All}
 use Rattle.chunk_data.specs.Values.{Row, Table}
 use Rattle.chunk_data.specs.declared.typed_value.ColumnType.{ColumnType}
-use Rattle.query_model.specs.Analysis.{IsTypedQuery, IsTypedShape, IsTypedFilter, from_types}
-use Rattle.query_model.specs.Answers.{item_row, output_rows, selected_rows}
+use Rattle.query_model.specs.Analysis.{IsTypedQuery, IsTypedShape, from_types}
+use Rattle.query_model.specs.Answers.{output_rows, selected_rows}
 use Rattle.query_model.specs.Checks.{IsChecked}
 use Rattle.query_model.specs.Expressions.{Cond, Expr, rows_where}
 use Rattle.query_model.specs.Flow.{flow, rows_tested, groups_tested, if_grouped, if_ordered, if_plain, rows_joined}
-use Rattle.query_model.specs.Parts.{bad_place, good_rows, part_records}
+use Rattle.query_model.specs.Parts.{good_rows, part_records}
 use Rattle.query_model.specs.Sources.{Database, source_table, source_rows, filtered_rows, used_table}
 use Rattle.query_model.specs.Texts.{answer_text}
 use Rattle.query_model.specs.Typing.{IsItem}
@@ -30,7 +29,7 @@ use Rattle.query_model.specs.declared.processor_spec.PartSpec.{PartSpec}
 use Rattle.query_model.specs.declared.processor_spec.Spec.{Spec}
 use Rattle.query_model.specs.Kinds.{kind_of}
 use Rattle.sql_text.specs.Refusals.{IsReadFrom}
-use Rattle.command_line.specs.Words.{IsPlainCommand}
+use Rattle.command_line.specs.Words.{IsPlainCommand, has_one_table}
 use Rattle.command_line.specs.declared.words.Command.{Command}
 use Rattle.proc_api.specs.Boxes.{BoxPicture}
 use Rattle.proc_api.specs.Clauses.{handed_out_by, IsSourceKind}
@@ -43,14 +42,13 @@ use Rattle.plan_laws.proofs.Plans.{plan-answers}
 use Rattle.plan_laws.proofs.Flows.{plan-flows}
 use Rattle.plan_run.specs.Chains.{chain_wires}
 use Rattle.plan_run.specs.Stock.{HasStock}
-use Rattle.plan_run.specs.Plans.{kinds_of, spec_at, RunsPlan}
-use Rattle.query_run.specs.Racks.{HasBoxes, IsHonest, PulledMore}
-use Rattle.query_run.specs.Headline.{schemas_of, AnswersCommand, IsAccepted, IsCheckedCommand, IsTextOfCommand, CommandFailsFor, PulledItsFlow}
-use Rattle.query_run.specs.Steps.{CheckFailsFor, GivesText, only_path, HasOnePath, IsPartText, IsPlainShape, items_of, part_spec}
-use Rattle.query_run.specs.declared.ending.Failure.{Failure}
-use Rattle.query_run.specs.declared.ending.Failure.TheVariants as failure
-use Rattle.sql_grammar.proofs.PlainQueries.{plain_of_spelled}
-use Rattle.query_run.proofs.Plans.{plan-stock, ended-kind, ended-lawful, ended-files, first-spec}
+use Rattle.plan_run.specs.Plans.{kinds_of, spec_at}
+use Rattle.query_run.specs.Racks.{AreLawfulOver, HasBoxes, PulledMore}
+use Rattle.query_run.specs.Commands.{schemas_of, IsAccepted, IsCheckedCommand}
+use Rattle.query_run.specs.Headline.{MakesText, PullsItsFlow}
+use Rattle.query_run.specs.Steps.{GivesText, only_path, HasOnePath, items_of, part_spec}
+use Rattle.sql_text.proofs.BuiltQueries.{plain_of_read}
+use Rattle.query_run.proofs.Plans.{plan-kinds, plan-stock, ended-kind, ended-lawful, ended-files, first-spec}
 use Rattle.query_run.proofs.Pulling.{plan-pulled, PlanPulled, WithoutFilter}
 use Rattle.query_run.proofs.Tables.{IsOfOneTable, from_types-is, of_one_table, selected_answers, source_is, parts_valid}
 
@@ -69,20 +67,22 @@ one_schema command p = ap (map (λ (t : TableDecl). t.schema)) p.one_table
 
 -- a query that was read from the command's text and analysed against its schemas is the command's
 pub checked_command : (command : Command) (q : Query) → IsReadFrom q command.query → (schemas : List Schema) → schemas ≡ schemas_of command → (checked : Checked)
-    → refusal_of q schemas ≡ None → IsChecked q schemas checked → IsTypedQuery (from_types q schemas) checked → IsCheckedCommand command checked
-checked_command command q read schemas are checked accepted is typed = record {
+    → refusal_of q schemas ≡ None → IsChecked q schemas checked → IsTypedQuery (from_types q schemas) checked
+    → has_one_table command.tables ≡ true → IsCheckedCommand command checked
+checked_command command q read schemas are checked accepted is typed planned = record {
   query = q;
   read = read;
   accepted = subst (λ (s : List Schema). refusal_of q s ≡ None) are accepted;
   is = subst (λ (s : List Schema). IsChecked q s checked) are is;
   typed = subst (λ (s : List Schema). IsTypedQuery (from_types q s) checked) are typed;
+  planned = planned;
 }
 
 -- a checked command's query is typed by the columns of its table
 pub typed_by_table : (command : Command) (p : IsPlainCommand command) (checked : Checked) → IsCheckedCommand command checked → IsTypedQuery (column_types p.table.schema) checked
 typed_by_table command p checked h =
     let one = one_schema command p in
-    let plain = plain_of_spelled h.query command.query h.read.spells in
+    let plain = plain_of_read h.query command.query h.read in
     let types : from_types h.query (schemas_of command) ≡ column_types p.table.schema =
     ap (from_types h.query) one ∙ from_types-is p.table.schema h.query plain (rw one at h.accepted) in
     subst (λ types. IsTypedQuery types checked) types h.typed
@@ -91,7 +91,7 @@ typed_by_table command p checked h =
 pub of_the_table : (command : Command) (p : IsPlainCommand command) (checked : Checked) → IsCheckedCommand command checked → IsOfOneTable checked
 of_the_table command p checked h =
     let one : schemas_of command ≡ p.table.schema ∷ [] = one_schema command p in
-    let plain = plain_of_spelled h.query command.query h.read.spells in
+    let plain = plain_of_read h.query command.query h.read in
     of_one_table p.table.schema h.query plain (rw one at h.accepted) checked (rw one at h.is)
 
 -- the database of the files has the part's rows
@@ -100,50 +100,12 @@ pub database_is : (command : Command) (p : IsPlainCommand command) (files : File
 database_is command p files =
     ap (database command.header files) p.one_table ∙ database-one_part command.header files p.table (only_path p.table.parts) (one_path_of command p)
 
--- the text of the valid part's rows is that of an answer
-pub command_text_told : (command : Command) (p : IsPlainCommand command) (checked : Checked) → IsCheckedCommand command checked → (files : Files) (text : List ℕ)
-    → IsPartText command.header p.table checked files text → IsTextOfCommand command files text
-command_text_told command p checked h files text t =
-    let s : Schema = p.table.schema in
-    let single : IsOfOneTable checked = of_the_table command p checked h in
-    let path = only_path p.table.parts in
-    let rows : List Row = part_rows command.header (column_types s) files path in
-    let base = database_is command p files in
-    record {
-      query = h.query;
-      spells = h.read.spells;
-      accepted = h.accepted;
-      checked = checked;
-      is_checked = h.is;
-      valid = subst (λ (tables : List TableDecl). AllPartsValid command.header files tables checked) (sym p.one_table)
-          (parts_valid checked single command.header files p.table path (one_path_of command p) t.valid);
-      answer = selected_rows checked.shape (column_types s) (rows_where checked.filter rows);
-      is_answer = selected_answers checked single (database command.header files command.tables) (column_types s) rows base;
-      is = t.is;
-    }
-
 -- a command that is checked is accepted
 pub accepted_of : (command : Command) (checked : Checked) → IsCheckedCommand command checked → IsAccepted command
-accepted_of command checked h = record { query = h.query; read = h.read; accepted = h.accepted }
-
--- why a query was not checked is why its command fails
-pub check_cause : (command : Command) (f : Failure) (before after : List BoxPicture) → CheckFailsFor f command → CommandFailsFor f command before after
-check_cause command failure.Usage before after h = h
-check_cause command (failure.RefusedText refusal) before after h = h
-check_cause command (failure.RefusedQuery refusal) before after h = h
-check_cause command (failure.Stock s) before after h = absurd h
-check_cause command (failure.Bad name place) before after h = absurd h
-check_cause command (failure.Read name) before after h = absurd h
-check_cause command (failure.Stalled name) before after h = absurd h
-check_cause command (failure.TooLong name) before after h = absurd h
-check_cause command (failure.Unlawful k) before after h = absurd h
-check_cause command failure.Memory before after h = tt
+accepted_of command checked h =
+    record { query = h.query; read = h.read; accepted = h.accepted; planned = h.planned }
 
 -- ---- the items
-
-pub plain_shape : (types : List ColumnType) (s : Shape) → IsTypedShape types s → IsPlainShape s
-plain_shape types (Plain items) h = tt
-plain_shape types (Grouped g) h = h
 
 shape_is : (types : List ColumnType) (s : Shape) → IsTypedShape types s → s ≡ Plain (items_of s)
 shape_is types (Plain items) h = refl
@@ -170,15 +132,11 @@ last_in_range : (part : PartSpec) (items : List Expr) (f : Option Cond) (n : ℕ
 last_in_range part items None n e = omega (arith, e)
 last_in_range part items (Some c) n e = omega (arith, e)
 
-first_is_source : (part : PartSpec) (items : List Expr) (f : Option Cond) → IsSourceKind (kind_of (spec_at (plan_specs part f items) 0))
+pub first_is_source : (part : PartSpec) (items : List Expr) (f : Option Cond) → IsSourceKind (kind_of (spec_at (plan_specs part f items) 0))
 first_is_source part items f = subst (λ s. IsSourceKind (kind_of s)) (sym (first-spec part items f)) tt
 
-some_nodes : (part : PartSpec) (items : List Expr) (f : Option Cond) (n : ℕ) → n ≡ length (plan_specs part f items) → 0 < n
-some_nodes part items None n e = omega (arith, e)
-some_nodes part items (Some c) n e = omega (arith, e)
-
 module _ (command : Command) (p : IsPlainCommand command) (checked : Checked) (h : IsCheckedCommand command checked) (rows : ℕ) (before after : List BoxPicture) (boxes : HasBoxes checked before) (text : List ℕ)
-    (g : GivesText command.header checked.names (plan_specs (part_spec command.header rows p.table) checked.filter (items_of checked.shape)) before after text) (files : Files) (honest : IsHonest files before) where
+    (g : GivesText command.header checked.names (plan_specs (part_spec command.header rows p.table) checked.filter (items_of checked.shape)) before after text) (files : Files) (honest : AreLawfulOver files before) where
   abbrev part : PartSpec
   part = part_spec command.header rows p.table
 
@@ -211,7 +169,7 @@ module _ (command : Command) (p : IsPlainCommand command) (checked : Checked) (h
   answers = plan-answers part checked.filter items ended typed.filter (items_typed types checked.shape typed.items) plan_done
 
   in_0 : 0 < length ended
-  in_0 = some_nodes part items checked.filter (length ended) g.gives.runs.count
+  in_0 = let last = last_in_range part items checked.filter (length ended) g.gives.runs.count in omega (arith, last)
 
   bytes_are : file_bytes files (only_path p.table.parts) ≡ Some answers.bytes
   bytes_are =
@@ -246,11 +204,12 @@ module _ (command : Command) (p : IsPlainCommand command) (checked : Checked) (h
   text_is : text ≡ answer_text command.header checked.names selected
   text_is = g.is ∙ ap (λ l. answer_text command.header checked.names l) (handed ∙ gathered_are)
 
-  pub answer_told : IsTextOfCommand command files text
-  answer_told = command_text_told command p checked h files text (record {
-    valid = (ap is_some bytes_are, ap (bad_place_in command.header types) bytes_are ∙ answers.valid);
-    is = text_is;
-  })
+  -- the part is valid
+  valid : AllPartsValid command.header files command.tables checked
+  valid =
+      subst (λ (tables : List TableDecl). AllPartsValid command.header files tables checked) (sym p.one_table)
+      (parts_valid checked (of_the_table command p checked h) command.header files p.table (only_path p.table.parts)
+      (one_path_of command p) (ap is_some bytes_are, ap (bad_place_in command.header types) bytes_are ∙ answers.valid))
 
   abbrev db : Database
   db = database command.header files command.tables
@@ -306,17 +265,31 @@ module _ (command : Command) (p : IsPlainCommand command) (checked : Checked) (h
   each_kind kind.Limit = tt
   each_kind kind.Collect = pulled.collect
 
-  pub flow_told : PulledItsFlow command files text before after
+  pub flow_told : PullsItsFlow command files text before after
   flow_told = record {
-    checked = checked;
-    is_checked = h;
-    answer = selected;
-    is_answer = selected_answers checked one db types part_has (database_is command p files);
-    is = text_is;
+    answer = record {
+      checked = checked;
+      is_checked = h;
+      valid = valid;
+      rows = selected;
+      is_answer = selected_answers checked one db types part_has (database_is command p files);
+      is = text_is;
+    };
     pulled = λ k. subst (λ l. PulledMore k before after (flow k checked db l)) gathered_are (each_kind k);
   }
 
-pub command_answers : (command : Command) (p : IsPlainCommand command) (checked : Checked) → IsCheckedCommand command checked → (rows : ℕ) (before after : List BoxPicture) → HasBoxes checked before → (text : List ℕ)
-    → GivesText command.header checked.names (plan_specs (part_spec command.header rows p.table) checked.filter (items_of checked.shape)) before after text → AnswersCommand command text before after
-command_answers command p checked h rows before after boxes text g =
-    λ files honest. (answer_told command p checked h rows before after boxes text g files honest, flow_told command p checked h rows before after boxes text g files honest)
+-- what a run of the plan gave is the text of an answer
+pub makes_text : (command : Command) (p : IsPlainCommand command) (checked : Checked) → IsCheckedCommand command checked
+    → (rows : ℕ) (before after : List BoxPicture) → HasBoxes checked before → (text : List ℕ)
+    → GivesText command.header checked.names (plan_specs (part_spec command.header rows p.table) checked.filter (items_of checked.shape)) before after text
+    → MakesText command checked text before after
+makes_text command p checked h rows before after boxes text g = record {
+  boxes = boxes;
+  ran = record {
+    specs = plan_specs (part_spec command.header rows p.table) checked.filter (items_of checked.shape);
+    kinds = plan-kinds (part_spec command.header rows p.table) (items_of checked.shape) checked.filter;
+    ended = g.gives.ended;
+    runs = g.gives.runs;
+  };
+  answers = λ files told. flow_told command p checked h rows before after boxes text g files told;
+}

@@ -4,6 +4,6 @@ pub mod Plans
 pub mod Causes
 pub mod Pulling
 pub mod Composing
-pub mod Completeness
+pub mod Corollaries
 pub mod Stocked
 pub mod Stocks

@@ -1,5 +1,5 @@
 -- A line that is written in pieces.
-use Rattle.std.proofs.Common.{◌≡◌, inl, inr, ◌⊎◌, ℕ, List, ◌++◌, Option, Result, Ok, Err, subst, append_assoc, sym}
+use Rattle.std.proofs.Common.{◌≡◌, inl, inr, ℕ, List, ◌++◌, Option, Result, Ok, Err, subst, append_assoc}
 use Rattle.outside_io.specs.Growth.{GrewBy, GrewByPrefix}
 use Rattle.outside_io.proofs.Growing.{GrewBy-trans, GrewByPrefix-after, GrewByPrefix-append}
 use Rattle.query_run.specs.Endings.{TellsLine, Writes}
@@ -33,9 +33,3 @@ tells-cut before after xs ys failed front why = inr (why, GrewByPrefix-append be
 
 pub group-part : (a b c d e : List ℕ) → (a ++ b) ++ (c ++ (d ++ e)) ≡ a ++ (((b ++ c) ++ d) ++ e)
 group-part a b c d e = simp append_assoc
-
-pub group-place : (a b c d : List ℕ) → a ++ ((b ++ c) ++ d) ≡ ((a ++ b) ++ c) ++ d
-group-place a b c d = simp append_assoc
-
-pub group-counts : (a b c d e : List ℕ) → a ++ ((b ++ c) ++ (d ++ e)) ≡ (((a ++ b) ++ c) ++ d) ++ e
-group-counts a b c d e = simp append_assoc

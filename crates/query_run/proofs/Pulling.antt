@@ -1,5 +1,5 @@
 -- The rows that the boxes of a rack pulled in a run, kind by kind.
-use Rattle.std.proofs.Common.{◌≡◌, ◌⊎◌, ℕ, zero, suc, ◌+◌, ◌<◌, ◌≤◌, Bool, true, false, cond, List, [], ◌∷◌, ◌++◌, length, count_by, Option, Some, None, refl, sym, ap, ap₂, subst, ◌∙◌, arith, inl, inr, length-append}
+use Rattle.std.proofs.Common.{◌≡◌, ℕ, suc, ◌+◌, ◌<◌, Bool, true, false, cond, List, [], ◌∷◌, ◌++◌, length, count_by, Option, Some, None, refl, sym, ap, ap₂, subst, ◌∙◌, arith, inl, inr, length-append}
 use Rattle.std.specs.Prelude.{IfSome}
 use Rattle.std.proofs.lemmas.List.{length-map}
 use Rattle.query_model.specs.Expressions.{Cond, Expr}
@@ -9,7 +9,6 @@ use Rattle.query_model.specs.declared.processor_spec.Kind.TheVariants as kind
 use Rattle.query_model.specs.declared.processor_spec.PartSpec.{PartSpec}
 use Rattle.query_model.specs.declared.processor_spec.Spec.{Spec}
 use Rattle.proc_api.specs.Boxes.{BoxPicture}
-use Rattle.proc_api.specs.Histories.{last_count}
 use Rattle.proc_api.specs.Racks.{is_of, same_kind}
 use Rattle.exec_laws.specs.Runs.{box_at}
 use Rattle.plan_laws.specs.Plans.{plan_specs, filter_place, expression_place, collect_place}
@@ -17,7 +16,7 @@ use Rattle.plan_laws.specs.Streams.{HasPulled}
 use Rattle.plan_run.specs.Stock.{first_of, without_first, taken_for, left_after, HasStock}
 use Rattle.plan_run.specs.Plans.{kinds_of, spec_at, RunsPlan}
 use Rattle.plan_run.proofs.Taking.{some-rest, stock-here, stock-step, taken-length}
-use Rattle.query_run.specs.Racks.{pulled_by, HasFullCount, PulledMore}
+use Rattle.query_run.specs.Racks.{pulled_by, PulledMore}
 use Rattle.query_run.proofs.Plans.{ended-kind}
 
 pub pulled-append : (k : Kind) (xs ys : List BoxPicture) → pulled_by k (xs ++ ys) ≡ pulled_by k xs + pulled_by k ys

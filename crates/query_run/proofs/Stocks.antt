@@ -1,5 +1,5 @@
 -- The kinds in their order, and how many boxes of each a rack has.
-use Rattle.std.proofs.Common.{◌≡◌, ◌⊎◌, inl, inr, ℕ, zero, suc, ◌+◌, ◌<◌, ◌≤◌, List, [], ◌∷◌, count_by, get_or, refl, sym, ap, subst, ◌∙◌, arith}
+use Rattle.std.proofs.Common.{◌≡◌, inl, inr, ℕ, zero, suc, ◌+◌, ◌<◌, ◌≤◌, List, count_by, get_or, refl, sym, ap, subst, ◌∙◌, arith}
 use Rattle.std.proofs.lemmas.Bool.{cases_lt}
 use Rattle.query_model.specs.declared.checked.Checked.{Checked}
 use Rattle.query_model.specs.declared.processor_spec.Kind.{Kind}
@@ -8,7 +8,6 @@ use Rattle.proc_api.specs.Boxes.{BoxPicture}
 use Rattle.proc_api.specs.Racks.{is_of, kind_place}
 use Rattle.plan_laws.specs.Plans.{need}
 use Rattle.query_run.specs.declared.stock.TheConstants.{KINDS}
-use Rattle.query_run.specs.declared.stock.Shortage.{Shortage}
 use Rattle.query_run.specs.Racks.{HasBoxes, IsShort}
 
 -- of each kind before this place the rack has the boxes that are needed

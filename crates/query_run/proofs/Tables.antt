@@ -11,7 +11,7 @@ use Rattle.query_model.specs.Answers.{selected_rows, output_rows, IsOrderedAnswe
 use Rattle.query_model.specs.Checks.{BothOrNone, use_of, IsChecked}
 use Rattle.query_model.specs.Database.{column_types, join_use, parts_used, IsValidUsed, IsValidPart, AllPartsValid}
 use Rattle.query_model.specs.Expressions.{rows_where}
-use Rattle.query_model.specs.Refusals.{FromColumn, table_name, schema_columns, table_columns, join_tables, is_declared, first_of_all, refusal_of}
+use Rattle.query_model.specs.Refusals.{FromColumn, table_name, schema_columns, columns_if, table_columns, join_tables, is_declared, first_of_all, refusal_of}
 use Rattle.query_model.specs.Sources.{Database, used_table, joined_table, source_table}
 use Rattle.query_model.proofs.AnswerLaws.{any_order_answers}
 use Rattle.query_model.proofs.OnePart.{AllPartsValid-one_part}
@@ -64,8 +64,8 @@ module _ (s : Schema) where
   named (Named t) others h e = go (bytes_eq s.name t) e
     where
       go : (b : Bool) → option_map refusal (cond (not (b || false)) (Some (Named t)) (find test others)) ≡ None
-          → (Declared (cond b 0 (0 + 1)) ≡ Declared 0) × (flat_map schema_columns (cond b (s ∷ []) []) ≡ schema_columns s)
-      go true k = (refl, append-nil (schema_columns s))
+          → (Declared (cond b 0 (0 + 1)) ≡ Declared 0) × (columns_if (cond b (Some s) None) ≡ schema_columns s)
+      go true k = (refl, refl)
       go false k = absurd cc
 
   module _ (q : Query) (plain : IsPlainQuery q) (accepted : refusal_of q (s ∷ []) ≡ None) where

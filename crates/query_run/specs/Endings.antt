@@ -1,5 +1,5 @@
 -- How a run ends: its status, and the line that tells of it.
-use Rattle.std.specs.Prelude.{◌≡◌, ◌⊎◌, ℕ, List, [], ◌∷◌, ◌++◌, codes, decimal, Option, Result, OnOk, OnErr}
+use Rattle.std.specs.Prelude.{◌⊎◌, ℕ, List, [], ◌∷◌, ◌++◌, codes, decimal, Option, Result, OnOk, OnErr}
 use Rattle.outside_io.specs.Growth.{GrewBy, GrewByPrefix}
 use Rattle.query_model.specs.declared.places.BadField.{BadField}
 use Rattle.query_model.specs.declared.places.BadField.TheVariants as field
@@ -10,6 +10,12 @@ use Rattle.query_model.specs.declared.processor_spec.Kind.TheVariants as kind
 use Rattle.sql_text.specs.declared.limits.ParseRefusal.{ParseRefusal}
 use Rattle.sql_text.specs.declared.limits.ParseRefusal.TheVariants as parse
 use Rattle.query_run.specs.declared.ending.PartName.{PartName}
+use Rattle.query_run.specs.declared.ending.Refused.{Refused}
+use Rattle.query_run.specs.declared.ending.Refused.TheVariants as refused
+use Rattle.query_run.specs.declared.ending.PartFailure.{PartFailure}
+use Rattle.query_run.specs.declared.ending.PartFailure.TheVariants as part
+use Rattle.query_run.specs.declared.ending.PlanFailure.{PlanFailure}
+use Rattle.query_run.specs.declared.ending.PlanFailure.TheVariants as plan
 use Rattle.query_run.specs.declared.ending.Failure.{Failure}
 use Rattle.query_run.specs.declared.ending.Failure.TheVariants as failure
 use Rattle.query_run.specs.declared.ending.Ending.{Ending}
@@ -26,16 +32,27 @@ abbrev pub query_status : Refusal → ℕ
 query_status refuse.Memory = 7
 query_status _ = 2
 
+abbrev pub refused_status : Refused → ℕ
+refused_status (refused.Text refusal) = text_status refusal
+refused_status (refused.Query refusal) = query_status refusal
+refused_status refused.NotBuilt = 2
+
+abbrev pub part_status : PartFailure → ℕ
+part_status (part.Bad place) = 3
+part_status part.Read = 4
+part_status part.Stalled = 4
+part_status part.TooLong = 6
+
+abbrev pub plan_status : PlanFailure → ℕ
+plan_status (plan.Stock s) = 6
+plan_status (plan.Part name f) = part_status f
+plan_status (plan.Unlawful k) = 6
+plan_status plan.Memory = 7
+
 abbrev pub failure_status : Failure → ℕ
 failure_status failure.Usage = 1
-failure_status (failure.RefusedText refusal) = text_status refusal
-failure_status (failure.RefusedQuery refusal) = query_status refusal
-failure_status (failure.Bad name place) = 3
-failure_status (failure.Read name) = 4
-failure_status (failure.Stalled name) = 4
-failure_status (failure.Stock s) = 6
-failure_status (failure.TooLong name) = 6
-failure_status (failure.Unlawful k) = 6
+failure_status (failure.Refused r) = refused_status r
+failure_status (failure.Plan f) = plan_status f
 failure_status failure.Memory = 7
 
 abbrev pub status_of : Ending → ℕ
@@ -89,16 +106,40 @@ abbrev pub field_words : BadField → List ℕ
 field_words (field.Column c) = codes " column " ++ decimal c
 field_words (field.Fields n) = codes " fields " ++ decimal n
 
+abbrev pub refused_line : Refused → List ℕ
+refused_line (refused.Text refusal) = text_line refusal
+refused_line (refused.Query refusal) = query_line refusal
+refused_line refused.NotBuilt = codes "qrun: refused: NotBuilt"
+
+-- what stands before and behind the part's name
+abbrev pub part_front : PartFailure → List ℕ
+part_front (part.Bad place) = codes "qrun: bad data: "
+part_front part.Read = codes "qrun: read fault: "
+part_front part.Stalled = codes "qrun: stalled: "
+part_front part.TooLong = codes "qrun: limit: bytes of "
+
+abbrev pub part_back : PartFailure → List ℕ
+part_back (part.Bad place) = codes " row " ++ decimal place.row ++ field_words place.field
+part_back part.Read = []
+part_back part.Stalled = []
+part_back part.TooLong = codes ", at most 1073741824"
+
+-- how many boxes of a kind are needed, and are there
+abbrev pub stock_words : (needed there : ℕ) → List ℕ
+stock_words needed there = codes " needed " ++ decimal needed ++ (codes ", rack has " ++ decimal there)
+
+abbrev pub plan_line : PlanFailure → List ℕ
+plan_line (plan.Stock s) =
+    codes "qrun: limit: boxes of kind " ++ kind_name s.kind ++ stock_words s.needed s.there
+plan_line (plan.Part name f) = part_front f ++ part_words name ++ part_back f
+plan_line (plan.Unlawful k) = codes "qrun: limit: unlawful box of kind " ++ kind_name k
+plan_line plan.Memory = codes "qrun: out of memory"
+
 abbrev pub failure_line : Failure → List ℕ
-failure_line failure.Usage = codes "qrun: usage"
-failure_line (failure.RefusedText refusal) = text_line refusal
-failure_line (failure.RefusedQuery refusal) = query_line refusal
-failure_line (failure.Bad name place) = codes "qrun: bad data: " ++ part_words name ++ codes " row " ++ decimal place.row ++ field_words place.field
-failure_line (failure.Read name) = codes "qrun: read fault: " ++ part_words name
-failure_line (failure.Stalled name) = codes "qrun: stalled: " ++ part_words name
-failure_line (failure.Stock s) = codes "qrun: limit: boxes of kind " ++ kind_name s.kind ++ codes " needed " ++ decimal s.needed ++ codes ", rack has " ++ decimal s.there
-failure_line (failure.TooLong name) = codes "qrun: limit: bytes of " ++ part_words name ++ codes ", at most 1073741824"
-failure_line (failure.Unlawful k) = codes "qrun: limit: unlawful box of kind " ++ kind_name k
+failure_line failure.Usage =
+    codes "qrun: usage: qrun --query QUERY [--tables TABLES] [--threads N] [--chunk N] [--header]"
+failure_line (failure.Refused r) = refused_line r
+failure_line (failure.Plan f) = plan_line f
 failure_line failure.Memory = codes "qrun: out of memory"
 
 -- the line with LF behind it; none for an answer

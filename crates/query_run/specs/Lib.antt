@@ -1,4 +1,6 @@
 pub mod Endings
 pub mod Racks
+pub mod Commands
+pub mod Causes
 pub mod Headline
 pub mod Steps

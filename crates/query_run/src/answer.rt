@@ -6,13 +6,15 @@ ghost use Rattle.query_model.specs.declared.processor_spec.Kind.TheVariants as k
 ghost use Rattle.command_line.specs.Words.{IsPlainCommand};
 ghost use Rattle.proc_api.specs.Clauses.{IsBlank};
 ghost use Rattle.plan_run.specs.Stock.{HasStock};
-ghost use Rattle.plan_run.specs.Plans.{kinds_of, LeavesRack, RunsPlan};
-ghost use Rattle.query_run.specs.Headline.{AnswersCommand, CheckedFailsFor, CommandFailsFor, FailsFor, IsCheckedCommand, LeavesBoxes, LeavesFor, MakesText, OfCommand};
-ghost use Rattle.query_run.specs.Racks.{HasBoxes, plan_kinds};
-ghost use Rattle.query_run.specs.Steps.{failure_of, GivesText, IsPlanFault, PlanFailsFor};
+ghost use Rattle.plan_run.specs.Plans.{kinds_of, LeavesRack, PlanFaultHolds, RunsPlan};
+ghost use Rattle.query_run.specs.Racks.{HasBoxes};
+ghost use Rattle.query_run.specs.Commands.{IsCheckedCommand, OfQuery};
+ghost use Rattle.query_run.specs.Causes.{FailsFor, PlanFailsFor};
+ghost use Rattle.query_run.specs.Headline.{MakesText};
+ghost use Rattle.query_run.specs.Steps.{failure_of, GivesText, IsPlanFault};
 
 use crate::checking::checked_query;
-use crate::ending::{Failure, PartName};
+use crate::ending::{Failure, PartFailure, PartName, PlanFailure};
 use crate::planning::{Plan, only_table, plan_of};
 use crate::stock::first_shortage;
 use chunk_data::{Bytes, List, Memory};
@@ -21,7 +23,7 @@ use csv_rows::write_rows;
 use plan_run::{PlanFault, run_plan};
 use proc_api::{Rack, WorkFault};
 use query_model::checked::Checked;
-use std::alloc::Global;
+use query_model::processor_spec::Spec;
 
 /// The text of the answer of the command that the words mean, made by the boxes of the rack.
 pub(crate) fn make_text<R: AllocGlobal>(
@@ -30,52 +32,48 @@ pub(crate) fn make_text<R: AllocGlobal>(
     rack: &mut Rack,
 ) -> Result<Vec<u8>, Failure>
     requires blank { All IsBlank (map (λ b. seen (b.vtable, b.value)) rack.old.boxes.items) }
-    ensures rack { LeavesBoxes (map string_bytes words.now) (map (λ b. seen (b.vtable, b.value)) rack.old.boxes.items) (map (λ b. seen (b.vtable, b.value)) rack.new.boxes.items) }
     ensures blank { All IsBlank (map (λ b. seen (b.vtable, b.value)) rack.new.boxes.items) }
-    ensures text { IfOk result (λ text. OfCommand (map string_bytes words.now) (λ c. MakesText c text.items (map (λ b. seen (b.vtable, b.value)) rack.old.boxes.items) (map (λ b. seen (b.vtable, b.value)) rack.new.boxes.items))) }
-    ensures cause { IfErr result (λ f. FailsFor f (map string_bytes words.now) (map (λ b. seen (b.vtable, b.value)) rack.old.boxes.items) (map (λ b. seen (b.vtable, b.value)) rack.new.boxes.items)) }
+    ensures text { IfOk result (λ text. OfQuery (map string_bytes words.now)
+        (λ c q. MakesText c q text.items
+        (map (λ b. seen (b.vtable, b.value)) rack.old.boxes.items)
+        (map (λ b. seen (b.vtable, b.value)) rack.new.boxes.items))) }
+    ensures cause { IfErr result (λ f. FailsFor f (map string_bytes words.now)
+        (map (λ b. seen (b.vtable, b.value)) rack.old.boxes.items)
+        (map (λ b. seen (b.vtable, b.value)) rack.new.boxes.items)) }
 {
     match read_words(rt.alloc(), words) {
-        Ok(command) => command_text(rt, command, rack),
+        Ok(command) => match checked_query(rt.alloc(), &command) {
+            Ok(checked) => match checked_text(rt, command, checked, rack) {
+                Ok(text) => Ok(text),
+                Err(failure) => Err(Failure::Plan(failure)),
+            },
+            Err(refused) => Err(Failure::Refused(refused)),
+        },
         Err(WordsRefusal::Usage) => Err(Failure::Usage),
         Err(WordsRefusal::Memory) => Err(Failure::Memory),
     }
 }
 
-fn command_text<R: AllocGlobal>(
-    rt: &R,
-    command: Command,
-    rack: &mut Rack,
-) -> Result<Vec<u8>, Failure>
-    requires plain { IsPlainCommand command }
-    requires blank { All IsBlank (map (λ b. seen (b.vtable, b.value)) rack.old.boxes.items) }
-    ensures rack { LeavesFor command (map (λ b. seen (b.vtable, b.value)) rack.old.boxes.items) (map (λ b. seen (b.vtable, b.value)) rack.new.boxes.items) }
-    ensures blank { All IsBlank (map (λ b. seen (b.vtable, b.value)) rack.new.boxes.items) }
-    ensures text { IfOk result (λ text. MakesText command text.items (map (λ b. seen (b.vtable, b.value)) rack.old.boxes.items) (map (λ b. seen (b.vtable, b.value)) rack.new.boxes.items)) }
-    ensures cause { IfErr result (λ f. CommandFailsFor f command (map (λ b. seen (b.vtable, b.value)) rack.old.boxes.items) (map (λ b. seen (b.vtable, b.value)) rack.new.boxes.items)) }
-{
-    match checked_query(rt.alloc(), &command) {
-        Ok(checked) => checked_text(rt, command, checked, rack),
-        Err(failure) => Err(failure),
-    }
-}
-
+/// The text of the answer of a command's checked query.
 fn checked_text<R: AllocGlobal>(
     rt: &R,
     command: Command,
     checked: Checked,
     rack: &mut Rack,
-) -> Result<Vec<u8>, Failure>
+) -> Result<Vec<u8>, PlanFailure>
     requires plain { IsPlainCommand command }
     requires checked { IsCheckedCommand command checked }
     requires blank { All IsBlank (map (λ b. seen (b.vtable, b.value)) rack.old.boxes.items) }
-    ensures rack { LeavesFor command (map (λ b. seen (b.vtable, b.value)) rack.old.boxes.items) (map (λ b. seen (b.vtable, b.value)) rack.new.boxes.items) }
     ensures blank { All IsBlank (map (λ b. seen (b.vtable, b.value)) rack.new.boxes.items) }
-    ensures text { IfOk result (λ text. MakesText command text.items (map (λ b. seen (b.vtable, b.value)) rack.old.boxes.items) (map (λ b. seen (b.vtable, b.value)) rack.new.boxes.items)) }
-    ensures cause { IfErr result (λ f. CommandFailsFor f command (map (λ b. seen (b.vtable, b.value)) rack.old.boxes.items) (map (λ b. seen (b.vtable, b.value)) rack.new.boxes.items)) }
+    ensures text { IfOk result (λ text. MakesText command checked text.items
+        (map (λ b. seen (b.vtable, b.value)) rack.old.boxes.items)
+        (map (λ b. seen (b.vtable, b.value)) rack.new.boxes.items)) }
+    ensures cause { IfErr result (λ f. PlanFailsFor f command checked
+        (map (λ b. seen (b.vtable, b.value)) rack.old.boxes.items)
+        (map (λ b. seen (b.vtable, b.value)) rack.new.boxes.items)) }
 {
     match first_shortage(&checked, rack) {
-        Some(short) => Err(Failure::Stock(short)),
+        Some(short) => Err(PlanFailure::Stock(short)),
         None => stocked_text(rt, command, checked, rack),
     }
 }
@@ -86,46 +84,61 @@ fn stocked_text<R: AllocGlobal>(
     command: Command,
     checked: Checked,
     rack: &mut Rack,
-) -> Result<Vec<u8>, Failure>
+) -> Result<Vec<u8>, PlanFailure>
     requires plain { IsPlainCommand command }
     requires checked { IsCheckedCommand command checked }
     requires blank { All IsBlank (map (λ b. seen (b.vtable, b.value)) rack.old.boxes.items) }
     requires boxes { HasBoxes checked (map (λ b. seen (b.vtable, b.value)) rack.old.boxes.items) }
-    ensures rack { LeavesRack (plan_kinds checked.filter) (map (λ b. seen (b.vtable, b.value)) rack.old.boxes.items) (map (λ b. seen (b.vtable, b.value)) rack.new.boxes.items) }
     ensures blank { All IsBlank (map (λ b. seen (b.vtable, b.value)) rack.new.boxes.items) }
-    ensures text { IfOk result (λ text. AnswersCommand command text.items (map (λ b. seen (b.vtable, b.value)) rack.old.boxes.items) (map (λ b. seen (b.vtable, b.value)) rack.new.boxes.items)) }
-    ensures cause { IfErr result (λ f. CheckedFailsFor f command checked (map (λ b. seen (b.vtable, b.value)) rack.old.boxes.items) (map (λ b. seen (b.vtable, b.value)) rack.new.boxes.items)) }
+    ensures text { IfOk result (λ text. MakesText command checked text.items
+        (map (λ b. seen (b.vtable, b.value)) rack.old.boxes.items)
+        (map (λ b. seen (b.vtable, b.value)) rack.new.boxes.items)) }
+    ensures cause { IfErr result (λ f. PlanFailsFor f command checked
+        (map (λ b. seen (b.vtable, b.value)) rack.old.boxes.items)
+        (map (λ b. seen (b.vtable, b.value)) rack.new.boxes.items)) }
 {
     let header = command.header;
     let rows = command.chunk_rows;
     let workers = command.threads;
     match plan_of(rt.alloc(), only_table(command), checked, header, rows) {
-        Ok(plan) => plan_text(rt, rack, plan, header, workers),
-        Err(Memory) => Err(Failure::Memory),
+        Ok(Plan { specs, names, part }) => {
+            match plan_text(rt, rack, specs, names, header, workers) {
+                Ok(text) => Ok(text),
+                Err(fault) => Err(failure_of(fault, part)),
+            }
+        }
+        Err(Memory) => Err(PlanFailure::Memory),
     }
 }
 
-/// The text of what the plan gives.
+/// The text of what the plan of the specs gives.
 fn plan_text<R: AllocGlobal>(
     rt: &R,
     rack: &mut Rack,
-    plan: Plan,
+    specs: Vec<Spec>,
+    names: List<Bytes>,
     header: bool,
     workers: u32,
-) -> Result<Vec<u8>, Failure>
+) -> Result<Vec<u8>, PlanFault>
     requires blank { All IsBlank (map (λ b. seen (b.vtable, b.value)) rack.old.boxes.items) }
-    requires stock { HasStock (kinds_of plan.specs.items) (map (λ b. seen (b.vtable, b.value)) rack.old.boxes.items) }
-    requires no_list { All (λ s. kind_of s ≢ kinds.List) plan.specs.items }
-    requires some_nodes { 1 ≤ length plan.specs.items }
-    requires few_nodes { length plan.specs.items ≤ 256 }
+    requires stock { HasStock (kinds_of specs.items)
+        (map (λ b. seen (b.vtable, b.value)) rack.old.boxes.items) }
+    requires no_list { All (λ s. kind_of s ≢ kinds.List) specs.items }
+    requires some_nodes { 1 ≤ length specs.items }
+    requires few_nodes { length specs.items ≤ 256 }
     requires some_workers { 1 ≤ workers }
     requires few_workers { workers ≤ 16 }
-    ensures rack { LeavesRack (kinds_of plan.specs.items) (map (λ b. seen (b.vtable, b.value)) rack.old.boxes.items) (map (λ b. seen (b.vtable, b.value)) rack.new.boxes.items) }
+    ensures rack { LeavesRack (kinds_of specs.items)
+        (map (λ b. seen (b.vtable, b.value)) rack.old.boxes.items)
+        (map (λ b. seen (b.vtable, b.value)) rack.new.boxes.items) }
     ensures blank { All IsBlank (map (λ b. seen (b.vtable, b.value)) rack.new.boxes.items) }
-    ensures text { IfOk result (λ text. GivesText header plan.names plan.specs.items (map (λ b. seen (b.vtable, b.value)) rack.old.boxes.items) (map (λ b. seen (b.vtable, b.value)) rack.new.boxes.items) text.items) }
-    ensures cause { IfErr result (λ f. PlanFailsFor f plan.part (RunsPlan plan.specs.items (map (λ b. seen (b.vtable, b.value)) rack.old.boxes.items) (map (λ b. seen (b.vtable, b.value)) rack.new.boxes.items))) }
+    ensures text { IfOk result (λ text. GivesText header names specs.items
+        (map (λ b. seen (b.vtable, b.value)) rack.old.boxes.items)
+        (map (λ b. seen (b.vtable, b.value)) rack.new.boxes.items) text.items) }
+    ensures fault { IfErr result (λ f. PlanFaultHolds f (RunsPlan specs.items
+        (map (λ b. seen (b.vtable, b.value)) rack.old.boxes.items)
+        (map (λ b. seen (b.vtable, b.value)) rack.new.boxes.items))) }
 {
-    let Plan { specs, names, part } = plan;
     match run_plan(rt, rack, specs, workers) {
         Ok(chunks) => match write_rows(
             rt.alloc(),
@@ -133,9 +146,9 @@ fn plan_text<R: AllocGlobal>(
             chunks.as_slice(),
         ) {
             Ok(text) => Ok(text),
-            Err(Memory) => Err(Failure::Memory),
+            Err(Memory) => Err(PlanFault::Memory),
         },
-        Err(fault) => Err(failure_of(fault, part)),
+        Err(fault) => Err(fault),
     }
 }
 
@@ -147,18 +160,20 @@ fn heading_names(header: bool, names: &List<Bytes>) -> Option<&List<Bytes>>
 }
 
 // Why the plan that reads this part gave no rows.
-fn failure_of(fault: PlanFault, part: PartName) -> Failure
+fn failure_of(fault: PlanFault, part: PartName) -> PlanFailure
     requires { IsPlanFault fault }
     ensures { result ≡ failure_of fault part }
 {
     match fault {
-        PlanFault::Fault(_, WorkFault::Bad(place)) => Failure::Bad(part, place),
-        PlanFault::Fault(_, WorkFault::Read) => Failure::Read(part),
-        PlanFault::Fault(_, WorkFault::Stalled) => Failure::Stalled(part),
-        PlanFault::Fault(_, WorkFault::TooLong) => Failure::TooLong(part),
+        PlanFault::Fault(_, WorkFault::Bad(place)) => {
+            PlanFailure::Part(part, PartFailure::Bad(place))
+        }
+        PlanFault::Fault(_, WorkFault::Read) => PlanFailure::Part(part, PartFailure::Read),
+        PlanFault::Fault(_, WorkFault::Stalled) => PlanFailure::Part(part, PartFailure::Stalled),
+        PlanFault::Fault(_, WorkFault::TooLong) => PlanFailure::Part(part, PartFailure::TooLong),
         PlanFault::Fault(_, WorkFault::Memory) => unreachable!(),
         PlanFault::Fault(_, WorkFault::BadList(_)) => unreachable!(),
-        PlanFault::Stuck(kind) => Failure::Unlawful(kind),
-        PlanFault::Memory => Failure::Memory,
+        PlanFault::Stuck(kind) => PlanFailure::Unlawful(kind),
+        PlanFault::Memory => PlanFailure::Memory,
     }
 }

@@ -1,42 +1,46 @@
 ghost use Rattle.std.specs.Prelude.{◌≡◌, map, IfOk, IfErr};
 ghost use Rattle.query_model.specs.declared.query.Query.{Query};
 ghost use Rattle.sql_text.specs.Refusals.{IsReadFrom};
-ghost use Rattle.command_line.specs.Words.{IsPlainCommand};
-ghost use Rattle.query_run.specs.Headline.{IsCheckedCommand};
-ghost use Rattle.query_run.specs.Steps.{CheckFailsFor};
+ghost use Rattle.query_run.specs.Commands.{IsCheckedCommand, IsRefusedFor};
 
-use crate::ending::Failure;
+use crate::ending::Refused;
 use chunk_data::{List, Memory};
 use command_line::Command;
 use query_model::analysis::analyse;
 use query_model::checked::Checked;
-use query_model::query::{ColumnDecl, Query, Schema, TableDecl};
+use query_model::query::{ColumnDecl, Query, Refusal, Schema, TableDecl};
 use sql_text::parse;
 use std::alloc::Global;
 
 /// The checked query of the command's text.
-pub(crate) fn checked_query(alloc: Global, command: &Command) -> Result<Checked, Failure>
+pub(crate) fn checked_query(alloc: Global, command: &Command) -> Result<Checked, Refused>
     ensures checked { IfOk result (IsCheckedCommand command.now) }
-    ensures cause { IfErr result (λ f. CheckFailsFor f command.now) }
+    ensures refused { IfErr result (λ r. IsRefusedFor r command.now) }
 {
     match parse(alloc, command.query.as_slice()) {
         Ok(query) => analysed(alloc, query, command),
-        Err(refusal) => Err(Failure::RefusedText(refusal)),
+        Err(refusal) => Err(Refused::Text(refusal)),
     }
 }
 
 // The query, which was read from the command's text, checked against its tables.
-fn analysed(alloc: Global, query: Query, command: &Command) -> Result<Checked, Failure>
+fn analysed(alloc: Global, query: Query, command: &Command) -> Result<Checked, Refused>
     requires { IsReadFrom query command.now.query }
     ensures checked { IfOk result (IsCheckedCommand command.now) }
-    ensures cause { IfErr result (λ f. CheckFailsFor f command.now) }
+    ensures refused { IfErr result (λ r. IsRefusedFor r command.now) }
 {
     let Ok(schemas) = schemas_of(alloc, command.tables.as_slice()) else {
-        return Err(Failure::Memory);
+        return Err(Refused::Query(Refusal::Memory));
     };
     match analyse(alloc, query, &schemas) {
-        Ok(checked) => Ok(checked),
-        Err(refusal) => Err(Failure::RefusedQuery(refusal)),
+        Ok(checked) => {
+            if command.has_one_part() {
+                Ok(checked)
+            } else {
+                Err(Refused::NotBuilt)
+            }
+        }
+        Err(refusal) => Err(Refused::Query(refusal)),
     }
 }
 

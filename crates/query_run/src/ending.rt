@@ -1,6 +1,6 @@
-ghost use Rattle.std.specs.Prelude.{◌≡◌, ℕ, ◌≤◌, ◌++◌, ◌∷◌, [], List};
+ghost use Rattle.std.specs.Prelude.{◌≡◌, ◌≤◌};
 ghost use Rattle.outside_io.specs.Counts.{Rose};
-ghost use Rattle.query_run.specs.Endings.{text_status, query_status, failure_status, status_of, line_of, TellsLine};
+ghost use Rattle.query_run.specs.Endings.{text_status, query_status, refused_status, part_status, plan_status, failure_status, status_of, line_of, TellsLine};
 
 use crate::stock::Shortage;
 use crate::telling::{tell_failure, tell_line};
@@ -18,22 +18,43 @@ pub(crate) struct PartName {
     pub part: u32,
 }
 
+/// Why no checked query was had of a text.
+#[derive(Debug, Drop)]
+pub(crate) enum Refused {
+    /// No query was read from the text.
+    Text(ParseRefusal),
+    /// The query that was read meets a condition.
+    Query(Refusal),
+    /// The command has no plan yet: it declares no table, several tables, several parts or a list.
+    NotBuilt,
+}
+
+/// What a part failed by, or the device that it was read from.
+#[derive(Clone, Copy, Debug)]
+pub(crate) enum PartFailure {
+    Bad(BadPlace),
+    Read,
+    Stalled,
+    TooLong,
+}
+
+/// Why the plan of a checked query gave no text.
+#[derive(Debug, Drop)]
+pub(crate) enum PlanFailure {
+    /// The rack has too few boxes.
+    Stock(Shortage),
+    Part(PartName, PartFailure),
+    /// A box of this kind broke the contract of processors.
+    Unlawful(Kind),
+    Memory,
+}
+
 /// Why a run failed before its first byte was written.
 #[derive(Debug, Drop)]
 pub(crate) enum Failure {
     Usage,
-    /// No query was read from the text.
-    RefusedText(ParseRefusal),
-    /// The query that was read meets a condition.
-    RefusedQuery(Refusal),
-    /// The rack has too few boxes.
-    Stock(Shortage),
-    Bad(PartName, BadPlace),
-    Read(PartName),
-    Stalled(PartName),
-    TooLong(PartName),
-    /// A box of this kind broke the contract of processors.
-    Unlawful(Kind),
+    Refused(Refused),
+    Plan(PlanFailure),
     Memory,
 }
 
@@ -63,20 +84,46 @@ fn query_status(refusal: &Refusal) -> u8
     }
 }
 
+fn refused_status(refused: &Refused) -> u8
+    ensures { result ≡ refused_status refused.now }
+{
+    match refused {
+        Refused::Text(refusal) => text_status(*refusal),
+        Refused::Query(refusal) => query_status(refusal),
+        Refused::NotBuilt => 2,
+    }
+}
+
+fn part_status(failure: PartFailure) -> u8
+    ensures { result ≡ part_status failure }
+{
+    match failure {
+        PartFailure::Bad(_) => 3,
+        PartFailure::Read => 4,
+        PartFailure::Stalled => 4,
+        PartFailure::TooLong => 6,
+    }
+}
+
+fn plan_status(failure: &PlanFailure) -> u8
+    ensures { result ≡ plan_status failure.now }
+{
+    match failure {
+        PlanFailure::Stock(_) => 6,
+        PlanFailure::Part(_, failure) => part_status(*failure),
+        PlanFailure::Unlawful(_) => 6,
+        PlanFailure::Memory => 7,
+    }
+}
+
 impl Failure {
     fn status(&self) -> u8
         ensures { result ≡ failure_status self.now }
     {
         match self {
             Failure::Usage => 1,
-            Failure::RefusedText(refusal) => text_status(*refusal),
-            Failure::RefusedQuery(refusal) => query_status(refusal),
-            Failure::Bad(_, _) => 3,
-            Failure::Read(_) => 4,
-            Failure::Stalled(_) => 4,
-            Failure::Stock(_) => 6,
-            Failure::TooLong(_) => 6,
-            Failure::Unlawful(_) => 6,
+            Failure::Refused(refused) => refused_status(refused),
+            Failure::Plan(failure) => plan_status(failure),
             Failure::Memory => 7,
         }
     }
@@ -93,9 +140,11 @@ impl Ending {
         }
     }
 
-    /// Writes the line of the ending, piece by piece and without memory. A fault of the sink is not reported.
+    /// Writes the line of the ending, piece by piece and without memory. A fault of the sink is
+    /// not reported.
     pub(crate) fn tell<E: Sink>(&self, err: &mut E)
-        ensures line { TellsLine (line_of self.now) (E.written err.old) (E.written err.new) (Rose (E.faults err.old) (E.faults err.new)) }
+        ensures line { TellsLine (line_of self.now)
+            (E.written err.old) (E.written err.new) (Rose (E.faults err.old) (E.faults err.new)) }
         ensures faults_kept { E.faults err.old ≤ E.faults err.new }
     {
         match self {

@@ -1,4 +1,5 @@
-//! The top call: from the words of a command line, by the boxes of a rack, to the text of an answer.
+//! The top call: from the words of a command line, by the boxes of a rack, to the text of an
+//! answer.
 #![tactic(auto)]
 
 mod answer;

@@ -1,5 +1,4 @@
 ghost use Rattle.std.specs.Prelude.{◌≡◌, ◌∷◌, [], map, IfOk};
-ghost use Rattle.query_model.specs.Database.{column_types};
 ghost use Rattle.query_model.specs.declared.query.ColumnDecl.{ColumnDecl};
 ghost use Rattle.plan_laws.specs.Plans.{plan_specs};
 ghost use Rattle.command_line.specs.Words.{IsPlainCommand};
@@ -50,7 +49,8 @@ pub(crate) fn plan_of(
 ) -> Result<Plan, Memory>
     requires one_path { HasOnePath table.parts }
     requires plain { IsPlainShape checked.shape }
-    ensures specs { IfOk result (λ p. p.specs.items ≡ plan_specs (part_spec header rows table) checked.filter (items_of checked.shape)) }
+    ensures specs { IfOk result (λ p. p.specs.items
+        ≡ plan_specs (part_spec header rows table) checked.filter (items_of checked.shape)) }
     ensures names { IfOk result (λ p. p.names ≡ checked.names) }
     ensures part { IfOk result (λ p. p.part ≡ first_part table) }
 {
@@ -127,7 +127,8 @@ fn plain_items(shape: Shape) -> List<Expr>
     }
 }
 
-/// What the nodes are loaded with, in order: a source, a filter where there is WHERE, an expression, a collector.
+/// What the nodes are loaded with, in order: a source, a filter where there is WHERE, an
+/// expression, a collector.
 fn specs_of(
     alloc: Global,
     part: PartSpec,

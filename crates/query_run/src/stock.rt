@@ -33,8 +33,10 @@ pub(crate) struct Shortage {
 
 /// The first kind of which the rack has too few boxes for the plan of the query.
 pub(crate) fn first_shortage(checked: &Checked, rack: &Rack) -> Option<Shortage>
-    ensures short { IfSome result (λ s. IsShort checked.now (map (λ b. seen (b.vtable, b.value)) rack.now.boxes.items) s) }
-    ensures enough { IfNone result (HasBoxes checked.now (map (λ b. seen (b.vtable, b.value)) rack.now.boxes.items)) }
+    ensures short { IfSome result (λ s. IsShort checked.now
+        (map (λ b. seen (b.vtable, b.value)) rack.now.boxes.items) s) }
+    ensures enough { IfNone result (HasBoxes checked.now
+        (map (λ b. seen (b.vtable, b.value)) rack.now.boxes.items)) }
 {
     for kind in KINDS {
         let needed = need(checked, kind);

@@ -1,8 +1,8 @@
-ghost use Rattle.std.specs.Prelude.{◌≡◌, ℕ, ◌≤◌, ◌++◌, ◌∷◌, [], List, codes, decimal};
+ghost use Rattle.std.specs.Prelude.{◌≡◌, ◌≤◌, ◌++◌, ◌∷◌, [], List, codes, decimal};
 ghost use Rattle.outside_io.specs.Counts.{Rose};
-ghost use Rattle.query_run.specs.Endings.{text_line, query_line, kind_name, part_words, field_words, failure_line, TellsLine, Writes};
+ghost use Rattle.query_run.specs.Endings.{text_line, query_line, refused_line, kind_name, part_words, part_front, part_back, field_words, stock_words, plan_line, failure_line, TellsLine, Writes};
 
-use crate::ending::{Failure, PartName};
+use crate::ending::{Failure, PartFailure, PartName, PlanFailure, Refused};
 use crate::stock::Shortage;
 use itoa::Buffer;
 use outside_io::{Sink, WriteFault, write_all};
@@ -13,7 +13,8 @@ use sql_text::ParseRefusal;
 
 /// Writes the line of a failure and its end, piece by piece, until the sink fails.
 pub(crate) fn tell_failure<E: Sink>(failure: &Failure, err: &mut E)
-    ensures line { TellsLine (failure_line failure.now ++ 10 ∷ []) (E.written err.old) (E.written err.new) (Rose (E.faults err.old) (E.faults err.new)) }
+    ensures line { TellsLine (failure_line failure.now ++ 10 ∷ [])
+        (E.written err.old) (E.written err.new) (Rose (E.faults err.old) (E.faults err.new)) }
     ensures faults_kept { E.faults err.old ≤ E.faults err.new }
 {
     match write_failure(err, failure) {
@@ -24,7 +25,8 @@ pub(crate) fn tell_failure<E: Sink>(failure: &Failure, err: &mut E)
 
 /// Writes a line of one piece and its end.
 pub(crate) fn tell_line<E: Sink>(err: &mut E, piece: &[u8])
-    ensures line { TellsLine (piece.now ++ 10 ∷ []) (E.written err.old) (E.written err.new) (Rose (E.faults err.old) (E.faults err.new)) }
+    ensures line { TellsLine (piece.now ++ 10 ∷ [])
+        (E.written err.old) (E.written err.new) (Rose (E.faults err.old) (E.faults err.new)) }
     ensures faults_kept { E.faults err.old ≤ E.faults err.new }
 {
     match write_piece(err, piece) {
@@ -34,21 +36,26 @@ pub(crate) fn tell_line<E: Sink>(err: &mut E, piece: &[u8])
 }
 
 fn end_line<E: Sink>(err: &mut E)
-    ensures line { TellsLine (10 ∷ []) (E.written err.old) (E.written err.new) (Rose (E.faults err.old) (E.faults err.new)) }
+    ensures line { TellsLine (10 ∷ [])
+        (E.written err.old) (E.written err.new) (Rose (E.faults err.old) (E.faults err.new)) }
     ensures faults_kept { E.faults err.old ≤ E.faults err.new }
 {
     let _ = write_all(err, b"\n");
 }
 
 fn write_piece<E: Sink>(err: &mut E, piece: &[u8]) -> Result<(), WriteFault>
-    ensures line { Writes piece.now (E.written err.old) (E.written err.new) (Rose (E.faults err.old) (E.faults err.new)) result }
+    ensures line { Writes piece.now
+        (E.written err.old) (E.written err.new)
+        (Rose (E.faults err.old) (E.faults err.new)) result }
     ensures faults_kept { E.faults err.old ≤ E.faults err.new }
 {
     write_all(err, piece)
 }
 
 fn write_two<E: Sink>(err: &mut E, first: &[u8], second: &[u8]) -> Result<(), WriteFault>
-    ensures line { Writes (first.now ++ second.now) (E.written err.old) (E.written err.new) (Rose (E.faults err.old) (E.faults err.new)) result }
+    ensures line { Writes (first.now ++ second.now)
+        (E.written err.old) (E.written err.new)
+        (Rose (E.faults err.old) (E.faults err.new)) result }
     ensures faults_kept { E.faults err.old ≤ E.faults err.new }
 {
     match write_piece(err, first) {
@@ -59,7 +66,9 @@ fn write_two<E: Sink>(err: &mut E, first: &[u8], second: &[u8]) -> Result<(), Wr
 
 /// Writes a number in decimal, behind a piece.
 fn write_number<E: Sink>(err: &mut E, front: &[u8], number: u64) -> Result<(), WriteFault>
-    ensures line { Writes (front.now ++ decimal number) (E.written err.old) (E.written err.new) (Rose (E.faults err.old) (E.faults err.new)) result }
+    ensures line { Writes (front.now ++ decimal number)
+        (E.written err.old) (E.written err.new)
+        (Rose (E.faults err.old) (E.faults err.new)) result }
     ensures faults_kept { E.faults err.old ≤ E.faults err.new }
 {
     let mut digits = Buffer::new();
@@ -68,7 +77,9 @@ fn write_number<E: Sink>(err: &mut E, front: &[u8], number: u64) -> Result<(), W
 
 /// Writes what names a part, behind a piece.
 fn write_part<E: Sink>(err: &mut E, front: &[u8], name: &PartName) -> Result<(), WriteFault>
-    ensures line { Writes (front.now ++ part_words name.now) (E.written err.old) (E.written err.new) (Rose (E.faults err.old) (E.faults err.new)) result }
+    ensures line { Writes (front.now ++ part_words name.now)
+        (E.written err.old) (E.written err.new)
+        (Rose (E.faults err.old) (E.faults err.new)) result }
     ensures faults_kept { E.faults err.old ≤ E.faults err.new }
 {
     match write_two(err, front, b"table ") {
@@ -78,7 +89,9 @@ fn write_part<E: Sink>(err: &mut E, front: &[u8], name: &PartName) -> Result<(),
 }
 
 fn write_table<E: Sink>(err: &mut E, name: &PartName) -> Result<(), WriteFault>
-    ensures line { Writes (name.now.table ++ (codes " part " ++ decimal name.now.part)) (E.written err.old) (E.written err.new) (Rose (E.faults err.old) (E.faults err.new)) result }
+    ensures line { Writes (name.now.table ++ (codes " part " ++ decimal name.now.part))
+        (E.written err.old) (E.written err.new)
+        (Rose (E.faults err.old) (E.faults err.new)) result }
     ensures faults_kept { E.faults err.old ≤ E.faults err.new }
 {
     match write_piece(err, name.table.as_slice()) {
@@ -88,7 +101,9 @@ fn write_table<E: Sink>(err: &mut E, name: &PartName) -> Result<(), WriteFault>
 }
 
 fn write_field<E: Sink>(err: &mut E, field: BadField) -> Result<(), WriteFault>
-    ensures line { Writes (field_words field) (E.written err.old) (E.written err.new) (Rose (E.faults err.old) (E.faults err.new)) result }
+    ensures line { Writes (field_words field)
+        (E.written err.old) (E.written err.new)
+        (Rose (E.faults err.old) (E.faults err.new)) result }
     ensures faults_kept { E.faults err.old ≤ E.faults err.new }
 {
     match field {
@@ -98,7 +113,9 @@ fn write_field<E: Sink>(err: &mut E, field: BadField) -> Result<(), WriteFault>
 }
 
 fn write_place<E: Sink>(err: &mut E, place: BadPlace) -> Result<(), WriteFault>
-    ensures line { Writes (codes " row " ++ decimal place.row ++ field_words place.field) (E.written err.old) (E.written err.new) (Rose (E.faults err.old) (E.faults err.new)) result }
+    ensures line { Writes (codes " row " ++ decimal place.row ++ field_words place.field)
+        (E.written err.old) (E.written err.new)
+        (Rose (E.faults err.old) (E.faults err.new)) result }
     ensures faults_kept { E.faults err.old ≤ E.faults err.new }
 {
     match write_number(err, b" row ", place.row) {
@@ -107,28 +124,41 @@ fn write_place<E: Sink>(err: &mut E, place: BadPlace) -> Result<(), WriteFault>
     }
 }
 
-fn write_bad<E: Sink>(err: &mut E, name: &PartName, place: BadPlace) -> Result<(), WriteFault>
-    ensures line { Writes ((codes "qrun: bad data: " ++ part_words name.now) ++ (codes " row " ++ decimal place.row ++ field_words place.field)) (E.written err.old) (E.written err.new) (Rose (E.faults err.old) (E.faults err.new)) result }
+/// Writes what is told of a part behind its name.
+fn write_part_back<E: Sink>(err: &mut E, failure: PartFailure) -> Result<(), WriteFault>
+    ensures line { Writes (part_back failure)
+        (E.written err.old) (E.written err.new)
+        (Rose (E.faults err.old) (E.faults err.new)) result }
     ensures faults_kept { E.faults err.old ≤ E.faults err.new }
 {
-    match write_part(err, b"qrun: bad data: ", name) {
-        Ok(()) => write_place(err, place),
-        Err(fault) => Err(fault),
+    match failure {
+        PartFailure::Bad(place) => write_place(err, place),
+        PartFailure::Read => write_piece(err, b""),
+        PartFailure::Stalled => write_piece(err, b""),
+        PartFailure::TooLong => write_piece(err, b", at most 1073741824"),
     }
 }
 
-fn write_too_long<E: Sink>(err: &mut E, name: &PartName) -> Result<(), WriteFault>
-    ensures line { Writes ((codes "qrun: limit: bytes of " ++ part_words name.now) ++ codes ", at most 1073741824") (E.written err.old) (E.written err.new) (Rose (E.faults err.old) (E.faults err.new)) result }
+fn write_part_failure<E: Sink>(
+    err: &mut E,
+    name: &PartName,
+    failure: PartFailure,
+) -> Result<(), WriteFault>
+    ensures line { Writes (part_front failure ++ part_words name.now ++ part_back failure)
+        (E.written err.old) (E.written err.new)
+        (Rose (E.faults err.old) (E.faults err.new)) result }
     ensures faults_kept { E.faults err.old ≤ E.faults err.new }
 {
-    match write_part(err, b"qrun: limit: bytes of ", name) {
-        Ok(()) => write_piece(err, b", at most 1073741824"),
+    match write_part(err, part_front(failure), name) {
+        Ok(()) => write_part_back(err, failure),
         Err(fault) => Err(fault),
     }
 }
 
 fn write_counts<E: Sink>(err: &mut E, short: Shortage) -> Result<(), WriteFault>
-    ensures line { Writes ((codes " needed " ++ decimal short.needed) ++ (codes ", rack has " ++ decimal short.there)) (E.written err.old) (E.written err.new) (Rose (E.faults err.old) (E.faults err.new)) result }
+    ensures line { Writes (stock_words short.needed short.there)
+        (E.written err.old) (E.written err.new)
+        (Rose (E.faults err.old) (E.faults err.new)) result }
     ensures faults_kept { E.faults err.old ≤ E.faults err.new }
 {
     match write_number(err, b" needed ", short.needed as u64) {
@@ -138,7 +168,11 @@ fn write_counts<E: Sink>(err: &mut E, short: Shortage) -> Result<(), WriteFault>
 }
 
 fn write_stock<E: Sink>(err: &mut E, short: Shortage) -> Result<(), WriteFault>
-    ensures line { Writes ((codes "qrun: limit: boxes of kind " ++ kind_name short.kind) ++ ((codes " needed " ++ decimal short.needed) ++ (codes ", rack has " ++ decimal short.there))) (E.written err.old) (E.written err.new) (Rose (E.faults err.old) (E.faults err.new)) result }
+    ensures line { Writes
+        (codes "qrun: limit: boxes of kind " ++ kind_name short.kind
+        ++ stock_words short.needed short.there)
+        (E.written err.old) (E.written err.new)
+        (Rose (E.faults err.old) (E.faults err.new)) result }
     ensures faults_kept { E.faults err.old ≤ E.faults err.new }
 {
     match write_two(err, b"qrun: limit: boxes of kind ", kind_name(short.kind)) {
@@ -149,33 +183,72 @@ fn write_stock<E: Sink>(err: &mut E, short: Shortage) -> Result<(), WriteFault>
 
 // The line of a failure, without its end.
 fn write_failure<E: Sink>(err: &mut E, failure: &Failure) -> Result<(), WriteFault>
-    ensures line { Writes (failure_line failure.now) (E.written err.old) (E.written err.new) (Rose (E.faults err.old) (E.faults err.new)) result }
+    ensures line { Writes (failure_line failure.now)
+        (E.written err.old) (E.written err.new)
+        (Rose (E.faults err.old) (E.faults err.new)) result }
     ensures faults_kept { E.faults err.old ≤ E.faults err.new }
 {
     match failure {
-        Failure::Usage => write_piece(err, b"qrun: usage"),
-        Failure::RefusedText(refusal) => write_piece(err, text_line(*refusal)),
-        Failure::RefusedQuery(refusal) => write_refusal(err, refusal),
-        Failure::Stock(short) => write_stock(err, *short),
-        Failure::Bad(name, place) => write_bad(err, name, *place),
-        Failure::Read(name) => write_part(err, b"qrun: read fault: ", name),
-        Failure::Stalled(name) => write_part(err, b"qrun: stalled: ", name),
-        Failure::TooLong(name) => write_too_long(err, name),
-        Failure::Unlawful(kind) => write_two(
+        Failure::Usage => write_piece(
             err,
-            b"qrun: limit: unlawful box of kind ",
-            kind_name(*kind),
+            b"qrun: usage: qrun --query QUERY [--tables TABLES] [--threads N] [--chunk N] [--header]",
         ),
+        Failure::Refused(refused) => write_refused(err, refused),
+        Failure::Plan(failure) => write_plan_failure(err, failure),
         Failure::Memory => write_piece(err, b"qrun: out of memory"),
     }
 }
 
+fn write_plan_failure<E: Sink>(err: &mut E, failure: &PlanFailure) -> Result<(), WriteFault>
+    ensures line { Writes (plan_line failure.now)
+        (E.written err.old) (E.written err.new)
+        (Rose (E.faults err.old) (E.faults err.new)) result }
+    ensures faults_kept { E.faults err.old ≤ E.faults err.new }
+{
+    match failure {
+        PlanFailure::Stock(short) => write_stock(err, *short),
+        PlanFailure::Part(name, failure) => write_part_failure(err, name, *failure),
+        PlanFailure::Unlawful(kind) => write_two(
+            err,
+            b"qrun: limit: unlawful box of kind ",
+            kind_name(*kind),
+        ),
+        PlanFailure::Memory => write_piece(err, b"qrun: out of memory"),
+    }
+}
+
+fn write_refused<E: Sink>(err: &mut E, refused: &Refused) -> Result<(), WriteFault>
+    ensures line { Writes (refused_line refused.now)
+        (E.written err.old) (E.written err.new)
+        (Rose (E.faults err.old) (E.faults err.new)) result }
+    ensures faults_kept { E.faults err.old ≤ E.faults err.new }
+{
+    match refused {
+        Refused::Text(refusal) => write_piece(err, text_line(*refusal)),
+        Refused::Query(refusal) => write_refusal(err, refusal),
+        Refused::NotBuilt => write_piece(err, b"qrun: refused: NotBuilt"),
+    }
+}
+
 fn write_refusal<E: Sink>(err: &mut E, refusal: &Refusal) -> Result<(), WriteFault>
-    ensures line { Writes (query_line refusal.now) (E.written err.old) (E.written err.new) (Rose (E.faults err.old) (E.faults err.new)) result }
+    ensures line { Writes (query_line refusal.now)
+        (E.written err.old) (E.written err.new)
+        (Rose (E.faults err.old) (E.faults err.new)) result }
     ensures faults_kept { E.faults err.old ≤ E.faults err.new }
 {
     let (front, name) = query_line(refusal);
     write_two(err, front, name)
+}
+
+fn part_front(failure: PartFailure) -> &'static [u8]
+    ensures { result.now ≡ part_front failure }
+{
+    match failure {
+        PartFailure::Bad(_) => b"qrun: bad data: ",
+        PartFailure::Read => b"qrun: read fault: ",
+        PartFailure::Stalled => b"qrun: stalled: ",
+        PartFailure::TooLong => b"qrun: limit: bytes of ",
+    }
 }
 
 fn text_line(refusal: ParseRefusal) -> &'static [u8]

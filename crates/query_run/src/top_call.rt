@@ -1,17 +1,16 @@
-ghost use Rattle.std.specs.Prelude.{◌≡◌, ◌≢◌, ◌⊎◌, map, string_bytes, None};
+ghost use Rattle.std.specs.Prelude.{map, string_bytes};
 ghost use Rattle.std.specs.List.{All};
 ghost use Rattle.outside_io.specs.Counts.{Rose};
-ghost use Rattle.outside_io.specs.Growth.{Untouched};
-ghost use Rattle.command_line.specs.Words.{command_of};
 ghost use Rattle.proc_api.specs.Clauses.{IsBlank};
-ghost use Rattle.query_run.specs.Headline.{Ends, EndsFor, IsAccepted, LacksBoxes, LeavesBoxes, OfChecked, OfCommand, PulledRows, ServerFailedOrStalled, SucceedsUnless, WritesAnswer};
+ghost use Rattle.query_run.specs.Headline.{EndsFor, IsRun};
 
 use crate::answer::make_text;
 use crate::ending::Ending;
 use outside_io::{Sink, WriteFault, write_all};
 use proc_api::Rack;
 
-/// Runs the command that the words mean, which are those after the program's name, by boxes of the rack.
+/// Runs the command that the words mean, which are those after the program's name, by boxes of the
+/// rack.
 ///
 /// The answer's text goes to `out`, whole and in one piece after the last step that can fail for
 /// another cause; a line that tells of any other end goes to `err`. The answer is the exit status:
@@ -26,26 +25,12 @@ pub fn run<R: AllocGlobal, O: Sink, E: Sink>(
 ) -> u8
     requires blank { All IsBlank (map (λ b. seen (b.vtable, b.value)) rack.old.boxes.items) }
 
-    // The headline: an answered run over an honest rack wrote exactly the text of one answer of the
-    // query's plain meaning over the files' rows, and any other end but a write fault wrote nothing.
-    ensures answered { result ≡ 0 → WritesAnswer (map string_bytes words.now) (map (λ b. seen (b.vtable, b.value)) rack.old.boxes.items) (O.written out.old) (O.written out.new) }
-    ensures untouched { result ≢ 0 → result ≢ 5 → Untouched (O.written out.old) (O.written out.new) }
-
-    // Every end has its status, its line and its cause.
-    ensures ends { Ends (map string_bytes words.now) (map (λ b. seen (b.vtable, b.value)) rack.old.boxes.items) (map (λ b. seen (b.vtable, b.value)) rack.new.boxes.items) result (O.written out.old) (O.written out.new) (E.written err.old) (E.written err.new)
-        (Rose (O.faults out.old) (O.faults out.new)) (Rose (E.faults err.old) (E.faults err.new)) }
-    ensures usage { command_of (map string_bytes words.now) ≡ None → (result ≡ 1) ⊎ (result ≡ 7) }
-    ensures refused { OfCommand (map string_bytes words.now) (λ c. IsAccepted c → ⊥) → (result ≡ 2) ⊎ (result ≡ 7) }
-    ensures stock { OfCommand (map string_bytes words.now) (λ c. OfChecked c (λ q. LacksBoxes q (map (λ b. seen (b.vtable, b.value)) rack.old.boxes.items))) → (result ≡ 6) ⊎ (result ≡ 7) }
-
-    // Whatever the status, the rack has its boxes again, and they have done the work.
-    ensures rack { LeavesBoxes (map string_bytes words.now) (map (λ b. seen (b.vtable, b.value)) rack.old.boxes.items) (map (λ b. seen (b.vtable, b.value)) rack.new.boxes.items) }
-    ensures blank { All IsBlank (map (λ b. seen (b.vtable, b.value)) rack.new.boxes.items) }
-    ensures pulled { result ≡ 0 → PulledRows (map string_bytes words.now) (map (λ b. seen (b.vtable, b.value)) rack.old.boxes.items) (map (λ b. seen (b.vtable, b.value)) rack.new.boxes.items) (O.written out.old) (O.written out.new) }
-
-    // Completeness: a valid command over valid files ends answered or out of memory.
-    ensures succeeds { SucceedsUnless (map string_bytes words.now) (map (λ b. seen (b.vtable, b.value)) rack.old.boxes.items)
-        (ServerFailedOrStalled (map string_bytes words.now) (map (λ b. seen (b.vtable, b.value)) rack.old.boxes.items) (map (λ b. seen (b.vtable, b.value)) rack.new.boxes.items) ⊎ Rose (O.faults out.old) (O.faults out.new)) result }
+    // All that is proved of a run: how it ended, the headline, and what else follows.
+    ensures { IsRun (map string_bytes words.now)
+        (map (λ b. seen (b.vtable, b.value)) rack.old.boxes.items)
+        (map (λ b. seen (b.vtable, b.value)) rack.new.boxes.items) result
+        (O.written out.old) (O.written out.new) (Rose (O.faults out.old) (O.faults out.new))
+        (E.written err.old) (E.written err.new) (Rose (E.faults err.old) (E.faults err.new)) }
 {
     let ending = end_of(rt, words, rack, out);
     ending.tell(err);
@@ -54,8 +39,10 @@ pub fn run<R: AllocGlobal, O: Sink, E: Sink>(
 
 fn end_of<R: AllocGlobal, O: Sink>(rt: &R, words: &[String], rack: &mut Rack, out: &mut O) -> Ending
     requires blank { All IsBlank (map (λ b. seen (b.vtable, b.value)) rack.old.boxes.items) }
-    ensures ends { EndsFor result (map string_bytes words.now) (map (λ b. seen (b.vtable, b.value)) rack.old.boxes.items) (map (λ b. seen (b.vtable, b.value)) rack.new.boxes.items) (O.written out.old) (O.written out.new) (Rose (O.faults out.old) (O.faults out.new)) }
-    ensures rack { LeavesBoxes (map string_bytes words.now) (map (λ b. seen (b.vtable, b.value)) rack.old.boxes.items) (map (λ b. seen (b.vtable, b.value)) rack.new.boxes.items) }
+    ensures ends { EndsFor result (map string_bytes words.now)
+        (map (λ b. seen (b.vtable, b.value)) rack.old.boxes.items)
+        (map (λ b. seen (b.vtable, b.value)) rack.new.boxes.items)
+        (O.written out.old) (O.written out.new) (Rose (O.faults out.old) (O.faults out.new)) }
     ensures blank { All IsBlank (map (λ b. seen (b.vtable, b.value)) rack.new.boxes.items) }
 {
     match make_text(rt, words, rack) {

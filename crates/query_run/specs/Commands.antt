@@ -1,0 +1,62 @@
+-- What a command's text means: its checked query, or why it is refused.
+use Rattle.std.specs.Prelude.{◌≡◌, ℕ, true, false, List, map, Some, None}
+use Rattle.query_model.specs.Analysis.{IsDue, IsTypedQuery, from_types}
+use Rattle.query_model.specs.Checks.{IsChecked}
+use Rattle.query_model.specs.Refusals.{refusal_of}
+use Rattle.query_model.specs.declared.query.Query.{Query}
+use Rattle.query_model.specs.declared.query.Refusal.{Refusal}
+use Rattle.query_model.specs.declared.query.Schema.{Schema}
+use Rattle.query_model.specs.declared.query.TableDecl.{TableDecl}
+use Rattle.query_model.specs.declared.checked.Checked.{Checked}
+use Rattle.sql_text.specs.Refusals.{IsReadFrom, IsRefused}
+use Rattle.command_line.specs.Words.{command_of, has_one_table}
+use Rattle.command_line.specs.declared.words.Command.{Command}
+use Rattle.query_run.specs.declared.ending.Refused.{Refused}
+use Rattle.query_run.specs.declared.ending.Refused.TheVariants as refused
+
+abbrev pub schemas_of : Command → List Schema
+schemas_of command = map (λ (t : TableDecl). t.schema) command.tables
+
+-- the words mean a command of which this is true
+pub record OfCommand (words : List (List ℕ)) (P : Command → Type 0) : Type 0 where
+  pub command : Command
+  pub means : command_of words ≡ Some command
+  pub holds : P command
+
+-- a query is read from the command's text, and no condition refuses it
+pub record IsAccepted (command : Command) : Type 0 where
+  pub query : Query
+  pub read : IsReadFrom query command.query
+  pub accepted : refusal_of query (schemas_of command) ≡ None
+  pub planned : has_one_table command.tables ≡ true
+
+-- a query is read from the command's text, not refused, and checked so
+pub record IsCheckedCommand (command : Command) (checked : Checked) : Type 0 where
+  pub query : Query
+  pub read : IsReadFrom query command.query
+  pub accepted : refusal_of query (schemas_of command) ≡ None
+  pub is : IsChecked query (schemas_of command) checked
+  pub typed : IsTypedQuery (from_types query (schemas_of command)) checked
+  pub planned : has_one_table command.tables ≡ true
+
+-- the command has a checked query, and this is true of it
+pub record OfChecked (command : Command) (P : Checked → Type 0) : Type 0 where
+  pub checked : Checked
+  pub is : IsCheckedCommand command checked
+  pub holds : P checked
+
+-- the same of what words mean
+abbrev pub OfQuery : List (List ℕ) → (Command → Checked → Type 0) → Type 0
+OfQuery words P = OfCommand words (λ c. OfChecked c (P c))
+
+-- a query is read from the command's text, and the refusal is the one that is due of it
+pub record IsRefusedQuery (command : Command) (refusal : Refusal) : Type 0 where
+  pub query : Query
+  pub read : IsReadFrom query command.query
+  pub due : IsDue query (schemas_of command) refusal
+
+-- why a command has no checked query; want of memory is free
+abbrev pub IsRefusedFor : Refused → Command → Type 0
+IsRefusedFor (refused.Text refusal) command = IsRefused refusal command.query
+IsRefusedFor (refused.Query refusal) command = IsRefusedQuery command refusal
+IsRefusedFor refused.NotBuilt command = has_one_table command.tables ≡ false
