@@ -15,8 +15,6 @@ mod compact;
 mod lists;
 mod row_chunk;
 mod row_order;
-#[cfg(test)]
-mod tests;
 mod text_column;
 mod typed_access;
 mod typed_column;

@@ -13,8 +13,6 @@ mod real_files;
 mod real_sink;
 mod script;
 mod sink;
-#[cfg(test)]
-mod tests;
 
 pub use entries::{Failed, Fake, FakeKind, FileEntry, Got, WriteFault};
 pub use memory_files::MemFiles;
