@@ -1,7 +1,7 @@
 -- Values, rows and tables, and how they are ordered.
 use Rattle.std.specs.Prelude.{◌≡◌, ℕ, ◌<◌, Bool, true, false, List, [], ◌∷◌, length, pos, slice_get, slice_index_or}
 use Rattle.std.specs.List.{All}
-use Rattle.std.specs.Ordering.{nat_cmp, int_cmp, is_eq, ordering_then}
+use Rattle.std.specs.Ordering.{nat_cmp, int_cmp, is_eq, ordering_reverse, ordering_then}
 use Rattle.std.specs.declared.cmp.Ordering.{Ordering}
 use Rattle.std.specs.declared.cmp.Ordering.TheVariants.{Less, Equal, Greater}
 use Rattle.std.specs.Cmp.Lexicographic.{slice_cmp}
@@ -78,7 +78,7 @@ same_row a b = is_eq (slice_cmp value_cmp a b)
 
 abbrev pub key_cmp : Bool → Value → Value → Ordering
 key_cmp false a b = value_cmp a b
-key_cmp true a b = value_cmp b a
+key_cmp true a b = ordering_reverse (value_cmp a b)
 
 -- the key's column stands in both lists of types, with one type
 abbrev pub AgreeOnKey : List ColumnType → List ColumnType → SortKey → Type 0

@@ -33,11 +33,10 @@ fn compare_by(left: &Chunk, i: usize, right: &Chunk, j: usize, key: &SortKey) ->
     ensures { result ≡ key_cmp key.now.descending (value_at (row_at left.now.rows i) key.now.column) (value_at (row_at right.now.rows j) key.now.column) }
 {
     let place = key.column as usize;
-    let here = left.column(place);
-    let there = right.column(place);
+    let order = left.column(place).compare(i, right.column(place), j);
     if key.descending {
-        there.compare(j, here, i)
+        order.reverse()
     } else {
-        here.compare(i, there, j)
+        order
     }
 }
