@@ -1,6 +1,7 @@
 -- Laws of answers: output rows of parts, rows in another order, no keys and no limit.
-use Rattle.std.proofs.Common.{◌≡◌, Bool, true, false, List, [], ◌∷◌, ◌++◌, map, filter, refl, sym, ap, ◌∙◌, subst, arith, IsPermutation, IsSorted, Option, Some, None}
-use Rattle.std.specs.Cmp.{IsTotalOrder, on_total, back_total, then_total}
+use Rattle.std.proofs.Common.{◌≡◌, Bool, true, false, List, [], ◌∷◌, ◌++◌, map, filter, refl, sym, ap, ◌∙◌, subst, arith, IsPermutation, IsSorted, Option, Some, None, Ordering}
+use Rattle.std.specs.Cmp.{IsTotalOrder, on_total, then_total}
+use Rattle.std.specs.Ordering.{ordering_reverse}
 use Rattle.std.proofs.lemmas.List.{map-append}
 use Rattle.std.proofs.lemmas.List.Elements.{filter-append}
 use Rattle.std.proofs.lemmas.List.Sorted.{IsPermutation-refl, IsPermutation-sym, IsPermutation-map, IsPermutation-trans, length_permutation}
@@ -67,6 +68,14 @@ any_order_answers rows a h = record { ordered = a; same_rows = h; in_order = IsS
 pub answers_any_order : (rows a : List Row) → IsOrderedAnswer [] None rows a → IsPermutation rows a
 answers_any_order rows a o = subst (IsPermutation rows) (sym o.is) o.same_rows
 
+-- an order whose answers are turned round is total where the order is
+turned_total : {K : Type 0} {R : K → K → Ordering} → IsTotalOrder R → IsTotalOrder (λ a b. ordering_reverse (R a b))
+turned_total o = record {
+  antisymm = λ a b. ap ordering_reverse (o.antisymm a b);
+  trans = λ a b c h k. sym (o.antisymm c a) ∙ o.trans c b a (o.antisymm c b ∙ k) (o.antisymm b a ∙ h);
+  congr = λ a b c e. ap ordering_reverse (o.congr a b c (o.antisymm a b ∙ ap ordering_reverse (o.antisymm b a ∙ e)))
+}
+
 -- the order of rows by keys is total
 pub row_cmp_total : (keys : List SortKey) → IsTotalOrder (row_cmp keys)
 unfolding row_cmp
@@ -75,4 +84,4 @@ row_cmp_total (key ∷ keys) = then_total (on_total (λ (r : Row). value_at r ke
   where
     by : (descending : Bool) → IsTotalOrder (key_cmp descending)
     by false = Rattle.query_model.proofs.ValueOrder.value_cmp_total
-    by true = back_total Rattle.query_model.proofs.ValueOrder.value_cmp_total
+    by true = turned_total Rattle.query_model.proofs.ValueOrder.value_cmp_total

@@ -86,9 +86,14 @@ then_equal Less p h = absurd cc
 then_equal Equal p h = (refl, h)
 then_equal Greater p h = absurd cc
 
+turned_equal : (o : Ordering) → ordering_reverse o ≡ Equal → o ≡ Equal
+turned_equal Less h = absurd cc
+turned_equal Equal h = refl
+turned_equal Greater h = absurd cc
+
 tied_key : (descending : Bool) (a b : Value) → key_cmp descending a b ≡ Equal → a ≡ b
 tied_key false a b h = value_cmp-IsAntisymmetric a b h
-tied_key true a b h = sym (value_cmp-IsAntisymmetric b a h)
+tied_key true a b h = value_cmp-IsAntisymmetric a b (turned_equal _ h)
 
 tied_at : (keys : List SortKey) (c : ℕ) (a b : Row) → NamesColumn keys c → row_cmp keys a b ≡ Equal → value_at a c ≡ value_at b c
 unfolding row_cmp

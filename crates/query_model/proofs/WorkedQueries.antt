@@ -1,15 +1,12 @@
 -- Worked queries from their names to their answers: grouping, HAVING, aliases, keys, order, limit and join.
-use Rattle.std.specs.Prelude.{◌≡◌, ℕ, true, false, List, [], ◌∷◌, pos, Option, Some, None, codes, refl}
+use Rattle.std.specs.Prelude.{◌≡◌, ℕ, true, false, List, [], ◌∷◌, pos, Some, None, codes, refl}
 use Rattle.std.proofs.Common.{lit<}
 use Rattle.std.specs.Fmt.{digits}
 use Rattle.chunk_data.specs.Values.{Row, row_cmp}
 use Rattle.chunk_data.specs.declared.typed_value.Value.TheVariants.{Int, UInt}
-use Rattle.chunk_data.specs.declared.typed_value.ColumnType.{ColumnType}
 use Rattle.chunk_data.specs.declared.typed_value.ColumnType.TheVariants as column
-use Rattle.chunk_data.specs.declared.typed_value.SortKey.{SortKey}
-use Rattle.query_model.specs.Answers.{enough, limited, IsAnswer}
+use Rattle.query_model.specs.Answers.{enough, IsAnswer}
 use Rattle.query_model.specs.Checks.{IsChecked}
-use Rattle.query_model.specs.Expressions.{Cond}
 use Rattle.query_model.specs.Parts.{parts_rows}
 use Rattle.query_model.specs.Refusals.{refusal_of, expr_columns, cond_operands, expr_kind, cond_fits}
 use Rattle.query_model.specs.Sources.{Database}
@@ -21,7 +18,6 @@ use Rattle.query_model.specs.declared.query.ColumnDecl.{ColumnDecl}
 use Rattle.query_model.specs.declared.query.ColumnRef.{ColumnRef}
 use Rattle.query_model.specs.declared.query.CompareOp.TheVariants as compare
 use Rattle.query_model.specs.declared.query.CondOf.TheVariants as cond'
-use Rattle.query_model.specs.declared.query.ExprOf.{ExprOf}
 use Rattle.query_model.specs.declared.query.ExprOf.TheVariants as expr
 use Rattle.query_model.specs.declared.query.Item.{Item}
 use Rattle.query_model.specs.declared.query.ItemKind.{ItemKind}

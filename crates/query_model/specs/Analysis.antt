@@ -1,11 +1,16 @@
--- What analysis answers, and which queries are analysed so far.
-use Rattle.std.specs.Prelude.{◌≡◌, List, [], map, Option, Some, None, ⊤}
+-- What analysis asks and answers.
+use Rattle.std.specs.Prelude.{◌≡◌, ◌<◌, List, [], length, map, is_some, Bool, true, false, Option, Some, None, ⊤}
 use Rattle.std.specs.List.{All}
 use Rattle.chunk_data.specs.declared.typed_value.ColumnType.{ColumnType}
 use Rattle.query_model.specs.Expressions.{Cond}
-use Rattle.query_model.specs.Typing.{IsItem, IsTypedCond}
+use Rattle.query_model.specs.Typing.{IsItem, IsTypedCall, IsTypedCond, group_types}
+use Rattle.query_model.specs.Checks.{query_calls}
 use Rattle.query_model.specs.Refusals.{FromColumn, from_columns, listed, operands_of, refusal_of}
+use Rattle.query_model.specs.declared.query.AggOp.{AggOp}
+use Rattle.query_model.specs.declared.query.AggOp.TheVariants.{Count, Sum, Min, Max}
+use Rattle.query_model.specs.declared.query.AggCall.{AggCall}
 use Rattle.query_model.specs.declared.query.ColumnRef.{ColumnRef}
+use Rattle.query_model.specs.declared.query.ExprOf.TheVariants as expr
 use Rattle.query_model.specs.declared.query.Operand.{Operand}
 use Rattle.query_model.specs.declared.query.Operand.TheVariants as operand
 use Rattle.query_model.specs.declared.query.Item.{Item}
@@ -17,6 +22,7 @@ use Rattle.query_model.specs.declared.query.Query.{Query}
 use Rattle.query_model.specs.declared.query.Schema.{Schema}
 use Rattle.query_model.specs.declared.query.Refusal.{Refusal}
 use Rattle.query_model.specs.declared.query.Refusal.TheVariants as refuse
+use Rattle.query_model.specs.declared.checked.Grouping.{Grouping}
 use Rattle.query_model.specs.declared.checked.Shape.{Shape}
 use Rattle.query_model.specs.declared.checked.Shape.TheVariants as shape
 use Rattle.query_model.specs.declared.checked.Checked.{Checked}
@@ -34,13 +40,30 @@ IsNoCall (operand.Plain e) = ⊤
 IsNoCall (operand.Text bytes) = ⊤
 IsNoCall (operand.Agg call) = ⊥
 
--- a query of one table, without grouping: what is analysed so far
-pub record IsUngrouped (q : Query) : Type 0 where
-  pub one_table : q.join ≡ None
-  pub items : All (λ (i : Item). HasNoCall i.what) (listed q.items)
+-- an operand of HAVING: a column, a plain number, a text or a call
+abbrev pub IsGroupOperand : Operand ColumnRef → Type 0
+IsGroupOperand (operand.Plain (expr.Column c)) = ⊤
+IsGroupOperand (operand.Plain (expr.Number n)) = ⊤
+IsGroupOperand (operand.Plain (expr.Arith' op p a q b)) = ⊥
+IsGroupOperand (operand.Text bytes) = ⊤
+IsGroupOperand (operand.Agg call) = ⊤
+
+abbrev pub takes_argument : AggOp → Bool
+takes_argument Count = false
+takes_argument Sum = true
+takes_argument Min = true
+takes_argument Max = true
+
+-- `count` has no argument, and each other call has one
+abbrev pub HasItsArgument : AggCall ColumnRef → Type 0
+HasItsArgument call = is_some call.arg ≡ takes_argument call.op
+
+-- What analysis asks of a query, and a query that is parsed has: WHERE has no call, and HAVING the
+-- operands of groups.
+pub record IsAnalysable (q : Query) : Type 0 where
   pub filter : All IsNoCall (operands_of q.filter)
-  pub ungrouped : q.keys ≡ []
-  pub no_having : q.having ≡ None
+  pub having : All IsGroupOperand (operands_of q.having)
+  pub calls : All HasItsArgument (query_calls q)
 
 -- a query of one declared table, without grouping, order and limit
 pub record IsPlainQuery (q : Query) : Type 0 where
@@ -70,15 +93,21 @@ abbrev pub from_types : Query → List Schema → List ColumnType
 from_types q schemas = map (λ (c : FromColumn). c.type) (from_columns q schemas)
 
 abbrev pub IsTypedFilter : List ColumnType → Option Cond → Type 0
-IsTypedFilter types None = ⊤
+IsTypedFilter types None = Unit {0}
 IsTypedFilter types (Some c) = IsTypedCond types c
 
--- no shape of groups is made so far
+-- Keys and calls are over the rows' columns, HAVING and the places of items over a row of groups.
+pub record IsTypedGrouping (types : List ColumnType) (g : Grouping) : Type 0 where
+  pub keys : All (λ k. k < length types) g.keys
+  pub calls : All (IsTypedCall types) g.calls
+  pub having : IsTypedFilter (group_types g types) g.having
+  pub picks : All (λ p. p < length (group_types g types)) g.picks
+
 abbrev pub IsTypedShape : List ColumnType → Shape → Type 0
 IsTypedShape types (shape.Plain items) = All (IsItem types) items
-IsTypedShape types (shape.Grouped g) = ⊥
+IsTypedShape types (shape.Grouped g) = IsTypedGrouping types g
 
--- items and condition are typed by the columns of From
+-- what is made of rows and the condition of WHERE are typed by the columns of From
 pub record IsTypedQuery (types : List ColumnType) (c : Checked) : Type 0 where
   pub items : IsTypedShape types c.shape
   pub filter : IsTypedFilter types c.filter

@@ -19,3 +19,4 @@ pub mod Projection
 pub mod Typing
 pub mod Analysis
 pub mod Placing
+pub mod Need

@@ -1,46 +1,20 @@
 -- Queries that choose columns of one table, `SELECT a, b FROM t`.
 use Rattle.std.specs.Prelude.{ℕ, Bool, true, not, ◌&&◌, List, [], ◌∷◌, map, bytes_eq, slice_index_or, None}
-use Rattle.std.specs.List.{list_any, list_all}
+use Rattle.std.specs.List.{list_any}
 use Rattle.query_model.specs.Expressions.{Expr}
 use Rattle.query_model.specs.Checks.{place_of}
 use Rattle.query_model.specs.Database.{column_types}
 use Rattle.chunk_data.specs.declared.typed_value.ColumnType.{ColumnType}
 use Rattle.chunk_data.specs.declared.typed_value.ColumnType.TheVariants as column
 use Rattle.query_model.specs.declared.query.ExprOf.TheVariants as expr
-use Rattle.query_model.specs.declared.query.Item.{Item}
-use Rattle.query_model.specs.declared.query.ItemKind.TheVariants as kind
-use Rattle.query_model.specs.declared.query.Items.TheVariants.{Listed}
-use Rattle.query_model.specs.declared.query.TableRef.TheVariants.{Named}
-use Rattle.query_model.specs.declared.query.Query.{Query}
 use Rattle.query_model.specs.declared.query.ColumnDecl.{ColumnDecl}
 use Rattle.query_model.specs.declared.query.Schema.{Schema}
 use Rattle.query_model.specs.declared.checked.TableUse.TheVariants.{Declared}
 use Rattle.query_model.specs.declared.checked.Shape.TheVariants.{Plain}
 use Rattle.query_model.specs.declared.checked.Checked.{Checked}
 
--- an item that is a column alone
-abbrev pub column_item : List ℕ → Item
-column_item name = record { what = kind.Plain (expr.Column (record { table = None; name = name })); alias = None }
-
--- the query of the columns' names and the table's
-abbrev pub projection_query : List (List ℕ) → List ℕ → Query
-projection_query names table = record {
-  items = Listed (map column_item names);
-  from = Named table;
-  join = None;
-  filter = None;
-  keys = [];
-  having = None;
-  order = [];
-  limit = None;
-}
-
 abbrev pub column_names : Schema → List (List ℕ)
 column_names s = map (λ (c : ColumnDecl). c.name) s.columns
-
--- whether each name is that of one of the columns
-abbrev pub has_columns : Schema → List (List ℕ) → Bool
-has_columns s names = list_all (λ name. list_any (bytes_eq name) (column_names s)) names
 
 -- whether no name stands twice
 abbrev pub are_distinct : List (List ℕ) → Bool

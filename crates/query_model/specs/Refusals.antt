@@ -204,7 +204,7 @@ pub data Kind : Type 0 where
 abbrev pub can_hold : ColumnType → ℤ → Bool
 can_hold column.Int64 (pos n) = nat_lt n (2 ^ 63)
 can_hold column.Int64 (negsuc n) = nat_lt n (2 ^ 63)
-can_hold column.UInt64 (pos n) = true
+can_hold column.UInt64 (pos n) = nat_lt n (2 ^ 64)
 can_hold column.UInt64 (negsuc n) = false
 can_hold column.Text z = false
 

@@ -1,12 +1,17 @@
 -- Which expressions and conditions may be evaluated over columns of given types.
-use Rattle.std.specs.Prelude.{◌≡◌, ℕ, ◌^◌, ◌<◌, List, length, ℤ, pos, negsuc, Option, Some, None, Bool, true, false}
+use Rattle.std.specs.Prelude.{◌≡◌, ℕ, ◌^◌, ◌<◌, List, ◌++◌, length, map, slice_index_or, ℤ, pos, negsuc, Option, Some, None, Bool, true, false}
 use Rattle.chunk_data.specs.declared.typed_value.ColumnType.{ColumnType}
 use Rattle.chunk_data.specs.declared.typed_value.ColumnType.TheVariants as column
 use Rattle.query_model.specs.declared.query.ExprOf.TheVariants as expr
 use Rattle.query_model.specs.declared.query.Operand.{Operand}
 use Rattle.query_model.specs.declared.query.Operand.TheVariants as operand
 use Rattle.query_model.specs.declared.query.CondOf.TheVariants as cond'
+use Rattle.query_model.specs.declared.query.AggOp.{AggOp}
+use Rattle.query_model.specs.declared.query.AggOp.TheVariants.{Count, Sum, Min, Max}
+use Rattle.query_model.specs.declared.query.AggCall.{AggCall}
+use Rattle.query_model.specs.declared.checked.Grouping.{Grouping}
 use Rattle.query_model.specs.Expressions.{Expr, Cond, number_of, type_of}
+use Rattle.query_model.specs.Groups.{call_type}
 
 -- the type without Nullable; no type is Nullable yet
 abbrev pub plain_type : ColumnType → ColumnType
@@ -81,3 +86,23 @@ IsTypedCond types (cond'.Compare op a b) = IsTypedOperand types a × IsTypedOper
 IsTypedCond types (cond'.And' p a q b) = IsTypedCond types a × IsTypedCond types b
 IsTypedCond types (cond'.Or' p a q b) = IsTypedCond types a × IsTypedCond types b
 IsTypedCond types (cond'.Not' p a) = IsTypedCond types a
+
+-- `count` is over nothing, and each other call over what an item may be; texts have no sum
+abbrev pub IsTypedArgument : List ColumnType → AggOp → Option Expr → Type 0
+IsTypedArgument types Count None = Unit {0}
+IsTypedArgument types Count (Some e) = ⊥
+IsTypedArgument types Sum None = ⊥
+IsTypedArgument types Sum (Some e) = IsItem types e × (is_text (type_of e types) ≡ false)
+IsTypedArgument types Min None = ⊥
+IsTypedArgument types Min (Some e) = IsItem types e
+IsTypedArgument types Max None = ⊥
+IsTypedArgument types Max (Some e) = IsItem types e
+
+abbrev pub IsTypedCall : List ColumnType → AggCall ℕ → Type 0
+IsTypedCall types call = IsTypedArgument types call.op call.arg
+
+-- the types of a row of groups: those of the keys, and then those of the calls
+abbrev pub group_types : Grouping → List ColumnType → List ColumnType
+group_types g types =
+    map (λ c. slice_index_or types c column.Text) g.keys
+    ++ map (λ (call : AggCall ℕ). call_type call.op call.arg types) g.calls

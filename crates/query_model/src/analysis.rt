@@ -1,28 +1,43 @@
 // Queries checked against the declared tables.
-ghost use Rattle.std.specs.Prelude.{◌≡◌, None, IfOk, IfErr, OnOk};
-ghost use Rattle.query_model.specs.Refusals.{from_columns, output_names, refusal_of};
-ghost use Rattle.query_model.specs.Checks.{IsChecked};
-ghost use Rattle.query_model.specs.Analysis.{IsUngrouped, IsDue, IsTypedQuery, from_types};
+ghost use Rattle.std.specs.Prelude.{◌≡◌, ◌≤◌, None, flat_map, length, IfOk, IfErr, OnOk};
+ghost use Rattle.query_model.specs.Refusals.{from_columns, join_tables, output_names, refusal_of, table_columns};
+ghost use Rattle.query_model.specs.Checks.{BothOrNone, IsChecked, IsPlacedCond};
+ghost use Rattle.query_model.specs.Placing.{place_in};
+ghost use Rattle.query_model.specs.Analysis.{IsAnalysable, IsDue, IsTypedQuery, from_types};
 
 mod columns;
+mod groups;
+mod join_keys;
 mod kinds;
 mod names;
 mod ordering;
 mod outputs;
 mod placing;
 mod refusals;
-#[cfg(test)]
-mod tests;
 
-use crate::analysis::columns::{FromColumn, table_columns_of};
+use crate::analysis::columns::{FromColumn, push_joined, table_columns_of};
+use crate::analysis::join_keys::place_join;
 use crate::analysis::ordering::place_order;
-use crate::analysis::outputs::{Outputs, made_outputs, names_of};
-use crate::analysis::placing::{place_filter, table_use};
+use crate::analysis::outputs::{made_shape, names_of, types_of_items};
+use crate::analysis::placing::{Scope, place_filter, table_use};
 use crate::analysis::refusals::first_refusal;
-use crate::checked::{Checked, Shape};
-use crate::query::{Query, Refusal, Schema};
+use crate::checked::{Checked, Cond};
+use crate::query::{ColumnRef, CondOf, Query, Refusal, Schema};
 use chunk_data::{Bytes, List, Memory};
 use std::alloc::Global;
+
+/// WHERE with the places of its columns.
+fn place_where(
+    alloc: Global,
+    filter: &Option<CondOf<ColumnRef>>,
+    columns: &[FromColumn],
+) -> Result<Option<Cond>, Memory>
+    requires { length columns.now ≤ 64 }
+    ensures { IfOk result (BothOrNone (IsPlacedCond (place_in columns.now) 0) filter.now) }
+{
+    let mut calls = Vec::new(alloc);
+    place_filter(alloc, Scope::Rows, filter, columns, &[], &mut calls)
+}
 
 /// The checked query of a query that no condition refuses.
 fn checked_query(
@@ -30,65 +45,73 @@ fn checked_query(
     query: Query,
     tables: &[Schema],
     columns: &[FromColumn],
+    left: &[FromColumn],
+    right: &[FromColumn],
     names: List<Bytes>,
 ) -> Result<Checked, Memory>
-    requires plain { IsUngrouped query }
+    requires analysable { IsAnalysable query }
     requires columns { columns.now ≡ from_columns query tables.now }
+    requires left { left.now ≡ table_columns tables.now query.from }
+    requires right { right.now ≡ flat_map (table_columns tables.now) (join_tables query.join) }
     requires names { names ≡ output_names query.items columns.now }
     requires accepted { refusal_of query tables.now ≡ None }
     ensures checked { IfOk result (IsChecked query tables.now) }
     ensures typed { IfOk result (IsTypedQuery (from_types query tables.now)) }
 {
-    let Query {
-        items,
-        from,
-        join: _,
-        filter,
-        keys: _,
-        having: _,
-        order,
-        limit,
-    } = query;
-    let used = table_use(&from, tables)?;
-    let placed = place_filter(alloc, filter, columns)?;
-    let keys = place_order(alloc, order.as_slice(), names.as_slice())?;
-    let outputs = made_outputs(alloc, items, columns)?;
-    let Outputs { exprs, types } = outputs;
+    let from = table_use(&query.from, tables)?;
+    let join = place_join(alloc, &query.join, tables, left, right)?;
+    let filter = place_where(alloc, &query.filter, columns)?;
+    let shape = made_shape(alloc, &query, columns)?;
+    let types = types_of_items(alloc, &query.items, columns)?;
+    let order = place_order(alloc, query.order.as_slice(), names.as_slice())?;
     Ok(Checked {
-        from: used,
-        join: None,
-        filter: placed,
-        shape: Shape::Plain(exprs),
+        from,
+        join,
+        filter,
+        shape,
         names,
         types,
-        order: keys,
-        limit,
+        order,
+        limit: query.limit,
     })
 }
 
-/// The query over the columns of its From.
+/// The query over the columns of its From, of which those of the FROM table are `left` and those of the JOIN
+/// table `right`.
 fn analysed(
     alloc: Global,
     query: Query,
     tables: &[Schema],
     columns: &[FromColumn],
+    left: &[FromColumn],
+    right: &[FromColumn],
 ) -> Result<Checked, Refusal>
-    requires plain { IsUngrouped query }
+    requires analysable { IsAnalysable query }
     requires columns { columns.now ≡ from_columns query tables.now }
+    requires left { left.now ≡ table_columns tables.now query.from }
+    requires right { right.now ≡ flat_map (table_columns tables.now) (join_tables query.join) }
     ensures checked { IfOk result (IsChecked query tables.now) }
     ensures accepted { OnOk result (refusal_of query tables.now ≡ None) }
     ensures typed { IfOk result (IsTypedQuery (from_types query tables.now)) }
     ensures refused { IfErr result (IsDue query tables.now) }
 {
-    match names_of(alloc, &query.items, columns) {
-        Ok(names) => match first_refusal(&query, tables, columns, names.as_slice()) {
-            Ok(None) => match checked_query(alloc, query, tables, columns, names) {
-                Ok(checked) => Ok(checked),
-                Err(_) => Err(Refusal::Memory),
-            },
-            Ok(Some(refusal)) => Err(refusal),
+    let Ok(names) = names_of(alloc, &query.items, columns) else {
+        return Err(Refusal::Memory);
+    };
+    match first_refusal(
+        alloc,
+        &query,
+        tables,
+        columns,
+        left,
+        right,
+        names.as_slice(),
+    ) {
+        Ok(None) => match checked_query(alloc, query, tables, columns, left, right, names) {
+            Ok(checked) => Ok(checked),
             Err(_) => Err(Refusal::Memory),
         },
+        Ok(Some(refusal)) => Err(refusal),
         Err(_) => Err(Refusal::Memory),
     }
 }
@@ -96,15 +119,22 @@ fn analysed(
 /// The query with places in the place of names. Refusals come in the order of `Refusal`, and a name that one
 /// carries is the first in the text's order: items, ON, WHERE, GROUP BY, HAVING, ORDER BY.
 pub fn analyse(alloc: Global, query: Query, tables: &List<Schema>) -> Result<Checked, Refusal>
-    requires plain { IsUngrouped query }
+    requires { IsAnalysable query }
     ensures checked { IfOk result (IsChecked query tables.now) }
     ensures accepted { OnOk result (refusal_of query tables.now ≡ None) }
     ensures typed { IfOk result (IsTypedQuery (from_types query tables.now)) }
     ensures refused { IfErr result (IsDue query tables.now) }
 {
     let schemas = tables.as_slice();
-    match table_columns_of(alloc, &query.from, schemas) {
-        Ok(columns) => analysed(alloc, query, schemas, columns.as_slice()),
+    let Ok(mut columns) = table_columns_of(alloc, &query.from, schemas) else {
+        return Err(Refusal::Memory);
+    };
+    let width = columns.len();
+    match push_joined(alloc, &mut columns, &query.join, schemas) {
+        Ok(()) => {
+            let (left, right) = columns.as_slice().split_at(width);
+            analysed(alloc, query, schemas, columns.as_slice(), left, right)
+        }
         Err(_) => Err(Refusal::Memory),
     }
 }

@@ -1,8 +1,8 @@
 // The columns of From.
-ghost use Rattle.std.specs.Prelude.{◌≡◌, ◌++◌, [], IfOk, OnOk};
-ghost use Rattle.query_model.specs.Refusals.{FromColumn as Column, declared_column, is_in_table as is_of_table, means, schema_columns, table_columns};
+ghost use Rattle.std.specs.Prelude.{◌≡◌, ◌++◌, [], flat_map, IfOk, OnOk};
+ghost use Rattle.query_model.specs.Refusals.{FromColumn as Column, declared_column, is_in_table as is_of_table, join_tables, means, schema_columns, table_columns};
 
-use crate::query::{ColumnDecl, ColumnRef, Schema, TableRef};
+use crate::query::{ColumnDecl, ColumnRef, Join, Schema, TableRef};
 use chunk_data::{Bytes, ColumnType, Memory};
 use std::alloc::Global;
 use std::marker::Model;
@@ -75,44 +75,50 @@ fn push_columns(alloc: Global, columns: &mut Vec<FromColumn>, schema: &Schema) -
     Ok(())
 }
 
-fn columns_of(alloc: Global, schema: &Schema) -> Result<Vec<FromColumn>, Memory>
-    ensures { IfOk result (λ columns. columns.items ≡ schema_columns schema.now) }
-{
-    let mut columns = Vec::new(alloc);
-    push_columns(alloc, &mut columns, schema)?;
-    Ok(columns)
-}
-
-fn declared_columns(
+fn push_declared(
     alloc: Global,
+    columns: &mut Vec<FromColumn>,
     table: &[u8],
     tables: &[Schema],
-) -> Result<Vec<FromColumn>, Memory>
-    ensures { IfOk result (λ columns. columns.items ≡ table_columns tables.now (TableRef.Named table.now)) }
+) -> Result<(), Memory>
+    ensures { OnOk result (columns.new.items ≡ columns.old.items ++ table_columns tables.now (TableRef.Named table.now)) }
 {
     let mut rest = tables;
     while let Some((schema, behind)) = rest.split_first() {
         if schema.name.as_slice() == table {
-            return columns_of(alloc, schema);
+            return push_columns(alloc, columns, schema);
         }
         rest = behind;
     }
-    Ok(Vec::new(alloc))
+    Ok(())
 }
 
-fn numbers_columns(alloc: Global, count: u64) -> Result<Vec<FromColumn>, Memory>
-    ensures { IfOk result (λ columns. columns.items ≡ table_columns [] (TableRef.Numbers count)) }
+fn push_number(alloc: Global, columns: &mut Vec<FromColumn>, count: u64) -> Result<(), Memory>
+    ensures { OnOk result (columns.new.items ≡ columns.old.items ++ table_columns [] (TableRef.Numbers count)) }
 {
-    let mut columns = Vec::new(alloc);
     columns.push(FromColumn {
         table: Bytes::from_slice(alloc, b"numbers")?,
         own: Bytes::from_slice(alloc, b"number")?,
         kind: ColumnType::UInt64,
     })?;
-    Ok(columns)
+    Ok(())
 }
 
-/// The columns of a table.
+fn push_table(
+    alloc: Global,
+    columns: &mut Vec<FromColumn>,
+    table: &TableRef,
+    tables: &[Schema],
+) -> Result<(), Memory>
+    ensures { OnOk result (columns.new.items ≡ columns.old.items ++ table_columns tables.now table.now) }
+{
+    match table {
+        TableRef::Named(name) => push_declared(alloc, columns, name.as_slice(), tables),
+        TableRef::Numbers(count) => push_number(alloc, columns, *count),
+    }
+}
+
+/// The columns of the FROM table.
 pub(crate) fn table_columns_of(
     alloc: Global,
     table: &TableRef,
@@ -120,8 +126,22 @@ pub(crate) fn table_columns_of(
 ) -> Result<Vec<FromColumn>, Memory>
     ensures { IfOk result (λ columns. columns.items ≡ table_columns tables.now table.now) }
 {
-    match table {
-        TableRef::Named(name) => declared_columns(alloc, name.as_slice(), tables),
-        TableRef::Numbers(count) => numbers_columns(alloc, *count),
+    let mut columns = Vec::new(alloc);
+    push_table(alloc, &mut columns, table, tables)?;
+    Ok(columns)
+}
+
+/// Adds the columns of the JOIN table.
+pub(crate) fn push_joined(
+    alloc: Global,
+    columns: &mut Vec<FromColumn>,
+    join: &Option<Join>,
+    tables: &[Schema],
+) -> Result<(), Memory>
+    ensures { OnOk result (columns.new.items ≡ columns.old.items ++ flat_map (table_columns tables.now) (join_tables join.now)) }
+{
+    match join {
+        Some(join) => push_table(alloc, columns, &join.table, tables),
+        None => Ok(()),
     }
 }

@@ -4,7 +4,7 @@ ghost use Rattle.std.specs.List.{list_all};
 ghost use Rattle.query_model.specs.Expressions.{number_of};
 ghost use Rattle.query_model.specs.Refusals.{can_hold as holds_number, result_type as type_of_result, arith_kind as kind_of_arith, known_kind as kind_known, expr_kind as kind_of_expr, call_kind as kind_of_call, agg_kind as kind_of_agg, operand_kind as kind_of_operand, item_kind as kind_of_item, comparable as are_comparable, cond_fits as fits, fits_where, is_typed as has_type, same_type as are_same, listed};
 ghost use Rattle.query_model.specs.Typing.{is_text as is_text_column};
-ghost use Rattle.query_model.specs.Placing.{as_kind, types_fit_over};
+ghost use Rattle.query_model.specs.Placing.{as_kind, number_value, types_fit_over};
 
 use crate::analysis::columns::FromColumn;
 use crate::analysis::names::meant_type;
@@ -28,7 +28,7 @@ fn is_text(kind: ColumnType) -> bool
     matches!(kind, ColumnType::Text)
 }
 
-fn same_type(s: ColumnType, t: ColumnType) -> bool
+pub(crate) fn same_type(s: ColumnType, t: ColumnType) -> bool
     ensures { result ≡ are_same s t }
 {
     match s {
@@ -49,9 +49,16 @@ fn can_hold(kind: ColumnType, n: Number) -> bool
                 n.size < 1 << 63
             }
         }
-        ColumnType::UInt64 => !n.negative || n.size == 0,
+        ColumnType::UInt64 => is_uint(n.negative, n.size),
         ColumnType::Text => false,
     }
+}
+
+/// Whether a number is a UInt64. Its size is an argument of its own, since a clause knows the range of such a one.
+fn is_uint(negative: bool, size: u64) -> bool
+    ensures { result ≡ holds_number ColumnType.UInt64 (number_value negative size) }
+{
+    !negative || size == 0
 }
 
 fn result_type(op: ArithOp, operands: ColumnType) -> ColumnType
@@ -258,9 +265,11 @@ fn list_fits(items: &[Item], columns: &[FromColumn]) -> bool
     items.iter().all(|item| item_fits(item, columns))
 }
 
-/// Whether the types fit in items and WHERE.
+/// Whether the types fit in items, WHERE and HAVING.
 pub(crate) fn types_fit(query: &Query, columns: &[FromColumn]) -> bool
     ensures { result ≡ types_fit_over columns.now query.now }
 {
-    items_fit(&query.items, columns) && filter_fits(&query.filter, columns)
+    items_fit(&query.items, columns)
+        && filter_fits(&query.filter, columns)
+        && filter_fits(&query.having, columns)
 }

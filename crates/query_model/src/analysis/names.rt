@@ -1,25 +1,18 @@
 // Names of tables and columns.
-ghost use Rattle.std.specs.Prelude.{◌≡◌, ◌∷◌, [], IfOk, bytes_eq, length, flat_map};
+ghost use Rattle.std.specs.Prelude.{◌≡◌, ◌++◌, ◌∷◌, [], IfOk, OnOk, bytes_eq, length, flat_map};
 ghost use Rattle.std.specs.List.{list_any};
-ghost use Rattle.query_model.specs.Refusals.{meant, meant_type as type_meant, means, written as written_name, expr_columns, argument_columns, operand_columns, cond_operands, operands_of, item_columns, text_columns, listed};
+ghost use Rattle.query_model.specs.declared.query.NamePair.{NamePair as Pair};
+ghost use Rattle.query_model.specs.Refusals.{meant, meant_type as type_meant, written as written_name, expr_columns, argument_columns, cond_operands, operands_of, item_columns, join_pairs, text_columns, listed, same_column as are_one_column};
 ghost use Rattle.query_model.specs.Typing.{plain_type as type_without_null};
-ghost use Rattle.query_model.specs.Checks.{place_of};
-ghost use Rattle.query_model.specs.Placing.{has_fault as is_at_fault, first_fault};
-ghost use Rattle.query_model.specs.Analysis.{IsUngrouped};
+ghost use Rattle.query_model.specs.Placing.{columns_in, is_key_of, key_place as place_of_key, place_in, unknown_among, ambiguous_among};
 
 use crate::analysis::columns::FromColumn;
 use crate::query::{
-    AggCall, ColumnRef, CondOf, ExprOf, Item, ItemKind, Items, Operand, Query, Schema,
+    AggCall, ColumnRef, CondOf, ExprOf, Item, ItemKind, Items, Join, NamePair, Operand, Query,
+    Refusal, Schema,
 };
-use chunk_data::{Bytes, ColumnType, Memory};
+use chunk_data::{Bytes, ColumnType, List, Memory};
 use std::alloc::Global;
-
-/// What may be wrong with a column's name: it means no column, or more than one.
-#[derive(Clone, Copy, Debug, PartialEq, Eq)]
-pub(crate) enum NameFault {
-    Unknown,
-    Ambiguous,
-}
 
 /// Whether there is a table of this name.
 pub(crate) fn has_schema(name: &[u8], tables: &[Schema]) -> bool
@@ -51,7 +44,7 @@ pub(crate) fn meant_type(c: &ColumnRef, columns: &[FromColumn]) -> Option<Column
 
 /// The place of the first column that the name means, or the number of columns.
 pub(crate) fn meant_place(c: &ColumnRef, columns: &[FromColumn]) -> usize
-    ensures { result ≡ place_of (means c.now) columns.now }
+    ensures { result ≡ place_in columns.now c.now }
 {
     for i in 0..columns.len() {
         if columns[i].is_meant(c) {
@@ -61,23 +54,41 @@ pub(crate) fn meant_place(c: &ColumnRef, columns: &[FromColumn]) -> usize
     columns.len()
 }
 
+fn same_column(a: &ColumnRef, b: &ColumnRef, columns: &[FromColumn]) -> bool
+    ensures { result ≡ are_one_column columns.now a.now b.now }
+{
+    columns
+        .iter()
+        .any(|column| column.is_meant(a) && column.is_meant(b))
+}
+
+/// Whether the name means one of the keys.
+pub(crate) fn is_key(c: &ColumnRef, keys: &[ColumnRef], columns: &[FromColumn]) -> bool
+    ensures { result ≡ is_key_of columns.now keys.now c.now }
+{
+    keys.iter().any(|key| same_column(c, key, columns))
+}
+
+/// The place of the first key that the name means, or the number of keys.
+pub(crate) fn key_place(c: &ColumnRef, keys: &[ColumnRef], columns: &[FromColumn]) -> usize
+    ensures { result ≡ place_of_key columns.now keys.now c.now }
+{
+    for i in 0..keys.len() {
+        if same_column(c, &keys[i], columns) {
+            return i;
+        }
+    }
+    keys.len()
+}
+
 fn count_meant(c: &ColumnRef, columns: &[FromColumn]) -> usize
     ensures { result ≡ length (meant c.now columns.now) }
 {
     columns.iter().filter(|column| column.is_meant(c)).count()
 }
 
-fn has_fault(fault: NameFault, c: &ColumnRef, columns: &[FromColumn]) -> bool
-    ensures { result ≡ is_at_fault fault columns.now c.now }
-{
-    match fault {
-        NameFault::Unknown => count_meant(c, columns) == 0,
-        NameFault::Ambiguous => count_meant(c, columns) > 1,
-    }
-}
-
 /// The name as it is written, `t.c` where it is qualified.
-fn written(c: &ColumnRef) -> Result<Bytes, Memory>
+pub(crate) fn written(c: &ColumnRef) -> Result<Bytes, Memory>
     ensures { IfOk result (λ name. name ≡ written_name c.now) }
 {
     match &c.table {
@@ -91,157 +102,203 @@ fn written(c: &ColumnRef) -> Result<Bytes, Memory>
     }
 }
 
-fn fault_of(
-    fault: NameFault,
-    c: &ColumnRef,
+/// The first name that means no column.
+pub(crate) fn unknown_column(
+    names: &[ColumnRef],
     columns: &[FromColumn],
-) -> Result<Option<Bytes>, Memory>
-    ensures { IfOk result (λ name. name ≡ first_fault fault columns.now (c.now ∷ [])) }
+) -> Result<Option<Refusal>, Memory>
+    ensures { IfOk result (λ refusal. refusal ≡ unknown_among columns.now names.now) }
 {
-    if has_fault(fault, c, columns) {
-        let name = written(c)?;
-        Ok(Some(name))
-    } else {
-        Ok(None)
-    }
-}
-
-#[tactic(auto, unfolding(crate::specs::Refusals::expr_columns))]
-fn fault_in_expr(
-    fault: NameFault,
-    e: &ExprOf<ColumnRef>,
-    columns: &[FromColumn],
-) -> Result<Option<Bytes>, Memory>
-    ensures { IfOk result (λ name. name ≡ first_fault fault columns.now (expr_columns e.now)) }
-{
-    match e {
-        ExprOf::Column(c) => fault_of(fault, c, columns),
-        ExprOf::Number(_) => Ok(None),
-        ExprOf::Arith(_, a, b) => match fault_in_expr(fault, a, columns)? {
-            Some(name) => Ok(Some(name)),
-            None => fault_in_expr(fault, b, columns),
-        },
-    }
-}
-
-fn fault_in_call(
-    fault: NameFault,
-    call: &AggCall<ColumnRef>,
-    columns: &[FromColumn],
-) -> Result<Option<Bytes>, Memory>
-    ensures { IfOk result (λ name. name ≡ first_fault fault columns.now (argument_columns call.now.arg)) }
-{
-    match &call.arg {
-        Some(e) => fault_in_expr(fault, e, columns),
+    match names.iter().find(|c| count_meant(c, columns) == 0) {
+        Some(c) => Ok(Some(Refusal::UnknownColumn(written(c)?))),
         None => Ok(None),
     }
 }
 
-fn fault_in_operand(
-    fault: NameFault,
-    operand: &Operand<ColumnRef>,
+/// The first name that means more than one column.
+pub(crate) fn ambiguous_column(
+    names: &[ColumnRef],
     columns: &[FromColumn],
-) -> Result<Option<Bytes>, Memory>
-    ensures { IfOk result (λ name. name ≡ first_fault fault columns.now (operand_columns operand.now)) }
+) -> Result<Option<Refusal>, Memory>
+    ensures { IfOk result (λ refusal. refusal ≡ ambiguous_among columns.now names.now) }
+{
+    match names.iter().find(|c| count_meant(c, columns) > 1) {
+        Some(c) => Ok(Some(Refusal::AmbiguousColumn(written(c)?))),
+        None => Ok(None),
+    }
+}
+
+fn table_copy(table: &Option<Bytes>) -> Result<Option<Bytes>, Memory>
+    ensures { IfOk result (λ copy. copy ≡ table.now) }
+{
+    match table {
+        Some(name) => Ok(Some(name.copy()?)),
+        None => Ok(None),
+    }
+}
+
+/// Adds a name.
+pub(crate) fn push_name(c: &ColumnRef, names: &mut Vec<ColumnRef>) -> Result<(), Memory>
+    ensures { OnOk result (names.new.items ≡ names.old.items ++ c.now ∷ []) }
+{
+    let table = table_copy(&c.table)?;
+    let name = c.name.copy()?;
+    names.push(ColumnRef { table, name })?;
+    Ok(())
+}
+
+/// Adds the names in an expression.
+#[tactic(auto, unfolding(crate::specs::Refusals::expr_columns))]
+pub(crate) fn push_expr_names(
+    e: &ExprOf<ColumnRef>,
+    names: &mut Vec<ColumnRef>,
+) -> Result<(), Memory>
+    ensures { OnOk result (names.new.items ≡ names.old.items ++ expr_columns e.now) }
+{
+    match e {
+        ExprOf::Column(c) => push_name(c, names),
+        ExprOf::Number(_) => Ok(()),
+        ExprOf::Arith(_, a, b) => {
+            push_expr_names(a, names)?;
+            push_expr_names(b, names)
+        }
+    }
+}
+
+fn push_call_names(call: &AggCall<ColumnRef>, names: &mut Vec<ColumnRef>) -> Result<(), Memory>
+    ensures { OnOk result (names.new.items ≡ names.old.items ++ argument_columns call.now.arg) }
+{
+    match &call.arg {
+        Some(e) => push_expr_names(e, names),
+        None => Ok(()),
+    }
+}
+
+/// Adds the names in a side of a comparison, those in a call among them where `in_calls` says so.
+fn push_operand_names(
+    in_calls: bool,
+    operand: &Operand<ColumnRef>,
+    names: &mut Vec<ColumnRef>,
+) -> Result<(), Memory>
+    ensures { OnOk result (names.new.items ≡ names.old.items ++ columns_in in_calls operand.now) }
 {
     match operand {
-        Operand::Plain(e) => fault_in_expr(fault, e, columns),
-        Operand::Text(_) => Ok(None),
-        Operand::Agg(call) => fault_in_call(fault, call, columns),
+        Operand::Plain(e) => push_expr_names(e, names),
+        Operand::Text(_) => Ok(()),
+        Operand::Agg(call) => {
+            if in_calls {
+                push_call_names(call, names)
+            } else {
+                Ok(())
+            }
+        }
     }
 }
 
 #[tactic(auto, unfolding(crate::specs::Refusals::cond_operands))]
-fn fault_in_cond(
-    fault: NameFault,
+fn push_cond_names(
+    in_calls: bool,
     cond: &CondOf<ColumnRef>,
-    columns: &[FromColumn],
-) -> Result<Option<Bytes>, Memory>
-    ensures { IfOk result (λ name. name ≡ first_fault fault columns.now (flat_map operand_columns (cond_operands cond.now))) }
+    names: &mut Vec<ColumnRef>,
+) -> Result<(), Memory>
+    ensures { OnOk result (names.new.items ≡ names.old.items ++ flat_map (columns_in in_calls) (cond_operands cond.now)) }
 {
     match cond {
-        CondOf::Compare(_, a, b) => match fault_in_operand(fault, a, columns)? {
-            Some(name) => Ok(Some(name)),
-            None => fault_in_operand(fault, b, columns),
-        },
-        CondOf::And(a, b) => match fault_in_cond(fault, a, columns)? {
-            Some(name) => Ok(Some(name)),
-            None => fault_in_cond(fault, b, columns),
-        },
-        CondOf::Or(a, b) => match fault_in_cond(fault, a, columns)? {
-            Some(name) => Ok(Some(name)),
-            None => fault_in_cond(fault, b, columns),
-        },
-        CondOf::Not(a) => fault_in_cond(fault, a, columns),
+        CondOf::Compare(_, a, b) => {
+            push_operand_names(in_calls, a, names)?;
+            push_operand_names(in_calls, b, names)
+        }
+        CondOf::And(a, b) => {
+            push_cond_names(in_calls, a, names)?;
+            push_cond_names(in_calls, b, names)
+        }
+        CondOf::Or(a, b) => {
+            push_cond_names(in_calls, a, names)?;
+            push_cond_names(in_calls, b, names)
+        }
+        CondOf::Not(a) => push_cond_names(in_calls, a, names),
     }
 }
 
-fn fault_in_filter(
-    fault: NameFault,
+/// Adds the names in a condition, if there is one.
+pub(crate) fn push_filter_names(
+    in_calls: bool,
     filter: &Option<CondOf<ColumnRef>>,
-    columns: &[FromColumn],
-) -> Result<Option<Bytes>, Memory>
-    ensures { IfOk result (λ name. name ≡ first_fault fault columns.now (flat_map operand_columns (operands_of filter.now))) }
+    names: &mut Vec<ColumnRef>,
+) -> Result<(), Memory>
+    ensures { OnOk result (names.new.items ≡ names.old.items ++ flat_map (columns_in in_calls) (operands_of filter.now)) }
 {
     match filter {
-        Some(cond) => fault_in_cond(fault, cond, columns),
-        None => Ok(None),
+        Some(cond) => push_cond_names(in_calls, cond, names),
+        None => Ok(()),
     }
 }
 
-fn fault_in_item(
-    fault: NameFault,
-    item: &Item,
-    columns: &[FromColumn],
-) -> Result<Option<Bytes>, Memory>
-    ensures { IfOk result (λ name. name ≡ first_fault fault columns.now (item_columns item.now.what)) }
+fn push_item_names(item: &Item, names: &mut Vec<ColumnRef>) -> Result<(), Memory>
+    ensures { OnOk result (names.new.items ≡ names.old.items ++ item_columns item.now.what) }
 {
     match &item.what {
-        ItemKind::Plain(e) => fault_in_expr(fault, e, columns),
-        ItemKind::Agg(call) => fault_in_call(fault, call, columns),
+        ItemKind::Plain(e) => push_expr_names(e, names),
+        ItemKind::Agg(call) => push_call_names(call, names),
     }
 }
 
-fn fault_in_list(
-    fault: NameFault,
-    items: &[Item],
-    columns: &[FromColumn],
-) -> Result<Option<Bytes>, Memory>
-    ensures { IfOk result (λ name. name ≡ first_fault fault columns.now (flat_map (λ (i : Item). item_columns i.what) items.now)) }
-{
-    for item in items {
-        match fault_in_item(fault, item, columns)? {
-            Some(name) => return Ok(Some(name)),
-            None => {}
-        }
-    }
-    Ok(None)
-}
-
-fn fault_in_items(
-    fault: NameFault,
-    items: &Items,
-    columns: &[FromColumn],
-) -> Result<Option<Bytes>, Memory>
-    ensures { IfOk result (λ name. name ≡ first_fault fault columns.now (flat_map (λ (i : Item). item_columns i.what) (listed items.now))) }
+/// The items that are listed; `*` lists none.
+pub(crate) fn listed_items(items: &Items) -> &[Item]
+    ensures { result.now ≡ listed items.now }
 {
     match items {
-        Items::Star => Ok(None),
-        Items::Listed(items) => fault_in_list(fault, items.as_slice(), columns),
+        Items::Star => &[],
+        Items::Listed(items) => items.as_slice(),
     }
 }
 
-/// The first name with the fault in the text's order: in the items, and then in WHERE.
-pub(crate) fn fault_in_query(
-    fault: NameFault,
-    query: &Query,
-    columns: &[FromColumn],
-) -> Result<Option<Bytes>, Memory>
-    requires { IsUngrouped query.now }
-    ensures { IfOk result (λ name. name ≡ first_fault fault columns.now (text_columns query.now)) }
+fn push_all_items(items: &[Item], names: &mut Vec<ColumnRef>) -> Result<(), Memory>
+    ensures { OnOk result (names.new.items ≡ names.old.items ++ flat_map (λ (i : Item). item_columns i.what) items.now) }
 {
-    match fault_in_items(fault, &query.items, columns)? {
-        Some(name) => Ok(Some(name)),
-        None => fault_in_filter(fault, &query.filter, columns),
+    for item in items {
+        push_item_names(item, names)?;
     }
+    Ok(())
+}
+
+fn push_pair_names(pairs: &[NamePair], names: &mut Vec<ColumnRef>) -> Result<(), Memory>
+    ensures { OnOk result (names.new.items ≡ names.old.items ++ flat_map (λ (p : Pair). p.left ∷ p.right ∷ []) pairs.now) }
+{
+    for pair in pairs {
+        push_name(&pair.left, names)?;
+        push_name(&pair.right, names)?;
+    }
+    Ok(())
+}
+
+fn push_join_names(join: &Option<Join>, names: &mut Vec<ColumnRef>) -> Result<(), Memory>
+    ensures { OnOk result (names.new.items ≡ names.old.items ++ flat_map (λ (p : Pair). p.left ∷ p.right ∷ []) (join_pairs join.now)) }
+{
+    match join {
+        Some(join) => push_pair_names(join.pairs.as_slice(), names),
+        None => Ok(()),
+    }
+}
+
+fn push_key_names(keys: &[ColumnRef], names: &mut Vec<ColumnRef>) -> Result<(), Memory>
+    ensures { OnOk result (names.new.items ≡ names.old.items ++ keys.now) }
+{
+    for key in keys {
+        push_name(key, names)?;
+    }
+    Ok(())
+}
+
+/// The names of columns that stand in the query, in the text's order.
+pub(crate) fn names_in(alloc: Global, query: &Query) -> Result<List<ColumnRef>, Memory>
+    ensures { IfOk result (λ names. names ≡ text_columns query.now) }
+{
+    let mut names = Vec::new(alloc);
+    push_all_items(listed_items(&query.items), &mut names)?;
+    push_join_names(&query.join, &mut names)?;
+    push_filter_names(true, &query.filter, &mut names)?;
+    push_key_names(query.keys.as_slice(), &mut names)?;
+    push_filter_names(true, &query.having, &mut names)?;
+    Ok(List::from_vec(names))
 }

@@ -1,26 +1,19 @@
-// The outputs of a query: items with places, and their names and types.
-ghost use Rattle.std.specs.Prelude.{◌≡◌, ◌++◌, ◌≤◌, codes, decimal, length, map, true, IfOk};
-ghost use Rattle.std.specs.List.{All, list_all};
-ghost use Rattle.query_model.specs.Refusals.{FromColumn as Column, plain_name as name_of_kind, name_or, item_names as names_of_items, output_names, item_kind as kind_of_item, is_typed as has_type, listed};
-ghost use Rattle.query_model.specs.Checks.{AreColumnsFrom, ArePlainItems, output_types, known_type as type_known};
-ghost use Rattle.query_model.specs.Placing.{types_of, place_in, as_kind};
-ghost use Rattle.query_model.specs.Typing.{IsItem};
+// The outputs of a query: their names and types, and what is made of rows.
+ghost use Rattle.std.specs.Prelude.{◌≡◌, ◌++◌, ◌≤◌, codes, decimal, length, map, true, false, IfOk};
+ghost use Rattle.std.specs.List.{All};
+ghost use Rattle.query_model.specs.Refusals.{FromColumn as Column, plain_name as name_of_kind, name_or, item_names as names_of_items, output_names, item_kind as kind_of_item, is_grouped as has_groups, listed};
+ghost use Rattle.query_model.specs.Checks.{AreColumnsFrom, ArePlainItems, IsShape, output_types, known_type as type_known};
+ghost use Rattle.query_model.specs.Placing.{types_of, place_in, as_kind, is_key_of, CanBePicked};
 ghost use Rattle.query_model.specs.Analysis.{HasNoCall};
 
 use crate::analysis::columns::FromColumn;
+use crate::analysis::groups::{is_grouped, made_groups};
 use crate::analysis::kinds::{ExprKind, item_kind};
 use crate::analysis::placing::place_items;
-use crate::checked::Expr;
-use crate::query::{ColumnRef, ExprOf, Item, ItemKind, Items};
+use crate::checked::{Expr, Shape};
+use crate::query::{ColumnRef, ExprOf, Item, ItemKind, Items, Query};
 use chunk_data::{Bytes, ColumnType, List, Memory};
 use std::alloc::Global;
-
-/// The outputs of a query.
-#[derive(Debug, Drop)]
-pub(crate) struct Outputs {
-    pub(crate) exprs: List<Expr>,
-    pub(crate) types: List<ColumnType>,
-}
 
 /// `item_K`.
 fn numbered_name(alloc: Global, k: usize) -> Result<Bytes, Memory>
@@ -129,24 +122,6 @@ fn item_types(
     Ok(List::from_vec(types))
 }
 
-fn listed_outputs(
-    alloc: Global,
-    items: List<Item>,
-    columns: &[FromColumn],
-) -> Result<Outputs, Memory>
-    requires no_calls { All (λ (i : Item). HasNoCall i.what) items }
-    requires few { length items ≤ 64 }
-    requires few_columns { length columns.now ≤ 64 }
-    requires typed { list_all (λ (i : Item). has_type (kind_of_item columns.now i.what)) items ≡ true }
-    ensures items { IfOk result (λ o. ArePlainItems (place_in columns.now) columns.now (Items.Listed items) o.exprs) }
-    ensures types { IfOk result (λ o. o.types ≡ output_types (Items.Listed items) columns.now) }
-    ensures typed { IfOk result (λ o. All (IsItem (types_of columns.now)) o.exprs) }
-{
-    let exprs = place_items(alloc, items.as_slice(), columns)?;
-    let types = item_types(alloc, items.as_slice(), columns)?;
-    Ok(Outputs { exprs, types })
-}
-
 fn all_columns(alloc: Global, columns: &[FromColumn]) -> Result<List<Expr>, Memory>
     requires { length columns.now ≤ 64 }
     ensures { IfOk result (AreColumnsFrom 0 columns.now) }
@@ -168,33 +143,47 @@ fn column_types(alloc: Global, columns: &[FromColumn]) -> Result<List<ColumnType
     Ok(List::from_vec(types))
 }
 
-fn star_outputs(alloc: Global, columns: &[FromColumn]) -> Result<Outputs, Memory>
-    requires { length columns.now ≤ 64 }
-    ensures items { IfOk result (λ o. ArePlainItems (place_in columns.now) columns.now Items.Star o.exprs) }
-    ensures types { IfOk result (λ o. o.types ≡ output_types Items.Star columns.now) }
-    ensures typed { IfOk result (λ o. All (IsItem (types_of columns.now)) o.exprs) }
-{
-    let exprs = all_columns(alloc, columns)?;
-    let types = column_types(alloc, columns)?;
-    Ok(Outputs { exprs, types })
-}
-
-/// The outputs of typed items over From.
-pub(crate) fn made_outputs(
+/// The types of a query's items.
+pub(crate) fn types_of_items(
     alloc: Global,
-    items: Items,
+    items: &Items,
     columns: &[FromColumn],
-) -> Result<Outputs, Memory>
-    requires no_calls { All (λ (i : Item). HasNoCall i.what) (listed items) }
-    requires few { length (listed items) ≤ 64 }
-    requires few_columns { length columns.now ≤ 64 }
-    requires typed { list_all (λ (i : Item). has_type (kind_of_item columns.now i.what)) (listed items) ≡ true }
-    ensures items { IfOk result (λ o. ArePlainItems (place_in columns.now) columns.now items o.exprs) }
-    ensures types { IfOk result (λ o. o.types ≡ output_types items columns.now) }
-    ensures typed { IfOk result (λ o. All (IsItem (types_of columns.now)) o.exprs) }
+) -> Result<List<ColumnType>, Memory>
+    ensures { IfOk result (λ types. types ≡ output_types items.now columns.now) }
 {
     match items {
-        Items::Star => star_outputs(alloc, columns),
-        Items::Listed(items) => listed_outputs(alloc, items, columns),
+        Items::Star => column_types(alloc, columns),
+        Items::Listed(items) => item_types(alloc, items.as_slice(), columns),
+    }
+}
+
+/// The items of a query without groups, with the places of their columns.
+fn made_items(alloc: Global, items: &Items, columns: &[FromColumn]) -> Result<List<Expr>, Memory>
+    requires no_calls { All (λ (i : Item). HasNoCall i.what) (listed items.now) }
+    requires few { length columns.now ≤ 64 }
+    ensures { IfOk result (ArePlainItems (place_in columns.now) columns.now items.now) }
+{
+    match items {
+        Items::Star => all_columns(alloc, columns),
+        Items::Listed(items) => place_items(alloc, items.as_slice(), columns),
+    }
+}
+
+/// What is made of rows: items, or groups.
+pub(crate) fn made_shape(
+    alloc: Global,
+    query: &Query,
+    columns: &[FromColumn],
+) -> Result<Shape, Memory>
+    requires few { length columns.now ≤ 64 }
+    requires few_keys { length query.now.keys ≤ 64 }
+    requires plain { has_groups query.now ≡ false → All (λ (i : Item). HasNoCall i.what) (listed query.now.items) }
+    requires grouped { has_groups query.now ≡ true → All (λ (i : Item). CanBePicked (is_key_of columns.now query.now.keys) i.what) (listed query.now.items) }
+    ensures { IfOk result (IsShape query.now columns.now (has_groups query.now)) }
+{
+    if is_grouped(query) {
+        Ok(Shape::Grouped(made_groups(alloc, query, columns)?))
+    } else {
+        Ok(Shape::Plain(made_items(alloc, &query.items, columns)?))
     }
 }

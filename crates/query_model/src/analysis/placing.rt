@@ -1,19 +1,27 @@
 // Places in the place of names.
-ghost use Rattle.std.specs.Prelude.{◌≡◌, ℕ, ◌≤◌, List as Seq, bytes_eq, length, true, IfOk};
+ghost use Rattle.std.specs.Prelude.{◌≡◌, ◌+◌, ◌≤◌, ◌∷◌, [], bytes_eq, flat_map, length, map, IfOk, OnOk};
 ghost use Rattle.std.specs.List.{All};
-ghost use Rattle.chunk_data.specs.declared.typed_value.ColumnType.{ColumnType as Kind};
-ghost use Rattle.query_model.specs.Refusals.{plain, expr_kind, operand_kind, item_kind, cond_fits, cond_operands, operands_of, fits_where};
-ghost use Rattle.query_model.specs.Checks.{IsPlaced, IsPlacedOperand, IsPlacedCond, IsPlacedItem, BothOrNone, EachWith, place_of, use_of};
-ghost use Rattle.query_model.specs.Placing.{types_of, place_in, IsOfKind, IsOperandOfKind, number_of_parts, number_value};
-ghost use Rattle.query_model.specs.Typing.{IsTypedCond};
-ghost use Rattle.query_model.specs.Analysis.{HasNoCall, IsNoCall, IsTypedFilter};
+ghost use Rattle.query_model.specs.Refusals.{cond_operands, operands_of};
+ghost use Rattle.query_model.specs.Checks.{IsPlaced, IsPlacedCall, IsGroupedOperand, IsPlacedCond, IsPlacedItem, BothOrNone, EachWith, calls_of, place_of, use_of};
+ghost use Rattle.query_model.specs.Placing.{key_place as place_of_key, place_in, place_by, AreAdded};
+ghost use Rattle.query_model.specs.Analysis.{HasNoCall};
+ghost use Rattle.query_model.specs.declared.query.CondOf.TheVariants as condition;
 
 use crate::analysis::columns::FromColumn;
-use crate::analysis::names::meant_place;
+use crate::analysis::names::{key_place, meant_place};
 use crate::checked::{Cond, Expr, TableUse};
-use crate::query::{ColumnRef, CondOf, ExprOf, Item, ItemKind, Number, Operand, Schema, TableRef};
+use crate::query::{
+    AggCall, ColumnRef, CompareOp, CondOf, ExprOf, Item, ItemKind, Operand, Schema, TableRef,
+};
 use chunk_data::{List, Memory};
 use std::alloc::Global;
+
+/// Where names have their places: among the columns of From, or among the keys of a row of groups.
+#[derive(Clone, Copy, Debug, PartialEq, Eq)]
+pub(crate) enum Scope {
+    Rows,
+    Groups,
+}
 
 fn schema_place(name: &[u8], tables: &[Schema]) -> usize
     ensures { result ≡ place_of (λ (s : Schema). bytes_eq s.name name.now) tables.now }
@@ -39,103 +47,234 @@ pub(crate) fn table_use(table: &TableRef, tables: &[Schema]) -> Result<TableUse,
     }
 }
 
-/// A plain number. Its size is an argument of its own, since a clause knows the range of such a one.
-fn number_expr(negative: bool, size: u64) -> Expr
-    ensures placed { result ≡ number_of_parts negative size }
-    ensures of_kind { (types : Seq Kind) → IsOfKind types result (plain (number_value negative size)) }
+/// The place of a column of From.
+pub(crate) fn column_place(c: &ColumnRef, columns: &[FromColumn]) -> u32
+    requires { length columns.now ≤ 64 }
+    ensures { result ≡ place_in columns.now c.now }
 {
-    ExprOf::Number(Number { negative, size })
+    meant_place(c, columns) as u32
+}
+
+/// The place of a key in a row of groups.
+pub(crate) fn key_column(c: &ColumnRef, columns: &[FromColumn], keys: &[ColumnRef]) -> u32
+    requires { length keys.now ≤ 64 }
+    ensures { result ≡ place_of_key columns.now keys.now c.now }
+{
+    key_place(c, keys, columns) as u32
+}
+
+fn name_place(scope: Scope, c: &ColumnRef, columns: &[FromColumn], keys: &[ColumnRef]) -> u32
+    requires few { length columns.now ≤ 64 }
+    requires few_keys { length keys.now ≤ 64 }
+    ensures { result ≡ place_by scope columns.now keys.now c.now }
+{
+    match scope {
+        Scope::Rows => column_place(c, columns),
+        Scope::Groups => key_column(c, columns, keys),
+    }
 }
 
 /// The expression with the places of its columns.
 pub(crate) fn place_expr(
     alloc: Global,
+    scope: Scope,
     e: &ExprOf<ColumnRef>,
     columns: &[FromColumn],
+    keys: &[ColumnRef],
 ) -> Result<Expr, Memory>
     requires few { length columns.now ≤ 64 }
-    ensures placed { IfOk result (IsPlaced (place_in columns.now) e.now) }
-    ensures of_kind { IfOk result (λ placed. IsOfKind (types_of columns.now) placed (expr_kind columns.now e.now)) }
+    requires few_keys { length keys.now ≤ 64 }
+    ensures { IfOk result (IsPlaced (place_by scope columns.now keys.now) e.now) }
 {
     match e {
-        ExprOf::Column(c) => Ok(ExprOf::Column(meant_place(c, columns) as u32)),
-        ExprOf::Number(n) => Ok(number_expr(n.negative, n.size)),
+        ExprOf::Column(c) => Ok(ExprOf::Column(name_place(scope, c, columns, keys))),
+        ExprOf::Number(n) => Ok(ExprOf::Number(*n)),
         ExprOf::Arith(op, a, b) => {
-            let left = place_expr(alloc, a, columns)?;
-            let right = place_expr(alloc, b, columns)?;
+            let left = place_expr(alloc, scope, a, columns, keys)?;
+            let right = place_expr(alloc, scope, b, columns, keys)?;
             Ok(ExprOf::Arith(*op, Box::new(alloc, left)?, Box::new(alloc, right)?))
         }
     }
 }
 
+fn place_argument(
+    alloc: Global,
+    argument: &Option<ExprOf<ColumnRef>>,
+    columns: &[FromColumn],
+) -> Result<Option<Expr>, Memory>
+    requires { length columns.now ≤ 64 }
+    ensures { IfOk result (BothOrNone (IsPlaced (place_in columns.now)) argument.now) }
+{
+    match argument {
+        Some(e) => {
+            let placed = place_expr(alloc, Scope::Rows, e, columns, &[])?;
+            Ok(Some(placed))
+        }
+        None => Ok(None),
+    }
+}
+
+fn place_call(
+    alloc: Global,
+    call: &AggCall<ColumnRef>,
+    columns: &[FromColumn],
+) -> Result<AggCall<u32>, Memory>
+    requires { length columns.now ≤ 64 }
+    ensures { IfOk result (IsPlacedCall (place_in columns.now) call.now) }
+{
+    let arg = place_argument(alloc, &call.arg, columns)?;
+    Ok(AggCall { op: call.op, arg })
+}
+
+/// The place of the next call in a row of groups. More than 2^32 columns are a want of memory.
+fn next_place(keys: usize, calls: usize) -> Result<u32, Memory>
+    ensures { IfOk result (λ place. place ≡ keys + calls) }
+{
+    let Some(place) = keys.checked_add(calls) else {
+        return Err(Memory);
+    };
+    match u32::try_from(place) {
+        Ok(place) => Ok(place),
+        Err(_) => Err(Memory),
+    }
+}
+
+/// Adds a call behind those that stand, and gives its place in a row of groups.
+pub(crate) fn add_call(
+    alloc: Global,
+    call: &AggCall<ColumnRef>,
+    columns: &[FromColumn],
+    keys: usize,
+    calls: &mut Vec<AggCall<u32>>,
+) -> Result<u32, Memory>
+    requires { length columns.now ≤ 64 }
+    ensures place { IfOk result (λ place. place ≡ keys + length calls.old.items) }
+    ensures added { OnOk result (AreAdded columns.now (call.now ∷ []) calls.old.items calls.new.items) }
+{
+    let place = next_place(keys, calls.len())?;
+    let placed = place_call(alloc, call, columns)?;
+    calls.push(placed)?;
+    Ok(place)
+}
+
 fn place_operand(
     alloc: Global,
-    operand: Operand<ColumnRef>,
+    scope: Scope,
+    operand: &Operand<ColumnRef>,
     columns: &[FromColumn],
+    keys: &[ColumnRef],
+    calls: &mut Vec<AggCall<u32>>,
 ) -> Result<Operand<u32>, Memory>
-    requires no_call { IsNoCall operand }
     requires few { length columns.now ≤ 64 }
-    ensures placed { IfOk result (IsPlacedOperand (place_in columns.now) operand) }
-    ensures of_kind { IfOk result (λ placed. IsOperandOfKind (types_of columns.now) placed (operand_kind columns.now operand)) }
+    requires few_keys { length keys.now ≤ 64 }
+    ensures placed { IfOk result (IsGroupedOperand (place_by scope columns.now keys.now) (length keys.now + length calls.old.items) operand.now) }
+    ensures added { OnOk result (AreAdded columns.now (calls_of operand.now) calls.old.items calls.new.items) }
 {
     match operand {
         Operand::Plain(e) => {
-            let placed = place_expr(alloc, &e, columns)?;
+            let placed = place_expr(alloc, scope, e, columns, keys)?;
             Ok(Operand::Plain(placed))
         }
-        Operand::Text(bytes) => Ok(Operand::Text(bytes)),
-        Operand::Agg(_) => unreachable!(),
+        Operand::Text(bytes) => Ok(Operand::Text(bytes.copy()?)),
+        Operand::Agg(call) => {
+            let place = add_call(alloc, call, columns, keys.len(), calls)?;
+            Ok(Operand::Plain(ExprOf::Column(place)))
+        }
     }
 }
 
-/// The condition with the places of its columns.
+// A comparison with places. It stands apart from the recursion, whose frames are to be small: texts
+// nest a thousand conditions.
+#[inline(never)]
+#[tactic(auto, unfolding(crate::specs::Refusals::cond_operands))]
+fn place_comparison(
+    alloc: Global,
+    scope: Scope,
+    op: CompareOp,
+    a: &Operand<ColumnRef>,
+    b: &Operand<ColumnRef>,
+    columns: &[FromColumn],
+    keys: &[ColumnRef],
+    calls: &mut Vec<AggCall<u32>>,
+) -> Result<Cond, Memory>
+    requires few { length columns.now ≤ 64 }
+    requires few_keys { length keys.now ≤ 64 }
+    ensures placed { IfOk result (IsPlacedCond (place_by scope columns.now keys.now) (length keys.now + length calls.old.items) (condition.Compare op a.now b.now)) }
+    ensures added { OnOk result (AreAdded columns.now (flat_map calls_of (cond_operands (condition.Compare op a.now b.now))) calls.old.items calls.new.items) }
+{
+    let left = place_operand(alloc, scope, a, columns, keys, calls)?;
+    let right = place_operand(alloc, scope, b, columns, keys, calls)?;
+    Ok(CondOf::Compare(op, left, right))
+}
+
+// Apart for the same reason.
+#[inline(never)]
+fn boxed(alloc: Global, cond: Cond) -> Result<Box<Cond>, Memory>
+    ensures { IfOk result (λ b. b.value ≡ cond) }
+{
+    match Box::new(alloc, cond) {
+        Ok(b) => Ok(b),
+        Err(_) => Err(Memory),
+    }
+}
+
+/// The condition with places. Its calls go behind those that stand, and their places in its place.
+#[tactic(auto, unfolding(crate::specs::Refusals::cond_operands))]
 fn place_cond(
     alloc: Global,
-    cond: CondOf<ColumnRef>,
+    scope: Scope,
+    cond: &CondOf<ColumnRef>,
     columns: &[FromColumn],
+    keys: &[ColumnRef],
+    calls: &mut Vec<AggCall<u32>>,
 ) -> Result<Cond, Memory>
-    requires no_calls { All IsNoCall (cond_operands cond) }
     requires few { length columns.now ≤ 64 }
-    ensures placed { IfOk result (λ placed. (k : ℕ) → IsPlacedCond (place_in columns.now) k cond placed) }
-    ensures typed { IfOk result (λ placed. cond_fits columns.now cond ≡ true → IsTypedCond (types_of columns.now) placed) }
+    requires few_keys { length keys.now ≤ 64 }
+    ensures placed { IfOk result (IsPlacedCond (place_by scope columns.now keys.now) (length keys.now + length calls.old.items) cond.now) }
+    ensures added { OnOk result (AreAdded columns.now (flat_map calls_of (cond_operands cond.now)) calls.old.items calls.new.items) }
 {
     match cond {
         CondOf::Compare(op, a, b) => {
-            let left = place_operand(alloc, a, columns)?;
-            let right = place_operand(alloc, b, columns)?;
-            Ok(CondOf::Compare(op, left, right))
+            place_comparison(alloc, scope, *op, a, b, columns, keys, calls)
         }
         CondOf::And(a, b) => {
-            let left = place_cond(alloc, Box::into_inner(a), columns)?;
-            let right = place_cond(alloc, Box::into_inner(b), columns)?;
-            Ok(CondOf::And(Box::new(alloc, left)?, Box::new(alloc, right)?))
+            let first = place_cond(alloc, scope, a, columns, keys, calls)?;
+            let left = boxed(alloc, first)?;
+            let second = place_cond(alloc, scope, b, columns, keys, calls)?;
+            let right = boxed(alloc, second)?;
+            Ok(CondOf::And(left, right))
         }
         CondOf::Or(a, b) => {
-            let left = place_cond(alloc, Box::into_inner(a), columns)?;
-            let right = place_cond(alloc, Box::into_inner(b), columns)?;
-            Ok(CondOf::Or(Box::new(alloc, left)?, Box::new(alloc, right)?))
+            let first = place_cond(alloc, scope, a, columns, keys, calls)?;
+            let left = boxed(alloc, first)?;
+            let second = place_cond(alloc, scope, b, columns, keys, calls)?;
+            let right = boxed(alloc, second)?;
+            Ok(CondOf::Or(left, right))
         }
         CondOf::Not(a) => {
-            let inner = place_cond(alloc, Box::into_inner(a), columns)?;
-            Ok(CondOf::Not(Box::new(alloc, inner)?))
+            let inner = place_cond(alloc, scope, a, columns, keys, calls)?;
+            Ok(CondOf::Not(boxed(alloc, inner)?))
         }
     }
 }
 
-/// WHERE with the places of its columns.
+/// WHERE or HAVING with places.
 pub(crate) fn place_filter(
     alloc: Global,
-    filter: Option<CondOf<ColumnRef>>,
+    scope: Scope,
+    filter: &Option<CondOf<ColumnRef>>,
     columns: &[FromColumn],
+    keys: &[ColumnRef],
+    calls: &mut Vec<AggCall<u32>>,
 ) -> Result<Option<Cond>, Memory>
-    requires no_calls { All IsNoCall (operands_of filter) }
     requires few { length columns.now ≤ 64 }
-    ensures placed { IfOk result (BothOrNone (IsPlacedCond (place_in columns.now) 0) filter) }
-    ensures typed { IfOk result (λ placed. fits_where columns.now filter ≡ true → IsTypedFilter (types_of columns.now) placed) }
+    requires few_keys { length keys.now ≤ 64 }
+    ensures placed { IfOk result (BothOrNone (IsPlacedCond (place_by scope columns.now keys.now) (length keys.now + length calls.old.items)) filter.now) }
+    ensures added { OnOk result (AreAdded columns.now (flat_map calls_of (operands_of filter.now)) calls.old.items calls.new.items) }
 {
     match filter {
         Some(cond) => {
-            let placed = place_cond(alloc, cond, columns)?;
+            let placed = place_cond(alloc, scope, cond, columns, keys, calls)?;
             Ok(Some(placed))
         }
         None => Ok(None),
@@ -145,11 +284,10 @@ pub(crate) fn place_filter(
 fn place_item(alloc: Global, item: &Item, columns: &[FromColumn]) -> Result<Expr, Memory>
     requires no_call { HasNoCall item.now.what }
     requires few { length columns.now ≤ 64 }
-    ensures placed { IfOk result (IsPlacedItem (place_in columns.now) item.now) }
-    ensures of_kind { IfOk result (λ placed. IsOfKind (types_of columns.now) placed (item_kind columns.now item.now.what)) }
+    ensures { IfOk result (IsPlacedItem (place_in columns.now) item.now) }
 {
     match &item.what {
-        ItemKind::Plain(e) => place_expr(alloc, e, columns),
+        ItemKind::Plain(e) => place_expr(alloc, Scope::Rows, e, columns, &[]),
         ItemKind::Agg(_) => unreachable!(),
     }
 }
@@ -162,8 +300,7 @@ pub(crate) fn place_items(
 ) -> Result<List<Expr>, Memory>
     requires no_calls { All (λ (i : Item). HasNoCall i.what) items.now }
     requires few { length columns.now ≤ 64 }
-    ensures placed { IfOk result (EachWith (IsPlacedItem (place_in columns.now)) items.now) }
-    ensures of_kinds { IfOk result (EachWith (λ (i : Item) placed. IsOfKind (types_of columns.now) placed (item_kind columns.now i.what)) items.now) }
+    ensures { IfOk result (EachWith (IsPlacedItem (place_in columns.now)) items.now) }
 {
     let mut placed = Vec::with_capacity(alloc, items.len())?;
     for item in items {
@@ -171,4 +308,20 @@ pub(crate) fn place_items(
         placed.push(expr)?;
     }
     Ok(List::from_vec(placed))
+}
+
+/// The names with their places in From.
+pub(crate) fn place_columns(
+    alloc: Global,
+    names: &[ColumnRef],
+    columns: &[FromColumn],
+) -> Result<List<u32>, Memory>
+    requires { length columns.now ≤ 64 }
+    ensures { IfOk result (λ places. places ≡ map (place_in columns.now) names.now) }
+{
+    let mut places = Vec::with_capacity(alloc, names.len())?;
+    for name in names {
+        places.push(column_place(name, columns))?;
+    }
+    Ok(List::from_vec(places))
 }

@@ -1,25 +1,27 @@
 // Why a query is refused: each condition over the whole query, and the first that it meets.
-ghost use Rattle.std.specs.Prelude.{◌≡◌, ◌∷◌, [], length, IfOk};
-ghost use Rattle.query_model.specs.Refusals.{unknown_table as table_refusal, from_columns, listed, output_names, first_of_all, refusal_of};
-ghost use Rattle.query_model.specs.Placing.{unknown_over, ambiguous_over, mismatch_over, order_over, width_over};
-ghost use Rattle.query_model.specs.Analysis.{IsUngrouped};
+ghost use Rattle.std.specs.Prelude.{◌≡◌, ◌∷◌, [], flat_map, length, map, IfOk};
+ghost use Rattle.query_model.specs.Refusals.{unknown_table as table_refusal, calls_in, cond_operands, operand_calls, operands_of, total, from_columns, join_pairs, join_tables, output_names, table_columns, text_columns, first_of_all, refusal_of};
+ghost use Rattle.query_model.specs.Placing.{undeclared_table, unknown_among, ambiguous_among, refusal_unless, types_fit_over, not_grouped_over, order_over, width_over};
 
 use crate::analysis::columns::FromColumn;
+use crate::analysis::groups::{added, count_item_calls, not_grouped};
+use crate::analysis::join_keys::pairs_fit;
 use crate::analysis::kinds::types_fit;
-use crate::analysis::names::{NameFault, fault_in_query, has_schema};
+use crate::analysis::names::{
+    ambiguous_column, has_schema, listed_items, names_in, unknown_column,
+};
 use crate::analysis::ordering::bad_order_key;
-use crate::query::{Items, Query, Refusal, Schema, TableRef};
+use crate::query::{ColumnRef, CondOf, Join, Operand, Query, Refusal, Schema, TableRef};
 use chunk_data::{Bytes, Memory};
+use std::alloc::Global;
 
-/// The most columns of From, the most items, and the most keys of an order.
+/// The most columns of From, items, keys of groups, keys of an order, pairs of ON, and calls.
 const WIDEST: usize = 64;
 
-/// FROM names no declared table.
-fn unknown_table(query: &Query, tables: &[Schema]) -> Result<Option<Refusal>, Memory>
-    requires { IsUngrouped query.now }
-    ensures { IfOk result (λ refusal. refusal ≡ table_refusal query.now tables.now) }
+fn undeclared(table: &TableRef, tables: &[Schema]) -> Result<Option<Refusal>, Memory>
+    ensures { IfOk result (λ refusal. refusal ≡ undeclared_table tables.now table.now) }
 {
-    match &query.from {
+    match table {
         TableRef::Named(name) => {
             if has_schema(name.as_slice(), tables) {
                 Ok(None)
@@ -32,56 +34,92 @@ fn unknown_table(query: &Query, tables: &[Schema]) -> Result<Option<Refusal>, Me
     }
 }
 
-/// A column names no column of From.
-fn unknown_column(query: &Query, columns: &[FromColumn]) -> Result<Option<Refusal>, Memory>
-    requires { IsUngrouped query.now }
-    ensures { IfOk result (λ refusal. refusal ≡ unknown_over columns.now query.now) }
+/// FROM or JOIN names no declared table.
+fn unknown_table(query: &Query, tables: &[Schema]) -> Result<Option<Refusal>, Memory>
+    ensures { IfOk result (λ refusal. refusal ≡ table_refusal query.now tables.now) }
 {
-    match fault_in_query(NameFault::Unknown, query, columns)? {
-        Some(name) => Ok(Some(Refusal::UnknownColumn(name))),
-        None => Ok(None),
+    match undeclared(&query.from, tables)? {
+        Some(refusal) => Ok(Some(refusal)),
+        None => match &query.join {
+            Some(join) => undeclared(&join.table, tables),
+            None => Ok(None),
+        },
     }
 }
 
-/// A column names more than one column of From.
-fn ambiguous_column(query: &Query, columns: &[FromColumn]) -> Result<Option<Refusal>, Memory>
-    requires { IsUngrouped query.now }
-    ensures { IfOk result (λ refusal. refusal ≡ ambiguous_over columns.now query.now) }
+fn count_operand_calls(operand: &Operand<ColumnRef>) -> usize
+    ensures { result ≡ operand_calls operand.now }
 {
-    match fault_in_query(NameFault::Ambiguous, query, columns)? {
-        Some(name) => Ok(Some(Refusal::AmbiguousColumn(name))),
-        None => Ok(None),
+    match operand {
+        Operand::Plain(_) => 0,
+        Operand::Text(_) => 0,
+        Operand::Agg(_) => 1,
     }
 }
 
-/// The types don't fit in an item or in WHERE.
-fn type_mismatch(query: &Query, columns: &[FromColumn]) -> Option<Refusal>
-    ensures { result ≡ mismatch_over columns.now query.now }
+#[tactic(auto, using(crate::proofs::CallLaws::calls_of_both), unfolding(crate::specs::Refusals::cond_operands))]
+fn count_cond_calls(cond: &CondOf<ColumnRef>) -> Result<usize, Memory>
+    ensures { IfOk result (λ count. count ≡ total (map operand_calls (cond_operands cond.now))) }
 {
-    if types_fit(query, columns) {
-        None
+    match cond {
+        CondOf::Compare(_, a, b) => added(count_operand_calls(a), count_operand_calls(b)),
+        CondOf::And(a, b) => {
+            let left = count_cond_calls(a)?;
+            let right = count_cond_calls(b)?;
+            let calls = added(left, right)?;
+            Ok(calls)
+        }
+        CondOf::Or(a, b) => {
+            let left = count_cond_calls(a)?;
+            let right = count_cond_calls(b)?;
+            let calls = added(left, right)?;
+            Ok(calls)
+        }
+        CondOf::Not(a) => count_cond_calls(a),
+    }
+}
+
+fn count_having_calls(having: &Option<CondOf<ColumnRef>>) -> Result<usize, Memory>
+    ensures { IfOk result (λ count. count ≡ total (map operand_calls (operands_of having.now))) }
+{
+    match having {
+        Some(cond) => count_cond_calls(cond),
+        None => Ok(0),
+    }
+}
+
+fn count_calls(query: &Query) -> Result<usize, Memory>
+    ensures { IfOk result (λ count. count ≡ calls_in query.now) }
+{
+    let in_items = count_item_calls(listed_items(&query.items))?;
+    let in_having = count_having_calls(&query.having)?;
+    added(in_items, in_having)
+}
+
+fn count_pairs(join: &Option<Join>) -> usize
+    ensures { result ≡ length (join_pairs join.now) }
+{
+    match join {
+        Some(join) => join.pairs.len(),
+        None => 0,
+    }
+}
+
+/// There are too many columns of From, items, keys, pairs or calls.
+fn too_wide(query: &Query, columns: &[FromColumn]) -> Result<Option<Refusal>, Memory>
+    ensures { IfOk result (λ refusal. refusal ≡ width_over columns.now query.now) }
+{
+    let calls = count_calls(query)?;
+    if columns.len() > WIDEST
+        || listed_items(&query.items).len() > WIDEST
+        || query.keys.len() > WIDEST
+        || query.order.len() > WIDEST
+        || count_pairs(&query.join) > WIDEST
+        || calls > WIDEST
+    {
+        Ok(Some(Refusal::TooWide))
     } else {
-        Some(Refusal::TypeMismatch)
-    }
-}
-
-fn count_items(items: &Items) -> usize
-    ensures { result ≡ length (listed items.now) }
-{
-    match items {
-        Items::Star => 0,
-        Items::Listed(items) => items.len(),
-    }
-}
-
-/// There are too many columns of From, items or keys.
-fn too_wide(query: &Query, columns: &[FromColumn]) -> Option<Refusal>
-    ensures { result ≡ width_over columns.now query.now }
-{
-    if columns.len() > WIDEST || count_items(&query.items) > WIDEST || query.order.len() > WIDEST {
-        Some(Refusal::TooWide)
-    } else {
-        None
+        Ok(None)
     }
 }
 
@@ -96,58 +134,81 @@ fn order_or_width(
 {
     match bad_order_key(query.order.as_slice(), names)? {
         Some(refusal) => Ok(Some(refusal)),
-        None => Ok(too_wide(query, columns)),
+        None => too_wide(query, columns),
     }
 }
 
-/// The first condition on types, order or widths.
-fn shape_refusal(
+/// The first condition on groups, order or widths.
+fn groups_or_later(
+    alloc: Global,
     query: &Query,
     columns: &[FromColumn],
     names: &[Bytes],
 ) -> Result<Option<Refusal>, Memory>
     requires { names.now ≡ output_names query.now.items columns.now }
-    ensures { IfOk result (λ refusal. refusal ≡ first_of_all (mismatch_over columns.now query.now ∷ order_over columns.now query.now ∷ width_over columns.now query.now ∷ [])) }
+    ensures { IfOk result (λ refusal. refusal ≡ first_of_all (not_grouped_over columns.now query.now ∷ order_over columns.now query.now ∷ width_over columns.now query.now ∷ [])) }
 {
-    match type_mismatch(query, columns) {
+    match not_grouped(alloc, query, columns)? {
         Some(refusal) => Ok(Some(refusal)),
         None => order_or_width(query, columns, names),
     }
 }
 
-/// The first condition on columns, types, order or widths.
-fn column_refusal(
+/// The first condition on types or what comes behind them.
+fn types_or_later(
+    alloc: Global,
     query: &Query,
     columns: &[FromColumn],
     names: &[Bytes],
 ) -> Result<Option<Refusal>, Memory>
-    requires plain { IsUngrouped query.now }
-    requires names { names.now ≡ output_names query.now.items columns.now }
-    ensures { IfOk result (λ refusal. refusal ≡ first_of_all (unknown_over columns.now query.now ∷ ambiguous_over columns.now query.now ∷ mismatch_over columns.now query.now ∷ order_over columns.now query.now ∷ width_over columns.now query.now ∷ [])) }
+    requires { names.now ≡ output_names query.now.items columns.now }
+    ensures { IfOk result (λ refusal. refusal ≡ first_of_all (refusal_unless (types_fit_over columns.now query.now) Refusal.TypeMismatch ∷ not_grouped_over columns.now query.now ∷ order_over columns.now query.now ∷ width_over columns.now query.now ∷ [])) }
 {
-    match unknown_column(query, columns)? {
+    if types_fit(query, columns) {
+        groups_or_later(alloc, query, columns, names)
+    } else {
+        Ok(Some(Refusal::TypeMismatch))
+    }
+}
+
+/// The first name that means no column, or more than one.
+fn bad_name(alloc: Global, query: &Query, columns: &[FromColumn]) -> Result<Option<Refusal>, Memory>
+    ensures { IfOk result (λ refusal. refusal ≡ first_of_all (unknown_among columns.now (text_columns query.now) ∷ ambiguous_among columns.now (text_columns query.now) ∷ [])) }
+{
+    let names = names_in(alloc, query)?;
+    match unknown_column(names.as_slice(), columns)? {
         Some(refusal) => Ok(Some(refusal)),
-        None => match ambiguous_column(query, columns)? {
-            Some(refusal) => Ok(Some(refusal)),
-            None => shape_refusal(query, columns, names),
-        },
+        None => ambiguous_column(names.as_slice(), columns),
     }
 }
 
 /// The first condition that the query meets. `names` are those of its outputs.
 pub(crate) fn first_refusal(
+    alloc: Global,
     query: &Query,
     tables: &[Schema],
     columns: &[FromColumn],
+    left: &[FromColumn],
+    right: &[FromColumn],
     names: &[Bytes],
 ) -> Result<Option<Refusal>, Memory>
-    requires plain { IsUngrouped query.now }
     requires columns { columns.now ≡ from_columns query.now tables.now }
+    requires left { left.now ≡ table_columns tables.now query.now.from }
+    requires right { right.now ≡ flat_map (table_columns tables.now) (join_tables query.now.join) }
     requires names { names.now ≡ output_names query.now.items columns.now }
     ensures { IfOk result (λ refusal. refusal ≡ refusal_of query.now tables.now) }
 {
     match unknown_table(query, tables)? {
-        Some(refusal) => Ok(Some(refusal)),
-        None => column_refusal(query, columns, names),
+        Some(refusal) => return Ok(Some(refusal)),
+        None => {}
+    }
+    match bad_name(alloc, query, columns)? {
+        Some(refusal) => return Ok(Some(refusal)),
+        None => {}
+    }
+    if pairs_fit(&query.join, left, right) {
+        types_or_later(alloc, query, columns, names)
+    } else {
+        Ok(Some(Refusal::BadJoinKey))
     }
 }
