@@ -1,3 +1,4 @@
 pub mod Tokens
+pub mod Strings
 pub mod Trees
 pub mod Grammar

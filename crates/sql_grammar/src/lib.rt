@@ -3,6 +3,7 @@
 #![tactic(auto)]
 
 ghost use Rattle.std.specs.Prelude.{◌≡◌, Some};
+ghost use Rattle.sql_grammar.specs.Strings.{StringsAreRead, StringsAreWritten};
 ghost use Rattle.sql_grammar.specs.Tokens.{keyword_of, keyword_text};
 
 mod words;
@@ -72,6 +73,12 @@ pub const KEYWORDS: [Keyword; 24] = [
 /// Each keyword is the one that its word is read as, so that none is missing among `KEYWORDS`.
 pub fn keywords_are_read()
     ensures { (k : Keyword) → keyword_of (keyword_text k) ≡ Some k }
+{}
+
+/// A string is read where it is written: its content, from the longest bytes that its quotes enclose.
+pub fn strings_are_read()
+    ensures read { StringsAreRead }
+    ensures written { StringsAreWritten }
 {}
 
 /// A sign. `=` and `==` are one sign, and so are `!=` and `<>`.
