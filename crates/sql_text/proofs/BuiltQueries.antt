@@ -32,7 +32,6 @@ use Rattle.sql_grammar.specs.Trees.{CallTree, Side, plain, text, call, Condition
 use Rattle.sql_grammar.specs.Grammar.{Tokens, IsAgg, count_rows, count_star, call_over, IsOperand, an_expr, a_string, IsCond, one_conj, disjunction, IsConj, one_neg, conjunction, IsNeg, negation, enclosed_cond, comparison, AreListed, last_one, one_more, IsWhat, an_expression, an_agg, IsItem, unnamed, named, IsSelection, all_columns, some_items, IsTable, named_table, numbers_table, table_on, IsJoin, no_join, join_of, inner_join, IsFilter, no_filter, filter_by, AreKeys, no_keys, keys_by, IsHaving, no_having, having_by, IsOrder, no_order, order_by, IsLimit, no_limit, first_rows, rows_behind, IsSource, source_of, IsShaping, shaping_of, IsQuery, select_query, IsText, bare, with_semicolon}
 use Rattle.sql_text.specs.declared.limits.ParseRefusal.{ParseRefusal}
 use Rattle.sql_text.specs.declared.limits.ParseRefusal.TheVariants as refusal
-use Rattle.sql_text.specs.declared.limits.TheConstants.{MAX_TEXT, MAX_OPERATORS}
 use Rattle.sql_text.specs.Refusals.{is_large, is_operator, is_aggregate, is_unbuilt_keyword, is_unbuilt, has_unbuilt, unbuilt_refusal, token_refusal, refusal_of_tokens, IsReadFrom}
 use Rattle.sql_text.proofs.Behind.{IsBehind, next, later, past, operand_behind, cond_behind, item_behind, selection_behind, table_behind}
 
@@ -280,9 +279,9 @@ not_long false o e = e
 tokens_built : (q : Query) (bytes : List ℕ) (read : IsReadFrom q bytes) → has_unbuilt read.spells.tokens ≡ false
 tokens_built q bytes read =
     let ts = read.spells.tokens in
-    let late : refusal_of_tokens true (tokens_of bytes) ≡ None = not_long (nat_lt MAX_TEXT (length bytes)) (refusal_of_tokens true (tokens_of bytes)) read.early in
+    let late : refusal_of_tokens true (tokens_of bytes) ≡ None = not_long (nat_lt 65536 (length bytes)) (refusal_of_tokens true (tokens_of bytes)) read.early in
     let of : token_refusal true ts ≡ None = subst (λ (o : Option (List Token)). refusal_of_tokens true o ≡ None) read.spells.are late in
-    refused_if (has_unbuilt ts) (third (list_any is_large ts) (nat_lt MAX_OPERATORS (count_by is_operator ts)) (unbuilt_refusal true ts) of)
+    refused_if (has_unbuilt ts) (third (list_any is_large ts) (nat_lt 1000 (count_by is_operator ts)) (unbuilt_refusal true ts) of)
 
 -- as long as other clauses are refused, a query that is read is one of one declared table
 pub plain_of_read : (q : Query) (bytes : List ℕ) → IsReadFrom q bytes → IsPlainQuery q

@@ -7,3 +7,4 @@ pub mod ListTurns
 pub mod Bytes
 pub mod Readings
 pub mod BuiltQueries
+pub mod AnalysableQueries

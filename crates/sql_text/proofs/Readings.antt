@@ -7,7 +7,6 @@ use Rattle.sql_grammar.specs.Tokens.{tokens_of}
 use Rattle.sql_grammar.specs.Trees.{QueryTree, query_tree}
 use Rattle.sql_grammar.specs.Grammar.{Tokens, IsText, Spells}
 use Rattle.sql_text.specs.declared.limits.ParseRefusal.TheVariants as refusal
-use Rattle.sql_text.specs.declared.limits.TheConstants.{MAX_TEXT}
 use Rattle.sql_text.specs.declared.stop.Stop.{Stop}
 use Rattle.sql_text.specs.declared.stop.Stop.TheVariants as stop
 use Rattle.sql_text.specs.Answers.{Fails}
@@ -23,20 +22,20 @@ spelled_at q text ts are s = subst (λ (x : Tokens). IsText (query_tree q) x) (s
 read_at : (q : Query) (text : List ℕ) (ts : Tokens) → tokens_of text ≡ Some ts → Spells q text → query_at (length ts) ts ≡ Some (query_tree q)
 read_at q text ts are s = text_found (spelled_at q text ts are s) (length ts) (omega arith)
 
-not_long : (n : ℕ) → n ≤ MAX_TEXT → nat_lt MAX_TEXT n ≡ false
+not_long : (n : ℕ) → n ≤ 65536 → nat_lt 65536 n ≡ false
 not_long n h = grind arith
 
-pub early_is : (strict : Bool) (text : List ℕ) (ts : Tokens) → length text ≤ MAX_TEXT → tokens_of text ≡ Some ts → early_by strict text ≡ token_refusal strict ts
+pub early_is : (strict : Bool) (text : List ℕ) (ts : Tokens) → length text ≤ 65536 → tokens_of text ≡ Some ts → early_by strict text ≡ token_refusal strict ts
 early_is strict text ts short are =
     ap (λ b. cond b (Some refusal.TooLong) (refusal_of_tokens strict (tokens_of text))) (not_long (length text) short) ∙ ap (refusal_of_tokens strict) are
 
-pub is_read : (strict : Bool) (q : Query) (text : List ℕ) (ts : Tokens) → length text ≤ MAX_TEXT → tokens_of text ≡ Some ts → token_refusal strict ts ≡ None
+pub is_read : (strict : Bool) (q : Query) (text : List ℕ) (ts : Tokens) → length text ≤ 65536 → tokens_of text ≡ Some ts → token_refusal strict ts ≡ None
     → query_at (length ts) ts ≡ Some (query_tree q) → IsReadBy strict q text
 is_read strict q text ts short are none read =
     let is : IsText (query_tree q) ts = subst (λ (r : Option QueryTree). IfSome r (λ t. IsText t ts)) read (text_spelled (length ts) ts) in
     record { early = early_is strict text ts short are ∙ none; spells = record { tokens = ts; are = are; text = is } }
 
-pub is_refused : (strict : Bool) (e : Stop) (text : List ℕ) (ts : Tokens) → length text ≤ MAX_TEXT → tokens_of text ≡ Some ts → token_refusal strict ts ≡ None
+pub is_refused : (strict : Bool) (e : Stop) (text : List ℕ) (ts : Tokens) → length text ≤ 65536 → tokens_of text ≡ Some ts → token_refusal strict ts ≡ None
     → Fails e (query_at (length ts) ts) → IsRefusedBy strict (refusal_of e) text
 is_refused strict stop.Syntax text ts short are none fails =
     inr (early_is strict text ts short are ∙ none, λ q s. none-some (query_tree q) (sym fails ∙ read_at q text ts are s))

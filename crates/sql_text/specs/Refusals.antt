@@ -15,7 +15,6 @@ use Rattle.sql_text.specs.declared.limits.ParseRefusal.{ParseRefusal}
 use Rattle.sql_text.specs.declared.limits.ParseRefusal.TheVariants as refusal
 use Rattle.sql_text.specs.declared.stop.Stop.{Stop}
 use Rattle.sql_text.specs.declared.stop.Stop.TheVariants as stop
-use Rattle.sql_text.specs.declared.limits.TheConstants.{MAX_TEXT, MAX_OPERATORS}
 
 abbrev pub is_large : Token → Bool
 is_large (token.Name w) = false
@@ -95,7 +94,7 @@ unbuilt_refusal true ts = if has_unbuilt ts then Some refusal.NotBuilt else None
 abbrev pub token_refusal : Bool → List Token → Option ParseRefusal
 token_refusal strict ts =
     if list_any is_large ts then Some refusal.NumberTooLarge
-    else if nat_lt MAX_OPERATORS (count_by is_operator ts) then Some refusal.TooComplex else unbuilt_refusal strict ts
+    else if nat_lt 1000 (count_by is_operator ts) then Some refusal.TooComplex else unbuilt_refusal strict ts
 
 abbrev pub refusal_of_tokens : Bool → Option (List Token) → Option ParseRefusal
 refusal_of_tokens strict None = Some refusal.Syntax
@@ -103,7 +102,7 @@ refusal_of_tokens strict (Some ts) = token_refusal strict ts
 
 -- the refusal that comes before a query is read, where one does
 abbrev pub early_by : Bool → List ℕ → Option ParseRefusal
-early_by strict text = if nat_lt MAX_TEXT (length text) then Some refusal.TooLong else refusal_of_tokens strict (tokens_of text)
+early_by strict text = if nat_lt 65536 (length text) then Some refusal.TooLong else refusal_of_tokens strict (tokens_of text)
 
 -- when each refusal comes
 abbrev pub IsRefusedBy : Bool → ParseRefusal → List ℕ → Type 0
