@@ -11,7 +11,7 @@ use Rattle.query_model.specs.declared.processor_spec.Spec.TheVariants as spec
 use Rattle.port_word.specs.Pictures.{Picture}
 use Rattle.proc_api.specs.Boxes.{BoxPicture}
 use Rattle.proc_api.specs.Histories.{Lists, chunk_rows, pulled_at, with_pulled, total_rows, rows_pulled, raised, last_count}
-use Rattle.proc_api.specs.Keeping.{IsPulled, MakesTypes, AllFit, FitsInput, no_table}
+use Rattle.proc_api.specs.Keeping.{IsPulled, MakesTypes, AllFit, FitsInput, HasReadEnough, no_table}
 use Rattle.proc_api.specs.Clauses.{PulledOn}
 
 -- ---- chunks that were pulled
@@ -28,16 +28,16 @@ pub makes-more : (s : Option Spec) (v w : Picture) (ins : Lists) (types : List C
 makes-more None v w ins types h = tt
 makes-more (Some (spec.Csv part)) v w ins types h = h
 makes-more (Some (spec.List list)) v w ins types h = tt
-makes-more (Some (spec.Numbers n rows)) v w ins types h = tt
+makes-more (Some (spec.Numbers n rows)) v w ins types h = h
 makes-more (Some (spec.Filter c)) v w ins types h = record { pulled = pulled-more v w ins types h.pulled; fits = h.fits }
 makes-more (Some (spec.Expression items)) v w ins types h = record { from = h.from; pulled = pulled-more v w ins h.from h.pulled; fits = h.fits; is = h.is }
-makes-more (Some spec.Resize) v w ins types h = tt
+makes-more (Some spec.Resize) v w ins types h = pulled-more v w ins types h
 makes-more (Some (spec.PartialAggregate groups)) v w ins types h = tt
 makes-more (Some (spec.MergeAggregate groups)) v w ins types h = tt
 makes-more (Some (spec.HashJoin join)) v w ins types h = tt
 makes-more (Some (spec.Sort order)) v w ins types h = tt
 makes-more (Some (spec.MergeSorted order)) v w ins types h = tt
-makes-more (Some (spec.Limit span)) v w ins types h = tt
+makes-more (Some (spec.Limit span)) v w ins types h = pulled-more v w ins types h
 makes-more (Some spec.Collect) v w ins types h = tt
 
 -- what is true of all chunks of a longer list is true of its front
@@ -96,3 +96,22 @@ counted-more p q v w ins on e h =
       | inl less ↦ elim h [ inl kept ↦ inl (omega (arith, more, since, e, less, kept)) | inr full ↦ absurd (omega (arith, less, full)) ]
       | inr reached ↦ inr (omega (arith, e, reached))
     ]
+
+-- enough that was read stays enough
+pub enough-more : (s : Option Spec) (v w : Picture) (ins : Lists) → HasReadEnough s ins → HasReadEnough s (with_pulled v w ins)
+enough-more None v w ins h = h
+enough-more (Some (spec.Csv part)) v w ins h = h
+enough-more (Some (spec.List list)) v w ins h = h
+enough-more (Some (spec.Numbers n rows)) v w ins h = h
+enough-more (Some (spec.Filter c)) v w ins h = h
+enough-more (Some (spec.Expression items)) v w ins h = h
+enough-more (Some spec.Resize) v w ins h = h
+enough-more (Some (spec.PartialAggregate groups)) v w ins h = h
+enough-more (Some (spec.MergeAggregate groups)) v w ins h = h
+enough-more (Some (spec.HashJoin join)) v w ins h = h
+enough-more (Some (spec.Sort order)) v w ins h = h
+enough-more (Some (spec.MergeSorted order)) v w ins h = h
+enough-more (Some (spec.Limit span)) v w ins h =
+    let more : length (chunk_rows (with_pulled v w ins 0)) ≡ length (chunk_rows (ins 0)) + length (chunk_rows (pulled_at v w 0)) = ap length (rows-append (ins 0) (pulled_at v w 0)) ∙ length-append (chunk_rows (ins 0)) (chunk_rows (pulled_at v w 0)) in
+    omega (arith, more, h)
+enough-more (Some spec.Collect) v w ins h = h

@@ -1,4 +1,3 @@
-pub mod Settled
 pub mod RackLaws
 pub mod ViewFlags
 pub mod CallLaws

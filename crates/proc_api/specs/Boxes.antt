@@ -19,8 +19,9 @@ pub record PortFlags : Type 0 where
 
 -- The state of a processor. A later kind may add a field, which is as `idle_work` has it in every other kind.
 pub record WorkState : Type 0 where
-  -- the chunks that were pulled and are not worked yet, in order
+  -- the chunks that were pulled and are not worked yet, in order, and the input from which they were pulled
   pub unworked : List Table
+  pub source : ℕ
   -- the chunks that are made and not pushed yet, in order
   pub made : List Table
   -- the rows that can be pushed once they are made, in order
@@ -28,6 +29,9 @@ pub record WorkState : Type 0 where
   -- the chunks that it has gathered, in order, and whether they were handed out
   pub gathered : List Table
   pub handed_out : Bool
+  -- how many rows it has read, and whether it has noted the end of its inputs
+  pub read : ℕ
+  pub ended : Bool
   -- whether a source has opened its file, and whether it has fetched it whole
   pub opened : Bool
   pub fetched : Bool
@@ -70,10 +74,13 @@ pub record BoxPicture : Type 0 where
 abbrev pub idle_work : WorkState
 idle_work = record {
   unworked = [];
+  source = 0;
   made = [];
   unmade = [];
   gathered = [];
   handed_out = false;
+  read = 0;
+  ended = false;
   opened = false;
   fetched = false;
   bad = None;

@@ -2,6 +2,7 @@
 use Rattle.std.specs.Prelude.{◌≡◌, ◌≢◌, ◌⊎◌, ℕ, ◌+◌, ◌<◌, ◌≤◌, true, false, IsTrue, List, [], length, map, Option, Some, None, IsSome, IfSome, ⊤}
 use Rattle.chunk_data.specs.Values.{Table}
 use Rattle.query_model.specs.Kinds.{kind_of}
+use Rattle.query_model.specs.Answers.{enough}
 use Rattle.query_model.specs.Database.{Files, file_bytes, part_bad_place, bad_line_in}
 use Rattle.query_model.specs.declared.processor_spec.Kind.{Kind}
 use Rattle.query_model.specs.declared.processor_spec.Kind.TheVariants as kind
@@ -182,9 +183,26 @@ pub record IsFetching (p : BoxPicture) : Type 0 where
   pub source : IsSourceKind p.kind
   pub unfetched : p.work.fetched ≡ false
 
+-- a limit asks for data only as long as it hasn't read enough
+abbrev pub IsWanting : Option Spec → (read : ℕ) → Type 0
+IsWanting None read = ⊤
+IsWanting (Some (spec.Limit span)) read = read < enough span
+IsWanting (Some (spec.Csv part)) read = ⊤
+IsWanting (Some (spec.List list)) read = ⊤
+IsWanting (Some (spec.Numbers n rows)) read = ⊤
+IsWanting (Some (spec.Filter c)) read = ⊤
+IsWanting (Some (spec.Expression items)) read = ⊤
+IsWanting (Some spec.Resize) read = ⊤
+IsWanting (Some (spec.PartialAggregate groups)) read = ⊤
+IsWanting (Some (spec.MergeAggregate groups)) read = ⊤
+IsWanting (Some (spec.HashJoin join)) read = ⊤
+IsWanting (Some (spec.Sort order)) read = ⊤
+IsWanting (Some (spec.MergeSorted order)) read = ⊤
+IsWanting (Some spec.Collect) read = ⊤
+
 -- when an answer may come
 abbrev pub StatusComes : Status → BoxPicture → Type 0
-StatusComes status.NeedData p = ⊤
+StatusComes status.NeedData p = IsWanting p.spec p.work.read
 StatusComes status.PortFull p = ⊤
 StatusComes status.Ready p = MayBeReady p
 StatusComes status.Async p = IsFetching p

@@ -1,20 +1,21 @@
 -- The processor contract: what a box keeps of the chunks that it pulled and pushed, by cases on its spec.
-use Rattle.std.specs.Prelude.{◌≡◌, ◌⊎◌, ℕ, ◌+◌, ◌<◌, ◌≤◌, max, drop, true, false, List, [], ◌++◌, length, map, filter, slice_index_or, Option, Some, None, ⊤}
+use Rattle.std.specs.Prelude.{◌≡◌, ◌⊎◌, ℕ, ◌<◌, ◌≤◌, max, drop, true, false, List, [], ◌∷◌, ◌++◌, length, map, filter, slice_index_or, Option, Some, None, ⊤}
 use Rattle.std.specs.List.{All}
 use Rattle.chunk_data.specs.Values.{Row, Table}
 use Rattle.chunk_data.specs.declared.typed_value.ColumnType.{ColumnType}
+use Rattle.chunk_data.specs.declared.typed_value.ColumnType.TheVariants as column
 use Rattle.query_model.specs.Expressions.{Cond, Expr, holds, type_of}
 use Rattle.query_model.specs.Answers.{item_row, enough}
 use Rattle.query_model.specs.Typing.{IsItem, IsTypedCond}
 use Rattle.query_model.specs.Parts.{part_records, good_rows, bad_place}
 use Rattle.query_model.specs.Database.{Files, file_bytes}
-use Rattle.query_model.specs.declared.query.Span.{Span}
 use Rattle.query_model.specs.declared.processor_spec.PartSpec.{PartSpec}
 use Rattle.query_model.specs.declared.processor_spec.Spec.{Spec}
 use Rattle.query_model.specs.declared.processor_spec.Spec.TheVariants as spec
 use Rattle.port_word.specs.Pictures.{is_in_finished}
 use Rattle.proc_api.specs.Boxes.{BoxPicture, PortFlags, WorkState, idle_work, kept_input, kept_output, kept_inputs, kept_outputs}
 use Rattle.proc_api.specs.Histories.{Lists, chunk_rows, total_rows, last_count}
+use Rattle.proc_api.specs.Made.{HasMade, HasNotedEnd, own_of, unworked_at}
 use Rattle.proc_api.specs.Ports.{ArePortsOf, is_ended}
 
 -- ---- rows, kind by kind
@@ -78,22 +79,56 @@ pub record KeepsPart (part : PartSpec) (p : BoxPicture) (outs : Lists) : Type 0 
   pub fetched : p.work.fetched ≡ true → KeepsPartRows part p (chunk_rows (outs 0))
   pub finished : (kept_output p 0).fin_out ≡ true → HasPushedPart p
 
--- The rows that a box keeps. Nothing is asked yet of a kind that isn't named here.
+-- Once it has itself finished an output nothing waits, nothing is unworked, and nothing can be made.
+pub record IsOver (s : Spec) (w : WorkState) : Type 0 where
+  pub nothing_waits : w.made ≡ []
+  pub all_worked : w.unworked ≡ []
+  pub all_made : w.unmade ≡ []
+  pub noted : HasNotedEnd s (own_of w)
+
+-- The first chunks of each input are worked, and of them it has made what its kind says.
+pub record KeepsMade (s : Spec) (p : BoxPicture) (ins outs : Lists) : Type 0 where
+  pub worked : Lists
+  pub ins_are : (i : ℕ) → ins i ≡ worked i ++ unworked_at p.work i
+  pub rows : HasMade s (own_of p.work) worked outs (chunk_rows p.work.made)
+  pub over : (o : ℕ) → (kept_output p o).fin_out ≡ true → IsOver s p.work
+
+-- The rows that a box keeps. Nothing is asked yet of the kinds at the end.
 abbrev pub KeepsRows : Option Spec → BoxPicture → Lists → Lists → Type 0
+KeepsRows None p ins outs = ⊤
 KeepsRows (Some (spec.Csv part)) p ins outs = KeepsPart part p outs
 KeepsRows (Some (spec.Filter c)) p ins outs = KeepsFilter c p ins outs
 KeepsRows (Some (spec.Expression items)) p ins outs = KeepsExpression items p ins outs
 KeepsRows (Some spec.Collect) p ins outs = KeepsCollect p ins
-KeepsRows _ p ins outs = ⊤
+KeepsRows (Some (spec.Numbers n rows)) p ins outs = KeepsMade (spec.Numbers n rows) p ins outs
+KeepsRows (Some spec.Resize) p ins outs = KeepsMade spec.Resize p ins outs
+KeepsRows (Some (spec.Limit span)) p ins outs = KeepsMade (spec.Limit span) p ins outs
+KeepsRows (Some (spec.List list)) p ins outs = ⊤
+KeepsRows (Some (spec.PartialAggregate groups)) p ins outs = ⊤
+KeepsRows (Some (spec.MergeAggregate groups)) p ins outs = ⊤
+KeepsRows (Some (spec.HashJoin join)) p ins outs = ⊤
+KeepsRows (Some (spec.Sort order)) p ins outs = ⊤
+KeepsRows (Some (spec.MergeSorted order)) p ins outs = ⊤
 
 -- ---- what fits
 
--- Chunks of these types fit an input of the spec: they are the types that it gives, or type its condition, expressions and columns. A spec that
--- isn't named here takes every chunk so far.
+-- Chunks of these types fit an input of the spec: they are the types that it gives, or type its condition, expressions and columns. A
+-- Resize and a Limit take every chunk, and so do so far the kinds at the end.
 abbrev pub FitsInput : Option Spec → ℕ → List ColumnType → Type 0
 FitsInput (Some (spec.Filter c)) i types = IsTypedCond types c
 FitsInput (Some (spec.Expression items)) i types = All (IsItem types) items
-FitsInput _ i types = ⊤
+FitsInput None i types = ⊤
+FitsInput (Some (spec.Csv part)) i types = ⊤
+FitsInput (Some (spec.Numbers n rows)) i types = ⊤
+FitsInput (Some spec.Resize) i types = ⊤
+FitsInput (Some (spec.Limit span)) i types = ⊤
+FitsInput (Some spec.Collect) i types = ⊤
+FitsInput (Some (spec.List list)) i types = ⊤
+FitsInput (Some (spec.PartialAggregate groups)) i types = ⊤
+FitsInput (Some (spec.MergeAggregate groups)) i types = ⊤
+FitsInput (Some (spec.HashJoin join)) i types = ⊤
+FitsInput (Some (spec.Sort order)) i types = ⊤
+FitsInput (Some (spec.MergeSorted order)) i types = ⊤
 
 -- each chunk that was pulled fits
 abbrev pub AllFit : Option Spec → Lists → Type 0
@@ -122,12 +157,22 @@ pub record IsMadeOfPulled (items : List Expr) (ins : Lists) (types : List Column
   pub is : types ≡ map (λ e. type_of e from) items
 
 -- Chunks of these types may be pushed: they are the types of the rows that the spec makes, or of a chunk that was
--- pulled and fits, where rows are passed on as they are. Nothing is asked yet of a kind that isn't named here.
+-- pulled and fits, where rows are passed on as they are. Nothing is asked yet of the kinds at the end.
 abbrev pub MakesTypes : Option Spec → Lists → List ColumnType → Type 0
 MakesTypes (Some (spec.Csv part)) ins types = types ≡ part.types
 MakesTypes (Some (spec.Filter c)) ins types = IsFitPulled c ins types
 MakesTypes (Some (spec.Expression items)) ins types = IsMadeOfPulled items ins types
-MakesTypes _ ins types = ⊤
+MakesTypes (Some (spec.Numbers n rows)) ins types = types ≡ column.UInt64 ∷ []
+MakesTypes (Some spec.Resize) ins types = IsPulled ins types
+MakesTypes (Some (spec.Limit span)) ins types = IsPulled ins types
+MakesTypes None ins types = ⊤
+MakesTypes (Some spec.Collect) ins types = ⊤
+MakesTypes (Some (spec.List list)) ins types = ⊤
+MakesTypes (Some (spec.PartialAggregate groups)) ins types = ⊤
+MakesTypes (Some (spec.MergeAggregate groups)) ins types = ⊤
+MakesTypes (Some (spec.HashJoin join)) ins types = ⊤
+MakesTypes (Some (spec.Sort order)) ins types = ⊤
+MakesTypes (Some (spec.MergeSorted order)) ins types = ⊤
 
 -- ---- the size of chunks
 
@@ -141,7 +186,12 @@ most_rows (Some (spec.MergeAggregate groups)) = Some groups.rows
 most_rows (Some (spec.HashJoin join)) = Some join.rows
 most_rows (Some (spec.Sort order)) = Some order.rows
 most_rows (Some (spec.MergeSorted order)) = Some order.rows
-most_rows _ = None
+most_rows (Some (spec.Filter c)) = None
+most_rows (Some (spec.Expression items)) = None
+most_rows (Some spec.Resize) = None
+most_rows (Some (spec.Limit span)) = None
+most_rows (Some spec.Collect) = None
+most_rows None = None
 
 -- 0 is read as 1
 abbrev pub IsAtMost : Option ℕ → ℕ → Type 0
@@ -157,7 +207,19 @@ HasSize s t = (0 < length t.rows) × IsAtMost (most_rows s) (length t.rows)
 -- a limit that has read enough
 abbrev pub HasReadEnough : Option Spec → Lists → Type 0
 HasReadEnough (Some (spec.Limit span)) ins = enough span ≤ length (chunk_rows (ins 0))
-HasReadEnough _ ins = ⊥
+HasReadEnough None ins = ⊥
+HasReadEnough (Some (spec.Csv part)) ins = ⊥
+HasReadEnough (Some (spec.List list)) ins = ⊥
+HasReadEnough (Some (spec.Numbers n rows)) ins = ⊥
+HasReadEnough (Some (spec.Filter c)) ins = ⊥
+HasReadEnough (Some (spec.Expression items)) ins = ⊥
+HasReadEnough (Some spec.Resize) ins = ⊥
+HasReadEnough (Some (spec.PartialAggregate groups)) ins = ⊥
+HasReadEnough (Some (spec.MergeAggregate groups)) ins = ⊥
+HasReadEnough (Some (spec.HashJoin join)) ins = ⊥
+HasReadEnough (Some (spec.Sort order)) ins = ⊥
+HasReadEnough (Some (spec.MergeSorted order)) ins = ⊥
+HasReadEnough (Some spec.Collect) ins = ⊥
 
 -- each input is finished or closed
 abbrev pub AllInputsFinished : BoxPicture → Type 0
@@ -180,7 +242,17 @@ IsWorkOf (Some (spec.Csv part)) w = w ≡ record idle_work { made = w.made; unma
 IsWorkOf (Some (spec.Filter c)) w = w ≡ record idle_work { unworked = w.unworked; made = w.made }
 IsWorkOf (Some (spec.Expression items)) w = w ≡ record idle_work { unworked = w.unworked; made = w.made }
 IsWorkOf (Some spec.Collect) w = w ≡ record idle_work { unworked = w.unworked; gathered = w.gathered; handed_out = w.handed_out }
-IsWorkOf _ w = ⊤
+IsWorkOf (Some (spec.Numbers n rows)) w =
+    w ≡ record idle_work { unworked = w.unworked; source = w.source; made = w.made; unmade = w.unmade }
+IsWorkOf (Some spec.Resize) w = w ≡ record idle_work { unworked = w.unworked; source = w.source; made = w.made }
+IsWorkOf (Some (spec.Limit span)) w = w ≡ record idle_work { unworked = w.unworked; made = w.made; read = w.read }
+IsWorkOf None w = ⊤
+IsWorkOf (Some (spec.List list)) w = ⊤
+IsWorkOf (Some (spec.PartialAggregate groups)) w = ⊤
+IsWorkOf (Some (spec.MergeAggregate groups)) w = ⊤
+IsWorkOf (Some (spec.HashJoin join)) w = ⊤
+IsWorkOf (Some (spec.Sort order)) w = ⊤
+IsWorkOf (Some (spec.MergeSorted order)) w = ⊤
 
 -- the kept view had the ports of the spec, as they were before or after its growth
 abbrev pub HadPorts : Option PortFlags → BoxPicture → Type 0

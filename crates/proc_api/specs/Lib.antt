@@ -3,6 +3,7 @@ pub mod Graphs
 pub mod Forms
 pub mod Boxes
 pub mod Histories
+pub mod Made
 pub mod Ports
 pub mod Keeping
 pub mod Clauses

@@ -1,9 +1,8 @@
 -- Pictures of a graph in which nothing is due: each node that isn't over rests, and knows its ports as they are.
-use Rattle.std.specs.Prelude.{◌≡◌, ℕ, ◌<◌, Bool, true, false, List, length, slice_index_or, Option, Some, None, ⊤}
+use Rattle.std.specs.Prelude.{◌≡◌, ℕ, ◌<◌, Bool, true, false, List, length, slice_index_or, Option, Some, None}
 use Rattle.port_word.specs.declared.flags.Flags.{Flags}
 use Rattle.port_word.specs.declared.flags.Wire.{Wire}
-use Rattle.port_word.specs.Pictures.{Picture, input_at, output_at, in_count, out_count, is_out_finished, no_flags}
-use Rattle.port_word.specs.Calls.{new_picture}
+use Rattle.port_word.specs.Pictures.{Picture, input_at, output_at, is_out_finished}
 use Rattle.port_word.specs.Status.{WaitsForData, WaitsForRoom}
 use Rattle.proc_api.specs.declared.status.Status.{Status}
 use Rattle.proc_api.specs.declared.status.Status.TheVariants as status
@@ -48,17 +47,8 @@ pub record IsSettledWire (from to : RestingNode) (w : Wire) (port : Flags) : Typ
 abbrev pub no_wire : Wire
 no_wire = record { from = 0; out = 0; to = 0; input = 0 }
 
-abbrev pub no_node : RestingNode
-no_node = record { rank = 0; is_over = true; last = None; view = new_picture 0 0 }
-
-unfoldable pub node_at : List RestingNode → ℕ → RestingNode
-node_at nodes n = slice_index_or nodes n no_node
-
 unfoldable pub wire_at : List Wire → ℕ → Wire
 wire_at wires e = slice_index_or wires e no_wire
-
-unfoldable pub port_at : List Flags → ℕ → Flags
-port_at ports e = slice_index_or ports e no_flags
 
 -- the wire that ends at an input of a node
 pub record HasInputWire (wires : List Wire) (node input : ℕ) : Type 0 where
@@ -73,32 +63,3 @@ pub record HasOutputWire (wires : List Wire) (node out : ℕ) : Type 0 where
   pub in_range : edge < length wires
   pub from : (wire_at wires edge).from ≡ node
   pub out_is : (wire_at wires edge).out ≡ out
-
--- Each port of a node that isn't over has a wire, and the node knows the port's flags. A wire goes from a lower rank to a higher one, and
--- its port has a finished flag where one of its ends is over.
-pub record AreWired (nodes : List RestingNode) (wires : List Wire) (ports : List Flags) : Type 0 where
-  pub inputs : (n i : ℕ) → n < length nodes → (node_at nodes n).is_over ≡ false → i < in_count (node_at nodes n).view → HasInputWire wires n i
-  pub outputs : (n o : ℕ) → n < length nodes → (node_at nodes n).is_over ≡ false → o < out_count (node_at nodes n).view → HasOutputWire wires n o
-  pub from_in_range : (e : ℕ) → e < length wires → (wire_at wires e).from < length nodes
-  pub to_in_range : (e : ℕ) → e < length wires → (wire_at wires e).to < length nodes
-  pub joined : (e : ℕ) → e < length wires → IsSettledWire (node_at nodes (wire_at wires e).from) (node_at nodes (wire_at wires e).to) (wire_at wires e) (port_at ports e)
-
--- Nothing is due: each node that isn't over rests.
-pub record IsSettled (nodes : List RestingNode) (wires : List Wire) (ports : List Flags) : Type 0 where
-  pub rests : (n : ℕ) → n < length nodes → (node_at nodes n).is_over ≡ false → Rests (node_at nodes n).last (node_at nodes n).view
-  pub wired : AreWired nodes wires ports
-
--- The last status of a node that isn't over lets it rest. A node that was never prepared has an output.
-abbrev pub StatusRests : Option Status → Picture → Type 0
-StatusRests (Some status.NeedData) v = ⊤
-StatusRests (Some status.PortFull) v = ⊤
-StatusRests (Some status.Ready) v = ⊥
-StatusRests (Some status.Async) v = ⊥
-StatusRests (Some status.ExpandPipeline) v = ⊥
-StatusRests (Some status.Finished) v = ⊥
-StatusRests None v = 0 < out_count v
-
--- Nothing is due, but the pictures may belie the last statuses.
-pub record IsSettledBut (nodes : List RestingNode) (wires : List Wire) (ports : List Flags) : Type 0 where
-  pub status_rests : (n : ℕ) → n < length nodes → (node_at nodes n).is_over ≡ false → StatusRests (node_at nodes n).last (node_at nodes n).view
-  pub wired : AreWired nodes wires ports
