@@ -1,33 +1,29 @@
 -- A shell keeps the contract of its kernel's kind over a prepare.
-use Rattle.std.proofs.Common.{◌≡◌, ◌≢◌, ◌⊎◌, ℕ, ◌+◌, ◌<◌, Bool, true, false, ◌&&◌, ◌||◌, not, List, [], ◌++◌, length, get_or, append_assoc, Option, Some, None, refl, sym, ap, subst, ◌∙◌, arith, inl, inr}
+use Rattle.std.proofs.Common.{◌≡◌, ◌≢◌, ◌⊎◌, ℕ, zero, suc, ◌+◌, ◌<◌, ◌≤◌, Bool, true, false, ◌&&◌, ◌||◌, ◌==◌, not, cond, List, [], ◌∷◌, ◌++◌, length, get_or, append_assoc, Option, Some, None, IfSome, refl, sym, ap, subst, ◌∙◌, arith, inl, inr}
 use Rattle.std.specs.List.{All}
-use Rattle.std.proofs.lemmas.Grind.{common_steps}
+use Rattle.std.proofs.lemmas.Bool.{cases_lt, eq-eqb, ne_eqb}
 use Rattle.std.proofs.lemmas.List.{length-append, append-nil, get_or-append-add, length-map}
 use Rattle.std.proofs.lemmas.List.Elements.{All-append}
-use Rattle.chunk_data.specs.Values.{Row, Table}
+use Rattle.chunk_data.specs.Values.{Table}
 use Rattle.query_model.specs.declared.processor_spec.Spec.{Spec}
 use Rattle.port_word.specs.declared.flags.Flags.{Flags}
-use Rattle.port_word.specs.Pictures.{Picture, input_at, output_at, in_count, out_count, is_in_finished, no_flags}
+use Rattle.port_word.specs.Pictures.{Picture, input_at, output_at, in_count, out_count, is_in_finished, is_out_finished, no_flags}
 use Rattle.proc_api.specs.declared.status.Status.{Status}
-use Rattle.proc_api.specs.Forms.{GrowthForm}
-use Rattle.proc_api.specs.Boxes.{BoxPicture, PortFlags, kept_input, kept_output, kept_inputs, kept_ports}
-use Rattle.proc_api.specs.Histories.{Lists, chunk_rows, pulled_at, pushed_at, with_pulled, with_pushed, rows_pulled, raised}
-use Rattle.proc_api.specs.Ports.{AreCounts, ArePortsOf, FollowsKept, InputFollows, is_ended}
-use Rattle.proc_api.specs.Keeping.{Keeps, KeepsRows, IsWorkOf, AllFit, MakesTypes, IsPulled, HasSize, HadPorts, HasReadEnough, AllInputsEnded, AllOutputsClosed}
+use Rattle.proc_api.specs.Boxes.{BoxPicture, PortFlags, kept_input, kept_output, kept_inputs, kept_outputs, kept_ports}
+use Rattle.proc_api.specs.Histories.{Lists, chunk_rows, pulled_at, pushed_at, with_pulled, with_pushed, rows_pulled, raised, taken_out}
+use Rattle.proc_api.specs.Made.{HasMade, HasNotedEnd, OwnState, own_of, unworked_at}
+use Rattle.proc_api.specs.Ports.{ArePortsOf, FollowsKept, InputFollows, StandStill, is_ended}
+use Rattle.proc_api.specs.Keeping.{Keeps, KeepsMade, KeepsRows, IsOver, IsWorkOf, AllFit, MakesTypes, IsPulled, HasSize, HadPorts, HasReadEnough, AllOutputsClosed}
 use Rattle.proc_api.specs.Clauses.{PulledOn, port_flags}
-use Rattle.proc_api.proofs.Keeping.{pulled-more, makes-more, front-all, fits-front, pulled-last, rows-append, counted-more}
+use Rattle.proc_api.proofs.Keeping.{pulled-more, makes-more, enough-more, front-all, fits-front, pulled-last, counted-more}
 use Rattle.proc_api.proofs.KeptFlags.{kept_inputs-of, kept_outputs-of, kept_input-of, kept_input-past, kept_output-of, kept_output-past}
 use Rattle.proc_api.proofs.ShutPorts.{by-place}
-use Rattle.proc_shell.specs.Made.{HasMade, KeepsMade, OwnState, own_of, work_with}
-use Rattle.proc_shell.specs.declared.turns.Held.{Held}
-use Rattle.proc_shell.specs.declared.kernel.Offer.{Offer}
-use Rattle.proc_shell.specs.declared.kernel.Offer.TheVariants as offer
-use Rattle.proc_shell.specs.declared.turns.Held.TheVariants.{Nothing, Unworked, Made}
-use Rattle.query_model.specs.declared.processor_spec.Spec.TheVariants as spec
-use Rattle.proc_shell.specs.Turning.{held_unworked, held_made, HasOneEach}
-use Rattle.proc_shell.specs.Kernels.{IsPassing, OfferComes}
-use Rattle.proc_shell.specs.Shells.{OffersHeld}
-use Rattle.proc_shell.proofs.TurnLaws.{Moves, Ends, EndedBefore, EndsNow}
+use Rattle.proc_shell.specs.declared.held.Held.{Held}
+use Rattle.proc_shell.specs.declared.held.Held.TheVariants.{Nothing, Unworked, Made}
+use Rattle.proc_shell.specs.Steps.{held_unworked, held_made, source_of}
+use Rattle.proc_shell.specs.Kernels.{HasEnough, HasSpecView, IsShelled, work_with}
+use Rattle.proc_shell.specs.Turning.{Moves, PullsOne, Pushes, Turns}
+use Rattle.proc_shell.proofs.TurnLaws.{holds-unended}
 
 -- ---- lists
 
@@ -41,6 +37,26 @@ all-map P Q xs f h = λ k d lt. f (get_or xs k d) (h k d lt)
 all-none : (P : Table → Type 0) (xs : List Table) → xs ≡ [] → All P xs
 all-none P xs e = λ k d lt. absurd (let l = ap length e in omega (arith, l, lt))
 
+back-none : (xs ys : List Table) → [] ≡ xs ++ ys → ys ≡ []
+back-none [] ys e = sym e
+back-none (x ∷ xs) ys e = absurd (cc)
+
+none-held : (h : Held) → held_unworked h ≡ [] → held_made h ≡ [] → h ≡ Nothing
+none-held Nothing e f = refl
+none-held (Unworked i c) e f = absurd (cc)
+none-held (Made c) e f = absurd (cc)
+
+-- each below n has one fact, or another is true
+all-or : (n : ℕ) (A : ℕ → Type 0) (E : Type 0) → ((i : ℕ) → i < n → A i ⊎ E) → ((i : ℕ) → i < n → A i) ⊎ E
+all-or zero A E f = inl (λ i lt. absurd (omega (arith, lt)))
+all-or (suc n) A E f = elim (all-or n A E (λ i lt. f i (omega (arith, lt)))) [
+  | inl all ↦ elim (f n (omega arith)) [
+    | inl last ↦ inl (λ i lt. by-place A n i last (λ ne. all i (omega (arith, lt, ne))))
+    | inr e ↦ inr e
+  ]
+  | inr e ↦ inr e
+]
+
 -- ---- the kept flags are as many as the view has
 
 pub kept-count : (u : Picture) → length (port_flags u).inputs ≡ in_count u
@@ -51,92 +67,77 @@ pub outs-count : (u : Picture) → length (port_flags u).outputs ≡ out_count u
 unfolding out_count
 outs-count u = refl
 
--- enough that was read stays enough
-pub enough-more : (s : Option Spec) (v w : Picture) (ins : Lists) → HasReadEnough s ins → HasReadEnough s (with_pulled v w ins)
-enough-more None v w ins h = h
-enough-more (Some (spec.Csv part)) v w ins h = h
-enough-more (Some (spec.List list)) v w ins h = h
-enough-more (Some (spec.Numbers n rows)) v w ins h = h
-enough-more (Some (spec.Filter c)) v w ins h = h
-enough-more (Some (spec.Expression items)) v w ins h = h
-enough-more (Some spec.Resize) v w ins h = h
-enough-more (Some (spec.PartialAggregate groups)) v w ins h = h
-enough-more (Some (spec.MergeAggregate groups)) v w ins h = h
-enough-more (Some (spec.HashJoin join)) v w ins h = h
-enough-more (Some (spec.Sort order)) v w ins h = h
-enough-more (Some (spec.MergeSorted order)) v w ins h = h
-enough-more (Some (spec.Limit span)) v w ins h =
-    let more : length (chunk_rows (with_pulled v w ins 0)) ≡ length (chunk_rows (ins 0)) + length (chunk_rows (pulled_at v w 0)) = ap length (rows-append (ins 0) (pulled_at v w 0)) ∙ length-append (chunk_rows (ins 0)) (chunk_rows (pulled_at v w 0)) in
-    omega (arith, more, h)
-enough-more (Some spec.Collect) v w ins h = h
+-- ---- flags
+
+pub never-ended : (f : Flags) → is_ended f ≡ true → is_in_finished f ≡ false → ⊥
+never-ended f e n = by-bit f.fin_in n
+  where
+    by-bit : (c : Bool) → (c || is_ended f) ≡ false → ⊥
+    by-bit true y = absurd (cc)
+    by-bit false y = let c : true ≡ false = sym e ∙ y in absurd (cc)
+
+ended-stays : (a b : Flags) → InputFollows a b → is_ended a ≡ true → is_ended b ≡ true
+ended-stays a b f e = by-bits a.fin_out a.has_data refl refl e
+  where
+    by-bits : (o d : Bool) → a.fin_out ≡ o → a.has_data ≡ d → (o && not d) ≡ true → (b.fin_out && not b.has_data) ≡ true
+    by-bits true false y z e = rw (f.fin_out y, f.stays_empty y z) refl
+    by-bits true true y z e = absurd (cc)
+    by-bits false d y z e = absurd (cc)
+
+-- one of two flags is set
+either-set : (a b : Bool) → (a || b) ≡ true → (a ≡ true) ⊎ (b ≡ true)
+either-set true b e = inl refl
+either-set false b e = inr e
 
 -- ---- a prepare
 
+had-spec : (s : Spec) → IsShelled s → (p : BoxPicture) → p.spec ≡ Some s → (ports : PortFlags) → HadPorts (Some ports) p → ArePortsOf (Some s) None (length ports.inputs) (length ports.outputs)
+had-spec s shelled p e ports had = elim (subst (λ x. ArePortsOf x None (length ports.inputs) (length ports.outputs) ⊎ ArePortsOf x p.growth (length ports.inputs) (length ports.outputs)) e had) [
+  | inl y ↦ y
+  | inr y ↦ shelled.ungrown p.growth (length ports.inputs) (length ports.outputs) y
+]
+
+pub spec-view : (s : Spec) → IsShelled s → (p : BoxPicture) → p.spec ≡ Some s → HadPorts p.notes.view p → HasSpecView s p
+spec-view s shelled p e = go p.notes.view
+  where
+    go : (x : Option PortFlags) → HadPorts x p → IfSome x (λ (ports : PortFlags). ArePortsOf (Some s) None (length ports.inputs) (length ports.outputs))
+    go None had = tt
+    go (Some ports) had = had-spec s shelled p e ports had
+
 -- a box whose kernel has the state a and that holds h goes on to b and k
-pub record Goes (s : Spec) (p q : BoxPicture) (v w : Picture) (o : Offer) (a b : OwnState) (h k : Held) (st : Status) (rows : ℕ) : Type 0 where
+pub record Goes (s : Spec) (p q : BoxPicture) (v u w : Picture) (a b : OwnState) (h m k : Held) (st : Status) : Type 0 where
   pub spec : p.spec ≡ Some s
   pub spec_stays : q.spec ≡ Some s
-  pub before : p.work ≡ work_with a (held_unworked h) (held_made h)
-  pub after : q.work ≡ work_with b (held_unworked k) (held_made k)
-  pub offers : OffersHeld s h (is_in_finished (input_at v 0).flags) a b o
-  pub moves : Moves o h k v w st rows
+  pub before : p.work ≡ work_with a (source_of h) (held_unworked h) (held_made h)
+  pub after : q.work ≡ work_with b (source_of k) (held_unworked k) (held_made k)
+  pub pushes : Pushes h m v u
+  pub turns : Turns s a b m k u w st
   pub view : q.notes.view ≡ Some (port_flags w)
   pub pulled_on : PulledOn p q
   pub pulled : q.pulled ≡ raised p.pulled (rows_pulled v w)
   pub follows : FollowsKept p v
-  pub one : HasOneEach v
+  pub ports : ArePortsOf (Some s) None (in_count v) (out_count v)
+  pub still : StandStill (Some s) p.notes.view (in_count v) (out_count v)
+  pub few : out_count v ≤ 16
 
-module _ (s : Spec) (passing : IsPassing s) (p q : BoxPicture) (v w : Picture) (o : Offer) (a b : OwnState) (h k : Held) (st : Status) (rows : ℕ) (g : Goes s p q v w o a b h k st rows) where
-  m : Moves o h k v w st rows
-  m = g.moves
+module _ (s : Spec) (shelled : IsShelled s) (p q : BoxPicture) (v u w : Picture) (a b : OwnState) (h m k : Held) (st : Status) (g : Goes s p q v u w a b h m k st) where
+  mv : Moves s b m k u w st
+  mv = g.turns.moves
 
-  out-before : (output_at v 0).fin_out ≡ (kept_output p 0).fin_out
-  out-before = (g.follows.outputs 0 (omega (arith, g.one.outs))).fin_out
+  ins-w : in_count w ≡ in_count v
+  ins-w = mv.ins ∙ g.pushes.ins
 
-  out-after : kept_output q 0 ≡ output_at w 0
-  out-after = kept_output-of q w g.view 0 (omega (arith, m.outs))
+  outs-w : out_count w ≡ out_count v
+  outs-w = mv.outs ∙ g.pushes.outs
 
-  in-after : kept_input q 0 ≡ (input_at w 0).flags
-  in-after = kept_input-of q w g.view 0 (omega (arith, m.ins))
+  pulled-is : (i : ℕ) → pulled_at v w i ≡ pulled_at u w i
+  pulled-is i = ap (λ x. taken_out x.chunk (input_at w i).chunk) (sym (g.pushes.inputs i))
 
-  own-before : own_of p.work ≡ a
-  own-before = ap own_of g.before
+  pushed-is : (o : ℕ) → pushed_at v w o ≡ pushed_at v u o
+  pushed-is o = ap (λ l. cond (output_at v o).has_data [] l) (mv.pushes o)
 
-  own-after : own_of q.work ≡ b
-  own-after = ap own_of g.after
-
-  -- what the kernel said of its state
-  offered-means : (worked : List Table) (made : List Row) → HasMade s a worked made → HasMade s b worked made
-  offered-means = go h g.offers
-    where
-      go : (x : Held) → OffersHeld s x (is_in_finished (input_at v 0).flags) a b o → (worked : List Table) (made : List Row) → HasMade s a worked made → HasMade s b worked made
-      go Nothing f = f.means
-      go (Unworked c) e = λ worked made y. subst (λ z. HasMade s z worked made) (sym e) y
-      go (Made c) e = λ worked made y. subst (λ z. HasMade s z worked made) (sym e) y
-
-  stays-over : a.unmade ≡ [] → b.unmade ≡ []
-  stays-over = go h g.offers
-    where
-      go : (x : Held) → OffersHeld s x (is_in_finished (input_at v 0).flags) a b o → a.unmade ≡ [] → b.unmade ≡ []
-      go Nothing f = f.stays_over
-      go (Unworked c) e = λ y. ap (λ x. x.unmade) e ∙ y
-      go (Made c) e = λ y. ap (λ x. x.unmade) e ∙ y
-
-  -- why the offer came, where nothing is held
-  offered : (x : Offer) → o ≡ x → h ≡ Nothing → OfferComes x s (is_in_finished (input_at v 0).flags) b
-  offered x e n = subst (λ y. OfferComes y s (is_in_finished (input_at v 0).flags) b) e (go h n g.offers)
-    where
-      go : (x : Held) → x ≡ Nothing → OffersHeld s x (is_in_finished (input_at v 0).flags) a b o → OfferComes o s (is_in_finished (input_at v 0).flags) b
-      go Nothing e f = f.comes
-      go (Unworked c) e f = absurd (cc)
-      go (Made c) e f = absurd (cc)
-
-  -- its output is finished now, and nothing can be made
-  now-over : EndsNow o h k v w → b.unmade ≡ []
-  now-over x = elim x.why [
-    | inl e ↦ let y = offered offer.Enough e x.nothing in y.nothing
-    | inr e ↦ offered offer.Wants e.0 x.nothing
-  ]
+  same-spec : q.spec ≡ p.spec
+  same-spec = g.spec_stays ∙ sym g.spec
 
   made-before : p.work.made ≡ held_made h
   made-before = ap (λ x. x.made) g.before
@@ -144,193 +145,269 @@ module _ (s : Spec) (passing : IsPassing s) (p q : BoxPicture) (v w : Picture) (
   made-after : q.work.made ≡ held_made k
   made-after = ap (λ x. x.made) g.after
 
-  unworked-before : p.work.unworked ≡ held_unworked h
-  unworked-before = ap (λ x. x.unworked) g.before
+  -- what waited was pushed by one output, or waits
+  made-are : held_made h ≡ pushed_at v w g.pushes.out ++ held_made k
+  made-are = g.pushes.made ∙ ap (λ l. l ++ held_made m) (sym (pushed-is g.pushes.out)) ∙ ap (λ l. pushed_at v w g.pushes.out ++ l) (sym mv.made)
 
-  unworked-after : q.work.unworked ≡ held_unworked k
-  unworked-after = ap (λ x. x.unworked) g.after
+  pushed-others : (o : ℕ) → o ≢ g.pushes.out → pushed_at v w o ≡ []
+  pushed-others o ne = pushed-is o ∙ g.pushes.others o ne
 
-  ended : (kept_output q 0).fin_out ≡ true → Ends o h k v w
-  ended e = m.ends (ap (λ f. f.fin_out) (sym out-after) ∙ e)
+  -- where flags are kept, they are those of as many ports as the view has
+  viewed : HadPorts p.notes.view p → HasSpecView s p
+  viewed had = spec-view s shelled p g.spec had
 
-  over-after : (ins outs : Lists) → KeepsMade s p ins outs → EndedBefore h k v w → b.unmade ≡ []
-  over-after ins outs t x =
-      let fin : (kept_output p 0).fin_out ≡ true = sym out-before ∙ x.before in
-      stays-over (ap (λ y. y.unmade) (sym own-before) ∙ t.all_made fin)
-
-  pub through : (ins outs : Lists) → KeepsMade s p ins outs → KeepsMade s q (with_pulled v w ins) (with_pushed v w outs)
-  through ins outs t = record {
-    worked = t.worked;
-    ins_are = ap (λ l. l ++ pulled_at v w 0) t.ins_are ∙ append_assoc t.worked p.work.unworked (pulled_at v w 0) ∙ ap (λ l. t.worked ++ (l ++ pulled_at v w 0)) unworked-before ∙ ap (λ l. t.worked ++ l) (sym m.unworked ∙ sym unworked-after);
-    rows =
-        let old : HasMade s a t.worked (chunk_rows (outs 0) ++ chunk_rows p.work.made) = subst (λ z. HasMade s z t.worked (chunk_rows (outs 0) ++ chunk_rows p.work.made)) own-before t.rows in
-        let new : HasMade s b t.worked (chunk_rows (outs 0) ++ chunk_rows p.work.made) = offered-means t.worked (chunk_rows (outs 0) ++ chunk_rows p.work.made) old in
-        let same : chunk_rows (outs 0) ++ chunk_rows p.work.made ≡ chunk_rows (outs 0 ++ pushed_at v w 0) ++ chunk_rows q.work.made =
-        sum (chunk_rows (outs 0)) (chunk_rows (pushed_at v w 0)) (chunk_rows p.work.made) (chunk_rows q.work.made) (chunk_rows (outs 0 ++ pushed_at v w 0))
-        (ap chunk_rows (made-before ∙ m.made) ∙ rows-append (pushed_at v w 0) (held_made k) ∙ ap (λ l. chunk_rows (pushed_at v w 0) ++ chunk_rows l) (sym made-after)) (rows-append (outs 0) (pushed_at v w 0)) in
-        subst (λ z. HasMade s z t.worked (chunk_rows (outs 0 ++ pushed_at v w 0) ++ chunk_rows q.work.made)) (sym own-after) (subst (HasMade s b t.worked) same new);
-    nothing_waits = λ e. elim (ended e) [
-      | inl x ↦ made-after ∙ ap held_made x.same ∙ sym made-before ∙ t.nothing_waits (sym out-before ∙ x.before)
-      | inr x ↦ made-after ∙ ap held_made x.still
-    ];
-    all_worked = λ e. elim (ended e) [
-      | inl x ↦ unworked-after ∙ ap held_unworked x.same ∙ sym unworked-before ∙ t.all_worked (sym out-before ∙ x.before)
-      | inr x ↦ unworked-after ∙ ap held_unworked x.still
-    ];
-    all_made = λ e. ap (λ y. y.unmade) own-after ∙ (elim (ended e) [ inl x ↦ over-after ins outs t x | inr x ↦ now-over x ]);
-  }
+  had-counts : HadPorts p.notes.view p → (p.notes.view ≡ None) ⊎ ((kept_inputs p ≡ in_count v) × (kept_outputs p ≡ out_count v))
+  unfolding kept_inputs kept_outputs
+  had-counts had = go p.notes.view refl had g.still
     where
-      sum : (x po mh mk xs : List Row) → mh ≡ po ++ mk → xs ≡ x ++ po → x ++ mh ≡ xs ++ mk
-      sum x po mh mk xs a b = grind (arith, common_steps)
+      go : (x : Option PortFlags) → p.notes.view ≡ x → HadPorts x p → StandStill (Some s) x (in_count v) (out_count v) → (p.notes.view ≡ None) ⊎ ((length (kept_ports p.notes.view).inputs ≡ in_count v) × (length (kept_ports p.notes.view).outputs ≡ out_count v))
+      go None e had still = inl e
+      go (Some ports) e had still =
+          let y = shelled.still ports (in_count v) (out_count v) (had-spec s shelled p g.spec ports had) g.ports still in
+          inr (ap (λ x. length (kept_ports x).inputs) e ∙ sym y.0, ap (λ x. length (kept_ports x).outputs) e ∙ sym y.1)
 
-  same-spec : q.spec ≡ p.spec
-  same-spec = g.spec_stays ∙ sym g.spec
+  never-out : {X : Type 0} (o : ℕ) → p.notes.view ≡ None → (kept_output p o).fin_out ≡ true → X
+  unfolding kept_output
+  never-out o e fin = let f : false ≡ true = ap (λ x. (get_or (kept_ports x).outputs o no_flags).fin_out) (sym e) ∙ fin in absurd (cc)
+
+  never-in : {X : Type 0} (i : ℕ) → p.notes.view ≡ None → (kept_input p i).fin_in ≡ true → X
+  unfolding kept_input
+  never-in i e fin = let f : false ≡ true = ap (λ x. (get_or (kept_ports x).inputs i no_flags).fin_in) (sym e) ∙ fin in absurd (cc)
+
+  kept-out : (o : ℕ) → o < out_count v → (output_at u o).fin_out ≡ true → (kept_output p o).fin_out ≡ true
+  kept-out o lt e = sym (g.follows.outputs o lt).fin_out ∙ sym (g.pushes.finished o) ∙ e
+
+  enough-still : (ins : Lists) → HasReadEnough (Some s) ins → HasReadEnough q.spec (with_pulled v w ins)
+  enough-still ins x = subst (λ y. HasReadEnough y (with_pulled v w ins)) (sym g.spec_stays) (enough-more (Some s) v w ins x)
+
+  -- where it had finished an output by itself, its inputs are at their ends, or it has read enough
+  was-finished : (ins outs : Lists) → Keeps p ins outs → (o : ℕ) → o < out_count v → (output_at u o).fin_out ≡ true → ((i : ℕ) → i < in_count v → is_ended (input_at u i).flags ≡ true) ⊎ HasReadEnough (Some s) ins
+  was-finished ins outs kept o lt fin =
+      let before = kept-out o lt fin in
+      elim (had-counts kept.ports) [
+        | inl none ↦ never-out o none before
+        | inr n ↦ elim (kept.finishes o before) [
+          | inl all ↦ inl (λ i less. ap (λ x. is_ended x.flags) (g.pushes.inputs i) ∙ ended-stays (kept_input p i) (input_at v i).flags (g.follows.inputs i less) (all i (let z = n.0 in omega (arith, z, less))))
+          | inr enough ↦ inr (subst (λ x. HasReadEnough x ins) g.spec enough)
+        ]
+      ]
+
+  -- where it had closed an input, its consumers had closed all outputs, or it has read enough
+  was-closed : (ins outs : Lists) → Keeps p ins outs → (i : ℕ) → i < in_count v → (input_at u i).flags.fin_in ≡ true → ((0 < out_count v) × ((o : ℕ) → o < out_count v → (output_at u o).fin_in ≡ true)) ⊎ HasReadEnough (Some s) ins
+  was-closed ins outs kept i lt e =
+      let before : (kept_input p i).fin_in ≡ true = sym (g.follows.inputs i lt).fin_in ∙ ap (λ x. x.flags.fin_in) (sym (g.pushes.inputs i)) ∙ e in
+      elim (had-counts kept.ports) [
+        | inl none ↦ never-in i none before
+        | inr n ↦ elim (kept.closes i before) [
+          | inl all ↦ inl ((let z = n.1 in let some = all.some in omega (arith, z, some)), (λ o less. g.pushes.closed o ∙ (g.follows.outputs o less).fin_in (all.closed o (let z = n.1 in omega (arith, z, less)))))
+          | inr enough ↦ inr (subst (λ x. HasReadEnough x ins) g.spec enough)
+        ]
+      ]
+
+  own-before : own_of p.work ≡ a
+  own-before = ap own_of g.before
+
+  own-after : own_of q.work ≡ b
+  own-after = ap own_of g.after
+
+  unworked-before : (i : ℕ) → unworked_at p.work i ≡ cond (i == source_of h) (held_unworked h) []
+  unworked-before i = ap (λ x. unworked_at x i) g.before
+
+  unworked-after : (i : ℕ) → unworked_at q.work i ≡ cond (i == source_of k) (held_unworked k) []
+  unworked-after i = ap (λ x. unworked_at x i) g.after
+
+  cond-none : (c : Bool) (l : List Table) → l ≡ [] → cond c l [] ≡ []
+  cond-none true l e = e
+  cond-none false l e = refl
+
+  -- the chunks that are unworked are those that were, and what was pulled
+  unworked-is : (i : ℕ) → unworked_at q.work i ≡ unworked_at p.work i ++ pulled_at v w i
+  unworked-is i =
+      unworked-after i ∙ (elim mv.pulls [
+        | inl x ↦
+            let same : cond (i == source_of k) (held_unworked k) [] ≡ cond (i == source_of h) (held_unworked h) [] = rw (x.source ∙ g.pushes.source, x.unworked ∙ g.pushes.unworked) refl in
+            same ∙ sym (unworked-before i) ∙ sym (append-nil (unworked_at p.work i)) ∙ ap (λ l. unworked_at p.work i ++ l) (sym (pulled-is i ∙ x.nothing i))
+        | inr x ↦
+            let none : unworked_at p.work i ≡ [] = unworked-before i ∙ cond-none (i == source_of h) (held_unworked h) (sym g.pushes.unworked ∙ ap held_unworked x.before) in
+            ap (λ z. cond (i == source_of z) (held_unworked z) []) x.after ∙ pulled-one x i ∙ sym (pulled-is i) ∙ ap (λ l. l ++ pulled_at v w i) (sym none)
+      ])
+    where
+      pulled-one : (x : PullsOne m k u w) (j : ℕ) → cond (j == x.input) (x.chunk ∷ []) [] ≡ pulled_at u w j
+      pulled-one x j = by-place (λ n. cond (n == x.input) (x.chunk ∷ []) [] ≡ pulled_at u w n) x.input j
+          (ap (λ c. cond c (x.chunk ∷ []) []) (eq-eqb x.input x.input refl) ∙ sym x.here)
+          (λ ne. ap (λ c. cond c (x.chunk ∷ []) []) (ne_eqb j x.input ne) ∙ sym (x.others j ne))
+
+  -- what is over stays over
+  over-before : (ins outs : Lists) → Keeps p ins outs → KeepsMade s p ins outs → (o : ℕ) → o < out_count v → (output_at u o).fin_out ≡ true → IsOver s q.work
+  over-before ins outs kept t o lt fin =
+      let was = t.over o (kept-out o lt fin) in
+      let made : held_made h ≡ [] = sym made-before ∙ was.nothing_waits in
+      let unworked : held_unworked m ≡ [] = g.pushes.unworked ∙ ap (λ x. x.unworked) (sym g.before) ∙ was.all_worked in
+      let rest = g.turns.leaves.stays_over (ap (λ x. x.unmade) (sym own-before) ∙ was.all_made) (subst (HasNotedEnd s) own-before was.noted) in
+      record {
+        nothing_waits = made-after ∙ back-none (pushed_at v w g.pushes.out) (held_made k) (sym made ∙ made-are);
+        all_worked = ap (λ x. x.unworked) g.after ∙ (elim mv.pulls [
+          | inl x ↦ x.unworked ∙ unworked
+          | inr x ↦ absurd (elim (was-finished ins outs kept o lt fin) [
+            | inl all ↦ holds-unended (input_at u x.input).flags x.holds (all x.input (let n = x.in_range in omega (arith, n, g.pushes.ins)))
+            | inr enough ↦ x.unfinished (λ j less.
+                let one = shelled.enough_one ins enough (in_count v) (out_count v) g.ports in
+                let z : o ≡ j = omega (arith, one, lt, less, g.pushes.outs) in
+                subst (λ n. is_out_finished (output_at u n) ≡ true) z (ap (λ c. c || (output_at u o).fin_in) fin))
+          ])
+        ]);
+        all_made = ap (λ x. x.unmade) own-after ∙ rest.0;
+        noted = subst (HasNotedEnd s) (sym own-after) rest.1;
+      }
+
+  kept-in-range : (o : ℕ) → (kept_output q o).fin_out ≡ true → (o < out_count w) × ((output_at w o).fin_out ≡ true)
+  kept-in-range o fin = elim (cases_lt o (out_count w)) [
+    | inl lt ↦ (lt, ap (λ f. f.fin_out) (sym (kept_output-of q w g.view o lt)) ∙ fin)
+    | inr le ↦ let f : false ≡ true = ap (λ f. f.fin_out) (sym (kept_output-past q w g.view o le)) ∙ fin in absurd (cc)
+  ]
+
+  made-rows : (outs worked : Lists) → HasMade s a worked outs (chunk_rows (held_made h)) → HasMade s b worked (with_pushed v w outs) (chunk_rows (held_made k))
+  made-rows outs worked t =
+      let some = shelled.some_output (in_count v) (out_count v) g.ports in
+      let lt = g.pushes.in_range some in
+      g.turns.leaves.means worked (with_pushed v w outs) (chunk_rows (held_made k))
+      (shelled.lets_push a worked outs (with_pushed v w outs) (in_count v) (out_count v) g.pushes.out (pushed_at v w g.pushes.out) (held_made k) g.ports lt (let few = g.few in omega (arith, lt, few)) refl
+      (λ j ne. ap (λ l. outs j ++ l) (pushed-others j ne) ∙ append-nil (outs j))
+      (subst (λ l. HasMade s a worked outs (chunk_rows l)) made-are t))
+
+  pub through : (ins outs : Lists) → Keeps p ins outs → KeepsMade s p ins outs → KeepsMade s q (with_pulled v w ins) (with_pushed v w outs)
+  through ins outs kept t = record {
+    worked = t.worked;
+    ins_are = λ i. ap (λ l. l ++ pulled_at v w i) (t.ins_are i) ∙ append_assoc (t.worked i) (unworked_at p.work i) (pulled_at v w i) ∙ ap (λ l. t.worked i ++ l) (sym (unworked-is i));
+    rows = subst (λ z. HasMade s z t.worked (with_pushed v w outs) (chunk_rows q.work.made)) (sym own-after)
+        (subst (λ l. HasMade s b t.worked (with_pushed v w outs) (chunk_rows l)) (sym made-after)
+        (made-rows outs t.worked (subst (λ l. HasMade s a t.worked outs (chunk_rows l)) made-before (subst (λ z. HasMade s z t.worked outs (chunk_rows p.work.made)) own-before t.rows))));
+    over = λ o fin.
+        let x = kept-in-range o fin in
+        let lt : o < out_count u = let n = x.0 in omega (arith, n, mv.outs) in
+        elim (mv.finishes o lt x.1) [
+          | inl before ↦ over-before ins outs kept t o (omega (arith, lt, g.pushes.outs)) before
+          | inr now ↦ record {
+            nothing_waits = made-after ∙ ap held_made now.after;
+            all_worked = ap (λ x. x.unworked) g.after ∙ ap held_unworked now.after;
+            all_made = ap (λ x. x.unmade) own-after ∙ now.unmade;
+            noted = subst (HasNotedEnd s) (sym own-after) now.noted;
+          }
+        ];
+  }
+
+  -- the kernel has read enough
+  now-enough : (ins outs : Lists) → Keeps p ins outs → m ≡ Nothing → HasEnough s b → HasReadEnough q.spec (with_pulled v w ins)
+  now-enough ins outs kept e enough =
+      let fit : AllFit p.spec ins = subst (λ z. AllFit z ins) (sym g.spec) (λ i. λ j d lt. enough.any i (get_or (ins i) j d).types) in
+      let t : KeepsMade s p ins outs = shelled.from p ins outs (viewed kept.ports) (subst (λ z. IsWorkOf z p.work) g.spec kept.idle) (subst (λ z. KeepsRows z p ins outs) g.spec (kept.rows fit)) in
+      let none : held_unworked h ≡ [] = sym g.pushes.unworked ∙ ap held_unworked e in
+      let all : (i : ℕ) → ins i ≡ t.worked i = λ i. t.ins_are i ∙ ap (λ l. t.worked i ++ l) (unworked-before i ∙ cond-none (i == source_of h) (held_unworked h) none) ∙ append-nil (t.worked i) in
+      let old : HasMade s a t.worked outs (chunk_rows p.work.made) = subst (λ z. HasMade s z t.worked outs (chunk_rows p.work.made)) own-before t.rows in
+      enough-still ins (enough.enough t.worked outs ins (chunk_rows p.work.made) all (g.turns.leaves.means t.worked outs (chunk_rows p.work.made) old))
+
+  ends-finished : (ins outs : Lists) → Keeps p ins outs → (o : ℕ) → o < out_count v → (output_at w o).fin_out ≡ true → ((i : ℕ) → i < in_count v → is_ended (input_at w i).flags ≡ true) ⊎ HasReadEnough q.spec (with_pulled v w ins)
+  ends-finished ins outs kept o lt fin = elim (mv.finishes o (omega (arith, lt, g.pushes.outs)) fin) [
+    | inl before ↦ elim (was-finished ins outs kept o lt before) [ inl all ↦ inl (λ i less. mv.ended i (all i less)) | inr enough ↦ inr (enough-still ins enough) ]
+    | inr now ↦ elim now.why [
+      | inl enough ↦ inr (now-enough ins outs kept now.before enough)
+      | inr over ↦
+          let unfinished = over.1 in
+          all-or (in_count v) (λ i. is_ended (input_at w i).flags ≡ true) (HasReadEnough q.spec (with_pulled v w ins))
+          (λ i less. elim (either-set (input_at u i).flags.fin_in (is_ended (input_at u i).flags) (over.0 i (omega (arith, less, g.pushes.ins)))) [
+            | inl closed ↦ elim (was-closed ins outs kept i less closed) [
+              | inl all ↦ absurd (unfinished (λ j n. either-true (output_at u j).fin_out (output_at u j).fin_in (all.1 j (omega (arith, n, g.pushes.outs)))))
+              | inr enough ↦ inr (enough-still ins enough)
+            ]
+            | inr ended ↦ inl (mv.ended i ended)
+          ])
+    ]
+  ]
+    where
+      either-true : (x y : Bool) → y ≡ true → (x || y) ≡ true
+      either-true true y e = refl
+      either-true false y e = e
+
+  consumers-closed : 0 < out_count v → ((o : ℕ) → o < out_count v → (output_at u o).fin_in ≡ true) → AllOutputsClosed q
+  consumers-closed some all =
+      let n = kept_outputs-of q w g.view in
+      record {
+        some = omega (arith, n, some, outs-w);
+        closed = λ o lt. let less : o < out_count v = omega (arith, n, lt, outs-w) in ap (λ f. f.fin_in) (kept_output-of q w g.view o (omega (arith, less, outs-w))) ∙ mv.consumers o ∙ all o less;
+      }
+
+  closes-right : (ins outs : Lists) → Keeps p ins outs → (i : ℕ) → i < in_count v → (input_at w i).flags.fin_in ≡ true → AllOutputsClosed q ⊎ HasReadEnough q.spec (with_pulled v w ins)
+  closes-right ins outs kept i lt e = elim (mv.closes i (omega (arith, lt, g.pushes.ins)) e) [
+    | inl before ↦ elim (was-closed ins outs kept i lt before) [ inl all ↦ inl (consumers-closed all.0 all.1) | inr enough ↦ inr (enough-still ins enough) ]
+    | inr now ↦ elim now [
+      | inl x ↦ elim (all-or (out_count v) (λ o. (output_at u o).fin_in ≡ true) (HasReadEnough (Some s) ins)
+          (λ o less. elim (either-set (output_at u o).fin_out (output_at u o).fin_in (x.0 o (omega (arith, less, g.pushes.outs)))) [
+            | inl fin ↦ elim (was-finished ins outs kept o less fin) [
+              | inl all ↦ absurd (never-ended (input_at u i).flags (all i lt) x.1)
+              | inr enough ↦ inr enough
+            ]
+            | inr closed ↦ inl closed
+          ])) [
+            | inl all ↦ inl (consumers-closed (shelled.some_output (in_count v) (out_count v) g.ports) all)
+            | inr enough ↦ inr (enough-still ins enough)
+          ]
+      | inr x ↦ inr (now-enough ins outs kept x.0 x.1)
+    ]
+  ]
 
   fits-before : (ins : Lists) → AllFit q.spec (with_pulled v w ins) → AllFit p.spec ins
   fits-before ins f = fits-front p.spec v w ins (subst (λ x. AllFit x (with_pulled v w ins)) same-spec f)
 
-  -- what is true of the chunks that were made is true of those pushed now
+  -- what is true of the chunks that were made is true of those pushed now, and of those that wait
+  made-split : (P : Table → Type 0) → All P p.work.made → All P (pushed_at v w g.pushes.out ++ held_made k)
+  made-split P made = subst (All P) (made-before ∙ made-are) made
+
   pushed-all : (P : Table → Type 0) → All P p.work.made → (o : ℕ) → All P (pushed_at v w o)
   pushed-all P made o =
-      by-place (λ j. All P (pushed_at v w j)) 0 o (front-all P (pushed_at v w 0) (held_made k) (rw (ap (λ x. x.made) g.before, m.made) at made))
-      (λ ne. all-none P (pushed_at v w o) (m.other_pushed o (omega (arith, ne))))
+      by-place (λ j. All P (pushed_at v w j)) g.pushes.out o (front-all P (pushed_at v w g.pushes.out) (held_made k) (made-split P made))
+      (λ ne. all-none P (pushed_at v w o) (pushed-others o ne))
 
   made-all : (P : Table → Type 0) → All P p.work.made → All P q.work.made
-  made-all P made = rw (ap (λ x. x.made) g.after) (back-all P (pushed_at v w 0) (held_made k) (rw (ap (λ x. x.made) g.before, m.made) at made))
+  made-all P made = subst (All P) (sym made-after) (back-all P (pushed_at v w g.pushes.out) (held_made k) (made-split P made))
 
   makes-still : (ins : Lists) (t : Table) → MakesTypes p.spec ins t.types → MakesTypes q.spec (with_pulled v w ins) t.types
   makes-still ins t x = subst (λ y. MakesTypes y (with_pulled v w ins) t.types) (sym same-spec) (makes-more p.spec v w ins t.types x)
 
-  one-of : (growth : Option GrowthForm) (inputs outputs : ℕ) → ArePortsOf (Some s) None inputs outputs ⊎ ArePortsOf (Some s) growth inputs outputs → AreCounts inputs outputs 1 1
-  one-of growth inputs outputs x = elim x [ inl y ↦ passing.ports_of None inputs outputs y | inr y ↦ passing.ports_of growth inputs outputs y ]
-
-  had-one : HadPorts p.notes.view p → (kept_output p 0).fin_out ≡ true → kept_inputs p ≡ 1
-  unfolding kept_output kept_inputs
-  had-one had fin = go p.notes.view refl had fin
-    where
-      go : (kept : Option PortFlags) → p.notes.view ≡ kept → HadPorts kept p → (get_or (kept_ports p.notes.view).outputs 0 no_flags).fin_out ≡ true → length (kept_ports p.notes.view).inputs ≡ 1
-      go None e had fin = let f : false ≡ true = ap (λ y. (get_or (kept_ports y).outputs 0 no_flags).fin_out) (sym e) ∙ fin in absurd (cc)
-      go (Some ports) e had fin =
-          let both = rw g.spec at had in
-          ap (λ y. length (kept_ports y).inputs) e ∙ (one-of p.growth (length ports.inputs) (length ports.outputs) both).0
-
-  ended-stays : (a b : Flags) → InputFollows a b → is_ended a ≡ true → is_ended b ≡ true
-  ended-stays a b f e = by-bits a.fin_out a.has_data refl refl e
-    where
-      by-bits : (o d : Bool) → a.fin_out ≡ o → a.has_data ≡ d → (a.fin_out && not a.has_data) ≡ true → (b.fin_out && not b.has_data) ≡ true
-      by-bits true false y z e = rw (f.fin_out y, f.stays_empty y z) refl
-      by-bits true true y z e = let c : false ≡ true = sym (rw (y, z) refl) ∙ e in absurd (cc)
-      by-bits false d y z e = let c : false ≡ true = sym (rw y refl) ∙ e in absurd (cc)
-
-  -- an input from which nothing will come was closed, or is at its end
-  closed-or-ended : (f : Flags) → is_in_finished f ≡ true → (f.fin_in ≡ true) ⊎ (is_ended f ≡ true)
-  closed-or-ended f e = by-bit f.fin_in refl e
-    where
-      by-bit : (c : Bool) → f.fin_in ≡ c → (c || is_ended f) ≡ true → (f.fin_in ≡ true) ⊎ (is_ended f ≡ true)
-      by-bit true x y = inl x
-      by-bit false x y = inr y
-
-  never-ended : (f : Flags) → is_ended f ≡ true → is_in_finished f ≡ false → ⊥
-  never-ended f e n = by-bit f.fin_in n
-    where
-      by-bit : (c : Bool) → (c || is_ended f) ≡ false → ⊥
-      by-bit true y = absurd (cc)
-      by-bit false y = let c : true ≡ false = sym e ∙ y in absurd (cc)
-
-  enough-still : (ins : Lists) → HasReadEnough p.spec ins → HasReadEnough q.spec (with_pulled v w ins)
-  enough-still ins x = subst (λ y. HasReadEnough y (with_pulled v w ins)) (sym same-spec) (enough-more p.spec v w ins x)
-
-  -- where it had finished its output by itself, its input is at its end, or it has read enough
-  was-finished : (ins outs : Lists) → Keeps p ins outs → (output_at v 0).fin_out ≡ true → (is_ended (input_at v 0).flags ≡ true) ⊎ HasReadEnough p.spec ins
-  was-finished ins outs kept fin =
-      let before : (kept_output p 0).fin_out ≡ true = sym out-before ∙ fin in
-      elim (kept.finishes 0 before) [
-        | inl all ↦ inl (ended-stays (kept_input p 0) (input_at v 0).flags (g.follows.inputs 0 (omega (arith, g.one.ins))) (all 0 (let n = had-one kept.ports before in omega (arith, n))))
-        | inr enough ↦ inr enough
-      ]
-
-  -- the kernel has read enough
-  now-enough : (ins outs : Lists) → Keeps p ins outs → h ≡ Nothing → o ≡ offer.Enough → HasReadEnough q.spec (with_pulled v w ins)
-  now-enough ins outs kept n e =
-      let y = offered offer.Enough e n in
-      let fit : AllFit p.spec ins = subst (λ z. AllFit z ins) (sym g.spec) (λ i. λ j d lt. y.any i (get_or (ins i) j d).types) in
-      let t : KeepsMade s p ins outs = passing.from p ins outs (subst (λ z. IsWorkOf z p.work) g.spec kept.idle) (subst (λ z. KeepsRows z p ins outs) g.spec (kept.rows fit)) in
-      let none : p.work.unworked ≡ [] = unworked-before ∙ ap held_unworked n in
-      let all : ins 0 ≡ t.worked = t.ins_are ∙ ap (λ l. t.worked ++ l) none ∙ append-nil t.worked in
-      let old : HasMade s a t.worked (chunk_rows (outs 0) ++ chunk_rows p.work.made) = subst (λ z. HasMade s z t.worked (chunk_rows (outs 0) ++ chunk_rows p.work.made)) own-before t.rows in
-      enough-still ins (subst (λ z. HasReadEnough z ins) (sym g.spec) (y.enough t.worked (chunk_rows (outs 0) ++ chunk_rows p.work.made) ins all (offered-means t.worked (chunk_rows (outs 0) ++ chunk_rows p.work.made) old)))
-
-  only-one-in : (i : ℕ) → i < kept_inputs q → i ≡ 0
-  only-one-in i lt = let n = kept_inputs-of q w g.view in omega (arith, n, m.ins, lt)
-
-  ends-finished : (ins outs : Lists) → Keeps p ins outs → (output_at w 0).fin_out ≡ true → (is_ended (input_at w 0).flags ≡ true) ⊎ HasReadEnough q.spec (with_pulled v w ins)
-  ends-finished ins outs kept fin = elim (m.ends fin) [
-    | inl x ↦ elim (was-finished ins outs kept x.before) [ inl f ↦ inl (x.input f) | inr e ↦ inr (enough-still ins e) ]
-    | inr x ↦ elim x.why [
-      | inl e ↦ inr (now-enough ins outs kept x.nothing e)
-      | inr e ↦ elim (closed-or-ended (input_at v 0).flags e.1) [
-        | inl closed ↦ elim (kept.closes 0 (sym (g.follows.inputs 0 (omega (arith, g.one.ins))).fin_in ∙ closed)) [
-          | inl all ↦ absurd (let c : true ≡ false = sym ((g.follows.outputs 0 (omega (arith, g.one.outs))).fin_in (all.closed 0 all.some)) ∙ x.unclosed in cc)
-          | inr enough ↦ inr (enough-still ins enough)
-        ]
-        | inr ended ↦ inl (x.input ended)
-      ]
-    ]
-  ]
-
-  consumer-closed : (output_at v 0).fin_in ≡ true → AllOutputsClosed q
-  consumer-closed e = record {
-    some = let n = kept_outputs-of q w g.view in omega (arith, n, m.outs);
-    closed = λ o lt. by-place (λ j. (kept_output q j).fin_in ≡ true) 0 o (ap (λ f. f.fin_in) out-after ∙ m.consumer ∙ e) (λ ne. absurd (let n = kept_outputs-of q w g.view in omega (arith, n, m.outs, lt, ne)));
-  }
-
-  closes-right : (ins outs : Lists) → Keeps p ins outs → (input_at w 0).flags.fin_in ≡ true → AllOutputsClosed q ⊎ HasReadEnough q.spec (with_pulled v w ins)
-  closes-right ins outs kept e = elim (m.shuts e) [
-    | inl before ↦ elim (kept.closes 0 (sym (g.follows.inputs 0 (omega (arith, g.one.ins))).fin_in ∙ before)) [
-      | inl all ↦ inl (consumer-closed ((g.follows.outputs 0 (omega (arith, g.one.outs))).fin_in (all.closed 0 all.some)))
-      | inr enough ↦ inr (enough-still ins enough)
-    ]
-    | inr x ↦ elim x [
-      | inl closed ↦ inl (consumer-closed closed)
-      | inr y ↦ elim y [
-        | inl odd ↦ elim (was-finished ins outs kept odd.0) [
-          | inl f ↦ absurd (never-ended (input_at v 0).flags f odd.1)
-          | inr enough ↦ inr (enough-still ins enough)
-        ]
-        | inr stop ↦ inr (now-enough ins outs kept stop.0 stop.1)
-      ]
-    ]
-  ]
-
-  past-none : (o : ℕ) → o ≢ 0 → (kept_output q o).fin_out ≡ true → ⊥
-  past-none o ne fin = let f : false ≡ true = ap (λ f. f.fin_out) (sym (kept_output-past q w g.view o (omega (arith, m.outs, ne)))) ∙ fin in absurd (cc)
-
-  past-open : (i : ℕ) → i ≢ 0 → (kept_input q i).fin_in ≡ true → ⊥
-  past-open i ne fin = let f : false ≡ true = ap (λ f. f.fin_in) (sym (kept_input-past q w g.view i (omega (arith, m.ins, ne)))) ∙ fin in absurd (cc)
+  unworked-pulled : (ins : Lists) → All (λ (t : Table). IsPulled ins t.types) p.work.unworked → All (λ (t : Table). IsPulled (with_pulled v w ins) t.types) q.work.unworked
+  unworked-pulled ins f =
+      let P : Table → Type 0 = λ t. IsPulled (with_pulled v w ins) t.types in
+      subst (All P) (sym (ap (λ x. x.unworked) g.after)) (elim mv.pulls [
+        | inl x ↦ subst (All P) (ap (λ x. x.unworked) g.before ∙ sym (x.unworked ∙ g.pushes.unworked)) (all-map (λ (t : Table). IsPulled ins t.types) P p.work.unworked (λ t. pulled-more v w ins t.types) f)
+        | inr x ↦ subst (All P) (pulled-is x.input ∙ x.here ∙ ap held_unworked (sym x.after)) (pulled-last v w ins x.input)
+      ])
 
   -- it keeps its contract over the prepare, where its kind keeps its rows
-  pub keeps-over : (ins outs : Lists) → IsWorkOf (Some s) q.work → (KeepsRows (Some s) p ins outs → KeepsRows (Some s) q (with_pulled v w ins) (with_pushed v w outs)) → Keeps p ins outs → Keeps q (with_pulled v w ins) (with_pushed v w outs)
-  keeps-over ins outs idle rows kept = record {
-    ports = rw g.view (rw g.spec_stays (inl (passing.ports None (length (port_flags w).inputs) (length (port_flags w).outputs) (kept-count w ∙ m.ins, outs-count w ∙ m.outs))));
-    idle = rw g.spec_stays idle;
-    rows = λ f. subst (λ x. KeepsRows x q (with_pulled v w ins) (with_pushed v w outs)) (sym g.spec_stays) (rows (subst (λ x. KeepsRows x p ins outs) g.spec (kept.rows (fits-before ins f))));
-    types = λ o. All-append (λ (t : Table). MakesTypes q.spec (with_pulled v w ins) t.types) (outs o) (pushed_at v w o)
-        (all-map (λ (t : Table). MakesTypes p.spec ins t.types) (λ (t : Table). MakesTypes q.spec (with_pulled v w ins) t.types) (outs o) (makes-still ins) (kept.types o))
-        (all-map (λ (t : Table). MakesTypes p.spec ins t.types) (λ (t : Table). MakesTypes q.spec (with_pulled v w ins) t.types) (pushed_at v w o) (makes-still ins) (pushed-all (λ (t : Table). MakesTypes p.spec ins t.types) kept.made_types o));
-    made_types = all-map (λ (t : Table). MakesTypes p.spec ins t.types) (λ (t : Table). MakesTypes q.spec (with_pulled v w ins) t.types) q.work.made (makes-still ins) (made-all (λ (t : Table). MakesTypes p.spec ins t.types) kept.made_types);
-    sizes = λ o. subst (λ x. All (HasSize x) (outs o ++ pushed_at v w o)) (sym same-spec) (All-append (HasSize p.spec) (outs o) (pushed_at v w o) (kept.sizes o) (pushed-all (HasSize p.spec) kept.made_sizes o));
-    made_sizes = subst (λ x. All (HasSize x) q.work.made) (sym same-spec) (made-all (HasSize p.spec) kept.made_sizes);
-    unworked = rw (ap (λ x. x.unworked) g.after, m.unworked) (All-append (λ (t : Table). IsPulled (with_pulled v w ins) t.types) (held_unworked h) (pulled_at v w 0)
-        (all-map (λ (t : Table). IsPulled ins t.types) (λ (t : Table). IsPulled (with_pulled v w ins) t.types) (held_unworked h) (λ t. pulled-more v w ins t.types) (rw (ap (λ x. x.unworked) g.before) at kept.unworked))
-        (pulled-last v w ins 0));
-    counted = counted-more p q v w ins g.pulled_on g.pulled kept.counted;
-    finishes = λ o. by-place (λ j. (kept_output q j).fin_out ≡ true → AllInputsEnded q ⊎ HasReadEnough q.spec (with_pulled v w ins)) 0 o
-        (λ fin. elim (ends-finished ins outs kept (ap (λ f. f.fin_out) (sym out-after) ∙ fin)) [
-          | inl f ↦ inl (λ i lt. let z = only-one-in i lt in subst (λ j. is_ended (kept_input q j) ≡ true) (sym z) (ap is_ended in-after ∙ f))
-          | inr e ↦ inr e
-        ])
-        (λ ne fin. absurd (past-none o ne fin));
-    closes = λ i. by-place (λ j. (kept_input q j).fin_in ≡ true → AllOutputsClosed q ⊎ HasReadEnough q.spec (with_pulled v w ins)) 0 i
-        (λ e. closes-right ins outs kept (ap (λ f. f.fin_in) (sym in-after) ∙ e))
-        (λ ne e. absurd (past-open i ne e));
-  }
+  pub keeps-over : (ins outs : Lists) → IsWorkOf (Some s) q.work → Keeps p ins outs → Keeps q (with_pulled v w ins) (with_pushed v w outs)
+  keeps-over ins outs idle kept =
+      let P : Table → Type 0 = λ t. MakesTypes p.spec ins t.types in
+      let Q : Table → Type 0 = λ t. MakesTypes q.spec (with_pulled v w ins) t.types in
+      record {
+        ports = subst (λ x. HadPorts x q) (sym g.view) (subst (λ x. ArePortsOf x None (length (port_flags w).inputs) (length (port_flags w).outputs) ⊎ ArePortsOf x q.growth (length (port_flags w).inputs) (length (port_flags w).outputs)) (sym g.spec_stays)
+            (inl (rw (kept-count w ∙ ins-w, outs-count w ∙ outs-w) g.ports)));
+        idle = subst (λ x. IsWorkOf x q.work) (sym g.spec_stays) idle;
+        rows = λ f. subst (λ x. KeepsRows x q (with_pulled v w ins) (with_pushed v w outs)) (sym g.spec_stays)
+            (shelled.into q (with_pulled v w ins) (with_pushed v w outs) idle (through ins outs kept
+            (shelled.from p ins outs (viewed kept.ports) (subst (λ z. IsWorkOf z p.work) g.spec kept.idle) (subst (λ x. KeepsRows x p ins outs) g.spec (kept.rows (fits-before ins f))))));
+        types = λ o. All-append Q (outs o) (pushed_at v w o) (all-map P Q (outs o) (makes-still ins) (kept.types o)) (all-map P Q (pushed_at v w o) (makes-still ins) (pushed-all P kept.made_types o));
+        made_types = all-map P Q q.work.made (makes-still ins) (made-all P kept.made_types);
+        sizes = λ o. subst (λ x. All (HasSize x) (outs o ++ pushed_at v w o)) (sym same-spec) (All-append (HasSize p.spec) (outs o) (pushed_at v w o) (kept.sizes o) (pushed-all (HasSize p.spec) kept.made_sizes o));
+        made_sizes = subst (λ x. All (HasSize x) q.work.made) (sym same-spec) (made-all (HasSize p.spec) kept.made_sizes);
+        unworked = unworked-pulled ins kept.unworked;
+        counted = counted-more p q v w ins g.pulled_on g.pulled kept.counted;
+        finishes = λ o fin.
+            let x = kept-in-range o fin in
+            let lt : o < out_count v = let n = x.0 in omega (arith, n, outs-w) in
+            elim (ends-finished ins outs kept o lt x.1) [
+              | inl all ↦ inl (λ i less. let n = kept_inputs-of q w g.view in let z : i < in_count w = omega (arith, n, less) in ap is_ended (kept_input-of q w g.view i z) ∙ all i (omega (arith, z, ins-w)))
+              | inr e ↦ inr e
+            ];
+        closes = λ i fin. elim (cases_lt i (in_count w)) [
+          | inl lt ↦ closes-right ins outs kept i (omega (arith, lt, ins-w)) (ap (λ f. f.fin_in) (sym (kept_input-of q w g.view i lt)) ∙ fin)
+          | inr le ↦ let f : false ≡ true = ap (λ f. f.fin_in) (sym (kept_input-past q w g.view i le)) ∙ fin in absurd (cc)
+        ];
+      }

@@ -1,6 +1,9 @@
 pub mod PortMoves
-pub mod SameView
+pub mod PortSteps
+pub mod PushLaws
 pub mod TurnLaws
 pub mod KeepLaws
+pub mod SameView
 pub mod BoxLaws
 pub mod Through
+pub mod Resizing

@@ -1,4 +1,4 @@
-pub mod Turning
-pub mod Made
+pub mod Steps
 pub mod Kernels
+pub mod Turning
 pub mod Shells

@@ -1,9 +1,9 @@
 -- What is seen of a shell, and what its calls do.
-use Rattle.std.specs.Prelude.{◌≡◌, Bool, true, false, Option, Some, None}
+use Rattle.std.specs.Prelude.{◌≡◌, ℕ, true, false, Option, Some, None}
 use Rattle.chunk_data.specs.Values.{Table}
 use Rattle.query_model.specs.declared.processor_spec.Kind.{Kind}
 use Rattle.query_model.specs.declared.processor_spec.Spec.{Spec}
-use Rattle.port_word.specs.Pictures.{Picture, input_at, output_at, is_in_finished}
+use Rattle.port_word.specs.Pictures.{Picture, in_count, out_count}
 use Rattle.port_word.specs.Differences.{ChangedByCalls}
 use Rattle.proc_api.specs.declared.status.Answer.TheVariants.{Prepared}
 use Rattle.proc_api.specs.declared.status.Status.{Status}
@@ -11,15 +11,14 @@ use Rattle.proc_api.specs.declared.status.Status.TheVariants as status
 use Rattle.proc_api.specs.declared.status.WorkFault.{WorkFault}
 use Rattle.proc_api.specs.declared.status.WorkFault.TheVariants.{Memory}
 use Rattle.proc_api.specs.Boxes.{BoxPicture, Notes, RowCount, WorkState, idle_work, no_notes}
-use Rattle.proc_api.specs.Ports.{IsShut, SameChunks}
+use Rattle.proc_api.specs.Made.{OwnState}
+use Rattle.proc_api.specs.Ports.{ArePortsOf, IsShut, SameChunks}
 use Rattle.proc_api.specs.Clauses.{port_flags}
-use Rattle.proc_shell.specs.Made.{OwnState, work_with}
-use Rattle.proc_shell.specs.declared.kernel.Offer.{Offer}
-use Rattle.proc_shell.specs.declared.turns.Held.{Held}
-use Rattle.proc_shell.specs.declared.turns.Held.TheVariants.{Nothing, Unworked, Made}
-use Rattle.proc_shell.specs.declared.turns.Turn.{Turn}
-use Rattle.proc_shell.specs.Turning.{held_unworked, held_made, held_option, turn_of, view_after, held_after, status_of, turn_rows, CountsRows}
-use Rattle.proc_shell.specs.Kernels.{Offers, Takes, Makes}
+use Rattle.proc_shell.specs.declared.held.Held.{Held}
+use Rattle.proc_shell.specs.declared.held.Held.TheVariants.{Nothing, Unworked, Made}
+use Rattle.proc_shell.specs.Steps.{CountsRows, held_made, held_option, held_unworked, is_unworked, rows_since, source_of}
+use Rattle.proc_shell.specs.Kernels.{Takes, Makes, work_with}
+use Rattle.proc_shell.specs.Turning.{Pushes, Turns}
 
 -- a loaded shell: its kernel's spec and state, the chunk that it holds, and its notes
 pub record ShellPart : Type 0 where
@@ -32,7 +31,7 @@ abbrev pub part : Spec → OwnState → Held → Notes → ShellPart
 part s own h n = record { spec = s; own = own; held = h; notes = n }
 
 abbrev pub part_work : ShellPart → WorkState
-part_work p = work_with p.own (held_unworked p.held) (held_made p.held)
+part_work p = work_with p.own (source_of p.held) (held_unworked p.held) (held_made p.held)
 
 -- a blank processor without a reader
 abbrev pub blank_seen : Kind → RowCount → BoxPicture
@@ -75,23 +74,18 @@ pub record ShellView : Type 0 where
 abbrev pub view_seen : Kind → ShellView → BoxPicture
 view_seen k s = shell_seen k s.count s.loaded
 
--- the kernel is asked only where nothing is held
-abbrev pub OffersHeld : Spec → Held → Bool → OwnState → OwnState → Offer → Type 0
-OffersHeld s Nothing finished old new o = Offers s finished old new o
-OffersHeld s (Unworked c) finished old new o = new ≡ old
-OffersHeld s (Made c) finished old new o = new ≡ old
+-- the view has the ports of the spec
+abbrev pub HasSpecPorts : Spec → Picture → Type 0
+HasSpecPorts s v = ArePortsOf (Some s) None (in_count v) (out_count v)
 
--- A prepare over a view with one input and one output takes the turn that is due.
+-- A prepare over a view with the ports of the spec: what was made is pushed, and then the turn is taken that is due.
 pub record Passes (p : ShellPart) (v : Picture) (n : RowCount) (q : ShellPart) (w : Picture) (m : RowCount) (s : Status) : Type 0 where
-  pub offer : Offer
-  pub turn : Turn
+  pub held : Held
+  pub view : Picture
   pub spec : q.spec ≡ p.spec
-  pub offers : OffersHeld p.spec p.held (is_in_finished (input_at v 0).flags) p.own q.own offer
-  pub due : turn ≡ turn_of offer p.held (input_at v 0).flags (output_at v 0)
-  pub view : w ≡ view_after turn p.held v
-  pub held : q.held ≡ held_after turn p.held v
-  pub status : s ≡ status_of turn
-  pub counts : CountsRows (turn_rows turn q.held) n m
+  pub pushes : Pushes p.held held v view
+  pub turns : Turns p.spec p.own q.own held q.held view w s
+  pub counts : CountsRows (rows_since (is_unworked p.held) q.held) n m
   pub notes : q.notes ≡ record p.notes { view = Some (port_flags w); answer = Some (Prepared s); acted = false }
 
 -- a prepare over a view with other ports
@@ -104,9 +98,9 @@ pub record ShutsPart (p : ShellPart) (v : Picture) (n : RowCount) (q : ShellPart
   pub counts : CountsRows 0 n m
   pub notes : q.notes ≡ record p.notes { view = Some (port_flags w); answer = Some (Prepared s); acted = false; fits = false }
 
-pub record TakesHeld (s : Spec) (old : OwnState) (t : Table) (new : OwnState) (h : Held) : Type 0 where
+pub record TakesHeld (s : Spec) (old : OwnState) (i : ℕ) (t : Table) (new : OwnState) (h : Held) : Type 0 where
   pub out : Option Table
-  pub takes : Takes s old t new out
+  pub takes : Takes s old i t new out
   pub held : h ≡ held_option out
 
 pub record MakesHeld (s : Spec) (old new : OwnState) (h : Held) : Type 0 where
@@ -118,7 +112,7 @@ pub record MakesHeld (s : Spec) (old new : OwnState) (h : Held) : Type 0 where
 abbrev pub WorksHeld : Spec → OwnState → Held → OwnState → Held → Type 0
 WorksHeld s old Nothing new k = MakesHeld s old new k
 WorksHeld s old (Made t) new k = (new ≡ old) × (k ≡ Made t)
-WorksHeld s old (Unworked t) new k = TakesHeld s old t new k
+WorksHeld s old (Unworked i t) new k = TakesHeld s old i t new k
 
 pub record PartWorks (p q : ShellPart) : Type 0 where
   pub spec : q.spec ≡ p.spec

@@ -1,13 +1,14 @@
 ghost use Rattle.std.specs.Prelude.{◌≡◌, true, IfOk};
 ghost use Rattle.query_model.specs.Kinds.{kind_of};
 ghost use Rattle.proc_api.specs.Boxes.{no_notes};
-ghost use Rattle.proc_shell.specs.declared.turns.Held.TheVariants.{Nothing};
+ghost use Rattle.proc_shell.specs.declared.held.Held.TheVariants.{Nothing};
 ghost use Rattle.proc_shell.specs.Kernels.{Begins};
-ghost use Rattle.proc_shell.specs.Shells.{OffersHeld, WorksHeld};
-ghost use Rattle.proc_shell.specs.Turning.{suits};
+ghost use Rattle.proc_shell.specs.Shells.{WorksHeld};
+ghost use Rattle.proc_shell.specs.Steps.{is_wanted, suits};
 
-use crate::kernel::{Kernel, Offer};
-use crate::turns::{Held, held_of, is_over, rows_pulled, take_turn, turn_at};
+use crate::held::{Held, held_of, holds_unworked, rows_pulled};
+use crate::kernel::Kernel;
+use crate::turns::{push_made, take_turn};
 use chunk_data::{Chunk, Memory};
 use port_word::PortView;
 use proc_api::{
@@ -18,7 +19,7 @@ use std::alloc::Global;
 use std::marker::Model;
 use std::mem::replace;
 
-/// A processor of one input and one output, which does what its kernel does.
+/// A processor that does what its kernel does.
 #[derive(Drop)]
 pub struct Shell<K: Kernel> {
     alloc: Global,
@@ -49,6 +50,7 @@ struct Loaded<K: Kernel> {
     held: Held,
     notes: BoxNotes,
     ghost ready: { suits notes.answer notes.acted held ≡ true },
+    ghost wanted: { is_wanted (K.open_to kernel) held ≡ true },
 }
 
 impl<K: Kernel> Shell<K> {
@@ -87,19 +89,9 @@ fn begun<K: Kernel>(alloc: Global, spec: Spec) -> Result<Loaded<K>, Memory>
     }
 }
 
-// What the kernel offers; it is asked only where nothing is held.
-fn offer_of<K: Kernel>(kernel: &mut K, held: &Held, finished: bool) -> Offer
-    ensures spec { K.spec_of kernel.new ≡ K.spec_of kernel.old }
-    ensures offers { OffersHeld (K.spec_of kernel.old) held.now finished (K.own kernel.old) (K.own kernel.new) result }
-{
-    match held {
-        Held::Nothing => kernel.offer(finished),
-        _ => Offer::Wants,
-    }
-}
-
 // What is held after a work.
 fn held_after_work<K: Kernel>(alloc: Global, kernel: &mut K, held: Held) -> Result<Held, Memory>
+    requires { is_wanted (K.open_to kernel.old) held ≡ true }
     ensures spec { K.spec_of kernel.new ≡ K.spec_of kernel.old }
     ensures works { IfOk result (WorksHeld (K.spec_of kernel.old) (K.own kernel.old) held (K.own kernel.new)) }
 {
@@ -108,7 +100,7 @@ fn held_after_work<K: Kernel>(alloc: Global, kernel: &mut K, held: Held) -> Resu
             Ok(made) => Ok(held_of(made)),
             Err(memory) => Err(memory),
         },
-        Held::Unworked(chunk) => match kernel.take(alloc, chunk) {
+        Held::Unworked(input, chunk) => match kernel.take(alloc, input, chunk) {
             Ok(made) => Ok(held_of(made)),
             Err(memory) => Err(memory),
         },
@@ -117,29 +109,30 @@ fn held_after_work<K: Kernel>(alloc: Global, kernel: &mut K, held: Held) -> Resu
 }
 
 impl<K: Kernel> Loaded<K> {
-    ghost use Rattle.std.specs.Prelude.{◌≡◌, OnOk, IfErr};
-    ghost use Rattle.port_word.specs.Sound.{IsSound};
-    ghost use Rattle.proc_shell.specs.Turning.{HasOneEach};
-    ghost use Rattle.proc_shell.specs.Shells.{part, PartFails, PartWorks, Passes, ShutsPart};
+    ghost use Rattle.std.specs.Prelude.{◌≡◌, ◌⊎◌, ◌≤◌, OnOk, IfErr};
+    ghost use Rattle.port_word.specs.Pictures.{in_count, out_count};
+    ghost use Rattle.proc_shell.specs.Shells.{HasSpecPorts, part, PartFails, PartWorks, Passes, ShutsPart};
 
-    /// Prepares it; over a view with other ports than one of each it shuts down.
+    /// Prepares it; over a view with other ports than its spec's it shuts down.
     fn prepare(&mut self, view: &mut PortView, pulled: &mut PulledRows) -> Status
         ensures spec { K.spec_of self.new.kernel ≡ K.spec_of self.old.kernel }
-        ensures passes { HasOneEach view.old → Passes (part (K.spec_of self.old.kernel) (K.own self.old.kernel) self.old.held self.old.notes) view.old pulled.old (part (K.spec_of self.new.kernel) (K.own self.new.kernel) self.new.held self.new.notes) view.new pulled.new result }
-        ensures misfit { (HasOneEach view.old → ⊥) → ShutsPart (part (K.spec_of self.old.kernel) (K.own self.old.kernel) self.old.held self.old.notes) view.old pulled.old (part (K.spec_of self.new.kernel) (K.own self.new.kernel) self.new.held self.new.notes) view.new pulled.new result }
-        ensures sound { IsSound view.old }
+        ensures passes { HasSpecPorts (K.spec_of self.old.kernel) view.old → Passes (part (K.spec_of self.old.kernel) (K.own self.old.kernel) self.old.held self.old.notes) view.old pulled.old (part (K.spec_of self.new.kernel) (K.own self.new.kernel) self.new.held self.new.notes) view.new pulled.new result }
+        ensures misfit { (HasSpecPorts (K.spec_of self.old.kernel) view.old → ⊥) → ShutsPart (part (K.spec_of self.old.kernel) (K.own self.old.kernel) self.old.held self.old.notes) view.old pulled.old (part (K.spec_of self.new.kernel) (K.own self.new.kernel) self.new.held self.new.notes) view.new pulled.new result }
+        ensures either { HasSpecPorts (K.spec_of self.old.kernel) view.old ⊎ (HasSpecPorts (K.spec_of self.old.kernel) view.old → ⊥) }
+        ensures few { out_count view.old ≤ 16 }
+        ensures few_in { in_count view.old ≤ 32 }
     {
-        if view.inputs() != 1 || view.outputs() != 1 {
+        if !self.kernel.fits(view.inputs(), view.outputs()) {
             shut_down(view);
             self.notes.note_misfit();
             pulled.add(0);
             self.notes.note_view(view, Status::Finished);
             return Status::Finished;
         }
-        let offer = offer_of(&mut self.kernel, &self.held, is_over(view.input_flags(0)));
-        let turn = turn_at(offer, &self.held, view.input_flags(0), view.output_flags(0));
-        let status = take_turn(offer, &mut self.held, turn, view);
-        pulled.add(rows_pulled(&self.held, turn));
+        let unworked = holds_unworked(&self.held);
+        push_made(&mut self.held, view);
+        let status = take_turn(&mut self.kernel, &mut self.held, view);
+        pulled.add(rows_pulled(unworked, &self.held));
         self.notes.note_view(view, status);
         status
     }

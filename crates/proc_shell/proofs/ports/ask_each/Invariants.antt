@@ -1,0 +1,5 @@
+use Rattle.proc_shell.specs.Steps.{ChangesInputs, asked}
+use Rattle.proc_shell.proofs.ports.ask_each.Given as goal
+
+abbrev pub invariant-loop-i : goal.invariant-loop-i
+invariant-loop-i g l = ChangesInputs (asked (g.K.Kernel.open_to l.kernel)) l.i l.initial.view l.view

@@ -1,0 +1,21 @@
+use Rattle.std.proofs.Common.{refl, sym, subst}
+use Rattle.proc_shell.specs.declared.held.Held.TheVariants.{Made}
+use Rattle.proc_shell.specs.Turning.{Pushes}
+use Rattle.proc_shell.proofs.PushLaws.{never-made, pushes-none, pushes-one}
+use Rattle.proc_shell.proofs.turns.push_made.Goals as goal
+
+pub returns-in-Some : goal.returns-in-Some
+returns-in-Some c =
+    subst (λ h. Pushes h c.replace.new.dest c.args.view.now c.push.new.self) c.in-Made.ensures.value
+    (subst (λ k. Pushes (Made c.in-Made.chunk) k c.args.view.now c.push.new.self) (sym c.replace.ensures.after)
+    (pushes-one c.in-Made.chunk c.args.view.now c.push.new.self c.in-Some.o c.requires c.in-Some.ensures.free c.push.ensures.after))
+
+pub returns-in-None : goal.returns-in-None
+returns-in-None c =
+    subst (λ h. Pushes h (Made c.in-Made.chunk) c.args.view.now c.args.view.now) c.in-Made.ensures.value
+    (pushes-none (Made c.in-Made.chunk) c.args.view.now c.requires (λ lt. c.in-None.ensures.none refl))
+
+pub returns-in_default : goal.returns-in_default
+returns-in_default c =
+    subst (λ h. Pushes h c.replace.result c.args.view.now c.args.view.now) c.replace.ensures.value
+    (pushes-none c.replace.result c.args.view.now c.requires (λ lt. never-made c.replace.result c.in_default.not-Made lt))

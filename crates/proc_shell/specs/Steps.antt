@@ -1,0 +1,136 @@
+-- What a shell holds, and what the steps of a prepare find and change at its ports.
+use Rattle.std.specs.Prelude.{◌≡◌, ℕ, ◌+◌, ◌<◌, ◌≤◌, nat_lt, Bool, length, true, false, ◌&&◌, cond, List, [], ◌∷◌, Option, Some, None}
+use Rattle.chunk_data.specs.Values.{Row, Table}
+use Rattle.port_word.specs.declared.port_view.InputPort.{InputPort}
+use Rattle.port_word.specs.Pictures.{Picture, input_at, output_at, in_count, out_count, can_push, holds_data, is_in_finished, is_out_finished}
+use Rattle.port_word.specs.Calls.{closed}
+use Rattle.port_word.specs.Differences.{ChangedByCalls}
+use Rattle.proc_api.specs.declared.status.Answer.{Answer}
+use Rattle.proc_api.specs.declared.status.Answer.TheVariants.{Prepared, Scheduled}
+use Rattle.proc_api.specs.declared.status.Status.TheVariants as status
+use Rattle.proc_api.specs.Boxes.{RowCount}
+use Rattle.proc_api.specs.Histories.{chunk_rows, pushes_to, raised}
+use Rattle.proc_api.specs.Ports.{FinishesFront}
+use Rattle.proc_api.proofs.Turns.{TurnsInput, needing}
+use Rattle.proc_shell.specs.declared.held.Held.{Held}
+use Rattle.proc_shell.specs.declared.held.Held.TheVariants.{Nothing, Unworked, Made}
+
+-- ---- what is held
+
+abbrev pub held_unworked : Held → List Table
+held_unworked Nothing = []
+held_unworked (Unworked i c) = c ∷ []
+held_unworked (Made c) = []
+
+abbrev pub held_made : Held → List Table
+held_made Nothing = []
+held_made (Unworked i c) = []
+held_made (Made c) = c ∷ []
+
+-- the input of what isn't worked
+abbrev pub source_of : Held → ℕ
+source_of Nothing = 0
+source_of (Unworked i c) = i
+source_of (Made c) = 0
+
+abbrev pub is_nothing : Held → Bool
+is_nothing Nothing = true
+is_nothing (Unworked i c) = false
+is_nothing (Made c) = false
+
+abbrev pub is_unworked : Held → Bool
+is_unworked Nothing = false
+is_unworked (Unworked i c) = true
+is_unworked (Made c) = false
+
+-- what isn't worked came from an input from which a chunk was wanted
+abbrev pub is_wanted : (ℕ → Bool) → Held → Bool
+is_wanted wants Nothing = true
+is_wanted wants (Unworked i c) = wants i && nat_lt i 32
+is_wanted wants (Made c) = true
+
+-- a chunk that can be pushed has rows
+abbrev pub held_rows : List Row → Table → Held
+held_rows [] t = Nothing
+held_rows (row ∷ rows) t = Made t
+
+abbrev pub held_option : Option Table → Held
+held_option None = Nothing
+held_option (Some t) = held_rows t.rows t
+
+-- where `work` may be called no chunk waits to be pushed
+abbrev pub suits : Option Answer → Bool → Held → Bool
+suits (Some (Prepared status.Ready)) false (Made c) = false
+suits (Some (Scheduled wake)) acted h = false
+suits _ acted h = true
+
+-- the rows that were pulled in a prepare, by whether a chunk was unworked before it, and what is held after it
+abbrev pub rows_since : Bool → Held → ℕ
+rows_since true h = 0
+rows_since false h = length (chunk_rows (held_unworked h))
+
+-- so many rows were counted
+pub record CountsRows (rows : ℕ) (old new : RowCount) : Type 0 where
+  pub total : new.total ≡ raised old.total rows
+  pub grows : old.total ≤ new.total
+  pub since : new.total + old.since ≡ old.total + new.since
+
+-- ---- what is found at the ports
+
+-- there is room at an output, which isn't finished
+pub record IsFree (v : Picture) (o : ℕ) : Type 0 where
+  pub in_range : o < out_count v
+  pub room : can_push (output_at v o) ≡ true
+  pub unfinished : is_out_finished (output_at v o) ≡ false
+
+-- a wanted input with data
+pub record IsWantedFull (wants : ℕ → Bool) (v : Picture) (i : ℕ) : Type 0 where
+  pub in_range : i < in_count v
+  pub wanted : wants i ≡ true
+  pub holds : holds_data (input_at v i).flags ≡ true
+
+-- a wanted input that isn't finished
+pub record IsWanted (wants : ℕ → Bool) (v : Picture) (i : ℕ) : Type 0 where
+  pub in_range : i < in_count v
+  pub wanted : wants i ≡ true
+  pub unfinished : is_in_finished (input_at v i).flags ≡ false
+
+abbrev pub AreWantedEmpty : (ℕ → Bool) → Picture → Type 0
+AreWantedEmpty wants v = (i : ℕ) → i < in_count v → wants i ≡ true → holds_data (input_at v i).flags ≡ false
+
+abbrev pub AreWantedOver : (ℕ → Bool) → Picture → Type 0
+AreWantedOver wants v = (i : ℕ) → i < in_count v → wants i ≡ true → is_in_finished (input_at v i).flags ≡ true
+
+-- ---- what is changed at them
+
+-- a wanted input is asked for data
+abbrev pub asked : (ℕ → Bool) → ℕ → InputPort → InputPort
+asked wants i x = cond (wants i) (needing x true) x
+
+-- the asking is taken back
+abbrev pub unasked : ℕ → InputPort → InputPort
+unasked i x = needing x false
+
+-- an input that isn't finished is closed
+abbrev pub shut_open : ℕ → InputPort → InputPort
+shut_open i x = cond (is_in_finished x.flags) x (closed x)
+
+-- input i is changed by f, and nothing else but actions
+pub record ChangesInput (f : ℕ → InputPort → InputPort) (i : ℕ) (v w : Picture) : Type 0 where
+  pub changed : ChangedByCalls v w
+  pub turns : TurnsInput v i (f i (input_at v i)) w
+
+-- the first n inputs are changed by f, and nothing else but actions
+pub record ChangesInputs (f : ℕ → InputPort → InputPort) (n : ℕ) (v w : Picture) : Type 0 where
+  pub changed : ChangedByCalls v w
+  pub ins : in_count w ≡ in_count v
+  pub outs : out_count w ≡ out_count v
+  pub below : (i : ℕ) → i < n → input_at w i ≡ f i (input_at v i)
+  pub above : (i : ℕ) → n ≤ i → input_at w i ≡ input_at v i
+  pub outputs : (o : ℕ) → output_at w o ≡ output_at v o
+  pub pushes : (o : ℕ) → pushes_to o w.actions ≡ pushes_to o v.actions
+
+-- the first n outputs were finished, and their consumers' flags stay
+pub record EndsOutputs (n : ℕ) (v w : Picture) : Type 0 where
+  pub front : FinishesFront n v w
+  pub consumers : (o : ℕ) → (output_at w o).fin_in ≡ (output_at v o).fin_in
