@@ -1,12 +1,14 @@
 -- What a collector moves at a prepare.
-use Rattle.std.proofs.Common.{◌≡◌, ℕ, ◌<◌, ◌-◌, Bool, true, false, is_some, Option, Some, None, List, [], ◌∷◌, ◌++◌, length, drop, refl, sym, ap, ap₂, subst, ◌∙◌, arith}
+use Rattle.std.proofs.Common.{◌≡◌, ℕ, ◌<◌, ◌-◌, Bool, true, false, cond, is_some, Option, Some, None, List, [], ◌∷◌, ◌++◌, length, drop, refl, sym, ap, ap₂, subst, ◌∙◌, arith}
 use Rattle.std.proofs.lemmas.List.{append-nil, length-append, length-drop}
 use Rattle.std.proofs.Math.Seq.{drop-append_seam}
 use Rattle.chunk_data.specs.Values.{Table}
 use Rattle.port_word.specs.declared.flags.Flags.{Flags}
+use Rattle.port_word.specs.declared.port_view.InputPort.{InputPort}
 use Rattle.port_word.specs.Pictures.{Picture, input_at, in_count, out_count, holds_data, is_in_finished}
 use Rattle.port_word.specs.Calls.{after_pull, after_need}
 use Rattle.port_word.specs.Sound.{IsSound}
+use Rattle.port_word.specs.Status.{WaitsForData}
 use Rattle.port_word.specs.Differences.{ChangedByCalls, pull_call, need_call}
 use Rattle.port_word.proofs.Differences.{changed-by-none, changed-by-one}
 use Rattle.proc_api.specs.declared.status.Status.{Status}
@@ -14,11 +16,49 @@ use Rattle.proc_api.specs.declared.status.Status.TheVariants as status
 use Rattle.proc_api.specs.Histories.{pulled_at, pushed_at, taken_out}
 use Rattle.proc_api.specs.Clauses.{StatusHolds}
 use Rattle.proc_api.proofs.CallLaws.{none-pushed, none-pulled}
-use Rattle.proc_api.proofs.Turns.{needing, need-turns, pull-turns, needing-leaves}
+use Rattle.proc_api.proofs.Turns.{TurnsInput, needing, need-turns, pull-turns, needing-leaves, needing-needs}
+use Rattle.proc_api.proofs.ShutPorts.{by-place}
 use Rattle.flow_procs.specs.declared.collect.Gathering.{Gathering}
 use Rattle.flow_procs.specs.declared.collect.Gathering.TheVariants as gathering
 use Rattle.flow_procs.specs.Collecting.{chunk_list, gathering_of, given, HasInput, status_gathered, unworked_after, unworked_chunks, view_gathered}
-use Rattle.proc_shell.proofs.PortMoves.{by-cond, both-false, never-true, still-pulled, still-pushed, input-pulls-nothing, only-input, asked-waits}
+use Rattle.proc_shell.proofs.PortMoves.{both-false, never-true}
+
+-- ---- one input
+
+by-cond : {A : Type 0} (P : A → Type 0) (b : Bool) (x y : A) → (b ≡ true → P x) → (b ≡ false → P y) → P (cond b x y)
+by-cond P true x y f g = f refl
+by-cond P false x y f g = g refl
+
+only-input : (w : Picture) → in_count w ≡ 1 → is_in_finished (input_at w 0).flags ≡ true → (i : ℕ) → i < in_count w → is_in_finished (input_at w i).flags ≡ true
+only-input w e h i lt = by-place (λ j. is_in_finished (input_at w j).flags ≡ true) 0 i h (λ ne. absurd (omega (arith, lt, e, ne)))
+
+module _ (v : Picture) (s : IsSound v) where
+  -- the view stays as it is
+  still-pulled : (i : ℕ) → pulled_at v v i ≡ []
+  still-pulled i = none-pulled v v i refl
+
+  still-pushed : (o : ℕ) → pushed_at v v o ≡ []
+  still-pushed o = none-pushed v v o s refl
+
+  input-pulls-nothing : (x : InputPort) (w : Picture) → TurnsInput v 0 x w → x.chunk ≡ (input_at v 0).chunk → (i : ℕ) → pulled_at v w i ≡ []
+  input-pulls-nothing x w t e i =
+      none-pulled v w i (by-place (λ j. (input_at w j).chunk ≡ (input_at v j).chunk) 0 i (ap (λ y. y.chunk) t.here ∙ e) (λ ne. ap (λ y. y.chunk) (t.others i ne)))
+
+-- an open input without data that was asked for waits
+asked-waits : (v : Picture) → 0 < in_count v → is_in_finished (input_at v 0).flags ≡ false → (input_at v 0).flags.has_data ≡ false → WaitsForData (after_need v 0 true)
+asked-waits v lt n e =
+    let t = need-turns v 0 true lt in
+    let k = needing-leaves (input_at v 0) true in
+    let at : (input_at (after_need v 0 true) 0) ≡ needing (input_at v 0) true = t.here in
+    record {
+      input = 0;
+      in_range = omega (arith, t.ins, lt);
+      needed = ap (λ y. y.flags.needed) at ∙ needing-needs (input_at v 0) (both-false (input_at v 0).flags.fin_in _ n).0;
+      empty = ap (λ y. y.flags.has_data) at ∙ k.has_data ∙ e;
+      unfinished = ap (λ y. is_in_finished y.flags) at ∙ rw (k.fin_in, k.fin_out, k.has_data) n;
+    }
+
+-- ---- what is moved
 
 pub record Collects (g : Gathering) (u : Bool) (chunks : List Table) (v w : Picture) (s : Status) : Type 0 where
   pub changed : ChangedByCalls v w

@@ -1,11 +1,11 @@
 -- A filter makes of its chunks the rows at which its condition is true.
-use Rattle.std.proofs.Common.{◌≡◌, Bool, cond, List, [], ◌∷◌, map, filter, Some, refl, ap, ◌∙◌}
+use Rattle.std.proofs.Common.{◌≡◌, ℕ, Bool, cond, List, [], ◌∷◌, map, filter, Some, refl, ap, ◌∙◌}
 use Rattle.chunk_data.specs.Values.{Row, Table}
 use Rattle.chunk_data.specs.Rows.{kept}
 use Rattle.query_model.specs.Expressions.{Cond, holds, truth_of}
 use Rattle.query_model.specs.Typing.{IsTypedCond}
 use Rattle.query_model.specs.declared.processor_spec.Spec.TheVariants as spec
-use Rattle.proc_shell.specs.Made.{idle_own}
+use Rattle.proc_api.specs.Made.{idle_own}
 use Rattle.proc_shell.specs.Kernels.{Takes}
 use Rattle.flow_procs.specs.Filters.{filter_maker}
 use Rattle.proc_shell.proofs.Through.{takes-each}
@@ -15,6 +15,7 @@ kept-filter : (c : Cond) (rows : List Row) → kept (map (truth_of c) rows) rows
 kept-filter c [] = refl
 kept-filter c (row ∷ rows) = ap (λ l. cond (truth_of c row) (row ∷ l) l) (kept-filter c rows)
 
-pub takes : (c : Cond) (t u : Table) (mask : List Bool) → IsTypedCond t.types c → mask ≡ map (truth_of c) t.rows → u.types ≡ t.types → u.rows ≡ kept mask t.rows → Takes (spec.Filter c) idle_own t idle_own (Some u)
-takes c t u mask typed m types rows =
-    takes-each (spec.Filter c) (filter (holds c)) (filter_maker c) idle_own t (Some u) (λ fits. rows ∙ ap (λ l. kept l t.rows) m ∙ kept-filter c t.rows) (λ ins pulled. record { pulled = rw types pulled; fits = rw types typed }) tt
+pub takes : (c : Cond) (i : ℕ) (t u : Table) (mask : List Bool) → i ≡ 0 → IsTypedCond t.types c → mask ≡ map (truth_of c) t.rows → u.types ≡ t.types → u.rows ≡ kept mask t.rows → Takes (spec.Filter c) idle_own i t idle_own (Some u)
+takes c i t u mask z typed m types rows =
+    takes-each (spec.Filter c) (filter (holds c)) (filter_maker c) idle_own i t (Some u) z (λ fits. rows ∙ ap (λ l. kept l t.rows) m ∙ kept-filter c t.rows)
+    (λ ins pulled. record { pulled = rw types pulled; fits = rw types typed }) tt

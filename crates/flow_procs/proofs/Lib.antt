@@ -1,3 +1,5 @@
 mod CollectMoves
 mod CollectLaws
 mod FilterLaws
+mod LimitLaws
+mod CountingLaws

@@ -16,7 +16,7 @@ use Rattle.proc_api.specs.Clauses.{port_flags}
 use Rattle.flow_procs.specs.declared.collect.Gathering.{Gathering}
 use Rattle.flow_procs.specs.declared.collect.Collect.{Collect}
 use Rattle.flow_procs.specs.declared.collect.LoadedCollect.{LoadedCollect}
-use Rattle.proc_shell.specs.Turning.{CountsRows}
+use Rattle.proc_shell.specs.Steps.{CountsRows}
 use Rattle.proc_shell.specs.Shells.{blank_seen}
 use Rattle.flow_procs.specs.Collecting.{gathering_of, given, status_gathered, unworked_after, unworked_chunks, view_gathered}
 

@@ -4,22 +4,19 @@ use Rattle.std.proofs.lemmas.List.{map-append}
 use Rattle.query_model.specs.Answers.{item_row}
 use Rattle.query_model.specs.Expressions.{Expr}
 use Rattle.query_model.specs.declared.processor_spec.Spec.TheVariants as spec
-use Rattle.proc_shell.specs.Kernels.{IsPassing}
-use Rattle.proc_shell.proofs.Through.{IsMaker, from-through, into-through}
+use Rattle.proc_shell.specs.Kernels.{IsShelled}
+use Rattle.proc_shell.proofs.Through.{IsMaker, shelled-through}
 
 pub expression_maker : (items : List Expr) → IsMaker (spec.Expression items) (map (item_row items))
 expression_maker items = record {
   each = record { nothing = refl; both = map-append (item_row items) };
-  into = λ own worked made h. h;
-  from = λ own worked made h. h;
+  into = λ own worked outs wait h. h;
+  from = λ own worked outs wait h. h;
+  noted = λ own. tt;
 }
 
-pub expression_passing : (items : List Expr) → IsPassing (spec.Expression items)
-expression_passing items = record {
-  ports = λ growth inputs outputs h. h;
-  ports_of = λ growth inputs outputs h. h;
-  any_input = λ i types h. h;
-  into = into-through (spec.Expression items) (map (item_row items)) (expression_maker items);
-  from = λ p ins outs idle.
-      from-through (spec.Expression items) (map (item_row items)) (expression_maker items) p ins outs (ap (λ w. w.unmade) idle);
-}
+pub expression_shelled : (items : List Expr) → IsShelled (spec.Expression items)
+expression_shelled items =
+    shelled-through (spec.Expression items) (map (item_row items)) (expression_maker items)
+    (record { ports = λ growth m n h. h; counts = λ growth m n h. h })
+    (λ i j types h. h) (λ p ins outs h. h) (λ p ins outs h. h) (λ w e. (ap (λ x. x.unmade) e, ap (λ x. x.source) e))

@@ -1,4 +1,7 @@
 pub mod Filters
 pub mod Expressions
+pub mod Limits
+pub mod Resizes
+pub mod Counting
 pub mod Collecting
 pub mod CollectSeen

@@ -1,5 +1,6 @@
 use chunk_data::{Chunk, List, Memory};
 use expr_eval::{are_items, eval_items};
+use port_word::PortView;
 use proc_shell::{Kernel, Offer, Shell};
 use query_model::checked::Expr;
 use query_model::processor_spec::{Kind, Spec};
@@ -15,11 +16,12 @@ pub struct Evaluating {
 }
 
 impl Kernel for Evaluating {
+    ghost use Rattle.std.specs.Prelude.{refl, ◌==◌};
     ghost use Rattle.query_model.specs.declared.processor_spec.Kind.TheVariants as kind;
     ghost use Rattle.query_model.specs.declared.processor_spec.Spec.TheVariants as spec;
-    ghost use Rattle.std.specs.Prelude.{refl};
-    ghost use Rattle.proc_shell.specs.Made.{idle_own};
-    ghost use Rattle.flow_procs.specs.Expressions.{expression_passing};
+    ghost use Rattle.proc_api.specs.Made.{idle_own};
+    ghost use Rattle.flow_procs.specs.Expressions.{expression_shelled};
+    ghost use Rattle.proc_shell.proofs.Through.{first-source};
 
     ghost kind_is = { kind.Expression };
 
@@ -27,9 +29,11 @@ impl Kernel for Evaluating {
 
     ghost own = { λ k. idle_own };
 
-    ghost passing = { λ k. expression_passing k.items };
+    ghost open_to = { λ k i. i == 0 };
 
-    ghost uses = { λ k unworked made. refl };
+    ghost shelled = { λ k. expression_shelled k.items };
+
+    ghost uses = { λ k i unworked made e. first-source idle_own i unworked made e };
 
     ghost hands_out_nothing = { λ w. refl };
 
@@ -45,11 +49,24 @@ impl Kernel for Evaluating {
         }
     }
 
-    fn offer(&mut self, _finished: bool) -> Offer {
+    fn fits(&self, inputs: usize, outputs: usize) -> bool {
+        inputs == 1 && outputs == 1
+    }
+
+    fn offer(&mut self, _view: &PortView) -> Offer {
         Offer::Wants
     }
 
-    fn take(&mut self, alloc: Global, chunk: Chunk) -> Result<Option<Chunk>, Memory> {
+    fn wants(&self, input: usize) -> bool {
+        input == 0
+    }
+
+    fn take(
+        &mut self,
+        alloc: Global,
+        _input: usize,
+        chunk: Chunk,
+    ) -> Result<Option<Chunk>, Memory> {
         if !are_items(self.items.as_slice(), chunk.types().as_slice()) {
             return Ok(None);
         }

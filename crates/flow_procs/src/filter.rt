@@ -1,5 +1,6 @@
 use chunk_data::{Chunk, Memory};
 use expr_eval::{is_typed_cond, mask};
+use port_word::PortView;
 use proc_shell::{Kernel, Offer, Shell};
 use query_model::checked::Cond;
 use query_model::processor_spec::{Kind, Spec};
@@ -15,11 +16,12 @@ pub struct Filtering {
 }
 
 impl Kernel for Filtering {
+    ghost use Rattle.std.specs.Prelude.{refl, ◌==◌};
     ghost use Rattle.query_model.specs.declared.processor_spec.Kind.TheVariants as kind;
     ghost use Rattle.query_model.specs.declared.processor_spec.Spec.TheVariants as spec;
-    ghost use Rattle.std.specs.Prelude.{refl};
-    ghost use Rattle.proc_shell.specs.Made.{idle_own};
-    ghost use Rattle.flow_procs.specs.Filters.{filter_passing};
+    ghost use Rattle.proc_api.specs.Made.{idle_own};
+    ghost use Rattle.flow_procs.specs.Filters.{filter_shelled};
+    ghost use Rattle.proc_shell.proofs.Through.{first-source};
 
     ghost kind_is = { kind.Filter };
 
@@ -27,9 +29,11 @@ impl Kernel for Filtering {
 
     ghost own = { λ k. idle_own };
 
-    ghost passing = { λ k. filter_passing k.cond };
+    ghost open_to = { λ k i. i == 0 };
 
-    ghost uses = { λ k unworked made. refl };
+    ghost shelled = { λ k. filter_shelled k.cond };
+
+    ghost uses = { λ k i unworked made e. first-source idle_own i unworked made e };
 
     ghost hands_out_nothing = { λ w. refl };
 
@@ -45,11 +49,24 @@ impl Kernel for Filtering {
         }
     }
 
-    fn offer(&mut self, _finished: bool) -> Offer {
+    fn fits(&self, inputs: usize, outputs: usize) -> bool {
+        inputs == 1 && outputs == 1
+    }
+
+    fn offer(&mut self, _view: &PortView) -> Offer {
         Offer::Wants
     }
 
-    fn take(&mut self, alloc: Global, mut chunk: Chunk) -> Result<Option<Chunk>, Memory> {
+    fn wants(&self, input: usize) -> bool {
+        input == 0
+    }
+
+    fn take(
+        &mut self,
+        alloc: Global,
+        _input: usize,
+        mut chunk: Chunk,
+    ) -> Result<Option<Chunk>, Memory> {
         if !is_typed_cond(&self.cond, chunk.types().as_slice()) {
             return Ok(None);
         }

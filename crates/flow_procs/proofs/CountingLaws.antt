@@ -1,0 +1,115 @@
+-- Numbers in order: those that are made, and those that are left.
+use Rattle.std.proofs.Common.{◌≡◌, ℕ, zero, suc, ◌+◌, ◌-◌, ◌<◌, ◌≤◌, min, max, Bool, List, [], ◌∷◌, ◌++◌, length, map, replicate, append_assoc, Some, None, refl, sym, ap, subst, ◌∙◌, arith, inl}
+use Rattle.std.proofs.lemmas.List.{append-nil, map-append}
+use Rattle.chunk_data.specs.Values.{Table}
+use Rattle.chunk_data.specs.Rows.{AreLong, adds, rows_of}
+use Rattle.chunk_data.specs.Columns.{values}
+use Rattle.chunk_data.specs.declared.typed_column.Column.{Column}
+use Rattle.chunk_data.specs.declared.typed_value.Value.TheVariants.{UInt}
+use Rattle.chunk_data.specs.declared.typed_value.ColumnType.TheVariants as column
+use Rattle.query_model.specs.Sources.{count_up}
+use Rattle.query_model.specs.declared.processor_spec.Spec.{Spec}
+use Rattle.query_model.specs.declared.processor_spec.Spec.TheVariants as spec
+use Rattle.port_word.specs.Pictures.{Picture, in_count}
+use Rattle.proc_api.specs.Histories.{chunk_rows, no_lists}
+use Rattle.proc_api.specs.Made.{HasMade}
+use Rattle.proc_shell.specs.declared.kernel.Offer.TheVariants as offer
+use Rattle.proc_shell.specs.Kernels.{Begins, Makes, Offers, Takes}
+use Rattle.proc_shell.proofs.Through.{makes-nothing}
+use Rattle.flow_procs.specs.Counting.{count_on, counting_own, number_row}
+
+count_on-split : (a j k : ℕ) → count_on a (j + k) ≡ count_on a j ++ count_on (a + j) k
+count_on-split a zero k = let e : 0 + k ≡ k = omega arith in let f : a ≡ a + 0 = omega arith in ap (λ n. count_on a n) e ∙ ap (λ n. count_on n k) f
+count_on-split a (suc j) k =
+    let e : suc j + k ≡ suc (j + k) = omega arith in
+    let f : suc a + j ≡ a + suc j = omega arith in
+    ap (λ n. count_on a n) e ∙ ap (λ l. a ∷ l) (count_on-split (suc a) j k ∙ ap (λ n. count_on (suc a) j ++ count_on n k) f)
+
+pub count_on-next : (a j : ℕ) → count_on a (j + 1) ≡ count_on a j ++ (a + j) ∷ []
+count_on-next a j = count_on-split a j 1
+
+length-count_on : (a k : ℕ) → length (count_on a k) ≡ k
+length-count_on a zero = refl
+length-count_on a (suc k) = ap suc (length-count_on (suc a) k)
+
+length-rows : (a k : ℕ) → length (map number_row (count_on a k)) ≡ k
+length-rows a zero = refl
+length-rows a (suc k) = ap suc (length-rows (suc a) k)
+
+count_up-is : (n : ℕ) → count_up n ≡ count_on 0 n
+unfolding count_up
+count_up-is zero = refl
+count_up-is (suc n) =
+    let e : suc n ≡ n + 1 = omega arith in
+    let f : 0 + n ≡ n = omega arith in
+    ap (λ l. l ++ n ∷ []) (count_up-is n) ∙ sym (ap (λ k. count_on 0 k) e ∙ count_on-next 0 n ∙ ap (λ k. count_on 0 n ++ k ∷ []) f)
+
+-- a column of numbers beside no other
+rows-of-numbers : (xs : List ℕ) (n : ℕ) → length xs ≡ n → adds (map UInt xs) (replicate n []) ≡ map number_row xs
+rows-of-numbers xs n e = subst (λ k. adds (map UInt xs) (replicate k []) ≡ map number_row xs) e (go xs)
+  where
+    go : (ys : List ℕ) → adds (map UInt ys) (replicate (length ys) []) ≡ map number_row ys
+    go [] = refl
+    go (y ∷ ys) = ap (λ l. number_row y ∷ l) (go ys)
+
+-- the numbers as a column beside no other
+pub column-long : (columns : List Column) (one : Column) (first count : ℕ) → columns ≡ one ∷ [] → values one ≡ map UInt (count_on first count) → AreLong count (map values columns)
+column-long columns one first count e v = rw e ((ap length v ∙ long first count), tt)
+  where
+    long : (a k : ℕ) → length (map UInt (count_on a k)) ≡ k
+    long a zero = refl
+    long a (suc k) = ap suc (long (suc a) k)
+
+pub column-rows : (columns : List Column) (one : Column) (first count : ℕ) → columns ≡ one ∷ [] → values one ≡ map UInt (count_on first count) → rows_of count (map values columns) ≡ map number_row (count_on first count)
+column-rows columns one first count e v =
+    ap (λ l. rows_of count (map values l)) e ∙ ap (λ l. adds l (replicate count [])) v ∙ rows-of-numbers (count_on first count) count (length-count_on first count)
+
+none-left : (next end : ℕ) → end ≤ next → map number_row (count_on next (end - next)) ≡ []
+none-left next end le = let e : end - next ≡ 0 = omega (arith, le) in ap (λ k. map number_row (count_on next k)) e
+
+pub begins : (s : Spec) (end rows : ℕ) → s ≡ spec.Numbers end rows → Begins s (spec.Numbers end rows) (counting_own 0 end)
+begins s end rows e = record {
+  spec = sym e;
+  nothing = subst (λ z. HasMade z (counting_own 0 end) no_lists no_lists []) (sym e)
+      (let z : end - 0 ≡ end = omega arith in ap (λ k. map number_row (count_on 0 k)) z ∙ ap (λ l. map number_row l) (sym (count_up-is end)));
+}
+
+pub offers-rows : (wants : ℕ → Bool) (v : Picture) (next end rows : ℕ) → next < end → Offers wants (spec.Numbers end rows) v (counting_own next end) (counting_own next end) offer.Rows
+offers-rows wants v next end rows lt = record {
+  leaves = record { means = λ worked outs wait h. h; stays_over = λ n x. (n, x) };
+  comes = let l = length-rows next (end - next) in omega (arith, l, lt);
+}
+
+pub offers-end : (wants : ℕ → Bool) (v : Picture) (next end rows : ℕ) → end ≤ next → in_count v ≡ 0 → Offers wants (spec.Numbers end rows) v (counting_own next end) (counting_own next end) offer.Wants
+offers-end wants v next end rows le none = record {
+  leaves = record { means = λ worked outs wait h. h; stays_over = λ n x. (n, x) };
+  comes = record { nothing = none-left next end le; wanting = tt; all_over = λ over i lt. absurd (omega (arith, none, lt)); noted = λ over. tt };
+}
+
+-- a chunk changes nothing
+pub drops : (next end rows i : ℕ) (t : Table) → Takes (spec.Numbers end rows) (counting_own next end) i t (counting_own next end) None
+drops next end rows i t = record { means = λ fits worked outs h. h; types = λ ins pulled. tt; sizes = tt }
+
+pub makes-none : (next end rows : ℕ) → end ≤ next → Makes (spec.Numbers end rows) (counting_own next end) (counting_own next end) None
+makes-none next end rows le = makes-nothing (spec.Numbers end rows) (counting_own next end) (none-left next end le)
+
+pub makes-some : (next end rows count : ℕ) (c : Table) → count ≡ min (end - next) (max rows 1) → 0 < count → c.types ≡ column.UInt64 ∷ [] → c.rows ≡ map number_row (count_on next count)
+    → Makes (spec.Numbers end rows) (counting_own next end) (counting_own (next + count) end) (Some c)
+makes-some next end rows count c e some types made = record {
+  means = λ worked outs h.
+      ap (λ l. (chunk_rows (outs 0) ++ l) ++ map number_row (count_on (next + count) (end - (next + count)))) made
+      ∙ append_assoc (chunk_rows (outs 0)) (map number_row (count_on next count)) (map number_row (count_on (next + count) (end - (next + count))))
+      ∙ ap (λ l. chunk_rows (outs 0) ++ l) (sym split) ∙ ap (λ l. l ++ map number_row (count_on next (end - next))) (sym (append-nil (chunk_rows (outs 0)))) ∙ h;
+  types = λ ins. types;
+  sizes = let l = length-made in omega (arith, l, e);
+  progress = inl (let l = length-made in omega (arith, l, some));
+  nothing = λ n. absurd (let l = ap length n in let m = length-rows next (end - next) in omega (arith, l, m, e, some));
+}
+  where
+    split : map number_row (count_on next (end - next)) ≡ map number_row (count_on next count) ++ map number_row (count_on (next + count) (end - (next + count)))
+    split =
+        let z : end - next ≡ count + (end - (next + count)) = omega (arith, e) in
+        ap (λ k. map number_row (count_on next k)) z ∙ ap (λ l. map number_row l) (count_on-split next count (end - (next + count))) ∙ map-append number_row (count_on next count) (count_on (next + count) (end - (next + count)))
+
+    length-made : length c.rows ≡ count
+    length-made = ap length made ∙ length-rows next count

@@ -1,0 +1,71 @@
+use chunk_data::{Chunk, Memory};
+use port_word::PortView;
+use proc_shell::{Kernel, Offer, Shell};
+use query_model::processor_spec::{Kind, Spec};
+use std::alloc::Global;
+
+/// Passes chunks on as they are, from any input to any output.
+pub type Resize = Shell<Resizing>;
+
+/// A resize inside its shell, which does all.
+#[derive(Debug, Drop)]
+pub struct Resizing;
+
+impl Kernel for Resizing {
+    ghost use Rattle.std.specs.Prelude.{refl, true};
+    ghost use Rattle.query_model.specs.declared.processor_spec.Kind.TheVariants as kind;
+    ghost use Rattle.query_model.specs.declared.processor_spec.Spec.TheVariants as spec;
+    ghost use Rattle.proc_api.specs.Made.{idle_own};
+    ghost use Rattle.flow_procs.specs.Resizes.{resize_shelled};
+
+    ghost kind_is = { kind.Resize };
+
+    ghost spec_of = { λ k. spec.Resize };
+
+    ghost own = { λ k. idle_own };
+
+    ghost open_to = { λ k i. true };
+
+    ghost shelled = { λ k. resize_shelled };
+
+    ghost uses = { λ k i unworked made e. refl };
+
+    ghost hands_out_nothing = { λ w. refl };
+
+    fn kind() -> Kind {
+        Kind::Resize
+    }
+
+    fn begin(_alloc: Global, spec: Spec) -> Result<Resizing, Memory> {
+        match spec {
+            Spec::Resize => Ok(Resizing),
+            // The shell hands it no other kind's.
+            _ => Err(Memory),
+        }
+    }
+
+    fn fits(&self, _inputs: usize, outputs: usize) -> bool {
+        outputs > 0
+    }
+
+    fn offer(&mut self, _view: &PortView) -> Offer {
+        Offer::Wants
+    }
+
+    fn wants(&self, _input: usize) -> bool {
+        true
+    }
+
+    fn take(
+        &mut self,
+        _alloc: Global,
+        _input: usize,
+        chunk: Chunk,
+    ) -> Result<Option<Chunk>, Memory> {
+        Ok(Some(chunk))
+    }
+
+    fn make(&mut self, _alloc: Global) -> Result<Option<Chunk>, Memory> {
+        Ok(None)
+    }
+}
