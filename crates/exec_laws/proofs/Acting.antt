@@ -1,29 +1,30 @@
 -- A box works, or fetches.
-use Rattle.std.proofs.Common.{◌≡◌, ◌≢◌, ℕ, ◌<◌, true, false, IsTrue, IsSome, List, length, get_or, refl, sym, ap, subst, ◌∙◌, arith}
-use Rattle.std.proofs.lemmas.Bool.{both_ways}
-use Rattle.port_word.specs.declared.flags.Action.{Action}
-use Rattle.port_word.specs.declared.flags.Flags.{Flags}
+use Rattle.std.proofs.Common.{◌≡◌, ◌≢◌, ℕ, ◌<◌, ◌≤◌, false, IsTrue, IsSome, List, length, get_or, refl, sym, ap, subst, ◌∙◌, arith}
 use Rattle.port_word.specs.declared.flags.Wire.{Wire}
 use Rattle.port_word.specs.declared.flags.Reserve.{Reserve}
-use Rattle.port_word.specs.declared.port_view.InputPort.{InputPort}
-use Rattle.port_word.specs.Pictures.{input_at, output_at, in_count, out_count, no_flags}
-use Rattle.proc_api.specs.declared.status.Wake.{Wake}
-use Rattle.proc_api.specs.Boxes.{BoxPicture, kept_input, kept_output, kept_ports}
-use Rattle.proc_api.specs.Ports.{HasPorts, ArePortsOf, AreAsKept}
-use Rattle.proc_api.specs.Clauses.{SameBox, CountsOn, SamePulled, Works, Schedules, IsRunning}
+use Rattle.port_word.specs.Pictures.{Picture, in_count, out_count, no_flags}
+use Rattle.proc_api.specs.Boxes.{BoxPicture, kept_input, kept_output, kept_inputs, kept_outputs, kept_ports}
+use Rattle.proc_api.specs.Histories.{Lists}
+use Rattle.proc_api.specs.Ports.{ArePortsOf, AreAsKept}
+use Rattle.proc_api.specs.Clauses.{SameBox}
 use Rattle.proc_api.specs.Settled.{wire_at}
 use Rattle.proc_api.specs.Graphs.{IsGraph, input_count, output_count}
 use Rattle.exec_laws.specs.declared.edges.Edge.{Edge}
-use Rattle.exec_laws.specs.declared.edges.NodeMark.{NodeMark}
-use Rattle.exec_laws.specs.Runs.{Node, NodeHolds, InputHolds, OutputHolds, EdgeHolds, Running}
-use Rattle.exec_laws.specs.Moves.{Acts, StaysBox, worked}
-use Rattle.proc_api.proofs.Follows.{follows-same}
-use Rattle.exec_laws.proofs.Nodes.{at-node, by-ends, apart, edge-kept}
+use Rattle.exec_laws.specs.declared.edges.NodeState.{NodeState}
+use Rattle.exec_laws.specs.declared.edges.NodeState.TheVariants as node
+use Rattle.exec_laws.specs.Runs.{BoxHolds, CellHolds, CellPicture, EdgeHolds, KeepsFlags, MarkHolds, Running}
+use Rattle.exec_laws.specs.Moves.{Acts, StaysBox}
+use Rattle.exec_laws.proofs.Nodes.{apart, busy-born, edge-kept, moved-running}
 
 -- ---- what stays of a box
 
 same-both : (p q r : BoxPicture) → SameBox p q → SameBox q r → SameBox p r
-same-both p q r a b = record { kind = b.kind ∙ a.kind; lawful = b.lawful ∙ a.lawful; files = b.files ∙ a.files; spec = b.spec ∙ a.spec }
+same-both p q r a b = record {
+  kind = b.kind ∙ a.kind;
+  lawful = b.lawful ∙ a.lawful;
+  files = b.files ∙ a.files;
+  spec = b.spec ∙ a.spec;
+}
 
 pub stays-itself : (p : BoxPicture) → StaysBox p p
 stays-itself p = record {
@@ -45,123 +46,85 @@ stays-both p q r a b = record {
   pulled = record { count = omega (arith, a.pulled.count, b.pulled.count); since = omega (arith, a.pulled.since, b.pulled.since) };
 }
 
--- a call that pulls nothing
-pub stays-unpulled : (p q : BoxPicture) → SameBox p q → CountsOn p q → SamePulled p q → StaysBox p q
-stays-unpulled p q same counts pulled = record {
-  same = same;
-  counts = counts;
-  pulled = record { count = omega (arith, pulled.count); since = omega (arith, pulled.count, pulled.since) };
-}
-
--- ---- calls that answer no fault
-
-pub works-acts : (p q : BoxPicture) → SameBox p q → Works p q → Acts p q
-works-acts p q same w = record { same = same; view = w.same.view; fits = w.same.fits; growth = w.same.growth; faultless = w.faultless; not_handed_out = w.same.not_handed_out; keeps = w.keeps }
-
-pub schedules-acts : (a : Wake) (p q : BoxPicture) → SameBox p q → Schedules a p q → Acts p q
-schedules-acts a p q same s = record { same = same; view = s.view; fits = s.fits; growth = s.growth; faultless = s.faultless; not_handed_out = s.not_handed_out; keeps = s.keeps }
-
-pub acts-both : (p q r : BoxPicture) → Acts p q → Acts q r → Acts p r
-acts-both p q r a b = record {
-  same = same-both p q r a.same b.same;
-  view = b.view ∙ a.view;
-  fits = b.fits ∙ a.fits;
-  growth = b.growth ∙ a.growth;
-  faultless = b.faultless;
-  not_handed_out = b.not_handed_out;
-  keeps = λ l ins outs k. b.keeps (a.same.lawful ∙ l) ins outs (a.keeps l ins outs k);
-}
-
--- nothing was called
-pub acts-none : (p : BoxPicture) → IsRunning p → Acts p p
-acts-none p h = record {
-  same = record { kind = refl; lawful = refl; files = refl; spec = refl };
-  view = refl;
-  fits = refl;
-  growth = refl;
-  faultless = h.faultless;
-  not_handed_out = h.not_handed_out;
-  keeps = λ l ins outs k. k;
-}
-
--- after such calls the box may still be called
-pub acts-running : (p q : BoxPicture) → IsRunning p → Acts p q → IsRunning q
-acts-running p q h a = record { loaded = subst (λ z. IsSome z) (sym a.same.spec) h.loaded; faultless = a.faultless; not_handed_out = a.not_handed_out }
-
 -- ---- the node and its edges
 
-acted-node : (inputs outputs : ℕ) (x : Node) (q : BoxPicture) → Acts x.box q → x.mark.over ≡ false → NodeHolds inputs outputs x → NodeHolds inputs outputs (record x { box = q; mark = worked x.mark })
-acted-node inputs outputs x q a over h =
-    let before : IsTrue q.lawful → IsTrue x.box.lawful = (λ l. sym a.same.lawful ∙ l) in
-    let ports : HasPorts q x.view → HasPorts x.box x.view = (λ k.
-    subst (λ g. ArePortsOf x.box.spec g (in_count x.view) (out_count x.view)) a.growth
-    (subst (λ z. ArePortsOf z q.growth (in_count x.view) (out_count x.view)) a.same.spec k)) in
+acted-box : (inputs outputs : ℕ) (p q : BoxPicture) (v : Picture) (pulled pushed : Lists) → Acts p q
+    → BoxHolds inputs outputs p v pulled pushed → BoxHolds inputs outputs q v pulled pushed
+acted-box inputs outputs p q v pulled pushed a h =
+    let before : IsTrue q.lawful → IsTrue p.lawful = (λ l. sym a.same.lawful ∙ l) in
+    let ports : ArePortsOf q.spec q.growth inputs outputs → ArePortsOf p.spec p.growth inputs outputs = (λ k.
+    subst (λ g. ArePortsOf p.spec g inputs outputs) a.growth
+    (subst (λ z. ArePortsOf z q.growth inputs outputs) a.same.spec k)) in
     record {
-      running = acts-running x.box q h.running a;
+      running = record {
+        loaded = subst (λ z. IsSome z) (sym a.same.spec) h.running.loaded;
+        faultless = a.faultless;
+        not_handed_out = a.not_handed_out;
+      };
       not_list = λ k. h.not_list (sym a.same.kind ∙ k);
       sound = h.sound;
+      quiet = h.quiet;
       ins = h.ins;
       outs = h.outs;
-      follows = λ t. follows-same x.box q x.view a.view (h.follows t);
-      follows_lawful = λ l. follows-same x.box q x.view a.view (h.follows_lawful (before l));
       as_kept = subst (λ z. AreAsKept z inputs outputs) (sym a.view) h.as_kept;
       fits = λ l k. a.fits ∙ h.fits (before l) (ports k);
-      keeps = λ l k. a.keeps (before l) x.pulled x.pushed (h.keeps (before l) (ports k));
+      keeps = λ l k. a.keeps (before l) pulled pushed (h.keeps (before l) (ports k));
       nothing_past = h.nothing_past;
-      over = λ t. absurd (both_ways x.mark.over over t);
-      finished = λ t. absurd (both_ways x.mark.over over t);
-      at_rest = λ o d w. absurd (both_ways true d refl);
-      at_work = λ o w. absurd (both_ways false refl w);
+      nothing_pushed_past = h.nothing_pushed_past;
     }
 
-acted-output : (o : ℕ) (p q : BoxPicture) (f : Flags) (xs : List Action) (m : NodeMark) (e : Edge) → Acts p q → OutputHolds o p f xs m e → OutputHolds o q f xs (worked m) e
-unfolding kept_output
-acted-output o p q f xs m e a h = record {
-  fin_out = h.fin_out;
-  fin_in = h.fin_in;
-  allows = h.allows;
-  known = λ v d. absurd (both_ways true d refl);
-  over = h.over;
-  finished = λ l t. ap (λ k. (get_or (kept_ports k).outputs o no_flags).fin_out) a.view ∙ h.finished (sym a.same.lawful ∙ l) t;
+keeps-same : (p q : BoxPicture) (v : Picture) → q.notes.view ≡ p.notes.view → KeepsFlags p v → KeepsFlags q v
+unfolding kept_input kept_output kept_inputs kept_outputs
+keeps-same p q v e k = record {
+  ins = subst (λ n. n ≤ in_count v) (sym (ap (λ z. length (kept_ports z).inputs) e)) k.ins;
+  outs = subst (λ n. n ≤ out_count v) (sym (ap (λ z. length (kept_ports z).outputs) e)) k.outs;
+  inputs = λ i lt. ap (λ z. get_or (kept_ports z).inputs i no_flags) e ∙ k.inputs i lt;
+  outputs = λ o lt. ap (λ z. get_or (kept_ports z).outputs o no_flags) e ∙ k.outputs o lt;
 }
 
-acted-input : (i : ℕ) (p q : BoxPicture) (c : InputPort) (xs : List Action) (m : NodeMark) (e : Edge) → Acts p q → InputHolds i p c xs m e → InputHolds i q c xs (worked m) e
-unfolding kept_input
-acted-input i p q c xs m e a h = record {
-  needed = h.needed;
-  fin_in = h.fin_in;
-  fin_out = h.fin_out;
-  stays_empty = h.stays_empty;
-  data_there = h.data_there;
-  one_chunk = h.one_chunk;
-  known = λ v d. absurd (both_ways true d refl);
-  over = h.over;
-  closed = λ l t. ap (λ k. (get_or (kept_ports k).inputs i no_flags).fin_in) a.view ∙ h.closed (sym a.same.lawful ∙ l) t;
-}
-
--- A node that isn't over has worked or fetched without a fault, and is due.
-pub acted : (ranks : List ℕ) (wires : List Wire) (reserves : List Reserve) → IsGraph ranks wires reserves → (n : ℕ) → (nodes after : ℕ → Node) (edges : ℕ → Edge) (q : BoxPicture)
-    → (nodes n).mark.over ≡ false → Acts (nodes n).box q → after n ≡ record (nodes n) { box = q; mark = worked (nodes n).mark } → ((m : ℕ) → m ≢ n → after m ≡ nodes m)
-    → Running (length ranks) wires nodes edges → Running (length ranks) wires after edges
-acted ranks wires reserves g n nodes after edges q over acts here others r =
-    let x : Node = nodes n in
-    let y : Node = record x { box = q; mark = worked x.mark } in
-    record {
-      each = λ m lm. at-node (λ k. k < length ranks → NodeHolds (input_count wires k) (output_count wires k) (after k)) n m
-          (λ ln. subst (λ k. NodeHolds (input_count wires n) (output_count wires n) k) (sym here) (acted-node _ _ x q acts over (r.each n ln)))
-          (λ ne l. subst (λ k. NodeHolds (input_count wires m) (output_count wires m) k) (sym (others m ne)) (r.each m l)) lm;
-      joined = λ d ld.
-          let z : Wire = wire_at wires d in
-          by-ends (λ a b. EdgeHolds z.out z.input (after a) (after b) (edges d)) n z.from z.to
-          (λ td.
-          let nf : z.from ≢ n = (λ k. apart ranks wires reserves g d ld (k ∙ sym td)) in
-          let h : EdgeHolds z.out z.input (nodes z.from) x (edges d) = subst (λ k. EdgeHolds z.out z.input (nodes z.from) (nodes k) (edges d)) td (r.joined d ld) in
-          edge-kept z.out z.input (nodes z.from) y (after z.from) (after n) (edges d) (edges d) (others z.from nf) here refl
-          (record { from = h.from; to = acted-input z.input x.box q (input_at x.view z.input) x.view.actions x.mark (edges d) acts h.to; lists = h.lists }))
-          (λ fd.
-          let nt : z.to ≢ n = (λ k. apart ranks wires reserves g d ld (fd ∙ sym k)) in
-          let h : EdgeHolds z.out z.input x (nodes z.to) (edges d) = subst (λ k. EdgeHolds z.out z.input (nodes k) (nodes z.to) (edges d)) fd (r.joined d ld) in
-          edge-kept z.out z.input y (nodes z.to) (after n) (after z.to) (edges d) (edges d) here (others z.to nt) refl
-          (record { from = acted-output z.out x.box q (output_at x.view z.out) x.view.actions x.mark (edges d) acts h.from; to = h.to; lists = h.lists }))
-          (λ nf nt. edge-kept z.out z.input (nodes z.from) (nodes z.to) (after z.from) (after z.to) (edges d) (edges d) (others z.from nf) (others z.to nt) refl (r.joined d ld));
-    }
+-- A node that isn't over worked or fetched without a fault, and now it is due, or due a call.
+pub acted : (ranks : List ℕ) (wires : List Wire) (reserves : List Reserve) → IsGraph ranks wires reserves
+    → (n : ℕ) → n < length ranks → (cells after : ℕ → CellPicture) (edges : ℕ → Edge) (q : BoxPicture)
+    (s : NodeState) → ((cells n).mark.state ≡ node.Over → ⊥) → Acts (cells n).box q
+    → (s ≡ node.Resting → ⊥)
+    → MarkHolds s (cells n).mark.last (input_count wires n) (output_count wires n) q (cells n).view
+    → after n ≡ record (cells n) { box = q; mark = record { state = s; last = (cells n).mark.last } }
+    → ((m : ℕ) → m ≢ n → after m ≡ cells m)
+    → Running (length ranks) wires cells edges → Running (length ranks) wires after edges
+acted ranks wires reserves g n lt cells after edges q s busy acts awake holds own others r =
+    let c : CellPicture = cells n in
+    let d : CellPicture = record c { box = q; mark = record { state = s; last = c.mark.last } } in
+    let old : CellHolds (input_count wires n) (output_count wires n) c (r.pulled n) (r.pushed n) =
+    r.each n lt (busy-born (length ranks) wires cells edges r n lt busy) in
+    moved-running ranks wires reserves g n cells after edges edges (λ _. false) others r (r.pulled n) (r.pushed n)
+    (subst (λ x. CellHolds (input_count wires n) (output_count wires n) x (r.pulled n) (r.pushed n)) (sym own) record {
+      stands = acted-box _ _ c.box q c.view (r.pulled n) (r.pushed n) acts old.stands;
+      kept = λ _. keeps-same c.box q c.view acts.view (old.kept (λ e. absurd (busy e)));
+      mark = holds;
+    })
+    (λ e le to.
+    let w : Wire = wire_at wires e in
+    let j : EdgeHolds w (cells w.from) c (r.pushed w.from w.out) (r.pulled n w.input) (edges e) =
+    subst (λ m. EdgeHolds w (cells w.from) (cells m) (r.pushed w.from w.out) (r.pulled m w.input) (edges e)) to
+    (r.joined e le) in
+    edge-kept w (cells w.from) d (after w.from) (after n) _ _ _ _ (edges e) (edges e)
+    (others w.from (λ x. apart ranks wires reserves g e le (x ∙ sym to))) own refl refl refl
+    (record {
+      from = j.from;
+      to = record {
+        follows = j.to.follows;
+        data_there = j.to.data_there;
+        one_chunk = j.to.one_chunk;
+        known = λ x. absurd (awake x);
+      };
+      lists = j.lists;
+    }))
+    (λ e le from.
+    let w : Wire = wire_at wires e in
+    let j : EdgeHolds w c (cells w.to) (r.pushed n w.out) (r.pulled w.to w.input) (edges e) =
+    subst (λ m. EdgeHolds w (cells m) (cells w.to) (r.pushed m w.out) (r.pulled w.to w.input) (edges e)) from
+    (r.joined e le) in
+    edge-kept w d (cells w.to) (after n) (after w.to) _ _ _ _ (edges e) (edges e) own
+    (others w.to (λ x. apart ranks wires reserves g e le (from ∙ sym x))) refl refl refl
+    (record { from = record { follows = j.from.follows; known = λ x. absurd (awake x) }; to = j.to; lists = j.lists }))
+    (λ e le nf nt. refl)

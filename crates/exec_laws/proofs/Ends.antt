@@ -1,24 +1,98 @@
--- Where nothing is due: either each node is over, or some resting node's view belies its last status.
-use Rattle.std.proofs.Common.{◌≡◌, ℕ, ◌<◌, ◌++◌, not, ◌&&◌, ◌||◌, Bool, true, false, IsTrue, Option, Some, None, is_some, List, [], ◌∷◌, length, zero, suc, refl, sym, ap, subst, ◌∙◌, arith}
-use Rattle.std.proofs.lemmas.Bool.{or_parts, or_left, or_right, false_from_ne_true}
+-- Where nothing is due: either each born node is over, or some resting node's view belies its last status.
+use Rattle.std.proofs.Common.{◌≡◌, ℕ, ◌<◌, ◌++◌, not, ◌&&◌, ◌||◌, cond, Bool, true, false, IsTrue, Option, Some, None, IsSome, is_some, List, [], ◌∷◌, length, map, suc, refl, sym, ap, subst, ◌∙◌, arith, inl, inr}
+use Rattle.std.proofs.lemmas.Bool.{both_ways, or_parts, or_left, or_right, false_from_ne_true}
 use Rattle.std.proofs.lemmas.List.{append-nil}
 use Rattle.chunk_data.specs.Values.{Table}
+use Rattle.query_model.specs.declared.processor_spec.Spec.{Spec}
 use Rattle.port_word.specs.declared.flags.Flags.{Flags}
 use Rattle.port_word.specs.declared.flags.Wire.{Wire}
 use Rattle.port_word.specs.declared.flags.Reserve.{Reserve}
 use Rattle.port_word.specs.declared.port_view.InputPort.{InputPort}
 use Rattle.port_word.specs.Pictures.{input_at, output_at, in_count, out_count, is_in_finished, is_out_finished}
+use Rattle.proc_api.specs.declared.status.Status.{Status}
+use Rattle.proc_api.specs.declared.status.Status.TheVariants as status
+use Rattle.proc_api.specs.declared.status.Answer.{Answer}
+use Rattle.proc_api.specs.declared.status.Answer.TheVariants.{Prepared, Scheduled}
 use Rattle.proc_api.specs.Boxes.{BoxPicture, kept_input, kept_output}
-use Rattle.proc_api.specs.Histories.{pushes_to}
-use Rattle.proc_api.specs.Ports.{ArePortsOf}
 use Rattle.proc_api.specs.Clauses.{IsRunning}
-use Rattle.proc_api.specs.Settled.{RestingNode, Rests, IsSettled, IsSettledWire, HasInputWire, HasOutputWire, node_at, wire_at, port_at}
+use Rattle.proc_api.specs.Settled.{RestingNode, Rests, IsSettledWire, wire_at}
 use Rattle.proc_api.specs.Graphs.{IsGraph, rank_at, input_count, output_count}
-use Rattle.proc_api.proofs.Settled.{settled-over}
 use Rattle.proc_api.proofs.Graphs.{input-below-count, output-below-count, input-of-count, output-of-count}
 use Rattle.exec_laws.specs.declared.edges.Edge.{Edge}
-use Rattle.exec_laws.specs.Runs.{Node, NodeHolds, InputHolds, OutputHolds, EdgeHolds, Running, AllIdle, chunks_of, box_at}
-use Rattle.exec_laws.specs.Ends.{EdgeDone, LawfulDone, IsDone}
+use Rattle.exec_laws.specs.declared.edges.NodeState.{NodeState}
+use Rattle.exec_laws.specs.declared.edges.NodeState.TheVariants as node
+use Rattle.exec_laws.specs.declared.edges.StuckNode.{StuckNode}
+use Rattle.exec_laws.specs.Runs.{CellPicture, EdgeHolds, IsAtRest, IsBorn, IsOver, KeepsFlags, MarkHolds, MayRest, Running, box_at, cell_at, chunks_of, last_answer}
+use Rattle.exec_laws.specs.Moves.{is_resting, is_waiting}
+use Rattle.exec_laws.specs.Ends.{EdgeDone, IsDone, LawfulDone, is_finished, is_unfinished, last_status, stuck_cells, stuck_from}
+use Rattle.exec_laws.proofs.Nodes.{born-case, busy-born}
+use Rattle.exec_laws.proofs.Settled.{IsSettled, settled-over}
+
+-- ---- what a mark says where nothing is due
+
+-- no node is due or at work
+abbrev pub NothingDue : ℕ → (ℕ → CellPicture) → Type 0
+NothingDue count cells = (n : ℕ) → n < count → is_waiting (cells n).mark.state ≡ false
+
+rests-else-over : (s : NodeState) → is_waiting s ≡ false → is_resting s ≡ false → s ≡ node.Over
+rests-else-over node.Resting w r = absurd (cc)
+rests-else-over node.Due w r = absurd (cc)
+rests-else-over (node.AtWork c) w r = absurd (cc)
+rests-else-over node.Over w r = refl
+
+pub rests-so : (s : NodeState) → is_resting s ≡ true → s ≡ node.Resting
+rests-so node.Resting r = refl
+rests-so node.Due r = absurd (cc)
+rests-so (node.AtWork c) r = absurd (cc)
+rests-so node.Over r = absurd (cc)
+
+not-over : (s : NodeState) → is_resting s ≡ true → s ≡ node.Over → ⊥
+not-over s r e = both_ways (is_resting s) (ap is_resting e) r
+
+resting-holds : (s : NodeState) (last : Option Status) (m n : ℕ) (c : CellPicture) → s ≡ node.Resting
+    → MarkHolds s last m n c.box c.view → IsAtRest last c.box c.view
+resting-holds s last m n c e h = subst (λ k. MarkHolds k last m n c.box c.view) e h
+
+over-holds : (s : NodeState) (last : Option Status) (m n : ℕ) (c : CellPicture) → s ≡ node.Over
+    → MarkHolds s last m n c.box c.view → IsOver m n c.box c.view
+over-holds s last m n c e h = subst (λ k. MarkHolds k last m n c.box c.view) e h
+
+not-true : (b : Bool) → not b ≡ true → b ≡ false
+not-true true e = absurd (cc)
+not-true false e = refl
+
+not-false : (b : Bool) → not b ≡ false → b ≡ true
+not-false true e = refl
+not-false false e = absurd (cc)
+
+resting-unfinished : (a : Option Answer) → MayRest a → is_finished a ≡ false
+resting-unfinished None h = refl
+resting-unfinished (Some (Prepared status.NeedData)) h = refl
+resting-unfinished (Some (Prepared status.PortFull)) h = refl
+resting-unfinished (Some (Prepared status.Ready)) h = refl
+resting-unfinished (Some (Prepared status.Async)) h = refl
+resting-unfinished (Some (Prepared status.ExpandPipeline)) h = refl
+resting-unfinished (Some (Prepared status.Finished)) h = absurd h
+resting-unfinished (Some (Scheduled w)) h = refl
+
+answer-status : (last : Option Status) → last_status (last_answer last) ≡ last
+answer-status None = refl
+answer-status (Some s) = refl
+
+unfinished-by : (p : BoxPicture) → IsBorn p → is_finished p.notes.answer ≡ false → is_unfinished p ≡ true
+unfinished-by p born e = go p.spec born e
+  where
+    go : (s : Option Spec) → IsSome s → is_finished p.notes.answer ≡ false
+        → (is_some s && not (is_finished p.notes.answer)) ≡ true
+    go None born e = absurd (cc)
+    go (Some s) born e = ap not e
+
+finished-by : (p : BoxPicture) → is_finished p.notes.answer ≡ true → is_unfinished p ≡ false
+finished-by p e = go (is_some p.spec) e
+  where
+    go : (b : Bool) → is_finished p.notes.answer ≡ true → (b && not (is_finished p.notes.answer)) ≡ false
+    go true e = ap not e
+    go false e = refl
 
 -- ---- done
 
@@ -32,97 +106,45 @@ finished-empty false true true e f = absurd (cc)
 finished-empty false true false e f = (refl, refl)
 finished-empty false false d e f = absurd (cc)
 
+ended-bits : (o d : Bool) → (o && not d) ≡ true → (o ≡ true) × (d ≡ false)
+ended-bits true true e = absurd (cc)
+ended-bits true false e = (refl, refl)
+ended-bits false d e = absurd (cc)
+
 -- an edge whose nodes are both over
-edge-done : (w : Wire) (x y : Node) (e : Edge) → x.view.actions ≡ [] → y.view.actions ≡ [] → y.mark.over ≡ true
-    → (IsTrue x.box.lawful → (kept_output x.box w.out).fin_in ≡ true → (output_at x.view w.out).fin_in ≡ true)
-    → (IsTrue y.box.lawful → (kept_input y.box w.input).fin_out ≡ true → (input_at y.view w.input).flags.fin_out ≡ true)
-    → EdgeHolds w.out w.input x y e → EdgeDone w x.box y.box (y.pulled w.input) (x.pushed w.out) e.flags
-unfolding pushes_to
-edge-done w x y e quiet_x quiet_y over sees_in sees_out h =
+edge-done : (w : Wire) (m n : ℕ) (x y : CellPicture) (pushed pulled : List Table) (e : Edge)
+    → w.out < out_count x.view → w.input < in_count y.view → IsOver m n y.box y.view
+    → (IsTrue x.box.lawful → KeepsFlags x.box x.view) → (IsTrue y.box.lawful → KeepsFlags y.box y.view)
+    → EdgeHolds w x y pushed pulled e → EdgeDone w x.box y.box pulled pushed e.flags
+edge-done w m n x y pushed pulled e in_out in_in over kept_x kept_y h =
     let c : InputPort = input_at y.view w.input in
     let left : List Table = chunks_of c.chunk ++ chunks_of e.chunk in
-    let from : OutputHolds w.out x.box (output_at x.view w.out) [] x.mark e = subst (λ a. OutputHolds w.out x.box (output_at x.view w.out) a x.mark e) quiet_x h.from in
-    let to : InputHolds w.input y.box c [] y.mark e = subst (λ a. InputHolds w.input y.box c a y.mark e) quiet_y h.to in
-    let first : x.pushed w.out ≡ y.pulled w.input ++ left = subst (λ a. x.pushed w.out ≡ (y.pulled w.input ++ left) ++ pushes_to w.out a) quiet_x h.lists ∙ append-nil (y.pulled w.input ++ left) in
+    let none_left : c.flags.fin_out ≡ true → c.flags.has_data ≡ false → pulled ≡ pushed = (λ fin empty_seen.
+    let empty = or_parts (is_some c.chunk) (is_some e.chunk)
+    (sym h.to.data_there ∙ h.to.follows.stays_empty fin empty_seen) in
+    sym (append-nil pulled)
+    ∙ ap (λ k. pulled ++ k) (sym (none-of e.chunk empty.1))
+    ∙ ap (λ k. pulled ++ (k ++ chunks_of e.chunk)) (sym (none-of c.chunk empty.0))
+    ∙ sym h.lists) in
+    let input : IsTrue y.box.lawful → kept_input y.box w.input ≡ c.flags = (λ l. (kept_y l).inputs w.input in_in) in
+    let output : IsTrue x.box.lawful → kept_output x.box w.out ≡ output_at x.view w.out =
+    (λ l. (kept_x l).outputs w.out in_out) in
     record {
       left = left;
-      first = first;
+      first = h.lists;
       all = λ still_open.
-          let seen = finished-empty c.flags.fin_in c.flags.fin_out c.flags.has_data (to.over over) (sym to.fin_in ∙ still_open) in
-          let empty = or_parts (is_some c.chunk) (is_some e.chunk) (sym to.data_there ∙ to.stays_empty seen.0 seen.1) in
-          sym (append-nil (y.pulled w.input))
-          ∙ ap (λ k. y.pulled w.input ++ k) (sym (none-of e.chunk empty.1))
-          ∙ ap (λ k. y.pulled w.input ++ (k ++ chunks_of e.chunk)) (sym (none-of c.chunk empty.0))
-          ∙ sym first;
-      closed = to.closed;
-      finished = from.finished;
-      sees_finished = λ l k. to.fin_out (sees_out l k);
-      sees_closed = λ l k. from.fin_in (sees_in l k);
+          let seen = finished-empty c.flags.fin_in c.flags.fin_out c.flags.has_data
+          (over.ports.inputs w.input in_in) (sym h.to.follows.fin_in ∙ still_open) in
+          none_left seen.0 seen.1;
+      ended = λ l k.
+          let kept = ended-bits c.flags.fin_out c.flags.has_data
+          (ap (λ (f : Flags). f.fin_out && not f.has_data) (sym (input l)) ∙ k) in
+          none_left kept.0 kept.1;
+      closed = λ l k. ap (λ (f : Flags). f.fin_in) (input l) ∙ sym h.to.follows.fin_in ∙ k;
+      finished = λ l k. ap (λ (f : Flags). f.fin_out) (output l) ∙ sym h.from.follows.fin_out ∙ k;
+      sees_finished = λ l k. h.to.follows.fin_out (ap (λ (f : Flags). f.fin_out) (sym (input l)) ∙ k);
+      sees_closed = λ l k. h.from.follows.fin_in (ap (λ (f : Flags). f.fin_in) (sym (output l)) ∙ k);
     }
-
--- Where each node is over, the run is done.
-pub done : (ranks : List ℕ) (wires : List Wire) (reserves : List Reserve) → IsGraph ranks wires reserves → (boxes : List BoxPicture) (nodes : ℕ → Node) (edges : ℕ → Edge)
-    → length boxes ≡ length ranks → ((n : ℕ) → box_at boxes n ≡ (nodes n).box) → AllIdle nodes → ((n : ℕ) → n < length ranks → (nodes n).mark.over ≡ true)
-    → Running (length ranks) wires nodes edges → IsDone wires boxes
-done ranks wires reserves g boxes nodes edges len same idle over r = record {
-  pulled = λ n. (nodes n).pulled;
-  pushed = λ n. (nodes n).pushed;
-  ports = λ e. (edges e).flags;
-  over = λ n lt. let in_range : n < length ranks = subst (λ k. n < k) len lt in ap (λ (p : BoxPicture). p.notes.answer) (same n) ∙ (r.each n in_range).over (over n in_range);
-  running = λ n lt. subst (λ p. IsRunning p) (sym (same n)) (r.each n (subst (λ k. n < k) len lt)).running;
-  each = λ n lt.
-      let in_range : n < length ranks = subst (λ k. n < k) len lt in
-      let h : NodeHolds (input_count wires n) (output_count wires n) (nodes n) = r.each n in_range in
-      subst (λ p. IsTrue p.lawful → LawfulDone (input_count wires n) (output_count wires n) p (nodes n).pulled (nodes n).pushed) (sym (same n)) (λ l. record {
-        keeps = λ k. h.keeps l (subst (λ i. ArePortsOf (nodes n).box.spec (nodes n).box.growth i (out_count (nodes n).view)) (sym h.ins) (subst (λ o. ArePortsOf (nodes n).box.spec (nodes n).box.growth (input_count wires n) o) (sym h.outs) k));
-        finished = h.finished (over n in_range) l;
-        nothing_past = h.nothing_past;
-      });
-  joined = λ d ld.
-      let z : Wire = wire_at wires d in
-      let lf = (g.so_far.edges d ld).from_in_range in
-      let lt = (g.so_far.edges d ld).to_in_range in
-      let hf : NodeHolds (input_count wires z.from) (output_count wires z.from) (nodes z.from) = r.each z.from lf in
-      let ht : NodeHolds (input_count wires z.to) (output_count wires z.to) (nodes z.to) = r.each z.to lt in
-      let in_out : z.out < out_count (nodes z.from).view = subst (λ k. z.out < k) (sym hf.outs) (output-below-count ranks wires reserves g d ld) in
-      let in_in : z.input < in_count (nodes z.to).view = subst (λ k. z.input < k) (sym ht.ins) (input-below-count ranks wires reserves g d ld) in
-      subst (λ p. EdgeDone z p (box_at boxes z.to) ((nodes z.to).pulled z.input) ((nodes z.from).pushed z.out) (edges d).flags) (sym (same z.from))
-      (subst (λ q. EdgeDone z (nodes z.from).box q ((nodes z.to).pulled z.input) ((nodes z.from).pushed z.out) (edges d).flags) (sym (same z.to))
-      (edge-done z (nodes z.from) (nodes z.to) (edges d) (idle z.from) (idle z.to) (over z.to lt)
-      (λ l k. ((hf.follows_lawful l).outputs z.out in_out).fin_in k)
-      (λ l k. ((ht.follows_lawful l).inputs z.input in_in).fin_out k)
-      (r.joined d ld)));
-}
-
--- ---- stuck
-
--- the first k values of a function
-abbrev firsts : {A : Type 0} → (ℕ → A) → ℕ → List A
-firsts f zero = []
-firsts f (suc k) = f 0 ∷ firsts (λ n. f (suc n)) k
-
-firsts-length : {A : Type 0} (f : ℕ → A) (k : ℕ) → length (firsts f k) ≡ k
-firsts-length f zero = refl
-firsts-length f (suc k) = ap suc (firsts-length (λ n. f (suc n)) k)
-
-node-of-firsts : (f : ℕ → RestingNode) (k n : ℕ) → n < k → node_at (firsts f k) n ≡ f n
-unfolding node_at
-node-of-firsts f zero n lt = absurd (omega (arith, lt))
-node-of-firsts f (suc k) zero lt = refl
-node-of-firsts f (suc k) (suc n) lt = node-of-firsts (λ m. f (suc m)) k n (omega (arith, lt))
-
-port-of-firsts : (f : ℕ → Flags) (k n : ℕ) → n < k → port_at (firsts f k) n ≡ f n
-unfolding port_at
-port-of-firsts f zero n lt = absurd (omega (arith, lt))
-port-of-firsts f (suc k) zero lt = refl
-port-of-firsts f (suc k) (suc n) lt = port-of-firsts (λ m. f (suc m)) k n (omega (arith, lt))
-
--- no node that isn't over is due or at work
-abbrev pub NothingDue : ℕ → (ℕ → Node) → Type 0
-NothingDue count nodes = (n : ℕ) → n < count → (nodes n).mark.over ≡ false → ((nodes n).mark.due ≡ false) × ((nodes n).mark.at_work ≡ false)
-
-abbrev resting : List ℕ → (ℕ → Node) → ℕ → RestingNode
-resting ranks nodes n = record { rank = rank_at ranks n; is_over = (nodes n).mark.over; last = (nodes n).mark.last; view = (nodes n).view }
 
 shown-output : (f g : Flags) → g.fin_out ≡ f.fin_out → (f.fin_in ≡ true → g.fin_in ≡ true) → is_out_finished f ≡ true → is_out_finished g ≡ true
 shown-output f g out ins e = bits f.fin_out f.fin_in g.fin_out g.fin_in out ins e
@@ -139,60 +161,175 @@ shown-input f g ins out e = bits f.fin_in f.fin_out f.has_data g.fin_out g.fin_i
     bits false true d o' i' same rises e = or_left o' i' (rises refl)
     bits false false d o' i' same rises e = absurd (cc)
 
-settled-wire : (w : Wire) (a b : ℕ) (x y : Node) (e : Edge) → a < b → x.view.actions ≡ [] → y.view.actions ≡ [] → (x.mark.over ≡ false → x.mark.due ≡ false) → (y.mark.over ≡ false → y.mark.due ≡ false) → EdgeHolds w.out w.input x y e
-    → IsSettledWire (record { rank = a; is_over = x.mark.over; last = x.mark.last; view = x.view }) (record { rank = b; is_over = y.mark.over; last = y.mark.last; view = y.view }) w e.flags
-settled-wire w a b x y e ranked quiet_x quiet_y due_x due_y h =
-    let from : OutputHolds w.out x.box (output_at x.view w.out) [] x.mark e = subst (λ z. OutputHolds w.out x.box (output_at x.view w.out) z x.mark e) quiet_x h.from in
-    let to : InputHolds w.input y.box (input_at y.view w.input) [] y.mark e = subst (λ z. InputHolds w.input y.box (input_at y.view w.input) z y.mark e) quiet_y h.to in
-    record {
-      ranked = ranked;
-      consumer = λ t. to.known t (due_y t);
-      producer = λ t. from.known t (due_x t);
-      from_over = λ t. shown-output (output_at x.view w.out) e.flags from.fin_out from.fin_in (from.over t);
-      to_over = λ t. shown-input (input_at y.view w.input).flags e.flags to.fin_in to.fin_out (to.over t);
-    }
+module _ (ranks : List ℕ) (wires : List Wire) (reserves : List Reserve) (g : IsGraph ranks wires reserves)
+    (cells : ℕ → CellPicture) (edges : ℕ → Edge) (r : Running (length ranks) wires cells edges) where
+  in-output : (e : ℕ) → e < length wires → (wire_at wires e).out < out_count (cells (wire_at wires e).from).view
+  in-output e lt =
+      let w : Wire = wire_at wires e in
+      subst (λ k. w.out < k)
+      (sym (r.each w.from (g.so_far.edges e lt).from_in_range (r.from_born e lt)).stands.outs)
+      (output-below-count ranks wires reserves g e lt)
 
-settled-graph : (ranks : List ℕ) (wires : List Wire) (reserves : List Reserve) → IsGraph ranks wires reserves → (nodes : ℕ → Node) (edges : ℕ → Edge) → AllIdle nodes → NothingDue (length ranks) nodes
-    → ((n : ℕ) → n < length ranks → (nodes n).mark.over ≡ false → Rests (nodes n).mark.last (nodes n).view) → Running (length ranks) wires nodes edges
-    → IsSettled (firsts (resting ranks nodes) (length ranks)) wires (firsts (λ e. (edges e).flags) (length wires))
-settled-graph ranks wires reserves g nodes edges idle due rest r =
-    let all : List RestingNode = firsts (resting ranks nodes) (length ranks) in
-    let len : length all ≡ length ranks = firsts-length (resting ranks nodes) (length ranks) in
-    let at : (n : ℕ) → n < length ranks → node_at all n ≡ resting ranks nodes n = node-of-firsts (resting ranks nodes) (length ranks) in
-    let below : (n : ℕ) → n < length all → n < length ranks = (λ n lt. subst (λ k. n < k) len lt) in
-    record {
-      rests = λ n lt. subst (λ (x : RestingNode). x.is_over ≡ false → Rests x.last x.view) (sym (at n (below n lt))) (rest n (below n lt));
-      wired = record {
-        inputs = λ n i lt. subst (λ (x : RestingNode). x.is_over ≡ false → i < in_count x.view → HasInputWire wires n i) (sym (at n (below n lt)))
-            (λ _ within. input-of-count ranks wires reserves g n i (subst (λ k. i < k) (r.each n (below n lt)).ins within));
-        outputs = λ n o lt. subst (λ (x : RestingNode). x.is_over ≡ false → o < out_count x.view → HasOutputWire wires n o) (sym (at n (below n lt)))
-            (λ _ within. output-of-count ranks wires reserves g n o (subst (λ k. o < k) (r.each n (below n lt)).outs within));
-        from_in_range = λ e lt. subst (λ k. (wire_at wires e).from < k) (sym len) (g.so_far.edges e lt).from_in_range;
-        to_in_range = λ e lt. subst (λ k. (wire_at wires e).to < k) (sym len) (g.so_far.edges e lt).to_in_range;
+  in-input : (e : ℕ) → e < length wires → (wire_at wires e).input < in_count (cells (wire_at wires e).to).view
+  in-input e lt =
+      let w : Wire = wire_at wires e in
+      subst (λ k. w.input < k)
+      (sym (r.each w.to (g.so_far.edges e lt).to_in_range (r.to_born e lt)).stands.ins)
+      (input-below-count ranks wires reserves g e lt)
+
+  -- Where each node is over, the run is done.
+  pub done : (boxes : List BoxPicture) → length boxes ≡ length ranks
+      → ((n : ℕ) → n < length ranks → box_at boxes n ≡ (cells n).box)
+      → ((n : ℕ) → n < length ranks → (cells n).mark.state ≡ node.Over) → IsDone wires boxes
+  done boxes len same over =
+      let in_range : (n : ℕ) → n < length boxes → n < length ranks = (λ n lt. subst (λ k. n < k) len lt) in
+      let holds : (n : ℕ) → n < length ranks → IsBorn (cells n).box
+      → IsOver (input_count wires n) (output_count wires n) (cells n).box (cells n).view = (λ n lt born.
+      over-holds _ _ _ _ (cells n) (over n lt) (r.each n lt born).mark) in
+      record {
+        pulled = r.pulled;
+        pushed = r.pushed;
+        ports = λ e. (edges e).flags;
+        over = λ n lt. let k : n < length ranks = in_range n lt in
+            subst (λ p. IsBorn p → p.notes.answer ≡ Some (Prepared status.Finished)) (sym (same n k))
+            (λ born. (holds n k born).answer);
+        running = λ n lt. let k : n < length ranks = in_range n lt in
+            subst (λ p. IsBorn p → IsRunning p) (sym (same n k)) (λ born. (r.each n k born).stands.running);
+        each = λ n lt. let k : n < length ranks = in_range n lt in
+            subst (λ p. IsBorn p → IsTrue p.lawful → LawfulDone (input_count wires n) (output_count wires n) p
+            (r.pulled n) (r.pushed n)) (sym (same n k)) (λ born l. record {
+              keeps = (r.each n k born).stands.keeps l;
+              finished = (holds n k born).kept l;
+              nothing_past = (r.each n k born).stands.nothing_past;
+              nothing_pushed_past = (r.each n k born).stands.nothing_pushed_past;
+            });
         joined = λ e lt.
             let w : Wire = wire_at wires e in
-            let lf = (g.so_far.edges e lt).from_in_range in
-            let lo = (g.so_far.edges e lt).to_in_range in
-            subst (λ x. IsSettledWire x (node_at all w.to) w (port_at (firsts (λ e. (edges e).flags) (length wires)) e)) (sym (at w.from lf))
-            (subst (λ y. IsSettledWire (resting ranks nodes w.from) y w (port_at (firsts (λ e. (edges e).flags) (length wires)) e)) (sym (at w.to lo))
-            (subst (λ f. IsSettledWire (resting ranks nodes w.from) (resting ranks nodes w.to) w f) (sym (port-of-firsts (λ e. (edges e).flags) (length wires) e lt))
-            (settled-wire w (rank_at ranks w.from) (rank_at ranks w.to) (nodes w.from) (nodes w.to) (edges e) (g.so_far.edges e lt).ranked (idle w.from) (idle w.to) (λ t. (due w.from lf t).0) (λ t. (due w.to lo t).0) (r.joined e lt))));
-      };
+            let from_lt : w.from < length ranks = (g.so_far.edges e lt).from_in_range in
+            let to_lt : w.to < length ranks = (g.so_far.edges e lt).to_in_range in
+            subst (λ p. EdgeDone w p (box_at boxes w.to) (r.pulled w.to w.input) (r.pushed w.from w.out) (edges e).flags)
+            (sym (same w.from from_lt))
+            (subst (λ p. EdgeDone w (cells w.from).box p (r.pulled w.to w.input) (r.pushed w.from w.out) (edges e).flags)
+            (sym (same w.to to_lt))
+            (edge-done w _ _ (cells w.from) (cells w.to) _ _ (edges e) (in-output e lt) (in-input e lt)
+            (holds w.to to_lt (r.to_born e lt))
+            (λ l. (r.each w.from from_lt (r.from_born e lt)).kept (λ _. l))
+            (λ l. (r.each w.to to_lt (r.to_born e lt)).kept (λ _. l)) (r.joined e lt)));
+      }
+
+  -- ---- stuck
+
+  module _ (due : NothingDue (length ranks) cells) where
+    at-rest : (n : ℕ) → n < length ranks → is_resting (cells n).mark.state ≡ true
+        → IsAtRest (cells n).mark.last (cells n).box (cells n).view
+    at-rest n lt s =
+        let born = busy-born (length ranks) wires cells edges r n lt (not-over (cells n).mark.state s) in
+        resting-holds _ _ _ _ (cells n) (rests-so (cells n).mark.state s) (r.each n lt born).mark
+
+    -- a resting node whose view belies its last status has an unlawful box
+    pub liar-unlawful : (n : ℕ) → n < length ranks → is_resting (cells n).mark.state ≡ true
+        → (Rests (cells n).mark.last (cells n).view → ⊥) → (cells n).box.lawful ≡ false
+    liar-unlawful n lt s belies = false_from_ne_true (cells n).box.lawful (λ l. belies ((at-rest n lt s).rests l))
+
+    abbrev resting : ℕ → RestingNode
+    resting n = record {
+      rank = rank_at ranks n;
+      is_over = not (is_resting (cells n).mark.state);
+      last = (cells n).mark.last;
+      view = (cells n).view;
     }
 
--- Where nothing is due and each resting node's view bears out its last status, each node is over.
-pub all-over : (ranks : List ℕ) (wires : List Wire) (reserves : List Reserve) → IsGraph ranks wires reserves → (nodes : ℕ → Node) (edges : ℕ → Edge) → AllIdle nodes → NothingDue (length ranks) nodes
-    → ((n : ℕ) → n < length ranks → (nodes n).mark.over ≡ false → Rests (nodes n).mark.last (nodes n).view) → Running (length ranks) wires nodes edges
-    → (n : ℕ) → n < length ranks → (nodes n).mark.over ≡ true
-all-over ranks wires reserves g nodes edges idle due rest r n lt =
-    let s = settled-graph ranks wires reserves g nodes edges idle due rest r in
-    let in_list : n < length (firsts (resting ranks nodes) (length ranks)) = subst (λ k. n < k) (sym (firsts-length (resting ranks nodes) (length ranks))) lt in
-    sym (ap (λ (x : RestingNode). x.is_over) (node-of-firsts (resting ranks nodes) (length ranks) n lt)) ∙ settled-over _ _ _ s n in_list
+    -- the mark of a node that isn't over says Resting, and the other way round
+    over-so : (n : ℕ) → n < length ranks → (resting n).is_over ≡ true → (cells n).mark.state ≡ node.Over
+    over-so n lt e = rests-else-over (cells n).mark.state (due n lt) (not-true (is_resting (cells n).mark.state) e)
 
--- Where nothing is due, a resting node whose view belies its last status has an unlawful box.
-pub liar-unlawful : (count : ℕ) (wires : List Wire) (nodes : ℕ → Node) (edges : ℕ → Edge) → NothingDue count nodes → Running count wires nodes edges
-    → (n : ℕ) → n < count → (nodes n).mark.over ≡ false → (Rests (nodes n).mark.last (nodes n).view → ⊥) → (nodes n).box.lawful ≡ false
-liar-unlawful count wires nodes edges due r n lt over belies =
-    let h = r.each n lt in
-    let d = due n lt over in
-    false_from_ne_true (nodes n).box.lawful (λ l. belies ((h.at_rest over d.0 d.1).rests l))
+    open-so : (n : ℕ) → (resting n).is_over ≡ false → is_resting (cells n).mark.state ≡ true
+    open-so n e = not-false (is_resting (cells n).mark.state) e
+
+    settled-wire : (e : ℕ) → e < length wires
+        → IsSettledWire (resting (wire_at wires e).from) (resting (wire_at wires e).to) (wire_at wires e) (edges e).flags
+    settled-wire e lt =
+        let w : Wire = wire_at wires e in
+        let from_lt : w.from < length ranks = (g.so_far.edges e lt).from_in_range in
+        let to_lt : w.to < length ranks = (g.so_far.edges e lt).to_in_range in
+        let h = r.joined e lt in
+        record {
+          ranked = (g.so_far.edges e lt).ranked;
+          consumer = λ t. h.to.known (rests-so (cells w.to).mark.state (open-so w.to t));
+          producer = λ t. h.from.known (rests-so (cells w.from).mark.state (open-so w.from t));
+          from_over = λ t.
+              let over = over-holds _ _ _ _ (cells w.from) (over-so w.from from_lt t)
+              (r.each w.from from_lt (r.from_born e lt)).mark in
+              shown-output (output_at (cells w.from).view w.out) (edges e).flags h.from.follows.fin_out
+              h.from.follows.fin_in (over.ports.outputs w.out (in-output e lt));
+          to_over = λ t.
+              let over = over-holds _ _ _ _ (cells w.to) (over-so w.to to_lt t)
+              (r.each w.to to_lt (r.to_born e lt)).mark in
+              shown-input (input_at (cells w.to).view w.input).flags (edges e).flags h.to.follows.fin_in
+              h.to.follows.fin_out (over.ports.inputs w.input (in-input e lt));
+        }
+
+    -- Where each resting node's view bears out its last status, each node is over.
+    pub all-over : ((n : ℕ) → n < length ranks → is_resting (cells n).mark.state ≡ true
+        → Rests (cells n).mark.last (cells n).view) → (n : ℕ) → n < length ranks → (cells n).mark.state ≡ node.Over
+    all-over rest n lt =
+        let born : (m : ℕ) → m < length ranks → (resting m).is_over ≡ false → IsBorn (cells m).box = (λ m l t.
+        busy-born (length ranks) wires cells edges r m l (not-over (cells m).mark.state (open-so m t))) in
+        let s : IsSettled (length ranks) resting wires (λ e. (edges e).flags) = record {
+          rests = λ m l t. rest m l (open-so m t);
+          inputs = λ m i l t within. input-of-count ranks wires reserves g m i
+              (subst (λ k. i < k) (r.each m l (born m l t)).stands.ins within);
+          outputs = λ m o l t within. output-of-count ranks wires reserves g m o
+              (subst (λ k. o < k) (r.each m l (born m l t)).stands.outs within);
+          from_in_range = λ e l. (g.so_far.edges e l).from_in_range;
+          to_in_range = λ e l. (g.so_far.edges e l).to_in_range;
+          joined = settled-wire;
+        } in
+        over-so n lt (settled-over (length ranks) resting wires (λ e. (edges e).flags) s n lt)
+
+    -- the box is unfinished exactly where its node rests
+    pub unfinished-rests : (n : ℕ) → n < length ranks
+        → is_unfinished (cells n).box ≡ is_resting (cells n).mark.state
+    unfinished-rests n lt = by-mark (is_resting (cells n).mark.state) refl
+      where
+        by-mark : (b : Bool) → is_resting (cells n).mark.state ≡ b → is_unfinished (cells n).box ≡ b
+        by-mark true e =
+            unfinished-by (cells n).box (busy-born (length ranks) wires cells edges r n lt
+            (not-over (cells n).mark.state e)) (resting-unfinished _ (at-rest n lt e).may_rest)
+        by-mark false e = elim (born-case (cells n).box.spec) [
+          | inl born ↦
+              let over = over-holds _ _ _ _ (cells n) (rests-else-over (cells n).mark.state (due n lt) e)
+              (r.each n lt born).mark in
+              finished-by (cells n).box (ap is_finished over.answer)
+          | inr blank ↦ ap (λ z. is_some z && not (is_finished (cells n).box.notes.answer)) blank
+        ]
+
+    -- it rests on the last status of its mark
+    pub rests-on : (n : ℕ) → n < length ranks → is_resting (cells n).mark.state ≡ true
+        → last_status (cells n).box.notes.answer ≡ (cells n).mark.last
+    rests-on n lt e = ap last_status (at-rest n lt e).answer ∙ answer-status (cells n).mark.last
+
+    pub may-rest : (n : ℕ) → n < length ranks → is_resting (cells n).mark.state ≡ true
+        → MayRest (cells n).box.notes.answer
+    may-rest n lt e = (at-rest n lt e).may_rest
+
+-- the report by the marks is the one by the boxes
+pub same-report : (k : ℕ) (cells : List CellPicture)
+    → ((n : ℕ) → n < length cells → is_unfinished (cell_at cells n).box ≡ is_resting (cell_at cells n).mark.state)
+    → ((n : ℕ) → n < length cells → is_resting (cell_at cells n).mark.state ≡ true
+    → last_status (cell_at cells n).box.notes.answer ≡ (cell_at cells n).mark.last)
+    → stuck_cells k cells ≡ stuck_from k (map (λ (c : CellPicture). c.box) cells)
+unfolding cell_at
+same-report k [] same last = refl
+same-report k (c ∷ cells) same last =
+    let rest : stuck_cells (suc k) cells ≡ stuck_from (suc k) (map (λ (x : CellPicture). x.box) cells) =
+    same-report (suc k) cells (λ n lt. same (suc n) (omega (arith, lt))) (λ n lt. last (suc n) (omega (arith, lt))) in
+    listed (is_resting c.mark.state) (is_unfinished c.box) (λ l. record { node = k; last = l }) c.mark.last
+    (last_status c.box.notes.answer) _ _ (sym (same 0 (omega arith))) (λ e. sym (last 0 (omega arith) e)) rest
+  where
+    listed : (b d : Bool) (f : Option Status → StuckNode) (l l' : Option Status) (xs ys : List StuckNode) → b ≡ d
+        → (b ≡ true → l ≡ l') → xs ≡ ys → cond b (f l ∷ xs) xs ≡ cond d (f l' ∷ ys) ys
+    listed true true f l l' xs ys e same rest = ap (λ z. f z ∷ xs) (same refl) ∙ ap (λ z. f l' ∷ z) rest
+    listed true false f l l' xs ys e same rest = absurd (cc)
+    listed false true f l l' xs ys e same rest = absurd (cc)
+    listed false false f l l' xs ys e same rest = rest

@@ -1,8 +1,9 @@
 pub mod Ports
-pub mod Nodes
+pub mod Sides
 pub mod Seeing
-pub mod Preparing
-pub mod Carrying
+pub mod Nodes
+pub mod Turns
 pub mod Acting
 pub mod Starting
+pub mod Settled
 pub mod Ends

@@ -1,35 +1,21 @@
 -- What calls and their actions leave at one port.
-use Rattle.std.proofs.Common.{◌≡◌, ℕ, ◌<◌, ◌==◌, not, ◌&&◌, ◌||◌, Bool, true, false, cond, Option, Some, None, List, [], ◌∷◌, length, get_or, refl, sym, ap, subst, ◌∙◌, inl, inr, ◌⊎◌}
-use Rattle.std.proofs.lemmas.Bool.{both_ways}
-use Rattle.std.proofs.lemmas.List.{get_or-map, get_or_default, length-map}
+use Rattle.std.proofs.Common.{◌≡◌, ℕ, ◌==◌, not, ◌&&◌, ◌||◌, Bool, true, false, cond, Option, Some, None, List, [], ◌∷◌, refl, ap, ◌∙◌, inl, inr, ◌⊎◌}
+use Rattle.std.proofs.lemmas.Bool.{both_ways, or_parts}
 use Rattle.chunk_data.specs.Values.{Table}
 use Rattle.port_word.specs.declared.flags.Flags.{Flags}
 use Rattle.port_word.specs.declared.flags.Action.{Action}
 use Rattle.port_word.specs.declared.flags.Action.TheVariants.{Want, Unwant, Pull, Close, Push, Finish}
-use Rattle.port_word.specs.declared.port_view.InputPort.{InputPort}
-use Rattle.port_word.specs.Pictures.{Picture, input_at, output_at, in_count, out_count, with_input, with_output, with_actions, no_input, no_flags, over_flags, holds_data, can_push}
-use Rattle.port_word.specs.Actions.{input_after, chunk_after, InputAllows, OutputAllows}
+use Rattle.port_word.specs.declared.flags.Port.TheVariants.{Input, Output}
+use Rattle.port_word.specs.Pictures.{Picture, input_at, output_at, in_count, out_count, with_input, with_output, with_actions, holds_data, can_push}
+use Rattle.port_word.specs.Actions.{input_after, chunk_after, output_after, InputAllows, OutputAllows}
 use Rattle.port_word.specs.Calls.{emptied, closed, with_needed}
 use Rattle.port_word.specs.Differences.{PortCall, pull_call, need_call, close_call, push_call, finish_call, after_call, after_calls, ChangedByCalls}
 use Rattle.port_word.proofs.Laws.{in_count-with_input, out_count-with_input, in_count-with_output, out_count-with_output}
-use Rattle.proc_api.specs.Boxes.{BoxPicture, kept_input, kept_output, kept_inputs, kept_outputs, kept_ports}
 use Rattle.proc_api.specs.Histories.{pushes_to}
-use Rattle.proc_api.specs.Clauses.{port_flags}
+use Rattle.proc_api.specs.Settled.{ProducerKnows}
+use Rattle.exec_laws.specs.Moves.{put_after, is_told}
 
--- ---- pulls and pushes among actions
-
-same-chunk : (b : Bool) (c : Option Table) → cond b c c ≡ c
-same-chunk true c = refl
-same-chunk false c = refl
-
-pub pulled-none : (i : ℕ) (xs : List Action) → chunk_after i xs None ≡ None
-pulled-none i [] = refl
-pulled-none i (Want j ∷ xs) = pulled-none i xs
-pulled-none i (Unwant j ∷ xs) = pulled-none i xs
-pulled-none i (Pull j ∷ xs) = ap (λ c. chunk_after i xs c) (same-chunk (i == j) None) ∙ pulled-none i xs
-pulled-none i (Close j ∷ xs) = pulled-none i xs
-pulled-none i (Push j chunk ∷ xs) = pulled-none i xs
-pulled-none i (Finish j ∷ xs) = pulled-none i xs
+-- ---- pulls among actions
 
 -- the chunk at an input was pulled, or it and the data stayed
 pub record IsPulledOut (f g : Flags) (d : Option Table) : Type 0 where
@@ -44,91 +30,177 @@ pub record IsLeftThere (f g : Flags) (c d : Option Table) : Type 0 where
 abbrev pub PullCase : Flags → Flags → Option Table → Option Table → Type 0
 PullCase f g c d = IsPulledOut f g d ⊎ IsLeftThere f g c d
 
--- the same from earlier flags
-earlier : (f h g : Flags) (c d : Option Table) → (holds_data h ≡ true → holds_data f ≡ true) → h.has_data ≡ f.has_data → PullCase h g c d → PullCase f g c d
-earlier f h g c d holds same (inl p) = inl record { was_there = holds p.was_there; chunk = p.chunk; data_gone = p.data_gone }
-earlier f h g c d holds same (inr p) = inr record { chunk = p.chunk; data_same = p.data_same ∙ same }
+want-there : (b n : Bool) (f g : Flags) (c d : Option Table)
+    → PullCase (cond b (record f { needed = n }) f) g c d → PullCase f g c d
+want-there true n f g c d (inl p) =
+    inl record { was_there = p.was_there; chunk = p.chunk; data_gone = p.data_gone }
+want-there true n f g c d (inr p) = inr record { chunk = p.chunk; data_same = p.data_same }
+want-there false n f g c d p = p
 
 both-false : (b : Bool) → (b && false) ≡ true → ⊥
-both-false true e = absurd (cc)
-both-false false e = absurd (cc)
+both-false true e = cc
+both-false false e = cc
 
-want-holds : (b n : Bool) (f : Flags) → holds_data (cond b (record f { needed = n }) f) ≡ true → holds_data f ≡ true
-want-holds true n f e = e
-want-holds false n f e = e
+close-there : (b : Bool) (f g : Flags) (c d : Option Table)
+    → PullCase (cond b (record f { fin_in = true }) f) g c d → PullCase f g c d
+close-there true f g c d (inl p) = absurd (both-false f.has_data p.was_there)
+close-there true f g c d (inr p) = inr record { chunk = p.chunk; data_same = p.data_same }
+close-there false f g c d p = p
 
-want-data : (b n : Bool) (f : Flags) → (cond b (record f { needed = n }) f).has_data ≡ f.has_data
-want-data true n f = refl
-want-data false n f = refl
-
-close-holds : (b : Bool) (f : Flags) → holds_data (cond b (record f { fin_in = true }) f) ≡ true → holds_data f ≡ true
-close-holds true f e = absurd (both-false f.has_data e)
-close-holds false f e = e
-
-close-data : (b : Bool) (f : Flags) → (cond b (record f { fin_in = true }) f).has_data ≡ f.has_data
-close-data true f = refl
-close-data false f = refl
-
--- an action that pulls here, or elsewhere
-pull-at : (b : Bool) (i : ℕ) (xs : List Action) (f : Flags) (c : Option Table) → (not b || holds_data f) ≡ true
-    → ((h : Flags) (d : Option Table) → h ≡ cond b (record f { has_data = false }) f → PullCase h (input_after i xs h) d (chunk_after i xs d))
-    → PullCase f (input_after i xs (cond b (record f { has_data = false }) f)) c (chunk_after i xs (cond b None c))
-pull-at true i xs f c allows rest = pulled (rest (record f { has_data = false }) None refl)
+pull-there : (b : Bool) (i : ℕ) (xs : List Action) (f : Flags) (c : Option Table)
+    → (not b || holds_data f) ≡ true
+    → ((h : Flags) (d : Option Table) → InputAllows i xs h
+    → PullCase h (input_after i xs h) d (chunk_after i xs d))
+    → InputAllows i xs (cond b (record f { has_data = false }) f)
+    → PullCase f (input_after i xs (cond b (record f { has_data = false }) f)) c
+    (chunk_after i xs (cond b None c))
+pull-there true i xs f c may rest allows = go (rest (record f { has_data = false }) None allows)
   where
-    pulled : PullCase (record f { has_data = false }) (input_after i xs (record f { has_data = false })) None (chunk_after i xs None) → PullCase f (input_after i xs (record f { has_data = false })) c (chunk_after i xs None)
-    pulled (inl p) = inl record { was_there = allows; chunk = pulled-none i xs; data_gone = p.data_gone }
-    pulled (inr p) = inl record { was_there = allows; chunk = pulled-none i xs; data_gone = p.data_same }
-pull-at false i xs f c allows rest = rest f c refl
+    go : PullCase (record f { has_data = false }) (input_after i xs (record f { has_data = false })) None
+        (chunk_after i xs None)
+        → PullCase f (input_after i xs (record f { has_data = false })) c (chunk_after i xs None)
+    go (inl p) = let e : false ≡ true = p.was_there in absurd (cc)
+    go (inr p) = inl record { was_there = may; chunk = p.chunk; data_gone = p.data_same }
+pull-there false i xs f c may rest allows = rest f c allows
 
-pub pull-case : (i : ℕ) (xs : List Action) (f : Flags) (c : Option Table) → InputAllows i xs f → PullCase f (input_after i xs f) c (chunk_after i xs c)
+-- what allowed actions leave of the data at an input, and of its chunk
+pub pull-case : (i : ℕ) (xs : List Action) (f : Flags) (c : Option Table) → InputAllows i xs f
+    → PullCase f (input_after i xs f) c (chunk_after i xs c)
 pull-case i [] f c allows = inr record { chunk = refl; data_same = refl }
-pull-case i (Want j ∷ xs) f c allows = earlier f _ _ c _ (want-holds (i == j) true f) (want-data (i == j) true f) (pull-case i xs _ c allows.1)
-pull-case i (Unwant j ∷ xs) f c allows = earlier f _ _ c _ (want-holds (i == j) false f) (want-data (i == j) false f) (pull-case i xs _ c allows.1)
-pull-case i (Pull j ∷ xs) f c allows = pull-at (i == j) i xs f c allows.0 (λ h d e. pull-case i xs h d (subst (λ g. InputAllows i xs g) (sym e) allows.1))
-pull-case i (Close j ∷ xs) f c allows = earlier f _ _ c _ (close-holds (i == j) f) (close-data (i == j) f) (pull-case i xs _ c allows.1)
+pull-case i (Want j ∷ xs) f c allows = want-there (i == j) true f _ c _ (pull-case i xs _ c allows.1)
+pull-case i (Unwant j ∷ xs) f c allows = want-there (i == j) false f _ c _ (pull-case i xs _ c allows.1)
+pull-case i (Pull j ∷ xs) f c allows =
+    pull-there (i == j) i xs f c allows.0 (λ h d a. pull-case i xs h d a) allows.1
+pull-case i (Close j ∷ xs) f c allows = close-there (i == j) f _ c _ (pull-case i xs _ c allows.1)
 pull-case i (Push j chunk ∷ xs) f c allows = pull-case i xs f c allows.1
 pull-case i (Finish j ∷ xs) f c allows = pull-case i xs f c allows.1
 
-pub can-push-empty : (f : Flags) → can_push f ≡ true → f.has_data ≡ false
-can-push-empty f e = bits f.needed f.has_data f.fin_out e
-  where
-    bits : (n d o : Bool) → (n && (not d && not o)) ≡ true → d ≡ false
-    bits true true o e = absurd (cc)
-    bits true false o e = refl
-    bits false d o e = absurd (cc)
+-- ---- pushes among actions
 
-pub can-push-open : (f : Flags) → can_push f ≡ true → f.fin_out ≡ false
-can-push-open f e = bits f.needed f.has_data f.fin_out e
+can-push : (f : Flags) → can_push f ≡ true → (f.has_data ≡ false) × (f.fin_out ≡ false)
+can-push f e = bits f.needed f.has_data f.fin_out e
   where
-    bits : (n d o : Bool) → (n && (not d && not o)) ≡ true → o ≡ false
+    bits : (n d o : Bool) → (n && (not d && not o)) ≡ true → (d ≡ false) × (o ≡ false)
     bits true true o e = absurd (cc)
     bits true false true e = absurd (cc)
-    bits true false false e = refl
+    bits true false false e = (refl, refl)
     bits false d o e = absurd (cc)
 
-push-at : (b : Bool) (f : Flags) (chunk : Table) (ys : List Table) → f.has_data ≡ true → (not b || can_push f) ≡ true → (b ≡ false → ys ≡ []) → cond b (chunk ∷ ys) ys ≡ []
-push-at true f chunk ys there allows rest = absurd (both_ways f.has_data (can-push-empty f allows) there)
-push-at false f chunk ys there allows rest = rest refl
+-- One chunk was pushed to an output that was empty and not finished, or none was. The flags go from f to g, and
+-- what lies there from c to d.
+pub record Puts (pushes : List Table) (f g : Flags) (d : Option Table) : Type 0 where
+  pub chunk : Table
+  pub one : pushes ≡ chunk ∷ []
+  pub empty : f.has_data ≡ false
+  pub unfinished : f.fin_out ≡ false
+  pub there : g.has_data ≡ true
+  pub lies : d ≡ Some chunk
 
-step-same : (b : Bool) (f g : Flags) → b ≡ false → cond b g f ≡ f
-step-same true f g e = absurd (cc)
-step-same false f g e = refl
+pub record PutsNone (pushes : List Table) (f g : Flags) (c d : Option Table) : Type 0 where
+  pub none : pushes ≡ []
+  pub same : g.has_data ≡ f.has_data
+  pub lies : d ≡ c
 
-finish-data : (b : Bool) (f : Flags) → f.has_data ≡ true → (cond b (record f { fin_out = true }) f).has_data ≡ true
-finish-data true f e = e
-finish-data false f e = e
+abbrev pub PutCase : List Table → Flags → Flags → Option Table → Option Table → Type 0
+PutCase pushes f g c d = Puts pushes f g d ⊎ PutsNone pushes f g c d
 
--- nothing is pushed where data lies
-pub none-pushed : (o : ℕ) (xs : List Action) (f : Flags) → OutputAllows o xs f → f.has_data ≡ true → pushes_to o xs ≡ []
+finish-there : (b : Bool) (ps : List Table) (f g : Flags) (c d : Option Table)
+    → PutCase ps (cond b (record f { fin_out = true }) f) g c d → PutCase ps f g c d
+finish-there true ps f g c d (inl p) = let e : true ≡ false = p.unfinished in absurd (cc)
+finish-there true ps f g c d (inr p) = inr record { none = p.none; same = p.same; lies = p.lies }
+finish-there false ps f g c d p = p
+
+push-there : (b : Bool) (o : ℕ) (chunk : Table) (xs : List Action) (f : Flags) (c : Option Table)
+    → (not b || can_push f) ≡ true
+    → ((h : Flags) (d : Option Table) → OutputAllows o xs h
+    → PutCase (pushes_to o xs) h (output_after o xs h) d (put_after o xs d))
+    → OutputAllows o xs (cond b (record f { has_data = true }) f)
+    → PutCase (cond b (chunk ∷ pushes_to o xs) (pushes_to o xs)) f
+    (output_after o xs (cond b (record f { has_data = true }) f)) c
+    (put_after o xs (cond b (Some chunk) c))
+push-there true o chunk xs f c may rest allows =
+    go (rest (record f { has_data = true }) (Some chunk) allows)
+  where
+    go : PutCase (pushes_to o xs) (record f { has_data = true })
+        (output_after o xs (record f { has_data = true })) (Some chunk) (put_after o xs (Some chunk))
+        → PutCase (chunk ∷ pushes_to o xs) f (output_after o xs (record f { has_data = true })) c
+        (put_after o xs (Some chunk))
+    go (inl p) = let e : true ≡ false = p.empty in absurd (cc)
+    go (inr p) = inl record {
+      chunk = chunk;
+      one = ap (λ ps. chunk ∷ ps) p.none;
+      empty = (can-push f may).0;
+      unfinished = (can-push f may).1;
+      there = p.same;
+      lies = p.lies;
+    }
+push-there false o chunk xs f c may rest allows = rest f c allows
+
+-- what allowed actions leave at an output
+pub put-case : (o : ℕ) (xs : List Action) (f : Flags) (c : Option Table) → OutputAllows o xs f
+    → PutCase (pushes_to o xs) f (output_after o xs f) c (put_after o xs c)
 unfolding pushes_to
-none-pushed o [] f allows there = refl
-none-pushed o (Want j ∷ xs) f allows there = none-pushed o xs f allows.1 there
-none-pushed o (Unwant j ∷ xs) f allows there = none-pushed o xs f allows.1 there
-none-pushed o (Pull j ∷ xs) f allows there = none-pushed o xs f allows.1 there
-none-pushed o (Close j ∷ xs) f allows there = none-pushed o xs f allows.1 there
-none-pushed o (Push j chunk ∷ xs) f allows there =
-    push-at (o == j) f chunk (pushes_to o xs) there allows.0 (λ e. none-pushed o xs f (subst (λ g. OutputAllows o xs g) (step-same (o == j) f (record f { has_data = true }) e) allows.1) there)
-none-pushed o (Finish j ∷ xs) f allows there = none-pushed o xs _ allows.1 (finish-data (o == j) f there)
+put-case o [] f c allows = inr record { none = refl; same = refl; lies = refl }
+put-case o (Want j ∷ xs) f c allows = put-case o xs f c allows.1
+put-case o (Unwant j ∷ xs) f c allows = put-case o xs f c allows.1
+put-case o (Pull j ∷ xs) f c allows = put-case o xs f c allows.1
+put-case o (Close j ∷ xs) f c allows = put-case o xs f c allows.1
+put-case o (Push j chunk ∷ xs) f c allows =
+    push-there (o == j) o chunk xs f c allows.0 (λ h d a. put-case o xs h d a) allows.1
+put-case o (Finish j ∷ xs) f c allows = finish-there (o == j) _ f _ c _ (put-case o xs _ c allows.1)
+
+-- ---- what isn't told
+
+cond-off : (b : Bool) (f g : Flags) → b ≡ false → cond b g f ≡ f
+cond-off true f g e = absurd (cc)
+cond-off false f g e = refl
+
+-- an output none of whose actions is told is as it was
+pub untold-same : (o : ℕ) (xs : List Action) (f : Flags) → is_told (Output o) xs ≡ false
+    → output_after o xs f ≡ f
+untold-same o [] f e = refl
+untold-same o (Want j ∷ xs) f e = untold-same o xs f e
+untold-same o (Unwant j ∷ xs) f e = untold-same o xs f e
+untold-same o (Pull j ∷ xs) f e = untold-same o xs f e
+untold-same o (Close j ∷ xs) f e = untold-same o xs f e
+untold-same o (Push j chunk ∷ xs) f e =
+    let b = or_parts (o == j) (is_told (Output o) xs) e in
+    ap (λ g. output_after o xs g) (cond-off (o == j) f (record f { has_data = true }) b.0)
+    ∙ untold-same o xs f b.1
+untold-same o (Finish j ∷ xs) f e =
+    let b = or_parts (o == j) (is_told (Output o) xs) e in
+    ap (λ g. output_after o xs g) (cond-off (o == j) f (record f { fin_out = true }) b.0)
+    ∙ untold-same o xs f b.1
+
+unwanted : (b : Bool) (f g : Flags) → ProducerKnows f g
+    → ProducerKnows f (cond b (record g { needed = false }) g)
+unwanted true f g k = record {
+  needed = λ t. absurd (both_ways false refl t);
+  has_data = k.has_data;
+  fin_out = k.fin_out;
+  fin_in = k.fin_in;
+}
+unwanted false f g k = k
+
+told-later : (i : ℕ) (b : Bool) (f g h : Flags) (xs : List Action) → (b || is_told (Input i) xs) ≡ false
+    → ((z : Flags) → is_told (Input i) xs ≡ false → ProducerKnows f z → ProducerKnows f (input_after i xs z))
+    → ProducerKnows f g → ProducerKnows f (input_after i xs (cond b h g))
+told-later i true f g h xs e rest k = absurd (cc)
+told-later i false f g h xs e rest k = rest g e k
+
+-- a producer that isn't told of an input's actions knows as much as before
+pub untold-known : (i : ℕ) (xs : List Action) (f g : Flags) → is_told (Input i) xs ≡ false
+    → ProducerKnows f g → ProducerKnows f (input_after i xs g)
+untold-known i [] f g e k = k
+untold-known i (Want j ∷ xs) f g e k =
+    told-later i (i == j) f g (record g { needed = true }) xs e (λ z a b. untold-known i xs f z a b) k
+untold-known i (Unwant j ∷ xs) f g e k = untold-known i xs f _ e (unwanted (i == j) f g k)
+untold-known i (Pull j ∷ xs) f g e k =
+    told-later i (i == j) f g (record g { has_data = false }) xs e (λ z a b. untold-known i xs f z a b) k
+untold-known i (Close j ∷ xs) f g e k =
+    told-later i (i == j) f g (record g { fin_in = true }) xs e (λ z a b. untold-known i xs f z a b) k
+untold-known i (Push j chunk ∷ xs) f g e k = untold-known i xs f g e k
+untold-known i (Finish j ∷ xs) f g e k = untold-known i xs f g e k
 
 -- ---- calls keep the number of ports
 

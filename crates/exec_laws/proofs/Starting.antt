@@ -1,5 +1,5 @@
 -- A graph before its first move.
-use Rattle.std.proofs.Common.{◌≡◌, ℕ, ◌<◌, ◌==◌, ◌++◌, ◌||◌, zero, suc, false, None, List, [], length, get_or, refl, sym, ap, subst, ◌∙◌, arith}
+use Rattle.std.proofs.Common.{◌≡◌, ℕ, ◌<◌, ◌==◌, ◌++◌, ◌||◌, cond, Bool, true, false, zero, suc, None, List, [], length, get_or, refl, sym, ap, subst, ◌∙◌, arith}
 use Rattle.std.proofs.lemmas.Bool.{both_ways}
 use Rattle.std.proofs.lemmas.List.{get_or-replicate, length-replicate}
 use Rattle.query_model.specs.declared.processor_spec.Kind.TheVariants as kind
@@ -7,20 +7,23 @@ use Rattle.port_word.specs.declared.flags.Flags.{Flags}
 use Rattle.port_word.specs.declared.flags.Wire.{Wire}
 use Rattle.port_word.specs.declared.flags.Reserve.{Reserve}
 use Rattle.port_word.specs.declared.port_view.InputPort.{InputPort}
-use Rattle.port_word.specs.Pictures.{input_at, output_at, in_count, out_count, no_flags, new_input, no_input, over_flags}
+use Rattle.port_word.specs.Pictures.{Picture, input_at, output_at, in_count, out_count, no_flags, new_input, no_input, over_flags}
 use Rattle.port_word.specs.Calls.{new_picture}
+use Rattle.port_word.specs.Status.{WaitsForRoom}
 use Rattle.port_word.proofs.Fitting.{sound-new}
 use Rattle.proc_api.specs.Boxes.{BoxPicture, kept_input, kept_output, kept_inputs, kept_outputs, kept_ports}
-use Rattle.proc_api.specs.Histories.{no_lists, pushes_to}
-use Rattle.proc_api.specs.Ports.{FollowsKept, InputFollows, OutputFollows, AreAsKept}
+use Rattle.proc_api.specs.Histories.{no_lists}
+use Rattle.proc_api.specs.Ports.{AreAsKept}
 use Rattle.proc_api.specs.Clauses.{IsFresh}
-use Rattle.port_word.specs.Status.{WaitsForRoom}
 use Rattle.proc_api.specs.Settled.{wire_at}
 use Rattle.proc_api.specs.Graphs.{IsGraph, input_count, output_count}
 use Rattle.proc_api.proofs.Graphs.{input-below-count, output-below-count}
 use Rattle.exec_laws.specs.declared.edges.Edge.{Edge}
-use Rattle.exec_laws.specs.Runs.{Node, NodeHolds, InputHolds, OutputHolds, EdgeHolds, Running, new_edge, chunks_of}
+use Rattle.exec_laws.specs.declared.edges.NodeState.TheVariants as node
+use Rattle.exec_laws.specs.Runs.{CellHolds, CellPicture, EdgeHolds, InputHolds, KeepsFlags, MarkHolds, MayRest, OutputHolds, Running, chunks_of, new_edge}
 use Rattle.exec_laws.specs.Moves.{new_mark}
+use Rattle.exec_laws.proofs.Nodes.{not-blank}
+use Rattle.exec_laws.proofs.Sides.{input-itself, knows-itself, output-itself}
 
 new-input : (m n i : ℕ) → i < m → input_at (new_picture m n) i ≡ new_input
 unfolding input_at
@@ -58,100 +61,94 @@ new-room m n lt =
 fresh-view : (p : BoxPicture) → IsFresh p → p.notes.view ≡ None
 fresh-view p f = ap (λ z. z.view) f.notes
 
-follows-new : (p : BoxPicture) (m n : ℕ) → IsFresh p → FollowsKept p (new_picture m n)
+keeps-new : (p : BoxPicture) (m n : ℕ) → IsFresh p → KeepsFlags p (new_picture m n)
 unfolding kept_input kept_output kept_inputs kept_outputs
-follows-new p m n f =
+keeps-new p m n f =
     let e : p.notes.view ≡ None = fresh-view p f in
     let ins : kept_inputs p ≡ 0 = ap (λ k. length (kept_ports k).inputs) e in
     let outs : kept_outputs p ≡ 0 = ap (λ k. length (kept_ports k).outputs) e in
     record {
-      inputs_stay = omega (arith, ins);
-      outputs_stay = omega (arith, outs);
+      ins = omega (arith, ins);
+      outs = omega (arith, outs);
       inputs = λ i lt.
-          let kept : kept_input p i ≡ no_flags = ap (λ k. get_or (kept_ports k).inputs i no_flags) e in
-          let here : input_at (new_picture m n) i ≡ new_input = new-input m n i (subst (λ k. i < k) (new-inputs m n) lt) in
-          subst (λ x. InputFollows (kept_input p i) x.flags) (sym here) (subst (λ x. InputFollows x no_flags) (sym kept) itself-in);
+          let here : input_at (new_picture m n) i ≡ new_input =
+          new-input m n i (subst (λ k. i < k) (new-inputs m n) lt) in
+          ap (λ k. get_or (kept_ports k).inputs i no_flags) e ∙ ap (λ (x : InputPort). x.flags) (sym here);
       outputs = λ o lt.
-          let kept : kept_output p o ≡ no_flags = ap (λ k. get_or (kept_ports k).outputs o no_flags) e in
-          let here : output_at (new_picture m n) o ≡ no_flags = new-output m n o (subst (λ k. o < k) (new-outputs m n) lt) in
-          subst (λ x. OutputFollows (kept_output p o) x) (sym here) (subst (λ x. OutputFollows x no_flags) (sym kept) itself-out);
+          ap (λ k. get_or (kept_ports k).outputs o no_flags) e
+          ∙ sym (new-output m n o (subst (λ k. o < k) (new-outputs m n) lt));
     }
-  where
-    itself-in : InputFollows no_flags no_flags
-    itself-in = record { needed = refl; fin_in = refl; fin_out = λ t. t; stays_empty = λ t d. d; stays_full = λ t. absurd (both_ways false refl t) }
 
-    itself-out : OutputFollows no_flags no_flags
-    itself-out = record { fin_out = refl; fin_in = λ t. t }
+mark-new : (b : Bool) (m n : ℕ) (p : BoxPicture) (v : Picture) → p.notes.answer ≡ None
+    → (b ≡ false → WaitsForRoom v) → MarkHolds (cond b node.Due node.Resting) None m n p v
+mark-new true m n p v answer room = tt
+mark-new false m n p v answer room =
+    record { answer = answer; may_rest = subst MayRest (sym answer) tt; rests = λ _. room refl }
 
-new-node : (m n : ℕ) (p : BoxPicture) → IsFresh p → (p.kind ≡ kind.List → ⊥) → NodeHolds m n (record { box = p; view = new_picture m n; mark = new_mark n; pulled = no_lists; pushed = no_lists })
-new-node m n p f not_list = record {
-  running = record { loaded = f.loaded; faultless = ap (λ z. z.fault) f.notes; not_handed_out = f.not_handed_out };
-  not_list = not_list;
-  sound = sound-new m n;
-  ins = new-inputs m n;
-  outs = new-outputs m n;
-  follows = λ _. follows-new p m n f;
-  follows_lawful = λ _. follows-new p m n f;
-  as_kept = subst (λ k. AreAsKept k m n) (sym (fresh-view p f)) tt;
-  fits = λ l k. ap (λ z. z.fits) f.notes;
-  keeps = λ l k. f.keeps l;
-  nothing_past = λ i le. refl;
-  over = λ t. absurd (both_ways false refl t);
-  finished = λ t. absurd (both_ways false refl t);
-  at_rest = λ o d w. record { answer = ap (λ z. z.answer) f.notes; unfinished = refl; rests = λ l. new-room m n (positive n d) };
-  at_work = λ o w. absurd (both_ways false refl w);
+new-cell : (m n : ℕ) (c : CellPicture) → IsFresh c.box → (c.box.kind ≡ kind.List → ⊥)
+    → c.view ≡ new_picture m n → c.mark ≡ new_mark n → CellHolds m n c no_lists no_lists
+new-cell m n c f not_list view mark =
+    let p : BoxPicture = c.box in
+    let same : c ≡ record c { view = new_picture m n; mark = new_mark n } =
+    (λ i. record c { view = view i; mark = mark i }) in
+    subst (λ x. CellHolds m n x no_lists no_lists) (sym same) record {
+      stands = record {
+        running = record {
+          loaded = f.loaded;
+          faultless = ap (λ z. z.fault) f.notes;
+          not_handed_out = f.not_handed_out;
+        };
+        not_list = not_list;
+        sound = sound-new m n;
+        quiet = refl;
+        ins = new-inputs m n;
+        outs = new-outputs m n;
+        as_kept = subst (λ k. AreAsKept k m n) (sym (fresh-view p f)) tt;
+        fits = λ l k. ap (λ z. z.fits) f.notes;
+        keeps = λ l k. f.keeps l;
+        nothing_past = λ i le. refl;
+        nothing_pushed_past = λ o le. refl;
+      };
+      kept = λ _. keeps-new p m n f;
+      mark = mark-new (n == 0) m n p (new_picture m n) (ap (λ z. z.answer) f.notes)
+          (λ e. new-room m n (positive n e));
+    }
+
+-- an edge over which nothing passed yet
+fresh-edge : (w : Wire) (x y : CellPicture) (e : Edge) → output_at x.view w.out ≡ no_flags
+    → input_at y.view w.input ≡ new_input → e ≡ new_edge → EdgeHolds w x y [] [] e
+fresh-edge w x y e out input fresh = subst (λ z. EdgeHolds w x y [] [] z) (sym fresh) record {
+  from = subst (λ f. OutputHolds x.mark.state f new_edge) (sym out)
+      record { follows = output-itself no_flags; known = λ _. knows-itself no_flags };
+  to = subst (λ c. InputHolds y.mark.state c new_edge) (sym input)
+      record { follows = input-itself no_flags; data_there = refl; one_chunk = λ _. refl; known = λ _. refl };
+  lists = ap (λ (c : InputPort). [] ++ (chunks_of c.chunk ++ [])) (sym input);
 }
 
-new-edge : (o i : ℕ) (x y : Node) (e : Edge) → output_at x.view o ≡ no_flags → input_at y.view i ≡ new_input → x.view.actions ≡ [] → y.view.actions ≡ [] → x.mark.over ≡ false → y.mark.over ≡ false
-    → x.pushed o ≡ [] → y.pulled i ≡ [] → e ≡ new_edge → EdgeHolds o i x y e
-unfolding pushes_to
-new-edge o i x y e out input quiet_x quiet_y over_x over_y pushed pulled fresh =
-    let from : OutputHolds o x.box no_flags [] x.mark new_edge = record {
-      fin_out = refl;
-      fin_in = λ t. t;
-      allows = tt;
-      known = λ v d. record { needed = λ t. t; has_data = refl; fin_out = refl; fin_in = refl };
-      over = λ v. absurd (both_ways x.mark.over over_x v);
-      finished = λ l t. absurd (both_ways false refl t);
-    } in
-    let to : InputHolds i y.box new_input [] y.mark new_edge = record {
-      needed = refl;
-      fin_in = refl;
-      fin_out = λ t. t;
-      stays_empty = λ t d. d;
-      data_there = refl;
-      one_chunk = λ t. refl;
-      known = λ v d. refl;
-      over = λ v. absurd (both_ways y.mark.over over_y v);
-      closed = λ l t. absurd (both_ways false refl t);
-    } in
-    record {
-      from = subst (λ z. OutputHolds o x.box (output_at x.view o) x.view.actions x.mark z) (sym fresh) (subst (λ f. OutputHolds o x.box f x.view.actions x.mark new_edge) (sym out) (subst (λ a. OutputHolds o x.box no_flags a x.mark new_edge) (sym quiet_x) from));
-      to = subst (λ z. InputHolds i y.box (input_at y.view i) y.view.actions y.mark z) (sym fresh) (subst (λ c. InputHolds i y.box c y.view.actions y.mark new_edge) (sym input) (subst (λ a. InputHolds i y.box new_input a y.mark new_edge) (sym quiet_y) to));
-      lists =
-          pushed
-          ∙ ap (λ k. (k ++ ([] ++ [])) ++ pushes_to o []) (sym pulled)
-          ∙ ap (λ k. (y.pulled i ++ ([] ++ [])) ++ pushes_to o k) (sym quiet_x)
-          ∙ ap (λ (k : InputPort). (y.pulled i ++ (chunks_of k.chunk ++ [])) ++ pushes_to o x.view.actions) (sym input)
-          ∙ ap (λ (k : Edge). (y.pulled i ++ (chunks_of (input_at y.view i).chunk ++ chunks_of k.chunk)) ++ pushes_to o x.view.actions) (sym fresh);
-    }
-
--- A graph of fresh boxes, none of them of kind List, with new views and new edges.
-pub started : (ranks : List ℕ) (wires : List Wire) (reserves : List Reserve) → IsGraph ranks wires reserves → (boxes : ℕ → BoxPicture) (nodes : ℕ → Node) (edges : ℕ → Edge)
-    → ((n : ℕ) → n < length ranks → IsFresh (boxes n)) → ((n : ℕ) → n < length ranks → (boxes n).kind ≡ kind.List → ⊥)
-    → ((n : ℕ) → n < length ranks → nodes n ≡ record { box = boxes n; view = new_picture (input_count wires n) (output_count wires n); mark = new_mark (output_count wires n); pulled = no_lists; pushed = no_lists })
-    → ((e : ℕ) → e < length wires → edges e ≡ new_edge)
-    → Running (length ranks) wires nodes edges
-started ranks wires reserves g boxes nodes edges fresh not_list here new = record {
-  each = λ n lt. subst (λ k. NodeHolds (input_count wires n) (output_count wires n) k) (sym (here n lt)) (new-node (input_count wires n) (output_count wires n) (boxes n) (fresh n lt) (not_list n lt));
-  joined = λ d ld.
-      let z : Wire = wire_at wires d in
-      let from = here z.from (g.so_far.edges d ld).from_in_range in
-      let to = here z.to (g.so_far.edges d ld).to_in_range in
-      new-edge z.out z.input (nodes z.from) (nodes z.to) (edges d)
-      (ap (λ (k : Node). output_at k.view z.out) from ∙ new-output (input_count wires z.from) (output_count wires z.from) z.out (output-below-count ranks wires reserves g d ld))
-      (ap (λ (k : Node). input_at k.view z.input) to ∙ new-input (input_count wires z.to) (output_count wires z.to) z.input (input-below-count ranks wires reserves g d ld))
-      (ap (λ (k : Node). k.view.actions) from) (ap (λ (k : Node). k.view.actions) to)
-      (ap (λ (k : Node). k.mark.over) from) (ap (λ (k : Node). k.mark.over) to)
-      (ap (λ (k : Node). k.pushed z.out) from) (ap (λ (k : Node). k.pulled z.input) to) (new d ld);
+-- A graph of fresh boxes, none of them of kind List, with new views and marks and new edges.
+pub started : (ranks : List ℕ) (wires : List Wire) (reserves : List Reserve) → IsGraph ranks wires reserves
+    → (cells : ℕ → CellPicture) (edges : ℕ → Edge)
+    → ((n : ℕ) → n < length ranks → IsFresh (cells n).box)
+    → ((n : ℕ) → n < length ranks → (cells n).box.kind ≡ kind.List → ⊥)
+    → ((n : ℕ) → n < length ranks → (cells n).view ≡ new_picture (input_count wires n) (output_count wires n))
+    → ((n : ℕ) → n < length ranks → (cells n).mark ≡ new_mark (output_count wires n))
+    → ((e : ℕ) → e < length wires → edges e ≡ new_edge) → Running (length ranks) wires cells edges
+started ranks wires reserves g cells edges fresh not_list view mark new = record {
+  pulled = λ n. no_lists;
+  pushed = λ n. no_lists;
+  each = λ n lt _. new-cell (input_count wires n) (output_count wires n) (cells n) (fresh n lt) (not_list n lt)
+      (view n lt) (mark n lt);
+  unborn = λ n lt blank. absurd (not-blank (cells n).box.spec (fresh n lt).loaded blank);
+  from_born = λ e lt. (fresh (wire_at wires e).from (g.so_far.edges e lt).from_in_range).loaded;
+  to_born = λ e lt. (fresh (wire_at wires e).to (g.so_far.edges e lt).to_in_range).loaded;
+  joined = λ e lt.
+      let w : Wire = wire_at wires e in
+      fresh-edge w (cells w.from) (cells w.to) (edges e)
+      (ap (λ v. output_at v w.out) (view w.from (g.so_far.edges e lt).from_in_range)
+      ∙ new-output (input_count wires w.from) (output_count wires w.from) w.out
+      (output-below-count ranks wires reserves g e lt))
+      (ap (λ v. input_at v w.input) (view w.to (g.so_far.edges e lt).to_in_range)
+      ∙ new-input (input_count wires w.to) (output_count wires w.to) w.input
+      (input-below-count ranks wires reserves g e lt))
+      (new e lt);
 }

@@ -1,5 +1,5 @@
 -- What is true of the boxes when a run has ended, over plain data.
-use Rattle.std.specs.Prelude.{◌≡◌, ◌≢◌, ℕ, suc, ◌<◌, ◌≤◌, ◌++◌, Bool, true, false, cond, IsTrue, List, [], ◌∷◌, length, Option, Some, None}
+use Rattle.std.specs.Prelude.{◌≡◌, ◌≢◌, ℕ, suc, ◌<◌, ◌≤◌, ◌++◌, ◌&&◌, not, Bool, true, false, cond, IsTrue, is_some, List, [], ◌∷◌, length, Option, Some, None}
 use Rattle.chunk_data.specs.Values.{Table}
 use Rattle.port_word.specs.declared.flags.Flags.{Flags}
 use Rattle.port_word.specs.declared.flags.Wire.{Wire}
@@ -13,43 +13,49 @@ use Rattle.proc_api.specs.Boxes.{BoxPicture, kept_input, kept_output}
 use Rattle.proc_api.specs.Histories.{Lists}
 use Rattle.proc_api.specs.Keeping.{Keeps}
 use Rattle.proc_api.specs.Clauses.{FaultHolds, FaultIsDue, IsRunning}
-use Rattle.proc_api.specs.Ports.{ArePortsOf}
+use Rattle.proc_api.specs.Ports.{ArePortsOf, is_ended}
 use Rattle.proc_api.specs.Settled.{wire_at}
 use Rattle.proc_api.specs.Graphs.{input_count, output_count}
 use Rattle.exec_laws.specs.declared.edges.StuckNode.{StuckNode}
-use Rattle.exec_laws.specs.Runs.{HasFinished, is_finished_answer, box_at}
-use Rattle.exec_laws.specs.Moves.{StaysBox}
+use Rattle.exec_laws.specs.Runs.{CellPicture, HasFinished, IsBorn, MayRest, box_at}
+use Rattle.exec_laws.specs.Moves.{StaysBox, is_resting}
 
 -- ---- done
 
--- An edge at the end: the chunks pulled are the first of those pushed, and all of them unless the consumer's node closed the port. A lawful box
--- keeps its own finished flag where its node set it, and a peer's only where the peer's node set it.
+-- An edge at the end: the chunks pulled are the first of those pushed. They are all of them unless the consumer's
+-- node closed the port, and wherever a lawful consumer saw its input end, whether it closed it afterwards or not.
+-- A lawful box keeps its own finished flag where its node set it, and a peer's only where the peer's node set it.
 pub record EdgeDone (w : Wire) (from to : BoxPicture) (pulled pushed : List Table) (port : Flags) : Type 0 where
   pub left : List Table
   pub first : pushed ≡ pulled ++ left
   pub all : port.fin_in ≡ false → pulled ≡ pushed
+  pub ended : IsTrue to.lawful → is_ended (kept_input to w.input) ≡ true → pulled ≡ pushed
   pub closed : IsTrue to.lawful → port.fin_in ≡ true → (kept_input to w.input).fin_in ≡ true
   pub finished : IsTrue from.lawful → port.fin_out ≡ true → (kept_output from w.out).fin_out ≡ true
   pub sees_finished : IsTrue to.lawful → (kept_input to w.input).fin_out ≡ true → port.fin_out ≡ true
   pub sees_closed : IsTrue from.lawful → (kept_output from w.out).fin_in ≡ true → port.fin_in ≡ true
 
--- A lawful box at the end: if it has the ports of its spec and growth, it keeps what was pulled and pushed. Its kept flags say that it has finished.
--- Nothing was pulled where there is no input.
+-- A lawful box at the end: if it has the ports of its spec and growth, it keeps what was pulled and pushed. Its
+-- kept flags say that it has finished. Nothing was pulled where there is no input.
 pub record LawfulDone (inputs outputs : ℕ) (p : BoxPicture) (pulled pushed : Lists) : Type 0 where
   pub keeps : ArePortsOf p.spec p.growth inputs outputs → Keeps p pulled pushed
   pub finished : HasFinished inputs outputs p
   pub nothing_past : (i : ℕ) → inputs ≤ i → pulled i ≡ []
+  pub nothing_pushed_past : (o : ℕ) → outputs ≤ o → pushed o ≡ []
 
--- Every node is over, and its box may still be called. There are lists of chunks for each port, and the flags of each edge's port, as an ended
--- run left them.
+-- Every born node is over, and its box may still be called. There are lists of chunks for each port, and the
+-- flags of each edge's port, as an ended run left them. The wires are those at the end.
 pub record IsDone (wires : List Wire) (boxes : List BoxPicture) : Type 0 where
   pub pulled : ℕ → Lists
   pub pushed : ℕ → Lists
   pub ports : ℕ → Flags
-  pub over : (n : ℕ) → n < length boxes → (box_at boxes n).notes.answer ≡ Some (Prepared status.Finished)
-  pub running : (n : ℕ) → n < length boxes → IsRunning (box_at boxes n)
-  pub each : (n : ℕ) → n < length boxes → IsTrue (box_at boxes n).lawful → LawfulDone (input_count wires n) (output_count wires n) (box_at boxes n) (pulled n) (pushed n)
-  pub joined : (e : ℕ) → e < length wires → EdgeDone (wire_at wires e) (box_at boxes (wire_at wires e).from) (box_at boxes (wire_at wires e).to) (pulled (wire_at wires e).to (wire_at wires e).input) (pushed (wire_at wires e).from (wire_at wires e).out) (ports e)
+  pub over : (n : ℕ) → n < length boxes → IsBorn (box_at boxes n)
+      → (box_at boxes n).notes.answer ≡ Some (Prepared status.Finished)
+  pub running : (n : ℕ) → n < length boxes → IsBorn (box_at boxes n) → IsRunning (box_at boxes n)
+  pub each : (n : ℕ) → n < length boxes → IsBorn (box_at boxes n) → IsTrue (box_at boxes n).lawful
+      → LawfulDone (input_count wires n) (output_count wires n) (box_at boxes n) (pulled n) (pushed n)
+  pub joined : (e : ℕ) → e < length wires → let w = wire_at wires e in
+      EdgeDone w (box_at boxes w.from) (box_at boxes w.to) (pulled w.to w.input) (pushed w.from w.out) (ports e)
 
 -- ---- stuck
 
@@ -58,20 +64,45 @@ last_status None = None
 last_status (Some (Prepared s)) = Some s
 last_status (Some (Scheduled w)) = None
 
--- a node is over where its box's last answer is Finished
-abbrev pub is_over : BoxPicture → Bool
-is_over p = is_finished_answer (last_status p.notes.answer)
+-- whether it is the last answer of a node that is over
+abbrev pub is_finished : Option Answer → Bool
+is_finished None = false
+is_finished (Some (Prepared status.NeedData)) = false
+is_finished (Some (Prepared status.PortFull)) = false
+is_finished (Some (Prepared status.Ready)) = false
+is_finished (Some (Prepared status.Async)) = false
+is_finished (Some (Prepared status.ExpandPipeline)) = false
+is_finished (Some (Prepared status.Finished)) = true
+is_finished (Some (Scheduled w)) = false
 
--- The nodes that aren't over, with the last status of each, in order; the first box is that of node n.
+-- whether the box's node is born and isn't over
+abbrev pub is_unfinished : BoxPicture → Bool
+is_unfinished p = is_some p.spec && not (is_finished p.notes.answer)
+
+-- The born nodes that aren't over, with the last status of each, in order; the first box is that of node n.
 abbrev pub stuck_from : ℕ → List BoxPicture → List StuckNode
 stuck_from n [] = []
-stuck_from n (p ∷ boxes) = cond (is_over p) (stuck_from (suc n) boxes) (record { node = n; last = last_status p.notes.answer } ∷ stuck_from (suc n) boxes)
+stuck_from n (p ∷ boxes) =
+    cond (is_unfinished p)
+    (record { node = n; last = last_status p.notes.answer } ∷ stuck_from (suc n) boxes)
+    (stuck_from (suc n) boxes)
 
--- The report lists all nodes that aren't over. The named node is one of them, and its box isn't lawful.
+-- the same by the marks, where nothing is due
+abbrev pub stuck_cells : ℕ → List CellPicture → List StuckNode
+stuck_cells n [] = []
+stuck_cells n (c ∷ cells) =
+    cond (is_resting c.mark.state)
+    (record { node = n; last = c.mark.last } ∷ stuck_cells (suc n) cells)
+    (stuck_cells (suc n) cells)
+
+-- The report lists all born nodes that aren't over, and each of them is at rest. The named node is one of them,
+-- and its box isn't lawful.
 pub record IsStuck (boxes : List BoxPicture) (report : List StuckNode) (node : ℕ) : Type 0 where
   pub lists : report ≡ stuck_from 0 boxes
+  pub at_rest : (n : ℕ) → n < length boxes → is_unfinished (box_at boxes n) ≡ true
+      → MayRest (box_at boxes n).notes.answer
   pub in_range : node < length boxes
-  pub listed : is_over (box_at boxes node) ≡ false
+  pub listed : is_unfinished (box_at boxes node) ≡ true
   pub unlawful : (box_at boxes node).lawful ≡ false
 
 -- ---- faults

@@ -1,12 +1,13 @@
 ghost use Rattle.std.specs.Prelude.{◌≡◌};
 ghost use Rattle.exec_laws.specs.Runs.{new_edge};
-ghost use Rattle.exec_laws.specs.Moves.{new_mark};
+ghost use Rattle.exec_laws.specs.Moves.{new_mark, told};
 
 use chunk_data::Chunk;
 use port_word::Flags;
 use proc_api::Status;
 
-/// A connection between two ports: their flags, and the chunk that was pushed and that its consumer hasn't seen yet.
+/// A connection between two ports: their flags, and the chunk that was pushed and that its consumer hasn't
+/// seen yet.
 #[derive(Debug, Drop)]
 pub struct Edge {
     pub flags: Flags,
@@ -32,29 +33,58 @@ impl Edge {
     }
 }
 
-/// What an executor remembers of a node.
+/// The call that the box of a node at work is due.
+#[derive(Clone, Copy, Debug, PartialEq, Eq)]
+pub enum DueCall {
+    Work,
+    Schedule,
+}
+
+/// What an executor does next with a node.
+#[derive(Clone, Copy, Debug, PartialEq, Eq)]
+pub enum NodeState {
+    /// Nothing, until a port changes.
+    Resting,
+    /// A port may have changed since the node saw it, or its box has worked: it is prepared.
+    Due,
+    /// This call of its box comes, and then it is prepared.
+    AtWork(DueCall),
+    /// It is finished for good, or not born.
+    Over,
+}
+
+/// What an executor remembers of a node: what comes next, and the last answer to `prepare`.
 #[derive(Clone, Copy, Debug, PartialEq, Eq)]
 pub struct NodeMark {
-    /// A port may have changed since the node saw it, or its box has worked.
-    pub due: bool,
-    /// It is finished for good.
-    pub over: bool,
-    /// Its box answered Ready or Async, and hasn't worked yet.
-    pub at_work: bool,
-    /// The last answer to `prepare`.
+    pub state: NodeState,
     pub last: Option<Status>,
 }
 
 impl NodeMark {
-    /// The mark before the first move of a node with this number of outputs. A node without outputs is due: it asks first.
+    /// The mark before the first move of a node with this number of outputs. A node without outputs is due: it
+    /// asks first.
     pub fn new(outputs: usize) -> NodeMark
         ensures { result ≡ new_mark outputs }
     {
+        let state = if outputs == 0 {
+            NodeState::Due
+        } else {
+            NodeState::Resting
+        };
+        NodeMark { state, last: None }
+    }
+
+    /// The mark of a node one of whose ports has changed.
+    pub fn told(self) -> NodeMark
+        ensures { result ≡ told self }
+    {
+        let state = match self.state {
+            NodeState::Resting => NodeState::Due,
+            state => state,
+        };
         NodeMark {
-            due: outputs == 0,
-            over: false,
-            at_work: false,
-            last: None,
+            state,
+            last: self.last,
         }
     }
 }

@@ -1,5 +1,5 @@
 -- Where no node is a limit, no edge is closed by its consumer, and all chunks that were pushed were pulled.
-use Rattle.std.proofs.Common.{◌≡◌, ℕ, zero, suc, ◌+◌, ◌<◌, ◌≤◌, ◌||◌, Bool, true, false, Option, Some, None, List, [], ◌∷◌, length, refl, sym, ap, subst, arith, inl, inr}
+use Rattle.std.proofs.Common.{◌≡◌, ℕ, zero, suc, ◌+◌, ◌<◌, ◌≤◌, ◌||◌, Bool, true, false, Option, Some, None, IsSome, List, [], ◌∷◌, length, refl, sym, ap, subst, arith, inl, inr}
 use Rattle.std.proofs.lemmas.Bool.{both_ways, false_from_ne_true}
 use Rattle.query_model.specs.declared.processor_spec.Spec.{Spec}
 use Rattle.query_model.specs.declared.processor_spec.Spec.TheVariants as spec
@@ -9,9 +9,10 @@ use Rattle.proc_api.specs.Boxes.{BoxPicture, kept_output}
 use Rattle.proc_api.specs.Histories.{Lists}
 use Rattle.proc_api.specs.Keeping.{Keeps, HasReadEnough}
 use Rattle.proc_api.specs.Settled.{wire_at, HasOutputWire}
-use Rattle.proc_api.specs.Graphs.{IsGraph, rank_at, output_count}
+use Rattle.proc_api.specs.Graphs.{IsGraph, rank_at, input_count, output_count}
+use Rattle.proc_api.specs.Ports.{ArePortsOf}
 use Rattle.proc_api.proofs.Graphs.{output-of-count}
-use Rattle.exec_laws.specs.Runs.{box_at}
+use Rattle.exec_laws.specs.Runs.{IsBorn, box_at}
 use Rattle.exec_laws.specs.Ends.{IsDone, EdgeDone}
 use Rattle.plan_laws.specs.Streams.{AreFit, IsNoLimit, AreNoLimits, IsWhole}
 
@@ -42,6 +43,16 @@ unfolding rank_at
 rank-bound [] n = omega arith
 rank-bound (r ∷ ranks) zero = let le : r ≤ r + rank_sum ranks = omega arith in le
 rank-bound (r ∷ ranks) (suc n) = let le : rank_at ranks n ≤ r + rank_sum ranks = omega (arith, rank-bound ranks n) in le
+
+-- a box with the ports of its spec is born
+fits-born : (wires : List Wire) (boxes : List BoxPicture) → AreFit wires boxes → (n : ℕ) → n < length boxes
+    → IsBorn (box_at boxes n)
+fits-born wires boxes fit n lt = go (box_at boxes n).spec (fit.ports n lt)
+  where
+    go : (s : Option Spec) → ArePortsOf s (box_at boxes n).growth (input_count wires n) (output_count wires n)
+        → IsSome s
+    go None h = absurd h
+    go (Some s) h = refl
 
 -- an output that its consumer closed, as the box's kept flags say, has a closed edge
 pub record HasClosedEdge (wires : List Wire) (boxes : List BoxPicture) (d : IsDone wires boxes) (n : ℕ) : Type 0 where
@@ -74,7 +85,7 @@ closes-on ranks wires reserves g boxes len fit unlimited d e lt closed =
     let n : ℕ = (wire_at wires e).to in
     let in_range : n < length boxes = subst (λ k. n < k) (sym len) (g.so_far.edges e lt).to_in_range in
     let lawful = fit.lawful n in_range in
-    let each = d.each n in_range lawful in
+    let each = d.each n in_range (fits-born wires boxes fit n in_range) lawful in
     let keeps : Keeps (box_at boxes n) (d.pulled n) (d.pushed n) = each.keeps (fit.ports n in_range) in
     elim (keeps.closes (wire_at wires e).input ((d.joined e lt).closed lawful closed)) [
       | inl a ↦ closed-edge ranks wires reserves g boxes d n 0 lawful (subst (λ k. 0 < k) each.finished.outs a.some) (a.closed 0 a.some)
@@ -113,14 +124,14 @@ pub whole : (ranks : List ℕ) (wires : List Wire) (reserves : List Reserve) →
     → length boxes ≡ length ranks
     → AreFit wires boxes → AreNoLimits boxes → (d : IsDone wires boxes) → IsWhole wires boxes d.pulled d.pushed
 whole ranks wires reserves g boxes len fit unlimited d = record {
-  keeps = λ n lt. (d.each n lt (fit.lawful n lt)).keeps (fit.ports n lt);
+  keeps = λ n lt. (d.each n lt (fits-born wires boxes fit n lt) (fit.lawful n lt)).keeps (fit.ports n lt);
   finished = λ n o lt within.
-      let done = (d.each n lt (fit.lawful n lt)).finished in
+      let done = (d.each n lt (fits-born wires boxes fit n lt) (fit.lawful n lt)).finished in
       by-itself (kept_output (box_at boxes n) o).fin_out (kept_output (box_at boxes n) o).fin_in
       (done.outputs_finished o (subst (λ k. o < k) (sym done.outs) within))
       (λ closed.
       let next = closed-edge ranks wires reserves g boxes d n o (fit.lawful n lt) within closed in
       both_ways (d.ports next.edge).fin_in (none-closed ranks wires reserves g boxes len fit unlimited d next.edge next.in_range) next.closed);
   whole = λ e lt. (d.joined e lt).all (none-closed ranks wires reserves g boxes len fit unlimited d e lt);
-  nothing_past = λ n i lt le. (d.each n lt (fit.lawful n lt)).nothing_past i le;
+  nothing_past = λ n i lt le. (d.each n lt (fits-born wires boxes fit n lt) (fit.lawful n lt)).nothing_past i le;
 }

@@ -1,5 +1,5 @@
 -- The boxes of a SELECT's plan, at the end of a run, have made its answer.
-use Rattle.std.proofs.Common.{◌≡◌, ℕ, zero, suc, ◌<◌, ◌≤◌, Option, Some, None, List, [], ◌∷◌, length, map, filter, count_by, get_or, refl, sym, ap, subst, ◌∙◌, arith}
+use Rattle.std.proofs.Common.{◌≡◌, ℕ, zero, suc, ◌<◌, ◌≤◌, Option, Some, None, is_some, List, [], ◌∷◌, length, map, filter, count_by, get_or, refl, sym, ap, subst, ◌∙◌, arith}
 use Rattle.std.specs.List.{All}
 use Rattle.std.proofs.lemmas.List.{length-map, get_or-map}
 use Rattle.chunk_data.specs.Values.{Row, Table}
@@ -196,7 +196,7 @@ collected wires boxes d w n in_boxes in_wires wire ins outs last_ins items expre
     subst (λ (z : Wire). d.pulled z.to z.input ≡ d.pushed z.from z.out) wire (w.whole n in_wires) in
     let pulled : IsStream out_types out_rows (d.pulled (suc n) 0) = along (d.pushed n 0) (d.pulled (suc n) 0) out_types out_rows whole_edge pushed in
     let gathered : chunk_rows q.work.gathered ≡ out_rows =
-    collector-gathers out_types out_rows q (d.pulled (suc n)) (d.pushed (suc n)) collector (d.running (suc n) in_boxes).not_handed_out pulled
+    collector-gathers out_types out_rows q (d.pulled (suc n)) (d.pushed (suc n)) collector (d.running (suc n) in_boxes (ap is_some collector)).not_handed_out pulled
     (w.keeps (suc n) in_boxes) in
     record {
       gathered = gathered;

@@ -1,5 +1,5 @@
 -- The nodes of a SELECT's plan, and the answer that they make.
-use Rattle.std.specs.Prelude.{◌≡◌, ℕ, suc, ◌<◌, cond, is_some, true, List, [], ◌∷◌, length, map, Option, Some, None, IfSome}
+use Rattle.std.specs.Prelude.{◌≡◌, ℕ, suc, ◌<◌, cond, is_some, Bool, true, List, [], ◌∷◌, length, map, Option, Some, None, IfSome}
 use Rattle.chunk_data.specs.Values.{Row}
 use Rattle.query_model.specs.Expressions.{Cond, Expr, rows_where}
 use Rattle.query_model.specs.Answers.{item_row, output_rows}
@@ -50,21 +50,24 @@ abbrev pub collect_place : Option Cond → ℕ
 collect_place None = 2
 collect_place (Some c) = 3
 
--- How many boxes of a kind the plan of a query over one part needs.
+-- How many boxes of a kind the plan of a query over one part needs, which may have WHERE.
+abbrev pub need_with : (has_filter : Bool) → Kind → ℕ
+need_with f kind.Csv = 1
+need_with f kind.List = 0
+need_with f kind.Numbers = 0
+need_with f kind.Filter = cond f 1 0
+need_with f kind.Expression = 1
+need_with f kind.Resize = 0
+need_with f kind.PartialAggregate = 0
+need_with f kind.MergeAggregate = 0
+need_with f kind.HashJoin = 0
+need_with f kind.Sort = 0
+need_with f kind.MergeSorted = 0
+need_with f kind.Limit = 0
+need_with f kind.Collect = 1
+
 abbrev pub need : Checked → Kind → ℕ
-need q kind.Csv = 1
-need q kind.List = 0
-need q kind.Numbers = 0
-need q kind.Filter = cond (is_some q.filter) 1 0
-need q kind.Expression = 1
-need q kind.Resize = 0
-need q kind.PartialAggregate = 0
-need q kind.MergeAggregate = 0
-need q kind.HashJoin = 0
-need q kind.Sort = 0
-need q kind.MergeSorted = 0
-need q kind.Limit = 0
-need q kind.Collect = 1
+need q k = need_with (is_some q.filter) k
 
 -- ---- its run
 
