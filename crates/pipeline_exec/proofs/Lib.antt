@@ -1,6 +1,6 @@
-pub mod At
-pub mod Bridges
-pub mod Leaving
 pub mod Lists
-pub mod Carry
-pub mod Finish
+pub mod Creating
+pub mod Seeing
+pub mod Carrying
+pub mod Moving
+pub mod RunEnds

@@ -11,7 +11,7 @@ use Rattle.pipeline_exec.specs.declared.run.ExecEnd.TheVariants as end
 abbrev pub IsNoList : BoxPicture → Type 0
 IsNoList p = p.kind ≡ kind.List → ⊥
 
--- what each end says of the boxes as they are given back
+-- what each end says of the boxes as they are given back; the wires are those at the end
 abbrev pub EndHolds : ExecEnd → List Wire → List BoxPicture → Type 0
 EndHolds end.Done wires boxes = IsDone wires boxes
 EndHolds (end.Stuck report node) wires boxes = IsStuck boxes report node

@@ -1,2 +1,3 @@
-pub mod UnderWay
+pub mod Resting
+pub mod Cells
 pub mod Ends

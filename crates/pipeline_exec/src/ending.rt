@@ -1,51 +1,47 @@
-ghost use Rattle.std.specs.Prelude.{◌≡◌, ◌≢◌, ℕ, ◌<◌, ◌≤◌, ◌++◌, ◌∷◌, true, false, length, map, Some, None, IfSome, IfNone, vec_capacity, vec_len, []};
+ghost use Rattle.std.specs.Prelude.{◌≡◌, ◌≢◌, ℕ, ◌<◌, ◌≤◌, ◌++◌, ◌∷◌, true, false, length, Some, None, IfSome, IfNone, vec_capacity, vec_len, []};
 ghost use Rattle.port_word.specs.Pictures.{in_count, out_count, output_at};
 ghost use Rattle.port_word.specs.Status.{WaitsForData, WaitsForRoom};
 ghost use Rattle.proc_api.specs.Settled.{Rests};
-ghost use Rattle.exec_laws.specs.Runs.{box_at, view_at, mark_at};
-ghost use Rattle.exec_laws.specs.Ends.{IsDone, IsStuck};
-ghost use Rattle.pipeline_exec.specs.UnderWay.{AreIdle, Belies, BearsOut, HasNoRoom, HasOpenOutput, has_room, is_wanting, stuck_marks};
+ghost use Rattle.exec_laws.specs.Ends.{stuck_cells};
+ghost use Rattle.exec_laws.specs.Runs.{cell_at};
+ghost use Rattle.pipeline_exec.specs.Cells.{BearsOut, Belies, BeliesIts, cell_picture, cells_of};
+ghost use Rattle.pipeline_exec.specs.Resting.{HasNoRoom, HasOpenOutput, has_room, is_wanting};
 
-use crate::table::Table;
-use crate::turning::mark_of;
-use exec_laws::{NodeMark, StuckNode};
-use port_word::{PortView, Wire};
-use proc_api::Status;
+use crate::cell::Cell;
+use exec_laws::{NodeState, StuckNode};
+use port_word::PortView;
+use proc_api::{Processor, Status};
 
-/// The first node that isn't over and whose view belies its last status.
-pub(crate) fn first_liar(table: &Table) -> Option<usize>
-    requires { length table.now.views.items ≡ length table.now.marks.items }
-    ensures found { IfSome result (λ n. Belies n table.now) }
-    ensures missing { IfNone result ((n : ℕ) → n < length table.now.marks.items → BearsOut (mark_at table.now.marks.items n) (view_at table.now.views.items n)) }
+/// The first node at rest whose view belies its last status.
+pub(crate) fn first_unlawful<P: Processor>(cells: &Vec<Cell<P>>) -> Option<usize>
+    ensures found { IfSome result (λ n. Belies n (cells_of P.seen cells.now.items)) }
+    ensures missing { IfNone result ((n : ℕ) → n < length (cells_of P.seen cells.now.items) → BearsOut (cell_at (cells_of P.seen cells.now.items) n)) }
 {
-    for n in 0..table.marks.len() {
-        if !is_borne_out(&table.marks, &table.views, n) {
+    for n in 0..cells.len() {
+        if !is_borne_out(cells, n) {
             return Some(n);
         }
     }
     None
 }
 
-fn is_borne_out(marks: &Vec<NodeMark>, views: &Vec<PortView>, n: usize) -> bool
-    requires in_marks { n < length marks.now.items }
-    requires in_views { n < length views.now.items }
-    ensures yes { result ≡ true → BearsOut (mark_at marks.now.items n) (view_at views.now.items n) }
-    ensures open { result ≡ false → (mark_at marks.now.items n).over ≡ false }
-    ensures denied { result ≡ false → Rests (mark_at marks.now.items n).last (view_at views.now.items n) → ⊥ }
+fn is_borne_out<P: Processor>(cells: &Vec<Cell<P>>, n: usize) -> bool
+    requires { n < length cells.now.items }
+    ensures yes { result ≡ true → BearsOut (cell_at (cells_of P.seen cells.now.items) n) }
+    ensures denied { result ≡ false → Belies n (cells_of P.seen cells.now.items) }
 {
-    let mark = mark_of(marks, n);
-    if mark.over {
-        return true;
-    }
-    rests_at(views, n, mark.last)
+    bears_out(&cells[n])
 }
 
-fn rests_at(views: &Vec<PortView>, n: usize, last: Option<Status>) -> bool
-    requires { n < length views.now.items }
-    ensures yes { result ≡ true → Rests last (view_at views.now.items n) }
-    ensures denied { result ≡ false → Rests last (view_at views.now.items n) → ⊥ }
+/// Whether the node is at rest and its view bears out its last status, or it isn't at rest.
+fn bears_out<P: Processor>(cell: &Cell<P>) -> bool
+    ensures yes { result ≡ true → BearsOut (cell_picture P.seen cell.now) }
+    ensures denied { result ≡ false → BeliesIts (cell_picture P.seen cell.now) }
 {
-    rests(last, &views[n])
+    match cell.ports.mark.state {
+        NodeState::Resting => rests(cell.ports.mark.last, &cell.ports.view),
+        _ => true,
+    }
 }
 
 /// Whether the view bears out the last status.
@@ -121,27 +117,27 @@ fn has_room(view: &PortView, o: usize) -> bool
     !view.out_finished(o) && flags.needed && !flags.has_data
 }
 
-/// Lists the nodes that aren't over, in room that is there.
-pub(crate) fn list_stuck(report: &mut Vec<StuckNode>, marks: &Vec<NodeMark>)
+/// Lists the nodes at rest, in room that is there.
+pub(crate) fn list_stuck<P: Processor>(report: &mut Vec<StuckNode>, cells: &Vec<Cell<P>>)
     requires empty { report.old.items ≡ [] }
-    requires room { length marks.now.items ≤ vec_capacity report.old }
-    requires few { length marks.now.items ≤ 256 }
-    ensures { report.new.items ≡ stuck_marks 0 marks.now.items }
+    requires room { length cells.now.items ≤ vec_capacity report.old }
+    requires few { length cells.now.items ≤ 256 }
+    ensures { report.new.items ≡ stuck_cells 0 (cells_of P.seen cells.now.items) }
 {
-    for n in 0..marks.len() {
-        list_if_stuck(report, n as u32, mark_of(marks, n));
+    for n in 0..cells.len() {
+        list_if_stuck(report, n as u32, &cells[n]);
     }
 }
 
-fn list_if_stuck(report: &mut Vec<StuckNode>, node: u32, mark: NodeMark)
+fn list_if_stuck<P: Processor>(report: &mut Vec<StuckNode>, node: u32, cell: &Cell<P>)
     requires { length report.old.items < vec_capacity report.old }
-    ensures items { report.new.items ≡ report.old.items ++ stuck_marks node (mark ∷ []) }
+    ensures items { report.new.items ≡ report.old.items ++ stuck_cells node (cell_picture P.seen cell.now ∷ []) }
     ensures room { vec_capacity report.old ≤ vec_capacity report.new }
 {
-    if !mark.over {
+    if let NodeState::Resting = cell.ports.mark.state {
         let _ = report.push(StuckNode {
             node,
-            last: mark.last,
+            last: cell.ports.mark.last,
         });
     }
 }

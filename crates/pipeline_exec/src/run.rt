@@ -2,15 +2,16 @@ ghost use Rattle.std.specs.Prelude.{◌≡◌, ℕ, ◌<◌, ◌≤◌, length, 
 ghost use Rattle.std.specs.List.{All};
 ghost use Rattle.proc_api.specs.Clauses.{IsFresh};
 ghost use Rattle.exec_laws.specs.Ends.{GivenBack};
+ghost use Rattle.pipeline_exec.specs.Cells.{AreNewEdges, AreNewFrom, FailsAt, HoldsGraph, IsNothingDue, IsUnderWay, Stays, boxes_of, cells_of};
 ghost use Rattle.pipeline_exec.specs.Ends.{EndHolds, IsNoList};
-ghost use Rattle.pipeline_exec.specs.UnderWay.{AreIdle, FailsAt, HoldsGraph, IsNothingDue, IsUnderWay, StayAll};
 
-use crate::ending::{first_liar, list_stuck};
+use crate::cell::{Cell, NodePorts};
+use crate::ending::{first_unlawful, list_stuck};
+use crate::executor_state::{ExecutorState, empty_cells, fill_cells, new_edges, new_ports};
 use crate::rounds::{NodeFault, run_rounds};
-use crate::table::Table;
 use chunk_data::{List, Memory};
 use exec_graph::Graph;
-use exec_laws::StuckNode;
+use exec_laws::{Edge, StuckNode};
 use port_word::Wire;
 use proc_api::{Processor, WorkFault};
 use std::alloc::Global;
@@ -50,65 +51,91 @@ pub fn run_graph<R: AllocGlobal>(rt: &R, graph: Graph, workers: u32) -> RunResul
         reserves: _,
     } = graph;
     let mut boxes = boxes;
-    let end = run_boxes(rt.alloc(), &mut boxes, wires.as_slice());
+    let end = run_boxes(rt.alloc(), &mut boxes, wires);
     RunResult { boxes, end }
 }
 
-fn run_boxes(alloc: Global, boxes: &mut Vec<Box<dyn Processor + Send>>, wires: &[Wire]) -> ExecEnd
-    requires graph { HoldsGraph wires.now (map (λ b. seen b) boxes.old.items) }
-    requires fresh { All IsFresh (map (λ b. seen b) boxes.old.items) }
-    requires no_list { All IsNoList (map (λ b. seen b) boxes.old.items) }
-    ensures stays { StayAll (map (λ b. seen b) boxes.old.items) (map (λ b. seen b) boxes.new.items) }
-    ensures end { EndHolds result wires.now (map (λ b. seen b) boxes.new.items) }
+/// The part that is generic in the processors.
+fn run_boxes<P: Processor>(alloc: Global, boxes: &mut Vec<P>, wires: List<Wire>) -> ExecEnd
+    requires graph { HoldsGraph (length boxes.old.items) wires }
+    requires fresh { All IsFresh (map P.seen boxes.old.items) }
+    requires no_list { All IsNoList (map P.seen boxes.old.items) }
+    ensures back { GivenBack (map P.seen boxes.old.items) (map P.seen boxes.new.items) }
+    ensures end { EndHolds result wires (map P.seen boxes.new.items) }
 {
-    match Table::new(alloc, boxes.len(), wires) {
-        Ok(table) => run_reporting(alloc, boxes, table, wires),
-        Err(Memory) => ExecEnd::Memory,
-    }
+    let ports = match new_ports(alloc, boxes.len(), wires.as_slice()) {
+        Ok(ports) => ports,
+        Err(Memory) => return ExecEnd::Memory,
+    };
+    let edges = match new_edges(alloc, wires.len()) {
+        Ok(edges) => edges,
+        Err(Memory) => return ExecEnd::Memory,
+    };
+    let Ok(cells) = Vec::with_capacity(alloc, boxes.len()) else {
+        return ExecEnd::Memory
+    };
+    let Ok(report) = Vec::with_capacity(alloc, boxes.len()) else {
+        return ExecEnd::Memory
+    };
+    run_in_cells(boxes, ports, edges, cells, report, wires)
 }
 
-fn run_reporting(
-    alloc: Global,
-    boxes: &mut Vec<Box<dyn Processor + Send>>,
-    table: Table,
-    wires: &[Wire],
-) -> ExecEnd
-    requires under_way { IsUnderWay wires.now (map (λ b. seen b) boxes.old.items) table }
-    requires idle { AreIdle table }
-    ensures stays { StayAll (map (λ b. seen b) boxes.old.items) (map (λ b. seen b) boxes.new.items) }
-    ensures end { EndHolds result wires.now (map (λ b. seen b) boxes.new.items) }
-{
-    match Vec::with_capacity(alloc, table.marks.len()) {
-        Ok(report) => run_table(boxes, table, report, wires),
-        Err(_) => ExecEnd::Memory,
-    }
-}
-
-fn run_table(
-    boxes: &mut Vec<Box<dyn Processor + Send>>,
-    table: Table,
+/// Moves the processors into cells, runs them, and moves them back.
+fn run_in_cells<P: Processor>(
+    boxes: &mut Vec<P>,
+    mut ports: Vec<NodePorts>,
+    edges: Vec<Edge>,
+    mut cells: Vec<Cell<P>>,
     report: Vec<StuckNode>,
-    wires: &[Wire],
+    wires: List<Wire>,
 ) -> ExecEnd
-    requires under_way { IsUnderWay wires.now (map (λ b. seen b) boxes.old.items) table }
-    requires idle { AreIdle table }
-    requires empty { report.items ≡ [] }
-    requires room { length table.marks.items ≤ vec_capacity report }
-    ensures stays { StayAll (map (λ b. seen b) boxes.old.items) (map (λ b. seen b) boxes.new.items) }
-    ensures end { EndHolds result wires.now (map (λ b. seen b) boxes.new.items) }
+    requires graph { HoldsGraph (length boxes.old.items) wires }
+    requires fresh { All IsFresh (map P.seen boxes.old.items) }
+    requires no_list { All IsNoList (map P.seen boxes.old.items) }
+    requires ports_len { length ports.items ≡ length boxes.old.items }
+    requires ports { AreNewFrom wires 0 ports.items }
+    requires edges { AreNewEdges (length wires) edges.items }
+    requires cells { cells.items ≡ [] }
+    requires cells_room { length boxes.old.items ≤ vec_capacity cells }
+    requires report { report.items ≡ [] }
+    requires report_room { length boxes.old.items ≤ vec_capacity report }
+    ensures back { GivenBack (map P.seen boxes.old.items) (map P.seen boxes.new.items) }
+    ensures end { EndHolds result wires (map P.seen boxes.new.items) }
 {
-    let mut table = table;
-    match run_rounds(boxes, &mut table, wires) {
-        Ok(true) => end_of(boxes, &table, report, wires),
+    fill_cells(&mut cells, boxes, &mut ports);
+    let mut state = ExecutorState {
+        cells,
+        wires,
+        edges,
+    };
+    let end = run_state(&mut state, report);
+    let ExecutorState {
+        mut cells,
+        wires: _,
+        edges: _,
+    } = state;
+    empty_cells(boxes, &mut cells);
+    end
+}
+
+fn run_state<P: Processor>(state: &mut ExecutorState<P>, report: Vec<StuckNode>) -> ExecEnd
+    requires under_way { IsUnderWay P.seen state.old }
+    requires empty { report.items ≡ [] }
+    requires room { length state.old.cells.items ≤ vec_capacity report }
+    ensures stays { Stays P.seen state.old state.new }
+    ensures end { EndHolds result state.old.wires (boxes_of (cells_of P.seen state.new.cells.items)) }
+{
+    match run_rounds(state) {
+        Ok(true) => end_of(state, report),
         Ok(false) => ExecEnd::Memory,
-        Err(f) => fault_end(boxes, f, wires),
+        Err(f) => fault_end(state, f),
     }
 }
 
-fn fault_end(boxes: &Vec<Box<dyn Processor + Send>>, f: NodeFault, wires: &[Wire]) -> ExecEnd
-    requires few { length boxes.now.items ≤ 256 }
-    requires fails { FailsAt f.node f.fault (map (λ b. seen b) boxes.now.items) }
-    ensures { EndHolds result wires.now (map (λ b. seen b) boxes.now.items) }
+fn fault_end<P: Processor>(state: &ExecutorState<P>, f: NodeFault) -> ExecEnd
+    requires few { length state.now.cells.items ≤ 256 }
+    requires fails { FailsAt f.node f.fault (cells_of P.seen state.now.cells.items) }
+    ensures { EndHolds result state.now.wires (boxes_of (cells_of P.seen state.now.cells.items)) }
 {
     match f.fault {
         WorkFault::Memory => ExecEnd::Memory,
@@ -116,23 +143,17 @@ fn fault_end(boxes: &Vec<Box<dyn Processor + Send>>, f: NodeFault, wires: &[Wire
     }
 }
 
-fn end_of(
-    boxes: &Vec<Box<dyn Processor + Send>>,
-    table: &Table,
-    report: Vec<StuckNode>,
-    wires: &[Wire],
-) -> ExecEnd
-    requires under_way { IsUnderWay wires.now (map (λ b. seen b) boxes.now.items) table.now }
-    requires idle { AreIdle table.now }
-    requires settled { IsNothingDue table.now.marks.items }
+fn end_of<P: Processor>(state: &ExecutorState<P>, report: Vec<StuckNode>) -> ExecEnd
+    requires under_way { IsUnderWay P.seen state.now }
+    requires settled { IsNothingDue (cells_of P.seen state.now.cells.items) }
     requires empty { report.items ≡ [] }
-    requires room { length table.now.marks.items ≤ vec_capacity report }
-    ensures { EndHolds result wires.now (map (λ b. seen b) boxes.now.items) }
+    requires room { length state.now.cells.items ≤ vec_capacity report }
+    ensures { EndHolds result state.now.wires (boxes_of (cells_of P.seen state.now.cells.items)) }
 {
     let mut report = report;
-    match first_liar(table) {
+    match first_unlawful(&state.cells) {
         Some(n) => {
-            list_stuck(&mut report, &table.marks);
+            list_stuck(&mut report, &state.cells);
             ExecEnd::Stuck(List::from_vec(report), n as u32)
         }
         None => ExecEnd::Done,

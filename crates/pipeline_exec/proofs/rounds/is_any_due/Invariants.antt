@@ -1,7 +1,8 @@
 use Rattle.std.proofs.Common.{◌≡◌, ◌<◌, ℕ, false}
-use Rattle.exec_laws.specs.Runs.{mark_at}
-use Rattle.pipeline_exec.specs.UnderWay.{is_waiting}
+use Rattle.exec_laws.specs.Moves.{is_waiting}
+use Rattle.exec_laws.specs.Runs.{cell_at}
+use Rattle.pipeline_exec.specs.Cells.{cells_of}
 use Rattle.pipeline_exec.proofs.rounds.is_any_due.Given as goal
 
 abbrev pub invariant-loop-n : goal.invariant-loop-n
-invariant-loop-n l = (k : ℕ) → k < l.n → is_waiting (mark_at l.marks.items k) ≡ false
+invariant-loop-n g l = (k : ℕ) → k < l.n → is_waiting (cell_at (cells_of g.P.Processor.seen l.cells.items) k).mark.state ≡ false

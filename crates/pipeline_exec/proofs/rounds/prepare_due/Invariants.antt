@@ -1,10 +1,5 @@
-use Rattle.std.proofs.Common.{map}
-use Rattle.pipeline_exec.specs.UnderWay.{IsUnderWay, AreIdle, StayAll}
+use Rattle.pipeline_exec.specs.Cells.{IsUnderWay, Stays}
 use Rattle.pipeline_exec.proofs.rounds.prepare_due.Given as goal
 
 abbrev pub invariant-loop-n : goal.invariant-loop-n
-invariant-loop-n g l = record {
-  under_way : IsUnderWay l.wires (map (λ b. (goal.Processor-dyn g (b.vtable, b.value)).seen b.value) l.boxes.items) l.table;
-  idle : AreIdle l.table;
-  stays : StayAll (map (λ b. (goal.Processor-dyn g (b.vtable, b.value)).seen b.value) l.initial.boxes.items) (map (λ b. (goal.Processor-dyn g (b.vtable, b.value)).seen b.value) l.boxes.items);
-}
+invariant-loop-n g l = record { under_way : IsUnderWay g.P.Processor.seen l.state; stays : Stays g.P.Processor.seen l.initial.state l.state }

@@ -1,0 +1,6 @@
+use Rattle.std.proofs.Common.{◌≡◌, ◌<◌, ℕ, true}
+use Rattle.port_word.specs.Pictures.{input_at, is_in_finished}
+use Rattle.pipeline_exec.proofs.cell.is_all_finished.Given as goal
+
+abbrev pub invariant-loop-i : goal.invariant-loop-i
+invariant-loop-i l = (j : ℕ) → j < l.i → is_in_finished (input_at l.view j).flags ≡ true

@@ -1,0 +1,7 @@
+use Rattle.std.proofs.Common.{◌<◌, ℕ}
+use Rattle.exec_laws.specs.Runs.{cell_at}
+use Rattle.pipeline_exec.specs.Cells.{BearsOut, cells_of}
+use Rattle.pipeline_exec.proofs.ending.first_unlawful.Given as goal
+
+abbrev pub invariant-loop-n : goal.invariant-loop-n
+invariant-loop-n g l = (k : ℕ) → k < l.n → BearsOut (cell_at (cells_of g.P.Processor.seen l.cells.items) k)

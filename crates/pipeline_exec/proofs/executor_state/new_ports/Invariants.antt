@@ -1,0 +1,6 @@
+use Rattle.std.proofs.Common.{◌≡◌, length}
+use Rattle.pipeline_exec.specs.Cells.{AreNewFrom}
+use Rattle.pipeline_exec.proofs.executor_state.new_ports.Given as goal
+
+abbrev pub invariant-loop-node : goal.invariant-loop-node
+invariant-loop-node l = record { len : length l.all.items ≡ l.node; new : AreNewFrom l.wires 0 l.all.items }
