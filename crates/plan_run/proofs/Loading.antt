@@ -13,9 +13,9 @@ use Rattle.proc_api.specs.Boxes.{BoxPicture, no_box}
 use Rattle.proc_api.specs.Clauses.{IsBlank, IsFresh, Loads, Unloads}
 use Rattle.exec_laws.specs.Runs.{box_at}
 use Rattle.pipeline_exec.specs.Ends.{IsNoList}
-use Rattle.pipeline_exec.specs.UnderWay.{OnlyBox}
+use Rattle.plan_run.specs.OneBox.{OnlyBox}
 use Rattle.pipeline_exec.proofs.Lists.{one-more}
-use Rattle.pipeline_exec.proofs.At.{box-read, box-set, only-box}
+use Rattle.plan_run.proofs.OneBox.{box-read, box-set, only-box}
 use Rattle.plan_run.specs.Plans.{kinds_in, kinds_of, spec_at}
 use Rattle.plan_run.specs.Steps.{AreStill, IsStill, LoadsFirst, UnloadsFirst}
 

@@ -1,18 +1,18 @@
 -- What a run of a plan tells, from the steps that it is made of.
-use Rattle.std.proofs.Common.{◌≡◌, ◌⊎◌, ℕ, ◌+◌, ◌<◌, ◌≤◌, true, List, [], ◌++◌, map, length, Some, None, Result, Ok, Err, IfOk, IfErr, refl, ap, subst, ◌∙◌, sym, arith}
+use Rattle.std.proofs.Common.{◌≡◌, ◌⊎◌, ℕ, ◌+◌, ◌<◌, ◌≤◌, true, List, [], ◌++◌, map, length, Some, None, IsSome, Result, Ok, Err, IfOk, IfErr, refl, ap, subst, ◌∙◌, sym, arith}
 use Rattle.std.specs.List.{All}
 use Rattle.std.proofs.lemmas.Bool.{both_ways}
 use Rattle.std.proofs.lemmas.List.{append-nil, get_or-map, length-map, ext_get_or}
-use Rattle.std.proofs.lemmas.List.Elements.{All-append}
+use Rattle.std.proofs.lemmas.List.Elements.{All-append, All-get_or}
 use Rattle.chunk_data.specs.Values.{Table}
 use Rattle.query_model.specs.Kinds.{kind_of}
 use Rattle.query_model.specs.declared.processor_spec.Kind.{Kind}
 use Rattle.query_model.specs.declared.processor_spec.Spec.{Spec}
 use Rattle.query_model.specs.declared.processor_spec.Spec.TheVariants as spec
 use Rattle.proc_api.specs.Boxes.{BoxPicture, Notes, no_box, no_notes}
-use Rattle.proc_api.specs.Clauses.{IsBlank, IsSourceKind, HasNoReader, Loads, Unloads}
+use Rattle.proc_api.specs.Clauses.{IsBlank, IsFresh, IsSourceKind, HasNoReader, Loads, Unloads}
 use Rattle.proc_api.specs.Histories.{raised}
-use Rattle.exec_laws.specs.Runs.{box_at}
+use Rattle.exec_laws.specs.Runs.{IsBorn, box_at}
 use Rattle.exec_laws.specs.Moves.{StaysBox}
 use Rattle.exec_laws.specs.Ends.{GivenBack}
 use Rattle.plan_run.specs.declared.run.PlanFault.{PlanFault}
@@ -251,3 +251,12 @@ taken-rows specs taken loaded after nodes r chunks len nodes_are f h =
     let same : nodes ≡ length specs = sym nodes_are ∙ f.count ∙ len in
     if-ok r (λ v. GivesRows (RunsLoaded loaded after) nodes (chunks v)) (λ v. GivesRows (RunsTaken specs taken after) (length specs) (chunks v))
     (λ v k. rows-by (RunsLoaded loaded after) (RunsTaken specs taken after) (length specs) (chunks v) (λ ended. taken-runs specs taken loaded after ended len f) (subst (λ n. GivesRows (RunsLoaded loaded after) n (chunks v)) same k)) h
+
+-- boxes that were fresh are loaded still
+pub all-born : (loaded ended : List BoxPicture) → All IsFresh loaded → GivenBack loaded ended → (n : ℕ)
+    → n < length ended → IsBorn (box_at ended n)
+unfolding box_at
+all-born loaded ended fresh back n lt =
+    let before : n < length loaded = subst (λ k. n < k) back.count lt in
+    let f : IsFresh (box_at loaded n) = All-get_or IsFresh loaded n no_box before fresh in
+    subst (λ s. IsSome s) (sym (back.each n before).same.spec) f.loaded

@@ -1,4 +1,5 @@
 pub mod Chains
 pub mod Stock
+pub mod OneBox
 pub mod Plans
 pub mod Steps

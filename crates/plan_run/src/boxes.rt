@@ -4,7 +4,7 @@ ghost use Rattle.query_model.specs.Kinds.{kind_of};
 ghost use Rattle.proc_api.specs.Clauses.{IsBlank, Loads, Unloads};
 ghost use Rattle.proc_api.specs.Racks.{is_of};
 ghost use Rattle.exec_laws.specs.Runs.{box_at};
-ghost use Rattle.pipeline_exec.specs.UnderWay.{OnlyBox};
+ghost use Rattle.plan_run.specs.OneBox.{OnlyBox};
 ghost use Rattle.plan_run.specs.Plans.{kinds_in, kinds_of};
 ghost use Rattle.plan_run.specs.Stock.{first_of, without_first, taken_for, left_after, HasStock};
 ghost use Rattle.plan_run.specs.Steps.{AreStill, GivesUnloaded, LoadsFirst, UnloadsFirst};

@@ -3,7 +3,7 @@ ghost use Rattle.std.specs.List.{All};
 ghost use Rattle.query_model.specs.Kinds.{kind_of};
 ghost use Rattle.query_model.specs.declared.processor_spec.Kind.TheVariants as kinds;
 ghost use Rattle.proc_api.specs.Clauses.{handed_out_by, IsBlank, IsFresh};
-ghost use Rattle.exec_laws.specs.Runs.{box_at};
+ghost use Rattle.exec_laws.specs.Runs.{IsBorn, box_at};
 ghost use Rattle.pipeline_exec.specs.Ends.{EndHolds, IsNoList};
 ghost use Rattle.plan_run.specs.Chains.{chain_ranks, chain_wires};
 ghost use Rattle.plan_run.specs.Stock.{HasStock};
@@ -182,6 +182,7 @@ fn result_of(
     end: ExecEnd,
 ) -> Result<Vec<Chunk>, PlanFault>
     requires some_nodes { 1 ≤ length boxes.old.items }
+    requires born { (n : ℕ) → n < length (map (λ b. seen b) boxes.old.items) → IsBorn (box_at (map (λ b. seen b) boxes.old.items) n) }
     requires end { EndHolds end (chain_wires (length boxes.old.items)) (map (λ b. seen b) boxes.old.items) }
     ensures still { AreStill (map (λ b. seen b) boxes.old.items) (map (λ b. seen b) boxes.new.items) }
     ensures rows { IfOk result (λ chunks. GivesRows (IsThese (map (λ b. seen b) boxes.old.items)) (length boxes.old.items) chunks.items) }

@@ -1,4 +1,4 @@
-use Rattle.pipeline_exec.proofs.At.{box-read, box-set, only-box}
+use Rattle.plan_run.proofs.OneBox.{box-read, box-set, only-box}
 use Rattle.plan_run.proofs.boxes.load_at.Goals as goal
 
 pub load_box-requires-clause-blank : goal.load_box-requires-clause-blank

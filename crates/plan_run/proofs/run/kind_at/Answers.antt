@@ -1,6 +1,6 @@
 use Rattle.std.proofs.Common.{ap, sym, ◌∙◌, rules}
 use Rattle.proc_api.specs.Boxes.{BoxPicture}
-use Rattle.pipeline_exec.proofs.At.{box-read}
+use Rattle.plan_run.proofs.OneBox.{box-read}
 use Rattle.plan_run.proofs.Telling.{reads-at}
 use Rattle.plan_run.proofs.run.kind_at.Goals as goal
 

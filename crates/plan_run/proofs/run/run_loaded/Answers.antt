@@ -1,6 +1,6 @@
 use Rattle.std.proofs.Common.{sym, ap, ◌∙◌, length}
 use Rattle.plan_run.proofs.Chains.{chain-graph-of, chain-length}
-use Rattle.plan_run.proofs.Telling.{run-later}
+use Rattle.plan_run.proofs.Telling.{all-born, run-later}
 use Rattle.plan_run.proofs.run.run_loaded.Goals as goal
 
 pub invariant_of-graph : goal.invariant_of-graph
@@ -12,3 +12,6 @@ invariant_of-graph g c = record {
 
 pub returns-clause-later : goal.returns-clause-later
 returns-clause-later g c = run-later _ _ _ c.run_graph-boxes.ensures.back c.result_of-result.ensures.still
+
+pub result_of-result-requires-clause-born : goal.result_of-result-requires-clause-born
+result_of-result-requires-clause-born g c = all-born _ _ c.requires.fresh c.run_graph-boxes.ensures.back

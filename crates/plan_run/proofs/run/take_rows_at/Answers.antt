@@ -1,4 +1,4 @@
-use Rattle.pipeline_exec.proofs.At.{box-read}
+use Rattle.plan_run.proofs.OneBox.{box-read}
 use Rattle.plan_run.proofs.Loading.{still-at}
 use Rattle.plan_run.proofs.run.take_rows_at.Goals as goal
 
