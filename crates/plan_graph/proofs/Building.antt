@@ -1,0 +1,85 @@
+-- One port, wire or node more.
+use Rattle.std.proofs.Common.{◌≡◌, ℕ, zero, suc, ◌+◌, ◌<◌, ◌≤◌, List, [], ◌∷◌, ◌++◌, length, take, drop, get_or, refl, sym, ap, ◌∙◌, arith}
+use Rattle.std.proofs.lemmas.List.{take_more, get_or-drop, length-drop, length-take-le}
+use Rattle.plan_graph.specs.Drafts.{AllFitDraft, Draft, FitsDraft, ports_of, run_of, wires_to, with_node, with_nodes}
+use Rattle.plan_graph.specs.declared.nodes.DraftNode.{DraftNode}
+use Rattle.plan_graph.specs.declared.nodes.NodePort.{NodePort}
+
+ports-suc : (n o k : ℕ) → ports_of n o (suc k) ≡ ports_of n o k ++ record { node = n; port = o + k }
+    ∷ []
+ports-suc n o zero = ap (λ (m : ℕ). record { node = n; port = m } ∷ []) (omega arith)
+ports-suc n o (suc k) =
+    let place : suc o + k ≡ o + suc k = omega arith in
+    ap (λ l. record { node = n; port = o } ∷ l) (ports-suc n (suc o) k
+    ∙ ap (λ m. ports_of n (suc o) k ++ record { node = n; port = m } ∷ []) place)
+
+pub ports-more : (n k : ℕ) → ports_of n 0 (k + 1) ≡ ports_of n 0 k ++ record { node = n; port = k }
+    ∷ []
+ports-more n k =
+    let next : k + 1 ≡ suc k = omega arith in
+    let here : 0 + k ≡ k = omega arith in
+    ap (ports_of n 0) next ∙ ports-suc n 0 k
+    ∙ ap (λ m. ports_of n 0 k ++ record { node = n; port = m } ∷ []) here
+
+wires-push : (n i : ℕ) (es : List NodePort) (e : NodePort)
+    → wires_to n i (es ++ e ∷ []) ≡ wires_to n i es ++ record {
+      from = e.node;
+      out = e.port;
+      to = n;
+      input = i + length es;
+    } ∷ []
+wires-push n i [] e = ap (λ (m : ℕ). record { from = e.node; out = e.port; to = n; input = m } ∷ [])
+    (omega arith)
+wires-push n i (x ∷ es) e =
+    let place : suc i + length es ≡ i + suc (length es) = omega arith in
+    ap (λ l. record { from = x.node; out = x.port; to = n; input = i } ∷ l)
+    (wires-push n (suc i) es e
+    ∙ ap (λ m. wires_to n (suc i) es ++ record {
+      from = e.node;
+      out = e.port;
+      to = n;
+      input = m;
+    } ∷ []) place)
+
+pub run-more : {X : Type 0} (a k : ℕ) (xs : List X) (d : X) → a + k < length xs
+    → run_of a (k + 1) xs ≡ run_of a k xs ++ get_or xs (a + k) d ∷ []
+run-more a k xs d lt = take_more (drop a xs) k d (omega (arith, lt, length-drop a xs))
+    ∙ ap (λ x. take k (drop a xs) ++ x ∷ []) (get_or-drop a xs k d)
+
+pub wires-more : (n a k : ℕ) (xs : List NodePort) (d : NodePort) → a + k < length xs
+    → wires_to n 0 (run_of a (k + 1) xs) ≡ wires_to n 0 (run_of a k xs)
+    ++ record {
+      from = (get_or xs (a + k) d).node;
+      out = (get_or xs (a + k) d).port;
+      to = n;
+      input = k;
+    } ∷ []
+wires-more n a k xs d lt =
+    let e : NodePort = get_or xs (a + k) d in
+    let len : 0 + length (run_of a k xs) ≡ k = let le : k ≤ length (drop a xs) =
+    omega (arith, lt, length-drop a xs) in omega (arith, length-take-le k (drop a xs) le) in
+    ap (wires_to n 0) (run-more a k xs d lt) ∙ wires-push n 0 (run_of a k xs) e
+    ∙ ap (λ m. wires_to n 0 (run_of a k xs) ++ record {
+      from = e.node;
+      out = e.port;
+      to = n;
+      input = m;
+    } ∷ []) len
+
+pub nodes-push : (nodes : List DraftNode) (node : DraftNode) (d : Draft)
+    → with_nodes (nodes ++ node ∷ []) d ≡ with_node node (with_nodes nodes d)
+nodes-push [] node d = refl
+nodes-push (x ∷ nodes) node d = nodes-push nodes node (with_node x d)
+
+pub nodes-more : (nodes : List DraftNode) (i : ℕ) (node : DraftNode) (d : Draft) → i < length nodes
+    → node ≡ get_or nodes i node
+    → with_nodes (take (i + 1) nodes) d ≡ with_node node (with_nodes (take i nodes) d)
+nodes-more nodes i node d lt is = ap (λ l. with_nodes l d) (take_more nodes i node lt
+    ∙ ap (λ x. take i nodes ++ x ∷ []) (sym is)) ∙ nodes-push (take i nodes) node d
+
+-- the node at each place fits what the nodes before it made
+pub fit-at : (nodes : List DraftNode) (i : ℕ) (e : DraftNode) (d : Draft) → i < length nodes
+    → AllFitDraft nodes d → FitsDraft (get_or nodes i e) (with_nodes (take i nodes) d)
+fit-at [] i e d lt f = absurd (omega (arith, lt))
+fit-at (x ∷ nodes) zero e d lt f = f.0
+fit-at (x ∷ nodes) (suc i) e d lt f = fit-at nodes i e (with_node x d) (omega (arith, lt)) f.1

@@ -1,0 +1,215 @@
+-- The ports of nodes in order: each once, without a gap, and as many of each node as it has.
+use Rattle.std.proofs.Common.{◌≡◌, ℕ, zero, suc, ◌+◌, ◌<◌, ◌≤◌, ◌==◌, ◌&&◌, cond, Bool, true, false, List, [], ◌∷◌, ◌++◌, length, get_or, refl, sym, ap, subst, ◌∙◌, arith, ◌⊎◌, inl, inr}
+use Rattle.std.specs.Prelude.{sum_by}
+use Rattle.std.specs.List.{All, Contains, IsDistinct, AllByRecursion}
+use Rattle.std.proofs.lemmas.Bool.{cases_lt, eqb-true, eq-eqb, both_ways, and_from, and_parts, false_from_ne_true}
+use Rattle.std.proofs.lemmas.List.{append-nil, append_assoc}
+use Rattle.std.proofs.lemmas.List.Elements.{All-nil, All-cons, All-append, All-weaker, recursion_from_All, All-from_recursion, Contains-append_left, Contains-append_right}
+use Rattle.std.proofs.lemmas.List.Sums.{sum_by-append, sum_by-cons}
+use Rattle.std.proofs.lemmas.Map.Keys.{IsDistinct-cons, apart_from_distinct}
+use Rattle.plan_graph.specs.declared.nodes.NodePort.{NodePort}
+use Rattle.plan_graph.specs.Drafts.{ports_from, ports_of}
+
+-- ---- one more node
+
+pub ports_from-push : (n : ℕ) (ks : List ℕ) (k : ℕ) → ports_from n (ks ++ k ∷ []) ≡ ports_from n ks
+    ++ ports_of (n + length ks) 0 k
+ports_from-push n [] k = let here : n ≡ n + 0 = omega arith in append-nil (ports_of n 0 k)
+    ∙ ap (λ m. ports_of m 0 k) here
+ports_from-push n (j ∷ ks) k =
+    let place : suc n + length ks ≡ n + suc (length ks) = omega arith in
+    ap (λ l. ports_of n 0 j ++ l) (ports_from-push (suc n) ks k
+    ∙ ap (λ m. ports_from (suc n) ks ++ ports_of m 0 k) place)
+    ∙ sym (append_assoc (ports_of n 0 j) (ports_from (suc n) ks)
+    (ports_of (n + suc (length ks)) 0 k))
+
+-- ---- which ports there are
+
+-- the port is one of the ports of the nodes, the first of which is node n
+pub record IsPortFrom (n : ℕ) (ks : List ℕ) (p : NodePort) : Type 0 where
+  pub place : ℕ
+  pub is : n + place ≡ p.node
+  pub in_range : place < length ks
+  pub below : p.port < get_or ks place 0
+
+ports_of-all : (P : NodePort → Type 0) (n o k : ℕ)
+    → ((i : ℕ) → i < o + k → P (record { node = n; port = i })) → All P (ports_of n o k)
+ports_of-all P n o zero h = All-nil P
+ports_of-all P n o (suc k) h = All-cons P _ _ (h o (omega arith))
+    (ports_of-all P n (suc o) k (λ i lt. h i (omega (arith, lt))))
+
+pub ports-from : (n : ℕ) (ks : List ℕ) → All (IsPortFrom n ks) (ports_from n ks)
+ports-from n [] = All-nil (IsPortFrom n [])
+ports-from n (k ∷ ks) = All-append (IsPortFrom n (k ∷ ks)) _ _
+    (ports_of-all (IsPortFrom n (k ∷ ks)) n 0 k
+    (λ i lt. record {
+      place = 0;
+      is = omega arith;
+      in_range = omega arith;
+      below = omega (arith, lt);
+    }))
+    (All-weaker (IsPortFrom (suc n) ks) (IsPortFrom n (k ∷ ks))
+    (λ p h. let at : suc n + h.place ≡ p.node = h.is in let lt : h.place < length ks = h.in_range in
+    record {
+      place = suc h.place;
+      is = omega (arith, at);
+      in_range = omega (arith, lt);
+      below = h.below;
+    })
+    (ports_from (suc n) ks) (ports-from (suc n) ks))
+
+ports_of-contains : (n o k i : ℕ) → o ≤ i → i < o + k
+    → Contains (ports_of n o k) (record { node = n; port = i })
+ports_of-contains n o zero i le lt = absurd (omega (arith, le, lt))
+ports_of-contains n o (suc k) i le lt = elim (cases_lt o i) [
+  | inl more ↦ Contains-append_right (record { node = n; port = o } ∷ []) (ports_of n (suc o) k) _
+      (ports_of-contains n (suc o) k i (omega (arith, more)) (omega (arith, lt)))
+  | inr here ↦ let same : o ≡ i = omega (arith, le, here) in
+      (0, omega arith, ap (λ m. record { node = n; port = m }) same)
+]
+
+pub ports-contain : (n m j i : ℕ) (ks : List ℕ) → n + m ≡ j → i < get_or ks m 0
+    → Contains (ports_from n ks) (record { node = j; port = i })
+ports-contain n m j i [] e lt = absurd (omega (arith, lt))
+ports-contain n zero j i (k ∷ ks) e lt =
+    let same : n ≡ j = omega (arith, e) in
+    Contains-append_left (ports_of n 0 k) (ports_from (suc n) ks) _
+    (subst (λ m. Contains (ports_of n 0 k) (record { node = m; port = i })) same
+    (ports_of-contains n 0 k i (omega arith) (omega (arith, lt))))
+ports-contain n (suc m) j i (k ∷ ks) e lt = Contains-append_right (ports_of n 0 k)
+    (ports_from (suc n) ks) _ (ports-contain (suc n) m j i ks (omega (arith, e)) lt)
+
+-- ---- each once
+
+abbrev pub same_port : NodePort → NodePort → Bool
+same_port p q = (p.node == q.node) && (p.port == q.port)
+
+pub eqb-flips : (a b : ℕ) → (a == b) ≡ (b == a)
+eqb-flips a b = go (a == b) (b == a) refl refl
+  where
+    go : (x y : Bool) → (a == b) ≡ x → (b == a) ≡ y → x ≡ y
+    go true true e f = refl
+    go false false e f = refl
+    go true false e f = absurd (both_ways _ f (eq-eqb _ _ (sym (eqb-true _ _ e))))
+    go false true e f = absurd (both_ways _ e (eq-eqb _ _ (sym (eqb-true _ _ f))))
+
+pub same_port-from : (p q : NodePort) → p.node ≡ q.node → p.port ≡ q.port → same_port p q ≡ true
+same_port-from p q n o = and_from _ _ (eq-eqb _ _ n) (eq-eqb _ _ o)
+
+node-differs : (p q : NodePort) → p.node < q.node → same_port p q ≡ false
+node-differs p q lt = false_from_ne_true _ (λ e. let same : p.node ≡ q.node =
+    eqb-true _ _ (and_parts _ _ e).0 in omega (arith, lt, same))
+
+port-differs : (p q : NodePort) → p.port < q.port → same_port p q ≡ false
+port-differs p q lt = false_from_ne_true _ (λ e. let same : p.port ≡ q.port =
+    eqb-true _ _ (and_parts _ _ e).1 in omega (arith, lt, same))
+
+later-differ : (n o m k : ℕ) → o < m
+    → All (λ q. same_port (record { node = n; port = o }) q ≡ false) (ports_of n m k)
+later-differ n o m zero lt = All-nil _
+later-differ n o m (suc k) lt = All-cons (λ q. same_port (record { node = n; port = o }) q ≡ false)
+    _ _ (port-differs _ _ lt) (later-differ n o (suc m) k (omega (arith, lt)))
+
+distinct-of : (n o k : ℕ) → IsDistinct same_port (ports_of n o k)
+unfolding IsDistinct
+distinct-of n o zero = tt
+distinct-of n o (suc k) = IsDistinct-cons same_port (record { node = n; port = o })
+    (ports_of n (suc o) k) (recursion_from_All _ _ (later-differ n o (suc o) k (omega arith)))
+    (distinct-of n (suc o) k)
+
+joined-distinct : (xs ys : List NodePort) → IsDistinct same_port xs → IsDistinct same_port ys
+    → AllByRecursion (λ x. All (λ y. same_port x y ≡ false) ys) xs
+    → IsDistinct same_port (xs ++ ys)
+unfolding IsDistinct
+joined-distinct [] ys d e h = e
+joined-distinct (x ∷ xs) ys d e h = IsDistinct-cons same_port x (xs ++ ys)
+    (recursion_from_All _ _
+    (All-append (λ y. same_port x y ≡ false) xs ys (All-from_recursion _ _ d.0) h.0))
+    (joined-distinct xs ys d.1 e h.1)
+
+distinct-from : (n : ℕ) (ks : List ℕ) → IsDistinct same_port (ports_from n ks)
+unfolding IsDistinct
+distinct-from n [] = tt
+distinct-from n (k ∷ ks) = joined-distinct (ports_of n 0 k) (ports_from (suc n) ks)
+    (distinct-of n 0 k) (distinct-from (suc n) ks)
+    (recursion_from_All _ _
+    (ports_of-all (λ x. All (λ y. same_port x y ≡ false) (ports_from (suc n) ks)) n 0 k
+    (λ i lt. All-weaker (IsPortFrom (suc n) ks) (λ y. same_port (record { node = n; port = i }) y
+    ≡ false)
+    (λ q h. let at : suc n + h.place ≡ q.node = h.is in
+    node-differs (record { node = n; port = i }) q (omega (arith, at))) _
+    (ports-from (suc n) ks))))
+
+pub same-place : (ps : List NodePort) (e f : ℕ) (d : NodePort) → IsDistinct same_port ps
+    → e < length ps → f < length ps
+    → (get_or ps e d).node ≡ (get_or ps f d).node → (get_or ps e d).port ≡ (get_or ps f d).port
+    → e ≡ f
+same-place ps e f d distinct le lf n o = go (cases_lt e f) (cases_lt f e)
+  where
+    go : (e < f) ⊎ (f ≤ e) → (f < e) ⊎ (e ≤ f) → e ≡ f
+    go (inl lt) h = absurd (both_ways _ (apart_from_distinct same_port ps e f d distinct lt lf)
+        (same_port-from _ _ n o))
+    go (inr ge) (inl lt) =
+        absurd (both_ways _ (apart_from_distinct same_port ps f e d distinct lt le)
+        (same_port-from _ _ (sym n) (sym o)))
+    go (inr ge) (inr le) = omega (arith, ge, le)
+
+pub ports-distinct : (n : ℕ) (ks : List ℕ) → IsDistinct same_port (ports_from n ks)
+ports-distinct n ks = distinct-from n ks
+
+-- ---- how many
+
+abbrev one_if : Bool → ℕ
+one_if b = cond b 1 0
+
+abbrev pub at_node : ℕ → NodePort → ℕ
+at_node n p = one_if (p.node == n)
+
+count-of : (n o k : ℕ) → sum_by (at_node n) (ports_of n o k) ≡ k
+count-of n o zero = refl
+count-of n o (suc k) =
+    let here : (n == n) ≡ true = eq-eqb n n refl in
+    let rest : sum_by (at_node n) (ports_of n (suc o) k) ≡ k = count-of n (suc o) k in
+    let first : at_node n (record { node = n; port = o }) ≡ 1 = ap one_if here in
+    sum_by-cons (at_node n) (record { node = n; port = o }) (ports_of n (suc o) k)
+    ∙ omega (arith, first, rest)
+
+count-none : (ps : List NodePort) (n : ℕ)
+    → AllByRecursion (λ (p : NodePort). n < p.node ⊎ p.node < n) ps → sum_by (at_node n) ps ≡ 0
+count-none [] n h = refl
+count-none (p ∷ ps) n h =
+    let other : (p.node == n) ≡ false = false_from_ne_true _ (λ e. let same : p.node ≡ n =
+    eqb-true _ _ e in
+    elim h.0 [ inl lt ↦ omega (arith, same, lt) | inr lt ↦ omega (arith, same, lt) ]) in
+    let first : at_node n p ≡ 0 = ap one_if other in
+    let rest : sum_by (at_node n) ps ≡ 0 = count-none ps n h.1 in
+    sum_by-cons (at_node n) p ps ∙ omega (arith, first, rest)
+
+none-of : (n o k j : ℕ) → n < j → sum_by (at_node j) (ports_of n o k) ≡ 0
+none-of n o k j lt = count-none (ports_of n o k) j
+    (recursion_from_All _ _ (ports_of-all (λ (p : NodePort). j < p.node ⊎ p.node < j) n o k
+    (λ i h. inr lt)))
+
+none-later : (n j : ℕ) (ks : List ℕ) → j < n → sum_by (at_node j) (ports_from n ks) ≡ 0
+none-later n j ks lt = count-none (ports_from n ks) j
+    (recursion_from_All _ _ (All-weaker (IsPortFrom n ks) (λ (p : NodePort). j < p.node
+    ⊎ p.node < j)
+    (λ p h. let at : n + h.place ≡ p.node = h.is in inl (omega (arith, at, lt))) (ports_from n ks)
+    (ports-from n ks)))
+
+-- each node has as many ports as it is given
+pub count-at : (n m j : ℕ) (ks : List ℕ) → n + m ≡ j → sum_by (at_node j) (ports_from n ks) ≡ get_or
+    ks m 0
+count-at n m j [] e = refl
+count-at n zero j (k ∷ ks) e =
+    let same : n ≡ j = omega (arith, e) in
+    let here : sum_by (at_node j) (ports_of n 0 k) ≡ k =
+    subst (λ i. sum_by (at_node i) (ports_of n 0 k) ≡ k) same (count-of n 0 k) in
+    let rest : sum_by (at_node j) (ports_from (suc n) ks) ≡ 0 =
+    none-later (suc n) j ks (omega (arith, same)) in
+    sum_by-append (at_node j) (ports_of n 0 k) (ports_from (suc n) ks) ∙ omega (arith, here, rest)
+count-at n (suc m) j (k ∷ ks) e =
+    let here : sum_by (at_node j) (ports_of n 0 k) ≡ 0 = none-of n 0 k j (omega (arith, e)) in
+    let rest : sum_by (at_node j) (ports_from (suc n) ks) ≡ get_or ks m 0 =
+    count-at (suc n) m j ks (omega (arith, e)) in
+    sum_by-append (at_node j) (ports_of n 0 k) (ports_from (suc n) ks) ∙ omega (arith, here, rest)

@@ -1,0 +1,26 @@
+-- Blocks of nodes that plans are made of.
+use Rattle.std.specs.Prelude.{ℕ, zero, suc, List, [], ◌∷◌}
+use Rattle.query_model.specs.declared.processor_spec.Spec.{Spec}
+use Rattle.plan_graph.specs.declared.nodes.DraftNode.{DraftNode}
+
+-- sources, whose outputs stand behind the open ends
+abbrev pub source_nodes : ℕ → List Spec → List DraftNode
+source_nodes i [] = []
+source_nodes i (s ∷ specs) = record { spec = s; rank = 1; offset = i; takes = 0; gives = 1 }
+    ∷ source_nodes (suc i) specs
+
+-- one node in each of so many lanes, the first of them lane i
+abbrev pub lane_nodes : Spec → ℕ → ℕ → ℕ → List DraftNode
+lane_nodes s rank i zero = []
+lane_nodes s rank i (suc k) = record { spec = s; rank = rank; offset = i; takes = 1; gives = 1 }
+    ∷ lane_nodes s rank (suc i) k
+
+-- a node that takes the first open ends
+abbrev pub joint_node : Spec → ℕ → ℕ → ℕ → DraftNode
+joint_node s rank takes gives = record {
+  spec = s;
+  rank = rank;
+  offset = 0;
+  takes = takes;
+  gives = gives;
+}
