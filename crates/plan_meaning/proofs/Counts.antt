@@ -1,0 +1,239 @@
+-- A plan's nodes counted step by step: their number, their inputs, those of a kind.
+use Rattle.std.proofs.Common.{◌≡◌, ℕ, zero, suc, ◌+◌, ◌*◌, ◌≤◌, List, [], ◌∷◌, ◌++◌, length, Option, Some, None, refl, sym, ap, ◌∙◌, arith}
+use Rattle.std.proofs.lemmas.List.{length-append}
+use Rattle.std.proofs.lemmas.List.Sums.{sum_by-append, sum_by-cons}
+use Rattle.query_model.specs.Expressions.{Cond}
+use Rattle.query_model.specs.declared.query.Span.{Span}
+use Rattle.query_model.specs.declared.processor_spec.SortSpec.{SortSpec}
+use Rattle.query_model.specs.declared.processor_spec.Spec.{Spec}
+use Rattle.query_model.specs.declared.processor_spec.Spec.TheVariants as spec
+use Rattle.plan_graph.specs.declared.nodes.DraftNode.{DraftNode}
+use Rattle.plan_graph.specs.declared.nodes.NodePort.{NodePort}
+use Rattle.plan_graph.specs.Blocks.{source_nodes, lane_nodes, joint_node}
+use Rattle.plan_graph.specs.Drafts.{Draft, with_node, with_nodes, wires_to, taken_by, AllFitDraft}
+use Rattle.plan_graph.proofs.Places.{run-length}
+use Rattle.plan_meaning.specs.Plans.{PlanShape, plain, grouped, PlanJoin, SelectPlan, filter_nodes, limit_nodes, read_nodes, gather_nodes, sort_nodes, shape_nodes, body_nodes, collect_node, plan_nodes, FewJoined, IsSmall}
+use Rattle.plan_meaning.specs.Counts.{Count, counted, each_node, each_input, sources_count, read_count, filter_count, gather_count, sort_count, shape_count, limit_count, plan_count}
+
+-- ---- step by step
+
+counted-append : (w : Count) (xs ys : List DraftNode)
+    → counted w (xs ++ ys) ≡ counted w xs + counted w ys
+counted-append w xs ys = sum_by-append (λ (n : DraftNode). w n.spec n.takes) xs ys
+
+counted-cons : (w : Count) (x : DraftNode) (xs : List DraftNode)
+    → counted w (x ∷ xs) ≡ w x.spec x.takes + counted w xs
+counted-cons w x xs = sum_by-cons (λ (n : DraftNode). w n.spec n.takes) x xs
+
+lanes-counted : (w : Count) (s : Spec) (rank i n : ℕ) → counted w (lane_nodes s rank i n) ≡ n * w s
+    1
+lanes-counted w s rank i zero = omega arith
+lanes-counted w s rank i (suc n) =
+    let rest : counted w (lane_nodes s rank (suc i) n) ≡ n * w s 1 = lanes-counted w s rank (suc i)
+    n in
+    counted-cons w (record { spec = s; rank = rank; offset = i; takes = 1; gives = 1 })
+    (lane_nodes s rank (suc i) n) ∙ omega (arith, rest)
+
+sources-counted : (w : Count) (i : ℕ) (specs : List Spec)
+    → counted w (source_nodes i specs) ≡ sources_count w specs
+sources-counted w i [] = refl
+sources-counted w i (s ∷ specs) =
+    counted-cons w (record { spec = s; rank = 1; offset = i; takes = 0; gives = 1 })
+    (source_nodes (suc i) specs)
+    ∙ ap (λ n. w s 0 + n) (sources-counted w (suc i) specs) ∙ sym (sum_by-cons (λ t. w t 0) s specs)
+
+one-counted : (w : Count) (x : DraftNode) → counted w (x ∷ []) ≡ w x.spec x.takes
+one-counted w x = counted-cons w x [] ∙ omega arith
+
+read-counted : (w : Count) (sources : List Spec) (join : Option PlanJoin) (lanes : ℕ)
+    → counted w (read_nodes sources join lanes) ≡ read_count w sources join
+read-counted w sources None lanes =
+    counted-append w (source_nodes 0 sources) (joint_node spec.Resize 2 (length sources) lanes ∷ [])
+    ∙ omega (
+      arith,
+      sources-counted w 0 sources,
+      one-counted w (joint_node spec.Resize 2 (length sources) lanes),
+    )
+read-counted w sources (Some j) lanes =
+    let a : DraftNode = joint_node spec.Resize 2 (length sources) 1 in
+    let b : DraftNode = record {
+      spec = spec.Resize;
+      rank = 2;
+      offset = 1;
+      takes = length j.sources;
+      gives = 1;
+    } in
+    let c : DraftNode = joint_node (spec.HashJoin j.join) 3 2 1 in
+    let d : DraftNode = joint_node spec.Resize 4 1 lanes in
+    counted-append w (source_nodes 0 sources) (a ∷ (source_nodes 1 j.sources ++ (b ∷ c ∷ d ∷ [])))
+    ∙ omega (
+      arith,
+      sources-counted w 0 sources,
+      counted-cons w a (source_nodes 1 j.sources ++ (b ∷ c ∷ d ∷ [])),
+      counted-append w (source_nodes 1 j.sources) (b ∷ c ∷ d ∷ []),
+      sources-counted w 1 j.sources,
+      counted-cons w b (c ∷ d ∷ []),
+      counted-cons w c (d ∷ []),
+      one-counted w d,
+    )
+
+filter-counted : (w : Count) (f : Option Cond) (rank n : ℕ)
+    → counted w (filter_nodes f rank n) ≡ filter_count w f n
+filter-counted w None rank n = refl
+filter-counted w (Some c) rank n = lanes-counted w (spec.Filter c) rank 0 n
+
+gather-counted : (w : Count) (order : Option SortSpec) (lanes : ℕ)
+    → counted w (gather_nodes order lanes) ≡ gather_count w order lanes
+gather-counted w None lanes = one-counted w (joint_node spec.Resize 12 lanes 1)
+gather-counted w (Some o) lanes =
+    counted-append w (lane_nodes (spec.Sort o) 11 0 lanes)
+    (joint_node (spec.MergeSorted o) 12 lanes 1 ∷ [])
+    ∙ omega (
+      arith,
+      lanes-counted w (spec.Sort o) 11 0 lanes,
+      one-counted w (joint_node (spec.MergeSorted o) 12 lanes 1),
+    )
+
+sort-counted : (w : Count) (order : Option SortSpec) → counted w (sort_nodes order) ≡ sort_count w
+    order
+sort-counted w None = refl
+sort-counted w (Some o) = one-counted w (joint_node (spec.Sort o) 11 1 1)
+
+shape-counted : (w : Count) (shape : PlanShape) (order : Option SortSpec) (lanes : ℕ)
+    → counted w (shape_nodes shape order lanes) ≡ shape_count w shape order lanes
+shape-counted w (plain items) order lanes =
+    counted-append w (lane_nodes (spec.Expression items) 6 0 lanes) (gather_nodes order lanes)
+    ∙ omega (arith, lanes-counted w (spec.Expression items) 6 0 lanes, gather-counted w order lanes)
+shape-counted w (grouped arguments g having picks) order lanes =
+    let sorts : List DraftNode = sort_nodes order in
+    let picked : List DraftNode = lane_nodes (spec.Expression picks) 10 0 1 ++ sorts in
+    let kept : List DraftNode = filter_nodes having 9 1 ++ picked in
+    let merge : DraftNode = joint_node (spec.MergeAggregate g) 8 lanes 1 in
+    counted-append w (lane_nodes (spec.Expression arguments) 6 0 lanes)
+    (lane_nodes (spec.PartialAggregate g) 7 0 lanes ++ (merge ∷ kept))
+    ∙ omega (
+      arith,
+      lanes-counted w (spec.Expression arguments) 6 0 lanes,
+      counted-append w (lane_nodes (spec.PartialAggregate g) 7 0 lanes) (merge ∷ kept),
+      lanes-counted w (spec.PartialAggregate g) 7 0 lanes,
+      counted-cons w merge kept,
+      counted-append w (filter_nodes having 9 1) picked,
+      filter-counted w having 9 1,
+      counted-append w (lane_nodes (spec.Expression picks) 10 0 1) sorts,
+      lanes-counted w (spec.Expression picks) 10 0 1,
+      sort-counted w order,
+    )
+
+limit-counted : (w : Count) (l : Option Span) → counted w (limit_nodes l) ≡ limit_count w l
+limit-counted w None = refl
+limit-counted w (Some span) = one-counted w (joint_node (spec.Limit span) 13 1 1)
+
+-- A plan's nodes count what its steps say.
+pub plan-counted : (w : Count) (p : SelectPlan) → counted w (plan_nodes p) ≡ plan_count w p
+plan-counted w p =
+    let shape : List DraftNode = shape_nodes p.shape p.order p.lanes in
+    let limit : List DraftNode = limit_nodes p.limit in
+    counted-append w (body_nodes p) (collect_node ∷ [])
+    ∙ omega (
+      arith,
+      one-counted w collect_node,
+      counted-append w (read_nodes p.sources p.join p.lanes) (filter_nodes p.filter 5 p.lanes
+          ++ (shape ++ limit)),
+      read-counted w p.sources p.join p.lanes,
+      counted-append w (filter_nodes p.filter 5 p.lanes) (shape ++ limit),
+      filter-counted w p.filter 5 p.lanes,
+      counted-append w shape limit,
+      shape-counted w p.shape p.order p.lanes,
+      limit-counted w p.limit,
+    )
+
+-- ---- nodes and edges
+
+nodes-counted : (nodes : List DraftNode) → length nodes ≡ counted each_node nodes
+nodes-counted [] = refl
+nodes-counted (node ∷ nodes) =
+    let rest = nodes-counted nodes in let step = counted-cons each_node node nodes in
+    omega (arith, rest, step)
+
+wires-length : (n i : ℕ) (ends : List NodePort) → length (wires_to n i ends) ≡ length ends
+wires-length n i [] = refl
+wires-length n i (e ∷ ends) = ap suc (wires-length n (suc i) ends)
+
+pub wires-counted : (nodes : List DraftNode) (d : Draft) → AllFitDraft nodes d
+    → length (with_nodes nodes d).wires ≡ length d.wires + counted each_input nodes
+wires-counted [] d f = omega arith
+wires-counted (node ∷ nodes) d f =
+    let n : ℕ = length d.ranks in
+    let taken : List NodePort = taken_by node d.ends in
+    omega (
+      arith,
+      wires-counted nodes (with_node node d) f.1,
+      length-append d.wires (wires_to n 0 taken),
+      wires-length n 0 taken,
+      run-length node.offset node.takes d.ends f.0.in_range,
+      counted-cons each_input node nodes,
+    )
+
+few-sources : (specs : List Spec) → sources_count each_node specs ≡ length specs
+few-sources [] = refl
+few-sources (s ∷ specs) =
+    let rest = few-sources specs in let step = sum_by-cons (λ (t : Spec). each_node t 0) s specs in
+    omega (arith, rest, step)
+
+no-inputs : (specs : List Spec) → sources_count each_input specs ≡ 0
+no-inputs [] = refl
+no-inputs (s ∷ specs) =
+    let rest = no-inputs specs in let step = sum_by-cons (λ (t : Spec). each_input t 0) s specs in
+    omega (arith, rest, step)
+
+few-read : (sources : List Spec) (join : Option PlanJoin) → length sources ≤ 32 → FewJoined join
+    → (read_count each_node sources join ≤ 68) × (read_count each_input sources join ≤ 67)
+few-read sources None few fj = (
+  omega (arith, few, few-sources sources),
+  omega (arith, few, no-inputs sources),
+)
+few-read sources (Some j) few fj = (
+  omega (arith, few, fj, few-sources sources, few-sources j.sources),
+  omega (arith, few, fj, no-inputs sources, no-inputs j.sources),
+)
+
+few-filters : (f : Option Cond) (lanes : ℕ) → (filter_count each_node f lanes ≤ lanes)
+    × (filter_count each_input f lanes ≤ lanes)
+few-filters None lanes = (omega arith, omega arith)
+few-filters (Some c) lanes = (omega arith, omega arith)
+
+few-shape : (shape : PlanShape) (order : Option SortSpec) (lanes : ℕ) → lanes ≤ 16
+    → (shape_count each_node shape order lanes ≤ 36)
+    × (shape_count each_input shape order lanes ≤ 52)
+few-shape (plain items) None lanes few = (omega (arith, few), omega (arith, few))
+few-shape (plain items) (Some o) lanes few = (omega (arith, few), omega (arith, few))
+few-shape (grouped arguments g having picks) None lanes few =
+    let h = few-filters having 1 in (omega (arith, few, h.0), omega (arith, few, h.1))
+few-shape (grouped arguments g having picks) (Some o) lanes few =
+    let h = few-filters having 1 in (omega (arith, few, h.0), omega (arith, few, h.1))
+
+few-limits : (l : Option Span) → (limit_count each_node l ≤ 1) × (limit_count each_input l ≤ 1)
+few-limits None = (omega arith, omega arith)
+few-limits (Some span) = (omega arith, omega arith)
+
+-- A small plan has at most 124 nodes, and few inputs.
+pub few-nodes : (p : SelectPlan) → IsSmall p → (length (plan_nodes p) ≤ 124)
+    × (counted each_input (plan_nodes p) ≤ 140)
+few-nodes p s =
+    let lanes = s.few_lanes in
+    let r = few-read p.sources p.join s.few_sources s.few_joined in
+    let f = few-filters p.filter p.lanes in
+    let h = few-shape p.shape p.order p.lanes s.few_lanes in
+    let l = few-limits p.limit in (
+      omega (
+        arith,
+        lanes,
+        r.0,
+        f.0,
+        h.0,
+        l.0,
+        nodes-counted (plan_nodes p),
+        plan-counted each_node p,
+      ),
+      omega (arith, lanes, r.1, f.1, h.1, l.1, plan-counted each_input p),
+    )

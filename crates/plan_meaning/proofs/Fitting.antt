@@ -1,0 +1,152 @@
+-- Each plan with few parts and lanes fits.
+use Rattle.std.proofs.Common.{◌≡◌, ℕ, ◌<◌, ◌≤◌, Option, Some, None, List, [], ◌∷◌, ◌++◌, length, replicate, refl, sym, ap, ◌∙◌, arith}
+use Rattle.std.proofs.lemmas.List.{append-nil, length-replicate}
+use Rattle.query_model.specs.Expressions.{Cond}
+use Rattle.query_model.specs.declared.query.Span.{Span}
+use Rattle.query_model.specs.declared.processor_spec.Spec.{Spec}
+use Rattle.query_model.specs.declared.processor_spec.SortSpec.{SortSpec}
+use Rattle.plan_graph.specs.Drafts.{AllFitEnds, ranks_after, replaced, run_of}
+use Rattle.plan_graph.specs.declared.nodes.DraftNode.{DraftNode}
+use Rattle.plan_meaning.specs.Plans.{FewJoined, IsSmall, PlanJoin, PlanShape, SelectPlan, body_nodes, collect_node, filter_nodes, gather_nodes, grouped, limit_nodes, plain, plan_nodes, read_nodes, shape_nodes, sort_nodes}
+use Rattle.plan_graph.proofs.Fitting.{FitsBlock, Levels, all-front', block-append, joint-fit, joint-level, lanes-level, level-append, same-ranks, sources-fit, stay-level}
+use Rattle.plan_graph.specs.Blocks.{joint_node, lane_nodes, source_nodes}
+use Rattle.plan_graph.proofs.Places.{replaced-at, run-at}
+use Rattle.query_model.specs.declared.processor_spec.Spec.TheVariants as spec
+
+filter-level : (f : Option Cond) (q n r t : ℕ) → r < q → q < t
+    → Levels (filter_nodes f q n) (replicate n r) n t
+filter-level None q n r t low high = stay-level n r t (omega (arith, low, high))
+filter-level (Some c) q n r t low high = lanes-level (spec.Filter c) q n r t low high
+
+join-fit : (j : PlanJoin) → length j.sources ≤ 32
+    → FitsBlock (record {
+      spec = spec.Resize;
+      rank = 2;
+      offset = 1;
+      takes = length j.sources;
+      gives = 1;
+    } ∷ []) (2 ∷ replicate (length j.sources) 1) (2 ∷ 2 ∷ [])
+join-fit j few =
+    let p : ℕ = length j.sources in
+    let mid : List ℕ = replicate p 1 in
+    let at : 2 ∷ mid ≡ (2 ∷ []) ++ (mid ++ []) = ap (λ l. 2 ∷ l) (sym (append-nil mid)) in
+    record {
+      fit = (
+        record {
+          in_range = let one : ℕ = 1 in let len = length-replicate p one in omega (arith, len);
+          ranked = all-front' (λ r. r < 2) (run_of 1 p (2 ∷ mid)) mid
+              (same-ranks p 1 2 (omega arith)) (ap (run_of 1 p) at
+              ∙ run-at 1 p (2 ∷ []) mid [] refl (length-replicate p 1));
+          few_inputs = few;
+          few_outputs = omega arith;
+        },
+        tt,
+      );
+      leaves = ap (λ l. replaced 1 p (2 ∷ []) l) at
+          ∙ replaced-at 1 p (2 ∷ []) (2 ∷ []) mid [] refl (length-replicate p 1);
+    }
+
+read-level : (sources : List Spec) (join : Option PlanJoin) (lanes : ℕ) → length sources ≤ 32
+    → FewJoined join → lanes ≤ 16 → Levels (read_nodes sources join lanes) [] lanes 5
+read-level sources None lanes few fj fl =
+    let p : ℕ = length sources in
+    level-append (source_nodes 0 sources) (joint_node spec.Resize 2 p lanes ∷ []) [] p 2 lanes 5
+    (record { rank = 1; low = omega arith; block = sources-fit sources 0 [] refl })
+    (λ r low. joint-level spec.Resize 2 p lanes r 5 low (omega arith) few fl)
+read-level sources (Some j) lanes few fj fl =
+    let p : ℕ = length sources in
+    let q : ℕ = length j.sources in
+    let second : DraftNode = record {
+      spec = spec.Resize;
+      rank = 2;
+      offset = 1;
+      takes = q;
+      gives = 1;
+    } in
+    record {
+      rank = 4;
+      low = omega arith;
+      block =
+          block-append (source_nodes 0 sources) _ [] (replicate p 1) (replicate lanes 4)
+          (sources-fit sources 0 [] refl)
+          (block-append (joint_node spec.Resize 2 p 1 ∷ []) _ (replicate p 1) (2 ∷ [])
+          (replicate lanes 4)
+          (joint-fit spec.Resize 2 p 1 (replicate p 1) (length-replicate p 1)
+          (same-ranks p 1 2 (omega arith)) few (omega arith))
+          (block-append (source_nodes 1 j.sources) _ (2 ∷ []) (2 ∷ replicate q 1)
+          (replicate lanes 4) (sources-fit j.sources 1 (2 ∷ []) refl)
+          (block-append (second ∷ []) _ (2 ∷ replicate q 1) (2 ∷ 2 ∷ []) (replicate lanes 4)
+          (join-fit j fj)
+          (block-append (joint_node (spec.HashJoin j.join) 3 2 1 ∷ [])
+          (joint_node spec.Resize 4 1 lanes ∷ []) (2 ∷ 2 ∷ []) (3 ∷ []) (replicate lanes 4)
+          (joint-fit (spec.HashJoin j.join) 3 2 1 (2 ∷ 2 ∷ []) refl (same-ranks 2 2 3 (omega arith))
+          (omega arith) (omega arith))
+          (joint-fit spec.Resize 4 1 lanes (3 ∷ []) refl (same-ranks 1 3 4 (omega arith))
+          (omega arith) fl)))));
+    }
+
+gather-level : (order : Option SortSpec) (lanes r : ℕ) → r < 11 → lanes ≤ 16
+    → Levels (gather_nodes order lanes) (replicate lanes r) 1 13
+gather-level None lanes r low few = joint-level spec.Resize 12 lanes 1 r 13 (omega (arith, low))
+    (omega arith) (omega (arith, few)) (omega arith)
+gather-level (Some o) lanes r low few =
+    level-append (lane_nodes (spec.Sort o) 11 0 lanes)
+    (joint_node (spec.MergeSorted o) 12 lanes 1 ∷ []) (replicate lanes r) lanes 12 1 13
+    (lanes-level (spec.Sort o) 11 lanes r 12 low (omega arith))
+    (λ s less. joint-level (spec.MergeSorted o) 12 lanes 1 s 13 less (omega arith)
+    (omega (arith, few)) (omega arith))
+
+sort-level : (order : Option SortSpec) (r : ℕ) → r < 11 → Levels (sort_nodes order) (replicate 1 r)
+    1 13
+sort-level None r low = stay-level 1 r 13 (omega (arith, low))
+sort-level (Some o) r low = joint-level (spec.Sort o) 11 1 1 r 13 low (omega arith) (omega arith)
+    (omega arith)
+
+shape-level : (shape : PlanShape) (order : Option SortSpec) (lanes r : ℕ) → r < 6 → lanes ≤ 16
+    → Levels (shape_nodes shape order lanes) (replicate lanes r) 1 13
+shape-level (plain items) order lanes r low few =
+    level-append (lane_nodes (spec.Expression items) 6 0 lanes) (gather_nodes order lanes)
+    (replicate lanes r) lanes 11 1 13 (lanes-level (spec.Expression items) 6 lanes r 11 low
+    (omega arith))
+    (λ s less. gather-level order lanes s less few)
+shape-level (grouped arguments g having picks) order lanes r low few =
+    level-append (lane_nodes (spec.Expression arguments) 6 0 lanes) _ (replicate lanes r) lanes 7 1
+    13 (lanes-level (spec.Expression arguments) 6 lanes r 7 low (omega arith))
+    (λ s less. level-append (lane_nodes (spec.PartialAggregate g) 7 0 lanes) _ (replicate lanes s)
+    lanes 8 1 13 (lanes-level (spec.PartialAggregate g) 7 lanes s 8 less (omega arith))
+    (λ u small. level-append (joint_node (spec.MergeAggregate g) 8 lanes 1 ∷ []) _
+    (replicate lanes u) 1 9 1 13 (joint-level (spec.MergeAggregate g) 8 lanes 1 u 9 small
+    (omega arith) (omega (arith, few)) (omega arith))
+    (λ v under. level-append (filter_nodes having 9 1) _ (replicate 1 v) 1 10 1 13
+    (filter-level having 9 1 v 10 under (omega arith))
+    (λ w below. level-append (lane_nodes (spec.Expression picks) 10 0 1) (sort_nodes order)
+    (replicate 1 w) 1 11 1 13 (lanes-level (spec.Expression picks) 10 1 w 11 below
+    (omega arith))
+    (λ x lower. sort-level order x lower)))))
+
+limit-level : (l : Option Span) (r : ℕ) → r < 13 → Levels (limit_nodes l) (replicate 1 r) 1 14
+limit-level None r low = stay-level 1 r 14 (omega (arith, low))
+limit-level (Some span) r low = joint-level (spec.Limit span) 13 1 1 r 14 low (omega arith)
+    (omega arith) (omega arith)
+
+-- the plan fits up to the collector, and leaves one end open
+pub body-level : (p : SelectPlan) → IsSmall p → Levels (body_nodes p) [] 1 14
+body-level p s =
+    level-append (read_nodes p.sources p.join p.lanes) _ [] p.lanes 5 1 14
+    (read-level p.sources p.join p.lanes s.few_sources s.few_joined s.few_lanes)
+    (λ r low. level-append (filter_nodes p.filter 5 p.lanes) _ (replicate p.lanes r) p.lanes 6 1 14
+    (filter-level p.filter 5 p.lanes r 6 low (omega arith))
+    (λ u small. level-append (shape_nodes p.shape p.order p.lanes) (limit_nodes p.limit)
+    (replicate p.lanes u) 1 13 1 14 (shape-level p.shape p.order p.lanes u small s.few_lanes)
+    (λ v under. limit-level p.limit v under)))
+
+-- the plan fits, and leaves no end open
+pub plan-fits : (p : SelectPlan) → IsSmall p → AllFitEnds (plan_nodes p) []
+    × (ranks_after (plan_nodes p) [] ≡ [])
+plan-fits p s =
+    let body : Levels (body_nodes p) [] 1 14 = body-level p s in
+    let all : FitsBlock (plan_nodes p) [] [] =
+    block-append (body_nodes p) (collect_node ∷ []) [] (body.rank ∷ []) [] body.block
+    (joint-fit spec.Collect 14 1 0 (body.rank ∷ []) refl (same-ranks 1 body.rank 14 body.low)
+    (omega arith) (omega arith)) in
+    (all.fit, all.leaves)

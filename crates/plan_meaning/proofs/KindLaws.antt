@@ -1,0 +1,557 @@
+-- What each kind gave by the end of a run is the first of what it makes where nobody closes an
+-- input.
+use Rattle.std.proofs.Common.{ap₂, ◌≡◌, ℕ, zero, suc, ◌+◌, ◌≤◌, ◌==◌, leb, Bool, true, false, cond, ◌&&◌, ◌||◌, Some, List, [], ◌∷◌, ◌++◌, length, map, filter, take, drop, refl, sym, ap, subst, ◌∙◌, arith, inl, inr, IsPermutation, ◌<◌, ◌⊎◌}
+use Rattle.std.specs.List.{AllZip, AllByRecursion, list_all}
+use Rattle.std.proofs.lemmas.Bool.{and_parts, and_from, or_left, or_right, le-leb, eqb-true, cases_lt, both_ways}
+use Rattle.std.proofs.lemmas.List.{append-nil, append_assoc, length-append, map-append, take-append-le, drop-append-le, length-drop}
+use Rattle.std.proofs.lemmas.List.Elements.{filter-append}
+use Rattle.std.proofs.lemmas.List.Sorted.{IsPermutation-refl, IsPermutation-trans, IsPermutation-append_left, IsPermutation-append_right, IsPermutation-append_comm, length_permutation}
+use Rattle.query_model.proofs.Lists.{IsPermutation-same}
+use Rattle.std.specs.Prelude.{IsSorted}
+use Rattle.std.specs.Ordering.{is_lt}
+use Rattle.query_model.proofs.AnswerLaws.{joined_rows-append}
+use Rattle.chunk_data.specs.Values.{Row, row_cmp}
+use Rattle.chunk_data.specs.declared.typed_value.SortKey.{SortKey}
+use Rattle.query_model.specs.declared.checked.KeyPair.{KeyPair}
+use Rattle.query_model.specs.Expressions.{holds}
+use Rattle.query_model.specs.Answers.{item_row, limited, enough}
+use Rattle.query_model.specs.Sources.{numbers, joined_rows}
+use Rattle.query_model.specs.declared.query.Span.{Span}
+use Rattle.query_model.specs.declared.processor_spec.Spec.{Spec}
+use Rattle.plan_meaning.proofs.Fronts.{Behind, behind, certain-inputs, needed-inputs, no-rest}
+use Rattle.plan_meaning.specs.Streams.{Flow, ManyToOne, OneToNone, OneToOne, Parts, Source, Stream, TwoToOne, all_certain, all_done, all_rows, any_done, any_needs, flow_rows, flows_of, rows_of}
+use Rattle.plan_meaning.specs.Gives.{FrontOf, Gives, GivesFront, GivesHeld, GivesJoined, GivesLimited, GivesMerged, GivesPart, GivesResized, GivesThrough, HoldsBack, IsMergeOf, IsSortOf, merged_rows, partial_rows}
+use Rattle.plan_meaning.proofs.Orders.{InOrder, every-append, every-none, every-permuted, order-from_sorted, order-front, order-joined, ordered, ordered-none, ordered-order, ordered-same, rows-ordered, sorted-from_order}
+use Rattle.plan_meaning.specs.Meaning.{IsFront}
+use Rattle.plan_meaning.specs.Makes.{Makes, is_certain, is_needed, join_needs}
+use Rattle.query_model.specs.declared.processor_spec.Spec.TheVariants as spec
+
+-- for a kind with one output
+record CompletesOne (M : List Row → Type 0) (certain needs : Bool) (o : Stream) : Type 0 where
+  pub out : List Row
+  pub makes : M out
+  pub front : IsFront o (record { rows = out; certain = certain; needs = needs })
+
+pub record CompletesKind (M : List (List Row) → List (List Row) → Type 0) (certain needs : Bool)
+    (fs : List Flow) (outs : List Stream) : Type 0 where
+  pub lists : List (List Row)
+  pub makes : M (flow_rows fs) lists
+  pub fronts : AllZip IsFront outs (flows_of certain needs lists)
+
+one-to-one : (R : Stream → Stream → Type 0) (M : List Row → List Row → Type 0) (C N : List Flow
+    → Bool)
+    → ((i o : Stream) (f : Flow) → R i o → IsFront i f
+    → CompletesOne (M f.rows) (C (f ∷ [])) (N (f ∷ [])) o)
+    → (ins outs : List Stream) (fs : List Flow) → OneToOne R ins outs → AllZip IsFront ins fs
+    → CompletesKind (OneToOne M) (C fs) (N fs) fs outs
+one-to-one R M C N step [] outs fs r z = absurd r
+one-to-one R M C N step (i ∷ j ∷ ins) outs fs r z = absurd r
+one-to-one R M C N step (i ∷ []) [] fs r z = absurd r
+one-to-one R M C N step (i ∷ []) (o ∷ p ∷ outs) fs r z = absurd r
+one-to-one R M C N step (i ∷ []) (o ∷ []) [] r z = absurd z
+one-to-one R M C N step (i ∷ []) (o ∷ []) (f ∷ g ∷ fs) r z = absurd z.1
+one-to-one R M C N step (i ∷ []) (o ∷ []) (f ∷ []) r z = let w = step i o f r z.0 in
+    record { lists = w.out ∷ []; makes = w.makes; fronts = (w.front, tt) }
+
+two-to-one : (R : Stream → Stream → Stream → Type 0) (M : List Row → List Row → List Row → Type 0)
+    (C N : List Flow → Bool)
+    → ((l r o : Stream) (f g : Flow) → R l r o → IsFront l f → IsFront r g
+    → CompletesOne (M f.rows g.rows) (C (f ∷ g ∷ [])) (N (f ∷ g ∷ [])) o)
+    → (ins outs : List Stream) (fs : List Flow) → TwoToOne R ins outs → AllZip IsFront ins fs
+    → CompletesKind (TwoToOne M) (C fs) (N fs) fs outs
+two-to-one R M C N step [] outs fs q z = absurd q
+two-to-one R M C N step (l ∷ []) outs fs q z = absurd q
+two-to-one R M C N step (l ∷ r ∷ i ∷ ins) outs fs q z = absurd q
+two-to-one R M C N step (l ∷ r ∷ []) [] fs q z = absurd q
+two-to-one R M C N step (l ∷ r ∷ []) (o ∷ p ∷ outs) fs q z = absurd q
+two-to-one R M C N step (l ∷ r ∷ []) (o ∷ []) [] q z = absurd z
+two-to-one R M C N step (l ∷ r ∷ []) (o ∷ []) (f ∷ []) q z = absurd z.1
+two-to-one R M C N step (l ∷ r ∷ []) (o ∷ []) (f ∷ g ∷ h ∷ fs) q z = absurd z.1.1
+two-to-one R M C N step (l ∷ r ∷ []) (o ∷ []) (f ∷ g ∷ []) q z = let w =
+    step l r o f g q z.0 z.1.0 in
+    record { lists = w.out ∷ []; makes = w.makes; fronts = (w.front, tt) }
+
+many-to-one : (R : List Stream → Stream → Type 0) (M : List (List Row) → List Row → Type 0)
+    (C N : List Flow → Bool)
+    → ((ins : List Stream) (o : Stream) (fs : List Flow) → R ins o → AllZip IsFront ins fs
+    → CompletesOne (M (flow_rows fs)) (C fs) (N fs) o)
+    → (ins outs : List Stream) (fs : List Flow) → ManyToOne R ins outs → AllZip IsFront ins fs
+    → CompletesKind (ManyToOne M) (C fs) (N fs) fs outs
+many-to-one R M C N step ins [] fs r z = absurd r
+many-to-one R M C N step ins (o ∷ p ∷ outs) fs r z = absurd r
+many-to-one R M C N step ins (o ∷ []) fs r z = let w = step ins o fs r z in
+    record { lists = w.out ∷ []; makes = w.makes; fronts = (w.front, tt) }
+
+source : (P : Stream → Type 0) (M : List Row → Type 0) (C : List Flow → Bool)
+    → ((o : Stream) → P o → CompletesOne M (C []) true o)
+    → (ins outs : List Stream) (fs : List Flow) → Source P ins outs → AllZip IsFront ins fs
+    → CompletesKind (Source M) (C fs) true fs outs
+source P M C step (i ∷ ins) outs fs r z = absurd r
+source P M C step [] [] fs r z = absurd r
+source P M C step [] (o ∷ p ∷ outs) fs r z = absurd r
+source P M C step [] (o ∷ []) (f ∷ fs) r z = absurd z
+source P M C step [] (o ∷ []) [] r z = let w = step o r in
+    record { lists = w.out ∷ []; makes = w.makes; fronts = (w.front, tt) }
+
+-- more rows in, more rows behind those that came out
+abbrev Extends : (List Row → List Row) → Type 0
+Extends make = (xs ys : List Row) → (rest : List Row) × (make xs ++ rest ≡ make (xs ++ ys))
+
+-- a row that came out came of one
+some-input : (make : List Row → List Row) → make [] ≡ [] → (ins outs rest : List Row)
+    → outs ++ rest ≡ make ins → 0 < length outs → 0 < length ins
+some-input make none [] outs rest e some = let len = ap length (e ∙ none) in
+    absurd (omega (arith, some, len, length-append outs rest))
+some-input make none (i ∷ ins) outs rest e some = omega arith
+
+through : (make : List Row → List Row) → Extends make → make [] ≡ [] → (i o : Stream) (f : Flow)
+    → GivesThrough make i o → IsFront i f
+    → CompletesOne (λ b. b ≡ make f.rows) (f.certain && true) (f.needs || false) o
+through make extends none i o f g h =
+    let more = extends i.rows h.rest in
+    record {
+      out = make f.rows;
+      makes = refl;
+      front = record {
+        rest = g.front.rest ++ more.0;
+        is = sym (append_assoc o.rows g.front.rest more.0) ∙ ap (λ l. l ++ more.0) g.front.is
+            ∙ more.1 ∙ ap make h.is;
+        all = λ e. g.front.all e ∙ ap make (h.all (g.input_done e));
+        certain = λ e. and_from _ _ (h.certain (g.input_done e)) refl;
+        needs = λ some. or_left _ _
+            (h.needs (some-input make none i.rows o.rows g.front.rest g.front.is some));
+      };
+    }
+
+limited-extends : (span : Span) → Extends (limited (Some span))
+limited-extends span xs ys =
+    let d = drop-extends span.skip xs ys in
+    let t = take-extends span.count (drop span.skip xs) d.0 in
+    (t.0, t.1 ∙ ap (take span.count) d.1)
+  where
+    drop-extends : (n : ℕ) (xs ys : List Row) → (rest : List Row)
+        × (drop n xs ++ rest ≡ drop n (xs ++ ys))
+    drop-extends zero xs ys = (ys, refl)
+    drop-extends (suc n) [] ys = (drop (suc n) ys, refl)
+    drop-extends (suc n) (x ∷ xs) ys = drop-extends n xs ys
+
+    take-extends : (n : ℕ) (xs ys : List Row) → (rest : List Row)
+        × (take n xs ++ rest ≡ take n (xs ++ ys))
+    take-extends zero xs ys = ([], refl)
+    take-extends (suc n) [] ys = (take (suc n) ys, refl)
+    take-extends (suc n) (x ∷ xs) ys = let more = take-extends n xs ys in
+        (more.0, ap (λ l. x ∷ l) more.1)
+
+limited-enough : (span : Span) (xs ys : List Row) → enough span ≤ length xs
+    → limited (Some span) xs ≡ limited (Some span) (xs ++ ys)
+limited-enough span xs ys le = go span.count (span.count == 0) refl le
+  where
+    go : (count : ℕ) (b : Bool) → (count == 0) ≡ b → cond b 1 (span.skip + count) ≤ length xs
+        → take count (drop span.skip xs) ≡ take count (drop span.skip (xs ++ ys))
+    go count true e le = let none : count ≡ 0 = eqb-true _ _ e in rw (none) refl
+    go count false e le =
+        let len = length-drop span.skip xs in
+        sym (ap (take count) (drop-append-le span.skip xs ys (omega (arith, le)))
+        ∙ take-append-le count (drop span.skip xs) ys (omega (arith, le, len)))
+
+enough-some : (span : Span) → 0 < enough span
+enough-some span = go span.count (span.count == 0) refl
+  where
+    go : (count : ℕ) (b : Bool) → (count == 0) ≡ b → 0 < cond b 1 (span.skip + count)
+    go count true e = omega arith
+    go zero false e = absurd (cc)
+    go (suc count) false e = omega arith
+
+limited-none : (span : Span) → limited (Some span) [] ≡ []
+limited-none span = ap (take span.count) (dropped span.skip) ∙ taken span.count
+  where
+    dropped : (n : ℕ) → drop n (let none : List Row = [] in none) ≡ []
+    dropped zero = refl
+    dropped (suc n) = refl
+
+    taken : (n : ℕ) → take n (let none : List Row = [] in none) ≡ []
+    taken zero = refl
+    taken (suc n) = refl
+
+limit : (span : Span) (i o : Stream) (f : Flow) → GivesLimited span i o → IsFront i f
+    → CompletesOne (λ b. b ≡ limited (Some span) f.rows)
+    ((f.certain && true) || ((f.needs || false) && leb (enough span) (length (f.rows ++ []))))
+    (f.needs || false) o
+limit span i o f g h =
+    let more = limited-extends span i.rows h.rest in
+    let far : length i.rows ≤ length f.rows = let e = ap length h.is in
+    omega (arith, e, length-append i.rows h.rest) in
+    let same : length (f.rows ++ []) ≡ length f.rows = ap length (append-nil f.rows) in
+    record {
+      out = limited (Some span) f.rows;
+      makes = refl;
+      front = record {
+        rest = g.front.rest ++ more.0;
+        is = sym (append_assoc o.rows g.front.rest more.0) ∙ ap (λ l. l ++ more.0) g.front.is
+            ∙ more.1 ∙ ap (limited (Some span)) h.is;
+        all = λ e. g.front.all e ∙ elim (g.input_done e) [
+          | inl done ↦ ap (limited (Some span)) (h.all done)
+          | inr le ↦ limited-enough span i.rows h.rest le ∙ ap (limited (Some span)) h.is
+        ];
+        certain = λ e. elim (g.input_done e) [
+          | inl done ↦ or_left _ _ (and_from _ _ (h.certain done) refl)
+          | inr le ↦ let enough_there : enough span ≤ length (f.rows ++ []) =
+              omega (arith, le, far, same) in
+              or_right (f.certain && true) _
+              (and_from _ _ (or_left _ _ (h.needs (omega (arith, le, enough-some span))))
+              (le-leb _ _ enough_there))
+        ];
+        needs = λ some. or_left _ _
+            (h.needs (some-input (limited (Some span)) (limited-none span) i.rows o.rows
+            g.front.rest g.front.is some));
+      };
+    }
+
+-- each output but the first stays as it is
+stand-still : (c n : Bool) (outs : List Stream) → (any_done outs ≡ true → c ≡ true)
+    → (0 < length (all_rows (rows_of outs)) → n ≡ true)
+    → AllZip IsFront outs (flows_of c n (rows_of outs))
+stand-still c n [] h k = tt
+stand-still c n (o ∷ outs) h k =
+    let len = length-append o.rows (all_rows (rows_of outs)) in (
+      record {
+        rest = [];
+        is = append-nil o.rows;
+        all = λ e. refl;
+        certain = λ e. h (or_left _ _ e);
+        needs = λ some. k (omega (arith, some, len));
+      },
+      stand-still c n outs (λ e. h (or_right o.done _ e)) (λ some. k (omega (arith, some, len))),
+    )
+
+resize : (ins outs : List Stream) (fs : List Flow) → GivesResized ins outs → AllZip IsFront ins fs
+    → CompletesKind (λ a b. IsPermutation (all_rows a) (all_rows b)) (all_certain fs) (any_needs fs)
+    fs outs
+resize ins [] fs g z = let some = g.some in absurd (omega (arith, some))
+resize ins (o ∷ outs) fs g z =
+    let b : Behind ins fs = behind ins fs z in
+    let extra : List Row = g.waits ++ b.rest in
+    let total = length_permutation _ _ g.rows in
+    let len = length-append (o.rows ++ all_rows (rows_of outs)) g.waits in
+    let heads = length-append o.rows (all_rows (rows_of outs)) in
+    let passed : 0 < length (o.rows ++ all_rows (rows_of outs)) → any_needs fs ≡ true =
+    (λ some. needed-inputs ins fs z (omega (arith, some, total, len))) in
+    record {
+      lists = (o.rows ++ extra) ∷ rows_of outs;
+      makes = IsPermutation-trans _ _ _ b.are
+          (IsPermutation-trans _ _ _ (IsPermutation-append_left b.rest _ _ g.rows)
+          (IsPermutation-trans _ _ _
+          (IsPermutation-same _ _ (append_assoc (o.rows ++ all_rows (rows_of outs)) g.waits
+          b.rest))
+          (put-first o.rows (all_rows (rows_of outs)) extra)));
+      fronts = (
+        record {
+          rest = extra;
+          is = refl;
+          all = λ e. let any : any_done (o ∷ outs) ≡ true = or_left _ _ e in
+              sym (append-nil o.rows)
+              ∙ ap (λ l. o.rows ++ l)
+              (sym (ap₂ (λ k l. k ++ l) (g.nothing_waits any) (b.none (g.inputs_done any))));
+          certain = λ e. certain-inputs ins fs z (g.inputs_done (or_left _ _ e));
+          needs = λ some. passed (omega (arith, some, heads));
+        },
+        stand-still (all_certain fs) (any_needs fs) outs
+            (λ e. certain-inputs ins fs z (g.inputs_done (or_right o.done _ e)))
+            (λ some. passed (omega (arith, some, heads))),
+      );
+    }
+  where
+    put-first : (a b e : List Row) → IsPermutation ((a ++ b) ++ e) ((a ++ e) ++ b)
+    put-first a b e = rw (append_assoc a b e, append_assoc a e b)
+        (IsPermutation-append_right a _ _ (IsPermutation-append_comm b e))
+
+pub done-rows : (ins : List Stream) (fs : List Flow) → AllZip IsFront ins fs → all_done ins ≡ true
+    → rows_of ins ≡ flow_rows fs
+done-rows [] [] h e = refl
+done-rows [] (f ∷ fs) h e = absurd h
+done-rows (i ∷ ins) [] h e = absurd h
+done-rows (i ∷ ins) (f ∷ fs) h e = let both = and_parts _ _ e in
+    ap₂ (λ a b. a ∷ b) (h.0.all both.0) (done-rows ins fs h.1 both.1)
+
+empty-rows : (rows : List Row) → (0 < length rows → ⊥) → rows ≡ []
+empty-rows [] h = refl
+empty-rows (r ∷ rows) h = absurd (h (omega arith))
+
+-- a kind that gives nothing before its inputs are done
+sort-exists : (keys : List SortKey) (rows : List Row) → (out : List Row) × IsSortOf keys rows out
+sort-exists keys rows =
+    let lt = (λ (a b : Row). is_lt (row_cmp keys a b)) in
+    let o = rows-ordered keys in (
+      ordered lt o rows,
+      record {
+        same = ordered-same lt o rows;
+        in_order = sorted-from_order lt o (ordered lt o rows) (ordered-order lt o rows);
+      },
+    )
+
+held : (M M' : List Row → Type 0) (inputs_done c : Bool) → (inputs_done ≡ true → c ≡ true)
+    → (inputs_done ≡ true → (r : List Row) → M r → M' r) → (r : List Row) × M' r
+    → (o : Stream) → GivesHeld M inputs_done o → CompletesOne M' c c o
+held M M' true c certain same exists o g =
+    let w : FrontOf M o = g.whole refl in
+    record {
+      out = w.rows;
+      makes = same refl w.rows w.makes;
+      front = record {
+        rest = w.front.rest;
+        is = w.front.is;
+        all = w.front.all;
+        certain = λ e. certain refl;
+        needs = λ e. certain refl;
+      };
+    }
+held M M' false c certain same exists o g = record {
+  out = exists.0;
+  makes = exists.1;
+  front = record {
+    rest = exists.0;
+    is = ap (λ l. l ++ exists.0) (empty-rows o.rows (λ some. both_ways false refl (g.held some)));
+    all = λ e. absurd (both_ways false refl (g.done_held e));
+    certain = λ e. absurd (both_ways false refl (g.done_held e));
+    needs = λ some. absurd (both_ways false refl (g.held some));
+  };
+}
+
+joined : (pairs : List KeyPair) (l r o : Stream) (f g : Flow) → GivesJoined pairs l r o
+    → IsFront l f → IsFront r g
+    → CompletesOne (λ out. IsPermutation (joined_rows pairs f.rows g.rows) out)
+    (f.certain && (g.certain && true)) (f.needs && g.certain) o
+joined pairs l r o f g k h j = go r.done refl
+  where
+    nothing : r.done ≡ false → l.rows ≡ []
+    nothing e = empty-rows l.rows (λ some. both_ways r.done e (k.held some))
+
+    some-left : 0 < length o.rows → 0 < length l.rows
+    some-left some = elim (cases_lt 0 (length l.rows)) [
+      | inl lt ↦ lt
+      | inr le ↦
+          let none : l.rows ≡ [] = empty-rows l.rows (λ lt. omega (arith, lt, le)) in
+          let total = length_permutation _ _ k.rows in
+          let zero_rows : length (joined_rows pairs l.rows r.rows) ≡ 0 =
+          ap (λ z. length (joined_rows pairs z r.rows)) none in
+          absurd (omega (arith, some, total, zero_rows, length-append o.rows k.rest))
+    ]
+
+    go : (b : Bool) → r.done ≡ b
+        → CompletesOne (λ out. IsPermutation (joined_rows pairs f.rows g.rows) out)
+        (f.certain && (g.certain && true)) (f.needs && g.certain) o
+    go true e =
+        let extra : List Row = joined_rows pairs h.rest r.rows in
+        let split : joined_rows pairs f.rows g.rows ≡ joined_rows pairs l.rows r.rows ++ extra =
+        ap₂ (joined_rows pairs) (sym h.is) (sym (j.all e))
+        ∙ joined_rows-append pairs l.rows h.rest r.rows in
+        record {
+          out = o.rows ++ (k.rest ++ extra);
+          makes = IsPermutation-trans _ _ _ (IsPermutation-same _ _ split)
+              (IsPermutation-trans _ _ _ (IsPermutation-append_left extra _ _ k.rows)
+              (IsPermutation-same _ _ (append_assoc o.rows k.rest extra)));
+          front = record {
+            rest = k.rest ++ extra;
+            is = refl;
+            all = λ d. sym (append-nil o.rows) ∙ ap (λ z. o.rows ++ z)
+                (sym (ap₂ (λ a b. a ++ b) (k.nothing_left d)
+                (ap (λ z. joined_rows pairs z r.rows)
+                (no-rest l.rows h.rest f.rows h.is (h.all (k.left_done d))))));
+            certain = λ d. and_from _ _ (h.certain (k.left_done d))
+                (and_from _ _ (j.certain (k.right_done d)) refl);
+            needs = λ some. and_from _ _ (h.needs (some-left some)) (j.certain e);
+          };
+        }
+    go false e =
+        let none : o.rows ≡ [] = empty-rows o.rows (λ some. let lt = some-left some in
+        let len = ap length (nothing e) in omega (arith, lt, len)) in
+        record {
+          out = joined_rows pairs f.rows g.rows;
+          makes = IsPermutation-refl _;
+          front = record {
+            rest = joined_rows pairs f.rows g.rows;
+            is = ap (λ z. z ++ joined_rows pairs f.rows g.rows) none;
+            all = λ d. absurd (both_ways r.done e (k.right_done d));
+            certain = λ d. absurd (both_ways r.done e (k.right_done d));
+            needs = λ some. let len = ap length none in absurd (omega (arith, some, len));
+          };
+        }
+
+-- the front of a list in order is in order
+front-sorted : (keys : List SortKey) (ins : List Stream) (fs : List Flow) → AllZip IsFront ins fs
+    → AllByRecursion (λ (f : Flow). IsSorted (row_cmp keys) f.rows) fs
+    → AllByRecursion (λ rows. IsSorted (row_cmp keys) rows) (rows_of ins)
+front-sorted keys [] [] z s = tt
+front-sorted keys [] (f ∷ fs) z s = absurd z
+front-sorted keys (i ∷ ins) [] z s = absurd z
+front-sorted keys (i ∷ ins) (f ∷ fs) z s =
+    let lt = (λ (a b : Row). is_lt (row_cmp keys a b)) in
+    let o = rows-ordered keys in (
+      sorted-from_order lt o i.rows
+          (order-front lt o i.rows z.0.rest
+          (order-from_sorted lt o (i.rows ++ z.0.rest)
+          (subst (IsSorted (row_cmp keys)) (sym z.0.is) s.0))),
+      front-sorted keys ins fs z.1 s.1,
+    )
+
+flows-sorted : (keys : List SortKey) (fs : List Flow)
+    → AllByRecursion (λ rows. IsSorted (row_cmp keys) rows) (flow_rows fs)
+    → AllByRecursion (λ (f : Flow). IsSorted (row_cmp keys) f.rows) fs
+flows-sorted keys [] h = tt
+flows-sorted keys (f ∷ fs) h = (h.0, flows-sorted keys fs h.1)
+
+-- an input that holds rows back is done, or has given a row
+held-needs : (keys : List SortKey) (out : List Row) (ins : List Stream) (fs : List Flow)
+    → AllZip IsFront ins fs → AllByRecursion (HoldsBack keys out) ins
+    → list_all (λ (f : Flow). f.certain || f.needs) fs ≡ true
+held-needs keys out [] [] z b = refl
+held-needs keys out [] (f ∷ fs) z b = absurd z
+held-needs keys out (i ∷ ins) [] z b = absurd z
+held-needs keys out (i ∷ ins) (f ∷ fs) z b = and_from (f.certain || f.needs)
+    (list_all (λ (g : Flow). g.certain || g.needs) fs)
+    (elim b.0 [
+      | inl done ↦ or_left f.certain f.needs (z.0.certain done)
+      | inr w ↦ or_right f.certain
+          f.needs (z.0.needs (let lt = w.1.1 in omega (arith, lt)))
+    ])
+    (held-needs keys out ins fs z.1 b.1)
+
+merged : (keys : List SortKey) (ins : List Stream) (o : Stream) (fs : List Flow)
+    → GivesMerged keys ins o → AllZip IsFront ins fs
+    → CompletesOne (IsMergeOf keys (flow_rows fs)) (all_certain fs)
+    (list_all (λ (f : Flow). f.certain || f.needs) fs) o
+merged keys ins o fs k z =
+    let lt = (λ (a b : Row). is_lt (row_cmp keys a b)) in
+    let w = rows-ordered keys in
+    let b : Behind ins fs = behind ins fs z in
+    let left : List Row = k.waits ++ b.rest in
+    let tail : List Row = ordered lt w left in
+    record {
+      out = o.rows ++ tail;
+      makes = record {
+        same = IsPermutation-trans _ _ _ b.are
+            (IsPermutation-trans _ _ _ (IsPermutation-append_left b.rest _ _ k.rows)
+            (IsPermutation-trans _ _ _ (IsPermutation-same _ _ (append_assoc o.rows k.waits b.rest))
+            (IsPermutation-append_right o.rows left tail (ordered-same lt w left))));
+        in_order = λ s.
+            let sorted = flows-sorted keys fs s in
+            let first : InOrder lt o.rows = order-from_sorted lt w o.rows
+            (k.in_order (front-sorted keys ins fs z sorted)) in
+            let cross : AllByRecursion (λ y. AllByRecursion (λ x. lt y x ≡ false) o.rows) tail =
+            every-permuted (λ y. AllByRecursion (λ x. lt y x ≡ false) o.rows) left tail
+            (ordered-same lt w left)
+            (every-append (λ y. AllByRecursion (λ x. lt y x ≡ false) o.rows) k.waits b.rest
+            k.before_waits (later-all sorted b (cases_lt 0 (length o.rows)))) in
+            sorted-from_order lt w (o.rows ++ tail)
+            (order-joined lt w o.rows tail first (ordered-order lt w left) cross);
+      };
+      front = record {
+        rest = tail;
+        is = refl;
+        all = λ d. sym (append-nil o.rows)
+            ∙ ap (λ l. o.rows ++ l)
+            (sym (ap (ordered lt w)
+            (ap₂ (λ x y. x ++ y) (k.nothing_waits d) (b.none (k.inputs_done d)))
+            ∙ ordered-none lt w));
+        certain = λ d. certain-inputs ins fs z (k.inputs_done d);
+        needs = λ some. held-needs keys o.rows ins fs z (k.held some);
+      };
+    }
+  where
+    later-all : AllByRecursion (λ (f : Flow). IsSorted (row_cmp keys) f.rows) fs
+        → (b : Behind ins fs) → (0 < length o.rows) ⊎ (length o.rows ≤ 0)
+        → AllByRecursion (λ y. AllByRecursion (λ x. is_lt (row_cmp keys y x) ≡ false) o.rows) b.rest
+    later-all sorted b (inl some) = b.later keys o.rows sorted (k.held some)
+    later-all sorted b (inr none) =
+        subst (λ l. AllByRecursion (λ y. AllByRecursion (λ x. is_lt (row_cmp keys y x) ≡ false) l)
+        b.rest) (sym (empty-rows o.rows (λ some. omega (arith, some, none))))
+        (every-none (λ y x. is_lt (row_cmp keys y x) ≡ false) b.rest)
+
+pub complete-kind : (parts : Parts) (s : Spec) (ins outs : List Stream) (fs : List Flow)
+    → Gives parts s ins outs → AllZip IsFront ins fs
+    → CompletesKind (Makes parts s) (is_certain parts s fs) (is_needed parts s fs) fs outs
+complete-kind parts (spec.Csv part) ins outs fs g z = source (GivesPart (parts part))
+    (λ o. o ≡ (parts part).rows) (λ l. (parts part).valid)
+    (λ o p. record {
+      out = (parts part).rows;
+      makes = refl;
+      front = record {
+        rest = p.front.rest;
+        is = p.front.is;
+        all = p.front.all;
+        certain = p.valid;
+        needs = λ some. refl;
+      };
+    }) ins outs fs g z
+complete-kind parts (spec.Numbers n rows) ins outs fs g z = source (GivesFront (numbers n).rows)
+    (λ o. o ≡ (numbers n).rows) (λ l. all_certain l)
+    (λ o p. record {
+      out = (numbers n).rows;
+      makes = refl;
+      front = record {
+        rest = p.rest;
+        is = p.is;
+        all = p.all;
+        certain = λ e. refl;
+        needs = λ some. refl;
+      };
+    }) ins outs fs g z
+complete-kind parts (spec.Filter c) ins outs fs g z = one-to-one (GivesThrough (filter (holds c)))
+    (λ i o. o ≡ filter (holds c) i) (λ l. all_certain l) (λ l. any_needs l)
+    (through (filter (holds c))
+    (λ xs ys. (filter (holds c) ys, sym (filter-append (holds c) xs ys))) refl) ins outs fs g z
+complete-kind parts (spec.Expression items) ins outs fs g z =
+    one-to-one (GivesThrough (map (item_row items))) (λ i o. o ≡ map (item_row items) i)
+    (λ l. all_certain l) (λ l. any_needs l)
+    (through (map (item_row items))
+    (λ xs ys. (map (item_row items) ys, sym (map-append (item_row items) xs ys))) refl) ins outs
+    fs g z
+complete-kind parts spec.Resize ins outs fs g z = resize ins outs fs g z
+complete-kind parts (spec.Limit span) ins outs fs g z = one-to-one (GivesLimited span)
+    (λ i o. o ≡ limited (Some span) i)
+    (λ l. all_certain l || (any_needs l && leb (enough span) (length (all_rows (flow_rows l)))))
+    (λ l. any_needs l) (limit span) ins outs fs g z
+complete-kind parts (spec.PartialAggregate p) ins outs fs g z =
+    one-to-one (λ (i o : Stream). GivesHeld (λ rows. IsPermutation (partial_rows p i.rows) rows)
+    i.done o) (λ i o. IsPermutation (partial_rows p i) o) (λ l. all_certain l)
+    (λ l. all_certain l)
+    (λ i o f r h. held (λ rows. IsPermutation (partial_rows p i.rows) rows)
+    (λ rows. IsPermutation (partial_rows p f.rows) rows) i.done (f.certain && true)
+    (λ e. and_from _ _ (h.certain e) refl)
+    (λ e rows m. subst (λ l. IsPermutation (partial_rows p l) rows) (h.all e) m)
+    (partial_rows p f.rows, IsPermutation-refl _) o r) ins outs fs g z
+complete-kind parts (spec.MergeAggregate p) ins outs fs g z =
+    many-to-one
+    (λ (is : List Stream) (o : Stream). GivesHeld
+    (λ rows. IsPermutation (merged_rows p (all_rows (rows_of is))) rows) (all_done is) o)
+    (λ is o. IsPermutation (merged_rows p (all_rows is)) o)
+    (λ l. all_certain l) (λ l. all_certain l)
+    (λ is o l r h. held (λ rows. IsPermutation (merged_rows p (all_rows (rows_of is))) rows)
+    (λ rows. IsPermutation (merged_rows p (all_rows (flow_rows l))) rows) (all_done is)
+    (all_certain l) (certain-inputs is l h)
+    (λ e rows m. subst (λ k. IsPermutation (merged_rows p (all_rows k)) rows) (done-rows is l h e)
+    m) (merged_rows p (all_rows (flow_rows l)), IsPermutation-refl _) o r) ins outs fs g z
+complete-kind parts (spec.HashJoin join) ins outs fs g z =
+    two-to-one (GivesJoined join.pairs) (λ l r o. IsPermutation (joined_rows join.pairs l r) o)
+    (λ l. all_certain l) (λ l. join_needs l) (joined join.pairs) ins outs fs g z
+complete-kind parts (spec.Sort order) ins outs fs g z =
+    one-to-one (λ (i o : Stream). GivesHeld (IsSortOf order.keys i.rows) i.done o)
+    (λ i o. IsSortOf order.keys i o) (λ l. all_certain l) (λ l. all_certain l)
+    (λ i o f r h. held (IsSortOf order.keys i.rows) (IsSortOf order.keys f.rows) i.done
+    (f.certain && true) (λ e. and_from _ _ (h.certain e) refl)
+    (λ e rows m. subst (λ l. IsSortOf order.keys l rows) (h.all e) m)
+    (sort-exists order.keys f.rows) o r) ins outs fs g z
+complete-kind parts (spec.MergeSorted order) ins outs fs g z =
+    many-to-one (GivesMerged order.keys) (λ is o. IsMergeOf order.keys is o) (λ l. all_certain l)
+    (λ l. list_all (λ (f : Flow). f.certain || f.needs) l) (merged order.keys) ins outs fs g z
+complete-kind parts spec.Collect ins outs fs g z = collect ins outs fs g z
+  where
+    collect : (ins outs : List Stream) (fs : List Flow) → OneToNone ins outs → AllZip IsFront ins fs
+        → CompletesKind OneToNone (all_certain fs) (any_needs fs) fs outs
+    collect (i ∷ []) [] (f ∷ []) g z = record { lists = []; makes = tt; fronts = tt }
+    collect (i ∷ []) [] (f ∷ e ∷ fs) g z = absurd z.1
+    collect (i ∷ []) [] [] g z = absurd z
+    collect (i ∷ []) (o ∷ outs) fs g z = absurd g
+    collect (i ∷ j ∷ ins) outs fs g z = absurd g
+    collect [] outs fs g z = absurd g
+complete-kind parts _ ins outs fs g z = absurd g

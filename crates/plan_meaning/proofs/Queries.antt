@@ -1,0 +1,204 @@
+-- What the plan of a checked query makes of rows is what the query selects.
+use Rattle.std.proofs.Common.{take, ap₂, ◌≡◌, ℕ, zero, suc, ◌+◌, ◌≤◌, true, false, Option, Some, None, List, [], ◌∷◌, ◌++◌, length, map, filter, refl, sym, ap, subst, ◌∙◌, arith}
+use Rattle.std.proofs.lemmas.List.{take_more, take_at, get_or_at, append_assoc, length-append, length-map, map-append}
+use Rattle.query_model.proofs.Lists.{map-map, filter-map}
+use Rattle.chunk_data.specs.Values.{Row, value_at, values_at, same_row, default_value}
+use Rattle.query_model.specs.Expressions.{Expr, value_of, rows_where}
+use Rattle.query_model.specs.Answers.{item_row, selected_rows, output_rows, IsAnswer, IsOrderedAnswer}
+use Rattle.std.specs.List.{AllByRecursion}
+use Rattle.chunk_data.specs.declared.typed_value.Value.TheVariants.{Text}
+use Rattle.chunk_data.specs.declared.typed_value.ColumnType.{ColumnType}
+use Rattle.query_model.specs.Sources.{count_up, Database, source_table, filtered_rows}
+use Rattle.query_model.specs.declared.query.AggCall.{AggCall}
+use Rattle.query_model.specs.declared.query.ExprOf.{ExprOf}
+use Rattle.std.proofs.lemmas.Bool.{both_ways}
+use Rattle.std.specs.Prelude.{is_none, slice_index_or}
+use Rattle.query_model.specs.declared.query.AggOp.{AggOp}
+use Rattle.query_model.specs.declared.checked.Shape.{Shape}
+use Rattle.query_model.specs.declared.checked.Shape.TheVariants.{Plain, Grouped}
+use Rattle.query_model.specs.declared.processor_spec.StateCall.{StateCall}
+use Rattle.query_model.specs.declared.checked.Checked.{Checked}
+use Rattle.query_model.specs.Groups.{groups_or_default, Call, combined, distinct_rows, rows_with, grouped_by, call_of, combine_of, groups}
+use Rattle.plan_meaning.specs.Queries.{HasCalls, IsCall, IsPlanOf, call_arguments, columns_of, shape_of, state_of, with_argument}
+use Rattle.plan_meaning.specs.Streams.{Parts}
+use Rattle.plan_meaning.specs.Plans.{PlanAnswers, SelectPlan, plan_keys, plan_rows, shape_rows}
+use Rattle.plan_meaning.specs.Gives.{calls_from, is_count}
+use Rattle.chunk_data.specs.declared.typed_value.ColumnType.TheVariants as column
+use Rattle.query_model.specs.declared.query.AggOp.TheVariants as agg
+use Rattle.query_model.specs.declared.query.ExprOf.TheVariants as expr
+
+-- groups of made rows are the groups by what the key and the calls are of the rows before
+pub grouped_by-map : (f : Row → Row) (key : Row → Row) (calls : List Call) (rows : List Row)
+    → grouped_by key calls (map f rows) ≡ grouped_by (λ r. key (f r))
+    (map (λ (c : Call). record { op = c.op; arg = λ r. c.arg (f r) }) calls) rows
+grouped_by-map f key calls rows =
+    ap (λ l. map
+    (λ k. k ++ map
+    (λ (call : Call). combined call.op (map call.arg (rows_with key k (map f rows)))) calls)
+    (distinct_rows l)) (map-map key f rows)
+    ∙ ap (λ h. map h (distinct_rows (map (λ r. key (f r)) rows))) (λ i k. k ++ inner k calls i)
+  where
+    inner : (k : Row) (calls : List Call)
+        → map (λ (call : Call). combined call.op (map call.arg (rows_with key k (map f rows))))
+        calls
+        ≡ map (λ (call : Call). combined call.op (map call.arg (rows_with (λ r. key (f r)) k rows)))
+        (map (λ (c : Call). record { op = c.op; arg = λ r. c.arg (f r) }) calls)
+    inner k [] = refl
+    inner k (c ∷ calls) = ap₂ (λ v vs. v ∷ vs)
+        (ap (λ l. combined c.op (map c.arg l)) (filter-map (λ r. same_row k (key r)) f rows)
+        ∙ ap (combined c.op) (map-map c.arg f (filter (λ r. same_row k (key (f r))) rows)))
+        (inner k calls)
+
+-- the first columns of a row
+first-values : (n : ℕ) (row : Row) → n ≤ length row → values_at (count_up n) row ≡ take n row
+unfolding count_up
+first-values zero row le = refl
+first-values (suc n) row le =
+    values-append (count_up n) (n ∷ []) row
+    ∙ ap (λ l. l ++ value_at row n ∷ []) (first-values n row (omega (arith, le)))
+    ∙ sym (take_more row n (Text []) (omega (arith, le)))
+    ∙ (let next : n + 1 ≡ suc n = omega arith in ap (λ k. take k row) next)
+  where
+    values-append : (xs bs : List ℕ) (row : Row) → values_at (xs ++ bs) row ≡ values_at xs row
+        ++ values_at bs row
+    values-append [] bs row = refl
+    values-append (x ∷ xs) bs row = ap (λ l. value_at row x ∷ l) (values-append xs bs row)
+
+columns-values : (cs : List ℕ) (row : Row) → map (λ (e : Expr). value_of e row) (columns_of cs)
+    ≡ values_at cs row
+unfolding value_of
+columns-values [] row = refl
+columns-values (c ∷ cs) row = ap (λ l. value_at row c ∷ l) (columns-values cs row)
+
+values-count : (cs : List ℕ) (row : Row) → length (values_at cs row) ≡ length cs
+values-count [] row = refl
+values-count (c ∷ cs) row = ap suc (values-count cs row)
+
+-- the keys of the row of keys and arguments
+keys-kept : (cs : List ℕ) (es : List Expr) (row : Row)
+    → values_at (count_up (length cs)) (item_row (columns_of cs ++ es) row) ≡ values_at cs row
+keys-kept cs es row =
+    let split : item_row (columns_of cs ++ es) row ≡ values_at cs row
+    ++ map (λ (e : Expr). value_of e row) es =
+    map-append (λ (e : Expr). value_of e row) (columns_of cs) es
+    ∙ ap (λ l. l ++ map (λ (e : Expr). value_of e row) es) (columns-values cs row) in
+    let len = values-count cs row in
+    ap (values_at (count_up (length cs))) split
+    ∙ first-values (length cs) (values_at cs row ++ map (λ (e : Expr). value_of e row) es)
+    (omega (
+      arith,
+      len,
+      length-append (values_at cs row) (map (λ (e : Expr). value_of e row) es),
+    ))
+    ∙ take_at (values_at cs row) (map (λ (e : Expr). value_of e row) es) (length cs) len
+
+-- the argument behind the others
+argument-at : (front rest : List Expr) (e : Expr) (row : Row)
+    → value_of (expr.Column (length front)) (item_row (front ++ e ∷ rest) row) ≡ value_of e row
+unfolding value_of
+argument-at front rest e row =
+    ap (λ l. value_at l (length front)) (map-append (λ (x : Expr). value_of x row) front (e ∷ rest))
+    ∙ get_or_at (map (λ (x : Expr). value_of x row) front) (value_of e row)
+    (map (λ (x : Expr). value_of x row) rest) (Text []) (length front)
+    (length-map front (λ (x : Expr). value_of x row))
+
+-- the calls over the row of keys and arguments are the calls over the row
+calls-kept : (types : List ColumnType) (front : List Expr) (calls : List (AggCall ℕ))
+    → AllByRecursion IsCall calls
+    → map (λ (x : Call). record {
+      op = x.op;
+      arg = λ (r : Row). x.arg (item_row (front ++ call_arguments calls) r);
+    })
+    (map call_of (calls_from (length front) (map (state_of types) calls))) ≡ map call_of calls
+calls-kept types front [] h = refl
+calls-kept types front (call ∷ calls) h =
+    go call.op call.arg h.0 (λ front'. calls-kept types front' calls h.1)
+  where
+    over : List Expr → Call → Call
+    over all x = record { op = x.op; arg = λ (r : Row). x.arg (item_row all r) }
+
+    with-argument : (op : AggOp) (e : Expr)
+        → ((front' : List Expr) → map (over (front' ++ call_arguments calls))
+        (map call_of (calls_from (length front') (map (state_of types) calls))) ≡ map call_of calls)
+        → over (front ++ e ∷ call_arguments calls)
+        (call_of (record { op = op; arg = Some (expr.Column (length front)) }))
+        ∷ map (over (front ++ e ∷ call_arguments calls))
+        (map call_of (calls_from (suc (length front)) (map (state_of types) calls))) ≡ call_of
+        (record { op = op; arg = Some e }) ∷ map call_of calls
+    with-argument op e more =
+        let all : List Expr = front ++ e ∷ call_arguments calls in
+        let first : over all (call_of (record { op = op; arg = Some (expr.Column (length front)) }))
+        ≡ call_of (record { op = op; arg = Some e }) =
+        (λ i. record {
+          op = combine_of op;
+          arg = λ (r : Row). argument-at front (call_arguments calls) e r i;
+        }) in
+        let place : length (front ++ e ∷ []) ≡ suc (length front) = length-append front (e ∷ [])
+        ∙ omega arith in
+        ap₂ (λ x xs. x ∷ xs) first
+        (ap₂ (λ l n. map (over l) (map call_of (calls_from n (map (state_of types) calls))))
+        (sym (append_assoc front (e ∷ []) (call_arguments calls))) (sym place)
+        ∙ more (front ++ e ∷ []))
+
+    go : (op : AggOp) (arg : Option (ExprOf ℕ)) → is_count op ≡ is_none arg
+        → ((front' : List Expr) → map (over (front' ++ call_arguments calls))
+        (map call_of (calls_from (length front') (map (state_of types) calls))) ≡ map call_of
+        calls)
+        → map (over (front ++ with_argument arg (call_arguments calls)))
+        (map call_of
+        (calls_from (length front) (state_of types (record { op = op; arg = arg }) ∷ map
+        (state_of types) calls))) ≡ call_of (record { op = op; arg = arg }) ∷ map call_of calls
+    go agg.Count None e more = ap (λ l. call_of (record { op = agg.Count; arg = None }) ∷ l)
+        (more front)
+    go agg.Count (Some a) e more = absurd (both_ways true e refl)
+    go agg.Sum None e more = absurd (both_ways false refl e)
+    go agg.Sum (Some a) e more = with-argument agg.Sum a more
+    go agg.Min None e more = absurd (both_ways false refl e)
+    go agg.Min (Some a) e more = with-argument agg.Min a more
+    go agg.Max None e more = absurd (both_ways false refl e)
+    go agg.Max (Some a) e more = with-argument agg.Max a more
+
+-- the groups of the rows of keys and arguments
+groups-kept : (types : List ColumnType) (keys : List ℕ) (calls : List (AggCall ℕ)) (rows : List Row)
+    → AllByRecursion IsCall calls
+    → groups (count_up (length keys)) (calls_from (length keys) (map (state_of types) calls))
+    (map (item_row (columns_of keys ++ call_arguments calls)) rows) ≡ groups keys calls rows
+groups-kept types keys calls rows h =
+    let f : Row → Row = item_row (columns_of keys ++ call_arguments calls) in
+    let count : length (columns_of keys) ≡ length keys = length-map keys (λ c. expr.Column c) in
+    grouped_by-map f (values_at (count_up (length keys)))
+    (map call_of (calls_from (length keys) (map (state_of types) calls))) rows
+    ∙ ap₂ (λ key cs. grouped_by key cs rows) (λ i r. keys-kept keys (call_arguments calls) r i)
+    (ap (λ n. map (λ (x : Call). record { op = x.op; arg = λ (r : Row). x.arg (f r) })
+    (map call_of (calls_from n (map (state_of types) calls)))) (sym count)
+    ∙ calls-kept types (columns_of keys) calls h)
+
+picks-kept : (picks : List ℕ) (rows : List Row) → map (item_row (columns_of picks)) rows ≡ map
+    (values_at picks) rows
+picks-kept picks rows = ap (λ f. map f rows) (λ i r. columns-values picks r i)
+
+-- What the plan makes of the filtered rows is what the query selects.
+pub shape-selects : (shape : Shape) (types : List ColumnType) (n : ℕ) (rows : List Row)
+    → HasCalls shape → shape_rows (shape_of shape types n) rows ≡ selected_rows shape types rows
+shape-selects (Plain items) types n rows h = refl
+shape-selects (Grouped g) types n rows h =
+    picks-kept g.picks _
+    ∙ ap (λ l. map (values_at g.picks) (rows_where g.having l))
+    (ap₂ (λ default l. groups_or_default g.lone default l)
+    (map-map (λ (call : StateCall). default_value call.kind) (state_of types) g.calls)
+    (ap (λ k. groups (count_up k) (calls_from k (map (state_of types) g.calls))
+    (map (item_row (columns_of g.keys ++ call_arguments g.calls)) rows))
+    (length-map g.keys (λ c. slice_index_or types c column.Text))
+    ∙ groups-kept types g.keys g.calls rows h))
+
+-- An answer of a query's plan is an answer of the query.
+pub query-answers : (q : Checked) (db : Database) (parts : Parts) (p : SelectPlan) (rows : List Row)
+    → IsPlanOf q db parts p → PlanAnswers parts p rows → IsAnswer q db rows
+query-answers q db parts p rows is a =
+    let output : plan_rows parts p ≡ output_rows q db =
+    ap₂ (λ s r. shape_rows s r) is.shape (ap₂ rows_where is.filter is.read)
+    ∙ shape-selects q.shape (source_table q db).types is.chunk_rows (filtered_rows q db)
+    is.calls in
+    subst (λ l. IsOrderedAnswer q.order l (output_rows q db) rows) is.limit
+    (subst (λ k. IsOrderedAnswer k p.limit (output_rows q db) rows) is.order
+    (subst (λ o. IsOrderedAnswer (plan_keys p.order) p.limit o rows) output a.answer))

@@ -1,0 +1,10 @@
+pub mod Streams
+pub mod Gives
+pub mod Makes
+pub mod Runs
+pub mod Meaning
+pub mod Types
+pub mod Plans
+pub mod Queries
+pub mod Same
+pub mod Counts

@@ -1,0 +1,247 @@
+-- The plan of a query as a list of nodes, and what it answers.
+use Rattle.std.specs.Prelude.{cond, false, ◌≡◌, ◌⊎◌, ◌<◌, ◌≤◌, ⊤, ℕ, Bool, true, ◌&&◌, List, [], ◌∷◌, ◌++◌, length, map, flat_map, Option, Some, None, ◌+◌}
+use Rattle.std.specs.List.{list_all, AllByRecursion}
+use Rattle.chunk_data.specs.Values.{Row, default_value}
+use Rattle.chunk_data.specs.declared.typed_value.SortKey.{SortKey}
+use Rattle.query_model.specs.Expressions.{Cond, Expr, rows_where}
+use Rattle.query_model.specs.Answers.{item_row, IsOrderedAnswer, enough}
+use Rattle.query_model.specs.Groups.{groups, groups_or_default}
+use Rattle.query_model.specs.Sources.{numbers, count_up, joined_rows}
+use Rattle.query_model.specs.declared.query.Span.{Span}
+use Rattle.query_model.specs.declared.processor_spec.StateCall.{StateCall}
+use Rattle.query_model.specs.declared.processor_spec.GroupSpec.{GroupSpec}
+use Rattle.query_model.specs.declared.processor_spec.JoinSpec.{JoinSpec}
+use Rattle.query_model.specs.declared.processor_spec.SortSpec.{SortSpec}
+use Rattle.query_model.specs.declared.processor_spec.Spec.{Spec}
+use Rattle.query_model.specs.Kinds.{kind_of}
+use Rattle.query_model.specs.declared.processor_spec.Kind.{Kind}
+use Rattle.proc_api.specs.Racks.{same_kind}
+use Rattle.plan_graph.specs.declared.nodes.DraftNode.{DraftNode}
+use Rattle.plan_meaning.specs.Streams.{Parts}
+use Rattle.plan_meaning.specs.Gives.{calls_from}
+use Rattle.plan_graph.specs.Blocks.{joint_node, lane_nodes, source_nodes}
+use Rattle.query_model.specs.declared.processor_spec.Kind.TheVariants as kind
+use Rattle.query_model.specs.declared.processor_spec.Spec.TheVariants as spec
+
+abbrev pub filter_nodes : Option Cond → ℕ → ℕ → List DraftNode
+filter_nodes None rank lanes = []
+filter_nodes (Some c) rank lanes = lane_nodes (spec.Filter c) rank 0 lanes
+
+abbrev pub limit_nodes : Option Span → List DraftNode
+limit_nodes None = []
+limit_nodes (Some span) = joint_node (spec.Limit span) 13 1 1 ∷ []
+
+-- ---- the plan
+
+-- what is made of the filtered rows: the items' values; or the keys and arguments, their groups,
+-- those that HAVING lets pass, and the picked columns
+pub data PlanShape : Type 0 where
+  plain : List Expr → PlanShape
+  grouped : List Expr → GroupSpec → Option Cond → List Expr → PlanShape
+
+-- the second table, and the pairs on which its rows must agree
+pub record PlanJoin : Type 0 where
+  pub sources : List Spec
+  pub join : JoinSpec
+
+pub record SelectPlan : Type 0 where
+  pub sources : List Spec
+  pub join : Option PlanJoin
+  pub filter : Option Cond
+  pub shape : PlanShape
+  pub order : Option SortSpec
+  pub limit : Option Span
+  pub lanes : ℕ
+
+abbrev pub read_nodes : List Spec → Option PlanJoin → ℕ → List DraftNode
+read_nodes sources None lanes = source_nodes 0 sources ++ joint_node spec.Resize 2 (length sources)
+    lanes ∷ []
+read_nodes sources (Some j) lanes =
+    source_nodes 0 sources
+    ++ (joint_node spec.Resize 2 (length sources) 1
+    ∷ (source_nodes 1 j.sources
+    ++ (record { spec = spec.Resize; rank = 2; offset = 1; takes = length j.sources; gives = 1 }
+    ∷ joint_node (spec.HashJoin j.join) 3 2 1
+    ∷ joint_node spec.Resize 4 1 lanes
+    ∷ [])))
+
+-- so many lanes to one, in the order of the keys where there is one
+abbrev pub gather_nodes : Option SortSpec → ℕ → List DraftNode
+gather_nodes None lanes = joint_node spec.Resize 12 lanes 1 ∷ []
+gather_nodes (Some order) lanes = lane_nodes (spec.Sort order) 11 0 lanes
+    ++ joint_node (spec.MergeSorted order) 12 lanes 1 ∷ []
+
+abbrev pub sort_nodes : Option SortSpec → List DraftNode
+sort_nodes None = []
+sort_nodes (Some order) = joint_node (spec.Sort order) 11 1 1 ∷ []
+
+abbrev pub shape_nodes : PlanShape → Option SortSpec → ℕ → List DraftNode
+shape_nodes (plain items) order lanes = lane_nodes (spec.Expression items) 6 0 lanes ++ gather_nodes
+    order lanes
+shape_nodes (grouped arguments g having picks) order lanes =
+    lane_nodes (spec.Expression arguments) 6 0 lanes
+    ++ (lane_nodes (spec.PartialAggregate g) 7 0 lanes
+    ++ (joint_node (spec.MergeAggregate g) 8 lanes 1
+    ∷ (filter_nodes having 9 1
+    ++ (lane_nodes (spec.Expression picks) 10 0 1
+    ++ sort_nodes order))))
+
+-- all nodes but the collector
+abbrev pub body_nodes : SelectPlan → List DraftNode
+body_nodes p = read_nodes p.sources p.join p.lanes
+    ++ (filter_nodes p.filter 5 p.lanes
+    ++ (shape_nodes p.shape p.order p.lanes ++ limit_nodes p.limit))
+
+abbrev pub collect_node : DraftNode
+collect_node = joint_node spec.Collect 14 1 0
+
+abbrev pub plan_nodes : SelectPlan → List DraftNode
+plan_nodes p = body_nodes p ++ collect_node ∷ []
+
+-- the kinds that read no rows of others
+abbrev pub IsSource : Spec → Type 0
+IsSource (spec.Csv part) = ⊤
+IsSource (spec.Numbers n rows) = ⊤
+IsSource _ = ⊥
+
+abbrev pub JoinsSources : Option PlanJoin → Type 0
+JoinsSources None = ⊤
+JoinsSources (Some j) = AllByRecursion IsSource j.sources
+
+-- it has lanes, and reads from sources
+pub record IsPlan (p : SelectPlan) : Type 0 where
+  pub some_lanes : 0 < p.lanes
+  pub sources : AllByRecursion IsSource p.sources
+  pub join : JoinsSources p.join
+
+abbrev pub FewJoined : Option PlanJoin → Type 0
+FewJoined None = ⊤
+FewJoined (Some j) = length j.sources ≤ 32
+
+-- it has no more parts and lanes than a node has ports
+pub record IsSmall (p : SelectPlan) : Type 0 where
+  pub few_sources : length p.sources ≤ 32
+  pub few_joined : FewJoined p.join
+  pub few_lanes : p.lanes ≤ 16
+
+-- ---- its answer
+
+-- the rows of a source, and whether they are all that its part should have
+abbrev pub source_list : Parts → Spec → List Row
+source_list parts (spec.Csv part) = (parts part).rows
+source_list parts (spec.Numbers n rows) = (numbers n).rows
+source_list parts _ = []
+
+abbrev pub is_valid_source : Parts → Spec → Bool
+is_valid_source parts (spec.Csv part) = (parts part).valid
+is_valid_source parts _ = true
+
+abbrev pub sources_rows : Parts → List Spec → List Row
+sources_rows parts sources = flat_map (source_list parts) sources
+
+abbrev pub all_valid : Parts → List Spec → Bool
+all_valid parts sources = list_all (is_valid_source parts) sources
+
+-- the rows that are read, whether all parts are valid, and whether those are that must be before a
+-- row is read
+abbrev pub read_rows : Parts → List Spec → Option PlanJoin → List Row
+read_rows parts sources None = sources_rows parts sources
+read_rows parts sources (Some j) = joined_rows j.join.pairs (sources_rows parts sources)
+    (sources_rows parts j.sources)
+
+abbrev pub read_valid : Parts → List Spec → Option PlanJoin → Bool
+read_valid parts sources None = all_valid parts sources
+read_valid parts sources (Some j) = all_valid parts sources && all_valid parts j.sources
+
+abbrev pub join_valid : Parts → Option PlanJoin → Bool
+join_valid parts None = true
+join_valid parts (Some j) = all_valid parts j.sources
+
+abbrev pub grouped_of : GroupSpec → List Row → List Row
+grouped_of g rows = groups_or_default g.lone (map (λ (call : StateCall). default_value call.kind)
+    g.calls) (groups (count_up (length g.keys)) (calls_from (length g.keys) g.calls) rows)
+
+abbrev pub shape_rows : PlanShape → List Row → List Row
+shape_rows (plain items) rows = map (item_row items) rows
+shape_rows (grouped arguments g having picks) rows =
+    map (item_row picks) (rows_where having (grouped_of g (map (item_row arguments) rows)))
+
+-- the rows before order and limit
+abbrev pub plan_rows : Parts → SelectPlan → List Row
+plan_rows parts p = shape_rows p.shape (rows_where p.filter (read_rows parts p.sources p.join))
+
+abbrev pub plan_valid : Parts → SelectPlan → Bool
+plan_valid parts p = read_valid parts p.sources p.join
+
+-- the parts that must be valid before a row passes: all of them where there are groups or an order,
+-- and else those of the second table
+abbrev pub needed_valid : PlanShape → Option SortSpec → (all join : Bool) → Bool
+needed_valid (plain items) None all join = join
+needed_valid (plain items) (Some order) all join = all
+needed_valid (grouped arguments g having picks) order all join = all
+
+abbrev pub plan_keys : Option SortSpec → List SortKey
+plan_keys None = []
+plan_keys (Some order) = order.keys
+
+-- a limit that has enough rows of these
+abbrev pub HasEnough : Option Span → List Row → Type 0
+HasEnough None rows = ⊥
+HasEnough (Some span) rows = enough span ≤ length rows
+
+-- a limit has enough rows, and what must be valid before a row passes is
+pub record IsCut (parts : Parts) (p : SelectPlan) : Type 0 where
+  pub enough_rows : HasEnough p.limit (plan_rows parts p)
+  pub needed : needed_valid p.shape p.order (plan_valid parts p) (join_valid parts p.join) ≡ true
+
+-- What was collected is an answer over the rows before the first bad record of each part. All parts
+-- are valid, or a limit cut the run short.
+pub record PlanAnswers (parts : Parts) (p : SelectPlan) (rows : List Row) : Type 0 where
+  pub answer : IsOrderedAnswer (plan_keys p.order) p.limit (plan_rows parts p) rows
+  pub valid : (plan_valid parts p ≡ true) ⊎ IsCut parts p
+
+-- ---- the rows that the nodes of a kind pull
+
+-- a number of rows that a node with this spec pulls, where it is of the kind
+abbrev pub pulls : Kind → Spec → ℕ → ℕ
+pulls k s n = cond (same_kind (kind_of s) k) n 0
+
+abbrev pub join_pulls : Kind → Parts → List Spec → Option PlanJoin → ℕ
+join_pulls k parts sources None = 0
+join_pulls k parts sources (Some j) = pulls k (spec.HashJoin j.join)
+    (length (sources_rows parts sources) + length (sources_rows parts j.sources))
+
+abbrev pub filter_pulls : Kind → Option Cond → ℕ → ℕ
+filter_pulls k None n = 0
+filter_pulls k (Some c) n = pulls k (spec.Filter c) n
+
+abbrev pub gather_pulls : Kind → Option SortSpec → ℕ → ℕ
+gather_pulls k None n = 0
+gather_pulls k (Some order) n = pulls k (spec.Sort order) n + pulls k (spec.MergeSorted order) n
+
+abbrev pub sort_pulls : Kind → Option SortSpec → ℕ → ℕ
+sort_pulls k None n = 0
+sort_pulls k (Some order) n = pulls k (spec.Sort order) n
+
+-- of the filtered rows
+abbrev pub shape_pulls : Kind → PlanShape → Option SortSpec → List Row → ℕ
+shape_pulls k (plain items) order rows = pulls k (spec.Expression items) (length rows)
+    + gather_pulls k order (length rows)
+shape_pulls k (grouped arguments g having picks) order rows =
+    let groups : List Row = grouped_of g (map (item_row arguments) rows) in
+    pulls k (spec.Expression arguments) (length rows)
+    + (pulls k (spec.PartialAggregate g) (length rows)
+    + (filter_pulls k having (length groups)
+    + (pulls k (spec.Expression picks) (length (rows_where having groups)) + sort_pulls k order
+    (length (rows_where having groups)))))
+
+abbrev pub plan_pulls : Kind → Parts → SelectPlan → ℕ
+plan_pulls k parts p =
+    join_pulls k parts p.sources
+    p.join + (filter_pulls k p.filter (length (read_rows parts p.sources p.join)) + shape_pulls
+    k p.shape p.order (rows_where p.filter (read_rows parts p.sources p.join)))
+
+-- a kind of which the flow of a query tells; the numbers of rows at the others aren't told
+pub record IsTold (k : Kind) : Type 0 where
+  pub no_resize : same_kind kind.Resize k ≡ false
+  pub no_merge : same_kind kind.MergeAggregate k ≡ false

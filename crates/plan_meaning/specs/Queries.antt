@@ -1,0 +1,67 @@
+-- The plan of a checked query.
+use Rattle.std.specs.Prelude.{◌≡◌, ℕ, is_none, List, [], ◌∷◌, ◌++◌, map, slice_index_or, Option, Some, None}
+use Rattle.std.specs.List.{AllByRecursion}
+use Rattle.chunk_data.specs.declared.typed_value.ColumnType.{ColumnType}
+use Rattle.query_model.specs.Expressions.{Expr}
+use Rattle.query_model.specs.Groups.{call_type}
+use Rattle.query_model.specs.declared.query.AggCall.{AggCall}
+use Rattle.query_model.specs.declared.query.ExprOf.{ExprOf}
+use Rattle.query_model.specs.declared.checked.Grouping.{Grouping}
+use Rattle.query_model.specs.declared.checked.Shape.{Shape}
+use Rattle.query_model.specs.declared.checked.Shape.TheVariants.{Plain, Grouped}
+use Rattle.query_model.specs.declared.processor_spec.StateCall.{StateCall}
+use Rattle.query_model.specs.declared.processor_spec.GroupSpec.{GroupSpec}
+use Rattle.query_model.specs.Sources.{Database, source_table, source_rows}
+use Rattle.query_model.specs.declared.checked.Checked.{Checked}
+use Rattle.plan_meaning.specs.Streams.{Parts}
+use Rattle.plan_meaning.specs.Plans.{PlanShape, SelectPlan, grouped, plain, plan_keys, read_rows}
+use Rattle.plan_meaning.specs.Gives.{is_count}
+use Rattle.chunk_data.specs.declared.typed_value.ColumnType.TheVariants as column
+use Rattle.query_model.specs.declared.query.ExprOf.TheVariants as expr
+
+abbrev pub with_argument : Option (ExprOf ℕ) → List Expr → List Expr
+with_argument None more = more
+with_argument (Some e) more = e ∷ more
+
+-- the arguments of the calls that have one
+abbrev pub call_arguments : List (AggCall ℕ) → List Expr
+call_arguments [] = []
+call_arguments (call ∷ calls) = with_argument call.arg (call_arguments calls)
+
+abbrev pub columns_of : List ℕ → List Expr
+columns_of places = map (λ c. expr.Column c) places
+
+abbrev pub state_of : List ColumnType → AggCall ℕ → StateCall
+state_of types call = record { op = call.op; kind = call_type call.op call.arg types }
+
+abbrev pub group_spec : Grouping → List ColumnType → ℕ → GroupSpec
+group_spec g types rows = record {
+  keys = map (λ c. slice_index_or types c column.Text) g.keys;
+  calls = map (state_of types) g.calls;
+  lone = g.lone;
+  rows = rows;
+}
+
+abbrev pub shape_of : Shape → List ColumnType → ℕ → PlanShape
+shape_of (Plain items) types rows = plain items
+shape_of (Grouped g) types rows = grouped (columns_of g.keys ++ call_arguments g.calls)
+    (group_spec g types rows) g.having (columns_of g.picks)
+
+-- `count` has no argument, and each other call has one
+abbrev pub IsCall : AggCall ℕ → Type 0
+IsCall call = is_count call.op ≡ is_none call.arg
+
+abbrev pub HasCalls : Shape → Type 0
+HasCalls (Plain items) = Unit {0}
+HasCalls (Grouped g) = AllByRecursion IsCall g.calls
+
+-- The plan of the query over tables with the database's rows. Of the sources it says that they give
+-- these rows together.
+pub record IsPlanOf (q : Checked) (db : Database) (parts : Parts) (p : SelectPlan) : Type 0 where
+  pub chunk_rows : ℕ
+  pub calls : HasCalls q.shape
+  pub shape : p.shape ≡ shape_of q.shape (source_table q db).types chunk_rows
+  pub filter : p.filter ≡ q.filter
+  pub order : plan_keys p.order ≡ q.order
+  pub limit : p.limit ≡ q.limit
+  pub read : read_rows parts p.sources p.join ≡ source_rows q db

@@ -1,0 +1,86 @@
+-- The types of the chunks that pass: what a kind keeps holds as long as each chunk that it pulled
+-- fits.
+use Rattle.std.specs.Prelude.{◌≡◌, ℕ, suc, List, [], ◌∷◌, ◌++◌, map, replicate, flat_map, Some, ⊤}
+use Rattle.std.specs.List.{AllByRecursion, Any}
+use Rattle.chunk_data.specs.declared.typed_value.ColumnType.{ColumnType}
+use Rattle.query_model.specs.Expressions.{type_of}
+use Rattle.query_model.specs.Sources.{numbers}
+use Rattle.query_model.specs.declared.processor_spec.StateCall.{StateCall}
+use Rattle.query_model.specs.declared.processor_spec.GroupSpec.{GroupSpec}
+use Rattle.query_model.specs.declared.processor_spec.Spec.{Spec}
+use Rattle.query_model.specs.declared.processor_spec.Spec.TheVariants as spec
+use Rattle.proc_api.specs.Keeping.{FitsInput}
+use Rattle.plan_graph.specs.declared.nodes.DraftNode.{DraftNode}
+use Rattle.plan_graph.specs.declared.nodes.NodePort.{NodePort}
+use Rattle.plan_graph.specs.Drafts.{ports_of, taken_by, given_by}
+use Rattle.plan_meaning.specs.Streams.{Parts, Stream}
+use Rattle.plan_meaning.specs.Gives.{Gives}
+
+abbrev pub Types : Type 0
+Types = List ColumnType
+
+-- the chunks that pass have these types
+abbrev pub HasTypes : Stream → Types → Type 0
+HasTypes s types = AllByRecursion (λ t. t ≡ types) s.types
+
+-- each chunk that was pulled fits, the first input being input i
+abbrev pub FitFrom : Spec → ℕ → List Stream → Type 0
+FitFrom s i [] = ⊤
+FitFrom s i (x ∷ ins) = AllByRecursion (FitsInput (Some s) i) x.types × FitFrom s (suc i) ins
+
+-- these types fit the inputs
+abbrev pub TypesFit : Spec → ℕ → List Types → Type 0
+TypesFit s i [] = ⊤
+TypesFit s i (t ∷ types) = FitsInput (Some s) i t × TypesFit s (suc i) types
+
+-- the types of the chunks that were pulled
+abbrev pub pulled_types : List Stream → List Types
+pulled_types ins = flat_map (λ (s : Stream). s.types) ins
+
+abbrev pub group_types : GroupSpec → Types
+group_types g = g.keys ++ map (λ (c : StateCall). c.kind) g.calls
+
+-- one of these types
+abbrev pub IsAmong : List Types → Types → Type 0
+IsAmong ins t = Any (λ u. t ≡ u) ins
+
+-- what a kind makes of a chunk of some of these types
+abbrev pub MakesType : Spec → List Types → Types → Type 0
+MakesType (spec.Csv part) ins t = t ≡ part.types
+MakesType (spec.Numbers n rows) ins t = t ≡ (numbers n).types
+MakesType (spec.Expression items) ins t = Any (λ u. t ≡ map (λ e. type_of e u) items) ins
+MakesType (spec.PartialAggregate g) ins t = t ≡ group_types g
+MakesType (spec.MergeAggregate g) ins t = t ≡ group_types g
+MakesType (spec.HashJoin join) ins t = t ≡ join.left ++ join.right
+MakesType (spec.Sort order) ins t = t ≡ order.types
+MakesType (spec.MergeSorted order) ins t = t ≡ order.types
+MakesType _ ins t = IsAmong ins t
+
+-- a kind's promises, which hold as long as each chunk that it pulled fits
+pub record GivesIf (parts : Parts) (s : Spec) (ins outs : List Stream) : Type 0 where
+  pub gives : FitFrom s 0 ins → Gives parts s ins outs
+  pub typed : FitFrom s 0 ins
+      → AllByRecursion (λ (o : Stream). AllByRecursion (MakesType s (pulled_types ins)) o.types)
+      outs
+
+-- each node keeps its kind's promises; the first node is node n
+abbrev pub EachGivesIf : Parts → ℕ → List DraftNode → (pulled pushed : NodePort → Stream) → Type 0
+EachGivesIf parts n [] pulled pushed = ⊤
+EachGivesIf parts n (node ∷ nodes) pulled pushed =
+    GivesIf parts node.spec (map pulled (ports_of n 0 node.takes))
+    (map pushed (ports_of n 0 node.gives))
+    × EachGivesIf parts (suc n) nodes pulled pushed
+
+-- The types that stand at the open ends fit the node, and each of its outputs has the types that it
+-- makes of them.
+pub record TypesNode (node : DraftNode) (before : List Types) : Type 0 where
+  pub fit : TypesFit node.spec 0 (taken_by node before)
+  pub made : Types
+  pub makes : (t : Types) (ins : List Types) → AllByRecursion (IsAmong (taken_by node before)) ins
+      → MakesType node.spec ins t → t ≡ made
+
+-- the types fit each node in turn
+abbrev pub AllTyped : List DraftNode → List Types → Type 0
+AllTyped [] before = ⊤
+AllTyped (node ∷ nodes) before = (t : TypesNode node before)
+    × AllTyped nodes (given_by node (replicate node.gives t.made) before)
