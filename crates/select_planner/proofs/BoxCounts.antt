@@ -1,0 +1,244 @@
+-- The boxes of a kind that a query's plan uses are as many as the query needs.
+use Rattle.std.proofs.Common.{◌≡◌, ℕ, suc, ◌+◌, ◌*◌, ◌≤◌, ◌<◌, take, get_or, cond, Bool, true, false, List, [], ◌∷◌, length, Option, Some, None, refl, sym, ap, ◌∙◌, arith}
+use Rattle.std.specs.Prelude.{slice_get, sum_by}
+use Rattle.std.proofs.lemmas.List.Sums.{sum_by-cons, count_by-le-length, sum_by_more, sum_by-take-le}
+use Rattle.select_planner.specs.declared.nodes.PlanReserve.{PlanReserve}
+use Rattle.select_planner.specs.Boxes.{reserved_nodes}
+use Rattle.select_planner.specs.Counts.{boxes_reserved, boxes_taken}
+use Rattle.select_planner.specs.declared.nodes.PlanNode.{PlanNode}
+use Rattle.query_model.specs.Kinds.{kind_of}
+use Rattle.chunk_data.specs.declared.typed_value.ColumnType.{ColumnType}
+use Rattle.query_model.specs.Expressions.{Cond}
+use Rattle.query_model.specs.Flow.{if_grouped, if_plain, if_ordered}
+use Rattle.query_model.specs.Database.{join_use}
+use Rattle.query_model.specs.Need.{part_sources_need, list_sources_need, if_declared, table_need, tables_need, if_filtered, if_joined, if_unordered, having_need, sorts_need, if_limited, need}
+use Rattle.query_model.specs.declared.query.Span.{Span}
+use Rattle.query_model.specs.declared.query.PartsDecl.{PartsDecl}
+use Rattle.query_model.specs.declared.query.PartsDecl.TheVariants.{Paths, ListFile}
+use Rattle.query_model.specs.declared.query.TableDecl.{TableDecl}
+use Rattle.query_model.specs.declared.checked.TableUse.{TableUse}
+use Rattle.query_model.specs.declared.checked.TableUse.TheVariants.{Declared, Numbers}
+use Rattle.query_model.specs.declared.checked.Shape.{Shape}
+use Rattle.query_model.specs.declared.checked.Shape.TheVariants.{Plain, Grouped}
+use Rattle.query_model.specs.declared.checked.Checked.{Checked}
+use Rattle.query_model.specs.declared.processor_spec.Kind.{Kind}
+use Rattle.query_model.specs.declared.processor_spec.Kind.TheVariants as kind
+use Rattle.query_model.specs.declared.processor_spec.Spec.{Spec}
+use Rattle.query_model.specs.declared.processor_spec.Spec.TheVariants as spec
+use Rattle.proc_api.specs.Racks.{same_kind}
+use Rattle.plan_meaning.specs.Plans.{plan_nodes}
+use Rattle.plan_meaning.specs.Queries.{shape_of}
+use Rattle.plan_meaning.proofs.Counts.{plan-counted}
+use Rattle.plan_meaning.specs.Counts.{of_kind, counted, sources_count, read_count, filter_count, shape_count, limit_count, plan_count}
+use Rattle.select_planner.specs.Steps.{Reading, part_spec, path_sources, join_of, source_types, order_of, part_sources, reading_of, declared_sources, table_sources, select_plan, IsPlain, NamesPaths, IsNoList, UsesNoList, IsPlannable}
+
+-- so many where the kind is this one
+abbrev only : Kind → Kind → ℕ → ℕ
+only k j n = cond (same_kind j k) n 0
+
+only-none : (b : Bool) → (let n : ℕ = cond b 0 0 in n) ≡ 0
+only-none true = refl
+only-none false = refl
+
+only-more : (b : Bool) (n : ℕ) → cond b 1 0 + cond b n 0 ≡ cond b (suc n) 0
+only-more true n = omega arith
+only-more false n = omega arith
+
+only-times : (b : Bool) (n : ℕ) → n * cond b 1 0 ≡ cond b n 0
+only-times true n = omega arith
+only-times false n = omega arith
+
+-- ---- step by step
+
+paths-need : (k : Kind) (r : Reading) (i : ℕ) (paths : List (List ℕ))
+    → sources_count (of_kind k) (path_sources r i paths) ≡ only k kind.Csv (length paths)
+paths-need k r i [] = sym (only-none (same_kind kind.Csv k))
+paths-need k r i (path ∷ paths) =
+    sum_by-cons (λ (s : Spec). of_kind k s 0) (spec.Csv (part_spec r i path))
+    (path_sources r (suc i) paths)
+    ∙ ap (λ n. only k kind.Csv 1 + n) (paths-need k r (suc i) paths)
+    ∙ only-more (same_kind kind.Csv k) (length paths)
+
+parts-need : (k : Kind) (r : Reading) (parts : PartsDecl) → NamesPaths parts
+    → sources_count (of_kind k) (part_sources r parts) ≡ only k kind.Csv (part_sources_need parts)
+parts-need k r (Paths paths) h = paths-need k r 1 paths
+parts-need k r (ListFile path) h = absurd h
+
+declared-need : (k : Kind) (header : Bool) (rows t : ℕ) (decl : Option TableDecl) → IsNoList decl
+    → sources_count (of_kind k) (declared_sources header rows t decl)
+    ≡ only k kind.Csv (if_declared part_sources_need decl)
+declared-need k header rows t None h = sym (only-none (same_kind kind.Csv k))
+declared-need k header rows t (Some decl) h =
+    parts-need k (reading_of header rows t decl) decl.parts h
+
+no-numbers : (decl : Option TableDecl) → if_declared (λ parts. 0) decl ≡ 0
+no-numbers None = refl
+no-numbers (Some decl) = refl
+
+sources-need : (k : Kind) (tables : List TableDecl) (header : Bool) (rows : ℕ) (u : TableUse)
+    → UsesNoList tables u → sources_count (of_kind k) (table_sources tables header rows u)
+    ≡ only k kind.Csv (table_need part_sources_need 0 tables u)
+    + only k kind.Numbers (table_need (λ decl. 0) 1 tables u)
+sources-need k tables header rows (Declared t) h =
+    let here = declared-need k header rows t (slice_get tables t) h in
+    let none : only k kind.Numbers (if_declared (λ parts. 0) (slice_get tables t)) ≡ 0 =
+    ap (only k kind.Numbers) (no-numbers (slice_get tables t))
+    ∙ only-none (same_kind kind.Numbers k) in
+    omega (arith, here, none)
+sources-need k tables header rows (Numbers m) h =
+    let none = only-none (same_kind kind.Csv k) in
+    let one = sum_by-cons (λ (s : Spec). of_kind k s 0) (spec.Numbers m rows) [] in
+    omega (arith, none, one)
+
+filter-need : (k : Kind) (f : Option Cond) (n : ℕ)
+    → filter_count (of_kind k) f n ≡ only k kind.Filter (if_filtered f n)
+filter-need k None n = sym (only-none (same_kind kind.Filter k))
+filter-need k (Some c) n = only-times (same_kind kind.Filter k) n
+
+limit-need : (k : Kind) (l : Option Span)
+    → limit_count (of_kind k) l ≡ only k kind.Limit (if_limited l 1)
+limit-need k None = sym (only-none (same_kind kind.Limit k))
+limit-need k (Some span) = refl
+
+shape-need : (k : Kind) (s : Shape) (types : List ColumnType) (rows lanes : ℕ) → IsPlain s
+    → shape_count (of_kind k) (shape_of s types rows) None lanes
+    ≡ only k kind.Expression lanes + only k kind.Resize 1
+shape-need k (Plain items) types rows lanes h =
+    let times = only-times (same_kind kind.Expression k) lanes in omega (arith, times)
+shape-need k (Grouped g) types rows lanes h = absurd h
+
+-- ---- the plan
+
+-- what the steps of a query without JOIN, groups and order need
+abbrev steps_need : Checked → List TableDecl → ℕ → Kind → ℕ
+steps_need q tables lanes k =
+    (only k kind.Csv (table_need part_sources_need 0 tables q.from)
+    + only k kind.Numbers (table_need (λ decl. 0) 1 tables q.from) + only k kind.Resize 1)
+    + (only k kind.Filter (if_filtered q.filter lanes)
+    + ((only k kind.Expression lanes + only k kind.Resize 1)
+    + (only k kind.Limit (if_limited q.limit 1) + only k kind.Collect 1)))
+
+steps-counted : (q : Checked) (tables : List TableDecl) (lanes rows : ℕ) (header : Bool) (k : Kind)
+    → IsPlannable q tables
+    → plan_count (of_kind k) (select_plan q tables lanes rows header) ≡ steps_need q tables lanes k
+steps-counted q tables lanes rows header k p =
+    let sources : List Spec = table_sources tables header rows q.from in
+    let types : List ColumnType = source_types tables q.from q.join in
+    let read : read_count (of_kind k) sources (join_of tables header rows q.from q.join)
+    ≡ sources_count (of_kind k) sources + only k kind.Resize 1 =
+    ap (λ j. read_count (of_kind k) sources (join_of tables header rows q.from j)) p.one_table in
+    let shape : shape_count (of_kind k) (shape_of q.shape types rows)
+    (order_of q.types rows q.order) lanes
+    ≡ only k kind.Expression lanes + only k kind.Resize 1 =
+    ap (λ o. shape_count (of_kind k) (shape_of q.shape types rows) (order_of q.types rows o) lanes)
+    p.unordered ∙ shape-need k q.shape types rows lanes p.plain in
+    omega (
+      arith,
+      read,
+      sources-need k tables header rows q.from p.no_list,
+      filter-need k q.filter lanes,
+      shape,
+      limit-need k q.limit,
+    )
+
+plain-number : (s : Shape) (n : ℕ) → IsPlain s → if_plain s n ≡ n
+plain-number (Plain items) n h = refl
+plain-number (Grouped g) n h = absurd h
+
+no-groups : (s : Shape) (n : ℕ) → IsPlain s → if_grouped s n ≡ 0
+no-groups (Plain items) n h = refl
+no-groups (Grouped g) n h = absurd h
+
+no-having : (s : Shape) (n : ℕ) → IsPlain s → having_need s n ≡ 0
+no-having (Plain items) n h = refl
+no-having (Grouped g) n h = absurd h
+
+one-table : (f : PartsDecl → ℕ) (n : ℕ) (q : Checked) (tables : List TableDecl) → q.join ≡ None
+    → tables_need f n q tables ≡ table_need f n tables q.from
+one-table f n q tables e =
+    ap (λ j. sum_by (table_need f n tables) (q.from ∷ join_use j)) e
+    ∙ sum_by-cons (table_need f n tables) q.from [] ∙ omega arith
+
+no-lists : (tables : List TableDecl) (u : TableUse) → UsesNoList tables u
+    → table_need list_sources_need 0 tables u ≡ 0
+no-lists tables (Declared t) h = go (slice_get tables t) h
+  where
+    parts : (d : PartsDecl) → NamesPaths d → list_sources_need d ≡ 0
+    parts (Paths paths) h = refl
+    parts (ListFile path) h = absurd h
+
+    go : (o : Option TableDecl) → IsNoList o → if_declared list_sources_need o ≡ 0
+    go None h = refl
+    go (Some decl) h = parts decl.parts h
+no-lists tables (Numbers n) h = refl
+
+need-of-steps : (q : Checked) (tables : List TableDecl) (lanes : ℕ) (k : Kind)
+    → IsPlannable q tables
+    → steps_need q tables lanes k ≡ need q tables lanes k
+need-of-steps q tables lanes k p = go k
+  where
+    ordered : (n : ℕ) → if_ordered q.order n ≡ 0
+    ordered n = ap (λ o. if_ordered o n) p.unordered
+
+    go : (k : Kind) → steps_need q tables lanes k ≡ need q tables lanes k
+    go kind.Csv = let one = one-table part_sources_need 0 q tables p.one_table in omega (arith, one)
+    go kind.List =
+        let one = one-table list_sources_need 0 q tables p.one_table in
+        let none = no-lists tables q.from p.no_list in
+        omega (arith, one, none)
+    go kind.Numbers = let one = one-table (λ decl. 0) 1 q tables p.one_table in omega (arith, one)
+    go kind.Filter = let none = no-having q.shape 1 p.plain in omega (arith, none)
+    go kind.Expression = let none = no-groups q.shape 1 p.plain in omega (arith, none)
+    go kind.Resize =
+        let lone : if_joined q.join 3 1 ≡ 1 = ap (λ j. if_joined j 3 1) p.one_table in
+        let unordered : if_unordered q.order 1 ≡ 1 = ap (λ o. if_unordered o 1) p.unordered in
+        let plain = plain-number q.shape (if_unordered q.order 1) p.plain in
+        omega (arith, lone, unordered, plain)
+    go kind.PartialAggregate = let none = no-groups q.shape lanes p.plain in omega (arith, none)
+    go kind.MergeAggregate = let none = no-groups q.shape 1 p.plain in omega (arith, none)
+    go kind.HashJoin =
+        let lone : if_joined q.join 1 0 ≡ 0 = ap (λ j. if_joined j 1 0) p.one_table in
+        omega (arith, lone)
+    go kind.Sort = let none = ordered (sorts_need q.shape lanes) in omega (arith, none)
+    go kind.MergeSorted = let none = ordered (if_plain q.shape 1) in omega (arith, none)
+    go kind.Limit = omega arith
+    go kind.Collect = omega arith
+
+-- The nodes of a kind of a query's plan are as many as the query needs.
+pub plan-needs : (q : Checked) (tables : List TableDecl) (lanes rows : ℕ) (header : Bool) (k : Kind)
+    → IsPlannable q tables
+    → counted (of_kind k) (plan_nodes (select_plan q tables lanes rows header))
+    ≡ need q tables lanes k
+plan-needs q tables lanes rows header k p =
+    plan-counted (of_kind k) (select_plan q tables lanes rows header)
+    ∙ steps-counted q tables lanes rows header k p ∙ need-of-steps q tables lanes k p
+
+-- what is kept of a kind is among what is kept
+pub reserved-le : (k : Kind) (reserves : List PlanReserve)
+    → sum_by (boxes_reserved k) reserves ≤ reserved_nodes reserves
+reserved-le k [] = omega arith
+reserved-le k (r ∷ reserves) =
+    omega (
+      arith,
+      reserved-le k reserves,
+      count_by-le-length (λ kind. same_kind kind k) r.kinds,
+      sum_by-cons (boxes_reserved k) r reserves,
+      sum_by-cons (λ (z : PlanReserve). length z.kinds) r reserves,
+    )
+
+-- a plan's boxes so far are at most 256
+pub few-boxes : (k : Kind) (nodes : List PlanNode) (reserves : List PlanReserve) (i : ℕ)
+    (r : PlanReserve) → length nodes + reserved_nodes reserves ≤ 256 → i < length reserves
+    → r ≡ get_or reserves i r
+    → boxes_taken k nodes + sum_by (boxes_reserved k) (take i reserves) + boxes_reserved k r ≤ 256
+few-boxes k nodes reserves i r few lt is =
+    let here = ap (boxes_reserved k) is in
+    omega (
+      arith,
+      few,
+      here,
+      reserved-le k reserves,
+      count_by-le-length (λ (n : PlanNode). same_kind (kind_of n.spec) k) nodes,
+      sum_by_more (boxes_reserved k) reserves i r lt,
+      sum_by-take-le (boxes_reserved k) reserves (i + 1),
+    )

@@ -1,0 +1,112 @@
+-- What was laid down is a graph, and takes as many boxes of each kind as the query needs.
+use Rattle.std.proofs.Common.{◌≡◌, ℕ, Bool, List, [], ◌∷◌, ◌++◌, length, map, cond, refl, sym, ap, subst, ◌∙◌, arith}
+use Rattle.std.specs.Prelude.{sum_by}
+use Rattle.std.proofs.lemmas.List.{append-nil, append_assoc, length-map}
+use Rattle.std.proofs.lemmas.List.Sums.{sum_by-cons}
+use Rattle.port_word.specs.declared.flags.Wire.{Wire}
+use Rattle.query_model.specs.Kinds.{kind_of}
+use Rattle.query_model.specs.Need.{need}
+use Rattle.query_model.specs.declared.query.TableDecl.{TableDecl}
+use Rattle.query_model.specs.declared.checked.Checked.{Checked}
+use Rattle.query_model.specs.declared.processor_spec.Kind.{Kind}
+use Rattle.query_model.specs.declared.processor_spec.Kind.TheVariants as kind
+use Rattle.query_model.specs.declared.processor_spec.Spec.{Spec}
+use Rattle.query_model.specs.declared.processor_spec.Spec.TheVariants as spec
+use Rattle.proc_api.specs.Forms.{SpecForm, filter, expression, unboxed, spec_form}
+use Rattle.proc_api.specs.Graphs.{IsGraph}
+use Rattle.proc_api.specs.Racks.{same_kind}
+use Rattle.plan_graph.specs.declared.nodes.DraftNode.{DraftNode}
+use Rattle.plan_graph.specs.Drafts.{Draft, no_draft, with_node, with_nodes}
+use Rattle.plan_meaning.specs.Counts.{counted, of_kind}
+use Rattle.plan_meaning.specs.Plans.{IsSmall, plan_nodes}
+use Rattle.plan_meaning.specs.Same.{NodeForm}
+use Rattle.plan_meaning.proofs.PlanGraphs.{PlanGraph, plan-graph, counted-same}
+use Rattle.select_planner.specs.declared.nodes.Plan.{Plan}
+use Rattle.select_planner.specs.declared.nodes.PlanNode.{PlanNode}
+use Rattle.select_planner.specs.Counts.{boxes_needed, boxes_taken, boxes_reserved}
+use Rattle.select_planner.specs.Shapes.{node_of, edge_of, wire_of, plan_ranks, plan_wires, IsSound, LaysDown}
+use Rattle.select_planner.specs.Steps.{select_plan, IsPlannable}
+use Rattle.select_planner.proofs.BoxCounts.{plan-needs}
+
+-- ---- counts by forms
+
+form_kind : SpecForm → Kind
+form_kind = λ f. elim f as (λ g. Kind) [
+  | filter c ↦ kind.Filter
+  | expression items ↦ kind.Expression
+  | unboxed s ↦ kind_of s
+]
+
+kind-of-form : (s : Spec) → kind_of s ≡ form_kind (spec_form s)
+unfolding form_kind
+kind-of-form (spec.Filter c) = refl
+kind-of-form (spec.Expression items) = refl
+kind-of-form s = refl
+
+-- ---- boxes
+
+taken-counted : (k : Kind) (nodes : List DraftNode) → boxes_taken k (map node_of nodes) ≡ counted
+    (of_kind k) nodes
+taken-counted k [] = refl
+taken-counted k (n ∷ nodes) =
+    let rest = taken-counted k nodes in
+    let left = sum_by-cons (λ (z : PlanNode). cond (same_kind (kind_of z.spec) k) 1 0) (node_of n)
+    (map node_of nodes) in
+    let right = sum_by-cons (λ (z : DraftNode). of_kind k z.spec z.takes) n nodes in
+    omega (arith, rest, left, right)
+
+-- A plan that was laid down takes as many boxes of each kind as the query needs.
+pub needs-are : (q : Checked) (tables : List TableDecl) (lanes rows : ℕ) (header : Bool) (p : Plan)
+    → IsPlannable q tables → LaysDown (plan_nodes (select_plan q tables lanes rows header)) p
+    → (k : Kind)
+    → boxes_needed p k ≡ need q tables lanes k
+needs-are q tables lanes rows header p plannable l k =
+    let steps : List DraftNode = plan_nodes (select_plan q tables lanes rows header) in
+    let taken : boxes_taken k p.nodes ≡ need q tables lanes k =
+    ap (boxes_taken k) l.nodes ∙ taken-counted k l.copies
+    ∙ counted-same (of_kind k) (λ (f : NodeForm). cond (same_kind (form_kind f.spec) k) 1 0)
+    (λ n. ap (λ j. cond (same_kind j k) 1 0) (kind-of-form n.spec)) l.copies steps l.same
+    ∙ plan-needs q tables lanes rows header k plannable in
+    let none : sum_by (boxes_reserved k) p.reserves ≡ 0 = ap (sum_by (boxes_reserved k))
+    l.reserves in
+    omega (arith, taken, none)
+
+-- ---- the graph
+
+ranks-are : (nodes : List DraftNode) (d : Draft) → (with_nodes nodes d).ranks ≡ d.ranks
+    ++ map (λ (n : DraftNode). n.rank) nodes
+ranks-are [] d = sym (append-nil d.ranks)
+ranks-are (n ∷ nodes) d =
+    ranks-are nodes (with_node n d)
+    ∙ append_assoc d.ranks (n.rank ∷ []) (map (λ (z : DraftNode). z.rank) nodes)
+
+ranks-of : (nodes : List DraftNode) → map (λ (n : PlanNode). n.rank) (map node_of nodes) ≡ map
+    (λ (n : DraftNode). n.rank) nodes
+ranks-of [] = refl
+ranks-of (n ∷ nodes) = ap (λ l. n.rank ∷ l) (ranks-of nodes)
+
+wires-of : (wires : List Wire) → map wire_of (map edge_of wires) ≡ wires
+wires-of [] = refl
+wires-of (w ∷ wires) = ap (λ l. w ∷ l) (wires-of wires)
+
+-- A plan that was laid down is a graph, and takes as many boxes as the query needs.
+pub is-sound : (q : Checked) (tables : List TableDecl) (lanes rows : ℕ) (header : Bool) (p : Plan)
+    → IsPlannable q tables → IsSmall (select_plan q tables lanes rows header)
+    → LaysDown (plan_nodes (select_plan q tables lanes rows header)) p → IsSound q tables lanes p
+is-sound q tables lanes rows header p plannable small l =
+    let g : PlanGraph l.copies = plan-graph (select_plan q tables lanes rows header) l.copies small
+    l.same in
+    let drawn : Draft = with_nodes l.copies no_draft in
+    let ranks : plan_ranks p ≡ drawn.ranks =
+    ap (λ ns. map (λ (n : PlanNode). n.rank) ns) l.nodes ∙ ranks-of l.copies
+    ∙ sym (ranks-are l.copies no_draft) in
+    let wires : plan_wires p ≡ drawn.wires = ap (map wire_of) l.edges ∙ wires-of drawn.wires in
+    let count : length p.nodes ≡ length l.copies =
+    ap (λ (ns : List PlanNode). length ns) l.nodes ∙ length-map l.copies node_of in
+    let few = g.few in
+    record {
+      graph = subst (λ r. IsGraph r (plan_wires p) []) (sym ranks)
+          (subst (λ w. IsGraph drawn.ranks w []) (sym wires) g.graph.graph);
+      needed = needs-are q tables lanes rows header p plannable l;
+      few = omega (arith, count, few);
+    }

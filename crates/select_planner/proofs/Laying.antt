@@ -1,0 +1,216 @@
+-- The steps of a plan, laid down one behind another.
+use Rattle.std.proofs.Common.{◌≡◌, ℕ, zero, suc, ◌+◌, ◌<◌, ◌≤◌, Bool, true, false, cond, List, [], ◌∷◌, ◌++◌, length, take, get_or, Option, Some, None, refl, sym, ap, subst, ◌∙◌, arith}
+use Rattle.std.specs.Prelude.{slice_get, nat_lt}
+use Rattle.std.proofs.lemmas.Bool.Decides.{nat_tests}
+use Rattle.std.proofs.lemmas.List.{append_assoc, length-take-le, map-append, take_more}
+use Rattle.query_model.specs.declared.query.PartsDecl.{PartsDecl}
+use Rattle.query_model.specs.declared.query.PartsDecl.TheVariants.{Paths, ListFile}
+use Rattle.query_model.specs.declared.query.TableDecl.{TableDecl}
+use Rattle.query_model.specs.Expressions.{Expr}
+use Rattle.query_model.specs.declared.checked.TableUse.{TableUse}
+use Rattle.query_model.specs.declared.checked.TableUse.TheVariants.{Declared, Numbers}
+use Rattle.query_model.specs.declared.checked.Shape.TheVariants.{Plain}
+use Rattle.query_model.specs.declared.checked.Checked.{Checked}
+use Rattle.query_model.specs.declared.processor_spec.PartSpec.{PartSpec}
+use Rattle.query_model.specs.declared.processor_spec.Spec.{Spec}
+use Rattle.query_model.specs.declared.processor_spec.Spec.TheVariants as spec
+use Rattle.proc_api.specs.Forms.{SpecForm, spec_form}
+use Rattle.plan_graph.specs.declared.nodes.DraftNode.{DraftNode}
+use Rattle.plan_graph.specs.Blocks.{source_nodes, lane_nodes, joint_node}
+use Rattle.plan_meaning.specs.Plans.{IsSmall, FewJoined, filter_nodes, limit_nodes, read_nodes, shape_nodes, collect_node, plan_nodes}
+use Rattle.plan_meaning.specs.Queries.{shape_of}
+use Rattle.plan_meaning.specs.Same.{NodeForm, node_form, forms}
+use Rattle.select_planner.specs.Refusals.{NamedPaths, path_count, crowded_decl, crowded}
+use Rattle.select_planner.specs.Steps.{Reading, part_spec, path_sources, part_sources, reading_of, declared_sources, table_sources, join_of, source_types, order_of, select_plan, NamesPaths, IsNoList, UsesNoList, IsPlannable}
+
+-- a block more
+pub block-more : (x y done block : List DraftNode) → forms x ≡ forms done
+    → forms y ≡ forms x ++ forms block → forms y ≡ forms (done ++ block)
+block-more x y done block d e =
+    e ∙ ap (λ l. l ++ forms block) d ∙ sym (map-append node_form done block)
+
+-- ---- lanes
+
+lanes-push : (s : Spec) (rank i n : ℕ)
+    → lane_nodes s rank i (suc n) ≡ lane_nodes s rank i n ++ lane_nodes s rank (i + n) 1
+lanes-push s rank i zero = let same : i ≡ i + 0 = omega arith in
+    ap (λ k. lane_nodes s rank k 1) same
+lanes-push s rank i (suc n) =
+    let same : suc i + n ≡ i + suc n = omega arith in
+    ap (λ l. record { spec = s; rank = rank; offset = i; takes = 1; gives = 1 } ∷ l)
+    (lanes-push s rank (suc i) n
+    ∙ ap (λ k. lane_nodes s rank (suc i) n ++ lane_nodes s rank k 1) same)
+
+-- a lane more, with a copy of its own
+pub lane-more : (s t : Spec) (rank k : ℕ) (x y z : List DraftNode) → spec_form s ≡ spec_form t
+    → forms y ≡ forms x ++ forms (lane_nodes t rank 0 k)
+    → forms z ≡ forms y ++ forms (lane_nodes s rank k 1)
+    → forms z ≡ forms x ++ forms (lane_nodes t rank 0 (k + 1))
+lane-more s t rank k x y z e h g =
+    let first : List DraftNode = lane_nodes t rank 0 k in
+    let lane : SpecForm
+    → List NodeForm =
+    (λ f. record { spec = f; rank = rank; offset = k; takes = 1; gives = 1 } ∷ []) in
+    let next : suc k ≡ k + 1 = omega arith in
+    let here : 0 + k ≡ k = omega arith in
+    g ∙ ap (λ l. l ++ forms (lane_nodes s rank k 1)) h
+    ∙ append_assoc (forms x) (forms first) (forms (lane_nodes s rank k 1))
+    ∙ ap (λ l. forms x ++ (forms first ++ l)) (ap lane e)
+    ∙ ap (λ l. forms x ++ l) (sym (map-append node_form first (lane_nodes t rank k 1)))
+    ∙ ap (λ n. forms x ++ forms (first ++ lane_nodes t rank n 1)) (sym here)
+    ∙ ap (λ l. forms x ++ forms l) (sym (lanes-push t rank 0 k))
+    ∙ ap (λ n. forms x ++ forms (lane_nodes t rank 0 n)) next
+
+-- ---- sources
+
+sources-append : (i : ℕ) (xs ys : List Spec)
+    → source_nodes i (xs ++ ys) ≡ source_nodes i xs ++ source_nodes (i + length xs) ys
+sources-append i [] ys = let same : i ≡ i + 0 = omega arith in ap (λ k. source_nodes k ys) same
+sources-append i (x ∷ xs) ys =
+    let same : suc i + length xs ≡ i + suc (length xs) = omega arith in
+    ap (λ l. record { spec = x; rank = 1; offset = i; takes = 0; gives = 1 } ∷ l)
+    (sources-append (suc i) xs ys
+    ∙ ap (λ k. source_nodes (suc i) xs ++ source_nodes k ys) same)
+
+paths-push : (r : Reading) (k : ℕ) (paths : List (List ℕ)) (path : List ℕ)
+    → path_sources r k (paths ++ path ∷ [])
+    ≡ path_sources r k paths ++ spec.Csv (part_spec r (k + length paths) path) ∷ []
+paths-push r k [] path =
+    let same : k ≡ k + 0 = omega arith in ap (λ n. spec.Csv (part_spec r n path) ∷ []) same
+paths-push r k (p ∷ paths) path =
+    let same : suc k + length paths ≡ k + suc (length paths) = omega arith in
+    ap (λ l. spec.Csv (part_spec r k p) ∷ l)
+    (paths-push r (suc k) paths path
+    ∙ ap (λ n. path_sources r (suc k) paths ++ spec.Csv (part_spec r n path) ∷ []) same)
+
+paths-length : (r : Reading) (k : ℕ) (paths : List (List ℕ))
+    → length (path_sources r k paths) ≡ length paths
+paths-length r k [] = refl
+paths-length r k (path ∷ paths) = ap suc (paths-length r (suc k) paths)
+
+-- the source of a path more
+pub path-more : (r : Reading) (paths : List (List ℕ)) (path : List ℕ) (part : PartSpec) (i : ℕ)
+    (x y z : List DraftNode) → i < length paths → path ≡ get_or paths i path
+    → part ≡ part_spec r (i + 1) path
+    → forms y ≡ forms x ++ forms (source_nodes 0 (path_sources r 1 (take i paths)))
+    → forms z ≡ forms y ++ forms (source_nodes i (spec.Csv part ∷ []))
+    → forms z ≡ forms x ++ forms (source_nodes 0 (path_sources r 1 (take (i + 1) paths)))
+path-more r paths path part i x y z lt is same h g =
+    let first : List Spec = path_sources r 1 (take i paths) in
+    let last : Spec = spec.Csv (part_spec r (i + 1) path) in
+    let some : length (take i paths) ≡ i = length-take-le i paths (omega (arith, lt)) in
+    let count : 0 + length first ≡ i =
+    let e = paths-length r 1 (take i paths) in omega (arith, e, some) in
+    let place : 1 + length (take i paths) ≡ i + 1 = omega (arith, some) in
+    let whole : path_sources r 1 (take (i + 1) paths) ≡ first ++ last ∷ [] =
+    ap (path_sources r 1) (take_more paths i path lt ∙ ap (λ p. take i paths ++ p ∷ []) (sym is))
+    ∙ paths-push r 1 (take i paths) path
+    ∙ ap (λ n. first ++ spec.Csv (part_spec r n path) ∷ []) place in
+    g ∙ ap (λ l. l ++ forms (source_nodes i (spec.Csv part ∷ []))) h
+    ∙ append_assoc (forms x) (forms (source_nodes 0 first))
+    (forms (source_nodes i (spec.Csv part ∷ [])))
+    ∙ ap (λ p. forms x
+    ++ (forms (source_nodes 0 first) ++ forms (source_nodes i (spec.Csv p ∷ [])))) same
+    ∙ ap (λ l. forms x ++ l)
+    (sym (map-append node_form (source_nodes 0 first) (source_nodes i (last ∷ []))))
+    ∙ ap (λ n. forms x ++ forms (source_nodes 0 first ++ source_nodes n (last ∷ []))) (sym count)
+    ∙ ap (λ l. forms x ++ forms l) (sym (sources-append 0 first (last ∷ [])))
+    ∙ ap (λ l. forms x ++ forms (source_nodes 0 l)) (sym whole)
+
+-- as many sources as paths
+pub parts-count : (r : Reading) (d : PartsDecl) (paths : List (List ℕ)) → d ≡ Paths paths
+    → length paths ≡ length (part_sources r d)
+parts-count r d paths e =
+    sym (paths-length r 1 paths) ∙ ap (λ p. length (part_sources r p)) (sym e)
+
+-- a table that isn't declared has no sources
+pub none-declared : (tables : List TableDecl) (header : Bool) (rows t : ℕ) (u : TableUse)
+    → u ≡ Declared t → slice_get tables t ≡ None → table_sources tables header rows u ≡ []
+none-declared tables header rows t u e n =
+    ap (table_sources tables header rows) e ∙ ap (declared_sources header rows t) n
+
+-- ---- a small plan
+
+not-crowded : (n : ℕ) (b : Bool) → nat_lt 32 n ≡ b → b ≡ false → n ≤ 32
+not-crowded n b e f = let off : nat_lt 32 n ≡ false = e ∙ f in grind (arith, nat_tests)
+
+-- a declaration that isn't crowded names few paths
+pub few-paths : (decl : TableDecl) → crowded_decl (Some decl) ≡ None → path_count decl.parts ≤ 32
+few-paths decl e = go (nat_lt 32 (path_count decl.parts)) refl e
+  where
+    table : NamedPaths
+    table = record { name = decl.schema.name; count = path_count decl.parts }
+
+    go : (b : Bool) → nat_lt 32 (path_count decl.parts) ≡ b → cond b (Some table) None ≡ None
+        → path_count decl.parts ≤ 32
+    go true e n = absurd (cc)
+    go false e n = not-crowded (path_count decl.parts) false e refl
+
+few-sources : (tables : List TableDecl) (header : Bool) (rows : ℕ) (u : TableUse)
+    → crowded tables u ≡ None → UsesNoList tables u
+    → length (table_sources tables header rows u) ≤ 32
+few-sources tables header rows (Declared t) e h = go (slice_get tables t) e h
+  where
+    parts : (r : Reading) (d : PartsDecl) → NamesPaths d → path_count d ≤ 32
+        → length (part_sources r d) ≤ 32
+    parts r (Paths paths) h le = let e = paths-length r 1 paths in omega (arith, e, le)
+    parts r (ListFile path) h le = absurd h
+
+    go : (o : Option TableDecl) → crowded_decl o ≡ None → IsNoList o
+        → length (declared_sources header rows t o) ≤ 32
+    go None e h = omega arith
+    go (Some decl) e h = parts (reading_of header rows t decl) decl.parts h (few-paths decl e)
+few-sources tables header rows (Numbers n) e h = omega arith
+
+pub is-small : (q : Checked) (tables : List TableDecl) (lanes rows : ℕ) (header : Bool)
+    → IsPlannable q tables → crowded tables q.from ≡ None → lanes ≤ 16
+    → IsSmall (select_plan q tables lanes rows header)
+is-small q tables lanes rows header p few le = record {
+  few_sources = few-sources tables header rows q.from few p.no_list;
+  few_joined = subst (λ j. FewJoined (join_of tables header rows q.from j)) (sym p.one_table) tt;
+  few_lanes = le;
+}
+
+-- a small plan, by the tables as the code reads them
+pub small-plan : (q : Checked) (tables read : List TableDecl) (lanes rows : ℕ) (header : Bool)
+    → read ≡ tables → IsPlannable q tables → lanes ≤ 16 → crowded read q.from ≡ None
+    → IsSmall (select_plan q tables lanes rows header)
+small-plan q tables read lanes rows header e p le few =
+    is-small q tables lanes rows header p (ap (λ t. crowded t q.from) (sym e) ∙ few) le
+
+-- the nodes that were laid down for the tables
+pub steps-for : (q : Checked) (tables read : List TableDecl) (lanes rows : ℕ) (header : Bool)
+    (nodes : List DraftNode) → read ≡ tables
+    → forms nodes ≡ forms (plan_nodes (select_plan q read lanes rows header))
+    → forms nodes ≡ forms (plan_nodes (select_plan q tables lanes rows header))
+steps-for q tables read lanes rows header nodes e same =
+    same ∙ ap (λ t. forms (plan_nodes (select_plan q t lanes rows header))) e
+
+-- ---- all steps
+
+-- the nodes step by step, as the code adds them
+abbrev pub laid_nodes : List DraftNode → List DraftNode → List DraftNode → List DraftNode
+    → List DraftNode → List DraftNode → List DraftNode → List DraftNode
+laid_nodes a b c d e f g = (((((a ++ b) ++ c) ++ d) ++ e) ++ f) ++ g
+
+regrouped : (a b c d e f g : List DraftNode)
+    → laid_nodes a b c d e f g ≡ ((a ++ b) ++ (c ++ ((d ++ e) ++ f))) ++ g
+regrouped a b c d e f g = simp append_assoc
+
+-- a query without JOIN, groups and order has these steps
+pub plain-steps : (q : Checked) (tables : List TableDecl) (lanes rows : ℕ) (header : Bool)
+    (items : List Expr) → IsPlannable q tables → q.shape ≡ Plain items
+    → laid_nodes (source_nodes 0 (table_sources tables header rows q.from))
+    (joint_node spec.Resize 2 (length (table_sources tables header rows q.from)) lanes ∷ [])
+    (filter_nodes q.filter 5 lanes) (lane_nodes (spec.Expression items) 6 0 lanes)
+    (joint_node spec.Resize 12 lanes 1 ∷ []) (limit_nodes q.limit) (collect_node ∷ [])
+    ≡ plan_nodes (select_plan q tables lanes rows header)
+plain-steps q tables lanes rows header items p shape =
+    let sources : List Spec = table_sources tables header rows q.from in
+    regrouped (source_nodes 0 sources) (joint_node spec.Resize 2 (length sources) lanes ∷ [])
+    (filter_nodes q.filter 5 lanes) (lane_nodes (spec.Expression items) 6 0 lanes)
+    (joint_node spec.Resize 12 lanes 1 ∷ []) (limit_nodes q.limit) (collect_node ∷ [])
+    ∙ sym (λ i. (read_nodes sources (join_of tables header rows q.from (p.one_table i)) lanes
+    ++ (filter_nodes q.filter 5 lanes
+    ++ (shape_nodes (shape_of (shape i) (source_types tables q.from q.join) rows)
+    (order_of q.types rows (p.unordered i)) lanes ++ limit_nodes q.limit))) ++ collect_node ∷ [])

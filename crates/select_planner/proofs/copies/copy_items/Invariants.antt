@@ -1,0 +1,6 @@
+use Rattle.std.proofs.Common.{◌≡◌, map, take}
+use Rattle.query_model.specs.Formulas.{formula}
+use Rattle.select_planner.proofs.copies.copy_items.Given as goal
+
+abbrev pub invariant-loop-item : goal.invariant-loop-item
+invariant-loop-item l = map formula l.copies.items ≡ map formula (take l.item-index l.items)

@@ -1,0 +1,11 @@
+use Rattle.std.proofs.Common.{ap}
+use Rattle.query_model.specs.declared.processor_spec.Spec.TheVariants as spec
+use Rattle.proc_api.specs.Forms.{filter}
+use Rattle.select_planner.proofs.Laying.{lane-more}
+use Rattle.select_planner.proofs.lanes.add_filter_lanes.Goals as goal
+
+pub loop-lane-preserved : goal.loop-lane-preserved
+loop-lane-preserved c =
+    lane-more (spec.Filter c.in_ok-copy.copy) (spec.Filter c.args.cond.now) c.args.rank
+    c.loop-lane.lane c.args.nodes.now c.loop-lane.nodes c.add_lane.new.nodes
+    (ap filter c.in_ok-copy.ensures) c.loop-lane.invariant c.in_ok-add_lane.ensures

@@ -1,0 +1,10 @@
+use Rattle.std.proofs.Common.{◌≡◌, ◌++◌}
+use Rattle.query_model.specs.declared.processor_spec.Spec.TheVariants as spec
+use Rattle.plan_graph.specs.Blocks.{lane_nodes}
+use Rattle.plan_meaning.specs.Same.{forms}
+use Rattle.select_planner.proofs.lanes.add_items.Given as goal
+
+abbrev pub invariant-loop-lane : goal.invariant-loop-lane
+invariant-loop-lane l =
+    forms l.nodes ≡ forms l.initial.nodes
+    ++ forms (lane_nodes (spec.Expression l.items) l.rank 0 l.lane)

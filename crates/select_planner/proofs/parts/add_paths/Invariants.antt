@@ -1,0 +1,10 @@
+use Rattle.std.proofs.Common.{◌≡◌, ◌++◌, take}
+use Rattle.plan_graph.specs.Blocks.{source_nodes}
+use Rattle.plan_meaning.specs.Same.{forms}
+use Rattle.select_planner.specs.Steps.{path_sources, reading_of}
+use Rattle.select_planner.proofs.parts.add_paths.Given as goal
+
+abbrev pub invariant-loop-i : goal.invariant-loop-i
+invariant-loop-i l =
+    forms l.nodes ≡ forms l.initial.nodes ++ forms (source_nodes 0
+    (path_sources (reading_of l.reading.header l.reading.rows l.table l.decl) 1 (take l.i l.paths)))

@@ -1,0 +1,21 @@
+use Rattle.std.proofs.Common.{◌++◌, sym, ap, ◌∙◌, length}
+use Rattle.std.proofs.lemmas.Option.{slice_get_past}
+use Rattle.std.proofs.lemmas.List.{append-nil}
+use Rattle.plan_graph.specs.Blocks.{source_nodes}
+use Rattle.plan_meaning.specs.Same.{forms}
+use Rattle.select_planner.proofs.Laying.{none-declared}
+use Rattle.select_planner.proofs.parts.add_sources.Goals as goal
+
+pub returns-in-None-clause-nodes : goal.returns-in-None-clause-nodes
+returns-in-None-clause-nodes c =
+    sym (append-nil (forms c.args.nodes.now))
+    ∙ ap (λ l. forms c.args.nodes.now ++ forms (source_nodes 0 l))
+    (sym (none-declared c.args.tables.now c.args.reading.header c.args.reading.rows c.in-Declared.t
+    c.args.table c.in-Declared.is (slice_get_past c.args.tables.now c.in-Declared.t
+    c.in-None.ensures.lookup.3)))
+
+pub returns-in-None-clause-count : goal.returns-in-None-clause-count
+returns-in-None-clause-count c =
+    ap length (sym (none-declared c.args.tables.now c.args.reading.header c.args.reading.rows
+    c.in-Declared.t c.args.table c.in-Declared.is (slice_get_past c.args.tables.now c.in-Declared.t
+    c.in-None.ensures.lookup.3)))

@@ -1,0 +1,46 @@
+use Rattle.std.proofs.Common.{arith}
+use Rattle.select_planner.specs.Steps.{select_plan}
+use Rattle.plan_meaning.proofs.PlanGraphs.{plan-graph}
+use Rattle.select_planner.proofs.Laying.{small-plan, steps-for}
+use Rattle.select_planner.proofs.Laws.{is-sound}
+use Rattle.select_planner.proofs.steps.plan.Goals as goal
+
+pub plan_of-requires-clause-fit : goal.plan_of-requires-clause-fit
+plan_of-requires-clause-fit c =
+    (plan-graph
+    (select_plan c.args.query.now c.args.tables.now c.args.lanes c.args.chunk_rows c.args.header)
+    c.in-Ok.nodes
+    (small-plan c.args.query.now c.args.tables.now c.as_slice.result.now c.args.lanes
+    c.args.chunk_rows c.args.header c.as_slice.ensures c.requires.plannable c.requires.few_lanes
+    c.in_ok-check_table.ensures.ok)
+    (steps-for c.args.query.now c.args.tables.now c.as_slice-2.result.now c.args.lanes
+    c.args.chunk_rows c.args.header c.in-Ok.nodes c.as_slice-2.ensures c.in-Ok.ensures)).fit
+
+pub plan_of-requires-clause-few_nodes : goal.plan_of-requires-clause-few_nodes
+plan_of-requires-clause-few_nodes c =
+    let g = plan-graph
+    (select_plan c.args.query.now c.args.tables.now c.args.lanes c.args.chunk_rows c.args.header)
+    c.in-Ok.nodes
+    (small-plan c.args.query.now c.args.tables.now c.as_slice.result.now c.args.lanes
+    c.args.chunk_rows c.args.header c.as_slice.ensures c.requires.plannable c.requires.few_lanes
+    c.in_ok-check_table.ensures.ok)
+    (steps-for c.args.query.now c.args.tables.now c.as_slice-2.result.now c.args.lanes
+    c.args.chunk_rows c.args.header c.in-Ok.nodes c.as_slice-2.ensures c.in-Ok.ensures) in
+    let few = g.few in
+    omega (arith, few)
+
+pub returns-in-Ok-plan_of-clause-sound : goal.returns-in-Ok-plan_of-clause-sound
+returns-in-Ok-plan_of-clause-sound c =
+    is-sound c.args.query.now c.args.tables.now c.args.lanes c.args.chunk_rows c.args.header
+    c.in-Ok-plan_of.plan c.requires.plannable
+    (small-plan c.args.query.now c.args.tables.now c.as_slice.result.now c.args.lanes
+    c.args.chunk_rows c.args.header c.as_slice.ensures c.requires.plannable c.requires.few_lanes
+    c.in_ok-check_table.ensures.ok)
+    (record {
+      copies = c.in-Ok.nodes;
+      same = steps-for c.args.query.now c.args.tables.now c.as_slice-2.result.now c.args.lanes
+          c.args.chunk_rows c.args.header c.in-Ok.nodes c.as_slice-2.ensures c.in-Ok.ensures;
+      nodes = c.in-Ok-plan_of.ensures.nodes;
+      edges = c.in-Ok-plan_of.ensures.edges;
+      reserves = c.in-Ok-plan_of.ensures.reserves;
+    })

@@ -1,0 +1,9 @@
+use Rattle.std.proofs.Common.{◌≡◌, ◌+◌, take}
+use Rattle.std.specs.Prelude.{sum_by}
+use Rattle.select_planner.specs.Counts.{boxes_taken, boxes_reserved}
+use Rattle.select_planner.proofs.stock.needs.Given as goal
+
+abbrev pub invariant-loop-reserve : goal.invariant-loop-reserve
+invariant-loop-reserve l =
+    l.count ≡ boxes_taken l.kind l.plan.nodes
+    + sum_by (boxes_reserved l.kind) (take l.reserve-index l.plan.reserves)

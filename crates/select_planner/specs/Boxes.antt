@@ -1,0 +1,7 @@
+-- How many nodes are kept for growth.
+use Rattle.std.specs.Prelude.{ℕ, List, length, sum_by}
+use Rattle.select_planner.specs.declared.nodes.PlanReserve.{PlanReserve}
+
+-- the nodes that are kept for nodes that grow
+abbrev pub reserved_nodes : List PlanReserve → ℕ
+reserved_nodes reserves = sum_by (λ (r : PlanReserve). length r.kinds) reserves

@@ -1,0 +1,5 @@
+pub mod Boxes
+pub mod Counts
+pub mod Steps
+pub mod Refusals
+pub mod Shapes

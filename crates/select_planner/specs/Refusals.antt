@@ -1,0 +1,48 @@
+-- Why a query is not planned.
+use Rattle.std.specs.Prelude.{◌≡◌, ℕ, cond, nat_lt, List, [], ◌∷◌, length, slice_get, Option, Some, None, ⊤}
+use Rattle.query_model.specs.Database.{used_tables}
+use Rattle.query_model.specs.declared.query.PartsDecl.{PartsDecl}
+use Rattle.query_model.specs.declared.query.PartsDecl.TheVariants.{Paths, ListFile}
+use Rattle.query_model.specs.declared.query.TableDecl.{TableDecl}
+use Rattle.query_model.specs.declared.checked.TableUse.{TableUse}
+use Rattle.query_model.specs.declared.checked.TableUse.TheVariants.{Declared, Numbers}
+use Rattle.query_model.specs.declared.checked.Checked.{Checked}
+use Rattle.select_planner.specs.declared.nodes.PlanRefusal.{PlanRefusal}
+use Rattle.select_planner.specs.declared.nodes.PlanRefusal.TheVariants.{TooManyParts, Memory}
+
+-- a table's name, and how many paths it names
+pub record NamedPaths : Type 0 where
+  pub name : List ℕ
+  pub count : ℕ
+
+abbrev pub path_count : PartsDecl → ℕ
+path_count (Paths paths) = length paths
+path_count (ListFile path) = 0
+
+abbrev pub crowded_decl : Option TableDecl → Option NamedPaths
+crowded_decl None = None
+crowded_decl (Some decl) = cond (nat_lt 32 (path_count decl.parts))
+    (Some (record { name = decl.schema.name; count = path_count decl.parts })) None
+
+-- a used table that names more than 32 paths
+abbrev pub crowded : List TableDecl → TableUse → Option NamedPaths
+crowded tables (Declared t) = crowded_decl (slice_get tables t)
+crowded tables (Numbers n) = None
+
+abbrev pub or_else : Option NamedPaths → Option NamedPaths → Option NamedPaths
+or_else None other = other
+or_else (Some table) other = Some table
+
+-- the first of the used tables that names more than 32 paths
+abbrev pub first_crowded : List TableDecl → List TableUse → Option NamedPaths
+first_crowded tables [] = None
+first_crowded tables (use' ∷ uses) = or_else (crowded tables use') (first_crowded tables uses)
+
+-- the refusal names this table; want of memory is free
+abbrev pub IsCrowded : Option NamedPaths → PlanRefusal → Type 0
+IsCrowded table (TooManyParts name count) = table ≡ Some (record { name = name; count = count })
+IsCrowded table Memory = ⊤
+
+-- the refusal is due: it names the first table that names more than 32 paths
+abbrev pub IsDue : Checked → List TableDecl → PlanRefusal → Type 0
+IsDue q tables = IsCrowded (first_crowded tables (used_tables q))

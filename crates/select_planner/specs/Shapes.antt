@@ -1,0 +1,45 @@
+-- A plan that was laid down by a list of nodes.
+use Rattle.std.specs.Prelude.{◌≡◌, ◌≤◌, ℕ, List, [], length, map}
+use Rattle.query_model.specs.Need.{need}
+use Rattle.query_model.specs.declared.query.TableDecl.{TableDecl}
+use Rattle.query_model.specs.declared.checked.Checked.{Checked}
+use Rattle.query_model.specs.declared.processor_spec.Kind.{Kind}
+use Rattle.proc_api.specs.Graphs.{IsGraph}
+use Rattle.select_planner.specs.Counts.{boxes_needed}
+use Rattle.port_word.specs.declared.flags.Wire.{Wire}
+use Rattle.plan_graph.specs.declared.nodes.DraftNode.{DraftNode}
+use Rattle.plan_graph.specs.Drafts.{no_draft, with_nodes}
+use Rattle.plan_meaning.specs.Same.{forms}
+use Rattle.select_planner.specs.declared.nodes.PlanNode.{PlanNode}
+use Rattle.select_planner.specs.declared.nodes.PlanEdge.{PlanEdge}
+use Rattle.select_planner.specs.declared.nodes.Plan.{Plan}
+
+abbrev pub node_of : DraftNode → PlanNode
+node_of n = record { spec = n.spec; rank = n.rank }
+
+abbrev pub edge_of : Wire → PlanEdge
+edge_of w = record { from = w.from; out = w.out; to = w.to; input = w.input }
+
+abbrev pub wire_of : PlanEdge → Wire
+wire_of e = record { from = e.from; out = e.out; to = e.to; input = e.input }
+
+abbrev pub plan_ranks : Plan → List ℕ
+plan_ranks p = map (λ (n : PlanNode). n.rank) p.nodes
+
+abbrev pub plan_wires : Plan → List Wire
+plan_wires p = map wire_of p.edges
+
+-- the plan is a graph, and takes as many boxes of each kind as the query needs
+pub record IsSound (q : Checked) (tables : List TableDecl) (lanes : ℕ) (p : Plan) : Type 0 where
+  pub graph : IsGraph (plan_ranks p) (plan_wires p) []
+  pub needed : (k : Kind) → boxes_needed p k ≡ need q tables lanes k
+  pub few : length p.nodes ≤ 124
+
+-- The plan has the nodes of these steps, each lane with a copy of its own, and the edges that they
+-- make.
+pub record LaysDown (steps : List DraftNode) (p : Plan) : Type 0 where
+  pub copies : List DraftNode
+  pub same : forms copies ≡ forms steps
+  pub nodes : p.nodes ≡ map node_of copies
+  pub edges : p.edges ≡ map edge_of (with_nodes copies no_draft).wires
+  pub reserves : p.reserves ≡ []

@@ -1,0 +1,71 @@
+// Copies of conditions and items, in boxes of their own.
+ghost use Rattle.std.specs.Prelude.{◌≡◌, map, IfOk};
+ghost use Rattle.query_model.specs.Formulas.{formula};
+ghost use Rattle.proc_api.specs.Forms.{argument_form, operand_form, cond_form};
+
+use chunk_data::{List, Memory};
+use query_model::checked::{Cond, Expr};
+use query_model::plain::copy_expr;
+use query_model::query::{AggCall, CondOf, Operand};
+use std::alloc::{AllocError, Global};
+
+/// The same condition in boxes of its own.
+pub(crate) fn copy_cond(alloc: Global, cond: &Cond) -> Result<Cond, Memory>
+    ensures { IfOk result (λ copy. cond_form copy ≡ cond_form cond.now) }
+{
+    match cond {
+        CondOf::Compare(op, a, b) => {
+            let left = copy_operand(alloc, a)?;
+            let right = copy_operand(alloc, b)?;
+            Ok(CondOf::Compare(*op, left, right))
+        }
+        CondOf::And(a, b) => {
+            let left = copy_cond(alloc, a)?;
+            let right = copy_cond(alloc, b)?;
+            Ok(CondOf::And(Box::new(alloc, left)?, Box::new(alloc, right)?))
+        }
+        CondOf::Or(a, b) => {
+            let left = copy_cond(alloc, a)?;
+            let right = copy_cond(alloc, b)?;
+            Ok(CondOf::Or(Box::new(alloc, left)?, Box::new(alloc, right)?))
+        }
+        CondOf::Not(a) => {
+            let inner = copy_cond(alloc, a)?;
+            Ok(CondOf::Not(Box::new(alloc, inner)?))
+        }
+    }
+}
+
+fn copy_operand(alloc: Global, operand: &Operand<u32>) -> Result<Operand<u32>, Memory>
+    ensures { IfOk result (λ copy. operand_form copy ≡ operand_form operand.now) }
+{
+    match operand {
+        Operand::Plain(e) => Ok(Operand::Plain(copy_expr(alloc, e)?)),
+        Operand::Text(text) => Ok(Operand::Text(text.copy()?)),
+        Operand::Agg(call) => {
+            let arg = copy_argument(alloc, &call.arg)?;
+            Ok(Operand::Agg(AggCall { op: call.op, arg }))
+        }
+    }
+}
+
+fn copy_argument(alloc: Global, arg: &Option<Expr>) -> Result<Option<Expr>, Memory>
+    ensures { IfOk result (λ copy. argument_form copy ≡ argument_form arg.now) }
+{
+    match arg {
+        None => Ok(None),
+        Some(e) => Ok(Some(copy_expr(alloc, e)?)),
+    }
+}
+
+/// The same items in boxes of their own.
+pub(crate) fn copy_items(alloc: Global, items: &List<Expr>) -> Result<List<Expr>, Memory>
+    ensures { IfOk result (λ copy. map formula copy ≡ map formula items.now) }
+{
+    let mut copies = Vec::new(alloc);
+    for item in items.as_slice() {
+        let copy = copy_expr(alloc, item)?;
+        copies.push(copy)?;
+    }
+    Ok(List::from_vec(copies))
+}

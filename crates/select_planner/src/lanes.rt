@@ -1,0 +1,122 @@
+// Blocks of nodes, added behind a list of nodes.
+ghost use Rattle.std.specs.Prelude.{◌≡◌, ◌≤◌, ◌++◌, ◌∷◌, [], OnOk};
+ghost use Rattle.query_model.specs.declared.processor_spec.Spec.TheVariants.{Filter as filter_spec, Expression as expression_spec};
+ghost use Rattle.plan_graph.specs.Blocks.{lane_nodes, joint_node};
+ghost use Rattle.plan_meaning.specs.Plans.{filter_nodes, limit_nodes};
+ghost use Rattle.plan_meaning.specs.Same.{forms};
+
+use crate::copies::{copy_cond, copy_items};
+use chunk_data::{List, Memory};
+use plan_graph::DraftNode;
+use query_model::checked::{Cond, Expr};
+use query_model::processor_spec::Spec;
+use query_model::query::Span;
+use std::alloc::Global;
+
+/// Adds a node.
+pub(crate) fn add_node(nodes: &mut List<DraftNode>, node: DraftNode) -> Result<(), Memory>
+    ensures { OnOk result (forms nodes.new ≡ forms nodes.old ++ forms (node ∷ [])) }
+{
+    match nodes.push(node) {
+        Ok(()) => Ok(()),
+        Err(_) => Err(Memory),
+    }
+}
+
+/// Adds a node that takes the first open ends.
+pub(crate) fn add_joint(
+    nodes: &mut List<DraftNode>,
+    spec: Spec,
+    rank: u32,
+    takes: u32,
+    gives: u32,
+) -> Result<(), Memory>
+    ensures { OnOk result (forms nodes.new
+        ≡ forms nodes.old ++ forms (joint_node spec rank takes gives ∷ [])) }
+{
+    let node = DraftNode {
+        spec,
+        rank,
+        offset: 0,
+        takes,
+        gives,
+    };
+    add_node(nodes, node)
+}
+
+/// Adds the node of a lane.
+fn add_lane(nodes: &mut List<DraftNode>, spec: Spec, rank: u32, lane: u32) -> Result<(), Memory>
+    ensures { OnOk result (forms nodes.new
+        ≡ forms nodes.old ++ forms (lane_nodes spec rank lane 1)) }
+{
+    let node = DraftNode {
+        spec,
+        rank,
+        offset: lane,
+        takes: 1,
+        gives: 1,
+    };
+    add_node(nodes, node)
+}
+
+/// Adds the filters of WHERE, one in each lane.
+pub(crate) fn add_filters(
+    alloc: Global,
+    nodes: &mut List<DraftNode>,
+    filter: &Option<Cond>,
+    rank: u32,
+    lanes: u32,
+) -> Result<(), Memory>
+    ensures { OnOk result (forms nodes.new
+        ≡ forms nodes.old ++ forms (filter_nodes filter.now rank lanes)) }
+{
+    match filter {
+        None => Ok(()),
+        Some(cond) => add_filter_lanes(alloc, nodes, cond, rank, lanes),
+    }
+}
+
+fn add_filter_lanes(
+    alloc: Global,
+    nodes: &mut List<DraftNode>,
+    cond: &Cond,
+    rank: u32,
+    lanes: u32,
+) -> Result<(), Memory>
+    ensures { OnOk result (forms nodes.new
+        ≡ forms nodes.old ++ forms (lane_nodes (filter_spec cond.now) rank 0 lanes)) }
+{
+    for lane in 0..lanes {
+        let copy = copy_cond(alloc, cond)?;
+        add_lane(nodes, Spec::Filter(copy), rank, lane)?;
+    }
+    Ok(())
+}
+
+/// Adds the expressions of the items, one in each lane.
+pub(crate) fn add_items(
+    alloc: Global,
+    nodes: &mut List<DraftNode>,
+    items: &List<Expr>,
+    rank: u32,
+    lanes: u32,
+) -> Result<(), Memory>
+    ensures { OnOk result (forms nodes.new
+        ≡ forms nodes.old ++ forms (lane_nodes (expression_spec items.now) rank 0 lanes)) }
+{
+    for lane in 0..lanes {
+        let copy = copy_items(alloc, items)?;
+        add_lane(nodes, Spec::Expression(copy), rank, lane)?;
+    }
+    Ok(())
+}
+
+/// Adds the limit, where there is one.
+pub(crate) fn add_limit(nodes: &mut List<DraftNode>, limit: &Option<Span>) -> Result<(), Memory>
+    ensures { OnOk result (forms nodes.new ≡ forms nodes.old ++ forms (limit_nodes limit.now)) }
+{
+    match limit {
+        None => Ok(()),
+        Some(span) => add_joint(nodes, Spec::Limit(*span), 13, 1, 1),
+    }
+}

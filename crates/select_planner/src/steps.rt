@@ -1,0 +1,133 @@
+// The steps of a plan.
+ghost use Rattle.std.specs.Prelude.{◌≡◌, ◌≤◌, [], map, length, IfOk, IfErr};
+ghost use Rattle.query_model.specs.Database.{used_tables};
+ghost use Rattle.query_model.specs.declared.checked.Shape.TheVariants.{Plain};
+ghost use Rattle.plan_graph.specs.Drafts.{AllFitDraft, no_draft, with_nodes};
+ghost use Rattle.plan_meaning.specs.Plans.{plan_nodes};
+ghost use Rattle.plan_meaning.specs.Same.{forms};
+ghost use Rattle.select_planner.specs.Refusals.{crowded, first_crowded, IsDue};
+ghost use Rattle.select_planner.specs.Shapes.{node_of, edge_of, IsSound, LaysDown};
+ghost use Rattle.select_planner.specs.Steps.{IsPlain, IsPlannable, select_plan};
+
+use crate::lanes::{add_filters, add_items, add_joint, add_limit};
+use crate::nodes::{Plan, PlanEdge, PlanNode, PlanRefusal};
+use crate::parts::{Reading, add_sources, check_table};
+use chunk_data::{List, Memory};
+use plan_graph::{DraftNode, build};
+use port_word::Wire;
+use query_model::checked::{Checked, Expr, Shape};
+use query_model::processor_spec::Spec;
+use query_model::query::TableDecl;
+use std::alloc::Global;
+
+/// The plan of a checked query over the declared tables, with so many lanes, in chunks of at most
+/// so many rows. A used table that names more than 32 paths is refused, that of FROM first.
+pub fn plan(
+    alloc: Global,
+    query: &Checked,
+    tables: &List<TableDecl>,
+    lanes: u32,
+    chunk_rows: u32,
+    header: bool,
+) -> Result<Plan, PlanRefusal>
+    requires some_lanes { 1 ≤ lanes }
+    requires few_lanes { lanes ≤ 16 }
+    requires plannable { IsPlannable query.now tables.now }
+    ensures steps { IfOk result (LaysDown
+        (plan_nodes (select_plan query.now tables.now lanes chunk_rows header))) }
+    ensures sound { IfOk result (IsSound query.now tables.now lanes) }
+    ensures accepted { IfOk result (λ p. first_crowded tables.now (used_tables query.now) ≡ None) }
+    ensures refused { IfErr result (IsDue query.now tables.now) }
+{
+    check_table(query.from, tables.as_slice())?;
+    let reading = Reading {
+        header,
+        rows: chunk_rows,
+    };
+    match lay_steps(alloc, query, tables.as_slice(), lanes, reading) {
+        Ok(nodes) => match plan_of(alloc, nodes) {
+            Ok(plan) => Ok(plan),
+            Err(_) => Err(PlanRefusal::Memory),
+        },
+        Err(_) => Err(PlanRefusal::Memory),
+    }
+}
+
+/// The nodes, step by step.
+fn lay_steps(
+    alloc: Global,
+    query: &Checked,
+    tables: &[TableDecl],
+    lanes: u32,
+    reading: Reading,
+) -> Result<List<DraftNode>, Memory>
+    requires few_lanes { lanes ≤ 16 }
+    requires plannable { IsPlannable query.now tables.now }
+    requires few_parts { crowded tables.now query.now.from ≡ None }
+    ensures { IfOk result (λ nodes. forms nodes ≡ forms
+        (plan_nodes (select_plan query.now tables.now lanes reading.rows reading.header))) }
+{
+    let mut nodes = List::new(alloc);
+    let sources = add_sources(alloc, &mut nodes, query.from, tables, reading)?;
+    add_joint(&mut nodes, Spec::Resize, 2, sources, lanes)?;
+    add_filters(alloc, &mut nodes, &query.filter, 5, lanes)?;
+    add_items(alloc, &mut nodes, plain_items(&query.shape), 6, lanes)?;
+    add_joint(&mut nodes, Spec::Resize, 12, lanes, 1)?;
+    add_limit(&mut nodes, &query.limit)?;
+    add_joint(&mut nodes, Spec::Collect, 14, 1, 0)?;
+    Ok(nodes)
+}
+
+fn plain_items(shape: &Shape) -> &List<Expr>
+    requires { IsPlain shape.now }
+    ensures { shape.now ≡ Plain result.now }
+{
+    match shape {
+        Shape::Plain(items) => items,
+        Shape::Grouped(_) => unreachable!(),
+    }
+}
+
+/// The nodes, and the edges that they make.
+fn plan_of(alloc: Global, nodes: List<DraftNode>) -> Result<Plan, Memory>
+    requires fit { AllFitDraft nodes no_draft }
+    requires few_nodes { length nodes ≤ 256 }
+    ensures nodes { IfOk result (λ p. p.nodes ≡ map node_of nodes) }
+    ensures edges { IfOk result (λ p. p.edges ≡ map edge_of (with_nodes nodes no_draft).wires) }
+    ensures reserves { IfOk result (λ p. p.reserves ≡ []) }
+{
+    let graph = build(alloc, nodes.as_slice())?;
+    let edges = edges_of(alloc, graph.wires.as_slice())?;
+    let nodes = nodes_of(alloc, nodes)?;
+    Ok(Plan {
+        nodes,
+        edges,
+        reserves: List::new(alloc),
+    })
+}
+
+fn edges_of(alloc: Global, wires: &[Wire]) -> Result<List<PlanEdge>, Memory>
+    ensures { IfOk result (λ edges. edges ≡ map edge_of wires.now) }
+{
+    let mut edges = Vec::new(alloc);
+    for wire in wires {
+        edges.push(PlanEdge {
+            from: wire.from,
+            out: wire.out,
+            to: wire.to,
+            input: wire.input,
+        })?;
+    }
+    Ok(List::from_vec(edges))
+}
+
+fn nodes_of(alloc: Global, nodes: List<DraftNode>) -> Result<List<PlanNode>, Memory>
+    ensures { IfOk result (λ l. l ≡ map node_of nodes) }
+{
+    let mut planned = Vec::new(alloc);
+    for node in nodes.into_vec() {
+        let DraftNode { spec, rank, .. } = node;
+        planned.push(PlanNode { spec, rank })?;
+    }
+    Ok(List::from_vec(planned))
+}
