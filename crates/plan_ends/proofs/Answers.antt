@@ -1,0 +1,245 @@
+-- At the end of a run of a plan's graph the collector has an answer.
+use Rattle.std.proofs.Common.{◌≡◌, ℕ, zero, suc, ◌+◌, ◌<◌, true, Option, Some, is_some, List, [], ◌∷◌, length, map, get_or, refl, sym, ap, subst, ◌∙◌, arith}
+use Rattle.std.specs.List.{AllByRecursion}
+use Rattle.std.proofs.lemmas.List.{length-map, length-append, get_or-map, get_or_at, get_or_default, map-append}
+use Rattle.port_word.specs.declared.flags.Wire.{Wire}
+use Rattle.query_model.specs.Database.{Files}
+use Rattle.query_model.specs.declared.processor_spec.Spec.{Spec}
+use Rattle.query_model.specs.declared.processor_spec.Spec.TheVariants as spec
+use Rattle.proc_api.specs.Boxes.{BoxPicture, no_box}
+use Rattle.proc_api.specs.Forms.{GrowthForm, unboxed, spec_form}
+use Rattle.proc_api.specs.Graphs.{input_count, output_count}
+use Rattle.proc_api.specs.Histories.{Lists, chunk_rows}
+use Rattle.proc_api.specs.Ports.{ArePortsOf}
+use Rattle.proc_api.proofs.Graphs.{few-inputs, few-outputs, output-below-count}
+use Rattle.exec_laws.specs.Runs.{IsBorn, box_at}
+use Rattle.exec_laws.specs.Ends.{LawfulDone}
+use Rattle.plan_graph.specs.declared.nodes.DraftNode.{DraftNode}
+use Rattle.plan_graph.specs.declared.nodes.NodePort.{NodePort}
+use Rattle.plan_graph.specs.Drafts.{Draft, no_draft, with_nodes, ports_of, IsGraphOf}
+use Rattle.plan_graph.proofs.GraphLaws.{ranks-count}
+use Rattle.plan_meaning.specs.Streams.{Stream}
+use Rattle.plan_meaning.specs.Runs.{AllPull, EachGives}
+use Rattle.plan_meaning.specs.Types.{GivesIf, EachGivesIf, AllTyped}
+use Rattle.plan_meaning.specs.Plans.{SelectPlan, IsPlan, IsSmall, body_nodes, collect_node, plan_nodes, PlanAnswers}
+use Rattle.plan_meaning.specs.Same.{NodeForm, node_form, forms}
+use Rattle.plan_meaning.proofs.Fitting.{plan-fits}
+use Rattle.plan_graph.proofs.Fitting.{fits}
+use Rattle.plan_meaning.proofs.Answers.{plans-answer}
+use Rattle.plan_meaning.proofs.PlanGraphs.{PlanGraph, plan-graph}
+use Rattle.plan_meaning.proofs.Same.{each-same, graphs-same}
+use Rattle.plan_meaning.proofs.Typing.{each-typed}
+use Rattle.plan_ends.specs.Ended.{parts_of, in_stream, out_stream, pulled_at, pushed_at, IsKept, HasEnded, IsReady}
+use Rattle.plan_ends.proofs.Pulls.{all-pull}
+use Rattle.plan_ends.proofs.KindLaws.{collector-done}
+
+-- ---- node by node
+
+-- the ports of one node, by the lists of its box
+ports-at : (f : ℕ → NodePort → Stream) (n i k : ℕ)
+    → map (λ (q : NodePort). f q.node q) (ports_of n i k) ≡ map (λ (q : NodePort). f n q)
+    (ports_of n i k)
+ports-at f n i zero = refl
+ports-at f n i (suc k) = ap (λ l. f n (record { node = n; port = i }) ∷ l) (ports-at f n (suc i) k)
+
+each-gives : (files : Files) (boxes : List BoxPicture) (pulled pushed : ℕ → Lists) (n : ℕ)
+    (nodes : List DraftNode) → AllByRecursion IsReady nodes
+    → ((k : ℕ) (z : DraftNode) → k < length nodes → get_or nodes k z ≡ z
+    → IsKept z.spec files z.takes z.gives (box_at boxes (n + k)) (pulled (n + k)) (pushed (n + k)))
+    → EachGivesIf (parts_of files) n nodes (pulled_at boxes pulled) (pushed_at boxes pushed)
+each-gives files boxes pulled pushed n [] ready kept = tt
+each-gives files boxes pulled pushed n (node ∷ nodes) ready kept =
+    let here : n + 0 ≡ n = omega arith in
+    let one : IsKept node.spec files node.takes node.gives (box_at boxes n) (pulled n) (pushed n) =
+    subst (λ m. IsKept node.spec files node.takes node.gives (box_at boxes m) (pulled m) (pushed m))
+    here
+    (kept 0 node (omega arith) refl) in (
+      subst (λ l. GivesIf (parts_of files) node.spec l
+          (map (pushed_at boxes pushed) (ports_of n 0 node.gives)))
+          (sym (ports-at (λ m (q : NodePort). in_stream (box_at boxes m) (pulled m) q.port) n 0
+          node.takes))
+          (subst (λ l. GivesIf (parts_of files) node.spec
+          (map (λ (q : NodePort). in_stream (box_at boxes n) (pulled n) q.port)
+          (ports_of n 0 node.takes)) l)
+          (sym (ports-at (λ m (q : NodePort). out_stream (box_at boxes m) (pushed m) q.port) n 0
+          node.gives))
+          (ready.0.gives files node.takes node.gives n (box_at boxes n) (pulled n) (pushed n) one)),
+      each-gives files boxes pulled pushed (suc n) nodes ready.1 (λ k z lt is.
+          let next : n + suc k ≡ suc n + k = omega arith in
+          subst (λ m. IsKept z.spec files z.takes z.gives (box_at boxes m) (pulled m) (pushed m))
+          next
+          (kept (suc k) z (omega (arith, lt)) is)),
+    )
+
+-- as many boxes as nodes
+boxes-count : (files : Files) (nodes : List DraftNode) (boxes : List BoxPicture)
+    → HasEnded files nodes boxes → length boxes ≡ length nodes
+boxes-count files nodes boxes h =
+    sym (length-map boxes (λ (b : BoxPicture). b.spec))
+    ∙ ap (λ (l : List (Option Spec)). length l) h.specs
+    ∙ length-map nodes (λ (n : DraftNode). Some n.spec)
+
+all-some : (nodes : List DraftNode) (n : ℕ) → n < length nodes
+    → is_some (get_or (map (λ (m : DraftNode). Some m.spec) nodes) n no_box.spec) ≡ true
+all-some [] n lt = absurd (omega (arith, lt))
+all-some (x ∷ xs) zero lt = refl
+all-some (x ∷ xs) (suc n) lt = all-some xs n (omega (arith, lt))
+
+-- each box was loaded, so that its node is born
+born-at : (files : Files) (nodes : List DraftNode) (boxes : List BoxPicture)
+    → HasEnded files nodes boxes → (n : ℕ) → n < length boxes → IsBorn (box_at boxes n)
+unfolding box_at
+born-at files nodes boxes h n lt =
+    let count = boxes-count files nodes boxes h in
+    ap is_some (sym (get_or-map (λ (b : BoxPicture). b.spec) boxes n no_box no_box.spec lt)
+    ∙ ap (λ l. get_or l n no_box.spec) h.specs) ∙ all-some nodes n (omega (arith, lt, count))
+
+-- the box of a node keeps its contract of the node's lists
+node-kept : (files : Files) (nodes : List DraftNode) (boxes : List BoxPicture) → IsGraphOf nodes
+    → AllByRecursion IsReady nodes → (h : HasEnded files nodes boxes) (k : ℕ) (z : DraftNode)
+    → k < length nodes → get_or nodes k z ≡ z
+    → IsKept z.spec files z.takes z.gives (box_at boxes k) (h.done.pulled k) (h.done.pushed k)
+unfolding box_at
+node-kept files nodes boxes g ready h k z lt is =
+    let wires : List Wire = (with_nodes nodes no_draft).wires in
+    let ranks : List ℕ = (with_nodes nodes no_draft).ranks in
+    let p : BoxPicture = box_at boxes k in
+    let count = boxes-count files nodes boxes h in
+    let in_boxes : k < length boxes = omega (arith, lt, count) in
+    let d : LawfulDone (input_count wires k) (output_count wires k) p (h.done.pulled k)
+    (h.done.pushed k) =
+    h.done.each k in_boxes (born-at files nodes boxes h k in_boxes) (h.lawful k in_boxes) in
+    let spec_is : p.spec ≡ Some z.spec =
+    sym (get_or-map (λ (b : BoxPicture). b.spec) boxes k no_box no_box.spec in_boxes)
+    ∙ ap (λ l. get_or l k no_box.spec) h.specs
+    ∙ get_or-map (λ (n : DraftNode). Some n.spec) nodes k z no_box.spec lt
+    ∙ ap (λ (n : DraftNode). Some n.spec) is in
+    let takes : input_count wires k ≡ z.takes =
+    g.inputs k ∙ get_or-map (λ (n : DraftNode). n.takes) nodes k z 0 lt
+    ∙ ap (λ (n : DraftNode). n.takes) is in
+    let gives : output_count wires k ≡ z.gives =
+    g.outputs k ∙ get_or-map (λ (n : DraftNode). n.gives) nodes k z 0 lt
+    ∙ ap (λ (n : DraftNode). n.gives) is in
+    let ports : ArePortsOf (Some z.spec) p.growth z.takes z.gives = ready-at nodes k z ready lt is
+    p.growth in
+    record {
+      loaded = spec_is;
+      told = λ part e. h.told k part in_boxes (spec_is ∙ ap (λ s. Some s) e);
+      ports = ports;
+      few_inputs = let most = few-inputs ranks wires [] g.graph.so_far k in
+          omega (arith, most, takes);
+      few_outputs = let most = few-outputs ranks wires [] g.graph.so_far k in
+          omega (arith, most, gives);
+      outputs = d.finished.outs ∙ gives;
+      keeps = d.keeps
+          (subst (λ s. ArePortsOf s p.growth (input_count wires k) (output_count wires k))
+          (sym spec_is)
+          (subst (λ m. ArePortsOf (Some z.spec) p.growth m (output_count wires k)) (sym takes)
+          (subst (λ m. ArePortsOf (Some z.spec) p.growth z.takes m) (sym gives) ports)));
+      nothing_past = λ i le. d.nothing_past i (omega (arith, le, takes));
+      nothing_pushed_past = λ o le. d.nothing_pushed_past o (omega (arith, le, gives));
+    }
+  where
+    ready-at : (xs : List DraftNode) (j : ℕ) (y : DraftNode) → AllByRecursion IsReady xs
+        → j < length xs
+        → get_or xs j y ≡ y → (g : Option GrowthForm) → ArePortsOf (Some y.spec) g y.takes y.gives
+    ready-at [] j y r lt is g = absurd (omega (arith, lt))
+    ready-at (x ∷ xs) zero y r lt is g =
+        subst (λ (n : DraftNode). ArePortsOf (Some n.spec) g n.takes n.gives) is (r.0.ports g)
+    ready-at (x ∷ xs) (suc j) y r lt is g = ready-at xs j y r.1 (omega (arith, lt)) is g
+
+-- ---- the plan
+
+-- the nodes' promises and the fronts along the wires
+record EndedRun (files : Files) (nodes : List DraftNode) (boxes : List BoxPicture)
+    (h : HasEnded files nodes boxes) : Type 0 where
+  pub each : EachGivesIf (parts_of files) 0 nodes (pulled_at boxes h.done.pulled)
+      (pushed_at boxes h.done.pushed)
+  pub along : AllPull (pulled_at boxes h.done.pulled) (pushed_at boxes h.done.pushed)
+      (with_nodes nodes no_draft).wires
+
+ended-run : (files : Files) (nodes : List DraftNode) (boxes : List BoxPicture) → IsGraphOf nodes
+    → AllByRecursion IsReady nodes → (h : HasEnded files nodes boxes)
+    → EndedRun files nodes boxes h
+ended-run files nodes boxes g ready h =
+    let d : Draft = with_nodes nodes no_draft in
+    let count : length boxes ≡ length nodes = boxes-count files nodes boxes h in
+    let ranks : length d.ranks ≡ length nodes = ranks-count nodes no_draft ∙ omega arith in
+    record {
+      each = each-gives files boxes h.done.pulled h.done.pushed 0 nodes ready (λ k z lt is.
+          let here : k ≡ 0 + k = omega arith in
+          subst (λ m. IsKept z.spec files z.takes z.gives (box_at boxes m) (h.done.pulled m)
+          (h.done.pushed m)) here (node-kept files nodes boxes g ready h k z lt is));
+      along = all-pull d.wires boxes h.done (λ e lt.
+          let edge = g.graph.so_far.edges e lt in
+          let from = edge.from_in_range in
+          let to = edge.to_in_range in
+          record {
+            from_in_range = omega (arith, from, count, ranks);
+            to_in_range = omega (arith, to, count, ranks);
+            out_in_range = output-below-count d.ranks d.wires [] g.graph e lt;
+          }) (born-at files nodes boxes h) h.lawful;
+    }
+
+-- the collector's node is the last one
+collect-form : (p : SelectPlan) (nodes : List DraftNode) (last : ℕ)
+    → forms nodes ≡ forms (plan_nodes p) → length (plan_nodes p) ≡ last + 1
+    → get_or (forms nodes) last (node_form collect_node) ≡ node_form collect_node
+collect-form p nodes last e count =
+    let body : List DraftNode = body_nodes p in
+    let place : length (forms body) ≡ last =
+    length-map body node_form ∙ omega (arith, count, length-append body (collect_node ∷ [])) in
+    ap (λ l. get_or l last (node_form collect_node)) (e
+    ∙ map-append node_form body (collect_node ∷ []))
+    ∙ get_or_at (forms body) (node_form collect_node) [] (node_form collect_node) last place
+
+collect-spec : (s : Spec) → spec_form s ≡ unboxed spec.Collect → s ≡ spec.Collect
+collect-spec (spec.Filter c) e = absurd (cc)
+collect-spec (spec.Expression items) e = absurd (cc)
+collect-spec s e = cc
+
+-- the collector's box, and that it has all of its input
+collected : (files : Files) (p : SelectPlan) (nodes : List DraftNode) (boxes : List BoxPicture)
+    → IsGraphOf nodes → AllByRecursion IsReady nodes → (h : HasEnded files nodes boxes) (last : ℕ)
+    → forms nodes ≡ forms (plan_nodes p) → length (plan_nodes p) ≡ last + 1
+    → (in_stream (box_at boxes last) (h.done.pulled last) 0).done ≡ true
+collected files p nodes boxes g ready h last e count =
+    let same : length nodes ≡ length (plan_nodes p) =
+    sym (length-map nodes node_form) ∙ ap (λ (l : List NodeForm). length l) e
+    ∙ length-map (plan_nodes p) node_form in
+    let lt : last < length nodes = omega (arith, same, count) in
+    let z : DraftNode = get_or nodes last collect_node in
+    let form : node_form z ≡ node_form collect_node =
+    sym (get_or-map node_form nodes last collect_node (node_form collect_node) lt)
+    ∙ collect-form p nodes last e count in
+    let is : z.spec ≡ spec.Collect = collect-spec z.spec (ap (λ (f : NodeForm). f.spec) form) in
+    let none : z.gives ≡ 0 = ap (λ (f : NodeForm). f.gives) form in
+    let k = node-kept files nodes boxes g ready h last z lt
+    (get_or_default nodes last z collect_node lt) in
+    collector-done (box_at boxes last) (h.done.pulled last) (h.done.pushed last)
+    (k.loaded ∙ ap (λ s. Some s) is) k.keeps (k.outputs ∙ none)
+
+-- At the end of a run of a plan's graph, by lawful boxes loaded with copies of its nodes' specs,
+-- the
+-- collector has pulled an answer of the plan over the files' parts.
+pub plan-ended : (files : Files) (p : SelectPlan) (nodes : List DraftNode) (boxes : List BoxPicture)
+    (h : HasEnded files nodes boxes) (last : ℕ) → IsPlan p → IsSmall p
+    → forms nodes ≡ forms (plan_nodes p) → AllTyped (plan_nodes p) []
+    → AllByRecursion IsReady nodes → length (plan_nodes p) ≡ last + 1
+    → PlanAnswers (parts_of files) p (chunk_rows (h.done.pulled last 0))
+plan-ended files p nodes boxes h last is small e typed ready count =
+    let g : PlanGraph nodes = plan-graph p nodes small e in
+    let run : EndedRun files nodes boxes h = ended-run files nodes boxes g.graph ready h in
+    let pulled : NodePort → Stream = pulled_at boxes h.done.pulled in
+    let pushed : NodePort → Stream = pushed_at boxes h.done.pushed in
+    let steps : List DraftNode = plan_nodes p in
+    let along : AllPull pulled pushed (with_nodes steps no_draft).wires =
+    subst (λ (d : Draft). AllPull pulled pushed d.wires) (graphs-same nodes steps no_draft e)
+    run.along in
+    let fit = (fits steps (plan-fits p small).0).fit in
+    let each : EachGives (parts_of files) 0 steps pulled pushed =
+    each-typed (parts_of files) pulled pushed steps no_draft [] fit tt typed
+    (each-same (parts_of files) pulled pushed 0 nodes steps e run.each) along in
+    plans-answer (parts_of files) p pulled pushed is small (record { each = each; along = along })
+    last count
+    (collected files p nodes boxes g.graph ready h last e count)

@@ -1,0 +1,378 @@
+-- What a kind keeps is what it gives, a kind at a time.
+use Rattle.std.proofs.Common.{◌≡◌, ◌⊎◌, ap₂, append_assoc, drop, take, not, ◌==◌, ℕ, suc, zero, ◌+◌, ◌<◌, ◌≤◌, Bool, true, false, Some, List, [], ◌∷◌, ◌++◌, length, map, filter, get_or, refl, sym, ap, subst, ◌∙◌, arith, inl, inr}
+use Rattle.std.specs.Prelude.{is_none}
+use Rattle.std.specs.List.{All, AllByRecursion, Any}
+use Rattle.std.proofs.lemmas.Bool.{cases_eq, cases_lt, cond_both, and_parts, both_ways, not-true, not_from_false, false_from_ne_true}
+use Rattle.std.proofs.lemmas.List.{append-nil, length-map, get_or-map}
+use Rattle.std.proofs.lemmas.List.Concat.{flat_map-append}
+use Rattle.std.proofs.lemmas.List.Elements.{All-nil, All-head, All-tail, All-from_recursion, recursion_from_All}
+use Rattle.chunk_data.specs.Values.{Row, Table}
+use Rattle.chunk_data.specs.declared.typed_value.ColumnType.{ColumnType}
+use Rattle.query_model.specs.Expressions.{Cond, Expr, holds, type_of}
+use Rattle.query_model.specs.Answers.{item_row, limited}
+use Rattle.query_model.specs.Sources.{numbers}
+use Rattle.query_model.specs.Typing.{IsItem, IsTypedCond}
+use Rattle.query_model.specs.Database.{Files, file_bytes}
+use Rattle.query_model.specs.declared.query.Span.{Span}
+use Rattle.query_model.specs.declared.processor_spec.PartSpec.{PartSpec}
+use Rattle.query_model.specs.declared.processor_spec.Spec.{Spec}
+use Rattle.query_model.specs.declared.processor_spec.Spec.TheVariants as spec
+use Rattle.proc_api.specs.Boxes.{BoxPicture, WorkState, kept_input, kept_output, kept_outputs}
+use Rattle.proc_api.specs.Histories.{Lists, chunk_rows}
+use Rattle.proc_api.specs.Made.{unworked_at}
+use Rattle.proc_api.specs.Keeping.{Keeps, KeepsRows, KeepsMade, KeepsThrough, KeepsPart, AllFit, FitsInput, HasReadEnough, ArePartBytes, MakesTypes, IsPulled, no_table}
+use Rattle.plan_graph.specs.declared.nodes.NodePort.{NodePort}
+use Rattle.plan_graph.specs.Drafts.{ports_of}
+use Rattle.plan_meaning.specs.Gives.{Gives, GivesFront, GivesPart, GivesThrough}
+use Rattle.plan_meaning.specs.Types.{GivesIf, MakesType, pulled_types}
+use Rattle.plan_meaning.proofs.Fronts.{no-rest}
+use Rattle.plan_ends.specs.Ended.{BoxGives, part_in, parts_of, chunk_types, in_stream, out_stream, IsKept, KindGives}
+
+-- a box that finished an output which nobody closed has closed no input, but for a limit that has
+-- read enough
+open-or-enough : (p : BoxPicture) (ins outs : Lists) (i o : ℕ) → Keeps p ins outs
+    → o < kept_outputs p → (out_stream p outs o).done ≡ true
+    → ((in_stream p ins i).done ≡ true) ⊎ HasReadEnough p.spec ins
+open-or-enough p ins outs i o k lt done = go (kept_input p i).fin_in refl
+  where
+    go : (b : Bool) → (kept_input p i).fin_in ≡ b
+        → ((in_stream p ins i).done ≡ true) ⊎ HasReadEnough p.spec ins
+    go false e = inl (ap not e)
+    go true e = elim (k.closes i e) [
+      | inl a ↦ absurd (both_ways (kept_output p o).fin_in (not-true _ (and_parts _ _ done).1)
+          (a.closed o lt))
+      | inr h ↦ inr h
+    ]
+
+-- the same of a kind that is no limit
+pub stays-open : (p : BoxPicture) (ins outs : Lists) (i o : ℕ) → Keeps p ins outs
+    → (HasReadEnough p.spec ins → ⊥) → o < kept_outputs p → (out_stream p outs o).done ≡ true
+    → (in_stream p ins i).done ≡ true
+stays-open p ins outs i o k unlimited lt done = elim (open-or-enough p ins outs i o k lt done) [
+  | inl open' ↦ open'
+  | inr h ↦ absurd (unlimited h)
+]
+
+-- The rows that were pushed are the first of these where those that wait and others follow, none of
+-- which is left once it has itself finished its output.
+front-of : (rows left : List Row) (p : BoxPicture) (outs : Lists)
+    → chunk_rows (outs 0) ++ (chunk_rows p.work.made ++ left) ≡ rows
+    → ((kept_output p 0).fin_out ≡ true → (p.work.made ≡ []) × (left ≡ []))
+    → GivesFront rows (out_stream p outs 0)
+front-of rows left p outs e over = record {
+  rest = chunk_rows p.work.made ++ left;
+  is = e;
+  all = λ done.
+      let end = over (and_parts _ _ done).0 in
+      sym (append-nil (chunk_rows (outs 0)))
+      ∙ ap₂ (λ (w : List Table) (l : List Row). chunk_rows (outs 0) ++ (chunk_rows w ++ l))
+      (sym end.0) (sym end.1)
+      ∙ e;
+}
+
+through-gives : (make : List Row → List Row) (p : BoxPicture) (ins outs : Lists) → make [] ≡ []
+    → Keeps p ins outs → KeepsThrough make p ins outs → (HasReadEnough p.spec ins → ⊥)
+    → 0 < kept_outputs p → GivesThrough make (in_stream p ins 0) (out_stream p outs 0)
+through-gives make p ins outs none k t unlimited some = record {
+  front = front-of (make (chunk_rows (ins 0))) (make (chunk_rows p.work.unworked)) p outs t.rows
+      (λ f. (t.nothing_waits f, ap (λ l. make (chunk_rows l)) (t.all_worked f) ∙ none));
+  input_done = λ done. stays-open p ins outs 0 0 k unlimited some done;
+}
+
+-- ---- what was pulled
+
+-- each chunk of one input fits
+types-fit : (P : List ColumnType → Type 0) (chunks : List Table)
+    → AllByRecursion P (chunk_types chunks) → All (λ (t : Table). P t.types) chunks
+types-fit P [] h = All-nil (λ (t : Table). P t.types)
+types-fit P (c ∷ chunks) h = All-from_recursion (λ (t : Table). P t.types) (c ∷ chunks)
+    (h.0, recursion_from_All (λ (t : Table). P t.types) chunks (types-fit P chunks h.1))
+
+-- each chunk fits a kind of one input that takes the same at each
+one-fits : (s : Spec) (P : List ColumnType → Type 0) (ins : Lists)
+    → ((i : ℕ) (t : List ColumnType) → P t → FitsInput (Some s) i t)
+    → ((i : ℕ) → 1 ≤ i → ins i ≡ []) → AllByRecursion P (chunk_types (ins 0)) → AllFit (Some s) ins
+one-fits s P ins same past h zero = λ k d lt. same 0 (get_or (ins 0) k d).types
+    (types-fit P (ins 0) h k d lt)
+one-fits s P ins same past h (suc i) =
+    subst (λ l. All (λ (t : Table). FitsInput (Some s) (suc i) t.types) l)
+    (sym (past (suc i) (omega arith))) (All-nil (λ (t : Table). FitsInput (Some s) (suc i) t.types))
+
+any-front : {X : Type 0} (P : X → Type 0) (xs ys : List X) (k : ℕ) (y : X) → k < length xs
+    → get_or xs k y ≡ y → P y → Any P (xs ++ ys)
+any-front P [] ys k y lt is h = absurd (omega (arith, lt))
+any-front P (x ∷ xs) ys zero y lt is h = (0, y, omega arith, is, h)
+any-front P (x ∷ xs) ys (suc k) y lt is h =
+    let more = any-front P xs ys k y (omega (arith, lt)) is h in
+    let within = more.2 in
+    (suc more.0, more.1, omega (arith, within), more.3, more.4)
+
+any-behind : {X : Type 0} (P : X → Type 0) (xs ys : List X) → Any P ys → Any P (xs ++ ys)
+any-behind P [] ys h = h
+any-behind P (x ∷ xs) ys h =
+    let more = any-behind P xs ys h in
+    let within = more.2 in
+    (suc more.0, more.1, omega (arith, within), more.3, more.4)
+
+-- a chunk at one of so many inputs has these types
+among-pulled : (Q : List ColumnType → Type 0) (p : BoxPicture) (ins : Lists) (n i m input k : ℕ)
+    → i ≤ input → input < i + m → k < length (ins input)
+    → Q (get_or (ins input) k no_table).types
+    → Any Q (pulled_types (map (λ (q : NodePort). in_stream p ins q.port) (ports_of n i m)))
+among-pulled Q p ins n i zero input k le lt within q = absurd (omega (arith, le, lt))
+among-pulled Q p ins n i (suc m) input k le lt within q = elim (cases_eq i input) [
+  | inl e ↦
+      let here : k < length (ins i) = subst (λ j. k < length (ins j)) (sym e) within in
+      any-front Q (chunk_types (ins i)) _ k (get_or (ins i) k no_table).types
+      (let same = length-map (ins i) (λ (t : Table). t.types) in omega (arith, here, same))
+      (get_or-map (λ (t : Table). t.types) (ins i) k no_table _ here)
+      (subst (λ j. Q (get_or (ins j) k no_table).types) (sym e) q)
+  | inr ne ↦ any-behind Q (chunk_types (ins i)) _
+      (among-pulled Q p ins n (suc i) m input k (omega (arith, le, ne)) (omega (arith, lt)) within
+      q)
+]
+
+-- a chunk that was pulled is one of the inputs'
+pub is-among : (Q : List ColumnType → Type 0) (p : BoxPicture) (ins : Lists) (n takes : ℕ)
+    (types : List ColumnType) → ((i : ℕ) → takes ≤ i → ins i ≡ []) → IsPulled ins types → Q types
+    → Any Q (pulled_types (map (λ (q : NodePort). in_stream p ins q.port) (ports_of n 0 takes)))
+is-among Q p ins n takes types past w q = elim (cases_lt w.input takes) [
+  | inl lt ↦ among-pulled Q p ins n 0 takes w.input w.place (omega arith) (omega (arith, lt))
+      w.in_range (subst Q (sym w.is) q)
+  | inr le ↦
+      let some = w.in_range in
+      let none = ap (λ (l : List Table). length l) (past w.input le) in
+      absurd (omega (arith, some, none))
+]
+
+-- ---- kinds
+
+-- the chunks of an output are what the kind makes of these types, where the contract says so
+pub made-typed : (s : Spec) (p : BoxPicture) (ins outs : Lists) (from : List (List ColumnType))
+    (o : ℕ) → p.spec ≡ Some s → Keeps p ins outs
+    → ((t : List ColumnType) → MakesTypes (Some s) ins t → MakesType s from t)
+    → AllByRecursion (MakesType s from) (chunk_types (outs o))
+made-typed s p ins outs from o e k makes =
+    go (outs o) (subst (λ z. All (λ (t : Table). MakesTypes z ins t.types) (outs o)) e (k.types o))
+  where
+    go : (chunks : List Table) → All (λ (t : Table). MakesTypes (Some s) ins t.types) chunks
+        → AllByRecursion (MakesType s from) (chunk_types chunks)
+    go [] h = tt
+    go (c ∷ chunks) h = (
+      makes c.types (All-head (λ (t : Table). MakesTypes (Some s) ins t.types) c chunks h),
+      go chunks (All-tail (λ (t : Table). MakesTypes (Some s) ins t.types) c chunks h),
+    )
+
+-- a kind of one input and one output that makes each chunk's rows one by one
+through-kind : (make : List Row → List Row) (s : Spec) (P : List ColumnType → Type 0)
+    (files : Files)
+    (p : BoxPicture) (ins outs : Lists)
+    → make [] ≡ [] → ((i : ℕ) (t : List ColumnType) → P t → FitsInput (Some s) i t)
+    → (AllByRecursion (FitsInput (Some s) 0) (chunk_types (ins 0))
+    → AllByRecursion P (chunk_types (ins 0)))
+    → (HasReadEnough (Some s) ins → ⊥)
+    → (KeepsRows (Some s) p ins outs → KeepsThrough make p ins outs)
+    → (GivesThrough make (in_stream p ins 0) (out_stream p outs 0)
+    → Gives (parts_of files) s (in_stream p ins 0 ∷ []) (out_stream p outs 0 ∷ []))
+    → ((t : List ColumnType) → MakesTypes (Some s) ins t
+    → MakesType s (chunk_types (ins 0) ++ []) t)
+    → IsKept s files 1 1 p ins outs
+    → GivesIf (parts_of files) s (in_stream p ins 0 ∷ []) (out_stream p outs 0 ∷ [])
+through-kind make s P files p ins outs none same from unlimited keeps gives makes k =
+    let some : 0 < kept_outputs p = let e = k.outputs in omega (arith, e) in
+    record {
+      gives = λ fit.
+          let all : AllFit (Some s) ins = one-fits s P ins same k.nothing_past (from fit.0) in
+          gives (through-gives make p ins outs none k.keeps
+          (keeps (subst (λ z. AllFit z ins → KeepsRows z p ins outs) k.loaded k.keeps.rows all))
+          (subst (λ z. HasReadEnough z ins → ⊥) (sym k.loaded) unlimited) some);
+      typed = λ fit. (
+        made-typed s p ins outs (chunk_types (ins 0) ++ []) 0 k.loaded k.keeps makes,
+        tt,
+      );
+    }
+
+-- with as many ports as the spec says
+at-ports : (s : Spec) (files : Files) (n takes gives m o : ℕ) (p : BoxPicture) (ins outs : Lists)
+    → takes ≡ m → gives ≡ o
+    → (IsKept s files m o p ins outs → BoxGives s files m o n p ins outs)
+    → IsKept s files takes gives p ins outs → BoxGives s files takes gives n p ins outs
+at-ports s files n takes gives m o p ins outs e f h =
+    let F : ℕ → ℕ → Type 0 =
+    (λ x y. IsKept s files x y p ins outs → BoxGives s files x y n p ins outs) in
+    subst (λ x. F x gives) (sym e) (subst (λ y. F m y) (sym f) h)
+
+-- A filter gives the rows at which its condition is true.
+pub filter-gives : (c : Cond) → KindGives (spec.Filter c)
+filter-gives c files takes gives n p ins outs k =
+    at-ports (spec.Filter c) files n takes gives 1 1 p ins outs k.ports.0 k.ports.1
+    (λ h. through-kind (filter (holds c)) (spec.Filter c) (λ t. IsTypedCond t c) files p ins outs
+    refl
+    (λ i t x. x) (λ x. x) (λ x. x) (λ x. x) (λ x. x)
+    (λ t w. is-among (λ u. t ≡ u) p ins n 1 t h.nothing_past w.pulled refl) h) k
+
+-- An expression gives the row of its items' values for each row.
+pub expression-gives : (items : List Expr) → KindGives (spec.Expression items)
+expression-gives items files takes gives n p ins outs k =
+    at-ports (spec.Expression items) files n takes gives 1 1 p ins outs k.ports.0 k.ports.1
+    (λ h. through-kind (map (item_row items)) (spec.Expression items) (λ t. All (IsItem t) items)
+    files
+    p ins outs refl (λ i t x. x) (λ x. x) (λ x. x) (λ x. x) (λ x. x)
+    (λ t w. is-among (λ u. t ≡ map (λ e. type_of e u) items) p ins n 1 w.from h.nothing_past
+    w.pulled w.is) h) k
+
+-- A source gives the good rows of its part.
+pub part-gives : (part : PartSpec) → KindGives (spec.Csv part)
+part-gives part files takes gives n p ins outs k =
+    at-ports (spec.Csv part) files n takes gives 0 1 p ins outs k.ports.0 k.ports.1
+    (λ h. record {
+      gives = λ fit. rows h p.work.fetched refl;
+      typed = λ fit.
+          (made-typed (spec.Csv part) p ins outs [] 0 h.loaded h.keeps (λ t e. e), tt);
+    }) k
+  where
+    keeps : IsKept (spec.Csv part) files 0 1 p ins outs → KeepsPart part p outs
+    keeps h = subst (λ s. AllFit s ins → KeepsRows s p ins outs) h.loaded h.keeps.rows
+        (λ i d x lt. tt)
+
+    rows : IsKept (spec.Csv part) files 0 1 p ins outs → (b : Bool) → p.work.fetched ≡ b
+        → GivesPart (parts_of files part) (out_stream p outs 0)
+    rows h false f =
+        let nothing = (keeps h).before f in
+        let never : (kept_output p 0).fin_out ≡ true
+        → ⊥ = (λ t. both_ways p.work.fetched f ((keeps h).finished t).fetched) in
+        record {
+          front = record {
+            rest = (parts_of files part).rows;
+            is = ap (λ l. l ++ (parts_of files part).rows) nothing.nothing_out;
+            all = λ done. absurd (never (and_parts _ _ done).0);
+          };
+          valid = λ done. absurd (never (and_parts _ _ done).0);
+        }
+    rows h true f =
+        let r = (keeps h).fetched f in
+        let bytes : file_bytes files part.path ≡ Some r.bytes =
+        subst (λ o. ArePartBytes o part.path r.bytes) (h.told part refl) r.are in
+        let here : parts_of files part ≡ part_in part (Some r.bytes) = ap (part_in part) bytes in
+        subst (λ z. GivesPart z (out_stream p outs 0)) (sym here) (record {
+          front = front-of (part_in part (Some r.bytes)).rows p.work.unmade p outs r.rows
+              (λ f. let end = (keeps h).finished f in (end.nothing_waits, end.all_made));
+          valid = λ done.
+              ap is_none (sym r.bad ∙ ((keeps h).finished (and_parts _ _ done).0).valid);
+        })
+
+-- what is kept of a kind, where each chunk that was pulled fits
+pub kept-rows : (s : Spec) (files : Files) (takes gives : ℕ) (p : BoxPicture) (ins outs : Lists)
+    → IsKept s files takes gives p ins outs → AllFit (Some s) ins → KeepsRows (Some s) p ins outs
+kept-rows s files takes gives p ins outs k =
+    subst (λ z. AllFit z ins → KeepsRows z p ins outs) k.loaded k.keeps.rows
+
+-- Numbers count up.
+pub numbers-gives : (count rows : ℕ) → KindGives (spec.Numbers count rows)
+numbers-gives count rows files takes gives n p ins outs k =
+    let s : Spec = spec.Numbers count rows in
+    at-ports s files n takes gives 0 1 p ins outs k.ports.0 k.ports.1
+    (λ h.
+    let m : KeepsMade s p ins outs = kept-rows s files 0 1 p ins outs h (λ i d x lt. tt) in
+    record {
+      gives = λ fit. front-of (numbers count).rows p.work.unmade p outs
+          (sym (append_assoc (chunk_rows (outs 0)) (chunk_rows p.work.made) p.work.unmade)
+          ∙ m.rows)
+          (λ f. let end = m.over 0 f in (end.nothing_waits, end.all_made));
+      typed = λ fit. (made-typed s p ins outs [] 0 h.loaded h.keeps (λ t e. e), tt);
+    }) k
+
+-- where no chunk is unworked, none of any input is
+pub all-worked-at : (w : WorkState) (i : ℕ) → w.unworked ≡ [] → unworked_at w i ≡ []
+all-worked-at w i e =
+    cond_both (i == w.source) w.unworked [] (λ l. l ≡ []) (λ there. e) (λ elsewhere. refl)
+
+-- ---- limits
+
+-- more rows in, more rows behind those of the span
+record MoreLimited (span : Span) (xs ys : List Row) : Type 0 where
+  pub rest : List Row
+  pub is : limited (Some span) xs ++ rest ≡ limited (Some span) (xs ++ ys)
+
+limited-more : (span : Span) (xs ys : List Row) → MoreLimited span xs ys
+limited-more span xs ys =
+    let d = drop-more span.skip xs ys in
+    let t = take-more span.count (drop span.skip xs) d.0 in
+    record { rest = t.0; is = t.1 ∙ ap (take span.count) d.1 }
+  where
+    drop-more : (n : ℕ) (xs ys : List Row) → (rest : List Row)
+        × (drop n xs ++ rest ≡ drop n (xs ++ ys))
+    drop-more zero xs ys = (ys, refl)
+    drop-more (suc n) [] ys = (drop (suc n) ys, refl)
+    drop-more (suc n) (x ∷ xs) ys = drop-more n xs ys
+
+    take-more : (n : ℕ) (xs ys : List Row) → (rest : List Row)
+        × (take n xs ++ rest ≡ take n (xs ++ ys))
+    take-more zero xs ys = ([], refl)
+    take-more (suc n) [] ys = (take (suc n) ys, refl)
+    take-more (suc n) (x ∷ xs) ys =
+        let more = take-more n xs ys in
+        (more.0, ap (λ l. x ∷ l) more.1)
+
+limit-front : (span : Span) (p : BoxPicture) (ins outs : Lists)
+    → KeepsMade (spec.Limit span) p ins outs
+    → GivesFront (limited (Some span) (chunk_rows (ins 0))) (out_stream p outs 0)
+limit-front span p ins outs m =
+    let done : List Row = chunk_rows (m.worked 0) in
+    let others : List Row = chunk_rows (unworked_at p.work 0) in
+    let more : MoreLimited span done others = limited-more span done others in
+    let all : done ++ others ≡ chunk_rows (ins 0) =
+    sym (flat_map-append (λ (t : Table). t.rows) (m.worked 0) (unworked_at p.work 0))
+    ∙ ap chunk_rows (sym (m.ins_are 0)) in
+    front-of (limited (Some span) (chunk_rows (ins 0))) more.rest p outs
+    (sym (append_assoc (chunk_rows (outs 0)) (chunk_rows p.work.made) more.rest)
+    ∙ ap (λ l. l ++ more.rest) m.rows.made_are
+    ∙ more.is ∙ ap (limited (Some span)) all)
+    (λ f.
+    let end = m.over 0 f in
+    let none : others ≡ [] =
+    ap chunk_rows (all-worked-at p.work 0 end.all_worked) in (
+      end.nothing_waits,
+      no-rest (limited (Some span) done) more.rest
+          (limited (Some span) (done ++ others)) more.is
+          (ap (limited (Some span)) (sym (append-nil done) ∙ ap (λ l. done ++ l) (sym none))),
+    ))
+
+-- A limit gives the rows of its span.
+pub limit-gives : (span : Span) → KindGives (spec.Limit span)
+limit-gives span files takes gives n p ins outs k =
+    let s : Spec = spec.Limit span in
+    at-ports s files n takes gives 1 1 p ins outs k.ports.0 k.ports.1
+    (λ h.
+    let some : 0 < kept_outputs p = let e = h.outputs in omega (arith, e) in
+    record {
+      gives = λ fit. record {
+        front = limit-front span p ins outs
+            (kept-rows s files 1 1 p ins outs h (λ i d x lt. tt));
+        input_done = λ done. elim (open-or-enough p ins outs 0 0 h.keeps some done) [
+          | inl open' ↦ inl open'
+          | inr enough ↦ inr (subst (λ z. HasReadEnough z ins) h.loaded enough)
+        ];
+      };
+      typed = λ fit. (
+        made-typed s p ins outs (chunk_types (ins 0) ++ []) 0 h.loaded h.keeps
+            (λ t w. is-among (λ u. t ≡ u) p ins n 1 t h.nothing_past w refl),
+        tt,
+      );
+    }) k
+
+-- A collector gives nothing.
+pub collect-gives : KindGives spec.Collect
+collect-gives files takes gives n p ins outs k =
+    at-ports spec.Collect files n takes gives 1 0 p ins outs k.ports.0 k.ports.1
+    (λ h. record { gives = λ fit. tt; typed = λ fit. tt }) k
+
+-- a collector has all of its input
+pub collector-done : (p : BoxPicture) (ins outs : Lists) → p.spec ≡ Some spec.Collect
+    → Keeps p ins outs
+    → kept_outputs p ≡ 0 → (in_stream p ins 0).done ≡ true
+collector-done p ins outs e k none =
+    not_from_false _ (false_from_ne_true (kept_input p 0).fin_in (λ t. elim (k.closes 0 t) [
+      | inl a ↦ let some = a.some in omega (arith, some, none)
+      | inr h ↦ subst (λ s. HasReadEnough s ins → ⊥) (sym e) (λ x. x) h
+    ]))

@@ -1,0 +1,266 @@
+-- At the end of a run of a query's plan the collector has an answer of the query.
+use Rattle.std.proofs.Common.{◌≡◌, ◌⊎◌, ℕ, suc, ◌+◌, ◌<◌, ◌≤◌, Bool, Option, Some, None, List, [], ◌∷◌, ◌++◌, length, map, flat_map, get_or, refl, sym, ap, ap₂, subst, ◌∙◌, arith, inl, inr}
+use Rattle.std.specs.Prelude.{slice_get}
+use Rattle.std.specs.List.{All, AllByRecursion}
+use Rattle.std.proofs.lemmas.List.{append-nil, get_or-map, get_or_past, length-map}
+use Rattle.std.proofs.lemmas.Option.{slice_get_cases}
+use Rattle.chunk_data.specs.Values.{Row, Table}
+use Rattle.chunk_data.specs.declared.typed_value.ColumnType.{ColumnType}
+use Rattle.query_model.specs.Analysis.{IsTypedFilter, IsTypedShape, IsTypedQuery}
+use Rattle.query_model.specs.Answers.{IsAnswer}
+use Rattle.query_model.specs.Database.{Files, file_bytes, column_types, part_paths, rows_in, part_rows, declared_table, database}
+use Rattle.query_model.specs.Expressions.{Cond, Expr}
+use Rattle.query_model.specs.Sources.{Database, used_table, source_table, joined_table}
+use Rattle.query_model.specs.Typing.{IsItem}
+use Rattle.query_model.specs.declared.query.PartsDecl.{PartsDecl}
+use Rattle.query_model.specs.declared.query.PartsDecl.TheVariants.{Paths, ListFile}
+use Rattle.query_model.specs.declared.query.TableDecl.{TableDecl}
+use Rattle.query_model.specs.declared.checked.TableUse.{TableUse}
+use Rattle.query_model.specs.declared.checked.TableUse.TheVariants.{Declared, Numbers}
+use Rattle.query_model.specs.declared.checked.Shape.{Shape}
+use Rattle.query_model.specs.declared.checked.Shape.TheVariants.{Plain, Grouped}
+use Rattle.query_model.specs.declared.checked.Checked.{Checked}
+use Rattle.query_model.specs.declared.processor_spec.PartSpec.{PartSpec}
+use Rattle.query_model.specs.declared.processor_spec.Spec.{Spec}
+use Rattle.query_model.specs.declared.processor_spec.Spec.TheVariants as spec
+use Rattle.proc_api.specs.Boxes.{BoxPicture}
+use Rattle.proc_api.specs.Histories.{chunk_rows}
+use Rattle.plan_graph.specs.declared.nodes.DraftNode.{DraftNode}
+use Rattle.plan_meaning.specs.Plans.{SelectPlan, IsSource, JoinsSources, IsPlan, IsSmall, plan_keys, plan_nodes, read_rows, sources_rows, PlanAnswers}
+use Rattle.plan_meaning.specs.Queries.{shape_of, HasCalls, IsPlanOf}
+use Rattle.plan_meaning.specs.Same.{forms}
+use Rattle.plan_meaning.specs.Types.{AllTyped}
+use Rattle.plan_meaning.proofs.PlanTypes.{OneType, IsTypedBy, plain-typed}
+use Rattle.plan_meaning.proofs.Queries.{query-answers}
+use Rattle.select_planner.specs.Steps.{Reading, part_spec, path_sources, part_sources, reading_of, declared_sources, table_sources, types_declared, used_types, join_of, source_types, order_of, select_plan, IsPlain, NamesPaths, IsNoList, UsesNoList, IsPlannable}
+use Rattle.plan_ends.specs.Ended.{part_in, parts_of, HasEnded, IsReady, IsSimple}
+use Rattle.plan_ends.proofs.Answers.{plan-ended}
+use Rattle.plan_ends.proofs.SimplePlans.{simple-ready}
+
+-- ---- tables
+
+abbrev table_in : Bool → Files → Option TableDecl → Table
+table_in header files None = record { types = []; rows = [] }
+table_in header files (Some decl) = declared_table header files decl
+
+-- the table of the database is that of the declaration
+table-at : (header : Bool) (files : Files) (tables : List TableDecl) (t : ℕ)
+    → used_table (database header files tables) (Declared t) ≡ table_in header files
+    (slice_get tables t)
+table-at header files tables t = go (slice_get_cases tables t).1
+  where
+    nothing : Table
+    nothing = record { types = []; rows = [] }
+
+    go : ((x : TableDecl) × (t < length tables) × (slice_get tables t ≡ Some x)
+        × (get_or tables t x ≡ x))
+        ⊎ ((length tables ≤ t) × (slice_get tables t ≡ None))
+        → used_table (database header files tables) (Declared t) ≡ table_in header files
+        (slice_get tables t)
+    go (inl w) =
+        get_or-map (declared_table header files) tables t w.0 (record { types = []; rows = [] }) w.1
+        ∙ ap (declared_table header files) w.3 ∙ ap (table_in header files) (sym w.2)
+    go (inr w) = get_or_past (map (declared_table header files) tables) t nothing
+        (let e = length-map tables (declared_table header files) in let le = w.0 in
+        omega (arith, e, le))
+        ∙ ap (table_in header files) (sym w.1)
+
+-- the types of a used table's columns
+types-used : (header : Bool) (files : Files) (tables : List TableDecl) (u : TableUse)
+    → used_types tables u ≡ (used_table (database header files tables) u).types
+types-used header files tables (Declared t) =
+    go (slice_get tables t) ∙ ap (λ (z : Table). z.types) (sym (table-at header files tables t))
+  where
+    go : (o : Option TableDecl) → types_declared o ≡ (table_in header files o).types
+    go None = refl
+    go (Some decl) = refl
+types-used header files tables (Numbers n) = refl
+
+-- the rows of a part
+rows-in-part : (r : Reading) (k : ℕ) (path : List ℕ) (bytes : Option (List ℕ))
+    → (part_in (part_spec r k path) bytes).rows ≡ rows_in r.header r.types bytes
+rows-in-part r k path None = refl
+rows-in-part r k path (Some bytes) = refl
+
+paths-rows : (files : Files) (r : Reading) (k : ℕ) (paths : List (List ℕ))
+    → sources_rows (parts_of files) (path_sources r k paths)
+    ≡ flat_map (part_rows r.header r.types files) paths
+paths-rows files r k [] = refl
+paths-rows files r k (path ∷ paths) =
+    ap₂ (λ a b. a ++ b) (rows-in-part r k path (file_bytes files path))
+    (paths-rows files r (suc k) paths)
+
+-- the rows of a used table are those of its sources
+rows-used : (header : Bool) (files : Files) (tables : List TableDecl) (rows : ℕ) (u : TableUse)
+    → UsesNoList tables u → sources_rows (parts_of files) (table_sources tables header rows u)
+    ≡ (used_table (database header files tables) u).rows
+rows-used header files tables rows (Declared t) h =
+    go (slice_get tables t) h ∙ ap (λ (z : Table). z.rows) (sym (table-at header files tables t))
+  where
+    parts : (decl : TableDecl) (d : PartsDecl) → NamesPaths d
+        → sources_rows (parts_of files) (part_sources (reading_of header rows t decl) d)
+        ≡ flat_map (part_rows header (column_types decl.schema) files) (part_paths files d)
+    parts decl (Paths paths) h = paths-rows files (reading_of header rows t decl) 1 paths
+    parts decl (ListFile path) h = absurd h
+
+    go : (o : Option TableDecl) → IsNoList o
+        → sources_rows (parts_of files) (declared_sources header rows t o)
+        ≡ (table_in header files o).rows
+    go None h = refl
+    go (Some decl) h = parts decl decl.parts h
+rows-used header files tables rows (Numbers n) h = append-nil _
+
+-- ---- sources
+
+paths-sources : (P : Spec → Type 0) (r : Reading)
+    → ((k : ℕ) (path : List ℕ) → P (spec.Csv (part_spec r k path)))
+    → (k : ℕ) (paths : List (List ℕ)) → AllByRecursion P (path_sources r k paths)
+paths-sources P r h k [] = tt
+paths-sources P r h k (path ∷ paths) = (h k path, paths-sources P r h (suc k) paths)
+
+-- what holds of each source of a used table
+each-source : (P : Spec → Type 0) (tables : List TableDecl) (header : Bool) (rows : ℕ)
+    (u : TableUse)
+    → UsesNoList tables u
+    → ((part : PartSpec) → part.types ≡ used_types tables u → P (spec.Csv part))
+    → ((n : ℕ) → u ≡ Numbers n → P (spec.Numbers n rows))
+    → AllByRecursion P (table_sources tables header rows u)
+each-source P tables header rows (Declared t) h csv num = go (slice_get tables t) h csv
+  where
+    parts : (r : Reading) (d : PartsDecl) → NamesPaths d
+        → ((part : PartSpec) → part.types ≡ r.types → P (spec.Csv part))
+        → AllByRecursion P (part_sources r d)
+    parts r (Paths paths) h csv = paths-sources P r (λ k path. csv (part_spec r k path) refl) 1
+        paths
+    parts r (ListFile path) h csv = absurd h
+
+    go : (o : Option TableDecl) → IsNoList o
+        → ((part : PartSpec) → part.types ≡ types_declared o → P (spec.Csv part))
+        → AllByRecursion P (declared_sources header rows t o)
+    go None h csv = tt
+    go (Some decl) h csv = parts (reading_of header rows t decl) decl.parts h csv
+each-source P tables header rows (Numbers n) h csv num = (num n refl, tt)
+
+-- ---- the plan of a query
+
+plain-of-query : (q : Checked) (types : List ColumnType) (n : ℕ) → IsPlain q.shape
+    → IsTypedShape types q.shape
+    → (items : List Expr) × (q.shape ≡ Plain items) × All (IsItem types) items
+plain-of-query q types n h t = go q.shape h t
+  where
+    go : (s : Shape) → IsPlain s → IsTypedShape types s
+        → (items : List Expr) × (s ≡ Plain items) × All (IsItem types) items
+    go (Plain items) h t = (items, refl, t)
+    go (Grouped g) h t = absurd h
+
+plan-of : (q : Checked) (tables : List TableDecl) (lanes rows : ℕ) (header : Bool) (files : Files)
+    → IsPlannable q tables
+    → IsPlanOf q (database header files tables) (parts_of files)
+    (select_plan q tables lanes rows header)
+plan-of q tables lanes rows header files p =
+    let db : Database = database header files tables in
+    let table : source_table q db ≡ used_table db q.from =
+    ap (λ j. joined_table j db (used_table db q.from)) p.one_table in
+    let types : source_types tables q.from q.join ≡ (source_table q db).types =
+    ap (source_types tables q.from) p.one_table ∙ types-used header files tables q.from
+    ∙ ap (λ (z : Table). z.types) (sym table) in
+    record {
+      chunk_rows = rows;
+      calls = calls q.shape p.plain;
+      shape = ap (λ t. shape_of q.shape t rows) types;
+      filter = refl;
+      order = ap (λ k. plan_keys (order_of q.types rows k)) p.unordered ∙ sym p.unordered;
+      limit = refl;
+      read = ap (λ j. read_rows (parts_of files) (table_sources tables header rows q.from)
+          (join_of tables header rows q.from j)) p.one_table
+          ∙ rows-used header files tables rows q.from p.no_list
+          ∙ ap (λ (z : Table). z.rows) (sym table);
+    }
+  where
+    calls : (s : Shape) → IsPlain s → HasCalls s
+    calls (Plain items) h = tt
+    calls (Grouped g) h = absurd h
+
+-- an answer of the query, over the rows before the first bad record of each part, with the plan's
+-- clause on bad parts
+pub record QueryAnswered (q : Checked) (header : Bool) (files : Files) (tables : List TableDecl)
+    (plan : SelectPlan) (rows : List Row) : Type 0 where
+  pub answer : IsAnswer q (database header files tables) rows
+  pub plan_answers : PlanAnswers (parts_of files) plan rows
+
+-- what a plan of the query answers is an answer of the query
+query-answered : (q : Checked) (tables : List TableDecl) (lanes rows : ℕ) (header : Bool)
+    (files : Files) (out : List Row) → IsPlannable q tables
+    → IsTypedQuery (used_types tables q.from) q → 0 < lanes
+    → (IsPlan (select_plan q tables lanes rows header)
+    → IsSimple (select_plan q tables lanes rows header)
+    → AllTyped (plan_nodes (select_plan q tables lanes rows header)) []
+    → PlanAnswers (parts_of files) (select_plan q tables lanes rows header) out)
+    → QueryAnswered q header files tables (select_plan q tables lanes rows header) out
+query-answered q tables lanes rows header files out p typed some answers =
+    let plan : SelectPlan = select_plan q tables lanes rows header in
+    let u : List ColumnType = used_types tables q.from in
+    let items = plain-of-query q u 0 p.plain typed.items in
+    let is : IsPlan plan = record {
+      some_lanes = some;
+      sources = each-source IsSource tables header rows q.from p.no_list (λ part t. tt) (λ n t. tt);
+      join = subst (λ j. JoinsSources (join_of tables header rows q.from j)) (sym p.one_table) tt;
+    } in
+    let simple : IsSimple plan = record {
+      one_table = ap (join_of tables header rows q.from) p.one_table;
+      items = items.0;
+      shape = ap (λ s. shape_of s (source_types tables q.from q.join) rows) items.1;
+      unordered = ap (order_of q.types rows) p.unordered;
+    } in
+    let one : AllByRecursion (λ s. OneType s [] u) plan.sources =
+    each-source (λ s. OneType s [] u) tables header rows q.from p.no_list
+    (λ part t. record { fit = tt; makes = λ v us x m. m ∙ t })
+    (λ n t. record { fit = tt; makes = λ v us x m. m ∙ ap (used_types tables) (sym t) }) in
+    let all : AllTyped (plan_nodes plan) [] =
+    plain-typed plan items.0 u simple.one_table simple.shape simple.unordered one
+    (filter-typed q.filter typed.filter) items.2 in
+    let a : PlanAnswers (parts_of files) plan out = answers is simple all in
+    record {
+      answer = query-answers q (database header files tables) (parts_of files) plan out
+          (plan-of q tables lanes rows header files p) a;
+      plan_answers = a;
+    }
+  where
+    filter-typed : (f : Option Cond) → IsTypedFilter (used_types tables q.from) f
+        → IsTypedBy (used_types tables q.from) f
+    filter-typed None h = tt
+    filter-typed (Some c) h = h
+
+-- At the end of a run of the plan of a typed query, by lawful boxes loaded with copies of its
+-- nodes' specs, the collector has pulled an answer of the query, where the contract of each node's
+-- kind gives its promises.
+pub query-ended : (q : Checked) (tables : List TableDecl) (lanes rows : ℕ) (header : Bool)
+    (files : Files) (nodes : List DraftNode) (boxes : List BoxPicture)
+    (h : HasEnded files nodes boxes) (last : ℕ) → IsPlannable q tables
+    → IsTypedQuery (used_types tables q.from) q → 0 < lanes
+    → IsSmall (select_plan q tables lanes rows header)
+    → forms nodes ≡ forms (plan_nodes (select_plan q tables lanes rows header))
+    → AllByRecursion IsReady nodes
+    → length (plan_nodes (select_plan q tables lanes rows header)) ≡ last + 1
+    → QueryAnswered q header files tables (select_plan q tables lanes rows header)
+    (chunk_rows (h.done.pulled last 0))
+query-ended q tables lanes rows header files nodes boxes h last p typed some small e ready count =
+    query-answered q tables lanes rows header files (chunk_rows (h.done.pulled last 0)) p typed
+    some (λ is simple all. plan-ended files (select_plan q tables lanes rows header) nodes boxes h
+    last is small e all ready count)
+
+-- A corollary: the same for every query that is planned so far, without a premise on kinds.
+pub planned-ended : (q : Checked) (tables : List TableDecl) (lanes rows : ℕ) (header : Bool)
+    (files : Files) (nodes : List DraftNode) (boxes : List BoxPicture)
+    (h : HasEnded files nodes boxes) (last : ℕ) → IsPlannable q tables
+    → IsTypedQuery (used_types tables q.from) q → 0 < lanes
+    → IsSmall (select_plan q tables lanes rows header)
+    → forms nodes ≡ forms (plan_nodes (select_plan q tables lanes rows header))
+    → length (plan_nodes (select_plan q tables lanes rows header)) ≡ last + 1
+    → QueryAnswered q header files tables (select_plan q tables lanes rows header)
+    (chunk_rows (h.done.pulled last 0))
+planned-ended q tables lanes rows header files nodes boxes h last p typed some small e count =
+    let plan : SelectPlan = select_plan q tables lanes rows header in
+    query-answered q tables lanes rows header files (chunk_rows (h.done.pulled last 0)) p typed
+    some (λ is simple all. plan-ended files plan nodes boxes h last is small e all
+    (simple-ready plan nodes is simple e) count)

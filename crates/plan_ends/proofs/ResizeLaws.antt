@@ -1,0 +1,173 @@
+-- What a resize keeps is what it gives: the rows of any inputs by any outputs.
+use Rattle.std.proofs.Common.{◌≡◌, ℕ, zero, suc, ◌+◌, ◌-◌, ◌<◌, ◌≤◌, true, false, List, [], ◌++◌, append_assoc, map, IsPermutation, refl, sym, ap, ap₂, subst, ◌∙◌, arith, inl, inr}
+use Rattle.std.specs.List.{AllByRecursion}
+use Rattle.std.proofs.lemmas.Bool.{and_from, and_parts, both_ways, or_cases}
+use Rattle.std.proofs.lemmas.List.{append-nil, length-map}
+use Rattle.std.proofs.lemmas.List.Concat.{flat_map-append}
+use Rattle.std.proofs.lemmas.List.Sorted.{IsPermutation-refl, IsPermutation-trans, IsPermutation-append_left, IsPermutation-append_right, IsPermutation-append_comm}
+use Rattle.chunk_data.specs.Values.{Row, Table}
+use Rattle.query_model.specs.declared.processor_spec.Spec.TheVariants as spec
+use Rattle.query_model.proofs.Lists.{IsPermutation-same}
+use Rattle.proc_api.specs.Boxes.{BoxPicture, kept_output}
+use Rattle.proc_api.specs.Histories.{Lists, chunk_rows}
+use Rattle.proc_api.specs.Made.{all_rows as first_rows, unworked_at}
+use Rattle.proc_api.specs.Keeping.{KeepsMade, HasReadEnough}
+use Rattle.plan_graph.specs.declared.nodes.NodePort.{NodePort}
+use Rattle.plan_graph.specs.Drafts.{ports_of}
+use Rattle.plan_graph.proofs.Drafts.{ports-length}
+use Rattle.plan_meaning.specs.Streams.{Stream, all_done, all_rows, any_done, rows_of}
+use Rattle.plan_meaning.specs.Types.{MakesType, Types, pulled_types}
+use Rattle.plan_ends.specs.Ended.{in_stream, out_stream, KindGives}
+use Rattle.plan_ends.proofs.KindLaws.{all-worked-at, is-among, kept-rows, made-typed, stays-open}
+
+-- ---- streams at the ports of a node
+
+abbrev at_ports : (ℕ → Stream) → ℕ → ℕ → ℕ → List Stream
+at_ports f n i k = map (λ (q : NodePort). f q.port) (ports_of n i k)
+
+-- the rows of the first ports, and of so many after them
+ports-rows : (lists : Lists) (f : ℕ → Stream) → ((i : ℕ) → (f i).rows ≡ chunk_rows (lists i))
+    → (n i k : ℕ)
+    → first_rows i lists ++ all_rows (rows_of (at_ports f n i k)) ≡ first_rows (i + k) lists
+unfolding first_rows
+ports-rows lists f e n i zero =
+    let same : i ≡ i + 0 = omega arith in
+    append-nil (first_rows i lists) ∙ ap (λ m. first_rows m lists) same
+ports-rows lists f e n i (suc k) =
+    let next : suc i + k ≡ i + suc k = omega arith in
+    let rest : List Row = all_rows (rows_of (at_ports f n (suc i) k)) in
+    sym (append_assoc (first_rows i lists) (f i).rows rest)
+    ∙ ap (λ l. (first_rows i lists ++ l) ++ rest) (e i)
+    ∙ ports-rows lists f e n (suc i) k ∙ ap (λ m. first_rows m lists) next
+
+-- lists past the last one that has chunks add nothing
+none-past : (lists : Lists) (m k : ℕ) → ((i : ℕ) → m ≤ i → lists i ≡ [])
+    → first_rows (m + k) lists ≡ first_rows m lists
+unfolding first_rows
+none-past lists m zero past =
+    let same : m + 0 ≡ m = omega arith in
+    ap (λ j. first_rows j lists) same
+none-past lists m (suc k) past =
+    let next : m + suc k ≡ suc (m + k) = omega arith in
+    ap (λ j. first_rows j lists) next
+    ∙ ap (λ l. first_rows (m + k) lists ++ chunk_rows l) (past (m + k) (omega arith))
+    ∙ append-nil (first_rows (m + k) lists) ∙ none-past lists m k past
+
+-- the rows at the ports of a node are those of all lists
+all-ports : (lists : Lists) (f : ℕ → Stream) → ((i : ℕ) → (f i).rows ≡ chunk_rows (lists i))
+    → (n m most : ℕ) → m ≤ most → ((i : ℕ) → m ≤ i → lists i ≡ [])
+    → all_rows (rows_of (at_ports f n 0 m)) ≡ first_rows most lists
+unfolding first_rows
+all-ports lists f e n m most le past =
+    let start : 0 + m ≡ m = omega arith in
+    let whole : m + (most - m) ≡ most = omega (arith, le) in
+    ports-rows lists f e n 0 m ∙ ap (λ j. first_rows j lists) start
+    ∙ sym (none-past lists m (most - m) past) ∙ ap (λ j. first_rows j lists) whole
+
+-- a port that is done
+record DoneAt (f : ℕ → Stream) (m : ℕ) : Type 0 where
+  pub port : ℕ
+  pub in_range : port < m
+  pub done : (f port).done ≡ true
+
+any-done : (f : ℕ → Stream) (n i k : ℕ) → any_done (at_ports f n i k) ≡ true → DoneAt f (i + k)
+any-done f n i zero e = absurd (both_ways false refl e)
+any-done f n i (suc k) e = elim (or_cases _ _ e) [
+  | inl here ↦ record { port = i; in_range = omega arith; done = here }
+  | inr more ↦
+      let d = any-done f n (suc i) k more in
+      let within = d.in_range in
+      record { port = d.port; in_range = omega (arith, within); done = d.done }
+]
+
+all-done : (f : ℕ → Stream) → ((i : ℕ) → (f i).done ≡ true) → (n i k : ℕ)
+    → all_done (at_ports f n i k) ≡ true
+all-done f h n i zero = refl
+all-done f h n i (suc k) = and_from _ _ (h i) (all-done f h n (suc i) k)
+
+each-port : (P : Stream → Type 0) (f : ℕ → Stream) → ((i : ℕ) → P (f i)) → (n i k : ℕ)
+    → AllByRecursion P (at_ports f n i k)
+each-port P f h n i zero = tt
+each-port P f h n i (suc k) = (h i, each-port P f h n (suc i) k)
+
+-- ---- what was worked, and what wasn't yet
+
+-- two lists and their rests, in pairs
+in-pairs : (a b c d : List Row) → IsPermutation ((a ++ b) ++ (c ++ d)) ((a ++ c) ++ (b ++ d))
+in-pairs a b c d = rw (append_assoc a b (c ++ d), append_assoc a c (b ++ d))
+    (IsPermutation-append_right a _ _
+    (IsPermutation-trans _ _ _ (IsPermutation-same _ _ (sym (append_assoc b c d)))
+    (IsPermutation-trans _ _ _ (IsPermutation-append_left d _ _ (IsPermutation-append_comm b c))
+    (IsPermutation-same _ _ (append_assoc c b d)))))
+
+split-rows : (n : ℕ) (whole a b : Lists) → ((i : ℕ) → whole i ≡ a i ++ b i)
+    → IsPermutation (first_rows n whole) (first_rows n a ++ first_rows n b)
+unfolding first_rows
+split-rows zero whole a b e = IsPermutation-refl []
+split-rows (suc n) whole a b e =
+    let here : chunk_rows (whole n) ≡ chunk_rows (a n) ++ chunk_rows (b n) =
+    ap chunk_rows (e n) ∙ flat_map-append (λ (t : Table). t.rows) (a n) (b n) in
+    subst (λ l. IsPermutation (first_rows n whole ++ l) ((first_rows n a ++ chunk_rows (a n))
+    ++ (first_rows n b ++ chunk_rows (b n)))) (sym here)
+    (IsPermutation-trans _ _ _
+    (IsPermutation-append_left (chunk_rows (a n) ++ chunk_rows (b n)) _ _
+    (split-rows n whole a b e))
+    (in-pairs (first_rows n a) (first_rows n b) (chunk_rows (a n)) (chunk_rows (b n))))
+
+-- the rows that are made and not pushed, and those that aren't worked yet
+abbrev waiting : BoxPicture → List Row
+waiting p = chunk_rows p.work.made ++ first_rows 32 (unworked_at p.work)
+
+resized-rows : (p : BoxPicture) (ins outs : Lists) → KeepsMade spec.Resize p ins outs
+    → IsPermutation (first_rows 32 ins) (first_rows 16 outs ++ waiting p)
+resized-rows p ins outs m =
+    let left : List Row = first_rows 32 (unworked_at p.work) in
+    IsPermutation-trans _ _ _ (split-rows 32 ins m.worked (unworked_at p.work) m.ins_are)
+    (subst (λ l. IsPermutation (first_rows 32 m.worked ++ left) l)
+    (append_assoc (first_rows 16 outs) (chunk_rows p.work.made) left)
+    (IsPermutation-append_left left _ _ m.rows.1.same_rows))
+
+nothing-waits : (p : BoxPicture) (ins outs : Lists) (o : ℕ) → KeepsMade spec.Resize p ins outs
+    → (kept_output p o).fin_out ≡ true → waiting p ≡ []
+unfolding first_rows
+nothing-waits p ins outs o m f =
+    let end = m.over o f in
+    ap₂ (λ a b. a ++ b) (ap chunk_rows end.nothing_waits)
+    (none-past (unworked_at p.work) 0 32 (λ i le. all-worked-at p.work i end.all_worked))
+
+-- A resize gives the rows of its inputs by its outputs.
+pub resize-gives : KindGives spec.Resize
+resize-gives files takes gives n p ins outs k =
+    let m : KeepsMade spec.Resize p ins outs =
+    kept-rows spec.Resize files takes gives p ins outs k (λ i d x lt. tt) in
+    let i_rows : all_rows (rows_of (at_ports (in_stream p ins) n 0 takes)) ≡ first_rows 32 ins =
+    all-ports ins (in_stream p ins) (λ i. refl) n takes 32 k.few_inputs k.nothing_past in
+    let o_rows : all_rows (rows_of (at_ports (out_stream p outs) n 0 gives)) ≡ first_rows 16 outs =
+    all-ports outs (out_stream p outs) (λ i. refl) n gives 16 k.few_outputs k.nothing_pushed_past in
+    let from : List Types = pulled_types (at_ports (in_stream p ins) n 0 takes) in
+    record {
+      gives = λ fit. record {
+        some =
+            let e = length-map (ports_of n 0 gives) (λ (q : NodePort). out_stream p outs q.port) in
+            let some = k.ports in
+            omega (arith, e, some, ports-length n 0 gives);
+        waits = waiting p;
+        rows = subst (λ l. IsPermutation l (all_rows (rows_of (at_ports (out_stream p outs) n 0
+            gives)) ++ waiting p)) (sym i_rows)
+            (subst (λ l. IsPermutation (first_rows 32 ins) (l ++ waiting p)) (sym o_rows)
+            (resized-rows p ins outs m));
+        nothing_waits = λ done.
+            let d = any-done (out_stream p outs) n 0 gives done in
+            nothing-waits p ins outs d.port m (and_parts _ _ d.done).0;
+        inputs_done = λ done.
+            let d = any-done (out_stream p outs) n 0 gives done in
+            all-done (in_stream p ins) (λ i. stays-open p ins outs i d.port k.keeps
+            (subst (λ z. HasReadEnough z ins → ⊥) (sym k.loaded) (λ x. x))
+            (let within = d.in_range in let e = k.outputs in omega (arith, within, e)) d.done)
+            n 0 takes;
+      };
+      typed = λ fit. each-port (λ (o : Stream). AllByRecursion (MakesType spec.Resize from) o.types)
+          (out_stream p outs)
+          (λ o. made-typed spec.Resize p ins outs from o k.loaded k.keeps
+          (λ t w. is-among (λ u. t ≡ u) p ins n takes t k.nothing_past w refl)) n 0 gives;
+    }

@@ -1,0 +1,127 @@
+-- The streams of a run that has ended.
+use Rattle.std.specs.Prelude.{◌≡◌, ℕ, ◌<◌, ◌≤◌, not, ◌&&◌, true, false, List, [], length, is_none, Option, Some, None, map}
+use Rattle.chunk_data.specs.Values.{Table}
+use Rattle.chunk_data.specs.declared.typed_value.ColumnType.{ColumnType}
+use Rattle.query_model.specs.Parts.{part_records, good_rows, bad_place}
+use Rattle.query_model.specs.Database.{Files, file_bytes}
+use Rattle.query_model.specs.Expressions.{Expr}
+use Rattle.query_model.specs.declared.processor_spec.PartSpec.{PartSpec}
+use Rattle.query_model.specs.declared.processor_spec.Spec.{Spec}
+use Rattle.query_model.specs.declared.processor_spec.Spec.TheVariants as spec
+use Rattle.proc_api.specs.Boxes.{BoxPicture, kept_input, kept_output, kept_outputs}
+use Rattle.proc_api.specs.Histories.{Lists, chunk_rows}
+use Rattle.proc_api.specs.Keeping.{Keeps}
+use Rattle.proc_api.specs.Forms.{GrowthForm}
+use Rattle.proc_api.specs.Ports.{ArePortsOf, AreCounts}
+use Rattle.exec_laws.specs.Runs.{box_at}
+use Rattle.exec_laws.specs.Ends.{IsDone}
+use Rattle.plan_graph.specs.declared.nodes.DraftNode.{DraftNode}
+use Rattle.plan_graph.specs.declared.nodes.NodePort.{NodePort}
+use Rattle.plan_graph.specs.Drafts.{no_draft, with_nodes, ports_of}
+use Rattle.plan_meaning.specs.Streams.{Part, Parts, Stream}
+use Rattle.plan_meaning.specs.Plans.{SelectPlan, plain}
+use Rattle.plan_meaning.specs.Types.{GivesIf}
+
+abbrev pub part_in : PartSpec → Option (List ℕ) → Part
+part_in part None = record { rows = []; valid = false }
+part_in part (Some bytes) =
+    let records = part_records part.header bytes in
+    record {
+      rows = good_rows part.types records;
+      valid = is_none (bad_place 1 part.types records);
+    }
+
+-- the parts of the files
+abbrev pub parts_of : Files → Parts
+parts_of files part = part_in part (file_bytes files part.path)
+
+abbrev pub chunk_types : List Table → List (List ColumnType)
+chunk_types chunks = map (λ (t : Table). t.types) chunks
+
+-- what a box pulled at an input, which is done where the box didn't close it
+abbrev pub in_stream : BoxPicture → Lists → ℕ → Stream
+in_stream p ins i = record {
+  rows = chunk_rows (ins i);
+  done = not (kept_input p i).fin_in;
+  types = chunk_types (ins i);
+}
+
+-- what a box pushed to an output, which is done where the box finished it and no consumer closed it
+abbrev pub out_stream : BoxPicture → Lists → ℕ → Stream
+out_stream p outs o = record {
+  rows = chunk_rows (outs o);
+  done = (kept_output p o).fin_out && not (kept_output p o).fin_in;
+  types = chunk_types (outs o);
+}
+
+abbrev pub pulled_at : List BoxPicture → (ℕ → Lists) → NodePort → Stream
+pulled_at boxes pulled p = in_stream (box_at boxes p.node) (pulled p.node) p.port
+
+abbrev pub pushed_at : List BoxPicture → (ℕ → Lists) → NodePort → Stream
+pushed_at boxes pushed p = out_stream (box_at boxes p.node) (pushed p.node) p.port
+
+-- nothing is in the list of a port past the last one
+abbrev pub NothingPast : ℕ → Lists → Type 0
+NothingPast ports lists = (i : ℕ) → ports ≤ i → lists i ≡ []
+
+-- A box with the ports of its spec, which keeps its contract of these lists. A source tells these
+-- files.
+pub record IsKept (s : Spec) (files : Files) (takes gives : ℕ) (p : BoxPicture) (ins outs : Lists)
+    : Type 0 where
+  pub loaded : p.spec ≡ Some s
+  pub told : (part : PartSpec) → s ≡ spec.Csv part → p.files ≡ Some files
+  pub ports : ArePortsOf (Some s) p.growth takes gives
+  pub few_inputs : takes ≤ 32
+  pub few_outputs : gives ≤ 16
+  pub outputs : kept_outputs p ≡ gives
+  pub keeps : Keeps p ins outs
+  pub nothing_past : NothingPast takes ins
+  pub nothing_pushed_past : NothingPast gives outs
+
+-- the promises of kind s hold of the streams at the ports of node n
+abbrev pub BoxGives : Spec → Files → (takes gives n : ℕ) → BoxPicture → (ins outs : Lists) → Type 0
+BoxGives s files takes gives n p ins outs =
+    GivesIf (parts_of files) s (map (λ (q : NodePort). in_stream p ins q.port) (ports_of n 0 takes))
+    (map (λ (q : NodePort). out_stream p outs q.port) (ports_of n 0 gives))
+
+-- Of each such box the lists are streams for which the kind's promises hold.
+abbrev pub KindGives : Spec → Type 0
+KindGives s = (files : Files) (takes gives n : ℕ) (p : BoxPicture) (ins outs : Lists)
+    → IsKept s files takes gives p ins outs → BoxGives s files takes gives n p ins outs
+
+-- a node with the ports of its spec, of whose kind the processor contract gives the promises
+pub record IsReady (n : DraftNode) : Type 0 where
+  pub ports : (g : Option GrowthForm) → ArePortsOf (Some n.spec) g n.takes n.gives
+  pub gives : KindGives n.spec
+
+-- ports of a kind whose promises the processor contract gives by the proofs of this crate
+abbrev pub KnownPorts : Spec → (takes gives : ℕ) → Type 0
+KnownPorts (spec.Csv part) takes gives = AreCounts takes gives 0 1
+KnownPorts (spec.Numbers count rows) takes gives = AreCounts takes gives 0 1
+KnownPorts (spec.Filter c) takes gives = AreCounts takes gives 1 1
+KnownPorts (spec.Expression items) takes gives = AreCounts takes gives 1 1
+KnownPorts spec.Resize takes gives = 0 < gives
+KnownPorts (spec.Limit span) takes gives = AreCounts takes gives 1 1
+KnownPorts spec.Collect takes gives = AreCounts takes gives 1 0
+KnownPorts _ takes gives = ⊥
+
+abbrev pub HasKnownKind : DraftNode → Type 0
+HasKnownKind n = KnownPorts n.spec n.takes n.gives
+
+-- a plan of one table, without grouping and order
+pub record IsSimple (p : SelectPlan) : Type 0 where
+  pub one_table : p.join ≡ None
+  pub items : List Expr
+  pub shape : p.shape ≡ plain items
+  pub unordered : p.order ≡ None
+
+-- An ended run by lawful boxes that were loaded with the specs of these nodes. The sources tell
+-- these files.
+pub record HasEnded (files : Files) (nodes : List DraftNode) (boxes : List BoxPicture) : Type 0
+  where
+    pub specs : map (λ (b : BoxPicture). b.spec) boxes ≡ map (λ (n : DraftNode). Some n.spec) nodes
+    pub lawful : (n : ℕ) → n < length boxes → (box_at boxes n).lawful ≡ true
+    pub told : (n : ℕ) (part : PartSpec) → n < length boxes
+        → (box_at boxes n).spec ≡ Some (spec.Csv part)
+        → (box_at boxes n).files ≡ Some files
+    pub done : IsDone (with_nodes nodes no_draft).wires boxes
