@@ -1,11 +1,12 @@
 -- from the steps of an answer to the text of one answer of a command
-use Rattle.std.proofs.Common.{◌≡◌, ℕ, ◌+◌, ◌-◌, ◌<◌, List, [], ◌∷◌, get_or, map, length, refl, ap, sym, subst, ◌∙◌, arith, Option, Some, None, is_some, true}
+use Rattle.std.proofs.Common.{◌≡◌, ℕ, ◌+◌, ◌-◌, ◌<◌, List, [], ◌∷◌, get_or, map, length, refl, ap, sym, subst, ◌∙◌, arith, Option, Some, None, is_some, Bool, true, false}
 use Rattle.std.specs.List.{All}
+use Rattle.std.proofs.lemmas.List.Elements.{All-nil}
 use Rattle.chunk_data.specs.Values.{Row, Table}
 use Rattle.chunk_data.specs.declared.typed_value.ColumnType.{ColumnType}
 use Rattle.query_model.specs.Analysis.{IsTypedQuery, IsTypedShape, from_types}
 use Rattle.query_model.specs.Answers.{output_rows, selected_rows}
-use Rattle.query_model.specs.Checks.{IsChecked}
+use Rattle.query_model.specs.Checks.{IsChecked, IsShape}
 use Rattle.query_model.specs.Expressions.{Cond, Expr, rows_where}
 use Rattle.query_model.specs.Flow.{flow, rows_tested, groups_tested, if_grouped, if_ordered, if_plain, rows_joined}
 use Rattle.query_model.specs.Parts.{good_rows, part_records}
@@ -13,8 +14,9 @@ use Rattle.query_model.specs.Sources.{Database, source_table, source_rows, filte
 use Rattle.query_model.specs.Texts.{answer_text}
 use Rattle.query_model.specs.Typing.{IsItem}
 use Rattle.query_model.specs.Database.{Files, file_bytes, part_rows, rows_in, bad_place_in, column_types, database, AllPartsValid}
-use Rattle.query_model.specs.Refusals.{refusal_of}
+use Rattle.query_model.specs.Refusals.{from_columns, refusal_of}
 use Rattle.query_model.proofs.OnePart.{database-one_part}
+use Rattle.query_model.proofs.PlainQueries.{plain_is_ungrouped}
 use Rattle.query_model.specs.declared.query.Query.{Query}
 use Rattle.query_model.specs.declared.query.Schema.{Schema}
 use Rattle.query_model.specs.declared.query.PartsDecl.{PartsDecl}
@@ -46,7 +48,7 @@ use Rattle.plan_run.specs.Plans.{kinds_of, spec_at}
 use Rattle.query_run.specs.Racks.{AreLawfulOver, HasBoxes, PulledMore}
 use Rattle.query_run.specs.Commands.{schemas_of, IsAccepted, IsCheckedCommand}
 use Rattle.query_run.specs.Headline.{MakesText, PullsItsFlow}
-use Rattle.query_run.specs.Steps.{GivesText, only_path, HasOnePath, items_of, part_spec}
+use Rattle.query_run.specs.Steps.{GivesText, only_path, HasOnePath, IsPlainShape, items_of, part_spec}
 use Rattle.sql_text.proofs.BuiltQueries.{plain_of_read}
 use Rattle.query_run.proofs.Plans.{plan-kinds, plan-stock, ended-kind, ended-lawful, ended-files, first-spec}
 use Rattle.query_run.proofs.Pulling.{plan-pulled, PlanPulled, WithoutFilter}
@@ -107,13 +109,23 @@ accepted_of command checked h =
 
 -- ---- the items
 
-shape_is : (types : List ColumnType) (s : Shape) → IsTypedShape types s → s ≡ Plain (items_of s)
-shape_is types (Plain items) h = refl
-shape_is types (Grouped g) h = absurd h
+-- it isn't grouped
+pub is_plain : (command : Command) (checked : Checked) → IsCheckedCommand command checked → IsPlainShape checked.shape
+is_plain command checked h =
+    go checked.shape (subst (λ (b : Bool). IsShape h.query (from_columns h.query (schemas_of command)) b checked.shape)
+    (plain_is_ungrouped h.query (plain_of_read h.query command.query h.read)) h.is.shape)
+  where
+    go : (s : Shape) → IsShape h.query (from_columns h.query (schemas_of command)) false s → IsPlainShape s
+    go (Plain items) is = tt
+    go (Grouped g) is = absurd is
+
+shape_is : (s : Shape) → IsPlainShape s → s ≡ Plain (items_of s)
+shape_is (Plain items) h = refl
+shape_is (Grouped g) h = absurd h
 
 items_typed : (types : List ColumnType) (s : Shape) → IsTypedShape types s → All (IsItem types) (items_of s)
 items_typed types (Plain items) h = h
-items_typed types (Grouped g) h = absurd h
+items_typed types (Grouped g) h = All-nil (IsItem types)
 
 -- ---- an ended plan
 
@@ -158,6 +170,9 @@ module _ (command : Command) (p : IsPlainCommand command) (checked : Checked) (h
   typed : IsTypedQuery types checked
   typed = typed_by_table command p checked h
 
+  same_shape : checked.shape ≡ Plain (items_of checked.shape)
+  same_shape = shape_is checked.shape (is_plain command checked h)
+
   plan_done : IsPlanDone part checked.filter items ended
   plan_done = record {
     specs = g.gives.runs.loaded;
@@ -192,7 +207,7 @@ module _ (command : Command) (p : IsPlainCommand command) (checked : Checked) (h
   gathered_are : gathered_rows checked.filter ended ≡ selected
   gathered_are =
       answers.rows
-      ∙ ap (λ s. selected_rows s types (rows_where checked.filter good)) (sym (shape_is types checked.shape typed.items))
+      ∙ ap (λ s. selected_rows s types (rows_where checked.filter good)) (sym same_shape)
       ∙ ap (λ l. selected_rows checked.shape types (rows_where checked.filter l)) (sym rows_are)
 
   handed : chunk_rows g.chunks ≡ gathered_rows checked.filter ended
@@ -218,7 +233,7 @@ module _ (command : Command) (p : IsPlainCommand command) (checked : Checked) (h
   source = ap (λ (t : Table). t.rows) (source_is checked (of_the_table command p checked h) db types part_has (database_is command p files)) ∙ rows_are
 
   flows : PlanFlows checked db ended
-  flows = plan-flows part checked items db ended (shape_is types checked.shape typed.items) answers source
+  flows = plan-flows part checked items db ended same_shape answers source
 
   abbrev gathered : List Row
   gathered = gathered_rows checked.filter ended
@@ -227,7 +242,7 @@ module _ (command : Command) (p : IsPlainCommand command) (checked : Checked) (h
   filtered = rows_tested checked.filter (source_rows checked db) + groups_tested checked.shape (source_table checked db).types (filtered_rows checked db)
 
   none_tested : WithoutFilter checked.filter (filtered ≡ 0)
-  none_tested = no_filter checked.filter (source_rows checked db) _ (ap (λ s. groups_tested s (source_table checked db).types (filtered_rows checked db)) (shape_is types checked.shape typed.items))
+  none_tested = no_filter checked.filter (source_rows checked db) _ (ap (λ s. groups_tested s (source_table checked db).types (filtered_rows checked db)) same_shape)
     where
       no_filter : (f : Option Cond) (l : List Row) (more : ℕ) → more ≡ 0 → WithoutFilter f (rows_tested f l + more ≡ 0)
       no_filter None l more e = omega (arith, e)
@@ -250,7 +265,7 @@ module _ (command : Command) (p : IsPlainCommand command) (checked : Checked) (h
   each_kind kind.Expression = pulled.expression
   each_kind kind.Resize = tt
   each_kind kind.PartialAggregate =
-      none_of kind.PartialAggregate _ (ap (λ s. if_grouped s (length (filtered_rows checked db))) (shape_is types checked.shape typed.items))
+      none_of kind.PartialAggregate _ (ap (λ s. if_grouped s (length (filtered_rows checked db))) same_shape)
       (pulled.others kind.PartialAggregate (record { no_source = refl; no_filter = refl; no_expression = refl; no_collector = refl }))
   each_kind kind.MergeAggregate = tt
   each_kind kind.HashJoin =

@@ -1,6 +1,7 @@
 -- The corollaries of the theorem on how a run ends, and completeness.
 use Rattle.std.proofs.Common.{◌≡◌, ◌≢◌, ◌⊎◌, inl, inr, ℕ, ◌≤◌, true, false, Bool, cond, List, ap, sym, subst, ◌∙◌, refl, arith, Option, Some, None, is_some, option_map}
 use Rattle.std.specs.List.{All}
+use Rattle.std.proofs.lemmas.Bool.{cond_both}
 use Rattle.std.proofs.lemmas.List.Elements.{All-contains}
 use Rattle.outside_io.specs.Growth.{Untouched}
 use Rattle.query_model.specs.Analysis.{IsDue}
@@ -24,7 +25,7 @@ use Rattle.sql_text.proofs.Readings.{one_tree}
 use Rattle.command_line.specs.declared.words.Command.{Command}
 use Rattle.proc_api.specs.Boxes.{BoxPicture}
 use Rattle.proc_api.specs.Clauses.{IsBlank, IsLongFile}
-use Rattle.plan_laws.specs.Plans.{need}
+use Rattle.plan_laws.specs.Plans.{need, need_with}
 use Rattle.plan_run.specs.Stock.{HasStock}
 use Rattle.plan_run.specs.Plans.{GivesBack}
 use Rattle.plan_run.proofs.Telling.{lawful-not-stuck, runs-give-back}
@@ -69,11 +70,8 @@ stock_serves : (q : Checked) (k : Kind) → need q k ≤ stock_of k
 stock_serves q kind.Csv = omega arith
 stock_serves q kind.List = omega arith
 stock_serves q kind.Numbers = omega arith
-stock_serves q kind.Filter = at_most_one (is_some q.filter)
-  where
-    at_most_one : (b : Bool) → cond b 1 0 ≤ 17
-    at_most_one true = omega arith
-    at_most_one false = omega arith
+stock_serves q kind.Filter =
+    cond_both (is_some q.filter) 1 0 (λ n. n ≤ 17) (λ _. omega arith) (λ _. omega arith)
 stock_serves q kind.Expression = omega arith
 stock_serves q kind.Resize = omega arith
 stock_serves q kind.PartialAggregate = omega arith
@@ -95,32 +93,30 @@ not_short files q before s honest h =
 
 -- ---- refusals
 
--- an accepted text is refused for want of memory alone
-early_clash : (command : Command) (refusal : ParseRefusal) → IsAccepted command → early_refusal command.query ≡ Some refusal → ⊥
-early_clash command refusal a e = let wrong : Some refusal ≡ None = sym e ∙ a.read.early in absurd cc
+-- what is none isn't some
+clash : {A : Type 0} {o : Option A} {x : A} → o ≡ None → o ≡ Some x → ⊥
+clash {A} {o} {x} a e = let wrong : Some x ≡ None = sym e ∙ a in absurd cc
 
+-- an accepted text is refused for want of memory alone
 text_not_refused : (command : Command) (refusal : ParseRefusal) → IsAccepted command → IsRefused refusal command.query → text_status refusal ≡ 7
-text_not_refused command parse.TooLong a h = absurd (early_clash command parse.TooLong a h)
-text_not_refused command parse.Syntax a (inl h) = absurd (early_clash command parse.Syntax a h)
+text_not_refused command parse.TooLong a h = absurd (clash a.read.early h)
+text_not_refused command parse.Syntax a (inl h) = absurd (clash a.read.early h)
 text_not_refused command parse.Syntax a (inr h) = absurd (h.1 a.query a.read.spells)
-text_not_refused command parse.NumberTooLarge a h = absurd (early_clash command parse.NumberTooLarge a h)
-text_not_refused command parse.TooComplex a h = absurd (early_clash command parse.TooComplex a h)
-text_not_refused command parse.NotBuilt a h = absurd (early_clash command parse.NotBuilt a h)
+text_not_refused command parse.NumberTooLarge a h = absurd (clash a.read.early h)
+text_not_refused command parse.TooComplex a h = absurd (clash a.read.early h)
+text_not_refused command parse.NotBuilt a h = absurd (clash a.read.early h)
 text_not_refused command parse.Memory a h = refl
 
 -- so is the query that was read from it
-due_clash : (q : Query) (schemas : List Schema) (refusal : Refusal) → refusal_of q schemas ≡ None → refusal_of q schemas ≡ Some refusal → ⊥
-due_clash q schemas refusal a e = let wrong : Some refusal ≡ None = sym e ∙ a in absurd cc
-
 not_due : (q : Query) (schemas : List Schema) (refusal : Refusal) → refusal_of q schemas ≡ None → IsDue q schemas refusal → query_status refusal ≡ 7
-not_due q schemas (refuse.UnknownTable name) a h = absurd (due_clash q schemas (refuse.UnknownTable name) a h)
-not_due q schemas (refuse.UnknownColumn name) a h = absurd (due_clash q schemas (refuse.UnknownColumn name) a h)
-not_due q schemas (refuse.AmbiguousColumn name) a h = absurd (due_clash q schemas (refuse.AmbiguousColumn name) a h)
-not_due q schemas refuse.BadJoinKey a h = absurd (due_clash q schemas refuse.BadJoinKey a h)
-not_due q schemas refuse.TypeMismatch a h = absurd (due_clash q schemas refuse.TypeMismatch a h)
-not_due q schemas (refuse.NotGrouped name) a h = absurd (due_clash q schemas (refuse.NotGrouped name) a h)
-not_due q schemas (refuse.BadOrderKey name) a h = absurd (due_clash q schemas (refuse.BadOrderKey name) a h)
-not_due q schemas refuse.TooWide a h = absurd (due_clash q schemas refuse.TooWide a h)
+not_due q schemas (refuse.UnknownTable name) a h = absurd (clash a h)
+not_due q schemas (refuse.UnknownColumn name) a h = absurd (clash a h)
+not_due q schemas (refuse.AmbiguousColumn name) a h = absurd (clash a h)
+not_due q schemas refuse.BadJoinKey a h = absurd (clash a h)
+not_due q schemas refuse.TypeMismatch a h = absurd (clash a h)
+not_due q schemas (refuse.NotGrouped name) a h = absurd (clash a h)
+not_due q schemas (refuse.BadOrderKey name) a h = absurd (clash a h)
+not_due q schemas refuse.TooWide a h = absurd (clash a h)
 not_due q schemas refuse.Memory a h = refl
 
 query_not_refused : (command : Command) (refusal : Refusal) → IsAccepted command → IsRefusedQuery command refusal → query_status refusal ≡ 7
@@ -186,19 +182,7 @@ same_filter command p q a b =
     ∙ some_both _ b.query.filter q.filter b.is.filter
 
 need_same : (p q : Checked) (k : Kind) → is_some p.filter ≡ is_some q.filter → need p k ≡ need q k
-need_same p q kind.Csv e = refl
-need_same p q kind.List e = refl
-need_same p q kind.Numbers e = refl
-need_same p q kind.Filter e = ap (λ b. cond b 1 0) e
-need_same p q kind.Expression e = refl
-need_same p q kind.Resize e = refl
-need_same p q kind.PartialAggregate e = refl
-need_same p q kind.MergeAggregate e = refl
-need_same p q kind.HashJoin e = refl
-need_same p q kind.Sort e = refl
-need_same p q kind.MergeSorted e = refl
-need_same p q kind.Limit e = refl
-need_same p q kind.Collect e = refl
+need_same p q k e = ap (λ b. need_with b k) e
 
 not_lacking : (command : Command) (before : List BoxPicture) → OfChecked command (λ q. HasBoxes q before) → OfChecked command (λ q. LacksBoxes q before) → ⊥
 not_lacking command before a b =
@@ -281,26 +265,20 @@ module _ (before after : List BoxPicture) where
 
 -- ---- statuses of failures
 
-part_not_zero : (f : PartFailure) → part_status f ≡ 0 → ⊥
-part_not_zero (part.Bad place) e = omega (arith, e)
-part_not_zero part.Read e = omega (arith, e)
-part_not_zero part.Stalled e = omega (arith, e)
-part_not_zero part.TooLong e = omega (arith, e)
-
-plan_not_zero : (f : PlanFailure) → plan_status f ≡ 0 → ⊥
-plan_not_zero (plan.Stock s) e = omega (arith, e)
-plan_not_zero (plan.Part name f) e = part_not_zero f e
-plan_not_zero (plan.Unlawful k) e = omega (arith, e)
-plan_not_zero plan.Memory e = omega (arith, e)
-
-not_zero : (n : ℕ) → IsEither 2 7 n → n ≡ 0 → ⊥
-not_zero n (inl e) z = omega (arith, e, z)
-not_zero n (inr e) z = omega (arith, e, z)
+refused_not_zero : (n : ℕ) → IsEither 2 7 n → n ≡ 0 → ⊥
+refused_not_zero n (inl e) z = omega (arith, e, z)
+refused_not_zero n (inr e) z = omega (arith, e, z)
 
 not_answered : (f : Failure) → failure_status f ≡ 0 → ⊥
 not_answered failure.Usage e = omega (arith, e)
-not_answered (failure.Refused r) e = not_zero (refused_status r) (refused_either r) e
-not_answered (failure.Plan f) e = plan_not_zero f e
+not_answered (failure.Refused r) e = refused_not_zero (refused_status r) (refused_either r) e
+not_answered (failure.Plan (plan.Stock s)) e = omega (arith, e)
+not_answered (failure.Plan (plan.Part name (part.Bad place))) e = omega (arith, e)
+not_answered (failure.Plan (plan.Part name part.Read)) e = omega (arith, e)
+not_answered (failure.Plan (plan.Part name part.Stalled)) e = omega (arith, e)
+not_answered (failure.Plan (plan.Part name part.TooLong)) e = omega (arith, e)
+not_answered (failure.Plan (plan.Unlawful k)) e = omega (arith, e)
+not_answered (failure.Plan plan.Memory) e = omega (arith, e)
 not_answered failure.Memory e = omega (arith, e)
 
 -- ---- the corollaries
@@ -363,16 +341,12 @@ module _ (words : List (List ℕ)) (before after : List BoxPicture) (out₀ out 
   lacking_of (Failed failure.Memory) s h o = inr s
   lacking_of WriteFailed s h o = absurd (stocked_not_lacking h.1 h.1.holds.holds.boxes o)
 
+  -- what else is true of the query that the words mean
+  of_query : {P Q : Command → Checked → Type 0} (h : OfQuery words P) → Q h.command h.holds.checked → OfQuery words Q
+  of_query h x = record { command = h.command; means = h.means; holds = record { checked = h.holds.checked; is = h.holds.is; holds = x } }
+
   taken : (text : List ℕ) → OfQuery words (λ c q. MakesText c q text before after) → TakesBoxes words before after
-  taken text h = record {
-    command = h.command;
-    means = h.means;
-    holds = record {
-      checked = h.holds.checked;
-      is = h.holds.is;
-      holds = gives_back before after h.holds.checked h.holds.holds.ran;
-    };
-  }
+  taken text h = of_query h (gives_back before after h.holds.checked h.holds.holds.ran)
 
   -- whatever the status, the rack has its boxes again
   left_of : (e : Ending) → status ≡ status_of e → Why e → LeavesBoxes words before after status
@@ -385,13 +359,13 @@ module _ (words : List (List ℕ)) (before after : List BoxPicture) (out₀ out 
       early (inr e) = inr (inl (s ∙ e))
   left_of (Failed (failure.Plan f)) s h =
       elim (plan_left before after f h.0.command h.0.holds.checked h.0.holds.holds) [
-        | inl back ↦ inl (record { command = h.0.command; means = h.0.means; holds = record { checked = h.0.holds.checked; is = h.0.holds.is; holds = back } })
+        | inl back ↦ inl (of_query h.0 back)
         | inr same ↦ inr (same.0, early same.1)
       ]
     where
       early : (plan_status f ≡ 7) ⊎ LacksBoxes h.0.holds.checked before → EndsEarly words before status
       early (inl e) = inr (inl (s ∙ e))
-      early (inr lacks) = inr (inr (record { command = h.0.command; means = h.0.means; holds = record { checked = h.0.holds.checked; is = h.0.holds.is; holds = lacks } }))
+      early (inr lacks) = inr (inr (of_query h.0 lacks))
   left_of (Failed failure.Memory) s h = inr (h.0, inr (inl s))
   left_of WriteFailed s h = inl (taken h.0 h.1)
 
@@ -404,7 +378,7 @@ module _ (words : List (List ℕ)) (before after : List BoxPicture) (out₀ out 
       inr (s ∙ accepted_memory h.0.0.command r (moved o h.0.0).accepted h.0.0.holds)
   succeeds_of (Failed (failure.Plan f)) s h = λ files honest o well.
       inr (s ∙ plan_memory before after f files h.0.command h.0.holds.checked honest (moved o h.0) h.0.holds.is
-      (λ name why. well (inl (record { command = h.0.command; means = h.0.means; holds = record { checked = h.0.holds.checked; is = h.0.holds.is; holds = (name, why) } })))
+      (λ name why. well (inl (of_query h.0 (name, why))))
       h.0.holds.holds)
   succeeds_of (Failed failure.Memory) s h = λ files honest o well. inr s
   succeeds_of WriteFailed s h = λ files honest o well. absurd (well (inr h.3))

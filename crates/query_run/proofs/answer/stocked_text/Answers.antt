@@ -2,9 +2,12 @@ use Rattle.std.proofs.Common.{List, map}
 use Rattle.proc_api.specs.Boxes.{BoxPicture}
 use Rattle.query_run.specs.Steps.{items_of, part_spec}
 use Rattle.query_run.proofs.Causes.{plan-fault}
-use Rattle.query_run.proofs.Composing.{same_table}
+use Rattle.query_run.proofs.Composing.{is_plain, same_table}
 use Rattle.query_run.proofs.Stocked.{made-no-list, made-stock, part-of-table, plan-of-table, stocked-answer, stocked-cause}
 use Rattle.query_run.proofs.answer.stocked_text.Goals as goal
+
+pub plan_of-requires-clause-plain : goal.plan_of-requires-clause-plain
+plan_of-requires-clause-plain g c = is_plain c.args.command c.args.checked c.requires.checked
 
 pub plan_text-requires-clause-stock : goal.plan_text-requires-clause-stock
 plan_text-requires-clause-stock g c =

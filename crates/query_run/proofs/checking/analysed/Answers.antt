@@ -1,13 +1,11 @@
-use Rattle.std.proofs.Common.{ap, sym, ◌∙◌, map}
+use Rattle.std.proofs.Common.{true, ap, sym, ◌∙◌, map}
 use Rattle.query_model.specs.declared.query.TableDecl.{TableDecl}
-use Rattle.sql_text.proofs.BuiltQueries.{plain_of_read}
+use Rattle.sql_text.proofs.AnalysableQueries.{analysable_of_read}
 use Rattle.query_run.proofs.Composing.{checked_command}
 use Rattle.query_run.proofs.checking.analysed.Goals as goal
 
 pub analyse-requires : goal.analyse-requires
-analyse-requires c =
-    let p = plain_of_read c.args.query c.args.command.now.query c.requires in
-    record { plain = record { one_table = p.one_table; items = p.items; filter = p.filter; ungrouped = p.ungrouped; no_having = p.no_having } }
+analyse-requires c = analysable_of_read true c.args.query c.args.command.now.query c.requires
 
 pub returns-then-has_one_part-clause-checked : goal.returns-then-has_one_part-clause-checked
 returns-then-has_one_part-clause-checked c =
