@@ -2,7 +2,7 @@ ghost use Rattle.std.specs.Prelude.{◌<◌, length, map};
 ghost use Rattle.std.specs.List.{All};
 ghost use Rattle.proc_api.specs.Clauses.{IsBlank, Unloads};
 ghost use Rattle.exec_laws.specs.Runs.{box_at};
-ghost use Rattle.pipeline_exec.specs.UnderWay.{OnlyBox};
+ghost use Rattle.plan_run.specs.OneBox.{OnlyBox};
 
 use proc_api::{Processor, Rack};
 

@@ -1,4 +1,4 @@
-use Rattle.pipeline_exec.proofs.At.{box-read, box-set, only-box}
+use Rattle.plan_run.proofs.OneBox.{box-read, box-set, only-box}
 use Rattle.qrun.proofs.racks.unload_at.Goals as goal
 
 pub returns-clause-only : goal.returns-clause-only

@@ -1,0 +1,365 @@
+// Racks, readers and sinks that lack something, wait or fail.
+ghost use Rattle.std.specs.Prelude.{IsSome};
+
+use super::{
+    Counted, ample, answer, files_of, put_told, run_once, run_setting, run_shown, script_of,
+    source_of, text, told_by, words_of,
+};
+use crate::tests::boxes::add_boxes;
+use chunk_data::Bytes;
+use csv_rows::{FetchFault, Fetched, fetch};
+use outside_io::{Fake, FakeKind, FileReader, MemFiles, MemSink};
+use proc_api::Rack;
+use query_model::processor_spec::Kind;
+use query_run::run;
+use std::alloc::{AllocError, Global};
+use std::sync::Arc;
+use std::sync::atomic::{AtomicU64, Ordering};
+use std::test::Fail;
+
+/// A sink of lines that takes three bytes a call, and fails after so many: the line is cut there, and all else is the same.
+#[test]
+fn lines_are_cut_where_their_sink_fails(rt: HostRuntime) -> Result<(), Fail> {
+    let words = words_of(rt.alloc(), "SELECT cost FROM t", "t=f.csv:a Int64")?;
+    let cases: [(usize, &str); 5] = [
+        (0, ""),
+        (10, "qrun: refu"),
+        (32, "qrun: refused: UnknownColumn cos"),
+        (33, "qrun: refused: UnknownColumn cost"),
+        (34, "qrun: refused: UnknownColumn cost\n"),
+    ];
+    for (room, line) in cases.iter() {
+        let mut rack = Rack::new(rt.alloc());
+        let mut out = MemSink::new(rt.alloc(), 80, 80)?;
+        let mut err = MemSink::new(rt.alloc(), 3, *room)?;
+        let status = run(&rt, words.as_slice(), &mut rack, &mut out, &mut err);
+        assert_eq!(rt; status, 2);
+        assert_eq!(rt; out.written().len(), 0);
+        assert_eq!(rt; err.written(), line.as_bytes());
+    }
+    Ok(())
+}
+
+/// A line with numbers, cut where its sink fails.
+#[test]
+fn numbers_are_cut_where_their_sink_fails(rt: HostRuntime) -> Result<(), Fail> {
+    let words = words_of(rt.alloc(), "SELECT a FROM t", "t=f.csv:a Int64")?;
+    let line = "qrun: limit: boxes of kind Csv needed 1, rack has 0\n";
+    for room in 0..53 {
+        let mut rack = Rack::new(rt.alloc());
+        let mut out = MemSink::new(rt.alloc(), 80, 80)?;
+        let mut err = MemSink::new(rt.alloc(), 80, room)?;
+        let status = run(&rt, words.as_slice(), &mut rack, &mut out, &mut err);
+        assert_eq!(rt; status, 6);
+        assert_eq!(rt; err.written(), &line.as_bytes()[..room.min(line.len())]);
+    }
+    Ok(())
+}
+
+/// A reader that fails, or has nothing yet, at each of its calls in turn: opening, a block, the end.
+#[test]
+fn readers_fail_and_wait(rt: HostRuntime) -> Result<(), Fail> {
+    let words = words_of(rt.alloc(), "SELECT a FROM t", "t=f.csv:a Int64")?;
+    let fault = "qrun: read fault: table t part 1\n";
+    let cases: [(u64, FakeKind, u8, &str, &str); 8] = [
+        (1, FakeKind::Fail, 4, "", fault),
+        (2, FakeKind::Fail, 4, "", fault),
+        (3, FakeKind::Fail, 4, "", fault),
+        (4, FakeKind::Fail, 0, "7\n", ""),
+        (1, FakeKind::Pend, 4, "", fault),
+        (2, FakeKind::Pend, 0, "7\n", ""),
+        (3, FakeKind::Pend, 0, "7\n", ""),
+        (4, FakeKind::Pend, 0, "7\n", ""),
+    ];
+    for (call, kind, status, written, line) in cases.iter() {
+        let mut setting = ample(b"7\n");
+        setting.fake = Some(Fake {
+            call: *call,
+            kind: *kind,
+        });
+        let outcome = run_once(&rt, words.as_slice(), &setting)?;
+        assert_eq!(rt; outcome.status, *status, "status at call {call}");
+        assert_eq!(rt;
+            outcome.out.as_slice(),
+            written.as_bytes(),
+            "text at call {call}"
+        );
+        assert_eq!(rt;
+            outcome.err.as_slice(),
+            line.as_bytes(),
+            "line at call {call}"
+        );
+    }
+    Ok(())
+}
+
+/// A reader that has nothing yet 999,999 times before its block.
+#[test]
+fn a_reader_may_wait_many_times(rt: HostRuntime) -> Result<(), Fail> {
+    let words = words_of(rt.alloc(), "SELECT a FROM t", "t=f.csv:a Int64")?;
+    let mut setting = ample(b"7\n");
+    setting.waits = 999_999;
+    let waited = run_once(&rt, words.as_slice(), &setting)?;
+    assert_eq!(rt; waited.status, 0);
+    assert_eq!(rt; waited.out.as_slice(), b"7\n".as_slice());
+    Ok(())
+}
+
+/// And one more time.
+#[test]
+fn a_reader_stalls_at_a_million_waits(rt: HostRuntime) -> Result<(), Fail> {
+    let words = words_of(rt.alloc(), "SELECT a FROM t", "t=f.csv:a Int64")?;
+    let mut setting = ample(b"7\n");
+    setting.waits = 1_000_000;
+    let stalled = run_once(&rt, words.as_slice(), &setting)?;
+    assert_eq!(rt; stalled.status, 4);
+    assert_eq!(rt; stalled.out.len(), 0);
+    assert_eq!(rt;
+        stalled.err.as_slice(),
+        b"qrun: stalled: table t part 1\n".as_slice()
+    );
+    Ok(())
+}
+
+/// A rack that lacks a kind: how many sources, filters and expressions it has, the query, and the line.
+#[test]
+fn a_missing_kind_is_told(rt: HostRuntime) -> Result<(), Fail> {
+    let cases: [(u32, u32, u32, &str, &str); 5] = [
+        (
+            1,
+            0,
+            1,
+            "SELECT a FROM t WHERE a = 7",
+            "qrun: limit: boxes of kind Filter needed 1, rack has 0\n",
+        ),
+        (1, 0, 1, "SELECT a FROM t", "7\n"),
+        (
+            0,
+            0,
+            0,
+            "SELECT a FROM t WHERE a = 7",
+            "qrun: limit: boxes of kind Csv needed 1, rack has 0\n",
+        ),
+        (
+            1,
+            1,
+            0,
+            "SELECT a FROM t WHERE a = 7",
+            "qrun: limit: boxes of kind Expression needed 1, rack has 0\n",
+        ),
+        (
+            0,
+            0,
+            0,
+            "SELECT b FROM t",
+            "qrun: refused: UnknownColumn b\n",
+        ),
+    ];
+    for (sources, filters, expressions, query, told) in cases.iter() {
+        let words = words_of(rt.alloc(), query, "t=f.csv:a Int64")?;
+        let mut setting = ample(b"7\n");
+        setting.sources = *sources;
+        setting.filters = *filters;
+        setting.expressions = *expressions;
+        let outcome = run_once(&rt, words.as_slice(), &setting)?;
+        assert_eq!(rt; told_by(&outcome), told.as_bytes(), "{query}");
+    }
+    Ok(())
+}
+
+/// The boxes that weren't taken lie in front, and then the taken ones in the order of the plan. The same words run again.
+#[test]
+fn boxes_come_back_in_their_order(rt: HostRuntime) -> Result<(), Fail> {
+    let cases: [(&str, u8, &str, &str); 4] = [
+        (
+            "SELECT a FROM t WHERE a = 7",
+            0,
+            "7\n",
+            "ssffeec|sfesfec|sfesfec|",
+        ),
+        ("SELECT a FROM t", 0, "7\n8\n", "ssffeec|sffesec|ffsesec|"),
+        (
+            "SELECT b FROM t",
+            2,
+            "qrun: refused: UnknownColumn b\n",
+            "ssffeec|ssffeec|ssffeec|",
+        ),
+        ("", 2, "qrun: refused: Syntax\n", "ssffeec|ssffeec|ssffeec|"),
+    ];
+    for (query, status, told, kinds) in cases.iter() {
+        let words = words_of(rt.alloc(), query, "t=f.csv:a Int64")?;
+        let mut setting = ample(b"7\n8\n");
+        setting.sources = 2;
+        setting.filters = 2;
+        setting.expressions = 2;
+        setting.runs = 2;
+        let runs = run_setting(&rt, words.as_slice(), &setting)?;
+        assert_eq!(rt; runs.outcomes.len(), 2);
+        for outcome in runs.outcomes.as_slice() {
+            assert_eq!(rt; outcome.status, *status, "status of {query}");
+            assert_eq!(rt; told_by(outcome), told.as_bytes(), "{query}");
+        }
+        assert_eq!(rt; runs.kinds.as_str(), *kinds, "rack of {query}");
+    }
+    Ok(())
+}
+
+/// After a fault the same words run again by the same rack.
+#[test]
+fn a_fault_leaves_the_rack_for_another_run(rt: HostRuntime) -> Result<(), Fail> {
+    let words = words_of(rt.alloc(), "SELECT a FROM t", "t=f.csv:a Int64")?;
+    let mut setting = ample(b"7\n");
+    setting.sources = 1;
+    setting.runs = 2;
+    setting.fake = Some(Fake {
+        call: 3,
+        kind: FakeKind::Fail,
+    });
+    let runs = run_setting(&rt, words.as_slice(), &setting)?;
+    let wanted: [(u8, &str); 2] = [(4, ""), (0, "7\n")];
+    assert_eq!(rt; runs.outcomes.len(), 2);
+    for ((status, written), outcome) in wanted.iter().zip(runs.outcomes.as_slice().iter()) {
+        assert_eq!(rt; outcome.status, *status);
+        assert_eq!(rt; outcome.out.as_slice(), written.as_bytes());
+    }
+    Ok(())
+}
+
+/// A source that counts is prepared: the query runs through the boxes.
+#[test]
+fn a_source_is_prepared(rt: HostRuntime) -> Result<(), Fail> {
+    let alloc = rt.alloc();
+    let words = words_of(alloc, "SELECT a FROM t", "t=f.csv:a Int64")?;
+    let setting = ample(b"7\n");
+    let prepared = Arc::new(alloc, AtomicU64::new(0))?;
+    let mut rack = Rack::new(alloc);
+    let source = Counted {
+        source: source_of(alloc, &setting)?,
+        prepared: Arc::try_clone(&prepared)?,
+    };
+    let source = Box::new(alloc, source)?;
+    put_told(&mut rack, setting.bytes, source)?;
+    add_boxes(&rt, &mut rack, Kind::Expression, 1)?;
+    add_boxes(&rt, &mut rack, Kind::Collect, 1)?;
+    let runs = run_shown(&rt, words.as_slice(), &mut rack, &setting, false)?;
+    assert_eq!(rt; runs.outcomes.len(), 1);
+    for outcome in runs.outcomes.as_slice() {
+        assert_eq!(rt; outcome.status, 0);
+        assert_eq!(rt; outcome.out.as_slice(), b"7\n".as_slice());
+    }
+    assert!(rt; prepared.load(Ordering::Relaxed) > 0);
+    Ok(())
+}
+
+/// More rows than one chunk holds.
+#[test]
+fn chunks_follow_each_other(rt: HostRuntime) -> Result<(), Fail> {
+    let mut bytes = Vec::new(rt.alloc());
+    for _row in 0..20_000 {
+        bytes.extend_from_slice(b"7\n")?;
+    }
+    let words = words_of(rt.alloc(), "SELECT a FROM t WHERE a = 7", "t=f.csv:a Int64")?;
+    let mut setting = ample(bytes.as_slice());
+    setting.sources = 1;
+    setting.room = 65_536;
+    let outcome = run_once(&rt, words.as_slice(), &setting)?;
+    assert_eq!(rt; outcome.status, 0);
+    assert!(rt; outcome.out.as_slice() == bytes.as_slice());
+    Ok(())
+}
+
+/// A sink that takes one byte a call, one that fails after five bytes, and one that takes nothing.
+#[test]
+fn sinks_take_little(rt: HostRuntime) -> Result<(), Fail> {
+    let words = words_of(rt.alloc(), "SELECT a FROM t", "t=f.csv:a Int64")?;
+    let cases: [(usize, u8, &str, &str); 4] = [
+        (9, 0, "123\n4567\n", ""),
+        (8, 5, "123\n4567", "qrun: write fault\n"),
+        (5, 5, "123\n4", "qrun: write fault\n"),
+        (0, 5, "", "qrun: write fault\n"),
+    ];
+    for (room, status, written, line) in cases.iter() {
+        let mut setting = ample(b"123\n4567\n");
+        setting.step = 1;
+        setting.room = *room;
+        let outcome = run_once(&rt, words.as_slice(), &setting)?;
+        assert_eq!(rt; outcome.status, *status, "status with room for {room}");
+        assert_eq!(rt;
+            outcome.out.as_slice(),
+            written.as_bytes(),
+            "text with room for {room}"
+        );
+        assert_eq!(rt;
+            outcome.err.as_slice(),
+            line.as_bytes(),
+            "line with room for {room}"
+        );
+    }
+    Ok(())
+}
+
+/// A missing file, and no words.
+#[test]
+fn words_and_files_may_be_missing(rt: HostRuntime) -> Result<(), Fail> {
+    let words = words_of(rt.alloc(), "SELECT a FROM t", "t=g.csv:a Int64")?;
+    let missing = run_once(&rt, words.as_slice(), &ample(b"1\n"))?;
+    assert_eq!(rt; missing.status, 4);
+    assert_eq!(rt;
+        missing.err.as_slice(),
+        b"qrun: read fault: table t part 1\n".as_slice()
+    );
+    let none = run_once(&rt, &[], &ample(b"1\n"))?;
+    assert_eq!(rt; none.status, 1);
+    assert_eq!(rt;
+        none.err.as_slice(),
+        b"qrun: usage: qrun --query QUERY [--tables TABLES] [--threads N] [--chunk N] [--header]\n".as_slice()
+    );
+    Ok(())
+}
+
+/// One read after another over a file at the limit, and one byte beyond it.
+#[test]
+fn fetches_keep_the_limit(rt: HostRuntime) -> Result<(), Fail> {
+    let cases: [(&[u8], &str); 3] = [
+        (b"0123456789", "more whole"),
+        (b"0123456789a", "too long"),
+        (b"", "whole"),
+    ];
+    for (bytes, answers) in cases.iter() {
+        let found = fetched(rt.alloc(), bytes)?;
+        assert_eq!(rt; found.as_str(), *answers);
+    }
+    Ok(())
+}
+
+/// What the reads of the bytes answer within the limit of ten.
+fn fetched(alloc: Global, bytes: &[u8]) -> Result<String, AllocError> {
+    let script = script_of(alloc, None)?;
+    let mut files = MemFiles::new(alloc, files_of(alloc, bytes)?, script);
+    let mut held = Bytes::new(alloc);
+    match files.open_path(&text(alloc, b"f.csv")?) {
+        Ok(()) => first_fetch(alloc, &mut files, &mut held),
+        Err(_) => String::from_str(alloc, "failed"),
+    }
+}
+
+fn first_fetch(alloc: Global, files: &mut MemFiles, held: &mut Bytes) -> Result<String, AllocError>
+    requires { IsSome files.old.stands }
+{
+    match fetch(files, held, 10) {
+        Ok(Fetched::Whole) => String::from_str(alloc, "whole"),
+        Ok(Fetched::Pending) => String::from_str(alloc, "pending"),
+        Err(FetchFault::TooLong(_)) => String::from_str(alloc, "too long"),
+        Err(_) => String::from_str(alloc, "failed"),
+        Ok(Fetched::More) => second_fetch(alloc, files, held),
+    }
+}
+
+fn second_fetch(alloc: Global, files: &mut MemFiles, held: &mut Bytes) -> Result<String, AllocError>
+    requires { IsSome files.old.stands }
+{
+    match fetch(files, held, 10) {
+        Ok(Fetched::Whole) => String::from_str(alloc, "more whole"),
+        _ => String::from_str(alloc, "more, and not whole"),
+    }
+}

@@ -1,0 +1,460 @@
+// Queries: what is written, and what is told of those that are refused.
+use super::{answer, text, told_by};
+use std::alloc::{AllocError, Global};
+use std::test::Fail;
+
+/// Valid files: the columns, the query, the file, and what is written.
+#[test]
+fn answers_are_written(rt: HostRuntime) -> Result<(), Fail> {
+    let cases: [(&str, &str, &[u8], &[u8]); 14] = [
+        (
+            "a Int64,b String",
+            "SELECT a FROM t",
+            b"7,x\n7,y\n",
+            b"7\n7\n",
+        ),
+        ("a Int64,b String", "SELECT a FROM t", b"", b""),
+        (
+            "a String,b String,c String",
+            "SELECT a, b, c FROM t",
+            b"\"say \"\"hi\"\"\",\"a,b\",\"x\ny\"\n",
+            b"\"say \"\"hi\"\"\",\"a,b\",\"x\ny\"\n",
+        ),
+        ("a String", "SELECT a FROM t", b"\xff\n", b"\"\xff\"\n"),
+        (
+            "a Int64,b String",
+            "SELECT b, a, b FROM t",
+            b"1,x\n2,y\n",
+            b"\"x\",1,\"x\"\n\"y\",2,\"y\"\n",
+        ),
+        (
+            "a Int64",
+            "SELECT a FROM t",
+            b"9223372036854775807\n-9223372036854775808\n",
+            b"9223372036854775807\n-9223372036854775808\n",
+        ),
+        (
+            "a UInt64",
+            "SELECT a FROM t",
+            b"18446744073709551615\n0\n",
+            b"18446744073709551615\n0\n",
+        ),
+        (
+            "a Int64",
+            "SELECT a FROM t",
+            b"-0\n007\n-08\n",
+            b"0\n7\n-8\n",
+        ),
+        ("a Int64", "SELECT a FROM t", b"\"12\"\n", b"12\n"),
+        ("a Int64", "SELECT a FROM t", b"\xef\xbb\xbf7\n", b"7\n"),
+        (
+            "a Int64,b String",
+            "SELECT a, b FROM t",
+            b"1,x\r\n2,y\r3,z",
+            b"1,\"x\"\n2,\"y\"\n3,\"z\"\n",
+        ),
+        ("a Int64", "SELECT a FROM t", b"\n1\n\n2\n\n", b"1\n2\n"),
+        (
+            "a String,b String",
+            "SELECT a, b FROM t",
+            b",\n\"\",\n",
+            b"\"\",\"\"\n\"\",\"\"\n",
+        ),
+        ("a String", "SELECT a FROM t", b" x \n", b"\" x \"\n"),
+    ];
+    for (columns, query, bytes, written) in cases.iter() {
+        let outcome = answer(&rt, columns, query, bytes)?;
+        assert_eq!(rt; outcome.status, 0, "status of {query} over {columns}");
+        assert_eq!(rt;
+            outcome.out.as_slice(),
+            *written,
+            "text of {query} over {columns}"
+        );
+        assert_eq!(rt; outcome.err.len(), 0, "no line for {query}");
+    }
+    Ok(())
+}
+
+/// What is not answered: the columns, the query, the file, the status and the line.
+#[test]
+fn other_ends_tell_their_line(rt: HostRuntime) -> Result<(), Fail> {
+    let cases: [(&str, &str, &[u8], u8, &str); 11] = [
+        (
+            "a Int64",
+            "SELECT a FROM t",
+            b"1\nz\n",
+            3,
+            "qrun: bad data: table t part 1 row 2 column 1\n",
+        ),
+        (
+            "a Int64",
+            "SELECT a FROM t",
+            b"1\n2,3\n",
+            3,
+            "qrun: bad data: table t part 1 row 2 fields 2\n",
+        ),
+        (
+            "a Int64,b Int64",
+            "SELECT a FROM t",
+            b"1,2\n3\n",
+            3,
+            "qrun: bad data: table t part 1 row 2 fields 1\n",
+        ),
+        (
+            "a Int64",
+            "SELECT a FROM t",
+            b"9223372036854775808\n",
+            3,
+            "qrun: bad data: table t part 1 row 1 column 1\n",
+        ),
+        (
+            "a UInt64",
+            "SELECT a FROM t",
+            b"-1\n",
+            3,
+            "qrun: bad data: table t part 1 row 1 column 1\n",
+        ),
+        (
+            "a Int64",
+            "SELECT a FROM t",
+            b"+1\n",
+            3,
+            "qrun: bad data: table t part 1 row 1 column 1\n",
+        ),
+        (
+            "a Int64",
+            "SELECT a FROM t",
+            b" 1\n",
+            3,
+            "qrun: bad data: table t part 1 row 1 column 1\n",
+        ),
+        (
+            "a Int64,b Int64",
+            "SELECT a FROM t",
+            b"1,x\n",
+            3,
+            "qrun: bad data: table t part 1 row 1 column 2\n",
+        ),
+        (
+            "a Int32",
+            "SELECT a FROM t",
+            b"1\n",
+            1,
+            "qrun: usage: qrun --query QUERY [--tables TABLES] [--threads N] [--chunk N] [--header]\n",
+        ),
+        (
+            "a Int64,a Int64",
+            "SELECT a FROM t",
+            b"1\n",
+            1,
+            "qrun: usage: qrun --query QUERY [--tables TABLES] [--threads N] [--chunk N] [--header]\n",
+        ),
+        (
+            "",
+            "SELECT a FROM t",
+            b"1\n",
+            1,
+            "qrun: usage: qrun --query QUERY [--tables TABLES] [--threads N] [--chunk N] [--header]\n",
+        ),
+    ];
+    for (columns, query, bytes, status, line) in cases.iter() {
+        let outcome = answer(&rt, columns, query, bytes)?;
+        assert_eq!(rt; outcome.status, *status, "status of {query} over {columns}");
+        assert_eq!(rt;
+            outcome.err.as_slice(),
+            line.as_bytes(),
+            "line of {query} over {columns}"
+        );
+        assert_eq!(rt; outcome.out.len(), 0, "nothing written for {query}");
+    }
+    Ok(())
+}
+
+/// Items with arithmetic: the columns, the query, the file, and what is written.
+#[test]
+fn items_are_evaluated(rt: HostRuntime) -> Result<(), Fail> {
+    let cases: [(&str, &str, &[u8], &[u8]); 7] = [
+        // arithmetic wraps, and a difference is an Int64
+        (
+            "a UInt64,b UInt64",
+            "SELECT a - b FROM t",
+            b"0,1\n",
+            b"-1\n",
+        ),
+        (
+            "a UInt64",
+            "SELECT a + 1 FROM t",
+            b"18446744073709551615\n",
+            b"0\n",
+        ),
+        (
+            "a Int64",
+            "SELECT a * 2 FROM t",
+            b"4611686018427387904\n",
+            b"-9223372036854775808\n",
+        ),
+        // precedence, grouping to the left, parentheses
+        (
+            "a Int64,b Int64",
+            "SELECT a + b * 2, (a + b) * 2 FROM t",
+            b"1,2\n",
+            b"5,6\n",
+        ),
+        (
+            "a Int64",
+            "SELECT a - 1 - 1, a - (1 - a) FROM t",
+            b"5\n",
+            b"3,9\n",
+        ),
+        ("a Int64", "SELECT a * -1, 2 - a FROM t", b"5\n", b"-5,-3\n"),
+        ("u UInt64", "SELECT u + -0 FROM t", b"5\n", b"5\n"),
+    ];
+    for (columns, query, bytes, written) in cases.iter() {
+        let outcome = answer(&rt, columns, query, bytes)?;
+        assert_eq!(rt; outcome.status, 0, "status of {query}");
+        assert_eq!(rt; outcome.out.as_slice(), *written, "text of {query}");
+        assert_eq!(rt; outcome.err.len(), 0, "no line for {query}");
+    }
+    Ok(())
+}
+
+/// Conditions on numbers: the columns, the query, the file, and what is written.
+#[test]
+fn conditions_choose_rows(rt: HostRuntime) -> Result<(), Fail> {
+    let cases: [(&str, &str, &[u8], &[u8]); 9] = [
+        // no row passes
+        ("a Int64", "SELECT a FROM t WHERE a > 5", b"1\n2\n3\n", b""),
+        // numbers of two types are compared by value
+        (
+            "a Int64,b UInt64",
+            "SELECT a FROM t WHERE a < b AND NOT a = 7",
+            b"-1,0\n7,9\n5,5\n",
+            b"-1\n",
+        ),
+        (
+            "a Int64",
+            "SELECT a FROM t WHERE a = 1 OR a = 2 AND a = 3",
+            b"1\n2\n3\n",
+            b"1\n",
+        ),
+        (
+            "a Int64",
+            "SELECT a FROM t WHERE (a = 1 OR a = 2) AND a != 1",
+            b"1\n2\n3\n",
+            b"2\n",
+        ),
+        (
+            "a Int64",
+            "SELECT a FROM t WHERE NOT (a < 2 OR a >= 3)",
+            b"1\n2\n3\n",
+            b"2\n",
+        ),
+        (
+            "a Int64",
+            "SELECT a FROM t WHERE a + 1 = 2 * a",
+            b"1\n2\n",
+            b"1\n",
+        ),
+        (
+            "a Int64",
+            "SELECT a FROM t WHERE 1 = 1",
+            b"1\n2\n",
+            b"1\n2\n",
+        ),
+        ("a Int64", "SELECT a FROM t WHERE 1 <> 1", b"1\n2\n", b""),
+        ("a Int64", "SELECT a FROM t WHERE 2 <= a", b"1\n2\n", b"2\n"),
+    ];
+    for (columns, query, bytes, written) in cases.iter() {
+        let outcome = answer(&rt, columns, query, bytes)?;
+        assert_eq!(rt; outcome.status, 0, "status of {query}");
+        assert_eq!(rt; outcome.out.as_slice(), *written, "text of {query}");
+        assert_eq!(rt; outcome.err.len(), 0, "no line for {query}");
+    }
+    Ok(())
+}
+
+/// Conditions on texts, names, and the ways that a query may be written.
+#[test]
+fn texts_and_names_are_read(rt: HostRuntime) -> Result<(), Fail> {
+    let cases: [(&str, &str, &[u8], &[u8]); 10] = [
+        // texts are compared by bytes
+        (
+            "a Int64,b String",
+            "SELECT a FROM t WHERE b = 'x'",
+            b"1,x\n2,y\n3,x\n",
+            b"1\n3\n",
+        ),
+        (
+            "b String",
+            "SELECT b FROM t WHERE b < 'b'",
+            b"a\nB\nb\n",
+            b"\"a\"\n\"B\"\n",
+        ),
+        (
+            "b String",
+            "SELECT b FROM t WHERE b == 'it''s'",
+            b"it's\nits\n",
+            b"\"it's\"\n",
+        ),
+        (
+            "a String,b String",
+            "SELECT a FROM t WHERE a > b",
+            b"x,y\ny,x\n",
+            b"\"y\"\n",
+        ),
+        // all columns, names with the table, aliases
+        (
+            "a Int64,b String",
+            "SELECT * FROM t",
+            b"1,x\n2,y\n",
+            b"1,\"x\"\n2,\"y\"\n",
+        ),
+        ("a Int64", "SELECT t.a, t . a + 1 FROM t", b"1\n", b"1,2\n"),
+        (
+            "a Int64,b String",
+            "SELECT b AS a, a AS b FROM t WHERE a = 1",
+            b"1,x\n",
+            b"\"x\",1\n",
+        ),
+        // the way that it is written
+        ("a Int64", "select a from t where a = 1;", b"1\n2\n", b"1\n"),
+        ("a Int64", "\tSELECT\r\na ,(a+1)FROM t", b"1\n", b"1,2\n"),
+        ("count Int64", "SELECT count FROM t", b"1\n", b"1\n"),
+    ];
+    for (columns, query, bytes, written) in cases.iter() {
+        let outcome = answer(&rt, columns, query, bytes)?;
+        assert_eq!(rt; outcome.status, 0, "status of {query}");
+        assert_eq!(rt; outcome.out.as_slice(), *written, "text of {query}");
+        assert_eq!(rt; outcome.err.len(), 0, "no line for {query}");
+    }
+    Ok(())
+}
+
+/// Refused texts and queries over `a Int64,b String`, and what the line says behind `refused: `.
+#[test]
+fn refusals_are_told(rt: HostRuntime) -> Result<(), Fail> {
+    let cases: [(&str, &str); 25] = [
+        ("", "Syntax"),
+        ("SELECT FROM t", "Syntax"),
+        ("SELECT a b FROM t", "Syntax"),
+        ("SELECT a FROM t WHERE a", "Syntax"),
+        ("SELECT a FROM t; ;", "Syntax"),
+        ("SELECT a FROM t WHERE b = 'x", "Syntax"),
+        (
+            "SELECT a FROM t LIMIT 18446744073709551616",
+            "NumberTooLarge",
+        ),
+        ("SELECT a FROM t LIMIT 1", "NotBuilt"),
+        ("SELECT a FROM t GROUP BY a", "NotBuilt"),
+        ("SELECT count() FROM t", "NotBuilt"),
+        ("SELECT a FROM t ORDER BY a", "NotBuilt"),
+        ("SELECT a FROM t JOIN u ON t.a = u.a", "NotBuilt"),
+        ("SELECT number FROM numbers(3)", "NotBuilt"),
+        ("SELECT a FROM x", "UnknownTable x"),
+        ("SELECT c FROM x", "UnknownTable x"),
+        ("SELECT c FROM t", "UnknownColumn c"),
+        ("SELECT A FROM t", "UnknownColumn A"),
+        ("SELECT a, d + c FROM t WHERE e = 1", "UnknownColumn d"),
+        ("SELECT u . a FROM t", "UnknownColumn u.a"),
+        ("SELECT a FROM t WHERE c = 1", "UnknownColumn c"),
+        ("SELECT a + b FROM t", "TypeMismatch"),
+        ("SELECT a FROM t WHERE b = 1", "TypeMismatch"),
+        ("SELECT 1 FROM t", "TypeMismatch"),
+        ("SELECT 1 + 1 FROM t", "TypeMismatch"),
+        ("SELECT a - 9223372036854775808 FROM t", "TypeMismatch"),
+    ];
+    for (query, code) in cases.iter() {
+        let outcome = answer(&rt, "a Int64,b String", query, b"1,x\n")?;
+        let line = format!(in rt.alloc(); "qrun: refused: {code}\n")?;
+        assert_eq!(rt; outcome.err.as_slice(), line.as_bytes(), "line of {query}");
+        assert_eq!(rt; outcome.status, 2, "status of {query}");
+        assert_eq!(rt; outcome.out.len(), 0, "nothing written for {query}");
+    }
+    Ok(())
+}
+
+/// A front, a piece so many times, and an end.
+fn repeated(
+    alloc: Global,
+    front: &str,
+    piece: &str,
+    times: u32,
+    end: &str,
+) -> Result<String, AllocError> {
+    let mut query = String::from_str(alloc, front)?;
+    for _ in 0..times {
+        query.push_str(piece)?;
+    }
+    query.push_str(end)?;
+    Ok(query)
+}
+
+/// Queries at a limit and one beyond it: the front, the piece and how often it stands, the end, the status, and what is
+/// written or told.
+#[test]
+fn queries_keep_the_limits(rt: HostRuntime) -> Result<(), Fail> {
+    let cases: [(&str, &str, u32, &str, u8, &str); 8] = [
+        ("SELECT a FROM t WHERE ", "NOT ", 1000, "a = 1", 0, "1\n"),
+        (
+            "SELECT a FROM t WHERE a = 1",
+            " AND a = 1",
+            1000,
+            "",
+            0,
+            "1\n",
+        ),
+        ("SELECT a", "+a", 1000, " FROM t", 0, "1001\n"),
+        (
+            "SELECT a",
+            "+a",
+            1001,
+            " FROM t",
+            2,
+            "qrun: refused: TooComplex\n",
+        ),
+        ("SELECT a", ",b", 63, " FROM t WHERE a = 2", 0, ""),
+        (
+            "SELECT a",
+            ",a",
+            64,
+            " FROM t",
+            2,
+            "qrun: refused: TooWide\n",
+        ),
+        ("SELECT a FROM t", " ", 65_521, "", 0, "1\n"),
+        (
+            "SELECT a FROM t",
+            " ",
+            65_522,
+            "",
+            2,
+            "qrun: refused: TooLong\n",
+        ),
+    ];
+    for (front, piece, times, end, status, told) in cases.iter() {
+        let query = repeated(rt.alloc(), front, piece, *times, end)?;
+        let outcome = answer(&rt, "a Int64,b String", query.as_str(), b"1,x\n")?;
+        assert_eq!(rt;
+            outcome.status,
+            *status,
+            "status of {front}{piece} {times} times"
+        );
+        assert_eq!(rt;
+            told_by(&outcome),
+            told.as_bytes(),
+            "{front}{piece} {times} times"
+        );
+    }
+    Ok(())
+}
+
+/// Parentheses as deep as the limit allows.
+#[test]
+fn parentheses_nest_a_thousand_deep(rt: HostRuntime) -> Result<(), Fail> {
+    let opened = repeated(rt.alloc(), "SELECT a FROM t WHERE ", "(", 1000, "a = 1")?;
+    let query = repeated(rt.alloc(), opened.as_str(), ")", 1000, "")?;
+    let outcome = answer(&rt, "a Int64,b String", query.as_str(), b"1,x\n2,y\n")?;
+    assert_eq!(rt; outcome.status, 0);
+    assert_eq!(rt; outcome.out.as_slice(), b"1\n".as_slice());
+    Ok(())
+}
