@@ -6,6 +6,8 @@
 #![tactic(auto)]
 
 #[cfg(test)]
+mod analysis_tests;
+#[cfg(test)]
 mod chunk_data_tests;
 #[cfg(test)]
 mod command_line_tests;
@@ -17,6 +19,8 @@ mod expr_eval_tests;
 mod outside_io_tests;
 #[cfg(test)]
 mod query_model_tests;
+#[cfg(test)]
+mod select_planner_tests;
 #[cfg(test)]
 mod sql_grammar_tests;
 #[cfg(test)]

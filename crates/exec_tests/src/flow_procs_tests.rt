@@ -8,7 +8,7 @@ ghost use Rattle.proc_api.specs.Ports.{FollowsKept};
 ghost use Rattle.proc_api.specs.Clauses.{IsFresh, IsRunning};
 
 use chunk_data::{Chunk, Column, List, Memory};
-use flow_procs::{Collect, Expression, Filter};
+use flow_procs::{Collect, Expression, Filter, Limit, Numbers, Resize};
 use port_word::{Action, Port, PortView};
 use proc_api::{LoadRefusal, Processor, Rack, Status, WorkFault};
 use query_model::checked::{Cond, Expr};
@@ -29,10 +29,18 @@ fn show(text: &mut String, chunk: &Chunk) -> Result<(), Fail> {
     if chunk.types().len() == 0 {
         return Err("a column is missing".into());
     }
-    if let Column::Int64(numbers) = chunk.column(0) {
-        for number in numbers.as_slice() {
-            text.push_str(format!(in alloc; "{number} ")?.as_str())?;
+    match chunk.column(0) {
+        Column::Int64(numbers) => {
+            for number in numbers.as_slice() {
+                text.push_str(format!(in alloc; "{number} ")?.as_str())?;
+            }
         }
+        Column::UInt64(numbers) => {
+            for number in numbers.as_slice() {
+                text.push_str(format!(in alloc; "{number} ")?.as_str())?;
+            }
+        }
+        Column::Text(_) => {}
     }
     text.push('|')?;
     Ok(())
@@ -78,65 +86,65 @@ fn take_actions(view: &mut PortView) -> Result<Option<Chunk>, Fail>
     ensures follows { (p : BoxPicture) → FollowsKept p view.old → FollowsKept p view.new }
 {
     let mut pushed = None;
-    for _turn in 0..6 {
+    for _turn in 0..99 {
         match view.next_action() {
             Some(Action::Push(_, chunk)) => pushed = Some(chunk),
             Some(_) => {}
             None => return Ok(pushed),
         }
     }
-    Err("more actions than two ports can have".into())
+    Err("more actions than the ports can have".into())
 }
 
 // The consumer needs a chunk.
-fn need(view: &mut PortView) -> Result<(), Fail>
+fn need(view: &mut PortView, o: usize) -> Result<(), Fail>
     requires { view.old.actions ≡ [] }
     ensures follows { (p : BoxPicture) → FollowsKept p view.old → FollowsKept p view.new }
     ensures taken { view.new.actions ≡ [] }
 {
-    if view.outputs() != 1 {
+    if o >= view.outputs() {
         return Err("an output is missing".into());
     }
-    let mut flags = view.output_flags(0);
+    let mut flags = view.output_flags(o);
     flags.needed = true;
     flags.has_data = false;
-    view.see(Port::Output(0), flags, None);
+    view.see(Port::Output(o), flags, None);
     Ok(())
 }
 
 // A chunk comes at the input.
-fn give(view: &mut PortView, chunk: Chunk) -> Result<(), Fail>
+fn give(view: &mut PortView, i: usize, chunk: Chunk) -> Result<(), Fail>
     requires { view.old.actions ≡ [] }
     ensures follows { (p : BoxPicture) → FollowsKept p view.old → FollowsKept p view.new }
     ensures taken { view.new.actions ≡ [] }
 {
-    if view.inputs() != 1 {
+    if i >= view.inputs() {
         return Err("an input is missing".into());
     }
-    let mut flags = view.input_flags(0);
+    let mut flags = view.input_flags(i);
     if flags.has_data || flags.fin_in || flags.fin_out {
         return Err("the input takes no chunk".into());
     }
     flags.has_data = true;
-    view.see(Port::Input(0), flags, Some(chunk));
+    view.see(Port::Input(i), flags, Some(chunk));
     Ok(())
 }
 
 // The producer finishes the input.
-fn end(view: &mut PortView) -> Result<(), Fail>
+fn end(view: &mut PortView, i: usize) -> Result<(), Fail>
     requires { view.old.actions ≡ [] }
     ensures follows { (p : BoxPicture) → FollowsKept p view.old → FollowsKept p view.new }
     ensures taken { view.new.actions ≡ [] }
 {
-    if view.inputs() != 1 {
+    if i >= view.inputs() {
         return Err("an input is missing".into());
     }
-    let mut flags = view.input_flags(0);
+    let mut flags = view.input_flags(i);
     if flags.has_data {
         return Err("a chunk is left".into());
     }
     flags.fin_out = true;
-    view.see(Port::Input(0), flags, None);
+    view.see(Port::Input(i), flags, None);
     Ok(())
 }
 
@@ -153,8 +161,8 @@ fn pass(
     ensures follows { OnOk result (FollowsKept (seen b.new) view.new) }
     ensures taken { OnOk result (view.new.actions ≡ []) }
 {
-    need(view)?;
-    give(view, chunk)?;
+    need(view, 0)?;
+    give(view, 0, chunk)?;
     let Status::Ready = prepare(b, view) else {
         return Err("a chunk was not pulled".into());
     };
@@ -174,6 +182,8 @@ fn load(b: &mut Box<dyn Processor + Send>, spec: Spec) -> Result<(), LoadRefusal
     ensures running { OnOk result (IsRunning (seen b.new)) }
     ensures follows { OnOk result (FollowsKept (seen b.new) (new_picture 1 1)) }
     ensures follows_input { OnOk result (FollowsKept (seen b.new) (new_picture 1 0)) }
+    ensures follows_output { OnOk result (FollowsKept (seen b.new) (new_picture 0 1)) }
+    ensures follows_many { OnOk result (FollowsKept (seen b.new) (new_picture 32 16)) }
 {
     b.load(spec)
 }
@@ -211,8 +221,8 @@ fn filter_all(alloc: Global, b: &mut Box<dyn Processor + Send>) -> Result<String
     pass_shown(b, &mut view, second, &mut text)?;
     let third = numbers(alloc, &[9, 5])?;
     pass_shown(b, &mut view, third, &mut text)?;
-    need(&mut view)?;
-    end(&mut view)?;
+    need(&mut view, 0)?;
+    end(&mut view, 0)?;
     let Status::Finished = prepare(b, &mut view) else {
         return Err("the filter did not finish".into());
     };
@@ -291,6 +301,231 @@ fn an_expression_is_driven_by_hand_and_again(rt: HostRuntime) -> Result<(), Fail
     Ok(())
 }
 
+// Whether it ends where its output is needed, and closes its input.
+fn ends(
+    b: &mut Box<dyn Processor + Send>,
+    view: &mut PortView,
+    text: &mut String,
+) -> Result<(), Fail>
+    requires running { IsRunning (seen b.old) }
+    requires follows { FollowsKept (seen b.old) view.old }
+    requires taken { view.old.actions ≡ [] }
+{
+    need(view, 0)?;
+    if prepare(b, view) == Status::Finished {
+        text.push_str("end")?;
+        if view.inputs() == 1 && view.input_flags(0).fin_in {
+            text.push_str(", closed")?;
+        }
+    }
+    Ok(())
+}
+
+// Passes three more numbers, if they are to be passed.
+fn pass_more(
+    b: &mut Box<dyn Processor + Send>,
+    view: &mut PortView,
+    more: bool,
+    text: &mut String,
+) -> Result<(), Fail>
+    requires running { IsRunning (seen b.old) }
+    requires follows { FollowsKept (seen b.old) view.old }
+    requires taken { view.old.actions ≡ [] }
+    ensures running { OnOk result (IsRunning (seen b.new)) }
+    ensures follows { OnOk result (FollowsKept (seen b.new) view.new) }
+    ensures taken { OnOk result (view.new.actions ≡ []) }
+{
+    if !more {
+        return Ok(());
+    }
+    let second = numbers(*text.allocator(), &[4, 5, 6])?;
+    pass_shown(b, view, second, text)
+}
+
+// What a limit passes of two chunks of three rows, or of one.
+fn limit_all(alloc: Global, span: Span, both: bool) -> Result<String, Fail> {
+    let mut b: Box<dyn Processor + Send> = Box::new(alloc, Limit::new(alloc))?;
+    if load(&mut b, Spec::Limit(span)).is_err() {
+        return Err("a blank limit was not loaded".into());
+    }
+    let mut text = String::new(alloc);
+    let mut view = PortView::new(alloc, 1, 1)?;
+    let first = numbers(alloc, &[1, 2, 3])?;
+    pass_shown(&mut b, &mut view, first, &mut text)?;
+    pass_more(&mut b, &mut view, both, &mut text)?;
+    ends(&mut b, &mut view, &mut text)?;
+    Ok(text)
+}
+
+#[test]
+fn a_limit_passes_its_span_and_closes_its_input(rt: HostRuntime) -> Result<(), Fail> {
+    let cases = [
+        (0, 0, false, "end, closed"),
+        (3, 0, false, "1 2 3 |end, closed"),
+        (2, 0, false, "1 2 |end, closed"),
+        (4, 0, false, "1 2 3 |"),
+        (3, 1, true, "2 3 |4 |end, closed"),
+        (1, 3, true, "4 |end, closed"),
+        (9, 3, true, "4 5 6 |"),
+        (u64::MAX, u64::MAX, true, ""),
+    ];
+    for (count, skip, both, expected) in cases {
+        let text = limit_all(rt.alloc(), Span { count, skip }, both)?;
+        assert_eq!(rt; text.as_str(), expected, "{count} after {skip}");
+    }
+    Ok(())
+}
+
+// Makes a chunk, and shows what is pushed.
+fn produce(
+    b: &mut Box<dyn Processor + Send>,
+    view: &mut PortView,
+    text: &mut String,
+) -> Result<(), Fail>
+    requires running { IsRunning (seen b.old) }
+    requires follows { FollowsKept (seen b.old) view.old }
+    requires taken { view.old.actions ≡ [] }
+    ensures running { OnOk result (IsRunning (seen b.new)) }
+    ensures follows { OnOk result (FollowsKept (seen b.new) view.new) }
+    ensures taken { OnOk result (view.new.actions ≡ []) }
+{
+    need(view, 0)?;
+    let Status::Ready = prepare(b, view) else {
+        return Err("no row can be made".into());
+    };
+    if work(b).is_err() {
+        return Err("a work failed".into());
+    }
+    let _ = prepare(b, view);
+    show_pushed(view, text)
+}
+
+// Five numbers in chunks of two.
+fn numbers_all(alloc: Global, b: &mut Box<dyn Processor + Send>) -> Result<String, Fail> {
+    if load(b, Spec::Numbers(5, 2)).is_err() {
+        return Err("blank numbers were not loaded".into());
+    }
+    let mut text = String::new(alloc);
+    let mut view = PortView::new(alloc, 0, 1)?;
+    let Status::PortFull = prepare(b, &mut view) else {
+        return Err("numbers are made where none is needed".into());
+    };
+    let _ = take_actions(&mut view)?;
+    produce(b, &mut view, &mut text)?;
+    produce(b, &mut view, &mut text)?;
+    produce(b, &mut view, &mut text)?;
+    ends(b, &mut view, &mut text)?;
+    Ok(text)
+}
+
+#[test]
+fn numbers_are_driven_by_hand_and_again(rt: HostRuntime) -> Result<(), Fail> {
+    let alloc = rt.alloc();
+    let mut b: Box<dyn Processor + Send> = Box::new(alloc, Numbers::new(alloc))?;
+    let first = numbers_all(alloc, &mut b)?;
+    assert_eq!(rt; first.as_str(), "0 1 |2 3 |4 |end");
+    b.unload();
+    let again = numbers_all(alloc, &mut b)?;
+    assert_eq!(rt; again.as_str(), "0 1 |2 3 |4 |end");
+    assert!(rt; b.kind() == Kind::Numbers);
+    Ok(())
+}
+
+// The producers finish all inputs.
+fn end_all(view: &mut PortView) -> Result<(), Fail>
+    requires { view.old.actions ≡ [] }
+    ensures follows { (p : BoxPicture) → FollowsKept p view.old → FollowsKept p view.new }
+    ensures taken { view.new.actions ≡ [] }
+{
+    for i in 0..view.inputs() {
+        end(view, i)?;
+    }
+    Ok(())
+}
+
+// Pulls what it finds, and works it; what was pushed before.
+fn move_one(
+    b: &mut Box<dyn Processor + Send>,
+    view: &mut PortView,
+    text: &mut String,
+) -> Result<(), Fail>
+    requires running { IsRunning (seen b.old) }
+    requires follows { FollowsKept (seen b.old) view.old }
+    ensures running { OnOk result (IsRunning (seen b.new)) }
+    ensures follows { OnOk result (FollowsKept (seen b.new) view.new) }
+    ensures taken { OnOk result (view.new.actions ≡ []) }
+{
+    let Status::Ready = prepare(b, view) else {
+        return Err("an input with data starves".into());
+    };
+    if work(b).is_err() {
+        return Err("a work failed".into());
+    }
+    match take_actions(view)? {
+        Some(pushed) => show(text, &pushed),
+        None => Ok(()),
+    }
+}
+
+// Shows the chunk that was pushed.
+fn show_pushed(view: &mut PortView, text: &mut String) -> Result<(), Fail>
+    ensures taken { OnOk result (view.new.actions ≡ []) }
+    ensures follows { (p : BoxPicture) → FollowsKept p view.old → FollowsKept p view.new }
+{
+    match take_actions(view)? {
+        Some(pushed) => show(text, &pushed),
+        None => Err("no chunk was pushed".into()),
+    }
+}
+
+// The consumers of two outputs need a chunk.
+fn need_both(view: &mut PortView, a: usize, b: usize) -> Result<(), Fail>
+    requires { view.old.actions ≡ [] }
+    ensures follows { (p : BoxPicture) → FollowsKept p view.old → FollowsKept p view.new }
+    ensures taken { view.new.actions ≡ [] }
+{
+    need(view, a)?;
+    need(view, b)
+}
+
+// Chunks of two of 32 inputs go to two of 16 outputs.
+fn resize_all(alloc: Global, b: &mut Box<dyn Processor + Send>) -> Result<String, Fail> {
+    if load(b, Spec::Resize).is_err() {
+        return Err("a blank resize was not loaded".into());
+    }
+    let mut text = String::new(alloc);
+    let mut view = PortView::new(alloc, 32, 16)?;
+    need_both(&mut view, 3, 15)?;
+    let Status::NeedData = prepare(b, &mut view) else {
+        return Err("no input was asked for data".into());
+    };
+    let _ = take_actions(&mut view)?;
+    give(&mut view, 31, numbers(alloc, &[1, 2])?)?;
+    give(&mut view, 4, numbers(alloc, &[3])?)?;
+    move_one(b, &mut view, &mut text)?;
+    move_one(b, &mut view, &mut text)?;
+    let Status::PortFull = prepare(b, &mut view) else {
+        return Err("both outputs are full".into());
+    };
+    show_pushed(&mut view, &mut text)?;
+    end_all(&mut view)?;
+    ends(b, &mut view, &mut text)?;
+    Ok(text)
+}
+
+#[test]
+fn a_resize_is_driven_by_hand_and_again(rt: HostRuntime) -> Result<(), Fail> {
+    let alloc = rt.alloc();
+    let mut b: Box<dyn Processor + Send> = Box::new(alloc, Resize::new(alloc))?;
+    let first = resize_all(alloc, &mut b)?;
+    assert_eq!(rt; first.as_str(), "3 |1 2 |end");
+    b.unload();
+    let again = resize_all(alloc, &mut b)?;
+    assert_eq!(rt; again.as_str(), "3 |1 2 |end");
+    assert!(rt; b.kind() == Kind::Resize);
+    Ok(())
+}
+
 // Gives the collector a chunk, which it pulls, and makes room for the next.
 fn gather(b: &mut Box<dyn Processor + Send>, view: &mut PortView, chunk: Chunk) -> Result<(), Fail>
     requires running { IsRunning (seen b.old) }
@@ -304,7 +539,7 @@ fn gather(b: &mut Box<dyn Processor + Send>, view: &mut PortView, chunk: Chunk) 
         return Err("a chunk was not asked for".into());
     };
     let _ = take_actions(view)?;
-    give(view, chunk)?;
+    give(view, 0, chunk)?;
     let Status::Ready = prepare(b, view) else {
         return Err("a chunk was not pulled".into());
     };
@@ -325,7 +560,7 @@ fn collect_all(alloc: Global, b: &mut Box<dyn Processor + Send>) -> Result<Strin
     gather(b, &mut view, first)?;
     let second = numbers(alloc, &[7])?;
     gather(b, &mut view, second)?;
-    end(&mut view)?;
+    end(&mut view, 0)?;
     let Status::Finished = prepare(b, &mut view) else {
         return Err("the collector did not finish".into());
     };
