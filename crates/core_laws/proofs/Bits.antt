@@ -1,11 +1,10 @@
--- The bits of node words, and of the ends of edges.
-use Rattle.std.proofs.Common.{◌≡◌, ◌≢◌, ℕ, ◌+◌, ◌^◌, ◌<◌, eqb, Bool, true, false, not, bit_or, bit_xor, max, Option, Some, None, refl, sym, ap, subst, ◌∙◌, inl, inr, arith}
+-- The bits of node words, and the ends of edges.
+use Rattle.std.proofs.Common.{◌≡◌, ◌≢◌, ℕ, ◌+◌, ◌^◌, ◌<◌, ◌≤◌, eqb, Bool, true, false, not, bit_or, bit_xor, max, Option, Some, None, refl, sym, ap, subst, ◌∙◌, inl, inr, arith}
 use Rattle.std.specs.Int.{bit_at}
-use Rattle.std.proofs.lemmas.Bool.{cases_eq}
+use Rattle.std.proofs.lemmas.Bool.{both_ways, cases_eq, cases_Bool, eqb-true}
 use Rattle.std.proofs.lemmas.Nat.Bits.{bit_at_or, bit_at_xor, bit_at-pow_same, bit_at-pow_other, bit_at-lt, bit_at-zero}
-use Rattle.port_word.specs.declared.flags.Wire.{Wire}
-use Rattle.core_laws.specs.Views.{end_of, bit_of, is_end, names, is_set, is_unborn, wire_ok}
-use Rattle.core_laws.specs.NodeLaws.{is_named, WordHolds}
+use Rattle.core_laws.specs.Views.{Wire, end_of, bit_of, is_end, names, is_set, is_unborn, wire_ok}
+use Rattle.core_laws.specs.Laws.{is_named, WordHolds}
 use Rattle.core_laws.specs.Steps.{bit_at_end, peer_in}
 
 -- no bit of 0 is set
@@ -39,10 +38,7 @@ pub word-one : (k : ℕ) (on : Bool) → is_named k ≡ true → is_set (2 ^ k) 
     → WordHolds (2 ^ k) on
 word-one k on named held = record {
   held = held;
-  unborn = λ z. let e = pow-only k 61 z in grind
-      (arith, pow-clear k 62, pow-clear k 63, pow-clear k 60);
-  not_over = λ z. let e = pow-only k 62 z in grind (arith, pow-clear k 63, pow-clear k 60);
-  over = λ z. let e = pow-only k 63 z in grind (arith, pow-clear k 60);
+  lone = λ i j _ _ ne z. pow-clear k j (λ e. ne (pow-only k i z ∙ sym e));
   bits = λ i z. ap is_named (pow-only k i z) ∙ named;
 }
 
@@ -50,20 +46,16 @@ word-one k on named held = record {
 pub word-idle : WordHolds 0 false
 word-idle = record {
   held = refl;
-  unborn = grind arith;
-  not_over = grind arith;
-  over = grind arith;
-  bits = λ k z. grind (arith, zero-clear k);
+  lone = λ i j _ _ _ _. zero-clear j;
+  bits = λ k z. absurd (both_ways _ (zero-clear k) z);
 }
 
 -- a word that was told of a port
 pub word-told : (w k : ℕ) (on : Bool) → k < 48 → WordHolds w on → WordHolds (bit_or w (2 ^ k)) on
 word-told w k on small h = record {
-  held = grind (arith, or-other w k 62, h.held);
-  unborn = grind
-      (arith, or-other w k 60, or-other w k 61, or-other w k 62, or-other w k 63, h.unborn);
-  not_over = grind (arith, or-other w k 60, or-other w k 62, or-other w k 63, h.not_over);
-  over = grind (arith, or-other w k 60, or-other w k 63, h.over);
+  held = or-other w k 62 (λ z. omega arith) ∙ h.held;
+  lone = λ i j a b ne z. or-other w k j (λ y. omega arith)
+      ∙ h.lone i j a b ne (sym (or-other w k i (λ y. omega arith)) ∙ z);
   bits = λ i z. elim (cases_eq i k) [
     | inl e ↦ grind arith
     | inr ne ↦ h.bits i (sym (or-other w k i ne) ∙ z)
@@ -91,21 +83,29 @@ flip-other w i a b = ap (λ z. eqb z 1) same
         let y : bit_at (2 ^ 60 + 2 ^ 61) i ≡ 0 = none in
         let z = bit_at-lt w i in omega (arith, x, y, z)
 
--- the word of a node that was born has the bit first, and not the bit unborn
-pub flip-first : (w : ℕ) → is_set w 61 ≡ true → is_set w 60 ≡ false
-    → (is_set (flipped w) 60 ≡ true) × (is_set (flipped w) 61 ≡ false)
-flip-first w u f = (
-  grind (arith, bit_at_xor w (2 ^ 60 + 2 ^ 61) 60, bit_at-lt w 60),
-  grind (arith, bit_at_xor w (2 ^ 60 + 2 ^ 61) 61),
+-- the word of a node that was born has the bit first, and no other one of the four
+pub flip-lone : (w : ℕ) (on : Bool) → is_unborn w ≡ true → WordHolds w on
+    → (is_set (flipped w) 60 ≡ true)
+    × ((j : ℕ) → 60 ≤ j → j ≢ 60 → is_set (flipped w) j ≡ false)
+flip-lone w on unborn h = (
+  let x = h.lone 61 60 (omega arith) (omega arith) (λ z. omega arith) unborn in
+      grind (arith, x, bit_at_xor w (2 ^ 60 + 2 ^ 61) 60, bit_at-lt w 60),
+  λ j a b. elim (cases_eq j 61) [
+    | inl e ↦ subst (λ k. is_set (flipped w) k ≡ false) (sym e)
+        (grind (arith, bit_at_xor w (2 ^ 60 + 2 ^ 61) 61, bit_at-lt w 61))
+    | inr ne ↦ flip-other w j b ne
+        ∙ h.lone 61 j (omega arith) a (λ z. ne (sym z)) unborn
+  ],
 )
 
 -- the word of a node that was born
 pub word-born : (w : ℕ) (on : Bool) → is_unborn w ≡ true → WordHolds w on → WordHolds (flipped w) on
-word-born w on unborn h = let x = h.unborn unborn in let y = flip-first w unborn x.2 in record {
-  held = grind (arith, flip-other w 62, h.held);
-  unborn = grind arith;
-  not_over = grind (arith, flip-other w 62);
-  over = grind (arith, flip-other w 63);
+word-born w on unborn h = let x = flip-lone w on unborn h in record {
+  held = flip-other w 62 (λ z. omega arith) (λ z. omega arith) ∙ h.held;
+  lone = λ i j a b ne z. elim (cases_eq j 60) [
+    | inl e ↦ absurd (both_ways _ (x.1 i a (λ y. ne (y ∙ sym e))) z)
+    | inr y ↦ x.1 j b y
+  ];
   bits = λ i z. elim (cases_eq i 60) [
     | inl e ↦ ap is_named e
     | inr a ↦ elim (cases_eq i 61) [
@@ -117,33 +117,24 @@ word-born w on unborn h = let x = h.unborn unborn in let y = flip-first w unborn
 
 -- ---- ends of edges
 
--- an end's bit is a port's, and the end is a node
-pub end-within : (nodes : ℕ) (w : Wire) (b : Bool) → wire_ok nodes w ≡ true
-    → (bit_of b w < 48) × (end_of b w < nodes)
-end-within nodes w true h = (grind arith, grind arith)
-end-within nodes w false h = (grind arith, grind arith)
+-- an end's bit is a port's, the end is a node, and the other end is another one
+pub end-within : (nodes : ℕ) (w : Wire) → wire_ok nodes w ≡ true → (b : Bool)
+    → (bit_of b w < 48) × (end_of b w < nodes) × (end_of (not b) w ≢ end_of b w)
+end-within nodes w h true = (grind arith, grind arith, λ q. grind arith)
+end-within nodes w h false = (grind arith, grind arith, λ q. grind arith)
 
--- the two ends are two nodes
-pub ends-apart : (nodes : ℕ) (w : Wire) → wire_ok nodes w ≡ true → (b : Bool)
-    → end_of (not b) w ≢ end_of b w
-ends-apart nodes w h true q = grind arith
-ends-apart nodes w h false q = grind arith
-
--- what a step reads of an end's bit and of its peer
+-- what a step of the end n reads of its bit
 pub at-end : (nodes : ℕ) (w : Wire) → wire_ok nodes w ≡ true → (b : Bool) (n : ℕ) → end_of b w ≡ n
-    → (bit_at_end n (Some w) ≡ bit_of b w) × (peer_in n (Some w) ≡ end_of (not b) w)
-at-end nodes w h true n e = (grind arith, grind arith)
-at-end nodes w h false n e = (grind arith, grind arith)
+    → bit_at_end n (Some w) ≡ bit_of b w
+at-end nodes w h true n e = grind arith
+at-end nodes w h false n e = grind arith
 
-abbrev the : {A : Type 0} → A → Option A → A
-the a None = a
-the a (Some b) = b
-
-pub some-same : {A : Type 0} (a b : A) → Some a ≡ Some b → a ≡ b
-some-same a b h = ap (the a) h
-
-pub none-some : {A : Type 0} (a : A) → None ≡ Some a → ⊥
-none-some a h = grind arith
+-- and of its peer, the end b
+pub peer-of : (nodes : ℕ) (w : Wire) → wire_ok nodes w ≡ true → (b : Bool) (n : ℕ)
+    → end_of (not b) w ≡ n → (end_of b w ≡ peer_in n (Some w))
+    × (bit_of b w ≡ bit_at_end (peer_in n (Some w)) (Some w))
+peer-of nodes w h true n e = (grind arith, grind arith)
+peer-of nodes w h false n e = (grind arith, grind arith)
 
 -- the end b of an edge
 pub record EndOf (b : Bool) (n : ℕ) (x : Option Wire) : Type 0 where
@@ -153,13 +144,24 @@ pub record EndOf (b : Bool) (n : ℕ) (x : Option Wire) : Type 0 where
 
 -- where a node is an end there is a wire
 pub end-of : (b : Bool) (n : ℕ) (x : Option Wire) → is_end b n x ≡ true → EndOf b n x
-end-of b n None h = grind arith
-end-of b n (Some w) h = record { wire = w; is = refl; end = grind arith }
+end-of b n None h = absurd (both_ways false refl h)
+end-of b n (Some w) h = record { wire = w; is = refl; end = eqb-true _ _ h }
 
 -- a node that a wire names is one of its ends
-pub an-end : (n : ℕ) (x : Option Wire) → names n x ≡ true → (b : Bool) × (is_end b n x ≡ true)
-an-end n x h = go (is_end true n x) refl
-  where
-    go : (t : Bool) → is_end true n x ≡ t → (b : Bool) × (is_end b n x ≡ true)
-    go true q = (true, q)
-    go false q = (false, grind arith)
+pub an-end : (n : ℕ) (x : Option Wire) → names n x ≡ true → (b : Bool) × EndOf b n x
+an-end n x h = elim (cases_Bool (is_end true n x)) [
+  | inl q ↦ (true, end-of true n x q)
+  | inr q ↦ (false, end-of false n x (grind arith))
+]
+
+-- the end of the end
+pub not-not : (b : Bool) (w : Wire) → end_of (not (not b)) w ≡ end_of b w
+not-not true w = refl
+not-not false w = refl
+
+-- what holds of an end and of the other one
+pub both-ends : (Q : Bool → Type 0) (b : Bool) → Q b → Q (not b) → (a : Bool) → Q a
+both-ends Q true x y true = x
+both-ends Q true x y false = y
+both-ends Q false x y true = y
+both-ends Q false x y false = x

@@ -1,195 +1,677 @@
 -- Every step keeps the laws: of edges, of nodes, and of tokens.
-use Rattle.std.proofs.Common.{◌≡◌, ℕ, ◌+◌, ◌-◌, ◌^◌, ◌<◌, ◌≤◌, eqb, length, true, Option, Some, None, is_none, refl, sym, subst, arith}
-use Rattle.std.proofs.lemmas.Bool.{cond_both, eqb-true}
-use Rattle.std.proofs.lemmas.List.{length-set, get_or-set_same}
-use Rattle.port_word.specs.declared.flags.Wire.{Wire}
-use Rattle.core_laws.specs.declared.types.NodeState.{NodeState}
-use Rattle.core_laws.specs.declared.types.CoreState.{CoreState}
-use Rattle.core_laws.specs.declared.types.Step.{Step}
+use Rattle.std.proofs.Common.{◌≡◌, ◌≢◌, ℕ, ◌+◌, ◌-◌, ◌*◌, ◌^◌, ◌<◌, ◌≤◌, ◌&&◌, ◌||◌, eqb, length, set, List, [], ◌∷◌, Bool, true, false, not, cond, Option, Some, None, is_none, bit_or, refl, sym, ap, subst, ◌∙◌, inl, inr, arith}
+use Rattle.std.proofs.lemmas.Bool.{both_ways, cases_eq, cases_Bool, cond_both, ne_eqb, eqb-true, and_parts, or_cases, or_left, or_right}
+use Rattle.std.proofs.lemmas.List.{length-set, set-get_or, get_or-set_same, get_or-set_other, get_or_default, map-append}
+use Rattle.std.proofs.lemmas.List.Sums.{sum_by-set, sum_by-le, get_or-le-sum_by}
 use Rattle.core_laws.specs.declared.types.Step.TheVariants as step
-use Rattle.core_laws.specs.declared.types.Act.{Act}
-use Rattle.core_laws.specs.declared.types.Act.TheVariants.{Want, Unwant, Push, Pull, Finish, Close}
-use Rattle.core_laws.specs.Views.{no_port, node_at, port_at, put_node, bit_of, names}
-use Rattle.core_laws.specs.EdgeLaws.{Edges}
-use Rattle.core_laws.specs.NodeLaws.{WordHolds, by_debt, Nodes}
-use Rattle.core_laws.specs.TokenLaws.{counts, Tokens}
-use Rattle.core_laws.specs.Start.{fits}
-use Rattle.core_laws.specs.Laws.{Laws}
-use Rattle.core_laws.specs.Steps.{may_act, acted, node_after, looked, taken, left, told, telling, spent, marked, peer_in, bit_at_end, born, counted, wiring, learning, may, after}
-use Rattle.core_laws.proofs.Moves.{at-edge, may-act}
-use Rattle.core_laws.proofs.Edges.{put-same, act-edges, look-edges, edges-node, learn-edges, wire-edges}
-use Rattle.core_laws.proofs.Nodes.{keeps-view, Marks, marks-of, act-nodes, look-nodes, nodes-node, taken-nodes, over-nodes, rest-nodes, mark-nodes, learn-nodes, wire-nodes, born-nodes}
-use Rattle.core_laws.proofs.Tokens.{tokens-node, counts-held, taken-weight, mark-tokens, born-tokens, some-pending}
+use Rattle.core_laws.specs.Views.{Flags, Wire, Sizes, Sight, PortState, NodeState, CoreState, no_node, no_port, node_of, node_at, port_of, port_at, put_node, has, once, adding, without, edges_of, knows, flags_at, seeing, end_of, bit_of, names, is_set, is_over, is_unborn, counts, wire_ok, may_wire}
+use Rattle.core_laws.specs.Start.{fits, fresh_sight}
+use Rattle.core_laws.specs.Laws.{Sees, WireHolds, EdgeHolds, Edges, WordHolds, NodeHolds, lacks, is_excused, EndTold, Told, Nodes, weight, Tokens, Laws}
+use Rattle.core_laws.specs.Steps.{Act, Want, Unwant, Push, Pull, Finish, Close, Step, acting_end, acted, may_act, port_after, changed, tells, holds, looked, peer_in, bit_at_end, spent, told, telling, marked, is_updated, taken, left, is_none_of, learning, learned, wiring, born, counted, may, after}
+use Rattle.core_laws.proofs.Lists.{at_put, has-filter, once-filter, has-last, has-adding, once-last, once-adding, edges-seeing, seeing-here, seeing-other, flags-unknown, flags-last}
+use Rattle.core_laws.proofs.Bits.{zero-clear, pow-clear, or-other, or-here, or-more, word-one, word-idle, word-told, flip-other, flip-lone, word-born, end-within, at-end, peer-of, EndOf, end-of, an-end, not-not, both-ends}
+use Rattle.core_laws.proofs.Moves.{Moves, act-moves, same-flags, lacks-none, look-moves}
+
+-- what a state has that a step left; the tokens may be counted apart
+pub record Kept (c d : CoreState) : Type 0 where
+  pub edges : Edges d
+  pub nodes : Nodes d
+  pub tokens : Tokens c → Tokens d
+
+-- the laws of the edge e, whose port is p
+abbrev Holds : Sizes → List NodeState → ℕ → PortState → Type 0
+Holds s nodes e p = EdgeHolds s nodes e p × Told nodes e p.wire p.flags
+
+-- a step that changes neither ports nor nodes
+same-kept : (c : CoreState) (stopped : Bool) → Edges c → Nodes c
+    → Kept c (record c { stopped = stopped })
+same-kept c stopped edges nodes = record {
+  edges = record { count = edges.count; each = edges.each };
+  nodes = record { number = nodes.number; each = nodes.each; told = nodes.told };
+  tokens = λ t. record { pending = t.pending; few = t.few };
+}
+
+-- ---- a change of the view of one node, and of ports
+
+module _ (c : CoreState) (n : ℕ) (nd : NodeState) (inside : n < length c.nodes) where
+  abbrev old : NodeState
+  old = node_at c n
+
+  abbrev new : List NodeState
+  new = set c.nodes n nd
+
+  abbrev now : ℕ → NodeState
+  now m = node_of new m
+
+  -- what a change of one node leaves the same of it, it leaves of all
+  now-same : {B : Type 0} (g : NodeState → B) → g nd ≡ g old → (m : ℕ) → g (now m) ≡ g (node_at c m)
+  now-same g q m = at_put (λ x. g x ≡ g (node_at c m)) c.nodes n m nd no_node inside
+      (λ e. q ∙ sym (ap (λ k. g (node_at c k)) e)) (λ _. refl)
+
+  -- the laws of a state with these ports, this node, and another pending number
+  frame : (ps : List PortState) (p : ℕ) → length ps ≡ length c.ports → NodeHolds nd
+      → ((d : ℕ) → d < length c.ports → Holds c.sizes new d (port_of ps d))
+      → (Tokens c → (nd.tokens ≤ 2) × (p + weight old ≡ c.pending + weight nd))
+      → Edges c → Nodes c → Kept c (record c { ports = ps; nodes = new; pending = p })
+  frame ps p len holds each count edges nodes = record {
+    edges = record {
+      count = len ∙ edges.count;
+      each = λ d i. (each d (subst (λ k. d < k) len i)).0;
+    };
+    nodes = record {
+      number = length-set c.nodes n nd ∙ nodes.number;
+      each = λ m. at_put NodeHolds c.nodes n m nd no_node inside (λ _. holds) (λ _. nodes.each m);
+      told = λ d i. (each d (subst (λ k. d < k) len i)).1;
+    };
+    tokens = λ t. record {
+      pending = let z = sum_by-set weight c.nodes n nd no_node inside in let y = t.pending in
+          let x = (count t).1 in omega (arith, x, y, z);
+      few = λ m. at_put (λ y. y.tokens ≤ 2) c.nodes n m nd no_node inside (λ _. (count t).0)
+          (λ _. t.few m);
+    };
+  }
+
+  -- an edge that the node sees as before, with its excuses and debts; else the peer is excused
+  unmoved : (d : ℕ) (p : PortState) → flags_at d nd.seen ≡ flags_at d old.seen
+      → (knows d nd.seen ≡ true → names n p.wire ≡ true)
+      → ((b : Bool) (w : Wire) → p.wire ≡ Some w → end_of b w ≡ n
+      → is_excused old d (bit_of b w) ≡ true → is_excused nd d (bit_of b w) ≡ true)
+      → ((b : Bool) (w : Wire) → p.wire ≡ Some w → end_of (not b) w ≡ n → has d old.owes ≡ true
+      → (is_excused (now (end_of b w)) d (bit_of b w) || has d nd.owes) ≡ true)
+      → Holds c.sizes c.nodes d p → Holds c.sizes new d p
+  unmoved d p same named excused owes h = (
+    record {
+      wired = h.0.wired;
+      content = h.0.content;
+      bare = h.0.bare;
+      sees = λ b w i. subst (λ f. Sees b p.flags f) (sym (flags (end_of b w))) (h.0.sees b w i);
+      learned = λ m. at_put (λ y. knows d y.seen ≡ true → names m p.wire ≡ true) c.nodes n m nd
+          no_node inside (λ t k. subst (λ i. names i p.wire ≡ true) (sym t) (named k))
+          (λ _. h.0.learned m);
+    },
+    λ b w i l. elim (or_cases _ _
+        (h.1 b w i (subst (λ f. lacks b p.flags f ≡ true) (flags (end_of b w)) l))) [
+          | inl x ↦ or_left _ _ (at_put (λ y. is_excused y d (bit_of b w) ≡ true) c.nodes n
+              (end_of b w) nd no_node inside (λ t. excused b w i t
+              (subst (λ m. is_excused (node_at c m) d (bit_of b w) ≡ true) t x)) (λ _. x))
+          | inr z ↦ at_put (λ y. (is_excused (now (end_of b w)) d (bit_of b w) || has d y.owes)
+              ≡ true) c.nodes n (end_of (not b) w) nd no_node inside (λ t. owes b w i t
+              (subst (λ m. has d (node_at c m).owes ≡ true) t z)) (λ _. or_right _ _ z)
+        ],
+  )
+    where
+      flags : (m : ℕ) → flags_at d (now m).seen ≡ flags_at d (node_at c m).seen
+      flags = now-same (λ y. flags_at d y.seen) same
+
+  -- what holds at both ends of the wire w, of which the node is the end b
+  at-ends : (Q : Bool → Wire → NodeState → NodeState → Type 0) (b : Bool) (w : Wire)
+      → wire_ok c.sizes.nodes w ≡ true → end_of b w ≡ n → Q b w nd (node_at c (end_of (not b) w))
+      → Q (not b) w (node_at c (end_of (not b) w)) nd → (a : Bool) (v : Wire) → v ≡ w
+      → Q a v (now (end_of a v)) (now (end_of (not a) v))
+  at-ends Q b w ok at x y a v t = subst
+      (λ z. Q a z (now (end_of a z)) (now (end_of (not a) z))) (sym t)
+      (both-ends (λ a. Q a w (now (end_of a w)) (now (end_of (not a) w))) b
+      (subst (λ (z : NodeState × NodeState). Q b w z.0 z.1) (λ i. (sym mine i, sym peer i)) x)
+      (subst (λ (z : NodeState × NodeState). Q (not b) w z.0 z.1)
+      (λ i. (sym peer i, sym (ap now (not-not b w) ∙ mine) i)) y) a)
+    where
+      mine : now (end_of b w) ≡ nd
+      mine = ap now at ∙ get_or-set_same c.nodes n nd no_node inside
+
+      peer : now (end_of (not b) w) ≡ node_at c (end_of (not b) w)
+      peer = get_or-set_other c.nodes n (end_of (not b) w) nd no_node
+          (λ z. (end-within c.sizes.nodes w ok b).2 (z ∙ sym at))
+
+  -- the edge e, whose port p the node leaves as q
+  moved : (e : ℕ) (b : Bool) (p q : PortState) (f : Flags) (owes : Bool)
+      → Moves p (flags_at e old.seen) b q f owes → EndOf b n p.wire → knows e old.seen ≡ true
+      → nd.seen ≡ seeing e f old.seen
+      → (lacks b q.flags f ≡ true → (k : ℕ) → is_excused old e k ≡ true → is_excused nd e k ≡ true)
+      → (owes ≡ true → has e nd.owes ≡ true) → (has e old.owes ≡ true → has e nd.owes ≡ true)
+      → Holds c.sizes c.nodes e p → Holds c.sizes new e q
+  moved e b p q f owes m x known seen excused owed debts h = (
+    record {
+      wired = subst (λ z. WireHolds c.sizes e z) (sym m.wire) h.0.wired;
+      content = m.content h.0.content was;
+      bare = λ z. let u = m.wire in let v = x.is in absurd (cc);
+      sees = λ a v z. at-ends (λ a w y _. Sees a q.flags (flags_at e y.seen)) b x.wire ok x.end
+          (subst (λ g. Sees b q.flags g) (sym sees) (m.own was))
+          (m.peer _ was (h.0.sees (not b) x.wire x.is)) a v (same v z);
+      learned = λ k z. ap (names k) m.wire ∙ h.0.learned k (sym (now-same (λ y. knows e y.seen)
+          (ap (λ y. knows e y) seen ∙ ap (has e) (edges-seeing e f old.seen)) k) ∙ z);
+    },
+    λ a v z. at-ends (λ a w y u. EndTold y u e q.flags a w) b x.wire ok x.end mine theirs a v
+        (same v z),
+  )
+    where
+      ok : wire_ok c.sizes.nodes x.wire ≡ true
+      ok = h.0.wired.sound x.wire x.is
+
+      sees : flags_at e nd.seen ≡ f
+      sees = ap (flags_at e) seen ∙ seeing-here e f old.seen known
+
+      same : (v : Wire) → q.wire ≡ Some v → v ≡ x.wire
+      same v z = let u = m.wire in let y = x.is in cc
+
+      was : Sees b p.flags (flags_at e old.seen)
+      was = subst (λ k. Sees b p.flags (flags_at e (node_at c k).seen)) x.end
+          (h.0.sees b x.wire x.is)
+
+      mine : EndTold nd (node_at c (end_of (not b) x.wire)) e q.flags b x.wire
+      mine l = let z = subst (λ g. lacks b q.flags g ≡ true) sees l in
+          elim (or_cases _ _ (subst (λ k. EndTold (node_at c k) (node_at c (end_of (not b) x.wire))
+          e p.flags b x.wire) x.end (h.1 b x.wire x.is) (m.lacks_less z))) [
+            | inl y ↦ or_left _ _ (excused z (bit_of b x.wire) y)
+            | inr y ↦ or_right _ _ y
+          ]
+
+      theirs : EndTold (node_at c (end_of (not b) x.wire)) nd e q.flags (not b) x.wire
+      theirs l = elim (cases_Bool owes) [
+        | inl o ↦ or_right _ _ (owed o)
+        | inr o ↦ elim (or_cases _ _ (subst (λ k. EndTold (node_at c (end_of (not b) x.wire))
+            (node_at c k) e p.flags (not b) x.wire) (not-not b x.wire ∙ x.end)
+            (h.1 (not b) x.wire x.is) (m.peer_lacks_less o _ l))) [
+              | inl y ↦ or_left _ _ y
+              | inr y ↦ or_right _ _ (debts y)
+            ]
+      ]
+
+  -- a step that changes no sight: what it owed it owes
+  view-kept : (p : ℕ) → nd.seen ≡ old.seen → nd.owes ≡ old.owes → NodeHolds nd
+      → ((d : ℕ) (b : Bool) (w : Wire) → (port_at c d).wire ≡ Some w
+      → wire_ok c.sizes.nodes w ≡ true → end_of b w ≡ n → is_excused old d (bit_of b w) ≡ true
+      → is_excused nd d (bit_of b w) ≡ true)
+      → (Tokens c → (nd.tokens ≤ 2) × (p + weight old ≡ c.pending + weight nd))
+      → Edges c → Nodes c → Kept c (record c { nodes = new; pending = p })
+  view-kept p seen owes holds excused count edges nodes = frame c.ports p refl holds
+      (λ d i. unmoved d (port_at c d) (ap (flags_at d) seen)
+      (λ z. (edges.each d i).learned n (ap (λ y. knows d y) (sym seen) ∙ z))
+      (λ b w q. excused d b w q ((edges.each d i).wired.sound w q))
+      (λ _ _ _ _ z. or_right _ _ (ap (has d) owes ∙ z)) (edges.each d i, nodes.told d i))
+      count edges nodes
+
+-- ---- steps on ports
+
+-- debts and what is unlooked, after a step that may owe a telling or have looked
+owing-has : (t : Bool) (e d : ℕ) (l : List ℕ)
+    → has d (cond t (adding e l) l) ≡ (has d l || (t && eqb e d))
+owing-has true e d l = has-adding e d l
+owing-has false e d l = grind arith
+
+owing-more : (t : Bool) (e d : ℕ) (l : List ℕ) → has d l ≡ true
+    → has d (cond t (adding e l) l) ≡ true
+owing-more t e d l h = grind (arith, owing-has t e d l)
+
+looking-has : (t : Bool) (e d : ℕ) (l : List ℕ)
+    → has d (cond t (without e l) l) ≡ (not (t && eqb d e) && has d l)
+looking-has true e d l = has-filter (λ d. not (eqb d e)) l d
+looking-has false e d l = refl
+
+once-either : (t : Bool) (x y : List ℕ) → once x ≡ true → once y ≡ true → once (cond t x y) ≡ true
+once-either true x y a b = a
+once-either false x y a b = b
+
+-- the node's view after it looked at e, or acted on it
+abbrev viewing : ℕ → Flags → Bool → Bool → NodeState → NodeState
+viewing e f looks owes nd = record nd {
+  seen = seeing e f nd.seen;
+  unlooked = cond looks (without e nd.unlooked) nd.unlooked;
+  owes = cond owes (adding e nd.owes) nd.owes;
+}
+
+viewing-holds : (e : ℕ) (f : Flags) (looks owes : Bool) (nd : NodeState) → nd.held ≡ true
+    → knows e nd.seen ≡ true → NodeHolds nd → NodeHolds (viewing e f looks owes nd)
+viewing-holds e f looks owes nd held known h = record {
+  word = h.word;
+  owes = λ d z. let q = ap (has d) (edges-seeing e f nd.seen) in
+      let o = owing-has owes e d nd.owes in elim (cases_eq e d) [
+        | inl t ↦ let k = subst (λ i. knows i nd.seen ≡ true) t known in grind (arith, q, k, held)
+        | inr ne ↦ grind (arith, q, o, z, h.owes d, held)
+      ];
+  unlooked = λ d z. let q = ap (has d) (edges-seeing e f nd.seen) in
+      grind (arith, q, z, looking-has looks e d nd.unlooked, h.unlooked d);
+  each_once = let q = ap once (edges-seeing e f nd.seen) in let o = h.each_once in grind (
+    arith,
+    q,
+    o,
+    once-either looks (without e nd.unlooked) nd.unlooked,
+    once-filter (λ d. not (eqb d e)) nd.unlooked,
+    once-either owes (adding e nd.owes) nd.owes,
+    once-adding e nd.owes,
+  );
+}
+
+-- a step of the held end b of the edge e, the node n, which leaves the ports as ps
+moved-kept : (c : CoreState) (n e : ℕ) (b : Bool) (ps : List PortState) (q : PortState) (f : Flags)
+    (looks owes : Bool) → holds c n e ≡ true → EndOf b n (port_at c e).wire → set c.ports e q ≡ ps
+    → Moves (port_at c e) (flags_at e (node_at c n).seen) b q f owes
+    → (looks ≡ true → lacks b q.flags f ≡ false) → Edges c → Nodes c
+    → Kept c (put_node (record c { ports = ps }) n (viewing e f looks owes (node_at c n)))
+moved-kept c n e b ps q f looks owes g x is m none edges nodes =
+    subst (λ l. Kept c (put_node (record c { ports = l }) n nd)) is
+    (frame c n nd inside (set c.ports e q) c.pending (length-set c.ports e q)
+    (viewing-holds e f looks owes old (grind arith) known (nodes.each n))
+    (λ d i. at_put (Holds c.sizes (set c.nodes n nd) d) c.ports e d q no_port port_in
+    (λ t. subst (λ k. Holds c.sizes (set c.nodes n nd) k q) (sym t)
+    (moved c n nd inside e b (port_at c e) q f owes m x known refl
+    (λ l k z. let u = look e in let s = seen e in elim (cases_Bool looks) [
+      | inl y ↦ absurd (both_ways _ (none y) l)
+      | inr y ↦ grind (arith, u, s, y, z)
+    ])
+    (λ t. let o = owing-has owes e e old.owes in grind (arith, o, t))
+    (owing-more owes e e old.owes)
+    (edges.each e port_in, nodes.told e port_in)))
+    (λ ne. unmoved c n nd inside d (port_at c d) (seeing-other e d f old.seen ne)
+    (λ z. (edges.each d i).learned n (sym (seen d) ∙ z))
+    (λ _ w _ _ z. let u = look d in let s = seen d in let y = ne_eqb d e ne in
+    grind (arith, u, s, y, z))
+    (λ _ _ _ _ z. or_right _ _ (owing-more owes e d old.owes z))
+    (edges.each d i, nodes.told d i)))
+    (λ t. (t.few n, refl)) edges nodes)
+  where
+    old : NodeState
+    old = node_at c n
+
+    nd : NodeState
+    nd = viewing e f looks owes (node_at c n)
+
+    inside : n < length c.nodes
+    inside = grind arith
+
+    port_in : e < length c.ports
+    port_in = grind arith
+
+    known : knows e (node_at c n).seen ≡ true
+    known = grind arith
+
+    seen : (d : ℕ) → knows d (seeing e f (node_at c n).seen) ≡ knows d (node_at c n).seen
+    seen d = ap (has d) (edges-seeing e f (node_at c n).seen)
+
+    look : (d : ℕ) → has d nd.unlooked ≡ (not (looks && eqb d e) && has d (node_at c n).unlooked)
+    look d = looking-has looks e d (node_at c n).unlooked
+
+-- each act of a held end
+act-kept : (a : Act) (c : CoreState) (n e : ℕ) → may_act a c n e ≡ true → Edges c → Nodes c
+    → Kept c (acted a c n e)
+act-kept a c n e g edges nodes = moved-kept c n e (acting_end a) _ (port_after a (port_at c e))
+    (changed a (flags_at e (node_at c n).seen)) false (tells a (port_at c e).flags) (grind arith)
+    (end-of (acting_end a) n (port_at c e).wire (grind arith)) refl
+    (act-moves a (port_at c e) (flags_at e (node_at c n).seen) (grind arith))
+    (λ z. absurd (both_ways false refl z)) edges nodes
+
+look-kept : (c : CoreState) (n e : ℕ) → holds c n e ≡ true → Edges c → Nodes c
+    → Kept c (put_node c n (looked c n e))
+look-kept c n e g edges nodes =
+    let x = an-end n (port_at c e).wire ((edges.each e (grind arith)).learned n (grind arith)) in
+    moved-kept c n e x.0 c.ports (port_at c e) (port_at c e).flags true false g x.1
+    (set-get_or c.ports e no_port) (look-moves x.0 (port_at c e) (flags_at e (node_at c n).seen))
+    (λ _. lacks-none x.0 (port_at c e).flags) edges nodes
+
+-- ---- steps on node words
 
 no-wire : (x : Option Wire) → is_none x ≡ true → x ≡ None
 no-wire None h = refl
 no-wire (Some w) h = grind arith
 
+nonzero : (w k : ℕ) → is_set w k ≡ true → eqb w 0 ≡ false
+nonzero w k h = grind (arith, zero-clear k)
+
+-- a held node counts, and isn't over
+pub held-word : (c : CoreState) (n : ℕ) → (node_at c n).held ≡ true → Nodes c
+    → (counts (node_at c n).word ≡ 1) × (is_over (node_at c n).word ≡ false)
+held-word c n h nodes = let x = (nodes.each n).word in let w = (node_at c n).word in
+    let on = x.held ∙ h in let a = x.lone 62 61 (omega arith) (omega arith) (λ z. omega arith) on in
+    let b = x.lone 62 63 (omega arith) (omega arith) (λ z. omega arith) on in
+    (grind (arith, nonzero w 62, on, a, b), b)
+
+-- the node with another word and other tokens
+reworded : (nd : NodeState) (w t : ℕ) → WordHolds w nd.held → NodeHolds nd
+    → NodeHolds (record nd { word = w; tokens = t })
+reworded nd w t word h =
+    record { word = word; owes = h.owes; unlooked = h.unlooked; each_once = h.each_once }
+
+-- begin and again
+taken-kept : (c : CoreState) (n k : ℕ) → n < length c.nodes → k ≤ (node_at c n).tokens
+    → is_over (node_at c n).word ≡ false → k + counts (node_at c n).word ≡ 1 → Edges c → Nodes c
+    → Kept c (put_node c n (taken c n k))
+taken-kept c n k inside some running one edges nodes =
+    let h = nodes.each n in let known = edges_of (node_at c n).seen in
+    view-kept c n (taken c n k) inside c.pending refl refl
+    (record {
+      word = word-one 62 true refl refl;
+      owes = λ d z. (and_parts _ _ (h.owes d z)).1;
+      unlooked = λ d z. grind (arith, has-filter (is_updated c n) known d, z);
+      each_once = grind (arith, once-filter (is_updated c n) known, h.each_once);
+    })
+    (λ d b w q ok t z. let y : is_set (node_at c n).word (bit_at_end n (port_at c d).wire) ≡ is_set
+    (node_at c n).word (bit_of b w) = ap (λ x. is_set (node_at c n).word (bit_at_end n x)) q
+    ∙ ap (is_set (node_at c n).word) (at-end c.sizes.nodes w ok b n t) in
+    grind (arith, running, z, y, has-filter (is_updated c n) known d, h.unlooked d))
+    (λ t. let x = t.few n in let y : counts (2 ^ 62) ≡ 1 = refl in
+    (omega (arith, x), omega (arith, some, one, y))) edges nodes
+
+none-has : (l : List ℕ) (e : ℕ) → is_none_of l ≡ true → has e l ≡ true → ⊥
+none-has [] e h z = both_ways false refl z
+none-has (x ∷ xs) e h z = grind arith
+
+-- rest and over
+left-kept : (c : CoreState) (n w : ℕ) → n < length c.nodes → (node_at c n).held ≡ true
+    → is_none_of (node_at c n).owes ≡ true → (node_at c n).tokens < 2 → WordHolds w false
+    → counts w ≡ 0 → ((d : ℕ) (b : Bool) (v : Wire) → wire_ok c.sizes.nodes v ≡ true
+    → is_excused (node_at c n) d (bit_of b v) ≡ true
+    → is_excused (left w (node_at c n)) d (bit_of b v) ≡ true) → Edges c → Nodes c
+    → Kept c (put_node c n (left w (node_at c n)))
+left-kept c n w inside held none few word zero excused edges nodes =
+    view-kept c n (left w (node_at c n)) inside c.pending refl refl
+    (record {
+      word = word;
+      owes = λ d z. absurd (none-has (node_at c n).owes d none z);
+      unlooked = (nodes.each n).unlooked;
+      each_once = (nodes.each n).each_once;
+    })
+    (λ d b v _ ok _. excused d b v ok)
+    (λ t. let x = (held-word c n held nodes).0 in (omega arith, omega (arith, x, zero))) edges nodes
+
+rest-kept : (c : CoreState) (n : ℕ) → may c n step.Rest ≡ true → Edges c → Nodes c
+    → Kept c (after c n step.Rest)
+rest-kept c n g edges nodes = cond_both (eqb (node_at c n).word (2 ^ 62)) _ c (Kept c)
+    (λ q. let e = eqb-true (node_at c n).word (2 ^ 62) q in
+    left-kept c n 0 (grind arith) (grind arith) (grind arith) (grind arith) word-idle refl
+    (λ d b v ok z. let s = (end-within c.sizes.nodes v ok b).0 in
+    let x : is_set (node_at c n).word (bit_of b v) ≡ false = ap (λ k. is_set k (bit_of b v)) e
+    ∙ pow-clear 62 (bit_of b v) (λ y. omega (arith, s, y)) in
+    let y : is_over (node_at c n).word ≡ false = ap is_over e in
+    let u : has d (node_at c n).unlooked ≡ true → ⊥ = none-has (node_at c n).unlooked d
+    (grind arith) in grind (arith, x, y, u, z)) edges nodes)
+    (λ _. same-kept c c.stopped edges nodes)
+
+born-kept : (c : CoreState) (n : ℕ) → n < length c.nodes → is_unborn (node_at c n).word ≡ true
+    → 0 < (node_at c n).tokens → Edges c → Nodes c → Kept c (put_node c n (born (node_at c n)))
+born-kept c n inside unborn some edges nodes =
+    let nd : NodeState = node_at c n in let h = nodes.each n in
+    let x = flip-lone nd.word nd.held unborn h.word in
+    view-kept c n (born nd) inside c.pending refl refl
+    (reworded nd (born nd).word (born nd).tokens (word-born nd.word nd.held unborn h.word) h)
+    (λ d b w _ ok _ z. let s = (end-within c.sizes.nodes w ok b).0 in
+    let y = flip-other nd.word (bit_of b w) (λ z. omega (arith, s, z)) (λ z. omega (arith, s, z)) in
+    let v = flip-other nd.word 63 (λ z. omega arith) (λ z. omega arith) in grind (arith, y, v, z))
+    (λ t. let z = t.few n in
+    let v : is_over (born nd).word ≡ false = x.1 63 (omega arith) (λ z. omega arith) in
+    let u = x.1 61 (omega arith) (λ z. omega arith) in
+    let a : counts (born nd).word ≡ 1 = grind (arith, nonzero (born nd).word 60, x.0, u, v) in
+    let y : counts nd.word ≡ 0 = grind arith in
+    (omega (arith, z), omega (arith, a, y, some))) edges nodes
+
+counted-kept : (c : CoreState) (n k p : ℕ) → n < length c.nodes
+    → (Tokens c → (k ≤ 2) × (p + (node_at c n).tokens ≡ c.pending + k)) → Edges c → Nodes c
+    → Kept c (counted c n k p)
+counted-kept c n k p inside count edges nodes = view-kept c n (record (node_at c n) { tokens = k })
+    inside p refl refl (reworded (node_at c n) (node_at c n).word k (nodes.each n).word
+    (nodes.each n)) (λ _ _ _ _ _ _ z. z)
+    (λ t. let x = (count t).1 in ((count t).0, omega (arith, x))) edges nodes
+
+-- a node with a token: some token is pending
+pub some-pending : (c : CoreState) (n : ℕ) → n < length c.nodes → 0 < (node_at c n).tokens
+    → Tokens c → 0 < c.pending
+some-pending c n inside some h = let z = get_or-le-sum_by weight c.nodes n no_node inside in
+    let p = h.pending in omega (arith, z, p, some)
+
 -- ---- mark
 
-mark-at : (c : CoreState) (n e : ℕ) → may c n (step.Mark e) ≡ true → Edges c → Nodes c → Marks c n e
-    (peer_in n (port_at c e).wire) (bit_at_end (peer_in n (port_at c e).wire) (port_at c e).wire)
-mark-at c n e g edges nodes = marks-of c n e (grind arith) (grind arith) edges nodes
+-- a word that is told counts one more, as a token is spent where it was 0
+counts-told : (w k : ℕ) → k < 48 → counts (bit_or w (2 ^ k)) ≡ counts w + spent w
+counts-told w k small = grind (
+  arith,
+  nonzero (bit_or w (2 ^ k)) k,
+  or-here w k,
+  or-other w k 61,
+  or-other w k 63,
+  zero-clear 61,
+  zero-clear 63,
+)
 
-mark-edges : (c : CoreState) (n e m k : ℕ) → n < length c.nodes → Marks c n e m k → Edges c
-    → Edges (marked c n e m k)
-mark-edges c n e m k inside x h = edges-node (put_node c m (told k (node_at c m))) n
-    (telling e (spent (node_at c m).word) (node_at c n))
-    (subst (λ z. n < z) (sym (length-set c.nodes m (told k (node_at c m)))) inside)
-    (sym (put-same c.nodes m (told k (node_at c m)) x.peer_in (λ y. y.seen) refl n))
-    (edges-node c m (told k (node_at c m)) x.peer_in refl h)
+-- the node n owes e a telling: its peer m has the bit k for it
+pub record Marks (c : CoreState) (n e m k : ℕ) : Type 0 where
+  pub peer_in : m < length c.nodes
+  pub small : k < 48
+  pub apart : m ≢ n
+  pub bit : (b : Bool) (w : Wire) → (port_at c e).wire ≡ Some w → end_of (not b) w ≡ n
+      → (end_of b w ≡ m) × (bit_of b w ≡ k)
+
+-- who owes has a peer to tell
+pub marks-of : (c : CoreState) (n e : ℕ) → may c n (step.Mark e) ≡ true → Edges c → Nodes c
+    → Marks c n e (peer_in n (port_at c e).wire)
+    (bit_at_end (peer_in n (port_at c e).wire) (port_at c e).wire)
+marks-of c n e g edges nodes =
+    let o : has e (node_at c n).owes ≡ true = grind arith in
+    let x = an-end n (port_at c e).wire ((edges.each e port_in).learned n
+    (and_parts (node_at c n).held _ ((nodes.each n).owes e o)).1) in
+    let w = x.1.wire in let ok = sound w x.1.is in
+    let y = at (not x.0) w x.1.is (not-not x.0 w ∙ x.1.end) in
+    let v = end-within c.sizes.nodes w ok (not x.0) in let a = v.0 in let i = v.1 in
+    let p = y.0 in let q = y.1 in let count = nodes.number in record {
+      peer_in = omega (arith, i, p, count);
+      small = omega (arith, a, q);
+      apart = λ z. (end-within c.sizes.nodes w ok x.0).2 (p ∙ (z ∙ sym x.1.end));
+      bit = at;
+    }
+  where
+    port_in : e < length c.ports
+    port_in = grind arith
+
+    sound : (w : Wire) → (port_at c e).wire ≡ Some w → wire_ok c.sizes.nodes w ≡ true
+    sound = (edges.each e port_in).wired.sound
+
+    at : (b : Bool) (w : Wire) → (port_at c e).wire ≡ Some w → end_of (not b) w ≡ n
+        → (end_of b w ≡ peer_in n (port_at c e).wire)
+        × (bit_of b w ≡ bit_at_end (peer_in n (port_at c e).wire) (port_at c e).wire)
+    at b w q t = subst (λ x. (end_of b w ≡ peer_in n x) × (bit_of b w ≡ bit_at_end (peer_in n x) x))
+        (sym q) (peer-of c.sizes.nodes w (sound w q) b n t)
+
+mark-kept : (c : CoreState) (n e m k : ℕ) → n < length c.nodes → 0 < (node_at c n).tokens
+    → Marks c n e m k → Edges c → Nodes c → Kept c (marked c n e m k)
+mark-kept c n e m k inside some x edges nodes = record {
+  edges = last.edges;
+  nodes = last.nodes;
+  tokens = λ t. last.tokens (first.tokens t);
+}
+  where
+    md : NodeState
+    md = node_at c m
+
+    mid : CoreState
+    mid = record c { nodes = set c.nodes m (told k md); pending = c.pending + spent md.word }
+
+    first : Kept c mid
+    first = view-kept c m (told k md) x.peer_in (c.pending + spent md.word) refl refl
+        (reworded md (told k md).word md.tokens (word-told md.word k md.held x.small
+        (nodes.each m).word) (nodes.each m))
+        (λ d b w _ _ _ z. let p = or-more md.word k 63 in let q = or-more md.word k (bit_of b w) in
+        grind (arith, p, q, z))
+        (λ t. let z = counts-told md.word k x.small in (t.few m, omega (arith, z))) edges nodes
+
+    same : node_at mid n ≡ node_at c n
+    same = get_or-set_other c.nodes m n (told k md) no_node (λ z. x.apart (sym z))
+
+    within : n < length mid.nodes
+    within = subst (λ z. n < z) (sym (length-set c.nodes m (told k md))) inside
+
+    telling-holds : (nd : NodeState) → NodeHolds nd → NodeHolds (telling e (spent md.word) nd)
+    telling-holds nd h = let t = λ (d : ℕ). not (eqb d e) in record {
+      word = h.word;
+      owes = λ d z. let y = has-filter t nd.owes d in grind (arith, y, z, h.owes d);
+      unlooked = h.unlooked;
+      each_once = let y = once-filter t nd.owes in let z = h.each_once in grind (arith, y, z);
+    }
+
+    set-bit : (b : Bool) (w : Wire) → (port_at c e).wire ≡ Some w → end_of (not b) w ≡ n
+        → is_set (node_at mid (end_of b w)).word (bit_of b w) ≡ true
+    set-bit b w q t = let z = x.bit b w q t in
+        subst (λ (y : ℕ × ℕ). is_set (node_at mid y.0).word y.1 ≡ true)
+        (λ i. (sym z.0 i, sym z.1 i))
+        (ap (λ y. is_set y.word k) (get_or-set_same c.nodes m (told k md) no_node x.peer_in)
+        ∙ or-here md.word k)
+
+    last : Kept mid (marked c n e m k)
+    last = subst (λ y. Kept mid (record c {
+      nodes = set mid.nodes n (telling e (spent md.word) y);
+    })) same (let nd = telling e (spent md.word) (node_at mid n) in
+        frame mid n nd within mid.ports c.pending refl
+        (telling-holds (node_at mid n) (first.nodes.each n))
+        (λ d i. unmoved mid n nd within d (port_at c d) refl ((first.edges.each d i).learned n)
+        (λ _ _ _ _ z. z)
+        (λ b w q t z. elim (cases_eq d e) [
+          | inl u ↦ let y = now-same mid n nd within (λ (y : NodeState). y.word) refl
+              (end_of b w) in let v = ap (λ j. is_set j (bit_of b w)) y
+              ∙ set-bit b w (ap (λ i. (port_at c i).wire) (sym u) ∙ q) t in
+              or_left _ _ (or_left _ _ (or_right _ _ v))
+          | inr ne ↦ let y = has-filter (λ j. not (eqb j e)) (node_at mid n).owes d in
+              let v = ne_eqb d e ne in grind (arith, y, v, z)
+        ]) (first.edges.each d i, first.nodes.told d i))
+        (λ t. let z = t.few n in let y : 0 < (node_at mid n).tokens = subst (λ y. 0 < y.tokens)
+        (sym same) some in let s : spent md.word ≤ 1 = grind arith in
+        (omega (arith, z), omega (arith, y, s))) first.edges first.nodes)
 
 -- ---- growth
 
-wiring-names : (c : CoreState) (n e : ℕ) (w : Wire) → e < length c.ports → eqb w.from n ≡ true
-    → names n (port_at (wiring c e w) e).wire ≡ true
-wiring-names c n e w i h = subst (λ p. names n p.wire ≡ true)
-    (sym (get_or-set_same c.ports e (record (port_at c e) { wire = Some w }) no_port i))
-    (grind arith)
+learning-holds : (e : ℕ) (nd : NodeState) → knows e nd.seen ≡ false → NodeHolds nd
+    → NodeHolds (learning e nd)
+learning-holds e nd unknown h =
+    let k = map-append (λ (s : Sight). s.edge) nd.seen (fresh_sight e ∷ []) in
+    let known = edges_of nd.seen in record {
+      word = h.word;
+      owes = λ d z. let q = ap (has d) k in grind (arith, q, has-last e d known, h.owes d, z);
+      unlooked = λ d z. let q = ap (has d) k in
+          grind (arith, q, has-last e d known, has-adding e d nd.unlooked, h.unlooked d, z);
+      each_once = let q = ap once k in let o = h.each_once in
+          grind (arith, q, o, once-last e known, unknown, once-adding e nd.unlooked);
+    }
 
--- a node's tokens are counted
-counted-nodes : (c : CoreState) (n k p : ℕ) → n < length c.nodes → Nodes c → Nodes (counted c n k p)
-counted-nodes c n k p inside h = nodes-node c n (record (node_at c n) { tokens = k }) inside refl
-    (record { word = (h.each n).word; view = (h.each n).view }) (λ d _ b w _ _. keeps-view
-    (node_at c n) (record (node_at c n) { tokens = k }) d (bit_of b w) refl refl (λ z. z))
-    (λ _ _ _ _ _ _ z. by_debt z) h
+-- an edge of a node that learned e
+learning-edge : (c : CoreState) (n e : ℕ) → n < length c.nodes → knows e (node_at c n).seen ≡ false
+    → (d : ℕ) (p : PortState) → (d ≡ e → names n p.wire ≡ true) → Holds c.sizes c.nodes d p
+    → Holds c.sizes (set c.nodes n (learning e (node_at c n))) d p
+learning-edge c n e inside unknown d p named h = unmoved c n (learning e nd) inside d p
+    (flags-last e d nd.seen unknown)
+    (λ z. elim (cases_eq d e) [
+      | inl t ↦ named t
+      | inr ne ↦ h.0.learned n (grind (arith, known, z, ne_eqb e d (λ y. ne (sym y))))
+    ])
+    (λ b w _ _ z. let k = known in grind (arith, k, has-adding e d nd.unlooked, z))
+    (λ _ _ _ _ z. or_right _ _ z) h
+  where
+    nd : NodeState
+    nd = node_at c n
+
+    known : knows d (learning e nd).seen ≡ (knows d nd.seen || eqb e d)
+    known = ap (has d) (map-append (λ (s : Sight). s.edge) nd.seen (fresh_sight e ∷ []))
+        ∙ has-last e d (edges_of nd.seen)
+
+wired-kept : (c : CoreState) (n e : ℕ) → n < length c.nodes → names n (port_at c e).wire ≡ true
+    → Edges c → Nodes c → Kept c (learned c n e)
+wired-kept c n e inside named edges nodes = cond_both (knows e (node_at c n).seen) c _ (Kept c)
+    (λ _. same-kept c c.stopped edges nodes)
+    (λ u. frame c n (learning e (node_at c n)) inside c.ports c.pending refl
+    (learning-holds e (node_at c n) u (nodes.each n))
+    (λ d i. learning-edge c n e inside u d (port_at c d)
+    (λ t. subst (λ k. names n (port_at c k).wire ≡ true) (sym t) named)
+    (edges.each d i, nodes.told d i)) (λ t. (t.few n, refl)) edges nodes)
+
+-- a reserved edge gets its wire, and the node learns it
+wire-kept : (c : CoreState) (n e : ℕ) (w : Wire) → may c n (step.Wire e w) ≡ true
+    → (port_at c e).wire ≡ None → Edges c → Nodes c → Kept c (learned (wiring c e w) n e)
+wire-kept c n e w g none edges nodes =
+    cond_both (knows e (node_at c n).seen) (wiring c e w) _ (Kept c)
+    (λ z. absurd (both_ways _ (unknown n) z))
+    (λ u. frame c n nd inside (set c.ports e q) c.pending (length-set c.ports e q)
+    (learning-holds e (node_at c n) u (nodes.each n))
+    (λ d i. at_put (Holds c.sizes (set c.nodes n nd) d) c.ports e d q no_port port_in
+    (λ t. subst (λ k. Holds c.sizes (set c.nodes n nd) k q) (sym t) here)
+    (λ ne. learning-edge c n e inside u d (port_at c d) (λ t. absurd (ne t))
+    (edges.each d i, nodes.told d i))) (λ t. (t.few n, refl)) edges nodes)
+  where
+    nd : NodeState
+    nd = learning e (node_at c n)
+
+    q : PortState
+    q = record (port_at c e) { wire = Some w }
+
+    inside : n < length c.nodes
+    inside = grind arith
+
+    port_in : e < length c.ports
+    port_in = grind arith
+
+    old : EdgeHolds c.sizes c.nodes e (port_at c e)
+    old = edges.each e port_in
+
+    -- no node knows an edge without a wire
+    unknown : (m : ℕ) → knows e (node_at c m).seen ≡ false
+    unknown m = elim (cases_Bool (knows e (node_at c m).seen)) [
+      | inl z ↦ absurd (both_ways false refl (ap (names m) (sym none) ∙ old.learned m z))
+      | inr z ↦ z
+    ]
+
+    -- so each sees it with no flag, as it is
+    flags : (m : ℕ) → flags_at e (node_of (set c.nodes n nd) m).seen ≡ (port_at c e).flags
+    flags m = now-same c n nd inside (λ y. flags_at e y.seen)
+        (flags-last e e (node_at c n).seen (unknown n)) m
+        ∙ (flags-unknown e (node_at c m).seen (unknown m) ∙ sym (old.bare none).0)
+
+    here : Holds c.sizes (set c.nodes n nd) e q
+    here = (
+      record {
+        wired = record {
+          sound = λ v z. subst (λ i. wire_ok c.sizes.nodes i ≡ true) (let t : w ≡ v = cc in t)
+              (grind arith);
+          fixed = λ l. let z = old.wired.fixed l in absurd (cc);
+          placed = λ l v z. subst (λ i. may_wire c.sizes.reserves e i ≡ true)
+              (let t : w ≡ v = cc in t) (grind arith);
+        };
+        content = record { chunks = old.content.chunks; has_data = old.content.has_data };
+        bare = λ z. absurd (cc);
+        sees = λ b v _. subst (Sees b (port_at c e).flags) (sym (flags (end_of b v)))
+            (same-flags b (port_at c e).flags);
+        learned = λ m. at_put (λ y. knows e y.seen ≡ true → names m (Some w) ≡ true) c.nodes n m nd
+            no_node inside (λ t _. grind arith) (λ _ k. absurd (both_ways _ (unknown m) k));
+      },
+      λ b v _ l. absurd (both_ways _ (lacks-none b (port_at c e).flags)
+          (subst (λ f. lacks b (port_at c e).flags f ≡ true) (flags (end_of b v)) l)),
+    )
 
 -- ---- the laws are kept
 
--- of edges and sights
-pub edges-kept : (c : CoreState) (n : ℕ) (s : Step) → may c n s ≡ true → Nodes c → Edges c
-    → Edges (after c n s)
-edges-kept c n (step.Look e) g nodes h = look-edges c n e g h
-edges-kept c n (step.Want e) g nodes h = act-edges Want c n e g h
-edges-kept c n (step.Unwant e) g nodes h = act-edges Unwant c n e g h
-edges-kept c n (step.Push e x) g nodes h = act-edges (Push x) c n e g h
-edges-kept c n (step.Pull e) g nodes h = act-edges Pull c n e g h
-edges-kept c n (step.Finish e) g nodes h = act-edges Finish c n e g h
-edges-kept c n (step.ClosePort e) g nodes h = act-edges Close c n e g h
-edges-kept c n (step.Mark e) g nodes h = mark-edges c n e _ _ (grind arith)
-    (mark-at c n e g h nodes) h
-edges-kept c n step.Begin g nodes h = edges-node c n (taken c n (spent (node_at c n).word))
-    (grind arith) refl h
-edges-kept c n step.Again g nodes h = edges-node c n (taken c n 0) (grind arith) refl h
-edges-kept c n step.Rest g nodes h = cond_both (eqb (node_at c n).word (2 ^ 62)) _ c Edges
-    (λ _. edges-node c n (left 0 (node_at c n)) (grind arith) refl h) (λ _. h)
-edges-kept c n step.Over g nodes h = edges-node c n (left (2 ^ 63) (node_at c n))
-    (grind arith) refl h
-edges-kept c n step.TokenIn g nodes h = edges-node c n
-    (record (node_at c n) { tokens = (node_at c n).tokens + 1 }) (grind arith) refl h
-edges-kept c n step.TokenOut g nodes h = edges-node c n
-    (record (node_at c n) { tokens = (node_at c n).tokens - 1 }) (grind arith) refl h
-edges-kept c n (step.Wire e w) g nodes h = cond_both (is_none (port_at c e).wire) _ c Edges
-    (λ q. learn-edges (wiring c e w) n e (grind arith) (wiring-names c n e w (grind arith)
-    (grind arith)) (wire-edges c e w (grind arith) (no-wire (port_at c e).wire q) (grind arith)
-    (grind arith) h)) (λ _. h)
-edges-kept c n (step.Wired e) g nodes h = cond_both (names n (port_at c e).wire) _ c Edges
-    (λ q. learn-edges c n e (grind arith) q h) (λ _. h)
-edges-kept c n step.Birth g nodes h = edges-node c n (born (node_at c n)) (grind arith) refl h
-edges-kept c n step.Stop g nodes h = h
-edges-kept c n step.See g nodes h = h
-
--- of words, views and told changes
-pub nodes-kept : (c : CoreState) (n : ℕ) (s : Step) → may c n s ≡ true → Edges c → Nodes c
-    → Nodes (after c n s)
-nodes-kept c n (step.Look e) g edges h = look-nodes c n e g edges h
-nodes-kept c n (step.Want e) g edges h = act-nodes Want c n e g edges h
-nodes-kept c n (step.Unwant e) g edges h = act-nodes Unwant c n e g edges h
-nodes-kept c n (step.Push e x) g edges h = act-nodes (Push x) c n e g edges h
-nodes-kept c n (step.Pull e) g edges h = act-nodes Pull c n e g edges h
-nodes-kept c n (step.Finish e) g edges h = act-nodes Finish c n e g edges h
-nodes-kept c n (step.ClosePort e) g edges h = act-nodes Close c n e g edges h
-nodes-kept c n (step.Mark e) g edges h = mark-nodes c n e _ _ (grind arith)
-    (mark-at c n e g edges h) h
-nodes-kept c n step.Begin g edges h = taken-nodes c n (spent (node_at c n).word) (grind arith)
-    (grind arith) edges h
-nodes-kept c n step.Again g edges h = taken-nodes c n 0 (grind arith)
-    (grind (arith, (h.each n).word.held, (h.each n).word.not_over)) edges h
-nodes-kept c n step.Rest g edges h = cond_both (eqb (node_at c n).word (2 ^ 62)) _ c Nodes
-    (λ q. rest-nodes c n (grind arith) (eqb-true (node_at c n).word (2 ^ 62) q) (grind arith)
-    (grind arith) edges h) (λ _. h)
-nodes-kept c n step.Over g edges h = over-nodes c n (grind arith) (grind arith) h
-nodes-kept c n step.TokenIn g edges h = counted-nodes c n ((node_at c n).tokens + 1)
-    (c.pending + 1) (grind arith) h
-nodes-kept c n step.TokenOut g edges h = counted-nodes c n ((node_at c n).tokens - 1)
-    (c.pending - 1) (grind arith) h
-nodes-kept c n (step.Wire e w) g edges h = cond_both (is_none (port_at c e).wire) _ c Nodes
-    (λ q. learn-nodes (wiring c e w) n e (grind arith)
-    (wire-nodes c e w (grind arith) (no-wire (port_at c e).wire q) edges h)) (λ _. h)
-nodes-kept c n (step.Wired e) g edges h = cond_both (names n (port_at c e).wire) _ c Nodes
-    (λ _. learn-nodes c n e (grind arith) h) (λ _. h)
-nodes-kept c n step.Birth g edges h = born-nodes c n (grind arith) (grind arith) edges h
-nodes-kept c n step.Stop g edges h = h
-nodes-kept c n step.See g edges h = h
-
--- the node changes, and no weight
-weight-kept : (c : CoreState) (n : ℕ) (nd : NodeState) → n < length c.nodes → nd.tokens ≡
-    (node_at c n).tokens → nd.word ≡ (node_at c n).word → Tokens c → Tokens (put_node c n nd)
-weight-kept c n nd inside t w h = tokens-node c.nodes c.pending n nd c.pending inside
-    (subst (λ z. z ≤ 2) (sym t) (h.few n)) (λ i. c.pending + (sym t i + counts (sym w i))) h
-
-left-tokens : (c : CoreState) (n w : ℕ) → n < length c.nodes → (node_at c n).tokens < 2 → counts
-    (node_at c n).word ≡ 1 → counts w ≡ 0 → Tokens c → Tokens (put_node c n (left w (node_at c n)))
-left-tokens c n w inside few one none h = tokens-node c.nodes c.pending n
-    (left w (node_at c n)) c.pending inside (omega (arith, few)) (omega (arith, one, none)) h
-
-act-tokens : (a : Act) (c : CoreState) (n e : ℕ) → may_act a c n e ≡ true → Tokens c
-    → Tokens (acted a c n e)
-act-tokens a c n e g h = weight-kept c n (node_after a e (port_at c e).flags (node_at c n))
-    (may-act a c n e g).at.node_in refl refl h
-
-taken-tokens : (c : CoreState) (n k : ℕ) → n < length c.nodes → k ≤ (node_at c n).tokens
-    → k + counts (node_at c n).word ≡ 1 → Tokens c → Tokens (put_node c n (taken c n k))
-taken-tokens c n k inside enough one h = tokens-node c.nodes c.pending n
-    (taken c n k) c.pending inside
-    (let z = h.few n in omega (arith, z)) (let held : counts (2 ^ 62) ≡ 1 = refl in
-    omega (arith, enough, one, held)) h
-
-held-counts : (c : CoreState) (n : ℕ) → (node_at c n).held ≡ true → Nodes c
-    → counts (node_at c n).word ≡ 1
-held-counts c n h nodes = counts-held (node_at c n).word
-    (subst (λ b. WordHolds (node_at c n).word b) h (nodes.each n).word)
-
--- of tokens
-pub tokens-kept : (c : CoreState) (n : ℕ) (s : Step) → may c n s ≡ true → Edges c → Nodes c
-    → Tokens c → Tokens (after c n s)
-tokens-kept c n (step.Look e) g edges nodes h = weight-kept c n (looked c n e)
-    (at-edge c n e g).node_in refl refl h
-tokens-kept c n (step.Want e) g edges nodes h = act-tokens Want c n e g h
-tokens-kept c n (step.Unwant e) g edges nodes h = act-tokens Unwant c n e g h
-tokens-kept c n (step.Push e x) g edges nodes h = act-tokens (Push x) c n e g h
-tokens-kept c n (step.Pull e) g edges nodes h = act-tokens Pull c n e g h
-tokens-kept c n (step.Finish e) g edges nodes h = act-tokens Finish c n e g h
-tokens-kept c n (step.ClosePort e) g edges nodes h = act-tokens Close c n e g h
-tokens-kept c n (step.Mark e) g edges nodes h = mark-tokens c n e _ _ (grind arith) (grind arith)
-    (mark-at c n e g edges nodes) h
-tokens-kept c n step.Begin g edges nodes h = taken-tokens c n (spent (node_at c n).word)
-    (grind arith) (grind arith) (taken-weight (node_at c n).word (grind arith) (grind arith)) h
-tokens-kept c n step.Again g edges nodes h = taken-tokens c n 0 (grind arith) (omega arith)
-    (let z = held-counts c n (grind arith) nodes in omega (arith, z)) h
-tokens-kept c n step.Rest g edges nodes h = cond_both (eqb (node_at c n).word (2 ^ 62)) _ c Tokens
-    (λ q. left-tokens c n 0 (grind arith) (grind arith)
-    (held-counts c n (grind arith) nodes) refl h) (λ _. h)
-tokens-kept c n step.Over g edges nodes h = left-tokens c n (2 ^ 63) (grind arith) (grind arith)
-    (held-counts c n (grind arith) nodes) refl h
-tokens-kept c n step.TokenIn g edges nodes h = tokens-node c.nodes c.pending n
-    (record (node_at c n) { tokens = (node_at c n).tokens + 1 })
-    (c.pending + 1) (grind arith) (grind arith) (omega arith) h
-tokens-kept c n step.TokenOut g edges nodes h = let p = some-pending c n (grind arith)
-    (grind arith) h in
-    let y : 0 < (node_at c n).tokens = grind arith in let z = h.few n in
-    tokens-node c.nodes c.pending n (record (node_at c n) { tokens = (node_at c n).tokens - 1 })
-    (c.pending - 1)
-    (grind arith) (omega (arith, z)) (omega (arith, y, p)) h
-tokens-kept c n (step.Wire e w) g edges nodes h = cond_both (is_none (port_at c e).wire) _ c Tokens
-    (λ _. weight-kept (wiring c e w) n (learning e (node_at c n)) (grind arith) refl refl h)
-    (λ _. h)
-tokens-kept c n (step.Wired e) g edges nodes h = cond_both (names n (port_at c e).wire) _ c Tokens
-    (λ _. weight-kept c n (learning e (node_at c n)) (grind arith) refl refl h) (λ _. h)
-tokens-kept c n step.Birth g edges nodes h = born-tokens c n (grind arith) (grind arith)
-    (grind arith) nodes h
-tokens-kept c n step.Stop g edges nodes h = h
-tokens-kept c n step.See g edges nodes h = h
+-- each kind of step keeps the laws of edges and of nodes, and those of tokens where they held
+pub kept : (c : CoreState) (n : ℕ) (s : Step) → may c n s ≡ true → Edges c → Nodes c
+    → Kept c (after c n s)
+kept c n (step.Look e) g h k = look-kept c n e g h k
+kept c n (step.Want e) g h k = act-kept Want c n e g h k
+kept c n (step.Unwant e) g h k = act-kept Unwant c n e g h k
+kept c n (step.Push e x) g h k = act-kept (Push x) c n e g h k
+kept c n (step.Pull e) g h k = act-kept Pull c n e g h k
+kept c n (step.Finish e) g h k = act-kept Finish c n e g h k
+kept c n (step.ClosePort e) g h k = act-kept Close c n e g h k
+kept c n (step.Mark e) g h k = mark-kept c n e _ _ (grind arith) (grind arith)
+    (marks-of c n e g h k) h k
+kept c n step.Begin g h k = taken-kept c n (spent (node_at c n).word) (grind arith) (grind arith)
+    (grind arith) (grind arith) h k
+kept c n step.Again g h k = let x = held-word c n (grind arith) k in let y = x.0 in
+    taken-kept c n 0 (grind arith) (omega arith) x.1 (omega (arith, y)) h k
+kept c n step.Rest g h k = rest-kept c n g h k
+kept c n step.Over g h k = left-kept c n (2 ^ 63) (grind arith) (grind arith) (grind arith)
+    (grind arith) (word-one 63 false refl refl) refl (λ _ _ _ _ _. refl) h k
+kept c n step.TokenIn g h k = counted-kept c n ((node_at c n).tokens + 1) (c.pending + 1)
+    (grind arith) (λ t. (grind arith, omega arith)) h k
+kept c n step.TokenOut g h k = counted-kept c n ((node_at c n).tokens - 1) (c.pending - 1)
+    (grind arith) (λ t. let x = t.few n in let y : 0 < (node_at c n).tokens = grind arith in
+    let p = some-pending c n (grind arith) y t in (omega (arith, x), omega (arith, p, y))) h k
+kept c n (step.Wire e w) g h k = cond_both (is_none (port_at c e).wire) _ c (Kept c)
+    (λ q. wire-kept c n e w g (no-wire (port_at c e).wire q) h k) (λ _. same-kept c c.stopped h k)
+kept c n (step.Wired e) g h k = cond_both (names n (port_at c e).wire) _ c (Kept c)
+    (λ q. wired-kept c n e (grind arith) q h k) (λ _. same-kept c c.stopped h k)
+kept c n step.Birth g h k = born-kept c n (grind arith) (grind arith) (grind arith) h k
+kept c n step.Stop g h k = same-kept c true h k
+kept c n step.See g h k = same-kept c c.stopped h k
 
 -- no step changes the sizes
 sizes-kept : (c : CoreState) (n : ℕ) (s : Step) → (after c n s).sizes ≡ c.sizes
@@ -200,9 +682,16 @@ sizes-kept c n s = refl
 
 -- all of them
 pub laws-kept : (c : CoreState) (n : ℕ) (s : Step) → may c n s ≡ true → Laws c → Laws (after c n s)
-laws-kept c n s g h = record {
+laws-kept c n s g h = let k = kept c n s g h.edges h.nodes in record {
   fit = subst (λ z. fits z ≡ true) (sym (sizes-kept c n s)) h.fit;
-  edges = edges-kept c n s g h.nodes h.edges;
-  nodes = nodes-kept c n s g h.edges h.nodes;
-  tokens = tokens-kept c n s g h.edges h.nodes h.tokens;
+  edges = k.edges;
+  nodes = k.nodes;
+  tokens = k.tokens h.tokens;
 }
+
+-- the pending number is at most three for each node
+pub pending-most : (c : CoreState) → Tokens c → c.pending ≤ length c.nodes * 3
+pending-most c h = let z = sum_by-le weight 3 c.nodes (λ k d l.
+    let x = h.few k in let y : counts (node_at c k).word ≤ 1 = grind arith in
+    subst (λ nd. weight nd ≤ 3) (get_or_default c.nodes k no_node d l) (omega (arith, x, y))) in
+    let p = h.pending in omega (arith, p, z)

@@ -1,9 +1,6 @@
 pub mod Lists
 pub mod Bits
 pub mod Moves
-pub mod Edges
-pub mod Nodes
-pub mod Tokens
 pub mod Kept
 pub mod Starts
 pub mod Settled

@@ -1,10 +1,9 @@
 -- Places in lists, sets of edges as lists, and sights in lists.
-use Rattle.std.proofs.Common.{◌≡◌, ◌≢◌, ℕ, ◌<◌, eqb, List, [], ◌∷◌, ◌++◌, length, set, get_or, Bool, true, false, ◌||◌, refl, sym, ap, subst, ◌∙◌, inl, inr, arith}
+use Rattle.std.proofs.Common.{◌≡◌, ◌≢◌, ℕ, ◌<◌, eqb, List, [], ◌∷◌, ◌++◌, length, set, get_or, Bool, true, ◌||◌, ◌&&◌, false, refl, sym, ap, subst, ◌∙◌, inl, inr, arith}
+use Rattle.std.specs.List.{filter}
 use Rattle.std.proofs.lemmas.Bool.{cases_eq}
 use Rattle.std.proofs.lemmas.List.{get_or-set_same, get_or-set_other}
-use Rattle.port_word.specs.declared.flags.Flags.{Flags}
-use Rattle.core_laws.specs.declared.types.Sight.{Sight}
-use Rattle.core_laws.specs.Views.{no_flags, has, once, adding, kept, edges_of, knows, flags_at, seeing}
+use Rattle.core_laws.specs.Views.{Flags, Sight, no_flags, has, once, adding, edges_of, knows, flags_at, seeing}
 
 -- what holds of a place of a list in which one place was set
 pub at_put : {A : Type 0} (P : A → Type 0) (l : List A) (n m : ℕ) (x d : A) → n < length l
@@ -16,21 +15,15 @@ at_put P l n m x d h here other = elim (cases_eq m n) [
 
 -- ---- sets
 
--- what is kept was there
-pub kept-sub : (t : ℕ → Bool) (l : List ℕ) (d : ℕ) → has d (kept t l) ≡ true → has d l ≡ true
-kept-sub t [] d h = h
-kept-sub t (x ∷ xs) d h = grind (arith, kept-sub t xs d)
-
--- what was there and passes the test is kept
-pub kept-has : (t : ℕ → Bool) (l : List ℕ) (d : ℕ) → t d ≡ true → has d l ≡ true
-    → has d (kept t l) ≡ true
-kept-has t [] d p h = h
-kept-has t (x ∷ xs) d p h = grind (arith, kept-has t xs d)
+-- what is kept was there and passes the test
+pub has-filter : (t : ℕ → Bool) (l : List ℕ) (d : ℕ) → has d (filter t l) ≡ (t d && has d l)
+has-filter t [] d = grind arith
+has-filter t (x ∷ xs) d = grind (arith, has-filter t xs d)
 
 -- each is kept at most once
-pub kept-once : (t : ℕ → Bool) (l : List ℕ) → once l ≡ true → once (kept t l) ≡ true
-kept-once t [] h = h
-kept-once t (x ∷ xs) h = grind (arith, kept-once t xs, kept-sub t xs x)
+pub once-filter : (t : ℕ → Bool) (l : List ℕ) → once l ≡ true → once (filter t l) ≡ true
+once-filter t [] h = h
+once-filter t (x ∷ xs) h = grind (arith, once-filter t xs, has-filter t xs x)
 
 -- what a list has with one more at its end
 pub has-last : (e d : ℕ) (l : List ℕ) → has d (l ++ e ∷ []) ≡ (has d l || eqb e d)
@@ -79,8 +72,3 @@ pub flags-last : (e d : ℕ) (l : List Sight) → knows e l ≡ false
     → flags_at d (l ++ record { edge = e; flags = no_flags } ∷ []) ≡ flags_at d l
 flags-last e d [] h = grind arith
 flags-last e d (g ∷ gs) h = grind (arith, flags-last e d gs)
-
--- the edge goes last
-pub edges-last : (s : Sight) (l : List Sight) → edges_of (l ++ s ∷ []) ≡ edges_of l ++ s.edge ∷ []
-edges-last s [] = refl
-edges-last s (g ∷ gs) = ap (λ z. g.edge ∷ z) (edges-last s gs)

@@ -1,15 +1,7 @@
 -- When sizes fit, and the state at the start.
-use Rattle.std.specs.Prelude.{ℕ, zero, suc, ◌+◌, ◌^◌, ◌==◌, ◌||◌, ◌&&◌, not, cond, Bool, true, false, nat_lt, nat_le, List, [], ◌∷◌, length, replicate, Some}
-use Rattle.std.specs.List.{list_all}
-use Rattle.port_word.specs.declared.flags.Wire.{Wire}
-use Rattle.port_word.specs.declared.flags.Reserve.{Reserve}
-use Rattle.core_laws.specs.declared.types.Sizes.{Sizes}
-use Rattle.core_laws.specs.declared.types.Sight.{Sight}
-use Rattle.core_laws.specs.declared.types.PortState.{PortState}
-use Rattle.core_laws.specs.declared.types.NodeState.{NodeState}
-use Rattle.core_laws.specs.declared.types.CoreState.{CoreState}
-use Rattle.core_laws.specs.Views.{no_flags, no_port, edges_of, names, wire_ok, reserved_edges}
-use Rattle.core_laws.specs.TokenLaws.{counts}
+use Rattle.std.specs.Prelude.{ℕ, ◌+◌, ◌^◌, ◌==◌, ◌||◌, ◌&&◌, not, cond, Bool, true, false, nat_lt, nat_le, List, [], ◌∷◌, map, length, Some, None, slice_index_or}
+use Rattle.std.specs.List.{list_any, list_all, filter, range_with_len, sum_by}
+use Rattle.core_laws.specs.Views.{Wire, Reserve, Sizes, Sight, PortState, NodeState, CoreState, no_flags, no_port, no_wire, names, edges_of, wire_ok, reserved_edges, counts}
 
 -- ---- sizes that fit
 
@@ -19,9 +11,7 @@ each_two t [] = true
 each_two t (x ∷ xs) = list_all (t x) xs && each_two t xs
 
 abbrev pub is_reserved : ℕ → List Reserve → Bool
-is_reserved n [] = false
-is_reserved n (r ∷ rs) = (nat_le r.first_node n && nat_lt n (r.first_node + r.nodes))
-    || is_reserved n rs
+is_reserved n rs = list_any (λ r. nat_le r.first_node n && nat_lt n (r.first_node + r.nodes)) rs
 
 -- the wire joins two nodes that no reserve holds, at ports within the limits
 abbrev pub wire_fits : Sizes → Wire → Bool
@@ -56,21 +46,23 @@ fits s = (nat_le s.nodes 256 && (nat_le s.workers 17
 -- ---- the state
 
 abbrev pub has_output : ℕ → List Wire → Bool
-has_output n [] = false
-has_output n (w ∷ ws) = (w.from == n) || has_output n ws
+has_output n ws = list_any (λ w. w.from == n) ws
 
-abbrev pub fresh_port : Wire → PortState
-fresh_port w = record no_port { wire = Some w }
+-- an edge of the wires has its wire
+abbrev pub start_port : Sizes → ℕ → PortState
+start_port s e = record no_port {
+  wire = cond (nat_lt e (length s.wires)) (Some (slice_index_or s.wires e no_wire)) None;
+}
 
-abbrev pub start_ports : List Wire → ℕ → List PortState
-start_ports [] r = replicate r no_port
-start_ports (w ∷ ws) r = fresh_port w ∷ start_ports ws r
+abbrev pub fresh_sight : ℕ → Sight
+fresh_sight e = record { edge = e; flags = no_flags }
 
--- the ports of the node among the wires, of which the first has the number k
-abbrev pub ports_of : ℕ → ℕ → List Wire → List Sight
-ports_of n k [] = []
-ports_of n k (w ∷ ws) = cond (names n (Some w))
-    (record { edge = k; flags = no_flags } ∷ ports_of n (suc k) ws) (ports_of n (suc k) ws)
+-- the node is an end of the edge seen, which is one of the wires
+abbrev pub is_end_among : ℕ → List Wire → Sight → Bool
+is_end_among n ws f = names n (Some (slice_index_or ws f.edge no_wire))
+
+abbrev pub ports_of : ℕ → List Wire → List Sight
+ports_of n ws = filter (is_end_among n ws) (map fresh_sight (range_with_len 0 (length ws)))
 
 -- a node of a reserve is unborn, and a live one without output is charged
 abbrev pub start_word : Sizes → ℕ → ℕ
@@ -82,25 +74,21 @@ start_node s n = record {
   word = start_word s n;
   held = false;
   tokens = 0;
-  seen = ports_of n 0 s.wires;
-  unlooked = edges_of (ports_of n 0 s.wires);
+  seen = ports_of n s.wires;
+  unlooked = edges_of (ports_of n s.wires);
   owes = [];
 }
 
-abbrev pub nodes_from : Sizes → ℕ → ℕ → List NodeState
-nodes_from s n zero = []
-nodes_from s n (suc k) = start_node s n ∷ nodes_from s (suc n) k
-
--- how many of the nodes are charged
-abbrev pub charged_from : Sizes → ℕ → ℕ → ℕ
-charged_from s n zero = 0
-charged_from s n (suc k) = counts (start_word s n) + charged_from s (suc n) k
+-- how many of the first k nodes are charged
+abbrev pub charged : Sizes → ℕ → ℕ
+charged s k = sum_by counts (map (start_word s) (range_with_len 0 k))
 
 abbrev pub start : Sizes → CoreState
 start s = record {
   sizes = s;
-  ports = start_ports s.wires (reserved_edges s.reserves);
-  nodes = nodes_from s 0 s.nodes;
-  pending = charged_from s 0 s.nodes;
+  ports = map (start_port s)
+      (range_with_len 0 (length s.wires + reserved_edges s.reserves));
+  nodes = map (start_node s) (range_with_len 0 s.nodes);
+  pending = charged s s.nodes;
   stopped = false;
 }

@@ -1,27 +1,20 @@
--- The steps: for each kind the condition on the view, and the change of one word and of the view.
+-- The steps: for each kind the condition on the view, the change of one word and of the view, and
+-- the answer, from the word that it reads.
 use Rattle.std.specs.Prelude.{ℕ, ◌+◌, ◌-◌, ◌^◌, ◌==◌, ◌||◌, ◌&&◌, not, cond, Bool, true, false, nat_lt, List, [], ◌∷◌, ◌++◌, length, Option, Some, None, bit_or, bit_xor, is_none}
-use Rattle.port_word.specs.declared.flags.Flags.{Flags}
-use Rattle.port_word.specs.declared.flags.Wire.{Wire}
-use Rattle.core_laws.specs.declared.types.PortState.{PortState}
-use Rattle.core_laws.specs.declared.types.NodeState.{NodeState}
-use Rattle.core_laws.specs.declared.types.CoreState.{CoreState}
-use Rattle.core_laws.specs.declared.types.Act.{Act}
-use Rattle.core_laws.specs.declared.types.Act.TheVariants.{Want, Unwant, Push, Pull, Finish, Close}
-use Rattle.core_laws.specs.declared.types.Step.{Step}
+use Rattle.std.specs.List.{filter}
+pub use Rattle.core_laws.specs.declared.types.Act.{Act}
+pub use Rattle.core_laws.specs.declared.types.Act.TheVariants.{Want, Unwant, Push, Pull, Finish, Close}
+pub use Rattle.core_laws.specs.declared.types.Step.{Step}
 use Rattle.core_laws.specs.declared.types.Step.TheVariants as step
-use Rattle.core_laws.specs.Views.{no_flags, node_at, port_at, put_node, put_port, has, adding, kept, without, edges_of, knows, flags_at, seeing, bit_of, is_end, names, is_set, is_unborn, is_over, wire_ok, may_wire}
-use Rattle.core_laws.specs.EdgeLaws.{listed}
+use Rattle.core_laws.specs.Views.{Flags, Wire, PortState, NodeState, CoreState, no_flags, node_at, port_at, put_node, put_port, listed, has, adding, without, edges_of, knows, flags_at, seeing, bit_of, is_end, names, is_set, is_unborn, is_over, wire_ok, may_wire}
 
 -- ---- what a held end of an edge does to its port
 
 -- the end that does it: true is the consumer
 abbrev pub acting_end : Act → Bool
-acting_end Want = true
-acting_end Unwant = true
 acting_end (Push x) = false
-acting_end Pull = true
 acting_end Finish = false
-acting_end Close = true
+acting_end a = true
 
 -- what the end must see of the port
 abbrev pub allows : Act → Flags → Bool
@@ -45,44 +38,33 @@ changed Close f = record f { fin_in = true }
 abbrev pub tells : Act → Flags → Bool
 tells Want f = not f.needed
 tells Unwant f = false
-tells (Push x) f = true
-tells Pull f = true
-tells Finish f = true
-tells Close f = true
+tells a f = true
 
 -- the slot and the histories after it
 abbrev pub chunks_after : Act → PortState → PortState
-chunks_after Want p = p
-chunks_after Unwant p = p
 chunks_after (Push x) p = record p { slot = Some x; pushed = p.pushed ++ x ∷ [] }
 chunks_after Pull p = record p { slot = None; pulled = p.pulled ++ listed p.slot }
-chunks_after Finish p = p
-chunks_after Close p = p
+chunks_after a p = p
 
 abbrev pub port_after : Act → PortState → PortState
-port_after a p = record {
-  flags = changed a p.flags;
-  slot = (chunks_after a p).slot;
-  pushed = (chunks_after a p).pushed;
-  pulled = (chunks_after a p).pulled;
-  wire = p.wire;
-}
-
-abbrev pub owing : Bool → ℕ → List ℕ → List ℕ
-owing true e l = adding e l
-owing false e l = l
+port_after a p = record (chunks_after a p) { flags = changed a p.flags }
 
 -- the node that acted on the edge, whose word had the flags f
 abbrev pub node_after : Act → ℕ → Flags → NodeState → NodeState
 node_after a e f nd = record nd {
   seen = seeing e (changed a (flags_at e nd.seen)) nd.seen;
-  owes = owing (tells a f) e nd.owes;
+  owes = cond (tells a f) (adding e nd.owes) nd.owes;
 }
+
+abbrev pub is_here : CoreState → ℕ → Bool
+is_here c n = nat_lt n (length c.nodes)
+
+abbrev pub is_edge : CoreState → ℕ → ℕ → Bool
+is_edge c n e = is_here c n && nat_lt e (length c.ports)
 
 -- the node is there, and is a held end of the edge that it has learned
 abbrev pub holds : CoreState → ℕ → ℕ → Bool
-holds c n e = (nat_lt n (length c.nodes) && nat_lt e (length c.ports))
-    && ((node_at c n).held && knows e (node_at c n).seen)
+holds c n e = is_edge c n e && ((node_at c n).held && knows e (node_at c n).seen)
 
 abbrev pub may_act : Act → CoreState → ℕ → ℕ → Bool
 may_act a c n e = (holds c n e && is_end (acting_end a) n (port_at c e).wire)
@@ -134,17 +116,11 @@ taken c n k = record (node_at c n) {
   word = 2 ^ 62;
   held = true;
   tokens = (node_at c n).tokens - k;
-  unlooked = kept (is_updated c n) (edges_of (node_at c n).seen);
+  unlooked = filter (is_updated c n) (edges_of (node_at c n).seen);
 }
 
 abbrev pub left : ℕ → NodeState → NodeState
 left w nd = record nd { word = w; held = false; tokens = nd.tokens + 1 }
-
-abbrev pub is_here : CoreState → ℕ → Bool
-is_here c n = nat_lt n (length c.nodes)
-
-abbrev pub is_edge : CoreState → ℕ → ℕ → Bool
-is_edge c n e = nat_lt n (length c.nodes) && nat_lt e (length c.ports)
 
 abbrev pub has_token : NodeState → Bool
 has_token nd = nat_lt 0 nd.tokens
@@ -153,20 +129,25 @@ abbrev pub may_take : NodeState → Bool
 may_take nd = nat_lt nd.tokens 2
 
 abbrev pub is_none_of : List ℕ → Bool
-is_none_of [] = true
-is_none_of (x ∷ xs) = false
+is_none_of l = length l == 0
+
+abbrev pub may_begin : NodeState → Bool
+may_begin nd = (has_token nd && not nd.held) && (not (is_unborn nd.word) && not (is_over nd.word))
+
+abbrev pub may_leave : NodeState → Bool
+may_leave nd = nd.held && (is_none_of nd.owes && may_take nd)
 
 -- ---- growth
 
 -- an edge that is learned goes last, and is yet to be looked at
 abbrev pub learning : ℕ → NodeState → NodeState
 learning e nd = record nd {
-  seen = cond (knows e nd.seen) nd.seen (nd.seen ++ record { edge = e; flags = no_flags } ∷ []);
-  unlooked = cond (knows e nd.seen) nd.unlooked (adding e nd.unlooked);
+  seen = nd.seen ++ record { edge = e; flags = no_flags } ∷ [];
+  unlooked = adding e nd.unlooked;
 }
 
 abbrev pub learned : CoreState → ℕ → ℕ → CoreState
-learned c n e = put_node c n (learning e (node_at c n))
+learned c n e = cond (knows e (node_at c n).seen) c (put_node c n (learning e (node_at c n)))
 
 abbrev pub wiring : CoreState → ℕ → Wire → CoreState
 wiring c e w = put_port c e (record (port_at c e) { wire = Some w })
@@ -193,15 +174,10 @@ may c n (step.Pull e) = may_act Pull c n e
 may c n (step.Finish e) = may_act Finish c n e
 may c n (step.ClosePort e) = may_act Close c n e
 may c n (step.Mark e) = is_edge c n e && (has e (node_at c n).owes && has_token (node_at c n))
-may c n step.Begin = (is_here c n && has_token (node_at c n))
-    && (not (is_unborn (node_at c n).word) && (not (node_at c n).held && not
-    (is_over (node_at c n).word)))
+may c n step.Begin = is_here c n && may_begin (node_at c n)
 may c n step.Again = is_here c n && (node_at c n).held
-may c n step.Rest = (is_here c n && (node_at c n).held)
-    && ((is_none_of (node_at c n).owes && may_take (node_at c n)) && is_none_of
-    (node_at c n).unlooked)
-may c n step.Over = (is_here c n && (node_at c n).held)
-    && (is_none_of (node_at c n).owes && may_take (node_at c n))
+may c n step.Rest = is_here c n && (may_leave (node_at c n) && is_none_of (node_at c n).unlooked)
+may c n step.Over = is_here c n && may_leave (node_at c n)
 may c n step.TokenIn = is_here c n && may_take (node_at c n)
 may c n step.TokenOut = is_here c n && has_token (node_at c n)
 may c n (step.Wire e w) = is_edge c n e
@@ -233,3 +209,45 @@ after c n (step.Wired e) = cond (names n (port_at c e).wire) (learned c n e) c
 after c n step.Birth = put_node c n (born (node_at c n))
 after c n step.Stop = record c { stopped = true }
 after c n step.See = c
+
+-- ---- answers
+
+-- what `mark` makes of the peer, or finds
+pub data Marked : Type 0 where
+  charged : Marked
+  already_due : Marked
+  over : Marked
+
+-- what `see` finds
+pub data Seen : Type 0 where
+  pending : ℕ → Seen
+  quiet : Seen
+  stopped : Seen
+
+pub data Answer : Type 0 where
+  nothing : Answer
+  flags : Flags → Answer
+  marked_peer : Marked → Answer
+  -- the node's word, whose bits name the updated ports
+  updated : ℕ → Answer
+  is_idle : Bool → Answer
+  -- the wire that was there before
+  wired : Option Wire → Answer
+  seen : Seen → Answer
+
+abbrev pub marked_by : ℕ → Marked
+marked_by w = cond (w == 0) charged (cond (is_over w) over already_due)
+
+abbrev pub seen_in : CoreState → Seen
+seen_in c = cond c.stopped stopped (cond (c.pending == 0) quiet (pending c.pending))
+
+abbrev pub answer : CoreState → ℕ → Step → Answer
+answer c n (step.Look e) = flags (port_at c e).flags
+answer c n (step.Mark e) = marked_peer (marked_by (node_at c (peer_in n (port_at c e).wire)).word)
+answer c n step.Begin = updated (node_at c n).word
+answer c n step.Again = updated (node_at c n).word
+answer c n step.Rest = is_idle ((node_at c n).word == 2 ^ 62)
+answer c n (step.Wire e w) = wired (port_at c e).wire
+answer c n (step.Wired e) = wired (port_at c e).wire
+answer c n step.See = seen (seen_in c)
+answer c n s = nothing

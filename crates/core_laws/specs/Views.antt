@@ -1,13 +1,15 @@
--- What a core state has at a node, at an edge, and in a node's view.
-use Rattle.std.specs.Prelude.{ℕ, ◌+◌, ◌==◌, ◌||◌, ◌&&◌, not, cond, Bool, true, false, nat_lt, nat_le, List, [], ◌∷◌, ◌++◌, Option, Some, None, slice_index_or, slice_set}
+-- What a core state has at a node, at an edge, and in a node's view. It hands on a state's types.
+use Rattle.std.specs.Prelude.{ℕ, ◌+◌, ◌==◌, ◌||◌, ◌&&◌, not, cond, Bool, true, false, nat_lt, nat_le, List, [], ◌∷◌, ◌++◌, map, Option, Some, None, slice_index_or, slice_set}
 use Rattle.std.specs.Int.{bit_at}
-use Rattle.port_word.specs.declared.flags.Flags.{Flags}
-use Rattle.port_word.specs.declared.flags.Wire.{Wire}
-use Rattle.port_word.specs.declared.flags.Reserve.{Reserve}
-use Rattle.core_laws.specs.declared.types.Sight.{Sight}
-use Rattle.core_laws.specs.declared.types.PortState.{PortState}
-use Rattle.core_laws.specs.declared.types.NodeState.{NodeState}
-use Rattle.core_laws.specs.declared.types.CoreState.{CoreState}
+use Rattle.std.specs.List.{list_any, filter}
+pub use Rattle.port_word.specs.declared.flags.Flags.{Flags}
+pub use Rattle.port_word.specs.declared.flags.Wire.{Wire}
+pub use Rattle.port_word.specs.declared.flags.Reserve.{Reserve}
+pub use Rattle.core_laws.specs.declared.types.Sizes.{Sizes}
+pub use Rattle.core_laws.specs.declared.types.Sight.{Sight}
+pub use Rattle.core_laws.specs.declared.types.PortState.{PortState}
+pub use Rattle.core_laws.specs.declared.types.NodeState.{NodeState}
+pub use Rattle.core_laws.specs.declared.types.CoreState.{CoreState}
 
 abbrev pub no_flags : Flags
 no_flags = record { needed = false; has_data = false; fin_out = false; fin_in = false }
@@ -39,11 +41,14 @@ put_node c n nd = record c { nodes = slice_set c.nodes n nd }
 abbrev pub put_port : CoreState → ℕ → PortState → CoreState
 put_port c e p = record c { ports = slice_set c.ports e p }
 
+abbrev pub listed : Option ℕ → List ℕ
+listed None = []
+listed (Some x) = x ∷ []
+
 -- ---- sets of edges, as lists
 
 abbrev pub has : ℕ → List ℕ → Bool
-has e [] = false
-has e (x ∷ xs) = (x == e) || has e xs
+has e l = list_any (λ x. x == e) l
 
 abbrev pub once : List ℕ → Bool
 once [] = true
@@ -52,18 +57,13 @@ once (x ∷ xs) = not (has x xs) && once xs
 abbrev pub adding : ℕ → List ℕ → List ℕ
 adding e l = cond (has e l) l (l ++ e ∷ [])
 
-abbrev pub kept : (ℕ → Bool) → List ℕ → List ℕ
-kept t [] = []
-kept t (x ∷ xs) = cond (t x) (x ∷ kept t xs) (kept t xs)
-
 abbrev pub without : ℕ → List ℕ → List ℕ
-without e l = kept (λ d. not (d == e)) l
+without e l = filter (λ d. not (d == e)) l
 
 -- ---- sights
 
 abbrev pub edges_of : List Sight → List ℕ
-edges_of [] = []
-edges_of (f ∷ fs) = f.edge ∷ edges_of fs
+edges_of l = map (λ (s : Sight). s.edge) l
 
 abbrev pub knows : ℕ → List Sight → Bool
 knows e l = has e (edges_of l)
@@ -105,6 +105,10 @@ is_unborn w = is_set w 61
 abbrev pub is_over : ℕ → Bool
 is_over w = is_set w 63
 
+-- 1 for the word of a charged or held node
+abbrev pub counts : ℕ → ℕ
+counts w = cond (w == 0) 0 (cond (is_unborn w) 0 (cond (is_over w) 0 1))
+
 -- ---- wires and reserves
 
 -- two nodes, at ports within the limits
@@ -120,9 +124,7 @@ edge_in e r = nat_le r.first_edge e && nat_lt e (r.first_edge + r.edges)
 
 -- the edge is in a reserve whose nodes, or whose expander, the wire joins
 abbrev pub may_wire : List Reserve → ℕ → Wire → Bool
-may_wire [] e w = false
-may_wire (r ∷ rs) e w =
-    (edge_in e r && (of_reserve w.from r && of_reserve w.to r)) || may_wire rs e w
+may_wire rs e w = list_any (λ r. edge_in e r && (of_reserve w.from r && of_reserve w.to r)) rs
 
 abbrev pub reserved_edges : List Reserve → ℕ
 reserved_edges [] = 0

@@ -3,8 +3,6 @@ use Rattle.std.specs.Prelude.{◌≡◌, ℕ, ◌<◌, cond, false, List, [], �
 use Rattle.core_laws.specs.declared.types.Event.{Event}
 use Rattle.core_laws.specs.declared.types.Step.TheVariants as step
 use Rattle.core_laws.specs.declared.types.CoreState.{CoreState}
-use Rattle.core_laws.specs.declared.types.NodeState.{NodeState}
-use Rattle.core_laws.specs.Views.{without}
 use Rattle.core_laws.specs.Steps.{may, after}
 use Rattle.exec_core.specs.declared.events.ReplayEnd.{ReplayEnd}
 use Rattle.exec_core.specs.declared.events.ReplayEnd.TheVariants.{BadEvent, Memory}
@@ -28,7 +26,3 @@ pub record IsBadAt (start : CoreState) (events : List Event) (k : ℕ) : Type 0 
 abbrev pub EndsRight : CoreState → List Event → ReplayEnd → Type 0
 EndsRight start events (BadEvent k) = IsBadAt start events k
 EndsRight start events Memory = Unit {0}
-
--- the node that owes the edge no more, and keeps so many tokens
-abbrev pub forgetting : NodeState → ℕ → ℕ → NodeState
-forgetting nd e tokens = record nd { tokens = tokens; owes = without e nd.owes }

@@ -5,9 +5,8 @@ ghost use Rattle.core_laws.specs.Steps.{may, after};
 ghost use Rattle.exec_core.specs.Runs.{EndsRight, run};
 
 use crate::conditions::is_step;
-use crate::growth::{wire, wired};
-use crate::lookups::node;
-use crate::node_steps::{begin, birth, count, leave, mark, rest, take};
+use crate::lookups::{names, node, port};
+use crate::node_steps::{birth, count, learn, leave, mark, spent, take, wiring};
 use crate::port_steps::{act_on, look};
 use chunk_data::Memory;
 use core_laws::{Act, CoreState, Event, Step};
@@ -28,33 +27,53 @@ fn step_after(alloc: Global, core: CoreState, event: Event) -> Result<CoreState,
 {
     let n = event.seat;
     match event.step {
-        Step::Look(e) => Ok(look(core, n, e)),
-        Step::Want(e) => act_on(Act::Want, core, n, e),
-        Step::Unwant(e) => act_on(Act::Unwant, core, n, e),
-        Step::Push(e, x) => act_on(Act::Push(x), core, n, e),
-        Step::Pull(e) => act_on(Act::Pull, core, n, e),
-        Step::Finish(e) => act_on(Act::Finish, core, n, e),
-        Step::ClosePort(e) => act_on(Act::Close, core, n, e),
-        Step::Mark(e) => Ok(mark(core, n, e)),
-        Step::Begin => begin(alloc, core, n),
+        Step::Look(e) => Ok(look(alloc, core, n, e)),
+        Step::Want(e) => act_on(alloc, Act::Want, core, n, e),
+        Step::Unwant(e) => act_on(alloc, Act::Unwant, core, n, e),
+        Step::Push(e, x) => act_on(alloc, Act::Push(x), core, n, e),
+        Step::Pull(e) => act_on(alloc, Act::Pull, core, n, e),
+        Step::Finish(e) => act_on(alloc, Act::Finish, core, n, e),
+        Step::ClosePort(e) => act_on(alloc, Act::Close, core, n, e),
+        Step::Mark(e) => Ok(mark(alloc, core, n, e)),
+        Step::Begin => {
+            let spends = spent(node(&core, n).word);
+            take(alloc, core, n, spends)
+        }
         Step::Again => take(alloc, core, n, 0),
-        Step::Rest => Ok(rest(core, n)),
-        Step::Over => Ok(leave(core, n, 1 << 63)),
+        Step::Rest => {
+            if node(&core, n).word == 1 << 62 {
+                Ok(leave(alloc, core, n, 0))
+            } else {
+                Ok(core)
+            }
+        }
+        Step::Over => Ok(leave(alloc, core, n, 1 << 63)),
         Step::TokenIn => {
             let (tokens, pending) = (node(&core, n).tokens + 1, core.pending + 1);
-            Ok(count(core, n, tokens, pending))
+            Ok(count(alloc, core, n, tokens, pending))
         }
         Step::TokenOut => {
             let (tokens, pending) = (node(&core, n).tokens - 1, core.pending - 1);
-            Ok(count(core, n, tokens, pending))
+            Ok(count(alloc, core, n, tokens, pending))
         }
-        Step::Wire(e, w) => wire(core, n, e, w),
-        Step::Wired(e) => wired(core, n, e),
-        Step::Birth => Ok(birth(core, n)),
-        Step::Stop => Ok(CoreState {
-            stopped: true,
-            ..core
-        }),
+        Step::Wire(e, w) => {
+            match port(&core, e).wire {
+                None => learn(alloc, wiring(alloc, core, e, w), n, e),
+                Some(_) => Ok(core),
+            }
+        }
+        Step::Wired(e) => {
+            if names(n, port(&core, e).wire) {
+                learn(alloc, core, n, e)
+            } else {
+                Ok(core)
+            }
+        }
+        Step::Birth => Ok(birth(alloc, core, n)),
+        Step::Stop => {
+            let stopped = true;
+            Ok(CoreState { stopped, ..core })
+        }
         Step::See => Ok(core),
     }
 }

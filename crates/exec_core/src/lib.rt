@@ -3,13 +3,12 @@
 //!
 //! Types, the definition of the steps and their laws stand in the crate `core_laws`, so that a
 //! running table, which is tied to them, isn't checked again with this code. A step is tested here
-//! by `conditions.rt` and made by `port_steps.rt`, `node_steps.rt` and `growth.rt`, each the
-//! definition's plain program.
+//! by `conditions.rt` and made by `port_steps.rt` and `node_steps.rt`, each the definition's plain
+//! program.
 #![tactic(auto, using(crate::proofs::Replaced::replaced))]
 
 mod conditions;
 mod events;
-mod growth;
 mod lookups;
 mod node_steps;
 mod places;

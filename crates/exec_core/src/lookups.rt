@@ -1,8 +1,9 @@
 //! What a state has at a node, at an edge and in a node's view.
 ghost use Rattle.std.specs.Prelude.{◌≡◌, ◌<◌, length};
-ghost use Rattle.core_laws.specs.Views.{has as has_edge, knows as knows_edge, flags_at as flags_there, node_at, port_at, is_set as is_set_there, is_end as is_end_there};
+ghost use Rattle.core_laws.specs.Views.{has as has_edge, knows as knows_edge, flags_at as flags_there, node_at, port_at, is_set as is_set_there, is_end as is_end_there, names as names_there};
 ghost use Rattle.core_laws.specs.Steps.{peer_in as peer_there, bit_at_end as bit_there};
 
+use chunk_data::List;
 use core_laws::{CoreState, Flags, NodeState, PortState, Sight, Wire};
 
 pub(crate) const NO_FLAGS: Flags = Flags {
@@ -12,26 +13,17 @@ pub(crate) const NO_FLAGS: Flags = Flags {
     fin_in: false,
 };
 
-pub(crate) fn has(edges: &[u32], e: u32) -> bool
+pub(crate) fn has(edges: &List<u32>, e: u32) -> bool
     ensures { result ≡ has_edge e edges.now }
 {
-    for d in edges {
-        if *d == e {
-            return true;
-        }
-    }
-    false
+    edges.as_slice().iter().any(|d| *d == e)
 }
 
-pub(crate) fn knows(seen: &[Sight], e: u32) -> bool
+pub(crate) fn knows(seen: &List<Sight>, e: u32) -> bool
     ensures { result ≡ knows_edge e seen.now }
 {
-    for sight in seen {
-        if sight.edge == e {
-            return true;
-        }
-    }
-    false
+    let mut edges = seen.as_slice().iter().map(|sight| sight.edge);
+    edges.any(|d| d == e)
 }
 
 /// The flags that the node sees at the edge, none where it hasn't learned it.
@@ -81,12 +73,19 @@ pub(crate) fn is_end(consumer: bool, n: u32, wire: Option<Wire>) -> bool
     }
 }
 
+pub(crate) fn names(n: u32, wire: Option<Wire>) -> bool
+    ensures { result ≡ names_there n wire }
+{
+    is_end(true, n, wire) || is_end(false, n, wire)
+}
+
 pub(crate) fn peer_in(n: u32, wire: Option<Wire>) -> u32
     ensures { result ≡ peer_there n wire }
 {
     match wire {
         None => n,
-        Some(w) => { if w.to == n { w.from } else { w.to } }
+        Some(w) if w.to == n => w.from,
+        Some(w) => w.to,
     }
 }
 
@@ -96,13 +95,8 @@ pub(crate) fn bit_at_end(n: u32, wire: Option<Wire>) -> u64
 {
     match wire {
         None => 0,
-        Some(w) => {
-            if w.to == n {
-                w.input as u64
-            } else {
-                32 + w.out as u64
-            }
-        }
+        Some(w) if w.to == n => w.input as u64,
+        Some(w) => 32 + w.out as u64,
     }
 }
 

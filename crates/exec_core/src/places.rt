@@ -1,71 +1,60 @@
-//! A state's nodes and ports, taken out of it and put back.
-ghost use Rattle.std.specs.Prelude.{◌≡◌, ◌<◌, length, not, ◌==◌, IfOk};
-ghost use Rattle.core_laws.specs.Views.{node_at, port_at, put_node as put_node_there, put_port as put_port_there, no_node, no_port, seeing, without as without_there, adding as adding_there};
+//! A state's nodes and ports, exchanged, and the lists of a node's view.
+ghost use Rattle.std.specs.Prelude.{◌≡◌, ◌<◌, length, not, ◌==◌, cond, IfOk, ◌++◌, ◌∷◌, []};
+ghost use Rattle.core_laws.specs.Views.{node_at, port_at, put_node, put_port, no_node, no_port, seeing, without as without_there, adding as adding_there};
 
 use crate::lookups::{NO_FLAGS, has};
 use chunk_data::{List, Memory};
-use core_laws::{CoreState, Flags, NodeState, PortState, Sight};
+use core_laws::{CoreState, Flags, NodeState, PortState, Sight, Wire};
+use std::alloc::Global;
 use std::mem::replace;
 
-/// The node, taken out of the state.
-pub(crate) fn take_node(core: CoreState, n: u32) -> (CoreState, NodeState)
-    requires { n < length core.nodes }
-    ensures rest { result.0 ≡ put_node_there core n no_node }
-    ensures node { result.1 ≡ node_at core n }
+pub(crate) fn blank_node(alloc: Global) -> NodeState
+    ensures { result ≡ no_node }
 {
-    let mut nodes = core.nodes.into_vec();
-    let alloc = *nodes.allocator();
-    let blank = NodeState {
+    NodeState {
         word: 0,
         held: false,
         tokens: 0,
         seen: List::new(alloc),
         unlooked: List::new(alloc),
         owes: List::new(alloc),
-    };
-    let node = replace(&mut nodes[n as usize], blank);
-    let nodes = List::from_vec(nodes);
-    (CoreState { nodes, ..core }, node)
+    }
 }
 
-pub(crate) fn put_node(core: CoreState, n: u32, node: NodeState) -> CoreState
-    requires { n < length core.nodes }
-    ensures { result ≡ put_node_there core n node }
+pub(crate) fn fresh_port(alloc: Global, wire: Option<Wire>) -> PortState
+    ensures { result ≡ record no_port { wire = wire } }
 {
-    let mut nodes = core.nodes.into_vec();
-    nodes[n as usize] = node;
-    let nodes = List::from_vec(nodes);
-    CoreState { nodes, ..core }
-}
-
-/// The port, taken out of the state.
-pub(crate) fn take_port(core: CoreState, e: u32) -> (CoreState, PortState)
-    requires { e < length core.ports }
-    ensures rest { result.0 ≡ put_port_there core e no_port }
-    ensures port { result.1 ≡ port_at core e }
-{
-    let mut ports = core.ports.into_vec();
-    let alloc = *ports.allocator();
-    let blank = PortState {
+    PortState {
         flags: NO_FLAGS,
         slot: None,
         pushed: List::new(alloc),
         pulled: List::new(alloc),
-        wire: None,
-    };
-    let port = replace(&mut ports[e as usize], blank);
-    let ports = List::from_vec(ports);
-    (CoreState { ports, ..core }, port)
+        wire,
+    }
 }
 
-pub(crate) fn put_port(core: CoreState, e: u32, port: PortState) -> CoreState
+/// The state with this node, and the one that it had there.
+pub(crate) fn swap_node(core: CoreState, n: u32, node: NodeState) -> (CoreState, NodeState)
+    requires { n < length core.nodes }
+    ensures core { result.0 ≡ put_node core n node }
+    ensures node { result.1 ≡ node_at core n }
+{
+    let mut nodes = core.nodes.into_vec();
+    let old = replace(&mut nodes[n as usize], node);
+    let nodes = List::from_vec(nodes);
+    (CoreState { nodes, ..core }, old)
+}
+
+/// The state with this port, and the one that it had there.
+pub(crate) fn swap_port(core: CoreState, e: u32, port: PortState) -> (CoreState, PortState)
     requires { e < length core.ports }
-    ensures { result ≡ put_port_there core e port }
+    ensures core { result.0 ≡ put_port core e port }
+    ensures port { result.1 ≡ port_at core e }
 {
     let mut ports = core.ports.into_vec();
-    ports[e as usize] = port;
+    let old = replace(&mut ports[e as usize], port);
     let ports = List::from_vec(ports);
-    CoreState { ports, ..core }
+    (CoreState { ports, ..core }, old)
 }
 
 /// The list with these flags at the edge.
@@ -94,14 +83,24 @@ pub(crate) fn without(edges: List<u32>, e: u32) -> List<u32>
     List::from_vec(edges)
 }
 
-pub(crate) fn adding(edges: List<u32>, e: u32) -> Result<List<u32>, Memory>
-    ensures { IfOk result (λ l. l ≡ adding_there e edges) }
+/// The list with the item at its end.
+pub(crate) fn pushed<T: Drop>(list: List<T>, item: T) -> Result<List<T>, Memory>
+    ensures { IfOk result (λ l. l ≡ list ++ item ∷ []) }
 {
-    let mut edges = edges;
-    if !has(edges.as_slice(), e) {
-        let Ok(()) = edges.push(e) else {
-            return Err(Memory);
-        };
+    let mut list = list;
+    match list.push(item) {
+        Ok(()) => Ok(list),
+        Err(_) => Err(Memory),
     }
-    Ok(edges)
+}
+
+/// The edges with one more, if `more` says so and it isn't there.
+pub(crate) fn adding(more: bool, edges: List<u32>, e: u32) -> Result<List<u32>, Memory>
+    ensures { IfOk result (λ l. l ≡ cond more (adding_there e edges) edges) }
+{
+    if more && !has(&edges, e) {
+        pushed(edges, e)
+    } else {
+        Ok(edges)
+    }
 }

@@ -1,32 +1,26 @@
 //! The steps on port words: `look`, and the six acts of a held end of an edge.
-ghost use Rattle.std.specs.Prelude.{◌≡◌, ◌<◌, length, IfOk};
-ghost use Rattle.core_laws.specs.Steps.{acting_end as acting_end_there, allows as allows_there, changed as changed_there, tells as tells_there, port_after as port_after_there, owing as owing_there, node_after as node_after_there, acted, after};
+ghost use Rattle.std.specs.Prelude.{◌≡◌, true, IfOk};
+ghost use Rattle.core_laws.specs.Steps.{acting_end as acting_end_there, allows as allows_there, changed as changed_there, tells as tells_there, port_after as port_after_there, holds, acted, after};
 ghost use Rattle.core_laws.specs.declared.types.Step.TheVariants as step;
 
 use crate::lookups::{flags_at, port};
-use crate::places::{adding, put_node, put_port, take_node, take_port, with_sight, without};
-use chunk_data::{List, Memory};
-use core_laws::{Act, CoreState, Flags, NodeState, PortState};
+use crate::places::{
+    adding, blank_node, fresh_port, pushed, swap_node, swap_port, with_sight, without,
+};
+use chunk_data::Memory;
+use core_laws::{Act, CoreState, Flags, PortState};
+use std::alloc::Global;
 
 /// The step `look`.
-pub(crate) fn look(core: CoreState, n: u32, e: u32) -> CoreState
-    requires node { n < length core.nodes }
-    requires port { e < length core.ports }
+pub(crate) fn look(alloc: Global, core: CoreState, n: u32, e: u32) -> CoreState
+    requires { holds core n e ≡ true }
     ensures { result ≡ after core n (step.Look e) }
 {
     let flags = port(&core, e).flags;
-    let (core, node) = take_node(core, n);
-    let seen = with_sight(node.seen, e, flags);
-    let unlooked = without(node.unlooked, e);
-    put_node(
-        core,
-        n,
-        NodeState {
-            seen,
-            unlooked,
-            ..node
-        },
-    )
+    let (core, mut node) = swap_node(core, n, blank_node(alloc));
+    node.seen = with_sight(node.seen, e, flags);
+    node.unlooked = without(node.unlooked, e);
+    swap_node(core, n, node).0
 }
 
 /// The end that makes the act: true is the consumer.
@@ -85,16 +79,12 @@ fn port_after(act: Act, port: PortState) -> Result<PortState, Memory>
     port.flags = changed(act, port.flags);
     match act {
         Act::Push(x) => {
-            let Ok(()) = port.pushed.push(x) else {
-                return Err(Memory);
-            };
+            port.pushed = pushed(port.pushed, x)?;
             port.slot = Some(x);
         }
         Act::Pull => {
             if let Some(x) = port.slot {
-                let Ok(()) = port.pulled.push(x) else {
-                    return Err(Memory);
-                };
+                port.pulled = pushed(port.pulled, x)?;
             }
             port.slot = None;
         }
@@ -103,33 +93,23 @@ fn port_after(act: Act, port: PortState) -> Result<PortState, Memory>
     Ok(port)
 }
 
-fn owing(tells: bool, e: u32, owes: List<u32>) -> Result<List<u32>, Memory>
-    ensures { IfOk result (λ l. l ≡ owing_there tells e owes) }
-{
-    if tells { adding(owes, e) } else { Ok(owes) }
-}
-
-/// The node that acted on the edge, whose word had these flags.
-fn node_after(act: Act, e: u32, flags: Flags, node: NodeState) -> Result<NodeState, Memory>
-    ensures { IfOk result (λ x. x ≡ node_after_there act e flags node) }
-{
-    let sight = flags_at(node.seen.as_slice(), e);
-    let seen = with_sight(node.seen, e, changed(act, sight));
-    let owes = owing(tells(act, flags), e, node.owes)?;
-    Ok(NodeState { seen, owes, ..node })
-}
-
 /// The step that makes the act.
-pub(crate) fn act_on(act: Act, core: CoreState, n: u32, e: u32) -> Result<CoreState, Memory>
-    requires node { n < length core.nodes }
-    requires port { e < length core.ports }
+pub(crate) fn act_on(
+    alloc: Global,
+    act: Act,
+    core: CoreState,
+    n: u32,
+    e: u32,
+) -> Result<CoreState, Memory>
+    requires { holds core n e ≡ true }
     ensures { IfOk result (λ c. c ≡ acted act core n e) }
 {
-    let flags = port(&core, e).flags;
-    let (core, old) = take_port(core, e);
-    let new = port_after(act, old)?;
-    let core = put_port(core, e, new);
-    let (core, node) = take_node(core, n);
-    let node = node_after(act, e, flags, node)?;
-    Ok(put_node(core, n, node))
+    let tells = tells(act, port(&core, e).flags);
+    let (core, old) = swap_port(core, e, fresh_port(alloc, None));
+    let (core, _) = swap_port(core, e, port_after(act, old)?);
+    let (core, mut node) = swap_node(core, n, blank_node(alloc));
+    let sight = flags_at(node.seen.as_slice(), e);
+    node.seen = with_sight(node.seen, e, changed(act, sight));
+    node.owes = adding(tells, node.owes, e)?;
+    Ok(swap_node(core, n, node).0)
 }

@@ -1,11 +1,11 @@
 //! The state at the start.
-ghost use Rattle.std.specs.Prelude.{◌≡◌, ◌≤◌, [], IfOk, length, None, true};
-ghost use Rattle.core_laws.specs.Views.{no_flags, edges_of as edges_there, reserved_edges as reserved_there};
-ghost use Rattle.core_laws.specs.Start.{fits, start_ports, ports_of as ports_there, start_node as start_node_there, start_word as start_word_there, nodes_from, charged_from, has_output as has_output_there, is_reserved as is_reserved_there, start as start_there};
-ghost use Rattle.core_laws.specs.TokenLaws.{counts as counts_there};
+ghost use Rattle.std.specs.Prelude.{◌≡◌, ◌≤◌, ◌+◌, IfOk, length, true};
+ghost use Rattle.core_laws.specs.Views.{edges_of as edges_there, reserved_edges as reserved_there, counts as counts_there};
+ghost use Rattle.core_laws.specs.Start.{fits, start_port as start_port_there, ports_of as ports_there, start_node as start_node_there, start_word as start_word_there, charged as charged_there, has_output as has_output_there, is_reserved as is_reserved_there, start as start_there};
 ghost use Rattle.core_laws.specs.Laws.{Laws};
 
-use crate::lookups::{NO_FLAGS, is_end, is_set};
+use crate::lookups::{NO_FLAGS, is_set, names};
+use crate::places::{blank_node, fresh_port};
 use chunk_data::{List, Memory};
 use core_laws::{CoreState, NodeState, PortState, Reserve, Sight, Sizes, Wire};
 use std::alloc::Global;
@@ -13,23 +13,13 @@ use std::alloc::Global;
 fn is_reserved(n: u32, reserves: &[Reserve]) -> bool
     ensures { result ≡ is_reserved_there n reserves.now }
 {
-    for r in reserves {
-        if r.first_node <= n && (n as u64) < r.first_node as u64 + r.nodes as u64 {
-            return true;
-        }
-    }
-    false
+    reserves.iter().any(|r| r.first_node <= n && (n as u64) < r.first_node as u64 + r.nodes as u64)
 }
 
 fn has_output(n: u32, wires: &[Wire]) -> bool
     ensures { result ≡ has_output_there n wires.now }
 {
-    for w in wires {
-        if w.from == n {
-            return true;
-        }
-    }
-    false
+    wires.iter().any(|w| w.from == n)
 }
 
 /// How many edges the reserves have.
@@ -44,27 +34,24 @@ fn reserved_edges(reserves: &[Reserve]) -> u32
     edges
 }
 
-fn fresh_port(alloc: Global, wire: Option<Wire>) -> PortState
-    ensures { result ≡ record { flags = no_flags; slot = None; pushed = []; pulled = []; wire = wire } }
+fn start_port(alloc: Global, sizes: &Sizes, e: u32) -> PortState
+    ensures { result ≡ start_port_there sizes.now e }
 {
-    PortState {
-        flags: NO_FLAGS,
-        slot: None,
-        pushed: List::new(alloc),
-        pulled: List::new(alloc),
-        wire,
+    if (e as usize) < sizes.wires.len() {
+        fresh_port(alloc, Some(*sizes.wires.get(e as usize)))
+    } else {
+        fresh_port(alloc, None)
     }
 }
 
-fn ports(alloc: Global, wires: &[Wire], reserved: u32) -> Result<List<PortState>, Memory>
-    ensures { IfOk result (λ l. l ≡ start_ports wires.now reserved) }
+fn ports(alloc: Global, sizes: &Sizes) -> Result<List<PortState>, Memory>
+    requires { fits sizes.now ≡ true }
+    ensures { IfOk result (λ l. l ≡ (start_there sizes.now).ports) }
 {
+    let edges = sizes.wires.len() as u32 + reserved_edges(sizes.reserves.as_slice());
     let mut ports = Vec::new(alloc);
-    for w in wires {
-        ports.push(fresh_port(alloc, Some(*w)))?;
-    }
-    for k in 0..reserved {
-        ports.push(fresh_port(alloc, None))?;
+    for e in 0..edges {
+        ports.push(start_port(alloc, sizes, e))?;
     }
     Ok(List::from_vec(ports))
 }
@@ -72,16 +59,13 @@ fn ports(alloc: Global, wires: &[Wire], reserved: u32) -> Result<List<PortState>
 /// What the node sees of its ports among the wires.
 fn ports_of(alloc: Global, n: u32, wires: &[Wire]) -> Result<List<Sight>, Memory>
     requires { length wires.now ≤ 1024 }
-    ensures { IfOk result (λ l. l ≡ ports_there n 0 wires.now) }
+    ensures { IfOk result (λ l. l ≡ ports_there n wires.now) }
 {
     let mut seen = Vec::new(alloc);
-    for k in 0..wires.len() {
-        let wire = Some(wires[k]);
-        if is_end(true, n, wire) || is_end(false, n, wire) {
-            seen.push(Sight {
-                edge: k as u32,
-                flags: NO_FLAGS,
-            })?;
+    let flags = NO_FLAGS;
+    for e in 0..wires.len() as u32 {
+        if names(n, Some(wires[e as usize])) {
+            seen.push(Sight { edge: e, flags })?;
         }
     }
     Ok(List::from_vec(seen))
@@ -90,11 +74,7 @@ fn ports_of(alloc: Global, n: u32, wires: &[Wire]) -> Result<List<Sight>, Memory
 fn edges_of(alloc: Global, seen: &[Sight]) -> Result<List<u32>, Memory>
     ensures { IfOk result (λ l. l ≡ edges_there seen.now) }
 {
-    let mut edges = Vec::new(alloc);
-    for sight in seen {
-        edges.push(sight.edge)?;
-    }
-    Ok(List::from_vec(edges))
+    Ok(List::from_vec(seen.iter().map(|sight| sight.edge).collect(alloc)?))
 }
 
 /// A node of a reserve is unborn, and a live one without output is charged.
@@ -114,22 +94,16 @@ fn start_node(alloc: Global, sizes: &Sizes, n: u32) -> Result<NodeState, Memory>
     requires { length sizes.now.wires ≤ 1024 }
     ensures { IfOk result (λ x. x ≡ start_node_there sizes.now n) }
 {
-    let seen = ports_of(alloc, n, sizes.wires.as_slice())?;
-    let unlooked = edges_of(alloc, seen.as_slice())?;
-    Ok(NodeState {
-        word: start_word(sizes, n),
-        held: false,
-        tokens: 0,
-        seen,
-        unlooked,
-        owes: List::new(alloc),
-    })
+    let mut node = blank_node(alloc);
+    node.word = start_word(sizes, n);
+    node.seen = ports_of(alloc, n, sizes.wires.as_slice())?;
+    node.unlooked = edges_of(alloc, node.seen.as_slice())?;
+    Ok(node)
 }
 
-#[tactic(auto, using(crate::proofs::Starting::nodes_next))]
 fn nodes(alloc: Global, sizes: &Sizes) -> Result<List<NodeState>, Memory>
     requires { length sizes.now.wires ≤ 1024 }
-    ensures { IfOk result (λ l. l ≡ nodes_from sizes.now 0 sizes.now.nodes) }
+    ensures { IfOk result (λ l. l ≡ (start_there sizes.now).nodes) }
 {
     let mut nodes = Vec::new(alloc);
     for n in 0..sizes.nodes {
@@ -151,37 +125,15 @@ fn counts(word: u64) -> u64
 }
 
 /// How many of the nodes are charged.
-#[tactic(auto, using(crate::proofs::Starting::charged_next))]
+#[tactic(auto, using(crate::proofs::Starting::one_more))]
 fn charged(sizes: &Sizes) -> u64
-    ensures { result ≡ charged_from sizes.now 0 sizes.now.nodes }
+    ensures { result ≡ charged_there sizes.now sizes.now.nodes }
 {
     let mut charged = 0u64;
     for n in 0..sizes.nodes {
         charged += counts(start_word(sizes, n));
     }
     charged
-}
-
-#[tactic(auto, using(crate::proofs::Starting::fits_edges))]
-fn made(alloc: Global, sizes: &Sizes) -> Result<CoreState, Memory>
-    requires fit { fits sizes.now ≡ true }
-    ensures { IfOk result (λ c. c ≡ start_there sizes.now) }
-{
-    let reserved = reserved_edges(sizes.reserves.as_slice());
-    let ports = ports(alloc, sizes.wires.as_slice(), reserved)?;
-    let nodes = nodes(alloc, sizes)?;
-    let copied = Sizes {
-        wires: sizes.wires.copy()?,
-        reserves: sizes.reserves.copy()?,
-        ..*sizes
-    };
-    Ok(CoreState {
-        sizes: copied,
-        ports,
-        nodes,
-        pending: charged(sizes),
-        stopped: false,
-    })
 }
 
 /// The start of an execution.
@@ -199,9 +151,19 @@ impl Start for CoreState {
         ensures is_start { IfOk result (λ c. c ≡ start_there sizes.now) }
         ensures laws { IfOk result (λ c. Laws c) }
     {
-        match made(alloc, sizes) {
-            Ok(core) => Ok(core),
-            Err(e) => Err(e),
-        }
+        let ports = ports(alloc, sizes)?;
+        let nodes = nodes(alloc, sizes)?;
+        let copied = Sizes {
+            wires: sizes.wires.copy()?,
+            reserves: sizes.reserves.copy()?,
+            ..*sizes
+        };
+        Ok(CoreState {
+            sizes: copied,
+            ports,
+            nodes,
+            pending: charged(sizes),
+            stopped: false,
+        })
     }
 }

@@ -19,12 +19,16 @@ const NO_FLAGS: Flags = Flags {
     fin_in: false,
 };
 
-const WIRE: Wire = Wire {
-    from: 0,
-    out: 0,
-    to: 1,
-    input: 0,
-};
+fn wire(from: u32, out: u32, to: u32, input: u32) -> Wire
+    ensures { result ≡ record { from = from; out = out; to = to; input = input } }
+{
+    Wire {
+        from,
+        out,
+        to,
+        input,
+    }
+}
 
 fn started(rt: &HostRuntime, sizes: &Sizes) -> Result<CoreState, Fail>
     requires { fits sizes.now ≡ true }
@@ -40,7 +44,7 @@ fn started(rt: &HostRuntime, sizes: &Sizes) -> Result<CoreState, Fail>
 fn two_nodes(rt: &HostRuntime) -> Result<CoreState, Fail>
     ensures { IfOk result (λ c. Laws c) }
 {
-    let wires = List::from_vec(vec![in rt.alloc(); WIRE]?);
+    let wires = List::from_vec(vec![in rt.alloc(); wire(0, 0, 1, 0)]?);
     let sizes = Sizes {
         nodes: 2,
         wires,
@@ -76,21 +80,25 @@ const CHUNK_PASSES: [(u32, Step); 18] = [
 fn events_of(rt: &HostRuntime, steps: &[(u32, Step)]) -> Result<Vec<Event>, Fail> {
     let mut events = Vec::new(rt.alloc());
     for (seat, step) in steps {
-        events.push(Event {
-            seat: *seat,
-            step: *step,
-        })?;
+        let (seat, step) = (*seat, *step);
+        events.push(Event { seat, step })?;
     }
     Ok(events)
 }
 
+fn replayed(rt: &HostRuntime, start: CoreState, events: &[Event]) -> Result<CoreState, Fail>
+    requires { Laws start }
+{
+    match replay(rt.alloc(), start, events) {
+        Ok(core) => Ok(core),
+        Err(_) => Err("a step was refused".into()),
+    }
+}
+
 #[test]
 fn a_chunk_passes_an_edge(rt: HostRuntime) -> Result<(), Fail> {
-    let start = two_nodes(&rt)?;
     let events = events_of(&rt, &CHUNK_PASSES)?;
-    let Ok(core) = replay(rt.alloc(), start, events.as_slice()) else {
-        return Err("a step was refused".into());
-    };
+    let core = replayed(&rt, two_nodes(&rt)?, events.as_slice())?;
     assert_eq!(rt; core.pending, 1);
     let [port] = core.ports.as_slice() else {
         return Err("there is one edge".into());
@@ -106,23 +114,18 @@ fn a_chunk_passes_an_edge(rt: HostRuntime) -> Result<(), Fail> {
     let [producer, consumer] = core.nodes.as_slice() else {
         return Err("there are two nodes".into());
     };
-    assert_eq!(rt; producer.word, 0);
-    assert_eq!(rt; producer.tokens, 0);
-    assert!(rt; consumer.held);
-    assert_eq!(rt; consumer.word, HELD);
+    assert_eq!(rt; (producer.word, producer.tokens), (0, 0));
+    assert_eq!(rt; (consumer.word, consumer.held), (HELD, true));
     assert_eq!(rt; consumer.owes.as_slice(), [0].as_slice());
     Ok(())
 }
 
 #[test]
 fn a_second_pull_is_no_step(rt: HostRuntime) -> Result<(), Fail> {
-    let start = two_nodes(&rt)?;
     let mut events = events_of(&rt, &CHUNK_PASSES)?;
-    events.push(Event {
-        seat: 1,
-        step: Step::Pull(0),
-    })?;
-    let ended = replay(rt.alloc(), start, events.as_slice());
+    let (seat, step) = (1, Step::Pull(0));
+    events.push(Event { seat, step })?;
+    let ended = replay(rt.alloc(), two_nodes(&rt)?, events.as_slice());
     assert!(rt; matches!(ended, Err(ReplayEnd::BadEvent(18))));
     Ok(())
 }
@@ -152,13 +155,10 @@ fn a_born_node_begins_with_a_token(rt: HostRuntime) -> Result<(), Fail> {
     let start = reserved_node(&rt)?;
     assert_eq!(rt; start.pending, 1);
     assert_eq!(rt; start.nodes.get(0).word, FIRST);
-    let bad = events_of(
-        &rt,
-        &[(1, Step::TokenIn), (1, Step::Birth), (1, Step::Begin)],
-    )?;
+    let steps = [(1, Step::TokenIn), (1, Step::Birth), (1, Step::Begin)];
+    let bad = events_of(&rt, &steps)?;
     let ended = replay(rt.alloc(), start, bad.as_slice());
     assert!(rt; matches!(ended, Err(ReplayEnd::BadEvent(2))));
-    let start = reserved_node(&rt)?;
     let steps = [
         (1, Step::TokenIn),
         (1, Step::Birth),
@@ -166,17 +166,13 @@ fn a_born_node_begins_with_a_token(rt: HostRuntime) -> Result<(), Fail> {
         (1, Step::Begin),
     ];
     let events = events_of(&rt, &steps)?;
-    let Ok(core) = replay(rt.alloc(), start, events.as_slice()) else {
-        return Err("a step was refused".into());
-    };
+    let core = replayed(&rt, reserved_node(&rt)?, events.as_slice())?;
     assert_eq!(rt; core.pending, 3);
     let [live, born] = core.nodes.as_slice() else {
         return Err("there are two nodes".into());
     };
     assert_eq!(rt; live.word, FIRST);
-    assert_eq!(rt; born.word, HELD);
-    assert!(rt; born.held);
-    assert_eq!(rt; born.tokens, 1);
+    assert_eq!(rt; (born.word, born.held, born.tokens), (HELD, true, 1));
     Ok(())
 }
 
@@ -184,21 +180,8 @@ fn a_born_node_begins_with_a_token(rt: HostRuntime) -> Result<(), Fail> {
 fn growing_nodes(rt: &HostRuntime) -> Result<CoreState, Fail>
     ensures { IfOk result (λ c. Laws c) }
 {
-    let wires = vec![in rt.alloc();
-        WIRE,
-        Wire {
-            from: 1,
-            out: 0,
-            to: 2,
-            input: 0
-        },
-        Wire {
-            from: 0,
-            out: 1,
-            to: 2,
-            input: 1
-        },
-    ]?;
+    let (first, second, third) = (wire(0, 0, 1, 0), wire(1, 0, 2, 0), wire(0, 1, 2, 1));
+    let wires = vec![in rt.alloc(); first, second, third]?;
     let reserve = Reserve {
         node: 0,
         first_node: 3,
@@ -233,17 +216,7 @@ fn some_event(number: u64) -> Event {
         21..=22 => Step::Rest,
         23..=24 => Step::TokenIn,
         25 => Step::TokenOut,
-        26 => {
-            Step::Wire(
-                e,
-                Wire {
-                    from: seat,
-                    out: 2,
-                    to: other,
-                    input: 2,
-                },
-            )
-        }
+        26 => Step::Wire(e, wire(seat, 2, other, 2)),
         27 => Step::Wired(e),
         28 => Step::Birth,
         29 if rare => Step::Finish(e),
@@ -280,10 +253,7 @@ fn walk(rt: &HostRuntime, count: usize) -> Result<(Vec<Event>, CoreState), Fail>
 fn a_walk_of_steps_is_accepted(rt: HostRuntime) -> Result<(), Fail> {
     let (events, last) = walk(&rt, 10_000)?;
     assert_eq!(rt; events.len(), 10_000);
-    let start = growing_nodes(&rt)?;
-    let Ok(core) = replay(rt.alloc(), start, events.as_slice()) else {
-        return Err("a step was refused".into());
-    };
+    let core = replayed(&rt, growing_nodes(&rt)?, events.as_slice())?;
     assert_eq!(rt; core.pending, last.pending);
     for n in 0..core.nodes.len() {
         let (node, same) = (core.nodes.get(n), last.nodes.as_slice());
@@ -312,8 +282,7 @@ fn a_doubled_event_is_refused_at_its_place(rt: HostRuntime) -> Result<(), Fail> 
             doubled.push(events[k])?;
         }
     }
-    let start = growing_nodes(&rt)?;
-    match replay(rt.alloc(), start, doubled.as_slice()) {
+    match replay(rt.alloc(), growing_nodes(&rt)?, doubled.as_slice()) {
         Err(ReplayEnd::BadEvent(k)) => assert_eq!(rt; k.checked_sub(1), Some(place as u64)),
         _ => return Err("a doubled push was taken".into()),
     }

@@ -1,10 +1,9 @@
 use Rattle.std.proofs.Common.{rules, not, eqb, ap, ◌∙◌}
 use Rattle.core_laws.specs.Views.{without}
 use Rattle.std.proofs.lemmas.Fn.{filter_same}
-use Rattle.exec_core.proofs.Lists.{filter-kept}
 use Rattle.exec_core.proofs.places.without.Goals as goal
 
 pub returns : goal.returns
-returns c = let a = c.from_vec.ensures in let b = c.retain.ensures.filtered in let d = c.into_vec-edges.ensures in
-    a ∙ (filter_same _ (λ x. not (eqb x c.args.e)) _ (λ x b f h. search rules) _ _ b
-    ∙ (filter-kept (λ x. not (eqb x c.args.e)) _ ∙ ap (without c.args.e) d))
+returns c = let a = c.from_vec.ensures in let b = c.retain.ensures.filtered in
+    let d = c.into_vec-edges.ensures in a ∙ (filter_same _ (λ x. not (eqb x c.args.e)) _
+    (λ x b f h. search rules) _ _ b ∙ ap (without c.args.e) d)

@@ -1,7 +1,9 @@
 use Rattle.std.proofs.Common.{arith}
-use Rattle.exec_core.proofs.Starting.{nodes_next, one_more}
+use Rattle.std.proofs.lemmas.List.FromFn.{map-range_with_len_more}
+use Rattle.core_laws.specs.Start.{start_node}
 use Rattle.exec_core.proofs.start_state.nodes.Goals as goal
 
 pub loop-n-preserved : goal.loop-n-preserved
-loop-n-preserved c = one_more _ _ _ _ _ _ _ c.loop-n.invariant (nodes_next c.args.sizes.now c.loop-n.n (omega arith))
-    c.in_ok-start_node.ensures c.in_ok-push.ensures.items
+loop-n-preserved c = let i = c.loop-n.invariant in let p = c.in_ok-push.ensures.items in
+    let s = c.in_ok-start_node.ensures in let f = start_node c.args.sizes.now in
+    cc (map-range_with_len_more f 0 c.loop-n.n c.loop-n.n (omega arith), p, i, s)

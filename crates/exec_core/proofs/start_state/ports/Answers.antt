@@ -1,7 +1,9 @@
 use Rattle.std.proofs.Common.{arith}
-use Rattle.exec_core.proofs.Starting.{ports_next, one_more}
+use Rattle.std.proofs.lemmas.List.FromFn.{map-range_with_len_more}
+use Rattle.core_laws.specs.Start.{start_port}
 use Rattle.exec_core.proofs.start_state.ports.Goals as goal
 
-pub loop-k-preserved : goal.loop-k-preserved
-loop-k-preserved c = one_more _ _ _ _ _ _ _ c.loop-k.invariant (ports_next c.args.reserved c.loop-k.k (omega arith))
-    c.fresh_port-in-loop-k.ensures c.in_ok-push-2.ensures.items
+pub loop-e-preserved : goal.loop-e-preserved
+loop-e-preserved c = let i = c.loop-e.invariant in let p = c.in_ok-push.ensures.items in
+    let f = start_port c.args.sizes.now in
+    cc (map-range_with_len_more f 0 c.loop-e.e c.loop-e.e (omega arith), p, i)
