@@ -73,7 +73,7 @@ turned_total : {K : Type 0} {R : K → K → Ordering} → IsTotalOrder R → Is
 turned_total o = record {
   antisymm = λ a b. ap ordering_reverse (o.antisymm a b);
   trans = λ a b c h k. sym (o.antisymm c a) ∙ o.trans c b a (o.antisymm c b ∙ k) (o.antisymm b a ∙ h);
-  congr = λ a b c e. ap ordering_reverse (o.congr a b c (o.antisymm a b ∙ ap ordering_reverse (o.antisymm b a ∙ e)))
+  congr = λ a b c e. ap ordering_reverse (o.congr a b c (o.antisymm a b ∙ ap ordering_reverse (o.antisymm b a ∙ e)));
 }
 
 -- the order of rows by keys is total

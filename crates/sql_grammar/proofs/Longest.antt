@@ -113,6 +113,7 @@ signs b [] more = both_more token_sign (λ n. n) (λ m n h. h) _ _ (go (single_s
   where
     token_sign : Sign → Token
     token_sign s = token.Sign s
+
     go : (s : Option Sign)
         → NoFewer (sign_or s (comparison_sign b [])) (sign_or s (comparison_sign b more))
     go None = comparisons b more
