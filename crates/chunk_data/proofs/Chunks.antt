@@ -2,13 +2,7 @@
 use Rattle.std.proofs.Common.{◌≡◌, ℕ, ◌+◌, ◌-◌, ◌<◌, ◌≤◌, Bool, List, [], ◌∷◌, ◌++◌, length, get_or, take, drop, map, refl, ap, sym, ◌∙◌, subst}
 use Rattle.std.proofs.lemmas.List.{length-map, take_at, get_or-map, take_more, map-append, nil_from_length}
 use Rattle.std.specs.List.{count_by, All}
-use Rattle.chunk_data.specs.declared.typed_column.Column.{Column}
-use Rattle.chunk_data.specs.declared.typed_value.ColumnType.{ColumnType}
-use Rattle.chunk_data.specs.declared.typed_value.Value.{Value}
-use Rattle.chunk_data.specs.Values.{FitsTypes, IsTable, Row, Table, value_at}
-use Rattle.chunk_data.specs.Columns.{kind_of, values}
-use Rattle.chunk_data.specs.Rows.{row_at, kept, rows_of, AreLong, joined}
-use Rattle.chunk_data.specs.Columns.{AreColumns}
+use Rattle.chunk_data.specs.Names.{Column, ColumnType, Value, FitsTypes, IsTable, Row, Table, value_at, kind_of, values, row_at, kept, rows_of, AreLong, joined, AreColumns}
 use Rattle.chunk_data.proofs.Rows.{length-rows_of, AreLong-joined, rows_of-joined, AreLong-row, rows_of_push, AreLong-kept, rows_of-kept, column_of-rows_of, AreLong-places, rows_of-places, AreLong-take, rows_of-take, AreLong-drop, rows_of-drop}
 use Rattle.chunk_data.proofs.ColumnLists.{AreLong-at}
 use Rattle.chunk_data.proofs.Laws.{length-FitsTypes, rows_fit, AreLong-append, rows_of-append}

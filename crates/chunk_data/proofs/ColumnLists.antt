@@ -1,12 +1,7 @@
 -- loops over the columns of a list
 use Rattle.std.proofs.Common.{◌≡◌, ℕ, ◌+◌, ◌<◌, ◌≤◌, List, [], ◌∷◌, ◌++◌, length, get_or, set, take, map, refl, ap, sym, arith, suc, zero, ◌∙◌, subst, add-one}
 use Rattle.std.proofs.lemmas.List.{map-set, get_or-map, set-get_or, length-map, take_at, take_all}
-use Rattle.chunk_data.specs.declared.typed_column.Column.{Column}
-use Rattle.chunk_data.specs.declared.typed_value.ColumnType.{ColumnType}
-use Rattle.chunk_data.specs.declared.typed_value.Value.{Value}
-use Rattle.chunk_data.specs.Columns.{kind_of, values}
-use Rattle.chunk_data.specs.Rows.{AreLong, joined}
-use Rattle.chunk_data.specs.Values.{FitsType, FitsTypes}
+use Rattle.chunk_data.specs.Names.{Column, ColumnType, Value, kind_of, values, AreLong, joined, FitsType, FitsTypes}
 use Rattle.chunk_data.proofs.Laws.{length-FitsTypes, FitsTypes-at}
 
 -- the first i elements changed

@@ -3,8 +3,7 @@ use Rattle.std.proofs.Common.{◌≡◌, ℕ, ◌+◌, ◌-◌, ◌<◌, ◌≤�
 use Rattle.std.proofs.lemmas.List.{append-nil, take_more_set, drop-set-lt, length-set, length-take, length-take-le, take_all, take_at, length-drop, drop-drop, get_or_read}
 use Rattle.std.proofs.lemmas.Slice.{drop-append-drop}
 use Rattle.std.specs.List.{slice_range, copy_within}
-use Rattle.chunk_data.specs.Texts.{cut, AreEnds}
-use Rattle.chunk_data.specs.Rows.{kept}
+use Rattle.chunk_data.specs.Names.{cut, AreEnds, kept}
 use Rattle.chunk_data.proofs.Keeps.{kept_more, here_from_rest, rest_more}
 use Rattle.chunk_data.proofs.Cuts.{get_or-cut, cut_more, AreEnds-push, length-cut, start_le_end, end_le_total, start_le_total}
 

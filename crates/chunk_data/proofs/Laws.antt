@@ -2,16 +2,10 @@
 use Rattle.std.proofs.Common.{◌≡◌, ℕ, ◌+◌, ◌<◌, List, [], ◌∷◌, ◌++◌, length, map, replicate, get_or, refl, ap, sym, arith, suc, zero, ◌∙◌, subst}
 use Rattle.std.proofs.lemmas.List.{length-map, length-replicate, get_or-replicate}
 use Rattle.std.specs.List.{All}
-use Rattle.chunk_data.specs.declared.typed_value.Value.{Value}
-use Rattle.chunk_data.specs.declared.typed_value.ColumnType.{ColumnType}
-use Rattle.chunk_data.specs.declared.typed_column.Column.{Column}
+use Rattle.chunk_data.specs.Names.{Value, ColumnType, Column, SortKey, AgreeOnKey, Row, FitsType, FitsTypes, value_at, kind_of, values, adds, rows_of, AreLong, joined}
 use Rattle.chunk_data.specs.declared.typed_column.Column.TheVariants.{Int64, UInt64, Text}
 use Rattle.chunk_data.specs.declared.typed_value.ColumnType.TheVariants as type
 use Rattle.chunk_data.specs.declared.typed_value.Value.TheVariants as value
-use Rattle.chunk_data.specs.declared.typed_value.SortKey.{SortKey}
-use Rattle.chunk_data.specs.Values.{AgreeOnKey, Row, FitsType, FitsTypes, value_at}
-use Rattle.chunk_data.specs.Columns.{kind_of, values}
-use Rattle.chunk_data.specs.Rows.{adds, rows_of, AreLong, joined}
 use Rattle.chunk_data.proofs.Rows.{AreLong-joined, AreLong-row}
 pub use Rattle.chunk_data.proofs.Rows.{length-rows_of, column_of-rows_of, row_of-rows_of, rows_of_push}
 

@@ -4,8 +4,7 @@ use Rattle.std.proofs.lemmas.List.{drop_more, drop_all}
 use Rattle.std.specs.Ordering.{ordering_then}
 use Rattle.std.specs.declared.cmp.Ordering.{Ordering}
 use Rattle.std.specs.declared.cmp.Ordering.TheVariants.{Less, Equal, Greater}
-use Rattle.chunk_data.specs.declared.typed_value.SortKey.{SortKey}
-use Rattle.chunk_data.specs.Values.{Row, value_at, key_cmp, row_cmp}
+use Rattle.chunk_data.specs.Names.{SortKey, Row, value_at, key_cmp, row_cmp}
 
 first_unequal : (a b : Ordering) → (a ≡ Equal → ⊥) → ordering_then a b ≡ a
 first_unequal Less b h = refl

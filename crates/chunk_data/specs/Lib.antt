@@ -3,3 +3,4 @@ pub mod Texts
 pub mod Values
 pub mod Rows
 pub mod Columns
+pub mod Names

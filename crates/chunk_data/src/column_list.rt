@@ -1,8 +1,6 @@
 ghost use Rattle.std.specs.Prelude.{◌≡◌, ℕ, ◌+◌, ◌≤◌, ◌<◌, ◌++◌, ◌∷◌, [], length, map, take, drop, OnOk, OnErr, IfOk};
 ghost use Rattle.std.specs.List.{All, count_by};
-ghost use Rattle.chunk_data.specs.Values.{FitsTypes, value_at};
-ghost use Rattle.chunk_data.specs.Columns.{kind_of, values};
-ghost use Rattle.chunk_data.specs.Rows.{kept, joined, AreLong};
+ghost use Rattle.chunk_data.specs.Names.{FitsTypes, value_at, kind_of, values, kept, joined, AreLong};
 
 use crate::lists::{List, Memory};
 use crate::typed_column::Column;

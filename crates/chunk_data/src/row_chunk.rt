@@ -1,8 +1,6 @@
 ghost use Rattle.std.specs.Prelude.{◌≡◌, ℕ, ◌+◌, ◌≤◌, ◌<◌, ◌++◌, ◌∷◌, [], length, map, take, drop, slice_index_or, OnOk, OnErr, IfOk, MatchResult};
 ghost use Rattle.std.specs.List.{All};
-ghost use Rattle.chunk_data.specs.Values.{FitsTypes, IsTable, value_at};
-ghost use Rattle.chunk_data.specs.Columns.{kind_of, values};
-ghost use Rattle.chunk_data.specs.Rows.{joined, kept, row_at, rows_of, AreLong};
+ghost use Rattle.chunk_data.specs.Names.{FitsTypes, IsTable, value_at, kind_of, values, joined, kept, row_at, rows_of, AreLong};
 
 use crate::column_list::{
     append_all, beside_all, count_true, empty_columns, front_all, gather_all, keep_all, kinds_of,

@@ -1,7 +1,6 @@
 ghost use Rattle.std.specs.Prelude.{◌≡◌, ◌<◌, length};
 ghost use Rattle.std.specs.List.{All};
-ghost use Rattle.chunk_data.specs.Values.{AgreeOnKey, key_cmp, row_cmp, value_at};
-ghost use Rattle.chunk_data.specs.Rows.{row_at};
+ghost use Rattle.chunk_data.specs.Names.{AgreeOnKey, key_cmp, row_cmp, value_at, row_at};
 
 use crate::row_chunk::Chunk;
 use crate::typed_value::SortKey;

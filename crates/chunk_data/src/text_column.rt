@@ -1,8 +1,7 @@
 ghost use Rattle.std.specs.Prelude.{◌≡◌, ℕ, ◌+◌, ◌≤◌, ◌<◌, ◌++◌, ◌∷◌, List, [], length, ◌^◌, map, take, drop, ◌-◌, slice_index, slice_index_or, OnOk, OnErr, IfOk};
 ghost use Rattle.std.specs.List.{All};
 ghost use Rattle.std.specs.Vec.{vec_len, vec_capacity};
-ghost use Rattle.chunk_data.specs.Rows.{kept};
-ghost use Rattle.chunk_data.specs.Texts.{cut, AreEnds};
+ghost use Rattle.chunk_data.specs.Names.{kept, cut, AreEnds};
 
 use crate::compact::{copy_items, front_items, remove_front};
 use crate::lists::{Bytes, Memory};

@@ -1,6 +1,5 @@
 ghost use Rattle.std.specs.Prelude.{◌≡◌, ◌<◌, ◌++◌, ◌∷◌, [], length, map, OnOk, OnErr, IfErr};
-ghost use Rattle.chunk_data.specs.Values.{value_at};
-ghost use Rattle.chunk_data.specs.Columns.{kind_of, values};
+ghost use Rattle.chunk_data.specs.Names.{value_at, kind_of, values};
 
 use crate::lists::Memory;
 use crate::text_column::Texts;

@@ -1,8 +1,6 @@
 ghost use Rattle.std.specs.Prelude.{◌≡◌, ℕ, ◌+◌, ◌≤◌, ◌<◌, ◌++◌, ◌∷◌, List, [], length, map, take, drop, slice_index_or, OnOk, OnErr, IfOk};
 ghost use Rattle.std.specs.List.{All};
-ghost use Rattle.chunk_data.specs.Values.{FitsType, value_at, value_cmp};
-ghost use Rattle.chunk_data.specs.Columns.{kind_of, values};
-ghost use Rattle.chunk_data.specs.Rows.{kept};
+ghost use Rattle.chunk_data.specs.Names.{FitsType, value_at, value_cmp, kind_of, values, kept};
 
 use crate::compact::{
     copy_items, front_items, gather_ints, gather_uints, keep_items, remove_front,

@@ -1,13 +1,11 @@
 -- The command that words mean, as a function and as a relation.
-use Rattle.std.proofs.Common.{◌≡◌, ℕ, ◌≤◌, ◌^◌, Bool, true, false, ◌&&◌, if◌then◌else◌, List, [], ◌∷◌, length, arith, eqb-true, refl, sym, ap, ap₂, subst, ◌∙◌, Option, Some, None}
+use Rattle.std.proofs.Common.{◌≡◌, ℕ, ◌≤◌, ◌^◌, Bool, true, false, ◌&&◌, if◌then◌else◌, List, [], ◌∷◌, length, arith, refl, sym, ap, ap₂, subst, ◌∙◌, Option, Some, None}
 use Rattle.std.specs.Prelude.{nat_le, option_and_then}
 use Rattle.query_model.specs.Fields.{numeral_below}
-use Rattle.query_model.specs.declared.query.PartsDecl.{PartsDecl}
-use Rattle.query_model.specs.declared.query.PartsDecl.TheVariants.{Paths, ListFile}
 use Rattle.query_model.specs.declared.query.TableDecl.{TableDecl}
 use Rattle.command_options.specs.Options.{options_of}
 use Rattle.command_options.specs.declared.options.OptionTexts.{OptionTexts}
-use Rattle.command_line.specs.Words.{GivesNumber, GivesTables, IsPlainCommand, IsWithinLimits, Means, has_one_path, has_one_table, command_in, command_of, command_with, number_given, number_in, tables_given}
+use Rattle.command_line.specs.Words.{GivesNumber, GivesTables, IsWithinLimits, Means, command_in, command_of, command_with, number_given, number_in, tables_given}
 use Rattle.command_line.specs.declared.words.Command.{Command}
 use Rattle.command_line.proofs.Cuts.{both_left, both_right}
 use Rattle.command_line.proofs.Readings.{at_most, at_most_test, if_same, if_true, none_some, some_same}
@@ -147,28 +145,3 @@ limits_kept words c m =
       some_rows = rows.0;
       few_rows = rows.1;
     }
-
-one_path : (parts : PartsDecl) → has_one_path parts ≡ true
-    → (path : List ℕ) × (parts ≡ Paths (path ∷ []))
-one_path (Paths []) e = absurd (cc)
-one_path (Paths (path ∷ [])) e = (path, refl)
-one_path (Paths (path ∷ next ∷ more)) e = let count = eqb-true (length (path ∷ next ∷ more)) 1 e in
-    absurd (omega (arith, count))
-one_path (ListFile path) e = absurd (cc)
-
--- what the test tells
-pub plain_command : (c : Command) → IsWithinLimits c → has_one_table c.tables ≡ true
-    → IsPlainCommand c
-plain_command c within e = go c.tables refl e
-  where
-    go : (tables : List TableDecl) → c.tables ≡ tables → has_one_table tables ≡ true
-        → IsPlainCommand c
-    go [] is e = absurd (cc)
-    go (t ∷ []) is e = let path = one_path t.parts e in record {
-      table = t;
-      one_table = is;
-      path = path.0;
-      one_path = path.1;
-      within = within;
-    }
-    go (t ∷ next ∷ more) is e = absurd (cc)

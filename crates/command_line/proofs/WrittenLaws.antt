@@ -9,8 +9,8 @@ use Rattle.chunk_data.specs.declared.typed_value.ColumnType.{ColumnType}
 use Rattle.chunk_data.specs.declared.typed_value.ColumnType.TheVariants as column
 use Rattle.query_model.specs.declared.query.ColumnDecl.{ColumnDecl}
 use Rattle.query_model.specs.declared.query.PartsDecl.{PartsDecl}
-use Rattle.query_model.specs.declared.query.PartsDecl.TheVariants.{Paths, ListFile}
 use Rattle.query_model.specs.declared.query.TableDecl.{TableDecl}
+use Rattle.query_model.specs.declared.query.PartsDecl.TheVariants.{Paths, ListFile}
 use Rattle.sql_grammar.specs.Tokens.{is_name, is_word_byte}
 use Rattle.command_line.specs.Pieces.{all_read, pieces_of}
 use Rattle.command_line.specs.Tables.{type_named, column_with, column_of, columns_of, is_path_byte, is_path, path_of, parts_of, table_if, table_with, table_of, tables_of}

@@ -1,8 +1,6 @@
 -- The command that a list of words means.
-use Rattle.std.specs.Prelude.{◌≡◌, ℕ, ◌^◌, ◌≤◌, Bool, false, nat_le, ◌==◌, ◌&&◌, if◌then◌else◌, List, [], ◌∷◌, length, Option, Some, None, option_and_then}
+use Rattle.std.specs.Prelude.{◌≡◌, ℕ, ◌^◌, ◌≤◌, Bool, nat_le, ◌&&◌, if◌then◌else◌, List, [], ◌∷◌, length, Option, Some, None, option_and_then}
 use Rattle.query_model.specs.Fields.{numeral_below}
-use Rattle.query_model.specs.declared.query.PartsDecl.{PartsDecl}
-use Rattle.query_model.specs.declared.query.PartsDecl.TheVariants.{Paths, ListFile}
 use Rattle.query_model.specs.declared.query.TableDecl.{TableDecl}
 use Rattle.command_options.specs.Options.{options_of}
 use Rattle.command_options.specs.declared.options.OptionTexts.{OptionTexts}
@@ -85,21 +83,3 @@ pub record IsWithinLimits (c : Command) : Type 0 where
   pub few_threads : c.threads ≤ 16
   pub some_rows : 1 ≤ c.chunk_rows
   pub few_rows : c.chunk_rows ≤ 65536
-
--- ---- one table with one part
-
-abbrev pub has_one_path : PartsDecl → Bool
-has_one_path (Paths paths) = length paths == 1
-has_one_path (ListFile path) = false
-
-abbrev pub has_one_table : List TableDecl → Bool
-has_one_table [] = false
-has_one_table (t ∷ []) = has_one_path t.parts
-has_one_table (t ∷ next ∷ more) = false
-
-pub record IsPlainCommand (c : Command) : Type 0 where
-  pub table : TableDecl
-  pub one_table : c.tables ≡ table ∷ []
-  pub path : List ℕ
-  pub one_path : table.parts ≡ Paths (path ∷ [])
-  pub within : IsWithinLimits c

@@ -1,6 +1,6 @@
-ghost use Rattle.std.specs.Prelude.{◌≡◌, true, map, IfOk, Err, Some, None};
+ghost use Rattle.std.specs.Prelude.{◌≡◌, map, IfOk, Err, Some, None};
 ghost use Rattle.std.specs.String.{string_bytes};
-ghost use Rattle.command_line.specs.Words.{number_in as number_test, number_up_to, number_given, tables_given, command_in, command_of, Means, IsWithinLimits, IsPlainCommand, has_one_table as table_test, has_one_path as path_test};
+ghost use Rattle.command_line.specs.Words.{number_in as number_test, number_up_to, number_given, tables_given, command_in, command_of, Means, IsWithinLimits};
 ghost use Rattle.command_line.specs.declared.words.Command.{Command};
 ghost use Rattle.command_line.specs.declared.words.WordsRefusal.{WordsRefusal};
 
@@ -8,7 +8,7 @@ use crate::tables::read_tables;
 use chunk_data::{Bytes, List, Memory};
 use command_options::{OptionTexts, read_options};
 use query_model::numerals::spelled_uint;
-use query_model::query::{PartsDecl, TableDecl};
+use query_model::query::TableDecl;
 use std::alloc::Global;
 
 /// What the words ask for.
@@ -23,34 +23,6 @@ pub struct Command {
     pub chunk_rows: u32,
     /// Whether the first record of each part is passed over, and names head the answer.
     pub header: bool,
-}
-
-impl Command {
-    /// Whether one table is declared, and it has one part.
-    pub fn has_one_part(&self) -> bool
-        ensures value { result ≡ table_test self.now.tables }
-        ensures plain { result ≡ true → IsWithinLimits self.now → IsPlainCommand self.now }
-    {
-        has_one_table(self.tables.as_slice())
-    }
-}
-
-fn has_one_table(tables: &[TableDecl]) -> bool
-    ensures { result ≡ table_test tables.now }
-{
-    match tables {
-        [table] => has_one_path(&table.parts),
-        _ => false,
-    }
-}
-
-fn has_one_path(parts: &PartsDecl) -> bool
-    ensures { result ≡ path_test parts.now }
-{
-    match parts {
-        PartsDecl::Paths(paths) => paths.len() == 1,
-        PartsDecl::ListFile(_) => false,
-    }
 }
 
 /// Why words were not read.

@@ -11,18 +11,14 @@ use Rattle.outside_io.specs.declared.entries.Got.TheVariants as got
 use Rattle.outside_io.specs.Counts.{Rose}
 use Rattle.outside_io.specs.Reads.{OnBytes, OnEnd, OnPending, UnlessPending}
 use Rattle.outside_io.specs.Told.{files_of, file_bytes, moved_by, GivesNext, StandsAtEnd}
-use Rattle.query_model.specs.Database.{Files}
-use Rattle.query_model.specs.Parts.{part_records, good_rows, bad_place}
+use Rattle.query_model.specs.Names.{Files, part_records, good_rows, bad_place}
 use Rattle.query_model.specs.declared.processor_spec.PartSpec.{PartSpec}
+use Rattle.proc_api.specs.Names.{BoxPicture, Notes, kept_output, Lists, chunk_rows, raised, KeepsPart, KeepsPartRows, HasMadeNothing, ArePartBytes, CountsOn, Schedules, WakeComes, Faults, FaultInCall, FaultHolds, FaultIsDue, KeepsLimits, KeepsSame, IsRunning, IsLongFile, UnlessStalled, UnlessTooLong}
 use Rattle.proc_api.specs.declared.status.Wake.{Wake}
-use Rattle.proc_api.specs.declared.status.Wake.TheVariants as wake
 use Rattle.proc_api.specs.declared.status.WorkFault.{WorkFault}
+use Rattle.proc_api.specs.declared.status.Wake.TheVariants as wake
 use Rattle.proc_api.specs.declared.status.WorkFault.TheVariants as fault
 use Rattle.proc_api.specs.declared.status.Answer.TheVariants.{Scheduled}
-use Rattle.proc_api.specs.Boxes.{BoxPicture, Notes, kept_output}
-use Rattle.proc_api.specs.Histories.{Lists, chunk_rows, raised}
-use Rattle.proc_api.specs.Keeping.{KeepsPart, KeepsPartRows, HasMadeNothing, ArePartBytes}
-use Rattle.proc_api.specs.Clauses.{CountsOn, Schedules, WakeComes, Faults, FaultInCall, FaultHolds, FaultIsDue, KeepsLimits, KeepsSame, IsRunning, IsLongFile, UnlessStalled, UnlessTooLong}
 use Rattle.csv_rows.specs.Fetching.{HoldsFront, IsFile, PassesAll, IsLongFile as IsLongTold}
 use Rattle.csv_rows.specs.RowsLeft.{RowsLeft}
 use Rattle.csv_rows.proofs.Fetching.{HoldsFront-start, HoldsFront-block, HoldsFront-whole, HoldsFront-beyond, told_as_pairs}

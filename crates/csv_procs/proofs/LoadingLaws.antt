@@ -2,17 +2,13 @@
 use Rattle.std.proofs.Common.{◌≡◌, ◌⊎◌, ℕ, ◌<◌, Bool, true, false, List, [], length, is_some, Option, Some, None, refl, sym, ap, subst, ◌∙◌, arith, inl, inr}
 use Rattle.std.specs.List.{All}
 use Rattle.chunk_data.specs.Values.{Table}
-use Rattle.query_model.specs.Database.{Files}
-use Rattle.query_model.specs.Kinds.{kind_of}
+use Rattle.query_model.specs.Names.{Files, kind_of}
 use Rattle.query_model.specs.declared.processor_spec.PartSpec.{PartSpec}
 use Rattle.query_model.specs.declared.processor_spec.Spec.{Spec}
 use Rattle.query_model.specs.declared.processor_spec.Spec.TheVariants as spec
 use Rattle.query_model.specs.declared.processor_spec.Kind.TheVariants as kind
 use Rattle.proc_api.specs.declared.status.LoadRefusal.TheVariants as refusal
-use Rattle.proc_api.specs.Boxes.{BoxPicture, no_notes, kept_input, kept_output}
-use Rattle.proc_api.specs.Histories.{no_lists, total_rows}
-use Rattle.proc_api.specs.Keeping.{Keeps, KeepsPart, HasSize, IsPulled}
-use Rattle.proc_api.specs.Clauses.{IsFresh, IsLoadRefused, Loads}
+use Rattle.proc_api.specs.Names.{BoxPicture, no_notes, kept_input, kept_output, no_lists, total_rows, Keeps, KeepsPart, HasSize, IsPulled, IsFresh, IsLoadRefused, Loads}
 use Rattle.csv_procs.specs.declared.part_state.PartState.TheVariants.{Shut}
 use Rattle.csv_procs.specs.declared.part_state.LoadedPart.{LoadedPart}
 use Rattle.csv_procs.specs.PartSeen.{loaded_seen, part_seen, IsLoaded}
@@ -57,6 +53,7 @@ module _ (files : Option Files) (f pd : ℕ) (part : PartSpec) where
     counted = inl no-rows;
     finishes = λ o e. absurd (unfinished o e);
     closes = λ i e. absurd (unclosed i e);
+    noted = λ i there n. absurd n;
   }
 
   fresh : IsFresh new

@@ -5,18 +5,13 @@ use Rattle.std.proofs.lemmas.List.{length-append, get_or-append-add, length-map}
 use Rattle.std.proofs.lemmas.List.Elements.{All-append}
 use Rattle.std.proofs.lemmas.Grind.{common_steps}
 use Rattle.chunk_data.specs.Values.{Row, Table}
-use Rattle.query_model.specs.Database.{Files}
-use Rattle.query_model.specs.Parts.{part_records, good_rows, bad_place}
+use Rattle.query_model.specs.Names.{Files, part_records, good_rows, bad_place}
 use Rattle.query_model.specs.declared.processor_spec.PartSpec.{PartSpec}
 use Rattle.query_model.specs.declared.processor_spec.Spec.TheVariants as spec
-use Rattle.port_word.specs.declared.flags.Flags.{Flags}
 use Rattle.port_word.specs.Pictures.{Picture, input_at, output_at, in_count, out_count, no_flags}
+use Rattle.port_word.specs.declared.flags.Flags.{Flags}
+use Rattle.proc_api.specs.Names.{BoxPicture, Notes, PortFlags, kept_ports, kept_input, kept_output, kept_inputs, kept_outputs, Lists, chunk_rows, pulled_at, pushed_at, with_pulled, with_pushed, raised, rows_pulled, FollowsKept, is_ended, KeepsPart, KeepsPartRows, HasMadeNothing, HasPushedPart, Keeps, AllFit, MakesTypes, IsPulled, HasSize, HadPorts, AllInputsEnded, AllOutputsClosed, HasReadEnough, KeepsSame, PulledOn, port_flags}
 use Rattle.proc_api.specs.declared.status.Status.{Status}
-use Rattle.proc_api.specs.Boxes.{BoxPicture, Notes, PortFlags, kept_ports, kept_input, kept_output, kept_inputs, kept_outputs}
-use Rattle.proc_api.specs.Histories.{Lists, chunk_rows, pulled_at, pushed_at, with_pulled, with_pushed, raised, rows_pulled}
-use Rattle.proc_api.specs.Ports.{FollowsKept, is_ended}
-use Rattle.proc_api.specs.Keeping.{KeepsPart, KeepsPartRows, HasMadeNothing, HasPushedPart, Keeps, AllFit, MakesTypes, IsPulled, HasSize, HadPorts, AllInputsEnded, AllOutputsClosed, HasReadEnough}
-use Rattle.proc_api.specs.Clauses.{KeepsSame, PulledOn, port_flags}
 use Rattle.proc_api.proofs.Keeping.{front-all, fits-front, rows-append, counted-more, total-nothing}
 use Rattle.proc_api.proofs.KeptFlags.{kept_inputs-of, kept_outputs-of, kept_input-past, kept_output-of, kept_output-past}
 use Rattle.proc_api.proofs.ShutPorts.{by-place}
@@ -145,6 +140,7 @@ module _ (files : Option Files) (f pd : ℕ) (part : PartSpec) (s : PartState) (
     finishes = λ o. by-place (λ j. (kept_output Q j).fin_out ≡ true → AllInputsEnded Q ⊎ HasReadEnough (Some (spec.Csv part)) (with_pulled v w ins)) 0 o
         (λ fin. inl (λ i lt. absurd (let c = kept_inputs-of Q w view in omega (arith, c, m.ins, lt)))) (λ ne fin. absurd (past-none o ne fin));
     closes = λ i e. absurd (past-open i e);
+    noted = λ i there n. absurd n;
   }
 
 -- ---- a call that leaves the ports
@@ -198,4 +194,5 @@ module _ (files : Option Files) (f pd f' pd' : ℕ) (part : PartSpec) (s s' : Pa
       | inl all ↦ inl (record { some = let x = all.some in omega (arith, x, same-outputs); closed = λ o lt. ap (λ g. g.fin_in) (same-output o) ∙ all.closed o (omega (arith, lt, same-outputs)) })
       | inr enough ↦ absurd enough
     ];
+    noted = λ i there n. absurd n;
   }

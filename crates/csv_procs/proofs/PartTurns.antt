@@ -2,18 +2,12 @@
 use Rattle.std.proofs.Common.{◌≡◌, ◌≢◌, ◌⊎◌, ℕ, ◌<◌, Bool, true, false, cond, not, ◌&&◌, ◌||◌, Option, Some, None, List, [], ◌∷◌, ◌++◌, length, refl, sym, ap, subst, ◌∙◌, arith, inl, inr}
 use Rattle.std.proofs.lemmas.List.{append-nil}
 use Rattle.chunk_data.specs.Values.{Table}
+use Rattle.port_word.specs.Names.{Picture, input_at, output_at, in_count, out_count, is_in_finished, is_out_finished, can_push, WaitsForRoom, IsAllFinished, after_push, after_finish, IsSound, ChangedByCalls, push_call, finish_call}
 use Rattle.port_word.specs.declared.flags.Flags.{Flags}
-use Rattle.port_word.specs.Pictures.{Picture, input_at, output_at, in_count, out_count, is_in_finished, is_out_finished, can_push}
-use Rattle.port_word.specs.Status.{WaitsForRoom, IsAllFinished}
-use Rattle.port_word.specs.Calls.{after_push, after_finish}
-use Rattle.port_word.specs.Sound.{IsSound}
-use Rattle.port_word.specs.Differences.{ChangedByCalls, push_call, finish_call}
 use Rattle.port_word.proofs.Differences.{changed-by-none, changed-by-one}
+use Rattle.proc_api.specs.Names.{pulled_at, pushed_at, AllOutputsFinished, HasNoRoom, HasRoom, EndsAtOnce, NeedsRoom, StatusHolds}
 use Rattle.proc_api.specs.declared.status.Status.{Status}
 use Rattle.proc_api.specs.declared.status.Status.TheVariants as status
-use Rattle.proc_api.specs.Histories.{pulled_at, pushed_at}
-use Rattle.proc_api.specs.Ports.{AllOutputsFinished, HasNoRoom, HasRoom}
-use Rattle.proc_api.specs.Clauses.{EndsAtOnce, NeedsRoom, StatusHolds}
 use Rattle.proc_api.proofs.CallLaws.{none-pushed, just-pushed, none-pulled}
 use Rattle.proc_api.proofs.Turns.{finishing, push-turns, finish-turns}
 use Rattle.proc_api.proofs.ShutPorts.{by-place, is-finished}

@@ -4,21 +4,14 @@ use Rattle.std.proofs.lemmas.Bool.{cases_eq}
 use Rattle.chunk_data.specs.Values.{Row, Table}
 use Rattle.chunk_data.specs.declared.typed_value.ColumnType.{ColumnType}
 use Rattle.outside_io.specs.declared.entries.FileEntry.{FileEntry}
-use Rattle.query_model.specs.Database.{Files}
-use Rattle.query_model.specs.Fields.{spelled_row}
-use Rattle.query_model.specs.Parts.{good_rows, bad_place, bad_field, row_then}
+use Rattle.query_model.specs.Names.{Files, spelled_row, good_rows, bad_place, bad_field, row_then}
 use Rattle.query_model.specs.declared.processor_spec.PartSpec.{PartSpec}
 use Rattle.query_model.specs.declared.processor_spec.Kind.TheVariants as kind
-use Rattle.port_word.specs.Pictures.{Picture, output_at, in_count, out_count}
-use Rattle.port_word.specs.Sound.{IsSound}
-use Rattle.port_word.specs.Differences.{ChangedByCalls}
+use Rattle.port_word.specs.Names.{Picture, output_at, in_count, out_count, IsSound, ChangedByCalls}
+use Rattle.proc_api.specs.Names.{BoxPicture, Notes, pulled_at, raised, rows_pulled, HasPorts, SameChunks, StaysFit, FollowsKept, IsShut, PreparesLawfully, KeepsLimits, NeedsRoom, StatusComes, StatusHolds, MayBeReady, IsRunning, NotesView, port_flags}
 use Rattle.proc_api.specs.declared.status.Status.{Status}
 use Rattle.proc_api.specs.declared.status.Status.TheVariants as status
 use Rattle.proc_api.specs.declared.status.Answer.TheVariants.{Prepared}
-use Rattle.proc_api.specs.Boxes.{BoxPicture, Notes}
-use Rattle.proc_api.specs.Histories.{pulled_at, raised, rows_pulled}
-use Rattle.proc_api.specs.Ports.{HasPorts, SameChunks, StaysFit, FollowsKept, IsShut}
-use Rattle.proc_api.specs.Clauses.{PreparesLawfully, KeepsLimits, NeedsRoom, StatusComes, StatusHolds, MayBeReady, IsRunning, NotesView, port_flags}
 use Rattle.proc_api.proofs.CallLaws.{none-pulled}
 use Rattle.proc_api.proofs.Keeping.{total-nothing}
 use Rattle.csv_rows.specs.RowsLeft.{RowsLeft, at_end}

@@ -7,18 +7,14 @@ use Rattle.std.proofs.lemmas.List.{append-nil}
 use Rattle.chunk_data.specs.Values.{Row, Table}
 use Rattle.outside_io.specs.declared.entries.FileEntry.{FileEntry}
 use Rattle.outside_io.specs.Told.{files_of}
-use Rattle.query_model.specs.Database.{Files, file_bytes, part_bad_place, bad_place_in}
-use Rattle.query_model.specs.Parts.{part_records, good_rows, bad_place}
+use Rattle.query_model.specs.Names.{Files, file_bytes, part_bad_place, bad_place_in, part_records, good_rows, bad_place}
 use Rattle.query_model.specs.declared.places.BadPlace.{BadPlace}
 use Rattle.query_model.specs.declared.processor_spec.PartSpec.{PartSpec}
 use Rattle.query_model.specs.declared.processor_spec.Spec.TheVariants as spec
 use Rattle.query_model.specs.declared.processor_spec.Kind.TheVariants as kind
+use Rattle.proc_api.specs.Names.{BoxPicture, Notes, kept_output, Lists, chunk_rows, KeepsPart, KeepsPartRows, HasPushedPart, HasSize, Works, Faults, FaultInCall, FaultHolds, FaultIsDue, KeepsLimits, KeepsSame, Progresses, MayBeReady, IsRunning}
 use Rattle.proc_api.specs.declared.status.WorkFault.{WorkFault}
 use Rattle.proc_api.specs.declared.status.WorkFault.TheVariants as fault
-use Rattle.proc_api.specs.Boxes.{BoxPicture, Notes, kept_output}
-use Rattle.proc_api.specs.Histories.{Lists, chunk_rows}
-use Rattle.proc_api.specs.Keeping.{KeepsPart, KeepsPartRows, HasPushedPart, HasSize}
-use Rattle.proc_api.specs.Clauses.{Works, Faults, FaultInCall, FaultHolds, FaultIsDue, KeepsLimits, KeepsSame, Progresses, MayBeReady, IsRunning}
 use Rattle.csv_rows.specs.Fetching.{IsFile}
 use Rattle.csv_rows.specs.RowsLeft.{RowsLeft, TakesRows, at_end}
 use Rattle.csv_rows.proofs.Fetching.{told_as_pairs}

@@ -11,13 +11,12 @@ use Rattle.csv_rows.specs.declared.file_fetch.Fetched.{Fetched}
 use Rattle.csv_rows.specs.declared.file_fetch.Fetched.TheVariants as fetched
 use Rattle.csv_rows.specs.Fetching.{HoldsFront, IsFile, IsLongFile}
 use Rattle.csv_rows.specs.RowsLeft.{RowsLeft}
+use Rattle.proc_api.specs.Names.{Notes, raised}
 use Rattle.proc_api.specs.declared.status.Wake.{Wake}
+use Rattle.proc_api.specs.declared.status.WorkFault.{WorkFault}
 use Rattle.proc_api.specs.declared.status.Wake.TheVariants as wake
 use Rattle.proc_api.specs.declared.status.Answer.TheVariants.{Scheduled}
-use Rattle.proc_api.specs.declared.status.WorkFault.{WorkFault}
 use Rattle.proc_api.specs.declared.status.WorkFault.TheVariants as fault
-use Rattle.proc_api.specs.Boxes.{Notes}
-use Rattle.proc_api.specs.Histories.{raised}
 use Rattle.csv_procs.specs.declared.part_state.PartState.{PartState}
 use Rattle.csv_procs.specs.declared.part_state.PartState.TheVariants.{Shut, Fetching, Rows}
 use Rattle.csv_procs.specs.declared.part_state.LoadedPart.{LoadedPart}

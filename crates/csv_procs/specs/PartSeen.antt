@@ -2,8 +2,7 @@
 use Rattle.std.specs.Prelude.{◌≡◌, ℕ, ◌+◌, Bool, true, false, List, [], ◌∷◌, Option, Some, None}
 use Rattle.chunk_data.specs.Values.{Row, Table}
 use Rattle.chunk_data.specs.declared.typed_value.ColumnType.{ColumnType}
-use Rattle.query_model.specs.Database.{Files}
-use Rattle.query_model.specs.Parts.{good_rows, bad_place}
+use Rattle.query_model.specs.Names.{Files, good_rows, bad_place}
 use Rattle.query_model.specs.declared.places.BadPlace.{BadPlace}
 use Rattle.query_model.specs.declared.processor_spec.PartSpec.{PartSpec}
 use Rattle.query_model.specs.declared.processor_spec.Kind.TheVariants as kind

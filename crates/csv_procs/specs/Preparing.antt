@@ -1,12 +1,10 @@
 -- What a prepare of a source does.
 use Rattle.std.specs.Prelude.{◌≡◌, Some, true, false}
-use Rattle.port_word.specs.Pictures.{Picture, output_at}
-use Rattle.port_word.specs.Differences.{ChangedByCalls}
+use Rattle.port_word.specs.Names.{Picture, output_at, ChangedByCalls}
 use Rattle.proc_api.specs.declared.status.Answer.TheVariants.{Prepared}
+use Rattle.proc_api.specs.Names.{IsShut, SameChunks, port_flags}
 use Rattle.proc_api.specs.declared.status.Status.{Status}
 use Rattle.proc_api.specs.declared.status.Status.TheVariants as status
-use Rattle.proc_api.specs.Ports.{IsShut, SameChunks}
-use Rattle.proc_api.specs.Clauses.{port_flags}
 use Rattle.csv_procs.specs.declared.turns.Turn.{Turn}
 use Rattle.csv_procs.specs.declared.part_state.LoadedPart.{LoadedPart}
 use Rattle.csv_procs.specs.Turning.{turn_of, view_after, made_after, status_of}

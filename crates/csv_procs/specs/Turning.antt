@@ -1,9 +1,8 @@
 -- The turns of a source.
 use Rattle.std.specs.Prelude.{◌≡◌, ℕ, Bool, not, ◌||◌, if◌then◌else◌, List, [], ◌∷◌, Option, Some, None}
 use Rattle.chunk_data.specs.Values.{Table}
+use Rattle.port_word.specs.Names.{Picture, in_count, out_count, after_push, after_finish}
 use Rattle.port_word.specs.declared.flags.Flags.{Flags}
-use Rattle.port_word.specs.Pictures.{Picture, in_count, out_count}
-use Rattle.port_word.specs.Calls.{after_push, after_finish}
 use Rattle.proc_api.specs.declared.status.Status.{Status}
 use Rattle.proc_api.specs.declared.status.Status.TheVariants as status
 use Rattle.csv_procs.specs.declared.part_state.PartState.{PartState}

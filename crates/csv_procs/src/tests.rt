@@ -1,11 +1,8 @@
 ghost use Rattle.std.specs.Prelude.{◌≡◌, [], true, false, Some, IfOk, OnOk};
-ghost use Rattle.port_word.specs.Pictures.{Picture};
-ghost use Rattle.port_word.specs.Calls.{new_picture};
+ghost use Rattle.port_word.specs.Names.{Picture, new_picture};
 ghost use Rattle.proc_api.specs.declared.status.Answer.TheVariants.{Prepared, Scheduled};
 ghost use Rattle.proc_api.specs.declared.status.Status.TheVariants as answered;
-ghost use Rattle.proc_api.specs.Boxes.{BoxPicture};
-ghost use Rattle.proc_api.specs.Ports.{FollowsKept};
-ghost use Rattle.proc_api.specs.Clauses.{IsRunning, MaySchedule};
+ghost use Rattle.proc_api.specs.Names.{BoxPicture, FollowsKept, IsRunning, MaySchedule};
 ghost use Rattle.csv_procs.specs.PartSeen.{source_seen};
 
 use crate::CsvSource;

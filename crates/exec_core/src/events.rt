@@ -6,7 +6,7 @@ ghost use Rattle.exec_core.specs.Runs.{EndsRight, run};
 
 use crate::conditions::is_step;
 use crate::lookups::{names, node, port};
-use crate::node_steps::{birth, count, learn, leave, mark, spent, take, wiring};
+use crate::node_steps::{birth, count, learn, leave, mark, rest, spent, take, wiring};
 use crate::port_steps::{act_on, look};
 use chunk_data::Memory;
 use core_laws::{Act, CoreState, Event, Step};
@@ -40,13 +40,7 @@ fn step_after(alloc: Global, core: CoreState, event: Event) -> Result<CoreState,
             take(alloc, core, n, spends)
         }
         Step::Again => take(alloc, core, n, 0),
-        Step::Rest => {
-            if node(&core, n).word == 1 << 62 {
-                Ok(leave(alloc, core, n, 0))
-            } else {
-                Ok(core)
-            }
-        }
+        Step::Rest => Ok(rest(alloc, core, n)),
         Step::Over => Ok(leave(alloc, core, n, 1 << 63)),
         Step::TokenIn => {
             let (tokens, pending) = (node(&core, n).tokens + 1, core.pending + 1);

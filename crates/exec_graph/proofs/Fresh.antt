@@ -3,8 +3,7 @@ use Rattle.std.proofs.Common.{◌≡◌, List, [], ◌∷◌, ◌++◌, map, sym
 use Rattle.std.specs.List.{All}
 use Rattle.std.proofs.lemmas.List.{map-append}
 use Rattle.std.proofs.lemmas.List.Elements.{All-push}
-use Rattle.proc_api.specs.Boxes.{BoxPicture}
-use Rattle.proc_api.specs.Clauses.{IsFresh}
+use Rattle.proc_api.specs.Names.{BoxPicture, IsFresh}
 
 -- all boxes are fresh after a fresh one is added
 pub fresh-pushed : {A : Type 0} (view : A → BoxPicture) (xs ys : List A) (b : A) → ys ≡ xs ++ b ∷ [] → IsFresh (view b) → All IsFresh (map view xs) → All IsFresh (map view ys)

@@ -1,7 +1,6 @@
 ghost use Rattle.std.specs.Prelude.{◌≡◌, ℕ, ◌<◌, ◌≤◌, ◌++◌, ◌∷◌, [], true, false, None, length, map, IfOk, IfErr, OnOk, OnErr, IfSome, IfNone};
 ghost use Rattle.std.specs.List.{All};
-ghost use Rattle.proc_api.specs.Clauses.{IsFresh};
-ghost use Rattle.proc_api.specs.Graphs.{is_gapless, IsGraphSoFar, IsGraph};
+ghost use Rattle.proc_api.specs.Names.{IsFresh, is_gapless, IsGraphSoFar, IsGraph};
 ghost use Rattle.exec_graph.specs.Building.{IsAddRefused, edge_refusal, IsEdgeRefused, IsBuildRefused};
 
 use crate::causes::{AddCause, BuildCause, BuildRefusal, NotAdded, NotBuilt};

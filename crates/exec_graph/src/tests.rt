@@ -1,6 +1,5 @@
 ghost use Rattle.std.specs.Prelude.{◌≡◌, IfOk};
-ghost use Rattle.proc_api.specs.Boxes.{no_notes};
-ghost use Rattle.proc_api.specs.Clauses.{IsFresh};
+ghost use Rattle.proc_api.specs.Names.{no_notes, IsFresh};
 
 use crate::{AddCause, BuildCause, BuildRefusal, GraphBuilder};
 use chunk_data::Chunk;

@@ -1,19 +1,11 @@
 -- A box works, or fetches.
 use Rattle.std.proofs.Common.{◌≡◌, ◌≢◌, ℕ, ◌<◌, ◌≤◌, false, IsTrue, IsSome, List, length, get_or, refl, sym, ap, subst, ◌∙◌, arith}
+use Rattle.port_word.specs.Pictures.{Picture, in_count, out_count, no_flags}
 use Rattle.port_word.specs.declared.flags.Wire.{Wire}
 use Rattle.port_word.specs.declared.flags.Reserve.{Reserve}
-use Rattle.port_word.specs.Pictures.{Picture, in_count, out_count, no_flags}
-use Rattle.proc_api.specs.Boxes.{BoxPicture, kept_input, kept_output, kept_inputs, kept_outputs, kept_ports}
-use Rattle.proc_api.specs.Histories.{Lists}
-use Rattle.proc_api.specs.Ports.{ArePortsOf, AreAsKept}
-use Rattle.proc_api.specs.Clauses.{SameBox}
-use Rattle.proc_api.specs.Settled.{wire_at}
-use Rattle.proc_api.specs.Graphs.{IsGraph, input_count, output_count}
-use Rattle.exec_laws.specs.declared.edges.Edge.{Edge}
-use Rattle.exec_laws.specs.declared.edges.NodeState.{NodeState}
+use Rattle.proc_api.specs.Names.{BoxPicture, kept_input, kept_output, kept_inputs, kept_outputs, kept_ports, Lists, ArePortsOf, AreAsKept, SameBox, wire_at, IsGraph, input_count, output_count}
+use Rattle.exec_laws.specs.Names.{Edge, NodeState, BoxHolds, CellHolds, CellPicture, EdgeHolds, KeepsFlags, MarkHolds, Running, Acts, StaysBox}
 use Rattle.exec_laws.specs.declared.edges.NodeState.TheVariants as node
-use Rattle.exec_laws.specs.Runs.{BoxHolds, CellHolds, CellPicture, EdgeHolds, KeepsFlags, MarkHolds, Running}
-use Rattle.exec_laws.specs.Moves.{Acts, StaysBox}
 use Rattle.exec_laws.proofs.Nodes.{apart, busy-born, edge-kept, moved-running}
 
 -- ---- what stays of a box

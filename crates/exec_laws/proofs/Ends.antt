@@ -4,27 +4,19 @@ use Rattle.std.proofs.lemmas.Bool.{both_ways, or_parts, or_left, or_right, false
 use Rattle.std.proofs.lemmas.List.{append-nil}
 use Rattle.chunk_data.specs.Values.{Table}
 use Rattle.query_model.specs.declared.processor_spec.Spec.{Spec}
+use Rattle.port_word.specs.Pictures.{input_at, output_at, in_count, out_count, is_in_finished, is_out_finished}
 use Rattle.port_word.specs.declared.flags.Flags.{Flags}
 use Rattle.port_word.specs.declared.flags.Wire.{Wire}
 use Rattle.port_word.specs.declared.flags.Reserve.{Reserve}
 use Rattle.port_word.specs.declared.port_view.InputPort.{InputPort}
-use Rattle.port_word.specs.Pictures.{input_at, output_at, in_count, out_count, is_in_finished, is_out_finished}
+use Rattle.proc_api.specs.Names.{BoxPicture, kept_input, kept_output, IsRunning, RestingNode, Rests, IsSettledWire, wire_at, IsGraph, rank_at, input_count, output_count}
 use Rattle.proc_api.specs.declared.status.Status.{Status}
-use Rattle.proc_api.specs.declared.status.Status.TheVariants as status
 use Rattle.proc_api.specs.declared.status.Answer.{Answer}
+use Rattle.proc_api.specs.declared.status.Status.TheVariants as status
 use Rattle.proc_api.specs.declared.status.Answer.TheVariants.{Prepared, Scheduled}
-use Rattle.proc_api.specs.Boxes.{BoxPicture, kept_input, kept_output}
-use Rattle.proc_api.specs.Clauses.{IsRunning}
-use Rattle.proc_api.specs.Settled.{RestingNode, Rests, IsSettledWire, wire_at}
-use Rattle.proc_api.specs.Graphs.{IsGraph, rank_at, input_count, output_count}
 use Rattle.proc_api.proofs.Graphs.{input-below-count, output-below-count, input-of-count, output-of-count}
-use Rattle.exec_laws.specs.declared.edges.Edge.{Edge}
-use Rattle.exec_laws.specs.declared.edges.NodeState.{NodeState}
+use Rattle.exec_laws.specs.Names.{Edge, NodeState, StuckNode, CellPicture, EdgeHolds, IsAtRest, IsBorn, IsOver, KeepsFlags, MarkHolds, MayRest, Running, box_at, cell_at, chunks_of, last_answer, is_resting, is_waiting, EdgeDone, IsDone, LawfulDone, is_finished, is_unfinished, last_status, stuck_cells, stuck_from}
 use Rattle.exec_laws.specs.declared.edges.NodeState.TheVariants as node
-use Rattle.exec_laws.specs.declared.edges.StuckNode.{StuckNode}
-use Rattle.exec_laws.specs.Runs.{CellPicture, EdgeHolds, IsAtRest, IsBorn, IsOver, KeepsFlags, MarkHolds, MayRest, Running, box_at, cell_at, chunks_of, last_answer}
-use Rattle.exec_laws.specs.Moves.{is_resting, is_waiting}
-use Rattle.exec_laws.specs.Ends.{EdgeDone, IsDone, LawfulDone, is_finished, is_unfinished, last_status, stuck_cells, stuck_from}
 use Rattle.exec_laws.proofs.Nodes.{born-case, busy-born}
 use Rattle.exec_laws.proofs.Settled.{IsSettled, settled-over}
 

@@ -2,20 +2,13 @@
 use Rattle.std.proofs.Common.{◌≡◌, ◌≢◌, ℕ, ◌<◌, ◌==◌, cond, Bool, true, false, List, length, refl, sym, ap, subst, ◌∙◌, arith, inl, inr, ◌⊎◌, IsSome, is_some, Option, Some, None}
 use Rattle.std.proofs.lemmas.Bool.{both_ways, cases_eq, eq-eqb, ne_eqb}
 use Rattle.chunk_data.specs.Values.{Table}
+use Rattle.port_word.specs.Pictures.{Picture}
 use Rattle.port_word.specs.declared.flags.Wire.{Wire}
 use Rattle.port_word.specs.declared.flags.Reserve.{Reserve}
-use Rattle.port_word.specs.Pictures.{Picture}
+use Rattle.proc_api.specs.Names.{BoxPicture, Lists, wire_at, rank_at, IsGraph, input_count, output_count}
 use Rattle.proc_api.specs.declared.status.Status.{Status}
-use Rattle.proc_api.specs.Boxes.{BoxPicture}
-use Rattle.proc_api.specs.Histories.{Lists}
-use Rattle.proc_api.specs.Settled.{wire_at}
-use Rattle.proc_api.specs.Graphs.{rank_at, IsGraph, input_count, output_count}
-use Rattle.exec_laws.specs.declared.edges.Edge.{Edge}
-use Rattle.exec_laws.specs.declared.edges.NodeMark.{NodeMark}
-use Rattle.exec_laws.specs.declared.edges.NodeState.{NodeState}
+use Rattle.exec_laws.specs.Names.{Edge, NodeMark, NodeState, CellHolds, CellPicture, EdgeHolds, IsBorn, MarkHolds, Running, told, told_if, told_state}
 use Rattle.exec_laws.specs.declared.edges.NodeState.TheVariants as node
-use Rattle.exec_laws.specs.Runs.{CellHolds, CellPicture, EdgeHolds, IsBorn, MarkHolds, Running}
-use Rattle.exec_laws.specs.Moves.{told, told_if, told_state}
 use Rattle.exec_laws.proofs.Sides.{told-rests}
 
 -- the ends of an edge are two nodes

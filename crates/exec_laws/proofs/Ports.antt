@@ -2,17 +2,13 @@
 use Rattle.std.proofs.Common.{◌≡◌, ℕ, ◌==◌, not, ◌&&◌, ◌||◌, Bool, true, false, cond, Option, Some, None, List, [], ◌∷◌, refl, ap, ◌∙◌, inl, inr, ◌⊎◌}
 use Rattle.std.proofs.lemmas.Bool.{both_ways, or_parts}
 use Rattle.chunk_data.specs.Values.{Table}
+use Rattle.port_word.specs.Names.{Picture, input_at, output_at, in_count, out_count, with_input, with_output, with_actions, holds_data, can_push, input_after, chunk_after, output_after, InputAllows, OutputAllows, emptied, closed, with_needed, PortCall, pull_call, need_call, close_call, push_call, finish_call, after_call, after_calls, ChangedByCalls}
 use Rattle.port_word.specs.declared.flags.Flags.{Flags}
 use Rattle.port_word.specs.declared.flags.Action.{Action}
 use Rattle.port_word.specs.declared.flags.Action.TheVariants.{Want, Unwant, Pull, Close, Push, Finish}
 use Rattle.port_word.specs.declared.flags.Port.TheVariants.{Input, Output}
-use Rattle.port_word.specs.Pictures.{Picture, input_at, output_at, in_count, out_count, with_input, with_output, with_actions, holds_data, can_push}
-use Rattle.port_word.specs.Actions.{input_after, chunk_after, output_after, InputAllows, OutputAllows}
-use Rattle.port_word.specs.Calls.{emptied, closed, with_needed}
-use Rattle.port_word.specs.Differences.{PortCall, pull_call, need_call, close_call, push_call, finish_call, after_call, after_calls, ChangedByCalls}
 use Rattle.port_word.proofs.Laws.{in_count-with_input, out_count-with_input, in_count-with_output, out_count-with_output}
-use Rattle.proc_api.specs.Histories.{pushes_to}
-use Rattle.proc_api.specs.Settled.{ProducerKnows}
+use Rattle.proc_api.specs.Names.{pushes_to, ProducerKnows}
 use Rattle.exec_laws.specs.Moves.{put_after, is_told}
 
 -- ---- pulls among actions

@@ -2,17 +2,12 @@
 use Rattle.std.proofs.Common.{◌≡◌, ℕ, ◌<◌, ◌≤◌, not, ◌&&◌, ◌||◌, cond, Bool, true, false, Option, Some, None, is_some, [], refl, sym, ap, subst, ◌∙◌}
 use Rattle.std.proofs.lemmas.Bool.{both_ways, or_left}
 use Rattle.chunk_data.specs.Values.{Table}
+use Rattle.port_word.specs.Names.{Picture, input_at, output_at, in_count, out_count, MaySee}
 use Rattle.port_word.specs.declared.flags.Flags.{Flags}
-use Rattle.port_word.specs.declared.flags.Port.TheVariants.{Input, Output}
 use Rattle.port_word.specs.declared.port_view.InputPort.{InputPort}
-use Rattle.port_word.specs.Pictures.{Picture, input_at, output_at, in_count, out_count}
-use Rattle.port_word.specs.Sights.{MaySee}
-use Rattle.proc_api.specs.Boxes.{BoxPicture, kept_inputs, kept_outputs}
-use Rattle.proc_api.specs.Ports.{FollowsKept, InputFollows, OutputFollows}
-use Rattle.exec_laws.specs.declared.edges.Edge.{Edge}
-use Rattle.exec_laws.specs.declared.edges.NodeState.{NodeState}
-use Rattle.exec_laws.specs.Runs.{InputHolds, KeepsFlags, OutputHolds}
-use Rattle.exec_laws.specs.Moves.{Sees, lifted}
+use Rattle.port_word.specs.declared.flags.Port.TheVariants.{Input, Output}
+use Rattle.proc_api.specs.Names.{BoxPicture, kept_inputs, kept_outputs, FollowsKept, InputFollows, OutputFollows}
+use Rattle.exec_laws.specs.Names.{Edge, NodeState, InputHolds, KeepsFlags, OutputHolds, Sees, lifted}
 
 chunk-due : (fin d : Bool) (c x : Option Table) → d ≡ (is_some c || is_some x) → (is_some c ≡ true → x ≡ None)
     → is_some (cond fin None x) ≡ (d && (not fin && not (is_some c)))

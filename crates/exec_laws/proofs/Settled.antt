@@ -2,13 +2,12 @@
 use Rattle.std.proofs.Common.{◌≡◌, ℕ, ◌+◌, ◌<◌, ◌≤◌, not, ◌&&◌, ◌||◌, Bool, true, false, Option, Some, None, List, length, zero, suc, refl, sym, ap, subst, arith, ◌∙◌, get_or, inl, inr}
 use Rattle.std.proofs.lemmas.Bool.{cases_eq, cases_lt}
 use Rattle.std.proofs.Math.ListN.{get_or-eq_default}
+use Rattle.port_word.specs.Names.{Picture, input_at, output_at, in_count, out_count, over_flags, is_in_finished, is_out_finished, WaitsForData, WaitsForRoom}
 use Rattle.port_word.specs.declared.flags.Flags.{Flags}
 use Rattle.port_word.specs.declared.flags.Wire.{Wire}
-use Rattle.port_word.specs.Pictures.{Picture, input_at, output_at, in_count, out_count, over_flags, is_in_finished, is_out_finished}
-use Rattle.port_word.specs.Status.{WaitsForData, WaitsForRoom}
+use Rattle.proc_api.specs.Settled.{RestingNode, Rests, ProducerKnows, IsSettledWire, wire_at, HasInputWire, HasOutputWire}
 use Rattle.proc_api.specs.declared.status.Status.{Status}
 use Rattle.proc_api.specs.declared.status.Status.TheVariants as status
-use Rattle.proc_api.specs.Settled.{RestingNode, Rests, ProducerKnows, IsSettledWire, wire_at, HasInputWire, HasOutputWire}
 
 -- Nothing is due among the first nodes: each that isn't over rests, each of its ports has a wire, and it knows the
 -- port's flags. A wire goes from a lower rank to a higher one, and its port has a finished flag where one of its

@@ -3,24 +3,16 @@ use Rattle.std.proofs.Common.{◌≡◌, ℕ, ◌++◌, not, ◌&&◌, ◌||◌,
 use Rattle.std.proofs.lemmas.Bool.{both_ways, or_left, or_right, or_parts, false_from_ne_true}
 use Rattle.std.proofs.lemmas.List.{append-nil}
 use Rattle.chunk_data.specs.Values.{Table}
+use Rattle.port_word.specs.Names.{holds_data, OutputAllows, output_after, seen_chunk}
 use Rattle.port_word.specs.declared.flags.Flags.{Flags}
 use Rattle.port_word.specs.declared.flags.Action.{Action}
 use Rattle.port_word.specs.declared.flags.Port.{Port}
-use Rattle.port_word.specs.declared.flags.Port.TheVariants.{Input, Output}
 use Rattle.port_word.specs.declared.port_view.InputPort.{InputPort}
-use Rattle.port_word.specs.Pictures.{holds_data}
-use Rattle.port_word.specs.Actions.{OutputAllows, output_after}
-use Rattle.port_word.specs.Sights.{seen_chunk}
+use Rattle.port_word.specs.declared.flags.Port.TheVariants.{Input, Output}
 use Rattle.port_word.proofs.Steps.{input_after-fin_out, input_after-fin_in, output_after-fin_in, output_after-fin_out, output_after-needed}
-use Rattle.proc_api.specs.Histories.{pushes_to}
-use Rattle.proc_api.specs.Ports.{InputFollows, OutputFollows}
-use Rattle.proc_api.specs.Settled.{ProducerKnows}
-use Rattle.exec_laws.specs.declared.edges.Edge.{Edge}
-use Rattle.exec_laws.specs.declared.edges.NodeMark.{NodeMark}
-use Rattle.exec_laws.specs.declared.edges.NodeState.{NodeState}
+use Rattle.proc_api.specs.Names.{pushes_to, InputFollows, OutputFollows, ProducerKnows}
+use Rattle.exec_laws.specs.Names.{Edge, NodeMark, NodeState, InputHolds, OutputHolds, chunks_of, edge_after, is_told, put_after, told, told_state, unloaded}
 use Rattle.exec_laws.specs.declared.edges.NodeState.TheVariants as node
-use Rattle.exec_laws.specs.Runs.{InputHolds, OutputHolds, chunks_of}
-use Rattle.exec_laws.specs.Moves.{edge_after, is_told, put_after, told, told_state, unloaded}
 use Rattle.exec_laws.proofs.Ports.{PutCase, put-case, untold-known, untold-same}
 
 -- ---- flags follow themselves

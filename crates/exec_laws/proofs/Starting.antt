@@ -3,25 +3,16 @@ use Rattle.std.proofs.Common.{◌≡◌, ℕ, ◌<◌, ◌==◌, ◌++◌, ◌||
 use Rattle.std.proofs.lemmas.Bool.{both_ways}
 use Rattle.std.proofs.lemmas.List.{get_or-replicate, length-replicate}
 use Rattle.query_model.specs.declared.processor_spec.Kind.TheVariants as kind
+use Rattle.port_word.specs.Names.{Picture, input_at, output_at, in_count, out_count, no_flags, new_input, no_input, over_flags, new_picture, WaitsForRoom}
 use Rattle.port_word.specs.declared.flags.Flags.{Flags}
 use Rattle.port_word.specs.declared.flags.Wire.{Wire}
 use Rattle.port_word.specs.declared.flags.Reserve.{Reserve}
 use Rattle.port_word.specs.declared.port_view.InputPort.{InputPort}
-use Rattle.port_word.specs.Pictures.{Picture, input_at, output_at, in_count, out_count, no_flags, new_input, no_input, over_flags}
-use Rattle.port_word.specs.Calls.{new_picture}
-use Rattle.port_word.specs.Status.{WaitsForRoom}
 use Rattle.port_word.proofs.Fitting.{sound-new}
-use Rattle.proc_api.specs.Boxes.{BoxPicture, kept_input, kept_output, kept_inputs, kept_outputs, kept_ports}
-use Rattle.proc_api.specs.Histories.{no_lists}
-use Rattle.proc_api.specs.Ports.{AreAsKept}
-use Rattle.proc_api.specs.Clauses.{IsFresh}
-use Rattle.proc_api.specs.Settled.{wire_at}
-use Rattle.proc_api.specs.Graphs.{IsGraph, input_count, output_count}
+use Rattle.proc_api.specs.Names.{BoxPicture, kept_input, kept_output, kept_inputs, kept_outputs, kept_ports, no_lists, AreAsKept, IsFresh, wire_at, IsGraph, input_count, output_count}
 use Rattle.proc_api.proofs.Graphs.{input-below-count, output-below-count}
-use Rattle.exec_laws.specs.declared.edges.Edge.{Edge}
+use Rattle.exec_laws.specs.Names.{Edge, CellHolds, CellPicture, EdgeHolds, InputHolds, KeepsFlags, MarkHolds, MayRest, OutputHolds, Running, chunks_of, new_edge, new_mark}
 use Rattle.exec_laws.specs.declared.edges.NodeState.TheVariants as node
-use Rattle.exec_laws.specs.Runs.{CellHolds, CellPicture, EdgeHolds, InputHolds, KeepsFlags, MarkHolds, MayRest, OutputHolds, Running, chunks_of, new_edge}
-use Rattle.exec_laws.specs.Moves.{new_mark}
 use Rattle.exec_laws.proofs.Nodes.{not-blank}
 use Rattle.exec_laws.proofs.Sides.{input-itself, knows-itself, output-itself}
 

@@ -5,37 +5,25 @@ use Rattle.std.proofs.Math.ListN.{get_or-eq_default}
 use Rattle.std.proofs.lemmas.List.{append_assoc}
 use Rattle.chunk_data.specs.Values.{Table}
 use Rattle.query_model.specs.declared.processor_spec.Kind.TheVariants as kind
+use Rattle.port_word.specs.Names.{Picture, input_at, output_at, in_count, out_count, with_actions, no_input, holds_data, is_in_finished, is_out_finished, EachAction, input_after, output_after, OutputAllows, IsDone, IsSound, IsAllFinished}
 use Rattle.port_word.specs.declared.flags.Flags.{Flags}
 use Rattle.port_word.specs.declared.flags.Action.{Action}
-use Rattle.port_word.specs.declared.flags.Action.TheVariants.{Want, Unwant, Pull, Close, Push, Finish}
 use Rattle.port_word.specs.declared.flags.Port.{Port}
-use Rattle.port_word.specs.declared.flags.Port.TheVariants.{Input, Output}
 use Rattle.port_word.specs.declared.flags.Wire.{Wire}
 use Rattle.port_word.specs.declared.flags.Reserve.{Reserve}
 use Rattle.port_word.specs.declared.port_view.InputPort.{InputPort}
-use Rattle.port_word.specs.Pictures.{Picture, input_at, output_at, in_count, out_count, with_actions, no_input, holds_data, is_in_finished, is_out_finished}
-use Rattle.port_word.specs.Actions.{EachAction, input_after, output_after, OutputAllows}
-use Rattle.port_word.specs.Sound.{IsDone, IsSound}
-use Rattle.port_word.specs.Status.{IsAllFinished}
+use Rattle.port_word.specs.declared.flags.Action.TheVariants.{Want, Unwant, Pull, Close, Push, Finish}
+use Rattle.port_word.specs.declared.flags.Port.TheVariants.{Input, Output}
 use Rattle.port_word.proofs.Differences.{Holds, difference-calls, changed-by-both}
+use Rattle.proc_api.specs.Names.{BoxPicture, kept_inputs, kept_outputs, Lists, pushes_to, taken_out, pushed_at, with_pulled, with_pushed, ArePortsOf, InputFollows, OutputFollows, StaysFit, StandStill, MayWork, MaySchedule, StatusHolds, StatusComes, ProducerKnows, wire_at, IsGraph, input_count, output_count}
 use Rattle.proc_api.specs.declared.status.Status.{Status}
 use Rattle.proc_api.specs.declared.status.Status.TheVariants as status
 use Rattle.proc_api.specs.declared.status.Answer.TheVariants.{Prepared}
-use Rattle.proc_api.specs.Boxes.{BoxPicture, kept_inputs, kept_outputs}
-use Rattle.proc_api.specs.Histories.{Lists, pushes_to, taken_out, pushed_at, with_pulled, with_pushed}
-use Rattle.proc_api.specs.Ports.{ArePortsOf, InputFollows, OutputFollows, StaysFit, StandStill}
-use Rattle.proc_api.specs.Clauses.{MayWork, MaySchedule, StatusHolds, StatusComes}
-use Rattle.proc_api.specs.Settled.{ProducerKnows, wire_at}
-use Rattle.proc_api.specs.Graphs.{IsGraph, input_count, output_count}
 use Rattle.proc_api.proofs.Graphs.{input-below-count, output-below-count}
 use Rattle.proc_api.proofs.KeptFlags.{kept_input-of, kept_output-of, kept_inputs-of, kept_outputs-of}
 use Rattle.proc_api.proofs.Follows.{stands-still, as-kept-noted}
-use Rattle.exec_laws.specs.declared.edges.Edge.{Edge}
-use Rattle.exec_laws.specs.declared.edges.NodeMark.{NodeMark}
-use Rattle.exec_laws.specs.declared.edges.NodeState.{NodeState}
+use Rattle.exec_laws.specs.Names.{Edge, NodeMark, NodeState, BoxHolds, CellHolds, CellPicture, EdgeHolds, HasFinished, InputHolds, IsOver, KeepsFlags, MarkHolds, MayRest, OutputHolds, Running, chunks_of, number_at, Carries, IsEnd, Turns, edge_after, is_told, seen_edge, seen_input, state_after, told_if, unloaded}
 use Rattle.exec_laws.specs.declared.edges.NodeState.TheVariants as node
-use Rattle.exec_laws.specs.Runs.{BoxHolds, CellHolds, CellPicture, EdgeHolds, HasFinished, InputHolds, IsOver, KeepsFlags, MarkHolds, MayRest, OutputHolds, Running, chunks_of, number_at}
-use Rattle.exec_laws.specs.Moves.{Carries, IsEnd, Turns, edge_after, is_told, seen_edge, seen_input, state_after, told_if, unloaded}
 use Rattle.exec_laws.proofs.Ports.{PullCase, changed-inputs, changed-outputs, pull-case, put-case}
 use Rattle.exec_laws.proofs.Sides.{chunks-after, consumer-after, data-after, input-itself, knows-itself, one-after, output-itself, producer-after, pushed-lie, untold}
 use Rattle.exec_laws.proofs.Nodes.{apart, busy-born, edge-kept, moved-running}

@@ -3,19 +3,13 @@ use Rattle.std.specs.Prelude.{◌≡◌, ◌≢◌, ℕ, suc, ◌<◌, ◌≤◌
 use Rattle.chunk_data.specs.Values.{Table}
 use Rattle.port_word.specs.declared.flags.Flags.{Flags}
 use Rattle.port_word.specs.declared.flags.Wire.{Wire}
+use Rattle.proc_api.specs.Names.{BoxPicture, kept_input, kept_output, Lists, Keeps, FaultHolds, FaultIsDue, IsRunning, ArePortsOf, is_ended, wire_at, input_count, output_count}
 use Rattle.proc_api.specs.declared.status.Status.{Status}
-use Rattle.proc_api.specs.declared.status.Status.TheVariants as status
 use Rattle.proc_api.specs.declared.status.Answer.{Answer}
-use Rattle.proc_api.specs.declared.status.Answer.TheVariants.{Prepared, Scheduled}
 use Rattle.proc_api.specs.declared.status.WorkFault.{WorkFault}
+use Rattle.proc_api.specs.declared.status.Status.TheVariants as status
+use Rattle.proc_api.specs.declared.status.Answer.TheVariants.{Prepared, Scheduled}
 use Rattle.proc_api.specs.declared.status.WorkFault.TheVariants as fault
-use Rattle.proc_api.specs.Boxes.{BoxPicture, kept_input, kept_output}
-use Rattle.proc_api.specs.Histories.{Lists}
-use Rattle.proc_api.specs.Keeping.{Keeps}
-use Rattle.proc_api.specs.Clauses.{FaultHolds, FaultIsDue, IsRunning}
-use Rattle.proc_api.specs.Ports.{ArePortsOf, is_ended}
-use Rattle.proc_api.specs.Settled.{wire_at}
-use Rattle.proc_api.specs.Graphs.{input_count, output_count}
 use Rattle.exec_laws.specs.declared.edges.StuckNode.{StuckNode}
 use Rattle.exec_laws.specs.Runs.{CellPicture, HasFinished, IsBorn, MayRest, box_at}
 use Rattle.exec_laws.specs.Moves.{StaysBox, is_resting}

@@ -1,24 +1,16 @@
 -- The moves of an executor, and what each does.
 use Rattle.std.specs.Prelude.{◌≡◌, ◌≢◌, ℕ, ◌<◌, ◌==◌, ◌||◌, cond, Bool, true, false, IsTrue, List, [], ◌∷◌, length, Option, Some, None}
 use Rattle.chunk_data.specs.Values.{Table}
+use Rattle.port_word.specs.Names.{Picture, input_at, output_at, in_count, out_count, with_actions, seen_chunk, IsSound, input_after, output_after, ChangedByCalls, IsAllFinished}
 use Rattle.port_word.specs.declared.flags.Wire.{Wire}
 use Rattle.port_word.specs.declared.flags.Action.{Action}
-use Rattle.port_word.specs.declared.flags.Action.TheVariants.{Want, Unwant, Pull, Close, Push, Finish}
 use Rattle.port_word.specs.declared.flags.Port.{Port}
-use Rattle.port_word.specs.declared.flags.Port.TheVariants.{Input, Output}
 use Rattle.port_word.specs.declared.port_view.InputPort.{InputPort}
-use Rattle.port_word.specs.Pictures.{Picture, input_at, output_at, in_count, out_count, with_actions}
-use Rattle.port_word.specs.Sights.{seen_chunk}
-use Rattle.port_word.specs.Sound.{IsSound}
-use Rattle.port_word.specs.Actions.{input_after, output_after}
-use Rattle.port_word.specs.Differences.{ChangedByCalls}
-use Rattle.port_word.specs.Status.{IsAllFinished}
+use Rattle.port_word.specs.declared.flags.Action.TheVariants.{Want, Unwant, Pull, Close, Push, Finish}
+use Rattle.port_word.specs.declared.flags.Port.TheVariants.{Input, Output}
+use Rattle.proc_api.specs.Names.{BoxPicture, SameChunks, SameBox, CountsOn, PulledOn, NotesView, PreparesLawfully, KeepsSame, wire_at}
 use Rattle.proc_api.specs.declared.status.Status.{Status}
 use Rattle.proc_api.specs.declared.status.Status.TheVariants as status
-use Rattle.proc_api.specs.Boxes.{BoxPicture}
-use Rattle.proc_api.specs.Ports.{SameChunks}
-use Rattle.proc_api.specs.Clauses.{SameBox, CountsOn, PulledOn, NotesView, PreparesLawfully, KeepsSame}
-use Rattle.proc_api.specs.Settled.{wire_at}
 use Rattle.exec_laws.specs.declared.edges.Edge.{Edge}
 use Rattle.exec_laws.specs.declared.edges.DueCall.TheVariants as call
 use Rattle.exec_laws.specs.declared.edges.NodeMark.{NodeMark}

@@ -2,24 +2,15 @@
 use Rattle.std.specs.Prelude.{◌≡◌, ℕ, ◌<◌, ◌≤◌, ◌||◌, true, false, IsTrue, IsSome, List, [], ◌∷◌, ◌++◌, length, Option, Some, None, is_some, slice_index_or, ⊤}
 use Rattle.chunk_data.specs.Values.{Table}
 use Rattle.query_model.specs.declared.processor_spec.Kind.TheVariants as kind
+use Rattle.port_word.specs.Names.{Picture, input_at, output_at, in_count, out_count, no_flags, is_out_finished, new_picture, IsSound, IsAllFinished}
 use Rattle.port_word.specs.declared.flags.Flags.{Flags}
 use Rattle.port_word.specs.declared.flags.Wire.{Wire}
 use Rattle.port_word.specs.declared.port_view.InputPort.{InputPort}
-use Rattle.port_word.specs.Pictures.{Picture, input_at, output_at, in_count, out_count, no_flags, is_out_finished}
-use Rattle.port_word.specs.Calls.{new_picture}
-use Rattle.port_word.specs.Sound.{IsSound}
-use Rattle.port_word.specs.Status.{IsAllFinished}
+use Rattle.proc_api.specs.Names.{BoxPicture, no_box, kept_input, kept_output, kept_inputs, kept_outputs, Lists, Keeps, AllInputsFinished, ArePortsOf, AreAsKept, InputFollows, OutputFollows, IsRunning, MayWork, MaySchedule, Rests, ProducerKnows, wire_at, input_count, output_count}
 use Rattle.proc_api.specs.declared.status.Status.{Status}
-use Rattle.proc_api.specs.declared.status.Status.TheVariants as status
 use Rattle.proc_api.specs.declared.status.Answer.{Answer}
+use Rattle.proc_api.specs.declared.status.Status.TheVariants as status
 use Rattle.proc_api.specs.declared.status.Answer.TheVariants.{Prepared, Scheduled}
-use Rattle.proc_api.specs.Boxes.{BoxPicture, no_box, kept_input, kept_output, kept_inputs, kept_outputs}
-use Rattle.proc_api.specs.Histories.{Lists}
-use Rattle.proc_api.specs.Keeping.{Keeps, AllInputsFinished}
-use Rattle.proc_api.specs.Ports.{ArePortsOf, AreAsKept, InputFollows, OutputFollows}
-use Rattle.proc_api.specs.Clauses.{IsRunning, MayWork, MaySchedule}
-use Rattle.proc_api.specs.Settled.{Rests, ProducerKnows, wire_at}
-use Rattle.proc_api.specs.Graphs.{input_count, output_count}
 use Rattle.exec_laws.specs.declared.edges.Edge.{Edge}
 use Rattle.exec_laws.specs.declared.edges.DueCall.{DueCall}
 use Rattle.exec_laws.specs.declared.edges.DueCall.TheVariants as call

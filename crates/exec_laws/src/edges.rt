@@ -1,6 +1,5 @@
 ghost use Rattle.std.specs.Prelude.{◌≡◌};
-ghost use Rattle.exec_laws.specs.Runs.{new_edge};
-ghost use Rattle.exec_laws.specs.Moves.{new_mark, told};
+ghost use Rattle.exec_laws.specs.Names.{new_edge, new_mark, told};
 
 use chunk_data::Chunk;
 use port_word::Flags;

@@ -3,23 +3,19 @@ use Rattle.std.proofs.Common.{◌≡◌, ◌≢◌, ℕ, ◌<◌, ◌==◌, ◌&
 use Rattle.std.proofs.lemmas.Bool.{both_ways, and_parts, cases_eq, eq-eqb, eqb-true, ne_eqb, or_left, or_right}
 use Rattle.std.proofs.lemmas.List.{length-set}
 use Rattle.chunk_data.specs.Values.{Table}
+use Rattle.port_word.specs.Names.{Picture, in_count, out_count, with_actions, EachAction, IsDone, IsSound}
 use Rattle.port_word.specs.declared.flags.Action.{Action}
-use Rattle.port_word.specs.declared.flags.Action.TheVariants.{Want, Unwant, Pull, Close, Push, Finish}
 use Rattle.port_word.specs.declared.flags.Flags.{Flags}
 use Rattle.port_word.specs.declared.flags.Port.{Port}
-use Rattle.port_word.specs.declared.flags.Port.TheVariants.{Input, Output}
 use Rattle.port_word.specs.declared.flags.Reserve.{Reserve}
 use Rattle.port_word.specs.declared.flags.Wire.{Wire}
-use Rattle.port_word.specs.Pictures.{Picture, in_count, out_count, with_actions}
-use Rattle.port_word.specs.Actions.{EachAction}
-use Rattle.port_word.specs.Sound.{IsDone, IsSound}
-use Rattle.proc_api.specs.Graphs.{IsGraph, input_count, output_count}
-use Rattle.proc_api.specs.Settled.{wire_at}
+use Rattle.port_word.specs.declared.flags.Action.TheVariants.{Want, Unwant, Pull, Close, Push, Finish}
+use Rattle.port_word.specs.declared.flags.Port.TheVariants.{Input, Output}
+use Rattle.proc_api.specs.Names.{IsGraph, input_count, output_count, wire_at}
+use Rattle.exec_laws.specs.Names.{Carries, IsEnd, TellsNode, edge_after, is_told, peer, tells, told_if, told_state, CellPicture, cell_at, edge_at}
 use Rattle.exec_laws.specs.declared.edges.Edge.{Edge}
 use Rattle.exec_laws.specs.declared.edges.NodeState.{NodeState}
 use Rattle.exec_laws.specs.declared.edges.NodeState.TheVariants as node
-use Rattle.exec_laws.specs.Moves.{Carries, IsEnd, TellsNode, edge_after, is_told, peer, tells, told_if, told_state}
-use Rattle.exec_laws.specs.Runs.{CellPicture, cell_at, edge_at}
 use Rattle.exec_laws.proofs.Nodes.{apart}
 use Rattle.pipeline_exec.specs.Cells.{AreEdgesOf, Board, CarriesOne, ChangesCell, HasEdge, HasNumber, MayCarry, MayCarryOne, Precedes, Remains, TakesAction, action_port, after_action, is_told_action, port_edge, tell_at}
 use Rattle.pipeline_exec.proofs.Lists.{cell-other, cell-set, changed-here, changed-length, changed-other, edge-other, edge-set}

@@ -5,18 +5,14 @@ use Rattle.std.proofs.lemmas.List.{append_assoc, length-append}
 use Rattle.std.specs.List.{All}
 use Rattle.std.specs.Prelude.{remove}
 use Rattle.std.proofs.lemmas.List.Elements.{All-get_or}
-use Rattle.port_word.specs.declared.flags.Port.{Port}
-use Rattle.port_word.specs.declared.flags.Port.TheVariants.{Input, Output}
-use Rattle.port_word.specs.declared.flags.Wire.{Wire}
 use Rattle.port_word.specs.Calls.{new_picture}
-use Rattle.proc_api.specs.Boxes.{BoxPicture, no_box}
-use Rattle.proc_api.specs.Clauses.{IsFresh}
-use Rattle.proc_api.specs.Graphs.{input_count, output_count}
-use Rattle.proc_api.specs.Settled.{wire_at}
+use Rattle.port_word.specs.declared.flags.Port.{Port}
+use Rattle.port_word.specs.declared.flags.Wire.{Wire}
+use Rattle.port_word.specs.declared.flags.Port.TheVariants.{Input, Output}
+use Rattle.proc_api.specs.Names.{BoxPicture, no_box, IsFresh, input_count, output_count, wire_at}
 use Rattle.proc_api.proofs.Graphs.{few-inputs, few-outputs}
+use Rattle.exec_laws.specs.Names.{new_mark, CellPicture, box_at, cell_at, edge_at, new_edge, no_cell, number_at}
 use Rattle.exec_laws.specs.declared.edges.Edge.{Edge}
-use Rattle.exec_laws.specs.Moves.{new_mark}
-use Rattle.exec_laws.specs.Runs.{CellPicture, box_at, cell_at, edge_at, new_edge, no_cell, number_at}
 use Rattle.exec_laws.proofs.Starting.{started}
 use Rattle.pipeline_exec.specs.declared.cell.Cell.{Cell}
 use Rattle.pipeline_exec.specs.declared.cell.NodePorts.{NodePorts}

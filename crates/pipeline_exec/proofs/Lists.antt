@@ -3,13 +3,10 @@ use Rattle.std.proofs.Common.{◌≡◌, ◌≢◌, ℕ, zero, suc, ◌+◌, ◌
 use Rattle.std.proofs.Math.Seq.{get_or-append_seam}
 use Rattle.std.proofs.lemmas.Bool.{cases_eq}
 use Rattle.std.proofs.lemmas.List.{get_or_default, get_or-set_same, get_or-set_other, get_or-map, get_or_append_left, length-map, length-set, length-take-le, take_more}
-use Rattle.proc_api.specs.Boxes.{BoxPicture}
+use Rattle.proc_api.specs.Boxes.{BoxPicture, no_box}
+use Rattle.exec_laws.specs.Names.{stuck_cells, is_resting, CellPicture, box_at, cell_at, edge_at, new_edge, no_cell, number_at}
 use Rattle.exec_laws.specs.declared.edges.Edge.{Edge}
 use Rattle.exec_laws.specs.declared.edges.StuckNode.{StuckNode}
-use Rattle.exec_laws.specs.Ends.{stuck_cells}
-use Rattle.exec_laws.specs.Moves.{is_resting}
-use Rattle.exec_laws.specs.Runs.{CellPicture, box_at, cell_at, edge_at, new_edge, no_cell, number_at}
-use Rattle.proc_api.specs.Boxes.{no_box}
 use Rattle.pipeline_exec.specs.declared.cell.Cell.{Cell}
 use Rattle.pipeline_exec.specs.Cells.{ChangesCell, boxes_of, cell_picture, cells_of}
 

@@ -1,17 +1,16 @@
 -- A move of one node keeps the state of the run.
 use Rattle.std.proofs.Common.{◌≡◌, ℕ, ◌<◌, List, length, get_or, set, refl, sym, ap, subst, ◌∙◌, arith}
-use Rattle.port_word.specs.declared.flags.Port.{Port}
-use Rattle.port_word.specs.declared.flags.Port.TheVariants.{Input, Output}
-use Rattle.port_word.specs.declared.flags.Wire.{Wire}
 use Rattle.port_word.specs.Pictures.{in_count, input_at, out_count, output_at}
-use Rattle.proc_api.specs.Graphs.{input_count, output_count}
-use Rattle.proc_api.specs.Settled.{wire_at}
+use Rattle.port_word.specs.declared.flags.Port.{Port}
+use Rattle.port_word.specs.declared.flags.Wire.{Wire}
+use Rattle.port_word.specs.declared.flags.Port.TheVariants.{Input, Output}
+use Rattle.proc_api.specs.Names.{input_count, output_count, wire_at, BoxPicture}
+use Rattle.proc_api.specs.declared.status.WorkFault.{WorkFault}
 use Rattle.proc_api.proofs.Graphs.{input-below-count, output-below-count}
+use Rattle.exec_laws.specs.Names.{IsEnd, StaysBox, Turns, seen_edge, told_if, unloaded, CellHolds, CellPicture, InputHolds, MarkHolds, OutputHolds, cell_at, edge_at, number_at, KeepsFault}
 use Rattle.exec_laws.specs.declared.edges.DueCall.{DueCall}
 use Rattle.exec_laws.specs.declared.edges.Edge.{Edge}
 use Rattle.exec_laws.specs.declared.edges.NodeState.TheVariants as node
-use Rattle.exec_laws.specs.Moves.{IsEnd, StaysBox, Turns, seen_edge, told_if, unloaded}
-use Rattle.exec_laws.specs.Runs.{CellHolds, CellPicture, InputHolds, MarkHolds, OutputHolds, cell_at, edge_at, number_at}
 use Rattle.exec_laws.proofs.Acting.{acted, stays-both, stays-itself}
 use Rattle.exec_laws.proofs.Nodes.{apart, at-node, busy-born}
 use Rattle.exec_laws.proofs.Turns.{turned, turned-sound}
@@ -19,9 +18,6 @@ use Rattle.pipeline_exec.specs.Cells.{ActsCell, AreEdgesOf, Board, ChangesCell, 
 use Rattle.pipeline_exec.proofs.Lists.{cell-changed, cell-now, cells-length, changed-here, changed-length, changed-other}
 use Rattle.pipeline_exec.specs.declared.cell.Cell.{Cell}
 use Rattle.std.specs.Prelude.{IfErr, OnOk, Result, Ok, Err}
-use Rattle.proc_api.specs.Boxes.{BoxPicture}
-use Rattle.proc_api.specs.declared.status.WorkFault.{WorkFault}
-use Rattle.exec_laws.specs.Ends.{KeepsFault}
 
 -- ---- what stays of the boxes
 

@@ -3,11 +3,9 @@ use Rattle.std.proofs.Common.{◌≡◌, ℕ, ◌<◌, List, length, map, sym, a
 use Rattle.port_word.specs.declared.flags.Wire.{Wire}
 use Rattle.proc_api.specs.Boxes.{BoxPicture}
 use Rattle.proc_api.specs.declared.status.WorkFault.{WorkFault}
+use Rattle.exec_laws.specs.Names.{GivenBack, IsDone, IsStuck, KeepsFault, is_unfinished, stuck_cells, StaysBox, is_resting, CellPicture, MayRest, box_at, cell_at, edge_at}
 use Rattle.exec_laws.specs.declared.edges.Edge.{Edge}
 use Rattle.exec_laws.specs.declared.edges.StuckNode.{StuckNode}
-use Rattle.exec_laws.specs.Ends.{GivenBack, IsDone, IsStuck, KeepsFault, is_unfinished, stuck_cells}
-use Rattle.exec_laws.specs.Moves.{StaysBox, is_resting}
-use Rattle.exec_laws.specs.Runs.{CellPicture, MayRest, box_at, cell_at, edge_at}
 use Rattle.exec_laws.proofs.Ends.{all-over, done, liar-unlawful, may-rest, rests-on, same-report, unfinished-rests}
 use Rattle.pipeline_exec.specs.Cells.{BearsOut, Belies, FailsAt, IsNothingDue, StateHolds, StayAll, boxes_of, cells_of}
 use Rattle.pipeline_exec.specs.declared.cell.Cell.{Cell}

@@ -2,19 +2,15 @@
 use Rattle.std.proofs.Common.{◌≡◌, ◌≢◌, ℕ, ◌+◌, ◌<◌, ◌≤◌, None, List, length, set, refl, sym, ap, subst, ◌∙◌, arith, inl, inr}
 use Rattle.std.proofs.lemmas.Bool.{cases_eq}
 use Rattle.std.proofs.lemmas.List.{length-set}
+use Rattle.port_word.specs.Names.{Picture, input_at, output_at, in_count, out_count, MaySee, after_see, IsSound}
 use Rattle.port_word.specs.declared.flags.Flags.{Flags}
-use Rattle.port_word.specs.declared.flags.Port.TheVariants.{Input, Output}
 use Rattle.port_word.specs.declared.port_view.InputPort.{InputPort}
-use Rattle.port_word.specs.Pictures.{Picture, input_at, output_at, in_count, out_count}
-use Rattle.port_word.specs.Sights.{MaySee, after_see}
-use Rattle.port_word.specs.Sound.{IsSound}
+use Rattle.port_word.specs.declared.flags.Port.TheVariants.{Input, Output}
 use Rattle.port_word.proofs.Laws.{input_at-with_input, input_at-with_input-other, output_at-with_output, output_at-with_output-other, output_at-with_input, input_at-with_output, in_count-with_input, out_count-with_input, in_count-with_output, out_count-with_output, actions-with_input, actions-with_output}
-use Rattle.proc_api.specs.Ports.{OutputFollows}
-use Rattle.proc_api.specs.Settled.{ProducerKnows}
+use Rattle.proc_api.specs.Names.{OutputFollows, ProducerKnows}
+use Rattle.exec_laws.specs.Names.{Sees, lifted, seen_input, unloaded, InputHolds, OutputHolds, edge_at, number_at}
 use Rattle.exec_laws.specs.declared.edges.Edge.{Edge}
 use Rattle.exec_laws.specs.declared.edges.NodeState.{NodeState}
-use Rattle.exec_laws.specs.Moves.{Sees, lifted, seen_input, unloaded}
-use Rattle.exec_laws.specs.Runs.{InputHolds, OutputHolds, edge_at, number_at}
 use Rattle.exec_laws.proofs.Seeing.{may-see-input, may-see-output}
 use Rattle.pipeline_exec.specs.Cells.{MayShowInputs, MayShowOutputs, ShowsInputs, ShowsOutputs}
 use Rattle.pipeline_exec.proofs.Lists.{edge-other, edge-set, one-more}

@@ -1,30 +1,23 @@
 -- The state of a run, as data: a cell for each node, and the graph's wires and edges.
 use Rattle.std.specs.Prelude.{◌≡◌, ◌≢◌, ℕ, ◌+◌, ◌<◌, ◌≤◌, cond, Bool, true, false, List, [], ◌∷◌, length, map, slice_set, Option, Some, ⊤}
+use Rattle.port_word.specs.Names.{Picture, in_count, out_count, input_at, output_at, TakesFirst, new_picture, IsSound}
 use Rattle.port_word.specs.declared.flags.Action.{Action}
-use Rattle.port_word.specs.declared.flags.Action.TheVariants.{Want, Unwant, Pull, Close, Push, Finish}
 use Rattle.port_word.specs.declared.flags.Port.{Port}
-use Rattle.port_word.specs.declared.flags.Port.TheVariants.{Input, Output}
 use Rattle.port_word.specs.declared.flags.Reserve.{Reserve}
 use Rattle.port_word.specs.declared.flags.Wire.{Wire}
-use Rattle.port_word.specs.Pictures.{Picture, in_count, out_count, input_at, output_at}
-use Rattle.port_word.specs.Calls.{TakesFirst, new_picture}
-use Rattle.port_word.specs.Sound.{IsSound}
-use Rattle.proc_api.specs.Boxes.{BoxPicture}
-use Rattle.proc_api.specs.Clauses.{IsRunning}
-use Rattle.proc_api.specs.Graphs.{IsGraph, input_count, output_count}
-use Rattle.proc_api.specs.Settled.{Rests, wire_at}
-use Rattle.exec_laws.specs.declared.edges.DueCall.{DueCall}
-use Rattle.exec_laws.specs.declared.edges.DueCall.TheVariants as call
-use Rattle.proc_api.specs.declared.status.Answer.TheVariants.{Scheduled}
+use Rattle.port_word.specs.declared.flags.Action.TheVariants.{Want, Unwant, Pull, Close, Push, Finish}
+use Rattle.port_word.specs.declared.flags.Port.TheVariants.{Input, Output}
+use Rattle.proc_api.specs.Names.{BoxPicture, IsRunning, IsGraph, input_count, output_count, Rests, wire_at}
 use Rattle.proc_api.specs.declared.status.Wake.{Wake}
-use Rattle.proc_api.specs.declared.status.Wake.TheVariants as wake
+use Rattle.proc_api.specs.declared.status.WorkFault.{WorkFault}
+use Rattle.exec_laws.specs.Names.{KeepsFault, Acts, Carries, IsEnd, StaysBox, peer, is_resting, is_waiting, new_mark, seen_input, told_if, unloaded, CellPicture, InputHolds, KeepsFlags, MarkHolds, MayCall, OutputHolds, Running, cell_at, edge_at, new_edge, number_at}
+use Rattle.exec_laws.specs.declared.edges.DueCall.{DueCall}
 use Rattle.exec_laws.specs.declared.edges.Edge.{Edge}
 use Rattle.exec_laws.specs.declared.edges.NodeState.{NodeState}
+use Rattle.exec_laws.specs.declared.edges.DueCall.TheVariants as call
+use Rattle.proc_api.specs.declared.status.Answer.TheVariants.{Scheduled}
+use Rattle.proc_api.specs.declared.status.Wake.TheVariants as wake
 use Rattle.exec_laws.specs.declared.edges.NodeState.TheVariants as node
-use Rattle.exec_laws.specs.Ends.{KeepsFault}
-use Rattle.exec_laws.specs.Moves.{Acts, Carries, IsEnd, StaysBox, peer, is_resting, is_waiting, new_mark, seen_input, told_if, unloaded}
-use Rattle.exec_laws.specs.Runs.{CellPicture, InputHolds, KeepsFlags, MarkHolds, MayCall, OutputHolds, Running, cell_at, edge_at, new_edge, number_at}
-use Rattle.proc_api.specs.declared.status.WorkFault.{WorkFault}
 use Rattle.pipeline_exec.specs.declared.cell.Cell.{Cell}
 use Rattle.pipeline_exec.specs.declared.cell.NodePorts.{NodePorts}
 use Rattle.pipeline_exec.specs.declared.executor_state.ExecutorState.{ExecutorState}

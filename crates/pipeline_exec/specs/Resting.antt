@@ -1,7 +1,7 @@
 -- What a view says of a node at rest.
 use Rattle.std.specs.Prelude.{◌≡◌, ℕ, ◌<◌, not, ◌&&◌, Bool, false}
-use Rattle.port_word.specs.declared.flags.Flags.{Flags}
 use Rattle.port_word.specs.Pictures.{Picture, input_at, output_at, out_count, is_in_finished, is_out_finished}
+use Rattle.port_word.specs.declared.flags.Flags.{Flags}
 
 -- whether the input is needed, empty and not finished
 abbrev pub is_wanting : Picture → ℕ → Bool

@@ -1,6 +1,5 @@
 ghost use Rattle.std.specs.Prelude.{◌≡◌, ℕ, ◌<◌, true, false, length, slice_set};
-ghost use Rattle.exec_laws.specs.Moves.{peer, told_if};
-ghost use Rattle.exec_laws.specs.Runs.{cell_at, edge_at};
+ghost use Rattle.exec_laws.specs.Names.{peer, told_if, cell_at, edge_at};
 ghost use Rattle.pipeline_exec.specs.Cells.{CarriesOne, ChangesCell, HasNumber, MayCarry, MayCarryOne, Remains, TakesAction, action_port, after_action, board_of, cell_picture, cells_of, is_told_action, Precedes, port_edge, tell_at};
 
 use crate::cell::{Cell, number_of};

@@ -1,15 +1,9 @@
 ghost use Rattle.std.specs.Prelude.{◌≡◌, ◌≢◌, ℕ, ◌<◌, true, false, length, slice_set, None, IfOk, IfErr, OnOk};
-ghost use Rattle.port_word.specs.Pictures.{in_count, out_count};
-ghost use Rattle.port_word.specs.Sights.{MaySee, after_see};
-ghost use Rattle.port_word.specs.Sound.{IsSound};
-ghost use Rattle.port_word.specs.Status.{IsAllFinished};
+ghost use Rattle.port_word.specs.Names.{in_count, out_count, MaySee, after_see, IsSound, IsAllFinished};
 ghost use Rattle.port_word.specs.declared.flags.Port.TheVariants.{Input, Output};
 ghost use Rattle.proc_api.specs.declared.status.Answer.TheVariants.{Scheduled};
-ghost use Rattle.proc_api.specs.Clauses.{IsRunning, MaySchedule, MayWork};
-ghost use Rattle.proc_api.specs.Ports.{AllOutputsFinished};
-ghost use Rattle.exec_laws.specs.Ends.{KeepsFault};
-ghost use Rattle.exec_laws.specs.Moves.{Acts, Leaves, StaysBox, Turns, lifted, state_after, unloaded};
-ghost use Rattle.exec_laws.specs.Runs.{edge_at, number_at};
+ghost use Rattle.proc_api.specs.Names.{IsRunning, MaySchedule, MayWork, AllOutputsFinished};
+ghost use Rattle.exec_laws.specs.Names.{KeepsFault, Acts, Leaves, StaysBox, Turns, lifted, state_after, unloaded, edge_at, number_at};
 ghost use Rattle.pipeline_exec.specs.Cells.{ActsCell, MayAct, MayShowInputs, MayShowOutputs, MayTurn, ShowsInputs, ShowsOutputs, Unloads, Wakes, call_after, cell_picture};
 
 use chunk_data::Chunk;

@@ -1,9 +1,7 @@
 ghost use Rattle.std.specs.Prelude.{◌≡◌, ◌≢◌, ℕ, ◌<◌, ◌≤◌, ◌++◌, ◌∷◌, true, false, length, Some, None, IfSome, IfNone, vec_capacity, vec_len, []};
-ghost use Rattle.port_word.specs.Pictures.{in_count, out_count, output_at};
-ghost use Rattle.port_word.specs.Status.{WaitsForData, WaitsForRoom};
+ghost use Rattle.port_word.specs.Names.{in_count, out_count, output_at, WaitsForData, WaitsForRoom};
 ghost use Rattle.proc_api.specs.Settled.{Rests};
-ghost use Rattle.exec_laws.specs.Ends.{stuck_cells};
-ghost use Rattle.exec_laws.specs.Runs.{cell_at};
+ghost use Rattle.exec_laws.specs.Names.{stuck_cells, cell_at};
 ghost use Rattle.pipeline_exec.specs.Cells.{BearsOut, Belies, BeliesIts, cell_picture, cells_of};
 ghost use Rattle.pipeline_exec.specs.Resting.{HasNoRoom, HasOpenOutput, has_room, is_wanting};
 

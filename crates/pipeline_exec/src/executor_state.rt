@@ -1,8 +1,7 @@
 ghost use Rattle.std.specs.Prelude.{◌≡◌, ℕ, ◌<◌, ◌≤◌, ◌==◌, ◌&&◌, [], length, map, IfOk, vec_capacity};
 ghost use Rattle.port_word.specs.Calls.{new_picture};
 ghost use Rattle.port_word.specs.declared.flags.Port.TheVariants.{Input, Output};
-ghost use Rattle.proc_api.specs.Graphs.{input_count, output_count};
-ghost use Rattle.proc_api.specs.Settled.{wire_at, HasInputWire, HasOutputWire};
+ghost use Rattle.proc_api.specs.Names.{input_count, output_count, wire_at, HasInputWire, HasOutputWire};
 ghost use Rattle.pipeline_exec.specs.Cells.{AreFirstEdges, AreNewEdges, AreNewFrom, AreNewPorts, Fills, HasEdge, HoldsGraph};
 
 use crate::cell::{Cell, NodePorts};

@@ -1,8 +1,6 @@
 ghost use Rattle.std.specs.Prelude.{◌≡◌, ℕ, ◌<◌, true, false, length, IfOk, IfErr, IfSome, OnOk};
 ghost use Rattle.port_word.specs.Pictures.{in_count};
-ghost use Rattle.exec_laws.specs.Ends.{KeepsFault};
-ghost use Rattle.exec_laws.specs.Moves.{StaysBox, Turns, is_waiting};
-ghost use Rattle.exec_laws.specs.Runs.{cell_at, edge_at};
+ghost use Rattle.exec_laws.specs.Names.{KeepsFault, StaysBox, Turns, is_waiting, cell_at, edge_at};
 ghost use Rattle.exec_laws.specs.declared.edges.NodeState.TheVariants.{AtWork, Due};
 ghost use Rattle.pipeline_exec.specs.Cells.{ActsCell, ChangesCell, FailsAt, IsNothingDue, IsUnderWay, MayAct, MayTurn, Stays, StayAll, Unloads, cells_of};
 

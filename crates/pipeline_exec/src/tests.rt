@@ -1,7 +1,6 @@
 ghost use Rattle.std.specs.Prelude.{◌≡◌, ◌<◌, IfOk, OnOk, map};
 ghost use Rattle.std.specs.List.{All};
-ghost use Rattle.port_word.specs.Pictures.{in_count};
-ghost use Rattle.port_word.specs.Differences.{ChangedByCalls};
+ghost use Rattle.port_word.specs.Names.{in_count, ChangedByCalls};
 ghost use Rattle.proc_api.specs.Clauses.{IsFresh};
 ghost use Rattle.pipeline_exec.specs.Ends.{IsNoList};
 

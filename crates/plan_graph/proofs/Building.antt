@@ -1,9 +1,7 @@
 -- One port, wire or node more.
 use Rattle.std.proofs.Common.{◌≡◌, ℕ, zero, suc, ◌+◌, ◌<◌, ◌≤◌, List, [], ◌∷◌, ◌++◌, length, take, drop, get_or, refl, sym, ap, ◌∙◌, arith}
 use Rattle.std.proofs.lemmas.List.{take_more, get_or-drop, length-drop, length-take-le}
-use Rattle.plan_graph.specs.Drafts.{AllFitDraft, Draft, FitsDraft, ports_of, run_of, wires_to, with_node, with_nodes}
-use Rattle.plan_graph.specs.declared.nodes.DraftNode.{DraftNode}
-use Rattle.plan_graph.specs.declared.nodes.NodePort.{NodePort}
+use Rattle.plan_graph.specs.Names.{AllFitDraft, Draft, FitsDraft, ports_of, run_of, wires_to, with_node, with_nodes, DraftNode, NodePort}
 
 ports-suc : (n o k : ℕ) → ports_of n o (suc k) ≡ ports_of n o k ++ record { node = n; port = o + k }
     ∷ []

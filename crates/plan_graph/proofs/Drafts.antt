@@ -10,13 +10,10 @@ use Rattle.std.proofs.lemmas.List.Sorted.{IsPermutation-refl, IsPermutation-sym,
 use Rattle.std.proofs.lemmas.Map.Keys.{IsDistinct-IsPermutation}
 use Rattle.query_model.proofs.Lists.{IsPermutation-same}
 use Rattle.port_word.specs.declared.flags.Wire.{Wire}
-use Rattle.proc_api.specs.Settled.{wire_at, no_wire}
-use Rattle.proc_api.specs.Graphs.{rank_at, input_count, output_count, IsGraph}
+use Rattle.proc_api.specs.Names.{wire_at, no_wire, rank_at, input_count, output_count, IsGraph}
 use Rattle.proc_api.proofs.Graphs.{rank-kept, is-gapless, wire-input, wire-output}
-use Rattle.plan_graph.specs.Drafts.{AllFitDraft, Draft, FitsDraft, IsDraft, consumer_of, given_by, no_draft, ports_from, ports_of, producer_of, taken_by, wires_to, with_node, with_nodes}
-use Rattle.plan_graph.specs.declared.nodes.DraftNode.{DraftNode}
+use Rattle.plan_graph.specs.Names.{AllFitDraft, Draft, FitsDraft, IsDraft, consumer_of, given_by, no_draft, ports_from, ports_of, producer_of, taken_by, wires_to, with_node, with_nodes, DraftNode, NodePort}
 use Rattle.plan_graph.proofs.Ports.{IsPortFrom, at_node, count-at, eqb-flips, ports-contain, ports-distinct, ports-from, ports_from-push, same-place, same_port}
-use Rattle.plan_graph.specs.declared.nodes.NodePort.{NodePort}
 use Rattle.plan_graph.proofs.Places.{run-length, run-split}
 
 -- ---- wires

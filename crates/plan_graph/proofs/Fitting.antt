@@ -6,12 +6,9 @@ use Rattle.std.proofs.lemmas.List.Elements.{All-nil, All-cons, All-head, All-tai
 use Rattle.query_model.specs.declared.processor_spec.Spec.{Spec}
 use Rattle.proc_api.specs.Graphs.{rank_at}
 use Rattle.proc_api.proofs.Graphs.{rank-kept}
-use Rattle.plan_graph.specs.Drafts.{AllFitDraft, AllFitEnds, Draft, FitsDraft, FitsEnds, IsDraft, given_by, no_draft, ports_of, producer_of, ranks_after, ranks_with, replaced, run_of, taken_by, with_node, with_nodes}
-use Rattle.plan_graph.specs.declared.nodes.DraftNode.{DraftNode}
-use Rattle.plan_graph.specs.declared.nodes.NodePort.{NodePort}
+use Rattle.plan_graph.specs.Names.{AllFitDraft, AllFitEnds, Draft, FitsDraft, FitsEnds, IsDraft, given_by, no_draft, ports_of, producer_of, ranks_after, ranks_with, replaced, run_of, taken_by, with_node, with_nodes, DraftNode, NodePort, joint_node, lane_nodes, source_nodes}
 use Rattle.plan_graph.proofs.Drafts.{all-back, draft-more, draft-start, ends-known, from-map, rank-new}
 use Rattle.plan_graph.proofs.Places.{given-map, replaced-at, run-at, taken-map}
-use Rattle.plan_graph.specs.Blocks.{joint_node, lane_nodes, source_nodes}
 
 -- ---- ranks of ends
 

@@ -3,10 +3,8 @@ use Rattle.std.proofs.Common.{◌≡◌, ◌+◌, ◌≤◌, List, [], ◌∷◌
 use Rattle.std.proofs.lemmas.List.{length-map, length-append, nil_from_length}
 use Rattle.proc_api.specs.Graphs.{rank_at}
 use Rattle.std.specs.Prelude.{◌≡◌, ◌+◌, ◌≤◌, List, [], length}
-use Rattle.plan_graph.specs.Drafts.{AllFitDraft, AllFitEnds, Draft, IsGraphOf, no_draft, ranks_after, with_node, with_nodes}
-use Rattle.plan_graph.specs.declared.nodes.DraftNode.{DraftNode}
+use Rattle.plan_graph.specs.Names.{AllFitDraft, AllFitEnds, Draft, IsGraphOf, no_draft, ranks_after, with_node, with_nodes, DraftNode, NodePort}
 use Rattle.plan_graph.proofs.Fitting.{Fitted, fits}
-use Rattle.plan_graph.specs.declared.nodes.NodePort.{NodePort}
 use Rattle.plan_graph.proofs.Drafts.{draft-of, graph-of-draft, inputs-of-draft, outputs-of-draft}
 
 pub lists-are-graphs : (nodes : List DraftNode) → AllFitEnds nodes [] → ranks_after nodes [] ≡ []

@@ -1,8 +1,7 @@
 -- A run at a place of a list, and what stands there after a replacement.
 use Rattle.std.proofs.Common.{◌≡◌, ℕ, suc, ◌+◌, ◌≤◌, List, [], ◌∷◌, ◌++◌, length, map, take, drop, refl, sym, ap, ◌∙◌, arith}
 use Rattle.std.proofs.lemmas.List.{length-take, length-drop, drop-drop, take-append-drop, map-append, take_at, drop_at, take-map, drop-map}
-use Rattle.plan_graph.specs.declared.nodes.DraftNode.{DraftNode}
-use Rattle.plan_graph.specs.Drafts.{given_by, replaced, run_of, taken_by}
+use Rattle.plan_graph.specs.Names.{DraftNode, given_by, replaced, run_of, taken_by}
 
 -- a list is what stands before a run, the run, and what stands behind it
 pub run-split : {X : Type 0} (i k : ℕ) (xs : List X)

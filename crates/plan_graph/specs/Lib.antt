@@ -1,3 +1,4 @@
 pub mod Drafts
 pub mod Blocks
 pub mod Building
+pub mod Names

@@ -1,6 +1,5 @@
 ghost use Rattle.std.specs.Prelude.{◌≡◌, ◌+◌, ◌<◌, ◌≤◌, ◌++◌, length, OnOk, IfOk};
-ghost use Rattle.plan_graph.specs.Building.{draft_of};
-ghost use Rattle.plan_graph.specs.Drafts.{no_draft, with_node, with_nodes, AllFitDraft, given_by, ports_of, run_of, wires_to};
+ghost use Rattle.plan_graph.specs.Names.{draft_of, no_draft, with_node, with_nodes, AllFitDraft, given_by, ports_of, run_of, wires_to};
 
 use crate::nodes::{DraftNode, NodePort};
 use chunk_data::{List, Memory};

@@ -3,16 +3,9 @@ use Rattle.std.proofs.Common.{◌≡◌, ℕ, ◌<◌, ◌==◌, not, ◌&&◌, 
 use Rattle.std.proofs.lemmas.Bool.{eqb-true, eqb-false, cases_lt}
 use Rattle.std.proofs.Math.ListN.{get_or-eq_default}
 use Rattle.chunk_data.specs.Values.{Table}
-use Rattle.port_word.specs.declared.flags.Flags.{Flags}
-use Rattle.port_word.specs.declared.flags.Action.{Action}
+use Rattle.port_word.specs.Names.{Flags, Action, InputPort, Picture, input_at, output_at, in_count, out_count, with_input, with_output, with_actions, no_input, over_flags, holds_data, can_push, is_out_finished, input_step, chunk_step, output_step, input_allows, output_allows, IsOnce, noted_want, noted, emptied, closed, with_needed, IsSound, Explains, IsDifference, PortCall, pull_call, need_call, close_call, push_call, finish_call, after_call, after_calls, ChangedByCalls}
 use Rattle.port_word.specs.declared.flags.Action.TheVariants.{Pull, Close, Push, Finish}
-use Rattle.port_word.specs.declared.port_view.InputPort.{InputPort}
-use Rattle.port_word.specs.Pictures.{Picture, input_at, output_at, in_count, out_count, with_input, with_output, with_actions, no_input, over_flags, holds_data, can_push, is_out_finished}
-use Rattle.port_word.specs.Actions.{input_step, chunk_step, output_step, input_allows, output_allows, IsOnce, noted_want}
-use Rattle.port_word.specs.Calls.{noted, emptied, closed, with_needed}
 use Rattle.port_word.proofs.Laws.{input_at-with_input, input_at-with_input-other, output_at-with_output, output_at-with_output-other}
-use Rattle.port_word.specs.Sound.{IsSound}
-use Rattle.port_word.specs.Differences.{Explains, IsDifference, PortCall, pull_call, need_call, close_call, push_call, finish_call, after_call, after_calls, ChangedByCalls}
 use Rattle.port_word.proofs.Soundness.{sound-pull, sound-close, sound-push, sound-finish, sound-want}
 use Rattle.port_word.proofs.Steps.{cond-ap, cond-same, needs, input_after-append, chunk_after-append, output_after-append, inputs_allow-append, outputs_allow-append, input_after-want, chunk_after-want, output_after-want, inputs_allow-want, outputs_allow-want, input_after-fin_out, input_after-fin_in, output_after-needed, output_after-fin_in, output_after-fin_out}
 

@@ -2,14 +2,8 @@
 use Rattle.std.proofs.Common.{◌≡◌, ℕ, ◌+◌, ◌<◌, ◌≤◌, Bool, true, false, Option, None, is_some, List, [], ◌∷◌, ◌++◌, length, get_or, set, zero, suc, sym, ap, subst, arith, ◌∙◌, length-append, replicate}
 use Rattle.std.proofs.lemmas.List.{length-set, get_or_default, length-replicate, get_or_append_left}
 use Rattle.chunk_data.specs.Values.{Table}
-use Rattle.port_word.specs.declared.flags.Flags.{Flags}
-use Rattle.port_word.specs.declared.flags.Action.{Action}
+use Rattle.port_word.specs.Names.{Flags, Action, InputPort, Picture, input_at, output_at, in_count, out_count, with_input, with_output, with_actions, no_input, new_input, no_flags, over_flags, holds_data, noted_want, new_picture, noted, emptied, closed, with_needed, IsDone, IsSound, Fits, action_room}
 use Rattle.port_word.specs.declared.flags.Action.TheVariants.{Pull, Close, Push, Finish}
-use Rattle.port_word.specs.declared.port_view.InputPort.{InputPort}
-use Rattle.port_word.specs.Pictures.{Picture, input_at, output_at, in_count, out_count, with_input, with_output, with_actions, no_input, new_input, no_flags, over_flags, holds_data}
-use Rattle.port_word.specs.Actions.{noted_want}
-use Rattle.port_word.specs.Calls.{new_picture, noted, emptied, closed, with_needed}
-use Rattle.port_word.specs.Sound.{IsDone, IsSound, Fits, action_room}
 use Rattle.port_word.proofs.Slots.{each-map}
 use Rattle.port_word.proofs.Soundness.{Follows, done-follows, actions-fit, sound-pull, sound-close, sound-push, sound-finish, sound-want}
 

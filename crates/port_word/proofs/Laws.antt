@@ -2,10 +2,7 @@
 use Rattle.std.specs.Prelude.{◌≡◌, ◌≢◌, ℕ, ◌<◌, List, refl}
 use Rattle.std.proofs.Common.{get_or-set_same, get_or-set_other}
 use Rattle.std.proofs.lemmas.List.{length-set}
-use Rattle.port_word.specs.declared.flags.Flags.{Flags}
-use Rattle.port_word.specs.declared.flags.Action.{Action}
-use Rattle.port_word.specs.declared.port_view.InputPort.{InputPort}
-use Rattle.port_word.specs.Pictures.{Picture, input_at, output_at, in_count, out_count, with_input, with_output, with_actions}
+use Rattle.port_word.specs.Names.{Flags, Action, InputPort, Picture, input_at, output_at, in_count, out_count, with_input, with_output, with_actions}
 
 pub input_at-with_input : (p : Picture) (i : ℕ) (x : InputPort) → i < in_count p → input_at (with_input p i x) i ≡ x
 unfolding input_at with_input in_count

@@ -2,14 +2,8 @@
 use Rattle.std.proofs.Common.{◌≡◌, ◌≢◌, ℕ, ◌+◌, ◌*◌, ◌<◌, ◌≤◌, Bool, true, false, is_some, List, [], ◌∷◌, ◌++◌, length, refl, sym, ap, subst, arith, ◌∙◌, inl, inr}
 use Rattle.std.proofs.lemmas.Bool.{cases_eq}
 use Rattle.chunk_data.specs.Values.{Table}
-use Rattle.port_word.specs.declared.flags.Flags.{Flags}
-use Rattle.port_word.specs.declared.flags.Action.{Action}
+use Rattle.port_word.specs.Names.{Flags, Action, InputPort, Picture, input_at, output_at, in_count, out_count, with_input, with_output, with_actions, holds_data, EachAction, IsOnce, action_slot, want_of, noted_want, noted, emptied, closed, with_needed, IsDone, IsSound, action_room}
 use Rattle.port_word.specs.declared.flags.Action.TheVariants.{Want, Unwant, Pull, Close, Push, Finish}
-use Rattle.port_word.specs.declared.port_view.InputPort.{InputPort}
-use Rattle.port_word.specs.Pictures.{Picture, input_at, output_at, in_count, out_count, with_input, with_output, with_actions, holds_data}
-use Rattle.port_word.specs.Actions.{EachAction, IsOnce, action_slot, want_of, noted_want}
-use Rattle.port_word.specs.Calls.{noted, emptied, closed, with_needed}
-use Rattle.port_word.specs.Sound.{IsDone, IsSound, action_room}
 use Rattle.port_word.proofs.Laws.{input_at-with_input, input_at-with_input-other, output_at-with_output, output_at-with_output-other, output_at-with_input, input_at-with_output, in_count-with_input, out_count-with_input, in_count-with_output, out_count-with_output, input_at-with_actions, output_at-with_actions, in_count-with_actions, out_count-with_actions}
 use Rattle.port_word.proofs.Slots.{each-append, each-map, once-append, once-fits, each-noted_want, once-noted_want}
 

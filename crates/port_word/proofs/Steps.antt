@@ -2,11 +2,9 @@
 use Rattle.std.proofs.Common.{◌≡◌, ◌≢◌, ℕ, ◌*◌, ◌==◌, not, ◌||◌, Bool, true, false, cond, Option, List, [], ◌∷◌, ◌++◌, refl, sym, ap, subst, ◌∙◌, inl, inr}
 use Rattle.std.proofs.lemmas.Bool.{eqb-true, cases_Bool}
 use Rattle.chunk_data.specs.Values.{Table}
-use Rattle.port_word.specs.declared.flags.Flags.{Flags}
-use Rattle.port_word.specs.declared.flags.Action.{Action}
+use Rattle.port_word.specs.Names.{Flags, Action, input_step, chunk_step, output_step, input_after, chunk_after, output_after, input_allows, output_allows, InputAllows, OutputAllows, EachAction, IsOnce, action_slot, want_of, is_want, noted_want}
 use Rattle.port_word.specs.declared.flags.Action.TheVariants.{Want, Unwant, Pull, Close, Push, Finish}
 use Rattle.port_word.proofs.Slots.{each-map, slot-is_want}
-use Rattle.port_word.specs.Actions.{input_step, chunk_step, output_step, input_after, chunk_after, output_after, input_allows, output_allows, InputAllows, OutputAllows, EachAction, IsOnce, action_slot, want_of, is_want, noted_want}
 
 pub cond-ap : {A B : Type 0} (h : A → B) (b : Bool) (x y : A) → h (cond b x y) ≡ cond b (h x) (h y)
 cond-ap h true x y = refl

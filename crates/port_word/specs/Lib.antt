@@ -5,3 +5,4 @@ pub mod Sights
 pub mod Status
 pub mod Sound
 pub mod Differences
+pub mod Names

@@ -2,11 +2,9 @@
 use Rattle.std.proofs.Common.{◌≡◌, ℕ, ◌==◌, Bool, true, false, cond, Option, Some, None, List, [], ◌∷◌, ◌++◌, refl, sym, ap, ◌∙◌}
 use Rattle.std.proofs.lemmas.Bool.{eqb-true}
 use Rattle.chunk_data.specs.Values.{Table}
+use Rattle.port_word.specs.Names.{Picture, input_at, output_at, noted_want, want_of, EachAction, IsSound, IsDone}
 use Rattle.port_word.specs.declared.flags.Action.{Action}
 use Rattle.port_word.specs.declared.flags.Action.TheVariants.{Want, Unwant, Pull, Close, Push, Finish}
-use Rattle.port_word.specs.Pictures.{Picture, input_at, output_at}
-use Rattle.port_word.specs.Actions.{noted_want, want_of, EachAction}
-use Rattle.port_word.specs.Sound.{IsSound, IsDone}
 use Rattle.proc_api.specs.Histories.{pushes_to, pushed_at, pulled_at, taken_out}
 
 more-or-same : (b : Bool) (chunk : Table) (xs ys zs : List Table) → xs ≡ ys ++ zs → cond b (chunk ∷ xs) xs ≡ cond b (chunk ∷ ys) ys ++ zs

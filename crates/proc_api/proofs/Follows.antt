@@ -3,19 +3,14 @@ use Rattle.std.proofs.Common.{◌≡◌, ℕ, ◌<◌, ◌≤◌, not, ◌&&◌,
 use Rattle.chunk_data.specs.Values.{Table}
 use Rattle.query_model.specs.declared.processor_spec.Spec.{Spec}
 use Rattle.query_model.specs.declared.processor_spec.Spec.TheVariants as spec
+use Rattle.port_word.specs.Names.{Picture, input_at, output_at, in_count, out_count, with_input, with_output, with_actions, new_input, no_input, no_flags, over_flags, holds_data, new_picture, TakesFirst, MaySee, after_see, seen_chunk, IsSound}
 use Rattle.port_word.specs.declared.flags.Flags.{Flags}
-use Rattle.port_word.specs.declared.flags.Port.TheVariants.{Input, Output}
 use Rattle.port_word.specs.declared.port_view.InputPort.{InputPort}
-use Rattle.port_word.specs.Pictures.{Picture, input_at, output_at, in_count, out_count, with_input, with_output, with_actions, new_input, no_input, no_flags, over_flags, holds_data}
-use Rattle.port_word.specs.Calls.{new_picture, TakesFirst}
 use Rattle.port_word.specs.declared.flags.Action.{Action}
+use Rattle.port_word.specs.declared.flags.Port.TheVariants.{Input, Output}
 use Rattle.std.proofs.lemmas.List.{get_or-replicate, length-replicate}
-use Rattle.port_word.specs.Sights.{MaySee, after_see, seen_chunk}
-use Rattle.port_word.specs.Sound.{IsSound}
 use Rattle.port_word.proofs.Laws.{input_at-with_input, input_at-with_input-other, output_at-with_output, output_at-with_output-other, output_at-with_input, input_at-with_output, in_count-with_input, out_count-with_input, in_count-with_output, out_count-with_output}
-use Rattle.proc_api.specs.Boxes.{BoxPicture, PortFlags, no_notes, kept_input, kept_output, kept_inputs, kept_outputs, kept_ports}
-use Rattle.proc_api.specs.Clauses.{port_flags}
-use Rattle.proc_api.specs.Ports.{FollowsKept, InputFollows, OutputFollows, AreAsKept, StandStill}
+use Rattle.proc_api.specs.Names.{BoxPicture, PortFlags, no_notes, kept_input, kept_output, kept_inputs, kept_outputs, kept_ports, port_flags, FollowsKept, InputFollows, OutputFollows, AreAsKept, StandStill}
 use Rattle.proc_api.proofs.KeptFlags.{kept_input-of, kept_output-of, kept_inputs-of, kept_outputs-of}
 use Rattle.proc_api.proofs.ShutPorts.{by-place}
 

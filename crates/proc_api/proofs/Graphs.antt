@@ -9,8 +9,7 @@ use Rattle.std.proofs.lemmas.List.Folds.{Any-from_list_any, list_any_at}
 use Rattle.std.proofs.lemmas.List.Sums.{AllPass-from_list_all, list_all-from_AllPass}
 use Rattle.port_word.specs.declared.flags.Wire.{Wire}
 use Rattle.port_word.specs.declared.flags.Reserve.{Reserve}
-use Rattle.proc_api.specs.Settled.{wire_at, no_wire, HasInputWire, HasOutputWire}
-use Rattle.proc_api.specs.Graphs.{rank_at, has_input, has_output, input_count, output_count, all_below, follows_inputs, follows_outputs, is_gapless, reserved_edges, IsEdge, IsGraphSoFar, IsGraph}
+use Rattle.proc_api.specs.Names.{wire_at, no_wire, HasInputWire, HasOutputWire, rank_at, has_input, has_output, input_count, output_count, all_below, follows_inputs, follows_outputs, is_gapless, reserved_edges, IsEdge, IsGraphSoFar, IsGraph}
 use Rattle.proc_api.proofs.PortCounts.{AreOnce, AreGapless, below-case, port-below-count, port-of-count, count-limit}
 
 -- ---- a port in use has a wire

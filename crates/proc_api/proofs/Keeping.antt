@@ -9,10 +9,7 @@ use Rattle.chunk_data.specs.declared.typed_value.ColumnType.{ColumnType}
 use Rattle.query_model.specs.declared.processor_spec.Spec.{Spec}
 use Rattle.query_model.specs.declared.processor_spec.Spec.TheVariants as spec
 use Rattle.port_word.specs.Pictures.{Picture}
-use Rattle.proc_api.specs.Boxes.{BoxPicture}
-use Rattle.proc_api.specs.Histories.{Lists, chunk_rows, pulled_at, with_pulled, total_rows, rows_pulled, raised, last_count}
-use Rattle.proc_api.specs.Keeping.{IsPulled, MakesTypes, AllFit, FitsInput, HasReadEnough, no_table}
-use Rattle.proc_api.specs.Clauses.{PulledOn}
+use Rattle.proc_api.specs.Names.{BoxPicture, Lists, chunk_rows, pulled_at, with_pulled, total_rows, rows_pulled, raised, last_count, IsPulled, MakesTypes, AllFit, FitsInput, HasReadEnough, no_table, PulledOn, NotesEnd, OwnState}
 
 -- ---- chunks that were pulled
 
@@ -35,8 +32,8 @@ makes-more (Some spec.Resize) v w ins types h = pulled-more v w ins types h
 makes-more (Some (spec.PartialAggregate groups)) v w ins types h = tt
 makes-more (Some (spec.MergeAggregate groups)) v w ins types h = tt
 makes-more (Some (spec.HashJoin join)) v w ins types h = tt
-makes-more (Some (spec.Sort order)) v w ins types h = tt
-makes-more (Some (spec.MergeSorted order)) v w ins types h = tt
+makes-more (Some (spec.Sort order)) v w ins types h = h
+makes-more (Some (spec.MergeSorted order)) v w ins types h = h
 makes-more (Some (spec.Limit span)) v w ins types h = pulled-more v w ins types h
 makes-more (Some spec.Collect) v w ins types h = tt
 
@@ -115,3 +112,9 @@ enough-more (Some (spec.Limit span)) v w ins h =
     let more : length (chunk_rows (with_pulled v w ins 0)) ≡ length (chunk_rows (ins 0)) + length (chunk_rows (pulled_at v w 0)) = ap length (rows-append (ins 0) (pulled_at v w 0)) ∙ length-append (chunk_rows (ins 0)) (chunk_rows (pulled_at v w 0)) in
     omega (arith, more, h)
 enough-more (Some spec.Collect) v w ins h = h
+
+-- a kind that notes an end never reads enough
+pub never-enough : (s : Spec) (own : OwnState) (i : ℕ) (ins : Lists) → NotesEnd (Some s) own i
+    → HasReadEnough (Some s) ins → ⊥
+never-enough (spec.Limit span) own i ins n enough = n
+never-enough s own i ins n enough = enough

@@ -1,11 +1,11 @@
 -- The flags that a box keeps are those of the view that its last prepare left.
-use Rattle.std.proofs.Common.{◌≡◌, ℕ, ◌<◌, ◌≤◌, length, map, get_or, Some, refl, ap, ◌∙◌}
+use Rattle.std.proofs.Common.{◌≡◌, ◌⊎◌, ℕ, ◌<◌, ◌≤◌, length, map, get_or, Option, Some, None, refl, ap, ◌∙◌, false, arith, inl, inr}
 use Rattle.std.proofs.lemmas.List.{get_or-map, get_or_default, length-map}
 use Rattle.std.proofs.Math.ListN.{get_or-eq_default}
-use Rattle.port_word.specs.declared.port_view.InputPort.{InputPort}
 use Rattle.port_word.specs.Pictures.{Picture, input_at, output_at, in_count, out_count, no_flags, no_input, over_flags}
-use Rattle.proc_api.specs.Boxes.{BoxPicture, kept_input, kept_output, kept_inputs, kept_outputs, kept_ports}
-use Rattle.proc_api.specs.Clauses.{port_flags}
+use Rattle.port_word.specs.declared.flags.Flags.{Flags}
+use Rattle.port_word.specs.declared.port_view.InputPort.{InputPort}
+use Rattle.proc_api.specs.Names.{BoxPicture, PortFlags, kept_input, kept_output, kept_inputs, kept_outputs, kept_ports, port_flags, MayBeInput}
 
 module _ (q : BoxPicture) (w : Picture) (e : q.notes.view ≡ Some (port_flags w)) where
   pub kept_inputs-of : kept_inputs q ≡ in_count w
@@ -33,3 +33,20 @@ module _ (q : BoxPicture) (w : Picture) (e : q.notes.view ≡ Some (port_flags w
   pub kept_output-past : (o : ℕ) → out_count w ≤ o → kept_output q o ≡ no_flags
   unfolding kept_output out_count
   kept_output-past o le = ap (λ p. get_or (kept_ports p).outputs o no_flags) e ∙ get_or-eq_default w.outputs no_flags le
+
+-- an input in the range of the kept view
+pub may-be-input : (p : BoxPicture) (n i : ℕ) → (p.notes.view ≡ None) ⊎ (kept_inputs p ≡ n) → i < n
+    → MayBeInput p.notes.view i
+unfolding kept_inputs
+may-be-input p n i e lt = go p.notes.view e
+  where
+    go : (x : Option PortFlags) → (x ≡ None) ⊎ (length (kept_ports x).inputs ≡ n) → MayBeInput x i
+    go None e = tt
+    go (Some ports) (inl e) = absurd (cc)
+    go (Some ports) (inr e) = omega (arith, e, lt)
+
+-- past the last input that it keeps none is closed
+pub past-open : (p : BoxPicture) (i : ℕ) → kept_inputs p ≤ i → (kept_input p i).fin_in ≡ false
+unfolding kept_inputs kept_input
+past-open p i le = ap (λ (f : Flags). f.fin_in)
+    (get_or-eq_default (kept_ports p.notes.view).inputs no_flags le)

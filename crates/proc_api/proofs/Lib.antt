@@ -4,6 +4,7 @@ pub mod CallLaws
 pub mod Turns
 pub mod ShutPorts
 pub mod Keeping
+pub mod Orders
 pub mod KeptFlags
 pub mod Follows
 pub mod PortCounts

@@ -4,8 +4,7 @@ use Rattle.std.specs.List.{remove}
 use Rattle.std.proofs.lemmas.List.{get_or-map, length-map}
 use Rattle.std.proofs.lemmas.List.Sums.{sum_by-cons, count_by_more_no}
 use Rattle.query_model.specs.declared.processor_spec.Kind.{Kind}
-use Rattle.proc_api.specs.Boxes.{BoxPicture}
-use Rattle.proc_api.specs.Racks.{is_of, IsPlaceOf, TakesOut}
+use Rattle.proc_api.specs.Names.{BoxPicture, is_of, IsPlaceOf, TakesOut}
 
 count_by-cons : {A : Type 0} (test : A → Bool) (x : A) (xs : List A) → count_by test (x ∷ xs) ≡ cond (test x) 1 0 + count_by test xs
 count_by-cons test x xs = sum_by-cons (λ y. cond (test y) 1 0) x xs

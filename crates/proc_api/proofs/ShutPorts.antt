@@ -2,13 +2,10 @@
 use Rattle.std.proofs.Common.{◌≡◌, ◌≢◌, ℕ, ◌+◌, ◌<◌, Bool, true, false, cond, ◌||◌, refl, sym, ap, subst, ◌∙◌, arith, inl, inr}
 use Rattle.std.proofs.lemmas.Bool.{cases_eq}
 use Rattle.std.proofs.lemmas.List.{append-nil}
+use Rattle.port_word.specs.Names.{Picture, input_at, output_at, in_count, out_count, is_out_finished, after_close, after_finish, close_call, finish_call}
 use Rattle.port_word.specs.declared.flags.Flags.{Flags}
-use Rattle.port_word.specs.Pictures.{Picture, input_at, output_at, in_count, out_count, is_out_finished}
-use Rattle.port_word.specs.Calls.{after_close, after_finish}
-use Rattle.port_word.specs.Differences.{close_call, finish_call}
 use Rattle.port_word.proofs.Differences.{changed-by-none, changed-by-one, changed-by-both}
-use Rattle.proc_api.specs.Histories.{pushes_to}
-use Rattle.proc_api.specs.Ports.{SameChunks, ClosesFront, FinishesFront}
+use Rattle.proc_api.specs.Names.{pushes_to, SameChunks, ClosesFront, FinishesFront}
 use Rattle.proc_api.proofs.Turns.{close-turns, finish-turns, finishing}
 
 -- what holds of every input, where it holds of the changed one and of the others

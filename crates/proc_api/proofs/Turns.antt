@@ -2,13 +2,11 @@
 use Rattle.std.proofs.Common.{rules, ◌≡◌, ◌≢◌, ℕ, ◌<◌, ◌==◌, Bool, true, false, cond, not, ◌||◌, List, [], ◌∷◌, ◌++◌, refl, sym, ap, ◌∙◌}
 use Rattle.std.proofs.lemmas.List.{append-nil}
 use Rattle.chunk_data.specs.Values.{Table}
+use Rattle.port_word.specs.Names.{Picture, input_at, output_at, in_count, out_count, with_input, with_output, with_actions, holds_data, can_push, is_out_finished, noted_want, noted, emptied, closed, with_needed, after_pull, after_need, after_close, after_push, after_finish}
 use Rattle.port_word.specs.declared.flags.Flags.{Flags}
 use Rattle.port_word.specs.declared.flags.Action.{Action}
-use Rattle.port_word.specs.declared.flags.Action.TheVariants.{Pull, Close, Push, Finish}
 use Rattle.port_word.specs.declared.port_view.InputPort.{InputPort}
-use Rattle.port_word.specs.Pictures.{Picture, input_at, output_at, in_count, out_count, with_input, with_output, with_actions, holds_data, can_push, is_out_finished}
-use Rattle.port_word.specs.Actions.{noted_want}
-use Rattle.port_word.specs.Calls.{noted, emptied, closed, with_needed, after_pull, after_need, after_close, after_push, after_finish}
+use Rattle.port_word.specs.declared.flags.Action.TheVariants.{Pull, Close, Push, Finish}
 use Rattle.port_word.proofs.Laws.{input_at-with_input, input_at-with_input-other, output_at-with_output, output_at-with_output-other, output_at-with_input, input_at-with_output, in_count-with_input, out_count-with_input, in_count-with_output, out_count-with_output}
 use Rattle.proc_api.specs.Histories.{pushes_to}
 use Rattle.proc_api.proofs.CallLaws.{pushes_to-append, pushes_to-noted_want}

@@ -3,11 +3,11 @@ use Rattle.std.specs.Prelude.{ℕ, Bool, true, false, List, [], length, slice_in
 use Rattle.chunk_data.specs.Values.{Row, Table}
 use Rattle.query_model.specs.Database.{Files}
 use Rattle.query_model.specs.declared.places.BadPlace.{BadPlace}
+use Rattle.query_model.specs.declared.processor_spec.Spec.{Spec}
 use Rattle.query_model.specs.declared.processor_spec.Kind.{Kind}
 use Rattle.query_model.specs.declared.processor_spec.Kind.TheVariants as kind
-use Rattle.query_model.specs.declared.processor_spec.Spec.{Spec}
-use Rattle.port_word.specs.declared.flags.Flags.{Flags}
 use Rattle.port_word.specs.Pictures.{no_flags}
+use Rattle.port_word.specs.declared.flags.Flags.{Flags}
 use Rattle.proc_api.specs.Forms.{GrowthForm}
 use Rattle.proc_api.specs.declared.status.Answer.{Answer}
 use Rattle.proc_api.specs.declared.status.WorkFault.{WorkFault}
@@ -16,6 +16,12 @@ use Rattle.proc_api.specs.declared.status.WorkFault.{WorkFault}
 pub record PortFlags : Type 0 where
   pub inputs : List Flags
   pub outputs : List Flags
+
+-- What a merge holds of an input: the rows that it took and hasn't made, and whether it noted the
+-- end.
+pub record InputHead : Type 0 where
+  pub rows : List Row
+  pub ended : Bool
 
 -- The state of a processor. A later kind may add a field, which is as `idle_work` has it in every other kind.
 pub record WorkState : Type 0 where
@@ -32,6 +38,8 @@ pub record WorkState : Type 0 where
   -- how many rows it has read, and whether it has noted the end of its inputs
   pub read : ℕ
   pub ended : Bool
+  -- what a merge holds of each input
+  pub heads : List InputHead
   -- whether a source has opened its file, and whether it has fetched it whole
   pub opened : Bool
   pub fetched : Bool
@@ -81,6 +89,7 @@ idle_work = record {
   handed_out = false;
   read = 0;
   ended = false;
+  heads = [];
   opened = false;
   fetched = false;
   bad = None;

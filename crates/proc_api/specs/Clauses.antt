@@ -1,17 +1,14 @@
 -- The clauses of a processor's calls, over what is seen of the box before and after a call.
 use Rattle.std.specs.Prelude.{◌≡◌, ◌≢◌, ◌⊎◌, ℕ, ◌+◌, ◌<◌, ◌≤◌, true, false, IsTrue, List, [], length, map, Option, Some, None, IsSome, IfSome, ⊤}
 use Rattle.chunk_data.specs.Values.{Table}
-use Rattle.query_model.specs.Kinds.{kind_of}
-use Rattle.query_model.specs.Answers.{enough}
-use Rattle.query_model.specs.Database.{Files, file_bytes, part_bad_place, bad_line_in}
-use Rattle.query_model.specs.declared.processor_spec.Kind.{Kind}
-use Rattle.query_model.specs.declared.processor_spec.Kind.TheVariants as kind
+use Rattle.query_model.specs.Names.{kind_of, enough, Files, file_bytes, part_bad_place, bad_line_in}
 use Rattle.query_model.specs.declared.processor_spec.PartSpec.{PartSpec}
 use Rattle.query_model.specs.declared.processor_spec.Spec.{Spec}
+use Rattle.query_model.specs.declared.processor_spec.Kind.{Kind}
+use Rattle.query_model.specs.declared.processor_spec.Kind.TheVariants as kind
 use Rattle.query_model.specs.declared.processor_spec.Spec.TheVariants as spec
+use Rattle.port_word.specs.Names.{Picture, out_count, WaitsForData, WaitsForRoom, IsAllFinished}
 use Rattle.port_word.specs.declared.port_view.InputPort.{InputPort}
-use Rattle.port_word.specs.Pictures.{Picture, out_count}
-use Rattle.port_word.specs.Status.{WaitsForData, WaitsForRoom, IsAllFinished}
 use Rattle.proc_api.specs.declared.status.Status.{Status}
 use Rattle.proc_api.specs.declared.status.Status.TheVariants as status
 use Rattle.proc_api.specs.declared.status.Wake.{Wake}

@@ -1,14 +1,13 @@
 -- Specs and growths apart from where their boxes lie, since a copy has boxes of its own.
 use Rattle.std.specs.Prelude.{ℕ, List, map, Option, Some, None}
-use Rattle.query_model.specs.Formulas.{Formula, formula}
-use Rattle.query_model.specs.Expressions.{Cond}
+use Rattle.query_model.specs.Names.{Formula, formula, Cond}
 use Rattle.query_model.specs.declared.query.AggOp.{AggOp}
 use Rattle.query_model.specs.declared.query.CompareOp.{CompareOp}
 use Rattle.query_model.specs.declared.query.ExprOf.{ExprOf}
 use Rattle.query_model.specs.declared.query.Operand.{Operand}
+use Rattle.query_model.specs.declared.processor_spec.Spec.{Spec}
 use Rattle.query_model.specs.declared.query.Operand.TheVariants as operand
 use Rattle.query_model.specs.declared.query.CondOf.TheVariants as condition
-use Rattle.query_model.specs.declared.processor_spec.Spec.{Spec}
 use Rattle.query_model.specs.declared.processor_spec.Spec.TheVariants as spec
 use Rattle.proc_api.specs.declared.growth.Edge.{Edge}
 use Rattle.proc_api.specs.declared.growth.GrowNode.{GrowNode}

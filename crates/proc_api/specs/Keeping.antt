@@ -3,19 +3,17 @@ use Rattle.std.specs.Prelude.{◌≡◌, ◌⊎◌, ℕ, ◌<◌, ◌≤◌, max
 use Rattle.std.specs.List.{All}
 use Rattle.chunk_data.specs.Values.{Row, Table}
 use Rattle.chunk_data.specs.declared.typed_value.ColumnType.{ColumnType}
+use Rattle.chunk_data.specs.declared.typed_value.SortKey.{SortKey}
 use Rattle.chunk_data.specs.declared.typed_value.ColumnType.TheVariants as column
-use Rattle.query_model.specs.Expressions.{Cond, Expr, holds, type_of}
-use Rattle.query_model.specs.Answers.{item_row, enough}
-use Rattle.query_model.specs.Typing.{IsItem, IsTypedCond}
-use Rattle.query_model.specs.Parts.{part_records, good_rows, bad_place}
-use Rattle.query_model.specs.Database.{Files, file_bytes}
+use Rattle.query_model.specs.Names.{Cond, Expr, holds, type_of, item_row, enough, IsItem, IsTypedCond, part_records, good_rows, bad_place, Files, file_bytes}
 use Rattle.query_model.specs.declared.processor_spec.PartSpec.{PartSpec}
+use Rattle.query_model.specs.declared.processor_spec.SortSpec.{SortSpec}
 use Rattle.query_model.specs.declared.processor_spec.Spec.{Spec}
 use Rattle.query_model.specs.declared.processor_spec.Spec.TheVariants as spec
 use Rattle.port_word.specs.Pictures.{is_in_finished}
 use Rattle.proc_api.specs.Boxes.{BoxPicture, PortFlags, WorkState, idle_work, kept_input, kept_output, kept_inputs, kept_outputs}
 use Rattle.proc_api.specs.Histories.{Lists, chunk_rows, total_rows, last_count}
-use Rattle.proc_api.specs.Made.{HasMade, HasNotedEnd, own_of, unworked_at}
+use Rattle.proc_api.specs.Made.{HasMade, HasNotedEnd, NotesEnd, own_of, unworked_at}
 use Rattle.proc_api.specs.Ports.{ArePortsOf, is_ended}
 
 -- ---- rows, kind by kind
@@ -107,10 +105,19 @@ KeepsRows (Some (spec.List list)) p ins outs = ⊤
 KeepsRows (Some (spec.PartialAggregate groups)) p ins outs = ⊤
 KeepsRows (Some (spec.MergeAggregate groups)) p ins outs = ⊤
 KeepsRows (Some (spec.HashJoin join)) p ins outs = ⊤
-KeepsRows (Some (spec.Sort order)) p ins outs = ⊤
-KeepsRows (Some (spec.MergeSorted order)) p ins outs = ⊤
+KeepsRows (Some (spec.Sort order)) p ins outs = KeepsMade (spec.Sort order) p ins outs
+KeepsRows (Some (spec.MergeSorted order)) p ins outs = KeepsMade (spec.MergeSorted order) p ins outs
 
 -- ---- what fits
+
+-- each key is of one of the columns
+abbrev pub AreKeysWithin : SortSpec → Type 0
+AreKeysWithin order = All (λ (key : SortKey). key.column < length order.types) order.keys
+
+-- the types are those of the order, which has the columns of its keys
+pub record FitsOrder (order : SortSpec) (types : List ColumnType) : Type 0 where
+  pub types_are : types ≡ order.types
+  pub keys_within : AreKeysWithin order
 
 -- Chunks of these types fit an input of the spec: they are the types that it gives, or type its condition, expressions and columns. A
 -- Resize and a Limit take every chunk, and so do so far the kinds at the end.
@@ -127,8 +134,8 @@ FitsInput (Some (spec.List list)) i types = ⊤
 FitsInput (Some (spec.PartialAggregate groups)) i types = ⊤
 FitsInput (Some (spec.MergeAggregate groups)) i types = ⊤
 FitsInput (Some (spec.HashJoin join)) i types = ⊤
-FitsInput (Some (spec.Sort order)) i types = ⊤
-FitsInput (Some (spec.MergeSorted order)) i types = ⊤
+FitsInput (Some (spec.Sort order)) i types = FitsOrder order types
+FitsInput (Some (spec.MergeSorted order)) i types = FitsOrder order types
 
 -- each chunk that was pulled fits
 abbrev pub AllFit : Option Spec → Lists → Type 0
@@ -171,8 +178,8 @@ MakesTypes (Some (spec.List list)) ins types = ⊤
 MakesTypes (Some (spec.PartialAggregate groups)) ins types = ⊤
 MakesTypes (Some (spec.MergeAggregate groups)) ins types = ⊤
 MakesTypes (Some (spec.HashJoin join)) ins types = ⊤
-MakesTypes (Some (spec.Sort order)) ins types = ⊤
-MakesTypes (Some (spec.MergeSorted order)) ins types = ⊤
+MakesTypes (Some (spec.Sort order)) ins types = types ≡ order.types
+MakesTypes (Some (spec.MergeSorted order)) ins types = types ≡ order.types
 
 -- ---- the size of chunks
 
@@ -234,7 +241,22 @@ pub record AllOutputsClosed (p : BoxPicture) : Type 0 where
   pub some : 0 < kept_outputs p
   pub closed : (o : ℕ) → o < kept_outputs p → (kept_output p o).fin_in ≡ true
 
+-- an input of the kept view, or of any where none is kept
+abbrev pub MayBeInput : Option PortFlags → ℕ → Type 0
+MayBeInput None i = ⊤
+MayBeInput (Some ports) i = i < length ports.inputs
+
+-- input i is at its end and wasn't closed, and each of its chunks is worked
+pub record IsReadUp (p : BoxPicture) (i : ℕ) : Type 0 where
+  pub at_end : is_ended (kept_input p i) ≡ true
+  pub not_closed : (kept_input p i).fin_in ≡ false
+  pub all_worked : unworked_at p.work i ≡ []
+
 -- ---- the contract
+
+-- the chunks that are pulled and made, and all else idle
+abbrev pub moved_work : WorkState → WorkState
+moved_work w = record idle_work { unworked = w.unworked; source = w.source; made = w.made }
 
 -- what a kind doesn't use of the state is idle
 abbrev pub IsWorkOf : Option Spec → WorkState → Type 0
@@ -251,8 +273,10 @@ IsWorkOf (Some (spec.List list)) w = ⊤
 IsWorkOf (Some (spec.PartialAggregate groups)) w = ⊤
 IsWorkOf (Some (spec.MergeAggregate groups)) w = ⊤
 IsWorkOf (Some (spec.HashJoin join)) w = ⊤
-IsWorkOf (Some (spec.Sort order)) w = ⊤
-IsWorkOf (Some (spec.MergeSorted order)) w = ⊤
+IsWorkOf (Some (spec.Sort order)) w =
+    w ≡ record (moved_work w) { unmade = w.unmade; gathered = w.gathered; ended = w.ended }
+IsWorkOf (Some (spec.MergeSorted order)) w =
+    w ≡ record (moved_work w) { unmade = w.unmade; heads = w.heads }
 
 -- the kept view had the ports of the spec, as they were before or after its growth
 abbrev pub HadPorts : Option PortFlags → BoxPicture → Type 0
@@ -279,3 +303,5 @@ pub record Keeps (p : BoxPicture) (ins outs : Lists) : Type 0 where
   pub finishes : (o : ℕ) → (kept_output p o).fin_out ≡ true → AllInputsEnded p ⊎ HasReadEnough p.spec ins
   -- an input that it closed
   pub closes : (i : ℕ) → (kept_input p i).fin_in ≡ true → AllOutputsClosed p ⊎ HasReadEnough p.spec ins
+  -- an input of which it has noted the end
+  pub noted : (i : ℕ) → MayBeInput p.notes.view i → NotesEnd p.spec (own_of p.work) i → IsReadUp p i

@@ -8,3 +8,4 @@ pub mod Ports
 pub mod Keeping
 pub mod Clauses
 pub mod Racks
+pub mod Names

@@ -1,28 +1,37 @@
 -- What a kind has made of the chunks that it worked, as they are worked one after another.
-use Rattle.std.specs.Prelude.{◌≡◌, ℕ, zero, suc, ◌^◌, ◌-◌, ◌<◌, ◌==◌, min, cond, Bool, true, false, List, [], ◌++◌, length, map, filter, IsPermutation, Some, ⊤}
-use Rattle.chunk_data.specs.Values.{Row, Table}
-use Rattle.query_model.specs.Answers.{item_row, limited}
-use Rattle.query_model.specs.Expressions.{holds}
-use Rattle.query_model.specs.Sources.{numbers}
+use Rattle.std.specs.Prelude.{◌≡◌, ◌⊎◌, ℕ, zero, suc, ◌^◌, ◌-◌, ◌<◌, ◌==◌, nat_lt, min, cond, Bool, true, false, ◌||◌, List, [], ◌++◌, length, map, filter, flat_map, slice_index_or, IsPermutation, IsSorted, Option, Some, None, ⊤}
+use Rattle.std.specs.List.{AllByRecursion, Contains, list_all}
+use Rattle.std.specs.Ordering.{is_lt}
+use Rattle.chunk_data.specs.Values.{Row, Table, row_cmp}
+use Rattle.chunk_data.specs.declared.typed_value.SortKey.{SortKey}
+use Rattle.query_model.specs.Names.{item_row, limited, holds, numbers}
 use Rattle.query_model.specs.declared.query.Span.{Span}
 use Rattle.query_model.specs.declared.processor_spec.Spec.{Spec}
 use Rattle.query_model.specs.declared.processor_spec.Spec.TheVariants as spec
-use Rattle.proc_api.specs.Boxes.{WorkState}
+use Rattle.proc_api.specs.Boxes.{InputHead, WorkState}
 use Rattle.proc_api.specs.Histories.{Lists, chunk_rows}
 
--- What a kind keeps for itself beside the chunks that are pulled and made: the rows that it can make, the chunks that
--- it has gathered, how many rows it has read, and whether it has noted the end of its inputs.
+-- What a kind keeps for itself beside chunks that are pulled and made: the rows that it can make,
+-- the chunks that it has gathered, how many rows it has read, whether it has noted the end of its
+-- inputs, and what it holds of each.
 pub record OwnState : Type 0 where
   pub unmade : List Row
   pub gathered : List Table
   pub read : ℕ
   pub ended : Bool
+  pub heads : List InputHead
 
 abbrev pub own_of : WorkState → OwnState
-own_of w = record { unmade = w.unmade; gathered = w.gathered; read = w.read; ended = w.ended }
+own_of w = record {
+  unmade = w.unmade;
+  gathered = w.gathered;
+  read = w.read;
+  ended = w.ended;
+  heads = w.heads;
+}
 
 abbrev pub idle_own : OwnState
-idle_own = record { unmade = []; gathered = []; read = 0; ended = false }
+idle_own = record { unmade = []; gathered = []; read = 0; ended = false; heads = [] }
 
 -- the chunks of an input that are not worked yet
 abbrev pub unworked_at : WorkState → ℕ → List Table
@@ -51,6 +60,71 @@ pub record AreLimited (span : Span) (rows made : List Row) (read : ℕ) : Type 0
   pub read_are : read ≡ min (length rows) last_read
   pub made_are : made ≡ limited (Some span) rows
 
+-- the rows in an order that the keys allow
+pub record IsSortOf (keys : List SortKey) (rows out : List Row) : Type 0 where
+  pub same : IsPermutation rows out
+  pub in_order : IsSorted (row_cmp keys) out
+
+-- nothing is made yet, and the rows are gathered
+pub record AreGathered (own : OwnState) (rows made : List Row) : Type 0 where
+  pub nothing_made : made ≡ []
+  pub nothing_unmade : own.unmade ≡ []
+  pub rows_are : chunk_rows own.gathered ≡ rows
+
+-- The rows are gathered until the end is noted. From then on those that are made, and behind them
+-- those that can be made, are the rows in order.
+pub record AreSorted (keys : List SortKey) (own : OwnState) (rows made : List Row) : Type 0 where
+  pub gathered : own.ended ≡ false → AreGathered own rows made
+  pub sorted : own.ended ≡ true → IsSortOf keys rows (made ++ own.unmade)
+
+abbrev pub no_head : InputHead
+no_head = record { rows = []; ended = false }
+
+-- what is held of input i
+abbrev pub head_at : List InputHead → ℕ → InputHead
+head_at heads i = slice_index_or heads i no_head
+
+-- the rows that are held of all inputs
+abbrev pub head_rows : List InputHead → List Row
+head_rows heads = flat_map (λ (h : InputHead). h.rows) heads
+
+abbrev pub is_ready_head : InputHead → Bool
+is_ready_head h = h.ended || nat_lt 0 (length h.rows)
+
+-- the rows that are held, where each input has ended or has one; else none can be made
+abbrev pub ready_rows : List InputHead → List Row
+ready_rows heads = cond (list_all is_ready_head heads) (head_rows heads) []
+
+-- y comes before none of the rows
+abbrev pub IsBeforeNone : List SortKey → Row → List Row → Type 0
+IsBeforeNone keys y rows = AllByRecursion (λ x. is_lt (row_cmp keys y x) ≡ false) rows
+
+-- an input that has ended, or gave a row that comes before none of those that are made
+abbrev pub HeldBack : List SortKey → InputHead → (rows made : List Row) → Type 0
+HeldBack keys head rows made =
+    (head.ended ≡ true) ⊎ ((last : Row) × Contains rows last × IsBeforeNone keys last made)
+
+-- these are the last of the rows
+pub record AreLast (last rows : List Row) : Type 0 where
+  pub front : List Row
+  pub is : rows ≡ front ++ last
+
+abbrev pub AreInputsSorted : List SortKey → Lists → Type 0
+AreInputsSorted keys lists = (i : ℕ) → IsSorted (row_cmp keys) (chunk_rows (lists i))
+
+-- The rows that are made and those that are held are those of all inputs, each as often. Where each
+-- input's rows are in order, so are those that are made, and none that is held comes before one of
+-- them. Where a row is made, each input has ended or gave a row that comes before none of them.
+pub record AreMerged (keys : List SortKey) (heads : List InputHead) (worked : Lists)
+    (made : List Row) : Type 0 where
+  pub same_rows : IsPermutation (all_rows 32 worked) (made ++ head_rows heads)
+  pub heads_are : (i : ℕ) → i < 32 → AreLast (head_at heads i).rows (chunk_rows (worked i))
+  pub in_order : AreInputsSorted keys worked → IsSorted (row_cmp keys) made
+  pub before_held : AreInputsSorted keys worked
+      → AllByRecursion (λ y. IsBeforeNone keys y made) (head_rows heads)
+  pub held_back : 0 < length made → (i : ℕ) → i < 32
+      → HeldBack keys (head_at heads i) (chunk_rows (worked i)) made
+
 -- What a kind has made of its inputs: its own state, the chunks of each input that it worked, those that left by each
 -- output, and the rows that wait. Nothing is asked yet of the kinds at the end.
 abbrev pub HasMade : Spec → OwnState → (worked outs : Lists) → (wait : List Row) → Type 0
@@ -66,17 +140,38 @@ HasMade (spec.List list) own worked outs wait = ⊤
 HasMade (spec.PartialAggregate groups) own worked outs wait = ⊤
 HasMade (spec.MergeAggregate groups) own worked outs wait = ⊤
 HasMade (spec.HashJoin join) own worked outs wait = ⊤
-HasMade (spec.Sort order) own worked outs wait = ⊤
-HasMade (spec.MergeSorted order) own worked outs wait = ⊤
+HasMade (spec.Sort order) own worked outs wait =
+    AreSorted order.keys own (chunk_rows (worked 0)) (chunk_rows (outs 0) ++ wait)
+HasMade (spec.MergeSorted order) own worked outs wait =
+    (own.unmade ≡ ready_rows own.heads)
+    × AreMerged order.keys own.heads worked (chunk_rows (outs 0) ++ wait)
 HasMade spec.Collect own worked outs wait = ⊤
 
--- a kind that reads an input to its end first has noted that end
+-- It has noted the end of input i, before which it makes no rows, or pulls none of another. None of
+-- the kinds that go on chunk by chunk does.
+abbrev pub NotesEnd : Option Spec → OwnState → ℕ → Type 0
+NotesEnd (Some (spec.PartialAggregate groups)) own i = own.ended ≡ true
+NotesEnd (Some (spec.MergeAggregate groups)) own i = own.ended ≡ true
+NotesEnd (Some (spec.HashJoin join)) own i = (i ≡ 1) × (own.ended ≡ true)
+NotesEnd (Some (spec.Sort order)) own i = own.ended ≡ true
+NotesEnd (Some (spec.MergeSorted order)) own i = (head_at own.heads i).ended ≡ true
+NotesEnd None own i = ⊥
+NotesEnd (Some (spec.Csv part)) own i = ⊥
+NotesEnd (Some (spec.List list)) own i = ⊥
+NotesEnd (Some (spec.Numbers n rows)) own i = ⊥
+NotesEnd (Some (spec.Filter c)) own i = ⊥
+NotesEnd (Some (spec.Expression items)) own i = ⊥
+NotesEnd (Some spec.Resize) own i = ⊥
+NotesEnd (Some (spec.Limit span)) own i = ⊥
+NotesEnd (Some spec.Collect) own i = ⊥
+
+-- a kind that reads an input to its end first has noted that end, and a merge holds nothing
 abbrev pub HasNotedEnd : Spec → OwnState → Type 0
 HasNotedEnd (spec.PartialAggregate groups) own = own.ended ≡ true
 HasNotedEnd (spec.MergeAggregate groups) own = own.ended ≡ true
 HasNotedEnd (spec.HashJoin join) own = own.ended ≡ true
 HasNotedEnd (spec.Sort order) own = own.ended ≡ true
-HasNotedEnd (spec.MergeSorted order) own = own.ended ≡ true
+HasNotedEnd (spec.MergeSorted order) own = head_rows own.heads ≡ []
 HasNotedEnd (spec.Csv part) own = ⊤
 HasNotedEnd (spec.List list) own = ⊤
 HasNotedEnd (spec.Numbers n rows) own = ⊤

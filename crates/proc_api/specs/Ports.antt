@@ -2,9 +2,8 @@
 use Rattle.std.specs.Prelude.{◌≡◌, ℕ, ◌<◌, ◌≤◌, Bool, true, false, not, ◌&&◌, length, count_by, Option, Some, None, ⊤}
 use Rattle.query_model.specs.declared.processor_spec.Spec.{Spec}
 use Rattle.query_model.specs.declared.processor_spec.Spec.TheVariants as spec
+use Rattle.port_word.specs.Names.{Picture, input_at, output_at, in_count, out_count, holds_data, can_push, is_out_finished, ChangedByCalls}
 use Rattle.port_word.specs.declared.flags.Flags.{Flags}
-use Rattle.port_word.specs.Pictures.{Picture, input_at, output_at, in_count, out_count, holds_data, can_push, is_out_finished}
-use Rattle.port_word.specs.Differences.{ChangedByCalls}
 use Rattle.proc_api.specs.declared.growth.Who.{Who}
 use Rattle.proc_api.specs.declared.growth.Who.TheVariants.{Me, New}
 use Rattle.proc_api.specs.declared.growth.Edge.{Edge}

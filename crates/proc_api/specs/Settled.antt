@@ -1,9 +1,8 @@
 -- Pictures of a graph in which nothing is due: each node that isn't over rests, and knows its ports as they are.
 use Rattle.std.specs.Prelude.{◌≡◌, ℕ, ◌<◌, Bool, true, false, List, length, slice_index_or, Option, Some, None}
+use Rattle.port_word.specs.Names.{Picture, input_at, output_at, is_out_finished, WaitsForData, WaitsForRoom}
 use Rattle.port_word.specs.declared.flags.Flags.{Flags}
 use Rattle.port_word.specs.declared.flags.Wire.{Wire}
-use Rattle.port_word.specs.Pictures.{Picture, input_at, output_at, is_out_finished}
-use Rattle.port_word.specs.Status.{WaitsForData, WaitsForRoom}
 use Rattle.proc_api.specs.declared.status.Status.{Status}
 use Rattle.proc_api.specs.declared.status.Status.TheVariants as status
 

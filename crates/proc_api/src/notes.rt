@@ -1,9 +1,7 @@
 ghost use Rattle.std.specs.Prelude.{◌≡◌, ◌≤◌, true, false, Some, vec_capacity, IfOk};
 ghost use Rattle.port_word.specs.Pictures.{in_count, out_count};
 ghost use Rattle.proc_api.specs.declared.status.Answer.TheVariants.{Prepared, Scheduled};
-ghost use Rattle.proc_api.specs.Boxes.{no_notes, PortFlags};
-ghost use Rattle.proc_api.specs.Clauses.{port_flags};
-ghost use Rattle.proc_api.specs.Histories.{raised};
+ghost use Rattle.proc_api.specs.Names.{no_notes, PortFlags, port_flags, raised};
 
 use crate::status::{Answer, Status, Wake, WorkFault};
 use chunk_data::Memory;

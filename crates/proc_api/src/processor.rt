@@ -2,9 +2,7 @@ ghost use Rattle.std.specs.Prelude.{◌≡◌, ◌≢◌, ◌⊎◌, ℕ, List, 
 ghost use Rattle.port_word.specs.Differences.{ChangedByCalls};
 ghost use Rattle.proc_api.specs.declared.status.Answer.TheVariants.{Prepared};
 ghost use Rattle.proc_api.specs.declared.status.Status.TheVariants.{ExpandPipeline};
-ghost use Rattle.proc_api.specs.Boxes.{BoxPicture};
-ghost use Rattle.proc_api.specs.Ports.{FollowsKept};
-ghost use Rattle.proc_api.specs.Clauses.{CountsOn, Expands, Faults, handed_out_by, HasNoReader, IsLoadRefused, IsRunning, IsSourceKind, KeepsLimits, KeepsUnlessOut, Loads, MaySchedule, MayWork, NotesView, PreparesLawfully, PulledOn, SameBox, SameCounts, SamePulled, Schedules, Unloads, Works};
+ghost use Rattle.proc_api.specs.Names.{BoxPicture, FollowsKept, CountsOn, Expands, Faults, handed_out_by, HasNoReader, IsLoadRefused, IsRunning, IsSourceKind, KeepsLimits, KeepsUnlessOut, Loads, MaySchedule, MayWork, NotesView, PreparesLawfully, PulledOn, SameBox, SameCounts, SamePulled, Schedules, Unloads, Works};
 
 use crate::growth::Growth;
 use crate::status::{LoadRefusal, Status, Wake, WorkFault};

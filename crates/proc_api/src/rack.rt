@@ -1,7 +1,6 @@
 ghost use Rattle.std.specs.Prelude.{◌≡◌, ◌+◌, ◌-◌, ◌<◌, ◌≤◌, ◌++◌, ◌∷◌, [], length, map, count_by, vec_capacity, OnOk, OnErr, IfErr};
 ghost use Rattle.std.specs.Option.{option_map};
-ghost use Rattle.proc_api.specs.Clauses.{IsBlank};
-ghost use Rattle.proc_api.specs.Racks.{is_of, same_kind, IsFirstPlace, TakesFirst};
+ghost use Rattle.proc_api.specs.Names.{IsBlank, is_of, same_kind, IsFirstPlace, TakesFirst};
 
 use crate::processor::Processor;
 use query_model::processor_spec::Kind;

@@ -1,6 +1,5 @@
 ghost use Rattle.std.specs.Prelude.{◌≡◌, ℕ, ◌<◌, true};
-ghost use Rattle.port_word.specs.Pictures.{in_count, out_count};
-ghost use Rattle.port_word.specs.Differences.{ChangedByCalls};
+ghost use Rattle.port_word.specs.Names.{in_count, out_count, ChangedByCalls};
 ghost use Rattle.proc_api.specs.Ports.{ClosesFront, FinishesFront, IsShut, SameChunks};
 
 use port_word::PortView;

@@ -6,33 +6,27 @@ use Rattle.std.proofs.lemmas.Bool.{and_parts}
 use Rattle.std.proofs.lemmas.List.{append-nil}
 use Rattle.chunk_data.specs.Values.{Row, Table}
 use Rattle.query_model.specs.Kinds.{kind_of}
-use Rattle.query_model.specs.declared.processor_spec.Kind.{Kind}
 use Rattle.query_model.specs.declared.processor_spec.Spec.{Spec}
-use Rattle.port_word.specs.Pictures.{Picture, input_at, output_at, in_count, out_count, can_push, is_out_finished}
-use Rattle.port_word.specs.Differences.{ChangedByCalls}
+use Rattle.query_model.specs.declared.processor_spec.Kind.{Kind}
+use Rattle.port_word.specs.Names.{Picture, input_at, output_at, in_count, out_count, can_push, is_out_finished, ChangedByCalls}
 use Rattle.port_word.proofs.Differences.{changed-by-both}
+use Rattle.proc_api.specs.Names.{BoxPicture, RowCount, no_notes, kept_input, kept_output, Lists, no_lists, chunk_rows, pulled_at, rows_pulled, raised, taken_out, total_rows, HasMade, HasNotedEnd, NotesEnd, AllOutputsFinished, FollowsKept, HasNoRoom, HasRoom, SameChunks, StaysFit, is_ended, Keeps, KeepsMade, KeepsRows, IsWorkOf, IsAtMost, AllFit, FitsInput, MakesTypes, IsPulled, HasSize, MayBeInput, most_rows, no_table, IsWanting, PreparesLawfully, KeepsLimits, IsLoadRefused, IsRunning, HasNoReader, Loads, MayWork, NeedsRoom, NotesView, StatusComes, StatusHolds, KeepsSame, Progresses, MayBeReady, Works}
 use Rattle.proc_api.specs.declared.status.Answer.{Answer}
-use Rattle.proc_api.specs.declared.status.Answer.TheVariants.{Prepared, Scheduled}
 use Rattle.proc_api.specs.declared.status.Status.{Status}
+use Rattle.proc_api.specs.declared.status.WorkFault.{WorkFault}
+use Rattle.proc_api.specs.declared.status.Answer.TheVariants.{Prepared, Scheduled}
 use Rattle.proc_api.specs.declared.status.Status.TheVariants as status
 use Rattle.proc_api.specs.declared.status.LoadRefusal.TheVariants as refusal
-use Rattle.proc_api.specs.declared.status.WorkFault.{WorkFault}
-use Rattle.proc_api.specs.Boxes.{BoxPicture, RowCount, no_notes, kept_input, kept_output}
-use Rattle.proc_api.specs.Histories.{Lists, no_lists, chunk_rows, pulled_at, rows_pulled, raised, taken_out, total_rows}
-use Rattle.proc_api.specs.Made.{HasMade, HasNotedEnd}
-use Rattle.proc_api.specs.Ports.{AllOutputsFinished, FollowsKept, HasNoRoom, HasRoom, SameChunks, StaysFit}
-use Rattle.proc_api.specs.Keeping.{Keeps, KeepsMade, KeepsRows, IsWorkOf, IsAtMost, AllFit, FitsInput, MakesTypes, IsPulled, HasSize, most_rows, no_table}
-use Rattle.proc_api.specs.Clauses.{IsWanting, PreparesLawfully, KeepsLimits, IsLoadRefused, IsRunning, HasNoReader, Loads, MayWork, NeedsRoom, NotesView, StatusComes, StatusHolds, KeepsSame, Progresses, MayBeReady, Works}
 use Rattle.proc_api.proofs.CallLaws.{none-pulled}
 use Rattle.proc_api.proofs.Keeping.{total-nothing}
 use Rattle.proc_shell.specs.declared.held.Held.{Held}
 use Rattle.proc_shell.specs.declared.held.Held.TheVariants.{Nothing, Unworked, Made}
 use Rattle.proc_shell.specs.Steps.{held_unworked, held_made, held_option, held_rows, is_unworked, is_wanted, rows_since, source_of, suits}
-use Rattle.proc_shell.specs.Kernels.{Begins, IsShelled, rows_of, with_chunk}
+use Rattle.proc_shell.specs.Kernels.{Begins, IsShelled, NotesNoEnd, rows_of, with_chunk}
 use Rattle.proc_shell.specs.Turning.{AnswerComes}
 use Rattle.proc_shell.specs.Shells.{HasSpecPorts, MakesHeld, PartWorks, Passes, ShellPart, ShutsPart, TakesHeld, WorksHeld, part_seen, part_work, shell_seen}
 use Rattle.proc_shell.proofs.PortMoves.{never-true, shut-law, total-one}
-use Rattle.proc_shell.proofs.SameView.{same-output, had-still, finishes-still, closes-still}
+use Rattle.proc_shell.proofs.SameView.{same-input, same-output, had-still, finishes-still, closes-still}
 use Rattle.proc_shell.proofs.KeepLaws.{Goes, keeps-over, spec-view}
 
 pub all-of-none : (P : Table → Type 0) → All P []
@@ -159,10 +153,13 @@ cond-none : (c : Bool) (l : List Table) → l ≡ [] → cond c l [] ≡ []
 cond-none true l e = e
 cond-none false l e = refl
 
-fresh-keeps : (k : Kind) (count : RowCount) (p : ShellPart) → IsShelled p.spec → IsWorkOf (Some p.spec) (part_work p) → HasMade p.spec p.own no_lists no_lists [] → p.held ≡ Nothing → p.notes ≡ no_notes → count.since ≡ 0
+fresh-keeps : (k : Kind) (count : RowCount) (p : ShellPart) → IsShelled p.spec
+    → IsWorkOf (Some p.spec) (part_work p) → HasMade p.spec p.own no_lists no_lists []
+    → ((i : ℕ) → NotesEnd (Some p.spec) p.own i → ⊥)
+    → p.held ≡ Nothing → p.notes ≡ no_notes → count.since ≡ 0
     → Keeps (part_seen k count p) no_lists no_lists
 unfolding kept_output kept_input total_rows
-fresh-keeps k count p shelled uses made e n c = record {
+fresh-keeps k count p shelled uses made unended e n c = record {
   ports = rw n tt;
   idle = uses;
   rows = λ f. shelled.into (part_seen k count p) no_lists no_lists uses (record {
@@ -179,6 +176,7 @@ fresh-keeps k count p shelled uses made e n c = record {
   counted = inl c;
   finishes = λ o fin. let f : false ≡ true = rw n at fin in absurd (cc);
   closes = λ i fin. let f : false ≡ true = rw n at fin in absurd (cc);
+  noted = λ i there n. absurd (unended i n);
 }
 
 -- a blank shell that was loaded
@@ -201,7 +199,9 @@ loads k count more None s p none shelled uses sk b h n m =
         notes = rw (n, since) refl;
         ungrown = refl;
         not_handed_out = refl;
-        keeps = λ l. fresh-keeps k more p shelled uses (subst (λ z. HasMade z p.own no_lists no_lists []) (sym b.spec) b.nothing) h n since;
+        keeps = λ l. fresh-keeps k more p shelled uses
+            (subst (λ z. HasMade z p.own no_lists no_lists []) (sym b.spec) b.nothing) b.unended h n
+            since;
       };
     }
 
@@ -448,6 +448,14 @@ module _ (k : Kind) (count : RowCount) (p q : ShellPart) (shelled : IsShelled p.
       (λ i c e y. takes-so ins outs i c e y (fits-pulled ins i c fit (pulled-one ins i c e pulled)) t)
       (λ c e y z. stays-so ins outs y (z ∙ sym e) t)
 
+  ends : NotesNoEnd p.spec p.own q.own
+  ends = by-held (NotesNoEnd p.spec p.own q.own) (λ e y. y.makes.ends) (λ i c e y. y.takes.ends)
+      (λ c e y z. subst (NotesNoEnd p.spec p.own) (sym y) (λ i n. n))
+
+  left : held_unworked q.held ≡ []
+  left = by-held (held_unworked q.held ≡ []) (λ e y. ap held_unworked y.held ∙ held-worked y.out)
+      (λ i c e y. ap held_unworked y.held ∙ held-worked y.out) (λ c e y z. ap held_unworked z)
+
   keeps-work : KeepsSame P Q
   keeps-work ins outs kept = record {
     ports = had-still P Q same-view same-spec refl kept.ports;
@@ -480,6 +488,15 @@ module _ (k : Kind) (count : RowCount) (p q : ShellPart) (shelled : IsShelled p.
     counted = kept.counted;
     finishes = λ o. finishes-still P Q same-view same-spec refl ins o (kept.finishes o);
     closes = λ i. closes-still P Q same-view same-spec refl ins i (kept.closes i);
+    noted = λ i there n.
+        let was = kept.noted i (subst (λ z. MayBeInput z i) same-view there)
+        (ends i (subst (λ z. NotesEnd z q.own i) same-spec n)) in
+        let same = same-input P Q same-view same-spec refl i in
+        record {
+          at_end = ap is_ended same ∙ was.at_end;
+          not_closed = ap (λ f. f.fin_in) same ∙ was.not_closed;
+          all_worked = source-none q.held left i;
+        };
   }
 
   not-ready : held_unworked q.held ≡ [] → q.own.unmade ≡ [] → MayBeReady Q → ⊥

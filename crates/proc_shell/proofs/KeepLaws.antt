@@ -1,28 +1,24 @@
 -- A shell keeps the contract of its kernel's kind over a prepare.
-use Rattle.std.proofs.Common.{◌≡◌, ◌≢◌, ◌⊎◌, ℕ, zero, suc, ◌+◌, ◌<◌, ◌≤◌, Bool, true, false, ◌&&◌, ◌||◌, ◌==◌, not, cond, List, [], ◌∷◌, ◌++◌, length, get_or, append_assoc, Option, Some, None, IfSome, refl, sym, ap, subst, ◌∙◌, arith, inl, inr}
+use Rattle.std.proofs.Common.{◌≡◌, ◌≢◌, ◌⊎◌, ℕ, zero, suc, ◌+◌, ◌<◌, ◌≤◌, Bool, true, false, ◌&&◌, ◌||◌, ◌==◌, not, cond, List, [], ◌∷◌, ◌++◌, length, get_or, append_assoc, Option, Some, None, IfSome, refl, sym, ap, ap₂, subst, ◌∙◌, arith, inl, inr}
 use Rattle.std.specs.List.{All}
-use Rattle.std.proofs.lemmas.Bool.{cases_lt, eq-eqb, ne_eqb}
+use Rattle.std.proofs.lemmas.Bool.{cases_eq, cases_lt, eq-eqb, false_from_ne_true, ne_eqb}
 use Rattle.std.proofs.lemmas.List.{length-append, append-nil, get_or-append-add, length-map}
 use Rattle.std.proofs.lemmas.List.Elements.{All-append}
 use Rattle.chunk_data.specs.Values.{Table}
 use Rattle.query_model.specs.declared.processor_spec.Spec.{Spec}
-use Rattle.port_word.specs.declared.flags.Flags.{Flags}
 use Rattle.port_word.specs.Pictures.{Picture, input_at, output_at, in_count, out_count, is_in_finished, is_out_finished, no_flags}
+use Rattle.port_word.specs.declared.flags.Flags.{Flags}
+use Rattle.proc_api.specs.Names.{BoxPicture, PortFlags, kept_input, kept_output, kept_inputs, kept_outputs, kept_ports, Lists, chunk_rows, pulled_at, pushed_at, with_pulled, with_pushed, rows_pulled, raised, taken_out, HasMade, HasNotedEnd, NotesEnd, OwnState, own_of, unworked_at, ArePortsOf, FollowsKept, InputFollows, StandStill, is_ended, Keeps, KeepsMade, KeepsRows, IsOver, IsWorkOf, AllFit, MakesTypes, IsPulled, HasSize, HadPorts, HasReadEnough, AllOutputsClosed, IsReadUp, MayBeInput, PulledOn, port_flags}
 use Rattle.proc_api.specs.declared.status.Status.{Status}
-use Rattle.proc_api.specs.Boxes.{BoxPicture, PortFlags, kept_input, kept_output, kept_inputs, kept_outputs, kept_ports}
-use Rattle.proc_api.specs.Histories.{Lists, chunk_rows, pulled_at, pushed_at, with_pulled, with_pushed, rows_pulled, raised, taken_out}
-use Rattle.proc_api.specs.Made.{HasMade, HasNotedEnd, OwnState, own_of, unworked_at}
-use Rattle.proc_api.specs.Ports.{ArePortsOf, FollowsKept, InputFollows, StandStill, is_ended}
-use Rattle.proc_api.specs.Keeping.{Keeps, KeepsMade, KeepsRows, IsOver, IsWorkOf, AllFit, MakesTypes, IsPulled, HasSize, HadPorts, HasReadEnough, AllOutputsClosed}
-use Rattle.proc_api.specs.Clauses.{PulledOn, port_flags}
-use Rattle.proc_api.proofs.Keeping.{pulled-more, makes-more, enough-more, front-all, fits-front, pulled-last, counted-more}
-use Rattle.proc_api.proofs.KeptFlags.{kept_inputs-of, kept_outputs-of, kept_input-of, kept_input-past, kept_output-of, kept_output-past}
+use Rattle.proc_api.proofs.Keeping.{pulled-more, makes-more, enough-more, front-all, fits-front, pulled-last, counted-more, never-enough}
+use Rattle.proc_api.proofs.KeptFlags.{kept_inputs-of, kept_outputs-of, kept_input-of, kept_input-past, kept_output-of, kept_output-past, may-be-input}
 use Rattle.proc_api.proofs.ShutPorts.{by-place}
 use Rattle.proc_shell.specs.declared.held.Held.{Held}
 use Rattle.proc_shell.specs.declared.held.Held.TheVariants.{Nothing, Unworked, Made}
 use Rattle.proc_shell.specs.Steps.{held_unworked, held_made, source_of}
 use Rattle.proc_shell.specs.Kernels.{HasEnough, HasSpecView, IsShelled, work_with}
 use Rattle.proc_shell.specs.Turning.{Moves, PullsOne, Pushes, Turns}
+use Rattle.proc_shell.proofs.PortMoves.{never-true}
 use Rattle.proc_shell.proofs.TurnLaws.{holds-unended}
 
 -- ---- lists
@@ -88,6 +84,10 @@ ended-stays a b f e = by-bits a.fin_out a.has_data refl refl e
 either-set : (a b : Bool) → (a || b) ≡ true → (a ≡ true) ⊎ (b ≡ true)
 either-set true b e = inl refl
 either-set false b e = inr e
+
+either-true : (x y : Bool) → y ≡ true → (x || y) ≡ true
+either-true true y e = refl
+either-true false y e = e
 
 -- ---- a prepare
 
@@ -323,10 +323,6 @@ module _ (s : Spec) (shelled : IsShelled s) (p q : BoxPicture) (v u w : Picture)
           ])
     ]
   ]
-    where
-      either-true : (x y : Bool) → y ≡ true → (x || y) ≡ true
-      either-true true y e = refl
-      either-true false y e = e
 
   consumers-closed : 0 < out_count v → ((o : ℕ) → o < out_count v → (output_at u o).fin_in ≡ true) → AllOutputsClosed q
   consumers-closed some all =
@@ -354,6 +350,63 @@ module _ (s : Spec) (shelled : IsShelled s) (p q : BoxPicture) (v u w : Picture)
       | inr x ↦ inr (now-enough ins outs kept x.0 x.1)
     ]
   ]
+
+  -- an input that was at its end and worked stays so
+  stays-read : (ins outs : Lists) → Keeps p ins outs → (i : ℕ) → i < in_count v
+      → NotesEnd (Some s) b i → is_ended (input_at u i).flags ≡ true
+      → (input_at u i).flags.fin_in ≡ false → unworked_at p.work i ≡ [] → IsReadUp q i
+  stays-read ins outs kept i lt n ended unclosed none =
+      let here = kept_input-of q w g.view i (omega (arith, lt, ins-w)) in
+      record {
+        at_end = ap is_ended here ∙ mv.ended i ended;
+        not_closed = ap (λ f. f.fin_in) here ∙ false_from_ne_true (input_at w i).flags.fin_in (λ e.
+            elim (mv.closes i (omega (arith, lt, g.pushes.ins)) e) [
+              | inl before ↦ never-true (input_at u i).flags.fin_in unclosed before
+              | inr now ↦ elim now [
+                | inl x ↦ never-ended (input_at u i).flags ended x.1
+                | inr x ↦ never-enough s b i (with_pulled v w ins) n
+                    (subst (λ z. HasReadEnough z (with_pulled v w ins)) g.spec_stays
+                    (now-enough ins outs kept x.0 x.1))
+              ]
+            ]);
+        all_worked = unworked-is i ∙ ap₂ (λ x y. x ++ y) none (pulled-is i ∙ (elim mv.pulls [
+          | inl x ↦ x.nothing i
+          | inr x ↦ elim (cases_eq i x.input) [
+            | inl z ↦ absurd (holds-unended (input_at u x.input).flags x.holds
+                (subst (λ j. is_ended (input_at u j).flags ≡ true) z ended))
+            | inr ne ↦ x.others i ne
+          ]
+        ]));
+      }
+
+  -- an input of which the end is noted
+  noted-right : (ins outs : Lists) → Keeps p ins outs → (i : ℕ) → i < in_count v
+      → NotesEnd (Some s) b i → IsReadUp q i
+  noted-right ins outs kept i lt n =
+      let same = g.pushes.inputs i in
+      let stays = stays-read ins outs kept i lt n in
+      elim (g.turns.ends i (omega (arith, lt, g.pushes.ins)) n) [
+        | inl before ↦
+            let there = may-be-input p (in_count v) i
+            (elim (had-counts kept.ports) [ inl e ↦ inl e | inr e ↦ inr e.0 ]) lt in
+            let was = kept.noted i there (subst (λ z. NotesEnd z (own_of p.work) i) (sym g.spec)
+            (subst (λ z. NotesEnd (Some s) z i) (sym own-before) before)) in
+            let f = g.follows.inputs i lt in
+            stays (ap (λ x. is_ended x.flags) same ∙ ended-stays (kept_input p i)
+            (input_at v i).flags f was.at_end)
+            (ap (λ x. x.flags.fin_in) same ∙ f.fin_in ∙ was.not_closed) was.all_worked
+        | inr now ↦
+            let open' : (input_at u i).flags.fin_in ≡ false =
+            false_from_ne_true (input_at u i).flags.fin_in (λ e.
+            elim (was-closed ins outs kept i lt e) [
+              | inl all ↦ now.unfinished (λ o less. either-true (output_at u o).fin_out
+                  (output_at u o).fin_in (all.1 o (omega (arith, less, g.pushes.outs))))
+              | inr enough ↦ never-enough s b i ins n enough
+            ]) in
+            stays (ap (λ c. c || is_ended (input_at u i).flags) (sym open') ∙ now.over) open'
+            (unworked-before i ∙ cond-none (i == source_of h) (held_unworked h)
+            (sym g.pushes.unworked ∙ ap held_unworked now.before))
+      ]
 
   fits-before : (ins : Lists) → AllFit q.spec (with_pulled v w ins) → AllFit p.spec ins
   fits-before ins f = fits-front p.spec v w ins (subst (λ x. AllFit x (with_pulled v w ins)) same-spec f)
@@ -410,4 +463,10 @@ module _ (s : Spec) (shelled : IsShelled s) (p q : BoxPicture) (v u w : Picture)
           | inl lt ↦ closes-right ins outs kept i (omega (arith, lt, ins-w)) (ap (λ f. f.fin_in) (sym (kept_input-of q w g.view i lt)) ∙ fin)
           | inr le ↦ let f : false ≡ true = ap (λ f. f.fin_in) (sym (kept_input-past q w g.view i le)) ∙ fin in absurd (cc)
         ];
+        noted = λ i there n.
+            let lt : i < in_count w = subst (λ k. i < k) (kept-count w)
+            (subst (λ x. MayBeInput x i) g.view there) in
+            noted-right ins outs kept i (omega (arith, lt, ins-w))
+            (subst (λ z. NotesEnd (Some s) z i) own-after
+            (subst (λ z. NotesEnd z (own_of q.work) i) g.spec_stays n));
       }

@@ -1,9 +1,7 @@
 -- What changing the first inputs of a view does, one after another.
 use Rattle.std.proofs.Common.{◌≡◌, ℕ, ◌+◌, ◌<◌, Bool, false, cond, refl, sym, ap, subst, ◌∙◌, arith}
+use Rattle.port_word.specs.Names.{Picture, input_at, output_at, in_count, out_count, is_in_finished, after_close, after_finish, after_need, closed, close_call, need_call}
 use Rattle.port_word.specs.declared.port_view.InputPort.{InputPort}
-use Rattle.port_word.specs.Pictures.{Picture, input_at, output_at, in_count, out_count, is_in_finished}
-use Rattle.port_word.specs.Calls.{after_close, after_finish, after_need, closed}
-use Rattle.port_word.specs.Differences.{close_call, need_call}
 use Rattle.port_word.proofs.Differences.{changed-by-none, changed-by-one, changed-by-both}
 use Rattle.proc_api.proofs.Turns.{TurnsInput, needing, close-turns, need-turns, finish-turns, finishing-leaves}
 use Rattle.proc_api.proofs.ShutPorts.{by-place, finishes-none, finishes-next}

@@ -2,14 +2,10 @@
 use Rattle.std.proofs.Common.{◌≡◌, ℕ, ◌<◌, Bool, true, false, not, ◌&&◌, [], ◌∷◌, ◌++◌, length, refl, sym, ap, subst, ◌∙◌, arith}
 use Rattle.std.proofs.lemmas.List.{append-nil}
 use Rattle.chunk_data.specs.Values.{Table}
+use Rattle.port_word.specs.Names.{Picture, output_at, can_push, is_out_finished, after_push, IsSound, push_call}
 use Rattle.port_word.specs.declared.flags.Flags.{Flags}
-use Rattle.port_word.specs.Pictures.{Picture, output_at, can_push, is_out_finished}
-use Rattle.port_word.specs.Calls.{after_push}
-use Rattle.port_word.specs.Sound.{IsSound}
-use Rattle.port_word.specs.Differences.{push_call}
 use Rattle.port_word.proofs.Differences.{changed-by-none, changed-by-one}
-use Rattle.proc_api.specs.Histories.{pushed_at}
-use Rattle.proc_api.specs.Ports.{HasNoRoom}
+use Rattle.proc_api.specs.Names.{pushed_at, HasNoRoom}
 use Rattle.proc_api.proofs.CallLaws.{none-pushed, just-pushed}
 use Rattle.proc_api.proofs.Turns.{push-turns}
 use Rattle.proc_api.proofs.ShutPorts.{by-place}

@@ -7,8 +7,7 @@ use Rattle.std.proofs.lemmas.List.Sorted.{IsPermutation-refl, IsPermutation-sym,
 use Rattle.chunk_data.specs.Values.{Row, Table}
 use Rattle.query_model.specs.declared.processor_spec.Spec.{Spec}
 use Rattle.query_model.specs.declared.processor_spec.Spec.TheVariants as spec
-use Rattle.proc_api.specs.Histories.{Lists, no_lists, chunk_rows}
-use Rattle.proc_api.specs.Made.{AreResized, HasMade, IsFirstAlone, all_rows, idle_own}
+use Rattle.proc_api.specs.Names.{Lists, no_lists, chunk_rows, AreResized, HasMade, IsFirstAlone, all_rows, idle_own}
 use Rattle.proc_api.proofs.Keeping.{rows-append}
 use Rattle.proc_api.proofs.ShutPorts.{by-place}
 use Rattle.proc_shell.specs.Kernels.{Begins, LetsPush, Takes, with_chunk}
@@ -43,7 +42,7 @@ more-rows (suc n) i few more xs e ne lt = elim (cases_eq i n) [
       (IsPermutation-append_left (chunk_rows (few n)) (all_rows n more) (all_rows n few ++ chunk_rows xs) (more-rows n i few more xs e ne (omega (arith, z)))) (turned (all_rows n few) (chunk_rows xs) (chunk_rows (few n))))
 ]
 
-no-rows : (n : ℕ) → all_rows n no_lists ≡ []
+pub no-rows : (n : ℕ) → all_rows n no_lists ≡ []
 unfolding all_rows
 no-rows zero = refl
 no-rows (suc n) = ap (λ l. l ++ []) (no-rows n)
@@ -55,7 +54,11 @@ none-resized = record {
 }
 
 pub begins-resized : (s : Spec) → s ≡ spec.Resize → Begins s spec.Resize idle_own
-begins-resized s e = record { spec = sym e; nothing = subst (λ z. HasMade z idle_own no_lists no_lists []) (sym e) (refl, none-resized) }
+begins-resized s e = record {
+  spec = sym e;
+  nothing = subst (λ z. HasMade z idle_own no_lists no_lists []) (sym e) (refl, none-resized);
+  unended = λ i n. n;
+}
 
 end-none : (xs ys : List Table) → xs ++ ys ≡ [] → (xs ≡ []) × (ys ≡ [])
 end-none [] ys e = (refl, e)
@@ -105,4 +108,5 @@ takes-resized i t lt = record {
   );
   types = λ ins pulled. pulled;
   sizes = tt;
+  ends = λ i n. n;
 }

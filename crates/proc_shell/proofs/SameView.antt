@@ -1,16 +1,13 @@
 -- What a box keeps of its ports stays where the kept view, the spec and the growth stay.
 use Rattle.std.proofs.Common.{◌≡◌, ◌⊎◌, ℕ, true, Option, Some, None, refl, sym, ap, subst, ◌∙◌, arith, inl, inr}
-use Rattle.proc_api.specs.Boxes.{BoxPicture, PortFlags, kept_input, kept_output, kept_inputs, kept_outputs}
-use Rattle.proc_api.specs.Histories.{Lists}
-use Rattle.proc_api.specs.Ports.{is_ended}
-use Rattle.proc_api.specs.Keeping.{HadPorts, HasReadEnough, AllInputsEnded, AllOutputsClosed}
+use Rattle.proc_api.specs.Names.{BoxPicture, PortFlags, kept_input, kept_output, kept_inputs, kept_outputs, Lists, is_ended, HadPorts, HasReadEnough, AllInputsEnded, AllOutputsClosed}
 
 module _ (P Q : BoxPicture) (view : Q.notes.view ≡ P.notes.view) (spec : Q.spec ≡ P.spec) (growth : Q.growth ≡ P.growth) where
   pub same-output : (o : ℕ) → kept_output Q o ≡ kept_output P o
   unfolding kept_output
   same-output o = rw view refl
 
-  same-input : (i : ℕ) → kept_input Q i ≡ kept_input P i
+  pub same-input : (i : ℕ) → kept_input Q i ≡ kept_input P i
   unfolding kept_input
   same-input i = rw view refl
 

@@ -7,16 +7,10 @@ use Rattle.chunk_data.specs.Values.{Row, Table}
 use Rattle.chunk_data.specs.declared.typed_value.ColumnType.{ColumnType}
 use Rattle.query_model.specs.declared.processor_spec.Spec.{Spec}
 use Rattle.std.proofs.Math.ListN.{get_or-eq_default}
-use Rattle.port_word.specs.declared.flags.Flags.{Flags}
 use Rattle.port_word.specs.Pictures.{Picture, in_count, no_flags}
+use Rattle.port_word.specs.declared.flags.Flags.{Flags}
 use Rattle.proc_api.proofs.ShutPorts.{by-place}
-use Rattle.proc_api.specs.Boxes.{BoxPicture, PortFlags, WorkState, kept_output, kept_ports}
-use Rattle.proc_api.specs.Forms.{GrowthForm}
-use Rattle.proc_api.specs.Histories.{Lists, chunk_rows}
-use Rattle.proc_api.specs.Made.{HasMade, HasNotedEnd, OwnState, own_of, unworked_at}
-use Rattle.proc_api.specs.Ports.{AreCounts, ArePortsOf}
-use Rattle.proc_api.specs.Keeping.{FitsInput, IsAtMost, IsPulled, IsWorkOf, KeepsMade, KeepsRows, KeepsThrough, MakesTypes, most_rows}
-use Rattle.proc_api.specs.Clauses.{IsWanting}
+use Rattle.proc_api.specs.Names.{BoxPicture, PortFlags, WorkState, kept_output, kept_ports, GrowthForm, Lists, chunk_rows, HasMade, HasNotedEnd, OwnState, own_of, unworked_at, AreCounts, ArePortsOf, FitsInput, IsAtMost, IsPulled, IsWorkOf, KeepsMade, KeepsRows, KeepsThrough, MakesTypes, most_rows, IsWanting}
 use Rattle.proc_api.proofs.Keeping.{rows-append}
 use Rattle.proc_shell.specs.declared.kernel.Offer.TheVariants as offer
 use Rattle.proc_shell.specs.Kernels.{HasSpecView, IsShelled, LetsPush, Makes, Offers, Takes, rows_of, with_chunk, work_with}
@@ -46,6 +40,7 @@ makes-nothing s own e = record {
   sizes = tt;
   progress = inr e;
   nothing = λ n. (refl, refl);
+  ends = λ i n. n;
 }
 
 -- it wants a chunk of each input
@@ -53,11 +48,17 @@ pub offers-wants : (s : Spec) (wants : ℕ → Bool) (v : Picture) (own : OwnSta
 offers-wants s wants v own all e wanting noted = record {
   leaves = record { means = λ worked outs wait h. h; stays_over = λ n x. (n, x) };
   comes = record { nothing = e; wanting = wanting; all_over = λ over i lt. over i lt (all i lt); noted = λ over. noted };
+  ends = λ i lt n. inl n;
 }
 
 -- a chunk that doesn't fit is dropped
 pub takes-none : (s : Spec) (own : OwnState) (i : ℕ) (t : Table) → (FitsInput (Some s) i t.types → ⊥) → Takes s own i t own None
-takes-none s own i t never = record { means = λ fits. absurd (never fits); types = λ ins pulled. tt; sizes = tt }
+takes-none s own i t never = record {
+  means = λ fits. absurd (never fits);
+  types = λ ins pulled. tt;
+  sizes = tt;
+  ends = λ i n. n;
+}
 
 -- ---- one output
 
@@ -126,6 +127,7 @@ takes-each s make k own i t o z rows types sizes = record {
       ∙ sym (k.each.both (chunk_rows (worked 0)) t.rows) ∙ ap make (sym (rows-here t worked))));
   types = types;
   sizes = sizes;
+  ends = λ i n. n;
 }
 
 -- ---- the contract of such kinds is that of `KeepsThrough`

@@ -3,18 +3,13 @@ use Rattle.std.proofs.Common.{◌≡◌, ◌⊎◌, ℕ, zero, suc, ◌<◌, nat
 use Rattle.std.proofs.lemmas.Bool.{cases_lt, lt-ltb, le-ltb}
 use Rattle.chunk_data.specs.Values.{Table}
 use Rattle.query_model.specs.declared.processor_spec.Spec.{Spec}
+use Rattle.port_word.specs.Names.{Picture, input_at, output_at, in_count, out_count, can_push, holds_data, is_in_finished, is_out_finished, after_pull, closed, ChangedByCalls, pull_call}
 use Rattle.port_word.specs.declared.flags.Flags.{Flags}
 use Rattle.port_word.specs.declared.port_view.InputPort.{InputPort}
-use Rattle.port_word.specs.Pictures.{Picture, input_at, output_at, in_count, out_count, can_push, holds_data, is_in_finished, is_out_finished}
-use Rattle.port_word.specs.Calls.{after_pull, closed}
-use Rattle.port_word.specs.Differences.{ChangedByCalls, pull_call}
 use Rattle.port_word.proofs.Differences.{changed-by-none, changed-by-one, changed-by-both}
+use Rattle.proc_api.specs.Names.{pushes_to, taken_out, OwnState, AllOutputsFinished, HasNoRoom, HasRoom, is_ended, NeedsRoom, StatusHolds}
 use Rattle.proc_api.specs.declared.status.Status.{Status}
 use Rattle.proc_api.specs.declared.status.Status.TheVariants as status
-use Rattle.proc_api.specs.Histories.{pushes_to, taken_out}
-use Rattle.proc_api.specs.Made.{OwnState}
-use Rattle.proc_api.specs.Ports.{AllOutputsFinished, HasNoRoom, HasRoom, is_ended}
-use Rattle.proc_api.specs.Clauses.{NeedsRoom, StatusHolds}
 use Rattle.proc_api.proofs.CallLaws.{none-pulled}
 use Rattle.proc_api.proofs.Turns.{needing, needing-leaves, needing-needs, pull-turns}
 use Rattle.proc_api.proofs.ShutPorts.{by-place}

@@ -4,13 +4,7 @@ use Rattle.chunk_data.specs.Values.{Row, Table}
 use Rattle.chunk_data.specs.declared.typed_value.ColumnType.{ColumnType}
 use Rattle.query_model.specs.declared.processor_spec.Spec.{Spec}
 use Rattle.port_word.specs.Pictures.{Picture, input_at, in_count, is_in_finished}
-use Rattle.proc_api.specs.Forms.{GrowthForm}
-use Rattle.proc_api.specs.Boxes.{BoxPicture, PortFlags, WorkState, idle_work}
-use Rattle.proc_api.specs.Histories.{Lists, no_lists, chunk_rows}
-use Rattle.proc_api.specs.Made.{HasMade, HasNotedEnd, OwnState}
-use Rattle.proc_api.specs.Ports.{ArePortsOf, StandStill}
-use Rattle.proc_api.specs.Keeping.{KeepsMade, KeepsRows, FitsInput, MakesTypes, IsPulled, IsAtMost, IsWorkOf, HasReadEnough, most_rows}
-use Rattle.proc_api.specs.Clauses.{IsWanting}
+use Rattle.proc_api.specs.Names.{GrowthForm, BoxPicture, PortFlags, WorkState, idle_work, Lists, no_lists, chunk_rows, HasMade, HasNotedEnd, NotesEnd, OwnState, ArePortsOf, StandStill, KeepsMade, KeepsRows, FitsInput, MakesTypes, IsPulled, IsAtMost, IsWorkOf, HasReadEnough, most_rows, IsWanting}
 use Rattle.proc_shell.specs.declared.kernel.Offer.{Offer}
 use Rattle.proc_shell.specs.declared.kernel.Offer.TheVariants as offer
 use Rattle.proc_shell.specs.Steps.{AreWantedOver}
@@ -29,6 +23,7 @@ work_with own source unworked made = record idle_work {
   gathered = own.gathered;
   read = own.read;
   ended = own.ended;
+  heads = own.heads;
 }
 
 -- one chunk more is worked of input i
@@ -39,6 +34,7 @@ with_chunk i t worked j = worked j ++ cond (j == i) (t ∷ []) []
 pub record Begins (s t : Spec) (own : OwnState) : Type 0 where
   pub spec : t ≡ s
   pub nothing : HasMade s own no_lists no_lists []
+  pub unended : (i : ℕ) → NotesEnd (Some t) own i → ⊥
 
 -- a kind that may end by itself takes every chunk, and has read enough of those that it worked
 pub record HasEnough (s : Spec) (own : OwnState) : Type 0 where
@@ -73,6 +69,13 @@ pub record Leaves (s : Spec) (old new : OwnState) : Type 0 where
 pub record Offers (wants : ℕ → Bool) (s : Spec) (v : Picture) (old new : OwnState) (o : Offer) : Type 0 where
   pub leaves : Leaves s old new
   pub comes : OfferComes wants o s v new
+  -- an end that is noted now
+  pub ends : (i : ℕ) → i < in_count v → NotesEnd (Some s) new i
+      → NotesEnd (Some s) old i ⊎ (is_in_finished (input_at v i).flags ≡ true)
+
+-- no end is noted
+abbrev pub NotesNoEnd : Spec → (old new : OwnState) → Type 0
+NotesNoEnd s old new = (i : ℕ) → NotesEnd (Some s) new i → NotesEnd (Some s) old i
 
 -- a chunk of input i is worked
 pub record Takes (s : Spec) (old : OwnState) (i : ℕ) (t : Table) (new : OwnState) (o : Option Table) : Type 0 where
@@ -80,6 +83,7 @@ pub record Takes (s : Spec) (old : OwnState) (i : ℕ) (t : Table) (new : OwnSta
       → HasMade s new (with_chunk i t worked) outs (rows_of o)
   pub types : (ins : Lists) → IsPulled ins t.types → IfSome o (λ (c : Table). MakesTypes (Some s) ins c.types)
   pub sizes : IfSome o (λ (c : Table). IsAtMost (most_rows (Some s)) (length c.rows))
+  pub ends : NotesNoEnd s old new
 
 -- rows that can be made are made, where there are some
 pub record Makes (s : Spec) (old new : OwnState) (o : Option Table) : Type 0 where
@@ -88,6 +92,7 @@ pub record Makes (s : Spec) (old new : OwnState) (o : Option Table) : Type 0 whe
   pub sizes : IfSome o (λ (c : Table). IsAtMost (most_rows (Some s)) (length c.rows))
   pub progress : (0 < length (rows_of o)) ⊎ (new.unmade ≡ [])
   pub nothing : old.unmade ≡ [] → (new ≡ old) × (o ≡ None)
+  pub ends : NotesNoEnd s old new
 
 -- a chunk that waited leaves by an output
 abbrev pub LetsPush : Spec → Type 0

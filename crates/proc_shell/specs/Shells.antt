@@ -3,17 +3,13 @@ use Rattle.std.specs.Prelude.{◌≡◌, ℕ, true, false, Option, Some, None}
 use Rattle.chunk_data.specs.Values.{Table}
 use Rattle.query_model.specs.declared.processor_spec.Kind.{Kind}
 use Rattle.query_model.specs.declared.processor_spec.Spec.{Spec}
-use Rattle.port_word.specs.Pictures.{Picture, in_count, out_count}
-use Rattle.port_word.specs.Differences.{ChangedByCalls}
+use Rattle.port_word.specs.Names.{Picture, in_count, out_count, ChangedByCalls}
 use Rattle.proc_api.specs.declared.status.Answer.TheVariants.{Prepared}
+use Rattle.proc_api.specs.Names.{BoxPicture, Notes, RowCount, WorkState, idle_work, no_notes, OwnState, ArePortsOf, IsShut, SameChunks, port_flags}
 use Rattle.proc_api.specs.declared.status.Status.{Status}
-use Rattle.proc_api.specs.declared.status.Status.TheVariants as status
 use Rattle.proc_api.specs.declared.status.WorkFault.{WorkFault}
+use Rattle.proc_api.specs.declared.status.Status.TheVariants as status
 use Rattle.proc_api.specs.declared.status.WorkFault.TheVariants.{Memory}
-use Rattle.proc_api.specs.Boxes.{BoxPicture, Notes, RowCount, WorkState, idle_work, no_notes}
-use Rattle.proc_api.specs.Made.{OwnState}
-use Rattle.proc_api.specs.Ports.{ArePortsOf, IsShut, SameChunks}
-use Rattle.proc_api.specs.Clauses.{port_flags}
 use Rattle.proc_shell.specs.declared.held.Held.{Held}
 use Rattle.proc_shell.specs.declared.held.Held.TheVariants.{Nothing, Unworked, Made}
 use Rattle.proc_shell.specs.Steps.{CountsRows, held_made, held_option, held_unworked, is_unworked, rows_since, source_of}

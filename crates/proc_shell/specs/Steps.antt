@@ -1,16 +1,12 @@
 -- What a shell holds, and what the steps of a prepare find and change at its ports.
 use Rattle.std.specs.Prelude.{◌≡◌, ℕ, ◌+◌, ◌<◌, ◌≤◌, nat_lt, Bool, length, true, false, ◌&&◌, cond, List, [], ◌∷◌, Option, Some, None}
 use Rattle.chunk_data.specs.Values.{Row, Table}
+use Rattle.port_word.specs.Names.{Picture, input_at, output_at, in_count, out_count, can_push, holds_data, is_in_finished, is_out_finished, closed, ChangedByCalls}
 use Rattle.port_word.specs.declared.port_view.InputPort.{InputPort}
-use Rattle.port_word.specs.Pictures.{Picture, input_at, output_at, in_count, out_count, can_push, holds_data, is_in_finished, is_out_finished}
-use Rattle.port_word.specs.Calls.{closed}
-use Rattle.port_word.specs.Differences.{ChangedByCalls}
+use Rattle.proc_api.specs.Names.{RowCount, chunk_rows, pushes_to, raised, FinishesFront}
 use Rattle.proc_api.specs.declared.status.Answer.{Answer}
 use Rattle.proc_api.specs.declared.status.Answer.TheVariants.{Prepared, Scheduled}
 use Rattle.proc_api.specs.declared.status.Status.TheVariants as status
-use Rattle.proc_api.specs.Boxes.{RowCount}
-use Rattle.proc_api.specs.Histories.{chunk_rows, pushes_to, raised}
-use Rattle.proc_api.specs.Ports.{FinishesFront}
 use Rattle.proc_api.proofs.Turns.{TurnsInput, needing}
 use Rattle.proc_shell.specs.declared.held.Held.{Held}
 use Rattle.proc_shell.specs.declared.held.Held.TheVariants.{Nothing, Unworked, Made}

@@ -4,11 +4,7 @@ ghost use Rattle.query_model.specs.Kinds.{kind_of};
 ghost use Rattle.query_model.specs.declared.processor_spec.Kind as the_kind;
 ghost use Rattle.query_model.specs.declared.processor_spec.Spec as the_spec;
 ghost use Rattle.port_word.specs.Pictures.{in_count, out_count};
-ghost use Rattle.proc_api.specs.Boxes.{WorkState};
-ghost use Rattle.proc_api.specs.Made.{OwnState};
-ghost use Rattle.proc_api.specs.Ports.{ArePortsOf};
-ghost use Rattle.proc_api.specs.Keeping.{IsWorkOf};
-ghost use Rattle.proc_api.specs.Clauses.{handed_out_by};
+ghost use Rattle.proc_api.specs.Names.{WorkState, OwnState, ArePortsOf, IsWorkOf, handed_out_by};
 ghost use Rattle.proc_shell.specs.Kernels.{Begins, IsShelled, Makes, Offers, Takes, work_with};
 
 use chunk_data::{Chunk, Memory};

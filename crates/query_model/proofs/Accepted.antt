@@ -5,19 +5,9 @@ use Rattle.std.specs.List.{All, list_any, list_all}
 use Rattle.std.proofs.lemmas.List.{append-nil}
 use Rattle.std.proofs.lemmas.List.Elements.{All-nil, All-cons}
 use Rattle.query_model.specs.Refusals.{FromColumn, Kind, plain, typed, unfit, written, meant, table_columns, from_columns, join_tables, join_pairs, text_columns, listed, item_kind, is_typed, is_call, is_grouped, fits_where, calls_in, expr_columns, expr_kind, arith_kind, bare_columns, operands_of, not_keys, star_name, first_name, ungrouped_names, unknown_table, unknown_column, ambiguous_column, bad_join_key, holds_pairs, type_mismatch, not_grouped, bad_order_key, too_wide, first_of_all, refusal_of}
-use Rattle.query_model.specs.Placing.{types_fit_over, pairs_fit, unknown_among, ambiguous_among, refusal_unless, not_grouped_over, order_over, width_over, is_key_of, CanBePicked}
-use Rattle.query_model.specs.Analysis.{HasNoCall, IsDue}
-use Rattle.query_model.specs.declared.query.ArithOp.{ArithOp}
-use Rattle.query_model.specs.declared.query.ColumnRef.{ColumnRef}
-use Rattle.query_model.specs.declared.query.ExprOf.{ExprOf}
+use Rattle.query_model.specs.Names.{types_fit_over, pairs_fit, unknown_among, ambiguous_among, refusal_unless, not_grouped_over, order_over, width_over, is_key_of, CanBePicked, HasNoCall, IsDue, ArithOp, ColumnRef, ExprOf, Item, ItemKind, Join, Query, Schema, Refusal}
 use Rattle.query_model.specs.declared.query.ExprOf.TheVariants as expr
-use Rattle.query_model.specs.declared.query.Item.{Item}
-use Rattle.query_model.specs.declared.query.ItemKind.{ItemKind}
 use Rattle.query_model.specs.declared.query.ItemKind.TheVariants as kind
-use Rattle.query_model.specs.declared.query.Join.{Join}
-use Rattle.query_model.specs.declared.query.Query.{Query}
-use Rattle.query_model.specs.declared.query.Schema.{Schema}
-use Rattle.query_model.specs.declared.query.Refusal.{Refusal}
 use Rattle.query_model.specs.declared.query.Refusal.TheVariants as refuse
 use Rattle.query_model.proofs.TypedQueries.{both}
 

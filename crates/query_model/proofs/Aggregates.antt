@@ -4,9 +4,8 @@ use Rattle.std.specs.List.{list_all}
 use Rattle.std.proofs.lemmas.Int.{ints}
 use Rattle.std.proofs.lemmas.List.Sorted.{length_permutation}
 use Rattle.chunk_data.specs.Values.{value_cmp}
-use Rattle.query_model.specs.Numbers.{exact, is_uint, wrapped}
-use Rattle.query_model.specs.Groups.{Combine, counted, added, counts_added, least, greatest, merge_of, combined, chosen, lesser, greater, exact_sum}
 use Rattle.chunk_data.specs.declared.typed_value.Value.{Value}
+use Rattle.query_model.specs.Names.{exact, is_uint, wrapped, Combine, counted, added, counts_added, least, greatest, merge_of, combined, chosen, lesser, greater, exact_sum}
 use Rattle.chunk_data.specs.declared.typed_value.Value.TheVariants.{UInt}
 use Rattle.query_model.proofs.Wrapping.{Same, Same-add, wrapped-Same, exact-wrapped, is_uint-wrapped}
 use Rattle.query_model.proofs.ValueOrder.{value_cmp_total, value_cmp-IsAntisymmetric}

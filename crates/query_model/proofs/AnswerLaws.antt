@@ -5,18 +5,11 @@ use Rattle.std.specs.Ordering.{ordering_reverse}
 use Rattle.std.proofs.lemmas.List.{map-append}
 use Rattle.std.proofs.lemmas.List.Elements.{filter-append}
 use Rattle.std.proofs.lemmas.List.Sorted.{IsPermutation-refl, IsPermutation-sym, IsPermutation-map, IsPermutation-trans, length_permutation}
-use Rattle.chunk_data.specs.Values.{Row, value_at, values_at}
-use Rattle.query_model.specs.Expressions.{Expr, Cond, holds, rows_where}
-use Rattle.query_model.specs.Sources.{agree, joined_rows}
-use Rattle.query_model.specs.Groups.{groups_or_default}
-use Rattle.chunk_data.specs.Values.{key_cmp, row_cmp}
-use Rattle.query_model.specs.Answers.{item_row, selected_rows, IsOrderedAnswer}
+use Rattle.chunk_data.specs.Values.{Row, value_at, values_at, key_cmp, row_cmp}
 use Rattle.chunk_data.specs.declared.typed_value.ColumnType.{ColumnType}
 use Rattle.chunk_data.specs.declared.typed_value.SortKey.{SortKey}
-use Rattle.query_model.specs.declared.query.Span.{Span}
-use Rattle.query_model.specs.declared.checked.Shape.{Shape}
+use Rattle.query_model.specs.Names.{Expr, Cond, holds, rows_where, agree, joined_rows, groups_or_default, item_row, selected_rows, IsOrderedAnswer, Span, Shape, KeyPair}
 use Rattle.query_model.specs.declared.checked.Shape.TheVariants.{Plain, Grouped}
-use Rattle.query_model.specs.declared.checked.KeyPair.{KeyPair}
 use Rattle.query_model.proofs.Lists.{IsPermutation-filter, flat_map-append}
 use Rattle.query_model.proofs.Merge.{IsPermutation-grouped_by}
 

@@ -1,13 +1,7 @@
 -- Calls that are counted, and calls that are placed one behind another.
 use Rattle.std.proofs.Common.{◌≡◌, ℕ, suc, ◌+◌, ◌<◌, Bool, true, false, cond, filter, get_or, take, List, [], ◌∷◌, ◌++◌, length, map, flat_map, refl, sym, ap, ◌∙◌, subst, arith, append_assoc, length-append}
 use Rattle.std.proofs.lemmas.List.{append-nil, map-append, take_more}
-use Rattle.query_model.specs.Refusals.{FromColumn, operand_calls, total}
-use Rattle.query_model.specs.Checks.{EachWith, IsPlacedCall, IsPick, ArePicks, item_calls}
-use Rattle.query_model.specs.Placing.{place_in, is_call_item, AreAdded}
-use Rattle.query_model.specs.declared.query.AggCall.{AggCall}
-use Rattle.query_model.specs.declared.query.ColumnRef.{ColumnRef}
-use Rattle.query_model.specs.declared.query.Item.{Item}
-use Rattle.query_model.specs.declared.query.Operand.{Operand}
+use Rattle.query_model.specs.Names.{FromColumn, operand_calls, total, EachWith, IsPlacedCall, IsPick, ArePicks, item_calls, place_in, is_call_item, AreAdded, AggCall, ColumnRef, Item, Operand}
 
 total-append : (xs ys : List ℕ) → total (xs ++ ys) ≡ total xs + total ys
 total-append [] ys = omega arith

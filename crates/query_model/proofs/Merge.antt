@@ -4,10 +4,9 @@ use Rattle.std.specs.List.{AllByRecursion}
 use Rattle.std.proofs.lemmas.List.{map-append}
 use Rattle.std.proofs.lemmas.List.Sorted.{IsPermutation-map, IsPermutation-trans}
 use Rattle.chunk_data.specs.Values.{Row, value_at, values_at, same_row}
-use Rattle.query_model.specs.Groups.{Call, distinct, distinct_rows, rows_with, grouped_by, groups, call_of, state_calls, merged_groups, combined, merge_of, combine_of, Combine}
 use Rattle.chunk_data.specs.declared.typed_value.Value.{Value}
+use Rattle.query_model.specs.Names.{Call, distinct, distinct_rows, rows_with, grouped_by, groups, call_of, state_calls, merged_groups, combined, merge_of, combine_of, Combine, AggCall}
 use Rattle.chunk_data.specs.declared.typed_value.Value.TheVariants.{Text}
-use Rattle.query_model.specs.declared.query.AggCall.{AggCall}
 use Rattle.query_model.proofs.Lists.{map-map, map-flat_map, flat_map-map, filter-flat_map, filter-map, IsPermutation-filter, IsPermutation-same}
 use Rattle.query_model.proofs.Distinct.{distinct-filter, distinct-append_left, distinct-append_right, IsPermutation-distinct}
 use Rattle.query_model.proofs.ValueOrder.{same_row_is}

@@ -3,8 +3,7 @@ use Rattle.std.proofs.Common.{◌≡◌, ℕ, ◌+◌, ◌-◌, ◌*◌, ◌^◌
 use Rattle.std.specs.Prelude.{nat_lt}
 use Rattle.std.specs.List.{list_all}
 use Rattle.std.proofs.lemmas.List.{drop_more, drop_all}
-use Rattle.query_model.specs.Fields.{is_digit, numeral_below}
-use Rattle.query_model.specs.Numerals.{with_digit, with_digits, and_then}
+use Rattle.query_model.specs.Names.{is_digit, numeral_below, with_digit, with_digits, and_then}
 
 abbrev pub next : ℕ → ℕ → ℕ
 next n b = n * 10 + (b - 48)

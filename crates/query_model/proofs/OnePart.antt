@@ -3,14 +3,9 @@ use Rattle.std.proofs.Common.{◌≡◌, ℕ, zero, suc, Bool, List, [], ◌∷�
 use Rattle.std.specs.List.{All}
 use Rattle.std.proofs.lemmas.List.{append-nil}
 use Rattle.chunk_data.specs.Values.{Row}
-use Rattle.query_model.specs.Sources.{Database}
-use Rattle.query_model.specs.Database.{UsedPart, column_types, part_paths, part_rows, IsValidPart, IsValidUsed, numbered_parts, database, AllPartsValid}
-use Rattle.query_model.specs.Projection.{projection_checked}
 use Rattle.chunk_data.specs.declared.typed_value.ColumnType.{ColumnType}
-use Rattle.query_model.specs.declared.query.Schema.{Schema}
-use Rattle.query_model.specs.declared.query.PartsDecl.{PartsDecl}
+use Rattle.query_model.specs.Names.{Database, UsedPart, column_types, part_paths, part_rows, IsValidPart, IsValidUsed, numbered_parts, database, AllPartsValid, projection_checked, Schema, PartsDecl, TableDecl}
 use Rattle.query_model.specs.declared.query.PartsDecl.TheVariants.{Paths}
-use Rattle.query_model.specs.declared.query.TableDecl.{TableDecl}
 
 one_table : List ColumnType → List Row → Database
 one_table types rows = record { types = types; rows = rows } ∷ []

@@ -3,14 +3,8 @@ use Rattle.std.proofs.Common.{◌≡◌, ℕ, suc, ◌+◌, cond, List, [], ◌�
 use Rattle.std.specs.Prelude.{is_some}
 use Rattle.std.proofs.lemmas.List.Sorted.{IsPermutation-refl, IsPermutation-append, IsPermutation-map, IsPermutation-trans}
 use Rattle.chunk_data.specs.Values.{Row}
-use Rattle.query_model.specs.Fields.{spelled_row}
-use Rattle.query_model.specs.Parts.{good_rows, bad_place, row_then}
-use Rattle.query_model.specs.Expressions.{Expr, Cond, rows_where}
-use Rattle.query_model.specs.Sources.{agree, joined_rows}
-use Rattle.query_model.specs.Answers.{selected_rows}
 use Rattle.chunk_data.specs.declared.typed_value.ColumnType.{ColumnType}
-use Rattle.query_model.specs.declared.places.BadPlace.{BadPlace}
-use Rattle.query_model.specs.declared.checked.KeyPair.{KeyPair}
+use Rattle.query_model.specs.Names.{spelled_row, good_rows, bad_place, row_then, Expr, Cond, rows_where, agree, joined_rows, selected_rows, BadPlace, KeyPair}
 use Rattle.query_model.specs.declared.checked.Shape.TheVariants.{Plain}
 use Rattle.query_model.proofs.Lists.{IsPermutation-filter, IsPermutation-flat_map}
 use Rattle.query_model.proofs.AnswerLaws.{selected_rows-append}

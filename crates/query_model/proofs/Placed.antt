@@ -4,11 +4,8 @@ use Rattle.std.specs.List.{All}
 use Rattle.std.proofs.lemmas.List.{take_more}
 use Rattle.std.proofs.lemmas.List.Elements.{All-nil, All-cons, All-head, All-tail}
 use Rattle.chunk_data.specs.declared.typed_value.ColumnType.TheVariants as column
-use Rattle.query_model.specs.Expressions.{Expr}
-use Rattle.query_model.specs.Refusals.{FromColumn, name_or, plain_name, item_names}
-use Rattle.query_model.specs.Checks.{EachWith, AreColumnsFrom}
+use Rattle.query_model.specs.Names.{Expr, FromColumn, name_or, plain_name, item_names, EachWith, AreColumnsFrom, Item}
 use Rattle.query_model.specs.declared.query.ExprOf.TheVariants as expr
-use Rattle.query_model.specs.declared.query.Item.{Item}
 
 pub All-front : {A : Type 0} (P : A → Type 0) (xs ys : List A) → All P (xs ++ ys) → All P xs
 All-front P [] ys h = All-nil P

@@ -2,12 +2,8 @@
 use Rattle.std.proofs.Common.{◌≡◌, false, ◌||◌, List, [], ◌∷◌, refl, ap₂}
 use Rattle.std.specs.List.{All, list_any}
 use Rattle.std.proofs.lemmas.List.Elements.{All-head, All-tail}
-use Rattle.query_model.specs.Refusals.{listed, is_call, is_grouped}
-use Rattle.query_model.specs.Analysis.{HasNoCall, IsPlainQuery}
-use Rattle.query_model.specs.declared.query.Item.{Item}
-use Rattle.query_model.specs.declared.query.ItemKind.{ItemKind}
+use Rattle.query_model.specs.Names.{listed, is_call, is_grouped, HasNoCall, IsPlainQuery, Item, ItemKind, Query}
 use Rattle.query_model.specs.declared.query.ItemKind.TheVariants as kind
-use Rattle.query_model.specs.declared.query.Query.{Query}
 
 no_call : (i : ItemKind) → HasNoCall i → is_call i ≡ false
 no_call (kind.Plain e) h = refl

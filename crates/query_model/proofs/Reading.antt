@@ -3,11 +3,10 @@ use Rattle.std.proofs.Common.{◌≡◌, ◌≢◌, ℕ, suc, ◌+◌, ◌<◌, 
 use Rattle.std.specs.Prelude.{◌==◌, is_some, option_map, ◌^◌}
 use Rattle.std.proofs.lemmas.List.{drop_more, drop_all}
 use Rattle.chunk_data.specs.Values.{Row, type_of, FitsType, FitsTypes}
-use Rattle.query_model.specs.Fields.{spelled_value, spelled_row, spelled_int, both_spelled, numeral_below}
-use Rattle.query_model.specs.Parts.{bad_column, bad_field, SpelledFront}
 use Rattle.chunk_data.specs.declared.typed_value.Value.{Value}
-use Rattle.chunk_data.specs.declared.typed_value.Value.TheVariants.{Int, UInt}
 use Rattle.chunk_data.specs.declared.typed_value.ColumnType.{ColumnType}
+use Rattle.query_model.specs.Names.{spelled_value, spelled_row, spelled_int, both_spelled, numeral_below, bad_column, bad_field, SpelledFront}
+use Rattle.chunk_data.specs.declared.typed_value.Value.TheVariants.{Int, UInt}
 use Rattle.chunk_data.specs.declared.typed_value.ColumnType.TheVariants as column
 use Rattle.query_model.specs.declared.places.BadField.TheVariants.{Column, Fields}
 

@@ -1,21 +1,15 @@
 -- Refused queries, by computation.
 use Rattle.std.specs.Prelude.{◌≡◌, ℕ, true, false, List, [], ◌∷◌, Some, None, codes, refl, replicate}
 use Rattle.std.specs.Fmt.{digits}
-use Rattle.query_model.specs.Refusals.{refusal_of, expr_columns, cond_operands, expr_kind, cond_fits}
+use Rattle.query_model.specs.Names.{refusal_of, expr_columns, cond_operands, expr_kind, cond_fits, ColumnRef, ExprOf, Item, Query, Schema, IsChecked}
 use Rattle.chunk_data.specs.declared.typed_value.ColumnType.TheVariants as column
 use Rattle.query_model.specs.declared.query.ArithOp.TheVariants.{Add, Sub}
-use Rattle.query_model.specs.declared.query.ColumnRef.{ColumnRef}
-use Rattle.query_model.specs.declared.query.ExprOf.{ExprOf}
 use Rattle.query_model.specs.declared.query.ExprOf.TheVariants as expr
-use Rattle.query_model.specs.declared.query.Item.{Item}
 use Rattle.query_model.specs.declared.query.ItemKind.TheVariants as kind
 use Rattle.query_model.specs.declared.query.Items.TheVariants.{Star, Listed}
 use Rattle.query_model.specs.declared.query.TableRef.TheVariants.{Named}
-use Rattle.query_model.specs.declared.query.Query.{Query}
-use Rattle.query_model.specs.declared.query.Schema.{Schema}
 use Rattle.query_model.specs.declared.query.Refusal.TheVariants as refuse
 use Rattle.query_model.proofs.WorkedRows.{Place}
-use Rattle.query_model.specs.Checks.{IsChecked}
 use Rattle.query_model.specs.declared.checked.TableUse.TheVariants as checked
 use Rattle.query_model.specs.declared.checked.Shape.TheVariants as shape
 

@@ -7,31 +7,13 @@ use Rattle.std.proofs.lemmas.List.Elements.{All-nil, All-cons, All-head, All-tai
 use Rattle.std.proofs.lemmas.Grind.{flat_map-append}
 use Rattle.chunk_data.specs.declared.typed_value.ColumnType.{ColumnType}
 use Rattle.chunk_data.specs.declared.typed_value.ColumnType.TheVariants as column
-use Rattle.query_model.specs.Expressions.{Expr, type_of}
-use Rattle.query_model.specs.Groups.{call_type}
-use Rattle.query_model.specs.Typing.{IsItem, IsTypedCall, group_types}
+use Rattle.query_model.specs.Names.{Expr, type_of, call_type, IsItem, IsTypedCall, group_types, EachWith, IsChecked, IsShape, IsGrouping, IsPlacedItem, IsPlacedCall, IsPick, ArePicks, ArePlainItems, item_calls, calls_of, query_calls, place_of, types_of, place_in, key_place, is_key_of, CanBePicked, IsAnalysable, IsNoCall, HasItsArgument, IsTypedGrouping, IsTypedQuery, IsTypedShape, AggCall, ColumnRef, CondOf, Operand, Item, ItemKind, Items, NamePair, Query, Schema, Checked, Grouping, Shape}
 use Rattle.query_model.specs.Refusals.{FromColumn, Kind, plain, typed, unfit, means, meant, meant_type, known_kind, same_column, from_columns, text_columns, listed, is_typed, is_grouped, item_kind, item_columns, expr_columns, operand_columns, bare_columns, operands_of, cond_operands, join_pairs, expr_kind, agg_kind, operand_kind, comparable, cond_fits, fits_where, refusal_of}
-use Rattle.query_model.specs.Checks.{EachWith, IsChecked, IsShape, IsGrouping, IsPlacedItem, IsPlacedCall, IsPick, ArePicks, ArePlainItems, item_calls, calls_of, query_calls, place_of}
-use Rattle.query_model.specs.Placing.{types_of, place_in, key_place, is_key_of, CanBePicked}
-use Rattle.query_model.specs.Analysis.{IsAnalysable, IsNoCall, HasItsArgument, IsTypedGrouping, IsTypedQuery, IsTypedShape}
-use Rattle.query_model.specs.declared.query.AggCall.{AggCall}
-use Rattle.query_model.specs.declared.query.ColumnRef.{ColumnRef}
-use Rattle.query_model.specs.declared.query.CondOf.{CondOf}
 use Rattle.query_model.specs.declared.query.CondOf.TheVariants as cond'
 use Rattle.query_model.specs.declared.query.ExprOf.TheVariants as expr
-use Rattle.query_model.specs.declared.query.Operand.{Operand}
 use Rattle.query_model.specs.declared.query.Operand.TheVariants as operand
-use Rattle.query_model.specs.declared.query.Item.{Item}
-use Rattle.query_model.specs.declared.query.ItemKind.{ItemKind}
 use Rattle.query_model.specs.declared.query.ItemKind.TheVariants as kind
-use Rattle.query_model.specs.declared.query.Items.{Items}
 use Rattle.query_model.specs.declared.query.Items.TheVariants.{Star, Listed}
-use Rattle.query_model.specs.declared.query.NamePair.{NamePair}
-use Rattle.query_model.specs.declared.query.Query.{Query}
-use Rattle.query_model.specs.declared.query.Schema.{Schema}
-use Rattle.query_model.specs.declared.checked.Checked.{Checked}
-use Rattle.query_model.specs.declared.checked.Grouping.{Grouping}
-use Rattle.query_model.specs.declared.checked.Shape.{Shape}
 use Rattle.query_model.specs.declared.checked.Shape.TheVariants as shape
 use Rattle.query_model.proofs.Placed.{All-front, All-behind}
 use Rattle.query_model.proofs.PlaceLaws.{place_within}

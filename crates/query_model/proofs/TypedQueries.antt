@@ -7,28 +7,14 @@ use Rattle.std.proofs.lemmas.Grind.{flat_map-append}
 use Rattle.chunk_data.specs.Values.{type_of as type_of_value}
 use Rattle.chunk_data.specs.declared.typed_value.ColumnType.{ColumnType}
 use Rattle.chunk_data.specs.declared.typed_value.ColumnType.TheVariants as column
-use Rattle.query_model.specs.declared.query.ArithOp.{ArithOp}
+use Rattle.query_model.specs.Names.{ArithOp, CompareOp, ColumnRef, AggOp, AggCall, ExprOf, CondOf, Number, Operand, Expr, Cond, number_of, plain_value, type_of, gives_uint, is_uint_column, IsTyped, IsTypedCond, IsTypedOperand, IsTypedCall, IsItem, CanHold, AreNumbersAlike, plain_of, plain_type as type_without_null, is_text, operand_type, BothOrNone, AreColumnsFrom, IsPlaced, IsPlacedCall, IsGroupedOperand, IsPlacedCond, calls_of, place_of, call_type, HasItsArgument, takes_argument, IsTypedFilter, types_of, place_in}
 use Rattle.query_model.specs.declared.query.ArithOp.TheVariants.{Add, Sub, Mul}
-use Rattle.query_model.specs.declared.query.CompareOp.{CompareOp}
-use Rattle.query_model.specs.declared.query.ColumnRef.{ColumnRef}
-use Rattle.query_model.specs.declared.query.AggOp.{AggOp}
 use Rattle.query_model.specs.declared.query.AggOp.TheVariants.{Count, Sum, Min, Max}
-use Rattle.query_model.specs.declared.query.AggCall.{AggCall}
-use Rattle.query_model.specs.declared.query.ExprOf.{ExprOf}
-use Rattle.query_model.specs.declared.query.CondOf.{CondOf}
-use Rattle.query_model.specs.declared.query.Number.{Number}
 use Rattle.query_model.specs.declared.query.ExprOf.TheVariants as expr
-use Rattle.query_model.specs.declared.query.Operand.{Operand}
 use Rattle.query_model.specs.declared.query.Operand.TheVariants as operand
 use Rattle.query_model.specs.declared.query.CondOf.TheVariants as cond'
-use Rattle.query_model.specs.Expressions.{Expr, Cond, number_of, plain_value, type_of, gives_uint, is_uint_column}
-use Rattle.query_model.specs.Typing.{IsTyped, IsTypedCond, IsTypedOperand, IsTypedCall, IsItem, CanHold, AreNumbersAlike, plain_of, plain_type as type_without_null, is_text, operand_type}
 use Rattle.query_model.specs.Refusals.{FromColumn, Kind, plain, typed, unfit, means, meant_type, known_kind, arith_kind, can_hold, same_type, result_type, comparable, is_typed, expr_columns, expr_kind, call_kind, agg_kind, operand_kind, bare_columns, cond_operands, operands_of, cond_fits, fits_where}
-use Rattle.query_model.specs.Checks.{BothOrNone, AreColumnsFrom, IsPlaced, IsPlacedCall, IsGroupedOperand, IsPlacedCond, calls_of, place_of}
-use Rattle.query_model.specs.Groups.{call_type}
-use Rattle.query_model.specs.Analysis.{HasItsArgument, takes_argument, IsTypedFilter}
 use Rattle.query_model.proofs.Placed.{All-front, All-behind}
-use Rattle.query_model.specs.Placing.{types_of, place_in}
 use Rattle.query_model.proofs.WorkedRows.{Place}
 
 -- A placed expression is of a kind. Nothing is said of one whose types don't fit.

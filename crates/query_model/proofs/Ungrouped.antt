@@ -2,11 +2,7 @@
 use Rattle.std.proofs.Common.{◌≡◌, ℕ, Bool, true, false, cond, List, [], ◌∷◌, ◌++◌, map, filter, flat_map, refl, ap, ◌∙◌, Option, Some, None}
 use Rattle.std.specs.Prelude.{find, not, option_map}
 use Rattle.std.specs.Option.{option_or}
-use Rattle.query_model.specs.Refusals.{FromColumn, written, star_name, not_keys, listed, bare_columns, operands_of, first_name}
-use Rattle.query_model.specs.Placing.{is_key_of, ungrouped_over, first_ungrouped}
-use Rattle.query_model.specs.declared.query.ColumnRef.{ColumnRef}
-use Rattle.query_model.specs.declared.query.Item.{Item}
-use Rattle.query_model.specs.declared.query.Query.{Query}
+use Rattle.query_model.specs.Names.{FromColumn, written, star_name, not_keys, listed, bare_columns, operands_of, first_name, is_key_of, ungrouped_over, first_ungrouped, ColumnRef, Item, Query}
 
 first_of_both : (xs ys : List (List ℕ)) → first_name (xs ++ ys) ≡ option_or (first_name xs) (first_name ys)
 first_of_both [] ys = refl

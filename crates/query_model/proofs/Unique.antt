@@ -4,12 +4,10 @@ use Rattle.std.specs.List.{AllByRecursion}
 use Rattle.std.specs.Cmp.{IsTotalOrder}
 use Rattle.std.specs.Ordering.{ordering_reverse, ordering_then}
 use Rattle.std.proofs.lemmas.Cmp.{upto}
-use Rattle.chunk_data.specs.Values.{Row, value_at}
-use Rattle.chunk_data.specs.Values.{key_cmp, row_cmp}
-use Rattle.query_model.specs.Answers.{limited, IsOrderedAnswer}
+use Rattle.chunk_data.specs.Values.{Row, value_at, key_cmp, row_cmp}
 use Rattle.chunk_data.specs.declared.typed_value.Value.{Value}
 use Rattle.chunk_data.specs.declared.typed_value.SortKey.{SortKey}
-use Rattle.query_model.specs.declared.query.Span.{Span}
+use Rattle.query_model.specs.Names.{limited, IsOrderedAnswer, Span}
 use Rattle.query_model.proofs.Lists.{along_permutation}
 use Rattle.query_model.proofs.Sorting.{IsAscending, ascending_from_sorted}
 use Rattle.query_model.proofs.ValueOrder.{value_cmp-IsAntisymmetric}

@@ -5,13 +5,7 @@ use Rattle.std.specs.Int.{int_wrap}
 use Rattle.std.specs.Fmt.{digits}
 use Rattle.std.specs.Str.{is_utf8, chars}
 use lib.Utf8.{encode}
-use Rattle.query_model.specs.ListFiles.{lines_from, bad_line}
-use Rattle.query_model.specs.Numbers.{wrapped}
-use Rattle.query_model.specs.Fields.{spelled_row}
-use Rattle.query_model.specs.Parts.{part_records, good_rows, bad_column, bad_place}
-use Rattle.query_model.specs.Expressions.{value_of, type_of, operand_value, truth_of}
-use Rattle.query_model.specs.Sources.{count_up}
-use Rattle.query_model.specs.Groups.{chosen, combined, distinct}
+use Rattle.query_model.specs.Names.{lines_from, bad_line, wrapped, spelled_row, part_records, good_rows, bad_column, bad_place, value_of, type_of, operand_value, truth_of, count_up, chosen, combined, distinct}
 use Rattle.chunk_data.specs.Values.{row_cmp}
 
 unfoldable pub meaning_on_literals : ⊤

@@ -5,31 +5,16 @@ use Rattle.std.specs.Fmt.{digits}
 use Rattle.chunk_data.specs.Values.{Row, row_cmp}
 use Rattle.chunk_data.specs.declared.typed_value.Value.TheVariants.{Int, UInt}
 use Rattle.chunk_data.specs.declared.typed_value.ColumnType.TheVariants as column
-use Rattle.query_model.specs.Answers.{enough, IsAnswer}
-use Rattle.query_model.specs.Checks.{IsChecked}
-use Rattle.query_model.specs.Parts.{parts_rows}
-use Rattle.query_model.specs.Refusals.{refusal_of, expr_columns, cond_operands, expr_kind, cond_fits}
-use Rattle.query_model.specs.Sources.{Database}
-use Rattle.query_model.specs.Texts.{answer_text}
-use Rattle.query_model.specs.declared.query.AggCall.{AggCall}
+use Rattle.query_model.specs.Names.{enough, IsAnswer, IsChecked, parts_rows, refusal_of, expr_columns, cond_operands, expr_kind, cond_fits, Database, answer_text, AggCall, ColumnDecl, ColumnRef, Item, ItemKind, NamePair, OrderKey, Query, Schema, Checked}
 use Rattle.query_model.specs.declared.query.AggOp.TheVariants.{Count, Sum, Max}
 use Rattle.query_model.specs.declared.query.ArithOp.TheVariants.{Mul}
-use Rattle.query_model.specs.declared.query.ColumnDecl.{ColumnDecl}
-use Rattle.query_model.specs.declared.query.ColumnRef.{ColumnRef}
 use Rattle.query_model.specs.declared.query.CompareOp.TheVariants as compare
 use Rattle.query_model.specs.declared.query.CondOf.TheVariants as cond'
 use Rattle.query_model.specs.declared.query.ExprOf.TheVariants as expr
-use Rattle.query_model.specs.declared.query.Item.{Item}
-use Rattle.query_model.specs.declared.query.ItemKind.{ItemKind}
 use Rattle.query_model.specs.declared.query.ItemKind.TheVariants as kind
 use Rattle.query_model.specs.declared.query.Items.TheVariants.{Listed}
-use Rattle.query_model.specs.declared.query.NamePair.{NamePair}
 use Rattle.query_model.specs.declared.query.Operand.TheVariants as operand
-use Rattle.query_model.specs.declared.query.OrderKey.{OrderKey}
-use Rattle.query_model.specs.declared.query.Query.{Query}
-use Rattle.query_model.specs.declared.query.Schema.{Schema}
 use Rattle.query_model.specs.declared.query.TableRef.TheVariants as from
-use Rattle.query_model.specs.declared.checked.Checked.{Checked}
 use Rattle.query_model.specs.declared.checked.Shape.TheVariants.{Grouped}
 use Rattle.query_model.specs.declared.checked.TableUse.TheVariants as used
 use Rattle.query_model.proofs.Ordered.{IsSorted-tested}

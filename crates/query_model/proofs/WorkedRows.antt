@@ -1,37 +1,24 @@
 -- Worked queries, by computation.
 use Rattle.std.specs.Prelude.{◌≡◌, ℕ, true, false, List, [], ◌∷◌, ◌++◌, pos, negsuc, Option, Some, None, codes, refl}
-use Rattle.chunk_data.specs.Values.{Row, Table}
-use Rattle.query_model.specs.Parts.{parts_rows, part_records, bad_place}
-use Rattle.query_model.specs.Expressions.{Expr, Cond}
-use Rattle.query_model.specs.ListFiles.{bad_line, lines_from}
+use Rattle.chunk_data.specs.Values.{Row, Table, row_cmp}
+use Rattle.chunk_data.specs.declared.typed_value.ColumnType.{ColumnType}
+use Rattle.query_model.specs.Names.{parts_rows, part_records, bad_place, Expr, Cond, bad_line, lines_from, Database, output_rows, limited, IsAnswer, AggOp, AggCall, answer_text, Checked, Shape, database, projection_checked, TableDecl}
 use Rattle.query_model.specs.declared.places.BadField.TheVariants as bad
 use Rattle.std.specs.Prelude.{flat_map, replicate}
-use Rattle.query_model.specs.Sources.{Database}
-use Rattle.chunk_data.specs.Values.{row_cmp}
-use Rattle.query_model.specs.Answers.{output_rows, limited, IsAnswer}
 use Rattle.query_model.proofs.Ordered.{IsSorted-tested}
 use Rattle.std.proofs.Common.{Box, Global, arith, sym, subst, lit<}
 use Rattle.query_model.specs.declared.query.CondOf.TheVariants as cond'
 use Rattle.query_model.specs.declared.query.Operand.TheVariants as operand
 use Rattle.query_model.specs.declared.query.ArithOp.TheVariants.{Add, Sub, Mul}
 use Rattle.query_model.specs.declared.query.CompareOp.TheVariants as compare
-use Rattle.query_model.specs.declared.query.AggOp.{AggOp}
 use Rattle.query_model.specs.declared.query.AggOp.TheVariants.{Count, Sum, Min}
-use Rattle.query_model.specs.declared.query.AggCall.{AggCall}
 use Rattle.std.specs.Prelude.{IsSorted}
-use Rattle.query_model.specs.Texts.{answer_text}
 use Rattle.query_model.proofs.Worked.{meaning_on_literals}
 use Rattle.chunk_data.specs.declared.typed_value.Value.TheVariants.{Int, Text}
-use Rattle.chunk_data.specs.declared.typed_value.ColumnType.{ColumnType}
 use Rattle.chunk_data.specs.declared.typed_value.ColumnType.TheVariants as column
-use Rattle.query_model.specs.declared.checked.Checked.{Checked}
-use Rattle.query_model.specs.declared.checked.Shape.{Shape}
 use Rattle.query_model.specs.declared.checked.Shape.TheVariants.{Plain, Grouped}
 use Rattle.query_model.specs.declared.checked.TableUse.TheVariants.{Declared}
 use Rattle.query_model.specs.declared.query.ExprOf.TheVariants as expr
-use Rattle.query_model.specs.Database.{database}
-use Rattle.query_model.specs.Projection.{projection_checked}
-use Rattle.query_model.specs.declared.query.TableDecl.{TableDecl}
 use Rattle.query_model.specs.declared.query.PartsDecl.TheVariants.{Paths}
 
 -- a table from the bytes of its parts

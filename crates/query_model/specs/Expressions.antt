@@ -3,10 +3,10 @@ use Rattle.std.specs.Prelude.{ℕ, ◌<◌, Bool, true, false, not, ◌&&◌, �
 use Rattle.std.specs.Ordering.{int_cmp, is_lt, is_le, is_gt, is_ge, is_eq, is_ne}
 use Rattle.std.specs.declared.cmp.Ordering.{Ordering}
 use Rattle.chunk_data.specs.Values.{Row, value_at, text_cmp, type_of as type_of_value}
-use Rattle.query_model.specs.Numbers.{exact, is_uint, wrapped}
 use Rattle.chunk_data.specs.declared.typed_value.Value.{Value}
-use Rattle.chunk_data.specs.declared.typed_value.Value.TheVariants as value
 use Rattle.chunk_data.specs.declared.typed_value.ColumnType.{ColumnType}
+use Rattle.query_model.specs.Numbers.{exact, is_uint, wrapped}
+use Rattle.chunk_data.specs.declared.typed_value.Value.TheVariants as value
 use Rattle.chunk_data.specs.declared.typed_value.ColumnType.TheVariants as column
 use Rattle.query_model.specs.declared.query.ArithOp.{ArithOp}
 use Rattle.query_model.specs.declared.query.ArithOp.TheVariants.{Add, Sub, Mul}

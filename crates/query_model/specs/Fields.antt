@@ -3,8 +3,8 @@ use Rattle.std.specs.Prelude.{ℕ, ◌+◌, ◌-◌, ◌*◌, ◌^◌, Bool, fal
 use Rattle.std.specs.List.{list_all}
 use Rattle.chunk_data.specs.Values.{Row}
 use Rattle.chunk_data.specs.declared.typed_value.Value.{Value}
-use Rattle.chunk_data.specs.declared.typed_value.Value.TheVariants.{Int, UInt, Text}
 use Rattle.chunk_data.specs.declared.typed_value.ColumnType.{ColumnType}
+use Rattle.chunk_data.specs.declared.typed_value.Value.TheVariants.{Int, UInt, Text}
 use Rattle.chunk_data.specs.declared.typed_value.ColumnType.TheVariants as column
 
 abbrev pub is_digit : ℕ → Bool

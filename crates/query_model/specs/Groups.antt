@@ -3,11 +3,11 @@ use Rattle.std.specs.Prelude.{ℕ, ◌+◌, ◌%◌, ◌^◌, Bool, true, false,
 use Rattle.std.specs.List.{list_all}
 use Rattle.std.specs.Ordering.{is_lt}
 use Rattle.chunk_data.specs.Values.{Row, value_at, values_at, value_cmp, same_row, default_value}
+use Rattle.chunk_data.specs.declared.typed_value.Value.{Value}
+use Rattle.chunk_data.specs.declared.typed_value.ColumnType.{ColumnType}
 use Rattle.query_model.specs.Numbers.{exact, is_uint, wrapped}
 use Rattle.query_model.specs.Expressions.{value_of, type_of}
-use Rattle.chunk_data.specs.declared.typed_value.Value.{Value}
 use Rattle.chunk_data.specs.declared.typed_value.Value.TheVariants.{UInt, Text}
-use Rattle.chunk_data.specs.declared.typed_value.ColumnType.{ColumnType}
 use Rattle.chunk_data.specs.declared.typed_value.ColumnType.TheVariants as column
 use Rattle.query_model.specs.declared.query.AggOp.{AggOp}
 use Rattle.query_model.specs.declared.query.AggOp.TheVariants.{Count, Sum, Min, Max}

@@ -20,3 +20,4 @@ pub mod Typing
 pub mod Analysis
 pub mod Placing
 pub mod Need
+pub mod Names

@@ -2,8 +2,8 @@
 use Rattle.std.specs.Prelude.{◌≡◌, ℕ, ◌+◌, Bool, ◌==◌, is_some, if◌then◌else◌, List, [], ◌∷◌, length, drop, flat_map, Option, Some, None}
 use Rattle.csv.specs.Reading.{records, default_config, strip_bom}
 use Rattle.chunk_data.specs.Values.{Row}
-use Rattle.query_model.specs.Fields.{spelled_value, spelled_row}
 use Rattle.chunk_data.specs.declared.typed_value.ColumnType.{ColumnType}
+use Rattle.query_model.specs.Fields.{spelled_value, spelled_row}
 use Rattle.query_model.specs.declared.places.BadPlace.{BadPlace}
 use Rattle.query_model.specs.declared.places.BadField.{BadField}
 use Rattle.query_model.specs.declared.places.BadField.TheVariants.{Column, Fields}

@@ -3,6 +3,7 @@ use Rattle.std.specs.Prelude.{◌≡◌, ℕ, ◌==◌, nat_lt, Bool, true, fals
 use Rattle.std.specs.List.{list_any, list_all}
 use Rattle.std.specs.Option.{option_or}
 use Rattle.chunk_data.specs.declared.typed_value.ColumnType.{ColumnType}
+use Rattle.chunk_data.specs.declared.typed_value.SortKey.{SortKey}
 use Rattle.query_model.specs.Expressions.{number_of}
 use Rattle.query_model.specs.Refusals.{FromColumn, Kind, plain, typed, unfit, is_declared, table_name, means, meant, written, operand_columns, bare_columns, operands_of, listed, is_join_pair, is_typed, item_kind, fits_where, is_grouped, is_call, same_column, not_keys, star_name, first_name, output_names, calls_in, join_pairs}
 use Rattle.query_model.specs.Checks.{place_of, EachWith, IsPlacedCall, pair_of, use_of}
@@ -14,7 +15,6 @@ use Rattle.query_model.specs.declared.query.Operand.{Operand}
 use Rattle.query_model.specs.declared.query.Item.{Item}
 use Rattle.query_model.specs.declared.query.ItemKind.{ItemKind}
 use Rattle.query_model.specs.declared.query.ItemKind.TheVariants as kind
-use Rattle.chunk_data.specs.declared.typed_value.SortKey.{SortKey}
 use Rattle.query_model.specs.declared.query.Join.{Join}
 use Rattle.query_model.specs.declared.query.OrderKey.{OrderKey}
 use Rattle.query_model.specs.declared.query.Query.{Query}

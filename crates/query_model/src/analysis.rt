@@ -1,9 +1,6 @@
 // Queries checked against the declared tables.
 ghost use Rattle.std.specs.Prelude.{◌≡◌, ◌≤◌, None, flat_map, length, IfOk, IfErr, OnOk};
-ghost use Rattle.query_model.specs.Refusals.{from_columns, join_tables, output_names, refusal_of, table_columns};
-ghost use Rattle.query_model.specs.Checks.{BothOrNone, IsChecked, IsPlacedCond};
-ghost use Rattle.query_model.specs.Placing.{place_in};
-ghost use Rattle.query_model.specs.Analysis.{IsAnalysable, IsDue, IsTypedQuery, from_types};
+ghost use Rattle.query_model.specs.Names.{from_columns, join_tables, output_names, refusal_of, table_columns, BothOrNone, IsChecked, IsPlacedCond, place_in, IsAnalysable, IsDue, IsTypedQuery, from_types};
 
 mod columns;
 mod groups;

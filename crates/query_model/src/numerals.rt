@@ -1,7 +1,6 @@
 // Numbers as fields spell them.
 ghost use Rattle.std.specs.Prelude.{◌≡◌, ◌≤◌, ◌^◌, pos, neg_ℤ};
-ghost use Rattle.query_model.specs.Fields.{numeral_below, spelled_int as int_spelled};
-ghost use Rattle.query_model.specs.Numerals.{with_digit};
+ghost use Rattle.query_model.specs.Names.{numeral_below, spelled_int as int_spelled, with_digit};
 
 /// The most numbers to which any digit can be added, below 2^64.
 const ROOMY: u64 = 1_844_674_407_370_955_161;

@@ -1,13 +1,9 @@
 // Plain, slow functions of the definitions.
 ghost use Rattle.std.specs.Prelude.{is_some, OnOk, ◌-◌, ◌^◌, ◌++◌};
-ghost use Rattle.query_model.specs.Fields.{spelled_value, spelled_row};
-ghost use Rattle.query_model.specs.Parts.{bad_column, bad_field as bad_field_of};
-ghost use Rattle.query_model.specs.Texts.{quoted, doubled, separator, value_text as text_of_value, row_text as text_of_row, rows_text as text_of_rows};
+ghost use Rattle.query_model.specs.Names.{spelled_value, spelled_row, bad_column, bad_field as bad_field_of, quoted, doubled, separator, value_text as text_of_value, row_text as text_of_row, rows_text as text_of_rows, formula, type_of, gives_uint, IsWithin};
 ghost use Rattle.std.specs.Prelude.{◌≡◌, IfOk, length, ◌<◌};
-ghost use Rattle.query_model.specs.Formulas.{formula};
-ghost use Rattle.query_model.specs.Expressions.{type_of, gives_uint, IsWithin};
 
-use crate::checked::Expr;
+use crate::checked::{Cond, Expr};
 use crate::numerals::{spelled_int, spelled_uint};
 use crate::places::BadField;
 use crate::query::{ArithOp, ExprOf};
@@ -26,6 +22,18 @@ pub fn copy_expr(alloc: Global, e: &Expr) -> Result<Expr, AllocError>
             let right = copy_expr(alloc, b)?;
             Ok(ExprOf::Arith(*op, Box::new(alloc, left)?, Box::new(alloc, right)?))
         }
+    }
+}
+
+/// A condition in a box. It stands apart from the recursions over conditions, whose frames are to be
+/// small: texts nest a thousand of them.
+#[inline(never)]
+pub fn boxed_cond(alloc: Global, cond: Cond) -> Result<Box<Cond>, Memory>
+    ensures { IfOk result (λ b. b.value ≡ cond) }
+{
+    match Box::new(alloc, cond) {
+        Ok(b) => Ok(b),
+        Err(_) => Err(Memory),
     }
 }
 

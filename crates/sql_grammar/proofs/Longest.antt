@@ -4,15 +4,11 @@ use Rattle.std.specs.Prelude.{⊤, ◌==◌, take_while}
 use Rattle.std.specs.List.{prefix_len}
 use Rattle.std.specs.Char.{is_ascii_digit}
 use Rattle.std.proofs.lemmas.List.Folds.{length-prefix_len}
-use Rattle.sql_grammar.specs.declared.Sign.{Sign}
+use Rattle.sql_grammar.specs.Names.{Sign, Token, TextPlace, TextByte, begins_with, begins_with_letter, comparison_sign, is_letter, is_word_byte, number_front, sign_front, sign_or, single_sign, text_at, text_byte, text_front, text_on, token_front, word_front, TokensAreLongest}
 use Rattle.sql_grammar.specs.declared.Sign.TheVariants as sign
-use Rattle.sql_grammar.specs.declared.Token.{Token}
 use Rattle.sql_grammar.specs.declared.Token.TheVariants as token
-use Rattle.sql_grammar.specs.declared.TextPlace.{TextPlace}
 use Rattle.sql_grammar.specs.declared.TextPlace.TheVariants as place
-use Rattle.sql_grammar.specs.declared.TextByte.{TextByte}
 use Rattle.sql_grammar.specs.declared.TextByte.TheVariants as byte
-use Rattle.sql_grammar.specs.Tokens.{begins_with, begins_with_letter, comparison_sign, is_letter, is_word_byte, number_front, sign_front, sign_or, single_sign, text_at, text_byte, text_front, text_on, token_front, word_front, TokensAreLongest}
 
 -- two reads, of which the second takes no fewer bytes
 abbrev NoFewer : {A : Type 0} → Option (A × ℕ) → Option (A × ℕ) → Type 0

@@ -4,8 +4,7 @@ use Rattle.std.specs.Prelude.{◌==◌, ◌||◌, ⊤}
 use Rattle.std.proofs.lemmas.List.{take-append-drop, length-take-le}
 use Rattle.sql_grammar.specs.declared.TextPlace.TheVariants as place
 use Rattle.sql_grammar.specs.declared.TextByte.TheVariants as byte
-use Rattle.sql_grammar.specs.Tokens.{begins_with, text_on, text_at}
-use Rattle.sql_grammar.specs.Strings.{IsQuoted, closed, another_byte, two_quotes, quote_behind_backslash, two_backslashes, IsStringAt, StringsAreRead, StringsAreWritten}
+use Rattle.sql_grammar.specs.Names.{begins_with, text_on, text_at, IsQuoted, closed, another_byte, two_quotes, quote_behind_backslash, two_backslashes, IsStringAt, StringsAreRead, StringsAreWritten}
 
 differ : (b n : ℕ) → b ≢ n → (b == n) ≡ false
 differ b n h = grind (arith, h)

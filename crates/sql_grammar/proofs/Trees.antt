@@ -3,29 +3,28 @@ use Rattle.std.proofs.Common.{◌≡◌, ℕ, suc, ◌+◌, Bool, true, false, n
 use Rattle.std.specs.Prelude.{◌==◌, nat_lt, is_some, if◌then◌else◌, find, bytes_eq, codes, decimal}
 use Rattle.std.specs.List.{list_any, list_all}
 use Rattle.std.proofs.lemmas.List.{map-append}
-use Rattle.query_model.specs.Expressions.{number_of}
-use Rattle.query_model.specs.Formulas.{column, number, arith, formula}
-use Rattle.query_model.specs.Refusals.{FromColumn, table_columns, join_tables, join_pairs, from_columns, meant, meant_type, expr_columns, cond_operands, operands_of, operand_columns, bare_columns, argument_columns, item_columns, listed, text_columns, written, is_declared, table_name, is_join_pair, holds_pairs, Kind, typed, plain as plain_kind, arith_kind, known_kind, expr_kind, call_kind, agg_kind, operand_kind, comparable, cond_fits, fits_where, is_typed, item_kind, type_mismatch, is_call, is_grouped, same_column, not_keys, star_name, ungrouped_names, first_name, plain_name, name_or, item_names, output_names, operand_calls, total, calls_in, widths, first_of_all, refusal_of}
-use Rattle.chunk_data.specs.declared.typed_value.ColumnType.TheVariants as type
+use Rattle.query_model.specs.Names.{number_of, column, number, arith, formula}
 use Rattle.query_model.specs.declared.query.AggOp.{AggOp}
 use Rattle.query_model.specs.declared.query.ColumnRef.{ColumnRef}
 use Rattle.query_model.specs.declared.query.ExprOf.{ExprOf}
-use Rattle.query_model.specs.declared.query.ExprOf.TheVariants as expr
 use Rattle.query_model.specs.declared.query.Operand.{Operand}
-use Rattle.query_model.specs.declared.query.Operand.TheVariants as operand
 use Rattle.query_model.specs.declared.query.CondOf.{CondOf}
-use Rattle.query_model.specs.declared.query.CondOf.TheVariants as cond'
 use Rattle.query_model.specs.declared.query.Item.{Item}
 use Rattle.query_model.specs.declared.query.ItemKind.{ItemKind}
-use Rattle.query_model.specs.declared.query.ItemKind.TheVariants as kind
 use Rattle.query_model.specs.declared.query.Items.{Items}
-use Rattle.query_model.specs.declared.query.Items.TheVariants as items
 use Rattle.query_model.specs.declared.query.NamePair.{NamePair}
 use Rattle.query_model.specs.declared.query.Join.{Join}
 use Rattle.query_model.specs.declared.query.OrderKey.{OrderKey}
 use Rattle.query_model.specs.declared.query.Query.{Query}
 use Rattle.query_model.specs.declared.query.Schema.{Schema}
 use Rattle.query_model.specs.declared.query.Refusal.{Refusal}
+use Rattle.query_model.specs.Refusals.{FromColumn, table_columns, join_tables, join_pairs, from_columns, meant, meant_type, expr_columns, cond_operands, operands_of, operand_columns, bare_columns, argument_columns, item_columns, listed, text_columns, written, is_declared, table_name, is_join_pair, holds_pairs, Kind, typed, plain as plain_kind, arith_kind, known_kind, expr_kind, call_kind, agg_kind, operand_kind, comparable, cond_fits, fits_where, is_typed, item_kind, type_mismatch, is_call, is_grouped, same_column, not_keys, star_name, ungrouped_names, first_name, plain_name, name_or, item_names, output_names, operand_calls, total, calls_in, widths, first_of_all, refusal_of}
+use Rattle.chunk_data.specs.declared.typed_value.ColumnType.TheVariants as type
+use Rattle.query_model.specs.declared.query.ExprOf.TheVariants as expr
+use Rattle.query_model.specs.declared.query.Operand.TheVariants as operand
+use Rattle.query_model.specs.declared.query.CondOf.TheVariants as cond'
+use Rattle.query_model.specs.declared.query.ItemKind.TheVariants as kind
+use Rattle.query_model.specs.declared.query.Items.TheVariants as items
 use Rattle.query_model.specs.declared.query.Refusal.TheVariants as refuse
 use Rattle.sql_grammar.specs.Trees.{Expression, Side, plain, text, call, Condition, compare, both, either, negated, ItemWhat, plain_item, call_item, ItemTree, Selection, star, listed as listed_items, QueryTree, side, condition, item_what, item_tree, selection, query_tree}
 

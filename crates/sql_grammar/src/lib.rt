@@ -3,8 +3,7 @@
 #![tactic(auto)]
 
 ghost use Rattle.std.specs.Prelude.{◌≡◌, Some};
-ghost use Rattle.sql_grammar.specs.Strings.{StringsAreRead, StringsAreWritten};
-ghost use Rattle.sql_grammar.specs.Tokens.{keyword_of, keyword_text};
+ghost use Rattle.sql_grammar.specs.Names.{StringsAreRead, StringsAreWritten, keyword_of, keyword_text};
 
 mod words;
 

@@ -1,9 +1,7 @@
 // Grouping: what may not stand in a grouped query, and the checked grouping of one that may.
 ghost use Rattle.std.specs.Prelude.{◌≡◌, ◌+◌, ◌++◌, ◌≤◌, cond, filter, find, flat_map, length, map, not, option_map, IfOk, OnOk};
 ghost use Rattle.std.specs.List.{All, list_any};
-ghost use Rattle.query_model.specs.Refusals.{written as written_name, first_name, is_grouped as has_groups, listed, not_keys};
-ghost use Rattle.query_model.specs.Checks.{IsPick, ArePicks, IsGrouping, item_calls};
-ghost use Rattle.query_model.specs.Placing.{bare_names, ungrouped_in_items as items_ungrouped, is_call_item, AreAdded, CanBePicked, is_key_of, key_place, first_ungrouped, not_grouped_over};
+ghost use Rattle.query_model.specs.Names.{written as written_name, first_name, is_grouped as has_groups, listed, not_keys, IsPick, ArePicks, IsGrouping, item_calls, bare_names, ungrouped_in_items as items_ungrouped, is_call_item, AreAdded, CanBePicked, is_key_of, key_place, first_ungrouped, not_grouped_over};
 
 use crate::analysis::columns::FromColumn;
 use crate::analysis::names::{

@@ -1,9 +1,7 @@
 // JOIN: the pairs of ON, and the join with places.
 ghost use Rattle.std.specs.Prelude.{◌≡◌, ◌≤◌, length, map, IfOk};
 ghost use Rattle.std.specs.List.{list_all};
-ghost use Rattle.query_model.specs.Refusals.{is_join_pair as fits_tables, joins as are_joined, same_known_type};
-ghost use Rattle.query_model.specs.Checks.{BothOrNone, pair_of};
-ghost use Rattle.query_model.specs.Placing.{IsPlacedJoin, pairs_fit as all_pairs_fit};
+ghost use Rattle.query_model.specs.Names.{is_join_pair as fits_tables, joins as are_joined, same_known_type, BothOrNone, pair_of, IsPlacedJoin, pairs_fit as all_pairs_fit};
 
 use crate::analysis::columns::FromColumn;
 use crate::analysis::kinds::same_type;

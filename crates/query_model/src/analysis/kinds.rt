@@ -1,10 +1,7 @@
 // What expressions are, and whether types fit.
 ghost use Rattle.std.specs.Prelude.{◌≡◌};
 ghost use Rattle.std.specs.List.{list_all};
-ghost use Rattle.query_model.specs.Expressions.{number_of};
-ghost use Rattle.query_model.specs.Refusals.{can_hold as holds_number, result_type as type_of_result, arith_kind as kind_of_arith, known_kind as kind_known, expr_kind as kind_of_expr, call_kind as kind_of_call, agg_kind as kind_of_agg, operand_kind as kind_of_operand, item_kind as kind_of_item, comparable as are_comparable, cond_fits as fits, fits_where, is_typed as has_type, same_type as are_same, listed};
-ghost use Rattle.query_model.specs.Typing.{is_text as is_text_column};
-ghost use Rattle.query_model.specs.Placing.{as_kind, number_value, types_fit_over};
+ghost use Rattle.query_model.specs.Names.{number_of, can_hold as holds_number, result_type as type_of_result, arith_kind as kind_of_arith, known_kind as kind_known, expr_kind as kind_of_expr, call_kind as kind_of_call, agg_kind as kind_of_agg, operand_kind as kind_of_operand, item_kind as kind_of_item, comparable as are_comparable, cond_fits as fits, fits_where, is_typed as has_type, same_type as are_same, listed, is_text as is_text_column, as_kind, number_value, types_fit_over};
 
 use crate::analysis::columns::FromColumn;
 use crate::analysis::names::meant_type;

@@ -1,10 +1,7 @@
 // Names of tables and columns.
 ghost use Rattle.std.specs.Prelude.{◌≡◌, ◌++◌, ◌∷◌, [], IfOk, OnOk, bytes_eq, length, flat_map};
 ghost use Rattle.std.specs.List.{list_any};
-ghost use Rattle.query_model.specs.declared.query.NamePair.{NamePair as Pair};
-ghost use Rattle.query_model.specs.Refusals.{meant, meant_type as type_meant, written as written_name, expr_columns, argument_columns, cond_operands, operands_of, item_columns, join_pairs, text_columns, listed, same_column as are_one_column};
-ghost use Rattle.query_model.specs.Typing.{plain_type as type_without_null};
-ghost use Rattle.query_model.specs.Placing.{columns_in, is_key_of, key_place as place_of_key, place_in, unknown_among, ambiguous_among};
+ghost use Rattle.query_model.specs.Names.{NamePair as Pair, meant, meant_type as type_meant, written as written_name, expr_columns, argument_columns, cond_operands, operands_of, item_columns, join_pairs, text_columns, listed, same_column as are_one_column, plain_type as type_without_null, columns_in, is_key_of, key_place as place_of_key, place_in, unknown_among, ambiguous_among};
 
 use crate::analysis::columns::FromColumn;
 use crate::query::{

@@ -1,10 +1,7 @@
 // The outputs of a query: their names and types, and what is made of rows.
 ghost use Rattle.std.specs.Prelude.{◌≡◌, ◌++◌, ◌≤◌, codes, decimal, length, map, true, false, IfOk};
 ghost use Rattle.std.specs.List.{All};
-ghost use Rattle.query_model.specs.Refusals.{FromColumn as Column, plain_name as name_of_kind, name_or, item_names as names_of_items, output_names, item_kind as kind_of_item, is_grouped as has_groups, listed};
-ghost use Rattle.query_model.specs.Checks.{AreColumnsFrom, ArePlainItems, IsShape, output_types, known_type as type_known};
-ghost use Rattle.query_model.specs.Placing.{types_of, place_in, as_kind, is_key_of, CanBePicked};
-ghost use Rattle.query_model.specs.Analysis.{HasNoCall};
+ghost use Rattle.query_model.specs.Names.{FromColumn as Column, plain_name as name_of_kind, name_or, item_names as names_of_items, output_names, item_kind as kind_of_item, is_grouped as has_groups, listed, AreColumnsFrom, ArePlainItems, IsShape, output_types, known_type as type_known, types_of, place_in, as_kind, is_key_of, CanBePicked, HasNoCall};
 
 use crate::analysis::columns::FromColumn;
 use crate::analysis::groups::{is_grouped, made_groups};

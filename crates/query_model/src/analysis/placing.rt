@@ -1,15 +1,13 @@
 // Places in the place of names.
 ghost use Rattle.std.specs.Prelude.{◌≡◌, ◌+◌, ◌≤◌, ◌∷◌, [], bytes_eq, flat_map, length, map, IfOk, OnOk};
 ghost use Rattle.std.specs.List.{All};
-ghost use Rattle.query_model.specs.Refusals.{cond_operands, operands_of};
-ghost use Rattle.query_model.specs.Checks.{IsPlaced, IsPlacedCall, IsGroupedOperand, IsPlacedCond, IsPlacedItem, BothOrNone, EachWith, calls_of, place_of, use_of};
-ghost use Rattle.query_model.specs.Placing.{key_place as place_of_key, place_in, place_by, AreAdded};
-ghost use Rattle.query_model.specs.Analysis.{HasNoCall};
+ghost use Rattle.query_model.specs.Names.{cond_operands, operands_of, IsPlaced, IsPlacedCall, IsGroupedOperand, IsPlacedCond, IsPlacedItem, BothOrNone, EachWith, calls_of, place_of, use_of, key_place as place_of_key, place_in, place_by, AreAdded, HasNoCall};
 ghost use Rattle.query_model.specs.declared.query.CondOf.TheVariants as condition;
 
 use crate::analysis::columns::FromColumn;
 use crate::analysis::names::{key_place, meant_place};
 use crate::checked::{Cond, Expr, TableUse};
+use crate::plain::boxed_cond;
 use crate::query::{
     AggCall, ColumnRef, CompareOp, CondOf, ExprOf, Item, ItemKind, Operand, Schema, TableRef,
 };
@@ -207,17 +205,6 @@ fn place_comparison(
     Ok(CondOf::Compare(op, left, right))
 }
 
-// Apart for the same reason.
-#[inline(never)]
-fn boxed(alloc: Global, cond: Cond) -> Result<Box<Cond>, Memory>
-    ensures { IfOk result (λ b. b.value ≡ cond) }
-{
-    match Box::new(alloc, cond) {
-        Ok(b) => Ok(b),
-        Err(_) => Err(Memory),
-    }
-}
-
 /// The condition with places. Its calls go behind those that stand, and their places in its place.
 #[tactic(auto, unfolding(crate::specs::Refusals::cond_operands))]
 fn place_cond(
@@ -239,21 +226,21 @@ fn place_cond(
         }
         CondOf::And(a, b) => {
             let first = place_cond(alloc, scope, a, columns, keys, calls)?;
-            let left = boxed(alloc, first)?;
+            let left = boxed_cond(alloc, first)?;
             let second = place_cond(alloc, scope, b, columns, keys, calls)?;
-            let right = boxed(alloc, second)?;
+            let right = boxed_cond(alloc, second)?;
             Ok(CondOf::And(left, right))
         }
         CondOf::Or(a, b) => {
             let first = place_cond(alloc, scope, a, columns, keys, calls)?;
-            let left = boxed(alloc, first)?;
+            let left = boxed_cond(alloc, first)?;
             let second = place_cond(alloc, scope, b, columns, keys, calls)?;
-            let right = boxed(alloc, second)?;
+            let right = boxed_cond(alloc, second)?;
             Ok(CondOf::Or(left, right))
         }
         CondOf::Not(a) => {
             let inner = place_cond(alloc, scope, a, columns, keys, calls)?;
-            Ok(CondOf::Not(boxed(alloc, inner)?))
+            Ok(CondOf::Not(boxed_cond(alloc, inner)?))
         }
     }
 }

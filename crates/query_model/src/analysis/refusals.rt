@@ -1,7 +1,6 @@
 // Why a query is refused: each condition over the whole query, and the first that it meets.
 ghost use Rattle.std.specs.Prelude.{◌≡◌, ◌∷◌, [], flat_map, length, map, IfOk};
-ghost use Rattle.query_model.specs.Refusals.{unknown_table as table_refusal, calls_in, cond_operands, operand_calls, operands_of, total, from_columns, join_pairs, join_tables, output_names, table_columns, text_columns, first_of_all, refusal_of};
-ghost use Rattle.query_model.specs.Placing.{undeclared_table, unknown_among, ambiguous_among, refusal_unless, types_fit_over, not_grouped_over, order_over, width_over};
+ghost use Rattle.query_model.specs.Names.{unknown_table as table_refusal, calls_in, cond_operands, operand_calls, operands_of, total, from_columns, join_pairs, join_tables, output_names, table_columns, text_columns, first_of_all, refusal_of, undeclared_table, unknown_among, ambiguous_among, refusal_unless, types_fit_over, not_grouped_over, order_over, width_over};
 
 use crate::analysis::columns::FromColumn;
 use crate::analysis::groups::{added, count_item_calls, not_grouped};

@@ -1,6 +1,5 @@
 use Rattle.std.proofs.Common.{◌≡◌, map, take}
-use Rattle.chunk_data.specs.Values.{value_at}
-use Rattle.chunk_data.specs.Columns.{kind_of, values}
+use Rattle.chunk_data.specs.Names.{value_at, kind_of, values}
 use Rattle.chunk_data.proofs.column_list.gather_all.Given as goal
 
 abbrev pub invariant-loop-column : goal.invariant-loop-column

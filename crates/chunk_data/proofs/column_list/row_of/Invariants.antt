@@ -1,6 +1,5 @@
 use Rattle.std.proofs.Common.{◌≡◌, map, take}
-use Rattle.chunk_data.specs.Values.{value_at}
-use Rattle.chunk_data.specs.Columns.{values}
+use Rattle.chunk_data.specs.Names.{value_at, values}
 use Rattle.chunk_data.proofs.column_list.row_of.Given as goal
 
 abbrev pub invariant-loop-column : goal.invariant-loop-column

@@ -1,7 +1,6 @@
 use Rattle.std.proofs.Common.{◌≡◌}
 use Rattle.port_word.specs.Pictures.{Picture}
-use Rattle.proc_api.specs.Ports.{FollowsKept}
-use Rattle.proc_api.specs.Clauses.{IsRunning, MaySchedule}
+use Rattle.proc_api.specs.Names.{FollowsKept, IsRunning, MaySchedule}
 use Rattle.csv_procs.specs.PartSeen.{source_seen}
 use Rattle.csv_procs.proofs.tests.fetch_all.Given as goal
 

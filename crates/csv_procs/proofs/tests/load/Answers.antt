@@ -1,8 +1,6 @@
 use Rattle.std.proofs.Common.{Result, Ok, Err, OnOk}
 use Rattle.port_word.specs.Calls.{new_picture}
-use Rattle.proc_api.specs.Boxes.{BoxPicture}
-use Rattle.proc_api.specs.Ports.{FollowsKept}
-use Rattle.proc_api.specs.Clauses.{Loads}
+use Rattle.proc_api.specs.Names.{BoxPicture, FollowsKept, Loads}
 use Rattle.proc_api.specs.declared.status.LoadRefusal.{LoadRefusal}
 use Rattle.query_model.specs.declared.processor_spec.Spec.{Spec}
 use Rattle.proc_api.proofs.Follows.{follows-new}

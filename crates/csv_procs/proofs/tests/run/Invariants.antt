@@ -1,6 +1,5 @@
 use Rattle.std.proofs.Common.{◌≡◌, []}
-use Rattle.proc_api.specs.Ports.{FollowsKept}
-use Rattle.proc_api.specs.Clauses.{IsRunning}
+use Rattle.proc_api.specs.Names.{FollowsKept, IsRunning}
 use Rattle.csv_procs.specs.PartSeen.{source_seen}
 use Rattle.csv_procs.proofs.tests.run.Given as goal
 

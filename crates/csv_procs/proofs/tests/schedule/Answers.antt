@@ -1,9 +1,7 @@
 use Rattle.std.proofs.Common.{Result, Ok, Err, OnOk}
 use Rattle.std.specs.Prelude.{IfOk}
 use Rattle.port_word.specs.Pictures.{Picture}
-use Rattle.proc_api.specs.Boxes.{BoxPicture}
-use Rattle.proc_api.specs.Ports.{FollowsKept}
-use Rattle.proc_api.specs.Clauses.{Schedules}
+use Rattle.proc_api.specs.Names.{BoxPicture, FollowsKept, Schedules}
 use Rattle.proc_api.specs.declared.status.Wake.{Wake}
 use Rattle.proc_api.specs.declared.status.WorkFault.{WorkFault}
 use Rattle.proc_api.proofs.Follows.{follows-same}

@@ -1,9 +1,7 @@
 use Rattle.std.proofs.Common.{◌≡◌, ◌<◌, length, sym, subst, arith}
 use Rattle.port_word.specs.declared.flags.Port.TheVariants.{Input}
-use Rattle.port_word.specs.Pictures.{in_count}
-use Rattle.port_word.specs.Sights.{MaySee, after_see}
-use Rattle.exec_laws.specs.Moves.{lifted, unloaded}
-use Rattle.exec_laws.specs.Runs.{edge_at}
+use Rattle.port_word.specs.Names.{in_count, MaySee, after_see}
+use Rattle.exec_laws.specs.Names.{lifted, unloaded, edge_at}
 use Rattle.std.proofs.Common.{set}
 use Rattle.pipeline_exec.proofs.Seeing.{input-in-range, may-show-input, shows-more, shows-none}
 use Rattle.pipeline_exec.proofs.cell.show_inputs.Goals as goal

@@ -1,6 +1,5 @@
 use Rattle.std.proofs.Common.{subst}
-use Rattle.exec_laws.specs.Moves.{StaysBox}
-use Rattle.exec_laws.specs.Runs.{CellPicture}
+use Rattle.exec_laws.specs.Names.{StaysBox, CellPicture}
 use Rattle.pipeline_exec.specs.Cells.{MayAct}
 use Rattle.pipeline_exec.proofs.Lists.{cell-changed, cell-read}
 use Rattle.pipeline_exec.proofs.Moving.{call-fault, call-ok}

@@ -1,6 +1,5 @@
 use Rattle.std.proofs.Common.{◌≡◌, ◌<◌, ℕ, false}
-use Rattle.exec_laws.specs.Moves.{is_waiting}
-use Rattle.exec_laws.specs.Runs.{cell_at}
+use Rattle.exec_laws.specs.Names.{is_waiting, cell_at}
 use Rattle.pipeline_exec.specs.Cells.{cells_of}
 use Rattle.pipeline_exec.proofs.rounds.is_any_due.Given as goal
 

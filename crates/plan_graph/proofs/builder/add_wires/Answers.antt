@@ -1,7 +1,6 @@
 use Rattle.std.proofs.Common.{◌+◌, ◌<◌, length, ◌++◌, ◌∷◌, [], get_or, ap, sym, ◌∙◌, append_assoc, arith}
 use Rattle.port_word.specs.declared.flags.Wire.{Wire}
-use Rattle.plan_graph.specs.declared.nodes.NodePort.{NodePort}
-use Rattle.plan_graph.specs.Drafts.{wires_to, run_of}
+use Rattle.plan_graph.specs.Names.{NodePort, wires_to, run_of}
 use Rattle.plan_graph.proofs.Building.{wires-more}
 use Rattle.plan_graph.proofs.builder.add_wires.Goals as goal
 

@@ -1,7 +1,6 @@
 use Rattle.std.proofs.Common.{◌≡◌, ◌<◌, ◌≤◌, length, take, ap, sym, ◌∙◌, arith, subst}
 use Rattle.std.proofs.lemmas.List.{length-take-le}
-use Rattle.plan_graph.specs.Drafts.{Draft, no_draft, with_nodes, with_node, FitsDraft}
-use Rattle.plan_graph.specs.declared.nodes.DraftNode.{DraftNode}
+use Rattle.plan_graph.specs.Names.{Draft, no_draft, with_nodes, with_node, FitsDraft, DraftNode}
 use Rattle.plan_graph.proofs.GraphLaws.{ranks-count}
 use Rattle.plan_graph.proofs.Building.{nodes-more, fit-at}
 use Rattle.plan_graph.proofs.builder.build.Goals as goal

@@ -1,12 +1,6 @@
 use Rattle.std.proofs.Common.{◌≡◌, List, flat_map, ◌∙◌, refl, Option, Some, None}
 use Rattle.std.proofs.lemmas.List.{append-nil}
-use Rattle.query_model.specs.Checks.{BothOrNone, IsCheckedJoin}
-use Rattle.query_model.specs.Refusals.{FromColumn, table_columns, join_tables, from_columns}
-use Rattle.query_model.specs.Placing.{IsPlacedJoin}
-use Rattle.query_model.specs.declared.query.Join.{Join}
-use Rattle.query_model.specs.declared.query.Query.{Query}
-use Rattle.query_model.specs.declared.query.Schema.{Schema}
-use Rattle.query_model.specs.declared.checked.CheckedJoin.{CheckedJoin}
+use Rattle.query_model.specs.Names.{BothOrNone, IsCheckedJoin, FromColumn, table_columns, join_tables, from_columns, IsPlacedJoin, Join, Query, Schema, CheckedJoin}
 use Rattle.query_model.proofs.Accepted.{accepted, narrow, narrow_sides, ungrouped_items, are_keys}
 use Rattle.query_model.proofs.TypedGroups.{checked_is_typed}
 use Rattle.query_model.proofs.analysis.checked_query.Goals as goal

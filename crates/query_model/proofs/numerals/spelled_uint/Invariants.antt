@@ -1,6 +1,5 @@
 use Rattle.std.proofs.Common.{◌≡◌, ◌^◌, drop}
-use Rattle.query_model.specs.Fields.{numeral_below}
-use Rattle.query_model.specs.Numerals.{with_digits}
+use Rattle.query_model.specs.Names.{numeral_below, with_digits}
 use Rattle.query_model.proofs.numerals.spelled_uint.Given as goal
 
 abbrev pub invariant-loop-b : goal.invariant-loop-b

@@ -1,6 +1,5 @@
 use Rattle.std.proofs.Common.{◌≡◌, drop}
-use Rattle.chunk_data.specs.Values.{row_cmp}
-use Rattle.chunk_data.specs.Rows.{row_at}
+use Rattle.chunk_data.specs.Names.{row_cmp, row_at}
 use Rattle.chunk_data.proofs.row_chunk.Chunk.compare_rows.Given as goal
 
 abbrev pub invariant-loop-key : goal.invariant-loop-key

@@ -1,8 +1,5 @@
 use Rattle.std.proofs.Common.{◌≡◌, ◌+◌, ◌++◌, [], length, flat_map, map, ap, ◌∙◌, subst, refl, arith}
-use Rattle.query_model.specs.Checks.{BothOrNone, IsPlacedCond, ArePicks, item_calls, calls_of}
-use Rattle.query_model.specs.Refusals.{listed, operands_of}
-use Rattle.query_model.specs.Placing.{place_in, key_place}
-use Rattle.query_model.specs.declared.query.Item.{Item}
+use Rattle.query_model.specs.Names.{BothOrNone, IsPlacedCond, ArePicks, item_calls, calls_of, listed, operands_of, place_in, key_place, Item}
 use Rattle.query_model.proofs.CallLaws.{length_added, both_added, added_to_none}
 use Rattle.query_model.proofs.analysis.groups.made_groups.Goals as goal
 

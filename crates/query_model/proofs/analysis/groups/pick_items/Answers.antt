@@ -1,9 +1,7 @@
 use Rattle.std.proofs.Common.{◌≡◌, ◌+◌, ◌++◌, ◌∷◌, [], length, take, flat_map, ap, sym, ◌∙◌, arith}
 use Rattle.std.proofs.lemmas.List.{take_more, append-nil}
 use Rattle.std.proofs.lemmas.Grind.{flat_map-append}
-use Rattle.query_model.specs.Checks.{item_calls}
-use Rattle.query_model.specs.Placing.{key_place}
-use Rattle.query_model.specs.declared.query.Item.{Item}
+use Rattle.query_model.specs.Names.{item_calls, key_place, Item}
 use Rattle.query_model.proofs.CallLaws.{length_added, both_added, picks_last}
 use Rattle.query_model.proofs.analysis.groups.pick_items.Goals as goal
 

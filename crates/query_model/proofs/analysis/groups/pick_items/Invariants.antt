@@ -1,7 +1,5 @@
 use Rattle.std.proofs.Common.{◌+◌, length, take, flat_map}
-use Rattle.query_model.specs.Checks.{ArePicks, item_calls}
-use Rattle.query_model.specs.Placing.{key_place, AreAdded}
-use Rattle.query_model.specs.declared.query.Item.{Item}
+use Rattle.query_model.specs.Names.{ArePicks, item_calls, key_place, AreAdded, Item}
 use Rattle.query_model.proofs.analysis.groups.pick_items.Given as goal
 
 abbrev pub invariant-loop-item : goal.invariant-loop-item

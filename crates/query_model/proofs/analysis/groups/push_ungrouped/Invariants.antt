@@ -1,7 +1,5 @@
 use Rattle.std.proofs.Common.{◌≡◌, ◌++◌, take, flat_map}
-use Rattle.query_model.specs.Refusals.{not_keys}
-use Rattle.query_model.specs.Placing.{is_key_of}
-use Rattle.query_model.specs.declared.query.Item.{Item}
+use Rattle.query_model.specs.Names.{not_keys, is_key_of, Item}
 use Rattle.query_model.proofs.analysis.groups.push_ungrouped.Given as goal
 
 abbrev pub invariant-loop-item : goal.invariant-loop-item

@@ -1,6 +1,5 @@
 use Rattle.std.proofs.Common.{◌≡◌, ◌++◌, take, flat_map}
-use Rattle.query_model.specs.Refusals.{item_columns}
-use Rattle.query_model.specs.declared.query.Item.{Item}
+use Rattle.query_model.specs.Names.{item_columns, Item}
 use Rattle.query_model.proofs.analysis.names.push_all_items.Given as goal
 
 abbrev pub invariant-loop-item : goal.invariant-loop-item

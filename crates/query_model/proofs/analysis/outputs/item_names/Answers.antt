@@ -1,8 +1,7 @@
 use Rattle.std.proofs.Common.{◌≡◌, ◌+◌, ◌++◌, ◌∷◌, [], length, take, ap, ap₂, sym, ◌∙◌, arith}
 use Rattle.std.proofs.lemmas.List.{take_more}
-use Rattle.query_model.specs.Refusals.{item_names}
+use Rattle.query_model.specs.Names.{item_names, Item}
 use Rattle.query_model.proofs.Placed.{names_last, length-item_names}
-use Rattle.query_model.specs.declared.query.Item.{Item}
 use Rattle.query_model.proofs.analysis.outputs.item_names.Goals as goal
 
 pub loop-item-preserved : goal.loop-item-preserved

@@ -1,7 +1,5 @@
 use Rattle.std.proofs.Common.{◌≡◌, map, take}
-use Rattle.query_model.specs.Refusals.{item_kind}
-use Rattle.query_model.specs.Checks.{known_type}
-use Rattle.query_model.specs.declared.query.Item.{Item}
+use Rattle.query_model.specs.Names.{item_kind, known_type, Item}
 use Rattle.query_model.proofs.analysis.outputs.item_types.Given as goal
 
 abbrev pub invariant-loop-item : goal.invariant-loop-item

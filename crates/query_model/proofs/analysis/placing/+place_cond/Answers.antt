@@ -1,8 +1,6 @@
 use Rattle.std.proofs.Common.{◌≡◌, ◌+◌, length, flat_map, subst, arith}
 use Rattle.std.proofs.lemmas.Grind.{flat_map-append}
-use Rattle.query_model.specs.Refusals.{cond_operands}
-use Rattle.query_model.specs.Checks.{IsPlacedCond, calls_of}
-use Rattle.query_model.specs.Placing.{place_by}
+use Rattle.query_model.specs.Names.{cond_operands, IsPlacedCond, calls_of, place_by}
 use Rattle.query_model.proofs.CallLaws.{length_added, both_added}
 use Rattle.query_model.proofs.analysis.placing.+place_cond.Goals as goal
 

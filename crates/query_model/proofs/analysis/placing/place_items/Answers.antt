@@ -1,8 +1,5 @@
 use Rattle.std.proofs.Common.{subst}
-use Rattle.query_model.specs.Expressions.{Expr}
-use Rattle.query_model.specs.Checks.{IsPlacedItem}
-use Rattle.query_model.specs.Placing.{place_in}
-use Rattle.query_model.specs.declared.query.Item.{Item}
+use Rattle.query_model.specs.Names.{Expr, IsPlacedItem, place_in, Item}
 use Rattle.query_model.proofs.Placed.{each_more}
 use Rattle.query_model.proofs.analysis.placing.place_items.Goals as goal
 

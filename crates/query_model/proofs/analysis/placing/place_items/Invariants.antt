@@ -1,6 +1,5 @@
 use Rattle.std.proofs.Common.{take}
-use Rattle.query_model.specs.Checks.{EachWith, IsPlacedItem}
-use Rattle.query_model.specs.Placing.{place_in}
+use Rattle.query_model.specs.Names.{EachWith, IsPlacedItem, place_in}
 use Rattle.query_model.proofs.analysis.placing.place_items.Given as goal
 
 abbrev pub invariant-loop-item : goal.invariant-loop-item

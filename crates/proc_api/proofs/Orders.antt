@@ -1,0 +1,184 @@
+-- Lists in order, each row against each later one.
+use Rattle.std.proofs.Common.{◌≡◌, ℕ, zero, suc, ◌+◌, ◌<◌, Bool, true, false, cond, List, [], ◌∷◌, ◌++◌, length, get_or, refl, subst, arith, IsPermutation}
+use Rattle.std.specs.Prelude.{IsSortedBy}
+use Rattle.std.specs.Cmp.{IsStrictWeakOrder}
+use Rattle.std.specs.Ordering.{is_lt}
+use Rattle.std.specs.List.{AllByRecursion, Contains}
+use Rattle.std.proofs.lemmas.List.Elements.{recursion_from_All, All-from_recursion, All-contains}
+use Rattle.std.proofs.lemmas.List.Sorted.{All-permutation, sorted_far, ranks_by, IsPermutation-refl, IsPermutation-cons, IsPermutation-trans, IsPermutation-append_left, IsPermutation-append_comm}
+use Rattle.chunk_data.specs.Values.{Row, row_cmp}
+use Rattle.chunk_data.specs.declared.typed_value.SortKey.{SortKey}
+use Rattle.query_model.proofs.AnswerLaws.{row_cmp_total}
+
+-- y doesn't come before any of these
+abbrev pub NotBefore : (Row → Row → Bool) → Row → List Row → Type 0
+NotBefore lt y xs = AllByRecursion (λ x. lt y x ≡ false) xs
+
+-- no later row comes before an earlier one
+abbrev pub InOrder : (Row → Row → Bool) → List Row → Type 0
+InOrder lt [] = Unit {0}
+InOrder lt (x ∷ xs) = AllByRecursion (λ y. lt y x ≡ false) xs × InOrder lt xs
+
+pub every-append : {X : Type 0} (P : X → Type 0) (xs ys : List X) → AllByRecursion P xs
+    → AllByRecursion P ys → AllByRecursion P (xs ++ ys)
+every-append P [] ys h k = k
+every-append P (x ∷ xs) ys h k = (h.0, every-append P xs ys h.1 k)
+
+pub every-front : {X : Type 0} (P : X → Type 0) (xs ys : List X) → AllByRecursion P (xs ++ ys)
+    → AllByRecursion P xs
+every-front P [] ys h = tt
+every-front P (x ∷ xs) ys h = (h.0, every-front P xs ys h.1)
+
+pub every-back : {X : Type 0} (P : X → Type 0) (xs ys : List X) → AllByRecursion P (xs ++ ys)
+    → AllByRecursion P ys
+every-back P [] ys h = h
+every-back P (x ∷ xs) ys h = every-back P xs ys h.1
+
+pub every-weaker : {X : Type 0} (P Q : X → Type 0) → ((x : X) → P x → Q x) → (xs : List X)
+    → AllByRecursion P xs → AllByRecursion Q xs
+every-weaker P Q f [] h = tt
+every-weaker P Q f (x ∷ xs) h = (f x h.0, every-weaker P Q f xs h.1)
+
+pub every-permuted : {X : Type 0} (P : X → Type 0) (xs ys : List X) → IsPermutation xs ys
+    → AllByRecursion P xs → AllByRecursion P ys
+every-permuted P xs ys p h =
+    recursion_from_All P ys (All-permutation P xs ys p (All-from_recursion P xs h))
+
+-- the same of each pair, whichever goes first
+pub every-turned : {X Y : Type 0} (R : X → Y → Type 0) (xs : List X) (ys : List Y)
+    → AllByRecursion (λ x. AllByRecursion (R x) ys) xs
+    → AllByRecursion (λ y. AllByRecursion (λ x. R x y) xs) ys
+every-turned R xs [] h = tt
+every-turned R xs (y ∷ ys) h = (
+  every-weaker (λ x. AllByRecursion (R x) (y ∷ ys)) (λ x. R x y) (λ x a. a.0) xs h,
+  every-turned R xs ys (every-weaker (λ x. AllByRecursion (R x) (y ∷ ys))
+      (λ x. AllByRecursion (R x) ys) (λ x a. a.1) xs h),
+)
+
+pub every-none : {X Y : Type 0} (R : Y → X → Type 0) (ys : List Y)
+    → AllByRecursion (λ y. AllByRecursion (R y) []) ys
+every-none R [] = tt
+every-none R (y ∷ ys) = (tt, every-none R ys)
+
+module _ (lt : Row → Row → Bool) (o : IsStrictWeakOrder lt) where
+  pub order-joined : (xs ys : List Row) → InOrder lt xs → InOrder lt ys
+      → AllByRecursion (λ y. AllByRecursion (λ x. lt y x ≡ false) xs) ys → InOrder lt (xs ++ ys)
+  order-joined [] ys h k cross = k
+  order-joined (x ∷ xs) ys h k cross = (
+    every-append (λ y. lt y x ≡ false) xs ys h.0
+        (every-weaker (λ y. AllByRecursion (λ z. lt y z ≡ false) (x ∷ xs)) (λ y. lt y x ≡ false)
+        (λ y c. c.0) ys cross),
+    order-joined xs ys h.1 k (every-weaker (λ y. AllByRecursion (λ z. lt y z ≡ false) (x ∷ xs))
+        (λ y. AllByRecursion (λ z. lt y z ≡ false) xs) (λ y c. c.1) ys cross),
+  )
+
+  pub order-back : (xs ys : List Row) → InOrder lt (xs ++ ys) → InOrder lt ys
+  order-back [] ys h = h
+  order-back (x ∷ xs) ys h = order-back xs ys h.1
+
+  pub order-front : (xs ys : List Row) → InOrder lt (xs ++ ys) → InOrder lt xs
+  order-front [] ys h = tt
+  order-front (x ∷ xs) ys h = (every-front (λ y. lt y x ≡ false) xs ys h.0, order-front xs ys h.1)
+
+  -- what stands behind a front isn't before any of its rows
+  pub order-cross : (xs ys : List Row) → InOrder lt (xs ++ ys)
+      → AllByRecursion (λ x. AllByRecursion (λ y. lt y x ≡ false) ys) xs
+  order-cross [] ys h = tt
+  order-cross (x ∷ xs) ys h = (every-back (λ y. lt y x ≡ false) xs ys h.0, order-cross xs ys h.1)
+
+  sorted-tail : (x : Row) (xs : List Row) → IsSortedBy lt (x ∷ xs) → IsSortedBy lt xs
+  sorted-tail x xs h k d low high =
+      let next : suc k + 1 ≡ suc (k + 1) = omega arith in
+      subst (λ j. lt (get_or (x ∷ xs) j d) (get_or xs k d) ≡ false) next
+      (h (suc k) d (omega arith) (omega (arith, high)))
+
+  pub order-from_sorted : (xs : List Row) → IsSortedBy lt xs → InOrder lt xs
+  order-from_sorted [] h = tt
+  order-from_sorted (x ∷ xs) h = (
+    recursion_from_All (λ y. lt y x ≡ false) xs (λ k d less. sorted_far lt o (x ∷ xs) h 0 (suc k) d
+        (omega arith) (omega (arith, less))),
+    order-from_sorted xs (sorted-tail x xs h),
+  )
+
+  neighbours : (xs : List Row) → InOrder lt xs → (k : ℕ) (d : Row) → suc k < length xs
+      → lt (get_or xs (suc k) d) (get_or xs k d) ≡ false
+  neighbours [] h k d less = absurd (omega (arith, less))
+  neighbours (x ∷ []) h k d less = absurd (omega (arith, less))
+  neighbours (x ∷ y ∷ xs) h zero d less = h.0.0
+  neighbours (x ∷ y ∷ xs) h (suc k) d less = neighbours (y ∷ xs) h.1 k d (omega (arith, less))
+
+  pub sorted-from_order : (xs : List Row) → InOrder lt xs → IsSortedBy lt xs
+  sorted-from_order xs h k d low high =
+      let next : suc k ≡ k + 1 = omega arith in
+      subst (λ j. lt (get_or xs j d) (get_or xs k d) ≡ false) next
+      (neighbours xs h k d (omega (arith, high)))
+
+  -- ---- an order of any rows
+
+  inserted : Row → List Row → List Row
+  inserted x [] = x ∷ []
+  inserted x (y ∷ ys) = cond (lt y x) (y ∷ inserted x ys) (x ∷ y ∷ ys)
+
+  pub ordered : List Row → List Row
+  ordered [] = []
+  ordered (x ∷ xs) = inserted x (ordered xs)
+
+  swapped-heads : (x y : Row) (xs : List Row) → IsPermutation (x ∷ y ∷ xs) (y ∷ x ∷ xs)
+  swapped-heads x y xs = IsPermutation-append_left xs (x ∷ y ∷ []) (y ∷ x ∷ [])
+      (IsPermutation-append_comm (x ∷ []) (y ∷ []))
+
+  inserted-same : (x : Row) (ys : List Row) → IsPermutation (x ∷ ys) (inserted x ys)
+  unfolding inserted
+  inserted-same x [] = IsPermutation-refl (x ∷ [])
+  inserted-same x (y ∷ ys) =
+      elim (lt y x) as (λ b. IsPermutation (x ∷ y ∷ ys) (cond b (y ∷ inserted x ys) (x ∷ y ∷ ys))) [
+        | true ↦ IsPermutation-trans _ _ _ (swapped-heads x y ys)
+            (IsPermutation-cons y _ _ (inserted-same x ys))
+        | false ↦ IsPermutation-refl _
+      ]
+
+  inserted-order : (x : Row) (ys : List Row) → InOrder lt ys → InOrder lt (inserted x ys)
+  unfolding inserted
+  inserted-order x [] h = (tt, tt)
+  inserted-order x (y ∷ ys) h = go (lt y x) refl (inserted-order x ys h.1)
+    where
+      go : (b : Bool) → lt y x ≡ b → InOrder lt (inserted x ys)
+          → InOrder lt (cond b (y ∷ inserted x ys) (x ∷ y ∷ ys))
+      go true e more = (
+        every-permuted (λ z. lt z y ≡ false) (x ∷ ys) (inserted x ys) (inserted-same x ys)
+            (o.one_way y x e, h.0),
+        more,
+      )
+      go false e more = (
+        (
+          e,
+          every-weaker (λ z. lt z y ≡ false) (λ z. lt z x ≡ false) (λ z k. o.chain z y x k e)
+              ys h.0,
+        ),
+        h,
+      )
+
+  pub ordered-none : ordered [] ≡ []
+  unfolding ordered
+  ordered-none = refl
+
+  pub ordered-same : (xs : List Row) → IsPermutation xs (ordered xs)
+  unfolding ordered
+  ordered-same [] = IsPermutation-refl []
+  ordered-same (x ∷ xs) = IsPermutation-trans _ _ _ (IsPermutation-cons x _ _ (ordered-same xs))
+      (inserted-same x (ordered xs))
+
+  pub ordered-order : (xs : List Row) → InOrder lt (ordered xs)
+  unfolding ordered
+  ordered-order [] = tt
+  ordered-order (x ∷ xs) = inserted-order x (ordered xs) (ordered-order xs)
+
+pub every-contains : {X : Type 0} (P : X → Type 0) (xs : List X) (x : X) → AllByRecursion P xs
+    → Contains xs x → P x
+every-contains P xs x h c = All-contains P xs x (All-from_recursion P xs h) c
+
+pub row_lt : List SortKey → Row → Row → Bool
+row_lt = λ keys a b. is_lt (row_cmp keys a b)
+
+pub rows-ordered : (keys : List SortKey) → IsStrictWeakOrder (λ a b. is_lt (row_cmp keys a b))
+rows-ordered keys = ranks_by (row_cmp_total keys) (λ (r : Row). r)
