@@ -3,10 +3,9 @@ use Rattle.std.proofs.Common.{◌≡◌, ℕ, Bool, true, false, List, map, refl
 use Rattle.std.specs.Int.{int_wrap, w64}
 use Rattle.chunk_data.specs.declared.typed_value.Value.TheVariants.{Int, UInt}
 use Rattle.chunk_data.specs.declared.typed_value.ColumnType.TheVariants as column
+use Rattle.query_model.specs.Names.{wrapped, exact_result, arith_value, plain_value}
 use Rattle.query_model.specs.declared.query.ArithOp.{ArithOp}
 use Rattle.query_model.specs.declared.query.ArithOp.TheVariants.{Add, Sub, Mul}
-use Rattle.query_model.specs.Numbers.{wrapped}
-use Rattle.query_model.specs.Expressions.{exact_result, arith_value, plain_value}
 use Rattle.expr_eval.specs.Results.{residue, sided, result_type}
 use Rattle.std.specs.List.{zip}
 use Rattle.expr_eval.proofs.Onto.{map-map, same_maps, zip-map}

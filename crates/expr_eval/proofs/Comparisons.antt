@@ -8,11 +8,9 @@ use Rattle.std.specs.Cmp.{int_cmp_total}
 use Rattle.chunk_data.specs.Values.{type_of as type_of_value}
 use Rattle.chunk_data.specs.declared.typed_value.Value.{Value}
 use Rattle.chunk_data.specs.declared.typed_value.Value.TheVariants.{Int, UInt, Text}
+use Rattle.query_model.specs.Names.{exact, compared, passes, plain_value, is_text}
 use Rattle.query_model.specs.declared.query.CompareOp.{CompareOp}
 use Rattle.query_model.specs.declared.query.CompareOp.TheVariants.{Eq, Ne, Lt, Le, Gt, Ge}
-use Rattle.query_model.specs.Numbers.{exact}
-use Rattle.query_model.specs.Expressions.{compared, passes, plain_value}
-use Rattle.query_model.specs.Typing.{is_text}
 use Rattle.expr_eval.specs.Results.{flipped}
 
 passes-reverse : (op : CompareOp) (o : Ordering) → passes (flipped op) (ordering_reverse o) ≡ passes op o

@@ -1,15 +1,13 @@
 -- The operands of typed arithmetic.
 use Rattle.std.proofs.Common.{◌≡◌, Bool, true, false, List, map, refl, ap, subst, ℤ, pos, negsuc, Option, Some, None, if◌then◌else◌}
-use Rattle.chunk_data.specs.Values.{Row, Table, type_of as type_of_value}
-use Rattle.chunk_data.specs.Columns.{kind_of, values}
+use Rattle.chunk_data.specs.Names.{Row, Table, type_of as type_of_value, kind_of, values}
 use Rattle.chunk_data.specs.declared.typed_value.ColumnType.{ColumnType}
-use Rattle.chunk_data.specs.declared.typed_value.ColumnType.TheVariants as column
 use Rattle.chunk_data.specs.declared.typed_column.Column.{Column}
+use Rattle.chunk_data.specs.declared.typed_value.ColumnType.TheVariants as column
+use Rattle.query_model.specs.Names.{Expr, value_of, type_of, plain_value, plain_of, CanHold, AreNumbersAlike, AreAlike}
 use Rattle.query_model.specs.declared.query.ArithOp.{ArithOp}
 use Rattle.query_model.specs.declared.query.ArithOp.TheVariants.{Add, Sub, Mul}
 use Rattle.query_model.specs.declared.query.ExprOf.TheVariants as expr
-use Rattle.query_model.specs.Expressions.{Expr, value_of, type_of, plain_value}
-use Rattle.query_model.specs.Typing.{plain_of, CanHold, AreNumbersAlike, AreAlike}
 use Rattle.expr_eval.specs.Results.{IsMade, arith_type, result_type}
 
 pub plain_before : (p q : Option ℤ) (s t : ColumnType) (z : ℤ) → p ≡ Some z → AreAlike p s q t → (q ≡ None) × CanHold t z

@@ -1,16 +1,15 @@
 -- What operators give at each pair of values.
 use Rattle.std.specs.Prelude.{◌≡◌, ℕ, ◌^◌, ℤ, pos, unsigned_abs, Bool, true, false, map, Option, Some, None, if◌then◌else◌}
 use Rattle.std.specs.Int.{int_rem_euclid}
-use Rattle.chunk_data.specs.Values.{Table}
-use Rattle.chunk_data.specs.Columns.{kind_of, values}
+use Rattle.chunk_data.specs.Names.{Table, kind_of, values}
 use Rattle.chunk_data.specs.declared.typed_value.ColumnType.{ColumnType}
-use Rattle.chunk_data.specs.declared.typed_value.ColumnType.TheVariants as column
 use Rattle.chunk_data.specs.declared.typed_column.Column.{Column}
+use Rattle.chunk_data.specs.declared.typed_value.ColumnType.TheVariants as column
+use Rattle.query_model.specs.Expressions.{Expr, value_of, type_of, gives_uint, is_uint_column}
 use Rattle.query_model.specs.declared.query.ArithOp.{ArithOp}
 use Rattle.query_model.specs.declared.query.CompareOp.{CompareOp}
 use Rattle.query_model.specs.declared.query.CompareOp.TheVariants as compare
 use Rattle.query_model.specs.declared.query.ExprOf.TheVariants as expr
-use Rattle.query_model.specs.Expressions.{Expr, value_of, type_of, gives_uint, is_uint_column}
 
 -- the number from 0 to 2 ^ 64 - 1 that equals z modulo 2 ^ 64
 abbrev pub residue : ℤ → ℕ

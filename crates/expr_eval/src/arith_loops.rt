@@ -11,6 +11,33 @@ use query_model::arithmetic::{add_int, add_uint, mul_int, mul_uint, sub_int, sub
 use query_model::query::ArithOp;
 use std::alloc::Global;
 
+// The results at each pair, in a loop for each operator.
+macro_rules! each_pair {
+    ($alloc:expr, $op:expr, $xs:expr, $ys:expr, $result:ident) => {{
+        let pairs = $xs.iter().zip($ys.iter());
+        match $op {
+            ArithOp::Add => Ok(pairs.map(|(x, y)| $result(ArithOp::Add, *x, *y)).collect($alloc)?),
+            ArithOp::Sub => Ok(pairs.map(|(x, y)| $result(ArithOp::Sub, *x, *y)).collect($alloc)?),
+            ArithOp::Mul => Ok(pairs.map(|(x, y)| $result(ArithOp::Mul, *x, *y)).collect($alloc)?),
+        }
+    }};
+}
+
+// The same at each number and one more, which is written in front where `swapped` is true.
+macro_rules! each_beside {
+    ($alloc:expr, $op:expr, $swapped:expr, $xs:expr, $y:expr, $result:ident) => {{
+        let all = $xs.iter();
+        match ($op, $swapped) {
+            (ArithOp::Add, true) => Ok(all.map(|x| $result(ArithOp::Add, $y, *x)).collect($alloc)?),
+            (ArithOp::Add, false) => Ok(all.map(|x| $result(ArithOp::Add, *x, $y)).collect($alloc)?),
+            (ArithOp::Sub, true) => Ok(all.map(|x| $result(ArithOp::Sub, $y, *x)).collect($alloc)?),
+            (ArithOp::Sub, false) => Ok(all.map(|x| $result(ArithOp::Sub, *x, $y)).collect($alloc)?),
+            (ArithOp::Mul, true) => Ok(all.map(|x| $result(ArithOp::Mul, $y, *x)).collect($alloc)?),
+            (ArithOp::Mul, false) => Ok(all.map(|x| $result(ArithOp::Mul, *x, $y)).collect($alloc)?),
+        }
+    }};
+}
+
 /// The result of Int64, modulo 2^64.
 #[inline(always)]
 #[tactic(auto, unfolding(query_model::specs::Numbers::wrapped))]
@@ -83,26 +110,7 @@ pub(crate) fn int_results(
 ) -> Result<Vec<i64>, Memory>
     ensures { IfOk result (λ v. v.items ≡ map (λ p. int_wrap w64 (exact_result op p.0 p.1)) (zip xs.now ys.now)) }
 {
-    match op {
-        ArithOp::Add => Ok(
-            xs.iter()
-                .zip(ys.iter())
-                .map(|(x, y)| int_result(ArithOp::Add, *x, *y))
-                .collect(alloc)?,
-        ),
-        ArithOp::Sub => Ok(
-            xs.iter()
-                .zip(ys.iter())
-                .map(|(x, y)| int_result(ArithOp::Sub, *x, *y))
-                .collect(alloc)?,
-        ),
-        ArithOp::Mul => Ok(
-            xs.iter()
-                .zip(ys.iter())
-                .map(|(x, y)| int_result(ArithOp::Mul, *x, *y))
-                .collect(alloc)?,
-        ),
-    }
+    each_pair!(alloc, op, xs, ys, int_result)
 }
 
 /// The results at each pair.
@@ -114,26 +122,7 @@ pub(crate) fn uint_results(
 ) -> Result<Vec<u64>, Memory>
     ensures { IfOk result (λ v. v.items ≡ map (λ p. residue (exact_result op (pos p.0) (pos p.1))) (zip xs.now ys.now)) }
 {
-    match op {
-        ArithOp::Add => Ok(
-            xs.iter()
-                .zip(ys.iter())
-                .map(|(x, y)| uint_result(ArithOp::Add, *x, *y))
-                .collect(alloc)?,
-        ),
-        ArithOp::Sub => Ok(
-            xs.iter()
-                .zip(ys.iter())
-                .map(|(x, y)| uint_result(ArithOp::Sub, *x, *y))
-                .collect(alloc)?,
-        ),
-        ArithOp::Mul => Ok(
-            xs.iter()
-                .zip(ys.iter())
-                .map(|(x, y)| uint_result(ArithOp::Mul, *x, *y))
-                .collect(alloc)?,
-        ),
-    }
+    each_pair!(alloc, op, xs, ys, uint_result)
 }
 
 /// The results at each number and one more, which is written in front where `swapped` is true.
@@ -146,38 +135,7 @@ pub(crate) fn int_results_beside(
 ) -> Result<Vec<i64>, Memory>
     ensures { IfOk result (λ v. v.items ≡ map (λ x. int_wrap w64 (sided swapped (exact_result op) x y)) xs.now) }
 {
-    match (op, swapped) {
-        (ArithOp::Add, true) => Ok(
-            xs.iter()
-                .map(|x| int_result(ArithOp::Add, y, *x))
-                .collect(alloc)?,
-        ),
-        (ArithOp::Add, false) => Ok(
-            xs.iter()
-                .map(|x| int_result(ArithOp::Add, *x, y))
-                .collect(alloc)?,
-        ),
-        (ArithOp::Sub, true) => Ok(
-            xs.iter()
-                .map(|x| int_result(ArithOp::Sub, y, *x))
-                .collect(alloc)?,
-        ),
-        (ArithOp::Sub, false) => Ok(
-            xs.iter()
-                .map(|x| int_result(ArithOp::Sub, *x, y))
-                .collect(alloc)?,
-        ),
-        (ArithOp::Mul, true) => Ok(
-            xs.iter()
-                .map(|x| int_result(ArithOp::Mul, y, *x))
-                .collect(alloc)?,
-        ),
-        (ArithOp::Mul, false) => Ok(
-            xs.iter()
-                .map(|x| int_result(ArithOp::Mul, *x, y))
-                .collect(alloc)?,
-        ),
-    }
+    each_beside!(alloc, op, swapped, xs, y, int_result)
 }
 
 /// The results at each number and one more, which is written in front where `swapped` is true.
@@ -190,38 +148,7 @@ pub(crate) fn uint_results_beside(
 ) -> Result<Vec<u64>, Memory>
     ensures { IfOk result (λ v. v.items ≡ map (λ x. residue (sided swapped (exact_result op) (pos x) (pos y))) xs.now) }
 {
-    match (op, swapped) {
-        (ArithOp::Add, true) => Ok(
-            xs.iter()
-                .map(|x| uint_result(ArithOp::Add, y, *x))
-                .collect(alloc)?,
-        ),
-        (ArithOp::Add, false) => Ok(
-            xs.iter()
-                .map(|x| uint_result(ArithOp::Add, *x, y))
-                .collect(alloc)?,
-        ),
-        (ArithOp::Sub, true) => Ok(
-            xs.iter()
-                .map(|x| uint_result(ArithOp::Sub, y, *x))
-                .collect(alloc)?,
-        ),
-        (ArithOp::Sub, false) => Ok(
-            xs.iter()
-                .map(|x| uint_result(ArithOp::Sub, *x, y))
-                .collect(alloc)?,
-        ),
-        (ArithOp::Mul, true) => Ok(
-            xs.iter()
-                .map(|x| uint_result(ArithOp::Mul, y, *x))
-                .collect(alloc)?,
-        ),
-        (ArithOp::Mul, false) => Ok(
-            xs.iter()
-                .map(|x| uint_result(ArithOp::Mul, *x, y))
-                .collect(alloc)?,
-        ),
-    }
+    each_beside!(alloc, op, swapped, xs, y, uint_result)
 }
 
 #[inline(always)]

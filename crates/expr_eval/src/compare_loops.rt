@@ -12,6 +12,36 @@ use query_model::query::{CompareOp, Number};
 use std::alloc::Global;
 use std::cmp::Ordering;
 
+// The comparison at each pair, in a loop for each comparison.
+macro_rules! each_pair {
+    ($alloc:expr, $op:expr, $xs:expr, $ys:expr, $test:ident) => {{
+        let pairs = $xs.iter().zip($ys.iter());
+        match $op {
+            CompareOp::Eq => Ok(pairs.map(|(x, y)| $test(CompareOp::Eq, *x, *y)).collect($alloc)?),
+            CompareOp::Ne => Ok(pairs.map(|(x, y)| $test(CompareOp::Ne, *x, *y)).collect($alloc)?),
+            CompareOp::Lt => Ok(pairs.map(|(x, y)| $test(CompareOp::Lt, *x, *y)).collect($alloc)?),
+            CompareOp::Le => Ok(pairs.map(|(x, y)| $test(CompareOp::Le, *x, *y)).collect($alloc)?),
+            CompareOp::Gt => Ok(pairs.map(|(x, y)| $test(CompareOp::Gt, *x, *y)).collect($alloc)?),
+            CompareOp::Ge => Ok(pairs.map(|(x, y)| $test(CompareOp::Ge, *x, *y)).collect($alloc)?),
+        }
+    }};
+}
+
+// The same at each element and one more.
+macro_rules! each_beside {
+    ($alloc:expr, $op:expr, $xs:expr, $y:expr, $test:ident) => {{
+        let all = $xs.iter();
+        match $op {
+            CompareOp::Eq => Ok(all.map(|x| $test(CompareOp::Eq, *x, $y)).collect($alloc)?),
+            CompareOp::Ne => Ok(all.map(|x| $test(CompareOp::Ne, *x, $y)).collect($alloc)?),
+            CompareOp::Lt => Ok(all.map(|x| $test(CompareOp::Lt, *x, $y)).collect($alloc)?),
+            CompareOp::Le => Ok(all.map(|x| $test(CompareOp::Le, *x, $y)).collect($alloc)?),
+            CompareOp::Gt => Ok(all.map(|x| $test(CompareOp::Gt, *x, $y)).collect($alloc)?),
+            CompareOp::Ge => Ok(all.map(|x| $test(CompareOp::Ge, *x, $y)).collect($alloc)?),
+        }
+    }};
+}
+
 /// The comparison of the same two operands written the other way round.
 pub(crate) fn flip(op: CompareOp) -> CompareOp
     ensures { result ≡ flipped op }
@@ -161,44 +191,7 @@ pub(crate) fn int_mask(
 ) -> Result<Vec<bool>, Memory>
     ensures { IfOk result (λ v. v.items ≡ map (λ p. passes op (int_cmp p.0 p.1)) (zip xs.now ys.now)) }
 {
-    match op {
-        CompareOp::Eq => Ok(
-            xs.iter()
-                .zip(ys.iter())
-                .map(|(x, y)| int_passes(CompareOp::Eq, *x, *y))
-                .collect(alloc)?,
-        ),
-        CompareOp::Ne => Ok(
-            xs.iter()
-                .zip(ys.iter())
-                .map(|(x, y)| int_passes(CompareOp::Ne, *x, *y))
-                .collect(alloc)?,
-        ),
-        CompareOp::Lt => Ok(
-            xs.iter()
-                .zip(ys.iter())
-                .map(|(x, y)| int_passes(CompareOp::Lt, *x, *y))
-                .collect(alloc)?,
-        ),
-        CompareOp::Le => Ok(
-            xs.iter()
-                .zip(ys.iter())
-                .map(|(x, y)| int_passes(CompareOp::Le, *x, *y))
-                .collect(alloc)?,
-        ),
-        CompareOp::Gt => Ok(
-            xs.iter()
-                .zip(ys.iter())
-                .map(|(x, y)| int_passes(CompareOp::Gt, *x, *y))
-                .collect(alloc)?,
-        ),
-        CompareOp::Ge => Ok(
-            xs.iter()
-                .zip(ys.iter())
-                .map(|(x, y)| int_passes(CompareOp::Ge, *x, *y))
-                .collect(alloc)?,
-        ),
-    }
+    each_pair!(alloc, op, xs, ys, int_passes)
 }
 
 /// The comparison at each pair of UInt64.
@@ -210,44 +203,7 @@ pub(crate) fn uint_mask(
 ) -> Result<Vec<bool>, Memory>
     ensures { IfOk result (λ v. v.items ≡ map (λ p. passes op (int_cmp (pos p.0) (pos p.1))) (zip xs.now ys.now)) }
 {
-    match op {
-        CompareOp::Eq => Ok(
-            xs.iter()
-                .zip(ys.iter())
-                .map(|(x, y)| uint_passes(CompareOp::Eq, *x, *y))
-                .collect(alloc)?,
-        ),
-        CompareOp::Ne => Ok(
-            xs.iter()
-                .zip(ys.iter())
-                .map(|(x, y)| uint_passes(CompareOp::Ne, *x, *y))
-                .collect(alloc)?,
-        ),
-        CompareOp::Lt => Ok(
-            xs.iter()
-                .zip(ys.iter())
-                .map(|(x, y)| uint_passes(CompareOp::Lt, *x, *y))
-                .collect(alloc)?,
-        ),
-        CompareOp::Le => Ok(
-            xs.iter()
-                .zip(ys.iter())
-                .map(|(x, y)| uint_passes(CompareOp::Le, *x, *y))
-                .collect(alloc)?,
-        ),
-        CompareOp::Gt => Ok(
-            xs.iter()
-                .zip(ys.iter())
-                .map(|(x, y)| uint_passes(CompareOp::Gt, *x, *y))
-                .collect(alloc)?,
-        ),
-        CompareOp::Ge => Ok(
-            xs.iter()
-                .zip(ys.iter())
-                .map(|(x, y)| uint_passes(CompareOp::Ge, *x, *y))
-                .collect(alloc)?,
-        ),
-    }
+    each_pair!(alloc, op, xs, ys, uint_passes)
 }
 
 /// The comparison at each pair of an Int64 and a UInt64.
@@ -259,44 +215,7 @@ pub(crate) fn int_uint_mask(
 ) -> Result<Vec<bool>, Memory>
     ensures { IfOk result (λ v. v.items ≡ map (λ p. passes op (int_cmp p.0 (pos p.1))) (zip xs.now ys.now)) }
 {
-    match op {
-        CompareOp::Eq => Ok(
-            xs.iter()
-                .zip(ys.iter())
-                .map(|(x, y)| int_uint_passes(CompareOp::Eq, *x, *y))
-                .collect(alloc)?,
-        ),
-        CompareOp::Ne => Ok(
-            xs.iter()
-                .zip(ys.iter())
-                .map(|(x, y)| int_uint_passes(CompareOp::Ne, *x, *y))
-                .collect(alloc)?,
-        ),
-        CompareOp::Lt => Ok(
-            xs.iter()
-                .zip(ys.iter())
-                .map(|(x, y)| int_uint_passes(CompareOp::Lt, *x, *y))
-                .collect(alloc)?,
-        ),
-        CompareOp::Le => Ok(
-            xs.iter()
-                .zip(ys.iter())
-                .map(|(x, y)| int_uint_passes(CompareOp::Le, *x, *y))
-                .collect(alloc)?,
-        ),
-        CompareOp::Gt => Ok(
-            xs.iter()
-                .zip(ys.iter())
-                .map(|(x, y)| int_uint_passes(CompareOp::Gt, *x, *y))
-                .collect(alloc)?,
-        ),
-        CompareOp::Ge => Ok(
-            xs.iter()
-                .zip(ys.iter())
-                .map(|(x, y)| int_uint_passes(CompareOp::Ge, *x, *y))
-                .collect(alloc)?,
-        ),
-    }
+    each_pair!(alloc, op, xs, ys, int_uint_passes)
 }
 
 /// The comparison at each Int64 and one more.
@@ -308,38 +227,7 @@ pub(crate) fn int_mask_beside(
 ) -> Result<Vec<bool>, Memory>
     ensures { IfOk result (λ v. v.items ≡ map (λ x. passes op (int_cmp x y)) xs.now) }
 {
-    match op {
-        CompareOp::Eq => Ok(
-            xs.iter()
-                .map(|x| int_passes(CompareOp::Eq, *x, y))
-                .collect(alloc)?,
-        ),
-        CompareOp::Ne => Ok(
-            xs.iter()
-                .map(|x| int_passes(CompareOp::Ne, *x, y))
-                .collect(alloc)?,
-        ),
-        CompareOp::Lt => Ok(
-            xs.iter()
-                .map(|x| int_passes(CompareOp::Lt, *x, y))
-                .collect(alloc)?,
-        ),
-        CompareOp::Le => Ok(
-            xs.iter()
-                .map(|x| int_passes(CompareOp::Le, *x, y))
-                .collect(alloc)?,
-        ),
-        CompareOp::Gt => Ok(
-            xs.iter()
-                .map(|x| int_passes(CompareOp::Gt, *x, y))
-                .collect(alloc)?,
-        ),
-        CompareOp::Ge => Ok(
-            xs.iter()
-                .map(|x| int_passes(CompareOp::Ge, *x, y))
-                .collect(alloc)?,
-        ),
-    }
+    each_beside!(alloc, op, xs, y, int_passes)
 }
 
 /// The comparison at each UInt64 and one more.
@@ -351,38 +239,7 @@ pub(crate) fn uint_mask_beside(
 ) -> Result<Vec<bool>, Memory>
     ensures { IfOk result (λ v. v.items ≡ map (λ x. passes op (int_cmp (pos x) (pos y))) xs.now) }
 {
-    match op {
-        CompareOp::Eq => Ok(
-            xs.iter()
-                .map(|x| uint_passes(CompareOp::Eq, *x, y))
-                .collect(alloc)?,
-        ),
-        CompareOp::Ne => Ok(
-            xs.iter()
-                .map(|x| uint_passes(CompareOp::Ne, *x, y))
-                .collect(alloc)?,
-        ),
-        CompareOp::Lt => Ok(
-            xs.iter()
-                .map(|x| uint_passes(CompareOp::Lt, *x, y))
-                .collect(alloc)?,
-        ),
-        CompareOp::Le => Ok(
-            xs.iter()
-                .map(|x| uint_passes(CompareOp::Le, *x, y))
-                .collect(alloc)?,
-        ),
-        CompareOp::Gt => Ok(
-            xs.iter()
-                .map(|x| uint_passes(CompareOp::Gt, *x, y))
-                .collect(alloc)?,
-        ),
-        CompareOp::Ge => Ok(
-            xs.iter()
-                .map(|x| uint_passes(CompareOp::Ge, *x, y))
-                .collect(alloc)?,
-        ),
-    }
+    each_beside!(alloc, op, xs, y, uint_passes)
 }
 
 /// The comparison at each text and one more.

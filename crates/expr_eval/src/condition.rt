@@ -2,8 +2,7 @@ ghost use Rattle.std.specs.Prelude.{◌≡◌, pos, length, map, IfOk, IfSome, N
 ghost use Rattle.std.specs.List.{zip};
 ghost use Rattle.std.specs.Ordering.{int_cmp};
 ghost use Rattle.chunk_data.specs.Columns.{kind_of, values};
-ghost use Rattle.query_model.specs.Expressions.{value_of, type_of, operand_value, holds, number_of, plain_value, passes, compared};
-ghost use Rattle.query_model.specs.Typing.{IsTyped, IsTypedOperand, IsTypedCond, operand_type, is_text, plain_of};
+ghost use Rattle.query_model.specs.Names.{value_of, type_of, operand_value, holds, number_of, plain_value, passes, compared, IsTyped, IsTypedOperand, IsTypedCond, operand_type, is_text, plain_of};
 
 use crate::compare_loops::{
     both, either, filled, flip, int_far_mask, int_mask, int_mask_beside, int_uint_mask, negated,

@@ -2,8 +2,7 @@ ghost use Rattle.std.specs.Prelude.{◌≡◌, pos, length, map, IfOk, None, Som
 ghost use Rattle.std.specs.Option.{option_map};
 ghost use Rattle.std.specs.List.{zip};
 ghost use Rattle.chunk_data.specs.Columns.{kind_of, values};
-ghost use Rattle.query_model.specs.Expressions.{value_of, type_of, number_of, plain_value, arith_value};
-ghost use Rattle.query_model.specs.Typing.{IsItem, IsTyped, plain_of, CanHold, AreNumbersAlike, AreAlike};
+ghost use Rattle.query_model.specs.Names.{value_of, type_of, number_of, plain_value, arith_value, IsItem, IsTyped, plain_of, CanHold, AreNumbersAlike, AreAlike};
 ghost use Rattle.expr_eval.specs.Results.{IsMade, sided, result_type, arith_type};
 
 use crate::arith_loops::{

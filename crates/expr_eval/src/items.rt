@@ -1,8 +1,6 @@
 ghost use Rattle.std.specs.Prelude.{◌≡◌, ◌↔◌, map, IfOk, IsTrue};
 ghost use Rattle.std.specs.List.{All};
-ghost use Rattle.query_model.specs.Answers.{item_row};
-ghost use Rattle.query_model.specs.Expressions.{type_of};
-ghost use Rattle.query_model.specs.Typing.{IsItem};
+ghost use Rattle.query_model.specs.Names.{item_row, type_of, IsItem};
 
 use crate::expression::{eval, plain_number};
 use crate::type_test::is_typed;

@@ -1,7 +1,6 @@
 ghost use Rattle.std.specs.Prelude.{◌≡◌, ◌↔◌, length, IsTrue};
 ghost use Rattle.std.specs.Option.{option_map};
-ghost use Rattle.query_model.specs.Expressions.{type_of, number_of};
-ghost use Rattle.query_model.specs.Typing.{IsTyped, IsTypedOperand, IsTypedCond, operand_type, is_text, plain_of, CanHold, AreAlike, AreNumbersAlike};
+ghost use Rattle.query_model.specs.Names.{type_of, number_of, IsTyped, IsTypedOperand, IsTypedCond, operand_type, is_text, plain_of, CanHold, AreAlike, AreNumbersAlike};
 
 use crate::expression::plain_number;
 use chunk_data::ColumnType;

@@ -7,21 +7,15 @@ use Rattle.std.proofs.lemmas.List.{append-nil, drop-append-le, drop_all}
 use Rattle.std.proofs.lemmas.List.Elements.{All-append}
 use Rattle.chunk_data.specs.Values.{Table}
 use Rattle.query_model.specs.Kinds.{kind_of}
-use Rattle.query_model.specs.declared.processor_spec.Kind.TheVariants as kind
 use Rattle.query_model.specs.declared.processor_spec.Spec.{Spec}
+use Rattle.query_model.specs.declared.processor_spec.Kind.TheVariants as kind
 use Rattle.query_model.specs.declared.processor_spec.Spec.TheVariants as spec
-use Rattle.port_word.specs.Pictures.{Picture, input_at, in_count, out_count}
-use Rattle.port_word.specs.Sound.{IsSound}
-use Rattle.port_word.specs.Differences.{ChangedByCalls}
+use Rattle.port_word.specs.Names.{Picture, input_at, in_count, out_count, IsSound, ChangedByCalls}
+use Rattle.proc_api.specs.Names.{RowCount, PortFlags, kept_input, kept_output, kept_outputs, kept_ports, Lists, no_lists, chunk_rows, pulled_at, with_pulled, with_pushed, rows_pulled, raised, total_rows, StaysFit, FollowsKept, AreLastPulled, KeepsCollect, Keeps, IsPulled, HasSize, HadPorts, HasReadEnough, AllOutputsClosed, HasNoReader, IsLoadRefused, IsRunning, KeepsLimits, KeepsOver, KeepsSame, Loads, MayBeReady, NeedsRoom, PreparesLawfully, PulledOn, StatusComes, StatusHolds, Works, port_flags}
 use Rattle.proc_api.specs.declared.status.Status.{Status}
+use Rattle.proc_api.specs.declared.status.WorkFault.{WorkFault}
 use Rattle.proc_api.specs.declared.status.Status.TheVariants as status
 use Rattle.proc_api.specs.declared.status.LoadRefusal.TheVariants as refusal
-use Rattle.proc_api.specs.declared.status.WorkFault.{WorkFault}
-use Rattle.proc_api.specs.Boxes.{RowCount, PortFlags, kept_input, kept_output, kept_outputs, kept_ports}
-use Rattle.proc_api.specs.Histories.{Lists, no_lists, chunk_rows, pulled_at, with_pulled, with_pushed, rows_pulled, raised, total_rows}
-use Rattle.proc_api.specs.Ports.{StaysFit, FollowsKept}
-use Rattle.proc_api.specs.Keeping.{AreLastPulled, KeepsCollect, Keeps, IsPulled, HasSize, HadPorts, HasReadEnough, AllOutputsClosed}
-use Rattle.proc_api.specs.Clauses.{HasNoReader, IsLoadRefused, IsRunning, KeepsLimits, KeepsOver, KeepsSame, Loads, MayBeReady, NeedsRoom, PreparesLawfully, PulledOn, StatusComes, StatusHolds, Works, port_flags}
 use Rattle.proc_api.proofs.CallLaws.{none-pulled}
 use Rattle.proc_api.proofs.Keeping.{pulled-more, pulled-last, total-first, total-nothing, counted-more}
 use Rattle.proc_api.proofs.KeptFlags.{kept_input-of, kept_input-past, kept_output-past}
@@ -69,6 +63,7 @@ fresh-keeps count l e c = record {
   counted = inl c;
   finishes = λ o fin. let f : false ≡ true = rw e.notes at fin in absurd (cc);
   closes = λ i fin. let f : false ≡ true = rw e.notes at fin in absurd (cc);
+  noted = λ i there n. absurd n;
 }
 
 -- a blank collector that was loaded
@@ -190,6 +185,7 @@ module _ (n k : RowCount) (l m : LoadedCollect) (v w : Picture) (st : Status) (s
       closes = λ i. by-place (λ j. (kept_input (loaded_seen k (Some m)) j).fin_in ≡ true → AllOutputsClosed (loaded_seen k (Some m)) ⊎ HasReadEnough (Some spec.Collect) (with_pulled v w ins)) 0 i
           (λ e. absurd (never-closes ins outs kept (ap (λ g. g.fin_in) (sym (kept_input-of (loaded_seen k (Some m)) w view 0 (omega (arith, c.ins)))) ∙ e)))
           (λ ne e. absurd (past-open i ne e));
+      noted = λ i there n. absurd n;
     }
 
     may-come : (u : Status) → st ≡ u → StatusComes u (loaded_seen k (Some m))
@@ -291,6 +287,7 @@ module _ (n : RowCount) (l m : LoadedCollect) (x : CollectWorks l m) where
     counted = kept.counted;
     finishes = λ o. finishes-still (loaded_seen n (Some l)) (loaded_seen n (Some m)) (ap (λ z. z.view) x.notes) refl refl ins o (kept.finishes o);
     closes = λ i. closes-still (loaded_seen n (Some l)) (loaded_seen n (Some m)) (ap (λ z. z.view) x.notes) refl refl ins i (kept.closes i);
+    noted = λ i there n. absurd n;
   }
 
   not-ready : MayBeReady (loaded_seen n (Some m)) → ⊥

@@ -3,18 +3,13 @@ use Rattle.std.proofs.Common.{◌≡◌, ℕ, ◌<◌, ◌-◌, Bool, true, fals
 use Rattle.std.proofs.lemmas.List.{append-nil, length-append, length-drop}
 use Rattle.std.proofs.Math.Seq.{drop-append_seam}
 use Rattle.chunk_data.specs.Values.{Table}
+use Rattle.port_word.specs.Names.{Picture, input_at, in_count, out_count, holds_data, is_in_finished, after_pull, after_need, IsSound, WaitsForData, ChangedByCalls, pull_call, need_call}
 use Rattle.port_word.specs.declared.flags.Flags.{Flags}
 use Rattle.port_word.specs.declared.port_view.InputPort.{InputPort}
-use Rattle.port_word.specs.Pictures.{Picture, input_at, in_count, out_count, holds_data, is_in_finished}
-use Rattle.port_word.specs.Calls.{after_pull, after_need}
-use Rattle.port_word.specs.Sound.{IsSound}
-use Rattle.port_word.specs.Status.{WaitsForData}
-use Rattle.port_word.specs.Differences.{ChangedByCalls, pull_call, need_call}
 use Rattle.port_word.proofs.Differences.{changed-by-none, changed-by-one}
+use Rattle.proc_api.specs.Names.{pulled_at, pushed_at, taken_out, StatusHolds}
 use Rattle.proc_api.specs.declared.status.Status.{Status}
 use Rattle.proc_api.specs.declared.status.Status.TheVariants as status
-use Rattle.proc_api.specs.Histories.{pulled_at, pushed_at, taken_out}
-use Rattle.proc_api.specs.Clauses.{StatusHolds}
 use Rattle.proc_api.proofs.CallLaws.{none-pushed, none-pulled}
 use Rattle.proc_api.proofs.Turns.{TurnsInput, needing, need-turns, pull-turns, needing-leaves, needing-needs}
 use Rattle.proc_api.proofs.ShutPorts.{by-place}

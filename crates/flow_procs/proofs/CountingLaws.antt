@@ -1,9 +1,7 @@
 -- Numbers in order: those that are made, and those that are left.
 use Rattle.std.proofs.Common.{◌≡◌, ℕ, zero, suc, ◌+◌, ◌-◌, ◌<◌, ◌≤◌, min, max, Bool, List, [], ◌∷◌, ◌++◌, length, map, replicate, append_assoc, Some, None, refl, sym, ap, subst, ◌∙◌, arith, inl}
 use Rattle.std.proofs.lemmas.List.{append-nil, map-append}
-use Rattle.chunk_data.specs.Values.{Table}
-use Rattle.chunk_data.specs.Rows.{AreLong, adds, rows_of}
-use Rattle.chunk_data.specs.Columns.{values}
+use Rattle.chunk_data.specs.Names.{Table, AreLong, adds, rows_of, values}
 use Rattle.chunk_data.specs.declared.typed_column.Column.{Column}
 use Rattle.chunk_data.specs.declared.typed_value.Value.TheVariants.{UInt}
 use Rattle.chunk_data.specs.declared.typed_value.ColumnType.TheVariants as column
@@ -11,8 +9,7 @@ use Rattle.query_model.specs.Sources.{count_up}
 use Rattle.query_model.specs.declared.processor_spec.Spec.{Spec}
 use Rattle.query_model.specs.declared.processor_spec.Spec.TheVariants as spec
 use Rattle.port_word.specs.Pictures.{Picture, in_count}
-use Rattle.proc_api.specs.Histories.{chunk_rows, no_lists}
-use Rattle.proc_api.specs.Made.{HasMade}
+use Rattle.proc_api.specs.Names.{chunk_rows, no_lists, HasMade}
 use Rattle.proc_shell.specs.declared.kernel.Offer.TheVariants as offer
 use Rattle.proc_shell.specs.Kernels.{Begins, Makes, Offers, Takes}
 use Rattle.proc_shell.proofs.Through.{makes-nothing}
@@ -72,23 +69,32 @@ begins s end rows e = record {
   spec = sym e;
   nothing = subst (λ z. HasMade z (counting_own 0 end) no_lists no_lists []) (sym e)
       (let z : end - 0 ≡ end = omega arith in ap (λ k. map number_row (count_on 0 k)) z ∙ ap (λ l. map number_row l) (sym (count_up-is end)));
+  unended = λ i n. n;
 }
 
 pub offers-rows : (wants : ℕ → Bool) (v : Picture) (next end rows : ℕ) → next < end → Offers wants (spec.Numbers end rows) v (counting_own next end) (counting_own next end) offer.Rows
 offers-rows wants v next end rows lt = record {
   leaves = record { means = λ worked outs wait h. h; stays_over = λ n x. (n, x) };
   comes = let l = length-rows next (end - next) in omega (arith, l, lt);
+  ends = λ i lt n. inl n;
 }
 
 pub offers-end : (wants : ℕ → Bool) (v : Picture) (next end rows : ℕ) → end ≤ next → in_count v ≡ 0 → Offers wants (spec.Numbers end rows) v (counting_own next end) (counting_own next end) offer.Wants
 offers-end wants v next end rows le none = record {
   leaves = record { means = λ worked outs wait h. h; stays_over = λ n x. (n, x) };
   comes = record { nothing = none-left next end le; wanting = tt; all_over = λ over i lt. absurd (omega (arith, none, lt)); noted = λ over. tt };
+  ends = λ i lt n. inl n;
 }
 
 -- a chunk changes nothing
 pub drops : (next end rows i : ℕ) (t : Table) → Takes (spec.Numbers end rows) (counting_own next end) i t (counting_own next end) None
-drops next end rows i t = record { means = λ fits worked outs h. h; types = λ ins pulled. tt; sizes = tt }
+drops next end rows i t =
+    record {
+      means = λ fits worked outs h. h;
+      types = λ ins pulled. tt;
+      sizes = tt;
+      ends = λ i n. n;
+    }
 
 pub makes-none : (next end rows : ℕ) → end ≤ next → Makes (spec.Numbers end rows) (counting_own next end) (counting_own next end) None
 makes-none next end rows le = makes-nothing (spec.Numbers end rows) (counting_own next end) (none-left next end le)
@@ -104,6 +110,7 @@ makes-some next end rows count c e some types made = record {
   sizes = let l = length-made in omega (arith, l, e);
   progress = inl (let l = length-made in omega (arith, l, some));
   nothing = λ n. absurd (let l = ap length n in let m = length-rows next (end - next) in omega (arith, l, m, e, some));
+  ends = λ i n. n;
 }
   where
     split : map number_row (count_on next (end - next)) ≡ map number_row (count_on next count) ++ map number_row (count_on (next + count) (end - (next + count)))

@@ -1,9 +1,7 @@
 -- A filter makes of its chunks the rows at which its condition is true.
 use Rattle.std.proofs.Common.{◌≡◌, ℕ, Bool, cond, List, [], ◌∷◌, map, filter, Some, refl, ap, ◌∙◌}
-use Rattle.chunk_data.specs.Values.{Row, Table}
-use Rattle.chunk_data.specs.Rows.{kept}
-use Rattle.query_model.specs.Expressions.{Cond, holds, truth_of}
-use Rattle.query_model.specs.Typing.{IsTypedCond}
+use Rattle.chunk_data.specs.Names.{Row, Table, kept}
+use Rattle.query_model.specs.Names.{Cond, holds, truth_of, IsTypedCond}
 use Rattle.query_model.specs.declared.processor_spec.Spec.TheVariants as spec
 use Rattle.proc_api.specs.Made.{idle_own}
 use Rattle.proc_shell.specs.Kernels.{Takes}

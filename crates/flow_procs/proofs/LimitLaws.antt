@@ -6,9 +6,7 @@ use Rattle.std.proofs.lemmas.List.{append-nil, length-append, length-take, drop-
 use Rattle.chunk_data.specs.Values.{Row, Table}
 use Rattle.query_model.specs.declared.query.Span.{Span}
 use Rattle.query_model.specs.declared.processor_spec.Spec.TheVariants as spec
-use Rattle.proc_api.specs.Histories.{chunk_rows}
-use Rattle.proc_api.specs.Made.{AreLimited, last_read}
-use Rattle.proc_api.specs.Keeping.{IsPulled}
+use Rattle.proc_api.specs.Names.{chunk_rows, AreLimited, last_read, IsPulled}
 use Rattle.proc_shell.specs.Kernels.{Takes, with_chunk}
 use Rattle.proc_shell.proofs.Through.{rows-here}
 use Rattle.flow_procs.specs.Limits.{read_own, rows_within}
@@ -86,4 +84,5 @@ takes span read i t u z a b types rows = record {
       (subst (λ l. AreLimited span (chunk_rows (worked 0)) l read) (append-nil (chunk_rows (outs 0))) h)));
   types = λ ins pulled. subst (λ x. IsPulled ins x) (sym types) pulled;
   sizes = tt;
+  ends = λ i n. n;
 }

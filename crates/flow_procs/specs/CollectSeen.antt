@@ -2,17 +2,13 @@
 use Rattle.std.specs.Prelude.{◌≡◌, ◌++◌, true, false, [], length, Option, Some, None}
 use Rattle.query_model.specs.declared.processor_spec.Kind.TheVariants as kind
 use Rattle.query_model.specs.declared.processor_spec.Spec.TheVariants as spec
-use Rattle.port_word.specs.Pictures.{Picture, input_at}
-use Rattle.port_word.specs.Differences.{ChangedByCalls}
+use Rattle.port_word.specs.Names.{Picture, input_at, ChangedByCalls}
 use Rattle.proc_api.specs.declared.status.Answer.TheVariants.{Prepared}
+use Rattle.proc_api.specs.Names.{BoxPicture, RowCount, WorkState, idle_work, no_notes, chunk_rows, IsShut, SameChunks, port_flags}
 use Rattle.proc_api.specs.declared.status.Status.{Status}
-use Rattle.proc_api.specs.declared.status.Status.TheVariants as status
 use Rattle.proc_api.specs.declared.status.WorkFault.{WorkFault}
+use Rattle.proc_api.specs.declared.status.Status.TheVariants as status
 use Rattle.proc_api.specs.declared.status.WorkFault.TheVariants.{Memory}
-use Rattle.proc_api.specs.Boxes.{BoxPicture, RowCount, WorkState, idle_work, no_notes}
-use Rattle.proc_api.specs.Histories.{chunk_rows}
-use Rattle.proc_api.specs.Ports.{IsShut, SameChunks}
-use Rattle.proc_api.specs.Clauses.{port_flags}
 use Rattle.flow_procs.specs.declared.collect.Gathering.{Gathering}
 use Rattle.flow_procs.specs.declared.collect.Collect.{Collect}
 use Rattle.flow_procs.specs.declared.collect.LoadedCollect.{LoadedCollect}

@@ -1,9 +1,8 @@
 -- What a collector does at a prepare.
 use Rattle.std.specs.Prelude.{◌≡◌, ◌-◌, Bool, true, false, if◌then◌else◌, List, [], ◌∷◌, length, drop, Option, Some, None}
 use Rattle.chunk_data.specs.Values.{Table}
+use Rattle.port_word.specs.Names.{Picture, input_at, in_count, out_count, is_in_finished, after_pull, after_need}
 use Rattle.port_word.specs.declared.flags.Flags.{Flags}
-use Rattle.port_word.specs.Pictures.{Picture, input_at, in_count, out_count, is_in_finished}
-use Rattle.port_word.specs.Calls.{after_pull, after_need}
 use Rattle.proc_api.specs.declared.status.Status.{Status}
 use Rattle.proc_api.specs.declared.status.Status.TheVariants as status
 use Rattle.flow_procs.specs.declared.collect.Gathering.{Gathering}

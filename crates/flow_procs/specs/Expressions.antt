@@ -1,8 +1,7 @@
 -- An expression makes of each row the row of its items' values.
 use Rattle.std.proofs.Common.{List, map, refl, ap}
 use Rattle.std.proofs.lemmas.List.{map-append}
-use Rattle.query_model.specs.Answers.{item_row}
-use Rattle.query_model.specs.Expressions.{Expr}
+use Rattle.query_model.specs.Names.{item_row, Expr}
 use Rattle.query_model.specs.declared.processor_spec.Spec.TheVariants as spec
 use Rattle.proc_shell.specs.Kernels.{IsShelled}
 use Rattle.proc_shell.proofs.Through.{IsMaker, shelled-through}

@@ -2,8 +2,7 @@
 use Rattle.std.proofs.Common.{ℕ, ◌-◌, min}
 use Rattle.query_model.specs.declared.query.Span.{Span}
 use Rattle.query_model.specs.declared.processor_spec.Spec.TheVariants as spec
-use Rattle.proc_api.specs.Histories.{chunk_rows}
-use Rattle.proc_api.specs.Made.{AreLimited, OwnState, idle_own}
+use Rattle.proc_api.specs.Names.{chunk_rows, AreLimited, OwnState, idle_own}
 use Rattle.proc_shell.specs.Kernels.{IsShelled}
 use Rattle.proc_shell.proofs.Through.{IsInOrder, shelled-of}
 

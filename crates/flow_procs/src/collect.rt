@@ -1,7 +1,6 @@
 ghost use Rattle.std.specs.Prelude.{◌≡◌, ◌<◌, ◌++◌, ◌↔◌, true, false, length, vec_len, vec_capacity, IsTrue};
 ghost use Rattle.query_model.specs.Kinds.{kind_of};
-ghost use Rattle.port_word.specs.Calls.{after_pull};
-ghost use Rattle.port_word.specs.Pictures.{holds_data, input_at};
+ghost use Rattle.port_word.specs.Names.{after_pull, holds_data, input_at};
 ghost use Rattle.proc_api.specs.Histories.{chunk_rows};
 ghost use Rattle.flow_procs.specs.Collecting.{chunk_list, gathering_of, HasInput, status_gathered};
 

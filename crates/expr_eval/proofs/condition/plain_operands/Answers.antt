@@ -1,6 +1,5 @@
 use Rattle.std.proofs.Common.{ap, sym, ◌∙◌, ◌≡◌, Some}
-use Rattle.query_model.specs.Expressions.{value_of, plain_value, number_of, passes, compared}
-use Rattle.query_model.specs.Typing.{plain_of, is_text}
+use Rattle.query_model.specs.Names.{value_of, plain_value, number_of, passes, compared, plain_of, is_text}
 use Rattle.expr_eval.proofs.Onto.{same_maps}
 use Rattle.expr_eval.proofs.Operands.{plain_value_of, plain_type_of}
 use Rattle.expr_eval.proofs.Comparisons.{plain_is_number}

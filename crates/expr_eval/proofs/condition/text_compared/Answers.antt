@@ -1,8 +1,7 @@
 use Rattle.std.proofs.Common.{refl, ap, ◌∙◌, ◌<◌, length}
 use Rattle.chunk_data.specs.Values.{text_cmp, value_at}
 use Rattle.chunk_data.specs.declared.typed_value.Value.TheVariants.{Text}
-use Rattle.query_model.specs.Expressions.{value_of, type_of, number_of, passes, compared}
-use Rattle.query_model.specs.Typing.{is_text}
+use Rattle.query_model.specs.Names.{value_of, type_of, number_of, passes, compared, is_text}
 use Rattle.expr_eval.proofs.Onto.{each_is}
 use Rattle.expr_eval.proofs.Applied.{masked_one}
 use Rattle.expr_eval.proofs.Operands.{arith_not_text}
