@@ -1,11 +1,6 @@
-pub mod Lines
-pub mod NextRecord
 pub mod Pushing
 pub mod MachineSteps
 pub mod ByteRuns
-pub mod ByteLanes
 pub mod FieldPlaces
-pub mod QuotedFields
-pub mod RecordPlaces
 pub mod PartPlaces
 pub mod Fetching

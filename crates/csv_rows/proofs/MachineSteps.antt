@@ -1,39 +1,76 @@
 -- The machine of the `csv` crate, by fields and lines.
-use Rattle.std.proofs.Common.{◌≡◌, ℕ, zero, suc, ◌+◌, ◌==◌, ◌||◌, Bool, true, false, cond, List, [], ◌∷◌, ◌++◌, length, refl, sym, ap, ◌∙◌, append_assoc, Option, Some, None}
+use Rattle.std.proofs.Common.{◌≡◌, inl, inr, ℕ, zero, suc, ◌+◌, ◌==◌, ◌||◌, ◌&&◌, Bool, true, false, cond, not, List, [], ◌∷◌, ◌++◌, take, drop, refl, ap, ◌∙◌, arith, append_assoc, Option, Some, None}
+use Rattle.std.specs.Prelude.{IsSome}
+use Rattle.std.specs.List.{prefix_len}
 use Rattle.std.proofs.lemmas.List.{append-nil}
-use Rattle.csv.specs.Machine.{Read, next_record}
-use Rattle.csv.specs.Reading.{default_config, records, records_from, records_next}
+use Rattle.std.proofs.lemmas.Bool.{eqb-true, and_parts, or_cases, or_parts, not-true}
+use Rattle.csv.specs.Machine.{Read, next_record, step, in_field, after_end, is_end, ends_at_end, state_code}
+use Rattle.csv.specs.Reading.{default_config, records_from, records_next}
 use Rattle.csv.specs.declared.parser.State.{State}
 use Rattle.csv.specs.declared.parser.State.TheVariants as st
-use Rattle.std.proofs.lemmas.Bool.{eqb-true}
-use Rattle.csv_rows.specs.Marks.{is_line_end, at_mark, at_quote, starts_line, HasNoMark, BeginsField, BeginsFields, FirstRecord}
-use Rattle.csv_rows.proofs.NextRecord.{records_from-next, records_from-none}
+use Rattle.csv.specs.declared.parser.Action.{Action}
+use Rattle.csv.specs.declared.parser.Action.TheVariants as act
+use Rattle.csv_rows.specs.RowsLeft.{at_end}
+use Rattle.csv_rows.specs.Places.{is_line_end, is_mark, no_mark, no_quote, first_or, starts_with, starts_line, BeginsField, BeginsFields, FirstRecord}
 
-or-left : (a b : Bool) → (a || b) ≡ false → a ≡ false
-or-left false b e = refl
-or-left true b e = cc
+-- bytes that a state copies join the field, up to the first that it does not
+pub copied : (s : State) (q : ℕ → Bool)
+    → ((c : ℕ) → q c ≡ true → step default_config s c ≡ (s, act.Copy))
+    → (fields : List (List ℕ)) (field xs : List ℕ)
+    → next_record default_config s fields field xs
+    ≡ next_record default_config s fields (field ++ take (prefix_len q xs) xs)
+    (drop (prefix_len q xs) xs)
+unfolding next_record
+copied s q h fields field [] = rw (append-nil field) refl
+copied s q h fields field (c ∷ xs) =
+    go (q c) refl (copied s q h fields (field ++ c ∷ []) xs)
+  where
+    go : (b : Bool) → q c ≡ b → next_record default_config s fields (field ++ c ∷ []) xs
+        ≡ next_record default_config s fields ((field ++ c ∷ []) ++ take (prefix_len q xs) xs)
+        (drop (prefix_len q xs) xs)
+        → next_record default_config s fields field (c ∷ xs)
+        ≡ next_record default_config s fields
+        (field ++ take (cond b (1 + prefix_len q xs) 0) (c ∷ xs))
+        (drop (cond b (1 + prefix_len q xs) 0) (c ∷ xs))
+    go true e more =
+        let one : 1 + prefix_len q xs ≡ suc (prefix_len q xs) = omega arith in
+        rw (one, h c e) (more
+        ∙ ap (λ f. next_record default_config s fields f (drop (prefix_len q xs) xs))
+        (append_assoc field (c ∷ []) (take (prefix_len q xs) xs)))
+    go false e more = rw (append-nil field) refl
 
-or-right : (a b : Bool) → (a || b) ≡ false → b ≡ false
-or-right false b e = e
-or-right true b e = cc
+plain_copies : (c : ℕ) → no_mark c ≡ true → step default_config st.InField c ≡ (st.InField, act.Copy)
+plain_copies c h =
+    let marks = or_parts (c == 44) _ (not-true _ h) in
+    let ends = or_parts (c == 10) _ marks.1 in
+    rw (marks.0, ends.1, ends.0) refl
 
--- bytes that are no marks join the field
-pub plain_run : (fields : List (List ℕ)) (field xs rest : List ℕ) → HasNoMark xs
-    → next_record default_config st.InField fields field (xs ++ rest)
-    ≡ next_record default_config st.InField fields (field ++ xs) rest
-unfolding next_record HasNoMark
-plain_run fields field [] rest h = rw (append-nil field) refl
-plain_run fields field (c ∷ xs) rest h =
-    let comma = or-left (c == 44) _ h.0 in
-    let line = or-right (c == 44) _ h.0 in
-    let feed = or-left (c == 10) _ line in
-    let return = or-right (c == 10) _ line in
-    rw (comma, return, feed) (plain_run fields (field ++ (c ∷ [])) xs rest h.1
-    ∙ ap (λ (f : List ℕ). next_record default_config st.InField fields f rest)
-    (append_assoc field (c ∷ []) xs))
+pub quoted_copies : (c : ℕ) → no_quote c ≡ true
+    → step default_config st.InQuoted c ≡ (st.InQuoted, act.Copy)
+quoted_copies c h = rw (not-true (c == 34) h) refl
+
+-- behind the first bytes that fail a test stands one that passes, or nothing
+pub prefix_stops : (p : ℕ → Bool) (xs : List ℕ)
+    → first_or true p (drop (prefix_len (λ x. not (p x)) xs) xs) ≡ true
+prefix_stops p [] = refl
+prefix_stops p (x ∷ xs) = go (p x) refl (prefix_stops p xs)
+  where
+    go : (b : Bool) → p x ≡ b → first_or true p (drop (prefix_len (λ x. not (p x)) xs) xs) ≡ true
+        → first_or true p (drop (cond (not b) (1 + prefix_len (λ x. not (p x)) xs) 0) (x ∷ xs))
+        ≡ true
+    go true e h = e
+    go false e h = let one : 1 + prefix_len (λ x. not (p x)) xs
+        ≡ suc (prefix_len (λ x. not (p x)) xs) = omega arith in rw one h
+
+-- bytes up to a mark join the field
+pub plain_run : (fields : List (List ℕ)) (field xs : List ℕ)
+    → next_record default_config st.InField fields field xs
+    ≡ next_record default_config st.InField fields (field ++ take (prefix_len no_mark xs) xs)
+    (drop (prefix_len no_mark xs) xs)
+plain_run = copied st.InField no_mark plain_copies
 
 -- where no quote stands, the start of a field is like its inside
-pub start_plain : (fields : List (List ℕ)) (field xs : List ℕ) → at_quote xs ≡ false
+start_plain : (fields : List (List ℕ)) (field xs : List ℕ) → starts_with 34 xs ≡ false
     → next_record default_config st.StartField fields field xs
     ≡ next_record default_config st.InField fields field xs
 unfolding next_record
@@ -41,15 +78,15 @@ start_plain fields field [] h = refl
 start_plain fields field (c ∷ xs) h = rw h refl
 
 -- a field without quotes
-pub plain_field : (xs rest : List ℕ) → HasNoMark xs → at_quote (xs ++ rest) ≡ false
-    → at_mark rest ≡ true → BeginsField (xs ++ rest) xs rest
-plain_field xs rest h q m = record {
-  reads = λ fields. start_plain fields [] (xs ++ rest) q ∙ plain_run fields [] xs rest h;
-  ends = m;
+pub plain_field : (xs : List ℕ) → starts_with 34 xs ≡ false
+    → BeginsField xs (take (prefix_len no_mark xs) xs) (drop (prefix_len no_mark xs) xs)
+plain_field xs q = record {
+  reads = λ fields. start_plain fields [] xs q ∙ plain_run fields [] xs;
+  ends = prefix_stops is_mark xs;
 }
 
 -- behind CR as behind LF
-pub after_return : (fields : List (List ℕ)) (field xs : List ℕ)
+after_return : (fields : List (List ℕ)) (field xs : List ℕ)
     → next_record default_config st.AfterCr fields field xs
     ≡ next_record default_config st.StartRecord fields field xs
 unfolding next_record
@@ -74,46 +111,32 @@ skip_line_end : (fields : List (List ℕ)) (field : List ℕ) (c : ℕ) (xs : Li
     → next_record default_config st.StartRecord fields field (c ∷ xs)
     ≡ next_record default_config st.StartRecord fields field xs
 unfolding next_record
-skip_line_end fields field c xs h = go (c == 10) refl h
-  where
-    go : (b : Bool) → (c == 10) ≡ b → (b || (c == 13)) ≡ true
-        → next_record default_config st.StartRecord fields field (c ∷ xs)
-        ≡ next_record default_config st.StartRecord fields field xs
-    go true e k = let is : c ≡ 10 = eqb-true c 10 e in rw is refl
-    go false e k = let is : c ≡ 13 = eqb-true c 13 k in rw is refl
+skip_line_end fields field c xs h = elim (or_cases (c == 10) _ h) [
+  | inl feed ↦ rw (eqb-true c 10 feed) refl
+  | inr return ↦ rw (eqb-true c 13 return) refl
+]
 
 -- the end of a line in front of the first record is passed over
-pub records_skip : (c : ℕ) (xs : List ℕ) → is_line_end c ≡ true
-    → records default_config (c ∷ xs) ≡ records default_config xs
-records_skip c xs h = go (next_record default_config st.StartRecord [] [] xs) refl
-  where
-    same : next_record default_config st.StartRecord [] [] (c ∷ xs)
-        ≡ next_record default_config st.StartRecord [] [] xs
-    same = skip_line_end [] [] c xs h
-
-    go : (o : Option Read) → next_record default_config st.StartRecord [] [] xs ≡ o
-        → records default_config (c ∷ xs) ≡ records default_config xs
-    go None e = records_from-none default_config st.StartRecord (c ∷ xs) (same ∙ e)
-        ∙ sym (records_from-none default_config st.StartRecord xs e)
-    go (Some p) e = records_from-next default_config st.StartRecord (c ∷ xs) p refl (same ∙ e)
-        ∙ sym (records_from-next default_config st.StartRecord xs p refl e)
+pub records_skip : (n c : ℕ) (xs : List ℕ) → is_line_end c ≡ true
+    → records_from default_config n st.StartRecord (c ∷ xs)
+    ≡ records_from default_config n st.StartRecord xs
+unfolding records_from
+records_skip zero c xs h = refl
+records_skip (suc n) c xs h =
+    ap (records_next (records_from default_config n)) (skip_line_end [] [] c xs h)
 
 -- no bytes, no records
-pub records_nil : records default_config [] ≡ []
+pub records_nil : (n : ℕ) → records_from default_config n st.StartRecord [] ≡ []
 unfolding next_record records_from
-records_nil = refl
+records_nil zero = refl
+records_nil (suc n) = refl
 
 -- a record starts as a field does
 pub record_starts : (xs : List ℕ) → starts_line xs ≡ true → BeginsFields xs [] xs
 unfolding next_record
 record_starts [] h = absurd cc
-record_starts (c ∷ xs) h = go (c == 10) (c == 13) refl refl h
-  where
-    go : (b d : Bool) → (c == 10) ≡ b → (c == 13) ≡ d → cond (b || d) false true ≡ true
-        → BeginsFields (c ∷ xs) [] (c ∷ xs)
-    go true d e k w = absurd cc
-    go false true e k w = absurd cc
-    go false false e k w = record { reads = rw (e, k) refl }
+record_starts (c ∷ xs) h = let ends = or_parts (c == 10) _ (not-true _ h) in
+    record { reads = rw (ends.0, ends.1) refl }
 
 -- a field, and a comma behind it
 pub one_more : {xs mid rest : List ℕ} {fields : List (List ℕ)} {field : List ℕ}
@@ -123,29 +146,26 @@ unfolding next_record
 one_more {fields = fields} {field = field} a b = record { reads = a.reads ∙ b.reads fields }
 
 record_from : (xs rest : List ℕ) (fields : List (List ℕ)) (s : State)
-    → records_from default_config (length rest + 1) s rest ≡ records default_config rest
+    → ((n : ℕ) → records_from default_config n s rest
+    ≡ records_from default_config n st.StartRecord rest)
     → next_record default_config st.StartRecord [] [] xs ≡ Some (fields, s, rest)
     → FirstRecord xs fields rest
-record_from xs rest fields s same e =
-    records_from-next default_config st.StartRecord xs (fields, s, rest) refl e
-    ∙ ap (λ l. fields ∷ l) same
+unfolding records_from
+record_from xs rest fields s same e = record {
+  reads = λ n. ap (records_next (records_from default_config n)) e ∙ ap (λ l. fields ∷ l) (same n);
+}
 
 -- a field, and the end of a line behind it
 pub last_in_line : {xs mid rest : List ℕ} {fields : List (List ℕ)} {field : List ℕ} → (c : ℕ)
     → is_line_end c ≡ true → BeginsFields xs fields mid → BeginsField mid field (c ∷ rest)
     → FirstRecord xs (fields ++ field ∷ []) rest
 unfolding next_record
-last_in_line {xs = xs} {rest = rest} {fields = fields} {field = field} c h a b = go (c == 10) refl h
-  where
-    go : (d : Bool) → (c == 10) ≡ d → (d || (c == 13)) ≡ true
-        → FirstRecord xs (fields ++ field ∷ []) rest
-    go true e k =
-        let is : c ≡ 10 = eqb-true c 10 e in
-        record_from xs rest _ st.StartRecord refl (a.reads ∙ b.reads fields ∙ rw is refl)
-    go false e k =
-        let is : c ≡ 13 = eqb-true c 13 k in
-        record_from xs rest _ st.AfterCr (records_from_return (length rest + 1) rest) (a.reads
-        ∙ b.reads fields ∙ rw is refl)
+last_in_line {xs = xs} {rest = rest} {fields = fields} c h a b = elim (or_cases (c == 10) _ h) [
+  | inl feed ↦ record_from xs rest _ st.StartRecord (λ n. refl) (a.reads ∙ b.reads fields
+      ∙ rw (eqb-true c 10 feed) refl)
+  | inr return ↦ record_from xs rest _ st.AfterCr (λ n. records_from_return n rest) (a.reads
+      ∙ b.reads fields ∙ rw (eqb-true c 13 return) refl)
+]
 
 -- a field, and the end of the text behind it
 pub last_of_text : {xs mid : List ℕ} {fields : List (List ℕ)} {field : List ℕ}
@@ -153,4 +173,62 @@ pub last_of_text : {xs mid : List ℕ} {fields : List (List ℕ)} {field : List 
     → FirstRecord xs (fields ++ field ∷ []) []
 unfolding next_record
 last_of_text {xs = xs} {fields = fields} {field = field} a b =
-    record_from xs [] _ st.StartRecord refl (a.reads ∙ b.reads fields)
+    record_from xs [] _ st.StartRecord (λ n. refl) (a.reads ∙ b.reads fields)
+
+-- in these states a record has begun
+abbrev busy : State → Bool
+busy s = ends_at_end s && not (state_code s == 1536)
+
+-- a record goes on, unless the action ends it
+record Goes (r : State × Action) : Type 0 where
+  on : is_end r.1 ≡ false → busy r.0 ≡ true
+
+either : (b : Bool) (x y : State × Action) → Goes x → Goes y → Goes (cond b x y)
+either true x y h k = h
+either false x y h k = k
+
+goes : (s : State) (a : Action) → busy s ≡ true → Goes (s, a)
+goes s a h = record { on = λ k. h }
+
+stops : (s : State) → Goes (s, act.EndRecord)
+stops s = record { on = λ k. absurd cc }
+
+in_field_goes : (c : ℕ) → Goes (in_field default_config c)
+in_field_goes c = either _ _ _ (goes st.StartField act.EndField refl) (either _ _ _
+    (stops (after_end default_config.terminator c)) (goes st.InField act.Copy refl))
+
+step_goes : (s : State) (c : ℕ) → busy s ≡ true → Goes (step default_config s c)
+step_goes st.StartRecord c h = absurd cc
+step_goes st.StartField c h = either _ _ _ (goes st.InQuoted act.Skip refl) (in_field_goes c)
+step_goes st.InField c h = in_field_goes c
+step_goes st.InQuoted c h =
+    either _ _ _ (goes st.AfterQuote act.Skip refl) (goes st.InQuoted act.Copy refl)
+step_goes st.AfterQuote c h = either _ _ _ (goes st.InQuoted act.Copy refl) (in_field_goes c)
+step_goes st.InEscape c h = goes st.InQuoted act.Copy refl
+step_goes st.InComment c h = absurd cc
+step_goes st.AfterCr c h = absurd cc
+
+some_in : (b : Bool) (p : Read) (o : Option Read) → (b ≡ false → IsSome o)
+    → IsSome (cond b (Some p) o)
+some_in true p o h = refl
+some_in false p o h = h refl
+
+-- a record that has begun is one
+there_is : (s : State) (fields : List (List ℕ)) (field xs : List ℕ) → busy s ≡ true
+    → IsSome (next_record default_config s fields field xs)
+unfolding next_record
+there_is s fields field [] h = rw (and_parts (ends_at_end s) _ h).0 refl
+there_is s fields field (c ∷ xs) h = some_in (is_end (step default_config s c).1) _ _
+    (λ e. there_is (step default_config s c).0 _ _ xs ((step_goes s c h).on e))
+
+-- where a line starts, a record is left
+pub record_left : (n : ℕ) (xs : List ℕ) → starts_line xs ≡ true
+    → at_end (records_from default_config (suc n) st.StartRecord xs) ≡ false
+unfolding records_from
+record_left n xs h = ap (λ o. at_end (records_next (records_from default_config n) o))
+    (record_starts xs h).reads ∙ go _ (there_is st.StartField [] [] xs refl)
+  where
+    go : (o : Option Read) → IsSome o
+        → at_end (records_next (records_from default_config n) o) ≡ false
+    go None h = absurd cc
+    go (Some p) h = refl

@@ -1,199 +1,143 @@
 -- What is left of a part at a place.
-use Rattle.std.proofs.Common.{◌≡◌, ℕ, ◌<◌, ◌≤◌, Bool, true, false, cond, List, [], ◌∷◌, ◌++◌, length, drop, get_or, refl, sym, ap, ◌∙◌, arith, Option, Some}
+use Rattle.std.proofs.Common.{◌≡◌, ◌≢◌, ℕ, zero, suc, ◌+◌, ◌-◌, ◌<◌, ◌≤◌, Bool, true, false, cond, List, [], ◌∷◌, length, drop, map, get_or, refl, sym, ap, ◌∙◌, arith, length-drop, eq-eqb, Some}
 use Rattle.std.proofs.lemmas.List.{drop_all}
-use native.Mathlib.Decide.{dec_lt}
-use Rattle.std.proofs.Common.{eq-eqb}
 use Rattle.std.proofs.lemmas.Bool.{ne_eqb}
+use native.Mathlib.Decide.{dec_lt}
 use Rattle.std.specs.Prelude.{nat_eq}
-use Rattle.csv.specs.Machine.{Read, next_record, step, in_field, is_end, ends_at_end, after_end, fields_after, field_after}
-use Rattle.csv.specs.Reading.{default_config, records, strip_bom, is_bom}
-use Rattle.csv.specs.declared.parser.State.{State}
+use Rattle.csv.specs.Reading.{default_config, records, records_from, strip_bom, is_bom}
 use Rattle.csv.specs.declared.parser.State.TheVariants as st
-use Rattle.csv.specs.declared.parser.Action.{Action}
-use Rattle.csv.specs.declared.parser.Action.TheVariants as act
-use Rattle.query_model.specs.Parts.{part_records}
-use Rattle.csv_rows.specs.RowsLeft.{at_end}
-use Rattle.csv_rows.specs.Marks.{starts_line}
-use Rattle.csv_rows.specs.FieldPlaces.{StartsLine, SkipsEnds}
-use Rattle.csv_rows.specs.RecordPlaces.{records_at, ReadsFirst, StartsPart}
-use Rattle.csv_rows.proofs.NextRecord.{records_from-next}
-use Rattle.csv_rows.proofs.MachineSteps.{record_starts, records_nil}
-
--- in these states a record has begun
-abbrev busy : State → Bool
-busy st.StartRecord = false
-busy st.StartField = true
-busy st.InField = true
-busy st.InQuoted = true
-busy st.AfterQuote = true
-busy st.InEscape = false
-busy st.InComment = false
-busy st.AfterCr = false
-
-record Goes (r : State × Action) : Type 0 where
-  on : is_end r.1 ≡ false → busy r.0 ≡ true
-
-either : (b : Bool) (x y : State × Action) → Goes x → Goes y → Goes (cond b x y)
-either true x y h k = h
-either false x y h k = k
-
-goes : (s : State) (a : Action) → busy s ≡ true → Goes (s, a)
-goes s a h = record { on = λ k. h }
-
-stops : (s : State) → Goes (s, act.EndRecord)
-stops s = record { on = λ k. absurd cc }
-
-in_field_goes : (c : ℕ) → Goes (in_field default_config c)
-in_field_goes c =
-    either _ _ _ (goes st.StartField act.EndField refl)
-    (either _ _ _ (stops (after_end default_config.terminator c)) (goes st.InField act.Copy refl))
-
-step_goes : (s : State) (c : ℕ) → busy s ≡ true → Goes (step default_config s c)
-step_goes st.StartRecord c h = absurd cc
-step_goes st.StartField c h = either _ _ _ (goes st.InQuoted act.Skip refl) (in_field_goes c)
-step_goes st.InField c h = in_field_goes c
-step_goes st.InQuoted c h =
-    either _ _ _ (goes st.AfterQuote act.Skip refl) (goes st.InQuoted act.Copy refl)
-step_goes st.AfterQuote c h = either _ _ _ (goes st.InQuoted act.Copy refl) (in_field_goes c)
-step_goes st.InEscape c h = absurd cc
-step_goes st.InComment c h = absurd cc
-step_goes st.AfterCr c h = absurd cc
-
-ends : (s : State) → busy s ≡ true → ends_at_end s ≡ true
-ends st.StartRecord h = absurd cc
-ends st.StartField h = refl
-ends st.InField h = refl
-ends st.InQuoted h = refl
-ends st.AfterQuote h = refl
-ends st.InEscape h = absurd cc
-ends st.InComment h = absurd cc
-ends st.AfterCr h = absurd cc
-
--- a record that has begun is one
-there_is : (s : State) (fields : List (List ℕ)) (field xs : List ℕ) → busy s ≡ true
-    → (p : Read) × (next_record default_config s fields field xs ≡ Some p)
-unfolding next_record
-there_is s fields field [] h = ((fields ++ (field ∷ []), st.StartRecord, []), rw (ends s h) refl)
-there_is s fields field (c ∷ xs) h =
-    go (is_end (step default_config s c).1) refl
-    (λ k. there_is (step default_config s c).0
-    (fields_after (step default_config s c).1 fields field)
-    (field_after (step default_config s c).1 c field) xs k)
-  where
-    more : Option Read
-    more = next_record default_config (step default_config s c).0
-        (fields_after (step default_config s c).1 fields field)
-        (field_after (step default_config s c).1 c field) xs
-
-    go : (b : Bool) → is_end (step default_config s c).1 ≡ b
-        → (busy (step default_config s c).0 ≡ true → (p : Read) × (more ≡ Some p))
-        → (p : Read)
-        × (cond b
-        (Some (
-          fields_after (step default_config s c).1 fields field,
-          (step default_config s c).0,
-          xs,
-        )) more ≡ Some p)
-    go true e k = (
-      (fields_after (step default_config s c).1 fields field, (step default_config s c).0, xs),
-      refl,
-    )
-    go false e k = k ((step_goes s c h).on e)
-
--- where a line starts, a record is left
-pub record_left : (xs : List ℕ) → starts_line xs ≡ true → at_end (records default_config xs) ≡ false
-record_left xs h =
-    let p = there_is st.StartField [] [] xs refl in
-    ap at_end
-    (records_from-next default_config st.StartRecord xs p.0 refl ((record_starts xs h).reads
-    ∙ p.1))
+use Rattle.query_model.specs.Parts.{part_records, good_rows, bad_place, row_then}
+use Rattle.csv_rows.specs.RowsLeft.{RowsLeft, TakesRow, at_end}
+use Rattle.csv_rows.specs.Places.{starts_line, FirstRecord, records_at, StartsLine, SkipsEnds, AddsFirst, IsBadAt, ReadsFirst, StartsPart, OnBad}
+use Rattle.csv_rows.specs.declared.rows.RowsFault.{RowsFault}
+use Rattle.csv_rows.specs.declared.rows.RowsFault.TheVariants.{Bad, Memory}
+use Rattle.chunk_data.specs.declared.typed_column.Column.{Column}
+use Rattle.chunk_data.specs.Names.{kind_of}
+use Rattle.query_model.proofs.Reading.{spelled_row-fits}
+use Rattle.csv_rows.proofs.MachineSteps.{record_left, records_nil}
 
 -- no record is left behind the end
-pub none_left : (bytes : List ℕ) (at : ℕ) → length bytes ≤ at → records_at bytes at ≡ []
-none_left bytes at le = ap (records default_config) (drop_all at bytes le) ∙ records_nil
+none_left : (left : ℕ) (bytes : List ℕ) (at : ℕ) → length bytes ≤ at → records_at left bytes at ≡ []
+none_left left bytes at le = rw (drop_all at bytes le) (records_nil left)
 
--- at the end no record is left
-pub over_there : (bytes : List ℕ) (at : ℕ) → StartsLine bytes at → at ≡ length bytes
-    → at_end (records_at bytes at) ≡ true
-over_there bytes at h e = ap at_end (none_left bytes at (omega (arith, e)))
-
--- in front of the end a record is left
-pub left_there : (bytes : List ℕ) (at : ℕ) → StartsLine bytes at → at < length bytes
-    → at_end (records_at bytes at) ≡ false
-left_there bytes at h lt = record_left (drop at bytes) (h.line lt)
+-- where a record is left, it is one of some
+pub some_left : (left : ℕ) (bytes : List ℕ) (at : ℕ) → at_end (records_at left bytes at) ≡ false
+    → 0 < left
+unfolding records_from
+some_left zero bytes at h = absurd cc
+some_left (suc left) bytes at h = omega arith
 
 -- where a record is left, a line starts
-pub line_there : (bytes : List ℕ) (at : ℕ) → StartsLine bytes at
-    → at_end (records_at bytes at) ≡ false → starts_line (drop at bytes) ≡ true
-line_there bytes at h left = elim (dec_lt at (length bytes)) [
+pub line_there : (left : ℕ) (bytes : List ℕ) (at : ℕ) → StartsLine bytes at
+    → at_end (records_at left bytes at) ≡ false → starts_line (drop at bytes) ≡ true
+line_there left bytes at h some = elim (dec_lt at (length bytes)) [
   | yes lt ↦ h.line lt
   | no over ↦ let f : false ≡ true =
-      sym left ∙ ap at_end (none_left bytes at (omega (arith, over))) in absurd cc
+      sym some ∙ ap at_end (none_left left bytes at (omega (arith, over))) in absurd cc
 ]
 
--- a byte order mark
-pub bom_there : (bytes : List ℕ) → 3 ≤ length bytes
-    → is_bom (get_or bytes 0 0) (get_or bytes 1 0) (get_or bytes 2 0) ≡ true
-    → drop 3 bytes ≡ strip_bom bytes
-unfolding strip_bom
-bom_there [] le h = absurd (omega (arith, le))
-bom_there (a ∷ []) le h = absurd (omega (arith, le))
-bom_there (a ∷ b ∷ []) le h = absurd (omega (arith, le))
-bom_there (a ∷ b ∷ c ∷ rest) le h = rw h refl
+first_here : (left : ℕ) (bytes : List ℕ) (at : ℕ) {tail : List ℕ} {fields : List (List ℕ)}
+    {rest : List (List (List ℕ))} → at_end rest ≡ false → records_at left bytes at ≡ rest
+    → FirstRecord (drop at bytes) fields tail
+    → rest ≡ fields ∷ records_from default_config (left - 1) st.StartRecord tail
+first_here left bytes at some is h =
+    let e : left ≡ suc (left - 1) = omega (arith, some_left left bytes at (ap at_end is ∙ some)) in
+    sym is ∙ ap (λ n. records_at n bytes at) e ∙ h.reads (left - 1)
 
--- no byte order mark
-pub bom_none : (bytes : List ℕ) → 3 ≤ length bytes
-    → is_bom (get_or bytes 0 0) (get_or bytes 1 0) (get_or bytes 2 0) ≡ false
-    → bytes ≡ strip_bom bytes
-unfolding strip_bom
-bom_none [] le h = absurd (omega (arith, le))
-bom_none (a ∷ []) le h = absurd (omega (arith, le))
-bom_none (a ∷ b ∷ []) le h = absurd (omega (arith, le))
-bom_none (a ∷ b ∷ c ∷ rest) le h = rw h refl
-
--- the rows of a part begin there
-pub part_starts : (bytes : List ℕ) (m at : ℕ) → drop m bytes ≡ strip_bom bytes
-    → SkipsEnds bytes m at → StartsPart false bytes at
-unfolding part_records
-part_starts bytes m at e h =
-    record { is = sym h.same ∙ ap (records default_config) e; starts = h.starts }
-
--- a part of a header that has no record
-pub part_empty : (bytes : List ℕ) (m at : ℕ) → drop m bytes ≡ strip_bom bytes → SkipsEnds bytes m at
-    → length bytes ≤ at → StartsPart true bytes at
-unfolding part_records
-part_empty bytes m at e h le =
-    let none = none_left bytes at le in
+-- the first of the records that are left is a row
+pub row_here : (left : ℕ) (bytes : List ℕ) (at next : ℕ) (old : RowsLeft) (number : ℕ)
+    (before after : List Column) → at_end old.rest ≡ false → records_at left bytes at ≡ old.rest
+    → number ≡ old.count + 1 → AddsFirst bytes at next before after
+    → TakesRow old (record { rest = records_at (left - 1) bytes next; count = number })
+    before after
+unfolding good_rows bad_place
+row_here left bytes at next old number before after some is n h =
+    let types = map kind_of before in
+    let whole = first_here left bytes at some is h.reads.is in
     record {
-      is = none ∙ ap (drop 1) (sym (sym (ap (records default_config) e) ∙ h.same ∙ none));
-      starts = h.starts;
+      row = h.adds.row;
+      fits = spelled_row-fits types h.fields h.adds.row h.adds.spells;
+      good = ap (good_rows types) whole
+          ∙ ap (λ o. row_then o (good_rows types (records_at (left - 1) bytes next))) h.adds.spells;
+      places = ap (bad_place (old.count + 1) types) whole ∙ rw (h.adds.spells, n) refl;
+      added = h.adds.added;
     }
 
--- a part of a header, behind its first record
-pub part_headed : {bytes : List ℕ} {m at next : ℕ} {fields : List (List ℕ)}
-    → drop m bytes ≡ strip_bom bytes → SkipsEnds bytes m at → ReadsFirst bytes at fields next
-    → StartsPart true bytes next
+-- the first of them is no row
+pub bad_here : (left : ℕ) (bytes : List ℕ) (at number : ℕ) (columns : List Column)
+    (rest : List (List (List ℕ))) (fault : RowsFault) → at_end rest ≡ false
+    → records_at left bytes at ≡ rest → OnBad fault (IsBadAt columns bytes at number)
+    → OnBad fault (λ place. bad_place number (map kind_of columns) rest ≡ Some place)
+unfolding bad_place
+bad_here left bytes at number columns rest Memory some is h = tt
+bad_here left bytes at number columns rest (Bad place) some is h =
+    ap (bad_place number (map kind_of columns)) (first_here left bytes at some is h.is)
+    ∙ rw h.bad.unspelled (ap Some (sym h.bad.is))
+
+-- none can come, where none is left
+pub over_none : (left : ℕ) (bytes : List ℕ) (at : ℕ) → left ≡ 0
+    → nat_eq left 0 ≡ at_end (records_at left bytes at)
+unfolding records_from
+over_none left bytes at e = rw e refl
+
+-- the test of the end is whether no record is left
+pub over_is : (left : ℕ) (bytes : List ℕ) (at n : ℕ) → left ≢ 0 → StartsLine bytes at
+    → n ≡ length bytes → nat_eq at n ≡ at_end (records_at left bytes at)
+over_is zero bytes at n some h size = absurd (some refl)
+over_is (suc left) bytes at n some h size = elim (dec_lt at (length bytes)) [
+  | yes lt ↦ ne_eqb at n (λ e. absurd (omega (arith, lt, size, e)))
+      ∙ sym (record_left left (drop at bytes) (h.line lt))
+  | no over ↦ let high = h.within in
+      eq-eqb at n (omega (arith, over, size, high))
+      ∙ sym (ap at_end (none_left (suc left) bytes at (omega (arith, over))))
+]
+
+-- a byte order mark, or none
+pub bom_is : (bytes : List ℕ) (b : Bool) → 3 ≤ length bytes
+    → is_bom (get_or bytes 0 0) (get_or bytes 1 0) (get_or bytes 2 0) ≡ b
+    → drop (cond b 3 0) bytes ≡ strip_bom bytes
+unfolding strip_bom
+bom_is [] b le h = absurd (omega (arith, le))
+bom_is (a ∷ []) b le h = absurd (omega (arith, le))
+bom_is (a ∷ b' ∷ []) b le h = absurd (omega (arith, le))
+bom_is (a ∷ b' ∷ c ∷ rest) true le h = rw h refl
+bom_is (a ∷ b' ∷ c ∷ rest) false le h = rw h refl
+
+-- the records of a part behind a byte order mark
+part_at : (bytes : List ℕ) (m at : ℕ) → m ≤ length bytes → drop m bytes ≡ strip_bom bytes
+    → SkipsEnds bytes m at
+    → records_at (length bytes - m + 1) bytes at ≡ records default_config (strip_bom bytes)
+part_at bytes m at le e h =
+    let size : length bytes - m ≡ length (strip_bom bytes) =
+    omega (arith, le, length-drop m bytes, ap length e) in
+    sym (h.same (length bytes - m + 1)) ∙ rw (e, size) refl
+
+-- the rows of a part without a header
+pub part_starts : (bytes : List ℕ) (m at : ℕ) → m ≤ length bytes → drop m bytes ≡ strip_bom bytes
+    → SkipsEnds bytes m at → StartsPart false bytes at (length bytes - m + 1)
 unfolding part_records
-part_headed {bytes = bytes} e h r =
+part_starts bytes m at le e h = record { is = part_at bytes m at le e h; starts = h.starts }
+
+-- a part without a record
+pub part_empty : (bytes : List ℕ) (m at : ℕ) → m ≤ length bytes → drop m bytes ≡ strip_bom bytes
+    → SkipsEnds bytes m at → length bytes ≤ at → StartsPart true bytes at (length bytes - m + 1)
+unfolding part_records
+part_empty bytes m at le e h over =
+    let none = none_left (length bytes - m + 1) bytes at over in
+    record { is = none ∙ ap (drop 1) (sym none ∙ part_at bytes m at le e h); starts = h.starts }
+
+-- behind a header they begin with the second record
+pub part_headed : {bytes : List ℕ} {m at next : ℕ} → (fields : List (List ℕ)) → m ≤ length bytes
+    → drop m bytes ≡ strip_bom bytes → SkipsEnds bytes m at → ReadsFirst bytes at fields next
+    → StartsPart true bytes next (length bytes - m)
+unfolding part_records
+part_headed {bytes = bytes} {m = m} {at = at} {next = next} fields le e h r =
+    let one : length bytes - m + 1 ≡ suc (length bytes - m) = omega arith in
     record {
-      is = ap (drop 1) (sym (sym (ap (records default_config) e) ∙ h.same ∙ r.is));
+      is = ap (drop 1) (sym (r.is.reads (length bytes - m)) ∙ ap (λ n. records_at n bytes at) (sym one)
+          ∙ part_at bytes m at le e h);
       starts = r.starts;
     }
 
-over_at : (n m : ℕ) → n < m → nat_eq n m ≡ false
-over_at n m lt = ne_eqb n m (λ e. absurd (omega (arith, lt, e)))
-
-same_at : (n m : ℕ) → n ≡ m → nat_eq n m ≡ true
-same_at n m e = eq-eqb n m e
-
--- the test of the end is whether no record is left
-pub over_is : {bytes : List ℕ} {at : ℕ} {rest : List (List (List ℕ))} → (n : ℕ)
-    → StartsLine bytes at → n ≡ length bytes → records_at bytes at ≡ rest
-    → nat_eq at n ≡ at_end rest
-over_is {bytes = bytes} {at = at} n h size is = elim (dec_lt at (length bytes)) [
-  | yes lt ↦ over_at at n (omega (arith, lt, size)) ∙ sym (left_there bytes at h lt) ∙ ap at_end is
-  | no over ↦
-      let whole = h.within in
-      same_at at n (omega (arith, over, size, whole))
-      ∙ sym (over_there bytes at h (omega (arith, over, whole))) ∙ ap at_end is
-]
+-- how the rows of a part begin
+pub ruleset parts = (part_starts, part_empty, part_headed)

@@ -1,7 +1,7 @@
 -- What a fetch of a file's bytes gives, block by block.
 use Rattle.std.specs.Prelude.{◌≡◌, ℕ, ◌+◌, ◌<◌, ◌≤◌, List, ◌++◌, length, take, Option, Some, IfSome, Result, Ok, Err, ⊤}
 use Rattle.outside_io.specs.declared.entries.FileEntry.{FileEntry}
-use Rattle.outside_io.specs.Told.{file_bytes, told_content, moved_by, GivesNext}
+use Rattle.outside_io.specs.Told.{file_bytes, moved_by, GivesNext}
 use Rattle.csv_rows.specs.declared.file_fetch.Fetched.{Fetched}
 use Rattle.csv_rows.specs.declared.file_fetch.Fetched.TheVariants.{More, Whole, Pending}
 use Rattle.csv_rows.specs.declared.file_fetch.FetchFault.{FetchFault}
@@ -66,12 +66,15 @@ OnTooLong Read P = ⊤
 OnTooLong (TooLong n) P = P n
 OnTooLong Memory P = ⊤
 
+-- the held bytes begin these
+abbrev pub Begins : List ℕ → List ℕ → Type 0
+Begins held content = (length held ≤ length content) × (held ≡ take (length held) content)
+
 -- the reader stands behind the held bytes, which begin the file where it is told
 pub record HoldsFront (files : Option (List FileEntry)) (stands : Option (List ℕ × ℕ))
     (path held : List ℕ) : Type 0 where
   pub at : stands ≡ Some (path, length held)
-  pub front : IfSome (told_content files stands)
-      (λ content. (length held ≤ length content) × (held ≡ take (length held) content))
+  pub front : IfSome files (λ all. IfSome (file_bytes all path) (Begins held))
 
 -- these are the bytes of the file, where it is told
 abbrev pub IsFile : Option (List FileEntry) → List ℕ → List ℕ → Type 0

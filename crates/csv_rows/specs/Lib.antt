@@ -1,7 +1,4 @@
 pub mod Lines
-pub mod Pushing
 pub mod RowsLeft
-pub mod Marks
-pub mod FieldPlaces
-pub mod RecordPlaces
+pub mod Places
 pub mod Fetching

@@ -1,9 +1,9 @@
 -- The records of a part that are left.
-use Rattle.std.specs.Prelude.{◌≡◌, ℕ, ◌+◌, ◌<◌, ◌≤◌, Bool, true, false, List, [], ◌∷◌, ◌++◌, length}
+use Rattle.std.specs.Prelude.{◌≡◌, ℕ, ◌+◌, ◌<◌, ◌≤◌, Bool, true, false, List, [], ◌∷◌, ◌++◌, length, map}
+use Rattle.chunk_data.specs.Names.{Row, FitsTypes, AreLong, rows_of, joined, kind_of, values}
+use Rattle.chunk_data.specs.declared.typed_column.Column.{Column}
 use Rattle.chunk_data.specs.declared.typed_value.Value.{Value}
 use Rattle.chunk_data.specs.declared.typed_value.ColumnType.{ColumnType}
-use Rattle.chunk_data.specs.Values.{Row}
-use Rattle.chunk_data.specs.Rows.{AreLong, rows_of}
 use Rattle.query_model.specs.Parts.{bad_place, good_rows}
 
 -- what a contract sees: the records that are left, and how many were passed
@@ -14,10 +14,6 @@ pub record RowsLeft : Type 0 where
 abbrev pub at_end : List (List (List ℕ)) → Bool
 at_end [] = true
 at_end (fields ∷ more) = false
-
-abbrev pub first_record : List (List (List ℕ)) → List (List ℕ)
-first_record [] = []
-first_record (fields ∷ more) = fields
 
 -- The good rows of the records that were left are the rows taken, at most so many, and those of the
 -- records that are left now. A row at least was taken where a record was left.
@@ -34,3 +30,13 @@ pub record ReadsFront (types : List ColumnType) (old new : RowsLeft) (columns : 
     (count most : ℕ) : Type 0 where
   pub long : AreLong count columns
   pub takes : TakesRows types old new (rows_of count columns) most
+
+-- one record, which is a row, was taken and added to the columns
+pub record TakesRow (old new : RowsLeft) (before after : List Column) : Type 0 where
+  pub row : Row
+  pub fits : FitsTypes (map kind_of before) row
+  pub good : good_rows (map kind_of before) old.rest
+      ≡ row ∷ good_rows (map kind_of before) new.rest
+  pub places : bad_place (old.count + 1) (map kind_of before) old.rest
+      ≡ bad_place (new.count + 1) (map kind_of before) new.rest
+  pub added : map values after ≡ joined (map values before) (map (λ v. v ∷ []) row)

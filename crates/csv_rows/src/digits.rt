@@ -1,6 +1,6 @@
 // Numbers that are spelled while their end is looked for.
 ghost use Rattle.std.specs.Prelude.{◌≡◌, ◌+◌, ◌<◌, ◌≤◌, ◌^◌, length, IfSome, pos, neg_ℤ};
-ghost use Rattle.csv_rows.specs.FieldPlaces.{SpellsDigits, SpellsInt};
+ghost use Rattle.csv_rows.specs.Places.{SpellsDigits, SpellsInt};
 
 use crate::field_ends::is_mark;
 
@@ -12,6 +12,7 @@ const PAST_INT: u64 = 1 << 63;
 
 /// The number that the field at a place spells by digits alone, and where it ends; none for another
 /// field, for one with too many digits, and for the last of a text without an end of line.
+#[tactic(auto, using(crate::proofs::FieldPlaces::digits_none))]
 pub(crate) fn digits_at(bytes: &[u8], at: usize) -> Option<(u64, usize)>
     requires { at ≤ length bytes.now }
     ensures { IfSome result (λ p. SpellsDigits bytes.now at p.0 p.1) }
@@ -41,31 +42,20 @@ fn negated(size: u64) -> i64
 }
 
 /// The same with a sign in front or none.
+#[tactic(auto, using(crate::proofs::FieldPlaces::int_positive))]
 pub(crate) fn int_at(bytes: &[u8], at: usize) -> Option<(i64, usize)>
     requires { at ≤ length bytes.now }
     ensures { IfSome result (λ p. SpellsInt bytes.now at p.0 p.1) }
 {
     if at < bytes.len() && bytes[at] == b'-' {
         match digits_at(bytes, at + 1) {
-            Some((size, end)) => {
-                if size < PAST_INT {
-                    Some((negated(size), end))
-                } else {
-                    None
-                }
-            }
-            None => None,
+            Some((size, end)) if size < PAST_INT => Some((negated(size), end)),
+            _ => None,
         }
     } else {
         match digits_at(bytes, at) {
-            Some((size, end)) => {
-                if size < PAST_INT {
-                    Some((size as i64, end))
-                } else {
-                    None
-                }
-            }
-            None => None,
+            Some((size, end)) if size < PAST_INT => Some((size as i64, end)),
+            _ => None,
         }
     }
 }

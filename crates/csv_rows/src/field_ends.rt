@@ -1,9 +1,8 @@
-// Where fields end, and the bytes of one.
+// Where fields and lines end, and the bytes of a field.
 ghost use Rattle.std.specs.Prelude.{◌≡◌, [], ◌+◌, ◌<◌, ◌≤◌, true, false, length, map, drop, IfOk};
 ghost use Rattle.std.specs.List.{prefix_len};
 ghost use Rattle.std.specs.Simd.Lanes.{mask_l};
-ghost use Rattle.csv_rows.specs.Marks.{at_comma, at_quote, no_mark};
-ghost use Rattle.csv_rows.specs.FieldPlaces.{part, FieldUpTo, NextMark, NextQuote};
+ghost use Rattle.csv_rows.specs.Places.{starts_with, at_mark, no_mark, no_quote, part, FieldUpTo, EndsLine, SkipsEnds};
 
 use memchr::memchr;
 use std::alloc::AllocError;
@@ -11,7 +10,7 @@ use std::simd::prelude::*;
 
 /// Whether the byte ends a field without quotes.
 pub(crate) fn is_mark(c: u8) -> bool
-    ensures { result ≡ Rattle.csv_rows.specs.Marks.is_mark c }
+    ensures { result ≡ Rattle.csv_rows.specs.Places.is_mark c }
 {
     (c == b',') | ((c == b'\n') | (c == b'\r'))
 }
@@ -19,74 +18,67 @@ pub(crate) fn is_mark(c: u8) -> bool
 // The marks among 16 bytes.
 #[inline(always)]
 fn marks(v: u8x16) -> u64
-    ensures { result ≡ mask_l (map Rattle.csv_rows.specs.Marks.is_mark v) }
+    ensures { result ≡ mask_l (map Rattle.csv_rows.specs.Places.is_mark v) }
 {
     (v.simd_eq(u8x16::splat(b','))
         | v.simd_eq(u8x16::splat(b'\n'))
         | v.simd_eq(u8x16::splat(b'\r'))).to_bitmask()
 }
 
-// The first mark from a place on, or the end, byte by byte.
-fn mark_slowly(bytes: &[u8], at: usize) -> usize
-    requires { at ≤ length bytes.now }
-    ensures { result ≡ at + prefix_len no_mark (drop at bytes.now) }
-{
-    let mut i = at;
-    while i < bytes.len() && !is_mark(bytes[i]) {
-        i += 1;
-    }
-    i
-}
-
-// The same, 16 bytes at a time.
+// The first mark from a place on, or the end: 16 bytes at a time, and the last ones byte by byte.
 fn mark_from(bytes: &[u8], at: usize) -> usize
     requires { at ≤ length bytes.now }
-    ensures { result ≡ at + prefix_len no_mark (drop at bytes.now) }
+    ensures run { result ≡ at + prefix_len no_mark (drop at bytes.now) }
+    ensures within { result ≤ length bytes.now }
 {
     let mut i = at;
-    while bytes.len() - i >= 16 {
+    'lanes: while bytes.len() - i >= 16 {
         let found = marks(u8x16::from_slice(&bytes[i..]));
         if found != 0 {
             return i + found.trailing_zeros() as usize;
         }
         i += 16;
     }
-    mark_slowly(bytes, i)
-}
-
-// The next mark from a place on, or the end.
-fn next_mark(bytes: &[u8], at: usize) -> usize
-    requires { at ≤ length bytes.now }
-    ensures { NextMark bytes.now at result }
-{
-    mark_from(bytes, at)
+    'bytes: while i < bytes.len() && !is_mark(bytes[i]) {
+        i += 1;
+    }
+    i
 }
 
 /// Where the field at a place ends, which has no quote in front.
 pub(crate) fn plain_end(bytes: &[u8], at: usize) -> usize
     requires within { at ≤ length bytes.now }
-    requires plain { at_quote (drop at bytes.now) ≡ false }
+    requires plain { starts_with 34 (drop at bytes.now) ≡ false }
     ensures { FieldUpTo bytes.now at (part bytes.now at result) result }
 {
-    next_mark(bytes, at)
+    mark_from(bytes, at)
+}
+
+// How many bytes stand in front of the first quote, or in all.
+fn quote_in(bytes: &[u8]) -> usize
+    ensures run { result ≡ prefix_len no_quote bytes.now }
+    ensures within { result ≤ length bytes.now }
+{
+    match memchr(b'"', bytes) {
+        Some(found) => found,
+        None => bytes.len(),
+    }
 }
 
 // The next quote from a place on, or the end.
 fn next_quote(bytes: &[u8], at: usize) -> usize
     requires { at ≤ length bytes.now }
-    ensures { NextQuote bytes.now at result }
+    ensures run { result ≡ at + prefix_len no_quote (drop at bytes.now) }
+    ensures within { result ≤ length bytes.now }
 {
-    match memchr(b'"', &bytes[at..]) {
-        Some(found) => at + found,
-        None => bytes.len(),
-    }
+    at + quote_in(&bytes[at..])
 }
 
 // Where the field at a place ends, which begins with a quote; its bytes are put into `field`, which
 // is empty. Behind the closing quote the rest is read as if it had no quotes.
 fn quoted_end(bytes: &[u8], at: usize, field: &mut Vec<u8>) -> Result<usize, AllocError>
     requires within { at < length bytes.now }
-    requires quote { at_quote (drop at bytes.now) ≡ true }
+    requires quote { starts_with 34 (drop at bytes.now) ≡ true }
     requires empty { field.old.items ≡ [] }
     ensures { IfOk result (λ end. FieldUpTo bytes.now at field.new.items end) }
 {
@@ -98,7 +90,7 @@ fn quoted_end(bytes: &[u8], at: usize, field: &mut Vec<u8>) -> Result<usize, All
             return Ok(quote);
         }
         if !quote_at(bytes, quote + 1) {
-            let end = next_mark(bytes, quote + 1);
+            let end = mark_from(bytes, quote + 1);
             field.extend_from_slice(&bytes[quote + 1..end])?;
             return Ok(end);
         }
@@ -110,7 +102,7 @@ fn quoted_end(bytes: &[u8], at: usize, field: &mut Vec<u8>) -> Result<usize, All
 /// Whether a quote stands at the place.
 pub(crate) fn quote_at(bytes: &[u8], at: usize) -> bool
     requires { at ≤ length bytes.now }
-    ensures { result ≡ at_quote (drop at bytes.now) }
+    ensures { result ≡ starts_with 34 (drop at bytes.now) }
 {
     at < bytes.len() && bytes[at] == b'"'
 }
@@ -118,7 +110,7 @@ pub(crate) fn quote_at(bytes: &[u8], at: usize) -> bool
 /// Whether a comma stands at the place.
 pub(crate) fn comma_at(bytes: &[u8], at: usize) -> bool
     requires { at ≤ length bytes.now }
-    ensures { result ≡ at_comma (drop at bytes.now) }
+    ensures { result ≡ starts_with 44 (drop at bytes.now) }
 {
     at < bytes.len() && bytes[at] == b','
 }
@@ -135,5 +127,41 @@ pub(crate) fn field_at(bytes: &[u8], at: usize, field: &mut Vec<u8>) -> Result<u
         let end = plain_end(bytes, at);
         field.extend_from_slice(&bytes[at..end])?;
         Ok(end)
+    }
+}
+
+// Whether the byte ends a line.
+fn is_line_end(c: u8) -> bool
+    ensures { result ≡ Rattle.csv_rows.specs.Places.is_line_end c }
+{
+    (c == b'\n') | (c == b'\r')
+}
+
+/// The first place from here on where no line ends: an empty line is no record.
+#[tactic(auto, using(crate::proofs::FieldPlaces::skip_more))]
+pub(crate) fn skip_ends(bytes: &[u8], at: usize) -> usize
+    requires { at ≤ length bytes.now }
+    ensures { SkipsEnds bytes.now at result }
+{
+    for i in at..bytes.len() {
+        if !is_line_end(bytes[i]) {
+            return i;
+        }
+    }
+    bytes.len()
+}
+
+/// Where the record behind the end of a line begins.
+#[tactic(auto, using(crate::proofs::FieldPlaces::line_ends))]
+pub(crate) fn line_end(bytes: &[u8], at: usize) -> usize
+    requires within { at ≤ length bytes.now }
+    requires mark { at_mark (drop at bytes.now) ≡ true }
+    requires comma { starts_with 44 (drop at bytes.now) ≡ false }
+    ensures { EndsLine bytes.now at result }
+{
+    if at < bytes.len() {
+        skip_ends(bytes, at + 1)
+    } else {
+        at
     }
 }

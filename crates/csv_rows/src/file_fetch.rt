@@ -74,8 +74,7 @@ pub fn hold_block(held: &mut Bytes, block: &[u8], limit: u64) -> Result<Fetched,
     if had > limit || block.len() as u64 > limit - had {
         return Err(FetchFault::TooLong(block.len()));
     }
-    match held.extend_from_slice(block) {
-        Ok(()) => Ok(Fetched::More),
-        Err(_) => Err(FetchFault::Memory),
-    }
+    held.extend_from_slice(block)
+        .map(|()| Fetched::More)
+        .map_err(|_| FetchFault::Memory)
 }

@@ -3,18 +3,16 @@
 //!
 //! A record is read field by field into its columns (`record_by_field`), numbers while their digits
 //! are passed over (`digits`). Where anything surprises, what it added is taken back and the same
-//! record is read whole (`whole_record`), which tells why it is no row.
+//! record is read whole, which tells why it is no row.
 #![tactic(auto)]
 
 mod digits;
 mod field_ends;
 mod file_fetch;
-mod line_ends;
 mod record_by_field;
 mod row_reader;
 mod rows;
 mod text;
-mod whole_record;
 
 pub use file_fetch::{FetchFault, Fetched, fetch, hold_block};
 pub use row_reader::RowReader;

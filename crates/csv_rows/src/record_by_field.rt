@@ -1,15 +1,13 @@
-// A record's fields, added to columns as they are read.
-ghost use Rattle.std.specs.Prelude.{◌≡◌, ◌+◌, ◌<◌, ◌≤◌, ℕ, None, true, length, map, take, drop, IfOk, IfSome, OnErr};
-ghost use Rattle.chunk_data.specs.Columns.{kind_of, values};
-ghost use Rattle.chunk_data.specs.Rows.{AreLong};
-ghost use Rattle.csv_rows.specs.Marks.{starts_line};
-ghost use Rattle.csv_rows.specs.RecordPlaces.{AddsAt, AddsFirst};
+// Records, added to columns field by field as they are read, or read whole first: the way to tell
+// why one is no row.
+ghost use Rattle.std.specs.Prelude.{◌≡◌, ◌+◌, ◌<◌, ◌≤◌, ◌^◌, None, true, length, map, drop, IfOk, IfErr, IfSome, OnErr};
+ghost use Rattle.chunk_data.specs.Names.{kind_of, values, AreLong};
+ghost use Rattle.csv_rows.specs.Places.{starts_line, AddsAt, AddsFirst, IsBadAt, OnBad, ReadsFirst, TakesBack};
 
 use crate::digits::{digits_at, int_at};
-use crate::field_ends::{comma_at, field_at, plain_end, quote_at};
-use crate::line_ends::line_end;
-use crate::rows::{FieldFault, push_field};
-use chunk_data::{Column, Memory};
+use crate::field_ends::{comma_at, field_at, line_end, plain_end, quote_at};
+use crate::rows::{FieldFault, RowsFault, push_field, push_record};
+use chunk_data::{Column, ColumnType, Memory, Texts, truncate_columns};
 
 // Adds the value at a place and says where it ends; none for a field with quotes, or a number of
 // another form than a sign and digits.
@@ -21,64 +19,26 @@ fn push_bare(column: &mut Column, bytes: &[u8], at: usize) -> Result<Option<usiz
     ensures none { IfOk result (λ o. o ≡ None → values column.new ≡ values column.old) }
     ensures err { OnErr result (values column.new ≡ values column.old) }
 {
-    match column {
-        Column::Int64(numbers) => match int_at(bytes, at) {
-            Some((number, end)) => match numbers.push(number) {
-                Ok(()) => Ok(Some(end)),
-                Err(_) => Err(Memory),
-            },
+    match column.kind() {
+        ColumnType::Int64 => match int_at(bytes, at) {
+            Some((number, end)) => column.push_int(number).map(|()| Some(end)),
             None => Ok(None),
         },
-        Column::UInt64(numbers) => match digits_at(bytes, at) {
-            Some((number, end)) => match numbers.push(number) {
-                Ok(()) => Ok(Some(end)),
-                Err(_) => Err(Memory),
-            },
+        ColumnType::UInt64 => match digits_at(bytes, at) {
+            Some((number, end)) => column.push_uint(number).map(|()| Some(end)),
             None => Ok(None),
         },
-        Column::Text(texts) => {
+        ColumnType::Text => {
             if quote_at(bytes, at) {
                 return Ok(None);
             }
             let end = plain_end(bytes, at);
-            match texts.push(&bytes[at..end]) {
-                Ok(()) => Ok(Some(end)),
-                Err(_) => Err(Memory),
-            }
+            column.push_text(&bytes[at..end]).map(|()| Some(end))
         }
     }
 }
 
 // Adds the value of any field at a place, and says where it ends.
-fn push_any(
-    column: &mut Column,
-    bytes: &[u8],
-    at: usize,
-    field: &mut Vec<u8>,
-) -> Result<usize, FieldFault>
-    requires { at ≤ length bytes.now }
-    ensures kind { kind_of column.new ≡ kind_of column.old }
-    ensures ok { IfOk result (λ end. AddsAt bytes.now at end column.old column.new) }
-    ensures err { OnErr result (values column.new ≡ values column.old) }
-{
-    if quote_at(bytes, at) {
-        match field_at(bytes, at, field) {
-            Ok(end) => match push_field(column, field.as_slice()) {
-                Ok(()) => Ok(end),
-                Err(fault) => Err(fault),
-            },
-            Err(_) => Err(FieldFault::Memory),
-        }
-    } else {
-        let end = plain_end(bytes, at);
-        match push_field(column, &bytes[at..end]) {
-            Ok(()) => Ok(end),
-            Err(fault) => Err(fault),
-        }
-    }
-}
-
-// The same, with a short way for most fields.
 fn push_at(
     column: &mut Column,
     bytes: &[u8],
@@ -92,14 +52,17 @@ fn push_at(
 {
     match push_bare(column, bytes, at) {
         Ok(Some(end)) => Ok(end),
-        Ok(None) => push_any(column, bytes, at, field),
+        Ok(None) => match field_at(bytes, at, field) {
+            Ok(end) => push_field(column, field.as_slice()).map(|()| end),
+            Err(_) => Err(FieldFault::Memory),
+        },
         Err(_) => Err(FieldFault::Memory),
     }
 }
 
-/// Adds the record at a place to the columns and says where the next one begins. A record that is
-/// no row is an error, and what it added can be taken back.
-pub(crate) fn push_fields(
+// Adds the record at a place to the columns and says where the next one begins. A record that is no
+// row is an error, and what it added can be taken back.
+fn push_fields(
     columns: &mut [Column],
     bytes: &[u8],
     at: usize,
@@ -107,17 +70,12 @@ pub(crate) fn push_fields(
 ) -> Result<usize, FieldFault>
     requires within { at ≤ length bytes.now }
     requires starts { starts_line (drop at bytes.now) ≡ true }
-    ensures kinds { map kind_of columns.new ≡ map kind_of columns.old }
     ensures ok { IfOk result (λ next. AddsFirst bytes.now at next columns.old columns.new) }
-    ensures err { OnErr result ((n : ℕ) → AreLong n (map values columns.old)
-        → map (take n) (map values columns.new) ≡ map values columns.old) }
+    ensures back { TakesBack columns.old columns.new }
 {
     let mut place = at;
     for i in 0..columns.len() {
-        let end = match push_at(&mut columns[i], bytes, place, field) {
-            Ok(end) => end,
-            Err(fault) => return Err(fault),
-        };
+        let end = push_at(&mut columns[i], bytes, place, field)?;
         let more = comma_at(bytes, end);
         if i + 1 == columns.len() {
             if more {
@@ -131,4 +89,64 @@ pub(crate) fn push_fields(
         place = end + 1;
     }
     Err(FieldFault::Unspelled)
+}
+
+/// The fields of the record at a place, and where the next one begins.
+#[tactic(auto, using(crate::proofs::Pushing::fields_none))]
+pub(crate) fn read_fields(
+    bytes: &[u8],
+    at: usize,
+    fields: &mut Texts,
+    field: &mut Vec<u8>,
+) -> Result<usize, Memory>
+    requires within { at ≤ length bytes.now }
+    requires starts { starts_line (drop at bytes.now) ≡ true }
+    ensures { IfOk result (λ next. ReadsFirst bytes.now at fields.new next) }
+{
+    fields.truncate(0);
+    let mut place = at;
+    'fields: loop {
+        let end = field_at(bytes, place, field)?;
+        fields.push(field.as_slice())?;
+        if !comma_at(bytes, end) {
+            return Ok(line_end(bytes, end));
+        }
+        place = end + 1;
+    }
+}
+
+/// Adds the record at a place, which has this number, as one row behind so many, and says where the
+/// next one begins. Where it is no row by the short way, it is read whole, which tells why.
+pub(crate) fn push_first(
+    columns: &mut [Column],
+    bytes: &[u8],
+    at: usize,
+    rows: usize,
+    number: u64,
+    fields: &mut Texts,
+    field: &mut Vec<u8>,
+) -> Result<usize, RowsFault>
+    requires within { at ≤ length bytes.now }
+    requires starts { starts_line (drop at bytes.now) ≡ true }
+    requires long { AreLong rows (map values columns.old) }
+    requires few { length columns.old < 2 ^ 32 }
+    ensures kinds { map kind_of columns.new ≡ map kind_of columns.old }
+    ensures ok { IfOk result (λ next. AddsFirst bytes.now at next columns.old columns.new) }
+    ensures bad { IfErr result (λ e. OnBad e (IsBadAt columns.old bytes.now at number)) }
+    ensures err { OnErr result (map values columns.new ≡ map values columns.old) }
+{
+    match push_fields(columns, bytes, at, field) {
+        Ok(next) => Ok(next),
+        Err(FieldFault::Unspelled) => {
+            truncate_columns(columns, rows);
+            match read_fields(bytes, at, fields, field) {
+                Ok(next) => push_record(columns, fields, rows, number).map(|()| next),
+                Err(_) => Err(RowsFault::Memory),
+            }
+        }
+        Err(FieldFault::Memory) => {
+            truncate_columns(columns, rows);
+            Err(RowsFault::Memory)
+        }
+    }
 }

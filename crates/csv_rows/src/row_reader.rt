@@ -1,15 +1,13 @@
 ghost use Rattle.std.specs.Prelude.{◌≡◌, [], ◌+◌, ◌<◌, ◌≤◌, ◌^◌, ◌∷◌, false, length, map, drop, IfOk, IfErr, OnOk, OnErr, Some};
 ghost use Rattle.csv.specs.Reading.{strip_bom};
-ghost use Rattle.chunk_data.specs.Columns.{kind_of, values};
-ghost use Rattle.chunk_data.specs.Rows.{AreLong, rows_of};
+ghost use Rattle.chunk_data.specs.Names.{kind_of, values, AreLong, rows_of};
 ghost use Rattle.query_model.specs.Parts.{bad_place, part_records};
-ghost use Rattle.csv_rows.specs.RecordPlaces.{StartsPart};
-ghost use Rattle.csv_rows.specs.Pushing.{AddsRecord, IsBadRecord, OnBad};
-ghost use Rattle.csv_rows.specs.RowsLeft.{at_end, first_record, ReadsFront, TakesRows};
+ghost use Rattle.csv_rows.specs.Places.{StartsPart, OnBad};
+ghost use Rattle.csv_rows.specs.RowsLeft.{at_end, ReadsFront, TakesRow, TakesRows};
 
-use crate::line_ends::skip_ends;
+use crate::field_ends::skip_ends;
+use crate::record_by_field::{push_first, read_fields};
 use crate::rows::RowsFault;
-use crate::whole_record::{push_first, read_fields};
 use chunk_data::{Chunk, Column, ColumnType, List, Memory, Texts};
 use std::alloc::Global;
 use std::marker::Model;
@@ -23,6 +21,8 @@ use std::marker::Model;
 pub struct RowReader {
     bytes: Vec<u8>,
     at: usize,
+    // More records than these can't come.
+    left: usize,
     passed: u64,
     fields: Texts,
     field: Vec<u8>,
@@ -30,12 +30,11 @@ pub struct RowReader {
 
 impl Model for RowReader {
     ghost use Rattle.csv_rows.specs.RowsLeft.{RowsLeft};
-    ghost use Rattle.csv_rows.specs.RecordPlaces.{records_at};
-    ghost use Rattle.csv_rows.specs.FieldPlaces.{StartsLine};
+    ghost use Rattle.csv_rows.specs.Places.{records_at, StartsLine};
 
     ghost Value = { RowsLeft };
 
-    ghost view = { λ r. record { rest = records_at r.bytes.items r.at; count = r.passed } };
+    ghost view = { λ r. record { rest = records_at r.left r.bytes.items r.at; count = r.passed } };
 
     ghost invariant = { λ r. StartsLine r.bytes.items r.at };
 }
@@ -49,23 +48,22 @@ impl RowReader {
     {
         let mut fields = Texts::new(alloc);
         let mut field = Vec::new(alloc);
-        match first_place(bytes.as_slice(), header, &mut fields, &mut field) {
-            Ok(at) => Ok(RowReader {
-                bytes,
-                at,
-                passed: 0,
-                fields,
-                field,
-            }),
-            Err(_) => Err(Memory),
-        }
+        let (at, left) = first_place(bytes.as_slice(), header, &mut fields, &mut field)?;
+        Ok(RowReader {
+            bytes,
+            at,
+            left,
+            passed: 0,
+            fields,
+            field,
+        })
     }
 
     /// Whether no record is left.
     pub fn is_over(&self) -> bool
         ensures { result ≡ at_end self.now.rest }
     {
-        self.at == self.bytes.as_slice().len()
+        self.left == 0 || self.at == self.bytes.as_slice().len()
     }
 
     /// The next rows as a chunk, at most so many. It ends in front of a bad record, whose place is
@@ -82,20 +80,13 @@ impl RowReader {
         ensures bad { IfErr result (λ e. OnBad e (λ place.
             bad_place (self.old.count + 1) types.now self.old.rest ≡ Some place)) }
     {
-        let room = self.room(most);
+        let room = most.min(ROOM).min(self.bytes.len());
         let mut columns = match roomy_columns(alloc, types.as_slice(), room) {
             Ok(columns) => columns,
             Err(_) => return Err(RowsFault::Memory),
         };
-        match read_front(self, &mut columns, most) {
-            Ok(rows) => chunk_of(alloc, columns, rows),
-            Err(fault) => Err(fault),
-        }
-    }
-
-    // For how many rows room is made, of at most so many.
-    fn room(&self, most: usize) -> usize {
-        most.min(ROOM).min(self.bytes.len())
+        let rows = read_front(self, &mut columns, most)?;
+        Chunk::of_columns(alloc, List::from_vec(columns), rows).map_err(|_| RowsFault::Memory)
     }
 
     // Adds the next record as one row behind so many; after an error the columns and what is left
@@ -105,12 +96,9 @@ impl RowReader {
         requires long { AreLong rows (map values columns.old) }
         requires few { length columns.old < 2 ^ 32 }
         ensures kinds { map kind_of columns.new ≡ map kind_of columns.old }
-        ensures ok { OnOk result (
-            AddsRecord (first_record self.old.rest) columns.old columns.new) }
-        ensures rest { OnOk result (self.old.rest ≡ first_record self.old.rest ∷ self.new.rest) }
-        ensures count { OnOk result (self.new.count ≡ self.old.count + 1) }
-        ensures bad { IfErr result (λ e. OnBad e (
-            IsBadRecord columns.old (first_record self.old.rest) (self.old.count + 1))) }
+        ensures ok { OnOk result (TakesRow self.old self.new columns.old columns.new) }
+        ensures bad { IfErr result (λ e. OnBad e (λ place.
+            bad_place (self.old.count + 1) (map kind_of columns.old) self.old.rest ≡ Some place)) }
         ensures err { OnErr result (map values columns.new ≡ map values columns.old) }
         ensures stays { OnErr result (self.new ≡ self.old) }
     {
@@ -128,6 +116,7 @@ impl RowReader {
         ) {
             Ok(next) => {
                 self.at = next;
+                self.left -= 1;
                 self.passed = number;
                 Ok(())
             }
@@ -158,21 +147,26 @@ fn mark_end(bytes: &[u8]) -> usize
     }
 }
 
-// The place of the first record that is a row.
+// The place of the first record that is a row, and how many can come.
+#[tactic(auto, using(crate::proofs::PartPlaces::parts))]
 fn first_place(
     bytes: &[u8],
     header: bool,
     fields: &mut Texts,
     field: &mut Vec<u8>,
-) -> Result<usize, Memory>
-    ensures { IfOk result (λ at. StartsPart header bytes.now at) }
+) -> Result<(usize, usize), Memory>
+    ensures { IfOk result (λ p. StartsPart header bytes.now p.0 p.1) }
 {
-    let at = skip_ends(bytes, mark_end(bytes));
-    if header && at < bytes.len() {
-        read_fields(bytes, at, fields, field)
-    } else {
-        Ok(at)
+    let mark = mark_end(bytes);
+    let at = skip_ends(bytes, mark);
+    let most = bytes.len() - mark;
+    if !header {
+        return Ok((at, most + 1));
     }
+    if at >= bytes.len() {
+        return Ok((at, most + 1));
+    }
+    read_fields(bytes, at, fields, field).map(|next| (next, most))
 }
 
 /// The most rows for which room is made ahead.
@@ -215,33 +209,10 @@ fn read_front(
             return Ok(rows);
         }
         match reader.push_next(columns, rows) {
-            Ok(()) => {}
-            Err(fault) => return stop_at(fault, rows),
+            Ok(()) => rows += 1,
+            // Rows in front of a bad record go out before it is told.
+            Err(RowsFault::Bad(_)) if rows > 0 => return Ok(rows),
+            Err(fault) => return Err(fault),
         }
-        rows += 1;
-    }
-}
-
-// Rows in front of a bad record go out before it is told.
-fn stop_at(fault: RowsFault, rows: usize) -> Result<usize, RowsFault>
-    ensures ok { IfOk result (λ n. (n ≡ rows) × (0 < rows)) }
-    ensures err { IfErr result (λ e. e ≡ fault) }
-{
-    match fault {
-        RowsFault::Bad(_) if rows > 0 => Ok(rows),
-        RowsFault::Bad(place) => Err(RowsFault::Bad(place)),
-        RowsFault::Memory => Err(RowsFault::Memory),
-    }
-}
-
-fn chunk_of(alloc: Global, columns: Vec<Column>, rows: usize) -> Result<Chunk, RowsFault>
-    requires { AreLong rows (map values columns.items) }
-    ensures types { IfOk result (λ c. c.types ≡ map kind_of columns.items) }
-    ensures rows { IfOk result (λ c. c.rows ≡ rows_of rows (map values columns.items)) }
-    ensures err { IfErr result (λ e. e ≡ RowsFault.Memory) }
-{
-    match Chunk::of_columns(alloc, List::from_vec(columns), rows) {
-        Ok(chunk) => Ok(chunk),
-        Err(_) => Err(RowsFault::Memory),
     }
 }

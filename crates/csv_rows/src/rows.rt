@@ -1,11 +1,10 @@
 // What the records of a part add to columns.
 ghost use Rattle.std.specs.Prelude.{◌≡◌, ◌+◌, ◌<◌, ◌^◌, map, IfErr, OnOk, OnErr, None, length};
-ghost use Rattle.chunk_data.specs.Columns.{kind_of, values};
-ghost use Rattle.chunk_data.specs.Rows.{AreLong};
+ghost use Rattle.chunk_data.specs.Names.{kind_of, values, AreLong};
 ghost use Rattle.query_model.specs.Fields.{spelled_value};
-ghost use Rattle.csv_rows.specs.Pushing.{AddsSpelled, AddsRecord, IsBadRecord, OnBad, OnUnspelled, record_fault};
+ghost use Rattle.csv_rows.specs.Places.{AddsSpelled, AddsRecord, IsBadRecord, OnBad, OnUnspelled, record_fault};
 
-use chunk_data::{Column, Texts, truncate_columns};
+use chunk_data::{Column, ColumnType, Texts, truncate_columns};
 use query_model::numerals::{spelled_int, spelled_uint};
 use query_model::places::{BadField, BadPlace};
 
@@ -78,24 +77,16 @@ pub(crate) fn push_field(column: &mut Column, field: &[u8]) -> Result<(), FieldF
         OnUnspelled e (spelled_value (kind_of column.old) field.now ≡ None)) }
     ensures err { OnErr result (values column.new ≡ values column.old) }
 {
-    match column {
-        Column::Int64(numbers) => match spelled_int(field) {
-            Some(number) => match numbers.push(number) {
-                Ok(()) => Ok(()),
-                Err(_) => Err(FieldFault::Memory),
-            },
-            None => Err(FieldFault::Unspelled),
+    let pushed = match column.kind() {
+        ColumnType::Int64 => match spelled_int(field) {
+            Some(number) => column.push_int(number),
+            None => return Err(FieldFault::Unspelled),
         },
-        Column::UInt64(numbers) => match spelled_uint(field) {
-            Some(number) => match numbers.push(number) {
-                Ok(()) => Ok(()),
-                Err(_) => Err(FieldFault::Memory),
-            },
-            None => Err(FieldFault::Unspelled),
+        ColumnType::UInt64 => match spelled_uint(field) {
+            Some(number) => column.push_uint(number),
+            None => return Err(FieldFault::Unspelled),
         },
-        Column::Text(texts) => match texts.push(field) {
-            Ok(()) => Ok(()),
-            Err(_) => Err(FieldFault::Memory),
-        },
-    }
+        ColumnType::Text => column.push_text(field),
+    };
+    pushed.map_err(|_| FieldFault::Memory)
 }

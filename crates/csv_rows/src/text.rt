@@ -1,13 +1,12 @@
-ghost use Rattle.std.specs.Prelude.{◌≡◌, ℕ, ◌<◌, ◌++◌, [], length, map, flat_map, Some, IfOk, OnOk};
+ghost use Rattle.std.specs.Prelude.{◌≡◌, ℕ, ◌<◌, ◌++◌, [], length, map, flat_map, IfOk, OnOk};
 ghost use Rattle.std.specs.Option.{option_copied};
-ghost use Rattle.chunk_data.specs.Values.{value_at, Table};
-ghost use Rattle.chunk_data.specs.Rows.{row_at};
-ghost use Rattle.chunk_data.specs.Columns.{values};
-ghost use Rattle.query_model.specs.Texts.{doubled, quoted, row_text, rows_text, separator, value_text};
+ghost use Rattle.chunk_data.specs.Names.{value_at, Table, row_at, values};
+ghost use Rattle.query_model.specs.Texts.{doubled, quoted, row_text as text_of_row, rows_text, separator, value_text};
 ghost use Rattle.csv_rows.specs.Lines.{heading};
 
-use chunk_data::{Bytes, Chunk, Column, List, Memory};
+use chunk_data::{Bytes, Chunk, Column, List, Memory, Value};
 use itoa::{Buffer, Integer};
+use query_model::plain::row_text;
 use std::alloc::Global;
 
 /// The text of an answer: a line of names, if any are given, and then a line for each row.
@@ -22,33 +21,34 @@ pub fn write_rows(
     ensures { IfOk result (λ v. v.items ≡ heading (option_copied names.entry)
         ++ rows_text (flat_map (λ (c : Table). c.rows) chunks.now)) }
 {
-    let mut out = Vec::new(alloc);
-    append_heading(&mut out, names)?;
+    let mut out = heading_text(alloc, names)?;
     for chunk in chunks {
         append_chunk(&mut out, chunk)?;
     }
     Ok(out)
 }
 
-fn append_heading(out: &mut Vec<u8>, names: Option<&List<Bytes>>) -> Result<(), Memory>
-    ensures { OnOk result (out.new.items ≡ out.old.items ++ heading (option_copied names.entry)) }
+// The line of names, each written as a text, where any are given.
+fn heading_text(alloc: Global, names: Option<&List<Bytes>>) -> Result<Vec<u8>, Memory>
+    ensures { IfOk result (λ v. v.items ≡ heading (option_copied names.entry)) }
 {
     match names {
-        None => Ok(()),
-        Some(names) => append_names(out, names.as_slice()),
+        None => Ok(Vec::new(alloc)),
+        Some(names) => {
+            let row = texts_of(alloc, names.as_slice())?;
+            row_text(alloc, row.as_slice())
+        }
     }
 }
 
-// A line of names, each written as a text.
-fn append_names(out: &mut Vec<u8>, names: &[Bytes]) -> Result<(), Memory>
-    ensures { OnOk result (out.new.items ≡ out.old.items ++ heading (Some names.now)) }
+fn texts_of(alloc: Global, names: &[Bytes]) -> Result<Vec<Value>, Memory>
+    ensures { IfOk result (λ v. v.items ≡ map Value.Text names.now) }
 {
-    for i in 0..names.len() {
-        append_comma(out, i)?;
-        append_quoted(out, names[i].as_slice())?;
+    let mut row = Vec::new(alloc);
+    for name in names {
+        row.push(Value::Text(name.copy()?))?;
     }
-    out.push(b'\n')?;
-    Ok(())
+    Ok(row)
 }
 
 fn append_chunk(out: &mut Vec<u8>, chunk: &Chunk) -> Result<(), Memory>
@@ -64,7 +64,7 @@ fn append_chunk(out: &mut Vec<u8>, chunk: &Chunk) -> Result<(), Memory>
 fn append_row(out: &mut Vec<u8>, digits: &mut Buffer, chunk: &Chunk, i: usize) -> Result<(), Memory>
     requires in_range { i < length chunk.now.rows }
     requires wide { length (row_at chunk.now.rows i) ≡ length chunk.now.types }
-    ensures { OnOk result (out.new.items ≡ out.old.items ++ row_text (row_at chunk.now.rows i)) }
+    ensures { OnOk result (out.new.items ≡ out.old.items ++ text_of_row (row_at chunk.now.rows i)) }
 {
     for c in 0..chunk.types().len() {
         append_comma(out, c)?;

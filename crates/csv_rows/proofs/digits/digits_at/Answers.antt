@@ -1,9 +1,6 @@
 use Rattle.std.proofs.Common.{◌∙◌, sym}
-use Rattle.csv_rows.proofs.FieldPlaces.{digits_none, digits_more, digits_stop}
+use Rattle.csv_rows.proofs.FieldPlaces.{digits_more, digits_stop}
 use Rattle.csv_rows.proofs.digits.digits_at.Goals as goal
-
-pub loop-i-init : goal.loop-i-init
-loop-i-init c = digits_none c.args.bytes.now c.args.at
 
 pub returns-then-is_mark : goal.returns-then-is_mark
 returns-then-is_mark c =

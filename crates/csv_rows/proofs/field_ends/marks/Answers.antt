@@ -1,13 +1,36 @@
-use Rattle.std.proofs.Common.{arith}
-use Rattle.std.proofs.lemmas.Simd.{zip2_splat}
-use Rattle.csv_rows.specs.Marks.{is_mark}
-use Rattle.csv_rows.proofs.ByteLanes.{hit, either, masked}
+use Rattle.std.proofs.Common.{◌≡◌, ℕ, ◌%◌, ◌^◌, ◌==◌, ◌||◌, Bool, true, false, cond, List, [], ◌∷◌, map, refl, ap, ap₂, ◌∙◌, arith}
+use Rattle.std.proofs.lemmas.List.{length-map}
+use Rattle.std.proofs.lemmas.Simd.{zip2_splat, zip2_of_maps, mask_l-mod}
+use lib.Bits.{bit_or}
+use lib.Lanes.{mask_l, top}
+use Rattle.csv_rows.specs.Places.{is_mark}
 use Rattle.csv_rows.proofs.field_ends.marks.Goals as goal
+
+abbrev hit : ℕ → ℕ → ℕ
+hit a b = cond (a == b) 255 0
+
+top_or : (a b d : Bool)
+    → top 7 (bit_or (bit_or (cond a 255 0) (cond b 255 0)) (cond d 255 0)) ≡ (a || (b || d))
+top_or true true true = refl
+top_or true true false = refl
+top_or true false true = refl
+top_or true false false = refl
+top_or false true true = refl
+top_or false true false = refl
+top_or false false true = refl
+top_or false false false = refl
+
+tops : (v : List ℕ) → map (top 7) (map (λ x. bit_or (bit_or (hit x 44) (hit x 10)) (hit x 13)) v)
+    ≡ map is_mark v
+tops [] = refl
+tops (x ∷ v) = ap₂ ◌∷◌ (top_or (x == 44) (x == 10) (x == 13)) (tops v)
 
 pub returns : goal.returns
 returns c =
     let v = c.args.v in
     let long = c.fits-v.0 in
-    masked _ is_mark v _ (omega arith) c.fits-v.1
-    (either _ _ v (either _ _ v (zip2_splat hit v 16 44 long) (zip2_splat hit v 16 10 long))
-    (zip2_splat hit v 16 13 long)) tt
+    ap (λ z. mask_l (map (top 7) z) % 2 ^ 64) (zip2_of_maps bit_or _ _ v
+    (zip2_of_maps bit_or _ _ v (zip2_splat hit v 16 44 long) (zip2_splat hit v 16 10 long))
+    (zip2_splat hit v 16 13 long))
+    ∙ ap (λ l. mask_l l % 2 ^ 64) (tops v)
+    ∙ mask_l-mod (map is_mark v) 64 (omega (arith, length-map v is_mark))

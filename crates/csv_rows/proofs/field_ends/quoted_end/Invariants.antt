@@ -1,5 +1,5 @@
 use Rattle.std.proofs.Common.{◌-◌, ◌<◌, ◌≤◌, length}
-use Rattle.csv_rows.proofs.QuotedFields.{QuotedSoFar}
+use Rattle.csv_rows.proofs.FieldPlaces.{QuotedSoFar}
 use Rattle.csv_rows.proofs.field_ends.quoted_end.Given as goal
 
 abbrev pub invariant-runs : goal.invariant-runs

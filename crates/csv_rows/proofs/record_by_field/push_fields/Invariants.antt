@@ -1,4 +1,4 @@
-use Rattle.csv_rows.proofs.RecordPlaces.{RowSoFar}
+use Rattle.csv_rows.proofs.Pushing.{RowSoFar}
 use Rattle.csv_rows.proofs.record_by_field.push_fields.Given as goal
 
 abbrev pub invariant-loop-i : goal.invariant-loop-i

@@ -1,6 +1,6 @@
 use Rattle.std.proofs.Common.{◌∙◌, sym}
 use Rattle.csv.proofs.ReadFacts.{strip-short}
-use Rattle.csv_rows.proofs.PartPlaces.{bom_there, bom_none}
+use Rattle.csv_rows.proofs.PartPlaces.{bom_is}
 use Rattle.csv_rows.proofs.row_reader.mark_end.Goals as goal
 
 pub returns-then-bytes-lt3-clause-rest : goal.returns-then-bytes-lt3-clause-rest
@@ -8,8 +8,8 @@ returns-then-bytes-lt3-clause-rest c = sym (strip-short c.args.bytes.now c.if-by
 
 pub returns-then-is_bom-clause-rest : goal.returns-then-is_bom-clause-rest
 returns-then-is_bom-clause-rest c =
-    bom_there c.args.bytes.now c.if-bytes-lt3.false (sym c.is_bom.ensures ∙ c.if-is_bom.true)
+    bom_is c.args.bytes.now _ c.if-bytes-lt3.false (sym c.is_bom.ensures ∙ c.if-is_bom.true)
 
 pub returns-else-is_bom-clause-rest : goal.returns-else-is_bom-clause-rest
 returns-else-is_bom-clause-rest c =
-    bom_none c.args.bytes.now c.if-bytes-lt3.false (sym c.is_bom.ensures ∙ c.if-is_bom.false)
+    bom_is c.args.bytes.now _ c.if-bytes-lt3.false (sym c.is_bom.ensures ∙ c.if-is_bom.false)

@@ -1,6 +1,5 @@
-use Rattle.std.proofs.Common.{◌∙◌, sym, inl, inr, arith}
-use Rattle.csv_rows.specs.RowsLeft.{first_record}
-use Rattle.csv_rows.proofs.Pushing.{ReadSoFar-none, ReadSoFar-more, ReadSoFar-stop, ReadSoFar-bad, stopped-ok, stopped-bad}
+use Rattle.std.proofs.Common.{◌∙◌, sym, arith}
+use Rattle.csv_rows.proofs.Pushing.{ReadSoFar-none, ReadSoFar-more, ReadSoFar-stop, ReadSoFar-some}
 use Rattle.csv_rows.proofs.row_reader.read_front.Goals as goal
 
 pub rows-init : goal.rows-init
@@ -8,26 +7,19 @@ rows-init c = ReadSoFar-none c.args.columns.now c.args.reader.now c.args.most c.
 
 pub returns-then-rows-most-clause-ok : goal.returns-then-rows-most-clause-ok
 returns-then-rows-most-clause-ok c =
-    ReadSoFar-stop c.rows.invariant (λ z. inl (omega (arith, z, c.if-rows-most.true)))
+    ReadSoFar-stop c.rows.invariant (λ left lt. omega (arith, lt, c.if-rows-most.true))
 
 pub returns-then-is_over-clause-ok : goal.returns-then-is_over-clause-ok
 returns-then-is_over-clause-ok c =
-    ReadSoFar-stop c.rows.invariant (λ z. inr (sym c.is_over.ensures ∙ c.if-is_over.true))
+    ReadSoFar-stop c.rows.invariant (λ left lt.
+    ReadSoFar-some c.rows.invariant (sym c.is_over.ensures ∙ c.if-is_over.true) left)
 
-pub returns-in-Err-clause-ok : goal.returns-in-Err-clause-ok
-returns-in-Err-clause-ok c =
-    rw c.in-Err.ensures.stays
-    (stopped-ok c.push_next.new.columns c.stop_at.result c.stop_at.ensures.ok c.rows.invariant
-    c.in-Err.ensures.err)
-
-pub returns-in-Err-clause-bad : goal.returns-in-Err-clause-bad
-returns-in-Err-clause-bad c =
-    stopped-bad _ c.stop_at.result c.in-Err.fault c.stop_at.ensures.err
-    (ReadSoFar-bad c.in-Err.fault c.rows.invariant (sym c.is_over.ensures
-    ∙ c.if-is_over.false) c.in-Err.ensures.bad)
+pub returns-in-Err-Bad-clause-ok : goal.returns-in-Err-Bad-clause-ok
+returns-in-Err-Bad-clause-ok c =
+    rw (c.in-Err-Bad.ensures.stays, c.in-Err-Bad.ensures.err)
+    (ReadSoFar-stop c.rows.invariant (λ _ _. c.if-rows-gt0.true))
 
 pub rows-preserved : goal.rows-preserved
 rows-preserved c =
-    ReadSoFar-more (first_record c.rows.reader.rest) c.rows.invariant c.in-Ok.ensures.rest
-    c.in-Ok.ensures.count (omega (arith, c.rows.invariant.within, c.if-rows-most.false))
+    ReadSoFar-more c.rows.invariant (omega (arith, c.rows.invariant.within, c.if-rows-most.false))
     c.in-Ok.ensures.kinds c.in-Ok.ensures.ok

@@ -1,4 +1,4 @@
-use Rattle.std.proofs.Common.{length}
+use Rattle.std.proofs.Common.{◌-◌}
 use Rattle.csv_rows.proofs.Pushing.{ReadSoFar}
 use Rattle.csv_rows.proofs.row_reader.read_front.Given as goal
 
@@ -6,4 +6,4 @@ abbrev pub invariant-rows : goal.invariant-rows
 invariant-rows l = ReadSoFar l.initial.columns l.columns l.initial.reader l.reader l.rows l.most
 
 abbrev pub decreases-rows : goal.decreases-rows
-decreases-rows l = length l.reader.rest
+decreases-rows l = l.most - l.rows

@@ -1,8 +1,15 @@
-use Rattle.std.proofs.Common.{ap, length}
-use Rattle.csv_rows.proofs.PartPlaces.{over_is}
+use Rattle.std.proofs.Common.{ap, length, ◌∙◌}
+use Rattle.csv_rows.specs.RowsLeft.{at_end}
+use Rattle.csv_rows.proofs.PartPlaces.{over_is, over_none}
 use Rattle.csv_rows.proofs.row_reader.RowReader.is_over.Goals as goal
 
-pub returns : goal.returns
-returns c =
-    over_is (length c.as_slice.result.now) c.self.invariant (ap length c.as_slice.ensures.value)
-    (ap (λ p. p.rest) c.self.view_is)
+pub returns-then-self-eq0 : goal.returns-then-self-eq0
+returns-then-self-eq0 c =
+    over_none c.self.inside.left c.self.inside.bytes.items c.self.inside.at c.if-self-eq0.true
+    ∙ ap (λ p. at_end p.rest) c.self.view_is
+
+pub returns-else-self-eq0 : goal.returns-else-self-eq0
+returns-else-self-eq0 c =
+    over_is c.self.inside.left c.self.inside.bytes.items c.self.inside.at
+    (length c.as_slice.result.now) c.if-self-eq0.false c.self.invariant
+    (ap length c.as_slice.ensures.value) ∙ ap (λ p. at_end p.rest) c.self.view_is

@@ -1,6 +1,6 @@
 use Rattle.std.proofs.Common.{◌-◌, length}
-use Rattle.csv_rows.proofs.RecordPlaces.{FieldsSoFar}
-use Rattle.csv_rows.proofs.whole_record.read_fields.Given as goal
+use Rattle.csv_rows.proofs.Pushing.{FieldsSoFar}
+use Rattle.csv_rows.proofs.record_by_field.read_fields.Given as goal
 
 abbrev pub invariant-fields : goal.invariant-fields
 invariant-fields l = FieldsSoFar l.bytes l.at l.place l.fields

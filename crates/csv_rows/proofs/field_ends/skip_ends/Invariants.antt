@@ -1,0 +1,6 @@
+use Rattle.std.proofs.Common.{◌≡◌, ℕ}
+use Rattle.csv_rows.specs.Places.{records_at}
+use Rattle.csv_rows.proofs.field_ends.skip_ends.Given as goal
+
+abbrev pub invariant-loop-i : goal.invariant-loop-i
+invariant-loop-i l = (left : ℕ) → records_at left l.bytes l.at ≡ records_at left l.bytes l.i

@@ -1,0 +1,180 @@
+-- Fields and records of the default dialect, by the bytes that end them and by the places in a text
+-- where they begin and end, and what they add to columns.
+use Rattle.std.specs.Prelude.{◌≡◌, ℕ, ◌+◌, ◌-◌, ◌<◌, ◌≤◌, ◌^◌, ◌==◌, ◌||◌, Bool, true, false, not, List, [], ◌∷◌, ◌++◌, length, map, take, drop, Some, None, ℤ, suc, ⊤}
+use Rattle.std.specs.List.{prefix_len}
+use Rattle.csv.specs.Machine.{next_record}
+use Rattle.csv.specs.Reading.{default_config, records_from}
+use Rattle.csv.specs.declared.parser.State.TheVariants as st
+use Rattle.chunk_data.specs.Names.{kind_of, values, Row, AreLong, joined}
+use Rattle.chunk_data.specs.declared.typed_value.Value.{Value}
+use Rattle.chunk_data.specs.declared.typed_column.Column.{Column}
+use Rattle.query_model.specs.Names.{numeral_below, spelled_int, spelled_value, spelled_row, bad_field, part_records}
+use Rattle.query_model.specs.declared.places.BadPlace.{BadPlace}
+use Rattle.query_model.specs.declared.places.BadField.TheVariants as bad
+use Rattle.csv_rows.specs.declared.rows.RowsFault.{RowsFault}
+use Rattle.csv_rows.specs.declared.rows.RowsFault.TheVariants.{Bad, Memory}
+use Rattle.csv_rows.specs.declared.rows.FieldFault.{FieldFault}
+use Rattle.csv_rows.specs.declared.rows.FieldFault.TheVariants as field
+
+-- a byte that ends a line
+abbrev pub is_line_end : ℕ → Bool
+is_line_end c = (c == 10) || (c == 13)
+
+-- a byte that ends a field without quotes: a comma, LF or CR
+abbrev pub is_mark : ℕ → Bool
+is_mark c = (c == 44) || is_line_end c
+
+-- a byte that is no mark
+abbrev pub no_mark : ℕ → Bool
+no_mark c = not (is_mark c)
+
+-- a byte that is no quote
+abbrev pub no_quote : ℕ → Bool
+no_quote c = not (c == 34)
+
+-- whether the first byte passes the test; `none` of a text without bytes
+abbrev pub first_or : Bool → (ℕ → Bool) → List ℕ → Bool
+first_or none test [] = none
+first_or none test (c ∷ xs) = test c
+
+-- nothing, or a mark first
+abbrev pub at_mark : List ℕ → Bool
+at_mark xs = first_or true is_mark xs
+
+-- this byte first
+abbrev pub starts_with : ℕ → List ℕ → Bool
+starts_with c xs = first_or false (λ x. x == c) xs
+
+-- there is a first byte, and it ends no line
+abbrev pub starts_line : List ℕ → Bool
+starts_line xs = first_or false (λ c. not (is_line_end c)) xs
+
+-- The text xs begins with a field of these bytes, behind which `rest` stands: whatever fields are
+-- in front of it, the machine of the `csv` crate is at the end of this field there.
+pub record BeginsField (xs field rest : List ℕ) : Type 0 where
+  pub reads : (fields : List (List ℕ))
+      → next_record default_config st.StartField fields [] xs
+      ≡ next_record default_config st.InField fields field rest
+  pub ends : at_mark rest ≡ true
+
+-- The text xs begins with these fields of a record, of which more stand in `rest`.
+pub record BeginsFields (xs : List ℕ) (fields : List (List ℕ)) (rest : List ℕ) : Type 0 where
+  pub reads : next_record default_config st.StartRecord [] [] xs
+      ≡ next_record default_config st.StartField fields [] rest
+
+-- The first record of the text xs has these fields, and `rest` stands behind it.
+pub record FirstRecord (xs : List ℕ) (fields : List (List ℕ)) (rest : List ℕ) : Type 0 where
+  pub reads : (n : ℕ) → records_from default_config (suc n) st.StartRecord xs
+      ≡ fields ∷ records_from default_config n st.StartRecord rest
+
+-- the records from a place on, as many as `left`
+abbrev pub records_at : (left : ℕ) (bytes : List ℕ) (at : ℕ) → List (List (List ℕ))
+records_at left bytes at = records_from default_config left st.StartRecord (drop at bytes)
+
+-- the bytes from a place up to another
+abbrev pub part : List ℕ → ℕ → ℕ → List ℕ
+part bytes at end = take (end - at) (drop at bytes)
+
+-- the field at a place has these bytes and ends there
+pub record FieldUpTo (bytes : List ℕ) (at : ℕ) (field : List ℕ) (end : ℕ) : Type 0 where
+  pub low : at ≤ end
+  pub high : end ≤ length bytes
+  pub begins : BeginsField (drop at bytes) field (drop end bytes)
+
+-- the digits at a place reach up to a mark, where they spell this number
+pub record SpellsDigits (bytes : List ℕ) (at number end : ℕ) : Type 0 where
+  pub stops : end ≡ at + prefix_len no_mark (drop at bytes)
+  pub upto : FieldUpTo bytes at (part bytes at end) end
+  pub uint : numeral_below (2 ^ 64) (part bytes at end) ≡ Some number
+  pub unsigned : starts_with 45 (part bytes at end) ≡ false
+
+-- the field at a place ends there and spells this Int64
+pub record SpellsInt (bytes : List ℕ) (at : ℕ) (number : ℤ) (end : ℕ) : Type 0 where
+  pub upto : FieldUpTo bytes at (part bytes at end) end
+  pub int : spelled_int (part bytes at end) ≡ Some number
+
+-- a record begins at the place, or the text ends there
+pub record StartsLine (bytes : List ℕ) (at : ℕ) : Type 0 where
+  pub within : at ≤ length bytes
+  pub line : at < length bytes → starts_line (drop at bytes) ≡ true
+
+-- only ends of lines stand between the places
+pub record SkipsEnds (bytes : List ℕ) (at next : ℕ) : Type 0 where
+  pub same : (left : ℕ) → records_at left bytes at ≡ records_at left bytes next
+  pub starts : StartsLine bytes next
+
+-- where a field ends at the first place, its record does, and the next one begins at the second
+pub record EndsLine (bytes : List ℕ) (end next : ℕ) : Type 0 where
+  pub ends : (xs mid : List ℕ) (fields : List (List ℕ)) (field : List ℕ)
+      → BeginsFields xs fields mid → BeginsField mid field (drop end bytes)
+      → FirstRecord xs (fields ++ field ∷ []) (drop next bytes)
+  pub starts : StartsLine bytes next
+
+-- a fact about the bad place, where one is told
+abbrev pub OnBad : RowsFault → (BadPlace → Type 0) → Type 0
+OnBad (Bad place) P = P place
+OnBad Memory P = ⊤
+
+-- a fact for a field that spells no value
+abbrev pub OnUnspelled : FieldFault → Type 0 → Type 0
+OnUnspelled field.Unspelled P = P
+OnUnspelled field.Memory P = ⊤
+
+-- what field i makes of the record with this number
+abbrev pub record_fault : FieldFault → ℕ → ℕ → RowsFault
+record_fault field.Unspelled number i = Bad (record { row = number; field = bad.Column (i + 1) })
+record_fault field.Memory number i = Memory
+
+-- a column got the value that the field spells at its end
+pub record AddsSpelled (field : List ℕ) (old new : Column) : Type 0 where
+  pub value : Value
+  pub spells : spelled_value (kind_of old) field ≡ Some value
+  pub added : values new ≡ values old ++ value ∷ []
+
+-- each column got its value of the row that the fields spell
+pub record AddsRecord (fields : List (List ℕ)) (old new : List Column) : Type 0 where
+  pub row : Row
+  pub spells : spelled_row (map kind_of old) fields ≡ Some row
+  pub added : map values new ≡ joined (map values old) (map (λ v. v ∷ []) row)
+
+-- the record with the number spells no row of the columns, and the place says why
+pub record IsBadRecord (columns : List Column) (fields : List (List ℕ)) (number : ℕ)
+    (place : BadPlace) : Type 0 where
+  pub unspelled : spelled_row (map kind_of columns) fields ≡ None
+  pub is : place ≡ record { row = number; field = bad_field (map kind_of columns) fields }
+
+-- what was added to columns can be taken back
+pub record TakesBack (old new : List Column) : Type 0 where
+  pub kinds : map kind_of new ≡ map kind_of old
+  pub front : (n : ℕ) → AreLong n (map values old)
+      → map (take n) (map values new) ≡ map values old
+
+-- the value of the field at a place was added to a column; the field ends there
+pub record AddsAt (bytes : List ℕ) (at end : ℕ) (old new : Column) : Type 0 where
+  pub field : List ℕ
+  pub upto : FieldUpTo bytes at field end
+  pub adds : AddsSpelled field old new
+
+-- the record at a place has these fields, and the next one begins there
+pub record ReadsFirst (bytes : List ℕ) (at : ℕ) (fields : List (List ℕ)) (next : ℕ) : Type 0 where
+  pub is : FirstRecord (drop at bytes) fields (drop next bytes)
+  pub starts : StartsLine bytes next
+
+-- the record at a place was added to columns as one row, and the next one begins there
+pub record AddsFirst (bytes : List ℕ) (at next : ℕ) (old new : List Column) : Type 0 where
+  pub fields : List (List ℕ)
+  pub reads : ReadsFirst bytes at fields next
+  pub adds : AddsRecord fields old new
+
+-- the record at a place, which has this number, is no row of the columns, and the place says why
+pub record IsBadAt (columns : List Column) (bytes : List ℕ) (at number : ℕ) (place : BadPlace)
+    : Type 0 where
+  pub fields : List (List ℕ)
+  pub rest : List ℕ
+  pub is : FirstRecord (drop at bytes) fields rest
+  pub bad : IsBadRecord columns fields number place
+
+-- the rows of a part begin at the place, of which no more than `left` can come
+pub record StartsPart (header : Bool) (bytes : List ℕ) (at left : ℕ) : Type 0 where
+  pub is : records_at left bytes at ≡ part_records header bytes
+  pub starts : StartsLine bytes at
