@@ -1,0 +1,5 @@
+mod RankLaws
+mod SortingLaws
+mod HeadLaws
+mod MergingLaws
+mod MergeLaws

@@ -1,0 +1,249 @@
+-- A sort gathers the rows of its chunks, and then makes them in order.
+use Rattle.std.proofs.Common.{◌+◌, ◌-◌, ◌⊎◌, IsPermutation, IsSorted, ◌≡◌, ◌↔◌, ℕ, ◌<◌, ◌||◌, nat_lt, min, max, Bool, true, false, IsTrue, List, [], ◌∷◌, ◌++◌, length, get_or, take, drop, append_assoc, Option, Some, None, refl, sym, ap, subst, ◌∙◌, arith, inl, inr}
+use Rattle.std.specs.List.{All, AllByRecursion}
+use Rattle.std.specs.Ordering.{is_lt}
+use Rattle.std.proofs.lemmas.List.{append-nil, drop-drop, length-append, length-drop, length-map, length-take, map-append, take-append-drop}
+use Rattle.std.proofs.lemmas.List.Sorted.{IsPermutation-append_right, IsPermutation-sym, IsPermutation-trans, length_permutation}
+use Rattle.std.proofs.lemmas.Bool.{lt-ltb, ltb-true, or_right}
+use Rattle.chunk_data.specs.Names.{row_at, AgreeOnKey, Row, Table, row_cmp}
+use Rattle.chunk_data.specs.declared.typed_value.SortKey.{SortKey}
+use Rattle.query_model.specs.declared.processor_spec.SortSpec.{SortSpec}
+use Rattle.query_model.specs.declared.processor_spec.Spec.TheVariants as spec
+use Rattle.port_word.specs.Pictures.{Picture, in_count, input_at, is_in_finished}
+use Rattle.proc_api.specs.Names.{chunk_rows, AreKeysWithin, AreSorted, IsSortOf, OwnState}
+use Rattle.proc_api.proofs.Orders.{every-permuted, every-turned, order-cross, order-from_sorted, order-front, order-joined, ordered, ordered-same, ordered-order, rows-ordered, sorted-from_order}
+use Rattle.proc_shell.specs.declared.kernel.Offer.{Offer}
+use Rattle.proc_shell.specs.Kernels.{Makes, OfferComes, Offers, WantsMore}
+use Rattle.proc_shell.proofs.Through.{makes-nothing}
+use Rattle.sort_procs.specs.declared.ranks.Ranked.{Ranked}
+use Rattle.sort_procs.specs.Ranks.{SortsPlaces, rows_at}
+use Rattle.sort_procs.specs.Sorting.{PutsInOrder, rows_left, sorting_own}
+
+nothing-of : (rows : List Row) → (0 < length rows → ⊥) → rows ≡ []
+nothing-of [] h = refl
+nothing-of (row ∷ rows) h = absurd (h (omega arith))
+
+module _ (order : SortSpec) where
+  abbrev keys : List SortKey
+  keys = order.keys
+
+  abbrev lt : Row → Row → Bool
+  lt a b = is_lt (row_cmp keys a b)
+
+  -- rows in order of which the last are changed for the same in order
+  put-behind : (rows made a b : List Row) → IsSortOf keys rows (made ++ a) → IsPermutation a b
+      → IsSorted (row_cmp keys) b → IsSortOf keys rows (made ++ b)
+  put-behind rows made a b h same sorted =
+      let o = rows-ordered keys in
+      let whole = order-from_sorted lt o (made ++ a) h.in_order in
+      record {
+        same = IsPermutation-trans _ _ _ h.same (IsPermutation-append_right made a b same);
+        in_order = sorted-from_order lt o (made ++ b)
+            (order-joined lt o made b (order-front lt o made a whole)
+            (order-from_sorted lt o b sorted)
+            (every-permuted (λ y. AllByRecursion (λ x. lt y x ≡ false) made) a b same
+            (every-turned (λ x y. lt y x ≡ false) made a (order-cross lt o made a whole))));
+      }
+
+  module _ (places : List Ranked) (next : ℕ) (rows : Table) where
+    abbrev own : Bool → Bool → OwnState
+    own ended sorted = sorting_own keys ended sorted places next rows
+
+    -- the end is noted, where the input is finished
+    goes-on : (was fin sorted : Bool) → (sorted ≡ true → was ≡ true) → (all made : List Row)
+        → AreSorted keys (own was sorted) all made → AreSorted keys (own (was || fin) sorted) all
+        made
+    goes-on true fin sorted e all made h = h
+    goes-on false false sorted e all made h = h
+    goes-on false true true e all made h = absurd (let f = e refl in cc)
+    goes-on false true false e all made h =
+        let g = h.gathered refl in
+        let o = rows-ordered keys in
+        record {
+          gathered = λ f. absurd (cc);
+          sorted = λ f. subst (λ m. IsSortOf keys all (m ++ ordered lt o rows.rows))
+              (sym g.nothing_made) (record {
+                same = subst (λ l. IsPermutation l (ordered lt o rows.rows))
+                    (sym (append-nil rows.rows) ∙ g.rows_are) (ordered-same lt o rows.rows);
+                in_order = sorted-from_order lt o (ordered lt o rows.rows)
+                    (ordered-order lt o rows.rows);
+              });
+        }
+
+    pub offers : (wants : ℕ → Bool) (v : Picture) (was fin now sorted : Bool) (f : Offer)
+        → now ≡ was || fin → (sorted ≡ true → was ≡ true) → in_count v ≡ 1
+        → fin ≡ is_in_finished (input_at v 0).flags
+        → OfferComes wants f (spec.Sort order) v (own now sorted)
+        → Offers wants (spec.Sort order) v (own was sorted) (own now sorted) f
+    offers wants v was fin now sorted f z e one at comes = record {
+      leaves = record {
+        means = λ worked outs wait h. subst (λ b. AreSorted keys (own b sorted)
+            (chunk_rows (worked 0)) (chunk_rows (outs 0) ++ wait)) (sym z)
+            (goes-on was fin sorted e (chunk_rows (worked 0)) (chunk_rows (outs 0) ++ wait) h);
+        stays_over = λ none ended. subst (λ b. ((own b sorted).unmade ≡ []) × (b ≡ true)) (sym z)
+            (stays was none ended);
+      };
+      comes = comes;
+      ends = λ i lt n. noted was fin at (sym z ∙ n) (omega (arith, one, lt));
+    }
+      where
+        stays : (b : Bool) → (own b sorted).unmade ≡ [] → b ≡ true
+            → ((own (b || fin) sorted).unmade ≡ []) × ((b || fin) ≡ true)
+        stays true none ended = (none, refl)
+        stays false none ended = absurd (cc)
+
+        noted : (b c : Bool) → c ≡ is_in_finished (input_at v 0).flags → (b || c) ≡ true → {i : ℕ}
+            → i ≡ 0 → (b ≡ true) ⊎ (is_in_finished (input_at v i).flags ≡ true)
+        noted true c h n z = inl refl
+        noted false c h n z = inr (subst (λ j. is_in_finished (input_at v j).flags ≡ true) (sym z)
+            (sym h ∙ n))
+
+    pub wants-come : (wants : ℕ → Bool) (v : Picture) (was fin now sorted : Bool) → now ≡ was || fin
+        → wants 0 ≡ true → in_count v ≡ 1 → fin ≡ is_in_finished (input_at v 0).flags
+        → (own now sorted).unmade ≡ [] → WantsMore wants (spec.Sort order) v (own now sorted)
+    wants-come wants v was fin now sorted z w one at none = record {
+      nothing = none;
+      wanting = tt;
+      all_over = λ over i lt.
+          let first : 0 ≡ i = omega (arith, one, lt) in
+          subst (λ j. is_in_finished (input_at v j).flags ≡ true) first
+          (over 0 (omega (arith, one)) w);
+      noted = λ over. z ∙ or_right was fin (at ∙ over 0 (omega (arith, one)) w);
+    }
+
+    pub has-left : (sorted : Bool) (n : ℕ) → sorted ≡ false → n ≡ length rows.rows
+        → IsTrue (nat_lt 0 n) ↔ (0 < length (rows_left keys sorted places next rows.rows))
+    has-left true n e count = absurd (cc)
+    has-left false n e count =
+        let l = length_permutation _ _ (ordered-same lt (rows-ordered keys) rows.rows) in
+        (λ t. omega (arith, ltb-true 0 n t, count, l), λ some. lt-ltb 0 n (omega (arith, some, count, l)))
+
+    pub none-made : (ended sorted made : Bool)
+        → IsTrue made ↔ (0 < length (own ended sorted).unmade) → made ≡ false
+        → (own ended sorted).unmade ≡ []
+    none-made ended sorted true h e = absurd (cc)
+    none-made ended sorted false h e = nothing-of (own ended sorted).unmade
+        (λ some. let f : false ≡ true = h.1 some in cc)
+
+    pub makes-none : (ended sorted made : Bool)
+        → IsTrue made ↔ (0 < length (own ended sorted).unmade) → made ≡ false
+        → Makes (spec.Sort order) (own ended sorted) (own ended sorted) None
+    makes-none ended sorted made h e =
+        makes-nothing (spec.Sort order) (own ended sorted) (none-made ended sorted made h e)
+
+    pub makes-next : (count : ℕ) (c : Table) → count ≡ min (length places - next) (max order.rows 1)
+        → 0 < count → c.types ≡ order.types
+        → c.rows ≡ rows_at rows.rows (take count (drop next places))
+        → Makes (spec.Sort order) (own true true)
+        (sorting_own keys true true places (next + count) rows) (Some c)
+    makes-next count c e some types made = record {
+      means = λ worked outs h. record {
+        gathered = λ f. absurd (cc);
+        sorted = λ f. subst (IsSortOf keys (chunk_rows (worked 0)))
+            (ap (λ l. l ++ left next) (append-nil (chunk_rows (outs 0)))
+            ∙ ap (λ l. chunk_rows (outs 0) ++ l) split
+            ∙ sym (append_assoc (chunk_rows (outs 0)) c.rows (left (next + count))))
+            (h.sorted refl);
+      };
+      types = λ ins. types;
+      sizes = omega (arith, size, e);
+      progress = inl (omega (arith, size, some));
+      nothing = λ n. absurd (let l = ap length n in omega (
+        arith,
+        l,
+        ap length split,
+        size,
+        some,
+        length-append c.rows (left (next + count)),
+      ));
+      ends = λ i n. refl;
+    }
+      where
+        left : ℕ → List Row
+        left n = rows_at rows.rows (drop n places)
+
+        size : length c.rows ≡ count
+        size = ap length made ∙ length-map (take count (drop next places))
+            (λ (r : Ranked). row_at rows.rows r.place)
+            ∙ length-take count (drop next places)
+            ∙ (let l = length-drop next places in omega (arith, l, e))
+
+        split : left next ≡ c.rows ++ left (next + count)
+        split = sym (ap (λ l. l ++ left (next + count)) made
+            ∙ ap (λ l. rows_at rows.rows (take count (drop next places)) ++ rows_at rows.rows l)
+            (sym (drop-drop count next places))
+            ∙ sym (map-append (λ (r : Ranked). row_at rows.rows r.place)
+            (take count (drop next places)) (drop count (drop next places)))
+            ∙ ap (rows_at rows.rows) (take-append-drop count (drop next places)))
+
+  pub puts : (places old : List Ranked) (next : ℕ) (rows : Table) → 0 < length rows.rows
+      → SortsPlaces keys rows.rows places
+      → PutsInOrder keys (sorting_own keys true false old next rows)
+      (sorting_own keys true true places 0 rows)
+  puts places old next rows some h =
+      let o = rows-ordered keys in
+      record {
+        means = λ all made k. record {
+          gathered = λ f. absurd (cc);
+          sorted = λ f. put-behind all made (ordered lt o rows.rows) (rows_at rows.rows places)
+              (k.sorted refl)
+              (IsPermutation-trans _ _ _ (IsPermutation-sym _ _ (ordered-same lt o rows.rows))
+              h.same)
+              h.in_order;
+        };
+        same = λ none. absurd (let l = length_permutation _ _ (ordered-same lt o rows.rows) in
+            let n = ap length none in omega (arith, l, n, some));
+        ended = refl;
+      }
+
+  pub puts-now : (ended sorted : Bool) (places old : List Ranked) (next : ℕ) (rows : Table)
+      → sorted ≡ false → 0 < length (sorting_own keys ended sorted old next rows).unmade
+      → SortsPlaces keys rows.rows places
+      → PutsInOrder keys (sorting_own keys ended sorted old next rows)
+      (sorting_own keys ended true places 0 rows)
+  puts-now false sorted places old next rows e some h = absurd (omega (arith, some))
+  puts-now true true places old next rows e some h = absurd (cc)
+  puts-now true false places old next rows e some h =
+      puts places old next rows (let l = length_permutation _ _
+      (ordered-same lt (rows-ordered keys) rows.rows) in omega (arith, some, l)) h
+
+  -- the keys' columns are there where there are rows
+  pub agree : (ended sorted : Bool) (places : List Ranked) (next : ℕ) (rows : Table)
+      → rows.types ≡ order.types → (0 < length rows.rows → AreKeysWithin order) → sorted ≡ false
+      → 0 < length (sorting_own keys ended sorted places next rows).unmade
+      → All (AgreeOnKey rows.types rows.types) keys
+  agree false sorted places next rows typed keyed e some = absurd (omega (arith, some))
+  agree true true places next rows typed keyed e some = absurd (cc)
+  agree true false places next rows typed keyed e some =
+      let l = length_permutation _ _ (ordered-same lt (rows-ordered keys) rows.rows) in
+      let within = keyed (omega (arith, some, l)) in
+      let count = ap length typed in
+      λ k d less.
+      let a = within k d less in
+      let b : (get_or keys k d).column < length rows.types = omega (arith, a, count) in
+      (b, b, refl)
+
+  pub makes-chunk : (ended sorted : Bool) (places : List Ranked) (next count : ℕ) (rows c : Table)
+      → sorted ≡ true → (sorted ≡ true → ended ≡ true)
+      → count ≡ min (length places - next) (max order.rows 1) → 0 < count → c.types ≡ order.types
+      → c.rows ≡ rows_at rows.rows (take count (drop next places))
+      → Makes (spec.Sort order) (sorting_own keys ended sorted places next rows)
+      (sorting_own keys ended sorted places (next + count) rows) (Some c)
+  makes-chunk true true places next count rows c e f = makes-next places next rows count c
+  makes-chunk false sorted places next count rows c e f = absurd (let g = f e in cc)
+  makes-chunk true false places next count rows c e f = absurd (cc)
+
+  pub makes-after : (a b c : OwnState) (t : Option Table) → PutsInOrder keys a b
+      → Makes (spec.Sort order) b c t → Makes (spec.Sort order) a c t
+  makes-after a b c t p m = record {
+    means = λ worked outs h. m.means worked outs
+        (p.means (chunk_rows (worked 0)) (chunk_rows (outs 0) ++ []) h);
+    types = m.types;
+    sizes = m.sizes;
+    progress = m.progress;
+    nothing = λ none.
+        let e = p.same none in
+        let r = m.nothing (ap (λ o. o.unmade) e ∙ none) in
+        (r.0 ∙ e, r.1);
+    ends = λ i n. sym p.ended ∙ m.ends i n;
+  }

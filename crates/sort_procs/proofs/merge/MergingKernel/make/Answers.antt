@@ -1,0 +1,29 @@
+use Rattle.std.proofs.Common.{◌≡◌, ◌++◌, drop, length, take, ap, subst, sym, ◌∙◌, ◌&&◌, not}
+use Rattle.std.specs.List.{list_all}
+use Rattle.chunk_data.proofs.Chunks.{written_back}
+use Rattle.query_model.specs.declared.processor_spec.Spec.TheVariants as spec
+use Rattle.proc_shell.proofs.Through.{makes-nothing}
+use Rattle.sort_procs.specs.Heads.{is_ready, is_used}
+use Rattle.sort_procs.specs.Merging.{MergesSome, merging_own}
+use Rattle.sort_procs.proofs.MergeLaws.{makes, none-ready, rows-ready}
+use Rattle.sort_procs.proofs.merge.MergingKernel.make.Goals as goal
+
+pub returns-then-not-can_make-clause-makes : goal.returns-then-not-can_make-clause-makes
+returns-then-not-can_make-clause-makes c =
+    let s = c.args.self.now in
+    makes-nothing (spec.MergeSorted s.order) (merging_own s.heads.items)
+    (none-ready s.heads.items (ap (λ l. list_all is_ready l && not (list_all is_used l))
+    (sym c.as_slice.ensures.value) ∙ sym c.can_make.ensures ∙ c.if-not-can_make.true))
+
+pub returns-clause-makes : goal.returns-clause-makes
+returns-clause-makes c =
+    let s = c.args.self.now in
+    let new = c.merge_chunk.new.heads in
+    let given = c.as_mut_slice.ensures.value in
+    let back : take s.heads.len (new ++ drop (length new) s.heads.items) ≡ new =
+    written_back s.heads.items new s.heads.len (c.in_ok-chunk.ensures.heads.count ∙ sym s.are.count)
+    (sym c.as_mut_slice.ensures.len ∙ ap length given) in
+    rw back (makes s.order s.heads.items new c.in_ok-chunk.chunk
+    (rows-ready s.heads.items (ap (λ l. list_all is_ready l && not (list_all is_used l))
+    (sym c.as_slice.ensures.value) ∙ sym c.can_make.ensures ∙ c.if-not-can_make.false))
+    (subst (λ l. MergesSome s.order l new c.in_ok-chunk.chunk) given c.in_ok-chunk.ensures.merges))

@@ -1,0 +1,27 @@
+use Rattle.std.proofs.Common.{◌≡◌, ◌<◌, [], ◌∷◌, length, map, ap, sym, subst, ◌∙◌, arith}
+use Rattle.std.proofs.lemmas.List.{length-map}
+use Rattle.chunk_data.specs.Names.{FitsTypes, kind_of}
+use Rattle.chunk_data.proofs.ColumnLists.{Joined-all, Joined-long, Joined-more, fits_long}
+use Rattle.sort_procs.specs.Heads.{first_row}
+use Rattle.sort_procs.proofs.MergeLaws.{pushed-value}
+use Rattle.sort_procs.proofs.merged_rows.push_first.Goals as goal
+
+pub loop-c-preserved : goal.loop-c-preserved
+loop-c-preserved c =
+    let row = first_row c.args.head.now in
+    let fits : FitsTypes (map kind_of c.args.columns.now) row =
+    subst (λ t. FitsTypes t row) (sym c.requires.kinds) c.requires.fits in
+    let wide : length c.args.columns.now ≡ length c.args.head.now.chunk.types =
+    sym (length-map c.args.columns.now kind_of) ∙ ap length c.requires.kinds in
+    let here : c.loop-c.c < length c.args.head.now.chunk.types =
+    omega (arith, wide, Joined-long c.loop-c.invariant, c.loop-c-test.true) in
+    Joined-more c.index-columns-c.result _ _ c.loop-c.invariant
+    (fits_long c.args.columns.now row (λ v. v ∷ []) fits) (omega arith) c.push_value.ensures.kind
+    (pushed-value c.args.head.now c.loop-c.c c.column.result.now c.requires.fits here
+    c.requires.unused c.column.ensures.values) c.in_ok-push_value.ensures.ok
+
+pub returns-clause-ok : goal.returns-clause-ok
+returns-clause-ok c =
+    let row = first_row c.args.head.now in
+    Joined-all c.loop-c.invariant (fits_long c.args.columns.now row (λ v. v ∷ [])
+    (subst (λ t. FitsTypes t row) (sym c.requires.kinds) c.requires.fits)) (omega arith)

@@ -1,0 +1,5 @@
+pub mod Ranks
+pub mod Sorting
+pub mod Sorted
+pub mod Heads
+pub mod Merging

@@ -1,0 +1,63 @@
+-- The state of a merge, and what it makes of its heads.
+use Rattle.std.specs.Prelude.{◌≡◌, ◌⊎◌, ℕ, ◌<◌, ◌≤◌, max, Bool, true, List, ◌++◌, length, map}
+use Rattle.std.specs.List.{list_all}
+use Rattle.std.proofs.Common.{subst, sym}
+use Rattle.std.proofs.Math.Nat.{zero-lt-suc}
+use Rattle.chunk_data.specs.Names.{AreColumns, Row, rows_of, Table, values}
+use Rattle.chunk_data.specs.declared.typed_column.Column.{Column}
+use Rattle.chunk_data.specs.declared.typed_value.SortKey.{SortKey}
+use Rattle.query_model.specs.declared.processor_spec.SortSpec.{SortSpec}
+use Rattle.query_model.specs.declared.processor_spec.Spec.TheVariants as spec
+use Rattle.proc_api.specs.Made.{AreMerged, OwnState, idle_own, ready_rows}
+use Rattle.proc_api.specs.Names.{Lists}
+use Rattle.proc_shell.specs.Kernels.{IsShelled}
+use Rattle.proc_shell.proofs.Through.{IsInOrder, pushes-in-order}
+use Rattle.sort_procs.specs.declared.heads.Head.{Head}
+use Rattle.sort_procs.specs.Heads.{at, heads_of, is_used}
+
+abbrev pub merging_own : List Head → OwnState
+merging_own heads = record idle_own { unmade = ready_rows (heads_of heads); heads = heads_of heads }
+
+-- an input of which no row is left
+abbrev pub is_open_at : List Head → ℕ → Bool
+is_open_at heads i = is_used (at heads i)
+
+-- what was made as the old heads stood goes on with these rows, and the new ones stand behind them
+pub record Merges (keys : List SortKey) (old new : List Head) (rows : List Row) : Type 0 where
+  pub ends : (i : ℕ) → (at new i).ended ≡ (at old i).ended
+  pub means : (worked : Lists) (made : List Row) → AreMerged keys (heads_of old) worked made
+      → AreMerged keys (heads_of new) worked (made ++ rows)
+
+-- so many rows were added to columns that had none
+pub record MergesRows (order : SortSpec) (old new : List Head) (n : ℕ) (columns : List Column)
+    : Type 0 where
+  pub are : AreColumns order.types columns n
+  pub merges : Merges order.keys old new (rows_of n (map values columns))
+
+-- a chunk of the first rows, which has some where there are
+pub record MergesSome (order : SortSpec) (old new : List Head) (t : Table) : Type 0 where
+  pub types : t.types ≡ order.types
+  pub merges : Merges order.keys old new t.rows
+  pub few : length t.rows ≤ max order.rows 1
+  pub some : (0 < length t.rows) ⊎ (list_all is_used new ≡ true)
+
+pub merge_order : (order : SortSpec) → IsInOrder (spec.MergeSorted order)
+merge_order order = record {
+  means = λ own worked made. (own.unmade ≡ ready_rows own.heads) × AreMerged order.keys own.heads
+      worked made;
+  into = λ own worked outs wait h. h;
+  from = λ own worked outs wait h. h;
+}
+
+pub merge_shelled : (order : SortSpec) → IsShelled (spec.MergeSorted order)
+merge_shelled order = record {
+  ungrown = λ growth m n h. h;
+  grown = λ growth m n h. h;
+  some_output = λ m n h. subst (λ k. 0 < k) (sym h) (zero-lt-suc 0);
+  still = λ kept m n had h stands. stands;
+  any_input = λ i j types h. h;
+  enough_one = λ ins enough m n h. h;
+  lets_push = pushes-in-order (spec.MergeSorted order) (merge_order order) (λ m n h. h);
+  into = λ p ins outs uses h. h;
+  from = λ p ins outs seen uses h. h;
+}

@@ -1,0 +1,12 @@
+-- What is seen of a sort.
+use Rattle.query_model.specs.declared.processor_spec.Spec.{Spec}
+use Rattle.query_model.specs.declared.processor_spec.Spec.TheVariants as spec
+use Rattle.proc_api.specs.Made.{OwnState}
+use Rattle.sort_procs.specs.declared.sort.Sorting.{Sorting}
+use Rattle.sort_procs.specs.Sorting.{sorting_own}
+
+abbrev pub sort_of : Sorting → Spec
+sort_of k = spec.Sort k.order
+
+abbrev pub own_of : Sorting → OwnState
+own_of k = sorting_own k.order.keys k.ended k.sorted k.places.items k.next k.rows
