@@ -1,4 +1,4 @@
--- At the end of a run of a plan's graph the collector has an answer.
+-- The end of a run of a plan's graph, by its nodes and its collector.
 use Rattle.std.proofs.Common.{◌≡◌, ℕ, zero, suc, ◌+◌, ◌<◌, true, Option, Some, is_some, List, [], ◌∷◌, length, map, get_or, refl, sym, ap, subst, ◌∙◌, arith}
 use Rattle.std.specs.List.{AllByRecursion}
 use Rattle.std.proofs.lemmas.List.{length-map, length-append, get_or-map, get_or_at, get_or_default, map-append}
@@ -6,30 +6,21 @@ use Rattle.port_word.specs.declared.flags.Wire.{Wire}
 use Rattle.query_model.specs.Database.{Files}
 use Rattle.query_model.specs.declared.processor_spec.Spec.{Spec}
 use Rattle.query_model.specs.declared.processor_spec.Spec.TheVariants as spec
-use Rattle.proc_api.specs.Boxes.{BoxPicture, no_box}
-use Rattle.proc_api.specs.Forms.{GrowthForm, unboxed, spec_form}
-use Rattle.proc_api.specs.Graphs.{input_count, output_count}
-use Rattle.proc_api.specs.Histories.{Lists, chunk_rows}
-use Rattle.proc_api.specs.Ports.{ArePortsOf}
+use Rattle.proc_api.specs.Names.{BoxPicture, no_box, GrowthForm, unboxed, spec_form, input_count, output_count, Lists, chunk_rows, AllFit, KeepsCollect, KeepsRows, ArePortsOf}
 use Rattle.proc_api.proofs.Graphs.{few-inputs, few-outputs, output-below-count}
-use Rattle.exec_laws.specs.Runs.{IsBorn, box_at}
-use Rattle.exec_laws.specs.Ends.{LawfulDone}
+use Rattle.exec_laws.specs.Names.{IsBorn, box_at, LawfulDone}
+use Rattle.plan_graph.specs.Drafts.{Draft, no_draft, with_nodes, ports_of, IsGraphOf}
 use Rattle.plan_graph.specs.declared.nodes.DraftNode.{DraftNode}
 use Rattle.plan_graph.specs.declared.nodes.NodePort.{NodePort}
-use Rattle.plan_graph.specs.Drafts.{Draft, no_draft, with_nodes, ports_of, IsGraphOf}
 use Rattle.plan_graph.proofs.GraphLaws.{ranks-count}
-use Rattle.plan_meaning.specs.Streams.{Stream}
-use Rattle.plan_meaning.specs.Runs.{AllPull, EachGives}
-use Rattle.plan_meaning.specs.Types.{GivesIf, EachGivesIf, AllTyped}
-use Rattle.plan_meaning.specs.Plans.{SelectPlan, IsPlan, IsSmall, body_nodes, collect_node, plan_nodes, PlanAnswers}
-use Rattle.plan_meaning.specs.Same.{NodeForm, node_form, forms}
+use Rattle.plan_meaning.specs.Names.{Stream, all_rows, rows_of, AllPull, EachGives, HasRun, GivesIf, EachGivesIf, AllTyped, SelectPlan, IsSmall, body_nodes, collect_node, plan_nodes, NodeForm, node_form, forms}
 use Rattle.plan_meaning.proofs.Fitting.{plan-fits}
 use Rattle.plan_graph.proofs.Fitting.{fits}
-use Rattle.plan_meaning.proofs.Answers.{plans-answer}
 use Rattle.plan_meaning.proofs.PlanGraphs.{PlanGraph, plan-graph}
 use Rattle.plan_meaning.proofs.Same.{each-same, graphs-same}
 use Rattle.plan_meaning.proofs.Typing.{each-typed}
-use Rattle.plan_ends.specs.Ended.{parts_of, in_stream, out_stream, pulled_at, pushed_at, IsKept, HasEnded, IsReady}
+use Rattle.plan_ends.specs.Ended.{parts_of, in_stream, out_stream, pulled_at, pushed_at, IsKept, HasEnded, HasPulled, IsReady}
+use Rattle.plan_ends.proofs.Pulled.{kept-counted}
 use Rattle.plan_ends.proofs.Pulls.{all-pull}
 use Rattle.plan_ends.proofs.KindLaws.{collector-done}
 
@@ -130,6 +121,7 @@ node-kept files nodes boxes g ready h k z lt is =
           omega (arith, most, takes);
       few_outputs = let most = few-outputs ranks wires [] g.graph.so_far k in
           omega (arith, most, gives);
+      inputs = d.finished.ins ∙ takes;
       outputs = d.finished.outs ∙ gives;
       keeps = d.keeps
           (subst (λ s. ArePortsOf s p.growth (input_count wires k) (output_count wires k))
@@ -198,16 +190,23 @@ collect-spec (spec.Filter c) e = absurd (cc)
 collect-spec (spec.Expression items) e = absurd (cc)
 collect-spec s e = cc
 
--- the collector's box, and that it has all of its input
+-- A collector has all of its input, and it gathered that.
+pub record HasCollected (p : BoxPicture) (ins : Lists) : Type 0 where
+  pub loaded : p.spec ≡ Some spec.Collect
+  pub done : (in_stream p ins 0).done ≡ true
+  pub gathered : p.work.gathered ≡ ins 0
+
 collected : (files : Files) (p : SelectPlan) (nodes : List DraftNode) (boxes : List BoxPicture)
     → IsGraphOf nodes → AllByRecursion IsReady nodes → (h : HasEnded files nodes boxes) (last : ℕ)
     → forms nodes ≡ forms (plan_nodes p) → length (plan_nodes p) ≡ last + 1
-    → (in_stream (box_at boxes last) (h.done.pulled last) 0).done ≡ true
+    → HasCollected (box_at boxes last) (h.done.pulled last)
 collected files p nodes boxes g ready h last e count =
     let same : length nodes ≡ length (plan_nodes p) =
     sym (length-map nodes node_form) ∙ ap (λ (l : List NodeForm). length l) e
     ∙ length-map (plan_nodes p) node_form in
     let lt : last < length nodes = omega (arith, same, count) in
+    let in_boxes : last < length boxes =
+    let all = boxes-count files nodes boxes h in omega (arith, lt, all) in
     let z : DraftNode = get_or nodes last collect_node in
     let form : node_form z ≡ node_form collect_node =
     sym (get_or-map node_form nodes last collect_node (node_form collect_node) lt)
@@ -216,18 +215,36 @@ collected files p nodes boxes g ready h last e count =
     let none : z.gives ≡ 0 = ap (λ (f : NodeForm). f.gives) form in
     let k = node-kept files nodes boxes g ready h last z lt
     (get_or_default nodes last z collect_node lt) in
-    collector-done (box_at boxes last) (h.done.pulled last) (h.done.pushed last)
-    (k.loaded ∙ ap (λ s. Some s) is) k.keeps (k.outputs ∙ none)
+    let b : BoxPicture = box_at boxes last in
+    let ins : Lists = h.done.pulled last in
+    let loaded : b.spec ≡ Some spec.Collect = k.loaded ∙ ap (λ s. Some s) is in
+    let keeps : KeepsCollect b ins =
+    subst (λ s. KeepsRows s b ins (h.done.pushed last)) loaded
+    (k.keeps.rows (subst (λ s. AllFit s ins) (sym loaded) (λ i n d lt. tt))) in
+    record {
+      loaded = loaded;
+      done = collector-done b ins (h.done.pushed last) loaded k.keeps (k.outputs ∙ none);
+      gathered = keeps.gathered
+          (h.done.running last in_boxes (born-at files nodes boxes h last in_boxes)).not_handed_out;
+    }
 
--- At the end of a run of a plan's graph, by lawful boxes loaded with copies of its nodes' specs,
--- the
--- collector has pulled an answer of the plan over the files' parts.
-pub plan-ended : (files : Files) (p : SelectPlan) (nodes : List DraftNode) (boxes : List BoxPicture)
-    (h : HasEnded files nodes boxes) (last : ℕ) → IsPlan p → IsSmall p
+-- The end of a run of a plan's graph by lawful boxes loaded with copies of its nodes' specs: what
+-- its nodes gave, the rows that each box counts, and that the collector has all of its input.
+pub record PlanRun (files : Files) (p : SelectPlan) (nodes : List DraftNode)
+    (boxes : List BoxPicture) (h : HasEnded files nodes boxes) (last : ℕ) : Type 0 where
+  pub run : HasRun (parts_of files) (plan_nodes p) (pulled_at boxes h.done.pulled)
+      (pushed_at boxes h.done.pushed)
+  pub collected : HasCollected (box_at boxes last) (h.done.pulled last)
+  pub counted : (n : ℕ) (z : DraftNode) → n < length nodes → get_or nodes n z ≡ z
+      → HasPulled (box_at boxes n)
+      (length (all_rows (rows_of (map (pulled_at boxes h.done.pulled) (ports_of n 0 z.takes)))))
+
+pub plan-run : (files : Files) (p : SelectPlan) (nodes : List DraftNode) (boxes : List BoxPicture)
+    (h : HasEnded files nodes boxes) (last : ℕ) → IsSmall p
     → forms nodes ≡ forms (plan_nodes p) → AllTyped (plan_nodes p) []
     → AllByRecursion IsReady nodes → length (plan_nodes p) ≡ last + 1
-    → PlanAnswers (parts_of files) p (chunk_rows (h.done.pulled last 0))
-plan-ended files p nodes boxes h last is small e typed ready count =
+    → PlanRun files p nodes boxes h last
+plan-run files p nodes boxes h last small e typed ready count =
     let g : PlanGraph nodes = plan-graph p nodes small e in
     let run : EndedRun files nodes boxes h = ended-run files nodes boxes g.graph ready h in
     let pulled : NodePort → Stream = pulled_at boxes h.done.pulled in
@@ -240,6 +257,11 @@ plan-ended files p nodes boxes h last is small e typed ready count =
     let each : EachGives (parts_of files) 0 steps pulled pushed =
     each-typed (parts_of files) pulled pushed steps no_draft [] fit tt typed
     (each-same (parts_of files) pulled pushed 0 nodes steps e run.each) along in
-    plans-answer (parts_of files) p pulled pushed is small (record { each = each; along = along })
-    last count
-    (collected files p nodes boxes g.graph ready h last e count)
+    record {
+      run = record { each = each; along = along };
+      collected = collected files p nodes boxes g.graph ready h last e count;
+      counted = λ n z lt is.
+          kept-counted z.spec files z.takes z.gives (box_at boxes n) (h.done.pulled n)
+          (h.done.pushed n) (node-kept files nodes boxes g.graph ready h n z lt is) pulled n
+          (λ i. refl);
+    }

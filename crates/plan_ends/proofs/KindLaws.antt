@@ -8,23 +8,15 @@ use Rattle.std.proofs.lemmas.List.Concat.{flat_map-append}
 use Rattle.std.proofs.lemmas.List.Elements.{All-nil, All-head, All-tail, All-from_recursion, recursion_from_All}
 use Rattle.chunk_data.specs.Values.{Row, Table}
 use Rattle.chunk_data.specs.declared.typed_value.ColumnType.{ColumnType}
-use Rattle.query_model.specs.Expressions.{Cond, Expr, holds, type_of}
-use Rattle.query_model.specs.Answers.{item_row, limited}
-use Rattle.query_model.specs.Sources.{numbers}
-use Rattle.query_model.specs.Typing.{IsItem, IsTypedCond}
-use Rattle.query_model.specs.Database.{Files, file_bytes}
+use Rattle.query_model.specs.Names.{Cond, Expr, holds, type_of, item_row, limited, numbers, IsItem, IsTypedCond, Files, file_bytes}
 use Rattle.query_model.specs.declared.query.Span.{Span}
 use Rattle.query_model.specs.declared.processor_spec.PartSpec.{PartSpec}
 use Rattle.query_model.specs.declared.processor_spec.Spec.{Spec}
 use Rattle.query_model.specs.declared.processor_spec.Spec.TheVariants as spec
-use Rattle.proc_api.specs.Boxes.{BoxPicture, WorkState, kept_input, kept_output, kept_outputs}
-use Rattle.proc_api.specs.Histories.{Lists, chunk_rows}
-use Rattle.proc_api.specs.Made.{unworked_at}
-use Rattle.proc_api.specs.Keeping.{Keeps, KeepsRows, KeepsMade, KeepsThrough, KeepsPart, AllFit, FitsInput, HasReadEnough, ArePartBytes, MakesTypes, IsPulled, no_table}
-use Rattle.plan_graph.specs.declared.nodes.NodePort.{NodePort}
+use Rattle.proc_api.specs.Names.{BoxPicture, WorkState, kept_input, kept_output, kept_outputs, Lists, chunk_rows, unworked_at, Keeps, KeepsRows, KeepsMade, KeepsThrough, KeepsPart, AllFit, FitsInput, HasReadEnough, ArePartBytes, MakesTypes, IsPulled, no_table}
 use Rattle.plan_graph.specs.Drafts.{ports_of}
-use Rattle.plan_meaning.specs.Gives.{Gives, GivesFront, GivesPart, GivesThrough}
-use Rattle.plan_meaning.specs.Types.{GivesIf, MakesType, pulled_types}
+use Rattle.plan_graph.specs.declared.nodes.NodePort.{NodePort}
+use Rattle.plan_meaning.specs.Names.{Gives, GivesFront, GivesPart, GivesThrough, GivesIf, MakesType, pulled_types}
 use Rattle.plan_meaning.proofs.Fronts.{no-rest}
 use Rattle.plan_ends.specs.Ended.{BoxGives, part_in, parts_of, chunk_types, in_stream, out_stream, IsKept, KindGives}
 
@@ -55,7 +47,7 @@ stays-open p ins outs i o k unlimited lt done = elim (open-or-enough p ins outs 
 
 -- The rows that were pushed are the first of these where those that wait and others follow, none of
 -- which is left once it has itself finished its output.
-front-of : (rows left : List Row) (p : BoxPicture) (outs : Lists)
+pub front-of : (rows left : List Row) (p : BoxPicture) (outs : Lists)
     → chunk_rows (outs 0) ++ (chunk_rows p.work.made ++ left) ≡ rows
     → ((kept_output p 0).fin_out ≡ true → (p.work.made ≡ []) × (left ≡ []))
     → GivesFront rows (out_stream p outs 0)
@@ -82,14 +74,14 @@ through-gives make p ins outs none k t unlimited some = record {
 -- ---- what was pulled
 
 -- each chunk of one input fits
-types-fit : (P : List ColumnType → Type 0) (chunks : List Table)
+pub types-fit : (P : List ColumnType → Type 0) (chunks : List Table)
     → AllByRecursion P (chunk_types chunks) → All (λ (t : Table). P t.types) chunks
 types-fit P [] h = All-nil (λ (t : Table). P t.types)
 types-fit P (c ∷ chunks) h = All-from_recursion (λ (t : Table). P t.types) (c ∷ chunks)
     (h.0, recursion_from_All (λ (t : Table). P t.types) chunks (types-fit P chunks h.1))
 
 -- each chunk fits a kind of one input that takes the same at each
-one-fits : (s : Spec) (P : List ColumnType → Type 0) (ins : Lists)
+pub one-fits : (s : Spec) (P : List ColumnType → Type 0) (ins : Lists)
     → ((i : ℕ) (t : List ColumnType) → P t → FitsInput (Some s) i t)
     → ((i : ℕ) → 1 ≤ i → ins i ≡ []) → AllByRecursion P (chunk_types (ins 0)) → AllFit (Some s) ins
 one-fits s P ins same past h zero = λ k d lt. same 0 (get_or (ins 0) k d).types
@@ -193,7 +185,8 @@ through-kind make s P files p ins outs none same from unlimited keeps gives make
     }
 
 -- with as many ports as the spec says
-at-ports : (s : Spec) (files : Files) (n takes gives m o : ℕ) (p : BoxPicture) (ins outs : Lists)
+pub at-ports : (s : Spec) (files : Files) (n takes gives m o : ℕ) (p : BoxPicture)
+    (ins outs : Lists)
     → takes ≡ m → gives ≡ o
     → (IsKept s files m o p ins outs → BoxGives s files m o n p ins outs)
     → IsKept s files takes gives p ins outs → BoxGives s files takes gives n p ins outs

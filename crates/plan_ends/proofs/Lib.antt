@@ -1,6 +1,14 @@
 pub mod Pulls
+pub mod Pulled
 pub mod KindLaws
 pub mod Answers
 pub mod SimplePlans
+pub mod NodeKinds
+pub mod Flows
+pub mod Columns
+pub mod TypedPlans
+pub mod Parts
+pub mod Needs
 pub mod Queries
 pub mod ResizeLaws
+pub mod SortLaws

@@ -5,12 +5,8 @@ use Rattle.std.proofs.lemmas.List.{get_or_default, map-append}
 use Rattle.std.proofs.lemmas.List.Concat.{flat_map-append}
 use Rattle.chunk_data.specs.Values.{Table}
 use Rattle.port_word.specs.declared.flags.Wire.{Wire}
-use Rattle.proc_api.specs.Boxes.{BoxPicture, kept_input, kept_output}
-use Rattle.proc_api.specs.Histories.{chunk_rows}
-use Rattle.proc_api.specs.Settled.{wire_at, no_wire}
-use Rattle.proc_api.specs.Graphs.{output_count}
-use Rattle.exec_laws.specs.Runs.{IsBorn, box_at}
-use Rattle.exec_laws.specs.Ends.{IsDone, EdgeDone}
+use Rattle.proc_api.specs.Names.{BoxPicture, kept_input, kept_output, chunk_rows, wire_at, no_wire, output_count}
+use Rattle.exec_laws.specs.Names.{IsBorn, box_at, IsDone, EdgeDone}
 use Rattle.plan_graph.specs.Drafts.{producer_of, consumer_of}
 use Rattle.plan_meaning.specs.Runs.{AllPull, Pulls}
 use Rattle.plan_ends.specs.Ended.{chunk_types, pulled_at, pushed_at}

@@ -1,41 +1,42 @@
--- At the end of a run of a query's plan the collector has an answer of the query.
-use Rattle.std.proofs.Common.{◌≡◌, ◌⊎◌, ℕ, suc, ◌+◌, ◌<◌, ◌≤◌, Bool, Option, Some, None, List, [], ◌∷◌, ◌++◌, length, map, flat_map, get_or, refl, sym, ap, ap₂, subst, ◌∙◌, arith, inl, inr}
-use Rattle.std.specs.Prelude.{slice_get}
+-- At the end of a run of a query's plan the collector has an answer of the query, and its boxes
+-- pulled their flow.
+use Rattle.std.proofs.Common.{◌≡◌, ◌⊎◌, ℕ, suc, ◌+◌, ◌<◌, ◌≤◌, Bool, true, Option, Some, None, List, [], ◌∷◌, ◌++◌, length, map, flat_map, get_or, refl, sym, ap, ap₂, subst, ◌∙◌, arith, inl, inr}
+use Rattle.std.specs.Prelude.{IfSome, slice_get}
 use Rattle.std.specs.List.{All, AllByRecursion}
 use Rattle.std.proofs.lemmas.List.{append-nil, get_or-map, get_or_past, length-map}
 use Rattle.std.proofs.lemmas.Option.{slice_get_cases}
 use Rattle.chunk_data.specs.Values.{Row, Table}
 use Rattle.chunk_data.specs.declared.typed_value.ColumnType.{ColumnType}
-use Rattle.query_model.specs.Analysis.{IsTypedFilter, IsTypedShape, IsTypedQuery}
-use Rattle.query_model.specs.Answers.{IsAnswer}
-use Rattle.query_model.specs.Database.{Files, file_bytes, column_types, part_paths, rows_in, part_rows, declared_table, database}
-use Rattle.query_model.specs.Expressions.{Cond, Expr}
-use Rattle.query_model.specs.Sources.{Database, used_table, source_table, joined_table}
-use Rattle.query_model.specs.Typing.{IsItem}
+use Rattle.chunk_data.specs.declared.typed_value.SortKey.{SortKey}
+use Rattle.query_model.specs.Names.{IsTypedFilter, IsTypedShape, IsAnswer, output_rows, Files, file_bytes, column_types, part_paths, rows_in, part_rows, declared_table, database, Cond, Expr, rows_where, flow, Database, used_table, source_table, filtered_rows, joined_table, IsItem, type_of}
 use Rattle.query_model.specs.declared.query.PartsDecl.{PartsDecl}
-use Rattle.query_model.specs.declared.query.PartsDecl.TheVariants.{Paths, ListFile}
 use Rattle.query_model.specs.declared.query.TableDecl.{TableDecl}
 use Rattle.query_model.specs.declared.checked.TableUse.{TableUse}
-use Rattle.query_model.specs.declared.checked.TableUse.TheVariants.{Declared, Numbers}
 use Rattle.query_model.specs.declared.checked.Shape.{Shape}
-use Rattle.query_model.specs.declared.checked.Shape.TheVariants.{Plain, Grouped}
 use Rattle.query_model.specs.declared.checked.Checked.{Checked}
 use Rattle.query_model.specs.declared.processor_spec.PartSpec.{PartSpec}
 use Rattle.query_model.specs.declared.processor_spec.Spec.{Spec}
+use Rattle.query_model.specs.declared.query.PartsDecl.TheVariants.{Paths, ListFile}
+use Rattle.query_model.specs.declared.checked.TableUse.TheVariants.{Declared, Numbers}
+use Rattle.query_model.specs.declared.checked.Shape.TheVariants.{Plain, Grouped}
+use Rattle.query_model.specs.declared.processor_spec.Kind.{Kind}
+use Rattle.query_model.specs.declared.processor_spec.Kind.TheVariants as kind
 use Rattle.query_model.specs.declared.processor_spec.Spec.TheVariants as spec
-use Rattle.proc_api.specs.Boxes.{BoxPicture}
-use Rattle.proc_api.specs.Histories.{chunk_rows}
+use Rattle.proc_api.specs.Names.{BoxPicture, chunk_rows}
 use Rattle.plan_graph.specs.declared.nodes.DraftNode.{DraftNode}
-use Rattle.plan_meaning.specs.Plans.{SelectPlan, IsSource, JoinsSources, IsPlan, IsSmall, plan_keys, plan_nodes, read_rows, sources_rows, PlanAnswers}
-use Rattle.plan_meaning.specs.Queries.{shape_of, HasCalls, IsPlanOf}
-use Rattle.plan_meaning.specs.Same.{forms}
-use Rattle.plan_meaning.specs.Types.{AllTyped}
-use Rattle.plan_meaning.proofs.PlanTypes.{OneType, IsTypedBy, plain-typed}
-use Rattle.plan_meaning.proofs.Queries.{query-answers}
+use Rattle.plan_graph.specs.declared.nodes.NodePort.{NodePort}
+use Rattle.plan_meaning.specs.Names.{SelectPlan, IsSource, JoinsSources, IsPlan, IsSmall, IsCut, plan_keys, plan_nodes, plan_rows, plan_valid, read_rows, shape_rows, sources_rows, PlanAnswers, shape_of, HasCalls, IsPlanOf, pulled_rows, forms, Stream, AllTyped}
+use Rattle.plan_meaning.proofs.Answers.{plans-answer, plans-pull}
+use Rattle.plan_meaning.proofs.PlanTypes.{OneType, IsTypedBy}
+use Rattle.plan_meaning.proofs.Queries.{query-answers, shape-selects}
+use Rattle.select_planner.proofs.BoxCounts.{plan-needs}
 use Rattle.select_planner.specs.Steps.{Reading, part_spec, path_sources, part_sources, reading_of, declared_sources, table_sources, types_declared, used_types, join_of, source_types, order_of, select_plan, IsPlain, NamesPaths, IsNoList, UsesNoList, IsPlannable}
-use Rattle.plan_ends.specs.Ended.{part_in, parts_of, HasEnded, IsReady, IsSimple}
-use Rattle.plan_ends.proofs.Answers.{plan-ended}
+use Rattle.plan_ends.specs.Ended.{part_in, parts_of, pulled_at, pushed_at, HasEnded, IsSimple}
+use Rattle.plan_ends.proofs.Answers.{plan-run, PlanRun}
+use Rattle.plan_ends.proofs.Columns.{IsTypedSelect}
+use Rattle.plan_ends.proofs.Flows.{HasFlowed, collector-pulled, flow-pulled}
 use Rattle.plan_ends.proofs.SimplePlans.{simple-ready}
+use Rattle.plan_ends.proofs.TypedPlans.{FitsOrdering, simple-typed}
 
 -- ---- tables
 
@@ -169,7 +170,7 @@ plan-of q tables lanes rows header files p =
       calls = calls q.shape p.plain;
       shape = ap (λ t. shape_of q.shape t rows) types;
       filter = refl;
-      order = ap (λ k. plan_keys (order_of q.types rows k)) p.unordered ∙ sym p.unordered;
+      order = kept q.order;
       limit = refl;
       read = ap (λ j. read_rows (parts_of files) (table_sources tables header rows q.from)
           (join_of tables header rows q.from j)) p.one_table
@@ -177,30 +178,27 @@ plan-of q tables lanes rows header files p =
           ∙ ap (λ (z : Table). z.rows) (sym table);
     }
   where
+    kept : (keys : List SortKey) → plan_keys (order_of q.types rows keys) ≡ keys
+    kept [] = refl
+    kept (key ∷ keys) = refl
+
     calls : (s : Shape) → IsPlain s → HasCalls s
     calls (Plain items) h = tt
     calls (Grouped g) h = absurd h
 
--- an answer of the query, over the rows before the first bad record of each part, with the plan's
--- clause on bad parts
-pub record QueryAnswered (q : Checked) (header : Bool) (files : Files) (tables : List TableDecl)
-    (plan : SelectPlan) (rows : List Row) : Type 0 where
-  pub answer : IsAnswer q (database header files tables) rows
-  pub plan_answers : PlanAnswers (parts_of files) plan rows
+-- The plan of a typed query reads from sources, and its nodes' types fit.
+pub record IsQueryPlan (p : SelectPlan) : Type 0 where
+  pub is : IsPlan p
+  pub simple : IsSimple p
+  pub typed : AllTyped (plan_nodes p) []
 
--- what a plan of the query answers is an answer of the query
-query-answered : (q : Checked) (tables : List TableDecl) (lanes rows : ℕ) (header : Bool)
-    (files : Files) (out : List Row) → IsPlannable q tables
-    → IsTypedQuery (used_types tables q.from) q → 0 < lanes
-    → (IsPlan (select_plan q tables lanes rows header)
-    → IsSimple (select_plan q tables lanes rows header)
-    → AllTyped (plan_nodes (select_plan q tables lanes rows header)) []
-    → PlanAnswers (parts_of files) (select_plan q tables lanes rows header) out)
-    → QueryAnswered q header files tables (select_plan q tables lanes rows header) out
-query-answered q tables lanes rows header files out p typed some answers =
+pub query-plan : (q : Checked) (tables : List TableDecl) (lanes rows : ℕ) (header : Bool)
+    → IsPlannable q tables → IsTypedSelect (used_types tables q.from) q → 0 < lanes
+    → IsQueryPlan (select_plan q tables lanes rows header)
+query-plan q tables lanes rows header p typed some =
     let plan : SelectPlan = select_plan q tables lanes rows header in
     let u : List ColumnType = used_types tables q.from in
-    let items = plain-of-query q u 0 p.plain typed.items in
+    let items = plain-of-query q u 0 p.plain typed.typed.items in
     let is : IsPlan plan = record {
       some_lanes = some;
       sources = each-source IsSource tables header rows q.from p.no_list (λ part t. tt) (λ n t. tt);
@@ -210,57 +208,86 @@ query-answered q tables lanes rows header files out p typed some answers =
       one_table = ap (join_of tables header rows q.from) p.one_table;
       items = items.0;
       shape = ap (λ s. shape_of s (source_types tables q.from q.join) rows) items.1;
-      unordered = ap (order_of q.types rows) p.unordered;
     } in
     let one : AllByRecursion (λ s. OneType s [] u) plan.sources =
     each-source (λ s. OneType s [] u) tables header rows q.from p.no_list
     (λ part t. record { fit = tt; makes = λ v us x m. m ∙ t })
     (λ n t. record { fit = tt; makes = λ v us x m. m ∙ ap (used_types tables) (sym t) }) in
-    let all : AllTyped (plan_nodes plan) [] =
-    plain-typed plan items.0 u simple.one_table simple.shape simple.unordered one
-    (filter-typed q.filter typed.filter) items.2 in
-    let a : PlanAnswers (parts_of files) plan out = answers is simple all in
     record {
-      answer = query-answers q (database header files tables) (parts_of files) plan out
-          (plan-of q tables lanes rows header files p) a;
-      plan_answers = a;
+      is = is;
+      simple = simple;
+      typed = simple-typed plan items.0 u simple.one_table simple.shape one
+          (filter-typed q.filter typed.typed.filter) items.2
+          (order-fits (map (λ e. type_of e u) items.0) q.order (typed.items items.0 items.1)
+          typed.keys);
     }
   where
+    order-fits : (v : List ColumnType) (keys : List SortKey) → q.types ≡ v
+        → All (λ (key : SortKey). key.column < length q.types) keys
+        → FitsOrdering v (order_of q.types rows keys)
+    order-fits v [] e within = tt
+    order-fits v (key ∷ keys) e within = record { types_are = sym e; keys_within = within }
+
     filter-typed : (f : Option Cond) → IsTypedFilter (used_types tables q.from) f
         → IsTypedBy (used_types tables q.from) f
     filter-typed None h = tt
     filter-typed (Some c) h = h
 
--- At the end of a run of the plan of a typed query, by lawful boxes loaded with copies of its
--- nodes' specs, the collector has pulled an answer of the query, where the contract of each node's
--- kind gives its promises.
-pub query-ended : (q : Checked) (tables : List TableDecl) (lanes rows : ℕ) (header : Bool)
-    (files : Files) (nodes : List DraftNode) (boxes : List BoxPicture)
-    (h : HasEnded files nodes boxes) (last : ℕ) → IsPlannable q tables
-    → IsTypedQuery (used_types tables q.from) q → 0 < lanes
-    → IsSmall (select_plan q tables lanes rows header)
-    → forms nodes ≡ forms (plan_nodes (select_plan q tables lanes rows header))
-    → AllByRecursion IsReady nodes
-    → length (plan_nodes (select_plan q tables lanes rows header)) ≡ last + 1
-    → QueryAnswered q header files tables (select_plan q tables lanes rows header)
-    (chunk_rows (h.done.pulled last 0))
-query-ended q tables lanes rows header files nodes boxes h last p typed some small e ready count =
-    query-answered q tables lanes rows header files (chunk_rows (h.done.pulled last 0)) p typed
-    some (λ is simple all. plan-ended files (select_plan q tables lanes rows header) nodes boxes h
-    last is small e all ready count)
+-- What the collector pulled is an answer of the query, over the rows before the first bad record of
+-- each part, with the plan's clause on bad parts. Without LIMIT the nodes pulled their kinds' flows.
+pub record QueryAnswered (q : Checked) (header : Bool) (files : Files) (tables : List TableDecl)
+    (plan : SelectPlan) (nodes : List DraftNode) (boxes : List BoxPicture)
+    (h : HasEnded files nodes boxes) (last : ℕ) : Type 0 where
+  pub answer : IsAnswer q (database header files tables) (chunk_rows (h.done.pulled last 0))
+  pub output : plan_rows (parts_of files) plan ≡ output_rows q (database header files tables)
+  pub valid : (plan_valid (parts_of files) plan ≡ true) ⊎ IsCut (parts_of files) plan
+  pub run : PlanRun files plan nodes boxes h last
+  pub collected : pulled_rows kind.Collect 0 nodes (pulled_at boxes h.done.pulled)
+      ≡ length (chunk_rows (h.done.pulled last 0))
+  pub pulled : q.limit ≡ None → (k : Kind)
+      → IfSome (flow k q (database header files tables) (chunk_rows (h.done.pulled last 0)))
+      (λ n. pulled_rows k 0 nodes (pulled_at boxes h.done.pulled) ≡ n)
 
--- A corollary: the same for every query that is planned so far, without a premise on kinds.
+-- At the end of a run of the plan of a typed query, by lawful boxes loaded with copies of its
+-- nodes' specs, the collector has pulled an answer of the query.
 pub planned-ended : (q : Checked) (tables : List TableDecl) (lanes rows : ℕ) (header : Bool)
     (files : Files) (nodes : List DraftNode) (boxes : List BoxPicture)
     (h : HasEnded files nodes boxes) (last : ℕ) → IsPlannable q tables
-    → IsTypedQuery (used_types tables q.from) q → 0 < lanes
+    → IsTypedSelect (used_types tables q.from) q → 0 < lanes
     → IsSmall (select_plan q tables lanes rows header)
     → forms nodes ≡ forms (plan_nodes (select_plan q tables lanes rows header))
     → length (plan_nodes (select_plan q tables lanes rows header)) ≡ last + 1
-    → QueryAnswered q header files tables (select_plan q tables lanes rows header)
-    (chunk_rows (h.done.pulled last 0))
+    → QueryAnswered q header files tables (select_plan q tables lanes rows header) nodes boxes h
+    last
 planned-ended q tables lanes rows header files nodes boxes h last p typed some small e count =
     let plan : SelectPlan = select_plan q tables lanes rows header in
-    query-answered q tables lanes rows header files (chunk_rows (h.done.pulled last 0)) p typed
-    some (λ is simple all. plan-ended files plan nodes boxes h last is small e all
-    (simple-ready plan nodes is simple e) count)
+    let db : Database = database header files tables in
+    let is : IsPlanOf q db (parts_of files) plan = plan-of q tables lanes rows header files p in
+    let ready : IsQueryPlan plan = query-plan q tables lanes rows header p typed some in
+    let items = plain-of-query q (used_types tables q.from) 0 p.plain typed.typed.items in
+    let f : NodePort → Stream = pulled_at boxes h.done.pulled in
+    let r : PlanRun files plan nodes boxes h last =
+    plan-run files plan nodes boxes h last small e ready.typed
+    (simple-ready plan nodes ready.is ready.simple e) count in
+    let a : PlanAnswers (parts_of files) plan (chunk_rows (h.done.pulled last 0)) =
+    plans-answer (parts_of files) plan f (pushed_at boxes h.done.pushed) ready.is small r.run last
+    count r.collected.done in
+    let flowed : HasFlowed plan (parts_of files) nodes f last = record {
+      same = e;
+      count = count;
+      one_collector = plan-needs q tables lanes rows header kind.Collect p;
+      pulled = λ k unlimited told.
+          plans-pull (parts_of files) plan f (pushed_at boxes h.done.pushed) ready.is small
+          unlimited r.run last count r.collected.done k told;
+    } in
+    record {
+      answer = query-answers q db (parts_of files) plan (chunk_rows (h.done.pulled last 0)) is a;
+      output = ap₂ (λ s l. shape_rows s l) is.shape (ap₂ rows_where is.filter is.read)
+          ∙ shape-selects q.shape (source_table q db).types is.chunk_rows (filtered_rows q db)
+          is.calls;
+      valid = a.valid;
+      run = r;
+      collected = collector-pulled plan (parts_of files) nodes f last flowed;
+      pulled = λ unlimited k. flow-pulled plan (parts_of files) nodes f last flowed ready.simple
+          unlimited q db is.filter is.read p.one_table items.0 items.1 q.types rows refl k;
+    }

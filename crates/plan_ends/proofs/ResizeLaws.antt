@@ -8,21 +8,17 @@ use Rattle.std.proofs.lemmas.List.Sorted.{IsPermutation-refl, IsPermutation-tran
 use Rattle.chunk_data.specs.Values.{Row, Table}
 use Rattle.query_model.specs.declared.processor_spec.Spec.TheVariants as spec
 use Rattle.query_model.proofs.Lists.{IsPermutation-same}
-use Rattle.proc_api.specs.Boxes.{BoxPicture, kept_output}
-use Rattle.proc_api.specs.Histories.{Lists, chunk_rows}
-use Rattle.proc_api.specs.Made.{all_rows as first_rows, unworked_at}
-use Rattle.proc_api.specs.Keeping.{KeepsMade, HasReadEnough}
-use Rattle.plan_graph.specs.declared.nodes.NodePort.{NodePort}
+use Rattle.proc_api.specs.Names.{BoxPicture, kept_output, Lists, chunk_rows, all_rows as first_rows, unworked_at, KeepsMade, HasReadEnough}
 use Rattle.plan_graph.specs.Drafts.{ports_of}
+use Rattle.plan_graph.specs.declared.nodes.NodePort.{NodePort}
 use Rattle.plan_graph.proofs.Drafts.{ports-length}
-use Rattle.plan_meaning.specs.Streams.{Stream, all_done, all_rows, any_done, rows_of}
-use Rattle.plan_meaning.specs.Types.{MakesType, Types, pulled_types}
+use Rattle.plan_meaning.specs.Names.{Stream, all_done, all_rows, any_done, rows_of, MakesType, Types, pulled_types}
 use Rattle.plan_ends.specs.Ended.{in_stream, out_stream, KindGives}
 use Rattle.plan_ends.proofs.KindLaws.{all-worked-at, is-among, kept-rows, made-typed, stays-open}
 
 -- ---- streams at the ports of a node
 
-abbrev at_ports : (ℕ → Stream) → ℕ → ℕ → ℕ → List Stream
+abbrev pub at_ports : (ℕ → Stream) → ℕ → ℕ → ℕ → List Stream
 at_ports f n i k = map (λ (q : NodePort). f q.port) (ports_of n i k)
 
 -- the rows of the first ports, and of so many after them
@@ -41,7 +37,7 @@ ports-rows lists f e n i (suc k) =
     ∙ ports-rows lists f e n (suc i) k ∙ ap (λ m. first_rows m lists) next
 
 -- lists past the last one that has chunks add nothing
-none-past : (lists : Lists) (m k : ℕ) → ((i : ℕ) → m ≤ i → lists i ≡ [])
+pub none-past : (lists : Lists) (m k : ℕ) → ((i : ℕ) → m ≤ i → lists i ≡ [])
     → first_rows (m + k) lists ≡ first_rows m lists
 unfolding first_rows
 none-past lists m zero past =
@@ -54,7 +50,7 @@ none-past lists m (suc k) past =
     ∙ append-nil (first_rows (m + k) lists) ∙ none-past lists m k past
 
 -- the rows at the ports of a node are those of all lists
-all-ports : (lists : Lists) (f : ℕ → Stream) → ((i : ℕ) → (f i).rows ≡ chunk_rows (lists i))
+pub all-ports : (lists : Lists) (f : ℕ → Stream) → ((i : ℕ) → (f i).rows ≡ chunk_rows (lists i))
     → (n m most : ℕ) → m ≤ most → ((i : ℕ) → m ≤ i → lists i ≡ [])
     → all_rows (rows_of (at_ports f n 0 m)) ≡ first_rows most lists
 unfolding first_rows
@@ -80,12 +76,12 @@ any-done f n i (suc k) e = elim (or_cases _ _ e) [
       record { port = d.port; in_range = omega (arith, within); done = d.done }
 ]
 
-all-done : (f : ℕ → Stream) → ((i : ℕ) → (f i).done ≡ true) → (n i k : ℕ)
+pub all-done : (f : ℕ → Stream) → ((i : ℕ) → (f i).done ≡ true) → (n i k : ℕ)
     → all_done (at_ports f n i k) ≡ true
 all-done f h n i zero = refl
 all-done f h n i (suc k) = and_from _ _ (h i) (all-done f h n (suc i) k)
 
-each-port : (P : Stream → Type 0) (f : ℕ → Stream) → ((i : ℕ) → P (f i)) → (n i k : ℕ)
+pub each-port : (P : Stream → Type 0) (f : ℕ → Stream) → ((i : ℕ) → P (f i)) → (n i k : ℕ)
     → AllByRecursion P (at_ports f n i k)
 each-port P f h n i zero = tt
 each-port P f h n i (suc k) = (h i, each-port P f h n (suc i) k)
@@ -100,7 +96,7 @@ in-pairs a b c d = rw (append_assoc a b (c ++ d), append_assoc a c (b ++ d))
     (IsPermutation-trans _ _ _ (IsPermutation-append_left d _ _ (IsPermutation-append_comm b c))
     (IsPermutation-same _ _ (append_assoc c b d)))))
 
-split-rows : (n : ℕ) (whole a b : Lists) → ((i : ℕ) → whole i ≡ a i ++ b i)
+pub split-rows : (n : ℕ) (whole a b : Lists) → ((i : ℕ) → whole i ≡ a i ++ b i)
     → IsPermutation (first_rows n whole) (first_rows n a ++ first_rows n b)
 unfolding first_rows
 split-rows zero whole a b e = IsPermutation-refl []

@@ -1,21 +1,23 @@
--- Plans of one table without grouping and order have nodes of known kinds alone.
+-- Plans of one table without grouping have nodes of known kinds alone.
 use Rattle.std.proofs.Common.{◌≡◌, ℕ, zero, suc, Option, Some, None, List, [], ◌∷◌, length, drop, get_or, refl, sym, ap, subst, arith}
+use Rattle.std.specs.Prelude.{⊤}
 use Rattle.std.specs.List.{AllByRecursion}
 use Rattle.query_model.specs.Expressions.{Cond}
 use Rattle.query_model.specs.declared.query.Span.{Span}
+use Rattle.query_model.specs.declared.processor_spec.PartSpec.{PartSpec}
+use Rattle.query_model.specs.declared.processor_spec.SortSpec.{SortSpec}
 use Rattle.query_model.specs.declared.processor_spec.Spec.{Spec}
 use Rattle.query_model.specs.declared.processor_spec.Spec.TheVariants as spec
-use Rattle.proc_api.specs.Forms.{GrowthForm}
-use Rattle.proc_api.specs.Ports.{ArePortsOf}
-use Rattle.plan_graph.specs.declared.nodes.DraftNode.{DraftNode}
+use Rattle.proc_api.specs.Names.{GrowthForm, ArePortsOf}
 use Rattle.plan_graph.specs.Blocks.{joint_node, lane_nodes, source_nodes}
-use Rattle.plan_meaning.specs.Plans.{plain, SelectPlan, IsPlan, IsSource, body_nodes, collect_node, filter_nodes, limit_nodes, plan_nodes, read_nodes, shape_nodes}
-use Rattle.plan_meaning.specs.Same.{NodeForm, node_form, forms}
-use Rattle.plan_meaning.proofs.Orders.{every-append, every-weaker}
+use Rattle.plan_graph.specs.declared.nodes.DraftNode.{DraftNode}
+use Rattle.plan_meaning.specs.Names.{plain, SelectPlan, IsPlan, IsSource, body_nodes, collect_node, filter_nodes, gather_nodes, limit_nodes, plan_nodes, read_nodes, shape_nodes, NodeForm, node_form, forms}
+use Rattle.proc_api.proofs.Orders.{every-append, every-weaker}
 use Rattle.plan_meaning.proofs.Same.{SameSpec, same-spec}
-use Rattle.plan_ends.specs.Ended.{HasKnownKind, IsReady, IsSimple, KindGives, KnownPorts}
+use Rattle.plan_ends.specs.Ended.{IsReady, IsSimple, IsStep, KindGives, KnownPorts, PartHas}
 use Rattle.plan_ends.proofs.KindLaws.{collect-gives, expression-gives, filter-gives, limit-gives, numbers-gives, part-gives}
 use Rattle.plan_ends.proofs.ResizeLaws.{resize-gives}
+use Rattle.plan_ends.proofs.SortLaws.{merge-gives, sort-gives}
 
 -- ---- known kinds
 
@@ -27,6 +29,8 @@ known-ports (spec.Filter c) takes gives h g = h
 known-ports (spec.Expression items) takes gives h g = h
 known-ports spec.Resize takes gives h g = h
 known-ports (spec.Limit span) takes gives h g = h
+known-ports (spec.Sort order) takes gives h g = h
+known-ports (spec.MergeSorted order) takes gives h g = h
 known-ports spec.Collect takes gives h g = h
 known-ports s takes gives h g = absurd h
 
@@ -38,91 +42,121 @@ known-gives (spec.Filter c) takes gives h = filter-gives c
 known-gives (spec.Expression items) takes gives h = expression-gives items
 known-gives spec.Resize takes gives h = resize-gives
 known-gives (spec.Limit span) takes gives h = limit-gives span
+known-gives (spec.Sort order) takes gives h = sort-gives order
+known-gives (spec.MergeSorted order) takes gives h = merge-gives order
 known-gives spec.Collect takes gives h = collect-gives
 known-gives s takes gives h = absurd h
 
-known-ready : (n : DraftNode) → HasKnownKind n → IsReady n
-known-ready n h = record {
-  ports = known-ports n.spec n.takes n.gives h;
-  gives = known-gives n.spec n.takes n.gives h;
+known-ready : (P : PartSpec → Type 0) (n : DraftNode) → IsStep P n → IsReady n
+known-ready P n h = record {
+  ports = known-ports n.spec n.takes n.gives h.0;
+  gives = known-gives n.spec n.takes n.gives h.0;
 }
 
--- a copy of a known spec is known
-known-copy : (s t : Spec) (takes gives : ℕ) → SameSpec s t → KnownPorts t takes gives
-    → KnownPorts s takes gives
-known-copy (spec.Filter c) (spec.Filter d) takes gives e h = h
-known-copy (spec.Expression items) (spec.Expression others) takes gives e h = h
-known-copy s t takes gives e h = subst (λ x. KnownPorts x takes gives) (sym e) h
+module _ (P : PartSpec → Type 0) where
+  abbrev Known : Spec → (takes gives : ℕ) → Type 0
+  Known s takes gives = KnownPorts s takes gives × PartHas P s
 
-known-form : (a b : DraftNode) → node_form a ≡ node_form b → HasKnownKind b → HasKnownKind a
-known-form a b e h =
-    known-copy a.spec b.spec a.takes a.gives
-    (same-spec a.spec b.spec (ap (λ (f : NodeForm). f.spec) e))
-    (subst (λ m. KnownPorts b.spec m a.gives) (sym (ap (λ (f : NodeForm). f.takes) e))
-    (subst (λ m. KnownPorts b.spec b.takes m) (sym (ap (λ (f : NodeForm). f.gives) e)) h))
+  -- a copy of a known spec is known
+  known-copy : (s t : Spec) (takes gives : ℕ) → SameSpec s t → Known t takes gives
+      → Known s takes gives
+  known-copy (spec.Filter c) (spec.Filter d) takes gives e h = h
+  known-copy (spec.Expression items) (spec.Expression others) takes gives e h = h
+  known-copy s t takes gives e h = subst (λ x. Known x takes gives) (sym e) h
 
--- nodes of the same forms have known kinds too
-known-forms : (xs ys : List DraftNode) → forms xs ≡ forms ys → AllByRecursion HasKnownKind ys
-    → AllByRecursion HasKnownKind xs
-known-forms [] ys e h = tt
-known-forms (x ∷ xs) [] e h =
-    let count = ap (λ (l : List NodeForm). length l) e in
-    absurd (omega (arith, count))
-known-forms (x ∷ xs) (y ∷ ys) e h = (
-  known-form x y (ap (λ l. get_or l 0 (node_form x)) e) h.0,
-  known-forms xs ys (ap (λ (l : List NodeForm). drop 1 l) e) h.1,
-)
+  known-form : (a b : DraftNode) → node_form a ≡ node_form b → IsStep P b → IsStep P a
+  known-form a b e h =
+      known-copy a.spec b.spec a.takes a.gives
+      (same-spec a.spec b.spec (ap (λ (f : NodeForm). f.spec) e))
+      (subst (λ m. Known b.spec m a.gives) (sym (ap (λ (f : NodeForm). f.takes) e))
+      (subst (λ m. Known b.spec b.takes m) (sym (ap (λ (f : NodeForm). f.gives) e)) h))
 
--- ---- the nodes of a plan
+  -- nodes of the same forms are known too
+  known-forms : (xs ys : List DraftNode) → forms xs ≡ forms ys → AllByRecursion (IsStep P) ys
+      → AllByRecursion (IsStep P) xs
+  known-forms [] ys e h = tt
+  known-forms (x ∷ xs) [] e h =
+      let count = ap (λ (l : List NodeForm). length l) e in
+      absurd (omega (arith, count))
+  known-forms (x ∷ xs) (y ∷ ys) e h = (
+    known-form x y (ap (λ l. get_or l 0 (node_form x)) e) h.0,
+    known-forms xs ys (ap (λ (l : List NodeForm). drop 1 l) e) h.1,
+  )
 
-sources-known : (i : ℕ) (specs : List Spec) → AllByRecursion IsSource specs
-    → AllByRecursion HasKnownKind (source_nodes i specs)
-sources-known i [] h = tt
-sources-known i (s ∷ specs) h = (one s h.0, sources-known (suc i) specs h.1)
-  where
-    one : (s : Spec) → IsSource s → KnownPorts s 0 1
-    one (spec.Csv part) h = (refl, refl)
-    one (spec.Numbers count rows) h = (refl, refl)
-    one s h = absurd h
+  -- ---- the nodes of a plan
 
-lanes-known : (s : Spec) (rank i lanes : ℕ) → KnownPorts s 1 1
-    → AllByRecursion HasKnownKind (lane_nodes s rank i lanes)
-lanes-known s rank i zero h = tt
-lanes-known s rank i (suc k) h = (h, lanes-known s rank (suc i) k h)
+  sources-known : (i : ℕ) (specs : List Spec) → AllByRecursion IsSource specs
+      → AllByRecursion (PartHas P) specs → AllByRecursion (IsStep P) (source_nodes i specs)
+  sources-known i [] h parts = tt
+  sources-known i (s ∷ specs) h parts =
+      ((one s h.0, parts.0), sources-known (suc i) specs h.1 parts.1)
+    where
+      one : (s : Spec) → IsSource s → KnownPorts s 0 1
+      one (spec.Csv part) h = (refl, refl)
+      one (spec.Numbers count rows) h = (refl, refl)
+      one s h = absurd h
 
-filter-known : (f : Option Cond) (rank lanes : ℕ)
-    → AllByRecursion HasKnownKind (filter_nodes f rank lanes)
-filter-known None rank lanes = tt
-filter-known (Some c) rank lanes = lanes-known (spec.Filter c) rank 0 lanes (refl, refl)
+  lanes-known : (s : Spec) (rank i lanes : ℕ) → Known s 1 1
+      → AllByRecursion (IsStep P) (lane_nodes s rank i lanes)
+  lanes-known s rank i zero h = tt
+  lanes-known s rank i (suc k) h = (h, lanes-known s rank (suc i) k h)
 
-limit-known : (l : Option Span) → AllByRecursion HasKnownKind (limit_nodes l)
-limit-known None = tt
-limit-known (Some span) = ((refl, refl), tt)
+  filter-known : (f : Option Cond) (rank lanes : ℕ)
+      → AllByRecursion (IsStep P) (filter_nodes f rank lanes)
+  filter-known None rank lanes = tt
+  filter-known (Some c) rank lanes = lanes-known (spec.Filter c) rank 0 lanes ((refl, refl), tt)
 
-plan-known : (p : SelectPlan) → IsPlan p → IsSimple p
-    → AllByRecursion HasKnownKind (plan_nodes p)
-plan-known p is simple =
-    let K : DraftNode → Type 0 = (λ n. HasKnownKind n) in
-    let read : AllByRecursion K (read_nodes p.sources p.join p.lanes) =
-    subst (λ j. AllByRecursion K (read_nodes p.sources j p.lanes)) (sym simple.one_table)
-    (every-append K (source_nodes 0 p.sources)
-    (joint_node spec.Resize 2 (length p.sources) p.lanes ∷ [])
-    (sources-known 0 p.sources is.sources) (is.some_lanes, tt)) in
-    let shape : AllByRecursion K (shape_nodes p.shape p.order p.lanes) =
-    subst (λ s. AllByRecursion K (shape_nodes s p.order p.lanes)) (sym simple.shape)
-    (subst (λ o. AllByRecursion K (shape_nodes (plain simple.items) o p.lanes))
-    (sym simple.unordered)
-    (every-append K (lane_nodes (spec.Expression simple.items) 6 0 p.lanes)
-    (joint_node spec.Resize 12 p.lanes 1 ∷ [])
-    (lanes-known (spec.Expression simple.items) 6 0 p.lanes (refl, refl)) (omega arith, tt))) in
-    every-append K (body_nodes p) (collect_node ∷ [])
-    (every-append K (read_nodes p.sources p.join p.lanes) _ read
-    (every-append K (filter_nodes p.filter 5 p.lanes) _ (filter-known p.filter 5 p.lanes)
-    (every-append K (shape_nodes p.shape p.order p.lanes) (limit_nodes p.limit) shape
-    (limit-known p.limit)))) ((refl, refl), tt)
+  gather-known : (o : Option SortSpec) (lanes : ℕ)
+      → AllByRecursion (IsStep P) (gather_nodes o lanes)
+  gather-known None lanes = ((omega arith, tt), tt)
+  gather-known (Some order) lanes =
+      every-append (IsStep P) (lane_nodes (spec.Sort order) 11 0 lanes)
+      (joint_node (spec.MergeSorted order) 12 lanes 1 ∷ [])
+      (lanes-known (spec.Sort order) 11 0 lanes ((refl, refl), tt)) ((refl, tt), tt)
+
+  limit-known : (l : Option Span) → AllByRecursion (IsStep P) (limit_nodes l)
+  limit-known None = tt
+  limit-known (Some span) = (((refl, refl), tt), tt)
+
+  plan-known : (p : SelectPlan) → IsPlan p → IsSimple p → AllByRecursion (PartHas P) p.sources
+      → AllByRecursion (IsStep P) (plan_nodes p)
+  plan-known p is simple parts =
+      let K : DraftNode → Type 0 = (λ n. IsStep P n) in
+      let read : AllByRecursion K (read_nodes p.sources p.join p.lanes) =
+      subst (λ j. AllByRecursion K (read_nodes p.sources j p.lanes)) (sym simple.one_table)
+      (every-append K (source_nodes 0 p.sources)
+      (joint_node spec.Resize 2 (length p.sources) p.lanes ∷ [])
+      (sources-known 0 p.sources is.sources parts) ((is.some_lanes, tt), tt)) in
+      let shape : AllByRecursion K (shape_nodes p.shape p.order p.lanes) =
+      subst (λ s. AllByRecursion K (shape_nodes s p.order p.lanes)) (sym simple.shape)
+      (every-append K (lane_nodes (spec.Expression simple.items) 6 0 p.lanes)
+      (gather_nodes p.order p.lanes)
+      (lanes-known (spec.Expression simple.items) 6 0 p.lanes ((refl, refl), tt))
+      (gather-known p.order p.lanes)) in
+      every-append K (body_nodes p) (collect_node ∷ [])
+      (every-append K (read_nodes p.sources p.join p.lanes) _ read
+      (every-append K (filter_nodes p.filter 5 p.lanes) _ (filter-known p.filter 5 p.lanes)
+      (every-append K (shape_nodes p.shape p.order p.lanes) (limit_nodes p.limit) shape
+      (limit-known p.limit)))) (((refl, refl), tt), tt)
+
+  -- Each node of such a plan's graph is of a known kind, and what is true of the sources' parts is
+  -- true of its part.
+  pub simple-steps : (p : SelectPlan) (nodes : List DraftNode) → IsPlan p → IsSimple p
+      → AllByRecursion (PartHas P) p.sources → forms nodes ≡ forms (plan_nodes p)
+      → AllByRecursion (IsStep P) nodes
+  simple-steps p nodes is simple parts e =
+      known-forms nodes (plan_nodes p) e (plan-known p is simple parts)
 
 -- each node of such a plan's graph is ready
 pub simple-ready : (p : SelectPlan) (nodes : List DraftNode) → IsPlan p → IsSimple p
     → forms nodes ≡ forms (plan_nodes p) → AllByRecursion IsReady nodes
-simple-ready p nodes is simple e = every-weaker HasKnownKind IsReady known-ready nodes
-    (known-forms nodes (plan_nodes p) e (plan-known p is simple))
+simple-ready p nodes is simple e =
+    let parts : AllByRecursion (PartHas (λ part. ⊤)) p.sources =
+    every-weaker IsSource (PartHas (λ part. ⊤)) any-part p.sources is.sources in
+    every-weaker (IsStep (λ part. ⊤)) IsReady (known-ready (λ part. ⊤)) nodes
+    (simple-steps (λ part. ⊤) p nodes is simple parts e)
+  where
+    any-part : (s : Spec) → IsSource s → PartHas (λ part. ⊤) s
+    any-part (spec.Csv part) h = tt
+    any-part (spec.Numbers count rows) h = tt
+    any-part s h = absurd h

@@ -1,26 +1,18 @@
 -- The streams of a run that has ended.
-use Rattle.std.specs.Prelude.{◌≡◌, ℕ, ◌<◌, ◌≤◌, not, ◌&&◌, true, false, List, [], length, is_none, Option, Some, None, map}
+use Rattle.std.specs.Prelude.{◌≡◌, ◌⊎◌, ℕ, ◌<◌, ◌≤◌, ◌+◌, not, ◌&&◌, cond, true, false, List, [], ◌∷◌, length, is_none, ⊤, Option, Some, None, map}
 use Rattle.chunk_data.specs.Values.{Table}
 use Rattle.chunk_data.specs.declared.typed_value.ColumnType.{ColumnType}
-use Rattle.query_model.specs.Parts.{part_records, good_rows, bad_place}
-use Rattle.query_model.specs.Database.{Files, file_bytes}
-use Rattle.query_model.specs.Expressions.{Expr}
+use Rattle.query_model.specs.Names.{part_records, good_rows, bad_place, Files, UsedPart, file_bytes, Expr}
 use Rattle.query_model.specs.declared.processor_spec.PartSpec.{PartSpec}
 use Rattle.query_model.specs.declared.processor_spec.Spec.{Spec}
+use Rattle.query_model.specs.declared.processor_spec.Kind.{Kind}
 use Rattle.query_model.specs.declared.processor_spec.Spec.TheVariants as spec
-use Rattle.proc_api.specs.Boxes.{BoxPicture, kept_input, kept_output, kept_outputs}
-use Rattle.proc_api.specs.Histories.{Lists, chunk_rows}
-use Rattle.proc_api.specs.Keeping.{Keeps}
-use Rattle.proc_api.specs.Forms.{GrowthForm}
-use Rattle.proc_api.specs.Ports.{ArePortsOf, AreCounts}
-use Rattle.exec_laws.specs.Runs.{box_at}
-use Rattle.exec_laws.specs.Ends.{IsDone}
+use Rattle.proc_api.specs.Names.{BoxPicture, kept_input, kept_output, kept_inputs, kept_outputs, Lists, chunk_rows, last_count, Keeps, GrowthForm, ArePortsOf, AreCounts, is_of}
+use Rattle.exec_laws.specs.Names.{box_at, IsDone}
+use Rattle.plan_graph.specs.Drafts.{no_draft, with_nodes, ports_of}
 use Rattle.plan_graph.specs.declared.nodes.DraftNode.{DraftNode}
 use Rattle.plan_graph.specs.declared.nodes.NodePort.{NodePort}
-use Rattle.plan_graph.specs.Drafts.{no_draft, with_nodes, ports_of}
-use Rattle.plan_meaning.specs.Streams.{Part, Parts, Stream}
-use Rattle.plan_meaning.specs.Plans.{SelectPlan, plain}
-use Rattle.plan_meaning.specs.Types.{GivesIf}
+use Rattle.plan_meaning.specs.Names.{Part, Parts, Stream, SelectPlan, plain, GivesIf}
 
 abbrev pub part_in : PartSpec → Option (List ℕ) → Part
 part_in part None = record { rows = []; valid = false }
@@ -73,6 +65,7 @@ pub record IsKept (s : Spec) (files : Files) (takes gives : ℕ) (p : BoxPicture
   pub ports : ArePortsOf (Some s) p.growth takes gives
   pub few_inputs : takes ≤ 32
   pub few_outputs : gives ≤ 16
+  pub inputs : kept_inputs p ≡ takes
   pub outputs : kept_outputs p ≡ gives
   pub keeps : Keeps p ins outs
   pub nothing_past : NothingPast takes ins
@@ -89,6 +82,22 @@ abbrev pub KindGives : Spec → Type 0
 KindGives s = (files : Files) (takes gives n : ℕ) (p : BoxPicture) (ins outs : Lists)
     → IsKept s files takes gives p ins outs → BoxGives s files takes gives n p ins outs
 
+-- the count of pulled rows of a box rose by so many since `load`, or stands at its last value
+abbrev pub HasPulled : BoxPicture → ℕ → Type 0
+HasPulled p n = (p.notes.pulled ≡ n) ⊎ (p.pulled ≡ last_count)
+
+-- the count of a box of the kind stands at its last value
+pub record HasFullCount (k : Kind) (boxes : List BoxPicture) : Type 0 where
+  pub place : ℕ
+  pub in_range : place < length boxes
+  pub of_kind : is_of k (box_at boxes place) ≡ true
+  pub full : (box_at boxes place).pulled ≡ last_count
+
+-- the rows that the boxes of a kind pulled since they were loaded
+abbrev pub pulled_since : Kind → List BoxPicture → ℕ
+pulled_since k [] = 0
+pulled_since k (p ∷ boxes) = cond (is_of k p) p.notes.pulled 0 + pulled_since k boxes
+
 -- a node with the ports of its spec, of whose kind the processor contract gives the promises
 pub record IsReady (n : DraftNode) : Type 0 where
   pub ports : (g : Option GrowthForm) → ArePortsOf (Some n.spec) g n.takes n.gives
@@ -102,18 +111,30 @@ KnownPorts (spec.Filter c) takes gives = AreCounts takes gives 1 1
 KnownPorts (spec.Expression items) takes gives = AreCounts takes gives 1 1
 KnownPorts spec.Resize takes gives = 0 < gives
 KnownPorts (spec.Limit span) takes gives = AreCounts takes gives 1 1
+KnownPorts (spec.Sort order) takes gives = AreCounts takes gives 1 1
+KnownPorts (spec.MergeSorted order) takes gives = gives ≡ 1
 KnownPorts spec.Collect takes gives = AreCounts takes gives 1 0
 KnownPorts _ takes gives = ⊥
 
-abbrev pub HasKnownKind : DraftNode → Type 0
-HasKnownKind n = KnownPorts n.spec n.takes n.gives
+-- a part that a source is loaded with, as queries use parts
+abbrev pub used_part : PartSpec → UsedPart
+used_part p = record { table = p.table; part = p.part; types = p.types; path = p.path }
 
--- a plan of one table, without grouping and order
+-- what is true of the part that a source reads; a list of parts is no source here
+abbrev pub PartHas : (PartSpec → Type 0) → Spec → Type 0
+PartHas P (spec.Csv part) = P part
+PartHas P (spec.List list) = ⊥
+PartHas P _ = ⊤
+
+-- a node of a known kind, and this is true of its part where it reads one
+abbrev pub IsStep : (PartSpec → Type 0) → DraftNode → Type 0
+IsStep P n = KnownPorts n.spec n.takes n.gives × PartHas P n.spec
+
+-- a plan of one table, without grouping
 pub record IsSimple (p : SelectPlan) : Type 0 where
   pub one_table : p.join ≡ None
   pub items : List Expr
   pub shape : p.shape ≡ plain items
-  pub unordered : p.order ≡ None
 
 -- An ended run by lawful boxes that were loaded with the specs of these nodes. The sources tell
 -- these files.

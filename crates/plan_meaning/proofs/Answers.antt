@@ -7,14 +7,11 @@ use Rattle.proc_api.specs.Graphs.{rank_at}
 use Rattle.std.proofs.lemmas.Bool.{and_from}
 use Rattle.std.specs.Prelude.{◌≡◌, ◌+◌, ℕ, true, List, [], length, map, None}
 use Rattle.query_model.specs.declared.processor_spec.Kind.{Kind}
-use Rattle.plan_meaning.specs.Runs.{AllPull, EachGives, HasRun, Pulls, pulled_rows}
-use Rattle.plan_meaning.specs.Meaning.{Completes}
+use Rattle.plan_meaning.specs.Names.{AllPull, EachGives, HasRun, Pulls, pulled_rows, Completes, Parts, Stream, IsPlan, IsSmall, IsTold, PlanAnswers, SelectPlan, body_nodes, collect_node, plan_nodes, plan_pulls}
 use Rattle.plan_graph.specs.Drafts.{Draft, consumer_of, no_draft, producer_of, taken_by, wires_to, with_node, with_nodes}
 use Rattle.plan_graph.specs.declared.nodes.DraftNode.{DraftNode}
-use Rattle.plan_graph.proofs.Fitting.{FitsBlock, Fitted, Levels, fits}
-use Rattle.plan_meaning.specs.Streams.{Parts, Stream}
-use Rattle.plan_meaning.specs.Plans.{IsPlan, IsSmall, IsTold, PlanAnswers, SelectPlan, body_nodes, collect_node, plan_nodes, plan_pulls}
 use Rattle.plan_graph.specs.declared.nodes.NodePort.{NodePort}
+use Rattle.plan_graph.proofs.Fitting.{FitsBlock, Fitted, Levels, fits}
 use Rattle.plan_meaning.proofs.Runs.{RunsOf, runs}
 use Rattle.plan_graph.proofs.Drafts.{all-back, all-front}
 use Rattle.plan_meaning.proofs.Completing.{all-inputs-done, completes}

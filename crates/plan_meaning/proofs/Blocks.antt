@@ -4,12 +4,9 @@ use Rattle.std.specs.List.{AllZip}
 use Rattle.std.proofs.lemmas.List.{append-nil, append_assoc, length-append}
 use Rattle.chunk_data.specs.Values.{Row}
 use Rattle.query_model.specs.declared.processor_spec.Spec.{Spec}
+use Rattle.plan_graph.specs.Names.{given_by, taken_by, lane_nodes, source_nodes}
 use Rattle.plan_graph.specs.declared.nodes.DraftNode.{DraftNode}
-use Rattle.plan_meaning.specs.Streams.{Flow, Parts, all_rows, flow_rows, flows_of}
-use Rattle.plan_meaning.specs.Makes.{Makes, is_certain, is_needed}
-use Rattle.plan_meaning.specs.Meaning.{Means, MeansNode}
-use Rattle.plan_graph.specs.Drafts.{given_by, taken_by}
-use Rattle.plan_graph.specs.Blocks.{lane_nodes, source_nodes}
+use Rattle.plan_meaning.specs.Names.{Flow, Parts, all_rows, flow_rows, flows_of, Makes, is_certain, is_needed, Means, MeansNode}
 use Rattle.plan_graph.proofs.Places.{replaced-at, run-at}
 
 -- what a node made of the flows t, between xs and ys

@@ -5,15 +5,12 @@ use Rattle.std.proofs.lemmas.Bool.{and_parts, and_from, or_left, both_ways, or_c
 use Rattle.std.proofs.lemmas.List.{length-map}
 use Rattle.query_model.specs.declared.checked.KeyPair.{KeyPair}
 use Rattle.query_model.specs.declared.processor_spec.Spec.{Spec}
-use Rattle.plan_meaning.specs.Runs.{AllInputsDone, IsNoLimit, IsOpenNode, Pulls, Runs, RunsNode, if_kind}
-use Rattle.plan_meaning.specs.Meaning.{Completes, IsFront}
+use Rattle.plan_meaning.specs.Names.{AllInputsDone, IsNoLimit, IsOpenNode, Pulls, Runs, RunsNode, if_kind, Completes, IsFront, Flow, ManyToOne, OneToOne, Parts, Source, Stream, TwoToOne, all_done, all_rows, any_done, flows_of, rows_of, Gives, GivesHeld, GivesJoined, GivesMerged, merged_rows, partial_rows, Makes, is_certain, is_needed}
 use Rattle.plan_meaning.proofs.KindLaws.{CompletesKind, complete-kind, done-rows}
-use Rattle.plan_graph.specs.declared.nodes.DraftNode.{DraftNode}
-use Rattle.plan_meaning.specs.Streams.{Flow, ManyToOne, OneToOne, Parts, Source, Stream, TwoToOne, all_done, all_rows, any_done, flows_of, rows_of}
-use Rattle.plan_meaning.specs.Gives.{Gives, GivesHeld, GivesJoined, GivesMerged, IsSortOf, merged_rows, partial_rows}
-use Rattle.plan_meaning.specs.Makes.{Makes, is_certain, is_needed}
-use Rattle.plan_meaning.proofs.Fronts.{pulled-front}
 use Rattle.plan_graph.specs.Drafts.{given_by, taken_by}
+use Rattle.plan_graph.specs.declared.nodes.DraftNode.{DraftNode}
+use Rattle.proc_api.specs.Made.{IsSortOf}
+use Rattle.plan_meaning.proofs.Fronts.{pulled-front}
 use Rattle.plan_graph.proofs.Places.{run-split}
 use Rattle.plan_meaning.proofs.Zips.{zip-append, zip-chain, zip-drop, zip-length, zip-take}
 use Rattle.query_model.specs.declared.processor_spec.Spec.TheVariants as spec

@@ -4,12 +4,9 @@ use Rattle.std.specs.List.{All, AllByRecursion}
 use Rattle.std.proofs.lemmas.List.Elements.{recursion_from_All, All-from_recursion}
 use Rattle.chunk_data.specs.Values.{Row}
 use Rattle.chunk_data.specs.declared.typed_value.ColumnType.{ColumnType}
-use Rattle.query_model.specs.Formulas.{formula}
-use Rattle.query_model.specs.Expressions.{Expr, Cond, value_of, type_of, truth_of, operand_value}
-use Rattle.query_model.specs.Answers.{item_row}
-use Rattle.query_model.specs.Typing.{plain_of, AreAlike, IsTyped, IsItem, operand_type, IsTypedOperand, IsTypedCond, is_text}
-use Rattle.query_model.specs.declared.query.ExprOf.TheVariants as expr
+use Rattle.query_model.specs.Names.{formula, Expr, Cond, value_of, type_of, truth_of, operand_value, item_row, plain_of, AreAlike, IsTyped, IsItem, operand_type, IsTypedOperand, IsTypedCond, is_text}
 use Rattle.query_model.specs.declared.query.Operand.{Operand}
+use Rattle.query_model.specs.declared.query.ExprOf.TheVariants as expr
 use Rattle.query_model.specs.declared.query.Operand.TheVariants as operand
 use Rattle.query_model.specs.declared.query.CondOf.TheVariants as cond'
 use Rattle.proc_api.specs.Forms.{operand_form, cond_form}

@@ -2,28 +2,21 @@
 use Rattle.std.proofs.Common.{◌<◌, ap₂, ◌≡◌, ℕ, zero, suc, ◌+◌, Bool, true, false, cond, List, [], ◌∷◌, ◌++◌, length, refl, sym, ap, subst, ◌∙◌, arith, Option, Some, None, map}
 use Rattle.std.proofs.lemmas.List.{append_assoc, append-nil, length-append, length-map}
 use Rattle.chunk_data.specs.Values.{Row}
-use Rattle.query_model.specs.Kinds.{kind_of}
-use Rattle.query_model.specs.declared.processor_spec.Kind.{Kind}
+use Rattle.query_model.specs.Names.{kind_of, Cond, rows_where, item_row}
 use Rattle.query_model.specs.declared.processor_spec.Spec.{Spec}
-use Rattle.proc_api.specs.Racks.{same_kind}
-use Rattle.query_model.specs.Expressions.{Cond, rows_where}
-use Rattle.query_model.specs.Answers.{item_row}
 use Rattle.query_model.specs.declared.query.Span.{Span}
-use Rattle.std.specs.List.{AllByRecursion}
 use Rattle.query_model.specs.declared.processor_spec.SortSpec.{SortSpec}
+use Rattle.query_model.specs.declared.processor_spec.Kind.{Kind}
+use Rattle.proc_api.specs.Racks.{same_kind}
+use Rattle.std.specs.List.{AllByRecursion}
 use Rattle.std.proofs.lemmas.List.Sorted.{length_permutation}
+use Rattle.plan_graph.specs.Names.{joint_node, lane_nodes, source_nodes, taken_by}
 use Rattle.plan_graph.specs.declared.nodes.DraftNode.{DraftNode}
-use Rattle.plan_meaning.specs.Streams.{Flow, Parts, all_certain, all_rows, any_needs, flow_rows, flows_of}
-use Rattle.plan_meaning.specs.Runs.{IsNoLimit, IsOpenNode, if_kind}
-use Rattle.plan_meaning.specs.Plans.{IsPlan, IsSource, IsTold, JoinsSources, PlanJoin, PlanShape, SelectPlan, body_nodes, filter_nodes, filter_pulls, gather_nodes, gather_pulls, grouped, grouped_of, join_pulls, join_valid, limit_nodes, plain, plan_pulls, plan_valid, pulls, read_nodes, read_rows, shape_nodes, shape_pulls, sort_nodes, sort_pulls, sources_rows}
+use Rattle.plan_meaning.specs.Names.{Flow, Parts, all_certain, all_rows, any_needs, flow_rows, flows_of, IsNoLimit, IsOpenNode, if_kind, IsPlan, IsSource, IsTold, JoinsSources, PlanJoin, PlanShape, SelectPlan, body_nodes, filter_nodes, filter_pulls, gather_nodes, gather_pulls, grouped, grouped_of, join_pulls, join_valid, limit_nodes, plain, plan_pulls, plan_valid, pulls, read_nodes, read_rows, shape_nodes, shape_pulls, sort_nodes, sort_pulls, sources_rows, Means, MeansNode, meant_by, is_certain, is_needed}
 use Rattle.plan_meaning.proofs.Blocks.{LaneMade, LanesMade, MeansParts, NodeMade, lanes-mean, node-at}
-use Rattle.plan_meaning.specs.Meaning.{Means, MeansNode, meant_by}
 use Rattle.plan_meaning.proofs.Plans.{SortedLanes, Spread, filter-spread, groups-spread, items-spread, joint-at, made-one, read-one, read-spread, sorted-lanes, sources-read}
-use Rattle.plan_meaning.proofs.Orders.{every-append}
-use Rattle.plan_meaning.specs.Makes.{is_certain, is_needed}
-use Rattle.plan_graph.specs.Blocks.{joint_node, lane_nodes, source_nodes}
+use Rattle.proc_api.proofs.Orders.{every-append}
 use Rattle.plan_graph.proofs.Places.{run-at}
-use Rattle.plan_graph.specs.Drafts.{taken_by}
 use Rattle.plan_meaning.proofs.Zips.{zip-length}
 use Rattle.query_model.specs.declared.processor_spec.Spec.TheVariants as spec
 

@@ -7,13 +7,11 @@ use Rattle.query_model.specs.declared.query.Span.{Span}
 use Rattle.query_model.specs.declared.processor_spec.SortSpec.{SortSpec}
 use Rattle.query_model.specs.declared.processor_spec.Spec.{Spec}
 use Rattle.query_model.specs.declared.processor_spec.Spec.TheVariants as spec
+use Rattle.plan_graph.specs.Names.{source_nodes, lane_nodes, joint_node, Draft, with_node, with_nodes, wires_to, taken_by, AllFitDraft}
 use Rattle.plan_graph.specs.declared.nodes.DraftNode.{DraftNode}
 use Rattle.plan_graph.specs.declared.nodes.NodePort.{NodePort}
-use Rattle.plan_graph.specs.Blocks.{source_nodes, lane_nodes, joint_node}
-use Rattle.plan_graph.specs.Drafts.{Draft, with_node, with_nodes, wires_to, taken_by, AllFitDraft}
 use Rattle.plan_graph.proofs.Places.{run-length}
-use Rattle.plan_meaning.specs.Plans.{PlanShape, plain, grouped, PlanJoin, SelectPlan, filter_nodes, limit_nodes, read_nodes, gather_nodes, sort_nodes, shape_nodes, body_nodes, collect_node, plan_nodes, FewJoined, IsSmall}
-use Rattle.plan_meaning.specs.Counts.{Count, counted, each_node, each_input, sources_count, read_count, filter_count, gather_count, sort_count, shape_count, limit_count, plan_count}
+use Rattle.plan_meaning.specs.Names.{PlanShape, plain, grouped, PlanJoin, SelectPlan, filter_nodes, limit_nodes, read_nodes, gather_nodes, sort_nodes, shape_nodes, body_nodes, collect_node, plan_nodes, FewJoined, IsSmall, Count, counted, each_node, each_input, sources_count, read_count, filter_count, gather_count, sort_count, shape_count, limit_count, plan_count}
 
 -- ---- step by step
 

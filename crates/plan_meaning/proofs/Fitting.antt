@@ -5,11 +5,10 @@ use Rattle.query_model.specs.Expressions.{Cond}
 use Rattle.query_model.specs.declared.query.Span.{Span}
 use Rattle.query_model.specs.declared.processor_spec.Spec.{Spec}
 use Rattle.query_model.specs.declared.processor_spec.SortSpec.{SortSpec}
-use Rattle.plan_graph.specs.Drafts.{AllFitEnds, ranks_after, replaced, run_of}
+use Rattle.plan_graph.specs.Names.{AllFitEnds, ranks_after, replaced, run_of, joint_node, lane_nodes, source_nodes}
 use Rattle.plan_graph.specs.declared.nodes.DraftNode.{DraftNode}
 use Rattle.plan_meaning.specs.Plans.{FewJoined, IsSmall, PlanJoin, PlanShape, SelectPlan, body_nodes, collect_node, filter_nodes, gather_nodes, grouped, limit_nodes, plain, plan_nodes, read_nodes, shape_nodes, sort_nodes}
 use Rattle.plan_graph.proofs.Fitting.{FitsBlock, Levels, all-front', block-append, joint-fit, joint-level, lanes-level, level-append, same-ranks, sources-fit, stay-level}
-use Rattle.plan_graph.specs.Blocks.{joint_node, lane_nodes, source_nodes}
 use Rattle.plan_graph.proofs.Places.{replaced-at, run-at}
 use Rattle.query_model.specs.declared.processor_spec.Spec.TheVariants as spec
 

@@ -9,11 +9,8 @@ use Rattle.std.specs.Prelude.{IsSorted}
 use Rattle.std.specs.Ordering.{is_lt}
 use Rattle.chunk_data.specs.Values.{Row, row_cmp}
 use Rattle.chunk_data.specs.declared.typed_value.SortKey.{SortKey}
-use Rattle.plan_meaning.specs.Streams.{Flow, Stream, all_certain, all_done, all_rows, any_needs, flow_rows, rows_of}
-use Rattle.plan_meaning.specs.Gives.{HoldsBack}
-use Rattle.plan_meaning.proofs.Orders.{InOrder, every-append, every-contains, every-weaker, order-cross, order-from_sorted, rows-ordered}
-use Rattle.plan_meaning.specs.Meaning.{IsFront}
-use Rattle.plan_meaning.specs.Runs.{Pulls}
+use Rattle.plan_meaning.specs.Names.{Flow, Stream, all_certain, all_done, all_rows, any_needs, flow_rows, rows_of, HoldsBack, IsFront, Pulls}
+use Rattle.proc_api.proofs.Orders.{InOrder, every-append, every-contains, every-weaker, order-cross, order-from_sorted, rows-ordered}
 
 pub pulled-front : (i s : Stream) (f : Flow) → Pulls i s → IsFront s f → IsFront i f
 pulled-front i s f p h = record {

@@ -12,18 +12,14 @@ use Rattle.std.specs.Ordering.{is_lt}
 use Rattle.query_model.proofs.AnswerLaws.{joined_rows-append}
 use Rattle.chunk_data.specs.Values.{Row, row_cmp}
 use Rattle.chunk_data.specs.declared.typed_value.SortKey.{SortKey}
+use Rattle.query_model.specs.Names.{holds, item_row, limited, enough, numbers, joined_rows}
 use Rattle.query_model.specs.declared.checked.KeyPair.{KeyPair}
-use Rattle.query_model.specs.Expressions.{holds}
-use Rattle.query_model.specs.Answers.{item_row, limited, enough}
-use Rattle.query_model.specs.Sources.{numbers, joined_rows}
 use Rattle.query_model.specs.declared.query.Span.{Span}
 use Rattle.query_model.specs.declared.processor_spec.Spec.{Spec}
 use Rattle.plan_meaning.proofs.Fronts.{Behind, behind, certain-inputs, needed-inputs, no-rest}
-use Rattle.plan_meaning.specs.Streams.{Flow, ManyToOne, OneToNone, OneToOne, Parts, Source, Stream, TwoToOne, all_certain, all_done, all_rows, any_done, any_needs, flow_rows, flows_of, rows_of}
-use Rattle.plan_meaning.specs.Gives.{FrontOf, Gives, GivesFront, GivesHeld, GivesJoined, GivesLimited, GivesMerged, GivesPart, GivesResized, GivesThrough, HoldsBack, IsMergeOf, IsSortOf, merged_rows, partial_rows}
-use Rattle.plan_meaning.proofs.Orders.{InOrder, every-append, every-none, every-permuted, order-from_sorted, order-front, order-joined, ordered, ordered-none, ordered-order, ordered-same, rows-ordered, sorted-from_order}
-use Rattle.plan_meaning.specs.Meaning.{IsFront}
-use Rattle.plan_meaning.specs.Makes.{Makes, is_certain, is_needed, join_needs}
+use Rattle.plan_meaning.specs.Names.{Flow, ManyToOne, OneToNone, OneToOne, Parts, Source, Stream, TwoToOne, all_certain, all_done, all_rows, any_done, any_needs, flow_rows, flows_of, rows_of, FrontOf, Gives, GivesFront, GivesHeld, GivesJoined, GivesLimited, GivesMerged, GivesPart, GivesResized, GivesThrough, HoldsBack, IsMergeOf, merged_rows, partial_rows, IsFront, Makes, is_certain, is_needed, join_needs}
+use Rattle.proc_api.specs.Made.{IsSortOf}
+use Rattle.proc_api.proofs.Orders.{InOrder, every-append, every-none, every-permuted, order-from_sorted, order-front, order-joined, ordered, ordered-none, ordered-order, ordered-same, rows-ordered, sorted-from_order}
 use Rattle.query_model.specs.declared.processor_spec.Spec.TheVariants as spec
 
 -- for a kind with one output
@@ -278,7 +274,9 @@ empty-rows [] h = refl
 empty-rows (r ∷ rows) h = absurd (h (omega arith))
 
 -- a kind that gives nothing before its inputs are done
-sort-exists : (keys : List SortKey) (rows : List Row) → (out : List Row) × IsSortOf keys rows out
+-- rows can be put in the order of any keys
+pub sort-exists : (keys : List SortKey) (rows : List Row) → (out : List Row)
+    × IsSortOf keys rows out
 sort-exists keys rows =
     let lt = (λ (a b : Row). is_lt (row_cmp keys a b)) in
     let o = rows-ordered keys in (
@@ -435,13 +433,13 @@ merged keys ins o fs k z =
             (IsPermutation-append_right o.rows left tail (ordered-same lt w left))));
         in_order = λ s.
             let sorted = flows-sorted keys fs s in
-            let first : InOrder lt o.rows = order-from_sorted lt w o.rows
-            (k.in_order (front-sorted keys ins fs z sorted)) in
+            let fronts = front-sorted keys ins fs z sorted in
+            let first : InOrder lt o.rows = order-from_sorted lt w o.rows (k.in_order fronts) in
             let cross : AllByRecursion (λ y. AllByRecursion (λ x. lt y x ≡ false) o.rows) tail =
             every-permuted (λ y. AllByRecursion (λ x. lt y x ≡ false) o.rows) left tail
             (ordered-same lt w left)
             (every-append (λ y. AllByRecursion (λ x. lt y x ≡ false) o.rows) k.waits b.rest
-            k.before_waits (later-all sorted b (cases_lt 0 (length o.rows)))) in
+            (k.before_waits fronts) (later-all sorted b (cases_lt 0 (length o.rows)))) in
             sorted-from_order lt w (o.rows ++ tail)
             (order-joined lt w o.rows tail first (ordered-order lt w left) cross);
       };

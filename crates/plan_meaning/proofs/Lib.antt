@@ -1,5 +1,4 @@
 pub mod Zips
-pub mod Orders
 pub mod Fronts
 pub mod KindLaws
 pub mod Completing

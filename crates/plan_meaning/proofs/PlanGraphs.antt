@@ -3,13 +3,11 @@ use Rattle.std.proofs.Common.{◌≡◌, ℕ, ◌≤◌, List, [], ◌∷◌, le
 use Rattle.std.specs.Prelude.{sum_by}
 use Rattle.std.proofs.lemmas.List.{length-map}
 use Rattle.std.proofs.lemmas.List.Sums.{sum_by-cons}
-use Rattle.plan_graph.specs.declared.nodes.DraftNode.{DraftNode}
 use Rattle.plan_graph.specs.Drafts.{no_draft, AllFitDraft, IsGraphOf}
+use Rattle.plan_graph.specs.declared.nodes.DraftNode.{DraftNode}
 use Rattle.plan_graph.proofs.Fitting.{fits}
 use Rattle.plan_graph.proofs.GraphLaws.{lists-are-graphs}
-use Rattle.plan_meaning.specs.Counts.{Count, counted, each_input}
-use Rattle.plan_meaning.specs.Plans.{SelectPlan, IsSmall, plan_nodes}
-use Rattle.plan_meaning.specs.Same.{NodeForm, node_form, forms}
+use Rattle.plan_meaning.specs.Names.{Count, counted, each_input, SelectPlan, IsSmall, plan_nodes, NodeForm, node_form, forms}
 use Rattle.plan_meaning.proofs.Counts.{few-nodes, wires-counted}
 use Rattle.plan_meaning.proofs.Fitting.{plan-fits}
 use Rattle.plan_meaning.proofs.Same.{fit-same, after-same}

@@ -3,17 +3,14 @@ use Rattle.std.proofs.Common.{◌≡◌, ℕ, zero, suc, Option, Some, None, Lis
 use Rattle.std.specs.List.{All, AllByRecursion}
 use Rattle.std.proofs.lemmas.List.{append-nil, append_assoc, length-append, length-replicate}
 use Rattle.std.proofs.lemmas.List.Elements.{All-from_recursion, All-replicate}
-use Rattle.query_model.specs.Expressions.{Cond, Expr, type_of}
-use Rattle.query_model.specs.Typing.{IsItem, IsTypedCond}
+use Rattle.query_model.specs.Names.{Cond, Expr, type_of, IsItem, IsTypedCond}
 use Rattle.query_model.specs.declared.query.Span.{Span}
 use Rattle.query_model.specs.declared.processor_spec.Spec.{Spec}
 use Rattle.query_model.specs.declared.processor_spec.Spec.TheVariants as spec
+use Rattle.plan_graph.specs.Names.{source_nodes, lane_nodes, joint_node, taken_by, given_by}
 use Rattle.plan_graph.specs.declared.nodes.DraftNode.{DraftNode}
-use Rattle.plan_graph.specs.Blocks.{source_nodes, lane_nodes, joint_node}
-use Rattle.plan_graph.specs.Drafts.{taken_by, given_by}
 use Rattle.plan_graph.proofs.Places.{run-at, replaced-at}
-use Rattle.plan_meaning.specs.Plans.{filter_nodes, limit_nodes, collect_node, plain, shape_nodes, read_nodes, SelectPlan, body_nodes, plan_nodes}
-use Rattle.plan_meaning.specs.Types.{Types, TypesFit, MakesType, IsAmong, AllTyped}
+use Rattle.plan_meaning.specs.Names.{filter_nodes, limit_nodes, collect_node, plain, shape_nodes, read_nodes, SelectPlan, body_nodes, plan_nodes, Types, TypesFit, MakesType, IsAmong, AllTyped}
 
 -- ---- blocks
 

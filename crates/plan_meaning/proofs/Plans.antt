@@ -11,26 +11,19 @@ use Rattle.query_model.proofs.PartLaws.{IsPermutation-joined_rows}
 use Rattle.query_model.proofs.Merge.{merged_in_any_order}
 use Rattle.chunk_data.specs.Values.{Row, row_cmp}
 use Rattle.chunk_data.specs.declared.typed_value.SortKey.{SortKey}
-use Rattle.query_model.specs.Expressions.{Cond, Expr, holds, rows_where}
-use Rattle.query_model.specs.Answers.{item_row, limited, enough}
-use Rattle.query_model.specs.Groups.{groups, groups_or_default, merged_groups, combine_of}
-use Rattle.query_model.specs.Sources.{count_up, joined_rows}
+use Rattle.query_model.specs.Names.{Cond, Expr, holds, rows_where, item_row, limited, enough, groups, groups_or_default, merged_groups, combine_of, count_up, joined_rows}
 use Rattle.query_model.specs.declared.query.Span.{Span}
 use Rattle.query_model.specs.declared.query.AggCall.{AggCall}
 use Rattle.query_model.specs.declared.processor_spec.StateCall.{StateCall}
 use Rattle.query_model.specs.declared.processor_spec.GroupSpec.{GroupSpec}
 use Rattle.query_model.specs.declared.processor_spec.SortSpec.{SortSpec}
 use Rattle.query_model.specs.declared.processor_spec.Spec.{Spec}
-use Rattle.plan_meaning.specs.Meaning.{Completes, IsFront, Means, MeansNode}
-use Rattle.plan_graph.specs.declared.nodes.DraftNode.{DraftNode}
-use Rattle.plan_meaning.specs.Streams.{Flow, Parts, Stream, all_certain, all_rows, any_needs, flow_rows, flows_of}
-use Rattle.plan_meaning.specs.Plans.{HasEnough, IsCut, IsPlan, IsSource, JoinsSources, PlanAnswers, PlanJoin, PlanShape, SelectPlan, all_valid, body_nodes, filter_nodes, gather_nodes, grouped, grouped_of, is_valid_source, join_valid, limit_nodes, needed_valid, plain, plan_keys, plan_rows, plan_valid, read_nodes, read_rows, read_valid, shape_nodes, shape_rows, sort_nodes, source_list, sources_rows}
-use Rattle.plan_meaning.specs.Gives.{IsSortOf, calls_from, merged_rows, partial_rows}
-use Rattle.plan_meaning.proofs.Blocks.{LaneMade, LanesMade, NodeMade, SourcesMade, lanes-mean, lanes-together, means-append, node-at, sources-mean}
-use Rattle.plan_meaning.specs.Makes.{Makes, is_certain, is_needed}
-use Rattle.plan_meaning.specs.Runs.{Pulls, Runs}
-use Rattle.plan_meaning.proofs.Completing.{completes}
+use Rattle.plan_meaning.specs.Names.{Completes, IsFront, Means, MeansNode, Flow, Parts, Stream, all_certain, all_rows, any_needs, flow_rows, flows_of, HasEnough, IsCut, IsPlan, IsSource, JoinsSources, PlanAnswers, PlanJoin, PlanShape, SelectPlan, all_valid, body_nodes, filter_nodes, gather_nodes, grouped, grouped_of, is_valid_source, join_valid, limit_nodes, needed_valid, plain, plan_keys, plan_rows, plan_valid, read_nodes, read_rows, read_valid, shape_nodes, shape_rows, sort_nodes, source_list, sources_rows, calls_from, merged_rows, partial_rows, Makes, is_certain, is_needed, Pulls, Runs}
 use Rattle.plan_graph.specs.Blocks.{joint_node, lane_nodes, source_nodes}
+use Rattle.plan_graph.specs.declared.nodes.DraftNode.{DraftNode}
+use Rattle.proc_api.specs.Made.{IsSortOf}
+use Rattle.plan_meaning.proofs.Blocks.{LaneMade, LanesMade, NodeMade, SourcesMade, lanes-mean, lanes-together, means-append, node-at, sources-mean}
+use Rattle.plan_meaning.proofs.Completing.{completes}
 use Rattle.plan_meaning.proofs.Zips.{zip-length}
 use Rattle.query_model.specs.declared.processor_spec.Spec.TheVariants as spec
 

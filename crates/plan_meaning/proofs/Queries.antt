@@ -3,26 +3,20 @@ use Rattle.std.proofs.Common.{take, ap₂, ◌≡◌, ℕ, zero, suc, ◌+◌, �
 use Rattle.std.proofs.lemmas.List.{take_more, take_at, get_or_at, append_assoc, length-append, length-map, map-append}
 use Rattle.query_model.proofs.Lists.{map-map, filter-map}
 use Rattle.chunk_data.specs.Values.{Row, value_at, values_at, same_row, default_value}
-use Rattle.query_model.specs.Expressions.{Expr, value_of, rows_where}
-use Rattle.query_model.specs.Answers.{item_row, selected_rows, output_rows, IsAnswer, IsOrderedAnswer}
-use Rattle.std.specs.List.{AllByRecursion}
-use Rattle.chunk_data.specs.declared.typed_value.Value.TheVariants.{Text}
 use Rattle.chunk_data.specs.declared.typed_value.ColumnType.{ColumnType}
-use Rattle.query_model.specs.Sources.{count_up, Database, source_table, filtered_rows}
+use Rattle.query_model.specs.Names.{Expr, value_of, rows_where, item_row, selected_rows, output_rows, IsAnswer, IsOrderedAnswer, count_up, Database, source_table, filtered_rows, groups_or_default, Call, combined, distinct_rows, rows_with, grouped_by, call_of, combine_of, groups}
 use Rattle.query_model.specs.declared.query.AggCall.{AggCall}
 use Rattle.query_model.specs.declared.query.ExprOf.{ExprOf}
-use Rattle.std.proofs.lemmas.Bool.{both_ways}
-use Rattle.std.specs.Prelude.{is_none, slice_index_or}
 use Rattle.query_model.specs.declared.query.AggOp.{AggOp}
 use Rattle.query_model.specs.declared.checked.Shape.{Shape}
-use Rattle.query_model.specs.declared.checked.Shape.TheVariants.{Plain, Grouped}
 use Rattle.query_model.specs.declared.processor_spec.StateCall.{StateCall}
 use Rattle.query_model.specs.declared.checked.Checked.{Checked}
-use Rattle.query_model.specs.Groups.{groups_or_default, Call, combined, distinct_rows, rows_with, grouped_by, call_of, combine_of, groups}
-use Rattle.plan_meaning.specs.Queries.{HasCalls, IsCall, IsPlanOf, call_arguments, columns_of, shape_of, state_of, with_argument}
-use Rattle.plan_meaning.specs.Streams.{Parts}
-use Rattle.plan_meaning.specs.Plans.{PlanAnswers, SelectPlan, plan_keys, plan_rows, shape_rows}
-use Rattle.plan_meaning.specs.Gives.{calls_from, is_count}
+use Rattle.std.specs.List.{AllByRecursion}
+use Rattle.chunk_data.specs.declared.typed_value.Value.TheVariants.{Text}
+use Rattle.std.proofs.lemmas.Bool.{both_ways}
+use Rattle.std.specs.Prelude.{is_none, slice_index_or}
+use Rattle.query_model.specs.declared.checked.Shape.TheVariants.{Plain, Grouped}
+use Rattle.plan_meaning.specs.Names.{HasCalls, IsCall, IsPlanOf, call_arguments, columns_of, shape_of, state_of, with_argument, Parts, PlanAnswers, SelectPlan, plan_keys, plan_rows, shape_rows, calls_from, is_count}
 use Rattle.chunk_data.specs.declared.typed_value.ColumnType.TheVariants as column
 use Rattle.query_model.specs.declared.query.AggOp.TheVariants as agg
 use Rattle.query_model.specs.declared.query.ExprOf.TheVariants as expr

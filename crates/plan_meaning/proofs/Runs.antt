@@ -5,10 +5,9 @@ use Rattle.std.proofs.lemmas.List.{length-append}
 use Rattle.port_word.specs.declared.flags.Wire.{Wire}
 use Rattle.query_model.specs.declared.processor_spec.Kind.{Kind}
 use Rattle.plan_graph.specs.Drafts.{AllFitDraft, Draft, FitsDraft, consumer_of, ports_of, producer_of, taken_by, wires_to, with_node, with_nodes}
-use Rattle.plan_meaning.specs.Runs.{AllPull, EachGives, Pulls, Runs, if_kind, pulled_by, pulled_rows}
 use Rattle.plan_graph.specs.declared.nodes.DraftNode.{DraftNode}
 use Rattle.plan_graph.specs.declared.nodes.NodePort.{NodePort}
-use Rattle.plan_meaning.specs.Streams.{Parts, Stream, all_rows, rows_of}
+use Rattle.plan_meaning.specs.Names.{AllPull, EachGives, Pulls, Runs, if_kind, pulled_by, pulled_rows, Parts, Stream, all_rows, rows_of}
 use Rattle.plan_graph.proofs.Drafts.{all-back, all-front, ports-length}
 use Rattle.plan_graph.proofs.Places.{given-map, length-mapped, run-length, taken-map}
 

@@ -5,16 +5,12 @@ use Rattle.chunk_data.specs.declared.typed_value.ColumnType.{ColumnType}
 use Rattle.query_model.specs.Formulas.{formula}
 use Rattle.query_model.specs.declared.processor_spec.Spec.{Spec}
 use Rattle.query_model.specs.declared.processor_spec.Spec.TheVariants as spec
-use Rattle.proc_api.specs.Forms.{SpecForm, unboxed, spec_form, cond_form}
-use Rattle.proc_api.specs.Keeping.{FitsInput}
+use Rattle.proc_api.specs.Names.{SpecForm, unboxed, spec_form, cond_form, FitsInput}
+use Rattle.plan_graph.specs.Drafts.{Draft, with_node, with_nodes, ports_of, FitsEnds, AllFitEnds, ranks_after, ranks_with}
 use Rattle.plan_graph.specs.declared.nodes.DraftNode.{DraftNode}
 use Rattle.plan_graph.specs.declared.nodes.NodePort.{NodePort}
-use Rattle.plan_graph.specs.Drafts.{Draft, with_node, with_nodes, ports_of, FitsEnds, AllFitEnds, ranks_after, ranks_with}
-use Rattle.plan_meaning.specs.Streams.{Parts, Stream, OneToOne}
-use Rattle.plan_meaning.specs.Gives.{GivesThrough, Gives}
-use Rattle.plan_meaning.specs.Types.{Types, FitFrom, MakesType, GivesIf, EachGivesIf, pulled_types}
-use Rattle.plan_meaning.specs.Same.{NodeForm, node_form, forms}
-use Rattle.plan_meaning.proofs.Orders.{every-weaker}
+use Rattle.plan_meaning.specs.Names.{Parts, Stream, OneToOne, GivesThrough, Gives, Types, FitFrom, MakesType, GivesIf, EachGivesIf, pulled_types, NodeForm, node_form, forms}
+use Rattle.proc_api.proofs.Orders.{every-weaker}
 use Rattle.plan_meaning.proofs.Copies.{truth-same, items-same, item-types-same, items-typed-same, cond-typed-same}
 
 -- ---- specs

@@ -4,16 +4,14 @@ use Rattle.std.proofs.Common.{◌≡◌, ℕ, zero, suc, ◌+◌, List, [], ◌�
 use Rattle.std.specs.List.{AllByRecursion, AllZip, Any}
 use Rattle.query_model.specs.declared.processor_spec.Spec.{Spec}
 use Rattle.proc_api.specs.Keeping.{FitsInput}
-use Rattle.plan_meaning.specs.Types.{AllTyped, EachGivesIf, FitFrom, HasTypes, MakesType, Types, TypesFit, TypesNode, pulled_types}
+use Rattle.plan_meaning.specs.Names.{AllTyped, EachGivesIf, FitFrom, HasTypes, MakesType, Types, TypesFit, TypesNode, pulled_types, Parts, Stream, AllPull, EachGives, Pulls}
+use Rattle.plan_graph.specs.Drafts.{AllFitDraft, Draft, given_by, ports_of, taken_by, with_node, with_nodes}
 use Rattle.plan_graph.specs.declared.nodes.DraftNode.{DraftNode}
-use Rattle.plan_meaning.specs.Streams.{Parts, Stream}
-use Rattle.plan_meaning.specs.Runs.{AllPull, EachGives, Pulls}
-use Rattle.plan_meaning.proofs.Runs.{next-node, node-pulls}
 use Rattle.plan_graph.specs.declared.nodes.NodePort.{NodePort}
+use Rattle.plan_meaning.proofs.Runs.{next-node, node-pulls}
 use Rattle.plan_graph.proofs.Drafts.{ports-length}
 use Rattle.plan_graph.proofs.Places.{given-map, length-mapped, taken-map}
-use Rattle.plan_meaning.proofs.Orders.{every-append, every-front, every-weaker}
-use Rattle.plan_graph.specs.Drafts.{AllFitDraft, Draft, given_by, ports_of, taken_by, with_node, with_nodes}
+use Rattle.proc_api.proofs.Orders.{every-append, every-front, every-weaker}
 use Rattle.plan_meaning.proofs.Zips.{zip-append, zip-chain, zip-drop, zip-take}
 
 pulled-typed : (i s : Stream) (t : Types) → Pulls i s → HasTypes s t → HasTypes i t

@@ -1,12 +1,11 @@
 -- What the nodes of a plan count together, where each counts by its spec and how many ends it
 -- takes.
 use Rattle.std.specs.Prelude.{ℕ, ◌+◌, ◌*◌, List, length, sum_by, cond, Option, Some, None}
-use Rattle.query_model.specs.Expressions.{Cond}
-use Rattle.query_model.specs.Kinds.{kind_of}
+use Rattle.query_model.specs.Names.{Cond, kind_of}
 use Rattle.query_model.specs.declared.query.Span.{Span}
-use Rattle.query_model.specs.declared.processor_spec.Kind.{Kind}
 use Rattle.query_model.specs.declared.processor_spec.SortSpec.{SortSpec}
 use Rattle.query_model.specs.declared.processor_spec.Spec.{Spec}
+use Rattle.query_model.specs.declared.processor_spec.Kind.{Kind}
 use Rattle.query_model.specs.declared.processor_spec.Spec.TheVariants as spec
 use Rattle.proc_api.specs.Racks.{same_kind}
 use Rattle.plan_graph.specs.declared.nodes.DraftNode.{DraftNode}

@@ -4,10 +4,7 @@ use Rattle.std.specs.List.{AllByRecursion, Contains}
 use Rattle.std.specs.Ordering.{is_lt}
 use Rattle.chunk_data.specs.Values.{Row, row_cmp, default_value}
 use Rattle.chunk_data.specs.declared.typed_value.SortKey.{SortKey}
-use Rattle.query_model.specs.Expressions.{holds}
-use Rattle.query_model.specs.Answers.{item_row, limited, enough}
-use Rattle.query_model.specs.Sources.{numbers, count_up, joined_rows}
-use Rattle.query_model.specs.Groups.{groups, groups_or_default, merged_groups, combine_of}
+use Rattle.query_model.specs.Names.{holds, item_row, limited, enough, numbers, count_up, joined_rows, groups, groups_or_default, merged_groups, combine_of}
 use Rattle.query_model.specs.declared.checked.KeyPair.{KeyPair}
 use Rattle.query_model.specs.declared.query.AggCall.{AggCall}
 use Rattle.query_model.specs.declared.query.AggOp.{AggOp}
@@ -15,6 +12,7 @@ use Rattle.query_model.specs.declared.processor_spec.GroupSpec.{GroupSpec}
 use Rattle.query_model.specs.declared.processor_spec.StateCall.{StateCall}
 use Rattle.query_model.specs.declared.query.Span.{Span}
 use Rattle.query_model.specs.declared.processor_spec.Spec.{Spec}
+use Rattle.proc_api.specs.Made.{IsSortOf}
 use Rattle.plan_meaning.specs.Streams.{ManyToOne, OneToNone, OneToOne, Part, Parts, Source, Stream, TwoToOne, all_done, all_rows, any_done, rows_of}
 use Rattle.query_model.specs.declared.processor_spec.Spec.TheVariants as spec
 use Rattle.query_model.specs.declared.query.AggOp.TheVariants as agg
@@ -40,11 +38,6 @@ abbrev pub merged_rows : GroupSpec → List Row → List Row
 merged_rows g rows =
     groups_or_default g.lone (map (λ (call : StateCall). default_value call.kind) g.calls)
     (merged_groups (length g.keys) (map (λ (call : StateCall). combine_of call.op) g.calls) rows)
-
--- the rows in an order that the keys allow
-pub record IsSortOf (keys : List SortKey) (rows out : List Row) : Type 0 where
-  pub same : IsPermutation rows out
-  pub in_order : IsSorted (row_cmp keys) out
 
 -- lists in order, merged
 pub record IsMergeOf (keys : List SortKey) (lists : List (List Row)) (out : List Row) : Type 0 where
@@ -116,8 +109,8 @@ pub record GivesMerged (keys : List SortKey) (ins : List Stream) (o : Stream) : 
   pub rows : IsPermutation (all_rows (rows_of ins)) (o.rows ++ waits)
   pub in_order : AllByRecursion (λ rows. IsSorted (row_cmp keys) rows) (rows_of ins)
       → IsSorted (row_cmp keys) o.rows
-  pub before_waits : AllByRecursion (λ y. AllByRecursion (λ x. is_lt (row_cmp keys y x) ≡ false)
-      o.rows) waits
+  pub before_waits : AllByRecursion (λ rows. IsSorted (row_cmp keys) rows) (rows_of ins)
+      → AllByRecursion (λ y. AllByRecursion (λ x. is_lt (row_cmp keys y x) ≡ false) o.rows) waits
   pub held : 0 < length o.rows → AllByRecursion (HoldsBack keys o.rows) ins
   pub nothing_waits : o.done ≡ true → waits ≡ []
   pub inputs_done : o.done ≡ true → all_done ins ≡ true

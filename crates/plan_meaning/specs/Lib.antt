@@ -8,3 +8,4 @@ pub mod Plans
 pub mod Queries
 pub mod Same
 pub mod Counts
+pub mod Names

@@ -4,10 +4,10 @@ use Rattle.std.specs.List.{AllZip}
 use Rattle.chunk_data.specs.Values.{Row}
 use Rattle.query_model.specs.declared.processor_spec.Kind.{Kind}
 use Rattle.plan_meaning.specs.Runs.{AllInputsDone, Runs, if_kind, pulled_by}
+use Rattle.plan_graph.specs.Drafts.{given_by, taken_by}
 use Rattle.plan_graph.specs.declared.nodes.DraftNode.{DraftNode}
 use Rattle.plan_meaning.specs.Streams.{Flow, Parts, Stream, all_rows, flow_rows, flows_of}
 use Rattle.plan_meaning.specs.Makes.{Makes, is_certain, is_needed}
-use Rattle.plan_graph.specs.Drafts.{given_by, taken_by}
 
 -- ---- the meaning of a list of nodes
 

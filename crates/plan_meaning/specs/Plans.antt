@@ -3,23 +3,19 @@ use Rattle.std.specs.Prelude.{cond, false, ◌≡◌, ◌⊎◌, ◌<◌, ◌≤
 use Rattle.std.specs.List.{list_all, AllByRecursion}
 use Rattle.chunk_data.specs.Values.{Row, default_value}
 use Rattle.chunk_data.specs.declared.typed_value.SortKey.{SortKey}
-use Rattle.query_model.specs.Expressions.{Cond, Expr, rows_where}
-use Rattle.query_model.specs.Answers.{item_row, IsOrderedAnswer, enough}
-use Rattle.query_model.specs.Groups.{groups, groups_or_default}
-use Rattle.query_model.specs.Sources.{numbers, count_up, joined_rows}
+use Rattle.query_model.specs.Names.{Cond, Expr, rows_where, item_row, IsOrderedAnswer, enough, groups, groups_or_default, numbers, count_up, joined_rows, kind_of}
 use Rattle.query_model.specs.declared.query.Span.{Span}
 use Rattle.query_model.specs.declared.processor_spec.StateCall.{StateCall}
 use Rattle.query_model.specs.declared.processor_spec.GroupSpec.{GroupSpec}
 use Rattle.query_model.specs.declared.processor_spec.JoinSpec.{JoinSpec}
 use Rattle.query_model.specs.declared.processor_spec.SortSpec.{SortSpec}
 use Rattle.query_model.specs.declared.processor_spec.Spec.{Spec}
-use Rattle.query_model.specs.Kinds.{kind_of}
 use Rattle.query_model.specs.declared.processor_spec.Kind.{Kind}
 use Rattle.proc_api.specs.Racks.{same_kind}
+use Rattle.plan_graph.specs.Blocks.{joint_node, lane_nodes, source_nodes}
 use Rattle.plan_graph.specs.declared.nodes.DraftNode.{DraftNode}
 use Rattle.plan_meaning.specs.Streams.{Parts}
 use Rattle.plan_meaning.specs.Gives.{calls_from}
-use Rattle.plan_graph.specs.Blocks.{joint_node, lane_nodes, source_nodes}
 use Rattle.query_model.specs.declared.processor_spec.Kind.TheVariants as kind
 use Rattle.query_model.specs.declared.processor_spec.Spec.TheVariants as spec
 

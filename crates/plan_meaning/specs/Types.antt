@@ -3,16 +3,15 @@
 use Rattle.std.specs.Prelude.{◌≡◌, ℕ, suc, List, [], ◌∷◌, ◌++◌, map, replicate, flat_map, Some, ⊤}
 use Rattle.std.specs.List.{AllByRecursion, Any}
 use Rattle.chunk_data.specs.declared.typed_value.ColumnType.{ColumnType}
-use Rattle.query_model.specs.Expressions.{type_of}
-use Rattle.query_model.specs.Sources.{numbers}
+use Rattle.query_model.specs.Names.{type_of, numbers}
 use Rattle.query_model.specs.declared.processor_spec.StateCall.{StateCall}
 use Rattle.query_model.specs.declared.processor_spec.GroupSpec.{GroupSpec}
 use Rattle.query_model.specs.declared.processor_spec.Spec.{Spec}
 use Rattle.query_model.specs.declared.processor_spec.Spec.TheVariants as spec
 use Rattle.proc_api.specs.Keeping.{FitsInput}
+use Rattle.plan_graph.specs.Drafts.{ports_of, taken_by, given_by}
 use Rattle.plan_graph.specs.declared.nodes.DraftNode.{DraftNode}
 use Rattle.plan_graph.specs.declared.nodes.NodePort.{NodePort}
-use Rattle.plan_graph.specs.Drafts.{ports_of, taken_by, given_by}
 use Rattle.plan_meaning.specs.Streams.{Parts, Stream}
 use Rattle.plan_meaning.specs.Gives.{Gives}
 

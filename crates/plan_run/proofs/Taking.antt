@@ -4,59 +4,50 @@ use Rattle.std.specs.List.{All, count_by}
 use Rattle.std.proofs.lemmas.List.{map_push, take_more, get_or-map, length-map}
 use Rattle.query_model.specs.Kinds.{kind_of}
 use Rattle.query_model.specs.declared.processor_spec.Spec.{Spec}
-use Rattle.plan_run.specs.Plans.{kinds_of}
+use Rattle.plan_run.specs.Plans.{kinds_in, kinds_of}
 use Rattle.std.proofs.lemmas.Bool.{eqb-true, eq-eqb}
 use Rattle.std.proofs.lemmas.List.Sums.{sum_by-cons}
 use Rattle.std.proofs.lemmas.List.Elements.{All-nil, All-cons, All-head, All-tail}
 use Rattle.query_model.specs.declared.processor_spec.Kind.{Kind}
 use Rattle.query_model.specs.declared.processor_spec.Kind.TheVariants as kind
-use Rattle.proc_api.specs.Boxes.{BoxPicture}
-use Rattle.proc_api.specs.Racks.{kind_place, same_kind, is_of, TakesOut}
+use Rattle.proc_api.specs.Names.{BoxPicture, kind_place, same_kind, is_of, TakesOut}
 use Rattle.plan_run.specs.Stock.{first_of, without_first, taken_for, left_after, HasStock}
 
 -- ---- kinds
 
--- the kind at a place in the order of kinds
-kind_at : ℕ → Kind
-kind_at zero = kind.Csv
-kind_at (suc zero) = kind.List
-kind_at (suc (suc zero)) = kind.Numbers
-kind_at (suc (suc (suc zero))) = kind.Filter
-kind_at (suc (suc (suc (suc zero)))) = kind.Expression
-kind_at (suc (suc (suc (suc (suc zero))))) = kind.Resize
-kind_at (suc (suc (suc (suc (suc (suc zero)))))) = kind.PartialAggregate
-kind_at (suc (suc (suc (suc (suc (suc (suc zero))))))) = kind.MergeAggregate
-kind_at (suc (suc (suc (suc (suc (suc (suc (suc zero)))))))) = kind.HashJoin
-kind_at (suc (suc (suc (suc (suc (suc (suc (suc (suc zero))))))))) = kind.Sort
-kind_at (suc (suc (suc (suc (suc (suc (suc (suc (suc (suc zero)))))))))) = kind.MergeSorted
-kind_at (suc (suc (suc (suc (suc (suc (suc (suc (suc (suc (suc n))))))))))) = last n
-  where
-    last : ℕ → Kind
-    last zero = kind.Limit
-    last (suc n) = kind.Collect
+-- the kinds in their order
+abbrev pub kinds_in_order : List Kind
+kinds_in_order =
+    kind.Csv ∷ kind.List ∷ kind.Numbers ∷ kind.Filter ∷ kind.Expression ∷ kind.Resize
+    ∷ kind.PartialAggregate ∷ kind.MergeAggregate ∷ kind.HashJoin ∷ kind.Sort ∷ kind.MergeSorted
+    ∷ kind.Limit ∷ kind.Collect ∷ []
 
-kind-back : (k : Kind) → kind_at (kind_place k) ≡ k
-unfolding kind_at
-kind-back kind.Csv = refl
-kind-back kind.List = refl
-kind-back kind.Numbers = refl
-kind-back kind.Filter = refl
-kind-back kind.Expression = refl
-kind-back kind.Resize = refl
-kind-back kind.PartialAggregate = refl
-kind-back kind.MergeAggregate = refl
-kind-back kind.HashJoin = refl
-kind-back kind.Sort = refl
-kind-back kind.MergeSorted = refl
-kind-back kind.Limit = refl
-kind-back kind.Collect = refl
+-- each stands at its place
+pub kind-at : (k d : Kind) → get_or kinds_in_order (kind_place k) d ≡ k
+kind-at kind.Csv d = refl
+kind-at kind.List d = refl
+kind-at kind.Numbers d = refl
+kind-at kind.Filter d = refl
+kind-at kind.Expression d = refl
+kind-at kind.Resize d = refl
+kind-at kind.PartialAggregate d = refl
+kind-at kind.MergeAggregate d = refl
+kind-at kind.HashJoin d = refl
+kind-at kind.Sort d = refl
+kind-at kind.MergeSorted d = refl
+kind-at kind.Limit d = refl
+kind-at kind.Collect d = refl
 
 pub same-kind : (a b : Kind) → same_kind a b ≡ true → a ≡ b
-same-kind a b e = sym (kind-back a) ∙ ap kind_at (eqb-true (kind_place a) (kind_place b) e) ∙ kind-back b
+same-kind a b e =
+    sym (kind-at a a)
+    ∙ ap (λ n. get_or kinds_in_order n a) (eqb-true (kind_place a) (kind_place b) e)
+    ∙ kind-at b a
 
 -- ---- counts
 
-count_by-cons : {A : Type 0} (test : A → Bool) (x : A) (xs : List A) → count_by test (x ∷ xs) ≡ cond (test x) 1 0 + count_by test xs
+count_by-cons : {A : Type 0} (test : A → Bool) (x : A) (xs : List A)
+    → count_by test (x ∷ xs) ≡ cond (test x) 1 0 + count_by test xs
 count_by-cons test x xs = sum_by-cons (λ y. cond (test y) 1 0) x xs
 
 none-first : (t : Bool) (n : ℕ) → cond t 1 0 + n ≡ 0 → (t ≡ false) × (n ≡ 0)
@@ -69,153 +60,228 @@ some-later false n e h = omega (arith, h)
 
 -- ---- one box
 
-first-at : (k : Kind) (front : List BoxPicture) (b : BoxPicture) (back : List BoxPicture) → is_of k b ≡ true → count_by (is_of k) front ≡ 0 → (first_of k (front ++ b ∷ back) ≡ b) × (without_first k (front ++ b ∷ back) ≡ front ++ back)
-first-at k [] b back it none = (ap (λ t. cond t b (first_of k back)) it, ap (λ t. cond t back (b ∷ without_first k back)) it)
+first-at : (k : Kind) (front : List BoxPicture) (b : BoxPicture) (back : List BoxPicture)
+    → is_of k b ≡ true → count_by (is_of k) front ≡ 0 → (first_of k (front ++ b ∷ back) ≡ b)
+    × (without_first k (front ++ b ∷ back) ≡ front ++ back)
+first-at k [] b back it none = (
+  ap (λ t. cond t b (first_of k back)) it,
+  ap (λ t. cond t back (b ∷ without_first k back)) it,
+)
 first-at k (p ∷ front) b back it none =
-    let parts = none-first (is_of k p) (count_by (is_of k) front) (sym (count_by-cons (is_of k) p front) ∙ none) in
+    let parts = none-first (is_of k p) (count_by (is_of k) front)
+    (sym (count_by-cons (is_of k) p front) ∙ none) in
     let rest = first-at k front b back it parts.1 in (
       ap (λ t. cond t p (first_of k (front ++ b ∷ back))) parts.0 ∙ rest.0,
-      ap (λ t. cond t (front ++ b ∷ back) (p ∷ without_first k (front ++ b ∷ back))) parts.0 ∙ ap (λ l. p ∷ l) rest.1,
+      ap (λ t. cond t (front ++ b ∷ back) (p ∷ without_first k (front ++ b ∷ back))) parts.0
+          ∙ ap (λ l. p ∷ l) rest.1,
     )
 
 -- what a rack's `take` gives and leaves
-pub takes-first : (k : Kind) (before after : List BoxPicture) (b : BoxPicture) → TakesOut k before after b → (first_of k before ≡ b) × (without_first k before ≡ after)
+pub takes-first : (k : Kind) (before after : List BoxPicture) (b : BoxPicture)
+    → TakesOut k before after b → (first_of k before ≡ b) × (without_first k before ≡ after)
 takes-first k before after b t =
     let at = first-at k t.front b t.back t.of_kind t.first in
     (ap (first_of k) t.before_is ∙ at.0, ap (without_first k) t.before_is ∙ at.1 ∙ sym t.after_is)
 
 -- where there is a box of the kind
 
-pub some-rest : (k : Kind) (p : BoxPicture) (boxes : List BoxPicture) → is_of k p ≡ false → 0 < count_by (is_of k) (p ∷ boxes) → 0 < count_by (is_of k) boxes
-some-rest k p boxes e some = some-later (is_of k p) (count_by (is_of k) boxes) e (subst (λ n. 0 < n) (count_by-cons (is_of k) p boxes) some)
+pub some-rest : (k : Kind) (p : BoxPicture) (boxes : List BoxPicture) → is_of k p ≡ false
+    → 0 < count_by (is_of k) (p ∷ boxes) → 0 < count_by (is_of k) boxes
+some-rest k p boxes e some = some-later (is_of k p) (count_by (is_of k) boxes) e
+    (subst (λ n. 0 < n) (count_by-cons (is_of k) p boxes) some)
 
-first-all : (P : BoxPicture → Type 0) (k : Kind) (boxes : List BoxPicture) → 0 < count_by (is_of k) boxes → All P boxes → P (first_of k boxes)
+first-all : (P : BoxPicture → Type 0) (k : Kind) (boxes : List BoxPicture)
+    → 0 < count_by (is_of k) boxes → All P boxes → P (first_of k boxes)
 first-all P k [] some all = absurd (omega (arith, some))
-first-all P k (p ∷ boxes) some all = choose (is_of k p) refl (λ later. first-all P k boxes later (All-tail P p boxes all))
+first-all P k (p ∷ boxes) some all = choose (is_of k p) refl
+    (λ later. first-all P k boxes later (All-tail P p boxes all))
   where
-    choose : (t : Bool) → is_of k p ≡ t → (0 < count_by (is_of k) boxes → P (first_of k boxes)) → P (cond t p (first_of k boxes))
+    choose : (t : Bool) → is_of k p ≡ t → (0 < count_by (is_of k) boxes → P (first_of k boxes))
+        → P (cond t p (first_of k boxes))
     choose true e rest = All-head P p boxes all
     choose false e rest = rest (some-rest k p boxes e some)
 
-first-of-kind : (k : Kind) (boxes : List BoxPicture) → 0 < count_by (is_of k) boxes → is_of k (first_of k boxes) ≡ true
+first-of-kind : (k : Kind) (boxes : List BoxPicture) → 0 < count_by (is_of k) boxes
+    → is_of k (first_of k boxes) ≡ true
 first-of-kind k [] some = absurd (omega (arith, some))
 first-of-kind k (p ∷ boxes) some = choose (is_of k p) refl (first-of-kind k boxes)
   where
-    choose : (t : Bool) → is_of k p ≡ t → (0 < count_by (is_of k) boxes → is_of k (first_of k boxes) ≡ true) → is_of k (cond t p (first_of k boxes)) ≡ true
+    choose : (t : Bool) → is_of k p ≡ t
+        → (0 < count_by (is_of k) boxes → is_of k (first_of k boxes) ≡ true)
+        → is_of k (cond t p (first_of k boxes)) ≡ true
     choose true e rest = e
     choose false e rest = rest (some-rest k p boxes e some)
 
-pub one-less : (k : Kind) (boxes : List BoxPicture) → 0 < count_by (is_of k) boxes → length (without_first k boxes) + 1 ≡ length boxes
+pub one-less : (k : Kind) (boxes : List BoxPicture) → 0 < count_by (is_of k) boxes
+    → length (without_first k boxes) + 1 ≡ length boxes
 one-less k [] some = absurd (omega (arith, some))
 one-less k (p ∷ boxes) some = choose (is_of k p) refl (one-less k boxes)
   where
-    choose : (t : Bool) → is_of k p ≡ t → (0 < count_by (is_of k) boxes → length (without_first k boxes) + 1 ≡ length boxes) → length (cond t boxes (p ∷ without_first k boxes)) + 1 ≡ suc (length boxes)
+    choose : (t : Bool) → is_of k p ≡ t
+        → (0 < count_by (is_of k) boxes → length (without_first k boxes) + 1 ≡ length boxes)
+        → length (cond t boxes (p ∷ without_first k boxes)) + 1 ≡ suc (length boxes)
     choose true e rest = omega arith
-    choose false e rest = let less : length (without_first k boxes) + 1 ≡ length boxes = rest (some-rest k p boxes e some) in omega (arith, less)
+    choose false e rest = let less : length (without_first k boxes) + 1 ≡ length boxes =
+        rest (some-rest k p boxes e some) in omega (arith, less)
 
-without-all : (P : BoxPicture → Type 0) (k : Kind) (boxes : List BoxPicture) → All P boxes → All P (without_first k boxes)
+without-all : (P : BoxPicture → Type 0) (k : Kind) (boxes : List BoxPicture) → All P boxes
+    → All P (without_first k boxes)
 without-all P k [] all = All-nil P
-without-all P k (p ∷ boxes) all = choose (is_of k p) (without-all P k boxes (All-tail P p boxes all))
+without-all P k (p ∷ boxes) all = choose (is_of k p)
+    (without-all P k boxes (All-tail P p boxes all))
   where
-    choose : (t : Bool) → All P (without_first k boxes) → All P (cond t boxes (p ∷ without_first k boxes))
+    choose : (t : Bool) → All P (without_first k boxes)
+        → All P (cond t boxes (p ∷ without_first k boxes))
     choose true rest = All-tail P p boxes all
     choose false rest = All-cons P p (without_first k boxes) (All-head P p boxes all) rest
 
 -- ---- stock
 
 -- taking a box of one kind leaves one less of that kind, and as many of each other
-without-count : (j k : Kind) (boxes : List BoxPicture) → count_by (is_of j) boxes ≤ count_by (is_of j) (without_first k boxes) + cond (same_kind k j) 1 0
+without-count : (j k : Kind) (boxes : List BoxPicture)
+    → count_by (is_of j) boxes
+    ≤ count_by (is_of j) (without_first k boxes) + cond (same_kind k j) 1 0
 without-count j k [] = omega arith
 without-count j k (p ∷ boxes) = choose (is_of k p) refl (without-count j k boxes)
   where
-    choose : (t : Bool) → is_of k p ≡ t → count_by (is_of j) boxes ≤ count_by (is_of j) (without_first k boxes) + cond (same_kind k j) 1 0 → count_by (is_of j) (p ∷ boxes) ≤ count_by (is_of j) (cond t boxes (p ∷ without_first k boxes)) + cond (same_kind k j) 1 0
+    choose : (t : Bool) → is_of k p ≡ t
+        → count_by (is_of j) boxes
+        ≤ count_by (is_of j) (without_first k boxes) + cond (same_kind k j) 1 0
+        → count_by (is_of j) (p ∷ boxes)
+        ≤ count_by (is_of j) (cond t boxes (p ∷ without_first k boxes)) + cond (same_kind k j) 1 0
     choose true e rest =
-        let count : count_by (is_of j) (p ∷ boxes) ≡ cond (same_kind p.kind j) 1 0 + count_by (is_of j) boxes = count_by-cons (is_of j) p boxes in
-        let same : ◌≡◌ {A = ℕ} (cond (same_kind p.kind j) 1 0) (cond (same_kind k j) 1 0) = ap {B = ℕ} (λ i. cond (same_kind i j) 1 0) (same-kind p.kind k e) in
+        let count : count_by (is_of j) (p ∷ boxes) ≡ cond (same_kind p.kind j) 1 0
+        + count_by (is_of j) boxes = count_by-cons (is_of j) p boxes in
+        let same : ◌≡◌ {A = ℕ} (cond (same_kind p.kind j) 1 0) (cond (same_kind k j) 1 0) =
+        ap {B = ℕ} (λ i. cond (same_kind i j) 1 0) (same-kind p.kind k e) in
         omega (arith, count, same)
     choose false e rest =
-        let count : count_by (is_of j) (p ∷ boxes) ≡ cond (is_of j p) 1 0 + count_by (is_of j) boxes = count_by-cons (is_of j) p boxes in
-        let less : count_by (is_of j) (p ∷ without_first k boxes) ≡ cond (is_of j p) 1 0 + count_by (is_of j) (without_first k boxes) = count_by-cons (is_of j) p (without_first k boxes) in
+        let count : count_by (is_of j) (p ∷ boxes) ≡ cond (is_of j p) 1 0
+        + count_by (is_of j) boxes = count_by-cons (is_of j) p boxes in
+        let less : count_by (is_of j) (p ∷ without_first k boxes) ≡ cond (is_of j p) 1 0
+        + count_by (is_of j) (without_first k boxes) =
+        count_by-cons (is_of j) p (without_first k boxes) in
         omega (arith, count, less, rest)
 
-pub stock-step : (k : Kind) (kinds : List Kind) (boxes : List BoxPicture) → HasStock (k ∷ kinds) boxes → HasStock kinds (without_first k boxes)
+pub stock-step : (k : Kind) (kinds : List Kind) (boxes : List BoxPicture)
+    → HasStock (k ∷ kinds) boxes → HasStock kinds (without_first k boxes)
 stock-step k kinds boxes h j =
     let here = h j in
-    let asked : count_by (λ i. same_kind i j) (k ∷ kinds) ≡ cond (same_kind k j) 1 0 + count_by (λ i. same_kind i j) kinds = count_by-cons (λ i. same_kind i j) k kinds in
+    let asked : count_by (λ i. same_kind i j) (k ∷ kinds) ≡ cond (same_kind k j) 1 0
+    + count_by (λ i. same_kind i j) kinds = count_by-cons (λ i. same_kind i j) k kinds in
     let less = without-count j k boxes in
     omega (arith, here, asked, less)
 
-pub stock-here : (k : Kind) (kinds : List Kind) (boxes : List BoxPicture) → HasStock (k ∷ kinds) boxes → 0 < count_by (is_of k) boxes
+pub stock-here : (k : Kind) (kinds : List Kind) (boxes : List BoxPicture)
+    → HasStock (k ∷ kinds) boxes → 0 < count_by (is_of k) boxes
 stock-here k kinds boxes h =
     let here = h k in
-    let asked : count_by (λ i. same_kind i k) (k ∷ kinds) ≡ cond (same_kind k k) 1 0 + count_by (λ i. same_kind i k) kinds = count_by-cons (λ i. same_kind i k) k kinds in
-    let one : ◌≡◌ {A = ℕ} (cond (same_kind k k) 1 0) 1 = ap {B = ℕ} (λ t. cond t 1 0) (eq-eqb (kind_place k) (kind_place k) refl) in
+    let asked : count_by (λ i. same_kind i k) (k ∷ kinds) ≡ cond (same_kind k k) 1 0
+    + count_by (λ i. same_kind i k) kinds = count_by-cons (λ i. same_kind i k) k kinds in
+    let one : ◌≡◌ {A = ℕ} (cond (same_kind k k) 1 0) 1 = ap {B = ℕ} (λ t. cond t 1 0)
+    (eq-eqb (kind_place k) (kind_place k) refl) in
     omega (arith, here, asked, one)
 
 -- the next box that is asked for is there
-pub still-there : (kinds : List Kind) (n : ℕ) (d : Kind) (boxes : List BoxPicture) → HasStock kinds boxes → n < length kinds → 0 < count_by (is_of (get_or kinds n d)) (left_after (take n kinds) boxes)
+pub still-there : (kinds : List Kind) (n : ℕ) (d : Kind) (boxes : List BoxPicture)
+    → HasStock kinds boxes → n < length kinds
+    → 0 < count_by (is_of (get_or kinds n d)) (left_after (take n kinds) boxes)
 still-there [] n d boxes h lt = absurd (omega (arith, lt))
 still-there (k ∷ kinds) zero d boxes h lt = stock-here k kinds boxes h
-still-there (k ∷ kinds) (suc n) d boxes h lt = still-there kinds n d (without_first k boxes) (stock-step k kinds boxes h) (omega (arith, lt))
+still-there (k ∷ kinds) (suc n) d boxes h lt = still-there kinds n d (without_first k boxes)
+    (stock-step k kinds boxes h) (omega (arith, lt))
 
 -- ---- all that are taken
 
-left-snoc : (kinds : List Kind) (k : Kind) (boxes : List BoxPicture) → left_after (kinds ++ k ∷ []) boxes ≡ without_first k (left_after kinds boxes)
+left-snoc : (kinds : List Kind) (k : Kind) (boxes : List BoxPicture)
+    → left_after (kinds ++ k ∷ []) boxes ≡ without_first k (left_after kinds boxes)
 left-snoc [] k boxes = refl
 left-snoc (j ∷ kinds) k boxes = left-snoc kinds k (without_first j boxes)
 
-taken-snoc : (kinds : List Kind) (k : Kind) (boxes : List BoxPicture) → taken_for (kinds ++ k ∷ []) boxes ≡ taken_for kinds boxes ++ first_of k (left_after kinds boxes) ∷ []
+taken-snoc : (kinds : List Kind) (k : Kind) (boxes : List BoxPicture)
+    → taken_for (kinds ++ k ∷ []) boxes ≡ taken_for kinds boxes
+    ++ first_of k (left_after kinds boxes) ∷ []
 taken-snoc [] k boxes = refl
-taken-snoc (j ∷ kinds) k boxes = ap (λ l. first_of j boxes ∷ l) (taken-snoc kinds k (without_first j boxes))
+taken-snoc (j ∷ kinds) k boxes = ap (λ l. first_of j boxes ∷ l)
+    (taken-snoc kinds k (without_first j boxes))
 
-pub taken-length : (kinds : List Kind) (boxes : List BoxPicture) → length (taken_for kinds boxes) ≡ length kinds
+pub taken-length : (kinds : List Kind) (boxes : List BoxPicture)
+    → length (taken_for kinds boxes) ≡ length kinds
 taken-length [] boxes = refl
 taken-length (k ∷ kinds) boxes = ap suc (taken-length kinds (without_first k boxes))
 
-pub taken-kinds : (kinds : List Kind) (boxes : List BoxPicture) → HasStock kinds boxes → map (λ (p : BoxPicture). p.kind) (taken_for kinds boxes) ≡ kinds
+pub taken-kinds : (kinds : List Kind) (boxes : List BoxPicture) → HasStock kinds boxes
+    → kinds_in (taken_for kinds boxes) ≡ kinds
 taken-kinds [] boxes h = refl
 taken-kinds (k ∷ kinds) boxes h =
-    let rest : map (λ (p : BoxPicture). p.kind) (taken_for kinds (without_first k boxes)) ≡ kinds = taken-kinds kinds (without_first k boxes) (stock-step k kinds boxes h) in
-    ap (λ (i : Kind). i ∷ map (λ (p : BoxPicture). p.kind) (taken_for kinds (without_first k boxes))) (same-kind (first_of k boxes).kind k (first-of-kind k boxes (stock-here k kinds boxes h)))
+    let rest : kinds_in (taken_for kinds (without_first k boxes)) ≡ kinds =
+    taken-kinds kinds (without_first k boxes) (stock-step k kinds boxes h) in
+    ap (λ (i : Kind). i ∷ kinds_in (taken_for kinds (without_first k boxes)))
+    (same-kind (first_of k boxes).kind k (first-of-kind k boxes (stock-here k kinds boxes h)))
     ∙ ap (λ l. k ∷ l) rest
 
-pub taken-all : (P : BoxPicture → Type 0) (kinds : List Kind) (boxes : List BoxPicture) → HasStock kinds boxes → All P boxes → All P (taken_for kinds boxes)
+pub taken-all : (P : BoxPicture → Type 0) (kinds : List Kind) (boxes : List BoxPicture)
+    → HasStock kinds boxes → All P boxes → All P (taken_for kinds boxes)
 taken-all P [] boxes h all = All-nil P
 taken-all P (k ∷ kinds) boxes h all =
-    All-cons P (first_of k boxes) (taken_for kinds (without_first k boxes)) (first-all P k boxes (stock-here k kinds boxes h) all) (taken-all P kinds (without_first k boxes) (stock-step k kinds boxes h) (without-all P k boxes all))
+    All-cons P (first_of k boxes) (taken_for kinds (without_first k boxes))
+    (first-all P k boxes (stock-here k kinds boxes h) all)
+    (taken-all P kinds (without_first k boxes) (stock-step k kinds boxes h)
+    (without-all P k boxes all))
 
-pub left-all : (P : BoxPicture → Type 0) (kinds : List Kind) (boxes : List BoxPicture) → All P boxes → All P (left_after kinds boxes)
+pub left-all : (P : BoxPicture → Type 0) (kinds : List Kind) (boxes : List BoxPicture) → All P boxes
+    → All P (left_after kinds boxes)
 left-all P [] boxes all = all
-left-all P (k ∷ kinds) boxes all = left-all P kinds (without_first k boxes) (without-all P k boxes all)
+left-all P (k ∷ kinds) boxes all = left-all P kinds (without_first k boxes)
+    (without-all P k boxes all)
 
 -- ---- one more is taken
 
-pub taken-more : (kinds : List Kind) (n : ℕ) (k : Kind) (boxes taken left : List BoxPicture) → take (n + 1) kinds ≡ take n kinds ++ k ∷ [] → left ≡ left_after (take n kinds) boxes → taken ≡ taken_for (take n kinds) boxes
+pub taken-more : (kinds : List Kind) (n : ℕ) (k : Kind) (boxes taken left : List BoxPicture)
+    → take (n + 1) kinds ≡ take n kinds ++ k ∷ [] → left ≡ left_after (take n kinds) boxes
+    → taken ≡ taken_for (take n kinds) boxes
     → taken ++ first_of k left ∷ [] ≡ taken_for (take (n + 1) kinds) boxes
 taken-more kinds n k boxes taken left more l t =
-    ap (λ xs. xs ++ first_of k left ∷ []) t ∙ ap (λ ys. taken_for (take n kinds) boxes ++ first_of k ys ∷ []) l ∙ sym (taken-snoc (take n kinds) k boxes) ∙ sym (ap (λ ks. taken_for ks boxes) more)
+    ap (λ xs. xs ++ first_of k left ∷ []) t
+    ∙ ap (λ ys. taken_for (take n kinds) boxes ++ first_of k ys ∷ []) l
+    ∙ sym (taken-snoc (take n kinds) k boxes) ∙ sym (ap (λ ks. taken_for ks boxes) more)
 
-pub left-more : (kinds : List Kind) (n : ℕ) (k : Kind) (boxes left : List BoxPicture) → take (n + 1) kinds ≡ take n kinds ++ k ∷ [] → left ≡ left_after (take n kinds) boxes → without_first k left ≡ left_after (take (n + 1) kinds) boxes
-left-more kinds n k boxes left more l = ap (without_first k) l ∙ sym (left-snoc (take n kinds) k boxes) ∙ sym (ap (λ ks. left_after ks boxes) more)
+pub left-more : (kinds : List Kind) (n : ℕ) (k : Kind) (boxes left : List BoxPicture)
+    → take (n + 1) kinds ≡ take n kinds ++ k ∷ [] → left ≡ left_after (take n kinds) boxes
+    → without_first k left ≡ left_after (take (n + 1) kinds) boxes
+left-more kinds n k boxes left more l = ap (without_first k) l
+    ∙ sym (left-snoc (take n kinds) k boxes) ∙ sym (ap (λ ks. left_after ks boxes) more)
 
 -- ---- the next box, as the code takes it
 
-pub pushed-first : {A : Type 0} (f : A → BoxPicture) (k : Kind) (before after : List BoxPicture) (xs ys : List A) (b : A) → ys ≡ xs ++ b ∷ [] → TakesOut k before after (f b) → map f ys ≡ map f xs ++ first_of k before ∷ []
-pushed-first f k before after xs ys b e t = ap (map f) e ∙ map_push f xs b ∙ ap (λ p. map f xs ++ p ∷ []) (sym (takes-first k before after (f b) t).0)
+pub pushed-first : {A : Type 0} (f : A → BoxPicture) (k : Kind) (before after : List BoxPicture)
+    (xs ys : List A) (b : A) → ys ≡ xs ++ b ∷ [] → TakesOut k before after (f b)
+    → map f ys ≡ map f xs ++ first_of k before ∷ []
+pushed-first f k before after xs ys b e t = ap (map f) e ∙ map_push f xs b
+    ∙ ap (λ p. map f xs ++ p ∷ []) (sym (takes-first k before after (f b) t).0)
 
-pub left-first : {A : Type 0} (f : A → BoxPicture) (k : Kind) (before : List BoxPicture) (ys : List A) (b : A) → TakesOut k before (map f ys) (f b) → map f ys ≡ without_first k before
+pub left-first : {A : Type 0} (f : A → BoxPicture) (k : Kind) (before : List BoxPicture)
+    (ys : List A) (b : A) → TakesOut k before (map f ys) (f b) → map f ys ≡ without_first k before
 left-first f k before ys b t = sym (takes-first k before (map f ys) (f b) t).1
 
-kind-read : (specs : List Spec) (i : ℕ) (s : Spec) (k : Kind) → s ≡ get_or specs i s → i < length specs → k ≡ kind_of s → k ≡ get_or (kinds_of specs) i k
+kind-read : (specs : List Spec) (i : ℕ) (s : Spec) (k : Kind) → s ≡ get_or specs i s
+    → i < length specs → k ≡ kind_of s → k ≡ get_or (kinds_of specs) i k
 kind-read specs i s k read lt e = e ∙ ap kind_of read ∙ sym (get_or-map kind_of specs i s k lt)
 
 in-kinds : (specs : List Spec) (i : ℕ) → i < length specs → i < length (kinds_of specs)
 in-kinds specs i lt = subst (λ n. i < n) (sym (length-map specs kind_of)) lt
 
-pub next-there : (specs : List Spec) (i : ℕ) (s : Spec) (k : Kind) (before left : List BoxPicture) → HasStock (kinds_of specs) before → left ≡ left_after (take i (kinds_of specs)) before → s ≡ get_or specs i s → i < length specs → k ≡ kind_of s → 0 < count_by (is_of k) left
+pub next-there : (specs : List Spec) (i : ℕ) (s : Spec) (k : Kind) (before left : List BoxPicture)
+    → HasStock (kinds_of specs) before → left ≡ left_after (take i (kinds_of specs)) before
+    → s ≡ get_or specs i s → i < length specs → k ≡ kind_of s → 0 < count_by (is_of k) left
 next-there specs i s k before left stock l read lt e =
     subst (λ boxes. 0 < count_by (is_of k) boxes) (sym l)
-    (subst (λ j. 0 < count_by (is_of j) (left_after (take i (kinds_of specs)) before)) (sym (kind-read specs i s k read lt e)) (still-there (kinds_of specs) i k before stock (in-kinds specs i lt)))
+    (subst (λ j. 0 < count_by (is_of j) (left_after (take i (kinds_of specs)) before))
+    (sym (kind-read specs i s k read lt e))
+    (still-there (kinds_of specs) i k before stock (in-kinds specs i lt)))
 
-pub more-kinds : (specs : List Spec) (i : ℕ) (s : Spec) (k : Kind) → s ≡ get_or specs i s → i < length specs → k ≡ kind_of s → take (i + 1) (kinds_of specs) ≡ take i (kinds_of specs) ++ k ∷ []
-more-kinds specs i s k read lt e = take_more (kinds_of specs) i k (in-kinds specs i lt) ∙ ap (λ j. take i (kinds_of specs) ++ j ∷ []) (sym (kind-read specs i s k read lt e))
+pub more-kinds : (specs : List Spec) (i : ℕ) (s : Spec) (k : Kind) → s ≡ get_or specs i s
+    → i < length specs → k ≡ kind_of s
+    → take (i + 1) (kinds_of specs) ≡ take i (kinds_of specs) ++ k ∷ []
+more-kinds specs i s k read lt e = take_more (kinds_of specs) i k (in-kinds specs i lt)
+    ∙ ap (λ j. take i (kinds_of specs) ++ j ∷ []) (sym (kind-read specs i s k read lt e))

@@ -1,4 +1,3 @@
-pub mod Chains
 pub mod Stock
 pub mod OneBox
 pub mod Plans

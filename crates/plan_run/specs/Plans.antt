@@ -2,17 +2,14 @@
 use Rattle.std.specs.Prelude.{◌≡◌, ◌⊎◌, ℕ, ◌+◌, ◌-◌, ◌<◌, ◌≤◌, ◌++◌, List, length, map, slice_index_or, Option, Some, ⊤}
 use Rattle.chunk_data.specs.Values.{Table}
 use Rattle.query_model.specs.Kinds.{kind_of}
-use Rattle.query_model.specs.declared.processor_spec.Kind.{Kind}
 use Rattle.query_model.specs.declared.processor_spec.Spec.{Spec}
+use Rattle.query_model.specs.declared.processor_spec.Kind.{Kind}
 use Rattle.query_model.specs.declared.processor_spec.Spec.TheVariants as spec
+use Rattle.port_word.specs.declared.flags.Wire.{Wire}
+use Rattle.proc_api.specs.Names.{BoxPicture, IsBlank, IsSourceKind, HasNoReader, Unloads, handed_out_by, raised}
 use Rattle.proc_api.specs.declared.status.WorkFault.{WorkFault}
-use Rattle.proc_api.specs.Boxes.{BoxPicture}
-use Rattle.proc_api.specs.Clauses.{IsBlank, IsSourceKind, HasNoReader, Unloads, handed_out_by}
-use Rattle.proc_api.specs.Histories.{raised}
-use Rattle.exec_laws.specs.Runs.{box_at}
-use Rattle.exec_laws.specs.Ends.{IsDone, IsFault, IsStuck}
+use Rattle.exec_laws.specs.Names.{box_at, IsDone, IsFault, IsStuck}
 use Rattle.exec_laws.specs.declared.edges.StuckNode.{StuckNode}
-use Rattle.plan_run.specs.Chains.{chain_wires}
 use Rattle.plan_run.specs.Stock.{taken_for, left_after}
 use Rattle.plan_run.specs.declared.run.PlanFault.{PlanFault}
 use Rattle.plan_run.specs.declared.run.PlanFault.TheVariants as end
@@ -32,7 +29,8 @@ specs_of boxes = map (λ (p : BoxPicture). p.spec) boxes
 
 -- ---- the boxes
 
--- A blank box that was loaded with the spec and run, as the run left it: the same box, whose counts since then are what they rose.
+-- A blank box that was loaded with the spec and run, as the run left it: the same box, whose counts
+-- since then are what they rose.
 pub record RanWith (s : Spec) (p q : BoxPicture) : Type 0 where
   pub kind : q.kind ≡ p.kind
   pub lawful : q.lawful ≡ p.lawful
@@ -45,7 +43,8 @@ pub record RanWith (s : Spec) (p q : BoxPicture) : Type 0 where
   pub pendings_since : raised p.pendings q.notes.pendings ≤ q.pendings
   pub pulled : q.pulled ≡ p.pulled + q.notes.pulled
 
--- a box of a rack that was taken and given back: the same box, blank again, none of whose counts has fallen
+-- a box of a rack that was taken and given back: the same box, blank again, none of whose counts
+-- has fallen
 pub record IsBlankAgain (p q : BoxPicture) : Type 0 where
   pub kind : q.kind ≡ p.kind
   pub lawful : q.lawful ≡ p.lawful
@@ -61,7 +60,8 @@ pub record IsBlankAgain (p q : BoxPicture) : Type 0 where
 abbrev pub taken_at : List Kind → List BoxPicture → ℕ → BoxPicture
 taken_at kinds before n = box_at (taken_for kinds before) n
 
--- The first box of each kind in turn was taken from the rack. It has the boxes that weren't taken, in their order, and then the taken ones in
+-- The first box of each kind in turn was taken from the rack. It has the boxes that weren't taken,
+-- in their order, and then the taken ones in
 -- the order in which they were taken.
 pub record GivesBack (kinds : List Kind) (before after : List BoxPicture) : Type 0 where
   pub given : List BoxPicture
@@ -77,7 +77,8 @@ LeavesRack kinds before after = GivesBack kinds before after ⊎ (after ≡ befo
 pub record RunsPlan (specs : List Spec) (before after ended : List BoxPicture) : Type 0 where
   pub count : length ended ≡ length specs
   pub loaded : specs_of ended ≡ map Some specs
-  pub ran : (n : ℕ) → n < length specs → RanWith (spec_at specs n) (taken_at (kinds_of specs) before n) (box_at ended n)
+  pub ran : (n : ℕ) → n < length specs
+      → RanWith (spec_at specs n) (taken_at (kinds_of specs) before n) (box_at ended n)
   pub given : List BoxPicture
   pub rack : after ≡ left_after (kinds_of specs) before ++ given
   pub given_count : length given ≡ length specs
@@ -85,11 +86,12 @@ pub record RunsPlan (specs : List Spec) (before after ended : List BoxPicture) :
 
 -- ---- the ends, where R says which lists of boxes a run may have left
 
--- each node of the chain is over, and the last one handed out these chunks
-pub record GivesRows (R : List BoxPicture → Type 0) (nodes : ℕ) (chunks : List Table) : Type 0 where
+-- each node of the graph is over, and the last one handed out these chunks
+pub record GivesRows (R : List BoxPicture → Type 0) (wires : List Wire) (nodes : ℕ)
+    (chunks : List Table) : Type 0 where
   pub ended : List BoxPicture
   pub runs : R ended
-  pub done : IsDone (chain_wires nodes) ended
+  pub done : IsDone wires ended
   pub rows : chunks ≡ handed_out_by (box_at ended (nodes - 1)).kind (box_at ended (nodes - 1)).work
 
 -- a box of a kind that reads no file has no reader

@@ -1,10 +1,8 @@
 -- The steps of a run of a plan, over the pictures of the boxes before and after.
 use Rattle.std.specs.Prelude.{◌≡◌, ℕ, ◌<◌, ◌≤◌, ◌++◌, List, length}
 use Rattle.query_model.specs.declared.processor_spec.Spec.{Spec}
-use Rattle.proc_api.specs.Boxes.{BoxPicture}
-use Rattle.proc_api.specs.Clauses.{Loads, SameCounts, Unloads}
-use Rattle.exec_laws.specs.Runs.{box_at}
-use Rattle.exec_laws.specs.Ends.{GivenBack}
+use Rattle.proc_api.specs.Names.{BoxPicture, Loads, SameCounts, Unloads}
+use Rattle.exec_laws.specs.Names.{box_at, GivenBack}
 use Rattle.plan_run.specs.Plans.{RanWith, spec_at}
 
 -- the same box, with the same counts

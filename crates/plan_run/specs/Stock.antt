@@ -1,8 +1,7 @@
 -- What is taken from a rack for a list of kinds, and what is left.
 use Rattle.std.specs.Prelude.{◌≤◌, cond, List, [], ◌∷◌, count_by}
 use Rattle.query_model.specs.declared.processor_spec.Kind.{Kind}
-use Rattle.proc_api.specs.Boxes.{BoxPicture, no_box}
-use Rattle.proc_api.specs.Racks.{is_of, same_kind}
+use Rattle.proc_api.specs.Names.{BoxPicture, no_box, is_of, same_kind}
 
 -- the first box of the kind
 abbrev pub first_of : Kind → List BoxPicture → BoxPicture

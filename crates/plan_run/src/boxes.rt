@@ -1,8 +1,7 @@
 ghost use Rattle.std.specs.Prelude.{◌≡◌, ℕ, ◌+◌, ◌<◌, ◌≤◌, ◌++◌, ◌∷◌, [], length, map, count_by, vec_capacity, OnOk, OnErr};
 ghost use Rattle.std.specs.List.{All};
 ghost use Rattle.query_model.specs.Kinds.{kind_of};
-ghost use Rattle.proc_api.specs.Clauses.{IsBlank, Loads, Unloads};
-ghost use Rattle.proc_api.specs.Racks.{is_of};
+ghost use Rattle.proc_api.specs.Names.{IsBlank, Loads, Unloads, is_of};
 ghost use Rattle.exec_laws.specs.Runs.{box_at};
 ghost use Rattle.plan_run.specs.OneBox.{OnlyBox};
 ghost use Rattle.plan_run.specs.Plans.{kinds_in, kinds_of};
@@ -22,9 +21,12 @@ pub(crate) fn take_boxes(
     requires stock { HasStock (kinds_of specs.now.items) (map (λ b. seen b) rack.old.boxes.items) }
     requires empty { boxes.old.items ≡ [] }
     requires room { length specs.now.items ≤ vec_capacity boxes.old }
-    ensures taken { map (λ b. seen b) boxes.new.items ≡ taken_for (kinds_of specs.now.items) (map (λ b. seen b) rack.old.boxes.items) }
-    ensures left { map (λ b. seen b) rack.new.boxes.items ≡ left_after (kinds_of specs.now.items) (map (λ b. seen b) rack.old.boxes.items) }
-    ensures spare { length rack.new.boxes.items + length boxes.new.items ≤ vec_capacity rack.new.boxes }
+    ensures taken { map (λ b. seen b) boxes.new.items ≡ taken_for (kinds_of specs.now.items)
+        (map (λ b. seen b) rack.old.boxes.items) }
+    ensures left { map (λ b. seen b) rack.new.boxes.items ≡ left_after (kinds_of specs.now.items)
+        (map (λ b. seen b) rack.old.boxes.items) }
+    ensures spare { length rack.new.boxes.items + length boxes.new.items
+        ≤ vec_capacity rack.new.boxes }
 {
     for i in 0..specs.len() {
         take_next(rack, specs[i].kind(), boxes);
@@ -35,8 +37,10 @@ pub(crate) fn take_boxes(
 fn take_next(rack: &mut Rack, kind: Kind, boxes: &mut Vec<Box<dyn Processor + Send>>)
     requires there { 0 < count_by (is_of kind) (map (λ b. seen b) rack.old.boxes.items) }
     requires room { length boxes.old.items < vec_capacity boxes.old }
-    ensures taken { map (λ b. seen b) boxes.new.items ≡ map (λ b. seen b) boxes.old.items ++ first_of kind (map (λ b. seen b) rack.old.boxes.items) ∷ [] }
-    ensures left { map (λ b. seen b) rack.new.boxes.items ≡ without_first kind (map (λ b. seen b) rack.old.boxes.items) }
+    ensures taken { map (λ b. seen b) boxes.new.items ≡ map (λ b. seen b) boxes.old.items
+        ++ first_of kind (map (λ b. seen b) rack.old.boxes.items) ∷ [] }
+    ensures left { map (λ b. seen b) rack.new.boxes.items
+        ≡ without_first kind (map (λ b. seen b) rack.old.boxes.items) }
     ensures one_more { length boxes.new.items ≡ length boxes.old.items + 1 }
     ensures one_less { length rack.new.boxes.items + 1 ≡ length rack.old.boxes.items }
     ensures rack_room { vec_capacity rack.old.boxes ≤ vec_capacity rack.new.boxes }
@@ -55,8 +59,10 @@ pub(crate) fn load_boxes(
 ) -> Result<(), Memory>
     requires blank { All IsBlank (map (λ b. seen b) boxes.old.items) }
     requires kinds { kinds_in (map (λ b. seen b) boxes.old.items) ≡ kinds_of specs.items }
-    ensures ok { OnOk result (LoadsFirst (length specs.items) specs.items (map (λ b. seen b) boxes.old.items) (map (λ b. seen b) boxes.new.items)) }
-    ensures still { AreStill (map (λ b. seen b) boxes.old.items) (map (λ b. seen b) boxes.new.items) }
+    ensures ok { OnOk result (LoadsFirst (length specs.items) specs.items
+        (map (λ b. seen b) boxes.old.items) (map (λ b. seen b) boxes.new.items)) }
+    ensures still { AreStill (map (λ b. seen b) boxes.old.items)
+        (map (λ b. seen b) boxes.new.items) }
 {
     let mut specs = specs;
     for i in 0..boxes.len() {
@@ -69,9 +75,12 @@ fn load_at(boxes: &mut Vec<Box<dyn Processor + Send>>, i: usize, spec: Spec) -> 
     requires in_range { i < length boxes.old.items }
     requires blank { IsBlank (box_at (map (λ b. seen b) boxes.old.items) i) }
     requires of_kind { kind_of spec ≡ (box_at (map (λ b. seen b) boxes.old.items) i).kind }
-    ensures only { OnlyBox i (map (λ b. seen b) boxes.old.items) (map (λ b. seen b) boxes.new.items) }
-    ensures ok { OnOk result (Loads (box_at (map (λ b. seen b) boxes.old.items) i) spec (box_at (map (λ b. seen b) boxes.new.items) i)) }
-    ensures unchanged { OnErr result (box_at (map (λ b. seen b) boxes.new.items) i ≡ box_at (map (λ b. seen b) boxes.old.items) i) }
+    ensures only { OnlyBox i (map (λ b. seen b) boxes.old.items)
+        (map (λ b. seen b) boxes.new.items) }
+    ensures ok { OnOk result (Loads (box_at (map (λ b. seen b) boxes.old.items) i) spec
+        (box_at (map (λ b. seen b) boxes.new.items) i)) }
+    ensures unchanged { OnErr result (box_at (map (λ b. seen b) boxes.new.items) i
+        ≡ box_at (map (λ b. seen b) boxes.old.items) i) }
 {
     load_box(&mut boxes[i], spec)
 }
@@ -94,7 +103,8 @@ fn load_box(b: &mut Box<dyn Processor + Send>, spec: Spec) -> Result<(), Memory>
 /// Unloads the boxes, and puts them behind those of the rack, in order.
 pub(crate) fn give_back(rack: &mut Rack, boxes: Vec<Box<dyn Processor + Send>>)
     requires { length rack.old.boxes.items + length boxes.items ≤ vec_capacity rack.old.boxes }
-    ensures { GivesUnloaded (map (λ b. seen b) boxes.items) (map (λ b. seen b) rack.old.boxes.items) (map (λ b. seen b) rack.new.boxes.items) }
+    ensures { GivesUnloaded (map (λ b. seen b) boxes.items) (map (λ b. seen b) rack.old.boxes.items)
+        (map (λ b. seen b) rack.new.boxes.items) }
 {
     let mut boxes = boxes;
     unload_boxes(&mut boxes);
@@ -102,7 +112,8 @@ pub(crate) fn give_back(rack: &mut Rack, boxes: Vec<Box<dyn Processor + Send>>)
 }
 
 fn unload_boxes(boxes: &mut Vec<Box<dyn Processor + Send>>)
-    ensures { UnloadsFirst (length boxes.old.items) (map (λ b. seen b) boxes.old.items) (map (λ b. seen b) boxes.new.items) }
+    ensures { UnloadsFirst (length boxes.old.items) (map (λ b. seen b) boxes.old.items)
+        (map (λ b. seen b) boxes.new.items) }
 {
     for i in 0..boxes.len() {
         unload_at(boxes, i);
@@ -111,8 +122,10 @@ fn unload_boxes(boxes: &mut Vec<Box<dyn Processor + Send>>)
 
 fn unload_at(boxes: &mut Vec<Box<dyn Processor + Send>>, i: usize)
     requires { i < length boxes.old.items }
-    ensures only { OnlyBox i (map (λ b. seen b) boxes.old.items) (map (λ b. seen b) boxes.new.items) }
-    ensures unloaded { Unloads (box_at (map (λ b. seen b) boxes.old.items) i) (box_at (map (λ b. seen b) boxes.new.items) i) }
+    ensures only { OnlyBox i (map (λ b. seen b) boxes.old.items)
+        (map (λ b. seen b) boxes.new.items) }
+    ensures unloaded { Unloads (box_at (map (λ b. seen b) boxes.old.items) i)
+        (box_at (map (λ b. seen b) boxes.new.items) i) }
 {
     unload_box(&mut boxes[i]);
 }
@@ -126,7 +139,8 @@ fn unload_box(b: &mut Box<dyn Processor + Send>)
 /// Puts blank boxes behind those of the rack, in room that is there.
 fn put_back(rack: &mut Rack, boxes: Vec<Box<dyn Processor + Send>>)
     requires blank { All IsBlank (map (λ b. seen b) boxes.items) }
-    requires spare { length rack.old.boxes.items + length boxes.items ≤ vec_capacity rack.old.boxes }
+    requires spare { length rack.old.boxes.items + length boxes.items
+        ≤ vec_capacity rack.old.boxes }
     ensures { rack.new.boxes.items ≡ rack.old.boxes.items ++ boxes.items }
 {
     let mut boxes = boxes;

@@ -1,10 +1,9 @@
-//! Runs the nodes of a plan, a chain, by boxes that it takes from a rack and gives back.
+//! Runs the nodes of a plan by boxes that it takes from a rack and gives back.
 #![tactic(auto)]
 
 mod boxes;
-mod chain;
 mod run;
 #[cfg(test)]
 mod tests;
 
-pub use run::{PlanFault, run_plan};
+pub use run::{PlanFault, PlanGraph, run_plan};

@@ -1,20 +1,18 @@
-ghost use Rattle.std.specs.Prelude.{◌≡◌, ◌<◌, map, IfOk, OnOk};
+ghost use Rattle.std.specs.Prelude.{◌≡◌, ◌<◌, ◌∷◌, [], map, IfOk, OnOk};
 ghost use Rattle.std.specs.List.{All};
 ghost use Rattle.std.specs.Option.{option_map, unwrap_or};
 ghost use Rattle.query_model.specs.declared.processor_spec.Spec.TheVariants as spec;
-ghost use Rattle.port_word.specs.Pictures.{in_count};
-ghost use Rattle.port_word.specs.Differences.{ChangedByCalls};
-ghost use Rattle.proc_api.specs.Boxes.{no_notes};
-ghost use Rattle.proc_api.specs.Clauses.{IsBlank};
+ghost use Rattle.port_word.specs.Names.{in_count, ChangedByCalls};
+ghost use Rattle.proc_api.specs.Names.{no_notes, IsBlank};
 
-use crate::{PlanFault, run_plan};
+use crate::{PlanFault, PlanGraph, run_plan};
 use chunk_data::{Bytes, Chunk, List};
-use port_word::PortView;
+use port_word::{PortView, Wire};
 use proc_api::{
     BadField, BadPlace, BoxNotes, Growth, LoadRefusal, Processor, Rack, Status, Wake, WorkFault,
 };
 use query_model::processor_spec::{Kind, PartSpec, Spec};
-use std::alloc::Global;
+use std::alloc::{AllocError, Global};
 use std::mem::replace;
 use std::process::Abort;
 use std::test::Fail;
@@ -203,7 +201,8 @@ fn pull_and_want(view: &mut PortView) -> Option<Chunk>
 
 /// Puts a box behind those of the rack, once it is blank.
 fn add_box(rack: &mut Rack, b: Box<dyn Processor + Send>) -> Result<(), Fail>
-    ensures { All IsBlank (map (λ b. seen b) rack.old.boxes.items) → All IsBlank (map (λ b. seen b) rack.new.boxes.items) }
+    ensures { All IsBlank (map (λ b. seen b) rack.old.boxes.items)
+        → All IsBlank (map (λ b. seen b) rack.new.boxes.items) }
 {
     let mut b = b;
     b.unload();
@@ -248,6 +247,26 @@ fn rack_of(
     Ok(rack)
 }
 
+/// The ranks of a source and a collector.
+fn pair_ranks(alloc: Global) -> Result<List<u32>, AllocError>
+    ensures { IfOk result (λ ranks. ranks ≡ 1 ∷ 2 ∷ []) }
+{
+    Ok(List::from_vec(Vec::from_slice(alloc, &[1, 2])?))
+}
+
+/// The wire between them.
+fn pair_wires(alloc: Global) -> Result<List<Wire>, AllocError>
+    ensures { IfOk result (λ wires. wires ≡ record { from = 0; out = 0; to = 1; input = 0 } ∷ []) }
+{
+    let wire = Wire {
+        from: 0,
+        out: 0,
+        to: 1,
+        input: 0,
+    };
+    Ok(List::from_vec(Vec::from_slice(alloc, &[wire])?))
+}
+
 /// Runs a source and a collector.
 fn run_pair<R: Abort + AllocGlobal>(
     rt: &R,
@@ -269,7 +288,12 @@ fn run_pair<R: Abort + AllocGlobal>(
     specs.push(Spec::Collect)?;
     assert!(rt; rack.count(Kind::Csv) > 0);
     assert!(rt; rack.count(Kind::Collect) > 0);
-    Ok(run_plan(rt, rack, specs, 1))
+    let plan = PlanGraph {
+        specs,
+        ranks: pair_ranks(rt.alloc())?,
+        wires: pair_wires(rt.alloc())?,
+    };
+    Ok(run_plan(rt, rack, plan, 1))
 }
 
 /// Runs a source and a collector, which gives so many chunks.

@@ -6,30 +6,26 @@ use Rattle.select_planner.specs.declared.nodes.PlanReserve.{PlanReserve}
 use Rattle.select_planner.specs.Boxes.{reserved_nodes}
 use Rattle.select_planner.specs.Counts.{boxes_reserved, boxes_taken}
 use Rattle.select_planner.specs.declared.nodes.PlanNode.{PlanNode}
-use Rattle.query_model.specs.Kinds.{kind_of}
-use Rattle.chunk_data.specs.declared.typed_value.ColumnType.{ColumnType}
-use Rattle.query_model.specs.Expressions.{Cond}
-use Rattle.query_model.specs.Flow.{if_grouped, if_plain, if_ordered}
-use Rattle.query_model.specs.Database.{join_use}
-use Rattle.query_model.specs.Need.{part_sources_need, list_sources_need, if_declared, table_need, tables_need, if_filtered, if_joined, if_unordered, having_need, sorts_need, if_limited, need}
+use Rattle.query_model.specs.Names.{kind_of, Cond, if_grouped, if_plain, if_ordered, join_use, part_sources_need, list_sources_need, if_declared, table_need, tables_need, if_filtered, if_joined, if_unordered, having_need, sorts_need, if_limited, need}
 use Rattle.query_model.specs.declared.query.Span.{Span}
 use Rattle.query_model.specs.declared.query.PartsDecl.{PartsDecl}
-use Rattle.query_model.specs.declared.query.PartsDecl.TheVariants.{Paths, ListFile}
 use Rattle.query_model.specs.declared.query.TableDecl.{TableDecl}
 use Rattle.query_model.specs.declared.checked.TableUse.{TableUse}
-use Rattle.query_model.specs.declared.checked.TableUse.TheVariants.{Declared, Numbers}
 use Rattle.query_model.specs.declared.checked.Shape.{Shape}
-use Rattle.query_model.specs.declared.checked.Shape.TheVariants.{Plain, Grouped}
 use Rattle.query_model.specs.declared.checked.Checked.{Checked}
+use Rattle.query_model.specs.declared.processor_spec.SortSpec.{SortSpec}
+use Rattle.query_model.specs.declared.processor_spec.Spec.{Spec}
+use Rattle.chunk_data.specs.declared.typed_value.ColumnType.{ColumnType}
+use Rattle.chunk_data.specs.declared.typed_value.SortKey.{SortKey}
+use Rattle.query_model.specs.declared.query.PartsDecl.TheVariants.{Paths, ListFile}
+use Rattle.query_model.specs.declared.checked.TableUse.TheVariants.{Declared, Numbers}
+use Rattle.query_model.specs.declared.checked.Shape.TheVariants.{Plain, Grouped}
 use Rattle.query_model.specs.declared.processor_spec.Kind.{Kind}
 use Rattle.query_model.specs.declared.processor_spec.Kind.TheVariants as kind
-use Rattle.query_model.specs.declared.processor_spec.Spec.{Spec}
 use Rattle.query_model.specs.declared.processor_spec.Spec.TheVariants as spec
 use Rattle.proc_api.specs.Racks.{same_kind}
-use Rattle.plan_meaning.specs.Plans.{plan_nodes}
-use Rattle.plan_meaning.specs.Queries.{shape_of}
+use Rattle.plan_meaning.specs.Names.{plan_nodes, shape_of, of_kind, counted, sources_count, read_count, filter_count, gather_count, shape_count, limit_count, plan_count}
 use Rattle.plan_meaning.proofs.Counts.{plan-counted}
-use Rattle.plan_meaning.specs.Counts.{of_kind, counted, sources_count, read_count, filter_count, shape_count, limit_count, plan_count}
 use Rattle.select_planner.specs.Steps.{Reading, part_spec, path_sources, join_of, source_types, order_of, part_sources, reading_of, declared_sources, table_sources, select_plan, IsPlain, NamesPaths, IsNoList, UsesNoList, IsPlannable}
 
 -- so many where the kind is this one
@@ -100,22 +96,41 @@ limit-need : (k : Kind) (l : Option Span)
 limit-need k None = sym (only-none (same_kind kind.Limit k))
 limit-need k (Some span) = refl
 
-shape-need : (k : Kind) (s : Shape) (types : List ColumnType) (rows lanes : ℕ) → IsPlain s
-    → shape_count (of_kind k) (shape_of s types rows) None lanes
-    ≡ only k kind.Expression lanes + only k kind.Resize 1
-shape-need k (Plain items) types rows lanes h =
-    let times = only-times (same_kind kind.Expression k) lanes in omega (arith, times)
-shape-need k (Grouped g) types rows lanes h = absurd h
+shape-need : (k : Kind) (s : Shape) (types : List ColumnType) (rows lanes : ℕ)
+    (order : Option SortSpec) → IsPlain s
+    → shape_count (of_kind k) (shape_of s types rows) order lanes
+    ≡ only k kind.Expression lanes + gather_count (of_kind k) order lanes
+shape-need k (Plain items) types rows lanes order h =
+    ap (λ n. n + gather_count (of_kind k) order lanes)
+    (only-times (same_kind kind.Expression k) lanes)
+shape-need k (Grouped g) types rows lanes order h = absurd h
+
+-- the lanes are gathered by a Resize, or by sorts and a merge
+abbrev gather_need : List SortKey → ℕ → Kind → ℕ
+gather_need keys lanes k =
+    only k kind.Resize (if_unordered keys 1) + only k kind.Sort (if_ordered keys lanes)
+    + only k kind.MergeSorted (if_ordered keys 1)
+
+gather-need : (k : Kind) (types : List ColumnType) (rows lanes : ℕ) (keys : List SortKey)
+    → gather_count (of_kind k) (order_of types rows keys) lanes ≡ gather_need keys lanes k
+gather-need k types rows lanes [] =
+    let sort = only-none (same_kind kind.Sort k) in
+    let merge = only-none (same_kind kind.MergeSorted k) in
+    omega (arith, sort, merge)
+gather-need k types rows lanes (key ∷ keys) =
+    let times = only-times (same_kind kind.Sort k) lanes in
+    let none = only-none (same_kind kind.Resize k) in
+    omega (arith, times, none)
 
 -- ---- the plan
 
--- what the steps of a query without JOIN, groups and order need
+-- what the steps of a query without JOIN and groups need
 abbrev steps_need : Checked → List TableDecl → ℕ → Kind → ℕ
 steps_need q tables lanes k =
     (only k kind.Csv (table_need part_sources_need 0 tables q.from)
     + only k kind.Numbers (table_need (λ decl. 0) 1 tables q.from) + only k kind.Resize 1)
     + (only k kind.Filter (if_filtered q.filter lanes)
-    + ((only k kind.Expression lanes + only k kind.Resize 1)
+    + ((only k kind.Expression lanes + gather_need q.order lanes k)
     + (only k kind.Limit (if_limited q.limit 1) + only k kind.Collect 1)))
 
 steps-counted : (q : Checked) (tables : List TableDecl) (lanes rows : ℕ) (header : Bool) (k : Kind)
@@ -127,17 +142,13 @@ steps-counted q tables lanes rows header k p =
     let read : read_count (of_kind k) sources (join_of tables header rows q.from q.join)
     ≡ sources_count (of_kind k) sources + only k kind.Resize 1 =
     ap (λ j. read_count (of_kind k) sources (join_of tables header rows q.from j)) p.one_table in
-    let shape : shape_count (of_kind k) (shape_of q.shape types rows)
-    (order_of q.types rows q.order) lanes
-    ≡ only k kind.Expression lanes + only k kind.Resize 1 =
-    ap (λ o. shape_count (of_kind k) (shape_of q.shape types rows) (order_of q.types rows o) lanes)
-    p.unordered ∙ shape-need k q.shape types rows lanes p.plain in
     omega (
       arith,
       read,
       sources-need k tables header rows q.from p.no_list,
       filter-need k q.filter lanes,
-      shape,
+      shape-need k q.shape types rows lanes (order_of q.types rows q.order) p.plain,
+      gather-need k q.types rows lanes q.order,
       limit-need k q.limit,
     )
 
@@ -177,8 +188,9 @@ need-of-steps : (q : Checked) (tables : List TableDecl) (lanes : ℕ) (k : Kind)
     → steps_need q tables lanes k ≡ need q tables lanes k
 need-of-steps q tables lanes k p = go k
   where
-    ordered : (n : ℕ) → if_ordered q.order n ≡ 0
-    ordered n = ap (λ o. if_ordered o n) p.unordered
+    one-sort-a-lane : (s : Shape) → IsPlain s → sorts_need s lanes ≡ lanes
+    one-sort-a-lane (Plain items) h = refl
+    one-sort-a-lane (Grouped g) h = absurd h
 
     go : (k : Kind) → steps_need q tables lanes k ≡ need q tables lanes k
     go kind.Csv = let one = one-table part_sources_need 0 q tables p.one_table in omega (arith, one)
@@ -191,16 +203,19 @@ need-of-steps q tables lanes k p = go k
     go kind.Expression = let none = no-groups q.shape 1 p.plain in omega (arith, none)
     go kind.Resize =
         let lone : if_joined q.join 3 1 ≡ 1 = ap (λ j. if_joined j 3 1) p.one_table in
-        let unordered : if_unordered q.order 1 ≡ 1 = ap (λ o. if_unordered o 1) p.unordered in
         let plain = plain-number q.shape (if_unordered q.order 1) p.plain in
-        omega (arith, lone, unordered, plain)
+        omega (arith, lone, plain)
     go kind.PartialAggregate = let none = no-groups q.shape lanes p.plain in omega (arith, none)
     go kind.MergeAggregate = let none = no-groups q.shape 1 p.plain in omega (arith, none)
     go kind.HashJoin =
         let lone : if_joined q.join 1 0 ≡ 0 = ap (λ j. if_joined j 1 0) p.one_table in
         omega (arith, lone)
-    go kind.Sort = let none = ordered (sorts_need q.shape lanes) in omega (arith, none)
-    go kind.MergeSorted = let none = ordered (if_plain q.shape 1) in omega (arith, none)
+    go kind.Sort =
+        let sorts = ap (if_ordered q.order) (one-sort-a-lane q.shape p.plain) in
+        omega (arith, sorts)
+    go kind.MergeSorted =
+        let one = ap (if_ordered q.order) (plain-number q.shape 1 p.plain) in
+        omega (arith, one)
     go kind.Limit = omega arith
     go kind.Collect = omega arith
 

@@ -4,22 +4,17 @@ use Rattle.std.specs.Prelude.{sum_by}
 use Rattle.std.proofs.lemmas.List.{append-nil, append_assoc, length-map}
 use Rattle.std.proofs.lemmas.List.Sums.{sum_by-cons}
 use Rattle.port_word.specs.declared.flags.Wire.{Wire}
-use Rattle.query_model.specs.Kinds.{kind_of}
-use Rattle.query_model.specs.Need.{need}
+use Rattle.query_model.specs.Names.{kind_of, need}
 use Rattle.query_model.specs.declared.query.TableDecl.{TableDecl}
 use Rattle.query_model.specs.declared.checked.Checked.{Checked}
+use Rattle.query_model.specs.declared.processor_spec.Spec.{Spec}
 use Rattle.query_model.specs.declared.processor_spec.Kind.{Kind}
 use Rattle.query_model.specs.declared.processor_spec.Kind.TheVariants as kind
-use Rattle.query_model.specs.declared.processor_spec.Spec.{Spec}
 use Rattle.query_model.specs.declared.processor_spec.Spec.TheVariants as spec
-use Rattle.proc_api.specs.Forms.{SpecForm, filter, expression, unboxed, spec_form}
-use Rattle.proc_api.specs.Graphs.{IsGraph}
-use Rattle.proc_api.specs.Racks.{same_kind}
-use Rattle.plan_graph.specs.declared.nodes.DraftNode.{DraftNode}
+use Rattle.proc_api.specs.Names.{SpecForm, filter, expression, unboxed, spec_form, IsGraph, same_kind}
 use Rattle.plan_graph.specs.Drafts.{Draft, no_draft, with_node, with_nodes}
-use Rattle.plan_meaning.specs.Counts.{counted, of_kind}
-use Rattle.plan_meaning.specs.Plans.{IsSmall, plan_nodes}
-use Rattle.plan_meaning.specs.Same.{NodeForm}
+use Rattle.plan_graph.specs.declared.nodes.DraftNode.{DraftNode}
+use Rattle.plan_meaning.specs.Names.{counted, of_kind, IsSmall, plan_nodes, NodeForm}
 use Rattle.plan_meaning.proofs.PlanGraphs.{PlanGraph, plan-graph, counted-same}
 use Rattle.select_planner.specs.declared.nodes.Plan.{Plan}
 use Rattle.select_planner.specs.declared.nodes.PlanNode.{PlanNode}

@@ -3,23 +3,21 @@ use Rattle.std.proofs.Common.{◌≡◌, ℕ, zero, suc, ◌+◌, ◌<◌, ◌�
 use Rattle.std.specs.Prelude.{slice_get, nat_lt}
 use Rattle.std.proofs.lemmas.Bool.Decides.{nat_tests}
 use Rattle.std.proofs.lemmas.List.{append_assoc, length-take-le, map-append, take_more}
-use Rattle.query_model.specs.declared.query.PartsDecl.{PartsDecl}
-use Rattle.query_model.specs.declared.query.PartsDecl.TheVariants.{Paths, ListFile}
-use Rattle.query_model.specs.declared.query.TableDecl.{TableDecl}
 use Rattle.query_model.specs.Expressions.{Expr}
+use Rattle.query_model.specs.declared.query.PartsDecl.{PartsDecl}
+use Rattle.query_model.specs.declared.query.TableDecl.{TableDecl}
 use Rattle.query_model.specs.declared.checked.TableUse.{TableUse}
-use Rattle.query_model.specs.declared.checked.TableUse.TheVariants.{Declared, Numbers}
-use Rattle.query_model.specs.declared.checked.Shape.TheVariants.{Plain}
 use Rattle.query_model.specs.declared.checked.Checked.{Checked}
 use Rattle.query_model.specs.declared.processor_spec.PartSpec.{PartSpec}
 use Rattle.query_model.specs.declared.processor_spec.Spec.{Spec}
+use Rattle.query_model.specs.declared.query.PartsDecl.TheVariants.{Paths, ListFile}
+use Rattle.query_model.specs.declared.checked.TableUse.TheVariants.{Declared, Numbers}
+use Rattle.query_model.specs.declared.checked.Shape.TheVariants.{Plain}
 use Rattle.query_model.specs.declared.processor_spec.Spec.TheVariants as spec
 use Rattle.proc_api.specs.Forms.{SpecForm, spec_form}
-use Rattle.plan_graph.specs.declared.nodes.DraftNode.{DraftNode}
 use Rattle.plan_graph.specs.Blocks.{source_nodes, lane_nodes, joint_node}
-use Rattle.plan_meaning.specs.Plans.{IsSmall, FewJoined, filter_nodes, limit_nodes, read_nodes, shape_nodes, collect_node, plan_nodes}
-use Rattle.plan_meaning.specs.Queries.{shape_of}
-use Rattle.plan_meaning.specs.Same.{NodeForm, node_form, forms}
+use Rattle.plan_graph.specs.declared.nodes.DraftNode.{DraftNode}
+use Rattle.plan_meaning.specs.Names.{IsSmall, FewJoined, filter_nodes, gather_nodes, limit_nodes, read_nodes, shape_nodes, collect_node, plan_nodes, shape_of, NodeForm, node_form, forms}
 use Rattle.select_planner.specs.Refusals.{NamedPaths, path_count, crowded_decl, crowded}
 use Rattle.select_planner.specs.Steps.{Reading, part_spec, path_sources, part_sources, reading_of, declared_sources, table_sources, join_of, source_types, order_of, select_plan, NamesPaths, IsNoList, UsesNoList, IsPlannable}
 
@@ -28,6 +26,13 @@ pub block-more : (x y done block : List DraftNode) → forms x ≡ forms done
     → forms y ≡ forms x ++ forms block → forms y ≡ forms (done ++ block)
 block-more x y done block d e =
     e ∙ ap (λ l. l ++ forms block) d ∙ sym (map-append node_form done block)
+
+-- two blocks more
+pub blocks-more : (x y z first block : List DraftNode) → forms y ≡ forms x ++ forms first
+    → forms z ≡ forms y ++ forms block → forms z ≡ forms x ++ forms (first ++ block)
+blocks-more x y z first block d e =
+    e ∙ ap (λ l. l ++ forms block) d ∙ append_assoc (forms x) (forms first) (forms block)
+    ∙ ap (λ l. forms x ++ l) (sym (map-append node_form first block))
 
 -- ---- lanes
 
@@ -197,20 +202,20 @@ regrouped : (a b c d e f g : List DraftNode)
     → laid_nodes a b c d e f g ≡ ((a ++ b) ++ (c ++ ((d ++ e) ++ f))) ++ g
 regrouped a b c d e f g = simp append_assoc
 
--- a query without JOIN, groups and order has these steps
+-- a query without JOIN and groups has these steps
 pub plain-steps : (q : Checked) (tables : List TableDecl) (lanes rows : ℕ) (header : Bool)
     (items : List Expr) → IsPlannable q tables → q.shape ≡ Plain items
     → laid_nodes (source_nodes 0 (table_sources tables header rows q.from))
     (joint_node spec.Resize 2 (length (table_sources tables header rows q.from)) lanes ∷ [])
     (filter_nodes q.filter 5 lanes) (lane_nodes (spec.Expression items) 6 0 lanes)
-    (joint_node spec.Resize 12 lanes 1 ∷ []) (limit_nodes q.limit) (collect_node ∷ [])
+    (gather_nodes (order_of q.types rows q.order) lanes) (limit_nodes q.limit) (collect_node ∷ [])
     ≡ plan_nodes (select_plan q tables lanes rows header)
 plain-steps q tables lanes rows header items p shape =
     let sources : List Spec = table_sources tables header rows q.from in
     regrouped (source_nodes 0 sources) (joint_node spec.Resize 2 (length sources) lanes ∷ [])
     (filter_nodes q.filter 5 lanes) (lane_nodes (spec.Expression items) 6 0 lanes)
-    (joint_node spec.Resize 12 lanes 1 ∷ []) (limit_nodes q.limit) (collect_node ∷ [])
+    (gather_nodes (order_of q.types rows q.order) lanes) (limit_nodes q.limit) (collect_node ∷ [])
     ∙ sym (λ i. (read_nodes sources (join_of tables header rows q.from (p.one_table i)) lanes
     ++ (filter_nodes q.filter 5 lanes
     ++ (shape_nodes (shape_of (shape i) (source_types tables q.from q.join) rows)
-    (order_of q.types rows (p.unordered i)) lanes ++ limit_nodes q.limit))) ++ collect_node ∷ [])
+    (order_of q.types rows q.order) lanes ++ limit_nodes q.limit))) ++ collect_node ∷ [])

@@ -7,8 +7,8 @@ use Rattle.query_model.specs.declared.processor_spec.Kind.{Kind}
 use Rattle.proc_api.specs.Graphs.{IsGraph}
 use Rattle.select_planner.specs.Counts.{boxes_needed}
 use Rattle.port_word.specs.declared.flags.Wire.{Wire}
-use Rattle.plan_graph.specs.declared.nodes.DraftNode.{DraftNode}
 use Rattle.plan_graph.specs.Drafts.{no_draft, with_nodes}
+use Rattle.plan_graph.specs.declared.nodes.DraftNode.{DraftNode}
 use Rattle.plan_meaning.specs.Same.{forms}
 use Rattle.select_planner.specs.declared.nodes.PlanNode.{PlanNode}
 use Rattle.select_planner.specs.declared.nodes.PlanEdge.{PlanEdge}

@@ -2,23 +2,21 @@
 use Rattle.std.specs.Prelude.{◌≡◌, ℕ, suc, Bool, List, [], ◌∷◌, ◌++◌, slice_get, Option, Some, None, ⊤}
 use Rattle.chunk_data.specs.declared.typed_value.ColumnType.{ColumnType}
 use Rattle.chunk_data.specs.declared.typed_value.SortKey.{SortKey}
-use Rattle.query_model.specs.Database.{column_types}
-use Rattle.query_model.specs.Sources.{numbers}
+use Rattle.query_model.specs.Names.{column_types, numbers}
 use Rattle.query_model.specs.declared.query.PartsDecl.{PartsDecl}
-use Rattle.query_model.specs.declared.query.PartsDecl.TheVariants.{Paths, ListFile}
 use Rattle.query_model.specs.declared.query.TableDecl.{TableDecl}
 use Rattle.query_model.specs.declared.checked.TableUse.{TableUse}
-use Rattle.query_model.specs.declared.checked.TableUse.TheVariants.{Declared, Numbers}
 use Rattle.query_model.specs.declared.checked.CheckedJoin.{CheckedJoin}
 use Rattle.query_model.specs.declared.checked.Shape.{Shape}
-use Rattle.query_model.specs.declared.checked.Shape.TheVariants.{Plain, Grouped}
 use Rattle.query_model.specs.declared.checked.Checked.{Checked}
 use Rattle.query_model.specs.declared.processor_spec.PartSpec.{PartSpec}
 use Rattle.query_model.specs.declared.processor_spec.SortSpec.{SortSpec}
 use Rattle.query_model.specs.declared.processor_spec.Spec.{Spec}
+use Rattle.query_model.specs.declared.query.PartsDecl.TheVariants.{Paths, ListFile}
+use Rattle.query_model.specs.declared.checked.TableUse.TheVariants.{Declared, Numbers}
+use Rattle.query_model.specs.declared.checked.Shape.TheVariants.{Plain, Grouped}
 use Rattle.query_model.specs.declared.processor_spec.Spec.TheVariants as spec
-use Rattle.plan_meaning.specs.Plans.{SelectPlan, PlanJoin}
-use Rattle.plan_meaning.specs.Queries.{shape_of}
+use Rattle.plan_meaning.specs.Names.{SelectPlan, PlanJoin, shape_of}
 
 -- how the parts of a table are read: the place of the table, the types of its columns, whether the
 -- first record is passed over, and the most rows of a chunk
@@ -128,9 +126,8 @@ abbrev pub UsesNoList : List TableDecl → TableUse → Type 0
 UsesNoList tables (Declared t) = IsNoList (slice_get tables t)
 UsesNoList tables (Numbers n) = ⊤
 
--- a query of one table that is no list, without grouping and order
+-- a query of one table that is no list, without grouping
 pub record IsPlannable (q : Checked) (tables : List TableDecl) : Type 0 where
   pub one_table : q.join ≡ None
   pub no_list : UsesNoList tables q.from
   pub plain : IsPlain q.shape
-  pub unordered : q.order ≡ []

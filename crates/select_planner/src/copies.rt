@@ -1,12 +1,14 @@
 // Copies of conditions and items, in boxes of their own.
 ghost use Rattle.std.specs.Prelude.{◌≡◌, map, IfOk};
 ghost use Rattle.query_model.specs.Formulas.{formula};
+ghost use Rattle.query_model.specs.declared.query.CondOf.TheVariants as condition;
 ghost use Rattle.proc_api.specs.Forms.{argument_form, operand_form, cond_form};
 
 use chunk_data::{List, Memory};
 use query_model::checked::{Cond, Expr};
-use query_model::plain::copy_expr;
-use query_model::query::{AggCall, CondOf, Operand};
+use query_model::plain::{boxed_cond, copy_expr};
+use query_model::processor_spec::SortSpec;
+use query_model::query::{AggCall, CompareOp, CondOf, Operand};
 use std::alloc::{AllocError, Global};
 
 /// The same condition in boxes of its own.
@@ -14,26 +16,41 @@ pub(crate) fn copy_cond(alloc: Global, cond: &Cond) -> Result<Cond, Memory>
     ensures { IfOk result (λ copy. cond_form copy ≡ cond_form cond.now) }
 {
     match cond {
-        CondOf::Compare(op, a, b) => {
-            let left = copy_operand(alloc, a)?;
-            let right = copy_operand(alloc, b)?;
-            Ok(CondOf::Compare(*op, left, right))
-        }
+        CondOf::Compare(op, a, b) => copy_comparison(alloc, *op, a, b),
         CondOf::And(a, b) => {
-            let left = copy_cond(alloc, a)?;
-            let right = copy_cond(alloc, b)?;
-            Ok(CondOf::And(Box::new(alloc, left)?, Box::new(alloc, right)?))
+            let first = copy_cond(alloc, a)?;
+            let left = boxed_cond(alloc, first)?;
+            let second = copy_cond(alloc, b)?;
+            let right = boxed_cond(alloc, second)?;
+            Ok(CondOf::And(left, right))
         }
         CondOf::Or(a, b) => {
-            let left = copy_cond(alloc, a)?;
-            let right = copy_cond(alloc, b)?;
-            Ok(CondOf::Or(Box::new(alloc, left)?, Box::new(alloc, right)?))
+            let first = copy_cond(alloc, a)?;
+            let left = boxed_cond(alloc, first)?;
+            let second = copy_cond(alloc, b)?;
+            let right = boxed_cond(alloc, second)?;
+            Ok(CondOf::Or(left, right))
         }
         CondOf::Not(a) => {
             let inner = copy_cond(alloc, a)?;
-            Ok(CondOf::Not(Box::new(alloc, inner)?))
+            Ok(CondOf::Not(boxed_cond(alloc, inner)?))
         }
     }
+}
+
+// Apart from the recursion, whose frames are to be small: texts nest a thousand conditions.
+#[inline(never)]
+fn copy_comparison(
+    alloc: Global,
+    op: CompareOp,
+    a: &Operand<u32>,
+    b: &Operand<u32>,
+) -> Result<Cond, Memory>
+    ensures { IfOk result (λ copy. cond_form copy ≡ cond_form (condition.Compare op a.now b.now)) }
+{
+    let left = copy_operand(alloc, a)?;
+    let right = copy_operand(alloc, b)?;
+    Ok(CondOf::Compare(op, left, right))
 }
 
 fn copy_operand(alloc: Global, operand: &Operand<u32>) -> Result<Operand<u32>, Memory>
@@ -56,6 +73,17 @@ fn copy_argument(alloc: Global, arg: &Option<Expr>) -> Result<Option<Expr>, Memo
         None => Ok(None),
         Some(e) => Ok(Some(copy_expr(alloc, e)?)),
     }
+}
+
+/// The same order in lists of its own.
+pub(crate) fn copy_order(order: &SortSpec) -> Result<SortSpec, Memory>
+    ensures { IfOk result (λ copy. copy ≡ order.now) }
+{
+    Ok(SortSpec {
+        keys: order.keys.copy()?,
+        types: order.types.copy()?,
+        rows: order.rows,
+    })
 }
 
 /// The same items in boxes of their own.

@@ -1,15 +1,14 @@
 // Blocks of nodes, added behind a list of nodes.
-ghost use Rattle.std.specs.Prelude.{◌≡◌, ◌≤◌, ◌++◌, ◌∷◌, [], OnOk};
-ghost use Rattle.query_model.specs.declared.processor_spec.Spec.TheVariants.{Filter as filter_spec, Expression as expression_spec};
+ghost use Rattle.std.specs.Prelude.{◌≡◌, ◌≤◌, ◌++◌, ◌∷◌, [], OnOk, Some};
+ghost use Rattle.query_model.specs.declared.processor_spec.Spec.TheVariants.{Filter as filter_spec, Expression as expression_spec, Sort as sort_spec};
 ghost use Rattle.plan_graph.specs.Blocks.{lane_nodes, joint_node};
-ghost use Rattle.plan_meaning.specs.Plans.{filter_nodes, limit_nodes};
-ghost use Rattle.plan_meaning.specs.Same.{forms};
+ghost use Rattle.plan_meaning.specs.Names.{filter_nodes, gather_nodes, limit_nodes, forms};
 
-use crate::copies::{copy_cond, copy_items};
+use crate::copies::{copy_cond, copy_items, copy_order};
 use chunk_data::{List, Memory};
 use plan_graph::DraftNode;
 use query_model::checked::{Cond, Expr};
-use query_model::processor_spec::Spec;
+use query_model::processor_spec::{SortSpec, Spec};
 use query_model::query::Span;
 use std::alloc::Global;
 
@@ -107,6 +106,43 @@ pub(crate) fn add_items(
     for lane in 0..lanes {
         let copy = copy_items(alloc, items)?;
         add_lane(nodes, Spec::Expression(copy), rank, lane)?;
+    }
+    Ok(())
+}
+
+/// Adds what gathers the lanes into one, in this order where there is one.
+pub(crate) fn add_gather(
+    nodes: &mut List<DraftNode>,
+    order: Option<SortSpec>,
+    lanes: u32,
+) -> Result<(), Memory>
+    ensures { OnOk result (forms nodes.new
+        ≡ forms nodes.old ++ forms (gather_nodes order lanes)) }
+{
+    match order {
+        None => add_joint(nodes, Spec::Resize, 12, lanes, 1),
+        Some(order) => add_ordered(nodes, order, lanes),
+    }
+}
+
+/// Adds the sorts of the lanes and the merge behind them.
+fn add_ordered(nodes: &mut List<DraftNode>, order: SortSpec, lanes: u32) -> Result<(), Memory>
+    ensures { OnOk result (forms nodes.new
+        ≡ forms nodes.old ++ forms (gather_nodes (Some order) lanes)) }
+{
+    add_sorts(nodes, &order, lanes)?;
+    add_joint(nodes, Spec::MergeSorted(order), 12, lanes, 1)?;
+    Ok(())
+}
+
+/// Adds the sorts of ORDER BY, one in each lane.
+fn add_sorts(nodes: &mut List<DraftNode>, order: &SortSpec, lanes: u32) -> Result<(), Memory>
+    ensures { OnOk result (forms nodes.new
+        ≡ forms nodes.old ++ forms (lane_nodes (sort_spec order.now) 11 0 lanes)) }
+{
+    for lane in 0..lanes {
+        let copy = copy_order(order)?;
+        add_lane(nodes, Spec::Sort(copy), 11, lane)?;
     }
     Ok(())
 }

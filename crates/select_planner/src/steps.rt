@@ -3,20 +3,19 @@ ghost use Rattle.std.specs.Prelude.{◌≡◌, ◌≤◌, [], map, length, IfOk,
 ghost use Rattle.query_model.specs.Database.{used_tables};
 ghost use Rattle.query_model.specs.declared.checked.Shape.TheVariants.{Plain};
 ghost use Rattle.plan_graph.specs.Drafts.{AllFitDraft, no_draft, with_nodes};
-ghost use Rattle.plan_meaning.specs.Plans.{plan_nodes};
-ghost use Rattle.plan_meaning.specs.Same.{forms};
+ghost use Rattle.plan_meaning.specs.Names.{plan_nodes, forms};
 ghost use Rattle.select_planner.specs.Refusals.{crowded, first_crowded, IsDue};
 ghost use Rattle.select_planner.specs.Shapes.{node_of, edge_of, IsSound, LaysDown};
-ghost use Rattle.select_planner.specs.Steps.{IsPlain, IsPlannable, select_plan};
+ghost use Rattle.select_planner.specs.Steps.{IsPlain, IsPlannable, order_of, select_plan};
 
-use crate::lanes::{add_filters, add_items, add_joint, add_limit};
+use crate::lanes::{add_filters, add_gather, add_items, add_joint, add_limit};
 use crate::nodes::{Plan, PlanEdge, PlanNode, PlanRefusal};
 use crate::parts::{Reading, add_sources, check_table};
 use chunk_data::{List, Memory};
 use plan_graph::{DraftNode, build};
 use port_word::Wire;
 use query_model::checked::{Checked, Expr, Shape};
-use query_model::processor_spec::Spec;
+use query_model::processor_spec::{SortSpec, Spec};
 use query_model::query::TableDecl;
 use std::alloc::Global;
 
@@ -72,7 +71,8 @@ fn lay_steps(
     add_joint(&mut nodes, Spec::Resize, 2, sources, lanes)?;
     add_filters(alloc, &mut nodes, &query.filter, 5, lanes)?;
     add_items(alloc, &mut nodes, plain_items(&query.shape), 6, lanes)?;
-    add_joint(&mut nodes, Spec::Resize, 12, lanes, 1)?;
+    let order = order_of(query, reading.rows)?;
+    add_gather(&mut nodes, order, lanes)?;
     add_limit(&mut nodes, &query.limit)?;
     add_joint(&mut nodes, Spec::Collect, 14, 1, 0)?;
     Ok(nodes)
@@ -86,6 +86,20 @@ fn plain_items(shape: &Shape) -> &List<Expr>
         Shape::Plain(items) => items,
         Shape::Grouped(_) => unreachable!(),
     }
+}
+
+/// The order of the output rows, where there are keys.
+fn order_of(query: &Checked, rows: u32) -> Result<Option<SortSpec>, Memory>
+    ensures { IfOk result (λ order. order ≡ order_of query.now.types rows query.now.order) }
+{
+    if query.order.len() == 0 {
+        return Ok(None);
+    }
+    Ok(Some(SortSpec {
+        keys: query.order.copy()?,
+        types: query.types.copy()?,
+        rows,
+    }))
 }
 
 /// The nodes, and the edges that they make.

@@ -2,16 +2,30 @@ use Rattle.plan_run.proofs.OneBox.{box-read, box-set, only-box}
 use Rattle.plan_run.proofs.boxes.load_at.Goals as goal
 
 pub load_box-requires-clause-blank : goal.load_box-requires-clause-blank
-load_box-requires-clause-blank g c = rw (box-read _ _ _ c.index_mut.result.now c.requires.in_range c.index_mut.ensures.value) at c.requires.blank
+load_box-requires-clause-blank g c =
+    rw (box-read _ _ _ c.index_mut.result.now c.requires.in_range c.index_mut.ensures.value) at
+    c.requires.blank
 
 pub load_box-requires-clause-of_kind : goal.load_box-requires-clause-of_kind
-load_box-requires-clause-of_kind g c = rw (box-read _ _ _ c.index_mut.result.now c.requires.in_range c.index_mut.ensures.value) at c.requires.of_kind
+load_box-requires-clause-of_kind g c =
+    rw (box-read _ _ _ c.index_mut.result.now c.requires.in_range c.index_mut.ensures.value) at
+    c.requires.of_kind
 
 pub returns-clause-only : goal.returns-clause-only
 returns-clause-only g c = only-box _ _ _ _
 
 pub returns-clause-ok : goal.returns-clause-ok
-returns-clause-ok g c = rw (box-read _ _ _ c.index_mut.result.now c.requires.in_range c.index_mut.ensures.value, box-set _ _ _ c.load_box.new.b c.requires.in_range) c.load_box.ensures.ok
+returns-clause-ok g c = rw (
+  box-read _ _ _ c.index_mut.result.now c.requires.in_range
+      c.index_mut.ensures.value,
+  box-set _ _ _ c.load_box.new.b c.requires.in_range,
+)
+    c.load_box.ensures.ok
 
 pub returns-clause-unchanged : goal.returns-clause-unchanged
-returns-clause-unchanged g c = rw (box-read _ _ _ c.index_mut.result.now c.requires.in_range c.index_mut.ensures.value, box-set _ _ _ c.load_box.new.b c.requires.in_range) c.load_box.ensures.unchanged
+returns-clause-unchanged g c = rw (
+  box-read _ _ _ c.index_mut.result.now c.requires.in_range
+      c.index_mut.ensures.value,
+  box-set _ _ _ c.load_box.new.b c.requires.in_range,
+)
+    c.load_box.ensures.unchanged

@@ -4,33 +4,50 @@ use Rattle.plan_run.proofs.Loading.{in-map, loads-still, map-len, next-blank, ne
 use Rattle.plan_run.proofs.boxes.load_boxes.Goals as goal
 
 pub load_at-requires-clause-blank : goal.load_at-requires-clause-blank
-load_at-requires-clause-blank g c = next-blank c.loop-i.i c.args.specs.items _ _ c.loop-i.invariant.loads c.requires.blank (in-map _ c.args.boxes.now.items c.loop-i.i (omega arith))
+load_at-requires-clause-blank g c = next-blank c.loop-i.i c.args.specs.items _ _
+    c.loop-i.invariant.loads c.requires.blank
+    (in-map _ c.args.boxes.now.items c.loop-i.i (omega arith))
 
 pub load_at-requires-clause-of_kind : goal.load_at-requires-clause-of_kind
 load_at-requires-clause-of_kind g c =
-    let in_boxes = in-map (λ b. (goal.Processor-dyn g (b.vtable, b.value)).seen b.value) c.args.boxes.now.items c.loop-i.i (omega arith) in
-    let in_specs : c.loop-i.i < length c.args.specs.items = subst (λ n. c.loop-i.i < n) (same-count _ c.args.boxes.now.items c.args.specs.items c.requires.kinds) in_boxes in
-    next-kind c.loop-i.i c.args.specs.items _ _ c.remove.result c.loop-i.invariant.loads c.requires.kinds in_boxes in_specs (next-spec c.args.specs.items c.loop-i.specs.items c.loop-i.i c.remove.result c.loop-i.invariant.rest c.remove.ensures.value in_specs)
+    let in_boxes = in-map (λ b. (goal.Processor-dyn g (b.vtable, b.value)).seen b.value)
+    c.args.boxes.now.items c.loop-i.i (omega arith) in
+    let in_specs : c.loop-i.i < length c.args.specs.items = subst (λ n. c.loop-i.i < n)
+    (same-count _ c.args.boxes.now.items c.args.specs.items c.requires.kinds) in_boxes in
+    next-kind c.loop-i.i c.args.specs.items _ _ c.remove.result c.loop-i.invariant.loads
+    c.requires.kinds in_boxes in_specs (next-spec c.args.specs.items c.loop-i.specs.items
+    c.loop-i.i c.remove.result c.loop-i.invariant.rest c.remove.ensures.value in_specs)
 
 pub returns-in_err-load_at-clause-still : goal.returns-in_err-load_at-clause-still
 returns-in_err-load_at-clause-still g c =
-    loads-still c.loop-i.i c.args.specs.items _ _ (none-more c.loop-i.i c.args.specs.items _ _ _ c.loop-i.invariant.loads c.in_err-load_at.ensures.only c.in_err-load_at.ensures.unchanged)
+    loads-still c.loop-i.i c.args.specs.items _ _
+    (none-more c.loop-i.i c.args.specs.items _ _ _ c.loop-i.invariant.loads
+    c.in_err-load_at.ensures.only c.in_err-load_at.ensures.unchanged)
 
 pub loop-i-preserved : goal.loop-i-preserved
 loop-i-preserved g c =
-    let in_boxes = in-map (λ b. (goal.Processor-dyn g (b.vtable, b.value)).seen b.value) c.args.boxes.now.items c.loop-i.i (omega arith) in
-    let in_specs : c.loop-i.i < length c.args.specs.items = subst (λ n. c.loop-i.i < n) (same-count _ c.args.boxes.now.items c.args.specs.items c.requires.kinds) in_boxes in
+    let in_boxes = in-map (λ b. (goal.Processor-dyn g (b.vtable, b.value)).seen b.value)
+    c.args.boxes.now.items c.loop-i.i (omega arith) in
+    let in_specs : c.loop-i.i < length c.args.specs.items = subst (λ n. c.loop-i.i < n)
+    (same-count _ c.args.boxes.now.items c.args.specs.items c.requires.kinds) in_boxes in
     record {
-      loads = one-loaded c.loop-i.i c.args.specs.items _ _ _ c.remove.result c.loop-i.invariant.loads c.in_ok-load_at.ensures.only
-          (next-spec c.args.specs.items c.loop-i.specs.items c.loop-i.i c.remove.result c.loop-i.invariant.rest c.remove.ensures.value in_specs) c.in_ok-load_at.ensures.ok;
-      rest = next-rest c.args.specs.items c.loop-i.specs.items c.remove.new.self.items c.loop-i.i c.loop-i.invariant.rest c.remove.ensures.items;
+      loads = one-loaded c.loop-i.i c.args.specs.items _ _ _ c.remove.result
+          c.loop-i.invariant.loads c.in_ok-load_at.ensures.only
+          (next-spec c.args.specs.items c.loop-i.specs.items c.loop-i.i c.remove.result
+          c.loop-i.invariant.rest c.remove.ensures.value in_specs) c.in_ok-load_at.ensures.ok;
+      rest = next-rest c.args.specs.items c.loop-i.specs.items c.remove.new.self.items c.loop-i.i
+          c.loop-i.invariant.rest c.remove.ensures.items;
     }
 
 pub returns-clause-ok : goal.returns-clause-ok
 returns-clause-ok g c =
     let boxes : c.loop-i.i ≡ length c.args.boxes.now.items = omega arith in
-    let end = boxes ∙ sym (map-len _ c.args.boxes.now.items) ∙ same-count _ c.args.boxes.now.items c.args.specs.items c.requires.kinds in
-    subst (λ k. LoadsFirst k c.args.specs.items (map (λ b. (goal.Processor-dyn g (b.vtable, b.value)).seen b.value) c.args.boxes.now.items) (map (λ b. (goal.Processor-dyn g (b.vtable, b.value)).seen b.value) c.loop-i.boxes.items)) end c.loop-i.invariant.loads
+    let end = boxes ∙ sym (map-len _ c.args.boxes.now.items) ∙ same-count _ c.args.boxes.now.items
+    c.args.specs.items c.requires.kinds in
+    subst (λ k. LoadsFirst k c.args.specs.items
+    (map (λ b. (goal.Processor-dyn g (b.vtable, b.value)).seen b.value) c.args.boxes.now.items)
+    (map (λ b. (goal.Processor-dyn g (b.vtable, b.value)).seen b.value) c.loop-i.boxes.items))
+    end c.loop-i.invariant.loads
 
 pub returns-clause-still : goal.returns-clause-still
 returns-clause-still g c = loads-still c.loop-i.i c.args.specs.items _ _ c.loop-i.invariant.loads

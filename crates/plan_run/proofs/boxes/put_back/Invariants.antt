@@ -8,5 +8,6 @@ invariant-loop-box g l = record {
   all : l.rack.boxes.items ++ l.boxes.items ≡ l.initial.rack.boxes.items ++ l.fn.boxes.items;
   count : length l.boxes.items + l._box ≡ length l.fn.boxes.items;
   spare : length l.rack.boxes.items + length l.boxes.items ≤ vec_capacity l.rack.boxes;
-  blank : All IsBlank (map (λ b. (goal.Processor-dyn g (b.vtable, b.value)).seen b.value) l.boxes.items);
+  blank : All IsBlank (map (λ b. (goal.Processor-dyn g (b.vtable, b.value)).seen b.value)
+      l.boxes.items);
 }

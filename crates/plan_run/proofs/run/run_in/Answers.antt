@@ -7,22 +7,28 @@ use Rattle.plan_run.proofs.Telling.{fault-by, if-err, if-ok, plan-gives-back, pl
 use Rattle.plan_run.proofs.run.run_in.Goals as goal
 
 pub run_taken-boxes-requires-clause-blank : goal.run_taken-boxes-requires-clause-blank
-run_taken-boxes-requires-clause-blank g c = subst (All IsBlank) (sym c.take_boxes.ensures.taken) (taken-all IsBlank (kinds_of c.args.specs.items) _ c.requires.stock c.requires.blank)
+run_taken-boxes-requires-clause-blank g c = subst (All IsBlank) (sym c.take_boxes.ensures.taken)
+    (taken-all IsBlank (kinds_of c.args.plan.specs.items) _ c.requires.stock c.requires.blank)
 
 pub run_taken-boxes-requires-clause-kinds : goal.run_taken-boxes-requires-clause-kinds
-run_taken-boxes-requires-clause-kinds g c = ap kinds_in c.take_boxes.ensures.taken ∙ taken-kinds (kinds_of c.args.specs.items) _ c.requires.stock
+run_taken-boxes-requires-clause-kinds g c = ap kinds_in c.take_boxes.ensures.taken
+    ∙ taken-kinds (kinds_of c.args.plan.specs.items) _ c.requires.stock
 
 pub returns-clause-rack : goal.returns-clause-rack
-returns-clause-rack g c = plan-gives-back (kinds_of c.args.specs.items) _ _ _ _ _ c.take_boxes.ensures.taken c.take_boxes.ensures.left c.give_back.ensures c.run_taken-boxes.ensures.later
+returns-clause-rack g c = plan-gives-back (kinds_of c.args.plan.specs.items) _ _ _ _ _
+    c.take_boxes.ensures.taken c.take_boxes.ensures.left c.give_back.ensures
+    c.run_taken-boxes.ensures.later
 
 pub returns-clause-rows : goal.returns-clause-rows
 returns-clause-rows g c =
     if-ok c.run_taken-boxes.result.result _ _
-    (λ chunks h. rows-by _ _ _ _ (λ ended r. plan-runs c.args.specs.items _ _ _ _ _ ended c.take_boxes.ensures.taken c.take_boxes.ensures.left c.give_back.ensures r) h)
+    (λ chunks h. rows-by _ _ _ _ _ (λ ended r. plan-runs c.args.plan.specs.items _ _ _ _ _ ended
+    c.take_boxes.ensures.taken c.take_boxes.ensures.left c.give_back.ensures r) h)
     c.run_taken-boxes.ensures.rows
 
 pub returns-clause-fault : goal.returns-clause-fault
 returns-clause-fault g c =
     if-err c.run_taken-boxes.result.result _ _
-    (λ f h. fault-by _ _ f (λ ended r. plan-runs c.args.specs.items _ _ _ _ _ ended c.take_boxes.ensures.taken c.take_boxes.ensures.left c.give_back.ensures r) h)
+    (λ f h. fault-by _ _ f (λ ended r. plan-runs c.args.plan.specs.items _ _ _ _ _ ended
+    c.take_boxes.ensures.taken c.take_boxes.ensures.left c.give_back.ensures r) h)
     c.run_taken-boxes.ensures.fault

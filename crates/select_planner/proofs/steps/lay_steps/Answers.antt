@@ -2,11 +2,10 @@ use Rattle.std.proofs.Common.{◌≡◌, ◌∷◌, [], List, length, ap, subst,
 use Rattle.query_model.specs.Expressions.{Expr}
 use Rattle.query_model.specs.declared.processor_spec.Spec.{Spec}
 use Rattle.query_model.specs.declared.processor_spec.Spec.TheVariants as spec
-use Rattle.plan_graph.specs.declared.nodes.DraftNode.{DraftNode}
 use Rattle.plan_graph.specs.Blocks.{source_nodes, lane_nodes, joint_node}
-use Rattle.plan_meaning.specs.Plans.{filter_nodes, limit_nodes, collect_node}
-use Rattle.plan_meaning.specs.Same.{forms}
-use Rattle.select_planner.specs.Steps.{table_sources}
+use Rattle.plan_graph.specs.declared.nodes.DraftNode.{DraftNode}
+use Rattle.plan_meaning.specs.Names.{filter_nodes, gather_nodes, limit_nodes, collect_node, forms}
+use Rattle.select_planner.specs.Steps.{order_of, table_sources}
 use Rattle.select_planner.proofs.Laying.{block-more, plain-steps}
 use Rattle.select_planner.proofs.steps.lay_steps.Goals as goal
 
@@ -20,7 +19,8 @@ returns c =
     let b : List DraftNode = joint_node spec.Resize 2 (length sources) c.args.lanes ∷ [] in
     let d : List DraftNode = filter_nodes q.filter 5 c.args.lanes in
     let e : List DraftNode = lane_nodes (spec.Expression items) 6 0 c.args.lanes in
-    let f : List DraftNode = joint_node spec.Resize 12 c.args.lanes 1 ∷ [] in
+    let f : List DraftNode =
+    gather_nodes (order_of q.types c.args.reading.rows q.order) c.args.lanes in
     let g : List DraftNode = limit_nodes q.limit in
     let one : forms c.add_sources.new.nodes ≡ forms a =
     c.in_ok-sources.ensures.nodes ∙ ap (λ l. forms l ++ forms a) c.new-nodes.ensures in
@@ -35,13 +35,14 @@ returns c =
     let four : forms c.add_items.new.nodes ≡ forms (((a ++ b) ++ d) ++ e) =
     block-more c.add_filters.new.nodes c.add_items.new.nodes ((a ++ b) ++ d) e three
     c.in_ok-add_items.ensures in
-    let five : forms c.add_joint-2.new.nodes ≡ forms ((((a ++ b) ++ d) ++ e) ++ f) =
-    block-more c.add_items.new.nodes c.add_joint-2.new.nodes (((a ++ b) ++ d) ++ e) f four
-    c.in_ok-add_joint-2.ensures in
+    let five : forms c.add_gather.new.nodes ≡ forms ((((a ++ b) ++ d) ++ e) ++ f) =
+    block-more c.add_items.new.nodes c.add_gather.new.nodes (((a ++ b) ++ d) ++ e) f four
+    (subst (λ o. forms c.add_gather.new.nodes ≡ forms c.add_items.new.nodes
+    ++ forms (gather_nodes o c.args.lanes)) c.in_ok-order.ensures c.in_ok-add_gather.ensures) in
     let six : forms c.add_limit.new.nodes ≡ forms (((((a ++ b) ++ d) ++ e) ++ f) ++ g) =
-    block-more c.add_joint-2.new.nodes c.add_limit.new.nodes ((((a ++ b) ++ d) ++ e) ++ f) g five
+    block-more c.add_gather.new.nodes c.add_limit.new.nodes ((((a ++ b) ++ d) ++ e) ++ f) g five
     c.in_ok-add_limit.ensures in
-    block-more c.add_limit.new.nodes c.add_joint-3.new.nodes (((((a ++ b) ++ d) ++ e) ++ f) ++ g)
-    (collect_node ∷ []) six c.in_ok-add_joint-3.ensures
+    block-more c.add_limit.new.nodes c.add_joint-2.new.nodes (((((a ++ b) ++ d) ++ e) ++ f) ++ g)
+    (collect_node ∷ []) six c.in_ok-add_joint-2.ensures
     ∙ ap forms (plain-steps q c.args.tables.now c.args.lanes c.args.reading.rows
     c.args.reading.header items c.requires.plannable c.plain_items.ensures)

@@ -1,0 +1,304 @@
+-- What a sort and a merge keep is what they give.
+use Rattle.std.proofs.Common.{◌≡◌, ℕ, zero, suc, ◌+◌, ◌<◌, ◌≤◌, not, Bool, true, false, List, [], ◌∷◌, ◌++◌, append_assoc, length, IsPermutation, IsSorted, refl, sym, ap, ap₂, subst, ◌∙◌, arith, inl, inr, Some}
+use Rattle.std.specs.List.{All, AllByRecursion, Contains}
+use Rattle.std.specs.Ordering.{is_lt}
+use Rattle.std.proofs.lemmas.Bool.{and_parts, cases_eq, cases_lt}
+use Rattle.std.proofs.lemmas.List.{append-nil, length-append}
+use Rattle.std.proofs.lemmas.List.Elements.{All-nil, Contains-append_left}
+use Rattle.std.proofs.lemmas.List.Sorted.{IsPermutation-append_left, IsPermutation-trans}
+use Rattle.chunk_data.specs.Values.{Row, Table, row_cmp}
+use Rattle.chunk_data.specs.declared.typed_value.SortKey.{SortKey}
+use Rattle.query_model.specs.declared.processor_spec.SortSpec.{SortSpec}
+use Rattle.query_model.specs.declared.processor_spec.Spec.{Spec}
+use Rattle.query_model.specs.declared.processor_spec.Spec.TheVariants as spec
+use Rattle.proc_api.specs.Names.{BoxPicture, kept_output, kept_outputs, Lists, chunk_rows, AllFit, FitsInput, FitsOrder, HasReadEnough, IsReadUp, KeepsMade, AreInputsSorted, AreMerged, IsBeforeNone, IsSortOf, NotesEnd, all_rows as first_rows, head_at, head_rows, own_of, unworked_at}
+use Rattle.proc_api.proofs.Keeping.{rows-append}
+use Rattle.proc_api.proofs.KeptFlags.{may-be-input, past-open}
+use Rattle.proc_api.proofs.Orders.{every-append, every-contains, every-front, every-none, every-turned, every-weaker, order-cross, order-from_sorted, order-front, rows-ordered, sorted-from_order}
+use Rattle.plan_meaning.specs.Names.{GivesHeld, GivesMerged, HoldsBack, Stream, all_rows, rows_of, FitFrom, Types, pulled_types}
+use Rattle.plan_meaning.proofs.KindLaws.{sort-exists}
+use Rattle.plan_ends.specs.Ended.{IsKept, KindGives, chunk_types, in_stream, out_stream}
+use Rattle.plan_ends.proofs.KindLaws.{all-worked-at, at-ports, front-of, kept-rows, made-typed, one-fits, stays-open, types-fit}
+use Rattle.plan_ends.proofs.ResizeLaws.{all-done, all-ports, at_ports, each-port, none-past, split-rows}
+
+front-none : (xs ys : List Row) → xs ++ ys ≡ [] → xs ≡ []
+front-none [] ys e = refl
+front-none (x ∷ xs) ys e = absurd (cc)
+
+back-none : (xs ys : List Row) → xs ++ ys ≡ [] → ys ≡ []
+back-none [] ys e = e
+back-none (x ∷ xs) ys e = absurd (cc)
+
+-- an input whose end is noted is read up
+read-up : (s : Spec) (files : _) (takes gives : ℕ) (p : BoxPicture) (ins outs : Lists)
+    → IsKept s files takes gives p ins outs → (i : ℕ) → i < takes
+    → NotesEnd (Some s) (own_of p.work) i → IsReadUp p i
+read-up s files takes gives p ins outs k i lt n =
+    k.keeps.noted i (may-be-input p takes i (inr k.inputs) lt)
+    (subst (λ z. NotesEnd z (own_of p.work) i) (sym k.loaded) n)
+
+-- ---- sorts
+
+sort-held : (order : SortSpec) (files : _) (p : BoxPicture) (ins outs : Lists)
+    → IsKept (spec.Sort order) files 1 1 p ins outs → KeepsMade (spec.Sort order) p ins outs
+    → (b : Bool) → p.work.ended ≡ b
+    → GivesHeld (IsSortOf order.keys (chunk_rows (ins 0))) (in_stream p ins 0).done
+    (out_stream p outs 0)
+sort-held order files p ins outs k m true e =
+    let r = read-up (spec.Sort order) files 1 1 p ins outs k 0 (omega arith) e in
+    let all : chunk_rows (m.worked 0) ≡ chunk_rows (ins 0) =
+    ap chunk_rows (sym (append-nil (m.worked 0)) ∙ ap (λ l. m.worked 0 ++ l) (sym r.all_worked)
+    ∙ sym (m.ins_are 0)) in
+    let left : List Row = chunk_rows p.work.made ++ p.work.unmade in
+    record {
+      held = λ some. ap not r.not_closed;
+      done_held = λ done. ap not r.not_closed;
+      whole = λ open'. record {
+        rows = chunk_rows (outs 0) ++ left;
+        makes = subst (λ l. IsSortOf order.keys l (chunk_rows (outs 0) ++ left)) all
+            (subst (IsSortOf order.keys (chunk_rows (m.worked 0)))
+            (append_assoc (chunk_rows (outs 0)) (chunk_rows p.work.made) p.work.unmade)
+            (m.rows.sorted e));
+        front = front-of (chunk_rows (outs 0) ++ left) p.work.unmade p outs refl
+            (λ f. let end = m.over 0 f in (end.nothing_waits, end.all_made));
+      };
+    }
+sort-held order files p ins outs k m false e =
+    let g = m.rows.gathered e in
+    let none : chunk_rows (outs 0) ≡ [] =
+    front-none (chunk_rows (outs 0)) (chunk_rows p.work.made) g.nothing_made in
+    let unfinished : (kept_output p 0).fin_out ≡ true → ⊥ =
+    (λ f. let end = m.over 0 f in let c : false ≡ true = sym e ∙ end.noted in cc) in
+    let x = sort-exists order.keys (chunk_rows (ins 0)) in
+    record {
+      held = λ some. absurd (let l = ap length none in omega (arith, l, some));
+      done_held = λ done. absurd (unfinished (and_parts _ _ done).0);
+      whole = λ open'. record {
+        rows = x.0;
+        makes = x.1;
+        front = record {
+          rest = x.0;
+          is = ap (λ l. l ++ x.0) none;
+          all = λ done. absurd (unfinished (and_parts _ _ done).0);
+        };
+      };
+    }
+
+-- A sort gives the rows of its input in an order that its keys allow.
+pub sort-gives : (order : SortSpec) → KindGives (spec.Sort order)
+sort-gives order files takes gives n p ins outs k =
+    let s : Spec = spec.Sort order in
+    at-ports s files n takes gives 1 1 p ins outs k.ports.0 k.ports.1
+    (λ h. record {
+      gives = λ fit. sort-held order files p ins outs h
+          (kept-rows s files 1 1 p ins outs h
+          (one-fits s (FitsOrder order) ins (λ i t x. x) h.nothing_past fit.0)) p.work.ended refl;
+      typed = λ fit. (
+        made-typed s p ins outs (chunk_types (ins 0) ++ []) 0 h.loaded h.keeps (λ t e. e),
+        tt,
+      );
+    }) k
+
+-- ---- merges
+
+-- what is true of the rows at each of so many ports
+rows-at : (P : List Row → Type 0) (f : ℕ → Stream) (n i k : ℕ)
+    → AllByRecursion P (rows_of (at_ports f n i k)) → (j : ℕ) → i ≤ j → j < i + k → P (f j).rows
+rows-at P f n i zero h j le lt = absurd (omega (arith, le, lt))
+rows-at P f n i (suc k) h j le lt = elim (cases_eq j i) [
+  | inl z ↦ subst (λ m. P (f m).rows) (sym z) h.0
+  | inr ne ↦ rows-at P f n (suc i) k h.1 j (omega (arith, le, ne)) (omega (arith, lt))
+]
+
+-- each chunk that was pulled fits, where those at each port do
+all-fit-at : (s : Spec) (p : BoxPicture) (ins : Lists) (n takes : ℕ)
+    → ((i : ℕ) → takes ≤ i → ins i ≡ []) → FitFrom s 0 (at_ports (in_stream p ins) n 0 takes)
+    → AllFit (Some s) ins
+all-fit-at s p ins n takes past fit i = elim (cases_lt i takes) [
+  | inl lt ↦ types-fit (FitsInput (Some s) i) (ins i)
+      (go 0 takes fit i (omega arith) (omega (arith, lt)))
+  | inr le ↦ subst (λ l. All (λ (t : Table). FitsInput (Some s) i t.types) l) (sym (past i le))
+      (All-nil (λ (t : Table). FitsInput (Some s) i t.types))
+]
+  where
+    go : (j k : ℕ) → FitFrom s j (at_ports (in_stream p ins) n j k) → (i : ℕ) → j ≤ i → i < j + k
+        → AllByRecursion (FitsInput (Some s) i) (chunk_types (ins i))
+    go j zero f i le lt = absurd (omega (arith, le, lt))
+    go j (suc k) f i le lt = elim (cases_eq i j) [
+      | inl z ↦ subst (λ m. AllByRecursion (FitsInput (Some s) m) (chunk_types (ins m))) (sym z) f.0
+      | inr ne ↦ go (suc j) k f.1 i (omega (arith, le, ne)) (omega (arith, lt))
+    ]
+
+every-list : (P : Row → Type 0) (n : ℕ) (lists : Lists)
+    → ((i : ℕ) → i < n → AllByRecursion P (chunk_rows (lists i)))
+    → AllByRecursion P (first_rows n lists)
+unfolding first_rows
+every-list P zero lists h = tt
+every-list P (suc n) lists h = every-append P (first_rows n lists) (chunk_rows (lists n))
+    (every-list P n lists (λ i lt. h i (omega (arith, lt)))) (h n (omega arith))
+
+module _ (order : SortSpec) (files : _) (takes : ℕ) (p : BoxPicture) (ins outs : Lists)
+    (k : IsKept (spec.MergeSorted order) files takes 1 p ins outs)
+    (m : KeepsMade (spec.MergeSorted order) p ins outs) where
+  abbrev keys : List SortKey
+  keys = order.keys
+
+  abbrev lt : Row → Row → Bool
+  lt a b = is_lt (row_cmp keys a b)
+
+  abbrev out : List Row
+  out = chunk_rows (outs 0)
+
+  abbrev made : List Row
+  made = chunk_rows p.work.made
+
+  abbrev waits : List Row
+  waits = made ++ (head_rows p.work.heads ++ first_rows 32 (unworked_at p.work))
+
+  merged : AreMerged keys p.work.heads m.worked (out ++ made)
+  merged = m.rows.1
+
+  -- none comes in at an input past the last one
+  ended-past : (i : ℕ) → takes ≤ i → (in_stream p ins i).done ≡ true
+  ended-past i le = ap not (past-open p i (let e = k.inputs in omega (arith, e, le)))
+
+  -- the rows of an input are those worked and those that aren't yet
+  rows-are : (i : ℕ) → chunk_rows (ins i) ≡ chunk_rows (m.worked i) ++ chunk_rows
+      (unworked_at p.work i)
+  rows-are i = ap chunk_rows (m.ins_are i) ∙ rows-append (m.worked i) (unworked_at p.work i)
+
+  -- an input whose end is noted is done, and all of it is worked
+  noted-done : (i : ℕ) → (head_at p.work.heads i).ended ≡ true
+      → ((in_stream p ins i).done ≡ true) × (chunk_rows (unworked_at p.work i) ≡ [])
+  noted-done i e = elim (cases_lt i takes) [
+    | inl less ↦
+        let r = read-up (spec.MergeSorted order) files takes 1 p ins outs k i less e in
+        (ap not r.not_closed, ap chunk_rows r.all_worked)
+    | inr le ↦ (
+      ended-past i le,
+      back-none (chunk_rows (m.worked i)) (chunk_rows (unworked_at p.work i))
+          (sym (rows-are i) ∙ ap chunk_rows (k.nothing_past i le)),
+    )
+  ]
+
+  -- the rows at the ports are in order, and so are those of all inputs
+  inputs-sorted : (n : ℕ)
+      → AllByRecursion (λ rows. IsSorted (row_cmp keys) rows)
+      (rows_of (at_ports (in_stream p ins) n 0 takes)) → AreInputsSorted keys ins
+  inputs-sorted n s i = elim (cases_lt i takes) [
+    | inl less ↦ rows-at (λ rows. IsSorted (row_cmp keys) rows) (in_stream p ins) n 0 takes s i
+        (omega arith) (omega (arith, less))
+    | inr le ↦ subst (λ l. IsSorted (row_cmp keys) (chunk_rows l)) (sym (k.nothing_past i le))
+        (λ j d low high. absurd (omega (arith, high)))
+  ]
+
+  worked-sorted : AreInputsSorted keys ins → AreInputsSorted keys m.worked
+  worked-sorted s i =
+      let o = rows-ordered keys in
+      sorted-from_order lt o (chunk_rows (m.worked i))
+      (order-front lt o (chunk_rows (m.worked i)) (chunk_rows (unworked_at p.work i))
+      (order-from_sorted lt o _ (subst (IsSorted (row_cmp keys)) (rows-are i) (s i))))
+
+  -- no row that isn't worked yet comes before one that is out
+  unworked-behind : AreInputsSorted keys ins → 0 < length out → (i : ℕ) → i < 32
+      → AllByRecursion (λ y. IsBeforeNone keys y out) (chunk_rows (unworked_at p.work i))
+  unworked-behind s some i less =
+      elim (merged.held_back (let l = length-append out made in omega (arith, l, some)) i less) [
+        | inl e ↦ subst (AllByRecursion (λ y. IsBeforeNone keys y out)) (sym (noted-done i e).1) tt
+        | inr w ↦
+            let o = rows-ordered keys in
+            every-weaker (λ y. lt y w.0 ≡ false) (λ y. IsBeforeNone keys y out)
+            (λ y b. every-weaker (λ x. lt w.0 x ≡ false) (λ x. lt y x ≡ false)
+            (λ x c. o.chain y w.0 x b c) out (every-front (λ x. lt w.0 x ≡ false) out made w.2))
+            (chunk_rows (unworked_at p.work i))
+            (every-contains (λ x. AllByRecursion (λ y. lt y x ≡ false)
+            (chunk_rows (unworked_at p.work i))) (chunk_rows (m.worked i)) w.0
+            (order-cross lt o (chunk_rows (m.worked i)) (chunk_rows (unworked_at p.work i))
+            (order-from_sorted lt o _ (subst (IsSorted (row_cmp keys)) (rows-are i) (s i)))) w.1)
+      ]
+
+  behind-out : AreInputsSorted keys ins → (rows : List Row) → out ≡ rows
+      → AllByRecursion (λ y. IsBeforeNone keys y rows) waits
+  behind-out s [] e = every-none (λ y x. lt y x ≡ false) waits
+  behind-out s (r ∷ rows) e =
+      let o = rows-ordered keys in
+      let sorted = worked-sorted s in
+      let some : 0 < length out = let l = ap length e in omega (arith, l) in
+      let P : Row → Type 0 = λ y. IsBeforeNone keys y out in
+      subst (λ l. AllByRecursion (λ y. IsBeforeNone keys y l) waits) e
+      (every-append P made (head_rows p.work.heads ++ first_rows 32 (unworked_at p.work))
+      (every-turned (λ x y. lt y x ≡ false) out made
+      (order-cross lt o out made (order-from_sorted lt o (out ++ made) (merged.in_order sorted))))
+      (every-append P (head_rows p.work.heads) (first_rows 32 (unworked_at p.work))
+      (every-weaker (λ y. IsBeforeNone keys y (out ++ made)) P
+      (λ y b. every-front (λ x. lt y x ≡ false) out made b) (head_rows p.work.heads)
+      (merged.before_held sorted))
+      (every-list P 32 (unworked_at p.work) (unworked-behind s some))))
+
+  -- an input holds back what is out
+  holds-back : 0 < length out → (i : ℕ) → HoldsBack keys out (in_stream p ins i)
+  holds-back some i = elim (cases_lt i takes) [
+    | inr le ↦ inl (ended-past i le)
+    | inl less ↦ elim (merged.held_back (let l = length-append out made in omega (arith, l, some)) i
+        (let few = k.few_inputs in omega (arith, less, few))) [
+          | inl e ↦ inl (noted-done i e).0
+          | inr w ↦ inr (
+            w.0,
+            subst (λ l. Contains l w.0) (sym (rows-are i))
+                (Contains-append_left (chunk_rows (m.worked i)) (chunk_rows (unworked_at p.work i))
+                w.0 w.1),
+            every-front (λ x. lt w.0 x ≡ false) out made w.2,
+          )
+        ]
+  ]
+
+  same-rows : IsPermutation (first_rows 32 ins) (out ++ waits)
+  same-rows =
+      let heads : List Row = head_rows p.work.heads in
+      let left : List Row = first_rows 32 (unworked_at p.work) in
+      IsPermutation-trans _ _ _ (split-rows 32 ins m.worked (unworked_at p.work) m.ins_are)
+      (subst (IsPermutation (first_rows 32 m.worked ++ left))
+      (append_assoc (out ++ made) heads left ∙ append_assoc out made (heads ++ left))
+      (IsPermutation-append_left left _ _ merged.same_rows))
+
+  nothing-left : (kept_output p 0).fin_out ≡ true → waits ≡ []
+  unfolding first_rows
+  nothing-left f =
+      let end = m.over 0 f in
+      ap₂ (λ a b. a ++ b) (ap chunk_rows end.nothing_waits)
+      (ap₂ (λ a b. a ++ b) end.noted
+      (none-past (unworked_at p.work) 0 32 (λ i le. all-worked-at p.work i end.all_worked)))
+
+  merge-held : (n : ℕ)
+      → GivesMerged keys (at_ports (in_stream p ins) n 0 takes) (out_stream p outs 0)
+  merge-held n =
+      let rows : all_rows (rows_of (at_ports (in_stream p ins) n 0 takes)) ≡ first_rows 32 ins =
+      all-ports ins (in_stream p ins) (λ i. refl) n takes 32 k.few_inputs k.nothing_past in
+      let one : 0 < kept_outputs p = let e = k.outputs in omega (arith, e) in
+      let o = rows-ordered keys in
+      record {
+        waits = waits;
+        rows = subst (λ l. IsPermutation l (out ++ waits)) (sym rows) same-rows;
+        in_order = λ s. sorted-from_order lt o out (order-front lt o out made
+            (order-from_sorted lt o (out ++ made)
+            (merged.in_order (worked-sorted (inputs-sorted n s)))));
+        before_waits = λ s. behind-out (inputs-sorted n s) out refl;
+        held = λ some. each-port (HoldsBack keys out) (in_stream p ins) (holds-back some) n 0 takes;
+        nothing_waits = λ done. nothing-left (and_parts _ _ done).0;
+        inputs_done = λ done. all-done (in_stream p ins) (λ i. stays-open p ins outs i 0 k.keeps
+            (subst (λ z. HasReadEnough z ins → ⊥) (sym k.loaded) (λ x. x)) one done) n 0 takes;
+      }
+
+-- A merge gives the rows of its inputs, in order where each of these is.
+pub merge-gives : (order : SortSpec) → KindGives (spec.MergeSorted order)
+merge-gives order files takes gives n p ins outs k =
+    let s : Spec = spec.MergeSorted order in
+    at-ports s files n takes gives takes 1 p ins outs refl k.ports
+    (λ h.
+    let from : List Types = pulled_types (at_ports (in_stream p ins) n 0 takes) in
+    record {
+      gives = λ fit. merge-held order files takes p ins outs h
+          (kept-rows s files takes 1 p ins outs h (all-fit-at s p ins n takes h.nothing_past fit))
+          n;
+      typed = λ fit. (made-typed s p ins outs from 0 h.loaded h.keeps (λ t e. e), tt);
+    }) k

@@ -1,0 +1,9 @@
+use Rattle.std.proofs.Common.{◌≡◌, ◌++◌}
+use Rattle.query_model.specs.declared.processor_spec.Spec.TheVariants as spec
+use Rattle.plan_graph.specs.Blocks.{lane_nodes}
+use Rattle.plan_meaning.specs.Same.{forms}
+use Rattle.select_planner.proofs.lanes.add_sorts.Given as goal
+
+abbrev pub invariant-loop-lane : goal.invariant-loop-lane
+invariant-loop-lane l =
+    forms l.nodes ≡ forms l.initial.nodes ++ forms (lane_nodes (spec.Sort l.order) 11 0 l.lane)
