@@ -1,42 +1,32 @@
 -- Why a plan gave no text, as what is said of the command, its part and the box that served it.
-use Rattle.std.proofs.Common.{◌≡◌, ◌≢◌, ℕ, zero, suc, ◌<◌, ◌≤◌, true, List, [], ◌∷◌, length, slice_get, Option, Some, refl, sym, ap, ap₂, subst, ◌∙◌, arith, inl, inr}
-use Rattle.std.specs.Prelude.{flat_map, IfSome}
-use Rattle.std.specs.List.{All, Contains}
+use Rattle.std.proofs.Common.{◌≡◌, ◌≢◌, ℕ, zero, suc, ◌<◌, ◌≤◌, true, List, [], ◌∷◌, length, map, Some, refl, sym, ap, subst, ◌∙◌, arith, inl, inr}
+use Rattle.std.specs.Prelude.{IfSome, slice_get}
+use Rattle.std.specs.List.{All}
+use Rattle.std.proofs.lemmas.List.{length-map}
 use Rattle.outside_io.specs.Counts.{Rose}
-use Rattle.query_model.specs.Database.{Files, used_parts, parts_used, join_use, part_bad_place}
-use Rattle.query_model.specs.Kinds.{kind_of}
+use Rattle.query_model.specs.Names.{Files, part_bad_place, kind_of}
 use Rattle.query_model.specs.declared.places.BadPlace.{BadPlace}
 use Rattle.query_model.specs.declared.checked.Checked.{Checked}
-use Rattle.query_model.specs.declared.checked.CheckedJoin.{CheckedJoin}
-use Rattle.query_model.specs.declared.checked.TableUse.{TableUse}
-use Rattle.query_model.specs.declared.checked.TableUse.TheVariants.{Declared}
-use Rattle.query_model.specs.declared.query.PartsDecl.{PartsDecl}
-use Rattle.query_model.specs.declared.query.TableDecl.{TableDecl}
-use Rattle.query_model.specs.declared.processor_spec.Kind.TheVariants as kind
 use Rattle.query_model.specs.declared.processor_spec.PartSpec.{PartSpec}
 use Rattle.query_model.specs.declared.processor_spec.Spec.{Spec}
+use Rattle.query_model.specs.declared.processor_spec.Kind.TheVariants as kind
 use Rattle.query_model.specs.declared.processor_spec.Spec.TheVariants as spec
-use Rattle.command_line.specs.Words.{IsPlainCommand}
+use Rattle.command_line.specs.Words.{IsWithinLimits}
 use Rattle.command_line.specs.declared.words.Command.{Command}
-use Rattle.proc_api.specs.Boxes.{BoxPicture}
-use Rattle.proc_api.specs.Clauses.{IsSourceKind, HasNoReader, OfPart, IsLongFile}
-use Rattle.proc_api.specs.Histories.{raised}
+use Rattle.proc_api.specs.Names.{BoxPicture, IsSourceKind, HasNoReader, OfPart, IsLongFile, raised}
+use Rattle.proc_api.specs.declared.status.WorkFault.{WorkFault}
 use Rattle.proc_api.specs.declared.status.WorkFault.TheVariants as fault
 use Rattle.exec_laws.specs.Runs.{box_at}
-use Rattle.plan_laws.specs.Plans.{plan_specs}
+use Rattle.plan_graph.specs.declared.nodes.DraftNode.{DraftNode}
+use Rattle.plan_meaning.specs.Names.{plan_nodes, forms}
+use Rattle.plan_ends.proofs.NodeKinds.{kinds-same}
 use Rattle.plan_run.specs.Stock.{HasStock}
-use Rattle.plan_run.specs.Plans.{kinds_of, spec_at, taken_at, FailsWith, LeavesRack, PlanFaultHolds, RanWith, ReadsByKind, RunsPlan}
+use Rattle.plan_run.specs.Plans.{kinds_of, spec_at, taken_at, FailsWith, LeavesRack, PlanFaultHolds, RanWith, RunsPlan}
 use Rattle.plan_run.specs.declared.run.PlanFault.{PlanFault}
 use Rattle.plan_run.specs.declared.run.PlanFault.TheVariants as end
-use Rattle.query_run.specs.declared.ending.PartFailure.{PartFailure}
+use Rattle.query_run.specs.Names.{PartName, PartFailure, PlanFailure, IsRunnable, OverFiles, RanPlan, plan_of, specs_in, IsCheckedCommand, FailsAtPart, LeavesPlan, PartFailsFor, PlanFailsFor, ServesPart, IsPlanFault, Tells, failure_of, name_at, name_of, part_of_node, part_place}
 use Rattle.query_run.specs.declared.ending.PartFailure.TheVariants as part
-use Rattle.query_run.specs.Racks.{HasBoxes, OverFiles, RanPlan}
-use Rattle.query_run.specs.Commands.{IsCheckedCommand}
-use Rattle.query_run.specs.Causes.{FailsAtPart, LeavesPlan, PartFailsFor, part_read, PlanFailsFor, ServesPart}
-use Rattle.query_run.specs.Steps.{failure_of, first_part, IsPlanFault, items_of, part_spec}
-use Rattle.query_run.proofs.Tables.{IsOfOneTable}
-use Rattle.query_run.proofs.Composing.{first_is_source, of_the_table, one_path_of}
-use Rattle.query_run.proofs.Plans.{plan-kinds, plan-stock, first-spec, later-specs, ran-at, ended-kind, ended-lawful, ended-files}
+use Rattle.query_run.proofs.Plans.{IsUsedPart, ended-files, ended-kind, ended-lawful, part_at, plan_stock, ran-at}
 
 -- ---- counts
 
@@ -62,18 +52,18 @@ no-list-at specs n all lt = all n spec.Collect lt
 pub plan-fault : (specs : List Spec) (before after : List BoxPicture) (f : PlanFault)
     → All (λ (s : Spec). kind_of s ≢ kind.List) specs → HasStock (kinds_of specs) before
     → PlanFaultHolds f (RunsPlan specs before after) → IsPlanFault f
-plan-fault specs before after (end.Fault node fault.Memory) no_list stock h = h.fault.not_memory refl
-plan-fault specs before after (end.Fault node fault.Read) no_list stock h = tt
-plan-fault specs before after (end.Fault node fault.Stalled) no_list stock h = tt
-plan-fault specs before after (end.Fault node fault.TooLong) no_list stock h = tt
-plan-fault specs before after (end.Fault node (fault.Bad place)) no_list stock h = tt
-plan-fault specs before after (end.Fault node (fault.BadList line)) no_list stock h =
+plan-fault specs before after (end.Fault node fault.Memory) lists stock h = h.fault.not_memory refl
+plan-fault specs before after (end.Fault node fault.Read) lists stock h = tt
+plan-fault specs before after (end.Fault node fault.Stalled) lists stock h = tt
+plan-fault specs before after (end.Fault node fault.TooLong) lists stock h = tt
+plan-fault specs before after (end.Fault node (fault.Bad place)) lists stock h = tt
+plan-fault specs before after (end.Fault node (fault.BadList line)) lists stock h =
     let lt : node < length h.ended = h.fault.in_range in
     let listed : kind_of (spec_at specs node) ≡ kind.List =
     sym (ended-kind specs before after h.ended stock h.runs node lt) ∙ h.fault.keeps.holds in
-    no-list-at specs node no_list (subst (λ k. node < k) h.runs.count lt) listed
-plan-fault specs before after (end.Stuck k) no_list stock h = tt
-plan-fault specs before after end.Memory no_list stock h = tt
+    no-list-at specs node lists (subst (λ k. node < k) h.runs.count lt) listed
+plan-fault specs before after (end.Stuck k) lists stock h = tt
+plan-fault specs before after end.Memory lists stock h = tt
 
 -- ---- what a lawful box's fault says of its part
 
@@ -86,160 +76,180 @@ of-part p part files P s f h =
     subst (λ s. OfPart s (λ part. IfSome p.files (P part))) s h in
     subst (λ o. IfSome o (P part)) f at_part
 
--- ---- the plan of a query over one part
+-- ---- the run of a query's plan
 
-module _ (command : Command) (p : IsPlainCommand command) (q : Checked) (h : IsCheckedCommand command q) (rows : ℕ) (before after : List BoxPicture) (boxes : HasBoxes q before) where
-  abbrev part_of : PartSpec
-  part_of = part_spec command.header rows p.table
+-- the place that was noted of a node is that of its spec
+place-at : (specs : List Spec) (n : ℕ) → n < length specs
+    → slice_get (map part_place specs) n ≡ Some (part_place (spec_at specs n))
+unfolding spec_at
+place-at [] n lt = absurd (omega (arith, lt))
+place-at (s ∷ specs) zero lt = refl
+place-at (s ∷ specs) (suc n) lt = place-at specs n (omega (arith, lt))
 
+module _ (c : Command) (within : IsWithinLimits c) (q : Checked) (h : IsCheckedCommand c q)
+    (before after : List BoxPicture) (runnable : IsRunnable c q before)
+    (nodes : List DraftNode) (same : forms nodes ≡ forms (plan_nodes (plan_of c q))) where
   abbrev specs : List Spec
-  specs = plan_specs part_of q.filter (items_of q.shape)
+  specs = specs_in nodes
 
-  stock : HasStock (kinds_of specs) before
-  stock = plan-stock part_of (items_of q.shape) q before boxes
+  pub stock : HasStock (kinds_of specs) before
+  stock =
+      subst (λ ks. HasStock ks before) (sym (kinds-same nodes (plan_nodes (plan_of c q)) same))
+      (plan_stock c q h before runnable.boxes)
 
   -- the plan ran
-  abbrev ran : (ended : List BoxPicture) → RunsPlan specs before after ended → RanPlan q before after
-  ran ended run = record {
-    specs = specs;
-    kinds = plan-kinds part_of (items_of q.shape) q.filter;
-    ended = ended;
-    runs = run;
-  }
+  abbrev pub ran : (ended : List BoxPicture) → RunsPlan specs before after ended → RanPlan c q before after
+  ran ended run = record { nodes = nodes; same = same; ended = ended; runs = run }
 
-  -- the query uses one part
-  one_used : (files : Files) → used_parts files command.tables q ≡ part_read part_of ∷ []
-  one_used files =
-      let one : IsOfOneTable q = of_the_table command p q h in
-      let used : q.from ∷ join_use q.join ≡ Declared 0 ∷ [] =
-      ap₂ (λ (from : TableUse) (join : Option CheckedJoin). from ∷ join_use join) one.from one.join in
-      ap (λ us. flat_map (parts_used files command.tables) us) used
-      ∙ ap (λ (ts : List TableDecl). flat_map (parts_used files ts) (Declared 0 ∷ [])) p.one_table
-      ∙ ap (λ (paths : PartsDecl). flat_map (parts_used files (record { schema = p.table.schema; parts = paths } ∷ [])) (Declared 0 ∷ [])) (one_path_of command p)
+  module _ (ended : List BoxPicture) (run : RunsPlan specs before after ended) (node : ℕ)
+      (lt : node < length ended) (source : IsSourceKind (box_at ended node).kind) where
+    kind_source : IsSourceKind (kind_of (spec_at specs node))
+    kind_source = subst IsSourceKind (ended-kind specs before after ended stock run node lt) source
 
-  -- the first node serves it
-  serves : ServesPart command q before specs 0 (first_part p.table)
-  serves = record {
-    part = part_of;
-    loaded = first-spec part_of (items_of q.shape) q.filter;
-    header = refl;
-    table = p.table;
-    declared = ap (λ (ts : List TableDecl). slice_get ts 0) p.one_table;
-    named = refl;
-    used = λ files told. subst (λ l. Contains l (part_read part_of)) (sym (one_used files))
-        (0, omega arith, refl);
-  }
+    in_specs : node < length specs
+    in_specs = subst (λ n. node < n) run.count lt
 
-  -- only the source answers a fault of a reader or of a part
-  no-later : (node : ℕ) (ended : List BoxPicture) → RunsPlan specs before after ended
-      → suc node < length ended → IsSourceKind (box_at ended (suc node)).kind → ⊥
-  no-later node ended run lt source =
-      later-specs part_of (items_of q.shape) q.filter node (subst (λ k. suc node < k) run.count lt)
-      (subst IsSourceKind (ended-kind specs before after ended stock run (suc node) lt) source)
+    in_nodes : node < length nodes
+    in_nodes = subst (λ n. node < n) (length-map nodes (λ (n : DraftNode). n.spec)) in_specs
 
-  no-reader : (node : ℕ) (ended : List BoxPicture) → RunsPlan specs before after ended
-      → suc node < length ended → ReadsByKind (box_at ended (suc node)) → HasNoReader (box_at ended (suc node))
-  no-reader node ended run lt (inl source) = absurd (no-later node ended run lt source)
-  no-reader node ended run lt (inr none) = none
+    -- the node reads a part that the query uses
+    abbrev part_of : PartSpec
+    part_of = (part_at c within q h nodes same node in_nodes kind_source).0
 
-  module _ (ended : List BoxPicture) (run : RunsPlan specs before after ended) where
+    loaded : spec_at specs node ≡ spec.Csv part_of
+    loaded = (part_at c within q h nodes same node in_nodes kind_source).1
+
+    uses : IsUsedPart c q part_of
+    uses = (part_at c within q h nodes same node in_nodes kind_source).2
+
+    -- the box that ran it, as it was taken and as it was given back
     abbrev taken : BoxPicture
-    taken = taken_at (kinds_of specs) before 0
+    taken = taken_at (kinds_of specs) before node
 
     abbrev given : BoxPicture
-    given = box_at run.given 0
+    given = box_at run.given node
 
-    -- the first box ran with the part
-    ran-first : 0 < length ended → RanWith (spec.Csv part_of) taken (box_at ended 0)
-    ran-first lt =
-        subst (λ s. RanWith s taken (box_at ended 0)) (first-spec part_of (items_of q.shape) q.filter)
-        (ran-at specs before after ended stock run 0 lt)
+    ran_part : RanWith (spec.Csv part_of) taken (box_at ended node)
+    ran_part =
+        subst (λ s. RanWith s taken (box_at ended node)) loaded
+        (ran-at specs before after ended stock run node lt)
+
+    serves : ServesPart c q before specs node (part_of_node c.tables specs node)
+    serves = record {
+      part = part_of;
+      loaded = loaded;
+      header = uses.header_is;
+      table = uses.table;
+      declared = uses.declared;
+      named = ap (name_at c.tables)
+          (place-at specs node in_specs ∙ ap (λ s. Some (part_place s)) loaded)
+          ∙ ap (λ t. record { table = name_of t; part = part_of.part }) uses.declared;
+      used = λ files told. uses.among files;
+    }
 
     fails-at : (f : PartFailure) → PartFailsFor f part_of before taken given
-        → FailsAtPart (first_part p.table) f command q before after
+        → FailsAtPart (part_of_node c.tables specs node) f c q before after
     unfolding serves
     fails-at f why = record {
-      boxes = boxes;
+      runnable = runnable;
       ran = ran ended run;
-      node = 0;
+      node = node;
       serves = serves;
       fails = why;
     }
 
-    given-faults : 0 < length ended → given.faults ≡ (box_at ended 0).faults
-    given-faults lt = (run.unloaded 0 (subst (λ k. 0 < k) run.count lt)).counts.faults
+    given_faults : given.faults ≡ (box_at ended node).faults
+    given_faults = (run.unloaded node in_specs).counts.faults
 
-    given-pendings : 0 < length ended → given.pendings ≡ (box_at ended 0).pendings
-    given-pendings lt = (run.unloaded 0 (subst (λ k. 0 < k) run.count lt)).counts.pendings
+    given_pendings : given.pendings ≡ (box_at ended node).pendings
+    given_pendings = (run.unloaded node in_specs).counts.pendings
 
     -- what a lawful box says of its part, over the files that it tells
-    due : (P : PartSpec → Files → Type 0) → 0 < length ended
-        → ((box_at ended 0).lawful ≡ true → OfPart (box_at ended 0).spec (λ part. IfSome (box_at ended 0).files (P part)))
+    due : (P : PartSpec → Files → Type 0)
+        → ((box_at ended node).lawful ≡ true
+        → OfPart (box_at ended node).spec (λ part. IfSome (box_at ended node).files (P part)))
         → OverFiles before (P part_of)
-    due P lt is_due = λ files told.
-        let lawful = ended-lawful specs before after ended stock run files told 0 lt in
-        of-part (box_at ended 0) part_of files P (ran-first lt).spec
-        (ended-files specs before after ended stock run files told 0 lt (first_is_source part_of (items_of q.shape) q.filter)) (is_due lawful)
+    due P is_due = λ files told.
+        let lawful = ended-lawful specs before after ended stock run files told node lt in
+        of-part (box_at ended node) part_of files P ran_part.spec
+        (ended-files specs before after ended stock run files told node lt kind_source)
+        (is_due lawful)
 
   -- ---- each fault
 
+  -- a box that keeps a fault of a reader is a source's
+  module _ (node : ℕ) (f : WorkFault) (w : FailsWith (RunsPlan specs before after) node f) where
+    at_source : (HasNoReader (box_at w.ended node) → ⊥) → IsSourceKind (box_at w.ended node).kind
+    at_source some = elim w.reader [ inl source ↦ source | inr none ↦ absurd (some none) ]
+
+    ran-with : RanWith (spec_at specs node) (taken_at (kinds_of specs) before node)
+        (box_at w.ended node)
+    ran-with = ran-at specs before after w.ended stock w.runs node w.fault.in_range
+
+  abbrev names : ℕ → PartName
+  names node = part_of_node c.tables specs node
+
   read-cause : (node : ℕ) → FailsWith (RunsPlan specs before after) node fault.Read
-      → FailsAtPart (first_part p.table) part.Read command q before after
-  read-cause zero f =
-      let lt : 0 < length f.ended = f.fault.in_range in
-      let r = ran-first f.ended f.runs lt in
-      fails-at f.ended f.runs part.Read
-      (subst (λ n. Rose (taken f.ended f.runs).faults n) (sym (given-faults f.ended f.runs lt))
-      (rose-by-one _ (box_at f.ended 0).notes.faults (box_at f.ended 0).faults f.fault.keeps.holds r.faults_since))
-  read-cause (suc node) f =
-      let none = no-reader node f.ended f.runs f.fault.in_range f.reader in
-      let r = ran-at specs before after f.ended stock f.runs (suc node) f.fault.in_range in
+      → FailsAtPart (names node) part.Read c q before after
+  read-cause node w =
+      let r = ran-with node fault.Read w in
+      let some = w.fault.keeps.holds in
+      let lt = w.fault.in_range in
+      let source = at_source node fault.Read w (λ none.
       let zero_faults = none-rose _ _ _ r.faults_since none.faults in
-      let some = f.fault.keeps.holds in
-      absurd (omega (arith, zero_faults, some))
+      omega (arith, zero_faults, some)) in
+      fails-at w.ended w.runs node lt source part.Read
+      (subst (λ n. Rose (taken_at (kinds_of specs) before node).faults n)
+      (sym (given_faults w.ended w.runs node lt source))
+      (rose-by-one _ (box_at w.ended node).notes.faults (box_at w.ended node).faults some
+      r.faults_since))
 
   stalled-cause : (node : ℕ) → FailsWith (RunsPlan specs before after) node fault.Stalled
-      → FailsAtPart (first_part p.table) part.Stalled command q before after
-  stalled-cause zero f =
-      let lt : 0 < length f.ended = f.fault.in_range in
-      let r = ran-first f.ended f.runs lt in
-      fails-at f.ended f.runs part.Stalled
-      (subst (λ n. raised (taken f.ended f.runs).pendings 1000000 ≤ n) (sym (given-pendings f.ended f.runs lt))
-      (rose-by-many _ (box_at f.ended 0).notes.pendings (box_at f.ended 0).pendings f.fault.keeps.holds r.pendings_since))
-  stalled-cause (suc node) f =
-      let none = no-reader node f.ended f.runs f.fault.in_range f.reader in
-      let r = ran-at specs before after f.ended stock f.runs (suc node) f.fault.in_range in
+      → FailsAtPart (names node) part.Stalled c q before after
+  stalled-cause node w =
+      let r = ran-with node fault.Stalled w in
+      let many = w.fault.keeps.holds in
+      let lt = w.fault.in_range in
+      let source = at_source node fault.Stalled w (λ none.
       let zero_pendings = none-rose _ _ _ r.pendings_since none.pendings in
-      let some = f.fault.keeps.holds in
-      absurd (omega (arith, zero_pendings, some))
+      omega (arith, zero_pendings, many)) in
+      fails-at w.ended w.runs node lt source part.Stalled
+      (subst (λ n. raised (taken_at (kinds_of specs) before node).pendings 1000000 ≤ n)
+      (sym (given_pendings w.ended w.runs node lt source))
+      (rose-by-many _ (box_at w.ended node).notes.pendings (box_at w.ended node).pendings many
+      r.pendings_since))
 
   long-cause : (node : ℕ) → FailsWith (RunsPlan specs before after) node fault.TooLong
-      → FailsAtPart (first_part p.table) part.TooLong command q before after
-  long-cause zero f =
-      fails-at f.ended f.runs part.TooLong
-      (due f.ended f.runs (λ part files. IsLongFile files part.path) f.fault.in_range f.fault.keeps.is_due)
-  long-cause (suc node) f =
-      let none = no-reader node f.ended f.runs f.fault.in_range f.reader in
-      let given = none.given in
-      let some = f.fault.keeps.holds in
-      absurd (omega (arith, given, some))
+      → FailsAtPart (names node) part.TooLong c q before after
+  long-cause node w =
+      let long = w.fault.keeps.holds in
+      let lt = w.fault.in_range in
+      let source = at_source node fault.TooLong w (λ none.
+      let given = none.given in omega (arith, given, long)) in
+      fails-at w.ended w.runs node lt source part.TooLong
+      (due w.ended w.runs node lt source (λ part files. IsLongFile files part.path)
+      w.fault.keeps.is_due)
 
-  bad-cause : (node : ℕ) (place : BadPlace) → FailsWith (RunsPlan specs before after) node (fault.Bad place)
-      → FailsAtPart (first_part p.table) (part.Bad place) command q before after
-  bad-cause zero place f =
-      fails-at f.ended f.runs (part.Bad place)
-      (due f.ended f.runs (λ part files. part_bad_place part.header part.types files part.path ≡ Some place)
-      f.fault.in_range f.fault.keeps.is_due)
-  bad-cause (suc node) place f =
-      absurd (no-later node f.ended f.runs f.fault.in_range (subst IsSourceKind (sym f.fault.keeps.holds) tt))
+  bad-cause : (node : ℕ) (place : BadPlace)
+      → FailsWith (RunsPlan specs before after) node (fault.Bad place)
+      → FailsAtPart (names node) (part.Bad place) c q before after
+  bad-cause node place w =
+      let lt = w.fault.in_range in
+      let source : IsSourceKind (box_at w.ended node).kind =
+      subst IsSourceKind (sym w.fault.keeps.holds) tt in
+      fails-at w.ended w.runs node lt source (part.Bad place)
+      (due w.ended w.runs node lt source
+      (λ part files. part_bad_place part.header part.types files part.path ≡ Some place)
+      w.fault.keeps.is_due)
 
-  leaves : LeavesRack (kinds_of specs) before after → LeavesPlan q before after
-  leaves left = subst (λ ks. LeavesRack ks before after) (plan-kinds part_of (items_of q.shape) q.filter) left
+  leaves : LeavesRack (kinds_of specs) before after → LeavesPlan c q before after
+  leaves left =
+      subst (λ ks. LeavesRack ks before after) (kinds-same nodes (plan_nodes (plan_of c q)) same) left
 
   -- every failure of the plan has its cause
-  pub plan-cause : (f : PlanFault) → LeavesRack (kinds_of specs) before after
+  plan-cause : (f : PlanFault) → LeavesRack (kinds_of specs) before after
       → PlanFaultHolds f (RunsPlan specs before after)
-      → PlanFailsFor (failure_of f (first_part p.table)) command q before after
+      → PlanFailsFor (failure_of f names) c q before after
   plan-cause (end.Fault node fault.Memory) left f = leaves left
   plan-cause (end.Fault node fault.Read) left f = read-cause node f
   plan-cause (end.Fault node fault.Stalled) left f = stalled-cause node f
@@ -247,7 +257,7 @@ module _ (command : Command) (p : IsPlainCommand command) (q : Checked) (h : IsC
   plan-cause (end.Fault node (fault.Bad place)) left f = bad-cause node place f
   plan-cause (end.Fault node (fault.BadList line)) left f = leaves left
   plan-cause (end.Stuck k) left f = record {
-    boxes = boxes;
+    runnable = runnable;
     ran = ran f.ended f.runs;
     report = f.report;
     node = f.node;
@@ -255,3 +265,12 @@ module _ (command : Command) (p : IsPlainCommand command) (q : Checked) (h : IsC
     of_kind = f.of_kind;
   }
   plan-cause end.Memory left f = leaves left
+
+  -- a failure that was told has its cause
+  pub told-cause : (f : PlanFault) (told : PlanFailure) → Tells told (failure_of f names)
+      → LeavesRack (kinds_of specs) before after
+      → PlanFaultHolds f (RunsPlan specs before after) → PlanFailsFor told c q before after
+  told-cause f told (inl e) left why =
+      subst (λ x. PlanFailsFor x c q before after) (sym e) (plan-cause f left why)
+  told-cause f told (inr e) left why =
+      subst (λ x. PlanFailsFor x c q before after) (sym e) (leaves left)

@@ -1,9 +1,9 @@
-pub mod Tables
+pub mod Commands
 pub mod Lines
 pub mod Plans
 pub mod Causes
 pub mod Pulling
 pub mod Composing
 pub mod Corollaries
-pub mod Stocked
+pub mod Planned
 pub mod Stocks

@@ -1,35 +1,31 @@
 -- A line that is written in pieces.
-use Rattle.std.proofs.Common.{◌≡◌, inl, inr, ℕ, List, ◌++◌, Option, Result, Ok, Err, subst, append_assoc}
+use Rattle.std.proofs.Common.{◌≡◌, ℕ, ◌+◌, ◌<◌, List, [], ◌∷◌, ◌++◌, length, take, drop, get_or, Option, Err, sym, ap, subst, ◌∙◌, append-nil}
+use Rattle.std.specs.List.{flat_map}
+use Rattle.std.proofs.lemmas.List.{take_more, take-append-drop}
+use Rattle.std.proofs.lemmas.Grind.{flat_map-append}
 use Rattle.outside_io.specs.Growth.{GrewBy, GrewByPrefix}
-use Rattle.outside_io.proofs.Growing.{GrewBy-trans, GrewByPrefix-after, GrewByPrefix-append}
-use Rattle.query_run.specs.Endings.{TellsLine, Writes}
+use Rattle.outside_io.proofs.Growing.{GrewByPrefix-after, GrewByPrefix-append}
+use Rattle.query_run.specs.declared.telling.Piece.{Piece}
+use Rattle.query_run.specs.Endings.{Writes, piece_bytes}
 
--- a piece that was written whole, and then what follows it
-pub writes-after : {A E : Type 0} (first second third : Option (List ℕ)) (xs ys : List ℕ) (late early : Type 0) (r : Result A E) → (late → early) → GrewBy first second xs
-    → Writes ys second third late r → Writes (xs ++ ys) first third early r
-writes-after first second third xs ys late early (Ok u) weaker one two = record { grew = GrewBy-trans first second third xs ys one two.grew; grew_by_prefix = tt; fault = tt }
-writes-after first second third xs ys late early (Err e) weaker one two = record {
-  grew = tt;
-  grew_by_prefix = GrewByPrefix-after first second third xs ys one two.grew_by_prefix;
-  fault = weaker two.fault;
-}
+-- the bytes of the pieces before a place, of the piece there, and of those behind it
+split-bytes : (ps : List Piece) (i : ℕ) (d : Piece) → i < length ps
+    → (flat_map piece_bytes (take i ps) ++ piece_bytes (get_or ps i d)) ++ flat_map piece_bytes (drop (i + 1) ps) ≡ flat_map piece_bytes ps
+split-bytes ps i d lt =
+    ap (λ l. (flat_map piece_bytes (take i ps) ++ l) ++ flat_map piece_bytes (drop (i + 1) ps)) (sym (append-nil (piece_bytes (get_or ps i d))))
+    ∙ ap (λ l. l ++ flat_map piece_bytes (drop (i + 1) ps)) (sym (flat_map-append piece_bytes (take i ps) (get_or ps i d ∷ [])))
+    ∙ ap (λ l. flat_map piece_bytes l ++ flat_map piece_bytes (drop (i + 1) ps)) (sym (take_more ps i d lt))
+    ∙ sym (flat_map-append piece_bytes (take (i + 1) ps) (drop (i + 1) ps))
+    ∙ ap (flat_map piece_bytes) (take-append-drop (i + 1) ps)
 
 -- a piece that was cut is the end of what was written
-pub writes-cut : {A E : Type 0} (before after : Option (List ℕ)) (xs ys : List ℕ) (failed : Type 0) (e : E) → GrewByPrefix before after xs → failed → Writes {A = A} (xs ++ ys) before after failed (Err e)
-writes-cut before after xs ys failed e front why = record { grew = tt; grew_by_prefix = GrewByPrefix-append before after xs ys front; fault = why }
-
-pub writes-same : {A E : Type 0} (xs ys : List ℕ) (before after : Option (List ℕ)) (failed : Type 0) (r : Result A E) → xs ≡ ys → Writes xs before after failed r → Writes ys before after failed r
-writes-same xs ys before after failed r e h = subst (λ l. Writes l before after failed r) e h
-
--- the same of a line, whose fault isn't reported
-pub tells-after : (first second third : Option (List ℕ)) (xs ys : List ℕ) (late early : Type 0) → (late → early) → GrewBy first second xs → TellsLine ys second third late → TellsLine (xs ++ ys) first third early
-tells-after first second third xs ys late early weaker one (inl two) = inl (GrewBy-trans first second third xs ys one two)
-tells-after first second third xs ys late early weaker one (inr two) = inr (weaker two.0, GrewByPrefix-after first second third xs ys one two.1)
-
-pub tells-cut : (before after : Option (List ℕ)) (xs ys : List ℕ) (failed : Type 0) → GrewByPrefix before after xs → failed → TellsLine (xs ++ ys) before after failed
-tells-cut before after xs ys failed front why = inr (why, GrewByPrefix-append before after xs ys front)
-
--- ---- how the pieces of a line are grouped
-
-pub group-part : (a b c d e : List ℕ) → (a ++ b) ++ (c ++ (d ++ e)) ≡ a ++ (((b ++ c) ++ d) ++ e)
-group-part a b c d e = simp append_assoc
+pub writes-cut : {A E : Type 0} (ps : List Piece) (i : ℕ) (d : Piece) (before between after : Option (List ℕ)) (failed : Type 0) (e : E)
+    → i < length ps → GrewBy before between (flat_map piece_bytes (take i ps)) → GrewByPrefix between after (piece_bytes (get_or ps i d)) → failed
+    → Writes {A = A} (flat_map piece_bytes ps) before after failed (Err e)
+writes-cut ps i d before between after failed e lt front cut why = record {
+  grew = tt;
+  grew_by_prefix = subst (λ bytes. GrewByPrefix before after bytes) (split-bytes ps i d lt)
+      (GrewByPrefix-append before after (flat_map piece_bytes (take i ps) ++ piece_bytes (get_or ps i d)) (flat_map piece_bytes (drop (i + 1) ps))
+      (GrewByPrefix-after before between after (flat_map piece_bytes (take i ps)) (piece_bytes (get_or ps i d)) front cut));
+  fault = why;
+}

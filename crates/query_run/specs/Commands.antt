@@ -1,16 +1,17 @@
 -- What a command's text means: its checked query, or why it is refused.
-use Rattle.std.specs.Prelude.{◌≡◌, ℕ, true, false, List, map, Some, None}
-use Rattle.query_model.specs.Analysis.{IsDue, IsTypedQuery, from_types}
-use Rattle.query_model.specs.Checks.{IsChecked}
-use Rattle.query_model.specs.Refusals.{refusal_of}
+use Rattle.std.specs.Prelude.{◌≡◌, ℕ, List, map, Some, None}
+use Rattle.std.specs.List.{All}
+use Rattle.query_model.specs.Names.{IsDue, IsTypedQuery, from_types, IsChecked, use_of, query_tables, refusal_of}
 use Rattle.query_model.specs.declared.query.Query.{Query}
 use Rattle.query_model.specs.declared.query.Refusal.{Refusal}
 use Rattle.query_model.specs.declared.query.Schema.{Schema}
 use Rattle.query_model.specs.declared.query.TableDecl.{TableDecl}
 use Rattle.query_model.specs.declared.checked.Checked.{Checked}
+use Rattle.query_model.specs.declared.checked.TableUse.{TableUse}
 use Rattle.sql_text.specs.Refusals.{IsReadFrom, IsRefused}
-use Rattle.command_line.specs.Words.{command_of, has_one_table}
+use Rattle.command_line.specs.Words.{command_of}
 use Rattle.command_line.specs.declared.words.Command.{Command}
+use Rattle.select_planner.specs.Steps.{UsesNoList}
 use Rattle.query_run.specs.declared.ending.Refused.{Refused}
 use Rattle.query_run.specs.declared.ending.Refused.TheVariants as refused
 
@@ -23,12 +24,27 @@ pub record OfCommand (words : List (List ℕ)) (P : Command → Type 0) : Type 0
   pub means : command_of words ≡ Some command
   pub holds : P command
 
+-- the tables that a query uses
+abbrev pub tables_used : Query → Command → List TableUse
+tables_used q command = map (use_of (schemas_of command)) (query_tables q)
+
+-- no table that a query uses is a list of files
+abbrev pub UsesNoLists : Query → Command → Type 0
+UsesNoLists q command = All (UsesNoList command.tables) (tables_used q command)
+
 -- a query is read from the command's text, and no condition refuses it
 pub record IsAccepted (command : Command) : Type 0 where
   pub query : Query
   pub read : IsReadFrom query command.query
   pub accepted : refusal_of query (schemas_of command) ≡ None
-  pub planned : has_one_table command.tables ≡ true
+  pub planned : UsesNoLists query command
+
+-- the same, but that it uses a list of files
+pub record UsesLists (command : Command) : Type 0 where
+  pub query : Query
+  pub read : IsReadFrom query command.query
+  pub accepted : refusal_of query (schemas_of command) ≡ None
+  pub listed : UsesNoLists query command → ⊥
 
 -- a query is read from the command's text, not refused, and checked so
 pub record IsCheckedCommand (command : Command) (checked : Checked) : Type 0 where
@@ -37,7 +53,7 @@ pub record IsCheckedCommand (command : Command) (checked : Checked) : Type 0 whe
   pub accepted : refusal_of query (schemas_of command) ≡ None
   pub is : IsChecked query (schemas_of command) checked
   pub typed : IsTypedQuery (from_types query (schemas_of command)) checked
-  pub planned : has_one_table command.tables ≡ true
+  pub planned : UsesNoLists query command
 
 -- the command has a checked query, and this is true of it
 pub record OfChecked (command : Command) (P : Checked → Type 0) : Type 0 where
@@ -59,4 +75,4 @@ pub record IsRefusedQuery (command : Command) (refusal : Refusal) : Type 0 where
 abbrev pub IsRefusedFor : Refused → Command → Type 0
 IsRefusedFor (refused.Text refusal) command = IsRefused refusal command.query
 IsRefusedFor (refused.Query refusal) command = IsRefusedQuery command refusal
-IsRefusedFor refused.NotBuilt command = has_one_table command.tables ≡ false
+IsRefusedFor refused.NotBuilt command = UsesLists command

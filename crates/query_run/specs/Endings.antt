@@ -2,8 +2,8 @@
 use Rattle.std.specs.Prelude.{◌⊎◌, ℕ, List, [], ◌∷◌, ◌++◌, codes, decimal, Option, Result, OnOk, OnErr}
 use Rattle.outside_io.specs.Growth.{GrewBy, GrewByPrefix}
 use Rattle.query_model.specs.declared.places.BadField.{BadField}
-use Rattle.query_model.specs.declared.places.BadField.TheVariants as field
 use Rattle.query_model.specs.declared.query.Refusal.{Refusal}
+use Rattle.query_model.specs.declared.places.BadField.TheVariants as field
 use Rattle.query_model.specs.declared.query.Refusal.TheVariants as refuse
 use Rattle.query_model.specs.declared.processor_spec.Kind.{Kind}
 use Rattle.query_model.specs.declared.processor_spec.Kind.TheVariants as kind
@@ -18,6 +18,8 @@ use Rattle.query_run.specs.declared.ending.PlanFailure.{PlanFailure}
 use Rattle.query_run.specs.declared.ending.PlanFailure.TheVariants as plan
 use Rattle.query_run.specs.declared.ending.Failure.{Failure}
 use Rattle.query_run.specs.declared.ending.Failure.TheVariants as failure
+use Rattle.query_run.specs.declared.telling.Piece.{Piece}
+use Rattle.query_run.specs.declared.telling.Piece.TheVariants as piece
 use Rattle.query_run.specs.declared.ending.Ending.{Ending}
 use Rattle.query_run.specs.declared.ending.Ending.TheVariants.{Answered, Failed, WriteFailed}
 
@@ -44,6 +46,7 @@ part_status part.Stalled = 4
 part_status part.TooLong = 6
 
 abbrev pub plan_status : PlanFailure → ℕ
+plan_status (plan.Paths name count) = 6
 plan_status (plan.Stock s) = 6
 plan_status (plan.Part name f) = part_status f
 plan_status (plan.Unlawful k) = 6
@@ -129,6 +132,9 @@ abbrev pub stock_words : (needed there : ℕ) → List ℕ
 stock_words needed there = codes " needed " ++ decimal needed ++ (codes ", rack has " ++ decimal there)
 
 abbrev pub plan_line : PlanFailure → List ℕ
+plan_line (plan.Paths name count) =
+    codes "qrun: limit: paths of " ++ name ++ codes " are " ++ decimal count
+    ++ codes ", at most 32"
 plan_line (plan.Stock s) =
     codes "qrun: limit: boxes of kind " ++ kind_name s.kind ++ stock_words s.needed s.there
 plan_line (plan.Part name f) = part_front f ++ part_words name ++ part_back f
@@ -147,6 +153,11 @@ abbrev pub line_of : Ending → List ℕ
 line_of Answered = []
 line_of (Failed f) = failure_line f ++ 10 ∷ []
 line_of WriteFailed = codes "qrun: write fault" ++ 10 ∷ []
+
+-- the bytes of a piece of a line
+abbrev pub piece_bytes : Piece → List ℕ
+piece_bytes (piece.Text text) = text.now
+piece_bytes (piece.Number n) = decimal n
 
 -- exactly the line was written, or a prefix of it where the sink failed
 abbrev pub TellsLine : List ℕ → (before after : Option (List ℕ)) → (failed : Type 0) → Type 0

@@ -1,49 +1,69 @@
 -- What a run means: the text that an answer of its query has over the files' rows, and every other end.
-use Rattle.std.specs.Prelude.{◌≡◌, ◌≢◌, ◌⊎◌, ℕ, List, Option, None}
+use Rattle.std.specs.Prelude.{◌≡◌, ◌≢◌, ◌⊎◌, ℕ, Bool, List, [], flat_map, length, Option, Some, None}
 use Rattle.std.specs.List.{All}
 use Rattle.outside_io.specs.Growth.{GrewBy, GrewByPrefix, Untouched}
 use Rattle.chunk_data.specs.Values.{Row}
-use Rattle.query_model.specs.Answers.{IsAnswer}
-use Rattle.query_model.specs.Flow.{flow}
-use Rattle.query_model.specs.Texts.{answer_text}
-use Rattle.query_model.specs.Database.{Files, UsedPart, database, used_parts, AllPartsValid}
+use Rattle.query_model.specs.Names.{IsAnswer, output_rows, flow, answer_text, Files, UsedPart, database, join_use, parts_used, used_parts, AllPartsValid, IsValidUsed}
 use Rattle.query_model.specs.declared.checked.Checked.{Checked}
+use Rattle.query_model.specs.declared.query.TableDecl.{TableDecl}
 use Rattle.query_model.specs.declared.processor_spec.Kind.{Kind}
+use Rattle.query_model.specs.declared.processor_spec.Kind.TheVariants as kind
 use Rattle.command_line.specs.Words.{command_of}
 use Rattle.command_line.specs.declared.words.Command.{Command}
-use Rattle.proc_api.specs.Boxes.{BoxPicture}
-use Rattle.proc_api.specs.Clauses.{IsBlank, IsLongFile}
+use Rattle.proc_api.specs.Names.{BoxPicture, IsBlank, IsLongFile}
 use Rattle.query_run.specs.declared.ending.PartName.{PartName}
 use Rattle.query_run.specs.declared.ending.PartFailure.TheVariants as part
 use Rattle.query_run.specs.declared.ending.Ending.{Ending}
 use Rattle.query_run.specs.declared.ending.Ending.TheVariants.{Answered, Failed, WriteFailed}
 use Rattle.query_run.specs.Endings.{status_of, line_of, TellsLine}
-use Rattle.query_run.specs.Racks.{HasBoxes, IsHonest, LacksBoxes, OverFiles, PulledMore, RanPlan}
+use Rattle.plan_meaning.specs.Plans.{HasEnough}
+use Rattle.select_planner.specs.Steps.{IsPlain}
+use Rattle.query_run.specs.Racks.{boxes_for, IsHonest, IsRunnable, LacksBoxes, NamesFewPaths, OverFiles, PulledMore, RanPlan}
 use Rattle.query_run.specs.Commands.{IsAccepted, IsCheckedCommand, OfCommand, OfQuery}
 use Rattle.query_run.specs.Causes.{FailsAtPart, FailsFor, TakesBoxes}
 
 -- ---- answers
 
--- The text is that of an answer: a query is read from the command's text, not refused and checked so,
--- each part that it uses is there and valid, and the rows are one answer of it over the files.
+-- The query has LIMIT, no grouping and no order, each part of its other tables is valid, and the
+-- rows before the first bad record of each part are enough for the limit.
+pub record IsCutShort (header : Bool) (files : Files) (tables : List TableDecl) (q : Checked) : Type 0
+  where
+    pub enough_rows : HasEnough q.limit (output_rows q (database header files tables))
+    pub ungrouped : IsPlain q.shape
+    pub unordered : q.order ≡ []
+    pub joined :
+        All (IsValidUsed header files) (flat_map (parts_used files tables) (join_use q.join))
+
+-- Each part that the query uses is there and valid, or a limit cut the query short. Then its answer
+-- is over the rows before the first bad record of each part, of which a missing part has none.
+abbrev pub IsCertain : Bool → Files → List TableDecl → Checked → Type 0
+IsCertain header files tables q =
+    AllPartsValid header files tables q ⊎ IsCutShort header files tables q
+
+-- The text is that of an answer: a query is read from the command's text, not refused and checked
+-- so, its answer is certain, and the rows are one answer of it over the files.
 pub record IsTextOfAnswer (command : Command) (files : Files) (text : List ℕ) : Type 0 where
   pub checked : Checked
   pub is_checked : IsCheckedCommand command checked
-  pub valid : AllPartsValid command.header files command.tables checked
+  pub certain : IsCertain command.header files command.tables checked
   pub rows : List Row
   pub is_answer : IsAnswer checked (database command.header files command.tables) rows
   pub is : text ≡ answer_text command.header checked.names rows
 
--- the boxes of each kind pulled as many rows as the kind's flow says of the answer
-pub record PullsItsFlow (command : Command) (files : Files) (text : List ℕ) (before after : List BoxPicture) : Type 0 where
+-- Without LIMIT the boxes of each kind pulled as many rows as the kind's flow says of the answer.
+-- The collector always pulled the answer's rows.
+pub record PullsItsFlow (command : Command) (files : Files) (text : List ℕ)
+    (before after : List BoxPicture) : Type 0 where
   pub answer : IsTextOfAnswer command files text
-  pub pulled : (k : Kind) → PulledMore k before after
+  pub pulled : answer.checked.limit ≡ None → (k : Kind) → PulledMore k before after
       (flow k answer.checked (database command.header files command.tables) answer.rows)
+  pub collected : PulledMore kind.Collect before after (Some (length answer.rows))
 
 -- The plan of a command's checked query ran, and made a text.
-pub record MakesText (command : Command) (q : Checked) (text : List ℕ) (before after : List BoxPicture) : Type 0 where
-  pub boxes : HasBoxes q before
-  pub ran : RanPlan q before after
+pub record MakesText (command : Command) (q : Checked) (text : List ℕ)
+    (before after : List BoxPicture) : Type 0 where
+  pub runnable : IsRunnable command q before
+  pub ran : RanPlan command q before after
   pub answers : OverFiles before (λ files. PullsItsFlow command files text before after)
 
 -- ---- the theorem
@@ -90,21 +110,28 @@ AreRefused words = OfCommand words (λ c. IsAccepted c → ⊥)
 
 -- words for whose query the rack has too few boxes
 abbrev pub LackBoxes : List (List ℕ) → List BoxPicture → Type 0
-LackBoxes words before = OfQuery words (λ c q. LacksBoxes q before)
+LackBoxes words before = OfQuery words (λ c q. LacksBoxes (boxes_for c q) before)
 
--- a run that ended before it took a box: by usage, a refusal, too few boxes or want of memory
+-- words whose query uses a table that names more than 32 paths
+abbrev pub NameManyPaths : List (List ℕ) → Type 0
+NameManyPaths words = OfQuery words (λ c q. NamesFewPaths c q → ⊥)
+
+-- A run that ended before it took a box: by usage, a refusal, too many paths, too few boxes or want
+-- of memory.
 abbrev pub EndsEarly : List (List ℕ) → List BoxPicture → (status : ℕ) → Type 0
-EndsEarly words before status = IsEither 1 2 status ⊎ ((status ≡ 7) ⊎ LackBoxes words before)
+EndsEarly words before status =
+    IsEither 1 2 status ⊎ ((status ≡ 7) ⊎ (NameManyPaths words ⊎ LackBoxes words before))
 
 -- the boxes of the plan were taken and given back, or the run ended early and left the rack as it was
 abbrev pub LeavesBoxes : List (List ℕ) → (before after : List BoxPicture) → (status : ℕ) → Type 0
 LeavesBoxes words before after status =
     TakesBoxes words before after ⊎ ((after ≡ before) × EndsEarly words before status)
 
--- What a command needs to be answered: its text is accepted, and each part that its query uses is
--- there, valid and no longer than a part may be.
+-- What a command needs to be answered: its text is accepted, no table of its query names too many
+-- paths, and each part that it uses is there, valid and no longer than a part may be.
 pub record IsAnswerable (files : Files) (c : Command) : Type 0 where
   pub accepted : IsAccepted c
+  pub paths : (q : Checked) → IsCheckedCommand c q → NamesFewPaths c q
   pub valid : (q : Checked) → IsCheckedCommand c q → AllPartsValid c.header files c.tables q
   pub within : (q : Checked) → IsCheckedCommand c q
       → All (λ (p : UsedPart). IsLongFile files p.path → ⊥) (used_parts files c.tables q)
@@ -131,6 +158,7 @@ pub record IsRun (words : List (List ℕ)) (before after : List BoxPicture) (sta
   pub untouched : status ≢ 0 → status ≢ 5 → Untouched out₀ out
   pub usage : MeanNothing words → IsEither 1 7 status
   pub refused : AreRefused words → IsEither 2 7 status
+  pub paths : NameManyPaths words → IsEither 6 7 status
   pub stock : LackBoxes words before → IsEither 6 7 status
   pub rack : LeavesBoxes words before after status
   pub succeeds : SucceedsUnless words before (ReaderFails words before after ⊎ write) status

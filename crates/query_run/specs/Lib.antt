@@ -4,3 +4,4 @@ pub mod Commands
 pub mod Causes
 pub mod Headline
 pub mod Steps
+pub mod Names

@@ -1,18 +1,18 @@
 -- Racks of boxes, as a run finds them and as it leaves them.
-use Rattle.std.specs.Prelude.{◌≡◌, ◌⊎◌, ℕ, ◌+◌, ◌<◌, ◌≤◌, cond, true, List, [], ◌∷◌, length, count_by, Option, Some, None, IfSome}
+use Rattle.std.specs.Prelude.{◌≡◌, ◌⊎◌, ℕ, ◌+◌, ◌<◌, ◌≤◌, cond, true, List, [], ◌∷◌, map, count_by, Option, Some, None, IfSome}
 use Rattle.std.specs.List.{All}
-use Rattle.query_model.specs.Database.{Files}
-use Rattle.query_model.specs.Expressions.{Cond}
+use Rattle.query_model.specs.Names.{Files, used_tables, need}
 use Rattle.query_model.specs.declared.checked.Checked.{Checked}
+use Rattle.query_model.specs.declared.processor_spec.Spec.{Spec}
 use Rattle.query_model.specs.declared.processor_spec.Kind.{Kind}
 use Rattle.query_model.specs.declared.processor_spec.Kind.TheVariants as kind
-use Rattle.query_model.specs.declared.processor_spec.Spec.{Spec}
-use Rattle.proc_api.specs.Boxes.{BoxPicture}
-use Rattle.proc_api.specs.Clauses.{IsSourceKind}
-use Rattle.proc_api.specs.Histories.{last_count}
-use Rattle.proc_api.specs.Racks.{is_of, kind_place}
-use Rattle.exec_laws.specs.Runs.{box_at}
-use Rattle.plan_laws.specs.Plans.{need}
+use Rattle.command_line.specs.declared.words.Command.{Command}
+use Rattle.proc_api.specs.Names.{BoxPicture, IsSourceKind, is_of, kind_place}
+use Rattle.plan_graph.specs.declared.nodes.DraftNode.{DraftNode}
+use Rattle.plan_meaning.specs.Names.{SelectPlan, plan_nodes, forms}
+use Rattle.select_planner.specs.Refusals.{first_crowded}
+use Rattle.select_planner.specs.Steps.{select_plan}
+use Rattle.plan_ends.specs.Ended.{HasFullCount}
 use Rattle.plan_run.specs.Plans.{kinds_of, RunsPlan}
 use Rattle.query_run.specs.declared.stock.Shortage.{Shortage}
 
@@ -22,16 +22,16 @@ use Rattle.query_run.specs.declared.stock.Shortage.{Shortage}
 abbrev pub stock_of : Kind → ℕ
 stock_of kind.Csv = 64
 stock_of kind.List = 0
-stock_of kind.Numbers = 0
+stock_of kind.Numbers = 2
 stock_of kind.Filter = 17
 stock_of kind.Expression = 17
-stock_of kind.Resize = 0
+stock_of kind.Resize = 4
 stock_of kind.PartialAggregate = 0
 stock_of kind.MergeAggregate = 0
 stock_of kind.HashJoin = 0
-stock_of kind.Sort = 0
-stock_of kind.MergeSorted = 0
-stock_of kind.Limit = 0
+stock_of kind.Sort = 17
+stock_of kind.MergeSorted = 1
+stock_of kind.Limit = 1
 stock_of kind.Collect = 1
 
 abbrev pub HasStandardStock : List BoxPicture → Type 0
@@ -53,34 +53,54 @@ OverFiles boxes P = (files : Files) → AreLawfulOver files boxes → P files
 
 -- ---- the boxes of a plan
 
--- the kinds of a plan's nodes, in order
-abbrev pub plan_kinds : Option Cond → List Kind
-plan_kinds None = kind.Csv ∷ kind.Expression ∷ kind.Collect ∷ []
-plan_kinds (Some c) = kind.Csv ∷ kind.Filter ∷ kind.Expression ∷ kind.Collect ∷ []
+-- the plan of a command's query, with as many lanes as workers
+abbrev pub plan_of : Command → Checked → SelectPlan
+plan_of c q = select_plan q c.tables c.threads c.chunk_rows c.header
 
--- of each kind the rack has as many boxes as the query's plan needs
-abbrev pub HasBoxes : Checked → List BoxPicture → Type 0
-HasBoxes q boxes = (k : Kind) → need q k ≤ count_by (is_of k) boxes
+-- what a list of nodes is loaded with, in order
+abbrev pub specs_in : List DraftNode → List Spec
+specs_in nodes = map (λ (n : DraftNode). n.spec) nodes
+
+-- the kinds of the plan's nodes, in order
+abbrev pub plan_kinds : Command → Checked → List Kind
+plan_kinds c q = kinds_of (specs_in (plan_nodes (plan_of c q)))
+
+-- how many boxes of a kind the plan needs
+abbrev pub boxes_for : Command → Checked → Kind → ℕ
+boxes_for c q k = need q c.tables c.threads k
+
+-- of each kind the rack has as many boxes as are needed
+abbrev pub HasBoxes : (needed : Kind → ℕ) → List BoxPicture → Type 0
+HasBoxes needed boxes = (k : Kind) → needed k ≤ count_by (is_of k) boxes
 
 -- of some kind it has fewer
-pub record LacksBoxes (q : Checked) (boxes : List BoxPicture) : Type 0 where
+pub record LacksBoxes (needed : Kind → ℕ) (boxes : List BoxPicture) : Type 0 where
   pub kind : Kind
-  pub fewer : count_by (is_of kind) boxes < need q kind
+  pub fewer : count_by (is_of kind) boxes < needed kind
 
 -- of this kind it has fewer, and of no earlier kind
-pub record IsShort (q : Checked) (boxes : List BoxPicture) (s : Shortage) : Type 0 where
-  pub needed : s.needed ≡ need q s.kind
+pub record IsShort (needed : Kind → ℕ) (boxes : List BoxPicture) (s : Shortage) : Type 0 where
+  pub needed_is : s.needed ≡ needed s.kind
   pub there : s.there ≡ count_by (is_of s.kind) boxes
   pub fewer : s.there < s.needed
-  pub first : (k : Kind) → kind_place k < kind_place s.kind → need q k ≤ count_by (is_of k) boxes
+  pub first : (k : Kind) → kind_place k < kind_place s.kind → needed k ≤ count_by (is_of k) boxes
 
--- A run of a query's plan. It says what each node was loaded with, which box of the rack was taken
--- for it, how the run left that box, and how it was given back.
-pub record RanPlan (q : Checked) (before after : List BoxPicture) : Type 0 where
-  pub specs : List Spec
-  pub kinds : kinds_of specs ≡ plan_kinds q.filter
+-- no table that the query uses names more than 32 paths
+abbrev pub NamesFewPaths : Command → Checked → Type 0
+NamesFewPaths c q = first_crowded c.tables (used_tables q) ≡ None
+
+-- the plan of the query is within the limits of paths and of the rack's boxes
+pub record IsRunnable (c : Command) (q : Checked) (before : List BoxPicture) : Type 0 where
+  pub paths : NamesFewPaths c q
+  pub boxes : HasBoxes (boxes_for c q) before
+
+-- A run of copies of the nodes of a query's plan. It says which box of the rack was taken for each
+-- node, how the run left that box, and how it was given back.
+pub record RanPlan (c : Command) (q : Checked) (before after : List BoxPicture) : Type 0 where
+  pub nodes : List DraftNode
+  pub same : forms nodes ≡ forms (plan_nodes (plan_of c q))
   pub ended : List BoxPicture
-  pub runs : RunsPlan specs before after ended
+  pub runs : RunsPlan (specs_in nodes) before after ended
 
 -- ---- pulled rows
 
@@ -88,13 +108,6 @@ pub record RanPlan (q : Checked) (before after : List BoxPicture) : Type 0 where
 abbrev pub pulled_by : Kind → List BoxPicture → ℕ
 pulled_by k [] = 0
 pulled_by k (p ∷ boxes) = cond (is_of k p) p.pulled 0 + pulled_by k boxes
-
--- the count of a box of the kind stands at its last value
-pub record HasFullCount (k : Kind) (boxes : List BoxPicture) : Type 0 where
-  pub place : ℕ
-  pub in_range : place < length boxes
-  pub of_kind : is_of k (box_at boxes place) ≡ true
-  pub full : (box_at boxes place).pulled ≡ last_count
 
 -- The boxes of a kind pulled so many rows more, where a number is said, unless one has a full count.
 abbrev pub PulledMore : Kind → (before after : List BoxPicture) → Option ℕ → Type 0

@@ -1,29 +1,28 @@
-ghost use Rattle.std.specs.Prelude.{◌≡◌, ◌≢◌, ◌≤◌, length, map, string_bytes, IfOk, IfErr, Some, None, if◌then◌else◌};
+ghost use Rattle.std.specs.Prelude.{◌≡◌, ◌≢◌, ◌≤◌, [], length, map, slice_get, string_bytes, IfOk, IfErr, Some, None, if◌then◌else◌};
 ghost use Rattle.std.specs.List.{All};
 ghost use Rattle.std.specs.Option.{option_copied};
 ghost use Rattle.query_model.specs.Kinds.{kind_of};
 ghost use Rattle.query_model.specs.declared.processor_spec.Kind.TheVariants as kinds;
-ghost use Rattle.command_line.specs.Words.{IsPlainCommand};
-ghost use Rattle.proc_api.specs.Clauses.{IsBlank};
+ghost use Rattle.command_line.specs.Words.{IsWithinLimits};
+ghost use Rattle.proc_api.specs.Names.{IsBlank, IsGraph};
 ghost use Rattle.plan_run.specs.Stock.{HasStock};
 ghost use Rattle.plan_run.specs.Plans.{kinds_of, LeavesRack, PlanFaultHolds, RunsPlan};
-ghost use Rattle.query_run.specs.Racks.{HasBoxes};
-ghost use Rattle.query_run.specs.Commands.{IsCheckedCommand, OfQuery};
-ghost use Rattle.query_run.specs.Causes.{FailsFor, PlanFailsFor};
-ghost use Rattle.query_run.specs.Headline.{MakesText};
-ghost use Rattle.query_run.specs.Steps.{failure_of, GivesText, IsPlanFault};
+ghost use Rattle.query_run.specs.declared.ending.PlanFailure.TheVariants as failures;
+ghost use Rattle.query_run.specs.Names.{IsRunnable, IsCheckedCommand, OfQuery, FailsFor, PlanFailsFor, MakesText, failure_of, name_at, GivesText, IsPlanFault, IsPlanned, Tells};
 
 use crate::checking::checked_query;
-use crate::ending::{Failure, PartFailure, PartName, PlanFailure};
-use crate::planning::{Plan, only_table, plan_of};
+use crate::ending::{Failure, PartFailure, PlanFailure};
+use crate::planning::{PartPlace, graph_of, part_name, part_places};
 use crate::stock::first_shortage;
 use chunk_data::{Bytes, List, Memory};
 use command_line::{Command, WordsRefusal, read_words};
 use csv_rows::write_rows;
-use plan_run::{PlanFault, run_plan};
+use plan_run::{PlanFault, PlanGraph, run_plan};
 use proc_api::{Rack, WorkFault};
 use query_model::checked::Checked;
-use query_model::processor_spec::Spec;
+use query_model::query::TableDecl;
+use select_planner::{Plan, PlanRefusal, plan};
+use std::alloc::Global;
 
 /// The text of the answer of the command that the words mean, made by the boxes of the rack.
 pub(crate) fn make_text<R: AllocGlobal>(
@@ -61,7 +60,7 @@ fn checked_text<R: AllocGlobal>(
     checked: Checked,
     rack: &mut Rack,
 ) -> Result<Vec<u8>, PlanFailure>
-    requires plain { IsPlainCommand command }
+    requires within { IsWithinLimits command }
     requires checked { IsCheckedCommand command checked }
     requires blank { All IsBlank (map (λ b. seen (b.vtable, b.value)) rack.old.boxes.items) }
     ensures blank { All IsBlank (map (λ b. seen (b.vtable, b.value)) rack.new.boxes.items) }
@@ -72,23 +71,39 @@ fn checked_text<R: AllocGlobal>(
         (map (λ b. seen (b.vtable, b.value)) rack.old.boxes.items)
         (map (λ b. seen (b.vtable, b.value)) rack.new.boxes.items)) }
 {
-    match first_shortage(&checked, rack) {
-        Some(short) => Err(PlanFailure::Stock(short)),
-        None => stocked_text(rt, command, checked, rack),
+    let lanes = command.threads;
+    let rows = command.chunk_rows;
+    match plan(
+        rt.alloc(),
+        &checked,
+        &command.tables,
+        lanes,
+        rows,
+        command.header,
+    ) {
+        Ok(plan) => match first_shortage(&plan, rack) {
+            Some(short) => Err(PlanFailure::Stock(short)),
+            None => planned_text(rt, command, checked, plan, rack),
+        },
+        Err(PlanRefusal::TooManyParts(name, count)) => Err(PlanFailure::Paths(name, count)),
+        Err(PlanRefusal::Memory) => Err(PlanFailure::Memory),
     }
 }
 
-/// The text of the answer of a checked query, for which the rack has the boxes.
-fn stocked_text<R: AllocGlobal>(
+/// The text of the answer of a checked query by its plan, for which the rack has the boxes.
+fn planned_text<R: AllocGlobal>(
     rt: &R,
     command: Command,
     checked: Checked,
+    plan: Plan,
     rack: &mut Rack,
 ) -> Result<Vec<u8>, PlanFailure>
-    requires plain { IsPlainCommand command }
+    requires within { IsWithinLimits command }
     requires checked { IsCheckedCommand command checked }
+    requires planned { IsPlanned command checked plan }
     requires blank { All IsBlank (map (λ b. seen (b.vtable, b.value)) rack.old.boxes.items) }
-    requires boxes { HasBoxes checked (map (λ b. seen (b.vtable, b.value)) rack.old.boxes.items) }
+    requires runnable { IsRunnable command checked
+        (map (λ b. seen (b.vtable, b.value)) rack.old.boxes.items) }
     ensures blank { All IsBlank (map (λ b. seen (b.vtable, b.value)) rack.new.boxes.items) }
     ensures text { IfOk result (λ text. MakesText command checked text.items
         (map (λ b. seen (b.vtable, b.value)) rack.old.boxes.items)
@@ -97,57 +112,66 @@ fn stocked_text<R: AllocGlobal>(
         (map (λ b. seen (b.vtable, b.value)) rack.old.boxes.items)
         (map (λ b. seen (b.vtable, b.value)) rack.new.boxes.items)) }
 {
-    let header = command.header;
-    let rows = command.chunk_rows;
-    let workers = command.threads;
-    match plan_of(rt.alloc(), only_table(command), checked, header, rows) {
-        Ok(Plan { specs, names, part }) => {
-            match plan_text(rt, rack, specs, names, header, workers) {
-                Ok(text) => Ok(text),
-                Err(fault) => Err(failure_of(fault, part)),
-            }
+    let Ok(places) = part_places(rt.alloc(), plan.nodes.as_slice()) else {
+        return Err(PlanFailure::Memory);
+    };
+    let Ok(graph) = graph_of(rt.alloc(), plan) else {
+        return Err(PlanFailure::Memory);
+    };
+    match graph_text(
+        rt,
+        rack,
+        graph,
+        &checked.names,
+        command.header,
+        command.threads,
+    ) {
+        Ok(text) => Ok(text),
+        Err(fault) => {
+            let tables = command.tables.as_slice();
+            Err(failure_of(rt.alloc(), fault, tables, places.as_slice()))
         }
-        Err(Memory) => Err(PlanFailure::Memory),
     }
 }
 
-/// The text of what the plan of the specs gives.
-fn plan_text<R: AllocGlobal>(
+/// The text of what the graph of a plan gives.
+fn graph_text<R: AllocGlobal>(
     rt: &R,
     rack: &mut Rack,
-    specs: Vec<Spec>,
-    names: List<Bytes>,
+    graph: PlanGraph,
+    names: &List<Bytes>,
     header: bool,
     workers: u32,
 ) -> Result<Vec<u8>, PlanFault>
     requires blank { All IsBlank (map (λ b. seen (b.vtable, b.value)) rack.old.boxes.items) }
-    requires stock { HasStock (kinds_of specs.items)
+    requires stock { HasStock (kinds_of graph.specs.items)
         (map (λ b. seen (b.vtable, b.value)) rack.old.boxes.items) }
-    requires no_list { All (λ s. kind_of s ≢ kinds.List) specs.items }
-    requires some_nodes { 1 ≤ length specs.items }
-    requires few_nodes { length specs.items ≤ 256 }
+    requires no_list { All (λ s. kind_of s ≢ kinds.List) graph.specs.items }
+    requires some_nodes { 1 ≤ length graph.specs.items }
+    requires few_nodes { length graph.specs.items ≤ 256 }
     requires some_workers { 1 ≤ workers }
     requires few_workers { workers ≤ 16 }
-    ensures rack { LeavesRack (kinds_of specs.items)
+    requires one_each { length graph.ranks ≡ length graph.specs.items }
+    requires graph { IsGraph graph.ranks graph.wires [] }
+    ensures rack { LeavesRack (kinds_of graph.specs.items)
         (map (λ b. seen (b.vtable, b.value)) rack.old.boxes.items)
         (map (λ b. seen (b.vtable, b.value)) rack.new.boxes.items) }
     ensures blank { All IsBlank (map (λ b. seen (b.vtable, b.value)) rack.new.boxes.items) }
-    ensures text { IfOk result (λ text. GivesText header names specs.items
+    ensures text { IfOk result (λ text. GivesText header names.now graph.specs.items graph.wires
         (map (λ b. seen (b.vtable, b.value)) rack.old.boxes.items)
         (map (λ b. seen (b.vtable, b.value)) rack.new.boxes.items) text.items) }
-    ensures fault { IfErr result (λ f. PlanFaultHolds f (RunsPlan specs.items
+    ensures fault { IfErr result (λ f. PlanFaultHolds f (RunsPlan graph.specs.items
         (map (λ b. seen (b.vtable, b.value)) rack.old.boxes.items)
         (map (λ b. seen (b.vtable, b.value)) rack.new.boxes.items))) }
 {
-    match run_plan(rt, rack, specs, workers) {
-        Ok(chunks) => match write_rows(
-            rt.alloc(),
-            heading_names(header, &names),
-            chunks.as_slice(),
-        ) {
-            Ok(text) => Ok(text),
-            Err(Memory) => Err(PlanFault::Memory),
-        },
+    match run_plan(rt, rack, graph, workers) {
+        Ok(chunks) => {
+            let heading = heading_names(header, names);
+            match write_rows(rt.alloc(), heading, chunks.as_slice()) {
+                Ok(text) => Ok(text),
+                Err(Memory) => Err(PlanFault::Memory),
+            }
+        }
         Err(fault) => Err(fault),
     }
 }
@@ -159,21 +183,50 @@ fn heading_names(header: bool, names: &List<Bytes>) -> Option<&List<Bytes>>
     if header { Some(names) } else { None }
 }
 
-// Why the plan that reads this part gave no rows.
-fn failure_of(fault: PlanFault, part: PartName) -> PlanFailure
+// Why a plan whose nodes read these parts gave no rows; for want of memory the name isn't told.
+fn failure_of(
+    alloc: Global,
+    fault: PlanFault,
+    tables: &[TableDecl],
+    places: &[PartPlace],
+) -> PlanFailure
     requires { IsPlanFault fault }
-    ensures { result ≡ failure_of fault part }
+    ensures { Tells result
+        (failure_of fault (λ node. name_at tables.now (slice_get places.now node))) }
 {
     match fault {
-        PlanFault::Fault(_, WorkFault::Bad(place)) => {
-            PlanFailure::Part(part, PartFailure::Bad(place))
+        PlanFault::Fault(node, WorkFault::Bad(place)) => {
+            at_part(alloc, tables, places, node, PartFailure::Bad(place))
         }
-        PlanFault::Fault(_, WorkFault::Read) => PlanFailure::Part(part, PartFailure::Read),
-        PlanFault::Fault(_, WorkFault::Stalled) => PlanFailure::Part(part, PartFailure::Stalled),
-        PlanFault::Fault(_, WorkFault::TooLong) => PlanFailure::Part(part, PartFailure::TooLong),
+        PlanFault::Fault(node, WorkFault::Read) => {
+            at_part(alloc, tables, places, node, PartFailure::Read)
+        }
+        PlanFault::Fault(node, WorkFault::Stalled) => {
+            at_part(alloc, tables, places, node, PartFailure::Stalled)
+        }
+        PlanFault::Fault(node, WorkFault::TooLong) => {
+            at_part(alloc, tables, places, node, PartFailure::TooLong)
+        }
         PlanFault::Fault(_, WorkFault::Memory) => unreachable!(),
         PlanFault::Fault(_, WorkFault::BadList(_)) => unreachable!(),
         PlanFault::Stuck(kind) => PlanFailure::Unlawful(kind),
         PlanFault::Memory => PlanFailure::Memory,
+    }
+}
+
+// The failure of the part that a node reads.
+fn at_part(
+    alloc: Global,
+    tables: &[TableDecl],
+    places: &[PartPlace],
+    node: u32,
+    failure: PartFailure,
+) -> PlanFailure
+    ensures { Tells result
+        (failures.Part (name_at tables.now (slice_get places.now node)) failure) }
+{
+    match part_name(alloc, tables, places, node) {
+        Ok(name) => PlanFailure::Part(name, failure),
+        Err(Memory) => PlanFailure::Memory,
     }
 }

@@ -3,7 +3,7 @@ ghost use Rattle.outside_io.specs.Counts.{Rose};
 ghost use Rattle.query_run.specs.Endings.{text_status, query_status, refused_status, part_status, plan_status, failure_status, status_of, line_of, TellsLine};
 
 use crate::stock::Shortage;
-use crate::telling::{tell_failure, tell_line};
+use crate::telling::{failure_pieces, tell, write_fault_pieces};
 use chunk_data::Bytes;
 use outside_io::Sink;
 use query_model::places::BadPlace;
@@ -25,7 +25,7 @@ pub(crate) enum Refused {
     Text(ParseRefusal),
     /// The query that was read meets a condition.
     Query(Refusal),
-    /// The command has no plan yet: it declares no table, several tables, several parts or a list.
+    /// The query has no plan yet: a table that it uses is a list of files.
     NotBuilt,
 }
 
@@ -41,6 +41,8 @@ pub(crate) enum PartFailure {
 /// Why the plan of a checked query gave no text.
 #[derive(Debug, Drop)]
 pub(crate) enum PlanFailure {
+    /// A table of this name names so many paths.
+    Paths(Bytes, u64),
     /// The rack has too few boxes.
     Stock(Shortage),
     Part(PartName, PartFailure),
@@ -109,6 +111,7 @@ fn plan_status(failure: &PlanFailure) -> u8
     ensures { result ≡ plan_status failure.now }
 {
     match failure {
+        PlanFailure::Paths(_, _) => 6,
         PlanFailure::Stock(_) => 6,
         PlanFailure::Part(_, failure) => part_status(*failure),
         PlanFailure::Unlawful(_) => 6,
@@ -149,8 +152,8 @@ impl Ending {
     {
         match self {
             Ending::Answered => {}
-            Ending::Failed(failure) => tell_failure(failure, err),
-            Ending::WriteFailed => tell_line(err, b"qrun: write fault"),
+            Ending::Failed(failure) => tell(err, &failure_pieces(failure)),
+            Ending::WriteFailed => tell(err, &write_fault_pieces()),
         }
     }
 }

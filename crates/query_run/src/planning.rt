@@ -1,149 +1,130 @@
-ghost use Rattle.std.specs.Prelude.{◌≡◌, ◌∷◌, [], map, IfOk};
-ghost use Rattle.query_model.specs.declared.query.ColumnDecl.{ColumnDecl};
-ghost use Rattle.plan_laws.specs.Plans.{plan_specs};
-ghost use Rattle.command_line.specs.Words.{IsPlainCommand};
-ghost use Rattle.query_run.specs.Steps.{first_part, HasOnePath, IsPlainShape, items_of, only_path, part_spec};
+// The graph of a plan, and the parts that its nodes read.
+ghost use Rattle.std.specs.Prelude.{◌≡◌, map, IfOk, slice_get};
+ghost use Rattle.select_planner.specs.Shapes.{plan_ranks, plan_wires, wire_of};
+ghost use Rattle.query_run.specs.Steps.{name_of, name_at, node_specs, part_place};
 
 use crate::ending::PartName;
-use chunk_data::{Bytes, ColumnType, List, Memory};
-use command_line::Command;
-use query_model::checked::{Checked, Cond, Expr, Shape};
-use query_model::processor_spec::{PartSpec, Spec};
-use query_model::query::{ColumnDecl, PartsDecl, Schema, TableDecl};
+use chunk_data::{Bytes, List, Memory};
+use plan_run::PlanGraph;
+use port_word::Wire;
+use query_model::processor_spec::Spec;
+use query_model::query::TableDecl;
+use select_planner::{Plan, PlanEdge, PlanNode};
 use std::alloc::Global;
 
-/// What runs a checked query, and what is told of it.
-#[derive(Drop)]
-pub(crate) struct Plan {
-    pub specs: Vec<Spec>,
-    /// The names of the answer's columns.
-    pub names: List<Bytes>,
-    /// The part that is read.
-    pub part: PartName,
+/// The part that a node reads: the place of its table, from 0, and its own in the table, from 1.
+#[derive(Clone, Copy, Debug)]
+pub(crate) struct PartPlace {
+    pub table: u32,
+    pub part: u32,
 }
 
-/// How the first part of a table is read.
-#[derive(Drop)]
-struct Reading {
-    spec: PartSpec,
-    name: PartName,
-}
-
-/// The one table of a command.
-pub(crate) fn only_table(command: Command) -> TableDecl
-    requires { IsPlainCommand command }
-    ensures { command.tables ≡ result ∷ [] }
+/// The parts that nodes read, in their order.
+pub(crate) fn part_places(alloc: Global, nodes: &[PlanNode]) -> Result<Vec<PartPlace>, Memory>
+    ensures { IfOk result (λ places. places.items ≡ map part_place (node_specs nodes.now)) }
 {
-    let Command { tables, .. } = command;
-    let mut tables = tables.into_vec();
-    tables.remove(0)
+    let mut places = Vec::new(alloc);
+    for node in nodes {
+        places.push(part_place(&node.spec))?;
+    }
+    Ok(places)
 }
 
-/// The plan of a checked query over the one part of its table, in chunks of at most so many rows.
-pub(crate) fn plan_of(
+fn part_place(spec: &Spec) -> PartPlace
+    ensures { result ≡ part_place spec.now }
+{
+    match spec {
+        Spec::Csv(part) => place_of(part.table, part.part),
+        Spec::List(list) => place_of(list.table, list.part),
+        _ => place_of(0, 0),
+    }
+}
+
+fn place_of(table: u32, part: u32) -> PartPlace
+    ensures table { result.table ≡ table }
+    ensures part { result.part ≡ part }
+{
+    PartPlace { table, part }
+}
+
+/// The name of the part that a node reads.
+pub(crate) fn part_name(
     alloc: Global,
-    table: TableDecl,
-    checked: Checked,
-    header: bool,
-    rows: u32,
-) -> Result<Plan, Memory>
-    requires one_path { HasOnePath table.parts }
-    requires plain { IsPlainShape checked.shape }
-    ensures specs { IfOk result (λ p. p.specs.items
-        ≡ plan_specs (part_spec header rows table) checked.filter (items_of checked.shape)) }
-    ensures names { IfOk result (λ p. p.names ≡ checked.names) }
-    ensures part { IfOk result (λ p. p.part ≡ first_part table) }
+    tables: &[TableDecl],
+    places: &[PartPlace],
+    node: u32,
+) -> Result<PartName, Memory>
+    ensures { IfOk result (λ name. name ≡ name_at tables.now (slice_get places.now node)) }
 {
-    let Reading { spec, name } = reading_of(alloc, table, header, rows)?;
-    let Checked {
-        filter,
-        shape,
-        names,
-        ..
-    } = checked;
-    let specs = specs_of(alloc, spec, filter, plain_items(shape))?;
-    Ok(Plan {
-        specs,
-        names,
-        part: name,
+    match places.get(node as usize) {
+        Some(place) => Ok(PartName {
+            table: table_name(alloc, tables, place.table)?,
+            part: place.part,
+        }),
+        None => Ok(PartName {
+            table: Bytes::from_slice(alloc, b"")?,
+            part: 0,
+        }),
+    }
+}
+
+fn table_name(alloc: Global, tables: &[TableDecl], table: u32) -> Result<Bytes, Memory>
+    ensures { IfOk result (λ name. name ≡ name_of (slice_get tables.now table)) }
+{
+    match tables.get(table as usize) {
+        Some(decl) => decl.schema.name.copy(),
+        None => Bytes::from_slice(alloc, b""),
+    }
+}
+
+/// The graph of a plan: its nodes and edges.
+pub(crate) fn graph_of(alloc: Global, plan: Plan) -> Result<PlanGraph, Memory>
+    ensures specs { IfOk result (λ g. g.specs.items ≡ node_specs plan.nodes) }
+    ensures ranks { IfOk result (λ g. g.ranks ≡ plan_ranks plan) }
+    ensures wires { IfOk result (λ g. g.wires ≡ plan_wires plan) }
+{
+    let Plan { nodes, edges, .. } = plan;
+    let ranks = ranks_of(alloc, nodes.as_slice())?;
+    let wires = wires_of(alloc, edges.as_slice())?;
+    Ok(PlanGraph {
+        specs: specs_of(alloc, nodes)?,
+        ranks,
+        wires,
     })
 }
 
-fn reading_of(alloc: Global, table: TableDecl, header: bool, rows: u32) -> Result<Reading, Memory>
-    requires { HasOnePath table.parts }
-    ensures spec { IfOk result (λ r. r.spec ≡ part_spec header rows table) }
-    ensures name { IfOk result (λ r. r.name ≡ first_part table) }
+fn ranks_of(alloc: Global, nodes: &[PlanNode]) -> Result<List<u32>, Memory>
+    ensures { IfOk result (λ ranks. ranks ≡ map (λ (n : PlanNode). n.rank) nodes.now) }
 {
-    let TableDecl { schema, parts } = table;
-    let Schema { name, columns } = schema;
-    let types = types_of(alloc, columns.as_slice())?;
-    let path = path_of(parts);
-    Ok(Reading {
-        spec: PartSpec {
-            table: 0,
-            part: 1,
-            path,
-            types,
-            header,
-            rows,
-        },
-        name: PartName {
-            table: name,
-            part: 1,
-        },
-    })
+    let mut ranks = Vec::new(alloc);
+    for node in nodes {
+        ranks.push(node.rank)?;
+    }
+    Ok(List::from_vec(ranks))
 }
 
-fn types_of(alloc: Global, columns: &[ColumnDecl]) -> Result<List<ColumnType>, Memory>
-    ensures { IfOk result (λ types. types ≡ map (λ (c : ColumnDecl). c.kind) columns.now) }
+fn wires_of(alloc: Global, edges: &[PlanEdge]) -> Result<List<Wire>, Memory>
+    ensures { IfOk result (λ wires. wires ≡ map wire_of edges.now) }
 {
-    let mut types = Vec::new(alloc);
-    for column in columns {
-        types.push(column.kind)?;
+    let mut wires = Vec::new(alloc);
+    for edge in edges {
+        wires.push(Wire {
+            from: edge.from,
+            out: edge.out,
+            to: edge.to,
+            input: edge.input,
+        })?;
     }
-    Ok(List::from_vec(types))
+    Ok(List::from_vec(wires))
 }
 
-fn path_of(parts: PartsDecl) -> Bytes
-    requires { HasOnePath parts }
-    ensures { result ≡ only_path parts }
+fn specs_of(alloc: Global, nodes: List<PlanNode>) -> Result<Vec<Spec>, Memory>
+    ensures { IfOk result (λ specs. specs.items ≡ node_specs nodes) }
 {
-    match parts {
-        PartsDecl::Paths(paths) => {
-            let mut paths = paths.into_vec();
-            paths.remove(0)
-        }
-        PartsDecl::ListFile(path) => path,
+    let mut specs = Vec::new(alloc);
+    for node in nodes.into_vec() {
+        let PlanNode { spec, .. } = node;
+        specs.push(spec)?;
     }
-}
-
-fn plain_items(shape: Shape) -> List<Expr>
-    requires { IsPlainShape shape }
-    ensures { result ≡ items_of shape }
-{
-    match shape {
-        Shape::Plain(items) => items,
-        Shape::Grouped(_) => unreachable!(),
-    }
-}
-
-/// What the nodes are loaded with, in order: a source, a filter where there is WHERE, an
-/// expression, a collector.
-fn specs_of(
-    alloc: Global,
-    part: PartSpec,
-    filter: Option<Cond>,
-    items: List<Expr>,
-) -> Result<Vec<Spec>, Memory>
-    ensures { IfOk result (λ specs. specs.items ≡ plan_specs part filter items) }
-{
-    let source = Spec::Csv(part);
-    let expression = Spec::Expression(items);
-    match filter {
-        Some(cond) => {
-            let filter = Spec::Filter(cond);
-            Ok(vec![in alloc; source, filter, expression, Spec::Collect]?)
-        }
-        None => Ok(vec![in alloc; source, expression, Spec::Collect]?),
-    }
+    Ok(specs)
 }

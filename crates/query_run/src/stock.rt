@@ -1,10 +1,10 @@
 ghost use Rattle.std.specs.Prelude.{map, IfSome, IfNone};
+ghost use Rattle.select_planner.specs.Counts.{boxes_needed};
 ghost use Rattle.query_run.specs.Racks.{HasBoxes, IsShort};
 
-use plan_laws::need;
 use proc_api::Rack;
-use query_model::checked::Checked;
 use query_model::processor_spec::Kind;
+use select_planner::{Plan, needs};
 
 /// All kinds, in their order.
 const KINDS: [Kind; 13] = [
@@ -31,15 +31,15 @@ pub(crate) struct Shortage {
     pub there: usize,
 }
 
-/// The first kind of which the rack has too few boxes for the plan of the query.
-pub(crate) fn first_shortage(checked: &Checked, rack: &Rack) -> Option<Shortage>
-    ensures short { IfSome result (λ s. IsShort checked.now
-        (map (λ b. seen (b.vtable, b.value)) rack.now.boxes.items) s) }
-    ensures enough { IfNone result (HasBoxes checked.now
+/// The first kind of which the rack has too few boxes for the plan.
+pub(crate) fn first_shortage(plan: &Plan, rack: &Rack) -> Option<Shortage>
+    ensures short { IfSome result (IsShort (boxes_needed plan.now)
+        (map (λ b. seen (b.vtable, b.value)) rack.now.boxes.items)) }
+    ensures enough { IfNone result (HasBoxes (boxes_needed plan.now)
         (map (λ b. seen (b.vtable, b.value)) rack.now.boxes.items)) }
 {
     for kind in KINDS {
-        let needed = need(checked, kind);
+        let needed = needs(plan, kind);
         let there = rack.count(kind);
         if there < needed {
             return Some(Shortage {

@@ -1,9 +1,10 @@
-ghost use Rattle.std.specs.Prelude.{◌≡◌, ◌≤◌, ◌++◌, ◌∷◌, [], List, codes, decimal};
+ghost use Rattle.std.specs.Prelude.{◌≡◌, ◌≤◌, ◌++◌, ◌∷◌, [], codes, decimal, flat_map};
 ghost use Rattle.outside_io.specs.Counts.{Rose};
-ghost use Rattle.query_run.specs.Endings.{text_line, query_line, refused_line, kind_name, part_words, part_front, part_back, field_words, stock_words, plan_line, failure_line, TellsLine, Writes};
+ghost use Rattle.query_run.specs.declared.ending.PlanFailure.TheVariants as plan;
+ghost use Rattle.query_run.specs.declared.ending.PartFailure.TheVariants as part;
+ghost use Rattle.query_run.specs.Endings.{text_line, query_line, refused_line, kind_name, part_words, field_words, plan_line, failure_line, piece_bytes, TellsLine, Writes};
 
 use crate::ending::{Failure, PartFailure, PartName, PlanFailure, Refused};
-use crate::stock::Shortage;
 use itoa::Buffer;
 use outside_io::{Sink, WriteFault, write_all};
 use query_model::places::{BadField, BadPlace};
@@ -11,243 +12,204 @@ use query_model::processor_spec::Kind;
 use query_model::query::Refusal;
 use sql_text::ParseRefusal;
 
-/// Writes the line of a failure and its end, piece by piece, until the sink fails.
-pub(crate) fn tell_failure<E: Sink>(failure: &Failure, err: &mut E)
-    ensures line { TellsLine (failure_line failure.now ++ 10 ∷ [])
+/// A piece of a line.
+#[derive(Clone, Copy, Debug)]
+pub(crate) enum Piece<'a> {
+    Text(&'a [u8]),
+    /// In decimal.
+    Number(u64),
+}
+
+/// The pieces of a line, in order; the last ones are empty where it has fewer.
+type Line<'a> = [Piece<'a>; 10];
+
+const END: Piece<'static> = Piece::Text(b"\n");
+
+const NONE: Piece<'static> = Piece::Text(b"");
+
+/// Writes the pieces one after another, until the sink fails.
+pub(crate) fn tell<E: Sink>(err: &mut E, pieces: &[Piece<'_>])
+    ensures line { TellsLine (flat_map piece_bytes pieces.now)
         (E.written err.old) (E.written err.new) (Rose (E.faults err.old) (E.faults err.new)) }
     ensures faults_kept { E.faults err.old ≤ E.faults err.new }
 {
-    match write_failure(err, failure) {
-        Ok(()) => end_line(err),
-        Err(WriteFault) => {}
+    let _ = write_pieces(err, pieces);
+}
+
+fn write_pieces<E: Sink>(err: &mut E, pieces: &[Piece<'_>]) -> Result<(), WriteFault>
+    ensures line { Writes (flat_map piece_bytes pieces.now)
+        (E.written err.old) (E.written err.new)
+        (Rose (E.faults err.old) (E.faults err.new)) result }
+    ensures faults_kept { E.faults err.old ≤ E.faults err.new }
+{
+    for i in 0..pieces.len() {
+        match write_piece(err, pieces[i]) {
+            Ok(()) => {}
+            Err(fault) => return Err(fault),
+        }
+    }
+    Ok(())
+}
+
+fn write_piece<E: Sink>(err: &mut E, piece: Piece<'_>) -> Result<(), WriteFault>
+    ensures line { Writes (piece_bytes piece.entry)
+        (E.written err.old) (E.written err.new)
+        (Rose (E.faults err.old) (E.faults err.new)) result }
+    ensures faults_kept { E.faults err.old ≤ E.faults err.new }
+{
+    match piece {
+        Piece::Text(text) => write_all(err, text),
+        Piece::Number(number) => {
+            let mut digits = Buffer::new();
+            write_all(err, digits.format(number).as_bytes())
+        }
     }
 }
 
-/// Writes a line of one piece and its end.
-pub(crate) fn tell_line<E: Sink>(err: &mut E, piece: &[u8])
-    ensures line { TellsLine (piece.now ++ 10 ∷ [])
-        (E.written err.old) (E.written err.new) (Rose (E.faults err.old) (E.faults err.new)) }
-    ensures faults_kept { E.faults err.old ≤ E.faults err.new }
-{
-    match write_piece(err, piece) {
-        Ok(()) => end_line(err),
-        Err(WriteFault) => {}
-    }
-}
-
-fn end_line<E: Sink>(err: &mut E)
-    ensures line { TellsLine (10 ∷ [])
-        (E.written err.old) (E.written err.new) (Rose (E.faults err.old) (E.faults err.new)) }
-    ensures faults_kept { E.faults err.old ≤ E.faults err.new }
-{
-    let _ = write_all(err, b"\n");
-}
-
-fn write_piece<E: Sink>(err: &mut E, piece: &[u8]) -> Result<(), WriteFault>
-    ensures line { Writes piece.now
-        (E.written err.old) (E.written err.new)
-        (Rose (E.faults err.old) (E.faults err.new)) result }
-    ensures faults_kept { E.faults err.old ≤ E.faults err.new }
-{
-    write_all(err, piece)
-}
-
-fn write_two<E: Sink>(err: &mut E, first: &[u8], second: &[u8]) -> Result<(), WriteFault>
-    ensures line { Writes (first.now ++ second.now)
-        (E.written err.old) (E.written err.new)
-        (Rose (E.faults err.old) (E.faults err.new)) result }
-    ensures faults_kept { E.faults err.old ≤ E.faults err.new }
-{
-    match write_piece(err, first) {
-        Ok(()) => write_piece(err, second),
-        Err(fault) => Err(fault),
-    }
-}
-
-/// Writes a number in decimal, behind a piece.
-fn write_number<E: Sink>(err: &mut E, front: &[u8], number: u64) -> Result<(), WriteFault>
-    ensures line { Writes (front.now ++ decimal number)
-        (E.written err.old) (E.written err.new)
-        (Rose (E.faults err.old) (E.faults err.new)) result }
-    ensures faults_kept { E.faults err.old ≤ E.faults err.new }
-{
-    let mut digits = Buffer::new();
-    write_two(err, front, digits.format(number).as_bytes())
-}
-
-/// Writes what names a part, behind a piece.
-fn write_part<E: Sink>(err: &mut E, front: &[u8], name: &PartName) -> Result<(), WriteFault>
-    ensures line { Writes (front.now ++ part_words name.now)
-        (E.written err.old) (E.written err.new)
-        (Rose (E.faults err.old) (E.faults err.new)) result }
-    ensures faults_kept { E.faults err.old ≤ E.faults err.new }
-{
-    match write_two(err, front, b"table ") {
-        Ok(()) => write_table(err, name),
-        Err(fault) => Err(fault),
-    }
-}
-
-fn write_table<E: Sink>(err: &mut E, name: &PartName) -> Result<(), WriteFault>
-    ensures line { Writes (name.now.table ++ (codes " part " ++ decimal name.now.part))
-        (E.written err.old) (E.written err.new)
-        (Rose (E.faults err.old) (E.faults err.new)) result }
-    ensures faults_kept { E.faults err.old ≤ E.faults err.new }
-{
-    match write_piece(err, name.table.as_slice()) {
-        Ok(()) => write_number(err, b" part ", name.part as u64),
-        Err(fault) => Err(fault),
-    }
-}
-
-fn write_field<E: Sink>(err: &mut E, field: BadField) -> Result<(), WriteFault>
-    ensures line { Writes (field_words field)
-        (E.written err.old) (E.written err.new)
-        (Rose (E.faults err.old) (E.faults err.new)) result }
-    ensures faults_kept { E.faults err.old ≤ E.faults err.new }
-{
-    match field {
-        BadField::Column(column) => write_number(err, b" column ", u64::from(column)),
-        BadField::Fields(fields) => write_number(err, b" fields ", fields),
-    }
-}
-
-fn write_place<E: Sink>(err: &mut E, place: BadPlace) -> Result<(), WriteFault>
-    ensures line { Writes (codes " row " ++ decimal place.row ++ field_words place.field)
-        (E.written err.old) (E.written err.new)
-        (Rose (E.faults err.old) (E.faults err.new)) result }
-    ensures faults_kept { E.faults err.old ≤ E.faults err.new }
-{
-    match write_number(err, b" row ", place.row) {
-        Ok(()) => write_field(err, place.field),
-        Err(fault) => Err(fault),
-    }
-}
-
-/// Writes what is told of a part behind its name.
-fn write_part_back<E: Sink>(err: &mut E, failure: PartFailure) -> Result<(), WriteFault>
-    ensures line { Writes (part_back failure)
-        (E.written err.old) (E.written err.new)
-        (Rose (E.faults err.old) (E.faults err.new)) result }
-    ensures faults_kept { E.faults err.old ≤ E.faults err.new }
+/// The line of a failure and its end.
+pub(crate) fn failure_pieces(failure: &Failure) -> Line<'_>
+    ensures { flat_map piece_bytes result ≡ failure_line failure.now ++ 10 ∷ [] }
 {
     match failure {
-        PartFailure::Bad(place) => write_place(err, place),
-        PartFailure::Read => write_piece(err, b""),
-        PartFailure::Stalled => write_piece(err, b""),
-        PartFailure::TooLong => write_piece(err, b", at most 1073741824"),
-    }
-}
-
-fn write_part_failure<E: Sink>(
-    err: &mut E,
-    name: &PartName,
-    failure: PartFailure,
-) -> Result<(), WriteFault>
-    ensures line { Writes (part_front failure ++ part_words name.now ++ part_back failure)
-        (E.written err.old) (E.written err.new)
-        (Rose (E.faults err.old) (E.faults err.new)) result }
-    ensures faults_kept { E.faults err.old ≤ E.faults err.new }
-{
-    match write_part(err, part_front(failure), name) {
-        Ok(()) => write_part_back(err, failure),
-        Err(fault) => Err(fault),
-    }
-}
-
-fn write_counts<E: Sink>(err: &mut E, short: Shortage) -> Result<(), WriteFault>
-    ensures line { Writes (stock_words short.needed short.there)
-        (E.written err.old) (E.written err.new)
-        (Rose (E.faults err.old) (E.faults err.new)) result }
-    ensures faults_kept { E.faults err.old ≤ E.faults err.new }
-{
-    match write_number(err, b" needed ", short.needed as u64) {
-        Ok(()) => write_number(err, b", rack has ", short.there as u64),
-        Err(fault) => Err(fault),
-    }
-}
-
-fn write_stock<E: Sink>(err: &mut E, short: Shortage) -> Result<(), WriteFault>
-    ensures line { Writes
-        (codes "qrun: limit: boxes of kind " ++ kind_name short.kind
-        ++ stock_words short.needed short.there)
-        (E.written err.old) (E.written err.new)
-        (Rose (E.faults err.old) (E.faults err.new)) result }
-    ensures faults_kept { E.faults err.old ≤ E.faults err.new }
-{
-    match write_two(err, b"qrun: limit: boxes of kind ", kind_name(short.kind)) {
-        Ok(()) => write_counts(err, short),
-        Err(fault) => Err(fault),
-    }
-}
-
-// The line of a failure, without its end.
-fn write_failure<E: Sink>(err: &mut E, failure: &Failure) -> Result<(), WriteFault>
-    ensures line { Writes (failure_line failure.now)
-        (E.written err.old) (E.written err.new)
-        (Rose (E.faults err.old) (E.faults err.new)) result }
-    ensures faults_kept { E.faults err.old ≤ E.faults err.new }
-{
-    match failure {
-        Failure::Usage => write_piece(
-            err,
+        Failure::Usage => named(
             b"qrun: usage: qrun --query QUERY [--tables TABLES] [--threads N] [--chunk N] [--header]",
+            b"",
         ),
-        Failure::Refused(refused) => write_refused(err, refused),
-        Failure::Plan(failure) => write_plan_failure(err, failure),
-        Failure::Memory => write_piece(err, b"qrun: out of memory"),
+        Failure::Refused(refused) => refused_pieces(refused),
+        Failure::Plan(failure) => plan_pieces(failure),
+        Failure::Memory => named(b"qrun: out of memory", b""),
     }
 }
 
-fn write_plan_failure<E: Sink>(err: &mut E, failure: &PlanFailure) -> Result<(), WriteFault>
-    ensures line { Writes (plan_line failure.now)
-        (E.written err.old) (E.written err.new)
-        (Rose (E.faults err.old) (E.faults err.new)) result }
-    ensures faults_kept { E.faults err.old ≤ E.faults err.new }
+/// The line of a write fault and its end.
+pub(crate) fn write_fault_pieces() -> Line<'static>
+    ensures { flat_map piece_bytes result ≡ codes "qrun: write fault" ++ 10 ∷ [] }
 {
-    match failure {
-        PlanFailure::Stock(short) => write_stock(err, *short),
-        PlanFailure::Part(name, failure) => write_part_failure(err, name, *failure),
-        PlanFailure::Unlawful(kind) => write_two(
-            err,
-            b"qrun: limit: unlawful box of kind ",
-            kind_name(*kind),
-        ),
-        PlanFailure::Memory => write_piece(err, b"qrun: out of memory"),
-    }
+    named(b"qrun: write fault", b"")
 }
 
-fn write_refused<E: Sink>(err: &mut E, refused: &Refused) -> Result<(), WriteFault>
-    ensures line { Writes (refused_line refused.now)
-        (E.written err.old) (E.written err.new)
-        (Rose (E.faults err.old) (E.faults err.new)) result }
-    ensures faults_kept { E.faults err.old ≤ E.faults err.new }
+fn named<'a>(front: &'static [u8], name: &'a [u8]) -> Line<'a>
+    ensures { flat_map piece_bytes result ≡ front.now ++ name.now ++ 10 ∷ [] }
+{
+    [
+        Piece::Text(front),
+        Piece::Text(name),
+        END,
+        NONE,
+        NONE,
+        NONE,
+        NONE,
+        NONE,
+        NONE,
+        NONE,
+    ]
+}
+
+fn refused_pieces(refused: &Refused) -> Line<'_>
+    ensures { flat_map piece_bytes result ≡ refused_line refused.now ++ 10 ∷ [] }
 {
     match refused {
-        Refused::Text(refusal) => write_piece(err, text_line(*refusal)),
-        Refused::Query(refusal) => write_refusal(err, refusal),
-        Refused::NotBuilt => write_piece(err, b"qrun: refused: NotBuilt"),
+        Refused::Text(refusal) => named(text_line(*refusal), b""),
+        Refused::Query(refusal) => {
+            let (front, name) = query_line(refusal);
+            named(front, name)
+        }
+        Refused::NotBuilt => named(b"qrun: refused: NotBuilt", b""),
     }
 }
 
-fn write_refusal<E: Sink>(err: &mut E, refusal: &Refusal) -> Result<(), WriteFault>
-    ensures line { Writes (query_line refusal.now)
-        (E.written err.old) (E.written err.new)
-        (Rose (E.faults err.old) (E.faults err.new)) result }
-    ensures faults_kept { E.faults err.old ≤ E.faults err.new }
-{
-    let (front, name) = query_line(refusal);
-    write_two(err, front, name)
-}
-
-fn part_front(failure: PartFailure) -> &'static [u8]
-    ensures { result.now ≡ part_front failure }
+fn plan_pieces(failure: &PlanFailure) -> Line<'_>
+    ensures { flat_map piece_bytes result ≡ plan_line failure.now ++ 10 ∷ [] }
 {
     match failure {
-        PartFailure::Bad(_) => b"qrun: bad data: ",
-        PartFailure::Read => b"qrun: read fault: ",
-        PartFailure::Stalled => b"qrun: stalled: ",
-        PartFailure::TooLong => b"qrun: limit: bytes of ",
+        PlanFailure::Paths(name, count) => [
+            Piece::Text(b"qrun: limit: paths of "),
+            Piece::Text(name.as_slice()),
+            Piece::Text(b" are "),
+            Piece::Number(*count),
+            Piece::Text(b", at most 32"),
+            END,
+            NONE,
+            NONE,
+            NONE,
+            NONE,
+        ],
+        PlanFailure::Stock(short) => [
+            Piece::Text(b"qrun: limit: boxes of kind "),
+            Piece::Text(kind_name(&short.kind)),
+            Piece::Text(b" needed "),
+            Piece::Number(short.needed as u64),
+            Piece::Text(b", rack has "),
+            Piece::Number(short.there as u64),
+            END,
+            NONE,
+            NONE,
+            NONE,
+        ],
+        PlanFailure::Part(name, failure) => part_pieces(name, *failure),
+        PlanFailure::Unlawful(kind) => {
+            named(b"qrun: limit: unlawful box of kind ", kind_name(kind))
+        }
+        PlanFailure::Memory => named(b"qrun: out of memory", b""),
+    }
+}
+
+fn part_pieces(name: &PartName, failure: PartFailure) -> Line<'_>
+    ensures { flat_map piece_bytes result
+        ≡ plan_line (plan.Part name.now failure) ++ 10 ∷ [] }
+{
+    match failure {
+        PartFailure::Bad(place) => place_pieces(name, place),
+        PartFailure::Read => named_part(b"qrun: read fault: ", name, b""),
+        PartFailure::Stalled => named_part(b"qrun: stalled: ", name, b""),
+        PartFailure::TooLong => {
+            named_part(b"qrun: limit: bytes of ", name, b", at most 1073741824")
+        }
+    }
+}
+
+fn named_part<'a>(front: &'static [u8], name: &'a PartName, back: &'static [u8]) -> Line<'a>
+    ensures { flat_map piece_bytes result ≡ front.now ++ part_words name.now ++ back.now ++ 10 ∷ [] }
+{
+    [
+        Piece::Text(front),
+        Piece::Text(b"table "),
+        Piece::Text(name.table.as_slice()),
+        Piece::Text(b" part "),
+        Piece::Number(name.part as u64),
+        Piece::Text(back),
+        END,
+        NONE,
+        NONE,
+        NONE,
+    ]
+}
+
+fn place_pieces(name: &PartName, place: BadPlace) -> Line<'_>
+    ensures { flat_map piece_bytes result
+        ≡ plan_line (plan.Part name.now (part.Bad place)) ++ 10 ∷ [] }
+{
+    let (word, number) = field_words(place.field);
+    [
+        Piece::Text(b"qrun: bad data: "),
+        Piece::Text(b"table "),
+        Piece::Text(name.table.as_slice()),
+        Piece::Text(b" part "),
+        Piece::Number(name.part as u64),
+        Piece::Text(b" row "),
+        Piece::Number(place.row),
+        Piece::Text(word),
+        Piece::Number(number),
+        END,
+    ]
+}
+
+fn field_words(field: BadField) -> (&'static [u8], u64)
+    ensures { result.0.now ++ decimal result.1 ≡ field_words field }
+{
+    match field {
+        BadField::Column(column) => (b" column ", u64::from(column)),
+        BadField::Fields(fields) => (b" fields ", fields),
     }
 }
 
@@ -281,8 +243,8 @@ fn query_line(refusal: &Refusal) -> (&'static [u8], &[u8])
     }
 }
 
-fn kind_name(kind: Kind) -> &'static [u8]
-    ensures { result.now ≡ kind_name kind }
+fn kind_name(kind: &Kind) -> &[u8]
+    ensures { result.now ≡ kind_name kind.now }
 {
     match kind {
         Kind::Csv => b"Csv",

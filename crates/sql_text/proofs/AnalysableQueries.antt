@@ -4,35 +4,30 @@ use Rattle.std.proofs.Common.{◌≡◌, ℕ, Bool, true, false, List, [], ◌�
 use Rattle.std.specs.Prelude.{⊤, is_some}
 use Rattle.std.specs.List.{All}
 use Rattle.std.proofs.lemmas.List.Elements.{All-nil, All-cons, All-head, All-tail, All-append}
-use Rattle.query_model.specs.Formulas.{Formula, column, number, arith, formula}
-use Rattle.query_model.specs.Refusals.{cond_operands, operands_of, listed}
-use Rattle.query_model.specs.Checks.{item_calls, calls_of}
-use Rattle.query_model.specs.Analysis.{IsNoCall, IsGroupOperand, takes_argument, HasItsArgument, IsAnalysable}
+use Rattle.query_model.specs.Names.{Formula, column, number, arith, formula, cond_operands, operands_of, listed, item_calls, calls_of, IsNoCall, IsGroupOperand, takes_argument, HasItsArgument, IsAnalysable}
 use Rattle.query_model.specs.declared.query.AggOp.{AggOp}
-use Rattle.query_model.specs.declared.query.AggOp.TheVariants as agg
 use Rattle.query_model.specs.declared.query.AggCall.{AggCall}
 use Rattle.query_model.specs.declared.query.ColumnRef.{ColumnRef}
 use Rattle.query_model.specs.declared.query.ExprOf.{ExprOf}
-use Rattle.query_model.specs.declared.query.ExprOf.TheVariants as expr
 use Rattle.query_model.specs.declared.query.Operand.{Operand}
-use Rattle.query_model.specs.declared.query.Operand.TheVariants as operand
 use Rattle.query_model.specs.declared.query.CondOf.{CondOf}
-use Rattle.query_model.specs.declared.query.CondOf.TheVariants as cond'
 use Rattle.query_model.specs.declared.query.Item.{Item}
 use Rattle.query_model.specs.declared.query.ItemKind.{ItemKind}
-use Rattle.query_model.specs.declared.query.ItemKind.TheVariants as kind
 use Rattle.query_model.specs.declared.query.Items.{Items}
-use Rattle.query_model.specs.declared.query.Items.TheVariants as items
 use Rattle.query_model.specs.declared.query.TableRef.{TableRef}
 use Rattle.query_model.specs.declared.query.Join.{Join}
 use Rattle.query_model.specs.declared.query.OrderKey.{OrderKey}
 use Rattle.query_model.specs.declared.query.Span.{Span}
 use Rattle.query_model.specs.declared.query.Query.{Query}
+use Rattle.query_model.specs.declared.query.AggOp.TheVariants as agg
+use Rattle.query_model.specs.declared.query.ExprOf.TheVariants as expr
+use Rattle.query_model.specs.declared.query.Operand.TheVariants as operand
+use Rattle.query_model.specs.declared.query.CondOf.TheVariants as cond'
+use Rattle.query_model.specs.declared.query.ItemKind.TheVariants as kind
+use Rattle.query_model.specs.declared.query.Items.TheVariants as items
 use Rattle.sql_grammar.specs.declared.Sign.TheVariants as sign
 use Rattle.sql_grammar.specs.declared.Token.TheVariants as token
-use Rattle.sql_grammar.specs.Tokens.{has_argument}
-use Rattle.sql_grammar.specs.Trees.{Expression, CallTree, Side, plain, text, call, Condition, compare, both, either, negated, ItemWhat, plain_item, call_item, ItemTree, Selection, star, listed as listed_items, QueryTree, side, condition, item_what, item_tree, selection, query_tree}
-use Rattle.sql_grammar.specs.Grammar.{Tokens, IsAgg, count_rows, count_star, call_over, IsOperand, an_expr, a_string, IsGroupOperand as IsGroupSide, a_key, a_call, a_constant, a_negative, a_text, IsCond, one_conj, disjunction, IsConj, one_neg, conjunction, IsNeg, negation, enclosed_cond, comparison, AreListed, last_one, one_more, IsWhat, an_expression, an_agg, IsItem, unnamed, named, IsSelection, all_columns, some_items, IsFilter, no_filter, filter_by, IsHaving, no_having, having_by, IsSource, source_of, IsShaping, shaping_of, IsQuery, select_query, IsText, bare, with_semicolon}
+use Rattle.sql_grammar.specs.Names.{has_argument, Expression, CallTree, Side, plain, text, call, Condition, compare, both, either, negated, ItemWhat, plain_item, call_item, ItemTree, Selection, star, listed as listed_items, QueryTree, side, condition, item_what, item_tree, selection, query_tree, Tokens, IsAgg, count_rows, count_star, call_over, IsOperand, an_expr, a_string, IsGroupOperand as IsGroupSide, a_key, a_call, a_constant, a_negative, a_text, IsCond, one_conj, disjunction, IsConj, one_neg, conjunction, IsNeg, negation, enclosed_cond, comparison, AreListed, last_one, one_more, IsWhat, an_expression, an_agg, IsItem, unnamed, named, IsSelection, all_columns, some_items, IsFilter, no_filter, filter_by, IsHaving, no_having, having_by, IsSource, source_of, IsShaping, shaping_of, IsQuery, select_query, IsText, bare, with_semicolon}
 use Rattle.sql_text.specs.Refusals.{IsReadBy}
 
 -- ---- sides and calls of trees

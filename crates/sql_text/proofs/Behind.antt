@@ -5,9 +5,8 @@ use Rattle.query_model.specs.declared.query.Join.{Join}
 use Rattle.query_model.specs.declared.query.NamePair.{NamePair}
 use Rattle.query_model.specs.declared.query.OrderKey.{OrderKey}
 use Rattle.query_model.specs.declared.query.TableRef.{TableRef}
+use Rattle.sql_grammar.specs.Names.{Expression, CallTree, Side, Condition, ItemWhat, ItemTree, Selection, Tokens, IsColumn, unqualified, qualified, IsExpr, one_term, sum, difference, IsTerm, one_factor, product, IsFactor, a_column, a_number, negative, enclosed, IsAgg, count_rows, count_star, call_over, IsOperand, an_expr, a_string, IsGroupOperand, a_key, a_call, a_constant, a_negative, a_text, IsCond, one_conj, disjunction, IsConj, one_neg, conjunction, IsNeg, negation, enclosed_cond, comparison, AreListed, last_one, one_more, IsWhat, an_expression, an_agg, IsItem, unnamed, named, IsSelection, all_columns, some_items, IsTable, named_table, numbers_table, IsPair, equal_columns, IsJoined, table_on, IsOrderKey, unstated, ascending, descending}
 use Rattle.sql_grammar.specs.declared.Token.{Token}
-use Rattle.sql_grammar.specs.Trees.{Expression, CallTree, Side, Condition, ItemWhat, ItemTree, Selection}
-use Rattle.sql_grammar.specs.Grammar.{Tokens, IsColumn, unqualified, qualified, IsExpr, one_term, sum, difference, IsTerm, one_factor, product, IsFactor, a_column, a_number, negative, enclosed, IsAgg, count_rows, count_star, call_over, IsOperand, an_expr, a_string, IsGroupOperand, a_key, a_call, a_constant, a_negative, a_text, IsCond, one_conj, disjunction, IsConj, one_neg, conjunction, IsNeg, negation, enclosed_cond, comparison, AreListed, last_one, one_more, IsWhat, an_expression, an_agg, IsItem, unnamed, named, IsSelection, all_columns, some_items, IsTable, named_table, numbers_table, IsPair, equal_columns, IsJoined, table_on, IsOrderKey, unstated, ascending, descending}
 
 pub data IsBehind : Tokens → Tokens → Type 0 where
   next : {t : Token} {ts : Tokens} → IsBehind ts (t ∷ ts)

@@ -1,56 +1,34 @@
--- A query that is read, as long as the tokens of other clauses are refused, is one of one declared table, without calls, grouping,
--- order and limit.
-use Rattle.std.proofs.Common.{◌≡◌, ℕ, Bool, true, false, ◌&&◌, ◌||◌, cond, List, [], ◌∷◌, length, map, Option, Some, None, option_map, refl, subst}
-use Rattle.std.specs.Prelude.{⊤, nat_lt, is_some, bytes_eq, codes, count_by}
-use Rattle.std.specs.List.{All, list_any}
-use Rattle.std.proofs.lemmas.List.Elements.{All-nil, All-cons, All-append}
-use Rattle.query_model.specs.Refusals.{cond_operands, operands_of, listed}
-use Rattle.query_model.specs.Analysis.{IsNamed, HasNoCall, IsNoCall, IsPlainQuery}
+-- A query that is read, as long as the tokens of other clauses are refused, is one of one table,
+-- without grouping.
+use Rattle.std.proofs.Common.{◌≡◌, ℕ, Bool, true, false, ◌&&◌, ◌||◌, cond, List, [], ◌∷◌, length, map, Option, Some, None, option_map, refl, ap₂, subst}
+use Rattle.std.specs.Prelude.{⊤, nat_lt, is_some, count_by}
+use Rattle.std.specs.List.{list_any}
+use Rattle.query_model.specs.Refusals.{is_call, is_grouped, listed}
 use Rattle.query_model.specs.declared.query.AggOp.{AggOp}
 use Rattle.query_model.specs.declared.query.ColumnRef.{ColumnRef}
-use Rattle.query_model.specs.declared.query.Operand.{Operand}
-use Rattle.query_model.specs.declared.query.Operand.TheVariants as operand
 use Rattle.query_model.specs.declared.query.CondOf.{CondOf}
-use Rattle.query_model.specs.declared.query.CondOf.TheVariants as cond'
 use Rattle.query_model.specs.declared.query.Item.{Item}
 use Rattle.query_model.specs.declared.query.ItemKind.{ItemKind}
-use Rattle.query_model.specs.declared.query.ItemKind.TheVariants as kind
 use Rattle.query_model.specs.declared.query.Items.{Items}
-use Rattle.query_model.specs.declared.query.Items.TheVariants as items
 use Rattle.query_model.specs.declared.query.Join.{Join}
 use Rattle.query_model.specs.declared.query.OrderKey.{OrderKey}
 use Rattle.query_model.specs.declared.query.Span.{Span}
 use Rattle.query_model.specs.declared.query.TableRef.{TableRef}
 use Rattle.query_model.specs.declared.query.Query.{Query}
+use Rattle.query_model.specs.declared.query.ItemKind.TheVariants as kind
+use Rattle.query_model.specs.declared.query.Items.TheVariants as items
+use Rattle.sql_grammar.specs.Names.{aggregate_of, tokens_of, CallTree, Condition, ItemWhat, plain_item, call_item, ItemTree, Selection, star, listed as listed_items, QueryTree, condition, item_what, item_tree, selection, Tokens, IsAgg, count_rows, count_star, call_over, IsOperand, AreListed, last_one, one_more, IsWhat, an_expression, an_agg, IsItem, unnamed, named, IsSelection, all_columns, some_items, table_on, IsJoin, no_join, join_of, inner_join, IsFilter, no_filter, filter_by, AreKeys, no_keys, keys_by, IsHaving, no_having, having_by, IsSource, source_of, IsShaping, shaping_of, IsQuery, select_query, IsText, bare, with_semicolon}
 use Rattle.sql_grammar.specs.declared.Token.{Token}
-use Rattle.sql_grammar.specs.declared.Token.TheVariants as token
 use Rattle.sql_grammar.specs.declared.Keyword.{Keyword}
+use Rattle.sql_grammar.specs.declared.Token.TheVariants as token
 use Rattle.sql_grammar.specs.declared.Keyword.TheVariants as keyword
 use Rattle.sql_grammar.specs.declared.Sign.TheVariants as sign
-use Rattle.sql_grammar.specs.Tokens.{aggregate_of, tokens_of}
-use Rattle.sql_grammar.specs.Trees.{CallTree, Side, plain, text, call, Condition, compare, both, either, negated, ItemWhat, plain_item, call_item, ItemTree, Selection, star, listed as listed_items, QueryTree, side, condition, item_what, item_tree, selection}
-use Rattle.sql_grammar.specs.Grammar.{Tokens, IsAgg, count_rows, count_star, call_over, IsOperand, an_expr, a_string, IsCond, one_conj, disjunction, IsConj, one_neg, conjunction, IsNeg, negation, enclosed_cond, comparison, AreListed, last_one, one_more, IsWhat, an_expression, an_agg, IsItem, unnamed, named, IsSelection, all_columns, some_items, IsTable, named_table, numbers_table, table_on, IsJoin, no_join, join_of, inner_join, IsFilter, no_filter, filter_by, AreKeys, no_keys, keys_by, IsHaving, no_having, having_by, IsOrder, no_order, order_by, IsLimit, no_limit, first_rows, rows_behind, IsSource, source_of, IsShaping, shaping_of, IsQuery, select_query, IsText, bare, with_semicolon}
 use Rattle.sql_text.specs.declared.limits.ParseRefusal.{ParseRefusal}
 use Rattle.sql_text.specs.declared.limits.ParseRefusal.TheVariants as refusal
-use Rattle.sql_text.specs.Refusals.{is_large, is_operator, is_aggregate, is_unbuilt_keyword, is_unbuilt, has_unbuilt, unbuilt_refusal, token_refusal, refusal_of_tokens, IsReadFrom}
+use Rattle.sql_text.specs.Refusals.{is_large, is_operator, is_unbuilt_keyword, is_unbuilt, has_unbuilt, unbuilt_refusal, token_refusal, refusal_of_tokens, IsReadFrom}
 use Rattle.sql_text.proofs.Behind.{IsBehind, next, later, past, operand_behind, cond_behind, item_behind, selection_behind, table_behind}
 
 -- ---- trees without calls
-
-abbrev NoCallSide : Side → Type 0
-NoCallSide (plain e) = ⊤
-NoCallSide (text t) = ⊤
-NoCallSide (call c) = ⊥
-
-abbrev NoCalls : Condition → Type 0
-NoCalls (compare op a b) = NoCallSide a × NoCallSide b
-NoCalls (both a b) = NoCalls a × NoCalls b
-NoCalls (either a b) = NoCalls a × NoCalls b
-NoCalls (negated a) = NoCalls a
-
-abbrev NoCallFilter : Option Condition → Type 0
-NoCallFilter None = ⊤
-NoCallFilter (Some c) = NoCalls c
 
 abbrev NoCallWhat : ItemWhat → Type 0
 NoCallWhat (plain_item e) = ⊤
@@ -65,14 +43,10 @@ NoCallSelection star = ⊤
 NoCallSelection (listed_items is) = NoCallItems is
 
 record IsPlainTree (t : QueryTree) : Type 0 where
-  is_named : IsNamed t.from
   one_table : t.join ≡ None
   items : NoCallSelection t.items
-  filter : NoCallFilter t.filter
   ungrouped : t.keys ≡ []
   no_having : t.having ≡ None
-  unordered : t.order ≡ []
-  unlimited : t.limit ≡ None
 
 -- ---- tokens that are built
 
@@ -94,12 +68,14 @@ front_built : (t : Token) (ts : Tokens) → has_unbuilt (t ∷ ts) ≡ false →
 unfolding has_unbuilt
 front_built t ts h = or_first (is_unbuilt t ts) (has_unbuilt ts) h
 
-called_unbuilt : (w : List ℕ) (op : AggOp) (ts : Tokens) → aggregate_of w ≡ Some op → has_unbuilt (token.Name w ∷ token.Sign sign.Open ∷ ts) ≡ false → ⊥
-called_unbuilt w op ts known h = go (aggregate_of w) (bytes_eq w (codes "numbers")) known (front_built (token.Name w) (token.Sign sign.Open ∷ ts) h)
+called_unbuilt : (w : List ℕ) (op : AggOp) (ts : Tokens) → aggregate_of w ≡ Some op
+    → has_unbuilt (token.Name w ∷ token.Sign sign.Open ∷ ts) ≡ false → ⊥
+called_unbuilt w op ts known h =
+    go (aggregate_of w) known (front_built (token.Name w) (token.Sign sign.Open ∷ ts) h)
   where
-    go : (o : Option AggOp) (b : Bool) → o ≡ Some op → ((is_some o || b) && true) ≡ false → ⊥
-    go None b e k = absurd cc
-    go (Some op) b e k = absurd cc
+    go : (o : Option AggOp) → o ≡ Some op → (is_some o && true) ≡ false → ⊥
+    go None e k = absurd cc
+    go (Some op) e k = absurd cc
 
 agg_unbuilt : {c : CallTree} {ts rest : Tokens} → IsAgg c ts rest → has_unbuilt ts ≡ false → ⊥
 agg_unbuilt (count_rows {w = w} known) h = called_unbuilt w _ _ known h
@@ -107,28 +83,6 @@ agg_unbuilt (count_star {w = w} known) h = called_unbuilt w _ _ known h
 agg_unbuilt (call_over {w = w} known has e) h = called_unbuilt w _ _ known h
 
 -- ---- what is spelled by such tokens has no calls
-
-side_plain : {s : Side} {ts rest : Tokens} → IsOperand s ts rest → NoCallSide s
-side_plain (an_expr e) = tt
-side_plain a_string = tt
-
-mutual
-  cond_plain : {c : Condition} {ts rest : Tokens} → IsCond IsOperand c ts rest → NoCalls c
-  cond_plain (one_conj a) = conj_plain a
-  cond_plain (disjunction a b) = (cond_plain a, conj_plain b)
-
-  conj_plain : {c : Condition} {ts rest : Tokens} → IsConj IsOperand c ts rest → NoCalls c
-  conj_plain (one_neg a) = neg_plain a
-  conj_plain (conjunction a b) = (conj_plain a, neg_plain b)
-
-  neg_plain : {c : Condition} {ts rest : Tokens} → IsNeg IsOperand c ts rest → NoCalls c
-  neg_plain (negation a) = neg_plain a
-  neg_plain (enclosed_cond a) = cond_plain a
-  neg_plain (comparison a o b) = (side_plain a, side_plain b)
-
-filter_plain : {f : Option Condition} {ts rest : Tokens} → IsFilter f ts rest → NoCallFilter f
-filter_plain no_filter = tt
-filter_plain (filter_by c) = cond_plain c
 
 what_plain : {w : ItemWhat} {ts rest : Tokens} → IsWhat w ts rest → has_unbuilt ts ≡ false → NoCallWhat w
 what_plain (an_expression e) h = tt
@@ -145,15 +99,6 @@ items_plain (one_more i is) h = (item_plain i h, items_plain is (built_behind (p
 selection_plain : {s : Selection} {ts rest : Tokens} → IsSelection s ts rest → has_unbuilt ts ≡ false → NoCallSelection s
 selection_plain all_columns h = tt
 selection_plain (some_items is) h = items_plain is h
-
-table_plain : {t : TableRef} {ts rest : Tokens} → IsTable t ts rest → has_unbuilt ts ≡ false → IsNamed t
-table_plain named_table h = tt
-table_plain (numbers_table {n = n} {rest = rest}) h =
-    clash (is_aggregate (codes "numbers")) (front_built (token.Name (codes "numbers")) (token.Sign sign.Open ∷ token.Number n ∷ token.Sign sign.Close ∷ rest) h)
-  where
-    clash : (a : Bool) → ((a || true) && true) ≡ false → ⊥
-    clash true e = absurd cc
-    clash false e = absurd cc
 
 no_keyword : (k : Keyword) (ts : Tokens) → is_unbuilt_keyword k ≡ true → has_unbuilt (token.Keyword k ∷ ts) ≡ false → ⊥
 no_keyword k ts is h = clash (is_unbuilt_keyword k) is (front_built (token.Keyword k) ts h)
@@ -179,49 +124,30 @@ having_plain : {c : Option Condition} {ts rest : Tokens} → IsHaving c ts rest 
 having_plain no_having h = (refl, h)
 having_plain (having_by c) h = absurd (no_keyword keyword.Having _ refl h)
 
-order_plain : {ks : List OrderKey} {ts rest : Tokens} → IsOrder ks ts rest → has_unbuilt ts ≡ false → (ks ≡ []) × (has_unbuilt rest ≡ false)
-order_plain no_order h = (refl, h)
-order_plain (order_by ks) h = absurd (no_keyword keyword.Order _ refl h)
-
-limit_plain : {l : Option Span} {ts rest : Tokens} → IsLimit l ts rest → has_unbuilt ts ≡ false → l ≡ None
-limit_plain no_limit h = refl
-limit_plain first_rows h = absurd (no_keyword keyword.Limit _ refl h)
-limit_plain rows_behind h = absurd (no_keyword keyword.Limit _ refl h)
-
-record PlainSource (t : TableRef) (j : Option Join) (f : Option Condition) (rest : Tokens) : Type 0 where
-  is_named : IsNamed t
-  one_table : j ≡ None
-  filter : NoCallFilter f
-  built : has_unbuilt rest ≡ false
-
-source_plain : {t : TableRef} {j : Option Join} {f : Option Condition} {ts rest : Tokens} → IsSource t j f ts rest → has_unbuilt ts ≡ false → PlainSource t j f rest
+source_plain : {t : TableRef} {j : Option Join} {f : Option Condition} {ts rest : Tokens}
+    → IsSource t j f ts rest → has_unbuilt ts ≡ false → (j ≡ None) × (has_unbuilt rest ≡ false)
 source_plain (source_of t j f) h =
-    let behind = built_behind next h in
-    let joined = join_plain j (built_behind (table_behind t) behind) in
-    record { is_named = table_plain t behind; one_table = joined.0; filter = filter_plain f; built = filter_built f joined.1 }
+    let joined = join_plain j (built_behind (table_behind t) (built_behind next h)) in
+    (joined.0, filter_built f joined.1)
 
-shaping_plain : {ks : List ColumnRef} {h : Option Condition} {os : List OrderKey} {l : Option Span} {ts rest : Tokens} → IsShaping ks h os l ts rest
-    → has_unbuilt ts ≡ false → (ks ≡ []) × (h ≡ None) × (os ≡ []) × (l ≡ None)
+shaping_plain : {ks : List ColumnRef} {h : Option Condition} {os : List OrderKey}
+    {l : Option Span} {ts rest : Tokens} → IsShaping ks h os l ts rest
+    → has_unbuilt ts ≡ false → (ks ≡ []) × (h ≡ None)
 shaping_plain (shaping_of keys having order limit) b =
     let k = keys_plain keys b in
-    let h = having_plain having k.1 in
-    let o = order_plain order h.1 in
-    (k.0, h.0, o.0, limit_plain limit o.1)
+    (k.0, (having_plain having k.1).0)
 
-query_plain : {t : QueryTree} {ts rest : Tokens} → IsQuery t ts rest → has_unbuilt ts ≡ false → IsPlainTree t
+query_plain : {t : QueryTree} {ts rest : Tokens} → IsQuery t ts rest → has_unbuilt ts ≡ false
+    → IsPlainTree t
 query_plain (select_query items source shaping) h =
     let behind = built_behind next h in
     let s = source_plain source (built_behind (selection_behind items) behind) in
-    let sh = shaping_plain shaping s.built in
+    let sh = shaping_plain shaping s.1 in
     record {
-      is_named = s.is_named;
-      one_table = s.one_table;
+      one_table = s.0;
       items = selection_plain items behind;
-      filter = s.filter;
       ungrouped = sh.0;
       no_having = sh.1;
-      unordered = sh.2;
-      unlimited = sh.3;
     }
 
 text_plain : {t : QueryTree} {ts : Tokens} → IsText t ts → has_unbuilt ts ≡ false → IsPlainTree t
@@ -230,33 +156,19 @@ text_plain (with_semicolon q) h = query_plain q h
 
 -- ---- the query of such a tree
 
-what_of : (i : ItemKind) → NoCallWhat (item_what i) → HasNoCall i
-what_of (kind.Plain e) h = tt
-what_of (kind.Agg c) h = h
+no_call : (i : ItemKind) → NoCallWhat (item_what i) → is_call i ≡ false
+no_call (kind.Plain e) h = refl
+no_call (kind.Agg c) h = absurd h
 
-items_of : (is : List Item) → NoCallItems (map item_tree is) → All (λ (i : Item). HasNoCall i.what) is
-items_of [] h = All-nil (λ (i : Item). HasNoCall i.what)
-items_of (i ∷ is) h = All-cons (λ (i : Item). HasNoCall i.what) i is (what_of i.what h.0) (items_of is h.1)
+none_called : (is : List Item) → NoCallItems (map item_tree is)
+    → list_any (λ (i : Item). is_call i.what) is ≡ false
+none_called [] h = refl
+none_called (i ∷ is) h = ap₂ (λ a b. a || b) (no_call i.what h.0) (none_called is h.1)
 
-selection_of : (s : Items) → NoCallSelection (selection s) → All (λ (i : Item). HasNoCall i.what) (listed s)
-selection_of items.Star h = All-nil (λ (i : Item). HasNoCall i.what)
-selection_of (items.Listed is) h = items_of is h
-
-operand_of : (o : Operand ColumnRef) → NoCallSide (side o) → IsNoCall o
-operand_of (operand.Plain e) h = tt
-operand_of (operand.Text t) h = tt
-operand_of (operand.Agg c) h = h
-
-cond_of : (c : CondOf ColumnRef) → NoCalls (condition c) → All IsNoCall (cond_operands c)
-unfolding cond_operands
-cond_of (cond'.Compare op a b) h = All-cons IsNoCall a (b ∷ []) (operand_of a h.0) (All-cons IsNoCall b [] (operand_of b h.1) (All-nil IsNoCall))
-cond_of (cond'.And' p a q b) h = All-append IsNoCall (cond_operands a) (cond_operands b) (cond_of a h.0) (cond_of b h.1)
-cond_of (cond'.Or' p a q b) h = All-append IsNoCall (cond_operands a) (cond_operands b) (cond_of a h.0) (cond_of b h.1)
-cond_of (cond'.Not' p a) h = cond_of a h
-
-filter_of : (f : Option (CondOf ColumnRef)) → NoCallFilter (option_map condition f) → All IsNoCall (operands_of f)
-filter_of None h = All-nil IsNoCall
-filter_of (Some c) h = cond_of c h
+selected_plain : (s : Items) → NoCallSelection (selection s)
+    → list_any (λ (i : Item). is_call i.what) (listed s) ≡ false
+selected_plain items.Star h = refl
+selected_plain (items.Listed is) h = none_called is h
 
 no_condition : (o : Option (CondOf ColumnRef)) → option_map condition o ≡ None → o ≡ None
 no_condition None e = refl
@@ -283,17 +195,17 @@ tokens_built q bytes read =
     let of : token_refusal true ts ≡ None = subst (λ (o : Option (List Token)). refusal_of_tokens true o ≡ None) read.spells.are late in
     refused_if (has_unbuilt ts) (third (list_any is_large ts) (nat_lt 1000 (count_by is_operator ts)) (unbuilt_refusal true ts) of)
 
--- as long as other clauses are refused, a query that is read is one of one declared table
-pub plain_of_read : (q : Query) (bytes : List ℕ) → IsReadFrom q bytes → IsPlainQuery q
+-- a query of one table, without grouping
+pub record IsPlainSelect (q : Query) : Type 0 where
+  pub one_table : q.join ≡ None
+  pub ungrouped : is_grouped q ≡ false
+
+-- as long as other clauses are refused, a query that is read is such a query
+pub plain_of_read : (q : Query) (bytes : List ℕ) → IsReadFrom q bytes → IsPlainSelect q
 plain_of_read q bytes read =
     let t = text_plain read.spells.text (tokens_built q bytes read) in
+    let items = selected_plain q.items t.items in
     record {
-      named = t.is_named;
       one_table = t.one_table;
-      items = selection_of q.items t.items;
-      filter = filter_of q.filter t.filter;
-      ungrouped = t.ungrouped;
-      no_having = no_condition q.having t.no_having;
-      unordered = t.unordered;
-      unlimited = t.unlimited;
+      ungrouped = rw (t.ungrouped, no_condition q.having t.no_having) items;
     }

@@ -5,15 +5,15 @@ use Rattle.std.specs.Char.{is_ascii_digit}
 use Rattle.std.proofs.lemmas.List.Sums.{prefix_len-le-length}
 use Rattle.std.proofs.lemmas.List.Folds.{length-prefix_len}
 use Rattle.std.proofs.Math.Seq.{drop-cons}
-use Rattle.sql_grammar.specs.declared.Token.{Token}
-use Rattle.sql_grammar.specs.declared.Token.TheVariants as token
-use Rattle.sql_grammar.specs.declared.Sign.{Sign}
-use Rattle.sql_grammar.specs.declared.Sign.TheVariants as sign
-use Rattle.sql_grammar.specs.declared.TextPlace.{TextPlace}
-use Rattle.sql_grammar.specs.declared.TextPlace.TheVariants as place
-use Rattle.sql_grammar.specs.declared.TextByte.{TextByte}
-use Rattle.sql_grammar.specs.declared.TextByte.TheVariants as byte
 use Rattle.sql_grammar.specs.Tokens.{is_blank, is_letter, is_word_byte, word_front, number_front, begins_with_letter, begins_with, single_sign, less_sign, comparison_sign, sign_or, sign_front, text_byte, text_on, text_end, text_at, text_front, token_front, behind_token, tokens_behind}
+use Rattle.sql_grammar.specs.declared.Token.{Token}
+use Rattle.sql_grammar.specs.declared.Sign.{Sign}
+use Rattle.sql_grammar.specs.declared.TextPlace.{TextPlace}
+use Rattle.sql_grammar.specs.declared.TextByte.{TextByte}
+use Rattle.sql_grammar.specs.declared.Token.TheVariants as token
+use Rattle.sql_grammar.specs.declared.Sign.TheVariants as sign
+use Rattle.sql_grammar.specs.declared.TextPlace.TheVariants as place
+use Rattle.sql_grammar.specs.declared.TextByte.TheVariants as byte
 
 passing_within : (p : ℕ → Bool) (bs : List ℕ) → length (take_while p bs) ≤ length bs
 passing_within p bs = omega (arith, length-prefix_len p bs, prefix_len-le-length p bs)

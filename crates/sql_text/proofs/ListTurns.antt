@@ -1,11 +1,11 @@
 -- One turn of the reading of a list.
 use Rattle.std.proofs.Common.{◌≡◌, ℕ, zero, suc, ◌<◌, List, [], ◌∷◌, ◌++◌, length, map, Option, Some, None, option_and_then, option_map, refl, sym, ap, ◌∙◌, append_assoc, arith}
 use Rattle.query_model.specs.declared.query.Item.{Item}
+use Rattle.sql_grammar.specs.Trees.{item_tree}
 use Rattle.sql_grammar.specs.declared.Token.{Token}
 use Rattle.sql_grammar.specs.declared.Token.TheVariants as token
 use Rattle.sql_grammar.specs.declared.Keyword.TheVariants as keyword
 use Rattle.sql_grammar.specs.declared.Sign.TheVariants as sign
-use Rattle.sql_grammar.specs.Trees.{item_tree}
 use Rattle.sql_text.specs.Parts.{Reading}
 use Rattle.sql_text.specs.Queries.{after_comma, after_and, list_behind, list_at}
 use Rattle.sql_text.proofs.Turns.{some_turns}

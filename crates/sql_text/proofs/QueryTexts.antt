@@ -11,14 +11,13 @@ use Rattle.query_model.specs.declared.query.OrderKey.{OrderKey}
 use Rattle.query_model.specs.declared.query.Span.{Span}
 use Rattle.query_model.specs.declared.query.TableRef.{TableRef}
 use Rattle.query_model.specs.declared.query.TableRef.TheVariants as table
+use Rattle.sql_grammar.specs.Names.{Expression, Condition, ItemWhat, plain_item, call_item, ItemTree, Selection, star, listed, QueryTree, Tokens, IsExpr, IsColumn, unqualified, qualified, one_term, sum, difference, IsTerm, one_factor, product, IsFactor, a_column, a_number, negative, enclosed, IsAgg, IsOperand, IsGroupOperand, IsCond, AreListed, last_one as the_last, one_more as and_more, IsWhat, an_expression, an_agg, IsItem, unnamed, named, IsSelection, all_columns, some_items, IsTable, named_table, numbers_table, IsPair, equal_columns, IsJoined, table_on, IsJoin, no_join, join_of as joined_with, inner_join, IsFilter, no_filter, filter_by, AreKeys, no_keys, keys_by, IsHaving, no_having, having_by, IsOrderKey, unstated, ascending, descending, IsOrder, no_order, order_by, IsLimit, no_limit, first_rows, rows_behind, IsSource, source_of, IsShaping, shaping_of, IsQuery, select_query, IsText, bare, with_semicolon}
 use Rattle.sql_grammar.specs.declared.Token.{Token}
-use Rattle.sql_grammar.specs.declared.Token.TheVariants as token
 use Rattle.sql_grammar.specs.declared.Keyword.{Keyword}
-use Rattle.sql_grammar.specs.declared.Keyword.TheVariants as keyword
 use Rattle.sql_grammar.specs.declared.Sign.{Sign}
+use Rattle.sql_grammar.specs.declared.Token.TheVariants as token
+use Rattle.sql_grammar.specs.declared.Keyword.TheVariants as keyword
 use Rattle.sql_grammar.specs.declared.Sign.TheVariants as sign
-use Rattle.sql_grammar.specs.Trees.{Expression, Condition, ItemWhat, plain_item, call_item, ItemTree, Selection, star, listed, QueryTree}
-use Rattle.sql_grammar.specs.Grammar.{Tokens, IsExpr, IsColumn, unqualified, qualified, one_term, sum, difference, IsTerm, one_factor, product, IsFactor, a_column, a_number, negative, enclosed, IsAgg, IsOperand, IsGroupOperand, IsCond, AreListed, last_one as the_last, one_more as and_more, IsWhat, an_expression, an_agg, IsItem, unnamed, named, IsSelection, all_columns, some_items, IsTable, named_table, numbers_table, IsPair, equal_columns, IsJoined, table_on, IsJoin, no_join, join_of as joined_with, inner_join, IsFilter, no_filter, filter_by, AreKeys, no_keys, keys_by, IsHaving, no_having, having_by, IsOrderKey, unstated, ascending, descending, IsOrder, no_order, order_by, IsLimit, no_limit, first_rows, rows_behind, IsSource, source_of, IsShaping, shaping_of, IsQuery, select_query, IsText, bare, with_semicolon}
 use Rattle.sql_text.specs.declared.part.Clause.{Clause}
 use Rattle.sql_text.specs.declared.part.Clause.TheVariants as clause
 use Rattle.sql_text.specs.Parts.{Parsed, expression, string, aggregate, truth, Reading, next_joint, plain_of, condition_of, called, call_at, part_at}

@@ -3,9 +3,7 @@ use Rattle.std.proofs.Common.{◌≡◌, ℕ, ◌≤◌, Bool, false, cond, List
 use Rattle.std.specs.Prelude.{nat_lt}
 use Rattle.std.proofs.lemmas.Option.{same_Some, none-some}
 use Rattle.query_model.specs.declared.query.Query.{Query}
-use Rattle.sql_grammar.specs.Tokens.{tokens_of}
-use Rattle.sql_grammar.specs.Trees.{QueryTree, query_tree}
-use Rattle.sql_grammar.specs.Grammar.{Tokens, IsText, Spells}
+use Rattle.sql_grammar.specs.Names.{tokens_of, QueryTree, query_tree, Tokens, IsText, Spells}
 use Rattle.sql_text.specs.declared.limits.ParseRefusal.TheVariants as refusal
 use Rattle.sql_text.specs.declared.stop.Stop.{Stop}
 use Rattle.sql_text.specs.declared.stop.Stop.TheVariants as stop

@@ -2,18 +2,17 @@
 use Rattle.std.specs.Prelude.{ℕ, zero, suc, true, false, nat_le, if◌then◌else◌, List, [], ◌∷◌, length, Option, Some, None, option_map, option_and_then}
 use Rattle.query_model.specs.Formulas.{column, number, arith, formula}
 use Rattle.query_model.specs.declared.query.ArithOp.{ArithOp}
-use Rattle.query_model.specs.declared.query.ArithOp.TheVariants as op
 use Rattle.query_model.specs.declared.query.AggOp.{AggOp}
+use Rattle.query_model.specs.declared.query.ArithOp.TheVariants as op
 use Rattle.query_model.specs.declared.query.AggOp.TheVariants as agg
 use Rattle.query_model.specs.declared.query.CompareOp.TheVariants as order
+use Rattle.sql_grammar.specs.Names.{aggregate_of, Expression, CallTree, Side, plain, text, call, Condition, compare, both, either, negated, call_tree, condition}
 use Rattle.sql_grammar.specs.declared.Token.{Token}
-use Rattle.sql_grammar.specs.declared.Token.TheVariants as token
 use Rattle.sql_grammar.specs.declared.Keyword.{Keyword}
-use Rattle.sql_grammar.specs.declared.Keyword.TheVariants as keyword
 use Rattle.sql_grammar.specs.declared.Sign.{Sign}
+use Rattle.sql_grammar.specs.declared.Token.TheVariants as token
+use Rattle.sql_grammar.specs.declared.Keyword.TheVariants as keyword
 use Rattle.sql_grammar.specs.declared.Sign.TheVariants as sign
-use Rattle.sql_grammar.specs.Tokens.{aggregate_of}
-use Rattle.sql_grammar.specs.Trees.{Expression, CallTree, Side, plain, text, call, Condition, compare, both, either, negated, call_tree, condition}
 use Rattle.sql_text.specs.declared.part.Clause.{Clause}
 use Rattle.sql_text.specs.declared.part.Clause.TheVariants as clause
 use Rattle.sql_text.specs.declared.part.Joint.{Joint}

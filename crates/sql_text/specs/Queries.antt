@@ -9,11 +9,11 @@ use Rattle.query_model.specs.declared.query.OrderKey.{OrderKey}
 use Rattle.query_model.specs.declared.query.Span.{Span}
 use Rattle.query_model.specs.declared.query.TableRef.{TableRef}
 use Rattle.query_model.specs.declared.query.TableRef.TheVariants as table
+use Rattle.sql_grammar.specs.Trees.{Expression, Condition, ItemWhat, plain_item, call_item, ItemTree, Selection, star, listed, QueryTree}
 use Rattle.sql_grammar.specs.declared.Token.{Token}
 use Rattle.sql_grammar.specs.declared.Token.TheVariants as token
 use Rattle.sql_grammar.specs.declared.Keyword.TheVariants as keyword
 use Rattle.sql_grammar.specs.declared.Sign.TheVariants as sign
-use Rattle.sql_grammar.specs.Trees.{Expression, Condition, ItemWhat, plain_item, call_item, ItemTree, Selection, star, listed, QueryTree}
 use Rattle.sql_text.specs.declared.part.Clause.{Clause}
 use Rattle.sql_text.specs.declared.part.Clause.TheVariants as clause
 use Rattle.sql_text.specs.Parts.{Reading, plain_of, condition_of, called, call_at, part_at}

@@ -1,16 +1,14 @@
 -- Why a text is refused.
-use Rattle.std.specs.Prelude.{◌≡◌, ◌⊎◌, ℕ, Bool, true, false, nat_lt, is_some, ◌||◌, ◌&&◌, if◌then◌else◌, List, [], ◌∷◌, length, codes, count_by, Option, Some, None}
+use Rattle.std.specs.Prelude.{◌≡◌, ◌⊎◌, ℕ, Bool, true, false, nat_lt, is_some, ◌||◌, ◌&&◌, if◌then◌else◌, List, [], ◌∷◌, length, count_by, Option, Some, None}
 use Rattle.std.specs.List.{list_any}
-use Rattle.std.specs.Str.{bytes_eq}
 use Rattle.query_model.specs.declared.query.Query.{Query}
+use Rattle.sql_grammar.specs.Names.{aggregate_of, tokens_of, Spells}
 use Rattle.sql_grammar.specs.declared.Token.{Token}
-use Rattle.sql_grammar.specs.declared.Token.TheVariants as token
 use Rattle.sql_grammar.specs.declared.Keyword.{Keyword}
-use Rattle.sql_grammar.specs.declared.Keyword.TheVariants as keyword
 use Rattle.sql_grammar.specs.declared.Sign.{Sign}
+use Rattle.sql_grammar.specs.declared.Token.TheVariants as token
+use Rattle.sql_grammar.specs.declared.Keyword.TheVariants as keyword
 use Rattle.sql_grammar.specs.declared.Sign.TheVariants as sign
-use Rattle.sql_grammar.specs.Tokens.{aggregate_of, tokens_of}
-use Rattle.sql_grammar.specs.Grammar.{Spells}
 use Rattle.sql_text.specs.declared.limits.ParseRefusal.{ParseRefusal}
 use Rattle.sql_text.specs.declared.limits.ParseRefusal.TheVariants as refusal
 use Rattle.sql_text.specs.declared.stop.Stop.{Stop}
@@ -50,11 +48,8 @@ is_operator (token.Sign s) = is_operator_sign s
 -- ---- clauses that aren't there yet
 
 abbrev pub is_unbuilt_keyword : Keyword → Bool
-is_unbuilt_keyword keyword.Limit = true
-is_unbuilt_keyword keyword.Offset = true
 is_unbuilt_keyword keyword.Group = true
 is_unbuilt_keyword keyword.Having = true
-is_unbuilt_keyword keyword.Order = true
 is_unbuilt_keyword keyword.Inner = true
 is_unbuilt_keyword keyword.Join = true
 is_unbuilt_keyword keyword.On = true
@@ -64,16 +59,12 @@ is_unbuilt_keyword _ = false
 abbrev pub is_aggregate : List ℕ → Bool
 is_aggregate w = is_some (aggregate_of w)
 
--- an aggregate, or the table of numbers in lower case
-abbrev pub is_call_word : List ℕ → Bool
-is_call_word w = is_aggregate w || bytes_eq w (codes "numbers")
-
 abbrev pub begins_with_open : List Token → Bool
 begins_with_open (token.Sign sign.Open ∷ ts) = true
 begins_with_open _ = false
 
 abbrev pub is_unbuilt : Token → List Token → Bool
-is_unbuilt (token.Name w) ts = is_call_word w && begins_with_open ts
+is_unbuilt (token.Name w) ts = is_aggregate w && begins_with_open ts
 is_unbuilt (token.Keyword k) ts = is_unbuilt_keyword k
 is_unbuilt (token.Number n) ts = false
 is_unbuilt token.LargeNumber ts = false

@@ -1,7 +1,7 @@
 // What is refused before a query is read.
 ghost use Rattle.std.specs.Prelude.{◌≡◌, count_by};
 ghost use Rattle.std.specs.List.{list_any};
-ghost use Rattle.sql_text.specs.Refusals.{is_large, is_operator_sign, is_operator_keyword, is_operator, is_unbuilt_keyword, is_aggregate, is_call_word, begins_with_open, is_unbuilt, has_unbuilt, unbuilt_refusal, token_refusal};
+ghost use Rattle.sql_text.specs.Refusals.{is_large, is_operator_sign, is_operator_keyword, is_operator, is_unbuilt_keyword, is_aggregate, begins_with_open, is_unbuilt, has_unbuilt, unbuilt_refusal, token_refusal};
 
 use crate::stop::next_token;
 use sql_grammar::{Keyword, Sign, Token, aggregate_of};
@@ -83,14 +83,7 @@ fn is_unbuilt_keyword(keyword: Keyword) -> bool
     ensures { result ≡ is_unbuilt_keyword keyword }
 {
     match keyword {
-        Keyword::Limit
-        | Keyword::Offset
-        | Keyword::Group
-        | Keyword::Having
-        | Keyword::Order
-        | Keyword::Inner
-        | Keyword::Join
-        | Keyword::On => true,
+        Keyword::Group | Keyword::Having | Keyword::Inner | Keyword::Join | Keyword::On => true,
         _ => false,
     }
 }
@@ -99,12 +92,6 @@ fn is_aggregate(word: &[u8]) -> bool
     ensures { result ≡ is_aggregate word.now }
 {
     aggregate_of(word).is_some()
-}
-
-fn is_call_word(word: &[u8]) -> bool
-    ensures { result ≡ is_call_word word.now }
-{
-    is_aggregate(word) || word == b"numbers".as_slice()
 }
 
 fn begins_with_open(tokens: &[Token]) -> bool
@@ -120,7 +107,7 @@ fn is_unbuilt(token: &Token, behind: &[Token]) -> bool
     ensures { result ≡ is_unbuilt token.now behind.now }
 {
     match token {
-        Token::Name(word) => is_call_word(word.as_slice()) && begins_with_open(behind),
+        Token::Name(word) => is_aggregate(word.as_slice()) && begins_with_open(behind),
         Token::Keyword(keyword) => is_unbuilt_keyword(*keyword),
         Token::Number(_) | Token::LargeNumber | Token::Text(_) | Token::Sign(_) => false,
     }

@@ -2,8 +2,8 @@
 ghost use Rattle.std.specs.Prelude.{◌≡◌, ℕ, suc, ◌+◌, ◌<◌, ◌≤◌, length, List, Some, None, option_map, OnOk, IfOk};
 ghost use Rattle.query_model.specs.Formulas.{formula, number};
 ghost use Rattle.sql_text.specs.declared.part.Joint.TheVariants.{Arith, Compare, And, Or};
-ghost use Rattle.sql_grammar.specs.declared.Token.{Token};
 ghost use Rattle.sql_grammar.specs.Trees.{side, call_tree, condition, condition as condition_tree};
+ghost use Rattle.sql_grammar.specs.declared.Token.{Token};
 ghost use Rattle.sql_text.specs.declared.part.Clause.{Clause as Kind};
 ghost use Rattle.sql_text.specs.Answers.{Gives};
 ghost use Rattle.sql_text.specs.Parts.{expression, truth, parsed, calculated, sign_joint, keyword_joint, joint_of, level, next_joint, combined, side_of, plain_of, condition_of, column_at, negative_at, after_close, closed_at, count_at, call_over, called, call_at, word_at, negation_at, first_sign, first_keyword, first_part, turn_of, joined, part_at};

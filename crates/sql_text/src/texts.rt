@@ -1,8 +1,7 @@
 // Texts of queries.
 ghost use Rattle.std.specs.Prelude.{◌≡◌, ℕ, List as Seq, true, false, IfOk, IfErr, length};
 ghost use Rattle.query_model.specs.declared.query.Query.{Query};
-ghost use Rattle.sql_grammar.specs.Trees.{query_tree};
-ghost use Rattle.sql_grammar.specs.Grammar.{Spells};
+ghost use Rattle.sql_grammar.specs.Names.{query_tree, Spells};
 ghost use Rattle.sql_text.specs.Refusals.{IsReadBy, IsReadFrom, IsRefusedBy, IsRefused, refusal_of};
 
 use crate::limits::{MAX_TEXT, ParseRefusal, token_refusal};

@@ -1,6 +1,9 @@
 use Rattle.std.proofs.Common.{map}
+use Rattle.select_planner.specs.Counts.{boxes_needed}
 use Rattle.query_run.proofs.Stocks.{HasBefore}
 use Rattle.query_run.proofs.stock.first_shortage.Given as goal
 
 abbrev pub invariant-loop-kind : goal.invariant-loop-kind
-invariant-loop-kind g l = HasBefore l.kind-index l.checked (map (λ b. (goal.Processor-dyn g (b.vtable, b.value)).seen b.value) l.rack.boxes.items)
+invariant-loop-kind g l =
+    HasBefore l.kind-index (boxes_needed l.plan)
+    (map (λ b. (goal.Processor-dyn g (b.vtable, b.value)).seen b.value) l.rack.boxes.items)

@@ -1,0 +1,228 @@
+-- The query that was read of a command and checked, and the plan that it has.
+use Rattle.std.proofs.Common.{◌≡◌, ◌≤◌, Bool, false, List, [], ◌∷◌, map, flat_map, Option, Some, None, is_some, option_map, refl, sym, ap, ap₂, subst, ◌∙◌, arith}
+use Rattle.std.specs.List.{All}
+use Rattle.std.proofs.lemmas.Bool.{cond_both}
+use Rattle.std.proofs.lemmas.List.{append-nil}
+use Rattle.std.proofs.lemmas.List.Elements.{All-head}
+use Rattle.query_model.specs.Names.{IsTypedQuery, from_types, BothOrNone, IsChecked, IsCheckedJoin, IsShape, use_of, join_use, used_tables, need, FromColumn, from_columns, join_tables, refusal_of, table_columns, output_names, sort_key}
+use Rattle.query_model.specs.declared.query.Join.{Join}
+use Rattle.query_model.specs.declared.query.OrderKey.{OrderKey}
+use Rattle.query_model.specs.declared.query.Query.{Query}
+use Rattle.query_model.specs.declared.query.Schema.{Schema}
+use Rattle.query_model.specs.declared.query.TableDecl.{TableDecl}
+use Rattle.query_model.specs.declared.checked.Checked.{Checked}
+use Rattle.query_model.specs.declared.checked.CheckedJoin.{CheckedJoin}
+use Rattle.query_model.specs.declared.checked.Shape.{Shape}
+use Rattle.query_model.specs.declared.checked.Shape.TheVariants.{Plain, Grouped}
+use Rattle.query_model.specs.declared.processor_spec.Kind.{Kind}
+use Rattle.query_model.specs.declared.processor_spec.Kind.TheVariants as kind
+use Rattle.sql_grammar.specs.Trees.{QueryTree, condition}
+use Rattle.sql_text.specs.Refusals.{IsReadFrom}
+use Rattle.sql_text.proofs.BuiltQueries.{plain_of_read}
+use Rattle.sql_text.proofs.Readings.{one_tree}
+use Rattle.command_line.specs.Words.{IsWithinLimits}
+use Rattle.command_line.specs.declared.words.Command.{Command}
+use Rattle.select_planner.specs.Steps.{IsPlain, IsPlannable, UsesNoList, used_types}
+use Rattle.plan_ends.proofs.Columns.{IsTypedSelect, typed-select, types_of_table}
+use Rattle.plan_ends.proofs.Needs.{are_some, from_few, need_simple, simple_need, source_bounds}
+use Rattle.query_run.specs.Names.{NamesFewPaths, stock_of, IsAccepted, IsCheckedCommand, UsesLists, schemas_of, tables_used}
+
+-- ---- what was read and checked
+
+-- the checked query uses the tables of the query
+used_are : (command : Command) (q : Query) (checked : Checked)
+    → IsChecked q (schemas_of command) checked → used_tables checked ≡ tables_used q command
+used_are command q checked is = ap₂ (λ u us. u ∷ us) is.from (joined q.join checked.join is.join)
+  where
+    joined : (a : Option Join) (b : Option CheckedJoin)
+        → BothOrNone (IsCheckedJoin q (schemas_of command)) a b
+        → join_use b ≡ map (use_of (schemas_of command)) (join_tables a)
+    joined None None h = refl
+    joined None (Some y) h = absurd h
+    joined (Some x) None h = absurd h
+    joined (Some x) (Some y) h = ap (λ u. u ∷ []) h.0
+
+-- A query that was read from the command's text and analysed against its schemas is the command's,
+-- where it uses no list of files, and else it isn't built.
+module _ (command : Command) (q : Query) (read : IsReadFrom q command.query) (schemas : List Schema)
+    (are : schemas ≡ schemas_of command) (checked : Checked) (accepted : refusal_of q schemas ≡ None)
+    (is : IsChecked q schemas checked) (typed : IsTypedQuery (from_types q schemas) checked)
+    (tables : List TableDecl) (same : tables ≡ command.tables) where
+  abbrev of_command : refusal_of q (schemas_of command) ≡ None
+  of_command = subst (λ (s : List Schema). refusal_of q s ≡ None) are accepted
+
+  abbrev checked_is : IsChecked q (schemas_of command) checked
+  checked_is = subst (λ (s : List Schema). IsChecked q s checked) are is
+
+  pub checked_command : All (UsesNoList tables) (used_tables checked)
+      → IsCheckedCommand command checked
+  checked_command none = record {
+    query = q;
+    read = read;
+    accepted = of_command;
+    is = checked_is;
+    typed = subst (λ (s : List Schema). IsTypedQuery (from_types q s) checked) are typed;
+    planned = subst (All (UsesNoList command.tables)) (used_are command q checked checked_is)
+        (subst (λ t. All (UsesNoList t) (used_tables checked)) same none);
+  }
+
+  pub listed_command : (All (UsesNoList tables) (used_tables checked) → ⊥) → UsesLists command
+  listed_command some = record {
+    query = q;
+    read = read;
+    accepted = of_command;
+    listed = λ none. some (subst (λ t. All (UsesNoList t) (used_tables checked)) (sym same)
+        (subst (All (UsesNoList command.tables)) (sym (used_are command q checked checked_is))
+        none));
+  }
+
+-- a command that is checked is accepted
+pub accepted_of : (command : Command) (checked : Checked) → IsCheckedCommand command checked
+    → IsAccepted command
+accepted_of command checked h =
+    record { query = h.query; read = h.read; accepted = h.accepted; planned = h.planned }
+
+-- two queries that are read from one text use the same tables
+pub same_tables : (command : Command) (p q : Query) → IsReadFrom p command.query
+    → IsReadFrom q command.query → tables_used p command ≡ tables_used q command
+same_tables command p q a b =
+    let trees = one_tree command.query p q a.spells b.spells in
+    ap (λ (t : QueryTree). map (use_of (schemas_of command)) (t.from ∷ join_tables t.join)) trees
+
+-- ---- the plan
+
+none_with : {A B : Type 0} (R : A → B → Type 0) (a : Option A) (b : Option B) → BothOrNone R a b
+    → a ≡ None → b ≡ None
+none_with R None None h e = refl
+none_with R None (Some y) h e = absurd h
+none_with R (Some x) b h e = absurd cc
+
+-- the query is one that is planned
+pub plannable : (command : Command) (checked : Checked) → IsCheckedCommand command checked
+    → IsPlannable checked command.tables
+plannable command checked h =
+    let plain = plain_of_read h.query command.query h.read in
+    let columns : List FromColumn = from_columns h.query (schemas_of command) in
+    record {
+      one_table = none_with _ h.query.join checked.join h.is.join plain.one_table;
+      no_list = subst (UsesNoList command.tables) (sym h.is.from)
+          (All-head (UsesNoList command.tables) _ _ h.planned);
+      plain = go h.query columns checked.shape
+          (subst (λ (b : Bool). IsShape h.query columns b checked.shape) plain.ungrouped h.is.shape);
+    }
+  where
+    go : (q : Query) (columns : List FromColumn) (s : Shape) → IsShape q columns false s → IsPlain s
+    go q columns (Plain items) is = tt
+    go q columns (Grouped g) is = absurd is
+
+-- a checked command's query is typed by the columns of its table
+pub typed_by_table : (command : Command) (checked : Checked) → IsCheckedCommand command checked
+    → IsTypedSelect (used_types command.tables checked.from) checked
+typed_by_table command checked h =
+    let plain = plain_of_read h.query command.query h.read in
+    let schemas : List Schema = schemas_of command in
+    let types : from_types h.query schemas ≡ used_types command.tables checked.from =
+    ap (λ (j : Option Join). map (λ (c : FromColumn). c.type)
+    (flat_map (table_columns schemas) (h.query.from ∷ join_tables j))) plain.one_table
+    ∙ ap (map (λ (c : FromColumn). c.type)) (append-nil (table_columns schemas h.query.from))
+    ∙ types_of_table command.tables h.query.from
+    ∙ ap (used_types command.tables) (sym h.is.from) in
+    subst (λ types. IsTypedSelect types checked) types
+    (typed-select h.query schemas checked h.accepted h.is plain.ungrouped h.typed)
+
+-- ---- what it needs
+
+some_mapped : {A B : Type 0} (f : A → B) (o : Option A) → is_some (option_map f o) ≡ is_some o
+some_mapped f None = refl
+some_mapped f (Some x) = refl
+
+some_both : {A B : Type 0} (R : A → B → Type 0) (a : Option A) (b : Option B) → BothOrNone R a b
+    → is_some a ≡ is_some b
+some_both R None None h = refl
+some_both R None (Some y) h = absurd h
+some_both R (Some x) None h = absurd h
+some_both R (Some x) (Some y) h = refl
+
+-- the checked query has keys where the query has
+keys_are : (command : Command) (q : Query) (checked : Checked)
+    → IsChecked q (schemas_of command) checked → are_some checked.order ≡ are_some q.order
+keys_are command q checked is = ap (λ l. are_some l) is.order ∙ go q.order
+  where
+    go : (keys : List OrderKey)
+        → are_some (map (sort_key (output_names q.items (from_columns q (schemas_of command)))) keys)
+        ≡ are_some keys
+    go [] = refl
+    go (key ∷ keys) = refl
+
+module _ (command : Command) (p q : Checked) (a : IsCheckedCommand command p)
+    (b : IsCheckedCommand command q) where
+  -- both of a command's checked queries use the same tables
+  pub same_uses : used_tables p ≡ used_tables q
+  same_uses =
+      used_are command a.query p a.is
+      ∙ same_tables command a.query b.query a.read b.read
+      ∙ sym (used_are command b.query q b.is)
+
+  -- and need the same boxes
+  pub same_need : (k : Kind) → need p command.tables command.threads k
+      ≡ need q command.tables command.threads k
+  same_need k =
+      let trees = one_tree command.query a.query b.query a.read.spells b.read.spells in
+      let from : p.from ≡ q.from =
+      a.is.from ∙ ap (λ (t : QueryTree). use_of (schemas_of command) t.from) trees
+      ∙ sym b.is.from in
+      let filters : is_some p.filter ≡ is_some q.filter =
+      sym (some_both _ a.query.filter p.filter a.is.filter)
+      ∙ sym (some_mapped condition a.query.filter)
+      ∙ ap (λ (t : QueryTree). is_some t.filter) trees
+      ∙ some_mapped condition b.query.filter
+      ∙ some_both _ b.query.filter q.filter b.is.filter in
+      let limits : is_some p.limit ≡ is_some q.limit =
+      ap is_some (a.is.limit ∙ ap (λ (t : QueryTree). t.limit) trees ∙ sym b.is.limit) in
+      let orders : are_some p.order ≡ are_some q.order =
+      keys_are command a.query p a.is ∙ ap (λ (t : QueryTree). are_some t.order) trees
+      ∙ sym (keys_are command b.query q b.is) in
+      need_simple command.tables command.threads p (plannable command p a) k
+      ∙ ap (λ u. simple_need command.tables command.threads u (is_some p.filter) (are_some p.order)
+      (is_some p.limit) k) from
+      ∙ ap (λ n. simple_need command.tables command.threads q.from (is_some p.filter) n
+      (is_some p.limit) k) orders
+      ∙ ap₂ (λ f l. simple_need command.tables command.threads q.from f (are_some q.order) l k)
+      filters limits
+      ∙ sym (need_simple command.tables command.threads q (plannable command q b) k)
+
+-- the stock is enough for every plan within the limit of paths
+pub stock_serves : (command : Command) (q : Checked) → IsWithinLimits command
+    → IsCheckedCommand command q → NamesFewPaths command q → (k : Kind)
+    → need q command.tables command.threads k ≤ stock_of k
+stock_serves command q within h few k =
+    subst (λ n. n ≤ stock_of k)
+    (sym (need_simple command.tables command.threads q (plannable command q h) k)) (go k)
+  where
+    go : (k : Kind) → simple_need command.tables command.threads q.from (is_some q.filter)
+        (are_some q.order) (is_some q.limit) k ≤ stock_of k
+    go kind.Csv = let most = (source_bounds command.tables q.from (plannable command q h).no_list
+        (from_few command.tables q few)).0 in omega (arith, most)
+    go kind.List = let none = (source_bounds command.tables q.from (plannable command q h).no_list
+        (from_few command.tables q few)).1 in omega (arith, none)
+    go kind.Numbers = let most = (source_bounds command.tables q.from (plannable command q h).no_list
+        (from_few command.tables q few)).2 in omega (arith, most)
+    go kind.Filter =
+        let most = within.few_threads in
+        cond_both (is_some q.filter) command.threads 0 (λ n. n ≤ 17) (λ _. omega (arith, most))
+        (λ _. omega arith)
+    go kind.Expression = let most = within.few_threads in omega (arith, most)
+    go kind.Resize =
+        cond_both (are_some q.order) 1 2 (λ n. n ≤ 4) (λ _. omega arith) (λ _. omega arith)
+    go kind.PartialAggregate = omega arith
+    go kind.MergeAggregate = omega arith
+    go kind.HashJoin = omega arith
+    go kind.Sort =
+        let most = within.few_threads in
+        cond_both (are_some q.order) command.threads 0 (λ n. n ≤ 17) (λ _. omega (arith, most))
+        (λ _. omega arith)
+    go kind.MergeSorted =
+        cond_both (are_some q.order) 1 0 (λ n. n ≤ 1) (λ _. omega arith) (λ _. omega arith)
+    go kind.Limit =
+        cond_both (is_some q.limit) 1 0 (λ n. n ≤ 1) (λ _. omega arith) (λ _. omega arith)
+    go kind.Collect = omega arith

@@ -1,0 +1,17 @@
+use Rattle.std.proofs.Common.{◌++◌, ap₂, flat_map, ◌∙◌}
+use Rattle.chunk_data.specs.Values.{Table}
+use Rattle.proc_api.specs.Histories.{chunk_rows}
+use Rattle.query_model.specs.Texts.{rows_text}
+use Rattle.csv_rows.specs.Lines.{heading}
+use Rattle.query_run.proofs.Composing.{headed}
+use Rattle.query_run.proofs.answer.graph_text.Goals as goal
+
+pub returns-in-Ok-write_rows-clause-text : goal.returns-in-Ok-write_rows-clause-text
+returns-in-Ok-write_rows-clause-text g c = record {
+  chunks = c.in-Ok.chunks.items;
+  gives = c.in-Ok.ensures.rows;
+  is = c.in-Ok-write_rows.ensures
+      ∙ ap₂ (λ o l. heading o ++ rows_text (flat_map (λ (t : Table). t.rows) l))
+      c.heading_names-heading.ensures c.as_slice.ensures.value
+      ∙ headed c.args.header c.args.names.now (chunk_rows c.in-Ok.chunks.items);
+}

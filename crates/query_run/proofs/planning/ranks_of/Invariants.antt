@@ -1,0 +1,7 @@
+use Rattle.std.proofs.Common.{◌≡◌, map, take}
+use Rattle.select_planner.specs.declared.nodes.PlanNode.{PlanNode}
+use Rattle.query_run.proofs.planning.ranks_of.Given as goal
+
+abbrev pub invariant-loop-node : goal.invariant-loop-node
+invariant-loop-node l =
+    l.ranks.items ≡ map (λ (n : PlanNode). n.rank) (take l.node-index l.nodes)

@@ -1,0 +1,6 @@
+use Rattle.std.proofs.Common.{◌≡◌}
+use Rattle.query_run.specs.Steps.{node_specs}
+use Rattle.query_run.proofs.planning.specs_of.Given as goal
+
+abbrev pub invariant-loop-node : goal.invariant-loop-node
+invariant-loop-node l = l.specs.items ≡ node_specs l.yielded

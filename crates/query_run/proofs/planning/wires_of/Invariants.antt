@@ -1,0 +1,6 @@
+use Rattle.std.proofs.Common.{◌≡◌, map, take}
+use Rattle.select_planner.specs.Shapes.{wire_of}
+use Rattle.query_run.proofs.planning.wires_of.Given as goal
+
+abbrev pub invariant-loop-edge : goal.invariant-loop-edge
+invariant-loop-edge l = l.wires.items ≡ map wire_of (take l.edge-index l.edges)

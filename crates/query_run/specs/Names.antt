@@ -1,0 +1,16 @@
+-- The names of this crate's definitions in one place: who needs several of its files imports from here.
+pub use Rattle.query_run.specs.Causes.{EndsStuck, FailsAtPart, FailsFor, LeavesPlan, PartFailsFor, PlanFailsFor, ServesPart, TakesBoxes}
+pub use Rattle.query_run.specs.Commands.{IsAccepted, IsCheckedCommand, IsRefusedFor, IsRefusedQuery, OfChecked, OfCommand, OfQuery, UsesLists, schemas_of, tables_used}
+pub use Rattle.query_run.specs.Endings.{failure_status, part_status, plan_status, query_status, refused_status, status_of, text_status}
+pub use Rattle.query_run.specs.Headline.{AreRefused, Ends, EndsEarly, EndsFor, IsAnswerable, IsCertain, IsEither, IsRun, IsTextOfAnswer, LackBoxes, LeavesBoxes, MakesText, MeanNothing, NameManyPaths, PulledRows, PullsItsFlow, ReaderFails, SucceedsUnless, WritesAnswer}
+pub use Rattle.query_run.specs.Racks.{AreLawfulOver, HasBoxes, IsHonest, IsRunnable, IsShort, LacksBoxes, NamesFewPaths, OverFiles, PulledMore, RanPlan, boxes_for, plan_kinds, plan_of, specs_in, stock_of}
+pub use Rattle.query_run.specs.Steps.{GivesText, IsPlanFault, IsPlanned, Tells, failure_of, name_at, name_of, node_specs, part_of_node, part_place}
+pub use Rattle.query_run.specs.declared.ending.Ending.{Ending}
+pub use Rattle.query_run.specs.declared.ending.Failure.{Failure}
+pub use Rattle.query_run.specs.declared.ending.PartFailure.{PartFailure}
+pub use Rattle.query_run.specs.declared.ending.PartName.{PartName}
+pub use Rattle.query_run.specs.declared.ending.PlanFailure.{PlanFailure}
+pub use Rattle.query_run.specs.declared.ending.Refused.{Refused}
+pub use Rattle.query_run.specs.declared.planning.PartPlace.{PartPlace}
+pub use Rattle.query_run.specs.declared.stock.Shortage.{Shortage}
+pub use Rattle.query_run.specs.declared.stock.TheConstants.{KINDS}
