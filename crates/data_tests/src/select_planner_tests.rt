@@ -1,7 +1,7 @@
 ghost use Rattle.std.specs.Prelude.{◌≡◌, ◌≤◌, [], IfOk};
 ghost use Rattle.select_planner.specs.Steps.{IsPlannable};
 
-use chunk_data::List;
+use chunk_data::{List, SortKey};
 use query_model::checked::{Checked, Shape, TableUse};
 use query_model::processor_spec::Kind;
 use query_model::query::{CompareOp, CondOf, ExprOf, Number, Operand, Span, TableDecl};
@@ -10,8 +10,8 @@ use std::alloc::Global;
 use std::process::Abort;
 use std::test::Fail;
 
-// SELECT number FROM numbers(3) WHERE number < 2 LIMIT 1
-fn numbers_query(alloc: Global) -> Result<Checked, Fail>
+// SELECT number FROM numbers(3) WHERE number < 2 LIMIT 1, and where it is ordered by number DESC.
+fn numbers_query(alloc: Global, ordered: bool) -> Result<Checked, Fail>
     ensures { IfOk result (λ q. IsPlannable q []) }
 {
     let mut items = Vec::new(alloc);
@@ -22,6 +22,13 @@ fn numbers_query(alloc: Global) -> Result<Checked, Fail>
     };
     let left = Operand::Plain(ExprOf::Column(0));
     let right = Operand::Plain(ExprOf::Number(two));
+    let mut order = Vec::new(alloc);
+    if ordered {
+        order.push(SortKey {
+            column: 0,
+            descending: true,
+        })?;
+    }
     Ok(Checked {
         from: TableUse::Numbers(3),
         join: None,
@@ -29,38 +36,50 @@ fn numbers_query(alloc: Global) -> Result<Checked, Fail>
         shape: Shape::Plain(List::from_vec(items)),
         names: List::new(alloc),
         types: List::new(alloc),
-        order: List::new(alloc),
+        order: List::from_vec(order),
         limit: Some(Span { count: 1, skip: 0 }),
     })
 }
 
-// The plan of so many lanes has so many nodes and edges, and a filter and an expression in each
-// lane.
+// The plan of so many lanes has so many nodes and edges, and a filter, an expression and, where it is
+// ordered, a sort in each lane.
 fn has_plan(
     rt: &impl Abort,
     alloc: Global,
     lanes: u32,
+    ordered: bool,
     nodes: usize,
     edges: usize,
 ) -> Result<(), Fail>
     requires some { 1 ≤ lanes }
     requires few { lanes ≤ 16 }
 {
-    let query = numbers_query(alloc)?;
+    let query = numbers_query(alloc, ordered)?;
     let tables: List<TableDecl> = List::new(alloc);
     let made = plan(alloc, &query, &tables, lanes, 8192, false)?;
     assert_eq!(rt; made.nodes.len(), nodes);
     assert_eq!(rt; made.edges.len(), edges);
     assert_eq!(rt; needs(&made, Kind::Filter), lanes as usize);
     assert_eq!(rt; needs(&made, Kind::Expression), lanes as usize);
-    assert_eq!(rt; needs(&made, Kind::Resize), 2);
+    assert_eq!(rt;
+        needs(&made, Kind::Sort),
+        if ordered { lanes as usize } else { 0 }
+    );
+    assert_eq!(rt;
+        needs(&made, Kind::MergeSorted),
+        if ordered { 1 } else { 0 }
+    );
+    assert_eq!(rt; needs(&made, Kind::Resize), if ordered { 1 } else { 2 });
     assert_eq!(rt; needs(&made, Kind::Csv), 0);
     Ok(())
 }
 
 #[test]
 fn lanes_are_laid_down(rt: HostRuntime) -> Result<(), Fail> {
-    has_plan(&rt, rt.alloc(), 1, 7, 6)?;
-    has_plan(&rt, rt.alloc(), 2, 9, 9)?;
-    has_plan(&rt, rt.alloc(), 16, 37, 51)
+    has_plan(&rt, rt.alloc(), 1, false, 7, 6)?;
+    has_plan(&rt, rt.alloc(), 2, false, 9, 9)?;
+    has_plan(&rt, rt.alloc(), 16, false, 37, 51)?;
+    has_plan(&rt, rt.alloc(), 1, true, 8, 7)?;
+    has_plan(&rt, rt.alloc(), 2, true, 11, 11)?;
+    has_plan(&rt, rt.alloc(), 16, true, 53, 67)
 }

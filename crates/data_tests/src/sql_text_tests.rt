@@ -256,7 +256,9 @@ fn answer_of(alloc: Global, text: &[u8]) -> Result<Vec<u8>, AllocError> {
     told(alloc, parse(alloc, text))
 }
 
-static ITEMS: [(&str, &str); 32] = [
+static ITEMS: [(&str, &str); 34] = [
+    ("SELECT a FROM t LIMIT 1", "a of t first 1 behind 0"),
+    ("SELECT a FROM numbers(3)", "a of numbers 3"),
     ("SELECT a FROM t", "a of t"),
     ("select A from T", "A of T"),
     ("SeLeCt a FrOm t;", "a of t"),
@@ -297,7 +299,7 @@ static ITEMS: [(&str, &str); 32] = [
     ("SELECT a, FROM t", "Syntax"),
 ];
 
-static FILTERS: [(&str, &str); 28] = [
+static FILTERS: [(&str, &str); 29] = [
     ("SELECT a FROM t WHERE a = 1", "a of t where [a = 1]"),
     ("SELECT a FROM t WHERE a == 1", "a of t where [a = 1]"),
     ("SELECT a FROM t WHERE a != 1", "a of t where [a != 1]"),
@@ -368,9 +370,13 @@ static FILTERS: [(&str, &str); 28] = [
         "a of t where {[a = <\u{e9}>] AND [b = <FROM>]}",
     ),
     ("SELECT a FROM t WHERE", "Syntax"),
+    (
+        "SELECT a FROM t WHERE a = 1 ORDER BY a, b desc LIMIT 3",
+        "a of t where [a = 1] by a by b down first 3 behind 0",
+    ),
 ];
 
-static REFUSED: [(&str, &str); 30] = [
+static REFUSED: [(&str, &str); 28] = [
     ("", "Syntax"),
     ("  \t\r\n", "Syntax"),
     (";;", "Syntax"),
@@ -394,19 +400,17 @@ static REFUSED: [(&str, &str); 30] = [
         "SELECT a FROM t LIMIT 18446744073709551616",
         "NumberTooLarge",
     ),
-    ("SELECT a FROM t LIMIT 1", "NotBuilt"),
-    ("SELECT a FROM numbers(3)", "NotBuilt"),
     ("SELECT a FROM NUMBERS(3)", "Syntax"),
     ("SELECT Count() FROM t", "NotBuilt"),
     ("SELECT max (a) FROM t", "NotBuilt"),
     ("SELECT a FROM t GROUP BY a", "NotBuilt"),
-    ("SELECT a FROM t ORDER", "NotBuilt"),
+    ("SELECT a FROM t ORDER", "Syntax"),
     ("SELECT a FROM t INNER JOIN u ON t.a = u.a", "NotBuilt"),
     ("SELECT a FROM t HAVING a = 1", "NotBuilt"),
     ("SELECT a FROM t OFFSET 'x", "Syntax"),
 ];
 
-/// Texts with the clauses that `parse` refuses as NotBuilt so far.
+/// Texts with every clause, also with those that `parse` refuses as NotBuilt so far.
 static CLAUSES: [(&str, &str); 52] = [
     ("SELECT a FROM t LIMIT 3", "a of t first 3 behind 0"),
     (

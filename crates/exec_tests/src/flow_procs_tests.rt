@@ -1,11 +1,8 @@
 ghost use Rattle.std.specs.Prelude.{◌≡◌, [], false, Some, OnOk};
-ghost use Rattle.port_word.specs.Pictures.{Picture};
-ghost use Rattle.port_word.specs.Calls.{new_picture};
+ghost use Rattle.port_word.specs.Names.{Picture, new_picture};
 ghost use Rattle.proc_api.specs.declared.status.Answer.TheVariants.{Prepared};
 ghost use Rattle.proc_api.specs.declared.status.Status.TheVariants as answered;
-ghost use Rattle.proc_api.specs.Boxes.{BoxPicture};
-ghost use Rattle.proc_api.specs.Ports.{FollowsKept};
-ghost use Rattle.proc_api.specs.Clauses.{IsFresh, IsRunning};
+ghost use Rattle.proc_api.specs.Names.{BoxPicture, FollowsKept, IsFresh, IsRunning};
 
 use chunk_data::{Chunk, Column, List, Memory};
 use flow_procs::{Collect, Expression, Filter, Limit, Numbers, Resize};
@@ -24,7 +21,7 @@ fn numbers(alloc: Global, values: &[i64]) -> Result<Chunk, Memory> {
 }
 
 // The numbers of the chunk's first column, each with a blank after it, and a bar.
-fn show(text: &mut String, chunk: &Chunk) -> Result<(), Fail> {
+pub(crate) fn show(text: &mut String, chunk: &Chunk) -> Result<(), Fail> {
     let alloc = *text.allocator();
     if chunk.types().len() == 0 {
         return Err("a column is missing".into());
@@ -59,7 +56,7 @@ fn above_five() -> Cond {
     )
 }
 
-fn prepare(b: &mut Box<dyn Processor + Send>, view: &mut PortView) -> Status
+pub(crate) fn prepare(b: &mut Box<dyn Processor + Send>, view: &mut PortView) -> Status
     requires running { IsRunning (seen b.old) }
     requires follows { FollowsKept (seen b.old) view.old }
     ensures running { IsRunning (seen b.new) }
@@ -70,7 +67,7 @@ fn prepare(b: &mut Box<dyn Processor + Send>, view: &mut PortView) -> Status
     b.prepare(view)
 }
 
-fn work(b: &mut Box<dyn Processor + Send>) -> Result<(), WorkFault>
+pub(crate) fn work(b: &mut Box<dyn Processor + Send>) -> Result<(), WorkFault>
     requires running { IsRunning (seen b.old) }
     requires answer { (seen b.old).notes.answer ≡ Some (Prepared answered.Ready) }
     requires not_acted { (seen b.old).notes.acted ≡ false }
@@ -81,7 +78,7 @@ fn work(b: &mut Box<dyn Processor + Send>) -> Result<(), WorkFault>
 }
 
 // Takes all actions of the view; the chunk of a push, if there was one.
-fn take_actions(view: &mut PortView) -> Result<Option<Chunk>, Fail>
+pub(crate) fn take_actions(view: &mut PortView) -> Result<Option<Chunk>, Fail>
     ensures taken { OnOk result (view.new.actions ≡ []) }
     ensures follows { (p : BoxPicture) → FollowsKept p view.old → FollowsKept p view.new }
 {
@@ -97,7 +94,7 @@ fn take_actions(view: &mut PortView) -> Result<Option<Chunk>, Fail>
 }
 
 // The consumer needs a chunk.
-fn need(view: &mut PortView, o: usize) -> Result<(), Fail>
+pub(crate) fn need(view: &mut PortView, o: usize) -> Result<(), Fail>
     requires { view.old.actions ≡ [] }
     ensures follows { (p : BoxPicture) → FollowsKept p view.old → FollowsKept p view.new }
     ensures taken { view.new.actions ≡ [] }
@@ -113,7 +110,7 @@ fn need(view: &mut PortView, o: usize) -> Result<(), Fail>
 }
 
 // A chunk comes at the input.
-fn give(view: &mut PortView, i: usize, chunk: Chunk) -> Result<(), Fail>
+pub(crate) fn give(view: &mut PortView, i: usize, chunk: Chunk) -> Result<(), Fail>
     requires { view.old.actions ≡ [] }
     ensures follows { (p : BoxPicture) → FollowsKept p view.old → FollowsKept p view.new }
     ensures taken { view.new.actions ≡ [] }
@@ -131,7 +128,7 @@ fn give(view: &mut PortView, i: usize, chunk: Chunk) -> Result<(), Fail>
 }
 
 // The producer finishes the input.
-fn end(view: &mut PortView, i: usize) -> Result<(), Fail>
+pub(crate) fn end(view: &mut PortView, i: usize) -> Result<(), Fail>
     requires { view.old.actions ≡ [] }
     ensures follows { (p : BoxPicture) → FollowsKept p view.old → FollowsKept p view.new }
     ensures taken { view.new.actions ≡ [] }
@@ -177,12 +174,13 @@ fn pass(
     Ok(pushed)
 }
 
-fn load(b: &mut Box<dyn Processor + Send>, spec: Spec) -> Result<(), LoadRefusal>
+pub(crate) fn load(b: &mut Box<dyn Processor + Send>, spec: Spec) -> Result<(), LoadRefusal>
     ensures fresh { OnOk result (IsFresh (seen b.new)) }
     ensures running { OnOk result (IsRunning (seen b.new)) }
     ensures follows { OnOk result (FollowsKept (seen b.new) (new_picture 1 1)) }
     ensures follows_input { OnOk result (FollowsKept (seen b.new) (new_picture 1 0)) }
     ensures follows_output { OnOk result (FollowsKept (seen b.new) (new_picture 0 1)) }
+    ensures follows_three { OnOk result (FollowsKept (seen b.new) (new_picture 3 1)) }
     ensures follows_many { OnOk result (FollowsKept (seen b.new) (new_picture 32 16)) }
 {
     b.load(spec)

@@ -9,4 +9,6 @@ mod exec_core_tests;
 #[cfg(test)]
 mod flow_procs_tests;
 #[cfg(test)]
+mod sort_procs_tests;
+#[cfg(test)]
 mod task_queue_tests;

@@ -1,15 +1,12 @@
 -- Racks that are filled with new boxes, one after another.
-use Rattle.std.specs.Prelude.{◌≡◌, ⊤, ℕ, ◌+◌, cond, true, List, ◌∷◌, [], count_by, codes, Option}
+use Rattle.std.specs.Prelude.{◌≡◌, ℕ, ◌+◌, cond, Bool, true, false, List, ◌∷◌, [], count_by, Option}
 use Rattle.std.specs.List.{All}
 use Rattle.outside_io.specs.Growth.{GrewBy}
 use Rattle.query_model.specs.Database.{Files}
 use Rattle.query_model.specs.declared.processor_spec.Kind.{Kind}
 use Rattle.query_model.specs.declared.processor_spec.Kind.TheVariants as kind
-use Rattle.proc_api.specs.Boxes.{BoxPicture}
-use Rattle.proc_api.specs.Clauses.{IsBlank, IsSourceKind}
-use Rattle.proc_api.specs.Racks.{is_of, same_kind}
-use Rattle.query_run.specs.Commands.{OfCommand}
-use Rattle.query_run.specs.Headline.{IsTextOfAnswer}
+use Rattle.proc_api.specs.Names.{BoxPicture, IsBlank, IsSourceKind, is_of, same_kind}
+use Rattle.query_run.specs.Names.{OfCommand, IsTextOfAnswer}
 
 -- the box is blank and meets its contract; where it is a source, its reader tells these files
 pub record IsServing (files : Option Files) (p : BoxPicture) : Type 0 where
@@ -18,9 +15,10 @@ pub record IsServing (files : Option Files) (p : BoxPicture) : Type 0 where
   pub told : IsSourceKind p.kind → p.files ≡ files
 
 -- all boxes are such, and there are so many of each kind
-pub record IsStocked (files : Option Files) (stock : Kind → ℕ) (boxes : List BoxPicture) : Type 0 where
-  pub each : All (IsServing files) boxes
-  pub count : (k : Kind) → count_by (is_of k) boxes ≡ stock k
+pub record IsStocked (files : Option Files) (stock : Kind → ℕ) (boxes : List BoxPicture) : Type 0
+  where
+    pub each : All (IsServing files) boxes
+    pub count : (k : Kind) → count_by (is_of k) boxes ≡ stock k
 
 -- so many more of the kind
 abbrev pub with_more : Kind → ℕ → (Kind → ℕ) → Kind → ℕ
@@ -31,25 +29,35 @@ abbrev pub Adds : Kind → ℕ → Option Files → (before after : List BoxPict
 Adds k n files before after = (stock : Kind → ℕ)
     → IsStocked files stock before → IsStocked files (with_more k n stock) after
 
--- the kinds in the program's rack that read no file
-abbrev pub ReadsNoFile : Kind → Type 0
-ReadsNoFile kind.Csv = ⊥
-ReadsNoFile kind.List = ⊥
-ReadsNoFile kind.Numbers = ⊥
-ReadsNoFile kind.Filter = ⊤
-ReadsNoFile kind.Expression = ⊤
-ReadsNoFile kind.Resize = ⊥
-ReadsNoFile kind.PartialAggregate = ⊥
-ReadsNoFile kind.MergeAggregate = ⊥
-ReadsNoFile kind.HashJoin = ⊥
-ReadsNoFile kind.Sort = ⊥
-ReadsNoFile kind.MergeSorted = ⊥
-ReadsNoFile kind.Limit = ⊥
-ReadsNoFile kind.Collect = ⊤
+-- whether boxes of the kind are in the program's rack and read no file
+abbrev pub is_made : Kind → Bool
+is_made kind.Csv = false
+is_made kind.List = false
+is_made kind.Numbers = true
+is_made kind.Filter = true
+is_made kind.Expression = true
+is_made kind.Resize = true
+is_made kind.PartialAggregate = false
+is_made kind.MergeAggregate = false
+is_made kind.HashJoin = false
+is_made kind.Sort = true
+is_made kind.MergeSorted = true
+is_made kind.Limit = true
+is_made kind.Collect = true
 
--- files with these bytes alone, as the file `f.csv`
-abbrev pub one_file : List ℕ → Files
-one_file bytes = (codes "f.csv", bytes) ∷ []
+-- how many are made of so many of a kind
+abbrev pub made : Kind → ℕ → ℕ
+made k n = cond (is_made k) n 0
+
+-- so many more of each kind in turn, where they are made
+abbrev pub with_each : List (Kind × ℕ) → (Kind → ℕ) → Kind → ℕ
+with_each [] stock = stock
+with_each (p ∷ more) stock = with_each more (with_more p.0 (made p.0 p.1) stock)
+
+-- they were added
+abbrev pub AddsEach : List (Kind × ℕ) → Option Files → (before after : List BoxPicture) → Type 0
+AddsEach more files before after = (stock : Kind → ℕ)
+    → IsStocked files stock before → IsStocked files (with_each more stock) after
 
 -- exactly the text of an answer of the words' query over the files was written
 abbrev pub WroteAnswer : List (List ℕ) → Files → (before after : Option (List ℕ)) → Type 0

@@ -5,26 +5,21 @@ mod racks;
 #[cfg(test)]
 mod tests;
 
-use crate::racks::unload_rack;
+use crate::racks::{OTHERS, SOURCES, unload_rack};
 use chunk_data::Memory;
 use csv_procs::CsvSource;
-use flow_procs::{Collect, Expression, Filter};
+use flow_procs::{Collect, Expression, Filter, Limit, Numbers, Resize};
 use outside_io::{RealFiles, RealSink, Sink};
 use proc_api::Rack;
+use query_model::processor_spec::Kind;
 use query_run::run;
+use sort_procs::{MergeSorted, Sort};
 use std::env;
 use std::io::ErrorKind;
 use std::process::ExitCode;
 
 /// The exit status where memory ran out.
 const OUT_OF_MEMORY: u8 = 7;
-
-/// The standard rack: how many sources, filters and expressions lie in it, beside one collector.
-const SOURCES: u32 = 64;
-
-const FILTERS: u32 = 17;
-
-const EXPRESSIONS: u32 = 17;
 
 fn main(rt: HostRuntime) -> ExitCode {
     match status_of(&rt) {
@@ -58,7 +53,8 @@ fn words_of(rt: &HostRuntime) -> Result<Vec<String>, Memory> {
     }
 }
 
-// Runs the words by the boxes of the standard rack, over files of the system.
+// Runs the words by the boxes of the standard rack, over files of the system. The boxes are made here,
+// where they lie: a function that hands out a box that it made could say anything of it.
 fn run_words(rt: &HostRuntime, words: &[String]) -> Result<u8, Memory> {
     let alloc = rt.alloc();
     let mut rack = Rack::new(alloc);
@@ -66,16 +62,26 @@ fn run_words(rt: &HostRuntime, words: &[String]) -> Result<u8, Memory> {
         let source = Box::new(alloc, CsvSource::new(alloc, RealFiles::new(*rt)))?;
         rack.boxes.push(source)?;
     }
-    for _filter in 0..FILTERS {
-        let filter = Box::new(alloc, Filter::new(alloc))?;
-        rack.boxes.push(filter)?;
+    for i in 0..OTHERS.len() {
+        let (kind, count) = OTHERS[i];
+        for _box in 0..count {
+            match kind {
+                Kind::Numbers => rack.boxes.push(Box::new(alloc, Numbers::new(alloc))?)?,
+                Kind::Filter => rack.boxes.push(Box::new(alloc, Filter::new(alloc))?)?,
+                Kind::Expression => rack.boxes.push(Box::new(alloc, Expression::new(alloc))?)?,
+                Kind::Resize => rack.boxes.push(Box::new(alloc, Resize::new(alloc))?)?,
+                Kind::Sort => rack.boxes.push(Box::new(alloc, Sort::new(alloc))?)?,
+                Kind::MergeSorted => rack.boxes.push(Box::new(alloc, MergeSorted::new(alloc))?)?,
+                Kind::Limit => rack.boxes.push(Box::new(alloc, Limit::new(alloc))?)?,
+                Kind::Collect => rack.boxes.push(Box::new(alloc, Collect::new(alloc))?)?,
+                Kind::Csv
+                | Kind::List
+                | Kind::PartialAggregate
+                | Kind::MergeAggregate
+                | Kind::HashJoin => {}
+            }
+        }
     }
-    for _expression in 0..EXPRESSIONS {
-        let expression = Box::new(alloc, Expression::new(alloc))?;
-        rack.boxes.push(expression)?;
-    }
-    let collect = Box::new(alloc, Collect::new(alloc))?;
-    rack.boxes.push(collect)?;
     let mut out = RealSink::new(rt.stdout());
     let mut err = RealSink::new(rt.stderr());
     Ok(run_blank(rt, words, &mut rack, &mut out, &mut err))

@@ -5,6 +5,22 @@ ghost use Rattle.exec_laws.specs.Runs.{box_at};
 ghost use Rattle.plan_run.specs.OneBox.{OnlyBox};
 
 use proc_api::{Processor, Rack};
+use query_model::processor_spec::Kind;
+
+/// How many boxes that read a file lie in the standard rack.
+pub(crate) const SOURCES: u32 = 64;
+
+/// How many boxes of each other kind lie in it.
+pub(crate) const OTHERS: [(Kind, u32); 8] = [
+    (Kind::Numbers, 2),
+    (Kind::Filter, 17),
+    (Kind::Expression, 17),
+    (Kind::Resize, 4),
+    (Kind::Sort, 17),
+    (Kind::MergeSorted, 1),
+    (Kind::Limit, 1),
+    (Kind::Collect, 1),
+];
 
 /// Unloads each box of the rack, so that it is blank whatever it was.
 pub(crate) fn unload_rack(rack: &mut Rack)

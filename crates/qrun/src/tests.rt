@@ -8,17 +8,20 @@ ghost use Rattle.outside_io.specs.Told.{files_of as told_pairs};
 ghost use Rattle.query_model.specs.declared.processor_spec.Kind.TheVariants as kind;
 ghost use Rattle.proc_api.specs.Clauses.{IsBlank, IsLawfulBlank};
 ghost use Rattle.csv_procs.specs.PartSeen.{source_seen};
-ghost use Rattle.query_run.specs.Commands.{OfCommand};
-ghost use Rattle.query_run.specs.Headline.{IsAnswerable, IsEither, ReaderFails};
-ghost use Rattle.query_run.specs.Racks.{IsHonest};
-ghost use Rattle.qrun.specs.Stocking.{one_file, Adds, WroteAnswer};
+ghost use Rattle.query_run.specs.Names.{OfCommand, IsAnswerable, IsEither, ReaderFails, IsHonest};
+ghost use Rattle.qrun.specs.Stocking.{Adds, WroteAnswer};
+ghost use Rattle.qrun.specs.declared.racks.TheConstants.{OTHERS as others_of_rack, SOURCES as sources_of_rack};
 
 mod boxes;
+mod cases;
 mod devices;
+mod orders;
+mod plans;
 mod queries;
 
-use crate::tests::boxes::add_boxes;
-use chunk_data::{Bytes, Chunk, List};
+use crate::racks::{OTHERS, SOURCES};
+use crate::tests::boxes::add_each;
+use chunk_data::{Bytes, Chunk, List, Memory};
 use csv_procs::CsvSource;
 use outside_io::{Failed, Fake, FakeKind, FileEntry, FileReader, Got, MemFiles, MemSink, Sink};
 use port_word::PortView;
@@ -29,6 +32,10 @@ use std::alloc::{AllocError, Global};
 use std::sync::Arc;
 use std::sync::atomic::{AtomicU64, Ordering};
 use std::test::Fail;
+
+/// The line of words that are no command.
+const USAGE: &str =
+    "qrun: usage: qrun --query QUERY [--tables TABLES] [--threads N] [--chunk N] [--header]\n";
 
 /// Files in memory whose reader has nothing yet so many times before the first byte.
 #[derive(Drop)]
@@ -132,16 +139,13 @@ struct Outcome {
 /// What a rack is made of, and the sink that takes its answer.
 #[derive(Clone, Copy)]
 struct Setting<'a> {
-    /// The bytes of the one file, `f.csv`.
-    bytes: &'a [u8],
+    files: &'a List<FileEntry>,
     /// The call of a reader that fails or has nothing yet.
     fake: Option<Fake>,
     /// How often a reader has nothing yet before its first byte.
     waits: u64,
-    /// How many boxes of each kind lie in the rack, beside one collector.
-    sources: u32,
-    filters: u32,
-    expressions: u32,
+    /// How many sources and other boxes lie in the rack, where it isn't the standard one.
+    stock: Option<(u32, &'a [(Kind, u32)])>,
     /// How often the words run.
     runs: u32,
     /// How many bytes the sink takes in a call, and in all.
@@ -149,15 +153,13 @@ struct Setting<'a> {
     room: usize,
 }
 
-/// The stock of the standard rack over the file, and ample room.
-fn ample(bytes: &[u8]) -> Setting<'_> {
+/// The standard rack over the files, and ample room.
+fn ample(files: &List<FileEntry>) -> Setting<'_> {
     Setting {
-        bytes,
+        files,
         fake: None,
         waits: 0,
-        sources: 64,
-        filters: 17,
-        expressions: 17,
+        stock: None,
         runs: 1,
         step: 4096,
         room: 4096,
@@ -189,16 +191,32 @@ fn words_of(alloc: Global, query: &str, declaration: &str) -> Result<Vec<String>
 }
 
 /// The one file `f.csv`.
-fn files_of(alloc: Global, bytes: &[u8]) -> Result<List<FileEntry>, AllocError>
-    ensures { IfOk result (λ entries. told_pairs entries ≡ one_file bytes.now) }
-{
-    let entry = FileEntry {
+fn one_file(alloc: Global, bytes: &[u8]) -> Result<List<FileEntry>, Fail> {
+    let mut files = Vec::new(alloc);
+    files.push(FileEntry {
         path: text(alloc, b"f.csv")?,
         bytes: text(alloc, bytes)?,
-    };
-    let mut files = Vec::new(alloc);
-    files.push(entry)?;
+    })?;
     Ok(List::from_vec(files))
+}
+
+/// A copy of the files.
+fn copy_files(alloc: Global, files: &List<FileEntry>) -> Result<List<FileEntry>, Fail>
+    ensures { IfOk result (λ copy. copy ≡ files.now) }
+{
+    let mut copy = Vec::new(alloc);
+    for file in files.as_slice() {
+        copy.push(copy_file(file)?)?;
+    }
+    Ok(List::from_vec(copy))
+}
+
+fn copy_file(file: &FileEntry) -> Result<FileEntry, Memory>
+    ensures { IfOk result (λ copy. copy ≡ file.now) }
+{
+    let path = file.path.copy()?;
+    let bytes = file.bytes.copy()?;
+    Ok(FileEntry { path, bytes })
 }
 
 /// The script of one fake, or of none.
@@ -215,32 +233,37 @@ fn script_of(alloc: Global, fake: Option<Fake>) -> Result<List<Fake>, AllocError
     }
 }
 
-fn source_of(alloc: Global, setting: &Setting<'_>) -> Result<CsvSource<SlowFiles>, AllocError>
+fn source_of(alloc: Global, setting: &Setting<'_>) -> Result<CsvSource<SlowFiles>, Fail>
     ensures blank { IfOk result (λ s. IsLawfulBlank kind.Csv (source_seen s)) }
-    ensures files { IfOk result (λ s. s.files ≡ Some (one_file setting.now.bytes.now)) }
+    ensures files { IfOk result (λ s. s.files ≡ Some (told_pairs setting.now.files.now)) }
 {
     let script = script_of(alloc, setting.fake)?;
-    let entries = files_of(alloc, setting.bytes)?;
+    let files = copy_files(alloc, setting.files)?;
     let files = SlowFiles {
-        files: MemFiles::new(alloc, entries, script),
+        files: MemFiles::new(alloc, files, script),
         waits: setting.waits,
         pendings: 0,
     };
     Ok(CsvSource::new(alloc, files))
 }
 
-/// The outcomes of words that run over one rack, and the kinds of its boxes before and after each run.
+/// The outcomes of words that run over one rack, and the kinds of its boxes before and after each
+/// run.
 #[derive(Drop)]
 struct Runs {
     outcomes: Vec<Outcome>,
     kinds: String,
 }
 
-/// Adds a new source that tells the one file.
-fn put_told(rack: &mut Rack, bytes: &[u8], b: Box<dyn Processor + Send>) -> Result<(), AllocError>
+/// Adds a new source that tells the files.
+fn put_told(
+    rack: &mut Rack,
+    files: &List<FileEntry>,
+    b: Box<dyn Processor + Send>,
+) -> Result<(), AllocError>
     requires new { IsLawfulBlank kind.Csv (seen b) }
-    requires told { (seen b).files ≡ Some (one_file bytes.now) }
-    ensures { OnOk result (Adds kind.Csv 1 (Some (one_file bytes.now))
+    requires told { (seen b).files ≡ Some (told_pairs files.now) }
+    ensures { OnOk result (Adds kind.Csv 1 (Some (told_pairs files.now))
         (map (λ b. seen b) rack.old.boxes.items) (map (λ b. seen b) rack.new.boxes.items)) }
 {
     rack.boxes.push(b)?;
@@ -251,37 +274,45 @@ fn add_told_sources(
     rt: &HostRuntime,
     rack: &mut Rack,
     setting: &Setting<'_>,
-) -> Result<(), AllocError>
-    ensures { OnOk result (Adds kind.Csv setting.now.sources (Some (one_file setting.now.bytes.now))
+    count: u32,
+) -> Result<(), Fail>
+    ensures { OnOk result (Adds kind.Csv count (Some (told_pairs setting.now.files.now))
         (map (λ b. seen (b.vtable, b.value)) rack.old.boxes.items)
         (map (λ b. seen (b.vtable, b.value)) rack.new.boxes.items)) }
 {
-    for n in 0..setting.sources {
+    for n in 0..count {
         let source = Box::new(rt.alloc(), source_of(rt.alloc(), setting)?)?;
-        put_told(rack, setting.bytes, source)?;
+        put_told(rack, setting.files, source)?;
     }
     Ok(())
 }
 
-/// Whether a rack of the setting has the standard stock.
-fn has_stock(setting: &Setting<'_>) -> bool
-    ensures { IsTrue result
-        → (64 ≤ setting.now.sources) × (17 ≤ setting.now.filters) × (17 ≤ setting.now.expressions) }
-{
-    setting.sources >= 64 && setting.filters >= 17 && setting.expressions >= 17
-}
-
 /// The words over a rack of the setting.
 fn run_setting(rt: &HostRuntime, words: &[String], setting: &Setting<'_>) -> Result<Runs, Fail> {
-    let mut rack = Rack::new(rt.alloc());
-    add_told_sources(rt, &mut rack, setting)?;
-    add_boxes(rt, &mut rack, Kind::Filter, setting.filters)?;
-    add_boxes(rt, &mut rack, Kind::Expression, setting.expressions)?;
-    add_boxes(rt, &mut rack, Kind::Collect, 1)?;
-    run_shown(rt, words, &mut rack, setting, has_stock(setting))
+    match setting.stock {
+        None => run_stocked(rt, words, setting, SOURCES, &OTHERS, true),
+        Some((sources, others)) => run_stocked(rt, words, setting, sources, others, false),
+    }
 }
 
-/// Runs by a rack that has the standard stock or not.
+fn run_stocked(
+    rt: &HostRuntime,
+    words: &[String],
+    setting: &Setting<'_>,
+    sources: u32,
+    others: &[(Kind, u32)],
+    standard: bool,
+) -> Result<Runs, Fail>
+    requires { IsTrue standard
+        → (sources ≡ sources_of_rack) × (others.now ≡ others_of_rack) }
+{
+    let mut rack = Rack::new(rt.alloc());
+    add_told_sources(rt, &mut rack, setting, sources)?;
+    add_each(rt, &mut rack, others)?;
+    run_shown(rt, words, &mut rack, setting, standard)
+}
+
+/// Runs by a rack that is the standard one or not.
 fn run_shown<R: AllocGlobal>(
     rt: &R,
     words: &[String],
@@ -290,7 +321,7 @@ fn run_shown<R: AllocGlobal>(
     standard: bool,
 ) -> Result<Runs, Fail>
     requires blank { All IsBlank (map (λ b. seen (b.vtable, b.value)) rack.old.boxes.items) }
-    requires honest { IsTrue standard → IsHonest (one_file setting.now.bytes.now)
+    requires honest { IsTrue standard → IsHonest (told_pairs setting.now.files.now)
         (map (λ b. seen (b.vtable, b.value)) rack.old.boxes.items) }
 {
     let mut kinds = String::new(rt.alloc());
@@ -305,22 +336,22 @@ fn run_shown<R: AllocGlobal>(
     Ok(Runs { outcomes, kinds })
 }
 
-/// A run by a rack that is honest of the one file: what was written is an answer's text over it.
+/// A run by a rack that is honest of the files: what was written is an answer's text over them.
 fn run_honest<R: AllocGlobal, O: Sink, E: Sink>(
     rt: &R,
     words: &[String],
     rack: &mut Rack,
-    bytes: &[u8],
+    files: &List<FileEntry>,
     out: &mut O,
     err: &mut E,
 ) -> u8
     requires blank { All IsBlank (map (λ b. seen (b.vtable, b.value)) rack.old.boxes.items) }
-    requires honest { IsHonest (one_file bytes.now)
+    requires honest { IsHonest (told_pairs files.now)
         (map (λ b. seen (b.vtable, b.value)) rack.old.boxes.items) }
-    ensures answered { result ≡ 0 → WroteAnswer (map string_bytes words.now) (one_file bytes.now)
+    ensures answered { result ≡ 0 → WroteAnswer (map string_bytes words.now) (told_pairs files.now)
         (O.written out.old) (O.written out.new) }
-    ensures succeeds { OfCommand (map string_bytes words.now) (IsAnswerable (one_file bytes.now)) →
-        (ReaderFails (map string_bytes words.now)
+    ensures succeeds { OfCommand (map string_bytes words.now) (IsAnswerable (told_pairs files.now))
+        → (ReaderFails (map string_bytes words.now)
         (map (λ b. seen (b.vtable, b.value)) rack.old.boxes.items)
         (map (λ b. seen (b.vtable, b.value)) rack.new.boxes.items)
         ⊎ Rose (O.faults out.old) (O.faults out.new) → ⊥) → IsEither 0 7 result }
@@ -339,12 +370,12 @@ fn status_by<R: AllocGlobal, O: Sink, E: Sink>(
     err: &mut E,
 ) -> u8
     requires blank { All IsBlank (map (λ b. seen (b.vtable, b.value)) rack.old.boxes.items) }
-    requires honest { IsTrue honest → IsHonest (one_file setting.now.bytes.now)
+    requires honest { IsTrue honest → IsHonest (told_pairs setting.now.files.now)
         (map (λ b. seen (b.vtable, b.value)) rack.old.boxes.items) }
     ensures { All IsBlank (map (λ b. seen (b.vtable, b.value)) rack.new.boxes.items) }
 {
     if honest {
-        run_honest(rt, words, rack, setting.bytes, out, err)
+        run_honest(rt, words, rack, setting.files, out, err)
     } else {
         run(rt, words, rack, out, err)
     }
@@ -358,7 +389,7 @@ fn outcome_of<R: AllocGlobal>(
     honest: bool,
 ) -> Result<Outcome, Fail>
     requires blank { All IsBlank (map (λ b. seen (b.vtable, b.value)) rack.old.boxes.items) }
-    requires honest { IsTrue honest → IsHonest (one_file setting.now.bytes.now)
+    requires honest { IsTrue honest → IsHonest (told_pairs setting.now.files.now)
         (map (λ b. seen (b.vtable, b.value)) rack.old.boxes.items) }
     ensures { All IsBlank (map (λ b. seen (b.vtable, b.value)) rack.new.boxes.items) }
 {
@@ -385,8 +416,13 @@ fn show_kinds(kinds: &mut String, rack: &Rack) -> Result<(), Fail> {
 fn letter_of(b: &Box<dyn Processor + Send>) -> char {
     match b.kind() {
         Kind::Csv => 's',
+        Kind::Numbers => 'n',
         Kind::Filter => 'f',
         Kind::Expression => 'e',
+        Kind::Resize => 'r',
+        Kind::Sort => 'o',
+        Kind::MergeSorted => 'm',
+        Kind::Limit => 'l',
         Kind::Collect => 'c',
         _ => '?',
     }
@@ -406,5 +442,5 @@ fn run_once(rt: &HostRuntime, words: &[String], setting: &Setting<'_>) -> Result
 fn answer(rt: &HostRuntime, columns: &str, query: &str, bytes: &[u8]) -> Result<Outcome, Fail> {
     let declaration = format!(in rt.alloc(); "t=f.csv:{columns}")?;
     let words = words_of(rt.alloc(), query, declaration.as_str())?;
-    run_once(rt, words.as_slice(), &ample(bytes))
+    run_once(rt, words.as_slice(), &ample(&one_file(rt.alloc(), bytes)?))
 }

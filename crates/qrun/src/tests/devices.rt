@@ -2,10 +2,11 @@
 ghost use Rattle.std.specs.Prelude.{IsSome};
 
 use super::{
-    Counted, ample, answer, files_of, put_told, run_once, run_setting, run_shown, script_of,
+    Counted, USAGE, ample, one_file, put_told, run_once, run_setting, run_shown, script_of,
     source_of, text, told_by, words_of,
 };
-use crate::tests::boxes::add_boxes;
+use crate::racks::OTHERS;
+use crate::tests::boxes::add_each;
 use chunk_data::Bytes;
 use csv_rows::{FetchFault, Fetched, fetch};
 use outside_io::{Fake, FakeKind, FileReader, MemFiles, MemSink};
@@ -17,7 +18,8 @@ use std::sync::Arc;
 use std::sync::atomic::{AtomicU64, Ordering};
 use std::test::Fail;
 
-/// A sink of lines that takes three bytes a call, and fails after so many: the line is cut there, and all else is the same.
+/// A sink of lines that takes three bytes a call, and fails after so many: the line is cut there,
+/// and all else is the same.
 #[test]
 fn lines_are_cut_where_their_sink_fails(rt: HostRuntime) -> Result<(), Fail> {
     let words = words_of(rt.alloc(), "SELECT cost FROM t", "t=f.csv:a Int64")?;
@@ -56,7 +58,8 @@ fn numbers_are_cut_where_their_sink_fails(rt: HostRuntime) -> Result<(), Fail> {
     Ok(())
 }
 
-/// A reader that fails, or has nothing yet, at each of its calls in turn: opening, a block, the end.
+/// A reader that fails, or has nothing yet, at each of its calls in turn: opening, a block, the
+/// end.
 #[test]
 fn readers_fail_and_wait(rt: HostRuntime) -> Result<(), Fail> {
     let words = words_of(rt.alloc(), "SELECT a FROM t", "t=f.csv:a Int64")?;
@@ -71,8 +74,9 @@ fn readers_fail_and_wait(rt: HostRuntime) -> Result<(), Fail> {
         (3, FakeKind::Pend, 0, "7\n", ""),
         (4, FakeKind::Pend, 0, "7\n", ""),
     ];
+    let files = one_file(rt.alloc(), b"7\n")?;
     for (call, kind, status, written, line) in cases.iter() {
-        let mut setting = ample(b"7\n");
+        let mut setting = ample(&files);
         setting.fake = Some(Fake {
             call: *call,
             kind: *kind,
@@ -97,7 +101,8 @@ fn readers_fail_and_wait(rt: HostRuntime) -> Result<(), Fail> {
 #[test]
 fn a_reader_may_wait_many_times(rt: HostRuntime) -> Result<(), Fail> {
     let words = words_of(rt.alloc(), "SELECT a FROM t", "t=f.csv:a Int64")?;
-    let mut setting = ample(b"7\n");
+    let files = one_file(rt.alloc(), b"7\n")?;
+    let mut setting = ample(&files);
     setting.waits = 999_999;
     let waited = run_once(&rt, words.as_slice(), &setting)?;
     assert_eq!(rt; waited.status, 0);
@@ -109,7 +114,8 @@ fn a_reader_may_wait_many_times(rt: HostRuntime) -> Result<(), Fail> {
 #[test]
 fn a_reader_stalls_at_a_million_waits(rt: HostRuntime) -> Result<(), Fail> {
     let words = words_of(rt.alloc(), "SELECT a FROM t", "t=f.csv:a Int64")?;
-    let mut setting = ample(b"7\n");
+    let files = one_file(rt.alloc(), b"7\n")?;
+    let mut setting = ample(&files);
     setting.waits = 1_000_000;
     let stalled = run_once(&rt, words.as_slice(), &setting)?;
     assert_eq!(rt; stalled.status, 4);
@@ -121,77 +127,151 @@ fn a_reader_stalls_at_a_million_waits(rt: HostRuntime) -> Result<(), Fail> {
     Ok(())
 }
 
-/// A rack that lacks a kind: how many sources, filters and expressions it has, the query, and the line.
+/// A rack that lacks a kind: how many sources and other boxes it has, the lanes, the query, and the
+/// line.
 #[test]
 fn a_missing_kind_is_told(rt: HostRuntime) -> Result<(), Fail> {
-    let cases: [(u32, u32, u32, &str, &str); 5] = [
+    let filtering = "SELECT a FROM t WHERE a = 7";
+    let (filter, expression) = ((Kind::Filter, 1), (Kind::Expression, 1));
+    let (resizes, collect) = ((Kind::Resize, 2), (Kind::Collect, 1));
+    let none = (Kind::Limit, 0);
+    let cases: [(u32, [(Kind, u32); 4], &str, &str, &str); 9] = [
         (
             1,
-            0,
-            1,
-            "SELECT a FROM t WHERE a = 7",
+            [expression, resizes, collect, none],
+            "1",
+            filtering,
             "qrun: limit: boxes of kind Filter needed 1, rack has 0\n",
         ),
-        (1, 0, 1, "SELECT a FROM t", "7\n"),
+        (
+            1,
+            [filter, expression, resizes, collect],
+            "2",
+            filtering,
+            "qrun: limit: boxes of kind Filter needed 2, rack has 1\n",
+        ),
+        (
+            1,
+            [expression, resizes, collect, none],
+            "1",
+            "SELECT a FROM t",
+            "7\n",
+        ),
         (
             0,
-            0,
-            0,
-            "SELECT a FROM t WHERE a = 7",
+            [none; 4],
+            "1",
+            filtering,
             "qrun: limit: boxes of kind Csv needed 1, rack has 0\n",
         ),
         (
-            1,
-            1,
             0,
-            "SELECT a FROM t WHERE a = 7",
+            [expression, resizes, collect, none],
+            "1",
+            "SELECT number FROM numbers(3)",
+            "qrun: limit: boxes of kind Numbers needed 1, rack has 0\n",
+        ),
+        (
+            1,
+            [filter, resizes, collect, none],
+            "1",
+            filtering,
             "qrun: limit: boxes of kind Expression needed 1, rack has 0\n",
         ),
         (
+            1,
+            [expression, collect, none, none],
+            "1",
+            "SELECT a FROM t",
+            "qrun: limit: boxes of kind Resize needed 2, rack has 0\n",
+        ),
+        (
+            1,
+            [expression, resizes, collect, none],
+            "1",
+            "SELECT a FROM t LIMIT 1",
+            "qrun: limit: boxes of kind Limit needed 1, rack has 0\n",
+        ),
+        (
             0,
-            0,
-            0,
+            [none; 4],
+            "1",
             "SELECT b FROM t",
             "qrun: refused: UnknownColumn b\n",
         ),
     ];
-    for (sources, filters, expressions, query, told) in cases.iter() {
-        let words = words_of(rt.alloc(), query, "t=f.csv:a Int64")?;
-        let mut setting = ample(b"7\n");
-        setting.sources = *sources;
-        setting.filters = *filters;
-        setting.expressions = *expressions;
+    let files = one_file(rt.alloc(), b"7\n")?;
+    for (sources, others, lanes, query, told) in cases.iter() {
+        let words = words_by_lanes(rt.alloc(), query, lanes)?;
+        let others = *others;
+        let mut setting = ample(&files);
+        setting.stock = Some((*sources, &others));
         let outcome = run_once(&rt, words.as_slice(), &setting)?;
         assert_eq!(rt; told_by(&outcome), told.as_bytes(), "{query}");
     }
     Ok(())
 }
 
-/// The boxes that weren't taken lie in front, and then the taken ones in the order of the plan. The same words run again.
+/// A query over the one file by so many lanes.
+pub(super) fn words_by_lanes(
+    alloc: Global,
+    query: &str,
+    lanes: &str,
+) -> Result<Vec<String>, AllocError> {
+    let mut words = words_of(alloc, query, "t=f.csv:a Int64")?;
+    words.push(String::from_str(alloc, "--threads")?)?;
+    words.push(String::from_str(alloc, lanes)?)?;
+    Ok(words)
+}
+
+/// The boxes that weren't taken lie in front, and then the taken ones in the order of the plan. The
+/// same words run again.
 #[test]
 fn boxes_come_back_in_their_order(rt: HostRuntime) -> Result<(), Fail> {
-    let cases: [(&str, u8, &str, &str); 4] = [
+    let cases: [(&str, u8, &str, &str); 5] = [
         (
             "SELECT a FROM t WHERE a = 7",
             0,
             "7\n",
-            "ssffeec|sfesfec|sfesfec|",
+            "ssffeerrlc|sfelsrferc|lsfesrferc|",
         ),
-        ("SELECT a FROM t", 0, "7\n8\n", "ssffeec|sffesec|ffsesec|"),
+        (
+            "SELECT a FROM t",
+            0,
+            "7\n8\n",
+            "ssffeerrlc|sffelsrerc|fflsesrerc|",
+        ),
+        (
+            "SELECT a FROM t LIMIT 2",
+            0,
+            "7\n8\n",
+            "ssffeerrlc|sffesrerlc|ffsesrerlc|",
+        ),
         (
             "SELECT b FROM t",
             2,
             "qrun: refused: UnknownColumn b\n",
-            "ssffeec|ssffeec|ssffeec|",
+            "ssffeerrlc|ssffeerrlc|ssffeerrlc|",
         ),
-        ("", 2, "qrun: refused: Syntax\n", "ssffeec|ssffeec|ssffeec|"),
+        (
+            "",
+            2,
+            "qrun: refused: Syntax\n",
+            "ssffeerrlc|ssffeerrlc|ssffeerrlc|",
+        ),
+    ];
+    let files = one_file(rt.alloc(), b"7\n8\n")?;
+    let others = [
+        (Kind::Filter, 2),
+        (Kind::Expression, 2),
+        (Kind::Resize, 2),
+        (Kind::Limit, 1),
+        (Kind::Collect, 1),
     ];
     for (query, status, told, kinds) in cases.iter() {
-        let words = words_of(rt.alloc(), query, "t=f.csv:a Int64")?;
-        let mut setting = ample(b"7\n8\n");
-        setting.sources = 2;
-        setting.filters = 2;
-        setting.expressions = 2;
+        let words = words_by_lanes(rt.alloc(), query, "1")?;
+        let mut setting = ample(&files);
+        setting.stock = Some((2, &others));
         setting.runs = 2;
         let runs = run_setting(&rt, words.as_slice(), &setting)?;
         assert_eq!(rt; runs.outcomes.len(), 2);
@@ -208,8 +288,9 @@ fn boxes_come_back_in_their_order(rt: HostRuntime) -> Result<(), Fail> {
 #[test]
 fn a_fault_leaves_the_rack_for_another_run(rt: HostRuntime) -> Result<(), Fail> {
     let words = words_of(rt.alloc(), "SELECT a FROM t", "t=f.csv:a Int64")?;
-    let mut setting = ample(b"7\n");
-    setting.sources = 1;
+    let files = one_file(rt.alloc(), b"7\n")?;
+    let mut setting = ample(&files);
+    setting.stock = Some((1, &OTHERS));
     setting.runs = 2;
     setting.fake = Some(Fake {
         call: 3,
@@ -230,7 +311,8 @@ fn a_fault_leaves_the_rack_for_another_run(rt: HostRuntime) -> Result<(), Fail> 
 fn a_source_is_prepared(rt: HostRuntime) -> Result<(), Fail> {
     let alloc = rt.alloc();
     let words = words_of(alloc, "SELECT a FROM t", "t=f.csv:a Int64")?;
-    let setting = ample(b"7\n");
+    let files = one_file(alloc, b"7\n")?;
+    let setting = ample(&files);
     let prepared = Arc::new(alloc, AtomicU64::new(0))?;
     let mut rack = Rack::new(alloc);
     let source = Counted {
@@ -238,9 +320,8 @@ fn a_source_is_prepared(rt: HostRuntime) -> Result<(), Fail> {
         prepared: Arc::try_clone(&prepared)?,
     };
     let source = Box::new(alloc, source)?;
-    put_told(&mut rack, setting.bytes, source)?;
-    add_boxes(&rt, &mut rack, Kind::Expression, 1)?;
-    add_boxes(&rt, &mut rack, Kind::Collect, 1)?;
+    put_told(&mut rack, setting.files, source)?;
+    add_each(&rt, &mut rack, &OTHERS)?;
     let runs = run_shown(&rt, words.as_slice(), &mut rack, &setting, false)?;
     assert_eq!(rt; runs.outcomes.len(), 1);
     for outcome in runs.outcomes.as_slice() {
@@ -259,8 +340,9 @@ fn chunks_follow_each_other(rt: HostRuntime) -> Result<(), Fail> {
         bytes.extend_from_slice(b"7\n")?;
     }
     let words = words_of(rt.alloc(), "SELECT a FROM t WHERE a = 7", "t=f.csv:a Int64")?;
-    let mut setting = ample(bytes.as_slice());
-    setting.sources = 1;
+    let files = one_file(rt.alloc(), bytes.as_slice())?;
+    let mut setting = ample(&files);
+    setting.stock = Some((1, &OTHERS));
     setting.room = 65_536;
     let outcome = run_once(&rt, words.as_slice(), &setting)?;
     assert_eq!(rt; outcome.status, 0);
@@ -278,8 +360,9 @@ fn sinks_take_little(rt: HostRuntime) -> Result<(), Fail> {
         (5, 5, "123\n4", "qrun: write fault\n"),
         (0, 5, "", "qrun: write fault\n"),
     ];
+    let files = one_file(rt.alloc(), b"123\n4567\n")?;
     for (room, status, written, line) in cases.iter() {
-        let mut setting = ample(b"123\n4567\n");
+        let mut setting = ample(&files);
         setting.step = 1;
         setting.room = *room;
         let outcome = run_once(&rt, words.as_slice(), &setting)?;
@@ -302,18 +385,16 @@ fn sinks_take_little(rt: HostRuntime) -> Result<(), Fail> {
 #[test]
 fn words_and_files_may_be_missing(rt: HostRuntime) -> Result<(), Fail> {
     let words = words_of(rt.alloc(), "SELECT a FROM t", "t=g.csv:a Int64")?;
-    let missing = run_once(&rt, words.as_slice(), &ample(b"1\n"))?;
+    let files = one_file(rt.alloc(), b"1\n")?;
+    let missing = run_once(&rt, words.as_slice(), &ample(&files))?;
     assert_eq!(rt; missing.status, 4);
     assert_eq!(rt;
         missing.err.as_slice(),
         b"qrun: read fault: table t part 1\n".as_slice()
     );
-    let none = run_once(&rt, &[], &ample(b"1\n"))?;
+    let none = run_once(&rt, &[], &ample(&files))?;
     assert_eq!(rt; none.status, 1);
-    assert_eq!(rt;
-        none.err.as_slice(),
-        b"qrun: usage: qrun --query QUERY [--tables TABLES] [--threads N] [--chunk N] [--header]\n".as_slice()
-    );
+    assert_eq!(rt; none.err.as_slice(), USAGE.as_bytes());
     Ok(())
 }
 
@@ -333,13 +414,13 @@ fn fetches_keep_the_limit(rt: HostRuntime) -> Result<(), Fail> {
 }
 
 /// What the reads of the bytes answer within the limit of ten.
-fn fetched(alloc: Global, bytes: &[u8]) -> Result<String, AllocError> {
+fn fetched(alloc: Global, bytes: &[u8]) -> Result<String, Fail> {
     let script = script_of(alloc, None)?;
-    let mut files = MemFiles::new(alloc, files_of(alloc, bytes)?, script);
+    let mut files = MemFiles::new(alloc, one_file(alloc, bytes)?, script);
     let mut held = Bytes::new(alloc);
     match files.open_path(&text(alloc, b"f.csv")?) {
-        Ok(()) => first_fetch(alloc, &mut files, &mut held),
-        Err(_) => String::from_str(alloc, "failed"),
+        Ok(()) => Ok(first_fetch(alloc, &mut files, &mut held)?),
+        Err(_) => Err("failed".into()),
     }
 }
 

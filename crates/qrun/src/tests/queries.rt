@@ -1,171 +1,75 @@
 // Queries: what is written, and what is told of those that are refused.
-use super::{answer, text, told_by};
+use super::cases::{check, fields};
+use super::{answer, told_by};
 use std::alloc::{AllocError, Global};
 use std::test::Fail;
 
 /// Valid files: the columns, the query, the file, and what is written.
 #[test]
 fn answers_are_written(rt: HostRuntime) -> Result<(), Fail> {
-    let cases: [(&str, &str, &[u8], &[u8]); 14] = [
-        (
-            "a Int64,b String",
-            "SELECT a FROM t",
-            b"7,x\n7,y\n",
-            b"7\n7\n",
-        ),
-        ("a Int64,b String", "SELECT a FROM t", b"", b""),
-        (
-            "a String,b String,c String",
-            "SELECT a, b, c FROM t",
-            b"\"say \"\"hi\"\"\",\"a,b\",\"x\ny\"\n",
-            b"\"say \"\"hi\"\"\",\"a,b\",\"x\ny\"\n",
-        ),
-        ("a String", "SELECT a FROM t", b"\xff\n", b"\"\xff\"\n"),
-        (
-            "a Int64,b String",
-            "SELECT b, a, b FROM t",
-            b"1,x\n2,y\n",
-            b"\"x\",1,\"x\"\n\"y\",2,\"y\"\n",
-        ),
-        (
-            "a Int64",
-            "SELECT a FROM t",
-            b"9223372036854775807\n-9223372036854775808\n",
-            b"9223372036854775807\n-9223372036854775808\n",
-        ),
-        (
-            "a UInt64",
-            "SELECT a FROM t",
-            b"18446744073709551615\n0\n",
-            b"18446744073709551615\n0\n",
-        ),
-        (
-            "a Int64",
-            "SELECT a FROM t",
-            b"-0\n007\n-08\n",
-            b"0\n7\n-8\n",
-        ),
-        ("a Int64", "SELECT a FROM t", b"\"12\"\n", b"12\n"),
-        ("a Int64", "SELECT a FROM t", b"\xef\xbb\xbf7\n", b"7\n"),
-        (
-            "a Int64,b String",
-            "SELECT a, b FROM t",
-            b"1,x\r\n2,y\r3,z",
-            b"1,\"x\"\n2,\"y\"\n3,\"z\"\n",
-        ),
-        ("a Int64", "SELECT a FROM t", b"\n1\n\n2\n\n", b"1\n2\n"),
-        (
-            "a String,b String",
-            "SELECT a, b FROM t",
-            b",\n\"\",\n",
-            b"\"\",\"\"\n\"\",\"\"\n",
-        ),
-        ("a String", "SELECT a FROM t", b" x \n", b"\" x \"\n"),
+    let cases: [&str; 13] = [
+        "a Int64,b String~SELECT a FROM t~7,x\n7,y\n~7\n7\n",
+        "a Int64,b String~SELECT a FROM t~~",
+        "a String,b String,c String~SELECT a, b, c FROM t~\"say \"\"hi\"\"\",\"a,b\",\"x\ny\"\n~\
+         \"say \"\"hi\"\"\",\"a,b\",\"x\ny\"\n",
+        "a Int64,b String~SELECT b, a, b FROM t~1,x\n2,y\n~\"x\",1,\"x\"\n\"y\",2,\"y\"\n",
+        "a Int64~SELECT a FROM t~9223372036854775807\n-9223372036854775808\n~\
+         9223372036854775807\n-9223372036854775808\n",
+        "a UInt64~SELECT a FROM t~18446744073709551615\n0\n~18446744073709551615\n0\n",
+        "a Int64~SELECT a FROM t~-0\n007\n-08\n~0\n7\n-8\n",
+        "a Int64~SELECT a FROM t~\"12\"\n~12\n",
+        "a Int64~SELECT a FROM t~\u{feff}7\n~7\n",
+        "a Int64,b String~SELECT a, b FROM t~1,x\r\n2,y\r3,z~1,\"x\"\n2,\"y\"\n3,\"z\"\n",
+        "a Int64~SELECT a FROM t~\n1\n\n2\n\n~1\n2\n",
+        "a String,b String~SELECT a, b FROM t~,\n\"\",\n~\"\",\"\"\n\"\",\"\"\n",
+        "a String~SELECT a FROM t~ x \n~\" x \"\n",
     ];
-    for (columns, query, bytes, written) in cases.iter() {
-        let outcome = answer(&rt, columns, query, bytes)?;
-        assert_eq!(rt; outcome.status, 0, "status of {query} over {columns}");
-        assert_eq!(rt;
-            outcome.out.as_slice(),
-            *written,
-            "text of {query} over {columns}"
-        );
-        assert_eq!(rt; outcome.err.len(), 0, "no line for {query}");
+    for case in cases.iter() {
+        let (columns, query, file, told) = fields(case);
+        check(
+            &rt,
+            case,
+            &answer(&rt, columns, query, file.as_bytes())?,
+            told,
+        )?;
     }
+    Ok(())
+}
+
+/// Bytes that are no text of Unicode.
+#[test]
+fn any_bytes_are_a_text(rt: HostRuntime) -> Result<(), Fail> {
+    let outcome = answer(&rt, "a String", "SELECT a FROM t", b"\xff\n")?;
+    assert_eq!(rt; outcome.status, 0);
+    assert_eq!(rt; outcome.out.as_slice(), b"\"\xff\"\n".as_slice());
     Ok(())
 }
 
 /// What is not answered: the columns, the query, the file, the status and the line.
 #[test]
 fn other_ends_tell_their_line(rt: HostRuntime) -> Result<(), Fail> {
-    let cases: [(&str, &str, &[u8], u8, &str); 11] = [
-        (
-            "a Int64",
-            "SELECT a FROM t",
-            b"1\nz\n",
-            3,
-            "qrun: bad data: table t part 1 row 2 column 1\n",
-        ),
-        (
-            "a Int64",
-            "SELECT a FROM t",
-            b"1\n2,3\n",
-            3,
-            "qrun: bad data: table t part 1 row 2 fields 2\n",
-        ),
-        (
-            "a Int64,b Int64",
-            "SELECT a FROM t",
-            b"1,2\n3\n",
-            3,
-            "qrun: bad data: table t part 1 row 2 fields 1\n",
-        ),
-        (
-            "a Int64",
-            "SELECT a FROM t",
-            b"9223372036854775808\n",
-            3,
-            "qrun: bad data: table t part 1 row 1 column 1\n",
-        ),
-        (
-            "a UInt64",
-            "SELECT a FROM t",
-            b"-1\n",
-            3,
-            "qrun: bad data: table t part 1 row 1 column 1\n",
-        ),
-        (
-            "a Int64",
-            "SELECT a FROM t",
-            b"+1\n",
-            3,
-            "qrun: bad data: table t part 1 row 1 column 1\n",
-        ),
-        (
-            "a Int64",
-            "SELECT a FROM t",
-            b" 1\n",
-            3,
-            "qrun: bad data: table t part 1 row 1 column 1\n",
-        ),
-        (
-            "a Int64,b Int64",
-            "SELECT a FROM t",
-            b"1,x\n",
-            3,
-            "qrun: bad data: table t part 1 row 1 column 2\n",
-        ),
-        (
-            "a Int32",
-            "SELECT a FROM t",
-            b"1\n",
-            1,
-            "qrun: usage: qrun --query QUERY [--tables TABLES] [--threads N] [--chunk N] [--header]\n",
-        ),
-        (
-            "a Int64,a Int64",
-            "SELECT a FROM t",
-            b"1\n",
-            1,
-            "qrun: usage: qrun --query QUERY [--tables TABLES] [--threads N] [--chunk N] [--header]\n",
-        ),
-        (
-            "",
-            "SELECT a FROM t",
-            b"1\n",
-            1,
-            "qrun: usage: qrun --query QUERY [--tables TABLES] [--threads N] [--chunk N] [--header]\n",
-        ),
+    let cases: [&str; 11] = [
+        "a Int64~SELECT a FROM t~1\nz\n~qrun: bad data: table t part 1 row 2 column 1\n",
+        "a Int64~SELECT a FROM t~1\n2,3\n~qrun: bad data: table t part 1 row 2 fields 2\n",
+        "a Int64,b Int64~SELECT a FROM t~1,2\n3\n~qrun: bad data: table t part 1 row 2 fields 1\n",
+        "a Int64~SELECT a FROM t~9223372036854775808\n~\
+         qrun: bad data: table t part 1 row 1 column 1\n",
+        "a UInt64~SELECT a FROM t~-1\n~qrun: bad data: table t part 1 row 1 column 1\n",
+        "a Int64~SELECT a FROM t~+1\n~qrun: bad data: table t part 1 row 1 column 1\n",
+        "a Int64~SELECT a FROM t~ 1\n~qrun: bad data: table t part 1 row 1 column 1\n",
+        "a Int64,b Int64~SELECT a FROM t~1,x\n~qrun: bad data: table t part 1 row 1 column 2\n",
+        "a Int32~SELECT a FROM t~1\n~usage",
+        "a Int64,a Int64~SELECT a FROM t~1\n~usage",
+        "~SELECT a FROM t~1\n~usage",
     ];
-    for (columns, query, bytes, status, line) in cases.iter() {
-        let outcome = answer(&rt, columns, query, bytes)?;
-        assert_eq!(rt; outcome.status, *status, "status of {query} over {columns}");
-        assert_eq!(rt;
-            outcome.err.as_slice(),
-            line.as_bytes(),
-            "line of {query} over {columns}"
-        );
-        assert_eq!(rt; outcome.out.len(), 0, "nothing written for {query}");
+    for case in cases.iter() {
+        let (columns, query, file, told) = fields(case);
+        check(
+            &rt,
+            case,
+            &answer(&rt, columns, query, file.as_bytes())?,
+            told,
+        )?;
     }
     Ok(())
 }
@@ -173,47 +77,25 @@ fn other_ends_tell_their_line(rt: HostRuntime) -> Result<(), Fail> {
 /// Items with arithmetic: the columns, the query, the file, and what is written.
 #[test]
 fn items_are_evaluated(rt: HostRuntime) -> Result<(), Fail> {
-    let cases: [(&str, &str, &[u8], &[u8]); 7] = [
+    let cases: [&str; 7] = [
         // arithmetic wraps, and a difference is an Int64
-        (
-            "a UInt64,b UInt64",
-            "SELECT a - b FROM t",
-            b"0,1\n",
-            b"-1\n",
-        ),
-        (
-            "a UInt64",
-            "SELECT a + 1 FROM t",
-            b"18446744073709551615\n",
-            b"0\n",
-        ),
-        (
-            "a Int64",
-            "SELECT a * 2 FROM t",
-            b"4611686018427387904\n",
-            b"-9223372036854775808\n",
-        ),
+        "a UInt64,b UInt64~SELECT a - b FROM t~0,1\n~-1\n",
+        "a UInt64~SELECT a + 1 FROM t~18446744073709551615\n~0\n",
+        "a Int64~SELECT a * 2 FROM t~4611686018427387904\n~-9223372036854775808\n",
         // precedence, grouping to the left, parentheses
-        (
-            "a Int64,b Int64",
-            "SELECT a + b * 2, (a + b) * 2 FROM t",
-            b"1,2\n",
-            b"5,6\n",
-        ),
-        (
-            "a Int64",
-            "SELECT a - 1 - 1, a - (1 - a) FROM t",
-            b"5\n",
-            b"3,9\n",
-        ),
-        ("a Int64", "SELECT a * -1, 2 - a FROM t", b"5\n", b"-5,-3\n"),
-        ("u UInt64", "SELECT u + -0 FROM t", b"5\n", b"5\n"),
+        "a Int64,b Int64~SELECT a + b * 2, (a + b) * 2 FROM t~1,2\n~5,6\n",
+        "a Int64~SELECT a - 1 - 1, a - (1 - a) FROM t~5\n~3,9\n",
+        "a Int64~SELECT a * -1, 2 - a FROM t~5\n~-5,-3\n",
+        "u UInt64~SELECT u + -0 FROM t~5\n~5\n",
     ];
-    for (columns, query, bytes, written) in cases.iter() {
-        let outcome = answer(&rt, columns, query, bytes)?;
-        assert_eq!(rt; outcome.status, 0, "status of {query}");
-        assert_eq!(rt; outcome.out.as_slice(), *written, "text of {query}");
-        assert_eq!(rt; outcome.err.len(), 0, "no line for {query}");
+    for case in cases.iter() {
+        let (columns, query, file, told) = fields(case);
+        check(
+            &rt,
+            case,
+            &answer(&rt, columns, query, file.as_bytes())?,
+            told,
+        )?;
     }
     Ok(())
 }
@@ -221,54 +103,27 @@ fn items_are_evaluated(rt: HostRuntime) -> Result<(), Fail> {
 /// Conditions on numbers: the columns, the query, the file, and what is written.
 #[test]
 fn conditions_choose_rows(rt: HostRuntime) -> Result<(), Fail> {
-    let cases: [(&str, &str, &[u8], &[u8]); 9] = [
+    let cases: [&str; 9] = [
         // no row passes
-        ("a Int64", "SELECT a FROM t WHERE a > 5", b"1\n2\n3\n", b""),
+        "a Int64~SELECT a FROM t WHERE a > 5~1\n2\n3\n~",
         // numbers of two types are compared by value
-        (
-            "a Int64,b UInt64",
-            "SELECT a FROM t WHERE a < b AND NOT a = 7",
-            b"-1,0\n7,9\n5,5\n",
-            b"-1\n",
-        ),
-        (
-            "a Int64",
-            "SELECT a FROM t WHERE a = 1 OR a = 2 AND a = 3",
-            b"1\n2\n3\n",
-            b"1\n",
-        ),
-        (
-            "a Int64",
-            "SELECT a FROM t WHERE (a = 1 OR a = 2) AND a != 1",
-            b"1\n2\n3\n",
-            b"2\n",
-        ),
-        (
-            "a Int64",
-            "SELECT a FROM t WHERE NOT (a < 2 OR a >= 3)",
-            b"1\n2\n3\n",
-            b"2\n",
-        ),
-        (
-            "a Int64",
-            "SELECT a FROM t WHERE a + 1 = 2 * a",
-            b"1\n2\n",
-            b"1\n",
-        ),
-        (
-            "a Int64",
-            "SELECT a FROM t WHERE 1 = 1",
-            b"1\n2\n",
-            b"1\n2\n",
-        ),
-        ("a Int64", "SELECT a FROM t WHERE 1 <> 1", b"1\n2\n", b""),
-        ("a Int64", "SELECT a FROM t WHERE 2 <= a", b"1\n2\n", b"2\n"),
+        "a Int64,b UInt64~SELECT a FROM t WHERE a < b AND NOT a = 7~-1,0\n7,9\n5,5\n~-1\n",
+        "a Int64~SELECT a FROM t WHERE a = 1 OR a = 2 AND a = 3~1\n2\n3\n~1\n",
+        "a Int64~SELECT a FROM t WHERE (a = 1 OR a = 2) AND a != 1~1\n2\n3\n~2\n",
+        "a Int64~SELECT a FROM t WHERE NOT (a < 2 OR a >= 3)~1\n2\n3\n~2\n",
+        "a Int64~SELECT a FROM t WHERE a + 1 = 2 * a~1\n2\n~1\n",
+        "a Int64~SELECT a FROM t WHERE 1 = 1~1\n2\n~1\n2\n",
+        "a Int64~SELECT a FROM t WHERE 1 <> 1~1\n2\n~",
+        "a Int64~SELECT a FROM t WHERE 2 <= a~1\n2\n~2\n",
     ];
-    for (columns, query, bytes, written) in cases.iter() {
-        let outcome = answer(&rt, columns, query, bytes)?;
-        assert_eq!(rt; outcome.status, 0, "status of {query}");
-        assert_eq!(rt; outcome.out.as_slice(), *written, "text of {query}");
-        assert_eq!(rt; outcome.err.len(), 0, "no line for {query}");
+    for case in cases.iter() {
+        let (columns, query, file, told) = fields(case);
+        check(
+            &rt,
+            case,
+            &answer(&rt, columns, query, file.as_bytes())?,
+            told,
+        )?;
     }
     Ok(())
 }
@@ -276,56 +131,29 @@ fn conditions_choose_rows(rt: HostRuntime) -> Result<(), Fail> {
 /// Conditions on texts, names, and the ways that a query may be written.
 #[test]
 fn texts_and_names_are_read(rt: HostRuntime) -> Result<(), Fail> {
-    let cases: [(&str, &str, &[u8], &[u8]); 10] = [
+    let cases: [&str; 10] = [
         // texts are compared by bytes
-        (
-            "a Int64,b String",
-            "SELECT a FROM t WHERE b = 'x'",
-            b"1,x\n2,y\n3,x\n",
-            b"1\n3\n",
-        ),
-        (
-            "b String",
-            "SELECT b FROM t WHERE b < 'b'",
-            b"a\nB\nb\n",
-            b"\"a\"\n\"B\"\n",
-        ),
-        (
-            "b String",
-            "SELECT b FROM t WHERE b == 'it''s'",
-            b"it's\nits\n",
-            b"\"it's\"\n",
-        ),
-        (
-            "a String,b String",
-            "SELECT a FROM t WHERE a > b",
-            b"x,y\ny,x\n",
-            b"\"y\"\n",
-        ),
+        "a Int64,b String~SELECT a FROM t WHERE b = 'x'~1,x\n2,y\n3,x\n~1\n3\n",
+        "b String~SELECT b FROM t WHERE b < 'b'~a\nB\nb\n~\"a\"\n\"B\"\n",
+        "b String~SELECT b FROM t WHERE b == 'it''s'~it's\nits\n~\"it's\"\n",
+        "a String,b String~SELECT a FROM t WHERE a > b~x,y\ny,x\n~\"y\"\n",
         // all columns, names with the table, aliases
-        (
-            "a Int64,b String",
-            "SELECT * FROM t",
-            b"1,x\n2,y\n",
-            b"1,\"x\"\n2,\"y\"\n",
-        ),
-        ("a Int64", "SELECT t.a, t . a + 1 FROM t", b"1\n", b"1,2\n"),
-        (
-            "a Int64,b String",
-            "SELECT b AS a, a AS b FROM t WHERE a = 1",
-            b"1,x\n",
-            b"\"x\",1\n",
-        ),
+        "a Int64,b String~SELECT * FROM t~1,x\n2,y\n~1,\"x\"\n2,\"y\"\n",
+        "a Int64~SELECT t.a, t . a + 1 FROM t~1\n~1,2\n",
+        "a Int64,b String~SELECT b AS a, a AS b FROM t WHERE a = 1~1,x\n~\"x\",1\n",
         // the way that it is written
-        ("a Int64", "select a from t where a = 1;", b"1\n2\n", b"1\n"),
-        ("a Int64", "\tSELECT\r\na ,(a+1)FROM t", b"1\n", b"1,2\n"),
-        ("count Int64", "SELECT count FROM t", b"1\n", b"1\n"),
+        "a Int64~select a from t where a = 1;~1\n2\n~1\n",
+        "a Int64~\tSELECT\r\na ,(a+1)FROM t~1\n~1,2\n",
+        "count Int64~SELECT count FROM t~1\n~1\n",
     ];
-    for (columns, query, bytes, written) in cases.iter() {
-        let outcome = answer(&rt, columns, query, bytes)?;
-        assert_eq!(rt; outcome.status, 0, "status of {query}");
-        assert_eq!(rt; outcome.out.as_slice(), *written, "text of {query}");
-        assert_eq!(rt; outcome.err.len(), 0, "no line for {query}");
+    for case in cases.iter() {
+        let (columns, query, file, told) = fields(case);
+        check(
+            &rt,
+            case,
+            &answer(&rt, columns, query, file.as_bytes())?,
+            told,
+        )?;
     }
     Ok(())
 }
@@ -333,7 +161,7 @@ fn texts_and_names_are_read(rt: HostRuntime) -> Result<(), Fail> {
 /// Refused texts and queries over `a Int64,b String`, and what the line says behind `refused: `.
 #[test]
 fn refusals_are_told(rt: HostRuntime) -> Result<(), Fail> {
-    let cases: [(&str, &str); 25] = [
+    let cases: [(&str, &str); 26] = [
         ("", "Syntax"),
         ("SELECT FROM t", "Syntax"),
         ("SELECT a b FROM t", "Syntax"),
@@ -344,12 +172,9 @@ fn refusals_are_told(rt: HostRuntime) -> Result<(), Fail> {
             "SELECT a FROM t LIMIT 18446744073709551616",
             "NumberTooLarge",
         ),
-        ("SELECT a FROM t LIMIT 1", "NotBuilt"),
         ("SELECT a FROM t GROUP BY a", "NotBuilt"),
         ("SELECT count() FROM t", "NotBuilt"),
-        ("SELECT a FROM t ORDER BY a", "NotBuilt"),
         ("SELECT a FROM t JOIN u ON t.a = u.a", "NotBuilt"),
-        ("SELECT number FROM numbers(3)", "NotBuilt"),
         ("SELECT a FROM x", "UnknownTable x"),
         ("SELECT c FROM x", "UnknownTable x"),
         ("SELECT c FROM t", "UnknownColumn c"),
@@ -362,6 +187,10 @@ fn refusals_are_told(rt: HostRuntime) -> Result<(), Fail> {
         ("SELECT 1 FROM t", "TypeMismatch"),
         ("SELECT 1 + 1 FROM t", "TypeMismatch"),
         ("SELECT a - 9223372036854775808 FROM t", "TypeMismatch"),
+        ("SELECT a FROM t ORDER BY t.a", "Syntax"),
+        ("SELECT a FROM t ORDER BY b", "BadOrderKey b"),
+        ("SELECT a + 1 FROM t ORDER BY a", "BadOrderKey a"),
+        ("SELECT a, b AS a FROM t ORDER BY b, a", "BadOrderKey b"),
     ];
     for (query, code) in cases.iter() {
         let outcome = answer(&rt, "a Int64,b String", query, b"1,x\n")?;
@@ -374,7 +203,7 @@ fn refusals_are_told(rt: HostRuntime) -> Result<(), Fail> {
 }
 
 /// A front, a piece so many times, and an end.
-fn repeated(
+pub(super) fn repeated(
     alloc: Global,
     front: &str,
     piece: &str,
@@ -389,8 +218,8 @@ fn repeated(
     Ok(query)
 }
 
-/// Queries at a limit and one beyond it: the front, the piece and how often it stands, the end, the status, and what is
-/// written or told.
+/// Queries at a limit and one beyond it: the front, the piece and how often it stands, the end, the
+/// status, and what is written or told.
 #[test]
 fn queries_keep_the_limits(rt: HostRuntime) -> Result<(), Fail> {
     let cases: [(&str, &str, u32, &str, u8, &str); 8] = [

@@ -1,6 +1,5 @@
 use Rattle.std.specs.Prelude.{◌≡◌, []}
-use Rattle.proc_api.specs.Boxes.{BoxPicture}
-use Rattle.proc_api.specs.Ports.{FollowsKept}
+use Rattle.proc_api.specs.Names.{BoxPicture, FollowsKept}
 use Rattle.exec_tests.proofs.flow_procs_tests.end_all.Given as goal
 
 abbrev pub invariant-loop-i : goal.invariant-loop-i

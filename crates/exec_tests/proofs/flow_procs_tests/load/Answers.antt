@@ -1,8 +1,6 @@
 use Rattle.std.proofs.Common.{ℕ, Result, Ok, Err, OnOk}
 use Rattle.port_word.specs.Calls.{new_picture}
-use Rattle.proc_api.specs.Boxes.{BoxPicture}
-use Rattle.proc_api.specs.Ports.{FollowsKept}
-use Rattle.proc_api.specs.Clauses.{Loads}
+use Rattle.proc_api.specs.Names.{BoxPicture, FollowsKept, Loads}
 use Rattle.proc_api.specs.declared.status.LoadRefusal.{LoadRefusal}
 use Rattle.query_model.specs.declared.processor_spec.Spec.{Spec}
 use Rattle.proc_api.proofs.Follows.{follows-new}
@@ -21,6 +19,9 @@ returns-clause-follows_input g c = first-view _ _ c.args.spec 1 0 c.load.result 
 
 pub returns-clause-follows_output : goal.returns-clause-follows_output
 returns-clause-follows_output g c = first-view _ _ c.args.spec 0 1 c.load.result c.load.ensures.ok
+
+pub returns-clause-follows_three : goal.returns-clause-follows_three
+returns-clause-follows_three g c = first-view _ _ c.args.spec 3 1 c.load.result c.load.ensures.ok
 
 pub returns-clause-follows_many : goal.returns-clause-follows_many
 returns-clause-follows_many g c = first-view _ _ c.args.spec 32 16 c.load.result c.load.ensures.ok

@@ -1,5 +1,4 @@
-use Rattle.proc_api.specs.Boxes.{BoxPicture}
-use Rattle.proc_api.specs.Ports.{FollowsKept}
+use Rattle.proc_api.specs.Names.{BoxPicture, FollowsKept}
 use Rattle.exec_tests.proofs.flow_procs_tests.take_actions.Given as goal
 
 abbrev pub invariant-loop-turn : goal.invariant-loop-turn

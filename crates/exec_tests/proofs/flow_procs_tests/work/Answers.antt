@@ -1,8 +1,6 @@
 use Rattle.std.proofs.Common.{Result, Ok, Err, OnOk}
 use Rattle.port_word.specs.Pictures.{Picture}
-use Rattle.proc_api.specs.Boxes.{BoxPicture}
-use Rattle.proc_api.specs.Ports.{FollowsKept}
-use Rattle.proc_api.specs.Clauses.{Works}
+use Rattle.proc_api.specs.Names.{BoxPicture, FollowsKept, Works}
 use Rattle.proc_api.specs.declared.status.WorkFault.{WorkFault}
 use Rattle.proc_api.proofs.Follows.{follows-same}
 use Rattle.exec_tests.proofs.flow_procs_tests.work.Goals as goal

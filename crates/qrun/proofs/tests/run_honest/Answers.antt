@@ -1,5 +1,5 @@
-use Rattle.qrun.specs.Stocking.{one_file}
+use Rattle.outside_io.specs.Told.{files_of}
 use Rattle.qrun.proofs.tests.run_honest.Goals as goal
 
 pub returns-clause-succeeds : goal.returns-clause-succeeds
-returns-clause-succeeds g c = c.run.ensures.succeeds (one_file c.args.bytes.now) c.requires.honest
+returns-clause-succeeds g c = c.run.ensures.succeeds (files_of c.args.files.now) c.requires.honest

@@ -1,0 +1,111 @@
+// Queries with ORDER BY, by every number of lanes and rows of a chunk.
+use super::cases::{check, fields};
+use super::devices::words_by_lanes;
+use super::plans::{SIZES, answer_sized};
+use super::{ample, one_file, run_once, told_by};
+use crate::racks::SOURCES;
+use query_model::processor_spec::Kind;
+use std::test::Fail;
+
+/// The columns, the query, the parts, and what is written, as SQLite gives it, or told.
+#[test]
+fn rows_come_in_their_order(rt: HostRuntime) -> Result<(), Fail> {
+    let cases: [&str; 20] = [
+        "a Int64~SELECT a FROM t ORDER BY a~3\n-1\n|2\n-9\n|10\n~-9\n-1\n2\n3\n10\n",
+        "a Int64~SELECT a FROM t ORDER BY a~9223372036854775807\n-9223372036854775808\n~\
+         -9223372036854775808\n9223372036854775807\n",
+        "a UInt64~SELECT a FROM t ORDER BY a DESC~\
+         0\n9223372036854775807\n|18446744073709551615\n~\
+         18446744073709551615\n9223372036854775807\n0\n",
+        "a Int64~SELECT a FROM t ORDER BY a~|~",
+        "a Int64~SELECT a FROM t ORDER BY a~2\n1\n2\n|1\n2\n|1\n~1\n1\n1\n2\n2\n2\n",
+        "a Int64,b String~SELECT b FROM t ORDER BY b~\
+         1,b\n2,\n3,abcdefghi\n|4,abcdefgh\n5,B\n6,abcdefghz\n~\
+         \"\"\n\"B\"\n\"abcdefgh\"\n\"abcdefghi\"\n\"abcdefghz\"\n\"b\"\n",
+        "a Int64,b String~SELECT a, b FROM t ORDER BY a, b~2,x\n1,y\n1,x\n~\
+         1,\"x\"\n1,\"y\"\n2,\"x\"\n",
+        "a Int64,b String~SELECT a, b FROM t ORDER BY a DESC, b~1,x\n1,y\n0,z\n~\
+         1,\"x\"\n1,\"y\"\n0,\"z\"\n",
+        "a Int64,b String~SELECT a, b FROM t ORDER BY a, b DESC~2,x\n1,y\n|1,z\n1,x\n|2,y\n~\
+         1,\"z\"\n1,\"y\"\n1,\"x\"\n2,\"y\"\n2,\"x\"\n",
+        "a Int64,b String~SELECT * FROM t ORDER BY b, a~2,y\n1,y\n|3,x\n~\
+         3,\"x\"\n1,\"y\"\n2,\"y\"\n",
+        "a Int64~SELECT a FROM t ORDER BY a LIMIT 3 OFFSET 2~6\n5\n|4\n3\n|2\n1\n~3\n4\n5\n",
+        "a Int64~SELECT a FROM t ORDER BY a LIMIT 9 OFFSET 4~6\n5\n|4\n3\n|2\n1\n~5\n6\n",
+        "a Int64~SELECT a FROM t ORDER BY a LIMIT 0~6\n5\n~",
+        "a Int64,b String~SELECT b FROM t WHERE a > 2 ORDER BY b DESC LIMIT 2~\
+         1,z\n3,x\n|4,w\n5,y\n~\"y\"\n\"x\"\n",
+        // keys by their names behind AS, or by the places of their items
+        "a Int64,b String~SELECT b, 0 - a AS n FROM t WHERE a < 4 ORDER BY n~\
+         3,x\n1,w\n|4,v\n2,y\n~\"x\",-3\n\"y\",-2\n\"w\",-1\n",
+        "a Int64~SELECT a * a, a FROM t ORDER BY item_1, a~-2\n1\n|2\n-3\n~1,1\n4,-2\n4,2\n9,-3\n",
+        "a Int64~SELECT number FROM numbers(4) ORDER BY number DESC LIMIT 2~~3\n2\n",
+        // a bad part is told whatever the limit
+        "a Int64~SELECT a FROM t ORDER BY a~9223372036854775808\n~\
+         qrun: bad data: table t part 1 row 1 column 1\n",
+        "a Int64~SELECT a FROM t ORDER BY a LIMIT 1~1\nz\n~\
+         qrun: bad data: table t part 1 row 2 column 1\n",
+        "a Int64~SELECT a FROM t ORDER BY a LIMIT 0~1\n|2\n3,4\n~\
+         qrun: bad data: table t part 2 row 2 fields 2\n",
+    ];
+    for case in cases.iter() {
+        let (columns, query, parts, told) = fields(case);
+        for size in SIZES.iter() {
+            check(
+                &rt,
+                case,
+                &answer_sized(&rt, columns, query, parts, *size)?,
+                told,
+            )?;
+        }
+    }
+    Ok(())
+}
+
+/// Rows that the keys don't tell apart come in either order.
+#[test]
+fn ties_come_in_either_order(rt: HostRuntime) -> Result<(), Fail> {
+    let query = "SELECT a, b FROM t ORDER BY a";
+    for size in SIZES.iter() {
+        let outcome = answer_sized(&rt, "a Int64,b String", query, "1,x\n|1,y\n0,z\n", *size)?;
+        let told = told_by(&outcome);
+        let one = told == b"0,\"z\"\n1,\"x\"\n1,\"y\"\n".as_slice();
+        let other = told == b"0,\"z\"\n1,\"y\"\n1,\"x\"\n".as_slice();
+        assert!(rt; one || other);
+    }
+    Ok(())
+}
+
+/// How many sorts and merges a rack has, and what is told where those are too few for four lanes.
+#[test]
+fn a_sort_a_lane_and_a_merge_are_needed(rt: HostRuntime) -> Result<(), Fail> {
+    let cases: [(u32, u32, &str); 2] = [
+        (
+            0,
+            1,
+            "qrun: limit: boxes of kind Sort needed 4, rack has 0\n",
+        ),
+        (
+            17,
+            0,
+            "qrun: limit: boxes of kind MergeSorted needed 1, rack has 0\n",
+        ),
+    ];
+    let files = one_file(rt.alloc(), b"7\n")?;
+    let words = words_by_lanes(rt.alloc(), "SELECT a FROM t ORDER BY a", "4")?;
+    for (sorts, merges, told) in cases.iter() {
+        let others = [
+            (Kind::Expression, 17),
+            (Kind::Resize, 4),
+            (Kind::Sort, *sorts),
+            (Kind::MergeSorted, *merges),
+            (Kind::Collect, 1),
+        ];
+        let mut setting = ample(&files);
+        setting.stock = Some((SOURCES, &others));
+        let outcome = run_once(&rt, words.as_slice(), &setting)?;
+        assert_eq!(rt; outcome.status, 6);
+        assert_eq!(rt; told_by(&outcome), told.as_bytes());
+    }
+    Ok(())
+}
