@@ -1,6 +1,6 @@
-//! The core of port-driven execution as plain data: ports, node words and views, the 19 kinds of step
-//! that change them, and the laws that every step keeps. There is no code here: the crate `exec_core`
-//! replays lists of events over it, and a running table takes its laws from it.
+//! The core of port-driven execution as plain data: ports, node words and views, the 19 kinds of
+//! step that change them, and the laws that every step keeps. There is no code here: the crate
+//! `exec_core` replays lists of events over it, and a running table takes its laws from it.
 //!
 //! - `specs/Views.antt`: what a state has at a node, at an edge and in a node's view.
 //! - `specs/Steps.antt`: for each kind of step its condition (`may`), the state after it (`after`)

@@ -1,8 +1,8 @@
 use chunk_data::List;
 use port_word::{Flags, Reserve, Wire};
 
-/// How many nodes and workers an execution has, its wires, and what is kept for growth. Wire k is edge k,
-/// and the reserved edges follow the wires.
+/// How many nodes and workers an execution has, its wires, and what is kept for growth. Wire k is
+/// edge k, and the reserved edges follow the wires.
 #[derive(Debug, Drop)]
 pub struct Sizes {
     pub nodes: u32,
@@ -18,8 +18,8 @@ pub struct Sight {
     pub flags: Flags,
 }
 
-/// An edge: its flags, the chunk in its slot, the chunks pushed and pulled so far, and its wire. Chunks are
-/// named by numbers.
+/// An edge: its flags, the chunk in its slot, the chunks pushed and pulled so far, and its wire.
+/// Chunks are named by numbers.
 #[derive(Debug, Drop)]
 pub struct PortState {
     pub flags: Flags,
@@ -29,7 +29,8 @@ pub struct PortState {
     pub wire: Option<Wire>,
 }
 
-/// A node: its word, and what its seat's view holds. `seen`, `unlooked` and `owes` name each edge at most once.
+/// A node: its word, and what its seat's view holds. `seen`, `unlooked` and `owes` name each edge
+/// at most once.
 #[derive(Debug, Drop)]
 pub struct NodeState {
     pub word: u64,
@@ -50,7 +51,8 @@ pub struct CoreState {
     pub stopped: bool,
 }
 
-/// What a held end of an edge does to its port: six of the kinds of step, with the chunk that is pushed.
+/// What a held end of an edge does to its port: six of the kinds of step, with the chunk that is
+/// pushed.
 #[derive(Clone, Copy, Debug, PartialEq, Eq)]
 pub enum Act {
     Want,

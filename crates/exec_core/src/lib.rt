@@ -1,5 +1,6 @@
 //! Lists of events replayed over the core of port-driven execution: `replay` takes a state through
-//! them and says which event is the first that is no step, and `start` makes the state at the start.
+//! them and says which event is the first that is no step, and `start` makes the state at the
+//! start.
 //!
 //! Types, the definition of the steps and their laws stand in the crate `core_laws`, so that a
 //! running table, which is tied to them, isn't checked again with this code. A step is tested here

@@ -1,6 +1,6 @@
-//! The steps on node words, on wire words and on the pending word. A clause has the name of the law
-//! that a wrong step would lose first.
-ghost use Rattle.std.specs.Prelude.{◌≡◌, ◌<◌, ◌≤◌, true, length, IfOk};
+//! The steps on node words, on wire words and on the pending word. The clause `exact` gives the
+//! whole state; the one beside it is what the law of its name asks of the step.
+ghost use Rattle.std.specs.Prelude.{◌≡◌, ◌≢◌, ◌+◌, ◌*◌, ◌^◌, ◌<◌, ◌≤◌, true, length, bit_or, bit_xor, IfOk};
 ghost use Rattle.core_laws.specs.Views.{node_at, put_node};
 ghost use Rattle.core_laws.specs.Laws.{Laws};
 ghost use Rattle.core_laws.specs.Steps.{is_updated as is_updated_there, taken, left as left_there, spent as spent_there, told as told_there, counted as counted_there, learned, wiring as wiring_there, may, after};
@@ -24,7 +24,8 @@ pub(crate) fn spent(word: u64) -> u32
 fn tell(alloc: Global, core: CoreState, m: u32, bit: u64) -> CoreState
     requires node { m < length core.nodes }
     requires bit { bit < 48 }
-    ensures told { result ≡ put_node core m (told_there bit (node_at core m)) }
+    ensures told { (node_at result m).word ≡ bit_or (node_at core m).word (2 ^ bit) }
+    ensures exact { result ≡ put_node core m (told_there bit (node_at core m)) }
 {
     let (core, mut node) = swap_node(core, m, blank_node(alloc));
     node.word |= 1 << bit;
@@ -35,7 +36,7 @@ fn tell(alloc: Global, core: CoreState, m: u32, bit: u64) -> CoreState
 pub(crate) fn mark(alloc: Global, core: CoreState, n: u32, e: u32) -> CoreState
     requires may { may core n (step.Mark e) ≡ true }
     requires laws { Laws core }
-    ensures told { result ≡ after core n (step.Mark e) }
+    ensures { result ≡ after core n (step.Mark e) }
 {
     let wire = port(&core, e).wire;
     let peer = peer_in(n, wire);
@@ -49,7 +50,7 @@ pub(crate) fn mark(alloc: Global, core: CoreState, n: u32, e: u32) -> CoreState
 
 fn is_updated(core: &CoreState, n: u32, e: u32) -> bool
     requires { n < length core.now.nodes }
-    ensures told { result ≡ is_updated_there core.now n e }
+    ensures { result ≡ is_updated_there core.now n e }
 {
     let nd = node(core, n);
     has(&nd.unlooked, e)
@@ -59,7 +60,7 @@ fn is_updated(core: &CoreState, n: u32, e: u32) -> bool
 /// The edges that the node has learned and is to look at.
 fn updated(alloc: Global, core: &CoreState, n: u32) -> Result<List<u32>, Memory>
     requires { n < length core.now.nodes }
-    ensures told { IfOk result (λ l. l ≡ (taken core.now n 0).unlooked) }
+    ensures { IfOk result (λ l. l ≡ (taken core.now n 0).unlooked) }
 {
     let seen = node(core, n).seen.as_slice();
     let mut edges = Vec::new(alloc);
@@ -75,7 +76,7 @@ fn updated(alloc: Global, core: &CoreState, n: u32) -> Result<List<u32>, Memory>
 pub(crate) fn take(alloc: Global, core: CoreState, n: u32, spends: u32) -> Result<CoreState, Memory>
     requires node { n < length core.nodes }
     requires tokens { spends ≤ (node_at core n).tokens }
-    ensures told { IfOk result (λ c. c ≡ put_node core n (taken core n spends)) }
+    ensures { IfOk result (λ c. c ≡ put_node core n (taken core n spends)) }
 {
     let unlooked = updated(alloc, &core, n)?;
     let (core, mut node) = swap_node(core, n, blank_node(alloc));
@@ -89,7 +90,8 @@ pub(crate) fn take(alloc: Global, core: CoreState, n: u32, spends: u32) -> Resul
 /// The node leaves its word as this one, with one token more: `rest` and `over`.
 pub(crate) fn leave(alloc: Global, core: CoreState, n: u32, word: u64) -> CoreState
     requires { may core n step.Over ≡ true }
-    ensures pending { result ≡ put_node core n (left_there word (node_at core n)) }
+    ensures pending { (node_at result n).tokens ≡ (node_at core n).tokens + 1 }
+    ensures exact { result ≡ put_node core n (left_there word (node_at core n)) }
 {
     let (core, mut node) = swap_node(core, n, blank_node(alloc));
     node.word = word;
@@ -101,7 +103,8 @@ pub(crate) fn leave(alloc: Global, core: CoreState, n: u32, word: u64) -> CoreSt
 /// The step `rest`: a node that was told meanwhile stays held.
 pub(crate) fn rest(alloc: Global, core: CoreState, n: u32) -> CoreState
     requires { may core n step.Rest ≡ true }
-    ensures told { result ≡ after core n step.Rest }
+    ensures told { (node_at core n).word ≢ 2 ^ 62 → (node_at result n).word ≡ (node_at core n).word }
+    ensures exact { result ≡ after core n step.Rest }
 {
     if node(&core, n).word == 1 << 62 {
         leave(alloc, core, n, 0)
@@ -113,7 +116,8 @@ pub(crate) fn rest(alloc: Global, core: CoreState, n: u32) -> CoreState
 /// The step `birth`.
 pub(crate) fn birth(alloc: Global, core: CoreState, n: u32) -> CoreState
     requires { may core n step.Birth ≡ true }
-    ensures pending { result ≡ after core n step.Birth }
+    ensures pending { (node_at result n).word ≡ bit_xor (node_at core n).word (3 * 2 ^ 60) }
+    ensures exact { result ≡ after core n step.Birth }
 {
     let (core, mut node) = swap_node(core, n, blank_node(alloc));
     node.word ^= 3 << 60;
@@ -124,7 +128,7 @@ pub(crate) fn birth(alloc: Global, core: CoreState, n: u32) -> CoreState
 /// The node's tokens and the pending number become these: `token_in` and `token_out`.
 pub(crate) fn count(alloc: Global, core: CoreState, n: u32, tokens: u32, pending: u64) -> CoreState
     requires { n < length core.nodes }
-    ensures pending { result ≡ counted_there core n tokens pending }
+    ensures { result ≡ counted_there core n tokens pending }
 {
     let (core, mut node) = swap_node(core, n, blank_node(alloc));
     node.tokens = tokens;
@@ -135,7 +139,7 @@ pub(crate) fn count(alloc: Global, core: CoreState, n: u32, tokens: u32, pending
 /// The node learns the port, if it doesn't know it.
 pub(crate) fn learn(alloc: Global, core: CoreState, n: u32, e: u32) -> Result<CoreState, Memory>
     requires { n < length core.nodes }
-    ensures learned { IfOk result (λ c. c ≡ learned core n e) }
+    ensures { IfOk result (λ c. c ≡ learned core n e) }
 {
     if knows(&node(&core, n).seen, e) {
         return Ok(core);
@@ -150,7 +154,7 @@ pub(crate) fn learn(alloc: Global, core: CoreState, n: u32, e: u32) -> Result<Co
 /// The edge gets its wire.
 pub(crate) fn wiring(alloc: Global, core: CoreState, e: u32, w: Wire) -> CoreState
     requires { e < length core.ports }
-    ensures wired { result ≡ wiring_there core e w }
+    ensures { result ≡ wiring_there core e w }
 {
     let (core, mut port) = swap_port(core, e, fresh_port(alloc, None));
     port.wire = Some(w);

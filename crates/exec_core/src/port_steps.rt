@@ -1,7 +1,9 @@
-//! The steps on port words: `look`, and the six acts of a held end of an edge. A clause has the name
-//! of the law that a wrong step would lose first.
-ghost use Rattle.std.specs.Prelude.{◌≡◌, true, IfOk};
+//! The steps on port words: `look`, and the six acts of a held end of an edge. The clause `exact`
+//! is the whole of what is made; the one beside it is what the law of its name asks of it.
+ghost use Rattle.std.specs.Prelude.{◌≡◌, true, false, IfOk};
+ghost use Rattle.core_laws.specs.Views.{node_at, port_at, seeing};
 ghost use Rattle.core_laws.specs.Steps.{acting_end as acting_end_there, allows as allows_there, changed as changed_there, tells as tells_there, port_after as port_after_there, holds, acted, after};
+ghost use Rattle.core_laws.specs.declared.types.Act.TheVariants.{Pull};
 ghost use Rattle.core_laws.specs.declared.types.Step.TheVariants as step;
 
 use crate::lookups::{flags_at, port};
@@ -15,7 +17,8 @@ use std::alloc::Global;
 /// The step `look`.
 pub(crate) fn look(alloc: Global, core: CoreState, n: u32, e: u32) -> CoreState
     requires { holds core n e ≡ true }
-    ensures told { result ≡ after core n (step.Look e) }
+    ensures sees { (node_at result n).seen ≡ seeing e (port_at core e).flags (node_at core n).seen }
+    ensures exact { result ≡ after core n (step.Look e) }
 {
     let flags = port(&core, e).flags;
     let (core, mut node) = swap_node(core, n, blank_node(alloc));
@@ -36,7 +39,7 @@ pub(crate) fn acting_end(act: Act) -> bool
 
 /// Whether an end that sees these flags may make the act.
 pub(crate) fn allows(act: Act, seen: Flags) -> bool
-    ensures sees { result ≡ allows_there act seen }
+    ensures { result ≡ allows_there act seen }
 {
     match act {
         Act::Unwant => true,
@@ -48,7 +51,8 @@ pub(crate) fn allows(act: Act, seen: Flags) -> bool
 }
 
 fn changed(act: Act, flags: Flags) -> Flags
-    ensures content { result ≡ changed_there act flags }
+    ensures content { act ≡ Pull → result.has_data ≡ false }
+    ensures exact { result ≡ changed_there act flags }
 {
     let mut flags = flags;
     match act {
@@ -64,7 +68,7 @@ fn changed(act: Act, flags: Flags) -> Flags
 
 /// Whether the peer is to be told, by the flags that the word had.
 fn tells(act: Act, flags: Flags) -> bool
-    ensures told { result ≡ tells_there act flags }
+    ensures { result ≡ tells_there act flags }
 {
     match act {
         Act::Want => !flags.needed,
@@ -74,7 +78,7 @@ fn tells(act: Act, flags: Flags) -> bool
 }
 
 fn port_after(act: Act, port: PortState) -> Result<PortState, Memory>
-    ensures content { IfOk result (λ p. p ≡ port_after_there act port) }
+    ensures { IfOk result (λ p. p ≡ port_after_there act port) }
 {
     let mut port = port;
     port.flags = changed(act, port.flags);
@@ -103,7 +107,7 @@ pub(crate) fn act_on(
     e: u32,
 ) -> Result<CoreState, Memory>
     requires { holds core n e ≡ true }
-    ensures sees { IfOk result (λ c. c ≡ acted act core n e) }
+    ensures { IfOk result (λ c. c ≡ acted act core n e) }
 {
     let tells = tells(act, port(&core, e).flags);
     let (core, old) = swap_port(core, e, fresh_port(alloc, None));

@@ -54,8 +54,8 @@ fn two_nodes(rt: &HostRuntime) -> Result<CoreState, Fail>
     started(rt, &sizes)
 }
 
-/// A chunk's way over the edge: the consumer wants it, the producer pushes, rests and gives its tokens back,
-/// and the consumer, which was told meanwhile, pulls.
+/// A chunk's way over the edge: the consumer wants it, the producer pushes, rests and gives its
+/// tokens back, and the consumer, which was told meanwhile, pulls.
 const CHUNK_PASSES: [(u32, Step); 18] = [
     (1, Step::TokenIn),
     (1, Step::Begin),
@@ -228,7 +228,8 @@ fn some_event(number: u64) -> Event {
     Event { seat, step }
 }
 
-/// Events that are steps one after another, picked by a generator of numbers, and the state after them.
+/// Events that are steps one after another, picked by a generator of numbers, and the state after
+/// them.
 fn walk(rt: &HostRuntime, count: usize) -> Result<(Vec<Event>, CoreState), Fail> {
     let mut core = growing_nodes(rt)?;
     let mut events = Vec::new(rt.alloc());
