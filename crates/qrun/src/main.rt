@@ -53,8 +53,8 @@ fn words_of(rt: &HostRuntime) -> Result<Vec<String>, Memory> {
     }
 }
 
-// Runs the words by the boxes of the standard rack, over files of the system. The boxes are made here,
-// where they lie: a function that hands out a box that it made could say anything of it.
+// Runs the words by the boxes of the standard rack, over files of the system. The boxes are made
+// here, where they lie: a function that hands out a box that it made could say anything of it.
 fn run_words(rt: &HostRuntime, words: &[String]) -> Result<u8, Memory> {
     let alloc = rt.alloc();
     let mut rack = Rack::new(alloc);

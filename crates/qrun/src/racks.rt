@@ -39,8 +39,10 @@ fn unload_boxes(boxes: &mut Vec<Box<dyn Processor + Send>>)
 
 fn unload_at(boxes: &mut Vec<Box<dyn Processor + Send>>, i: usize)
     requires { i < length boxes.old.items }
-    ensures only { OnlyBox i (map (λ b. seen b) boxes.old.items) (map (λ b. seen b) boxes.new.items) }
-    ensures unloaded { Unloads (box_at (map (λ b. seen b) boxes.old.items) i) (box_at (map (λ b. seen b) boxes.new.items) i) }
+    ensures only { OnlyBox i (map (λ b. seen b) boxes.old.items)
+        (map (λ b. seen b) boxes.new.items) }
+    ensures unloaded { Unloads (box_at (map (λ b. seen b) boxes.old.items) i)
+        (box_at (map (λ b. seen b) boxes.new.items) i) }
 {
     unload_box(&mut boxes[i]);
 }

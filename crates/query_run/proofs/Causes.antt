@@ -1,28 +1,9 @@
 -- Why a plan gave no text, as what is said of the command, its part and the box that served it.
 use Rattle.std.proofs.Common.{◌≡◌, ◌≢◌, ℕ, zero, suc, ◌<◌, ◌≤◌, true, List, [], ◌∷◌, length, map, Some, refl, sym, ap, subst, ◌∙◌, arith, inl, inr}
-use Rattle.std.specs.Prelude.{IfSome, slice_get}
-use Rattle.std.specs.List.{All}
-use Rattle.std.proofs.lemmas.List.{length-map}
-use Rattle.outside_io.specs.Counts.{Rose}
-use Rattle.query_model.specs.Names.{Files, part_bad_place, kind_of}
-use Rattle.query_model.specs.declared.places.BadPlace.{BadPlace}
-use Rattle.query_model.specs.declared.checked.Checked.{Checked}
-use Rattle.query_model.specs.declared.processor_spec.PartSpec.{PartSpec}
-use Rattle.query_model.specs.declared.processor_spec.Spec.{Spec}
+use Rattle.query_run.proofs.Prelude.{IfSome, slice_get, All, length-map, Rose, Files, part_bad_place, kind_of, BadPlace, Checked, PartSpec, Spec, IsWithinLimits, Command, BoxPicture, IsSourceKind, HasNoReader, OfPart, IsLongFile, raised, WorkFault, box_at, DraftNode, plan_nodes, forms, kinds-same, HasStock, kinds_of, spec_at, taken_at, FailsWith, LeavesRack, PlanFaultHolds, RanWith, RunsPlan, PlanFault}
 use Rattle.query_model.specs.declared.processor_spec.Kind.TheVariants as kind
 use Rattle.query_model.specs.declared.processor_spec.Spec.TheVariants as spec
-use Rattle.command_line.specs.Words.{IsWithinLimits}
-use Rattle.command_line.specs.declared.words.Command.{Command}
-use Rattle.proc_api.specs.Names.{BoxPicture, IsSourceKind, HasNoReader, OfPart, IsLongFile, raised}
-use Rattle.proc_api.specs.declared.status.WorkFault.{WorkFault}
 use Rattle.proc_api.specs.declared.status.WorkFault.TheVariants as fault
-use Rattle.exec_laws.specs.Runs.{box_at}
-use Rattle.plan_graph.specs.declared.nodes.DraftNode.{DraftNode}
-use Rattle.plan_meaning.specs.Names.{plan_nodes, forms}
-use Rattle.plan_ends.proofs.NodeKinds.{kinds-same}
-use Rattle.plan_run.specs.Stock.{HasStock}
-use Rattle.plan_run.specs.Plans.{kinds_of, spec_at, taken_at, FailsWith, LeavesRack, PlanFaultHolds, RanWith, RunsPlan}
-use Rattle.plan_run.specs.declared.run.PlanFault.{PlanFault}
 use Rattle.plan_run.specs.declared.run.PlanFault.TheVariants as end
 use Rattle.query_run.specs.Names.{PartName, PartFailure, PlanFailure, IsRunnable, OverFiles, RanPlan, plan_of, specs_in, IsCheckedCommand, FailsAtPart, LeavesPlan, PartFailsFor, PlanFailsFor, ServesPart, IsPlanFault, Tells, failure_of, name_at, name_of, part_of_node, part_place}
 use Rattle.query_run.specs.declared.ending.PartFailure.TheVariants as part
@@ -53,17 +34,12 @@ pub plan-fault : (specs : List Spec) (before after : List BoxPicture) (f : PlanF
     → All (λ (s : Spec). kind_of s ≢ kind.List) specs → HasStock (kinds_of specs) before
     → PlanFaultHolds f (RunsPlan specs before after) → IsPlanFault f
 plan-fault specs before after (end.Fault node fault.Memory) lists stock h = h.fault.not_memory refl
-plan-fault specs before after (end.Fault node fault.Read) lists stock h = tt
-plan-fault specs before after (end.Fault node fault.Stalled) lists stock h = tt
-plan-fault specs before after (end.Fault node fault.TooLong) lists stock h = tt
-plan-fault specs before after (end.Fault node (fault.Bad place)) lists stock h = tt
 plan-fault specs before after (end.Fault node (fault.BadList line)) lists stock h =
     let lt : node < length h.ended = h.fault.in_range in
     let listed : kind_of (spec_at specs node) ≡ kind.List =
     sym (ended-kind specs before after h.ended stock h.runs node lt) ∙ h.fault.keeps.holds in
     no-list-at specs node lists (subst (λ k. node < k) h.runs.count lt) listed
-plan-fault specs before after (end.Stuck k) lists stock h = tt
-plan-fault specs before after end.Memory lists stock h = tt
+plan-fault specs before after f lists stock h = tt
 
 -- ---- what a lawful box's fault says of its part
 
@@ -98,7 +74,8 @@ module _ (c : Command) (within : IsWithinLimits c) (q : Checked) (h : IsCheckedC
       (plan_stock c q h before runnable.boxes)
 
   -- the plan ran
-  abbrev pub ran : (ended : List BoxPicture) → RunsPlan specs before after ended → RanPlan c q before after
+  abbrev pub ran : (ended : List BoxPicture) → RunsPlan specs before after ended
+      → RanPlan c q before after
   ran ended run = record { nodes = nodes; same = same; ended = ended; runs = run }
 
   module _ (ended : List BoxPicture) (run : RunsPlan specs before after ended) (node : ℕ)
@@ -244,18 +221,17 @@ module _ (c : Command) (within : IsWithinLimits c) (q : Checked) (h : IsCheckedC
 
   leaves : LeavesRack (kinds_of specs) before after → LeavesPlan c q before after
   leaves left =
-      subst (λ ks. LeavesRack ks before after) (kinds-same nodes (plan_nodes (plan_of c q)) same) left
+      subst (λ ks. LeavesRack ks before after)
+      (kinds-same nodes (plan_nodes (plan_of c q)) same) left
 
   -- every failure of the plan has its cause
   plan-cause : (f : PlanFault) → LeavesRack (kinds_of specs) before after
       → PlanFaultHolds f (RunsPlan specs before after)
       → PlanFailsFor (failure_of f names) c q before after
-  plan-cause (end.Fault node fault.Memory) left f = leaves left
   plan-cause (end.Fault node fault.Read) left f = read-cause node f
   plan-cause (end.Fault node fault.Stalled) left f = stalled-cause node f
   plan-cause (end.Fault node fault.TooLong) left f = long-cause node f
   plan-cause (end.Fault node (fault.Bad place)) left f = bad-cause node place f
-  plan-cause (end.Fault node (fault.BadList line)) left f = leaves left
   plan-cause (end.Stuck k) left f = record {
     runnable = runnable;
     ran = ran f.ended f.runs;
@@ -264,7 +240,7 @@ module _ (c : Command) (within : IsWithinLimits c) (q : Checked) (h : IsCheckedC
     stuck = f.stuck;
     of_kind = f.of_kind;
   }
-  plan-cause end.Memory left f = leaves left
+  plan-cause f left h = leaves left
 
   -- a failure that was told has its cause
   pub told-cause : (f : PlanFault) (told : PlanFailure) → Tells told (failure_of f names)

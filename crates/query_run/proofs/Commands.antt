@@ -1,30 +1,7 @@
 -- The query that was read of a command and checked, and the plan that it has.
-use Rattle.std.proofs.Common.{◌≡◌, ◌≤◌, Bool, false, List, [], ◌∷◌, map, flat_map, Option, Some, None, is_some, option_map, refl, sym, ap, ap₂, subst, ◌∙◌, arith}
-use Rattle.std.specs.List.{All}
-use Rattle.std.proofs.lemmas.Bool.{cond_both}
-use Rattle.std.proofs.lemmas.List.{append-nil}
-use Rattle.std.proofs.lemmas.List.Elements.{All-head}
-use Rattle.query_model.specs.Names.{IsTypedQuery, from_types, BothOrNone, IsChecked, IsCheckedJoin, IsShape, use_of, join_use, used_tables, need, FromColumn, from_columns, join_tables, refusal_of, table_columns, output_names, sort_key}
-use Rattle.query_model.specs.declared.query.Join.{Join}
-use Rattle.query_model.specs.declared.query.OrderKey.{OrderKey}
-use Rattle.query_model.specs.declared.query.Query.{Query}
-use Rattle.query_model.specs.declared.query.Schema.{Schema}
-use Rattle.query_model.specs.declared.query.TableDecl.{TableDecl}
-use Rattle.query_model.specs.declared.checked.Checked.{Checked}
-use Rattle.query_model.specs.declared.checked.CheckedJoin.{CheckedJoin}
-use Rattle.query_model.specs.declared.checked.Shape.{Shape}
-use Rattle.query_model.specs.declared.checked.Shape.TheVariants.{Plain, Grouped}
-use Rattle.query_model.specs.declared.processor_spec.Kind.{Kind}
+use Rattle.std.proofs.Common.{◌≡◌, ◌≤◌, Bool, false, List, [], ◌∷◌, map, flat_map, Option, Some, None, is_some, option_map, refl, sym, ap, ap₂, subst, ◌∙◌, arith, append-nil}
+use Rattle.query_run.proofs.Prelude.{All, cond_both, All-head, IsTypedQuery, from_types, BothOrNone, IsChecked, IsCheckedJoin, IsShape, use_of, join_use, used_tables, need, FromColumn, from_columns, join_tables, refusal_of, table_columns, output_names, sort_key, Join, OrderKey, Query, Schema, TableDecl, Checked, CheckedJoin, Shape, Plain, Grouped, Kind, QueryTree, condition, IsReadFrom, plain_of_read, one_tree, IsWithinLimits, Command, IsPlain, IsPlannable, UsesNoList, used_types, IsTypedSelect, typed-select, types_of_table, are_some, from_few, need_simple, simple_need, source_bounds}
 use Rattle.query_model.specs.declared.processor_spec.Kind.TheVariants as kind
-use Rattle.sql_grammar.specs.Trees.{QueryTree, condition}
-use Rattle.sql_text.specs.Refusals.{IsReadFrom}
-use Rattle.sql_text.proofs.BuiltQueries.{plain_of_read}
-use Rattle.sql_text.proofs.Readings.{one_tree}
-use Rattle.command_line.specs.Words.{IsWithinLimits}
-use Rattle.command_line.specs.declared.words.Command.{Command}
-use Rattle.select_planner.specs.Steps.{IsPlain, IsPlannable, UsesNoList, used_types}
-use Rattle.plan_ends.proofs.Columns.{IsTypedSelect, typed-select, types_of_table}
-use Rattle.plan_ends.proofs.Needs.{are_some, from_few, need_simple, simple_need, source_bounds}
 use Rattle.query_run.specs.Names.{NamesFewPaths, stock_of, IsAccepted, IsCheckedCommand, UsesLists, schemas_of, tables_used}
 
 -- ---- what was read and checked
@@ -45,7 +22,8 @@ used_are command q checked is = ap₂ (λ u us. u ∷ us) is.from (joined q.join
 -- A query that was read from the command's text and analysed against its schemas is the command's,
 -- where it uses no list of files, and else it isn't built.
 module _ (command : Command) (q : Query) (read : IsReadFrom q command.query) (schemas : List Schema)
-    (are : schemas ≡ schemas_of command) (checked : Checked) (accepted : refusal_of q schemas ≡ None)
+    (are : schemas ≡ schemas_of command) (checked : Checked)
+    (accepted : refusal_of q schemas ≡ None)
     (is : IsChecked q schemas checked) (typed : IsTypedQuery (from_types q schemas) checked)
     (tables : List TableDecl) (same : tables ≡ command.tables) where
   abbrev of_command : refusal_of q (schemas_of command) ≡ None
@@ -108,7 +86,8 @@ plannable command checked h =
       no_list = subst (UsesNoList command.tables) (sym h.is.from)
           (All-head (UsesNoList command.tables) _ _ h.planned);
       plain = go h.query columns checked.shape
-          (subst (λ (b : Bool). IsShape h.query columns b checked.shape) plain.ungrouped h.is.shape);
+          (subst (λ (b : Bool). IsShape h.query columns b checked.shape) plain.ungrouped
+          h.is.shape);
     }
   where
     go : (q : Query) (columns : List FromColumn) (s : Shape) → IsShape q columns false s → IsPlain s
@@ -149,7 +128,8 @@ keys_are : (command : Command) (q : Query) (checked : Checked)
 keys_are command q checked is = ap (λ l. are_some l) is.order ∙ go q.order
   where
     go : (keys : List OrderKey)
-        → are_some (map (sort_key (output_names q.items (from_columns q (schemas_of command)))) keys)
+        → are_some (map (sort_key (output_names q.items (from_columns q (schemas_of command))))
+        keys)
         ≡ are_some keys
     go [] = refl
     go (key ∷ keys) = refl
@@ -205,7 +185,8 @@ stock_serves command q within h few k =
         (from_few command.tables q few)).0 in omega (arith, most)
     go kind.List = let none = (source_bounds command.tables q.from (plannable command q h).no_list
         (from_few command.tables q few)).1 in omega (arith, none)
-    go kind.Numbers = let most = (source_bounds command.tables q.from (plannable command q h).no_list
+    go kind.Numbers = let most =
+        (source_bounds command.tables q.from (plannable command q h).no_list
         (from_few command.tables q few)).2 in omega (arith, most)
     go kind.Filter =
         let most = within.few_threads in

@@ -1,37 +1,8 @@
 -- From the chunks that a plan's graph gives to the text of one answer of a command.
-use Rattle.std.proofs.Common.{◌≡◌, ◌⊎◌, ℕ, ◌+◌, ◌-◌, ◌<◌, Bool, true, false, if◌then◌else◌, List, [], ◌∷◌, ◌++◌, map, length, refl, ap, sym, subst, ◌∙◌, arith, Option, Some, None, inl, inr, length-append}
-use Rattle.std.specs.Prelude.{IfSome, flat_map}
-use Rattle.std.specs.List.{All}
-use Rattle.std.proofs.lemmas.List.{get_or-map, length-map}
-use Rattle.std.proofs.lemmas.List.Elements.{All-append, All-nil}
-use Rattle.chunk_data.specs.Values.{Row}
-use Rattle.chunk_data.specs.declared.typed_value.ColumnType.{ColumnType}
-use Rattle.chunk_data.specs.declared.typed_value.SortKey.{SortKey}
-use Rattle.query_model.specs.Names.{AllPartsValid, Files, database, join_use, parts_used, IsValidUsed, flow, kind_of, answer_text, rows_text}
-use Rattle.query_model.specs.declared.checked.Checked.{Checked}
-use Rattle.query_model.specs.declared.processor_spec.Spec.{Spec}
-use Rattle.query_model.specs.declared.checked.Shape.{Shape}
-use Rattle.query_model.specs.declared.checked.Shape.TheVariants.{Plain, Grouped}
-use Rattle.csv_rows.specs.Lines.{heading}
-use Rattle.query_model.specs.declared.processor_spec.Kind.{Kind}
+use Rattle.std.proofs.Common.{◌≡◌, ◌⊎◌, ℕ, ◌+◌, ◌-◌, ◌<◌, Bool, true, false, if◌then◌else◌, List, [], ◌∷◌, ◌++◌, map, length, refl, ap, sym, subst, ◌∙◌, arith, Option, Some, None, inl, inr, length-append, flat_map}
+use Rattle.query_run.proofs.Prelude.{IfSome, All, get_or-map, length-map, All-append, All-nil, Row, ColumnType, SortKey, AllPartsValid, Files, database, join_use, parts_used, IsValidUsed, flow, kind_of, answer_text, rows_text, Checked, Spec, Shape, Plain, Grouped, heading, Kind, map-map, IsWithinLimits, Command, BoxPicture, handed_out_by, IsSourceKind, chunk_rows, box_at, no_draft, ports_of, with_nodes, DraftNode, NodePort, HasEnough, SelectPlan, body_nodes, collect_node, join_valid, needed_valid, plan_nodes, plan_valid, read_valid, shape_of, pulled_rows, NodeForm, forms, node_form, Stream, all_rows, rows_of, IsPlain, IsPlannable, join_of, order_of, source_types, HasEnded, HasPulled, parts_of, pulled_at, since-pulled, table-valid, QueryAnswered, planned-ended, HasStock, kinds_of, spec_at}
 use Rattle.query_model.specs.declared.processor_spec.Kind.TheVariants as kind
 use Rattle.query_model.specs.declared.processor_spec.Spec.TheVariants as spec
-use Rattle.query_model.proofs.Lists.{map-map}
-use Rattle.command_line.specs.Words.{IsWithinLimits}
-use Rattle.command_line.specs.declared.words.Command.{Command}
-use Rattle.proc_api.specs.Names.{BoxPicture, handed_out_by, IsSourceKind, chunk_rows}
-use Rattle.exec_laws.specs.Runs.{box_at}
-use Rattle.plan_graph.specs.Drafts.{no_draft, ports_of, with_nodes}
-use Rattle.plan_graph.specs.declared.nodes.DraftNode.{DraftNode}
-use Rattle.plan_graph.specs.declared.nodes.NodePort.{NodePort}
-use Rattle.plan_meaning.specs.Names.{HasEnough, SelectPlan, body_nodes, collect_node, join_valid, needed_valid, plan_nodes, plan_valid, read_valid, shape_of, pulled_rows, NodeForm, forms, node_form, Stream, all_rows, rows_of}
-use Rattle.select_planner.specs.Steps.{IsPlain, IsPlannable, join_of, order_of, source_types}
-use Rattle.plan_ends.specs.Ended.{HasEnded, HasPulled, parts_of, pulled_at}
-use Rattle.plan_ends.proofs.Pulled.{since-pulled}
-use Rattle.plan_ends.proofs.Parts.{table-valid}
-use Rattle.plan_ends.proofs.Queries.{QueryAnswered, planned-ended}
-use Rattle.plan_run.specs.Stock.{HasStock}
-use Rattle.plan_run.specs.Plans.{kinds_of, spec_at}
 use Rattle.query_run.specs.Names.{AreLawfulOver, IsRunnable, PulledMore, plan_of, specs_in, IsCheckedCommand, IsCertain, MakesText, PullsItsFlow, GivesText}
 use Rattle.query_run.proofs.Causes.{ran, stock}
 use Rattle.query_run.proofs.Commands.{plannable, typed_by_table}
@@ -162,7 +133,8 @@ module _ (c : Command) (within : IsWithinLimits c) (q : Checked) (h : IsCheckedC
     certain = elim answered.valid [
       | inl all ↦ inl (all_parts all)
       | inr cut ↦
-          elim (cut_or_valid q.shape (source_types c.tables q.from q.join) q.types c.chunk_rows q.order
+          elim (cut_or_valid q.shape
+          (source_types c.tables q.from q.join) q.types c.chunk_rows q.order
           (plan_valid (parts_of files) plan) (join_valid (parts_of files) plan.join)
           (plannable c q h).plain cut.needed) [
             | inl all ↦ inl (all_parts all)

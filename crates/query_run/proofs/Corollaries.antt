@@ -1,33 +1,8 @@
 -- The corollaries of the theorem on how a run ends, and completeness.
 use Rattle.std.proofs.Common.{◌≡◌, ◌≢◌, ◌⊎◌, inl, inr, ℕ, List, ap, sym, subst, ◌∙◌, refl, arith, Option, Some, None}
-use Rattle.std.specs.List.{All}
-use Rattle.std.proofs.lemmas.List.Elements.{All-contains}
-use Rattle.outside_io.specs.Growth.{Untouched}
-use Rattle.query_model.specs.Names.{IsDue, Files, UsedPart, used_parts, IsValidUsed, part_bad_place, refusal_of}
-use Rattle.query_model.specs.declared.places.BadPlace.{BadPlace}
-use Rattle.query_model.specs.declared.query.Query.{Query}
-use Rattle.query_model.specs.declared.query.Refusal.{Refusal}
-use Rattle.query_model.specs.declared.query.Schema.{Schema}
-use Rattle.query_model.specs.declared.checked.Checked.{Checked}
+use Rattle.query_run.proofs.Prelude.{All, All-contains, Untouched, IsDue, Files, UsedPart, used_parts, IsValidUsed, part_bad_place, refusal_of, BadPlace, Query, Refusal, Schema, Checked, Kind, same_refusal, IsRefused, ParseRefusal, one_tree, IsWithinLimits, Command, command_means, limits_kept, BoxPicture, IsBlank, IsLongFile, plan_nodes, first_crowded, UsesNoList, used_part, kinds-same, HasStock, GivesBack, lawful-not-stuck, runs-give-back}
 use Rattle.query_model.specs.declared.query.Refusal.TheVariants as refuse
-use Rattle.query_model.specs.declared.processor_spec.Kind.{Kind}
-use Rattle.sql_grammar.proofs.Trees.{same_refusal}
-use Rattle.sql_text.specs.Refusals.{IsRefused}
-use Rattle.sql_text.specs.declared.limits.ParseRefusal.{ParseRefusal}
 use Rattle.sql_text.specs.declared.limits.ParseRefusal.TheVariants as parse
-use Rattle.sql_text.proofs.Readings.{one_tree}
-use Rattle.command_line.specs.Words.{IsWithinLimits}
-use Rattle.command_line.specs.declared.words.Command.{Command}
-use Rattle.command_line.proofs.Meanings.{command_means, limits_kept}
-use Rattle.proc_api.specs.Names.{BoxPicture, IsBlank, IsLongFile}
-use Rattle.plan_meaning.specs.Plans.{plan_nodes}
-use Rattle.select_planner.specs.Refusals.{first_crowded}
-use Rattle.select_planner.specs.Steps.{UsesNoList}
-use Rattle.plan_ends.specs.Ended.{used_part}
-use Rattle.plan_ends.proofs.NodeKinds.{kinds-same}
-use Rattle.plan_run.specs.Stock.{HasStock}
-use Rattle.plan_run.specs.Plans.{GivesBack}
-use Rattle.plan_run.proofs.Telling.{lawful-not-stuck, runs-give-back}
 use Rattle.query_run.specs.Names.{PartName, Refused, PlanFailure, Failure, Ending, Shortage, status_of, failure_status, plan_status, refused_status, text_status, query_status, AreLawfulOver, HasBoxes, IsHonest, IsRunnable, IsShort, LacksBoxes, NamesFewPaths, RanPlan, boxes_for, plan_kinds, plan_of, specs_in, schemas_of, OfCommand, OfChecked, OfQuery, IsAccepted, IsCheckedCommand, IsRefusedFor, IsRefusedQuery, EndsStuck, FailsAtPart, FailsFor, PlanFailsFor, TakesBoxes, AreRefused, Ends, EndsEarly, EndsFor, IsAnswerable, IsEither, IsRun, LackBoxes, LeavesBoxes, MakesText, MeanNothing, NameManyPaths, PulledRows, ReaderFails, SucceedsUnless, WritesAnswer}
 use Rattle.query_run.specs.declared.ending.Refused.TheVariants as refused
 use Rattle.query_run.specs.declared.ending.PartFailure.TheVariants as part
@@ -38,11 +13,13 @@ use Rattle.query_run.proofs.Commands.{accepted_of, same_need, same_tables, same_
 use Rattle.query_run.proofs.Plans.{plan_stock}
 
 -- words mean one command
-same_command : {P Q : Command → Type 0} {words : List (List ℕ)} → (a : OfCommand words P) (b : OfCommand words Q) → a.command ≡ b.command
+same_command : {P Q : Command → Type 0} {words : List (List ℕ)}
+    → (a : OfCommand words P) (b : OfCommand words Q) → a.command ≡ b.command
 same_command a b = let e : Some a.command ≡ Some b.command = sym a.means ∙ b.means in cc
 
 -- what is true of a command is true of the one that the words mean
-moved : {P Q : Command → Type 0} {words : List (List ℕ)} (a : OfCommand words P) (b : OfCommand words Q) → P b.command
+moved : {P Q : Command → Type 0} {words : List (List ℕ)} (a : OfCommand words P)
+    (b : OfCommand words Q) → P b.command
 moved {P} a b = subst P (same_command a b) a.holds
 
 -- a command whose query is checked is accepted
@@ -50,7 +27,8 @@ is_accepted : {P : Checked → Type 0} (command : Command) → OfChecked command
 is_accepted command o = accepted_of command o.checked o.is
 
 -- words that mean a command don't mean nothing
-means_something : {P : Command → Type 0} {words : List (List ℕ)} → OfCommand words P → MeanNothing words → ⊥
+means_something : {P : Command → Type 0} {words : List (List ℕ)} → OfCommand words P
+    → MeanNothing words → ⊥
 means_something o none = let wrong : Some o.command ≡ None = sym o.means ∙ none in absurd cc
 
 -- the command that words mean is within its limits
@@ -76,27 +54,18 @@ clash : {A : Type 0} {o : Option A} {x : A} → o ≡ None → o ≡ Some x → 
 clash {A} {o} {x} a e = let wrong : Some x ≡ None = sym e ∙ a in absurd cc
 
 -- an accepted text is refused for want of memory alone
-text_not_refused : (command : Command) (refusal : ParseRefusal) → IsAccepted command → IsRefused refusal command.query → text_status refusal ≡ 7
-text_not_refused command parse.TooLong a h = absurd (clash a.read.early h)
+text_not_refused : (command : Command) (refusal : ParseRefusal) → IsAccepted command
+    → IsRefused refusal command.query → text_status refusal ≡ 7
 text_not_refused command parse.Syntax a (inl h) = absurd (clash a.read.early h)
 text_not_refused command parse.Syntax a (inr h) = absurd (h.1 a.query a.read.spells)
-text_not_refused command parse.NumberTooLarge a h = absurd (clash a.read.early h)
-text_not_refused command parse.TooComplex a h = absurd (clash a.read.early h)
-text_not_refused command parse.NotBuilt a h = absurd (clash a.read.early h)
 text_not_refused command parse.Memory a h = refl
+text_not_refused command r a h = absurd (clash a.read.early h)
 
 -- a refusal of a query is for want of memory, or has status 2 and is due
 due_status : (q : Query) (schemas : List Schema) (r : Refusal) → IsDue q schemas r
     → (query_status r ≡ 7) ⊎ ((query_status r ≡ 2) × (refusal_of q schemas ≡ Some r))
-due_status q schemas (refuse.UnknownTable name) h = inr (refl, h)
-due_status q schemas (refuse.UnknownColumn name) h = inr (refl, h)
-due_status q schemas (refuse.AmbiguousColumn name) h = inr (refl, h)
-due_status q schemas refuse.BadJoinKey h = inr (refl, h)
-due_status q schemas refuse.TypeMismatch h = inr (refl, h)
-due_status q schemas (refuse.NotGrouped name) h = inr (refl, h)
-due_status q schemas (refuse.BadOrderKey name) h = inr (refl, h)
-due_status q schemas refuse.TooWide h = inr (refl, h)
 due_status q schemas refuse.Memory h = inl refl
+due_status q schemas r h = inr (refl, h)
 
 query_not_refused : (command : Command) (refusal : Refusal) → IsAccepted command
     → IsRefusedQuery command refusal → query_status refusal ≡ 7
@@ -108,26 +77,20 @@ query_not_refused command refusal a h =
       | inr due ↦ absurd (clash none due.1)
     ]
 
--- a refusal has status 2, and want of memory 7
-text_refused : (refusal : ParseRefusal) → (text_status refusal ≡ 2) ⊎ (text_status refusal ≡ 7)
-text_refused parse.TooLong = inl refl
-text_refused parse.Syntax = inl refl
-text_refused parse.NumberTooLarge = inl refl
-text_refused parse.TooComplex = inl refl
-text_refused parse.NotBuilt = inl refl
-text_refused parse.Memory = inr refl
-
 -- the refusal of an accepted command is for want of memory alone
-accepted_memory : (command : Command) (r : Refused) → IsAccepted command → IsRefusedFor r command → refused_status r ≡ 7
+accepted_memory : (command : Command) (r : Refused) → IsAccepted command → IsRefusedFor r command
+    → refused_status r ≡ 7
 accepted_memory command (refused.Text refusal) a h = text_not_refused command refusal a h
 accepted_memory command (refused.Query refusal) a h = query_not_refused command refusal a h
 accepted_memory command refused.NotBuilt a h =
     absurd (h.listed (subst (All (UsesNoList command.tables))
     (same_tables command a.query h.query a.read h.read) a.planned))
 
+-- a refusal has status 2, and want of memory 7
 refused_either : (command : Command) (r : Refused) → IsRefusedFor r command
     → IsEither 2 7 (refused_status r)
-refused_either command (refused.Text refusal) h = text_refused refusal
+refused_either command (refused.Text parse.Memory) h = inr refl
+refused_either command (refused.Text refusal) h = inl refl
 refused_either command (refused.Query refusal) h =
     elim (due_status h.query (schemas_of command) refusal h.due) [
       | inl memory ↦ inr memory
@@ -160,21 +123,30 @@ not_crowded c a b =
 
 module _ (before after : List BoxPicture) where
   -- over valid parts no part is bad
-  not_bad : (files : Files) (c : Command) (q : Checked) (name : PartName) (place : BadPlace) → AreLawfulOver files before
-      → IsAnswerable files c → IsCheckedCommand c q → FailsAtPart name (part.Bad place) c q before after → ⊥
+  not_bad : (files : Files) (c : Command) (q : Checked) (name : PartName) (place : BadPlace)
+      → AreLawfulOver files before
+      → IsAnswerable files c → IsCheckedCommand c q
+      → FailsAtPart name (part.Bad place) c q before after → ⊥
   not_bad files c q name place told a is h =
       let part = h.serves.part in
       let valid : IsValidUsed c.header files (used_part part) =
-      All-contains (IsValidUsed c.header files) (used_parts files c.tables q) (used_part part) (a.valid q is) (h.serves.used files told) in
-      let bad : part_bad_place part.header part.types files part.path ≡ Some place = h.fails files told in
-      let wrong : Some place ≡ None = sym bad ∙ ap (λ b. part_bad_place b part.types files part.path) h.serves.header ∙ valid.1 in
+      All-contains (IsValidUsed c.header files) (used_parts files c.tables q) (used_part part)
+      (a.valid q is) (h.serves.used files told) in
+      let bad : part_bad_place part.header part.types files part.path ≡ Some place =
+      h.fails files told in
+      let wrong : Some place ≡ None =
+      sym bad ∙ ap (λ b. part_bad_place b part.types files part.path) h.serves.header
+      ∙ valid.1 in
       absurd cc
 
   -- nor too long
-  not_long : (files : Files) (c : Command) (q : Checked) (name : PartName) → AreLawfulOver files before
-      → IsAnswerable files c → IsCheckedCommand c q → FailsAtPart name part.TooLong c q before after → ⊥
+  not_long : (files : Files) (c : Command) (q : Checked) (name : PartName)
+      → AreLawfulOver files before
+      → IsAnswerable files c → IsCheckedCommand c q → FailsAtPart name part.TooLong c q before after
+      → ⊥
   not_long files c q name told a is h =
-      All-contains (λ (p : UsedPart). IsLongFile files p.path → ⊥) (used_parts files c.tables q) (used_part h.serves.part)
+      All-contains (λ (p : UsedPart). IsLongFile files p.path → ⊥) (used_parts files c.tables q)
+      (used_part h.serves.part)
       (a.within q is) (h.serves.used files told) (h.fails files told)
 
   -- with lawful boxes no run ends stuck
@@ -224,11 +196,9 @@ module _ (before after : List BoxPicture) where
   -- a failure of a plan within the limits, or its status
   plan_limits : (f : PlanFailure) (c : Command) (q : Checked) → PlanFailsFor f c q before after
       → IsRunnable c q before ⊎ IsEither 6 7 (plan_status f)
-  plan_limits (plan.Paths name count) c q h = inr (inl refl)
-  plan_limits (plan.Stock s) c q h = inr (inl refl)
   plan_limits (plan.Part name f) c q h = inl h.runnable
-  plan_limits (plan.Unlawful k) c q h = inr (inl refl)
   plan_limits plan.Memory c q h = inr (inr refl)
+  plan_limits f c q h = inr (inl refl)
 
   -- A plan over an honest rack and valid parts fails for want of memory alone, where no reader
   -- fails.
@@ -261,27 +231,21 @@ refused_not_zero n (inr e) z = omega (arith, e, z)
 
 not_answered : (words : List (List ℕ)) (before after : List BoxPicture) (f : Failure)
     → FailsFor f words before after → failure_status f ≡ 0 → ⊥
-not_answered words before after failure.Usage h e = omega (arith, e)
 not_answered words before after (failure.Refused r) h e =
     refused_not_zero (refused_status r) (refused_either h.0.command r h.0.holds) e
-not_answered words before after (failure.Plan (plan.Paths name count)) h e = omega (arith, e)
-not_answered words before after (failure.Plan (plan.Stock s)) h e = omega (arith, e)
-not_answered words before after (failure.Plan (plan.Part name (part.Bad place))) h e = omega (arith, e)
 not_answered words before after (failure.Plan (plan.Part name part.Read)) h e = omega (arith, e)
-not_answered words before after (failure.Plan (plan.Part name part.Stalled)) h e = omega (arith, e)
-not_answered words before after (failure.Plan (plan.Part name part.TooLong)) h e = omega (arith, e)
-not_answered words before after (failure.Plan (plan.Unlawful k)) h e = omega (arith, e)
-not_answered words before after (failure.Plan plan.Memory) h e = omega (arith, e)
-not_answered words before after failure.Memory h e = omega (arith, e)
+not_answered words before after f h e = omega (arith, e)
 
 -- ---- the corollaries
 
-module _ (words : List (List ℕ)) (before after : List BoxPicture) (out₀ out : Option (List ℕ)) (write : Type 0) (status : ℕ) where
+module _ (words : List (List ℕ)) (before after : List BoxPicture) (out₀ out : Option (List ℕ))
+    (write : Type 0) (status : ℕ) where
   abbrev Why : Ending → Type 0
   Why e = EndsFor e words before after out₀ out write
 
   -- an answered run wrote the text of an answer, and its boxes pulled the flow of that answer
-  pulled_of : (e : Ending) → status ≡ status_of e → Why e → status ≡ 0 → PulledRows words before after out₀ out
+  pulled_of : (e : Ending) → status ≡ status_of e → Why e → status ≡ 0
+      → PulledRows words before after out₀ out
   pulled_of Answered s h z = λ files told. (
     h.0,
     record { command = h.1.command; means = h.1.means; holds = h.1.holds.holds.answers files told },
@@ -327,7 +291,8 @@ module _ (words : List (List ℕ)) (before after : List BoxPicture) (out₀ out 
       h.1.holds.holds.runnable (moved o h.1))
   limit_of P against (Failed failure.Usage) s h o = absurd (means_something o h.0.0)
   limit_of P against (Failed (failure.Refused r)) s h o =
-      inr (s ∙ accepted_memory h.0.0.command r (is_accepted h.0.0.command (moved o h.0.0)) h.0.0.holds)
+      inr (s ∙ accepted_memory h.0.0.command r
+      (is_accepted h.0.0.command (moved o h.0.0)) h.0.0.holds)
   limit_of P against (Failed (failure.Plan f)) s h o =
       elim (plan_limits before after f h.0.command h.0.holds.checked h.0.holds.holds) [
         | inl within ↦
@@ -350,17 +315,25 @@ module _ (words : List (List ℕ)) (before after : List BoxPicture) (out₀ out 
       not_lacking c before (record { checked = q; is = is; holds = within.boxes }) o)
 
   -- what else is true of the query that the words mean
-  of_query : {P Q : Command → Checked → Type 0} (h : OfQuery words P) → Q h.command h.holds.checked → OfQuery words Q
-  of_query h x = record { command = h.command; means = h.means; holds = record { checked = h.holds.checked; is = h.holds.is; holds = x } }
+  of_query : {P Q : Command → Checked → Type 0} (h : OfQuery words P) → Q h.command h.holds.checked
+      → OfQuery words Q
+  of_query h x = record {
+    command = h.command;
+    means = h.means;
+    holds =
+        record { checked = h.holds.checked; is = h.holds.is; holds = x };
+  }
 
-  taken : (text : List ℕ) → OfQuery words (λ c q. MakesText c q text before after) → TakesBoxes words before after
+  taken : (text : List ℕ) → OfQuery words (λ c q. MakesText c q text before after)
+      → TakesBoxes words before after
   taken text h = of_query h (gives_back before after h.command h.holds.checked h.holds.holds.ran)
 
   -- whatever the status, the rack has its boxes again
   left_of : (e : Ending) → status ≡ status_of e → Why e → LeavesBoxes words before after status
   left_of Answered s h = inl (taken h.0 h.1)
   left_of (Failed failure.Usage) s h = inr (h.0.1, inl (inl s))
-  left_of (Failed (failure.Refused r)) s h = inr (h.0.1, early (refused_either h.0.0.command r h.0.0.holds))
+  left_of (Failed (failure.Refused r)) s h =
+      inr (h.0.1, early (refused_either h.0.0.command r h.0.0.holds))
     where
       early : IsEither 2 7 (refused_status r) → EndsEarly words before status
       early (inl e) = inl (inr (s ∙ e))
@@ -381,24 +354,28 @@ module _ (words : List (List ℕ)) (before after : List BoxPicture) (out₀ out 
 
   -- ---- completeness
 
-  succeeds_of : (e : Ending) → status ≡ status_of e → Why e → SucceedsUnless words before (ReaderFails words before after ⊎ write) status
+  succeeds_of : (e : Ending) → status ≡ status_of e → Why e
+      → SucceedsUnless words before (ReaderFails words before after ⊎ write) status
   succeeds_of Answered s h = λ files honest o well. inl s
   succeeds_of (Failed failure.Usage) s h = λ files honest o well. absurd (means_something o h.0.0)
   succeeds_of (Failed (failure.Refused r)) s h = λ files honest o well.
       inr (s ∙ accepted_memory h.0.0.command r (moved o h.0.0).accepted h.0.0.holds)
   succeeds_of (Failed (failure.Plan f)) s h = λ files honest o well.
       inr (s ∙ plan_memory before after f files h.0.command h.0.holds.checked (within_of h.0) honest
-      (moved o h.0) h.0.holds.is (λ name why. well (inl (of_query h.0 (name, why)))) h.0.holds.holds)
+      (moved o h.0) h.0.holds.is
+      (λ name why. well (inl (of_query h.0 (name, why)))) h.0.holds.holds)
   succeeds_of (Failed failure.Memory) s h = λ files honest o well. inr s
   succeeds_of WriteFailed s h = λ files honest o well. absurd (well (inr h.3))
 
-  untouched_of : (e : Ending) → status ≡ status_of e → Why e → status ≢ 0 → status ≢ 5 → Untouched out₀ out
+  untouched_of : (e : Ending) → status ≡ status_of e → Why e → status ≢ 0 → status ≢ 5
+      → Untouched out₀ out
   untouched_of Answered s h some other = absurd (some s)
   untouched_of (Failed f) s h some other = h.1
   untouched_of WriteFailed s h some other = absurd (other s)
 
   -- all that is proved of a run, from how it ended
-  pub is_run : (err₀ err : Option (List ℕ)) (tell : Type 0) → Ends words before after status out₀ out write err₀ err tell
+  pub is_run : (err₀ err : Option (List ℕ)) (tell : Type 0)
+      → Ends words before after status out₀ out write err₀ err tell
       → All IsBlank after → IsRun words before after status out₀ out write err₀ err tell
   is_run err₀ err tell h blank = record {
     ends = h;

@@ -1,33 +1,8 @@
 -- The nodes of a checked query's plan, and the boxes that they take from a rack.
-use Rattle.std.proofs.Common.{◌≡◌, ◌≢◌, ℕ, zero, suc, ◌<◌, ◌≤◌, true, List, [], ◌∷◌, length, count_by, Some, refl, sym, subst, ◌∙◌, arith}
-use Rattle.std.specs.Prelude.{flat_map}
-use Rattle.std.specs.List.{All, AllByRecursion}
-use Rattle.std.proofs.lemmas.List.{length-map}
-use Rattle.std.proofs.lemmas.List.Elements.{All-cons, All-nil}
-use Rattle.query_model.specs.Names.{Files, join_use, parts_used, used_parts, kind_of}
-use Rattle.query_model.specs.declared.checked.Checked.{Checked}
-use Rattle.query_model.specs.declared.processor_spec.PartSpec.{PartSpec}
-use Rattle.query_model.specs.declared.processor_spec.Spec.{Spec}
-use Rattle.query_model.specs.declared.processor_spec.Kind.{Kind}
+use Rattle.std.proofs.Common.{◌≡◌, ◌≢◌, ℕ, zero, suc, ◌<◌, ◌≤◌, true, List, [], ◌∷◌, length, count_by, Some, refl, sym, subst, ◌∙◌, arith, flat_map}
+use Rattle.query_run.proofs.Prelude.{All, AllByRecursion, length-map, All-cons, All-nil, Files, join_use, parts_used, used_parts, kind_of, Checked, PartSpec, Spec, Kind, IsWithinLimits, Command, BoxPicture, no_box, IsSourceKind, is_of, box_at, DraftNode, IsSmall, plan_nodes, forms, plan-needs, is-small, IsStep, PartHas, kinds-counted, from_few, IsPartOf, in-front, table-parts, IsQueryPlan, query-plan, simple-steps, taken_for, HasStock, kinds_of, spec_at, taken_at, RanWith, RunsPlan, taken-all, taken-length}
 use Rattle.query_model.specs.declared.processor_spec.Kind.TheVariants as kind
 use Rattle.query_model.specs.declared.processor_spec.Spec.TheVariants as spec
-use Rattle.command_line.specs.Words.{IsWithinLimits}
-use Rattle.command_line.specs.declared.words.Command.{Command}
-use Rattle.proc_api.specs.Names.{BoxPicture, no_box, IsSourceKind, is_of}
-use Rattle.exec_laws.specs.Runs.{box_at}
-use Rattle.plan_graph.specs.declared.nodes.DraftNode.{DraftNode}
-use Rattle.plan_meaning.specs.Names.{IsSmall, plan_nodes, forms}
-use Rattle.select_planner.proofs.BoxCounts.{plan-needs}
-use Rattle.select_planner.proofs.Laying.{is-small}
-use Rattle.plan_ends.specs.Ended.{IsStep, PartHas}
-use Rattle.plan_ends.proofs.NodeKinds.{kinds-counted}
-use Rattle.plan_ends.proofs.Needs.{from_few}
-use Rattle.plan_ends.proofs.Parts.{IsPartOf, in-front, table-parts}
-use Rattle.plan_ends.proofs.Queries.{IsQueryPlan, query-plan}
-use Rattle.plan_ends.proofs.SimplePlans.{simple-steps}
-use Rattle.plan_run.specs.Stock.{taken_for, HasStock}
-use Rattle.plan_run.specs.Plans.{kinds_of, spec_at, taken_at, RanWith, RunsPlan}
-use Rattle.plan_run.proofs.Taking.{taken-all, taken-length}
 use Rattle.query_run.specs.Names.{AreLawfulOver, HasBoxes, NamesFewPaths, boxes_for, plan_kinds, plan_of, specs_in, IsCheckedCommand}
 use Rattle.query_run.proofs.Commands.{plannable, typed_by_table}
 

@@ -1,15 +1,6 @@
 -- The rows that the boxes of a rack pulled in a run, kind by kind.
 use Rattle.std.proofs.Common.{◌≡◌, ◌⊎◌, ℕ, suc, ◌+◌, ◌<◌, Bool, true, false, cond, List, [], ◌∷◌, ◌++◌, length, count_by, Some, refl, sym, ap, subst, ◌∙◌, arith, inl, inr, length-append}
-use Rattle.std.proofs.lemmas.List.{length-map}
-use Rattle.query_model.specs.Kinds.{kind_of}
-use Rattle.query_model.specs.declared.processor_spec.Spec.{Spec}
-use Rattle.query_model.specs.declared.processor_spec.Kind.{Kind}
-use Rattle.proc_api.specs.Names.{BoxPicture, is_of, same_kind}
-use Rattle.exec_laws.specs.Runs.{box_at}
-use Rattle.plan_ends.specs.Ended.{HasFullCount, pulled_since}
-use Rattle.plan_run.specs.Stock.{first_of, without_first, taken_for, left_after, HasStock}
-use Rattle.plan_run.specs.Plans.{kinds_of, RunsPlan}
-use Rattle.plan_run.proofs.Taking.{some-rest, stock-here, stock-step, taken-length}
+use Rattle.query_run.proofs.Prelude.{length-map, kind_of, Spec, Kind, BoxPicture, is_of, same_kind, box_at, HasFullCount, pulled_since, first_of, without_first, taken_for, left_after, HasStock, kinds_of, RunsPlan, some-rest, stock-here, stock-step, taken-length}
 use Rattle.query_run.specs.Racks.{pulled_by, PulledMore}
 
 pulled-append : (k : Kind) (xs ys : List BoxPicture)
@@ -19,18 +10,26 @@ pulled-append k (x ∷ xs) ys = let rest = pulled-append k xs ys in omega (arith
 
 -- taking a box out takes its rows out
 pulled-without : (k j : Kind) (boxes : List BoxPicture) → 0 < count_by (is_of j) boxes
-    → pulled_by k boxes ≡ cond (is_of k (first_of j boxes)) (first_of j boxes).pulled 0 + pulled_by k (without_first j boxes)
+    → pulled_by k boxes ≡ cond (is_of k (first_of j boxes))
+    (first_of j boxes).pulled 0 + pulled_by k (without_first j boxes)
 pulled-without k j [] some = absurd (omega (arith, some))
-pulled-without k j (p ∷ boxes) some = go (is_of j p) refl (λ e. pulled-without k j boxes (some-rest j p boxes e some))
+pulled-without k j (p ∷ boxes) some =
+    go (is_of j p) refl (λ e. pulled-without k j boxes (some-rest j p boxes e some))
   where
     go : (t : Bool) → is_of j p ≡ t
-        → (is_of j p ≡ false → pulled_by k boxes ≡ cond (is_of k (first_of j boxes)) (first_of j boxes).pulled 0 + pulled_by k (without_first j boxes))
-        → pulled_by k (p ∷ boxes) ≡ cond (is_of k (cond t p (first_of j boxes))) (cond t p (first_of j boxes)).pulled 0 + pulled_by k (cond t boxes (p ∷ without_first j boxes))
+        → (is_of j p ≡ false
+        → pulled_by k boxes ≡ cond (is_of k (first_of j boxes))
+        (first_of j boxes).pulled 0 + pulled_by k (without_first j boxes))
+        → pulled_by k (p ∷ boxes)
+        ≡ cond (is_of k (cond t p (first_of j boxes)))
+        (cond t p (first_of j boxes)).pulled 0 + pulled_by k
+        (cond t boxes (p ∷ without_first j boxes))
     go true e later = refl
     go false e later = let rest = later e in omega (arith, rest)
 
 -- what the rack's boxes have pulled is what the taken ones have, and what those that are left have
-pub pulled-taken : (k : Kind) (kinds : List Kind) (boxes : List BoxPicture) → HasStock kinds boxes → pulled_by k boxes ≡ pulled_by k (taken_for kinds boxes) + pulled_by k (left_after kinds boxes)
+pub pulled-taken : (k : Kind) (kinds : List Kind) (boxes : List BoxPicture) → HasStock kinds boxes
+    → pulled_by k boxes ≡ pulled_by k (taken_for kinds boxes) + pulled_by k (left_after kinds boxes)
 pulled-taken k [] boxes h = omega arith
 pulled-taken k (j ∷ kinds) boxes h =
     let first = pulled-without k j boxes (stock-here j kinds boxes h) in
@@ -48,24 +47,25 @@ share-more : (b : Bool) (m n o : ℕ) → o ≡ m + n → cond b o 0 ≡ cond b 
 share-more true m n o e = e
 share-more false m n o e = refl
 
-given-more : (k : Kind) (p q r : BoxPicture) → IsGivenMore p q r → cond (is_of k r) r.pulled 0 ≡ cond (is_of k p) p.pulled 0 + cond (is_of k q) q.notes.pulled 0
+given-more : (k : Kind) (p q r : BoxPicture) → IsGivenMore p q r
+    → cond (is_of k r) r.pulled 0 ≡ cond (is_of k p) p.pulled 0 + cond (is_of k q) q.notes.pulled 0
 given-more k p q r h =
     ap (λ j. cond (same_kind j k) r.pulled 0) h.given
     ∙ share-more (is_of k p) p.pulled q.notes.pulled r.pulled h.pulled
     ∙ ap (λ j. cond (is_of k p) p.pulled 0 + cond (same_kind j k) q.notes.pulled 0) (sym h.ran)
 
-pub pulled-given : (k : Kind) (taken ended given : List BoxPicture) → length ended ≡ length taken → length given ≡ length taken
-    → ((n : ℕ) → n < length taken → IsGivenMore (box_at taken n) (box_at ended n) (box_at given n)) → pulled_by k given ≡ pulled_by k taken + pulled_since k ended
+pub pulled-given : (k : Kind) (taken ended given : List BoxPicture) → length ended ≡ length taken
+    → length given ≡ length taken
+    → ((n : ℕ) → n < length taken → IsGivenMore (box_at taken n) (box_at ended n) (box_at given n))
+    → pulled_by k given ≡ pulled_by k taken + pulled_since k ended
 unfolding box_at
 pulled-given k [] [] [] el gl each = refl
-pulled-given k [] [] (r ∷ given) el gl each = absurd (omega (arith, gl))
-pulled-given k [] (q ∷ ended) given el gl each = absurd (omega (arith, el))
-pulled-given k (p ∷ taken) [] given el gl each = absurd (omega (arith, el))
-pulled-given k (p ∷ taken) (q ∷ ended) [] el gl each = absurd (omega (arith, gl))
 pulled-given k (p ∷ taken) (q ∷ ended) (r ∷ given) el gl each =
     let first = given-more k p q r (each 0 (omega arith)) in
-    let rest = pulled-given k taken ended given (omega (arith, el)) (omega (arith, gl)) (λ n lt. each (suc n) (omega (arith, lt))) in
+    let rest = pulled-given k taken ended given (omega (arith, el)) (omega (arith, gl))
+    (λ n lt. each (suc n) (omega (arith, lt))) in
     omega (arith, first, rest)
+pulled-given k taken ended given el gl each = absurd (omega (arith, el, gl))
 
 at-append : (xs ys : List BoxPicture) (n : ℕ)
     → box_at (xs ++ ys) (length xs + n) ≡ box_at ys n
@@ -77,7 +77,8 @@ at-append (x ∷ xs) ys n =
 
 -- ---- over a rack
 
-module _ (specs : List Spec) (before after ended : List BoxPicture) (stock : HasStock (kinds_of specs) before) (run : RunsPlan specs before after ended) where
+module _ (specs : List Spec) (before after ended : List BoxPicture)
+    (stock : HasStock (kinds_of specs) before) (run : RunsPlan specs before after ended) where
   abbrev left : List BoxPicture
   left = left_after (kinds_of specs) before
 
@@ -87,21 +88,26 @@ module _ (specs : List Spec) (before after ended : List BoxPicture) (stock : Has
   taken-count : length taken ≡ length specs
   taken-count = taken-length (kinds_of specs) before ∙ length-map specs kind_of
 
-  each-given : (n : ℕ) → n < length taken → IsGivenMore (box_at taken n) (box_at ended n) (box_at run.given n)
+  each-given : (n : ℕ) → n < length taken
+      → IsGivenMore (box_at taken n) (box_at ended n) (box_at run.given n)
   each-given n lt =
       let in_specs : n < length specs = subst (λ k. n < k) taken-count lt in
       let r = run.ran n in_specs in
       let u = run.unloaded n in_specs in
       record { ran = r.kind; given = u.kind ∙ r.kind; pulled = u.counts.pulled ∙ r.pulled }
 
-  -- the rack's boxes have pulled what they had, and what the taken ones pulled since they were loaded
+  -- the rack's boxes have pulled what they had, and what the taken ones pulled since they were
+  -- loaded
   pub pulled-after : (k : Kind) → pulled_by k after ≡ pulled_by k before + pulled_since k ended
   pulled-after k =
-      let rack : pulled_by k after ≡ pulled_by k left + pulled_by k run.given = ap (λ l. pulled_by k l) run.rack
+      let rack : pulled_by k after ≡ pulled_by k left + pulled_by k run.given =
+      ap (λ l. pulled_by k l) run.rack
       ∙ pulled-append k left run.given in
-      let had : pulled_by k before ≡ pulled_by k taken + pulled_by k left = pulled-taken k (kinds_of specs) before stock in
+      let had : pulled_by k before ≡ pulled_by k taken + pulled_by k left =
+      pulled-taken k (kinds_of specs) before stock in
       let more : pulled_by k run.given ≡ pulled_by k taken + pulled_since k ended =
-      pulled-given k taken ended run.given (run.count ∙ sym taken-count) (run.given_count ∙ sym taken-count) each-given in
+      pulled-given k taken ended run.given (run.count ∙ sym taken-count)
+      (run.given_count ∙ sym taken-count) each-given in
       omega (arith, rack, had, more)
 
   -- where the ended boxes of a kind pulled so many rows, or one has a full count

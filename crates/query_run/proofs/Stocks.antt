@@ -1,12 +1,7 @@
 -- The kinds in their order, and how many boxes of each a rack has.
 use Rattle.std.proofs.Common.{◌≡◌, inl, inr, ℕ, ◌+◌, ◌<◌, ◌≤◌, length, count_by, get_or, sym, ap, subst, ◌∙◌, arith, List}
-use Rattle.std.proofs.lemmas.Bool.{cases_lt}
-use Rattle.std.proofs.lemmas.List.{get_or-map, get_or_past}
-use Rattle.std.proofs.lemmas.List.FromFn.{get_or-range_with_len}
-use Rattle.query_model.specs.declared.processor_spec.Kind.{Kind}
+use Rattle.query_run.proofs.Prelude.{cases_lt, get_or-map, get_or_past, get_or-range_with_len, Kind, BoxPicture, is_of, kind_place, kind-at}
 use Rattle.query_model.specs.declared.processor_spec.Kind.TheVariants as kind
-use Rattle.proc_api.specs.Names.{BoxPicture, is_of, kind_place}
-use Rattle.plan_run.proofs.Taking.{kind-at}
 use Rattle.query_run.specs.Names.{KINDS, HasBoxes, IsShort}
 
 -- of each kind before this place the rack has the boxes that are needed

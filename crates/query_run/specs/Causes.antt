@@ -35,7 +35,8 @@ TakesBoxes words before after = OfQuery words (λ c q. GivesBack (plan_kinds c q
 
 -- ---- the part of a failure
 
--- The node reads a part that the query uses, and the name is that of its table and its number there.
+-- The node reads a part that the query uses, and the name is that of its table and its number
+-- there.
 pub record ServesPart (command : Command) (q : Checked) (before : List BoxPicture)
     (specs : List Spec) (node : ℕ) (name : PartName) : Type 0 where
   pub part : PartSpec
@@ -44,11 +45,14 @@ pub record ServesPart (command : Command) (q : Checked) (before : List BoxPictur
   pub table : TableDecl
   pub declared : slice_get command.tables part.table ≡ Some table
   pub named : name ≡ record { table = table.schema.name; part = part.part }
-  pub used : OverFiles before (λ files. Contains (used_parts files command.tables q) (used_part part))
+  pub used : OverFiles before
+      (λ files. Contains (used_parts files command.tables q) (used_part part))
 
--- What a part or its device failed by, by the one box that served it, before and after. The place and
+-- What a part or its device failed by, by the one box that served it, before and after. The place
+-- and
 -- the length go by the files that lawful sources tell.
-abbrev pub PartFailsFor : PartFailure → PartSpec → (before : List BoxPicture) → (taken given : BoxPicture) → Type 0
+abbrev pub PartFailsFor : PartFailure → PartSpec → (before : List BoxPicture)
+    → (taken given : BoxPicture) → Type 0
 PartFailsFor (part.Bad place) p before taken given =
     OverFiles before (λ files. part_bad_place p.header p.types files p.path ≡ Some place)
 PartFailsFor part.Read p before taken given = Rose taken.faults given.faults
@@ -68,7 +72,8 @@ pub record FailsAtPart (name : PartName) (f : PartFailure) (c : Command) (q : Ch
       (taken_at (kinds_of (specs_in ran.nodes)) before node) (box_at ran.runs.given node)
 
 -- The plan ran and ended stuck, at a node whose box is of the kind and isn't lawful.
-pub record EndsStuck (k : Kind) (c : Command) (q : Checked) (before after : List BoxPicture) : Type 0
+pub record EndsStuck (k : Kind) (c : Command) (q : Checked)
+    (before after : List BoxPicture) : Type 0
   where
     pub runnable : IsRunnable c q before
     pub ran : RanPlan c q before after
@@ -82,7 +87,8 @@ abbrev pub LeavesPlan : Command → Checked → (before after : List BoxPicture)
 LeavesPlan c q before after = GivesBack (plan_kinds c q) before after ⊎ (after ≡ before)
 
 -- Why the plan of a checked query gave no text, in the order of the checks. Want of memory is free.
-abbrev pub PlanFailsFor : PlanFailure → Command → Checked → (before after : List BoxPicture) → Type 0
+abbrev pub PlanFailsFor : PlanFailure → Command → Checked → (before after : List BoxPicture)
+    → Type 0
 PlanFailsFor (plan.Paths name count) c q before after =
     (first_crowded c.tables (used_tables q) ≡ Some (record { name = name; count = count }))
     × (after ≡ before)
@@ -97,7 +103,8 @@ PlanFailsFor plan.Memory c q before after = LeavesPlan c q before after
 -- Why a run failed, and how the rack was left.
 abbrev pub FailsFor : Failure → List (List ℕ) → (before after : List BoxPicture) → Type 0
 FailsFor failure.Usage words before after = (command_of words ≡ None) × (after ≡ before)
-FailsFor (failure.Refused r) words before after = OfCommand words (IsRefusedFor r) × (after ≡ before)
+FailsFor (failure.Refused r) words before after =
+    OfCommand words (IsRefusedFor r) × (after ≡ before)
 FailsFor (failure.Plan f) words before after =
     OfQuery words (λ c q. PlanFailsFor f c q before after)
 FailsFor failure.Memory words before after = after ≡ before

@@ -129,7 +129,8 @@ part_back part.TooLong = codes ", at most 1073741824"
 
 -- how many boxes of a kind are needed, and are there
 abbrev pub stock_words : (needed there : ℕ) → List ℕ
-stock_words needed there = codes " needed " ++ decimal needed ++ (codes ", rack has " ++ decimal there)
+stock_words needed there =
+    codes " needed " ++ decimal needed ++ (codes ", rack has " ++ decimal there)
 
 abbrev pub plan_line : PlanFailure → List ℕ
 plan_line (plan.Paths name count) =
@@ -161,10 +162,12 @@ piece_bytes (piece.Number n) = decimal n
 
 -- exactly the line was written, or a prefix of it where the sink failed
 abbrev pub TellsLine : List ℕ → (before after : Option (List ℕ)) → (failed : Type 0) → Type 0
-TellsLine line before after failed = GrewBy before after line ⊎ (failed × GrewByPrefix before after line)
+TellsLine line before after failed =
+    GrewBy before after line ⊎ (failed × GrewByPrefix before after line)
 
 -- bytes were written whole, or a front of them where the sink failed
-pub record Writes {A E : Type 0} (bytes : List ℕ) (before after : Option (List ℕ)) (failed : Type 0) (r : Result A E) : Type 0 where
+pub record Writes {A E : Type 0} (bytes : List ℕ) (before after : Option (List ℕ)) (failed : Type 0)
+    (r : Result A E) : Type 0 where
   pub grew : OnOk r (GrewBy before after bytes)
   pub grew_by_prefix : OnErr r (GrewByPrefix before after bytes)
   pub fault : OnErr r failed

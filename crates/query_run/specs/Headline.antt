@@ -1,4 +1,5 @@
--- What a run means: the text that an answer of its query has over the files' rows, and every other end.
+-- What a run means: the text that an answer of its query has over the files' rows, and every other
+-- end.
 use Rattle.std.specs.Prelude.{◌≡◌, ◌≢◌, ◌⊎◌, ℕ, Bool, List, [], flat_map, length, Option, Some, None}
 use Rattle.std.specs.List.{All}
 use Rattle.outside_io.specs.Growth.{GrewBy, GrewByPrefix, Untouched}
@@ -26,7 +27,8 @@ use Rattle.query_run.specs.Causes.{FailsAtPart, FailsFor, TakesBoxes}
 
 -- The query has LIMIT, no grouping and no order, each part of its other tables is valid, and the
 -- rows before the first bad record of each part are enough for the limit.
-pub record IsCutShort (header : Bool) (files : Files) (tables : List TableDecl) (q : Checked) : Type 0
+pub record IsCutShort (header : Bool) (files : Files) (tables : List TableDecl)
+    (q : Checked) : Type 0
   where
     pub enough_rows : HasEnough q.limit (output_rows q (database header files tables))
     pub ungrouped : IsPlain q.shape
@@ -69,16 +71,20 @@ pub record MakesText (command : Command) (q : Checked) (text : List ℕ)
 -- ---- the theorem
 
 -- What an end says of the output and of the rack, and why it came.
-abbrev pub EndsFor : Ending → List (List ℕ) → (before after : List BoxPicture) → (out₀ out : Option (List ℕ)) → (write : Type 0) → Type 0
+abbrev pub EndsFor : Ending → List (List ℕ) → (before after : List BoxPicture)
+    → (out₀ out : Option (List ℕ)) → (write : Type 0) → Type 0
 EndsFor Answered words before after out₀ out write =
     (text : List ℕ) × OfQuery words (λ c q. MakesText c q text before after) × GrewBy out₀ out text
-EndsFor (Failed f) words before after out₀ out write = FailsFor f words before after × Untouched out₀ out
+EndsFor (Failed f) words before after out₀ out write =
+    FailsFor f words before after × Untouched out₀ out
 EndsFor WriteFailed words before after out₀ out write =
     (text : List ℕ) × OfQuery words (λ c q. MakesText c q text before after)
     × GrewByPrefix out₀ out text × write
 
 -- How a run ended: its status and its line are those of one end, which came for its cause.
-pub record Ends (words : List (List ℕ)) (before after : List BoxPicture) (status : ℕ) (out₀ out : Option (List ℕ)) (write : Type 0) (err₀ err : Option (List ℕ)) (tell : Type 0) : Type 0 where
+pub record Ends (words : List (List ℕ)) (before after : List BoxPicture) (status : ℕ)
+    (out₀ out : Option (List ℕ)) (write : Type 0) (err₀ err : Option (List ℕ))
+    (tell : Type 0) : Type 0 where
   pub ending : Ending
   pub status_is : status ≡ status_of ending
   pub why : EndsFor ending words before after out₀ out write
@@ -87,14 +93,17 @@ pub record Ends (words : List (List ℕ)) (before after : List BoxPicture) (stat
 -- ---- its corollaries
 
 -- a run over lawful boxes wrote exactly the text of one answer over the files that they tell
-abbrev pub WritesAnswer : List (List ℕ) → (before : List BoxPicture) → (out₀ out : Option (List ℕ)) → Type 0
+abbrev pub WritesAnswer : List (List ℕ) → (before : List BoxPicture) → (out₀ out : Option (List ℕ))
+    → Type 0
 WritesAnswer words before out₀ out = OverFiles before (λ files.
     (text : List ℕ) × OfCommand words (λ c. IsTextOfAnswer c files text) × GrewBy out₀ out text)
 
 -- and the boxes pulled as many rows as the kinds' flow says of that answer
-abbrev pub PulledRows : List (List ℕ) → (before after : List BoxPicture) → (out₀ out : Option (List ℕ)) → Type 0
+abbrev pub PulledRows : List (List ℕ) → (before after : List BoxPicture)
+    → (out₀ out : Option (List ℕ)) → Type 0
 PulledRows words before after out₀ out = OverFiles before (λ files.
-    (text : List ℕ) × OfCommand words (λ c. PullsItsFlow c files text before after) × GrewBy out₀ out text)
+    (text : List ℕ) × OfCommand words (λ c. PullsItsFlow c files text before after)
+    × GrewBy out₀ out text)
 
 -- the status is one of these
 abbrev pub IsEither : (m n status : ℕ) → Type 0
@@ -122,7 +131,8 @@ abbrev pub EndsEarly : List (List ℕ) → List BoxPicture → (status : ℕ) �
 EndsEarly words before status =
     IsEither 1 2 status ⊎ ((status ≡ 7) ⊎ (NameManyPaths words ⊎ LackBoxes words before))
 
--- the boxes of the plan were taken and given back, or the run ended early and left the rack as it was
+-- the boxes of the plan were taken and given back, or the run ended early and left the rack as it
+-- was
 abbrev pub LeavesBoxes : List (List ℕ) → (before after : List BoxPicture) → (status : ℕ) → Type 0
 LeavesBoxes words before after status =
     TakesBoxes words before after ⊎ ((after ≡ before) × EndsEarly words before status)
@@ -139,18 +149,23 @@ pub record IsAnswerable (files : Files) (c : Command) : Type 0 where
 -- the reader of a box that served a part failed, or stalled
 abbrev pub ReaderFails : List (List ℕ) → (before after : List BoxPicture) → Type 0
 ReaderFails words before after = OfQuery words (λ c q. (name : PartName)
-    × (FailsAtPart name part.Read c q before after ⊎ FailsAtPart name part.Stalled c q before after))
+    × (FailsAtPart name part.Read c q before after
+    ⊎ FailsAtPart name part.Stalled c q before after))
 
 -- over an honest rack such a command is answered, or memory ran out, unless a device failed
-abbrev pub SucceedsUnless : List (List ℕ) → (before : List BoxPicture) → (failed : Type 0) → (status : ℕ) → Type 0
+abbrev pub SucceedsUnless : List (List ℕ) → (before : List BoxPicture) → (failed : Type 0)
+    → (status : ℕ) → Type 0
 SucceedsUnless words before failed status = (files : Files) → IsHonest files before
     → OfCommand words (IsAnswerable files) → (failed → ⊥) → IsEither 0 7 status
 
 -- ---- all that is proved of a run
 
--- `ends` is the theorem, and the others follow from it. An answered run over lawful boxes wrote exactly
+-- `ends` is the theorem, and the others follow from it. An answered run over lawful boxes wrote
+-- exactly
 -- the text of an answer; any other end but a write fault wrote nothing.
-pub record IsRun (words : List (List ℕ)) (before after : List BoxPicture) (status : ℕ) (out₀ out : Option (List ℕ)) (write : Type 0) (err₀ err : Option (List ℕ)) (tell : Type 0) : Type 0 where
+pub record IsRun (words : List (List ℕ)) (before after : List BoxPicture) (status : ℕ)
+    (out₀ out : Option (List ℕ)) (write : Type 0) (err₀ err : Option (List ℕ))
+    (tell : Type 0) : Type 0 where
   pub ends : Ends words before after status out₀ out write err₀ err tell
   pub blank : All IsBlank after
   pub answered : status ≡ 0 → WritesAnswer words before out₀ out

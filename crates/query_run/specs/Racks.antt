@@ -109,7 +109,8 @@ abbrev pub pulled_by : Kind → List BoxPicture → ℕ
 pulled_by k [] = 0
 pulled_by k (p ∷ boxes) = cond (is_of k p) p.pulled 0 + pulled_by k boxes
 
--- The boxes of a kind pulled so many rows more, where a number is said, unless one has a full count.
+-- The boxes of a kind pulled so many rows more, where a number is said, unless one has a full
+-- count.
 abbrev pub PulledMore : Kind → (before after : List BoxPicture) → Option ℕ → Type 0
 PulledMore k before after rows =
     IfSome rows (λ n. (pulled_by k after ≡ pulled_by k before + n) ⊎ HasFullCount k after)

@@ -169,7 +169,8 @@ fn part_pieces(name: &PartName, failure: PartFailure) -> Line<'_>
 }
 
 fn named_part<'a>(front: &'static [u8], name: &'a PartName, back: &'static [u8]) -> Line<'a>
-    ensures { flat_map piece_bytes result ≡ front.now ++ part_words name.now ++ back.now ++ 10 ∷ [] }
+    ensures { flat_map piece_bytes result
+        ≡ front.now ++ part_words name.now ++ back.now ++ 10 ∷ [] }
 {
     [
         Piece::Text(front),

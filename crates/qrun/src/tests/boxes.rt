@@ -1,6 +1,6 @@
-// Boxes for the racks of worked runs. What is known of a new processor is known of its box where it is
-// handed to a function that asks for it. A function that hands out a box that it made itself, as those
-// below, may stand in tests alone.
+// Boxes for the racks of worked runs. What is known of a new processor is known of its box where it
+// is handed to a function that asks for it. A function that hands out a box that it made itself, as
+// those below, may stand in tests alone.
 ghost use Rattle.std.specs.Prelude.{◌≡◌, true, Option, OnOk, map};
 ghost use Rattle.query_model.specs.Database.{Files};
 ghost use Rattle.proc_api.specs.Clauses.{IsLawfulBlank, IsSourceKind};

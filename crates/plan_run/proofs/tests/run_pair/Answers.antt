@@ -41,7 +41,8 @@ is_graph = record {
 graph_of : (ranks : List ℕ) (wires : List Wire) → ranks ≡ 1 ∷ 2 ∷ [] → wires ≡ wire ∷ []
     → IsGraph ranks wires []
 graph_of ranks wires r w =
-    subst (λ l. IsGraph l wires []) (sym r) (subst (λ l. IsGraph (1 ∷ 2 ∷ []) l []) (sym w) is_graph)
+    subst (λ l. IsGraph l wires []) (sym r)
+    (subst (λ l. IsGraph (1 ∷ 2 ∷ []) l []) (sym w) is_graph)
 
 pub run_plan-requires-clause-graph : goal.run_plan-requires-clause-graph
 run_plan-requires-clause-graph g c =

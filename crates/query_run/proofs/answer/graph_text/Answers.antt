@@ -1,8 +1,5 @@
 use Rattle.std.proofs.Common.{◌++◌, ap₂, flat_map, ◌∙◌}
-use Rattle.chunk_data.specs.Values.{Table}
-use Rattle.proc_api.specs.Histories.{chunk_rows}
-use Rattle.query_model.specs.Texts.{rows_text}
-use Rattle.csv_rows.specs.Lines.{heading}
+use Rattle.query_run.proofs.Prelude.{Table, chunk_rows, rows_text, heading}
 use Rattle.query_run.proofs.Composing.{headed}
 use Rattle.query_run.proofs.answer.graph_text.Goals as goal
 

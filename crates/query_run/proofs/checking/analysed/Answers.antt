@@ -1,7 +1,5 @@
 use Rattle.std.proofs.Common.{true, ap, ◌∙◌, map}
-use Rattle.std.proofs.lemmas.Bool.{both_ways}
-use Rattle.query_model.specs.declared.query.TableDecl.{TableDecl}
-use Rattle.sql_text.proofs.AnalysableQueries.{analysable_of_read}
+use Rattle.query_run.proofs.Prelude.{both_ways, TableDecl, analysable_of_read}
 use Rattle.query_run.proofs.Commands.{checked_command, listed_command}
 use Rattle.query_run.proofs.checking.analysed.Goals as goal
 
@@ -13,7 +11,8 @@ returns-then-uses_no_lists-clause-checked c =
     checked_command c.args.command.now c.args.query c.requires c.in-Ok.schemas
     (c.in-Ok.ensures ∙ ap (map (λ (t : TableDecl). t.schema)) c.as_slice.ensures)
     c.in-Ok-analyse.checked c.in-Ok-analyse.ensures.accepted c.in-Ok-analyse.ensures.checked
-    c.in-Ok-analyse.ensures.typed c.as_slice-in-Ok-analyse.result.now c.as_slice-in-Ok-analyse.ensures
+    c.in-Ok-analyse.ensures.typed c.as_slice-in-Ok-analyse.result.now
+    c.as_slice-in-Ok-analyse.ensures
     (c.uses_no_lists.ensures.0 c.if-uses_no_lists.true)
 
 pub returns-in-Ok-analyse-clause-refused : goal.returns-in-Ok-analyse-clause-refused
@@ -21,5 +20,6 @@ returns-in-Ok-analyse-clause-refused c =
     listed_command c.args.command.now c.args.query c.requires c.in-Ok.schemas
     (c.in-Ok.ensures ∙ ap (map (λ (t : TableDecl). t.schema)) c.as_slice.ensures)
     c.in-Ok-analyse.checked c.in-Ok-analyse.ensures.accepted c.in-Ok-analyse.ensures.checked
-    c.in-Ok-analyse.ensures.typed c.as_slice-in-Ok-analyse.result.now c.as_slice-in-Ok-analyse.ensures
+    c.in-Ok-analyse.ensures.typed c.as_slice-in-Ok-analyse.result.now
+    c.as_slice-in-Ok-analyse.ensures
     (λ none. both_ways _ c.if-uses_no_lists.false (c.uses_no_lists.ensures.1 none))

@@ -1,6 +1,7 @@
 use Rattle.std.proofs.Common.{◌≡◌, take, map}
-use Rattle.query_model.specs.declared.query.TableDecl.{TableDecl}
+use Rattle.query_run.proofs.Prelude.{TableDecl}
 use Rattle.query_run.proofs.checking.schemas_of.Given as goal
 
 abbrev pub invariant-loop-table : goal.invariant-loop-table
-invariant-loop-table l = l.schemas.items ≡ map (λ (t : TableDecl). t.schema) (take l.table-index l.tables)
+invariant-loop-table l =
+    l.schemas.items ≡ map (λ (t : TableDecl). t.schema) (take l.table-index l.tables)

@@ -1,5 +1,5 @@
 use Rattle.std.proofs.Common.{◌≡◌, map, take}
-use Rattle.select_planner.specs.declared.nodes.PlanNode.{PlanNode}
+use Rattle.query_run.proofs.Prelude.{PlanNode}
 use Rattle.query_run.proofs.planning.ranks_of.Given as goal
 
 abbrev pub invariant-loop-node : goal.invariant-loop-node

@@ -1,6 +1,5 @@
-use Rattle.std.proofs.Common.{◌≤◌, take}
-use Rattle.std.specs.List.{flat_map}
-use Rattle.outside_io.specs.Growth.{GrewBy}
+use Rattle.std.proofs.Common.{◌≤◌, take, flat_map}
+use Rattle.query_run.proofs.Prelude.{GrewBy}
 use Rattle.query_run.specs.Endings.{piece_bytes}
 use Rattle.query_run.proofs.telling.write_pieces.Given as goal
 
