@@ -1,9 +1,11 @@
+pub mod Words
+pub mod Settled
 pub mod Ports
 pub mod Sides
-pub mod Seeing
 pub mod Nodes
+pub mod Seeing
+pub mod Carrying
 pub mod Turns
 pub mod Acting
 pub mod Starting
-pub mod Settled
 pub mod Ends

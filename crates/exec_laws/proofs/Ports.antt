@@ -1,237 +1,129 @@
--- What calls and their actions leave at one port.
-use Rattle.std.proofs.Common.{◌≡◌, ℕ, ◌==◌, not, ◌&&◌, ◌||◌, Bool, true, false, cond, Option, Some, None, List, [], ◌∷◌, refl, ap, ◌∙◌, inl, inr, ◌⊎◌}
-use Rattle.std.proofs.lemmas.Bool.{both_ways, or_parts}
-use Rattle.chunk_data.specs.Values.{Table}
-use Rattle.port_word.specs.Names.{Picture, input_at, output_at, in_count, out_count, with_input, with_output, with_actions, holds_data, can_push, input_after, chunk_after, output_after, InputAllows, OutputAllows, emptied, closed, with_needed, PortCall, pull_call, need_call, close_call, push_call, finish_call, after_call, after_calls, ChangedByCalls}
-use Rattle.port_word.specs.declared.flags.Flags.{Flags}
-use Rattle.port_word.specs.declared.flags.Action.{Action}
-use Rattle.port_word.specs.declared.flags.Action.TheVariants.{Want, Unwant, Pull, Close, Push, Finish}
-use Rattle.port_word.specs.declared.flags.Port.TheVariants.{Input, Output}
-use Rattle.port_word.proofs.Laws.{in_count-with_input, out_count-with_input, in_count-with_output, out_count-with_output}
-use Rattle.proc_api.specs.Names.{pushes_to, ProducerKnows}
-use Rattle.exec_laws.specs.Moves.{put_after, is_told}
+-- What actions leave at one port.
+use Rattle.exec_laws.proofs.Words.{Action, Bool, ChangedByCalls, Close, EachAction, Edge, Finish, Flags, Input, InputAllows, InputPort, IsDone, List, None, Option, Output, OutputAllows, Picture, Port, PortCall, Pull, Push, Table, Unwant, Want, [], action_port, after_action, after_call, after_calls, ap, arith, both_ways, can_push, chunk_after, chunks_of, close_call, cond, cond-same, cond_both, eq-eqb, eqb-true, false, finish_call, holds_data, in_count, in_count-with_actions, in_count-with_input, in_count-with_output, input_after, input_step, inr, is_some, ne_eqb, need_call, not, out_count, out_count-with_actions, out_count-with_input, out_count-with_output, output_allows, output_step, pull_call, push_call, pushes_to, refl, rules, sym, taken_out, true, with_actions, with_input, with_output, ℕ, ◌&&◌, ◌++◌, ◌==◌, ◌||◌, ◌∙◌, ◌∷◌, ◌≡◌, ◌≤◌, ◌⊎◌}
 
--- ---- pulls among actions
+-- ---- an input and its chunk, while its node acts
 
--- the chunk at an input was pulled, or it and the data stayed
-pub record IsPulledOut (f g : Flags) (d : Option Table) : Type 0 where
-  pub was_there : holds_data f ≡ true
-  pub chunk : d ≡ None
-  pub data_gone : g.has_data ≡ false
+-- The flags f and the chunk c at an input that had chunk d, where x lies in the edge: there is data exactly where a
+-- chunk lies, in one of the two places, and at an open input in this one. The chunk is the one it had, or is pulled.
+pub record Lies (d x : Option Table) (f : Flags) (c : Option Table) : Type 0 where
+  pub there : f.has_data ≡ (is_some c || is_some x)
+  pub one : is_some c ≡ true → x ≡ None
+  pub held : holds_data f ≡ true → is_some c ≡ true
+  pub left : (c ≡ d) ⊎ (c ≡ None)
 
-pub record IsLeftThere (f g : Flags) (c d : Option Table) : Type 0 where
-  pub chunk : d ≡ c
-  pub data_same : g.has_data ≡ f.has_data
+module _ (d x : Option Table) where
+  lies-wanted : (b v : Bool) (f : Flags) (c : Option Table) → Lies d x f c
+      → Lies d x (cond b (record f { needed = v }) f) c
+  lies-wanted b v f c h1 = search rules
 
-abbrev pub PullCase : Flags → Flags → Option Table → Option Table → Type 0
-PullCase f g c d = IsPulledOut f g d ⊎ IsLeftThere f g c d
+  lies-closed : (b : Bool) (f : Flags) (c : Option Table) → Lies d x f c
+      → Lies d x (cond b (record f { fin_in = true }) f) c
+  lies-closed b f c h1 = search rules
 
-want-there : (b n : Bool) (f g : Flags) (c d : Option Table)
-    → PullCase (cond b (record f { needed = n }) f) g c d → PullCase f g c d
-want-there true n f g c d (inl p) =
-    inl record { was_there = p.was_there; chunk = p.chunk; data_gone = p.data_gone }
-want-there true n f g c d (inr p) = inr record { chunk = p.chunk; data_same = p.data_same }
-want-there false n f g c d p = p
+  lies-pulled : (b : Bool) (f : Flags) (c : Option Table) → (not b || holds_data f) ≡ true → Lies d x f c
+      → Lies d x (cond b (record f { has_data = false }) f) (cond b None c)
+  lies-pulled b f c h1 h2 = search rules
 
-both-false : (b : Bool) → (b && false) ≡ true → ⊥
-both-false true e = cc
-both-false false e = cc
+  pub lies-after : (i : ℕ) (xs : List Action) (f : Flags) (c : Option Table) → InputAllows i xs f → Lies d x f c
+      → Lies d x (input_after i xs f) (chunk_after i xs c)
+  lies-after i [] f c allows h = h
+  lies-after i (Want j ∷ xs) f c allows h = lies-after i xs _ c allows.1 (lies-wanted (i == j) true f c h)
+  lies-after i (Unwant j ∷ xs) f c allows h = lies-after i xs _ c allows.1 (lies-wanted (i == j) false f c h)
+  lies-after i (Pull j ∷ xs) f c allows h = lies-after i xs _ _ allows.1 (lies-pulled (i == j) f c allows.0 h)
+  lies-after i (Close j ∷ xs) f c allows h = lies-after i xs _ c allows.1 (lies-closed (i == j) f c h)
+  lies-after i (Push j chunk ∷ xs) f c allows h = lies-after i xs f c allows.1 h
+  lies-after i (Finish j ∷ xs) f c allows h = lies-after i xs f c allows.1 h
 
-close-there : (b : Bool) (f g : Flags) (c d : Option Table)
-    → PullCase (cond b (record f { fin_in = true }) f) g c d → PullCase f g c d
-close-there true f g c d (inl p) = absurd (both-false f.has_data p.was_there)
-close-there true f g c d (inr p) = inr record { chunk = p.chunk; data_same = p.data_same }
-close-there false f g c d p = p
+-- what was taken out, and what is left
+pub taken-left : (c d : Option Table) → (d ≡ c) ⊎ (d ≡ None) → chunks_of c ≡ taken_out c d ++ chunks_of d
+taken-left c d h1 = grind arith
 
-pull-there : (b : Bool) (i : ℕ) (xs : List Action) (f : Flags) (c : Option Table)
-    → (not b || holds_data f) ≡ true
-    → ((h : Flags) (d : Option Table) → InputAllows i xs h
-    → PullCase h (input_after i xs h) d (chunk_after i xs d))
-    → InputAllows i xs (cond b (record f { has_data = false }) f)
-    → PullCase f (input_after i xs (cond b (record f { has_data = false }) f)) c
-    (chunk_after i xs (cond b None c))
-pull-there true i xs f c may rest allows = go (rest (record f { has_data = false }) None allows)
-  where
-    go : PullCase (record f { has_data = false }) (input_after i xs (record f { has_data = false })) None
-        (chunk_after i xs None)
-        → PullCase f (input_after i xs (record f { has_data = false })) c (chunk_after i xs None)
-    go (inl p) = let e : false ≡ true = p.was_there in absurd (cc)
-    go (inr p) = inl record { was_there = may; chunk = p.chunk; data_gone = p.data_same }
-pull-there false i xs f c may rest allows = rest f c allows
-
--- what allowed actions leave of the data at an input, and of its chunk
-pub pull-case : (i : ℕ) (xs : List Action) (f : Flags) (c : Option Table) → InputAllows i xs f
-    → PullCase f (input_after i xs f) c (chunk_after i xs c)
-pull-case i [] f c allows = inr record { chunk = refl; data_same = refl }
-pull-case i (Want j ∷ xs) f c allows = want-there (i == j) true f _ c _ (pull-case i xs _ c allows.1)
-pull-case i (Unwant j ∷ xs) f c allows = want-there (i == j) false f _ c _ (pull-case i xs _ c allows.1)
-pull-case i (Pull j ∷ xs) f c allows =
-    pull-there (i == j) i xs f c allows.0 (λ h d a. pull-case i xs h d a) allows.1
-pull-case i (Close j ∷ xs) f c allows = close-there (i == j) f _ c _ (pull-case i xs _ c allows.1)
-pull-case i (Push j chunk ∷ xs) f c allows = pull-case i xs f c allows.1
-pull-case i (Finish j ∷ xs) f c allows = pull-case i xs f c allows.1
-
--- ---- pushes among actions
+-- ---- pushes
 
 can-push : (f : Flags) → can_push f ≡ true → (f.has_data ≡ false) × (f.fin_out ≡ false)
-can-push f e = bits f.needed f.has_data f.fin_out e
-  where
-    bits : (n d o : Bool) → (n && (not d && not o)) ≡ true → (d ≡ false) × (o ≡ false)
-    bits true true o e = absurd (cc)
-    bits true false true e = absurd (cc)
-    bits true false false e = (refl, refl)
-    bits false d o e = absurd (cc)
+can-push f h1 = grind arith
 
--- One chunk was pushed to an output that was empty and not finished, or none was. The flags go from f to g, and
--- what lies there from c to d.
-pub record Puts (pushes : List Table) (f g : Flags) (d : Option Table) : Type 0 where
-  pub chunk : Table
-  pub one : pushes ≡ chunk ∷ []
-  pub empty : f.has_data ≡ false
-  pub unfinished : f.fin_out ≡ false
-  pub there : g.has_data ≡ true
-  pub lies : d ≡ Some chunk
-
-pub record PutsNone (pushes : List Table) (f g : Flags) (c d : Option Table) : Type 0 where
-  pub none : pushes ≡ []
-  pub same : g.has_data ≡ f.has_data
-  pub lies : d ≡ c
-
-abbrev pub PutCase : List Table → Flags → Flags → Option Table → Option Table → Type 0
-PutCase pushes f g c d = Puts pushes f g d ⊎ PutsNone pushes f g c d
-
-finish-there : (b : Bool) (ps : List Table) (f g : Flags) (c d : Option Table)
-    → PutCase ps (cond b (record f { fin_out = true }) f) g c d → PutCase ps f g c d
-finish-there true ps f g c d (inl p) = let e : true ≡ false = p.unfinished in absurd (cc)
-finish-there true ps f g c d (inr p) = inr record { none = p.none; same = p.same; lies = p.lies }
-finish-there false ps f g c d p = p
-
-push-there : (b : Bool) (o : ℕ) (chunk : Table) (xs : List Action) (f : Flags) (c : Option Table)
-    → (not b || can_push f) ≡ true
-    → ((h : Flags) (d : Option Table) → OutputAllows o xs h
-    → PutCase (pushes_to o xs) h (output_after o xs h) d (put_after o xs d))
-    → OutputAllows o xs (cond b (record f { has_data = true }) f)
-    → PutCase (cond b (chunk ∷ pushes_to o xs) (pushes_to o xs)) f
-    (output_after o xs (cond b (record f { has_data = true }) f)) c
-    (put_after o xs (cond b (Some chunk) c))
-push-there true o chunk xs f c may rest allows =
-    go (rest (record f { has_data = true }) (Some chunk) allows)
-  where
-    go : PutCase (pushes_to o xs) (record f { has_data = true })
-        (output_after o xs (record f { has_data = true })) (Some chunk) (put_after o xs (Some chunk))
-        → PutCase (chunk ∷ pushes_to o xs) f (output_after o xs (record f { has_data = true })) c
-        (put_after o xs (Some chunk))
-    go (inl p) = let e : true ≡ false = p.empty in absurd (cc)
-    go (inr p) = inl record {
-      chunk = chunk;
-      one = ap (λ ps. chunk ∷ ps) p.none;
-      empty = (can-push f may).0;
-      unfinished = (can-push f may).1;
-      there = p.same;
-      lies = p.lies;
-    }
-push-there false o chunk xs f c may rest allows = rest f c allows
-
--- what allowed actions leave at an output
-pub put-case : (o : ℕ) (xs : List Action) (f : Flags) (c : Option Table) → OutputAllows o xs f
-    → PutCase (pushes_to o xs) f (output_after o xs f) c (put_after o xs c)
+-- nothing is pushed to an output that has data
+pub full-unpushed : (o : ℕ) (xs : List Action) (f : Flags) → OutputAllows o xs f → f.has_data ≡ true
+    → pushes_to o xs ≡ []
 unfolding pushes_to
-put-case o [] f c allows = inr record { none = refl; same = refl; lies = refl }
-put-case o (Want j ∷ xs) f c allows = put-case o xs f c allows.1
-put-case o (Unwant j ∷ xs) f c allows = put-case o xs f c allows.1
-put-case o (Pull j ∷ xs) f c allows = put-case o xs f c allows.1
-put-case o (Close j ∷ xs) f c allows = put-case o xs f c allows.1
-put-case o (Push j chunk ∷ xs) f c allows =
-    push-there (o == j) o chunk xs f c allows.0 (λ h d a. put-case o xs h d a) allows.1
-put-case o (Finish j ∷ xs) f c allows = finish-there (o == j) _ f _ c _ (put-case o xs _ c allows.1)
+full-unpushed o [] f allows full = refl
+full-unpushed o (Push j chunk ∷ xs) f allows full =
+    go (o == j) allows.0 allows.1 (λ rest. full-unpushed o xs f rest full)
+  where
+    go : (b : Bool) → (not b || can_push f) ≡ true → OutputAllows o xs (cond b (record f { has_data = true }) f)
+        → (OutputAllows o xs f → pushes_to o xs ≡ []) → cond b (chunk ∷ pushes_to o xs) (pushes_to o xs) ≡ []
+    go true may rest later = absurd (both_ways f.has_data (can-push f may).0 full)
+    go false may rest later = later rest
+full-unpushed o (Finish j ∷ xs) f allows full = full-unpushed o xs _ allows.1
+    (cond-same (λ (g : Flags). g.has_data) (o == j) (record f { fin_out = true }) f refl ∙ full)
+full-unpushed o (Want j ∷ xs) f allows full = full-unpushed o xs f allows.1 full
+full-unpushed o (Unwant j ∷ xs) f allows full = full-unpushed o xs f allows.1 full
+full-unpushed o (Pull j ∷ xs) f allows full = full-unpushed o xs f allows.1 full
+full-unpushed o (Close j ∷ xs) f allows full = full-unpushed o xs f allows.1 full
 
--- ---- what isn't told
+-- an action pushes to none but the outputs that there are
+pub past-unpushed : (p : Picture) (o : ℕ) → out_count p ≤ o → (xs : List Action) → EachAction (IsDone p) xs
+    → pushes_to o xs ≡ []
+unfolding pushes_to
+past-unpushed p o le [] h = refl
+past-unpushed p o le (Push j chunk ∷ xs) h =
+    cond_both (o == j) (chunk ∷ pushes_to o xs) (pushes_to o xs) (λ l. l ≡ [])
+    (λ same. let e = eqb-true o j same in let lt = h.0.0 in absurd (omega (arith, e, lt, le)))
+    (λ other. past-unpushed p o le xs h.1)
+past-unpushed p o le (Want j ∷ xs) h = past-unpushed p o le xs h.1
+past-unpushed p o le (Unwant j ∷ xs) h = past-unpushed p o le xs h.1
+past-unpushed p o le (Pull j ∷ xs) h = past-unpushed p o le xs h.1
+past-unpushed p o le (Close j ∷ xs) h = past-unpushed p o le xs h.1
+past-unpushed p o le (Finish j ∷ xs) h = past-unpushed p o le xs h.1
 
-cond-off : (b : Bool) (f g : Flags) → b ≡ false → cond b g f ≡ f
-cond-off true f g e = absurd (cc)
-cond-off false f g e = refl
+-- ---- one action, at its port and at others
 
--- an output none of whose actions is told is as it was
-pub untold-same : (o : ℕ) (xs : List Action) (f : Flags) → is_told (Output o) xs ≡ false
-    → output_after o xs f ≡ f
-untold-same o [] f e = refl
-untold-same o (Want j ∷ xs) f e = untold-same o xs f e
-untold-same o (Unwant j ∷ xs) f e = untold-same o xs f e
-untold-same o (Pull j ∷ xs) f e = untold-same o xs f e
-untold-same o (Close j ∷ xs) f e = untold-same o xs f e
-untold-same o (Push j chunk ∷ xs) f e =
-    let b = or_parts (o == j) (is_told (Output o) xs) e in
-    ap (λ g. output_after o xs g) (cond-off (o == j) f (record f { has_data = true }) b.0)
-    ∙ untold-same o xs f b.1
-untold-same o (Finish j ∷ xs) f e =
-    let b = or_parts (o == j) (is_told (Output o) xs) e in
-    ap (λ g. output_after o xs g) (cond-off (o == j) f (record f { fin_out = true }) b.0)
-    ∙ untold-same o xs f b.1
+abbrev pub port_step : Port → Action → Flags → Flags
+port_step (Input i) = input_step i
+port_step (Output o) = output_step o
 
-unwanted : (b : Bool) (f g : Flags) → ProducerKnows f g
-    → ProducerKnows f (cond b (record g { needed = false }) g)
-unwanted true f g k = record {
-  needed = λ t. absurd (both_ways false refl t);
-  has_data = k.has_data;
-  fin_out = k.fin_out;
-  fin_in = k.fin_in;
-}
-unwanted false f g k = k
+-- what an output allows
+abbrev pub port_allows : Port → Action → Flags → Bool
+port_allows (Input i) a f = true
+port_allows (Output o) a f = output_allows o a f
 
-told-later : (i : ℕ) (b : Bool) (f g h : Flags) (xs : List Action) → (b || is_told (Input i) xs) ≡ false
-    → ((z : Flags) → is_told (Input i) xs ≡ false → ProducerKnows f z → ProducerKnows f (input_after i xs z))
-    → ProducerKnows f g → ProducerKnows f (input_after i xs (cond b h g))
-told-later i true f g h xs e rest k = absurd (cc)
-told-later i false f g h xs e rest k = rest g e k
+pub step-here : (a : Action) (e : Edge) → (after_action a e).flags ≡ port_step (action_port a) a e.flags
+step-here a e = grind arith
 
--- a producer that isn't told of an input's actions knows as much as before
-pub untold-known : (i : ℕ) (xs : List Action) (f g : Flags) → is_told (Input i) xs ≡ false
-    → ProducerKnows f g → ProducerKnows f (input_after i xs g)
-untold-known i [] f g e k = k
-untold-known i (Want j ∷ xs) f g e k =
-    told-later i (i == j) f g (record g { needed = true }) xs e (λ z a b. untold-known i xs f z a b) k
-untold-known i (Unwant j ∷ xs) f g e k = untold-known i xs f _ e (unwanted (i == j) f g k)
-untold-known i (Pull j ∷ xs) f g e k =
-    told-later i (i == j) f g (record g { has_data = false }) xs e (λ z a b. untold-known i xs f z a b) k
-untold-known i (Close j ∷ xs) f g e k =
-    told-later i (i == j) f g (record g { fin_in = true }) xs e (λ z a b. untold-known i xs f z a b) k
-untold-known i (Push j chunk ∷ xs) f g e k = untold-known i xs f g e k
-untold-known i (Finish j ∷ xs) f g e k = untold-known i xs f g e k
+pub step-away : (p : Port) (a : Action) (f : Flags) → (p ≡ action_port a → ⊥) → port_step p a f ≡ f
+step-away p a f h1 = grind arith
+
+pub push-away : (o : ℕ) (a : Action) (xs : List Action) → (Output o ≡ action_port a → ⊥)
+    → pushes_to o (a ∷ xs) ≡ pushes_to o xs
+unfolding pushes_to
+push-away o a xs h1 = grind arith
+
+-- what is pushed here lies in the edge, which was empty
+pub push-here : (a : Action) (xs : List Action) (o : ℕ) (e : Edge) → Output o ≡ action_port a
+    → (e.flags.has_data ≡ false → e.chunk ≡ None) → port_allows (action_port a) a e.flags ≡ true
+    → chunks_of e.chunk ++ pushes_to o (a ∷ xs) ≡ chunks_of (after_action a e).chunk ++ pushes_to o xs
+unfolding pushes_to
+push-here a xs o e h1 h2 h3 = search rules
 
 -- ---- calls keep the number of ports
 
-cond-both : {A : Type 0} (h : Picture → A) (b : Bool) (x y : Picture) (z : A) → h x ≡ z → h y ≡ z → h (cond b x y) ≡ z
-cond-both h true x y z e f = e
-cond-both h false x y z e f = f
+module _ (h : Picture → ℕ) (ins : (p : Picture) (i : ℕ) (x : InputPort) → h (with_input p i x) ≡ h p)
+    (outs : (p : Picture) (o : ℕ) (f : Flags) → h (with_output p o f) ≡ h p)
+    (acts : (p : Picture) (xs : List Action) → h (with_actions p xs) ≡ h p) where
+  call-keeps : (c : PortCall) (p : Picture) → h (after_call c p) ≡ h p
+  call-keeps c p = search rules
 
-call-inputs : (c : PortCall) (p : Picture) → in_count (after_call c p) ≡ in_count p
-unfolding with_actions in_count with_input with_output
-call-inputs (pull_call i) p = cond-both in_count (holds_data (input_at p i).flags) _ _ _ (in_count-with_input p i (emptied (input_at p i))) refl
-call-inputs (need_call i true) p = cond-both in_count ((input_at p i).flags.fin_in || (input_at p i).flags.needed) _ _ _ refl (in_count-with_input p i (with_needed (input_at p i) true))
-call-inputs (need_call i false) p = cond-both in_count ((input_at p i).flags.fin_in || not (input_at p i).flags.needed) _ _ _ refl (in_count-with_input p i (with_needed (input_at p i) false))
-call-inputs (close_call i) p = cond-both in_count (input_at p i).flags.fin_in _ _ _ refl (in_count-with_input p i (closed (input_at p i)))
-call-inputs (push_call o chunk) p = cond-both in_count (can_push (output_at p o)) _ _ _ (in_count-with_output p o (record (output_at p o) { has_data = true })) refl
-call-inputs (finish_call o) p = cond-both in_count ((output_at p o).fin_out || (output_at p o).fin_in) _ _ _ refl (in_count-with_output p o (record (output_at p o) { fin_out = true }))
-
-call-outputs : (c : PortCall) (p : Picture) → out_count (after_call c p) ≡ out_count p
-unfolding with_actions out_count with_input with_output
-call-outputs (pull_call i) p = cond-both out_count (holds_data (input_at p i).flags) _ _ _ (out_count-with_input p i (emptied (input_at p i))) refl
-call-outputs (need_call i true) p = cond-both out_count ((input_at p i).flags.fin_in || (input_at p i).flags.needed) _ _ _ refl (out_count-with_input p i (with_needed (input_at p i) true))
-call-outputs (need_call i false) p = cond-both out_count ((input_at p i).flags.fin_in || not (input_at p i).flags.needed) _ _ _ refl (out_count-with_input p i (with_needed (input_at p i) false))
-call-outputs (close_call i) p = cond-both out_count (input_at p i).flags.fin_in _ _ _ refl (out_count-with_input p i (closed (input_at p i)))
-call-outputs (push_call o chunk) p = cond-both out_count (can_push (output_at p o)) _ _ _ (out_count-with_output p o (record (output_at p o) { has_data = true })) refl
-call-outputs (finish_call o) p = cond-both out_count ((output_at p o).fin_out || (output_at p o).fin_in) _ _ _ refl (out_count-with_output p o (record (output_at p o) { fin_out = true }))
-
-calls-inputs : (cs : List PortCall) (p : Picture) → in_count (after_calls cs p) ≡ in_count p
-calls-inputs [] p = refl
-calls-inputs (c ∷ cs) p = calls-inputs cs (after_call c p) ∙ call-inputs c p
-
-calls-outputs : (cs : List PortCall) (p : Picture) → out_count (after_calls cs p) ≡ out_count p
-calls-outputs [] p = refl
-calls-outputs (c ∷ cs) p = calls-outputs cs (after_call c p) ∙ call-outputs c p
+  calls-keep : (cs : List PortCall) (p : Picture) → h (after_calls cs p) ≡ h p
+  calls-keep [] p = refl
+  calls-keep (c ∷ cs) p = calls-keep cs (after_call c p) ∙ call-keeps c p
 
 pub changed-inputs : (v w : Picture) → ChangedByCalls v w → in_count w ≡ in_count v
-changed-inputs v w c = ap in_count c.gives ∙ calls-inputs c.calls v
+changed-inputs v w c =
+    ap in_count c.gives
+    ∙ calls-keep in_count in_count-with_input in_count-with_output in_count-with_actions c.calls v
 
 pub changed-outputs : (v w : Picture) → ChangedByCalls v w → out_count w ≡ out_count v
-changed-outputs v w c = ap out_count c.gives ∙ calls-outputs c.calls v
+changed-outputs v w c =
+    ap out_count c.gives
+    ∙ calls-keep out_count out_count-with_input out_count-with_output out_count-with_actions c.calls v

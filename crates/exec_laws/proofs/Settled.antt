@@ -1,12 +1,5 @@
 -- Pictures of a graph in which nothing is due: where each node that isn't over rests, every node is over.
-use Rattle.std.proofs.Common.{◌≡◌, ℕ, ◌+◌, ◌<◌, ◌≤◌, not, ◌&&◌, ◌||◌, Bool, true, false, Option, Some, None, List, length, zero, suc, refl, sym, ap, subst, arith, ◌∙◌, get_or, inl, inr}
-use Rattle.std.proofs.lemmas.Bool.{cases_eq, cases_lt}
-use Rattle.std.proofs.Math.ListN.{get_or-eq_default}
-use Rattle.port_word.specs.Names.{Picture, input_at, output_at, in_count, out_count, over_flags, is_in_finished, is_out_finished, WaitsForData, WaitsForRoom}
-use Rattle.port_word.specs.declared.flags.Flags.{Flags}
-use Rattle.port_word.specs.declared.flags.Wire.{Wire}
-use Rattle.proc_api.specs.Settled.{RestingNode, Rests, ProducerKnows, IsSettledWire, wire_at, HasInputWire, HasOutputWire}
-use Rattle.proc_api.specs.declared.status.Status.{Status}
+use Rattle.exec_laws.proofs.Words.{Bool, Flags, HasInputWire, HasOutputWire, IsSettledWire, List, None, Option, Picture, ProducerKnows, RestingNode, Rests, Some, Status, WaitsForData, WaitsForRoom, Wire, ap, arith, cases_eq, cases_lt, false, get_or, get_or-eq_default, in_count, inl, input_at, inr, is_in_finished, is_out_finished, length, not, out_count, output_at, over_flags, refl, rules, subst, suc, sym, true, wire_at, zero, ℕ, ◌&&◌, ◌+◌, ◌<◌, ◌||◌, ◌∙◌, ◌≡◌, ◌≤◌}
 use Rattle.proc_api.specs.declared.status.Status.TheVariants as status
 
 -- Nothing is due among the first nodes: each that isn't over rests, each of its ports has a wire, and it knows the
@@ -24,39 +17,24 @@ pub record IsSettled (count : ℕ) (nodes : ℕ → RestingNode) (wires : List W
       → IsSettledWire (nodes (wire_at wires e).from) (nodes (wire_at wires e).to) (wire_at wires e) (ports e)
 
 true-unless : (b : Bool) → (b ≡ false → ⊥) → b ≡ true
-true-unless true h = refl
-true-unless false h = absurd (h refl)
+true-unless b h1 = grind arith
 
 clash : (b : Bool) → b ≡ true → b ≡ false → ⊥
-clash b t f = cc
+clash b h1 h2 = grind arith
 
 false-unless : (b c : Bool) → (b ≡ true → c ≡ true) → c ≡ false → b ≡ false
-false-unless true c h f = absurd (clash c (h refl) f)
-false-unless false c h f = refl
-
-idle-bits : (d o i : Bool) → d ≡ false → (i || (o && not d)) ≡ false → (o || i) ≡ false
-idle-bits true o i d e = absurd (cc)
-idle-bits false true true d e = absurd (cc)
-idle-bits false true false d e = absurd (cc)
-idle-bits false false true d e = absurd (cc)
-idle-bits false false false d e = refl
+false-unless b c h1 h2 = grind arith
 
 -- an empty input that isn't finished has no finished flag
 idle-unfinished : (f : Flags) → f.has_data ≡ false → is_in_finished f ≡ false → is_out_finished f ≡ false
-idle-unfinished f d e = idle-bits f.has_data f.fin_out f.fin_in d e
+idle-unfinished f h1 h2 = grind arith
 
 finished-seen : (view port : Flags) → ProducerKnows view port → is_out_finished view ≡ is_out_finished port
-finished-seen view port k = ap (λ b. b || view.fin_in) k.fin_out ∙ ap (λ b. port.fin_out || b) k.fin_in
+finished-seen view port h1 = grind arith
 
 -- a node that rests waits for data or for room
 rests-case : (last : Option Status) (view : Picture) → Rests last view → (WaitsForData view → ⊥) → (WaitsForRoom view → ⊥) → ⊥
-rests-case (Some status.NeedData) view r input room = input r
-rests-case (Some status.PortFull) view r input room = room r
-rests-case (Some status.Ready) view r input room = r
-rests-case (Some status.Async) view r input room = r
-rests-case (Some status.ExpandPipeline) view r input room = r
-rests-case (Some status.Finished) view r input room = r
-rests-case None view r input room = room r
+rests-case last view h1 h2 h3 = search rules
 
 -- a node's rank is at most the sum of all ranks
 abbrev rank_sum : (ℕ → RestingNode) → ℕ → ℕ
@@ -77,15 +55,10 @@ out-in-range p o h = elim (cases_lt o (length p.outputs)) [ inl lt ↦ lt | inr 
 
 -- what an end of a wire sees of the wire's port, where it isn't over
 consumer-sees : (nodes : ℕ → RestingNode) (from : RestingNode) (n i : ℕ) (w : Wire) (port : Flags) → IsSettledWire from (nodes w.to) w port → w.to ≡ n → w.input ≡ i → (nodes n).is_over ≡ false → (input_at (nodes n).view i).flags ≡ port
-consumer-sees nodes from n i w port s to input over =
-    let know : (input_at (nodes w.to).view w.input).flags ≡ port = s.consumer (ap (λ m. (nodes m).is_over) to ∙ over) in
-    cc
+consumer-sees nodes from n i w port h1 h2 h3 h4 = search rules
 
 producer-sees : (nodes : ℕ → RestingNode) (to : RestingNode) (n o : ℕ) (w : Wire) (port : Flags) → IsSettledWire (nodes w.from) to w port → w.from ≡ n → w.out ≡ o → (nodes n).is_over ≡ false → ProducerKnows (output_at (nodes n).view o) port
-producer-sees nodes to n o w port s from out over =
-    let know : ProducerKnows (output_at (nodes w.from).view w.out) port = s.producer (ap (λ m. (nodes m).is_over) from ∙ over) in
-    let e : output_at (nodes w.from).view w.out ≡ output_at (nodes n).view o = cc in
-    subst (λ f. ProducerKnows f port) e know
+producer-sees nodes to n o w port h1 h2 h3 h4 = search rules
 
 -- where a port isn't finished, neither end of its wire is over
 from-open : (from to : RestingNode) (w : Wire) (port : Flags) → IsSettledWire from to w port → is_out_finished port ≡ false → from.is_over ≡ false

@@ -1,173 +1,74 @@
--- One edge, as the views of its two ends show it, when one of them sees it and acts on it.
-use Rattle.std.proofs.Common.{◌≡◌, ℕ, ◌++◌, not, ◌&&◌, ◌||◌, cond, Bool, true, false, Option, Some, None, is_some, List, [], ◌∷◌, refl, sym, ap, ◌∙◌, inl, inr}
-use Rattle.std.proofs.lemmas.Bool.{both_ways, or_left, or_right, or_parts, false_from_ne_true}
-use Rattle.std.proofs.lemmas.List.{append-nil}
-use Rattle.chunk_data.specs.Values.{Table}
-use Rattle.port_word.specs.Names.{holds_data, OutputAllows, output_after, seen_chunk}
-use Rattle.port_word.specs.declared.flags.Flags.{Flags}
-use Rattle.port_word.specs.declared.flags.Action.{Action}
-use Rattle.port_word.specs.declared.flags.Port.{Port}
-use Rattle.port_word.specs.declared.port_view.InputPort.{InputPort}
-use Rattle.port_word.specs.declared.flags.Port.TheVariants.{Input, Output}
-use Rattle.port_word.proofs.Steps.{input_after-fin_out, input_after-fin_in, output_after-fin_in, output_after-fin_out, output_after-needed}
-use Rattle.proc_api.specs.Names.{pushes_to, InputFollows, OutputFollows, ProducerKnows}
-use Rattle.exec_laws.specs.Names.{Edge, NodeMark, NodeState, InputHolds, OutputHolds, chunks_of, edge_after, is_told, put_after, told, told_state, unloaded}
+-- One end of an edge, as its node's view shows it, when an end sees the edge or acts on it.
+use Rattle.exec_laws.proofs.Words.{Action, Bool, CellPicture, Close, Edge, EndHolds, Finish, Flags, Input, InputFollows, InputHolds, InputPort, IsEnd, List, NodeMark, NodeState, None, Option, Output, OutputAllows, OutputHolds, Port, Pull, Push, Some, Table, Unwant, Want, Wire, [], action_port, after_action, arith, both_ways, chunks_of, cond, false, holds_data, input_after, input_at, is_some, is_told, or_right, output_after, output_at, refl, rules, seen_chunk, subst, sym, told, told_if, told_state, true, unloaded, with_actions, ℕ, ◌++◌, ◌||◌, ◌∙◌, ◌∷◌, ◌≡◌, ◌≢◌}
 use Rattle.exec_laws.specs.declared.edges.NodeState.TheVariants as node
-use Rattle.exec_laws.proofs.Ports.{PutCase, put-case, untold-known, untold-same}
+use Rattle.exec_laws.proofs.Ports.{port_allows, port_step}
 
 -- ---- flags follow themselves
 
-held-data : (f : Flags) → holds_data f ≡ true → f.has_data ≡ true
-held-data f e = bits f.has_data f.fin_in e
-  where
-    bits : (d i : Bool) → (d && not i) ≡ true → d ≡ true
-    bits true i e = refl
-    bits false i e = absurd (cc)
-
 pub input-itself : (f : Flags) → InputFollows f f
-input-itself f = record {
-  needed = refl;
-  fin_in = refl;
-  fin_out = λ e. e;
-  stays_empty = λ a b. b;
-  stays_full = held-data f;
-}
+input-itself f = search rules
 
-pub output-itself : (f : Flags) → OutputFollows f f
-output-itself f = record { fin_out = refl; fin_in = λ e. e }
+-- an output whose view shows the flags
+pub output-known : (s : NodeState) (f g : Flags) → f ≡ g → OutputHolds s f g
+output-known s f g h1 = search rules
 
-pub knows-itself : (f : Flags) → ProducerKnows f f
-knows-itself f = record { needed = λ e. e; has_data = refl; fin_out = refl; fin_in = refl }
+-- ---- an end without actions
 
--- ---- a chunk goes from the edge into the view
+-- an end of an edge, where none of its node's actions waits
+abbrev pub QuietEnd : Port → CellPicture → Edge → Type 0
+QuietEnd (Input i) c e = InputHolds c.mark.state (input_at c.view i) e.flags e.chunk
+QuietEnd (Output o) c e = OutputHolds c.mark.state (output_at c.view o) e.flags
 
-pub data-after : (fin d : Bool) (c x : Option Table) → d ≡ (is_some c || is_some x)
-    → d ≡ (is_some (seen_chunk (cond fin None x) c) || is_some (cond fin x None))
-data-after true d c x e = e
-data-after false d c None e = e
-data-after false d None (Some y) e = e
-data-after false d (Some z) (Some y) e = e
+pub end-quiet : (p : Port) (c : CellPicture) (e : Edge) → c.view.actions ≡ [] → EndHolds p c e → QuietEnd p c e
+end-quiet p c e h1 h2 = search rules
 
-pub one-after : (fin : Bool) (c x : Option Table) → (is_some c ≡ true → x ≡ None)
-    → is_some (seen_chunk (cond fin None x) c) ≡ true → cond fin x None ≡ None
-one-after true c x one = one
-one-after false c x one = λ e. refl
-
-pub chunks-after : (fin : Bool) (c x : Option Table) → (is_some c ≡ true → x ≡ None)
-    → chunks_of c ++ chunks_of x
-    ≡ chunks_of (seen_chunk (cond fin None x) c) ++ chunks_of (cond fin x None)
-chunks-after true c x one = refl
-chunks-after false c None one = refl
-chunks-after false None (Some y) one = refl
-chunks-after false (Some z) (Some y) one = let e : Some y ≡ None = one refl in absurd (cc)
+pub quiet-end : (p : Port) (c : CellPicture) (e : Edge) → c.view.actions ≡ [] → QuietEnd p c e → EndHolds p c e
+quiet-end p c e h1 h2 = search rules
 
 -- ---- a node that was told doesn't rest
 
-told-rouses : (s : NodeState) → told_state s ≡ node.Resting → ⊥
-told-rouses node.Resting e = cc
-told-rouses node.Due e = cc
-told-rouses (node.AtWork c) e = cc
-told-rouses node.Over e = cc
+told-rests : (b : Bool) (m : NodeMark) → (cond b (told m) m).state ≡ node.Resting → m.state ≡ node.Resting
+told-rests b m h1 = grind arith
 
--- where it rests it wasn't told, and rested before
-pub told-rests : (b : Bool) (m : NodeMark) → (cond b (told m) m).state ≡ node.Resting
-    → (b ≡ false) × (m.state ≡ node.Resting)
-told-rests true m e = absurd (told-rouses m.state e)
-told-rests false m e = (refl, e)
+-- an end holds on where its node's mark alone has changed, which rests only if it did
+pub end-marked : (p : Port) (c d : CellPicture) (e : Edge) → d.view ≡ c.view
+    → (d.mark.state ≡ node.Resting → c.mark.state ≡ node.Resting) → EndHolds p c e → EndHolds p d e
+end-marked p c d e h1 h2 h3 = search rules
 
--- What the peer's view shows of an edge holds on after actions at a port: if the peer rests now, it did before,
--- and the port wasn't told.
-pub record Untold (before after : NodeState) (p : Port) (xs : List Action) : Type 0 where
-  pub rested : after ≡ node.Resting → before ≡ node.Resting
-  pub quiet : after ≡ node.Resting → is_told p xs ≡ false
+pub end-told : (b : Bool) (p : Port) (c : CellPicture) (e : Edge) → EndHolds p c e → EndHolds p (told_if b c) e
+end-told b p c e h = end-marked p c (told_if b c) e refl (told-rests b c.mark) h
 
-pub untold : (b : Bool) (m : NodeMark) (p : Port) (xs : List Action) → (is_told p xs ≡ true → b ≡ true)
-    → Untold m.state (cond b (told m) m).state p xs
-untold b m p xs tells = record {
-  rested = λ e. (told-rests b m e).1;
-  quiet = λ e. false_from_ne_true (is_told p xs) (λ t. both_ways b (told-rests b m e).0 (tells t));
-}
+-- ---- the other end of an edge
 
--- the producer's view, where the consumer acted
-pub producer-after : (s s' : NodeState) (f : Flags) (i : ℕ) (xs : List Action) (e : Edge)
-    → Untold s s' (Input i) xs → OutputHolds s f e → OutputHolds s' f (edge_after (Input i) xs (unloaded e))
-producer-after s s' f i xs e u h = record {
-  follows = record {
-    fin_out = input_after-fin_out i xs e.flags ∙ h.follows.fin_out;
-    fin_in = λ t. input_after-fin_in i xs e.flags (h.follows.fin_in t);
-  };
-  known = λ r. untold-known i xs f e.flags (u.quiet r) (h.known (u.rested r));
-}
-
-is-none : (c : Option Table) → is_some c ≡ false → c ≡ None
-is-none None e = refl
-is-none (Some c) e = absurd (cc)
+-- where one end saw the edge
+pub peer-sees : (p q : Port) (w : Wire) (n m : ℕ) (c : CellPicture) (e : Edge) → m ≢ n → IsEnd w n p → IsEnd w m q
+    → EndHolds q c e → EndHolds q c (unloaded p e)
+peer-sees p q w n m c e h1 h2 h3 h4 = search rules
 
 -- nothing lies where there is no data
-nothing-lies : (d : Bool) (c x : Option Table) → d ≡ false → d ≡ (is_some c || is_some x)
-    → (c ≡ None) × (x ≡ None)
-nothing-lies d c x empty there =
-    let both = or_parts (is_some c) (is_some x) (sym there ∙ empty) in
-    (is-none c both.0, is-none x both.1)
+pub nothing-lies : (d : Bool) (c x : Option Table) → d ≡ (is_some c || is_some x) → d ≡ false
+    → (is_some c ≡ false) × (x ≡ None)
+nothing-lies d c x h1 h2 = grind arith
 
--- the consumer's view, where the producer acted
-module _ (s s' : NodeState) (c : InputPort) (o : ℕ) (xs : List Action) (e : Edge) where
-  abbrev Put : Type 0
-  Put = PutCase (pushes_to o xs) e.flags (output_after o xs e.flags) e.chunk (put_after o xs e.chunk)
+-- where one end carried out an action
+pub peer-acts : (a : Action) (q : Port) (w : Wire) (n m : ℕ) (c : CellPicture) (e : Edge) → m ≢ n
+    → IsEnd w n (action_port a) → IsEnd w m q → port_allows (action_port a) a e.flags ≡ true → QuietEnd q c e
+    → QuietEnd q (told_if (is_told a) c) (after_action a e)
+peer-acts a q w n m c e h1 h2 h3 h4 h5 = search rules
 
-  stays-empty : Put → InputHolds s c e → c.flags.fin_out ≡ true → c.flags.has_data ≡ false
-      → (output_after o xs e.flags).has_data ≡ false
-  stays-empty (inl p) h t d = absurd (both_ways e.flags.fin_out p.unfinished (h.follows.fin_out t))
-  stays-empty (inr p) h t d = p.same ∙ h.follows.stays_empty t d
+-- ---- the own end of an edge
 
-  stays-full : Put → InputHolds s c e → holds_data c.flags ≡ true → (output_after o xs e.flags).has_data ≡ true
-  stays-full (inl p) h t = p.there
-  stays-full (inr p) h t = p.same ∙ h.follows.stays_full t
+-- what lies in the edge, as the consumer's end knows it
+abbrev pub consumed : Port → Edge → Option Table
+consumed (Input i) e = e.chunk
+consumed (Output o) e = None
 
-  data-put : Put → InputHolds s c e
-      → (output_after o xs e.flags).has_data ≡ (is_some c.chunk || is_some (put_after o xs e.chunk))
-  data-put (inl p) h = p.there ∙ sym (or_right (is_some c.chunk) _ (ap is_some p.lies))
-  data-put (inr p) h = p.same ∙ h.data_there ∙ ap (λ k. is_some c.chunk || is_some k) (sym p.lies)
+pub consumed-here : (a : Action) (e : Edge) → consumed (action_port a) (after_action a e) ≡ consumed (action_port a) e
+consumed-here a e = grind arith
 
-  one-put : Put → InputHolds s c e → is_some c.chunk ≡ true → put_after o xs e.chunk ≡ None
-  one-put (inl p) h t =
-      absurd (both_ways e.flags.has_data p.empty (h.data_there ∙ or_left (is_some c.chunk) (is_some e.chunk) t))
-  one-put (inr p) h t = p.lies ∙ h.one_chunk t
-
-  pub consumer-after : OutputAllows o xs e.flags → Untold s s' (Output o) xs → InputHolds s c e
-      → InputHolds s' c (edge_after (Output o) xs e)
-  consumer-after allows u h =
-      let p = put-case o xs e.flags e.chunk allows in
-      record {
-        follows = record {
-          needed = output_after-needed o xs e.flags ∙ h.follows.needed;
-          fin_in = output_after-fin_in o xs e.flags ∙ h.follows.fin_in;
-          fin_out = λ t. output_after-fin_out o xs e.flags (h.follows.fin_out t);
-          stays_empty = stays-empty p h;
-          stays_full = stays-full p h;
-        };
-        data_there = data-put p h;
-        one_chunk = one-put p h;
-        known = λ r. h.known (u.rested r) ∙ sym (untold-same o xs e.flags (u.quiet r));
-      }
-
-  put-lists : Put → InputHolds s c e
-      → (chunks_of c.chunk ++ chunks_of e.chunk) ++ pushes_to o xs
-      ≡ chunks_of c.chunk ++ chunks_of (put_after o xs e.chunk)
-  put-lists (inl p) h =
-      let none = nothing-lies e.flags.has_data c.chunk e.chunk p.empty h.data_there in
-      ap (λ k. (chunks_of c.chunk ++ chunks_of e.chunk) ++ k) p.one
-      ∙ ap (λ k. (chunks_of k ++ chunks_of e.chunk) ++ (p.chunk ∷ [])) none.0
-      ∙ ap (λ k. ([] ++ chunks_of k) ++ (p.chunk ∷ [])) none.1
-      ∙ ap (λ k. [] ++ chunks_of k) (sym p.lies)
-      ∙ ap (λ k. chunks_of k ++ chunks_of (put_after o xs e.chunk)) (sym none.0)
-  put-lists (inr p) h =
-      ap (λ k. (chunks_of c.chunk ++ chunks_of e.chunk) ++ k) p.none
-      ∙ append-nil (chunks_of c.chunk ++ chunks_of e.chunk)
-      ∙ ap (λ k. chunks_of c.chunk ++ chunks_of k) (sym p.lies)
-
-  -- the chunks that were pushed lie there
-  pub pushed-lie : OutputAllows o xs e.flags → InputHolds s c e
-      → (chunks_of c.chunk ++ chunks_of e.chunk) ++ pushes_to o xs
-      ≡ chunks_of c.chunk ++ chunks_of (put_after o xs e.chunk)
-  pushed-lie allows h = put-lists (put-case o xs e.flags e.chunk allows) h
+-- the first action was carried out on an edge of the node: the view shows what the rest will leave
+pub own-acts : (p : Port) (c : CellPicture) (a : Action) (rest : List Action) (e e' : Edge)
+    → c.view.actions ≡ a ∷ rest → e'.flags ≡ port_step p a e.flags → consumed p e' ≡ consumed p e
+    → EndHolds p c e → EndHolds p (record c { view = with_actions c.view rest }) e'
+unfolding with_actions input_at output_at
+own-acts p c a rest e e' h1 h2 h3 h4 = search rules

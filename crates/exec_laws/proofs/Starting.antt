@@ -1,20 +1,10 @@
 -- A graph before its first move.
-use Rattle.std.proofs.Common.{◌≡◌, ℕ, ◌<◌, ◌==◌, ◌++◌, ◌||◌, cond, Bool, true, false, zero, suc, None, List, [], length, get_or, refl, sym, ap, subst, ◌∙◌, arith}
-use Rattle.std.proofs.lemmas.Bool.{both_ways}
-use Rattle.std.proofs.lemmas.List.{get_or-replicate, length-replicate}
+use Rattle.exec_laws.proofs.Words.{AreAsKept, AreEdgesOf, Bool, BoxPicture, CellPicture, Edge, EndHolds, Flags, HasEdge, Input, InputHolds, InputPort, IsFresh, IsGraph, IsPort, List, MarkHolds, MayRest, NodeHolds, None, Output, Picture, Port, Reserve, Running, WaitsForRoom, Wire, [], ap, arith, both_ways, chunks_of, cond, false, follows-new, get_or-replicate, in_count, input-below-count, input_at, input_count, length, length-replicate, lying, new_edge, new_input, new_mark, new_picture, no_flags, no_input, no_lists, out_count, output_at, output_count, over_flags, pushes_to, refl, rules, sound-new, subst, suc, sym, true, wire_at, zero, ℕ, ◌++◌, ◌<◌, ◌==◌, ◌||◌, ◌∙◌, ◌≡◌}
 use Rattle.query_model.specs.declared.processor_spec.Kind.TheVariants as kind
-use Rattle.port_word.specs.Names.{Picture, input_at, output_at, in_count, out_count, no_flags, new_input, no_input, over_flags, new_picture, WaitsForRoom}
-use Rattle.port_word.specs.declared.flags.Flags.{Flags}
-use Rattle.port_word.specs.declared.flags.Wire.{Wire}
-use Rattle.port_word.specs.declared.flags.Reserve.{Reserve}
-use Rattle.port_word.specs.declared.port_view.InputPort.{InputPort}
-use Rattle.port_word.proofs.Fitting.{sound-new}
-use Rattle.proc_api.specs.Names.{BoxPicture, kept_input, kept_output, kept_inputs, kept_outputs, kept_ports, no_lists, AreAsKept, IsFresh, wire_at, IsGraph, input_count, output_count}
-use Rattle.proc_api.proofs.Graphs.{input-below-count, output-below-count}
-use Rattle.exec_laws.specs.Names.{Edge, CellHolds, CellPicture, EdgeHolds, InputHolds, KeepsFlags, MarkHolds, MayRest, OutputHolds, Running, chunks_of, new_edge, new_mark}
 use Rattle.exec_laws.specs.declared.edges.NodeState.TheVariants as node
 use Rattle.exec_laws.proofs.Nodes.{not-blank}
-use Rattle.exec_laws.proofs.Sides.{input-itself, knows-itself, output-itself}
+use Rattle.exec_laws.proofs.Seeing.{port-below}
+use Rattle.exec_laws.proofs.Sides.{input-itself, output-known, quiet-end}
 
 new-input : (m n i : ℕ) → i < m → input_at (new_picture m n) i ≡ new_input
 unfolding input_at
@@ -33,113 +23,79 @@ unfolding out_count
 new-outputs m n = length-replicate n no_flags
 
 positive : (n : ℕ) → (n == 0) ≡ false → 0 < n
-positive zero e = absurd (cc)
-positive (suc n) e = omega arith
+positive n h1 = search rules
 
 -- a new view of a node with an output waits for room
 new-room : (m n : ℕ) → 0 < n → WaitsForRoom (new_picture m n)
-new-room m n lt =
-    let first : output_at (new_picture m n) 0 ≡ no_flags = new-output m n 0 lt in
-    record {
-      output = 0;
-      in_range = subst (λ k. 0 < k) (sym (new-outputs m n)) lt;
-      unfinished = ap (λ (f : Flags). f.fin_out || f.fin_in) first;
-      full = λ o within _ needed.
-          let here : output_at (new_picture m n) o ≡ no_flags = new-output m n o (subst (λ k. o < k) (new-outputs m n) within) in
-          absurd (both_ways false refl (ap (λ (f : Flags). f.needed) (sym here) ∙ needed));
-    }
-
-fresh-view : (p : BoxPicture) → IsFresh p → p.notes.view ≡ None
-fresh-view p f = ap (λ z. z.view) f.notes
-
-keeps-new : (p : BoxPicture) (m n : ℕ) → IsFresh p → KeepsFlags p (new_picture m n)
-unfolding kept_input kept_output kept_inputs kept_outputs
-keeps-new p m n f =
-    let e : p.notes.view ≡ None = fresh-view p f in
-    let ins : kept_inputs p ≡ 0 = ap (λ k. length (kept_ports k).inputs) e in
-    let outs : kept_outputs p ≡ 0 = ap (λ k. length (kept_ports k).outputs) e in
-    record {
-      ins = omega (arith, ins);
-      outs = omega (arith, outs);
-      inputs = λ i lt.
-          let here : input_at (new_picture m n) i ≡ new_input =
-          new-input m n i (subst (λ k. i < k) (new-inputs m n) lt) in
-          ap (λ k. get_or (kept_ports k).inputs i no_flags) e ∙ ap (λ (x : InputPort). x.flags) (sym here);
-      outputs = λ o lt.
-          ap (λ k. get_or (kept_ports k).outputs o no_flags) e
-          ∙ sym (new-output m n o (subst (λ k. o < k) (new-outputs m n) lt));
-    }
+new-room m n h1 = search (rules, new-output, new-outputs, both_ways)
 
 mark-new : (b : Bool) (m n : ℕ) (p : BoxPicture) (v : Picture) → p.notes.answer ≡ None
     → (b ≡ false → WaitsForRoom v) → MarkHolds (cond b node.Due node.Resting) None m n p v
-mark-new true m n p v answer room = tt
-mark-new false m n p v answer room =
-    record { answer = answer; may_rest = subst MayRest (sym answer) tt; rests = λ _. room refl }
+mark-new b m n p v h1 h2 = search rules
 
-new-cell : (m n : ℕ) (c : CellPicture) → IsFresh c.box → (c.box.kind ≡ kind.List → ⊥)
-    → c.view ≡ new_picture m n → c.mark ≡ new_mark n → CellHolds m n c no_lists no_lists
-new-cell m n c f not_list view mark =
-    let p : BoxPicture = c.box in
-    let same : c ≡ record c { view = new_picture m n; mark = new_mark n } =
+new-node : (wires : List Wire) (n : ℕ) (c : CellPicture) → IsFresh c.box → (c.box.kind ≡ kind.List → ⊥)
+    → c.view ≡ new_picture (input_count wires n) (output_count wires n) → c.mark ≡ new_mark (output_count wires n)
+    → AreEdgesOf wires n c.inputs c.outputs → NodeHolds wires n c no_lists no_lists
+new-node wires n c f not_list view mark numbers =
+    let ins : ℕ = input_count wires n in
+    let outs : ℕ = output_count wires n in
+    let same : c ≡ record c { view = new_picture ins outs; mark = new_mark outs } =
     (λ i. record c { view = view i; mark = mark i }) in
-    subst (λ x. CellHolds m n x no_lists no_lists) (sym same) record {
-      stands = record {
+    subst (λ x. NodeHolds wires n x no_lists no_lists) (sym same) record {
+      box = record {
         running = record {
           loaded = f.loaded;
           faultless = ap (λ z. z.fault) f.notes;
           not_handed_out = f.not_handed_out;
         };
         not_list = not_list;
-        sound = sound-new m n;
-        quiet = refl;
-        ins = new-inputs m n;
-        outs = new-outputs m n;
-        as_kept = subst (λ k. AreAsKept k m n) (sym (fresh-view p f)) tt;
+        as_kept = subst (λ k. AreAsKept k ins outs) (sym (ap (λ z. z.view) f.notes)) tt;
         fits = λ l k. ap (λ z. z.fits) f.notes;
         keeps = λ l k. f.keeps l;
         nothing_past = λ i le. refl;
         nothing_pushed_past = λ o le. refl;
       };
-      kept = λ _. keeps-new p m n f;
-      mark = mark-new (n == 0) m n p (new_picture m n) (ap (λ z. z.answer) f.notes)
-          (λ e. new-room m n (positive n e));
+      view = record { sound = sound-new ins outs; ins = new-inputs ins outs; outs = new-outputs ins outs };
+      numbers = numbers;
+      kept = λ _. follows-new c.box ins outs f.notes;
+      mark = mark-new (outs == 0) ins outs c.box (new_picture ins outs) (ap (λ z. z.answer) f.notes)
+          (λ e. new-room ins outs (positive outs e));
     }
 
--- an edge over which nothing passed yet
-fresh-edge : (w : Wire) (x y : CellPicture) (e : Edge) → output_at x.view w.out ≡ no_flags
-    → input_at y.view w.input ≡ new_input → e ≡ new_edge → EdgeHolds w x y [] [] e
-fresh-edge w x y e out input fresh = subst (λ z. EdgeHolds w x y [] [] z) (sym fresh) record {
-  from = subst (λ f. OutputHolds x.mark.state f new_edge) (sym out)
-      record { follows = output-itself no_flags; known = λ _. knows-itself no_flags };
-  to = subst (λ c. InputHolds y.mark.state c new_edge) (sym input)
-      record { follows = input-itself no_flags; data_there = refl; one_chunk = λ _. refl; known = λ _. refl };
-  lists = ap (λ (c : InputPort). [] ++ (chunks_of c.chunk ++ [])) (sym input);
-}
+-- an end of an edge over which nothing passed yet
+new-end : (p : Port) (m n : ℕ) (c : CellPicture) → c.view ≡ new_picture m n → IsPort m n p → EndHolds p c new_edge
+new-end p m n c h1 h2 = search (rules, quiet-end, new-input, input-itself, output-known, new-output)
 
 -- A graph of fresh boxes, none of them of kind List, with new views and marks and new edges.
-pub started : (ranks : List ℕ) (wires : List Wire) (reserves : List Reserve) → IsGraph ranks wires reserves
-    → (cells : ℕ → CellPicture) (edges : ℕ → Edge)
-    → ((n : ℕ) → n < length ranks → IsFresh (cells n).box)
-    → ((n : ℕ) → n < length ranks → (cells n).box.kind ≡ kind.List → ⊥)
-    → ((n : ℕ) → n < length ranks → (cells n).view ≡ new_picture (input_count wires n) (output_count wires n))
-    → ((n : ℕ) → n < length ranks → (cells n).mark ≡ new_mark (output_count wires n))
-    → ((e : ℕ) → e < length wires → edges e ≡ new_edge) → Running (length ranks) wires cells edges
-started ranks wires reserves g cells edges fresh not_list view mark new = record {
-  pulled = λ n. no_lists;
-  pushed = λ n. no_lists;
-  each = λ n lt _. new-cell (input_count wires n) (output_count wires n) (cells n) (fresh n lt) (not_list n lt)
-      (view n lt) (mark n lt);
-  unborn = λ n lt blank. absurd (not-blank (cells n).box.spec (fresh n lt).loaded blank);
-  from_born = λ e lt. (fresh (wire_at wires e).from (g.so_far.edges e lt).from_in_range).loaded;
-  to_born = λ e lt. (fresh (wire_at wires e).to (g.so_far.edges e lt).to_in_range).loaded;
-  joined = λ e lt.
-      let w : Wire = wire_at wires e in
-      fresh-edge w (cells w.from) (cells w.to) (edges e)
-      (ap (λ v. output_at v w.out) (view w.from (g.so_far.edges e lt).from_in_range)
-      ∙ new-output (input_count wires w.from) (output_count wires w.from) w.out
-      (output-below-count ranks wires reserves g e lt))
-      (ap (λ v. input_at v w.input) (view w.to (g.so_far.edges e lt).to_in_range)
-      ∙ new-input (input_count wires w.to) (output_count wires w.to) w.input
-      (input-below-count ranks wires reserves g e lt))
-      (new e lt);
-}
+module _ (ranks : List ℕ) (wires : List Wire) (reserves : List Reserve) (g : IsGraph ranks wires reserves)
+    (cells : ℕ → CellPicture) (edges : ℕ → Edge) (fresh : (n : ℕ) → n < length ranks → IsFresh (cells n).box)
+    (not_list : (n : ℕ) → n < length ranks → (cells n).box.kind ≡ kind.List → ⊥)
+    (view : (n : ℕ) → n < length ranks → (cells n).view ≡ new_picture (input_count wires n) (output_count wires n))
+    (mark : (n : ℕ) → n < length ranks → (cells n).mark ≡ new_mark (output_count wires n))
+    (numbers : (n : ℕ) → n < length ranks → AreEdgesOf wires n (cells n).inputs (cells n).outputs)
+    (new : (e : ℕ) → e < length wires → edges e ≡ new_edge) where
+  node-there : (e n : ℕ) (p : Port) → HasEdge wires n p e → n < length ranks
+  node-there e n p h1 = search rules
+
+  pub started : Running (length ranks) wires cells edges
+  unfolding pushes_to
+  started = record {
+    pulled = λ n. no_lists;
+    pushed = λ n. no_lists;
+    each = λ n lt _. new-node wires n (cells n) (fresh n lt) (not_list n lt) (view n lt) (mark n lt) (numbers n lt);
+    unborn = λ n lt blank. absurd (not-blank (cells n).box.spec (fresh n lt).loaded blank);
+    born = λ e n p h. (fresh n (node-there e n p h)).loaded;
+    ends = λ e n p h. subst (λ x. EndHolds p (cells n) x) (sym (new e h.in_range))
+        (new-end p _ _ (cells n) (view n (node-there e n p h)) (port-below ranks wires reserves g n e p h));
+    lists = λ e lt.
+        let w : Wire = wire_at wires e in
+        let k = g.so_far.edges e lt in
+        let in_view : input_at (cells w.to).view w.input ≡ new_input = ap (λ v. input_at v w.input) (view w.to k.to_in_range)
+        ∙ new-input (input_count wires w.to) (output_count wires w.to) w.input
+        (input-below-count ranks wires reserves g e lt) in
+        ap (λ (c : InputPort). (chunks_of c.chunk ++ []) ++ []) (sym in_view)
+        ∙ ap (λ (x : Edge). (chunks_of (input_at (cells w.to).view w.input).chunk ++ chunks_of x.chunk) ++ [])
+        (sym (new e lt))
+        ∙ ap (λ (v : Picture). lying w (cells w.to).view (edges e) ++ pushes_to w.out v.actions)
+        (sym (view w.from k.from_in_range));
+  }

@@ -1,9 +1,9 @@
 -- What is true of the boxes when a run has ended, over plain data.
-use Rattle.std.specs.Prelude.{◌≡◌, ◌≢◌, ℕ, suc, ◌<◌, ◌≤◌, ◌++◌, ◌&&◌, not, Bool, true, false, cond, IsTrue, is_some, List, [], ◌∷◌, length, Option, Some, None}
+use Rattle.std.specs.Prelude.{◌≡◌, ◌≢◌, ℕ, suc, ◌<◌, ◌≤◌, ◌++◌, ◌&&◌, not, Bool, true, false, cond, IsTrue, is_some, List, [], ◌∷◌, length, map, Option, Some, None}
 use Rattle.chunk_data.specs.Values.{Table}
 use Rattle.port_word.specs.declared.flags.Flags.{Flags}
 use Rattle.port_word.specs.declared.flags.Wire.{Wire}
-use Rattle.proc_api.specs.Names.{BoxPicture, kept_input, kept_output, Lists, Keeps, FaultHolds, FaultIsDue, IsRunning, ArePortsOf, is_ended, wire_at, input_count, output_count}
+use Rattle.proc_api.specs.Names.{BoxPicture, kept_input, kept_output, Lists, Keeps, FaultHolds, FaultIsDue, IsRunning, ArePortsOf, is_ended, Rests, wire_at, input_count, output_count}
 use Rattle.proc_api.specs.declared.status.Status.{Status}
 use Rattle.proc_api.specs.declared.status.Answer.{Answer}
 use Rattle.proc_api.specs.declared.status.WorkFault.{WorkFault}
@@ -11,8 +11,8 @@ use Rattle.proc_api.specs.declared.status.Status.TheVariants as status
 use Rattle.proc_api.specs.declared.status.Answer.TheVariants.{Prepared, Scheduled}
 use Rattle.proc_api.specs.declared.status.WorkFault.TheVariants as fault
 use Rattle.exec_laws.specs.declared.edges.StuckNode.{StuckNode}
-use Rattle.exec_laws.specs.Runs.{CellPicture, HasFinished, IsBorn, MayRest, box_at}
-use Rattle.exec_laws.specs.Moves.{StaysBox, is_resting}
+use Rattle.exec_laws.specs.Runs.{CellPicture, HasFinished, IsBorn, MayRest, box_at, cell_at}
+use Rattle.exec_laws.specs.Moves.{StaysBox, is_resting, is_waiting}
 
 -- ---- done
 
@@ -81,14 +81,6 @@ stuck_from n (p ∷ boxes) =
     (record { node = n; last = last_status p.notes.answer } ∷ stuck_from (suc n) boxes)
     (stuck_from (suc n) boxes)
 
--- the same by the marks, where nothing is due
-abbrev pub stuck_cells : ℕ → List CellPicture → List StuckNode
-stuck_cells n [] = []
-stuck_cells n (c ∷ cells) =
-    cond (is_resting c.mark.state)
-    (record { node = n; last = c.mark.last } ∷ stuck_cells (suc n) cells)
-    (stuck_cells (suc n) cells)
-
 -- The report lists all born nodes that aren't over, and each of them is at rest. The named node is one of them,
 -- and its box isn't lawful.
 pub record IsStuck (boxes : List BoxPicture) (report : List StuckNode) (node : ℕ) : Type 0 where
@@ -119,3 +111,27 @@ pub record IsFault (boxes : List BoxPicture) (node : ℕ) (f : WorkFault) : Type
 pub record GivenBack (before after : List BoxPicture) : Type 0 where
   pub count : length after ≡ length before
   pub each : (n : ℕ) → n < length before → StaysBox (box_at before n) (box_at after n)
+
+-- ---- the cells, where nothing is due
+
+abbrev pub boxes_of : List CellPicture → List BoxPicture
+boxes_of cells = map (λ (c : CellPicture). c.box) cells
+
+-- no node is due or at work
+abbrev pub IsNothingDue : List CellPicture → Type 0
+IsNothingDue cells = (n : ℕ) → n < length cells → is_waiting (cell_at cells n).mark.state ≡ false
+
+-- the mark says what the box last answered: whether its node isn't over, and on what it rests then
+pub record MarkTells (c : CellPicture) : Type 0 where
+  pub unfinished : is_unfinished c.box ≡ is_resting c.mark.state
+  pub last : is_resting c.mark.state ≡ true → last_status c.box.notes.answer ≡ c.mark.last
+  pub may_rest : is_resting c.mark.state ≡ true → MayRest c.box.notes.answer
+
+-- the view bears out the last status of a node at rest
+abbrev pub BearsOut : CellPicture → Type 0
+BearsOut c = is_resting c.mark.state ≡ true → Rests c.mark.last c.view
+
+-- the node rests, and its view belies its last status
+pub record Belies (c : CellPicture) : Type 0 where
+  pub resting : is_resting c.mark.state ≡ true
+  pub denied : Rests c.mark.last c.view → ⊥

@@ -1,14 +1,14 @@
 -- The moves of an executor, and what each does.
-use Rattle.std.specs.Prelude.{◌≡◌, ◌≢◌, ℕ, ◌<◌, ◌==◌, ◌||◌, cond, Bool, true, false, IsTrue, List, [], ◌∷◌, length, Option, Some, None}
+use Rattle.std.specs.Prelude.{◌≡◌, ◌≢◌, ℕ, ◌==◌, cond, Bool, true, false, IsTrue, List, Option, Some, None}
 use Rattle.chunk_data.specs.Values.{Table}
-use Rattle.port_word.specs.Names.{Picture, input_at, output_at, in_count, out_count, with_actions, seen_chunk, IsSound, input_after, output_after, ChangedByCalls, IsAllFinished}
+use Rattle.port_word.specs.Names.{Picture, IsAllFinished, ChangedByCalls}
+use Rattle.port_word.specs.Sights.{port_flags}
 use Rattle.port_word.specs.declared.flags.Wire.{Wire}
 use Rattle.port_word.specs.declared.flags.Action.{Action}
 use Rattle.port_word.specs.declared.flags.Port.{Port}
-use Rattle.port_word.specs.declared.port_view.InputPort.{InputPort}
 use Rattle.port_word.specs.declared.flags.Action.TheVariants.{Want, Unwant, Pull, Close, Push, Finish}
 use Rattle.port_word.specs.declared.flags.Port.TheVariants.{Input, Output}
-use Rattle.proc_api.specs.Names.{BoxPicture, SameChunks, SameBox, CountsOn, PulledOn, NotesView, PreparesLawfully, KeepsSame, wire_at}
+use Rattle.proc_api.specs.Names.{BoxPicture, SameChunks, SameBox, CountsOn, PulledOn, NotesView, PreparesLawfully, KeepsSame}
 use Rattle.proc_api.specs.declared.status.Status.{Status}
 use Rattle.proc_api.specs.declared.status.Status.TheVariants as status
 use Rattle.exec_laws.specs.declared.edges.Edge.{Edge}
@@ -16,7 +16,7 @@ use Rattle.exec_laws.specs.declared.edges.DueCall.TheVariants as call
 use Rattle.exec_laws.specs.declared.edges.NodeMark.{NodeMark}
 use Rattle.exec_laws.specs.declared.edges.NodeState.{NodeState}
 use Rattle.exec_laws.specs.declared.edges.NodeState.TheVariants as node
-use Rattle.exec_laws.specs.Runs.{CellPicture, number_at}
+use Rattle.exec_laws.specs.Runs.{CellPicture, HasEdge, MarkHolds, port_edge}
 
 -- ---- marks
 
@@ -68,33 +68,28 @@ pub record StaysBox (p q : BoxPicture) : Type 0 where
   pub counts : CountsOn p q
   pub pulled : PulledOn p q
 
--- ---- a node sees its ports
+-- ---- a node sees a port
 
 -- the chunk that comes with an edge's flags: the one that lies there, unless the consumer closed the edge
-abbrev pub lifted : Edge → Option Table
-lifted e = cond e.flags.fin_in None e.chunk
+abbrev pub lifted : Port → Edge → Option Table
+lifted (Input i) e = cond e.flags.fin_in None e.chunk
+lifted (Output o) e = None
 
 -- the edge without it
-abbrev pub unloaded : Edge → Edge
-unloaded e = record { flags = e.flags; chunk = cond e.flags.fin_in e.chunk None }
+abbrev pub unloaded : Port → Edge → Edge
+unloaded (Input i) e = record { flags = e.flags; chunk = cond e.flags.fin_in e.chunk None }
+unloaded (Output o) e = e
 
--- an input as it is seen with its edge
-abbrev pub seen_input : InputPort → Edge → InputPort
-seen_input c e = record { flags = e.flags; chunk = seen_chunk (lifted e) c.chunk }
+-- the edge at a port of node n moved on in this way, and no other did
+pub record Touches (wires : List Wire) (n : ℕ) (p : Port) (how : Edge → Edge) (edges moved : ℕ → Edge) : Type 0 where
+  pub edge : ℕ
+  pub is_there : HasEdge wires n p edge
+  pub here : moved edge ≡ how (edges edge)
+  pub elsewhere : (e : ℕ) → e ≢ edge → moved e ≡ edges e
 
--- the edge at a port once it was seen there
-abbrev pub seen_edge : Port → Edge → Edge
-seen_edge (Input i) e = unloaded e
-seen_edge (Output o) e = e
-
--- the view w is v with each port as its edge shows it
-pub record Sees (in_edges out_edges : ℕ → Edge) (v w : Picture) : Type 0 where
-  pub sound : IsSound w
-  pub quiet : w.actions ≡ []
-  pub ins : in_count w ≡ in_count v
-  pub outs : out_count w ≡ out_count v
-  pub input : (i : ℕ) → i < in_count v → input_at w i ≡ seen_input (input_at v i) (in_edges i)
-  pub output : (o : ℕ) → o < out_count v → output_at w o ≡ (out_edges o).flags
+-- the view shows the edge's flags at the port
+abbrev pub Knows : CellPicture → Port → (ℕ → Edge) → Type 0
+Knows c p edges = port_flags c.view p ≡ (edges (port_edge c.inputs c.outputs p)).flags
 
 -- ---- its box is prepared
 
@@ -113,91 +108,42 @@ pub record Leaves (s : Status) (w u : Picture) : Type 0 where
   pub same : (s ≡ status.Finished → IsAllFinished w) → u ≡ w
   pub finished : s ≡ status.Finished → IsAllFinished u
 
--- A node saw its ports and was prepared; what it did is yet to be carried out.
-pub record Turns (edges : ℕ → Edge) (c d : CellPicture) : Type 0 where
+-- A node that has seen its ports was prepared; what it did is yet to be carried out.
+pub record Turns (c d : CellPicture) : Type 0 where
   pub answer : Status
-  pub seen : Picture
   pub left : Picture
-  pub sees : Sees (λ i. edges (number_at c.inputs i)) (λ o. edges (number_at c.outputs o)) c.view seen
-  pub prepares : Prepares c.box seen d.box left answer
+  pub prepares : Prepares c.box c.view d.box left answer
   pub leaves : Leaves answer left d.view
-  pub mark : d.mark ≡ record { state = state_after answer; last = Some answer }
-  pub inputs : d.inputs ≡ c.inputs
-  pub outputs : d.outputs ≡ c.outputs
+  pub own : d ≡ record c { box = d.box; view = d.view; mark = record { state = state_after answer; last = Some answer } }
 
 -- ---- what it did is carried out
 
--- the chunk that lies at output o after an action, and after a list of actions
-abbrev pub put_step : ℕ → Action → Option Table → Option Table
-put_step o (Push j chunk) c = cond (o == j) (Some chunk) c
-put_step o (Want j) c = c
-put_step o (Unwant j) c = c
-put_step o (Pull j) c = c
-put_step o (Close j) c = c
-put_step o (Finish j) c = c
+-- the port of an action
+abbrev pub action_port : Action → Port
+action_port (Want i) = Input i
+action_port (Unwant i) = Input i
+action_port (Pull i) = Input i
+action_port (Close i) = Input i
+action_port (Push o chunk) = Output o
+action_port (Finish o) = Output o
 
-abbrev pub put_after : ℕ → List Action → Option Table → Option Table
-put_after o [] c = c
-put_after o (a ∷ actions) c = put_after o actions (put_step o a c)
+-- whether the node at the other end is told: of all but that an input isn't needed any more
+abbrev pub is_told : Action → Bool
+is_told (Want i) = true
+is_told (Unwant i) = false
+is_told (Pull i) = true
+is_told (Close i) = true
+is_told (Push o chunk) = true
+is_told (Finish o) = true
 
--- the edge at a port of a node after its actions
-abbrev pub edge_after : Port → List Action → Edge → Edge
-edge_after (Input i) actions e = record { flags = input_after i actions e.flags; chunk = e.chunk }
-edge_after (Output o) actions e =
-    record { flags = output_after o actions e.flags; chunk = put_after o actions e.chunk }
-
--- Whether an action at the port is told to the node at its other end: all are but that an input isn't needed
--- any more.
-abbrev pub tells : Port → Action → Bool
-tells (Input i) (Want j) = i == j
-tells (Input i) (Unwant j) = false
-tells (Input i) (Pull j) = i == j
-tells (Input i) (Close j) = i == j
-tells (Input i) (Push j chunk) = false
-tells (Input i) (Finish j) = false
-tells (Output o) (Want j) = false
-tells (Output o) (Unwant j) = false
-tells (Output o) (Pull j) = false
-tells (Output o) (Close j) = false
-tells (Output o) (Push j chunk) = o == j
-tells (Output o) (Finish j) = o == j
-
-abbrev pub is_told : Port → List Action → Bool
-is_told p [] = false
-is_told p (a ∷ actions) = tells p a || is_told p actions
-
--- the port is the node's end of the wire
-abbrev pub IsEnd : Wire → ℕ → Port → Type 0
-IsEnd w n (Input i) = (w.to ≡ n) × (w.input ≡ i)
-IsEnd w n (Output o) = (w.from ≡ n) × (w.out ≡ o)
-
--- the node at the other end
-abbrev pub peer : Wire → Port → ℕ
-peer w (Input i) = w.from
-peer w (Output o) = w.to
-
--- an edge at a port of node n whose actions are told to this node
-pub record TellsNode (wires : List Wire) (n : ℕ) (actions : List Action) (m : ℕ) : Type 0 where
-  pub edge : ℕ
-  pub port : Port
-  pub in_range : edge < length wires
-  pub at_port : IsEnd (wire_at wires edge) n port
-  pub told : is_told port actions ≡ true
-  pub to : peer (wire_at wires edge) port ≡ m
-
--- The edges and the other nodes after these actions of node n: at each of its ports the edge moved on, and
--- exactly the nodes at the other ends of the ports that are told were told.
-pub record Carries (wires : List Wire) (n : ℕ) (actions : List Action) (cells after : ℕ → CellPicture)
-    (edges moved : ℕ → Edge) : Type 0 where
-  pub told : ℕ → Bool
-  pub own : after n ≡ record (cells n) { view = with_actions (cells n).view [] }
-  pub others : (m : ℕ) → m ≢ n → after m ≡ told_if (told m) (cells m)
-  pub here : (e : ℕ) (p : Port) → e < length wires → IsEnd (wire_at wires e) n p
-      → moved e ≡ edge_after p actions (edges e)
-  pub elsewhere : (e : ℕ) → e < length wires → (wire_at wires e).from ≢ n → (wire_at wires e).to ≢ n
-      → moved e ≡ edges e
-  pub tells : (m : ℕ) → TellsNode wires n actions m → told m ≡ true
-  pub tells_only : (m : ℕ) → told m ≡ true → TellsNode wires n actions m
+-- the edge at the action's port after it
+abbrev pub after_action : Action → Edge → Edge
+after_action (Want i) e = record e { flags = record e.flags { needed = true } }
+after_action (Unwant i) e = record e { flags = record e.flags { needed = false } }
+after_action (Pull i) e = record e { flags = record e.flags { has_data = false } }
+after_action (Close i) e = record e { flags = record e.flags { fin_in = true } }
+after_action (Push o chunk) e = record { flags = record e.flags { has_data = true }; chunk = Some chunk }
+after_action (Finish o) e = record e { flags = record e.flags { fin_out = true } }
 
 -- ---- a box works, or fetches
 
@@ -210,3 +156,10 @@ pub record Acts (p q : BoxPicture) : Type 0 where
   pub faultless : q.notes.fault ≡ None
   pub not_handed_out : q.work.handed_out ≡ false
   pub keeps : IsTrue p.lawful → KeepsSame p q
+
+-- the box worked or fetched, and its node is due or due a call
+pub record ActsCell (c d : CellPicture) : Type 0 where
+  pub acts : Acts c.box d.box
+  pub own : d ≡ record c { box = d.box; mark = record { state = d.mark.state; last = c.mark.last } }
+  pub awake : d.mark.state ≡ node.Resting → ⊥
+  pub holds : (m n : ℕ) (v : Picture) → MarkHolds d.mark.state c.mark.last m n d.box v

@@ -1,12 +1,14 @@
 -- What is true of a running graph between two moves: of each node, and of each edge.
-use Rattle.std.specs.Prelude.{◌≡◌, ℕ, ◌<◌, ◌≤◌, ◌||◌, true, false, IsTrue, IsSome, List, [], ◌∷◌, ◌++◌, length, Option, Some, None, is_some, slice_index_or, ⊤}
+use Rattle.std.specs.Prelude.{◌≡◌, ◌≢◌, ℕ, ◌<◌, ◌≤◌, ◌||◌, true, false, IsTrue, IsSome, List, [], ◌∷◌, ◌++◌, length, Option, Some, None, is_some, slice_index_or, ⊤}
 use Rattle.chunk_data.specs.Values.{Table}
 use Rattle.query_model.specs.declared.processor_spec.Kind.TheVariants as kind
-use Rattle.port_word.specs.Names.{Picture, input_at, output_at, in_count, out_count, no_flags, is_out_finished, new_picture, IsSound, IsAllFinished}
+use Rattle.port_word.specs.Names.{Picture, input_at, output_at, in_count, out_count, no_flags, is_out_finished, new_picture, input_after, output_after, OutputAllows, IsSound, IsAllFinished}
 use Rattle.port_word.specs.declared.flags.Flags.{Flags}
+use Rattle.port_word.specs.declared.flags.Port.{Port}
+use Rattle.port_word.specs.declared.flags.Port.TheVariants.{Input, Output}
 use Rattle.port_word.specs.declared.flags.Wire.{Wire}
 use Rattle.port_word.specs.declared.port_view.InputPort.{InputPort}
-use Rattle.proc_api.specs.Names.{BoxPicture, no_box, kept_input, kept_output, kept_inputs, kept_outputs, Lists, Keeps, AllInputsFinished, ArePortsOf, AreAsKept, InputFollows, OutputFollows, IsRunning, MayWork, MaySchedule, Rests, ProducerKnows, wire_at, input_count, output_count}
+use Rattle.proc_api.specs.Names.{BoxPicture, no_box, kept_output, kept_inputs, kept_outputs, Lists, Keeps, pushes_to, AllInputsFinished, ArePortsOf, AreAsKept, FollowsKept, InputFollows, OutputFollows, IsRunning, MayWork, MaySchedule, Rests, ProducerKnows, wire_at, input_count, output_count}
 use Rattle.proc_api.specs.declared.status.Status.{Status}
 use Rattle.proc_api.specs.declared.status.Answer.{Answer}
 use Rattle.proc_api.specs.declared.status.Status.TheVariants as status
@@ -44,15 +46,47 @@ no_cell = record {
 unfoldable pub box_at : List BoxPicture → ℕ → BoxPicture
 box_at boxes n = slice_index_or boxes n no_box
 
-unfoldable pub cell_at : List CellPicture → ℕ → CellPicture
+abbrev pub cell_at : List CellPicture → ℕ → CellPicture
 cell_at cells n = slice_index_or cells n no_cell
 
-unfoldable pub edge_at : List Edge → ℕ → Edge
+abbrev pub edge_at : List Edge → ℕ → Edge
 edge_at edges e = slice_index_or edges e new_edge
 
 -- the number at a place of a list of edges' numbers
-unfoldable pub number_at : List ℕ → ℕ → ℕ
+abbrev pub number_at : List ℕ → ℕ → ℕ
 number_at numbers k = slice_index_or numbers k 0
+
+-- the port is one of so many inputs and outputs
+abbrev pub IsPort : (inputs outputs : ℕ) → Port → Type 0
+IsPort inputs outputs (Input i) = i < inputs
+IsPort inputs outputs (Output o) = o < outputs
+
+-- the port is the node's end of the wire
+abbrev pub IsEnd : Wire → ℕ → Port → Type 0
+IsEnd w n (Input i) = (w.to ≡ n) × (w.input ≡ i)
+IsEnd w n (Output o) = (w.from ≡ n) × (w.out ≡ o)
+
+-- the node at the other end
+abbrev pub peer : Wire → Port → ℕ
+peer w (Input i) = w.from
+peer w (Output o) = w.to
+
+-- the edge ends at the port
+pub record HasEdge (wires : List Wire) (n : ℕ) (p : Port) (e : ℕ) : Type 0 where
+  pub in_range : e < length wires
+  pub at_port : IsEnd (wire_at wires e) n p
+
+-- the number of the edge at a port, by the numbers at all inputs and outputs
+abbrev pub port_edge : (inputs outputs : List ℕ) → Port → ℕ
+port_edge inputs outputs (Input i) = number_at inputs i
+port_edge inputs outputs (Output o) = number_at outputs o
+
+-- the numbers of the edges at the ports of node n
+pub record AreEdgesOf (wires : List Wire) (n : ℕ) (inputs outputs : List ℕ) : Type 0 where
+  pub ins : length inputs ≡ input_count wires n
+  pub outs : length outputs ≡ output_count wires n
+  pub at : (p : Port) → IsPort (input_count wires n) (output_count wires n) p
+      → HasEdge wires n p (port_edge inputs outputs p)
 
 -- a box that was loaded; a blank one belongs to a node that isn't born
 abbrev pub IsBorn : BoxPicture → Type 0
@@ -108,34 +142,30 @@ MarkHolds node.Due last inputs outputs p v = ⊤
 MarkHolds (node.AtWork c) last inputs outputs p v = MayCall c p
 MarkHolds node.Over last inputs outputs p v = IsOver inputs outputs p v
 
--- the box keeps the flags of its ports as they stand in its view
-pub record KeepsFlags (p : BoxPicture) (v : Picture) : Type 0 where
-  pub ins : kept_inputs p ≤ in_count v
-  pub outs : kept_outputs p ≤ out_count v
-  pub inputs : (i : ℕ) → i < in_count v → kept_input p i ≡ (input_at v i).flags
-  pub outputs : (o : ℕ) → o < out_count v → kept_output p o ≡ output_at v o
-
--- A box and its view, with so many inputs and outputs, whatever the mark is. A lawful box that has the ports
--- of its spec keeps what it pulled and pushed.
-pub record BoxHolds (inputs outputs : ℕ) (p : BoxPicture) (v : Picture) (pulled pushed : Lists) : Type 0 where
+-- A box with so many inputs and outputs, whatever the mark is. A lawful box that has the ports of its spec keeps
+-- what it pulled and pushed.
+pub record BoxHolds (inputs outputs : ℕ) (p : BoxPicture) (pulled pushed : Lists) : Type 0 where
   pub running : IsRunning p
   pub not_list : p.kind ≡ kind.List → ⊥
-  pub sound : IsSound v
-  pub quiet : v.actions ≡ []
-  pub ins : in_count v ≡ inputs
-  pub outs : out_count v ≡ outputs
   pub as_kept : AreAsKept p.notes.view inputs outputs
   pub fits : IsTrue p.lawful → ArePortsOf p.spec p.growth inputs outputs → p.notes.fits ≡ true
   pub keeps : IsTrue p.lawful → ArePortsOf p.spec p.growth inputs outputs → Keeps p pulled pushed
   pub nothing_past : (i : ℕ) → inputs ≤ i → pulled i ≡ []
   pub nothing_pushed_past : (o : ℕ) → outputs ≤ o → pushed o ≡ []
 
--- A born node. What an executor closes or finishes besides of a box that has finished shows in its view alone,
--- and it is over then.
-pub record CellHolds (inputs outputs : ℕ) (c : CellPicture) (pulled pushed : Lists) : Type 0 where
-  pub stands : BoxHolds inputs outputs c.box c.view pulled pushed
-  pub kept : (c.mark.state ≡ node.Over → IsTrue c.box.lawful) → KeepsFlags c.box c.view
-  pub mark : MarkHolds c.mark.state c.mark.last inputs outputs c.box c.view
+pub record ViewHolds (inputs outputs : ℕ) (v : Picture) : Type 0 where
+  pub sound : IsSound v
+  pub ins : in_count v ≡ inputs
+  pub outs : out_count v ≡ outputs
+
+-- A born node, whether or not all its actions were carried out. What an executor closes or finishes besides of a
+-- box that has finished shows in its view alone, and it is over then.
+pub record NodeHolds (wires : List Wire) (n : ℕ) (c : CellPicture) (pulled pushed : Lists) : Type 0 where
+  pub box : BoxHolds (input_count wires n) (output_count wires n) c.box pulled pushed
+  pub view : ViewHolds (input_count wires n) (output_count wires n) c.view
+  pub numbers : AreEdgesOf wires n c.inputs c.outputs
+  pub kept : (c.mark.state ≡ node.Over → IsTrue c.box.lawful) → FollowsKept c.box c.view
+  pub mark : MarkHolds c.mark.state c.mark.last (input_count wires n) (output_count wires n) c.box c.view
 
 -- ---- an edge
 
@@ -143,36 +173,48 @@ abbrev pub chunks_of : Option Table → List Table
 chunks_of None = []
 chunks_of (Some chunk) = chunk ∷ []
 
--- An output, as a view with this mark shows it, and the edge there. A node at rest knows the port.
-pub record OutputHolds (m : NodeState) (f : Flags) (e : Edge) : Type 0 where
-  pub follows : OutputFollows f e.flags
-  pub known : m ≡ node.Resting → ProducerKnows f e.flags
+-- An output, as a view with this mark shows it, and the flags there. A node at rest knows the port.
+pub record OutputHolds (m : NodeState) (f g : Flags) : Type 0 where
+  pub follows : OutputFollows f g
+  pub known : m ≡ node.Resting → ProducerKnows f g
 
--- An input, and the edge there. There is data exactly where a chunk lies in the view or in the edge, and never
--- in both.
-pub record InputHolds (m : NodeState) (c : InputPort) (e : Edge) : Type 0 where
-  pub follows : InputFollows c.flags e.flags
-  pub data_there : e.flags.has_data ≡ (is_some c.chunk || is_some e.chunk)
-  pub one_chunk : is_some c.chunk ≡ true → e.chunk ≡ None
-  pub known : m ≡ node.Resting → c.flags ≡ e.flags
+-- An input, and the flags and the chunk there. There is data exactly where a chunk lies in the view or in the
+-- edge, and never in both.
+pub record InputHolds (m : NodeState) (c : InputPort) (g : Flags) (chunk : Option Table) : Type 0 where
+  pub follows : InputFollows c.flags g
+  pub data_there : g.has_data ≡ (is_some c.chunk || is_some chunk)
+  pub one_chunk : is_some c.chunk ≡ true → chunk ≡ None
+  pub known : m ≡ node.Resting → c.flags ≡ g
 
--- An edge between two nodes. The chunks pushed are those pulled, then the one that lies there.
-pub record EdgeHolds (w : Wire) (x y : CellPicture) (pushed pulled : List Table) (e : Edge) : Type 0 where
-  pub from : OutputHolds x.mark.state (output_at x.view w.out) e
-  pub to : InputHolds y.mark.state (input_at y.view w.input) e
-  pub lists : pushed ≡ pulled ++ (chunks_of (input_at y.view w.input).chunk ++ chunks_of e.chunk)
+-- An edge at a port of a node, whose own actions there aren't all carried out: the view shows the edge as they
+-- will leave it.
+abbrev pub EndHolds : Port → CellPicture → Edge → Type 0
+EndHolds (Input i) c e =
+    InputHolds c.mark.state (input_at c.view i) (input_after i c.view.actions e.flags) e.chunk
+EndHolds (Output o) c e =
+    OutputHolds c.mark.state (output_at c.view o) (output_after o c.view.actions e.flags)
+    × OutputAllows o c.view.actions e.flags
+
+-- the chunks that lie between: at the consumer, as its view shows, and in the edge
+abbrev pub lying : Wire → Picture → Edge → List Table
+lying w to e = chunks_of (input_at to w.input).chunk ++ chunks_of e.chunk
 
 -- ---- a running graph
 
--- Each born node and each edge between two of them holds, for some lists of chunks. A node that isn't born has
+-- Each born node holds, and so do both ends of each edge, for some lists of chunks. The chunks pushed are those
+-- pulled, then those that lie between, and then those whose push isn't carried out. A node that isn't born has
 -- nothing to do.
 pub record Running (count : ℕ) (wires : List Wire) (cells : ℕ → CellPicture) (edges : ℕ → Edge) : Type 0 where
   pub pulled : ℕ → Lists
   pub pushed : ℕ → Lists
-  pub each : (n : ℕ) → n < count → IsBorn (cells n).box
-      → CellHolds (input_count wires n) (output_count wires n) (cells n) (pulled n) (pushed n)
+  pub each : (n : ℕ) → n < count → IsBorn (cells n).box → NodeHolds wires n (cells n) (pulled n) (pushed n)
   pub unborn : (n : ℕ) → n < count → (cells n).box.spec ≡ None → (cells n).mark.state ≡ node.Over
-  pub from_born : (e : ℕ) → e < length wires → IsBorn (cells (wire_at wires e).from).box
-  pub to_born : (e : ℕ) → e < length wires → IsBorn (cells (wire_at wires e).to).box
-  pub joined : (e : ℕ) → e < length wires → let w = wire_at wires e in
-      EdgeHolds w (cells w.from) (cells w.to) (pushed w.from w.out) (pulled w.to w.input) (edges e)
+  pub born : (e n : ℕ) (p : Port) → HasEdge wires n p e → IsBorn (cells n).box
+  pub ends : (e n : ℕ) (p : Port) → HasEdge wires n p e → EndHolds p (cells n) (edges e)
+  pub lists : (e : ℕ) → e < length wires → let w = wire_at wires e in
+      pushed w.from w.out
+      ≡ (pulled w.to w.input ++ lying w (cells w.to).view (edges e)) ++ pushes_to w.out (cells w.from).view.actions
+
+-- no action waits in a view, but in that of this node
+abbrev pub QuietBut : ℕ → (ℕ → CellPicture) → Type 0
+QuietBut n cells = (m : ℕ) → m ≢ n → (cells m).view.actions ≡ []

@@ -1,6 +1,4 @@
 pub mod Lists
-pub mod Creating
-pub mod Seeing
-pub mod Carrying
 pub mod Moving
+pub mod Creating
 pub mod RunEnds

@@ -1,270 +1,347 @@
 -- A move of one node keeps the state of the run.
-use Rattle.std.proofs.Common.{◌≡◌, ℕ, ◌<◌, List, length, get_or, set, refl, sym, ap, subst, ◌∙◌, arith}
-use Rattle.port_word.specs.Pictures.{in_count, input_at, out_count, output_at}
-use Rattle.port_word.specs.declared.flags.Port.{Port}
-use Rattle.port_word.specs.declared.flags.Wire.{Wire}
-use Rattle.port_word.specs.declared.flags.Port.TheVariants.{Input, Output}
-use Rattle.proc_api.specs.Names.{input_count, output_count, wire_at, BoxPicture}
-use Rattle.proc_api.specs.declared.status.WorkFault.{WorkFault}
-use Rattle.proc_api.proofs.Graphs.{input-below-count, output-below-count}
-use Rattle.exec_laws.specs.Names.{IsEnd, StaysBox, Turns, seen_edge, told_if, unloaded, CellHolds, CellPicture, InputHolds, MarkHolds, OutputHolds, cell_at, edge_at, number_at, KeepsFault}
-use Rattle.exec_laws.specs.declared.edges.DueCall.{DueCall}
+use Rattle.exec_laws.proofs.Words.{Action, ActsCell, AreEdgesOf, Bool, CellPicture, Flags, HasEdge, HasPort, Input, IsBorn, IsDone, IsGraph, IsPort, IsSome, IsSound, Knows, List, MaySee, NodeHolds, None, Option, Output, Picture, Port, Reserve, Running, Some, StaysBox, Table, Touches, Turns, Wire, [], action_port, after_action, ap, arith, cases_eq, cell_at, edge_at, false, in_count, inl, input_count, inr, is_told, length, lifted, ne_eqb, out_count, output_count, peer, port_edge, refl, rules, subst, sym, told_if, true, unloaded, wire_at, ℕ, ◌&&◌, ◌+◌, ◌<◌, ◌==◌, ◌∙◌, ◌≡◌, ◌≢◌}
 use Rattle.exec_laws.specs.declared.edges.Edge.{Edge}
+use Rattle.exec_laws.specs.declared.edges.DueCall.{DueCall}
 use Rattle.exec_laws.specs.declared.edges.NodeState.TheVariants as node
 use Rattle.exec_laws.proofs.Acting.{acted, stays-both, stays-itself}
-use Rattle.exec_laws.proofs.Nodes.{apart, at-node, busy-born}
-use Rattle.exec_laws.proofs.Turns.{turned, turned-sound}
-use Rattle.pipeline_exec.specs.Cells.{ActsCell, AreEdgesOf, Board, ChangesCell, FailsAt, HasEdge, MayAct, MayCarry, MayTurn, Remains, StateHolds, StayAll, Unloads, cell_picture, cells_of}
-use Rattle.pipeline_exec.proofs.Lists.{cell-changed, cell-now, cells-length, changed-here, changed-length, changed-other}
-use Rattle.pipeline_exec.specs.declared.cell.Cell.{Cell}
-use Rattle.std.specs.Prelude.{IfErr, OnOk, Result, Ok, Err}
+use Rattle.exec_laws.proofs.Carrying.{carried}
+use Rattle.exec_laws.proofs.Nodes.{at-node, busy-born}
+use Rattle.exec_laws.proofs.Seeing.{may-see, see-actions, see-keeps, see-knows, seen}
+use Rattle.exec_laws.proofs.Turns.{turned}
+use Rattle.pipeline_exec.specs.declared.cell.Side.{Side}
+use Rattle.pipeline_exec.specs.declared.cell.Side.TheVariants.{Inputs, Outputs}
+use Rattle.pipeline_exec.specs.Cells.{Board, Carries, CarriesOne, ChangesCell, IsCarrying, IsOnBoard, IsTurning, IsUnderWay, MayAct, MayCarryOne, MayPrepare, MovesEdge, SeesPort, Shows, Stays, TakesAction, port_count, port_on}
 
 -- ---- what stays of the boxes
 
-pub stay-same : (cells : List CellPicture) → StayAll cells cells
-stay-same cells = record { len = refl; each = λ n. stays-itself (cell_at cells n).box }
+pub stay-same : (b : Board) → Stays b b
+stay-same b = record { wires = refl; len = refl; each = λ n. stays-itself (cell_at b.cells n).box }
 
-pub stay-both : (a b c : List CellPicture) → StayAll a b → StayAll b c → StayAll a c
-stay-both a b c p q = record { len = q.len ∙ p.len; each = λ n. stays-both _ _ _ (p.each n) (q.each n) }
+pub stay-both : (a b c : Board) → Stays a b → Stays b c → Stays a c
+stay-both a b c h1 h2 = search (rules, stays-both)
 
-pub stay-changed : (n : ℕ) (cells after : List CellPicture) → n < length cells
-    → ChangesCell n (λ c d. StaysBox c.box d.box) cells after → StayAll cells after
-stay-changed n cells after lt c = record {
-  len = changed-length n (λ c d. StaysBox c.box d.box) cells after c;
-  each = λ m. at-node (λ k. StaysBox (cell_at cells k).box (cell_at after k).box) n m
-      (changed-here n (λ c d. StaysBox c.box d.box) cells after lt c)
-      (λ ne. subst (λ (x : CellPicture). StaysBox (cell_at cells m).box x.box)
-      (sym (changed-other n (λ c d. StaysBox c.box d.box) cells after c m ne)) (stays-itself (cell_at cells m).box));
-}
+-- where one cell has changed, and what stays of its box is known
+pub stay-changed : (n : ℕ) (R : CellPicture → CellPicture → Type 0) (b d : Board) → d.wires ≡ b.wires
+    → ChangesCell n R b.cells d.cells → StaysBox (cell_at b.cells n).box (cell_at d.cells n).box → Stays b d
+stay-changed n R b d h1 h2 h3 = search (rules, at-node, stays-itself)
 
-stay-carried : (wires : List Wire) (n : ℕ) (b d : Board) → Remains wires n b d → StayAll b.cells d.cells
-stay-carried wires n b d r = record {
-  len = r.cells_len;
-  each = λ m. at-node (λ k. StaysBox (cell_at b.cells k).box (cell_at d.cells k).box) n m
-      (subst (λ (x : CellPicture). StaysBox (cell_at b.cells n).box x.box) (sym r.carries.own)
-      (stays-itself (cell_at b.cells n).box))
-      (λ ne. subst (λ (x : CellPicture). StaysBox (cell_at b.cells m).box x.box) (sym (r.carries.others m ne))
-      (stays-itself (cell_at b.cells m).box));
-}
+-- ---- a port is shown
 
--- ---- a turn
+-- the edge of a port that moved, on the board
+abbrev touches : (b : Board) (n e : ℕ) (p : Port) (how : Edge → Edge) (moved : List Edge) → HasEdge b.wires n p e
+    → MovesEdge e how b.edges moved → Touches b.wires n p how (edge_at b.edges) (edge_at moved)
+touches b n e p how moved h m = record { edge = e; is_there = h; here = m.here; elsewhere = m.others }
 
-module _ (wires : List Wire) (cells : List CellPicture) (edges : List Edge) (s : StateHolds wires cells edges)
-    (n : ℕ) (lt : n < length cells) (due : (cell_at cells n).mark.state ≡ node.Due) where
-  in_ranks : n < length s.ranks
-  in_ranks = subst (λ k. n < k) s.cells_len lt
+side-port : (b : Board) (n : ℕ) (side : Side) (k : ℕ) → k < port_count b.wires n side
+    → IsPort (input_count b.wires n) (output_count b.wires n) (port_on side k)
+side-port b n side k h1 = search rules
 
-  busy : (cell_at cells n).mark.state ≡ node.Over → ⊥
-  busy e = let d : node.Due ≡ node.Over = sym due ∙ e in cc
+-- a port by the numbers of its node's edges
+port-numbered : (b : Board) (n : ℕ) (c : CellPicture) (p : Port) → AreEdgesOf b.wires n c.inputs c.outputs
+    → IsPort (input_count b.wires n) (output_count b.wires n) p → IsPort (length c.inputs) (length c.outputs) p
+port-numbered b n c p h1 h2 = search rules
 
-  own : CellHolds (input_count wires n) (output_count wires n) (cell_at cells n) (s.running.pulled n) (s.running.pushed n)
-  own = s.running.each n in_ranks (busy-born (length s.ranks) wires (cell_at cells) (edge_at edges) s.running n in_ranks busy)
+module _ (n : ℕ) (b : Board) (t : IsTurning n b) where
+  busy : (cell_at b.cells n).mark.state ≢ node.Over
+  busy over = let e : node.Due ≡ node.Over = sym t.due ∙ over in cc
 
-  tied : AreEdgesOf wires n (cell_at cells n).inputs (cell_at cells n).outputs
-  tied = s.tied n lt
+  in-ranks : n < length t.under_way.board.ranks
+  in-ranks = subst (λ k. n < k) t.under_way.board.cells_len t.in_range
 
-  input-edge : (i : ℕ) → i < in_count (cell_at cells n).view → HasEdge wires n (Input i) (number_at (cell_at cells n).inputs i)
-  input-edge i less = tied.input i (subst (λ k. i < k) own.stands.ins less)
+  turning-node : NodeHolds b.wires n (cell_at b.cells n) (t.under_way.board.running.pulled n)
+      (t.under_way.board.running.pushed n)
+  turning-node = search (rules, in-ranks, busy-born, busy)
 
-  output-edge : (o : ℕ) → o < out_count (cell_at cells n).view
-      → HasEdge wires n (Output o) (number_at (cell_at cells n).outputs o)
-  output-edge o less = tied.output o (subst (λ k. o < k) own.stands.outs less)
+  module _ (side : Side) (k : ℕ) (lt : k < port_count b.wires n side) where
+    abbrev p : Port
+    p = port_on side k
 
-  -- a due node may see its ports and be prepared
-  pub may-turn : MayTurn (cell_at cells n) edges
-  may-turn = record {
-    running = own.stands.running;
-    kept = own.kept (λ e. absurd (busy e));
-    inputs = record {
-      state = (cell_at cells n).mark.state;
-      quiet = own.stands.quiet;
-      len = let a = own.stands.ins in let b = tied.ins in omega (arith, a, b);
-      in_range = λ i less. subst (λ k. number_at (cell_at cells n).inputs i < k) (sym s.edges_len) (input-edge i less).in_range;
-      holds = λ i less.
-          let h = input-edge i less in
-          let j = (s.running.joined (number_at (cell_at cells n).inputs i) h.in_range).to in
-          subst (λ k. InputHolds (cell_at cells n).mark.state (input_at (cell_at cells n).view k)
-          (edge_at edges (number_at (cell_at cells n).inputs i))) h.at_port.1
-          (subst (λ m. InputHolds (cell_at cells m).mark.state (input_at (cell_at cells m).view
-          (wire_at wires (number_at (cell_at cells n).inputs i)).input)
-          (edge_at edges (number_at (cell_at cells n).inputs i))) h.at_port.0 j);
-      once = λ i j less more same.
-          sym (input-edge i less).at_port.1 ∙ ap (λ e. (wire_at wires e).input) same ∙ (input-edge j more).at_port.1;
-    };
-    outputs = record {
-      state = (cell_at cells n).mark.state;
-      quiet = own.stands.quiet;
-      len = let a = own.stands.outs in let b = tied.outs in omega (arith, a, b);
-      in_range = λ o less. subst (λ k. number_at (cell_at cells n).outputs o < k) (sym s.edges_len) (output-edge o less).in_range;
-      holds = λ o less.
-          let h = output-edge o less in
-          let j = (s.running.joined (number_at (cell_at cells n).outputs o) h.in_range).from in
-          subst (λ k. OutputHolds (cell_at cells n).mark.state (output_at (cell_at cells n).view k)
-          (edge_at edges (number_at (cell_at cells n).outputs o))) h.at_port.1
-          (subst (λ m. OutputHolds (cell_at cells m).mark.state (output_at (cell_at cells m).view
-          (wire_at wires (number_at (cell_at cells n).outputs o)).out)
-          (edge_at edges (number_at (cell_at cells n).outputs o))) h.at_port.0 j);
-    };
-  }
+    abbrev edge : ℕ
+    edge = port_edge (cell_at b.cells n).inputs (cell_at b.cells n).outputs (port_on side k)
 
-  module _ (mid : List CellPicture) (shown : List Edge) (turns : ChangesCell n (Turns (edge_at edges)) cells mid)
-      (unloads : Unloads (in_count (cell_at cells n).view) (cell_at cells n).inputs edges shown) where
-    turn : Turns (edge_at edges) (cell_at cells n) (cell_at mid n)
-    turn = changed-here n (Turns (edge_at edges)) cells mid lt turns
+    own-edge : HasEdge b.wires n p edge
+    own-edge = turning-node.numbers.at p (side-port b n side k lt)
 
-    -- its actions may be carried out
-    pub may-carry : MayCarry wires n (record { cells = mid; edges = shown })
-    may-carry =
-        let len = changed-length n (Turns (edge_at edges)) cells mid turns in
-        let left = turned-sound (edge_at edges) (cell_at cells n) (cell_at mid n) turn in
-        record {
+    pub port-there : IsPort (length (cell_at b.cells n).inputs) (length (cell_at b.cells n).outputs) p
+    port-there = port-numbered b n (cell_at b.cells n) p turning-node.numbers (side-port b n side k lt)
+
+    pub edge-there : edge < length b.edges
+    edge-there = subst (λ m. edge < m) (sym t.under_way.board.edges_len) own-edge.in_range
+
+    pub may-see-edge : MaySee (cell_at b.cells n).view p (edge_at b.edges edge).flags (lifted p (edge_at b.edges edge))
+    may-see-edge = search (rules, may-see, in-ranks, own-edge)
+
+    module _ (after : List CellPicture) (moved : List Edge) (m : MovesEdge edge (unloaded p) b.edges moved)
+        (c : ChangesCell n (SeesPort p (edge_at b.edges edge).flags (lifted p (edge_at b.edges edge))) b.cells after) where
+      abbrev d : Board
+      d = record { wires = b.wires; cells = after; edges = moved }
+
+      same-flags : (x : ℕ) → (edge_at moved x).flags ≡ (edge_at b.edges x).flags
+      same-flags x = elim (cases_eq x edge) [
+        | inl e ↦ ap (λ j. (edge_at moved j).flags) e ∙ ap (λ (y : Edge). y.flags) m.here
+            ∙ kept p (edge_at b.edges edge) ∙ ap (λ j. (edge_at b.edges j).flags) (sym e)
+        | inr ne ↦ ap (λ (y : Edge). y.flags) (m.others x ne)
+      ]
+        where
+          kept : (q : Port) (y : Edge) → (unloaded q y).flags ≡ y.flags
+          kept (Input i) y = refl
+          kept (Output o) y = refl
+
+      shown-turning : IsTurning n d
+      shown-turning = record {
+        under_way = record {
+          board = record {
+            ranks = t.under_way.board.ranks;
+            reserves = t.under_way.board.reserves;
+            graph = t.under_way.board.graph;
+            cells_len = c.len ∙ t.under_way.board.cells_len;
+            edges_len = m.len ∙ t.under_way.board.edges_len;
+            running = seen t.under_way.board.ranks b.wires t.under_way.board.reserves t.under_way.board.graph n in-ranks
+                (cell_at b.cells) (edge_at b.edges) t.under_way.board.running t.under_way.quiet t.due p (cell_at after)
+                (edge_at moved) (touches b n edge p (unloaded p) moved own-edge m) c.here.own c.here.sound c.others;
+          };
+          quiet = λ j. at-node (λ i. (cell_at after i).view.actions ≡ []) n j
+              (ap (λ (x : CellPicture). x.view.actions) c.here.own ∙ see-actions p _ _ _ ∙ t.under_way.quiet n)
+              (λ ne. ap (λ (x : CellPicture). x.view.actions) (c.others j ne) ∙ t.under_way.quiet j);
+        };
+        in_range = subst (λ j. n < j) (sym c.len) t.in_range;
+        due = ap (λ (x : CellPicture). x.mark.state) c.here.own ∙ t.due;
+      }
+
+      pub shows-port : Shows n side k (k + 1) b d
+      shows-port = record {
+        turning = shown-turning;
+        stays = stay-changed n (SeesPort p (edge_at b.edges edge).flags (lifted p (edge_at b.edges edge))) b d refl c
+            (subst (λ (x : CellPicture). StaysBox (cell_at b.cells n).box x.box) (sym c.here.own)
+            (stays-itself (cell_at b.cells n).box));
+        knows = λ j le less. let e : j ≡ k = omega (arith, le, less) in
+            subst (λ i. Knows (cell_at after n) (port_on side i) (edge_at moved)) (sym e)
+            (subst (λ x. Knows x p (edge_at moved)) (sym c.here.own)
+            (see-knows p (cell_at b.cells n).view (edge_at b.edges edge) may-see-edge.ours ∙ sym (same-flags edge)));
+        kept = λ q h. subst (λ x. Knows x q (edge_at moved)) (sym c.here.own)
+            (see-keeps p q (cell_at b.cells n).view (edge_at b.edges edge) _ may-see-edge.ours
+            (λ same. ap (λ x. (edge_at b.edges (port_edge (cell_at b.cells n).inputs (cell_at b.cells n).outputs x)).flags)
+            (sym same)) h ∙ sym (same-flags _));
+      }
+
+-- the same by the values that the code has
+pub shows-seen : (n : ℕ) (b : Board) → IsTurning n b → (side : Side) (k : ℕ) → k < port_count b.wires n side
+    → (p : Port) (e : ℕ) (f : Flags) (x : Option Table) (after : List CellPicture) (moved : List Edge)
+    → p ≡ port_on side k → e ≡ port_edge (cell_at b.cells n).inputs (cell_at b.cells n).outputs p
+    → f ≡ (edge_at b.edges e).flags → x ≡ lifted p (edge_at b.edges e) → MovesEdge e (unloaded p) b.edges moved
+    → ChangesCell n (SeesPort p f x) b.cells after
+    → Shows n side k (k + 1) b (record { wires = b.wires; cells = after; edges = moved })
+shows-seen n b t side k lt p e f x after moved at is flags chunk m c =
+    let q : Port = port_on side k in
+    let d : ℕ = port_edge (cell_at b.cells n).inputs (cell_at b.cells n).outputs q in
+    let y : Edge = edge_at b.edges d in
+    let same : e ≡ d = is ∙ ap (λ r. port_edge (cell_at b.cells n).inputs (cell_at b.cells n).outputs r) at in
+    shows-port n b t side k lt after moved
+    (subst (λ r. MovesEdge d (unloaded r) b.edges moved) at (subst (λ j. MovesEdge j (unloaded p) b.edges moved) same m))
+    (subst (λ g. ChangesCell n (SeesPort q g (lifted q y)) b.cells after) (flags ∙ ap (λ j. (edge_at b.edges j).flags) same)
+    (subst (λ z. ChangesCell n (SeesPort q f z) b.cells after)
+    (chunk ∙ ap (λ j. lifted p (edge_at b.edges j)) same ∙ ap (λ r. lifted r y) at)
+    (subst (λ r. ChangesCell n (SeesPort r f x) b.cells after) at c)))
+
+-- ports are shown one after another
+pub shows-none : (n : ℕ) (side : Side) (b : Board) → IsTurning n b → Shows n side 0 0 b b
+shows-none n side b h1 = search (rules, stay-same)
+
+pub shows-more : (n : ℕ) (side : Side) (k : ℕ) (a b c : Board) → Shows n side 0 k a b → Shows n side k (k + 1) b c
+    → Shows n side 0 (k + 1) a c
+shows-more n side k a b c h1 h2 = search (rules, stay-both)
+
+-- ---- the box is prepared
+
+pub side-count : (n : ℕ) (b : Board) → IsTurning n b
+    → (length (cell_at b.cells n).inputs ≡ port_count b.wires n Inputs)
+    × (length (cell_at b.cells n).outputs ≡ port_count b.wires n Outputs)
+side-count n b t = ((turning-node n b t).numbers.ins, (turning-node n b t).numbers.outs)
+
+pub may-prepare : (n : ℕ) (b : Board) → IsTurning n b → MayPrepare (cell_at b.cells n)
+may-prepare n b h1 = search (rules, turning-node, busy)
+
+-- a node that has seen both its sides was prepared
+module _ (n : ℕ) (a b c : Board) (ins outs : ℕ) (p : Shows n Inputs 0 ins a b) (q : Shows n Outputs 0 outs b c)
+    (all_ins : ins ≡ input_count a.wires n) (all_outs : outs ≡ output_count a.wires n)
+    (after : List CellPicture) (t : ChangesCell n Turns c.cells after) where
+  abbrev now : Board
+  now = record { wires = c.wires; cells = after; edges = c.edges }
+
+  same-wires : c.wires ≡ a.wires
+  same-wires = q.stays.wires ∙ p.stays.wires
+
+  knows-all : (x : Port) → IsPort (input_count c.wires n) (output_count c.wires n) x
+      → Knows (cell_at c.cells n) x (edge_at c.edges)
+  knows-all x h1 = search (rules, same-wires)
+
+  pub prepared : IsCarrying n now
+  prepared =
+      let s = q.turning.under_way.board in
+      let lt = in-ranks n c q.turning in
+      record {
+        board = record {
           ranks = s.ranks;
           reserves = s.reserves;
           graph = s.graph;
-          cells_len = len ∙ s.cells_len;
-          edges_len = unloads.len ∙ s.edges_len;
-          in_range = subst (λ k. n < k) (sym len) lt;
-          tied = subst (λ x. AreEdgesOf wires n x (cell_at mid n).outputs) (sym turn.inputs)
-              (subst (λ x. AreEdgesOf wires n (cell_at cells n).inputs x) (sym turn.outputs) tied);
-          sound = left.0;
-          ins = left.1 ∙ own.stands.ins;
-          outs = left.2 ∙ own.stands.outs;
-        }
+          cells_len = t.len ∙ s.cells_len;
+          edges_len = s.edges_len;
+          running = turned s.ranks c.wires s.reserves s.graph n lt (cell_at c.cells) (cell_at after) (edge_at c.edges)
+              s.running q.turning.under_way.quiet (busy n c q.turning) knows-all t.here t.others;
+        };
+        in_range = subst (λ k. n < k) (sym t.len) q.turning.in_range;
+        born = subst (λ z. IsSome z) (sym t.here.prepares.stays.same.spec) (turning-node n c q.turning).box.running.loaded;
+        quiet = λ m ne. ap (λ (x : CellPicture). x.view.actions) (t.others m ne) ∙ q.turning.under_way.quiet m;
+      }
 
-    in-number : (e : ℕ) → e < length wires → (wire_at wires e).to ≡ n
-        → number_at (cell_at cells n).inputs (wire_at wires e).input ≡ e
-    in-number e le to =
-        let h = tied.input (wire_at wires e).input (subst (λ k. (wire_at wires e).input < input_count wires k) to
-        (input-below-count s.ranks wires s.reserves s.graph e le)) in
-        s.graph.so_far.inputs_once _ e h.in_range le (h.at_port.0 ∙ sym to) h.at_port.1
+  pub prepared-stays : (e : Board) → Stays now e → Stays a e
+  prepared-stays e h1 = search (rules, stay-both, stay-changed)
 
-    out-number : (e : ℕ) → e < length wires → (wire_at wires e).from ≡ n
-        → number_at (cell_at cells n).outputs (wire_at wires e).out ≡ e
-    out-number e le from =
-        let h = tied.output (wire_at wires e).out (subst (λ k. (wire_at wires e).out < output_count wires k) from
-        (output-below-count s.ranks wires s.reserves s.graph e le)) in
-        s.graph.so_far.outputs_once _ e h.in_range le (h.at_port.0 ∙ sym from) h.at_port.1
+-- ---- an action is carried out
 
-    -- an edge that doesn't end at the node gave nothing
-    not-shown : (e : ℕ) → ((wire_at wires e).to ≡ n → ⊥) → edge_at shown e ≡ edge_at edges e
-    not-shown e nt = unloads.kept e (λ i less same.
-        nt (ap (λ k. (wire_at wires k).to) (sym same) ∙ (input-edge i less).at_port.0))
+pub carries-none : (n : ℕ) (b : Board) → IsCarrying n b → Carries n b b
+carries-none n b k = record { carrying = k; stays = stay-same b }
 
-    shown-here : (e : ℕ) (p : Port) → e < length wires → IsEnd (wire_at wires e) n p
-        → edge_at shown e ≡ seen_edge p (edge_at edges e)
-    shown-here e (Input i) le at =
-        let k : number_at (cell_at cells n).inputs i ≡ e =
-        ap (λ j. number_at (cell_at cells n).inputs j) (sym at.1) ∙ in-number e le at.0 in
-        let less : i < in_count (cell_at cells n).view = subst (λ m. i < m) (sym own.stands.ins)
-        (subst (λ j. j < input_count wires n) at.1 (subst (λ m. (wire_at wires e).input < input_count wires m) at.0
-        (input-below-count s.ranks wires s.reserves s.graph e le))) in
-        ap (λ j. edge_at shown j) (sym k) ∙ unloads.taken i less ∙ ap (λ j. unloaded (edge_at edges j)) k
-    shown-here e (Output o) le at =
-        not-shown e (λ to. apart s.ranks wires s.reserves s.graph e le (at.0 ∙ sym to))
+pub carries-more : (n : ℕ) (a b c : Board) → Carries n a b → Carries n b c → Carries n a c
+carries-more n a b c p q = record { carrying = q.carrying; stays = stay-both a b c p.stays q.stays }
 
-    -- a turn keeps the state
-    pub turn-held : (d : Board) → Remains wires n (record { cells = mid; edges = shown }) d
-        → StateHolds wires d.cells d.edges
-    turn-held d r = record {
-      ranks = s.ranks;
-      reserves = s.reserves;
-      graph = s.graph;
-      cells_len = r.cells_len ∙ changed-length n (Turns (edge_at edges)) cells mid turns ∙ s.cells_len;
-      edges_len = r.edges_len ∙ unloads.len ∙ s.edges_len;
-      tied = λ m less.
-          let old : m < length cells = subst (λ k. m < k)
-          (r.cells_len ∙ changed-length n (Turns (edge_at edges)) cells mid turns) less in
-          at-node (λ k. k < length cells → AreEdgesOf wires k (cell_at d.cells k).inputs (cell_at d.cells k).outputs) n m
-          (λ _. subst (λ (x : CellPicture). AreEdgesOf wires n x.inputs x.outputs) (sym r.carries.own)
-          (subst (λ x. AreEdgesOf wires n x (cell_at mid n).outputs) (sym turn.inputs)
-          (subst (λ x. AreEdgesOf wires n (cell_at cells n).inputs x) (sym turn.outputs) tied)))
-          (λ ne l. subst (λ (x : CellPicture). AreEdgesOf wires m x.inputs x.outputs)
-          (sym (r.carries.others m ne ∙ ap (λ x. told_if (r.carries.told m) x)
-          (changed-other n (Turns (edge_at edges)) cells mid turns m ne))) (s.tied m l)) old;
-      running = turned s.ranks wires s.reserves s.graph n in_ranks (cell_at cells) (cell_at mid) (cell_at d.cells)
-          (edge_at edges) (edge_at shown) (edge_at d.edges) busy in-number out-number turn
-          (changed-other n (Turns (edge_at edges)) cells mid turns) shown-here (λ e le nf nt. not-shown e nt) r.carries
-          s.running;
+-- no action was left
+module _ (n : ℕ) (b : Board) (taken : List CellPicture) (k : IsCarrying n b)
+    (c : ChangesCell n (TakesAction None) b.cells taken) where
+  same-cell : (m : ℕ) → cell_at taken m ≡ cell_at b.cells m
+  same-cell m = search (rules, at-node)
+
+  pub all-carried : IsUnderWay (record { wires = b.wires; cells = taken; edges = b.edges })
+  all-carried = record {
+    board = record {
+      ranks = k.board.ranks;
+      reserves = k.board.reserves;
+      graph = k.board.graph;
+      cells_len = c.len ∙ k.board.cells_len;
+      edges_len = k.board.edges_len;
+      running = subst (λ f. Running (length k.board.ranks) b.wires f (edge_at b.edges)) (λ i m. sym (same-cell m) i)
+          k.board.running;
+    };
+    quiet = λ m. ap (λ (x : CellPicture). x.view.actions) (same-cell m) ∙ at-node (λ j. (cell_at b.cells j).view.actions ≡ [])
+        n m c.here.taken.0 (λ ne. k.quiet m ne);
+  }
+
+  pub none-carried : Carries n b (record { wires = b.wires; cells = taken; edges = b.edges })
+  none-carried = search (rules, all-carried, same-cell, stay-changed, stays-itself)
+
+-- the port of a node's action is one of its ports
+action-shown : (v : Picture) (a : Action) → IsDone v a → HasPort v (action_port a)
+action-shown v a h1 = search rules
+
+shown-port : (inputs outputs : ℕ) (v : Picture) (p : Port) → in_count v ≡ inputs → out_count v ≡ outputs → HasPort v p
+    → IsPort inputs outputs p
+shown-port inputs outputs v p h1 h2 h3 = search rules
+
+peer-there : (ranks : List ℕ) (wires : List Wire) (reserves : List Reserve) → IsGraph ranks wires reserves
+    → (n e : ℕ) (p : Port) → HasEdge wires n p e
+    → (peer (wire_at wires e) p < length ranks) × (n ≢ peer (wire_at wires e) p)
+peer-there ranks wires reserves h1 n e p h2 = search rules
+
+-- the first action was taken off node n's view
+module _ (n : ℕ) (b : Board) (taken : List CellPicture) (k : IsCarrying n b) (a : Action)
+    (c : ChangesCell n (TakesAction (Some a)) b.cells taken) where
+  abbrev own : CellPicture
+  own = cell_at b.cells n
+
+  carrying-node : NodeHolds b.wires n own (k.board.running.pulled n) (k.board.running.pushed n)
+  carrying-node = k.board.running.each n (subst (λ j. n < j) k.board.cells_len k.in_range) k.born
+
+  action-port : IsPort (input_count b.wires n) (output_count b.wires n) (action_port a)
+  action-port = search (rules, shown-port, carrying-node, action-shown)
+
+  abbrev edge_now : ℕ
+  edge_now = port_edge (cell_at taken n).inputs (cell_at taken n).outputs (action_port a)
+
+  action-edge : HasEdge b.wires n (action_port a) edge_now
+  action-edge = search (rules, carrying-node, action-port)
+
+  pub may-carry-one : MayCarryOne n a (record { wires = b.wires; cells = taken; edges = b.edges })
+  may-carry-one =
+      search (rules, port-numbered, carrying-node, action-port, action-edge, peer-there)
+
+  module _ (d : Board) (m : CarriesOne n a (record { wires = b.wires; cells = taken; edges = b.edges }) d) where
+    at-edge : HasEdge b.wires n (action_port a) m.edge
+    at-edge = subst (λ e. HasEdge b.wires n (action_port a) e) (sym m.edge_is) action-edge
+
+    abbrev to : ℕ
+    to = peer (wire_at b.wires m.edge) (action_port a)
+
+    own-same : cell_at d.cells n ≡ cell_at taken n
+    own-same = m.tells.each n ∙ ap (λ x. told_if x (cell_at taken n)) (ap (λ x. is_told a && x) (ne_eqb n to
+        (peer-there k.board.ranks b.wires k.board.reserves k.board.graph n m.edge (action_port a) at-edge).1)
+        ∙ off (is_told a))
+      where
+        off : (x : Bool) → (x && false) ≡ false
+        off true = refl
+        off false = refl
+
+    others-told : (j : ℕ) → j ≢ n → cell_at d.cells j ≡ told_if (is_told a && (j == to)) (cell_at b.cells j)
+    others-told j ne = m.tells.each j ∙ ap (λ x. told_if (is_told a && (j == to)) x) (c.others j ne)
+
+    same-boxes : (j : ℕ) → (cell_at d.cells j).box ≡ (cell_at b.cells j).box
+    same-boxes j = search (rules, at-node, own-same, others-told)
+
+    pub carried-one : Carries n b d
+    carried-one = record {
+      carrying = record {
+        board = subst (λ w. IsOnBoard (record { wires = w; cells = d.cells; edges = d.edges })) (sym m.wires) record {
+          ranks = k.board.ranks;
+          reserves = k.board.reserves;
+          graph = k.board.graph;
+          cells_len = m.tells.len ∙ c.len ∙ k.board.cells_len;
+          edges_len = m.moves.len ∙ k.board.edges_len;
+          running = carried k.board.ranks b.wires k.board.reserves k.board.graph n (cell_at b.cells) (cell_at d.cells)
+              (edge_at b.edges) (edge_at d.edges) k.board.running k.quiet carrying-node a (cell_at taken n).view.actions
+              c.here.taken.0 (touches b n m.edge (action_port a) (after_action a) d.edges at-edge m.moves)
+              (own-same ∙ c.here.rest ∙ ap (λ v. record own { view = v }) c.here.taken.1)
+              (subst (λ (x : CellPicture). IsSound x.view) (sym own-same) c.here.sound) others-told;
+        };
+        in_range = subst (λ j. n < j) (sym (m.tells.len ∙ c.len)) k.in_range;
+        born = subst (λ p. IsBorn p) (sym (same-boxes n)) k.born;
+        quiet = λ j ne. ap (λ (x : CellPicture). x.view.actions) (others-told j ne) ∙ k.quiet j ne;
+      };
+      stays = record {
+        wires = m.wires;
+        len = m.tells.len ∙ c.len;
+        each = λ j. subst (λ p. StaysBox (cell_at b.cells j).box p) (sym (same-boxes j))
+            (stays-itself (cell_at b.cells j).box);
+      };
     }
 
-    pub turn-stays : (d : Board) → Remains wires n (record { cells = mid; edges = shown }) d → StayAll cells d.cells
-    turn-stays d r = stay-both cells mid d.cells
-        record {
-          len = changed-length n (Turns (edge_at edges)) cells mid turns;
-          each = λ m. at-node (λ k. StaysBox (cell_at cells k).box (cell_at mid k).box) n m turn.prepares.stays
-              (λ ne. subst (λ (x : CellPicture). StaysBox (cell_at cells m).box x.box)
-              (sym (changed-other n (Turns (edge_at edges)) cells mid turns m ne)) (stays-itself (cell_at cells m).box));
-        }
-        (stay-carried wires n (record { cells = mid; edges = shown }) d r)
+    pub fewer-left : length (cell_at d.cells n).view.actions < length own.view.actions
+    fewer-left = search (rules, own-same)
 
 -- ---- a call
 
-pub may-act : (wires : List Wire) (cells : List CellPicture) (edges : List Edge) → StateHolds wires cells edges
-    → (n : ℕ) (call : DueCall) → n < length cells → (cell_at cells n).mark.state ≡ node.AtWork call
-    → MayAct call (cell_at cells n).box
-may-act wires cells edges s n call lt e =
-    let in_ranks : n < length s.ranks = subst (λ k. n < k) s.cells_len lt in
-    let h = s.running.each n in_ranks (busy-born (length s.ranks) wires (cell_at cells) (edge_at edges) s.running n in_ranks
-    (λ o. let d : node.AtWork call ≡ node.Over = sym e ∙ o in cc)) in
-    record {
-      running = h.stands.running;
-      may = subst (λ k. MarkHolds k (cell_at cells n).mark.last (input_count wires n) (output_count wires n)
-          (cell_at cells n).box (cell_at cells n).view) e h.mark;
-    }
+module _ (n : ℕ) (call : DueCall) (b : Board) (u : IsUnderWay b) (lt : n < length b.cells)
+    (due : (cell_at b.cells n).mark.state ≡ node.AtWork call) where
+  at-work : (cell_at b.cells n).mark.state ≢ node.Over
+  at-work over = let e : node.AtWork call ≡ node.Over = sym due ∙ over in cc
 
-pub call-held : (wires : List Wire) (cells after : List CellPicture) (edges : List Edge) → StateHolds wires cells edges
-    → (n : ℕ) (call : DueCall) → n < length cells → (cell_at cells n).mark.state ≡ node.AtWork call
-    → ChangesCell n ActsCell cells after → StateHolds wires after edges
-call-held wires cells after edges s n call lt e c =
-    let in_ranks : n < length s.ranks = subst (λ k. n < k) s.cells_len lt in
-    let len = changed-length n ActsCell cells after c in
-    let a : ActsCell (cell_at cells n) (cell_at after n) = changed-here n ActsCell cells after lt c in
-    record {
-      ranks = s.ranks;
-      reserves = s.reserves;
-      graph = s.graph;
-      cells_len = len ∙ s.cells_len;
-      edges_len = s.edges_len;
-      tied = λ m less. at-node (λ k. k < length cells
-          → AreEdgesOf wires k (cell_at after k).inputs (cell_at after k).outputs) n m
-          (λ l. subst (λ (x : CellPicture). AreEdgesOf wires n x.inputs x.outputs) (sym a.own) (s.tied n l))
-          (λ ne l. subst (λ (x : CellPicture). AreEdgesOf wires m x.inputs x.outputs)
-          (sym (changed-other n ActsCell cells after c m ne)) (s.tied m l))
-          (subst (λ k. m < k) len less);
-      running = acted s.ranks wires s.reserves s.graph n in_ranks (cell_at cells) (cell_at after) (edge_at edges)
-          (cell_at after n).box (cell_at after n).mark.state
-          (λ o. let d : node.AtWork call ≡ node.Over = sym e ∙ o in cc) a.acts a.awake (a.holds _ _ _) a.own
-          (changed-other n ActsCell cells after c) s.running;
-    }
+  below-ranks : n < length u.board.ranks
+  below-ranks = subst (λ k. n < k) u.board.cells_len lt
 
--- ---- what a call answered
+  pub may-act : MayAct call (cell_at b.cells n).box
+  may-act = search (rules, below-ranks, busy-born, at-work)
 
-pub call-ok : {P : Type 0} (seen : P → BoxPicture) (cells : List (Cell P)) (n : ℕ) (x y : Cell P)
-    (r : Result (Unit {0}) WorkFault) → n < length cells → x ≡ get_or cells n x
-    → OnOk r (ActsCell (cell_picture seen x) (cell_picture seen y))
-    → OnOk r (ChangesCell n ActsCell (cells_of seen cells) (cells_of seen (set cells n y)))
-call-ok seen cells n x y (Ok u) lt read h = cell-changed seen ActsCell cells n x y lt read h
-call-ok seen cells n x y (Err f) lt read h = tt
-
-pub call-fault : {P : Type 0} (seen : P → BoxPicture) (cells : List (Cell P)) (n : ℕ) (y : Cell P)
-    (r : Result (Unit {0}) WorkFault) → n < length cells → IfErr r (λ f. KeepsFault f (seen y.processor))
-    → IfErr r (λ f. KeepsFault f (cell_at (cells_of seen (set cells n y)) n).box)
-call-fault seen cells n y (Ok u) lt h = tt
-call-fault seen cells n y (Err f) lt h =
-    subst (λ (c : CellPicture). KeepsFault f c.box) (sym (cell-now seen cells n y lt)) h
-
-pub on-ok : (r : Result (Unit {0}) WorkFault) (A B : Type 0) → (A → B) → OnOk r A → OnOk r B
-on-ok (Ok u) A B f h = f h
-on-ok (Err e) A B f h = tt
-
-pub fails-so : (n : ℕ) (r : Result (Unit {0}) WorkFault) (cells : List CellPicture) → n < length cells
-    → IfErr r (λ f. KeepsFault f (cell_at cells n).box) → IfErr r (λ f. FailsAt n f cells)
-fails-so n (Ok u) cells lt h = tt
-fails-so n (Err e) cells lt h = record { in_range = lt; keeps = h }
-
--- a change of a cell leaves as many cells
-pub len-after : {P : Type 0} (seen : P → BoxPicture) (cells after : List (Cell P)) (n : ℕ)
-    → ChangesCell n (λ c d. StaysBox c.box d.box) (cells_of seen cells) (cells_of seen after)
-    → length (cells_of seen after) ≡ length cells
-len-after seen cells after n c =
-    changed-length n (λ c d. StaysBox c.box d.box) (cells_of seen cells) (cells_of seen after) c ∙ cells-length seen cells
+  pub call-held : (after : List CellPicture) → ChangesCell n ActsCell b.cells after
+      → IsUnderWay (record { wires = b.wires; cells = after; edges = b.edges })
+  call-held after c = record {
+    board = record {
+      ranks = u.board.ranks;
+      reserves = u.board.reserves;
+      graph = u.board.graph;
+      cells_len = c.len ∙ u.board.cells_len;
+      edges_len = u.board.edges_len;
+      running = acted (length u.board.ranks) b.wires n below-ranks (cell_at b.cells) (cell_at after) (edge_at b.edges)
+          at-work c.here c.others u.board.running;
+    };
+    quiet = λ m. at-node (λ k. (cell_at after k).view.actions ≡ []) n m
+        (ap (λ (x : CellPicture). x.view.actions) c.here.own ∙ u.quiet n)
+        (λ ne. ap (λ (x : CellPicture). x.view.actions) (c.others m ne) ∙ u.quiet m);
+  }

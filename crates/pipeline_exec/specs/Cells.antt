@@ -1,25 +1,27 @@
 -- The state of a run, as data: a cell for each node, and the graph's wires and edges.
-use Rattle.std.specs.Prelude.{◌≡◌, ◌≢◌, ℕ, ◌+◌, ◌<◌, ◌≤◌, cond, Bool, true, false, List, [], ◌∷◌, length, map, slice_set, Option, Some, ⊤}
-use Rattle.port_word.specs.Names.{Picture, in_count, out_count, input_at, output_at, TakesFirst, new_picture, IsSound}
+use Rattle.std.specs.Prelude.{◌≡◌, ◌≢◌, ℕ, ◌+◌, ◌<◌, ◌≤◌, ◌==◌, ◌&&◌, Bool, false, List, [], ◌∷◌, length, map, slice_index_or, Option, Some, ⊤}
+use Rattle.port_word.specs.Names.{TakesFirst, after_see, new_picture, IsSound}
 use Rattle.port_word.specs.declared.flags.Action.{Action}
+use Rattle.port_word.specs.declared.flags.Flags.{Flags}
 use Rattle.port_word.specs.declared.flags.Port.{Port}
 use Rattle.port_word.specs.declared.flags.Reserve.{Reserve}
 use Rattle.port_word.specs.declared.flags.Wire.{Wire}
-use Rattle.port_word.specs.declared.flags.Action.TheVariants.{Want, Unwant, Pull, Close, Push, Finish}
 use Rattle.port_word.specs.declared.flags.Port.TheVariants.{Input, Output}
-use Rattle.proc_api.specs.Names.{BoxPicture, IsRunning, IsGraph, input_count, output_count, Rests, wire_at}
+use Rattle.chunk_data.specs.Values.{Table}
+use Rattle.proc_api.specs.Names.{BoxPicture, FollowsKept, HasInputWire, HasOutputWire, IsRunning, IsGraph, input_count, output_count, wire_at}
 use Rattle.proc_api.specs.declared.status.Wake.{Wake}
 use Rattle.proc_api.specs.declared.status.WorkFault.{WorkFault}
-use Rattle.exec_laws.specs.Names.{KeepsFault, Acts, Carries, IsEnd, StaysBox, peer, is_resting, is_waiting, new_mark, seen_input, told_if, unloaded, CellPicture, InputHolds, KeepsFlags, MarkHolds, MayCall, OutputHolds, Running, cell_at, edge_at, new_edge, number_at}
-use Rattle.exec_laws.specs.declared.edges.DueCall.{DueCall}
-use Rattle.exec_laws.specs.declared.edges.Edge.{Edge}
-use Rattle.exec_laws.specs.declared.edges.NodeState.{NodeState}
-use Rattle.exec_laws.specs.declared.edges.DueCall.TheVariants as call
 use Rattle.proc_api.specs.declared.status.Answer.TheVariants.{Scheduled}
 use Rattle.proc_api.specs.declared.status.Wake.TheVariants as wake
+use Rattle.exec_laws.specs.Names.{Acts, AreEdgesOf, CellPicture, HasEdge, IsBorn, IsPort, KeepsFault, Knows, MayCall, QuietBut, Running, StaysBox, action_port, after_action, cell_at, edge_at, is_told, new_edge, new_mark, no_cell, peer, port_edge, told_if}
+use Rattle.exec_laws.specs.declared.edges.DueCall.{DueCall}
+use Rattle.exec_laws.specs.declared.edges.Edge.{Edge}
+use Rattle.exec_laws.specs.declared.edges.DueCall.TheVariants as call
 use Rattle.exec_laws.specs.declared.edges.NodeState.TheVariants as node
 use Rattle.pipeline_exec.specs.declared.cell.Cell.{Cell}
 use Rattle.pipeline_exec.specs.declared.cell.NodePorts.{NodePorts}
+use Rattle.pipeline_exec.specs.declared.cell.Side.{Side}
+use Rattle.pipeline_exec.specs.declared.cell.Side.TheVariants.{Inputs, Outputs}
 use Rattle.pipeline_exec.specs.declared.executor_state.ExecutorState.{ExecutorState}
 
 -- ---- cells
@@ -37,48 +39,62 @@ cell_picture seen c = record {
 abbrev pub cells_of : {P : Type 0} → (P → BoxPicture) → List (Cell P) → List CellPicture
 cells_of seen cells = map (cell_picture seen) cells
 
-abbrev pub boxes_of : List CellPicture → List BoxPicture
-boxes_of cells = map (λ (c : CellPicture). c.box) cells
+-- the wires, cells and edges
+pub record Board : Type 0 where
+  pub wires : List Wire
+  pub cells : List CellPicture
+  pub edges : List Edge
 
--- one cell alone has changed, in this way
-pub record ChangesCell (n : ℕ) (R : CellPicture → CellPicture → Type 0) (cells after : List CellPicture) : Type 0 where
-  pub cell : CellPicture
-  pub changed : after ≡ slice_set cells n cell
-  pub how : R (cell_at cells n) cell
+abbrev pub board_of : {P : Type 0} → (P → BoxPicture) → ExecutorState P → Board
+board_of seen s = record { wires = s.wires; cells = cells_of seen s.cells.items; edges = s.edges.items }
 
--- the edge ends at the port
-pub record HasEdge (wires : List Wire) (n : ℕ) (p : Port) (e : ℕ) : Type 0 where
-  pub in_range : e < length wires
-  pub at_port : IsEnd (wire_at wires e) n p
+-- one element alone has changed, in this way
+pub record Changes {A : Type 0} (past : A) (n : ℕ) (R : A → A → Type 0) (xs ys : List A) : Type 0 where
+  pub len : length ys ≡ length xs
+  pub here : R (slice_index_or xs n past) (slice_index_or ys n past)
+  pub others : (m : ℕ) → m ≢ n → slice_index_or ys m past ≡ slice_index_or xs m past
 
--- the numbers of the edges at the ports of node n
-pub record AreEdgesOf (wires : List Wire) (n : ℕ) (inputs outputs : List ℕ) : Type 0 where
-  pub ins : length inputs ≡ input_count wires n
-  pub outs : length outputs ≡ output_count wires n
-  pub input : (i : ℕ) → i < input_count wires n → HasEdge wires n (Input i) (number_at inputs i)
-  pub output : (o : ℕ) → o < output_count wires n → HasEdge wires n (Output o) (number_at outputs o)
+abbrev pub ChangesCell : ℕ → (CellPicture → CellPicture → Type 0) → List CellPicture → List CellPicture → Type 0
+ChangesCell n R cells after = Changes no_cell n R cells after
 
--- A graph is running, and each cell has the numbers of its edges.
-pub record StateHolds (wires : List Wire) (cells : List CellPicture) (edges : List Edge) : Type 0 where
+-- one edge alone has moved on, in this way
+abbrev pub MovesEdge : ℕ → (Edge → Edge) → List Edge → List Edge → Type 0
+MovesEdge e how edges moved = Changes new_edge e (λ before now. now ≡ how before) edges moved
+
+-- ---- the run
+
+-- A graph is running.
+pub record IsOnBoard (b : Board) : Type 0 where
   pub ranks : List ℕ
   pub reserves : List Reserve
-  pub graph : IsGraph ranks wires reserves
-  pub cells_len : length cells ≡ length ranks
-  pub edges_len : length edges ≡ length wires
-  pub tied : (n : ℕ) → n < length cells
-      → AreEdgesOf wires n (cell_at cells n).inputs (cell_at cells n).outputs
-  pub running : Running (length ranks) wires (cell_at cells) (edge_at edges)
+  pub graph : IsGraph ranks b.wires reserves
+  pub cells_len : length b.cells ≡ length ranks
+  pub edges_len : length b.edges ≡ length b.wires
+  pub running : Running (length ranks) b.wires (cell_at b.cells) (edge_at b.edges)
 
-abbrev pub IsUnderWay : {P : Type 0} → (P → BoxPicture) → ExecutorState P → Type 0
-IsUnderWay seen s = StateHolds s.wires (cells_of seen s.cells.items) s.edges.items
+-- It is between two moves: no action waits.
+pub record IsUnderWay (b : Board) : Type 0 where
+  pub board : IsOnBoard b
+  pub quiet : (m : ℕ) → (cell_at b.cells m).view.actions ≡ []
 
--- all boxes are the same, with what they had besides, and the wires are too
-pub record StayAll (before after : List CellPicture) : Type 0 where
-  pub len : length after ≡ length before
-  pub each : (n : ℕ) → StaysBox (cell_at before n).box (cell_at after n).box
+-- The node is due, and sees its ports.
+pub record IsTurning (n : ℕ) (b : Board) : Type 0 where
+  pub under_way : IsUnderWay b
+  pub in_range : n < length b.cells
+  pub due : (cell_at b.cells n).mark.state ≡ node.Due
 
-abbrev pub Stays : {P : Type 0} → (P → BoxPicture) → ExecutorState P → ExecutorState P → Type 0
-Stays seen s t = (t.wires ≡ s.wires) × StayAll (cells_of seen s.cells.items) (cells_of seen t.cells.items)
+-- The node was prepared, and what it did is being carried out.
+pub record IsCarrying (n : ℕ) (b : Board) : Type 0 where
+  pub board : IsOnBoard b
+  pub in_range : n < length b.cells
+  pub born : IsBorn (cell_at b.cells n).box
+  pub quiet : QuietBut n (cell_at b.cells)
+
+-- all boxes are the same, with what they had besides, and so are the wires
+pub record Stays (b d : Board) : Type 0 where
+  pub wires : d.wires ≡ b.wires
+  pub len : length d.cells ≡ length b.cells
+  pub each : (n : ℕ) → StaysBox (cell_at b.cells n).box (cell_at d.cells n).box
 
 -- ---- the first moment
 
@@ -89,16 +105,36 @@ pub record HoldsGraph (nodes : ℕ) (wires : List Wire) : Type 0 where
   pub graph : IsGraph ranks wires reserves
   pub nodes_len : nodes ≡ length ranks
 
+-- the port of this number on a side
+abbrev pub port_on : Side → ℕ → Port
+port_on Inputs k = Input k
+port_on Outputs k = Output k
+
+-- how many ports a node has there
+abbrev pub port_count : List Wire → ℕ → Side → ℕ
+port_count wires n Inputs = input_count wires n
+port_count wires n Outputs = output_count wires n
+
+-- the wire has this port of the node at one of its ends
+abbrev pub is_end : Wire → ℕ → Port → Bool
+is_end w n (Input i) = (w.to == n) && (w.input == i)
+is_end w n (Output o) = (w.from == n) && (w.out == o)
+
+-- a wire has the port of the node at one of its ends
+abbrev pub HasWire : List Wire → ℕ → Port → Type 0
+HasWire wires n (Input i) = HasInputWire wires n i
+HasWire wires n (Output o) = HasOutputWire wires n o
+
+-- the first k numbers of a list of edges
+pub record AreFirstEdges (wires : List Wire) (n k : ℕ) (side : Side) (numbers : List ℕ) : Type 0 where
+  pub len : length numbers ≡ k
+  pub each : (i : ℕ) → i < k → HasEdge wires n (port_on side i) (slice_index_or numbers i 0)
+
 -- what a node has of its ports before the first move
 pub record AreNewPorts (wires : List Wire) (n : ℕ) (ports : NodePorts) : Type 0 where
   pub view : ports.view ≡ new_picture (input_count wires n) (output_count wires n)
   pub mark : ports.mark ≡ new_mark (output_count wires n)
   pub edges : AreEdgesOf wires n ports.inputs.items ports.outputs.items
-
--- the first k numbers of a list of edges
-pub record AreFirstEdges (wires : List Wire) (n k : ℕ) (port : ℕ → Port) (numbers : List ℕ) : Type 0 where
-  pub len : length numbers ≡ k
-  pub each : (i : ℕ) → i < k → HasEdge wires n (port i) (number_at numbers i)
 
 pub record AreNewEdges (count : ℕ) (edges : List Edge) : Type 0 where
   pub len : length edges ≡ count
@@ -114,116 +150,27 @@ pub record Fills {P : Type 0} (cells : List (Cell P)) (all : List P) (of_nodes :
   pub processors : map (λ (c : Cell P). c.processor) cells ≡ all
   pub ports : map (λ (c : Cell P). c.ports) cells ≡ of_nodes
 
--- ---- seeing
+-- ---- a turn
 
--- the inputs of a view may be shown with these edges, of which each is at one input
-pub record MayShowInputs (v : Picture) (numbers : List ℕ) (edges : List Edge) : Type 0 where
-  pub state : NodeState
-  pub quiet : v.actions ≡ []
-  pub len : in_count v ≤ length numbers
-  pub in_range : (i : ℕ) → i < in_count v → number_at numbers i < length edges
-  pub holds : (i : ℕ) → i < in_count v → InputHolds state (input_at v i) (edge_at edges (number_at numbers i))
-  pub once : (i j : ℕ) → i < in_count v → j < in_count v → number_at numbers i ≡ number_at numbers j → i ≡ j
+-- the view has seen the port
+pub record SeesPort (p : Port) (f : Flags) (chunk : Option Table) (c d : CellPicture) : Type 0 where
+  pub own : d ≡ record c { view = after_see c.view p f chunk }
+  pub sound : IsSound d.view
 
-pub record MayShowOutputs (v : Picture) (numbers : List ℕ) (edges : List Edge) : Type 0 where
-  pub state : NodeState
-  pub quiet : v.actions ≡ []
-  pub len : out_count v ≤ length numbers
-  pub in_range : (o : ℕ) → o < out_count v → number_at numbers o < length edges
-  pub holds : (o : ℕ) → o < out_count v → OutputHolds state (output_at v o) (edge_at edges (number_at numbers o))
+-- Node n has seen the ports of a side from one number on to another, and still knows what it knew before.
+pub record Shows (n : ℕ) (side : Side) (from to : ℕ) (b d : Board) : Type 0 where
+  pub turning : IsTurning n d
+  pub stays : Stays b d
+  pub knows : (k : ℕ) → from ≤ k → k < to → Knows (cell_at d.cells n) (port_on side k) (edge_at d.edges)
+  pub kept : (p : Port) → Knows (cell_at b.cells n) p (edge_at b.edges)
+      → Knows (cell_at d.cells n) p (edge_at d.edges)
 
--- the edges at the first k inputs gave their chunks
-pub record Unloads (k : ℕ) (numbers : List ℕ) (edges now : List Edge) : Type 0 where
-  pub len : length now ≡ length edges
-  pub taken : (i : ℕ) → i < k → edge_at now (number_at numbers i) ≡ unloaded (edge_at edges (number_at numbers i))
-  pub kept : (e : ℕ) → ((i : ℕ) → i < k → number_at numbers i ≢ e) → edge_at now e ≡ edge_at edges e
-  pub flags : (e : ℕ) → (edge_at now e).flags ≡ (edge_at edges e).flags
-
--- the first k inputs were shown
-pub record ShowsInputs (k : ℕ) (v : Picture) (numbers : List ℕ) (edges : List Edge) (w : Picture) (now : List Edge)
-    : Type 0 where
-  pub sound : IsSound w
-  pub quiet : w.actions ≡ []
-  pub ins : in_count w ≡ in_count v
-  pub outs : out_count w ≡ out_count v
-  pub input : (i : ℕ) → i < k → input_at w i ≡ seen_input (input_at v i) (edge_at edges (number_at numbers i))
-  pub later : (i : ℕ) → k ≤ i → input_at w i ≡ input_at v i
-  pub outputs : (o : ℕ) → output_at w o ≡ output_at v o
-  pub unloads : Unloads k numbers edges now
-
--- the first k outputs were shown
-pub record ShowsOutputs (k : ℕ) (v : Picture) (numbers : List ℕ) (edges : List Edge) (w : Picture) : Type 0 where
-  pub sound : IsSound w
-  pub quiet : w.actions ≡ []
-  pub ins : in_count w ≡ in_count v
-  pub outs : out_count w ≡ out_count v
-  pub inputs : (i : ℕ) → input_at w i ≡ input_at v i
-  pub output : (o : ℕ) → o < k → output_at w o ≡ (edge_at edges (number_at numbers o)).flags
-  pub later : (o : ℕ) → k ≤ o → output_at w o ≡ output_at v o
-
--- ---- preparing
-
--- a node may see its ports and be prepared
-pub record MayTurn (c : CellPicture) (edges : List Edge) : Type 0 where
+-- a node may be prepared
+pub record MayPrepare (c : CellPicture) : Type 0 where
   pub running : IsRunning c.box
-  pub kept : KeepsFlags c.box c.view
-  pub inputs : MayShowInputs c.view c.inputs edges
-  pub outputs : MayShowOutputs c.view c.outputs edges
+  pub follows : FollowsKept c.box c.view
 
 -- ---- carrying out
-
--- the port of an action
-abbrev pub action_port : Action → Port
-action_port (Want i) = Input i
-action_port (Unwant i) = Input i
-action_port (Pull i) = Input i
-action_port (Close i) = Input i
-action_port (Push o chunk) = Output o
-action_port (Finish o) = Output o
-
--- whether the peer is told
-abbrev pub is_told_action : Action → Bool
-is_told_action (Want i) = true
-is_told_action (Unwant i) = false
-is_told_action (Pull i) = true
-is_told_action (Close i) = true
-is_told_action (Push o chunk) = true
-is_told_action (Finish o) = true
-
--- the edge at the action's port after it
-abbrev pub after_action : Action → Edge → Edge
-after_action (Want i) e = record e { flags = record e.flags { needed = true } }
-after_action (Unwant i) e = record e { flags = record e.flags { needed = false } }
-after_action (Pull i) e = record e { flags = record e.flags { has_data = false } }
-after_action (Close i) e = record e { flags = record e.flags { fin_in = true } }
-after_action (Push o chunk) e = record { flags = record e.flags { has_data = true }; chunk = Some chunk }
-after_action (Finish o) e = record e { flags = record e.flags { fin_out = true } }
-
--- the number of the edge at a port
-abbrev pub port_edge : CellPicture → Port → ℕ
-port_edge c (Input i) = number_at c.inputs i
-port_edge c (Output o) = number_at c.outputs o
-
--- cells and edges
-pub record Board : Type 0 where
-  pub cells : List CellPicture
-  pub edges : List Edge
-
-abbrev pub board_of : {P : Type 0} → (P → BoxPicture) → ExecutorState P → Board
-board_of seen s = record { cells = cells_of seen s.cells.items; edges = s.edges.items }
-
--- the actions of node n may be carried out
-pub record MayCarry (wires : List Wire) (n : ℕ) (b : Board) : Type 0 where
-  pub ranks : List ℕ
-  pub reserves : List Reserve
-  pub graph : IsGraph ranks wires reserves
-  pub cells_len : length b.cells ≡ length ranks
-  pub edges_len : length b.edges ≡ length wires
-  pub in_range : n < length b.cells
-  pub tied : AreEdgesOf wires n (cell_at b.cells n).inputs (cell_at b.cells n).outputs
-  pub sound : IsSound (cell_at b.cells n).view
-  pub ins : in_count (cell_at b.cells n).view ≡ input_count wires n
-  pub outs : out_count (cell_at b.cells n).view ≡ output_count wires n
 
 -- the action was taken off the node's view
 pub record TakesAction (a : Option Action) (c d : CellPicture) : Type 0 where
@@ -231,40 +178,32 @@ pub record TakesAction (a : Option Action) (c d : CellPicture) : Type 0 where
   pub sound : IsSound d.view
   pub rest : d ≡ record c { view = d.view }
 
-abbrev pub HasNumber : CellPicture → Port → Type 0
-HasNumber c (Input i) = i < length c.inputs
-HasNumber c (Output o) = o < length c.outputs
-
--- the cells once the node m was told, or wasn't
-abbrev pub tell_at : Bool → ℕ → List CellPicture → List CellPicture
-tell_at b m cells = cond b (slice_set cells m (told_if true (cell_at cells m))) cells
+-- node m was told, or wasn't
+pub record TellsNode (told : Bool) (m : ℕ) (cells after : List CellPicture) : Type 0 where
+  pub len : length after ≡ length cells
+  pub each : (j : ℕ) → cell_at after j ≡ told_if (told && (j == m)) (cell_at cells j)
 
 -- the action's edge and its peer are there
-pub record MayCarryOne (wires : List Wire) (n : ℕ) (a : Action) (b : Board) : Type 0 where
+pub record MayCarryOne (n : ℕ) (a : Action) (b : Board) : Type 0 where
   pub in_range : n < length b.cells
-  pub numbers : HasNumber (cell_at b.cells n) (action_port a)
-  pub edge : port_edge (cell_at b.cells n) (action_port a) < length wires
-  pub edges_len : length b.edges ≡ length wires
-  pub peer_there : peer (wire_at wires (port_edge (cell_at b.cells n) (action_port a))) (action_port a) < length b.cells
+  pub number : IsPort (length (cell_at b.cells n).inputs) (length (cell_at b.cells n).outputs) (action_port a)
+  pub edge : port_edge (cell_at b.cells n).inputs (cell_at b.cells n).outputs (action_port a) < length b.wires
+  pub edges_len : length b.edges ≡ length b.wires
+  pub peer_there : peer (wire_at b.wires (port_edge (cell_at b.cells n).inputs (cell_at b.cells n).outputs (action_port a))) (action_port a)
+      < length b.cells
 
--- One action of node n was carried out on its edge. The peer was told unless the action is Unwant; no other was.
-pub record CarriesOne (wires : List Wire) (n : ℕ) (a : Action) (b d : Board) : Type 0 where
+-- One action of node n was carried out on its edge, and its peer was told unless the action is Unwant.
+pub record CarriesOne (n : ℕ) (a : Action) (b d : Board) : Type 0 where
   pub edge : ℕ
-  pub edge_is : edge ≡ port_edge (cell_at b.cells n) (action_port a)
-  pub edges : d.edges ≡ slice_set b.edges edge (after_action a (edge_at b.edges edge))
-  pub cells : d.cells ≡ tell_at (is_told_action a) (peer (wire_at wires edge) (action_port a)) b.cells
+  pub edge_is : edge ≡ port_edge (cell_at b.cells n).inputs (cell_at b.cells n).outputs (action_port a)
+  pub moves : MovesEdge edge (after_action a) b.edges d.edges
+  pub tells : TellsNode (is_told a) (peer (wire_at b.wires edge) (action_port a)) b.cells d.cells
+  pub wires : d.wires ≡ b.wires
 
--- what is left of the node's actions leads from b to d
-pub record Remains (wires : List Wire) (n : ℕ) (b d : Board) : Type 0 where
-  pub cells_len : length d.cells ≡ length b.cells
-  pub edges_len : length d.edges ≡ length b.edges
-  pub carries : Carries wires n (cell_at b.cells n).view.actions (cell_at b.cells) (cell_at d.cells)
-      (edge_at b.edges) (edge_at d.edges)
-
--- where what is left of its actions leads on from d to some end, it leads there from b
-pub record Precedes (wires : List Wire) (n : ℕ) (b d : Board) : Type 0 where
-  pub may : MayCarry wires n d
-  pub on : (end : Board) → Remains wires n d end → Remains wires n b end
+-- one action more of node n is carried out
+pub record Carries (n : ℕ) (b d : Board) : Type 0 where
+  pub carrying : IsCarrying n d
+  pub stays : Stays b d
 
 -- ---- working
 
@@ -284,33 +223,7 @@ pub record Wakes (a : Wake) (p q : BoxPicture) : Type 0 where
   pub answer : q.notes.answer ≡ Some (Scheduled a)
   pub not_acted : q.notes.acted ≡ false
 
--- the box worked or fetched, and its node is due or due a call
-pub record ActsCell (c d : CellPicture) : Type 0 where
-  pub acts : Acts c.box d.box
-  pub own : d ≡ record c { box = d.box; mark = record { state = d.mark.state; last = c.mark.last } }
-  pub awake : d.mark.state ≡ node.Resting → ⊥
-  pub holds : (m n : ℕ) (v : Picture) → MarkHolds d.mark.state c.mark.last m n d.box v
-
 -- the box of the node keeps the fault
 pub record FailsAt (n : ℕ) (f : WorkFault) (cells : List CellPicture) : Type 0 where
   pub in_range : n < length cells
   pub keeps : KeepsFault f (cell_at cells n).box
-
--- ---- the end
-
--- no node is due or at work
-abbrev pub IsNothingDue : List CellPicture → Type 0
-IsNothingDue cells = (n : ℕ) → n < length cells → is_waiting (cell_at cells n).mark.state ≡ false
-
--- the view bears out the last status of a node at rest
-abbrev pub BearsOut : CellPicture → Type 0
-BearsOut c = is_resting c.mark.state ≡ true → Rests c.mark.last c.view
-
--- the node rests, and its view belies its last status
-pub record BeliesIts (c : CellPicture) : Type 0 where
-  pub resting : is_resting c.mark.state ≡ true
-  pub denied : Rests c.mark.last c.view → ⊥
-
-pub record Belies (n : ℕ) (cells : List CellPicture) : Type 0 where
-  pub in_range : n < length cells
-  pub belies : BeliesIts (cell_at cells n)

@@ -1,8 +1,8 @@
-ghost use Rattle.std.specs.Prelude.{◌≡◌, ℕ, ◌<◌, true, false, length, slice_set};
-ghost use Rattle.exec_laws.specs.Names.{peer, told_if, cell_at, edge_at};
-ghost use Rattle.pipeline_exec.specs.Cells.{CarriesOne, ChangesCell, HasNumber, MayCarry, MayCarryOne, Remains, TakesAction, action_port, after_action, board_of, cell_picture, cells_of, is_told_action, Precedes, port_edge, tell_at};
+ghost use Rattle.std.specs.Prelude.{◌≡◌, ◌<◌, true, false, length};
+ghost use Rattle.exec_laws.specs.Names.{IsPort, action_port, after_action, cell_at, is_told, peer, port_edge, told_if};
+ghost use Rattle.pipeline_exec.specs.Cells.{Carries, CarriesOne, ChangesCell, IsCarrying, IsUnderWay, MayCarryOne, MovesEdge, Stays, TakesAction, TellsNode, board_of, cell_picture, cells_of};
 
-use crate::cell::{Cell, number_of};
+use crate::cell::{Cell, edge_of_cell};
 use crate::executor_state::{ExecutorState, wire_of};
 use exec_laws::Edge;
 use port_word::{Action, Port, Wire};
@@ -10,20 +10,19 @@ use proc_api::Processor;
 
 /// Carries out each action of the node's view on its edge, and tells the node at the other end.
 pub(crate) fn carry_actions<P: Processor>(state: &mut ExecutorState<P>, n: usize)
-    requires { MayCarry state.old.wires n (board_of P.seen state.old) }
-    ensures remains { Remains state.old.wires n (board_of P.seen state.old) (board_of P.seen state.new) }
-    ensures wires { state.new.wires ≡ state.old.wires }
+    requires { IsCarrying n (board_of P.seen state.old) }
+    ensures under_way { IsUnderWay (board_of P.seen state.new) }
+    ensures stays { Stays (board_of P.seen state.old) (board_of P.seen state.new) }
 {
     while carry_next(state, n) {}
 }
 
 /// Carries out the first action of the node's view; false where there is none.
 fn carry_next<P: Processor>(state: &mut ExecutorState<P>, n: usize) -> bool
-    requires { MayCarry state.old.wires n (board_of P.seen state.old) }
-    ensures more { result ≡ true → Precedes state.old.wires n (board_of P.seen state.old) (board_of P.seen state.new) }
-    ensures last { result ≡ false → Remains state.old.wires n (board_of P.seen state.old) (board_of P.seen state.new) }
+    requires { IsCarrying n (board_of P.seen state.old) }
+    ensures carries { Carries n (board_of P.seen state.old) (board_of P.seen state.new) }
+    ensures last { result ≡ false → IsUnderWay (board_of P.seen state.new) }
     ensures fewer { result ≡ true → length (cell_at (cells_of P.seen state.new.cells.items) n).view.actions < length (cell_at (cells_of P.seen state.old.cells.items) n).view.actions }
-    ensures wires { state.new.wires ≡ state.old.wires }
 {
     match take_action(&mut state.cells, n) {
         Some(action) => {
@@ -49,16 +48,13 @@ fn next_action<P: Processor>(cell: &mut Cell<P>) -> Option<Action>
 
 /// Carries out one action at its port.
 fn carry<P: Processor>(state: &mut ExecutorState<P>, n: usize, action: Action)
-    requires { MayCarryOne state.old.wires n action (board_of P.seen state.old) }
-    ensures carries { CarriesOne state.old.wires n action (board_of P.seen state.old) (board_of P.seen state.new) }
-    ensures wires { state.new.wires ≡ state.old.wires }
+    requires { MayCarryOne n action (board_of P.seen state.old) }
+    ensures { CarriesOne n action (board_of P.seen state.old) (board_of P.seen state.new) }
 {
     let port = port_of(&action);
     let e = edge_at_port(&state.cells, n, port);
     let wire = wire_of(state.wires.as_slice(), e);
-    if is_told(&action) {
-        tell(&mut state.cells, peer_of(&wire, port));
-    }
+    tell(&mut state.cells, peer_of(&wire, port), is_told(&action));
     act_at(&mut state.edges, e, action);
 }
 
@@ -73,7 +69,7 @@ fn port_of(action: &Action) -> Port
 
 /// Whether the node at the other end is told: of everything but that an input isn't needed any more.
 fn is_told(action: &Action) -> bool
-    ensures { result ≡ is_told_action action.now }
+    ensures { result ≡ is_told action.now }
 {
     !matches!(action, Action::Unwant(_))
 }
@@ -87,40 +83,33 @@ fn peer_of(wire: &Wire, port: Port) -> usize
     }
 }
 
-fn edge_at_port<P: Processor>(cells: &Vec<Cell<P>>, n: usize, port: Port) -> usize
+pub(crate) fn edge_at_port<P: Processor>(cells: &Vec<Cell<P>>, n: usize, port: Port) -> usize
     requires node { n < length cells.now.items }
-    requires number { HasNumber (cell_at (cells_of P.seen cells.now.items) n) port }
-    ensures { result ≡ port_edge (cell_at (cells_of P.seen cells.now.items) n) port }
+    requires number { IsPort (length (cell_at (cells_of P.seen cells.now.items) n).inputs) (length (cell_at (cells_of P.seen cells.now.items) n).outputs) port }
+    ensures { result ≡ port_edge (cell_at (cells_of P.seen cells.now.items) n).inputs (cell_at (cells_of P.seen cells.now.items) n).outputs port }
 {
     edge_of_cell(&cells[n], port)
 }
 
-fn edge_of_cell<P: Processor>(cell: &Cell<P>, port: Port) -> usize
-    requires { HasNumber (cell_picture P.seen cell.now) port }
-    ensures { result ≡ port_edge (cell_picture P.seen cell.now) port }
-{
-    match port {
-        Port::Input(i) => number_of(&cell.ports.inputs, i),
-        Port::Output(o) => number_of(&cell.ports.outputs, o),
-    }
-}
-
-fn tell<P: Processor>(cells: &mut Vec<Cell<P>>, m: usize)
+/// Tells node m that one of its ports has changed, where it is told.
+fn tell<P: Processor>(cells: &mut Vec<Cell<P>>, m: usize, told: bool)
     requires { m < length cells.old.items }
-    ensures { cells_of P.seen cells.new.items ≡ tell_at true m (cells_of P.seen cells.old.items) }
+    ensures { TellsNode told m (cells_of P.seen cells.old.items) (cells_of P.seen cells.new.items) }
 {
-    tell_cell(&mut cells[m]);
+    tell_cell(&mut cells[m], told);
 }
 
-fn tell_cell<P: Processor>(cell: &mut Cell<P>)
-    ensures { cell_picture P.seen cell.new ≡ told_if true (cell_picture P.seen cell.old) }
+fn tell_cell<P: Processor>(cell: &mut Cell<P>, told: bool)
+    ensures { cell_picture P.seen cell.new ≡ told_if told (cell_picture P.seen cell.old) }
 {
-    cell.ports.mark = cell.ports.mark.told();
+    if told {
+        cell.ports.mark = cell.ports.mark.told();
+    }
 }
 
 fn act_at(edges: &mut Vec<Edge>, e: usize, action: Action)
     requires { e < length edges.old.items }
-    ensures { edges.new.items ≡ slice_set edges.old.items e (after_action action (edge_at edges.old.items e)) }
+    ensures { MovesEdge e (after_action action) edges.old.items edges.new.items }
 {
     act_on(&mut edges[e], action);
 }

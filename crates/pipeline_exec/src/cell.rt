@@ -1,13 +1,11 @@
-ghost use Rattle.std.specs.Prelude.{◌≡◌, ◌≢◌, ℕ, ◌<◌, true, false, length, slice_set, None, IfOk, IfErr, OnOk};
-ghost use Rattle.port_word.specs.Names.{in_count, out_count, MaySee, after_see, IsSound, IsAllFinished};
-ghost use Rattle.port_word.specs.declared.flags.Port.TheVariants.{Input, Output};
-ghost use Rattle.proc_api.specs.declared.status.Answer.TheVariants.{Scheduled};
+ghost use Rattle.std.specs.Prelude.{◌≡◌, ℕ, ◌<◌, true, false, length, IfOk, IfErr, OnOk};
+ghost use Rattle.port_word.specs.Names.{MaySee, IsAllFinished};
 ghost use Rattle.proc_api.specs.Names.{IsRunning, MaySchedule, MayWork, AllOutputsFinished};
-ghost use Rattle.exec_laws.specs.Names.{KeepsFault, Acts, Leaves, StaysBox, Turns, lifted, state_after, unloaded, edge_at, number_at};
-ghost use Rattle.pipeline_exec.specs.Cells.{ActsCell, MayAct, MayShowInputs, MayShowOutputs, MayTurn, ShowsInputs, ShowsOutputs, Unloads, Wakes, call_after, cell_picture};
+ghost use Rattle.exec_laws.specs.Names.{Acts, ActsCell, IsPort, KeepsFault, Leaves, StaysBox, Turns, port_edge, state_after};
+ghost use Rattle.pipeline_exec.specs.Cells.{MayAct, MayPrepare, SeesPort, Wakes, call_after, cell_picture, port_on};
 
 use chunk_data::Chunk;
-use exec_laws::{DueCall, Edge, NodeMark, NodeState};
+use exec_laws::{DueCall, NodeMark, NodeState};
 use port_word::{Flags, Port, PortView};
 use proc_api::{Processor, Status, Wake, WorkFault, shut_down};
 
@@ -28,89 +26,52 @@ pub(crate) struct Cell<P> {
     pub ports: NodePorts,
 }
 
-/// Shows the node its ports and prepares its processor. What that did waits in the node's view.
-pub(crate) fn prepare_cell<P: Processor>(cell: &mut Cell<P>, edges: &mut Vec<Edge>)
-    requires { MayTurn (cell_picture P.seen cell.old) edges.old.items }
-    ensures turns { Turns (edge_at edges.old.items) (cell_picture P.seen cell.old) (cell_picture P.seen cell.new) }
-    ensures edges { Unloads (in_count cell.old.ports.view) cell.old.ports.inputs.items edges.old.items edges.new.items }
+/// The ports at one side of a node.
+#[derive(Clone, Copy)]
+pub(crate) enum Side {
+    Inputs,
+    Outputs,
+}
+
+pub(crate) fn port_on(side: Side, k: usize) -> Port
+    ensures { result ≡ port_on side k }
 {
-    show_inputs(&mut cell.ports.view, &cell.ports.inputs, edges);
-    show_outputs(&mut cell.ports.view, &cell.ports.outputs, edges);
+    match side {
+        Side::Inputs => Port::Input(k),
+        Side::Outputs => Port::Output(k),
+    }
+}
+
+/// The number of the edge at a port.
+pub(crate) fn edge_of_cell<P: Processor>(cell: &Cell<P>, port: Port) -> usize
+    requires { IsPort (length cell.now.ports.inputs.items) (length cell.now.ports.outputs.items) port }
+    ensures { result ≡ port_edge cell.now.ports.inputs.items cell.now.ports.outputs.items port }
+{
+    match port {
+        Port::Input(i) => cell.ports.inputs[i] as usize,
+        Port::Output(o) => cell.ports.outputs[o] as usize,
+    }
+}
+
+/// Brings a port of the node up to date.
+pub(crate) fn see<P: Processor>(cell: &mut Cell<P>, port: Port, flags: Flags, chunk: Option<Chunk>)
+    requires { MaySee cell.old.ports.view port flags chunk }
+    ensures { SeesPort port flags chunk (cell_picture P.seen cell.old) (cell_picture P.seen cell.new) }
+{
+    cell.ports.view.see(port, flags, chunk);
+}
+
+/// Prepares a node that has seen its ports. What its processor did waits in the node's view.
+pub(crate) fn prepare_cell<P: Processor>(cell: &mut Cell<P>)
+    requires { MayPrepare (cell_picture P.seen cell.old) }
+    ensures { Turns (cell_picture P.seen cell.old) (cell_picture P.seen cell.new) }
+{
     let status = cell.processor.prepare(&mut cell.ports.view);
     leave(status, &mut cell.ports.view);
     cell.ports.mark = NodeMark {
         state: state_after(status),
         last: Some(status),
     };
-}
-
-fn show_inputs(view: &mut PortView, numbers: &Vec<u32>, edges: &mut Vec<Edge>)
-    requires { MayShowInputs view.old numbers.now.items edges.old.items }
-    ensures { ShowsInputs (in_count view.old) view.old numbers.now.items edges.old.items view.new edges.new.items }
-{
-    for i in 0..view.inputs() {
-        show_input(view, edges, i, number_of(numbers, i));
-    }
-}
-
-pub(crate) fn number_of(numbers: &Vec<u32>, k: usize) -> usize
-    requires { k < length numbers.now.items }
-    ensures { result ≡ number_at numbers.now.items k }
-{
-    numbers[k] as usize
-}
-
-/// Shows an input with its edge, and takes the chunk that lies there.
-fn show_input(view: &mut PortView, edges: &mut Vec<Edge>, i: usize, e: usize)
-    requires edge { e < length edges.old.items }
-    requires may { MaySee view.old (Input i) (edge_at edges.old.items e).flags (lifted (edge_at edges.old.items e)) }
-    ensures view { view.new ≡ after_see view.old (Input i) (edge_at edges.old.items e).flags (lifted (edge_at edges.old.items e)) }
-    ensures sound { IsSound view.new }
-    ensures edges { edges.new.items ≡ slice_set edges.old.items e (unloaded (edge_at edges.old.items e)) }
-{
-    let flags = flags_at(edges, e);
-    let chunk = lift_at(edges, e);
-    view.see(Port::Input(i), flags, chunk);
-}
-
-fn flags_at(edges: &Vec<Edge>, e: usize) -> Flags
-    requires { e < length edges.now.items }
-    ensures { result ≡ (edge_at edges.now.items e).flags }
-{
-    edges[e].flags
-}
-
-fn lift_at(edges: &mut Vec<Edge>, e: usize) -> Option<Chunk>
-    requires { e < length edges.old.items }
-    ensures chunk { result ≡ lifted (edge_at edges.old.items e) }
-    ensures edges { edges.new.items ≡ slice_set edges.old.items e (unloaded (edge_at edges.old.items e)) }
-{
-    lift(&mut edges[e])
-}
-
-/// Takes the chunk that lies in the edge, unless its consumer closed it.
-fn lift(edge: &mut Edge) -> Option<Chunk>
-    ensures chunk { result ≡ lifted edge.old }
-    ensures edge { edge.new ≡ unloaded edge.old }
-{
-    if edge.flags.fin_in {
-        return None;
-    }
-    edge.chunk.take()
-}
-
-fn show_outputs(view: &mut PortView, numbers: &Vec<u32>, edges: &Vec<Edge>)
-    requires may { MayShowOutputs view.old numbers.now.items edges.now.items }
-    requires sound { IsSound view.old }
-    ensures { ShowsOutputs (out_count view.old) view.old numbers.now.items edges.now.items view.new }
-{
-    for o in 0..view.outputs() {
-        view.see(
-            Port::Output(o),
-            flags_at(edges, number_of(numbers, o)),
-            None,
-        );
-    }
 }
 
 /// Where the processor has finished, leaves no port open. A lawful one leaves none itself.

@@ -1,8 +1,8 @@
-ghost use Rattle.std.specs.Prelude.{◌≡◌, ◌≢◌, ℕ, ◌<◌, ◌≤◌, ◌++◌, ◌∷◌, true, false, length, Some, None, IfSome, IfNone, vec_capacity, vec_len, []};
+ghost use Rattle.std.specs.Prelude.{◌≡◌, ℕ, ◌+◌, ◌<◌, ◌≤◌, ◌++◌, ◌∷◌, cond, true, false, length, IfSome, IfNone, vec_capacity, []};
 ghost use Rattle.port_word.specs.Names.{in_count, out_count, output_at, WaitsForData, WaitsForRoom};
 ghost use Rattle.proc_api.specs.Settled.{Rests};
-ghost use Rattle.exec_laws.specs.Names.{stuck_cells, cell_at};
-ghost use Rattle.pipeline_exec.specs.Cells.{BearsOut, Belies, BeliesIts, cell_picture, cells_of};
+ghost use Rattle.exec_laws.specs.Names.{BearsOut, Belies, MarkTells, boxes_of, cell_at, is_resting, stuck_from};
+ghost use Rattle.pipeline_exec.specs.Cells.{cell_picture, cells_of};
 ghost use Rattle.pipeline_exec.specs.Resting.{HasNoRoom, HasOpenOutput, has_room, is_wanting};
 
 use crate::cell::Cell;
@@ -12,8 +12,9 @@ use proc_api::{Processor, Status};
 
 /// The first node at rest whose view belies its last status.
 pub(crate) fn first_unlawful<P: Processor>(cells: &Vec<Cell<P>>) -> Option<usize>
-    ensures found { IfSome result (λ n. Belies n (cells_of P.seen cells.now.items)) }
-    ensures missing { IfNone result ((n : ℕ) → n < length (cells_of P.seen cells.now.items) → BearsOut (cell_at (cells_of P.seen cells.now.items) n)) }
+    ensures in_range { IfSome result (λ n. n < length cells.now.items) }
+    ensures found { IfSome result (λ n. Belies (cell_at (cells_of P.seen cells.now.items) n)) }
+    ensures missing { IfNone result ((n : ℕ) → n < length cells.now.items → BearsOut (cell_at (cells_of P.seen cells.now.items) n)) }
 {
     for n in 0..cells.len() {
         if !is_borne_out(cells, n) {
@@ -26,7 +27,7 @@ pub(crate) fn first_unlawful<P: Processor>(cells: &Vec<Cell<P>>) -> Option<usize
 fn is_borne_out<P: Processor>(cells: &Vec<Cell<P>>, n: usize) -> bool
     requires { n < length cells.now.items }
     ensures yes { result ≡ true → BearsOut (cell_at (cells_of P.seen cells.now.items) n) }
-    ensures denied { result ≡ false → Belies n (cells_of P.seen cells.now.items) }
+    ensures denied { result ≡ false → Belies (cell_at (cells_of P.seen cells.now.items) n) }
 {
     bears_out(&cells[n])
 }
@@ -34,7 +35,7 @@ fn is_borne_out<P: Processor>(cells: &Vec<Cell<P>>, n: usize) -> bool
 /// Whether the node is at rest and its view bears out its last status, or it isn't at rest.
 fn bears_out<P: Processor>(cell: &Cell<P>) -> bool
     ensures yes { result ≡ true → BearsOut (cell_picture P.seen cell.now) }
-    ensures denied { result ≡ false → BeliesIts (cell_picture P.seen cell.now) }
+    ensures denied { result ≡ false → Belies (cell_picture P.seen cell.now) }
 {
     match cell.ports.mark.state {
         NodeState::Resting => rests(cell.ports.mark.last, &cell.ports.view),
@@ -120,7 +121,8 @@ pub(crate) fn list_stuck<P: Processor>(report: &mut Vec<StuckNode>, cells: &Vec<
     requires empty { report.old.items ≡ [] }
     requires room { length cells.now.items ≤ vec_capacity report.old }
     requires few { length cells.now.items ≤ 256 }
-    ensures { report.new.items ≡ stuck_cells 0 (cells_of P.seen cells.now.items) }
+    requires tells { (n : ℕ) → n < length cells.now.items → MarkTells (cell_at (cells_of P.seen cells.now.items) n) }
+    ensures { report.new.items ≡ stuck_from 0 (boxes_of (cells_of P.seen cells.now.items)) }
 {
     for n in 0..cells.len() {
         list_if_stuck(report, n as u32, &cells[n]);
@@ -129,7 +131,8 @@ pub(crate) fn list_stuck<P: Processor>(report: &mut Vec<StuckNode>, cells: &Vec<
 
 fn list_if_stuck<P: Processor>(report: &mut Vec<StuckNode>, node: u32, cell: &Cell<P>)
     requires { length report.old.items < vec_capacity report.old }
-    ensures items { report.new.items ≡ report.old.items ++ stuck_cells node (cell_picture P.seen cell.now ∷ []) }
+    ensures items { report.new.items ≡ report.old.items ++ cond (is_resting cell.now.ports.mark.state) (record { node = node; last = cell.now.ports.mark.last } ∷ []) [] }
+    ensures few { length report.new.items ≤ length report.old.items + 1 }
     ensures room { vec_capacity report.old ≤ vec_capacity report.new }
 {
     if let NodeState::Resting = cell.ports.mark.state {

@@ -1,13 +1,12 @@
-ghost use Rattle.std.specs.Prelude.{◌≡◌, ℕ, ◌<◌, ◌≤◌, ◌==◌, ◌&&◌, [], length, map, IfOk, vec_capacity};
-ghost use Rattle.port_word.specs.Calls.{new_picture};
-ghost use Rattle.port_word.specs.declared.flags.Port.TheVariants.{Input, Output};
-ghost use Rattle.proc_api.specs.Names.{input_count, output_count, wire_at, HasInputWire, HasOutputWire};
-ghost use Rattle.pipeline_exec.specs.Cells.{AreFirstEdges, AreNewEdges, AreNewFrom, AreNewPorts, Fills, HasEdge, HoldsGraph};
+ghost use Rattle.std.specs.Prelude.{◌≡◌, ◌<◌, ◌≤◌, [], length, map, IfOk, vec_capacity};
+ghost use Rattle.proc_api.specs.Names.{wire_at};
+ghost use Rattle.exec_laws.specs.Names.{HasEdge};
+ghost use Rattle.pipeline_exec.specs.Cells.{AreFirstEdges, AreNewEdges, AreNewFrom, AreNewPorts, Fills, HasWire, HoldsGraph, is_end, port_count};
 
-use crate::cell::{Cell, NodePorts};
+use crate::cell::{Cell, NodePorts, Side, port_on};
 use chunk_data::{List, Memory};
 use exec_laws::{Edge, NodeMark};
-use port_word::{PortView, Wire};
+use port_word::{Port, PortView, Wire};
 use std::alloc::Global;
 
 /// What the executor has of a graph: a cell for each node, the wires, and each wire's edge.
@@ -26,16 +25,13 @@ pub(crate) fn wire_of(wires: &[Wire], e: usize) -> Wire
     wires[e]
 }
 
-fn count_inputs(wires: &[Wire], node: usize) -> usize
-    ensures { result ≡ input_count wires.now node }
+fn count_ports(wires: &[Wire], node: usize, side: Side) -> usize
+    ensures { result ≡ port_count wires.now node side }
 {
-    wires.iter().filter(|w| w.to as usize == node).count()
-}
-
-fn count_outputs(wires: &[Wire], node: usize) -> usize
-    ensures { result ≡ output_count wires.now node }
-{
-    wires.iter().filter(|w| w.from as usize == node).count()
+    match side {
+        Side::Inputs => wires.iter().filter(|w| w.to as usize == node).count(),
+        Side::Outputs => wires.iter().filter(|w| w.from as usize == node).count(),
+    }
 }
 
 /// New views, marks and numbers of edges for so many nodes.
@@ -62,13 +58,12 @@ fn ports_of_node(
     wires: &[Wire],
 ) -> Result<NodePorts, Memory>
     requires graph { HoldsGraph nodes wires.now }
-    requires in_range { node < nodes }
     ensures { IfOk result (λ ports. AreNewPorts wires.now node ports) }
 {
-    let ins = count_inputs(wires, node);
-    let outs = count_outputs(wires, node);
-    let inputs = input_numbers(alloc, node, ins, nodes, wires)?;
-    let outputs = output_numbers(alloc, node, outs, nodes, wires)?;
+    let ins = count_ports(wires, node, Side::Inputs);
+    let outs = count_ports(wires, node, Side::Outputs);
+    let inputs = edge_numbers(alloc, node, Side::Inputs, ins, nodes, wires)?;
+    let outputs = edge_numbers(alloc, node, Side::Outputs, outs, nodes, wires)?;
     let view = PortView::new(alloc, ins, outs)?;
     Ok(NodePorts {
         view,
@@ -78,74 +73,42 @@ fn ports_of_node(
     })
 }
 
-fn input_numbers(
+/// The numbers of the edges at a side of the node.
+fn edge_numbers(
     alloc: Global,
     node: usize,
+    side: Side,
     count: usize,
     nodes: usize,
     wires: &[Wire],
 ) -> Result<Vec<u32>, Memory>
     requires graph { HoldsGraph nodes wires.now }
-    requires count { count ≡ input_count wires.now node }
-    ensures { IfOk result (λ numbers. AreFirstEdges wires.now node count (λ i. Input i) numbers.items) }
+    requires count { count ≡ port_count wires.now node side }
+    ensures { IfOk result (λ numbers. AreFirstEdges wires.now node count side numbers.items) }
 {
     let mut numbers = Vec::with_capacity(alloc, count)?;
-    for i in 0..count {
-        numbers.push(input_edge(wires, node, i) as u32)?;
+    for k in 0..count {
+        numbers.push(edge_at(wires, node, port_on(side, k)) as u32)?;
     }
     Ok(numbers)
 }
 
-fn output_numbers(
-    alloc: Global,
-    node: usize,
-    count: usize,
-    nodes: usize,
-    wires: &[Wire],
-) -> Result<Vec<u32>, Memory>
-    requires graph { HoldsGraph nodes wires.now }
-    requires count { count ≡ output_count wires.now node }
-    ensures { IfOk result (λ numbers. AreFirstEdges wires.now node count (λ o. Output o) numbers.items) }
+fn is_end(wire: &Wire, n: usize, port: Port) -> bool
+    ensures { result ≡ is_end wire.now n port }
 {
-    let mut numbers = Vec::with_capacity(alloc, count)?;
-    for o in 0..count {
-        numbers.push(output_edge(wires, node, o) as u32)?;
+    match port {
+        Port::Input(i) => wire.to as usize == n && wire.input as usize == i,
+        Port::Output(o) => wire.from as usize == n && wire.out as usize == o,
     }
-    Ok(numbers)
 }
 
-fn ends_at(wire: &Wire, n: usize, i: usize) -> bool
-    ensures { result ≡ ((wire.now.to == n) && (wire.now.input == i)) }
-{
-    wire.to as usize == n && wire.input as usize == i
-}
-
-fn begins_at(wire: &Wire, n: usize, o: usize) -> bool
-    ensures { result ≡ ((wire.now.from == n) && (wire.now.out == o)) }
-{
-    wire.from as usize == n && wire.out as usize == o
-}
-
-/// The edge that ends at the input of the node.
-fn input_edge(wires: &[Wire], n: usize, i: usize) -> usize
-    requires { HasInputWire wires.now n i }
-    ensures { HasEdge wires.now n (Input i) result }
+/// The edge that ends at the port of the node.
+fn edge_at(wires: &[Wire], n: usize, port: Port) -> usize
+    requires { HasWire wires.now n port }
+    ensures { HasEdge wires.now n port result }
 {
     for (e, wire) in wires.iter().enumerate() {
-        if ends_at(wire, n, i) {
-            return e;
-        }
-    }
-    wires.len()
-}
-
-/// The edge that begins at the output of the node.
-fn output_edge(wires: &[Wire], n: usize, o: usize) -> usize
-    requires { HasOutputWire wires.now n o }
-    ensures { HasEdge wires.now n (Output o) result }
-{
-    for (e, wire) in wires.iter().enumerate() {
-        if begins_at(wire, n, o) {
+        if is_end(wire, n, port) {
             return e;
         }
     }

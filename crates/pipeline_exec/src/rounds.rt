@@ -1,13 +1,15 @@
-ghost use Rattle.std.specs.Prelude.{◌≡◌, ℕ, ◌<◌, true, false, length, IfOk, IfErr, IfSome, OnOk};
-ghost use Rattle.port_word.specs.Pictures.{in_count};
-ghost use Rattle.exec_laws.specs.Names.{KeepsFault, StaysBox, Turns, is_waiting, cell_at, edge_at};
+ghost use Rattle.std.specs.Prelude.{◌≡◌, ◌+◌, ◌<◌, true, false, length, IfOk, IfErr, IfSome, OnOk};
+ghost use Rattle.port_word.specs.Names.{MaySee};
+ghost use Rattle.exec_laws.specs.Names.{ActsCell, IsNothingDue, KeepsFault, StaysBox, Turns, cell_at, edge_at, is_waiting, lifted, unloaded};
 ghost use Rattle.exec_laws.specs.declared.edges.NodeState.TheVariants.{AtWork, Due};
-ghost use Rattle.pipeline_exec.specs.Cells.{ActsCell, ChangesCell, FailsAt, IsNothingDue, IsUnderWay, MayAct, MayTurn, Stays, StayAll, Unloads, cells_of};
+ghost use Rattle.pipeline_exec.specs.Cells.{ChangesCell, FailsAt, IsTurning, IsUnderWay, MayAct, MayPrepare, MovesEdge, SeesPort, Shows, Stays, board_of, cells_of, port_count};
 
-use crate::actions::carry_actions;
-use crate::cell::{Cell, call_cell, prepare_cell};
+use crate::actions::{carry_actions, edge_at_port};
+use crate::cell::{Cell, Side, call_cell, port_on, prepare_cell, see};
 use crate::executor_state::ExecutorState;
+use chunk_data::Chunk;
 use exec_laws::{DueCall, Edge, NodeMark, NodeState};
+use port_word::{Flags, Port};
 use proc_api::{Processor, WorkFault};
 
 /// A fault, and the node whose box answered it.
@@ -19,9 +21,9 @@ pub(crate) struct NodeFault {
 
 /// Goes in rounds until no node is due, and says whether that came.
 pub(crate) fn run_rounds<P: Processor>(state: &mut ExecutorState<P>) -> Result<bool, NodeFault>
-    requires { IsUnderWay P.seen state.old }
-    ensures stays { Stays P.seen state.old state.new }
-    ensures under_way { OnOk result (IsUnderWay P.seen state.new) }
+    requires { IsUnderWay (board_of P.seen state.old) }
+    ensures stays { Stays (board_of P.seen state.old) (board_of P.seen state.new) }
+    ensures under_way { OnOk result (IsUnderWay (board_of P.seen state.new)) }
     ensures settled { IfOk result (λ settled. settled ≡ true → IsNothingDue (cells_of P.seen state.new.cells.items)) }
     ensures fault { IfErr result (λ f. FailsAt f.node f.fault (cells_of P.seen state.new.cells.items)) }
 {
@@ -65,9 +67,9 @@ pub(crate) fn mark_of<P: Processor>(cells: &Vec<Cell<P>>, n: usize) -> NodeMark
 
 /// Prepares the due nodes one after another.
 fn prepare_due<P: Processor>(state: &mut ExecutorState<P>)
-    requires { IsUnderWay P.seen state.old }
-    ensures stays { Stays P.seen state.old state.new }
-    ensures under_way { IsUnderWay P.seen state.new }
+    requires { IsUnderWay (board_of P.seen state.old) }
+    ensures stays { Stays (board_of P.seen state.old) (board_of P.seen state.new) }
+    ensures under_way { IsUnderWay (board_of P.seen state.new) }
 {
     for n in 0..state.cells.len() {
         if is_due(&state.cells, n) {
@@ -90,30 +92,108 @@ fn is_due<P: Processor>(cells: &Vec<Cell<P>>, n: usize) -> bool
 
 /// A turn of a due node: it sees its ports and is prepared, and what it did is carried out.
 fn prepare_node<P: Processor>(state: &mut ExecutorState<P>, n: usize)
-    requires under_way { IsUnderWay P.seen state.old }
-    requires node { n < length state.old.cells.items }
-    requires due { (cell_at (cells_of P.seen state.old.cells.items) n).mark.state ≡ Due }
-    ensures stays { Stays P.seen state.old state.new }
-    ensures under_way { IsUnderWay P.seen state.new }
+    requires { IsTurning n (board_of P.seen state.old) }
+    ensures stays { Stays (board_of P.seen state.old) (board_of P.seen state.new) }
+    ensures under_way { IsUnderWay (board_of P.seen state.new) }
 {
-    prepare_at(&mut state.cells, &mut state.edges, n);
+    let (inputs, outputs) = count_ports(&state.cells, n);
+    show_side(state, n, Side::Inputs, inputs);
+    show_side(state, n, Side::Outputs, outputs);
+    prepare_at(&mut state.cells, n);
     carry_actions(state, n);
 }
 
-fn prepare_at<P: Processor>(cells: &mut Vec<Cell<P>>, edges: &mut Vec<Edge>, n: usize)
-    requires node { n < length cells.old.items }
-    requires may { MayTurn (cell_at (cells_of P.seen cells.old.items) n) edges.old.items }
-    ensures turns { ChangesCell n (Turns (edge_at edges.old.items)) (cells_of P.seen cells.old.items) (cells_of P.seen cells.new.items) }
-    ensures edges { Unloads (in_count (cell_at (cells_of P.seen cells.old.items) n).view) (cell_at (cells_of P.seen cells.old.items) n).inputs edges.old.items edges.new.items }
+fn count_ports<P: Processor>(cells: &Vec<Cell<P>>, n: usize) -> (usize, usize)
+    requires { n < length cells.now.items }
+    ensures inputs { result.0 ≡ length (cell_at (cells_of P.seen cells.now.items) n).inputs }
+    ensures outputs { result.1 ≡ length (cell_at (cells_of P.seen cells.now.items) n).outputs }
 {
-    prepare_cell(&mut cells[n], edges);
+    let ports = &cells[n].ports;
+    (ports.inputs.len(), ports.outputs.len())
+}
+
+/// Shows the node each port of a side.
+fn show_side<P: Processor>(state: &mut ExecutorState<P>, n: usize, side: Side, count: usize)
+    requires turning { IsTurning n (board_of P.seen state.old) }
+    requires count { count ≡ port_count state.old.wires n side }
+    ensures { Shows n side 0 count (board_of P.seen state.old) (board_of P.seen state.new) }
+{
+    for k in 0..count {
+        show_port(state, n, side, k);
+    }
+}
+
+/// Shows the node a port with its edge, and takes the chunk that lies there.
+fn show_port<P: Processor>(state: &mut ExecutorState<P>, n: usize, side: Side, k: usize)
+    requires turning { IsTurning n (board_of P.seen state.old) }
+    requires port { k < port_count state.old.wires n side }
+    ensures { Shows n side k (k + 1) (board_of P.seen state.old) (board_of P.seen state.new) }
+{
+    let port = port_on(side, k);
+    let e = edge_at_port(&state.cells, n, port);
+    let flags = flags_at(&state.edges, e);
+    let chunk = lift_at(&mut state.edges, e, port);
+    see_at(&mut state.cells, n, port, flags, chunk);
+}
+
+fn flags_at(edges: &Vec<Edge>, e: usize) -> Flags
+    requires { e < length edges.now.items }
+    ensures { result ≡ (edge_at edges.now.items e).flags }
+{
+    edges[e].flags
+}
+
+fn lift_at(edges: &mut Vec<Edge>, e: usize, port: Port) -> Option<Chunk>
+    requires { e < length edges.old.items }
+    ensures chunk { result ≡ lifted port (edge_at edges.old.items e) }
+    ensures edges { MovesEdge e (unloaded port) edges.old.items edges.new.items }
+{
+    lift(&mut edges[e], port)
+}
+
+/// Takes the chunk that lies in the edge for an input, unless the input is closed.
+fn lift(edge: &mut Edge, port: Port) -> Option<Chunk>
+    ensures chunk { result ≡ lifted port edge.old }
+    ensures edge { edge.new ≡ unloaded port edge.old }
+{
+    match port {
+        Port::Input(_) => {
+            if edge.flags.fin_in {
+                return None;
+            }
+            edge.chunk.take()
+        }
+        Port::Output(_) => None,
+    }
+}
+
+fn see_at<P: Processor>(
+    cells: &mut Vec<Cell<P>>,
+    n: usize,
+    port: Port,
+    flags: Flags,
+    chunk: Option<Chunk>,
+)
+    requires node { n < length cells.old.items }
+    requires may { MaySee (cell_at (cells_of P.seen cells.old.items) n).view port flags chunk }
+    ensures { ChangesCell n (SeesPort port flags chunk) (cells_of P.seen cells.old.items) (cells_of P.seen cells.new.items) }
+{
+    see(&mut cells[n], port, flags, chunk);
+}
+
+fn prepare_at<P: Processor>(cells: &mut Vec<Cell<P>>, n: usize)
+    requires node { n < length cells.old.items }
+    requires may { MayPrepare (cell_at (cells_of P.seen cells.old.items) n) }
+    ensures { ChangesCell n Turns (cells_of P.seen cells.old.items) (cells_of P.seen cells.new.items) }
+{
+    prepare_cell(&mut cells[n]);
 }
 
 /// Makes the call that each node at work is due, one after another.
 fn call_nodes<P: Processor>(state: &mut ExecutorState<P>) -> Result<(), NodeFault>
-    requires { IsUnderWay P.seen state.old }
-    ensures stays { Stays P.seen state.old state.new }
-    ensures under_way { OnOk result (IsUnderWay P.seen state.new) }
+    requires { IsUnderWay (board_of P.seen state.old) }
+    ensures stays { Stays (board_of P.seen state.old) (board_of P.seen state.new) }
+    ensures under_way { OnOk result (IsUnderWay (board_of P.seen state.new)) }
     ensures fault { IfErr result (λ f. FailsAt f.node f.fault (cells_of P.seen state.new.cells.items)) }
 {
     for n in 0..state.cells.len() {
@@ -145,14 +225,17 @@ fn call_node<P: Processor>(
     n: usize,
     call: DueCall,
 ) -> Result<(), WorkFault>
-    requires under_way { IsUnderWay P.seen state.old }
+    requires under_way { IsUnderWay (board_of P.seen state.old) }
     requires node { n < length state.old.cells.items }
     requires due { (cell_at (cells_of P.seen state.old.cells.items) n).mark.state ≡ AtWork call }
-    ensures stays { Stays P.seen state.old state.new }
-    ensures under_way { OnOk result (IsUnderWay P.seen state.new) }
+    ensures stays { Stays (board_of P.seen state.old) (board_of P.seen state.new) }
+    ensures under_way { OnOk result (IsUnderWay (board_of P.seen state.new)) }
     ensures fault { IfErr result (λ f. FailsAt n f (cells_of P.seen state.new.cells.items)) }
 {
-    call_at(&mut state.cells, n, call)
+    match call_at(&mut state.cells, n, call) {
+        Ok(()) => Ok(()),
+        Err(fault) => Err(fault),
+    }
 }
 
 fn call_at<P: Processor>(cells: &mut Vec<Cell<P>>, n: usize, call: DueCall) -> Result<(), WorkFault>
@@ -162,5 +245,8 @@ fn call_at<P: Processor>(cells: &mut Vec<Cell<P>>, n: usize, call: DueCall) -> R
     ensures ok { OnOk result (ChangesCell n ActsCell (cells_of P.seen cells.old.items) (cells_of P.seen cells.new.items)) }
     ensures fault { IfErr result (λ f. KeepsFault f (cell_at (cells_of P.seen cells.new.items) n).box) }
 {
-    call_cell(&mut cells[n], call)
+    match call_cell(&mut cells[n], call) {
+        Ok(()) => Ok(()),
+        Err(fault) => Err(fault),
+    }
 }

@@ -1,8 +1,8 @@
-ghost use Rattle.std.specs.Prelude.{◌≡◌, ℕ, ◌<◌, ◌≤◌, length, map, vec_capacity, []};
+ghost use Rattle.std.specs.Prelude.{◌≡◌, ◌≤◌, length, map, vec_capacity, []};
 ghost use Rattle.std.specs.List.{All};
 ghost use Rattle.proc_api.specs.Clauses.{IsFresh};
-ghost use Rattle.exec_laws.specs.Ends.{GivenBack};
-ghost use Rattle.pipeline_exec.specs.Cells.{AreNewEdges, AreNewFrom, FailsAt, HoldsGraph, IsNothingDue, IsUnderWay, Stays, boxes_of, cells_of};
+ghost use Rattle.exec_laws.specs.Ends.{GivenBack, IsNothingDue, boxes_of};
+ghost use Rattle.pipeline_exec.specs.Cells.{AreNewEdges, AreNewFrom, FailsAt, HoldsGraph, IsUnderWay, Stays, board_of, cells_of};
 ghost use Rattle.pipeline_exec.specs.Ends.{EndHolds, IsNoList};
 
 use crate::cell::{Cell, NodePorts};
@@ -119,10 +119,10 @@ fn run_in_cells<P: Processor>(
 }
 
 fn run_state<P: Processor>(state: &mut ExecutorState<P>, report: Vec<StuckNode>) -> ExecEnd
-    requires under_way { IsUnderWay P.seen state.old }
+    requires under_way { IsUnderWay (board_of P.seen state.old) }
     requires empty { report.items ≡ [] }
     requires room { length state.old.cells.items ≤ vec_capacity report }
-    ensures stays { Stays P.seen state.old state.new }
+    ensures stays { Stays (board_of P.seen state.old) (board_of P.seen state.new) }
     ensures end { EndHolds result state.old.wires (boxes_of (cells_of P.seen state.new.cells.items)) }
 {
     match run_rounds(state) {
@@ -144,7 +144,7 @@ fn fault_end<P: Processor>(state: &ExecutorState<P>, f: NodeFault) -> ExecEnd
 }
 
 fn end_of<P: Processor>(state: &ExecutorState<P>, report: Vec<StuckNode>) -> ExecEnd
-    requires under_way { IsUnderWay P.seen state.now }
+    requires under_way { IsUnderWay (board_of P.seen state.now) }
     requires settled { IsNothingDue (cells_of P.seen state.now.cells.items) }
     requires empty { report.items ≡ [] }
     requires room { length state.now.cells.items ≤ vec_capacity report }

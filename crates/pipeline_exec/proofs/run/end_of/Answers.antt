@@ -1,10 +1,12 @@
 use Rattle.std.proofs.Common.{◌∙◌}
-use Rattle.pipeline_exec.specs.Cells.{cells_of}
-use Rattle.pipeline_exec.proofs.RunEnds.{run-done, run-stuck}
+use Rattle.pipeline_exec.specs.Cells.{board_of}
+use Rattle.pipeline_exec.proofs.Lists.{cells-below, cells-within}
+use Rattle.pipeline_exec.proofs.RunEnds.{is-done, is-stuck}
 use Rattle.pipeline_exec.proofs.run.end_of.Goals as goal
 
 pub returns-in-Some : goal.returns-in-Some
-returns-in-Some g c = run-stuck c.args.state.now.wires (cells_of g.P.Processor.seen c.args.state.now.cells.items) c.args.state.now.edges.items c.requires.under_way c.requires.settled c.in-Some.n c.from_vec.result (c.from_vec.ensures ∙ c.list_stuck.ensures) c.in-Some.ensures.found
+returns-in-Some g c =
+    is-stuck (board_of g.P.Processor.seen c.args.state.now) c.requires.under_way c.requires.settled c.in-Some.n c.from_vec.result (cells-below g.P.Processor.seen c.args.state.now.cells.items c.in-Some.n c.in-Some.ensures.in_range) c.in-Some.ensures.found (c.from_vec.ensures ∙ c.list_stuck.ensures)
 
 pub returns-in-None : goal.returns-in-None
-returns-in-None g c = run-done c.args.state.now.wires (cells_of g.P.Processor.seen c.args.state.now.cells.items) c.args.state.now.edges.items c.requires.under_way c.requires.settled c.in-None.ensures.missing
+returns-in-None g c = is-done (board_of g.P.Processor.seen c.args.state.now) c.requires.under_way c.requires.settled (λ n lt. c.in-None.ensures.missing n (cells-within g.P.Processor.seen c.args.state.now.cells.items n lt))

@@ -1,4 +1,5 @@
-use Rattle.std.proofs.Common.{subst}
+use Rattle.std.proofs.Common.{refl, subst}
+use Rattle.pipeline_exec.specs.Cells.{board_of}
 use Rattle.pipeline_exec.specs.Ends.{EndHolds}
 use Rattle.pipeline_exec.proofs.Creating.{state-started}
 use Rattle.pipeline_exec.proofs.RunEnds.{all-back, boxes-end}
@@ -10,7 +11,7 @@ run_state-end-requires-clause-under_way g c = λ κs lives.
 
 pub returns-clause-back : goal.returns-clause-back
 returns-clause-back g c =
-    all-back g.P.Processor.seen c.fill_cells.new.cells.items c.run_state-end.new.state.cells.items c.args.boxes.now.items c.empty_cells.new.processors.items c.fill_cells.ensures.cells.processors c.empty_cells.ensures c.run_state-end.ensures.stays.1
+    all-back g.P.Processor.seen c.fill_cells.new.cells.items c.run_state-end.new.state.cells.items c.args.boxes.now.items c.empty_cells.new.processors.items _ (board_of g.P.Processor.seen c.run_state-end.new.state) refl refl c.fill_cells.ensures.cells.processors c.empty_cells.ensures c.run_state-end.ensures.stays
 
 pub returns-clause-end : goal.returns-clause-end
 returns-clause-end g c =
