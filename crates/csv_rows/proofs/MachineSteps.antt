@@ -1,14 +1,13 @@
 -- The machine of the `csv` crate, by fields and lines.
-use Rattle.std.proofs.Common.{◌≡◌, inl, inr, ℕ, zero, suc, ◌+◌, ◌==◌, ◌||◌, ◌&&◌, Bool, true, false, cond, not, List, [], ◌∷◌, ◌++◌, take, drop, refl, ap, ◌∙◌, arith, append_assoc, Option, Some, None}
+use Rattle.std.proofs.Common.{◌≡◌, inl, inr, ℕ, zero, suc, ◌+◌, ◌==◌, ◌&&◌, Bool, true, false, cond, not, List, [], ◌∷◌, ◌++◌, take, drop, refl, ap, ◌∙◌, arith, append_assoc, Option, Some, None}
 use Rattle.std.specs.Prelude.{IsSome}
 use Rattle.std.specs.List.{prefix_len}
 use Rattle.std.proofs.lemmas.List.{append-nil}
 use Rattle.std.proofs.lemmas.Bool.{eqb-true, and_parts, or_cases, or_parts, not-true}
-use Rattle.csv.specs.Machine.{Read, next_record, step, in_field, after_end, is_end, ends_at_end, state_code}
+use Rattle.csv.specs.Machine.{Read, next_record, step, is_end, ends_at_end, state_code}
 use Rattle.csv.specs.Reading.{default_config, records_from, records_next}
 use Rattle.csv.specs.declared.parser.State.{State}
 use Rattle.csv.specs.declared.parser.State.TheVariants as st
-use Rattle.csv.specs.declared.parser.Action.{Action}
 use Rattle.csv.specs.declared.parser.Action.TheVariants as act
 use Rattle.csv_rows.specs.RowsLeft.{at_end}
 use Rattle.csv_rows.specs.Places.{is_line_end, is_mark, no_mark, no_quote, first_or, starts_with, starts_line, BeginsField, BeginsFields, FirstRecord}
@@ -39,7 +38,8 @@ copied s q h fields field (c ∷ xs) =
         (append_assoc field (c ∷ []) (take (prefix_len q xs) xs)))
     go false e more = rw (append-nil field) refl
 
-plain_copies : (c : ℕ) → no_mark c ≡ true → step default_config st.InField c ≡ (st.InField, act.Copy)
+plain_copies : (c : ℕ) → no_mark c ≡ true
+    → step default_config st.InField c ≡ (st.InField, act.Copy)
 plain_copies c h =
     let marks = or_parts (c == 44) _ (not-true _ h) in
     let ends = or_parts (c == 10) _ marks.1 in
@@ -179,34 +179,17 @@ last_of_text {xs = xs} {fields = fields} {field = field} a b =
 abbrev busy : State → Bool
 busy s = ends_at_end s && not (state_code s == 1536)
 
--- a record goes on, unless the action ends it
-record Goes (r : State × Action) : Type 0 where
-  on : is_end r.1 ≡ false → busy r.0 ≡ true
-
-either : (b : Bool) (x y : State × Action) → Goes x → Goes y → Goes (cond b x y)
-either true x y h k = h
-either false x y h k = k
-
-goes : (s : State) (a : Action) → busy s ≡ true → Goes (s, a)
-goes s a h = record { on = λ k. h }
-
-stops : (s : State) → Goes (s, act.EndRecord)
-stops s = record { on = λ k. absurd cc }
-
-in_field_goes : (c : ℕ) → Goes (in_field default_config c)
-in_field_goes c = either _ _ _ (goes st.StartField act.EndField refl) (either _ _ _
-    (stops (after_end default_config.terminator c)) (goes st.InField act.Copy refl))
-
-step_goes : (s : State) (c : ℕ) → busy s ≡ true → Goes (step default_config s c)
-step_goes st.StartRecord c h = absurd cc
-step_goes st.StartField c h = either _ _ _ (goes st.InQuoted act.Skip refl) (in_field_goes c)
-step_goes st.InField c h = in_field_goes c
-step_goes st.InQuoted c h =
-    either _ _ _ (goes st.AfterQuote act.Skip refl) (goes st.InQuoted act.Copy refl)
-step_goes st.AfterQuote c h = either _ _ _ (goes st.InQuoted act.Copy refl) (in_field_goes c)
-step_goes st.InEscape c h = goes st.InQuoted act.Copy refl
-step_goes st.InComment c h = absurd cc
-step_goes st.AfterCr c h = absurd cc
+-- a record that has begun goes on, unless the action ends it
+step_goes : (s : State) (c : ℕ) → busy s ≡ true → is_end (step default_config s c).1 ≡ false
+    → busy (step default_config s c).0 ≡ true
+step_goes st.StartRecord c h e = absurd cc
+step_goes st.StartField c h e = grind (arith, e)
+step_goes st.InField c h e = grind (arith, e)
+step_goes st.InQuoted c h e = grind (arith, e)
+step_goes st.AfterQuote c h e = grind (arith, e)
+step_goes st.InEscape c h e = refl
+step_goes st.InComment c h e = absurd cc
+step_goes st.AfterCr c h e = absurd cc
 
 some_in : (b : Bool) (p : Read) (o : Option Read) → (b ≡ false → IsSome o)
     → IsSome (cond b (Some p) o)
@@ -219,7 +202,7 @@ there_is : (s : State) (fields : List (List ℕ)) (field xs : List ℕ) → busy
 unfolding next_record
 there_is s fields field [] h = rw (and_parts (ends_at_end s) _ h).0 refl
 there_is s fields field (c ∷ xs) h = some_in (is_end (step default_config s c).1) _ _
-    (λ e. there_is (step default_config s c).0 _ _ xs ((step_goes s c h).on e))
+    (λ e. there_is (step default_config s c).0 _ _ xs (step_goes s c h e))
 
 -- where a line starts, a record is left
 pub record_left : (n : ℕ) (xs : List ℕ) → starts_line xs ≡ true

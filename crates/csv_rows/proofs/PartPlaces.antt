@@ -8,13 +8,13 @@ use Rattle.csv.specs.Reading.{default_config, records, records_from, strip_bom, 
 use Rattle.csv.specs.declared.parser.State.TheVariants as st
 use Rattle.query_model.specs.Parts.{part_records, good_rows, bad_place, row_then}
 use Rattle.csv_rows.specs.RowsLeft.{RowsLeft, TakesRow, at_end}
-use Rattle.csv_rows.specs.Places.{starts_line, FirstRecord, records_at, StartsLine, SkipsEnds, AddsFirst, IsBadAt, ReadsFirst, StartsPart, OnBad}
+use Rattle.csv_rows.specs.Places.{starts_line, FirstRecord, records_at, StartsLine, SkipsEnds, AddsFirst, IsBadAt, PassesFrom, StartsPart, OnBad}
 use Rattle.csv_rows.specs.declared.rows.RowsFault.{RowsFault}
 use Rattle.csv_rows.specs.declared.rows.RowsFault.TheVariants.{Bad, Memory}
 use Rattle.chunk_data.specs.declared.typed_column.Column.{Column}
 use Rattle.chunk_data.specs.Names.{kind_of}
 use Rattle.query_model.proofs.Reading.{spelled_row-fits}
-use Rattle.csv_rows.proofs.MachineSteps.{record_left, records_nil}
+use Rattle.csv_rows.proofs.MachineSteps.{record_left, record_starts, records_nil}
 
 -- no record is left behind the end
 none_left : (left : ℕ) (bytes : List ℕ) (at : ℕ) → length bytes ≤ at → records_at left bytes at ≡ []
@@ -71,8 +71,8 @@ pub bad_here : (left : ℕ) (bytes : List ℕ) (at number : ℕ) (columns : List
 unfolding bad_place
 bad_here left bytes at number columns rest Memory some is h = tt
 bad_here left bytes at number columns rest (Bad place) some is h =
-    ap (bad_place number (map kind_of columns)) (first_here left bytes at some is h.is)
-    ∙ rw h.bad.unspelled (ap Some (sym h.bad.is))
+    ap (bad_place number (map kind_of columns)) (first_here left bytes at some is h.reads.is)
+    ∙ rw h.unspelled (ap Some (sym h.is))
 
 -- none can come, where none is left
 pub over_none : (left : ℕ) (bytes : List ℕ) (at : ℕ) → left ≡ 0
@@ -127,16 +127,18 @@ part_empty bytes m at le e h over =
     record { is = none ∙ ap (drop 1) (sym none ∙ part_at bytes m at le e h); starts = h.starts }
 
 -- behind a header they begin with the second record
-pub part_headed : {bytes : List ℕ} {m at next : ℕ} → (fields : List (List ℕ)) → m ≤ length bytes
-    → drop m bytes ≡ strip_bom bytes → SkipsEnds bytes m at → ReadsFirst bytes at fields next
-    → StartsPart true bytes next (length bytes - m)
+pub part_headed : {bytes : List ℕ} {m at count next : ℕ} → m ≤ length bytes
+    → drop m bytes ≡ strip_bom bytes → SkipsEnds bytes m at → at < length bytes
+    → PassesFrom bytes at count next → StartsPart true bytes next (length bytes - m)
 unfolding part_records
-part_headed {bytes = bytes} {m = m} {at = at} {next = next} fields le e h r =
+part_headed {bytes = bytes} {m = m} {at = at} {next = next} le e h lt p =
     let one : length bytes - m + 1 ≡ suc (length bytes - m) = omega arith in
+    let header = p.rest.ends.ends (drop at bytes) (drop at bytes) [] p.field
+    (record_starts (drop at bytes) (h.starts.line lt)) p.upto.begins in
     record {
-      is = ap (drop 1) (sym (r.is.reads (length bytes - m)) ∙ ap (λ n. records_at n bytes at) (sym one)
-          ∙ part_at bytes m at le e h);
-      starts = r.starts;
+      is = ap (drop 1) (sym (header.reads (length bytes - m))
+          ∙ ap (λ n. records_at n bytes at) (sym one) ∙ part_at bytes m at le e h);
+      starts = p.rest.ends.starts;
     }
 
 -- how the rows of a part begin

@@ -1,5 +1,5 @@
--- a record that is added to columns field by field
-use Rattle.std.proofs.Common.{◌≡◌, ◌≢◌, zero, suc, true, false, ℕ, ◌+◌, ◌<◌, ◌≤◌, List, [], ◌∷◌, ◌++◌, length, get_or, set, take, map, refl, ap, ap₂, sym, ◌∙◌, drop, subst, arith, append_assoc, None}
+-- records that are added to columns field by field
+use Rattle.std.proofs.Common.{◌≡◌, ◌≢◌, zero, suc, true, false, Bool, ℕ, ◌+◌, ◌<◌, ◌≤◌, List, [], ◌∷◌, ◌++◌, length, get_or, set, take, map, refl, ap, ap₂, sym, ◌∙◌, drop, subst, arith, append_assoc, None}
 use Rattle.std.proofs.lemmas.List.{map-set, get_or-map, set-get_or, length-map, take_at, length-append}
 use Rattle.std.proofs.lemmas.Bool.{eq-eqb}
 use Rattle.std.specs.Prelude.{◌==◌}
@@ -10,11 +10,10 @@ use Rattle.query_model.specs.declared.places.BadField.TheVariants.{Column as col
 use Rattle.query_model.proofs.Reading.{spelled_row-lengths, bad_field-lengths}
 use Rattle.chunk_data.proofs.ColumnLists.{Joined-none, Joined-back}
 use Rattle.chunk_data.proofs.Laws.{length-FitsTypes, length-rows_of, rows_of_push, AreLong_push}
-use Rattle.csv_rows.specs.declared.rows.FieldFault.{FieldFault}
-use Rattle.csv_rows.specs.declared.rows.FieldFault.TheVariants.{Unspelled, Memory}
 use Rattle.csv_rows.proofs.FieldPlaces.{first_is, first_within}
 use Rattle.csv_rows.proofs.MachineSteps.{record_starts, one_more}
-use Rattle.csv_rows.specs.Places.{starts_with, starts_line, BeginsFields, FieldUpTo, EndsLine, AddsAt, AddsFirst, ReadsFirst, AddsSpelled, AddsRecord, IsBadRecord, OnBad, OnUnspelled, TakesBack, record_fault}
+use Rattle.csv_rows.specs.declared.record_by_field.RecordRead.{RecordRead}
+use Rattle.csv_rows.specs.Places.{starts_with, starts_line, BeginsFields, EndsRecord, FieldUpTo, Judged, Pushes, PushesFirst, PassesFrom, ReadsFirst, AddsSpelled, AddsRecord, IsBadAt, StopsAt, TakesBack}
 use Rattle.csv_rows.specs.RowsLeft.{RowsLeft, ReadsFront, TakesRow, at_end}
 
 -- the fields were added to the first columns, one to each, and the others are as they were
@@ -86,23 +85,22 @@ front_back fields old now h = record {
         ap₂ ◌∷◌ (ap (take n) h.1.added ∙ take_at (values o) (h.1.value ∷ []) n long.0)
         (go n fields old now h.2 long.1)
 
--- field i spells no value
-front_stops : (i : ℕ) (fields : List (List ℕ)) (old now : List Column) (d : Column)
-    → Front (take i fields) old now → i < length now → i < length fields
-    → spelled_value (kind_of (get_or now i d)) (get_or fields i []) ≡ None
-    → (spelled_row (map kind_of old) fields ≡ None)
-    × ((c : ℕ) → bad_column c (map kind_of old) fields ≡ c + i)
+-- the field behind them spells no value
+front_stops : (fields : List (List ℕ)) (f : List ℕ) (more : List (List ℕ)) (old now : List Column)
+    (d : Column) → Front fields old now → length fields < length now
+    → spelled_value (kind_of (get_or now (length fields) d)) f ≡ None
+    → (spelled_row (map kind_of old) (fields ++ f ∷ more) ≡ None)
+    × ((c : ℕ) → bad_column c (map kind_of old) (fields ++ f ∷ more) ≡ c + length fields)
 unfolding spelled_row bad_column
-front_stops i [] old now d h lt long u = absurd (omega (arith, long))
-front_stops zero (f ∷ fields) old [] d h lt long u = absurd (omega (arith, lt))
-front_stops zero (f ∷ fields) old (n ∷ now) d h lt long u =
-    subst (λ o. (spelled_row (map kind_of o) (f ∷ fields) ≡ None)
-    × ((c : ℕ) → bad_column c (map kind_of o) (f ∷ fields) ≡ c + 0)) h
-    (ap (λ v. both_spelled v (spelled_row (map kind_of now) fields)) u, λ c. rw u (omega arith))
-front_stops (suc i) (f ∷ fields) [] now d h lt long u = absurd h
-front_stops (suc i) (f ∷ fields) (o ∷ old) [] d h lt long u = absurd h
-front_stops (suc i) (f ∷ fields) (o ∷ old) (n ∷ now) d h lt long u =
-    let rest = front_stops i fields old now d h.2 (omega (arith, lt)) (omega (arith, long)) u in
+front_stops [] f more old [] d h lt u = absurd (omega (arith, lt))
+front_stops [] f more old (n ∷ now) d h lt u =
+    subst (λ o. (spelled_row (map kind_of o) (f ∷ more) ≡ None)
+    × ((c : ℕ) → bad_column c (map kind_of o) (f ∷ more) ≡ c + 0)) h
+    (ap (λ v. both_spelled v (spelled_row (map kind_of now) more)) u, λ c. rw u (omega arith))
+front_stops (g ∷ fields) f more [] now d h lt u = absurd h
+front_stops (g ∷ fields) f more (o ∷ old) [] d h lt u = absurd h
+front_stops (g ∷ fields) f more (o ∷ old) (n ∷ now) d h lt u =
+    let rest = front_stops fields f more old now d h.2 (omega (arith, lt)) u in
     (ap₂ both_spelled h.1.spells rest.0, λ c. rw h.1.spells (omega (arith, rest.1 (c + 1))))
 
 -- the same where column i was then left as it is
@@ -119,116 +117,146 @@ back_at fields old now i d y h lt k v = record {
     same f e = map-set f now i y ∙ ap (set (map f now) i) (e
         ∙ sym (get_or-map f now i d (f d) lt)) ∙ set-get_or (map f now) i (f d)
 
--- field i spells no value, so the record is bad
-pub record_stops : (fault : FieldFault) (number i : ℕ) (fields : List (List ℕ))
-    (old now : List Column) (d : Column) → Front (take i fields) old now
-    → length fields ≡ length old → i < length now
-    → OnUnspelled fault (spelled_value (kind_of (get_or now i d)) (get_or fields i []) ≡ None)
-    → OnBad (record_fault fault number i) (IsBadRecord old fields number)
-record_stops Memory number i fields old now d h long lt u = tt
-record_stops Unspelled number i fields old now d h long lt u =
-    let some : i < length fields = omega (arith, front_long (take i fields) old now h, long, lt) in
-    let stops = front_stops i fields old now d h lt some u in
-    let many : (length fields == length (map kind_of old)) ≡ true =
-    eq-eqb (length fields) (length (map kind_of old)) (long ∙ sym (length-map old kind_of)) in
-    let column : i + 1 ≡ bad_column 1 (map kind_of old) fields = omega (arith, stops.1 1) in
-    record {
-      unspelled = stops.0;
-      is = rw many (ap (λ c. record { row = number; field = column_field c }) column);
-    }
-
--- another number of fields than columns
-pub wrong_length : (fields : List (List ℕ)) (old : List Column) (number : ℕ)
-    → length fields ≢ length old
-    → IsBadRecord old fields number (record { row = number; field = fields_field (length fields) })
-wrong_length fields old number h =
-    let other : length fields ≢ length (map kind_of old) = λ e. h (e ∙ length-map old kind_of) in
-    record {
-      unspelled = spelled_row-lengths (map kind_of old) fields other;
-      is = ap (λ f. record { row = number; field = f })
-          (sym (bad_field-lengths (map kind_of old) fields other));
-    }
-
--- the fields that were read of the record at a place
-pub record FieldsSoFar (bytes : List ℕ) (at place : ℕ) (fields : List (List ℕ)) : Type 0 where
-  pub begins : BeginsFields (drop at bytes) fields (drop place bytes)
-  pub within : place ≤ length bytes
-
--- no field was read yet
-pub fields_none : (bytes : List ℕ) (at : ℕ) → at ≤ length bytes → starts_line (drop at bytes) ≡ true
-    → FieldsSoFar bytes at at []
-fields_none bytes at le h = record { begins = record_starts (drop at bytes) h; within = le }
-
--- one field more, with a comma behind it
-pub fields_more : {bytes : List ℕ} {at place end : ℕ} {fields : List (List ℕ)} → (field : List ℕ)
-    → FieldsSoFar bytes at place fields → FieldUpTo bytes place field end
-    → starts_with 44 (drop end bytes) ≡ true → FieldsSoFar bytes at (end + 1) (fields ++ field ∷ [])
-fields_more {bytes = bytes} {place = place} {end = end} field h upto comma =
-    let lt = first_within 44 bytes end comma in
-    record {
-      begins = one_more h.begins (rw (first_is false 44 bytes end lt comma) at upto.begins);
-      within = omega (arith, lt);
-    }
-
--- the last field, with the end of its line
-pub fields_last : {bytes : List ℕ} {at place end next : ℕ} {fields : List (List ℕ)}
-    → (field : List ℕ) → FieldsSoFar bytes at place fields → FieldUpTo bytes place field end
-    → EndsLine bytes end next → ReadsFirst bytes at (fields ++ field ∷ []) next
-fields_last {bytes = bytes} {at = at} {place = place} {fields = fields} field h upto line = record {
-  is = line.ends (drop at bytes) (drop place bytes) fields field h.begins upto.begins;
-  starts = line.starts;
-}
-
 -- the fields that were read and added to columns
 pub record RowSoFar (bytes : List ℕ) (at place : ℕ) (old now : List Column) (i : ℕ) : Type 0 where
   pub fields : List (List ℕ)
   pub count : length fields ≡ i
-  pub reads : FieldsSoFar bytes at place fields
+  pub begins : BeginsFields (drop at bytes) fields (drop place bytes)
+  pub within : place ≤ length bytes
   pub added : Front fields old now
 
 -- no field was added yet
 pub row_none : (bytes : List ℕ) (at : ℕ) (columns : List Column) → at ≤ length bytes
     → starts_line (drop at bytes) ≡ true → RowSoFar bytes at at columns columns 0
-row_none bytes at columns le h =
-    record { fields = []; count = refl; reads = fields_none bytes at le h; added = refl }
-
--- one field more
-pub row_next : {bytes : List ℕ} {at place end : ℕ} {old now : List Column} {i : ℕ} (d y : Column)
-    (h : RowSoFar bytes at place old now i) → i < length now
-    → kind_of y ≡ kind_of (get_or now i d) → (a : AddsAt bytes place end (get_or now i d) y)
-    → Front (h.fields ++ a.field ∷ []) old (set now i y)
-row_next {old = old} {now = now} {i = i} d y h lt k a =
-    front_more h.fields a.field old now i d y h.added h.count lt k a.adds
-
--- with a comma behind it
-pub row_more : {bytes : List ℕ} {at place end : ℕ} {old now : List Column} {i : ℕ} → (d y : Column)
-    → RowSoFar bytes at place old now i → i < length now
-    → kind_of y ≡ kind_of (get_or now i d) → AddsAt bytes place end (get_or now i d) y
-    → starts_with 44 (drop end bytes) ≡ true
-    → RowSoFar bytes at (end + 1) old (set now i y) (i + 1)
-row_more d y h lt k a comma = record {
-  fields = h.fields ++ a.field ∷ [];
-  count = length-append h.fields (a.field ∷ []) ∙ ap (λ n. n + 1) h.count;
-  reads = fields_more a.field h.reads a.upto comma;
-  added = row_next d y h lt k a;
+row_none bytes at columns le h = record {
+  fields = [];
+  count = refl;
+  begins = record_starts (drop at bytes) h;
+  within = le;
+  added = refl;
 }
 
--- the last field, with the end of its line
-pub row_last : {bytes : List ℕ} {at place end next : ℕ} {old now : List Column} {i : ℕ}
-    → (d y : Column) → RowSoFar bytes at place old now i → i < length now
-    → i + 1 ≡ length (set now i y)
-    → kind_of y ≡ kind_of (get_or now i d) → AddsAt bytes place end (get_or now i d) y
-    → EndsLine bytes end next
-    → AddsFirst bytes at next old (set now i y)
-row_last {old = old} {now = now} {i = i} d y h lt whole k a line =
-    let front = row_next d y h lt k a in
-    let long : length (h.fields ++ a.field ∷ []) ≡ length old =
-    length-append h.fields (a.field ∷ []) ∙ ap (λ n. n + 1) h.count ∙ whole
-    ∙ front_long (h.fields ++ a.field ∷ []) old (set now i y) front in
+-- one field more, with a comma behind it
+pub row_more : {bytes f : List ℕ} {at place end i : ℕ} {old now : List Column} → (d y : Column)
+    → RowSoFar bytes at place old now i → i < length now → kind_of y ≡ kind_of (get_or now i d)
+    → FieldUpTo bytes place f end → AddsSpelled f (get_or now i d) y
+    → starts_with 44 (drop end bytes) ≡ true
+    → RowSoFar bytes at (end + 1) old (set now i y) (i + 1)
+row_more {bytes = bytes} {f = f} {end = end} {i = i} {old = old} {now = now} d y h lt k upto p
+    comma =
+    let there = first_within 44 bytes end comma in
     record {
-      fields = h.fields ++ a.field ∷ [];
-      reads = fields_last a.field h.reads a.upto line;
-      adds = front_all (h.fields ++ a.field ∷ []) old (set now i y) front long;
+      fields = h.fields ++ f ∷ [];
+      count = length-append h.fields (f ∷ []) ∙ ap (λ n. n + 1) h.count;
+      begins = one_more h.begins (rw (first_is false 44 bytes end there comma) at upto.begins);
+      within = omega (arith, there);
+      added = front_more h.fields f old now i d y h.added h.count lt k p;
+    }
+
+-- one field more, or one that spells no value, can be taken back
+pub row_back : {bytes f : List ℕ} {at place end i : ℕ} {old now : List Column} → (spelled : Bool)
+    (d y : Column) → RowSoFar bytes at place old now i → i < length now
+    → kind_of y ≡ kind_of (get_or now i d) → FieldUpTo bytes place f end
+    → Pushes f spelled (get_or now i d) y → TakesBack old (set now i y)
+row_back {f = f} {i = i} {old = old} {now = now} true d y h lt k upto p =
+    front_back (h.fields ++ f ∷ []) old (set now i y)
+    (front_more h.fields f old now i d y h.added h.count lt k p)
+row_back {i = i} {old = old} {now = now} false d y h lt k upto p =
+    back_at h.fields old now i d y h.added lt k (ap values p.1)
+
+-- the record ends with one field and those behind it
+row_reads : {bytes f : List ℕ} {at place end next i : ℕ} {old now : List Column}
+    → (more : List (List ℕ)) (h : RowSoFar bytes at place old now i) → FieldUpTo bytes place f end
+    → EndsRecord bytes end more next → ReadsFirst bytes at (h.fields ++ f ∷ more) next
+row_reads {bytes = bytes} {f = f} {at = at} {place = place} more h upto line = record {
+  is = line.ends (drop at bytes) (drop place bytes) h.fields f h.begins upto.begins;
+  starts = line.starts;
+}
+
+-- that field is the last, or spells no value
+pub row_ends : {bytes f : List ℕ} {at place end i : ℕ} {old now : List Column} {read : RecordRead}
+    → (d y : Column) (more : List (List ℕ)) → RowSoFar bytes at place old now i → i < length now
+    → kind_of y ≡ kind_of (get_or now i d) → FieldUpTo bytes place f end
+    → Pushes f read.whole (get_or now i d) y → EndsRecord bytes end more read.next
+    → read.count ≡ i + 1 + length more → read.last ≡ i → (read.whole ≡ true → more ≡ [])
+    → PushesFirst bytes at read old (set now i y)
+row_ends {f = f} {i = i} {old = old} {now = now} {read = read} d y more h lt k upto p line count
+    at-i last = record {
+      fields = h.fields ++ f ∷ more;
+      many = omega (arith, length-append h.fields (f ∷ more), h.count, count);
+      reads = row_reads more h upto line;
+      judged = λ same. judged read.whole p last same;
+    }
+  where
+    judged : (s : Bool) → Pushes f s (get_or now i d) y → (s ≡ true → more ≡ [])
+        → read.count ≡ length old
+        → Judged s read.last (h.fields ++ f ∷ more) old (set now i y)
+    judged true p last same = rw (last refl) (front_all (h.fields ++ f ∷ []) old (set now i y)
+        (front_more h.fields f old now i d y h.added h.count lt k p)
+        (omega (
+          arith,
+          length-append h.fields (f ∷ []),
+          h.count,
+          ap length (last refl),
+          same,
+          count,
+        )))
+    judged false p last same =
+        let stop = front_stops h.fields f more old now d h.added (omega (arith, lt, h.count))
+        (ap (λ k. spelled_value (kind_of (get_or now k d)) f) h.count ∙ p.0) in
+        record {
+          low = omega (arith, lt, at-i, front_long h.fields old now h.added);
+          unspelled = stop.0;
+          first = omega (arith, stop.1 1, h.count, at-i);
+        }
+
+-- more fields than columns
+pub row_beyond : {bytes : List ℕ} {at place i more : ℕ} {old now : List Column} {read : RecordRead}
+    → RowSoFar bytes at place old now i → length now ≤ i → PassesFrom bytes place more read.next
+    → read.count ≡ i + 1 + more → PushesFirst bytes at read old now
+row_beyond {old = old} {now = now} h all p count = record {
+  fields = h.fields ++ p.field ∷ p.rest.more;
+  many = omega (arith, length-append h.fields (p.field ∷ p.rest.more), h.count, p.rest.many, count);
+  reads = row_reads p.rest.more h p.upto p.rest.ends;
+  judged = λ same. absurd (omega (arith, same, count, all, front_long h.fields old now h.added));
+}
+
+no_items : {X : Type 0} (xs : List X) → length xs ≡ 0 → xs ≡ []
+no_items [] h = refl
+no_items (x ∷ xs) h = absurd (omega arith)
+
+-- the record has another number of fields than there are columns
+pub first_lengths : {bytes : List ℕ} {at : ℕ} {read : RecordRead} {old new : List Column}
+    → (number : ℕ) → PushesFirst bytes at read old new → read.count ≢ length old
+    → IsBadAt old bytes at number (record { row = number; field = fields_field read.count })
+first_lengths {read = read} {old = old} number h many =
+    let other : length h.fields ≢ length (map kind_of old) =
+    λ e. many (sym h.many ∙ e ∙ length-map old kind_of) in
+    record {
+      fields = h.fields;
+      next = read.next;
+      reads = h.reads;
+      unspelled = spelled_row-lengths (map kind_of old) h.fields other;
+      is = ap (λ f. record { row = number; field = f }) (ap fields_field (sym h.many)
+          ∙ sym (bad_field-lengths (map kind_of old) h.fields other));
+    }
+
+-- a field of the record spells no value
+pub first_stops : {bytes : List ℕ} {at : ℕ} {read : RecordRead} {old new : List Column}
+    → (number : ℕ) → PushesFirst bytes at read old new → read.count ≡ length old
+    → read.whole ≡ false
+    → IsBadAt old bytes at number (record { row = number; field = column_field (read.last + 1) })
+first_stops {read = read} {old = old} number h many whole =
+    let stops : StopsAt read.last h.fields old = rw whole at h.judged many in
+    let long : (length h.fields == length (map kind_of old)) ≡ true =
+    eq-eqb (length h.fields) (length (map kind_of old))
+    (h.many ∙ many ∙ sym (length-map old kind_of)) in
+    record {
+      fields = h.fields;
+      next = read.next;
+      reads = h.reads;
+      unspelled = stops.unspelled;
+      is = rw long (ap (λ c. record { row = number; field = column_field c }) (sym stops.first));
     }
 
 -- the records in front of those that are left now are rows of the columns
@@ -243,10 +271,6 @@ pub record ReadSoFar (old now : List Column) (before after : RowsLeft)
   pub within : rows ≤ most
   pub unread : rows ≡ 0 → after.rest ≡ before.rest
 
-no_rows : {X : Type 0} (rows : List X) → length rows ≡ 0 → rows ≡ []
-no_rows [] h = refl
-no_rows (row ∷ rows) h = absurd (omega arith)
-
 -- no record was read yet
 pub ReadSoFar-none : (old : List Column) (before : RowsLeft) (most : ℕ) → AreLong 0 (map values old)
     → ReadSoFar old old before before 0 most
@@ -254,7 +278,7 @@ ReadSoFar-none old before most h = record {
   kinds = refl;
   long = h;
   good = ap (λ l. l ++ good_rows (map kind_of old) before.rest)
-      (sym (no_rows (rows_of 0 (map values old)) (length-rows_of 0 (map values old) h)));
+      (sym (no_items (rows_of 0 (map values old)) (length-rows_of 0 (map values old) h)));
   places = refl;
   within = omega arith;
   unread = λ e. refl;

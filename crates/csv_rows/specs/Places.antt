@@ -1,20 +1,17 @@
 -- Fields and records of the default dialect, by the bytes that end them and by the places in a text
 -- where they begin and end, and what they add to columns.
-use Rattle.std.specs.Prelude.{◌≡◌, ℕ, ◌+◌, ◌-◌, ◌<◌, ◌≤◌, ◌^◌, ◌==◌, ◌||◌, Bool, true, false, not, List, [], ◌∷◌, ◌++◌, length, map, take, drop, Some, None, ℤ, suc, ⊤}
-use Rattle.std.specs.List.{prefix_len}
+use Rattle.std.specs.Prelude.{◌≡◌, ℕ, ◌+◌, ◌-◌, ◌<◌, ◌≤◌, ◌==◌, ◌||◌, Bool, true, false, not, List, [], ◌∷◌, ◌++◌, length, map, take, drop, Some, None, suc, ⊤}
 use Rattle.csv.specs.Machine.{next_record}
 use Rattle.csv.specs.Reading.{default_config, records_from}
 use Rattle.csv.specs.declared.parser.State.TheVariants as st
 use Rattle.chunk_data.specs.Names.{kind_of, values, Row, AreLong, joined}
 use Rattle.chunk_data.specs.declared.typed_value.Value.{Value}
 use Rattle.chunk_data.specs.declared.typed_column.Column.{Column}
-use Rattle.query_model.specs.Names.{numeral_below, spelled_int, spelled_value, spelled_row, bad_field, part_records}
+use Rattle.query_model.specs.Names.{spelled_value, spelled_row, bad_column, bad_field, part_records}
 use Rattle.query_model.specs.declared.places.BadPlace.{BadPlace}
-use Rattle.query_model.specs.declared.places.BadField.TheVariants as bad
 use Rattle.csv_rows.specs.declared.rows.RowsFault.{RowsFault}
 use Rattle.csv_rows.specs.declared.rows.RowsFault.TheVariants.{Bad, Memory}
-use Rattle.csv_rows.specs.declared.rows.FieldFault.{FieldFault}
-use Rattle.csv_rows.specs.declared.rows.FieldFault.TheVariants as field
+use Rattle.csv_rows.specs.declared.record_by_field.RecordRead.{RecordRead}
 
 -- a byte that ends a line
 abbrev pub is_line_end : ℕ → Bool
@@ -81,18 +78,6 @@ pub record FieldUpTo (bytes : List ℕ) (at : ℕ) (field : List ℕ) (end : ℕ
   pub high : end ≤ length bytes
   pub begins : BeginsField (drop at bytes) field (drop end bytes)
 
--- the digits at a place reach up to a mark, where they spell this number
-pub record SpellsDigits (bytes : List ℕ) (at number end : ℕ) : Type 0 where
-  pub stops : end ≡ at + prefix_len no_mark (drop at bytes)
-  pub upto : FieldUpTo bytes at (part bytes at end) end
-  pub uint : numeral_below (2 ^ 64) (part bytes at end) ≡ Some number
-  pub unsigned : starts_with 45 (part bytes at end) ≡ false
-
--- the field at a place ends there and spells this Int64
-pub record SpellsInt (bytes : List ℕ) (at : ℕ) (number : ℤ) (end : ℕ) : Type 0 where
-  pub upto : FieldUpTo bytes at (part bytes at end) end
-  pub int : spelled_int (part bytes at end) ≡ Some number
-
 -- a record begins at the place, or the text ends there
 pub record StartsLine (bytes : List ℕ) (at : ℕ) : Type 0 where
   pub within : at ≤ length bytes
@@ -103,27 +88,33 @@ pub record SkipsEnds (bytes : List ℕ) (at next : ℕ) : Type 0 where
   pub same : (left : ℕ) → records_at left bytes at ≡ records_at left bytes next
   pub starts : StartsLine bytes next
 
--- where a field ends at the first place, its record does, and the next one begins at the second
-pub record EndsLine (bytes : List ℕ) (end next : ℕ) : Type 0 where
+-- behind a field that ends at the first place its record has these fields more, and the next one
+-- begins at the second
+pub record EndsRecord (bytes : List ℕ) (end : ℕ) (more : List (List ℕ)) (next : ℕ) : Type 0 where
   pub ends : (xs mid : List ℕ) (fields : List (List ℕ)) (field : List ℕ)
       → BeginsFields xs fields mid → BeginsField mid field (drop end bytes)
-      → FirstRecord xs (fields ++ field ∷ []) (drop next bytes)
+      → FirstRecord xs (fields ++ field ∷ more) (drop next bytes)
   pub starts : StartsLine bytes next
+
+-- behind a field that ends at the place its record has so many fields more
+pub record HasMore (bytes : List ℕ) (end count next : ℕ) : Type 0 where
+  pub more : List (List ℕ)
+  pub many : length more ≡ count
+  pub few : count ≤ length bytes
+  pub ends : EndsRecord bytes end more next
+
+-- a field is at the first place, its record has so many fields more, and the next one begins at the
+-- second
+pub record PassesFrom (bytes : List ℕ) (at count next : ℕ) : Type 0 where
+  pub field : List ℕ
+  pub end : ℕ
+  pub upto : FieldUpTo bytes at field end
+  pub rest : HasMore bytes end count next
 
 -- a fact about the bad place, where one is told
 abbrev pub OnBad : RowsFault → (BadPlace → Type 0) → Type 0
 OnBad (Bad place) P = P place
 OnBad Memory P = ⊤
-
--- a fact for a field that spells no value
-abbrev pub OnUnspelled : FieldFault → Type 0 → Type 0
-OnUnspelled field.Unspelled P = P
-OnUnspelled field.Memory P = ⊤
-
--- what field i makes of the record with this number
-abbrev pub record_fault : FieldFault → ℕ → ℕ → RowsFault
-record_fault field.Unspelled number i = Bad (record { row = number; field = bad.Column (i + 1) })
-record_fault field.Memory number i = Memory
 
 -- a column got the value that the field spells at its end
 pub record AddsSpelled (field : List ℕ) (old new : Column) : Type 0 where
@@ -131,17 +122,16 @@ pub record AddsSpelled (field : List ℕ) (old new : Column) : Type 0 where
   pub spells : spelled_value (kind_of old) field ≡ Some value
   pub added : values new ≡ values old ++ value ∷ []
 
+-- what a field did to a column: its value was added, or it spells none
+abbrev pub Pushes : List ℕ → Bool → Column → Column → Type 0
+Pushes field true old new = AddsSpelled field old new
+Pushes field false old new = (spelled_value (kind_of old) field ≡ None) × (new ≡ old)
+
 -- each column got its value of the row that the fields spell
 pub record AddsRecord (fields : List (List ℕ)) (old new : List Column) : Type 0 where
   pub row : Row
   pub spells : spelled_row (map kind_of old) fields ≡ Some row
   pub added : map values new ≡ joined (map values old) (map (λ v. v ∷ []) row)
-
--- the record with the number spells no row of the columns, and the place says why
-pub record IsBadRecord (columns : List Column) (fields : List (List ℕ)) (number : ℕ)
-    (place : BadPlace) : Type 0 where
-  pub unspelled : spelled_row (map kind_of columns) fields ≡ None
-  pub is : place ≡ record { row = number; field = bad_field (map kind_of columns) fields }
 
 -- what was added to columns can be taken back
 pub record TakesBack (old new : List Column) : Type 0 where
@@ -149,16 +139,31 @@ pub record TakesBack (old new : List Column) : Type 0 where
   pub front : (n : ℕ) → AreLong n (map values old)
       → map (take n) (map values new) ≡ map values old
 
--- the value of the field at a place was added to a column; the field ends there
-pub record AddsAt (bytes : List ℕ) (at end : ℕ) (old new : Column) : Type 0 where
-  pub field : List ℕ
-  pub upto : FieldUpTo bytes at field end
-  pub adds : AddsSpelled field old new
-
 -- the record at a place has these fields, and the next one begins there
 pub record ReadsFirst (bytes : List ℕ) (at : ℕ) (fields : List (List ℕ)) (next : ℕ) : Type 0 where
   pub is : FirstRecord (drop at bytes) fields (drop next bytes)
   pub starts : StartsLine bytes next
+
+-- the field of this column is the first that spells no value of its column
+pub record StopsAt (column : ℕ) (fields : List (List ℕ)) (columns : List Column) : Type 0 where
+  pub low : column < length columns
+  pub unspelled : spelled_row (map kind_of columns) fields ≡ None
+  pub first : bad_column 1 (map kind_of columns) fields ≡ column + 1
+
+-- the columns got a row of the fields, or the field of this column spells no value
+abbrev pub Judged : (whole : Bool) (last : ℕ) (fields : List (List ℕ)) (old new : List Column)
+    → Type 0
+Judged true last fields old new = AddsRecord fields old new
+Judged false last fields old new = StopsAt last fields old
+
+-- the record at a place was read, and its fields were added to columns up to the first that spells
+-- no value
+pub record PushesFirst (bytes : List ℕ) (at : ℕ) (read : RecordRead) (old new : List Column)
+    : Type 0 where
+  pub fields : List (List ℕ)
+  pub many : length fields ≡ read.count
+  pub reads : ReadsFirst bytes at fields read.next
+  pub judged : read.count ≡ length old → Judged read.whole read.last fields old new
 
 -- the record at a place was added to columns as one row, and the next one begins there
 pub record AddsFirst (bytes : List ℕ) (at next : ℕ) (old new : List Column) : Type 0 where
@@ -170,9 +175,10 @@ pub record AddsFirst (bytes : List ℕ) (at next : ℕ) (old new : List Column) 
 pub record IsBadAt (columns : List Column) (bytes : List ℕ) (at number : ℕ) (place : BadPlace)
     : Type 0 where
   pub fields : List (List ℕ)
-  pub rest : List ℕ
-  pub is : FirstRecord (drop at bytes) fields rest
-  pub bad : IsBadRecord columns fields number place
+  pub next : ℕ
+  pub reads : ReadsFirst bytes at fields next
+  pub unspelled : spelled_row (map kind_of columns) fields ≡ None
+  pub is : place ≡ record { row = number; field = bad_field (map kind_of columns) fields }
 
 -- the rows of a part begin at the place, of which no more than `left` can come
 pub record StartsPart (header : Bool) (bytes : List ℕ) (at left : ℕ) : Type 0 where

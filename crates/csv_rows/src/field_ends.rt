@@ -2,14 +2,14 @@
 ghost use Rattle.std.specs.Prelude.{◌≡◌, [], ◌+◌, ◌<◌, ◌≤◌, true, false, length, map, drop, IfOk};
 ghost use Rattle.std.specs.List.{prefix_len};
 ghost use Rattle.std.specs.Simd.Lanes.{mask_l};
-ghost use Rattle.csv_rows.specs.Places.{starts_with, at_mark, no_mark, no_quote, part, FieldUpTo, EndsLine, SkipsEnds};
+ghost use Rattle.csv_rows.specs.Places.{starts_with, at_mark, no_mark, no_quote, part, FieldUpTo, EndsRecord, SkipsEnds};
 
 use memchr::memchr;
 use std::alloc::AllocError;
 use std::simd::prelude::*;
 
-/// Whether the byte ends a field without quotes.
-pub(crate) fn is_mark(c: u8) -> bool
+// Whether the byte ends a field without quotes.
+fn is_mark(c: u8) -> bool
     ensures { result ≡ Rattle.csv_rows.specs.Places.is_mark c }
 {
     (c == b',') | ((c == b'\n') | (c == b'\r'))
@@ -26,6 +26,7 @@ fn marks(v: u8x16) -> u64
 }
 
 // The first mark from a place on, or the end: 16 bytes at a time, and the last ones byte by byte.
+#[inline(always)]
 fn mark_from(bytes: &[u8], at: usize) -> usize
     requires { at ≤ length bytes.now }
     ensures run { result ≡ at + prefix_len no_mark (drop at bytes.now) }
@@ -45,8 +46,9 @@ fn mark_from(bytes: &[u8], at: usize) -> usize
     i
 }
 
-/// Where the field at a place ends, which has no quote in front.
-pub(crate) fn plain_end(bytes: &[u8], at: usize) -> usize
+// Where the field at a place ends, which has no quote in front.
+#[inline(always)]
+fn plain_end(bytes: &[u8], at: usize) -> usize
     requires within { at ≤ length bytes.now }
     requires plain { starts_with 34 (drop at bytes.now) ≡ false }
     ensures { FieldUpTo bytes.now at (part bytes.now at result) result }
@@ -89,7 +91,7 @@ fn quoted_end(bytes: &[u8], at: usize, field: &mut Vec<u8>) -> Result<usize, All
         if quote == bytes.len() {
             return Ok(quote);
         }
-        if !quote_at(bytes, quote + 1) {
+        if !byte_at(bytes, quote + 1, b'"') {
             let end = mark_from(bytes, quote + 1);
             field.extend_from_slice(&bytes[quote + 1..end])?;
             return Ok(end);
@@ -99,35 +101,33 @@ fn quoted_end(bytes: &[u8], at: usize, field: &mut Vec<u8>) -> Result<usize, All
     }
 }
 
-/// Whether a quote stands at the place.
-pub(crate) fn quote_at(bytes: &[u8], at: usize) -> bool
+/// Whether this byte stands at the place.
+#[inline(always)]
+pub(crate) fn byte_at(bytes: &[u8], at: usize, byte: u8) -> bool
     requires { at ≤ length bytes.now }
-    ensures { result ≡ starts_with 34 (drop at bytes.now) }
+    ensures { result ≡ starts_with byte (drop at bytes.now) }
 {
-    at < bytes.len() && bytes[at] == b'"'
+    at < bytes.len() && bytes[at] == byte
 }
 
-/// Whether a comma stands at the place.
-pub(crate) fn comma_at(bytes: &[u8], at: usize) -> bool
+/// The bytes of the field at a place, and where it ends. One with quotes is put together in
+/// `field`.
+#[inline(always)]
+pub(crate) fn field_at<'a>(
+    bytes: &'a [u8],
+    at: usize,
+    field: &'a mut Vec<u8>,
+) -> Result<(&'a [u8], usize), AllocError>
     requires { at ≤ length bytes.now }
-    ensures { result ≡ starts_with 44 (drop at bytes.now) }
+    ensures { IfOk result (λ p. FieldUpTo bytes.now at p.0.now p.1) }
 {
-    at < bytes.len() && bytes[at] == b','
-}
-
-/// The bytes of the field at a place, and where it ends.
-pub(crate) fn field_at(bytes: &[u8], at: usize, field: &mut Vec<u8>) -> Result<usize, AllocError>
-    requires { at ≤ length bytes.now }
-    ensures { IfOk result (λ end. FieldUpTo bytes.now at field.new.items end) }
-{
-    field.clear();
-    if quote_at(bytes, at) {
-        quoted_end(bytes, at, field)
-    } else {
+    if !byte_at(bytes, at, b'"') {
         let end = plain_end(bytes, at);
-        field.extend_from_slice(&bytes[at..end])?;
-        Ok(end)
+        return Ok((&bytes[at..end], end));
     }
+    field.clear();
+    let end = quoted_end(bytes, at, field)?;
+    Ok((field.as_slice(), end))
 }
 
 // Whether the byte ends a line.
@@ -157,7 +157,7 @@ pub(crate) fn line_end(bytes: &[u8], at: usize) -> usize
     requires within { at ≤ length bytes.now }
     requires mark { at_mark (drop at bytes.now) ≡ true }
     requires comma { starts_with 44 (drop at bytes.now) ≡ false }
-    ensures { EndsLine bytes.now at result }
+    ensures { EndsRecord bytes.now at [] result }
 {
     if at < bytes.len() {
         skip_ends(bytes, at + 1)

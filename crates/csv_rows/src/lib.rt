@@ -1,12 +1,10 @@
 //! Parts as typed rows, and rows as text: the bytes of a CSV file are read straight into typed
 //! columns, and columns are written as the text of an answer.
 //!
-//! A record is read field by field into its columns (`record_by_field`), numbers while their digits
-//! are passed over (`digits`). Where anything surprises, what it added is taken back and the same
-//! record is read whole, which tells why it is no row.
+//! A record is read field by field into its columns (`record_by_field`); what one that is no row
+//! added is taken back.
 #![tactic(auto)]
 
-mod digits;
 mod field_ends;
 mod file_fetch;
 mod record_by_field;

@@ -6,9 +6,9 @@ ghost use Rattle.csv_rows.specs.Places.{StartsPart, OnBad};
 ghost use Rattle.csv_rows.specs.RowsLeft.{at_end, ReadsFront, TakesRow, TakesRows};
 
 use crate::field_ends::skip_ends;
-use crate::record_by_field::{push_first, read_fields};
+use crate::record_by_field::{pass_from, push_first};
 use crate::rows::RowsFault;
-use chunk_data::{Chunk, Column, ColumnType, List, Memory, Texts};
+use chunk_data::{Chunk, Column, ColumnType, List, Memory};
 use std::alloc::Global;
 use std::marker::Model;
 
@@ -24,7 +24,6 @@ pub struct RowReader {
     // More records than these can't come.
     left: usize,
     passed: u64,
-    fields: Texts,
     field: Vec<u8>,
 }
 
@@ -46,15 +45,13 @@ impl RowReader {
         ensures rest { IfOk result (λ r. r.rest ≡ part_records header bytes.items) }
         ensures count { IfOk result (λ r. r.count ≡ 0) }
     {
-        let mut fields = Texts::new(alloc);
         let mut field = Vec::new(alloc);
-        let (at, left) = first_place(bytes.as_slice(), header, &mut fields, &mut field)?;
+        let (at, left) = first_place(bytes.as_slice(), header, &mut field)?;
         Ok(RowReader {
             bytes,
             at,
             left,
             passed: 0,
-            fields,
             field,
         })
     }
@@ -111,7 +108,6 @@ impl RowReader {
             self.at,
             rows,
             number,
-            &mut self.fields,
             &mut self.field,
         ) {
             Ok(next) => {
@@ -149,12 +145,7 @@ fn mark_end(bytes: &[u8]) -> usize
 
 // The place of the first record that is a row, and how many can come.
 #[tactic(auto, using(crate::proofs::PartPlaces::parts))]
-fn first_place(
-    bytes: &[u8],
-    header: bool,
-    fields: &mut Texts,
-    field: &mut Vec<u8>,
-) -> Result<(usize, usize), Memory>
+fn first_place(bytes: &[u8], header: bool, field: &mut Vec<u8>) -> Result<(usize, usize), Memory>
     ensures { IfOk result (λ p. StartsPart header bytes.now p.0 p.1) }
 {
     let mark = mark_end(bytes);
@@ -166,7 +157,7 @@ fn first_place(
     if at >= bytes.len() {
         return Ok((at, most + 1));
     }
-    read_fields(bytes, at, fields, field).map(|next| (next, most))
+    pass_from(bytes, at, field).map(|passed| (passed.1, most))
 }
 
 /// The most rows for which room is made ahead.

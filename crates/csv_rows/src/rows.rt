@@ -1,12 +1,11 @@
-// What the records of a part add to columns.
-ghost use Rattle.std.specs.Prelude.{◌≡◌, ◌+◌, ◌<◌, ◌^◌, map, IfErr, OnOk, OnErr, None, length};
-ghost use Rattle.chunk_data.specs.Names.{kind_of, values, AreLong};
-ghost use Rattle.query_model.specs.Fields.{spelled_value};
-ghost use Rattle.csv_rows.specs.Places.{AddsSpelled, AddsRecord, IsBadRecord, OnBad, OnUnspelled, record_fault};
+// What the fields of a part add to columns.
+ghost use Rattle.std.specs.Prelude.{◌≡◌, IfOk, OnErr};
+ghost use Rattle.chunk_data.specs.Names.{kind_of, values};
+ghost use Rattle.csv_rows.specs.Places.{Pushes};
 
-use chunk_data::{Column, ColumnType, Texts, truncate_columns};
+use chunk_data::{Column, ColumnType, Memory};
 use query_model::numerals::{spelled_int, spelled_uint};
-use query_model::places::{BadField, BadPlace};
+use query_model::places::BadPlace;
 
 /// Why the rows of a part were not read.
 #[derive(Clone, Copy, Debug, PartialEq, Eq)]
@@ -16,77 +15,23 @@ pub enum RowsFault {
     Memory,
 }
 
-/// Why a field was not added to its column.
-pub(crate) enum FieldFault {
-    Unspelled,
-    Memory,
-}
-
-/// Adds the record of these fields, which has this number, as one row behind so many; after an
-/// error the columns are as they were.
-pub(crate) fn push_record(
-    columns: &mut [Column],
-    fields: &Texts,
-    rows: usize,
-    number: u64,
-) -> Result<(), RowsFault>
-    requires long { AreLong rows (map values columns.old) }
-    requires few { length columns.old < 2 ^ 32 }
-    ensures kinds { map kind_of columns.new ≡ map kind_of columns.old }
-    ensures ok { OnOk result (AddsRecord fields.now columns.old columns.new) }
-    ensures bad { IfErr result (λ e. OnBad e (IsBadRecord columns.old fields.now number)) }
-    ensures err { OnErr result (map values columns.new ≡ map values columns.old) }
-{
-    if fields.len() != columns.len() {
-        return Err(RowsFault::Bad(BadPlace {
-            row: number,
-            field: BadField::Fields(fields.len() as u64),
-        }));
-    }
-    for i in 0..columns.len() {
-        match push_field(&mut columns[i], fields.get(i)) {
-            Ok(()) => {}
-            Err(fault) => {
-                truncate_columns(columns, rows);
-                return Err(fault_at(fault, number, i));
-            }
-        }
-    }
-    Ok(())
-}
-
-// The fault of field i of the record with this number.
-fn fault_at(fault: FieldFault, number: u64, i: usize) -> RowsFault
-    requires { i + 1 < 2 ^ 32 }
-    ensures { result ≡ record_fault fault number i }
-{
-    match fault {
-        FieldFault::Unspelled => RowsFault::Bad(BadPlace {
-            row: number,
-            field: BadField::Column(i as u32 + 1),
-        }),
-        FieldFault::Memory => RowsFault::Memory,
-    }
-}
-
-/// Adds the value that the field spells; after an error the column is as it was.
-pub(crate) fn push_field(column: &mut Column, field: &[u8]) -> Result<(), FieldFault>
+/// Adds the value that the field spells, or says that it spells none; after an error the column is
+/// as it was.
+#[inline(always)]
+pub(crate) fn push_field(column: &mut Column, field: &[u8]) -> Result<bool, Memory>
     ensures kind { kind_of column.new ≡ kind_of column.old }
-    ensures ok { OnOk result (AddsSpelled field.now column.old column.new) }
-    ensures unspelled { IfErr result (λ e.
-        OnUnspelled e (spelled_value (kind_of column.old) field.now ≡ None)) }
+    ensures ok { IfOk result (λ spelled. Pushes field.now spelled column.old column.new) }
     ensures err { OnErr result (values column.new ≡ values column.old) }
 {
-    let pushed = match column.kind() {
+    match column.kind() {
         ColumnType::Int64 => match spelled_int(field) {
-            Some(number) => column.push_int(number),
-            None => return Err(FieldFault::Unspelled),
+            Some(number) => column.push_int(number).map(|()| true),
+            None => Ok(false),
         },
         ColumnType::UInt64 => match spelled_uint(field) {
-            Some(number) => column.push_uint(number),
-            None => return Err(FieldFault::Unspelled),
+            Some(number) => column.push_uint(number).map(|()| true),
+            None => Ok(false),
         },
-        ColumnType::Text => column.push_text(field),
-    };
-    pushed.map_err(|_| FieldFault::Memory)
+        ColumnType::Text => column.push_text(field).map(|()| true),
+    }
 }
