@@ -1,6 +1,3 @@
-pub mod PartTurns
-pub mod PartKeeping
-pub mod PreparingLaws
-pub mod LoadingLaws
+pub mod PartLaws
 pub mod FetchingLaws
-pub mod WorkingLaws
+pub mod SourceLaws

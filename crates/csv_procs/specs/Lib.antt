@@ -1,6 +1,3 @@
-pub mod Turning
-pub mod Suiting
-pub mod Preparing
+pub mod Parts
 pub mod Fetching
-pub mod Working
 pub mod PartSeen

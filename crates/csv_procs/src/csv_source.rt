@@ -1,45 +1,52 @@
-ghost use Rattle.std.specs.Prelude.{Some, None, IfSome};
-ghost use Rattle.csv_procs.specs.PartSeen.{IsLoaded};
+ghost use Rattle.std.specs.Prelude.{◌≡◌};
+ghost use Rattle.proc_api.specs.Names.{MaySchedule};
+ghost use Rattle.proc_shell.specs.Shells.{PartNotes, part};
+ghost use Rattle.csv_procs.specs.Parts.{parsing};
 
-use crate::part_state::{LoadedPart, PartState};
+use crate::feeds::Feeds;
+use crate::parsing::Parsing;
 use chunk_data::Chunk;
 use outside_io::FileReader;
 use port_word::PortView;
-use proc_api::{BoxNotes, Growth, LoadRefusal, Processor, Status, Wake, WorkFault};
-use query_model::processor_spec::{Kind, PartSpec, Spec};
+use proc_api::{Growth, LoadRefusal, Processor, PulledRows, Status, Wake, WorkFault};
+use proc_shell::{Loaded, begun};
+use query_model::processor_spec::{Kind, Spec};
 use std::alloc::Global;
 use std::marker::Model;
 
-/// The most bytes that one read asks for.
-const BLOCK: usize = 65536;
-
 /// Gives the rows of a part, a CSV file that its reader fetches whole before the first row is made.
-///
-/// One reader of the part's bytes and one buffer serve for all its rows.
 #[derive(Drop)]
 pub struct CsvSource<R: FileReader> {
     alloc: Global,
     reader: R,
-    loaded: Option<LoadedPart>,
+    pulled: PulledRows,
+    loaded: Option<Loaded<Parsing>>,
 }
 
 impl<R: FileReader> Model for CsvSource<R> {
+    ghost use Rattle.std.specs.Coded.{codes};
     ghost use Rattle.std.specs.Option.{option_map};
     ghost use Rattle.outside_io.specs.Told.{files_of};
+    ghost use Rattle.query_model.specs.contracts.processor_spec.Spec as spec;
+    ghost use Rattle.proc_shell.specs.Shells.{part};
     ghost use Rattle.csv_procs.specs.Fetching.{IsTied};
+    ghost use Rattle.csv_procs.specs.Parts.{parsing};
     ghost use Rattle.csv_procs.specs.PartSeen.{SourceView};
 
     ghost Value = { SourceView };
+
+    ghost coded = { Prim.hlevel (codes, spec.the_row.coded) };
 
     ghost view = { λ s. record {
       files = option_map files_of (R.files s.reader);
       faults = R.faults s.reader;
       pendings = R.pendings s.reader;
       stands = R.stands s.reader;
-      loaded = s.loaded;
+      count = s.pulled;
+      loaded = option_map (λ l. part (parsing l.kernel.part l.kernel.state) l.held l.notes) s.loaded;
     } };
 
-    ghost invariant = { λ s. IsTied (R.files s.reader) (R.stands s.reader) s.loaded };
+    ghost invariant = { λ s. IsTied (R.files s.reader) (R.stands s.reader) (option_map (λ l. part (parsing l.kernel.part l.kernel.state) l.held l.notes) s.loaded) };
 }
 
 impl<R: FileReader> CsvSource<R> {
@@ -60,8 +67,24 @@ impl<R: FileReader> CsvSource<R> {
         CsvSource {
             alloc,
             reader,
+            pulled: PulledRows::new(),
             loaded: None,
         }
+    }
+}
+
+// Keeps what a step of the fetch answers.
+fn keep_fed(loaded: &mut Loaded<Parsing>, fed: Result<Wake, WorkFault>) -> Result<Wake, WorkFault>
+    requires { MaySchedule loaded.old.notes.answer }
+    ensures notes { PartNotes fed (part (parsing loaded.old.kernel.part loaded.old.kernel.state) loaded.old.held loaded.old.notes) (part (parsing loaded.new.kernel.part loaded.new.kernel.state) loaded.new.held loaded.new.notes) }
+    ensures same { result ≡ fed }
+{
+    match fed {
+        Ok(wake) => {
+            loaded.wake(wake);
+            Ok(wake)
+        }
+        Err(fault) => Err(loaded.fail(fault)),
     }
 }
 
@@ -80,21 +103,22 @@ impl<R: FileReader> Processor for CsvSource<R> {
         if self.loaded.is_some() {
             return Err(LoadRefusal::NotBlank);
         }
-        match spec {
-            Spec::Csv(part) => match loaded_part(self.alloc, part) {
-                Some(loaded) => {
-                    self.loaded = Some(loaded);
-                    Ok(())
-                }
-                None => Err(LoadRefusal::Memory),
-            },
-            _ => Err(LoadRefusal::WrongKind),
+        if spec.kind() != Kind::Csv {
+            return Err(LoadRefusal::WrongKind);
+        }
+        match begun::<Parsing>(self.alloc, spec) {
+            Ok(loaded) => {
+                self.pulled.begin();
+                self.loaded = Some(loaded);
+                Ok(())
+            }
+            Err(_) => Err(LoadRefusal::Memory),
         }
     }
 
     fn prepare(&mut self, view: &mut PortView) -> Status {
         match &mut self.loaded {
-            Some(loaded) => loaded.prepare(view),
+            Some(loaded) => loaded.prepare(view, &mut self.pulled),
             None => unreachable!(),
         }
     }
@@ -109,13 +133,10 @@ impl<R: FileReader> Processor for CsvSource<R> {
     fn schedule(&mut self) -> Result<Wake, WorkFault> {
         match &mut self.loaded {
             Some(loaded) => {
-                if loaded.is_shut() {
-                    let opened = self.reader.open_path(&loaded.part.path);
-                    return loaded.take_open(self.alloc, opened);
-                }
-                let mut buffer = [0; BLOCK];
-                let read = self.reader.read_some(&mut buffer);
-                loaded.take_read(self.alloc, read, &buffer)
+                let fed = self
+                    .reader
+                    .feed(self.alloc, &mut loaded.kernel, &mut loaded.notes);
+                keep_fed(loaded, fed)
             }
             None => unreachable!(),
         }
@@ -124,7 +145,7 @@ impl<R: FileReader> Processor for CsvSource<R> {
     // It never answers ExpandPipeline, so that no executor calls this.
     fn expand(&mut self) -> Result<Growth, WorkFault> {
         match &mut self.loaded {
-            Some(loaded) => Err(loaded.fail()),
+            Some(loaded) => Err(loaded.fail(WorkFault::Memory)),
             None => unreachable!(),
         }
     }
@@ -136,23 +157,5 @@ impl<R: FileReader> Processor for CsvSource<R> {
     fn unload(&mut self) {
         self.reader.shut();
         self.loaded = None;
-    }
-}
-
-// The part as it is loaded, if there is room for its notes; a column's number has 32 bits.
-fn loaded_part(alloc: Global, part: PartSpec) -> Option<LoadedPart>
-    ensures { IfSome result (IsLoaded part) }
-{
-    if part.types.len() as u64 > u32::MAX as u64 {
-        return None;
-    }
-    match BoxNotes::new(alloc) {
-        Ok(notes) => Some(LoadedPart {
-            part,
-            state: PartState::Shut,
-            made: None,
-            notes,
-        }),
-        Err(_) => None,
     }
 }

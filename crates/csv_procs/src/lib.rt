@@ -2,11 +2,10 @@
 #![tactic(auto)]
 
 mod csv_source;
-mod loaded_part;
-mod part_state;
+mod feeds;
+mod parsing;
 #[cfg(test)]
 mod tests;
-mod turns;
 
 pub use csv_rows::{Fetched, fetch, write_rows};
 pub use csv_source::CsvSource;

@@ -1,5 +1,5 @@
 -- Numbers in order: those that are made, and those that are left.
-use Rattle.std.proofs.Common.{◌≡◌, ℕ, zero, suc, ◌+◌, ◌-◌, ◌<◌, ◌≤◌, min, max, Bool, List, [], ◌∷◌, ◌++◌, length, map, replicate, append_assoc, Some, None, refl, sym, ap, subst, ◌∙◌, arith, inl}
+use Rattle.std.proofs.Common.{◌≡◌, ℕ, zero, suc, ◌+◌, ◌-◌, ◌<◌, ◌≤◌, min, max, Bool, List, [], ◌∷◌, ◌++◌, length, map, replicate, append_assoc, false, Some, None, refl, sym, ap, subst, ◌∙◌, arith, inl}
 use Rattle.std.proofs.lemmas.List.{append-nil, map-append}
 use Rattle.chunk_data.specs.Names.{Table, AreLong, adds, rows_of, values}
 use Rattle.chunk_data.specs.declared.typed_column.Column.{Column}
@@ -9,10 +9,11 @@ use Rattle.query_model.specs.Sources.{count_up}
 use Rattle.query_model.specs.declared.processor_spec.Spec.{Spec}
 use Rattle.query_model.specs.declared.processor_spec.Spec.TheVariants as spec
 use Rattle.port_word.specs.Pictures.{Picture, in_count}
-use Rattle.proc_api.specs.Names.{chunk_rows, no_lists, HasMade}
+use Rattle.proc_api.specs.Names.{chunk_rows, no_lists}
 use Rattle.proc_shell.specs.declared.kernel.Offer.TheVariants as offer
-use Rattle.proc_shell.specs.Kernels.{Begins, Makes, Offers, Takes}
+use Rattle.proc_shell.specs.Kernels.{Begins, Makes, Means, Offers, Takes}
 use Rattle.proc_shell.proofs.Through.{makes-nothing}
+use Rattle.proc_shell.proofs.TurnLaws.{leaves-same}
 use Rattle.flow_procs.specs.Counting.{count_on, counting_own, number_row}
 
 count_on-split : (a j k : ℕ) → count_on a (j + k) ≡ count_on a j ++ count_on (a + j) k
@@ -67,21 +68,21 @@ none-left next end le = let e : end - next ≡ 0 = omega (arith, le) in ap (λ k
 pub begins : (s : Spec) (end rows : ℕ) → s ≡ spec.Numbers end rows → Begins s (spec.Numbers end rows) (counting_own 0 end)
 begins s end rows e = record {
   spec = sym e;
-  nothing = subst (λ z. HasMade z (counting_own 0 end) no_lists no_lists []) (sym e)
+  nothing = λ files. subst (λ z. Means (record { files = files; fetched = false; bad = None }) z (counting_own 0 end) no_lists no_lists []) (sym e)
       (let z : end - 0 ≡ end = omega arith in ap (λ k. map number_row (count_on 0 k)) z ∙ ap (λ l. map number_row l) (sym (count_up-is end)));
   unended = λ i n. n;
 }
 
 pub offers-rows : (wants : ℕ → Bool) (v : Picture) (next end rows : ℕ) → next < end → Offers wants (spec.Numbers end rows) v (counting_own next end) (counting_own next end) offer.Rows
 offers-rows wants v next end rows lt = record {
-  leaves = record { means = λ worked outs wait h. h; stays_over = λ n x. (n, x) };
+  leaves = leaves-same (spec.Numbers end rows) (counting_own next end);
   comes = let l = length-rows next (end - next) in omega (arith, l, lt);
   ends = λ i lt n. inl n;
 }
 
 pub offers-end : (wants : ℕ → Bool) (v : Picture) (next end rows : ℕ) → end ≤ next → in_count v ≡ 0 → Offers wants (spec.Numbers end rows) v (counting_own next end) (counting_own next end) offer.Wants
 offers-end wants v next end rows le none = record {
-  leaves = record { means = λ worked outs wait h. h; stays_over = λ n x. (n, x) };
+  leaves = leaves-same (spec.Numbers end rows) (counting_own next end);
   comes = record { nothing = none-left next end le; wanting = tt; all_over = λ over i lt. absurd (omega (arith, none, lt)); noted = λ over. tt };
   ends = λ i lt n. inl n;
 }
@@ -90,7 +91,7 @@ offers-end wants v next end rows le none = record {
 pub drops : (next end rows i : ℕ) (t : Table) → Takes (spec.Numbers end rows) (counting_own next end) i t (counting_own next end) None
 drops next end rows i t =
     record {
-      means = λ fits worked outs h. h;
+      means = λ x fits worked outs h. h;
       types = λ ins pulled. tt;
       sizes = tt;
       ends = λ i n. n;
@@ -102,7 +103,7 @@ makes-none next end rows le = makes-nothing (spec.Numbers end rows) (counting_ow
 pub makes-some : (next end rows count : ℕ) (c : Table) → count ≡ min (end - next) (max rows 1) → 0 < count → c.types ≡ column.UInt64 ∷ [] → c.rows ≡ map number_row (count_on next count)
     → Makes (spec.Numbers end rows) (counting_own next end) (counting_own (next + count) end) (Some c)
 makes-some next end rows count c e some types made = record {
-  means = λ worked outs h.
+  means = λ x worked outs h.
       ap (λ l. (chunk_rows (outs 0) ++ l) ++ map number_row (count_on (next + count) (end - (next + count)))) made
       ∙ append_assoc (chunk_rows (outs 0)) (map number_row (count_on next count)) (map number_row (count_on (next + count) (end - (next + count))))
       ∙ ap (λ l. chunk_rows (outs 0) ++ l) (sym split) ∙ ap (λ l. l ++ map number_row (count_on next (end - next))) (sym (append-nil (chunk_rows (outs 0)))) ∙ h;

@@ -1,5 +1,3 @@
-mod CollectMoves
-mod CollectLaws
 mod FilterLaws
 mod LimitLaws
 mod CountingLaws

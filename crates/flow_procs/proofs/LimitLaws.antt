@@ -77,7 +77,7 @@ pub takes : (span : Span) (read i : ℕ) (t u : Table) → i ≡ 0 → span.skip
     → u.rows ≡ drop (rows_within span.skip read (length t.rows)) (take (rows_within (span.skip + span.count) read (length t.rows)) t.rows)
     → Takes (spec.Limit span) (read_own read) i t (read_own (min (read + length t.rows) last_read)) (Some u)
 takes span read i t u z a b types rows = record {
-  means = λ fits worked outs h.
+  means = λ x fits worked outs h.
       subst (λ n. AreLimited span (chunk_rows (with_chunk n t worked 0)) (chunk_rows (outs 0) ++ u.rows) (min (read + length t.rows) last_read)) (sym z)
       (subst (λ l. AreLimited span l (chunk_rows (outs 0) ++ u.rows) (min (read + length t.rows) last_read)) (sym (rows-here t worked))
       (limited-more span read (chunk_rows (worked 0)) (chunk_rows (outs 0)) t u a b rows

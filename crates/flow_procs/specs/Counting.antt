@@ -1,11 +1,11 @@
 -- Numbers in order, as rows.
-use Rattle.std.proofs.Common.{◌≡◌, ◌⊎◌, ℕ, zero, suc, ◌-◌, true, false, List, [], ◌∷◌, ◌++◌, map}
-use Rattle.chunk_data.specs.Values.{Row, Table}
+use Rattle.std.proofs.Common.{◌≡◌, ℕ, zero, suc, ◌-◌, List, [], ◌∷◌, ◌++◌, map, refl}
+use Rattle.chunk_data.specs.Values.{Row}
 use Rattle.chunk_data.specs.declared.typed_value.Value.TheVariants.{UInt}
 use Rattle.query_model.specs.Sources.{numbers}
 use Rattle.query_model.specs.declared.processor_spec.Spec.TheVariants as spec
 use Rattle.proc_api.specs.Made.{OwnState, idle_own}
-use Rattle.proc_shell.specs.Kernels.{IsShelled, work_with}
+use Rattle.proc_shell.specs.Kernels.{IsShelled}
 use Rattle.proc_shell.proofs.Through.{IsInOrder, shelled-of}
 
 -- so many numbers from the first on
@@ -22,12 +22,12 @@ counting_own next end = record idle_own { unmade = map number_row (count_on next
 
 pub numbers_order : (end rows : ℕ) → IsInOrder (spec.Numbers end rows)
 numbers_order end rows = record {
-  means = λ own worked made. made ++ own.unmade ≡ (numbers end).rows;
-  into = λ own worked outs wait h. h;
-  from = λ own worked outs wait h. h;
+  means = λ x own worked made. made ++ own.unmade ≡ (numbers end).rows;
+  into = λ x own worked outs wait h. h;
+  from = λ x own worked outs wait h. h;
 }
 
 pub numbers_shelled : (end rows : ℕ) → IsShelled (spec.Numbers end rows)
 numbers_shelled end rows =
-    shelled-of (spec.Numbers end rows) 0 (record { ports = λ growth m n h. h; counts = λ growth m n h. h }) (numbers_order end rows)
+    shelled-of (spec.Numbers end rows) 0 refl (record { ports = λ growth m n h. h; counts = λ growth m n h. h }) (numbers_order end rows)
     (λ i j types h. tt) (λ p ins outs uses h. h) (λ p ins outs seen uses h. h)

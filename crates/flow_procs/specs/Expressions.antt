@@ -9,6 +9,7 @@ use Rattle.proc_shell.proofs.Through.{IsMaker, shelled-through}
 pub expression_maker : (items : List Expr) → IsMaker (spec.Expression items) (map (item_row items))
 expression_maker items = record {
   each = record { nothing = refl; both = map-append (item_row items) };
+  plain = refl;
   into = λ own worked outs wait h. h;
   from = λ own worked outs wait h. h;
   noted = λ own. tt;

@@ -9,6 +9,7 @@ use Rattle.proc_shell.proofs.Through.{IsMaker, shelled-through}
 pub filter_maker : (c : Cond) → IsMaker (spec.Filter c) (filter (holds c))
 filter_maker c = record {
   each = record { nothing = refl; both = filter-append (holds c) };
+  plain = refl;
   into = λ own worked outs wait h. h;
   from = λ own worked outs wait h. h;
   noted = λ own. tt;

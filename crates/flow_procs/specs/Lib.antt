@@ -3,5 +3,3 @@ pub mod Expressions
 pub mod Limits
 pub mod Resizes
 pub mod Counting
-pub mod Collecting
-pub mod CollectSeen

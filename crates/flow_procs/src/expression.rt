@@ -1,6 +1,7 @@
 use chunk_data::{Chunk, List, Memory};
 use expr_eval::{are_items, eval_items};
 use port_word::PortView;
+use proc_api::WorkFault;
 use proc_shell::{Kernel, Offer, Shell};
 use query_model::checked::Expr;
 use query_model::processor_spec::{Kind, Spec};
@@ -21,21 +22,20 @@ impl Kernel for Evaluating {
     ghost use Rattle.query_model.specs.declared.processor_spec.Spec.TheVariants as spec;
     ghost use Rattle.proc_api.specs.Made.{idle_own};
     ghost use Rattle.flow_procs.specs.Expressions.{expression_shelled};
+    ghost use Rattle.proc_shell.specs.Kernels.{kernel_of};
     ghost use Rattle.proc_shell.proofs.Through.{first-source};
 
     ghost kind_is = { kind.Expression };
 
-    ghost spec_of = { λ k. spec.Expression k.items };
-
-    ghost own = { λ k. idle_own };
+    ghost state = { λ k. kernel_of kind.Expression (spec.Expression k.items) idle_own };
 
     ghost open_to = { λ k i. i == 0 };
 
     ghost shelled = { λ k. expression_shelled k.items };
 
-    ghost uses = { λ k i unworked made e. first-source idle_own i unworked made e };
+    ghost uses = { λ k i unworked made e m. first-source (kernel_of kind.Expression (spec.Expression k.items) idle_own) i unworked made e };
 
-    ghost hands_out_nothing = { λ w. refl };
+    ghost of_kind = { λ k. (refl, refl) };
 
     fn kind() -> Kind {
         Kind::Expression
@@ -76,7 +76,12 @@ impl Kernel for Evaluating {
         }
     }
 
-    fn make(&mut self, _alloc: Global) -> Result<Option<Chunk>, Memory> {
+    fn make(&mut self, _alloc: Global) -> Result<Option<Chunk>, WorkFault> {
         Ok(None)
+    }
+
+    // Only a collector's shell hands chunks out.
+    fn hand_out(&mut self, alloc: Global, _last: Option<Chunk>) -> Vec<Chunk> {
+        Vec::new(alloc)
     }
 }

@@ -1,6 +1,7 @@
 use chunk_data::{Chunk, Memory};
 use expr_eval::{is_typed_cond, mask};
 use port_word::PortView;
+use proc_api::WorkFault;
 use proc_shell::{Kernel, Offer, Shell};
 use query_model::checked::Cond;
 use query_model::processor_spec::{Kind, Spec};
@@ -21,21 +22,20 @@ impl Kernel for Filtering {
     ghost use Rattle.query_model.specs.declared.processor_spec.Spec.TheVariants as spec;
     ghost use Rattle.proc_api.specs.Made.{idle_own};
     ghost use Rattle.flow_procs.specs.Filters.{filter_shelled};
+    ghost use Rattle.proc_shell.specs.Kernels.{kernel_of};
     ghost use Rattle.proc_shell.proofs.Through.{first-source};
 
     ghost kind_is = { kind.Filter };
 
-    ghost spec_of = { λ k. spec.Filter k.cond };
-
-    ghost own = { λ k. idle_own };
+    ghost state = { λ k. kernel_of kind.Filter (spec.Filter k.cond) idle_own };
 
     ghost open_to = { λ k i. i == 0 };
 
     ghost shelled = { λ k. filter_shelled k.cond };
 
-    ghost uses = { λ k i unworked made e. first-source idle_own i unworked made e };
+    ghost uses = { λ k i unworked made e m. first-source (kernel_of kind.Filter (spec.Filter k.cond) idle_own) i unworked made e };
 
-    ghost hands_out_nothing = { λ w. refl };
+    ghost of_kind = { λ k. (refl, refl) };
 
     fn kind() -> Kind {
         Kind::Filter
@@ -79,7 +79,12 @@ impl Kernel for Filtering {
         }
     }
 
-    fn make(&mut self, _alloc: Global) -> Result<Option<Chunk>, Memory> {
+    fn make(&mut self, _alloc: Global) -> Result<Option<Chunk>, WorkFault> {
         Ok(None)
+    }
+
+    // Only a collector's shell hands chunks out.
+    fn hand_out(&mut self, alloc: Global, _last: Option<Chunk>) -> Vec<Chunk> {
+        Vec::new(alloc)
     }
 }

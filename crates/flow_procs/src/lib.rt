@@ -8,7 +8,7 @@ mod limit;
 mod numbers;
 mod resize;
 
-pub use collect::Collect;
+pub use collect::{Collect, Gathering};
 pub use expression::{Evaluating, Expression};
 pub use filter::{Filter, Filtering};
 pub use limit::{Limit, Limiting};

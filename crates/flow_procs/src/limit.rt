@@ -3,6 +3,7 @@ ghost use Rattle.flow_procs.specs.Limits.{rows_within};
 
 use chunk_data::{Chunk, Memory};
 use port_word::PortView;
+use proc_api::WorkFault;
 use proc_shell::{Kernel, Offer, Shell};
 use query_model::processor_spec::{Kind, Spec};
 use query_model::query::Span;
@@ -37,21 +38,20 @@ impl Kernel for Limiting {
     ghost use Rattle.query_model.specs.declared.processor_spec.Spec.TheVariants as spec;
     ghost use Rattle.proc_api.specs.Made.{idle_own};
     ghost use Rattle.flow_procs.specs.Limits.{limit_shelled, read_own};
+    ghost use Rattle.proc_shell.specs.Kernels.{kernel_of};
     ghost use Rattle.proc_shell.proofs.Through.{first-source};
 
     ghost kind_is = { kind.Limit };
 
-    ghost spec_of = { λ k. spec.Limit k.span };
-
-    ghost own = { λ k. read_own k.read };
+    ghost state = { λ k. kernel_of kind.Limit (spec.Limit k.span) (read_own k.read) };
 
     ghost open_to = { λ k i. i == 0 };
 
     ghost shelled = { λ k. limit_shelled k.span };
 
-    ghost uses = { λ k i unworked made e. first-source (read_own k.read) i unworked made e };
+    ghost uses = { λ k i unworked made e m. first-source (kernel_of kind.Limit (spec.Limit k.span) (read_own k.read)) i unworked made e };
 
-    ghost hands_out_nothing = { λ w. refl };
+    ghost of_kind = { λ k. (refl, refl) };
 
     fn kind() -> Kind {
         Kind::Limit
@@ -98,7 +98,12 @@ impl Kernel for Limiting {
         Ok(Some(chunk))
     }
 
-    fn make(&mut self, _alloc: Global) -> Result<Option<Chunk>, Memory> {
+    fn make(&mut self, _alloc: Global) -> Result<Option<Chunk>, WorkFault> {
         Ok(None)
+    }
+
+    // Only a collector's shell hands chunks out.
+    fn hand_out(&mut self, alloc: Global, _last: Option<Chunk>) -> Vec<Chunk> {
+        Vec::new(alloc)
     }
 }

@@ -4,6 +4,7 @@ ghost use Rattle.flow_procs.specs.Counting.{count_on, number_row};
 
 use chunk_data::{Chunk, Column, List, Memory};
 use port_word::PortView;
+use proc_api::WorkFault;
 use proc_shell::{Kernel, Offer, Shell};
 use query_model::processor_spec::{Kind, Spec};
 use std::alloc::Global;
@@ -49,20 +50,19 @@ impl Kernel for Counting {
     ghost use Rattle.query_model.specs.declared.processor_spec.Kind.TheVariants as kind;
     ghost use Rattle.query_model.specs.declared.processor_spec.Spec.TheVariants as spec;
     ghost use Rattle.flow_procs.specs.Counting.{counting_own, numbers_shelled};
+    ghost use Rattle.proc_shell.specs.Kernels.{kernel_of};
 
     ghost kind_is = { kind.Numbers };
 
-    ghost spec_of = { λ k. spec.Numbers k.end k.rows };
-
-    ghost own = { λ k. counting_own k.next k.end };
+    ghost state = { λ k. kernel_of kind.Numbers (spec.Numbers k.end k.rows) (counting_own k.next k.end) };
 
     ghost open_to = { λ k i. true };
 
     ghost shelled = { λ k. numbers_shelled k.end k.rows };
 
-    ghost uses = { λ k i unworked made e. refl };
+    ghost uses = { λ k i unworked made e m. refl };
 
-    ghost hands_out_nothing = { λ w. refl };
+    ghost of_kind = { λ k. (refl, refl) };
 
     fn kind() -> Kind {
         Kind::Numbers
@@ -103,7 +103,7 @@ impl Kernel for Counting {
         Ok(None)
     }
 
-    fn make(&mut self, alloc: Global) -> Result<Option<Chunk>, Memory> {
+    fn make(&mut self, alloc: Global) -> Result<Option<Chunk>, WorkFault> {
         let count = (self.end - self.next).min(self.rows.max(1) as u64);
         if count == 0 {
             return Ok(None);
@@ -113,7 +113,12 @@ impl Kernel for Counting {
                 self.next += count;
                 Ok(Some(chunk))
             }
-            Err(memory) => Err(memory),
+            Err(_) => Err(WorkFault::Memory),
         }
+    }
+
+    // Only a collector's shell hands chunks out.
+    fn hand_out(&mut self, alloc: Global, _last: Option<Chunk>) -> Vec<Chunk> {
+        Vec::new(alloc)
     }
 }

@@ -1,5 +1,6 @@
 use chunk_data::{Chunk, Memory};
 use port_word::PortView;
+use proc_api::WorkFault;
 use proc_shell::{Kernel, Offer, Shell};
 use query_model::processor_spec::{Kind, Spec};
 use std::alloc::Global;
@@ -17,20 +18,19 @@ impl Kernel for Resizing {
     ghost use Rattle.query_model.specs.declared.processor_spec.Spec.TheVariants as spec;
     ghost use Rattle.proc_api.specs.Made.{idle_own};
     ghost use Rattle.flow_procs.specs.Resizes.{resize_shelled};
+    ghost use Rattle.proc_shell.specs.Kernels.{kernel_of};
 
     ghost kind_is = { kind.Resize };
 
-    ghost spec_of = { λ k. spec.Resize };
-
-    ghost own = { λ k. idle_own };
+    ghost state = { λ k. kernel_of kind.Resize spec.Resize idle_own };
 
     ghost open_to = { λ k i. true };
 
     ghost shelled = { λ k. resize_shelled };
 
-    ghost uses = { λ k i unworked made e. refl };
+    ghost uses = { λ k i unworked made e m. refl };
 
-    ghost hands_out_nothing = { λ w. refl };
+    ghost of_kind = { λ k. (refl, refl) };
 
     fn kind() -> Kind {
         Kind::Resize
@@ -65,7 +65,12 @@ impl Kernel for Resizing {
         Ok(Some(chunk))
     }
 
-    fn make(&mut self, _alloc: Global) -> Result<Option<Chunk>, Memory> {
+    fn make(&mut self, _alloc: Global) -> Result<Option<Chunk>, WorkFault> {
         Ok(None)
+    }
+
+    // Only a collector's shell hands chunks out.
+    fn hand_out(&mut self, alloc: Global, _last: Option<Chunk>) -> Vec<Chunk> {
+        Vec::new(alloc)
     }
 }

@@ -1,33 +1,40 @@
 -- The clauses of the calls of a shell, from what its kernel and its notes do.
-use Rattle.std.proofs.Common.{◌≡◌, ◌≢◌, ◌⊎◌, ℕ, ◌<◌, ◌≤◌, ◌||◌, Bool, true, false, cond, ◌==◌, List, [], ◌∷◌, ◌++◌, length, get_or, nat_lt, is_some, Option, Some, None, IfSome, OnOk, Result, Ok, Err, refl, sym, ap, ap₂, subst, ◌∙◌, arith, inl, inr}
+use Rattle.std.proofs.Common.{◌≡◌, ◌≢◌, ◌⊎◌, ℕ, ◌<◌, ◌||◌, ◌&&◌, not, Bool, true, false, cond, ◌==◌, List, [], ◌∷◌, ◌++◌, length, get_or, nat_lt, is_some, Option, Some, None, IfSome, OnOk, Result, Ok, Err, refl, sym, ap, ap₂, subst, ◌∙◌, arith, inl, inr}
+use Rattle.std.specs.Prelude.{IfErr}
 use Rattle.std.specs.List.{All}
 use Rattle.std.specs.Option.{option_map}
 use Rattle.std.proofs.lemmas.Bool.{and_parts}
-use Rattle.std.proofs.lemmas.List.{append-nil}
+use Rattle.std.proofs.lemmas.List.{append-nil, length-append}
 use Rattle.chunk_data.specs.Values.{Row, Table}
-use Rattle.query_model.specs.Kinds.{kind_of}
+use Rattle.query_model.specs.Names.{kind_of, part_bad_place}
+use Rattle.query_model.specs.declared.places.BadPlace.{BadPlace}
 use Rattle.query_model.specs.declared.processor_spec.Spec.{Spec}
+use Rattle.query_model.specs.declared.processor_spec.Spec.TheVariants as spec
 use Rattle.query_model.specs.declared.processor_spec.Kind.{Kind}
+use Rattle.query_model.specs.declared.processor_spec.Kind.TheVariants as kind
 use Rattle.port_word.specs.Names.{Picture, input_at, output_at, in_count, out_count, can_push, is_out_finished, ChangedByCalls}
 use Rattle.port_word.proofs.Differences.{changed-by-both}
-use Rattle.proc_api.specs.Names.{BoxPicture, RowCount, no_notes, kept_input, kept_output, Lists, no_lists, chunk_rows, pulled_at, rows_pulled, raised, taken_out, total_rows, HasMade, HasNotedEnd, NotesEnd, AllOutputsFinished, FollowsKept, HasNoRoom, HasRoom, SameChunks, StaysFit, is_ended, Keeps, KeepsMade, KeepsRows, IsWorkOf, IsAtMost, AllFit, FitsInput, MakesTypes, IsPulled, HasSize, MayBeInput, most_rows, no_table, IsWanting, PreparesLawfully, KeepsLimits, IsLoadRefused, IsRunning, HasNoReader, Loads, MayWork, NeedsRoom, NotesView, StatusComes, StatusHolds, KeepsSame, Progresses, MayBeReady, Works}
+use Rattle.proc_api.specs.Names.{BoxPicture, RowCount, kept_input, kept_output, Lists, no_lists, chunk_rows, pulled_at, rows_pulled, raised, taken_out, total_rows, HasNotedEnd, NotesEnd, OwnState, own_of, AllOutputsFinished, FollowsKept, HasRoom, SameChunks, StaysFit, is_ended, Keeps, KeepsRows, IsWorkOf, IsAtMost, AllFit, FitsInput, MakesTypes, IsPulled, HasSize, MayBeInput, most_rows, no_table, OfPart, PreparesLawfully, KeepsLimits, IsLoadRefused, IsRunning, HasNoReader, IsSourceKind, Loads, MaySchedule, MayWork, NeedsRoom, NotesView, StatusComes, StatusHolds, KeepsSame, Progresses, MayBeReady, Works, Faults, FaultInCall, FaultHolds, FaultIsDue, port_flags}
 use Rattle.proc_api.specs.declared.status.Answer.{Answer}
 use Rattle.proc_api.specs.declared.status.Status.{Status}
+use Rattle.proc_api.specs.declared.status.Wake.{Wake}
 use Rattle.proc_api.specs.declared.status.WorkFault.{WorkFault}
 use Rattle.proc_api.specs.declared.status.Answer.TheVariants.{Prepared, Scheduled}
 use Rattle.proc_api.specs.declared.status.Status.TheVariants as status
+use Rattle.proc_api.specs.declared.status.Wake.TheVariants as wake
+use Rattle.proc_api.specs.declared.status.WorkFault.TheVariants as fault
 use Rattle.proc_api.specs.declared.status.LoadRefusal.TheVariants as refusal
 use Rattle.proc_api.proofs.CallLaws.{none-pulled}
 use Rattle.proc_api.proofs.Keeping.{total-nothing}
 use Rattle.proc_shell.specs.declared.held.Held.{Held}
 use Rattle.proc_shell.specs.declared.held.Held.TheVariants.{Nothing, Unworked, Made}
-use Rattle.proc_shell.specs.Steps.{held_unworked, held_made, held_option, held_rows, is_unworked, is_wanted, rows_since, source_of, suits}
-use Rattle.proc_shell.specs.Kernels.{Begins, IsShelled, NotesNoEnd, rows_of, with_chunk}
-use Rattle.proc_shell.specs.Turning.{AnswerComes}
-use Rattle.proc_shell.specs.Shells.{HasSpecPorts, MakesHeld, PartWorks, Passes, ShellPart, ShutsPart, TakesHeld, WorksHeld, part_seen, part_work, shell_seen}
+use Rattle.proc_shell.specs.Steps.{held_unworked, held_made, held_option, held_rows, is_unworked, is_wanted, not_made, rows_since, source_of, suits}
+use Rattle.proc_shell.specs.Kernels.{Fails, IsReadOut, KeepsMeant, KernelState, Means, NotesNoEnd, Shows, gathered_with, reading_of, rows_of, with_chunk, work_of}
+use Rattle.proc_shell.specs.Turning.{AnswerComes, IsCrowded, Pushes}
+use Rattle.proc_shell.specs.Shells.{HasSpecPorts, IsBegun, MakesHeld, PartFails, PartPrepares, PartWorks, Passes, ReaderView, ShellPart, ShutsPart, TakesHeld, WorksHeld, files_by, noted_by, part_seen, shell_seen}
 use Rattle.proc_shell.proofs.PortMoves.{never-true, shut-law, total-one}
 use Rattle.proc_shell.proofs.SameView.{same-input, same-output, had-still, finishes-still, closes-still}
-use Rattle.proc_shell.proofs.KeepLaws.{Goes, keeps-over, spec-view}
+use Rattle.proc_shell.proofs.KeepLaws.{Goes, keeps-over, noted-own, shown-one, spec-view}
 
 pub all-of-none : (P : Table → Type 0) → All P []
 all-of-none P = λ k d lt. absurd (omega arith)
@@ -61,6 +68,12 @@ held-source (Some t) = go t.rows
     go [] = refl
     go (row ∷ rows) = refl
 
+-- after a work nothing is unworked
+pub worked-source : (x : KernelState) (h k : Held) (new : OwnState) → WorksHeld x h new k → (source_of k ≡ 0) × (held_unworked k ≡ [])
+worked-source x Nothing k new y = (ap source_of y.held ∙ held-source y.out, ap held_unworked y.held ∙ held-worked y.out)
+worked-source x (Unworked i c) k new y = (ap source_of y.held ∙ held-source y.out, ap held_unworked y.held ∙ held-worked y.out)
+worked-source x (Made c) k new y = absurd y
+
 held-all : (P : Table → Type 0) (o : Option Table) → IfSome o (λ (t : Table). 0 < length t.rows → P t) → All P (held_made (held_option o))
 held-all P None h = all-of-none P
 held-all P (Some t) h = go t.rows refl
@@ -73,58 +86,75 @@ each-some : (P Q : Table → Type 0) (o : Option Table) → ((t : Table) → P t
 each-some P Q None f h = tt
 each-some P Q (Some t) f h = f t h
 
--- ---- where `work` may be called
+-- ---- where `work` or `schedule` may be called
 
-pub suits-nothing : (a : Option Answer) (b : Bool) (h : Held) → suits a b h ≡ true → suits a b Nothing ≡ true
-suits-nothing None b h e = refl
-suits-nothing (Some (Prepared status.NeedData)) b h e = refl
-suits-nothing (Some (Prepared status.PortFull)) b h e = refl
-suits-nothing (Some (Prepared status.Ready)) true h e = refl
-suits-nothing (Some (Prepared status.Ready)) false h e = refl
-suits-nothing (Some (Prepared status.Async)) b h e = refl
-suits-nothing (Some (Prepared status.ExpandPipeline)) b h e = refl
-suits-nothing (Some (Prepared status.Finished)) b h e = refl
-suits-nothing (Some (Scheduled wake)) b h e = absurd (cc)
+pub suits-acted : (a : Option Answer) (k : Held) → MayWork a → suits a true k ≡ true
+suits-acted a Nothing m = refl
+suits-acted a (Unworked i c) m = refl
+suits-acted (Some (Prepared status.Ready)) (Made c) m = refl
+suits-acted (Some (Scheduled wake.Ready)) (Made c) m = refl
+suits-acted a (Made c) m = absurd m
 
-pub suits-acted : (a : Option Answer) (b : Bool) (h k : Held) → suits a b h ≡ true → suits a true k ≡ true
-suits-acted None b h k e = refl
-suits-acted (Some (Prepared status.NeedData)) b h k e = refl
-suits-acted (Some (Prepared status.PortFull)) b h k e = refl
-suits-acted (Some (Prepared status.Ready)) b h k e = refl
-suits-acted (Some (Prepared status.Async)) b h k e = refl
-suits-acted (Some (Prepared status.ExpandPipeline)) b h k e = refl
-suits-acted (Some (Prepared status.Finished)) b h k e = refl
-suits-acted (Some (Scheduled wake)) b h k e = absurd (cc)
+pub suits-work : (a : Option Answer) (b : Bool) (h : Held) → suits a b h ≡ true → MayWork a → b ≡ false → not_made h ≡ true
+suits-work a b Nothing e m f = refl
+suits-work a b (Unworked i c) e m f = refl
+suits-work (Some (Prepared status.Ready)) b (Made c) e m f = let x : not (not b) ≡ false = ap (λ z. not (not z)) f in sym x ∙ e
+suits-work (Some (Scheduled wake.Ready)) b (Made c) e m f = let x : not (not b) ≡ false = ap (λ z. not (not z)) f in sym x ∙ e
+suits-work a b (Made c) e m f = absurd m
 
-pub suits-work : (a : Option Answer) (b : Bool) (t : Table) → suits a b (Made t) ≡ true → MayWork a → b ≡ false → ⊥
-suits-work None b t e m f = m
-suits-work (Some (Prepared status.NeedData)) b t e m f = m
-suits-work (Some (Prepared status.PortFull)) b t e m f = m
-suits-work (Some (Prepared status.Ready)) true t e m f = absurd (cc)
-suits-work (Some (Prepared status.Ready)) false t e m f = absurd (cc)
-suits-work (Some (Prepared status.Async)) b t e m f = m
-suits-work (Some (Prepared status.ExpandPipeline)) b t e m f = m
-suits-work (Some (Prepared status.Finished)) b t e m f = m
-suits-work (Some (Scheduled wake)) b t e m f = absurd (cc)
+pub suits-wake : (a : Option Answer) (b : Bool) (h : Held) (w : Wake) → suits a b h ≡ true → MaySchedule a → suits (Some (Scheduled w)) false h ≡ true
+suits-wake a b Nothing w e m = refl
+suits-wake a b (Unworked i c) w e m = refl
+suits-wake (Some (Prepared status.Async)) b (Made c) w e m = absurd (cc)
+suits-wake (Some (Scheduled wake.Later)) b (Made c) w e m = absurd (cc)
+suits-wake a b (Made c) w e m = absurd m
 
--- where `work` may be called after a prepare no chunk waits
-pub suits-room : (st : Status) (h : Held) (w : Picture) → (0 < length (held_made h) → HasNoRoom w) → (NeedsRoom st → HasRoom w) → suits (Some (Prepared st)) false h ≡ true
-suits-room status.NeedData h w a b = refl
-suits-room status.PortFull h w a b = refl
-suits-room status.Ready Nothing w a b = refl
-suits-room status.Ready (Unworked i c) w a b = refl
-suits-room status.Ready (Made c) w a b =
-    let r = b tt in
-    never-true (can_push (output_at w r.output)) (a (omega arith) r.output r.in_range r.unfinished) r.room
-suits-room status.Async h w a b = refl
-suits-room status.ExpandPipeline h w a b = refl
-suits-room status.Finished h w a b = refl
+-- after a prepare no chunk waits where there is room
+pub suits-room : (st : Status) (h : Held) (w : Picture) → (0 < length (held_made h) → IsCrowded w) → (NeedsRoom st → 0 < out_count w → HasRoom w) → suits (Some (Prepared st)) false h ≡ true
+suits-room st Nothing w a b = refl
+suits-room st (Unworked i c) w a b = refl
+suits-room st (Made c) w a b = go st b
+  where
+    never : HasRoom w → {X : Type 0} → X
+    never r = let x = a (omega arith) in never-true (can_push (output_at w r.output)) (x.none r.output r.in_range r.unfinished) r.room
+
+    go : (t : Status) → (NeedsRoom t → 0 < out_count w → HasRoom w) → suits (Some (Prepared t)) false (Made c) ≡ true
+    go status.NeedData b = refl
+    go status.PortFull b = refl
+    go status.Ready b = never (b tt (a (omega arith)).some)
+    go status.Async b = never (b tt (a (omega arith)).some)
+    go status.ExpandPipeline b = refl
+    go status.Finished b = refl
 
 -- what isn't worked came from input 0 or from a wanted one
-pub wanted-source : (wants : ℕ → Bool) (h : Held) → is_wanted wants h ≡ true → ((source_of h ≡ 0) × (held_unworked h ≡ [])) ⊎ (wants (source_of h) ≡ true)
-wanted-source wants Nothing e = inl (refl, refl)
-wanted-source wants (Made c) e = inl (refl, refl)
-wanted-source wants (Unworked i c) e = inr (and_parts (wants i) (nat_lt i 32) e).0
+pub wanted-source : (wants : ℕ → Bool) (makes : Bool) (h : Held) → is_wanted wants makes h ≡ true → ((source_of h ≡ 0) × (held_unworked h ≡ [])) ⊎ (wants (source_of h) ≡ true)
+wanted-source wants makes Nothing e = inl (refl, refl)
+wanted-source wants makes (Made c) e = inl (refl, refl)
+wanted-source wants makes (Unworked i c) e = inr (and_parts (wants i) (nat_lt i 32) e).0
+
+-- a kind that makes none holds none
+pub wanted-made : (wants : ℕ → Bool) (makes : Bool) (h : Held) → is_wanted wants makes h ≡ true → makes ≡ false → held_made h ≡ []
+wanted-made wants makes Nothing e f = refl
+wanted-made wants makes (Unworked i c) e f = refl
+wanted-made wants makes (Made c) e f = never-true makes f e
+
+pub wanted-option : (wants : ℕ → Bool) (makes : Bool) (o : Option Table) → (makes ≡ false → o ≡ None) → is_wanted wants makes (held_option o) ≡ true
+wanted-option wants makes None f = refl
+wanted-option wants true (Some t) f = go t.rows
+  where
+    go : (rows : List Row) → is_wanted wants true (held_rows rows t) ≡ true
+    go [] = refl
+    go (row ∷ rows) = refl
+wanted-option wants false (Some t) f = let e = f refl in absurd (cc)
+
+pub wanted-pushed : (wants : ℕ → Bool) (makes : Bool) (h k : Held) (v w : Picture) → Pushes h k v w → is_wanted wants makes h ≡ true → is_wanted wants makes k ≡ true
+wanted-pushed wants makes h Nothing v w x e = refl
+wanted-pushed wants makes (Unworked j d) (Unworked i c) v w x e = ap (λ n. wants n && nat_lt n 32) x.source ∙ e
+wanted-pushed wants makes Nothing (Unworked i c) v w x e = absurd (let f = x.unworked in cc)
+wanted-pushed wants makes (Made d) (Unworked i c) v w x e = absurd (let f = x.unworked in cc)
+wanted-pushed wants makes (Made d) (Made c) v w x e = e
+wanted-pushed wants makes Nothing (Made c) v w x e = absurd (let l = ap length x.made in let m = length-append x.left (c ∷ []) in omega (arith, l, m))
+wanted-pushed wants makes (Unworked j d) (Made c) v w x e = absurd (let l = ap length x.made in let m = length-append x.left (c ∷ []) in omega (arith, l, m))
 
 -- ---- load
 
@@ -132,82 +162,100 @@ pub none-mapped : {A : Type 0} {B : Type 0} (f : A → B) (o : Option A) → is_
 none-mapped f None e = e
 none-mapped f (Some x) e = absurd (cc)
 
-pub no-reader : (k : Kind) (count : RowCount) (o : Option ShellPart) → HasNoReader (shell_seen k count o)
+pub no-reader : (k : Kind) (count : RowCount) (o : Option ShellPart) → HasNoReader (shell_seen k None count o)
 no-reader k count None = record { files = refl; faults = refl; pendings = refl; given = refl }
 no-reader k count (Some p) = record { files = refl; faults = refl; pendings = refl; given = refl }
 
-pub kind-seen : (k : Kind) (count : RowCount) (o : Option ShellPart) → k ≡ (shell_seen k count o).kind
-kind-seen k count None = refl
-kind-seen k count (Some p) = refl
-
 -- a blank box that was given another kind's spec, or a spec of its kind
-pub wrong-kind : (k : Kind) (count : RowCount) (o : Option ShellPart) (s : Spec) → is_some o ≡ false → kind_of s ≢ k → IsLoadRefused refusal.WrongKind (shell_seen k count o) s
-wrong-kind k count (Some p) s none h = absurd (cc)
-wrong-kind k count None s none h = (refl, h)
+pub wrong-kind : (k : Kind) (d : Option ReaderView) (count : RowCount) (o : Option ShellPart) (s : Spec) → is_some o ≡ false → kind_of s ≢ k → IsLoadRefused refusal.WrongKind (shell_seen k d count o) s
+wrong-kind k d count (Some p) s none h = absurd (cc)
+wrong-kind k d count None s none h = (refl, h)
 
-pub no-memory : (k : Kind) (count : RowCount) (o : Option ShellPart) (s : Spec) → is_some o ≡ false → kind_of s ≡ k → IsLoadRefused refusal.Memory (shell_seen k count o) s
-no-memory k count (Some p) s none h = absurd (cc)
-no-memory k count None s none h = (refl, h)
+pub no-memory : (k : Kind) (d : Option ReaderView) (count : RowCount) (o : Option ShellPart) (s : Spec) → is_some o ≡ false → kind_of s ≡ k → IsLoadRefused refusal.Memory (shell_seen k d count o) s
+no-memory k d count (Some p) s none h = absurd (cc)
+no-memory k d count None s none h = (refl, h)
 
 cond-none : (c : Bool) (l : List Table) → l ≡ [] → cond c l [] ≡ []
 cond-none true l e = e
 cond-none false l e = refl
 
-fresh-keeps : (k : Kind) (count : RowCount) (p : ShellPart) → IsShelled p.spec
-    → IsWorkOf (Some p.spec) (part_work p) → HasMade p.spec p.own no_lists no_lists []
-    → ((i : ℕ) → NotesEnd (Some p.spec) p.own i → ⊥)
-    → p.held ≡ Nothing → p.notes ≡ no_notes → count.since ≡ 0
-    → Keeps (part_seen k count p) no_lists no_lists
-unfolding kept_output kept_input total_rows
-fresh-keeps k count p shelled uses made unended e n c = record {
-  ports = rw n tt;
-  idle = uses;
-  rows = λ f. shelled.into (part_seen k count p) no_lists no_lists uses (record {
+noted-none : (d : Option ReaderView) → noted_by d 0 ≡ 0
+noted-none None = refl
+noted-none (Some r) = refl
+
+module _ (k : Kind) (d : Option ReaderView) (count : RowCount) (s : Spec) (p : ShellPart) (x : IsBegun s p) (since : count.since ≡ 0) where
+  abbrev F : BoxPicture
+  F = part_seen k d count p
+
+  fresh-meant : KeepsMeant p.kernel.spec F no_lists no_lists
+  unfolding kept_output
+  fresh-meant = record {
+    own = p.kernel.own;
+    shows = refl;
     worked = no_lists;
-    ins_are = λ i. sym (cond-none (i == source_of p.held) (held_unworked p.held) (ap held_unworked e));
-    rows = rw e made;
-    over = λ o fin. let f : false ≡ true = rw n at fin in absurd (cc);
-  });
-  types = λ o. all-of-none (λ (t : Table). MakesTypes (Some p.spec) no_lists t.types);
-  made_types = rw e (all-of-none (λ (t : Table). MakesTypes (Some p.spec) no_lists t.types));
-  sizes = λ o. all-of-none (HasSize (Some p.spec));
-  made_sizes = rw e (all-of-none (HasSize (Some p.spec)));
-  unworked = rw e (all-of-none (λ (t : Table). IsPulled no_lists t.types));
-  counted = inl c;
-  finishes = λ o fin. let f : false ≡ true = rw n at fin in absurd (cc);
-  closes = λ i fin. let f : false ≡ true = rw n at fin in absurd (cc);
-  noted = λ i there n. absurd (unended i n);
-}
+    ins_are = λ i. sym (cond-none (i == source_of p.held) (held_unworked p.held) (ap held_unworked x.held));
+    rows =
+        let y : Means (record { files = files_by d; fetched = p.kernel.stage.fetched; bad = p.kernel.stage.bad }) s p.kernel.own no_lists no_lists [] =
+        subst (λ g. Means (record { files = files_by d; fetched = g.fetched; bad = g.bad }) s p.kernel.own no_lists no_lists []) (sym x.stage) (x.begins.nothing (files_by d)) in
+        subst (λ h. Means (reading_of F) p.kernel.spec p.kernel.own no_lists no_lists (chunk_rows (held_made h))) (sym x.held)
+        (subst (λ z. Means (reading_of F) z p.kernel.own no_lists no_lists []) (sym x.begins.spec) y);
+    over = λ o fin. let f : false ≡ true = rw x.notes at fin in absurd (cc);
+    read = λ o fin. let f : false ≡ true = rw x.notes at fin in absurd (cc);
+  }
+
+  fresh-keeps : Keeps F no_lists no_lists
+  unfolding kept_output kept_input total_rows
+  fresh-keeps = record {
+    ports = rw x.notes tt;
+    idle = x.uses;
+    rows = λ f. x.shelled.into F no_lists no_lists x.uses (rw x.held (all-of-none (HasSize (Some p.kernel.spec)))) fresh-meant;
+    types = λ o. all-of-none (λ (t : Table). MakesTypes (Some p.kernel.spec) no_lists t.types);
+    made_types = rw x.held (all-of-none (λ (t : Table). MakesTypes (Some p.kernel.spec) no_lists t.types));
+    sizes = λ o. all-of-none (HasSize (Some p.kernel.spec));
+    made_sizes = rw x.held (all-of-none (HasSize (Some p.kernel.spec)));
+    unworked = rw x.held (all-of-none (λ (t : Table). IsPulled no_lists t.types));
+    counted = inl since;
+    finishes = λ o fin. let f : false ≡ true = rw x.notes at fin in absurd (cc);
+    closes = λ i fin. let f : false ≡ true = rw x.notes at fin in absurd (cc);
+    noted = λ i there n. absurd (x.begins.unended i (noted-own p.kernel.spec p.kernel.own (gathered_with p.kernel.spec p.kernel.own.gathered (held_unworked p.held)) p.kernel.own.gathered i n));
+  }
 
 -- a blank shell that was loaded
-pub loads : (k : Kind) (count more : RowCount) (o : Option ShellPart) (s : Spec) (p : ShellPart) → is_some o ≡ false → IsShelled p.spec → IsWorkOf (Some p.spec) (part_work p) → kind_of s ≡ k → Begins s p.spec p.own → p.held ≡ Nothing → p.notes ≡ no_notes
-    → more ≡ record { total = count.total; since = 0 } → Loads (shell_seen k count o) s (part_seen k more p)
-loads k count more (Some x) s p none shelled uses sk b h n m = absurd (cc)
-loads k count more None s p none shelled uses sk b h n m =
-    let since : more.since ≡ 0 = ap (λ x. x.since) m in
+pub loads : (k : Kind) (d : Option ReaderView) (count more : RowCount) (o : Option ShellPart) (s : Spec) (p : ShellPart) → is_some o ≡ false → kind_of s ≡ k → IsBegun s p
+    → more ≡ record { total = count.total; since = 0 } → Loads (shell_seen k d count o) s (part_seen k d more p)
+loads k d count more (Some y) s p none sk x m = absurd (cc)
+loads k d count more None s p none sk x m =
+    let since : more.since ≡ 0 = ap (λ c. c.since) m in
     record {
       was_blank = refl;
       of_kind = sk;
       kind = refl;
       lawful = refl;
       files = refl;
-      spec = ap Some b.spec;
-      counts = record { faults = refl; pendings = refl; pulled = ap (λ x. x.total) m };
+      spec = ap Some x.begins.spec;
+      counts = record { faults = refl; pendings = refl; pulled = ap (λ c. c.total) m };
       fresh = record {
         loaded = refl;
-        of_kind = ap kind_of b.spec ∙ sk;
-        notes = rw (n, since) refl;
+        of_kind = ap kind_of x.begins.spec ∙ sk;
+        notes = rw (x.notes, since, noted-none d) refl;
         ungrown = refl;
-        not_handed_out = refl;
-        keeps = λ l. fresh-keeps k more p shelled uses
-            (subst (λ z. HasMade z p.own no_lists no_lists []) (sym b.spec) b.nothing) b.unended h n
-            since;
+        not_handed_out = ap (λ g. g.handed_out) x.stage;
+        keeps = λ l. fresh-keeps k d more s p x since;
       };
     }
 
 -- ---- prepare
 
-module _ (k : Kind) (p q : ShellPart) (shelled : IsShelled p.spec) (uses : IsWorkOf (Some p.spec) (part_work q)) (n m : RowCount) (v w : Picture) (st : Status) (few : out_count v ≤ 16) (few_in : in_count v ≤ 32) where
+module _ (k : Kind) (d : Option ReaderView) (p q : ShellPart) (n m : RowCount) (v w : Picture) (st : Status) (all : PartPrepares k p v n q w m st) where
+  abbrev before : BoxPicture
+  before = part_seen k d n p
+
+  abbrev after : BoxPicture
+  after = part_seen k d m q
+
+  kind-now : q.kernel.kind ≡ k
+  kind-now = ap (λ z. z.kind) all.suits.kernel ∙ all.suits.kind.0
+
   pulled-is : (x : Passes p v n q w m st) (i : ℕ) → pulled_at v w i ≡ pulled_at x.view w i
   pulled-is x i = ap (λ y. taken_out y.chunk (input_at w i).chunk) (sym (x.pushes.inputs i))
 
@@ -215,7 +263,7 @@ module _ (k : Kind) (p q : ShellPart) (shelled : IsShelled p.spec) (uses : IsWor
   rows-so x = elim x.turns.moves.pulls [
     | inl y ↦ none-since p.held q.held (y.unworked ∙ x.pushes.unworked) ∙ sym (total-nothing 32 (pulled_at v w) (λ i. pulled-is x i ∙ y.nothing i))
     | inr y ↦
-        let lt : y.input < 32 = let a = y.in_range in omega (arith, a, x.pushes.ins, few_in) in
+        let lt : y.input < 32 = let a = y.in_range in omega (arith, a, x.pushes.ins, all.few_in) in
         one-since p.held q.held y.input y.chunk (sym x.pushes.unworked ∙ ap held_unworked y.before) y.after ∙ sym (ap (λ l. length (chunk_rows l)) (pulled-is x y.input ∙ y.here))
         ∙ sym (total-one 32 y.input (pulled_at v w) lt (λ j ne. pulled-is x j ∙ y.others j ne))
   ]
@@ -226,22 +274,27 @@ module _ (k : Kind) (p q : ShellPart) (shelled : IsShelled p.spec) (uses : IsWor
       none-since (Made c) h' e = ap (λ l. length (chunk_rows l)) e
 
       one-since : (h h' : Held) (i : ℕ) (c : Table) → held_unworked h ≡ [] → h' ≡ Unworked i c → rows_since (is_unworked h) h' ≡ length (chunk_rows (c ∷ []))
-      one-since (Unworked j d) h' i c e f = absurd (cc)
+      one-since (Unworked j e) h' i c e' f = absurd (cc)
       one-since Nothing h' i c e f = ap (λ z. length (chunk_rows (held_unworked z))) f
-      one-since (Made d) h' i c e f = ap (λ z. length (chunk_rows (held_unworked z))) f
+      one-since (Made e) h' i c e' f = ap (λ z. length (chunk_rows (held_unworked z))) f
 
   pulled-so : (x : Passes p v n q w m st) → m.total ≡ raised n.total (rows_pulled v w)
   pulled-so x = x.counts.total ∙ ap (raised n.total) (rows-so x)
 
-  fit-ports : StaysFit (part_seen k n p) v → HasSpecPorts p.spec v
-  fit-ports fit = shelled.ungrown None (in_count v) (out_count v) fit.ports
+  fit-ports : StaysFit before v → HasSpecPorts p.kernel.spec v
+  fit-ports fit = all.suits.shelled.ungrown None (in_count v) (out_count v) fit.ports
 
-  goes : (x : Passes p v n q w m st) → FollowsKept (part_seen k n p) v → StaysFit (part_seen k n p) v → Goes p.spec (part_seen k n p) (part_seen k m q) v x.view w p.own q.own p.held x.held q.held st
-  goes x f fit = record {
+  spec-stays : q.kernel.spec ≡ p.kernel.spec
+  spec-stays = ap (λ z. z.spec) all.suits.kernel
+
+  goes : (x : Passes p v n q w m st) → FollowsKept before v → p.kernel.stage.handed_out ≡ false → StaysFit before v → Goes p.kernel before after v x.view w q.kernel.own p.held x.held q.held st
+  goes x f out fit = record {
     spec = refl;
-    spec_stays = ap Some x.spec;
+    spec_stays = ap Some spec-stays;
+    files = refl;
+    not_handed_out = out;
     before = refl;
-    after = refl;
+    after = ap (λ z. work_of z (source_of q.held) (held_unworked q.held) (held_made q.held)) all.suits.kernel;
     pushes = x.pushes;
     turns = x.turns;
     view = ap (λ z. z.view) x.notes;
@@ -250,112 +303,109 @@ module _ (k : Kind) (p q : ShellPart) (shelled : IsShelled p.spec) (uses : IsWor
     follows = f;
     ports = fit-ports fit;
     still = fit.still;
-    few = few;
+    few = all.few;
   }
 
-  limits-kept : q.notes.fault ≡ None → KeepsLimits (part_seen k n p) (part_seen k m q)
-  limits-kept e = record {
-    pendings = λ lt. rw e lt;
-    given = λ le. rw e le;
-    opened = λ f. f;
-    fetched = λ f. f;
+  limits-kept : q.notes.pendings ≡ p.notes.pendings → q.notes.given ≡ p.notes.given → q.notes.fault ≡ None → KeepsLimits before after
+  limits-kept a b e = record {
+    pendings = λ lt. rw (e, a) lt;
+    given = λ le. rw (e, b) le;
+    opened = λ f. ap (λ z. z.stage.opened) all.suits.kernel ∙ f;
+    fetched = λ f. ap (λ z. z.stage.fetched) all.suits.kernel ∙ f;
   }
 
-  may-come : q.spec ≡ p.spec → (u : Status) → AnswerComes u p.spec q.held q.own → StatusComes u (part_seen k m q)
-  may-come z status.NeedData e = subst (λ s. IsWanting (Some s) q.own.read) (sym z) e
-  may-come z status.PortFull e = tt
-  may-come z status.Ready e = elim e [ inl some ↦ inl some | inr some ↦ inr (inl some) ]
-  may-come z status.Async e = absurd e
-  may-come z status.ExpandPipeline e = absurd e
-  may-come z status.Finished e = tt
+  may-come : (u : Status) → AnswerComes u q.kernel q.held → StatusComes u after
+  may-come status.NeedData e = e
+  may-come status.PortFull e = tt
+  may-come status.Ready e = elim e [
+    | inl some ↦ inl some
+    | inr left ↦ elim left [ inl row ↦ inr (inl row) | inr bad ↦ inr (inr (sym kind-now ∙ bad.0, bad.1)) ]
+  ]
+  may-come status.Async e = record { source = subst IsSourceKind kind-now e.0; unfetched = e.1 }
+  may-come status.ExpandPipeline e = absurd e
+  may-come status.Finished e = tt
 
   both-same : (x : Passes p v n q w m st) → SameChunks v x.view → SameChunks x.view w → SameChunks v w
   both-same x a b = record { inputs = λ i. b.inputs i ∙ a.inputs i; outputs = λ o. b.outputs o ∙ a.outputs o }
 
   all-before : (x : Passes p v n q w m st) → AllOutputsFinished v → AllOutputsFinished x.view
-  all-before x all = λ o lt. ap₂ (λ a b. a || b) (x.pushes.finished o) (x.pushes.closed o) ∙ all o (omega (arith, lt, x.pushes.outs))
+  all-before x each = λ o lt. ap₂ (λ a b. a || b) (x.pushes.finished o) (x.pushes.closed o) ∙ each o (omega (arith, lt, x.pushes.outs))
 
-  prepares-fit : HasSpecPorts p.spec v → Passes p v n q w m st → FollowsKept (part_seen k n p) v → p.notes.fault ≡ None → PreparesLawfully (part_seen k n p) v (part_seen k m q) w st
-  prepares-fit ports x f faultless =
+  prepares-fit : HasSpecPorts p.kernel.spec v → Passes p v n q w m st → FollowsKept before v → IsRunning before → PreparesLawfully before v after w st
+  prepares-fit ports x f run =
       let y = x.turns.moves in
       record {
         law = y.law;
-        comes = may-come x.spec st y.comes;
+        comes = may-come st (subst (λ z. AnswerComes st z q.held) (sym all.suits.kernel) y.comes);
         pulled = pulled-so x;
-        limits = limits-kept (ap (λ z. z.fault) x.notes ∙ faultless);
+        limits = limits-kept (ap (λ z. z.pendings) x.notes) (ap (λ z. z.given) x.notes) (ap (λ z. z.fault) x.notes ∙ run.faultless);
         fits = λ fit. ap (λ z. z.fits) x.notes ∙ fit.fits;
-        keeps = λ fit ins outs kept. keeps-over p.spec shelled (part_seen k n p) (part_seen k m q) v x.view w p.own q.own p.held x.held q.held st (goes x f fit) ins outs uses kept;
-        ends = λ some all. let e = y.at_once (all-before x all) in record { answer = e.answer; chunks = both-same x (x.pushes.at_once all) e.chunks };
-        pushes = λ some. y.waits (x.pushes.waits (let e = ap length y.made in omega (arith, e, some)));
-        room = λ need some. y.room need;
-        misfit = λ never. absurd (never (shelled.grown None (in_count v) (out_count v) ports));
+        keeps = λ fit ins outs kept. keeps-over p.kernel all.suits.shelled before after v x.view w q.kernel.own p.held x.held q.held st (goes x f run.not_handed_out fit) ins outs all.suits.uses kept;
+        ends = λ some each. let e = y.at_once (omega (arith, some, x.pushes.outs)) (all-before x each) in record { answer = e.answer; chunks = both-same x (x.pushes.at_once each) e.chunks };
+        pushes = λ some. y.waits (x.pushes.waits (let e = ap length y.made in omega (arith, e, some))).none;
+        room = y.room;
+        misfit = λ never. absurd (never (all.suits.shelled.grown None (in_count v) (out_count v) ports));
       }
 
-  prepares-misfit : (HasSpecPorts p.spec v → ⊥) → ShutsPart p v n q w m st → p.notes.fault ≡ None → PreparesLawfully (part_seen k n p) v (part_seen k m q) w st
-  prepares-misfit never x faultless =
+  prepares-misfit : (HasSpecPorts p.kernel.spec v → ⊥) → ShutsPart p v n q w m st → IsRunning before → PreparesLawfully before v after w st
+  prepares-misfit never x run =
       let nothing = total-nothing 32 (pulled_at v w) (λ i. none-pulled v w i (x.chunks.inputs i)) in
       record {
         law = subst (λ t. StatusHolds t w) (sym x.status) (shut-law w x.shut);
-        comes = subst (λ t. StatusComes t (part_seen k m q)) (sym x.status) tt;
+        comes = subst (λ t. StatusComes t after) (sym x.status) tt;
         pulled = x.counts.total ∙ ap (raised n.total) (sym nothing);
-        limits = limits-kept (ap (λ z. z.fault) x.notes ∙ faultless);
+        limits = limits-kept (ap (λ z. z.pendings) x.notes) (ap (λ z. z.given) x.notes) (ap (λ z. z.fault) x.notes ∙ run.faultless);
         fits = λ fit. absurd (never (fit-ports fit));
         keeps = λ fit. absurd (never (fit-ports fit));
-        ends = λ some all. record { answer = x.status; chunks = x.chunks };
-        pushes = λ some o lt n. never-true (is_out_finished (output_at w o)) n (x.shut.outputs o lt);
+        ends = λ some each. record { answer = x.status; chunks = x.chunks };
+        pushes = λ some o lt z. never-true (is_out_finished (output_at w o)) z (x.shut.outputs o lt);
         room = λ need some. absurd (subst NeedsRoom x.status need);
         misfit = λ none. record { answer = x.status; shut = x.shut };
       }
 
-  module _ (either : HasSpecPorts p.spec v ⊎ (HasSpecPorts p.spec v → ⊥)) (fit : HasSpecPorts p.spec v → Passes p v n q w m st) (misfit : (HasSpecPorts p.spec v → ⊥) → ShutsPart p v n q w m st) where
-    prepares-part : FollowsKept (part_seen k n p) v → p.notes.fault ≡ None → PreparesLawfully (part_seen k n p) v (part_seen k m q) w st
-    prepares-part f faultless = elim either [ inl ports ↦ prepares-fit ports (fit ports) f faultless | inr never ↦ prepares-misfit never (misfit never) faultless ]
+  prepares-part : FollowsKept before v → IsRunning before → PreparesLawfully before v after w st
+  prepares-part f run = elim all.way [ inl x ↦ prepares-fit x.0 x.1 f run | inr x ↦ prepares-misfit x.0 x.1 run ]
 
-    -- a prepare of a loaded shell
-    pub prepares : (o : Option ShellPart) → o ≡ Some p → IsRunning (shell_seen k n o) → FollowsKept (shell_seen k n o) v → PreparesLawfully (shell_seen k n o) v (part_seen k m q) w st
-    prepares o e =
-        let P : Option ShellPart → Type 0 = λ x. IsRunning (shell_seen k n x) → FollowsKept (shell_seen k n x) v → PreparesLawfully (shell_seen k n x) v (part_seen k m q) w st in
-        subst P (sym e) (λ run f. prepares-part f run.faultless)
+  -- a prepare of a loaded shell
+  pub prepares : (o : Option ShellPart) → o ≡ Some p → IsRunning (shell_seen k d n o) → FollowsKept (shell_seen k d n o) v → PreparesLawfully (shell_seen k d n o) v after w st
+  prepares o e =
+      subst (λ x. IsRunning (shell_seen k d n x) → FollowsKept (shell_seen k d n x) v → PreparesLawfully (shell_seen k d n x) v after w st) (sym e)
+      (λ run f. prepares-part f run)
 
-    pub changes : ChangedByCalls v w
-    changes = elim either [ inl ports ↦ (let x = fit ports in changed-by-both v x.view w x.pushes.changed x.turns.moves.changed) | inr never ↦ (misfit never).changed ]
+  pub changes : ChangedByCalls v w
+  changes = elim all.way [ inl x ↦ changed-by-both v x.1.view w x.1.pushes.changed x.1.turns.moves.changed | inr x ↦ x.1.changed ]
 
-    notes-part : p.notes.fault ≡ None → NotesView (part_seen k n p) (part_seen k m q) w st
-    notes-part faultless = elim either [
-      | inl ports ↦ let x = fit ports in record {
-        view = ap (λ z. z.view) x.notes;
-        answer = ap (λ z. z.answer) x.notes;
-        not_acted = ap (λ z. z.acted) x.notes;
+  -- what either leaves
+  abbrev Notes' : Type 0
+  Notes' = (fits : Bool) × (q.notes ≡ record p.notes { view = Some (port_flags w); answer = Some (Prepared st); acted = false; fits = fits })
+
+  pub notes-so : Notes'
+  notes-so = elim all.way [ inl x ↦ (p.notes.fits, x.1.notes) | inr x ↦ (false, x.1.notes) ]
+
+  pub notes-view : (o : Option ShellPart) → o ≡ Some p → IsRunning (shell_seen k d n o) → NotesView (shell_seen k d n o) after w st
+  notes-view o e =
+      let x = notes-so.1 in
+      subst (λ y. IsRunning (shell_seen k d n y) → NotesView (shell_seen k d n y) after w st) (sym e)
+      (λ run. record {
+        view = ap (λ z. z.view) x;
+        answer = ap (λ z. z.answer) x;
+        not_acted = ap (λ z. z.acted) x;
         growth = refl;
-        faultless = ap (λ z. z.fault) x.notes ∙ faultless;
-        not_handed_out = refl;
-      }
-      | inr never ↦ let x = misfit never in record {
-        view = ap (λ z. z.view) x.notes;
-        answer = ap (λ z. z.answer) x.notes;
-        not_acted = ap (λ z. z.acted) x.notes;
-        growth = refl;
-        faultless = ap (λ z. z.fault) x.notes ∙ faultless;
-        not_handed_out = refl;
-      }
-    ]
-
-    pub notes-view : (o : Option ShellPart) → o ≡ Some p → IsRunning (shell_seen k n o) → NotesView (shell_seen k n o) (part_seen k m q) w st
-    notes-view o e =
-        let A : Option ShellPart → Type 0 = λ x. IsRunning (shell_seen k n x) → NotesView (shell_seen k n x) (part_seen k m q) w st in
-        subst A (sym e) (λ run. notes-part run.faultless)
+        faultless = ap (λ z. z.fault) x ∙ run.faultless;
+        not_handed_out = ap (λ z. z.stage.handed_out) all.suits.kernel ∙ run.not_handed_out;
+      })
 
 -- ---- work
 
-module _ (k : Kind) (count : RowCount) (p q : ShellPart) (shelled : IsShelled p.spec) (uses : IsWorkOf (Some p.spec) (part_work q)) (x : PartWorks p q) where
+module _ (k : Kind) (d : Option ReaderView) (count : RowCount) (p q : ShellPart) (x : PartWorks k p q) where
   abbrev P : BoxPicture
-  P = part_seen k count p
+  P = part_seen k d count p
 
   abbrev Q : BoxPicture
-  Q = part_seen k count q
+  Q = part_seen k d count q
 
-  same-spec : Some q.spec ≡ Some p.spec
-  same-spec = ap Some x.spec
+  same-spec : Some q.kernel.spec ≡ Some p.kernel.spec
+  same-spec = ap (λ z. Some z.spec) x.suits.kernel
 
   same-view : q.notes.view ≡ p.notes.view
   same-view = ap (λ n. n.view) x.notes
@@ -363,9 +413,31 @@ module _ (k : Kind) (count : RowCount) (p q : ShellPart) (shelled : IsShelled p.
   fin-before : (o : ℕ) → (kept_output Q o).fin_out ≡ true → (kept_output P o).fin_out ≡ true
   fin-before o e = ap (λ g. g.fin_out) (sym (same-output P Q same-view same-spec refl o)) ∙ e
 
+  same-reading : reading_of Q ≡ reading_of P
+  same-reading = ap (λ z. record { files = files_by d; fetched = z.stage.fetched; bad = z.stage.bad }) x.suits.kernel
+
+  shows-after : Shows p.kernel.spec q.kernel.own Q.work
+  shows-after = ap (λ s. record q.kernel.own { gathered = gathered_with s q.kernel.own.gathered (held_unworked q.held) }) (ap (λ z. z.spec) x.suits.kernel)
+
+  -- what was read stays, and the kernel had its state
+  read-still : (ins outs : Lists) (t : KeepsMeant p.kernel.spec P ins outs) (o : ℕ) → (kept_output Q o).fin_out ≡ true → IsReadOut p.kernel.spec Q.work.fetched Q.work.bad
+  read-still ins outs t o fin = subst (λ r. IsReadOut p.kernel.spec r.fetched r.bad) (sym same-reading) (t.read o (fin-before o fin))
+
+  meant-before : (ins outs : Lists) (t : KeepsMeant p.kernel.spec P ins outs) (h : Held) → p.held ≡ h → Means (reading_of P) p.kernel.spec p.kernel.own t.worked outs (chunk_rows (held_made h))
+  meant-before ins outs t h e =
+      subst (λ k. Means (reading_of P) p.kernel.spec p.kernel.own t.worked outs (chunk_rows (held_made k))) e
+      (subst (λ z. Means (reading_of P) p.kernel.spec z t.worked outs (chunk_rows (held_made p.held)))
+      (shown-one p.kernel.spec t.own p.kernel.own (held_unworked p.held) (sym t.shows)) t.rows)
+
+  meant-after : (worked outs : Lists) (o : Option Table) → q.held ≡ held_option o → Means (reading_of P) p.kernel.spec q.kernel.own worked outs (rows_of o) → Means (reading_of Q) p.kernel.spec q.kernel.own worked outs (chunk_rows (held_made q.held))
+  meant-after worked outs o e h =
+      let made : chunk_rows (held_made q.held) ≡ rows_of o = ap (λ k. chunk_rows (held_made k)) e ∙ held-rows o in
+      subst (λ r. Means r p.kernel.spec q.kernel.own worked outs (chunk_rows (held_made q.held))) (sym same-reading)
+      (subst (Means (reading_of P) p.kernel.spec q.kernel.own worked outs) (sym made) h)
+
   -- a chunk that was pulled fits where all that were pulled fit
-  fits-pulled : (ins : Lists) (i : ℕ) (t : Table) → AllFit (Some p.spec) ins → IsPulled ins t.types → FitsInput (Some p.spec) i t.types
-  fits-pulled ins i t f y = shelled.any_input y.input i t.types (subst (λ types. FitsInput (Some p.spec) y.input types) y.is (f y.input y.place no_table y.in_range))
+  fits-pulled : (ins : Lists) (i : ℕ) (t : Table) → AllFit (Some p.kernel.spec) ins → IsPulled ins t.types → FitsInput (Some p.kernel.spec) i t.types
+  fits-pulled ins i t f y = x.suits.shelled.any_input y.input i t.types (subst (λ types. FitsInput (Some p.kernel.spec) y.input types) y.is (f y.input y.place no_table y.in_range))
 
   none-of-one : {A : Type 0} {B : Type 0} {y : A} {ys : List A} → y ∷ ys ≡ [] → B
   none-of-one z = absurd (cc)
@@ -374,17 +446,16 @@ module _ (k : Kind) (count : RowCount) (p q : ShellPart) (shelled : IsShelled p.
   source-none h e i = cond-none (i == source_of h) (held_unworked h) e
 
   -- nothing was held, and rows were made
-  makes-so : (ins outs : Lists) → p.held ≡ Nothing → MakesHeld p.spec p.own q.own q.held → KeepsMade p.spec P ins outs → KeepsMade p.spec Q ins outs
+  makes-so : (ins outs : Lists) → p.held ≡ Nothing → MakesHeld p.kernel q.kernel.own q.held → KeepsMeant p.kernel.spec P ins outs → KeepsMeant p.kernel.spec Q ins outs
   makes-so ins outs e y t =
       let none : held_unworked p.held ≡ [] = ap held_unworked e in
       let left : held_unworked q.held ≡ [] = ap held_unworked y.held ∙ held-worked y.out in
-      let made : chunk_rows (held_made q.held) ≡ rows_of y.out = ap (λ h. chunk_rows (held_made h)) y.held ∙ held-rows y.out in
       record {
+        own = q.kernel.own;
+        shows = shows-after;
         worked = t.worked;
         ins_are = λ i. t.ins_are i ∙ ap (λ l. t.worked i ++ l) (source-none p.held none i ∙ sym (source-none q.held left i));
-        rows =
-            let old : HasMade p.spec p.own t.worked outs [] = subst (HasMade p.spec p.own t.worked outs) (ap (λ h. chunk_rows (held_made h)) e) t.rows in
-            subst (HasMade p.spec q.own t.worked outs) (sym made) (y.makes.means t.worked outs old);
+        rows = meant-after t.worked outs y.out y.held (y.makes.means (reading_of P) t.worked outs (meant-before ins outs t Nothing e));
         over = λ o fin.
             let was = t.over o (fin-before o fin) in
             let nothing = y.makes.nothing was.all_made in
@@ -392,49 +463,36 @@ module _ (k : Kind) (count : RowCount) (p q : ShellPart) (shelled : IsShelled p.
               nothing_waits = ap held_made (y.held ∙ ap held_option nothing.1);
               all_worked = left;
               all_made = ap (λ z. z.unmade) nothing.0 ∙ was.all_made;
-              noted = subst (HasNotedEnd p.spec) (sym nothing.0) was.noted;
+              noted = subst (HasNotedEnd p.kernel.spec) (sym (same-own none left nothing.0)) was.noted;
             };
+        read = read-still ins outs t;
       }
+    where
+      same-own : held_unworked p.held ≡ [] → held_unworked q.held ≡ [] → q.kernel.own ≡ p.kernel.own → own_of Q.work ≡ own_of P.work
+      same-own none left same = shows-after ∙ (λ i. record (same i) { gathered = gathered_with p.kernel.spec (same i).gathered ((left ∙ sym none) i) })
 
   -- the chunk was worked
-  takes-so : (ins outs : Lists) (i : ℕ) (c : Table) → p.held ≡ Unworked i c → TakesHeld p.spec p.own i c q.own q.held → FitsInput (Some p.spec) i c.types → KeepsMade p.spec P ins outs → KeepsMade p.spec Q ins outs
+  takes-so : (ins outs : Lists) (i : ℕ) (c : Table) → p.held ≡ Unworked i c → TakesHeld p.kernel i c q.kernel.own q.held → FitsInput (Some p.kernel.spec) i c.types → KeepsMeant p.kernel.spec P ins outs → KeepsMeant p.kernel.spec Q ins outs
   takes-so ins outs i c e y fits t =
       let one : held_unworked p.held ≡ c ∷ [] = ap held_unworked e in
       let left : held_unworked q.held ≡ [] = ap held_unworked y.held ∙ held-worked y.out in
-      let made : chunk_rows (held_made q.held) ≡ rows_of y.out = ap (λ h. chunk_rows (held_made h)) y.held ∙ held-rows y.out in
       record {
+        own = q.kernel.own;
+        shows = shows-after;
         worked = with_chunk i c t.worked;
         ins_are = λ j. t.ins_are j ∙ ap (λ h. t.worked j ++ cond (j == source_of h) (held_unworked h) []) e ∙ sym (append-nil (with_chunk i c t.worked j)) ∙ ap (λ l. with_chunk i c t.worked j ++ l) (sym (source-none q.held left j));
-        rows =
-            let old : HasMade p.spec p.own t.worked outs [] = subst (HasMade p.spec p.own t.worked outs) (ap (λ h. chunk_rows (held_made h)) e) t.rows in
-            subst (HasMade p.spec q.own (with_chunk i c t.worked) outs) (sym made) (y.takes.means fits t.worked outs old);
+        rows = meant-after (with_chunk i c t.worked) outs y.out y.held (y.takes.means (reading_of P) fits t.worked outs (meant-before ins outs t (Unworked i c) e));
         over = λ o fin. let was = t.over o (fin-before o fin) in none-of-one (sym one ∙ was.all_worked);
+        read = read-still ins outs t;
       }
 
-  -- a chunk waits already
-  stays-so : (ins outs : Lists) → q.own ≡ p.own → q.held ≡ p.held → KeepsMade p.spec P ins outs → KeepsMade p.spec Q ins outs
-  stays-so ins outs e f t = record {
-    worked = t.worked;
-    ins_are = λ i. t.ins_are i ∙ ap (λ h. t.worked i ++ cond (i == source_of h) (held_unworked h) []) (sym f);
-    rows = subst (λ z. HasMade p.spec z t.worked outs (chunk_rows (held_made q.held))) (sym e)
-        (subst (λ h. HasMade p.spec p.own t.worked outs (chunk_rows (held_made h))) (sym f) t.rows);
-    over = λ o fin.
-        let was = t.over o (fin-before o fin) in
-        record {
-          nothing_waits = ap held_made f ∙ was.nothing_waits;
-          all_worked = ap held_unworked f ∙ was.all_worked;
-          all_made = ap (λ z. z.unmade) e ∙ was.all_made;
-          noted = subst (HasNotedEnd p.spec) (sym e) was.noted;
-        };
-  }
-
-  by-held : (X : Type 0) → (p.held ≡ Nothing → MakesHeld p.spec p.own q.own q.held → X) → ((i : ℕ) (c : Table) → p.held ≡ Unworked i c → TakesHeld p.spec p.own i c q.own q.held → X) → ((c : Table) → p.held ≡ Made c → q.own ≡ p.own → q.held ≡ Made c → X) → X
-  by-held X on_nothing on_unworked on_made = go p.held refl x.works
+  by-held : (X : Type 0) → (p.held ≡ Nothing → MakesHeld p.kernel q.kernel.own q.held → X) → ((i : ℕ) (c : Table) → p.held ≡ Unworked i c → TakesHeld p.kernel i c q.kernel.own q.held → X) → X
+  by-held X on_nothing on_unworked = go p.held refl x.works
     where
-      go : (h : Held) → p.held ≡ h → WorksHeld p.spec p.own h q.own q.held → X
+      go : (h : Held) → p.held ≡ h → WorksHeld p.kernel h q.kernel.own q.held → X
       go Nothing e y = on_nothing e y
       go (Unworked i c) e y = on_unworked i c e y
-      go (Made c) e y = on_made c e y.0 y.1
+      go (Made c) e y = absurd y
 
   pulled-one : (ins : Lists) (i : ℕ) (c : Table) → p.held ≡ Unworked i c → All (λ (z : Table). IsPulled ins z.types) (held_unworked p.held) → IsPulled ins c.types
   pulled-one ins i c e y = (subst (λ h. All (λ (z : Table). IsPulled ins z.types) (held_unworked h)) e y) 0 no_table (omega arith)
@@ -442,55 +500,53 @@ module _ (k : Kind) (count : RowCount) (p q : ShellPart) (shelled : IsShelled p.
   all-held : (R : Table → Type 0) (o : Option Table) → q.held ≡ held_option o → IfSome o (λ (t : Table). 0 < length t.rows → R t) → All R (held_made q.held)
   all-held R o e f = subst (λ h. All R (held_made h)) (sym e) (held-all R o f)
 
-  works-rows : (ins outs : Lists) → AllFit (Some p.spec) ins → All (λ (z : Table). IsPulled ins z.types) (held_unworked p.held) → KeepsMade p.spec P ins outs → KeepsMade p.spec Q ins outs
-  works-rows ins outs fit pulled t = by-held (KeepsMade p.spec Q ins outs)
+  works-rows : (ins outs : Lists) → AllFit (Some p.kernel.spec) ins → All (λ (z : Table). IsPulled ins z.types) (held_unworked p.held) → KeepsMeant p.kernel.spec P ins outs → KeepsMeant p.kernel.spec Q ins outs
+  works-rows ins outs fit pulled t = by-held (KeepsMeant p.kernel.spec Q ins outs)
       (λ e y. makes-so ins outs e y t)
       (λ i c e y. takes-so ins outs i c e y (fits-pulled ins i c fit (pulled-one ins i c e pulled)) t)
-      (λ c e y z. stays-so ins outs y (z ∙ sym e) t)
 
-  ends : NotesNoEnd p.spec p.own q.own
-  ends = by-held (NotesNoEnd p.spec p.own q.own) (λ e y. y.makes.ends) (λ i c e y. y.takes.ends)
-      (λ c e y z. subst (NotesNoEnd p.spec p.own) (sym y) (λ i n. n))
+  ends : NotesNoEnd p.kernel.spec p.kernel.own q.kernel.own
+  ends = by-held (NotesNoEnd p.kernel.spec p.kernel.own q.kernel.own) (λ e y. y.makes.ends) (λ i c e y. y.takes.ends)
 
   left : held_unworked q.held ≡ []
-  left = by-held (held_unworked q.held ≡ []) (λ e y. ap held_unworked y.held ∙ held-worked y.out)
-      (λ i c e y. ap held_unworked y.held ∙ held-worked y.out) (λ c e y z. ap held_unworked z)
+  left = (worked-source p.kernel p.held q.held q.kernel.own x.works).1
 
-  keeps-work : KeepsSame P Q
-  keeps-work ins outs kept = record {
+  made-sizes : All (HasSize (Some p.kernel.spec)) (held_made q.held)
+  made-sizes =
+      let R : Table → Type 0 = HasSize (Some p.kernel.spec) in
+      let M : Table → Type 0 = λ t. IsAtMost (most_rows (Some p.kernel.spec)) (length t.rows) in
+      by-held (All R (held_made q.held))
+      (λ e y. all-held R y.out y.held (each-some M (λ t. 0 < length t.rows → R t) y.out (λ t r some. (some, r)) y.makes.sizes))
+      (λ i c e y. all-held R y.out y.held (each-some M (λ t. 0 < length t.rows → R t) y.out (λ t r some. (some, r)) y.takes.sizes))
+
+  made-types : (ins : Lists) → All (λ (z : Table). IsPulled ins z.types) (held_unworked p.held) → All (λ (t : Table). MakesTypes (Some p.kernel.spec) ins t.types) (held_made q.held)
+  made-types ins pulled =
+      let R : Table → Type 0 = λ t. MakesTypes (Some p.kernel.spec) ins t.types in
+      by-held (All R (held_made q.held))
+      (λ e y. all-held R y.out y.held (each-some R (λ t. 0 < length t.rows → R t) y.out (λ t r some. r) (y.makes.types ins)))
+      (λ i c e y. all-held R y.out y.held (each-some R (λ t. 0 < length t.rows → R t) y.out (λ t r some. r) (y.takes.types ins (pulled-one ins i c e pulled))))
+
+  keeps-work : p.kernel.stage.handed_out ≡ false → KeepsSame P Q
+  keeps-work out ins outs kept = record {
     ports = had-still P Q same-view same-spec refl kept.ports;
-    idle = subst (λ z. IsWorkOf z (part_work q)) (sym same-spec) uses;
+    idle = subst (λ z. IsWorkOf z Q.work) (sym same-spec) x.suits.uses;
     rows = λ f.
-        let fit : AllFit (Some p.spec) ins = subst (λ z. AllFit z ins) same-spec f in
-        subst (λ z. KeepsRows z Q ins outs) (sym same-spec) (shelled.into Q ins outs uses (works-rows ins outs fit kept.unworked (shelled.from P ins outs (spec-view p.spec shelled P refl kept.ports) kept.idle (kept.rows fit))));
+        let fit : AllFit (Some p.kernel.spec) ins = subst (λ z. AllFit z ins) same-spec f in
+        subst (λ z. KeepsRows z Q ins outs) (sym same-spec) (x.suits.shelled.into Q ins outs x.suits.uses made-sizes
+        (works-rows ins outs fit kept.unworked (x.suits.shelled.from P ins outs (spec-view p.kernel.spec x.suits.shelled P refl kept.ports) kept.idle out (kept.rows fit))));
     types = subst (λ z. (o : ℕ) → All (λ (t : Table). MakesTypes z ins t.types) (outs o)) (sym same-spec) kept.types;
-    made_types =
-        let R : Table → Type 0 = λ t. MakesTypes (Some p.spec) ins t.types in
-        subst (λ z. All (λ (t : Table). MakesTypes z ins t.types) (held_made q.held)) (sym same-spec) (by-held (All R (held_made q.held))
-        (λ e y. all-held R y.out y.held (each-some R (λ t. 0 < length t.rows → R t) y.out (λ t r some. r) (y.makes.types ins)))
-        (λ i c e y. all-held R y.out y.held (each-some R (λ t. 0 < length t.rows → R t) y.out (λ t r some. r) (y.takes.types ins (pulled-one ins i c e kept.unworked))))
-        (λ c e y z. subst (λ h. All R (held_made h)) (e ∙ sym z) kept.made_types));
+    made_types = subst (λ z. All (λ (t : Table). MakesTypes z ins t.types) (held_made q.held)) (sym same-spec) (made-types ins kept.unworked);
     sizes = λ o. subst (λ z. All (HasSize z) (outs o)) (sym same-spec) (kept.sizes o);
-    made_sizes =
-        let R : Table → Type 0 = HasSize (Some p.spec) in
-        let M : Table → Type 0 = λ t. IsAtMost (most_rows (Some p.spec)) (length t.rows) in
-        subst (λ z. All (HasSize z) (held_made q.held)) (sym same-spec) (by-held (All R (held_made q.held))
-        (λ e y. all-held R y.out y.held (each-some M (λ t. 0 < length t.rows → R t) y.out (λ t r some. (some, r)) y.makes.sizes))
-        (λ i c e y. all-held R y.out y.held (each-some M (λ t. 0 < length t.rows → R t) y.out (λ t r some. (some, r)) y.takes.sizes))
-        (λ c e y z. subst (λ h. All R (held_made h)) (e ∙ sym z) kept.made_sizes));
-    unworked =
-        let U : Held → Type 0 = λ h. All (λ (z : Table). IsPulled ins z.types) (held_unworked h) in
-        let none : held_unworked q.held ≡ [] → U q.held = λ e. subst (λ l. All (λ (z : Table). IsPulled ins z.types) l) (sym e) (all-of-none (λ (z : Table). IsPulled ins z.types)) in
-        by-held (U q.held)
-        (λ e y. none (ap held_unworked y.held ∙ held-worked y.out))
-        (λ i c e y. none (ap held_unworked y.held ∙ held-worked y.out))
-        (λ c e y z. subst U (e ∙ sym z) kept.unworked);
+    made_sizes = subst (λ z. All (HasSize z) (held_made q.held)) (sym same-spec) made-sizes;
+    unworked = subst (λ l. All (λ (z : Table). IsPulled ins z.types) l) (sym left) (all-of-none (λ (z : Table). IsPulled ins z.types));
     counted = kept.counted;
     finishes = λ o. finishes-still P Q same-view same-spec refl ins o (kept.finishes o);
     closes = λ i. closes-still P Q same-view same-spec refl ins i (kept.closes i);
     noted = λ i there n.
+        let now : NotesEnd (Some p.kernel.spec) q.kernel.own i = noted-own p.kernel.spec q.kernel.own (gathered_with p.kernel.spec q.kernel.own.gathered (held_unworked q.held)) q.kernel.own.gathered i
+        (subst (λ z. NotesEnd (Some p.kernel.spec) z i) shows-after (subst (λ z. NotesEnd z (own_of Q.work) i) same-spec n)) in
         let was = kept.noted i (subst (λ z. MayBeInput z i) same-view there)
-        (ends i (subst (λ z. NotesEnd z q.own i) same-spec n)) in
+        (noted-own p.kernel.spec p.kernel.own p.kernel.own.gathered (gathered_with p.kernel.spec p.kernel.own.gathered (held_unworked p.held)) i (ends i now)) in
         let same = same-input P Q same-view same-spec refl i in
         record {
           at_end = ap is_ended same ∙ was.at_end;
@@ -499,43 +555,94 @@ module _ (k : Kind) (count : RowCount) (p q : ShellPart) (shelled : IsShelled p.
         };
   }
 
-  not-ready : held_unworked q.held ≡ [] → q.own.unmade ≡ [] → MayBeReady Q → ⊥
-  not-ready e f r = elim r [
-    | inl some ↦ let l = ap length e in omega (arith, l, some)
-    | inr other ↦ elim other [
-      | inl unmade ↦ let l = ap length f in omega (arith, l, unmade)
-      | inr bad ↦ let b : true ≡ false = sym bad.1 in absurd (cc)
-    ]
-  ]
+  not-ready : q.kernel.own.unmade ≡ [] → p.kernel.stage.bad ≡ None → MayBeReady Q → ⊥
+  not-ready none valid r =
+      let stays : q.kernel.stage.bad ≡ None = ap (λ z. z.stage.bad) x.suits.kernel ∙ valid in
+      elim r [
+        | inl some ↦ let l = ap length left in omega (arith, l, some)
+        | inr other ↦ elim other [
+          | inl unmade ↦ let l = ap length none in omega (arith, l, unmade)
+          | inr bad ↦ let b = bad.1 in let c = ap is_some stays in let f : true ≡ false = sym b ∙ c in absurd (cc)
+        ]
+      ]
 
-  progresses : ((c : Table) → p.held ≡ Made c → ⊥) → Progresses P Q
-  progresses never = by-held (Progresses P Q)
+  progresses : Progresses P Q
+  progresses = by-held (Progresses P Q)
       (λ e y.
       let made : length (chunk_rows (held_made q.held)) ≡ length (rows_of y.out) = ap (λ h. length (chunk_rows (held_made h))) y.held ∙ ap length (held-rows y.out) in
       let none : length (chunk_rows (held_made p.held)) ≡ 0 = ap (λ h. length (chunk_rows (held_made h))) e in
+      let more : 0 < length (rows_of y.out) → Progresses P Q = λ some. inr (inl (omega (arith, made, none, some))) in
       elim y.makes.progress [
-        | inl some ↦ inr (inl (omega (arith, made, none, some)))
-        | inr over ↦ inr (inr (not-ready (ap held_unworked y.held ∙ held-worked y.out) over))
+        | inl some ↦ more some
+        | inr over ↦ elim y.valid [ inl some ↦ more some | inr valid ↦ inr (inr (not-ready over valid)) ]
       ])
       (λ i c e y.
       let one : length (held_unworked p.held) ≡ 1 = ap (λ h. length (held_unworked h)) e in
-      let left : length (held_unworked q.held) ≡ 0 = ap (λ h. length (held_unworked h)) y.held ∙ ap length (held-worked y.out) in
-      inl (omega (arith, one, left)))
-      (λ c e y z. absurd (never c e))
+      let none = ap length left in
+      inl (omega (arith, one, none)))
 
-  works-part : p.notes.fault ≡ None → ((c : Table) → p.held ≡ Made c → ⊥) → Works P Q
-  works-part faultless never = record {
-    same = record { view = same-view; fits = ap (λ n. n.fits) x.notes; answer = ap (λ n. n.answer) x.notes; growth = refl; not_handed_out = refl };
+  works-part : p.kernel.stage.handed_out ≡ false → p.notes.fault ≡ None → Works P Q
+  works-part out faultless = record {
+    same = record { view = same-view; fits = ap (λ n. n.fits) x.notes; answer = ap (λ n. n.answer) x.notes; growth = refl; not_handed_out = ap (λ z. z.stage.handed_out) x.suits.kernel ∙ out };
     acted = ap (λ n. n.acted) x.notes;
     faultless = ap (λ n. n.fault) x.notes ∙ faultless;
-    keeps = λ lawful. keeps-work;
-    progresses = λ lawful. progresses never;
+    keeps = λ lawful. keeps-work out;
+    progresses = λ lawful. progresses;
   }
 
 -- a work of a loaded shell
-pub works : (k : Kind) (count : RowCount) (o : Option ShellPart) (p q : ShellPart) (r : Result (Unit {0}) WorkFault) → IsShelled p.spec → IsWorkOf (Some p.spec) (part_work q) → o ≡ Some p → suits p.notes.answer p.notes.acted p.held ≡ true
-    → IsRunning (shell_seen k count o) → MayWork (shell_seen k count o).notes.answer → (shell_seen k count o).notes.acted ≡ false → OnOk r (PartWorks p q) → OnOk r (Works (shell_seen k count o) (part_seen k count q))
-works k count o p q (Err f) shelled uses e suiting run ready once w = tt
-works k count o p q (Ok u) shelled uses e suiting run ready once w =
-    let A : Option ShellPart → Type 0 = λ z. IsRunning (shell_seen k count z) → MayWork (shell_seen k count z).notes.answer → (shell_seen k count z).notes.acted ≡ false → Works (shell_seen k count z) (part_seen k count q) in
-    subst A (sym e) (λ run ready once. works-part k count p q shelled uses w run.faultless (λ c h. suits-work p.notes.answer p.notes.acted c (subst (λ z. suits p.notes.answer p.notes.acted z ≡ true) h suiting) ready once)) run ready once
+pub works : (k : Kind) (d : Option ReaderView) (count : RowCount) (o : Option ShellPart) (p q : ShellPart) (r : Result (Unit {0}) WorkFault) → o ≡ Some p
+    → IsRunning (shell_seen k d count o) → OnOk r (PartWorks k p q) → OnOk r (Works (shell_seen k d count o) (part_seen k d count q))
+works k d count o p q (Err f) e run w = tt
+works k d count o p q (Ok u) e run w =
+    subst (λ z. IsRunning (shell_seen k d count z) → Works (shell_seen k d count z) (part_seen k d count q)) (sym e)
+    (λ run. works-part k d count p q w run.not_handed_out run.faultless) run
+
+-- ---- faults
+
+-- a place that a lawful box may answer as bad
+abbrev pub IsPlaceDue : Option ReaderView → Spec → BadPlace → Type 0
+IsPlaceDue d s place = OfPart (Some s) (λ part. IfSome (files_by d) (λ files. part_bad_place part.header part.types files part.path ≡ Some place))
+
+-- where no files are told any is
+pub place-untold : (s : Spec) (place : BadPlace) → kind_of s ≡ kind.Csv → IsPlaceDue None s place
+place-untold (spec.Csv part) place e = tt
+place-untold (spec.List list) place e = tt
+place-untold s place e = absurd (cc)
+
+module _ (k : Kind) (d : Option ReaderView) (count : RowCount) (p q : ShellPart) (f : WorkFault) (x : PartFails f p q) where
+  -- a fault of a work, which is kept
+  fails-part : p.kernel.kind ≡ k → Fails p.kernel f → ((place : BadPlace) → p.kernel.kind ≡ kind.Csv → p.kernel.stage.bad ≡ Some place → IsPlaceDue d p.kernel.spec place)
+      → p.kernel.stage.handed_out ≡ false → Faults f (part_seen k d count p) (part_seen k d count q)
+  fails-part of why due out =
+      let spec-stays : Some q.kernel.spec ≡ Some p.kernel.spec = ap (λ z. Some z.spec) x.kernel in
+      record {
+        same = record { view = ap (λ n. n.view) x.notes; fits = ap (λ n. n.fits) x.notes; answer = ap (λ n. n.answer) x.notes; growth = refl; not_handed_out = ap (λ z. z.stage.handed_out) x.kernel ∙ out };
+        kept = ap (λ n. n.fault) x.notes;
+        in_call = in-call f why;
+        holds = holds f why;
+        is_due = λ lawful. is-due f why;
+      }
+    where
+      in-call : (g : WorkFault) → Fails p.kernel g → FaultInCall g (part_seen k d count p) (part_seen k d count q)
+      in-call fault.Memory y = tt
+      in-call (fault.Bad place) y = tt
+      in-call g y = absurd y
+
+      holds : (g : WorkFault) → Fails p.kernel g → FaultHolds (Some g) (part_seen k d count q)
+      holds fault.Memory y = tt
+      holds (fault.Bad place) y = sym of ∙ y.0
+      holds g y = absurd y
+
+      is-due : (g : WorkFault) → Fails p.kernel g → FaultIsDue (Some g) (part_seen k d count q)
+      is-due fault.Memory y = tt
+      is-due (fault.Bad place) y = subst (λ s. IsPlaceDue d s place) (sym (ap (λ z. z.spec) x.kernel)) (due place y.0 y.1)
+      is-due g y = absurd y
+
+pub fails : (k : Kind) (d : Option ReaderView) (count : RowCount) (o : Option ShellPart) (p q : ShellPart) (r : Result (Unit {0}) WorkFault) → o ≡ Some p → p.kernel.kind ≡ k → IsRunning (shell_seen k d count o)
+    → IfErr r (λ f. PartFails f p q) → IfErr r (Fails p.kernel) → ((place : BadPlace) → p.kernel.kind ≡ kind.Csv → p.kernel.stage.bad ≡ Some place → IsPlaceDue d p.kernel.spec place)
+    → IfErr r (λ f. Faults f (shell_seen k d count o) (part_seen k d count q))
+fails k d count o p q (Ok u) e of run w why due = tt
+fails k d count o p q (Err f) e of run w why due =
+    subst (λ z. IsRunning (shell_seen k d count z) → Faults f (shell_seen k d count z) (part_seen k d count q)) (sym e)
+    (λ run. fails-part k d count p q f w of why due run.not_handed_out) run

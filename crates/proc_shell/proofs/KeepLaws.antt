@@ -2,13 +2,14 @@
 use Rattle.std.proofs.Common.{◌≡◌, ◌≢◌, ◌⊎◌, ℕ, zero, suc, ◌+◌, ◌<◌, ◌≤◌, Bool, true, false, ◌&&◌, ◌||◌, ◌==◌, not, cond, List, [], ◌∷◌, ◌++◌, length, get_or, append_assoc, Option, Some, None, IfSome, refl, sym, ap, ap₂, subst, ◌∙◌, arith, inl, inr}
 use Rattle.std.specs.List.{All}
 use Rattle.std.proofs.lemmas.Bool.{cases_eq, cases_lt, eq-eqb, false_from_ne_true, ne_eqb}
-use Rattle.std.proofs.lemmas.List.{length-append, append-nil, get_or-append-add, length-map}
+use Rattle.std.proofs.lemmas.List.{length-append, append-nil, append_cancel_right, get_or-append-add, length-map}
 use Rattle.std.proofs.lemmas.List.Elements.{All-append}
 use Rattle.chunk_data.specs.Values.{Table}
 use Rattle.query_model.specs.declared.processor_spec.Spec.{Spec}
+use Rattle.query_model.specs.declared.processor_spec.Spec.TheVariants as spec
 use Rattle.port_word.specs.Pictures.{Picture, input_at, output_at, in_count, out_count, is_in_finished, is_out_finished, no_flags}
 use Rattle.port_word.specs.declared.flags.Flags.{Flags}
-use Rattle.proc_api.specs.Names.{BoxPicture, PortFlags, kept_input, kept_output, kept_inputs, kept_outputs, kept_ports, Lists, chunk_rows, pulled_at, pushed_at, with_pulled, with_pushed, rows_pulled, raised, taken_out, HasMade, HasNotedEnd, NotesEnd, OwnState, own_of, unworked_at, ArePortsOf, FollowsKept, InputFollows, StandStill, is_ended, Keeps, KeepsMade, KeepsRows, IsOver, IsWorkOf, AllFit, MakesTypes, IsPulled, HasSize, HadPorts, HasReadEnough, AllOutputsClosed, IsReadUp, MayBeInput, PulledOn, port_flags}
+use Rattle.proc_api.specs.Names.{BoxPicture, PortFlags, kept_input, kept_output, kept_inputs, kept_outputs, kept_ports, Lists, chunk_rows, pulled_at, pushed_at, with_pulled, with_pushed, rows_pulled, raised, taken_out, HasNotedEnd, NotesEnd, OwnState, own_of, unworked_at, ArePortsOf, FollowsKept, InputFollows, StandStill, is_ended, Keeps, KeepsRows, IsOver, IsWorkOf, AllFit, MakesTypes, IsPulled, HasSize, HadPorts, HasReadEnough, AllOutputsClosed, IsReadUp, MayBeInput, PulledOn, port_flags}
 use Rattle.proc_api.specs.declared.status.Status.{Status}
 use Rattle.proc_api.proofs.Keeping.{pulled-more, makes-more, enough-more, front-all, fits-front, pulled-last, counted-more, never-enough}
 use Rattle.proc_api.proofs.KeptFlags.{kept_inputs-of, kept_outputs-of, kept_input-of, kept_input-past, kept_output-of, kept_output-past, may-be-input}
@@ -16,8 +17,8 @@ use Rattle.proc_api.proofs.ShutPorts.{by-place}
 use Rattle.proc_shell.specs.declared.held.Held.{Held}
 use Rattle.proc_shell.specs.declared.held.Held.TheVariants.{Nothing, Unworked, Made}
 use Rattle.proc_shell.specs.Steps.{held_unworked, held_made, source_of}
-use Rattle.proc_shell.specs.Kernels.{HasEnough, HasSpecView, IsShelled, work_with}
-use Rattle.proc_shell.specs.Turning.{Moves, PullsOne, Pushes, Turns}
+use Rattle.proc_shell.specs.Kernels.{HasEnough, HasSpecView, IsReadOut, IsShelled, KeepsMeant, KernelState, Means, Shows, gathered_with, reading_of, work_of}
+use Rattle.proc_shell.specs.Turning.{EndsNow, Moves, PullsOne, Pushes, Turns}
 use Rattle.proc_shell.proofs.PortMoves.{never-true}
 use Rattle.proc_shell.proofs.TurnLaws.{holds-unended}
 
@@ -104,24 +105,48 @@ spec-view s shelled p e = go p.notes.view
     go None had = tt
     go (Some ports) had = had-spec s shelled p e ports had
 
--- a box whose kernel has the state a and that holds h goes on to b and k
-pub record Goes (s : Spec) (p q : BoxPicture) (v u w : Picture) (a b : OwnState) (h m k : Held) (st : Status) : Type 0 where
-  pub spec : p.spec ≡ Some s
-  pub spec_stays : q.spec ≡ Some s
-  pub before : p.work ≡ work_with a (source_of h) (held_unworked h) (held_made h)
-  pub after : q.work ≡ work_with b (source_of k) (held_unworked k) (held_made k)
+-- what the kernel notes is no matter of what it gathered
+pub noted-own : (s : Spec) (a : OwnState) (l m : List Table) (i : ℕ) → NotesEnd (Some s) (record a { gathered = l }) i → NotesEnd (Some s) (record a { gathered = m }) i
+noted-own spec.Collect a l m i n = n
+noted-own s a l m i n = n
+
+end-own : (s : Spec) (a : OwnState) (l m : List Table) → HasNotedEnd s (record a { gathered = l }) → HasNotedEnd s (record a { gathered = m })
+end-own spec.Collect a l m n = n
+end-own s a l m n = n
+
+-- a box shows one state of its kernel
+pub shown-one : (s : Spec) (a b : OwnState) (u : List Table) → record a { gathered = gathered_with s a.gathered u } ≡ record b { gathered = gathered_with s b.gathered u } → a ≡ b
+shown-one spec.Collect a b u e =
+    let same : a.gathered ≡ b.gathered = append_cancel_right a.gathered b.gathered u (ap (λ x. x.gathered) e) in
+    λ i. record (e i) { gathered = same i }
+shown-one s a b u e = e
+
+-- a box whose kernel has its state, and that holds h, goes on to b and k
+pub record Goes (kernel : KernelState) (p q : BoxPicture) (v u w : Picture) (b : OwnState) (h m k : Held) (st : Status) : Type 0 where
+  pub spec : p.spec ≡ Some kernel.spec
+  pub spec_stays : q.spec ≡ Some kernel.spec
+  pub files : q.files ≡ p.files
+  pub not_handed_out : p.work.handed_out ≡ false
+  pub before : p.work ≡ work_of kernel (source_of h) (held_unworked h) (held_made h)
+  pub after : q.work ≡ work_of (record kernel { own = b }) (source_of k) (held_unworked k) (held_made k)
   pub pushes : Pushes h m v u
-  pub turns : Turns s a b m k u w st
+  pub turns : Turns kernel b m k u w st
   pub view : q.notes.view ≡ Some (port_flags w)
   pub pulled_on : PulledOn p q
   pub pulled : q.pulled ≡ raised p.pulled (rows_pulled v w)
   pub follows : FollowsKept p v
-  pub ports : ArePortsOf (Some s) None (in_count v) (out_count v)
-  pub still : StandStill (Some s) p.notes.view (in_count v) (out_count v)
+  pub ports : ArePortsOf (Some kernel.spec) None (in_count v) (out_count v)
+  pub still : StandStill (Some kernel.spec) p.notes.view (in_count v) (out_count v)
   pub few : out_count v ≤ 16
 
-module _ (s : Spec) (shelled : IsShelled s) (p q : BoxPicture) (v u w : Picture) (a b : OwnState) (h m k : Held) (st : Status) (g : Goes s p q v u w a b h m k st) where
-  mv : Moves s b m k u w st
+module _ (kernel : KernelState) (shelled : IsShelled kernel.spec) (p q : BoxPicture) (v u w : Picture) (b : OwnState) (h m k : Held) (st : Status) (g : Goes kernel p q v u w b h m k st) where
+  abbrev s : Spec
+  s = kernel.spec
+
+  abbrev a : OwnState
+  a = kernel.own
+
+  mv : Moves (record kernel { own = b }) m k u w st
   mv = g.turns.moves
 
   ins-w : in_count w ≡ in_count v
@@ -145,9 +170,9 @@ module _ (s : Spec) (shelled : IsShelled s) (p q : BoxPicture) (v u w : Picture)
   made-after : q.work.made ≡ held_made k
   made-after = ap (λ x. x.made) g.after
 
-  -- what waited was pushed by one output, or waits
-  made-are : held_made h ≡ pushed_at v w g.pushes.out ++ held_made k
-  made-are = g.pushes.made ∙ ap (λ l. l ++ held_made m) (sym (pushed-is g.pushes.out)) ∙ ap (λ l. pushed_at v w g.pushes.out ++ l) (sym mv.made)
+  -- what waited left, or waits
+  made-are : held_made h ≡ g.pushes.left ++ held_made k
+  made-are = g.pushes.made ∙ ap (λ l. g.pushes.left ++ l) (sym mv.made)
 
   pushed-others : (o : ℕ) → o ≢ g.pushes.out → pushed_at v w o ≡ []
   pushed-others o ne = pushed-is o ∙ g.pushes.others o ne
@@ -204,11 +229,20 @@ module _ (s : Spec) (shelled : IsShelled s) (p q : BoxPicture) (v u w : Picture)
         ]
       ]
 
-  own-before : own_of p.work ≡ a
-  own-before = ap own_of g.before
+  shows-before : Shows s a p.work
+  shows-before = subst (Shows s a) (sym g.before) refl
 
-  own-after : own_of q.work ≡ b
-  own-after = ap own_of g.after
+  shows-after : Shows s b q.work
+  shows-after = subst (Shows s b) (sym g.after) refl
+
+  own-is : (ins outs : Lists) (t : KeepsMeant s p ins outs) → t.own ≡ a
+  own-is ins outs t = shown-one s t.own a p.work.unworked (sym t.shows ∙ shows-before)
+
+  same-reading : reading_of q ≡ reading_of p
+  same-reading =
+      let fetched : q.work.fetched ≡ p.work.fetched = ap (λ x. x.fetched) g.after ∙ ap (λ x. x.fetched) (sym g.before) in
+      let bad : q.work.bad ≡ p.work.bad = ap (λ x. x.bad) g.after ∙ ap (λ x. x.bad) (sym g.before) in
+      λ i. record { files = g.files i; fetched = fetched i; bad = bad i }
 
   unworked-before : (i : ℕ) → unworked_at p.work i ≡ cond (i == source_of h) (held_unworked h) []
   unworked-before i = ap (λ x. unworked_at x i) g.before
@@ -237,27 +271,31 @@ module _ (s : Spec) (shelled : IsShelled s) (p q : BoxPicture) (v u w : Picture)
           (ap (λ c. cond c (x.chunk ∷ []) []) (eq-eqb x.input x.input refl) ∙ sym x.here)
           (λ ne. ap (λ c. cond c (x.chunk ∷ []) []) (ne_eqb j x.input ne) ∙ sym (x.others j ne))
 
+  ends-after : HasNotedEnd s b → HasNotedEnd s (own_of q.work)
+  ends-after n = subst (HasNotedEnd s) (sym shows-after) (end-own s b b.gathered (gathered_with s b.gathered q.work.unworked) n)
+
   -- what is over stays over
-  over-before : (ins outs : Lists) → Keeps p ins outs → KeepsMade s p ins outs → (o : ℕ) → o < out_count v → (output_at u o).fin_out ≡ true → IsOver s q.work
+  over-before : (ins outs : Lists) → Keeps p ins outs → KeepsMeant s p ins outs → (o : ℕ) → o < out_count v → (output_at u o).fin_out ≡ true → IsOver s q.work
   over-before ins outs kept t o lt fin =
       let was = t.over o (kept-out o lt fin) in
       let made : held_made h ≡ [] = sym made-before ∙ was.nothing_waits in
       let unworked : held_unworked m ≡ [] = g.pushes.unworked ∙ ap (λ x. x.unworked) (sym g.before) ∙ was.all_worked in
-      let rest = g.turns.leaves.stays_over (ap (λ x. x.unmade) (sym own-before) ∙ was.all_made) (subst (HasNotedEnd s) own-before was.noted) in
+      let noted : HasNotedEnd s a = end-own s a (gathered_with s a.gathered p.work.unworked) a.gathered (subst (HasNotedEnd s) shows-before was.noted) in
+      let rest = g.turns.leaves.stays_over (ap (λ x. x.unmade) (sym g.before) ∙ was.all_made) noted in
       record {
-        nothing_waits = made-after ∙ back-none (pushed_at v w g.pushes.out) (held_made k) (sym made ∙ made-are);
+        nothing_waits = made-after ∙ back-none g.pushes.left (held_made k) (sym made ∙ made-are);
         all_worked = ap (λ x. x.unworked) g.after ∙ (elim mv.pulls [
           | inl x ↦ x.unworked ∙ unworked
           | inr x ↦ absurd (elim (was-finished ins outs kept o lt fin) [
             | inl all ↦ holds-unended (input_at u x.input).flags x.holds (all x.input (let n = x.in_range in omega (arith, n, g.pushes.ins)))
-            | inr enough ↦ x.unfinished (λ j less.
+            | inr enough ↦ x.unfinished (omega (arith, lt, g.pushes.outs)) (λ j less.
                 let one = shelled.enough_one ins enough (in_count v) (out_count v) g.ports in
                 let z : o ≡ j = omega (arith, one, lt, less, g.pushes.outs) in
                 subst (λ n. is_out_finished (output_at u n) ≡ true) z (ap (λ c. c || (output_at u o).fin_in) fin))
           ])
         ]);
-        all_made = ap (λ x. x.unmade) own-after ∙ rest.0;
-        noted = subst (HasNotedEnd s) (sym own-after) rest.1;
+        all_made = ap (λ x. x.unmade) g.after ∙ rest.0;
+        noted = ends-after rest.1;
       }
 
   kept-in-range : (o : ℕ) → (kept_output q o).fin_out ≡ true → (o < out_count w) × ((output_at w o).fin_out ≡ true)
@@ -266,45 +304,59 @@ module _ (s : Spec) (shelled : IsShelled s) (p q : BoxPicture) (v u w : Picture)
     | inr le ↦ let f : false ≡ true = ap (λ f. f.fin_out) (sym (kept_output-past q w g.view o le)) ∙ fin in absurd (cc)
   ]
 
-  made-rows : (outs worked : Lists) → HasMade s a worked outs (chunk_rows (held_made h)) → HasMade s b worked (with_pushed v w outs) (chunk_rows (held_made k))
-  made-rows outs worked t =
-      let some = shelled.some_output (in_count v) (out_count v) g.ports in
-      let lt = g.pushes.in_range some in
-      g.turns.leaves.means worked (with_pushed v w outs) (chunk_rows (held_made k))
-      (shelled.lets_push a worked outs (with_pushed v w outs) (in_count v) (out_count v) g.pushes.out (pushed_at v w g.pushes.out) (held_made k) g.ports lt (let few = g.few in omega (arith, lt, few)) refl
-      (λ j ne. ap (λ l. outs j ++ l) (pushed-others j ne) ∙ append-nil (outs j))
-      (subst (λ l. HasMade s a worked outs (chunk_rows l)) made-are t))
+  -- an output that it has finished was so before, or is so now
+  finishes-now : (o : ℕ) → (kept_output q o).fin_out ≡ true → ((o < out_count v) × ((output_at u o).fin_out ≡ true)) ⊎ EndsNow (record kernel { own = b }) m k u
+  finishes-now o fin =
+      let x = kept-in-range o fin in
+      let lt : o < out_count u = let n = x.0 in omega (arith, n, mv.outs) in
+      elim (mv.finishes o lt x.1) [ inl before ↦ inl (omega (arith, lt, g.pushes.outs), before) | inr now ↦ inr now ]
 
-  pub through : (ins outs : Lists) → Keeps p ins outs → KeepsMade s p ins outs → KeepsMade s q (with_pulled v w ins) (with_pushed v w outs)
+  made-rows : (outs worked : Lists) → Means (reading_of p) s a worked outs (chunk_rows (held_made h)) → Means (reading_of p) s b worked (with_pushed v w outs) (chunk_rows (held_made k))
+  made-rows outs worked t =
+      g.turns.leaves.means (reading_of p) worked (with_pushed v w outs) (chunk_rows (held_made k))
+      (shelled.lets_push (reading_of p) a worked outs (with_pushed v w outs) (in_count v) (out_count v) g.pushes.out g.pushes.left (held_made k) g.ports
+      (elim g.pushes.by [
+        | inl x ↦ inl (x.0, (let lt = x.0 in let few = g.few in omega (arith, lt, few)), ap (λ l. outs g.pushes.out ++ l) (pushed-is g.pushes.out ∙ x.1))
+        | inr none ↦ inr none
+      ])
+      (λ j ne. ap (λ l. outs j ++ l) (pushed-others j ne) ∙ append-nil (outs j))
+      (subst (λ l. Means (reading_of p) s a worked outs (chunk_rows l)) made-are t))
+
+  meant-before : (ins outs : Lists) (t : KeepsMeant s p ins outs) → Means (reading_of p) s a t.worked outs (chunk_rows p.work.made)
+  meant-before ins outs t = subst (λ z. Means (reading_of p) s z t.worked outs (chunk_rows p.work.made)) (own-is ins outs t) t.rows
+
+  pub through : (ins outs : Lists) → Keeps p ins outs → KeepsMeant s p ins outs → KeepsMeant s q (with_pulled v w ins) (with_pushed v w outs)
   through ins outs kept t = record {
+    own = b;
+    shows = shows-after;
     worked = t.worked;
     ins_are = λ i. ap (λ l. l ++ pulled_at v w i) (t.ins_are i) ∙ append_assoc (t.worked i) (unworked_at p.work i) (pulled_at v w i) ∙ ap (λ l. t.worked i ++ l) (sym (unworked-is i));
-    rows = subst (λ z. HasMade s z t.worked (with_pushed v w outs) (chunk_rows q.work.made)) (sym own-after)
-        (subst (λ l. HasMade s b t.worked (with_pushed v w outs) (chunk_rows l)) (sym made-after)
-        (made-rows outs t.worked (subst (λ l. HasMade s a t.worked outs (chunk_rows l)) made-before (subst (λ z. HasMade s z t.worked outs (chunk_rows p.work.made)) own-before t.rows))));
-    over = λ o fin.
-        let x = kept-in-range o fin in
-        let lt : o < out_count u = let n = x.0 in omega (arith, n, mv.outs) in
-        elim (mv.finishes o lt x.1) [
-          | inl before ↦ over-before ins outs kept t o (omega (arith, lt, g.pushes.outs)) before
-          | inr now ↦ record {
-            nothing_waits = made-after ∙ ap held_made now.after;
-            all_worked = ap (λ x. x.unworked) g.after ∙ ap held_unworked now.after;
-            all_made = ap (λ x. x.unmade) own-after ∙ now.unmade;
-            noted = subst (HasNotedEnd s) (sym own-after) now.noted;
-          }
-        ];
+    rows = subst (λ r. Means r s b t.worked (with_pushed v w outs) (chunk_rows q.work.made)) (sym same-reading)
+        (subst (λ l. Means (reading_of p) s b t.worked (with_pushed v w outs) (chunk_rows l)) (sym made-after)
+        (made-rows outs t.worked (subst (λ l. Means (reading_of p) s a t.worked outs (chunk_rows l)) made-before (meant-before ins outs t))));
+    over = λ o fin. elim (finishes-now o fin) [
+      | inl before ↦ over-before ins outs kept t o before.0 before.1
+      | inr now ↦ record {
+        nothing_waits = made-after ∙ ap held_made now.after;
+        all_worked = ap (λ x. x.unworked) g.after ∙ ap held_unworked now.after;
+        all_made = ap (λ x. x.unmade) g.after ∙ now.unmade;
+        noted = ends-after now.noted;
+      }
+    ];
+    read = λ o fin. elim (finishes-now o fin) [
+      | inl before ↦ subst (λ r. IsReadOut s r.fetched r.bad) (sym same-reading) (t.read o (kept-out o before.0 before.1))
+      | inr now ↦ subst (λ z. IsReadOut s z.fetched z.bad) (sym g.after) now.read
+    ];
   }
 
   -- the kernel has read enough
   now-enough : (ins outs : Lists) → Keeps p ins outs → m ≡ Nothing → HasEnough s b → HasReadEnough q.spec (with_pulled v w ins)
   now-enough ins outs kept e enough =
       let fit : AllFit p.spec ins = subst (λ z. AllFit z ins) (sym g.spec) (λ i. λ j d lt. enough.any i (get_or (ins i) j d).types) in
-      let t : KeepsMade s p ins outs = shelled.from p ins outs (viewed kept.ports) (subst (λ z. IsWorkOf z p.work) g.spec kept.idle) (subst (λ z. KeepsRows z p ins outs) g.spec (kept.rows fit)) in
+      let t : KeepsMeant s p ins outs = shelled.from p ins outs (viewed kept.ports) (subst (λ z. IsWorkOf z p.work) g.spec kept.idle) g.not_handed_out (subst (λ z. KeepsRows z p ins outs) g.spec (kept.rows fit)) in
       let none : held_unworked h ≡ [] = sym g.pushes.unworked ∙ ap held_unworked e in
       let all : (i : ℕ) → ins i ≡ t.worked i = λ i. t.ins_are i ∙ ap (λ l. t.worked i ++ l) (unworked-before i ∙ cond-none (i == source_of h) (held_unworked h) none) ∙ append-nil (t.worked i) in
-      let old : HasMade s a t.worked outs (chunk_rows p.work.made) = subst (λ z. HasMade s z t.worked outs (chunk_rows p.work.made)) own-before t.rows in
-      enough-still ins (enough.enough t.worked outs ins (chunk_rows p.work.made) all (g.turns.leaves.means t.worked outs (chunk_rows p.work.made) old))
+      enough-still ins (enough.enough (reading_of p) t.worked outs ins (chunk_rows p.work.made) all (g.turns.leaves.means (reading_of p) t.worked outs (chunk_rows p.work.made) (meant-before ins outs t)))
 
   ends-finished : (ins outs : Lists) → Keeps p ins outs → (o : ℕ) → o < out_count v → (output_at w o).fin_out ≡ true → ((i : ℕ) → i < in_count v → is_ended (input_at w i).flags ≡ true) ⊎ HasReadEnough q.spec (with_pulled v w ins)
   ends-finished ins outs kept o lt fin = elim (mv.finishes o (omega (arith, lt, g.pushes.outs)) fin) [
@@ -316,7 +368,7 @@ module _ (s : Spec) (shelled : IsShelled s) (p q : BoxPicture) (v u w : Picture)
           all-or (in_count v) (λ i. is_ended (input_at w i).flags ≡ true) (HasReadEnough q.spec (with_pulled v w ins))
           (λ i less. elim (either-set (input_at u i).flags.fin_in (is_ended (input_at u i).flags) (over.0 i (omega (arith, less, g.pushes.ins)))) [
             | inl closed ↦ elim (was-closed ins outs kept i less closed) [
-              | inl all ↦ absurd (unfinished (λ j n. either-true (output_at u j).fin_out (output_at u j).fin_in (all.1 j (omega (arith, n, g.pushes.outs)))))
+              | inl all ↦ absurd (unfinished (let some = all.0 in omega (arith, some, g.pushes.outs)) (λ j n. either-true (output_at u j).fin_out (output_at u j).fin_in (all.1 j (omega (arith, n, g.pushes.outs)))))
               | inr enough ↦ inr (enough-still ins enough)
             ]
             | inr ended ↦ inl (mv.ended i ended)
@@ -337,14 +389,14 @@ module _ (s : Spec) (shelled : IsShelled s) (p q : BoxPicture) (v u w : Picture)
     | inl before ↦ elim (was-closed ins outs kept i lt before) [ inl all ↦ inl (consumers-closed all.0 all.1) | inr enough ↦ inr (enough-still ins enough) ]
     | inr now ↦ elim now [
       | inl x ↦ elim (all-or (out_count v) (λ o. (output_at u o).fin_in ≡ true) (HasReadEnough (Some s) ins)
-          (λ o less. elim (either-set (output_at u o).fin_out (output_at u o).fin_in (x.0 o (omega (arith, less, g.pushes.outs)))) [
+          (λ o less. elim (either-set (output_at u o).fin_out (output_at u o).fin_in (x.all o (omega (arith, less, g.pushes.outs)))) [
             | inl fin ↦ elim (was-finished ins outs kept o less fin) [
-              | inl all ↦ absurd (never-ended (input_at u i).flags (all i lt) x.1)
+              | inl all ↦ absurd (never-ended (input_at u i).flags (all i lt) x.unfinished)
               | inr enough ↦ inr enough
             ]
             | inr closed ↦ inl closed
           ])) [
-            | inl all ↦ inl (consumers-closed (shelled.some_output (in_count v) (out_count v) g.ports) all)
+            | inl all ↦ inl (consumers-closed (let some = x.some in omega (arith, some, g.pushes.outs)) all)
             | inr enough ↦ inr (enough-still ins enough)
           ]
       | inr x ↦ inr (now-enough ins outs kept x.0 x.1)
@@ -363,7 +415,7 @@ module _ (s : Spec) (shelled : IsShelled s) (p q : BoxPicture) (v u w : Picture)
             elim (mv.closes i (omega (arith, lt, g.pushes.ins)) e) [
               | inl before ↦ never-true (input_at u i).flags.fin_in unclosed before
               | inr now ↦ elim now [
-                | inl x ↦ never-ended (input_at u i).flags ended x.1
+                | inl x ↦ never-ended (input_at u i).flags ended x.unfinished
                 | inr x ↦ never-enough s b i (with_pulled v w ins) n
                     (subst (λ z. HasReadEnough z (with_pulled v w ins)) g.spec_stays
                     (now-enough ins outs kept x.0 x.1))
@@ -389,8 +441,8 @@ module _ (s : Spec) (shelled : IsShelled s) (p q : BoxPicture) (v u w : Picture)
         | inl before ↦
             let there = may-be-input p (in_count v) i
             (elim (had-counts kept.ports) [ inl e ↦ inl e | inr e ↦ inr e.0 ]) lt in
-            let was = kept.noted i there (subst (λ z. NotesEnd z (own_of p.work) i) (sym g.spec)
-            (subst (λ z. NotesEnd (Some s) z i) (sym own-before) before)) in
+            let was = kept.noted i there (subst (λ z. NotesEnd z (own_of p.work) i) (sym g.spec) (subst (λ z. NotesEnd (Some s) z i) (sym shows-before)
+            (noted-own s a a.gathered (gathered_with s a.gathered p.work.unworked) i before))) in
             let f = g.follows.inputs i lt in
             stays (ap (λ x. is_ended x.flags) same ∙ ended-stays (kept_input p i)
             (input_at v i).flags f was.at_end)
@@ -399,7 +451,7 @@ module _ (s : Spec) (shelled : IsShelled s) (p q : BoxPicture) (v u w : Picture)
             let open' : (input_at u i).flags.fin_in ≡ false =
             false_from_ne_true (input_at u i).flags.fin_in (λ e.
             elim (was-closed ins outs kept i lt e) [
-              | inl all ↦ now.unfinished (λ o less. either-true (output_at u o).fin_out
+              | inl all ↦ now.unfinished (let some = all.0 in omega (arith, some, g.pushes.outs)) (λ o less. either-true (output_at u o).fin_out
                   (output_at u o).fin_in (all.1 o (omega (arith, less, g.pushes.outs))))
               | inr enough ↦ never-enough s b i ins n enough
             ]) in
@@ -412,16 +464,18 @@ module _ (s : Spec) (shelled : IsShelled s) (p q : BoxPicture) (v u w : Picture)
   fits-before ins f = fits-front p.spec v w ins (subst (λ x. AllFit x (with_pulled v w ins)) same-spec f)
 
   -- what is true of the chunks that were made is true of those pushed now, and of those that wait
-  made-split : (P : Table → Type 0) → All P p.work.made → All P (pushed_at v w g.pushes.out ++ held_made k)
+  made-split : (P : Table → Type 0) → All P p.work.made → All P (g.pushes.left ++ held_made k)
   made-split P made = subst (All P) (made-before ∙ made-are) made
 
   pushed-all : (P : Table → Type 0) → All P p.work.made → (o : ℕ) → All P (pushed_at v w o)
   pushed-all P made o =
-      by-place (λ j. All P (pushed_at v w j)) g.pushes.out o (front-all P (pushed_at v w g.pushes.out) (held_made k) (made-split P made))
-      (λ ne. all-none P (pushed_at v w o) (pushed-others o ne))
+      by-place (λ j. All P (pushed_at v w j)) g.pushes.out o (elim g.pushes.by [
+        | inl x ↦ subst (All P) (sym (pushed-is g.pushes.out ∙ x.1)) (front-all P g.pushes.left (held_made k) (made-split P made))
+        | inr none ↦ all-none P (pushed_at v w g.pushes.out) (pushed-is g.pushes.out ∙ g.pushes.none none)
+      ]) (λ ne. all-none P (pushed_at v w o) (pushed-others o ne))
 
   made-all : (P : Table → Type 0) → All P p.work.made → All P q.work.made
-  made-all P made = subst (All P) (sym made-after) (back-all P (pushed_at v w g.pushes.out) (held_made k) (made-split P made))
+  made-all P made = subst (All P) (sym made-after) (back-all P g.pushes.left (held_made k) (made-split P made))
 
   makes-still : (ins : Lists) (t : Table) → MakesTypes p.spec ins t.types → MakesTypes q.spec (with_pulled v w ins) t.types
   makes-still ins t x = subst (λ y. MakesTypes y (with_pulled v w ins) t.types) (sym same-spec) (makes-more p.spec v w ins t.types x)
@@ -444,8 +498,8 @@ module _ (s : Spec) (shelled : IsShelled s) (p q : BoxPicture) (v u w : Picture)
             (inl (rw (kept-count w ∙ ins-w, outs-count w ∙ outs-w) g.ports)));
         idle = subst (λ x. IsWorkOf x q.work) (sym g.spec_stays) idle;
         rows = λ f. subst (λ x. KeepsRows x q (with_pulled v w ins) (with_pushed v w outs)) (sym g.spec_stays)
-            (shelled.into q (with_pulled v w ins) (with_pushed v w outs) idle (through ins outs kept
-            (shelled.from p ins outs (viewed kept.ports) (subst (λ z. IsWorkOf z p.work) g.spec kept.idle) (subst (λ x. KeepsRows x p ins outs) g.spec (kept.rows (fits-before ins f))))));
+            (shelled.into q (with_pulled v w ins) (with_pushed v w outs) idle (subst (λ x. All (HasSize x) q.work.made) g.spec (made-all (HasSize p.spec) kept.made_sizes)) (through ins outs kept
+            (shelled.from p ins outs (viewed kept.ports) (subst (λ z. IsWorkOf z p.work) g.spec kept.idle) g.not_handed_out (subst (λ x. KeepsRows x p ins outs) g.spec (kept.rows (fits-before ins f))))));
         types = λ o. All-append Q (outs o) (pushed_at v w o) (all-map P Q (outs o) (makes-still ins) (kept.types o)) (all-map P Q (pushed_at v w o) (makes-still ins) (pushed-all P kept.made_types o));
         made_types = all-map P Q q.work.made (makes-still ins) (made-all P kept.made_types);
         sizes = λ o. subst (λ x. All (HasSize x) (outs o ++ pushed_at v w o)) (sym same-spec) (All-append (HasSize p.spec) (outs o) (pushed_at v w o) (kept.sizes o) (pushed-all (HasSize p.spec) kept.made_sizes o));
@@ -467,6 +521,6 @@ module _ (s : Spec) (shelled : IsShelled s) (p q : BoxPicture) (v u w : Picture)
             let lt : i < in_count w = subst (λ k. i < k) (kept-count w)
             (subst (λ x. MayBeInput x i) g.view there) in
             noted-right ins outs kept i (omega (arith, lt, ins-w))
-            (subst (λ z. NotesEnd (Some s) z i) own-after
-            (subst (λ z. NotesEnd z (own_of q.work) i) g.spec_stays n));
+            (noted-own s b (gathered_with s b.gathered q.work.unworked) b.gathered i (subst (λ z. NotesEnd (Some s) z i) shows-after
+            (subst (λ z. NotesEnd z (own_of q.work) i) g.spec_stays n)));
       }

@@ -7,3 +7,5 @@ pub mod SameView
 pub mod BoxLaws
 pub mod Through
 pub mod Resizing
+pub mod Parts
+pub mod Gathering

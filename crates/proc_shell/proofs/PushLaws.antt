@@ -1,38 +1,51 @@
 -- Pushing what was made.
-use Rattle.std.proofs.Common.{◌≡◌, ℕ, ◌<◌, Bool, true, false, not, ◌&&◌, [], ◌∷◌, ◌++◌, length, refl, sym, ap, subst, ◌∙◌, arith}
-use Rattle.std.proofs.lemmas.List.{append-nil}
+use Rattle.std.proofs.Common.{◌≡◌, ◌⊎◌, ℕ, ◌<◌, Bool, true, false, not, ◌&&◌, List, [], ◌∷◌, ◌++◌, length, refl, sym, ap, subst, ◌∙◌, arith, inl, inr}
+use Rattle.std.proofs.lemmas.Bool.{cases_lt}
 use Rattle.chunk_data.specs.Values.{Table}
-use Rattle.port_word.specs.Names.{Picture, output_at, can_push, is_out_finished, after_push, IsSound, push_call}
+use Rattle.port_word.specs.Names.{Picture, output_at, out_count, can_push, is_out_finished, after_push, IsSound, push_call}
 use Rattle.port_word.specs.declared.flags.Flags.{Flags}
 use Rattle.port_word.proofs.Differences.{changed-by-none, changed-by-one}
-use Rattle.proc_api.specs.Names.{pushed_at, HasNoRoom}
 use Rattle.proc_api.proofs.CallLaws.{none-pushed, just-pushed}
 use Rattle.proc_api.proofs.Turns.{push-turns}
 use Rattle.proc_api.proofs.ShutPorts.{by-place}
 use Rattle.proc_shell.specs.declared.held.Held.{Held}
 use Rattle.proc_shell.specs.declared.held.Held.TheVariants.{Nothing, Unworked, Made}
-use Rattle.proc_shell.specs.Steps.{IsFree, held_made}
-use Rattle.proc_shell.specs.Turning.{Pushes}
+use Rattle.proc_shell.specs.Steps.{IsFree, held_made, held_unworked, source_of}
+use Rattle.proc_shell.specs.Turning.{IsCrowded, Pushes}
 use Rattle.proc_shell.proofs.PortMoves.{never-true}
 
--- nothing leaves
-pub pushes-none : (h : Held) (v : Picture) → IsSound v → (0 < length (held_made h) → HasNoRoom v) → Pushes h h v v
-pushes-none h v sound waits = record {
+-- the view stays, and these chunks are dropped, where there is no output
+still-pushes : (h k : Held) (left : List Table) (v : Picture) → IsSound v → held_made h ≡ left ++ held_made k → held_unworked k ≡ held_unworked h
+    → source_of k ≡ source_of h → (left ≡ []) ⊎ (out_count v ≡ 0) → (0 < length (held_made k) → IsCrowded v) → Pushes h k v v
+still-pushes h k left v sound made unworked source e waits = record {
   changed = changed-by-none v;
   ins = refl;
   outs = refl;
   inputs = λ i. refl;
   finished = λ o. refl;
   closed = λ o. refl;
-  unworked = refl;
-  source = refl;
+  unworked = unworked;
+  source = source;
   out = 0;
-  in_range = λ lt. lt;
-  made = ap (λ l. l ++ held_made h) (sym (none-pushed v v 0 sound refl));
+  left = left;
+  made = made;
+  by = elim (cases_lt 0 (out_count v)) [
+    | inl lt ↦ elim e [ inl none ↦ inl (lt, none-pushed v v 0 sound refl ∙ sym none) | inr none ↦ inr none ]
+    | inr le ↦ inr (omega (arith, le))
+  ];
+  none = λ none. none-pushed v v 0 sound refl;
   others = λ o ne. none-pushed v v o sound refl;
   waits = waits;
   at_once = λ all. record { inputs = λ i. refl; outputs = λ o. refl };
 }
+
+-- nothing leaves
+pub pushes-none : (h : Held) (v : Picture) → IsSound v → (0 < length (held_made h) → IsCrowded v) → Pushes h h v v
+pushes-none h v sound waits = still-pushes h h [] v sound refl refl refl (inl refl) waits
+
+-- the chunk has no output
+pub pushes-nowhere : (c : Table) (v : Picture) → IsSound v → out_count v ≡ 0 → Pushes (Made c) Nothing v v
+pushes-nowhere c v sound none = still-pushes (Made c) Nothing (c ∷ []) v sound refl refl refl (inr none) (λ lt. absurd (omega (arith, lt)))
 
 empty-of : (f : Flags) → can_push f ≡ true → f.has_data ≡ false
 empty-of f e = go f.needed f.has_data f.fin_out e
@@ -60,8 +73,10 @@ pushes-one c v w o sound free e = subst (λ u. Pushes (Made c) Nothing v u) (sym
           unworked = refl;
           source = refl;
           out = o;
-          in_range = λ lt. free.in_range;
-          made = sym (append-nil (pushed_at v u o) ∙ just-pushed v u o (c ∷ []) sound (empty-of (output_at v o) free.room) t.pushes);
+          left = c ∷ [];
+          made = refl;
+          by = inl (free.in_range, just-pushed v u o (c ∷ []) sound (empty-of (output_at v o) free.room) t.pushes);
+          none = λ none. absurd (let lt = free.in_range in omega (arith, none, lt));
           others = λ j ne. none-pushed v u j sound (t.other_pushes j ne);
           waits = λ lt. absurd (omega (arith, lt));
           at_once = λ all. never-true (is_out_finished (output_at v o)) free.unfinished (all o free.in_range);

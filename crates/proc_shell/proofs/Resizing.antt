@@ -1,5 +1,5 @@
 -- What passes rows on as they are, from any input to any output.
-use Rattle.std.proofs.Common.{◌≡◌, ◌≢◌, ℕ, zero, suc, ◌+◌, ◌<◌, List, [], ◌∷◌, ◌++◌, append_assoc, Some, refl, sym, ap, subst, ◌∙◌, arith, inl, inr}
+use Rattle.std.proofs.Common.{◌≡◌, ◌≢◌, ℕ, zero, suc, ◌+◌, ◌<◌, List, [], ◌∷◌, ◌++◌, append_assoc, false, Some, None, refl, sym, ap, subst, ◌∙◌, arith, inl, inr}
 use Rattle.std.specs.List.Sorted.{IsPermutation}
 use Rattle.std.proofs.lemmas.Bool.{cases_eq}
 use Rattle.std.proofs.lemmas.List.{append-nil}
@@ -7,10 +7,10 @@ use Rattle.std.proofs.lemmas.List.Sorted.{IsPermutation-refl, IsPermutation-sym,
 use Rattle.chunk_data.specs.Values.{Row, Table}
 use Rattle.query_model.specs.declared.processor_spec.Spec.{Spec}
 use Rattle.query_model.specs.declared.processor_spec.Spec.TheVariants as spec
-use Rattle.proc_api.specs.Names.{Lists, no_lists, chunk_rows, AreResized, HasMade, IsFirstAlone, all_rows, idle_own}
+use Rattle.proc_api.specs.Names.{Lists, no_lists, chunk_rows, AreResized, IsFirstAlone, all_rows, idle_own}
 use Rattle.proc_api.proofs.Keeping.{rows-append}
 use Rattle.proc_api.proofs.ShutPorts.{by-place}
-use Rattle.proc_shell.specs.Kernels.{Begins, LetsPush, Takes, with_chunk}
+use Rattle.proc_shell.specs.Kernels.{Begins, LetsPush, Means, Takes, with_chunk}
 use Rattle.proc_shell.proofs.Through.{chunk-elsewhere, chunk-here, rows-here}
 
 turned : (a b c : List Row) → IsPermutation ((a ++ b) ++ c) ((a ++ c) ++ b)
@@ -56,7 +56,7 @@ none-resized = record {
 pub begins-resized : (s : Spec) → s ≡ spec.Resize → Begins s spec.Resize idle_own
 begins-resized s e = record {
   spec = sym e;
-  nothing = subst (λ z. HasMade z idle_own no_lists no_lists []) (sym e) (refl, none-resized);
+  nothing = λ files. subst (λ z. Means (record { files = files; fetched = false; bad = None }) z idle_own no_lists no_lists []) (sym e) (refl, none-resized);
   unended = λ i n. n;
 }
 
@@ -66,21 +66,22 @@ end-none (x ∷ xs) ys e = absurd (cc)
 
 -- a chunk that waited leaves by any of 16 outputs
 pub resize-pushes : LetsPush spec.Resize
-resize-pushes own worked outs more inputs outputs o pushed rest ports lt few here others h = (
+resize-pushes x own worked outs more inputs outputs o pushed rest ports (inr none) others h = absurd (omega (arith, ports, none))
+resize-pushes x own worked outs more inputs outputs o pushed rest ports (inl at) others h = (
   h.0,
   record {
     same_rows =
         IsPermutation-trans (all_rows 32 worked) (all_rows 16 outs ++ chunk_rows (pushed ++ rest)) (all_rows 16 more ++ chunk_rows rest) h.1.same_rows
         (subst (λ l. IsPermutation l (all_rows 16 more ++ chunk_rows rest)) (sym (ap (λ l. all_rows 16 outs ++ l) (rows-append pushed rest) ∙ sym (append_assoc (all_rows 16 outs) (chunk_rows pushed) (chunk_rows rest))))
-        (IsPermutation-append_left (chunk_rows rest) (all_rows 16 outs ++ chunk_rows pushed) (all_rows 16 more) (IsPermutation-sym (all_rows 16 more) (all_rows 16 outs ++ chunk_rows pushed) (more-rows 16 o outs more pushed here others few))));
+        (IsPermutation-append_left (chunk_rows rest) (all_rows 16 outs ++ chunk_rows pushed) (all_rows 16 more) (IsPermutation-sym (all_rows 16 more) (all_rows 16 outs ++ chunk_rows pushed) (more-rows 16 o outs more pushed at.2 others at.1))));
     in_order = λ one alone. elim (cases_eq o 0) [
       | inl z ↦
-          let first : more 0 ≡ outs 0 ++ pushed = subst (λ n. more n ≡ outs n ++ pushed) z here in
+          let first : more 0 ≡ outs 0 ++ pushed = subst (λ n. more n ≡ outs n ++ pushed) z at.2 in
           let old : IsFirstAlone outs = λ j less. sym (others j (λ e. omega (arith, e, z, less))) ∙ alone j less in
           ap (λ l. l ++ chunk_rows rest) (ap chunk_rows first ∙ rows-append (outs 0) pushed) ∙ append_assoc (chunk_rows (outs 0)) (chunk_rows pushed) (chunk_rows rest)
           ∙ ap (λ l. chunk_rows (outs 0) ++ l) (sym (rows-append pushed rest)) ∙ h.1.in_order one old
       | inr ne ↦
-          let none = end-none (outs o) pushed (sym here ∙ alone o (omega (arith, ne))) in
+          let none = end-none (outs o) pushed (sym at.2 ∙ alone o (omega (arith, ne))) in
           let old : IsFirstAlone outs = λ j less. by-place (λ n. outs n ≡ []) o j none.0 (λ e. sym (others j e) ∙ alone j less) in
           ap (λ l. chunk_rows l ++ chunk_rows rest) (others 0 (λ e. ne (sym e))) ∙ ap (λ l. chunk_rows (outs 0) ++ chunk_rows (l ++ rest)) (sym none.1) ∙ h.1.in_order one old
     ];
@@ -90,7 +91,7 @@ resize-pushes own worked outs more inputs outputs o pushed rest ports lt few her
 -- a chunk of any input waits as it is
 pub takes-resized : (i : ℕ) (t : Table) → i < 32 → Takes spec.Resize idle_own i t idle_own (Some t)
 takes-resized i t lt = record {
-  means = λ fits worked outs h. (
+  means = λ x fits worked outs h. (
     refl,
     record {
       same_rows =

@@ -15,9 +15,10 @@ use Rattle.proc_api.proofs.Turns.{needing, needing-leaves, needing-needs, pull-t
 use Rattle.proc_api.proofs.ShutPorts.{by-place}
 use Rattle.proc_shell.specs.declared.held.Held.{Held}
 use Rattle.proc_shell.specs.declared.held.Held.TheVariants.{Nothing, Unworked, Made}
-use Rattle.proc_shell.specs.Kernels.{HasEnough, Leaves, WantsMore}
+use Rattle.proc_shell.specs.declared.kernel.Offer.{Offer}
+use Rattle.proc_shell.specs.Kernels.{HasEnough, IsKernelOf, IsReadOut, KernelState, Leaves, Offers, WantsMore}
 use Rattle.proc_shell.specs.Steps.{AreWantedEmpty, AreWantedOver, ChangesInputs, EndsOutputs, IsWanted, IsWantedFull, asked, held_made, is_nothing, shut_open, unasked}
-use Rattle.proc_shell.specs.Turning.{ClosesNow, AnswerComes, EndsNow, Moves}
+use Rattle.proc_shell.specs.Turning.{AnswerComes, ClosesNow, EndsNow, IsCrowded, MayMake, Moves, Turns}
 use Rattle.proc_shell.proofs.PortMoves.{never-true}
 
 -- ---- flags
@@ -114,16 +115,19 @@ some-unfinished : (v : Picture) (n : ℕ) → (((o : ℕ) → o < n → is_out_f
 some-unfinished v zero never = absurd (never (λ o lt. absurd (omega (arith, lt))))
 some-unfinished v (suc n) never = by-last v n (is_out_finished (output_at v n)) refl never (λ f. some-unfinished v n f)
 
--- what isn't idle holds something
-pub busy-held : (h : Held) (b : Bool) → b ≡ is_nothing h → b ≡ false → is_nothing h ≡ false
-busy-held h true e f = absurd (cc)
-busy-held h false e f = sym e
+room-unfinished : (v : Picture) → MayMake v → 0 < out_count v → AllOutputsFinished v → ⊥
+room-unfinished v may some all = elim may [
+  | inl none ↦ omega (arith, none, some)
+  | inr r ↦ never-true (is_out_finished (output_at v r.output)) r.unfinished (all r.output r.in_range)
+]
 
-room-unfinished : (v : Picture) → HasRoom v → AllOutputsFinished v → ⊥
-room-unfinished v r all = never-true (is_out_finished (output_at v r.output)) r.unfinished (all r.output r.in_range)
+room-so : (v : Picture) → MayMake v → 0 < out_count v → HasRoom v
+room-so v may some = elim may [ inl none ↦ absurd (omega (arith, none, some)) | inr r ↦ r ]
 
-room-crowded : (v : Picture) → HasRoom v → HasNoRoom v → ⊥
-room-crowded v r none = never-true (can_push (output_at v r.output)) (none r.output r.in_range r.unfinished) r.room
+pub room-crowded : {X : Type 0} (v : Picture) → MayMake v → IsCrowded v → X
+room-crowded v may x =
+    let r = room-so v may x.some in
+    never-true (can_push (output_at v r.output)) (x.none r.output r.in_range r.unfinished) r.room
 
 -- ---- views of which no chunk is moved
 
@@ -180,17 +184,34 @@ quiet-ends n v w c = record {
 
 -- a kernel that wasn't asked stays as it is
 pub leaves-same : (s : Spec) (own : OwnState) → Leaves s own own
-leaves-same s own = record { means = λ worked outs wait h. h; stays_over = λ n x. (n, x) }
+leaves-same s own = record { means = λ x worked outs wait h. h; stays_over = λ n y. (n, y) }
+
+pub idle-nothing : (h : Held) → is_nothing h ≡ true → h ≡ Nothing
+idle-nothing Nothing e = refl
+idle-nothing (Unworked i c) e = absurd (cc)
+idle-nothing (Made c) e = absurd (cc)
+
+-- what the kernel offered is followed
+pub turns-offered : (x y : KernelState) (wants : ℕ → Bool) (o : Offer) (h k : Held) (v w : Picture) (st : Status) → IsKernelOf x y → Offers wants x.spec v x.own y.own o
+    → Moves y h k v w st → h ≡ Nothing → ((0 < out_count v) × AllOutputsFinished v → ⊥) → Turns x y.own h k v w st
+turns-offered x y wants o h k v w st same offers moves nothing open' = record {
+  leaves = offers.leaves;
+  moves = subst (λ z. Moves z h k v w st) same moves;
+  ends = λ i lt n. elim (offers.ends i lt n) [
+    | inl before ↦ inl before
+    | inr over ↦ inr (record { before = nothing; over = over; unfinished = λ some all. open' (some, all) })
+  ];
+}
 
 -- ---- the turns
 
-module _ (s : Spec) (own : OwnState) (v : Picture) where
+module _ (x : KernelState) (v : Picture) where
   -- a turn at which no chunk is moved
   quiet-moves : (h : Held) (w : Picture) (st : Status) → Quiet v w
-      → ((o : ℕ) → o < out_count v → (output_at w o).fin_out ≡ true → ((output_at v o).fin_out ≡ true) ⊎ EndsNow s own h h v)
-      → ((i : ℕ) → i < in_count v → (input_at w i).flags.fin_in ≡ true → ((input_at v i).flags.fin_in ≡ true) ⊎ ClosesNow s own h v i)
-      → StatusHolds st w → AnswerComes st s h own → (AllOutputsFinished v → st ≡ status.Finished) → (HasNoRoom v → HasNoRoom w) → (NeedsRoom st → HasRoom w)
-      → Moves s own h h v w st
+      → ((o : ℕ) → o < out_count v → (output_at w o).fin_out ≡ true → ((output_at v o).fin_out ≡ true) ⊎ EndsNow x h h v)
+      → ((i : ℕ) → i < in_count v → (input_at w i).flags.fin_in ≡ true → ((input_at v i).flags.fin_in ≡ true) ⊎ ClosesNow x h v i)
+      → StatusHolds st w → AnswerComes st x h → (0 < out_count v → AllOutputsFinished v → st ≡ status.Finished) → (HasNoRoom v → HasNoRoom w)
+      → (NeedsRoom st → 0 < out_count w → HasRoom w) → Moves x h h v w st
   quiet-moves h w st q finishes closes law comes at_once waits room = record {
     changed = q.changed;
     ins = q.ins;
@@ -204,7 +225,7 @@ module _ (s : Spec) (own : OwnState) (v : Picture) where
     closes = closes;
     law = law;
     comes = comes;
-    at_once = λ all. record { answer = at_once all; chunks = record { inputs = q.chunk; outputs = q.pushes } };
+    at_once = λ some all. record { answer = at_once some all; chunks = record { inputs = q.chunk; outputs = q.pushes } };
     waits = waits;
     room = room;
   }
@@ -213,93 +234,95 @@ module _ (s : Spec) (own : OwnState) (v : Picture) where
   same-crowded w outs e none o lt unended = ap can_push (e o) ∙ none o (omega (arith, lt, outs)) (ap is_out_finished (sym (e o)) ∙ unended)
 
   -- all outputs were finished
-  pub moves-close : (h : Held) (w : Picture) → AllOutputsFinished v → ChangesInputs shut_open (in_count v) v w → Moves s own h h v w status.Finished
-  moves-close h w all c =
+  pub moves-close : (h : Held) (w : Picture) → (0 < out_count v) × AllOutputsFinished v → ChangesInputs shut_open (in_count v) v w → Moves x h h v w status.Finished
+  moves-close h w over c =
       quiet-moves h w status.Finished (quiet-inputs shut_open (in_count v) v w shut-end c)
       (λ o lt f. inl (ap (λ g. g.fin_out) (sym (c.outputs o)) ∙ f))
-      (λ i lt f. elim (shut-why i (input_at v i) (ap (λ x. x.flags.fin_in) (sym (c.below i lt)) ∙ f)) [ inl e ↦ inl e | inr e ↦ inr (inl (all, e)) ])
+      (λ i lt f. elim (shut-why i (input_at v i) (ap (λ y. y.flags.fin_in) (sym (c.below i lt)) ∙ f)) [
+        | inl e ↦ inl e
+        | inr e ↦ inr (inl (record { some = over.0; all = over.1; unfinished = e }))
+      ])
       (record {
-        inputs = λ i lt. let n : i < in_count v = omega (arith, lt, c.ins) in ap (λ x. is_in_finished x.flags) (c.below i n) ∙ shut-over i (input_at v i);
-        outputs = λ o lt. ap is_out_finished (c.outputs o) ∙ all o (omega (arith, lt, c.outs));
+        inputs = λ i lt. let n : i < in_count v = omega (arith, lt, c.ins) in ap (λ y. is_in_finished y.flags) (c.below i n) ∙ shut-over i (input_at v i);
+        outputs = λ o lt. ap is_out_finished (c.outputs o) ∙ over.1 o (omega (arith, lt, c.outs));
       })
-      tt (λ x. refl) (same-crowded w c.outs c.outputs) (λ n. absurd n)
+      tt (λ some all. refl) (same-crowded w c.outs c.outputs) (λ n. absurd n)
 
   -- no output has room
-  pub moves-full : (h : Held) (w : Picture) → (AllOutputsFinished v → ⊥) → HasNoRoom v → ChangesInputs unasked (in_count v) v w → Moves s own h h v w status.PortFull
-  moves-full h w some none c =
-      let x = some-unfinished v (out_count v) some in
-      let crowded = same-crowded w c.outs c.outputs none in
-      quiet-moves h w status.PortFull (quiet-inputs unasked (in_count v) v w (λ i y. needing-end y false) c)
+  pub moves-full : (h : Held) (w : Picture) → ((0 < out_count v) × AllOutputsFinished v → ⊥) → IsCrowded v → ChangesInputs unasked (in_count v) v w → Moves x h h v w status.PortFull
+  moves-full h w open' crowd c =
+      let y = some-unfinished v (out_count v) (λ all. open' (crowd.some, all)) in
+      let crowded = same-crowded w c.outs c.outputs crowd.none in
+      quiet-moves h w status.PortFull (quiet-inputs unasked (in_count v) v w (λ i z. needing-end z false) c)
       (λ o lt f. inl (ap (λ g. g.fin_out) (sym (c.outputs o)) ∙ f))
-      (λ i lt f. inl (sym (needing-leaves (input_at v i) false).fin_in ∙ ap (λ y. y.flags.fin_in) (sym (c.below i lt)) ∙ f))
+      (λ i lt f. inl (sym (needing-leaves (input_at v i) false).fin_in ∙ ap (λ z. z.flags.fin_in) (sym (c.below i lt)) ∙ f))
       (record {
-        output = x.output;
-        in_range = let lt = x.below in omega (arith, lt, c.outs);
-        unfinished = ap is_out_finished (c.outputs x.output) ∙ x.open_still;
+        output = y.output;
+        in_range = let lt = y.below in omega (arith, lt, c.outs);
+        unfinished = ap is_out_finished (c.outputs y.output) ∙ y.open_still;
         full = λ o lt unended. full-of (output_at w o) unended (crowded o lt unended);
       })
-      tt (λ all. absurd (some all)) (λ n. crowded) (λ n. absurd n)
+      tt (λ some all. absurd (open' (some, all))) (λ n. crowded) (λ n. absurd n)
 
-  -- there is room, and a chunk is to be worked
-  pub moves-work : (h : Held) → HasRoom v → is_nothing h ≡ false → (0 < length (held_made h) → HasNoRoom v) → Moves s own h h v v status.Ready
+  -- there is room, and nothing is moved
+  pub moves-here : (h : Held) (st : Status) → MayMake v → StatusHolds st v → AnswerComes st x h → Moves x h h v v st
+  moves-here h st may law comes =
+      quiet-moves h v st (quiet-none v) (λ o lt f. inl f) (λ i lt f. inl f) law comes (λ some all. absurd (room-unfinished v may some all)) (λ n. n) (λ n. room-so v may)
+
+  -- a chunk is to be worked
+  pub moves-work : (h : Held) → MayMake v → is_nothing h ≡ false → (0 < length (held_made h) → IsCrowded v) → Moves x h h v v status.Ready
   moves-work Nothing r e w = absurd (cc)
-  moves-work (Made c) r e w = absurd (room-crowded v r (w (omega arith)))
-  moves-work (Unworked i c) r e w =
-      quiet-moves (Unworked i c) v status.Ready (quiet-none v) (λ o lt f. inl f) (λ i lt f. inl f) tt (inl (omega arith)) (λ all. absurd (room-unfinished v r all)) (λ n. n) (λ n. r)
-
-  -- there is room, and rows can be made
-  pub moves-rows : HasRoom v → 0 < length own.unmade → Moves s own Nothing Nothing v v status.Ready
-  moves-rows r lt =
-      quiet-moves Nothing v status.Ready (quiet-none v) (λ o lt f. inl f) (λ i lt f. inl f) tt (inr lt) (λ all. absurd (room-unfinished v r all)) (λ n. n) (λ n. r)
+  moves-work (Made c) r e w = room-crowded v r (w (omega arith))
+  moves-work (Unworked i c) r e w = moves-here (Unworked i c) status.Ready r tt (inl (omega arith))
 
   -- enough was read
-  pub moves-enough : (u w : Picture) → HasRoom v → HasEnough s own → ChangesInputs shut_open (in_count v) v u → EndsOutputs (out_count u) u w → Moves s own Nothing Nothing v w status.Finished
-  moves-enough u w r enough c d =
+  pub moves-enough : (u w : Picture) → IsReadOut x.spec x.stage.fetched x.stage.bad → HasEnough x.spec x.own → ChangesInputs shut_open (in_count v) v u → EndsOutputs (out_count u) u w → Moves x Nothing Nothing v w status.Finished
+  moves-enough u w read enough c d =
       let law : StatusHolds status.Finished w = record {
-        inputs = λ i lt. let n : i < in_count v = omega (arith, lt, c.ins, d.front.ins) in ap (λ x. is_in_finished x.flags) (d.front.inputs i ∙ c.below i n) ∙ shut-over i (input_at v i);
+        inputs = λ i lt. let n : i < in_count v = omega (arith, lt, c.ins, d.front.ins) in ap (λ y. is_in_finished y.flags) (d.front.inputs i ∙ c.below i n) ∙ shut-over i (input_at v i);
         outputs = λ o lt. d.front.finished o (omega (arith, lt, d.front.outs));
       } in
       quiet-moves Nothing w status.Finished (quiet-both v u w (quiet-inputs shut_open (in_count v) v u shut-end c) (quiet-ends (out_count u) u w d))
-      (λ o lt f. inr (record { before = refl; after = refl; unmade = enough.nothing; noted = enough.noted; why = inl enough }))
+      (λ o lt f. inr (record { before = refl; after = refl; unmade = enough.nothing; noted = enough.noted; read = read; why = inl enough }))
       (λ i lt f. inr (inr (refl, enough)))
-      law tt (λ x. refl) (λ none o lt unended. never-true (is_out_finished (output_at w o)) unended (law.outputs o lt)) (λ n. absurd n)
+      law tt (λ some all. refl) (λ none o lt unended. never-true (is_out_finished (output_at w o)) unended (law.outputs o lt)) (λ n. absurd n)
 
   -- nothing will come
-  pub moves-over : (wants : ℕ → Bool) (w : Picture) → HasRoom v → WantsMore wants s v own → AreWantedOver wants v → EndsOutputs (out_count v) v w → Moves s own Nothing Nothing v w status.Finished
-  moves-over wants w r more over d =
+  pub moves-over : (wants : ℕ → Bool) (w : Picture) → MayMake v → IsReadOut x.spec x.stage.fetched x.stage.bad → WantsMore wants x.spec v x.own → AreWantedOver wants v → EndsOutputs (out_count v) v w → Moves x Nothing Nothing v w status.Finished
+  moves-over wants w r read more over d =
       let all = more.all_over over in
       let law : StatusHolds status.Finished w = record {
-        inputs = λ i lt. ap (λ x. is_in_finished x.flags) (d.front.inputs i) ∙ all i (omega (arith, lt, d.front.ins));
+        inputs = λ i lt. ap (λ y. is_in_finished y.flags) (d.front.inputs i) ∙ all i (omega (arith, lt, d.front.ins));
         outputs = λ o lt. d.front.finished o (omega (arith, lt, d.front.outs));
       } in
       quiet-moves Nothing w status.Finished (quiet-ends (out_count v) v w d)
-      (λ o lt f. inr (record { before = refl; after = refl; unmade = more.nothing; noted = more.noted over; why = inr (all, room-unfinished v r) }))
-      (λ i lt f. inl (ap (λ x. x.flags.fin_in) (sym (d.front.inputs i)) ∙ f))
-      law tt (λ x. refl) (λ none o lt unended. never-true (is_out_finished (output_at w o)) unended (law.outputs o lt)) (λ n. absurd n)
+      (λ o lt f. inr (record { before = refl; after = refl; unmade = more.nothing; noted = more.noted over; read = read; why = inr (all, room-unfinished v r) }))
+      (λ i lt f. inl (ap (λ y. y.flags.fin_in) (sym (d.front.inputs i)) ∙ f))
+      law tt (λ some all. refl) (λ none o lt unended. never-true (is_out_finished (output_at w o)) unended (law.outputs o lt)) (λ n. absurd n)
 
   -- a wanted input isn't finished, and empty
-  pub moves-ask : (wants : ℕ → Bool) (w : Picture) (i : ℕ) → HasRoom v → WantsMore wants s v own → AreWantedEmpty wants v → IsWanted wants v i → ChangesInputs (asked wants) (in_count v) v w → Moves s own Nothing Nothing v w status.NeedData
+  pub moves-ask : (wants : ℕ → Bool) (w : Picture) (i : ℕ) → MayMake v → WantsMore wants x.spec v x.own → AreWantedEmpty wants v → IsWanted wants v i → ChangesInputs (asked wants) (in_count v) v w → Moves x Nothing Nothing v w status.NeedData
   moves-ask wants w i r more empty unended c =
       let flags = open-empty (input_at v i).flags unended.unfinished (empty i unended.in_range unended.wanted) in
       let at : input_at w i ≡ needing (input_at v i) true = c.below i unended.in_range ∙ ap (λ b. cond b (needing (input_at v i) true) (input_at v i)) unended.wanted in
       let k = needing-leaves (input_at v i) true in
       quiet-moves Nothing w status.NeedData (quiet-inputs (asked wants) (in_count v) v w (asked-end wants) c)
       (λ o lt f. inl (ap (λ g. g.fin_out) (sym (c.outputs o)) ∙ f))
-      (λ j lt f. inl (sym (asked-closed wants j (input_at v j)) ∙ ap (λ x. x.flags.fin_in) (sym (c.below j lt)) ∙ f))
+      (λ j lt f. inl (sym (asked-closed wants j (input_at v j)) ∙ ap (λ y. y.flags.fin_in) (sym (c.below j lt)) ∙ f))
       (record {
         input = i;
         in_range = let lt = unended.in_range in omega (arith, lt, c.ins);
-        needed = ap (λ x. x.flags.needed) at ∙ needing-needs (input_at v i) flags.0;
-        empty = ap (λ x. x.flags.has_data) at ∙ k.has_data ∙ flags.1;
-        unfinished = ap (λ x. is_in_finished x.flags) at ∙ rw (k.fin_in, k.fin_out, k.has_data) unended.unfinished;
+        needed = ap (λ y. y.flags.needed) at ∙ needing-needs (input_at v i) flags.0;
+        empty = ap (λ y. y.flags.has_data) at ∙ k.has_data ∙ flags.1;
+        unfinished = ap (λ y. is_in_finished y.flags) at ∙ rw (k.fin_in, k.fin_out, k.has_data) unended.unfinished;
       })
-      more.wanting (λ all. absurd (room-unfinished v r all)) (same-crowded w c.outs c.outputs) (λ n. absurd n)
+      more.wanting (λ some all. absurd (room-unfinished v r some all)) (same-crowded w c.outs c.outputs) (λ n. absurd n)
 
   -- a wanted input has data
-  pub moves-pull : (wants : ℕ → Bool) (w : Picture) (i : ℕ) (c : Table) → HasRoom v → IsWantedFull wants v i → (input_at v i).chunk ≡ Some c → w ≡ after_pull v i → Moves s own Nothing (Unworked i c) v w status.Ready
-  moves-pull wants w i c r full at e = subst (λ u. Moves s own Nothing (Unworked i c) v u status.Ready) (sym e) moves
+  pub moves-pull : (wants : ℕ → Bool) (w : Picture) (i : ℕ) (c : Table) → MayMake v → IsWantedFull wants v i → (input_at v i).chunk ≡ Some c → w ≡ after_pull v i → Moves x Nothing (Unworked i c) v w status.Ready
+  moves-pull wants w i c r full at e = subst (λ u. Moves x Nothing (Unworked i c) v u status.Ready) (sym e) moves
     where
-      moves : Moves s own Nothing (Unworked i c) v (after_pull v i) status.Ready
+      moves : Moves x Nothing (Unworked i c) v (after_pull v i) status.Ready
       moves =
           let t = pull-turns v i full.in_range full.holds in
           let u = after_pull v i in
@@ -317,23 +340,25 @@ module _ (s : Spec) (own : OwnState) (v : Picture) where
               holds = full.holds;
               before = refl;
               after = refl;
-              here = ap₂ taken_out at (ap (λ x. x.chunk) t.here);
-              others = λ j ne. none-pulled v u j (ap (λ x. x.chunk) (t.others j ne));
+              here = ap₂ taken_out at (ap (λ y. y.chunk) t.here);
+              others = λ j ne. none-pulled v u j (ap (λ y. y.chunk) (t.others j ne));
               unfinished = room-unfinished v r;
             });
             ended = λ j. by-place (λ n. is_ended (input_at v n).flags ≡ true → is_ended (input_at u n).flags ≡ true) i j
-                (λ f. absurd (holds-unended (input_at v i).flags full.holds f)) (λ ne f. ap (λ x. is_ended x.flags) (t.others j ne) ∙ f);
+                (λ f. absurd (holds-unended (input_at v i).flags full.holds f)) (λ ne f. ap (λ y. is_ended y.flags) (t.others j ne) ∙ f);
             finishes = λ o lt f. inl (ap (λ g. g.fin_out) (sym (t.outputs o)) ∙ f);
-            closes = λ j lt. by-place (λ n. (input_at u n).flags.fin_in ≡ true → ((input_at v n).flags.fin_in ≡ true) ⊎ ClosesNow s own Nothing v n) i j
-                (λ f. inl (ap (λ x. x.flags.fin_in) (sym t.here) ∙ f)) (λ ne f. inl (ap (λ x. x.flags.fin_in) (sym (t.others j ne)) ∙ f));
+            closes = λ j lt. by-place (λ n. (input_at u n).flags.fin_in ≡ true → ((input_at v n).flags.fin_in ≡ true) ⊎ ClosesNow x Nothing v n) i j
+                (λ f. inl (ap (λ y. y.flags.fin_in) (sym t.here) ∙ f)) (λ ne f. inl (ap (λ y. y.flags.fin_in) (sym (t.others j ne)) ∙ f));
             law = tt;
             comes = inl (omega arith);
-            at_once = λ all. absurd (room-unfinished v r all);
-            waits = λ none. absurd (room-crowded v r none);
-            room = λ n. record {
-              output = r.output;
-              in_range = let lt = r.in_range in omega (arith, lt, t.outs);
-              room = ap can_push (t.outputs r.output) ∙ r.room;
-              unfinished = ap is_out_finished (t.outputs r.output) ∙ r.unfinished;
-            };
+            at_once = λ some all. absurd (room-unfinished v r some all);
+            waits = same-crowded u t.outs t.outputs;
+            room = λ n some.
+                let y = room-so v r (omega (arith, some, t.outs)) in
+                record {
+                  output = y.output;
+                  in_range = let lt = y.in_range in omega (arith, lt, t.outs);
+                  room = ap can_push (t.outputs y.output) ∙ y.room;
+                  unfinished = ap is_out_finished (t.outputs y.output) ∙ y.unfinished;
+                };
           }

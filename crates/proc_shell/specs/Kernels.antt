@@ -1,10 +1,19 @@
 -- What the code of a kind promises, over plain data: its own state, a chunk, and the rows that it makes.
-use Rattle.std.specs.Prelude.{◌≡◌, ◌≢◌, ◌⊎◌, ℕ, ◌<◌, ◌==◌, Bool, true, cond, List, [], ◌∷◌, ◌++◌, length, Option, Some, None, IfSome}
+use Rattle.std.specs.Prelude.{◌≡◌, ◌≢◌, ◌⊎◌, ℕ, ◌<◌, ◌==◌, Bool, true, false, cond, List, [], ◌∷◌, ◌++◌, length, Option, Some, None, IfSome, IsSome}
+use Rattle.std.specs.List.{All}
 use Rattle.chunk_data.specs.Values.{Row, Table}
 use Rattle.chunk_data.specs.declared.typed_value.ColumnType.{ColumnType}
+use Rattle.query_model.specs.Names.{Files, part_records, good_rows, bad_place}
+use Rattle.query_model.specs.declared.places.BadPlace.{BadPlace}
+use Rattle.query_model.specs.declared.processor_spec.Kind.{Kind}
+use Rattle.query_model.specs.declared.processor_spec.Kind.TheVariants as kind
+use Rattle.query_model.specs.declared.processor_spec.PartSpec.{PartSpec}
 use Rattle.query_model.specs.declared.processor_spec.Spec.{Spec}
+use Rattle.query_model.specs.declared.processor_spec.Spec.TheVariants as spec
 use Rattle.port_word.specs.Pictures.{Picture, input_at, in_count, is_in_finished}
-use Rattle.proc_api.specs.Names.{GrowthForm, BoxPicture, PortFlags, WorkState, idle_work, Lists, no_lists, chunk_rows, HasMade, HasNotedEnd, NotesEnd, OwnState, ArePortsOf, StandStill, KeepsMade, KeepsRows, FitsInput, MakesTypes, IsPulled, IsAtMost, IsWorkOf, HasReadEnough, most_rows, IsWanting}
+use Rattle.proc_api.specs.Names.{GrowthForm, BoxPicture, PortFlags, WorkState, idle_work, Lists, no_lists, chunk_rows, HasMade, HasNotedEnd, NotesEnd, OwnState, idle_own, own_of, unworked_at, kept_output, ArePartBytes, ArePortsOf, StandStill, IsOver, HasSize, KeepsRows, IsSourceKind, FitsInput, MakesTypes, IsPulled, IsAtMost, IsWorkOf, HasReadEnough, most_rows, IsWanting}
+use Rattle.proc_api.specs.declared.status.WorkFault.{WorkFault}
+use Rattle.proc_api.specs.declared.status.WorkFault.TheVariants as fault
 use Rattle.proc_shell.specs.declared.kernel.Offer.{Offer}
 use Rattle.proc_shell.specs.declared.kernel.Offer.TheVariants as offer
 use Rattle.proc_shell.specs.Steps.{AreWantedOver}
@@ -13,18 +22,123 @@ abbrev pub rows_of : Option Table → List Row
 rows_of None = []
 rows_of (Some t) = t.rows
 
--- the state of a box, by what its kernel keeps and the chunks that its shell holds
-abbrev pub work_with : OwnState → (source : ℕ) → (unworked made : List Table) → WorkState
-work_with own source unworked made = record idle_work {
+abbrev pub chunk_list : Option Table → List Table
+chunk_list None = []
+chunk_list (Some t) = t ∷ []
+
+-- What no call that works a chunk changes: whether the kernel has opened its file, whether it has fetched it whole, its
+-- first bytes until then, its bad place from then on, and whether it has handed its chunks out.
+pub record Stage : Type 0 where
+  pub opened : Bool
+  pub fetched : Bool
+  pub held : List ℕ
+  pub bad : Option BadPlace
+  pub handed_out : Bool
+
+abbrev pub first_stage : Stage
+first_stage = record { opened = false; fetched = false; held = []; bad = None; handed_out = false }
+
+-- a kernel: its kind and spec, its own state, and its stage
+pub record KernelState : Type 0 where
+  pub kind : Kind
+  pub spec : Spec
+  pub own : OwnState
+  pub stage : Stage
+
+-- a kernel that reads no file
+abbrev pub kernel_of : Kind → Spec → OwnState → KernelState
+kernel_of k s own = record { kind = k; spec = s; own = own; stage = first_stage }
+
+-- its own state alone is another
+abbrev pub IsKernelOf : KernelState → KernelState → Type 0
+IsKernelOf x y = y ≡ record x { own = y.own }
+
+-- after a fault nothing is said of what is left
+abbrev pub IsLeftOf : KernelState → KernelState → Type 0
+IsLeftOf x y = y ≡ record x { own = y.own; stage = record x.stage { bad = y.stage.bad } }
+
+-- the kernel of a part, with the rows that it hasn't made yet
+abbrev pub part_kernel : PartSpec → List Row → Stage → KernelState
+part_kernel part unmade stage = record {
+  kind = kind.Csv;
+  spec = spec.Csv part;
+  own = record idle_own { unmade = unmade };
+  stage = record stage { handed_out = false };
+}
+
+-- the kernel of a collector
+abbrev pub gathered_own : List Table → OwnState
+gathered_own chunks = record idle_own { gathered = chunks }
+
+abbrev pub gathering : List Table → (handed_out : Bool) → KernelState
+gathering chunks handed_out = record {
+  kind = kind.Collect;
+  spec = spec.Collect;
+  own = gathered_own chunks;
+  stage = record first_stage { handed_out = handed_out };
+}
+
+-- what a box shows as gathered: a collector's chunk that isn't worked yet is among them
+abbrev pub gathered_with : Spec → (gathered unworked : List Table) → List Table
+gathered_with spec.Collect gathered unworked = gathered ++ unworked
+gathered_with s gathered unworked = gathered
+
+-- the state of a box, by its kernel and the chunks that its shell holds
+abbrev pub work_of : KernelState → (source : ℕ) → (unworked made : List Table) → WorkState
+work_of x source unworked made = record idle_work {
   unworked = unworked;
   source = source;
   made = made;
-  unmade = own.unmade;
-  gathered = own.gathered;
-  read = own.read;
-  ended = own.ended;
-  heads = own.heads;
+  unmade = x.own.unmade;
+  gathered = gathered_with x.spec x.own.gathered unworked;
+  handed_out = x.stage.handed_out;
+  read = x.own.read;
+  ended = x.own.ended;
+  heads = x.own.heads;
+  opened = x.stage.opened;
+  fetched = x.stage.fetched;
+  bad = x.stage.bad;
 }
+
+-- the kernel's state is shown so
+abbrev pub Shows : Spec → OwnState → WorkState → Type 0
+Shows s own w = own_of w ≡ record own { gathered = gathered_with s own.gathered w.unworked }
+
+-- ---- what a kind means
+
+-- the files that a reader tells, and what was read of one
+pub record Reading : Type 0 where
+  pub files : Option Files
+  pub fetched : Bool
+  pub bad : Option BadPlace
+
+abbrev pub reading_of : BoxPicture → Reading
+reading_of p = record { files = p.files; fetched = p.work.fetched; bad = p.work.bad }
+
+-- the rows and those not yet made are the good rows of the part, and its bad place is known
+pub record ArePartRows (x : Reading) (part : PartSpec) (unmade rows : List Row) : Type 0 where
+  pub bytes : List ℕ
+  pub are : ArePartBytes x.files part.path bytes
+  pub rows_are : rows ++ unmade ≡ good_rows part.types (part_records part.header bytes)
+  pub bad : x.bad ≡ bad_place 1 part.types (part_records part.header bytes)
+
+-- until a file is fetched whole no row is made of it
+pub record AreRead (x : Reading) (part : PartSpec) (unmade rows : List Row) : Type 0 where
+  pub before : x.fetched ≡ false → (rows ≡ []) × (unmade ≡ []) × (x.bad ≡ None)
+  pub fetched : x.fetched ≡ true → ArePartRows x part unmade rows
+
+-- What a kind has made of its inputs, or of what it reads. What a collector gathered are the chunks that it worked.
+abbrev pub Means : Reading → Spec → OwnState → (worked outs : Lists) → (wait : List Row) → Type 0
+Means x (spec.Csv part) own worked outs wait = AreRead x part own.unmade (chunk_rows (outs 0) ++ wait)
+Means x spec.Collect own worked outs wait = own.gathered ≡ worked 0
+Means x s own worked outs wait = HasMade s own worked outs wait
+
+-- a part is fetched whole, and valid
+abbrev pub IsReadOut : Spec → (fetched : Bool) → (bad : Option BadPlace) → Type 0
+IsReadOut (spec.Csv part) fetched bad = (fetched ≡ true) × (bad ≡ None)
+IsReadOut s fetched bad = Unit {0}
+
+-- ---- a kernel's calls
 
 -- one chunk more is worked of input i
 abbrev pub with_chunk : ℕ → Table → Lists → Lists
@@ -33,13 +147,13 @@ with_chunk i t worked j = worked j ++ cond (j == i) (t ∷ []) []
 -- a kernel that was loaded with a spec has made nothing
 pub record Begins (s t : Spec) (own : OwnState) : Type 0 where
   pub spec : t ≡ s
-  pub nothing : HasMade s own no_lists no_lists []
+  pub nothing : (files : Option Files) → Means (record { files = files; fetched = false; bad = None }) s own no_lists no_lists []
   pub unended : (i : ℕ) → NotesEnd (Some t) own i → ⊥
 
 -- a kind that may end by itself takes every chunk, and has read enough of those that it worked
 pub record HasEnough (s : Spec) (own : OwnState) : Type 0 where
   pub any : (i : ℕ) (types : List ColumnType) → FitsInput (Some s) i types
-  pub enough : (worked outs ins : Lists) (wait : List Row) → ((i : ℕ) → ins i ≡ worked i) → HasMade s own worked outs wait
+  pub enough : (x : Reading) (worked outs ins : Lists) (wait : List Row) → ((i : ℕ) → ins i ≡ worked i) → Means x s own worked outs wait
       → HasReadEnough (Some s) ins
   pub nothing : own.unmade ≡ []
   pub noted : HasNotedEnd s own
@@ -58,12 +172,35 @@ pub record WantsMore (wants : ℕ → Bool) (s : Spec) (v : Picture) (own : OwnS
 -- why an offer comes over these ports
 abbrev pub OfferComes : (ℕ → Bool) → Offer → Spec → Picture → OwnState → Type 0
 OfferComes wants offer.Rows s v own = 0 < length own.unmade
+OfferComes wants offer.Fetch s v own = Unit {0}
+OfferComes wants offer.Record s v own = Unit {0}
 OfferComes wants offer.Enough s v own = HasEnough s own
 OfferComes wants offer.Wants s v own = WantsMore wants s v own
 
+-- what has to be answered to a record that is left: its row can be made, or it is bad
+abbrev pub IsRecordLeft : KernelState → Type 0
+IsRecordLeft x = (0 < length x.own.unmade) ⊎ ((x.kind ≡ kind.Csv) × IsSome x.stage.bad)
+
+-- why an offer comes, by what was read
+abbrev pub Reads : KernelState → Offer → Type 0
+Reads x offer.Rows = Unit {0}
+Reads x offer.Fetch = IsSourceKind x.kind × (x.stage.fetched ≡ false)
+Reads x offer.Record = IsRecordLeft x
+Reads x _ = IsReadOut x.spec x.stage.fetched x.stage.bad
+
+-- why no rows are made: memory is wanting, or the next record is bad
+abbrev pub Fails : KernelState → WorkFault → Type 0
+Fails x fault.Memory = Unit {0}
+Fails x (fault.Bad place) = (x.kind ≡ kind.Csv) × (x.stage.bad ≡ Some place)
+Fails x _ = ⊥
+
+-- a row was made, or no bad record is left
+abbrev pub IsValid : KernelState → Option Table → Type 0
+IsValid x o = (0 < length (rows_of o)) ⊎ (x.stage.bad ≡ None)
+
 -- an offer leaves what was made, and what was over stays over
 pub record Leaves (s : Spec) (old new : OwnState) : Type 0 where
-  pub means : (worked outs : Lists) (wait : List Row) → HasMade s old worked outs wait → HasMade s new worked outs wait
+  pub means : (x : Reading) (worked outs : Lists) (wait : List Row) → Means x s old worked outs wait → Means x s new worked outs wait
   pub stays_over : old.unmade ≡ [] → HasNotedEnd s old → (new.unmade ≡ []) × HasNotedEnd s new
 
 pub record Offers (wants : ℕ → Bool) (s : Spec) (v : Picture) (old new : OwnState) (o : Offer) : Type 0 where
@@ -79,43 +216,55 @@ NotesNoEnd s old new = (i : ℕ) → NotesEnd (Some s) new i → NotesEnd (Some 
 
 -- a chunk of input i is worked
 pub record Takes (s : Spec) (old : OwnState) (i : ℕ) (t : Table) (new : OwnState) (o : Option Table) : Type 0 where
-  pub means : FitsInput (Some s) i t.types → (worked outs : Lists) → HasMade s old worked outs []
-      → HasMade s new (with_chunk i t worked) outs (rows_of o)
+  pub means : (x : Reading) → FitsInput (Some s) i t.types → (worked outs : Lists) → Means x s old worked outs []
+      → Means x s new (with_chunk i t worked) outs (rows_of o)
   pub types : (ins : Lists) → IsPulled ins t.types → IfSome o (λ (c : Table). MakesTypes (Some s) ins c.types)
   pub sizes : IfSome o (λ (c : Table). IsAtMost (most_rows (Some s)) (length c.rows))
   pub ends : NotesNoEnd s old new
 
 -- rows that can be made are made, where there are some
 pub record Makes (s : Spec) (old new : OwnState) (o : Option Table) : Type 0 where
-  pub means : (worked outs : Lists) → HasMade s old worked outs [] → HasMade s new worked outs (rows_of o)
+  pub means : (x : Reading) (worked outs : Lists) → Means x s old worked outs [] → Means x s new worked outs (rows_of o)
   pub types : (ins : Lists) → IfSome o (λ (c : Table). MakesTypes (Some s) ins c.types)
   pub sizes : IfSome o (λ (c : Table). IsAtMost (most_rows (Some s)) (length c.rows))
   pub progress : (0 < length (rows_of o)) ⊎ (new.unmade ≡ [])
   pub nothing : old.unmade ≡ [] → (new ≡ old) × (o ≡ None)
   pub ends : NotesNoEnd s old new
 
--- a chunk that waited leaves by an output
+-- a chunk that waited leaves by an output, or is dropped where there is none
 abbrev pub LetsPush : Spec → Type 0
 LetsPush s =
-    (own : OwnState) (worked outs more : Lists) (inputs outputs o : ℕ) (pushed rest : List Table)
-    → ArePortsOf (Some s) None inputs outputs → o < outputs → o < 16
-    → more o ≡ outs o ++ pushed → ((j : ℕ) → j ≢ o → more j ≡ outs j)
-    → HasMade s own worked outs (chunk_rows (pushed ++ rest)) → HasMade s own worked more (chunk_rows rest)
+    (x : Reading) (own : OwnState) (worked outs more : Lists) (inputs outputs o : ℕ) (pushed rest : List Table)
+    → ArePortsOf (Some s) None inputs outputs
+    → ((o < outputs) × (o < 16) × (more o ≡ outs o ++ pushed)) ⊎ (outputs ≡ 0) → ((j : ℕ) → j ≢ o → more j ≡ outs j)
+    → Means x s own worked outs (chunk_rows (pushed ++ rest)) → Means x s own worked more (chunk_rows rest)
 
 -- the kept view, if any, had the ports of the spec
 abbrev pub HasSpecView : Spec → BoxPicture → Type 0
 HasSpecView s p = IfSome p.notes.view (λ (ports : PortFlags). ArePortsOf (Some s) None (length ports.inputs) (length ports.outputs))
 
--- a kind of processors that have an output and don't grow, whose box keeps what its kernel has made
+-- What a box keeps of its kind: the first chunks of each input are worked, and of them its kernel has made what its kind
+-- says.
+pub record KeepsMeant (s : Spec) (p : BoxPicture) (ins outs : Lists) : Type 0 where
+  pub own : OwnState
+  pub shows : Shows s own p.work
+  pub worked : Lists
+  pub ins_are : (i : ℕ) → ins i ≡ worked i ++ unworked_at p.work i
+  pub rows : Means (reading_of p) s own worked outs (chunk_rows p.work.made)
+  pub over : (o : ℕ) → (kept_output p o).fin_out ≡ true → IsOver s p.work
+  pub read : (o : ℕ) → (kept_output p o).fin_out ≡ true → IsReadOut s p.work.fetched p.work.bad
+
+-- a kind of processors that don't grow, whose box keeps what its kernel has made
 pub record IsShelled (s : Spec) : Type 0 where
   pub ungrown : (growth : Option GrowthForm) (inputs outputs : ℕ) → ArePortsOf (Some s) growth inputs outputs → ArePortsOf (Some s) None inputs outputs
   pub grown : (growth : Option GrowthForm) (inputs outputs : ℕ) → ArePortsOf (Some s) None inputs outputs → ArePortsOf (Some s) growth inputs outputs
-  pub some_output : (inputs outputs : ℕ) → ArePortsOf (Some s) None inputs outputs → 0 < outputs
   pub still : (kept : PortFlags) (inputs outputs : ℕ) → ArePortsOf (Some s) None (length kept.inputs) (length kept.outputs)
       → ArePortsOf (Some s) None inputs outputs → StandStill (Some s) (Some kept) inputs outputs
       → (inputs ≡ length kept.inputs) × (outputs ≡ length kept.outputs)
   pub any_input : (i j : ℕ) (types : List ColumnType) → FitsInput (Some s) i types → FitsInput (Some s) j types
   pub enough_one : (ins : Lists) → HasReadEnough (Some s) ins → (inputs outputs : ℕ) → ArePortsOf (Some s) None inputs outputs → outputs ≡ 1
   pub lets_push : LetsPush s
-  pub into : (p : BoxPicture) (ins outs : Lists) → IsWorkOf (Some s) p.work → KeepsMade s p ins outs → KeepsRows (Some s) p ins outs
-  pub from : (p : BoxPicture) (ins outs : Lists) → HasSpecView s p → IsWorkOf (Some s) p.work → KeepsRows (Some s) p ins outs → KeepsMade s p ins outs
+  pub into : (p : BoxPicture) (ins outs : Lists) → IsWorkOf (Some s) p.work → All (HasSize (Some s)) p.work.made
+      → KeepsMeant s p ins outs → KeepsRows (Some s) p ins outs
+  pub from : (p : BoxPicture) (ins outs : Lists) → HasSpecView s p → IsWorkOf (Some s) p.work → p.work.handed_out ≡ false
+      → KeepsRows (Some s) p ins outs → KeepsMeant s p ins outs

@@ -1,66 +1,96 @@
 -- What is seen of a shell, and what its calls do.
-use Rattle.std.specs.Prelude.{◌≡◌, ℕ, true, false, Option, Some, None}
+use Rattle.std.specs.Prelude.{◌≡◌, ◌≢◌, ◌⊎◌, ℕ, ◌≤◌, true, false, List, Option, Some, None, Result, Ok, Err}
 use Rattle.chunk_data.specs.Values.{Table}
+use Rattle.query_model.specs.Names.{Files, kind_of}
 use Rattle.query_model.specs.declared.processor_spec.Kind.{Kind}
+use Rattle.query_model.specs.declared.processor_spec.Kind.TheVariants as kind
 use Rattle.query_model.specs.declared.processor_spec.Spec.{Spec}
 use Rattle.port_word.specs.Names.{Picture, in_count, out_count, ChangedByCalls}
-use Rattle.proc_api.specs.declared.status.Answer.TheVariants.{Prepared}
-use Rattle.proc_api.specs.Names.{BoxPicture, Notes, RowCount, WorkState, idle_work, no_notes, OwnState, ArePortsOf, IsShut, SameChunks, port_flags}
+use Rattle.proc_api.specs.declared.status.Answer.TheVariants.{Prepared, Scheduled}
+use Rattle.proc_api.specs.declared.status.Wake.{Wake}
+use Rattle.proc_api.specs.Names.{BoxPicture, Notes, RowCount, WorkState, idle_work, no_notes, handed_out_by, OwnState, ArePortsOf, IsShut, IsWorkOf, SameChunks, port_flags}
 use Rattle.proc_api.specs.declared.status.Status.{Status}
 use Rattle.proc_api.specs.declared.status.WorkFault.{WorkFault}
 use Rattle.proc_api.specs.declared.status.Status.TheVariants as status
-use Rattle.proc_api.specs.declared.status.WorkFault.TheVariants.{Memory}
 use Rattle.proc_shell.specs.declared.held.Held.{Held}
 use Rattle.proc_shell.specs.declared.held.Held.TheVariants.{Nothing, Unworked, Made}
 use Rattle.proc_shell.specs.Steps.{CountsRows, held_made, held_option, held_unworked, is_unworked, rows_since, source_of}
-use Rattle.proc_shell.specs.Kernels.{Takes, Makes, work_with}
+use Rattle.proc_shell.specs.Kernels.{Begins, IsKernelOf, IsLeftOf, IsShelled, IsValid, KernelState, Makes, Takes, first_stage, work_of}
 use Rattle.proc_shell.specs.Turning.{Pushes, Turns}
 
--- a loaded shell: its kernel's spec and state, the chunk that it holds, and its notes
+-- a loaded shell: its kernel, the chunk that it holds, and its notes
 pub record ShellPart : Type 0 where
-  pub spec : Spec
-  pub own : OwnState
+  pub kernel : KernelState
   pub held : Held
   pub notes : Notes
 
-abbrev pub part : Spec → OwnState → Held → Notes → ShellPart
-part s own h n = record { spec = s; own = own; held = h; notes = n }
+abbrev pub part : KernelState → Held → Notes → ShellPart
+part x h n = record { kernel = x; held = h; notes = n }
 
 abbrev pub part_work : ShellPart → WorkState
-part_work p = work_with p.own (source_of p.held) (held_unworked p.held) (held_made p.held)
+part_work p = work_of p.kernel (source_of p.held) (held_unworked p.held) (held_made p.held)
 
--- a blank processor without a reader
-abbrev pub blank_seen : Kind → RowCount → BoxPicture
-blank_seen k count = record {
+-- a reader: the files that it tells, and its counts
+pub record ReaderView : Type 0 where
+  pub files : Option Files
+  pub faults : ℕ
+  pub pendings : ℕ
+
+-- what is seen of a reader, if there is one
+abbrev pub files_by : Option ReaderView → Option Files
+files_by None = None
+files_by (Some r) = r.files
+
+abbrev pub faults_by : Option ReaderView → ℕ
+faults_by None = 0
+faults_by (Some r) = r.faults
+
+abbrev pub pendings_by : Option ReaderView → ℕ
+pendings_by None = 0
+pendings_by (Some r) = r.pendings
+
+-- what was noted of it
+abbrev pub noted_by : Option ReaderView → ℕ → ℕ
+noted_by None n = 0
+noted_by (Some r) n = n
+
+-- a blank processor of a kind
+abbrev pub blank_seen : Kind → Option ReaderView → RowCount → BoxPicture
+blank_seen k d count = record {
   kind = k;
   lawful = true;
-  files = None;
+  files = files_by d;
   spec = None;
-  faults = 0;
-  pendings = 0;
+  faults = faults_by d;
+  pendings = pendings_by d;
   pulled = count.total;
   work = idle_work;
   notes = no_notes;
   growth = None;
 }
 
-abbrev pub part_seen : Kind → RowCount → ShellPart → BoxPicture
-part_seen k count p = record {
+abbrev pub part_seen : Kind → Option ReaderView → RowCount → ShellPart → BoxPicture
+part_seen k d count p = record {
   kind = k;
   lawful = true;
-  files = None;
-  spec = Some p.spec;
-  faults = 0;
-  pendings = 0;
+  files = files_by d;
+  spec = Some p.kernel.spec;
+  faults = faults_by d;
+  pendings = pendings_by d;
   pulled = count.total;
   work = part_work p;
-  notes = record p.notes { given = 0; faults = 0; pendings = 0; pulled = count.since };
+  notes = record p.notes {
+    given = noted_by d p.notes.given;
+    faults = noted_by d p.notes.faults;
+    pendings = noted_by d p.notes.pendings;
+    pulled = count.since;
+  };
   growth = None;
 }
 
-abbrev pub shell_seen : Kind → RowCount → Option ShellPart → BoxPicture
-shell_seen k count None = blank_seen k count
-shell_seen k count (Some p) = part_seen k count p
+abbrev pub shell_seen : Kind → Option ReaderView → RowCount → Option ShellPart → BoxPicture
+shell_seen k d count None = blank_seen k d count
+shell_seen k d count (Some p) = part_seen k d count p
 
 -- a shell, which counts the rows that it pulled
 pub record ShellView : Type 0 where
@@ -68,25 +98,32 @@ pub record ShellView : Type 0 where
   pub loaded : Option ShellPart
 
 abbrev pub view_seen : Kind → ShellView → BoxPicture
-view_seen k s = shell_seen k s.count s.loaded
+view_seen k s = shell_seen k None s.count s.loaded
 
 -- the view has the ports of the spec
 abbrev pub HasSpecPorts : Spec → Picture → Type 0
 HasSpecPorts s v = ArePortsOf (Some s) None (in_count v) (out_count v)
 
+-- a shell as it is loaded
+pub record IsBegun (s : Spec) (p : ShellPart) : Type 0 where
+  pub begins : Begins s p.kernel.spec p.kernel.own
+  pub stage : p.kernel.stage ≡ first_stage
+  pub held : p.held ≡ Nothing
+  pub notes : p.notes ≡ no_notes
+  pub shelled : IsShelled p.kernel.spec
+  pub uses : IsWorkOf (Some p.kernel.spec) (part_work p)
+
 -- A prepare over a view with the ports of the spec: what was made is pushed, and then the turn is taken that is due.
 pub record Passes (p : ShellPart) (v : Picture) (n : RowCount) (q : ShellPart) (w : Picture) (m : RowCount) (s : Status) : Type 0 where
   pub held : Held
   pub view : Picture
-  pub spec : q.spec ≡ p.spec
   pub pushes : Pushes p.held held v view
-  pub turns : Turns p.spec p.own q.own held q.held view w s
+  pub turns : Turns p.kernel q.kernel.own held q.held view w s
   pub counts : CountsRows (rows_since (is_unworked p.held) q.held) n m
   pub notes : q.notes ≡ record p.notes { view = Some (port_flags w); answer = Some (Prepared s); acted = false }
 
 -- a prepare over a view with other ports
 pub record ShutsPart (p : ShellPart) (v : Picture) (n : RowCount) (q : ShellPart) (w : Picture) (m : RowCount) (s : Status) : Type 0 where
-  pub spec : q.spec ≡ p.spec
   pub changed : ChangedByCalls v w
   pub shut : IsShut w
   pub chunks : SameChunks v w
@@ -94,29 +131,62 @@ pub record ShutsPart (p : ShellPart) (v : Picture) (n : RowCount) (q : ShellPart
   pub counts : CountsRows 0 n m
   pub notes : q.notes ≡ record p.notes { view = Some (port_flags w); answer = Some (Prepared s); acted = false; fits = false }
 
-pub record TakesHeld (s : Spec) (old : OwnState) (i : ℕ) (t : Table) (new : OwnState) (h : Held) : Type 0 where
+-- a part of a box of the kind, whose kernel goes on with another state of its own
+pub record Suits (k : Kind) (p q : ShellPart) : Type 0 where
+  pub kernel : IsKernelOf p.kernel q.kernel
+  pub kind : (p.kernel.kind ≡ k) × (kind_of p.kernel.spec ≡ k)
+  pub shelled : IsShelled p.kernel.spec
+  pub uses : IsWorkOf (Some p.kernel.spec) (part_work q)
+
+-- a prepare
+pub record PartPrepares (k : Kind) (p : ShellPart) (v : Picture) (n : RowCount) (q : ShellPart) (w : Picture) (m : RowCount) (s : Status) : Type 0 where
+  pub suits : Suits k p q
+  pub few : out_count v ≤ 16
+  pub few_in : in_count v ≤ 32
+  pub way : (HasSpecPorts p.kernel.spec v × Passes p v n q w m s) ⊎ ((HasSpecPorts p.kernel.spec v → ⊥) × ShutsPart p v n q w m s)
+
+pub record TakesHeld (x : KernelState) (i : ℕ) (t : Table) (new : OwnState) (h : Held) : Type 0 where
   pub out : Option Table
-  pub takes : Takes s old i t new out
+  pub takes : Takes x.spec x.own i t new out
   pub held : h ≡ held_option out
 
-pub record MakesHeld (s : Spec) (old new : OwnState) (h : Held) : Type 0 where
+pub record MakesHeld (x : KernelState) (new : OwnState) (h : Held) : Type 0 where
   pub out : Option Table
-  pub makes : Makes s old new out
+  pub makes : Makes x.spec x.own new out
+  pub valid : IsValid x out
   pub held : h ≡ held_option out
 
 -- what lies unworked is worked, and where nothing is held rows are made
-abbrev pub WorksHeld : Spec → OwnState → Held → OwnState → Held → Type 0
-WorksHeld s old Nothing new k = MakesHeld s old new k
-WorksHeld s old (Made t) new k = (new ≡ old) × (k ≡ Made t)
-WorksHeld s old (Unworked i t) new k = TakesHeld s old i t new k
+abbrev pub WorksHeld : KernelState → Held → OwnState → Held → Type 0
+WorksHeld x Nothing new k = MakesHeld x new k
+WorksHeld x (Made t) new k = ⊥
+WorksHeld x (Unworked i t) new k = TakesHeld x i t new k
 
-pub record PartWorks (p q : ShellPart) : Type 0 where
-  pub spec : q.spec ≡ p.spec
-  pub works : WorksHeld p.spec p.own p.held q.own q.held
+-- a work, before which no chunk waits
+pub record PartWorks (k : Kind) (p q : ShellPart) : Type 0 where
+  pub suits : Suits k p q
+  pub works : WorksHeld p.kernel p.held q.kernel.own q.held
   pub notes : q.notes ≡ record p.notes { acted = true }
 
--- only want of memory fails it
+-- the notes with an answer, or with a fault
+abbrev pub with_answer : Result Wake WorkFault → Notes → Notes
+with_answer (Ok a) n = record n { answer = Some (Scheduled a); acted = false }
+with_answer (Err f) n = record n { fault = Some f }
+
+-- an answer or a fault is noted, and nothing else is changed
+pub record PartNotes (r : Result Wake WorkFault) (p q : ShellPart) : Type 0 where
+  pub kernel : q.kernel ≡ p.kernel
+  pub held : q.held ≡ p.held
+  pub notes : q.notes ≡ with_answer r p.notes
+
+-- a fault of a work is kept
 pub record PartFails (f : WorkFault) (p q : ShellPart) : Type 0 where
-  pub spec : q.spec ≡ p.spec
-  pub fault : f ≡ Memory
-  pub notes : q.notes ≡ record p.notes { fault = Some Memory }
+  pub kernel : IsLeftOf p.kernel q.kernel
+  pub notes : q.notes ≡ record p.notes { fault = Some f }
+
+-- chunks are handed out, those that a collector gathered
+pub record PartGives (k : Kind) (p : ShellPart) (given : List Table) (q : ShellPart) : Type 0 where
+  pub rows : given ≡ handed_out_by k (part_work p)
+  pub spec : q.kernel.spec ≡ p.kernel.spec
+  pub notes : q.notes ≡ p.notes
+  pub out : (k ≡ kind.Collect) × (q.kernel.stage.handed_out ≡ true) ⊎ (k ≢ kind.Collect) × (q ≡ p)

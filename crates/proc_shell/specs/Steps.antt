@@ -1,5 +1,5 @@
 -- What a shell holds, and what the steps of a prepare find and change at its ports.
-use Rattle.std.specs.Prelude.{◌≡◌, ℕ, ◌+◌, ◌<◌, ◌≤◌, nat_lt, Bool, length, true, false, ◌&&◌, cond, List, [], ◌∷◌, Option, Some, None}
+use Rattle.std.specs.Prelude.{◌≡◌, ℕ, ◌+◌, ◌<◌, ◌≤◌, nat_lt, Bool, length, true, false, ◌&&◌, not, cond, List, [], ◌∷◌, Option, Some, None}
 use Rattle.chunk_data.specs.Values.{Row, Table}
 use Rattle.port_word.specs.Names.{Picture, input_at, output_at, in_count, out_count, can_push, holds_data, is_in_finished, is_out_finished, closed, ChangedByCalls}
 use Rattle.port_word.specs.declared.port_view.InputPort.{InputPort}
@@ -7,6 +7,7 @@ use Rattle.proc_api.specs.Names.{RowCount, chunk_rows, pushes_to, raised, Finish
 use Rattle.proc_api.specs.declared.status.Answer.{Answer}
 use Rattle.proc_api.specs.declared.status.Answer.TheVariants.{Prepared, Scheduled}
 use Rattle.proc_api.specs.declared.status.Status.TheVariants as status
+use Rattle.proc_api.specs.declared.status.Wake.TheVariants as wake
 use Rattle.proc_api.proofs.Turns.{TurnsInput, needing}
 use Rattle.proc_shell.specs.declared.held.Held.{Held}
 use Rattle.proc_shell.specs.declared.held.Held.TheVariants.{Nothing, Unworked, Made}
@@ -39,11 +40,17 @@ is_unworked Nothing = false
 is_unworked (Unworked i c) = true
 is_unworked (Made c) = false
 
--- what isn't worked came from an input from which a chunk was wanted
-abbrev pub is_wanted : (ℕ → Bool) → Held → Bool
-is_wanted wants Nothing = true
-is_wanted wants (Unworked i c) = wants i && nat_lt i 32
-is_wanted wants (Made c) = true
+-- no chunk waits to be pushed
+abbrev pub not_made : Held → Bool
+not_made Nothing = true
+not_made (Unworked i c) = true
+not_made (Made c) = false
+
+-- what isn't worked came from an input from which a chunk was wanted, and a kind that makes none holds none
+abbrev pub is_wanted : (ℕ → Bool) → (makes : Bool) → Held → Bool
+is_wanted wants makes Nothing = true
+is_wanted wants makes (Unworked i c) = wants i && nat_lt i 32
+is_wanted wants makes (Made c) = makes
 
 -- a chunk that can be pushed has rows
 abbrev pub held_rows : List Row → Table → Held
@@ -54,11 +61,19 @@ abbrev pub held_option : Option Table → Held
 held_option None = Nothing
 held_option (Some t) = held_rows t.rows t
 
--- where `work` may be called no chunk waits to be pushed
+-- whether `work` or `schedule` may be called
+abbrev pub is_due : Option Answer → (acted : Bool) → Bool
+is_due (Some (Prepared status.Ready)) acted = not acted
+is_due (Some (Prepared status.Async)) acted = true
+is_due (Some (Scheduled wake.Ready)) acted = not acted
+is_due (Some (Scheduled wake.Later)) acted = true
+is_due a acted = false
+
+-- where one of them may be called no chunk waits to be pushed
 abbrev pub suits : Option Answer → Bool → Held → Bool
-suits (Some (Prepared status.Ready)) false (Made c) = false
-suits (Some (Scheduled wake)) acted h = false
-suits _ acted h = true
+suits a acted Nothing = true
+suits a acted (Unworked i c) = true
+suits a acted (Made c) = not (is_due a acted)
 
 -- the rows that were pulled in a prepare, by whether a chunk was unworked before it, and what is held after it
 abbrev pub rows_since : Bool → Held → ℕ

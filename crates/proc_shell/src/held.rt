@@ -1,12 +1,13 @@
 ghost use Rattle.std.specs.Prelude.{◌≡◌};
-ghost use Rattle.proc_shell.specs.Steps.{held_option, is_unworked, rows_since};
+ghost use Rattle.proc_shell.specs.Kernels.{chunk_list};
+ghost use Rattle.proc_shell.specs.Steps.{held_option, held_unworked, is_unworked, rows_since};
 
 use chunk_data::Chunk;
 
 /// What lies between the inputs and the outputs: nothing, a chunk of an input that isn't worked yet, or one that can
 /// be pushed.
 #[derive(Debug, Drop)]
-pub(crate) enum Held {
+pub enum Held {
     Nothing,
     Unworked(usize, Chunk),
     Made(Chunk),
@@ -45,5 +46,15 @@ pub(crate) fn rows_pulled(unworked: bool, held: &Held) -> usize
     match held {
         Held::Unworked(_, chunk) => chunk.rows(),
         _ => 0,
+    }
+}
+
+/// The chunk that isn't worked yet.
+pub(crate) fn unworked_of(held: Held) -> Option<Chunk>
+    ensures { chunk_list result ≡ held_unworked held }
+{
+    match held {
+        Held::Unworked(_, chunk) => Some(chunk),
+        _ => None,
     }
 }

@@ -1,14 +1,15 @@
-ghost use Rattle.std.specs.Prelude.{◌≡◌, ◌⊎◌, ◌↔◌, ◌<◌, ℕ, Bool, true, List, [], Some, None, IfOk, IsTrue};
+ghost use Rattle.std.specs.Prelude.{◌≡◌, ◌⊎◌, ◌↔◌, ◌<◌, ◌++◌, ℕ, Bool, true, false, List, [], Some, None, IfOk, IfErr, OnOk, IsTrue};
 ghost use Rattle.chunk_data.specs.Values.{Table};
 ghost use Rattle.query_model.specs.Kinds.{kind_of};
 ghost use Rattle.query_model.specs.declared.processor_spec.Kind as the_kind;
-ghost use Rattle.query_model.specs.declared.processor_spec.Spec as the_spec;
+ghost use Rattle.query_model.specs.declared.processor_spec.Kind.TheVariants as kind;
 ghost use Rattle.port_word.specs.Pictures.{in_count, out_count};
-ghost use Rattle.proc_api.specs.Names.{WorkState, OwnState, ArePortsOf, IsWorkOf, handed_out_by};
-ghost use Rattle.proc_shell.specs.Kernels.{Begins, IsShelled, Makes, Offers, Takes, work_with};
+ghost use Rattle.proc_api.specs.Names.{ArePortsOf, IsWorkOf};
+ghost use Rattle.proc_shell.specs.Kernels.{Begins, Fails, IsKernelOf, IsLeftOf, IsShelled, IsValid, KernelState, Makes, Offers, Reads, Takes, chunk_list, first_stage, work_of};
 
 use chunk_data::{Chunk, Memory};
 use port_word::PortView;
+use proc_api::WorkFault;
 use query_model::processor_spec::{Kind, Spec};
 use std::alloc::Global;
 
@@ -17,6 +18,10 @@ use std::alloc::Global;
 pub enum Offer {
     /// Rows can be made.
     Rows,
+    /// Its file isn't fetched whole.
+    Fetch,
+    /// A record of its file is left, which is a row or bad.
+    Record,
     /// It has read enough, and nothing is left to be made.
     Enough,
     /// It wants a chunk of the inputs that `wants` names. Where each of these is finished, all are, and it is done.
@@ -27,11 +32,11 @@ pub enum Offer {
 pub trait Kernel: Drop {
     ghost kind_is: { the_kind.Kind };
 
-    ghost spec_of: { Self → the_spec.Spec };
-
-    ghost own: { Self → OwnState };
+    ghost state: { Self → KernelState };
 
     ghost open_to: { Self → ℕ → Bool };
+
+    ghost makes: { Bool } = { true };
 
     fn kind() -> Kind
         ensures { result ≡ kind_is };
@@ -39,17 +44,19 @@ pub trait Kernel: Drop {
     /// A kernel that has made nothing.
     fn begin(alloc: Global, spec: Spec) -> Result<Self, Memory>
         requires { kind_of spec ≡ kind_is }
-        ensures { IfOk result (λ k. Begins spec (spec_of k) (own k)) };
+        ensures begins { IfOk result (λ k. Begins spec (state k).spec (state k).own) }
+        ensures stage { IfOk result (λ k. (state k).stage ≡ first_stage) };
 
     /// Whether so many ports are those of its spec.
     fn fits(&self, inputs: usize, outputs: usize) -> bool
-        ensures { IsTrue result ↔ ArePortsOf (Some (spec_of self.now)) None inputs outputs };
+        ensures { IsTrue result ↔ ArePortsOf (Some (state self.now).spec) None inputs outputs };
 
     /// What comes next, where nothing is held and there is room at an output. It takes no memory.
     fn offer(&mut self, view: &PortView) -> Offer
-        requires { ArePortsOf (Some (spec_of self.old)) None (in_count view.now) (out_count view.now) }
-        ensures spec { spec_of self.new ≡ spec_of self.old }
-        ensures offers { Offers (open_to self.new) (spec_of self.old) view.now (own self.old) (own self.new) result };
+        requires { ArePortsOf (Some (state self.old).spec) None (in_count view.now) (out_count view.now) }
+        ensures same { IsKernelOf (state self.old) (state self.new) }
+        ensures reads { Reads (state self.new) result }
+        ensures offers { Offers (open_to self.new) (state self.old).spec view.now (state self.old).own (state self.new).own result };
 
     /// Whether it wants a chunk of the input.
     fn wants(&self, input: usize) -> bool
@@ -57,19 +64,32 @@ pub trait Kernel: Drop {
 
     /// Works a chunk of an input from which one was wanted, and hands out what can be pushed now.
     fn take(&mut self, alloc: Global, input: usize, chunk: Chunk) -> Result<Option<Chunk>, Memory>
-        requires wanted { open_to self.old input ≡ true }
-        requires few { input < 32 }
-        ensures spec { spec_of self.new ≡ spec_of self.old }
-        ensures takes { IfOk result (Takes (spec_of self.old) (own self.old) input chunk (own self.new)) };
+        requires { input < 32 }
+        ensures same { IsKernelOf (state self.old) (state self.new) }
+        ensures none { IfOk result (λ o. makes ≡ false → o ≡ None) }
+        ensures takes { open_to self.old input ≡ true → IfOk result (Takes (state self.old).spec (state self.old).own input chunk (state self.new).own) };
 
     /// Makes a chunk of rows that can be made.
-    fn make(&mut self, alloc: Global) -> Result<Option<Chunk>, Memory>
-        ensures spec { spec_of self.new ≡ spec_of self.old }
-        ensures makes { IfOk result (Makes (spec_of self.old) (own self.old) (own self.new)) };
+    fn make(&mut self, alloc: Global) -> Result<Option<Chunk>, WorkFault>
+        ensures same { OnOk result (IsKernelOf (state self.old) (state self.new)) }
+        ensures left { IsLeftOf (state self.old) (state self.new) }
+        ensures makes { IfOk result (Makes (state self.old).spec (state self.old).own (state self.new).own) }
+        ensures none { IfOk result (λ o. makes ≡ false → o ≡ None) }
+        ensures valid { IfOk result (IsValid (state self.old)) }
+        ensures fails { IfErr result (Fails (state self.old)) };
 
-    ghost shelled: { (k : Self) → IsShelled (spec_of k) };
+    /// Hands out the chunks that it gathered, and behind them the one that isn't worked yet. Only a
+    /// collector is asked.
+    fn hand_out(&mut self, alloc: Global, last: Option<Chunk>) -> Vec<Chunk>
+        requires { (state self.old).stage.handed_out ≡ false }
+        ensures kind { (state self.new).kind ≡ (state self.old).kind }
+        ensures spec { (state self.new).spec ≡ (state self.old).spec }
+        ensures out { kind_is ≡ kind.Collect → (state self.new).stage.handed_out ≡ true }
+        ensures rows { kind_is ≡ kind.Collect → result.items ≡ (state self.old).own.gathered ++ chunk_list last };
 
-    ghost uses: { (k : Self) (i : ℕ) (unworked made : List Table) → ((i ≡ 0) × (unworked ≡ [])) ⊎ (open_to k i ≡ true) → IsWorkOf (Some (spec_of k)) (work_with (own k) i unworked made) };
+    ghost of_kind: { (k : Self) → ((state k).kind ≡ kind_is) × (kind_of (state k).spec ≡ kind_is) };
 
-    ghost hands_out_nothing: { (w : WorkState) → handed_out_by kind_is w ≡ [] };
+    ghost shelled: { (k : Self) → IsShelled (state k).spec };
+
+    ghost uses: { (k : Self) (i : ℕ) (unworked made : List Table) → ((i ≡ 0) × (unworked ≡ [])) ⊎ (open_to k i ≡ true) → (makes ≡ false → made ≡ []) → IsWorkOf (Some (state k).spec) (work_of (state k) i unworked made) };
 }

@@ -1,13 +1,21 @@
 ghost use Rattle.std.specs.Prelude.{◌≡◌, ◌↔◌, ℕ, ◌<◌, ◌≤◌, true, false, Some, None, IsTrue, IfSome};
 ghost use Rattle.port_word.specs.Pictures.{in_count, out_count};
 ghost use Rattle.proc_api.specs.Ports.{AllOutputsFinished, HasNoRoom};
+ghost use Rattle.proc_shell.specs.Turning.{IsCrowded, MayMake};
 ghost use Rattle.proc_shell.specs.Steps.{asked, AreWantedEmpty, AreWantedOver, ChangesInput, ChangesInputs, EndsOutputs, IsFree, IsWanted, IsWantedFull, shut_open, unasked};
 
 use crate::kernel::Kernel;
 use port_word::PortView;
 
-/// Whether each output was finished, by either end.
-pub(crate) fn all_finished(view: &PortView) -> bool
+/// Whether there is an output, and each was finished, by either end.
+pub(crate) fn is_over(view: &PortView) -> bool
+    ensures { IsTrue result ↔ ((0 < out_count view.now) × AllOutputsFinished view.now) }
+{
+    view.outputs() > 0 && all_finished(view)
+}
+
+// Whether each output was finished.
+fn all_finished(view: &PortView) -> bool
     ensures { IsTrue result ↔ AllOutputsFinished view.now }
 {
     for o in 0..view.outputs() {
@@ -29,6 +37,20 @@ pub(crate) fn free_output(view: &PortView) -> Option<usize>
         }
     }
     None
+}
+
+/// Whether there is room for what is made, or no output.
+pub(crate) fn may_make(view: &PortView) -> bool
+    ensures may { IsTrue result → MayMake view.now }
+    ensures full { result ≡ false → IsCrowded view.now }
+{
+    if view.outputs() == 0 {
+        return true;
+    }
+    match free_output(view) {
+        Some(_o) => true,
+        None => false,
+    }
 }
 
 /// The first wanted input with a chunk.

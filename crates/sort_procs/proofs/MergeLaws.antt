@@ -108,7 +108,7 @@ pub begins : (order : SortSpec) (heads : List Head) → AreBlank 32 heads
     → Begins (spec.MergeSorted order) (spec.MergeSorted order) (merging_own heads)
 begins order heads b = record {
   spec = refl;
-  nothing = (
+  nothing = λ files. (
     refl,
     merged-none order.keys (heads_of heads)
         (none-held heads (λ i lt. ap (λ (h : InputHead). h.rows) (b.each i)))
@@ -151,7 +151,7 @@ module _ (order : SortSpec) (v : Picture) (old new : List Head) (h : NotesEnds v
 
   leaves : Leaves (spec.MergeSorted order) (merging_own old) (merging_own new)
   leaves = record {
-    means = λ worked outs wait k. (
+    means = λ x worked outs wait k. (
       refl,
       merged-noted order.keys (heads_of old) (heads_of new) worked (chunk_rows (outs 0) ++ wait)
           lengths rows-same (λ j lt e. ended-at j lt ∙ or_left _ _ e) k.1,
@@ -236,7 +236,7 @@ module _ (order : SortSpec) (heads : List Head) (i : ℕ) (t : Table) (are : Are
   pub takes : is_used (at heads i) ≡ true → (at heads i).ended ≡ false
       → Takes (spec.MergeSorted order) (merging_own heads) i t (merging_own (set heads i new)) None
   takes used open' = record {
-    means = λ fits worked outs h. (
+    means = λ x fits worked outs h. (
       refl,
       subst (λ l. AreMerged order.keys l (with_chunk i t worked) (chunk_rows (outs 0) ++ []))
           (sym (map-set head_of heads i new))
@@ -428,7 +428,7 @@ pub makes : (order : SortSpec) (old new : List Head) (c : Table)
     → 0 < length (merging_own old).unmade → MergesSome order old new c
     → Makes (spec.MergeSorted order) (merging_own old) (merging_own new) (Some c)
 makes order old new c some p = record {
-  means = λ worked outs h. (
+  means = λ x worked outs h. (
     refl,
     subst (AreMerged order.keys (heads_of new) worked)
         (ap (λ l. l ++ c.rows) (append-nil (chunk_rows (outs 0))))

@@ -77,7 +77,7 @@ module _ (order : SortSpec) where
         → Offers wants (spec.Sort order) v (own was sorted) (own now sorted) f
     offers wants v was fin now sorted f z e one at comes = record {
       leaves = record {
-        means = λ worked outs wait h. subst (λ b. AreSorted keys (own b sorted)
+        means = λ x worked outs wait h. subst (λ b. AreSorted keys (own b sorted)
             (chunk_rows (worked 0)) (chunk_rows (outs 0) ++ wait)) (sym z)
             (goes-on was fin sorted e (chunk_rows (worked 0)) (chunk_rows (outs 0) ++ wait) h);
         stays_over = λ none ended. subst (λ b. ((own b sorted).unmade ≡ []) × (b ≡ true)) (sym z)
@@ -137,7 +137,7 @@ module _ (order : SortSpec) where
         → Makes (spec.Sort order) (own true true)
         (sorting_own keys true true places (next + count) rows) (Some c)
     makes-next count c e some types made = record {
-      means = λ worked outs h. record {
+      means = λ x worked outs h. record {
         gathered = λ f. absurd (cc);
         sorted = λ f. subst (IsSortOf keys (chunk_rows (worked 0)))
             (ap (λ l. l ++ left next) (append-nil (chunk_rows (outs 0)))
@@ -236,7 +236,7 @@ module _ (order : SortSpec) where
   pub makes-after : (a b c : OwnState) (t : Option Table) → PutsInOrder keys a b
       → Makes (spec.Sort order) b c t → Makes (spec.Sort order) a c t
   makes-after a b c t p m = record {
-    means = λ worked outs h. m.means worked outs
+    means = λ x worked outs h. m.means x worked outs
         (p.means (chunk_rows (worked 0)) (chunk_rows (outs 0) ++ []) h);
     types = m.types;
     sizes = m.sizes;

@@ -1,8 +1,7 @@
 -- The state of a merge, and what it makes of its heads.
 use Rattle.std.specs.Prelude.{◌≡◌, ◌⊎◌, ℕ, ◌<◌, ◌≤◌, max, Bool, true, List, ◌++◌, length, map}
 use Rattle.std.specs.List.{list_all}
-use Rattle.std.proofs.Common.{subst, sym}
-use Rattle.std.proofs.Math.Nat.{zero-lt-suc}
+use Rattle.std.proofs.Common.{refl}
 use Rattle.chunk_data.specs.Names.{AreColumns, Row, rows_of, Table, values}
 use Rattle.chunk_data.specs.declared.typed_column.Column.{Column}
 use Rattle.chunk_data.specs.declared.typed_value.SortKey.{SortKey}
@@ -11,7 +10,7 @@ use Rattle.query_model.specs.declared.processor_spec.Spec.TheVariants as spec
 use Rattle.proc_api.specs.Made.{AreMerged, OwnState, idle_own, ready_rows}
 use Rattle.proc_api.specs.Names.{Lists}
 use Rattle.proc_shell.specs.Kernels.{IsShelled}
-use Rattle.proc_shell.proofs.Through.{IsInOrder, pushes-in-order}
+use Rattle.proc_shell.proofs.Through.{IsInOrder, pushes-in-order, shelled-plain}
 use Rattle.sort_procs.specs.declared.heads.Head.{Head}
 use Rattle.sort_procs.specs.Heads.{at, heads_of, is_used}
 
@@ -43,21 +42,15 @@ pub record MergesSome (order : SortSpec) (old new : List Head) (t : Table) : Typ
 
 pub merge_order : (order : SortSpec) → IsInOrder (spec.MergeSorted order)
 merge_order order = record {
-  means = λ own worked made. (own.unmade ≡ ready_rows own.heads) × AreMerged order.keys own.heads
+  means = λ x own worked made. (own.unmade ≡ ready_rows own.heads) × AreMerged order.keys own.heads
       worked made;
-  into = λ own worked outs wait h. h;
-  from = λ own worked outs wait h. h;
+  into = λ x own worked outs wait h. h;
+  from = λ x own worked outs wait h. h;
 }
 
 pub merge_shelled : (order : SortSpec) → IsShelled (spec.MergeSorted order)
-merge_shelled order = record {
-  ungrown = λ growth m n h. h;
-  grown = λ growth m n h. h;
-  some_output = λ m n h. subst (λ k. 0 < k) (sym h) (zero-lt-suc 0);
-  still = λ kept m n had h stands. stands;
-  any_input = λ i j types h. h;
-  enough_one = λ ins enough m n h. h;
-  lets_push = pushes-in-order (spec.MergeSorted order) (merge_order order) (λ m n h. h);
-  into = λ p ins outs uses h. h;
-  from = λ p ins outs seen uses h. h;
-}
+merge_shelled order =
+    shelled-plain (spec.MergeSorted order) refl (λ growth m n h. h) (λ growth m n h. h)
+    (λ kept m n had h stands. stands) (λ i j types h. h) (λ ins enough m n h. h)
+    (pushes-in-order (spec.MergeSorted order) (merge_order order) (λ m n h. h))
+    (λ p ins outs uses h. h) (λ p ins outs seen uses h. h)

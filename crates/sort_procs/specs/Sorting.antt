@@ -1,5 +1,6 @@
 -- The state of a sort.
 use Rattle.std.specs.Prelude.{◌≡◌, ℕ, Bool, true, false, cond, List, [], ◌∷◌, drop}
+use Rattle.std.proofs.Common.{refl}
 use Rattle.std.specs.Ordering.{is_lt}
 use Rattle.chunk_data.specs.Values.{Row, Table, row_cmp}
 use Rattle.chunk_data.specs.declared.typed_value.SortKey.{SortKey}
@@ -34,13 +35,13 @@ pub record PutsInOrder (keys : List SortKey) (old new : OwnState) : Type 0 where
 
 pub sort_order : (order : SortSpec) → IsInOrder (spec.Sort order)
 sort_order order = record {
-  means = λ own worked made. AreSorted order.keys own (chunk_rows (worked 0)) made;
-  into = λ own worked outs wait h. h;
-  from = λ own worked outs wait h. h;
+  means = λ x own worked made. AreSorted order.keys own (chunk_rows (worked 0)) made;
+  into = λ x own worked outs wait h. h;
+  from = λ x own worked outs wait h. h;
 }
 
 pub sort_shelled : (order : SortSpec) → IsShelled (spec.Sort order)
 sort_shelled order =
-    shelled-of (spec.Sort order) 1
+    shelled-of (spec.Sort order) 1 refl
     (record { ports = λ growth m n h. h; counts = λ growth m n h. h }) (sort_order order)
     (λ i j types h. h) (λ p ins outs uses h. h) (λ p ins outs seen uses h. h)

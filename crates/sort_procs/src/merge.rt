@@ -6,6 +6,7 @@ use crate::heads::{Head, can_make, note_ends};
 use crate::merged_rows::merge_chunk;
 use chunk_data::{Chunk, Memory};
 use port_word::PortView;
+use proc_api::WorkFault;
 use proc_shell::{Kernel, Offer, Shell};
 use query_model::processor_spec::{Kind, SortSpec, Spec};
 use std::alloc::Global;
@@ -42,21 +43,20 @@ impl Kernel for Merging {
     ghost use Rattle.std.specs.Prelude.{refl};
     ghost use Rattle.query_model.specs.declared.processor_spec.Kind.TheVariants as kind;
     ghost use Rattle.query_model.specs.declared.processor_spec.Spec.TheVariants as spec;
+    ghost use Rattle.proc_shell.specs.Kernels.{kernel_of};
     ghost use Rattle.sort_procs.specs.Merging.{is_open_at, merge_shelled, merging_own};
 
     ghost kind_is = { kind.MergeSorted };
 
-    ghost spec_of = { λ k. spec.MergeSorted k.order };
-
-    ghost own = { λ k. merging_own k.heads.items };
+    ghost state = { λ k. kernel_of kind.MergeSorted (spec.MergeSorted k.order) (merging_own k.heads.items) };
 
     ghost open_to = { λ k. is_open_at k.heads.items };
 
     ghost shelled = { λ k. merge_shelled k.order };
 
-    ghost uses = { λ k i unworked made e. refl };
+    ghost uses = { λ k i unworked made e m. refl };
 
-    ghost hands_out_nothing = { λ w. refl };
+    ghost of_kind = { λ k. (refl, refl) };
 
     fn kind() -> Kind {
         Kind::MergeSorted
@@ -111,11 +111,18 @@ impl Kernel for Merging {
         Ok(None)
     }
 
-    fn make(&mut self, alloc: Global) -> Result<Option<Chunk>, Memory> {
+    fn make(&mut self, alloc: Global) -> Result<Option<Chunk>, WorkFault> {
         if !can_make(self.heads.as_slice()) {
             return Ok(None);
         }
-        let chunk = merge_chunk(alloc, self.heads.as_mut_slice(), &self.order)?;
-        Ok(Some(chunk))
+        match merge_chunk(alloc, self.heads.as_mut_slice(), &self.order) {
+            Ok(chunk) => Ok(Some(chunk)),
+            Err(_) => Err(WorkFault::Memory),
+        }
+    }
+
+    // Only a collector's shell hands chunks out.
+    fn hand_out(&mut self, alloc: Global, _last: Option<Chunk>) -> Vec<Chunk> {
+        Vec::new(alloc)
     }
 }

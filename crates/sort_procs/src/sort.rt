@@ -8,6 +8,7 @@ use crate::fitting::fits_order;
 use crate::ranks::{Ranked, gather_ranked, places_in_order};
 use chunk_data::{Chunk, Memory};
 use port_word::PortView;
+use proc_api::WorkFault;
 use proc_shell::{Kernel, Offer, Shell};
 use query_model::processor_spec::{Kind, SortSpec, Spec};
 use std::alloc::Global;
@@ -115,22 +116,21 @@ impl Sorting {
 impl Kernel for Sorting {
     ghost use Rattle.std.specs.Prelude.{refl, ◌==◌};
     ghost use Rattle.query_model.specs.declared.processor_spec.Kind.TheVariants as kind;
+    ghost use Rattle.proc_shell.specs.Kernels.{kernel_of};
     ghost use Rattle.sort_procs.specs.Sorting.{sort_shelled};
     ghost use Rattle.sort_procs.specs.Sorted.{own_of, sort_of};
 
     ghost kind_is = { kind.Sort };
 
-    ghost spec_of = { sort_of };
-
-    ghost own = { own_of };
+    ghost state = { λ k. kernel_of kind.Sort (sort_of k) (own_of k) };
 
     ghost open_to = { λ k i. i == 0 };
 
     ghost shelled = { λ k. sort_shelled k.order };
 
-    ghost uses = { λ k i unworked made e. refl };
+    ghost uses = { λ k i unworked made e m. refl };
 
-    ghost hands_out_nothing = { λ w. refl };
+    ghost of_kind = { λ k. (refl, refl) };
 
     fn kind() -> Kind {
         Kind::Sort
@@ -190,13 +190,21 @@ impl Kernel for Sorting {
         }
     }
 
-    fn make(&mut self, alloc: Global) -> Result<Option<Chunk>, Memory> {
+    fn make(&mut self, alloc: Global) -> Result<Option<Chunk>, WorkFault> {
         if !self.can_make() {
             return Ok(None);
         }
         match self.put_in_order(alloc) {
-            Ok(()) => self.next_chunk(alloc),
-            Err(memory) => Err(memory),
+            Ok(()) => match self.next_chunk(alloc) {
+                Ok(made) => Ok(made),
+                Err(_) => Err(WorkFault::Memory),
+            },
+            Err(_) => Err(WorkFault::Memory),
         }
+    }
+
+    // Only a collector's shell hands chunks out.
+    fn hand_out(&mut self, alloc: Global, _last: Option<Chunk>) -> Vec<Chunk> {
+        Vec::new(alloc)
     }
 }

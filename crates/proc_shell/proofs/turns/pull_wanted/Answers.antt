@@ -8,8 +8,8 @@ use Rattle.proc_shell.proofs.turns.pull_wanted.Goals as goal
 
 pub returns-in-Some-pull-clause-moves : goal.returns-in-Some-pull-clause-moves
 returns-in-Some-pull-clause-moves g c =
-    subst (λ h. Moves (g.K.Kernel.spec_of c.args.kernel.now) (g.K.Kernel.own c.args.kernel.now) h (Unworked c.in-Some.input c.in-Some-pull.chunk) c.args.view.now c.pull.new.self Ready) (sym c.requires.nothing)
-    (moves-pull (g.K.Kernel.spec_of c.args.kernel.now) (g.K.Kernel.own c.args.kernel.now) c.args.view.now (g.K.Kernel.open_to c.args.kernel.now) c.pull.new.self c.in-Some.input c.in-Some-pull.chunk c.requires.room c.in-Some.ensures.full
+    subst (λ h. Moves (g.K.Kernel.state c.args.kernel.now) h (Unworked c.in-Some.input c.in-Some-pull.chunk) c.args.view.now c.pull.new.self Ready) (sym c.requires.nothing)
+    (moves-pull (g.K.Kernel.state c.args.kernel.now) c.args.view.now (g.K.Kernel.open_to c.args.kernel.now) c.pull.new.self c.in-Some.input c.in-Some-pull.chunk c.requires.room c.in-Some.ensures.full
     (sym (c.pull.ensures.taken (ap is_some c.in-Some-pull.is)) ∙ c.in-Some-pull.is) c.pull.ensures.after)
 
 pub returns-in-Some-pull-clause-wanted : goal.returns-in-Some-pull-clause-wanted
@@ -19,6 +19,6 @@ returns-in-Some-pull-clause-wanted g c =
 
 pub returns-in-Some-open_input-clause-moves : goal.returns-in-Some-open_input-clause-moves
 returns-in-Some-open_input-clause-moves g c =
-    subst (λ h. Moves (g.K.Kernel.spec_of c.args.kernel.now) (g.K.Kernel.own c.args.kernel.now) h h c.args.view.now c.ask_each.new.view NeedData) (sym c.requires.nothing)
-    (moves-ask (g.K.Kernel.spec_of c.args.kernel.now) (g.K.Kernel.own c.args.kernel.now) c.args.view.now (g.K.Kernel.open_to c.args.kernel.now) c.ask_each.new.view c.in-Some-open_input._input c.requires.room c.requires.comes
+    subst (λ h. Moves (g.K.Kernel.state c.args.kernel.now) h h c.args.view.now c.ask_each.new.view NeedData) (sym c.requires.nothing)
+    (moves-ask (g.K.Kernel.state c.args.kernel.now) c.args.view.now (g.K.Kernel.open_to c.args.kernel.now) c.ask_each.new.view c.in-Some-open_input._input c.requires.room c.requires.comes
     (c.in_default.ensures.none refl) c.in-Some-open_input.ensures.wanted c.ask_each.ensures)

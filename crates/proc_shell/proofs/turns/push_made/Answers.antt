@@ -1,7 +1,8 @@
-use Rattle.std.proofs.Common.{refl, sym, subst}
+use Rattle.std.proofs.Common.{◌≡◌, refl, sym, subst, arith}
+use Rattle.port_word.specs.Pictures.{out_count}
 use Rattle.proc_shell.specs.declared.held.Held.TheVariants.{Made}
 use Rattle.proc_shell.specs.Turning.{Pushes}
-use Rattle.proc_shell.proofs.PushLaws.{never-made, pushes-none, pushes-one}
+use Rattle.proc_shell.proofs.PushLaws.{never-made, pushes-none, pushes-nowhere, pushes-one}
 use Rattle.proc_shell.proofs.turns.push_made.Goals as goal
 
 pub returns-in-Some : goal.returns-in-Some
@@ -10,10 +11,18 @@ returns-in-Some c =
     (subst (λ k. Pushes (Made c.in-Made.chunk) k c.args.view.now c.push.new.self) (sym c.replace.ensures.after)
     (pushes-one c.in-Made.chunk c.args.view.now c.push.new.self c.in-Some.o c.requires c.in-Some.ensures.free c.push.ensures.after))
 
-pub returns-in-None : goal.returns-in-None
-returns-in-None c =
+pub returns-then-outputs-gt0 : goal.returns-then-outputs-gt0
+returns-then-outputs-gt0 c =
     subst (λ h. Pushes h (Made c.in-Made.chunk) c.args.view.now c.args.view.now) c.in-Made.ensures.value
-    (pushes-none (Made c.in-Made.chunk) c.args.view.now c.requires (λ lt. c.in-None.ensures.none refl))
+    (pushes-none (Made c.in-Made.chunk) c.args.view.now c.requires
+    (λ lt. record { some = omega (arith, c.outputs.ensures.count, c.if-outputs-gt0.true); none = c.in-None.ensures.none refl }))
+
+pub returns-else-outputs-gt0 : goal.returns-else-outputs-gt0
+returns-else-outputs-gt0 c =
+    let none : out_count c.args.view.now ≡ 0 = omega (arith, c.outputs.ensures.count, c.if-outputs-gt0.false) in
+    subst (λ h. Pushes h c.replace.new.dest c.args.view.now c.args.view.now) c.in-Made.ensures.value
+    (subst (λ k. Pushes (Made c.in-Made.chunk) k c.args.view.now c.args.view.now) (sym c.replace.ensures.after)
+    (pushes-nowhere c.in-Made.chunk c.args.view.now c.requires none))
 
 pub returns-in_default : goal.returns-in_default
 returns-in_default c =

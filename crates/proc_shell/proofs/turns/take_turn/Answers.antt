@@ -1,21 +1,33 @@
-use Rattle.std.proofs.Common.{refl, inl}
+use Rattle.std.proofs.Common.{sym, ◌∙◌, inl}
 use Rattle.proc_shell.proofs.PortMoves.{unless-true}
-use Rattle.proc_shell.proofs.TurnLaws.{busy-held, leaves-same, moves-full, moves-work}
+use Rattle.proc_shell.proofs.TurnLaws.{leaves-same, moves-close, idle-nothing, moves-full, moves-work, turns-offered}
 use Rattle.proc_shell.proofs.turns.take_turn.Goals as goal
 
-pub returns-in_default-clause-turns : goal.returns-in_default-clause-turns
-returns-in_default-clause-turns g c = record {
-  leaves = leaves-same (g.K.Kernel.spec_of c.args.kernel.now) (g.K.Kernel.own c.args.kernel.now);
-  moves = moves-full (g.K.Kernel.spec_of c.args.kernel.now) (g.K.Kernel.own c.args.kernel.now) c.args.view.now c.args.held.now c.ask_none.new.view
-      (unless-true c.all_finished.result c.all_finished.ensures c.if-all_finished.false) (c.in_default.ensures.none refl) c.ask_none.ensures;
+pub returns-then-is_over-clause-turns : goal.returns-then-is_over-clause-turns
+returns-then-is_over-clause-turns g c = record {
+  leaves = leaves-same (g.K.Kernel.state c.args.kernel.now).spec (g.K.Kernel.state c.args.kernel.now).own;
+  moves = moves-close (g.K.Kernel.state c.args.kernel.now) c.args.view.now c.args.held.now c.close_each.new.view (c.is_over.ensures.0 c.if-is_over.true) c.close_each.ensures;
+  ends = λ i lt n. inl n;
+}
+
+pub returns-then-not-may_make-clause-turns : goal.returns-then-not-may_make-clause-turns
+returns-then-not-may_make-clause-turns g c = record {
+  leaves = leaves-same (g.K.Kernel.state c.args.kernel.now).spec (g.K.Kernel.state c.args.kernel.now).own;
+  moves = moves-full (g.K.Kernel.state c.args.kernel.now) c.args.view.now c.args.held.now c.ask_none.new.view
+      (unless-true c.is_over.result c.is_over.ensures c.if-is_over.false) (c.may_make.ensures.full c.if-not-may_make.true) c.ask_none.ensures;
   ends = λ i lt n. inl n;
 }
 
 pub returns-then-not-is_idle-clause-turns : goal.returns-then-not-is_idle-clause-turns
 returns-then-not-is_idle-clause-turns g c = record {
-  leaves = leaves-same (g.K.Kernel.spec_of c.args.kernel.now) (g.K.Kernel.own c.args.kernel.now);
-  moves = moves-work (g.K.Kernel.spec_of c.args.kernel.now) (g.K.Kernel.own c.args.kernel.now) c.args.view.now c.args.held.now
-      (record { output = c.in-Some._o; in_range = c.in-Some.ensures.free.in_range; room = c.in-Some.ensures.free.room; unfinished = c.in-Some.ensures.free.unfinished })
-      (busy-held c.args.held.now c.is_idle.result c.is_idle.ensures c.if-not-is_idle.true) c.requires.pushed;
+  leaves = leaves-same (g.K.Kernel.state c.args.kernel.now).spec (g.K.Kernel.state c.args.kernel.now).own;
+  moves = moves-work (g.K.Kernel.state c.args.kernel.now) c.args.view.now c.args.held.now (c.may_make.ensures.may c.if-not-may_make.false)
+      (sym c.is_idle.ensures ∙ c.if-not-is_idle.true) c.requires.pushed;
   ends = λ i lt n. inl n;
 }
+
+pub returns-clause-turns : goal.returns-clause-turns
+returns-clause-turns g c =
+    turns-offered (g.K.Kernel.state c.args.kernel.now) (g.K.Kernel.state c.offer-offer.new.self) (g.K.Kernel.open_to c.offer-offer.new.self) c.offer-offer.result c.args.held.now c.follow.new.held
+    c.args.view.now c.follow.new.view c.follow.result c.offer-offer.ensures.same c.offer-offer.ensures.offers c.follow.ensures.moves (idle-nothing c.args.held.now (sym c.is_idle.ensures ∙ c.if-not-is_idle.false))
+    (unless-true c.is_over.result c.is_over.ensures c.if-is_over.false)

@@ -1,18 +1,35 @@
-use Rattle.std.proofs.Common.{refl, ◌∙◌, sym}
+use denote.Enum.Bare.{differs_true, differs_false}
+use Rattle.std.proofs.Common.{Some, ◌∙◌, sym}
 use Rattle.std.specs.Option.{option_map}
+use Rattle.query_model.specs.contracts.processor_spec.Kind as kinds
+use Rattle.query_model.specs.declared.processor_spec.Kind.TheVariants as kind
 use Rattle.outside_io.specs.Told.{files_of}
-use Rattle.csv_procs.proofs.LoadingLaws.{loads, wrong-kind}
+use Rattle.proc_shell.specs.Shells.{part}
+use Rattle.csv_procs.specs.Parts.{parsing}
+use Rattle.proc_shell.proofs.BoxLaws.{loads, none-mapped, wrong-kind}
 use Rattle.csv_procs.proofs.csv_source.CsvSourceProcessor.load.Goals as goal
 
-pub returns-in-Some-clause-ok : goal.returns-in-Some-clause-ok
-returns-in-Some-clause-ok g c =
-    rw (← c.self.view_is) (loads (option_map files_of (g.R.FileReader.files c.self.inside.reader)) (g.R.FileReader.faults c.self.inside.reader) (g.R.FileReader.pendings c.self.inside.reader) c.self.inside.loaded c.args.spec c.in-Csv.part
-    c.in-Some.loaded (sym c.is_some.ensures ∙ c.if-is_some.false) c.in-Csv.is c.in-Some.ensures)
+pub returns-then-ne-clause-refused : goal.returns-then-ne-clause-refused
+returns-then-ne-clause-refused g c =
+    let d = Some (record {
+      files = option_map files_of (g.R.FileReader.files c.self.inside.reader);
+      faults = g.R.FileReader.faults c.self.inside.reader;
+      pendings = g.R.FileReader.pendings c.self.inside.reader;
+    }) in
+    let parts = option_map (λ l. part (parsing l.kernel.part l.kernel.state) l.held l.notes) c.self.inside.loaded in
+    rw (← c.self.view_is) (wrong-kind kind.Csv d c.self.inside.pulled parts c.args.spec
+    (none-mapped (λ l. part (parsing l.kernel.part l.kernel.state) l.held l.notes) c.self.inside.loaded (sym c.is_some.ensures ∙ c.if-is_some.false))
+    (λ e. differs_true kinds.the_type c.kind.result kind.Csv (sym c.ne.ensures ∙ c.if-ne.true) (c.kind.ensures ∙ e)))
 
-pub returns : goal.returns
-returns g c = record {
-  ok = tt;
-  refused = rw (← c.self.view_is) (wrong-kind (option_map files_of (g.R.FileReader.files c.self.inside.reader)) (g.R.FileReader.faults c.self.inside.reader) (g.R.FileReader.pendings c.self.inside.reader) c.self.inside.loaded c.args.spec
-      (sym c.is_some.ensures ∙ c.if-is_some.false) c.in_default.not-Csv);
-  unchanged = refl;
-}
+pub returns-in-Ok-clause-ok : goal.returns-in-Ok-clause-ok
+returns-in-Ok-clause-ok g c =
+    let d = Some (record {
+      files = option_map files_of (g.R.FileReader.files c.self.inside.reader);
+      faults = g.R.FileReader.faults c.self.inside.reader;
+      pendings = g.R.FileReader.pendings c.self.inside.reader;
+    }) in
+    let parts = option_map (λ l. part (parsing l.kernel.part l.kernel.state) l.held l.notes) c.self.inside.loaded in
+    rw (← c.self.view_is) (loads kind.Csv d c.self.inside.pulled c.begin.new.self parts c.args.spec
+    (part (parsing c.in-Ok.loaded.kernel.part c.in-Ok.loaded.kernel.state) c.in-Ok.loaded.held c.in-Ok.loaded.notes)
+    (none-mapped (λ l. part (parsing l.kernel.part l.kernel.state) l.held l.notes) c.self.inside.loaded (sym c.is_some.ensures ∙ c.if-is_some.false))
+    (sym c.kind.ensures ∙ differs_false kinds.the_type tt c.kind.result kind.Csv (sym c.ne.ensures ∙ c.if-ne.false)) c.in-Ok.ensures c.begin.ensures)

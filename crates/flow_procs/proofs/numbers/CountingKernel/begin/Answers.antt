@@ -1,3 +1,4 @@
+use Rattle.std.proofs.Common.{refl}
 use Rattle.flow_procs.proofs.CountingLaws.{begins}
 use Rattle.flow_procs.proofs.numbers.CountingKernel.begin.Goals.{in-Numbers, in_default}
 use Rattle.flow_procs.proofs.numbers.CountingKernel.begin.Goals as goal
@@ -5,6 +6,6 @@ use Rattle.flow_procs.proofs.numbers.CountingKernel.begin.Goals as goal
 pub returns : goal.returns
 returns c =
     elim c.match-spec.branch [
-      | in-Numbers w ↦ rw w.result-is (begins c.args.spec w.in-Numbers.end w.in-Numbers.rows w.in-Numbers.is)
-      | in_default w ↦ rw w.result-is tt
+      | in-Numbers w ↦ rw w.result-is record { begins = begins c.args.spec w.in-Numbers.end w.in-Numbers.rows w.in-Numbers.is; stage = refl }
+      | in_default w ↦ rw w.result-is record { begins = tt; stage = tt }
     ]

@@ -6,8 +6,8 @@ use Rattle.sort_procs.proofs.MergeLaws.{takes}
 use Rattle.sort_procs.proofs.merge.MergingKernel.take.Goals as goal
 
 pub returns-clause-takes : goal.returns-clause-takes
-returns-clause-takes c =
+returns-clause-takes c = λ wanted.
     let s = c.args.self.now in
-    takes s.order s.heads.items c.args.input c.args.chunk s.are c.requires.few c.requires.wanted
+    takes s.order s.heads.items c.args.input c.args.chunk s.are c.requires wanted
     (ap (λ (h : Head). h.ended) (sym (get_or_read s.heads.items c.args.input c.index.result.now
-    (omega (arith, c.requires.few, s.are.count)) c.index.ensures no_head)) ∙ c.if-index.false)
+    (omega (arith, c.requires, s.are.count)) c.index.ensures no_head)) ∙ c.if-index.false)

@@ -1,0 +1,58 @@
+-- A collector hands out the chunks that it pulled.
+use Rattle.std.proofs.Common.{◌≡◌, ◌⊎◌, ℕ, ◌==◌, cond, Bool, true, false, List, [], ◌∷◌, ◌++◌, Some, None, refl, sym, ap, ◌∙◌, arith}
+use Rattle.chunk_data.specs.Values.{Table}
+use Rattle.query_model.specs.declared.processor_spec.Spec.TheVariants as spec
+use Rattle.proc_api.specs.Names.{BoxPicture, Lists, kept_output, own_of, IsWorkOf, KeepsCollect}
+use Rattle.proc_shell.specs.Kernels.{HasSpecView, IsShelled, KeepsMeant, Takes, gathered_own, gathering, work_of}
+use Rattle.proc_shell.proofs.Through.{chunk-here, first-source, here-unworked, last-here, spec-output, split-here}
+
+into-collect : (p : BoxPicture) (ins outs : Lists) → IsWorkOf (Some spec.Collect) p.work → KeepsMeant spec.Collect p ins outs → KeepsCollect p ins
+into-collect p ins outs uses t =
+    let here = here-unworked p (ap (λ w. w.source) uses) ins t.worked t.ins_are in
+    record {
+      gathered = λ out. ap (λ own. own.gathered) t.shows ∙ ap (λ l. l ++ p.work.unworked) t.rows ∙ sym here;
+      last = last-here p.work.unworked (t.worked 0) (ins 0) here;
+    }
+
+-- it has no output that it could have finished
+never-finished : {X : Type 0} (p : BoxPicture) → HasSpecView spec.Collect p → (o : ℕ) → (kept_output p o).fin_out ≡ true → X
+never-finished p seen o fin = let x = spec-output spec.Collect p seen o fin in let none = x.ports.1 in let lt = x.within in absurd (omega (arith, none, lt))
+
+from-collect : (p : BoxPicture) (ins outs : Lists) → HasSpecView spec.Collect p → IsWorkOf (Some spec.Collect) p.work → p.work.handed_out ≡ false → KeepsCollect p ins → KeepsMeant spec.Collect p ins outs
+from-collect p ins outs seen uses out k =
+    let x = split-here p ins (ap (λ w. w.source) uses) k.last in
+    record {
+      own = record (own_of p.work) { gathered = x.worked 0 };
+      shows = ap (λ l. record (own_of p.work) { gathered = l }) (k.gathered out ∙ x.split);
+      worked = x.worked;
+      ins_are = x.ins_are;
+      rows = refl;
+      over = λ o fin. never-finished p seen o fin;
+      read = λ o fin. tt;
+    }
+
+-- a chunk more is gathered
+pub takes-gathered : (chunks : List Table) (i : ℕ) (t : Table) → i ≡ 0 → Takes spec.Collect (gathered_own chunks) i t (gathered_own (chunks ++ t ∷ [])) None
+takes-gathered chunks i t z = record {
+  means = λ x fits worked outs h. ap (λ l. l ++ t ∷ []) h ∙ sym (chunk-here 0 t worked) ∙ ap (λ n. worked 0 ++ cond (0 == n) (t ∷ []) []) (sym z);
+  types = λ ins pulled. tt;
+  sizes = tt;
+  ends = λ i n. n;
+}
+
+pub collect_uses : (chunks : List Table) (handed_out : Bool) (i : ℕ) (unworked made : List Table) → ((i ≡ 0) × (unworked ≡ [])) ⊎ ((i == 0) ≡ true) → made ≡ []
+    → IsWorkOf (Some spec.Collect) (work_of (gathering chunks handed_out) i unworked made)
+collect_uses chunks handed_out i unworked made e none =
+    first-source (gathering chunks handed_out) i unworked made e ∙ ap (λ l. work_of (gathering chunks handed_out) 0 unworked l) none
+
+pub collect_shelled : IsShelled spec.Collect
+collect_shelled = record {
+  ungrown = λ growth m n h. h;
+  grown = λ growth m n h. h;
+  still = λ kept m n had h stands. (h.0 ∙ sym had.0, h.1 ∙ sym had.1);
+  any_input = λ i j types h. tt;
+  enough_one = λ ins enough m n h. absurd enough;
+  lets_push = λ x own worked outs more inputs outputs o pushed rest ports by others h. h;
+  into = λ p ins outs uses sizes t. into-collect p ins outs uses t;
+  from = from-collect;
+}
