@@ -1,34 +1,13 @@
 -- The columns of a table that a query names are those of the table that its plan reads, and its
 -- checked types are those of the rows that its items make.
-use Rattle.std.proofs.Common.{◌≡◌, ℕ, zero, suc, ◌+◌, ◌<◌, Bool, true, false, cond, List, [], ◌∷◌, ◌++◌, length, length-append, append_assoc, map, filter, Option, Some, None, refl, sym, ap, ap₂, subst, ◌∙◌, arith}
-use Rattle.std.specs.Prelude.{bytes_eq, find, not, slice_get, slice_index_or, ◌==◌}
-use Rattle.std.specs.List.{All, list_all}
-use Rattle.std.proofs.lemmas.List.{get_or_at, length-map}
-use Rattle.std.proofs.lemmas.List.Elements.{All-cons, All-head, All-nil, All-tail}
-use Rattle.chunk_data.specs.declared.typed_value.ColumnType.{ColumnType}
+use Rattle.std.proofs.Common.{Bool, List, None, Option, Some, [], ap, append_assoc, ap₂, arith, bytes_eq, cond, false, filter, find, length, length-append, map, not, refl, slice_get, slice_index_or, subst, suc, sym, true, zero, ℕ, ◌++◌, ◌+◌, ◌<◌, ◌==◌, ◌∙◌, ◌∷◌, ◌≡◌}
+use Rattle.plan_ends.proofs.Prelude.{All, All-cons, All-head, All-nil, All-tail, AreColumnsFrom, ArePlainItems, Checked, ColumnDecl, ColumnType, EachWith, Expr, FromColumn, IsChecked, IsOfKind, IsPlacedItem, IsShape, IsTypedQuery, Item, ItemKind, Items, Listed, OrderKey, Plain, Query, Schema, SortKey, Star, TableDecl, TableRef, accepted, all_fit, ambiguous_column, bad_join_key, bad_order_key, both, columns_if, every_column, expr_columns, expr_is_of_kind, expr_kind, first_of_all, from_columns, from_types, get_or_at, is_grouped, is_typed, item_kind, item_names, known_type, length-map, list_all, listed, none_found, not_grouped, output_names, output_types, place_in, place_of, refusal_of, sort_key, table_columns, too_wide, type_mismatch, type_of, typed, types_declared, types_of, unfit, unknown_column, unknown_table, use_of, used_types}
 use Rattle.chunk_data.specs.declared.typed_value.ColumnType.TheVariants as column
-use Rattle.chunk_data.specs.declared.typed_value.SortKey.{SortKey}
-use Rattle.query_model.specs.Names.{AreColumnsFrom, ArePlainItems, EachWith, Expr, IsChecked, IsPlacedItem, IsShape, IsTypedQuery, from_types, is_grouped, known_type, output_types, place_in, place_of, sort_key, type_of, types_of, use_of}
-use Rattle.query_model.specs.Refusals.{FromColumn, Kind, ambiguous_column, bad_join_key, bad_order_key, columns_if, expr_columns, expr_kind, first_of_all, from_columns, is_typed, item_kind, item_names, listed, not_grouped, output_names, plain, refusal_of, table_columns, too_wide, type_mismatch, typed, unfit, unknown_column, unknown_table}
-use Rattle.query_model.specs.declared.query.ColumnDecl.{ColumnDecl}
+use Rattle.query_model.specs.Refusals.{Kind, plain}
 use Rattle.query_model.specs.declared.query.ExprOf.TheVariants as expr
-use Rattle.query_model.specs.declared.query.Item.{Item}
-use Rattle.query_model.specs.declared.query.ItemKind.{ItemKind}
 use Rattle.query_model.specs.declared.query.ItemKind.TheVariants as kind
-use Rattle.query_model.specs.declared.query.Items.{Items}
-use Rattle.query_model.specs.declared.query.Items.TheVariants.{Star, Listed}
-use Rattle.query_model.specs.declared.query.OrderKey.{OrderKey}
-use Rattle.query_model.specs.declared.query.Query.{Query}
 use Rattle.query_model.specs.declared.query.Refusal.TheVariants as refuse
-use Rattle.query_model.specs.declared.query.Schema.{Schema}
-use Rattle.query_model.specs.declared.query.TableDecl.{TableDecl}
-use Rattle.query_model.specs.declared.query.TableRef.{TableRef}
 use Rattle.query_model.specs.declared.query.TableRef.TheVariants as table
-use Rattle.query_model.specs.declared.checked.Checked.{Checked}
-use Rattle.query_model.specs.declared.checked.Shape.TheVariants.{Plain}
-use Rattle.query_model.proofs.Accepted.{accepted, all_fit, none_found}
-use Rattle.query_model.proofs.TypedQueries.{IsOfKind, both, every_column, expr_is_of_kind}
-use Rattle.select_planner.specs.Steps.{types_declared, used_types}
 
 types_kept : (table : List ℕ) (cs : List ColumnDecl)
     → map (λ (c : FromColumn). c.type)
@@ -201,10 +180,8 @@ module _ (q : Query) (schemas : List Schema) (c : Checked) (none : refusal_of q 
   typed-select ungrouped query = record {
     typed = query;
     items = λ items shape. is.types ∙ output-types columns q.items items
-        (subst (λ s. IsShape q columns false s) shape
-        (subst (λ b. IsShape q columns b c.shape) ungrouped is.shape))
+        (rw shape at (subst (λ b. IsShape q columns b c.shape) ungrouped is.shape))
         (all_fit q schemas (accepted q schemas none)).items;
-    keys = subst (All Within) (sym is.order) (keys-within q.order
-        (none_found is_no_name (λ (key : OrderKey). refuse.BadOrderKey key.name) q.order
-        well-ordered));
+    keys = rw is.order (keys-within q.order (none_found is_no_name
+        (λ (key : OrderKey). refuse.BadOrderKey key.name) q.order well-ordered));
   }

@@ -1,24 +1,8 @@
 -- The rows that the nodes of each kind pulled in a run of a query's plan are the kind's flow.
-use Rattle.std.proofs.Common.{◌≡◌, ℕ, suc, ◌+◌, Bool, true, false, cond, Option, Some, None, List, [], ◌∷◌, ◌++◌, length, drop, get_or, map, refl, sym, ap, ap₂, subst, ◌∙◌, arith, IfSome, length-append}
-use Rattle.std.proofs.lemmas.List.{length-map}
-use Rattle.std.proofs.lemmas.List.Sums.{sum_by-cons, sum_by-append}
-use Rattle.chunk_data.specs.Values.{Row}
-use Rattle.chunk_data.specs.declared.typed_value.ColumnType.{ColumnType}
-use Rattle.chunk_data.specs.declared.typed_value.SortKey.{SortKey}
-use Rattle.query_model.specs.Names.{output_rows, Cond, Expr, rows_where, flow, groups_tested, if_grouped, if_ordered, if_plain, item_row, rows_joined, rows_tested, selected_rows, kind_of, Database, filtered_rows, source_rows, source_table, used_table}
-use Rattle.query_model.specs.declared.checked.Checked.{Checked}
-use Rattle.query_model.specs.declared.processor_spec.SortSpec.{SortSpec}
-use Rattle.query_model.specs.declared.processor_spec.Spec.{Spec}
-use Rattle.query_model.specs.declared.checked.Shape.TheVariants.{Plain}
-use Rattle.query_model.specs.declared.processor_spec.Kind.{Kind}
+use Rattle.plan_ends.proofs.Prelude.{Checked, ColumnType, Cond, Database, DraftNode, Expr, IsTold, Kind, NodeForm, NodePort, Parts, Plain, Row, SelectPlan, SortKey, Stream, all_rows, body_nodes, by-forms, collect_node, counted, filter_pulls, filtered_rows, flow, forms, gather_pulls, groups_tested, if_grouped, if_ordered, if_plain, item_row, join_pulls, kind_of, length-map, none-of, of_kind, order_of, output_rows, plan_nodes, plan_pulls, ports_of, pulled_rows, pulls, read_rows, rows_joined, rows_of, rows_tested, rows_where, same_kind, selected_rows, shape_pulls, source_rows, source_table, sum_by-append, sum_by-cons, used_table}
+use Rattle.std.proofs.Common.{Bool, IfSome, List, None, Option, Some, [], ap, ap₂, arith, cond, false, length, length-append, map, refl, suc, sym, true, ℕ, ◌++◌, ◌+◌, ◌∙◌, ◌∷◌, ◌≡◌}
 use Rattle.query_model.specs.declared.processor_spec.Kind.TheVariants as kind
 use Rattle.query_model.specs.declared.processor_spec.Spec.TheVariants as spec
-use Rattle.proc_api.specs.Racks.{same_kind}
-use Rattle.plan_graph.specs.Drafts.{ports_of}
-use Rattle.plan_graph.specs.declared.nodes.DraftNode.{DraftNode}
-use Rattle.plan_graph.specs.declared.nodes.NodePort.{NodePort}
-use Rattle.plan_meaning.specs.Names.{counted, of_kind, IsTold, SelectPlan, body_nodes, collect_node, filter_pulls, gather_pulls, join_pulls, plan_nodes, plan_pulls, pulls, read_rows, shape_pulls, pulled_rows, NodeForm, forms, node_form, Parts, Stream, all_rows, rows_of}
-use Rattle.select_planner.specs.Steps.{order_of}
 use Rattle.plan_ends.specs.Ended.{IsSimple}
 use Rattle.plan_ends.proofs.NodeKinds.{kind-same}
 
@@ -40,18 +24,12 @@ module _ (k : Kind) (f : NodePort → Stream) where
   -- copies pull the same
   pulled-same : (n : ℕ) (xs ys : List DraftNode) → forms xs ≡ forms ys
       → pulled_rows k n xs f ≡ pulled_rows k n ys f
-  pulled-same n [] [] e = refl
-  pulled-same n [] (y ∷ ys) e =
-      let count = ap (λ (l : List NodeForm). length l) e in absurd (omega (arith, count))
-  pulled-same n (x ∷ xs) [] e =
-      let count = ap (λ (l : List NodeForm). length l) e in absurd (omega (arith, count))
-  pulled-same n (x ∷ xs) (y ∷ ys) e =
-      let form : node_form x ≡ node_form y = ap (λ l. get_or l 0 (node_form x)) e in
-      ap₂ (λ a b. a + b)
+  pulled-same n xs ys e =
+      by-forms (λ xs ys. (n : ℕ) → pulled_rows k n xs f ≡ pulled_rows k n ys f) (λ n. refl)
+      (λ x y xs ys same rest n. ap₂ (λ a b. a + b)
       (ap₂ (λ j m. cond (same_kind j k) (length (all_rows (rows_of (map f (ports_of n 0 m))))) 0)
-      (kind-same x.spec y.spec (ap (λ (z : NodeForm). z.spec) form))
-      (ap (λ (z : NodeForm). z.takes) form))
-      (pulled-same (suc n) xs ys (ap (λ (l : List NodeForm). drop 1 l) e))
+      (kind-same x.spec y.spec (ap (λ (z : NodeForm). z.spec) same))
+      (ap (λ (z : NodeForm). z.takes) same)) (rest (suc n))) xs ys e n
 
   -- nothing is pulled where there is no node of the kind
   none-pulled : (n : ℕ) (nodes : List DraftNode) → counted (of_kind k) nodes ≡ 0
@@ -126,10 +104,27 @@ module _ (p : SelectPlan) (parts : Parts) (nodes : List DraftNode) (f : NodePort
       (join : q.join ≡ None) (items : List Expr) (shape : q.shape ≡ Plain items)
       (types : List ColumnType) (chunk_rows : ℕ)
       (order : p.order ≡ order_of types chunk_rows q.order) where
+    tests : (k : Kind) (c : Option Cond) (l : List Row)
+        → filter_pulls k c (length l) ≡ cond (same_kind kind.Filter k) (rows_tested c l) 0
+    tests k None l = sym (none-of (same_kind kind.Filter k))
+    tests k (Some c) l = refl
+
+    orders : (k : Kind) (keys : List SortKey) (n : ℕ)
+        → gather_pulls k (order_of types chunk_rows keys) n
+        ≡ cond (same_kind kind.Sort k) (if_ordered keys n) 0
+        + cond (same_kind kind.MergeSorted k) (if_ordered keys n) 0
+    orders k [] n = omega (
+      arith,
+      none-of (same_kind kind.Sort k),
+      none-of (same_kind kind.MergeSorted k),
+    )
+    orders k (key ∷ keys) n = refl
+
     told-pulled : (k : Kind) → IsTold k → pulled_rows k 0 nodes f
-        ≡ filter_pulls k q.filter (length (source_rows q db))
+        ≡ cond (same_kind kind.Filter k) (rows_tested q.filter (source_rows q db)) 0
         + (pulls k (spec.Expression simple.items) (length (filtered_rows q db))
-        + gather_pulls k p.order (length (filtered_rows q db)))
+        + (cond (same_kind kind.Sort k) (if_ordered q.order (length (output_rows q db))) 0
+        + cond (same_kind kind.MergeSorted k) (if_ordered q.order (length (output_rows q db))) 0))
         + cond (same_kind kind.Collect k) (length rows) 0
     told-pulled k told =
         let all = all-pulled k in
@@ -137,94 +132,27 @@ module _ (p : SelectPlan) (parts : Parts) (nodes : List DraftNode) (f : NodePort
         let over = ap₂ (λ (c : Option Cond) (l : List Row). filter_pulls k c (length l)
         + (pulls k (spec.Expression simple.items) (length (rows_where c l))
         + gather_pulls k p.order (length (rows_where c l)))) filter read in
-        omega (arith, all, plan, over)
-
-    no-filter : (k : Kind) (c : Option Cond) (n : ℕ) → same_kind kind.Filter k ≡ false
-        → filter_pulls k c n ≡ 0
-    no-filter k None n e = refl
-    no-filter k (Some c) n e = ap (λ b. cond b n 0) e
-
-    no-gather : (k : Kind) (o : Option SortSpec) (n : ℕ) → same_kind kind.Sort k ≡ false
-        → same_kind kind.MergeSorted k ≡ false → gather_pulls k o n ≡ 0
-    no-gather k None n e f = refl
-    no-gather k (Some s) n e f = ap₂ (λ a b. cond a n 0 + cond b n 0) e f
-
-    -- a sort and a merge have as many rows as there are, where there are keys
-    ordered-rows : (k : Kind) → ((s : SortSpec) (n : ℕ) → gather_pulls k (Some s) n ≡ n)
-        → gather_pulls k p.order (length (filtered_rows q db))
-        ≡ if_ordered q.order (length (output_rows q db))
-    ordered-rows k each =
-        ap (λ o. gather_pulls k o (length (filtered_rows q db))) order ∙ go q.order
-        ∙ ap (if_ordered q.order) (sym (length-map (filtered_rows q db) (item_row items))
+        let made = sym (length-map (filtered_rows q db) (item_row items))
         ∙ ap (λ s. length (selected_rows s (source_table q db).types (filtered_rows q db)))
-        (sym shape))
-      where
-        go : (keys : List SortKey)
-            → gather_pulls k (order_of types chunk_rows keys) (length (filtered_rows q db))
-            ≡ if_ordered keys (length (filtered_rows q db))
-        go [] = refl
-        go (key ∷ keys) =
-            each (record { keys = key ∷ keys; types = types; rows = chunk_rows })
-            (length (filtered_rows q db))
-
-    filter-tests : (c : Option Cond) (l : List Row)
-        → filter_pulls kind.Filter c (length l) ≡ rows_tested c l
-    filter-tests None l = refl
-    filter-tests (Some c) l = refl
-
-    -- a kind that neither tests rows nor puts them in order
-    others-pulled : (k : Kind) → IsTold k → same_kind kind.Filter k ≡ false
-        → same_kind kind.Sort k ≡ false → same_kind kind.MergeSorted k ≡ false
-        → pulled_rows k 0 nodes f
-        ≡ pulls k (spec.Expression simple.items) (length (filtered_rows q db))
-        + cond (same_kind kind.Collect k) (length rows) 0
-    others-pulled k told untested unsorted unmerged =
-        let all = told-pulled k told in
-        let tests = no-filter k q.filter (length (source_rows q db)) untested in
-        let gather = no-gather k p.order (length (filtered_rows q db)) unsorted unmerged in
-        omega (arith, all, tests, gather)
+        (sym shape) in
+        let sorts = ap₂ (gather_pulls k) order made
+        ∙ orders k q.order (length (output_rows q db)) in
+        omega (arith, all, plan, over, tests k q.filter (source_rows q db), sorts)
 
     pub flow-pulled : (k : Kind)
         → IfSome (flow k q db rows) (λ n. pulled_rows k 0 nodes f ≡ n)
     flow-pulled kind.Csv = tt
     flow-pulled kind.List = tt
     flow-pulled kind.Numbers = tt
-    flow-pulled kind.Filter =
-        let all = told-pulled kind.Filter (record { no_resize = refl; no_merge = refl }) in
-        let tests = filter-tests q.filter (source_rows q db) in
-        let none = ap (λ s. groups_tested s (source_table q db).types (filtered_rows q db)) shape in
-        let gather = no-gather kind.Filter p.order (length (filtered_rows q db)) refl refl in
-        omega (arith, all, tests, none, gather)
-    flow-pulled kind.Expression =
-        let all = others-pulled kind.Expression (record { no_resize = refl; no_merge = refl }) refl
-        refl refl in
-        let none = ap (λ s. if_grouped s (length (output_rows q db))) shape in
-        omega (arith, all, none)
     flow-pulled kind.Resize = tt
-    flow-pulled kind.PartialAggregate =
-        let all = others-pulled kind.PartialAggregate
-        (record { no_resize = refl; no_merge = refl }) refl refl refl in
-        let none = ap (λ s. if_grouped s (length (filtered_rows q db))) shape in
-        omega (arith, all, none)
     flow-pulled kind.MergeAggregate = tt
-    flow-pulled kind.HashJoin =
-        let all = others-pulled kind.HashJoin (record { no_resize = refl; no_merge = refl }) refl
-        refl refl in
-        let none = ap (λ j. rows_joined j db (used_table db q.from).rows) join in
-        omega (arith, all, none)
-    flow-pulled kind.Sort =
-        let all = told-pulled kind.Sort (record { no_resize = refl; no_merge = refl }) in
-        let tests = no-filter kind.Sort q.filter (length (source_rows q db)) refl in
-        let sorts = ordered-rows kind.Sort (λ s n. let e : n + 0 ≡ n = omega arith in e) in
-        omega (arith, all, tests, sorts)
-    flow-pulled kind.MergeSorted =
-        let all = told-pulled kind.MergeSorted (record { no_resize = refl; no_merge = refl }) in
-        let tests = no-filter kind.MergeSorted q.filter (length (source_rows q db)) refl in
-        let merges = ordered-rows kind.MergeSorted (λ s n. let e : 0 + n ≡ n = omega arith in e) in
-        let plain = ap (λ s. if_ordered q.order (if_plain s (length (output_rows q db)))) shape in
-        omega (arith, all, tests, merges, plain)
     flow-pulled kind.Limit = tt
-    flow-pulled kind.Collect =
-        let all = others-pulled kind.Collect (record { no_resize = refl; no_merge = refl }) refl refl
-        refl in
-        omega (arith, all)
+    flow-pulled k =
+        let all = told-pulled k (record { no_resize = refl; no_merge = refl }) in
+        let tested = ap (λ s. groups_tested s (source_table q db).types (filtered_rows q db))
+        shape in
+        let grouped = ap (λ s. if_grouped s (length (filtered_rows q db))) shape in
+        let made = ap (λ s. if_grouped s (length (output_rows q db))) shape in
+        let joined = ap (λ j. rows_joined j db (used_table db q.from).rows) join in
+        let merged = ap (λ s. if_ordered q.order (if_plain s (length (output_rows q db)))) shape in
+        omega (arith, all, tested, grouped, made, joined, merged)

@@ -1,23 +1,7 @@
 -- What a kind keeps is what it gives, a kind at a time.
-use Rattle.std.proofs.Common.{◌≡◌, ◌⊎◌, ap₂, append_assoc, drop, take, not, ◌==◌, ℕ, suc, zero, ◌+◌, ◌<◌, ◌≤◌, Bool, true, false, Some, List, [], ◌∷◌, ◌++◌, length, map, filter, get_or, refl, sym, ap, subst, ◌∙◌, arith, inl, inr}
-use Rattle.std.specs.Prelude.{is_none}
-use Rattle.std.specs.List.{All, AllByRecursion, Any}
-use Rattle.std.proofs.lemmas.Bool.{cases_eq, cases_lt, cond_both, and_parts, both_ways, not-true, not_from_false, false_from_ne_true}
-use Rattle.std.proofs.lemmas.List.{append-nil, length-map, get_or-map}
-use Rattle.std.proofs.lemmas.List.Concat.{flat_map-append}
-use Rattle.std.proofs.lemmas.List.Elements.{All-nil, All-head, All-tail, All-from_recursion, recursion_from_All}
-use Rattle.chunk_data.specs.Values.{Row, Table}
-use Rattle.chunk_data.specs.declared.typed_value.ColumnType.{ColumnType}
-use Rattle.query_model.specs.Names.{Cond, Expr, holds, type_of, item_row, limited, numbers, IsItem, IsTypedCond, Files, file_bytes}
-use Rattle.query_model.specs.declared.query.Span.{Span}
-use Rattle.query_model.specs.declared.processor_spec.PartSpec.{PartSpec}
-use Rattle.query_model.specs.declared.processor_spec.Spec.{Spec}
+use Rattle.std.proofs.Common.{Bool, List, Some, [], ap, append_assoc, ap₂, arith, false, filter, get_or, inl, inr, is_none, length, map, not, refl, subst, suc, sym, true, zero, ℕ, ◌++◌, ◌+◌, ◌<◌, ◌==◌, ◌∙◌, ◌∷◌, ◌≡◌, ◌≤◌, ◌⊎◌}
+use Rattle.plan_ends.proofs.Prelude.{All, All-from_recursion, All-head, All-nil, All-tail, AllByRecursion, AllFit, Any, ArePartBytes, BoxPicture, ColumnType, Cond, Expr, Files, FitFrom, FitsInput, Gives, GivesFront, GivesPart, GivesThrough, HasReadEnough, IsItem, IsPulled, IsTypedCond, Keeps, KeepsMade, KeepsPart, KeepsRows, KeepsThrough, Lists, MakesType, MakesTypes, NodePort, PartSpec, Row, Span, Spec, Table, WorkState, and_parts, append-nil, both_ways, cases_eq, cases_lt, chunk_rows, cond_both, false_from_ne_true, file_bytes, flat_map-append, get_or-map, holds, item_row, kept_input, kept_output, kept_outputs, length-map, limited, limited-extends, no-rest, no_table, not-true, not_from_false, numbers, ports_of, pulled_types, recursion_from_All, type_of, unworked_at}
 use Rattle.query_model.specs.declared.processor_spec.Spec.TheVariants as spec
-use Rattle.proc_api.specs.Names.{BoxPicture, WorkState, kept_input, kept_output, kept_outputs, Lists, chunk_rows, unworked_at, Keeps, KeepsRows, KeepsMade, KeepsThrough, KeepsPart, AllFit, FitsInput, HasReadEnough, ArePartBytes, MakesTypes, IsPulled, no_table}
-use Rattle.plan_graph.specs.Drafts.{ports_of}
-use Rattle.plan_graph.specs.declared.nodes.NodePort.{NodePort}
-use Rattle.plan_meaning.specs.Names.{Gives, GivesFront, GivesPart, GivesThrough, GivesIf, MakesType, pulled_types}
-use Rattle.plan_meaning.proofs.Fronts.{no-rest}
 use Rattle.plan_ends.specs.Ended.{BoxGives, part_in, parts_of, chunk_types, in_stream, out_stream, IsKept, KindGives}
 
 -- a box that finished an output which nobody closed has closed no input, but for a limit that has
@@ -87,8 +71,7 @@ pub one-fits : (s : Spec) (P : List ColumnType → Type 0) (ins : Lists)
 one-fits s P ins same past h zero = λ k d lt. same 0 (get_or (ins 0) k d).types
     (types-fit P (ins 0) h k d lt)
 one-fits s P ins same past h (suc i) =
-    subst (λ l. All (λ (t : Table). FitsInput (Some s) (suc i) t.types) l)
-    (sym (past (suc i) (omega arith))) (All-nil (λ (t : Table). FitsInput (Some s) (suc i) t.types))
+    rw (past (suc i) (omega arith)) (All-nil (λ (t : Table). FitsInput (Some s) (suc i) t.types))
 
 any-front : {X : Type 0} (P : X → Type 0) (xs ys : List X) (k : ℕ) (y : X) → k < length xs
     → get_or xs k y ≡ y → P y → Any P (xs ++ ys)
@@ -140,12 +123,13 @@ is-among Q p ins n takes types past w q = elim (cases_lt w.input takes) [
 -- ---- kinds
 
 -- the chunks of an output are what the kind makes of these types, where the contract says so
-pub made-typed : (s : Spec) (p : BoxPicture) (ins outs : Lists) (from : List (List ColumnType))
-    (o : ℕ) → p.spec ≡ Some s → Keeps p ins outs
+pub made-typed : {s : Spec} {files : Files} {takes gives : ℕ} {p : BoxPicture} {ins outs : Lists}
+    → IsKept s files takes gives p ins outs → (from : List (List ColumnType)) (o : ℕ)
     → ((t : List ColumnType) → MakesTypes (Some s) ins t → MakesType s from t)
     → AllByRecursion (MakesType s from) (chunk_types (outs o))
-made-typed s p ins outs from o e k makes =
-    go (outs o) (subst (λ z. All (λ (t : Table). MakesTypes z ins t.types) (outs o)) e (k.types o))
+made-typed {s} {ins = ins} {outs} k from o makes =
+    go (outs o) (subst (λ z. All (λ (t : Table). MakesTypes z ins t.types) (outs o)) k.loaded
+    (k.keeps.types o))
   where
     go : (chunks : List Table) → All (λ (t : Table). MakesTypes (Some s) ins t.types) chunks
         → AllByRecursion (MakesType s from) (chunk_types chunks)
@@ -155,10 +139,27 @@ made-typed s p ins outs from o e k makes =
       go chunks (All-tail (λ (t : Table). MakesTypes (Some s) ins t.types) c chunks h),
     )
 
+-- what is kept of a kind, where each chunk that was pulled fits
+pub kept-rows : {s : Spec} {files : Files} {takes gives : ℕ} {p : BoxPicture} {ins outs : Lists}
+    → IsKept s files takes gives p ins outs → AllFit (Some s) ins → KeepsRows (Some s) p ins outs
+kept-rows {p = p} {ins} {outs} k = subst (λ z. AllFit z ins → KeepsRows z p ins outs) k.loaded
+    k.keeps.rows
+
+-- a kind of one output, by what it gives and the types that it makes
+pub one-output : {s : Spec} {files : Files} {takes : ℕ} (n : ℕ) {p : BoxPicture} {ins outs : Lists}
+    → IsKept s files takes 1 p ins outs
+    → (FitFrom s 0 (map (λ (q : NodePort). in_stream p ins q.port) (ports_of n 0 takes))
+    → Gives (parts_of files) s (map (λ (q : NodePort). in_stream p ins q.port) (ports_of n 0 takes))
+    (out_stream p outs 0 ∷ []))
+    → ((t : List ColumnType) → MakesTypes (Some s) ins t → MakesType s
+    (pulled_types (map (λ (q : NodePort). in_stream p ins q.port) (ports_of n 0 takes))) t)
+    → BoxGives s files takes 1 n p ins outs
+one-output n k gives makes =
+    record { gives = gives; typed = λ fit. (made-typed k _ 0 makes, tt) }
+
 -- a kind of one input and one output that makes each chunk's rows one by one
-through-kind : (make : List Row → List Row) (s : Spec) (P : List ColumnType → Type 0)
-    (files : Files)
-    (p : BoxPicture) (ins outs : Lists)
+through-kind : (make : List Row → List Row) (s : Spec) (P : List ColumnType → Type 0) (n : ℕ)
+    {files : Files} {p : BoxPicture} {ins outs : Lists}
     → make [] ≡ [] → ((i : ℕ) (t : List ColumnType) → P t → FitsInput (Some s) i t)
     → (AllByRecursion (FitsInput (Some s) 0) (chunk_types (ins 0))
     → AllByRecursion P (chunk_types (ins 0)))
@@ -168,29 +169,20 @@ through-kind : (make : List Row → List Row) (s : Spec) (P : List ColumnType �
     → Gives (parts_of files) s (in_stream p ins 0 ∷ []) (out_stream p outs 0 ∷ []))
     → ((t : List ColumnType) → MakesTypes (Some s) ins t
     → MakesType s (chunk_types (ins 0) ++ []) t)
-    → IsKept s files 1 1 p ins outs
-    → GivesIf (parts_of files) s (in_stream p ins 0 ∷ []) (out_stream p outs 0 ∷ [])
-through-kind make s P files p ins outs none same from unlimited keeps gives makes k =
-    let some : 0 < kept_outputs p = let e = k.outputs in omega (arith, e) in
-    record {
-      gives = λ fit.
-          let all : AllFit (Some s) ins = one-fits s P ins same k.nothing_past (from fit.0) in
-          gives (through-gives make p ins outs none k.keeps
-          (keeps (subst (λ z. AllFit z ins → KeepsRows z p ins outs) k.loaded k.keeps.rows all))
-          (subst (λ z. HasReadEnough z ins → ⊥) (sym k.loaded) unlimited) some);
-      typed = λ fit. (
-        made-typed s p ins outs (chunk_types (ins 0) ++ []) 0 k.loaded k.keeps makes,
-        tt,
-      );
-    }
+    → IsKept s files 1 1 p ins outs → BoxGives s files 1 1 n p ins outs
+through-kind make s P n {p = p} {ins} {outs} none same from unlimited keeps gives makes k =
+    one-output n k
+    (λ fit. gives (through-gives make p ins outs none k.keeps
+    (keeps (kept-rows k (one-fits s P ins same k.nothing_past (from fit.0))))
+    (subst (λ z. HasReadEnough z ins → ⊥) (sym k.loaded) unlimited)
+    (let e = k.outputs in omega (arith, e)))) makes
 
 -- with as many ports as the spec says
-pub at-ports : (s : Spec) (files : Files) (n takes gives m o : ℕ) (p : BoxPicture)
-    (ins outs : Lists)
-    → takes ≡ m → gives ≡ o
+pub at-ports : {s : Spec} {files : Files} (n : ℕ) {takes gives : ℕ} (m o : ℕ) {p : BoxPicture}
+    {ins outs : Lists} → takes ≡ m → gives ≡ o
     → (IsKept s files m o p ins outs → BoxGives s files m o n p ins outs)
     → IsKept s files takes gives p ins outs → BoxGives s files takes gives n p ins outs
-at-ports s files n takes gives m o p ins outs e f h =
+at-ports {s} {files} n {gives = gives} m o {p} {ins} {outs} e f h =
     let F : ℕ → ℕ → Type 0 =
     (λ x y. IsKept s files x y p ins outs → BoxGives s files x y n p ins outs) in
     subst (λ x. F x gives) (sym e) (subst (λ y. F m y) (sym f) h)
@@ -198,35 +190,28 @@ at-ports s files n takes gives m o p ins outs e f h =
 -- A filter gives the rows at which its condition is true.
 pub filter-gives : (c : Cond) → KindGives (spec.Filter c)
 filter-gives c files takes gives n p ins outs k =
-    at-ports (spec.Filter c) files n takes gives 1 1 p ins outs k.ports.0 k.ports.1
-    (λ h. through-kind (filter (holds c)) (spec.Filter c) (λ t. IsTypedCond t c) files p ins outs
-    refl
+    at-ports n 1 1 k.ports.0 k.ports.1
+    (λ h. through-kind (filter (holds c)) (spec.Filter c) (λ t. IsTypedCond t c) n refl
     (λ i t x. x) (λ x. x) (λ x. x) (λ x. x) (λ x. x)
     (λ t w. is-among (λ u. t ≡ u) p ins n 1 t h.nothing_past w.pulled refl) h) k
 
 -- An expression gives the row of its items' values for each row.
 pub expression-gives : (items : List Expr) → KindGives (spec.Expression items)
 expression-gives items files takes gives n p ins outs k =
-    at-ports (spec.Expression items) files n takes gives 1 1 p ins outs k.ports.0 k.ports.1
-    (λ h. through-kind (map (item_row items)) (spec.Expression items) (λ t. All (IsItem t) items)
-    files
-    p ins outs refl (λ i t x. x) (λ x. x) (λ x. x) (λ x. x) (λ x. x)
+    at-ports n 1 1 k.ports.0 k.ports.1
+    (λ h. through-kind (map (item_row items)) (spec.Expression items) (λ t. All (IsItem t) items) n
+    refl (λ i t x. x) (λ x. x) (λ x. x) (λ x. x) (λ x. x)
     (λ t w. is-among (λ u. t ≡ map (λ e. type_of e u) items) p ins n 1 w.from h.nothing_past
     w.pulled w.is) h) k
 
 -- A source gives the good rows of its part.
 pub part-gives : (part : PartSpec) → KindGives (spec.Csv part)
 part-gives part files takes gives n p ins outs k =
-    at-ports (spec.Csv part) files n takes gives 0 1 p ins outs k.ports.0 k.ports.1
-    (λ h. record {
-      gives = λ fit. rows h p.work.fetched refl;
-      typed = λ fit.
-          (made-typed (spec.Csv part) p ins outs [] 0 h.loaded h.keeps (λ t e. e), tt);
-    }) k
+    at-ports n 0 1 k.ports.0 k.ports.1
+    (λ h. one-output n h (λ fit. rows h p.work.fetched refl) (λ t e. e)) k
   where
     keeps : IsKept (spec.Csv part) files 0 1 p ins outs → KeepsPart part p outs
-    keeps h = subst (λ s. AllFit s ins → KeepsRows s p ins outs) h.loaded h.keeps.rows
-        (λ i d x lt. tt)
+    keeps h = kept-rows h (λ i d x lt. tt)
 
     rows : IsKept (spec.Csv part) files 0 1 p ins outs → (b : Bool) → p.work.fetched ≡ b
         → GivesPart (parts_of files part) (out_stream p outs 0)
@@ -254,26 +239,15 @@ part-gives part files takes gives n p ins outs k =
               ap is_none (sym r.bad ∙ ((keeps h).finished (and_parts _ _ done).0).valid);
         })
 
--- what is kept of a kind, where each chunk that was pulled fits
-pub kept-rows : (s : Spec) (files : Files) (takes gives : ℕ) (p : BoxPicture) (ins outs : Lists)
-    → IsKept s files takes gives p ins outs → AllFit (Some s) ins → KeepsRows (Some s) p ins outs
-kept-rows s files takes gives p ins outs k =
-    subst (λ z. AllFit z ins → KeepsRows z p ins outs) k.loaded k.keeps.rows
-
 -- Numbers count up.
 pub numbers-gives : (count rows : ℕ) → KindGives (spec.Numbers count rows)
 numbers-gives count rows files takes gives n p ins outs k =
-    let s : Spec = spec.Numbers count rows in
-    at-ports s files n takes gives 0 1 p ins outs k.ports.0 k.ports.1
+    at-ports n 0 1 k.ports.0 k.ports.1
     (λ h.
-    let m : KeepsMade s p ins outs = kept-rows s files 0 1 p ins outs h (λ i d x lt. tt) in
-    record {
-      gives = λ fit. front-of (numbers count).rows p.work.unmade p outs
-          (sym (append_assoc (chunk_rows (outs 0)) (chunk_rows p.work.made) p.work.unmade)
-          ∙ m.rows)
-          (λ f. let end = m.over 0 f in (end.nothing_waits, end.all_made));
-      typed = λ fit. (made-typed s p ins outs [] 0 h.loaded h.keeps (λ t e. e), tt);
-    }) k
+    let m : KeepsMade (spec.Numbers count rows) p ins outs = kept-rows h (λ i d x lt. tt) in
+    one-output n h (λ fit. front-of (numbers count).rows p.work.unmade p outs
+    (sym (append_assoc (chunk_rows (outs 0)) (chunk_rows p.work.made) p.work.unmade) ∙ m.rows)
+    (λ f. let end = m.over 0 f in (end.nothing_waits, end.all_made))) (λ t e. e)) k
 
 -- where no chunk is unworked, none of any input is
 pub all-worked-at : (w : WorkState) (i : ℕ) → w.unworked ≡ [] → unworked_at w i ≡ []
@@ -282,82 +256,48 @@ all-worked-at w i e =
 
 -- ---- limits
 
--- more rows in, more rows behind those of the span
-record MoreLimited (span : Span) (xs ys : List Row) : Type 0 where
-  pub rest : List Row
-  pub is : limited (Some span) xs ++ rest ≡ limited (Some span) (xs ++ ys)
-
-limited-more : (span : Span) (xs ys : List Row) → MoreLimited span xs ys
-limited-more span xs ys =
-    let d = drop-more span.skip xs ys in
-    let t = take-more span.count (drop span.skip xs) d.0 in
-    record { rest = t.0; is = t.1 ∙ ap (take span.count) d.1 }
-  where
-    drop-more : (n : ℕ) (xs ys : List Row) → (rest : List Row)
-        × (drop n xs ++ rest ≡ drop n (xs ++ ys))
-    drop-more zero xs ys = (ys, refl)
-    drop-more (suc n) [] ys = (drop (suc n) ys, refl)
-    drop-more (suc n) (x ∷ xs) ys = drop-more n xs ys
-
-    take-more : (n : ℕ) (xs ys : List Row) → (rest : List Row)
-        × (take n xs ++ rest ≡ take n (xs ++ ys))
-    take-more zero xs ys = ([], refl)
-    take-more (suc n) [] ys = (take (suc n) ys, refl)
-    take-more (suc n) (x ∷ xs) ys =
-        let more = take-more n xs ys in
-        (more.0, ap (λ l. x ∷ l) more.1)
-
 limit-front : (span : Span) (p : BoxPicture) (ins outs : Lists)
     → KeepsMade (spec.Limit span) p ins outs
     → GivesFront (limited (Some span) (chunk_rows (ins 0))) (out_stream p outs 0)
 limit-front span p ins outs m =
     let done : List Row = chunk_rows (m.worked 0) in
     let others : List Row = chunk_rows (unworked_at p.work 0) in
-    let more : MoreLimited span done others = limited-more span done others in
+    let more = limited-extends span done others in
     let all : done ++ others ≡ chunk_rows (ins 0) =
     sym (flat_map-append (λ (t : Table). t.rows) (m.worked 0) (unworked_at p.work 0))
     ∙ ap chunk_rows (sym (m.ins_are 0)) in
-    front-of (limited (Some span) (chunk_rows (ins 0))) more.rest p outs
-    (sym (append_assoc (chunk_rows (outs 0)) (chunk_rows p.work.made) more.rest)
-    ∙ ap (λ l. l ++ more.rest) m.rows.made_are
-    ∙ more.is ∙ ap (limited (Some span)) all)
+    front-of (limited (Some span) (chunk_rows (ins 0))) more.0 p outs
+    (sym (append_assoc (chunk_rows (outs 0)) (chunk_rows p.work.made) more.0)
+    ∙ ap (λ l. l ++ more.0) m.rows.made_are
+    ∙ more.1 ∙ ap (limited (Some span)) all)
     (λ f.
     let end = m.over 0 f in
     let none : others ≡ [] =
     ap chunk_rows (all-worked-at p.work 0 end.all_worked) in (
       end.nothing_waits,
-      no-rest (limited (Some span) done) more.rest
-          (limited (Some span) (done ++ others)) more.is
+      no-rest (limited (Some span) done) more.0
+          (limited (Some span) (done ++ others)) more.1
           (ap (limited (Some span)) (sym (append-nil done) ∙ ap (λ l. done ++ l) (sym none))),
     ))
 
 -- A limit gives the rows of its span.
 pub limit-gives : (span : Span) → KindGives (spec.Limit span)
 limit-gives span files takes gives n p ins outs k =
-    let s : Spec = spec.Limit span in
-    at-ports s files n takes gives 1 1 p ins outs k.ports.0 k.ports.1
+    at-ports n 1 1 k.ports.0 k.ports.1
     (λ h.
     let some : 0 < kept_outputs p = let e = h.outputs in omega (arith, e) in
-    record {
-      gives = λ fit. record {
-        front = limit-front span p ins outs
-            (kept-rows s files 1 1 p ins outs h (λ i d x lt. tt));
-        input_done = λ done. elim (open-or-enough p ins outs 0 0 h.keeps some done) [
-          | inl open' ↦ inl open'
-          | inr enough ↦ inr (subst (λ z. HasReadEnough z ins) h.loaded enough)
-        ];
-      };
-      typed = λ fit. (
-        made-typed s p ins outs (chunk_types (ins 0) ++ []) 0 h.loaded h.keeps
-            (λ t w. is-among (λ u. t ≡ u) p ins n 1 t h.nothing_past w refl),
-        tt,
-      );
-    }) k
+    one-output n h (λ fit. record {
+      front = limit-front span p ins outs (kept-rows h (λ i d x lt. tt));
+      input_done = λ done. elim (open-or-enough p ins outs 0 0 h.keeps some done) [
+        | inl open' ↦ inl open'
+        | inr enough ↦ inr (subst (λ z. HasReadEnough z ins) h.loaded enough)
+      ];
+    }) (λ t w. is-among (λ u. t ≡ u) p ins n 1 t h.nothing_past w refl)) k
 
 -- A collector gives nothing.
 pub collect-gives : KindGives spec.Collect
 collect-gives files takes gives n p ins outs k =
-    at-ports spec.Collect files n takes gives 1 0 p ins outs k.ports.0 k.ports.1
+    at-ports n 1 0 k.ports.0 k.ports.1
     (λ h. record { gives = λ fit. tt; typed = λ fit. tt }) k
 
 -- a collector has all of its input

@@ -1,3 +1,4 @@
+pub mod Prelude
 pub mod Pulls
 pub mod Pulled
 pub mod KindLaws

@@ -1,14 +1,7 @@
 -- The kinds of nodes.
-use Rattle.std.proofs.Common.{◌≡◌, ℕ, cond, List, [], ◌∷◌, length, map, count_by, drop, get_or, refl, ap, ap₂, arith}
-use Rattle.std.proofs.lemmas.List.Sums.{sum_by-cons}
-use Rattle.query_model.specs.Kinds.{kind_of}
-use Rattle.query_model.specs.declared.processor_spec.Spec.{Spec}
-use Rattle.query_model.specs.declared.processor_spec.Kind.{Kind}
+use Rattle.std.proofs.Common.{List, [], ap, ap₂, arith, cond, count_by, map, refl, ◌∷◌, ◌≡◌}
+use Rattle.plan_ends.proofs.Prelude.{DraftNode, Kind, NodeForm, SameSpec, Spec, by-forms, counted, forms, kind_of, of_kind, same-spec, same_kind, spec_form, sum_by-cons}
 use Rattle.query_model.specs.declared.processor_spec.Spec.TheVariants as spec
-use Rattle.proc_api.specs.Names.{spec_form, same_kind}
-use Rattle.plan_graph.specs.declared.nodes.DraftNode.{DraftNode}
-use Rattle.plan_meaning.specs.Names.{counted, of_kind, NodeForm, forms, node_form}
-use Rattle.plan_meaning.proofs.Same.{SameSpec, same-spec}
 
 -- copies are of one kind
 pub kind-same : (s t : Spec) → spec_form s ≡ spec_form t → kind_of s ≡ kind_of t
@@ -24,15 +17,10 @@ kinds nodes = map kind_of (map (λ (n : DraftNode). n.spec) nodes)
 
 -- nodes of the same forms have the same kinds
 pub kinds-same : (xs ys : List DraftNode) → forms xs ≡ forms ys → kinds xs ≡ kinds ys
-kinds-same [] [] e = refl
-kinds-same [] (y ∷ ys) e =
-    let count = ap (λ (l : List NodeForm). length l) e in absurd (omega (arith, count))
-kinds-same (x ∷ xs) [] e =
-    let count = ap (λ (l : List NodeForm). length l) e in absurd (omega (arith, count))
-kinds-same (x ∷ xs) (y ∷ ys) e =
-    let form : node_form x ≡ node_form y = ap (λ l. get_or l 0 (node_form x)) e in
-    ap₂ (λ k ks. k ∷ ks) (kind-same x.spec y.spec (ap (λ (z : NodeForm). z.spec) form))
-    (kinds-same xs ys (ap (λ (l : List NodeForm). drop 1 l) e))
+kinds-same xs ys e =
+    by-forms (λ xs ys. kinds xs ≡ kinds ys) refl
+    (λ x y xs ys same rest. ap₂ (λ k ks. k ∷ ks)
+    (kind-same x.spec y.spec (ap (λ (z : NodeForm). z.spec) same)) rest) xs ys e
 
 -- so many are of a kind
 pub kinds-counted : (k : Kind) (nodes : List DraftNode)

@@ -1,19 +1,6 @@
 -- The parts that the sources of a used table read.
-use Rattle.std.proofs.Common.{◌≡◌, ℕ, zero, suc, ◌+◌, ◌<◌, Bool, true, false, List, [], ◌∷◌, ◌++◌, length, Option, Some, None, is_some, refl, ap, subst, ◌∙◌, arith}
-use Rattle.std.specs.Prelude.{is_none, slice_get}
-use Rattle.std.specs.List.{All, AllByRecursion, Contains}
-use Rattle.std.proofs.lemmas.Bool.{and_parts, both_ways}
-use Rattle.std.proofs.lemmas.List.Elements.{All-cons, All-nil}
-use Rattle.query_model.specs.Names.{Files, UsedPart, bad_place_in, file_bytes, numbered_parts, parts_declared, parts_used, IsValidPart, IsValidUsed, bad_place, part_records}
-use Rattle.query_model.specs.declared.places.BadPlace.{BadPlace}
-use Rattle.query_model.specs.declared.checked.TableUse.{TableUse}
-use Rattle.query_model.specs.declared.query.PartsDecl.{PartsDecl}
-use Rattle.query_model.specs.declared.query.TableDecl.{TableDecl}
-use Rattle.query_model.specs.declared.processor_spec.PartSpec.{PartSpec}
-use Rattle.query_model.specs.declared.checked.TableUse.TheVariants.{Declared, Numbers}
-use Rattle.query_model.specs.declared.query.PartsDecl.TheVariants.{Paths, ListFile}
-use Rattle.plan_meaning.specs.Plans.{all_valid}
-use Rattle.select_planner.specs.Steps.{IsNoList, NamesPaths, Reading, UsesNoList, declared_sources, part_sources, part_spec, path_sources, reading_of, table_sources}
+use Rattle.std.proofs.Common.{Bool, List, None, Option, Some, [], ap, arith, false, is_none, is_some, refl, slice_get, suc, true, ℕ, ◌++◌, ◌+◌, ◌∙◌, ◌∷◌, ◌≡◌}
+use Rattle.plan_ends.proofs.Prelude.{All, All-cons, All-nil, AllByRecursion, BadPlace, Contains, Contains-append_left, Contains-append_right, Declared, Files, IsValidPart, IsValidUsed, Numbers, PartSpec, Paths, Reading, TableDecl, TableUse, UsedPart, UsesNoList, all_valid, and_parts, bad_place, bad_place_in, both_ways, by-paths, declared_sources, file_bytes, numbered_parts, part_records, part_spec, parts_declared, parts_used, path_sources, reading_of, table_sources}
 use Rattle.plan_ends.specs.Ended.{PartHas, part_in, parts_of, used_part}
 
 -- ---- the parts that are read
@@ -26,15 +13,9 @@ pub record IsPartOf (header : Bool) (tables : List TableDecl) (used : Files → 
   pub declared : slice_get tables part.table ≡ Some table
   pub among : (files : Files) → Contains (used files) (used_part part)
 
-later : {A : Type 0} (x y : A) (xs : List A) → Contains xs y → Contains (x ∷ xs) y
-later x y xs m = (suc m.0, (let lt = m.1 in omega (arith, lt)), m.2)
-
 -- what is among the first of a list is among all
 pub in-front : {A : Type 0} (y : A) (xs ys : List A) → Contains xs y → Contains (xs ++ ys) y
-in-front y [] ys m = let lt = m.1 in absurd (omega (arith, lt))
-in-front y (x ∷ xs) ys (zero, lt, is) = (zero, omega arith, is)
-in-front y (x ∷ xs) ys (suc n, lt, is) =
-    later x y (xs ++ ys) (in-front y xs ys (n, omega (arith, lt), is))
+in-front y xs ys m = Contains-append_left xs ys y m
 
 path-parts : (Q : PartSpec → Type 0) (r : Reading) (k : ℕ) (paths : List (List ℕ))
     → ((part : PartSpec) → part.header ≡ r.header → part.table ≡ r.table
@@ -45,9 +26,9 @@ path-parts Q r k (path ∷ paths) h =
     let next : suc k ≡ k + 1 = omega arith in (
       h (part_spec r k path) refl refl (0, omega arith, refl),
       path-parts Q r (suc k) paths (λ part a b m. h part a b
-          (later (used_part (part_spec r k path)) (used_part part)
-          (numbered_parts r.table r.types (k + 1) paths)
-          (subst (λ n. Contains (numbered_parts r.table r.types n paths) (used_part part)) next m))),
+          (Contains-append_right (used_part (part_spec r k path) ∷ [])
+          (numbered_parts r.table r.types (k + 1) paths) (used_part part)
+          (rw next at m))),
     )
 
 -- the sources of a used table read its parts
@@ -58,30 +39,20 @@ pub table-parts : (tables : List TableDecl) (header : Bool) (rows : ℕ)
     → AllByRecursion (PartHas (IsPartOf header tables used)) (table_sources tables header rows u)
 table-parts tables header rows used (Numbers n) no_list among = (tt, tt)
 table-parts tables header rows used (Declared t) no_list among =
-    go (slice_get tables t) refl no_list among
-  where
-    parts : (d : TableDecl) (p : PartsDecl) → slice_get tables t ≡ Some d → NamesPaths p
-        → ((files : Files) (x : UsedPart)
-        → Contains (parts_declared files t (Some (record { schema = d.schema; parts = p }))) x
-        → Contains (used files) x)
-        → AllByRecursion (PartHas (IsPartOf header tables used))
-        (part_sources (reading_of header rows t d) p)
-    parts d (Paths paths) declared no_list among =
-        path-parts (IsPartOf header tables used) (reading_of header rows t d) 1 paths
-        (λ part a b m. record {
-          header_is = a;
-          table = d;
-          declared = ap (slice_get tables) b ∙ declared;
-          among = λ files. among files (used_part part) m;
-        })
-    parts d (ListFile path) declared no_list among = absurd no_list
-
-    go : (o : Option TableDecl) → slice_get tables t ≡ o → IsNoList o
-        → ((files : Files) (x : UsedPart) → Contains (parts_declared files t o) x
-        → Contains (used files) x)
-        → AllByRecursion (PartHas (IsPartOf header tables used)) (declared_sources header rows t o)
-    go None is no_list among = tt
-    go (Some d) is no_list among = parts d d.parts is no_list among
+    by-paths (λ o. slice_get tables t ≡ o
+    → ((files : Files) (x : UsedPart) → Contains (parts_declared files t o) x
+    → Contains (used files) x)
+    → AllByRecursion (PartHas (IsPartOf header tables used)) (declared_sources header rows t o))
+    (λ is among. tt)
+    (λ schema paths is among.
+    let decl : TableDecl = record { schema = schema; parts = Paths paths } in
+    path-parts (IsPartOf header tables used) (reading_of header rows t decl) 1 paths
+    (λ part a b m. record {
+      header_is = a;
+      table = decl;
+      declared = ap (slice_get tables) b ∙ is;
+      among = λ files. among files (used_part part) m;
+    })) (slice_get tables t) no_list refl among
 
 -- ---- valid parts
 
@@ -113,26 +84,19 @@ paths-valid r k (path ∷ paths) files e =
     let next : suc k ≡ k + 1 = omega arith in
     All-cons (IsValidUsed r.header files) _ (numbered_parts r.table r.types (k + 1) paths)
     (part-valid r k path files both.0)
-    (subst (λ n. All (IsValidUsed r.header files) (numbered_parts r.table r.types n paths)) next
-    (paths-valid r (suc k) paths files both.1))
+    (rw next at (paths-valid r (suc k) paths files both.1))
 
 -- where all sources of a used table are valid, its parts are
-pub table-valid : (tables : List TableDecl) (header : Bool) (rows : ℕ) (files : Files) (u : TableUse)
+pub table-valid : (tables : List TableDecl) (header : Bool) (rows : ℕ) (files : Files)
+    (u : TableUse)
     → UsesNoList tables u
     → all_valid (parts_of files) (table_sources tables header rows u) ≡ true
     → All (IsValidUsed header files) (parts_used files tables u)
 table-valid tables header rows files (Numbers n) h e = All-nil (IsValidUsed header files)
-table-valid tables header rows files (Declared t) h e = go (slice_get tables t) h e
-  where
-    parts : (d : TableDecl) (p : PartsDecl) → NamesPaths p
-        → all_valid (parts_of files) (part_sources (reading_of header rows t d) p) ≡ true
-        → All (IsValidUsed header files)
-        (parts_declared files t (Some (record { schema = d.schema; parts = p })))
-    parts d (Paths paths) h e = paths-valid (reading_of header rows t d) 1 paths files e
-    parts d (ListFile path) h e = absurd h
-
-    go : (o : Option TableDecl) → IsNoList o
-        → all_valid (parts_of files) (declared_sources header rows t o) ≡ true
-        → All (IsValidUsed header files) (parts_declared files t o)
-    go None h e = All-nil (IsValidUsed header files)
-    go (Some d) h e = parts d d.parts h e
+table-valid tables header rows files (Declared t) h e =
+    by-paths (λ o. all_valid (parts_of files) (declared_sources header rows t o) ≡ true
+    → All (IsValidUsed header files) (parts_declared files t o))
+    (λ e. All-nil (IsValidUsed header files))
+    (λ schema paths. paths-valid
+    (reading_of header rows t (record { schema = schema; parts = Paths paths })) 1 paths files)
+    (slice_get tables t) h e

@@ -1,68 +1,23 @@
 -- The rows that boxes count are those that were pulled at their inputs.
-use Rattle.std.proofs.Common.{◌≡◌, ◌⊎◌, ℕ, zero, suc, ◌+◌, ◌-◌, ◌<◌, Bool, true, false, cond, List, [], ◌∷◌, length, map, get_or, refl, sym, ap, ap₂, subst, ◌∙◌, arith, inl, inr, length-append}
-use Rattle.query_model.specs.Names.{Files, kind_of}
-use Rattle.query_model.specs.declared.processor_spec.Spec.{Spec}
-use Rattle.query_model.specs.declared.processor_spec.Kind.{Kind}
-use Rattle.proc_api.specs.Names.{BoxPicture, Lists, chunk_rows, last_count, total_rows, is_of, same_kind}
-use Rattle.exec_laws.specs.Runs.{box_at}
-use Rattle.plan_graph.specs.Drafts.{ports_of}
-use Rattle.plan_graph.specs.declared.nodes.DraftNode.{DraftNode}
-use Rattle.plan_graph.specs.declared.nodes.NodePort.{NodePort}
-use Rattle.plan_meaning.specs.Names.{pulled_rows, Stream, all_rows, rows_of}
-use Rattle.plan_ends.specs.Ended.{HasFullCount, HasPulled, IsKept, NothingPast, pulled_since}
+use Rattle.std.proofs.Common.{Bool, List, [], ap, ap₂, arith, cond, false, get_or, inl, inr, length, length-append, map, refl, suc, sym, true, zero, ℕ, ◌+◌, ◌<◌, ◌∙◌, ◌∷◌, ◌≡◌, ◌⊎◌}
+use Rattle.plan_ends.proofs.Prelude.{BoxPicture, DraftNode, Files, Kind, Lists, NodePort, Spec, Stream, all_rows, box_at, chunk_rows, first_rows, is_of, kind_of, last_count, ports_of, pulled_rows, rows_of, same_kind, total_rows}
+use Rattle.plan_ends.specs.Ended.{HasFullCount, HasPulled, IsKept, in_stream, pulled_since}
+use Rattle.plan_ends.proofs.ResizeLaws.{all-ports, at_ports}
 
-module _ (ins : Lists) where
-  -- nothing is counted past the last input
-  total-past : (takes j : ℕ) → NothingPast takes ins
-      → total_rows (takes + j) ins ≡ total_rows takes ins
-  unfolding total_rows
-  total-past takes zero past = ap (λ m. total_rows m ins) (let e : takes + 0 ≡ takes = omega arith in e)
-  total-past takes (suc j) past =
-      let next : takes + suc j ≡ suc (takes + j) = omega arith in
-      let none : length (chunk_rows (ins (takes + j))) ≡ 0 =
-      ap (λ l. length (chunk_rows l)) (past (takes + j) (omega arith)) in
-      let step : total_rows (suc (takes + j)) ins ≡ total_rows (takes + j) ins
-      + length (chunk_rows (ins (takes + j))) = refl in
-      let rest = total-past takes j past in
-      ap (λ m. total_rows m ins) next ∙ omega (arith, step, none, rest)
-
-  -- the rows at k ports from port o on
-  ports-rows : (f : NodePort → Stream) (n : ℕ)
-      → ((i : ℕ) → (f (record { node = n; port = i })).rows ≡ chunk_rows (ins i)) → (o k : ℕ)
-      → length (all_rows (rows_of (map f (ports_of n o k)))) + total_rows o ins
-      ≡ total_rows (o + k) ins
-  unfolding total_rows
-  ports-rows f n is o zero =
-      let same : o + 0 ≡ o = omega arith in
-      let at = ap (λ m. total_rows m ins) same in
-      omega (arith, at)
-  ports-rows f n is o (suc k) =
-      let rest = ports-rows f n is (suc o) k in
-      let all = length-append (f (record { node = n; port = o })).rows
-      (all_rows (rows_of (map f (ports_of n (suc o) k)))) in
-      let here = ap length (is o) in
-      let step : total_rows (suc o) ins ≡ total_rows o ins + length (chunk_rows (ins o)) = refl in
-      let next : suc o + k ≡ o + suc k = omega arith in
-      let at = ap (λ m. total_rows m ins) next in
-      omega (arith, rest, all, here, step, at)
+-- the rows of the first lists, counted
+total-first : (n : ℕ) (lists : Lists) → total_rows n lists ≡ length (first_rows n lists)
+unfolding total_rows first_rows
+total-first zero lists = refl
+total-first (suc n) lists =
+    let rest = total-first n lists in
+    omega (arith, rest, length-append (first_rows n lists) (chunk_rows (lists n)))
 
 pub kept-counted : (s : Spec) (files : Files) (takes gives : ℕ) (p : BoxPicture) (ins outs : Lists)
-    → IsKept s files takes gives p ins outs → (f : NodePort → Stream) (n : ℕ)
-    → ((i : ℕ) → (f (record { node = n; port = i })).rows ≡ chunk_rows (ins i))
-    → HasPulled p (length (all_rows (rows_of (map f (ports_of n 0 takes)))))
-unfolding total_rows
-kept-counted s files takes gives p ins outs k f n is = elim k.keeps.counted [
-  | inl e ↦
-      let few = k.few_inputs in
-      let most : takes + (32 - takes) ≡ 32 = omega (arith, few) in
-      let past = total-past ins takes (32 - takes) k.nothing_past in
-      let rows = ports-rows ins f n is 0 takes in
-      let none : total_rows 0 ins ≡ 0 = refl in
-      let front : total_rows (0 + takes) ins ≡ total_rows takes ins =
-      ap (λ m. total_rows m ins) (let z : 0 + takes ≡ takes = omega arith in z) in
-      let all : total_rows 32 ins ≡ total_rows takes ins =
-      ap (λ m. total_rows m ins) (sym most) ∙ past in
-      inl (e ∙ omega (arith, rows, none, front, all))
+    → IsKept s files takes gives p ins outs → (n : ℕ)
+    → HasPulled p (length (all_rows (rows_of (at_ports (in_stream p ins) n 0 takes))))
+kept-counted s files takes gives p ins outs k n = elim k.keeps.counted [
+  | inl e ↦ inl (e ∙ total-first 32 ins ∙ ap length (sym (all-ports ins (in_stream p ins)
+      (λ i. refl) n takes 32 k.few_inputs k.nothing_past)))
   | inr full ↦ inr full
 ]
 
@@ -85,8 +40,7 @@ since-pulled k f n (z ∷ nodes) (p ∷ boxes) e each =
     let next : n + suc i ≡ suc n + i = omega arith in
     let there = each (suc i) y (omega (arith, lt)) is in (
       there.0,
-      subst (λ m. HasPulled (box_at boxes i)
-          (length (all_rows (rows_of (map f (ports_of m 0 y.takes)))))) next there.1,
+      rw next at there.1,
     )))
   where
     kinds : p.kind ≡ kind_of z.spec
@@ -123,6 +77,7 @@ since-pulled k f n (z ∷ nodes) (p ∷ boxes) e each =
         (ap₂ (λ j m. cond (same_kind j k) m 0) kinds (here ∙ ap rows_at same)) rest)
     go (inr full) (inl rest) = elim (full_here (is_of k p) refl full rest) [
       | inl e ↦
-          inl (e ∙ ap (λ j. cond (same_kind j k) (rows_at n) 0 + pulled_rows k (suc n) nodes f) kinds)
+          inl (e ∙ ap (λ j. cond (same_kind j k) (rows_at n) 0 + pulled_rows k (suc n) nodes f)
+          kinds)
       | inr x ↦ inr x
     ]

@@ -1,14 +1,6 @@
 -- Along each wire of an ended run what was pulled is the first of what was pushed.
-use Rattle.std.proofs.Common.{◌≡◌, ℕ, ◌<◌, not, ◌&&◌, ◌||◌, Bool, true, false, List, length, refl, sym, ap, subst, ◌∙◌, arith}
-use Rattle.std.proofs.lemmas.Bool.{both_ways, not-true, false_from_ne_true}
-use Rattle.std.proofs.lemmas.List.{get_or_default, map-append}
-use Rattle.std.proofs.lemmas.List.Concat.{flat_map-append}
-use Rattle.chunk_data.specs.Values.{Table}
-use Rattle.port_word.specs.declared.flags.Wire.{Wire}
-use Rattle.proc_api.specs.Names.{BoxPicture, kept_input, kept_output, chunk_rows, wire_at, no_wire, output_count}
-use Rattle.exec_laws.specs.Names.{IsBorn, box_at, IsDone, EdgeDone}
-use Rattle.plan_graph.specs.Drafts.{producer_of, consumer_of}
-use Rattle.plan_meaning.specs.Runs.{AllPull, Pulls}
+use Rattle.std.proofs.Common.{Bool, List, ap, arith, false, length, not, refl, sym, true, ℕ, ◌&&◌, ◌<◌, ◌||◌, ◌∙◌, ◌≡◌}
+use Rattle.plan_ends.proofs.Prelude.{AllPull, BoxPicture, IsBorn, IsDone, Pulls, Table, Wire, both_ways, box_at, chunk_rows, consumer_of, false_from_ne_true, flat_map-append, get_or_default, kept_input, kept_output, map-append, no_wire, not-true, output_count, producer_of, wire_at}
 use Rattle.plan_ends.specs.Ended.{chunk_types, pulled_at, pushed_at}
 
 not-closed : (a b : Bool) → (a ≡ true → b ≡ true) → not b ≡ true → a ≡ false
@@ -33,9 +25,7 @@ pub all-pull : (wires : List Wire) (boxes : List BoxPicture) (d : IsDone wires b
     → AllPull (pulled_at boxes d.pulled) (pushed_at boxes d.pushed) wires
 unfolding wire_at
 all-pull wires boxes d are born lawful = λ e x lt.
-    subst (λ (w : Wire). Pulls (pulled_at boxes d.pulled (consumer_of w))
-    (pushed_at boxes d.pushed (producer_of w)))
-    (get_or_default wires e no_wire x lt) (one e lt)
+    rw (get_or_default wires e no_wire x lt) at (one e lt)
   where
     one : (e : ℕ) → e < length wires
         → Pulls (pulled_at boxes d.pulled (consumer_of (wire_at wires e)))
@@ -45,8 +35,7 @@ all-pull wires boxes d are born lawful = λ e x lt.
         let is = are e lt in
         let to_lawful = lawful w.to is.to_in_range in
         let from_lawful = lawful w.from is.from_in_range in
-        let edge : EdgeDone w (box_at boxes w.from) (box_at boxes w.to) (d.pulled w.to w.input)
-        (d.pushed w.from w.out) (d.ports e) = d.joined e lt in
+        let edge = d.joined e lt in
         let from = d.each w.from is.from_in_range (born w.from is.from_in_range) from_lawful in
         let outs = from.finished.outs in
         let there = is.out_in_range in

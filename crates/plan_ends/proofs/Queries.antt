@@ -1,36 +1,9 @@
 -- At the end of a run of a query's plan the collector has an answer of the query, and its boxes
 -- pulled their flow.
-use Rattle.std.proofs.Common.{◌≡◌, ◌⊎◌, ℕ, suc, ◌+◌, ◌<◌, ◌≤◌, Bool, true, Option, Some, None, List, [], ◌∷◌, ◌++◌, length, map, flat_map, get_or, refl, sym, ap, ap₂, subst, ◌∙◌, arith, inl, inr}
-use Rattle.std.specs.Prelude.{IfSome, slice_get}
-use Rattle.std.specs.List.{All, AllByRecursion}
-use Rattle.std.proofs.lemmas.List.{append-nil, get_or-map, get_or_past, length-map}
-use Rattle.std.proofs.lemmas.Option.{slice_get_cases}
-use Rattle.chunk_data.specs.Values.{Row, Table}
-use Rattle.chunk_data.specs.declared.typed_value.ColumnType.{ColumnType}
-use Rattle.chunk_data.specs.declared.typed_value.SortKey.{SortKey}
-use Rattle.query_model.specs.Names.{IsTypedFilter, IsTypedShape, IsAnswer, output_rows, Files, file_bytes, column_types, part_paths, rows_in, part_rows, declared_table, database, Cond, Expr, rows_where, flow, Database, used_table, source_table, filtered_rows, joined_table, IsItem, type_of}
-use Rattle.query_model.specs.declared.query.PartsDecl.{PartsDecl}
-use Rattle.query_model.specs.declared.query.TableDecl.{TableDecl}
-use Rattle.query_model.specs.declared.checked.TableUse.{TableUse}
-use Rattle.query_model.specs.declared.checked.Shape.{Shape}
-use Rattle.query_model.specs.declared.checked.Checked.{Checked}
-use Rattle.query_model.specs.declared.processor_spec.PartSpec.{PartSpec}
-use Rattle.query_model.specs.declared.processor_spec.Spec.{Spec}
-use Rattle.query_model.specs.declared.query.PartsDecl.TheVariants.{Paths, ListFile}
-use Rattle.query_model.specs.declared.checked.TableUse.TheVariants.{Declared, Numbers}
-use Rattle.query_model.specs.declared.checked.Shape.TheVariants.{Plain, Grouped}
-use Rattle.query_model.specs.declared.processor_spec.Kind.{Kind}
+use Rattle.std.proofs.Common.{Bool, IfSome, List, None, Option, Some, [], ap, ap₂, arith, flat_map, get_or, inl, inr, length, map, refl, slice_get, subst, suc, sym, true, ℕ, ◌++◌, ◌+◌, ◌<◌, ◌∙◌, ◌∷◌, ◌≡◌, ◌≤◌, ◌⊎◌}
+use Rattle.plan_ends.proofs.Prelude.{All, AllByRecursion, AllTyped, BoxPicture, Checked, ColumnType, Cond, Database, Declared, DraftNode, Expr, Files, Grouped, HasCalls, IsAnswer, IsCut, IsItem, IsPlain, IsPlan, IsPlanOf, IsPlannable, IsSmall, IsSource, IsTypedBy, IsTypedFilter, IsTypedShape, JoinsSources, Kind, NodePort, Numbers, OneType, PartSpec, Paths, Plain, Reading, SelectPlan, Shape, SortKey, Spec, Stream, Table, TableDecl, TableUse, UsesNoList, append-nil, by-paths, chunk_rows, database, declared_sources, declared_table, file_bytes, filtered_rows, flow, forms, get_or-map, get_or_past, join_of, joined_table, length-map, order_of, output_rows, part_rows, part_spec, path_sources, plan-needs, plan_keys, plan_nodes, plan_rows, plan_valid, plans-answer, pulled_rows, query-answers, read_rows, reading_of, rows_in, rows_where, select_plan, shape-selects, shape_of, shape_rows, slice_get_cases, source_table, source_types, sources_rows, table_sources, type_of, types_declared, used_table, used_types}
 use Rattle.query_model.specs.declared.processor_spec.Kind.TheVariants as kind
 use Rattle.query_model.specs.declared.processor_spec.Spec.TheVariants as spec
-use Rattle.proc_api.specs.Names.{BoxPicture, chunk_rows}
-use Rattle.plan_graph.specs.declared.nodes.DraftNode.{DraftNode}
-use Rattle.plan_graph.specs.declared.nodes.NodePort.{NodePort}
-use Rattle.plan_meaning.specs.Names.{SelectPlan, IsSource, JoinsSources, IsPlan, IsSmall, IsCut, plan_keys, plan_nodes, plan_rows, plan_valid, read_rows, shape_rows, sources_rows, PlanAnswers, shape_of, HasCalls, IsPlanOf, pulled_rows, forms, Stream, AllTyped}
-use Rattle.plan_meaning.proofs.Answers.{plans-answer, plans-pull}
-use Rattle.plan_meaning.proofs.PlanTypes.{OneType, IsTypedBy}
-use Rattle.plan_meaning.proofs.Queries.{query-answers, shape-selects}
-use Rattle.select_planner.proofs.BoxCounts.{plan-needs}
-use Rattle.select_planner.specs.Steps.{Reading, part_spec, path_sources, part_sources, reading_of, declared_sources, table_sources, types_declared, used_types, join_of, source_types, order_of, select_plan, IsPlain, NamesPaths, IsNoList, UsesNoList, IsPlannable}
 use Rattle.plan_ends.specs.Ended.{part_in, parts_of, pulled_at, pushed_at, HasEnded, IsSimple}
 use Rattle.plan_ends.proofs.Answers.{plan-run, PlanRun}
 use Rattle.plan_ends.proofs.Columns.{IsTypedSelect}
@@ -96,19 +69,12 @@ rows-used : (header : Bool) (files : Files) (tables : List TableDecl) (rows : �
     → UsesNoList tables u → sources_rows (parts_of files) (table_sources tables header rows u)
     ≡ (used_table (database header files tables) u).rows
 rows-used header files tables rows (Declared t) h =
-    go (slice_get tables t) h ∙ ap (λ (z : Table). z.rows) (sym (table-at header files tables t))
-  where
-    parts : (decl : TableDecl) (d : PartsDecl) → NamesPaths d
-        → sources_rows (parts_of files) (part_sources (reading_of header rows t decl) d)
-        ≡ flat_map (part_rows header (column_types decl.schema) files) (part_paths files d)
-    parts decl (Paths paths) h = paths-rows files (reading_of header rows t decl) 1 paths
-    parts decl (ListFile path) h = absurd h
-
-    go : (o : Option TableDecl) → IsNoList o
-        → sources_rows (parts_of files) (declared_sources header rows t o)
-        ≡ (table_in header files o).rows
-    go None h = refl
-    go (Some decl) h = parts decl decl.parts h
+    by-paths (λ o. sources_rows (parts_of files) (declared_sources header rows t o)
+    ≡ (table_in header files o).rows) refl
+    (λ schema paths. paths-rows files
+    (reading_of header rows t (record { schema = schema; parts = Paths paths })) 1 paths)
+    (slice_get tables t) h
+    ∙ ap (λ (z : Table). z.rows) (sym (table-at header files tables t))
 rows-used header files tables rows (Numbers n) h = append-nil _
 
 -- ---- sources
@@ -126,20 +92,12 @@ each-source : (P : Spec → Type 0) (tables : List TableDecl) (header : Bool) (r
     → ((part : PartSpec) → part.types ≡ used_types tables u → P (spec.Csv part))
     → ((n : ℕ) → u ≡ Numbers n → P (spec.Numbers n rows))
     → AllByRecursion P (table_sources tables header rows u)
-each-source P tables header rows (Declared t) h csv num = go (slice_get tables t) h csv
-  where
-    parts : (r : Reading) (d : PartsDecl) → NamesPaths d
-        → ((part : PartSpec) → part.types ≡ r.types → P (spec.Csv part))
-        → AllByRecursion P (part_sources r d)
-    parts r (Paths paths) h csv = paths-sources P r (λ k path. csv (part_spec r k path) refl) 1
-        paths
-    parts r (ListFile path) h csv = absurd h
-
-    go : (o : Option TableDecl) → IsNoList o
-        → ((part : PartSpec) → part.types ≡ types_declared o → P (spec.Csv part))
-        → AllByRecursion P (declared_sources header rows t o)
-    go None h csv = tt
-    go (Some decl) h csv = parts (reading_of header rows t decl) decl.parts h csv
+each-source P tables header rows (Declared t) h csv num =
+    by-paths (λ o. ((part : PartSpec) → part.types ≡ types_declared o → P (spec.Csv part))
+    → AllByRecursion P (declared_sources header rows t o)) (λ csv. tt)
+    (λ schema paths csv.
+    let r : Reading = reading_of header rows t (record { schema = schema; parts = Paths paths }) in
+    paths-sources P r (λ k path. csv (part_spec r k path) refl) 1 paths) (slice_get tables t) h csv
 each-source P tables header rows (Numbers n) h csv num = (num n refl, tt)
 
 -- ---- the plan of a query
@@ -266,26 +224,22 @@ planned-ended q tables lanes rows header files nodes boxes h last p typed some s
     let ready : IsQueryPlan plan = query-plan q tables lanes rows header p typed some in
     let items = plain-of-query q (used_types tables q.from) 0 p.plain typed.typed.items in
     let f : NodePort → Stream = pulled_at boxes h.done.pulled in
-    let r : PlanRun files plan nodes boxes h last =
-    plan-run files plan nodes boxes h last small e ready.typed
-    (simple-ready plan nodes ready.is ready.simple e) count in
-    let a : PlanAnswers (parts_of files) plan (chunk_rows (h.done.pulled last 0)) =
-    plans-answer (parts_of files) plan f (pushed_at boxes h.done.pushed) ready.is small r.run last
-    count r.collected.done in
+    let r = plan-run files plan nodes boxes h last small e ready.typed (simple-ready plan nodes
+    ready.is ready.simple e) count in
+    let a = plans-answer (parts_of files) plan f (pushed_at boxes h.done.pushed) ready.is small
+    r.run last count r.collected.done in
     let flowed : HasFlowed plan (parts_of files) nodes f last = record {
       same = e;
       count = count;
       one_collector = plan-needs q tables lanes rows header kind.Collect p;
-      pulled = λ k unlimited told.
-          plans-pull (parts_of files) plan f (pushed_at boxes h.done.pushed) ready.is small
-          unlimited r.run last count r.collected.done k told;
+      pulled = λ k unlimited told. a.1 unlimited k told;
     } in
     record {
-      answer = query-answers q db (parts_of files) plan (chunk_rows (h.done.pulled last 0)) is a;
+      answer = query-answers q db (parts_of files) plan (chunk_rows (h.done.pulled last 0)) is a.0;
       output = ap₂ (λ s l. shape_rows s l) is.shape (ap₂ rows_where is.filter is.read)
           ∙ shape-selects q.shape (source_table q db).types is.chunk_rows (filtered_rows q db)
           is.calls;
-      valid = a.valid;
+      valid = a.0.valid;
       run = r;
       collected = collector-pulled plan (parts_of files) nodes f last flowed;
       pulled = λ unlimited k. flow-pulled plan (parts_of files) nodes f last flowed ready.simple

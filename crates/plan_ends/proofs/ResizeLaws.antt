@@ -1,18 +1,7 @@
 -- What a resize keeps is what it gives: the rows of any inputs by any outputs.
-use Rattle.std.proofs.Common.{◌≡◌, ℕ, zero, suc, ◌+◌, ◌-◌, ◌<◌, ◌≤◌, true, false, List, [], ◌++◌, append_assoc, map, IsPermutation, refl, sym, ap, ap₂, subst, ◌∙◌, arith, inl, inr}
-use Rattle.std.specs.List.{AllByRecursion}
-use Rattle.std.proofs.lemmas.Bool.{and_from, and_parts, both_ways, or_cases}
-use Rattle.std.proofs.lemmas.List.{append-nil, length-map}
-use Rattle.std.proofs.lemmas.List.Concat.{flat_map-append}
-use Rattle.std.proofs.lemmas.List.Sorted.{IsPermutation-refl, IsPermutation-trans, IsPermutation-append_left, IsPermutation-append_right, IsPermutation-append_comm}
-use Rattle.chunk_data.specs.Values.{Row, Table}
+use Rattle.std.proofs.Common.{IsPermutation, List, [], ap, append_assoc, ap₂, arith, false, inl, inr, map, refl, subst, suc, sym, true, zero, ℕ, ◌++◌, ◌+◌, ◌-◌, ◌<◌, ◌∙◌, ◌≡◌, ◌≤◌}
+use Rattle.plan_ends.proofs.Prelude.{AllByRecursion, BoxPicture, HasReadEnough, IsPermutation-append_left, IsPermutation-refl, IsPermutation-trans, KeepsMade, Lists, MakesType, NodePort, Row, Stream, Table, Types, all_done, all_rows, and_from, and_parts, any_done, append-nil, both_ways, chunk_rows, first_rows, flat_map-append, kept_output, length-map, or_cases, paired, ports-length, ports_of, pulled_types, rows_of, unworked_at}
 use Rattle.query_model.specs.declared.processor_spec.Spec.TheVariants as spec
-use Rattle.query_model.proofs.Lists.{IsPermutation-same}
-use Rattle.proc_api.specs.Names.{BoxPicture, kept_output, Lists, chunk_rows, all_rows as first_rows, unworked_at, KeepsMade, HasReadEnough}
-use Rattle.plan_graph.specs.Drafts.{ports_of}
-use Rattle.plan_graph.specs.declared.nodes.NodePort.{NodePort}
-use Rattle.plan_graph.proofs.Drafts.{ports-length}
-use Rattle.plan_meaning.specs.Names.{Stream, all_done, all_rows, any_done, rows_of, MakesType, Types, pulled_types}
 use Rattle.plan_ends.specs.Ended.{in_stream, out_stream, KindGives}
 use Rattle.plan_ends.proofs.KindLaws.{all-worked-at, is-among, kept-rows, made-typed, stays-open}
 
@@ -88,14 +77,6 @@ each-port P f h n i (suc k) = (h i, each-port P f h n (suc i) k)
 
 -- ---- what was worked, and what wasn't yet
 
--- two lists and their rests, in pairs
-in-pairs : (a b c d : List Row) → IsPermutation ((a ++ b) ++ (c ++ d)) ((a ++ c) ++ (b ++ d))
-in-pairs a b c d = rw (append_assoc a b (c ++ d), append_assoc a c (b ++ d))
-    (IsPermutation-append_right a _ _
-    (IsPermutation-trans _ _ _ (IsPermutation-same _ _ (sym (append_assoc b c d)))
-    (IsPermutation-trans _ _ _ (IsPermutation-append_left d _ _ (IsPermutation-append_comm b c))
-    (IsPermutation-same _ _ (append_assoc c b d)))))
-
 pub split-rows : (n : ℕ) (whole a b : Lists) → ((i : ℕ) → whole i ≡ a i ++ b i)
     → IsPermutation (first_rows n whole) (first_rows n a ++ first_rows n b)
 unfolding first_rows
@@ -103,12 +84,9 @@ split-rows zero whole a b e = IsPermutation-refl []
 split-rows (suc n) whole a b e =
     let here : chunk_rows (whole n) ≡ chunk_rows (a n) ++ chunk_rows (b n) =
     ap chunk_rows (e n) ∙ flat_map-append (λ (t : Table). t.rows) (a n) (b n) in
-    subst (λ l. IsPermutation (first_rows n whole ++ l) ((first_rows n a ++ chunk_rows (a n))
-    ++ (first_rows n b ++ chunk_rows (b n)))) (sym here)
-    (IsPermutation-trans _ _ _
-    (IsPermutation-append_left (chunk_rows (a n) ++ chunk_rows (b n)) _ _
-    (split-rows n whole a b e))
-    (in-pairs (first_rows n a) (first_rows n b) (chunk_rows (a n)) (chunk_rows (b n))))
+    rw here (IsPermutation-trans _ _ _ (IsPermutation-append_left (chunk_rows (a n) ++ chunk_rows
+    (b n)) _ _ (split-rows n whole a b e)) (paired (first_rows n a) (first_rows n b)
+    (chunk_rows (a n)) (chunk_rows (b n))))
 
 -- the rows that are made and not pushed, and those that aren't worked yet
 abbrev waiting : BoxPicture → List Row
@@ -119,8 +97,7 @@ resized-rows : (p : BoxPicture) (ins outs : Lists) → KeepsMade spec.Resize p i
 resized-rows p ins outs m =
     let left : List Row = first_rows 32 (unworked_at p.work) in
     IsPermutation-trans _ _ _ (split-rows 32 ins m.worked (unworked_at p.work) m.ins_are)
-    (subst (λ l. IsPermutation (first_rows 32 m.worked ++ left) l)
-    (append_assoc (first_rows 16 outs) (chunk_rows p.work.made) left)
+    (rw (append_assoc (first_rows 16 outs) (chunk_rows p.work.made) left) at
     (IsPermutation-append_left left _ _ m.rows.1.same_rows))
 
 nothing-waits : (p : BoxPicture) (ins outs : Lists) (o : ℕ) → KeepsMade spec.Resize p ins outs
@@ -134,8 +111,7 @@ nothing-waits p ins outs o m f =
 -- A resize gives the rows of its inputs by its outputs.
 pub resize-gives : KindGives spec.Resize
 resize-gives files takes gives n p ins outs k =
-    let m : KeepsMade spec.Resize p ins outs =
-    kept-rows spec.Resize files takes gives p ins outs k (λ i d x lt. tt) in
+    let m = kept-rows k (λ i d x lt. tt) in
     let i_rows : all_rows (rows_of (at_ports (in_stream p ins) n 0 takes)) ≡ first_rows 32 ins =
     all-ports ins (in_stream p ins) (λ i. refl) n takes 32 k.few_inputs k.nothing_past in
     let o_rows : all_rows (rows_of (at_ports (out_stream p outs) n 0 gives)) ≡ first_rows 16 outs =
@@ -148,10 +124,7 @@ resize-gives files takes gives n p ins outs k =
             let some = k.ports in
             omega (arith, e, some, ports-length n 0 gives);
         waits = waiting p;
-        rows = subst (λ l. IsPermutation l (all_rows (rows_of (at_ports (out_stream p outs) n 0
-            gives)) ++ waiting p)) (sym i_rows)
-            (subst (λ l. IsPermutation (first_rows 32 ins) (l ++ waiting p)) (sym o_rows)
-            (resized-rows p ins outs m));
+        rows = rw i_rows (rw o_rows (resized-rows p ins outs m));
         nothing_waits = λ done.
             let d = any-done (out_stream p outs) n 0 gives done in
             nothing-waits p ins outs d.port m (and_parts _ _ d.done).0;
@@ -164,6 +137,6 @@ resize-gives files takes gives n p ins outs k =
       };
       typed = λ fit. each-port (λ (o : Stream). AllByRecursion (MakesType spec.Resize from) o.types)
           (out_stream p outs)
-          (λ o. made-typed spec.Resize p ins outs from o k.loaded k.keeps
+          (λ o. made-typed k from o
           (λ t w. is-among (λ u. t ≡ u) p ins n takes t k.nothing_past w refl)) n 0 gives;
     }

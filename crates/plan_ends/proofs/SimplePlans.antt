@@ -1,19 +1,7 @@
 -- Plans of one table without grouping have nodes of known kinds alone.
-use Rattle.std.proofs.Common.{◌≡◌, ℕ, zero, suc, Option, Some, None, List, [], ◌∷◌, length, drop, get_or, refl, sym, ap, subst, arith}
-use Rattle.std.specs.Prelude.{⊤}
-use Rattle.std.specs.List.{AllByRecursion}
-use Rattle.query_model.specs.Expressions.{Cond}
-use Rattle.query_model.specs.declared.query.Span.{Span}
-use Rattle.query_model.specs.declared.processor_spec.PartSpec.{PartSpec}
-use Rattle.query_model.specs.declared.processor_spec.SortSpec.{SortSpec}
-use Rattle.query_model.specs.declared.processor_spec.Spec.{Spec}
+use Rattle.std.proofs.Common.{List, None, Option, Some, [], ap, arith, length, refl, subst, suc, sym, zero, ℕ, ◌∷◌, ◌≡◌}
+use Rattle.plan_ends.proofs.Prelude.{AllByRecursion, ArePortsOf, Cond, DraftNode, GrowthForm, IsPlan, IsSource, NodeForm, PartSpec, SameSpec, SelectPlan, SortSpec, Span, Spec, body_nodes, by-forms, collect_node, every-append, every-weaker, filter_nodes, forms, gather_nodes, joint_node, lane_nodes, limit_nodes, node_form, plan_nodes, read_nodes, same-spec, shape_nodes, source_nodes, ⊤}
 use Rattle.query_model.specs.declared.processor_spec.Spec.TheVariants as spec
-use Rattle.proc_api.specs.Names.{GrowthForm, ArePortsOf}
-use Rattle.plan_graph.specs.Blocks.{joint_node, lane_nodes, source_nodes}
-use Rattle.plan_graph.specs.declared.nodes.DraftNode.{DraftNode}
-use Rattle.plan_meaning.specs.Names.{plain, SelectPlan, IsPlan, IsSource, body_nodes, collect_node, filter_nodes, gather_nodes, limit_nodes, plan_nodes, read_nodes, shape_nodes, NodeForm, node_form, forms}
-use Rattle.proc_api.proofs.Orders.{every-append, every-weaker}
-use Rattle.plan_meaning.proofs.Same.{SameSpec, same-spec}
 use Rattle.plan_ends.specs.Ended.{IsReady, IsSimple, IsStep, KindGives, KnownPorts, PartHas}
 use Rattle.plan_ends.proofs.KindLaws.{collect-gives, expression-gives, filter-gives, limit-gives, numbers-gives, part-gives}
 use Rattle.plan_ends.proofs.ResizeLaws.{resize-gives}
@@ -23,16 +11,11 @@ use Rattle.plan_ends.proofs.SortLaws.{merge-gives, sort-gives}
 
 known-ports : (s : Spec) (takes gives : ℕ) → KnownPorts s takes gives → (g : Option GrowthForm)
     → ArePortsOf (Some s) g takes gives
-known-ports (spec.Csv part) takes gives h g = h
-known-ports (spec.Numbers count rows) takes gives h g = h
-known-ports (spec.Filter c) takes gives h g = h
-known-ports (spec.Expression items) takes gives h g = h
-known-ports spec.Resize takes gives h g = h
-known-ports (spec.Limit span) takes gives h g = h
-known-ports (spec.Sort order) takes gives h g = h
-known-ports (spec.MergeSorted order) takes gives h g = h
-known-ports spec.Collect takes gives h g = h
-known-ports s takes gives h g = absurd h
+known-ports (spec.List list) takes gives h g = absurd h
+known-ports (spec.PartialAggregate p) takes gives h g = absurd h
+known-ports (spec.MergeAggregate p) takes gives h g = absurd h
+known-ports (spec.HashJoin join) takes gives h g = absurd h
+known-ports s takes gives h g = h
 
 -- the contract of each known kind gives its promises
 known-gives : (s : Spec) (takes gives : ℕ) → KnownPorts s takes gives → KindGives s
@@ -74,14 +57,9 @@ module _ (P : PartSpec → Type 0) where
   -- nodes of the same forms are known too
   known-forms : (xs ys : List DraftNode) → forms xs ≡ forms ys → AllByRecursion (IsStep P) ys
       → AllByRecursion (IsStep P) xs
-  known-forms [] ys e h = tt
-  known-forms (x ∷ xs) [] e h =
-      let count = ap (λ (l : List NodeForm). length l) e in
-      absurd (omega (arith, count))
-  known-forms (x ∷ xs) (y ∷ ys) e h = (
-    known-form x y (ap (λ l. get_or l 0 (node_form x)) e) h.0,
-    known-forms xs ys (ap (λ (l : List NodeForm). drop 1 l) e) h.1,
-  )
+  known-forms xs ys e h =
+      by-forms (λ xs ys. AllByRecursion (IsStep P) ys → AllByRecursion (IsStep P) xs) (λ h. tt)
+      (λ x y xs ys same rest h. (known-form x y same h.0, rest h.1)) xs ys e h
 
   -- ---- the nodes of a plan
 
@@ -123,16 +101,13 @@ module _ (P : PartSpec → Type 0) where
   plan-known p is simple parts =
       let K : DraftNode → Type 0 = (λ n. IsStep P n) in
       let read : AllByRecursion K (read_nodes p.sources p.join p.lanes) =
-      subst (λ j. AllByRecursion K (read_nodes p.sources j p.lanes)) (sym simple.one_table)
-      (every-append K (source_nodes 0 p.sources)
-      (joint_node spec.Resize 2 (length p.sources) p.lanes ∷ [])
-      (sources-known 0 p.sources is.sources parts) ((is.some_lanes, tt), tt)) in
+      rw simple.one_table (every-append K (source_nodes 0 p.sources) (joint_node spec.Resize 2
+      (length p.sources) p.lanes ∷ []) (sources-known 0 p.sources is.sources parts)
+      ((is.some_lanes, tt), tt)) in
       let shape : AllByRecursion K (shape_nodes p.shape p.order p.lanes) =
-      subst (λ s. AllByRecursion K (shape_nodes s p.order p.lanes)) (sym simple.shape)
-      (every-append K (lane_nodes (spec.Expression simple.items) 6 0 p.lanes)
-      (gather_nodes p.order p.lanes)
-      (lanes-known (spec.Expression simple.items) 6 0 p.lanes ((refl, refl), tt))
-      (gather-known p.order p.lanes)) in
+      rw simple.shape (every-append K (lane_nodes (spec.Expression simple.items) 6 0 p.lanes)
+      (gather_nodes p.order p.lanes) (lanes-known (spec.Expression simple.items) 6 0 p.lanes
+      ((refl, refl), tt)) (gather-known p.order p.lanes)) in
       every-append K (body_nodes p) (collect_node ∷ [])
       (every-append K (read_nodes p.sources p.join p.lanes) _ read
       (every-append K (filter_nodes p.filter 5 p.lanes) _ (filter-known p.filter 5 p.lanes)
@@ -151,8 +126,7 @@ module _ (P : PartSpec → Type 0) where
 pub simple-ready : (p : SelectPlan) (nodes : List DraftNode) → IsPlan p → IsSimple p
     → forms nodes ≡ forms (plan_nodes p) → AllByRecursion IsReady nodes
 simple-ready p nodes is simple e =
-    let parts : AllByRecursion (PartHas (λ part. ⊤)) p.sources =
-    every-weaker IsSource (PartHas (λ part. ⊤)) any-part p.sources is.sources in
+    let parts = every-weaker IsSource (PartHas (λ part. ⊤)) any-part p.sources is.sources in
     every-weaker (IsStep (λ part. ⊤)) IsReady (known-ready (λ part. ⊤)) nodes
     (simple-steps (λ part. ⊤) p nodes is simple parts e)
   where

@@ -1,24 +1,9 @@
 -- What a sort and a merge keep is what they give.
-use Rattle.std.proofs.Common.{◌≡◌, ℕ, zero, suc, ◌+◌, ◌<◌, ◌≤◌, not, Bool, true, false, List, [], ◌∷◌, ◌++◌, append_assoc, length, IsPermutation, IsSorted, refl, sym, ap, ap₂, subst, ◌∙◌, arith, inl, inr, Some}
-use Rattle.std.specs.List.{All, AllByRecursion, Contains}
-use Rattle.std.specs.Ordering.{is_lt}
-use Rattle.std.proofs.lemmas.Bool.{and_parts, cases_eq, cases_lt}
-use Rattle.std.proofs.lemmas.List.{append-nil, length-append}
-use Rattle.std.proofs.lemmas.List.Elements.{All-nil, Contains-append_left}
-use Rattle.std.proofs.lemmas.List.Sorted.{IsPermutation-append_left, IsPermutation-trans}
-use Rattle.chunk_data.specs.Values.{Row, Table, row_cmp}
-use Rattle.chunk_data.specs.declared.typed_value.SortKey.{SortKey}
-use Rattle.query_model.specs.declared.processor_spec.SortSpec.{SortSpec}
-use Rattle.query_model.specs.declared.processor_spec.Spec.{Spec}
+use Rattle.std.proofs.Common.{Bool, IsPermutation, IsSorted, List, Some, [], ap, append_assoc, ap₂, arith, false, inl, inr, length, length-append, not, refl, subst, suc, sym, true, zero, ℕ, ◌++◌, ◌+◌, ◌<◌, ◌∙◌, ◌∷◌, ◌≡◌, ◌≤◌}
+use Rattle.plan_ends.proofs.Prelude.{All-nil, AllByRecursion, AllFit, AreInputsSorted, AreMerged, BoxPicture, Contains-append_left, FitFrom, FitsInput, FitsOrder, GivesHeld, GivesMerged, HasReadEnough, HoldsBack, IsBeforeNone, IsPermutation-append_left, IsPermutation-trans, IsReadUp, IsSortOf, KeepsMade, Lists, NotesEnd, Row, SortKey, SortSpec, Spec, Stream, Table, all_rows, and_parts, append-nil, cases_eq, cases_lt, chunk_rows, every-append, every-contains, every-front, every-none, every-turned, every-weaker, first_rows, head_at, head_rows, is_lt, kept_output, kept_outputs, may-be-input, order-cross, order-from_sorted, order-front, own_of, past-open, row_cmp, rows-append, rows-ordered, rows_of, sort-exists, sorted-from_order, unworked_at}
 use Rattle.query_model.specs.declared.processor_spec.Spec.TheVariants as spec
-use Rattle.proc_api.specs.Names.{BoxPicture, kept_output, kept_outputs, Lists, chunk_rows, AllFit, FitsInput, FitsOrder, HasReadEnough, IsReadUp, KeepsMade, AreInputsSorted, AreMerged, IsBeforeNone, IsSortOf, NotesEnd, all_rows as first_rows, head_at, head_rows, own_of, unworked_at}
-use Rattle.proc_api.proofs.Keeping.{rows-append}
-use Rattle.proc_api.proofs.KeptFlags.{may-be-input, past-open}
-use Rattle.proc_api.proofs.Orders.{every-append, every-contains, every-front, every-none, every-turned, every-weaker, order-cross, order-from_sorted, order-front, rows-ordered, sorted-from_order}
-use Rattle.plan_meaning.specs.Names.{GivesHeld, GivesMerged, HoldsBack, Stream, all_rows, rows_of, FitFrom, Types, pulled_types}
-use Rattle.plan_meaning.proofs.KindLaws.{sort-exists}
 use Rattle.plan_ends.specs.Ended.{IsKept, KindGives, chunk_types, in_stream, out_stream}
-use Rattle.plan_ends.proofs.KindLaws.{all-worked-at, at-ports, front-of, kept-rows, made-typed, one-fits, stays-open, types-fit}
+use Rattle.plan_ends.proofs.KindLaws.{one-output, all-worked-at, at-ports, front-of, kept-rows, one-fits, stays-open, types-fit}
 use Rattle.plan_ends.proofs.ResizeLaws.{all-done, all-ports, at_ports, each-port, none-past, split-rows}
 
 front-none : (xs ys : List Row) → xs ++ ys ≡ [] → xs ≡ []
@@ -30,12 +15,11 @@ back-none [] ys e = e
 back-none (x ∷ xs) ys e = absurd (cc)
 
 -- an input whose end is noted is read up
-read-up : (s : Spec) (files : _) (takes gives : ℕ) (p : BoxPicture) (ins outs : Lists)
+read-up : {s : Spec} {files : _} {takes gives : ℕ} {p : BoxPicture} {ins outs : Lists}
     → IsKept s files takes gives p ins outs → (i : ℕ) → i < takes
     → NotesEnd (Some s) (own_of p.work) i → IsReadUp p i
-read-up s files takes gives p ins outs k i lt n =
-    k.keeps.noted i (may-be-input p takes i (inr k.inputs) lt)
-    (subst (λ z. NotesEnd z (own_of p.work) i) (sym k.loaded) n)
+read-up {takes = takes} {p = p} k i lt n =
+    k.keeps.noted i (may-be-input p takes i (inr k.inputs) lt) (rw k.loaded n)
 
 -- ---- sorts
 
@@ -45,7 +29,7 @@ sort-held : (order : SortSpec) (files : _) (p : BoxPicture) (ins outs : Lists)
     → GivesHeld (IsSortOf order.keys (chunk_rows (ins 0))) (in_stream p ins 0).done
     (out_stream p outs 0)
 sort-held order files p ins outs k m true e =
-    let r = read-up (spec.Sort order) files 1 1 p ins outs k 0 (omega arith) e in
+    let r = read-up k 0 (omega arith) e in
     let all : chunk_rows (m.worked 0) ≡ chunk_rows (ins 0) =
     ap chunk_rows (sym (append-nil (m.worked 0)) ∙ ap (λ l. m.worked 0 ++ l) (sym r.all_worked)
     ∙ sym (m.ins_are 0)) in
@@ -55,18 +39,15 @@ sort-held order files p ins outs k m true e =
       done_held = λ done. ap not r.not_closed;
       whole = λ open'. record {
         rows = chunk_rows (outs 0) ++ left;
-        makes = subst (λ l. IsSortOf order.keys l (chunk_rows (outs 0) ++ left)) all
-            (subst (IsSortOf order.keys (chunk_rows (m.worked 0)))
-            (append_assoc (chunk_rows (outs 0)) (chunk_rows p.work.made) p.work.unmade)
-            (m.rows.sorted e));
+        makes = rw all at (rw (append_assoc (chunk_rows (outs 0)) (chunk_rows p.work.made)
+            p.work.unmade) at (m.rows.sorted e));
         front = front-of (chunk_rows (outs 0) ++ left) p.work.unmade p outs refl
             (λ f. let end = m.over 0 f in (end.nothing_waits, end.all_made));
       };
     }
 sort-held order files p ins outs k m false e =
     let g = m.rows.gathered e in
-    let none : chunk_rows (outs 0) ≡ [] =
-    front-none (chunk_rows (outs 0)) (chunk_rows p.work.made) g.nothing_made in
+    let none = front-none (chunk_rows (outs 0)) (chunk_rows p.work.made) g.nothing_made in
     let unfinished : (kept_output p 0).fin_out ≡ true → ⊥ =
     (λ f. let end = m.over 0 f in let c : false ≡ true = sym e ∙ end.noted in cc) in
     let x = sort-exists order.keys (chunk_rows (ins 0)) in
@@ -87,17 +68,10 @@ sort-held order files p ins outs k m false e =
 -- A sort gives the rows of its input in an order that its keys allow.
 pub sort-gives : (order : SortSpec) → KindGives (spec.Sort order)
 sort-gives order files takes gives n p ins outs k =
-    let s : Spec = spec.Sort order in
-    at-ports s files n takes gives 1 1 p ins outs k.ports.0 k.ports.1
-    (λ h. record {
-      gives = λ fit. sort-held order files p ins outs h
-          (kept-rows s files 1 1 p ins outs h
-          (one-fits s (FitsOrder order) ins (λ i t x. x) h.nothing_past fit.0)) p.work.ended refl;
-      typed = λ fit. (
-        made-typed s p ins outs (chunk_types (ins 0) ++ []) 0 h.loaded h.keeps (λ t e. e),
-        tt,
-      );
-    }) k
+    at-ports n 1 1 k.ports.0 k.ports.1
+    (λ h. one-output n h (λ fit. sort-held order files p ins outs h
+    (kept-rows h (one-fits (spec.Sort order) (FitsOrder order) ins (λ i t x. x) h.nothing_past
+    fit.0)) p.work.ended refl) (λ t e. e)) k
 
 -- ---- merges
 
@@ -117,8 +91,7 @@ all-fit-at : (s : Spec) (p : BoxPicture) (ins : Lists) (n takes : ℕ)
 all-fit-at s p ins n takes past fit i = elim (cases_lt i takes) [
   | inl lt ↦ types-fit (FitsInput (Some s) i) (ins i)
       (go 0 takes fit i (omega arith) (omega (arith, lt)))
-  | inr le ↦ subst (λ l. All (λ (t : Table). FitsInput (Some s) i t.types) l) (sym (past i le))
-      (All-nil (λ (t : Table). FitsInput (Some s) i t.types))
+  | inr le ↦ rw (past i le) (All-nil (λ (t : Table). FitsInput (Some s) i t.types))
 ]
   where
     go : (j k : ℕ) → FitFrom s j (at_ports (in_stream p ins) n j k) → (i : ℕ) → j ≤ i → i < j + k
@@ -172,7 +145,7 @@ module _ (order : SortSpec) (files : _) (takes : ℕ) (p : BoxPicture) (ins outs
       → ((in_stream p ins i).done ≡ true) × (chunk_rows (unworked_at p.work i) ≡ [])
   noted-done i e = elim (cases_lt i takes) [
     | inl less ↦
-        let r = read-up (spec.MergeSorted order) files takes 1 p ins outs k i less e in
+        let r = read-up k i less e in
         (ap not r.not_closed, ap chunk_rows r.all_worked)
     | inr le ↦ (
       ended-past i le,
@@ -188,8 +161,7 @@ module _ (order : SortSpec) (files : _) (takes : ℕ) (p : BoxPicture) (ins outs
   inputs-sorted n s i = elim (cases_lt i takes) [
     | inl less ↦ rows-at (λ rows. IsSorted (row_cmp keys) rows) (in_stream p ins) n 0 takes s i
         (omega arith) (omega (arith, less))
-    | inr le ↦ subst (λ l. IsSorted (row_cmp keys) (chunk_rows l)) (sym (k.nothing_past i le))
-        (λ j d low high. absurd (omega (arith, high)))
+    | inr le ↦ rw (k.nothing_past i le) (λ j d low high. absurd (omega (arith, high)))
   ]
 
   worked-sorted : AreInputsSorted keys ins → AreInputsSorted keys m.worked
@@ -225,15 +197,13 @@ module _ (order : SortSpec) (files : _) (takes : ℕ) (p : BoxPicture) (ins outs
       let sorted = worked-sorted s in
       let some : 0 < length out = let l = ap length e in omega (arith, l) in
       let P : Row → Type 0 = λ y. IsBeforeNone keys y out in
-      subst (λ l. AllByRecursion (λ y. IsBeforeNone keys y l) waits) e
-      (every-append P made (head_rows p.work.heads ++ first_rows 32 (unworked_at p.work))
-      (every-turned (λ x y. lt y x ≡ false) out made
-      (order-cross lt o out made (order-from_sorted lt o (out ++ made) (merged.in_order sorted))))
+      rw e at (every-append P made (head_rows p.work.heads ++ first_rows 32 (unworked_at p.work))
+      (every-turned (λ x y. lt y x ≡ false) out made (order-cross lt o out made
+      (order-from_sorted lt o (out ++ made) (merged.in_order sorted))))
       (every-append P (head_rows p.work.heads) (first_rows 32 (unworked_at p.work))
       (every-weaker (λ y. IsBeforeNone keys y (out ++ made)) P
       (λ y b. every-front (λ x. lt y x ≡ false) out made b) (head_rows p.work.heads)
-      (merged.before_held sorted))
-      (every-list P 32 (unworked_at p.work) (unworked-behind s some))))
+      (merged.before_held sorted)) (every-list P 32 (unworked_at p.work) (unworked-behind s some))))
 
   -- an input holds back what is out
   holds-back : 0 < length out → (i : ℕ) → HoldsBack keys out (in_stream p ins i)
@@ -244,9 +214,8 @@ module _ (order : SortSpec) (files : _) (takes : ℕ) (p : BoxPicture) (ins outs
           | inl e ↦ inl (noted-done i e).0
           | inr w ↦ inr (
             w.0,
-            subst (λ l. Contains l w.0) (sym (rows-are i))
-                (Contains-append_left (chunk_rows (m.worked i)) (chunk_rows (unworked_at p.work i))
-                w.0 w.1),
+            rw (rows-are i) (Contains-append_left (chunk_rows (m.worked i))
+                (chunk_rows (unworked_at p.work i)) w.0 w.1),
             every-front (λ x. lt w.0 x ≡ false) out made w.2,
           )
         ]
@@ -257,8 +226,7 @@ module _ (order : SortSpec) (files : _) (takes : ℕ) (p : BoxPicture) (ins outs
       let heads : List Row = head_rows p.work.heads in
       let left : List Row = first_rows 32 (unworked_at p.work) in
       IsPermutation-trans _ _ _ (split-rows 32 ins m.worked (unworked_at p.work) m.ins_are)
-      (subst (IsPermutation (first_rows 32 m.worked ++ left))
-      (append_assoc (out ++ made) heads left ∙ append_assoc out made (heads ++ left))
+      (rw (append_assoc (out ++ made) heads left ∙ append_assoc out made (heads ++ left)) at
       (IsPermutation-append_left left _ _ merged.same_rows))
 
   nothing-left : (kept_output p 0).fin_out ≡ true → waits ≡ []
@@ -292,13 +260,7 @@ module _ (order : SortSpec) (files : _) (takes : ℕ) (p : BoxPicture) (ins outs
 -- A merge gives the rows of its inputs, in order where each of these is.
 pub merge-gives : (order : SortSpec) → KindGives (spec.MergeSorted order)
 merge-gives order files takes gives n p ins outs k =
-    let s : Spec = spec.MergeSorted order in
-    at-ports s files n takes gives takes 1 p ins outs refl k.ports
-    (λ h.
-    let from : List Types = pulled_types (at_ports (in_stream p ins) n 0 takes) in
-    record {
-      gives = λ fit. merge-held order files takes p ins outs h
-          (kept-rows s files takes 1 p ins outs h (all-fit-at s p ins n takes h.nothing_past fit))
-          n;
-      typed = λ fit. (made-typed s p ins outs from 0 h.loaded h.keeps (λ t e. e), tt);
-    }) k
+    at-ports n takes 1 refl k.ports
+    (λ h. one-output n h (λ fit. merge-held order files takes p ins outs h
+    (kept-rows h (all-fit-at (spec.MergeSorted order) p ins n takes h.nothing_past fit)) n)
+    (λ t e. e)) k

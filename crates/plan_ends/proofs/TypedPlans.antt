@@ -1,20 +1,8 @@
 -- The types that stand at the open ends of a plan of one table without groups. Each block stands
 -- before nodes that fit the types that it leaves.
-use Rattle.std.proofs.Common.{◌≡◌, ℕ, zero, suc, Option, Some, None, List, [], ◌∷◌, ◌++◌, length, map, replicate, refl, sym, ap, subst, ◌∙◌, arith}
-use Rattle.std.specs.Prelude.{⊤}
-use Rattle.std.specs.List.{All, AllByRecursion}
-use Rattle.std.proofs.lemmas.List.{append-nil, append_assoc, length-append, length-replicate}
-use Rattle.query_model.specs.Names.{Cond, Expr, type_of, IsItem}
-use Rattle.query_model.specs.declared.query.Span.{Span}
-use Rattle.query_model.specs.declared.processor_spec.SortSpec.{SortSpec}
-use Rattle.query_model.specs.declared.processor_spec.Spec.{Spec}
+use Rattle.std.proofs.Common.{List, None, Option, Some, [], ap, append_assoc, arith, length, length-append, map, refl, replicate, subst, suc, sym, zero, ℕ, ◌++◌, ◌∙◌, ◌∷◌, ◌≡◌}
+use Rattle.plan_ends.proofs.Prelude.{All, AllByRecursion, AllTyped, Cond, DraftNode, Expr, FitsInput, FitsOrder, IsAmong, IsItem, IsTypedBy, OneType, SelectPlan, SortSpec, Span, Spec, Types, TypesFit, append-nil, collect_node, filter_nodes, gather_nodes, joint_node, lane_nodes, length-replicate, limit_nodes, passes-type, plain, plan_nodes, replaced-at, run-at, source_nodes, taken_by, type_of, ⊤}
 use Rattle.query_model.specs.declared.processor_spec.Spec.TheVariants as spec
-use Rattle.proc_api.specs.Keeping.{FitsInput, FitsOrder}
-use Rattle.plan_graph.specs.Names.{source_nodes, lane_nodes, joint_node, taken_by}
-use Rattle.plan_graph.specs.declared.nodes.DraftNode.{DraftNode}
-use Rattle.plan_graph.proofs.Places.{run-at, replaced-at}
-use Rattle.plan_meaning.specs.Names.{filter_nodes, gather_nodes, limit_nodes, collect_node, plain, shape_nodes, read_nodes, SelectPlan, plan_nodes, Types, TypesFit, IsAmong, AllTyped}
-use Rattle.plan_meaning.proofs.PlanTypes.{OneType, IsTypedBy, passes-type}
 
 -- ---- blocks
 
@@ -30,8 +18,7 @@ node-typed more node xs t ys made a b o rest =
         made = made;
         makes = λ u us h m. o.makes u us (subst (λ l. AllByRecursion (IsAmong l) us) taken h) m;
       },
-      subst (λ l. AllTyped more l)
-          (sym (replaced-at node.offset node.takes (replicate node.gives made) xs t ys a b)) rest,
+      rw (replaced-at node.offset node.takes (replicate node.gives made) xs t ys a b) rest,
     )
 
 lanes-typed : (more : List DraftNode) (s : Spec) (q i k : ℕ) (done : List Types) (u v : Types)
@@ -42,9 +29,8 @@ lanes-typed more s q i (suc k) done u v a o rest =
     let next : List DraftNode = lane_nodes s q (suc i) k ++ more in
     node-typed next (record { spec = s; rank = q; offset = i; takes = 1; gives = 1 }) done (u ∷ [])
     (replicate k u) v a refl o
-    (subst (λ l. AllTyped next l) (append_assoc done (v ∷ []) (replicate k u))
-    (lanes-typed more s q (suc i) k (done ++ v ∷ []) u v
-    (omega (arith, a, length-append done (v ∷ []))) o
+    (rw (append_assoc done (v ∷ []) (replicate k u)) at (lanes-typed more s q (suc i) k
+    (done ++ v ∷ []) u v (omega (arith, a, length-append done (v ∷ []))) o
     (subst (λ l. AllTyped more l) (sym (append_assoc done (v ∷ []) (replicate k v))) rest)))
 
 sources-typed : (more : List DraftNode) (specs : List Spec) (i : ℕ) (done : List Types) (u : Types)
@@ -55,12 +41,9 @@ sources-typed more [] i done u a h rest = subst (λ l. AllTyped more l) (append-
 sources-typed more (s ∷ specs) i done u a h rest =
     let node : DraftNode = record { spec = s; rank = 1; offset = i; takes = 0; gives = 1 } in
     let next : List DraftNode = source_nodes (suc i) specs ++ more in
-    subst (λ l. AllTyped (node ∷ next) l) (append-nil done)
-    (node-typed next node done [] [] u a refl h.0
-    (sources-typed more specs (suc i) (done ++ u ∷ []) u
-    (omega (arith, a, length-append done (u ∷ []))) h.1
-    (subst (λ l. AllTyped more l) (sym (append_assoc done (u ∷ []) (replicate (length specs) u)))
-    rest)))
+    rw (append-nil done) at (node-typed next node done [] [] u a refl h.0 (sources-typed more specs
+    (suc i) (done ++ u ∷ []) u (omega (arith, a, length-append done (u ∷ []))) h.1
+    (rw (append_assoc done (u ∷ []) (replicate (length specs) u)) rest)))
 
 -- a node that takes all ends, which have one type
 joint-typed : (more : List DraftNode) (s : Spec) (q m n : ℕ) (u v : Types)
@@ -148,19 +131,12 @@ simple-typed p items u join shape sources filter typed order =
     let e : List DraftNode = lane_nodes (spec.Expression items) 6 0 k in
     let f : List DraftNode = filter_nodes p.filter 5 k in
     let r : List DraftNode = joint_node spec.Resize 2 n k ∷ [] in
-    let collected : AllTyped end (v ∷ []) =
-    joint-typed [] spec.Collect 14 1 0 v v
-    (passes-type spec.Collect 1 v (tt, tt) (λ us t m. m)) tt in
-    let shaped : AllTyped (e ++ (g ++ (l ++ end))) (replicate k u) =
-    lanes-typed (g ++ (l ++ end)) (spec.Expression items) 6 0 k [] u v refl
-    (items-type items u typed)
-    (gather-typed (l ++ end) p.order k v order (limit-typed end v p.limit collected)) in
-    let all : AllTyped (source_nodes 0 p.sources ++ (r ++ (f ++ (e ++ (g ++ (l ++ end)))))) [] =
-    sources-typed (r ++ (f ++ (e ++ (g ++ (l ++ end))))) p.sources 0 [] u refl sources
+    let collected = joint-typed [] spec.Collect 14 1 0 v v (passes-type spec.Collect 1 v (tt, tt)
+    (λ us t m. m)) tt in
+    let shaped = lanes-typed (g ++ (l ++ end)) (spec.Expression items) 6 0 k [] u v refl
+    (items-type items u typed) (gather-typed (l ++ end) p.order k v order (limit-typed end v p.limit
+    collected)) in
+    let all = sources-typed (r ++ (f ++ (e ++ (g ++ (l ++ end))))) p.sources 0 [] u refl sources
     (joint-typed (f ++ (e ++ (g ++ (l ++ end)))) spec.Resize 2 n k u u (resize-type n u)
     (filter-typed (e ++ (g ++ (l ++ end))) u p.filter 5 k filter shaped)) in
-    subst (λ j. AllTyped ((read_nodes p.sources j k
-    ++ (f ++ (shape_nodes p.shape p.order k ++ l))) ++ end) []) (sym join)
-    (subst (λ s. AllTyped ((read_nodes p.sources None k
-    ++ (f ++ (shape_nodes s p.order k ++ l))) ++ end) []) (sym shape)
-    (subst (λ nodes. AllTyped nodes []) (regrouped (source_nodes 0 p.sources) r f e g l end) all))
+    rw join (rw shape (rw (regrouped (source_nodes 0 p.sources) r f e g l end) at all))

@@ -1,6 +1,8 @@
 -- One port, wire or node more.
-use Rattle.std.proofs.Common.{◌≡◌, ℕ, zero, suc, ◌+◌, ◌<◌, ◌≤◌, List, [], ◌∷◌, ◌++◌, length, take, drop, get_or, refl, sym, ap, ◌∙◌, arith}
-use Rattle.std.proofs.lemmas.List.{take_more, get_or-drop, length-drop, length-take-le}
+use Rattle.std.proofs.Common.{List, [], ap, arith, drop, get_or, length, suc, sym, take, zero, ℕ, ◌++◌, ◌+◌, ◌<◌, ◌∙◌, ◌∷◌, ◌≡◌, ◌≤◌}
+use Rattle.plan_graph.proofs.Prelude.{get_or-drop, length-drop, length-take-le, take_more}
+use Rattle.plan_graph.proofs.GraphLaws.{with-append}
+use Rattle.port_word.specs.declared.flags.Wire.{Wire}
 use Rattle.plan_graph.specs.Names.{AllFitDraft, Draft, FitsDraft, ports_of, run_of, wires_to, with_node, with_nodes, DraftNode, NodePort}
 
 ports-suc : (n o k : ℕ) → ports_of n o (suc k) ≡ ports_of n o k ++ record { node = n; port = o + k }
@@ -19,25 +21,17 @@ ports-more n k =
     ap (ports_of n 0) next ∙ ports-suc n 0 k
     ∙ ap (λ m. ports_of n 0 k ++ record { node = n; port = m } ∷ []) here
 
+-- the wire from this end to input i of node n
+abbrev pub wire_to : ℕ → ℕ → NodePort → Wire
+wire_to n i e = record { from = e.node; out = e.port; to = n; input = i }
+
 wires-push : (n i : ℕ) (es : List NodePort) (e : NodePort)
-    → wires_to n i (es ++ e ∷ []) ≡ wires_to n i es ++ record {
-      from = e.node;
-      out = e.port;
-      to = n;
-      input = i + length es;
-    } ∷ []
-wires-push n i [] e = ap (λ (m : ℕ). record { from = e.node; out = e.port; to = n; input = m } ∷ [])
-    (omega arith)
+    → wires_to n i (es ++ e ∷ []) ≡ wires_to n i es ++ wire_to n (i + length es) e ∷ []
+wires-push n i [] e = ap (λ (m : ℕ). wire_to n m e ∷ []) (omega arith)
 wires-push n i (x ∷ es) e =
     let place : suc i + length es ≡ i + suc (length es) = omega arith in
-    ap (λ l. record { from = x.node; out = x.port; to = n; input = i } ∷ l)
-    (wires-push n (suc i) es e
-    ∙ ap (λ m. wires_to n (suc i) es ++ record {
-      from = e.node;
-      out = e.port;
-      to = n;
-      input = m;
-    } ∷ []) place)
+    ap (λ l. wire_to n i x ∷ l)
+    (wires-push n (suc i) es e ∙ ap (λ m. wires_to n (suc i) es ++ wire_to n m e ∷ []) place)
 
 pub run-more : {X : Type 0} (a k : ℕ) (xs : List X) (d : X) → a + k < length xs
     → run_of a (k + 1) xs ≡ run_of a k xs ++ get_or xs (a + k) d ∷ []
@@ -46,34 +40,19 @@ run-more a k xs d lt = take_more (drop a xs) k d (omega (arith, lt, length-drop 
 
 pub wires-more : (n a k : ℕ) (xs : List NodePort) (d : NodePort) → a + k < length xs
     → wires_to n 0 (run_of a (k + 1) xs) ≡ wires_to n 0 (run_of a k xs)
-    ++ record {
-      from = (get_or xs (a + k) d).node;
-      out = (get_or xs (a + k) d).port;
-      to = n;
-      input = k;
-    } ∷ []
+    ++ wire_to n k (get_or xs (a + k) d) ∷ []
 wires-more n a k xs d lt =
     let e : NodePort = get_or xs (a + k) d in
     let len : 0 + length (run_of a k xs) ≡ k = let le : k ≤ length (drop a xs) =
     omega (arith, lt, length-drop a xs) in omega (arith, length-take-le k (drop a xs) le) in
     ap (wires_to n 0) (run-more a k xs d lt) ∙ wires-push n 0 (run_of a k xs) e
-    ∙ ap (λ m. wires_to n 0 (run_of a k xs) ++ record {
-      from = e.node;
-      out = e.port;
-      to = n;
-      input = m;
-    } ∷ []) len
-
-pub nodes-push : (nodes : List DraftNode) (node : DraftNode) (d : Draft)
-    → with_nodes (nodes ++ node ∷ []) d ≡ with_node node (with_nodes nodes d)
-nodes-push [] node d = refl
-nodes-push (x ∷ nodes) node d = nodes-push nodes node (with_node x d)
+    ∙ ap (λ m. wires_to n 0 (run_of a k xs) ++ wire_to n m e ∷ []) len
 
 pub nodes-more : (nodes : List DraftNode) (i : ℕ) (node : DraftNode) (d : Draft) → i < length nodes
     → node ≡ get_or nodes i node
     → with_nodes (take (i + 1) nodes) d ≡ with_node node (with_nodes (take i nodes) d)
 nodes-more nodes i node d lt is = ap (λ l. with_nodes l d) (take_more nodes i node lt
-    ∙ ap (λ x. take i nodes ++ x ∷ []) (sym is)) ∙ nodes-push (take i nodes) node d
+    ∙ ap (λ x. take i nodes ++ x ∷ []) (sym is)) ∙ with-append (take i nodes) (node ∷ []) d
 
 -- the node at each place fits what the nodes before it made
 pub fit-at : (nodes : List DraftNode) (i : ℕ) (e : DraftNode) (d : Draft) → i < length nodes

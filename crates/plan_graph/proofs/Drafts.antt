@@ -1,17 +1,7 @@
 -- A list of nodes, each of which takes open ends of lower ranks, makes a graph where no end is left
 -- open.
-use Rattle.std.proofs.Common.{ap₂, ◌&&◌, cond, ◌≡◌, ℕ, suc, ◌+◌, ◌<◌, ◌≤◌, ◌==◌, List, [], ◌∷◌, ◌++◌, length, map, take, drop, get_or, refl, sym, ap, subst, ◌∙◌, arith, IsPermutation, zero}
-use Rattle.std.specs.Prelude.{count_by, sum_by}
-use Rattle.std.specs.List.{All, Contains, IsDistinct}
-use Rattle.std.proofs.lemmas.List.{append-nil, append_assoc, length-append, length-map, map-append, get_or-map, get_or_append_left}
-use Rattle.std.proofs.lemmas.List.Elements.{All-nil, All-cons, All-append, All-weaker, All-take, All-drop, All-push}
-use Rattle.std.proofs.lemmas.List.Sums.{sum_by-cons}
-use Rattle.std.proofs.lemmas.List.Sorted.{IsPermutation-refl, IsPermutation-sym, IsPermutation-trans, IsPermutation-append, IsPermutation-append_left, IsPermutation-append_right, IsPermutation-append_comm, All-permutation, Contains-permutation, sum_by-IsPermutation}
-use Rattle.std.proofs.lemmas.Map.Keys.{IsDistinct-IsPermutation}
-use Rattle.query_model.proofs.Lists.{IsPermutation-same}
-use Rattle.port_word.specs.declared.flags.Wire.{Wire}
-use Rattle.proc_api.specs.Names.{wire_at, no_wire, rank_at, input_count, output_count, IsGraph}
-use Rattle.proc_api.proofs.Graphs.{rank-kept, is-gapless, wire-input, wire-output}
+use Rattle.std.proofs.Common.{IsPermutation, List, [], ap, append_assoc, ap₂, arith, cond, count_by, drop, get_or, length, map, refl, subst, suc, sum_by, sym, take, zero, ℕ, ◌&&◌, ◌++◌, ◌+◌, ◌<◌, ◌==◌, ◌∙◌, ◌∷◌, ◌≡◌, ◌≤◌}
+use Rattle.plan_graph.proofs.Prelude.{All, All-append, All-cons, All-drop, All-nil, All-permutation, All-push, All-take, All-weaker, Contains, Contains-permutation, IsDistinct-IsPermutation, IsGraph, IsPermutation-append, IsPermutation-append_comm, IsPermutation-append_left, IsPermutation-append_right, IsPermutation-refl, IsPermutation-same, IsPermutation-sym, IsPermutation-trans, Wire, append-nil, get_or-map, get_or_append_left, input_count, is-gapless, length-append, length-map, map-append, no_wire, output_count, rank-kept, rank_at, sum_by-IsPermutation, sum_by-cons, wire-input, wire-output, wire_at}
 use Rattle.plan_graph.specs.Names.{AllFitDraft, Draft, FitsDraft, IsDraft, consumer_of, given_by, no_draft, ports_from, ports_of, producer_of, taken_by, wires_to, with_node, with_nodes, DraftNode, NodePort}
 use Rattle.plan_graph.proofs.Ports.{IsPortFrom, at_node, count-at, eqb-flips, ports-contain, ports-distinct, ports-from, ports_from-push, same-place, same_port}
 use Rattle.plan_graph.proofs.Places.{run-length, run-split}
@@ -85,17 +75,14 @@ draft-more takes gives node d h f =
     let more : List Wire = wires_to n 0 taken in
     let count : length taken ≡ node.takes = run-length node.offset node.takes d.ends f.in_range in
     let known = ends-known takes gives d h in
-    let wires_known : All (λ (w : Wire). w.from < n) d.wires =
-    from-map (λ (p : NodePort). p.node < n) producer_of d.wires
-    (all-front (λ (p : NodePort). p.node < n) (map producer_of d.wires) d.ends known) in
-    let ends_known : All (λ (e : NodePort). e.node < n) taken =
-    All-take (λ (e : NodePort). e.node < n) node.takes (drop node.offset d.ends)
-    (All-drop (λ (e : NodePort). e.node < n) node.offset d.ends
-    (all-back (λ (e : NodePort). e.node < n) (map producer_of d.wires) d.ends known)) in
+    let wires_known = from-map (λ (p : NodePort). p.node < n) producer_of d.wires (all-front (λ (p :
+    NodePort). p.node < n) (map producer_of d.wires) d.ends known) in
+    let ends_known = All-take (λ (e : NodePort). e.node < n) node.takes (drop node.offset d.ends)
+    (All-drop (λ (e : NodePort). e.node < n) node.offset d.ends (all-back (λ (e : NodePort). e.node
+    < n) (map producer_of d.wires) d.ends known)) in
     let into_known : All (λ (w : Wire). w.to < n) d.wires = from-map (λ (p : NodePort). p.node < n)
     consumer_of d.wires
-    (subst (All (λ (p : NodePort). p.node < n)) (sym h.inputs)
-    (All-weaker (IsPortFrom 0 takes) (λ (p : NodePort). p.node < n)
+    (rw h.inputs (All-weaker (IsPortFrom 0 takes) (λ (p : NodePort). p.node < n)
     (λ p q. let is : 0 + q.place ≡ p.node = q.is in let lt : q.place < length takes = q.in_range in
     let same = h.inputs_count in omega (arith, is, lt, same)) _ (ports-from 0 takes))) in
     record {
@@ -154,12 +141,8 @@ draft-from : (takes gives : List ℕ) (nodes : List DraftNode) (d : Draft) → I
 draft-from takes gives [] d h f = subst (λ l. IsDraft l (gives ++ []) d) (sym (append-nil takes))
     (subst (λ l. IsDraft takes l d) (sym (append-nil gives)) h)
 draft-from takes gives (node ∷ nodes) d h f =
-    subst (λ l. IsDraft l (gives ++ node.gives ∷ map (λ (z : DraftNode). z.gives) nodes)
-    (with_nodes nodes (with_node node d)))
-    (append_assoc takes (node.takes ∷ []) (map (λ (z : DraftNode). z.takes) nodes))
-    (subst (λ l. IsDraft ((takes ++ node.takes ∷ []) ++ map (λ (z : DraftNode). z.takes) nodes) l
-    (with_nodes nodes (with_node node d)))
-    (append_assoc gives (node.gives ∷ []) (map (λ (z : DraftNode). z.gives) nodes))
+    rw (append_assoc takes (node.takes ∷ []) (map (λ (z : DraftNode). z.takes) nodes)) at
+    (rw (append_assoc gives (node.gives ∷ []) (map (λ (z : DraftNode). z.gives) nodes)) at
     (draft-from (takes ++ node.takes ∷ []) (gives ++ node.gives ∷ []) nodes (with_node node d)
     (draft-more takes gives node d h f.0) f.1))
 
@@ -188,10 +171,6 @@ lower-contained : (ks : List ℕ) (p : NodePort) (i : ℕ) → IsPortFrom 0 ks p
 lower-contained ks p i h lt = let below = h.below in
     ports-contain 0 h.place p.node i ks h.is (omega (arith, lt, below))
 
-at-map : {X Y : Type 0} (P : Y → Type 0) (f : X → Y) (xs : List X) (k : ℕ) (d : X) → k < length xs
-    → All P (map f xs) → P (f (get_or xs k d))
-at-map P f xs k d lt h = from-map P f xs h k d lt
-
 -- the place of a wire whose image is contained
 pub record HasImage {X Y : Type 0} (f : X → Y) (xs : List X) (d : X) (y : Y) : Type 0 where
   pub place : ℕ
@@ -204,96 +183,6 @@ image-of f xs d y c =
     let lt : c.0 < length xs = let le = c.1 in omega (arith, le, length-map xs f) in
     record { place = c.0; in_range = lt; is = sym (get_or-map f xs c.0 d y lt) ∙ c.2 }
 
-pub graph-of-draft : (takes gives : List ℕ) (d : Draft) → IsDraft takes gives d → d.ends ≡ []
-    → length d.ranks ≤ 256 → length d.wires ≤ 1024
-    → IsGraph d.ranks d.wires []
-unfolding wire_at
-graph-of-draft takes gives d h none nodes edges =
-    let outputs : IsPermutation (map producer_of d.wires) (ports_from 0 gives) =
-    subst (λ l. IsPermutation l (ports_from 0 gives)) (ap (λ l. map producer_of d.wires ++ l) none
-    ∙ append-nil (map producer_of d.wires)) h.outputs in
-    let back : IsPermutation (ports_from 0 gives) (map producer_of d.wires) =
-    IsPermutation-sym _ _ outputs in
-    let is_output : All (IsPortFrom 0 gives) (map producer_of d.wires) =
-    All-permutation (IsPortFrom 0 gives) _ _ back (ports-from 0 gives) in
-    let is_input : All (IsPortFrom 0 takes) (map consumer_of d.wires) =
-    subst (All (IsPortFrom 0 takes)) (sym h.inputs) (ports-from 0 takes) in
-    let from_distinct : IsDistinct same_port (map producer_of d.wires) =
-    IsDistinct-IsPermutation same_port same_port-flips (ports_from 0 gives)
-    (map producer_of d.wires) back (ports-distinct 0 gives) in
-    let to_distinct : IsDistinct same_port (map consumer_of d.wires) = subst (IsDistinct same_port)
-    (sym h.inputs) (ports-distinct 0 takes) in
-    let inputs_count = h.inputs_count in
-    let outputs_count = h.outputs_count in
-    record {
-      so_far = record {
-        few_nodes = nodes;
-        few_edges = omega (arith, edges);
-        edges = λ e lt.
-            let out : IsPortFrom 0 gives (producer_of (get_or d.wires e no_wire)) =
-            at-map (IsPortFrom 0 gives) producer_of d.wires e no_wire lt is_output in
-            let ins : IsPortFrom 0 takes (consumer_of (get_or d.wires e no_wire)) =
-            at-map (IsPortFrom 0 takes) consumer_of d.wires e no_wire lt is_input in
-            let out_is = out.is in let out_in = out.in_range in let out_below = out.below in
-            let in_is = ins.is in let in_in = ins.in_range in let in_below = ins.below in
-            let most_in : get_or takes ins.place 0 ≤ 32 = h.few_inputs ins.place 0 in_in in
-            let most_out : get_or gives out.place 0 ≤ 16 = h.few_outputs out.place 0 out_in in
-            record {
-              from_in_range = omega (arith, out_is, out_in, outputs_count);
-              to_in_range = omega (arith, in_is, in_in, inputs_count);
-              ranked = h.ranked e no_wire lt;
-              few_inputs = omega (arith, in_below, most_in);
-              few_outputs = omega (arith, out_below, most_out);
-            };
-        inputs_once = λ e f le lf to input. same-image consumer_of d.wires e f le lf to_distinct to
-            input;
-        outputs_once = λ e f le lf from out. same-image producer_of d.wires e f le lf from_distinct
-            from out;
-      };
-      gapless = λ n lt. is-gapless d.wires n
-          (λ e i le to below.
-          let here : IsPortFrom 0 takes (consumer_of (get_or d.wires e no_wire)) =
-          at-map (IsPortFrom 0 takes) consumer_of d.wires e no_wire le is_input in
-          let found : Contains (map consumer_of d.wires)
-          (record { node = (get_or d.wires e no_wire).to; port = i }) =
-          subst (λ l. Contains l (record { node = (get_or d.wires e no_wire).to; port = i }))
-          (sym h.inputs) (lower-contained takes (consumer_of (get_or d.wires e no_wire)) i here
-          below) in
-          let w = image-of consumer_of d.wires no_wire _ found in
-          wire-input d.wires w.place n i w.in_range (ap (λ (p : NodePort). p.node) w.is
-          ∙ to) (ap (λ (p : NodePort). p.port) w.is))
-          (λ e o le from below.
-          let here : IsPortFrom 0 gives (producer_of (get_or d.wires e no_wire)) =
-          at-map (IsPortFrom 0 gives) producer_of d.wires e no_wire le is_output in
-          let found : Contains (map producer_of d.wires)
-          (record { node = (get_or d.wires e no_wire).from; port = o }) =
-          Contains-permutation (ports_from 0 gives) (map producer_of d.wires)
-          (record { node = (get_or d.wires e no_wire).from; port = o }) back
-          (lower-contained gives (producer_of (get_or d.wires e no_wire)) o here below) in
-          let w = image-of producer_of d.wires no_wire _ found in
-          wire-output d.wires w.place n o w.in_range (ap (λ (p : NodePort). p.node) w.is ∙ from)
-          (ap (λ (p : NodePort). p.port) w.is));
-    }
-  where
-    same_port-flips : (p q : NodePort) → same_port p q ≡ same_port q p
-    same_port-flips p q = ap₂ (λ a b. a && b) (eqb-flips p.node q.node) (eqb-flips p.port q.port)
-
-    same-image : (f : Wire → NodePort) (ws : List Wire) (e g : ℕ) → e < length ws → g < length ws
-        → IsDistinct same_port (map f ws)
-        → (f (wire_at ws e)).node ≡ (f (wire_at ws g)).node
-        → (f (wire_at ws e)).port ≡ (f (wire_at ws g)).port → e ≡ g
-    same-image f ws e g le lg distinct n o =
-        let at_e : get_or (map f ws) e (f no_wire) ≡ f (get_or ws e no_wire) =
-        get_or-map f ws e no_wire (f no_wire) le in
-        let at_g : get_or (map f ws) g (f no_wire) ≡ f (get_or ws g no_wire) =
-        get_or-map f ws g no_wire (f no_wire) lg in
-        same-place (map f ws) e g (f no_wire) distinct (omega (arith, le, length-map ws f))
-        (omega (arith, lg, length-map ws f))
-        (ap (λ (p : NodePort). p.node) at_e ∙ n ∙ sym (ap (λ (p : NodePort). p.node) at_g))
-        (ap (λ (p : NodePort). p.port) at_e ∙ o ∙ sym (ap (λ (p : NodePort). p.port) at_g))
-
--- ---- as many ports as the nodes say
-
 count-map : (f : Wire → NodePort) (n : ℕ) (ws : List Wire)
     → count_by (λ (w : Wire). (f w).node == n) ws ≡ sum_by (at_node n) (map f ws)
 count-map f n [] = refl
@@ -301,19 +190,96 @@ count-map f n (w ∷ ws) = sum_by-cons (λ (v : Wire). cond ((f v).node == n) 1 
     ∙ ap (λ k. at_node n (f w) + k) (count-map f n ws)
     ∙ sym (sum_by-cons (at_node n) (f w) (map f ws))
 
+-- one side of the wires: their producers are the nodes' outputs, and their consumers the inputs
+module _ (f : Wire → NodePort) (ks : List ℕ) (ws : List Wire)
+    (are : IsPermutation (map f ws) (ports_from 0 ks)) where
+  back : IsPermutation (ports_from 0 ks) (map f ws)
+  back = IsPermutation-sym _ _ are
+
+  side-port : (e : ℕ) → e < length ws → IsPortFrom 0 ks (f (get_or ws e no_wire))
+  side-port e lt = from-map (IsPortFrom 0 ks) f ws
+      (All-permutation (IsPortFrom 0 ks) _ _ back (ports-from 0 ks)) e no_wire lt
+
+  side-once : (e g : ℕ) → e < length ws → g < length ws
+      → (f (get_or ws e no_wire)).node ≡ (f (get_or ws g no_wire)).node
+      → (f (get_or ws e no_wire)).port ≡ (f (get_or ws g no_wire)).port → e ≡ g
+  side-once e g le lg n o =
+      let at_e = get_or-map f ws e no_wire (f no_wire) le in
+      let at_g = get_or-map f ws g no_wire (f no_wire) lg in
+      let distinct = IsDistinct-IsPermutation same_port (λ p q. ap₂ (λ a b. a && b)
+      (eqb-flips p.node q.node) (eqb-flips p.port q.port)) (ports_from 0 ks) (map f ws) back
+      (ports-distinct 0 ks) in
+      same-place (map f ws) e g (f no_wire) distinct (omega (arith, le, length-map ws f))
+      (omega (arith, lg, length-map ws f))
+      (ap (λ (p : NodePort). p.node) at_e ∙ n ∙ sym (ap (λ (p : NodePort). p.node) at_g))
+      (ap (λ (p : NodePort). p.port) at_e ∙ o ∙ sym (ap (λ (p : NodePort). p.port) at_g))
+
+  -- a port that is used comes with all below it
+  side-below : (e i : ℕ) → e < length ws → i < (f (get_or ws e no_wire)).port
+      → HasImage f ws no_wire (record { node = (f (get_or ws e no_wire)).node; port = i })
+  side-below e i le below = image-of f ws no_wire _ (Contains-permutation (ports_from 0 ks)
+      (map f ws) _ back (lower-contained ks (f (get_or ws e no_wire)) i (side-port e le) below))
+
+  -- as many ports as the nodes say
+  side-count : (n : ℕ) → count_by (λ (w : Wire). (f w).node == n) ws ≡ get_or ks n 0
+  side-count n = count-map f n ws ∙ sym (sum_by-IsPermutation (at_node n) _ _ are)
+      ∙ count-at 0 n n ks (omega arith)
+
+outputs-are : (takes gives : List ℕ) (d : Draft) → IsDraft takes gives d → d.ends ≡ []
+    → IsPermutation (map producer_of d.wires) (ports_from 0 gives)
+outputs-are takes gives d h none = rw (ap (λ l. map producer_of d.wires ++ l) none
+    ∙ append-nil (map producer_of d.wires)) at h.outputs
+
+pub graph-of-draft : (takes gives : List ℕ) (d : Draft) → IsDraft takes gives d → d.ends ≡ []
+    → length d.ranks ≤ 256 → length d.wires ≤ 1024
+    → IsGraph d.ranks d.wires []
+unfolding wire_at
+graph-of-draft takes gives d h none nodes edges =
+    let outs = outputs-are takes gives d h none in
+    let ins = IsPermutation-same _ _ h.inputs in
+    let inputs_count = h.inputs_count in
+    let outputs_count = h.outputs_count in
+    record {
+      so_far = record {
+        few_nodes = nodes;
+        few_edges = omega (arith, edges);
+        edges = λ e lt.
+            let o = side-port producer_of gives d.wires outs e lt in
+            let i = side-port consumer_of takes d.wires ins e lt in
+            let out_is = o.is in let out_in = o.in_range in let out_below = o.below in
+            let in_is = i.is in let in_in = i.in_range in let in_below = i.below in
+            let most_in : get_or takes i.place 0 ≤ 32 = h.few_inputs i.place 0 in_in in
+            let most_out : get_or gives o.place 0 ≤ 16 = h.few_outputs o.place 0 out_in in
+            record {
+              from_in_range = omega (arith, out_is, out_in, outputs_count);
+              to_in_range = omega (arith, in_is, in_in, inputs_count);
+              ranked = h.ranked e no_wire lt;
+              few_inputs = omega (arith, in_below, most_in);
+              few_outputs = omega (arith, out_below, most_out);
+            };
+        inputs_once = side-once consumer_of takes d.wires ins;
+        outputs_once = side-once producer_of gives d.wires outs;
+      };
+      gapless = λ n lt. is-gapless d.wires n
+          (λ e i le to below.
+          let w = side-below consumer_of takes d.wires ins e i le below in
+          wire-input d.wires w.place n i w.in_range (ap (λ (p : NodePort). p.node) w.is
+          ∙ to) (ap (λ (p : NodePort). p.port) w.is))
+          (λ e o le from below.
+          let w = side-below producer_of gives d.wires outs e o le below in
+          wire-output d.wires w.place n o w.in_range (ap (λ (p : NodePort). p.node) w.is ∙ from)
+          (ap (λ (p : NodePort). p.port) w.is));
+    }
+
 pub inputs-of-draft : (takes gives : List ℕ) (d : Draft) → IsDraft takes gives d → (n : ℕ)
     → input_count d.wires n ≡ get_or takes n 0
-inputs-of-draft takes gives d h n = count-map consumer_of n d.wires
-    ∙ ap (λ l. sum_by (at_node n) l) h.inputs ∙ count-at 0 n n takes (omega arith)
+inputs-of-draft takes gives d h =
+    side-count consumer_of takes d.wires (IsPermutation-same _ _ h.inputs)
 
 pub outputs-of-draft : (takes gives : List ℕ) (d : Draft) → IsDraft takes gives d → d.ends ≡ []
     → (n : ℕ) → output_count d.wires n ≡ get_or gives n 0
-outputs-of-draft takes gives d h none n =
-    let outputs : IsPermutation (map producer_of d.wires) (ports_from 0 gives) =
-    subst (λ l. IsPermutation l (ports_from 0 gives)) (ap (λ l. map producer_of d.wires ++ l) none
-    ∙ append-nil (map producer_of d.wires)) h.outputs in
-    count-map producer_of n d.wires ∙ sym (sum_by-IsPermutation (at_node n) _ _ outputs)
-    ∙ count-at 0 n n gives (omega arith)
+outputs-of-draft takes gives d h none =
+    side-count producer_of gives d.wires (outputs-are takes gives d h none)
 
 pub ports-length : (n o k : ℕ) → length (ports_of n o k) ≡ k
 ports-length n o zero = refl

@@ -1,11 +1,6 @@
 -- Which lists of nodes fit, by the ranks of the open ends alone.
-use Rattle.std.proofs.Common.{◌≡◌, ℕ, zero, suc, ◌<◌, ◌≤◌, List, [], ◌∷◌, ◌++◌, length, map, replicate, get_or, refl, sym, ap, subst, ◌∙◌, arith}
-use Rattle.std.specs.List.{All}
-use Rattle.std.proofs.lemmas.List.{append-nil, append_assoc, length-append, length-map, length-replicate}
-use Rattle.std.proofs.lemmas.List.Elements.{All-nil, All-cons, All-head, All-tail, All-replicate}
-use Rattle.query_model.specs.declared.processor_spec.Spec.{Spec}
-use Rattle.proc_api.specs.Graphs.{rank_at}
-use Rattle.proc_api.proofs.Graphs.{rank-kept}
+use Rattle.std.proofs.Common.{List, [], ap, append_assoc, arith, get_or, length, map, refl, replicate, subst, suc, sym, zero, ℕ, ◌++◌, ◌<◌, ◌∙◌, ◌∷◌, ◌≡◌, ◌≤◌}
+use Rattle.plan_graph.proofs.Prelude.{All, All-cons, All-head, All-nil, All-replicate, All-tail, Spec, append-nil, length-append, length-map, length-replicate, rank-kept, rank_at}
 use Rattle.plan_graph.specs.Names.{AllFitDraft, AllFitEnds, Draft, FitsDraft, FitsEnds, IsDraft, given_by, no_draft, ports_of, producer_of, ranks_after, ranks_with, replaced, run_of, taken_by, with_node, with_nodes, DraftNode, NodePort, joint_node, lane_nodes, source_nodes}
 use Rattle.plan_graph.proofs.Drafts.{all-back, draft-more, draft-start, ends-known, from-map, rank-new}
 use Rattle.plan_graph.proofs.Places.{given-map, replaced-at, run-at, taken-map}
@@ -74,10 +69,9 @@ fits-from : (takes gives : List ℕ) (nodes : List DraftNode) (d : Draft) (rs : 
 fits-from takes gives [] d rs h e f = record { fit = tt; ends = e.is }
 fits-from takes gives (node ∷ nodes) d rs h e f =
     let here : FitsDraft node d = fits-one node d rs e f.0 in
-    let more : Fitted nodes (with_node node d) (ranks_with node rs) =
-    fits-from (takes ++ node.takes ∷ []) (gives ++ node.gives ∷ []) nodes (with_node node d)
-    (ranks_with node rs) (draft-more takes gives node d h here)
-    (ends-more takes gives node d rs h e) f.1 in
+    let more = fits-from (takes ++ node.takes ∷ []) (gives ++ node.gives ∷ []) nodes (with_node node
+    d) (ranks_with node rs) (draft-more takes gives node d h here) (ends-more takes gives node d rs
+    h e) f.1 in
     record { fit = (here, more.fit); ends = more.ends }
 
 pub fits : (nodes : List DraftNode) → AllFitEnds nodes [] → Fitted nodes no_draft []
@@ -100,9 +94,9 @@ pub record FitsBlock (nodes : List DraftNode) (before after : List ℕ) : Type 0
   pub fit : AllFitEnds nodes before
   pub leaves : ranks_after nodes before ≡ after
 
-pub block-append : (xs ys : List DraftNode) (a b c : List ℕ) → FitsBlock xs a b → FitsBlock ys b c
+pub block-append : {xs ys : List DraftNode} {a b c : List ℕ} → FitsBlock xs a b → FitsBlock ys b c
     → FitsBlock (xs ++ ys) a c
-block-append xs ys a b c f g = record {
+block-append {xs} {ys} {a} f g = record {
   fit = fit-append xs ys a f.fit (subst (AllFitEnds ys) (sym f.leaves) g.fit);
   leaves = after-append xs ys a ∙ ap (ranks_after ys) f.leaves ∙ g.leaves;
 }
@@ -120,10 +114,9 @@ lanes-fit s q i (suc k) done (r ∷ left) a b low =
     let next : ranks_with node (done ++ r ∷ left) ≡ (done ++ q ∷ []) ++ left =
     replaced-at i 1 (q ∷ []) done (r ∷ []) left a refl
     ∙ sym (append_assoc done (q ∷ []) left) in
-    let more : FitsBlock (lane_nodes s q (suc i) k) ((done ++ q ∷ []) ++ left)
-    ((done ++ q ∷ []) ++ replicate k q) =
-    lanes-fit s q (suc i) k (done ++ q ∷ []) left (omega (arith, a, length-append done (q ∷ [])))
-    (omega (arith, b)) (All-tail (λ x. x < q) r left low) in
+    let more = lanes-fit s q (suc i) k (done ++ q ∷ []) left
+    (omega (arith, a, length-append done (q ∷ []))) (omega (arith, b)) (All-tail (λ x. x < q) r left
+    low) in
     record {
       fit = (
         record {
@@ -148,9 +141,12 @@ sources-fit (s ∷ specs) i done a =
     let split : done ≡ done ++ ([] ++ []) = sym (append-nil done) in
     let next : ranks_with node done ≡ done ++ 1 ∷ [] = ap (λ l. ranks_with node l) split
     ∙ replaced-at i 0 (1 ∷ []) done [] [] a refl in
-    let more : FitsBlock (source_nodes (suc i) specs) (done ++ 1 ∷ [])
-    ((done ++ 1 ∷ []) ++ replicate (length specs) 1) = sources-fit specs (suc i)
-    (done ++ 1 ∷ []) (omega (arith, a, length-append done (1 ∷ []))) in
+    let more = sources-fit specs (suc i) (done ++ 1 ∷ []) (omega (
+      arith,
+      a,
+      length-append done (1 ∷
+          []),
+    )) in
     record {
       fit = (
         record {
@@ -193,16 +189,11 @@ pub record Levels (nodes : List DraftNode) (before : List ℕ) (n below : ℕ) :
   pub low : rank < below
   pub block : FitsBlock nodes before (replicate n rank)
 
-pub level-append : (xs ys : List DraftNode) (a : List ℕ) (n q m t : ℕ) → Levels xs a n q
+pub level-append : {xs ys : List DraftNode} {a : List ℕ} {n q m t : ℕ} → Levels xs a n q
     → ((r : ℕ) → r < q → Levels ys (replicate n r) m t) → Levels (xs ++ ys) a m t
-level-append xs ys a n q m t f g =
-    let next : Levels ys (replicate n f.rank) m t = g f.rank f.low in
-    record {
-      rank = next.rank;
-      low = next.low;
-      block = block-append xs ys a (replicate n f.rank)
-          (replicate m next.rank) f.block next.block;
-    }
+level-append f g =
+    let next = g f.rank f.low in
+    record { rank = next.rank; low = next.low; block = block-append f.block next.block }
 
 pub lanes-level : (s : Spec) (q n r t : ℕ) → r < q → q < t
     → Levels (lane_nodes s q 0 n) (replicate n r) n t

@@ -1,9 +1,7 @@
 -- A list of nodes that fits, and leaves no end open, is a graph.
-use Rattle.std.proofs.Common.{◌≡◌, ◌+◌, ◌≤◌, List, [], ◌∷◌, ◌++◌, length, refl, sym, ap, ◌∙◌, arith}
-use Rattle.std.proofs.lemmas.List.{length-map, length-append, nil_from_length}
-use Rattle.proc_api.specs.Graphs.{rank_at}
-use Rattle.std.specs.Prelude.{◌≡◌, ◌+◌, ◌≤◌, List, [], length}
-use Rattle.plan_graph.specs.Names.{AllFitDraft, AllFitEnds, Draft, IsGraphOf, no_draft, ranks_after, with_node, with_nodes, DraftNode, NodePort}
+use Rattle.std.proofs.Common.{List, [], ap, arith, length, refl, sym, ◌++◌, ◌+◌, ◌∙◌, ◌∷◌, ◌≡◌, ◌≤◌}
+use Rattle.plan_graph.proofs.Prelude.{length-append, length-map, nil_from_length, rank_at}
+use Rattle.plan_graph.specs.Names.{AllFitEnds, Draft, IsGraphOf, no_draft, ranks_after, with_node, with_nodes, DraftNode, NodePort}
 use Rattle.plan_graph.proofs.Fitting.{Fitted, fits}
 use Rattle.plan_graph.proofs.Drafts.{draft-of, graph-of-draft, inputs-of-draft, outputs-of-draft}
 
@@ -30,10 +28,6 @@ pub with-append : (xs ys : List DraftNode) (d : Draft)
     → with_nodes (xs ++ ys) d ≡ with_nodes ys (with_nodes xs d)
 with-append [] ys d = refl
 with-append (x ∷ xs) ys d = with-append xs ys (with_node x d)
-
-fit-front : (xs ys : List DraftNode) (d : Draft) → AllFitDraft (xs ++ ys) d → AllFitDraft xs d
-fit-front [] ys d f = tt
-fit-front (x ∷ xs) ys d f = (f.0, fit-front xs ys (with_node x d) f.1)
 
 pub ranks-count : (nodes : List DraftNode) (d : Draft) → length (with_nodes nodes d).ranks ≡ length
     d.ranks + length nodes

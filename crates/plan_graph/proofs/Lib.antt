@@ -1,3 +1,4 @@
+pub mod Prelude
 pub mod Ports
 pub mod Places
 pub mod Drafts

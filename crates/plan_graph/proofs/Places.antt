@@ -1,6 +1,6 @@
 -- A run at a place of a list, and what stands there after a replacement.
-use Rattle.std.proofs.Common.{◌≡◌, ℕ, suc, ◌+◌, ◌≤◌, List, [], ◌∷◌, ◌++◌, length, map, take, drop, refl, sym, ap, ◌∙◌, arith}
-use Rattle.std.proofs.lemmas.List.{length-take, length-drop, drop-drop, take-append-drop, map-append, take_at, drop_at, take-map, drop-map}
+use Rattle.std.proofs.Common.{List, ap, arith, drop, length, map, sym, take, ℕ, ◌++◌, ◌+◌, ◌∙◌, ◌≡◌, ◌≤◌}
+use Rattle.plan_graph.proofs.Prelude.{drop-drop, drop-map, drop_at, length-drop, length-take, map-append, take-append-drop, take-map, take_at}
 use Rattle.plan_graph.specs.Names.{DraftNode, given_by, replaced, run_of, taken_by}
 
 -- a list is what stands before a run, the run, and what stands behind it
@@ -37,7 +37,3 @@ given-map f node new xs =
     ∙ ap (λ l. map f (take node.offset xs) ++ (map f new ++ l)) (drop-map f k xs)
     ∙ ap (λ l. map f (take node.offset xs) ++ l) (sym (map-append f new (drop k xs)))
     ∙ sym (map-append f (take node.offset xs) (new ++ drop k xs))
-
-pub length-mapped : {X Y : Type 0} (f : X → Y) (xs : List X) → length (map f xs) ≡ length xs
-length-mapped f [] = refl
-length-mapped f (x ∷ xs) = ap suc (length-mapped f xs)

@@ -1,12 +1,6 @@
 -- The ports of nodes in order: each once, without a gap, and as many of each node as it has.
-use Rattle.std.proofs.Common.{◌≡◌, ℕ, zero, suc, ◌+◌, ◌<◌, ◌≤◌, ◌==◌, ◌&&◌, cond, Bool, true, false, List, [], ◌∷◌, ◌++◌, length, get_or, refl, sym, ap, subst, ◌∙◌, arith, ◌⊎◌, inl, inr}
-use Rattle.std.specs.Prelude.{sum_by}
-use Rattle.std.specs.List.{All, Contains, IsDistinct, AllByRecursion}
-use Rattle.std.proofs.lemmas.Bool.{cases_lt, eqb-true, eq-eqb, both_ways, and_from, and_parts, false_from_ne_true}
-use Rattle.std.proofs.lemmas.List.{append-nil, append_assoc}
-use Rattle.std.proofs.lemmas.List.Elements.{All-nil, All-cons, All-append, All-weaker, recursion_from_All, All-from_recursion, Contains-append_left, Contains-append_right}
-use Rattle.std.proofs.lemmas.List.Sums.{sum_by-append, sum_by-cons}
-use Rattle.std.proofs.lemmas.Map.Keys.{IsDistinct-cons, apart_from_distinct}
+use Rattle.std.proofs.Common.{Bool, List, [], ap, append_assoc, arith, cond, false, get_or, inl, inr, length, refl, subst, suc, sum_by, sym, true, zero, ℕ, ◌&&◌, ◌++◌, ◌+◌, ◌<◌, ◌==◌, ◌∙◌, ◌∷◌, ◌≡◌, ◌≤◌, ◌⊎◌}
+use Rattle.plan_graph.proofs.Prelude.{All, All-append, All-cons, All-from_recursion, All-nil, All-weaker, AllByRecursion, Contains, Contains-append_left, Contains-append_right, IsDistinct, IsDistinct-cons, and_from, and_parts, apart_from_distinct, append-nil, both_ways, cases_lt, eq-eqb, eqb-true, false_from_ne_true, recursion_from_All, sum_by-append, sum_by-cons}
 use Rattle.plan_graph.specs.Names.{NodePort, ports_from, ports_of}
 
 -- ---- one more node
@@ -204,11 +198,9 @@ count-at n zero j (k ∷ ks) e =
     let same : n ≡ j = omega (arith, e) in
     let here : sum_by (at_node j) (ports_of n 0 k) ≡ k =
     subst (λ i. sum_by (at_node i) (ports_of n 0 k) ≡ k) same (count-of n 0 k) in
-    let rest : sum_by (at_node j) (ports_from (suc n) ks) ≡ 0 =
-    none-later (suc n) j ks (omega (arith, same)) in
+    let rest = none-later (suc n) j ks (omega (arith, same)) in
     sum_by-append (at_node j) (ports_of n 0 k) (ports_from (suc n) ks) ∙ omega (arith, here, rest)
 count-at n (suc m) j (k ∷ ks) e =
     let here : sum_by (at_node j) (ports_of n 0 k) ≡ 0 = none-of n 0 k j (omega (arith, e)) in
-    let rest : sum_by (at_node j) (ports_from (suc n) ks) ≡ get_or ks m 0 =
-    count-at (suc n) m j ks (omega (arith, e)) in
+    let rest = count-at (suc n) m j ks (omega (arith, e)) in
     sum_by-append (at_node j) (ports_of n 0 k) (ports_from (suc n) ks) ∙ omega (arith, here, rest)

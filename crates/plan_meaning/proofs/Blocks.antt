@@ -1,55 +1,86 @@
--- The meaning of blocks of nodes.
-use Rattle.std.proofs.Common.{ap₂, ◌≡◌, ℕ, zero, suc, Bool, List, [], ◌∷◌, ◌++◌, length, refl, sym, ap, subst, ◌∙◌, arith}
-use Rattle.std.specs.List.{AllZip}
-use Rattle.std.proofs.lemmas.List.{append-nil, append_assoc, length-append}
-use Rattle.chunk_data.specs.Values.{Row}
-use Rattle.query_model.specs.declared.processor_spec.Spec.{Spec}
-use Rattle.plan_graph.specs.Names.{given_by, taken_by, lane_nodes, source_nodes}
-use Rattle.plan_graph.specs.declared.nodes.DraftNode.{DraftNode}
-use Rattle.plan_meaning.specs.Names.{Flow, Parts, all_rows, flow_rows, flows_of, Makes, is_certain, is_needed, Means, MeansNode}
-use Rattle.plan_graph.proofs.Places.{replaced-at, run-at}
+-- The meaning of blocks of nodes, one behind the other, and how many rows the nodes of a kind pull.
+use Rattle.std.proofs.Common.{Bool, IsPermutation, List, [], ap, ap₂, arith, cond, false, inl, inr, length, refl, subst, suc, sym, true, zero, ℕ, ◌++◌, ◌+◌, ◌<◌, ◌∙◌, ◌∷◌, ◌≡◌}
+use Rattle.plan_meaning.proofs.Prelude.{AllByRecursion, AllZip, DraftNode, IsPermutation-same, IsPermutation-trans, Kind, Row, Spec, and_from, and_parts, append-nil, append_assoc, every-append, given_by, joint_node, kind_of, lane_nodes, length-append, length-map, length_permutation, or_cases, replaced-at, run-at, same_kind, source_nodes, taken_by}
+use Rattle.query_model.specs.declared.processor_spec.Spec.TheVariants as spec
+use Rattle.plan_meaning.specs.Names.{Flow, Parts, all_certain, all_rows, any_needs, flow_rows, flows_of, IsNoLimit, IsOpenNode, IsSource, IsTold, Makes, Means, MeansNode, all_valid, if_kind, is_certain, is_needed, is_valid_source, meant_by, pulls, source_list, sources_rows}
+use Rattle.plan_meaning.proofs.Zips.{zip-length}
+
+-- ---- nodes
+
+-- the flow of these rows, which a node made of such flows
+abbrev pub flow_made : Parts → Spec → List Flow → List Row → Flow
+flow_made parts s t rows = record {
+  rows = rows;
+  certain = is_certain parts s t;
+  needs = is_needed parts s t;
+}
 
 -- what a node made of the flows t, between xs and ys
-pub record NodeMade (parts : Parts) (s : Spec) (gives : ℕ) (xs t ys after : List Flow) : Type 0
-  where
-    pub outs : List (List Row)
-    pub makes : Makes parts s (flow_rows t) outs
-    pub count : length outs ≡ gives
-    pub are : after ≡ xs ++ (flows_of (is_certain parts s t) (is_needed parts s t) outs ++ ys)
+record NodeMade (parts : Parts) (node : DraftNode) (xs t ys before after : List Flow) : Type 0 where
+  pub outs : List (List Row)
+  pub makes : Makes parts node.spec (flow_rows t) outs
+  pub count : length outs ≡ node.gives
+  pub are : after ≡ xs ++ (flows_of (is_certain parts node.spec t) (is_needed parts node.spec t)
+      outs ++ ys)
+  pub pulled : (k : Kind) → if_kind k node (length (all_rows (flow_rows (taken_by node before))))
+      ≡ pulls k node.spec (length (all_rows (flow_rows t)))
 
-pub node-at : (parts : Parts) (node : DraftNode) (xs t ys after : List Flow)
-    → length xs ≡ node.offset → length t ≡ node.takes → MeansNode parts node (xs ++ (t ++ ys)) after
-    → NodeMade parts node.spec node.gives xs t ys after
-node-at parts node xs t ys after a b m =
-    let taken : taken_by node (xs ++ (t ++ ys)) ≡ t = run-at node.offset node.takes xs t ys a b in
+node-at : (parts : Parts) (node : DraftNode) (xs t ys before after : List Flow)
+    → before ≡ xs ++ (t ++ ys) → length xs ≡ node.offset → length t ≡ node.takes
+    → MeansNode parts node before after → NodeMade parts node xs t ys before after
+node-at parts node xs t ys before after is a b m =
+    let taken : taken_by node before ≡ t = ap (λ l. taken_by node l) is
+    ∙ run-at node.offset node.takes xs t ys a b in
     record {
       outs = m.outs;
       makes = subst (λ l. Makes parts node.spec (flow_rows l) m.outs) taken m.makes;
       count = m.count;
-      are = m.are
-          ∙ ap (λ l. given_by node
-          (flows_of (is_certain parts node.spec l) (is_needed parts node.spec l) m.outs)
-          (xs ++ (t ++ ys))) taken
-          ∙ replaced-at node.offset node.takes
-          (flows_of (is_certain parts node.spec t) (is_needed parts node.spec t) m.outs) xs t ys a
-          b;
+      are = m.are ∙ ap₂ (λ l k. given_by node
+          (flows_of (is_certain parts node.spec l) (is_needed parts node.spec l) m.outs) k) taken is
+          ∙ replaced-at node.offset node.takes (flows_of (is_certain parts node.spec t)
+          (is_needed parts node.spec t) m.outs) xs t ys a b;
+      pulled = λ k. ap (λ l. if_kind k node (length (all_rows (flow_rows l)))) taken;
     }
 
--- ---- blocks, one behind the other
+pub only-one : {X : Type 0} (P : List X → Type 0) (xs : List X) → length xs ≡ 1 → P xs → (x : X)
+    × (xs ≡ x ∷ []) × P (x ∷ [])
+only-one P (x ∷ []) e h = (x, refl, h)
+only-one P xs e h = absurd (omega (arith, e))
 
-pub record MeansParts (parts : Parts) (front back : List DraftNode)
-    (before after : List Flow) : Type 0 where
+-- two lists of nodes, one behind the other
+record Split (parts : Parts) (front back : List DraftNode) (before after : List Flow)
+    (m : Means parts (front ++ back) before after) : Type 0 where
   pub middle : List Flow
   pub first : Means parts front before middle
   pub then' : Means parts back middle after
+  pub pulled : (k : Kind) → meant_by parts k (front ++ back) before after m
+      ≡ meant_by parts k front before middle first + meant_by parts k back middle after then'
 
-pub means-append : (parts : Parts) (front back : List DraftNode) (before after : List Flow)
-    → Means parts (front ++ back) before after → MeansParts parts front back before after
-means-append parts [] back before after m = record { middle = before; first = refl; then' = m }
-means-append parts (node ∷ front) back before after m =
-    let more : MeansParts parts front back m.0 after = means-append parts front back m.0 after
-    m.2 in
-    record { middle = more.middle; first = (m.0, m.1, more.first); then' = more.then' }
+split : (parts : Parts) (front back : List DraftNode) (before after : List Flow)
+    (m : Means parts (front ++ back) before after) → Split parts front back before after m
+split parts [] back before after m = record {
+  middle = before;
+  first = refl;
+  then' = m;
+  pulled = λ k. omega arith;
+}
+split parts (node ∷ front) back before after m =
+    let more : Split parts front back m.0 after m.2 = split parts front back m.0 after m.2 in
+    record {
+      middle = more.middle;
+      first = (m.0, m.1, more.first);
+      then' = more.then';
+      pulled = λ k. let rest = more.pulled k in omega (arith, rest);
+    }
+
+-- where nothing counts, none does
+pub none-of : (b : Bool) → (let n : ℕ = cond b 0 0 in n) ≡ 0
+none-of true = refl
+none-of false = refl
+
+sum-of : (b : Bool) (m n : ℕ) → cond b m 0 + cond b n 0 ≡ cond b (m + n) 0
+sum-of true m n = refl
+sum-of false m n = omega arith
 
 -- ---- lanes
 
@@ -58,88 +89,350 @@ abbrev pub LaneMade : Parts → Spec → Flow → Flow → Type 0
 LaneMade parts s y z = Makes parts s (y.rows ∷ []) (z.rows ∷ [])
     × (z.certain ≡ is_certain parts s (y ∷ [])) × (z.needs ≡ is_needed parts s (y ∷ []))
 
-pub record LanesMade (parts : Parts) (s : Spec) (xs ys after : List Flow) : Type 0 where
+record LanesMade (parts : Parts) (s : Spec) (rank i n : ℕ) (xs ys before after : List Flow)
+    (m : Means parts (lane_nodes s rank i n) before after) : Type 0 where
   pub lanes : List Flow
   pub are : after ≡ xs ++ lanes
   pub each : AllZip (LaneMade parts s) ys lanes
+  pub pulled : (k : Kind) → meant_by parts k (lane_nodes s rank i n) before after m
+      ≡ pulls k s (length (all_rows (flow_rows ys)))
 
-only-one : {X : Type 0} (P : List X → Type 0) (xs : List X) → length xs ≡ 1 → P xs → (x : X)
-    × (xs ≡ x ∷ []) × P (x ∷ [])
-only-one P [] e h = absurd (omega (arith, e))
-only-one P (x ∷ []) e h = (x, refl, h)
-only-one P (x ∷ y ∷ xs) e h = absurd (omega (arith, e))
-
-pub lanes-mean : (parts : Parts) (s : Spec) (rank : ℕ) (xs ys after : List Flow) (i k : ℕ)
-    → length xs ≡ i → length ys ≡ k → Means parts (lane_nodes s rank i k) (xs ++ ys) after
-    → LanesMade parts s xs ys after
-lanes-mean parts s rank xs [] after i zero a b m = record { lanes = []; are = m; each = tt }
-lanes-mean parts s rank xs [] after i (suc k) a b m = absurd (omega (arith, b))
-lanes-mean parts s rank xs (y ∷ ys) after i zero a b m = absurd (omega (arith, b))
-lanes-mean parts s rank xs (y ∷ ys) after i (suc k) a b m =
-    let made : NodeMade parts s 1 xs (y ∷ []) ys m.0 =
-    node-at parts (record { spec = s; rank = rank; offset = i; takes = 1; gives = 1 }) xs
-    (y ∷ []) ys m.0 a refl m.1 in
+lanes-mean : (parts : Parts) (s : Spec) (rank i n : ℕ) (xs ys before after : List Flow)
+    → before ≡ xs ++ ys → length xs ≡ i → length ys ≡ n
+    → (m : Means parts (lane_nodes s rank i n) before after)
+    → LanesMade parts s rank i n xs ys before after m
+lanes-mean parts s rank i zero xs [] before after is a b m = record {
+  lanes = [];
+  are = m ∙ is;
+  each = tt;
+  pulled = λ k. sym (none-of (same_kind (kind_of s) k));
+}
+lanes-mean parts s rank i (suc n) xs (y ∷ ys) before after is a b m =
+    let node : DraftNode = record { spec = s; rank = rank; offset = i; takes = 1; gives = 1 } in
+    let made = node-at parts node xs (y ∷ []) ys before m.0 is a refl m.1 in
     let one = only-one (λ l. Makes parts s (y.rows ∷ []) l) made.outs made.count made.makes in
-    let c : Bool = is_certain parts s (y ∷ []) in
-    let n : Bool = is_needed parts s (y ∷ []) in
-    let z : Flow = record { rows = one.0; certain = c; needs = n } in
-    let here : m.0 ≡ (xs ++ z ∷ []) ++ ys = made.are ∙ ap (λ l. xs ++ (flows_of c n l ++ ys)) one.1
+    let z : Flow = flow_made parts s (y ∷ []) one.0 in
+    let here : m.0 ≡ (xs ++ z ∷ []) ++ ys =
+    made.are ∙ ap (λ l. xs ++ (flows_of z.certain z.needs l ++ ys)) one.1
     ∙ sym (append_assoc xs (z ∷ []) ys) in
-    let more : LanesMade parts s (xs ++ z ∷ []) ys after =
-    lanes-mean parts s rank (xs ++ z ∷ []) ys after (suc i) k
-    (omega (arith, a, length-append xs (z ∷ []))) (omega (arith, b))
-    (subst (λ l. Means parts (lane_nodes s rank (suc i) k) l after) here m.2) in
+    let more = lanes-mean parts s rank (suc i) n (xs ++ z ∷ []) ys m.0 after here
+    (omega (arith, a, length-append xs (z ∷ []))) (omega (arith, b)) m.2 in
     record {
       lanes = z ∷ more.lanes;
       are = more.are ∙ append_assoc xs (z ∷ []) more.lanes;
       each = ((one.2, refl, refl), more.each);
+      pulled = λ k. ap₂ (λ p q. p + q) (made.pulled k
+          ∙ ap (λ l. pulls k s (length l)) (append-nil y.rows)) (more.pulled k)
+          ∙ sum-of (same_kind (kind_of s) k) (length y.rows) (length (all_rows (flow_rows ys)))
+          ∙ ap (pulls k s) (sym (length-append y.rows (all_rows (flow_rows ys))));
     }
+lanes-mean parts s rank i n xs ys before after is a b m = absurd (omega (arith, b))
 
--- lanes of a kind that makes the same of all rows as of the lanes' rows together
-pub lanes-together : (parts : Parts) (s : Spec) (make : List Row → List Row) → make [] ≡ []
-    → ((xs ys : List Row) → make (xs ++ ys) ≡ make xs ++ make ys)
-    → ((i o : List Row) → Makes parts s (i ∷ []) (o ∷ []) → o ≡ make i) → (ys zs : List Flow)
-    → AllZip (LaneMade parts s) ys zs → all_rows (flow_rows zs) ≡ make (all_rows (flow_rows ys))
-lanes-together parts s make none joins is [] [] h = sym none
-lanes-together parts s make none joins is [] (z ∷ zs) h = absurd h
-lanes-together parts s make none joins is (y ∷ ys) [] h = absurd h
-lanes-together parts s make none joins is (y ∷ ys) (z ∷ zs) h =
-    ap₂ (λ a b. a ++ b) (is y.rows z.rows h.0.0) (lanes-together parts s make none joins is ys zs
-    h.1) ∙ sym (joins y.rows (all_rows (flow_rows ys)))
+open-lanes : (s : Spec) (rank i n : ℕ) → IsNoLimit s
+    → AllByRecursion IsOpenNode (lane_nodes s rank i n)
+open-lanes s rank i zero h = tt
+open-lanes s rank i (suc n) h = ((omega arith, h), open-lanes s rank (suc i) n h)
 
 -- ---- sources
 
-pub record SourcesMade (parts : Parts) (specs : List Spec) (xs after : List Flow) : Type 0 where
+source-made : (parts : Parts) (s : Spec) (rows : List Row) → IsSource s
+    → Makes parts s [] (rows ∷ []) → (rows ≡ source_list parts s)
+    × (is_certain parts s [] ≡ true → is_valid_source parts s ≡ true)
+source-made parts (spec.Csv part) rows i m = (m, λ e. e)
+source-made parts (spec.Numbers n chunk_rows) rows i m = (m, λ e. refl)
+source-made parts _ rows i m = absurd i
+
+record SourcesMade (parts : Parts) (specs : List Spec) (i : ℕ) (xs before after : List Flow)
+    (m : Means parts (source_nodes i specs) before after) : Type 0 where
   pub flows : List Flow
   pub are : after ≡ xs ++ flows
-  pub each : AllZip (λ (s : Spec) (z : Flow). Makes parts s [] (z.rows ∷ [])
-      × (z.certain ≡ is_certain parts s []) × (z.needs ≡ is_needed parts s [])) specs flows
+  pub count : length flows ≡ length specs
+  pub rows_are : sources_rows parts specs ≡ all_rows (flow_rows flows)
+  pub certain : all_certain flows ≡ true → all_valid parts specs ≡ true
+  pub pulled : (k : Kind) → meant_by parts k (source_nodes i specs) before after m ≡ 0
 
-pub sources-mean : (parts : Parts) (specs : List Spec) (xs after : List Flow) (i : ℕ)
-    → length xs ≡ i → Means parts (source_nodes i specs) xs after → SourcesMade parts specs xs after
-sources-mean parts [] xs after i a m = record {
+sources-mean : (parts : Parts) (specs : List Spec) (i : ℕ) (xs before after : List Flow)
+    → before ≡ xs → length xs ≡ i → AllByRecursion IsSource specs
+    → (m : Means parts (source_nodes i specs) before after)
+    → SourcesMade parts specs i xs before after m
+sources-mean parts [] i xs before after is a sources m = record {
   flows = [];
-  are = m ∙ sym (append-nil xs);
-  each = tt;
+  are = m ∙ is ∙ sym (append-nil xs);
+  count = refl;
+  rows_are = refl;
+  certain = λ e. refl;
+  pulled = λ k. refl;
 }
-sources-mean parts (s ∷ specs) xs after i a m =
+sources-mean parts (s ∷ specs) i xs before after is a sources m =
     let node : DraftNode = record { spec = s; rank = 1; offset = i; takes = 0; gives = 1 } in
-    let made : NodeMade parts s 1 xs [] [] m.0 = node-at parts node xs [] [] m.0 a refl
-    (subst (λ l. MeansNode parts node l m.0) (sym (append-nil xs)) m.1) in
+    let made = node-at parts node xs [] [] before m.0 (is ∙ sym (append-nil xs)) a refl m.1 in
     let one = only-one (λ l. Makes parts s [] l) made.outs made.count made.makes in
-    let z : Flow = record {
-      rows = one.0;
-      certain = is_certain parts s [];
-      needs = is_needed parts s [];
-    } in
-    let here : m.0 ≡ xs ++ z ∷ [] = made.are
-    ∙ ap (λ l. xs ++ (flows_of (is_certain parts s []) (is_needed parts s []) l ++ [])) one.1 in
-    let more : SourcesMade parts specs (xs ++ z ∷ []) after =
-    sources-mean parts specs (xs ++ z ∷ []) after (suc i)
-    (omega (arith, a, length-append xs (z ∷ [])))
-    (subst (λ l. Means parts (source_nodes (suc i) specs) l after) here m.2) in
+    let z : Flow = flow_made parts s [] one.0 in
+    let more = sources-mean parts specs (suc i) (xs ++ z ∷ []) m.0 after
+    (made.are ∙ ap (λ l. xs ++ (flows_of z.certain z.needs l ++ [])) one.1)
+    (omega (arith, a, length-append xs (z ∷ []))) sources.1 m.2 in
+    let first = source-made parts s one.0 sources.0 one.2 in
     record {
       flows = z ∷ more.flows;
       are = more.are ∙ append_assoc xs (z ∷ []) more.flows;
-      each = ((one.2, refl, refl), more.each);
+      count = ap suc more.count;
+      rows_are = ap₂ (λ a b. a ++ b) (sym first.0) more.rows_are;
+      certain = λ e. let both = and_parts _ _ e in
+          and_from _ _ (first.1 both.0) (more.certain both.1);
+      pulled = λ k. ap₂ (λ p q. p + q) (made.pulled k ∙ none-of (same_kind (kind_of s) k))
+          (more.pulled k);
     }
+
+open-sources : (specs : List Spec) (i : ℕ) → AllByRecursion IsSource specs
+    → AllByRecursion IsOpenNode (source_nodes i specs)
+open-sources [] i h = tt
+open-sources (s ∷ specs) i h = ((omega arith, no-limit s h.0), open-sources specs (suc i) h.1)
+  where
+    no-limit : (s : Spec) → IsSource s → IsNoLimit s
+    no-limit (spec.Csv part) h = tt
+    no-limit (spec.Numbers n rows) h = tt
+    no-limit _ h = absurd h
+
+-- ---- what is true of some flows
+
+-- So many flows, whose rows together are these in any order. They are certain only where c is true,
+-- and need n.
+pub record Spread (lanes : ℕ) (rows : List Row) (c n : Bool) (flows : List Flow) : Type 0 where
+  pub count : length flows ≡ lanes
+  pub same : IsPermutation rows (all_rows (flow_rows flows))
+  pub certain : all_certain flows ≡ true → c ≡ true
+  pub needs : any_needs flows ≡ true → n ≡ true
+
+-- flows of a form, of whose value P is true
+pub record Form {A : Type 0} (form : A → List Flow) (P : A → Type 0) (flows : List Flow) : Type 0
+  where
+    pub value : A
+    pub are : flows ≡ form value
+    pub has : P value
+
+abbrev pub Alone : (Flow → Type 0) → List Flow → Type 0
+Alone P flows = Form (λ f. f ∷ []) P flows
+
+-- P is true of the first flows, and Q of the others
+pub record Both (P Q : List Flow → Type 0) (flows : List Flow) : Type 0 where
+  pub front : List Flow
+  pub back : List Flow
+  pub are : flows ≡ front ++ back
+  pub first : P front
+  pub second : Q back
+
+-- what is before flows, of which P is true, where nothing is before them
+pub alone-from : (P : List Flow → Type 0) (l : List Flow) → P l → Both (λ x. x ≡ []) P l
+alone-from P l p = record { front = []; back = l; are = refl; first = refl; second = p }
+
+pub alone-to : (P : List Flow → Type 0) (l : List Flow) → Both (λ x. x ≡ []) P l → P l
+alone-to P l b = subst P (sym (b.are ∙ ap (λ x. x ++ b.back) b.first)) b.second
+
+-- ---- marks
+
+certain-marked : (c n : Bool) (lists : List (List Row)) → 0 < length lists
+    → all_certain (flows_of c n lists) ≡ true → c ≡ true
+certain-marked c n [] lt e = absurd (omega (arith, lt))
+certain-marked c n (l ∷ lists) lt e = (and_parts _ _ e).0
+
+needs-marked : (c n : Bool) (lists : List (List Row)) → any_needs (flows_of c n lists) ≡ true
+    → n ≡ true
+needs-marked c n [] e = absurd (cc)
+needs-marked c n (l ∷ lists) e =
+    elim (or_cases _ _ e) [ inl h ↦ h | inr more ↦ needs-marked c n lists more ]
+
+rows-marked : (c n : Bool) (lists : List (List Row)) → lists ≡ flow_rows (flows_of c n lists)
+rows-marked c n [] = refl
+rows-marked c n (l ∷ lists) = ap (λ z. l ∷ z) (rows-marked c n lists)
+
+-- ---- blocks
+
+module _ (parts : Parts) (unlimited : Type 0) where
+  -- Where P is true of the flows before the nodes, Q is true of those behind them. Where no node is
+  -- a limit, each has an output, and the nodes of each kind that is told of pull so many rows.
+  pub record Block (nodes : List DraftNode) (P Q : List Flow → Type 0) (n : Kind → ℕ) : Type 0
+    where
+      pub run : (before after : List Flow) → P before → (m : Means parts nodes before after)
+          → Q after × (unlimited → (k : Kind) → IsTold k
+          → meant_by parts k nodes before after m ≡ n k)
+      pub all_open : unlimited → AllByRecursion IsOpenNode nodes
+
+module _ {parts : Parts} {unlimited : Type 0} where
+  pub block-then : {xs ys : List DraftNode} {P Q R : List Flow → Type 0} {a b : Kind → ℕ}
+      → Block parts unlimited xs P Q a → Block parts unlimited ys Q R b
+      → Block parts unlimited (xs ++ ys) P R (λ k. a k + b k)
+  block-then {xs} {ys} f g = record {
+    run = λ before after p m.
+        let s = split parts xs ys before after m in
+        let one = f.run before s.middle p s.first in
+        let two = g.run s.middle after one.0 s.then' in
+        (two.0, λ u k t. s.pulled k ∙ ap₂ (λ x y. x + y) (one.1 u k t) (two.1 u k t));
+    all_open = λ u. every-append IsOpenNode xs ys (f.all_open u) (g.all_open u);
+  }
+
+  pub block-so : {nodes : List DraftNode} {P Q R S : List Flow → Type 0} {a b : Kind → ℕ}
+      → ((l : List Flow) → R l → P l) → ((l : List Flow) → Q l → S l)
+      → ((k : Kind) → a k ≡ b k) → Block parts unlimited nodes P Q a
+      → Block parts unlimited nodes R S b
+  block-so from to same f = record {
+    run = λ before after r m.
+        let one = f.run before after (from before r) m in
+        (to after one.0, λ u k t. one.1 u k t ∙ same k);
+    all_open = f.all_open;
+  }
+
+  pub no-block : {P Q : List Flow → Type 0} → ((l : List Flow) → P l → Q l)
+      → Block parts unlimited [] P Q (λ k. 0)
+  no-block {P} {Q} to = record {
+    run = λ before after p m. (subst Q (sym m) (to before p), λ u k t. refl);
+    all_open = λ u. tt;
+  }
+
+  -- lanes of a kind
+  pub lanes-block : (s : Spec) (rank lanes : ℕ) (rows : List Row) (c n : Bool)
+      (Q : List Flow → Type 0) → IsNoLimit s
+      → ((ys zs : List Flow) → Spread lanes rows c n ys → AllZip (LaneMade parts s) ys zs
+      → length zs ≡ lanes → Q zs)
+      → Block parts unlimited (lane_nodes s rank 0 lanes) (Spread lanes rows c n) Q
+      (λ k. pulls k s (length rows))
+  lanes-block s rank lanes rows c n Q limit step = record {
+    run = λ before after h m.
+        let made = lanes-mean parts s rank 0 lanes [] before before after refl refl h.count m in
+        let count = sym (zip-length (LaneMade parts s) before made.lanes made.each) ∙ h.count in (
+          subst Q (sym made.are) (step before made.lanes h made.each count),
+          λ u k t. made.pulled k ∙ ap (pulls k s) (length_permutation _ _ h.same),
+        );
+    all_open = λ u. open-lanes s rank 0 lanes limit;
+  }
+
+  -- sources behind other flows
+  pub sources-block : (specs : List Spec) (i : ℕ) (P : List Flow → Type 0)
+      → AllByRecursion IsSource specs → ((l : List Flow) → P l → length l ≡ i)
+      → Block parts unlimited (source_nodes i specs) P
+      (Both P (Spread (length specs) (sources_rows parts specs) (all_valid parts specs) true))
+      (λ k. 0)
+  sources-block specs i P sources front = record {
+    run = λ before after p m.
+        let made = sources-mean parts specs i before before after refl (front before p) sources
+        m in (
+          record {
+            front = before;
+            back = made.flows;
+            are = made.are;
+            first = p;
+            second = record {
+              count = made.count;
+              same = IsPermutation-same _ _ made.rows_are;
+              certain = made.certain;
+              needs = λ e. refl;
+            };
+          },
+          λ u k t. made.pulled k,
+        );
+    all_open = λ u. open-sources specs i sources;
+  }
+
+  -- a node that takes all flows but the first
+  pub node-block : (node : DraftNode) (P Q R : List Flow → Type 0) (n : Kind → ℕ)
+      → (unlimited → IsNoLimit node.spec) → 0 < node.gives
+      → ((l : List Flow) → P l → length l ≡ node.offset)
+      → ((l : List Flow) → Q l → length l ≡ node.takes)
+      → ((t : List Flow) (outs : List (List Row)) → Q t → Makes parts node.spec (flow_rows t) outs
+      → length outs ≡ node.gives
+      → R (flows_of (is_certain parts node.spec t) (is_needed parts node.spec t) outs))
+      → ((k : Kind) (t : List Flow) → unlimited → IsTold k → Q t
+      → pulls k node.spec (length (all_rows (flow_rows t))) ≡ n k)
+      → Block parts unlimited (node ∷ []) (Both P Q) (Both P R) n
+  node-block node P Q R n limit some front takes step pulled = record {
+    run = λ before after h m.
+        let made = node-at parts node h.front h.back [] before m.0
+        (h.are ∙ ap (λ l. h.front ++ l) (sym (append-nil h.back))) (front h.front h.first)
+        (takes h.back h.second) m.1 in
+        let outs : List Flow = flows_of (is_certain parts node.spec h.back)
+        (is_needed parts node.spec h.back) made.outs in (
+          record {
+            front = h.front;
+            back = outs;
+            are = m.2 ∙ made.are ∙ ap (λ l. h.front ++ l) (append-nil outs);
+            first = h.first;
+            second = step h.back made.outs h.second made.makes made.count;
+          },
+          λ u k t. let e = made.pulled k ∙ pulled k h.back u t h.second in omega (arith, e),
+        );
+    all_open = λ u. ((some, limit u), tt);
+  }
+
+  -- a node that takes all flows, and has one output
+  pub joint-block : (s : Spec) (rank m : ℕ) (P : List Flow → Type 0) (Q : Flow → Type 0)
+      (n : Kind → ℕ)
+      → (unlimited → IsNoLimit s) → ((l : List Flow) → P l → length l ≡ m)
+      → ((t : List Flow) (out : List Row) → P t → Makes parts s (flow_rows t) (out ∷ [])
+      → Q (flow_made parts s t out))
+      → ((k : Kind) (t : List Flow) → unlimited → IsTold k → P t
+      → pulls k s (length (all_rows (flow_rows t))) ≡ n k)
+      → Block parts unlimited (joint_node s rank m 1 ∷ []) P (Alone Q) n
+  joint-block s rank m P Q n limit takes step pulled =
+      block-so (alone-from P) (alone-to (Alone Q)) (λ k. refl)
+      (node-block (joint_node s rank m 1) (λ l. l ≡ []) P (Alone Q) n limit (omega arith)
+      (λ l e. ap length e) takes
+      (λ t outs p makes count.
+      let one = only-one (λ l. Makes parts s (flow_rows t) l) outs count makes in
+      let f : Flow = flow_made parts s t one.0 in
+      record {
+        value = f;
+        are = ap (flows_of f.certain f.needs) one.1;
+        has = step t one.0 p one.2;
+      }) pulled)
+
+  -- a node that takes all flows, which have a form, and has one output
+  pub form-block : {A : Type 0} (s : Spec) (rank m : ℕ) (form : A → List Flow) (P : A → Type 0)
+      (Q : Flow → Type 0) (n : Kind → ℕ) → (unlimited → IsNoLimit s)
+      → ((a : A) → length (form a) ≡ m)
+      → ((a : A) (out : List Row) → P a → Makes parts s (flow_rows (form a)) (out ∷ [])
+      → Q (flow_made parts s (form a) out))
+      → ((k : Kind) (a : A) → unlimited → P a
+      → pulls k s (length (all_rows (flow_rows (form a)))) ≡ n k)
+      → Block parts unlimited (joint_node s rank m 1 ∷ []) (Form form P) (Alone Q) n
+  form-block s rank m form P Q n limit takes step pulled =
+      joint-block s rank m (Form form P) Q n limit (λ l a. ap length a.are ∙ takes a.value)
+      (λ t out a makes. subst (λ l. Q (flow_made parts s l out)) (sym a.are)
+      (step a.value out a.has (subst (λ l. Makes parts s (flow_rows l) (out ∷ [])) a.are makes)))
+      (λ k t u told a. ap (λ l. pulls k s (length (all_rows (flow_rows l)))) a.are
+      ∙ pulled k a.value u a.has)
+
+  -- a resize of all flows but the first
+  pub resize-behind : (rank i m n : ℕ) (P : List Flow → Type 0) (rows : List Row) (c d : Bool)
+      → 0 < n → ((l : List Flow) → P l → length l ≡ i)
+      → Block parts unlimited (record {
+        spec = spec.Resize;
+        rank = rank;
+        offset = i;
+        takes = m;
+        gives = n;
+      } ∷ [])
+      (Both P (Spread m rows c d)) (Both P (Spread n rows c d)) (λ k. 0)
+  resize-behind rank i m n P rows c d some front =
+      node-block (record { spec = spec.Resize; rank = rank; offset = i; takes = m; gives = n }) P
+      (Spread m rows c d) (Spread n rows c d) (λ k. 0) (λ u. tt) some front (λ l h. h.count)
+      (λ t outs h makes count. record {
+        count = length-map outs (λ rows. record {
+          rows = rows;
+          certain = all_certain t;
+          needs = any_needs t;
+        }) ∙ count;
+        same = IsPermutation-trans _ _ _ h.same (IsPermutation-trans _ _ _ makes
+            (IsPermutation-same _ _ (ap all_rows (rows-marked (all_certain t) (any_needs t)
+            outs))));
+        certain = λ e. h.certain (certain-marked (all_certain t) (any_needs t) outs
+            (omega (arith, some, count)) e);
+        needs = λ e. h.needs (needs-marked (all_certain t) (any_needs t) outs e);
+      })
+      (λ k t u told h. ap (λ b. cond b (length (all_rows (flow_rows t))) 0) told.no_resize)
+
+  pub resize-block : (rank m n : ℕ) (rows : List Row) (c d : Bool) → 0 < n
+      → Block parts unlimited (joint_node spec.Resize rank m n ∷ []) (Spread m rows c d)
+      (Spread n rows c d)
+      (λ k. 0)
+  resize-block rank m n rows c d some =
+      block-so (alone-from (Spread m rows c d)) (alone-to (Spread n rows c d)) (λ k. refl)
+      (resize-behind rank 0 m n (λ l. l ≡ []) rows c d some (λ l e. ap length e))

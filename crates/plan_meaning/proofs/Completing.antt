@@ -1,18 +1,10 @@
 -- What passed by the end of a run is the first of what passes where nobody closes an input.
-use Rattle.std.proofs.Common.{ap₂, ◌≡◌, ◌+◌, Bool, true, false, List, [], ◌∷◌, ◌++◌, length, take, drop, refl, sym, ap, subst, ◌∙◌, arith, inl, inr, IsPermutation, ◌<◌}
-use Rattle.std.specs.List.{AllZip, AllByRecursion}
-use Rattle.std.proofs.lemmas.Bool.{and_parts, and_from, or_left, both_ways, or_cases}
-use Rattle.std.proofs.lemmas.List.{length-map}
-use Rattle.query_model.specs.declared.checked.KeyPair.{KeyPair}
-use Rattle.query_model.specs.declared.processor_spec.Spec.{Spec}
+use Rattle.std.proofs.Common.{Bool, IsPermutation, List, [], ap, ap₂, arith, false, inl, inr, length, refl, subst, sym, take, true, ◌++◌, ◌+◌, ◌<◌, ◌∙◌, ◌∷◌, ◌≡◌}
+use Rattle.plan_meaning.proofs.Prelude.{AllByRecursion, AllZip, DraftNode, IsSortOf, KeyPair, Spec, and_from, and_parts, both_ways, given_by, length-map, or_cases, or_left, run-split, taken_by}
 use Rattle.plan_meaning.specs.Names.{AllInputsDone, IsNoLimit, IsOpenNode, Pulls, Runs, RunsNode, if_kind, Completes, IsFront, Flow, ManyToOne, OneToOne, Parts, Source, Stream, TwoToOne, all_done, all_rows, any_done, flows_of, rows_of, Gives, GivesHeld, GivesJoined, GivesMerged, merged_rows, partial_rows, Makes, is_certain, is_needed}
 use Rattle.plan_meaning.proofs.KindLaws.{CompletesKind, complete-kind, done-rows}
-use Rattle.plan_graph.specs.Drafts.{given_by, taken_by}
-use Rattle.plan_graph.specs.declared.nodes.DraftNode.{DraftNode}
-use Rattle.proc_api.specs.Made.{IsSortOf}
 use Rattle.plan_meaning.proofs.Fronts.{pulled-front}
-use Rattle.plan_graph.proofs.Places.{run-split}
-use Rattle.plan_meaning.proofs.Zips.{zip-append, zip-chain, zip-drop, zip-length, zip-take}
+use Rattle.plan_meaning.proofs.Zips.{zip-chain, zip-given, zip-length, zip-taken}
 use Rattle.query_model.specs.declared.processor_spec.Spec.TheVariants as spec
 
 pub completes : (parts : Parts) (nodes : List DraftNode) (before after : List Stream)
@@ -26,26 +18,16 @@ completes parts [] before after flows r z = record {
 }
 completes parts (node ∷ nodes) before after flows r z =
     let step : RunsNode parts node before r.0 = r.1 in
-    let taken : AllZip IsFront step.ins (taken_by node flows) =
-    zip-chain Pulls IsFront IsFront pulled-front step.ins (taken_by node before)
-    (taken_by node flows) step.pulls (zip-take IsFront node.takes (drop node.offset before)
-    (drop node.offset flows) (zip-drop IsFront node.offset before flows z)) in
+    let taken = zip-chain Pulls IsFront IsFront pulled-front step.ins (taken_by node before)
+    (taken_by node flows) step.pulls (zip-taken IsFront node before flows z) in
     let made : List Flow = taken_by node flows in
     let certain : Bool = is_certain parts node.spec made in
     let needs : Bool = is_needed parts node.spec made in
     let k : CompletesKind (Makes parts node.spec) certain needs made step.outs =
     complete-kind parts node.spec step.ins step.outs (taken_by node flows) step.gives taken in
     let next : List Flow = flows_of certain needs k.lists in
-    let fronts : AllZip IsFront (given_by node step.outs before) (given_by node next flows) =
-    zip-append IsFront (take node.offset before)
-    (step.outs ++ drop (node.offset + node.takes) before) (take node.offset flows)
-    (next ++ drop (node.offset + node.takes) flows)
-    (zip-take IsFront node.offset before flows z)
-    (zip-append IsFront step.outs (drop (node.offset + node.takes) before) next
-    (drop (node.offset + node.takes) flows) k.fronts
-    (zip-drop IsFront (node.offset + node.takes) before flows z)) in
-    let more : Completes parts nodes (given_by node next flows) r.0 after r.2 =
-    completes parts nodes r.0 after (given_by node next flows) r.2
+    let fronts = zip-given IsFront node step.outs before next flows k.fronts z in
+    let more = completes parts nodes r.0 after (given_by node next flows) r.2
     (subst (λ l. AllZip IsFront l (given_by node next flows)) (sym step.are) fronts) in
     record {
       flows = more.flows;
@@ -96,27 +78,22 @@ any-of-all (x ∷ xs) lt h = or_left x.done (any_done xs) (and_parts x.done (all
 pulled-done : (ins ss : List Stream) → AllZip Pulls ins ss → all_done ins ≡ true
     → all_done ss ≡ true
 pulled-done [] [] z h = refl
-pulled-done [] (s ∷ ss) z h = absurd z
-pulled-done (i ∷ ins) [] z h = absurd z
 pulled-done (i ∷ ins) (s ∷ ss) z h = let both = and_parts _ _ h in
     and_from _ _ (z.0.finished both.0) (pulled-done ins ss z.1 both.1)
+pulled-done ins ss z h = absurd z
 
 one-done : (R : Stream → Stream → Type 0) → ((i o : Stream) → R i o → o.done ≡ true → i.done ≡ true)
     → (ins outs : List Stream) → OneToOne R ins outs → any_done outs ≡ true → all_done ins ≡ true
-one-done R f [] outs r e = absurd r
-one-done R f (i ∷ j ∷ ins) outs r e = absurd r
-one-done R f (i ∷ []) [] r e = absurd r
-one-done R f (i ∷ []) (o ∷ p ∷ outs) r e = absurd r
 one-done R f (i ∷ []) (o ∷ []) r e = elim (or_cases o.done false e)
     [ inl d ↦ and_from _ _ (f i o r d) refl | inr off ↦ absurd (both_ways false refl off) ]
+one-done R f ins outs r e = absurd r
 
 many-done : (R : List Stream → Stream → Type 0)
     → ((ins : List Stream) (o : Stream) → R ins o → o.done ≡ true → all_done ins ≡ true)
     → (ins outs : List Stream) → ManyToOne R ins outs → any_done outs ≡ true → all_done ins ≡ true
-many-done R f ins [] r e = absurd r
-many-done R f ins (o ∷ p ∷ outs) r e = absurd r
 many-done R f ins (o ∷ []) r e = elim (or_cases o.done false e)
     [ inl d ↦ f ins o r d | inr off ↦ absurd (both_ways false refl off) ]
+many-done R f ins outs r e = absurd r
 
 source-done : (P : Stream → Type 0) (ins outs : List Stream) → Source P ins outs
     → all_done ins ≡ true
@@ -125,15 +102,11 @@ source-done P (i ∷ ins) outs r = absurd r
 
 join-done : (pairs : List KeyPair) (ins outs : List Stream) → TwoToOne (GivesJoined pairs) ins outs
     → any_done outs ≡ true → all_done ins ≡ true
-join-done pairs [] outs q e = absurd q
-join-done pairs (l ∷ []) outs q e = absurd q
-join-done pairs (l ∷ r ∷ i ∷ ins) outs q e = absurd q
-join-done pairs (l ∷ r ∷ []) [] q e = absurd q
-join-done pairs (l ∷ r ∷ []) (o ∷ p ∷ outs) q e = absurd q
 join-done pairs (l ∷ r ∷ []) (o ∷ []) q e = elim (or_cases o.done false e) [
   | inl d ↦ and_from _ _ (q.left_done d) (and_from _ _ (q.right_done d) refl)
   | inr off ↦ absurd (both_ways false refl off)
 ]
+join-done pairs ins outs q e = absurd q
 
 inputs-done : (parts : Parts) (s : Spec) (ins outs : List Stream) → Gives parts s ins outs
     → IsNoLimit s → any_done outs ≡ true → all_done ins ≡ true
@@ -160,8 +133,6 @@ inputs-done parts (spec.MergeSorted order) ins outs g n e = many-done (GivesMerg
     (λ is o r. r.inputs_done) ins outs g e
 inputs-done parts spec.Collect ins [] g n e = absurd (both_ways false refl e)
 inputs-done parts spec.Collect (i ∷ []) (o ∷ outs) g n e = absurd g
-inputs-done parts spec.Collect (i ∷ j ∷ ins) (o ∷ outs) g n e = absurd g
-inputs-done parts spec.Collect [] (o ∷ outs) g n e = absurd g
 inputs-done parts _ ins outs g n e = absurd g
 
 pub all-inputs-done : (parts : Parts) (nodes : List DraftNode) (before after : List Stream)
@@ -170,17 +141,14 @@ pub all-inputs-done : (parts : Parts) (nodes : List DraftNode) (before after : L
 all-inputs-done parts [] before after r open_nodes e =
     record { ends = subst (λ l. all_done l ≡ true) r e; inputs = tt }
 all-inputs-done parts (node ∷ nodes) before after r open_nodes e =
-    let more : BothDone parts nodes r.0 after r.2 = all-inputs-done parts nodes r.0 after r.2
-    open_nodes.1 e in
+    let more = all-inputs-done parts nodes r.0 after r.2 open_nodes.1 e in
     let step : RunsNode parts node before r.0 = r.1 in
     let all : all_done (given_by node step.outs before) ≡ true = subst (λ l. all_done l ≡ true)
     step.are more.ends in
-    let behind : all_done (step.outs ++ drop (node.offset + node.takes) before) ≡ true =
-    done-back (take node.offset before) _ all in
+    let behind = done-back (take node.offset before) _ all in
     let count = step.count in
     let some : 0 < node.gives = open_nodes.0.0 in
-    let ins : all_done step.ins ≡ true =
-    inputs-done parts node.spec step.ins step.outs step.gives open_nodes.0.1
+    let ins = inputs-done parts node.spec step.ins step.outs step.gives open_nodes.0.1
     (any-of-all step.outs (omega (arith, some, count)) (done-front step.outs _ behind)) in
     record {
       ends = subst (λ l. all_done l ≡ true) (run-split node.offset node.takes before)

@@ -1,17 +1,8 @@
 -- A plan's nodes counted step by step: their number, their inputs, those of a kind.
-use Rattle.std.proofs.Common.{◌≡◌, ℕ, zero, suc, ◌+◌, ◌*◌, ◌≤◌, List, [], ◌∷◌, ◌++◌, length, Option, Some, None, refl, sym, ap, ◌∙◌, arith}
-use Rattle.std.proofs.lemmas.List.{length-append}
-use Rattle.std.proofs.lemmas.List.Sums.{sum_by-append, sum_by-cons}
-use Rattle.query_model.specs.Expressions.{Cond}
-use Rattle.query_model.specs.declared.query.Span.{Span}
-use Rattle.query_model.specs.declared.processor_spec.SortSpec.{SortSpec}
-use Rattle.query_model.specs.declared.processor_spec.Spec.{Spec}
+use Rattle.std.proofs.Common.{List, None, Option, Some, [], ap, arith, length, refl, suc, sym, zero, ℕ, ◌*◌, ◌++◌, ◌+◌, ◌∙◌, ◌∷◌, ◌≡◌, ◌≤◌}
+use Rattle.plan_meaning.proofs.Prelude.{AllFitDraft, Cond, Draft, DraftNode, NodePort, SortSpec, Span, Spec, lane_nodes, length-append, run-length, source_nodes, sum_by-append, sum_by-cons, taken_by, wires_to, with_node, with_nodes}
 use Rattle.query_model.specs.declared.processor_spec.Spec.TheVariants as spec
-use Rattle.plan_graph.specs.Names.{source_nodes, lane_nodes, joint_node, Draft, with_node, with_nodes, wires_to, taken_by, AllFitDraft}
-use Rattle.plan_graph.specs.declared.nodes.DraftNode.{DraftNode}
-use Rattle.plan_graph.specs.declared.nodes.NodePort.{NodePort}
-use Rattle.plan_graph.proofs.Places.{run-length}
-use Rattle.plan_meaning.specs.Names.{PlanShape, plain, grouped, PlanJoin, SelectPlan, filter_nodes, limit_nodes, read_nodes, gather_nodes, sort_nodes, shape_nodes, body_nodes, collect_node, plan_nodes, FewJoined, IsSmall, Count, counted, each_node, each_input, sources_count, read_count, filter_count, gather_count, sort_count, shape_count, limit_count, plan_count}
+use Rattle.plan_meaning.specs.Names.{PlanShape, plain, grouped, PlanJoin, SelectPlan, filter_nodes, limit_nodes, read_nodes, gather_nodes, sort_nodes, shape_nodes, plan_nodes, FewJoined, IsSmall, Count, counted, each_node, each_input, sources_count, read_count, filter_count, gather_count, sort_count, shape_count, limit_count, plan_count}
 
 -- ---- step by step
 
@@ -27,8 +18,7 @@ lanes-counted : (w : Count) (s : Spec) (rank i n : ℕ) → counted w (lane_node
     1
 lanes-counted w s rank i zero = omega arith
 lanes-counted w s rank i (suc n) =
-    let rest : counted w (lane_nodes s rank (suc i) n) ≡ n * w s 1 = lanes-counted w s rank (suc i)
-    n in
+    let rest = lanes-counted w s rank (suc i) n in
     counted-cons w (record { spec = s; rank = rank; offset = i; takes = 1; gives = 1 })
     (lane_nodes s rank (suc i) n) ∙ omega (arith, rest)
 
@@ -40,40 +30,12 @@ sources-counted w i (s ∷ specs) =
     (source_nodes (suc i) specs)
     ∙ ap (λ n. w s 0 + n) (sources-counted w (suc i) specs) ∙ sym (sum_by-cons (λ t. w t 0) s specs)
 
-one-counted : (w : Count) (x : DraftNode) → counted w (x ∷ []) ≡ w x.spec x.takes
-one-counted w x = counted-cons w x [] ∙ omega arith
-
 read-counted : (w : Count) (sources : List Spec) (join : Option PlanJoin) (lanes : ℕ)
     → counted w (read_nodes sources join lanes) ≡ read_count w sources join
 read-counted w sources None lanes =
-    counted-append w (source_nodes 0 sources) (joint_node spec.Resize 2 (length sources) lanes ∷ [])
-    ∙ omega (
-      arith,
-      sources-counted w 0 sources,
-      one-counted w (joint_node spec.Resize 2 (length sources) lanes),
-    )
+    simp (counted-append, counted-cons, sources-counted) (omega arith)
 read-counted w sources (Some j) lanes =
-    let a : DraftNode = joint_node spec.Resize 2 (length sources) 1 in
-    let b : DraftNode = record {
-      spec = spec.Resize;
-      rank = 2;
-      offset = 1;
-      takes = length j.sources;
-      gives = 1;
-    } in
-    let c : DraftNode = joint_node (spec.HashJoin j.join) 3 2 1 in
-    let d : DraftNode = joint_node spec.Resize 4 1 lanes in
-    counted-append w (source_nodes 0 sources) (a ∷ (source_nodes 1 j.sources ++ (b ∷ c ∷ d ∷ [])))
-    ∙ omega (
-      arith,
-      sources-counted w 0 sources,
-      counted-cons w a (source_nodes 1 j.sources ++ (b ∷ c ∷ d ∷ [])),
-      counted-append w (source_nodes 1 j.sources) (b ∷ c ∷ d ∷ []),
-      sources-counted w 1 j.sources,
-      counted-cons w b (c ∷ d ∷ []),
-      counted-cons w c (d ∷ []),
-      one-counted w d,
-    )
+    simp (counted-append, counted-cons, sources-counted) (omega arith)
 
 filter-counted : (w : Count) (f : Option Cond) (rank n : ℕ)
     → counted w (filter_nodes f rank n) ≡ filter_count w f n
@@ -82,68 +44,31 @@ filter-counted w (Some c) rank n = lanes-counted w (spec.Filter c) rank 0 n
 
 gather-counted : (w : Count) (order : Option SortSpec) (lanes : ℕ)
     → counted w (gather_nodes order lanes) ≡ gather_count w order lanes
-gather-counted w None lanes = one-counted w (joint_node spec.Resize 12 lanes 1)
+gather-counted w None lanes = simp counted-cons (omega arith)
 gather-counted w (Some o) lanes =
-    counted-append w (lane_nodes (spec.Sort o) 11 0 lanes)
-    (joint_node (spec.MergeSorted o) 12 lanes 1 ∷ [])
-    ∙ omega (
-      arith,
-      lanes-counted w (spec.Sort o) 11 0 lanes,
-      one-counted w (joint_node (spec.MergeSorted o) 12 lanes 1),
-    )
+    simp (counted-append, counted-cons, lanes-counted) (omega arith)
 
 sort-counted : (w : Count) (order : Option SortSpec) → counted w (sort_nodes order) ≡ sort_count w
     order
 sort-counted w None = refl
-sort-counted w (Some o) = one-counted w (joint_node (spec.Sort o) 11 1 1)
+sort-counted w (Some o) = simp counted-cons (omega arith)
 
 shape-counted : (w : Count) (shape : PlanShape) (order : Option SortSpec) (lanes : ℕ)
     → counted w (shape_nodes shape order lanes) ≡ shape_count w shape order lanes
 shape-counted w (plain items) order lanes =
-    counted-append w (lane_nodes (spec.Expression items) 6 0 lanes) (gather_nodes order lanes)
-    ∙ omega (arith, lanes-counted w (spec.Expression items) 6 0 lanes, gather-counted w order lanes)
+    simp (counted-append, lanes-counted, gather-counted) (omega arith)
 shape-counted w (grouped arguments g having picks) order lanes =
-    let sorts : List DraftNode = sort_nodes order in
-    let picked : List DraftNode = lane_nodes (spec.Expression picks) 10 0 1 ++ sorts in
-    let kept : List DraftNode = filter_nodes having 9 1 ++ picked in
-    let merge : DraftNode = joint_node (spec.MergeAggregate g) 8 lanes 1 in
-    counted-append w (lane_nodes (spec.Expression arguments) 6 0 lanes)
-    (lane_nodes (spec.PartialAggregate g) 7 0 lanes ++ (merge ∷ kept))
-    ∙ omega (
-      arith,
-      lanes-counted w (spec.Expression arguments) 6 0 lanes,
-      counted-append w (lane_nodes (spec.PartialAggregate g) 7 0 lanes) (merge ∷ kept),
-      lanes-counted w (spec.PartialAggregate g) 7 0 lanes,
-      counted-cons w merge kept,
-      counted-append w (filter_nodes having 9 1) picked,
-      filter-counted w having 9 1,
-      counted-append w (lane_nodes (spec.Expression picks) 10 0 1) sorts,
-      lanes-counted w (spec.Expression picks) 10 0 1,
-      sort-counted w order,
-    )
+    simp (counted-append, counted-cons, lanes-counted, filter-counted, sort-counted) (omega arith)
 
 limit-counted : (w : Count) (l : Option Span) → counted w (limit_nodes l) ≡ limit_count w l
 limit-counted w None = refl
-limit-counted w (Some span) = one-counted w (joint_node (spec.Limit span) 13 1 1)
+limit-counted w (Some span) = simp counted-cons (omega arith)
 
 -- A plan's nodes count what its steps say.
 pub plan-counted : (w : Count) (p : SelectPlan) → counted w (plan_nodes p) ≡ plan_count w p
 plan-counted w p =
-    let shape : List DraftNode = shape_nodes p.shape p.order p.lanes in
-    let limit : List DraftNode = limit_nodes p.limit in
-    counted-append w (body_nodes p) (collect_node ∷ [])
-    ∙ omega (
-      arith,
-      one-counted w collect_node,
-      counted-append w (read_nodes p.sources p.join p.lanes) (filter_nodes p.filter 5 p.lanes
-          ++ (shape ++ limit)),
-      read-counted w p.sources p.join p.lanes,
-      counted-append w (filter_nodes p.filter 5 p.lanes) (shape ++ limit),
-      filter-counted w p.filter 5 p.lanes,
-      counted-append w shape limit,
-      shape-counted w p.shape p.order p.lanes,
-      limit-counted w p.limit,
-    )
+    simp (counted-append, counted-cons, read-counted, filter-counted, shape-counted, limit-counted)
+    (omega arith)
 
 -- ---- nodes and edges
 

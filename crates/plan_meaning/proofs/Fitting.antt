@@ -1,15 +1,7 @@
 -- Each plan with few parts and lanes fits.
-use Rattle.std.proofs.Common.{◌≡◌, ℕ, ◌<◌, ◌≤◌, Option, Some, None, List, [], ◌∷◌, ◌++◌, length, replicate, refl, sym, ap, ◌∙◌, arith}
-use Rattle.std.proofs.lemmas.List.{append-nil, length-replicate}
-use Rattle.query_model.specs.Expressions.{Cond}
-use Rattle.query_model.specs.declared.query.Span.{Span}
-use Rattle.query_model.specs.declared.processor_spec.Spec.{Spec}
-use Rattle.query_model.specs.declared.processor_spec.SortSpec.{SortSpec}
-use Rattle.plan_graph.specs.Names.{AllFitEnds, ranks_after, replaced, run_of, joint_node, lane_nodes, source_nodes}
-use Rattle.plan_graph.specs.declared.nodes.DraftNode.{DraftNode}
-use Rattle.plan_meaning.specs.Plans.{FewJoined, IsSmall, PlanJoin, PlanShape, SelectPlan, body_nodes, collect_node, filter_nodes, gather_nodes, grouped, limit_nodes, plain, plan_nodes, read_nodes, shape_nodes, sort_nodes}
-use Rattle.plan_graph.proofs.Fitting.{FitsBlock, Levels, all-front', block-append, joint-fit, joint-level, lanes-level, level-append, same-ranks, sources-fit, stay-level}
-use Rattle.plan_graph.proofs.Places.{replaced-at, run-at}
+use Rattle.std.proofs.Common.{List, None, Option, Some, [], ap, arith, length, refl, replicate, sym, ℕ, ◌++◌, ◌<◌, ◌∙◌, ◌∷◌, ◌≡◌, ◌≤◌}
+use Rattle.plan_meaning.proofs.Prelude.{AllFitEnds, Cond, FitsBlock, Levels, SortSpec, Span, Spec, all-front', append-nil, block-append, joint-fit, joint-level, lanes-level, length-replicate, level-append, ranks_after, replaced, replaced-at, run-at, run_of, same-ranks, sources-fit, stay-level}
+use Rattle.plan_meaning.specs.Plans.{FewJoined, IsSmall, PlanJoin, PlanShape, SelectPlan, body_nodes, filter_nodes, gather_nodes, grouped, limit_nodes, plain, plan_nodes, read_nodes, shape_nodes, sort_nodes}
 use Rattle.query_model.specs.declared.processor_spec.Spec.TheVariants as spec
 
 filter-level : (f : Option Cond) (q n r t : ℕ) → r < q → q < t
@@ -49,35 +41,21 @@ read-level : (sources : List Spec) (join : Option PlanJoin) (lanes : ℕ) → le
     → FewJoined join → lanes ≤ 16 → Levels (read_nodes sources join lanes) [] lanes 5
 read-level sources None lanes few fj fl =
     let p : ℕ = length sources in
-    level-append (source_nodes 0 sources) (joint_node spec.Resize 2 p lanes ∷ []) [] p 2 lanes 5
-    (record { rank = 1; low = omega arith; block = sources-fit sources 0 [] refl })
+    level-append (record { rank = 1; low = omega arith; block = sources-fit sources 0 [] refl })
     (λ r low. joint-level spec.Resize 2 p lanes r 5 low (omega arith) few fl)
 read-level sources (Some j) lanes few fj fl =
     let p : ℕ = length sources in
-    let q : ℕ = length j.sources in
-    let second : DraftNode = record {
-      spec = spec.Resize;
-      rank = 2;
-      offset = 1;
-      takes = q;
-      gives = 1;
-    } in
     record {
       rank = 4;
       low = omega arith;
       block =
-          block-append (source_nodes 0 sources) _ [] (replicate p 1) (replicate lanes 4)
-          (sources-fit sources 0 [] refl)
-          (block-append (joint_node spec.Resize 2 p 1 ∷ []) _ (replicate p 1) (2 ∷ [])
-          (replicate lanes 4)
+          block-append (sources-fit sources 0 [] refl)
+          (block-append
           (joint-fit spec.Resize 2 p 1 (replicate p 1) (length-replicate p 1)
           (same-ranks p 1 2 (omega arith)) few (omega arith))
-          (block-append (source_nodes 1 j.sources) _ (2 ∷ []) (2 ∷ replicate q 1)
-          (replicate lanes 4) (sources-fit j.sources 1 (2 ∷ []) refl)
-          (block-append (second ∷ []) _ (2 ∷ replicate q 1) (2 ∷ 2 ∷ []) (replicate lanes 4)
-          (join-fit j fj)
-          (block-append (joint_node (spec.HashJoin j.join) 3 2 1 ∷ [])
-          (joint_node spec.Resize 4 1 lanes ∷ []) (2 ∷ 2 ∷ []) (3 ∷ []) (replicate lanes 4)
+          (block-append (sources-fit j.sources 1 (2 ∷ []) refl)
+          (block-append (join-fit j fj)
+          (block-append
           (joint-fit (spec.HashJoin j.join) 3 2 1 (2 ∷ 2 ∷ []) refl (same-ranks 2 2 3 (omega arith))
           (omega arith) (omega arith))
           (joint-fit spec.Resize 4 1 lanes (3 ∷ []) refl (same-ranks 1 3 4 (omega arith))
@@ -89,9 +67,7 @@ gather-level : (order : Option SortSpec) (lanes r : ℕ) → r < 11 → lanes �
 gather-level None lanes r low few = joint-level spec.Resize 12 lanes 1 r 13 (omega (arith, low))
     (omega arith) (omega (arith, few)) (omega arith)
 gather-level (Some o) lanes r low few =
-    level-append (lane_nodes (spec.Sort o) 11 0 lanes)
-    (joint_node (spec.MergeSorted o) 12 lanes 1 ∷ []) (replicate lanes r) lanes 12 1 13
-    (lanes-level (spec.Sort o) 11 lanes r 12 low (omega arith))
+    level-append (lanes-level (spec.Sort o) 11 lanes r 12 low (omega arith))
     (λ s less. joint-level (spec.MergeSorted o) 12 lanes 1 s 13 less (omega arith)
     (omega (arith, few)) (omega arith))
 
@@ -104,23 +80,15 @@ sort-level (Some o) r low = joint-level (spec.Sort o) 11 1 1 r 13 low (omega ari
 shape-level : (shape : PlanShape) (order : Option SortSpec) (lanes r : ℕ) → r < 6 → lanes ≤ 16
     → Levels (shape_nodes shape order lanes) (replicate lanes r) 1 13
 shape-level (plain items) order lanes r low few =
-    level-append (lane_nodes (spec.Expression items) 6 0 lanes) (gather_nodes order lanes)
-    (replicate lanes r) lanes 11 1 13 (lanes-level (spec.Expression items) 6 lanes r 11 low
-    (omega arith))
+    level-append (lanes-level (spec.Expression items) 6 lanes r 11 low (omega arith))
     (λ s less. gather-level order lanes s less few)
 shape-level (grouped arguments g having picks) order lanes r low few =
-    level-append (lane_nodes (spec.Expression arguments) 6 0 lanes) _ (replicate lanes r) lanes 7 1
-    13 (lanes-level (spec.Expression arguments) 6 lanes r 7 low (omega arith))
-    (λ s less. level-append (lane_nodes (spec.PartialAggregate g) 7 0 lanes) _ (replicate lanes s)
-    lanes 8 1 13 (lanes-level (spec.PartialAggregate g) 7 lanes s 8 less (omega arith))
-    (λ u small. level-append (joint_node (spec.MergeAggregate g) 8 lanes 1 ∷ []) _
-    (replicate lanes u) 1 9 1 13 (joint-level (spec.MergeAggregate g) 8 lanes 1 u 9 small
-    (omega arith) (omega (arith, few)) (omega arith))
-    (λ v under. level-append (filter_nodes having 9 1) _ (replicate 1 v) 1 10 1 13
-    (filter-level having 9 1 v 10 under (omega arith))
-    (λ w below. level-append (lane_nodes (spec.Expression picks) 10 0 1) (sort_nodes order)
-    (replicate 1 w) 1 11 1 13 (lanes-level (spec.Expression picks) 10 1 w 11 below
-    (omega arith))
+    level-append (lanes-level (spec.Expression arguments) 6 lanes r 7 low (omega arith))
+    (λ s less. level-append (lanes-level (spec.PartialAggregate g) 7 lanes s 8 less (omega arith))
+    (λ u small. level-append (joint-level (spec.MergeAggregate g) 8 lanes 1 u 9 small (omega arith)
+    (omega (arith, few)) (omega arith))
+    (λ v under. level-append (filter-level having 9 1 v 10 under (omega arith))
+    (λ w below. level-append (lanes-level (spec.Expression picks) 10 1 w 11 below (omega arith))
     (λ x lower. sort-level order x lower)))))
 
 limit-level : (l : Option Span) (r : ℕ) → r < 13 → Levels (limit_nodes l) (replicate 1 r) 1 14
@@ -131,12 +99,10 @@ limit-level (Some span) r low = joint-level (spec.Limit span) 13 1 1 r 14 low (o
 -- the plan fits up to the collector, and leaves one end open
 pub body-level : (p : SelectPlan) → IsSmall p → Levels (body_nodes p) [] 1 14
 body-level p s =
-    level-append (read_nodes p.sources p.join p.lanes) _ [] p.lanes 5 1 14
+    level-append
     (read-level p.sources p.join p.lanes s.few_sources s.few_joined s.few_lanes)
-    (λ r low. level-append (filter_nodes p.filter 5 p.lanes) _ (replicate p.lanes r) p.lanes 6 1 14
-    (filter-level p.filter 5 p.lanes r 6 low (omega arith))
-    (λ u small. level-append (shape_nodes p.shape p.order p.lanes) (limit_nodes p.limit)
-    (replicate p.lanes u) 1 13 1 14 (shape-level p.shape p.order p.lanes u small s.few_lanes)
+    (λ r low. level-append (filter-level p.filter 5 p.lanes r 6 low (omega arith))
+    (λ u small. level-append (shape-level p.shape p.order p.lanes u small s.few_lanes)
     (λ v under. limit-level p.limit v under)))
 
 -- the plan fits, and leaves no end open
@@ -144,8 +110,6 @@ pub plan-fits : (p : SelectPlan) → IsSmall p → AllFitEnds (plan_nodes p) []
     × (ranks_after (plan_nodes p) [] ≡ [])
 plan-fits p s =
     let body : Levels (body_nodes p) [] 1 14 = body-level p s in
-    let all : FitsBlock (plan_nodes p) [] [] =
-    block-append (body_nodes p) (collect_node ∷ []) [] (body.rank ∷ []) [] body.block
-    (joint-fit spec.Collect 14 1 0 (body.rank ∷ []) refl (same-ranks 1 body.rank 14 body.low)
-    (omega arith) (omega arith)) in
+    let all = block-append body.block (joint-fit spec.Collect 14 1 0 (body.rank ∷ []) refl
+    (same-ranks 1 body.rank 14 body.low) (omega arith) (omega arith)) in
     (all.fit, all.leaves)

@@ -1,16 +1,7 @@
 -- What was pulled is the first of what could pass.
-use Rattle.std.proofs.Common.{ap₂, ◌≡◌, true, false, List, [], ◌∷◌, ◌++◌, length, refl, sym, ap, subst, ◌∙◌, arith, inl, inr, IsPermutation, ◌<◌}
-use Rattle.std.specs.List.{AllZip, AllByRecursion}
-use Rattle.std.proofs.lemmas.Bool.{and_parts, and_from, or_left, or_right, cases_lt}
-use Rattle.std.proofs.lemmas.List.{append-nil, append_assoc, append_cancel_left, length-append}
-use Rattle.std.proofs.lemmas.List.Sorted.{IsPermutation-refl, IsPermutation-trans, IsPermutation-append_left, IsPermutation-append_right, IsPermutation-append_comm}
-use Rattle.query_model.proofs.Lists.{IsPermutation-same}
-use Rattle.std.specs.Prelude.{IsSorted}
-use Rattle.std.specs.Ordering.{is_lt}
-use Rattle.chunk_data.specs.Values.{Row, row_cmp}
-use Rattle.chunk_data.specs.declared.typed_value.SortKey.{SortKey}
+use Rattle.std.proofs.Common.{IsPermutation, IsSorted, List, [], ap, ap₂, arith, false, inl, inr, is_lt, length, refl, subst, sym, true, ◌++◌, ◌<◌, ◌∙◌, ◌∷◌, ◌≡◌}
+use Rattle.plan_meaning.proofs.Prelude.{AllByRecursion, AllZip, InOrder, IsBeforeNone, IsPermutation-append_comm, IsPermutation-append_left, IsPermutation-append_right, IsPermutation-refl, IsPermutation-same, IsPermutation-trans, Row, SortKey, and_from, and_parts, append-nil, append_assoc, append_cancel_left, cases_lt, every-append, every-contains, every-weaker, length-append, or_left, or_right, order-cross, order-from_sorted, row_cmp, rows-ordered}
 use Rattle.plan_meaning.specs.Names.{Flow, Stream, all_certain, all_done, all_rows, any_needs, flow_rows, rows_of, HoldsBack, IsFront, Pulls}
-use Rattle.proc_api.proofs.Orders.{InOrder, every-append, every-contains, every-weaker, order-cross, order-from_sorted, rows-ordered}
 
 pub pulled-front : (i s : Stream) (f : Flow) → Pulls i s → IsFront s f → IsFront i f
 pulled-front i s f p h = record {
@@ -25,10 +16,9 @@ pulled-front i s f p h = record {
 pub certain-inputs : (ins : List Stream) (fs : List Flow) → AllZip IsFront ins fs
     → all_done ins ≡ true → all_certain fs ≡ true
 certain-inputs [] [] h e = refl
-certain-inputs [] (f ∷ fs) h e = absurd h
-certain-inputs (i ∷ ins) [] h e = absurd h
 certain-inputs (i ∷ ins) (f ∷ fs) h e = let both = and_parts _ _ e in
     and_from _ _ (h.0.certain both.0) (certain-inputs ins fs h.1 both.1)
+certain-inputs ins fs h e = absurd h
 
 -- where a row passed, what one of them needs is there
 pub needed-inputs : (ins : List Stream) (fs : List Flow) → AllZip IsFront ins fs
@@ -51,13 +41,13 @@ pub record Behind (ins : List Stream) (fs : List Flow) : Type 0 where
   pub later : (keys : List SortKey) (out : List Row)
       → AllByRecursion (λ (f : Flow). IsSorted (row_cmp keys) f.rows) fs
       → AllByRecursion (HoldsBack keys out) ins
-      → AllByRecursion (λ y. AllByRecursion (λ x. is_lt (row_cmp keys y x) ≡ false) out) rest
+      → AllByRecursion (λ y. IsBeforeNone keys y out) rest
 
 pub no-rest : (xs rest ys : List Row) → xs ++ rest ≡ ys → xs ≡ ys → rest ≡ []
 no-rest xs rest ys e same = append_cancel_left xs rest [] (e ∙ sym same ∙ sym (append-nil xs))
 
 -- two lists and their rests, in pairs
-paired : {X : Type 0} (a b c d : List X)
+pub paired : {X : Type 0} (a b c d : List X)
     → IsPermutation ((a ++ b) ++ (c ++ d)) ((a ++ c) ++ (b ++ d))
 paired a b c d = rw (append_assoc a b (c ++ d), append_assoc a c (b ++ d))
     (IsPermutation-append_right a _ _
@@ -68,17 +58,15 @@ paired a b c d = rw (append_assoc a b (c ++ d), append_assoc a c (b ++ d))
 -- one input's rest, where the input holds the rows back
 later-rest : (keys : List SortKey) (out : List Row) (i : Stream) (f : Flow) (h : IsFront i f)
     → IsSorted (row_cmp keys) f.rows → HoldsBack keys out i
-    → AllByRecursion (λ y. AllByRecursion (λ x. is_lt (row_cmp keys y x) ≡ false) out) h.rest
+    → AllByRecursion (λ y. IsBeforeNone keys y out) h.rest
 later-rest keys out i f h sorted (inl done) =
-    subst (λ l. AllByRecursion (λ y. AllByRecursion (λ x. is_lt (row_cmp keys y x) ≡ false) out) l)
-    (sym (no-rest i.rows h.rest f.rows h.is (h.all done))) tt
+    rw (no-rest i.rows h.rest f.rows h.is (h.all done)) tt
 later-rest keys out i f h sorted (inr w) =
     let lt = (λ (a b : Row). is_lt (row_cmp keys a b)) in
     let o = rows-ordered keys in
     let whole : InOrder lt (i.rows ++ h.rest) = order-from_sorted lt o (i.rows ++ h.rest)
     (subst (IsSorted (row_cmp keys)) (sym h.is) sorted) in
-    let behind_last : AllByRecursion (λ y. lt y w.0 ≡ false) h.rest =
-    every-contains (λ x. AllByRecursion (λ y. lt y x ≡ false) h.rest) i.rows w.0
+    let behind_last = every-contains (λ x. AllByRecursion (λ y. lt y x ≡ false) h.rest) i.rows w.0
     (order-cross lt o i.rows h.rest whole) w.1 in
     every-weaker (λ y. lt y w.0 ≡ false) (λ y. AllByRecursion (λ x. lt y x ≡ false) out)
     (λ y e. every-weaker (λ x. lt w.0 x ≡ false) (λ x. lt y x ≡ false) (λ x k. o.chain y w.0 x e k)
@@ -91,20 +79,17 @@ behind [] [] h = record {
   none = λ e. refl;
   later = λ keys out s b. tt;
 }
-behind [] (f ∷ fs) h = absurd h
-behind (i ∷ ins) [] h = absurd h
 behind (i ∷ ins) (f ∷ fs) h =
     let more : Behind ins fs = behind ins fs h.1 in
     record {
       rest = h.0.rest ++ more.rest;
-      are = subst (λ l. IsPermutation (l ++ all_rows (flow_rows fs))
-          ((i.rows ++ all_rows (rows_of ins)) ++ (h.0.rest ++ more.rest))) h.0.is
-          (IsPermutation-trans _ _ _ (IsPermutation-append_right (i.rows ++ h.0.rest) _ _ more.are)
-          (paired i.rows h.0.rest (all_rows (rows_of ins)) more.rest));
+      are = rw h.0.is at (IsPermutation-trans _ _ _ (IsPermutation-append_right (i.rows ++ h.0.rest)
+          _ _ more.are) (paired i.rows h.0.rest (all_rows (rows_of ins)) more.rest));
       none = λ e. let both = and_parts _ _ e in
           ap₂ (λ a b. a ++ b) (no-rest i.rows h.0.rest f.rows h.0.is (h.0.all both.0))
           (more.none both.1);
       later = λ keys out s b. every-append
-          (λ y. AllByRecursion (λ x. is_lt (row_cmp keys y x) ≡ false) out) h.0.rest more.rest
+          (λ y. IsBeforeNone keys y out) h.0.rest more.rest
           (later-rest keys out i f h.0 s.0 b.0) (more.later keys out s.1 b.1);
     }
+behind ins fs h = absurd h

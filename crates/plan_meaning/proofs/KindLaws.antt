@@ -1,25 +1,9 @@
 -- What each kind gave by the end of a run is the first of what it makes where nobody closes an
 -- input.
-use Rattle.std.proofs.Common.{ap₂, ◌≡◌, ℕ, zero, suc, ◌+◌, ◌≤◌, ◌==◌, leb, Bool, true, false, cond, ◌&&◌, ◌||◌, Some, List, [], ◌∷◌, ◌++◌, length, map, filter, take, drop, refl, sym, ap, subst, ◌∙◌, arith, inl, inr, IsPermutation, ◌<◌, ◌⊎◌}
-use Rattle.std.specs.List.{AllZip, AllByRecursion, list_all}
-use Rattle.std.proofs.lemmas.Bool.{and_parts, and_from, or_left, or_right, le-leb, eqb-true, cases_lt, both_ways}
-use Rattle.std.proofs.lemmas.List.{append-nil, append_assoc, length-append, map-append, take-append-le, drop-append-le, length-drop}
-use Rattle.std.proofs.lemmas.List.Elements.{filter-append}
-use Rattle.std.proofs.lemmas.List.Sorted.{IsPermutation-refl, IsPermutation-trans, IsPermutation-append_left, IsPermutation-append_right, IsPermutation-append_comm, length_permutation}
-use Rattle.query_model.proofs.Lists.{IsPermutation-same}
-use Rattle.std.specs.Prelude.{IsSorted}
-use Rattle.std.specs.Ordering.{is_lt}
-use Rattle.query_model.proofs.AnswerLaws.{joined_rows-append}
-use Rattle.chunk_data.specs.Values.{Row, row_cmp}
-use Rattle.chunk_data.specs.declared.typed_value.SortKey.{SortKey}
-use Rattle.query_model.specs.Names.{holds, item_row, limited, enough, numbers, joined_rows}
-use Rattle.query_model.specs.declared.checked.KeyPair.{KeyPair}
-use Rattle.query_model.specs.declared.query.Span.{Span}
-use Rattle.query_model.specs.declared.processor_spec.Spec.{Spec}
+use Rattle.std.proofs.Common.{Bool, IsPermutation, IsSorted, List, Some, [], ap, ap₂, arith, cond, drop, false, filter, inl, inr, is_lt, leb, length, map, refl, subst, suc, sym, take, true, zero, ℕ, ◌&&◌, ◌++◌, ◌+◌, ◌<◌, ◌==◌, ◌||◌, ◌∙◌, ◌∷◌, ◌≡◌, ◌≤◌, ◌⊎◌}
+use Rattle.plan_meaning.proofs.Prelude.{AllByRecursion, AllZip, InOrder, IsPermutation-append_comm, IsPermutation-append_left, IsPermutation-append_right, IsPermutation-refl, IsPermutation-same, IsPermutation-trans, IsSortOf, KeyPair, Row, SortKey, Span, Spec, and_from, and_parts, append-nil, append_assoc, both_ways, cases_lt, drop-append-le, enough, eqb-true, every-append, every-none, every-permuted, filter-append, holds, item_row, joined_rows, joined_rows-append, le-leb, length-append, length-drop, length_permutation, limited, list_all, map-append, numbers, or_left, or_right, order-from_sorted, order-front, order-joined, ordered, ordered-none, ordered-order, ordered-same, row_cmp, rows-ordered, sorted-from_order, take-append-le}
 use Rattle.plan_meaning.proofs.Fronts.{Behind, behind, certain-inputs, needed-inputs, no-rest}
-use Rattle.plan_meaning.specs.Names.{Flow, ManyToOne, OneToNone, OneToOne, Parts, Source, Stream, TwoToOne, all_certain, all_done, all_rows, any_done, any_needs, flow_rows, flows_of, rows_of, FrontOf, Gives, GivesFront, GivesHeld, GivesJoined, GivesLimited, GivesMerged, GivesPart, GivesResized, GivesThrough, HoldsBack, IsMergeOf, merged_rows, partial_rows, IsFront, Makes, is_certain, is_needed, join_needs}
-use Rattle.proc_api.specs.Made.{IsSortOf}
-use Rattle.proc_api.proofs.Orders.{InOrder, every-append, every-none, every-permuted, order-from_sorted, order-front, order-joined, ordered, ordered-none, ordered-order, ordered-same, rows-ordered, sorted-from_order}
+use Rattle.plan_meaning.specs.Names.{Flow, ManyToOne, OneToNone, OneToOne, Parts, Source, Stream, TwoToOne, all_certain, all_done, all_rows, any_done, any_needs, flow_rows, flows_of, rows_of, FrontOf, Gives, GivesHeld, GivesJoined, GivesLimited, GivesMerged, GivesResized, GivesThrough, HoldsBack, IsMergeOf, merged_rows, partial_rows, IsFront, Makes, is_certain, is_needed}
 use Rattle.query_model.specs.declared.processor_spec.Spec.TheVariants as spec
 
 -- for a kind with one output
@@ -34,63 +18,54 @@ pub record CompletesKind (M : List (List Row) → List (List Row) → Type 0) (c
   pub makes : M (flow_rows fs) lists
   pub fronts : AllZip IsFront outs (flows_of certain needs lists)
 
-one-to-one : (R : Stream → Stream → Type 0) (M : List Row → List Row → Type 0) (C N : List Flow
-    → Bool)
+one-to-one : (parts : Parts) (s : Spec) {R : Stream → Stream → Type 0}
+    {M : List Row → List Row → Type 0}
     → ((i o : Stream) (f : Flow) → R i o → IsFront i f
-    → CompletesOne (M f.rows) (C (f ∷ [])) (N (f ∷ [])) o)
+    → CompletesOne (M f.rows) (is_certain parts s (f ∷ [])) (is_needed parts s (f ∷ [])) o)
     → (ins outs : List Stream) (fs : List Flow) → OneToOne R ins outs → AllZip IsFront ins fs
-    → CompletesKind (OneToOne M) (C fs) (N fs) fs outs
-one-to-one R M C N step [] outs fs r z = absurd r
-one-to-one R M C N step (i ∷ j ∷ ins) outs fs r z = absurd r
-one-to-one R M C N step (i ∷ []) [] fs r z = absurd r
-one-to-one R M C N step (i ∷ []) (o ∷ p ∷ outs) fs r z = absurd r
-one-to-one R M C N step (i ∷ []) (o ∷ []) [] r z = absurd z
-one-to-one R M C N step (i ∷ []) (o ∷ []) (f ∷ g ∷ fs) r z = absurd z.1
-one-to-one R M C N step (i ∷ []) (o ∷ []) (f ∷ []) r z = let w = step i o f r z.0 in
+    → CompletesKind (OneToOne M) (is_certain parts s fs) (is_needed parts s fs) fs outs
+one-to-one parts s step (i ∷ []) (o ∷ []) (f ∷ []) r z = let w = step i o f r z.0 in
     record { lists = w.out ∷ []; makes = w.makes; fronts = (w.front, tt) }
+one-to-one parts s step (i ∷ []) (o ∷ []) [] r z = absurd z
+one-to-one parts s step (i ∷ []) (o ∷ []) (f ∷ g ∷ fs) r z = absurd z.1
+one-to-one parts s step ins outs fs r z = absurd r
 
-two-to-one : (R : Stream → Stream → Stream → Type 0) (M : List Row → List Row → List Row → Type 0)
-    (C N : List Flow → Bool)
+two-to-one : (parts : Parts) (s : Spec) {R : Stream → Stream → Stream → Type 0}
+    {M : List Row → List Row → List Row → Type 0}
     → ((l r o : Stream) (f g : Flow) → R l r o → IsFront l f → IsFront r g
-    → CompletesOne (M f.rows g.rows) (C (f ∷ g ∷ [])) (N (f ∷ g ∷ [])) o)
+    → CompletesOne (M f.rows g.rows) (is_certain parts s (f ∷ g ∷ []))
+    (is_needed parts s (f ∷ g ∷ [])) o)
     → (ins outs : List Stream) (fs : List Flow) → TwoToOne R ins outs → AllZip IsFront ins fs
-    → CompletesKind (TwoToOne M) (C fs) (N fs) fs outs
-two-to-one R M C N step [] outs fs q z = absurd q
-two-to-one R M C N step (l ∷ []) outs fs q z = absurd q
-two-to-one R M C N step (l ∷ r ∷ i ∷ ins) outs fs q z = absurd q
-two-to-one R M C N step (l ∷ r ∷ []) [] fs q z = absurd q
-two-to-one R M C N step (l ∷ r ∷ []) (o ∷ p ∷ outs) fs q z = absurd q
-two-to-one R M C N step (l ∷ r ∷ []) (o ∷ []) [] q z = absurd z
-two-to-one R M C N step (l ∷ r ∷ []) (o ∷ []) (f ∷ []) q z = absurd z.1
-two-to-one R M C N step (l ∷ r ∷ []) (o ∷ []) (f ∷ g ∷ h ∷ fs) q z = absurd z.1.1
-two-to-one R M C N step (l ∷ r ∷ []) (o ∷ []) (f ∷ g ∷ []) q z = let w =
+    → CompletesKind (TwoToOne M) (is_certain parts s fs) (is_needed parts s fs) fs outs
+two-to-one parts s step (l ∷ r ∷ []) (o ∷ []) (f ∷ g ∷ []) q z = let w =
     step l r o f g q z.0 z.1.0 in
     record { lists = w.out ∷ []; makes = w.makes; fronts = (w.front, tt) }
+two-to-one parts s step (l ∷ r ∷ []) (o ∷ []) [] q z = absurd z
+two-to-one parts s step (l ∷ r ∷ []) (o ∷ []) (f ∷ []) q z = absurd z.1
+two-to-one parts s step (l ∷ r ∷ []) (o ∷ []) (f ∷ g ∷ h ∷ fs) q z = absurd z.1.1
+two-to-one parts s step ins outs fs q z = absurd q
 
-many-to-one : (R : List Stream → Stream → Type 0) (M : List (List Row) → List Row → Type 0)
-    (C N : List Flow → Bool)
+many-to-one : (parts : Parts) (s : Spec) {R : List Stream → Stream → Type 0}
+    {M : List (List Row) → List Row → Type 0}
     → ((ins : List Stream) (o : Stream) (fs : List Flow) → R ins o → AllZip IsFront ins fs
-    → CompletesOne (M (flow_rows fs)) (C fs) (N fs) o)
+    → CompletesOne (M (flow_rows fs)) (is_certain parts s fs) (is_needed parts s fs) o)
     → (ins outs : List Stream) (fs : List Flow) → ManyToOne R ins outs → AllZip IsFront ins fs
-    → CompletesKind (ManyToOne M) (C fs) (N fs) fs outs
-many-to-one R M C N step ins [] fs r z = absurd r
-many-to-one R M C N step ins (o ∷ p ∷ outs) fs r z = absurd r
-many-to-one R M C N step ins (o ∷ []) fs r z = let w = step ins o fs r z in
+    → CompletesKind (ManyToOne M) (is_certain parts s fs) (is_needed parts s fs) fs outs
+many-to-one parts s step ins (o ∷ []) fs r z = let w = step ins o fs r z in
     record { lists = w.out ∷ []; makes = w.makes; fronts = (w.front, tt) }
+many-to-one parts s step ins outs fs r z = absurd r
 
-source : (P : Stream → Type 0) (M : List Row → Type 0) (C : List Flow → Bool)
-    → ((o : Stream) → P o → CompletesOne M (C []) true o)
+source : (parts : Parts) (s : Spec) {P : Stream → Type 0} {M : List Row → Type 0}
+    → ((o : Stream) → P o → CompletesOne M (is_certain parts s []) (is_needed parts s []) o)
     → (ins outs : List Stream) (fs : List Flow) → Source P ins outs → AllZip IsFront ins fs
-    → CompletesKind (Source M) (C fs) true fs outs
-source P M C step (i ∷ ins) outs fs r z = absurd r
-source P M C step [] [] fs r z = absurd r
-source P M C step [] (o ∷ p ∷ outs) fs r z = absurd r
-source P M C step [] (o ∷ []) (f ∷ fs) r z = absurd z
-source P M C step [] (o ∷ []) [] r z = let w = step o r in
+    → CompletesKind (Source M) (is_certain parts s fs) (is_needed parts s fs) fs outs
+source parts s step [] (o ∷ []) [] r z = let w = step o r in
     record { lists = w.out ∷ []; makes = w.makes; fronts = (w.front, tt) }
+source parts s step [] (o ∷ []) (f ∷ fs) r z = absurd z
+source parts s step ins outs fs r z = absurd r
 
 -- more rows in, more rows behind those that came out
-abbrev Extends : (List Row → List Row) → Type 0
+abbrev pub Extends : (List Row → List Row) → Type 0
 Extends make = (xs ys : List Row) → (rest : List Row) × (make xs ++ rest ≡ make (xs ++ ys))
 
 -- a row that came out came of one
@@ -119,7 +94,7 @@ through make extends none i o f g h =
       };
     }
 
-limited-extends : (span : Span) → Extends (limited (Some span))
+pub limited-extends : (span : Span) → Extends (limited (Some span))
 limited-extends span xs ys =
     let d = drop-extends span.skip xs ys in
     let t = take-extends span.count (drop span.skip xs) d.0 in
@@ -264,10 +239,9 @@ resize ins (o ∷ outs) fs g z =
 pub done-rows : (ins : List Stream) (fs : List Flow) → AllZip IsFront ins fs → all_done ins ≡ true
     → rows_of ins ≡ flow_rows fs
 done-rows [] [] h e = refl
-done-rows [] (f ∷ fs) h e = absurd h
-done-rows (i ∷ ins) [] h e = absurd h
 done-rows (i ∷ ins) (f ∷ fs) h e = let both = and_parts _ _ e in
     ap₂ (λ a b. a ∷ b) (h.0.all both.0) (done-rows ins fs h.1 both.1)
+done-rows ins fs h e = absurd h
 
 empty-rows : (rows : List Row) → (0 < length rows → ⊥) → rows ≡ []
 empty-rows [] h = refl
@@ -314,6 +288,14 @@ held M M' false c certain same exists o g = record {
     needs = λ some. absurd (both_ways false refl (g.held some));
   };
 }
+
+-- the same of a kind of one input
+held-one : (M : List Row → List Row → Type 0) → ((rows : List Row) → (out : List Row) × M rows out)
+    → (i o : Stream) (f : Flow) → GivesHeld (M i.rows) i.done o → IsFront i f
+    → CompletesOne (M f.rows) (f.certain && true) (f.certain && true) o
+held-one M exists i o f r h = held (M i.rows) (M f.rows) i.done (f.certain && true)
+    (λ e. and_from _ _ (h.certain e) refl)
+    (λ e rows m. subst (λ l. M l rows) (h.all e) m) (exists f.rows) o r
 
 joined : (pairs : List KeyPair) (l r o : Stream) (f g : Flow) → GivesJoined pairs l r o
     → IsFront l f → IsFront r g
@@ -380,8 +362,6 @@ front-sorted : (keys : List SortKey) (ins : List Stream) (fs : List Flow) → Al
     → AllByRecursion (λ (f : Flow). IsSorted (row_cmp keys) f.rows) fs
     → AllByRecursion (λ rows. IsSorted (row_cmp keys) rows) (rows_of ins)
 front-sorted keys [] [] z s = tt
-front-sorted keys [] (f ∷ fs) z s = absurd z
-front-sorted keys (i ∷ ins) [] z s = absurd z
 front-sorted keys (i ∷ ins) (f ∷ fs) z s =
     let lt = (λ (a b : Row). is_lt (row_cmp keys a b)) in
     let o = rows-ordered keys in (
@@ -391,6 +371,7 @@ front-sorted keys (i ∷ ins) (f ∷ fs) z s =
           (subst (IsSorted (row_cmp keys)) (sym z.0.is) s.0))),
       front-sorted keys ins fs z.1 s.1,
     )
+front-sorted keys ins fs z s = absurd z
 
 flows-sorted : (keys : List SortKey) (fs : List Flow)
     → AllByRecursion (λ rows. IsSorted (row_cmp keys) rows) (flow_rows fs)
@@ -403,8 +384,6 @@ held-needs : (keys : List SortKey) (out : List Row) (ins : List Stream) (fs : Li
     → AllZip IsFront ins fs → AllByRecursion (HoldsBack keys out) ins
     → list_all (λ (f : Flow). f.certain || f.needs) fs ≡ true
 held-needs keys out [] [] z b = refl
-held-needs keys out [] (f ∷ fs) z b = absurd z
-held-needs keys out (i ∷ ins) [] z b = absurd z
 held-needs keys out (i ∷ ins) (f ∷ fs) z b = and_from (f.certain || f.needs)
     (list_all (λ (g : Flow). g.certain || g.needs) fs)
     (elim b.0 [
@@ -413,6 +392,7 @@ held-needs keys out (i ∷ ins) (f ∷ fs) z b = and_from (f.certain || f.needs)
           f.needs (z.0.needs (let lt = w.1.1 in omega (arith, lt)))
     ])
     (held-needs keys out ins fs z.1 b.1)
+held-needs keys out ins fs z b = absurd z
 
 merged : (keys : List SortKey) (ins : List Stream) (o : Stream) (fs : List Flow)
     → GivesMerged keys ins o → AllZip IsFront ins fs
@@ -435,11 +415,10 @@ merged keys ins o fs k z =
             let sorted = flows-sorted keys fs s in
             let fronts = front-sorted keys ins fs z sorted in
             let first : InOrder lt o.rows = order-from_sorted lt w o.rows (k.in_order fronts) in
-            let cross : AllByRecursion (λ y. AllByRecursion (λ x. lt y x ≡ false) o.rows) tail =
-            every-permuted (λ y. AllByRecursion (λ x. lt y x ≡ false) o.rows) left tail
-            (ordered-same lt w left)
-            (every-append (λ y. AllByRecursion (λ x. lt y x ≡ false) o.rows) k.waits b.rest
-            (k.before_waits fronts) (later-all sorted b (cases_lt 0 (length o.rows)))) in
+            let cross = every-permuted (λ y. AllByRecursion (λ x. lt y x ≡ false) o.rows) left tail
+            (ordered-same lt w left) (every-append (λ y. AllByRecursion (λ x. lt y x ≡ false)
+            o.rows) k.waits b.rest (k.before_waits fronts)
+            (later-all sorted b (cases_lt 0 (length o.rows)))) in
             sorted-from_order lt w (o.rows ++ tail)
             (order-joined lt w o.rows tail first (ordered-order lt w left) cross);
       };
@@ -461,29 +440,25 @@ merged keys ins o fs k z =
         → AllByRecursion (λ y. AllByRecursion (λ x. is_lt (row_cmp keys y x) ≡ false) o.rows) b.rest
     later-all sorted b (inl some) = b.later keys o.rows sorted (k.held some)
     later-all sorted b (inr none) =
-        subst (λ l. AllByRecursion (λ y. AllByRecursion (λ x. is_lt (row_cmp keys y x) ≡ false) l)
-        b.rest) (sym (empty-rows o.rows (λ some. omega (arith, some, none))))
+        rw (empty-rows o.rows (λ some. omega (arith, some, none)))
         (every-none (λ y x. is_lt (row_cmp keys y x) ≡ false) b.rest)
 
 pub complete-kind : (parts : Parts) (s : Spec) (ins outs : List Stream) (fs : List Flow)
     → Gives parts s ins outs → AllZip IsFront ins fs
     → CompletesKind (Makes parts s) (is_certain parts s fs) (is_needed parts s fs) fs outs
-complete-kind parts (spec.Csv part) ins outs fs g z = source (GivesPart (parts part))
-    (λ o. o ≡ (parts part).rows) (λ l. (parts part).valid)
-    (λ o p. record {
-      out = (parts part).rows;
-      makes = refl;
-      front = record {
-        rest = p.front.rest;
-        is = p.front.is;
-        all = p.front.all;
-        certain = p.valid;
-        needs = λ some. refl;
-      };
-    }) ins outs fs g z
-complete-kind parts (spec.Numbers n rows) ins outs fs g z = source (GivesFront (numbers n).rows)
-    (λ o. o ≡ (numbers n).rows) (λ l. all_certain l)
-    (λ o p. record {
+complete-kind parts (spec.Csv part) ins outs fs g z = source parts (spec.Csv part) (λ o p. record {
+  out = (parts part).rows;
+  makes = refl;
+  front = record {
+    rest = p.front.rest;
+    is = p.front.is;
+    all = p.front.all;
+    certain = p.valid;
+    needs = λ some. refl;
+  };
+}) ins outs fs g z
+complete-kind parts (spec.Numbers n rows) ins outs fs g z =
+    source parts (spec.Numbers n rows) (λ o p. record {
       out = (numbers n).rows;
       makes = refl;
       front = record {
@@ -494,54 +469,33 @@ complete-kind parts (spec.Numbers n rows) ins outs fs g z = source (GivesFront (
         needs = λ some. refl;
       };
     }) ins outs fs g z
-complete-kind parts (spec.Filter c) ins outs fs g z = one-to-one (GivesThrough (filter (holds c)))
-    (λ i o. o ≡ filter (holds c) i) (λ l. all_certain l) (λ l. any_needs l)
-    (through (filter (holds c))
+complete-kind parts (spec.Filter c) ins outs fs g z =
+    one-to-one parts (spec.Filter c) (through (filter (holds c))
     (λ xs ys. (filter (holds c) ys, sym (filter-append (holds c) xs ys))) refl) ins outs fs g z
 complete-kind parts (spec.Expression items) ins outs fs g z =
-    one-to-one (GivesThrough (map (item_row items))) (λ i o. o ≡ map (item_row items) i)
-    (λ l. all_certain l) (λ l. any_needs l)
-    (through (map (item_row items))
+    one-to-one parts (spec.Expression items) (through (map (item_row items))
     (λ xs ys. (map (item_row items) ys, sym (map-append (item_row items) xs ys))) refl) ins outs
     fs g z
 complete-kind parts spec.Resize ins outs fs g z = resize ins outs fs g z
-complete-kind parts (spec.Limit span) ins outs fs g z = one-to-one (GivesLimited span)
-    (λ i o. o ≡ limited (Some span) i)
-    (λ l. all_certain l || (any_needs l && leb (enough span) (length (all_rows (flow_rows l)))))
-    (λ l. any_needs l) (limit span) ins outs fs g z
+complete-kind parts (spec.Limit span) ins outs fs g z =
+    one-to-one parts (spec.Limit span) (limit span) ins outs fs g z
 complete-kind parts (spec.PartialAggregate p) ins outs fs g z =
-    one-to-one (λ (i o : Stream). GivesHeld (λ rows. IsPermutation (partial_rows p i.rows) rows)
-    i.done o) (λ i o. IsPermutation (partial_rows p i) o) (λ l. all_certain l)
-    (λ l. all_certain l)
-    (λ i o f r h. held (λ rows. IsPermutation (partial_rows p i.rows) rows)
-    (λ rows. IsPermutation (partial_rows p f.rows) rows) i.done (f.certain && true)
-    (λ e. and_from _ _ (h.certain e) refl)
-    (λ e rows m. subst (λ l. IsPermutation (partial_rows p l) rows) (h.all e) m)
-    (partial_rows p f.rows, IsPermutation-refl _) o r) ins outs fs g z
+    one-to-one parts (spec.PartialAggregate p) (held-one (λ rows. IsPermutation
+    (partial_rows p rows))
+    (λ rows. (partial_rows p rows, IsPermutation-refl _))) ins outs fs g z
 complete-kind parts (spec.MergeAggregate p) ins outs fs g z =
-    many-to-one
-    (λ (is : List Stream) (o : Stream). GivesHeld
-    (λ rows. IsPermutation (merged_rows p (all_rows (rows_of is))) rows) (all_done is) o)
-    (λ is o. IsPermutation (merged_rows p (all_rows is)) o)
-    (λ l. all_certain l) (λ l. all_certain l)
-    (λ is o l r h. held (λ rows. IsPermutation (merged_rows p (all_rows (rows_of is))) rows)
-    (λ rows. IsPermutation (merged_rows p (all_rows (flow_rows l))) rows) (all_done is)
-    (all_certain l) (certain-inputs is l h)
+    many-to-one parts (spec.MergeAggregate p) (λ is o l r h. held _
+    (IsPermutation (merged_rows p (all_rows (flow_rows l))))
+    (all_done is) (all_certain l) (certain-inputs is l h)
     (λ e rows m. subst (λ k. IsPermutation (merged_rows p (all_rows k)) rows) (done-rows is l h e)
     m) (merged_rows p (all_rows (flow_rows l)), IsPermutation-refl _) o r) ins outs fs g z
 complete-kind parts (spec.HashJoin join) ins outs fs g z =
-    two-to-one (GivesJoined join.pairs) (λ l r o. IsPermutation (joined_rows join.pairs l r) o)
-    (λ l. all_certain l) (λ l. join_needs l) (joined join.pairs) ins outs fs g z
+    two-to-one parts (spec.HashJoin join) (joined join.pairs) ins outs fs g z
 complete-kind parts (spec.Sort order) ins outs fs g z =
-    one-to-one (λ (i o : Stream). GivesHeld (IsSortOf order.keys i.rows) i.done o)
-    (λ i o. IsSortOf order.keys i o) (λ l. all_certain l) (λ l. all_certain l)
-    (λ i o f r h. held (IsSortOf order.keys i.rows) (IsSortOf order.keys f.rows) i.done
-    (f.certain && true) (λ e. and_from _ _ (h.certain e) refl)
-    (λ e rows m. subst (λ l. IsSortOf order.keys l rows) (h.all e) m)
-    (sort-exists order.keys f.rows) o r) ins outs fs g z
+    one-to-one parts (spec.Sort order) (held-one (IsSortOf order.keys) (sort-exists order.keys)) ins
+    outs fs g z
 complete-kind parts (spec.MergeSorted order) ins outs fs g z =
-    many-to-one (GivesMerged order.keys) (λ is o. IsMergeOf order.keys is o) (λ l. all_certain l)
-    (λ l. list_all (λ (f : Flow). f.certain || f.needs) l) (merged order.keys) ins outs fs g z
+    many-to-one parts (spec.MergeSorted order) (merged order.keys) ins outs fs g z
 complete-kind parts spec.Collect ins outs fs g z = collect ins outs fs g z
   where
     collect : (ins outs : List Stream) (fs : List Flow) → OneToNone ins outs → AllZip IsFront ins fs
@@ -549,7 +503,5 @@ complete-kind parts spec.Collect ins outs fs g z = collect ins outs fs g z
     collect (i ∷ []) [] (f ∷ []) g z = record { lists = []; makes = tt; fronts = tt }
     collect (i ∷ []) [] (f ∷ e ∷ fs) g z = absurd z.1
     collect (i ∷ []) [] [] g z = absurd z
-    collect (i ∷ []) (o ∷ outs) fs g z = absurd g
-    collect (i ∷ j ∷ ins) outs fs g z = absurd g
-    collect [] outs fs g z = absurd g
+    collect ins outs fs g z = absurd g
 complete-kind parts _ ins outs fs g z = absurd g

@@ -1,3 +1,4 @@
+pub mod Prelude
 pub mod Zips
 pub mod Fronts
 pub mod KindLaws
@@ -6,7 +7,6 @@ pub mod Runs
 pub mod Blocks
 pub mod Plans
 pub mod Fitting
-pub mod Counting
 pub mod Queries
 pub mod Typing
 pub mod Copies

@@ -1,22 +1,7 @@
 -- What the plan of a checked query makes of rows is what the query selects.
-use Rattle.std.proofs.Common.{take, ap₂, ◌≡◌, ℕ, zero, suc, ◌+◌, ◌≤◌, true, false, Option, Some, None, List, [], ◌∷◌, ◌++◌, length, map, filter, refl, sym, ap, subst, ◌∙◌, arith}
-use Rattle.std.proofs.lemmas.List.{take_more, take_at, get_or_at, append_assoc, length-append, length-map, map-append}
-use Rattle.query_model.proofs.Lists.{map-map, filter-map}
-use Rattle.chunk_data.specs.Values.{Row, value_at, values_at, same_row, default_value}
-use Rattle.chunk_data.specs.declared.typed_value.ColumnType.{ColumnType}
-use Rattle.query_model.specs.Names.{Expr, value_of, rows_where, item_row, selected_rows, output_rows, IsAnswer, IsOrderedAnswer, count_up, Database, source_table, filtered_rows, groups_or_default, Call, combined, distinct_rows, rows_with, grouped_by, call_of, combine_of, groups}
-use Rattle.query_model.specs.declared.query.AggCall.{AggCall}
-use Rattle.query_model.specs.declared.query.ExprOf.{ExprOf}
-use Rattle.query_model.specs.declared.query.AggOp.{AggOp}
-use Rattle.query_model.specs.declared.checked.Shape.{Shape}
-use Rattle.query_model.specs.declared.processor_spec.StateCall.{StateCall}
-use Rattle.query_model.specs.declared.checked.Checked.{Checked}
-use Rattle.std.specs.List.{AllByRecursion}
-use Rattle.chunk_data.specs.declared.typed_value.Value.TheVariants.{Text}
-use Rattle.std.proofs.lemmas.Bool.{both_ways}
-use Rattle.std.specs.Prelude.{is_none, slice_index_or}
-use Rattle.query_model.specs.declared.checked.Shape.TheVariants.{Plain, Grouped}
-use Rattle.plan_meaning.specs.Names.{HasCalls, IsCall, IsPlanOf, call_arguments, columns_of, shape_of, state_of, with_argument, Parts, PlanAnswers, SelectPlan, plan_keys, plan_rows, shape_rows, calls_from, is_count}
+use Rattle.std.proofs.Common.{List, None, Option, Some, [], ap, ap₂, arith, false, filter, is_none, length, map, refl, slice_index_or, subst, suc, sym, take, true, zero, ℕ, ◌++◌, ◌+◌, ◌∙◌, ◌∷◌, ◌≡◌, ◌≤◌}
+use Rattle.plan_meaning.proofs.Prelude.{AggCall, AggOp, AllByRecursion, Call, Checked, ColumnType, Database, Expr, ExprOf, Grouped, IsAnswer, IsOrderedAnswer, Plain, Row, Shape, StateCall, Text, append_assoc, both_ways, call_of, combine_of, combined, count_up, default_value, distinct_rows, filter-map, filtered_rows, get_or_at, grouped_by, groups, groups_or_default, item_row, length-append, length-map, map-append, map-map, output_rows, rows_where, rows_with, same_row, selected_rows, source_table, take_at, take_more, value_at, value_of, values_at}
+use Rattle.plan_meaning.specs.Names.{HasCalls, IsCall, IsPlanOf, call_arguments, columns_of, shape_of, state_of, Parts, PlanAnswers, SelectPlan, plan_keys, plan_rows, shape_rows, calls_from, is_count}
 use Rattle.chunk_data.specs.declared.typed_value.ColumnType.TheVariants as column
 use Rattle.query_model.specs.declared.query.AggOp.TheVariants as agg
 use Rattle.query_model.specs.declared.query.ExprOf.TheVariants as expr
@@ -96,61 +81,40 @@ argument-at front rest e row =
     (map (λ (x : Expr). value_of x row) rest) (Text []) (length front)
     (length-map front (λ (x : Expr). value_of x row))
 
+-- the call over the row that these expressions make
+abbrev over : List Expr → Call → Call
+over all x = record { op = x.op; arg = λ (r : Row). x.arg (item_row all r) }
+
 -- the calls over the row of keys and arguments are the calls over the row
-calls-kept : (types : List ColumnType) (front : List Expr) (calls : List (AggCall ℕ))
-    → AllByRecursion IsCall calls
-    → map (λ (x : Call). record {
-      op = x.op;
-      arg = λ (r : Row). x.arg (item_row (front ++ call_arguments calls) r);
-    })
+abbrev AreKept : List ColumnType → List Expr → List (AggCall ℕ) → Type 0
+AreKept types front calls =
+    map (over (front ++ call_arguments calls))
     (map call_of (calls_from (length front) (map (state_of types) calls))) ≡ map call_of calls
+
+calls-kept : (types : List ColumnType) (front : List Expr) (calls : List (AggCall ℕ))
+    → AllByRecursion IsCall calls → AreKept types front calls
 calls-kept types front [] h = refl
 calls-kept types front (call ∷ calls) h =
     go call.op call.arg h.0 (λ front'. calls-kept types front' calls h.1)
   where
-    over : List Expr → Call → Call
-    over all x = record { op = x.op; arg = λ (r : Row). x.arg (item_row all r) }
-
-    with-argument : (op : AggOp) (e : Expr)
-        → ((front' : List Expr) → map (over (front' ++ call_arguments calls))
-        (map call_of (calls_from (length front') (map (state_of types) calls))) ≡ map call_of calls)
-        → over (front ++ e ∷ call_arguments calls)
-        (call_of (record { op = op; arg = Some (expr.Column (length front)) }))
-        ∷ map (over (front ++ e ∷ call_arguments calls))
-        (map call_of (calls_from (suc (length front)) (map (state_of types) calls))) ≡ call_of
-        (record { op = op; arg = Some e }) ∷ map call_of calls
-    with-argument op e more =
-        let all : List Expr = front ++ e ∷ call_arguments calls in
-        let first : over all (call_of (record { op = op; arg = Some (expr.Column (length front)) }))
-        ≡ call_of (record { op = op; arg = Some e }) =
-        (λ i. record {
-          op = combine_of op;
-          arg = λ (r : Row). argument-at front (call_arguments calls) e r i;
-        }) in
-        let place : length (front ++ e ∷ []) ≡ suc (length front) = length-append front (e ∷ [])
-        ∙ omega arith in
-        ap₂ (λ x xs. x ∷ xs) first
-        (ap₂ (λ l n. map (over l) (map call_of (calls_from n (map (state_of types) calls))))
-        (sym (append_assoc front (e ∷ []) (call_arguments calls))) (sym place)
-        ∙ more (front ++ e ∷ []))
-
     go : (op : AggOp) (arg : Option (ExprOf ℕ)) → is_count op ≡ is_none arg
-        → ((front' : List Expr) → map (over (front' ++ call_arguments calls))
-        (map call_of (calls_from (length front') (map (state_of types) calls))) ≡ map call_of
-        calls)
-        → map (over (front ++ with_argument arg (call_arguments calls)))
-        (map call_of
-        (calls_from (length front) (state_of types (record { op = op; arg = arg }) ∷ map
-        (state_of types) calls))) ≡ call_of (record { op = op; arg = arg }) ∷ map call_of calls
+        → ((front' : List Expr) → AreKept types front' calls)
+        → AreKept types front (record { op = op; arg = arg } ∷ calls)
     go agg.Count None e more = ap (λ l. call_of (record { op = agg.Count; arg = None }) ∷ l)
         (more front)
     go agg.Count (Some a) e more = absurd (both_ways true e refl)
-    go agg.Sum None e more = absurd (both_ways false refl e)
-    go agg.Sum (Some a) e more = with-argument agg.Sum a more
-    go agg.Min None e more = absurd (both_ways false refl e)
-    go agg.Min (Some a) e more = with-argument agg.Min a more
-    go agg.Max None e more = absurd (both_ways false refl e)
-    go agg.Max (Some a) e more = with-argument agg.Max a more
+    go op None e more = absurd (both_ways false refl e)
+    go op (Some a) e more =
+        let rest : List Expr = call_arguments calls in
+        let first : over (front ++ a ∷ rest)
+        (call_of (record { op = op; arg = Some (expr.Column (length front)) }))
+        ≡ call_of (record { op = op; arg = Some a }) =
+        (λ i. record { op = combine_of op; arg = λ (r : Row). argument-at front rest a r i }) in
+        let place : length (front ++ a ∷ []) ≡ suc (length front) = length-append front (a ∷ [])
+        ∙ omega arith in
+        ap₂ (λ x xs. x ∷ xs) first
+        (ap₂ (λ l n. map (over l) (map call_of (calls_from n (map (state_of types) calls))))
+        (sym (append_assoc front (a ∷ []) rest)) (sym place) ∙ more (front ++ a ∷ []))
 
 -- the groups of the rows of keys and arguments
 groups-kept : (types : List ColumnType) (keys : List ℕ) (calls : List (AggCall ℕ)) (rows : List Row)
@@ -158,13 +122,12 @@ groups-kept : (types : List ColumnType) (keys : List ℕ) (calls : List (AggCall
     → groups (count_up (length keys)) (calls_from (length keys) (map (state_of types) calls))
     (map (item_row (columns_of keys ++ call_arguments calls)) rows) ≡ groups keys calls rows
 groups-kept types keys calls rows h =
-    let f : Row → Row = item_row (columns_of keys ++ call_arguments calls) in
+    let all : List Expr = columns_of keys ++ call_arguments calls in
     let count : length (columns_of keys) ≡ length keys = length-map keys (λ c. expr.Column c) in
-    grouped_by-map f (values_at (count_up (length keys)))
+    grouped_by-map (item_row all) (values_at (count_up (length keys)))
     (map call_of (calls_from (length keys) (map (state_of types) calls))) rows
     ∙ ap₂ (λ key cs. grouped_by key cs rows) (λ i r. keys-kept keys (call_arguments calls) r i)
-    (ap (λ n. map (λ (x : Call). record { op = x.op; arg = λ (r : Row). x.arg (f r) })
-    (map call_of (calls_from n (map (state_of types) calls)))) (sym count)
+    (ap (λ n. map (over all) (map call_of (calls_from n (map (state_of types) calls)))) (sym count)
     ∙ calls-kept types (columns_of keys) calls h)
 
 picks-kept : (picks : List ℕ) (rows : List Row) → map (item_row (columns_of picks)) rows ≡ map
@@ -193,6 +156,5 @@ query-answers q db parts p rows is a =
     ap₂ (λ s r. shape_rows s r) is.shape (ap₂ rows_where is.filter is.read)
     ∙ shape-selects q.shape (source_table q db).types is.chunk_rows (filtered_rows q db)
     is.calls in
-    subst (λ l. IsOrderedAnswer q.order l (output_rows q db) rows) is.limit
-    (subst (λ k. IsOrderedAnswer k p.limit (output_rows q db) rows) is.order
+    rw is.limit at (subst (λ k. IsOrderedAnswer k p.limit (output_rows q db) rows) is.order
     (subst (λ o. IsOrderedAnswer (plan_keys p.order) p.limit o rows) output a.answer))

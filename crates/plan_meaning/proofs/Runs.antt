@@ -1,15 +1,7 @@
 -- The lists of a graph, which was made of a list of nodes, are a run of that list.
-use Rattle.std.proofs.Common.{◌≡◌, ℕ, suc, ◌+◌, List, [], ◌∷◌, ◌++◌, length, map, refl, sym, ap, subst, ◌∙◌, arith}
-use Rattle.std.specs.List.{All, AllZip}
-use Rattle.std.proofs.lemmas.List.{length-append}
-use Rattle.port_word.specs.declared.flags.Wire.{Wire}
-use Rattle.query_model.specs.declared.processor_spec.Kind.{Kind}
-use Rattle.plan_graph.specs.Drafts.{AllFitDraft, Draft, FitsDraft, consumer_of, ports_of, producer_of, taken_by, wires_to, with_node, with_nodes}
-use Rattle.plan_graph.specs.declared.nodes.DraftNode.{DraftNode}
-use Rattle.plan_graph.specs.declared.nodes.NodePort.{NodePort}
+use Rattle.std.proofs.Common.{All, List, [], ap, arith, length, map, refl, suc, sym, ℕ, ◌++◌, ◌+◌, ◌∙◌, ◌∷◌, ◌≡◌}
+use Rattle.plan_meaning.proofs.Prelude.{length-map, AllFitDraft, AllZip, Draft, DraftNode, FitsDraft, Kind, NodePort, Wire, all-back, all-front, consumer_of, given-map, length-append, ports-length, ports_of, producer_of, run-length, taken-map, taken_by, wires_to, with_node, with_nodes}
 use Rattle.plan_meaning.specs.Names.{AllPull, EachGives, Pulls, Runs, if_kind, pulled_by, pulled_rows, Parts, Stream, all_rows, rows_of}
-use Rattle.plan_graph.proofs.Drafts.{all-back, all-front, ports-length}
-use Rattle.plan_graph.proofs.Places.{given-map, length-mapped, run-length, taken-map}
 
 -- the wires so far stay
 wires-stay : (P : Wire → Type 0) (nodes : List DraftNode) (d : Draft)
@@ -40,10 +32,8 @@ node-pulls pulled pushed node nodes d f w =
     let P = (λ (w : Wire). Pulls (pulled (consumer_of w)) (pushed (producer_of w))) in
     let taken : List NodePort = taken_by node d.ends in
     let count : length taken ≡ node.takes = run-length node.offset node.takes d.ends f.in_range in
-    let here : All P (wires_to n 0 taken) = all-back P d.wires (wires_to n 0 taken)
-    (wires-stay P nodes (with_node node d) w) in
-    subst (λ k. AllZip Pulls (map pulled (ports_of n 0 k)) (map pushed taken)) count
-    (pulled-along pulled pushed n 0 taken here)
+    let here = all-back P d.wires (wires_to n 0 taken) (wires-stay P nodes (with_node node d) w) in
+    rw count at (pulled-along pulled pushed n 0 taken here)
 
 pub next-node : (node : DraftNode) (d : Draft)
     → length (d.ranks ++ node.rank ∷ []) ≡ suc (length d.ranks)
@@ -63,22 +53,16 @@ runs parts pulled pushed [] d f g w = record { run = refl; counted = λ k. refl 
 runs parts pulled pushed (node ∷ nodes) d f g w =
     let n : ℕ = length d.ranks in
     let next : length (d.ranks ++ node.rank ∷ []) ≡ suc n = next-node node d in
-    let more : RunsOf parts pulled (length (d.ranks ++ node.rank ∷ [])) nodes
-    (map pushed (with_node node d).ends)
-    (map pushed (with_nodes nodes (with_node node d)).ends) =
-    runs parts pulled pushed nodes (with_node node d) f.1
-    (subst (λ k. EachGives parts k nodes pulled pushed) (sym next) g.1) w in
+    let more = runs parts pulled pushed nodes (with_node node d) f.1 (rw next g.1) w in
     record {
       run = (
         map pushed (with_node node d).ends,
         record {
           ins = map pulled (ports_of n 0 node.takes);
           outs = map pushed (ports_of n 0 node.gives);
-          pulls = subst (λ l. AllZip Pulls (map pulled (ports_of n 0 node.takes)) l)
-              (sym (taken-map pushed node d.ends))
-              (node-pulls pulled pushed node nodes d f.0 w);
+          pulls = rw (taken-map pushed node d.ends) (node-pulls pulled pushed node nodes d f.0 w);
           gives = g.0;
-          count = length-mapped pushed (ports_of n 0 node.gives) ∙ ports-length n 0 node.gives;
+          count = length-map (ports_of n 0 node.gives) pushed ∙ ports-length n 0 node.gives;
           are = sym (given-map pushed node (ports_of n 0 node.gives) d.ends);
         },
         more.run,

@@ -1,14 +1,8 @@
 -- What the nodes of a plan count together, where each counts by its spec and how many ends it
 -- takes.
-use Rattle.std.specs.Prelude.{ℕ, ◌+◌, ◌*◌, List, length, sum_by, cond, Option, Some, None}
-use Rattle.query_model.specs.Names.{Cond, kind_of}
-use Rattle.query_model.specs.declared.query.Span.{Span}
-use Rattle.query_model.specs.declared.processor_spec.SortSpec.{SortSpec}
-use Rattle.query_model.specs.declared.processor_spec.Spec.{Spec}
-use Rattle.query_model.specs.declared.processor_spec.Kind.{Kind}
+use Rattle.std.specs.Prelude.{List, None, Option, Some, cond, length, sum_by, ℕ, ◌*◌, ◌+◌}
+use Rattle.plan_meaning.specs.Prelude.{Cond, DraftNode, Kind, SortSpec, Span, Spec, kind_of, same_kind}
 use Rattle.query_model.specs.declared.processor_spec.Spec.TheVariants as spec
-use Rattle.proc_api.specs.Racks.{same_kind}
-use Rattle.plan_graph.specs.declared.nodes.DraftNode.{DraftNode}
 use Rattle.plan_meaning.specs.Plans.{PlanShape, plain, grouped, PlanJoin, SelectPlan}
 
 -- what a node counts, by its spec and its number of inputs

@@ -1,18 +1,6 @@
 -- What each kind gives by the end of a run.
-use Rattle.std.specs.Prelude.{cond, IsSorted, ◌≡◌, ◌<◌, ◌≤◌, ◌⊎◌, suc, ℕ, Bool, true, List, [], ◌∷◌, ◌++◌, length, map, filter, IsPermutation, Some, false, None}
-use Rattle.std.specs.List.{AllByRecursion, Contains}
-use Rattle.std.specs.Ordering.{is_lt}
-use Rattle.chunk_data.specs.Values.{Row, row_cmp, default_value}
-use Rattle.chunk_data.specs.declared.typed_value.SortKey.{SortKey}
-use Rattle.query_model.specs.Names.{holds, item_row, limited, enough, numbers, count_up, joined_rows, groups, groups_or_default, merged_groups, combine_of}
-use Rattle.query_model.specs.declared.checked.KeyPair.{KeyPair}
-use Rattle.query_model.specs.declared.query.AggCall.{AggCall}
-use Rattle.query_model.specs.declared.query.AggOp.{AggOp}
-use Rattle.query_model.specs.declared.processor_spec.GroupSpec.{GroupSpec}
-use Rattle.query_model.specs.declared.processor_spec.StateCall.{StateCall}
-use Rattle.query_model.specs.declared.query.Span.{Span}
-use Rattle.query_model.specs.declared.processor_spec.Spec.{Spec}
-use Rattle.proc_api.specs.Made.{IsSortOf}
+use Rattle.std.specs.Prelude.{Bool, IsPermutation, IsSorted, List, None, Some, [], cond, false, filter, length, map, suc, true, ℕ, ◌++◌, ◌<◌, ◌∷◌, ◌≡◌, ◌≤◌, ◌⊎◌}
+use Rattle.plan_meaning.specs.Prelude.{AggCall, AggOp, AllByRecursion, Contains, GroupSpec, IsSortOf, KeyPair, Row, SortKey, Span, Spec, StateCall, combine_of, count_up, default_value, enough, groups, groups_or_default, holds, is_lt, item_row, joined_rows, limited, merged_groups, numbers, row_cmp}
 use Rattle.plan_meaning.specs.Streams.{ManyToOne, OneToNone, OneToOne, Part, Parts, Source, Stream, TwoToOne, all_done, all_rows, any_done, rows_of}
 use Rattle.query_model.specs.declared.processor_spec.Spec.TheVariants as spec
 use Rattle.query_model.specs.declared.query.AggOp.TheVariants as agg

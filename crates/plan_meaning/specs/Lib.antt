@@ -1,3 +1,4 @@
+pub mod Prelude
 pub mod Streams
 pub mod Gives
 pub mod Makes

@@ -1,11 +1,7 @@
 -- What each kind makes of all that could pass.
-use Rattle.std.specs.Prelude.{◌≡◌, nat_le, ◌||◌, Bool, true, List, [], ◌∷◌, length, map, filter, IsPermutation, Some, false, ◌&&◌}
-use Rattle.std.specs.List.{list_all}
-use Rattle.chunk_data.specs.Values.{Row}
-use Rattle.query_model.specs.Names.{holds, item_row, limited, enough, numbers, joined_rows}
-use Rattle.query_model.specs.declared.processor_spec.Spec.{Spec}
+use Rattle.std.specs.Prelude.{Bool, IsPermutation, List, Some, [], false, filter, length, map, nat_le, true, ◌&&◌, ◌||◌, ◌∷◌, ◌≡◌}
+use Rattle.plan_meaning.specs.Prelude.{IsSortOf, Row, Spec, enough, holds, item_row, joined_rows, limited, list_all, numbers}
 use Rattle.plan_meaning.specs.Streams.{Flow, ManyToOne, OneToNone, OneToOne, Parts, Source, TwoToOne, all_certain, all_rows, any_needs, flow_rows}
-use Rattle.proc_api.specs.Made.{IsSortOf}
 use Rattle.plan_meaning.specs.Gives.{IsMergeOf, merged_rows, partial_rows}
 use Rattle.query_model.specs.declared.processor_spec.Spec.TheVariants as spec
 

@@ -1,11 +1,7 @@
 -- The meaning of a list of nodes: what passes where nobody closes an input.
-use Rattle.std.specs.Prelude.{◌≡◌, ◌<◌, ℕ, true, List, [], ◌∷◌, ◌++◌, length, ◌+◌}
-use Rattle.std.specs.List.{AllZip}
-use Rattle.chunk_data.specs.Values.{Row}
-use Rattle.query_model.specs.declared.processor_spec.Kind.{Kind}
+use Rattle.std.specs.Prelude.{List, [], length, true, ℕ, ◌++◌, ◌+◌, ◌<◌, ◌∷◌, ◌≡◌}
+use Rattle.plan_meaning.specs.Prelude.{AllZip, DraftNode, Kind, Row, given_by, taken_by}
 use Rattle.plan_meaning.specs.Runs.{AllInputsDone, Runs, if_kind, pulled_by}
-use Rattle.plan_graph.specs.Drafts.{given_by, taken_by}
-use Rattle.plan_graph.specs.declared.nodes.DraftNode.{DraftNode}
 use Rattle.plan_meaning.specs.Streams.{Flow, Parts, Stream, all_rows, flow_rows, flows_of}
 use Rattle.plan_meaning.specs.Makes.{Makes, is_certain, is_needed}
 

@@ -1,19 +1,6 @@
 -- The plan of a query as a list of nodes, and what it answers.
-use Rattle.std.specs.Prelude.{cond, false, ◌≡◌, ◌⊎◌, ◌<◌, ◌≤◌, ⊤, ℕ, Bool, true, ◌&&◌, List, [], ◌∷◌, ◌++◌, length, map, flat_map, Option, Some, None, ◌+◌}
-use Rattle.std.specs.List.{list_all, AllByRecursion}
-use Rattle.chunk_data.specs.Values.{Row, default_value}
-use Rattle.chunk_data.specs.declared.typed_value.SortKey.{SortKey}
-use Rattle.query_model.specs.Names.{Cond, Expr, rows_where, item_row, IsOrderedAnswer, enough, groups, groups_or_default, numbers, count_up, joined_rows, kind_of}
-use Rattle.query_model.specs.declared.query.Span.{Span}
-use Rattle.query_model.specs.declared.processor_spec.StateCall.{StateCall}
-use Rattle.query_model.specs.declared.processor_spec.GroupSpec.{GroupSpec}
-use Rattle.query_model.specs.declared.processor_spec.JoinSpec.{JoinSpec}
-use Rattle.query_model.specs.declared.processor_spec.SortSpec.{SortSpec}
-use Rattle.query_model.specs.declared.processor_spec.Spec.{Spec}
-use Rattle.query_model.specs.declared.processor_spec.Kind.{Kind}
-use Rattle.proc_api.specs.Racks.{same_kind}
-use Rattle.plan_graph.specs.Blocks.{joint_node, lane_nodes, source_nodes}
-use Rattle.plan_graph.specs.declared.nodes.DraftNode.{DraftNode}
+use Rattle.std.specs.Prelude.{Bool, List, None, Option, Some, [], cond, false, flat_map, length, map, true, ℕ, ⊤, ◌&&◌, ◌++◌, ◌+◌, ◌<◌, ◌∷◌, ◌≡◌, ◌≤◌, ◌⊎◌}
+use Rattle.plan_meaning.specs.Prelude.{AllByRecursion, Cond, DraftNode, Expr, GroupSpec, IsOrderedAnswer, JoinSpec, Kind, Row, SortKey, SortSpec, Span, Spec, StateCall, count_up, default_value, enough, groups, groups_or_default, item_row, joined_rows, joint_node, kind_of, lane_nodes, list_all, numbers, rows_where, same_kind, source_nodes}
 use Rattle.plan_meaning.specs.Streams.{Parts}
 use Rattle.plan_meaning.specs.Gives.{calls_from}
 use Rattle.query_model.specs.declared.processor_spec.Kind.TheVariants as kind

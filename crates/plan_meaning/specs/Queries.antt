@@ -1,16 +1,6 @@
 -- The plan of a checked query.
-use Rattle.std.specs.Prelude.{◌≡◌, ℕ, is_none, List, [], ◌∷◌, ◌++◌, map, slice_index_or, Option, Some, None}
-use Rattle.std.specs.List.{AllByRecursion}
-use Rattle.chunk_data.specs.declared.typed_value.ColumnType.{ColumnType}
-use Rattle.query_model.specs.Names.{Expr, call_type, Database, source_table, source_rows}
-use Rattle.query_model.specs.declared.query.AggCall.{AggCall}
-use Rattle.query_model.specs.declared.query.ExprOf.{ExprOf}
-use Rattle.query_model.specs.declared.checked.Grouping.{Grouping}
-use Rattle.query_model.specs.declared.checked.Shape.{Shape}
-use Rattle.query_model.specs.declared.processor_spec.StateCall.{StateCall}
-use Rattle.query_model.specs.declared.processor_spec.GroupSpec.{GroupSpec}
-use Rattle.query_model.specs.declared.checked.Checked.{Checked}
-use Rattle.query_model.specs.declared.checked.Shape.TheVariants.{Plain, Grouped}
+use Rattle.std.specs.Prelude.{List, None, Option, Some, [], is_none, map, slice_index_or, ℕ, ◌++◌, ◌∷◌, ◌≡◌}
+use Rattle.plan_meaning.specs.Prelude.{AggCall, AllByRecursion, Checked, ColumnType, Database, Expr, ExprOf, GroupSpec, Grouped, Grouping, Plain, Shape, StateCall, call_type, source_rows, source_table}
 use Rattle.plan_meaning.specs.Streams.{Parts}
 use Rattle.plan_meaning.specs.Plans.{PlanShape, SelectPlan, grouped, plain, plan_keys, read_rows}
 use Rattle.plan_meaning.specs.Gives.{is_count}

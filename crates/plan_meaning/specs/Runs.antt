@@ -1,16 +1,6 @@
 -- A run of a list of nodes, over what stands at the open ends.
-use Rattle.std.specs.Prelude.{cond, ◌≡◌, ◌<◌, suc, ℕ, true, List, [], ◌∷◌, ◌++◌, length, map, ⊤, ◌+◌}
-use Rattle.std.specs.List.{All, AllZip}
-use Rattle.chunk_data.specs.Values.{Row}
-use Rattle.chunk_data.specs.declared.typed_value.ColumnType.{ColumnType}
-use Rattle.query_model.specs.Kinds.{kind_of}
-use Rattle.query_model.specs.declared.processor_spec.Spec.{Spec}
-use Rattle.port_word.specs.declared.flags.Wire.{Wire}
-use Rattle.query_model.specs.declared.processor_spec.Kind.{Kind}
-use Rattle.proc_api.specs.Racks.{same_kind}
-use Rattle.plan_graph.specs.Drafts.{consumer_of, given_by, no_draft, ports_of, producer_of, taken_by, with_nodes}
-use Rattle.plan_graph.specs.declared.nodes.DraftNode.{DraftNode}
-use Rattle.plan_graph.specs.declared.nodes.NodePort.{NodePort}
+use Rattle.std.specs.Prelude.{List, [], cond, length, map, suc, true, ℕ, ⊤, ◌++◌, ◌+◌, ◌<◌, ◌∷◌, ◌≡◌}
+use Rattle.plan_meaning.specs.Prelude.{All, AllZip, ColumnType, DraftNode, Kind, NodePort, Row, Spec, Wire, consumer_of, given_by, kind_of, no_draft, ports_of, producer_of, same_kind, taken_by, with_nodes}
 use Rattle.plan_meaning.specs.Gives.{Gives}
 use Rattle.plan_meaning.specs.Streams.{Parts, Stream, all_done, all_rows, rows_of}
 use Rattle.query_model.specs.declared.processor_spec.Spec.TheVariants as spec

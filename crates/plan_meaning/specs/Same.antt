@@ -1,8 +1,7 @@
 -- Nodes apart from where the boxes of their specs lie: each lane has a copy of a condition or of
 -- expressions.
-use Rattle.std.specs.Prelude.{ℕ, List, map}
-use Rattle.proc_api.specs.Forms.{SpecForm, spec_form}
-use Rattle.plan_graph.specs.declared.nodes.DraftNode.{DraftNode}
+use Rattle.std.specs.Prelude.{List, map, ℕ}
+use Rattle.plan_meaning.specs.Prelude.{DraftNode, SpecForm, spec_form}
 
 pub record NodeForm : Type 0 where
   pub spec : SpecForm

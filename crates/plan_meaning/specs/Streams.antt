@@ -1,10 +1,7 @@
 -- What passes at a port in a run that has ended, and what would have passed if nobody had closed an
 -- input.
-use Rattle.std.specs.Prelude.{Bool, List, [], ◌∷◌, map, flat_map, ⊤}
-use Rattle.std.specs.List.{list_all, list_any}
-use Rattle.chunk_data.specs.Values.{Row}
-use Rattle.chunk_data.specs.declared.typed_value.ColumnType.{ColumnType}
-use Rattle.query_model.specs.declared.processor_spec.PartSpec.{PartSpec}
+use Rattle.std.specs.Prelude.{Bool, List, [], flat_map, map, ⊤, ◌∷◌}
+use Rattle.plan_meaning.specs.Prelude.{ColumnType, PartSpec, Row, list_all, list_any}
 
 -- ---- rows
 

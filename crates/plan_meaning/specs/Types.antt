@@ -1,17 +1,8 @@
 -- The types of the chunks that pass: what a kind keeps holds as long as each chunk that it pulled
 -- fits.
-use Rattle.std.specs.Prelude.{◌≡◌, ℕ, suc, List, [], ◌∷◌, ◌++◌, map, replicate, flat_map, Some, ⊤}
-use Rattle.std.specs.List.{AllByRecursion, Any}
-use Rattle.chunk_data.specs.declared.typed_value.ColumnType.{ColumnType}
-use Rattle.query_model.specs.Names.{type_of, numbers}
-use Rattle.query_model.specs.declared.processor_spec.StateCall.{StateCall}
-use Rattle.query_model.specs.declared.processor_spec.GroupSpec.{GroupSpec}
-use Rattle.query_model.specs.declared.processor_spec.Spec.{Spec}
+use Rattle.std.specs.Prelude.{List, Some, [], flat_map, map, replicate, suc, ℕ, ⊤, ◌++◌, ◌∷◌, ◌≡◌}
+use Rattle.plan_meaning.specs.Prelude.{AllByRecursion, Any, ColumnType, DraftNode, FitsInput, GroupSpec, NodePort, Spec, StateCall, given_by, numbers, ports_of, taken_by, type_of}
 use Rattle.query_model.specs.declared.processor_spec.Spec.TheVariants as spec
-use Rattle.proc_api.specs.Keeping.{FitsInput}
-use Rattle.plan_graph.specs.Drafts.{ports_of, taken_by, given_by}
-use Rattle.plan_graph.specs.declared.nodes.DraftNode.{DraftNode}
-use Rattle.plan_graph.specs.declared.nodes.NodePort.{NodePort}
 use Rattle.plan_meaning.specs.Streams.{Parts, Stream}
 use Rattle.plan_meaning.specs.Gives.{Gives}
 

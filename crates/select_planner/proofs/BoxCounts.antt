@@ -1,40 +1,18 @@
 -- The boxes of a kind that a query's plan uses are as many as the query needs.
-use Rattle.std.proofs.Common.{◌≡◌, ℕ, suc, ◌+◌, ◌*◌, ◌≤◌, ◌<◌, take, get_or, cond, Bool, true, false, List, [], ◌∷◌, length, Option, Some, None, refl, sym, ap, ◌∙◌, arith}
-use Rattle.std.specs.Prelude.{slice_get, sum_by}
-use Rattle.std.proofs.lemmas.List.Sums.{sum_by-cons, count_by-le-length, sum_by_more, sum_by-take-le}
+use Rattle.select_planner.proofs.Prelude.{Checked, ColumnType, Cond, Declared, Expr, Grouped, Kind, Numbers, Paths, Plain, Shape, SortKey, SortSpec, Span, Spec, TableDecl, TableUse, count_by-le-length, counted, filter_count, gather_count, if_declared, if_filtered, if_limited, if_ordered, if_unordered, kind_of, limit_count, list_sources_need, need, none-of, of_kind, part_sources_need, plan-counted, plan_count, plan_nodes, read_count, same_kind, shape_count, shape_of, sources_count, sum_by-cons, sum_by-take-le, sum_by_more, table_need}
+use Rattle.std.proofs.Common.{Bool, List, None, Option, Some, [], ap, arith, cond, false, get_or, length, refl, slice_get, suc, sum_by, sym, take, true, ℕ, ◌*◌, ◌+◌, ◌<◌, ◌∙◌, ◌∷◌, ◌≡◌, ◌≤◌}
+use Rattle.select_planner.proofs.Laying.{by-paths}
 use Rattle.select_planner.specs.declared.nodes.PlanReserve.{PlanReserve}
 use Rattle.select_planner.specs.Boxes.{reserved_nodes}
 use Rattle.select_planner.specs.Counts.{boxes_reserved, boxes_taken}
 use Rattle.select_planner.specs.declared.nodes.PlanNode.{PlanNode}
-use Rattle.query_model.specs.Names.{kind_of, Cond, if_grouped, if_plain, if_ordered, join_use, part_sources_need, list_sources_need, if_declared, table_need, tables_need, if_filtered, if_joined, if_unordered, having_need, sorts_need, if_limited, need}
-use Rattle.query_model.specs.declared.query.Span.{Span}
-use Rattle.query_model.specs.declared.query.PartsDecl.{PartsDecl}
-use Rattle.query_model.specs.declared.query.TableDecl.{TableDecl}
-use Rattle.query_model.specs.declared.checked.TableUse.{TableUse}
-use Rattle.query_model.specs.declared.checked.Shape.{Shape}
-use Rattle.query_model.specs.declared.checked.Checked.{Checked}
-use Rattle.query_model.specs.declared.processor_spec.SortSpec.{SortSpec}
-use Rattle.query_model.specs.declared.processor_spec.Spec.{Spec}
-use Rattle.chunk_data.specs.declared.typed_value.ColumnType.{ColumnType}
-use Rattle.chunk_data.specs.declared.typed_value.SortKey.{SortKey}
-use Rattle.query_model.specs.declared.query.PartsDecl.TheVariants.{Paths, ListFile}
-use Rattle.query_model.specs.declared.checked.TableUse.TheVariants.{Declared, Numbers}
-use Rattle.query_model.specs.declared.checked.Shape.TheVariants.{Plain, Grouped}
-use Rattle.query_model.specs.declared.processor_spec.Kind.{Kind}
 use Rattle.query_model.specs.declared.processor_spec.Kind.TheVariants as kind
 use Rattle.query_model.specs.declared.processor_spec.Spec.TheVariants as spec
-use Rattle.proc_api.specs.Racks.{same_kind}
-use Rattle.plan_meaning.specs.Names.{plan_nodes, shape_of, of_kind, counted, sources_count, read_count, filter_count, gather_count, shape_count, limit_count, plan_count}
-use Rattle.plan_meaning.proofs.Counts.{plan-counted}
-use Rattle.select_planner.specs.Steps.{Reading, part_spec, path_sources, join_of, source_types, order_of, part_sources, reading_of, declared_sources, table_sources, select_plan, IsPlain, NamesPaths, IsNoList, UsesNoList, IsPlannable}
+use Rattle.select_planner.specs.Steps.{Reading, part_spec, path_sources, join_of, source_types, order_of, reading_of, declared_sources, table_sources, select_plan, IsPlain, IsNoList, UsesNoList, IsPlannable}
 
 -- so many where the kind is this one
 abbrev only : Kind → Kind → ℕ → ℕ
 only k j n = cond (same_kind j k) n 0
-
-only-none : (b : Bool) → (let n : ℕ = cond b 0 0 in n) ≡ 0
-only-none true = refl
-only-none false = refl
 
 only-more : (b : Bool) (n : ℕ) → cond b 1 0 + cond b n 0 ≡ cond b (suc n) 0
 only-more true n = omega arith
@@ -48,24 +26,21 @@ only-times false n = omega arith
 
 paths-need : (k : Kind) (r : Reading) (i : ℕ) (paths : List (List ℕ))
     → sources_count (of_kind k) (path_sources r i paths) ≡ only k kind.Csv (length paths)
-paths-need k r i [] = sym (only-none (same_kind kind.Csv k))
+paths-need k r i [] = sym (none-of (same_kind kind.Csv k))
 paths-need k r i (path ∷ paths) =
     sum_by-cons (λ (s : Spec). of_kind k s 0) (spec.Csv (part_spec r i path))
     (path_sources r (suc i) paths)
     ∙ ap (λ n. only k kind.Csv 1 + n) (paths-need k r (suc i) paths)
     ∙ only-more (same_kind kind.Csv k) (length paths)
 
-parts-need : (k : Kind) (r : Reading) (parts : PartsDecl) → NamesPaths parts
-    → sources_count (of_kind k) (part_sources r parts) ≡ only k kind.Csv (part_sources_need parts)
-parts-need k r (Paths paths) h = paths-need k r 1 paths
-parts-need k r (ListFile path) h = absurd h
-
 declared-need : (k : Kind) (header : Bool) (rows t : ℕ) (decl : Option TableDecl) → IsNoList decl
     → sources_count (of_kind k) (declared_sources header rows t decl)
     ≡ only k kind.Csv (if_declared part_sources_need decl)
-declared-need k header rows t None h = sym (only-none (same_kind kind.Csv k))
-declared-need k header rows t (Some decl) h =
-    parts-need k (reading_of header rows t decl) decl.parts h
+declared-need k header rows t =
+    by-paths (λ o. sources_count (of_kind k) (declared_sources header rows t o)
+    ≡ only k kind.Csv (if_declared part_sources_need o)) (sym (none-of (same_kind kind.Csv k)))
+    (λ schema paths. paths-need k
+    (reading_of header rows t (record { schema = schema; parts = Paths paths })) 1 paths)
 
 no-numbers : (decl : Option TableDecl) → if_declared (λ parts. 0) decl ≡ 0
 no-numbers None = refl
@@ -79,21 +54,21 @@ sources-need k tables header rows (Declared t) h =
     let here = declared-need k header rows t (slice_get tables t) h in
     let none : only k kind.Numbers (if_declared (λ parts. 0) (slice_get tables t)) ≡ 0 =
     ap (only k kind.Numbers) (no-numbers (slice_get tables t))
-    ∙ only-none (same_kind kind.Numbers k) in
+    ∙ none-of (same_kind kind.Numbers k) in
     omega (arith, here, none)
 sources-need k tables header rows (Numbers m) h =
-    let none = only-none (same_kind kind.Csv k) in
+    let none = none-of (same_kind kind.Csv k) in
     let one = sum_by-cons (λ (s : Spec). of_kind k s 0) (spec.Numbers m rows) [] in
     omega (arith, none, one)
 
 filter-need : (k : Kind) (f : Option Cond) (n : ℕ)
     → filter_count (of_kind k) f n ≡ only k kind.Filter (if_filtered f n)
-filter-need k None n = sym (only-none (same_kind kind.Filter k))
+filter-need k None n = sym (none-of (same_kind kind.Filter k))
 filter-need k (Some c) n = only-times (same_kind kind.Filter k) n
 
 limit-need : (k : Kind) (l : Option Span)
     → limit_count (of_kind k) l ≡ only k kind.Limit (if_limited l 1)
-limit-need k None = sym (only-none (same_kind kind.Limit k))
+limit-need k None = sym (none-of (same_kind kind.Limit k))
 limit-need k (Some span) = refl
 
 shape-need : (k : Kind) (s : Shape) (types : List ColumnType) (rows lanes : ℕ)
@@ -114,12 +89,12 @@ gather_need keys lanes k =
 gather-need : (k : Kind) (types : List ColumnType) (rows lanes : ℕ) (keys : List SortKey)
     → gather_count (of_kind k) (order_of types rows keys) lanes ≡ gather_need keys lanes k
 gather-need k types rows lanes [] =
-    let sort = only-none (same_kind kind.Sort k) in
-    let merge = only-none (same_kind kind.MergeSorted k) in
+    let sort = none-of (same_kind kind.Sort k) in
+    let merge = none-of (same_kind kind.MergeSorted k) in
     omega (arith, sort, merge)
 gather-need k types rows lanes (key ∷ keys) =
     let times = only-times (same_kind kind.Sort k) lanes in
-    let none = only-none (same_kind kind.Resize k) in
+    let none = none-of (same_kind kind.Resize k) in
     omega (arith, times, none)
 
 -- ---- the plan
@@ -152,72 +127,29 @@ steps-counted q tables lanes rows header k p =
       limit-need k q.limit,
     )
 
-plain-number : (s : Shape) (n : ℕ) → IsPlain s → if_plain s n ≡ n
-plain-number (Plain items) n h = refl
-plain-number (Grouped g) n h = absurd h
-
-no-groups : (s : Shape) (n : ℕ) → IsPlain s → if_grouped s n ≡ 0
-no-groups (Plain items) n h = refl
-no-groups (Grouped g) n h = absurd h
-
-no-having : (s : Shape) (n : ℕ) → IsPlain s → having_need s n ≡ 0
-no-having (Plain items) n h = refl
-no-having (Grouped g) n h = absurd h
-
-one-table : (f : PartsDecl → ℕ) (n : ℕ) (q : Checked) (tables : List TableDecl) → q.join ≡ None
-    → tables_need f n q tables ≡ table_need f n tables q.from
-one-table f n q tables e =
-    ap (λ j. sum_by (table_need f n tables) (q.from ∷ join_use j)) e
-    ∙ sum_by-cons (table_need f n tables) q.from [] ∙ omega arith
+plain-items : (s : Shape) → IsPlain s → (items : List Expr) × (s ≡ Plain items)
+plain-items (Plain items) h = (items, refl)
+plain-items (Grouped g) h = absurd h
 
 no-lists : (tables : List TableDecl) (u : TableUse) → UsesNoList tables u
     → table_need list_sources_need 0 tables u ≡ 0
-no-lists tables (Declared t) h = go (slice_get tables t) h
-  where
-    parts : (d : PartsDecl) → NamesPaths d → list_sources_need d ≡ 0
-    parts (Paths paths) h = refl
-    parts (ListFile path) h = absurd h
-
-    go : (o : Option TableDecl) → IsNoList o → if_declared list_sources_need o ≡ 0
-    go None h = refl
-    go (Some decl) h = parts decl.parts h
+no-lists tables (Declared t) h =
+    by-paths (λ o. if_declared list_sources_need o ≡ 0) refl (λ schema paths. refl)
+    (slice_get tables t) h
 no-lists tables (Numbers n) h = refl
 
 need-of-steps : (q : Checked) (tables : List TableDecl) (lanes : ℕ) (k : Kind)
     → IsPlannable q tables
     → steps_need q tables lanes k ≡ need q tables lanes k
-need-of-steps q tables lanes k p = go k
+need-of-steps q tables lanes k p =
+    go k (plain-items q.shape p.plain).1 (no-lists tables q.from p.no_list)
   where
-    one-sort-a-lane : (s : Shape) → IsPlain s → sorts_need s lanes ≡ lanes
-    one-sort-a-lane (Plain items) h = refl
-    one-sort-a-lane (Grouped g) h = absurd h
-
-    go : (k : Kind) → steps_need q tables lanes k ≡ need q tables lanes k
-    go kind.Csv = let one = one-table part_sources_need 0 q tables p.one_table in omega (arith, one)
-    go kind.List =
-        let one = one-table list_sources_need 0 q tables p.one_table in
-        let none = no-lists tables q.from p.no_list in
-        omega (arith, one, none)
-    go kind.Numbers = let one = one-table (λ decl. 0) 1 q tables p.one_table in omega (arith, one)
-    go kind.Filter = let none = no-having q.shape 1 p.plain in omega (arith, none)
-    go kind.Expression = let none = no-groups q.shape 1 p.plain in omega (arith, none)
-    go kind.Resize =
-        let lone : if_joined q.join 3 1 ≡ 1 = ap (λ j. if_joined j 3 1) p.one_table in
-        let plain = plain-number q.shape (if_unordered q.order 1) p.plain in
-        omega (arith, lone, plain)
-    go kind.PartialAggregate = let none = no-groups q.shape lanes p.plain in omega (arith, none)
-    go kind.MergeAggregate = let none = no-groups q.shape 1 p.plain in omega (arith, none)
-    go kind.HashJoin =
-        let lone : if_joined q.join 1 0 ≡ 0 = ap (λ j. if_joined j 1 0) p.one_table in
-        omega (arith, lone)
-    go kind.Sort =
-        let sorts = ap (if_ordered q.order) (one-sort-a-lane q.shape p.plain) in
-        omega (arith, sorts)
-    go kind.MergeSorted =
-        let one = ap (if_ordered q.order) (plain-number q.shape 1 p.plain) in
-        omega (arith, one)
-    go kind.Limit = omega arith
-    go kind.Collect = omega arith
+    go : {items : List Expr} (k : Kind) → q.shape ≡ Plain items
+        → table_need list_sources_need 0 tables q.from ≡ 0
+        → steps_need q tables lanes k ≡ need q tables lanes k
+    go kind.Limit plain none = omega arith
+    go kind.Collect plain none = omega arith
+    go k plain none = simp (plain, p.one_table, sum_by-cons) (omega (arith, none))
 
 -- The nodes of a kind of a query's plan are as many as the query needs.
 pub plan-needs : (q : Checked) (tables : List TableDecl) (lanes rows : ℕ) (header : Bool) (k : Kind)

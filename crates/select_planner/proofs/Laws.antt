@@ -1,21 +1,8 @@
 -- What was laid down is a graph, and takes as many boxes of each kind as the query needs.
-use Rattle.std.proofs.Common.{◌≡◌, ℕ, Bool, List, [], ◌∷◌, ◌++◌, length, map, cond, refl, sym, ap, subst, ◌∙◌, arith}
-use Rattle.std.specs.Prelude.{sum_by}
-use Rattle.std.proofs.lemmas.List.{append-nil, append_assoc, length-map}
-use Rattle.std.proofs.lemmas.List.Sums.{sum_by-cons}
-use Rattle.port_word.specs.declared.flags.Wire.{Wire}
-use Rattle.query_model.specs.Names.{kind_of, need}
-use Rattle.query_model.specs.declared.query.TableDecl.{TableDecl}
-use Rattle.query_model.specs.declared.checked.Checked.{Checked}
-use Rattle.query_model.specs.declared.processor_spec.Spec.{Spec}
-use Rattle.query_model.specs.declared.processor_spec.Kind.{Kind}
+use Rattle.std.proofs.Common.{Bool, List, [], ap, arith, cond, length, map, refl, subst, sum_by, sym, ℕ, ◌++◌, ◌∙◌, ◌∷◌, ◌≡◌}
+use Rattle.select_planner.proofs.Prelude.{Checked, Draft, DraftNode, IsGraph, IsSmall, Kind, NodeForm, PlanGraph, Spec, SpecForm, TableDecl, Wire, append-nil, append_assoc, counted, counted-same, expression, filter, kind_of, length-map, need, no_draft, of_kind, plan-graph, plan_nodes, same_kind, spec_form, sum_by-cons, unboxed, with_node, with_nodes}
 use Rattle.query_model.specs.declared.processor_spec.Kind.TheVariants as kind
 use Rattle.query_model.specs.declared.processor_spec.Spec.TheVariants as spec
-use Rattle.proc_api.specs.Names.{SpecForm, filter, expression, unboxed, spec_form, IsGraph, same_kind}
-use Rattle.plan_graph.specs.Drafts.{Draft, no_draft, with_node, with_nodes}
-use Rattle.plan_graph.specs.declared.nodes.DraftNode.{DraftNode}
-use Rattle.plan_meaning.specs.Names.{counted, of_kind, IsSmall, plan_nodes, NodeForm}
-use Rattle.plan_meaning.proofs.PlanGraphs.{PlanGraph, plan-graph, counted-same}
 use Rattle.select_planner.specs.declared.nodes.Plan.{Plan}
 use Rattle.select_planner.specs.declared.nodes.PlanNode.{PlanNode}
 use Rattle.select_planner.specs.Counts.{boxes_needed, boxes_taken, boxes_reserved}
@@ -89,8 +76,7 @@ pub is-sound : (q : Checked) (tables : List TableDecl) (lanes rows : ℕ) (heade
     → IsPlannable q tables → IsSmall (select_plan q tables lanes rows header)
     → LaysDown (plan_nodes (select_plan q tables lanes rows header)) p → IsSound q tables lanes p
 is-sound q tables lanes rows header p plannable small l =
-    let g : PlanGraph l.copies = plan-graph (select_plan q tables lanes rows header) l.copies small
-    l.same in
+    let g = plan-graph (select_plan q tables lanes rows header) l.copies small l.same in
     let drawn : Draft = with_nodes l.copies no_draft in
     let ranks : plan_ranks p ≡ drawn.ranks =
     ap (λ ns. map (λ (n : PlanNode). n.rank) ns) l.nodes ∙ ranks-of l.copies
@@ -100,8 +86,7 @@ is-sound q tables lanes rows header p plannable small l =
     ap (λ (ns : List PlanNode). length ns) l.nodes ∙ length-map l.copies node_of in
     let few = g.few in
     record {
-      graph = subst (λ r. IsGraph r (plan_wires p) []) (sym ranks)
-          (subst (λ w. IsGraph drawn.ranks w []) (sym wires) g.graph.graph);
+      graph = rw ranks (subst (λ w. IsGraph drawn.ranks w []) (sym wires) g.graph.graph);
       needed = needs-are q tables lanes rows header p plannable l;
       few = omega (arith, count, few);
     }

@@ -1,23 +1,7 @@
 -- The steps of a plan, laid down one behind another.
-use Rattle.std.proofs.Common.{◌≡◌, ℕ, zero, suc, ◌+◌, ◌<◌, ◌≤◌, Bool, true, false, cond, List, [], ◌∷◌, ◌++◌, length, take, get_or, Option, Some, None, refl, sym, ap, subst, ◌∙◌, arith}
-use Rattle.std.specs.Prelude.{slice_get, nat_lt}
-use Rattle.std.proofs.lemmas.Bool.Decides.{nat_tests}
-use Rattle.std.proofs.lemmas.List.{append_assoc, length-take-le, map-append, take_more}
-use Rattle.query_model.specs.Expressions.{Expr}
-use Rattle.query_model.specs.declared.query.PartsDecl.{PartsDecl}
-use Rattle.query_model.specs.declared.query.TableDecl.{TableDecl}
-use Rattle.query_model.specs.declared.checked.TableUse.{TableUse}
-use Rattle.query_model.specs.declared.checked.Checked.{Checked}
-use Rattle.query_model.specs.declared.processor_spec.PartSpec.{PartSpec}
-use Rattle.query_model.specs.declared.processor_spec.Spec.{Spec}
-use Rattle.query_model.specs.declared.query.PartsDecl.TheVariants.{Paths, ListFile}
-use Rattle.query_model.specs.declared.checked.TableUse.TheVariants.{Declared, Numbers}
-use Rattle.query_model.specs.declared.checked.Shape.TheVariants.{Plain}
+use Rattle.std.proofs.Common.{Bool, List, None, Option, Some, [], ap, arith, cond, false, get_or, length, nat_lt, refl, slice_get, subst, suc, sym, take, true, zero, ℕ, ◌++◌, ◌+◌, ◌<◌, ◌∙◌, ◌∷◌, ◌≡◌, ◌≤◌}
+use Rattle.select_planner.proofs.Prelude.{Checked, Declared, DraftNode, Expr, FewJoined, IsSmall, ListFile, NodeForm, Numbers, PartSpec, PartsDecl, Paths, Plain, Schema, Spec, SpecForm, TableDecl, TableUse, append_assoc, collect_node, filter_nodes, forms, gather_nodes, joint_node, lane_nodes, length-take-le, limit_nodes, map-append, nat_tests, node_form, plan_nodes, read_nodes, shape_nodes, shape_of, source_nodes, spec_form, take_more}
 use Rattle.query_model.specs.declared.processor_spec.Spec.TheVariants as spec
-use Rattle.proc_api.specs.Forms.{SpecForm, spec_form}
-use Rattle.plan_graph.specs.Blocks.{source_nodes, lane_nodes, joint_node}
-use Rattle.plan_graph.specs.declared.nodes.DraftNode.{DraftNode}
-use Rattle.plan_meaning.specs.Names.{IsSmall, FewJoined, filter_nodes, gather_nodes, limit_nodes, read_nodes, shape_nodes, collect_node, plan_nodes, shape_of, NodeForm, node_form, forms}
 use Rattle.select_planner.specs.Refusals.{NamedPaths, path_count, crowded_decl, crowded}
 use Rattle.select_planner.specs.Steps.{Reading, part_spec, path_sources, part_sources, reading_of, declared_sources, table_sources, join_of, source_types, order_of, select_plan, NamesPaths, IsNoList, UsesNoList, IsPlannable}
 
@@ -134,6 +118,18 @@ pub none-declared : (tables : List TableDecl) (header : Bool) (rows t : ℕ) (u 
 none-declared tables header rows t u e n =
     ap (table_sources tables header rows) e ∙ ap (declared_sources header rows t) n
 
+-- what is true of a declaration that is no list: it is of none, and of each that names paths
+pub by-paths : (P : Option TableDecl → Type 0) → P None
+    → ((schema : Schema) (paths : List (List ℕ))
+    → P (Some (record { schema = schema; parts = Paths paths })))
+    → (o : Option TableDecl) → IsNoList o → P o
+by-paths P none some None h = none
+by-paths P none some (Some decl) h = go decl.parts h
+  where
+    go : (d : PartsDecl) → NamesPaths d → P (Some (record { schema = decl.schema; parts = d }))
+    go (Paths paths) h = some decl.schema paths
+    go (ListFile path) h = absurd h
+
 -- ---- a small plan
 
 not-crowded : (n : ℕ) (b : Bool) → nat_lt 32 n ≡ b → b ≡ false → n ≤ 32
@@ -154,17 +150,14 @@ few-paths decl e = go (nat_lt 32 (path_count decl.parts)) refl e
 few-sources : (tables : List TableDecl) (header : Bool) (rows : ℕ) (u : TableUse)
     → crowded tables u ≡ None → UsesNoList tables u
     → length (table_sources tables header rows u) ≤ 32
-few-sources tables header rows (Declared t) e h = go (slice_get tables t) e h
-  where
-    parts : (r : Reading) (d : PartsDecl) → NamesPaths d → path_count d ≤ 32
-        → length (part_sources r d) ≤ 32
-    parts r (Paths paths) h le = let e = paths-length r 1 paths in omega (arith, e, le)
-    parts r (ListFile path) h le = absurd h
-
-    go : (o : Option TableDecl) → crowded_decl o ≡ None → IsNoList o
-        → length (declared_sources header rows t o) ≤ 32
-    go None e h = omega arith
-    go (Some decl) e h = parts (reading_of header rows t decl) decl.parts h (few-paths decl e)
+few-sources tables header rows (Declared t) e h =
+    by-paths (λ o. crowded_decl o ≡ None → length (declared_sources header rows t o) ≤ 32)
+    (λ e. omega arith)
+    (λ schema paths e.
+    let decl : TableDecl = record { schema = schema; parts = Paths paths } in
+    let few = few-paths decl e in
+    let count = paths-length (reading_of header rows t decl) 1 paths in
+    omega (arith, few, count)) (slice_get tables t) h e
 few-sources tables header rows (Numbers n) e h = omega arith
 
 pub is-small : (q : Checked) (tables : List TableDecl) (lanes rows : ℕ) (header : Bool)

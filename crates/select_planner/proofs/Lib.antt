@@ -1,3 +1,4 @@
+pub mod Prelude
 pub mod Laying
 pub mod BoxCounts
 pub mod Laws

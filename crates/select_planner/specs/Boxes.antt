@@ -1,5 +1,5 @@
 -- How many nodes are kept for growth.
-use Rattle.std.specs.Prelude.{ℕ, List, length, sum_by}
+use Rattle.std.specs.Prelude.{List, length, sum_by, ℕ}
 use Rattle.select_planner.specs.declared.nodes.PlanReserve.{PlanReserve}
 
 -- the nodes that are kept for nodes that grow

@@ -1,8 +1,6 @@
 -- How many boxes of a kind a plan uses.
-use Rattle.std.specs.Prelude.{ℕ, ◌+◌, List, count_by, sum_by}
-use Rattle.query_model.specs.Kinds.{kind_of}
-use Rattle.query_model.specs.declared.processor_spec.Kind.{Kind}
-use Rattle.proc_api.specs.Racks.{same_kind}
+use Rattle.std.specs.Prelude.{List, count_by, sum_by, ℕ, ◌+◌}
+use Rattle.select_planner.specs.Prelude.{Kind, kind_of, same_kind}
 use Rattle.select_planner.specs.declared.nodes.PlanNode.{PlanNode}
 use Rattle.select_planner.specs.declared.nodes.PlanReserve.{PlanReserve}
 use Rattle.select_planner.specs.declared.nodes.Plan.{Plan}

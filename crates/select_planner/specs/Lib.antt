@@ -1,3 +1,4 @@
+pub mod Prelude
 pub mod Boxes
 pub mod Counts
 pub mod Steps

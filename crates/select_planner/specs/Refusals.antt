@@ -1,12 +1,6 @@
 -- Why a query is not planned.
-use Rattle.std.specs.Prelude.{◌≡◌, ℕ, cond, nat_lt, List, [], ◌∷◌, length, slice_get, Option, Some, None, ⊤}
-use Rattle.query_model.specs.Database.{used_tables}
-use Rattle.query_model.specs.declared.query.PartsDecl.{PartsDecl}
-use Rattle.query_model.specs.declared.query.TableDecl.{TableDecl}
-use Rattle.query_model.specs.declared.checked.TableUse.{TableUse}
-use Rattle.query_model.specs.declared.checked.Checked.{Checked}
-use Rattle.query_model.specs.declared.query.PartsDecl.TheVariants.{Paths, ListFile}
-use Rattle.query_model.specs.declared.checked.TableUse.TheVariants.{Declared, Numbers}
+use Rattle.std.specs.Prelude.{List, None, Option, Some, [], cond, length, nat_lt, slice_get, ℕ, ⊤, ◌∷◌, ◌≡◌}
+use Rattle.select_planner.specs.Prelude.{Checked, Declared, ListFile, Numbers, PartsDecl, Paths, TableDecl, TableUse, used_tables}
 use Rattle.select_planner.specs.declared.nodes.PlanRefusal.{PlanRefusal}
 use Rattle.select_planner.specs.declared.nodes.PlanRefusal.TheVariants.{TooManyParts, Memory}
 

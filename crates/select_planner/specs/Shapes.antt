@@ -1,15 +1,7 @@
 -- A plan that was laid down by a list of nodes.
-use Rattle.std.specs.Prelude.{◌≡◌, ◌≤◌, ℕ, List, [], length, map}
-use Rattle.query_model.specs.Need.{need}
-use Rattle.query_model.specs.declared.query.TableDecl.{TableDecl}
-use Rattle.query_model.specs.declared.checked.Checked.{Checked}
-use Rattle.query_model.specs.declared.processor_spec.Kind.{Kind}
-use Rattle.proc_api.specs.Graphs.{IsGraph}
+use Rattle.std.specs.Prelude.{List, [], length, map, ℕ, ◌≡◌, ◌≤◌}
+use Rattle.select_planner.specs.Prelude.{Checked, DraftNode, IsGraph, Kind, TableDecl, Wire, forms, need, no_draft, with_nodes}
 use Rattle.select_planner.specs.Counts.{boxes_needed}
-use Rattle.port_word.specs.declared.flags.Wire.{Wire}
-use Rattle.plan_graph.specs.Drafts.{no_draft, with_nodes}
-use Rattle.plan_graph.specs.declared.nodes.DraftNode.{DraftNode}
-use Rattle.plan_meaning.specs.Same.{forms}
 use Rattle.select_planner.specs.declared.nodes.PlanNode.{PlanNode}
 use Rattle.select_planner.specs.declared.nodes.PlanEdge.{PlanEdge}
 use Rattle.select_planner.specs.declared.nodes.Plan.{Plan}

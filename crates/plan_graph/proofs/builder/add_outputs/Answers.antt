@@ -1,4 +1,4 @@
-use Rattle.std.proofs.Common.{◌++◌, ◌∷◌, [], ap, sym, ◌∙◌, append_assoc}
+use Rattle.std.proofs.Common.{[], ap, append_assoc, sym, ◌++◌, ◌∙◌, ◌∷◌}
 use Rattle.plan_graph.specs.Drafts.{ports_of}
 use Rattle.plan_graph.proofs.Building.{ports-more}
 use Rattle.plan_graph.proofs.builder.add_outputs.Goals as goal

@@ -1,7 +1,7 @@
-use Rattle.std.proofs.Common.{◌+◌, ◌<◌, length, ◌++◌, ◌∷◌, [], get_or, ap, sym, ◌∙◌, append_assoc, arith}
-use Rattle.port_word.specs.declared.flags.Wire.{Wire}
+use Rattle.std.proofs.Common.{[], ap, append_assoc, arith, get_or, length, sym, ◌++◌, ◌+◌, ◌<◌, ◌∙◌, ◌∷◌}
+use Rattle.plan_graph.proofs.Prelude.{Wire}
 use Rattle.plan_graph.specs.Names.{NodePort, wires_to, run_of}
-use Rattle.plan_graph.proofs.Building.{wires-more}
+use Rattle.plan_graph.proofs.Building.{wire_to, wires-more}
 use Rattle.plan_graph.proofs.builder.add_wires.Goals as goal
 
 pub loop-i-preserved : goal.loop-i-preserved
@@ -9,12 +9,7 @@ loop-i-preserved c =
     let within : c.args.node.now.offset + c.loop-i.i < length c.args.ends.now = omega arith in
     let none : NodePort = record { node = 0; port = 0 } in
     let end : NodePort = get_or c.args.ends.now (c.args.node.now.offset + c.loop-i.i) none in
-    let wire : Wire = record {
-      from = end.node;
-      out = end.port;
-      to = c.args.number;
-      input = c.loop-i.i;
-    } in
+    let wire : Wire = wire_to c.args.number c.loop-i.i end in
     let more = wires-more c.args.number c.args.node.now.offset c.loop-i.i c.args.ends.now none
     within in
     c.in-Ok.ensures.ok ∙ ap (λ l. l ++ wire ∷ []) c.loop-i.invariant

@@ -1,4 +1,4 @@
-use Rattle.std.proofs.Common.{◌≡◌, ◌++◌}
+use Rattle.std.proofs.Common.{◌++◌, ◌≡◌}
 use Rattle.plan_graph.specs.Drafts.{wires_to, run_of}
 use Rattle.plan_graph.proofs.builder.add_wires.Given as goal
 

@@ -1,6 +1,6 @@
-use Rattle.std.proofs.Common.{◌≡◌, ◌<◌, ◌≤◌, length, take, ap, sym, ◌∙◌, arith, subst}
-use Rattle.std.proofs.lemmas.List.{length-take-le}
-use Rattle.plan_graph.specs.Names.{Draft, no_draft, with_nodes, with_node, FitsDraft, DraftNode}
+use Rattle.std.proofs.Common.{ap, arith, length, sym, take, ◌<◌, ◌∙◌, ◌≤◌}
+use Rattle.plan_graph.proofs.Prelude.{length-take-le}
+use Rattle.plan_graph.specs.Names.{Draft, no_draft, with_nodes, with_node, FitsDraft}
 use Rattle.plan_graph.proofs.GraphLaws.{ranks-count}
 use Rattle.plan_graph.proofs.Building.{nodes-more, fit-at}
 use Rattle.plan_graph.proofs.builder.build.Goals as goal
@@ -10,9 +10,8 @@ add-requires-clause-ends_there c =
     let within : c.loop-node.node-index < length c.args.nodes.now = omega arith in
     let before : Draft = with_nodes (take c.loop-node.node-index c.args.nodes.now) no_draft in
     let fit : FitsDraft c.node-item.result before =
-    subst (λ (z : DraftNode). FitsDraft z before) (sym c.node-item.is)
-    (fit-at c.args.nodes.now c.loop-node.node-index c.node-item.result no_draft within
-    c.requires.fit) in
+    rw c.node-item.is (fit-at c.args.nodes.now c.loop-node.node-index c.node-item.result no_draft
+    within c.requires.fit) in
     let le = fit.in_range in
     let same = ap (λ (d : Draft). length d.ends) c.loop-node.invariant in
     omega (arith, le, same)
@@ -21,8 +20,7 @@ pub add-requires-clause-few_nodes : goal.add-requires-clause-few_nodes
 add-requires-clause-few_nodes c =
     let within : c.loop-node.node-index < length c.args.nodes.now = omega arith in
     let few : length c.args.nodes.now ≤ 256 = c.requires.few_nodes in
-    let some : length (take c.loop-node.node-index c.args.nodes.now) ≡ c.loop-node.node-index =
-    length-take-le c.loop-node.node-index c.args.nodes.now (omega arith) in
+    let some = length-take-le c.loop-node.node-index c.args.nodes.now (omega arith) in
     let same = ap (λ (d : Draft). length d.ranks) c.loop-node.invariant
     ∙ ranks-count (take c.loop-node.node-index c.args.nodes.now) no_draft in
     omega (arith, same, some, within, few)

@@ -1,6 +1,6 @@
 use Rattle.std.proofs.Common.{[], ◌∷◌}
+use Rattle.select_planner.proofs.Prelude.{joint_node, lane_nodes}
 use Rattle.query_model.specs.declared.processor_spec.Spec.TheVariants as spec
-use Rattle.plan_graph.specs.Blocks.{joint_node, lane_nodes}
 use Rattle.select_planner.proofs.Laying.{blocks-more}
 use Rattle.select_planner.proofs.lanes.add_ordered.Goals as goal
 

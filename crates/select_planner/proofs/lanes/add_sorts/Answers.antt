@@ -1,6 +1,6 @@
 use Rattle.std.proofs.Common.{ap}
+use Rattle.select_planner.proofs.Prelude.{unboxed}
 use Rattle.query_model.specs.declared.processor_spec.Spec.TheVariants as spec
-use Rattle.proc_api.specs.Forms.{unboxed}
 use Rattle.select_planner.proofs.Laying.{lane-more}
 use Rattle.select_planner.proofs.lanes.add_sorts.Goals as goal
 

@@ -1,7 +1,6 @@
-use Rattle.std.proofs.Common.{◌≡◌, ◌++◌}
+use Rattle.std.proofs.Common.{◌++◌, ◌≡◌}
+use Rattle.select_planner.proofs.Prelude.{forms, lane_nodes}
 use Rattle.query_model.specs.declared.processor_spec.Spec.TheVariants as spec
-use Rattle.plan_graph.specs.Blocks.{lane_nodes}
-use Rattle.plan_meaning.specs.Same.{forms}
 use Rattle.select_planner.proofs.lanes.add_sorts.Given as goal
 
 abbrev pub invariant-loop-lane : goal.invariant-loop-lane

@@ -1,8 +1,5 @@
-use Rattle.std.proofs.Common.{◌≡◌, ◌+◌, List, map, get_or, ap, sym, subst, ◌∙◌}
-use Rattle.chunk_data.specs.declared.typed_value.ColumnType.{ColumnType}
-use Rattle.query_model.specs.Database.{column_types}
-use Rattle.query_model.specs.declared.query.ColumnDecl.{ColumnDecl}
-use Rattle.query_model.specs.declared.processor_spec.PartSpec.{PartSpec}
+use Rattle.std.proofs.Common.{List, ap, get_or, map, subst, sym, ◌+◌, ◌∙◌, ◌≡◌}
+use Rattle.select_planner.proofs.Prelude.{ColumnDecl, ColumnType, PartSpec, column_types}
 use Rattle.select_planner.specs.Steps.{reading_of}
 use Rattle.select_planner.proofs.Laying.{path-more}
 use Rattle.select_planner.proofs.parts.add_paths.Goals as goal

@@ -1,6 +1,5 @@
-use Rattle.std.proofs.Common.{◌≡◌, ◌++◌, take}
-use Rattle.plan_graph.specs.Blocks.{source_nodes}
-use Rattle.plan_meaning.specs.Same.{forms}
+use Rattle.std.proofs.Common.{take, ◌++◌, ◌≡◌}
+use Rattle.select_planner.proofs.Prelude.{forms, source_nodes}
 use Rattle.select_planner.specs.Steps.{path_sources, reading_of}
 use Rattle.select_planner.proofs.parts.add_paths.Given as goal
 

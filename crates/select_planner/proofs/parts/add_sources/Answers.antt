@@ -1,8 +1,5 @@
-use Rattle.std.proofs.Common.{◌++◌, sym, ap, ◌∙◌, length}
-use Rattle.std.proofs.lemmas.Option.{slice_get_past}
-use Rattle.std.proofs.lemmas.List.{append-nil}
-use Rattle.plan_graph.specs.Blocks.{source_nodes}
-use Rattle.plan_meaning.specs.Same.{forms}
+use Rattle.std.proofs.Common.{ap, length, sym, ◌++◌, ◌∙◌}
+use Rattle.select_planner.proofs.Prelude.{append-nil, forms, slice_get_past, source_nodes}
 use Rattle.select_planner.proofs.Laying.{none-declared}
 use Rattle.select_planner.proofs.parts.add_sources.Goals as goal
 

@@ -1,6 +1,6 @@
 use Rattle.std.proofs.Common.{arith}
+use Rattle.select_planner.proofs.Prelude.{plan-graph}
 use Rattle.select_planner.specs.Steps.{select_plan}
-use Rattle.plan_meaning.proofs.PlanGraphs.{plan-graph}
 use Rattle.select_planner.proofs.Laying.{small-plan, steps-for}
 use Rattle.select_planner.proofs.Laws.{is-sound}
 use Rattle.select_planner.proofs.steps.plan.Goals as goal

@@ -1,4 +1,4 @@
-use Rattle.std.proofs.Common.{◌≡◌, ◌+◌, ◌<◌, ◌≤◌, get_or, length, subst, arith}
+use Rattle.std.proofs.Common.{arith, get_or, length, subst, ◌+◌, ◌<◌, ◌≡◌, ◌≤◌}
 use Rattle.select_planner.specs.Boxes.{reserved_nodes}
 use Rattle.select_planner.proofs.BoxCounts.{few-boxes}
 use Rattle.select_planner.proofs.stock.needs.Goals as goal
@@ -12,8 +12,7 @@ overflow_add-count c =
     subst (λ l. c.loop-reserve.reserve-index < length l) same c.loop-reserve-test.true in
     let is : c.reserve-item.result ≡ get_or p.reserves c.loop-reserve.reserve-index
     c.reserve-item.result =
-    subst (λ l. c.reserve-item.result ≡ get_or l c.loop-reserve.reserve-index c.reserve-item.result)
-    same c.reserve-item.is in
+    rw same at c.reserve-item.is in
     let sum = few-boxes c.args.kind p.nodes p.reserves c.loop-reserve.reserve-index
     c.reserve-item.result few within is in
     omega (arith, sum, c.loop-reserve.invariant, c.reserved-count.ensures)
