@@ -1,12 +1,7 @@
 -- A run of bytes that fail p, seen a vector at a time through the mask of those that pass it.
 use Rattle.std.proofs.Common.{◌≡◌, ℕ, ◌+◌, ◌*◌, ◌<◌, ◌≤◌, Bool, true, false, not, cond, eqb, List, [], ◌∷◌, map, length, drop, refl, sym, ap, ◌∙◌, arith}
-use Rattle.std.proofs.lemmas.Simd.{chunk-drop, length-chunk, leading_from_mask_l, trailing_mask_l}
-use Rattle.std.proofs.lemmas.List.{length-drop}
+use Rattle.csv_rows.proofs.Prelude.{chunk, chunk-drop, eq-eqb, leading_from_mask_l, length-chunk, length-drop, mask_l, ne_eqb, prefix_len, prefix_len-le-length, trailing_mask_l}
 use Rattle.std.proofs.lemmas.List.Folds.{prefix_len-append}
-use Rattle.std.proofs.lemmas.List.Sums.{prefix_len-le-length}
-use Rattle.std.proofs.lemmas.Bool.{eq-eqb, ne_eqb}
-use Rattle.std.specs.List.{prefix_len}
-use lib.Lanes.{chunk, mask_l}
 use lib.Count.{count_trailing_zeros}
 
 -- a run ends within the list

@@ -1,8 +1,7 @@
 -- a file that is fetched block by block
 use Rattle.std.proofs.Common.{◌≡◌, ℕ, ◌+◌, ◌<◌, List, [], ◌++◌, length, take, drop, refl, ap, ap₂, sym, ◌∙◌, arith, length-append, Option, Some, None, cond, ◌∷◌}
-use Rattle.std.specs.Prelude.{IfSome, IsSome}
+use Rattle.csv_rows.proofs.Prelude.{IfSome, IsSome, drop-take, take-append-drop, take-take, take_all}
 use Rattle.std.specs.Str.{bytes_eq}
-use Rattle.std.proofs.lemmas.List.{take_all, take-append-drop, take-take, drop-take}
 use Rattle.outside_io.specs.declared.entries.FileEntry.{FileEntry}
 use Rattle.outside_io.specs.Told.{files_of, file_bytes, moved_by, GivesNext, StandsAtEnd}
 use Rattle.query_model.specs.Database.{file_bytes as pair_bytes}

@@ -1,13 +1,7 @@
 -- Fields by their places.
 use Rattle.std.proofs.Common.{◌≡◌, ℕ, ◌+◌, ◌-◌, ◌<◌, ◌≤◌, ◌==◌, ◌||◌, Bool, true, false, List, [], ◌∷◌, ◌++◌, length, take, drop, get_or, refl, sym, ap, ◌∙◌, arith, append_assoc, length-append}
-use Rattle.std.specs.List.{prefix_len}
-use Rattle.std.proofs.lemmas.List.{drop_more, drop_all, drop-drop, append-nil}
-use Rattle.std.proofs.lemmas.Bool.{eqb-true}
-use native.Mathlib.Decide.{dec_lt}
-use Rattle.csv.specs.Machine.{next_record}
-use Rattle.csv.specs.Reading.{default_config}
+use Rattle.csv_rows.proofs.Prelude.{EndsRecord, FieldUpTo, HasMore, SkipsEnds, append-nil, at_mark, dec_lt, default_config, drop-drop, drop_all, drop_more, eqb-true, first_or, is_line_end, is_mark, next_record, no_mark, no_quote, part, prefix_len, records_at, starts_with}
 use Rattle.csv.specs.declared.parser.State.TheVariants as st
-use Rattle.csv_rows.specs.Places.{is_mark, no_mark, no_quote, is_line_end, first_or, at_mark, starts_with, part, records_at, FieldUpTo, SkipsEnds, EndsRecord, HasMore}
 use Rattle.csv_rows.proofs.ByteRuns.{run_bound}
 use Rattle.csv_rows.proofs.MachineSteps.{copied, quoted_copies, prefix_stops, plain_run, plain_field, one_more, records_skip, last_in_line, last_of_text}
 

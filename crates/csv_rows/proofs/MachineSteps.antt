@@ -1,16 +1,9 @@
 -- The machine of the `csv` crate, by fields and lines.
 use Rattle.std.proofs.Common.{◌≡◌, inl, inr, ℕ, zero, suc, ◌+◌, ◌==◌, ◌&&◌, Bool, true, false, cond, not, List, [], ◌∷◌, ◌++◌, take, drop, refl, ap, ◌∙◌, arith, append_assoc, Option, Some, None}
-use Rattle.std.specs.Prelude.{IsSome}
-use Rattle.std.specs.List.{prefix_len}
-use Rattle.std.proofs.lemmas.List.{append-nil}
-use Rattle.std.proofs.lemmas.Bool.{eqb-true, and_parts, or_cases, or_parts, not-true}
-use Rattle.csv.specs.Machine.{Read, next_record, step, is_end, ends_at_end, state_code}
-use Rattle.csv.specs.Reading.{default_config, records_from, records_next}
+use Rattle.csv_rows.proofs.Prelude.{BeginsField, BeginsFields, FirstRecord, IsSome, Read, and_parts, append-nil, at_end, default_config, ends_at_end, eqb-true, first_or, is_end, is_line_end, is_mark, next_record, no_mark, no_quote, not-true, or_cases, or_parts, prefix_len, records_from, records_next, starts_line, starts_with, state_code, step}
 use Rattle.csv.specs.declared.parser.State.{State}
 use Rattle.csv.specs.declared.parser.State.TheVariants as st
 use Rattle.csv.specs.declared.parser.Action.TheVariants as act
-use Rattle.csv_rows.specs.RowsLeft.{at_end}
-use Rattle.csv_rows.specs.Places.{is_line_end, is_mark, no_mark, no_quote, first_or, starts_with, starts_line, BeginsField, BeginsFields, FirstRecord}
 
 -- bytes that a state copies join the field, up to the first that it does not
 pub copied : (s : State) (q : ℕ → Bool)
@@ -182,14 +175,8 @@ busy s = ends_at_end s && not (state_code s == 1536)
 -- a record that has begun goes on, unless the action ends it
 step_goes : (s : State) (c : ℕ) → busy s ≡ true → is_end (step default_config s c).1 ≡ false
     → busy (step default_config s c).0 ≡ true
-step_goes st.StartRecord c h e = absurd cc
-step_goes st.StartField c h e = grind (arith, e)
-step_goes st.InField c h e = grind (arith, e)
-step_goes st.InQuoted c h e = grind (arith, e)
-step_goes st.AfterQuote c h e = grind (arith, e)
 step_goes st.InEscape c h e = refl
-step_goes st.InComment c h e = absurd cc
-step_goes st.AfterCr c h e = absurd cc
+step_goes s c h e = grind (arith, h, e)
 
 some_in : (b : Bool) (p : Read) (o : Option Read) → (b ≡ false → IsSome o)
     → IsSome (cond b (Some p) o)

@@ -1,19 +1,10 @@
 -- What is left of a part at a place.
 use Rattle.std.proofs.Common.{◌≡◌, ◌≢◌, ℕ, zero, suc, ◌+◌, ◌-◌, ◌<◌, ◌≤◌, Bool, true, false, cond, List, [], ◌∷◌, length, drop, map, get_or, refl, sym, ap, ◌∙◌, arith, length-drop, eq-eqb, Some}
-use Rattle.std.proofs.lemmas.List.{drop_all}
-use Rattle.std.proofs.lemmas.Bool.{ne_eqb}
-use native.Mathlib.Decide.{dec_lt}
-use Rattle.std.specs.Prelude.{nat_eq}
-use Rattle.csv.specs.Reading.{default_config, records, records_from, strip_bom, is_bom}
+use Rattle.csv_rows.proofs.Prelude.{AddsFirst, Column, FieldUpTo, FirstRecord, HasMore, IsBadAt, OnBad, RowsLeft, SkipsEnds, StartsLine, StartsPart, TakesRow, at_end, dec_lt, default_config, drop_all, is_bom, kind_of, nat_eq, ne_eqb, records, records_at, records_from, spelled_row-fits, starts_line, strip_bom}
 use Rattle.csv.specs.declared.parser.State.TheVariants as st
 use Rattle.query_model.specs.Parts.{part_records, good_rows, bad_place, row_then}
-use Rattle.csv_rows.specs.RowsLeft.{RowsLeft, TakesRow, at_end}
-use Rattle.csv_rows.specs.Places.{starts_line, FirstRecord, records_at, StartsLine, SkipsEnds, AddsFirst, IsBadAt, PassesFrom, StartsPart, OnBad}
 use Rattle.csv_rows.specs.declared.rows.RowsFault.{RowsFault}
 use Rattle.csv_rows.specs.declared.rows.RowsFault.TheVariants.{Bad, Memory}
-use Rattle.chunk_data.specs.declared.typed_column.Column.{Column}
-use Rattle.chunk_data.specs.Names.{kind_of}
-use Rattle.query_model.proofs.Reading.{spelled_row-fits}
 use Rattle.csv_rows.proofs.MachineSteps.{record_left, record_starts, records_nil}
 
 -- no record is left behind the end
@@ -97,11 +88,9 @@ pub bom_is : (bytes : List ℕ) (b : Bool) → 3 ≤ length bytes
     → is_bom (get_or bytes 0 0) (get_or bytes 1 0) (get_or bytes 2 0) ≡ b
     → drop (cond b 3 0) bytes ≡ strip_bom bytes
 unfolding strip_bom
-bom_is [] b le h = absurd (omega (arith, le))
-bom_is (a ∷ []) b le h = absurd (omega (arith, le))
-bom_is (a ∷ b' ∷ []) b le h = absurd (omega (arith, le))
 bom_is (a ∷ b' ∷ c ∷ rest) true le h = rw h refl
 bom_is (a ∷ b' ∷ c ∷ rest) false le h = rw h refl
+bom_is bytes b le h = absurd (omega (arith, le))
 
 -- the records of a part behind a byte order mark
 part_at : (bytes : List ℕ) (m at : ℕ) → m ≤ length bytes → drop m bytes ≡ strip_bom bytes
@@ -127,19 +116,20 @@ part_empty bytes m at le e h over =
     record { is = none ∙ ap (drop 1) (sym none ∙ part_at bytes m at le e h); starts = h.starts }
 
 -- behind a header they begin with the second record
-pub part_headed : {bytes : List ℕ} {m at count next : ℕ} → m ≤ length bytes
+pub part_headed : {bytes field : List ℕ} {m at end count next : ℕ} → m ≤ length bytes
     → drop m bytes ≡ strip_bom bytes → SkipsEnds bytes m at → at < length bytes
-    → PassesFrom bytes at count next → StartsPart true bytes next (length bytes - m)
+    → FieldUpTo bytes at field end → HasMore bytes end count next
+    → StartsPart true bytes next (length bytes - m)
 unfolding part_records
-part_headed {bytes = bytes} {m = m} {at = at} {next = next} le e h lt p =
+part_headed {bytes = bytes} {field = field} {m = m} {at = at} {next = next} le e h lt upto p =
     let one : length bytes - m + 1 ≡ suc (length bytes - m) = omega arith in
-    let header = p.rest.ends.ends (drop at bytes) (drop at bytes) [] p.field
-    (record_starts (drop at bytes) (h.starts.line lt)) p.upto.begins in
+    let header = p.ends.ends (drop at bytes) (drop at bytes) [] field
+    (record_starts (drop at bytes) (h.starts.line lt)) upto.begins in
     record {
       is = ap (drop 1) (sym (header.reads (length bytes - m))
           ∙ ap (λ n. records_at n bytes at) (sym one) ∙ part_at bytes m at le e h);
-      starts = p.rest.ends.starts;
+      starts = p.ends.starts;
     }
 
 -- how the rows of a part begin
-pub ruleset parts = (part_starts, part_empty, part_headed)
+pub ruleset parts = (part_starts, part_empty)

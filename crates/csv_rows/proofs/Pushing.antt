@@ -1,28 +1,19 @@
 -- records that are added to columns field by field
 use Rattle.std.proofs.Common.{◌≡◌, ◌≢◌, zero, suc, true, false, Bool, ℕ, ◌+◌, ◌<◌, ◌≤◌, List, [], ◌∷◌, ◌++◌, length, get_or, set, take, map, refl, ap, ap₂, sym, ◌∙◌, drop, subst, arith, append_assoc, None}
-use Rattle.std.proofs.lemmas.List.{map-set, get_or-map, set-get_or, length-map, take_at, length-append}
-use Rattle.std.proofs.lemmas.Bool.{eq-eqb}
+use Rattle.csv_rows.proofs.Prelude.{AddsRecord, AddsSpelled, AreLong, AreLong_push, BeginsFields, Column, EndsRecord, FieldUpTo, HasMore, IsBadAt, Judged, Pushes, PushesFirst, ReadsFirst, ReadsFront, RowsLeft, StopsAt, TakesBack, TakesRow, at_end, bad_column, bad_field-lengths, bad_place, both_spelled, eq-eqb, get_or-map, good_rows, kind_of, length-FitsTypes, length-append, length-map, length-rows_of, map-set, rows_of, rows_of_push, set-get_or, spelled_row, spelled_row-lengths, spelled_value, starts_line, starts_with, take_at, values}
 use Rattle.std.specs.Prelude.{◌==◌}
-use Rattle.chunk_data.specs.Names.{kind_of, values, AreLong, rows_of}
-use Rattle.chunk_data.specs.declared.typed_column.Column.{Column}
-use Rattle.query_model.specs.Names.{spelled_value, spelled_row, both_spelled, bad_column, bad_place, good_rows}
 use Rattle.query_model.specs.declared.places.BadField.TheVariants.{Column as column_field, Fields as fields_field}
-use Rattle.query_model.proofs.Reading.{spelled_row-lengths, bad_field-lengths}
 use Rattle.chunk_data.proofs.ColumnLists.{Joined-none, Joined-back}
-use Rattle.chunk_data.proofs.Laws.{length-FitsTypes, length-rows_of, rows_of_push, AreLong_push}
 use Rattle.csv_rows.proofs.FieldPlaces.{first_is, first_within}
 use Rattle.csv_rows.proofs.MachineSteps.{record_starts, one_more}
 use Rattle.csv_rows.specs.declared.record_by_field.RecordRead.{RecordRead}
-use Rattle.csv_rows.specs.Places.{starts_with, starts_line, BeginsFields, EndsRecord, FieldUpTo, Judged, Pushes, PushesFirst, PassesFrom, ReadsFirst, AddsSpelled, AddsRecord, IsBadAt, StopsAt, TakesBack}
-use Rattle.csv_rows.specs.RowsLeft.{RowsLeft, ReadsFront, TakesRow, at_end}
 
 -- the fields were added to the first columns, one to each, and the others are as they were
 abbrev pub Front : List (List ℕ) → List Column → List Column → Type 0
 Front [] old now = now ≡ old
-Front (f ∷ fields) [] now = ⊥
-Front (f ∷ fields) (o ∷ old) [] = ⊥
 Front (f ∷ fields) (o ∷ old) (n ∷ now) =
     (kind_of n ≡ kind_of o) × AddsSpelled f o n × Front fields old now
+Front (f ∷ fields) old now = ⊥
 
 -- one field more
 pub front_more : (fields : List (List ℕ)) (f : List ℕ) (old now : List Column) (i : ℕ)
@@ -33,11 +24,10 @@ front_more [] f old [] i d y h e lt k a = absurd (omega (arith, lt))
 front_more [] f old (n ∷ now) zero d y h e lt k a =
     subst (λ o. Front (f ∷ []) o (y ∷ now)) h (k, a, refl)
 front_more [] f old (n ∷ now) (suc i) d y h e lt k a = absurd (omega (arith, e))
-front_more (g ∷ fields) f [] now i d y h e lt k a = absurd h
-front_more (g ∷ fields) f (o ∷ old) [] i d y h e lt k a = absurd h
 front_more (g ∷ fields) f (o ∷ old) (n ∷ now) zero d y h e lt k a = absurd (omega (arith, e))
 front_more (g ∷ fields) f (o ∷ old) (n ∷ now) (suc i) d y h e lt k a =
     (h.0, h.1, front_more fields f old now i d y h.2 (omega (arith, e)) (omega (arith, lt)) k a)
+front_more (g ∷ fields) f old now i d y h e lt k a = absurd h
 
 -- a field for each column
 pub front_all : (fields : List (List ℕ)) (old now : List Column) → Front fields old now
@@ -45,8 +35,6 @@ pub front_all : (fields : List (List ℕ)) (old now : List Column) → Front fie
 unfolding spelled_row
 front_all [] [] now h e = record { row = []; spells = refl; added = ap (map values) h }
 front_all [] (o ∷ old) now h e = absurd (omega (arith, e))
-front_all (f ∷ fields) [] now h e = absurd h
-front_all (f ∷ fields) (o ∷ old) [] h e = absurd h
 front_all (f ∷ fields) (o ∷ old) (n ∷ now) h e =
     let rest = front_all fields old now h.2 (omega (arith, e)) in
     record {
@@ -54,13 +42,13 @@ front_all (f ∷ fields) (o ∷ old) (n ∷ now) h e =
       spells = ap₂ both_spelled h.1.spells rest.spells;
       added = ap₂ ◌∷◌ h.1.added rest.added;
     }
+front_all (f ∷ fields) old now h e = absurd h
 
 pub front_kinds : (fields : List (List ℕ)) (old now : List Column) → Front fields old now
     → map kind_of now ≡ map kind_of old
 front_kinds [] old now h = ap (map kind_of) h
-front_kinds (f ∷ fields) [] now h = absurd h
-front_kinds (f ∷ fields) (o ∷ old) [] h = absurd h
 front_kinds (f ∷ fields) (o ∷ old) (n ∷ now) h = ap₂ ◌∷◌ h.0 (front_kinds fields old now h.2)
+front_kinds (f ∷ fields) old now h = absurd h
 
 pub front_long : (fields : List (List ℕ)) (old now : List Column) → Front fields old now
     → length now ≡ length old
@@ -79,11 +67,10 @@ front_back fields old now h = record {
         → AreLong n (map values old) → map (take n) (map values now) ≡ map values old
     go n [] old now h long =
         ap (λ l. map (take n) (map values l)) h ∙ Joined-back n (Joined-none [] old) long
-    go n (f ∷ fields) [] now h long = absurd h
-    go n (f ∷ fields) (o ∷ old) [] h long = absurd h
     go n (f ∷ fields) (o ∷ old) (x ∷ now) h long =
         ap₂ ◌∷◌ (ap (take n) h.1.added ∙ take_at (values o) (h.1.value ∷ []) n long.0)
         (go n fields old now h.2 long.1)
+    go n (f ∷ fields) old now h long = absurd h
 
 -- the field behind them spells no value
 front_stops : (fields : List (List ℕ)) (f : List ℕ) (more : List (List ℕ)) (old now : List Column)
@@ -97,11 +84,10 @@ front_stops [] f more old (n ∷ now) d h lt u =
     subst (λ o. (spelled_row (map kind_of o) (f ∷ more) ≡ None)
     × ((c : ℕ) → bad_column c (map kind_of o) (f ∷ more) ≡ c + 0)) h
     (ap (λ v. both_spelled v (spelled_row (map kind_of now) more)) u, λ c. rw u (omega arith))
-front_stops (g ∷ fields) f more [] now d h lt u = absurd h
-front_stops (g ∷ fields) f more (o ∷ old) [] d h lt u = absurd h
 front_stops (g ∷ fields) f more (o ∷ old) (n ∷ now) d h lt u =
     let rest = front_stops fields f more old now d h.2 (omega (arith, lt)) u in
     (ap₂ both_spelled h.1.spells rest.0, λ c. rw h.1.spells (omega (arith, rest.1 (c + 1))))
+front_stops (g ∷ fields) f more old now d h lt u = absurd h
 
 -- the same where column i was then left as it is
 pub back_at : (fields : List (List ℕ)) (old now : List Column) (i : ℕ) (d y : Column)
@@ -164,6 +150,9 @@ row_back {f = f} {i = i} {old = old} {now = now} true d y h lt k upto p =
 row_back {i = i} {old = old} {now = now} false d y h lt k upto p =
     back_at h.fields old now i d y h.added lt k (ap values p.1)
 
+-- what was added can be taken back
+pub ruleset backs = (front_back, back_at, row_back)
+
 -- the record ends with one field and those behind it
 row_reads : {bytes f : List ℕ} {at place end next i : ℕ} {old now : List Column}
     → (more : List (List ℕ)) (h : RowSoFar bytes at place old now i) → FieldUpTo bytes place f end
@@ -211,13 +200,14 @@ row_ends {f = f} {i = i} {old = old} {now = now} {read = read} d y more h lt k u
         }
 
 -- more fields than columns
-pub row_beyond : {bytes : List ℕ} {at place i more : ℕ} {old now : List Column} {read : RecordRead}
-    → RowSoFar bytes at place old now i → length now ≤ i → PassesFrom bytes place more read.next
-    → read.count ≡ i + 1 + more → PushesFirst bytes at read old now
-row_beyond {old = old} {now = now} h all p count = record {
-  fields = h.fields ++ p.field ∷ p.rest.more;
-  many = omega (arith, length-append h.fields (p.field ∷ p.rest.more), h.count, p.rest.many, count);
-  reads = row_reads p.rest.more h p.upto p.rest.ends;
+pub row_beyond : {bytes f : List ℕ} {at place end i more : ℕ} {old now : List Column}
+    {read : RecordRead} → RowSoFar bytes at place old now i → length now ≤ i
+    → FieldUpTo bytes place f end → HasMore bytes end more read.next → read.count ≡ i + 1 + more
+    → PushesFirst bytes at read old now
+row_beyond {f = f} {old = old} {now = now} h all upto p count = record {
+  fields = h.fields ++ f ∷ p.more;
+  many = omega (arith, length-append h.fields (f ∷ p.more), h.count, p.many, count);
+  reads = row_reads p.more h upto p.ends;
   judged = λ same. absurd (omega (arith, same, count, all, front_long h.fields old now h.added));
 }
 

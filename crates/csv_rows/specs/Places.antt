@@ -103,14 +103,6 @@ pub record HasMore (bytes : List ℕ) (end count next : ℕ) : Type 0 where
   pub few : count ≤ length bytes
   pub ends : EndsRecord bytes end more next
 
--- a field is at the first place, its record has so many fields more, and the next one begins at the
--- second
-pub record PassesFrom (bytes : List ℕ) (at count next : ℕ) : Type 0 where
-  pub field : List ℕ
-  pub end : ℕ
-  pub upto : FieldUpTo bytes at field end
-  pub rest : HasMore bytes end count next
-
 -- a fact about the bad place, where one is told
 abbrev pub OnBad : RowsFault → (BadPlace → Type 0) → Type 0
 OnBad (Bad place) P = P place

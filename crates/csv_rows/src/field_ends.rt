@@ -40,10 +40,12 @@ fn mark_from(bytes: &[u8], at: usize) -> usize
         }
         i += 16;
     }
-    'bytes: while i < bytes.len() && !is_mark(bytes[i]) {
-        i += 1;
+    for j in i..bytes.len() {
+        if is_mark(bytes[j]) {
+            return j;
+        }
     }
-    i
+    bytes.len()
 }
 
 // Where the field at a place ends, which has no quote in front.
@@ -56,24 +58,16 @@ fn plain_end(bytes: &[u8], at: usize) -> usize
     mark_from(bytes, at)
 }
 
-// How many bytes stand in front of the first quote, or in all.
-fn quote_in(bytes: &[u8]) -> usize
-    ensures run { result ≡ prefix_len no_quote bytes.now }
-    ensures within { result ≤ length bytes.now }
-{
-    match memchr(b'"', bytes) {
-        Some(found) => found,
-        None => bytes.len(),
-    }
-}
-
 // The next quote from a place on, or the end.
 fn next_quote(bytes: &[u8], at: usize) -> usize
     requires { at ≤ length bytes.now }
     ensures run { result ≡ at + prefix_len no_quote (drop at bytes.now) }
     ensures within { result ≤ length bytes.now }
 {
-    at + quote_in(&bytes[at..])
+    match memchr(b'"', &bytes[at..]) {
+        Some(found) => at + found,
+        None => bytes.len(),
+    }
 }
 
 // Where the field at a place ends, which begins with a quote; its bytes are put into `field`, which

@@ -10,6 +10,7 @@ mod file_fetch;
 mod record_by_field;
 mod row_reader;
 mod rows;
+mod short_numbers;
 mod text;
 
 pub use file_fetch::{FetchFault, Fetched, fetch, hold_block};

@@ -1,7 +1,7 @@
 // Records, added to columns field by field as they are read.
 ghost use Rattle.std.specs.Prelude.{◌≡◌, ◌+◌, ◌<◌, ◌≤◌, ◌^◌, true, length, map, drop, IfOk, IfErr, OnErr};
 ghost use Rattle.chunk_data.specs.Names.{kind_of, values, AreLong};
-ghost use Rattle.csv_rows.specs.Places.{starts_line, at_mark, AddsFirst, HasMore, IsBadAt, OnBad, PassesFrom, PushesFirst, TakesBack};
+ghost use Rattle.csv_rows.specs.Places.{starts_line, at_mark, AddsFirst, HasMore, IsBadAt, OnBad, PushesFirst, TakesBack};
 
 use crate::field_ends::{byte_at, field_at, line_end};
 use crate::rows::{RowsFault, push_field};
@@ -18,9 +18,13 @@ struct RecordRead {
     whole: bool,
 }
 
-// How many fields more the record has behind a field that ends here, and where the next one begins.
+/// How many fields more a record has behind one that ends here, and where the next one begins.
 #[tactic(auto, using(crate::proofs::FieldPlaces::more_none))]
-fn pass_fields(bytes: &[u8], at: usize, field: &mut Vec<u8>) -> Result<(usize, usize), Memory>
+pub(crate) fn pass_fields(
+    bytes: &[u8],
+    at: usize,
+    field: &mut Vec<u8>,
+) -> Result<(usize, usize), Memory>
     requires within { at ≤ length bytes.now }
     requires mark { at_mark (drop at bytes.now) ≡ true }
     ensures { IfOk result (λ p. HasMore bytes.now at p.0 p.1) }
@@ -34,21 +38,9 @@ fn pass_fields(bytes: &[u8], at: usize, field: &mut Vec<u8>) -> Result<(usize, u
     Ok((more, line_end(bytes, end)))
 }
 
-/// How many fields more the record has behind the field at a place, and where the next one begins.
-pub(crate) fn pass_from(
-    bytes: &[u8],
-    at: usize,
-    field: &mut Vec<u8>,
-) -> Result<(usize, usize), Memory>
-    requires { at ≤ length bytes.now }
-    ensures { IfOk result (λ p. PassesFrom bytes.now at p.0 p.1) }
-{
-    let (_, end) = field_at(bytes, at, field)?;
-    pass_fields(bytes, end, field)
-}
-
 // Adds the record at a place to the columns, up to the first field that spells no value of its
 // column. What was added can be taken back.
+#[tactic(auto, using(crate::proofs::Pushing::backs))]
 fn push_fields(
     columns: &mut [Column],
     bytes: &[u8],
@@ -84,7 +76,8 @@ fn push_fields(
         place = end + 1;
     }
     // More fields than columns.
-    let (more, next) = pass_from(bytes, place, field)?;
+    let (_, end) = field_at(bytes, place, field)?;
+    let (more, next) = pass_fields(bytes, end, field)?;
     Ok(RecordRead {
         next,
         count: columns.len() + 1 + more,
@@ -95,12 +88,13 @@ fn push_fields(
 
 /// Adds the record at a place, which has this number, as one row behind so many, and says where the
 /// next one begins.
+#[tactic(auto, using(crate::proofs::Pushing::first_lengths))]
 pub(crate) fn push_first(
     columns: &mut [Column],
     bytes: &[u8],
     at: usize,
     rows: usize,
-    number: u64,
+    row: u64,
     field: &mut Vec<u8>,
 ) -> Result<usize, RowsFault>
     requires within { at ≤ length bytes.now }
@@ -109,7 +103,7 @@ pub(crate) fn push_first(
     requires few { length columns.old < 2 ^ 32 }
     ensures kinds { map kind_of columns.new ≡ map kind_of columns.old }
     ensures ok { IfOk result (λ next. AddsFirst bytes.now at next columns.old columns.new) }
-    ensures bad { IfErr result (λ e. OnBad e (IsBadAt columns.old bytes.now at number)) }
+    ensures bad { IfErr result (λ e. OnBad e (IsBadAt columns.old bytes.now at row)) }
     ensures err { OnErr result (map values columns.new ≡ map values columns.old) }
 {
     let width = columns.len();
@@ -119,17 +113,13 @@ pub(crate) fn push_first(
     };
     if read.count != width {
         truncate_columns(columns, rows);
-        return Err(bad_record(number, BadField::Fields(read.count as u64)));
+        let field = BadField::Fields(read.count as u64);
+        return Err(RowsFault::Bad(BadPlace { row, field }));
     }
     if !read.whole {
         truncate_columns(columns, rows);
-        return Err(bad_record(number, BadField::Column(read.last as u32 + 1)));
+        let field = BadField::Column(read.last as u32 + 1);
+        return Err(RowsFault::Bad(BadPlace { row, field }));
     }
     Ok(read.next)
-}
-
-fn bad_record(row: u64, field: BadField) -> RowsFault
-    ensures { result ≡ RowsFault.Bad (record { row = row; field = field }) }
-{
-    RowsFault::Bad(BadPlace { row, field })
 }

@@ -5,8 +5,8 @@ ghost use Rattle.query_model.specs.Parts.{bad_place, part_records};
 ghost use Rattle.csv_rows.specs.Places.{StartsPart, OnBad};
 ghost use Rattle.csv_rows.specs.RowsLeft.{at_end, ReadsFront, TakesRow, TakesRows};
 
-use crate::field_ends::skip_ends;
-use crate::record_by_field::{pass_from, push_first};
+use crate::field_ends::{field_at, skip_ends};
+use crate::record_by_field::{pass_fields, push_first};
 use crate::rows::RowsFault;
 use chunk_data::{Chunk, Column, ColumnType, List, Memory};
 use std::alloc::Global;
@@ -78,9 +78,8 @@ impl RowReader {
             bad_place (self.old.count + 1) types.now self.old.rest ≡ Some place)) }
     {
         let room = most.min(ROOM).min(self.bytes.len());
-        let mut columns = match roomy_columns(alloc, types.as_slice(), room) {
-            Ok(columns) => columns,
-            Err(_) => return Err(RowsFault::Memory),
+        let Ok(mut columns) = roomy_columns(alloc, types.as_slice(), room) else {
+            return Err(RowsFault::Memory);
         };
         let rows = read_front(self, &mut columns, most)?;
         Chunk::of_columns(alloc, List::from_vec(columns), rows).map_err(|_| RowsFault::Memory)
@@ -102,14 +101,8 @@ impl RowReader {
         let Some(number) = self.passed.checked_add(1) else {
             return Err(RowsFault::Memory);
         };
-        match push_first(
-            columns,
-            self.bytes.as_slice(),
-            self.at,
-            rows,
-            number,
-            &mut self.field,
-        ) {
+        let bytes = self.bytes.as_slice();
+        match push_first(columns, bytes, self.at, rows, number, &mut self.field) {
             Ok(next) => {
                 self.at = next;
                 self.left -= 1;
@@ -121,13 +114,6 @@ impl RowReader {
     }
 }
 
-// Whether the bytes are a byte order mark.
-fn is_bom(a: u8, b: u8, c: u8) -> bool
-    ensures { result ≡ Rattle.csv.specs.Reading.is_bom a b c }
-{
-    a == 0xEF && b == 0xBB && c == 0xBF
-}
-
 // The place behind a byte order mark at the start.
 fn mark_end(bytes: &[u8]) -> usize
     ensures within { result ≤ length bytes.now }
@@ -136,7 +122,7 @@ fn mark_end(bytes: &[u8]) -> usize
     if bytes.len() < 3 {
         return 0;
     }
-    if is_bom(bytes[0], bytes[1], bytes[2]) {
+    if (bytes[0] == 0xEF) & (bytes[1] == 0xBB) & (bytes[2] == 0xBF) {
         3
     } else {
         0
@@ -157,7 +143,9 @@ fn first_place(bytes: &[u8], header: bool, field: &mut Vec<u8>) -> Result<(usize
     if at >= bytes.len() {
         return Ok((at, most + 1));
     }
-    pass_from(bytes, at, field).map(|passed| (passed.1, most))
+    let (_, end) = field_at(bytes, at, field)?;
+    let (_, next) = pass_fields(bytes, end, field)?;
+    Ok((next, most))
 }
 
 /// The most rows for which room is made ahead.
@@ -193,10 +181,7 @@ fn read_front(
 {
     let mut rows = 0usize;
     'rows: loop {
-        if rows == most {
-            return Ok(rows);
-        }
-        if reader.is_over() {
+        if rows == most || reader.is_over() {
             return Ok(rows);
         }
         match reader.push_next(columns, rows) {

@@ -3,8 +3,8 @@ ghost use Rattle.std.specs.Prelude.{◌≡◌, IfOk, OnErr};
 ghost use Rattle.chunk_data.specs.Names.{kind_of, values};
 ghost use Rattle.csv_rows.specs.Places.{Pushes};
 
+use crate::short_numbers::{spelled_int, spelled_uint};
 use chunk_data::{Column, ColumnType, Memory};
-use query_model::numerals::{spelled_int, spelled_uint};
 use query_model::places::BadPlace;
 
 /// Why the rows of a part were not read.

@@ -1,9 +1,6 @@
 use Rattle.std.proofs.Common.{◌≡◌, ℕ, ◌%◌, ◌^◌, ◌==◌, ◌||◌, Bool, true, false, cond, List, [], ◌∷◌, map, refl, ap, ap₂, ◌∙◌, arith}
-use Rattle.std.proofs.lemmas.List.{length-map}
-use Rattle.std.proofs.lemmas.Simd.{zip2_splat, zip2_of_maps, mask_l-mod}
+use Rattle.csv_rows.proofs.Prelude.{is_mark, length-map, mask_l, mask_l-mod, top, zip2_of_maps, zip2_splat}
 use lib.Bits.{bit_or}
-use lib.Lanes.{mask_l, top}
-use Rattle.csv_rows.specs.Places.{is_mark}
 use Rattle.csv_rows.proofs.field_ends.marks.Goals as goal
 
 abbrev hit : ℕ → ℕ → ℕ

@@ -1,5 +1,6 @@
 use Rattle.std.proofs.Common.{◌∙◌, sym, arith}
 use Rattle.csv_rows.proofs.Pushing.{ReadSoFar-none, ReadSoFar-more, ReadSoFar-stop, ReadSoFar-some}
+use Rattle.csv_rows.proofs.row_reader.read_front.Goals.{then-rows-most-via-then-rows-most, then-rows-most-via-else-rows-most+then-is_over}
 use Rattle.csv_rows.proofs.row_reader.read_front.Goals as goal
 
 pub rows-init : goal.rows-init
@@ -7,12 +8,11 @@ rows-init c = ReadSoFar-none c.args.columns.now c.args.reader.now c.args.most c.
 
 pub returns-then-rows-most-clause-ok : goal.returns-then-rows-most-clause-ok
 returns-then-rows-most-clause-ok c =
-    ReadSoFar-stop c.rows.invariant (λ left lt. omega (arith, lt, c.if-rows-most.true))
-
-pub returns-then-is_over-clause-ok : goal.returns-then-is_over-clause-ok
-returns-then-is_over-clause-ok c =
-    ReadSoFar-stop c.rows.invariant (λ left lt.
-    ReadSoFar-some c.rows.invariant (sym c.is_over.ensures ∙ c.if-is_over.true) left)
+    ReadSoFar-stop c.rows.invariant (λ left lt. elim c.then-rows-most.branch [
+      | then-rows-most-via-then-rows-most w ↦ omega (arith, lt, w.if-rows-most.true)
+      | then-rows-most-via-else-rows-most+then-is_over w ↦
+          ReadSoFar-some c.rows.invariant (sym w.is_over.ensures ∙ w.if-is_over.true) left
+    ])
 
 pub returns-in-Err-Bad-clause-ok : goal.returns-in-Err-Bad-clause-ok
 returns-in-Err-Bad-clause-ok c =

@@ -1,5 +1,5 @@
 use Rattle.std.proofs.Common.{◌≡◌, map, take, []}
-use Rattle.chunk_data.specs.Columns.{kind_of, values}
+use Rattle.csv_rows.proofs.Prelude.{kind_of, values}
 use Rattle.csv_rows.proofs.row_reader.roomy_columns.Given as goal
 
 abbrev pub invariant-loop-kind : goal.invariant-loop-kind

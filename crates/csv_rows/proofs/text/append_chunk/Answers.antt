@@ -1,5 +1,5 @@
 use Rattle.std.proofs.Common.{arith}
-use Rattle.chunk_data.proofs.Laws.{length-FitsTypes}
+use Rattle.csv_rows.proofs.Prelude.{length-FitsTypes}
 use Rattle.csv_rows.proofs.text.append_chunk.Goals as goal
 
 pub append_row-requires-clause-wide : goal.append_row-requires-clause-wide

@@ -1,5 +1,5 @@
 use Rattle.std.proofs.Common.{◌≡◌, ◌++◌, take}
-use Rattle.query_model.specs.Texts.{rows_text}
+use Rattle.csv_rows.proofs.Prelude.{rows_text}
 use Rattle.csv_rows.proofs.text.append_chunk.Given as goal
 
 abbrev pub invariant-loop-i : goal.invariant-loop-i

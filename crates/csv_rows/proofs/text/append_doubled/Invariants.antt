@@ -1,5 +1,5 @@
 use Rattle.std.proofs.Common.{◌≡◌, ◌++◌, take, flat_map}
-use Rattle.query_model.specs.Texts.{doubled}
+use Rattle.csv_rows.proofs.Prelude.{doubled}
 use Rattle.csv_rows.proofs.text.append_doubled.Given as goal
 
 abbrev pub invariant-loop-byte : goal.invariant-loop-byte

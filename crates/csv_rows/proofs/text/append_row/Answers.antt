@@ -1,7 +1,5 @@
 use Rattle.std.proofs.Common.{◌≡◌, ◌<◌, ◌++◌, ◌∷◌, [], length, ap, sym, ◌∙◌, arith, append_assoc}
-use Rattle.std.proofs.lemmas.List.{get_or-map}
-use Rattle.chunk_data.specs.Names.{value_at, row_at, values}
-use Rattle.query_model.specs.Texts.{row_front, separator, value_text}
+use Rattle.csv_rows.proofs.Prelude.{get_or-map, row_at, row_front, separator, value_at, value_text, values}
 use Rattle.query_model.proofs.TextLaws.{row_front-more, row_front-whole}
 use Rattle.csv_rows.proofs.text.append_row.Goals as goal
 

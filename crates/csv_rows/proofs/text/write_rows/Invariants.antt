@@ -1,7 +1,6 @@
 use Rattle.std.proofs.Common.{◌≡◌, ◌++◌, take, flat_map}
 use Rattle.std.specs.Option.{option_copied}
-use Rattle.chunk_data.specs.Values.{Table}
-use Rattle.query_model.specs.Texts.{rows_text}
+use Rattle.csv_rows.proofs.Prelude.{Table, rows_text}
 use Rattle.csv_rows.specs.Lines.{heading}
 use Rattle.csv_rows.proofs.text.write_rows.Given as goal
 

@@ -1,11 +1,11 @@
 use Rattle.std.proofs.Common.{◌≡◌, ◌+◌, ap, ◌∙◌, arith}
-use Rattle.csv_rows.specs.RowsLeft.{at_end}
+use Rattle.csv_rows.proofs.Prelude.{at_end}
 use Rattle.csv_rows.proofs.PartPlaces.{line_there, some_left, row_here, bad_here}
 use Rattle.csv_rows.proofs.row_reader.RowReader.push_next.Goals as goal
 
 pub push_first-requires-clause-starts : goal.push_first-requires-clause-starts
 push_first-requires-clause-starts c =
-    rw c.as_slice.ensures.value
+    rw c.as_slice-bytes.ensures.value
     (line_there c.self.inside.left c.self.inside.bytes.items c.self.inside.at c.self.invariant
     (ap (λ p. at_end p.rest) c.self.view_is ∙ c.requires.left))
 
@@ -19,7 +19,7 @@ returns-in-Ok-clause-ok c =
     c.args.self.now c.in-Some.number c.args.columns.now c.push_first.new.columns
     c.requires.left (ap (λ p. p.rest) c.self.view_is)
     (grind (arith, ap (λ p. p.count) c.self.view_is))
-    (rw c.as_slice.ensures.value at c.in-Ok.ensures.ok)
+    (rw c.as_slice-bytes.ensures.value at c.in-Ok.ensures.ok)
 
 pub returns-in-Err-clause-bad : goal.returns-in-Err-clause-bad
 returns-in-Err-clause-bad c =
@@ -27,4 +27,4 @@ returns-in-Err-clause-bad c =
     grind (arith, ap (λ p. p.count) c.self.view_is) in
     bad_here c.self.inside.left c.self.inside.bytes.items c.self.inside.at _ c.args.columns.now
     c.args.self.now.rest c.in-Err.fault c.requires.left (ap (λ p. p.rest) c.self.view_is)
-    (rw (number, c.as_slice.ensures.value) at c.in-Err.ensures.bad)
+    (rw (number, c.as_slice-bytes.ensures.value) at c.in-Err.ensures.bad)
