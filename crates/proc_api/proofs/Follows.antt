@@ -54,20 +54,10 @@ follows-same p q v e f =
 
 -- as many ports as the last view had are those that the spec's ports stand still at
 pub stands-still : (s : Option Spec) (kept : Option PortFlags) (m n : ℕ) → AreAsKept kept m n → StandStill s kept m n
-stands-still None kept m n h = tt
-stands-still (Some (spec.Csv part)) kept m n h = tt
-stands-still (Some (spec.List list)) kept m n h = tt
-stands-still (Some (spec.Numbers k rows)) kept m n h = tt
-stands-still (Some (spec.Filter c)) kept m n h = tt
-stands-still (Some (spec.Expression items)) kept m n h = tt
 stands-still (Some spec.Resize) kept m n h = h
-stands-still (Some (spec.PartialAggregate groups)) kept m n h = tt
 stands-still (Some (spec.MergeAggregate groups)) kept m n h = h
-stands-still (Some (spec.HashJoin join)) kept m n h = tt
-stands-still (Some (spec.Sort order)) kept m n h = tt
 stands-still (Some (spec.MergeSorted order)) kept m n h = h
-stands-still (Some (spec.Limit span)) kept m n h = tt
-stands-still (Some spec.Collect) kept m n h = tt
+stands-still s kept m n h = tt
 
 kept-at : (k : Option PortFlags) (ports : PortFlags) (m n : ℕ) → k ≡ Some ports → length ports.inputs ≡ m → length ports.outputs ≡ n → AreAsKept k m n
 kept-at k ports m n e ins outs = subst (λ x. AreAsKept x m n) (sym e) (sym ins, sym outs)

@@ -1,5 +1,5 @@
 -- How what a box keeps goes on with what a `prepare` pulls and pushes.
-use Rattle.std.proofs.Common.{◌≡◌, ◌⊎◌, ℕ, zero, suc, ◌+◌, ◌<◌, List, [], ◌++◌, length, Option, Some, None, refl, ap, subst, ◌∙◌, arith, inl, inr}
+use Rattle.std.proofs.Common.{◌≡◌, ◌⊎◌, ℕ, zero, suc, ◌+◌, ◌<◌, List, [], ◌++◌, length, Option, Some, refl, ap, subst, ◌∙◌, arith, inl, inr}
 use Rattle.std.specs.List.{All}
 use Rattle.std.proofs.lemmas.List.{length-append, get_or_append_left, get_or-append-add, get_or_default}
 use Rattle.std.proofs.lemmas.Grind.{flat_map-append}
@@ -22,20 +22,17 @@ pulled-more v w ins types h = record {
 }
 
 pub makes-more : (s : Option Spec) (v w : Picture) (ins : Lists) (types : List ColumnType) → MakesTypes s ins types → MakesTypes s (with_pulled v w ins) types
-makes-more None v w ins types h = tt
-makes-more (Some (spec.Csv part)) v w ins types h = h
-makes-more (Some (spec.List list)) v w ins types h = tt
-makes-more (Some (spec.Numbers n rows)) v w ins types h = h
-makes-more (Some (spec.Filter c)) v w ins types h = record { pulled = pulled-more v w ins types h.pulled; fits = h.fits }
-makes-more (Some (spec.Expression items)) v w ins types h = record { from = h.from; pulled = pulled-more v w ins h.from h.pulled; fits = h.fits; is = h.is }
+makes-more (Some (spec.Filter c)) v w ins types h =
+    record { pulled = pulled-more v w ins types h.pulled; fits = h.fits }
+makes-more (Some (spec.Expression items)) v w ins types h = record {
+  from = h.from;
+  pulled = pulled-more v w ins h.from h.pulled;
+  fits = h.fits;
+  is = h.is;
+}
 makes-more (Some spec.Resize) v w ins types h = pulled-more v w ins types h
-makes-more (Some (spec.PartialAggregate groups)) v w ins types h = tt
-makes-more (Some (spec.MergeAggregate groups)) v w ins types h = tt
-makes-more (Some (spec.HashJoin join)) v w ins types h = tt
-makes-more (Some (spec.Sort order)) v w ins types h = h
-makes-more (Some (spec.MergeSorted order)) v w ins types h = h
 makes-more (Some (spec.Limit span)) v w ins types h = pulled-more v w ins types h
-makes-more (Some spec.Collect) v w ins types h = tt
+makes-more s v w ins types h = h
 
 -- what is true of all chunks of a longer list is true of its front
 pub front-all : (P : Table → Type 0) (xs ys : List Table) → All P (xs ++ ys) → All P xs
@@ -96,22 +93,13 @@ counted-more p q v w ins on e h =
 
 -- enough that was read stays enough
 pub enough-more : (s : Option Spec) (v w : Picture) (ins : Lists) → HasReadEnough s ins → HasReadEnough s (with_pulled v w ins)
-enough-more None v w ins h = h
-enough-more (Some (spec.Csv part)) v w ins h = h
-enough-more (Some (spec.List list)) v w ins h = h
-enough-more (Some (spec.Numbers n rows)) v w ins h = h
-enough-more (Some (spec.Filter c)) v w ins h = h
-enough-more (Some (spec.Expression items)) v w ins h = h
-enough-more (Some spec.Resize) v w ins h = h
-enough-more (Some (spec.PartialAggregate groups)) v w ins h = h
-enough-more (Some (spec.MergeAggregate groups)) v w ins h = h
-enough-more (Some (spec.HashJoin join)) v w ins h = h
-enough-more (Some (spec.Sort order)) v w ins h = h
-enough-more (Some (spec.MergeSorted order)) v w ins h = h
 enough-more (Some (spec.Limit span)) v w ins h =
-    let more : length (chunk_rows (with_pulled v w ins 0)) ≡ length (chunk_rows (ins 0)) + length (chunk_rows (pulled_at v w 0)) = ap length (rows-append (ins 0) (pulled_at v w 0)) ∙ length-append (chunk_rows (ins 0)) (chunk_rows (pulled_at v w 0)) in
+    let more : length (chunk_rows (with_pulled v w ins 0))
+    ≡ length (chunk_rows (ins 0)) + length (chunk_rows (pulled_at v w 0)) =
+    ap length (rows-append (ins 0) (pulled_at v w 0))
+    ∙ length-append (chunk_rows (ins 0)) (chunk_rows (pulled_at v w 0)) in
     omega (arith, more, h)
-enough-more (Some spec.Collect) v w ins h = h
+enough-more s v w ins h = h
 
 -- a kind that notes an end never reads enough
 pub never-enough : (s : Spec) (own : OwnState) (i : ℕ) (ins : Lists) → NotesEnd (Some s) own i

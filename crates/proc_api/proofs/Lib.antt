@@ -4,6 +4,8 @@ pub mod CallLaws
 pub mod Turns
 pub mod ShutPorts
 pub mod Keeping
+pub mod SeveralCalls
+pub mod MadeLaws
 pub mod Orders
 pub mod KeptFlags
 pub mod Follows

@@ -6,7 +6,7 @@ use Rattle.port_word.specs.Names.{Picture, input_at, output_at, in_count, out_co
 use Rattle.port_word.specs.declared.flags.Flags.{Flags}
 use Rattle.port_word.proofs.Differences.{changed-by-none, changed-by-one, changed-by-both}
 use Rattle.proc_api.specs.Names.{pushes_to, SameChunks, ClosesFront, FinishesFront}
-use Rattle.proc_api.proofs.Turns.{close-turns, finish-turns, finishing}
+use Rattle.proc_api.proofs.Turns.{close-turns, finish-turns, finishing, finishing-leaves}
 
 -- what holds of every input, where it holds of the changed one and of the others
 pub by-place : (P : ℕ → Type 0) (n i : ℕ) → P n → (i ≢ n → P i) → P i
@@ -15,7 +15,7 @@ by-place P n i here others = elim (cases_eq i n) [ inl e ↦ subst P (sym e) her
 same-chunks : (v : Picture) → SameChunks v v
 same-chunks v = record { inputs = λ i. refl; outputs = λ o. refl }
 
-both-same : (v w u : Picture) → SameChunks v w → SameChunks w u → SameChunks v u
+pub both-same : (v w u : Picture) → SameChunks v w → SameChunks w u → SameChunks v u
 both-same v w u a b = record { inputs = λ i. b.inputs i ∙ a.inputs i; outputs = λ o. b.outputs o ∙ a.outputs o }
 
 pub closes-none : (v : Picture) → ClosesFront 0 v v
@@ -37,7 +37,15 @@ closes-next n v w u lt e c =
     }
 
 pub finishes-none : (v : Picture) → FinishesFront 0 v v
-finishes-none v = record { changed = changed-by-none v; ins = refl; outs = refl; finished = λ o lt. absurd (omega arith); inputs = λ i. refl; chunks = same-chunks v }
+finishes-none v = record {
+  changed = changed-by-none v;
+  ins = refl;
+  outs = refl;
+  finished = λ o lt. absurd (omega arith);
+  consumers = λ o. refl;
+  inputs = λ i. refl;
+  chunks = same-chunks v;
+}
 
 pub is-finished : (f : Flags) → is_out_finished (finishing f) ≡ true
 is-finished f = go (f.fin_out || f.fin_in) refl
@@ -54,6 +62,10 @@ finishes-next n v w u lt e c =
       ins = t.ins ∙ c.ins;
       outs = t.outs ∙ c.outs;
       finished = λ o less. by-place (λ j. is_out_finished (output_at (after_finish w n) j) ≡ true) n o (ap is_out_finished t.here ∙ is-finished (output_at w n)) (λ ne. ap is_out_finished (t.others o ne) ∙ c.finished o (omega (arith, ne)));
+      consumers = λ o. by-place
+          (λ j. (output_at (after_finish w n) j).fin_in ≡ (output_at w j).fin_in) n o
+          (ap (λ f. f.fin_in) t.here ∙ finishing-leaves (output_at w n))
+          (λ ne. ap (λ f. f.fin_in) (t.others o ne)) ∙ c.consumers o;
       inputs = λ i. t.inputs i ∙ c.inputs i;
       chunks = both-same v w (after_finish w n) c.chunks record {
         inputs = λ i. ap (λ x. x.chunk) (t.inputs i);

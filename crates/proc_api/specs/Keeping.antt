@@ -13,6 +13,7 @@ use Rattle.query_model.specs.declared.processor_spec.Spec.TheVariants as spec
 use Rattle.port_word.specs.Pictures.{is_in_finished}
 use Rattle.proc_api.specs.Boxes.{BoxPicture, PortFlags, WorkState, idle_work, kept_input, kept_output, kept_inputs, kept_outputs}
 use Rattle.proc_api.specs.Histories.{Lists, chunk_rows, total_rows, last_count}
+use Rattle.proc_api.specs.Grouped.{group_types, partial_types}
 use Rattle.proc_api.specs.Made.{HasMade, HasNotedEnd, NotesEnd, own_of, unworked_at}
 use Rattle.proc_api.specs.Ports.{ArePortsOf, is_ended}
 
@@ -102,8 +103,10 @@ KeepsRows (Some (spec.Numbers n rows)) p ins outs = KeepsMade (spec.Numbers n ro
 KeepsRows (Some spec.Resize) p ins outs = KeepsMade spec.Resize p ins outs
 KeepsRows (Some (spec.Limit span)) p ins outs = KeepsMade (spec.Limit span) p ins outs
 KeepsRows (Some (spec.List list)) p ins outs = ⊤
-KeepsRows (Some (spec.PartialAggregate groups)) p ins outs = ⊤
-KeepsRows (Some (spec.MergeAggregate groups)) p ins outs = ⊤
+KeepsRows (Some (spec.PartialAggregate groups)) p ins outs =
+    KeepsMade (spec.PartialAggregate groups) p ins outs
+KeepsRows (Some (spec.MergeAggregate groups)) p ins outs =
+    KeepsMade (spec.MergeAggregate groups) p ins outs
 KeepsRows (Some (spec.HashJoin join)) p ins outs = ⊤
 KeepsRows (Some (spec.Sort order)) p ins outs = KeepsMade (spec.Sort order) p ins outs
 KeepsRows (Some (spec.MergeSorted order)) p ins outs = KeepsMade (spec.MergeSorted order) p ins outs
@@ -131,8 +134,8 @@ FitsInput (Some spec.Resize) i types = ⊤
 FitsInput (Some (spec.Limit span)) i types = ⊤
 FitsInput (Some spec.Collect) i types = ⊤
 FitsInput (Some (spec.List list)) i types = ⊤
-FitsInput (Some (spec.PartialAggregate groups)) i types = ⊤
-FitsInput (Some (spec.MergeAggregate groups)) i types = ⊤
+FitsInput (Some (spec.PartialAggregate groups)) i types = types ≡ partial_types groups
+FitsInput (Some (spec.MergeAggregate groups)) i types = types ≡ group_types groups
 FitsInput (Some (spec.HashJoin join)) i types = ⊤
 FitsInput (Some (spec.Sort order)) i types = FitsOrder order types
 FitsInput (Some (spec.MergeSorted order)) i types = FitsOrder order types
@@ -175,8 +178,8 @@ MakesTypes (Some (spec.Limit span)) ins types = IsPulled ins types
 MakesTypes None ins types = ⊤
 MakesTypes (Some spec.Collect) ins types = ⊤
 MakesTypes (Some (spec.List list)) ins types = ⊤
-MakesTypes (Some (spec.PartialAggregate groups)) ins types = ⊤
-MakesTypes (Some (spec.MergeAggregate groups)) ins types = ⊤
+MakesTypes (Some (spec.PartialAggregate groups)) ins types = types ≡ group_types groups
+MakesTypes (Some (spec.MergeAggregate groups)) ins types = types ≡ group_types groups
 MakesTypes (Some (spec.HashJoin join)) ins types = ⊤
 MakesTypes (Some (spec.Sort order)) ins types = types ≡ order.types
 MakesTypes (Some (spec.MergeSorted order)) ins types = types ≡ order.types
@@ -270,8 +273,10 @@ IsWorkOf (Some spec.Resize) w = w ≡ record idle_work { unworked = w.unworked; 
 IsWorkOf (Some (spec.Limit span)) w = w ≡ record idle_work { unworked = w.unworked; made = w.made; read = w.read }
 IsWorkOf None w = ⊤
 IsWorkOf (Some (spec.List list)) w = ⊤
-IsWorkOf (Some (spec.PartialAggregate groups)) w = ⊤
-IsWorkOf (Some (spec.MergeAggregate groups)) w = ⊤
+IsWorkOf (Some (spec.PartialAggregate groups)) w =
+    w ≡ record (moved_work w) { unmade = w.unmade; gathered = w.gathered; ended = w.ended }
+IsWorkOf (Some (spec.MergeAggregate groups)) w =
+    w ≡ record (moved_work w) { unmade = w.unmade; gathered = w.gathered; ended = w.ended }
 IsWorkOf (Some (spec.HashJoin join)) w = ⊤
 IsWorkOf (Some (spec.Sort order)) w =
     w ≡ record (moved_work w) { unmade = w.unmade; gathered = w.gathered; ended = w.ended }

@@ -3,6 +3,7 @@ pub mod Graphs
 pub mod Forms
 pub mod Boxes
 pub mod Histories
+pub mod Grouped
 pub mod Made
 pub mod Ports
 pub mod Keeping

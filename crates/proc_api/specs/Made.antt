@@ -2,13 +2,15 @@
 use Rattle.std.specs.Prelude.{◌≡◌, ◌⊎◌, ℕ, zero, suc, ◌^◌, ◌-◌, ◌<◌, ◌==◌, nat_lt, min, cond, Bool, true, false, ◌||◌, List, [], ◌++◌, length, map, filter, flat_map, slice_index_or, IsPermutation, IsSorted, Option, Some, None, ⊤}
 use Rattle.std.specs.List.{AllByRecursion, Contains, list_all}
 use Rattle.std.specs.Ordering.{is_lt}
-use Rattle.chunk_data.specs.Values.{Row, Table, row_cmp}
+use Rattle.chunk_data.specs.Values.{FitsTypes, Row, Table, row_cmp}
+use Rattle.chunk_data.specs.declared.typed_value.ColumnType.{ColumnType}
 use Rattle.chunk_data.specs.declared.typed_value.SortKey.{SortKey}
 use Rattle.query_model.specs.Names.{item_row, limited, holds, numbers}
 use Rattle.query_model.specs.declared.query.Span.{Span}
 use Rattle.query_model.specs.declared.processor_spec.Spec.{Spec}
 use Rattle.query_model.specs.declared.processor_spec.Spec.TheVariants as spec
 use Rattle.proc_api.specs.Boxes.{InputHead, WorkState}
+use Rattle.proc_api.specs.Grouped.{group_types, merged_rows, merged_states, partial_rows, partial_types}
 use Rattle.proc_api.specs.Histories.{Lists, chunk_rows}
 
 -- What a kind keeps for itself beside chunks that are pulled and made: the rows that it can make,
@@ -77,6 +79,26 @@ pub record AreSorted (keys : List SortKey) (own : OwnState) (rows made : List Ro
   pub gathered : own.ended ≡ false → AreGathered own rows made
   pub sorted : own.ended ≡ true → IsSortOf keys rows (made ++ own.unmade)
 
+-- Nothing is made yet, and the groups of the rows, in some order of these, are gathered. The rows
+-- fit the types of the input.
+pub record AreGathering (types : List ColumnType) (groups : List Row → List Row) (own : OwnState)
+    (rows made : List Row)
+    : Type 0 where
+  pub nothing_made : made ≡ []
+  pub nothing_unmade : own.unmade ≡ []
+  pub order : List Row
+  pub same : IsPermutation rows order
+  pub fit : AllByRecursion (FitsTypes types) order
+  pub groups_are : chunk_rows own.gathered ≡ groups order
+
+-- The groups are gathered until the end is noted. From then on the rows that are made and those
+-- that can be made are what is made of all rows, in some order.
+pub record AreGrouped (types : List ColumnType) (groups whole : List Row → List Row) (own : OwnState)
+    (rows made : List Row)
+    : Type 0 where
+  pub gathering : own.ended ≡ false → AreGathering types groups own rows made
+  pub grouped : own.ended ≡ true → IsPermutation (whole rows) (made ++ own.unmade)
+
 abbrev pub no_head : InputHead
 no_head = record { rows = []; ended = false }
 
@@ -137,8 +159,12 @@ HasMade (spec.Limit span) own worked outs wait =
     AreLimited span (chunk_rows (worked 0)) (chunk_rows (outs 0) ++ wait) own.read
 HasMade (spec.Csv part) own worked outs wait = ⊤
 HasMade (spec.List list) own worked outs wait = ⊤
-HasMade (spec.PartialAggregate groups) own worked outs wait = ⊤
-HasMade (spec.MergeAggregate groups) own worked outs wait = ⊤
+HasMade (spec.PartialAggregate groups) own worked outs wait =
+    AreGrouped (partial_types groups) (partial_rows groups) (partial_rows groups) own
+    (chunk_rows (worked 0)) (chunk_rows (outs 0) ++ wait)
+HasMade (spec.MergeAggregate groups) own worked outs wait =
+    AreGrouped (group_types groups) (merged_states groups) (merged_rows groups) own
+    (all_rows 32 worked) (chunk_rows (outs 0) ++ wait)
 HasMade (spec.HashJoin join) own worked outs wait = ⊤
 HasMade (spec.Sort order) own worked outs wait =
     AreSorted order.keys own (chunk_rows (worked 0)) (chunk_rows (outs 0) ++ wait)

@@ -127,5 +127,6 @@ pub record FinishesFront (n : ℕ) (v w : Picture) : Type 0 where
   pub ins : in_count w ≡ in_count v
   pub outs : out_count w ≡ out_count v
   pub finished : (o : ℕ) → o < n → is_out_finished (output_at w o) ≡ true
+  pub consumers : (o : ℕ) → (output_at w o).fin_in ≡ (output_at v o).fin_in
   pub inputs : (i : ℕ) → input_at w i ≡ input_at v i
   pub chunks : SameChunks v w

@@ -1,20 +1,13 @@
--- Pictures of a graph in which nothing is due: each node that isn't over rests, and knows its ports as they are.
-use Rattle.std.specs.Prelude.{◌≡◌, ℕ, ◌<◌, Bool, true, false, List, length, slice_index_or, Option, Some, None}
-use Rattle.port_word.specs.Names.{Picture, input_at, output_at, is_out_finished, WaitsForData, WaitsForRoom}
+-- What is known of nodes that rest and of their ports, and the wires of a graph by place.
+use Rattle.std.specs.Prelude.{◌≡◌, ℕ, ◌<◌, true, List, length, slice_index_or, Option, Some, None}
+use Rattle.port_word.specs.Names.{Picture, WaitsForData, WaitsForRoom}
 use Rattle.port_word.specs.declared.flags.Flags.{Flags}
 use Rattle.port_word.specs.declared.flags.Wire.{Wire}
 use Rattle.proc_api.specs.declared.status.Status.{Status}
 use Rattle.proc_api.specs.declared.status.Status.TheVariants as status
 
--- a node at rest: its rank, whether it is over, its last status, if it was prepared, and its picture of its ports
-pub record RestingNode : Type 0 where
-  pub rank : ℕ
-  pub is_over : Bool
-  pub last : Option Status
-  pub view : Picture
-
--- It waits for data or for room, as its last status says and its picture shows. A node that was never prepared has an output, and
--- counts as one that waits for room.
+-- A node waits for data or for room, as its last status says and its picture shows. One that was
+-- never prepared has an output, and counts as one that waits for room.
 abbrev pub Rests : Option Status → Picture → Type 0
 Rests (Some status.NeedData) v = WaitsForData v
 Rests (Some status.PortFull) v = WaitsForRoom v
@@ -24,24 +17,12 @@ Rests (Some status.ExpandPipeline) v = ⊥
 Rests (Some status.Finished) v = ⊥
 Rests None v = WaitsForRoom v
 
--- the consumer knows the port's flags
-abbrev pub ConsumerKnows : Flags → Flags → Type 0
-ConsumerKnows view port = view ≡ port
-
 -- the producer knows the port's flags, but that it may see a need that was taken back
 pub record ProducerKnows (view port : Flags) : Type 0 where
   pub needed : port.needed ≡ true → view.needed ≡ true
   pub has_data : view.has_data ≡ port.has_data
   pub fin_out : view.fin_out ≡ port.fin_out
   pub fin_in : view.fin_in ≡ port.fin_in
-
--- a wire between two nodes, and the flags of its port
-pub record IsSettledWire (from to : RestingNode) (w : Wire) (port : Flags) : Type 0 where
-  pub ranked : from.rank < to.rank
-  pub consumer : to.is_over ≡ false → ConsumerKnows (input_at to.view w.input).flags port
-  pub producer : from.is_over ≡ false → ProducerKnows (output_at from.view w.out) port
-  pub from_over : from.is_over ≡ true → is_out_finished port ≡ true
-  pub to_over : to.is_over ≡ true → is_out_finished port ≡ true
 
 abbrev pub no_wire : Wire
 no_wire = record { from = 0; out = 0; to = 0; input = 0 }

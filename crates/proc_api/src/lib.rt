@@ -15,5 +15,5 @@ pub use processor::Processor;
 pub use pulled_rows::PulledRows;
 pub use query_model::places::{BadField, BadPlace};
 pub use rack::Rack;
-pub use shutting::shut_down;
+pub use shutting::{finish_all, shut_down};
 pub use status::{Answer, LoadRefusal, Status, Wake, WorkFault};

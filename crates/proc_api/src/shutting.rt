@@ -22,7 +22,8 @@ fn close_all(view: &mut PortView)
     }
 }
 
-fn finish_all(view: &mut PortView)
+/// Finishes each output.
+pub fn finish_all(view: &mut PortView)
     ensures { FinishesFront (out_count view.old) view.old view.new }
 {
     for o in 0..view.outputs() {

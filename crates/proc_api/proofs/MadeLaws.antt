@@ -1,0 +1,116 @@
+-- What one chunk more makes of the rows of all inputs or outputs, and of a span.
+use Rattle.std.proofs.Common.{◌≡◌, ◌≢◌, ℕ, zero, suc, ◌+◌, ◌-◌, ◌^◌, ◌<◌, ◌≤◌, min, List, [], ◌∷◌, ◌++◌, length, take, drop, append_assoc, refl, sym, ap, ap₂, subst, ◌∙◌, arith, inl, inr}
+use Rattle.std.proofs.lemmas.Bool.{cases_eq}
+use Rattle.std.proofs.lemmas.Grind.{common_steps}
+use Rattle.std.proofs.lemmas.List.Sorted.{IsPermutation-append_comm, IsPermutation-append_left, IsPermutation-append_right, IsPermutation-trans}
+use Rattle.std.proofs.lemmas.List.{drop-take, length-append, length-drop, length-take, take_min}
+use Rattle.std.specs.List.Sorted.{IsPermutation}
+use Rattle.chunk_data.specs.Values.{Row, Table}
+use Rattle.query_model.proofs.Lists.{IsPermutation-same}
+use Rattle.query_model.specs.declared.query.Span.{Span}
+use Rattle.proc_api.specs.Names.{AreLimited, Lists, all_rows, chunk_rows, last_read, no_lists}
+use Rattle.proc_api.proofs.Keeping.{rows-append}
+
+-- ---- the rows of all inputs or outputs
+
+turned : (a b c : List Row) → IsPermutation ((a ++ b) ++ c) ((a ++ c) ++ b)
+turned a b c =
+    rw (append_assoc a b c, append_assoc a c b)
+    (IsPermutation-append_right a (b ++ c) (c ++ b) (IsPermutation-append_comm b c))
+
+same-rows : (m : ℕ) (few more : Lists) → ((j : ℕ) → j < m → more j ≡ few j)
+    → all_rows m more ≡ all_rows m few
+unfolding all_rows
+same-rows zero few more e = refl
+same-rows (suc m) few more e =
+    ap₂ (λ l xs. l ++ chunk_rows xs) (same-rows m few more (λ j lt. e j (omega (arith, lt))))
+    (e m (omega arith))
+
+-- more chunks of one list are their rows more of all lists
+pub more-rows : (n i : ℕ) (few more : Lists) (xs : List Table) → more i ≡ few i ++ xs
+    → ((j : ℕ) → j ≢ i → more j ≡ few j) → i < n
+    → IsPermutation (all_rows n more) (all_rows n few ++ chunk_rows xs)
+unfolding all_rows
+more-rows zero i few more xs e ne lt = absurd (omega arith)
+more-rows (suc n) i few more xs e ne lt = elim (cases_eq i n) [
+  | inl z ↦
+      let front = same-rows n few more (λ j less. ne j (λ x. omega (arith, x, z, less))) in
+      let one : more n ≡ few n ++ xs = subst (λ j. more j ≡ few j ++ xs) z e in
+      IsPermutation-same _ _ (ap₂ (λ l m. l ++ m) front (ap chunk_rows one ∙ rows-append (few n) xs)
+      ∙ sym (append_assoc (all_rows n few) (chunk_rows (few n)) (chunk_rows xs)))
+  | inr z ↦
+      let last : chunk_rows (more n) ≡ chunk_rows (few n) = ap chunk_rows (ne n (λ e. z (sym e))) in
+      IsPermutation-trans _ _ _ (IsPermutation-same _ _ (ap (λ l. all_rows n more ++ l) last))
+      (IsPermutation-trans _ _ _
+      (IsPermutation-append_left (chunk_rows (few n)) (all_rows n more)
+      (all_rows n few ++ chunk_rows xs) (more-rows n i few more xs e ne (omega (arith, z))))
+      (turned (all_rows n few) (chunk_rows xs) (chunk_rows (few n))))
+]
+
+pub no-rows : (n : ℕ) → all_rows n no_lists ≡ []
+unfolding all_rows
+no-rows zero = refl
+no-rows (suc n) = ap (λ l. l ++ []) (no-rows n)
+
+-- ---- the rows of a span
+
+-- the front of a longer list, and what is behind so many
+take-more : (n : ℕ) (xs ys : List Row) → take n (xs ++ ys) ≡ take n xs ++ take (n - length xs) ys
+take-more zero xs ys = let e : 0 ≡ 0 - length xs = omega arith in ap (λ k. take k ys) e
+take-more (suc n) [] ys = let e : suc n ≡ suc n - 0 = omega arith in ap (λ k. take k ys) e
+take-more (suc n) (x ∷ xs) ys =
+    let e : n - length xs ≡ suc n - suc (length xs) = omega arith in
+    ap (λ l. x ∷ l) (take-more n xs ys ∙ ap (λ k. take n xs ++ take k ys) e)
+
+drop-more : (n : ℕ) (xs ys : List Row) → drop n (xs ++ ys) ≡ drop n xs ++ drop (n - length xs) ys
+drop-more zero xs ys = let e : 0 ≡ 0 - length xs = omega arith in ap (λ k. xs ++ drop k ys) e
+drop-more (suc n) [] ys = let e : suc n ≡ suc n - 0 = omega arith in ap (λ k. drop k ys) e
+drop-more (suc n) (x ∷ xs) ys =
+    let e : n - length xs ≡ suc n - suc (length xs) = omega arith in
+    drop-more n xs ys ∙ ap (λ k. drop n xs ++ drop k ys) e
+
+-- the rows of a span in a longer list
+span-more : (skip count : ℕ) (xs ys : List Row)
+    → take count (drop skip (xs ++ ys)) ≡ take count (drop skip xs)
+    ++ drop (skip - length xs) (take (skip + count - length xs) ys)
+span-more skip count xs ys =
+    let past : ℕ = skip - length xs in
+    let l = length-drop skip xs in
+    let e : past + (count - length (drop skip xs)) ≡ skip + count - length xs = omega (arith, l) in
+    ap (take count) (drop-more skip xs ys) ∙ take-more count (drop skip xs) (drop past ys)
+    ∙ ap (λ l. take count (drop skip xs) ++ l)
+    (sym (drop-take past (count - length (drop skip xs)) ys) ∙ ap (λ k. drop past (take k ys)) e)
+
+-- A place in a chunk, where so many rows came before it, of which the last number may be told.
+within : (place n : ℕ) (xs : List Row) → place < 2 ^ 65
+    → min (place - min n last_read) (length xs) ≡ min (place - n) (length xs)
+within place n xs lt = omega (arith, lt)
+
+drop-within : (k n : ℕ) (ys : List Row) → length ys ≤ n → drop (min k n) ys ≡ drop k ys
+drop-within k n ys e = grind (arith, common_steps)
+
+-- the rows of one chunk more
+pub limited-more : (span : Span) (read : ℕ) (xs made : List Row) (t u : Table)
+    → span.skip < 2 ^ 64 → span.count < 2 ^ 64
+    → u.rows ≡ drop (min (span.skip - read) (length t.rows))
+    (take (min (span.skip + span.count - read) (length t.rows)) t.rows)
+    → AreLimited span xs made read
+    → AreLimited span (xs ++ t.rows) (made ++ u.rows) (min (read + length t.rows) last_read)
+limited-more span read xs made t u a b rows h =
+    let n : ℕ = length xs in
+    let front : List Row = take (span.skip + span.count - n) t.rows in
+    let short = length-take (span.skip + span.count - n) t.rows in
+    record {
+      read_are = (let l = length-append xs t.rows in let r = h.read_are in omega (arith, l, r));
+      made_are = ap (λ l. l ++ u.rows) h.made_are
+          ∙ ap (λ l. take span.count (drop span.skip xs) ++ l) (rows
+          ∙ ap₂ (λ k m. drop k (take m t.rows))
+          (ap (λ r. min (span.skip - r) (length t.rows)) h.read_are
+          ∙ within span.skip n t.rows (omega (arith, a)))
+          (ap (λ r. min (span.skip + span.count - r) (length t.rows)) h.read_are
+          ∙ within (span.skip + span.count) n t.rows (omega (arith, a, b)))
+          ∙ ap (drop (min (span.skip - n) (length t.rows)))
+          (take_min (span.skip + span.count - n) t.rows)
+          ∙ drop-within (span.skip - n) (length t.rows) front (omega (arith, short)))
+          ∙ sym (span-more span.skip span.count xs t.rows);
+    }

@@ -1,0 +1,53 @@
+-- What a partial aggregate and a merge make of their rows.
+use Rattle.std.specs.Prelude.{ℕ, suc, cond, Bool, true, false, List, [], ◌∷◌, ◌++◌, length, map, Some, None}
+use Rattle.chunk_data.specs.Values.{Row, default_value}
+use Rattle.chunk_data.specs.declared.typed_value.ColumnType.{ColumnType}
+use Rattle.query_model.specs.Groups.{combine_of, groups, groups_or_default, merged_groups}
+use Rattle.query_model.specs.Sources.{count_up}
+use Rattle.query_model.specs.declared.query.AggCall.{AggCall}
+use Rattle.query_model.specs.declared.query.AggOp.{AggOp}
+use Rattle.query_model.specs.declared.query.AggOp.TheVariants as agg
+use Rattle.query_model.specs.declared.query.ExprOf.TheVariants as expr
+use Rattle.query_model.specs.declared.processor_spec.GroupSpec.{GroupSpec}
+use Rattle.query_model.specs.declared.processor_spec.StateCall.{StateCall}
+
+abbrev pub is_count : AggOp → Bool
+is_count agg.Count = true
+is_count _ = false
+
+-- The calls of a partial aggregate. Its input has the keys, and from column c on the argument of
+-- each call but `count`.
+abbrev pub calls_from : ℕ → List StateCall → List (AggCall ℕ)
+calls_from c [] = []
+calls_from c (call ∷ calls) =
+    let this : AggCall ℕ =
+    record { op = call.op; arg = cond (is_count call.op) None (Some (expr.Column c)) } in
+    this ∷ calls_from (cond (is_count call.op) c (suc c)) calls
+
+abbrev pub partial_rows : GroupSpec → List Row → List Row
+partial_rows g rows = groups (count_up (length g.keys)) (calls_from (length g.keys) g.calls) rows
+
+-- the groups of partial groups
+abbrev pub merged_states : GroupSpec → List Row → List Row
+merged_states g rows =
+    merged_groups (length g.keys) (map (λ (call : StateCall). combine_of call.op) g.calls) rows
+
+abbrev pub default_states : GroupSpec → Row
+default_states g = map (λ (call : StateCall). default_value call.kind) g.calls
+
+abbrev pub merged_rows : GroupSpec → List Row → List Row
+merged_rows g rows = groups_or_default g.lone (default_states g) (merged_states g rows)
+
+-- the types of the arguments of all calls but `count`
+abbrev pub argument_types : List StateCall → List ColumnType
+argument_types [] = []
+argument_types (call ∷ calls) =
+    cond (is_count call.op) (argument_types calls) (call.kind ∷ argument_types calls)
+
+-- the types of a partial aggregate's input
+abbrev pub partial_types : GroupSpec → List ColumnType
+partial_types g = g.keys ++ argument_types g.calls
+
+-- the types of partial groups, and of their merge
+abbrev pub group_types : GroupSpec → List ColumnType
+group_types g = g.keys ++ map (λ (c : StateCall). c.kind) g.calls
