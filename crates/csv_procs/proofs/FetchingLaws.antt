@@ -1,22 +1,9 @@
 -- What each step of a fetch comes to.
 use Rattle.std.proofs.Common.{◌≡◌, ◌⊎◌, ℕ, ◌+◌, ◌-◌, ◌<◌, ◌≤◌, List, [], ◌++◌, length, Some, Result, Ok, Err, IsSome, IfSome, refl, sym, ap, subst, ◌∙◌, arith, inl, inr, length-append}
-use Rattle.outside_io.specs.Counts.{Rose}
-use Rattle.outside_io.specs.Told.{file_bytes}
-use Rattle.query_model.specs.Names.{part_records, bad_place}
-use Rattle.query_model.specs.declared.processor_spec.PartSpec.{PartSpec}
+use Rattle.csv_procs.proofs.Imports.{Fetching, HoldsFront, HoldsFront-beyond, HoldsFront-block, HoldsFront-start, HoldsFront-whole, HoldsPart, IsFile, IsTiedTo, Notes, PartSpec, PartState, ReadGives, Rose, Rows, RowsLeft, Shut, Stand, StaysAt, StepComes, Steps, StepsTo, Told, Wake, WorkFault, bad_place, file_bytes, part_records, raised, stage_of}
 use Rattle.csv_rows.specs.declared.file_fetch.Fetched.TheVariants as fetched
-use Rattle.csv_rows.specs.Fetching.{HoldsFront, IsFile}
-use Rattle.csv_rows.specs.RowsLeft.{RowsLeft}
-use Rattle.csv_rows.proofs.Fetching.{HoldsFront-start, HoldsFront-block, HoldsFront-whole, HoldsFront-beyond}
-use Rattle.proc_api.specs.Names.{Notes, raised}
-use Rattle.proc_api.specs.declared.status.Wake.{Wake}
 use Rattle.proc_api.specs.declared.status.Wake.TheVariants as wake
-use Rattle.proc_api.specs.declared.status.WorkFault.{WorkFault}
 use Rattle.proc_api.specs.declared.status.WorkFault.TheVariants as fault
-use Rattle.csv_procs.specs.declared.parsing.PartState.{PartState}
-use Rattle.csv_procs.specs.declared.parsing.PartState.TheVariants.{Shut, Fetching, Rows}
-use Rattle.csv_procs.specs.Parts.{stage_of}
-use Rattle.csv_procs.specs.Fetching.{HoldsPart, IsTiedTo, ReadGives, Stand, StaysAt, StepComes, Steps, StepsTo, Told}
 
 -- what was noted of a count, and by how much it rose
 abbrev Noted : (old new : ℕ) → (n n' : ℕ) → Type 0

@@ -1,3 +1,4 @@
+pub mod Imports
 pub mod PartLaws
 pub mod FetchingLaws
 pub mod SourceLaws

@@ -1,20 +1,8 @@
 -- What the kernel of a part offers and makes.
 use Rattle.std.proofs.Common.{◌≡◌, ◌⊎◌, ℕ, ◌+◌, ◌<◌, max, Bool, true, false, List, [], ◌∷◌, ◌++◌, length, append_assoc, Option, Some, None, IsSome, refl, sym, ap, ◌∙◌, arith, inl, inr}
-use Rattle.std.proofs.lemmas.List.{append-nil, length-append}
-use Rattle.chunk_data.specs.Values.{Row, Table}
-use Rattle.chunk_data.specs.declared.typed_value.ColumnType.{ColumnType}
-use Rattle.query_model.specs.Names.{spelled_row, good_rows, bad_place, row_then}
-use Rattle.query_model.specs.declared.processor_spec.PartSpec.{PartSpec}
+use Rattle.csv_procs.proofs.Imports.{ColumnType, IsKernelOf, IsReadOut, IsRecordLeft, IsValid, Makes, Offers, PartSpec, Picture, Row, Rows, RowsLeft, Table, TakesRows, append-nil, at_end, bad_place, chunk_rows, good_rows, in_count, leaves-same, length-append, makes-nothing, parsing, row_then, spelled_row}
 use Rattle.query_model.specs.declared.processor_spec.Spec.TheVariants as spec
-use Rattle.port_word.specs.Pictures.{Picture, in_count}
-use Rattle.proc_api.specs.Names.{chunk_rows}
-use Rattle.csv_rows.specs.RowsLeft.{RowsLeft, TakesRows, at_end}
 use Rattle.proc_shell.specs.declared.kernel.Offer.TheVariants as offer
-use Rattle.proc_shell.specs.Kernels.{IsKernelOf, IsReadOut, IsRecordLeft, IsValid, Makes, Offers}
-use Rattle.proc_shell.proofs.Through.{makes-nothing}
-use Rattle.proc_shell.proofs.TurnLaws.{leaves-same}
-use Rattle.csv_procs.specs.declared.parsing.PartState.TheVariants.{Rows}
-use Rattle.csv_procs.specs.Parts.{parsing}
 
 -- where a record is left, it is a good row, or the bad place
 left-ready : (types : List ColumnType) (n : ℕ) (rest : List (List (List ℕ))) → at_end rest ≡ false → (0 < length (good_rows types rest)) ⊎ IsSome (bad_place n types rest)

@@ -1,32 +1,11 @@
 -- The clauses of a source's calls.
 use Rattle.std.proofs.Common.{◌≡◌, ℕ, ◌+◌, ◌<◌, ◌≤◌, true, false, List, ◌++◌, is_some, Option, Some, None, IfSome, Result, Ok, Err, refl, sym, ap, subst, ◌∙◌, arith, inl, inr}
-use Rattle.std.specs.Prelude.{IfOk, IfErr}
-use Rattle.std.specs.Option.{option_map}
-use Rattle.outside_io.specs.Told.{files_of}
-use Rattle.query_model.specs.Names.{good_rows, bad_place, bad_place_in}
-use Rattle.query_model.specs.declared.places.BadPlace.{BadPlace}
+use Rattle.csv_procs.proofs.Imports.{ArePartBytes, BadPlace, BoxPicture, CountsOn, FaultComes, FaultHolds, FaultInCall, FaultIsDue, Faults, Fetching, Held, IfErr, IfOk, IsBegun, IsKernelOf, IsLongFile, IsPlaceDue, IsRunning, IsTied, IsTiedSpec, IsTiedTo, KeepsLimits, KeepsPart, KeepsSame, Lists, Notes, PartNotes, PartSpec, PartState, ReaderView, RowCount, Rows, Schedules, ShellPart, Shut, Spec, Stand, StaysAt, Steps, StepsTo, Told, UnlessStalled, UnlessTooLong, Wake, WakeComes, WorkFault, bad_place, bad_place_in, chunk_rows, closes-still, files_of, finishes-still, good_rows, had-still, held_made, held_unworked, kept_output, option_map, parsing, part, part_seen, part_uses, same-output, shell_seen, source_of, stage_of, told_as_pairs, unmade_in, with_answer}
 use Rattle.query_model.specs.declared.processor_spec.Kind.TheVariants as kind
-use Rattle.query_model.specs.declared.processor_spec.PartSpec.{PartSpec}
-use Rattle.query_model.specs.declared.processor_spec.Spec.{Spec}
 use Rattle.query_model.specs.declared.processor_spec.Spec.TheVariants as spec
 use Rattle.csv_rows.specs.Fetching.{IsFile, IsLongFile as IsLongTold}
-use Rattle.csv_rows.proofs.Fetching.{told_as_pairs}
-use Rattle.proc_api.specs.Names.{BoxPicture, Notes, RowCount, kept_output, Lists, chunk_rows, ArePartBytes, KeepsPart, CountsOn, Schedules, WakeComes, Faults, FaultInCall, FaultHolds, FaultIsDue, KeepsLimits, KeepsSame, IsRunning, IsLongFile, UnlessStalled, UnlessTooLong}
-use Rattle.proc_api.specs.declared.status.Wake.{Wake}
 use Rattle.proc_api.specs.declared.status.Wake.TheVariants as wake
-use Rattle.proc_api.specs.declared.status.WorkFault.{WorkFault}
 use Rattle.proc_api.specs.declared.status.WorkFault.TheVariants as fault
-use Rattle.proc_shell.specs.declared.held.Held.{Held}
-use Rattle.proc_shell.specs.Kernels.{IsKernelOf}
-use Rattle.proc_shell.specs.Steps.{held_made, held_unworked, source_of}
-use Rattle.proc_shell.specs.Shells.{IsBegun, PartNotes, ReaderView, with_answer, ShellPart, part, part_seen, shell_seen}
-use Rattle.proc_shell.proofs.BoxLaws.{IsPlaceDue}
-use Rattle.proc_shell.proofs.Parts.{part_uses}
-use Rattle.proc_shell.proofs.SameView.{same-output, had-still, finishes-still, closes-still}
-use Rattle.csv_procs.specs.declared.parsing.PartState.{PartState}
-use Rattle.csv_procs.specs.declared.parsing.PartState.TheVariants.{Shut, Fetching, Rows}
-use Rattle.csv_procs.specs.Parts.{parsing, stage_of, unmade_in}
-use Rattle.csv_procs.specs.Fetching.{FaultComes, IsTied, IsTiedSpec, IsTiedTo, Stand, StaysAt, Steps, StepsTo, Told}
 
 -- ---- what ties a source to its reader
 
@@ -88,7 +67,7 @@ long-pairs : (told : Told) (path : List ℕ) → IsLongTold told path 1073741824
 long-pairs None path x = tt
 long-pairs (Some all) path x = record { bytes = x.bytes; are = told_as_pairs all path ∙ x.are; long = x.long }
 
-abbrev reads : Told → (f pd : ℕ) → Option ReaderView
+abbrev pub reads : Told → (f pd : ℕ) → Option ReaderView
 reads told f pd = Some (record { files = option_map files_of told; faults = f; pendings = pd })
 
 -- a source before and after a step

@@ -4,8 +4,6 @@
 mod csv_source;
 mod feeds;
 mod parsing;
-#[cfg(test)]
-mod tests;
 
 pub use csv_rows::{Fetched, fetch, write_rows};
 pub use csv_source::CsvSource;

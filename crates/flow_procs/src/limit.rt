@@ -1,5 +1,4 @@
-ghost use Rattle.std.specs.Prelude.{◌≡◌};
-ghost use Rattle.flow_procs.specs.Limits.{rows_within};
+ghost use Rattle.std.specs.Prelude.{◌≡◌, ◌-◌, min};
 
 use chunk_data::{Chunk, Memory};
 use port_word::PortView;
@@ -20,23 +19,17 @@ pub struct Limiting {
     read: u128,
 }
 
-/// How many of a chunk's rows come before a place, where so many rows came before the chunk.
+// How many of a chunk's rows come before a place, where so many rows came before the chunk.
 fn rows_before(place: u128, read: u128, rows: usize) -> usize
-    ensures { result ≡ rows_within place read rows }
+    ensures { result ≡ min (place - read) rows }
 {
-    let before = place.saturating_sub(read);
-    if before < rows as u128 {
-        before as usize
-    } else {
-        rows
-    }
+    place.saturating_sub(read).min(rows as u128) as usize
 }
 
 impl Kernel for Limiting {
     ghost use Rattle.std.specs.Prelude.{refl, ◌==◌};
     ghost use Rattle.query_model.specs.declared.processor_spec.Kind.TheVariants as kind;
     ghost use Rattle.query_model.specs.declared.processor_spec.Spec.TheVariants as spec;
-    ghost use Rattle.proc_api.specs.Made.{idle_own};
     ghost use Rattle.flow_procs.specs.Limits.{limit_shelled, read_own};
     ghost use Rattle.proc_shell.specs.Kernels.{kernel_of};
     ghost use Rattle.proc_shell.proofs.Through.{first-source};
@@ -49,7 +42,8 @@ impl Kernel for Limiting {
 
     ghost shelled = { λ k. limit_shelled k.span };
 
-    ghost uses = { λ k i unworked made e m. first-source (kernel_of kind.Limit (spec.Limit k.span) (read_own k.read)) i unworked made e };
+    ghost uses = { λ k i unworked made e m. first-source
+        (kernel_of kind.Limit (spec.Limit k.span) (read_own k.read)) i unworked made e };
 
     ghost of_kind = { λ k. (refl, refl) };
 

@@ -1,37 +1,13 @@
 -- The clauses of the calls of a shell, from what its kernel and its notes do.
-use Rattle.std.proofs.Common.{◌≡◌, ◌≢◌, ◌⊎◌, ℕ, ◌<◌, ◌||◌, ◌&&◌, not, Bool, true, false, cond, ◌==◌, List, [], ◌∷◌, ◌++◌, length, get_or, nat_lt, is_some, Option, Some, None, IfSome, OnOk, Result, Ok, Err, refl, sym, ap, ap₂, subst, ◌∙◌, arith, inl, inr}
-use Rattle.std.specs.Prelude.{IfErr}
-use Rattle.std.specs.List.{All}
-use Rattle.std.specs.Option.{option_map}
-use Rattle.std.proofs.lemmas.Bool.{and_parts}
-use Rattle.std.proofs.lemmas.List.{append-nil, length-append}
-use Rattle.chunk_data.specs.Values.{Row, Table}
-use Rattle.query_model.specs.Names.{kind_of, part_bad_place}
-use Rattle.query_model.specs.declared.places.BadPlace.{BadPlace}
-use Rattle.query_model.specs.declared.processor_spec.Spec.{Spec}
+use Rattle.std.proofs.Common.{◌≡◌, ◌≢◌, ◌⊎◌, ℕ, ◌<◌, ◌≤◌, ◌||◌, ◌&&◌, not, Bool, true, false, cond, ◌==◌, List, [], ◌∷◌, ◌++◌, length, get_or, nat_lt, is_some, Option, Some, None, IfSome, OnOk, Result, Ok, Err, refl, sym, ap, ap₂, subst, ◌∙◌, arith, inl, inr}
+use Rattle.proc_shell.proofs.Imports.{All, AllFit, AllOutputsFinished, Answer, AnswerComes, BadPlace, BoxPicture, Fails, FaultHolds, FaultInCall, FaultIsDue, Faults, Finished, FitsInput, FollowsKept, HasNoReader, HasNotedEnd, HasRoom, HasSize, HasSpecPorts, Held, IfErr, IsAtMost, IsBegun, IsCrowded, IsKernelOf, IsLoadRefused, IsPulled, IsReadOut, IsRunning, IsSourceKind, IsWorkOf, Keeps, KeepsLimits, KeepsMeant, KeepsRows, KeepsSame, KernelState, Kind, Lists, Loads, Made, MakesHeld, MakesTypes, MayBeInput, MayBeReady, MaySchedule, MayWork, Means, Moves, NeedData, NeedsRoom, Notes, NotesEnd, NotesNoEnd, NotesView, Nothing, OfPart, OwnState, PartFails, PartPrepares, PartWorks, Passes, Prepared, PreparesLawfully, Progresses, Pushes, ReaderView, Ready, Row, RowCount, Scheduled, ShellPart, Shows, ShutsPart, Spec, Status, StatusComes, StatusHolds, StaysFit, Suits, Table, TakesHeld, Unworked, Wake, WorkFault, Works, WorksHeld, and_parts, append-nil, both-same, changed-by-both, chunk_rows, files_by, gathered_with, held_made, held_option, held_rows, held_unworked, is_ended, is_unworked, is_wanted, kept_input, kept_output, kind_of, length-append, most_rows, no_lists, no_table, none-pulled, not_made, noted_by, option_map, own_of, part, part_bad_place, part_seen, pulled_at, raised, reading_of, rows_of, rows_pulled, rows_since, shell_seen, source_of, suits, taken_out, total-nothing, total_rows, with_chunk, with_view}
 use Rattle.query_model.specs.declared.processor_spec.Spec.TheVariants as spec
-use Rattle.query_model.specs.declared.processor_spec.Kind.{Kind}
 use Rattle.query_model.specs.declared.processor_spec.Kind.TheVariants as kind
-use Rattle.port_word.specs.Names.{Picture, input_at, output_at, in_count, out_count, can_push, is_out_finished, ChangedByCalls}
-use Rattle.port_word.proofs.Differences.{changed-by-both}
-use Rattle.proc_api.specs.Names.{BoxPicture, RowCount, kept_input, kept_output, Lists, no_lists, chunk_rows, pulled_at, rows_pulled, raised, taken_out, total_rows, HasNotedEnd, NotesEnd, OwnState, own_of, AllOutputsFinished, FollowsKept, HasRoom, SameChunks, StaysFit, is_ended, Keeps, KeepsRows, IsWorkOf, IsAtMost, AllFit, FitsInput, MakesTypes, IsPulled, HasSize, MayBeInput, most_rows, no_table, OfPart, PreparesLawfully, KeepsLimits, IsLoadRefused, IsRunning, HasNoReader, IsSourceKind, Loads, MaySchedule, MayWork, NeedsRoom, NotesView, StatusComes, StatusHolds, KeepsSame, Progresses, MayBeReady, Works, Faults, FaultInCall, FaultHolds, FaultIsDue, port_flags}
-use Rattle.proc_api.specs.declared.status.Answer.{Answer}
-use Rattle.proc_api.specs.declared.status.Status.{Status}
-use Rattle.proc_api.specs.declared.status.Wake.{Wake}
-use Rattle.proc_api.specs.declared.status.WorkFault.{WorkFault}
-use Rattle.proc_api.specs.declared.status.Answer.TheVariants.{Prepared, Scheduled}
+use Rattle.port_word.specs.Names.{Picture, input_at, output_at, in_count, out_count, can_push, is_out_finished}
 use Rattle.proc_api.specs.declared.status.Status.TheVariants as status
 use Rattle.proc_api.specs.declared.status.Wake.TheVariants as wake
 use Rattle.proc_api.specs.declared.status.WorkFault.TheVariants as fault
 use Rattle.proc_api.specs.declared.status.LoadRefusal.TheVariants as refusal
-use Rattle.proc_api.proofs.CallLaws.{none-pulled}
-use Rattle.proc_api.proofs.Keeping.{total-nothing}
-use Rattle.proc_shell.specs.declared.held.Held.{Held}
-use Rattle.proc_shell.specs.declared.held.Held.TheVariants.{Nothing, Unworked, Made}
-use Rattle.proc_shell.specs.Steps.{held_unworked, held_made, held_option, held_rows, is_unworked, is_wanted, not_made, rows_since, source_of, suits}
-use Rattle.proc_shell.specs.Kernels.{Fails, IsReadOut, KeepsMeant, KernelState, Means, NotesNoEnd, Shows, gathered_with, reading_of, rows_of, with_chunk, work_of}
-use Rattle.proc_shell.specs.Turning.{AnswerComes, IsCrowded, Pushes}
-use Rattle.proc_shell.specs.Shells.{HasSpecPorts, IsBegun, MakesHeld, PartFails, PartPrepares, PartWorks, Passes, ReaderView, ShellPart, ShutsPart, TakesHeld, WorksHeld, files_by, noted_by, part_seen, shell_seen}
 use Rattle.proc_shell.proofs.PortMoves.{never-true, shut-law, total-one}
 use Rattle.proc_shell.proofs.SameView.{same-input, same-output, had-still, finishes-still, closes-still}
 use Rattle.proc_shell.proofs.KeepLaws.{Goes, keeps-over, noted-own, shown-one, spec-view}
@@ -52,7 +28,7 @@ held-rows (Some t) = go t.rows refl
     go [] e = e
     go (row ∷ rows) e = append-nil t.rows
 
-held-worked : (o : Option Table) → held_unworked (held_option o) ≡ []
+pub held-worked : (o : Option Table) → held_unworked (held_option o) ≡ []
 held-worked None = refl
 held-worked (Some t) = go t.rows
   where
@@ -60,7 +36,7 @@ held-worked (Some t) = go t.rows
     go [] = refl
     go (row ∷ rows) = refl
 
-held-source : (o : Option Table) → source_of (held_option o) ≡ 0
+pub held-source : (o : Option Table) → source_of (held_option o) ≡ 0
 held-source None = refl
 held-source (Some t) = go t.rows
   where
@@ -246,154 +222,184 @@ loads k d count more None s p none sk x m =
 
 -- ---- prepare
 
-module _ (k : Kind) (d : Option ReaderView) (p q : ShellPart) (n m : RowCount) (v w : Picture) (st : Status) (all : PartPrepares k p v n q w m st) where
+-- the rows that a turn pulled
+pub rows-turned : (x : KernelState) (h j : Held) (v w : Picture) (st : Status) → in_count v ≤ 32
+    → Moves x h j v w st → rows_since (is_unworked h) j ≡ rows_pulled v w
+rows-turned x h j v w st few y = elim y.pulls [
+  | inl z ↦ none-since h z.unworked ∙ sym (total-nothing 32 (pulled_at v w) z.nothing)
+  | inr z ↦
+      let lt : z.input < 32 = let a = z.in_range in omega (arith, a, few) in
+      ap₂ rows_since (ap is_unworked z.before) z.after
+      ∙ sym (ap (λ l. length (chunk_rows l)) z.here)
+      ∙ sym (total-one 32 z.input (pulled_at v w) lt z.others)
+]
+  where
+    none-since : (i : Held) → held_unworked j ≡ held_unworked i → rows_since (is_unworked i) j ≡ 0
+    none-since (Unworked i c) e = refl
+    none-since Nothing e = ap (λ l. length (chunk_rows l)) e
+    none-since (Made c) e = ap (λ l. length (chunk_rows l)) e
+
+-- a prepare leaves what is counted of its reader
+pub limits-stay : (k : Kind) (d : Option ReaderView) (p q : ShellPart) (n m : RowCount)
+    (w : Picture) (st : Status) (fits : Bool) → IsKernelOf p.kernel q.kernel
+    → q.notes ≡ with_view w st (record p.notes { fits = fits }) → p.notes.fault ≡ None
+    → KeepsLimits (part_seen k d n p) (part_seen k d m q)
+limits-stay k d p q n m w st fits kernel notes faultless =
+    let none = ap (λ z. z.fault) notes ∙ faultless in
+    let pendings = ap (λ z. z.pendings) notes in
+    let given = ap (λ z. z.given) notes in
+    record {
+      pendings = λ lt. rw (none, pendings) lt;
+      given = λ le. rw (none, given) le;
+      opened = λ f. ap (λ z. z.stage.opened) kernel ∙ f;
+      fetched = λ f. ap (λ z. z.stage.fetched) kernel ∙ f;
+    }
+
+-- a prepare after which the kernel has the state b
+module _ (k : Kind) (d : Option ReaderView) (p : ShellPart) (b : OwnState) (j : Held)
+    (notes : Notes) (n m : RowCount) (v w : Picture) (st : Status)
+    (so : Suits k p.kernel (record p.kernel { own = b }) j) where
+  abbrev after : BoxPicture
+  after = part_seen k d m (part (record p.kernel { own = b }) j notes)
+
   abbrev before : BoxPicture
   before = part_seen k d n p
 
-  abbrev after : BoxPicture
-  after = part_seen k d m q
+  abbrev PassesHere : Type 0
+  PassesHere = Passes p v n (part (record p.kernel { own = b }) j notes) w m st
 
-  kind-now : q.kernel.kind ≡ k
-  kind-now = ap (λ z. z.kind) all.suits.kernel ∙ all.suits.kind.0
+  pulled-so : (x : PassesHere) → m.total ≡ raised n.total (rows_pulled v w)
+  pulled-so x =
+      x.counts.total ∙ ap (raised n.total) (ap (total_rows 32)
+      (λ z i. ap (λ y. taken_out y.chunk (input_at w i).chunk) (x.pushes.inputs i) z))
 
-  pulled-is : (x : Passes p v n q w m st) (i : ℕ) → pulled_at v w i ≡ pulled_at x.view w i
-  pulled-is x i = ap (λ y. taken_out y.chunk (input_at w i).chunk) (sym (x.pushes.inputs i))
-
-  rows-so : (x : Passes p v n q w m st) → rows_since (is_unworked p.held) q.held ≡ rows_pulled v w
-  rows-so x = elim x.turns.moves.pulls [
-    | inl y ↦ none-since p.held q.held (y.unworked ∙ x.pushes.unworked) ∙ sym (total-nothing 32 (pulled_at v w) (λ i. pulled-is x i ∙ y.nothing i))
-    | inr y ↦
-        let lt : y.input < 32 = let a = y.in_range in omega (arith, a, x.pushes.ins, all.few_in) in
-        one-since p.held q.held y.input y.chunk (sym x.pushes.unworked ∙ ap held_unworked y.before) y.after ∙ sym (ap (λ l. length (chunk_rows l)) (pulled-is x y.input ∙ y.here))
-        ∙ sym (total-one 32 y.input (pulled_at v w) lt (λ j ne. pulled-is x j ∙ y.others j ne))
-  ]
-    where
-      none-since : (h h' : Held) → held_unworked h' ≡ held_unworked h → rows_since (is_unworked h) h' ≡ 0
-      none-since (Unworked i c) h' e = refl
-      none-since Nothing h' e = ap (λ l. length (chunk_rows l)) e
-      none-since (Made c) h' e = ap (λ l. length (chunk_rows l)) e
-
-      one-since : (h h' : Held) (i : ℕ) (c : Table) → held_unworked h ≡ [] → h' ≡ Unworked i c → rows_since (is_unworked h) h' ≡ length (chunk_rows (c ∷ []))
-      one-since (Unworked j e) h' i c e' f = absurd (cc)
-      one-since Nothing h' i c e f = ap (λ z. length (chunk_rows (held_unworked z))) f
-      one-since (Made e) h' i c e' f = ap (λ z. length (chunk_rows (held_unworked z))) f
-
-  pulled-so : (x : Passes p v n q w m st) → m.total ≡ raised n.total (rows_pulled v w)
-  pulled-so x = x.counts.total ∙ ap (raised n.total) (rows-so x)
-
-  fit-ports : StaysFit before v → HasSpecPorts p.kernel.spec v
-  fit-ports fit = all.suits.shelled.ungrown None (in_count v) (out_count v) fit.ports
-
-  spec-stays : q.kernel.spec ≡ p.kernel.spec
-  spec-stays = ap (λ z. z.spec) all.suits.kernel
-
-  goes : (x : Passes p v n q w m st) → FollowsKept before v → p.kernel.stage.handed_out ≡ false → StaysFit before v → Goes p.kernel before after v x.view w q.kernel.own p.held x.held q.held st
-  goes x f out fit = record {
-    spec = refl;
-    spec_stays = ap Some spec-stays;
-    files = refl;
+  goes : out_count v ≤ 16 → HasSpecPorts p.kernel.spec v → (x : PassesHere) → FollowsKept before v
+      → p.kernel.stage.handed_out ≡ false → StaysFit before v
+      → Goes before p.kernel p.notes notes v x.view w b p.held x.held j st
+  goes few ports x f out fit = record {
     not_handed_out = out;
-    before = refl;
-    after = ap (λ z. work_of z (source_of q.held) (held_unworked q.held) (held_made q.held)) all.suits.kernel;
     pushes = x.pushes;
     turns = x.turns;
     view = ap (λ z. z.view) x.notes;
-    pulled_on = record { count = x.counts.grows; since = x.counts.since };
-    pulled = pulled-so x;
     follows = f;
-    ports = fit-ports fit;
+    ports = ports;
     still = fit.still;
-    few = all.few;
+    few = few;
   }
 
-  limits-kept : q.notes.pendings ≡ p.notes.pendings → q.notes.given ≡ p.notes.given → q.notes.fault ≡ None → KeepsLimits before after
-  limits-kept a b e = record {
-    pendings = λ lt. rw (e, a) lt;
-    given = λ le. rw (e, b) le;
-    opened = λ f. ap (λ z. z.stage.opened) all.suits.kernel ∙ f;
-    fetched = λ f. ap (λ z. z.stage.fetched) all.suits.kernel ∙ f;
-  }
-
-  may-come : (u : Status) → AnswerComes u q.kernel q.held → StatusComes u after
+  may-come : (u : Status) → AnswerComes u (record p.kernel { own = b }) j → StatusComes u after
   may-come status.NeedData e = e
   may-come status.PortFull e = tt
   may-come status.Ready e = elim e [
     | inl some ↦ inl some
-    | inr left ↦ elim left [ inl row ↦ inr (inl row) | inr bad ↦ inr (inr (sym kind-now ∙ bad.0, bad.1)) ]
+    | inr left ↦ elim left [
+      | inl row ↦ inr (inl row)
+      | inr bad ↦ inr (inr (sym so.kind.0 ∙ bad.0, bad.1))
+    ]
   ]
-  may-come status.Async e = record { source = subst IsSourceKind kind-now e.0; unfetched = e.1 }
+  may-come status.Async e =
+      record { source = subst IsSourceKind so.kind.0 e.0; unfetched = e.1 }
   may-come status.ExpandPipeline e = absurd e
   may-come status.Finished e = tt
 
-  both-same : (x : Passes p v n q w m st) → SameChunks v x.view → SameChunks x.view w → SameChunks v w
-  both-same x a b = record { inputs = λ i. b.inputs i ∙ a.inputs i; outputs = λ o. b.outputs o ∙ a.outputs o }
-
-  all-before : (x : Passes p v n q w m st) → AllOutputsFinished v → AllOutputsFinished x.view
-  all-before x each = λ o lt. ap₂ (λ a b. a || b) (x.pushes.finished o) (x.pushes.closed o) ∙ each o (omega (arith, lt, x.pushes.outs))
-
-  prepares-fit : HasSpecPorts p.kernel.spec v → Passes p v n q w m st → FollowsKept before v → IsRunning before → PreparesLawfully before v after w st
-  prepares-fit ports x f run =
+  prepares-fit : out_count v ≤ 16 → HasSpecPorts p.kernel.spec v → PassesHere
+      → FollowsKept before v → IsRunning before → PreparesLawfully before v after w st
+  prepares-fit few ports x f run =
       let y = x.turns.moves in
       record {
         law = y.law;
-        comes = may-come st (subst (λ z. AnswerComes st z q.held) (sym all.suits.kernel) y.comes);
+        comes = may-come st y.comes;
         pulled = pulled-so x;
-        limits = limits-kept (ap (λ z. z.pendings) x.notes) (ap (λ z. z.given) x.notes) (ap (λ z. z.fault) x.notes ∙ run.faultless);
+        limits = limits-stay k d p (part (record p.kernel { own = b }) j notes) n m w st
+            p.notes.fits refl x.notes run.faultless;
         fits = λ fit. ap (λ z. z.fits) x.notes ∙ fit.fits;
-        keeps = λ fit ins outs kept. keeps-over p.kernel all.suits.shelled before after v x.view w q.kernel.own p.held x.held q.held st (goes x f run.not_handed_out fit) ins outs all.suits.uses kept;
-        ends = λ some each. let e = y.at_once (omega (arith, some, x.pushes.outs)) (all-before x each) in record { answer = e.answer; chunks = both-same x (x.pushes.at_once each) e.chunks };
-        pushes = λ some. y.waits (x.pushes.waits (let e = ap length y.made in omega (arith, e, some))).none;
+        keeps = λ fit.
+            keeps-over k d p.kernel so.shelled n m p.notes notes v x.view w b p.held x.held j st
+            (goes few ports x f run.not_handed_out fit)
+            (record { count = x.counts.grows; since = x.counts.since }) (pulled-so x) so.uses;
+        ends = λ some each.
+            let all : AllOutputsFinished x.view = λ o lt.
+            ap₂ (λ a b. a || b) (x.pushes.finished o) (x.pushes.closed o)
+            ∙ each o (omega (arith, lt, x.pushes.outs)) in
+            let e = y.at_once (omega (arith, some, x.pushes.outs)) all in
+            record {
+              answer = e.answer;
+              chunks = both-same v x.view w (x.pushes.at_once each) e.chunks;
+            };
+        pushes = λ some.
+            y.waits (x.pushes.waits (let e = ap length y.made in omega (arith, e, some))).none;
         room = y.room;
-        misfit = λ never. absurd (never (all.suits.shelled.grown None (in_count v) (out_count v) ports));
+        misfit = λ never. absurd (never (so.shelled.grown None (in_count v) (out_count v) ports));
       }
 
-  prepares-misfit : (HasSpecPorts p.kernel.spec v → ⊥) → ShutsPart p v n q w m st → IsRunning before → PreparesLawfully before v after w st
+  prepares-misfit : (HasSpecPorts p.kernel.spec v → ⊥)
+      → ShutsPart p v n (part (record p.kernel { own = b }) j notes) w m st → IsRunning before
+      → PreparesLawfully before v after w st
   prepares-misfit never x run =
       let nothing = total-nothing 32 (pulled_at v w) (λ i. none-pulled v w i (x.chunks.inputs i)) in
       record {
         law = subst (λ t. StatusHolds t w) (sym x.status) (shut-law w x.shut);
         comes = subst (λ t. StatusComes t after) (sym x.status) tt;
         pulled = x.counts.total ∙ ap (raised n.total) (sym nothing);
-        limits = limits-kept (ap (λ z. z.pendings) x.notes) (ap (λ z. z.given) x.notes) (ap (λ z. z.fault) x.notes ∙ run.faultless);
-        fits = λ fit. absurd (never (fit-ports fit));
-        keeps = λ fit. absurd (never (fit-ports fit));
+        limits = limits-stay k d p (part (record p.kernel { own = b }) j notes) n m w st false refl
+            x.notes run.faultless;
+        fits = λ fit. absurd (never fit.ports);
+        keeps = λ fit. absurd (never fit.ports);
         ends = λ some each. record { answer = x.status; chunks = x.chunks };
-        pushes = λ some o lt z. never-true (is_out_finished (output_at w o)) z (x.shut.outputs o lt);
+        pushes = λ some o lt z.
+            never-true (is_out_finished (output_at w o)) z (x.shut.outputs o lt);
         room = λ need some. absurd (subst NeedsRoom x.status need);
         misfit = λ none. record { answer = x.status; shut = x.shut };
       }
 
-  prepares-part : FollowsKept before v → IsRunning before → PreparesLawfully before v after w st
-  prepares-part f run = elim all.way [ inl x ↦ prepares-fit x.0 x.1 f run | inr x ↦ prepares-misfit x.0 x.1 run ]
+-- a prepare that takes one turn
+pub passes-once : (k : Kind) (p q : ShellPart) (n m : RowCount) (v w : Picture) (st : Status)
+    → Suits k p.kernel q.kernel q.held → out_count v ≤ 16 → HasSpecPorts p.kernel.spec v
+    → Passes p v n q w m st → PartPrepares k p v n q w m st
+passes-once k p q n m v w st so few ports x = record {
+  suits = so;
+  changed = changed-by-both v x.view w x.pushes.changed x.turns.moves.changed;
+  grows = x.counts.grows;
+  since = x.counts.since;
+  fits = p.notes.fits;
+  notes = x.notes;
+  lawful = λ d run f.
+      subst (λ z. Suits k p.kernel z q.held → Passes p v n (part z q.held q.notes) w m st
+      → PreparesLawfully (part_seen k d n p) v (part_seen k d m (part z q.held q.notes)) w st)
+      (sym so.kernel) (λ so x. prepares-fit k d p q.kernel.own q.held q.notes n m v w st so few
+      ports x f run) so x;
+}
 
-  -- a prepare of a loaded shell
-  pub prepares : (o : Option ShellPart) → o ≡ Some p → IsRunning (shell_seen k d n o) → FollowsKept (shell_seen k d n o) v → PreparesLawfully (shell_seen k d n o) v after w st
-  prepares o e =
-      subst (λ x. IsRunning (shell_seen k d n x) → FollowsKept (shell_seen k d n x) v → PreparesLawfully (shell_seen k d n x) v after w st) (sym e)
-      (λ run f. prepares-part f run)
+-- a prepare over a view with other ports
+pub shuts-once : (k : Kind) (p q : ShellPart) (n m : RowCount) (v w : Picture) (st : Status)
+    → Suits k p.kernel q.kernel q.held → (HasSpecPorts p.kernel.spec v → ⊥)
+    → ShutsPart p v n q w m st → PartPrepares k p v n q w m st
+shuts-once k p q n m v w st so never x = record {
+  suits = so;
+  changed = x.changed;
+  grows = x.counts.grows;
+  since = x.counts.since;
+  fits = false;
+  notes = x.notes;
+  lawful = λ d run f.
+      subst (λ z. Suits k p.kernel z q.held → ShutsPart p v n (part z q.held q.notes) w m st
+      → PreparesLawfully (part_seen k d n p) v (part_seen k d m (part z q.held q.notes)) w st)
+      (sym so.kernel) (λ so x. prepares-misfit k d p q.kernel.own q.held q.notes n m v w st so never
+      x run) so x;
+}
 
-  pub changes : ChangedByCalls v w
-  changes = elim all.way [ inl x ↦ changed-by-both v x.1.view w x.1.pushes.changed x.1.turns.moves.changed | inr x ↦ x.1.changed ]
-
-  -- what either leaves
-  abbrev Notes' : Type 0
-  Notes' = (fits : Bool) × (q.notes ≡ record p.notes { view = Some (port_flags w); answer = Some (Prepared st); acted = false; fits = fits })
-
-  pub notes-so : Notes'
-  notes-so = elim all.way [ inl x ↦ (p.notes.fits, x.1.notes) | inr x ↦ (false, x.1.notes) ]
-
-  pub notes-view : (o : Option ShellPart) → o ≡ Some p → IsRunning (shell_seen k d n o) → NotesView (shell_seen k d n o) after w st
-  notes-view o e =
-      let x = notes-so.1 in
-      subst (λ y. IsRunning (shell_seen k d n y) → NotesView (shell_seen k d n y) after w st) (sym e)
-      (λ run. record {
-        view = ap (λ z. z.view) x;
-        answer = ap (λ z. z.answer) x;
-        not_acted = ap (λ z. z.acted) x;
-        growth = refl;
-        faultless = ap (λ z. z.fault) x ∙ run.faultless;
-        not_handed_out = ap (λ z. z.stage.handed_out) all.suits.kernel ∙ run.not_handed_out;
-      })
+-- what a prepare notes
+pub notes-view : (k : Kind) (d : Option ReaderView) (p q : ShellPart) (n m : RowCount)
+    (v w : Picture) (st : Status) → PartPrepares k p v n q w m st → IsRunning (part_seen k d n p)
+    → NotesView (part_seen k d n p) (part_seen k d m q) w st
+notes-view k d p q n m v w st all run = record {
+  view = ap (λ z. z.view) all.notes;
+  answer = ap (λ z. z.answer) all.notes;
+  not_acted = ap (λ z. z.acted) all.notes;
+  growth = refl;
+  faultless = ap (λ z. z.fault) all.notes ∙ run.faultless;
+  not_handed_out = ap (λ z. z.stage.handed_out) all.suits.kernel ∙ run.not_handed_out;
+}
 
 -- ---- work
 
@@ -526,7 +532,7 @@ module _ (k : Kind) (d : Option ReaderView) (count : RowCount) (p q : ShellPart)
       (λ e y. all-held R y.out y.held (each-some R (λ t. 0 < length t.rows → R t) y.out (λ t r some. r) (y.makes.types ins)))
       (λ i c e y. all-held R y.out y.held (each-some R (λ t. 0 < length t.rows → R t) y.out (λ t r some. r) (y.takes.types ins (pulled-one ins i c e pulled))))
 
-  keeps-work : p.kernel.stage.handed_out ≡ false → KeepsSame P Q
+  pub keeps-work : p.kernel.stage.handed_out ≡ false → KeepsSame P Q
   keeps-work out ins outs kept = record {
     ports = had-still P Q same-view same-spec refl kept.ports;
     idle = subst (λ z. IsWorkOf z Q.work) (sym same-spec) x.suits.uses;
@@ -591,12 +597,11 @@ module _ (k : Kind) (d : Option ReaderView) (count : RowCount) (p q : ShellPart)
   }
 
 -- a work of a loaded shell
-pub works : (k : Kind) (d : Option ReaderView) (count : RowCount) (o : Option ShellPart) (p q : ShellPart) (r : Result (Unit {0}) WorkFault) → o ≡ Some p
-    → IsRunning (shell_seen k d count o) → OnOk r (PartWorks k p q) → OnOk r (Works (shell_seen k d count o) (part_seen k d count q))
-works k d count o p q (Err f) e run w = tt
-works k d count o p q (Ok u) e run w =
-    subst (λ z. IsRunning (shell_seen k d count z) → Works (shell_seen k d count z) (part_seen k d count q)) (sym e)
-    (λ run. works-part k d count p q w run.not_handed_out run.faultless) run
+pub works : (k : Kind) (d : Option ReaderView) (count : RowCount) (p q : ShellPart)
+    (r : Result (Unit {0}) WorkFault) → IsRunning (part_seen k d count p) → OnOk r (PartWorks k p q)
+    → OnOk r (Works (part_seen k d count p) (part_seen k d count q))
+works k d count p q (Err f) run w = tt
+works k d count p q (Ok u) run w = works-part k d count p q w run.not_handed_out run.faultless
 
 -- ---- faults
 
@@ -639,10 +644,12 @@ module _ (k : Kind) (d : Option ReaderView) (count : RowCount) (p q : ShellPart)
       is-due (fault.Bad place) y = subst (λ s. IsPlaceDue d s place) (sym (ap (λ z. z.spec) x.kernel)) (due place y.0 y.1)
       is-due g y = absurd y
 
-pub fails : (k : Kind) (d : Option ReaderView) (count : RowCount) (o : Option ShellPart) (p q : ShellPart) (r : Result (Unit {0}) WorkFault) → o ≡ Some p → p.kernel.kind ≡ k → IsRunning (shell_seen k d count o)
-    → IfErr r (λ f. PartFails f p q) → IfErr r (Fails p.kernel) → ((place : BadPlace) → p.kernel.kind ≡ kind.Csv → p.kernel.stage.bad ≡ Some place → IsPlaceDue d p.kernel.spec place)
-    → IfErr r (λ f. Faults f (shell_seen k d count o) (part_seen k d count q))
-fails k d count o p q (Ok u) e of run w why due = tt
-fails k d count o p q (Err f) e of run w why due =
-    subst (λ z. IsRunning (shell_seen k d count z) → Faults f (shell_seen k d count z) (part_seen k d count q)) (sym e)
-    (λ run. fails-part k d count p q f w of why due run.not_handed_out) run
+pub fails : (k : Kind) (d : Option ReaderView) (count : RowCount) (p q : ShellPart)
+    (r : Result (Unit {0}) WorkFault) → p.kernel.kind ≡ k → IsRunning (part_seen k d count p)
+    → IfErr r (λ f. PartFails f p q) → IfErr r (Fails p.kernel)
+    → ((place : BadPlace) → p.kernel.kind ≡ kind.Csv → p.kernel.stage.bad ≡ Some place
+    → IsPlaceDue d p.kernel.spec place)
+    → IfErr r (λ f. Faults f (part_seen k d count p) (part_seen k d count q))
+fails k d count p q (Ok u) of run w why due = tt
+fails k d count p q (Err f) of run w why due =
+    fails-part k d count p q f w of why due run.not_handed_out

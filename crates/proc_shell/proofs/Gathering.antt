@@ -1,9 +1,7 @@
 -- A collector hands out the chunks that it pulled.
 use Rattle.std.proofs.Common.{◌≡◌, ◌⊎◌, ℕ, ◌==◌, cond, Bool, true, false, List, [], ◌∷◌, ◌++◌, Some, None, refl, sym, ap, ◌∙◌, arith}
-use Rattle.chunk_data.specs.Values.{Table}
+use Rattle.proc_shell.proofs.Imports.{BoxPicture, HasSpecView, IsShelled, IsWorkOf, KeepsCollect, KeepsMeant, Lists, Table, Takes, gathered_own, gathering, kept_output, own_of, work_of}
 use Rattle.query_model.specs.declared.processor_spec.Spec.TheVariants as spec
-use Rattle.proc_api.specs.Names.{BoxPicture, Lists, kept_output, own_of, IsWorkOf, KeepsCollect}
-use Rattle.proc_shell.specs.Kernels.{HasSpecView, IsShelled, KeepsMeant, Takes, gathered_own, gathering, work_of}
 use Rattle.proc_shell.proofs.Through.{chunk-here, first-source, here-unworked, last-here, spec-output, split-here}
 
 into-collect : (p : BoxPicture) (ins outs : Lists) → IsWorkOf (Some spec.Collect) p.work → KeepsMeant spec.Collect p ins outs → KeepsCollect p ins

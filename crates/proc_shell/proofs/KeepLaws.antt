@@ -1,25 +1,9 @@
 -- A shell keeps the contract of its kernel's kind over a prepare.
 use Rattle.std.proofs.Common.{◌≡◌, ◌≢◌, ◌⊎◌, ℕ, zero, suc, ◌+◌, ◌<◌, ◌≤◌, Bool, true, false, ◌&&◌, ◌||◌, ◌==◌, not, cond, List, [], ◌∷◌, ◌++◌, length, get_or, append_assoc, Option, Some, None, IfSome, refl, sym, ap, ap₂, subst, ◌∙◌, arith, inl, inr}
-use Rattle.std.specs.List.{All}
-use Rattle.std.proofs.lemmas.Bool.{cases_eq, cases_lt, eq-eqb, false_from_ne_true, ne_eqb}
-use Rattle.std.proofs.lemmas.List.{length-append, append-nil, append_cancel_right, get_or-append-add, length-map}
-use Rattle.std.proofs.lemmas.List.Elements.{All-append}
-use Rattle.chunk_data.specs.Values.{Table}
-use Rattle.query_model.specs.declared.processor_spec.Spec.{Spec}
+use Rattle.proc_shell.proofs.Imports.{All, All-append, AllFit, AllOutputsClosed, ArePortsOf, BoxPicture, EndsNow, Flags, FollowsKept, HadPorts, HasEnough, HasNotedEnd, HasReadEnough, HasSize, HasSpecView, Held, InputFollows, IsOver, IsPulled, IsReadUp, IsShelled, IsWorkOf, Keeps, KeepsMeant, KeepsOver, KernelState, Kind, Lists, MakesTypes, MayBeInput, Means, Moves, Notes, NotesEnd, Nothing, OwnState, PortFlags, PulledOn, PullsOne, Pushes, ReaderView, RowCount, Spec, StandStill, Status, Table, Turns, append-nil, append_cancel_right, by-place, cases_eq, cases_lt, chunk_rows, counted-more, enough-more, eq-eqb, false_from_ne_true, fits-front, front-all, gathered_with, get_or-append-add, held_made, held_unworked, is_ended, kept_input, kept_input-of, kept_input-past, kept_inputs, kept_inputs-of, kept_output, kept_output-of, kept_output-past, kept_outputs, kept_outputs-of, kept_ports, length-append, length-map, makes-more, may-be-input, ne_eqb, never-enough, own_of, part, part_seen, port_flags, pulled-last, pulled-more, pulled_at, pushed_at, raised, reading_of, rows_pulled, source_of, taken_out, unworked_at, with_pulled, with_pushed}
 use Rattle.query_model.specs.declared.processor_spec.Spec.TheVariants as spec
 use Rattle.port_word.specs.Pictures.{Picture, input_at, output_at, in_count, out_count, is_in_finished, is_out_finished, no_flags}
-use Rattle.port_word.specs.declared.flags.Flags.{Flags}
-use Rattle.proc_api.specs.Names.{BoxPicture, PortFlags, kept_input, kept_output, kept_inputs, kept_outputs, kept_ports, Lists, chunk_rows, pulled_at, pushed_at, with_pulled, with_pushed, rows_pulled, raised, taken_out, HasNotedEnd, NotesEnd, OwnState, own_of, unworked_at, ArePortsOf, FollowsKept, InputFollows, StandStill, is_ended, Keeps, KeepsRows, IsOver, IsWorkOf, AllFit, MakesTypes, IsPulled, HasSize, HadPorts, HasReadEnough, AllOutputsClosed, IsReadUp, MayBeInput, PulledOn, port_flags}
-use Rattle.proc_api.specs.declared.status.Status.{Status}
-use Rattle.proc_api.proofs.Keeping.{pulled-more, makes-more, enough-more, front-all, fits-front, pulled-last, counted-more, never-enough}
-use Rattle.proc_api.proofs.KeptFlags.{kept_inputs-of, kept_outputs-of, kept_input-of, kept_input-past, kept_output-of, kept_output-past, may-be-input}
-use Rattle.proc_api.proofs.ShutPorts.{by-place}
-use Rattle.proc_shell.specs.declared.held.Held.{Held}
-use Rattle.proc_shell.specs.declared.held.Held.TheVariants.{Nothing, Unworked, Made}
-use Rattle.proc_shell.specs.Steps.{held_unworked, held_made, source_of}
-use Rattle.proc_shell.specs.Kernels.{HasEnough, HasSpecView, IsReadOut, IsShelled, KeepsMeant, KernelState, Means, Shows, gathered_with, reading_of, work_of}
-use Rattle.proc_shell.specs.Turning.{EndsNow, Moves, PullsOne, Pushes, Turns}
-use Rattle.proc_shell.proofs.PortMoves.{never-true}
+use Rattle.proc_shell.proofs.PortMoves.{both-none, never-true}
 use Rattle.proc_shell.proofs.TurnLaws.{holds-unended}
 
 -- ---- lists
@@ -33,15 +17,6 @@ all-map P Q xs f h = λ k d lt. f (get_or xs k d) (h k d lt)
 
 all-none : (P : Table → Type 0) (xs : List Table) → xs ≡ [] → All P xs
 all-none P xs e = λ k d lt. absurd (let l = ap length e in omega (arith, l, lt))
-
-back-none : (xs ys : List Table) → [] ≡ xs ++ ys → ys ≡ []
-back-none [] ys e = sym e
-back-none (x ∷ xs) ys e = absurd (cc)
-
-none-held : (h : Held) → held_unworked h ≡ [] → held_made h ≡ [] → h ≡ Nothing
-none-held Nothing e f = refl
-none-held (Unworked i c) e f = absurd (cc)
-none-held (Made c) e f = absurd (cc)
 
 -- each below n has one fact, or another is true
 all-or : (n : ℕ) (A : ℕ → Type 0) (E : Type 0) → ((i : ℕ) → i < n → A i ⊎ E) → ((i : ℕ) → i < n → A i) ⊎ E
@@ -121,25 +96,30 @@ shown-one spec.Collect a b u e =
     λ i. record (e i) { gathered = same i }
 shown-one s a b u e = e
 
--- a box whose kernel has its state, and that holds h, goes on to b and k
-pub record Goes (kernel : KernelState) (p q : BoxPicture) (v u w : Picture) (b : OwnState) (h m k : Held) (st : Status) : Type 0 where
-  pub spec : p.spec ≡ Some kernel.spec
-  pub spec_stays : q.spec ≡ Some kernel.spec
-  pub files : q.files ≡ p.files
-  pub not_handed_out : p.work.handed_out ≡ false
-  pub before : p.work ≡ work_of kernel (source_of h) (held_unworked h) (held_made h)
-  pub after : q.work ≡ work_of (record kernel { own = b }) (source_of k) (held_unworked k) (held_made k)
+-- A prepare of a kernel that holds h: what was made is pushed, which leaves m, and then a turn is
+-- taken, which leaves b and k.
+pub record Goes (p : BoxPicture) (kernel : KernelState) (first last : Notes) (v u w : Picture)
+    (b : OwnState) (h m k : Held) (st : Status)
+    : Type 0 where
+  pub not_handed_out : kernel.stage.handed_out ≡ false
   pub pushes : Pushes h m v u
   pub turns : Turns kernel b m k u w st
-  pub view : q.notes.view ≡ Some (port_flags w)
-  pub pulled_on : PulledOn p q
-  pub pulled : q.pulled ≡ raised p.pulled (rows_pulled v w)
+  pub view : last.view ≡ Some (port_flags w)
   pub follows : FollowsKept p v
   pub ports : ArePortsOf (Some kernel.spec) None (in_count v) (out_count v)
-  pub still : StandStill (Some kernel.spec) p.notes.view (in_count v) (out_count v)
+  pub still : StandStill (Some kernel.spec) first.view (in_count v) (out_count v)
   pub few : out_count v ≤ 16
 
-module _ (kernel : KernelState) (shelled : IsShelled kernel.spec) (p q : BoxPicture) (v u w : Picture) (b : OwnState) (h m k : Held) (st : Status) (g : Goes kernel p q v u w b h m k st) where
+module _ (kind : Kind) (d : Option ReaderView) (kernel : KernelState)
+    (shelled : IsShelled kernel.spec) (old new : RowCount) (first last : Notes) (v u w : Picture)
+    (b : OwnState) (h m k : Held) (st : Status)
+    (g : Goes (part_seen kind d old (part kernel h first)) kernel first last v u w b h m k st) where
+  abbrev p : BoxPicture
+  p = part_seen kind d old (part kernel h first)
+
+  abbrev q : BoxPicture
+  q = part_seen kind d new (part (record kernel { own = b }) k last)
+
   abbrev s : Spec
   s = kernel.spec
 
@@ -161,15 +141,6 @@ module _ (kernel : KernelState) (shelled : IsShelled kernel.spec) (p q : BoxPict
   pushed-is : (o : ℕ) → pushed_at v w o ≡ pushed_at v u o
   pushed-is o = ap (λ l. cond (output_at v o).has_data [] l) (mv.pushes o)
 
-  same-spec : q.spec ≡ p.spec
-  same-spec = g.spec_stays ∙ sym g.spec
-
-  made-before : p.work.made ≡ held_made h
-  made-before = ap (λ x. x.made) g.before
-
-  made-after : q.work.made ≡ held_made k
-  made-after = ap (λ x. x.made) g.after
-
   -- what waited left, or waits
   made-are : held_made h ≡ g.pushes.left ++ held_made k
   made-are = g.pushes.made ∙ ap (λ l. g.pushes.left ++ l) (sym mv.made)
@@ -178,32 +149,41 @@ module _ (kernel : KernelState) (shelled : IsShelled kernel.spec) (p q : BoxPict
   pushed-others o ne = pushed-is o ∙ g.pushes.others o ne
 
   -- where flags are kept, they are those of as many ports as the view has
-  viewed : HadPorts p.notes.view p → HasSpecView s p
-  viewed had = spec-view s shelled p g.spec had
+  viewed : HadPorts first.view p → HasSpecView s p
+  viewed had = spec-view s shelled p refl had
 
-  had-counts : HadPorts p.notes.view p → (p.notes.view ≡ None) ⊎ ((kept_inputs p ≡ in_count v) × (kept_outputs p ≡ out_count v))
+  had-counts : HadPorts first.view p
+      → (first.view ≡ None) ⊎ ((kept_inputs p ≡ in_count v) × (kept_outputs p ≡ out_count v))
   unfolding kept_inputs kept_outputs
-  had-counts had = go p.notes.view refl had g.still
+  had-counts had = go first.view refl had g.still
     where
-      go : (x : Option PortFlags) → p.notes.view ≡ x → HadPorts x p → StandStill (Some s) x (in_count v) (out_count v) → (p.notes.view ≡ None) ⊎ ((length (kept_ports p.notes.view).inputs ≡ in_count v) × (length (kept_ports p.notes.view).outputs ≡ out_count v))
+      go : (x : Option PortFlags) → first.view ≡ x → HadPorts x p
+          → StandStill (Some s) x (in_count v) (out_count v)
+          → (first.view ≡ None) ⊎ ((length (kept_ports first.view).inputs ≡ in_count v)
+          × (length (kept_ports first.view).outputs ≡ out_count v))
       go None e had still = inl e
       go (Some ports) e had still =
-          let y = shelled.still ports (in_count v) (out_count v) (had-spec s shelled p g.spec ports had) g.ports still in
-          inr (ap (λ x. length (kept_ports x).inputs) e ∙ sym y.0, ap (λ x. length (kept_ports x).outputs) e ∙ sym y.1)
+          let y = shelled.still ports (in_count v) (out_count v)
+          (had-spec s shelled p refl ports had) g.ports still in
+          inr (
+            ap (λ x. length (kept_ports x).inputs) e ∙ sym y.0,
+            ap (λ x. length (kept_ports x).outputs) e ∙ sym y.1,
+          )
 
-  never-out : {X : Type 0} (o : ℕ) → p.notes.view ≡ None → (kept_output p o).fin_out ≡ true → X
+  never-out : {X : Type 0} (o : ℕ) → first.view ≡ None → (kept_output p o).fin_out ≡ true → X
   unfolding kept_output
   never-out o e fin = let f : false ≡ true = ap (λ x. (get_or (kept_ports x).outputs o no_flags).fin_out) (sym e) ∙ fin in absurd (cc)
 
-  never-in : {X : Type 0} (i : ℕ) → p.notes.view ≡ None → (kept_input p i).fin_in ≡ true → X
+  never-in : {X : Type 0} (i : ℕ) → first.view ≡ None → (kept_input p i).fin_in ≡ true → X
   unfolding kept_input
   never-in i e fin = let f : false ≡ true = ap (λ x. (get_or (kept_ports x).inputs i no_flags).fin_in) (sym e) ∙ fin in absurd (cc)
 
   kept-out : (o : ℕ) → o < out_count v → (output_at u o).fin_out ≡ true → (kept_output p o).fin_out ≡ true
   kept-out o lt e = sym (g.follows.outputs o lt).fin_out ∙ sym (g.pushes.finished o) ∙ e
 
-  enough-still : (ins : Lists) → HasReadEnough (Some s) ins → HasReadEnough q.spec (with_pulled v w ins)
-  enough-still ins x = subst (λ y. HasReadEnough y (with_pulled v w ins)) (sym g.spec_stays) (enough-more (Some s) v w ins x)
+  enough-still : (ins : Lists) → HasReadEnough (Some s) ins
+      → HasReadEnough (Some s) (with_pulled v w ins)
+  enough-still ins x = enough-more (Some s) v w ins x
 
   -- where it had finished an output by itself, its inputs are at their ends, or it has read enough
   was-finished : (ins outs : Lists) → Keeps p ins outs → (o : ℕ) → o < out_count v → (output_at u o).fin_out ≡ true → ((i : ℕ) → i < in_count v → is_ended (input_at u i).flags ≡ true) ⊎ HasReadEnough (Some s) ins
@@ -213,7 +193,7 @@ module _ (kernel : KernelState) (shelled : IsShelled kernel.spec) (p q : BoxPict
         | inl none ↦ never-out o none before
         | inr n ↦ elim (kept.finishes o before) [
           | inl all ↦ inl (λ i less. ap (λ x. is_ended x.flags) (g.pushes.inputs i) ∙ ended-stays (kept_input p i) (input_at v i).flags (g.follows.inputs i less) (all i (let z = n.0 in omega (arith, z, less))))
-          | inr enough ↦ inr (subst (λ x. HasReadEnough x ins) g.spec enough)
+          | inr enough ↦ inr enough
         ]
       ]
 
@@ -225,30 +205,12 @@ module _ (kernel : KernelState) (shelled : IsShelled kernel.spec) (p q : BoxPict
         | inl none ↦ never-in i none before
         | inr n ↦ elim (kept.closes i before) [
           | inl all ↦ inl ((let z = n.1 in let some = all.some in omega (arith, z, some)), (λ o less. g.pushes.closed o ∙ (g.follows.outputs o less).fin_in (all.closed o (let z = n.1 in omega (arith, z, less)))))
-          | inr enough ↦ inr (subst (λ x. HasReadEnough x ins) g.spec enough)
+          | inr enough ↦ inr enough
         ]
       ]
 
-  shows-before : Shows s a p.work
-  shows-before = subst (Shows s a) (sym g.before) refl
-
-  shows-after : Shows s b q.work
-  shows-after = subst (Shows s b) (sym g.after) refl
-
   own-is : (ins outs : Lists) (t : KeepsMeant s p ins outs) → t.own ≡ a
-  own-is ins outs t = shown-one s t.own a p.work.unworked (sym t.shows ∙ shows-before)
-
-  same-reading : reading_of q ≡ reading_of p
-  same-reading =
-      let fetched : q.work.fetched ≡ p.work.fetched = ap (λ x. x.fetched) g.after ∙ ap (λ x. x.fetched) (sym g.before) in
-      let bad : q.work.bad ≡ p.work.bad = ap (λ x. x.bad) g.after ∙ ap (λ x. x.bad) (sym g.before) in
-      λ i. record { files = g.files i; fetched = fetched i; bad = bad i }
-
-  unworked-before : (i : ℕ) → unworked_at p.work i ≡ cond (i == source_of h) (held_unworked h) []
-  unworked-before i = ap (λ x. unworked_at x i) g.before
-
-  unworked-after : (i : ℕ) → unworked_at q.work i ≡ cond (i == source_of k) (held_unworked k) []
-  unworked-after i = ap (λ x. unworked_at x i) g.after
+  own-is ins outs t = shown-one s t.own a (held_unworked h) (sym t.shows)
 
   cond-none : (c : Bool) (l : List Table) → l ≡ [] → cond c l [] ≡ []
   cond-none true l e = e
@@ -257,34 +219,41 @@ module _ (kernel : KernelState) (shelled : IsShelled kernel.spec) (p q : BoxPict
   -- the chunks that are unworked are those that were, and what was pulled
   unworked-is : (i : ℕ) → unworked_at q.work i ≡ unworked_at p.work i ++ pulled_at v w i
   unworked-is i =
-      unworked-after i ∙ (elim mv.pulls [
+      elim mv.pulls [
         | inl x ↦
-            let same : cond (i == source_of k) (held_unworked k) [] ≡ cond (i == source_of h) (held_unworked h) [] = rw (x.source ∙ g.pushes.source, x.unworked ∙ g.pushes.unworked) refl in
-            same ∙ sym (unworked-before i) ∙ sym (append-nil (unworked_at p.work i)) ∙ ap (λ l. unworked_at p.work i ++ l) (sym (pulled-is i ∙ x.nothing i))
+            let same : unworked_at q.work i ≡ unworked_at p.work i =
+            rw (x.source ∙ g.pushes.source, x.unworked ∙ g.pushes.unworked) refl in
+            same ∙ sym (append-nil (unworked_at p.work i))
+            ∙ ap (λ l. unworked_at p.work i ++ l) (sym (pulled-is i ∙ x.nothing i))
         | inr x ↦
-            let none : unworked_at p.work i ≡ [] = unworked-before i ∙ cond-none (i == source_of h) (held_unworked h) (sym g.pushes.unworked ∙ ap held_unworked x.before) in
-            ap (λ z. cond (i == source_of z) (held_unworked z) []) x.after ∙ pulled-one x i ∙ sym (pulled-is i) ∙ ap (λ l. l ++ pulled_at v w i) (sym none)
-      ])
+            let none : unworked_at p.work i ≡ [] = cond-none (i == source_of h) (held_unworked h)
+            (sym g.pushes.unworked ∙ ap held_unworked x.before) in
+            ap (λ z. cond (i == source_of z) (held_unworked z) []) x.after ∙ pulled-one x i
+            ∙ sym (pulled-is i) ∙ ap (λ l. l ++ pulled_at v w i) (sym none)
+      ]
     where
-      pulled-one : (x : PullsOne m k u w) (j : ℕ) → cond (j == x.input) (x.chunk ∷ []) [] ≡ pulled_at u w j
-      pulled-one x j = by-place (λ n. cond (n == x.input) (x.chunk ∷ []) [] ≡ pulled_at u w n) x.input j
+      pulled-one : (x : PullsOne m k u w) (j : ℕ)
+          → cond (j == x.input) (x.chunk ∷ []) [] ≡ pulled_at u w j
+      pulled-one x j =
+          by-place (λ n. cond (n == x.input) (x.chunk ∷ []) [] ≡ pulled_at u w n) x.input j
           (ap (λ c. cond c (x.chunk ∷ []) []) (eq-eqb x.input x.input refl) ∙ sym x.here)
           (λ ne. ap (λ c. cond c (x.chunk ∷ []) []) (ne_eqb j x.input ne) ∙ sym (x.others j ne))
 
   ends-after : HasNotedEnd s b → HasNotedEnd s (own_of q.work)
-  ends-after n = subst (HasNotedEnd s) (sym shows-after) (end-own s b b.gathered (gathered_with s b.gathered q.work.unworked) n)
+  ends-after n = end-own s b b.gathered (gathered_with s b.gathered (held_unworked k)) n
 
   -- what is over stays over
   over-before : (ins outs : Lists) → Keeps p ins outs → KeepsMeant s p ins outs → (o : ℕ) → o < out_count v → (output_at u o).fin_out ≡ true → IsOver s q.work
   over-before ins outs kept t o lt fin =
       let was = t.over o (kept-out o lt fin) in
-      let made : held_made h ≡ [] = sym made-before ∙ was.nothing_waits in
-      let unworked : held_unworked m ≡ [] = g.pushes.unworked ∙ ap (λ x. x.unworked) (sym g.before) ∙ was.all_worked in
-      let noted : HasNotedEnd s a = end-own s a (gathered_with s a.gathered p.work.unworked) a.gathered (subst (HasNotedEnd s) shows-before was.noted) in
-      let rest = g.turns.leaves.stays_over (ap (λ x. x.unmade) (sym g.before) ∙ was.all_made) noted in
+      let unworked : held_unworked m ≡ [] = g.pushes.unworked ∙ was.all_worked in
+      let noted : HasNotedEnd s a = end-own s a (gathered_with s a.gathered (held_unworked h))
+      a.gathered was.noted in
+      let rest = g.turns.leaves.stays_over was.all_made noted in
       record {
-        nothing_waits = made-after ∙ back-none g.pushes.left (held_made k) (sym made ∙ made-are);
-        all_worked = ap (λ x. x.unworked) g.after ∙ (elim mv.pulls [
+        nothing_waits =
+            (both-none g.pushes.left (held_made k) (sym made-are ∙ was.nothing_waits)).1;
+        all_worked = elim mv.pulls [
           | inl x ↦ x.unworked ∙ unworked
           | inr x ↦ absurd (elim (was-finished ins outs kept o lt fin) [
             | inl all ↦ holds-unended (input_at u x.input).flags x.holds (all x.input (let n = x.in_range in omega (arith, n, g.pushes.ins)))
@@ -293,8 +262,8 @@ module _ (kernel : KernelState) (shelled : IsShelled kernel.spec) (p q : BoxPict
                 let z : o ≡ j = omega (arith, one, lt, less, g.pushes.outs) in
                 subst (λ n. is_out_finished (output_at u n) ≡ true) z (ap (λ c. c || (output_at u o).fin_in) fin))
           ])
-        ]);
-        all_made = ap (λ x. x.unmade) g.after ∙ rest.0;
+        ];
+        all_made = rest.0;
         noted = ends-after rest.1;
       }
 
@@ -328,44 +297,52 @@ module _ (kernel : KernelState) (shelled : IsShelled kernel.spec) (p q : BoxPict
   pub through : (ins outs : Lists) → Keeps p ins outs → KeepsMeant s p ins outs → KeepsMeant s q (with_pulled v w ins) (with_pushed v w outs)
   through ins outs kept t = record {
     own = b;
-    shows = shows-after;
+    shows = refl;
     worked = t.worked;
     ins_are = λ i. ap (λ l. l ++ pulled_at v w i) (t.ins_are i) ∙ append_assoc (t.worked i) (unworked_at p.work i) (pulled_at v w i) ∙ ap (λ l. t.worked i ++ l) (sym (unworked-is i));
-    rows = subst (λ r. Means r s b t.worked (with_pushed v w outs) (chunk_rows q.work.made)) (sym same-reading)
-        (subst (λ l. Means (reading_of p) s b t.worked (with_pushed v w outs) (chunk_rows l)) (sym made-after)
-        (made-rows outs t.worked (subst (λ l. Means (reading_of p) s a t.worked outs (chunk_rows l)) made-before (meant-before ins outs t))));
+    rows = made-rows outs t.worked (meant-before ins outs t);
     over = λ o fin. elim (finishes-now o fin) [
       | inl before ↦ over-before ins outs kept t o before.0 before.1
       | inr now ↦ record {
-        nothing_waits = made-after ∙ ap held_made now.after;
-        all_worked = ap (λ x. x.unworked) g.after ∙ ap held_unworked now.after;
-        all_made = ap (λ x. x.unmade) g.after ∙ now.unmade;
+        nothing_waits = ap held_made now.after;
+        all_worked = ap held_unworked now.after;
+        all_made = now.unmade;
         noted = ends-after now.noted;
       }
     ];
     read = λ o fin. elim (finishes-now o fin) [
-      | inl before ↦ subst (λ r. IsReadOut s r.fetched r.bad) (sym same-reading) (t.read o (kept-out o before.0 before.1))
-      | inr now ↦ subst (λ z. IsReadOut s z.fetched z.bad) (sym g.after) now.read
+      | inl before ↦ t.read o (kept-out o before.0 before.1)
+      | inr now ↦ now.read
     ];
   }
 
   -- the kernel has read enough
-  now-enough : (ins outs : Lists) → Keeps p ins outs → m ≡ Nothing → HasEnough s b → HasReadEnough q.spec (with_pulled v w ins)
+  now-enough : (ins outs : Lists) → Keeps p ins outs → m ≡ Nothing → HasEnough s b
+      → HasReadEnough (Some s) (with_pulled v w ins)
   now-enough ins outs kept e enough =
-      let fit : AllFit p.spec ins = subst (λ z. AllFit z ins) (sym g.spec) (λ i. λ j d lt. enough.any i (get_or (ins i) j d).types) in
-      let t : KeepsMeant s p ins outs = shelled.from p ins outs (viewed kept.ports) (subst (λ z. IsWorkOf z p.work) g.spec kept.idle) g.not_handed_out (subst (λ z. KeepsRows z p ins outs) g.spec (kept.rows fit)) in
+      let fit : AllFit (Some s) ins = λ i j d lt. enough.any i (get_or (ins i) j d).types in
+      let t : KeepsMeant s p ins outs = shelled.from p ins outs (viewed kept.ports) kept.idle
+      g.not_handed_out (kept.rows fit) in
       let none : held_unworked h ≡ [] = sym g.pushes.unworked ∙ ap held_unworked e in
-      let all : (i : ℕ) → ins i ≡ t.worked i = λ i. t.ins_are i ∙ ap (λ l. t.worked i ++ l) (unworked-before i ∙ cond-none (i == source_of h) (held_unworked h) none) ∙ append-nil (t.worked i) in
-      enough-still ins (enough.enough (reading_of p) t.worked outs ins (chunk_rows p.work.made) all (g.turns.leaves.means (reading_of p) t.worked outs (chunk_rows p.work.made) (meant-before ins outs t)))
+      let all : (i : ℕ) → ins i ≡ t.worked i = λ i. t.ins_are i
+      ∙ ap (λ l. t.worked i ++ l) (cond-none (i == source_of h) (held_unworked h) none)
+      ∙ append-nil (t.worked i) in
+      enough-still ins (enough.enough (reading_of p) t.worked outs ins (chunk_rows (held_made h))
+      all (g.turns.leaves.means (reading_of p) t.worked outs (chunk_rows (held_made h))
+      (meant-before ins outs t)))
 
-  ends-finished : (ins outs : Lists) → Keeps p ins outs → (o : ℕ) → o < out_count v → (output_at w o).fin_out ≡ true → ((i : ℕ) → i < in_count v → is_ended (input_at w i).flags ≡ true) ⊎ HasReadEnough q.spec (with_pulled v w ins)
+  ends-finished : (ins outs : Lists) → Keeps p ins outs → (o : ℕ) → o < out_count v
+      → (output_at w o).fin_out ≡ true
+      → ((i : ℕ) → i < in_count v → is_ended (input_at w i).flags ≡ true)
+      ⊎ HasReadEnough (Some s) (with_pulled v w ins)
   ends-finished ins outs kept o lt fin = elim (mv.finishes o (omega (arith, lt, g.pushes.outs)) fin) [
     | inl before ↦ elim (was-finished ins outs kept o lt before) [ inl all ↦ inl (λ i less. mv.ended i (all i less)) | inr enough ↦ inr (enough-still ins enough) ]
     | inr now ↦ elim now.why [
       | inl enough ↦ inr (now-enough ins outs kept now.before enough)
       | inr over ↦
           let unfinished = over.1 in
-          all-or (in_count v) (λ i. is_ended (input_at w i).flags ≡ true) (HasReadEnough q.spec (with_pulled v w ins))
+          all-or (in_count v) (λ i. is_ended (input_at w i).flags ≡ true)
+          (HasReadEnough (Some s) (with_pulled v w ins))
           (λ i less. elim (either-set (input_at u i).flags.fin_in (is_ended (input_at u i).flags) (over.0 i (omega (arith, less, g.pushes.ins)))) [
             | inl closed ↦ elim (was-closed ins outs kept i less closed) [
               | inl all ↦ absurd (unfinished (let some = all.0 in omega (arith, some, g.pushes.outs)) (λ j n. either-true (output_at u j).fin_out (output_at u j).fin_in (all.1 j (omega (arith, n, g.pushes.outs)))))
@@ -384,7 +361,9 @@ module _ (kernel : KernelState) (shelled : IsShelled kernel.spec) (p q : BoxPict
         closed = λ o lt. let less : o < out_count v = omega (arith, n, lt, outs-w) in ap (λ f. f.fin_in) (kept_output-of q w g.view o (omega (arith, less, outs-w))) ∙ mv.consumers o ∙ all o less;
       }
 
-  closes-right : (ins outs : Lists) → Keeps p ins outs → (i : ℕ) → i < in_count v → (input_at w i).flags.fin_in ≡ true → AllOutputsClosed q ⊎ HasReadEnough q.spec (with_pulled v w ins)
+  closes-right : (ins outs : Lists) → Keeps p ins outs → (i : ℕ) → i < in_count v
+      → (input_at w i).flags.fin_in ≡ true → AllOutputsClosed q
+      ⊎ HasReadEnough (Some s) (with_pulled v w ins)
   closes-right ins outs kept i lt e = elim (mv.closes i (omega (arith, lt, g.pushes.ins)) e) [
     | inl before ↦ elim (was-closed ins outs kept i lt before) [ inl all ↦ inl (consumers-closed all.0 all.1) | inr enough ↦ inr (enough-still ins enough) ]
     | inr now ↦ elim now [
@@ -417,8 +396,7 @@ module _ (kernel : KernelState) (shelled : IsShelled kernel.spec) (p q : BoxPict
               | inr now ↦ elim now [
                 | inl x ↦ never-ended (input_at u i).flags ended x.unfinished
                 | inr x ↦ never-enough s b i (with_pulled v w ins) n
-                    (subst (λ z. HasReadEnough z (with_pulled v w ins)) g.spec_stays
-                    (now-enough ins outs kept x.0 x.1))
+                    (now-enough ins outs kept x.0 x.1)
               ]
             ]);
         all_worked = unworked-is i ∙ ap₂ (λ x y. x ++ y) none (pulled-is i ∙ (elim mv.pulls [
@@ -441,8 +419,8 @@ module _ (kernel : KernelState) (shelled : IsShelled kernel.spec) (p q : BoxPict
         | inl before ↦
             let there = may-be-input p (in_count v) i
             (elim (had-counts kept.ports) [ inl e ↦ inl e | inr e ↦ inr e.0 ]) lt in
-            let was = kept.noted i there (subst (λ z. NotesEnd z (own_of p.work) i) (sym g.spec) (subst (λ z. NotesEnd (Some s) z i) (sym shows-before)
-            (noted-own s a a.gathered (gathered_with s a.gathered p.work.unworked) i before))) in
+            let was = kept.noted i there
+            (noted-own s a a.gathered (gathered_with s a.gathered (held_unworked h)) i before) in
             let f = g.follows.inputs i lt in
             stays (ap (λ x. is_ended x.flags) same ∙ ended-stays (kept_input p i)
             (input_at v i).flags f was.at_end)
@@ -456,16 +434,13 @@ module _ (kernel : KernelState) (shelled : IsShelled kernel.spec) (p q : BoxPict
               | inr enough ↦ never-enough s b i ins n enough
             ]) in
             stays (ap (λ c. c || is_ended (input_at u i).flags) (sym open') ∙ now.over) open'
-            (unworked-before i ∙ cond-none (i == source_of h) (held_unworked h)
+            (cond-none (i == source_of h) (held_unworked h)
             (sym g.pushes.unworked ∙ ap held_unworked now.before))
       ]
 
-  fits-before : (ins : Lists) → AllFit q.spec (with_pulled v w ins) → AllFit p.spec ins
-  fits-before ins f = fits-front p.spec v w ins (subst (λ x. AllFit x (with_pulled v w ins)) same-spec f)
-
   -- what is true of the chunks that were made is true of those pushed now, and of those that wait
   made-split : (P : Table → Type 0) → All P p.work.made → All P (g.pushes.left ++ held_made k)
-  made-split P made = subst (All P) (made-before ∙ made-are) made
+  made-split P made = subst (All P) made-are made
 
   pushed-all : (P : Table → Type 0) → All P p.work.made → (o : ℕ) → All P (pushed_at v w o)
   pushed-all P made o =
@@ -475,52 +450,66 @@ module _ (kernel : KernelState) (shelled : IsShelled kernel.spec) (p q : BoxPict
       ]) (λ ne. all-none P (pushed_at v w o) (pushed-others o ne))
 
   made-all : (P : Table → Type 0) → All P p.work.made → All P q.work.made
-  made-all P made = subst (All P) (sym made-after) (back-all P g.pushes.left (held_made k) (made-split P made))
+  made-all P made = back-all P g.pushes.left (held_made k) (made-split P made)
 
-  makes-still : (ins : Lists) (t : Table) → MakesTypes p.spec ins t.types → MakesTypes q.spec (with_pulled v w ins) t.types
-  makes-still ins t x = subst (λ y. MakesTypes y (with_pulled v w ins) t.types) (sym same-spec) (makes-more p.spec v w ins t.types x)
-
-  unworked-pulled : (ins : Lists) → All (λ (t : Table). IsPulled ins t.types) p.work.unworked → All (λ (t : Table). IsPulled (with_pulled v w ins) t.types) q.work.unworked
+  unworked-pulled : (ins : Lists) → All (λ (t : Table). IsPulled ins t.types) p.work.unworked
+      → All (λ (t : Table). IsPulled (with_pulled v w ins) t.types) q.work.unworked
   unworked-pulled ins f =
       let P : Table → Type 0 = λ t. IsPulled (with_pulled v w ins) t.types in
-      subst (All P) (sym (ap (λ x. x.unworked) g.after)) (elim mv.pulls [
-        | inl x ↦ subst (All P) (ap (λ x. x.unworked) g.before ∙ sym (x.unworked ∙ g.pushes.unworked)) (all-map (λ (t : Table). IsPulled ins t.types) P p.work.unworked (λ t. pulled-more v w ins t.types) f)
-        | inr x ↦ subst (All P) (pulled-is x.input ∙ x.here ∙ ap held_unworked (sym x.after)) (pulled-last v w ins x.input)
-      ])
+      elim mv.pulls [
+        | inl x ↦ subst (All P) (sym (x.unworked ∙ g.pushes.unworked))
+            (all-map (λ (t : Table). IsPulled ins t.types) P (held_unworked h)
+            (λ t. pulled-more v w ins t.types) f)
+        | inr x ↦ subst (All P) (pulled-is x.input ∙ x.here ∙ ap held_unworked (sym x.after))
+            (pulled-last v w ins x.input)
+      ]
 
   -- it keeps its contract over the prepare, where its kind keeps its rows
-  pub keeps-over : (ins outs : Lists) → IsWorkOf (Some s) q.work → Keeps p ins outs → Keeps q (with_pulled v w ins) (with_pushed v w outs)
-  keeps-over ins outs idle kept =
-      let P : Table → Type 0 = λ t. MakesTypes p.spec ins t.types in
-      let Q : Table → Type 0 = λ t. MakesTypes q.spec (with_pulled v w ins) t.types in
+  pub keeps-over : PulledOn p q → new.total ≡ raised old.total (rows_pulled v w)
+      → IsWorkOf (Some s) q.work → KeepsOver p v q w
+  keeps-over on pulled idle ins outs kept =
+      let more = with_pulled v w ins in
+      let P : Table → Type 0 = λ t. MakesTypes (Some s) ins t.types in
+      let Q : Table → Type 0 = λ t. MakesTypes (Some s) more t.types in
+      let still : (t : Table) → P t → Q t = λ t. makes-more (Some s) v w ins t.types in
       record {
-        ports = subst (λ x. HadPorts x q) (sym g.view) (subst (λ x. ArePortsOf x None (length (port_flags w).inputs) (length (port_flags w).outputs) ⊎ ArePortsOf x q.growth (length (port_flags w).inputs) (length (port_flags w).outputs)) (sym g.spec_stays)
-            (inl (rw (kept-count w ∙ ins-w, outs-count w ∙ outs-w) g.ports)));
-        idle = subst (λ x. IsWorkOf x q.work) (sym g.spec_stays) idle;
-        rows = λ f. subst (λ x. KeepsRows x q (with_pulled v w ins) (with_pushed v w outs)) (sym g.spec_stays)
-            (shelled.into q (with_pulled v w ins) (with_pushed v w outs) idle (subst (λ x. All (HasSize x) q.work.made) g.spec (made-all (HasSize p.spec) kept.made_sizes)) (through ins outs kept
-            (shelled.from p ins outs (viewed kept.ports) (subst (λ z. IsWorkOf z p.work) g.spec kept.idle) g.not_handed_out (subst (λ x. KeepsRows x p ins outs) g.spec (kept.rows (fits-before ins f))))));
-        types = λ o. All-append Q (outs o) (pushed_at v w o) (all-map P Q (outs o) (makes-still ins) (kept.types o)) (all-map P Q (pushed_at v w o) (makes-still ins) (pushed-all P kept.made_types o));
-        made_types = all-map P Q q.work.made (makes-still ins) (made-all P kept.made_types);
-        sizes = λ o. subst (λ x. All (HasSize x) (outs o ++ pushed_at v w o)) (sym same-spec) (All-append (HasSize p.spec) (outs o) (pushed_at v w o) (kept.sizes o) (pushed-all (HasSize p.spec) kept.made_sizes o));
-        made_sizes = subst (λ x. All (HasSize x) q.work.made) (sym same-spec) (made-all (HasSize p.spec) kept.made_sizes);
+        ports = subst (λ x. HadPorts x q) (sym g.view)
+            (inl (rw (kept-count w ∙ ins-w, outs-count w ∙ outs-w) g.ports));
+        idle = idle;
+        rows = λ f. shelled.into q more (with_pushed v w outs) idle
+            (made-all (HasSize (Some s)) kept.made_sizes)
+            (through ins outs kept (shelled.from p ins outs (viewed kept.ports) kept.idle
+            g.not_handed_out (kept.rows (fits-front (Some s) v w ins f))));
+        types = λ o. All-append Q (outs o) (pushed_at v w o)
+            (all-map P Q (outs o) still (kept.types o))
+            (all-map P Q (pushed_at v w o) still (pushed-all P kept.made_types o));
+        made_types = all-map P Q (held_made k) still (made-all P kept.made_types);
+        sizes = λ o. All-append (HasSize (Some s)) (outs o) (pushed_at v w o) (kept.sizes o)
+            (pushed-all (HasSize (Some s)) kept.made_sizes o);
+        made_sizes = made-all (HasSize (Some s)) kept.made_sizes;
         unworked = unworked-pulled ins kept.unworked;
-        counted = counted-more p q v w ins g.pulled_on g.pulled kept.counted;
+        counted = counted-more p q v w ins on pulled kept.counted;
         finishes = λ o fin.
             let x = kept-in-range o fin in
             let lt : o < out_count v = let n = x.0 in omega (arith, n, outs-w) in
             elim (ends-finished ins outs kept o lt x.1) [
-              | inl all ↦ inl (λ i less. let n = kept_inputs-of q w g.view in let z : i < in_count w = omega (arith, n, less) in ap is_ended (kept_input-of q w g.view i z) ∙ all i (omega (arith, z, ins-w)))
+              | inl all ↦ inl (λ i less.
+                  let n = kept_inputs-of q w g.view in
+                  let z : i < in_count w = omega (arith, n, less) in
+                  ap is_ended (kept_input-of q w g.view i z) ∙ all i (omega (arith, z, ins-w)))
               | inr e ↦ inr e
             ];
         closes = λ i fin. elim (cases_lt i (in_count w)) [
-          | inl lt ↦ closes-right ins outs kept i (omega (arith, lt, ins-w)) (ap (λ f. f.fin_in) (sym (kept_input-of q w g.view i lt)) ∙ fin)
-          | inr le ↦ let f : false ≡ true = ap (λ f. f.fin_in) (sym (kept_input-past q w g.view i le)) ∙ fin in absurd (cc)
+          | inl lt ↦ closes-right ins outs kept i (omega (arith, lt, ins-w))
+              (ap (λ f. f.fin_in) (sym (kept_input-of q w g.view i lt)) ∙ fin)
+          | inr le ↦
+              let f : false ≡ true = ap (λ f. f.fin_in) (sym (kept_input-past q w g.view i le))
+              ∙ fin in
+              absurd (cc)
         ];
         noted = λ i there n.
-            let lt : i < in_count w = subst (λ k. i < k) (kept-count w)
-            (subst (λ x. MayBeInput x i) g.view there) in
+            let lt : i < in_count w =
+            subst (λ k. i < k) (kept-count w) (subst (λ x. MayBeInput x i) g.view there) in
             noted-right ins outs kept i (omega (arith, lt, ins-w))
-            (noted-own s b (gathered_with s b.gathered q.work.unworked) b.gathered i (subst (λ z. NotesEnd (Some s) z i) shows-after
-            (subst (λ z. NotesEnd z (own_of q.work) i) g.spec_stays n)));
+            (noted-own s b (gathered_with s b.gathered (held_unworked k)) b.gathered i n);
       }

@@ -1,3 +1,4 @@
+pub mod Imports
 pub mod PortMoves
 pub mod PortSteps
 pub mod PushLaws
@@ -9,3 +10,4 @@ pub mod Through
 pub mod Resizing
 pub mod Parts
 pub mod Gathering
+pub mod SeveralTurns

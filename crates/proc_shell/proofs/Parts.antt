@@ -1,12 +1,8 @@
 -- A source of a part's rows has no input and one output.
 use Rattle.std.proofs.Common.{◌≡◌, ◌⊎◌, ℕ, ◌<◌, Bool, true, false, cond, ◌==◌, List, [], ◌∷◌, ◌++◌, length, append_assoc, Some, refl, sym, ap, ap₂, subst, ◌∙◌, arith, inl, inr}
-use Rattle.std.specs.List.{All}
-use Rattle.std.proofs.lemmas.List.{append-nil, length-append}
-use Rattle.chunk_data.specs.Values.{Row, Table}
-use Rattle.query_model.specs.declared.processor_spec.PartSpec.{PartSpec}
+use Rattle.proc_shell.proofs.Imports.{All, AreRead, BoxPicture, HasSize, HasSpecView, IsShelled, IsWorkOf, KeepsMeant, KeepsPart, Lists, PartSpec, Row, Stage, Table, append-nil, chunk_rows, kept_output, length-append, no_table, own_of, part, part_kernel, reading_of, work_of}
 use Rattle.query_model.specs.declared.processor_spec.Spec.TheVariants as spec
-use Rattle.proc_api.specs.Names.{BoxPicture, Lists, chunk_rows, kept_output, no_table, own_of, HasSize, IsWorkOf, KeepsPart}
-use Rattle.proc_shell.specs.Kernels.{AreRead, HasSpecView, IsShelled, KeepsMeant, Stage, part_kernel, reading_of, work_of}
+use Rattle.proc_shell.proofs.PortMoves.{both-none}
 use Rattle.proc_shell.proofs.Through.{IsInOrder, only-output, pushes-in-order}
 
 -- nothing is unworked, since no input is wanted
@@ -16,10 +12,6 @@ part_uses part unmade stage i unworked made e = elim e [
   | inl z ↦ ap₂ (λ n l. work_of (part_kernel part unmade stage) n l made) z.0 z.1
   | inr z ↦ absurd (cc)
 ]
-
-both-none : (xs ys : List Row) → xs ++ ys ≡ [] → (xs ≡ []) × (ys ≡ [])
-both-none [] ys e = (refl, e)
-both-none (x ∷ xs) ys e = absurd (cc)
 
 -- chunks with rows are none where there are no rows
 no-chunks : (P : Table → Type 0) (made : List Table) → ((t : Table) → P t → 0 < length t.rows) → All P made → chunk_rows made ≡ [] → made ≡ []

@@ -1,11 +1,7 @@
 -- What changing the first inputs of a view does, one after another.
 use Rattle.std.proofs.Common.{◌≡◌, ℕ, ◌+◌, ◌<◌, Bool, false, cond, refl, sym, ap, subst, ◌∙◌, arith}
-use Rattle.port_word.specs.Names.{Picture, input_at, output_at, in_count, out_count, is_in_finished, after_close, after_finish, after_need, closed, close_call, need_call}
-use Rattle.port_word.specs.declared.port_view.InputPort.{InputPort}
-use Rattle.port_word.proofs.Differences.{changed-by-none, changed-by-one, changed-by-both}
-use Rattle.proc_api.proofs.Turns.{TurnsInput, needing, close-turns, need-turns, finish-turns, finishing-leaves}
-use Rattle.proc_api.proofs.ShutPorts.{by-place, finishes-none, finishes-next}
-use Rattle.proc_shell.specs.Steps.{shut_open, ChangesInput, ChangesInputs, EndsOutputs}
+use Rattle.port_word.specs.Names.{Picture, input_at, in_count, is_in_finished, after_close, after_need, closed, close_call, need_call}
+use Rattle.proc_shell.proofs.Imports.{ChangesInput, ChangesInputs, InputPort, TurnsInput, by-place, changed-by-both, changed-by-none, changed-by-one, close-turns, need-turns, needing, shut_open}
 
 pub inputs-none : (f : ℕ → InputPort → InputPort) (v : Picture) → ChangesInputs f 0 v v
 inputs-none f v = record {
@@ -50,15 +46,3 @@ step-closes i v w lt e unended = record {
   turns = subst (λ u. TurnsInput v i (shut_open i (input_at v i)) u) (sym e)
       (subst (λ x. TurnsInput v i x (after_close v i)) (sym (ap (λ b. cond b (input_at v i) (closed (input_at v i))) unended)) (close-turns v i lt));
 }
-
-pub ends-none : (v : Picture) → EndsOutputs 0 v v
-ends-none v = record { front = finishes-none v; consumers = λ o. refl }
-
-pub ends-next : (n : ℕ) (v w u : Picture) → n < out_count v → u ≡ after_finish w n → EndsOutputs n v w → EndsOutputs (n + 1) v u
-ends-next n v w u lt e c =
-    let t = finish-turns w n (omega (arith, lt, c.front.outs)) in
-    record {
-      front = finishes-next n v w u lt e c.front;
-      consumers = λ o. ap (λ p. (output_at p o).fin_in) e ∙ by-place (λ j. (output_at (after_finish w n) j).fin_in ≡ (output_at v j).fin_in) n o
-          (ap (λ f. f.fin_in) t.here ∙ finishing-leaves (output_at w n) ∙ c.consumers n) (λ ne. ap (λ f. f.fin_in) (t.others o ne) ∙ c.consumers o);
-    }

@@ -1,17 +1,6 @@
 -- Pushing what was made.
-use Rattle.std.proofs.Common.{◌≡◌, ◌⊎◌, ℕ, ◌<◌, Bool, true, false, not, ◌&&◌, List, [], ◌∷◌, ◌++◌, length, refl, sym, ap, subst, ◌∙◌, arith, inl, inr}
-use Rattle.std.proofs.lemmas.Bool.{cases_lt}
-use Rattle.chunk_data.specs.Values.{Table}
-use Rattle.port_word.specs.Names.{Picture, output_at, out_count, can_push, is_out_finished, after_push, IsSound, push_call}
-use Rattle.port_word.specs.declared.flags.Flags.{Flags}
-use Rattle.port_word.proofs.Differences.{changed-by-none, changed-by-one}
-use Rattle.proc_api.proofs.CallLaws.{none-pushed, just-pushed}
-use Rattle.proc_api.proofs.Turns.{push-turns}
-use Rattle.proc_api.proofs.ShutPorts.{by-place}
-use Rattle.proc_shell.specs.declared.held.Held.{Held}
-use Rattle.proc_shell.specs.declared.held.Held.TheVariants.{Nothing, Unworked, Made}
-use Rattle.proc_shell.specs.Steps.{IsFree, held_made, held_unworked, source_of}
-use Rattle.proc_shell.specs.Turning.{IsCrowded, Pushes}
+use Rattle.std.proofs.Common.{◌≡◌, ◌⊎◌, ℕ, ◌<◌, List, [], ◌∷◌, ◌++◌, length, Some, refl, sym, ap, subst, ◌∙◌, arith, inl, inr}
+use Rattle.proc_shell.proofs.Imports.{Held, IsCrowded, IsFree, IsSound, Made, Nothing, Picture, Pushes, Row, Table, Unworked, after_push, by-place, cases_lt, changed-by-none, changed-by-one, empty-of, held_made, held_option, held_rows, held_unworked, is_out_finished, just-pushed, none-pushed, out_count, output_at, push-turns, push_call, source_of}
 use Rattle.proc_shell.proofs.PortMoves.{never-true}
 
 -- the view stays, and these chunks are dropped, where there is no output
@@ -47,14 +36,6 @@ pushes-none h v sound waits = still-pushes h h [] v sound refl refl refl (inl re
 pub pushes-nowhere : (c : Table) (v : Picture) → IsSound v → out_count v ≡ 0 → Pushes (Made c) Nothing v v
 pushes-nowhere c v sound none = still-pushes (Made c) Nothing (c ∷ []) v sound refl refl refl (inr none) (λ lt. absurd (omega (arith, lt)))
 
-empty-of : (f : Flags) → can_push f ≡ true → f.has_data ≡ false
-empty-of f e = go f.needed f.has_data f.fin_out e
-  where
-    go : (n d o : Bool) → (n && (not d && not o)) ≡ true → d ≡ false
-    go true true o e = absurd (cc)
-    go true false o e = refl
-    go false d o e = absurd (cc)
-
 -- the chunk leaves by an output that is free
 pub pushes-one : (c : Table) (v w : Picture) (o : ℕ) → IsSound v → IsFree v o → w ≡ after_push v o c → Pushes (Made c) Nothing v w
 pushes-one c v w o sound free e = subst (λ u. Pushes (Made c) Nothing v u) (sym e) made
@@ -87,3 +68,21 @@ pub never-made : {X : Type 0} (h : Held) → ((c : Table) → h ≡ Made c → �
 never-made Nothing never lt = absurd (omega (arith, lt))
 never-made (Unworked i c) never lt = absurd (omega (arith, lt))
 never-made (Made c) never lt = absurd (never c refl)
+
+-- a chunk with rows is passed on
+pub passes-some : (c : Table) (v w : Picture) (o : ℕ) → 0 < length c.rows → IsSound v → IsFree v o
+    → w ≡ after_push v o c → Pushes (held_option (Some c)) Nothing v w
+passes-some c v w o some sound free e = go c.rows some
+  where
+    go : (rows : List Row) → 0 < length rows → Pushes (held_rows rows c) Nothing v w
+    go [] lt = absurd (omega (arith, lt))
+    go (row ∷ rows) lt = pushes-one c v w o sound free e
+
+-- a chunk without rows is dropped
+pub passes-none : (c : Table) (v : Picture) → length c.rows ≡ 0 → IsSound v
+    → Pushes (held_option (Some c)) Nothing v v
+passes-none c v none sound = go c.rows none
+  where
+    go : (rows : List Row) → length rows ≡ 0 → Pushes (held_rows rows c) Nothing v v
+    go [] e = pushes-none Nothing v sound (λ lt. absurd (omega (arith, lt)))
+    go (row ∷ rows) e = absurd (omega (arith, e))

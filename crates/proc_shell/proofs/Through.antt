@@ -1,21 +1,10 @@
 -- Kinds of one input and one output, and among them those that make something of each chunk by itself.
 use Rattle.std.proofs.Common.{◌≡◌, ◌≢◌, ◌⊎◌, ℕ, ◌<◌, ◌==◌, Bool, true, false, cond, List, [], ◌∷◌, ◌++◌, length, take, drop, get_or, append_assoc, Option, Some, None, IfSome, refl, sym, ap, subst, ◌∙◌, arith, inl, inr}
-use Rattle.std.proofs.lemmas.Grind.{common_steps}
-use Rattle.std.proofs.lemmas.Bool.{cases_lt, eq-eqb, eqb-true, ne_eqb}
-use Rattle.std.proofs.lemmas.List.{append-nil, append_cancel_right, take-append-drop}
-use Rattle.chunk_data.specs.Values.{Row, Table}
-use Rattle.chunk_data.specs.declared.typed_value.ColumnType.{ColumnType}
-use Rattle.query_model.specs.declared.places.BadPlace.{BadPlace}
-use Rattle.query_model.specs.declared.processor_spec.Spec.{Spec}
+use Rattle.proc_api.proofs.MadeLaws.{more-rows}
+use Rattle.proc_shell.proofs.Imports.{AreCounts, AreLastPulled, ArePortsOf, BadPlace, BoxPicture, ColumnType, FitsInput, Flags, GrowthForm, HasMade, HasNotedEnd, HasReadEnough, HasSpecView, IsAtMost, IsPermutation, IsPulled, IsReadOut, IsShelled, IsWanting, IsWorkOf, KeepsMade, KeepsMeant, KeepsRows, KeepsThrough, KernelState, LetsPush, Lists, Makes, MakesTypes, Means, Offers, OwnState, PortFlags, Reading, Row, Spec, StandStill, Table, Takes, WorkState, all_rows, append-nil, append_cancel_right, by-place, cases_lt, chunk_rows, common_steps, eq-eqb, eqb-true, gathered_with, get_or-eq_default, kept_output, kept_ports, most_rows, ne_eqb, own_of, part, reading_of, rows-append, rows_of, take-append-drop, unworked_at, with_chunk, work_of}
 use Rattle.query_model.specs.declared.processor_spec.Spec.TheVariants as spec
-use Rattle.std.proofs.Math.ListN.{get_or-eq_default}
 use Rattle.port_word.specs.Pictures.{Picture, in_count, no_flags}
-use Rattle.port_word.specs.declared.flags.Flags.{Flags}
-use Rattle.proc_api.proofs.ShutPorts.{by-place}
-use Rattle.proc_api.specs.Names.{BoxPicture, PortFlags, WorkState, kept_output, kept_ports, GrowthForm, Lists, chunk_rows, HasMade, HasNotedEnd, OwnState, own_of, unworked_at, AreCounts, ArePortsOf, FitsInput, HasReadEnough, StandStill, IsAtMost, IsPulled, IsWorkOf, AreLastPulled, KeepsMade, KeepsRows, KeepsThrough, MakesTypes, most_rows, IsWanting}
-use Rattle.proc_api.proofs.Keeping.{rows-append}
 use Rattle.proc_shell.specs.declared.kernel.Offer.TheVariants as offer
-use Rattle.proc_shell.specs.Kernels.{HasSpecView, IsReadOut, IsShelled, KeepsMeant, KernelState, LetsPush, Makes, Means, Offers, Reading, Takes, gathered_with, reading_of, rows_of, with_chunk, work_of}
 
 -- ---- what is worked
 
@@ -31,6 +20,14 @@ chunk-elsewhere i j t worked ne = ap (λ b. worked j ++ cond b (t ∷ []) []) (n
 
 pub rows-here : (t : Table) (worked : Lists) → chunk_rows (with_chunk 0 t worked 0) ≡ chunk_rows (worked 0) ++ t.rows
 rows-here t worked = ap chunk_rows (chunk-here 0 t worked) ∙ one-more (worked 0) t
+
+-- the rows of all inputs with a chunk more
+pub all-more : (i : ℕ) (t : Table) (worked : Lists) → i < 32
+    → IsPermutation (all_rows 32 (with_chunk i t worked)) (all_rows 32 worked ++ t.rows)
+all-more i t worked lt =
+    subst (λ l. IsPermutation (all_rows 32 (with_chunk i t worked)) (all_rows 32 worked ++ l))
+    (append-nil t.rows) (more-rows 32 i worked (with_chunk i t worked) (t ∷ [])
+    (chunk-here i t worked) (λ j ne. chunk-elsewhere i j t worked ne) lt)
 
 -- ---- offers and rows
 

@@ -1,24 +1,8 @@
 -- What each turn of a shell moves.
 use Rattle.std.proofs.Common.{◌≡◌, ◌⊎◌, ℕ, zero, suc, ◌<◌, nat_lt, Bool, true, false, not, ◌&&◌, ◌||◌, cond, Some, length, refl, sym, ap, ap₂, subst, ◌∙◌, arith, inl, inr}
-use Rattle.std.proofs.lemmas.Bool.{cases_lt, lt-ltb, le-ltb}
-use Rattle.chunk_data.specs.Values.{Table}
-use Rattle.query_model.specs.declared.processor_spec.Spec.{Spec}
+use Rattle.proc_shell.proofs.Imports.{AllOutputsFinished, AnswerComes, AreWantedEmpty, AreWantedOver, ChangesInputs, ClosesNow, EndsNow, Finished, FinishesFront, Flags, HasEnough, HasNoRoom, HasRoom, Held, InputPort, IsCrowded, IsKernelOf, IsReadOut, IsWanted, IsWantedFull, KernelState, Leaves, Made, MayMake, Moves, NeedData, NeedsRoom, Nothing, Offer, Offers, OwnState, Ready, Spec, Status, StatusHolds, Table, Turns, Unworked, WantsMore, asked, by-place, cases_lt, changed-by-both, changed-by-none, changed-by-one, held_made, is_ended, is_nothing, le-ltb, lt-ltb, needing, needing-leaves, needing-needs, none-pulled, pull-turns, pushes_to, shut_open, taken_out, unasked}
 use Rattle.port_word.specs.Names.{Picture, input_at, output_at, in_count, out_count, can_push, holds_data, is_in_finished, is_out_finished, after_pull, closed, ChangedByCalls, pull_call}
-use Rattle.port_word.specs.declared.flags.Flags.{Flags}
-use Rattle.port_word.specs.declared.port_view.InputPort.{InputPort}
-use Rattle.port_word.proofs.Differences.{changed-by-none, changed-by-one, changed-by-both}
-use Rattle.proc_api.specs.Names.{pushes_to, taken_out, OwnState, AllOutputsFinished, HasNoRoom, HasRoom, is_ended, NeedsRoom, StatusHolds}
-use Rattle.proc_api.specs.declared.status.Status.{Status}
 use Rattle.proc_api.specs.declared.status.Status.TheVariants as status
-use Rattle.proc_api.proofs.CallLaws.{none-pulled}
-use Rattle.proc_api.proofs.Turns.{needing, needing-leaves, needing-needs, pull-turns}
-use Rattle.proc_api.proofs.ShutPorts.{by-place}
-use Rattle.proc_shell.specs.declared.held.Held.{Held}
-use Rattle.proc_shell.specs.declared.held.Held.TheVariants.{Nothing, Unworked, Made}
-use Rattle.proc_shell.specs.declared.kernel.Offer.{Offer}
-use Rattle.proc_shell.specs.Kernels.{HasEnough, IsKernelOf, IsReadOut, KernelState, Leaves, Offers, WantsMore}
-use Rattle.proc_shell.specs.Steps.{AreWantedEmpty, AreWantedOver, ChangesInputs, EndsOutputs, IsWanted, IsWantedFull, asked, held_made, is_nothing, shut_open, unasked}
-use Rattle.proc_shell.specs.Turning.{AnswerComes, ClosesNow, EndsNow, IsCrowded, MayMake, Moves, Turns}
 use Rattle.proc_shell.proofs.PortMoves.{never-true}
 
 -- ---- flags
@@ -171,15 +155,15 @@ quiet-inputs f n v w leaves c = record {
       | inr le ↦ rw (le-ltb i n le) (c.above i le, same-end (input_at v i))
     ]
 
-quiet-ends : (n : ℕ) (v w : Picture) → EndsOutputs n v w → Quiet v w
+quiet-ends : (n : ℕ) (v w : Picture) → FinishesFront n v w → Quiet v w
 quiet-ends n v w c = record {
-  changed = c.front.changed;
-  ins = c.front.ins;
-  outs = c.front.outs;
-  chunk = c.front.chunks.inputs;
-  ended = λ i. ap (λ x. is_ended x.flags) (c.front.inputs i);
+  changed = c.changed;
+  ins = c.ins;
+  outs = c.outs;
+  chunk = c.chunks.inputs;
+  ended = λ i. ap (λ x. is_ended x.flags) (c.inputs i);
   consumers = c.consumers;
-  pushes = c.front.chunks.outputs;
+  pushes = c.chunks.outputs;
 }
 
 -- a kernel that wasn't asked stays as it is
@@ -276,11 +260,16 @@ module _ (x : KernelState) (v : Picture) where
   moves-work (Unworked i c) r e w = moves-here (Unworked i c) status.Ready r tt (inl (omega arith))
 
   -- enough was read
-  pub moves-enough : (u w : Picture) → IsReadOut x.spec x.stage.fetched x.stage.bad → HasEnough x.spec x.own → ChangesInputs shut_open (in_count v) v u → EndsOutputs (out_count u) u w → Moves x Nothing Nothing v w status.Finished
+  pub moves-enough : (u w : Picture) → IsReadOut x.spec x.stage.fetched x.stage.bad
+      → HasEnough x.spec x.own → ChangesInputs shut_open (in_count v) v u
+      → FinishesFront (out_count u) u w → Moves x Nothing Nothing v w status.Finished
   moves-enough u w read enough c d =
       let law : StatusHolds status.Finished w = record {
-        inputs = λ i lt. let n : i < in_count v = omega (arith, lt, c.ins, d.front.ins) in ap (λ y. is_in_finished y.flags) (d.front.inputs i ∙ c.below i n) ∙ shut-over i (input_at v i);
-        outputs = λ o lt. d.front.finished o (omega (arith, lt, d.front.outs));
+        inputs = λ i lt.
+            let n : i < in_count v = omega (arith, lt, c.ins, d.ins) in
+            ap (λ y. is_in_finished y.flags) (d.inputs i ∙ c.below i n)
+            ∙ shut-over i (input_at v i);
+        outputs = λ o lt. d.finished o (omega (arith, lt, d.outs));
       } in
       quiet-moves Nothing w status.Finished (quiet-both v u w (quiet-inputs shut_open (in_count v) v u shut-end c) (quiet-ends (out_count u) u w d))
       (λ o lt f. inr (record { before = refl; after = refl; unmade = enough.nothing; noted = enough.noted; read = read; why = inl enough }))
@@ -288,16 +277,20 @@ module _ (x : KernelState) (v : Picture) where
       law tt (λ some all. refl) (λ none o lt unended. never-true (is_out_finished (output_at w o)) unended (law.outputs o lt)) (λ n. absurd n)
 
   -- nothing will come
-  pub moves-over : (wants : ℕ → Bool) (w : Picture) → MayMake v → IsReadOut x.spec x.stage.fetched x.stage.bad → WantsMore wants x.spec v x.own → AreWantedOver wants v → EndsOutputs (out_count v) v w → Moves x Nothing Nothing v w status.Finished
+  pub moves-over : (wants : ℕ → Bool) (w : Picture) → MayMake v
+      → IsReadOut x.spec x.stage.fetched x.stage.bad → WantsMore wants x.spec v x.own
+      → AreWantedOver wants v → FinishesFront (out_count v) v w
+      → Moves x Nothing Nothing v w status.Finished
   moves-over wants w r read more over d =
       let all = more.all_over over in
       let law : StatusHolds status.Finished w = record {
-        inputs = λ i lt. ap (λ y. is_in_finished y.flags) (d.front.inputs i) ∙ all i (omega (arith, lt, d.front.ins));
-        outputs = λ o lt. d.front.finished o (omega (arith, lt, d.front.outs));
+        inputs = λ i lt.
+            ap (λ y. is_in_finished y.flags) (d.inputs i) ∙ all i (omega (arith, lt, d.ins));
+        outputs = λ o lt. d.finished o (omega (arith, lt, d.outs));
       } in
       quiet-moves Nothing w status.Finished (quiet-ends (out_count v) v w d)
       (λ o lt f. inr (record { before = refl; after = refl; unmade = more.nothing; noted = more.noted over; read = read; why = inr (all, room-unfinished v r) }))
-      (λ i lt f. inl (ap (λ y. y.flags.fin_in) (sym (d.front.inputs i)) ∙ f))
+      (λ i lt f. inl (ap (λ y. y.flags.fin_in) (sym (d.inputs i)) ∙ f))
       law tt (λ some all. refl) (λ none o lt unended. never-true (is_out_finished (output_at w o)) unended (law.outputs o lt)) (λ n. absurd n)
 
   -- a wanted input isn't finished, and empty

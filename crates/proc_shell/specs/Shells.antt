@@ -1,5 +1,5 @@
 -- What is seen of a shell, and what its calls do.
-use Rattle.std.specs.Prelude.{◌≡◌, ◌≢◌, ◌⊎◌, ℕ, ◌≤◌, true, false, List, Option, Some, None, Result, Ok, Err}
+use Rattle.std.specs.Prelude.{◌≡◌, ◌≢◌, ◌⊎◌, ℕ, ◌+◌, ◌≤◌, Bool, true, false, List, Option, Some, None, Result, Ok, Err}
 use Rattle.chunk_data.specs.Values.{Table}
 use Rattle.query_model.specs.Names.{Files, kind_of}
 use Rattle.query_model.specs.declared.processor_spec.Kind.{Kind}
@@ -8,13 +8,13 @@ use Rattle.query_model.specs.declared.processor_spec.Spec.{Spec}
 use Rattle.port_word.specs.Names.{Picture, in_count, out_count, ChangedByCalls}
 use Rattle.proc_api.specs.declared.status.Answer.TheVariants.{Prepared, Scheduled}
 use Rattle.proc_api.specs.declared.status.Wake.{Wake}
-use Rattle.proc_api.specs.Names.{BoxPicture, Notes, RowCount, WorkState, idle_work, no_notes, handed_out_by, OwnState, ArePortsOf, IsShut, IsWorkOf, SameChunks, port_flags}
+use Rattle.proc_api.specs.Names.{BoxPicture, Notes, RowCount, WorkState, idle_work, no_notes, handed_out_by, FollowsKept, IsRunning, OwnState, PreparesLawfully, ArePortsOf, IsShut, IsWorkOf, SameChunks, port_flags, rows_pulled}
 use Rattle.proc_api.specs.declared.status.Status.{Status}
 use Rattle.proc_api.specs.declared.status.WorkFault.{WorkFault}
 use Rattle.proc_api.specs.declared.status.Status.TheVariants as status
 use Rattle.proc_shell.specs.declared.held.Held.{Held}
 use Rattle.proc_shell.specs.declared.held.Held.TheVariants.{Nothing, Unworked, Made}
-use Rattle.proc_shell.specs.Steps.{CountsRows, held_made, held_option, held_unworked, is_unworked, rows_since, source_of}
+use Rattle.proc_shell.specs.Steps.{CountsRows, held_made, held_option, held_unworked, source_of}
 use Rattle.proc_shell.specs.Kernels.{Begins, IsKernelOf, IsLeftOf, IsShelled, IsValid, KernelState, Makes, Takes, first_stage, work_of}
 use Rattle.proc_shell.specs.Turning.{Pushes, Turns}
 
@@ -113,37 +113,59 @@ pub record IsBegun (s : Spec) (p : ShellPart) : Type 0 where
   pub shelled : IsShelled p.kernel.spec
   pub uses : IsWorkOf (Some p.kernel.spec) (part_work p)
 
--- A prepare over a view with the ports of the spec: what was made is pushed, and then the turn is taken that is due.
-pub record Passes (p : ShellPart) (v : Picture) (n : RowCount) (q : ShellPart) (w : Picture) (m : RowCount) (s : Status) : Type 0 where
+-- the notes of a view that a prepare leaves, and of its answer
+abbrev pub with_view : Picture → Status → Notes → Notes
+with_view w s n = record n { view = Some (port_flags w); answer = Some (Prepared s); acted = false }
+
+-- What was made is pushed, and then the turn is taken that is due. The view has the ports of the
+-- spec.
+pub record Passes (p : ShellPart) (v : Picture) (n : RowCount) (q : ShellPart) (w : Picture)
+    (m : RowCount) (s : Status)
+    : Type 0 where
   pub held : Held
   pub view : Picture
   pub pushes : Pushes p.held held v view
   pub turns : Turns p.kernel q.kernel.own held q.held view w s
-  pub counts : CountsRows (rows_since (is_unworked p.held) q.held) n m
-  pub notes : q.notes ≡ record p.notes { view = Some (port_flags w); answer = Some (Prepared s); acted = false }
+  pub counts : CountsRows (rows_pulled view w) n m
+  pub notes : q.notes ≡ with_view w s p.notes
 
 -- a prepare over a view with other ports
-pub record ShutsPart (p : ShellPart) (v : Picture) (n : RowCount) (q : ShellPart) (w : Picture) (m : RowCount) (s : Status) : Type 0 where
+pub record ShutsPart (p : ShellPart) (v : Picture) (n : RowCount) (q : ShellPart) (w : Picture)
+    (m : RowCount) (s : Status)
+    : Type 0 where
   pub changed : ChangedByCalls v w
   pub shut : IsShut w
   pub chunks : SameChunks v w
   pub status : s ≡ status.Finished
   pub counts : CountsRows 0 n m
-  pub notes : q.notes ≡ record p.notes { view = Some (port_flags w); answer = Some (Prepared s); acted = false; fits = false }
+  pub notes : q.notes ≡ with_view w s (record p.notes { fits = false })
 
--- a part of a box of the kind, whose kernel goes on with another state of its own
-pub record Suits (k : Kind) (p q : ShellPart) : Type 0 where
-  pub kernel : IsKernelOf p.kernel q.kernel
-  pub kind : (p.kernel.kind ≡ k) × (kind_of p.kernel.spec ≡ k)
-  pub shelled : IsShelled p.kernel.spec
-  pub uses : IsWorkOf (Some p.kernel.spec) (part_work q)
+-- a kernel of the kind, which goes on with another state of its own and a chunk that is held
+pub record Suits (k : Kind) (x y : KernelState) (h : Held) : Type 0 where
+  pub kernel : IsKernelOf x y
+  pub kind : (x.kind ≡ k) × (kind_of x.spec ≡ k)
+  pub shelled : IsShelled x.spec
+  pub uses : IsWorkOf (Some x.spec) (work_of y (source_of h) (held_unworked h) (held_made h))
 
--- a prepare
-pub record PartPrepares (k : Kind) (p : ShellPart) (v : Picture) (n : RowCount) (q : ShellPart) (w : Picture) (m : RowCount) (s : Status) : Type 0 where
-  pub suits : Suits k p q
-  pub few : out_count v ≤ 16
-  pub few_in : in_count v ≤ 32
-  pub way : (HasSpecPorts p.kernel.spec v × Passes p v n q w m s) ⊎ ((HasSpecPorts p.kernel.spec v → ⊥) × ShutsPart p v n q w m s)
+-- a prepare: what every box owes, and what a lawful one owes, whatever its reader is
+pub record PartPrepares (k : Kind) (p : ShellPart) (v : Picture) (n : RowCount) (q : ShellPart)
+    (w : Picture) (m : RowCount) (s : Status)
+    : Type 0 where
+  pub suits : Suits k p.kernel q.kernel q.held
+  pub changed : ChangedByCalls v w
+  pub grows : n.total ≤ m.total
+  pub since : m.total + n.since ≡ n.total + m.since
+  pub fits : Bool
+  pub notes : q.notes ≡ with_view w s (record p.notes { fits = fits })
+  pub lawful : (d : Option ReaderView) → IsRunning (part_seen k d n p)
+      → FollowsKept (part_seen k d n p) v
+      → PreparesLawfully (part_seen k d n p) v (part_seen k d m q) w s
+
+-- chunks are moved, as in a prepare of a part with any notes
+abbrev pub AreMoved : Kind → KernelState → Held → Picture → RowCount
+    → KernelState → Held → Picture → RowCount → Status → Type 0
+AreMoved k x h v n y j w m s =
+    (notes : Notes) → PartPrepares k (part x h notes) v n (part y j (with_view w s notes)) w m s
 
 pub record TakesHeld (x : KernelState) (i : ℕ) (t : Table) (new : OwnState) (h : Held) : Type 0 where
   pub out : Option Table
@@ -164,7 +186,7 @@ WorksHeld x (Unworked i t) new k = TakesHeld x i t new k
 
 -- a work, before which no chunk waits
 pub record PartWorks (k : Kind) (p q : ShellPart) : Type 0 where
-  pub suits : Suits k p q
+  pub suits : Suits k p.kernel q.kernel q.held
   pub works : WorksHeld p.kernel p.held q.kernel.own q.held
   pub notes : q.notes ≡ record p.notes { acted = true }
 

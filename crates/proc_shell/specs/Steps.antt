@@ -3,7 +3,7 @@ use Rattle.std.specs.Prelude.{◌≡◌, ℕ, ◌+◌, ◌<◌, ◌≤◌, nat_l
 use Rattle.chunk_data.specs.Values.{Row, Table}
 use Rattle.port_word.specs.Names.{Picture, input_at, output_at, in_count, out_count, can_push, holds_data, is_in_finished, is_out_finished, closed, ChangedByCalls}
 use Rattle.port_word.specs.declared.port_view.InputPort.{InputPort}
-use Rattle.proc_api.specs.Names.{RowCount, chunk_rows, pushes_to, raised, FinishesFront}
+use Rattle.proc_api.specs.Names.{RowCount, chunk_rows, pushes_to, raised}
 use Rattle.proc_api.specs.declared.status.Answer.{Answer}
 use Rattle.proc_api.specs.declared.status.Answer.TheVariants.{Prepared, Scheduled}
 use Rattle.proc_api.specs.declared.status.Status.TheVariants as status
@@ -140,8 +140,3 @@ pub record ChangesInputs (f : ℕ → InputPort → InputPort) (n : ℕ) (v w : 
   pub above : (i : ℕ) → n ≤ i → input_at w i ≡ input_at v i
   pub outputs : (o : ℕ) → output_at w o ≡ output_at v o
   pub pushes : (o : ℕ) → pushes_to o w.actions ≡ pushes_to o v.actions
-
--- the first n outputs were finished, and their consumers' flags stay
-pub record EndsOutputs (n : ℕ) (v w : Picture) : Type 0 where
-  pub front : FinishesFront n v w
-  pub consumers : (o : ℕ) → (output_at w o).fin_in ≡ (output_at v o).fin_in

@@ -1,6 +1,6 @@
 ghost use Rattle.std.specs.Prelude.{◌≡◌};
 ghost use Rattle.proc_shell.specs.Kernels.{chunk_list};
-ghost use Rattle.proc_shell.specs.Steps.{held_option, held_unworked, is_unworked, rows_since};
+ghost use Rattle.proc_shell.specs.Steps.{held_option, held_unworked, is_unworked, rows_since as since};
 
 use chunk_data::Chunk;
 
@@ -37,8 +37,8 @@ pub(crate) fn holds_unworked(held: &Held) -> bool
 }
 
 /// How many rows were pulled, by whether a chunk was unworked before, and what is held now.
-pub(crate) fn rows_pulled(unworked: bool, held: &Held) -> usize
-    ensures { result ≡ rows_since unworked held.now }
+pub(crate) fn rows_since(unworked: bool, held: &Held) -> usize
+    ensures { result ≡ since unworked held.now }
 {
     if unworked {
         return 0;

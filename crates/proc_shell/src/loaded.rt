@@ -4,9 +4,9 @@ ghost use Rattle.proc_shell.specs.Kernels.{Fails, IsKernelOf, IsLeftOf};
 ghost use Rattle.proc_shell.specs.Shells.{IsBegun, WorksHeld, part};
 ghost use Rattle.proc_shell.specs.Steps.{is_wanted, not_made, suits};
 
-use crate::held::{Held, held_of, holds_unworked, rows_pulled, unworked_of};
+use crate::held::{Held, held_of, unworked_of};
 use crate::kernel::Kernel;
-use crate::turns::{push_made, take_turn};
+use crate::turns::move_chunks;
 use chunk_data::{Chunk, Memory};
 use port_word::PortView;
 use proc_api::{BoxNotes, PulledRows, Status, Wake, WorkFault, shut_down};
@@ -82,10 +82,7 @@ impl<K: Kernel> Loaded<K> {
             self.notes.note_view(view, Status::Finished);
             return Status::Finished;
         }
-        let unworked = holds_unworked(&self.held);
-        push_made(&mut self.held, view);
-        let status = take_turn(&mut self.kernel, &mut self.held, view);
-        pulled.add(rows_pulled(unworked, &self.held));
+        let status = move_chunks(&mut self.kernel, &mut self.held, view, pulled);
         self.notes.note_view(view, status);
         status
     }

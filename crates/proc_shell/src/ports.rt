@@ -2,7 +2,7 @@ ghost use Rattle.std.specs.Prelude.{◌≡◌, ◌↔◌, ℕ, ◌<◌, ◌≤�
 ghost use Rattle.port_word.specs.Pictures.{in_count, out_count};
 ghost use Rattle.proc_api.specs.Ports.{AllOutputsFinished, HasNoRoom};
 ghost use Rattle.proc_shell.specs.Turning.{IsCrowded, MayMake};
-ghost use Rattle.proc_shell.specs.Steps.{asked, AreWantedEmpty, AreWantedOver, ChangesInput, ChangesInputs, EndsOutputs, IsFree, IsWanted, IsWantedFull, shut_open, unasked};
+ghost use Rattle.proc_shell.specs.Steps.{asked, AreWantedEmpty, AreWantedOver, ChangesInput, ChangesInputs, IsFree, IsWanted, IsWantedFull, shut_open, unasked};
 
 use crate::kernel::Kernel;
 use port_word::PortView;
@@ -124,14 +124,5 @@ pub(crate) fn close_each(view: &mut PortView)
 {
     for i in 0..view.inputs() {
         close_open(view, i);
-    }
-}
-
-/// Finishes each output.
-pub(crate) fn finish_each(view: &mut PortView)
-    ensures { EndsOutputs (out_count view.old) view.old view.new }
-{
-    for o in 0..view.outputs() {
-        view.finish(o);
     }
 }

@@ -1,18 +1,6 @@
 -- What is held of the inputs of a merge, as ends are noted and the first row is looked for.
 use Rattle.std.proofs.Common.{◌≡◌, ◌⊎◌, ℕ, zero, suc, ◌+◌, ◌<◌, Bool, true, false, List, [], ◌∷◌, ◌++◌, length, get_or, not, refl, sym, ap, ap₂, subst, ◌∙◌, arith, inl, inr}
-use Rattle.std.specs.Cmp.{IsStrictWeakOrder, bool_cmp_total, on_total, then_total}
-use Rattle.std.specs.List.{list_all}
-use Rattle.std.specs.Ordering.{bool_cmp, is_lt, ordering_then}
-use Rattle.std.proofs.lemmas.Bool.{and_from, and_parts, cases_lt, leb-true}
-use Rattle.std.proofs.lemmas.Cmp.{tied_itself}
-use Rattle.std.proofs.lemmas.List.{get_or_past, get_or_read, length-append}
-use Rattle.std.proofs.lemmas.List.Sorted.{ranks_by}
-use Rattle.chunk_data.specs.Names.{row_cmp}
-use Rattle.chunk_data.specs.declared.typed_value.SortKey.{SortKey}
-use Rattle.query_model.proofs.AnswerLaws.{row_cmp_total}
-use Rattle.proc_api.specs.Names.{head_at}
-use Rattle.sort_procs.specs.declared.heads.Head.{Head}
-use Rattle.sort_procs.specs.Heads.{AreBlank, IsFirstOf, at, first_row, head_cmp, head_of, heads_of, is_used, no_head}
+use Rattle.sort_procs.proofs.Imports.{AreBlank, Head, IsFirstOf, IsStrictWeakOrder, SortKey, and_from, and_parts, at, bool_cmp, bool_cmp_total, cases_lt, first_row, get_or_past, get_or_read, head_at, head_cmp, head_of, heads_of, is_lt, is_used, leb-true, length-append, list_all, no_head, on_total, ordering_then, ranks_by, row_cmp, row_cmp_total, then_total, tied_itself}
 
 -- a head that was read
 pub read-at : (heads : List Head) (i : ℕ) (x : Head) → i < length heads → x ≡ get_or heads i x

@@ -1,3 +1,4 @@
+pub mod Imports
 mod RankLaws
 mod SortingLaws
 mod HeadLaws

@@ -1,29 +1,7 @@
 -- The clauses of a merge's kernel.
 use Rattle.std.proofs.Common.{◌≡◌, ◌⊎◌, ℕ, suc, ◌+◌, ◌<◌, ◌≤◌, max, ◌||◌, ◌&&◌, not, Bool, true, false, cond, List, [], ◌∷◌, ◌++◌, length, map, take, drop, get_or, set, append_assoc, Some, None, Result, Ok, Err, IfOk, refl, sym, ap, ap₂, subst, ◌∙◌, arith, inl, inr}
-use Rattle.std.specs.List.{list_all}
-use Rattle.std.specs.Ordering.{is_lt}
-use Rattle.std.proofs.Math.Seq.{drop-cons}
-use Rattle.std.proofs.lemmas.Bool.{and_from, and_parts, cases_lt, cond_both, not-true, le-leb, le-ltb, leb-false, leb-true, lt-leb, lt-ltb, or_left, or_right}
-use Rattle.std.proofs.lemmas.List.{append-nil, drop_all, get_or-map, get_or-set_same, length-append, length-drop, length-map, length-set, map-set, nil_from_length}
-use Rattle.std.proofs.lemmas.List.Folds.{list_all-map}
-use Rattle.chunk_data.specs.Names.{AreColumns, FitsTypes, IsTable, Row, Table, joined, kind_of, row_cmp, rows_of, value_at, values}
-use Rattle.chunk_data.specs.declared.typed_value.Value.TheVariants.{Text}
-use Rattle.chunk_data.specs.declared.typed_column.Column.{Column}
-use Rattle.chunk_data.proofs.Chunks.{AreColumns-push, rows_of_pushed, written_back}
-use Rattle.chunk_data.proofs.Laws.{length-FitsTypes, length-rows_of}
-use Rattle.chunk_data.specs.declared.lists.Memory.{Memory}
-use Rattle.query_model.specs.declared.processor_spec.SortSpec.{SortSpec}
+use Rattle.sort_procs.proofs.Imports.{AreBlank, AreColumns, AreColumns-push, AreHeadsOf, AreMerged, AreWantedOver, Begins, Column, FitsOrder, FitsTypes, Head, InputHead, IsFirstOf, IsTable, Leaves, Makes, Memory, Merges, MergesRows, MergesSome, NotesEnds, Offer, OfferComes, Offers, Picture, Row, SortSpec, Table, Takes, Text, WantsMore, and_from, and_parts, append-nil, at, cases_lt, chunk_rows, cond_both, drop-cons, drop_all, first_row, get_or-map, get_or-set_same, head_at, head_of, head_rows, heads_of, in_count, input_at, is_in_finished, is_lt, is_open_at, is_over_at, is_ready, is_ready_head, is_used, joined, kind_of, le-leb, le-ltb, leb-false, leb-true, length-FitsTypes, length-append, length-drop, length-map, length-rows_of, length-set, list_all, list_all-map, lt-leb, lt-ltb, map-set, merging_own, nil_from_length, no_head, not-true, or_left, or_right, row_cmp, rows_of, rows_of_pushed, value_at, values, with_chunk, written_back}
 use Rattle.query_model.specs.declared.processor_spec.Spec.TheVariants as spec
-use Rattle.port_word.specs.Names.{Picture, in_count, input_at, is_in_finished}
-use Rattle.proc_api.specs.Boxes.{InputHead}
-use Rattle.proc_api.specs.Made.{is_ready_head}
-use Rattle.proc_api.specs.Names.{AreMerged, FitsOrder, chunk_rows, head_at, head_rows}
-use Rattle.proc_shell.specs.declared.kernel.Offer.{Offer}
-use Rattle.proc_shell.specs.Kernels.{Begins, Leaves, Makes, OfferComes, Offers, Takes, WantsMore, with_chunk}
-use Rattle.proc_shell.specs.Steps.{AreWantedOver}
-use Rattle.sort_procs.specs.declared.heads.Head.{Head}
-use Rattle.sort_procs.specs.Heads.{AreBlank, AreHeadsOf, IsFirstOf, NotesEnds, at, first_row, head_of, heads_of, is_over_at, is_ready, is_used, no_head}
-use Rattle.sort_procs.specs.Merging.{Merges, MergesRows, MergesSome, is_open_at, merging_own}
 use Rattle.sort_procs.proofs.HeadLaws.{all-pass, each-passes, head-at, read-at}
 use Rattle.sort_procs.proofs.MergingLaws.{merged-made, merged-none, merged-noted, merged-taken, same-heads, set-each}
 

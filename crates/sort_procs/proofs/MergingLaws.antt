@@ -1,20 +1,7 @@
 -- What a merge has made, as chunks are taken, ends noted and first rows made.
 use Rattle.std.proofs.Common.{◌≡◌, ◌≢◌, ℕ, zero, suc, ◌<◌, ◌||◌, nat_lt, Bool, true, false, List, [], ◌∷◌, ◌++◌, length, get_or, set, append_assoc, refl, sym, ap, ap₂, subst, ◌∙◌, arith, inl, inr, IsPermutation, IsSorted}
-use Rattle.std.specs.List.{AllByRecursion, Contains}
-use Rattle.std.specs.Ordering.{is_lt}
-use Rattle.std.proofs.lemmas.Bool.{cases_eq}
-use Rattle.std.proofs.lemmas.List.{append-nil, get_or-set_other, get_or-set_same}
-use Rattle.std.proofs.lemmas.List.Elements.{Contains-append_left, Contains-append_right}
-use Rattle.std.proofs.lemmas.List.Sorted.{IsPermutation-append_comm, IsPermutation-append_left, IsPermutation-append_right, IsPermutation-middle, IsPermutation-refl, IsPermutation-trans}
-use Rattle.chunk_data.specs.Names.{Row, Table, row_cmp}
-use Rattle.chunk_data.specs.declared.typed_value.SortKey.{SortKey}
-use Rattle.proc_api.specs.Boxes.{InputHead}
+use Rattle.sort_procs.proofs.Imports.{AllByRecursion, AreInputsSorted, AreMerged, Contains, Contains-append_left, Contains-append_right, InOrder, InputHead, IsBeforeNone, IsPermutation-append_comm, IsPermutation-append_left, IsPermutation-append_right, IsPermutation-middle, IsPermutation-refl, IsPermutation-trans, Lists, Row, SortKey, Table, all-more, all_rows, append-nil, cases_eq, chunk-elsewhere, chunk-here, chunk_rows, every-append, every-back, every-contains, every-front, every-none, every-permuted, every-weaker, get_or-set_other, get_or-set_same, head_at, head_rows, is_lt, no-rows, no_lists, one-more, order-back, order-cross, order-from_sorted, order-front, order-joined, row_cmp, rows-ordered, sorted-from_order, with_chunk}
 use Rattle.proc_api.specs.Made.{AreLast, HeldBack, is_ready_head, no_head}
-use Rattle.proc_api.specs.Names.{AreInputsSorted, AreMerged, IsBeforeNone, Lists, all_rows, chunk_rows, head_at, head_rows, no_lists}
-use Rattle.proc_api.proofs.Orders.{InOrder, every-append, every-back, every-contains, every-front, every-none, every-permuted, every-weaker, order-back, order-cross, order-from_sorted, order-front, order-joined, rows-ordered, sorted-from_order}
-use Rattle.proc_shell.specs.Kernels.{with_chunk}
-use Rattle.proc_shell.proofs.Resizing.{more-rows, no-rows}
-use Rattle.proc_shell.proofs.Through.{chunk-elsewhere, chunk-here, one-more}
 
 -- more rows behind those that are held of one input
 moved : (m f b t : List Row) → IsPermutation ((m ++ (f ++ b)) ++ t) (m ++ (f ++ (t ++ b)))
@@ -183,16 +170,12 @@ module _ (keys : List SortKey) where
     pub merged-taken : AreMerged keys taken more made
     merged-taken = record {
       same_rows =
-          IsPermutation-trans _ _ _
-          (more-rows 32 i worked more (t ∷ []) (chunk-here i t worked)
-          (λ j ne. chunk-elsewhere i j t worked ne) within)
-          (subst (λ l. IsPermutation (all_rows 32 worked ++ l) (made ++ head_rows taken))
-          (sym (append-nil t.rows))
+          IsPermutation-trans _ _ _ (all-more i t worked within)
           (IsPermutation-trans _ _ _ (IsPermutation-append_left t.rows _ _ h.same_rows)
           (subst (λ l. IsPermutation ((made ++ l) ++ t.rows) (made ++ head_rows taken))
           (sym old-rows)
           (subst (λ l. IsPermutation ((made ++ (held.front ++ held.back)) ++ t.rows) (made ++ l))
-          (sym held.new_are) (moved made held.front held.back t.rows)))));
+          (sym held.new_are) (moved made held.front held.back t.rows))));
       heads_are = set-each heads i new no_head
           (λ j n. j < 32 → AreLast n.rows (chunk_rows (more j))) at-i
           (λ less. record { front = chunk_rows (worked i); is = here })

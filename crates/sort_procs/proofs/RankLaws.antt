@@ -2,33 +2,8 @@
 -- those
 -- of the rows in order.
 use Rattle.std.proofs.Common.{◌<ℤ◌, ◌+ℤ◌, ◌≡◌, ◌⊎◌, ℕ, ℤ, pos, zero, suc, ◌+◌, ◌*◌, ◌^◌, ◌<◌, ◌≤◌, leb, Bool, true, false, List, [], ◌∷◌, length, map, get_or, drop, take, ◌++◌, refl, sym, ap, subst, ◌∙◌, arith, inl, inr, IsPermutation}
-use Rattle.std.specs.Prelude.{IsSortedBy}
-use Rattle.std.specs.List.{All}
-use Rattle.std.proofs.Math.ListN.{get_or-eq_default}
-use Rattle.std.proofs.Math.Nat.{mul-le-mul_left, mul-suc}
-use Rattle.std.proofs.Math.Seq.{drop-cons}
-use Rattle.std.proofs.lemmas.Bool.{cases_lt, le-leb, lt-ltb, lt-leb}
-use Rattle.std.proofs.lemmas.Cmp.{tied_itself}
-use Rattle.std.proofs.lemmas.Int.{ints}
-use Rattle.std.proofs.lemmas.List.{drop_all, get_or-map, get_or_past, length-map, map-append, take_all, take_more}
-use Rattle.std.specs.Cmp.{IsTotalOrder, bool_cmp_total, int_cmp_is, nat_cmp_total, on_total, then_total}
-use Rattle.std.specs.Ordering.{bool_cmp, int_cmp, is_lt, nat_cmp, ordering_reverse, ordering_then}
-use Rattle.std.specs.declared.cmp.Ordering.{Ordering}
-use Rattle.std.specs.declared.cmp.Ordering.TheVariants.{Less, Equal}
-use Rattle.std.proofs.lemmas.List.Elements.{All-append, All-map}
-use Rattle.std.proofs.lemmas.List.Sorted.{All-permutation, IsPermutation-map}
-use Rattle.query_model.specs.Sources.{count_up}
-use Rattle.chunk_data.proofs.Laws.{column_fits}
+use Rattle.sort_procs.proofs.Imports.{AgreeOnKey, All, All-append, All-map, All-permutation, AreBytes, Equal, HasRank, Int, IsKeyRank, IsPermutation-map, IsRank, IsSortedBy, IsTable, IsTotalOrder, IsValueRank, Less, Ordering, Ranked, Row, SortKey, SortsPlaces, Table, Text, UInt, Value, bool_cmp, bool_cmp_total, cases_lt, column_fits, count_up, drop-cons, drop_all, get_or-eq_default, get_or-map, get_or_past, int_cmp, int_cmp_is, ints, is_lt, key_cmp, le-leb, length-map, lt-leb, lt-ltb, map-append, map-map, mul-le-mul_left, mul-suc, nat_cmp, nat_cmp_total, on_total, ordering_reverse, ordering_then, place_cmp, place_of, ranked_cmp, row_at, row_cmp, row_cmp_total, rows_at, take_all, take_more, text_cmp, text_rank, then_total, tied_itself, type_of, value_at, value_cmp, value_cmp_total, weight}
 use Rattle.chunk_data.specs.declared.typed_value.ColumnType.TheVariants as column
-use Rattle.chunk_data.specs.Names.{AgreeOnKey, IsTable, Row, Table, key_cmp, row_cmp, text_cmp, type_of, value_at, value_cmp, row_at}
-use Rattle.chunk_data.specs.declared.typed_value.SortKey.{SortKey}
-use Rattle.chunk_data.specs.declared.typed_value.Value.{Value}
-use Rattle.chunk_data.specs.declared.typed_value.Value.TheVariants.{Int, UInt, Text}
-use Rattle.query_model.proofs.Lists.{map-map}
-use Rattle.query_model.proofs.AnswerLaws.{row_cmp_total}
-use Rattle.query_model.proofs.ValueOrder.{value_cmp_total}
-use Rattle.sort_procs.specs.declared.ranks.Ranked.{Ranked}
-use Rattle.sort_procs.specs.Ranks.{HasRank, IsKeyRank, IsRank, IsValueRank, SortsPlaces, place_cmp, place_of, ranked_cmp, rows_at, text_rank, weight, AreBytes}
 
 -- ---- texts
 

@@ -1,23 +1,8 @@
 -- A sort gathers the rows of its chunks, and then makes them in order.
 use Rattle.std.proofs.Common.{◌+◌, ◌-◌, ◌⊎◌, IsPermutation, IsSorted, ◌≡◌, ◌↔◌, ℕ, ◌<◌, ◌||◌, nat_lt, min, max, Bool, true, false, IsTrue, List, [], ◌∷◌, ◌++◌, length, get_or, take, drop, append_assoc, Option, Some, None, refl, sym, ap, subst, ◌∙◌, arith, inl, inr}
-use Rattle.std.specs.List.{All, AllByRecursion}
-use Rattle.std.specs.Ordering.{is_lt}
-use Rattle.std.proofs.lemmas.List.{append-nil, drop-drop, length-append, length-drop, length-map, length-take, map-append, take-append-drop}
-use Rattle.std.proofs.lemmas.List.Sorted.{IsPermutation-append_right, IsPermutation-sym, IsPermutation-trans, length_permutation}
-use Rattle.std.proofs.lemmas.Bool.{lt-ltb, ltb-true, or_right}
-use Rattle.chunk_data.specs.Names.{row_at, AgreeOnKey, Row, Table, row_cmp}
-use Rattle.chunk_data.specs.declared.typed_value.SortKey.{SortKey}
-use Rattle.query_model.specs.declared.processor_spec.SortSpec.{SortSpec}
+use Rattle.sort_procs.proofs.Imports.{AgreeOnKey, All, AllByRecursion, AreKeysWithin, AreSorted, IsPermutation-append_right, IsPermutation-sym, IsPermutation-trans, IsSortOf, Makes, Offer, OfferComes, Offers, OwnState, PutsInOrder, Ranked, Row, SortKey, SortSpec, SortsPlaces, Table, WantsMore, append-nil, chunk_rows, drop-drop, every-permuted, every-turned, is_lt, length-append, length-drop, length-map, length-take, length_permutation, lt-ltb, ltb-true, makes-nothing, map-append, or_right, order-cross, order-from_sorted, order-front, order-joined, ordered, ordered-order, ordered-same, row_at, row_cmp, rows-ordered, rows_at, rows_left, sorted-from_order, sorting_own, take-append-drop}
 use Rattle.query_model.specs.declared.processor_spec.Spec.TheVariants as spec
 use Rattle.port_word.specs.Pictures.{Picture, in_count, input_at, is_in_finished}
-use Rattle.proc_api.specs.Names.{chunk_rows, AreKeysWithin, AreSorted, IsSortOf, OwnState}
-use Rattle.proc_api.proofs.Orders.{every-permuted, every-turned, order-cross, order-from_sorted, order-front, order-joined, ordered, ordered-same, ordered-order, rows-ordered, sorted-from_order}
-use Rattle.proc_shell.specs.declared.kernel.Offer.{Offer}
-use Rattle.proc_shell.specs.Kernels.{Makes, OfferComes, Offers, WantsMore}
-use Rattle.proc_shell.proofs.Through.{makes-nothing}
-use Rattle.sort_procs.specs.declared.ranks.Ranked.{Ranked}
-use Rattle.sort_procs.specs.Ranks.{SortsPlaces, rows_at}
-use Rattle.sort_procs.specs.Sorting.{PutsInOrder, rows_left, sorting_own}
 
 nothing-of : (rows : List Row) → (0 < length rows → ⊥) → rows ≡ []
 nothing-of [] h = refl

@@ -1,7 +1,5 @@
 use Rattle.std.proofs.Common.{true, cond, sym, ap, ◌∙◌}
-use Rattle.port_word.specs.Pictures.{input_at}
-use Rattle.proc_api.proofs.Turns.{needing}
-use Rattle.proc_shell.specs.Steps.{asked}
+use Rattle.proc_shell.proofs.Imports.{asked, input_at, needing}
 use Rattle.proc_shell.proofs.PortSteps.{step-needs}
 use Rattle.proc_shell.proofs.ports.ask_wanted.Goals as goal
 

@@ -1,8 +1,5 @@
 use Rattle.std.proofs.Common.{is_some, refl, sym, ap, subst, ◌∙◌, arith}
-use Rattle.std.proofs.lemmas.Bool.{and_from, lt-ltb}
-use Rattle.proc_api.specs.declared.status.Status.TheVariants.{NeedData, Ready}
-use Rattle.proc_shell.specs.declared.held.Held.TheVariants.{Unworked}
-use Rattle.proc_shell.specs.Turning.{Moves}
+use Rattle.proc_shell.proofs.Imports.{Moves, NeedData, Ready, Unworked, and_from, lt-ltb}
 use Rattle.proc_shell.proofs.TurnLaws.{moves-ask, moves-pull}
 use Rattle.proc_shell.proofs.turns.pull_wanted.Goals as goal
 

@@ -1,7 +1,5 @@
 use Rattle.std.proofs.Common.{◌≡◌, ◌++◌, [], drop, length, map, take, ap, subst, sym, ◌∙◌, arith}
-use Rattle.std.specs.Prelude.{IfOk}
-use Rattle.chunk_data.specs.Names.{AreColumns, kind_of, rows_of, values}
-use Rattle.chunk_data.proofs.Chunks.{AreColumns-empty, written_back}
+use Rattle.sort_procs.proofs.Imports.{AreColumns, AreColumns-empty, IfOk, kind_of, rows_of, values, written_back}
 use Rattle.sort_procs.proofs.MergeLaws.{merged-chunk}
 use Rattle.sort_procs.proofs.merged_rows.merge_chunk.Goals as goal
 

@@ -1,6 +1,5 @@
 use Rattle.std.proofs.Common.{◌+◌, sym, ap, subst, ◌∙◌, inr, arith, Fits, w64}
-use Rattle.sort_procs.specs.declared.heads.Head.{Head}
-use Rattle.sort_procs.specs.Heads.{is_used}
+use Rattle.sort_procs.proofs.Imports.{Head, is_used}
 use Rattle.sort_procs.proofs.HeadLaws.{read-at}
 use Rattle.sort_procs.proofs.MergeLaws.{first-used, rows-none, step-fits, step-ready, step-rows}
 use Rattle.sort_procs.proofs.merged_rows.merge_rows.Goals as goal

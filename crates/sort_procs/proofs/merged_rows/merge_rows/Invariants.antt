@@ -1,7 +1,5 @@
 use Rattle.std.proofs.Common.{◌≡◌, true}
-use Rattle.std.specs.List.{list_all}
-use Rattle.sort_procs.specs.Heads.{AreHeadsOf, is_ready}
-use Rattle.sort_procs.specs.Merging.{MergesRows}
+use Rattle.sort_procs.proofs.Imports.{AreHeadsOf, MergesRows, is_ready, list_all}
 use Rattle.sort_procs.proofs.merged_rows.merge_rows.Given as goal
 
 abbrev pub invariant-loop-row : goal.invariant-loop-row

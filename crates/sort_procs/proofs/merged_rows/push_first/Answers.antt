@@ -1,8 +1,5 @@
 use Rattle.std.proofs.Common.{◌≡◌, ◌<◌, [], ◌∷◌, length, map, ap, sym, subst, ◌∙◌, arith}
-use Rattle.std.proofs.lemmas.List.{length-map}
-use Rattle.chunk_data.specs.Names.{FitsTypes, kind_of}
-use Rattle.chunk_data.proofs.ColumnLists.{Joined-all, Joined-long, Joined-more, fits_long}
-use Rattle.sort_procs.specs.Heads.{first_row}
+use Rattle.sort_procs.proofs.Imports.{FitsTypes, Joined-all, Joined-long, Joined-more, first_row, fits_long, kind_of, length-map}
 use Rattle.sort_procs.proofs.MergeLaws.{pushed-value}
 use Rattle.sort_procs.proofs.merged_rows.push_first.Goals as goal
 

@@ -1,9 +1,5 @@
 use Rattle.std.proofs.Common.{ap, rules}
-use Rattle.std.specs.Ordering.{is_lt}
-use Rattle.std.proofs.lemmas.Fn.{always_returns_same}
-use Rattle.std.proofs.lemmas.List.Sorted.{ranks_by}
-use Rattle.sort_procs.specs.declared.ranks.Ranked.{Ranked}
-use Rattle.sort_procs.specs.Ranks.{ranked_cmp}
+use Rattle.sort_procs.proofs.Imports.{Ranked, always_returns_same, is_lt, ranked_cmp, ranks_by}
 use Rattle.sort_procs.proofs.RankLaws.{ranked_total, sorts}
 use Rattle.sort_procs.proofs.ranks.places_in_order.Goals as goal
 

@@ -1,7 +1,5 @@
 use Rattle.std.proofs.Common.{◌≡◌, map}
-use Rattle.std.specs.List.{All}
-use Rattle.query_model.specs.Sources.{count_up}
-use Rattle.sort_procs.specs.Ranks.{HasRank, place_of}
+use Rattle.sort_procs.proofs.Imports.{All, HasRank, count_up, place_of}
 use Rattle.sort_procs.proofs.ranks.ranks_of.Given as goal
 
 abbrev pub invariant-loop-place : goal.invariant-loop-place

@@ -1,21 +1,16 @@
 use denote.Enum.Bare.{differs_true, differs_false}
 use Rattle.std.proofs.Common.{Some, ◌∙◌, sym}
-use Rattle.std.specs.Option.{option_map}
+use Rattle.csv_procs.proofs.Imports.{loads, none-mapped, option_map, parsing, part, wrong-kind}
+use Rattle.csv_procs.proofs.SourceLaws.{reads}
 use Rattle.query_model.specs.contracts.processor_spec.Kind as kinds
 use Rattle.query_model.specs.declared.processor_spec.Kind.TheVariants as kind
-use Rattle.outside_io.specs.Told.{files_of}
-use Rattle.proc_shell.specs.Shells.{part}
-use Rattle.csv_procs.specs.Parts.{parsing}
-use Rattle.proc_shell.proofs.BoxLaws.{loads, none-mapped, wrong-kind}
 use Rattle.csv_procs.proofs.csv_source.CsvSourceProcessor.load.Goals as goal
 
 pub returns-then-ne-clause-refused : goal.returns-then-ne-clause-refused
 returns-then-ne-clause-refused g c =
-    let d = Some (record {
-      files = option_map files_of (g.R.FileReader.files c.self.inside.reader);
-      faults = g.R.FileReader.faults c.self.inside.reader;
-      pendings = g.R.FileReader.pendings c.self.inside.reader;
-    }) in
+    let R = g.R.FileReader in
+    let r = c.self.inside.reader in
+    let d = reads (R.files r) (R.faults r) (R.pendings r) in
     let parts = option_map (λ l. part (parsing l.kernel.part l.kernel.state) l.held l.notes) c.self.inside.loaded in
     rw (← c.self.view_is) (wrong-kind kind.Csv d c.self.inside.pulled parts c.args.spec
     (none-mapped (λ l. part (parsing l.kernel.part l.kernel.state) l.held l.notes) c.self.inside.loaded (sym c.is_some.ensures ∙ c.if-is_some.false))
@@ -23,11 +18,9 @@ returns-then-ne-clause-refused g c =
 
 pub returns-in-Ok-clause-ok : goal.returns-in-Ok-clause-ok
 returns-in-Ok-clause-ok g c =
-    let d = Some (record {
-      files = option_map files_of (g.R.FileReader.files c.self.inside.reader);
-      faults = g.R.FileReader.faults c.self.inside.reader;
-      pendings = g.R.FileReader.pendings c.self.inside.reader;
-    }) in
+    let R = g.R.FileReader in
+    let r = c.self.inside.reader in
+    let d = reads (R.files r) (R.faults r) (R.pendings r) in
     let parts = option_map (λ l. part (parsing l.kernel.part l.kernel.state) l.held l.notes) c.self.inside.loaded in
     rw (← c.self.view_is) (loads kind.Csv d c.self.inside.pulled c.begin.new.self parts c.args.spec
     (part (parsing c.in-Ok.loaded.kernel.part c.in-Ok.loaded.kernel.state) c.in-Ok.loaded.held c.in-Ok.loaded.notes)

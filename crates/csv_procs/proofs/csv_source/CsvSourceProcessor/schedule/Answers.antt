@@ -1,7 +1,5 @@
 use Rattle.std.proofs.Common.{ap}
-use Rattle.std.specs.Option.{option_map}
-use Rattle.proc_shell.specs.Shells.{part}
-use Rattle.csv_procs.specs.Parts.{parsing}
+use Rattle.csv_procs.proofs.Imports.{option_map, parsing, part}
 use Rattle.csv_procs.proofs.SourceLaws.{step-fault, step-ok}
 use Rattle.csv_procs.proofs.csv_source.CsvSourceProcessor.schedule.Goals as goal
 

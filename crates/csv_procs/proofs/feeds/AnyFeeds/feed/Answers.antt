@@ -1,9 +1,6 @@
 use Rattle.std.proofs.Common.{Ok, ap, subst, sym, ◌∙◌}
 use Rattle.proc_api.specs.declared.status.Wake.TheVariants as wake
-use Rattle.csv_procs.specs.declared.parsing.PartState.TheVariants.{Rows}
-use Rattle.csv_procs.specs.Fetching.{IsTiedTo, ReadGives, Steps}
-use Rattle.csv_procs.specs.Parts.{stage_of}
-use Rattle.query_model.specs.Names.{part_records}
+use Rattle.csv_procs.proofs.Imports.{IsTiedTo, ReadGives, Rows, Steps, part_records, stage_of}
 use Rattle.csv_procs.proofs.FetchingLaws.{read-whole}
 use Rattle.csv_procs.proofs.feeds.AnyFeeds.feed.Goals as goal
 

@@ -1,8 +1,5 @@
 use Rattle.std.proofs.Common.{None, Some, inr, subst, sym, ◌∙◌}
-use Rattle.proc_shell.specs.Kernels.{IsValid, Makes}
-use Rattle.csv_rows.specs.RowsLeft.{TakesRows}
-use Rattle.csv_procs.specs.declared.parsing.PartState.TheVariants.{Rows}
-use Rattle.csv_procs.specs.Parts.{parsing}
+use Rattle.csv_procs.proofs.Imports.{IsValid, Makes, Rows, TakesRows, parsing}
 use Rattle.csv_procs.proofs.PartLaws.{makes-chunk, makes-end, read-out}
 use Rattle.csv_procs.proofs.parsing.ParsingKernel.make.Goals as goal
 

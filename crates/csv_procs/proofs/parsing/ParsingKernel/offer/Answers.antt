@@ -1,7 +1,6 @@
 use Rattle.std.proofs.Common.{false, subst, sym, ◌∙◌}
 use Rattle.proc_shell.specs.declared.kernel.Offer.TheVariants as offer
-use Rattle.proc_shell.specs.Kernels.{IsRecordLeft, Offers, Reads}
-use Rattle.csv_procs.specs.Parts.{parsing}
+use Rattle.csv_procs.proofs.Imports.{IsRecordLeft, Offers, Reads, parsing}
 use Rattle.csv_procs.proofs.PartLaws.{offers-end, read-out, record-left}
 use Rattle.csv_procs.proofs.parsing.ParsingKernel.offer.Goals as goal
 

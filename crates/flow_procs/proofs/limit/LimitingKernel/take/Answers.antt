@@ -8,7 +8,17 @@ use Rattle.flow_procs.proofs.limit.LimitingKernel.take.Goals as goal
 
 pub returns-clause-takes : goal.returns-clause-takes
 returns-clause-takes c = λ wanted.
-    let read : c.saturating_add-self.result ≡ min (c.args.self.now.read + length c.args.chunk.rows) (2 ^ 128 - 1) = search rules in
-    subst (λ n. Takes (spec.Limit c.args.self.now.span) (read_own c.args.self.now.read) c.args._input c.args.chunk (read_own n) (Some c.remove_front.new.self)) (sym read)
-    (takes c.args.self.now.span c.args.self.now.read c.args._input c.args.chunk c.remove_front.new.self (eqb-true c.args._input 0 wanted) (omega arith) (omega arith) (search rules)
-    (cc (c.remove_front.ensures.rows, c.truncate.ensures.rows, c.rows_before.ensures, c.rows_before-2.ensures, c.rows-rows.ensures.count)))
+    let k = c.args.self.now in
+    let read : c.saturating_add-self.result
+    ≡ min (k.read + length c.args.chunk.rows) (2 ^ 128 - 1) = search rules in
+    subst (λ n. Takes (spec.Limit k.span) (read_own k.read) c.args._input c.args.chunk
+    (read_own n) (Some c.remove_front.new.self)) (sym read)
+    (takes k.span k.read c.args._input c.args.chunk c.remove_front.new.self
+    (eqb-true c.args._input 0 wanted) (omega arith) (omega arith) (search rules)
+    (cc (
+      c.remove_front.ensures.rows,
+      c.truncate.ensures.rows,
+      c.rows_before.ensures,
+      c.rows_before-2.ensures,
+      c.rows-rows.ensures.count,
+    )))

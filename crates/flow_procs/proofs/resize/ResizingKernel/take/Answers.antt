@@ -2,4 +2,4 @@ use Rattle.proc_shell.proofs.Resizing.{takes-resized}
 use Rattle.flow_procs.proofs.resize.ResizingKernel.take.Goals as goal
 
 pub returns-clause-takes : goal.returns-clause-takes
-returns-clause-takes c = λ wanted. takes-resized c.args._input c.args.chunk c.requires
+returns-clause-takes c = λ wanted. takes-resized _ c.args._input c.args.chunk c.requires

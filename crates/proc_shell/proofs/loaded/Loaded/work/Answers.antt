@@ -1,8 +1,6 @@
 use Rattle.std.proofs.Common.{Some, ap, subst, inl}
 use Rattle.proc_api.specs.Keeping.{IsWorkOf}
-use Rattle.proc_shell.specs.Kernels.{work_of}
-use Rattle.proc_shell.specs.Shells.{WorksHeld}
-use Rattle.proc_shell.specs.Steps.{held_unworked, held_made, source_of}
+use Rattle.proc_shell.proofs.Imports.{WorksHeld, held_made, held_unworked, source_of, work_of}
 use Rattle.proc_shell.proofs.BoxLaws.{wanted-made, worked-source}
 use Rattle.proc_shell.proofs.loaded.Loaded.work.Goals as goal
 

@@ -1,8 +1,7 @@
 use denote.Enum.Bare.{differs_true, differs_false}
 use Rattle.std.proofs.Common.{None, ◌∙◌, sym}
-use Rattle.std.specs.Option.{option_map}
+use Rattle.proc_shell.proofs.Imports.{option_map, part}
 use Rattle.query_model.specs.contracts.processor_spec.Kind as kind
-use Rattle.proc_shell.specs.Shells.{part}
 use Rattle.proc_shell.proofs.BoxLaws.{loads, none-mapped, wrong-kind}
 use Rattle.proc_shell.proofs.shell.ShellProcessor.load.Goals as goal
 

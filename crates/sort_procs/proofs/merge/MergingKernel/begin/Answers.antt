@@ -1,7 +1,6 @@
 use Rattle.std.proofs.Common.{subst, sym}
 use Rattle.query_model.specs.declared.processor_spec.Spec.TheVariants as spec
-use Rattle.proc_shell.specs.Kernels.{Begins}
-use Rattle.sort_procs.specs.Merging.{merging_own}
+use Rattle.sort_procs.proofs.Imports.{Begins, merging_own}
 use Rattle.sort_procs.proofs.MergeLaws.{begins, blank-fits}
 use Rattle.sort_procs.proofs.merge.MergingKernel.begin.Goals as goal
 

@@ -1,10 +1,6 @@
 use Rattle.std.proofs.Common.{◌≡◌, ◌++◌, drop, length, take, ap, subst, sym, ◌∙◌, ◌&&◌, not}
-use Rattle.std.specs.List.{list_all}
-use Rattle.chunk_data.proofs.Chunks.{written_back}
+use Rattle.sort_procs.proofs.Imports.{MergesSome, is_ready, is_used, list_all, makes-nothing, merging_own, written_back}
 use Rattle.query_model.specs.declared.processor_spec.Spec.TheVariants as spec
-use Rattle.proc_shell.proofs.Through.{makes-nothing}
-use Rattle.sort_procs.specs.Heads.{is_ready, is_used}
-use Rattle.sort_procs.specs.Merging.{MergesSome, merging_own}
 use Rattle.sort_procs.proofs.MergeLaws.{makes, none-ready, rows-ready}
 use Rattle.sort_procs.proofs.merge.MergingKernel.make.Goals as goal
 

@@ -1,7 +1,5 @@
 use Rattle.std.proofs.Common.{ap, not, sym, ◌∙◌, ◌&&◌}
-use Rattle.std.specs.List.{list_all}
-use Rattle.proc_shell.specs.declared.kernel.Offer.TheVariants.{Rows, Wants}
-use Rattle.sort_procs.specs.Heads.{is_ready, is_used}
+use Rattle.sort_procs.proofs.Imports.{Rows, Wants, is_ready, is_used, list_all}
 use Rattle.sort_procs.proofs.MergeLaws.{offers, rows-ready, wants-come, written}
 use Rattle.sort_procs.proofs.merge.MergingKernel.offer.Goals as goal
 

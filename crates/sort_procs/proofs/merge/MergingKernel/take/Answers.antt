@@ -1,7 +1,5 @@
 use Rattle.std.proofs.Common.{sym, ap, ◌∙◌, arith}
-use Rattle.std.proofs.lemmas.List.{get_or_read}
-use Rattle.sort_procs.specs.declared.heads.Head.{Head}
-use Rattle.sort_procs.specs.Heads.{no_head}
+use Rattle.sort_procs.proofs.Imports.{Head, get_or_read, no_head}
 use Rattle.sort_procs.proofs.MergeLaws.{takes}
 use Rattle.sort_procs.proofs.merge.MergingKernel.take.Goals as goal
 

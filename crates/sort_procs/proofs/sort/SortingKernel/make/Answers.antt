@@ -1,7 +1,6 @@
 use Rattle.std.proofs.Common.{subst}
 use Rattle.query_model.specs.declared.processor_spec.Spec.TheVariants as spec
-use Rattle.proc_shell.specs.Kernels.{Makes}
-use Rattle.sort_procs.specs.Sorted.{own_of}
+use Rattle.sort_procs.proofs.Imports.{Makes, own_of}
 use Rattle.sort_procs.proofs.SortingLaws.{makes-none, makes-after}
 use Rattle.sort_procs.proofs.sort.SortingKernel.make.Goals as goal
 

@@ -1,0 +1,205 @@
+-- A prepare that works at once what it pulled is two prepares and a work between them.
+use Rattle.std.proofs.Common.{◌≡◌, ℕ, ◌<◌, ◌≤◌, nat_lt, ◌&&◌, Bool, true, false, List, [], ◌∷◌, Option, Some, None, refl, sym, ap, subst, ◌∙◌, arith}
+use Rattle.proc_api.proofs.Follows.{follows-noted, stands-still}
+use Rattle.proc_api.proofs.SeveralCalls.{goes-on, lists-pulled, lists-pushed, rows-both}
+use Rattle.proc_api.specs.Names.{AreAsKept}
+use Rattle.proc_shell.proofs.BoxLaws.{held-source, held-worked, keeps-work, limits-stay, passes-once}
+use Rattle.proc_shell.proofs.Imports.{AreMoved, ArePortsOf, BoxPicture, CountsRows, FollowsKept, HasSpecPorts, Held, IsKernelOf, IsRunning, IsSound, IsWorkOf, Keeps, KernelState, Kind, Notes, PartPrepares, PartWorks, PassesOn, Picture, PreparesLawfully, Pushes, ReaderView, Ready, RowCount, ShellPart, Spec, Status, StaysFit, Suits, Table, Takes, Turns, Unworked, WorksHeld, and_parts, changed-by-both, held_made, held_option, held_unworked, is_wanted, ltb-true, part, part_seen, port_flags, rows_pulled, source_of, with_pulled, with_pushed, with_view, work_of}
+use Rattle.proc_shell.proofs.KeepLaws.{kept-count, outs-count}
+use Rattle.proc_shell.proofs.PortMoves.{same-ports}
+use Rattle.port_word.specs.Names.{in_count, out_count}
+
+-- the view still has the ports of the spec
+pub still-ports : (k : Kind) (p q : ShellPart) (n m : RowCount) (v w : Picture) (s : Status)
+    → PartPrepares k p v n q w m s → HasSpecPorts p.kernel.spec v → HasSpecPorts q.kernel.spec w
+still-ports k p q n m v w s x ports =
+    let g = goes-on v w x.changed in
+    subst (λ z. HasSpecPorts z w) (sym (ap (λ z. z.spec) x.suits.kernel))
+    (same-ports p.kernel.spec (in_count v) (out_count v) (in_count w) (out_count w) (sym g.ins)
+    (sym g.outs) ports)
+
+module _ (k : Kind) (p a b q : ShellPart) (n m l : RowCount) (v u w : Picture) (s : Status)
+    (sound : IsSound u) (first : PartPrepares k p v n a u m Ready) (work : PartWorks k a b)
+    (last : PartPrepares k b u m q w l s) where
+  spec-stays : Some b.kernel.spec ≡ Some p.kernel.spec
+  spec-stays =
+      ap (λ z. Some z.spec) work.suits.kernel ∙ ap (λ z. Some z.spec) first.suits.kernel
+
+  noted : b.notes.view ≡ Some (port_flags u)
+  noted = ap (λ z. z.view) work.notes ∙ ap (λ z. z.view) first.notes
+
+  kernel-both : IsKernelOf p.kernel q.kernel
+  kernel-both =
+      last.suits.kernel ∙ ap (λ (z : KernelState). record z { own = q.kernel.own })
+      (work.suits.kernel
+      ∙ ap (λ (z : KernelState). record z { own = b.kernel.own }) first.suits.kernel)
+
+  notes-both : q.notes ≡ with_view w s (record p.notes { fits = last.fits })
+  notes-both =
+      last.notes ∙ ap (λ (z : Notes). with_view w s (record z { fits = last.fits }))
+      (work.notes ∙ ap (λ (z : Notes). record z { acted = true }) first.notes)
+
+  lawful-both : (d : Option ReaderView) → IsRunning (part_seen k d n p)
+      → FollowsKept (part_seen k d n p) v
+      → PreparesLawfully (part_seen k d n p) v (part_seen k d l q) w s
+  lawful-both d run f = record {
+    law = y.law;
+    comes = y.comes;
+    pulled = let rows = rows-both v u w sound first.changed last.changed in
+        let more = x.pulled in let rest = y.pulled in omega (arith, rows, more, rest);
+    limits = limits-stay k d p q n l w s last.fits kernel-both notes-both run.faultless;
+    fits = λ fit. y.fits (fits-on fit);
+    keeps = λ fit ins outs kept.
+        let same = keeps-work k d m a b work out (with_pulled v u ins) (with_pushed v u outs)
+        (x.keeps fit ins outs kept) in
+        subst (λ i. Keeps Q i (with_pushed v w outs))
+        (lists-pulled v u w sound first.changed last.changed ins)
+        (subst (Keeps Q (with_pulled u w (with_pulled v u ins)))
+        (lists-pushed v u w sound first.changed last.changed outs)
+        (y.keeps (fits-on fit) (with_pulled v u ins) (with_pushed v u outs) same));
+    ends = λ some each. absurd (let e = (x.ends some each).answer in cc);
+    pushes = y.pushes;
+    room = y.room;
+    misfit = λ never. absurd (let e = (x.misfit never).answer in cc);
+  }
+    where
+      B : BoxPicture
+      B = part_seen k d m b
+
+      Q : BoxPicture
+      Q = part_seen k d l q
+
+      x : PreparesLawfully (part_seen k d n p) v (part_seen k d m a) u Ready
+      x = first.lawful d run f
+
+      out : a.kernel.stage.handed_out ≡ false
+      out = ap (λ z. z.stage.handed_out) first.suits.kernel ∙ run.not_handed_out
+
+      between : IsRunning B
+      between = record {
+        loaded = refl;
+        faultless = ap (λ z. z.fault) work.notes ∙ ap (λ z. z.fault) first.notes ∙ run.faultless;
+        not_handed_out = ap (λ z. z.stage.handed_out) work.suits.kernel ∙ out;
+      }
+
+      y : PreparesLawfully B u Q w s
+      y = last.lawful d between (follows-noted B u noted)
+
+      fits-on : StaysFit (part_seen k d n p) v → StaysFit B u
+      fits-on fit = record {
+        fits = ap (λ z. z.fits) work.notes ∙ x.fits fit;
+        ports =
+            let g = goes-on v u first.changed in
+            subst (λ z. ArePortsOf z None (in_count u) (out_count u)) (sym spec-stays)
+            (same-ports p.kernel.spec (in_count v) (out_count v) (in_count u) (out_count u)
+            (sym g.ins) (sym g.outs) fit.ports);
+        still =
+            stands-still (Some b.kernel.spec) b.notes.view (in_count u) (out_count u)
+            (subst (λ z. AreAsKept z (in_count u) (out_count u)) (sym noted)
+            (sym (kept-count u), sym (outs-count u)));
+      }
+
+  pub prepares-twice : PartPrepares k p v n q w l s
+  prepares-twice = record {
+    suits = record {
+      kernel = kernel-both;
+      kind = first.suits.kind;
+      shelled = first.suits.shelled;
+      uses = subst (λ z. IsWorkOf z (work_of q.kernel (source_of q.held) (held_unworked q.held)
+          (held_made q.held))) spec-stays last.suits.uses;
+    };
+    changed = changed-by-both v u w first.changed last.changed;
+    grows = omega (arith, first.grows, last.grows);
+    since = omega (arith, first.since, last.since);
+    fits = last.fits;
+    notes = notes-both;
+    lawful = lawful-both;
+  }
+
+-- ---- turns
+
+-- a kernel that passes chunks on as they are: one that was pulled may wait at once
+pub record PassesChunks (x : KernelState) : Type 0 where
+  pub takes : (i : ℕ) (t : Table) → i < 32 → Takes x.spec x.own i t x.own (Some t)
+  pub waits : (i : ℕ) (c : Table) (made : List Table)
+      → IsWorkOf (Some x.spec) (work_of x i (c ∷ []) [])
+      → IsWorkOf (Some x.spec) (work_of x 0 [] made)
+
+-- chunks are moved by one turn
+pub turns-once : (k : Kind) (x y : KernelState) (h i j : Held) (n m : RowCount) (v u w : Picture)
+    (s : Status) → Suits k x y j → HasSpecPorts x.spec v → out_count v ≤ 16 → Pushes h i v u
+    → Turns x y.own i j u w s → CountsRows (rows_pulled u w) n m → AreMoved k x h v n y j w m s
+turns-once k x y h i j n m v u w s so ports few pushes turns counts = λ notes.
+    passes-once k (part x h notes) (part y j (with_view w s notes)) n m v w s so few ports
+    (record {
+      held = i;
+      view = u;
+      pushes = pushes;
+      turns = turns;
+      counts = counts;
+      notes = refl;
+    })
+
+-- a turn behind one of which the chunk that it pulled was passed on
+pub turns-again : (k : Kind) (wants : ℕ → Bool) (makes : Bool) (p a : ShellPart) (y : KernelState)
+    (i h : Held) (n m l : RowCount) (v u t w : Picture) (r s : Status) → PassesChunks a.kernel
+    → r ≡ Ready → HasSpecPorts p.kernel.spec v → out_count v ≤ 16
+    → is_wanted wants makes a.held ≡ true → PassesOn a.held i u t → Suits k a.kernel y h
+    → Turns a.kernel y.own i h t w s → CountsRows (rows_pulled t w) m l
+    → PartPrepares k p v n a u m r → PartPrepares k p v n (part y h (with_view w s a.notes)) w l s
+turns-again k wants makes p a y i h n m l v u t w r s passes ready ports few wanted on so turns
+    counts so-far =
+    prepares-twice k p a b (part y h (with_view w s a.notes)) n m l v u w s on.sound first work
+    (passes-once k b (part y h (with_view w s a.notes)) m l u w s so
+    (omega (arith, few, (goes-on v u first.changed).outs))
+    (still-ports k p a n m v u Ready first ports)
+    (record {
+      held = i;
+      view = t;
+      pushes = subst (λ z. Pushes waits z u t) (sym on.after) on.pushes;
+      turns = turns;
+      counts = counts;
+      notes = refl;
+    }))
+  where
+    first : PartPrepares k p v n a u m Ready
+    first = subst (PartPrepares k p v n a u m) ready so-far
+
+    waits : Held
+    waits = held_option (Some on.chunk)
+
+    b : ShellPart
+    b = record { kernel = a.kernel; held = waits; notes = record a.notes { acted = true } }
+
+    in-range : on.input < 32
+    in-range =
+        let both : (wants on.input && nat_lt on.input 32) ≡ true =
+        subst (λ j. is_wanted wants makes j ≡ true) on.before wanted in
+        ltb-true on.input 32 (and_parts (wants on.input) (nat_lt on.input 32) both).1
+
+    UsesHeld : Option Spec → Held → Type 0
+    UsesHeld z j =
+        IsWorkOf z (work_of a.kernel (source_of j) (held_unworked j) (held_made j))
+
+    uses : UsesHeld (Some a.kernel.spec) (Unworked on.input on.chunk)
+    uses = subst (UsesHeld (Some a.kernel.spec)) on.before
+        (subst (λ z. UsesHeld z a.held) (sym (ap (λ z. Some z.spec) first.suits.kernel))
+        first.suits.uses)
+
+    work : PartWorks k a b
+    work = record {
+      suits = record {
+        kernel = refl;
+        kind = so.kind;
+        shelled = so.shelled;
+        uses = rw (held-source (Some on.chunk), held-worked (Some on.chunk))
+            (passes.waits on.input on.chunk (held_made waits) uses);
+      };
+      works = subst (λ j. WorksHeld a.kernel j a.kernel.own waits) (sym on.before)
+          (record {
+            out = Some on.chunk;
+            takes = passes.takes on.input on.chunk in-range;
+            held = refl;
+          });
+      notes = refl;
+    }
