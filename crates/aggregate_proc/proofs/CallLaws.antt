@@ -1,0 +1,99 @@
+-- The calls of a partial aggregate and of a merge are what is folded, and their groups are those by
+-- the first values.
+use Rattle.std.proofs.Common.{◌≡◌, ℕ, zero, suc, ◌+◌, ◌%◌, ◌^◌, ◌≤◌, ◌&&◌, Bool, true, false, List, [], ◌∷◌, ◌++◌, length, map, take, append_assoc, IsPermutation, refl, sym, ap, ap₂, ◌∙◌, subst, arith}
+use Rattle.aggregate_proc.proofs.Prelude.{fold_for, folded, merge_of, AggOp, AllByRecursion, AreCalls, AreSound, Call, ColumnType, FitsTypes, GroupSpec, IsPermutation-grouped_by, IsPermutation-refl, Row, StateCall, Value, added, call_foldings, call_of, calls_for, calls_from, can_fold, combine_of, combined, count_up, counted, counts_added, default_states, distinct_rows, exact_sum, fold_of, given_for, group_types, grouped_by, groups_for, groups_or_default, is_uint, key_of, length-append, length-map, length_permutation, list_all, map-append, merged_states, recursion_from_All, rows_with, same_row, state_calls, types_for, value_at, value_of, values_at, whole_for, wrapped}
+use Rattle.chunk_data.specs.declared.typed_value.ColumnType.TheVariants as column
+use Rattle.chunk_data.specs.declared.typed_value.Value.TheVariants.{Int, UInt, Text}
+use Rattle.query_model.specs.declared.query.AggOp.TheVariants as agg
+use Rattle.chunk_data.proofs.Laws.{length-FitsTypes}
+use Rattle.aggregate_proc.proofs.ListLaws.{taken, filter-same, map-same}
+
+-- ---- calls
+
+counted-alike : (f g : Row → Value) (rows : List Row)
+    → combined counted (map f rows) ≡ combined counted (map g rows)
+unfolding combined
+counted-alike f g rows = ap (λ n. UInt (n % 2 ^ 64)) (length-map rows f ∙ sym (length-map rows g))
+
+partial-calls : (c : ℕ) (calls : List StateCall)
+    → AreCalls (call_foldings false c calls) (map call_of (calls_from c calls))
+unfolding value_of
+partial-calls c [] = tt
+partial-calls c (call ∷ calls) = go call.op (λ n. partial-calls n calls)
+  where
+    go : (op : AggOp)
+        → ((n : ℕ) → AreCalls (call_foldings false n calls) (map call_of (calls_from n calls)))
+        → AreCalls (call_foldings false c (record call { op = op } ∷ calls))
+        (map call_of (calls_from c (record call { op = op } ∷ calls)))
+    go agg.Count more = (λ rows. counted-alike (λ r. value_at r c) (λ r. UInt 0) rows, more c)
+    go op more = (λ rows. refl, more (suc c))
+
+merge-calls : (c : ℕ) (calls : List StateCall)
+    → AreCalls (call_foldings true c calls)
+    (state_calls c (map (λ (s : StateCall). combine_of s.op) calls))
+merge-calls c [] = tt
+merge-calls c (call ∷ calls) =
+    let next : suc c ≡ c + 1 = omega arith in (
+      head call.op,
+      subst (λ n. AreCalls (call_foldings true (suc c) calls)
+          (state_calls n (map (λ (s : StateCall). combine_of s.op) calls))) next
+          (merge-calls (suc c) calls),
+    )
+  where
+    head : (op : AggOp) (rows : List Row)
+        → folded (fold_for true op) (map (λ (r : Row). value_at r c) rows)
+        ≡ combined (merge_of (combine_of op)) (map (λ (r : Row). value_at r c) rows)
+    head agg.Count rows = refl
+    head op rows = refl
+
+pub calls-are : (merges : Bool) (g : GroupSpec)
+    → AreCalls (call_foldings merges (length g.keys) g.calls) (calls_for merges g)
+calls-are false g = partial-calls (length g.keys) g.calls
+calls-are true g = merge-calls (length g.keys) g.calls
+
+-- ---- keys
+
+grouped-same : (P : Row → Type 0) (key other : Row → Row) → ((r : Row) → P r → key r ≡ other r)
+    → (calls : List Call) (rows : List Row) → AllByRecursion P rows
+    → grouped_by key calls rows ≡ grouped_by other calls rows
+grouped-same P key other e calls rows h =
+    let with : (k : Row) → rows_with key k rows ≡ rows_with other k rows =
+    λ k. filter-same P _ _ (λ r p. ap (same_row k) (e r p)) rows h in
+    (λ i. map (λ k. k ++ map (λ (call : Call). combined call.op (map call.arg (with k i))) calls)
+    (distinct_rows (map-same P key other e rows h i)))
+
+values-map : (cs : List ℕ) (row : Row) → values_at cs row ≡ map (value_at row) cs
+values-map [] row = refl
+values-map (c ∷ cs) row = ap (λ l. value_at row c ∷ l) (values-map cs row)
+
+-- the groups are those by the first values
+pub groups-by : (merges : Bool) (g : GroupSpec) (rows : List Row)
+    → AllByRecursion (FitsTypes (types_for merges g)) rows
+    → groups_for merges g rows ≡ grouped_by (key_of (length g.keys)) (calls_for merges g) rows
+groups-by false g rows h =
+    grouped-same (FitsTypes (types_for false g)) _ _
+    (λ r p. values-map (count_up (length g.keys)) r) (calls_for false g) rows h
+groups-by true g rows h = grouped-same (FitsTypes (group_types g)) _ _
+    (λ r p. let a = length-FitsTypes (group_types g) r p in
+    let b = length-append g.keys (map (λ (c : StateCall). c.kind) g.calls) in
+    sym (taken (length g.keys) r (Text []) (omega (arith, a, b))))
+    (calls_for true g) rows h
+
+-- ---- what is given of the groups
+
+default-permutation : (lone : Bool) (d : Row) (xs ys : List Row) → IsPermutation xs ys
+    → IsPermutation (groups_or_default lone d xs) (groups_or_default lone d ys)
+default-permutation false d xs ys h = h
+default-permutation true d [] [] h = IsPermutation-refl (d ∷ [])
+default-permutation true d [] (y ∷ ys) h =
+    absurd (let l = length_permutation [] (y ∷ ys) h in omega (arith, l))
+default-permutation true d (x ∷ xs) [] h =
+    absurd (let l = length_permutation (x ∷ xs) [] h in omega (arith, l))
+default-permutation true d (x ∷ xs) (y ∷ ys) h = h
+
+pub given-whole : (merges : Bool) (g : GroupSpec) (rows order : List Row) → IsPermutation rows order
+    → IsPermutation (whole_for merges g rows) (given_for merges g (groups_for merges g order))
+given-whole false g rows order h = IsPermutation-grouped_by _ _ rows order h
+given-whole true g rows order h =
+    default-permutation g.lone (default_states g) (merged_states g rows) (merged_states g order)
+    (IsPermutation-grouped_by _ _ rows order h)

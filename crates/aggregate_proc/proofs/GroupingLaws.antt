@@ -1,0 +1,260 @@
+-- A grouping keeps what its kind says of the chunks that it worked.
+use Rattle.std.proofs.Common.{◌≡◌, ◌⊎◌, ℕ, zero, suc, ◌+◌, ◌<◌, ◌≤◌, max, Bool, true, false, List, [], ◌∷◌, ◌++◌, length, drop, take, append_assoc, IsPermutation, Some, None, refl, sym, ap, ◌∙◌, subst, arith, inl, inr}
+use Rattle.aggregate_proc.proofs.Prelude.{All, AllByRecursion, AreCalls, AreGrouped, AreInputsOver, ArePortsOf, Begins, Call, ColumnType, FitsTypes, Folding, GroupSpec, GroupsMore, HasNotedEnd, IsAtMost, IsNext, IsPermutation-append_left, IsPermutation-same, IsPermutation-trans, IsPulled, IsTableFor, Lists, Makes, MakesTypes, Means, NotesEnd, Offer, OfferComes, Offers, OwnState, Picture, Reading, Row, Table, TableView, Takes, all-more, all_rows, append-nil, call_foldings, calls_for, chunk_rows, distinct, eqb-true, foldings_of, gathering_own, given_for, giving_own, group_types, grouped_by, groups_for, in_count, key_foldings, key_of, kinds_of, length-drop, length-take, most_rows, no-rows, no_lists, open_for, recursion_from_All, rows-here, rows_in, spec_for, take-append-drop, types_for, whole_for, with_chunk, worked_rows}
+use Rattle.std.proofs.lemmas.Bool.{eq-eqb}
+use Rattle.std.proofs.lemmas.List.{drop-drop, length-append}
+use Rattle.query_model.specs.declared.processor_spec.Spec.{Spec}
+use Rattle.proc_api.specs.Made.{NotesEnd as EndIsNoted}
+use Rattle.proc_api.specs.Names.{FitsInput, IsWanting}
+use Rattle.proc_shell.specs.declared.kernel.Offer.TheVariants as offer
+use Rattle.proc_api.proofs.Orders.{every-append}
+use Rattle.aggregate_proc.proofs.CallLaws.{calls-are, given-whole, groups-by}
+
+-- ---- by whether partial groups are merged
+
+abbrev Made : Bool → GroupSpec → OwnState → Lists → List Row → Type 0
+Made merges g own worked made =
+    AreGrouped (types_for merges g) (groups_for merges g) (whole_for merges g) own
+    (worked_rows merges worked) made
+
+-- what the contract says of both kinds
+record IsGroupKind (merges : Bool) (g : GroupSpec) : Type 0 where
+  into : (x : Reading) (own : OwnState) (worked outs : Lists) (wait : List Row)
+      → Made merges g own worked (chunk_rows (outs 0) ++ wait)
+      → Means x (spec_for merges g) own worked outs wait
+  from : (x : Reading) (own : OwnState) (worked outs : Lists) (wait : List Row)
+      → Means x (spec_for merges g) own worked outs wait
+      → Made merges g own worked (chunk_rows (outs 0) ++ wait)
+  noted : (own : OwnState) → own.ended ≡ true → HasNotedEnd (spec_for merges g) own
+  ended : (own : OwnState) → HasNotedEnd (spec_for merges g) own → own.ended ≡ true
+  notes : (own : OwnState) (i : ℕ) → own.ended ≡ true → EndIsNoted (Some (spec_for merges g)) own i
+  noting : (own : OwnState) (i : ℕ) → EndIsNoted (Some (spec_for merges g)) own i → own.ended ≡ true
+  fits : (i : ℕ) (types : List ColumnType) → FitsInput (Some (spec_for merges g)) i types
+      → types ≡ types_for merges g
+  types : (ins : Lists) (types : List ColumnType) → types ≡ group_types g
+      → MakesTypes (Some (spec_for merges g)) ins types
+  size : (n : ℕ) → n ≤ max g.rows 1 → IsAtMost (most_rows (Some (spec_for merges g))) n
+  wanting : (n : ℕ) → IsWanting (Some (spec_for merges g)) n
+
+group-kind : (merges : Bool) (g : GroupSpec) → IsGroupKind merges g
+group-kind false g = record {
+  into = λ x own worked outs wait h. h;
+  from = λ x own worked outs wait h. h;
+  noted = λ own e. e;
+  ended = λ own e. e;
+  notes = λ own i e. e;
+  noting = λ own i e. e;
+  fits = λ i types e. e;
+  types = λ ins types e. e;
+  size = λ n le. le;
+  wanting = λ n. tt;
+}
+group-kind true g = record {
+  into = λ x own worked outs wait h. h;
+  from = λ x own worked outs wait h. h;
+  noted = λ own e. e;
+  ended = λ own e. e;
+  notes = λ own i e. e;
+  noting = λ own i e. e;
+  fits = λ i types e. e;
+  types = λ ins types e. e;
+  size = λ n le. le;
+  wanting = λ n. tt;
+}
+
+-- the rows of one chunk more
+worked-more : (merges : Bool) (i : ℕ) (t : Table) (worked : Lists) → open_for merges i ≡ true
+    → i < 32
+    → IsPermutation (worked_rows merges (with_chunk i t worked))
+    (worked_rows merges worked ++ t.rows)
+worked-more false i t worked w lt =
+    subst (λ n. IsPermutation (chunk_rows (with_chunk n t worked 0))
+    (chunk_rows (worked 0) ++ t.rows))
+    (sym (eqb-true i 0 w)) (IsPermutation-same _ _ (rows-here t worked))
+worked-more true i t worked w lt = all-more i t worked lt
+
+none-worked : (merges : Bool) → worked_rows merges no_lists ≡ []
+none-worked false = refl
+none-worked true = no-rows 32
+
+none-grouped : (merges : Bool) (g : GroupSpec) → groups_for merges g [] ≡ []
+unfolding distinct
+none-grouped false g = refl
+none-grouped true g = refl
+
+pub one-input : (merges : Bool) (g : GroupSpec) (inputs outputs : ℕ)
+    → ArePortsOf (Some (spec_for merges g)) None inputs outputs → (inputs ≡ 1) ⊎ (merges ≡ true)
+one-input false g inputs outputs h = inl h.0
+one-input true g inputs outputs h = inr refl
+
+abbrev pub table_own : TableView → OwnState
+table_own t = gathering_own (record { types = kinds_of t; rows = rows_in t })
+
+module _ (merges : Bool) (g : GroupSpec) where
+  abbrev s : Spec
+  s = spec_for merges g
+
+  is : IsGroupKind merges g
+  is = group-kind merges g
+
+  pub begins : (t : TableView) → rows_in t ≡ [] → Begins s s (table_own t)
+  begins t none = record {
+    spec = refl;
+    nothing = λ files. is.into (record { files = files; fetched = false; bad = None }) (table_own t)
+        no_lists no_lists [] (record {
+          gathering = λ e. record {
+            nothing_made = refl;
+            nothing_unmade = refl;
+            order = [];
+            same = IsPermutation-same _ _ (none-worked merges);
+            fit = tt;
+            groups_are = append-nil (rows_in t) ∙ none ∙ sym (none-grouped merges g);
+          };
+          grouped = λ e. absurd (cc);
+        });
+    unended = λ i n. absurd (let e = is.noting (table_own t) i n in cc);
+  }
+
+  -- ---- a chunk more
+
+  more-groups : (old new : TableView) (more : List Row) → IsTableFor merges g old
+      → GroupsMore old more new → (rows : List Row)
+      → rows_in old ≡ grouped_by (key_of (length g.keys)) (calls_for merges g) rows
+      → rows_in new ≡ grouped_by (key_of (length g.keys)) (calls_for merges g) (rows ++ more)
+  more-groups old new more h m =
+      let P : List ColumnType → ℕ → Type 0 = λ ts k. (calls : List Call) (foldings : List Folding)
+      → foldings_of old ≡ key_foldings ts k ++ foldings → AreCalls foldings calls
+      → (rows : List Row)
+      → rows_in old ≡ grouped_by (key_of k) calls rows
+      → rows_in new ≡ grouped_by (key_of k) calls (rows ++ more) in
+      let all : P (types_for merges g) (length g.keys) =
+      subst (λ k. P (types_for merges g) k) h.keys (subst (λ ts. P ts old.keys) h.types m.groups) in
+      all (calls_for merges g) (call_foldings merges (length g.keys) g.calls) h.foldings
+      (calls-are merges g)
+
+  pub takes : (old new : TableView) (i : ℕ) (t : Table) → IsTableFor merges g old
+      → open_for merges i ≡ true → i < 32 → t.types ≡ old.types → All (FitsTypes t.types) t.rows
+      → GroupsMore old t.rows new → Takes s (table_own old) i t (table_own new) None
+  takes old new i t h w lt same fit m = record {
+    means = λ x fits worked outs made.
+        let a = (is.from x (table_own old) worked outs [] made).gathering refl in
+        let row_fit = subst (λ ts. AllByRecursion (FitsTypes ts) t.rows) (same ∙ h.types)
+        (recursion_from_All (FitsTypes t.types) t.rows fit) in
+        let all_fit = every-append (FitsTypes (types_for merges g)) a.order t.rows a.fit row_fit in
+        is.into x (table_own new) (with_chunk i t worked) outs [] (record {
+          gathering = λ e. record {
+            nothing_made = a.nothing_made;
+            nothing_unmade = refl;
+            order = a.order ++ t.rows;
+            same = IsPermutation-trans _ _ _ (worked-more merges i t worked w lt)
+                (IsPermutation-append_left t.rows _ _ a.same);
+            fit = all_fit;
+            groups_are = append-nil (rows_in new)
+                ∙ more-groups old new t.rows h m a.order
+                (sym (append-nil (rows_in old)) ∙ a.groups_are ∙ groups-by merges g a.order a.fit)
+                ∙ sym (groups-by merges g (a.order ++ t.rows) all_fit);
+          };
+          grouped = λ e. absurd (cc);
+        });
+    types = λ ins pulled. tt;
+    sizes = tt;
+    ends = λ j n. absurd (let e = is.noting (table_own new) j n in cc);
+  }
+
+  -- a chunk that doesn't fit is dropped
+  pub drops : (own : OwnState) (i : ℕ) (t : Table) (types : List ColumnType)
+      → types ≡ types_for merges g → (t.types ≡ types → ⊥) → Takes s own i t own None
+  drops own i t types e never = record {
+    means = λ x fits. absurd (never (is.fits i t.types fits ∙ sym e));
+    types = λ ins pulled. tt;
+    sizes = tt;
+    ends = λ j n. n;
+  }
+
+  -- ---- the end
+
+  goes-on : (old new : OwnState) → NotesEnd merges g old new → (worked : Lists) (made : List Row)
+      → (b : Bool) → old.ended ≡ b → Made merges g old worked made → Made merges g new worked made
+  goes-on old new n worked made true e h =
+      subst (λ (o : OwnState). Made merges g o worked made) (sym (n.was e)) h
+  goes-on old new n worked made false e h =
+      let a = h.gathering e in
+      let rows = worked_rows merges worked in
+      subst (λ (o : OwnState). Made merges g o worked made) (sym (n.ends e)) (record {
+        gathering = λ f. absurd (cc);
+        grouped = λ f. subst (λ m. IsPermutation (whole_for merges g rows)
+            (m ++ given_for merges g (chunk_rows old.gathered))) (sym a.nothing_made)
+            (subst (λ l. IsPermutation (whole_for merges g rows) (given_for merges g l))
+            (sym a.groups_are) (given-whole merges g rows a.order a.same));
+      })
+
+  pub offers : (wants : ℕ → Bool) (v : Picture) (old new : OwnState) (o : Offer) → AreInputsOver v
+      → NotesEnd merges g old new → OfferComes wants o s v new → Offers wants s v old new o
+  offers wants v old new o over n comes = record {
+    leaves = record {
+      means = λ x worked outs wait h. is.into x new worked outs wait
+          (goes-on old new n worked (chunk_rows (outs 0) ++ wait) old.ended refl
+          (is.from x old worked outs wait h));
+      stays_over = λ none ended. (
+        ap (λ (x : OwnState). x.unmade) (n.was (is.ended old ended)) ∙ none,
+        is.noted new n.ended,
+      );
+    };
+    comes = comes;
+    ends = λ i lt e. inr (over i lt);
+  }
+
+  open' : (b : Bool) (n i : ℕ) → i < n → (n ≡ 1) ⊎ (b ≡ true) → open_for b i ≡ true
+  open' true n i lt e = refl
+  open' false n i lt (inl e) = eq-eqb i 0 (omega (arith, lt, e))
+  open' false n i lt (inr e) = absurd (cc)
+
+  pub comes : (v : Picture) (own : OwnState) (o : Offer) → IsNext own o
+      → (in_count v ≡ 1) ⊎ (merges ≡ true) → (AreInputsOver v → own.ended ≡ true)
+      → OfferComes (open_for merges) o s v own
+  comes v own offer.Rows n one ended = n
+  comes v own offer.Wants n one ended = record {
+    nothing = n;
+    wanting = is.wanting own.read;
+    all_over = λ h i lt. h i lt (open' merges (in_count v) i lt one);
+    noted = λ h. is.noted own (ended (λ i lt. h i lt (open' merges (in_count v) i lt one)));
+  }
+  comes v own _ n one ended = absurd n
+
+  -- ---- rows are made
+
+  makes : (old rest : List Row) (c : Table) → old ≡ c.rows ++ rest → 0 < length c.rows
+      → length c.rows ≤ max g.rows 1 → c.types ≡ group_types g
+      → Makes s (giving_own old) (giving_own rest) (Some c)
+  makes old rest c e some most types = record {
+    means = λ x worked outs h. is.into x (giving_own rest) worked outs c.rows (record {
+      gathering = λ f. absurd (cc);
+      grouped = λ f. subst (IsPermutation (whole_for merges g (worked_rows merges worked)))
+          (ap (λ l. (chunk_rows (outs 0) ++ []) ++ l) e
+          ∙ ap (λ l. l ++ (c.rows ++ rest)) (append-nil (chunk_rows (outs 0)))
+          ∙ sym (append_assoc (chunk_rows (outs 0)) c.rows rest))
+          ((is.from x (giving_own old) worked outs [] h).grouped refl);
+    });
+    types = λ ins. is.types ins c.types types;
+    sizes = is.size (length c.rows) most;
+    progress = inl some;
+    nothing = λ n. absurd (let l = ap length (sym e ∙ n) in
+        let m = length-append c.rows rest in omega (arith, l, m, some));
+    ends = λ i n. is.notes (giving_own old) i refl;
+  }
+
+  -- so many rows more are made
+  pub makes-part : (rows : List Row) (next count : ℕ) (c : Table)
+      → c.rows ≡ take count (drop next rows) → 0 < count → next + count ≤ length rows
+      → count ≤ max g.rows 1 → c.types ≡ group_types g
+      → Makes s (giving_own (drop next rows)) (giving_own (drop (next + count) rows)) (Some c)
+  makes-part rows next count c e some within most types =
+      let l = ap length e in
+      let m = length-take count (drop next rows) in
+      let d = length-drop next rows in
+      let long : length c.rows ≡ count = omega (arith, l, m, d, within) in
+      makes (drop next rows) (drop (next + count) rows) c
+      (sym (take-append-drop count (drop next rows))
+      ∙ ap (λ l. l ++ drop count (drop next rows)) (sym e)
+      ∙ ap (λ l. c.rows ++ l) (drop-drop count next rows))
+      (omega (arith, long, some)) (omega (arith, long, most)) types

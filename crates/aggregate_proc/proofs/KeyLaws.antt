@@ -1,0 +1,282 @@
+-- Keys that have one code are one key.
+use Rattle.std.proofs.Common.{◌≡◌, ℕ, zero, suc, ◌<◌, ◌+◌, ◌^◌, ◌≤◌, ◌≢◌, ◌||◌, not, cond, Bool, true, false, append_assoc, List, [], ◌∷◌, ◌++◌, length, map, flat_map, take, drop, get_or, refl, sym, ap, ap₂, ◌∙◌, subst, arith, fold, inl, inr}
+use Rattle.aggregate_proc.proofs.Prelude.{AllByRecursion, AreCells, ColumnType, IsCell, IsSame, Row, Value, append-nil, at_drop_more, cases_eq, cast_signed, cast_unsigned, count_up, drop_at, flat_map-append, from_le_bytes, from_le_bytes-to_le_bytes_8, get_or-map, get_or_default, insert_key, key_code, key_of, length-append, list_any, map-append, nat_list_eq_equiv, places_from, position_or_len, row_code, same_code, same_row, same_row_is, same_text, take-suc, take_at, to_le_bytes, value_at, value_bytes, value_code}
+use mir.Syntax.{w64}
+use Rattle.chunk_data.specs.declared.typed_value.ColumnType.TheVariants as column
+use Rattle.chunk_data.specs.declared.typed_value.Value.TheVariants.{Int, UInt, Text}
+use Rattle.std.proofs.lemmas.Grind.{common_steps}
+use Rattle.proc_api.proofs.Orders.{every-append}
+use Rattle.aggregate_proc.proofs.ListLaws.{map-insert}
+
+pub same_code_is : IsSame same_code
+same_code_is = record {
+  itself = λ x. nat_list_eq_equiv.refl x;
+  one = λ x y e. same_text x y (sym e);
+}
+
+-- a value, and what follows it
+record AreOne (v w : Value) (xs ys : List ℕ) : Type 0 where
+  value : v ≡ w
+  rest : xs ≡ ys
+
+split : (a b xs ys : List ℕ) → length a ≡ length b → a ++ xs ≡ b ++ ys → (a ≡ b) × (xs ≡ ys)
+split a b xs ys l e = (
+  sym (take_at a xs (length a) refl) ∙ ap (take (length a)) e ∙ take_at b ys (length a) (sym l),
+  sym (drop_at a xs (length a) refl) ∙ ap (drop (length a)) e ∙ drop_at b ys (length a) (sym l),
+)
+
+number-bytes : (m n : ℕ) (xs ys : List ℕ) → m < 2 ^ 64 → n < 2 ^ 64
+    → to_le_bytes w64 m ++ xs ≡ to_le_bytes w64 n ++ ys → (m ≡ n) × (xs ≡ ys)
+number-bytes m n xs ys p q e =
+    let s = split (to_le_bytes w64 m) (to_le_bytes w64 n) xs ys refl e in (
+      sym (from_le_bytes-to_le_bytes_8 m p) ∙ ap (from_le_bytes w64) s.0
+          ∙ from_le_bytes-to_le_bytes_8 n q,
+      s.1,
+    )
+
+values-one : (t : ColumnType) (v w : Value) (xs ys : List ℕ) → IsCell t v → IsCell t w
+    → value_bytes v ++ xs ≡ value_bytes w ++ ys → AreOne v w xs ys
+values-one column.Int64 (Int y) (Int z) xs ys p q e =
+    let s = number-bytes (cast_unsigned w64 y) (cast_unsigned w64 z) xs ys p.1 q.1 e in
+    record { value = ap Int (sym p.0 ∙ ap (cast_signed w64) s.0 ∙ q.0); rest = s.1 }
+values-one column.UInt64 (UInt m) (UInt n) xs ys p q e =
+    let s = number-bytes m n xs ys p q e in record { value = ap UInt s.0; rest = s.1 }
+values-one column.Text (Text a) (Text b) xs ys p q e =
+    let s = number-bytes (length a) (length b) (a ++ xs) (b ++ ys) p q
+    (sym (append_assoc (to_le_bytes w64 (length a)) a xs) ∙ e
+    ∙ append_assoc (to_le_bytes w64 (length b)) b ys) in
+    let r = split a b xs ys s.0 s.1 in
+    record { value = ap Text r.0; rest = r.1 }
+values-one column.Int64 (Int y) w xs ys p q e = absurd q
+values-one column.Int64 v w xs ys p q e = absurd p
+values-one column.UInt64 (UInt m) w xs ys p q e = absurd q
+values-one column.UInt64 v w xs ys p q e = absurd p
+values-one column.Text (Text a) w xs ys p q e = absurd q
+values-one column.Text v w xs ys p q e = absurd p
+
+bytes-one : (types : List ColumnType) (a b : Row) → AreCells types a → AreCells types b
+    → flat_map value_bytes a ≡ flat_map value_bytes b → a ≡ b
+bytes-one [] [] [] p q e = refl
+bytes-one [] [] (w ∷ b) p q e = absurd q
+bytes-one [] (v ∷ a) b p q e = absurd p
+bytes-one (t ∷ types) [] b p q e = absurd p
+bytes-one (t ∷ types) (v ∷ a) [] p q e = absurd q
+bytes-one (t ∷ types) (v ∷ a) (w ∷ b) p q e =
+    let o = values-one t v w (flat_map value_bytes a) (flat_map value_bytes b) p.0 q.0 e in
+    ap₂ ◌∷◌ o.value (bytes-one types a b p.1 q.1 o.rest)
+
+value-one : (t : ColumnType) (v w : Value) → IsCell t v → IsCell t w
+    → value_code v ≡ value_code w → v ≡ w
+value-one column.Int64 (Int y) (Int z) p q e =
+    ap Int (sym p.0 ∙ ap (λ l. cast_signed w64 (get_or l 0 0)) e ∙ q.0)
+value-one column.UInt64 (UInt m) (UInt n) p q e = ap UInt (ap (λ l. get_or l 0 0) e)
+value-one column.Text (Text a) (Text b) p q e = ap Text e
+value-one column.Int64 (Int y) w p q e = absurd q
+value-one column.Int64 v w p q e = absurd p
+value-one column.UInt64 (UInt m) w p q e = absurd q
+value-one column.UInt64 v w p q e = absurd p
+value-one column.Text (Text a) w p q e = absurd q
+value-one column.Text v w p q e = absurd p
+
+cells-long : (types : List ColumnType) (a : Row) → AreCells types a → length a ≡ length types
+cells-long [] [] h = refl
+cells-long [] (v ∷ a) h = absurd h
+cells-long (t ∷ types) [] h = absurd h
+cells-long (t ∷ types) (v ∷ a) h = ap suc (cells-long types a h.1)
+
+pub many-code : (key : Row) → length key ≢ 1 → key_code key ≡ flat_map value_bytes key
+many-code key ne = grind (arith, common_steps)
+
+key-one : (types : List ColumnType) (a b : Row) → AreCells types a → AreCells types b
+    → key_code a ≡ key_code b → a ≡ b
+key-one types a b p q e =
+    let l = cells-long types a p in
+    let m = cells-long types b q in
+    elim (cases_eq (length types) 1) [
+      | inl one ↦ single types a b p q (l ∙ one) (m ∙ one) e
+      | inr ne ↦ bytes-one types a b p q
+          (sym (many-code a (λ f. ne (sym l ∙ f))) ∙ e ∙ many-code b (λ f. ne (sym m ∙ f)))
+    ]
+  where
+    single : (types : List ColumnType) (a b : Row) → AreCells types a → AreCells types b
+        → length a ≡ 1 → length b ≡ 1 → key_code a ≡ key_code b → a ≡ b
+    single [] a b p q l m e = absurd (let n = cells-long [] a p in omega (arith, n, l))
+    single (t ∷ types) [] b p q l m e = absurd p
+    single (t ∷ types) (v ∷ a) [] p q l m e = absurd q
+    single (t ∷ types) (v ∷ []) (w ∷ []) p q l m e =
+        ap (λ x. x ∷ []) (value-one t v w p.0 q.0 e)
+    single (t ∷ types) (v ∷ []) (w ∷ y ∷ b) p q l m e = absurd (omega (arith, m))
+    single (t ∷ types) (v ∷ x ∷ a) b p q l m e = absurd (omega (arith, l))
+
+both-or-none : (a b : Bool) (P : Type 0) → (a ≡ true → P) → (P → b ≡ true) → (b ≡ true → P)
+    → (P → a ≡ true) → a ≡ b
+both-or-none a b P f g h k = grind (arith, common_steps)
+
+-- Keys have one code exactly where they are one.
+pub codes-agree : (types : List ColumnType) (a b : Row) → AreCells types a → AreCells types b
+    → same_code (key_code a) (key_code b) ≡ same_row a b
+codes-agree types a b p q =
+    both-or-none _ _ (a ≡ b) (λ s. key-one types a b p q (same_code_is.one _ _ s))
+    (λ k. ap (same_row a) (sym k) ∙ same_row_is.itself a) (same_row_is.one a b)
+    (λ k. ap (λ c. same_code (key_code a) (key_code c)) (sym k) ∙ same_code_is.itself (key_code a))
+
+-- ---- codes in place of keys
+
+module _ (types : List ColumnType) where
+  place-key : (k : Row) → AreCells types k → (keys : List Row)
+      → AllByRecursion (AreCells types) keys
+      → position_or_len (same_code (key_code k)) (map key_code keys)
+      ≡ position_or_len (same_row k) keys
+  place-key k p [] h = refl
+  place-key k p (x ∷ keys) h =
+      ap₂ (λ b n. cond (not b) (1 + n) 0) (codes-agree types k x p h.0) (place-key k p keys h.1)
+
+  any-key : (k : Row) → AreCells types k → (keys : List Row) → AllByRecursion (AreCells types) keys
+      → list_any (same_code (key_code k)) (map key_code keys) ≡ list_any (same_row k) keys
+  any-key k p [] h = refl
+  any-key k p (x ∷ keys) h =
+      ap₂ (λ b c. b || c) (codes-agree types k x p h.0) (any-key k p keys h.1)
+
+  insert-code : (k : Row) → AreCells types k → (keys : List Row)
+      → AllByRecursion (AreCells types) keys
+      → insert_key same_code (map key_code keys) (key_code k)
+      ≡ map key_code (insert_key same_row keys k)
+  insert-code k p keys h = map-insert key_code _ _ keys k (any-key k p keys h)
+
+  insert-cells : (k : Row) → AreCells types k → (keys : List Row)
+      → AllByRecursion (AreCells types) keys
+      → AllByRecursion (AreCells types) (insert_key same_row keys k)
+  insert-cells k p keys h = go (list_any (same_row k) keys)
+    where
+      go : (b : Bool) → AllByRecursion (AreCells types) (cond b keys (keys ++ k ∷ []))
+      go true = h
+      go false = every-append (AreCells types) keys (k ∷ []) h (p, tt)
+
+  -- The places of keys are those of their codes,
+  pub places-keys : (ks : List Row) → AllByRecursion (AreCells types) ks → (keys : List Row)
+      → AllByRecursion (AreCells types) keys
+      → places_from same_code (map key_code keys) (map key_code ks) ≡ places_from same_row keys ks
+  places-keys [] p keys h = refl
+  places-keys (k ∷ ks) p keys h =
+      ap₂ ◌∷◌ (place-key k p.0 keys h)
+      (ap (λ l. places_from same_code l (map key_code ks)) (insert-code k p.0 keys h)
+      ∙ places-keys ks p.1 (insert_key same_row keys k) (insert-cells k p.0 keys h))
+
+  -- and the codes that are seen then are those of the keys.
+  pub codes-keys : (ks : List Row) → AllByRecursion (AreCells types) ks → (keys : List Row)
+      → AllByRecursion (AreCells types) keys
+      → fold (insert_key same_code) (map key_code keys) (map key_code ks)
+      ≡ map key_code (fold (insert_key same_row) keys ks)
+  codes-keys [] p keys h = refl
+  codes-keys (k ∷ ks) p keys h =
+      ap (λ l. fold (insert_key same_code) l (map key_code ks)) (insert-code k p.0 keys h)
+      ∙ codes-keys ks p.1 (insert_key same_row keys k) (insert-cells k p.0 keys h)
+
+-- ---- what the code writes
+
+-- one value of the key more
+pub key-next : (c : ℕ) (row : Row) → key_of (c + 1) row ≡ key_of c row ++ value_at row c ∷ []
+unfolding count_up
+key-next c row =
+    let next : c + 1 ≡ suc c = omega arith in
+    ap (λ n. key_of n row) next ∙ map-append (value_at row) (count_up c) (c ∷ [])
+
+pub key-none : (row : Row) → key_of 0 row ≡ []
+unfolding count_up
+key-none row = refl
+
+pub key-first : (row : Row) → key_of 1 row ≡ value_at row 0 ∷ []
+unfolding count_up
+key-first row = refl
+
+pub key-long : (n : ℕ) (row : Row) → length (key_of n row) ≡ n
+unfolding count_up
+key-long zero row = refl
+key-long (suc n) row =
+    let e = ap length (map-append (value_at row) (count_up n) (n ∷ [])) in
+    let l = length-append (key_of n row) (value_at row n ∷ []) in
+    let m = key-long n row in omega (arith, e, l, m)
+
+pub bytes-next : (c : ℕ) (row : Row) (code : List ℕ) (v : Value)
+    → code ≡ flat_map value_bytes (key_of c row) ++ value_bytes v → v ≡ value_at row c
+    → code ≡ flat_map value_bytes (key_of (c + 1) row)
+bytes-next c row code v e is =
+    e ∙ ap (λ w. flat_map value_bytes (key_of c row) ++ value_bytes w) is
+    ∙ ap (λ l. flat_map value_bytes (key_of c row) ++ l)
+    (sym (append-nil (value_bytes (value_at row c))))
+    ∙ sym (ap (flat_map value_bytes) (key-next c row)
+    ∙ flat_map-append value_bytes (key_of c row) (value_at row c ∷ []))
+
+cells-append : (types : List ColumnType) (key : Row) (t : ColumnType) (v : Value)
+    → AreCells types key → IsCell t v → AreCells (types ++ t ∷ []) (key ++ v ∷ [])
+cells-append [] [] t v h p = (p, tt)
+cells-append [] (w ∷ key) t v h p = absurd h
+cells-append (u ∷ types) [] t v h p = absurd h
+cells-append (u ∷ types) (w ∷ key) t v h p = (h.0, cells-append types key t v h.1 p)
+
+pub cells-next : (types : List ColumnType) (c : ℕ) (row : Row)
+    → AreCells (take c types) (key_of c row)
+    → c < length types → IsCell (get_or types c column.Text) (value_at row c)
+    → AreCells (take (c + 1) types) (key_of (c + 1) row)
+cells-next types c row h lt cell =
+    let next : c + 1 ≡ suc c = omega arith in
+    subst (λ k. AreCells (take (c + 1) types) k) (sym (key-next c row))
+    (subst (λ ts. AreCells ts (key_of c row ++ value_at row c ∷ []))
+    (sym (ap (λ n. take n types) next ∙ take-suc types c column.Text lt))
+    (cells-append (take c types) (key_of c row) _ _ h cell))
+
+-- the cell of a column of the rows
+pub cell-value : (rows : List Row) (c i : ℕ) (vs : List Value)
+    → vs ≡ map (λ (row : Row). value_at row c) rows → i < length rows
+    → value_at vs i ≡ value_at (get_or rows i []) c
+cell-value rows c i vs e lt =
+    ap (λ l. value_at l i) e ∙ get_or-map (λ (row : Row). value_at row c) rows i [] (Text []) lt
+
+pub cell-type : (types : List ColumnType) (c : ℕ) (kind : ColumnType) (v w : Value)
+    → kind ≡ get_or types c kind → c < length types → v ≡ w → IsCell kind v
+    → IsCell (get_or types c column.Text) w
+cell-type types c kind v w e lt is h =
+    subst (λ x. IsCell (get_or types c column.Text) x) is
+    (subst (λ t. IsCell t v) (e ∙ get_or_default types c kind column.Text lt) h)
+
+-- no key, or a key of one value
+pub none-code : (n : ℕ) (row : Row) → n ≡ 0 → [] ≡ row_code n row
+none-code n row none = sym (ap (λ k. row_code k row) none ∙ ap key_code (key-none row))
+
+pub none-cells : (types : List ColumnType) (n : ℕ) (row : Row) → n ≡ 0
+    → AreCells (take n types) (key_of n row)
+none-cells types n row none =
+    subst (λ k. AreCells (take k types) (key_of k row)) (sym none)
+    (subst (AreCells (take 0 types)) (sym (key-none row)) (tt {0}))
+
+pub one-code : (n : ℕ) (row : Row) (v : Value) → n ≡ 1 → v ≡ value_at row 0
+    → value_code v ≡ row_code n row
+one-code n row v one is =
+    ap value_code is ∙ sym (ap (λ k. row_code k row) one ∙ ap key_code (key-first row))
+
+pub one-cells : (types : List ColumnType) (n : ℕ) (row : Row) (kind : ColumnType) (v : Value)
+    → n ≡ 1 → n ≤ length types → kind ≡ get_or types 0 kind → v ≡ value_at row 0 → IsCell kind v
+    → AreCells (take n types) (key_of n row)
+one-cells types n row kind v one le e is cell =
+    let lt : 0 < length types = omega (arith, one, le) in
+    subst (λ k. AreCells (take k types) (key_of k row)) (sym one)
+    (cells-next types 0 row (none-cells types 0 row refl) lt
+    (cell-type types 0 kind v _ e lt is cell))
+
+pub place-next : (codes es : List (List ℕ)) (i : ℕ) (ps : List ℕ) (e : List ℕ) → e ≡ get_or es i []
+    → i < length es
+    → (ps ++ position_or_len (same_code e) codes ∷ []) ++ places_from same_code
+    (insert_key same_code codes e) (drop (i + 1) es) ≡ ps ++ places_from same_code codes (drop i es)
+place-next codes es i ps e is lt =
+    append_assoc ps (position_or_len (same_code e) codes ∷ [])
+    (places_from same_code (insert_key same_code codes e) (drop (i + 1) es))
+    ∙ ap (λ l. ps ++ l) (ap (λ x. places_from same_code codes (x ∷ drop (i + 1) es)) is
+    ∙ sym (at_drop_more (places_from same_code codes) es i [] lt))
+
+pub codes-next : (codes es : List (List ℕ)) (i : ℕ) (e : List ℕ) → e ≡ get_or es i []
+    → i < length es
+    → fold (insert_key same_code) (insert_key same_code codes e) (drop (i + 1) es)
+    ≡ fold (insert_key same_code) codes (drop i es)
+codes-next codes es i e is lt =
+    ap (λ x. fold (insert_key same_code) (insert_key same_code codes x) (drop (i + 1) es)) is
+    ∙ sym (at_drop_more (fold (insert_key same_code) codes) es i [] lt)

@@ -1,0 +1,12 @@
+mod Prelude
+mod ListLaws
+mod FoldLaws
+mod NextLaws
+mod PutLaws
+mod Classes
+mod KeyLaws
+mod CodeLaws
+mod GroupLaws
+mod CallLaws
+mod BuilderLaws
+mod GroupingLaws

@@ -1,0 +1,45 @@
+-- What is true of each element of a list, of its filtered and its distinct elements; the rows of
+-- columns.
+use Rattle.std.proofs.Common.{◌≡◌, ◌≤◌, ℕ, zero, suc, sym, take, get_or, Bool, true, false, not, cond, List, [], ◌∷◌, ◌++◌, length, map, filter, refl, ap, ap₂, ◌∙◌, arith}
+use Rattle.std.proofs.lemmas.Grind.{common_steps}
+use Rattle.aggregate_proc.proofs.Prelude.{AllByRecursion, count_up, distinct, map-append, take-suc}
+
+-- what is made of the elements, of which one more is new where c is false
+pub map-insert : {A B : Type 0} (f : A → B) (b c : Bool) (xs : List A) (x : A) → b ≡ c
+    → cond b (map f xs) (map f xs ++ f x ∷ []) ≡ map f (cond c xs (xs ++ x ∷ []))
+map-insert f b c xs x e = grind (arith, common_steps)
+
+pub all-filter : {A : Type 0} (P : A → Type 0) (p : A → Bool) (xs : List A) → AllByRecursion P xs
+    → AllByRecursion P (filter p xs)
+all-filter P p [] h = tt
+all-filter P p (x ∷ xs) h =
+    elim (p x) as (λ b. AllByRecursion P (cond b (x ∷ filter p xs) (filter p xs)))
+    [ true ↦ (h.0, all-filter P p xs h.1) | false ↦ all-filter P p xs h.1 ]
+
+pub all-distinct : {A : Type 0} (P : A → Type 0) (R : A → A → Bool) (xs : List A)
+    → AllByRecursion P xs → AllByRecursion P (distinct R xs)
+unfolding distinct
+all-distinct P R [] h = tt
+all-distinct P R (x ∷ xs) h =
+    (h.0, all-filter P (λ y. not (R x y)) (distinct R xs) (all-distinct P R xs h.1))
+
+pub map-same : {A B : Type 0} (P : A → Type 0) (f g : A → B) → ((x : A) → P x → f x ≡ g x)
+    → (xs : List A) → AllByRecursion P xs → map f xs ≡ map g xs
+map-same P f g e [] h = refl
+map-same P f g e (x ∷ xs) h = ap₂ ◌∷◌ (e x h.0) (map-same P f g e xs h.1)
+
+pub filter-same : {A : Type 0} (P : A → Type 0) (p q : A → Bool) → ((x : A) → P x → p x ≡ q x)
+    → (xs : List A) → AllByRecursion P xs → filter p xs ≡ filter q xs
+filter-same P p q e [] h = refl
+filter-same P p q e (x ∷ xs) h =
+    ap₂ (λ b l. cond b (x ∷ l) l) (e x h.0) (filter-same P p q e xs h.1)
+
+-- the first elements, one by one
+pub taken : {A : Type 0} (n : ℕ) (l : List A) (d : A) → n ≤ length l
+    → map (λ c. get_or l c d) (count_up n) ≡ take n l
+unfolding count_up
+taken zero l d le = refl
+taken (suc n) l d le =
+    map-append (λ c. get_or l c d) (count_up n) (n ∷ [])
+    ∙ ap (λ xs. xs ++ get_or l n d ∷ []) (taken n l d (omega (arith, le)))
+    ∙ sym (take-suc l n d (omega (arith, le)))

@@ -1,0 +1,29 @@
+use Rattle.std.proofs.Common.{◌∙◌, sym, ap, get_or, map, arith}
+use Rattle.aggregate_proc.proofs.Prelude.{get_or_default}
+use Rattle.chunk_data.specs.declared.typed_value.Value.TheVariants as value
+use Rattle.aggregate_proc.specs.declared.fold.Fold.TheVariants as fold
+use Rattle.aggregate_proc.proofs.NextLaws.{counted-first, counted-one}
+use Rattle.aggregate_proc.proofs.PutLaws.{left-none, step-push, step-set}
+use Rattle.aggregate_proc.proofs.fold.fold_counts.Goals.{then-place-len, else-place-len+in_ok-push}
+use Rattle.aggregate_proc.proofs.fold.fold_counts.Goals as goal
+
+pub loop-i-preserved : goal.loop-i-preserved
+loop-i-preserved c = λ vs e.
+    let v = get_or vs c.loop-i.i (value.UInt 0) in
+    let at = get_or_default vs c.loop-i.i v (value.UInt 0) (omega (arith, e)) in
+    elim c.if-place-len.branch [
+      | then-place-len w ↦
+          step-set fold.Count value.UInt c.loop-i.states.items c.args.places.now vs c.loop-i.i v
+          (omega arith) (omega (arith, e)) at _ _ w.index.result.now (ap (λ l. l.items) w.states-is)
+          (omega arith) w.index.ensures (counted-one w.index.result.now v) ∙ c.loop-i.invariant vs e
+      | else-place-len+in_ok-push w ↦
+          step-push fold.Count value.UInt c.loop-i.states.items c.args.places.now vs c.loop-i.i v
+          (omega arith) (omega (arith, e)) at _ 1
+          (ap (λ l. l.items) w.states-is ∙ w.in_ok-push.ensures.items) (omega arith)
+          (counted-first v) ∙ c.loop-i.invariant vs e
+    ]
+
+pub returns : goal.returns
+returns c = λ vs e.
+    sym (left-none fold.Count (map value.UInt c.loop-i.states.items) c.args.places.now vs c.loop-i.i
+    c.loop-i-test.false) ∙ c.loop-i.invariant vs e

@@ -1,0 +1,28 @@
+use Rattle.std.proofs.Common.{◌∙◌, sym, ap, get_or, map, arith}
+use Rattle.chunk_data.specs.declared.typed_value.Value.TheVariants as value
+use Rattle.aggregate_proc.proofs.NextLaws.{starts-uint}
+use Rattle.aggregate_proc.proofs.PutLaws.{left-none, push-next, set-next}
+use Rattle.aggregate_proc.proofs.fold.fold_uints.Goals.{then-place-len, else-place-len+in_ok-push}
+use Rattle.aggregate_proc.proofs.fold.fold_uints.Goals as goal
+
+pub loop-i-preserved : goal.loop-i-preserved
+loop-i-preserved c =
+    elim c.if-place-len.branch [
+      | then-place-len w ↦
+          set-next c.args.op value.UInt c.loop-i.states.items c.args.places.now c.args.numbers.now
+          c.loop-i.i 0 (omega arith) c.requires.long _ w.next_uint.result w.index.result.now
+          (ap (λ l. l.items) w.states-is) (omega arith) w.index.ensures w.next_uint.ensures
+          ∙ c.loop-i.invariant
+      | else-place-len+in_ok-push w ↦
+          push-next c.args.op value.UInt c.loop-i.states.items c.args.places.now c.args.numbers.now
+          c.loop-i.i 0 (omega arith) c.requires.long _ (get_or c.args.numbers.now c.loop-i.i 0)
+          (ap (λ l. l.items) w.states-is ∙ w.in_ok-push.ensures.items) (omega arith)
+          (sym (starts-uint c.args.op _ c.requires.op
+          (omega (arith, c.type_inv.numbers c.loop-i.i))))
+          ∙ c.loop-i.invariant
+    ]
+
+pub returns : goal.returns
+returns c =
+    sym (left-none c.args.op (map value.UInt c.loop-i.states.items) c.args.places.now
+    (map value.UInt c.args.numbers.now) c.loop-i.i c.loop-i-test.false) ∙ c.loop-i.invariant

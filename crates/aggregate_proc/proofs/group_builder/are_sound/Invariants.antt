@@ -1,0 +1,8 @@
+use Rattle.std.proofs.Common.{◌≡◌, ◌<◌, ℕ, true, get_or}
+use Rattle.aggregate_proc.proofs.Prelude.{StateCall, can_fold, fold_of}
+use Rattle.aggregate_proc.proofs.group_builder.are_sound.Given as goal
+
+abbrev pub invariant-loop-i : goal.invariant-loop-i
+invariant-loop-i l =
+    (k : ℕ) (d : StateCall) → k < l.i
+    → can_fold (fold_of (get_or l.calls k d).op) (get_or l.calls k d).kind ≡ true

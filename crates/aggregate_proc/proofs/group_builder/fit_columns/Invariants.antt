@@ -1,0 +1,6 @@
+use Rattle.std.proofs.Common.{◌<◌, ℕ, get_or}
+use Rattle.aggregate_proc.proofs.Prelude.{FitsColumn, FoldColumn}
+use Rattle.aggregate_proc.proofs.group_builder.fit_columns.Given as goal
+
+abbrev pub invariant-loop-i : goal.invariant-loop-i
+invariant-loop-i l = (k : ℕ) (d : FoldColumn) → k < l.i → FitsColumn l.types (get_or l.columns k d)

@@ -1,0 +1,8 @@
+use Rattle.std.proofs.Common.{◌≡◌, ◌++◌, drop, map}
+use Rattle.aggregate_proc.proofs.Prelude.{call_foldings, empty_column}
+use Rattle.aggregate_proc.proofs.group_builder.push_calls.Given as goal
+
+abbrev pub invariant-loop-i : goal.invariant-loop-i
+invariant-loop-i l =
+    l.columns.items ++ map empty_column (call_foldings l.merges l.c (drop l.i l.calls))
+    ≡ l.initial.columns.items ++ map empty_column (call_foldings l.merges l.first l.calls)

@@ -1,0 +1,16 @@
+use Rattle.aggregate_proc.proofs.GroupLaws.{empty-table, no-rows}
+use Rattle.aggregate_proc.proofs.Prelude.{TableView, table_view, codes_in}
+use Rattle.std.proofs.Common.{rules}
+use Rattle.aggregate_proc.proofs.group_table.GroupTable.new.Goals as goal
+
+pub invariant_of-result : goal.invariant_of-result
+invariant_of-result c =
+    let t = table_view c.args.types c.args.keys c.new-seen.result c.args.columns.items in (
+      empty-table t c.requires.wide c.requires.fits c.new-seen.ensures.none c.requires.empty,
+      search rules,
+    )
+
+pub returns-clause-rows : goal.returns-clause-rows
+returns-clause-rows c =
+    let t = table_view c.args.types c.args.keys c.new-seen.result c.args.columns.items in
+    no-rows t c.new-seen.ensures.none (invariant_of-result c).0

@@ -1,0 +1,10 @@
+use Rattle.std.proofs.Common.{◌≡◌, IfOk, subst}
+use Rattle.aggregate_proc.proofs.Prelude.{Table}
+use Rattle.aggregate_proc.proofs.BuilderLaws.{table-types}
+use Rattle.aggregate_proc.proofs.grouping.whole_chunk.Goals as goal
+
+pub returns-clause-types : goal.returns-clause-types
+returns-clause-types c =
+    subst (λ ks. IfOk c.into_chunk.result (λ (d : Table). d.types ≡ ks))
+    (table-types c.args.merges c.args.group.now c.args.table c.requires.table)
+    c.into_chunk.ensures.types

@@ -1,0 +1,81 @@
+-- The code of a key: a number's bits, a text's bytes, or the bytes of all values. It is the same
+-- for equal keys alone.
+use Rattle.std.specs.Prelude.{◌≡◌, ◌≢◌, ℕ, ◌<◌, ◌^◌, cond, Bool, List, [], ◌∷◌, ◌++◌, length, map, flat_map, nat_eq, Vec}
+use Rattle.aggregate_proc.specs.Prelude.{ColumnType, IndexSet, Value, cast_signed, cast_unsigned, count_up, insert_key, pointwise, position_or_len, to_le_bytes}
+use mir.Syntax.{w64}
+use Rattle.chunk_data.specs.Names.{Row, value_at}
+use Rattle.chunk_data.specs.declared.typed_value.ColumnType.TheVariants as column
+use Rattle.chunk_data.specs.declared.typed_value.Value.TheVariants.{Int, UInt, Text}
+use Rattle.aggregate_proc.specs.declared.key_code.SeenKeys.{SeenKeys}
+use Rattle.aggregate_proc.specs.declared.key_code.SeenKeys.TheVariants as seen
+
+-- the key of a row: its first n values
+abbrev pub key_of : ℕ → Row → Row
+key_of n row = map (value_at row) (count_up n)
+
+-- a number's eight bytes, or a text's length and bytes
+abbrev pub value_bytes : Value → List ℕ
+value_bytes (Int z) = to_le_bytes w64 (cast_unsigned w64 z)
+value_bytes (UInt n) = to_le_bytes w64 n
+value_bytes (Text bytes) = to_le_bytes w64 (length bytes) ++ bytes
+
+-- the code of a key of one value
+abbrev pub value_code : Value → List ℕ
+value_code (Int z) = cast_unsigned w64 z ∷ []
+value_code (UInt n) = n ∷ []
+value_code (Text bytes) = bytes
+
+abbrev pub key_code : Row → List ℕ
+key_code [] = []
+key_code (v ∷ []) = value_code v
+key_code (v ∷ w ∷ key) = flat_map value_bytes (v ∷ w ∷ key)
+
+abbrev pub row_code : ℕ → Row → List ℕ
+row_code n row = key_code (key_of n row)
+
+-- a value that a column of the type has
+abbrev pub IsCell : ColumnType → Value → Type 0
+IsCell column.Int64 (Int z) =
+    (cast_signed w64 (cast_unsigned w64 z) ≡ z) × (cast_unsigned w64 z < 2 ^ 64)
+IsCell column.UInt64 (UInt n) = n < 2 ^ 64
+IsCell column.Text (Text bytes) = length bytes < 2 ^ 64
+IsCell t v = ⊥
+
+-- the values of columns of the types
+abbrev pub AreCells : List ColumnType → Row → Type 0
+AreCells [] [] = Unit {0}
+AreCells (t ∷ types) (v ∷ key) = IsCell t v × AreCells types key
+AreCells types key = ⊥
+
+module _ {X : Type 0} (same : X → X → Bool) where
+  -- the place of each code among those before it, each once in order of first appearance
+  abbrev pub places_from : List X → List X → List ℕ
+  places_from codes [] = []
+  places_from codes (x ∷ xs) =
+      position_or_len (same x) codes ∷ places_from (insert_key same codes x) xs
+
+abbrev pub same_code : List ℕ → List ℕ → Bool
+same_code = pointwise nat_eq
+
+-- the place of a code among those seen, where it goes to the end if it is new
+pub record FindsCode (code : List ℕ) (old new : List (List ℕ)) (place : ℕ) : Type 0 where
+  pub is : place ≡ position_or_len (same_code code) old
+  pub codes : new ≡ insert_key same_code old code
+
+abbrev pub number_codes : {S : Type 0} → IndexSet ℕ S → List (List ℕ)
+number_codes numbers = map (λ n. n ∷ []) numbers.keys
+
+abbrev pub byte_codes : {Z S : Type 0} → IndexSet (Vec ℕ Z) S → List (List ℕ)
+byte_codes {Z = Z} codes = map (λ (code : Vec ℕ Z). code.items) codes.keys
+
+-- the codes of the keys, in their order
+abbrev pub codes_in : SeenKeys → List (List ℕ)
+codes_in (seen.Whole some) = cond some ([] ∷ []) []
+codes_in (seen.Numbers numbers) = number_codes numbers
+codes_in (seen.Bytes codes) = byte_codes codes
+
+-- keys of so many values, of which the first is of the type, are seen so
+abbrev pub IsSeenFor : ℕ → ColumnType → SeenKeys → Type 0
+IsSeenFor n t (seen.Whole some) = n ≡ 0
+IsSeenFor n t (seen.Numbers numbers) = (n ≡ 1) × (t ≢ column.Text)
+IsSeenFor n t (seen.Bytes codes) = n ≡ 1 → t ≡ column.Text

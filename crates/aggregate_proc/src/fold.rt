@@ -1,0 +1,295 @@
+ghost use Rattle.std.specs.Prelude.{◌≡◌, ◌≢◌, true, IsTrue, if◌then◌else◌, List, [], length, map, OnOk, IfOk};
+ghost use Rattle.chunk_data.specs.Columns.{kind_of, values};
+ghost use Rattle.chunk_data.specs.declared.typed_value.Value.{Value};
+ghost use Rattle.chunk_data.specs.declared.typed_value.Value.TheVariants as value;
+ghost use Rattle.aggregate_proc.specs.Cells.{cell_kind, cell_values, can_fold as may_fold, FitsColumn};
+ghost use Rattle.aggregate_proc.specs.Folds.{next_folded, put_all, with_rows};
+ghost use Rattle.aggregate_proc.specs.declared.fold.Fold.TheVariants as fold;
+
+use chunk_data::{Bytes, Chunk, Column, ColumnType, Memory, Texts};
+use std::alloc::Global;
+use std::marker::Model;
+
+/// What a column of a group table makes of the values of a group.
+#[derive(Clone, Copy, Debug, PartialEq, Eq)]
+pub(crate) enum Fold {
+    /// The first value: a key's column keeps it.
+    First,
+    Count,
+    Add,
+    /// The sum of counts.
+    AddCounts,
+    Least,
+    Greatest,
+}
+
+/// The values of a column of a group table. Texts lie apart, since each may be replaced.
+#[derive(Debug, Drop)]
+pub(crate) enum Cells {
+    Ints(Vec<i64>),
+    UInts(Vec<u64>),
+    Texts(Vec<Bytes>),
+}
+
+impl Cells {
+    fn new(alloc: Global, kind: ColumnType) -> Cells
+        ensures kind { cell_kind result ≡ kind }
+        ensures empty { cell_values result ≡ [] }
+    {
+        match kind {
+            ColumnType::Int64 => Cells::Ints(Vec::new(alloc)),
+            ColumnType::UInt64 => Cells::UInts(Vec::new(alloc)),
+            ColumnType::Text => Cells::Texts(Vec::new(alloc)),
+        }
+    }
+
+    fn kind(&self) -> ColumnType
+        ensures { result ≡ cell_kind self.now }
+    {
+        match self {
+            Cells::Ints(_) => ColumnType::Int64,
+            Cells::UInts(_) => ColumnType::UInt64,
+            Cells::Texts(_) => ColumnType::Text,
+        }
+    }
+}
+
+/// A column of a group table, of which value i is made of the values of group i in a column of the
+/// input.
+#[derive(Debug, Drop)]
+pub(crate) struct FoldColumn {
+    op: Fold,
+    input: usize,
+    cells: Cells,
+    ghost sound: { may_fold op (cell_kind cells) ≡ true },
+}
+
+impl Model for FoldColumn {
+    ghost use Rattle.aggregate_proc.specs.Cells.{cell_kind, cell_values};
+    ghost use Rattle.aggregate_proc.specs.Folds.{FoldColumn as Seen};
+
+    ghost Value = { Seen };
+
+    ghost view = { λ c. record
+        { op = c.op; input = c.input; kind = cell_kind c.cells; values = cell_values c.cells } };
+}
+
+fn next_int(op: Fold, state: i64, number: i64) -> i64
+    requires { may_fold op ColumnType.Int64 ≡ true }
+    ensures { value.Int result ≡ next_folded op (value.Int state) (value.Int number) }
+{
+    match op {
+        Fold::First | Fold::Count | Fold::AddCounts => state,
+        Fold::Add => state.wrapping_add(number),
+        Fold::Least => state.min(number),
+        Fold::Greatest => state.max(number),
+    }
+}
+
+fn next_uint(op: Fold, state: u64, number: u64) -> u64
+    requires { op ≢ fold.Count }
+    ensures { value.UInt result ≡ next_folded op (value.UInt state) (value.UInt number) }
+{
+    match op {
+        Fold::First | Fold::Count => state,
+        Fold::Add | Fold::AddCounts => state.wrapping_add(number),
+        Fold::Least => state.min(number),
+        Fold::Greatest => state.max(number),
+    }
+}
+
+/// Whether the text takes the state's place.
+fn replaces(op: Fold, state: &[u8], text: &[u8]) -> bool
+    requires { may_fold op ColumnType.Text ≡ true }
+    ensures { next_folded op (value.Text state.now) (value.Text text.now)
+        ≡ (if result then value.Text text.now else value.Text state.now) }
+{
+    match op {
+        Fold::First | Fold::Count | Fold::Add | Fold::AddCounts => false,
+        Fold::Least => text.cmp(state).is_lt(),
+        Fold::Greatest => state.cmp(text).is_lt(),
+    }
+}
+
+fn fold_ints(
+    op: Fold,
+    states: &mut Vec<i64>,
+    numbers: &[i64],
+    places: &[usize],
+) -> Result<(), Memory>
+    requires op { may_fold op ColumnType.Int64 ≡ true }
+    requires long { length numbers.now ≡ length places.now }
+    ensures { OnOk result
+        (map value.Int states.new.items
+        ≡ put_all op (map value.Int states.old.items) places.now (map value.Int numbers.now)) }
+{
+    for i in 0..places.len() {
+        let place = places[i];
+        if place < states.len() {
+            states[place] = next_int(op, states[place], numbers[i]);
+        } else {
+            states.push(numbers[i])?;
+        }
+    }
+    Ok(())
+}
+
+fn fold_uints(
+    op: Fold,
+    states: &mut Vec<u64>,
+    numbers: &[u64],
+    places: &[usize],
+) -> Result<(), Memory>
+    requires op { op ≢ fold.Count }
+    requires long { length numbers.now ≡ length places.now }
+    ensures { OnOk result
+        (map value.UInt states.new.items
+        ≡ put_all op (map value.UInt states.old.items) places.now (map value.UInt numbers.now)) }
+{
+    for i in 0..places.len() {
+        let place = places[i];
+        if place < states.len() {
+            states[place] = next_uint(op, states[place], numbers[i]);
+        } else {
+            states.push(numbers[i])?;
+        }
+    }
+    Ok(())
+}
+
+fn fold_texts(
+    op: Fold,
+    alloc: Global,
+    states: &mut Vec<Bytes>,
+    texts: &Texts,
+    places: &[usize],
+) -> Result<(), Memory>
+    requires op { may_fold op ColumnType.Text ≡ true }
+    requires long { length texts.now ≡ length places.now }
+    ensures { OnOk result
+        (map value.Text states.new.items
+        ≡ put_all op (map value.Text states.old.items) places.now (map value.Text texts.now)) }
+{
+    for i in 0..places.len() {
+        let place = places[i];
+        let text = texts.get(i);
+        if place < states.len() {
+            if replaces(op, states[place].as_slice(), text) {
+                states[place] = Bytes::from_slice(alloc, text)?;
+            }
+        } else {
+            states.push(Bytes::from_slice(alloc, text)?)?;
+        }
+    }
+    Ok(())
+}
+
+fn fold_counts(states: &mut Vec<u64>, places: &[usize]) -> Result<(), Memory>
+    ensures { OnOk result
+        ((vs : List Value) → length vs ≡ length places.now
+        → map value.UInt states.new.items
+        ≡ put_all fold.Count (map value.UInt states.old.items) places.now vs) }
+{
+    for i in 0..places.len() {
+        let place = places[i];
+        if place < states.len() {
+            states[place] = states[place].wrapping_add(1);
+        } else {
+            states.push(1)?;
+        }
+    }
+    Ok(())
+}
+
+/// Whether a column of the type can fold so.
+pub(crate) fn can_fold(op: Fold, kind: ColumnType) -> bool
+    ensures { result ≡ may_fold op kind }
+{
+    match (op, kind) {
+        (Fold::Count | Fold::AddCounts, kind) => kind == ColumnType::UInt64,
+        (Fold::Add, ColumnType::Text) => false,
+        _ => true,
+    }
+}
+
+impl FoldColumn {
+    /// Whether it folds a column of its type.
+    pub(crate) fn fits(&self, types: &[ColumnType]) -> bool
+        ensures { IsTrue result → FitsColumn types.now self.now }
+    {
+        self.op == Fold::Count
+            || (self.input < types.len() && types[self.input] == self.cells.kind())
+    }
+
+    /// A column without groups.
+    pub(crate) fn new(alloc: Global, op: Fold, input: usize, kind: ColumnType) -> FoldColumn
+        requires { may_fold op kind ≡ true }
+        ensures { result ≡ record { op = op; input = input; kind = kind; values = [] } }
+    {
+        FoldColumn {
+            op,
+            input,
+            cells: Cells::new(alloc, kind),
+        }
+    }
+
+    /// Each row goes to the group at its place.
+    pub(crate) fn add(
+        &mut self,
+        alloc: Global,
+        chunk: &Chunk,
+        places: &[usize],
+    ) -> Result<(), Memory>
+        requires fits { FitsColumn chunk.now.types self.old }
+        requires long { length places.now ≡ length chunk.now.rows }
+        ensures { OnOk result (self.new ≡ with_rows places.now chunk.now.rows self.old) }
+    {
+        match (self.op, &mut self.cells) {
+            (Fold::Count, Cells::UInts(states)) => fold_counts(states, places),
+            (Fold::Count, _) => unreachable!(),
+            (op, Cells::Ints(states)) => fold_ints(
+                op,
+                states,
+                chunk.column(self.input).ints(),
+                places,
+            ),
+            (op, Cells::UInts(states)) => fold_uints(
+                op,
+                states,
+                chunk.column(self.input).uints(),
+                places,
+            ),
+            (op, Cells::Texts(states)) => fold_texts(
+                op,
+                alloc,
+                states,
+                chunk.column(self.input).texts(),
+                places,
+            ),
+        }
+    }
+
+    /// The values of all groups, as a column of a chunk.
+    pub(crate) fn into_column(self, alloc: Global) -> Result<Column, Memory>
+        ensures kind { IfOk result (λ c. kind_of c ≡ self.kind) }
+        ensures values { IfOk result (λ c. values c ≡ self.values) }
+    {
+        let FoldColumn { cells, .. } = self;
+        match cells {
+            Cells::Ints(numbers) => Ok(Column::of_ints(numbers)),
+            Cells::UInts(numbers) => Ok(Column::of_uints(numbers)),
+            Cells::Texts(texts) => Ok(Column::of_texts(texts_of(alloc, texts)?)),
+        }
+    }
+}
+
+fn texts_of(alloc: Global, items: Vec<Bytes>) -> Result<Texts, Memory>
+    ensures { IfOk result (λ t. t ≡ items.items) }
+{
+    let mut texts = Texts::new(alloc);
+    texts.reserve(items.len())?;
+    for i in 0..items.len() {
+        texts.push(items[i].as_slice())?;
+    }
+    Ok(texts)
+}
