@@ -1,8 +1,8 @@
 -- A box works, or fetches.
-use Rattle.exec_laws.proofs.Words.{Acts, ActsCell, AreAsKept, ArePortsOf, BoxHolds, BoxPicture, CellPicture, Edge, IsSome, IsTrue, List, Lists, NodeHolds, Picture, Running, StaysBox, Wire, ap, arith, false, follows-same, lying, pushes_to, refl, rules, subst, sym, wire_at, ℕ, ◌++◌, ◌<◌, ◌∙◌, ◌≡◌, ◌≢◌}
+use Rattle.exec_laws.proofs.Words.{Acts, ActsCell, AreAsKept, ArePortsOf, BoxHolds, BoxPicture, CellPicture, Edge, IsSome, IsTrue, List, Lists, NodeHolds, Picture, Running, StaysBox, Wire, ap, arith, false, follows-same, refl, rules, sym, ℕ, ◌<◌, ◌≡◌, ◌≢◌}
 use Rattle.exec_laws.specs.declared.edges.NodeState.TheVariants as node
-use Rattle.exec_laws.proofs.Nodes.{at-node, busy-born, moved-on}
-use Rattle.exec_laws.proofs.Sides.{end-marked}
+use Rattle.exec_laws.proofs.Nodes.{busy-born, moved-on}
+use Rattle.exec_laws.proofs.Sides.{same-at, stays-end}
 
 -- ---- what stays of a box
 
@@ -14,34 +14,25 @@ stays-both p q r h1 h2 = search rules
 
 -- ---- the node and its edges
 
-acted-box : (inputs outputs : ℕ) (p q : BoxPicture) (pulled pushed : Lists) → Acts p q
-    → BoxHolds inputs outputs p pulled pushed → BoxHolds inputs outputs q pulled pushed
-acted-box inputs outputs p q pulled pushed h1 h2 = search rules
-
 -- A node that isn't over worked or fetched without a fault, and now it is due, or due a call.
-pub acted : (count : ℕ) (wires : List Wire) (n : ℕ) → n < count → (cells after : ℕ → CellPicture) (edges : ℕ → Edge)
-    → (cells n).mark.state ≢ node.Over → ActsCell (cells n) (after n) → ((m : ℕ) → m ≢ n → after m ≡ cells m)
-    → Running count wires cells edges → Running count wires after edges
-acted count wires n lt cells after edges busy a others r =
+pub acted : {count : ℕ} {wires : List Wire} {cells : ℕ → CellPicture} {edges : ℕ → Edge}
+    (r : Running count wires cells edges) (n : ℕ) → n < count → (cells n).mark.state ≢ node.Over
+    → (after : ℕ → CellPicture) → ActsCell (cells n) (after n)
+    → ((m : ℕ) → m ≢ n → after m ≡ cells m) → Running count wires after edges
+acted {count} {wires} {cells} {edges} r n lt busy after a others =
     let c : CellPicture = cells n in
     let old : NodeHolds wires n c (r.pulled n) (r.pushed n) =
     r.each n lt (busy-born count wires cells edges r n lt busy) in
-    let view : (m : ℕ) → (after m).view ≡ (cells m).view = (λ m.
-    at-node (λ k. (after k).view ≡ (cells k).view) n m (ap (λ (x : CellPicture). x.view) a.own)
-    (λ ne. ap (λ (x : CellPicture). x.view) (others m ne))) in
-    moved-on count wires n cells after edges edges (λ _. false) others r r.pulled r.pushed (λ m ne. refl) (λ m ne. refl)
-    (subst (λ x. NodeHolds wires n x (r.pulled n) (r.pushed n)) (sym a.own) record {
-      box = acted-box _ _ c.box (after n).box (r.pulled n) (r.pushed n) a.acts old.box;
+    let view : (after n).view ≡ c.view = ap (λ (x : CellPicture). x.view) a.own in
+    moved-on r n after edges (λ _. false) others (r.pulled n) (r.pushed n)
+    (rw a.own record {
+      box = search (rules, old.box, a.acts);
       view = old.view;
       numbers = old.numbers;
-      kept = λ _. follows-same c.box (after n).box c.view a.acts.view (old.kept (λ e. absurd (busy e)));
+      kept = λ _. follows-same c.box (after n).box c.view a.acts.view
+          (old.kept (λ e. absurd (busy e)));
       mark = a.holds _ _ _;
     })
-    (λ e p h. end-marked p c (after n) (edges e) (view n) (λ rests. absurd (a.awake rests)) (r.ends e n p h))
-    (λ e m p h ne. r.ends e m p h)
-    (λ e le. let w : Wire = wire_at wires e in
-    r.lists e le
-    ∙ ap (λ v. (r.pulled w.to w.input ++ lying w v (edges e)) ++ pushes_to w.out (cells w.from).view.actions)
-    (sym (view w.to))
-    ∙ ap (λ (v : Picture). (r.pulled w.to w.input ++ lying w (after w.to).view (edges e)) ++ pushes_to w.out v.actions)
-    (sym (view w.from)))
+    (λ e p h. stays-end p c (after n) (edges e) _ _ (same-at p _ _ view)
+    (ap (λ (v : Picture). v.actions) view) (λ rests. absurd (a.awake rests)) (r.ends e n p h))
+    (λ e m p h ne. r.ends e m p h) (λ e nf nt. refl)

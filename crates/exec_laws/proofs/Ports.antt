@@ -1,5 +1,5 @@
 -- What actions leave at one port.
-use Rattle.exec_laws.proofs.Words.{Action, Bool, ChangedByCalls, Close, EachAction, Edge, Finish, Flags, Input, InputAllows, InputPort, IsDone, List, None, Option, Output, OutputAllows, Picture, Port, PortCall, Pull, Push, Table, Unwant, Want, [], action_port, after_action, after_call, after_calls, ap, arith, both_ways, can_push, chunk_after, chunks_of, close_call, cond, cond-same, cond_both, eq-eqb, eqb-true, false, finish_call, holds_data, in_count, in_count-with_actions, in_count-with_input, in_count-with_output, input_after, input_step, inr, is_some, ne_eqb, need_call, not, out_count, out_count-with_actions, out_count-with_input, out_count-with_output, output_allows, output_step, pull_call, push_call, pushes_to, refl, rules, sym, taken_out, true, with_actions, with_input, with_output, ℕ, ◌&&◌, ◌++◌, ◌==◌, ◌||◌, ◌∙◌, ◌∷◌, ◌≡◌, ◌≤◌, ◌⊎◌}
+use Rattle.exec_laws.proofs.Words.{Action, Bool, ChangedByCalls, Close, EachAction, Edge, Finish, Flags, Input, InputAllows, InputPort, chunk_step, input_allows, IsDone, List, None, Option, Output, OutputAllows, Picture, Port, PortCall, Pull, Push, Table, Unwant, Want, [], action_port, after_action, after_call, after_calls, ap, arith, both_ways, can_push, chunk_after, chunks_of, close_call, cond, cond-same, cond_both, eq-eqb, eqb-true, false, finish_call, holds_data, in_count, in_count-with_actions, in_count-with_input, in_count-with_output, input_after, input_step, inr, is_some, ne_eqb, need_call, not, out_count, out_count-with_actions, out_count-with_input, out_count-with_output, output_allows, output_step, pull_call, push_call, pushes_to, refl, rules, sym, taken_out, true, with_actions, with_input, with_output, ℕ, ◌&&◌, ◌++◌, ◌==◌, ◌||◌, ◌∙◌, ◌∷◌, ◌≡◌, ◌≤◌, ◌⊎◌}
 
 -- ---- an input and its chunk, while its node acts
 
@@ -11,28 +11,15 @@ pub record Lies (d x : Option Table) (f : Flags) (c : Option Table) : Type 0 whe
   pub held : holds_data f ≡ true → is_some c ≡ true
   pub left : (c ≡ d) ⊎ (c ≡ None)
 
-module _ (d x : Option Table) where
-  lies-wanted : (b v : Bool) (f : Flags) (c : Option Table) → Lies d x f c
-      → Lies d x (cond b (record f { needed = v }) f) c
-  lies-wanted b v f c h1 = search rules
+module _ (d x : Option Table) (i : ℕ) where
+  lies-on : (a : Action) (f : Flags) (c : Option Table) → input_allows i a f ≡ true → Lies d x f c
+      → Lies d x (input_step i a f) (chunk_step i a c)
+  lies-on a f c h1 h2 = search rules
 
-  lies-closed : (b : Bool) (f : Flags) (c : Option Table) → Lies d x f c
-      → Lies d x (cond b (record f { fin_in = true }) f) c
-  lies-closed b f c h1 = search rules
-
-  lies-pulled : (b : Bool) (f : Flags) (c : Option Table) → (not b || holds_data f) ≡ true → Lies d x f c
-      → Lies d x (cond b (record f { has_data = false }) f) (cond b None c)
-  lies-pulled b f c h1 h2 = search rules
-
-  pub lies-after : (i : ℕ) (xs : List Action) (f : Flags) (c : Option Table) → InputAllows i xs f → Lies d x f c
-      → Lies d x (input_after i xs f) (chunk_after i xs c)
-  lies-after i [] f c allows h = h
-  lies-after i (Want j ∷ xs) f c allows h = lies-after i xs _ c allows.1 (lies-wanted (i == j) true f c h)
-  lies-after i (Unwant j ∷ xs) f c allows h = lies-after i xs _ c allows.1 (lies-wanted (i == j) false f c h)
-  lies-after i (Pull j ∷ xs) f c allows h = lies-after i xs _ _ allows.1 (lies-pulled (i == j) f c allows.0 h)
-  lies-after i (Close j ∷ xs) f c allows h = lies-after i xs _ c allows.1 (lies-closed (i == j) f c h)
-  lies-after i (Push j chunk ∷ xs) f c allows h = lies-after i xs f c allows.1 h
-  lies-after i (Finish j ∷ xs) f c allows h = lies-after i xs f c allows.1 h
+  pub lies-after : (xs : List Action) (f : Flags) (c : Option Table) → InputAllows i xs f
+      → Lies d x f c → Lies d x (input_after i xs f) (chunk_after i xs c)
+  lies-after [] f c allows h = h
+  lies-after (a ∷ xs) f c allows h = lies-after xs _ _ allows.1 (lies-on a f c allows.0 h)
 
 -- what was taken out, and what is left
 pub taken-left : (c d : Option Table) → (d ≡ c) ⊎ (d ≡ None) → chunks_of c ≡ taken_out c d ++ chunks_of d
@@ -40,42 +27,32 @@ taken-left c d h1 = grind arith
 
 -- ---- pushes
 
-can-push : (f : Flags) → can_push f ≡ true → (f.has_data ≡ false) × (f.fin_out ≡ false)
-can-push f h1 = grind arith
+-- an output that has data isn't pushed to, and has it still
+full-on : (o : ℕ) (a : Action) (xs : List Action) (f : Flags) → output_allows o a f ≡ true
+    → f.has_data ≡ true
+    → (pushes_to o (a ∷ xs) ≡ pushes_to o xs) × ((output_step o a f).has_data ≡ true)
+unfolding pushes_to
+full-on o a xs f h1 h2 = search rules
 
 -- nothing is pushed to an output that has data
 pub full-unpushed : (o : ℕ) (xs : List Action) (f : Flags) → OutputAllows o xs f → f.has_data ≡ true
     → pushes_to o xs ≡ []
 unfolding pushes_to
 full-unpushed o [] f allows full = refl
-full-unpushed o (Push j chunk ∷ xs) f allows full =
-    go (o == j) allows.0 allows.1 (λ rest. full-unpushed o xs f rest full)
-  where
-    go : (b : Bool) → (not b || can_push f) ≡ true → OutputAllows o xs (cond b (record f { has_data = true }) f)
-        → (OutputAllows o xs f → pushes_to o xs ≡ []) → cond b (chunk ∷ pushes_to o xs) (pushes_to o xs) ≡ []
-    go true may rest later = absurd (both_ways f.has_data (can-push f may).0 full)
-    go false may rest later = later rest
-full-unpushed o (Finish j ∷ xs) f allows full = full-unpushed o xs _ allows.1
-    (cond-same (λ (g : Flags). g.has_data) (o == j) (record f { fin_out = true }) f refl ∙ full)
-full-unpushed o (Want j ∷ xs) f allows full = full-unpushed o xs f allows.1 full
-full-unpushed o (Unwant j ∷ xs) f allows full = full-unpushed o xs f allows.1 full
-full-unpushed o (Pull j ∷ xs) f allows full = full-unpushed o xs f allows.1 full
-full-unpushed o (Close j ∷ xs) f allows full = full-unpushed o xs f allows.1 full
+full-unpushed o (a ∷ xs) f allows full =
+    let on = full-on o a xs f allows.0 full in on.0 ∙ full-unpushed o xs _ allows.1 on.1
+
+past-on : (p : Picture) (o : ℕ) (a : Action) (xs : List Action) → out_count p ≤ o → IsDone p a
+    → pushes_to o (a ∷ xs) ≡ pushes_to o xs
+unfolding pushes_to
+past-on p o a xs h1 h2 = search (rules, eqb-true)
 
 -- an action pushes to none but the outputs that there are
-pub past-unpushed : (p : Picture) (o : ℕ) → out_count p ≤ o → (xs : List Action) → EachAction (IsDone p) xs
-    → pushes_to o xs ≡ []
+pub past-unpushed : (p : Picture) (o : ℕ) → out_count p ≤ o → (xs : List Action)
+    → EachAction (IsDone p) xs → pushes_to o xs ≡ []
 unfolding pushes_to
 past-unpushed p o le [] h = refl
-past-unpushed p o le (Push j chunk ∷ xs) h =
-    cond_both (o == j) (chunk ∷ pushes_to o xs) (pushes_to o xs) (λ l. l ≡ [])
-    (λ same. let e = eqb-true o j same in let lt = h.0.0 in absurd (omega (arith, e, lt, le)))
-    (λ other. past-unpushed p o le xs h.1)
-past-unpushed p o le (Want j ∷ xs) h = past-unpushed p o le xs h.1
-past-unpushed p o le (Unwant j ∷ xs) h = past-unpushed p o le xs h.1
-past-unpushed p o le (Pull j ∷ xs) h = past-unpushed p o le xs h.1
-past-unpushed p o le (Close j ∷ xs) h = past-unpushed p o le xs h.1
-past-unpushed p o le (Finish j ∷ xs) h = past-unpushed p o le xs h.1
+past-unpushed p o le (a ∷ xs) h = past-on p o a xs le h.0 ∙ past-unpushed p o le xs h.1
 
 -- ---- one action, at its port and at others
 
@@ -87,9 +64,6 @@ port_step (Output o) = output_step o
 abbrev pub port_allows : Port → Action → Flags → Bool
 port_allows (Input i) a f = true
 port_allows (Output o) a f = output_allows o a f
-
-pub step-here : (a : Action) (e : Edge) → (after_action a e).flags ≡ port_step (action_port a) a e.flags
-step-here a e = grind arith
 
 pub step-away : (p : Port) (a : Action) (f : Flags) → (p ≡ action_port a → ⊥) → port_step p a f ≡ f
 step-away p a f h1 = grind arith

@@ -1,115 +1,120 @@
--- Pictures of a graph in which nothing is due: where each node that isn't over rests, every node is over.
-use Rattle.exec_laws.proofs.Words.{Bool, Flags, HasInputWire, HasOutputWire, IsSettledWire, List, None, Option, Picture, ProducerKnows, RestingNode, Rests, Some, Status, WaitsForData, WaitsForRoom, Wire, ap, arith, cases_eq, cases_lt, false, get_or, get_or-eq_default, in_count, inl, input_at, inr, is_in_finished, is_out_finished, length, not, out_count, output_at, over_flags, refl, rules, subst, suc, sym, true, wire_at, zero, ℕ, ◌&&◌, ◌+◌, ◌<◌, ◌||◌, ◌∙◌, ◌≡◌, ◌≤◌}
+-- Where nothing is due, and each node at rest rests as its view bears out, every node is over.
+use Rattle.exec_laws.proofs.Words.{Bool, CellPicture, Edge, Flags, HasEdge, HasPort, Input, IsAllFinished, IsBorn, IsOver, List, NodeHolds, NodeState, None, Option, Output, Picture, Port, ProducerKnows, Rests, Running, Some, Status, WaitsForData, WaitsForRoom, Wire, [], arith, false, false_from_ne_true, get_or-le-sum_by, input_at, input_count, is_in_finished, is_out_finished, is_resting, is_waiting, not, number_at, output_at, output_count, rank_at, refl, rules, suc, sum_by, sym, true, wire_at, zero, ℕ, ◌&&◌, ◌+◌, ◌<◌, ◌||◌, ◌∙◌, ◌≡◌, ◌≤◌}
 use Rattle.proc_api.specs.declared.status.Status.TheVariants as status
+use Rattle.exec_laws.specs.declared.edges.NodeState.TheVariants as node
+use Rattle.exec_laws.proofs.Nodes.{busy-born}
+use Rattle.exec_laws.proofs.Seeing.{port-below, port-shown}
+use Rattle.exec_laws.proofs.Sides.{QuietEnd, end-quiet}
 
--- Nothing is due among the first nodes: each that isn't over rests, each of its ports has a wire, and it knows the
--- port's flags. A wire goes from a lower rank to a higher one, and its port has a finished flag where one of its
--- ends is over.
-pub record IsSettled (count : ℕ) (nodes : ℕ → RestingNode) (wires : List Wire) (ports : ℕ → Flags) : Type 0 where
-  pub rests : (n : ℕ) → n < count → (nodes n).is_over ≡ false → Rests (nodes n).last (nodes n).view
-  pub inputs : (n i : ℕ) → n < count → (nodes n).is_over ≡ false → i < in_count (nodes n).view
-      → HasInputWire wires n i
-  pub outputs : (n o : ℕ) → n < count → (nodes n).is_over ≡ false → o < out_count (nodes n).view
-      → HasOutputWire wires n o
-  pub from_in_range : (e : ℕ) → e < length wires → (wire_at wires e).from < count
-  pub to_in_range : (e : ℕ) → e < length wires → (wire_at wires e).to < count
-  pub joined : (e : ℕ) → e < length wires
-      → IsSettledWire (nodes (wire_at wires e).from) (nodes (wire_at wires e).to) (wire_at wires e) (ports e)
+unless : (b c : Bool) → (b ≡ false → c ≡ true) → c ≡ false → b ≡ true
+unless b c h1 h2 = grind arith
 
-true-unless : (b : Bool) → (b ≡ false → ⊥) → b ≡ true
-true-unless b h1 = grind arith
-
-clash : (b : Bool) → b ≡ true → b ≡ false → ⊥
-clash b h1 h2 = grind arith
-
-false-unless : (b c : Bool) → (b ≡ true → c ≡ true) → c ≡ false → b ≡ false
-false-unless b c h1 h2 = grind arith
-
--- an empty input that isn't finished has no finished flag
-idle-unfinished : (f : Flags) → f.has_data ≡ false → is_in_finished f ≡ false → is_out_finished f ≡ false
-idle-unfinished f h1 h2 = grind arith
-
-finished-seen : (view port : Flags) → ProducerKnows view port → is_out_finished view ≡ is_out_finished port
-finished-seen view port h1 = grind arith
+pub rests-so : (s : NodeState) → is_resting s ≡ true → s ≡ node.Resting
+rests-so s h1 = grind arith
 
 -- a node that rests waits for data or for room
-rests-case : (last : Option Status) (view : Picture) → Rests last view → (WaitsForData view → ⊥) → (WaitsForRoom view → ⊥) → ⊥
+rests-case : (last : Option Status) (view : Picture) → Rests last view → (WaitsForData view → ⊥)
+    → (WaitsForRoom view → ⊥) → ⊥
 rests-case last view h1 h2 h3 = search rules
 
--- a node's rank is at most the sum of all ranks
-abbrev rank_sum : (ℕ → RestingNode) → ℕ → ℕ
-rank_sum nodes zero = 0
-rank_sum nodes (suc k) = rank_sum nodes k + (nodes k).rank
+module _ {count : ℕ} {wires : List Wire} {cells : ℕ → CellPicture} {edges : ℕ → Edge}
+    (r : Running count wires cells edges) (quiet : (m : ℕ) → (cells m).view.actions ≡ [])
+    (due : (n : ℕ) → n < count → is_waiting (cells n).mark.state ≡ false) where
+  abbrev is_open : ℕ → Bool
+  is_open n = is_resting (cells n).mark.state
 
-rank-bound : (nodes : ℕ → RestingNode) (k n : ℕ) → n < k → (nodes n).rank ≤ rank_sum nodes k
-rank-bound nodes zero n lt = absurd (omega (arith, lt))
-rank-bound nodes (suc k) n lt = elim (cases_eq n k) [
-  | inl e ↦ let r : (nodes n).rank ≡ (nodes k).rank = ap (λ m. (nodes m).rank) e in omega (arith, r)
-  | inr ne ↦ let le : (nodes n).rank ≤ rank_sum nodes k = rank-bound nodes k n (omega (arith, lt, ne)) in omega (arith, le)
-]
+  pub over-holds : (n : ℕ) → n < count → IsBorn (cells n).box → is_open n ≡ false
+      → IsOver (input_count wires n) (output_count wires n) (cells n).box (cells n).view
+  over-holds n h1 h2 h3 = search rules
 
--- a port that isn't finished is no port past the last one
-out-in-range : (p : Picture) (o : ℕ) → is_out_finished (output_at p o) ≡ false → o < out_count p
-unfolding output_at out_count
-out-in-range p o h = elim (cases_lt o (length p.outputs)) [ inl lt ↦ lt | inr le ↦ let e : is_out_finished (get_or p.outputs o over_flags) ≡ true = ap (λ f. is_out_finished f) (get_or-eq_default p.outputs over_flags le) in absurd (cc) ]
+  open-node : (n : ℕ) → n < count → is_open n ≡ true
+      → NodeHolds wires n (cells n) (r.pulled n) (r.pushed n)
+  open-node n h1 h2 = search (rules, busy-born, rests-so)
 
--- what an end of a wire sees of the wire's port, where it isn't over
-consumer-sees : (nodes : ℕ → RestingNode) (from : RestingNode) (n i : ℕ) (w : Wire) (port : Flags) → IsSettledWire from (nodes w.to) w port → w.to ≡ n → w.input ≡ i → (nodes n).is_over ≡ false → (input_at (nodes n).view i).flags ≡ port
-consumer-sees nodes from n i w port h1 h2 h3 h4 = search rules
+  -- ---- an end of an edge
 
-producer-sees : (nodes : ℕ → RestingNode) (to : RestingNode) (n o : ℕ) (w : Wire) (port : Flags) → IsSettledWire (nodes w.from) to w port → w.from ≡ n → w.out ≡ o → (nodes n).is_over ≡ false → ProducerKnows (output_at (nodes n).view o) port
-producer-sees nodes to n o w port h1 h2 h3 h4 = search rules
+  module _ {e n : ℕ} {p : Port} (h : HasEdge wires n p e) where
+    pub node-there : n < count
+    node-there = search rules
 
--- where a port isn't finished, neither end of its wire is over
-from-open : (from to : RestingNode) (w : Wire) (port : Flags) → IsSettledWire from to w port → is_out_finished port ≡ false → from.is_over ≡ false
-from-open from to w port s open_port = false-unless from.is_over (is_out_finished port) s.from_over open_port
+    pub end-node : NodeHolds wires n (cells n) (r.pulled n) (r.pushed n)
+    end-node = r.each n node-there (r.born e n p h)
 
-to-open : (from to : RestingNode) (w : Wire) (port : Flags) → IsSettledWire from to w port → is_out_finished port ≡ false → to.is_over ≡ false
-to-open from to w port s open_port = false-unless to.is_over (is_out_finished port) s.to_over open_port
+    pub end-here : QuietEnd p (cells n) (edges e)
+    end-here = end-quiet p (cells n) (edges e) (quiet n) (r.ends e n p h)
 
--- A wait for data goes down the ranks: the producer of a needed, empty, unfinished input isn't over and doesn't wait for room.
-no-data-wait : (count : ℕ) (nodes : ℕ → RestingNode) (wires : List Wire) (ports : ℕ → Flags) → IsSettled count nodes wires ports → (k n : ℕ) → n < count → (nodes n).rank < k → (nodes n).is_over ≡ false → WaitsForData (nodes n).view → ⊥
-no-data-wait count nodes wires ports s zero n lt below over d = absurd (omega (arith, below))
-no-data-wait count nodes wires ports s (suc k) n lt below over d =
-    let h : HasInputWire wires n d.input = s.inputs n d.input lt over d.in_range in
-    let w : Wire = wire_at wires h.edge in
-    let port : Flags = ports h.edge in
-    let from : RestingNode = nodes w.from in
-    let j : IsSettledWire from (nodes w.to) w port = s.joined h.edge h.in_range in
-    let sees : (input_at (nodes n).view d.input).flags ≡ port = consumer-sees nodes from n d.input w port j h.to h.input_is over in
-    let needed : port.needed ≡ true = ap (λ f. f.needed) (sym sees) ∙ d.needed in
-    let empty : port.has_data ≡ false = ap (λ f. f.has_data) (sym sees) ∙ d.empty in
-    let unfinished : is_out_finished port ≡ false = idle-unfinished port empty (ap (λ f. is_in_finished f) (sym sees) ∙ d.unfinished) in
-    let from_over : from.is_over ≡ false = from-open from (nodes w.to) w port j unfinished in
-    let know : ProducerKnows (output_at from.view w.out) port = j.producer from_over in
-    let from_lt : w.from < count = s.from_in_range h.edge h.in_range in
-    let ranked : from.rank < (nodes n).rank = subst (λ m. from.rank < (nodes m).rank) h.to j.ranked in
-    let open_out : is_out_finished (output_at from.view w.out) ≡ false = finished-seen _ _ know ∙ unfinished in
-    let empty_out : (output_at from.view w.out).has_data ≡ false = know.has_data ∙ empty in
-    rests-case from.last from.view (s.rests w.from from_lt from_over)
-    (λ input. no-data-wait count nodes wires ports s k w.from from_lt (omega (arith, ranked, below)) from_over input)
-    (λ room. clash _ (room.full w.out (out-in-range from.view w.out open_out) open_out (know.needed needed)) empty_out)
+    pub end-shown : HasPort (cells n).view p
+    end-shown = port-shown _ _ (cells n).view p end-node.view
+        (port-below count wires r.graph n e p h)
 
--- A wait for room goes up the ranks: the consumer of an unfinished output isn't over and doesn't wait for data.
-no-room-wait : (count : ℕ) (nodes : ℕ → RestingNode) (wires : List Wire) (ports : ℕ → Flags) → IsSettled count nodes wires ports → (k n : ℕ) → n < count → rank_sum nodes count < (nodes n).rank + k → (nodes n).is_over ≡ false → WaitsForRoom (nodes n).view → ⊥
-no-room-wait count nodes wires ports s zero n lt above over r = absurd (omega (arith, above, rank-bound nodes count n lt))
-no-room-wait count nodes wires ports s (suc k) n lt above over r =
-    let h : HasOutputWire wires n r.output = s.outputs n r.output lt over r.in_range in
-    let w : Wire = wire_at wires h.edge in
-    let port : Flags = ports h.edge in
-    let to : RestingNode = nodes w.to in
-    let j : IsSettledWire (nodes w.from) to w port = s.joined h.edge h.in_range in
-    let know : ProducerKnows (output_at (nodes n).view r.output) port = producer-sees nodes to n r.output w port j h.from h.out_is over in
-    let to_over : to.is_over ≡ false = to-open (nodes w.from) to w port j (sym (finished-seen _ _ know) ∙ r.unfinished) in
-    let to_lt : w.to < count = s.to_in_range h.edge h.in_range in
-    let ranked : (nodes n).rank < to.rank = subst (λ m. (nodes m).rank < to.rank) h.from j.ranked in
-    rests-case to.last to.view (s.rests w.to to_lt to_over)
-    (λ input. no-data-wait count nodes wires ports s (suc to.rank) w.to to_lt (omega arith) to_over input)
-    (λ room. no-room-wait count nodes wires ports s k w.to to_lt (omega (arith, ranked, above)) to_over room)
+    -- where a port isn't finished, the node at its end is at rest
+    end-open : is_out_finished (edges e).flags ≡ false → is_open n ≡ true
+    end-open unfinished = unless (is_open n) (is_out_finished (edges e).flags) (λ over.
+        let ports = (over-holds n node-there (r.born e n p h) over).ports in
+        search (rules, ports, end-shown, end-here)) unfinished
 
--- in a settled picture every node is over
-pub settled-over : (count : ℕ) (nodes : ℕ → RestingNode) (wires : List Wire) (ports : ℕ → Flags) → IsSettled count nodes wires ports → (n : ℕ) → n < count → (nodes n).is_over ≡ true
-settled-over count nodes wires ports s n lt = true-unless (nodes n).is_over (λ over.
-    rests-case (nodes n).last (nodes n).view (s.rests n lt over)
-    (λ input. no-data-wait count nodes wires ports s (suc (nodes n).rank) n lt (omega arith) over input)
-    (λ room. no-room-wait count nodes wires ports s (suc (rank_sum nodes count)) n lt (omega arith) over room))
+  -- ---- no node waits
+
+  abbrev rank : ℕ → ℕ
+  rank n = rank_at r.graph.ranks n
+
+  rank-bound : (n : ℕ) → n < count → rank n ≤ sum_by (λ x. x) r.graph.ranks
+  unfolding rank_at
+  rank-bound n lt = get_or-le-sum_by (λ x. x) r.graph.ranks n 0 (rw r.graph.nodes_len at lt)
+
+  module _ (rests : (n : ℕ) → n < count → is_open n ≡ true
+      → Rests (cells n).mark.last (cells n).view) where
+    -- A wait for data goes down the ranks: the producer of a needed, empty, unfinished input isn't
+    -- over and doesn't wait for room.
+    no-data-wait : (k n : ℕ) → n < count → rank n < k → is_open n ≡ true
+        → WaitsForData (cells n).view → ⊥
+    no-data-wait zero n lt below open_now d = absurd (omega (arith, below))
+    no-data-wait (suc k) n lt below open_now d =
+        let own = open-node n lt open_now in
+        let e : ℕ = number_at (cells n).inputs d.input in
+        let here : HasEdge wires n (Input d.input) e =
+        own.numbers.at (Input d.input) (rw own.view.ins at d.in_range) in
+        let w : Wire = wire_at wires e in
+        let far : HasEdge wires w.from (Output w.out) e =
+        record { in_range = here.in_range; at_port = (refl, refl) } in
+        let sees = (end-here here).known (rests-so _ open_now) in
+        let unfinished : is_out_finished (edges e).flags ≡ false =
+        grind (arith, sees, d.empty, d.unfinished) in
+        let waits = end-open far unfinished in
+        let ranked : rank w.from < rank n =
+        rw here.at_port.0 at (r.graph.graph.so_far.edges e here.in_range).ranked in
+        rests-case _ _ (rests w.from (node-there far) waits)
+        (λ f. no-data-wait k w.from (node-there far) (omega (arith, ranked, below)) waits f)
+        (λ room.
+        let knows = (end-here far).known (rests-so _ waits) in
+        let full = room.full w.out (end-shown far) in
+        grind (arith, sees, knows, full, d.needed, d.empty, unfinished))
+
+    -- A wait for room goes up the ranks: the consumer of an unfinished output isn't over and
+    -- doesn't wait for data.
+    no-room-wait : (k n : ℕ) → n < count → sum_by (λ x. x) r.graph.ranks < rank n + k
+        → is_open n ≡ true → WaitsForRoom (cells n).view → ⊥
+    no-room-wait zero n lt above open_now q = absurd (omega (arith, above, rank-bound n lt))
+    no-room-wait (suc k) n lt above open_now q =
+        let own = open-node n lt open_now in
+        let e : ℕ = number_at (cells n).outputs q.output in
+        let here : HasEdge wires n (Output q.output) e =
+        own.numbers.at (Output q.output) (rw own.view.outs at q.in_range) in
+        let w : Wire = wire_at wires e in
+        let far : HasEdge wires w.to (Input w.input) e =
+        record { in_range = here.in_range; at_port = (refl, refl) } in
+        let knows = (end-here here).known (rests-so _ open_now) in
+        let unfinished : is_out_finished (edges e).flags ≡ false =
+        grind (arith, knows, q.unfinished) in
+        let waits = end-open far unfinished in
+        let ranked : rank n < rank w.to =
+        rw here.at_port.0 at (r.graph.graph.so_far.edges e here.in_range).ranked in
+        rests-case _ _ (rests w.to (node-there far) waits)
+        (λ f. no-data-wait (suc (rank w.to)) w.to (node-there far) (omega arith) waits f)
+        (λ f. no-room-wait k w.to (node-there far) (omega (arith, ranked, above)) waits f)
+
+    -- every node is over
+    pub all-over : (n : ℕ) → n < count → is_open n ≡ false
+    all-over n lt = false_from_ne_true (is_open n) (λ open_now. rests-case _ _ (rests n lt open_now)
+        (λ f. no-data-wait (suc (rank n)) n lt (omega arith) open_now f)
+        (λ f. no-room-wait (suc (sum_by (λ x. x) r.graph.ranks)) n lt (omega arith) open_now f))

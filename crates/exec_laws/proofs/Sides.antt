@@ -1,7 +1,7 @@
 -- One end of an edge, as its node's view shows it, when an end sees the edge or acts on it.
-use Rattle.exec_laws.proofs.Words.{Action, Bool, CellPicture, Close, Edge, EndHolds, Finish, Flags, Input, InputFollows, InputHolds, InputPort, IsEnd, List, NodeMark, NodeState, None, Option, Output, OutputAllows, OutputHolds, Port, Pull, Push, Some, Table, Unwant, Want, Wire, [], action_port, after_action, arith, both_ways, chunks_of, cond, false, holds_data, input_after, input_at, is_some, is_told, or_right, output_after, output_at, refl, rules, seen_chunk, subst, sym, told, told_if, told_state, true, unloaded, with_actions, ℕ, ◌++◌, ◌||◌, ◌∙◌, ◌∷◌, ◌≡◌, ◌≢◌}
+use Rattle.exec_laws.proofs.Words.{Action, Bool, Lists, Picture, pushes_to, append_assoc, ap, CellPicture, Close, Edge, EndHolds, Finish, Flags, Input, InputFollows, InputHolds, InputPort, IsEnd, List, NodeMark, NodeState, None, Option, Output, OutputAllows, OutputHolds, Port, Pull, Push, Some, Table, Unwant, Want, Wire, [], action_port, after_action, arith, both_ways, chunks_of, cond, false, holds_data, input_after, input_at, is_some, is_told, or_right, output_after, output_at, refl, rules, seen_chunk, subst, sym, told, told_if, told_state, true, unloaded, with_actions, ℕ, ◌&&◌, ◌++◌, ◌||◌, ◌∙◌, ◌∷◌, ◌≡◌, ◌≢◌}
 use Rattle.exec_laws.specs.declared.edges.NodeState.TheVariants as node
-use Rattle.exec_laws.proofs.Ports.{port_allows, port_step}
+use Rattle.exec_laws.proofs.Ports.{port_allows, step-away}
 
 -- ---- flags follow themselves
 
@@ -25,50 +25,61 @@ end-quiet p c e h1 h2 = search rules
 pub quiet-end : (p : Port) (c : CellPicture) (e : Edge) → c.view.actions ≡ [] → QuietEnd p c e → EndHolds p c e
 quiet-end p c e h1 h2 = search rules
 
--- ---- a node that was told doesn't rest
-
-told-rests : (b : Bool) (m : NodeMark) → (cond b (told m) m).state ≡ node.Resting → m.state ≡ node.Resting
-told-rests b m h1 = grind arith
-
--- an end holds on where its node's mark alone has changed, which rests only if it did
-pub end-marked : (p : Port) (c d : CellPicture) (e : Edge) → d.view ≡ c.view
-    → (d.mark.state ≡ node.Resting → c.mark.state ≡ node.Resting) → EndHolds p c e → EndHolds p d e
-end-marked p c d e h1 h2 h3 = search rules
-
-pub end-told : (b : Bool) (p : Port) (c : CellPicture) (e : Edge) → EndHolds p c e → EndHolds p (told_if b c) e
-end-told b p c e h = end-marked p c (told_if b c) e refl (told-rests b c.mark) h
-
--- ---- the other end of an edge
-
--- where one end saw the edge
-pub peer-sees : (p q : Port) (w : Wire) (n m : ℕ) (c : CellPicture) (e : Edge) → m ≢ n → IsEnd w n p → IsEnd w m q
-    → EndHolds q c e → EndHolds q c (unloaded p e)
-peer-sees p q w n m c e h1 h2 h3 h4 = search rules
-
--- nothing lies where there is no data
-pub nothing-lies : (d : Bool) (c x : Option Table) → d ≡ (is_some c || is_some x) → d ≡ false
-    → (is_some c ≡ false) × (x ≡ None)
-nothing-lies d c x h1 h2 = grind arith
-
--- where one end carried out an action
-pub peer-acts : (a : Action) (q : Port) (w : Wire) (n m : ℕ) (c : CellPicture) (e : Edge) → m ≢ n
-    → IsEnd w n (action_port a) → IsEnd w m q → port_allows (action_port a) a e.flags ≡ true → QuietEnd q c e
-    → QuietEnd q (told_if (is_told a) c) (after_action a e)
-peer-acts a q w n m c e h1 h2 h3 h4 h5 = search rules
-
 -- ---- the own end of an edge
 
--- what lies in the edge, as the consumer's end knows it
-abbrev pub consumed : Port → Edge → Option Table
-consumed (Input i) e = e.chunk
-consumed (Output o) e = None
+-- What was pulled or pushed at an end, with what lies there or waits, is what it was.
+abbrev pub Passes : Port → (c d : CellPicture) (e f : Edge) (ins outs more_ins more_outs : Lists)
+    → Type 0
+Passes (Input i) c d e f ins outs more_ins more_outs =
+    (more_ins i ++ chunks_of (input_at d.view i).chunk) ++ chunks_of f.chunk
+    ≡ (ins i ++ chunks_of (input_at c.view i).chunk) ++ chunks_of e.chunk
+Passes (Output o) c d e f ins outs more_ins more_outs = (l : List Table)
+    → outs o ≡ (l ++ chunks_of e.chunk) ++ pushes_to o c.view.actions
+    → more_outs o ≡ (l ++ chunks_of f.chunk) ++ pushes_to o d.view.actions
 
-pub consumed-here : (a : Action) (e : Edge) → consumed (action_port a) (after_action a e) ≡ consumed (action_port a) e
-consumed-here a e = grind arith
+-- A node's end of an edge moved on: it holds, and what passed adds up.
+pub record Moves (p : Port) (c d : CellPicture) (e f : Edge) (ins outs more_ins more_outs : Lists)
+    : Type 0 where
+  pub holds : EndHolds p d f
+  pub passes : Passes p c d e f ins outs more_ins more_outs
 
--- the first action was carried out on an edge of the node: the view shows what the rest will leave
-pub own-acts : (p : Port) (c : CellPicture) (a : Action) (rest : List Action) (e e' : Edge)
-    → c.view.actions ≡ a ∷ rest → e'.flags ≡ port_step p a e.flags → consumed p e' ≡ consumed p e
-    → EndHolds p c e → EndHolds p (record c { view = with_actions c.view rest }) e'
+-- a port shows the same
+abbrev pub SameAt : Port → Picture → Picture → Type 0
+SameAt (Input i) u v = input_at u i ≡ input_at v i
+SameAt (Output o) u v = output_at u o ≡ output_at v o
+
+pub same-at : (p : Port) (u v : Picture) → u ≡ v → SameAt p u v
+same-at p u v h1 = search rules
+
+-- an end at which its node sees the same, and rests only if it did
+pub stays-end : (p : Port) (c d : CellPicture) (e : Edge) (ins outs : Lists)
+    → SameAt p d.view c.view → d.view.actions ≡ c.view.actions
+    → (d.mark.state ≡ node.Resting → c.mark.state ≡ node.Resting) → EndHolds p c e
+    → Moves p c d e e ins outs ins outs
+stays-end (Input i) c d e ins outs h1 h2 h3 h4 = search rules
+stays-end (Output o) c d e ins outs h1 h2 h3 h4 = search rules
+
+-- an end whose node was told doesn't rest
+told-rests : (b : Bool) (m : NodeMark) → (cond b (told m) m).state ≡ node.Resting
+    → m.state ≡ node.Resting
+told-rests b m h1 = grind arith
+
+pub end-told : (b : Bool) (p : Port) (c : CellPicture) (e : Edge) → EndHolds p c e
+    → EndHolds p (told_if b c) e
+end-told b p c e h = (stays-end p c (told_if b c) e (λ _. []) (λ _. [])
+    (same-at p c.view c.view refl) refl (told-rests b c.mark) h).holds
+
+-- the first action was carried out at this end, or at another end of the node: the view shows what
+-- the rest will leave
+pub acts-here : (a : Action) (c : CellPicture) (rest : List Action) (e : Edge)
+    → c.view.actions ≡ a ∷ rest → EndHolds (action_port a) c e
+    → EndHolds (action_port a) (record c { view = with_actions c.view rest }) (after_action a e)
 unfolding with_actions input_at output_at
-own-acts p c a rest e e' h1 h2 h3 h4 = search rules
+acts-here a c rest e h1 h2 = search rules
+
+pub acts-there : (p : Port) (a : Action) (c : CellPicture) (rest : List Action) (e : Edge)
+    → c.view.actions ≡ a ∷ rest → p ≢ action_port a → EndHolds p c e
+    → EndHolds p (record c { view = with_actions c.view rest }) e
+unfolding with_actions input_at output_at
+acts-there (Input i) a c rest e h1 h2 h3 = search (rules, step-away (Input i) a e.flags h2)
+acts-there (Output o) a c rest e h1 h2 h3 = search (rules, step-away (Output o) a e.flags h2)

@@ -1,16 +1,8 @@
 -- What is true of the boxes when a run has ended, over plain data.
-use Rattle.std.specs.Prelude.{◌≡◌, ◌≢◌, ℕ, suc, ◌<◌, ◌≤◌, ◌++◌, ◌&&◌, not, Bool, true, false, cond, IsTrue, is_some, List, [], ◌∷◌, length, map, Option, Some, None}
-use Rattle.chunk_data.specs.Values.{Table}
-use Rattle.port_word.specs.declared.flags.Flags.{Flags}
-use Rattle.port_word.specs.declared.flags.Wire.{Wire}
-use Rattle.proc_api.specs.Names.{BoxPicture, kept_input, kept_output, Lists, Keeps, FaultHolds, FaultIsDue, IsRunning, ArePortsOf, is_ended, Rests, wire_at, input_count, output_count}
-use Rattle.proc_api.specs.declared.status.Status.{Status}
-use Rattle.proc_api.specs.declared.status.Answer.{Answer}
-use Rattle.proc_api.specs.declared.status.WorkFault.{WorkFault}
+use Rattle.std.specs.Prelude.{Bool, IsTrue, List, None, Option, Some, [], cond, false, is_some, length, map, not, suc, true, ℕ, ◌&&◌, ◌++◌, ◌<◌, ◌∷◌, ◌≡◌, ◌≢◌, ◌≤◌}
+use Rattle.exec_laws.specs.Prelude.{Answer, ArePortsOf, BoxPicture, FaultHolds, FaultIsDue, Flags, IsRunning, Keeps, Lists, Prepared, Rests, Scheduled, Status, StuckNode, Table, Wire, WorkFault, input_count, is_ended, kept_input, kept_output, output_count, wire_at}
 use Rattle.proc_api.specs.declared.status.Status.TheVariants as status
-use Rattle.proc_api.specs.declared.status.Answer.TheVariants.{Prepared, Scheduled}
 use Rattle.proc_api.specs.declared.status.WorkFault.TheVariants as fault
-use Rattle.exec_laws.specs.declared.edges.StuckNode.{StuckNode}
 use Rattle.exec_laws.specs.Runs.{CellPicture, HasFinished, IsBorn, MayRest, box_at, cell_at}
 use Rattle.exec_laws.specs.Moves.{StaysBox, is_resting, is_waiting}
 

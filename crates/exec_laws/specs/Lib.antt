@@ -1,3 +1,4 @@
+pub mod Prelude
 pub mod Runs
 pub mod Moves
 pub mod Ends

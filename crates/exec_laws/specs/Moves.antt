@@ -1,20 +1,8 @@
 -- The moves of an executor, and what each does.
-use Rattle.std.specs.Prelude.{◌≡◌, ◌≢◌, ℕ, ◌==◌, cond, Bool, true, false, IsTrue, List, Option, Some, None}
-use Rattle.chunk_data.specs.Values.{Table}
-use Rattle.port_word.specs.Names.{Picture, IsAllFinished, ChangedByCalls}
-use Rattle.port_word.specs.Sights.{port_flags}
-use Rattle.port_word.specs.declared.flags.Wire.{Wire}
-use Rattle.port_word.specs.declared.flags.Action.{Action}
-use Rattle.port_word.specs.declared.flags.Port.{Port}
-use Rattle.port_word.specs.declared.flags.Action.TheVariants.{Want, Unwant, Pull, Close, Push, Finish}
-use Rattle.port_word.specs.declared.flags.Port.TheVariants.{Input, Output}
-use Rattle.proc_api.specs.Names.{BoxPicture, SameChunks, SameBox, CountsOn, PulledOn, NotesView, PreparesLawfully, KeepsSame}
-use Rattle.proc_api.specs.declared.status.Status.{Status}
+use Rattle.std.specs.Prelude.{Bool, IsTrue, List, None, Option, Some, cond, false, true, ℕ, ◌==◌, ◌≡◌, ◌≢◌}
+use Rattle.exec_laws.specs.Prelude.{Action, BoxPicture, ChangedByCalls, Close, CountsOn, Edge, Finish, Input, IsAllFinished, KeepsSame, NodeMark, NodeState, NotesView, Output, Picture, Port, PreparesLawfully, Pull, PulledOn, Push, SameBox, SameChunks, Status, Table, Unwant, Want, Wire, port_flags}
 use Rattle.proc_api.specs.declared.status.Status.TheVariants as status
-use Rattle.exec_laws.specs.declared.edges.Edge.{Edge}
 use Rattle.exec_laws.specs.declared.edges.DueCall.TheVariants as call
-use Rattle.exec_laws.specs.declared.edges.NodeMark.{NodeMark}
-use Rattle.exec_laws.specs.declared.edges.NodeState.{NodeState}
 use Rattle.exec_laws.specs.declared.edges.NodeState.TheVariants as node
 use Rattle.exec_laws.specs.Runs.{CellPicture, HasEdge, MarkHolds, port_edge}
 

@@ -1,23 +1,9 @@
 -- What is true of a running graph between two moves: of each node, and of each edge.
-use Rattle.std.specs.Prelude.{◌≡◌, ◌≢◌, ℕ, ◌<◌, ◌≤◌, ◌||◌, true, false, IsTrue, IsSome, List, [], ◌∷◌, ◌++◌, length, Option, Some, None, is_some, slice_index_or, ⊤}
-use Rattle.chunk_data.specs.Values.{Table}
+use Rattle.std.specs.Prelude.{IsSome, IsTrue, List, None, Option, Some, [], false, is_some, length, slice_index_or, true, ℕ, ⊤, ◌++◌, ◌<◌, ◌||◌, ◌∷◌, ◌≡◌, ◌≢◌, ◌≤◌}
+use Rattle.exec_laws.specs.Prelude.{AllInputsFinished, Answer, AreAsKept, ArePortsOf, BoxPicture, DueCall, Edge, Flags, FollowsKept, Input, InputFollows, InputPort, IsAllFinished, IsGraph, IsRunning, IsSound, Keeps, Lists, MaySchedule, MayWork, NodeMark, NodeState, Output, OutputAllows, OutputFollows, Picture, Port, Prepared, ProducerKnows, Reserve, Rests, Scheduled, Status, Table, Wire, in_count, input_after, input_at, input_count, is_out_finished, kept_inputs, kept_output, kept_outputs, new_picture, no_box, no_flags, out_count, output_after, output_at, output_count, pushes_to, wire_at}
 use Rattle.query_model.specs.declared.processor_spec.Kind.TheVariants as kind
-use Rattle.port_word.specs.Names.{Picture, input_at, output_at, in_count, out_count, no_flags, is_out_finished, new_picture, input_after, output_after, OutputAllows, IsSound, IsAllFinished}
-use Rattle.port_word.specs.declared.flags.Flags.{Flags}
-use Rattle.port_word.specs.declared.flags.Port.{Port}
-use Rattle.port_word.specs.declared.flags.Port.TheVariants.{Input, Output}
-use Rattle.port_word.specs.declared.flags.Wire.{Wire}
-use Rattle.port_word.specs.declared.port_view.InputPort.{InputPort}
-use Rattle.proc_api.specs.Names.{BoxPicture, no_box, kept_output, kept_inputs, kept_outputs, Lists, Keeps, pushes_to, AllInputsFinished, ArePortsOf, AreAsKept, FollowsKept, InputFollows, OutputFollows, IsRunning, MayWork, MaySchedule, Rests, ProducerKnows, wire_at, input_count, output_count}
-use Rattle.proc_api.specs.declared.status.Status.{Status}
-use Rattle.proc_api.specs.declared.status.Answer.{Answer}
 use Rattle.proc_api.specs.declared.status.Status.TheVariants as status
-use Rattle.proc_api.specs.declared.status.Answer.TheVariants.{Prepared, Scheduled}
-use Rattle.exec_laws.specs.declared.edges.Edge.{Edge}
-use Rattle.exec_laws.specs.declared.edges.DueCall.{DueCall}
 use Rattle.exec_laws.specs.declared.edges.DueCall.TheVariants as call
-use Rattle.exec_laws.specs.declared.edges.NodeMark.{NodeMark}
-use Rattle.exec_laws.specs.declared.edges.NodeState.{NodeState}
 use Rattle.exec_laws.specs.declared.edges.NodeState.TheVariants as node
 
 -- ---- the state
@@ -195,25 +181,32 @@ EndHolds (Output o) c e =
     OutputHolds c.mark.state (output_at c.view o) (output_after o c.view.actions e.flags)
     × OutputAllows o c.view.actions e.flags
 
--- the chunks that lie between: at the consumer, as its view shows, and in the edge
-abbrev pub lying : Wire → Picture → Edge → List Table
-lying w to e = chunks_of (input_at to w.input).chunk ++ chunks_of e.chunk
-
 -- ---- a running graph
 
--- Each born node holds, and so do both ends of each edge, for some lists of chunks. The chunks pushed are those
--- pulled, then those that lie between, and then those whose push isn't carried out. A node that isn't born has
--- nothing to do.
-pub record Running (count : ℕ) (wires : List Wire) (cells : ℕ → CellPicture) (edges : ℕ → Edge) : Type 0 where
+-- the wires are those of a graph of so many nodes
+pub record HoldsGraph (nodes : ℕ) (wires : List Wire) : Type 0 where
+  pub ranks : List ℕ
+  pub reserves : List Reserve
+  pub graph : IsGraph ranks wires reserves
+  pub nodes_len : nodes ≡ length ranks
+
+-- Each born node of the graph holds, and so do both ends of each edge, for some lists of chunks.
+-- The chunks pushed are those pulled, then that at the consumer, as its view shows, then that in
+-- the edge, and then those whose push isn't carried out. A node that isn't born has nothing to do.
+pub record Running (count : ℕ) (wires : List Wire) (cells : ℕ → CellPicture) (edges : ℕ → Edge)
+    : Type 0 where
+  pub graph : HoldsGraph count wires
   pub pulled : ℕ → Lists
   pub pushed : ℕ → Lists
-  pub each : (n : ℕ) → n < count → IsBorn (cells n).box → NodeHolds wires n (cells n) (pulled n) (pushed n)
+  pub each : (n : ℕ) → n < count → IsBorn (cells n).box
+      → NodeHolds wires n (cells n) (pulled n) (pushed n)
   pub unborn : (n : ℕ) → n < count → (cells n).box.spec ≡ None → (cells n).mark.state ≡ node.Over
   pub born : (e n : ℕ) (p : Port) → HasEdge wires n p e → IsBorn (cells n).box
   pub ends : (e n : ℕ) (p : Port) → HasEdge wires n p e → EndHolds p (cells n) (edges e)
   pub lists : (e : ℕ) → e < length wires → let w = wire_at wires e in
       pushed w.from w.out
-      ≡ (pulled w.to w.input ++ lying w (cells w.to).view (edges e)) ++ pushes_to w.out (cells w.from).view.actions
+      ≡ ((pulled w.to w.input ++ chunks_of (input_at (cells w.to).view w.input).chunk)
+      ++ chunks_of (edges e).chunk) ++ pushes_to w.out (cells w.from).view.actions
 
 -- no action waits in a view, but in that of this node
 abbrev pub QuietBut : ℕ → (ℕ → CellPicture) → Type 0

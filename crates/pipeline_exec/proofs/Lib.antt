@@ -2,3 +2,4 @@ pub mod Lists
 pub mod Moving
 pub mod Creating
 pub mod RunEnds
+pub mod Imports

@@ -1,28 +1,20 @@
 -- The state of a run, as data: a cell for each node, and the graph's wires and edges.
-use Rattle.std.specs.Prelude.{◌≡◌, ◌≢◌, ℕ, ◌+◌, ◌<◌, ◌≤◌, ◌==◌, ◌&&◌, Bool, false, List, [], ◌∷◌, length, map, slice_index_or, Option, Some, ⊤}
-use Rattle.port_word.specs.Names.{TakesFirst, after_see, new_picture, IsSound}
-use Rattle.port_word.specs.declared.flags.Action.{Action}
-use Rattle.port_word.specs.declared.flags.Flags.{Flags}
-use Rattle.port_word.specs.declared.flags.Port.{Port}
-use Rattle.port_word.specs.declared.flags.Reserve.{Reserve}
-use Rattle.port_word.specs.declared.flags.Wire.{Wire}
-use Rattle.port_word.specs.declared.flags.Port.TheVariants.{Input, Output}
-use Rattle.chunk_data.specs.Values.{Table}
-use Rattle.proc_api.specs.Names.{BoxPicture, FollowsKept, HasInputWire, HasOutputWire, IsRunning, IsGraph, input_count, output_count, wire_at}
-use Rattle.proc_api.specs.declared.status.Wake.{Wake}
-use Rattle.proc_api.specs.declared.status.WorkFault.{WorkFault}
-use Rattle.proc_api.specs.declared.status.Answer.TheVariants.{Scheduled}
-use Rattle.proc_api.specs.declared.status.Wake.TheVariants as wake
-use Rattle.exec_laws.specs.Names.{Acts, AreEdgesOf, CellPicture, HasEdge, IsBorn, IsPort, KeepsFault, Knows, MayCall, QuietBut, Running, StaysBox, action_port, after_action, cell_at, edge_at, is_told, new_edge, new_mark, no_cell, peer, port_edge, told_if}
-use Rattle.exec_laws.specs.declared.edges.DueCall.{DueCall}
+use Rattle.std.specs.Prelude.{Bool, List, Option, Some, [], false, length, map, slice_index_or, ℕ, ⊤, ◌&&◌, ◌<◌, ◌==◌, ◌∷◌, ◌≡◌, ◌≢◌, ◌≤◌}
+use Rattle.exec_laws.specs.Prelude.{Action, BoxPicture, Flags, FollowsKept, HasInputWire, HasOutputWire, Input, IsRunning, IsSound, Output, Port, Scheduled, Table, Wire, WorkFault, after_see, input_count, new_picture, output_count, wire_at}
 use Rattle.exec_laws.specs.declared.edges.Edge.{Edge}
-use Rattle.exec_laws.specs.declared.edges.DueCall.TheVariants as call
-use Rattle.exec_laws.specs.declared.edges.NodeState.TheVariants as node
+use Rattle.exec_laws.specs.declared.edges.DueCall.{DueCall}
+use Rattle.std.specs.Prelude.{◌+◌}
+use Rattle.port_word.specs.Names.{TakesFirst}
+use Rattle.proc_api.specs.declared.status.Wake.{Wake}
+use Rattle.exec_laws.specs.Names.{Acts, AreEdgesOf, CellPicture, HasEdge, IsBorn, IsPort, KeepsFault, Knows, MayCall, QuietBut, Running, StaysBox, action_port, after_action, cell_at, edge_at, is_told, new_edge, new_mark, no_cell, peer, port_edge, told_if}
 use Rattle.pipeline_exec.specs.declared.cell.Cell.{Cell}
 use Rattle.pipeline_exec.specs.declared.cell.NodePorts.{NodePorts}
 use Rattle.pipeline_exec.specs.declared.cell.Side.{Side}
 use Rattle.pipeline_exec.specs.declared.cell.Side.TheVariants.{Inputs, Outputs}
 use Rattle.pipeline_exec.specs.declared.executor_state.ExecutorState.{ExecutorState}
+use Rattle.proc_api.specs.declared.status.Wake.TheVariants as wake
+use Rattle.exec_laws.specs.declared.edges.DueCall.TheVariants as call
+use Rattle.exec_laws.specs.declared.edges.NodeState.TheVariants as node
 
 -- ---- cells
 
@@ -65,12 +57,8 @@ MovesEdge e how edges moved = Changes new_edge e (λ before now. now ≡ how bef
 
 -- A graph is running.
 pub record IsOnBoard (b : Board) : Type 0 where
-  pub ranks : List ℕ
-  pub reserves : List Reserve
-  pub graph : IsGraph ranks b.wires reserves
-  pub cells_len : length b.cells ≡ length ranks
   pub edges_len : length b.edges ≡ length b.wires
-  pub running : Running (length ranks) b.wires (cell_at b.cells) (edge_at b.edges)
+  pub running : Running (length b.cells) b.wires (cell_at b.cells) (edge_at b.edges)
 
 -- It is between two moves: no action waits.
 pub record IsUnderWay (b : Board) : Type 0 where
@@ -97,13 +85,6 @@ pub record Stays (b d : Board) : Type 0 where
   pub each : (n : ℕ) → StaysBox (cell_at b.cells n).box (cell_at d.cells n).box
 
 -- ---- the first moment
-
--- the wires are those of a graph of so many nodes
-pub record HoldsGraph (nodes : ℕ) (wires : List Wire) : Type 0 where
-  pub ranks : List ℕ
-  pub reserves : List Reserve
-  pub graph : IsGraph ranks wires reserves
-  pub nodes_len : nodes ≡ length ranks
 
 -- the port of this number on a side
 abbrev pub port_on : Side → ℕ → Port

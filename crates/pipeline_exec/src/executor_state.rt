@@ -1,7 +1,7 @@
 ghost use Rattle.std.specs.Prelude.{◌≡◌, ◌<◌, ◌≤◌, [], length, map, IfOk, vec_capacity};
 ghost use Rattle.proc_api.specs.Names.{wire_at};
-ghost use Rattle.exec_laws.specs.Names.{HasEdge};
-ghost use Rattle.pipeline_exec.specs.Cells.{AreFirstEdges, AreNewEdges, AreNewFrom, AreNewPorts, Fills, HasWire, HoldsGraph, is_end, port_count};
+ghost use Rattle.exec_laws.specs.Names.{HasEdge, HoldsGraph};
+ghost use Rattle.pipeline_exec.specs.Cells.{AreFirstEdges, AreNewEdges, AreNewFrom, AreNewPorts, Fills, HasWire, is_end, port_count};
 
 use crate::cell::{Cell, NodePorts, Side, port_on};
 use chunk_data::{List, Memory};
@@ -18,6 +18,7 @@ pub(crate) struct ExecutorState<P> {
 }
 
 /// The wire of an edge.
+#[tactic(auto, unfolding(proc_api::specs::Settled::wire_at))]
 pub(crate) fn wire_of(wires: &[Wire], e: usize) -> Wire
     requires { e < length wires.now }
     ensures { result ≡ wire_at wires.now e }
@@ -103,6 +104,7 @@ fn is_end(wire: &Wire, n: usize, port: Port) -> bool
 }
 
 /// The edge that ends at the port of the node.
+#[tactic(auto, unfolding(proc_api::specs::Settled::wire_at))]
 fn edge_at(wires: &[Wire], n: usize, port: Port) -> usize
     requires { HasWire wires.now n port }
     ensures { HasEdge wires.now n port result }

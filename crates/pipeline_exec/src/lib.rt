@@ -15,8 +15,6 @@ mod ending;
 mod executor_state;
 mod rounds;
 mod run;
-#[cfg(test)]
-mod tests;
 
 pub use exec_laws::StuckNode;
 pub use run::{ExecEnd, RunResult, run_graph};

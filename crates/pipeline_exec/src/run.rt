@@ -2,7 +2,8 @@ ghost use Rattle.std.specs.Prelude.{◌≡◌, ◌≤◌, length, map, vec_capac
 ghost use Rattle.std.specs.List.{All};
 ghost use Rattle.proc_api.specs.Clauses.{IsFresh};
 ghost use Rattle.exec_laws.specs.Ends.{GivenBack, IsNothingDue, boxes_of};
-ghost use Rattle.pipeline_exec.specs.Cells.{AreNewEdges, AreNewFrom, FailsAt, HoldsGraph, IsUnderWay, Stays, board_of, cells_of};
+ghost use Rattle.exec_laws.specs.Runs.{HoldsGraph};
+ghost use Rattle.pipeline_exec.specs.Cells.{AreNewEdges, AreNewFrom, FailsAt, IsUnderWay, Stays, board_of, cells_of};
 ghost use Rattle.pipeline_exec.specs.Ends.{EndHolds, IsNoList};
 
 use crate::cell::{Cell, NodePorts};

@@ -1,22 +1,10 @@
 -- Laws of loading and unloading boxes one after another.
 use Rattle.std.proofs.Common.{◌≡◌, ◌≢◌, ℕ, ◌+◌, ◌<◌, List, [], ◌∷◌, ◌++◌, map, length, get_or, set, drop, refl, ap, subst, ◌∙◌, sym, arith, inl, inr}
-use Rattle.std.specs.List.{All}
-use Rattle.std.proofs.lemmas.Bool.{cases_eq, cases_lt}
-use Rattle.std.proofs.lemmas.List.{append_assoc, get_or-map, length-map, get_or_default, get_or-drop, drop-drop}
-use Rattle.std.proofs.lemmas.List.Elements.{All-get_or, All-from_get_or, All-head, All-tail}
-use Rattle.query_model.specs.Kinds.{kind_of}
-use Rattle.query_model.specs.declared.processor_spec.Spec.{Spec}
-use Rattle.query_model.specs.declared.processor_spec.Kind.{Kind}
+use Rattle.plan_run.proofs.Imports.{All, All-from_get_or, All-get_or, All-head, All-tail, AreStill, IsNoList, IsStill, Kind, LoadsFirst, OnlyBox, Spec, UnloadsFirst, append_assoc, box_at, cases_eq, cases_lt, drop-drop, get_or-drop, get_or-map, get_or_default, kind_of, kinds_in, kinds_of, length-map, one-more, spec_at}
 use Rattle.query_model.specs.declared.processor_spec.Kind.TheVariants as kind
 use Rattle.query_model.specs.declared.processor_spec.Spec.TheVariants as spec
 use Rattle.proc_api.specs.Names.{BoxPicture, no_box, IsBlank, IsFresh, Loads, Unloads}
-use Rattle.exec_laws.specs.Runs.{box_at}
-use Rattle.pipeline_exec.specs.Ends.{IsNoList}
-use Rattle.plan_run.specs.OneBox.{OnlyBox}
-use Rattle.pipeline_exec.proofs.Lists.{one-more}
 use Rattle.plan_run.proofs.OneBox.{box-read, box-set, only-box}
-use Rattle.plan_run.specs.Plans.{kinds_in, kinds_of, spec_at}
-use Rattle.plan_run.specs.Steps.{AreStill, IsStill, LoadsFirst, UnloadsFirst}
 
 pub kept : (p : BoxPicture) → IsStill p p
 kept p = record {

@@ -1,9 +1,7 @@
 -- Reading a list of boxes by index, and changing one of them.
 use Rattle.std.proofs.Common.{◌≡◌, ℕ, ◌<◌, zero, suc, List, [], ◌∷◌, length, map, get_or, set, refl, sym, ap, subst, ◌∙◌}
-use Rattle.std.proofs.lemmas.List.{get_or-set_same, get_or-set_other, get_or-map, length-map, length-set}
+use Rattle.plan_run.proofs.Imports.{OnlyBox, box_at, get_or-map, get_or-set_other, get_or-set_same, length-map, length-set}
 use Rattle.proc_api.specs.Boxes.{BoxPicture, no_box}
-use Rattle.exec_laws.specs.Runs.{box_at}
-use Rattle.plan_run.specs.OneBox.{OnlyBox}
 
 pub box-read : {A : Type 0} (f : A → BoxPicture) (xs : List A) (n : ℕ) (x : A) → n < length xs
     → x ≡ get_or xs n x → box_at (map f xs) n ≡ f x

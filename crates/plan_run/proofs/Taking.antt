@@ -1,17 +1,7 @@
 -- Laws of what is taken from a rack, and what is left.
 use Rattle.std.proofs.Common.{◌≡◌, ℕ, zero, suc, ◌+◌, ◌<◌, ◌≤◌, Bool, true, false, cond, List, [], ◌∷◌, ◌++◌, map, take, length, get_or, refl, ap, subst, ◌∙◌, sym, arith}
-use Rattle.std.specs.List.{All, count_by}
-use Rattle.std.proofs.lemmas.List.{map_push, take_more, get_or-map, length-map}
-use Rattle.query_model.specs.Kinds.{kind_of}
-use Rattle.query_model.specs.declared.processor_spec.Spec.{Spec}
-use Rattle.plan_run.specs.Plans.{kinds_in, kinds_of}
-use Rattle.std.proofs.lemmas.Bool.{eqb-true, eq-eqb}
-use Rattle.std.proofs.lemmas.List.Sums.{sum_by-cons}
-use Rattle.std.proofs.lemmas.List.Elements.{All-nil, All-cons, All-head, All-tail}
-use Rattle.query_model.specs.declared.processor_spec.Kind.{Kind}
+use Rattle.plan_run.proofs.Imports.{All, All-cons, All-head, All-nil, All-tail, BoxPicture, HasStock, Kind, Spec, TakesOut, count_by, eq-eqb, eqb-true, first_of, get_or-map, is_of, kind_of, kind_place, kinds_in, kinds_of, left_after, length-map, map_push, same_kind, sum_by-cons, take_more, taken_for, without_first}
 use Rattle.query_model.specs.declared.processor_spec.Kind.TheVariants as kind
-use Rattle.proc_api.specs.Names.{BoxPicture, kind_place, same_kind, is_of, TakesOut}
-use Rattle.plan_run.specs.Stock.{first_of, without_first, taken_for, left_after, HasStock}
 
 -- ---- kinds
 

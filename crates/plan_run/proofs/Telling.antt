@@ -1,22 +1,10 @@
 -- What a run of a plan tells, from the steps that it is made of.
 use Rattle.std.proofs.Common.{◌≡◌, ◌⊎◌, ℕ, ◌+◌, ◌<◌, ◌≤◌, true, List, [], ◌++◌, map, length, Some, None, IsSome, Result, Ok, Err, IfOk, IfErr, refl, ap, subst, ◌∙◌, sym, arith}
-use Rattle.std.specs.List.{All}
-use Rattle.std.proofs.lemmas.Bool.{both_ways}
-use Rattle.std.proofs.lemmas.List.{append-nil, get_or-map, length-map, ext_get_or}
-use Rattle.std.proofs.lemmas.List.Elements.{All-append, All-get_or}
-use Rattle.chunk_data.specs.Values.{Table}
-use Rattle.query_model.specs.Kinds.{kind_of}
-use Rattle.query_model.specs.declared.processor_spec.Spec.{Spec}
-use Rattle.query_model.specs.declared.processor_spec.Kind.{Kind}
+use Rattle.plan_run.proofs.Imports.{All, All-append, All-get_or, AreLater, AreStill, GivesBack, GivesRows, GivesUnloaded, HasStock, IsBlankAgain, IsLater, IsStill, Kind, LoadsFirst, PlanFault, PlanFaultHolds, RanWith, ReadsByKind, RunsLoaded, RunsPlan, RunsTaken, Spec, StuckWith, Table, Wire, append-nil, both_ways, ext_get_or, get_or-map, kind_of, kinds_of, left_after, length-map, spec_at, specs_of, taken_at, taken_for}
 use Rattle.query_model.specs.declared.processor_spec.Spec.TheVariants as spec
-use Rattle.port_word.specs.declared.flags.Wire.{Wire}
 use Rattle.proc_api.specs.Names.{BoxPicture, Notes, no_box, no_notes, IsBlank, IsFresh, IsSourceKind, HasNoReader, Loads, Unloads, raised}
 use Rattle.exec_laws.specs.Names.{IsBorn, box_at, StaysBox, GivenBack}
-use Rattle.plan_run.specs.declared.run.PlanFault.{PlanFault}
 use Rattle.plan_run.specs.declared.run.PlanFault.TheVariants as end
-use Rattle.plan_run.specs.Stock.{taken_for, left_after, HasStock}
-use Rattle.plan_run.specs.Plans.{kinds_of, spec_at, specs_of, taken_at, PlanFaultHolds, GivesBack, GivesRows, StuckWith, IsBlankAgain, RanWith, ReadsByKind, RunsPlan}
-use Rattle.plan_run.specs.Steps.{AreLater, AreStill, GivesUnloaded, IsLater, IsStill, LoadsFirst, RunsLoaded, RunsTaken}
 use Rattle.plan_run.proofs.Loading.{all-at, at-all}
 use Rattle.plan_run.proofs.Taking.{left-all, taken-all, taken-length}
 

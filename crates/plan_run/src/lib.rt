@@ -3,7 +3,5 @@
 
 mod boxes;
 mod run;
-#[cfg(test)]
-mod tests;
 
 pub use run::{PlanFault, PlanGraph, run_plan};

@@ -1,6 +1,4 @@
-use Rattle.std.proofs.Common.{length}
-use Rattle.exec_laws.specs.Runs.{cell_at}
-use Rattle.pipeline_exec.specs.Cells.{Carries, board_of, cells_of}
+use Rattle.pipeline_exec.proofs.Imports.{Carries, board_of, cell_at, cells_of, length}
 use Rattle.pipeline_exec.proofs.actions.carry_actions.Given as goal
 
 abbrev pub invariant-loop : goal.invariant-loop

@@ -1,5 +1,4 @@
-use Rattle.pipeline_exec.specs.Cells.{board_of, cells_of}
-use Rattle.pipeline_exec.proofs.Moving.{all-carried, carried-one, none-carried}
+use Rattle.pipeline_exec.proofs.Imports.{all-carried, board_of, carried-one, cells_of, none-carried}
 use Rattle.pipeline_exec.proofs.actions.carry_next.Goals as goal
 
 pub returns-in-Some-clause-carries : goal.returns-in-Some-clause-carries

@@ -1,4 +1,4 @@
-use Rattle.pipeline_exec.proofs.Lists.{cell-changed}
+use Rattle.pipeline_exec.proofs.Imports.{cell-changed}
 use Rattle.pipeline_exec.proofs.actions.take_action.Goals as goal
 
 pub returns : goal.returns

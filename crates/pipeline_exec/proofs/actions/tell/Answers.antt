@@ -1,4 +1,4 @@
-use Rattle.pipeline_exec.proofs.Lists.{cell-told}
+use Rattle.pipeline_exec.proofs.Imports.{cell-told}
 use Rattle.pipeline_exec.proofs.actions.tell.Goals as goal
 
 pub returns : goal.returns

@@ -1,5 +1,4 @@
-use Rattle.std.proofs.Common.{◌≡◌, ◌<◌, ℕ, true}
-use Rattle.port_word.specs.Pictures.{output_at, is_out_finished}
+use Rattle.pipeline_exec.proofs.Imports.{is_out_finished, output_at, true, ℕ, ◌<◌, ◌≡◌}
 use Rattle.pipeline_exec.proofs.cell.are_outputs_finished.Given as goal
 
 abbrev pub invariant-loop-o : goal.invariant-loop-o

@@ -1,5 +1,4 @@
-use Rattle.std.proofs.Common.{◌≡◌, ◌<◌, ℕ, true}
-use Rattle.port_word.specs.Pictures.{input_at, is_in_finished}
+use Rattle.pipeline_exec.proofs.Imports.{input_at, is_in_finished, true, ℕ, ◌<◌, ◌≡◌}
 use Rattle.pipeline_exec.proofs.cell.is_all_finished.Given as goal
 
 abbrev pub invariant-loop-i : goal.invariant-loop-i

@@ -1,7 +1,4 @@
-use Rattle.std.proofs.Common.{◌<◌, ℕ}
-use Rattle.exec_laws.specs.Runs.{cell_at}
-use Rattle.exec_laws.specs.Ends.{BearsOut}
-use Rattle.pipeline_exec.specs.Cells.{cells_of}
+use Rattle.pipeline_exec.proofs.Imports.{BearsOut, cell_at, cells_of, ℕ, ◌<◌}
 use Rattle.pipeline_exec.proofs.ending.first_unlawful.Given as goal
 
 abbrev pub invariant-loop-n : goal.invariant-loop-n

@@ -1,8 +1,4 @@
-use Rattle.std.proofs.Common.{◌+◌, ◌<◌, ◌++◌, [], ◌∷◌, cond, drop, length, ap, sym, ◌∙◌, arith}
-use Rattle.exec_laws.specs.Names.{CellPicture, boxes_of, is_resting, stuck_from}
-use Rattle.pipeline_exec.specs.Cells.{cells_of}
-use Rattle.pipeline_exec.proofs.Lists.{cell-read, cells-below}
-use Rattle.pipeline_exec.proofs.RunEnds.{more-stuck}
+use Rattle.pipeline_exec.proofs.Imports.{CellPicture, [], ap, arith, boxes_of, cell-read, cells-below, cells_of, cond, drop, is_resting, length, more-stuck, stuck_from, sym, ◌++◌, ◌+◌, ◌<◌, ◌∙◌, ◌∷◌}
 use Rattle.pipeline_exec.proofs.ending.list_stuck.Goals as goal
 
 pub loop-n-preserved : goal.loop-n-preserved

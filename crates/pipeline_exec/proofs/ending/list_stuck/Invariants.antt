@@ -1,7 +1,4 @@
-use Rattle.std.proofs.Common.{◌≡◌, ◌≤◌, ◌++◌, drop, length}
-use Rattle.std.specs.Prelude.{vec_capacity}
-use Rattle.exec_laws.specs.Ends.{boxes_of, stuck_from}
-use Rattle.pipeline_exec.specs.Cells.{cells_of}
+use Rattle.pipeline_exec.proofs.Imports.{boxes_of, cells_of, drop, length, stuck_from, vec_capacity, ◌++◌, ◌≡◌, ◌≤◌}
 use Rattle.pipeline_exec.proofs.ending.list_stuck.Given as goal
 
 abbrev pub invariant-loop-n : goal.invariant-loop-n

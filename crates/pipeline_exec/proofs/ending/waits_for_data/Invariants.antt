@@ -1,5 +1,4 @@
-use Rattle.std.proofs.Common.{◌≡◌, ◌<◌, ℕ, false}
-use Rattle.pipeline_exec.specs.Resting.{is_wanting}
+use Rattle.pipeline_exec.proofs.Imports.{false, is_wanting, ℕ, ◌<◌, ◌≡◌}
 use Rattle.pipeline_exec.proofs.ending.waits_for_data.Given as goal
 
 abbrev pub invariant-loop-i : goal.invariant-loop-i

@@ -1,6 +1,4 @@
-use Rattle.std.proofs.Common.{◌≡◌, ◌<◌, ℕ, false}
-use Rattle.proc_api.specs.Settled.{wire_at}
-use Rattle.pipeline_exec.specs.Cells.{is_end}
+use Rattle.pipeline_exec.proofs.Imports.{false, is_end, wire_at, ℕ, ◌<◌, ◌≡◌}
 use Rattle.pipeline_exec.proofs.executor_state.edge_at.Given as goal
 
 abbrev pub invariant-loop-e : goal.invariant-loop-e

@@ -1,6 +1,4 @@
-use Rattle.std.proofs.Common.{◌<◌, sym, subst}
-use Rattle.pipeline_exec.specs.Cells.{HasWire}
-use Rattle.pipeline_exec.proofs.Creating.{has-wire}
+use Rattle.pipeline_exec.proofs.Imports.{HasWire, has-wire, subst, sym, ◌<◌}
 use Rattle.pipeline_exec.proofs.executor_state.edge_numbers.Goals as goal
 
 pub edge_at-requires : goal.edge_at-requires

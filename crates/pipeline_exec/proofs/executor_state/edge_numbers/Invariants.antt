@@ -1,4 +1,4 @@
-use Rattle.pipeline_exec.specs.Cells.{AreFirstEdges}
+use Rattle.pipeline_exec.proofs.Imports.{AreFirstEdges}
 use Rattle.pipeline_exec.proofs.executor_state.edge_numbers.Given as goal
 
 abbrev pub invariant-loop-k : goal.invariant-loop-k

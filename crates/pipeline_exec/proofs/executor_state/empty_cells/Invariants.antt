@@ -1,5 +1,4 @@
-use Rattle.std.proofs.Common.{◌≡◌, ◌+◌, ◌≤◌, ◌++◌, length, map}
-use Rattle.std.specs.Prelude.{vec_capacity}
+use Rattle.pipeline_exec.proofs.Imports.{length, map, vec_capacity, ◌++◌, ◌+◌, ◌≡◌, ◌≤◌}
 use Rattle.pipeline_exec.proofs.executor_state.empty_cells.Given as goal
 
 abbrev pub invariant-loop-node : goal.invariant-loop-node

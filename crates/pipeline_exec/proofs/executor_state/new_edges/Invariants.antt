@@ -1,4 +1,4 @@
-use Rattle.pipeline_exec.specs.Cells.{AreNewEdges}
+use Rattle.pipeline_exec.proofs.Imports.{AreNewEdges}
 use Rattle.pipeline_exec.proofs.executor_state.new_edges.Given as goal
 
 abbrev pub invariant-loop-edge : goal.invariant-loop-edge

@@ -1,6 +1,4 @@
-use Rattle.std.proofs.Common.{◌≡◌, ◌+◌, length, sym, subst, arith}
-use Rattle.pipeline_exec.specs.Cells.{AreNewFrom, AreNewPorts}
-use Rattle.pipeline_exec.proofs.Creating.{more-ports}
+use Rattle.pipeline_exec.proofs.Imports.{AreNewFrom, AreNewPorts, arith, length, more-ports, subst, sym, ◌+◌, ◌≡◌}
 use Rattle.pipeline_exec.proofs.executor_state.new_ports.Goals as goal
 
 pub loop-node-preserved : goal.loop-node-preserved

@@ -1,5 +1,4 @@
-use Rattle.std.proofs.Common.{◌≡◌, length}
-use Rattle.pipeline_exec.specs.Cells.{AreNewFrom}
+use Rattle.pipeline_exec.proofs.Imports.{AreNewFrom, length, ◌≡◌}
 use Rattle.pipeline_exec.proofs.executor_state.new_ports.Given as goal
 
 abbrev pub invariant-loop-node : goal.invariant-loop-node

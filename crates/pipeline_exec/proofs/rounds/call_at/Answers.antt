@@ -1,5 +1,4 @@
-use Rattle.exec_laws.specs.Names.{ActsCell, KeepsFault, StaysBox}
-use Rattle.pipeline_exec.proofs.Lists.{cell-changed}
+use Rattle.pipeline_exec.proofs.Imports.{ActsCell, KeepsFault, StaysBox, cell-changed}
 use Rattle.pipeline_exec.proofs.rounds.call_at.Goals as goal
 
 pub returns-in-Ok-clause-stays : goal.returns-in-Ok-clause-stays

@@ -1,6 +1,4 @@
-use Rattle.pipeline_exec.specs.Cells.{board_of, cells_of}
-use Rattle.pipeline_exec.proofs.Lists.{cells-below}
-use Rattle.pipeline_exec.proofs.Moving.{call-held}
+use Rattle.pipeline_exec.proofs.Imports.{board_of, call-held, cells-below, cells_of}
 use Rattle.pipeline_exec.proofs.rounds.call_node.Goals as goal
 
 pub returns-in-Ok-clause-under_way : goal.returns-in-Ok-clause-under_way

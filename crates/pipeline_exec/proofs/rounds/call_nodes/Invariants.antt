@@ -1,4 +1,4 @@
-use Rattle.pipeline_exec.specs.Cells.{IsUnderWay, Stays, board_of}
+use Rattle.pipeline_exec.proofs.Imports.{IsUnderWay, Stays, board_of}
 use Rattle.pipeline_exec.proofs.rounds.call_nodes.Given as goal
 
 abbrev pub invariant-loop-n : goal.invariant-loop-n

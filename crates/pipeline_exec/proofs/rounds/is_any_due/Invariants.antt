@@ -1,6 +1,4 @@
-use Rattle.std.proofs.Common.{◌≡◌, ◌<◌, ℕ, false}
-use Rattle.exec_laws.specs.Names.{is_waiting, cell_at}
-use Rattle.pipeline_exec.specs.Cells.{cells_of}
+use Rattle.pipeline_exec.proofs.Imports.{cell_at, cells_of, false, is_waiting, ℕ, ◌<◌, ◌≡◌}
 use Rattle.pipeline_exec.proofs.rounds.is_any_due.Given as goal
 
 abbrev pub invariant-loop-n : goal.invariant-loop-n

@@ -1,6 +1,4 @@
-use Rattle.std.proofs.Common.{◌∙◌}
-use Rattle.pipeline_exec.specs.Cells.{board_of, cells_of}
-use Rattle.pipeline_exec.proofs.Moving.{prepared, prepared-stays, side-count}
+use Rattle.pipeline_exec.proofs.Imports.{board_of, cells_of, prepared, prepared-stays, side-count, ◌∙◌}
 use Rattle.pipeline_exec.proofs.rounds.prepare_node.Goals as goal
 
 pub carry_actions-requires-after_bounds : goal.carry_actions-requires-after_bounds

@@ -1,4 +1,4 @@
-use Rattle.pipeline_exec.specs.Cells.{IsUnderWay, Stays, board_of}
+use Rattle.pipeline_exec.proofs.Imports.{IsUnderWay, Stays, board_of}
 use Rattle.pipeline_exec.proofs.rounds.run_rounds.Given as goal
 
 abbrev pub invariant-loop-round : goal.invariant-loop-round

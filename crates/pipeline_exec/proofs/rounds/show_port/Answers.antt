@@ -1,5 +1,4 @@
-use Rattle.pipeline_exec.specs.Cells.{board_of, cells_of}
-use Rattle.pipeline_exec.proofs.Moving.{shows-seen}
+use Rattle.pipeline_exec.proofs.Imports.{board_of, cells_of, shows-seen}
 use Rattle.pipeline_exec.proofs.rounds.show_port.Goals as goal
 
 pub returns : goal.returns

@@ -1,4 +1,4 @@
-use Rattle.pipeline_exec.specs.Cells.{Shows, board_of}
+use Rattle.pipeline_exec.proofs.Imports.{Shows, board_of}
 use Rattle.pipeline_exec.proofs.rounds.show_side.Given as goal
 
 abbrev pub invariant-loop-k : goal.invariant-loop-k

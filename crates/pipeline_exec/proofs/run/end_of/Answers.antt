@@ -1,7 +1,4 @@
-use Rattle.std.proofs.Common.{◌∙◌}
-use Rattle.pipeline_exec.specs.Cells.{board_of}
-use Rattle.pipeline_exec.proofs.Lists.{cells-below, cells-within}
-use Rattle.pipeline_exec.proofs.RunEnds.{is-done, is-stuck}
+use Rattle.pipeline_exec.proofs.Imports.{board_of, cells-below, cells-within, is-done, is-stuck, ◌∙◌}
 use Rattle.pipeline_exec.proofs.run.end_of.Goals as goal
 
 pub returns-in-Some : goal.returns-in-Some

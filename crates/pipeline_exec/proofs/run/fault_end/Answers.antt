@@ -1,4 +1,4 @@
-use Rattle.pipeline_exec.proofs.RunEnds.{is-fault}
+use Rattle.pipeline_exec.proofs.Imports.{is-fault}
 use Rattle.pipeline_exec.proofs.run.fault_end.Goals as goal
 
 pub returns-in_default : goal.returns-in_default

@@ -1,8 +1,4 @@
-use Rattle.std.proofs.Common.{refl, subst}
-use Rattle.pipeline_exec.specs.Cells.{board_of}
-use Rattle.pipeline_exec.specs.Ends.{EndHolds}
-use Rattle.pipeline_exec.proofs.Creating.{state-started}
-use Rattle.pipeline_exec.proofs.RunEnds.{all-back, boxes-end}
+use Rattle.pipeline_exec.proofs.Imports.{EndHolds, all-back, board_of, boxes-end, refl, state-started, subst}
 use Rattle.pipeline_exec.proofs.run.run_in_cells.Goals as goal
 
 pub run_state-end-requires-clause-under_way : goal.run_state-end-requires-clause-under_way

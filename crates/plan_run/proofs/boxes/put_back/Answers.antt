@@ -1,6 +1,5 @@
 use Rattle.std.proofs.Common.{◌≡◌, ◌+◌, length, ap, ◌∙◌, arith}
-use Rattle.std.proofs.lemmas.List.{length_push}
-use Rattle.proc_api.specs.Clauses.{IsBlank}
+use Rattle.plan_run.proofs.Imports.{IsBlank, length_push}
 use Rattle.plan_run.proofs.Loading.{front-all, one-over, rest-all}
 use Rattle.plan_run.proofs.boxes.put_back.Goals as goal
 

@@ -1,6 +1,5 @@
 use Rattle.std.proofs.Common.{◌≡◌, ◌+◌, ◌≤◌, ◌++◌, length, map, vec_capacity}
-use Rattle.std.specs.List.{All}
-use Rattle.proc_api.specs.Clauses.{IsBlank}
+use Rattle.plan_run.proofs.Imports.{All, IsBlank}
 use Rattle.plan_run.proofs.boxes.put_back.Given as goal
 
 abbrev pub invariant-loop-box : goal.invariant-loop-box

@@ -1,6 +1,5 @@
 use Rattle.std.proofs.Common.{◌≡◌, ◌+◌, ◌≤◌, length, map, take, vec_capacity}
-use Rattle.plan_run.specs.Plans.{kinds_of}
-use Rattle.plan_run.specs.Stock.{taken_for, left_after}
+use Rattle.plan_run.proofs.Imports.{kinds_of, left_after, taken_for}
 use Rattle.plan_run.proofs.boxes.take_boxes.Given as goal
 
 abbrev pub invariant-loop-i : goal.invariant-loop-i

@@ -1,7 +1,5 @@
 use Rattle.std.proofs.Common.{ap, subst, sym, ◌∙◌}
-use Rattle.std.specs.List.{All}
-use Rattle.proc_api.specs.Clauses.{IsBlank}
-use Rattle.plan_run.specs.Plans.{kinds_in, kinds_of}
+use Rattle.plan_run.proofs.Imports.{All, IsBlank, kinds_in, kinds_of}
 use Rattle.plan_run.proofs.Taking.{taken-all, taken-kinds}
 use Rattle.plan_run.proofs.Telling.{fault-by, if-err, if-ok, plan-gives-back, plan-runs, rows-by}
 use Rattle.plan_run.proofs.run.run_in.Goals as goal
