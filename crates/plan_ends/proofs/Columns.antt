@@ -1,13 +1,14 @@
 -- The columns of a table that a query names are those of the table that its plan reads, and its
 -- checked types are those of the rows that its items make.
-use Rattle.std.proofs.Common.{Bool, List, None, Option, Some, [], ap, append_assoc, ap₂, arith, bytes_eq, cond, false, filter, find, length, length-append, map, not, refl, slice_get, slice_index_or, subst, suc, sym, true, zero, ℕ, ◌++◌, ◌+◌, ◌<◌, ◌==◌, ◌∙◌, ◌∷◌, ◌≡◌}
-use Rattle.plan_ends.proofs.Prelude.{All, All-cons, All-head, All-nil, All-tail, AreColumnsFrom, ArePlainItems, Checked, ColumnDecl, ColumnType, EachWith, Expr, FromColumn, IsChecked, IsOfKind, IsPlacedItem, IsShape, IsTypedQuery, Item, ItemKind, Items, Listed, OrderKey, Plain, Query, Schema, SortKey, Star, TableDecl, TableRef, accepted, all_fit, ambiguous_column, bad_join_key, bad_order_key, both, columns_if, every_column, expr_columns, expr_is_of_kind, expr_kind, first_of_all, from_columns, from_types, get_or_at, is_grouped, is_typed, item_kind, item_names, known_type, length-map, list_all, listed, none_found, not_grouped, output_names, output_types, place_in, place_of, refusal_of, sort_key, table_columns, too_wide, type_mismatch, type_of, typed, types_declared, types_of, unfit, unknown_column, unknown_table, use_of, used_types}
+use Rattle.std.proofs.Common.{Bool, List, None, Option, Some, [], ap, append_assoc, ap₂, arith, bytes_eq, cond, false, filter, find, flat_map, length, length-append, map, not, option_map, refl, slice_get, slice_index_or, subst, suc, sym, true, zero, ℕ, ◌++◌, ◌+◌, ◌<◌, ◌==◌, ◌∙◌, ◌∷◌, ◌≡◌}
+use Rattle.plan_ends.proofs.Prelude.{AggCall, All, All-behind, All-cons, All-front, All-head, All-nil, All-tail, AreColumnsFrom, ArePlainItems, Checked, ColumnDecl, ColumnRef, ColumnType, EachWith, Expr, FromColumn, Grouped, Grouping, IsAnalysable, IsChecked, IsGrouping, IsPlacedItem, IsShape, IsTypedQuery, Item, ItemKind, Items, Listed, NamePair, OrderKey, Plain, Query, Schema, Shape, SortKey, Star, TableDecl, TableRef, accepted, all_fit, ambiguous_column, are_keys, bad_join_key, bad_order_key, bare_columns, both, call_type, calls_of, columns_if, every_column, expr_columns, expr_is_of_kind, expr_kind, first_name, first_of_all, from_columns, from_types, get_or_at, group_row_types, is_grouped, is_key_of, is_typed, item_columns, item_kind, item_names, join_pairs, key_place, known_type, length-map, list_all, listed, none_found, not_grouped, not_keys, operand_columns, operands_of, output_names, output_types, place_in, place_of, refusal_of, sort_key, star_name, table_columns, tells_each, too_wide, type_mismatch, type_of, types_declared, types_of, ungrouped_names, unknown_column, unknown_table, use_of, used_types, written}
 use Rattle.chunk_data.specs.declared.typed_value.ColumnType.TheVariants as column
-use Rattle.query_model.specs.Refusals.{Kind, plain}
 use Rattle.query_model.specs.declared.query.ExprOf.TheVariants as expr
 use Rattle.query_model.specs.declared.query.ItemKind.TheVariants as kind
 use Rattle.query_model.specs.declared.query.Refusal.TheVariants as refuse
 use Rattle.query_model.specs.declared.query.TableRef.TheVariants as table
+use Rattle.plan_ends.proofs.PickTypes.{MeansOne, key-type, known-is, picks-types}
+use Rattle.plan_ends.proofs.ShapeTypes.{shape_types, type_at}
 
 types_kept : (table : List ℕ) (cs : List ColumnDecl)
     → map (λ (c : FromColumn). c.type)
@@ -75,18 +76,12 @@ items-types columns (i ∷ items) (e ∷ es) is h =
     (list_all (λ (i : Item). is_typed (item_kind columns i.what)) items) h in
     ap₂ (λ t ts. t ∷ ts) (one i.what i.alias is.0 each.0) (items-types columns items es is.1 each.1)
   where
-    known : (k : Kind) → IsOfKind (types_of columns) e k → is_typed k ≡ true
-        → known_type k ≡ type_of e (types_of columns)
-    known (plain z) h t = absurd cc
-    known (typed s) h t = sym h.2
-    known unfit h t = absurd cc
-
     one : (k : ItemKind) (alias : Option (List ℕ))
         → IsPlacedItem (place_in columns) (record { what = k; alias = alias }) e
         → is_typed (item_kind columns k) ≡ true
         → known_type (item_kind columns k) ≡ type_of e (types_of columns)
     one (kind.Plain a) alias is t =
-        known (expr_kind columns a)
+        known-is (types_of columns) e (expr_kind columns a)
         (expr_is_of_kind (types_of columns) columns (place_in columns) a e
         (every_column columns (expr_columns a)) is) t
     one (kind.Agg call) alias is t = absurd is
@@ -135,11 +130,10 @@ each-none (None ∷ all) h = All-cons (λ o. o ≡ None) None all refl (each-non
 each-none (Some x ∷ all) h = absurd cc
 
 -- A query that is typed by the types of the rows that it reads. Its checked types are those of the
--- rows that the items make, which have the columns of its keys.
+-- rows that its shape makes, which have the columns of its keys.
 pub record IsTypedSelect (types : List ColumnType) (c : Checked) : Type 0 where
   pub typed : IsTypedQuery types c
-  pub items : (items : List Expr) → c.shape ≡ Plain items
-      → c.types ≡ map (λ e. type_of e types) items
+  pub made : c.types ≡ shape_types c.shape types
   pub keys : All (λ (key : SortKey). key.column < length c.types) c.order
 
 module _ (q : Query) (schemas : List Schema) (c : Checked) (none : refusal_of q schemas ≡ None)
@@ -175,13 +169,52 @@ module _ (q : Query) (schemas : List Schema) (c : Checked) (none : refusal_of q 
       (omega (arith, place, count))
       (keys-within keys (All-tail (λ key. is_no_name key ≡ false) key keys h))
 
-  pub typed-select : is_grouped q ≡ false → IsTypedQuery (from_types q schemas) c
+  -- in a grouped query each output column is picked from the row of keys and calls
+  picked-types : IsAnalysable q → is_grouped q ≡ true → (g : Grouping) → IsGrouping q columns g
+      → output_types q.items columns
+      ≡ map (type_at (group_row_types g (from_types q schemas))) g.picks
+  picked-types can e g group =
+      let ok = accepted q schemas none in
+      let P : ColumnRef → Type 0 = MeansOne columns in
+      let ones = All-front P _ _ (tells_each q schemas ok) in
+      let types : List ColumnType = types_of columns in
+      let rest : List ColumnType =
+      map (λ (call : AggCall ℕ). call_type call.op call.arg types) g.calls in
+      no-star q.items _ _
+      (subst (λ b. cond b (option_map refuse.NotGrouped (first_name (ungrouped_names q schemas)))
+      None ≡ None) e ok.grouped)
+      ∙ picks-types columns (key_place columns q.keys) (is_key_of columns q.keys)
+      (group_row_types g types)
+      (λ c one is. ap (λ l. type_at (map (type_at types) l ++ rest) (key_place columns q.keys c))
+      group.keys ∙ key-type columns q.keys rest c (All-behind P _ q.keys ones) one is)
+      (flat_map calls_of (operands_of q.having)) (map (type_at types) g.keys) (length q.keys)
+      (listed q.items) g.picks g.calls
+      (length-map g.keys (type_at types) ∙ ap (λ l. length l) group.keys
+      ∙ length-map q.keys (place_in columns)) refl group.calls can.calls
+      (All-front P _ _ (All-front P _ _ (All-front P _ _ ones)))
+      (are_keys q schemas ok e).items (all_fit q schemas ok).items group.picks
+    where
+      no-star : (items : Items) (keys tested : List (List ℕ))
+          → option_map refuse.NotGrouped (first_name (star_name items ++ keys ++ tested)) ≡ None
+          → output_types items columns
+          ≡ map (λ (i : Item). known_type (item_kind columns i.what)) (listed items)
+      no-star Star keys tested h = absurd cc
+      no-star (Listed items) keys tested h = refl
+
+  pub typed-select : IsAnalysable q → IsTypedQuery (from_types q schemas) c
       → IsTypedSelect (from_types q schemas) c
-  typed-select ungrouped query = record {
+  typed-select can query = record {
     typed = query;
-    items = λ items shape. is.types ∙ output-types columns q.items items
-        (rw shape at (subst (λ b. IsShape q columns b c.shape) ungrouped is.shape))
-        (all_fit q schemas (accepted q schemas none)).items;
+    made = is.types ∙ made (is_grouped q) refl c.shape is.shape;
     keys = rw is.order (keys-within q.order (none_found is_no_name
         (λ (key : OrderKey). refuse.BadOrderKey key.name) q.order well-ordered));
   }
+    where
+      made : (b : Bool) → is_grouped q ≡ b → (s : Shape) → IsShape q columns b s
+          → output_types q.items columns ≡ shape_types s (from_types q schemas)
+      made false e (Plain items) shape =
+          output-types columns q.items items shape
+          (all_fit q schemas (accepted q schemas none)).items
+      made false e (Grouped g) shape = absurd shape
+      made true e (Plain items) shape = absurd shape
+      made true e (Grouped g) shape = picked-types can e g shape

@@ -1,5 +1,5 @@
 -- The rows that the nodes of each kind pulled in a run of a query's plan are the kind's flow.
-use Rattle.plan_ends.proofs.Prelude.{Checked, ColumnType, Cond, Database, DraftNode, Expr, IsTold, Kind, NodeForm, NodePort, Parts, Plain, Row, SelectPlan, SortKey, Stream, all_rows, body_nodes, by-forms, collect_node, counted, filter_pulls, filtered_rows, flow, forms, gather_pulls, groups_tested, if_grouped, if_ordered, if_plain, item_row, join_pulls, kind_of, length-map, none-of, of_kind, order_of, output_rows, plan_nodes, plan_pulls, ports_of, pulled_rows, pulls, read_rows, rows_joined, rows_of, rows_tested, rows_where, same_kind, selected_rows, shape_pulls, source_rows, source_table, sum_by-append, sum_by-cons, used_table}
+use Rattle.plan_ends.proofs.Prelude.{Checked, ColumnType, Cond, Database, DraftNode, Grouped, HasCalls, IsPlanOf, IsTold, Kind, NodeForm, NodePort, Parts, Plain, Row, SelectPlan, Shape, SortKey, SortSpec, Spec, Stream, all_rows, body_nodes, by-forms, call_arguments, collect_node, columns_of, counted, filter_pulls, filtered_rows, flow, forms, gather_pulls, group_spec, grouped_rows, groups-selected, groups_tested, if_grouped, if_ordered, if_plain, item_row, join_pulls, kind_of, length-map, none-of, of_kind, order_of, plan_nodes, plan_pulls, ports_of, pulled_rows, pulls, rows_joined, rows_of, rows_tested, rows_where, same_kind, selected_rows, shape_of, shape_pulls, sort_pulls, source_rows, source_table, sum_by-append, sum_by-cons, used_table, values_at}
 use Rattle.std.proofs.Common.{Bool, IfSome, List, None, Option, Some, [], ap, ap₂, arith, cond, false, length, length-append, map, refl, suc, sym, true, ℕ, ◌++◌, ◌+◌, ◌∙◌, ◌∷◌, ◌≡◌}
 use Rattle.query_model.specs.declared.processor_spec.Kind.TheVariants as kind
 use Rattle.query_model.specs.declared.processor_spec.Spec.TheVariants as spec
@@ -46,19 +46,85 @@ module _ (k : Kind) (f : NodePort → Stream) where
       go true e rest = absurd (omega (arith, e))
       go false e rest = let none = rest (omega (arith, e)) in omega (arith, none)
 
--- ---- plans of one table, without grouping
+-- ---- what makes the output rows
 
--- the filter's rows, the expression's and those that are put in order
-simple-pulls : (k : Kind) (parts : Parts) (p : SelectPlan) (h : IsSimple p) → plan_pulls k parts p
-    ≡ filter_pulls k p.filter (length (read_rows parts p.sources p.join))
-    + (pulls k (spec.Expression h.items)
-    (length (rows_where p.filter (read_rows parts p.sources p.join)))
-    + gather_pulls k p.order (length (rows_where p.filter (read_rows parts p.sources p.join))))
-simple-pulls k parts p h =
-    let rows : List Row = rows_where p.filter (read_rows parts p.sources p.join) in
-    let join = ap (join_pulls k parts p.sources) h.one_table in
-    let shape = ap (λ s. shape_pulls k s p.order rows) h.shape in
-    omega (arith, join, shape)
+cond-sum : (b : Bool) (m n : ℕ) → cond b (m + n) 0 ≡ cond b m 0 + cond b n 0
+cond-sum true m n = refl
+cond-sum false m n = refl
+
+tests : (k : Kind) (c : Option Cond) (l : List Row)
+    → filter_pulls k c (length l) ≡ cond (same_kind kind.Filter k) (rows_tested c l) 0
+tests k None l = sym (none-of (same_kind kind.Filter k))
+tests k (Some c) l = refl
+
+module _ (k : Kind) (made : List ColumnType) (chunk_rows : ℕ) where
+  -- the rows of the sorts, and of the merge behind them
+  abbrev ordered : List SortKey → (all merged : ℕ) → ℕ
+  ordered keys all merged = cond (same_kind kind.Sort k) (if_ordered keys all) 0
+      + cond (same_kind kind.MergeSorted k) (if_ordered keys merged) 0
+
+  gathers : (keys : List SortKey) (m : ℕ)
+      → gather_pulls k (order_of made chunk_rows keys) m ≡ ordered keys m m
+  gathers [] m =
+      omega (arith, none-of (same_kind kind.Sort k), none-of (same_kind kind.MergeSorted k))
+  gathers (key ∷ keys) m = refl
+
+  -- one sort has all groups
+  sorts : (keys : List SortKey) (m : ℕ)
+      → sort_pulls k (order_of made chunk_rows keys) m ≡ ordered keys m 0
+  sorts [] m =
+      omega (arith, none-of (same_kind kind.Sort k), none-of (same_kind kind.MergeSorted k))
+  sorts (key ∷ keys) m = omega (arith, none-of (same_kind kind.MergeSorted k))
+
+module _ (k : Kind) (types made : List ColumnType) (n chunk_rows : ℕ) (keys : List SortKey)
+    (rows : List Row) where
+  abbrev order : Option SortSpec
+  order = order_of made chunk_rows keys
+
+  -- the rows that the steps between the filters and the limit pull, by kinds
+  abbrev shape_flow : Shape → ℕ
+  shape_flow s =
+      let out : ℕ = length (selected_rows s types rows) in
+      cond (same_kind kind.Filter k) (groups_tested s types rows) 0
+      + (cond (same_kind kind.Expression k) (length rows + if_grouped s out) 0
+      + (cond (same_kind kind.PartialAggregate k) (if_grouped s (length rows)) 0
+      + ordered k made chunk_rows keys out (if_plain s out)))
+
+  shape-told : (s : Shape) → HasCalls s
+      → shape_pulls k (shape_of s types n) order rows ≡ shape_flow s
+  shape-told (Plain items) calls =
+      let out = length-map rows (item_row items) in
+      omega (
+        arith,
+        none-of (same_kind kind.Filter k),
+        none-of (same_kind kind.PartialAggregate k),
+        none-of (same_kind kind.Expression k),
+        cond-sum (same_kind kind.Expression k) (length rows) 0,
+        ap (gather_pulls k order) (sym out)
+            ∙ gathers k made chunk_rows keys (length (map (item_row items) rows)),
+      )
+  shape-told (Grouped g) calls =
+      let arguments : Spec = spec.Expression (columns_of g.keys ++ call_arguments g.calls) in
+      let picks : Spec = spec.Expression (columns_of g.picks) in
+      let groups : List Row = grouped_rows g types rows in
+      let passed : List Row = rows_where g.having groups in
+      let partial : Spec = spec.PartialAggregate (group_spec g types n) in
+      let selected = ap (λ l. pulls k arguments (length rows) + (pulls k partial (length rows)
+      + (filter_pulls k g.having (length l) + (pulls k picks (length (rows_where g.having l))
+      + sort_pulls k order (length (rows_where g.having l))))))
+      (groups-selected g types n rows calls) in
+      let m : ℕ = length (map (values_at g.picks) passed) in
+      let out : length passed ≡ m = sym (length-map passed (values_at g.picks)) in
+      omega (
+        arith,
+        selected,
+        tests k g.having groups,
+        cond-sum (same_kind kind.Expression k) (length rows) m,
+        ap (pulls k picks) out,
+        ap (sort_pulls k order) out ∙ sorts k made chunk_rows keys m,
+      )
+
+-- ---- plans of one table
 
 -- a run of the plan: the rows that its nodes pulled, and those that were collected
 pub record HasFlowed (p : SelectPlan) (parts : Parts) (nodes : List DraftNode)
@@ -100,44 +166,25 @@ module _ (p : SelectPlan) (parts : Parts) (nodes : List DraftNode) (f : NodePort
 
   -- Where there is no LIMIT, each kind pulled its flow of the query of which these are the rows.
   module _ (simple : IsSimple p) (unlimited : p.limit ≡ None) (q : Checked) (db : Database)
-      (filter : p.filter ≡ q.filter) (read : read_rows parts p.sources p.join ≡ source_rows q db)
-      (join : q.join ≡ None) (items : List Expr) (shape : q.shape ≡ Plain items)
-      (types : List ColumnType) (chunk_rows : ℕ)
-      (order : p.order ≡ order_of types chunk_rows q.order) where
-    tests : (k : Kind) (c : Option Cond) (l : List Row)
-        → filter_pulls k c (length l) ≡ cond (same_kind kind.Filter k) (rows_tested c l) 0
-    tests k None l = sym (none-of (same_kind kind.Filter k))
-    tests k (Some c) l = refl
-
-    orders : (k : Kind) (keys : List SortKey) (n : ℕ)
-        → gather_pulls k (order_of types chunk_rows keys) n
-        ≡ cond (same_kind kind.Sort k) (if_ordered keys n) 0
-        + cond (same_kind kind.MergeSorted k) (if_ordered keys n) 0
-    orders k [] n = omega (
-      arith,
-      none-of (same_kind kind.Sort k),
-      none-of (same_kind kind.MergeSorted k),
-    )
-    orders k (key ∷ keys) n = refl
+      (is : IsPlanOf q db parts p) (join : q.join ≡ None) (made : List ColumnType) (chunk_rows : ℕ)
+      (order : p.order ≡ order_of made chunk_rows q.order) where
+    abbrev types : List ColumnType
+    types = (source_table q db).types
 
     told-pulled : (k : Kind) → IsTold k → pulled_rows k 0 nodes f
         ≡ cond (same_kind kind.Filter k) (rows_tested q.filter (source_rows q db)) 0
-        + (pulls k (spec.Expression simple.items) (length (filtered_rows q db))
-        + (cond (same_kind kind.Sort k) (if_ordered q.order (length (output_rows q db))) 0
-        + cond (same_kind kind.MergeSorted k) (if_ordered q.order (length (output_rows q db))) 0))
+        + shape_flow k types made is.chunk_rows chunk_rows q.order (filtered_rows q db) q.shape
         + cond (same_kind kind.Collect k) (length rows) 0
     told-pulled k told =
         let all = all-pulled k in
-        let plan = h.pulled k unlimited told ∙ simple-pulls k parts p simple in
+        let plan = h.pulled k unlimited told in
+        let none = ap (join_pulls k parts p.sources) simple.one_table in
         let over = ap₂ (λ (c : Option Cond) (l : List Row). filter_pulls k c (length l)
-        + (pulls k (spec.Expression simple.items) (length (rows_where c l))
-        + gather_pulls k p.order (length (rows_where c l)))) filter read in
-        let made = sym (length-map (filtered_rows q db) (item_row items))
-        ∙ ap (λ s. length (selected_rows s (source_table q db).types (filtered_rows q db)))
-        (sym shape) in
-        let sorts = ap₂ (gather_pulls k) order made
-        ∙ orders k q.order (length (output_rows q db)) in
-        omega (arith, all, plan, over, tests k q.filter (source_rows q db), sorts)
+        + shape_pulls k p.shape p.order (rows_where c l)) is.filter is.read in
+        let shape = ap₂ (λ s o. shape_pulls k s o (filtered_rows q db)) is.shape order
+        ∙ shape-told k types made is.chunk_rows chunk_rows q.order (filtered_rows q db) q.shape
+        is.calls in
+        omega (arith, all, plan, none, over, tests k q.filter (source_rows q db), shape)
 
     pub flow-pulled : (k : Kind)
         → IfSome (flow k q db rows) (λ n. pulled_rows k 0 nodes f ≡ n)
@@ -149,10 +196,5 @@ module _ (p : SelectPlan) (parts : Parts) (nodes : List DraftNode) (f : NodePort
     flow-pulled kind.Limit = tt
     flow-pulled k =
         let all = told-pulled k (record { no_resize = refl; no_merge = refl }) in
-        let tested = ap (λ s. groups_tested s (source_table q db).types (filtered_rows q db))
-        shape in
-        let grouped = ap (λ s. if_grouped s (length (filtered_rows q db))) shape in
-        let made = ap (λ s. if_grouped s (length (output_rows q db))) shape in
         let joined = ap (λ j. rows_joined j db (used_table db q.from).rows) join in
-        let merged = ap (λ s. if_ordered q.order (if_plain s (length (output_rows q db)))) shape in
-        omega (arith, all, tested, grouped, made, joined, merged)
+        omega (arith, all, joined)

@@ -13,3 +13,6 @@ pub mod Needs
 pub mod Queries
 pub mod ResizeLaws
 pub mod SortLaws
+pub mod GroupLaws
+pub mod ShapeTypes
+pub mod PickTypes

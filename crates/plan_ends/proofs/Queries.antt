@@ -1,7 +1,7 @@
 -- At the end of a run of a query's plan the collector has an answer of the query, and its boxes
 -- pulled their flow.
 use Rattle.std.proofs.Common.{Bool, IfSome, List, None, Option, Some, [], ap, ap₂, arith, flat_map, get_or, inl, inr, length, map, refl, slice_get, subst, suc, sym, true, ℕ, ◌++◌, ◌+◌, ◌<◌, ◌∙◌, ◌∷◌, ◌≡◌, ◌≤◌, ◌⊎◌}
-use Rattle.plan_ends.proofs.Prelude.{All, AllByRecursion, AllTyped, BoxPicture, Checked, ColumnType, Cond, Database, Declared, DraftNode, Expr, Files, Grouped, HasCalls, IsAnswer, IsCut, IsItem, IsPlain, IsPlan, IsPlanOf, IsPlannable, IsSmall, IsSource, IsTypedBy, IsTypedFilter, IsTypedShape, JoinsSources, Kind, NodePort, Numbers, OneType, PartSpec, Paths, Plain, Reading, SelectPlan, Shape, SortKey, Spec, Stream, Table, TableDecl, TableUse, UsesNoList, append-nil, by-paths, chunk_rows, database, declared_sources, declared_table, file_bytes, filtered_rows, flow, forms, get_or-map, get_or_past, join_of, joined_table, length-map, order_of, output_rows, part_rows, part_spec, path_sources, plan-needs, plan_keys, plan_nodes, plan_rows, plan_valid, plans-answer, pulled_rows, query-answers, read_rows, reading_of, rows_in, rows_where, select_plan, shape-selects, shape_of, shape_rows, slice_get_cases, source_table, source_types, sources_rows, table_sources, type_of, types_declared, used_table, used_types}
+use Rattle.plan_ends.proofs.Prelude.{All, AllByRecursion, AllTyped, BoxPicture, Checked, ColumnType, Database, Declared, DraftNode, Files, HasCalls, IsAnswer, IsCut, IsPlan, IsPlanOf, IsPlannable, IsSmall, IsSource, JoinsSources, Kind, NodePort, Numbers, OneType, PartSpec, Paths, Reading, SelectPlan, SortKey, Spec, Stream, Table, TableDecl, TableUse, UsesNoList, append-nil, by-paths, chunk_rows, database, declared_sources, declared_table, file_bytes, filtered_rows, flow, forms, get_or-map, get_or_past, join_of, joined_table, length-map, order_of, output_rows, part_rows, part_spec, path_sources, plan-needs, plan_keys, plan_nodes, plan_rows, plan_valid, plans-answer, pulled_rows, query-answers, read_rows, reading_of, rows_in, rows_where, select_plan, shape-selects, shape_of, shape_rows, slice_get_cases, source_table, source_types, sources_rows, table_sources, types_declared, used_table, used_types}
 use Rattle.query_model.specs.declared.processor_spec.Kind.TheVariants as kind
 use Rattle.query_model.specs.declared.processor_spec.Spec.TheVariants as spec
 use Rattle.plan_ends.specs.Ended.{part_in, parts_of, pulled_at, pushed_at, HasEnded, IsSimple}
@@ -9,6 +9,7 @@ use Rattle.plan_ends.proofs.Answers.{plan-run, PlanRun}
 use Rattle.plan_ends.proofs.Columns.{IsTypedSelect}
 use Rattle.plan_ends.proofs.Flows.{HasFlowed, collector-pulled, flow-pulled}
 use Rattle.plan_ends.proofs.SimplePlans.{simple-ready}
+use Rattle.plan_ends.proofs.ShapeTypes.{has-calls, shape_types}
 use Rattle.plan_ends.proofs.TypedPlans.{FitsOrdering, simple-typed}
 
 -- ---- tables
@@ -102,21 +103,11 @@ each-source P tables header rows (Numbers n) h csv num = (num n refl, tt)
 
 -- ---- the plan of a query
 
-plain-of-query : (q : Checked) (types : List ColumnType) (n : ℕ) → IsPlain q.shape
-    → IsTypedShape types q.shape
-    → (items : List Expr) × (q.shape ≡ Plain items) × All (IsItem types) items
-plain-of-query q types n h t = go q.shape h t
-  where
-    go : (s : Shape) → IsPlain s → IsTypedShape types s
-        → (items : List Expr) × (s ≡ Plain items) × All (IsItem types) items
-    go (Plain items) h t = (items, refl, t)
-    go (Grouped g) h t = absurd h
-
 plan-of : (q : Checked) (tables : List TableDecl) (lanes rows : ℕ) (header : Bool) (files : Files)
-    → IsPlannable q tables
+    → IsPlannable q tables → HasCalls q.shape
     → IsPlanOf q (database header files tables) (parts_of files)
     (select_plan q tables lanes rows header)
-plan-of q tables lanes rows header files p =
+plan-of q tables lanes rows header files p calls =
     let db : Database = database header files tables in
     let table : source_table q db ≡ used_table db q.from =
     ap (λ j. joined_table j db (used_table db q.from)) p.one_table in
@@ -125,7 +116,7 @@ plan-of q tables lanes rows header files p =
     ∙ ap (λ (z : Table). z.types) (sym table) in
     record {
       chunk_rows = rows;
-      calls = calls q.shape p.plain;
+      calls = calls;
       shape = ap (λ t. shape_of q.shape t rows) types;
       filter = refl;
       order = kept q.order;
@@ -140,10 +131,6 @@ plan-of q tables lanes rows header files p =
     kept [] = refl
     kept (key ∷ keys) = refl
 
-    calls : (s : Shape) → IsPlain s → HasCalls s
-    calls (Plain items) h = tt
-    calls (Grouped g) h = absurd h
-
 -- The plan of a typed query reads from sources, and its nodes' types fit.
 pub record IsQueryPlan (p : SelectPlan) : Type 0 where
   pub is : IsPlan p
@@ -156,17 +143,13 @@ pub query-plan : (q : Checked) (tables : List TableDecl) (lanes rows : ℕ) (hea
 query-plan q tables lanes rows header p typed some =
     let plan : SelectPlan = select_plan q tables lanes rows header in
     let u : List ColumnType = used_types tables q.from in
-    let items = plain-of-query q u 0 p.plain typed.typed.items in
     let is : IsPlan plan = record {
       some_lanes = some;
       sources = each-source IsSource tables header rows q.from p.no_list (λ part t. tt) (λ n t. tt);
       join = subst (λ j. JoinsSources (join_of tables header rows q.from j)) (sym p.one_table) tt;
     } in
-    let simple : IsSimple plan = record {
-      one_table = ap (join_of tables header rows q.from) p.one_table;
-      items = items.0;
-      shape = ap (λ s. shape_of s (source_types tables q.from q.join) rows) items.1;
-    } in
+    let simple : IsSimple plan =
+    record { one_table = ap (join_of tables header rows q.from) p.one_table } in
     let one : AllByRecursion (λ s. OneType s [] u) plan.sources =
     each-source (λ s. OneType s [] u) tables header rows q.from p.no_list
     (λ part t. record { fit = tt; makes = λ v us x m. m ∙ t })
@@ -174,10 +157,10 @@ query-plan q tables lanes rows header p typed some =
     record {
       is = is;
       simple = simple;
-      typed = simple-typed plan items.0 u simple.one_table simple.shape one
-          (filter-typed q.filter typed.typed.filter) items.2
-          (order-fits (map (λ e. type_of e u) items.0) q.order (typed.items items.0 items.1)
-          typed.keys);
+      typed = simple-typed plan q.shape u rows simple.one_table
+          (ap (λ j. shape_of q.shape (source_types tables q.from j) rows) p.one_table) one
+          typed.typed.filter typed.typed.items
+          (order-fits (shape_types q.shape u) q.order typed.made typed.keys);
     }
   where
     order-fits : (v : List ColumnType) (keys : List SortKey) → q.types ≡ v
@@ -186,13 +169,9 @@ query-plan q tables lanes rows header p typed some =
     order-fits v [] e within = tt
     order-fits v (key ∷ keys) e within = record { types_are = sym e; keys_within = within }
 
-    filter-typed : (f : Option Cond) → IsTypedFilter (used_types tables q.from) f
-        → IsTypedBy (used_types tables q.from) f
-    filter-typed None h = tt
-    filter-typed (Some c) h = h
-
 -- What the collector pulled is an answer of the query, over the rows before the first bad record of
--- each part, with the plan's clause on bad parts. Without LIMIT the nodes pulled their kinds' flows.
+-- each part, with the plan's clause on bad parts. Without LIMIT the nodes pulled their kinds'
+-- flows.
 pub record QueryAnswered (q : Checked) (header : Bool) (files : Files) (tables : List TableDecl)
     (plan : SelectPlan) (nodes : List DraftNode) (boxes : List BoxPicture)
     (h : HasEnded files nodes boxes) (last : ℕ) : Type 0 where
@@ -220,9 +199,10 @@ pub planned-ended : (q : Checked) (tables : List TableDecl) (lanes rows : ℕ) (
 planned-ended q tables lanes rows header files nodes boxes h last p typed some small e count =
     let plan : SelectPlan = select_plan q tables lanes rows header in
     let db : Database = database header files tables in
-    let is : IsPlanOf q db (parts_of files) plan = plan-of q tables lanes rows header files p in
+    let is : IsPlanOf q db (parts_of files) plan =
+    plan-of q tables lanes rows header files p
+    (has-calls (used_types tables q.from) q.shape typed.typed.items) in
     let ready : IsQueryPlan plan = query-plan q tables lanes rows header p typed some in
-    let items = plain-of-query q (used_types tables q.from) 0 p.plain typed.typed.items in
     let f : NodePort → Stream = pulled_at boxes h.done.pulled in
     let r = plan-run files plan nodes boxes h last small e ready.typed (simple-ready plan nodes
     ready.is ready.simple e) count in
@@ -243,5 +223,5 @@ planned-ended q tables lanes rows header files nodes boxes h last p typed some s
       run = r;
       collected = collector-pulled plan (parts_of files) nodes f last flowed;
       pulled = λ unlimited k. flow-pulled plan (parts_of files) nodes f last flowed ready.simple
-          unlimited q db is.filter is.read p.one_table items.0 items.1 q.types rows refl k;
+          unlimited q db is p.one_table q.types rows refl k;
     }

@@ -1,8 +1,9 @@
--- Plans of one table without grouping have nodes of known kinds alone.
+-- Plans of one table have nodes of known kinds alone.
 use Rattle.std.proofs.Common.{List, None, Option, Some, [], ap, arith, length, refl, subst, suc, sym, zero, ℕ, ◌∷◌, ◌≡◌}
-use Rattle.plan_ends.proofs.Prelude.{AllByRecursion, ArePortsOf, Cond, DraftNode, GrowthForm, IsPlan, IsSource, NodeForm, PartSpec, SameSpec, SelectPlan, SortSpec, Span, Spec, body_nodes, by-forms, collect_node, every-append, every-weaker, filter_nodes, forms, gather_nodes, joint_node, lane_nodes, limit_nodes, node_form, plan_nodes, read_nodes, same-spec, shape_nodes, source_nodes, ⊤}
+use Rattle.plan_ends.proofs.Prelude.{AllByRecursion, ArePortsOf, Cond, DraftNode, GrowthForm, IsPlan, IsSource, NodeForm, PartSpec, PlanShape, SameSpec, SelectPlan, SortSpec, Span, Spec, body_nodes, by-forms, collect_node, every-append, every-weaker, filter_nodes, forms, gather_nodes, grouped, joint_node, lane_nodes, limit_nodes, node_form, plain, plan_nodes, read_nodes, same-spec, shape_nodes, sort_nodes, source_nodes, ⊤}
 use Rattle.query_model.specs.declared.processor_spec.Spec.TheVariants as spec
 use Rattle.plan_ends.specs.Ended.{IsReady, IsSimple, IsStep, KindGives, KnownPorts, PartHas}
+use Rattle.plan_ends.proofs.GroupLaws.{merged-gives, partial-gives}
 use Rattle.plan_ends.proofs.KindLaws.{collect-gives, expression-gives, filter-gives, limit-gives, numbers-gives, part-gives}
 use Rattle.plan_ends.proofs.ResizeLaws.{resize-gives}
 use Rattle.plan_ends.proofs.SortLaws.{merge-gives, sort-gives}
@@ -12,8 +13,6 @@ use Rattle.plan_ends.proofs.SortLaws.{merge-gives, sort-gives}
 known-ports : (s : Spec) (takes gives : ℕ) → KnownPorts s takes gives → (g : Option GrowthForm)
     → ArePortsOf (Some s) g takes gives
 known-ports (spec.List list) takes gives h g = absurd h
-known-ports (spec.PartialAggregate p) takes gives h g = absurd h
-known-ports (spec.MergeAggregate p) takes gives h g = absurd h
 known-ports (spec.HashJoin join) takes gives h g = absurd h
 known-ports s takes gives h g = h
 
@@ -25,6 +24,8 @@ known-gives (spec.Filter c) takes gives h = filter-gives c
 known-gives (spec.Expression items) takes gives h = expression-gives items
 known-gives spec.Resize takes gives h = resize-gives
 known-gives (spec.Limit span) takes gives h = limit-gives span
+known-gives (spec.PartialAggregate groups) takes gives h = partial-gives groups
+known-gives (spec.MergeAggregate groups) takes gives h = merged-gives groups
 known-gives (spec.Sort order) takes gives h = sort-gives order
 known-gives (spec.MergeSorted order) takes gives h = merge-gives order
 known-gives spec.Collect takes gives h = collect-gives
@@ -92,6 +93,26 @@ module _ (P : PartSpec → Type 0) where
       (joint_node (spec.MergeSorted order) 12 lanes 1 ∷ [])
       (lanes-known (spec.Sort order) 11 0 lanes ((refl, refl), tt)) ((refl, tt), tt)
 
+  sort-known : (o : Option SortSpec) → AllByRecursion (IsStep P) (sort_nodes o)
+  sort-known None = tt
+  sort-known (Some order) = (((refl, refl), tt), tt)
+
+  shape-known : (s : PlanShape) (o : Option SortSpec) (lanes : ℕ)
+      → AllByRecursion (IsStep P) (shape_nodes s o lanes)
+  shape-known (plain items) o lanes =
+      every-append (IsStep P) _ _
+      (lanes-known (spec.Expression items) 6 0 lanes ((refl, refl), tt)) (gather-known o lanes)
+  shape-known (grouped arguments g having picks) o lanes =
+      every-append (IsStep P) _ _
+      (lanes-known (spec.Expression arguments) 6 0 lanes ((refl, refl), tt))
+      (every-append (IsStep P) _ _
+      (lanes-known (spec.PartialAggregate g) 7 0 lanes ((refl, refl), tt)) (
+        (refl, tt),
+        every-append (IsStep P) _ _ (filter-known having 9 1)
+            (every-append (IsStep P) (lane_nodes (spec.Expression picks) 10 0 1) _
+            (lanes-known (spec.Expression picks) 10 0 1 ((refl, refl), tt)) (sort-known o)),
+      ))
+
   limit-known : (l : Option Span) → AllByRecursion (IsStep P) (limit_nodes l)
   limit-known None = tt
   limit-known (Some span) = (((refl, refl), tt), tt)
@@ -104,14 +125,11 @@ module _ (P : PartSpec → Type 0) where
       rw simple.one_table (every-append K (source_nodes 0 p.sources) (joint_node spec.Resize 2
       (length p.sources) p.lanes ∷ []) (sources-known 0 p.sources is.sources parts)
       ((is.some_lanes, tt), tt)) in
-      let shape : AllByRecursion K (shape_nodes p.shape p.order p.lanes) =
-      rw simple.shape (every-append K (lane_nodes (spec.Expression simple.items) 6 0 p.lanes)
-      (gather_nodes p.order p.lanes) (lanes-known (spec.Expression simple.items) 6 0 p.lanes
-      ((refl, refl), tt)) (gather-known p.order p.lanes)) in
       every-append K (body_nodes p) (collect_node ∷ [])
       (every-append K (read_nodes p.sources p.join p.lanes) _ read
       (every-append K (filter_nodes p.filter 5 p.lanes) _ (filter-known p.filter 5 p.lanes)
-      (every-append K (shape_nodes p.shape p.order p.lanes) (limit_nodes p.limit) shape
+      (every-append K (shape_nodes p.shape p.order p.lanes) (limit_nodes p.limit)
+      (shape-known p.shape p.order p.lanes)
       (limit-known p.limit)))) (((refl, refl), tt), tt)
 
   -- Each node of such a plan's graph is of a known kind, and what is true of the sources' parts is

@@ -6,7 +6,7 @@ use Rattle.plan_ends.specs.Ended.{IsKept, KindGives, chunk_types, in_stream, out
 use Rattle.plan_ends.proofs.KindLaws.{one-output, all-worked-at, at-ports, front-of, kept-rows, one-fits, stays-open, types-fit}
 use Rattle.plan_ends.proofs.ResizeLaws.{all-done, all-ports, at_ports, each-port, none-past, split-rows}
 
-front-none : (xs ys : List Row) → xs ++ ys ≡ [] → xs ≡ []
+front-none : {X : Type 0} (xs ys : List X) → xs ++ ys ≡ [] → xs ≡ []
 front-none [] ys e = refl
 front-none (x ∷ xs) ys e = absurd (cc)
 
@@ -21,57 +21,85 @@ read-up : {s : Spec} {files : _} {takes gives : ℕ} {p : BoxPicture} {ins outs 
 read-up {takes = takes} {p = p} k i lt n =
     k.keeps.noted i (may-be-input p takes i (inr k.inputs) lt) (rw k.loaded n)
 
--- ---- sorts
+-- where the ends of all inputs are noted, each is done and worked
+pub all-worked : {s : Spec} {files : _} {takes gives : ℕ} {p : BoxPicture} {ins outs : Lists}
+    → IsKept s files takes gives p ins outs → (m : KeepsMade s p ins outs)
+    → ((i : ℕ) → NotesEnd (Some s) (own_of p.work) i) → (i : ℕ)
+    → ((in_stream p ins i).done ≡ true) × (m.worked i ≡ ins i)
+all-worked {takes = takes} {p = p} k m noted i = elim (cases_lt i takes) [
+  | inl lt ↦
+      let r = read-up k i lt (noted i) in (
+        ap not r.not_closed,
+        sym (append-nil (m.worked i)) ∙ ap (λ l. m.worked i ++ l) (sym r.all_worked)
+            ∙ sym (m.ins_are i),
+      )
+  | inr le ↦
+      let none = k.nothing_past i le in (
+        ap not (past-open p i (let c = k.inputs in omega (arith, c, le))),
+        front-none (m.worked i) (unworked_at p.work i) (sym (m.ins_are i) ∙ none) ∙ sym none,
+      )
+]
 
-sort-held : (order : SortSpec) (files : _) (p : BoxPicture) (ins outs : Lists)
-    → IsKept (spec.Sort order) files 1 1 p ins outs → KeepsMade (spec.Sort order) p ins outs
-    → (b : Bool) → p.work.ended ≡ b
-    → GivesHeld (IsSortOf order.keys (chunk_rows (ins 0))) (in_stream p ins 0).done
-    (out_stream p outs 0)
-sort-held order files p ins outs k m true e =
-    let r = read-up k 0 (omega arith) e in
-    let all : chunk_rows (m.worked 0) ≡ chunk_rows (ins 0) =
-    ap chunk_rows (sym (append-nil (m.worked 0)) ∙ ap (λ l. m.worked 0 ++ l) (sym r.all_worked)
-    ∙ sym (m.ins_are 0)) in
-    let left : List Row = chunk_rows p.work.made ++ p.work.unmade in
-    record {
-      held = λ some. ap not r.not_closed;
-      done_held = λ done. ap not r.not_closed;
-      whole = λ open'. record {
-        rows = chunk_rows (outs 0) ++ left;
-        makes = rw all at (rw (append_assoc (chunk_rows (outs 0)) (chunk_rows p.work.made)
-            p.work.unmade) at (m.rows.sorted e));
-        front = front-of (chunk_rows (outs 0) ++ left) p.work.unmade p outs refl
-            (λ f. let end = m.over 0 f in (end.nothing_waits, end.all_made));
-      };
-    }
-sort-held order files p ins outs k m false e =
-    let g = m.rows.gathered e in
-    let none = front-none (chunk_rows (outs 0)) (chunk_rows p.work.made) g.nothing_made in
-    let unfinished : (kept_output p 0).fin_out ≡ true → ⊥ =
-    (λ f. let end = m.over 0 f in let c : false ≡ true = sym e ∙ end.noted in cc) in
-    let x = sort-exists order.keys (chunk_rows (ins 0)) in
-    record {
-      held = λ some. absurd (let l = ap length none in omega (arith, l, some));
-      done_held = λ done. absurd (unfinished (and_parts _ _ done).0);
-      whole = λ open'. record {
-        rows = x.0;
-        makes = x.1;
-        front = record {
-          rest = x.0;
-          is = ap (λ l. l ++ x.0) none;
-          all = λ done. absurd (unfinished (and_parts _ _ done).0);
-        };
-      };
-    }
+-- ---- kinds that hold all rows until they note the end
+
+-- What is gathered until the end is noted, and then made, is given once the inputs are done.
+pub gives-held : (M : List Row → Type 0) (p : BoxPicture) (outs : Lists) (done : Bool)
+    → (rows : List Row) × M rows
+    → (p.work.ended ≡ false → chunk_rows (outs 0) ++ chunk_rows p.work.made ≡ [])
+    → (p.work.ended ≡ true → (done ≡ true)
+    × M ((chunk_rows (outs 0) ++ chunk_rows p.work.made) ++ p.work.unmade))
+    → ((kept_output p 0).fin_out ≡ true → (p.work.made ≡ []) × (p.work.unmade ≡ [])
+    × (p.work.ended ≡ true))
+    → GivesHeld M done (out_stream p outs 0)
+gives-held M p outs done some gathered made over = go p.work.ended refl
+  where
+    go : (b : Bool) → p.work.ended ≡ b → GivesHeld M done (out_stream p outs 0)
+    go true e =
+        let left : List Row = chunk_rows p.work.made ++ p.work.unmade in
+        record {
+          held = λ some. (made e).0;
+          done_held = λ fin. (made e).0;
+          whole = λ open'. record {
+            rows = chunk_rows (outs 0) ++ left;
+            makes = rw (append_assoc (chunk_rows (outs 0)) (chunk_rows p.work.made)
+                p.work.unmade) at (made e).1;
+            front = front-of (chunk_rows (outs 0) ++ left) p.work.unmade p outs refl
+                (λ f. let end = over f in (end.0, end.1));
+          };
+        }
+    go false e =
+        let none = front-none (chunk_rows (outs 0)) (chunk_rows p.work.made) (gathered e) in
+        let unfinished : (kept_output p 0).fin_out ≡ true → ⊥ =
+        (λ f. let end = over f in let c : false ≡ true = sym e ∙ end.2 in cc) in
+        record {
+          held = λ some. absurd (let l = ap length none in omega (arith, l, some));
+          done_held = λ fin. absurd (unfinished (and_parts _ _ fin).0);
+          whole = λ open'. record {
+            rows = some.0;
+            makes = some.1;
+            front = record {
+              rest = some.0;
+              is = ap (λ l. l ++ some.0) none;
+              all = λ fin. absurd (unfinished (and_parts _ _ fin).0);
+            };
+          };
+        }
 
 -- A sort gives the rows of its input in an order that its keys allow.
 pub sort-gives : (order : SortSpec) → KindGives (spec.Sort order)
 sort-gives order files takes gives n p ins outs k =
     at-ports n 1 1 k.ports.0 k.ports.1
-    (λ h. one-output n h (λ fit. sort-held order files p ins outs h
-    (kept-rows h (one-fits (spec.Sort order) (FitsOrder order) ins (λ i t x. x) h.nothing_past
-    fit.0)) p.work.ended refl) (λ t e. e)) k
+    (λ h. one-output n h (λ fit.
+    let m : KeepsMade (spec.Sort order) p ins outs =
+    kept-rows h (one-fits (spec.Sort order) (FitsOrder order) ins (λ i t x. x) h.nothing_past
+    fit.0) in
+    gives-held (IsSortOf order.keys (chunk_rows (ins 0))) p outs (in_stream p ins 0).done
+    (sort-exists order.keys (chunk_rows (ins 0))) (λ e. (m.rows.gathered e).nothing_made)
+    (λ e. let all = all-worked h m (λ i. e) 0 in (
+      all.0,
+      rw (ap chunk_rows all.1) at (m.rows.sorted e),
+    ))
+    (λ f. let end = m.over 0 f in (end.nothing_waits, end.all_made, end.noted))) (λ t e. e)) k
 
 -- ---- merges
 
@@ -85,7 +113,7 @@ rows-at P f n i (suc k) h j le lt = elim (cases_eq j i) [
 ]
 
 -- each chunk that was pulled fits, where those at each port do
-all-fit-at : (s : Spec) (p : BoxPicture) (ins : Lists) (n takes : ℕ)
+pub all-fit-at : (s : Spec) (p : BoxPicture) (ins : Lists) (n takes : ℕ)
     → ((i : ℕ) → takes ≤ i → ins i ≡ []) → FitFrom s 0 (at_ports (in_stream p ins) n 0 takes)
     → AllFit (Some s) ins
 all-fit-at s p ins n takes past fit i = elim (cases_lt i takes) [

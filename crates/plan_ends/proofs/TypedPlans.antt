@@ -1,8 +1,9 @@
--- The types that stand at the open ends of a plan of one table without groups. Each block stands
--- before nodes that fit the types that it leaves.
-use Rattle.std.proofs.Common.{List, None, Option, Some, [], ap, append_assoc, arith, length, length-append, map, refl, replicate, subst, suc, sym, zero, ℕ, ◌++◌, ◌∙◌, ◌∷◌, ◌≡◌}
-use Rattle.plan_ends.proofs.Prelude.{All, AllByRecursion, AllTyped, Cond, DraftNode, Expr, FitsInput, FitsOrder, IsAmong, IsItem, IsTypedBy, OneType, SelectPlan, SortSpec, Span, Spec, Types, TypesFit, append-nil, collect_node, filter_nodes, gather_nodes, joint_node, lane_nodes, length-replicate, limit_nodes, passes-type, plain, plan_nodes, replaced-at, run-at, source_nodes, taken_by, type_of, ⊤}
+-- The types that stand at the open ends of a plan of one table. Each block stands before nodes that
+-- fit the types that it leaves.
+use Rattle.std.proofs.Common.{List, None, Option, Some, [], ap, append_assoc, ap₂, arith, length, length-append, map, refl, replicate, subst, suc, sym, zero, ℕ, ◌++◌, ◌∙◌, ◌∷◌, ◌≡◌}
+use Rattle.plan_ends.proofs.Prelude.{All, All-append, AllByRecursion, AllTyped, Cond, DraftNode, Expr, FitsInput, FitsOrder, GroupSpec, Grouped, IsAmong, IsItem, IsTypedFilter, IsTypedShape, OneType, Plain, SelectPlan, Shape, SortSpec, Span, Spec, StateCall, Types, TypesFit, append-nil, call_arguments, collect_node, columns_of, filter_nodes, gather_nodes, group_row_types, group_spec, group_types, joint_node, lane_nodes, length-replicate, limit_nodes, map-append, map-map, partial_types, passes-type, plan_nodes, replaced-at, run-at, shape_nodes, shape_of, sort_nodes, source_nodes, state_of, taken_by, type_of, ⊤}
 use Rattle.query_model.specs.declared.processor_spec.Spec.TheVariants as spec
+use Rattle.plan_ends.proofs.ShapeTypes.{calls-fit, columns-are, columns-fit, shape_types, type_at}
 
 -- ---- blocks
 
@@ -65,12 +66,12 @@ each-fits s i (suc m) u h = (h i, each-fits s (suc i) m u h)
 resize-type : (m : ℕ) (u : Types) → OneType spec.Resize (replicate m u) u
 resize-type m u = passes-type spec.Resize m u (each-fits spec.Resize 0 m u (λ i. tt)) (λ us t m. m)
 
-items-type : (items : List Expr) (u : Types) → All (IsItem u) items
-    → OneType (spec.Expression items) (u ∷ []) (map (λ e. type_of e u) items)
-items-type items u h = record {
+items-type : (items : List Expr) (u v : Types) → All (IsItem u) items
+    → v ≡ map (λ e. type_of e u) items → OneType (spec.Expression items) (u ∷ []) v
+items-type items u v h made = record {
   fit = (h, tt);
   makes = λ t us all w. w.4 ∙ ap (λ z. map (λ e. type_of e z) items)
-      ((resize-type 1 u).makes w.1 us all (w.0, w.1, w.2, w.3, refl));
+      ((resize-type 1 u).makes w.1 us all (w.0, w.1, w.2, w.3, refl)) ∙ sym made;
 }
 
 -- rows of these types can be put in the order
@@ -84,10 +85,7 @@ gather-typed : (more : List DraftNode) (order : Option SortSpec) (k : ℕ) (v : 
 gather-typed more None k v h rest =
     joint-typed more spec.Resize 12 k 1 v v (resize-type k v) rest
 gather-typed more (Some order) k v h rest =
-    let merge : DraftNode = joint_node (spec.MergeSorted order) 12 k 1 in
-    subst (λ nodes. AllTyped nodes (replicate k v))
-    (sym (append_assoc (lane_nodes (spec.Sort order) 11 0 k) (merge ∷ []) more))
-    (lanes-typed (merge ∷ more) (spec.Sort order) 11 0 k [] v v refl
+    simp append_assoc (lanes-typed _ (spec.Sort order) 11 0 k [] v v refl
     (record { fit = (h, tt); makes = λ t us all m. m ∙ sym h.types_are })
     (joint-typed more (spec.MergeSorted order) 12 k 1 v v
     (record {
@@ -95,14 +93,56 @@ gather-typed more (Some order) k v h rest =
       makes = λ t us all m. m ∙ sym h.types_are;
     }) rest))
 
--- ---- the plan
+-- ---- what the rows are filtered by, made into, and cut to
 
-filter-typed : (more : List DraftNode) (u : Types) (f : Option Cond) (q k : ℕ) → IsTypedBy u f
-    → AllTyped more (replicate k u) → AllTyped (filter_nodes f q k ++ more) (replicate k u)
+filter-typed : (more : List DraftNode) (u : Types) (f : Option Cond) (q k : ℕ)
+    → IsTypedFilter u f → AllTyped more (replicate k u)
+    → AllTyped (filter_nodes f q k ++ more) (replicate k u)
 filter-typed more u None q k h rest = rest
 filter-typed more u (Some c) q k h rest =
     lanes-typed more (spec.Filter c) q 0 k [] u u refl
     (passes-type (spec.Filter c) 1 u (h, tt) (λ us t m. m)) rest
+
+sort-typed : (more : List DraftNode) (order : Option SortSpec) (v : Types) → FitsOrdering v order
+    → AllTyped more (v ∷ []) → AllTyped (sort_nodes order ++ more) (v ∷ [])
+sort-typed more None v h rest = rest
+sort-typed more (Some order) v h rest =
+    joint-typed more (spec.Sort order) 11 1 1 v v
+    (record { fit = (h, tt); makes = λ t us all m. m ∙ sym h.types_are }) rest
+
+shape-typed : (more : List DraftNode) (s : Shape) (u : Types) (rows : ℕ)
+    (order : Option SortSpec) (k : ℕ) → IsTypedShape u s → FitsOrdering (shape_types s u) order
+    → AllTyped more (shape_types s u ∷ [])
+    → AllTyped (shape_nodes (shape_of s u rows) order k ++ more) (replicate k u)
+shape-typed more (Plain items) u rows order k t o rest =
+    let v : Types = map (λ e. type_of e u) items in
+    simp append_assoc (lanes-typed _ (spec.Expression items) 6 0 k [] u v refl
+    (items-type items u v t refl) (gather-typed more order k v o rest))
+shape-typed more (Grouped g) u rows order k t o rest =
+    let groups : GroupSpec = group_spec g u rows in
+    let v : Types = map (type_at (group_row_types g u)) g.picks in
+    let w : Types = group_row_types g u in
+    let same : w ≡ group_types groups =
+    ap (λ l. groups.keys ++ l) (sym (map-map (λ (c : StateCall). c.kind) (state_of u) g.calls)) in
+    let calls = calls-fit u g.calls t.calls in
+    let arguments : List Expr = columns_of g.keys ++ call_arguments g.calls in
+    simp append_assoc (lanes-typed _ (spec.Expression arguments) 6 0 k [] u (partial_types groups)
+    refl (items-type arguments u (partial_types groups)
+    (All-append (IsItem u) (columns_of g.keys) (call_arguments g.calls)
+    (columns-fit u g.keys t.keys) calls.1)
+    (ap₂ (λ a b. a ++ b) (columns-are u g.keys) calls.2
+    ∙ sym (map-append (λ e. type_of e u) (columns_of g.keys) (call_arguments g.calls))))
+    (lanes-typed _ (spec.PartialAggregate groups) 7 0 k [] (partial_types groups) w refl
+    (record { fit = (refl, tt); makes = λ t us all e. e ∙ sym same })
+    (joint-typed _ (spec.MergeAggregate groups) 8 k 1 w w
+    (record {
+      fit = each-fits (spec.MergeAggregate groups) 0 k w (λ i. same);
+      makes = λ t us all e. e ∙ sym same;
+    })
+    (filter-typed _ w g.having 9 1 t.having
+    (lanes-typed _ (spec.Expression (columns_of g.picks)) 10 0 1 [] w v refl
+    (items-type (columns_of g.picks) w v (columns-fit w g.picks t.picks) (columns-are w g.picks))
+    (sort-typed more order v o rest))))))
 
 limit-typed : (more : List DraftNode) (v : Types) (l : Option Span) → AllTyped more (v ∷ [])
     → AllTyped (limit_nodes l ++ more) (v ∷ [])
@@ -111,32 +151,20 @@ limit-typed more v (Some span) rest =
     joint-typed more (spec.Limit span) 13 1 1 v v
     (passes-type (spec.Limit span) 1 v (tt, tt) (λ us t m. m)) rest
 
-regrouped : (s r f e g l c : List DraftNode)
-    → s ++ (r ++ (f ++ (e ++ (g ++ (l ++ c))))) ≡ ((s ++ r) ++ (f ++ ((e ++ g) ++ l))) ++ c
-regrouped s r f e g l c = simp append_assoc
+-- ---- the plan
 
--- The types of a plan whose sources all have the types u, whose condition and items are typed by u,
--- and whose order is one of the rows that the items make.
-pub simple-typed : (p : SelectPlan) (items : List Expr) (u : Types) → p.join ≡ None
-    → p.shape ≡ plain items → AllByRecursion (λ s. OneType s [] u) p.sources
-    → IsTypedBy u p.filter → All (IsItem u) items
-    → FitsOrdering (map (λ e. type_of e u) items) p.order → AllTyped (plan_nodes p) []
-simple-typed p items u join shape sources filter typed order =
-    let v : Types = map (λ e. type_of e u) items in
+-- The types of a plan whose sources all have the types u, whose condition and shape are typed by u,
+-- and whose order is one of the rows that the shape makes.
+pub simple-typed : (p : SelectPlan) (s : Shape) (u : Types) (rows : ℕ) → p.join ≡ None
+    → p.shape ≡ shape_of s u rows → AllByRecursion (λ s. OneType s [] u) p.sources
+    → IsTypedFilter u p.filter → IsTypedShape u s → FitsOrdering (shape_types s u) p.order
+    → AllTyped (plan_nodes p) []
+simple-typed p s u rows join shape sources filter typed order =
+    let v : Types = shape_types s u in
     let n : ℕ = length p.sources in
-    let k : ℕ = p.lanes in
-    let end : List DraftNode = collect_node ∷ [] in
-    let l : List DraftNode = limit_nodes p.limit in
-    let g : List DraftNode = gather_nodes p.order k in
-    let e : List DraftNode = lane_nodes (spec.Expression items) 6 0 k in
-    let f : List DraftNode = filter_nodes p.filter 5 k in
-    let r : List DraftNode = joint_node spec.Resize 2 n k ∷ [] in
-    let collected = joint-typed [] spec.Collect 14 1 0 v v (passes-type spec.Collect 1 v (tt, tt)
-    (λ us t m. m)) tt in
-    let shaped = lanes-typed (g ++ (l ++ end)) (spec.Expression items) 6 0 k [] u v refl
-    (items-type items u typed) (gather-typed (l ++ end) p.order k v order (limit-typed end v p.limit
-    collected)) in
-    let all = sources-typed (r ++ (f ++ (e ++ (g ++ (l ++ end))))) p.sources 0 [] u refl sources
-    (joint-typed (f ++ (e ++ (g ++ (l ++ end)))) spec.Resize 2 n k u u (resize-type n u)
-    (filter-typed (e ++ (g ++ (l ++ end))) u p.filter 5 k filter shaped)) in
-    rw join (rw shape (rw (regrouped (source_nodes 0 p.sources) r f e g l end) at all))
+    rw join (rw shape (simp append_assoc (sources-typed _ p.sources 0 [] u refl sources
+    (joint-typed _ spec.Resize 2 n p.lanes u u (resize-type n u)
+    (filter-typed _ u p.filter 5 p.lanes filter
+    (shape-typed _ s u rows p.order p.lanes typed order
+    (limit-typed _ v p.limit (joint-typed [] spec.Collect 14 1 0 v v
+    (passes-type spec.Collect 1 v (tt, tt) (λ us t m. m)) tt))))))))

@@ -2,7 +2,7 @@
 use Rattle.std.specs.Prelude.{◌≡◌, ◌⊎◌, ℕ, ◌<◌, ◌≤◌, ◌+◌, not, ◌&&◌, cond, true, false, List, [], ◌∷◌, length, is_none, ⊤, Option, Some, None, map}
 use Rattle.chunk_data.specs.Values.{Table}
 use Rattle.chunk_data.specs.declared.typed_value.ColumnType.{ColumnType}
-use Rattle.query_model.specs.Names.{part_records, good_rows, bad_place, Files, UsedPart, file_bytes, Expr}
+use Rattle.query_model.specs.Names.{part_records, good_rows, bad_place, Files, UsedPart, file_bytes}
 use Rattle.query_model.specs.declared.processor_spec.PartSpec.{PartSpec}
 use Rattle.query_model.specs.declared.processor_spec.Spec.{Spec}
 use Rattle.query_model.specs.declared.processor_spec.Kind.{Kind}
@@ -12,7 +12,7 @@ use Rattle.exec_laws.specs.Names.{box_at, IsDone}
 use Rattle.plan_graph.specs.Drafts.{no_draft, with_nodes, ports_of}
 use Rattle.plan_graph.specs.declared.nodes.DraftNode.{DraftNode}
 use Rattle.plan_graph.specs.declared.nodes.NodePort.{NodePort}
-use Rattle.plan_meaning.specs.Names.{Part, Parts, Stream, SelectPlan, plain, GivesIf}
+use Rattle.plan_meaning.specs.Names.{Part, Parts, Stream, SelectPlan, GivesIf}
 
 abbrev pub part_in : PartSpec → Option (List ℕ) → Part
 part_in part None = record { rows = []; valid = false }
@@ -111,6 +111,8 @@ KnownPorts (spec.Filter c) takes gives = AreCounts takes gives 1 1
 KnownPorts (spec.Expression items) takes gives = AreCounts takes gives 1 1
 KnownPorts spec.Resize takes gives = 0 < gives
 KnownPorts (spec.Limit span) takes gives = AreCounts takes gives 1 1
+KnownPorts (spec.PartialAggregate groups) takes gives = AreCounts takes gives 1 1
+KnownPorts (spec.MergeAggregate groups) takes gives = gives ≡ 1
 KnownPorts (spec.Sort order) takes gives = AreCounts takes gives 1 1
 KnownPorts (spec.MergeSorted order) takes gives = gives ≡ 1
 KnownPorts spec.Collect takes gives = AreCounts takes gives 1 0
@@ -130,11 +132,9 @@ PartHas P _ = ⊤
 abbrev pub IsStep : (PartSpec → Type 0) → DraftNode → Type 0
 IsStep P n = KnownPorts n.spec n.takes n.gives × PartHas P n.spec
 
--- a plan of one table, without grouping
+-- a plan of one table
 pub record IsSimple (p : SelectPlan) : Type 0 where
   pub one_table : p.join ≡ None
-  pub items : List Expr
-  pub shape : p.shape ≡ plain items
 
 -- An ended run by lawful boxes that were loaded with the specs of these nodes. The sources tell
 -- these files.

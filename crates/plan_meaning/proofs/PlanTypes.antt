@@ -1,6 +1,6 @@
 -- The types that a kind makes of chunks of one type.
-use Rattle.std.proofs.Common.{List, None, Option, Some, get_or, refl, replicate, sym, ℕ, ◌∙◌, ◌≡◌}
-use Rattle.plan_meaning.proofs.Prelude.{All-from_recursion, All-replicate, AllByRecursion, Cond, IsTypedCond, Spec}
+use Rattle.std.proofs.Common.{List, get_or, refl, replicate, sym, ℕ, ◌∙◌, ◌≡◌}
+use Rattle.plan_meaning.proofs.Prelude.{All-from_recursion, All-replicate, AllByRecursion, Spec}
 use Rattle.plan_meaning.specs.Names.{Types, TypesFit, MakesType, IsAmong}
 
 -- what a kind makes of chunks of these types is of that type
@@ -26,9 +26,3 @@ pub passes-type : (s : Spec) (m : ℕ) (u : Types) → TypesFit s 0 (replicate m
     → OneType s (replicate m u) u
 passes-type s m u fit makes =
     record { fit = fit; makes = λ t us h w. among-one m u t us h (makes us t w) }
-
--- ---- the plan
-
-abbrev pub IsTypedBy : Types → Option Cond → Type 0
-IsTypedBy u None = Unit {0}
-IsTypedBy u (Some c) = IsTypedCond u c

@@ -7,7 +7,7 @@ pub use Rattle.plan_graph.proofs.GraphLaws.{lists-are-graphs, ranks-count, with-
 pub use Rattle.plan_graph.proofs.Places.{given-map, replaced-at, run-at, run-length, run-split, taken-map}
 pub use Rattle.plan_graph.specs.Drafts.{AllFitDraft, AllFitEnds, Draft, FitsDraft, IsGraphOf, ranks_after, ranks_with, run_of, wires_to, with_node}
 pub use Rattle.plan_graph.specs.Names.{replaced}
-pub use Rattle.plan_meaning.specs.Prelude.{AggCall, AggOp, AllByRecursion, AllZip, Checked, ColumnType, Cond, Database, DraftNode, Expr, ExprOf, FitsInput, GroupSpec, Grouped, IsOrderedAnswer, IsSortOf, KeyPair, Kind, NodePort, Plain, Row, Shape, SortKey, SortSpec, Span, Spec, SpecForm, StateCall, Wire, combine_of, consumer_of, default_value, enough, given_by, groups, groups_or_default, holds, item_row, joined_rows, joint_node, kind_of, lane_nodes, limited, list_all, merged_groups, no_draft, numbers, ports_of, producer_of, rows_where, same_kind, source_nodes, source_table, spec_form, taken_by, with_nodes}
+pub use Rattle.plan_meaning.specs.Prelude.{AggCall, AggOp, AllByRecursion, AllZip, Checked, ColumnType, Cond, Database, DraftNode, Expr, ExprOf, FitsInput, GroupSpec, Grouped, Grouping, IsOrderedAnswer, IsSortOf, KeyPair, Kind, NodePort, Plain, Row, Shape, SortKey, SortSpec, Span, Spec, SpecForm, StateCall, Wire, consumer_of, default_value, enough, given_by, groups, groups_or_default, holds, item_row, joined_rows, joint_node, kind_of, lane_nodes, limited, list_all, no_draft, numbers, ports_of, producer_of, rows_where, same_kind, source_nodes, source_table, spec_form, taken_by, with_nodes}
 pub use Rattle.proc_api.proofs.Orders.{InOrder, every-append, every-contains, every-front, every-none, every-permuted, every-weaker, order-cross, order-from_sorted, order-front, order-joined, ordered, ordered-none, ordered-order, ordered-same, rows-ordered, sorted-from_order}
 pub use Rattle.proc_api.specs.Forms.{cond_form, operand_form}
 pub use Rattle.proc_api.specs.Graphs.{rank_at}
@@ -16,8 +16,9 @@ pub use Rattle.query_model.proofs.AnswerLaws.{joined_rows-append}
 pub use Rattle.query_model.proofs.Lists.{IsPermutation-filter, IsPermutation-same, filter-map, map-map}
 pub use Rattle.query_model.proofs.Merge.{merged_in_any_order}
 pub use Rattle.query_model.proofs.PartLaws.{IsPermutation-joined_rows}
+pub use Rattle.query_model.specs.Answers.{grouped_rows}
 pub use Rattle.query_model.specs.Formulas.{formula}
-pub use Rattle.query_model.specs.Names.{AreAlike, Call, IsAnswer, IsItem, IsTyped, IsTypedCond, IsTypedOperand, call_of, combined, distinct_rows, filtered_rows, grouped_by, is_text, operand_type, output_rows, plain_of, rows_with, selected_rows}
+pub use Rattle.query_model.specs.Names.{AreAlike, Call, IsAnswer, IsItem, IsTyped, IsTypedCond, IsTypedOperand, call_of, combine_of, combined, distinct_rows, filtered_rows, grouped_by, is_text, merged_groups, operand_type, output_rows, plain_of, rows_with, selected_rows}
 pub use Rattle.query_model.specs.declared.query.Operand.{Operand}
 pub use Rattle.std.proofs.lemmas.Bool.{and_from, and_parts, both_ways, cases_lt, eqb-true, le-leb, leb-true, or_cases, or_left, or_right}
 pub use Rattle.std.proofs.lemmas.List.{append-nil, append_assoc, append_cancel_left, drop-append-le, get_or_at, length-append, length-drop, length-map, length-replicate, map-append, take-append-le, take_at, take_more}

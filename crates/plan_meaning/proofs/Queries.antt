@@ -1,7 +1,7 @@
 -- What the plan of a checked query makes of rows is what the query selects.
 use Rattle.std.proofs.Common.{List, None, Option, Some, [], ap, ap₂, arith, false, filter, is_none, length, map, refl, slice_index_or, subst, suc, sym, take, true, zero, ℕ, ◌++◌, ◌+◌, ◌∙◌, ◌∷◌, ◌≡◌, ◌≤◌}
-use Rattle.plan_meaning.proofs.Prelude.{AggCall, AggOp, AllByRecursion, Call, Checked, ColumnType, Database, Expr, ExprOf, Grouped, IsAnswer, IsOrderedAnswer, Plain, Row, Shape, StateCall, Text, append_assoc, both_ways, call_of, combine_of, combined, count_up, default_value, distinct_rows, filter-map, filtered_rows, get_or_at, grouped_by, groups, groups_or_default, item_row, length-append, length-map, map-append, map-map, output_rows, rows_where, rows_with, same_row, selected_rows, source_table, take_at, take_more, value_at, value_of, values_at}
-use Rattle.plan_meaning.specs.Names.{HasCalls, IsCall, IsPlanOf, call_arguments, columns_of, shape_of, state_of, Parts, PlanAnswers, SelectPlan, plan_keys, plan_rows, shape_rows, calls_from, is_count}
+use Rattle.plan_meaning.proofs.Prelude.{AggCall, AggOp, AllByRecursion, Call, Checked, ColumnType, Database, Expr, ExprOf, Grouped, Grouping, IsAnswer, IsOrderedAnswer, Plain, Row, Shape, StateCall, Text, append_assoc, both_ways, call_of, combine_of, combined, count_up, default_value, distinct_rows, filter-map, filtered_rows, get_or_at, grouped_by, grouped_rows, groups, groups_or_default, item_row, length-append, length-map, map-append, map-map, output_rows, rows_where, rows_with, same_row, selected_rows, source_table, take_at, take_more, value_at, value_of, values_at}
+use Rattle.plan_meaning.specs.Names.{HasCalls, IsCall, IsPlanOf, call_arguments, columns_of, group_spec, grouped_of, shape_of, state_of, Parts, PlanAnswers, SelectPlan, plan_keys, plan_rows, shape_rows, calls_from, is_count}
 use Rattle.chunk_data.specs.declared.typed_value.ColumnType.TheVariants as column
 use Rattle.query_model.specs.declared.query.AggOp.TheVariants as agg
 use Rattle.query_model.specs.declared.query.ExprOf.TheVariants as expr
@@ -134,19 +134,26 @@ picks-kept : (picks : List ℕ) (rows : List Row) → map (item_row (columns_of 
     (values_at picks) rows
 picks-kept picks rows = ap (λ f. map f rows) (λ i r. columns-values picks r i)
 
+-- The groups that the plan makes of the filtered rows are those of the query.
+pub groups-selected : (g : Grouping) (types : List ColumnType) (n : ℕ) (rows : List Row)
+    → AllByRecursion IsCall g.calls
+    → grouped_of (group_spec g types n)
+    (map (item_row (columns_of g.keys ++ call_arguments g.calls)) rows) ≡ grouped_rows g types rows
+groups-selected g types n rows h =
+    ap₂ (λ default l. groups_or_default g.lone default l)
+    (map-map (λ (call : StateCall). default_value call.kind) (state_of types) g.calls)
+    (ap (λ k. groups (count_up k) (calls_from k (map (state_of types) g.calls))
+    (map (item_row (columns_of g.keys ++ call_arguments g.calls)) rows))
+    (length-map g.keys (λ c. slice_index_or types c column.Text))
+    ∙ groups-kept types g.keys g.calls rows h)
+
 -- What the plan makes of the filtered rows is what the query selects.
 pub shape-selects : (shape : Shape) (types : List ColumnType) (n : ℕ) (rows : List Row)
     → HasCalls shape → shape_rows (shape_of shape types n) rows ≡ selected_rows shape types rows
 shape-selects (Plain items) types n rows h = refl
 shape-selects (Grouped g) types n rows h =
     picks-kept g.picks _
-    ∙ ap (λ l. map (values_at g.picks) (rows_where g.having l))
-    (ap₂ (λ default l. groups_or_default g.lone default l)
-    (map-map (λ (call : StateCall). default_value call.kind) (state_of types) g.calls)
-    (ap (λ k. groups (count_up k) (calls_from k (map (state_of types) g.calls))
-    (map (item_row (columns_of g.keys ++ call_arguments g.calls)) rows))
-    (length-map g.keys (λ c. slice_index_or types c column.Text))
-    ∙ groups-kept types g.keys g.calls rows h))
+    ∙ ap (λ l. map (values_at g.picks) (rows_where g.having l)) (groups-selected g types n rows h)
 
 -- An answer of a query's plan is an answer of the query.
 pub query-answers : (q : Checked) (db : Database) (parts : Parts) (p : SelectPlan) (rows : List Row)

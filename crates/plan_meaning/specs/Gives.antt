@@ -1,31 +1,8 @@
 -- What each kind gives by the end of a run.
-use Rattle.std.specs.Prelude.{Bool, IsPermutation, IsSorted, List, None, Some, [], cond, false, filter, length, map, suc, true, ℕ, ◌++◌, ◌<◌, ◌∷◌, ◌≡◌, ◌≤◌, ◌⊎◌}
-use Rattle.plan_meaning.specs.Prelude.{AggCall, AggOp, AllByRecursion, Contains, GroupSpec, IsSortOf, KeyPair, Row, SortKey, Span, Spec, StateCall, combine_of, count_up, default_value, enough, groups, groups_or_default, holds, is_lt, item_row, joined_rows, limited, merged_groups, numbers, row_cmp}
+use Rattle.std.specs.Prelude.{Bool, IsPermutation, IsSorted, List, Some, [], false, filter, length, map, true, ◌++◌, ◌<◌, ◌≡◌, ◌≤◌, ◌⊎◌}
+use Rattle.plan_meaning.specs.Prelude.{AllByRecursion, Contains, IsSortOf, KeyPair, Row, SortKey, Span, Spec, enough, holds, is_lt, item_row, joined_rows, limited, merged_rows, numbers, partial_rows, row_cmp}
 use Rattle.plan_meaning.specs.Streams.{ManyToOne, OneToNone, OneToOne, Part, Parts, Source, Stream, TwoToOne, all_done, all_rows, any_done, rows_of}
 use Rattle.query_model.specs.declared.processor_spec.Spec.TheVariants as spec
-use Rattle.query_model.specs.declared.query.AggOp.TheVariants as agg
-use Rattle.query_model.specs.declared.query.ExprOf.TheVariants as expr
-
-abbrev pub is_count : AggOp → Bool
-is_count agg.Count = true
-is_count _ = false
-
--- The calls of a partial aggregate. Its input has the keys, and from column c on the argument of
--- each call but `count`.
-abbrev pub calls_from : ℕ → List StateCall → List (AggCall ℕ)
-calls_from c [] = []
-calls_from c (call ∷ calls) =
-    let this : AggCall ℕ =
-    record { op = call.op; arg = cond (is_count call.op) None (Some (expr.Column c)) } in
-    this ∷ calls_from (cond (is_count call.op) c (suc c)) calls
-
-abbrev pub partial_rows : GroupSpec → List Row → List Row
-partial_rows g rows = groups (count_up (length g.keys)) (calls_from (length g.keys) g.calls) rows
-
-abbrev pub merged_rows : GroupSpec → List Row → List Row
-merged_rows g rows =
-    groups_or_default g.lone (map (λ (call : StateCall). default_value call.kind) g.calls)
-    (merged_groups (length g.keys) (map (λ (call : StateCall). combine_of call.op) g.calls) rows)
 
 -- lists in order, merged
 pub record IsMergeOf (keys : List SortKey) (lists : List (List Row)) (out : List Row) : Type 0 where

@@ -1,8 +1,8 @@
 -- What each kind makes of all that could pass.
 use Rattle.std.specs.Prelude.{Bool, IsPermutation, List, Some, [], false, filter, length, map, nat_le, true, ◌&&◌, ◌||◌, ◌∷◌, ◌≡◌}
-use Rattle.plan_meaning.specs.Prelude.{IsSortOf, Row, Spec, enough, holds, item_row, joined_rows, limited, list_all, numbers}
+use Rattle.plan_meaning.specs.Prelude.{IsSortOf, Row, Spec, enough, holds, item_row, joined_rows, limited, list_all, merged_rows, numbers, partial_rows}
 use Rattle.plan_meaning.specs.Streams.{Flow, ManyToOne, OneToNone, OneToOne, Parts, Source, TwoToOne, all_certain, all_rows, any_needs, flow_rows}
-use Rattle.plan_meaning.specs.Gives.{IsMergeOf, merged_rows, partial_rows}
+use Rattle.plan_meaning.specs.Gives.{IsMergeOf}
 use Rattle.query_model.specs.declared.processor_spec.Spec.TheVariants as spec
 
 -- ---- what each kind makes of all that could pass

@@ -1,8 +1,7 @@
 -- The plan of a query as a list of nodes, and what it answers.
 use Rattle.std.specs.Prelude.{Bool, List, None, Option, Some, [], cond, false, flat_map, length, map, true, ℕ, ⊤, ◌&&◌, ◌++◌, ◌+◌, ◌<◌, ◌∷◌, ◌≡◌, ◌≤◌, ◌⊎◌}
-use Rattle.plan_meaning.specs.Prelude.{AllByRecursion, Cond, DraftNode, Expr, GroupSpec, IsOrderedAnswer, JoinSpec, Kind, Row, SortKey, SortSpec, Span, Spec, StateCall, count_up, default_value, enough, groups, groups_or_default, item_row, joined_rows, joint_node, kind_of, lane_nodes, list_all, numbers, rows_where, same_kind, source_nodes}
+use Rattle.plan_meaning.specs.Prelude.{AllByRecursion, Cond, DraftNode, Expr, GroupSpec, IsOrderedAnswer, JoinSpec, Kind, Row, SortKey, SortSpec, Span, Spec, default_states, enough, groups_or_default, item_row, joined_rows, joint_node, kind_of, lane_nodes, list_all, numbers, partial_rows, rows_where, same_kind, source_nodes}
 use Rattle.plan_meaning.specs.Streams.{Parts}
-use Rattle.plan_meaning.specs.Gives.{calls_from}
 use Rattle.query_model.specs.declared.processor_spec.Kind.TheVariants as kind
 use Rattle.query_model.specs.declared.processor_spec.Spec.TheVariants as spec
 
@@ -141,8 +140,7 @@ join_valid parts None = true
 join_valid parts (Some j) = all_valid parts j.sources
 
 abbrev pub grouped_of : GroupSpec → List Row → List Row
-grouped_of g rows = groups_or_default g.lone (map (λ (call : StateCall). default_value call.kind)
-    g.calls) (groups (count_up (length g.keys)) (calls_from (length g.keys) g.calls) rows)
+grouped_of g rows = groups_or_default g.lone (default_states g) (partial_rows g rows)
 
 abbrev pub shape_rows : PlanShape → List Row → List Row
 shape_rows (plain items) rows = map (item_row items) rows

@@ -8,10 +8,11 @@ pub use Rattle.plan_graph.specs.declared.nodes.DraftNode.{DraftNode}
 pub use Rattle.plan_graph.specs.declared.nodes.NodePort.{NodePort}
 pub use Rattle.port_word.specs.declared.flags.Wire.{Wire}
 pub use Rattle.proc_api.specs.Forms.{SpecForm, spec_form}
+pub use Rattle.proc_api.specs.Grouped.{calls_from, default_states, group_types, is_count, merged_rows, partial_rows}
 pub use Rattle.proc_api.specs.Keeping.{FitsInput}
 pub use Rattle.proc_api.specs.Made.{IsSortOf}
 pub use Rattle.proc_api.specs.Racks.{same_kind}
-pub use Rattle.query_model.specs.Names.{Cond, Database, Expr, IsOrderedAnswer, call_type, combine_of, count_up, enough, groups, groups_or_default, holds, item_row, joined_rows, kind_of, limited, merged_groups, numbers, rows_where, source_rows, source_table, type_of}
+pub use Rattle.query_model.specs.Names.{Cond, Database, Expr, IsOrderedAnswer, call_type, enough, groups, groups_or_default, holds, item_row, joined_rows, kind_of, limited, numbers, rows_where, source_rows, source_table, type_of}
 pub use Rattle.query_model.specs.declared.checked.Checked.{Checked}
 pub use Rattle.query_model.specs.declared.checked.Grouping.{Grouping}
 pub use Rattle.query_model.specs.declared.checked.KeyPair.{KeyPair}

@@ -1,9 +1,8 @@
 -- The plan of a checked query.
 use Rattle.std.specs.Prelude.{List, None, Option, Some, [], is_none, map, slice_index_or, ℕ, ◌++◌, ◌∷◌, ◌≡◌}
-use Rattle.plan_meaning.specs.Prelude.{AggCall, AllByRecursion, Checked, ColumnType, Database, Expr, ExprOf, GroupSpec, Grouped, Grouping, Plain, Shape, StateCall, call_type, source_rows, source_table}
+use Rattle.plan_meaning.specs.Prelude.{AggCall, AllByRecursion, Checked, ColumnType, Database, Expr, ExprOf, GroupSpec, Grouped, Grouping, Plain, Shape, StateCall, call_type, is_count, source_rows, source_table}
 use Rattle.plan_meaning.specs.Streams.{Parts}
 use Rattle.plan_meaning.specs.Plans.{PlanShape, SelectPlan, grouped, plain, plan_keys, read_rows}
-use Rattle.plan_meaning.specs.Gives.{is_count}
 use Rattle.chunk_data.specs.declared.typed_value.ColumnType.TheVariants as column
 use Rattle.query_model.specs.declared.query.ExprOf.TheVariants as expr
 

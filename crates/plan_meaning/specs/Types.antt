@@ -1,7 +1,7 @@
 -- The types of the chunks that pass: what a kind keeps holds as long as each chunk that it pulled
 -- fits.
 use Rattle.std.specs.Prelude.{List, Some, [], flat_map, map, replicate, suc, ℕ, ⊤, ◌++◌, ◌∷◌, ◌≡◌}
-use Rattle.plan_meaning.specs.Prelude.{AllByRecursion, Any, ColumnType, DraftNode, FitsInput, GroupSpec, NodePort, Spec, StateCall, given_by, numbers, ports_of, taken_by, type_of}
+use Rattle.plan_meaning.specs.Prelude.{AllByRecursion, Any, ColumnType, DraftNode, FitsInput, NodePort, Spec, given_by, group_types, numbers, ports_of, taken_by, type_of}
 use Rattle.query_model.specs.declared.processor_spec.Spec.TheVariants as spec
 use Rattle.plan_meaning.specs.Streams.{Parts, Stream}
 use Rattle.plan_meaning.specs.Gives.{Gives}
@@ -26,9 +26,6 @@ TypesFit s i (t ∷ types) = FitsInput (Some s) i t × TypesFit s (suc i) types
 -- the types of the chunks that were pulled
 abbrev pub pulled_types : List Stream → List Types
 pulled_types ins = flat_map (λ (s : Stream). s.types) ins
-
-abbrev pub group_types : GroupSpec → Types
-group_types g = g.keys ++ map (λ (c : StateCall). c.kind) g.calls
 
 -- one of these types
 abbrev pub IsAmong : List Types → Types → Type 0

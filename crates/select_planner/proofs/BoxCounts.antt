@@ -1,6 +1,6 @@
 -- The boxes of a kind that a query's plan uses are as many as the query needs.
-use Rattle.select_planner.proofs.Prelude.{Checked, ColumnType, Cond, Declared, Expr, Grouped, Kind, Numbers, Paths, Plain, Shape, SortKey, SortSpec, Span, Spec, TableDecl, TableUse, count_by-le-length, counted, filter_count, gather_count, if_declared, if_filtered, if_limited, if_ordered, if_unordered, kind_of, limit_count, list_sources_need, need, none-of, of_kind, part_sources_need, plan-counted, plan_count, plan_nodes, read_count, same_kind, shape_count, shape_of, sources_count, sum_by-cons, sum_by-take-le, sum_by_more, table_need}
-use Rattle.std.proofs.Common.{Bool, List, None, Option, Some, [], ap, arith, cond, false, get_or, length, refl, slice_get, suc, sum_by, sym, take, true, ℕ, ◌*◌, ◌+◌, ◌<◌, ◌∙◌, ◌∷◌, ◌≡◌, ◌≤◌}
+use Rattle.select_planner.proofs.Prelude.{Checked, ColumnType, Cond, Declared, Grouped, Kind, Numbers, Paths, Plain, Shape, SortKey, Span, Spec, TableDecl, TableUse, count_by-le-length, counted, filter_count, gather_count, if_declared, if_filtered, if_limited, if_ordered, if_unordered, kind_of, limit_count, list_sources_need, need, none-of, of_kind, part_sources_need, plan-counted, plan_count, plan_nodes, read_count, same_kind, shape_count, shape_of, sort_count, sources_count, sum_by-cons, sum_by-take-le, sum_by_more, table_need}
+use Rattle.std.proofs.Common.{Bool, List, None, Option, Some, [], ap, ap₂, arith, cond, false, get_or, length, refl, slice_get, suc, sum_by, sym, take, true, ℕ, ◌*◌, ◌+◌, ◌<◌, ◌∙◌, ◌∷◌, ◌≡◌, ◌≤◌}
 use Rattle.select_planner.proofs.Laying.{by-paths}
 use Rattle.select_planner.specs.declared.nodes.PlanReserve.{PlanReserve}
 use Rattle.select_planner.specs.Boxes.{reserved_nodes}
@@ -8,7 +8,7 @@ use Rattle.select_planner.specs.Counts.{boxes_reserved, boxes_taken}
 use Rattle.select_planner.specs.declared.nodes.PlanNode.{PlanNode}
 use Rattle.query_model.specs.declared.processor_spec.Kind.TheVariants as kind
 use Rattle.query_model.specs.declared.processor_spec.Spec.TheVariants as spec
-use Rattle.select_planner.specs.Steps.{Reading, part_spec, path_sources, join_of, source_types, order_of, reading_of, declared_sources, table_sources, select_plan, IsPlain, IsNoList, UsesNoList, IsPlannable}
+use Rattle.select_planner.specs.Steps.{Reading, part_spec, path_sources, join_of, source_types, order_of, reading_of, declared_sources, table_sources, select_plan, IsNoList, UsesNoList, IsPlannable}
 
 -- so many where the kind is this one
 abbrev only : Kind → Kind → ℕ → ℕ
@@ -71,15 +71,6 @@ limit-need : (k : Kind) (l : Option Span)
 limit-need k None = sym (none-of (same_kind kind.Limit k))
 limit-need k (Some span) = refl
 
-shape-need : (k : Kind) (s : Shape) (types : List ColumnType) (rows lanes : ℕ)
-    (order : Option SortSpec) → IsPlain s
-    → shape_count (of_kind k) (shape_of s types rows) order lanes
-    ≡ only k kind.Expression lanes + gather_count (of_kind k) order lanes
-shape-need k (Plain items) types rows lanes order h =
-    ap (λ n. n + gather_count (of_kind k) order lanes)
-    (only-times (same_kind kind.Expression k) lanes)
-shape-need k (Grouped g) types rows lanes order h = absurd h
-
 -- the lanes are gathered by a Resize, or by sorts and a merge
 abbrev gather_need : List SortKey → ℕ → Kind → ℕ
 gather_need keys lanes k =
@@ -97,15 +88,44 @@ gather-need k types rows lanes (key ∷ keys) =
     let none = none-of (same_kind kind.Resize k) in
     omega (arith, times, none)
 
+sort-need : (k : Kind) (types : List ColumnType) (rows : ℕ) (keys : List SortKey)
+    → sort_count (of_kind k) (order_of types rows keys) ≡ only k kind.Sort (if_ordered keys 1)
+sort-need k types rows [] = sym (none-of (same_kind kind.Sort k))
+sort-need k types rows (key ∷ keys) = refl
+
+-- what makes the output rows of the filtered ones
+abbrev shape_need : Shape → List SortKey → ℕ → Kind → ℕ
+shape_need (Plain items) keys lanes k = only k kind.Expression lanes + gather_need keys lanes k
+shape_need (Grouped g) keys lanes k =
+    only k kind.Expression lanes + (only k kind.PartialAggregate lanes
+    + (only k kind.MergeAggregate 1 + (only k kind.Filter (if_filtered g.having 1)
+    + (only k kind.Expression 1 + only k kind.Sort (if_ordered keys 1)))))
+
+shape-need : (k : Kind) (s : Shape) (types made : List ColumnType) (rows lanes : ℕ)
+    (keys : List SortKey)
+    → shape_count (of_kind k) (shape_of s types rows) (order_of made rows keys) lanes
+    ≡ shape_need s keys lanes k
+shape-need k (Plain items) types made rows lanes keys =
+    ap₂ (λ a b. a + b) (only-times (same_kind kind.Expression k) lanes)
+    (gather-need k made rows lanes keys)
+shape-need k (Grouped g) types made rows lanes keys =
+    omega (
+      arith,
+      only-times (same_kind kind.Expression k) lanes,
+      only-times (same_kind kind.PartialAggregate k) lanes,
+      filter-need k g.having 1,
+      sort-need k made rows keys,
+    )
+
 -- ---- the plan
 
--- what the steps of a query without JOIN and groups need
+-- what the steps of a query without JOIN need
 abbrev steps_need : Checked → List TableDecl → ℕ → Kind → ℕ
 steps_need q tables lanes k =
     (only k kind.Csv (table_need part_sources_need 0 tables q.from)
     + only k kind.Numbers (table_need (λ decl. 0) 1 tables q.from) + only k kind.Resize 1)
     + (only k kind.Filter (if_filtered q.filter lanes)
-    + ((only k kind.Expression lanes + gather_need q.order lanes k)
+    + (shape_need q.shape q.order lanes k
     + (only k kind.Limit (if_limited q.limit 1) + only k kind.Collect 1)))
 
 steps-counted : (q : Checked) (tables : List TableDecl) (lanes rows : ℕ) (header : Bool) (k : Kind)
@@ -122,14 +142,9 @@ steps-counted q tables lanes rows header k p =
       read,
       sources-need k tables header rows q.from p.no_list,
       filter-need k q.filter lanes,
-      shape-need k q.shape types rows lanes (order_of q.types rows q.order) p.plain,
-      gather-need k q.types rows lanes q.order,
+      shape-need k q.shape types q.types rows lanes q.order,
       limit-need k q.limit,
     )
-
-plain-items : (s : Shape) → IsPlain s → (items : List Expr) × (s ≡ Plain items)
-plain-items (Plain items) h = (items, refl)
-plain-items (Grouped g) h = absurd h
 
 no-lists : (tables : List TableDecl) (u : TableUse) → UsesNoList tables u
     → table_need list_sources_need 0 tables u ≡ 0
@@ -138,18 +153,26 @@ no-lists tables (Declared t) h =
     (slice_get tables t) h
 no-lists tables (Numbers n) h = refl
 
+none-ordered : (keys : List SortKey) → if_ordered keys 0 ≡ 0
+none-ordered [] = refl
+none-ordered (key ∷ keys) = refl
+
 need-of-steps : (q : Checked) (tables : List TableDecl) (lanes : ℕ) (k : Kind)
     → IsPlannable q tables
     → steps_need q tables lanes k ≡ need q tables lanes k
-need-of-steps q tables lanes k p =
-    go k (plain-items q.shape p.plain).1 (no-lists tables q.from p.no_list)
+need-of-steps q tables lanes k p = go k q.shape refl (no-lists tables q.from p.no_list)
   where
-    go : {items : List Expr} (k : Kind) → q.shape ≡ Plain items
-        → table_need list_sources_need 0 tables q.from ≡ 0
+    go : (k : Kind) (s : Shape) → q.shape ≡ s → table_need list_sources_need 0 tables q.from ≡ 0
         → steps_need q tables lanes k ≡ need q tables lanes k
-    go kind.Limit plain none = omega arith
-    go kind.Collect plain none = omega arith
-    go k plain none = simp (plain, p.one_table, sum_by-cons) (omega (arith, none))
+    go kind.Limit (Plain items) is none = simp is (omega arith)
+    go kind.Limit (Grouped g) is none = simp is (omega arith)
+    go kind.Collect (Plain items) is none = simp is (omega arith)
+    go kind.Collect (Grouped g) is none = simp is (omega arith)
+    go kind.MergeSorted (Grouped g) is none =
+        let grouped : if_ordered q.order 0 ≡ 0 = none-ordered q.order in
+        simp is (omega (arith, grouped))
+    go k (Plain items) is none = simp (is, p.one_table, sum_by-cons) (omega (arith, none))
+    go k (Grouped g) is none = simp (is, p.one_table, sum_by-cons) (omega (arith, none))
 
 -- The nodes of a kind of a query's plan are as many as the query needs.
 pub plan-needs : (q : Checked) (tables : List TableDecl) (lanes rows : ℕ) (header : Bool) (k : Kind)

@@ -1,6 +1,6 @@
 -- What was laid down is a graph, and takes as many boxes of each kind as the query needs.
 use Rattle.std.proofs.Common.{Bool, List, [], ap, arith, cond, length, map, refl, subst, sum_by, sym, ℕ, ◌++◌, ◌∙◌, ◌∷◌, ◌≡◌}
-use Rattle.select_planner.proofs.Prelude.{Checked, Draft, DraftNode, IsGraph, IsSmall, Kind, NodeForm, PlanGraph, Spec, SpecForm, TableDecl, Wire, append-nil, append_assoc, counted, counted-same, expression, filter, kind_of, length-map, need, no_draft, of_kind, plan-graph, plan_nodes, same_kind, spec_form, sum_by-cons, unboxed, with_node, with_nodes}
+use Rattle.select_planner.proofs.Prelude.{Checked, Draft, DraftNode, IsGraph, IsSmall, Kind, NodeForm, Spec, SpecForm, TableDecl, Wire, append-nil, append_assoc, counted, counted-same, expression, filter, kind_of, length-map, need, no_draft, of_kind, plan-graph, plan_nodes, same_kind, spec_form, sum_by-cons, unboxed, with_node, with_nodes}
 use Rattle.query_model.specs.declared.processor_spec.Kind.TheVariants as kind
 use Rattle.query_model.specs.declared.processor_spec.Spec.TheVariants as spec
 use Rattle.select_planner.specs.declared.nodes.Plan.{Plan}

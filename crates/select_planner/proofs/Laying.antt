@@ -1,9 +1,9 @@
 -- The steps of a plan, laid down one behind another.
-use Rattle.std.proofs.Common.{Bool, List, None, Option, Some, [], ap, arith, cond, false, get_or, length, nat_lt, refl, slice_get, subst, suc, sym, take, true, zero, ℕ, ◌++◌, ◌+◌, ◌<◌, ◌∙◌, ◌∷◌, ◌≡◌, ◌≤◌}
-use Rattle.select_planner.proofs.Prelude.{Checked, Declared, DraftNode, Expr, FewJoined, IsSmall, ListFile, NodeForm, Numbers, PartSpec, PartsDecl, Paths, Plain, Schema, Spec, SpecForm, TableDecl, TableUse, append_assoc, collect_node, filter_nodes, forms, gather_nodes, joint_node, lane_nodes, length-take-le, limit_nodes, map-append, nat_tests, node_form, plan_nodes, read_nodes, shape_nodes, shape_of, source_nodes, spec_form, take_more}
+use Rattle.std.proofs.Common.{Bool, List, None, Option, Some, [], ap, ap₂, arith, cond, false, get_or, length, map, nat_lt, refl, slice_get, subst, suc, sym, take, true, zero, ℕ, ◌++◌, ◌+◌, ◌<◌, ◌∙◌, ◌∷◌, ◌≡◌, ◌≤◌}
+use Rattle.select_planner.proofs.Prelude.{AggCall, Checked, Declared, DraftNode, Expr, FewJoined, IsSmall, ListFile, NodeForm, Numbers, PartSpec, PartsDecl, Paths, Schema, Spec, SpecForm, TableDecl, TableUse, append_assoc, call_arguments, collect_node, columns_of, filter_nodes, formula, forms, joint_node, lane_nodes, length-take-le, limit_nodes, map-append, nat_tests, node_form, plan_nodes, read_nodes, shape_nodes, shape_of, source_nodes, spec_form, take_more, with_argument}
 use Rattle.query_model.specs.declared.processor_spec.Spec.TheVariants as spec
 use Rattle.select_planner.specs.Refusals.{NamedPaths, path_count, crowded_decl, crowded}
-use Rattle.select_planner.specs.Steps.{Reading, part_spec, path_sources, part_sources, reading_of, declared_sources, table_sources, join_of, source_types, order_of, select_plan, NamesPaths, IsNoList, UsesNoList, IsPlannable}
+use Rattle.select_planner.specs.Steps.{Reading, part_spec, path_sources, part_sources, reading_of, declared_sources, table_sources, join_of, source_types, order_of, select_plan, used_types, NamesPaths, IsNoList, UsesNoList, IsPlannable}
 
 -- a block more
 pub block-more : (x y done block : List DraftNode) → forms x ≡ forms done
@@ -49,6 +49,14 @@ lane-more s t rank k x y z e h g =
     ∙ ap (λ n. forms x ++ forms (first ++ lane_nodes t rank n 1)) (sym here)
     ∙ ap (λ l. forms x ++ forms l) (sym (lanes-push t rank 0 k))
     ∙ ap (λ n. forms x ++ forms (lane_nodes t rank 0 n)) next
+
+-- lanes with copies have the same forms
+pub lanes-same : (s t : Spec) (rank i k : ℕ) → spec_form s ≡ spec_form t
+    → forms (lane_nodes s rank i k) ≡ forms (lane_nodes t rank i k)
+lanes-same s t rank i zero e = refl
+lanes-same s t rank i (suc k) e =
+    ap₂ (λ f l. record { spec = f; rank = rank; offset = i; takes = 1; gives = 1 } ∷ l) e
+    (lanes-same s t rank (suc i) k e)
 
 -- ---- sources
 
@@ -188,27 +196,64 @@ steps-for q tables read lanes rows header nodes e same =
 
 -- the nodes step by step, as the code adds them
 abbrev pub laid_nodes : List DraftNode → List DraftNode → List DraftNode → List DraftNode
-    → List DraftNode → List DraftNode → List DraftNode → List DraftNode
-laid_nodes a b c d e f g = (((((a ++ b) ++ c) ++ d) ++ e) ++ f) ++ g
+    → List DraftNode → List DraftNode → List DraftNode
+laid_nodes a b c d e f = ((((a ++ b) ++ c) ++ d) ++ e) ++ f
 
-regrouped : (a b c d e f g : List DraftNode)
-    → laid_nodes a b c d e f g ≡ ((a ++ b) ++ (c ++ ((d ++ e) ++ f))) ++ g
-regrouped a b c d e f g = simp append_assoc
+regrouped : (a b c d e f : List DraftNode)
+    → laid_nodes a b c d e f ≡ ((a ++ b) ++ (c ++ (d ++ e))) ++ f
+regrouped a b c d e f = simp append_assoc
 
--- a query without JOIN and groups has these steps
-pub plain-steps : (q : Checked) (tables : List TableDecl) (lanes rows : ℕ) (header : Bool)
-    (items : List Expr) → IsPlannable q tables → q.shape ≡ Plain items
+-- a query without JOIN has these steps
+pub all-steps : (q : Checked) (tables : List TableDecl) (lanes rows : ℕ) (header : Bool)
+    → IsPlannable q tables
     → laid_nodes (source_nodes 0 (table_sources tables header rows q.from))
     (joint_node spec.Resize 2 (length (table_sources tables header rows q.from)) lanes ∷ [])
-    (filter_nodes q.filter 5 lanes) (lane_nodes (spec.Expression items) 6 0 lanes)
-    (gather_nodes (order_of q.types rows q.order) lanes) (limit_nodes q.limit) (collect_node ∷ [])
+    (filter_nodes q.filter 5 lanes)
+    (shape_nodes (shape_of q.shape (used_types tables q.from) rows)
+    (order_of q.types rows q.order) lanes) (limit_nodes q.limit) (collect_node ∷ [])
     ≡ plan_nodes (select_plan q tables lanes rows header)
-plain-steps q tables lanes rows header items p shape =
+all-steps q tables lanes rows header p =
     let sources : List Spec = table_sources tables header rows q.from in
     regrouped (source_nodes 0 sources) (joint_node spec.Resize 2 (length sources) lanes ∷ [])
-    (filter_nodes q.filter 5 lanes) (lane_nodes (spec.Expression items) 6 0 lanes)
-    (gather_nodes (order_of q.types rows q.order) lanes) (limit_nodes q.limit) (collect_node ∷ [])
+    (filter_nodes q.filter 5 lanes)
+    (shape_nodes (shape_of q.shape (used_types tables q.from) rows)
+    (order_of q.types rows q.order) lanes) (limit_nodes q.limit) (collect_node ∷ [])
     ∙ sym (λ i. (read_nodes sources (join_of tables header rows q.from (p.one_table i)) lanes
     ++ (filter_nodes q.filter 5 lanes
-    ++ (shape_nodes (shape_of (shape i) (source_types tables q.from q.join) rows)
+    ++ (shape_nodes (shape_of q.shape (source_types tables q.from (p.one_table i)) rows)
     (order_of q.types rows q.order) lanes ++ limit_nodes q.limit))) ++ collect_node ∷ [])
+
+-- ---- groups
+
+arguments-push : (calls : List (AggCall ℕ)) (call : AggCall ℕ)
+    → call_arguments (calls ++ call ∷ []) ≡ call_arguments calls ++ with_argument call.arg []
+arguments-push [] call = refl
+arguments-push (c ∷ calls) call = go c.arg (arguments-push calls call)
+  where
+    go : (arg : Option Expr)
+        → call_arguments (calls ++ call ∷ []) ≡ call_arguments calls ++ with_argument call.arg []
+        → with_argument arg (call_arguments (calls ++ call ∷ []))
+        ≡ with_argument arg (call_arguments calls) ++ with_argument call.arg []
+    go None e = e
+    go (Some a) e = ap (λ l. a ∷ l) e
+
+-- the argument of a call more
+pub argument-more : (keys : List ℕ) (calls : List (AggCall ℕ)) (call : AggCall ℕ) (i : ℕ)
+    (x y : List Expr) → i < length calls → call ≡ get_or calls i call
+    → map formula x ≡ map formula (columns_of keys ++ call_arguments (take i calls))
+    → map formula y ≡ map formula x ++ map formula (with_argument call.arg [])
+    → map formula y ≡ map formula (columns_of keys ++ call_arguments (take (i + 1) calls))
+argument-more keys calls call i x y lt is h e =
+    let first : List Expr = call_arguments (take i calls) in
+    let last : List Expr = with_argument call.arg [] in
+    let whole : call_arguments (take (i + 1) calls) ≡ first ++ last =
+    ap call_arguments (take_more calls i call lt ∙ ap (λ z. take i calls ++ z ∷ []) (sym is))
+    ∙ arguments-push (take i calls) call in
+    e ∙ ap (λ l. l ++ map formula last) h ∙ sym (map-append formula (columns_of keys ++ first) last)
+    ∙ ap (map formula) (append_assoc (columns_of keys) first last
+    ∙ ap (λ l. columns_of keys ++ l) (sym whole))
+
+-- the steps of groups, as the code adds them
+pub group-steps : (a b c d e f : List DraftNode)
+    → ((((a ++ b) ++ c) ++ d) ++ e) ++ f ≡ a ++ (b ++ (c ++ (d ++ (e ++ f))))
+group-steps a b c d e f = simp append_assoc

@@ -1,6 +1,6 @@
 -- What a checked query fills in of the table of steps.
 use Rattle.std.specs.Prelude.{Bool, List, None, Option, Some, [], slice_get, suc, ℕ, ⊤, ◌++◌, ◌∷◌, ◌≡◌}
-use Rattle.select_planner.specs.Prelude.{Checked, CheckedJoin, ColumnType, Declared, Grouped, ListFile, Numbers, PartSpec, PartsDecl, Paths, Plain, PlanJoin, SelectPlan, Shape, SortKey, SortSpec, Spec, TableDecl, TableUse, column_types, numbers, shape_of}
+use Rattle.select_planner.specs.Prelude.{Checked, CheckedJoin, ColumnType, Declared, ListFile, Numbers, PartSpec, PartsDecl, Paths, PlanJoin, SelectPlan, SortKey, SortSpec, Spec, TableDecl, TableUse, column_types, numbers, shape_of}
 use Rattle.query_model.specs.declared.processor_spec.Spec.TheVariants as spec
 
 -- how the parts of a table are read: the place of the table, the types of its columns, whether the
@@ -95,10 +95,6 @@ select_plan q tables lanes rows header = record {
 
 -- ---- the steps that are laid down so far
 
-abbrev pub IsPlain : Shape → Type 0
-IsPlain (Plain items) = ⊤
-IsPlain (Grouped g) = ⊥
-
 abbrev pub NamesPaths : PartsDecl → Type 0
 NamesPaths (Paths paths) = ⊤
 NamesPaths (ListFile path) = ⊥
@@ -111,8 +107,7 @@ abbrev pub UsesNoList : List TableDecl → TableUse → Type 0
 UsesNoList tables (Declared t) = IsNoList (slice_get tables t)
 UsesNoList tables (Numbers n) = ⊤
 
--- a query of one table that is no list, without grouping
+-- a query of one table that is no list
 pub record IsPlannable (q : Checked) (tables : List TableDecl) : Type 0 where
   pub one_table : q.join ≡ None
   pub no_list : UsesNoList tables q.from
-  pub plain : IsPlain q.shape

@@ -7,7 +7,7 @@ ghost use Rattle.proc_api.specs.Forms.{argument_form, operand_form, cond_form};
 use chunk_data::{List, Memory};
 use query_model::checked::{Cond, Expr};
 use query_model::plain::{boxed_cond, copy_expr};
-use query_model::processor_spec::SortSpec;
+use query_model::processor_spec::{GroupSpec, SortSpec};
 use query_model::query::{AggCall, CompareOp, CondOf, Operand};
 use std::alloc::{AllocError, Global};
 
@@ -83,6 +83,18 @@ pub(crate) fn copy_order(order: &SortSpec) -> Result<SortSpec, Memory>
         keys: order.keys.copy()?,
         types: order.types.copy()?,
         rows: order.rows,
+    })
+}
+
+/// The same groups in lists of their own.
+pub(crate) fn copy_groups(groups: &GroupSpec) -> Result<GroupSpec, Memory>
+    ensures { IfOk result (λ copy. copy ≡ groups.now) }
+{
+    Ok(GroupSpec {
+        keys: groups.keys.copy()?,
+        calls: groups.calls.copy()?,
+        lone: groups.lone,
+        rows: groups.rows,
     })
 }
 

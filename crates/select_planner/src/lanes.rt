@@ -1,14 +1,14 @@
 // Blocks of nodes, added behind a list of nodes.
 ghost use Rattle.std.specs.Prelude.{◌≡◌, ◌≤◌, ◌++◌, ◌∷◌, [], OnOk, Some};
-ghost use Rattle.query_model.specs.declared.processor_spec.Spec.TheVariants.{Filter as filter_spec, Expression as expression_spec, Sort as sort_spec};
+ghost use Rattle.query_model.specs.declared.processor_spec.Spec.TheVariants.{Filter as filter_spec, Expression as expression_spec, PartialAggregate as partial_spec, Sort as sort_spec};
 ghost use Rattle.plan_graph.specs.Blocks.{lane_nodes, joint_node};
-ghost use Rattle.plan_meaning.specs.Names.{filter_nodes, gather_nodes, limit_nodes, forms};
+ghost use Rattle.plan_meaning.specs.Names.{filter_nodes, gather_nodes, limit_nodes, sort_nodes, forms};
 
-use crate::copies::{copy_cond, copy_items, copy_order};
+use crate::copies::{copy_cond, copy_groups, copy_items, copy_order};
 use chunk_data::{List, Memory};
 use plan_graph::DraftNode;
 use query_model::checked::{Cond, Expr};
-use query_model::processor_spec::{SortSpec, Spec};
+use query_model::processor_spec::{GroupSpec, SortSpec, Spec};
 use query_model::query::Span;
 use std::alloc::Global;
 
@@ -145,6 +145,32 @@ fn add_sorts(nodes: &mut List<DraftNode>, order: &SortSpec, lanes: u32) -> Resul
         add_lane(nodes, Spec::Sort(copy), 11, lane)?;
     }
     Ok(())
+}
+
+/// Adds the partial groups, one in each lane.
+pub(crate) fn add_partials(
+    nodes: &mut List<DraftNode>,
+    groups: &GroupSpec,
+    lanes: u32,
+) -> Result<(), Memory>
+    ensures { OnOk result (forms nodes.new
+        ≡ forms nodes.old ++ forms (lane_nodes (partial_spec groups.now) 7 0 lanes)) }
+{
+    for lane in 0..lanes {
+        let copy = copy_groups(groups)?;
+        add_lane(nodes, Spec::PartialAggregate(copy), 7, lane)?;
+    }
+    Ok(())
+}
+
+/// Adds the sort of all groups, where there is an order.
+pub(crate) fn add_sort(nodes: &mut List<DraftNode>, order: Option<SortSpec>) -> Result<(), Memory>
+    ensures { OnOk result (forms nodes.new ≡ forms nodes.old ++ forms (sort_nodes order)) }
+{
+    match order {
+        None => Ok(()),
+        Some(order) => add_joint(nodes, Spec::Sort(order), 11, 1, 1),
+    }
 }
 
 /// Adds the limit, where there is one.

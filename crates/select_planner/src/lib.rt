@@ -3,10 +3,11 @@
 //! `plan` lays down the nodes of a SELECT step by step. The table of steps is `plan_nodes` of
 //! `plan_meaning/specs/Plans.antt`, and what a query fills in is `select_plan` of
 //! `specs/Steps.antt`. The rank of a node is the number of its step. Each lane has a copy of a
-//! condition, of the items and of the keys. `needs` counts a plan's boxes by kind.
+//! condition, of the items, of the keys and of the groups. `needs` counts a plan's boxes by kind.
 #![tactic(auto)]
 
 mod copies;
+mod groups;
 mod lanes;
 mod nodes;
 mod parts;

@@ -4,7 +4,7 @@ ghost use Rattle.query_model.specs.declared.query.ColumnDecl.{ColumnDecl};
 ghost use Rattle.plan_graph.specs.Blocks.{source_nodes};
 ghost use Rattle.plan_meaning.specs.Same.{forms};
 ghost use Rattle.select_planner.specs.Refusals.{crowded, crowded_decl, path_count, IsCrowded};
-ghost use Rattle.select_planner.specs.Steps.{path_sources, part_sources, reading_of, table_sources, NamesPaths, UsesNoList};
+ghost use Rattle.select_planner.specs.Steps.{path_sources, part_sources, reading_of, table_sources, used_types, NamesPaths, UsesNoList};
 
 use crate::lanes::add_node;
 use crate::nodes::PlanRefusal;
@@ -153,6 +153,27 @@ fn add_paths(
         add_source(nodes, Spec::Csv(part), i as u32)?;
     }
     Ok(())
+}
+
+/// The types of a used table's columns.
+pub(crate) fn used_types(
+    alloc: Global,
+    table: TableUse,
+    tables: &[TableDecl],
+) -> Result<List<ColumnType>, Memory>
+    ensures { IfOk result (λ types. types ≡ used_types tables.now table) }
+{
+    match table {
+        TableUse::Numbers(_) => {
+            let mut types = Vec::new(alloc);
+            types.push(ColumnType::UInt64)?;
+            Ok(List::from_vec(types))
+        }
+        TableUse::Declared(t) => match tables.get(t as usize) {
+            Some(decl) => types_of(alloc, decl.schema.columns.as_slice()),
+            None => Ok(List::new(alloc)),
+        },
+    }
 }
 
 /// The types of columns.

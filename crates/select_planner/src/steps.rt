@@ -1,20 +1,23 @@
 // The steps of a plan.
-ghost use Rattle.std.specs.Prelude.{◌≡◌, ◌≤◌, [], map, length, IfOk, IfErr};
+ghost use Rattle.std.specs.Prelude.{◌≡◌, ◌≤◌, ◌++◌, [], map, length, IfOk, IfErr, OnOk};
 ghost use Rattle.query_model.specs.Database.{used_tables};
-ghost use Rattle.query_model.specs.declared.checked.Shape.TheVariants.{Plain};
+ghost use Rattle.query_model.specs.declared.checked.Shape.TheVariants.{Grouped};
 ghost use Rattle.plan_graph.specs.Drafts.{AllFitDraft, no_draft, with_nodes};
-ghost use Rattle.plan_meaning.specs.Names.{plan_nodes, forms};
+ghost use Rattle.plan_meaning.specs.Names.{plan_nodes, shape_nodes, shape_of, forms};
 ghost use Rattle.select_planner.specs.Refusals.{crowded, first_crowded, IsDue};
 ghost use Rattle.select_planner.specs.Shapes.{node_of, edge_of, IsSound, LaysDown};
-ghost use Rattle.select_planner.specs.Steps.{IsPlain, IsPlannable, order_of, select_plan};
+ghost use Rattle.select_planner.specs.Steps.{IsPlannable, order_of, select_plan, used_types};
 
-use crate::lanes::{add_filters, add_gather, add_items, add_joint, add_limit};
+use crate::groups::{arguments_of, columns_of, group_spec};
+use crate::lanes::{
+    add_filters, add_gather, add_items, add_joint, add_limit, add_partials, add_sort,
+};
 use crate::nodes::{Plan, PlanEdge, PlanNode, PlanRefusal};
-use crate::parts::{Reading, add_sources, check_table};
-use chunk_data::{List, Memory};
+use crate::parts::{Reading, add_sources, check_table, used_types};
+use chunk_data::{ColumnType, List, Memory};
 use plan_graph::{DraftNode, build};
 use port_word::Wire;
-use query_model::checked::{Checked, Expr, Shape};
+use query_model::checked::{Checked, Expr, Grouping, Shape};
 use query_model::processor_spec::{SortSpec, Spec};
 use query_model::query::TableDecl;
 use std::alloc::Global;
@@ -70,22 +73,63 @@ fn lay_steps(
     let sources = add_sources(alloc, &mut nodes, query.from, tables, reading)?;
     add_joint(&mut nodes, Spec::Resize, 2, sources, lanes)?;
     add_filters(alloc, &mut nodes, &query.filter, 5, lanes)?;
-    add_items(alloc, &mut nodes, plain_items(&query.shape), 6, lanes)?;
-    let order = order_of(query, reading.rows)?;
-    add_gather(&mut nodes, order, lanes)?;
+    add_shape(alloc, &mut nodes, query, tables, reading.rows, lanes)?;
     add_limit(&mut nodes, &query.limit)?;
     add_joint(&mut nodes, Spec::Collect, 14, 1, 0)?;
     Ok(nodes)
 }
 
-fn plain_items(shape: &Shape) -> &List<Expr>
-    requires { IsPlain shape.now }
-    ensures { shape.now ≡ Plain result.now }
+/// Adds what makes the output rows of the filtered ones, in their order, in one stream.
+fn add_shape(
+    alloc: Global,
+    nodes: &mut List<DraftNode>,
+    query: &Checked,
+    tables: &[TableDecl],
+    rows: u32,
+    lanes: u32,
+) -> Result<(), Memory>
+    ensures { OnOk result (forms nodes.new ≡ forms nodes.old
+        ++ forms (shape_nodes (shape_of query.now.shape (used_types tables.now query.now.from) rows)
+        (order_of query.now.types rows query.now.order) lanes)) }
 {
-    match shape {
-        Shape::Plain(items) => items,
-        Shape::Grouped(_) => unreachable!(),
+    let order = order_of(query, rows)?;
+    match &query.shape {
+        Shape::Plain(items) => {
+            add_items(alloc, nodes, items, 6, lanes)?;
+            add_gather(nodes, order, lanes)?;
+            Ok(())
+        }
+        Shape::Grouped(grouping) => {
+            let types = used_types(alloc, query.from, tables)?;
+            add_groups(alloc, nodes, grouping, types.as_slice(), rows, order, lanes)
+        }
     }
+}
+
+/// Adds the groups: a part of them in each lane, then all of them, and of those that HAVING lets
+/// pass the columns that were asked for.
+fn add_groups(
+    alloc: Global,
+    nodes: &mut List<DraftNode>,
+    grouping: &Grouping,
+    types: &[ColumnType],
+    rows: u32,
+    order: Option<SortSpec>,
+    lanes: u32,
+) -> Result<(), Memory>
+    ensures { OnOk result (forms nodes.new ≡ forms nodes.old
+        ++ forms (shape_nodes (shape_of (Grouped grouping.now) types.now rows) order lanes)) }
+{
+    let arguments = arguments_of(alloc, grouping.keys.as_slice(), grouping.calls.as_slice())?;
+    add_items(alloc, nodes, &arguments, 6, lanes)?;
+    let groups = group_spec(alloc, grouping, types, rows)?;
+    add_partials(nodes, &groups, lanes)?;
+    add_joint(nodes, Spec::MergeAggregate(groups), 8, lanes, 1)?;
+    add_filters(alloc, nodes, &grouping.having, 9, 1)?;
+    let picks = columns_of(alloc, grouping.picks.as_slice())?;
+    add_items(alloc, nodes, &picks, 10, 1)?;
+    add_sort(nodes, order)?;
+    Ok(())
 }
 
 /// The order of the output rows, where there are keys.

@@ -1,0 +1,63 @@
+-- The types of the rows that a query's shape makes, and of the columns and arguments of its groups.
+use Rattle.std.proofs.Common.{List, None, Option, Some, [], ap, length, map, refl, slice_index_or, ℕ, ◌<◌, ◌∷◌, ◌≡◌}
+use Rattle.plan_ends.proofs.Prelude.{AggCall, AggOp, All, All-cons, All-head, All-nil, All-tail, AllByRecursion, ColumnType, Expr, Grouped, HasCalls, IsCall, IsItem, IsTypedArgument, IsTypedCall, IsTypedShape, Plain, Shape, argument_types, call_arguments, columns_of, group_row_types, state_of, type_of}
+use Rattle.chunk_data.specs.declared.typed_value.ColumnType.TheVariants as column
+use Rattle.query_model.specs.declared.query.AggOp.TheVariants as agg
+use Rattle.query_model.specs.declared.query.ExprOf.TheVariants as expr
+
+abbrev pub type_at : List ColumnType → ℕ → ColumnType
+type_at types c = slice_index_or types c column.Text
+
+-- the types of the rows that a shape makes of rows of these types
+abbrev pub shape_types : Shape → List ColumnType → List ColumnType
+shape_types (Plain items) types = map (λ e. type_of e types) items
+shape_types (Grouped g) types = map (type_at (group_row_types g types)) g.picks
+
+-- ---- calls
+
+-- Each call has an argument unless it is `count`. The arguments are items, and have the types that
+-- a partial aggregate takes.
+abbrev pub CallsFit : List ColumnType → List (AggCall ℕ) → Type 0
+CallsFit types calls = AllByRecursion IsCall calls × All (IsItem types) (call_arguments calls)
+    × (argument_types (map (state_of types) calls)
+    ≡ map (λ e. type_of e types) (call_arguments calls))
+
+pub calls-fit : (types : List ColumnType) (calls : List (AggCall ℕ)) → All (IsTypedCall types) calls
+    → CallsFit types calls
+calls-fit types [] h = (tt, All-nil (IsItem types), refl)
+calls-fit types (call ∷ calls) h =
+    go call.op call.arg (All-head (IsTypedCall types) call calls h)
+    (calls-fit types calls (All-tail (IsTypedCall types) call calls h))
+  where
+    more : (e : Expr) → IsItem types e → All (IsItem types) (call_arguments calls)
+        → All (IsItem types) (e ∷ call_arguments calls)
+    more e t m = All-cons (IsItem types) e (call_arguments calls) t m
+
+    go : (op : AggOp) (arg : Option Expr) → IsTypedArgument types op arg → CallsFit types calls
+        → CallsFit types (record { op = op; arg = arg } ∷ calls)
+    go agg.Count None t m = ((refl, m.0), m.1, m.2)
+    go agg.Count (Some e) t m = absurd t
+    go agg.Sum (Some e) t m = ((refl, m.0), more e t.0 m.1, ap (λ l. type_of e types ∷ l) m.2)
+    go op None t m = absurd t
+    go op (Some e) t m = ((refl, m.0), more e t m.1, ap (λ l. type_of e types ∷ l) m.2)
+
+pub has-calls : (types : List ColumnType) (s : Shape) → IsTypedShape types s → HasCalls s
+has-calls types (Plain items) t = tt
+has-calls types (Grouped g) t = (calls-fit types g.calls t.calls).0
+
+-- ---- columns
+
+pub columns-fit : (types : List ColumnType) (cs : List ℕ) → All (λ c. c < length types) cs
+    → All (IsItem types) (columns_of cs)
+columns-fit types [] h = All-nil (IsItem types)
+columns-fit types (c ∷ cs) h =
+    let P : ℕ → Type 0 = (λ c. c < length types) in
+    All-cons (IsItem types) (expr.Column c) _
+    (record { typed = All-head P c cs h; not_plain = refl })
+    (columns-fit types cs (All-tail P c cs h))
+
+pub columns-are : (types : List ColumnType) (cs : List ℕ)
+    → map (type_at types) cs ≡ map (λ e. type_of e types) (columns_of cs)
+unfolding type_of
+columns-are types [] = refl
+columns-are types (c ∷ cs) = ap (λ l. type_at types c ∷ l) (columns-are types cs)
