@@ -4,8 +4,7 @@ use Rattle.std.specs.Prelude.{⊤, ◌==◌, take_while}
 use Rattle.std.specs.List.{prefix_len}
 use Rattle.std.specs.Char.{is_ascii_digit}
 use Rattle.std.proofs.lemmas.List.Folds.{length-prefix_len}
-use Rattle.sql_grammar.specs.Names.{Sign, Token, TextPlace, TextByte, begins_with, begins_with_letter, comparison_sign, is_letter, is_word_byte, number_front, sign_front, sign_or, single_sign, text_at, text_byte, text_front, text_on, token_front, word_front, TokensAreLongest}
-use Rattle.sql_grammar.specs.declared.Sign.TheVariants as sign
+use Rattle.sql_grammar.specs.Names.{Sign, Token, TextPlace, TextByte, begins_with_letter, comparison_sign, is_letter, is_word_byte, number_front, sign_front, sign_or, single_sign, text_at, text_byte, text_front, text_on, token_front, word_front, TokensAreLongest}
 use Rattle.sql_grammar.specs.declared.Token.TheVariants as token
 use Rattle.sql_grammar.specs.declared.TextPlace.TheVariants as place
 use Rattle.sql_grammar.specs.declared.TextByte.TheVariants as byte
@@ -81,28 +80,7 @@ texts place.BehindBackslash [] more = tt
 texts p (b ∷ bs) more = on_byte (text_byte p b) b bs more (λ q. texts q bs more)
 
 comparisons : (b : ℕ) (more : List ℕ) → NoFewer (comparison_sign b []) (comparison_sign b more)
-comparisons b more = go (b == 61) (b == 33) (b == 60) (b == 62) (begins_with 61 more)
-    (begins_with 62 more)
-  where
-    go : (equal bang less greater then_equal then_greater : Bool)
-        → NoFewer
-        (cond equal (Some (sign.Equal, 1)) (cond bang None (cond less (Some (sign.Less, 1))
-        (cond greater (Some (sign.Greater, 1)) None))))
-        (cond equal (Some (sign.Equal, cond then_equal 2 1))
-        (cond bang (cond then_equal (Some (sign.NotEqual, 2)) None)
-        (cond less (Some (cond then_greater (sign.NotEqual, 2)
-        (cond then_equal (sign.LessEqual, 2) (sign.Less, 1))))
-        (cond greater (cond then_equal (Some (sign.GreaterEqual, 2)) (Some (sign.Greater, 1)))
-        None))))
-    go true x y z true v = omega arith
-    go true x y z false v = omega arith
-    go false true y z u v = tt
-    go false false true z u true = omega arith
-    go false false true z true false = omega arith
-    go false false true z false false = omega arith
-    go false false false true true v = omega arith
-    go false false false true false v = omega arith
-    go false false false false u v = tt
+comparisons b more = grind arith
 
 signs : (b : ℕ) (bs more : List ℕ) → NoFewer (sign_front b bs) (sign_front b (bs ++ more))
 signs b [] more = both_more token_sign (λ n. n) (λ m n h. h) _ _ (go (single_sign b))

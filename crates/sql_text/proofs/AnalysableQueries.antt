@@ -1,219 +1,187 @@
--- What analysis asks of a query holds of each query that is read: WHERE has no call, HAVING has the operands of groups, and each
--- call has its argument.
-use Rattle.std.proofs.Common.{◌≡◌, ℕ, Bool, true, false, List, [], ◌∷◌, ◌++◌, map, flat_map, Option, Some, None, option_map, refl}
-use Rattle.std.specs.Prelude.{⊤, is_some}
+-- What analysis asks of a query holds of each query that is read: WHERE has no call, HAVING has the
+-- operands of groups, and each call has its argument.
+use Rattle.std.proofs.Common.{◌≡◌, ℕ, Bool, true, List, [], ◌∷◌, map, flat_map, Option, Some, None, option_map, refl}
+use Rattle.std.specs.Prelude.{is_some}
 use Rattle.std.specs.List.{All}
-use Rattle.std.proofs.lemmas.List.Elements.{All-nil, All-cons, All-head, All-tail, All-append}
-use Rattle.query_model.specs.Names.{Formula, column, number, arith, formula, cond_operands, operands_of, listed, item_calls, calls_of, IsNoCall, IsGroupOperand, takes_argument, HasItsArgument, IsAnalysable}
+use Rattle.std.proofs.lemmas.List.Elements.{All-nil, All-cons, All-head, All-tail, All-append, All-weaker}
+use Rattle.query_model.specs.Names.{formula, cond_operands, operands_of, listed, item_calls, calls_of, IsNoCall, IsGroupOperand, takes_argument, HasItsArgument, IsAnalysable}
 use Rattle.query_model.specs.declared.query.AggOp.{AggOp}
 use Rattle.query_model.specs.declared.query.AggCall.{AggCall}
 use Rattle.query_model.specs.declared.query.ColumnRef.{ColumnRef}
 use Rattle.query_model.specs.declared.query.ExprOf.{ExprOf}
 use Rattle.query_model.specs.declared.query.Operand.{Operand}
-use Rattle.query_model.specs.declared.query.CondOf.{CondOf}
 use Rattle.query_model.specs.declared.query.Item.{Item}
 use Rattle.query_model.specs.declared.query.ItemKind.{ItemKind}
-use Rattle.query_model.specs.declared.query.Items.{Items}
-use Rattle.query_model.specs.declared.query.TableRef.{TableRef}
-use Rattle.query_model.specs.declared.query.Join.{Join}
-use Rattle.query_model.specs.declared.query.OrderKey.{OrderKey}
-use Rattle.query_model.specs.declared.query.Span.{Span}
 use Rattle.query_model.specs.declared.query.Query.{Query}
 use Rattle.query_model.specs.declared.query.AggOp.TheVariants as agg
 use Rattle.query_model.specs.declared.query.ExprOf.TheVariants as expr
 use Rattle.query_model.specs.declared.query.Operand.TheVariants as operand
-use Rattle.query_model.specs.declared.query.CondOf.TheVariants as cond'
 use Rattle.query_model.specs.declared.query.ItemKind.TheVariants as kind
-use Rattle.query_model.specs.declared.query.Items.TheVariants as items
 use Rattle.sql_grammar.specs.declared.Sign.TheVariants as sign
 use Rattle.sql_grammar.specs.declared.Token.TheVariants as token
-use Rattle.sql_grammar.specs.Names.{has_argument, Expression, CallTree, Side, plain, text, call, Condition, compare, both, either, negated, ItemWhat, plain_item, call_item, ItemTree, Selection, star, listed as listed_items, QueryTree, side, condition, item_what, item_tree, selection, query_tree, Tokens, IsAgg, count_rows, count_star, call_over, IsOperand, an_expr, a_string, IsGroupOperand as IsGroupSide, a_key, a_call, a_constant, a_negative, a_text, IsCond, one_conj, disjunction, IsConj, one_neg, conjunction, IsNeg, negation, enclosed_cond, comparison, AreListed, last_one, one_more, IsWhat, an_expression, an_agg, IsItem, unnamed, named, IsSelection, all_columns, some_items, IsFilter, no_filter, filter_by, IsHaving, no_having, having_by, IsSource, source_of, IsShaping, shaping_of, IsQuery, select_query, IsText, bare, with_semicolon}
+use Rattle.sql_grammar.specs.Names.{has_argument, CallTree, Side, Condition, ItemWhat, ItemTree, Selection, QueryTree, call_tree, side, item_what, item_tree, Tokens, IsAgg, count_rows, count_star, call_over, IsOperand, an_expr, a_string, IsGroupOperand as IsGroupSide, a_call, IsCond, one_conj, disjunction, IsConj, one_neg, conjunction, IsNeg, negation, enclosed_cond, comparison, AreListed, last_one, one_more, IsWhat, an_expression, an_agg, IsItem, unnamed, named, IsSelection, all_columns, some_items, IsFilter, no_filter, filter_by, IsHaving, no_having, having_by, source_of, shaping_of, IsQuery, select_query, IsText, bare, with_semicolon}
+use Rattle.sql_grammar.proofs.Trees.{laid_expr, laid_call, laid_side, laid_condition, laid_what, laid_item, laid_items, laid, sides_of_are, items_are}
 use Rattle.sql_text.specs.Refusals.{IsReadBy}
 
--- ---- sides and calls of trees
+-- the calls of an item
+abbrev HaveArguments : ItemKind → Type 0
+HaveArguments k = All HasItsArgument (item_calls k)
 
-abbrev HasArgument : CallTree → Type 0
-HasArgument c = is_some c.arg ≡ takes_argument c.op
-
-abbrev NoCallSide : Side → Type 0
-NoCallSide (plain e) = ⊤
-NoCallSide (text t) = ⊤
-NoCallSide (call c) = ⊥
-
-abbrev GroupSide : Side → Type 0
-GroupSide (plain (column c)) = ⊤
-GroupSide (plain (number n)) = ⊤
-GroupSide (plain (arith op a b)) = ⊥
-GroupSide (text t) = ⊤
-GroupSide (call c) = HasArgument c
-
-abbrev AllSides : (Side → Type 0) → Condition → Type 0
-AllSides P (compare op a b) = P a × P b
-AllSides P (both a b) = AllSides P a × AllSides P b
-AllSides P (either a b) = AllSides P a × AllSides P b
-AllSides P (negated a) = AllSides P a
-
-abbrev SidesOf : (Side → Type 0) → Option Condition → Type 0
-SidesOf P None = ⊤
-SidesOf P (Some c) = AllSides P c
-
-abbrev ArgumentOf : ItemWhat → Type 0
-ArgumentOf (plain_item e) = ⊤
-ArgumentOf (call_item c) = HasArgument c
-
-abbrev ArgumentsOf : List ItemTree → Type 0
-ArgumentsOf [] = ⊤
-ArgumentsOf (i ∷ is) = ArgumentOf i.what × ArgumentsOf is
-
-abbrev SelectionArguments : Selection → Type 0
-SelectionArguments star = ⊤
-SelectionArguments (listed_items is) = ArgumentsOf is
-
--- ---- what is spelled
-
-takes_one : (op : AggOp) → has_argument op ≡ true → true ≡ takes_argument op
-takes_one agg.Count h = absurd cc
-takes_one agg.Sum h = refl
-takes_one agg.Min h = refl
-takes_one agg.Max h = refl
-
-agg_argument : {c : CallTree} {ts rest : Tokens} → IsAgg c ts rest → HasArgument c
-agg_argument (count_rows known) = refl
-agg_argument (count_star known) = refl
-agg_argument (call_over {op = op} known has e) = takes_one op has
-
-operand_side : (s : Side) (ts rest : Tokens) → IsOperand s ts rest → NoCallSide s
-operand_side s ts rest (an_expr e) = tt
-operand_side s ts rest a_string = tt
-
-group_side : (s : Side) (ts rest : Tokens) → IsGroupSide s ts rest → GroupSide s
-group_side s ts rest (a_key c) = tt
-group_side s ts rest (a_call c) = agg_argument c
-group_side s ts rest a_constant = tt
-group_side s ts rest a_negative = tt
-group_side s ts rest a_text = tt
-
-module _ (Op : Side → Tokens → Tokens → Type 0) (P : Side → Type 0) (each : (s : Side) (ts rest : Tokens) → Op s ts rest → P s) where
-  mutual
-    cond_sides : {c : Condition} {ts rest : Tokens} → IsCond Op c ts rest → AllSides P c
-    cond_sides (one_conj a) = conj_sides a
-    cond_sides (disjunction a b) = (cond_sides a, conj_sides b)
-
-    conj_sides : {c : Condition} {ts rest : Tokens} → IsConj Op c ts rest → AllSides P c
-    conj_sides (one_neg a) = neg_sides a
-    conj_sides (conjunction a b) = (conj_sides a, neg_sides b)
-
-    neg_sides : {c : Condition} {ts rest : Tokens} → IsNeg Op c ts rest → AllSides P c
-    neg_sides (negation a) = neg_sides a
-    neg_sides (enclosed_cond a) = cond_sides a
-    neg_sides (comparison a o b) = (each _ _ _ a, each _ _ _ b)
-
-filter_sides : {f : Option Condition} {ts rest : Tokens} → IsFilter f ts rest → SidesOf NoCallSide f
-filter_sides no_filter = tt
-filter_sides (filter_by c) = cond_sides IsOperand NoCallSide operand_side c
-
-having_sides : {f : Option Condition} {ts rest : Tokens} → IsHaving f ts rest → SidesOf GroupSide f
-having_sides no_having = tt
-having_sides (having_by c) = cond_sides IsGroupSide GroupSide group_side c
-
-what_argument : {w : ItemWhat} {ts rest : Tokens} → IsWhat w ts rest → ArgumentOf w
-what_argument (an_expression e) = tt
-what_argument (an_agg c) = agg_argument c
-
-item_argument : {i : ItemTree} {ts rest : Tokens} → IsItem i ts rest → ArgumentOf i.what
-item_argument (unnamed w) = what_argument w
-item_argument (named w) = what_argument w
-
-items_arguments : {is : List ItemTree} {ts rest : Tokens} → AreListed IsItem (token.Sign sign.Comma) is ts rest → ArgumentsOf is
-items_arguments (last_one i) = (item_argument i, tt)
-items_arguments (one_more i is) = (item_argument i, items_arguments is)
-
-selection_arguments : {s : Selection} {ts rest : Tokens} → IsSelection s ts rest → SelectionArguments s
-selection_arguments all_columns = tt
-selection_arguments (some_items is) = items_arguments is
-
-source_sides : {t : TableRef} {j : Option Join} {f : Option Condition} {ts rest : Tokens} → IsSource t j f ts rest → SidesOf NoCallSide f
-source_sides (source_of t j f) = filter_sides f
-
-shaping_sides : {ks : List ColumnRef} {h : Option Condition} {os : List OrderKey} {l : Option Span} {ts rest : Tokens} → IsShaping ks h os l ts rest → SidesOf GroupSide h
-shaping_sides (shaping_of keys having order limit) = having_sides having
-
-record IsAnalysableTree (t : QueryTree) : Type 0 where
-  items : SelectionArguments t.items
-  filter : SidesOf NoCallSide t.filter
-  having : SidesOf GroupSide t.having
-
-query_sides : {t : QueryTree} {ts rest : Tokens} → IsQuery t ts rest → IsAnalysableTree t
-query_sides (select_query items source shaping) = record { items = selection_arguments items; filter = source_sides source; having = shaping_sides shaping }
-
-text_sides : {t : QueryTree} {ts : Tokens} → IsText t ts → IsAnalysableTree t
-text_sides (bare q) = query_sides q
-text_sides (with_semicolon q) = query_sides q
-
--- ---- the query of such a tree
-
-no_call_operand : (o : Operand ColumnRef) → NoCallSide (side o) → IsNoCall o
-no_call_operand (operand.Plain e) h = tt
-no_call_operand (operand.Text t) h = tt
-no_call_operand (operand.Agg c) h = h
-
-has_its_argument : (c : AggCall ColumnRef) → is_some (option_map formula c.arg) ≡ takes_argument c.op → HasItsArgument c
-has_its_argument c h = go c.arg h
-  where
-    go : (a : Option (ExprOf ColumnRef)) → is_some (option_map formula a) ≡ takes_argument c.op → is_some a ≡ takes_argument c.op
-    go None h = h
-    go (Some e) h = h
+abbrev HasArguments : Item → Type 0
+HasArguments i = HaveArguments i.what
 
 -- an operand of HAVING whose call has its argument
 abbrev IsGroupWith : Operand ColumnRef → Type 0
 IsGroupWith o = IsGroupOperand o × All HasItsArgument (calls_of o)
 
-group_operand : (o : Operand ColumnRef) → GroupSide (side o) → IsGroupWith o
-group_operand (operand.Plain (expr.Column c)) h = (tt, All-nil HasItsArgument)
-group_operand (operand.Plain (expr.Number n)) h = (tt, All-nil HasItsArgument)
-group_operand (operand.Plain (expr.Arith' op p a q b)) h = absurd h
-group_operand (operand.Text t) h = (tt, All-nil HasItsArgument)
-group_operand (operand.Agg c) h = (tt, All-cons HasItsArgument c [] (has_its_argument c h) (All-nil HasItsArgument))
+one : (c : AggCall ColumnRef) → HasItsArgument c → All HasItsArgument (c ∷ [])
+one c h = All-cons HasItsArgument c [] h (All-nil HasItsArgument)
 
-module _ (P : Side → Type 0) (Q : Operand ColumnRef → Type 0) (each : (o : Operand ColumnRef) → P (side o) → Q o) where
-  cond_operands_are : (c : CondOf ColumnRef) → AllSides P (condition c) → All Q (cond_operands c)
-  unfolding cond_operands
-  cond_operands_are (cond'.Compare op a b) h = All-cons Q a (b ∷ []) (each a h.0) (All-cons Q b [] (each b h.1) (All-nil Q))
-  cond_operands_are (cond'.And' p a q b) h = All-append Q (cond_operands a) (cond_operands b) (cond_operands_are a h.0) (cond_operands_are b h.1)
-  cond_operands_are (cond'.Or' p a q b) h = All-append Q (cond_operands a) (cond_operands b) (cond_operands_are a h.0) (cond_operands_are b h.1)
-  cond_operands_are (cond'.Not' p a) h = cond_operands_are a h
+-- ---- the query of a tree that is spelled
 
-  operands_are : (f : Option (CondOf ColumnRef)) → SidesOf P (option_map condition f) → All Q (operands_of f)
-  operands_are None h = All-nil Q
-  operands_are (Some c) h = cond_operands_are c h
+takes_one : (op : AggOp) → has_argument op ≡ true → true ≡ takes_argument op
+takes_one agg.Count h = absurd cc
+takes_one _ h = refl
 
-group_operands : (os : List (Operand ColumnRef)) → All IsGroupWith os → All IsGroupOperand os × All HasItsArgument (flat_map calls_of os)
-group_operands [] h = (All-nil IsGroupOperand, All-nil HasItsArgument)
-group_operands (o ∷ os) h =
-    let first = All-head IsGroupWith o os h in
-    let rest = group_operands os (All-tail IsGroupWith o os h) in
-    (All-cons IsGroupOperand o os first.0 rest.0, All-append HasItsArgument (calls_of o) (flat_map calls_of os) first.1 rest.1)
+agg_argument : {c : CallTree} {ts rest : Tokens} → IsAgg c ts rest → HasItsArgument (laid_call c)
+agg_argument (count_rows known) = refl
+agg_argument (count_star known) = refl
+agg_argument (call_over {op = op} known has e) = takes_one op has
 
-item_call_arguments : (k : ItemKind) → ArgumentOf (item_what k) → All HasItsArgument (item_calls k)
-item_call_arguments (kind.Plain e) h = All-nil HasItsArgument
-item_call_arguments (kind.Agg c) h = All-cons HasItsArgument c [] (has_its_argument c h) (All-nil HasItsArgument)
+row_side : (s : Side) (ts rest : Tokens) → IsOperand s ts rest → IsNoCall (laid_side s)
+row_side s ts rest (an_expr e) = tt
+row_side s ts rest a_string = tt
 
-list_arguments : (is : List Item) → ArgumentsOf (map item_tree is) → All HasItsArgument (flat_map (λ (i : Item). item_calls i.what) is)
-list_arguments [] h = All-nil HasItsArgument
-list_arguments (i ∷ is) h =
-    All-append HasItsArgument (item_calls i.what) (flat_map (λ (i : Item). item_calls i.what) is) (item_call_arguments i.what h.0) (list_arguments is h.1)
+group_side : (s : Side) (ts rest : Tokens) → IsGroupSide s ts rest → IsGroupWith (laid_side s)
+group_side s ts rest (a_call {c = c} is) = (tt, one (laid_call c) (agg_argument is))
+group_side s ts rest _ = (tt, All-nil HasItsArgument)
 
-listed_arguments : (s : Items) → SelectionArguments (selection s) → All HasItsArgument (flat_map (λ (i : Item). item_calls i.what) (listed s))
-listed_arguments items.Star h = All-nil HasItsArgument
-listed_arguments (items.Listed is) h = list_arguments is h
+module _ (Op : Side → Tokens → Tokens → Type 0) (P : Operand ColumnRef → Type 0)
+    (each : (s : Side) (ts rest : Tokens) → Op s ts rest → P (laid_side s)) where
+  mutual
+    unfolding cond_operands
+
+    cond_sides : {c : Condition} {ts rest : Tokens} → IsCond Op c ts rest
+        → All P (cond_operands (laid_condition c))
+    cond_sides (one_conj a) = conj_sides a
+    cond_sides (disjunction a b) = All-append P _ _ (cond_sides a) (conj_sides b)
+
+    conj_sides : {c : Condition} {ts rest : Tokens} → IsConj Op c ts rest
+        → All P (cond_operands (laid_condition c))
+    conj_sides (one_neg a) = neg_sides a
+    conj_sides (conjunction a b) = All-append P _ _ (conj_sides a) (neg_sides b)
+
+    neg_sides : {c : Condition} {ts rest : Tokens} → IsNeg Op c ts rest
+        → All P (cond_operands (laid_condition c))
+    neg_sides (negation a) = neg_sides a
+    neg_sides (enclosed_cond a) = cond_sides a
+    neg_sides (comparison {a = a} {b = b} l o r) =
+        All-cons P (laid_side a) (laid_side b ∷ []) (each _ _ _ l)
+        (All-cons P (laid_side b) [] (each _ _ _ r) (All-nil P))
+
+what_arguments : {w : ItemWhat} {ts rest : Tokens} → IsWhat w ts rest → HaveArguments (laid_what w)
+what_arguments (an_expression e) = All-nil HasItsArgument
+what_arguments (an_agg {c = c} is) = one (laid_call c) (agg_argument is)
+
+item_arguments : {i : ItemTree} {ts rest : Tokens} → IsItem i ts rest
+    → HaveArguments (laid_item i).what
+item_arguments (unnamed w) = what_arguments w
+item_arguments (named w) = what_arguments w
+
+items_arguments : {is : List ItemTree} {ts rest : Tokens}
+    → AreListed IsItem (token.Sign sign.Comma) is ts rest
+    → All HasArguments (map laid_item is)
+items_arguments (last_one i) = All-cons HasArguments _ [] (item_arguments i) (All-nil HasArguments)
+items_arguments (one_more i is) = All-cons HasArguments _ _ (item_arguments i) (items_arguments is)
+
+record IsAnalysableTree (t : QueryTree) : Type 0 where
+  items : All HasArguments (listed (laid t).items)
+  filter : All IsNoCall (operands_of (laid t).filter)
+  having : All IsGroupWith (operands_of (laid t).having)
+
+query_sides : {t : QueryTree} {ts rest : Tokens} → IsQuery t ts rest → IsAnalysableTree t
+query_sides (select_query items (source_of t j f) (shaping_of k h o l)) =
+    record { items = of_items items; filter = of_filter f; having = of_having h }
+  where
+    of_items : {s : Selection} {ts rest : Tokens} → IsSelection s ts rest
+        → All HasArguments (listed (laid_items s))
+    of_items all_columns = All-nil HasArguments
+    of_items (some_items is) = items_arguments is
+
+    of_filter : {f : Option Condition} {ts rest : Tokens} → IsFilter f ts rest
+        → All IsNoCall (operands_of (option_map laid_condition f))
+    of_filter no_filter = All-nil IsNoCall
+    of_filter (filter_by c) = cond_sides IsOperand IsNoCall row_side c
+
+    of_having : {f : Option Condition} {ts rest : Tokens} → IsHaving f ts rest
+        → All IsGroupWith (operands_of (option_map laid_condition f))
+    of_having no_having = All-nil IsGroupWith
+    of_having (having_by c) = cond_sides IsGroupSide IsGroupWith group_side c
+
+text_sides : {t : QueryTree} {ts : Tokens} → IsText t ts → IsAnalysableTree t
+text_sides (bare q) = query_sides q
+text_sides (with_semicolon q) = query_sides q
+
+-- ---- a query whose boxes lie elsewhere
+
+-- what holds of elements that are seen by g and laid by h
+unlaid : {A C : Type 0} (g : A → C) (h : C → A) (P : A → Type 0) → ((x : A) → P (h (g x)) → P x)
+    → (xs : List A) → All P (map h (map g xs)) → All P xs
+unlaid g h P back [] all = All-nil P
+unlaid g h P back (x ∷ xs) all =
+    All-cons P x xs (back x (All-head P (h (g x)) (map h (map g xs)) all))
+    (unlaid g h P back xs (All-tail P (h (g x)) (map h (map g xs)) all))
+
+no_call : (o : Operand ColumnRef) → IsNoCall (laid_side (side o)) → IsNoCall o
+no_call (operand.Agg c) h = h
+no_call _ h = tt
+
+argument : (c : AggCall ColumnRef) → HasItsArgument (laid_call (call_tree c)) → HasItsArgument c
+argument c h = go c.arg h
+  where
+    go : (a : Option (ExprOf ColumnRef))
+        → is_some (option_map laid_expr (option_map formula a)) ≡ takes_argument c.op
+        → is_some a ≡ takes_argument c.op
+    go None h = h
+    go (Some e) h = h
+
+group_operand : (o : Operand ColumnRef) → IsGroupWith (laid_side (side o)) → IsGroupWith o
+group_operand (operand.Plain (expr.Column c)) h = h
+group_operand (operand.Plain (expr.Number n)) h = h
+group_operand (operand.Plain (expr.Arith' op p a q b)) h = h
+group_operand (operand.Text t) h = h
+group_operand (operand.Agg c) h =
+    (tt, one c (argument c (All-head HasItsArgument (laid_call (call_tree c)) [] h.1)))
+
+item_calls_are : (i : Item) → HaveArguments (laid_item (item_tree i)).what → HaveArguments i.what
+item_calls_are i h = go i.what h
+  where
+    go : (k : ItemKind) → HaveArguments (laid_what (item_what k)) → HaveArguments k
+    go (kind.Plain e) h = All-nil HasItsArgument
+    go (kind.Agg c) h = one c (argument c (All-head HasItsArgument (laid_call (call_tree c)) [] h))
+
+flattened : {A : Type 0} (f : A → List (AggCall ColumnRef)) (xs : List A)
+    → All (λ x. All HasItsArgument (f x)) xs → All HasItsArgument (flat_map f xs)
+flattened f [] h = All-nil HasItsArgument
+flattened f (x ∷ xs) h =
+    All-append HasItsArgument (f x) (flat_map f xs)
+    (All-head (λ x. All HasItsArgument (f x)) x xs h)
+    (flattened f xs (All-tail (λ x. All HasItsArgument (f x)) x xs h))
 
 -- what is read may be analysed
 pub analysable_of_read : (strict : Bool) (q : Query) (bytes : List ℕ) → IsReadBy strict q bytes → IsAnalysable q
 analysable_of_read strict q bytes read =
     let t = text_sides read.spells.text in
-    let having = group_operands (operands_of q.having) (operands_are GroupSide IsGroupWith group_operand q.having t.having) in
+    let items = unlaid item_tree laid_item HasArguments item_calls_are
+    (listed q.items) (rw items_are at t.items) in
+    let having = unlaid side laid_side IsGroupWith group_operand (operands_of q.having)
+    (rw sides_of_are at t.having) in
     record {
-      filter = operands_are NoCallSide IsNoCall no_call_operand q.filter t.filter;
-      having = having.0;
-      calls = All-append HasItsArgument (flat_map (λ (i : Item). item_calls i.what) (listed q.items)) (flat_map calls_of (operands_of q.having)) (listed_arguments q.items t.items) having.1;
+      filter = unlaid side laid_side IsNoCall no_call (operands_of q.filter)
+          (rw sides_of_are at t.filter);
+      having = All-weaker IsGroupWith IsGroupOperand (λ o h. h.0) (operands_of q.having) having;
+      calls = All-append HasItsArgument _ _
+          (flattened (λ (i : Item). item_calls i.what) (listed q.items) items)
+          (flattened calls_of (operands_of q.having)
+          (All-weaker IsGroupWith _ (λ o h. h.1) (operands_of q.having) having));
     }

@@ -1,5 +1,5 @@
 -- What a spelling leaves stands behind at least one token of what it begins with.
-use Rattle.std.proofs.Common.{◌≡◌, ℕ, ◌<◌, List, ◌∷◌, length, Option, arith}
+use Rattle.std.proofs.Common.{◌<◌, List, ◌∷◌, length, arith}
 use Rattle.query_model.specs.declared.query.ColumnRef.{ColumnRef}
 use Rattle.query_model.specs.declared.query.Join.{Join}
 use Rattle.query_model.specs.declared.query.NamePair.{NamePair}

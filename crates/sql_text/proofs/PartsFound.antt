@@ -1,5 +1,5 @@
 -- What is spelled is read.
-use Rattle.std.proofs.Common.{◌≡◌, ℕ, suc, ◌<◌, ◌≤◌, true, List, [], ◌∷◌, length, Some, None, option_and_then, option_map, refl, ap, ◌∙◌, arith}
+use Rattle.std.proofs.Common.{◌≡◌, ℕ, suc, ◌<◌, ◌≤◌, true, List, ◌∷◌, length, Some, None, option_and_then, option_map, refl, ap, ◌∙◌, arith}
 use Rattle.query_model.specs.Formulas.{column}
 use Rattle.query_model.specs.declared.query.AggOp.{AggOp}
 use Rattle.query_model.specs.declared.query.ColumnRef.{ColumnRef}
@@ -13,7 +13,7 @@ use Rattle.sql_grammar.specs.declared.Sign.TheVariants as sign
 use Rattle.sql_text.specs.declared.part.Clause.{Clause}
 use Rattle.sql_text.specs.declared.part.Clause.TheVariants as clause
 use Rattle.sql_text.specs.declared.part.Joint.TheVariants as joint
-use Rattle.sql_text.specs.Parts.{Parsed, expression, string, aggregate, truth, Reads, joint_of, if_level, next_joint, combined, side_of, column_at, closed_at, call_over, call_at, called, call_or_column, negation_at, first_part, part_at}
+use Rattle.sql_text.specs.Parts.{Parsed, expression, string, aggregate, truth, Reads, joint_of, if_level, next_joint, combined, side_of, dotted, closed_at, call_over, call_at, called, call_or_column, negation_at, first_part, part_at}
 use Rattle.sql_text.proofs.Behind.{IsBehind, shorter, expr_behind, term_behind, factor_behind, operand_behind, group_operand_behind, cond_behind, conj_behind, neg_behind}
 use Rattle.sql_text.proofs.Turns.{ends_name, if_level-found, if_level-none, loose, tighter, Goes, from_first, onward, deeper}
 
@@ -51,15 +51,14 @@ neg_shorter k is = shorter (neg_behind (operands_in k) (λ s ts rest o. operand_
 
 -- ---- expressions
 
-unqualified_found : (name : List ℕ) (ts : Tokens) → ends_name ts ≡ true
-    → column_at name ts ≡ (expression (column (record { table = None; name = name })), ts)
-unqualified_found name (token.Sign sign.Dot ∷ ts) h = cc
-unqualified_found name (token.Sign sign.Open ∷ ts) h = cc
-unqualified_found name _ h = refl
+pub dotted_found : (name : List ℕ) (ts : Tokens) → ends_name ts ≡ true
+    → dotted name ts ≡ (record { table = None; name = name }, ts)
+dotted_found name (token.Sign sign.Dot ∷ ts) h = cc
+dotted_found name _ h = refl
 
 column_found : (n : ℕ) {c : ColumnRef} {ts rest : Tokens} → IsColumn c ts rest → ends_name rest ≡ true
     → first_part clause.OfRows (part_at n) ts ≡ Some (expression (column c), rest)
-column_found n (unqualified {name = name} {rest = rest}) h = ap Some (unqualified_found name rest h)
+column_found n (unqualified {name = name} {rest = rest}) h = rw (dotted_found name rest h) refl
 column_found n qualified h = refl
 
 -- what stands in parentheses
@@ -151,7 +150,7 @@ nothing_called w _ h = refl
 key_found : (n : ℕ) {c : ColumnRef} {ts rest : Tokens} → IsColumn c ts rest → ends_name rest ≡ true
     → first_part clause.OfGroups (part_at n) ts ≡ Some (expression (column c), rest)
 key_found n (unqualified {name = name} {rest = rest}) h =
-    ap (call_or_column (part_at n) name rest) (nothing_called name rest h) ∙ ap Some (unqualified_found name rest h)
+    rw (nothing_called name rest h, dotted_found name rest h) refl
 key_found n qualified h = refl
 
 -- ---- conditions

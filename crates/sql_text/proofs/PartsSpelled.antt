@@ -1,5 +1,5 @@
 -- What is read is spelled so.
-use Rattle.std.proofs.Common.{◌≡◌, ℕ, zero, suc, ◌<◌, ◌≤◌, Bool, true, false, cond, nat_le, List, [], ◌∷◌, length, Option, Some, None, option_and_then, option_map, IfSome, refl, sym, ap, subst, ◌∙◌, arith}
+use Rattle.std.proofs.Common.{◌≡◌, ℕ, zero, suc, ◌≤◌, Bool, true, false, cond, nat_le, List, [], ◌∷◌, length, Option, Some, None, option_and_then, option_map, IfSome, refl, sym, ap, subst, ◌∙◌, arith}
 use Rattle.std.proofs.lemmas.Option.{same_Some}
 use Rattle.query_model.specs.Formulas.{number, arith as arithmetic}
 use Rattle.query_model.specs.declared.query.AggOp.{AggOp}
@@ -7,7 +7,7 @@ use Rattle.query_model.specs.declared.query.ArithOp.{ArithOp}
 use Rattle.query_model.specs.declared.query.CompareOp.{CompareOp}
 use Rattle.query_model.specs.declared.query.AggOp.TheVariants as agg
 use Rattle.query_model.specs.declared.query.ArithOp.TheVariants as op
-use Rattle.sql_grammar.specs.Names.{aggregate_of, has_argument, Expression, CallTree, Side, plain, text, Condition, compare, both, Tokens, unqualified, qualified, IsExpr, one_term, sum, difference, IsTerm, one_factor, product, IsFactor, a_column, a_number, negative, enclosed, IsAgg, count_rows, count_star, call_over as called_over, IsOperand, an_expr, a_string, IsGroupOperand, a_key, a_call, a_constant, a_negative, a_text, IsComparison, equal, not_equal, less, less_equal, greater, greater_equal, IsCond, one_conj, disjunction, IsConj, one_neg, conjunction, IsNeg, negation, enclosed_cond, comparison}
+use Rattle.sql_grammar.specs.Names.{aggregate_of, has_argument, Expression, CallTree, Side, plain, text, Condition, compare, both, Tokens, IsColumn, unqualified, qualified, IsExpr, one_term, sum, difference, IsTerm, one_factor, product, IsFactor, a_column, a_number, negative, enclosed, IsAgg, count_rows, count_star, call_over as called_over, IsOperand, an_expr, a_string, IsGroupOperand, a_key, a_call, a_constant, a_negative, a_text, IsComparison, equal, not_equal, less, less_equal, greater, greater_equal, IsCond, one_conj, disjunction, IsConj, one_neg, conjunction, IsNeg, negation, enclosed_cond, comparison}
 use Rattle.sql_grammar.specs.declared.Token.{Token}
 use Rattle.sql_grammar.specs.declared.Keyword.{Keyword}
 use Rattle.sql_grammar.specs.declared.Sign.{Sign}
@@ -18,10 +18,9 @@ use Rattle.sql_text.specs.declared.part.Joint.{Joint}
 use Rattle.sql_text.specs.declared.part.Joint.TheVariants as joint
 use Rattle.sql_text.specs.declared.part.Clause.{Clause}
 use Rattle.sql_text.specs.declared.part.Clause.TheVariants as clause
-use Rattle.sql_text.specs.Parts.{Parsed, expression, string, aggregate, truth, Reading, Reads, sign_joint, keyword_joint, joint_of, level, if_level, next_joint, if_both, calculated, combined, side_of, plain_of, column_at, negative_at, closed_at, count_at, over, call_over, call_at, called, call_or_column, word_at, negation_at, first_sign, first_keyword, first_part, turn_of, joined_at, joined, part_at}
+use Rattle.sql_text.specs.Parts.{Parsed, expression, string, aggregate, truth, Reading, Reads, sign_joint, keyword_joint, joint_of, level, if_level, next_joint, if_both, calculated, combined, side_of, plain_of, dotted, column_at, negative_at, closed_at, count_at, over, call_over, call_at, called, call_or_column, word_at, negation_at, first_sign, first_keyword, first_part, turn_of, joined_at, joined, part_at}
 use Rattle.sql_text.proofs.Turns.{level_below, loose, tighter}
-use Rattle.sql_text.proofs.Behind.{shorter, group_operand_behind, agg_behind}
-use Rattle.sql_text.proofs.PartsFound.{operands_in, expr_shorter, cond_shorter}
+use Rattle.sql_text.proofs.PartsFound.{operands_in}
 
 pub bind : {A B : Type 0} (P : A → Type 0) (Q : B → Type 0) (f : A → Option B) (o : Option A)
     → IfSome o P → ((x : A) → P x → IfSome (f x) Q) → IfSome (option_and_then f o) Q
@@ -103,16 +102,12 @@ over_spelled : (w : List ℕ) (op : AggOp) (v : Parsed) (ts mid : Tokens) → ag
     → IsPart clause.OfRows 5 v ts mid
     → IfSome (option_and_then (λ e. over op e mid) (plain_of v)) (λ r. IsAgg r.0 (token.Name w ∷ token.Sign sign.Open ∷ ts) r.1)
 over_spelled w op (expression e) ts (token.Sign sign.Close ∷ rest) h k is = called_over h k is.expr
-over_spelled w op (expression e) ts _ h k is = tt
-over_spelled w op (string t) ts mid h k is = tt
-over_spelled w op (aggregate c) ts mid h k is = tt
-over_spelled w op (truth c) ts mid h k is = tt
+over_spelled w op _ ts _ h k is = tt
 
 read_over_spelled : (inner : Reads) → AreSpelled inner → (w : List ℕ) (op : AggOp) (ts : Tokens) → aggregate_of w ≡ Some op → has_argument op ≡ true
     → IfSome (call_over op (inner clause.OfRows 5 ts)) (λ r. IsAgg r.0 (token.Name w ∷ token.Sign sign.Open ∷ ts) r.1)
 read_over_spelled inner h w op ts known has =
-    bind (λ p. Found clause.OfRows 5 p.0 ts p.1) (λ r. IsAgg r.0 (token.Name w ∷ token.Sign sign.Open ∷ ts) r.1)
-    (λ p. option_and_then (λ e. over op e p.1) (plain_of p.0)) (inner clause.OfRows 5 ts) (h clause.OfRows 5 ts (omega arith))
+    bind _ _ _ (inner clause.OfRows 5 ts) (h clause.OfRows 5 ts (omega arith))
     (λ p found. over_spelled w op p.0 ts p.1 known has found.is)
 
 pub call_spelled : (inner : Reads) → AreSpelled inner → (w : List ℕ) (op : AggOp) (ts : Tokens) → aggregate_of w ≡ Some op
@@ -143,11 +138,14 @@ word_called inner h w ts c e =
 
 -- ---- single parts
 
+pub dotted_spelled : (name : List ℕ) (ts : Tokens)
+    → IsColumn (dotted name ts).0 (token.Name name ∷ ts) (dotted name ts).1
+dotted_spelled name (token.Sign sign.Dot ∷ token.Name c ∷ ts) = qualified
+dotted_spelled name _ = unqualified
+
 column_spelled : (k : Clause) (w : List ℕ) (ts : Tokens) → IsPart k 7 (column_at w ts).0 (token.Name w ∷ ts) (column_at w ts).1
-column_spelled clause.OfRows w (token.Sign sign.Dot ∷ token.Name c ∷ ts) = a_factor 7 (a_column qualified)
-column_spelled clause.OfRows w _ = a_factor 7 (a_column unqualified)
-column_spelled clause.OfGroups w (token.Sign sign.Dot ∷ token.Name c ∷ ts) = a_key qualified
-column_spelled clause.OfGroups w _ = a_key unqualified
+column_spelled clause.OfRows w ts = a_factor 7 (a_column (dotted_spelled w ts))
+column_spelled clause.OfGroups w ts = a_key (dotted_spelled w ts)
 
 word_spelled : (k : Clause) (inner : Reads) → AreSpelled inner → (w : List ℕ) (ts : Tokens)
     → IfSome (word_at k inner w ts) (λ r. IsPart k 7 r.0 (token.Name w ∷ ts) r.1)
@@ -158,8 +156,7 @@ word_spelled clause.OfGroups inner h w ts = go (called w ts) refl
         → IfSome (call_or_column inner w ts o) (λ r. IsPart clause.OfGroups 7 r.0 (token.Name w ∷ ts) r.1)
     go None e = column_spelled clause.OfGroups w ts
     go (Some c) e =
-        map_some (λ r. IsAgg r.0 (token.Name w ∷ ts) r.1) (λ r. IsPart clause.OfGroups 7 r.0 (token.Name w ∷ ts) r.1) (λ r. (aggregate r.0, r.1))
-        (call_at inner c.0 c.1) (word_called inner h w ts c e) (λ r is. is)
+        map_some _ _ _ (call_at inner c.0 c.1) (word_called inner h w ts c e) (λ r is. is)
 
 number_spelled : (k : Clause) (n : ℕ) (ts : Tokens) → IsPart k 7 (expression (number (record { negative = false; size = n }))) (token.Number n ∷ ts) ts
 number_spelled clause.OfRows n ts = a_factor 7 a_number
@@ -173,33 +170,27 @@ negative_spelled k _ = tt
 closed_spelled : (k : Clause) (v : Parsed) (ts mid : Tokens) → IsPart k 1 v ts mid
     → IfSome (closed_at k v mid) (λ r. IsPart k 7 r.0 (token.Sign sign.Open ∷ ts) r.1)
 closed_spelled clause.OfRows (expression e) ts (token.Sign sign.Close ∷ rest) is = a_factor 7 (enclosed is.expr)
-closed_spelled clause.OfRows (expression e) ts _ is = tt
-closed_spelled clause.OfGroups (expression e) ts mid is = tt
 closed_spelled k (truth c) ts (token.Sign sign.Close ∷ rest) is = a_neg k 7 (enclosed_cond is.cond')
-closed_spelled k (truth c) ts _ is = tt
-closed_spelled k (string t) ts mid is = tt
-closed_spelled k (aggregate c) ts mid is = tt
+closed_spelled k _ ts _ is = tt
 
 negation_spelled : (k : Clause) (v : Parsed) (ts rest : Tokens) → IsPart k 4 v ts rest
     → IfSome (negation_at v rest) (λ r. IsPart k 7 r.0 (token.Keyword keyword.Not ∷ ts) r.1)
-negation_spelled k (expression e) ts rest is = tt
-negation_spelled k (string t) ts rest is = tt
-negation_spelled k (aggregate c) ts rest is = tt
 negation_spelled k (truth c) ts rest is = a_neg k 7 (negation (is.neg (omega arith)))
+negation_spelled k _ ts rest is = tt
 
 sign_spelled : (k : Clause) (inner : Reads) → AreSpelled inner → (s : Sign) (ts : Tokens)
     → IfSome (first_sign k inner s ts) (λ r. IsPart k 7 r.0 (token.Sign s ∷ ts) r.1)
 sign_spelled k inner h sign.Open ts =
-    bind (λ p. Found k 1 p.0 ts p.1) (λ r. IsPart k 7 r.0 (token.Sign sign.Open ∷ ts) r.1) (λ p. closed_at k p.0 p.1) (inner k 1 ts)
-    (h k 1 ts (omega arith)) (λ p found. closed_spelled k p.0 ts p.1 found.is)
+    bind _ _ _ (inner k 1 ts) (h k 1 ts (omega arith))
+    (λ p found. closed_spelled k p.0 ts p.1 found.is)
 sign_spelled k inner h sign.Minus ts = negative_spelled k ts
 sign_spelled k inner h _ ts = tt
 
 keyword_spelled : (k : Clause) (inner : Reads) → AreSpelled inner → (w : Keyword) (ts : Tokens)
     → IfSome (first_keyword k inner w ts) (λ r. IsPart k 7 r.0 (token.Keyword w ∷ ts) r.1)
 keyword_spelled k inner h keyword.Not ts =
-    bind (λ p. Found k 4 p.0 ts p.1) (λ r. IsPart k 7 r.0 (token.Keyword keyword.Not ∷ ts) r.1) (λ p. negation_at p.0 p.1) (inner k 4 ts)
-    (h k 4 ts (omega arith)) (λ p found. negation_spelled k p.0 ts p.1 found.is)
+    bind _ _ _ (inner k 4 ts) (h k 4 ts (omega arith))
+    (λ p found. negation_spelled k p.0 ts p.1 found.is)
 keyword_spelled k inner h _ ts = tt
 
 first_spelled : (k : Clause) (inner : Reads) → AreSpelled inner → (ts : Tokens) → IfSome (first_part k inner ts) (λ r. IsPart k 7 r.0 ts r.1)
@@ -240,12 +231,9 @@ keyword_is keyword.Or = refl
 keyword_is _ = tt
 
 token_is : (t : Token) → IfSome (joint_of t) (λ j. IsJoint j t)
-token_is (token.Name w) = tt
 token_is (token.Keyword k) = keyword_is k
-token_is (token.Number n) = tt
-token_is token.LargeNumber = tt
-token_is (token.Text t) = tt
 token_is (token.Sign s) = sign_is s
+token_is _ = tt
 
 -- the joint at the front, where none binds more tightly than bound
 record Joins (least bound : ℕ) (ts mid : Tokens) (j : Joint) : Type 0 where
@@ -278,7 +266,6 @@ next_joins least bound (t ∷ ts) none = if_level-joins least bound t ts (joint_
 arith_spelled : (k : Clause) (o : ArithOp) (bound : ℕ) (v w : Parsed) (ts mid rest : Tokens) (t : Token) → IsJoint (joint.Arith o) t
     → level (joint.Arith o) ≤ bound → IsPart k bound v ts (t ∷ mid) → IsPart k (suc (level (joint.Arith o))) w mid rest
     → IfSome (calculated k o v w) (λ u. IsPart k (level (joint.Arith o)) u ts rest)
-arith_spelled clause.OfGroups o bound v w ts mid rest t is h l r = tt
 arith_spelled clause.OfRows op.Add bound (expression a) (expression b) ts mid rest t is h l r =
     record { expr = sum (subst (λ (x : Token). IsExpr a ts (x ∷ mid)) is l.expr) (r.term (omega arith)); term = λ k. absurd (omega arith); factor = λ k. absurd (omega arith) }
 arith_spelled clause.OfRows op.Sub bound (expression a) (expression b) ts mid rest t is h l r =
@@ -286,12 +273,7 @@ arith_spelled clause.OfRows op.Sub bound (expression a) (expression b) ts mid re
 arith_spelled clause.OfRows op.Mul bound (expression a) (expression b) ts mid rest t is h l r =
     let p : IsTerm (arithmetic op.Mul a b) ts rest = product (subst (λ (x : Token). IsTerm a ts (x ∷ mid)) is (l.term (omega arith))) (r.factor (omega arith)) in
     record { expr = one_term p; term = λ k. p; factor = λ k. absurd (omega arith) }
-arith_spelled clause.OfRows o bound (expression a) (string b) ts mid rest t is h l r = tt
-arith_spelled clause.OfRows o bound (expression a) (aggregate b) ts mid rest t is h l r = tt
-arith_spelled clause.OfRows o bound (expression a) (truth b) ts mid rest t is h l r = tt
-arith_spelled clause.OfRows o bound (string a) w ts mid rest t is h l r = tt
-arith_spelled clause.OfRows o bound (aggregate a) w ts mid rest t is h l r = tt
-arith_spelled clause.OfRows o bound (truth a) w ts mid rest t is h l r = tt
+arith_spelled _ o bound v w ts mid rest t is h l r = tt
 
 -- a part that may be a side of a comparison
 as_operand : (k : Clause) (tight : ℕ) (v : Parsed) (ts rest : Tokens) → IsPart k tight v ts rest → IfSome (side_of v) (λ s. operands_in k s ts rest)
@@ -316,23 +298,13 @@ module _ (k : Clause) where
   and_spelled bound (truth a) (truth b) ts mid rest t is h l r =
       let c : IsConj (operands_in k) (both a b) ts rest = conjunction (subst (λ (x : Token). IsConj (operands_in k) a ts (x ∷ mid)) is (l.conj h)) (r.neg (omega arith)) in
       record { cond' = one_conj c; conj = λ i. c; neg = λ i. absurd (omega arith) }
-  and_spelled bound (truth a) (expression b) ts mid rest t is h l r = tt
-  and_spelled bound (truth a) (string b) ts mid rest t is h l r = tt
-  and_spelled bound (truth a) (aggregate b) ts mid rest t is h l r = tt
-  and_spelled bound (expression a) w ts mid rest t is h l r = tt
-  and_spelled bound (string a) w ts mid rest t is h l r = tt
-  and_spelled bound (aggregate a) w ts mid rest t is h l r = tt
+  and_spelled bound _ _ ts mid rest t is h l r = tt
 
   or_spelled : (bound : ℕ) (v w : Parsed) (ts mid rest : Tokens) (t : Token) → t ≡ token.Keyword keyword.Or
       → IsPart k bound v ts (t ∷ mid) → IsPart k 2 w mid rest → IfSome (combined k joint.Or v w) (λ u. IsPart k 1 u ts rest)
   or_spelled bound (truth a) (truth b) ts mid rest t is l r =
       record { cond' = disjunction (subst (λ (x : Token). IsCond (operands_in k) a ts (x ∷ mid)) is l.cond') (r.conj (omega arith)); conj = λ i. absurd (omega arith); neg = λ i. absurd (omega arith) }
-  or_spelled bound (truth a) (expression b) ts mid rest t is l r = tt
-  or_spelled bound (truth a) (string b) ts mid rest t is l r = tt
-  or_spelled bound (truth a) (aggregate b) ts mid rest t is l r = tt
-  or_spelled bound (expression a) w ts mid rest t is l r = tt
-  or_spelled bound (string a) w ts mid rest t is l r = tt
-  or_spelled bound (aggregate a) w ts mid rest t is l r = tt
+  or_spelled bound _ _ ts mid rest t is l r = tt
 
   combined_spelled : (j : Joint) (bound : ℕ) (v w : Parsed) (ts mid rest : Tokens) (t : Token) → IsJoint j t → level j ≤ bound
       → IsPart k bound v ts (t ∷ mid) → IsPart k (suc (level j)) w mid rest → IfSome (combined k j v w) (λ u. IsPart k (level j) u ts rest)
@@ -358,9 +330,8 @@ module _ (k : Clause) (right : Reads) (h : AreSpelled right) where
   turn_spelled : (j : Joint) (bound : ℕ) (v : Parsed) (ts mid : Tokens) (t : Token)
       → IsJoint j t → level j ≤ bound → IsPart k bound v ts (t ∷ mid) → IfSome (turn_of k right j v mid) (λ r. IsTurned k (level j) r.0 ts r.1)
   turn_spelled j bound v ts mid t is high left =
-      bind (λ r. Found k (suc (level j)) r.0 mid r.1) (λ r. IsTurned k (level j) r.0 ts r.1) (λ r. option_map (λ p. (p, r.1)) (combined k j v r.0))
-      (right k (suc (level j)) mid) (h k (suc (level j)) mid (level_below j))
-      (λ r found. map_some (λ u. IsPart k (level j) u ts r.1) (λ r. IsTurned k (level j) r.0 ts r.1) (λ p. (p, r.1)) (combined k j v r.0)
+      bind _ _ _ (right k (suc (level j)) mid) (h k (suc (level j)) mid (level_below j))
+      (λ r found. map_some _ _ _ (combined k j v r.0)
       (combined_spelled k j bound v r.0 ts mid r.1 t is high left found.is)
       (λ u part. record { is = part; none = found.none }))
 
@@ -370,7 +341,7 @@ module _ (k : Clause) (right : Reads) (h : AreSpelled right) where
       → IfSome (joined_at k right more v mid o) (λ r. Found k least r.0 ts r.1)
   joined_at-spelled more least go bound v ts mid i is None e joins = record { is = lower k least bound v ts mid i is; none = e }
   joined_at-spelled more least go bound v ts mid i is (Some n) e joins =
-      bind (λ r. IsTurned k (level n.0) r.0 ts r.1) (λ r. Found k least r.0 ts r.1) (λ p. more p.0 p.1) (turn_of k right n.0 v n.1)
+      bind _ _ _ (turn_of k right n.0 v n.1)
       (turn_spelled n.0 bound v ts n.1 joins.token joins.is joins.high (subst (λ (x : Tokens). IsPart k bound v ts x) joins.front is))
       (λ r turned. go (level n.0) r.0 ts r.1 joins.low turned.is turned.none)
 
@@ -385,39 +356,6 @@ pub part_spelled : (depth : ℕ) → AreSpelled (part_at depth)
 unfolding part_at
 part_spelled zero k least ts i = tt
 part_spelled (suc depth) k least ts i =
-    bind (λ p. IsPart k 7 p.0 ts p.1) (λ r. Found k least r.0 ts r.1)
-    (λ p. joined k (part_at depth) least (suc (length p.1)) p.0 p.1) (first_part k (part_at depth) ts)
+    bind _ _ _ (first_part k (part_at depth) ts)
     (first_spelled k (part_at depth) (part_spelled depth) ts)
     (λ p is. joined_spelled k (part_at depth) (part_spelled depth) least (suc (length p.1)) 7 p.0 ts p.1 i is (tighter 7 8 p.1 (omega arith) (loose p.1)))
-
-is_shorter : (k : Clause) (tight : ℕ) (v : Parsed) (ts rest : Tokens) → IsPart k tight v ts rest → length rest < length ts
-is_shorter clause.OfRows tight (expression e) ts rest is = expr_shorter is.expr
-is_shorter clause.OfGroups tight (expression e) ts rest is = shorter (group_operand_behind is)
-is_shorter k tight (string t) ts rest is = omega (arith, ap (length {A = Token}) is)
-is_shorter clause.OfRows tight (aggregate c) ts rest is = absurd is
-is_shorter clause.OfGroups tight (aggregate c) ts rest is = shorter (agg_behind is)
-is_shorter k tight (truth c) ts rest is = cond_shorter k is.cond'
-
--- what is read takes a token
-reads_shorter : (k : Clause) (depth least : ℕ) (ts : Tokens) → least ≤ 7 → IfSome (part_at depth k least ts) (λ r. length r.1 < length ts)
-reads_shorter k depth least ts h =
-    if_some _ _ (part_at depth k least ts) (part_spelled depth k least ts h) (λ r found. is_shorter k least r.0 ts r.1 found.is)
-  where
-    if_some : {A : Type 0} (P Q : A → Type 0) (o : Option A) → IfSome o P → ((x : A) → P x → Q x) → IfSome o Q
-    if_some P Q None h k = tt
-    if_some P Q (Some x) h k = k x h
-
-pub turn_shorter : (k : Clause) (depth : ℕ) (j : Joint) (v : Parsed) (ts : Tokens) → IfSome (turn_of k (part_at depth) j v ts) (λ r. length r.1 < length ts)
-turn_shorter k depth j v ts =
-    bind (λ r. length r.1 < length ts) (λ r. length r.1 < length ts) (λ r. option_map (λ p. (p, r.1)) (combined k j v r.0))
-    (part_at depth k (suc (level j)) ts) (reads_shorter k depth (suc (level j)) ts (level_below j))
-    (λ r less. map_some (λ u. Unit {0}) (λ r. length r.1 < length ts) (λ p. (p, r.1)) (combined k j v r.0) (any_some (combined k j v r.0)) (λ u n. less))
-  where
-    any_some : (o : Option Parsed) → IfSome o (λ u. Unit {0})
-    any_some None = tt
-    any_some (Some u) = tt
-
-pub turn_takes : (k : Clause) (depth : ℕ) (j : Joint) (v u : Parsed) (ts rest : Tokens) → turn_of k (part_at depth) j v ts ≡ Some (u, rest)
-    → length rest < length ts
-turn_takes k depth j v u ts rest turned =
-    subst (λ (r : Reading Parsed). IfSome r (λ r. length r.1 < length ts)) turned (turn_shorter k depth j v ts)

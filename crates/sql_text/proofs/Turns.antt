@@ -10,7 +10,7 @@ use Rattle.sql_text.specs.declared.stop.Stop.{Stop}
 use Rattle.sql_text.specs.declared.stop.Stop.TheVariants as stop
 use Rattle.sql_text.specs.Answers.{Fails}
 use Rattle.sql_text.specs.declared.part.Clause.{Clause}
-use Rattle.sql_text.specs.Parts.{Parsed, Reading, Reads, joint_of, level, if_level, next_joint, combined, first_part, turn_of, joined_at, joined, part_at}
+use Rattle.sql_text.specs.Parts.{Parsed, Reads, joint_of, level, if_level, next_joint, combined, first_part, turn_of, joined_at, joined, part_at}
 
 -- what may stand behind a name: no dot, and no parenthesis
 abbrev pub ends_name : List Token → Bool
@@ -72,8 +72,8 @@ from_first k n least v ts rest h = record {
   goes = ap (option_and_then (λ p. joined k (part_at n) least (suc (length p.1)) p.0 p.1)) h;
 }
 
-end_of_turns : (k : Clause) (right : Reads) (least turns : ℕ) (v : Parsed) (ts : List Token) → 0 < turns → next_joint least ts ≡ None
-    → joined k right least turns v ts ≡ Some (v, ts)
+pub end_of_turns : (k : Clause) (right : Reads) (least turns : ℕ) (v : Parsed) (ts : List Token)
+    → 0 < turns → next_joint least ts ≡ None → joined k right least turns v ts ≡ Some (v, ts)
 unfolding joined
 end_of_turns k right least zero v ts h none = absurd (omega arith)
 end_of_turns k right least (suc turns) v ts h none = ap (joined_at k right (joined k right least turns) v ts) none
@@ -83,13 +83,29 @@ turned_by : (k : Clause) (right : Reads) (j : Joint) (v w u : Parsed) (mid rest 
 turned_by k right j v w u mid rest read join =
     ap (option_and_then (λ r. option_map (λ p. (p, r.1)) (combined k j v r.0))) read ∙ ap (option_map (λ p. (p, rest))) join
 
-turn : (k : Clause) (right : Reads) (least turns : ℕ) (j : Joint) (v u : Parsed) (ts mid rest : List Token)
-    → next_joint least ts ≡ Some (j, mid) → turn_of k right j v mid ≡ Some (u, rest)
-    → joined k right least (suc turns) v ts ≡ joined k right least turns u rest
+pub turn : (k : Clause) (right : Reads) (least n turns : ℕ) (j : Joint) (v u : Parsed)
+    (ts mid rest : List Token) → n ≡ suc turns → next_joint least ts ≡ Some (j, mid)
+    → turn_of k right j v mid ≡ Some (u, rest)
+    → joined k right least n v ts ≡ joined k right least turns u rest
 unfolding joined
-turn k right least turns j v u ts mid rest next turned =
+turn k right least n turns j v u ts mid rest is next turned =
     let more = joined k right least turns in
-    ap (joined_at k right more v ts) next ∙ ap (option_and_then (λ p. more p.0 p.1)) turned
+    ap (λ n. joined k right least n v ts) is
+    ∙ ap (joined_at k right more v ts) next ∙ ap (option_and_then (λ p. more p.0 p.1)) turned
+
+pub no_turn : (k : Clause) (right : Reads) (least turns : ℕ) (j : Joint) (v : Parsed)
+    (ts mid : List Token) → 0 < turns → next_joint least ts ≡ Some (j, mid)
+    → turn_of k right j v mid ≡ None → joined k right least turns v ts ≡ None
+unfolding joined
+no_turn k right least zero j v ts mid h next none = absurd (omega arith)
+no_turn k right least (suc turns) j v ts mid h next none =
+    let more = joined k right least turns in
+    ap (joined_at k right more v ts) next ∙ ap (option_and_then (λ p. more p.0 p.1)) none
+
+pub no_turns : (k : Clause) (right : Reads) (least n : ℕ) (v : Parsed) (ts : List Token) → n ≡ 0
+    → joined k right least n v ts ≡ None
+unfolding joined
+no_turns k right least n v ts is = ap (λ n. joined k right least n v ts) is
 
 pub some_turns : (turns : ℕ) → 0 < turns → (k : ℕ) × (turns ≡ suc k)
 some_turns zero h = absurd (omega arith)
@@ -103,8 +119,8 @@ onward k n least j v w u ts at mid rest g next read join shorter later =
     record {
       turns = t.0;
       enough = omega (arith, g.enough, t.1);
-      goes = g.goes ∙ ap (λ m. joined k (part_at n) least m v at) t.1
-          ∙ turn k (part_at n) least t.0 j v u at mid rest next (turned_by k (part_at n) j v w u mid rest read join);
+      goes = g.goes ∙ turn k (part_at n) least g.turns t.0 j v u at mid rest t.1 next
+          (turned_by k (part_at n) j v w u mid rest read join);
     }
 
 pub whole : (k : Clause) (n least : ℕ) (v : Parsed) (ts rest : List Token) → Goes k n least v ts rest → next_joint least rest ≡ None
@@ -116,44 +132,6 @@ pub deeper : (k : Clause) (n least : ℕ) (v : Parsed) (ts rest : List Token) �
     → ((m : ℕ) → length ts ≤ suc m → Goes k m least v ts rest) → next_joint least rest ≡ None → part_at n k least ts ≡ Some (v, rest)
 deeper k zero least v ts rest h shorter goes none = absurd (omega arith)
 deeper k (suc m) least v ts rest h shorter goes none = whole k m least v ts rest (goes m h) none
-
--- The reading is the one that goes on behind the part v, at ts.
-pub record IsAt (k : Clause) (right : Reads) (least : ℕ) (reading : Reading Parsed) (v : Parsed) (ts : List Token) : Type 0 where
-  pub turns : ℕ
-  pub enough : length ts < turns
-  pub same : reading ≡ joined k right least turns v ts
-
-pub at_first : (k : Clause) (right : Reads) (least : ℕ) (v : Parsed) (ts : List Token)
-    → IsAt k right least (joined k right least (suc (length ts)) v ts) v ts
-at_first k right least v ts = record { turns = suc (length ts); enough = omega arith; same = refl }
-
-pub at_next : (k : Clause) (right : Reads) (least : ℕ) (reading : Reading Parsed) (j : Joint) (v u : Parsed) (ts mid rest : List Token)
-    → IsAt k right least reading v ts → next_joint least ts ≡ Some (j, mid) → turn_of k right j v mid ≡ Some (u, rest)
-    → length rest < length ts → IsAt k right least reading u rest
-at_next k right least reading j v u ts mid rest at next turned shorter =
-    let t = some_turns at.turns (omega (arith, at.enough)) in
-    record {
-      turns = t.0;
-      enough = omega (arith, at.enough, t.1);
-      same = at.same ∙ ap (λ m. joined k right least m v ts) t.1 ∙ turn k right least t.0 j v u ts mid rest next turned;
-    }
-
-pub at_end : (k : Clause) (right : Reads) (least : ℕ) (reading : Reading Parsed) (v : Parsed) (ts : List Token)
-    → IsAt k right least reading v ts → next_joint least ts ≡ None → reading ≡ Some (v, ts)
-at_end k right least reading v ts at none = at.same ∙ end_of_turns k right least at.turns v ts (omega (arith, at.enough)) none
-
-no_turn : (k : Clause) (right : Reads) (least turns : ℕ) (j : Joint) (v : Parsed) (ts mid : List Token) → next_joint least ts ≡ Some (j, mid)
-    → turn_of k right j v mid ≡ None → joined k right least (suc turns) v ts ≡ None
-unfolding joined
-no_turn k right least turns j v ts mid next none =
-    let more = joined k right least turns in
-    ap (joined_at k right more v ts) next ∙ ap (option_and_then (λ p. more p.0 p.1)) none
-
-pub at_fault : (k : Clause) (right : Reads) (least : ℕ) (reading : Reading Parsed) (j : Joint) (v : Parsed) (ts mid : List Token)
-    → IsAt k right least reading v ts → next_joint least ts ≡ Some (j, mid) → turn_of k right j v mid ≡ None → reading ≡ None
-at_fault k right least reading j v ts mid at next none =
-    let t = some_turns at.turns (omega (arith, at.enough)) in
-    at.same ∙ ap (λ m. joined k right least m v ts) t.1 ∙ no_turn k right least t.0 j v ts mid next none
 
 pub no_depth : (k : Clause) (least : ℕ) (ts : List Token) → part_at 0 k least ts ≡ None
 unfolding part_at
@@ -173,12 +151,3 @@ part_goes k (suc depth) least ts h =
 pub fault_goes : {Y W : Type 0} (e : Stop) (read : Option Y) (outer : Option W) → Fails e read → (read ≡ None → outer ≡ None) → Fails e outer
 fault_goes stop.Syntax read outer h k = k h
 fault_goes stop.Memory read outer h k = tt
-
-front_shorter : (least : ℕ) (ts mid : List Token) (o : Option Joint) (j : Joint) → if_level least ts o ≡ Some (j, mid) → mid ≡ ts
-front_shorter least ts mid None j h = cc
-front_shorter least ts mid (Some i) j h = grind arith
-
--- a joint takes a token
-pub next_shorter : (least : ℕ) (ts mid : List Token) (j : Joint) → next_joint least ts ≡ Some (j, mid) → length mid < length ts
-next_shorter least [] mid j h = cc
-next_shorter least (t ∷ ts) mid j h = omega (arith, ap (length {A = Token}) (front_shorter least ts mid (joint_of t) j h))

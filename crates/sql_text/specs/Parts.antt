@@ -3,6 +3,7 @@ use Rattle.std.specs.Prelude.{ℕ, zero, suc, true, false, nat_le, if◌then◌e
 use Rattle.query_model.specs.Formulas.{column, number, arith, formula}
 use Rattle.query_model.specs.declared.query.ArithOp.{ArithOp}
 use Rattle.query_model.specs.declared.query.AggOp.{AggOp}
+use Rattle.query_model.specs.declared.query.ColumnRef.{ColumnRef}
 use Rattle.query_model.specs.declared.query.ArithOp.TheVariants as op
 use Rattle.query_model.specs.declared.query.AggOp.TheVariants as agg
 use Rattle.query_model.specs.declared.query.CompareOp.TheVariants as order
@@ -49,11 +50,7 @@ sign_joint sign.Less = Some (joint.Compare order.Lt)
 sign_joint sign.LessEqual = Some (joint.Compare order.Le)
 sign_joint sign.Greater = Some (joint.Compare order.Gt)
 sign_joint sign.GreaterEqual = Some (joint.Compare order.Ge)
-sign_joint sign.Open = None
-sign_joint sign.Close = None
-sign_joint sign.Comma = None
-sign_joint sign.Dot = None
-sign_joint sign.Semicolon = None
+sign_joint _ = None
 
 abbrev pub keyword_joint : Keyword → Option Joint
 keyword_joint keyword.And = Some joint.And
@@ -61,12 +58,9 @@ keyword_joint keyword.Or = Some joint.Or
 keyword_joint _ = None
 
 abbrev pub joint_of : Token → Option Joint
-joint_of (token.Name w) = None
 joint_of (token.Keyword k) = keyword_joint k
-joint_of (token.Number n) = None
-joint_of token.LargeNumber = None
-joint_of (token.Text t) = None
 joint_of (token.Sign s) = sign_joint s
+joint_of _ = None
 
 -- How tightly a joint binds: those of a condition from 1 on, those of a negation from 4 on, since NOT stands at 3, and those of
 -- an expression from 5 on.
@@ -95,15 +89,11 @@ side_of (truth c) = None
 
 abbrev pub plain_of : Parsed → Option Expression
 plain_of (expression e) = Some e
-plain_of (string t) = None
-plain_of (aggregate c) = None
-plain_of (truth c) = None
+plain_of _ = None
 
 abbrev pub condition_of : Parsed → Option Condition
-condition_of (expression e) = None
-condition_of (string t) = None
-condition_of (aggregate c) = None
 condition_of (truth c) = Some c
+condition_of _ = None
 
 -- the two of them joined, where both are there
 abbrev pub if_both : {A : Type 0} → (A → A → Parsed) → Option A → Option A → Option Parsed
@@ -126,9 +116,13 @@ combined k joint.Or a b = if_both (λ l r. truth (either l r)) (condition_of a) 
 abbrev pub Reads : Type 0
 Reads = Clause → ℕ → List Token → Reading Parsed
 
+-- the column that begins with the name
+abbrev pub dotted : List ℕ → List Token → ColumnRef × List Token
+dotted name (token.Sign sign.Dot ∷ token.Name c ∷ ts) = (record { table = Some name; name = c }, ts)
+dotted name ts = (record { table = None; name = name }, ts)
+
 abbrev pub column_at : List ℕ → List Token → Parsed × List Token
-column_at name (token.Sign sign.Dot ∷ token.Name c ∷ ts) = (expression (column (record { table = Some name; name = c })), ts)
-column_at name ts = (expression (column (record { table = None; name = name })), ts)
+column_at name ts = (expression (column (dotted name ts).0), (dotted name ts).1)
 
 abbrev pub negative_at : List Token → Reading Parsed
 negative_at (token.Number n ∷ ts) = Some (expression (number (record { negative = true; size = n })), ts)
@@ -145,9 +139,8 @@ closed_expr clause.OfGroups e ts = None
 
 abbrev pub closed_at : Clause → Parsed → List Token → Reading Parsed
 closed_at k (expression e) ts = closed_expr k e ts
-closed_at k (string t) ts = None
-closed_at k (aggregate c) ts = None
 closed_at k (truth c) ts = option_map (λ rest. (truth c, rest)) (after_close ts)
+closed_at k _ ts = None
 
 -- ---- calls
 
@@ -170,9 +163,7 @@ call_over op read = option_and_then (λ p. option_and_then (λ e. over op e p.1)
 -- a call, behind its first parenthesis
 abbrev pub call_at : Reads → AggOp → List Token → Reading CallTree
 call_at inner agg.Count ts = count_at ts
-call_at inner agg.Sum ts = call_over agg.Sum (inner clause.OfRows 5 ts)
-call_at inner agg.Min ts = call_over agg.Min (inner clause.OfRows 5 ts)
-call_at inner agg.Max ts = call_over agg.Max (inner clause.OfRows 5 ts)
+call_at inner op ts = call_over op (inner clause.OfRows 5 ts)
 
 -- the aggregate that a word calls, and the tokens behind its parenthesis
 abbrev pub called : List ℕ → List Token → Option (AggOp × List Token)

@@ -9,14 +9,14 @@ use Rattle.query_model.specs.declared.query.OrderKey.{OrderKey}
 use Rattle.query_model.specs.declared.query.Span.{Span}
 use Rattle.query_model.specs.declared.query.TableRef.{TableRef}
 use Rattle.query_model.specs.declared.query.TableRef.TheVariants as table
-use Rattle.sql_grammar.specs.Trees.{Expression, Condition, ItemWhat, plain_item, call_item, ItemTree, Selection, star, listed, QueryTree}
+use Rattle.sql_grammar.specs.Trees.{Condition, ItemWhat, plain_item, call_item, ItemTree, Selection, star, listed, QueryTree}
 use Rattle.sql_grammar.specs.declared.Token.{Token}
 use Rattle.sql_grammar.specs.declared.Token.TheVariants as token
 use Rattle.sql_grammar.specs.declared.Keyword.TheVariants as keyword
 use Rattle.sql_grammar.specs.declared.Sign.TheVariants as sign
 use Rattle.sql_text.specs.declared.part.Clause.{Clause}
 use Rattle.sql_text.specs.declared.part.Clause.TheVariants as clause
-use Rattle.sql_text.specs.Parts.{Reading, plain_of, condition_of, called, call_at, part_at}
+use Rattle.sql_text.specs.Parts.{Reading, plain_of, condition_of, dotted, called, call_at, part_at}
 
 -- ---- lists
 
@@ -71,13 +71,16 @@ with_alias what read = option_map (λ a. (item_of what a.0, a.1)) read
 abbrev pub item_at : ℕ → List Token → Reading ItemTree
 item_at depth ts = option_and_then (λ w. with_alias w.0 (alias_at w.1)) (what_at depth ts)
 
+abbrev pub items_at : ℕ → List Token → Reading (List ItemTree)
+items_at depth ts = list_at (item_at depth) after_comma (length ts) ts
+
 abbrev pub after_star : List Token → Option (List Token)
 after_star (token.Sign sign.Star ∷ ts) = Some ts
 after_star _ = None
 
 abbrev pub selection_by : ℕ → List Token → Option (List Token) → Reading Selection
 selection_by depth ts (Some rest) = Some (star, rest)
-selection_by depth ts None = option_map (λ is. (listed is.0, is.1)) (list_at (item_at depth) after_comma (suc (length ts)) ts)
+selection_by depth ts None = option_map (λ is. (listed is.0, is.1)) (items_at depth ts)
 
 abbrev pub selection_at : ℕ → List Token → Reading Selection
 selection_at depth ts = selection_by depth ts (after_star ts)
@@ -96,21 +99,14 @@ table_named name ts = Some (table.Named name, ts)
 abbrev pub table_at : List Token → Reading TableRef
 table_at ts = option_and_then (λ n. table_named n.0 n.1) (name_at ts)
 
-abbrev pub after_from : List Token → Option (List Token)
-after_from (token.Keyword keyword.From ∷ ts) = Some ts
-after_from _ = None
-
 abbrev pub from_at : List Token → Reading TableRef
-from_at ts = option_and_then table_at (after_from ts)
+from_at (token.Keyword keyword.From ∷ ts) = table_at ts
+from_at _ = None
 
 -- ---- joins
 
-abbrev pub dotted_at : List ℕ → List Token → Reading ColumnRef
-dotted_at name (token.Sign sign.Dot ∷ token.Name c ∷ ts) = Some (record { table = Some name; name = c }, ts)
-dotted_at name ts = Some (record { table = None; name = name }, ts)
-
 abbrev pub column_ref_at : List Token → Reading ColumnRef
-column_ref_at ts = option_and_then (λ n. dotted_at n.0 n.1) (name_at ts)
+column_ref_at ts = option_map (λ n. dotted n.0 n.1) (name_at ts)
 
 abbrev pub after_equal : List Token → Option (List Token)
 after_equal (token.Sign sign.Equal ∷ ts) = Some ts
@@ -125,18 +121,15 @@ pair_behind left rest = option_and_then (λ ts. pair_with left (column_ref_at ts
 abbrev pub pair_at : List Token → Reading NamePair
 pair_at ts = option_and_then (λ l. pair_behind l.0 (after_equal l.1)) (column_ref_at ts)
 
-abbrev pub after_on : List Token → Option (List Token)
-after_on (token.Keyword keyword.On ∷ ts) = Some ts
-after_on _ = None
-
 abbrev pub pairs_at : List Token → Reading (List NamePair)
-pairs_at ts = list_at pair_at after_and (suc (length ts)) ts
+pairs_at ts = list_at pair_at after_and (length ts) ts
 
 abbrev pub join_of : TableRef → Reading (List NamePair) → Reading Join
 join_of t read = option_map (λ ps. (record { table = t; pairs = ps.0 }, ps.1)) read
 
 abbrev pub on_at : TableRef → List Token → Reading Join
-on_at t ts = option_and_then (λ rest. join_of t (pairs_at rest)) (after_on ts)
+on_at t (token.Keyword keyword.On ∷ ts) = join_of t (pairs_at ts)
+on_at t _ = None
 
 -- behind JOIN
 abbrev pub joined_table_at : List Token → Reading Join
@@ -153,36 +146,27 @@ join_at ts = Some (None, ts)
 
 -- ---- conditions
 
-abbrev pub condition_at : ℕ → Clause → Option (List Token) → List Token → Reading (Option Condition)
-condition_at depth k None ts = Some (None, ts)
-condition_at depth k (Some rest) ts =
-    option_and_then (λ p. option_map (λ c. (Some c, p.1)) (condition_of p.0)) (part_at depth k 1 rest)
-
-abbrev pub after_where : List Token → Option (List Token)
-after_where (token.Keyword keyword.Where ∷ ts) = Some ts
-after_where _ = None
+-- behind WHERE or HAVING
+abbrev pub condition_at : ℕ → Clause → List Token → Reading (Option Condition)
+condition_at depth k ts =
+    option_and_then (λ p. option_map (λ c. (Some c, p.1)) (condition_of p.0)) (part_at depth k 1 ts)
 
 abbrev pub filter_at : ℕ → List Token → Reading (Option Condition)
-filter_at depth ts = condition_at depth clause.OfRows (after_where ts) ts
-
-abbrev pub after_having : List Token → Option (List Token)
-after_having (token.Keyword keyword.Having ∷ ts) = Some ts
-after_having _ = None
+filter_at depth (token.Keyword keyword.Where ∷ ts) = condition_at depth clause.OfRows ts
+filter_at depth ts = Some (None, ts)
 
 abbrev pub having_at : ℕ → List Token → Reading (Option Condition)
-having_at depth ts = condition_at depth clause.OfGroups (after_having ts) ts
+having_at depth (token.Keyword keyword.Having ∷ ts) = condition_at depth clause.OfGroups ts
+having_at depth ts = Some (None, ts)
 
 -- ---- groups, order and limit
 
-abbrev pub after_by : List Token → Option (List Token)
-after_by (token.Keyword keyword.By ∷ ts) = Some ts
-after_by _ = None
-
 abbrev pub columns_at : List Token → Reading (List ColumnRef)
-columns_at ts = list_at column_ref_at after_comma (suc (length ts)) ts
+columns_at ts = list_at column_ref_at after_comma (length ts) ts
 
 abbrev pub keys_at : List Token → Reading (List ColumnRef)
-keys_at (token.Keyword keyword.Group ∷ ts) = option_and_then columns_at (after_by ts)
+keys_at (token.Keyword keyword.Group ∷ token.Keyword keyword.By ∷ ts) = columns_at ts
+keys_at (token.Keyword keyword.Group ∷ ts) = None
 keys_at ts = Some ([], ts)
 
 abbrev pub direction_at : List Token → Bool × List Token
@@ -197,10 +181,11 @@ abbrev pub order_key_at : List Token → Reading OrderKey
 order_key_at ts = option_map (λ n. order_key n.0 (direction_at n.1)) (name_at ts)
 
 abbrev pub order_keys_at : List Token → Reading (List OrderKey)
-order_keys_at ts = list_at order_key_at after_comma (suc (length ts)) ts
+order_keys_at ts = list_at order_key_at after_comma (length ts) ts
 
 abbrev pub order_at : List Token → Reading (List OrderKey)
-order_at (token.Keyword keyword.Order ∷ ts) = option_and_then order_keys_at (after_by ts)
+order_at (token.Keyword keyword.Order ∷ token.Keyword keyword.By ∷ ts) = order_keys_at ts
+order_at (token.Keyword keyword.Order ∷ ts) = None
 order_at ts = Some ([], ts)
 
 abbrev pub span_of : ℕ → ℕ → Option Span
@@ -223,33 +208,25 @@ is_end _ = false
 
 -- ---- queries
 
-abbrev pub ended : QueryTree → List Token → Option QueryTree
-ended q ts = if is_end ts then Some q else None
+-- what is made of what is read, and of the tokens behind it
+abbrev pub reads : {A B : Type 0} → Reading A → (A → List Token → Option B) → Option B
+reads read more = option_and_then (λ r. more r.0 r.1) read
 
-abbrev pub limited : QueryTree → List Token → Option QueryTree
-limited q ts = option_and_then (λ l. ended (record q { limit = l.0 }) l.1) (limit_at ts)
-
-abbrev pub ordered : QueryTree → List Token → Option QueryTree
-ordered q ts = option_and_then (λ o. limited (record q { order = o.0 }) o.1) (order_at ts)
-
-abbrev pub restricted : ℕ → QueryTree → List Token → Option QueryTree
-restricted depth q ts = option_and_then (λ h. ordered (record q { having = h.0 }) h.1) (having_at depth ts)
-
-abbrev pub grouped : ℕ → QueryTree → List Token → Option QueryTree
-grouped depth q ts = option_and_then (λ k. restricted depth (record q { keys = k.0 }) k.1) (keys_at ts)
-
-abbrev pub filtered : ℕ → QueryTree → List Token → Option QueryTree
-filtered depth q ts = option_and_then (λ f. grouped depth (record q { filter = f.0 }) f.1) (filter_at depth ts)
-
-abbrev pub joined_by : ℕ → QueryTree → List Token → Option QueryTree
-joined_by depth q ts = option_and_then (λ j. filtered depth (record q { join = j.0 }) j.1) (join_at ts)
-
--- a query of items and a table alone
-abbrev pub query_of : Selection → TableRef → QueryTree
-query_of s t = record { items = s; from = t; join = None; filter = None; keys = []; having = None; order = []; limit = None }
-
-abbrev pub query_behind : ℕ → Selection → List Token → Option QueryTree
-query_behind depth s ts = option_and_then (λ t. joined_by depth (query_of s t.0) t.1) (from_at ts)
+-- GROUP BY and the clauses behind it, up to the end of the text
+abbrev pub shaped : ℕ → Selection → TableRef → Option Join → Option Condition → List Token
+    → Option QueryTree
+shaped depth s t j f ts =
+    reads (keys_at ts) (λ k ts. reads (having_at depth ts) (λ h ts.
+    reads (order_at ts) (λ o ts. reads (limit_at ts) (λ l ts. if is_end ts then Some (record {
+      items = s;
+      from = t;
+      join = j;
+      filter = f;
+      keys = k;
+      having = h;
+      order = o;
+      limit = l;
+    }) else None))))
 
 abbrev pub after_select : List Token → Option (List Token)
 after_select (token.Keyword keyword.Select ∷ ts) = Some ts
@@ -257,4 +234,6 @@ after_select _ = None
 
 -- the query that the tokens are, all of them
 abbrev pub query_at : ℕ → List Token → Option QueryTree
-query_at depth ts = option_and_then (λ ts. option_and_then (λ s. query_behind depth s.0 s.1) (selection_at depth ts)) (after_select ts)
+query_at depth ts = option_and_then (λ ts. reads (selection_at depth ts) (λ s ts.
+    reads (from_at ts) (λ t ts. reads (join_at ts) (λ j ts. reads (filter_at depth ts) (λ f ts.
+    shaped depth s t j f ts))))) (after_select ts)

@@ -1,8 +1,8 @@
 -- Why a text is refused.
-use Rattle.std.specs.Prelude.{◌≡◌, ◌⊎◌, ℕ, Bool, true, false, nat_lt, is_some, ◌||◌, ◌&&◌, if◌then◌else◌, List, [], ◌∷◌, length, count_by, Option, Some, None}
+use Rattle.std.specs.Prelude.{◌≡◌, ◌⊎◌, ℕ, Bool, true, false, nat_lt, if◌then◌else◌, List, length, count_by, Option, Some, None}
 use Rattle.std.specs.List.{list_any}
 use Rattle.query_model.specs.declared.query.Query.{Query}
-use Rattle.sql_grammar.specs.Names.{aggregate_of, tokens_of, Spells}
+use Rattle.sql_grammar.specs.Names.{tokens_of, Spells}
 use Rattle.sql_grammar.specs.declared.Token.{Token}
 use Rattle.sql_grammar.specs.declared.Keyword.{Keyword}
 use Rattle.sql_grammar.specs.declared.Sign.{Sign}
@@ -48,39 +48,25 @@ is_operator (token.Sign s) = is_operator_sign s
 -- ---- clauses that aren't there yet
 
 abbrev pub is_unbuilt_keyword : Keyword → Bool
-is_unbuilt_keyword keyword.Group = true
-is_unbuilt_keyword keyword.Having = true
 is_unbuilt_keyword keyword.Inner = true
 is_unbuilt_keyword keyword.Join = true
 is_unbuilt_keyword keyword.On = true
 is_unbuilt_keyword _ = false
 
--- an aggregate, in any ASCII case
-abbrev pub is_aggregate : List ℕ → Bool
-is_aggregate w = is_some (aggregate_of w)
-
-abbrev pub begins_with_open : List Token → Bool
-begins_with_open (token.Sign sign.Open ∷ ts) = true
-begins_with_open _ = false
-
-abbrev pub is_unbuilt : Token → List Token → Bool
-is_unbuilt (token.Name w) ts = is_aggregate w && begins_with_open ts
-is_unbuilt (token.Keyword k) ts = is_unbuilt_keyword k
-is_unbuilt (token.Number n) ts = false
-is_unbuilt token.LargeNumber ts = false
-is_unbuilt (token.Text t) ts = false
-is_unbuilt (token.Sign s) ts = false
-
-unfoldable pub has_unbuilt : List Token → Bool
-has_unbuilt [] = false
-has_unbuilt (t ∷ ts) = is_unbuilt t ts || has_unbuilt ts
+abbrev pub is_unbuilt : Token → Bool
+is_unbuilt (token.Name w) = false
+is_unbuilt (token.Keyword k) = is_unbuilt_keyword k
+is_unbuilt (token.Number n) = false
+is_unbuilt token.LargeNumber = false
+is_unbuilt (token.Text t) = false
+is_unbuilt (token.Sign s) = false
 
 -- ---- refusals
 
 -- the tokens that a part of the grammar has which isn't there yet, where those are refused
 abbrev pub unbuilt_refusal : Bool → List Token → Option ParseRefusal
 unbuilt_refusal false ts = None
-unbuilt_refusal true ts = if has_unbuilt ts then Some refusal.NotBuilt else None
+unbuilt_refusal true ts = if list_any is_unbuilt ts then Some refusal.NotBuilt else None
 
 abbrev pub token_refusal : Bool → List Token → Option ParseRefusal
 token_refusal strict ts =

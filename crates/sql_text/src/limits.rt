@@ -1,10 +1,9 @@
 // What is refused before a query is read.
 ghost use Rattle.std.specs.Prelude.{◌≡◌, count_by};
 ghost use Rattle.std.specs.List.{list_any};
-ghost use Rattle.sql_text.specs.Refusals.{is_large, is_operator_sign, is_operator_keyword, is_operator, is_unbuilt_keyword, is_aggregate, begins_with_open, is_unbuilt, has_unbuilt, unbuilt_refusal, token_refusal};
+ghost use Rattle.sql_text.specs.Refusals.{is_large, is_operator_sign, is_operator_keyword, is_operator, is_unbuilt_keyword, is_unbuilt, unbuilt_refusal, token_refusal};
 
-use crate::stop::next_token;
-use sql_grammar::{Keyword, Sign, Token, aggregate_of};
+use sql_grammar::{Keyword, Sign, Token};
 
 /// The most bytes of a query's text.
 pub const MAX_TEXT: usize = 65_536;
@@ -32,11 +31,7 @@ pub enum ParseRefusal {
 fn is_large(token: &Token) -> bool
     ensures { result ≡ is_large token.now }
 {
-    match token {
-        Token::LargeNumber => true,
-        Token::Name(_) | Token::Keyword(_) | Token::Number(_) | Token::Text(_) | Token::Sign(_) =>
-            false,
-    }
+    matches!(token, Token::LargeNumber)
 }
 
 fn has_large(tokens: &[Token]) -> bool
@@ -48,19 +43,13 @@ fn has_large(tokens: &[Token]) -> bool
 fn is_operator_sign(sign: Sign) -> bool
     ensures { result ≡ is_operator_sign sign }
 {
-    match sign {
-        Sign::Open | Sign::Plus | Sign::Minus | Sign::Star => true,
-        _ => false,
-    }
+    matches!(sign, Sign::Open | Sign::Plus | Sign::Minus | Sign::Star)
 }
 
 fn is_operator_keyword(keyword: Keyword) -> bool
     ensures { result ≡ is_operator_keyword keyword }
 {
-    match keyword {
-        Keyword::And | Keyword::Or | Keyword::Not => true,
-        _ => false,
-    }
+    matches!(keyword, Keyword::And | Keyword::Or | Keyword::Not)
 }
 
 fn is_operator(token: &Token) -> bool
@@ -82,49 +71,23 @@ fn operator_count(tokens: &[Token]) -> usize
 fn is_unbuilt_keyword(keyword: Keyword) -> bool
     ensures { result ≡ is_unbuilt_keyword keyword }
 {
-    match keyword {
-        Keyword::Group | Keyword::Having | Keyword::Inner | Keyword::Join | Keyword::On => true,
-        _ => false,
-    }
+    matches!(keyword, Keyword::Inner | Keyword::Join | Keyword::On)
 }
 
-fn is_aggregate(word: &[u8]) -> bool
-    ensures { result ≡ is_aggregate word.now }
-{
-    aggregate_of(word).is_some()
-}
-
-fn begins_with_open(tokens: &[Token]) -> bool
-    ensures { result ≡ begins_with_open tokens.now }
-{
-    match tokens.first() {
-        Some(Token::Sign(Sign::Open)) => true,
-        _ => false,
-    }
-}
-
-fn is_unbuilt(token: &Token, behind: &[Token]) -> bool
-    ensures { result ≡ is_unbuilt token.now behind.now }
+fn is_unbuilt(token: &Token) -> bool
+    ensures { result ≡ is_unbuilt token.now }
 {
     match token {
-        Token::Name(word) => is_aggregate(word.as_slice()) && begins_with_open(behind),
         Token::Keyword(keyword) => is_unbuilt_keyword(*keyword),
-        Token::Number(_) | Token::LargeNumber | Token::Text(_) | Token::Sign(_) => false,
+        Token::Name(_) | Token::Number(_) | Token::LargeNumber | Token::Text(_) | Token::Sign(_) =>
+            false,
     }
 }
 
-#[tactic(auto, unfolding(crate::specs::Refusals::has_unbuilt))]
 fn has_unbuilt(tokens: &[Token]) -> bool
-    ensures { result ≡ has_unbuilt tokens.now }
+    ensures { result ≡ list_any is_unbuilt tokens.now }
 {
-    let mut rest = tokens;
-    while let Ok((token, behind)) = next_token(rest) {
-        if is_unbuilt(token, behind) {
-            return true;
-        }
-        rest = behind;
-    }
-    false
+    tokens.iter().any(|token| is_unbuilt(token))
 }
 
 fn unbuilt_refusal(strict: bool, tokens: &[Token]) -> Option<ParseRefusal>

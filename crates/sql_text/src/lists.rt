@@ -1,8 +1,8 @@
 // Lists: items, columns, pairs and keys of an order.
-ghost use Rattle.std.specs.Prelude.{◌≡◌, ℕ, suc, length, map, Some, None, option_map, OnOk, IfOk};
+ghost use Rattle.std.specs.Prelude.{◌≡◌, ℕ, map, Some, None, option_map, OnOk, IfOk};
 ghost use Rattle.sql_grammar.specs.Trees.{item_tree, item_what, selection};
 ghost use Rattle.sql_text.specs.Answers.{Gives};
-ghost use Rattle.sql_text.specs.Queries.{list_at, after_comma, after_and, alias_at, call_front, plain_what, what_at, item_at, after_star, selection_at, column_ref_at, columns_at, pair_at, pairs_at, direction_at, order_key_at, order_keys_at};
+ghost use Rattle.sql_text.specs.Queries.{after_comma, after_and, alias_at, call_front, plain_what, what_at, item_at, items_at, after_star, selection_at, column_ref_at, columns_at, pair_at, pairs_at, direction_at, order_key_at, order_keys_at};
 
 use crate::part::{Clause, EXPRESSION, call_at, called, part_at, plain_of};
 use crate::stop::Stop;
@@ -52,11 +52,7 @@ fn call_front(tokens: &[Token]) -> Option<(AggOp, &[Token])>
     }
 }
 
-fn plain_what<'a>(
-    alloc: Global,
-    tokens: &'a [Token],
-    depth: usize,
-) -> Result<(ItemKind, &'a [Token]), Stop>
+fn plain_what(alloc: Global, tokens: &[Token], depth: usize) -> Result<(ItemKind, &[Token]), Stop>
     ensures { Gives (λ p. (item_what p.0, p.1.now)) result (plain_what depth tokens.now) }
 {
     let (part, rest) = part_at(alloc, Clause::OfRows, EXPRESSION, tokens, depth)?;
@@ -64,11 +60,7 @@ fn plain_what<'a>(
     Ok((ItemKind::Plain(Box::into_inner(expr)), rest))
 }
 
-fn what_at<'a>(
-    alloc: Global,
-    tokens: &'a [Token],
-    depth: usize,
-) -> Result<(ItemKind, &'a [Token]), Stop>
+fn what_at(alloc: Global, tokens: &[Token], depth: usize) -> Result<(ItemKind, &[Token]), Stop>
     ensures { Gives (λ p. (item_what p.0, p.1.now)) result (what_at depth tokens.now) }
 {
     match call_front(tokens) {
@@ -80,11 +72,7 @@ fn what_at<'a>(
     }
 }
 
-fn item_at<'a>(
-    alloc: Global,
-    tokens: &'a [Token],
-    depth: usize,
-) -> Result<(Item, &'a [Token]), Stop>
+fn item_at(alloc: Global, tokens: &[Token], depth: usize) -> Result<(Item, &[Token]), Stop>
     ensures { Gives (λ p. (item_tree p.0, p.1.now)) result (item_at depth tokens.now) }
 {
     let (what, rest) = what_at(alloc, tokens, depth)?;
@@ -92,16 +80,12 @@ fn item_at<'a>(
     Ok((Item { what, alias }, rest))
 }
 
-fn items_at<'a>(
-    alloc: Global,
-    tokens: &'a [Token],
-    depth: usize,
-) -> Result<(List<Item>, &'a [Token]), Stop>
-    ensures { Gives (λ p. (map item_tree p.0, p.1.now)) result (list_at (item_at depth) after_comma (suc (length tokens.now)) tokens.now) }
+fn items_at(alloc: Global, tokens: &[Token], depth: usize) -> Result<(List<Item>, &[Token]), Stop>
+    ensures { Gives (λ p. (map item_tree p.0, p.1.now)) result (items_at depth tokens.now) }
 {
     let mut items = Vec::new(alloc);
     let mut rest = tokens;
-    loop {
+    for _turn in 0..tokens.len() {
         match item_at(alloc, rest, depth) {
             Err(stop) => return Err(stop),
             Ok((item, after)) => {
@@ -113,6 +97,7 @@ fn items_at<'a>(
             }
         }
     }
+    Err(Stop::Syntax)
 }
 
 fn after_star(tokens: &[Token]) -> Option<&[Token]>
@@ -125,11 +110,11 @@ fn after_star(tokens: &[Token]) -> Option<&[Token]>
 }
 
 /// The items of SELECT. `depth` is that of `part_at`.
-pub fn selection_at<'a>(
+pub fn selection_at(
     alloc: Global,
-    tokens: &'a [Token],
+    tokens: &[Token],
     depth: usize,
-) -> Result<(Items, &'a [Token]), Stop>
+) -> Result<(Items, &[Token]), Stop>
     ensures { Gives (λ p. (selection p.0, p.1.now)) result (selection_at depth tokens.now) }
 {
     match after_star(tokens) {
@@ -146,7 +131,7 @@ pub fn columns_at(alloc: Global, tokens: &[Token]) -> Result<(List<ColumnRef>, &
 {
     let mut columns = Vec::new(alloc);
     let mut rest = tokens;
-    loop {
+    for _turn in 0..tokens.len() {
         match column_ref_at(rest) {
             Err(stop) => return Err(stop),
             Ok((column, after)) => {
@@ -158,6 +143,7 @@ pub fn columns_at(alloc: Global, tokens: &[Token]) -> Result<(List<ColumnRef>, &
             }
         }
     }
+    Err(Stop::Syntax)
 }
 
 pub fn pairs_at(alloc: Global, tokens: &[Token]) -> Result<(List<NamePair>, &[Token]), Stop>
@@ -165,7 +151,7 @@ pub fn pairs_at(alloc: Global, tokens: &[Token]) -> Result<(List<NamePair>, &[To
 {
     let mut pairs = Vec::new(alloc);
     let mut rest = tokens;
-    loop {
+    for _turn in 0..tokens.len() {
         match pair_at(rest) {
             Err(stop) => return Err(stop),
             Ok((pair, after)) => {
@@ -177,6 +163,7 @@ pub fn pairs_at(alloc: Global, tokens: &[Token]) -> Result<(List<NamePair>, &[To
             }
         }
     }
+    Err(Stop::Syntax)
 }
 
 // Whether DESC is stated.
@@ -203,7 +190,7 @@ pub fn order_keys_at(alloc: Global, tokens: &[Token]) -> Result<(List<OrderKey>,
 {
     let mut keys = Vec::new(alloc);
     let mut rest = tokens;
-    loop {
+    for _turn in 0..tokens.len() {
         match order_key_at(rest) {
             Err(stop) => return Err(stop),
             Ok((key, after)) => {
@@ -215,4 +202,5 @@ pub fn order_keys_at(alloc: Global, tokens: &[Token]) -> Result<(List<OrderKey>,
             }
         }
     }
+    Err(Stop::Syntax)
 }

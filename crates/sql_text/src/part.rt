@@ -9,6 +9,7 @@ ghost use Rattle.sql_text.specs.Answers.{Gives};
 ghost use Rattle.sql_text.specs.Parts.{expression, truth, parsed, calculated, sign_joint, keyword_joint, joint_of, level, next_joint, combined, side_of, plain_of, condition_of, column_at, negative_at, after_close, closed_at, count_at, call_over, called, call_at, word_at, negation_at, first_sign, first_keyword, first_part, turn_of, joined, part_at};
 
 use crate::stop::{Stop, next_token};
+use crate::tables::dotted_at;
 use chunk_data::Bytes;
 use query_model::query::{
     AggCall, AggOp, ArithOp, ColumnRef, CompareOp, CondOf, ExprOf, Number, Operand,
@@ -230,21 +231,8 @@ fn column_at<'a>(
 ) -> Result<(Part, &'a [Token]), Stop>
     ensures { Gives (λ p. (parsed p.0, p.1.now)) result (Some (column_at name.now tokens.now)) }
 {
-    let first = name.copy()?;
-    if let [Token::Sign(Sign::Dot), Token::Name(column), ..] = tokens {
-        let name = column.copy()?;
-        let column = ColumnRef {
-            table: Some(first),
-            name,
-        };
-        let part = plain_part(alloc, ExprOf::Column(column))?;
-        return Ok((part, &tokens[2..]));
-    }
-    let column = ColumnRef {
-        table: None,
-        name: first,
-    };
-    Ok((plain_part(alloc, ExprOf::Column(column))?, tokens))
+    let (column, rest) = dotted_at(name.copy()?, tokens)?;
+    Ok((plain_part(alloc, ExprOf::Column(column))?, rest))
 }
 
 fn number_part(alloc: Global, negative: bool, size: u64) -> Result<Part, Stop>
@@ -336,12 +324,12 @@ fn negated(alloc: Global, part: Part) -> Result<Part, Stop>
 
 /// The call of an aggregate, behind its first parenthesis. `depth` is that of `part_at`.
 #[cycle(part)]
-pub fn call_at<'a>(
+pub fn call_at(
     alloc: Global,
     op: AggOp,
-    tokens: &'a [Token],
+    tokens: &[Token],
     depth: usize,
-) -> Result<(AggCall<ColumnRef>, &'a [Token]), Stop>
+) -> Result<(AggCall<ColumnRef>, &[Token]), Stop>
     ensures { Gives (λ p. (call_tree p.0, p.1.now)) result (call_at (part_at depth) op tokens.now) }
 {
     match op {
@@ -377,13 +365,13 @@ fn word_at<'a>(
 }
 
 #[cycle(part)]
-fn first_sign<'a>(
+fn first_sign(
     alloc: Global,
     clause: Clause,
     sign: Sign,
-    tokens: &'a [Token],
+    tokens: &[Token],
     depth: usize,
-) -> Result<(Part, &'a [Token]), Stop>
+) -> Result<(Part, &[Token]), Stop>
     ensures { Gives (λ p. (parsed p.0, p.1.now)) result (first_sign clause (part_at depth) sign tokens.now) }
 {
     match sign {
@@ -397,13 +385,13 @@ fn first_sign<'a>(
 }
 
 #[cycle(part)]
-fn first_keyword<'a>(
+fn first_keyword(
     alloc: Global,
     clause: Clause,
     keyword: Keyword,
-    tokens: &'a [Token],
+    tokens: &[Token],
     depth: usize,
-) -> Result<(Part, &'a [Token]), Stop>
+) -> Result<(Part, &[Token]), Stop>
     ensures { Gives (λ p. (parsed p.0, p.1.now)) result (first_keyword clause (part_at depth) keyword tokens.now) }
 {
     match keyword {
@@ -417,12 +405,12 @@ fn first_keyword<'a>(
 
 // A part without joints: a column, a number, a string, a call, what stands in parentheses, or a negation.
 #[cycle(part)]
-fn first_part<'a>(
+fn first_part(
     alloc: Global,
     clause: Clause,
-    tokens: &'a [Token],
+    tokens: &[Token],
     depth: usize,
-) -> Result<(Part, &'a [Token]), Stop>
+) -> Result<(Part, &[Token]), Stop>
     ensures { Gives (λ p. (parsed p.0, p.1.now)) result (first_part clause (part_at depth) tokens.now) }
 {
     let (token, rest) = next_token(tokens)?;
@@ -439,13 +427,13 @@ fn first_part<'a>(
 /// The part at the front whose joints bind at least so tightly, and the tokens behind it. `depth` bounds how deep parts
 /// stand in parts; the count of the tokens is always enough.
 #[cycle(part)]
-pub fn part_at<'a>(
+pub fn part_at(
     alloc: Global,
     clause: Clause,
     least: u8,
-    tokens: &'a [Token],
+    tokens: &[Token],
     depth: usize,
-) -> Result<(Part, &'a [Token]), Stop>
+) -> Result<(Part, &[Token]), Stop>
     ensures { Gives (λ p. (parsed p.0, p.1.now)) result (part_at depth clause least tokens.now) }
 {
     if depth == 0 {
@@ -457,14 +445,14 @@ pub fn part_at<'a>(
 
 // The part at the left, and what the joint joins to it.
 #[cycle(part)]
-fn turn_of<'a>(
+fn turn_of(
     alloc: Global,
     clause: Clause,
     joint: Joint,
     left: Part,
-    tokens: &'a [Token],
+    tokens: &[Token],
     depth: usize,
-) -> Result<(Part, &'a [Token]), Stop>
+) -> Result<(Part, &[Token]), Stop>
     ensures { Gives (λ p. (parsed p.0, p.1.now)) result (turn_of clause (part_at depth) joint (parsed left) tokens.now) }
 {
     let (right, rest) = part_at(alloc, clause, level_above(joint), tokens, depth)?;
@@ -473,26 +461,30 @@ fn turn_of<'a>(
 
 // The part at the left, and all that joints as tight as `least` join to it.
 #[cycle(part)]
-fn joined<'a>(
+fn joined(
     alloc: Global,
     clause: Clause,
     least: u8,
     first: Part,
-    tokens: &'a [Token],
+    tokens: &[Token],
     depth: usize,
-) -> Result<(Part, &'a [Token]), Stop>
+) -> Result<(Part, &[Token]), Stop>
     ensures { Gives (λ p. (parsed p.0, p.1.now)) result (joined clause (part_at depth) least (suc (length tokens.now)) (parsed first) tokens.now) }
 {
     let mut part = first;
     let mut rest = tokens;
-    while let Some((joint, behind)) = next_joint(least, rest) {
-        match turn_of(alloc, clause, joint, part, behind, depth) {
-            Ok((next, after)) => {
-                part = next;
-                rest = after;
-            }
-            Err(stop) => return Err(stop),
+    // Each turn takes a token, so these are enough.
+    for _turn in 0..tokens.len() + 1 {
+        match next_joint(least, rest) {
+            None => return Ok((part, rest)),
+            Some((joint, behind)) => match turn_of(alloc, clause, joint, part, behind, depth) {
+                Ok((next, after)) => {
+                    part = next;
+                    rest = after;
+                }
+                Err(stop) => return Err(stop),
+            },
         }
     }
-    Ok((part, rest))
+    Err(Stop::Syntax)
 }

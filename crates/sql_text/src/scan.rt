@@ -95,35 +95,26 @@ fn text_byte(place: TextPlace, b: u8) -> TextByte
     ensures { result ≡ text_byte place b }
 {
     match place {
-        TextPlace::Middle => {
-            if b == b'\'' {
-                TextByte::Passed(TextPlace::BehindQuote)
-            } else if b == b'\\' {
-                TextByte::Passed(TextPlace::BehindBackslash)
-            } else {
-                TextByte::Content
-            }
-        }
-        TextPlace::BehindQuote => {
-            if b == b'\'' {
-                TextByte::Content
-            } else {
-                TextByte::Behind
-            }
-        }
-        TextPlace::BehindBackslash => {
-            if b == b'\'' || b == b'\\' {
-                TextByte::Content
-            } else {
-                TextByte::Bad
-            }
-        }
+        TextPlace::Middle => match b {
+            b'\'' => TextByte::Passed(TextPlace::BehindQuote),
+            b'\\' => TextByte::Passed(TextPlace::BehindBackslash),
+            _ => TextByte::Content,
+        },
+        TextPlace::BehindQuote => match b {
+            b'\'' => TextByte::Content,
+            _ => TextByte::Behind,
+        },
+        TextPlace::BehindBackslash => match b {
+            b'\'' | b'\\' => TextByte::Content,
+            _ => TextByte::Bad,
+        },
     }
 }
 
 // The content of the string that begins behind its quote, and how many bytes it takes with its last quote.
 fn text_at(alloc: Global, bytes: &[u8]) -> Result<(Bytes, usize), Stop>
-    ensures { Gives (λ p. p) result (text_at Middle bytes.now) }
+    ensures read { Gives (λ p. p) result (text_at Middle bytes.now) }
+    ensures within { IfOk result (λ p. p.1 ≤ length bytes.now) }
 {
     let mut content = Vec::new(alloc);
     let mut place = TextPlace::Middle;
@@ -246,28 +237,28 @@ fn next_byte(bytes: &[u8]) -> Option<(u8, &[u8])>
     Some((*first, more))
 }
 
-fn behind(bytes: &[u8], len: usize) -> &[u8]
-    requires { len ≤ length bytes.now }
-    ensures { result.now ≡ drop len bytes.now }
-{
-    &bytes[len..]
-}
-
 /// The tokens of a text.
 pub fn tokens_of(alloc: Global, text: &[u8]) -> Result<Vec<Token>, Stop>
     ensures { Gives (λ v. v.items) result (tokens_of text.now) }
 {
     let mut tokens = Vec::new(alloc);
     let mut rest = text;
+    // How many bytes in front belong to the last token.
+    let mut taken = 0;
     while let Some((first, more)) = next_byte(rest) {
-        if is_blank(first) {
-            rest = more;
+        let here = rest;
+        rest = more;
+        if taken > 0 {
+            taken -= 1;
             continue;
         }
-        match token_at(alloc, first, more, rest) {
+        if is_blank(first) {
+            continue;
+        }
+        match token_at(alloc, first, more, here) {
             Ok((token, len)) => {
                 tokens.push(token)?;
-                rest = behind(rest, len);
+                taken = len.saturating_sub(1);
             }
             Err(stop) => return Err(stop),
         }

@@ -1,7 +1,8 @@
 // Tables, columns and joins.
 ghost use Rattle.std.specs.Prelude.{◌≡◌, Some, option_map, OnOk, IfOk};
 ghost use Rattle.sql_text.specs.Answers.{Gives};
-ghost use Rattle.sql_text.specs.Queries.{name_at, count_behind, table_named, table_at, after_from, from_at, dotted_at, column_ref_at, after_equal, pair_at, after_on, on_at, joined_table_at};
+ghost use Rattle.sql_text.specs.Parts.{dotted};
+ghost use Rattle.sql_text.specs.Queries.{name_at, count_behind, table_named, table_at, from_at, column_ref_at, after_equal, pair_at, on_at, joined_table_at};
 
 use crate::lists::pairs_at;
 use crate::stop::{Stop, next_token};
@@ -55,23 +56,18 @@ fn table_at(tokens: &[Token]) -> Result<(TableRef, &[Token]), Stop>
     table_named(name, rest)
 }
 
-fn after_from(tokens: &[Token]) -> Result<&[Token], Stop>
-    ensures { Gives (λ rest. rest.now) result (after_from tokens.now) }
+pub fn from_at(tokens: &[Token]) -> Result<(TableRef, &[Token]), Stop>
+    ensures { Gives (λ p. (p.0, p.1.now)) result (from_at tokens.now) }
 {
     match next_token(tokens)? {
-        (Token::Keyword(Keyword::From), rest) => Ok(rest),
+        (Token::Keyword(Keyword::From), rest) => table_at(rest),
         _ => Err(Stop::Syntax),
     }
 }
 
-pub fn from_at(tokens: &[Token]) -> Result<(TableRef, &[Token]), Stop>
-    ensures { Gives (λ p. (p.0, p.1.now)) result (from_at tokens.now) }
-{
-    table_at(after_from(tokens)?)
-}
-
-fn dotted_at(name: Bytes, tokens: &[Token]) -> Result<(ColumnRef, &[Token]), Stop>
-    ensures { Gives (λ p. (p.0, p.1.now)) result (dotted_at name tokens.now) }
+/// The column that begins with the name, and the tokens behind it.
+pub fn dotted_at(name: Bytes, tokens: &[Token]) -> Result<(ColumnRef, &[Token]), Stop>
+    ensures { Gives (λ p. (p.0, p.1.now)) result (Some (dotted name tokens.now)) }
 {
     if let [Token::Sign(Sign::Dot), Token::Name(column), ..] = tokens {
         let column = ColumnRef {
@@ -107,20 +103,16 @@ pub fn pair_at(tokens: &[Token]) -> Result<(NamePair, &[Token]), Stop>
     Ok((NamePair { left, right }, rest))
 }
 
-fn after_on(tokens: &[Token]) -> Result<&[Token], Stop>
-    ensures { Gives (λ rest. rest.now) result (after_on tokens.now) }
-{
-    match next_token(tokens)? {
-        (Token::Keyword(Keyword::On), rest) => Ok(rest),
-        _ => Err(Stop::Syntax),
-    }
-}
-
 fn on_at(alloc: Global, table: TableRef, tokens: &[Token]) -> Result<(Join, &[Token]), Stop>
     ensures { Gives (λ p. (p.0, p.1.now)) result (on_at table tokens.now) }
 {
-    let (pairs, rest) = pairs_at(alloc, after_on(tokens)?)?;
-    Ok((Join { table, pairs }, rest))
+    match next_token(tokens)? {
+        (Token::Keyword(Keyword::On), rest) => {
+            let (pairs, rest) = pairs_at(alloc, rest)?;
+            Ok((Join { table, pairs }, rest))
+        }
+        _ => Err(Stop::Syntax),
+    }
 }
 
 /// The table and the pairs behind JOIN.

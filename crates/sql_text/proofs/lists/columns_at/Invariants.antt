@@ -1,10 +1,9 @@
-use Rattle.std.proofs.Common.{suc, length}
-use Rattle.sql_text.specs.Queries.{column_ref_at, after_comma, list_at}
-use Rattle.sql_text.proofs.ListTurns.{IsAtElement}
+use Rattle.std.proofs.Common.{◌-◌, length}
+use Rattle.sql_text.specs.Queries.{column_ref_at, after_comma, columns_at}
+use Rattle.sql_text.proofs.ListTurns.{IsAt}
 use Rattle.sql_text.proofs.lists.columns_at.Given as goal
 
-abbrev pub invariant-loop-stop : goal.invariant-loop-stop
-invariant-loop-stop l = IsAtElement column_ref_at after_comma (list_at column_ref_at after_comma (suc (length l.tokens)) l.tokens) l.columns.items l.rest
-
-abbrev pub decreases-loop-stop : goal.decreases-loop-stop
-decreases-loop-stop l = length l.rest
+abbrev pub invariant-loop-turn : goal.invariant-loop-turn
+invariant-loop-turn l =
+    IsAt column_ref_at after_comma (columns_at l.tokens)
+    l.columns.items (length l.tokens - l._turn) l.rest

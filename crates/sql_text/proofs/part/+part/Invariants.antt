@@ -1,6 +1,5 @@
-use Rattle.std.proofs.Common.{suc, ◌+◌, ◌*◌, length}
+use Rattle.std.proofs.Common.{◌≡◌, suc, ◌+◌, ◌-◌, ◌*◌, length}
 use Rattle.sql_text.specs.Parts.{parsed, joined, part_at}
-use Rattle.sql_text.proofs.Turns.{IsAt}
 use Rattle.sql_text.proofs.part.+part.Given as goal
 
 abbrev pub decreases-part_at : goal.decreases-part_at
@@ -27,9 +26,8 @@ decreases-first_sign l = 4 * l.depth + 1
 abbrev pub decreases-first_keyword : goal.decreases-first_keyword
 decreases-first_keyword l = 4 * l.depth + 1
 
-abbrev pub invariant-joined-loop-joint : goal.invariant-joined-loop-joint
-invariant-joined-loop-joint l =
-    IsAt l.clause (part_at l.depth) l.least (joined l.clause (part_at l.depth) l.least (suc (length l.fn.tokens)) (parsed l.fn.first) l.fn.tokens) (parsed l.part) l.rest
-
-abbrev pub decreases-joined-loop-joint : goal.decreases-joined-loop-joint
-decreases-joined-loop-joint l = length l.rest
+abbrev pub invariant-joined-loop-turn : goal.invariant-joined-loop-turn
+invariant-joined-loop-turn l =
+    let turns = suc (length l.fn.tokens) in
+    joined l.clause (part_at l.depth) l.least turns (parsed l.fn.first) l.fn.tokens
+    ≡ joined l.clause (part_at l.depth) l.least (turns - l._turn) (parsed l.part) l.rest
