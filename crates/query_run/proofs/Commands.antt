@@ -1,6 +1,7 @@
 -- The query that was read of a command and checked, and the plan that it has.
-use Rattle.std.proofs.Common.{◌≡◌, ◌≤◌, Bool, false, List, [], ◌∷◌, map, flat_map, Option, Some, None, is_some, option_map, refl, sym, ap, ap₂, subst, ◌∙◌, arith, append-nil}
-use Rattle.query_run.proofs.Prelude.{All, cond_both, All-head, IsTypedQuery, from_types, BothOrNone, IsChecked, IsCheckedJoin, IsShape, use_of, join_use, used_tables, need, FromColumn, from_columns, join_tables, refusal_of, table_columns, output_names, sort_key, Join, OrderKey, Query, Schema, TableDecl, Checked, CheckedJoin, Shape, Plain, Grouped, Kind, QueryTree, condition, IsReadFrom, plain_of_read, one_tree, IsWithinLimits, Command, IsPlain, IsPlannable, UsesNoList, used_types, IsTypedSelect, typed-select, types_of_table, are_some, from_few, need_simple, simple_need, source_bounds}
+use Rattle.std.proofs.Common.{◌≡◌, ◌≤◌, Bool, true, false, not, ◌||◌, List, [], ◌∷◌, length, map, flat_map, Option, Some, None, is_some, option_map, refl, sym, ap, ap₂, subst, ◌∙◌, arith, append-nil}
+use Rattle.std.specs.Prelude.{◌==◌}
+use Rattle.query_run.proofs.Prelude.{All, All-head, IsTypedQuery, from_types, BothOrNone, IsChecked, IsCheckedJoin, IsShape, use_of, join_use, used_tables, need, FromColumn, from_columns, join_tables, refusal_of, table_columns, output_names, sort_key, Join, OrderKey, Query, Schema, TableDecl, Checked, CheckedJoin, Shape, Plain, Grouped, Kind, QueryTree, condition, IsReadFrom, analysable_of_read, is_grouped, one_table_of_read, one_tree, same_grouped, IsWithinLimits, Command, IsPlannable, UsesNoList, used_types, IsTypedSelect, typed-select, types_of_table, are_grouped, are_some, are_tested, from_few, need_simple, simple_need, source_bounds}
 use Rattle.query_model.specs.declared.processor_spec.Kind.TheVariants as kind
 use Rattle.query_run.specs.Names.{NamesFewPaths, stock_of, IsAccepted, IsCheckedCommand, UsesLists, schemas_of, tables_used}
 
@@ -78,36 +79,28 @@ none_with R (Some x) b h e = absurd cc
 -- the query is one that is planned
 pub plannable : (command : Command) (checked : Checked) → IsCheckedCommand command checked
     → IsPlannable checked command.tables
-plannable command checked h =
-    let plain = plain_of_read h.query command.query h.read in
-    let columns : List FromColumn = from_columns h.query (schemas_of command) in
-    record {
-      one_table = none_with _ h.query.join checked.join h.is.join plain.one_table;
-      no_list = subst (UsesNoList command.tables) (sym h.is.from)
-          (All-head (UsesNoList command.tables) _ _ h.planned);
-      plain = go h.query columns checked.shape
-          (subst (λ (b : Bool). IsShape h.query columns b checked.shape) plain.ungrouped
-          h.is.shape);
-    }
-  where
-    go : (q : Query) (columns : List FromColumn) (s : Shape) → IsShape q columns false s → IsPlain s
-    go q columns (Plain items) is = tt
-    go q columns (Grouped g) is = absurd is
+plannable command checked h = record {
+  one_table = none_with _ h.query.join checked.join h.is.join
+      (one_table_of_read h.query command.query h.read);
+  no_list = subst (UsesNoList command.tables) (sym h.is.from)
+      (All-head (UsesNoList command.tables) _ _ h.planned);
+}
 
 -- a checked command's query is typed by the columns of its table
 pub typed_by_table : (command : Command) (checked : Checked) → IsCheckedCommand command checked
     → IsTypedSelect (used_types command.tables checked.from) checked
 typed_by_table command checked h =
-    let plain = plain_of_read h.query command.query h.read in
     let schemas : List Schema = schemas_of command in
     let types : from_types h.query schemas ≡ used_types command.tables checked.from =
     ap (λ (j : Option Join). map (λ (c : FromColumn). c.type)
-    (flat_map (table_columns schemas) (h.query.from ∷ join_tables j))) plain.one_table
+    (flat_map (table_columns schemas) (h.query.from ∷ join_tables j)))
+    (one_table_of_read h.query command.query h.read)
     ∙ ap (map (λ (c : FromColumn). c.type)) (append-nil (table_columns schemas h.query.from))
     ∙ types_of_table command.tables h.query.from
     ∙ ap (used_types command.tables) (sym h.is.from) in
     subst (λ types. IsTypedSelect types checked) types
-    (typed-select h.query schemas checked h.accepted h.is plain.ungrouped h.typed)
+    (typed-select h.query schemas checked h.accepted h.is
+    (analysable_of_read true h.query command.query h.read) h.typed)
 
 -- ---- what it needs
 
@@ -121,6 +114,20 @@ some_both R None None h = refl
 some_both R None (Some y) h = absurd h
 some_both R (Some x) None h = absurd h
 some_both R (Some x) (Some y) h = refl
+
+-- HAVING makes a query grouped
+no_having : (a b c : Bool) → (a || b || c) ≡ false → b ≡ false
+no_having false false c h = refl
+no_having a b c h = absurd cc
+
+-- the checked query is grouped, and its groups are tested, where the query says so
+groups_are : (q : Query) (columns : List FromColumn) (b : Bool) → is_grouped q ≡ b → (s : Shape)
+    → IsShape q columns b s → (are_grouped s ≡ is_grouped q) × (are_tested s ≡ is_some q.having)
+groups_are q columns false e (Plain items) is =
+    (sym e, sym (no_having (not (length q.keys == 0)) (is_some q.having) _ e))
+groups_are q columns true e (Grouped g) is =
+    (sym e, sym (some_both _ q.having g.having is.having))
+groups_are q columns b e s is = absurd is
 
 -- the checked query has keys where the query has
 keys_are : (command : Command) (q : Query) (checked : Checked)
@@ -162,13 +169,16 @@ module _ (command : Command) (p q : Checked) (a : IsCheckedCommand command p)
       let orders : are_some p.order ≡ are_some q.order =
       keys_are command a.query p a.is ∙ ap (λ (t : QueryTree). are_some t.order) trees
       ∙ sym (keys_are command b.query q b.is) in
+      let of_p = groups_are a.query _ (is_grouped a.query) refl p.shape a.is.shape in
+      let of_q = groups_are b.query _ (is_grouped b.query) refl q.shape b.is.shape in
+      let groups : are_grouped p.shape ≡ are_grouped q.shape =
+      of_p.0 ∙ same_grouped a.query b.query trees ∙ sym of_q.0 in
+      let tests : are_tested p.shape ≡ are_tested q.shape =
+      of_p.1 ∙ sym (some_mapped condition a.query.having)
+      ∙ ap (λ (t : QueryTree). is_some t.having) trees
+      ∙ some_mapped condition b.query.having ∙ sym of_q.1 in
       need_simple command.tables command.threads p (plannable command p a) k
-      ∙ ap (λ u. simple_need command.tables command.threads u (is_some p.filter) (are_some p.order)
-      (is_some p.limit) k) from
-      ∙ ap (λ n. simple_need command.tables command.threads q.from (is_some p.filter) n
-      (is_some p.limit) k) orders
-      ∙ ap₂ (λ f l. simple_need command.tables command.threads q.from f (are_some q.order) l k)
-      filters limits
+      ∙ rw (from, filters, groups, tests, orders, limits) refl
       ∙ sym (need_simple command.tables command.threads q (plannable command q b) k)
 
 -- the stock is enough for every plan within the limit of paths
@@ -177,33 +187,20 @@ pub stock_serves : (command : Command) (q : Checked) → IsWithinLimits command
     → need q command.tables command.threads k ≤ stock_of k
 stock_serves command q within h few k =
     subst (λ n. n ≤ stock_of k)
-    (sym (need_simple command.tables command.threads q (plannable command q h) k)) (go k)
+    (sym (need_simple command.tables command.threads q (plannable command q h) k))
+    (go k (is_some q.filter) (are_grouped q.shape) (are_tested q.shape) (are_some q.order)
+    (is_some q.limit))
   where
-    go : (k : Kind) → simple_need command.tables command.threads q.from (is_some q.filter)
-        (are_some q.order) (is_some q.limit) k ≤ stock_of k
-    go kind.Csv = let most = (source_bounds command.tables q.from (plannable command q h).no_list
+    go : (k : Kind) (filtered grouped tested ordered limited : Bool)
+        → simple_need command.tables command.threads q.from filtered grouped tested ordered limited
+        k ≤ stock_of k
+    go kind.Csv f g t o l = let most =
+        (source_bounds command.tables q.from (plannable command q h).no_list
         (from_few command.tables q few)).0 in omega (arith, most)
-    go kind.List = let none = (source_bounds command.tables q.from (plannable command q h).no_list
+    go kind.List f g t o l = let none =
+        (source_bounds command.tables q.from (plannable command q h).no_list
         (from_few command.tables q few)).1 in omega (arith, none)
-    go kind.Numbers = let most =
+    go kind.Numbers f g t o l = let most =
         (source_bounds command.tables q.from (plannable command q h).no_list
         (from_few command.tables q few)).2 in omega (arith, most)
-    go kind.Filter =
-        let most = within.few_threads in
-        cond_both (is_some q.filter) command.threads 0 (λ n. n ≤ 17) (λ _. omega (arith, most))
-        (λ _. omega arith)
-    go kind.Expression = let most = within.few_threads in omega (arith, most)
-    go kind.Resize =
-        cond_both (are_some q.order) 1 2 (λ n. n ≤ 4) (λ _. omega arith) (λ _. omega arith)
-    go kind.PartialAggregate = omega arith
-    go kind.MergeAggregate = omega arith
-    go kind.HashJoin = omega arith
-    go kind.Sort =
-        let most = within.few_threads in
-        cond_both (are_some q.order) command.threads 0 (λ n. n ≤ 17) (λ _. omega (arith, most))
-        (λ _. omega arith)
-    go kind.MergeSorted =
-        cond_both (are_some q.order) 1 0 (λ n. n ≤ 1) (λ _. omega arith) (λ _. omega arith)
-    go kind.Limit =
-        cond_both (is_some q.limit) 1 0 (λ n. n ≤ 1) (λ _. omega arith) (λ _. omega arith)
-    go kind.Collect = omega arith
+    go k f g t o l = let most = within.few_threads in grind (arith, most)

@@ -1,9 +1,9 @@
 -- From the chunks that a plan's graph gives to the text of one answer of a command.
 use Rattle.std.proofs.Common.{◌≡◌, ◌⊎◌, ℕ, ◌+◌, ◌-◌, ◌<◌, Bool, true, false, if◌then◌else◌, List, [], ◌∷◌, ◌++◌, map, length, refl, ap, sym, subst, ◌∙◌, arith, Option, Some, None, inl, inr, length-append, flat_map}
-use Rattle.query_run.proofs.Prelude.{IfSome, All, get_or-map, length-map, All-append, All-nil, Row, ColumnType, SortKey, AllPartsValid, Files, database, join_use, parts_used, IsValidUsed, flow, kind_of, answer_text, rows_text, Checked, Spec, Shape, Plain, Grouped, heading, Kind, map-map, IsWithinLimits, Command, BoxPicture, handed_out_by, IsSourceKind, chunk_rows, box_at, no_draft, ports_of, with_nodes, DraftNode, NodePort, HasEnough, SelectPlan, body_nodes, collect_node, join_valid, needed_valid, plan_nodes, plan_valid, read_valid, shape_of, pulled_rows, NodeForm, forms, node_form, Stream, all_rows, rows_of, IsPlain, IsPlannable, join_of, order_of, source_types, HasEnded, HasPulled, parts_of, pulled_at, since-pulled, table-valid, QueryAnswered, planned-ended, HasStock, kinds_of, spec_at}
+use Rattle.query_run.proofs.Prelude.{IfSome, All, get_or-map, length-map, All-append, All-nil, Row, ColumnType, SortKey, AllPartsValid, Files, database, join_use, parts_used, IsValidUsed, flow, kind_of, answer_text, rows_text, Checked, Spec, Shape, Plain, Grouped, heading, Kind, map-map, IsWithinLimits, Command, BoxPicture, handed_out_by, IsSourceKind, chunk_rows, box_at, no_draft, ports_of, with_nodes, DraftNode, NodePort, HasEnough, SelectPlan, body_nodes, collect_node, join_valid, needed_valid, plan_nodes, plan_valid, read_valid, shape_of, pulled_rows, NodeForm, forms, node_form, Stream, all_rows, rows_of, IsPlannable, join_of, order_of, source_types, HasEnded, HasPulled, parts_of, pulled_at, since-pulled, table-valid, QueryAnswered, planned-ended, HasStock, kinds_of, spec_at}
 use Rattle.query_model.specs.declared.processor_spec.Kind.TheVariants as kind
 use Rattle.query_model.specs.declared.processor_spec.Spec.TheVariants as spec
-use Rattle.query_run.specs.Names.{AreLawfulOver, IsRunnable, PulledMore, plan_of, specs_in, IsCheckedCommand, IsCertain, MakesText, PullsItsFlow, GivesText}
+use Rattle.query_run.specs.Names.{AreLawfulOver, IsPlain, IsRunnable, PulledMore, plan_of, specs_in, IsCheckedCommand, IsCertain, MakesText, PullsItsFlow, GivesText}
 use Rattle.query_run.proofs.Causes.{ran, stock}
 use Rattle.query_run.proofs.Commands.{plannable, typed_by_table}
 use Rattle.query_run.proofs.Plans.{ended-files, ended-kind, ended-lawful, ran-at, small_plan}
@@ -21,14 +21,13 @@ if-some : {A : Type 0} {P Q : A → Type 0} (o : Option A) → ((x : A) → P x 
 if-some None f h = h
 if-some (Some x) f h = f x h
 
--- a plan that was cut short reads valid parts alone, or the query has no order
+-- a plan that was cut short reads valid parts alone, or the query has no groups and no order
 cut_or_valid : (s : Shape) (from types : List ColumnType) (rows : ℕ) (keys : List SortKey)
-    (all join : Bool) → IsPlain s
+    (all join : Bool)
     → needed_valid (shape_of s from rows) (order_of types rows keys) all join ≡ true
-    → (all ≡ true) ⊎ (keys ≡ [])
-cut_or_valid (Plain items) from types rows [] all join h e = inr refl
-cut_or_valid (Plain items) from types rows (key ∷ keys) all join h e = inl e
-cut_or_valid (Grouped g) from types rows keys all join h e = absurd h
+    → (all ≡ true) ⊎ (IsPlain s × (keys ≡ []))
+cut_or_valid (Plain items) from types rows [] all join e = inr (tt, refl)
+cut_or_valid s from types rows keys all join e = inl e
 
 -- ---- an ended plan
 
@@ -136,12 +135,12 @@ module _ (c : Command) (within : IsWithinLimits c) (q : Checked) (h : IsCheckedC
           elim (cut_or_valid q.shape
           (source_types c.tables q.from q.join) q.types c.chunk_rows q.order
           (plan_valid (parts_of files) plan) (join_valid (parts_of files) plan.join)
-          (plannable c q h).plain cut.needed) [
+          cut.needed) [
             | inl all ↦ inl (all_parts all)
-            | inr unordered ↦ inr (record {
+            | inr free ↦ inr (record {
               enough_rows = subst (HasEnough q.limit) answered.output cut.enough_rows;
-              ungrouped = (plannable c q h).plain;
-              unordered = unordered;
+              ungrouped = free.0;
+              unordered = free.1;
               joined = joined;
             })
           ]

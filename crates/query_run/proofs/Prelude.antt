@@ -18,7 +18,7 @@ pub use Rattle.outside_io.proofs.Growing.{GrewByPrefix-after, GrewByPrefix-appen
 pub use Rattle.outside_io.specs.Counts.{Rose, Rose-earlier}
 pub use Rattle.outside_io.specs.Growth.{GrewBy, GrewByPrefix, Untouched}
 pub use Rattle.plan_ends.proofs.Columns.{IsTypedSelect, typed-select, types_of_table}
-pub use Rattle.plan_ends.proofs.Needs.{are_some, from_few, need_simple, simple_need, source_bounds}
+pub use Rattle.plan_ends.proofs.Needs.{are_grouped, are_some, are_tested, from_few, need_simple, simple_need, source_bounds}
 pub use Rattle.plan_ends.proofs.NodeKinds.{kinds-counted, kinds-same}
 pub use Rattle.plan_ends.proofs.Parts.{IsPartOf, in-front, table-parts, table-valid}
 pub use Rattle.plan_ends.proofs.Pulled.{since-pulled}
@@ -39,7 +39,7 @@ pub use Rattle.port_word.specs.declared.flags.Wire.{Wire}
 pub use Rattle.proc_api.specs.Names.{BoxPicture, HasNoReader, IsBlank, IsGraph, IsLongFile, IsSourceKind, OfPart, chunk_rows, handed_out_by, is_of, kind_place, no_box, raised, same_kind}
 pub use Rattle.proc_api.specs.declared.status.WorkFault.{WorkFault}
 pub use Rattle.query_model.proofs.Lists.{map-map}
-pub use Rattle.query_model.specs.Names.{AllPartsValid, BothOrNone, Files, FromColumn, IsChecked, IsCheckedJoin, IsDue, IsShape, IsTypedQuery, IsValidUsed, UsedPart, answer_text, database, flow, from_columns, from_types, join_tables, join_use, kind_of, need, output_names, part_bad_place, parts_used, refusal_of, rows_text, sort_key, table_columns, use_of, used_parts, used_tables}
+pub use Rattle.query_model.specs.Names.{AllPartsValid, BothOrNone, Files, FromColumn, IsChecked, IsCheckedJoin, IsDue, IsShape, IsTypedQuery, IsValidUsed, UsedPart, answer_text, database, flow, from_columns, from_types, is_grouped, join_tables, join_use, kind_of, need, output_names, part_bad_place, parts_used, refusal_of, rows_text, sort_key, table_columns, use_of, used_parts, used_tables}
 pub use Rattle.query_model.specs.declared.checked.Checked.{Checked}
 pub use Rattle.query_model.specs.declared.checked.CheckedJoin.{CheckedJoin}
 pub use Rattle.query_model.specs.declared.checked.Shape.{Shape}
@@ -59,13 +59,13 @@ pub use Rattle.select_planner.proofs.Laying.{is-small}
 pub use Rattle.select_planner.specs.Counts.{boxes_needed}
 pub use Rattle.select_planner.specs.Refusals.{first_crowded}
 pub use Rattle.select_planner.specs.Shapes.{edge_of, node_of, plan_ranks, plan_wires, wire_of}
-pub use Rattle.select_planner.specs.Steps.{IsPlain, IsPlannable, UsesNoList, join_of, order_of, source_types, used_types}
+pub use Rattle.select_planner.specs.Steps.{IsPlannable, UsesNoList, join_of, order_of, source_types, used_types}
 pub use Rattle.select_planner.specs.declared.nodes.Plan.{Plan}
 pub use Rattle.select_planner.specs.declared.nodes.PlanNode.{PlanNode}
-pub use Rattle.sql_grammar.proofs.Trees.{same_refusal}
+pub use Rattle.sql_grammar.proofs.Trees.{same_grouped, same_refusal}
 pub use Rattle.sql_grammar.specs.Trees.{QueryTree, condition}
 pub use Rattle.sql_text.proofs.AnalysableQueries.{analysable_of_read}
-pub use Rattle.sql_text.proofs.BuiltQueries.{plain_of_read}
+pub use Rattle.sql_text.proofs.BuiltQueries.{one_table_of_read}
 pub use Rattle.sql_text.proofs.Readings.{one_tree}
 pub use Rattle.sql_text.specs.Refusals.{IsReadFrom, IsRefused}
 pub use Rattle.sql_text.specs.declared.limits.ParseRefusal.{ParseRefusal}

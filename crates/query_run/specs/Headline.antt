@@ -1,11 +1,13 @@
 -- What a run means: the text that an answer of its query has over the files' rows, and every other
 -- end.
-use Rattle.std.specs.Prelude.{◌≡◌, ◌≢◌, ◌⊎◌, ℕ, Bool, List, [], flat_map, length, Option, Some, None}
+use Rattle.std.specs.Prelude.{◌≡◌, ◌≢◌, ◌⊎◌, ℕ, Bool, List, [], flat_map, length, Option, Some, None, ⊤}
 use Rattle.std.specs.List.{All}
 use Rattle.outside_io.specs.Growth.{GrewBy, GrewByPrefix, Untouched}
 use Rattle.chunk_data.specs.Values.{Row}
 use Rattle.query_model.specs.Names.{IsAnswer, output_rows, flow, answer_text, Files, UsedPart, database, join_use, parts_used, used_parts, AllPartsValid, IsValidUsed}
 use Rattle.query_model.specs.declared.checked.Checked.{Checked}
+use Rattle.query_model.specs.declared.checked.Shape.{Shape}
+use Rattle.query_model.specs.declared.checked.Shape.TheVariants.{Grouped, Plain}
 use Rattle.query_model.specs.declared.query.TableDecl.{TableDecl}
 use Rattle.query_model.specs.declared.processor_spec.Kind.{Kind}
 use Rattle.query_model.specs.declared.processor_spec.Kind.TheVariants as kind
@@ -18,12 +20,16 @@ use Rattle.query_run.specs.declared.ending.Ending.{Ending}
 use Rattle.query_run.specs.declared.ending.Ending.TheVariants.{Answered, Failed, WriteFailed}
 use Rattle.query_run.specs.Endings.{status_of, line_of, TellsLine}
 use Rattle.plan_meaning.specs.Plans.{HasEnough}
-use Rattle.select_planner.specs.Steps.{IsPlain}
 use Rattle.query_run.specs.Racks.{boxes_for, IsHonest, IsRunnable, LacksBoxes, NamesFewPaths, OverFiles, PulledMore, RanPlan}
 use Rattle.query_run.specs.Commands.{IsAccepted, IsCheckedCommand, OfCommand, OfQuery}
 use Rattle.query_run.specs.Causes.{FailsAtPart, FailsFor, TakesBoxes}
 
 -- ---- answers
+
+-- the query has no groups
+abbrev pub IsPlain : Shape → Type 0
+IsPlain (Plain items) = ⊤
+IsPlain (Grouped g) = ⊥
 
 -- The query has LIMIT, no grouping and no order, each part of its other tables is valid, and the
 -- rows before the first bad record of each part are enough for the limit.

@@ -2,7 +2,7 @@
 pub use Rattle.query_run.specs.Causes.{EndsStuck, FailsAtPart, FailsFor, LeavesPlan, PartFailsFor, PlanFailsFor, ServesPart, TakesBoxes}
 pub use Rattle.query_run.specs.Commands.{IsAccepted, IsCheckedCommand, IsRefusedFor, IsRefusedQuery, OfChecked, OfCommand, OfQuery, UsesLists, schemas_of, tables_used}
 pub use Rattle.query_run.specs.Endings.{failure_status, part_status, plan_status, query_status, refused_status, status_of, text_status}
-pub use Rattle.query_run.specs.Headline.{AreRefused, Ends, EndsEarly, EndsFor, IsAnswerable, IsCertain, IsEither, IsRun, IsTextOfAnswer, LackBoxes, LeavesBoxes, MakesText, MeanNothing, NameManyPaths, PulledRows, PullsItsFlow, ReaderFails, SucceedsUnless, WritesAnswer}
+pub use Rattle.query_run.specs.Headline.{AreRefused, Ends, EndsEarly, EndsFor, IsAnswerable, IsCertain, IsEither, IsPlain, IsRun, IsTextOfAnswer, LackBoxes, LeavesBoxes, MakesText, MeanNothing, NameManyPaths, PulledRows, PullsItsFlow, ReaderFails, SucceedsUnless, WritesAnswer}
 pub use Rattle.query_run.specs.Racks.{AreLawfulOver, HasBoxes, IsHonest, IsRunnable, IsShort, LacksBoxes, NamesFewPaths, OverFiles, PulledMore, RanPlan, boxes_for, plan_kinds, plan_of, specs_in, stock_of}
 pub use Rattle.query_run.specs.Steps.{GivesText, IsPlanFault, IsPlanned, Tells, failure_of, name_at, name_of, node_specs, part_of_node, part_place}
 pub use Rattle.query_run.specs.declared.ending.Ending.{Ending}
