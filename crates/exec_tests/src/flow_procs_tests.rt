@@ -441,30 +441,6 @@ fn end_all(view: &mut PortView) -> Result<(), Fail>
     Ok(())
 }
 
-// Pulls what it finds, and works it; what was pushed before.
-fn move_one(
-    b: &mut Box<dyn Processor + Send>,
-    view: &mut PortView,
-    text: &mut String,
-) -> Result<(), Fail>
-    requires running { IsRunning (seen b.old) }
-    requires follows { FollowsKept (seen b.old) view.old }
-    ensures running { OnOk result (IsRunning (seen b.new)) }
-    ensures follows { OnOk result (FollowsKept (seen b.new) view.new) }
-    ensures taken { OnOk result (view.new.actions ≡ []) }
-{
-    let Status::Ready = prepare(b, view) else {
-        return Err("an input with data starves".into());
-    };
-    if work(b).is_err() {
-        return Err("a work failed".into());
-    }
-    match take_actions(view)? {
-        Some(pushed) => show(text, &pushed),
-        None => Ok(()),
-    }
-}
-
 // Shows the chunk that was pushed.
 fn show_pushed(view: &mut PortView, text: &mut String) -> Result<(), Fail>
     ensures taken { OnOk result (view.new.actions ≡ []) }
@@ -500,10 +476,9 @@ fn resize_all(alloc: Global, b: &mut Box<dyn Processor + Send>) -> Result<String
     let _ = take_actions(&mut view)?;
     give(&mut view, 31, numbers(alloc, &[1, 2])?)?;
     give(&mut view, 4, numbers(alloc, &[3])?)?;
-    move_one(b, &mut view, &mut text)?;
-    move_one(b, &mut view, &mut text)?;
+    // Both outputs are full after one prepare: each has its chunk.
     let Status::PortFull = prepare(b, &mut view) else {
-        return Err("both outputs are full".into());
+        return Err("a chunk was not moved, or an output is not full".into());
     };
     show_pushed(&mut view, &mut text)?;
     end_all(&mut view)?;
@@ -516,10 +491,10 @@ fn a_resize_is_driven_by_hand_and_again(rt: HostRuntime) -> Result<(), Fail> {
     let alloc = rt.alloc();
     let mut b: Box<dyn Processor + Send> = Box::new(alloc, Resize::new(alloc))?;
     let first = resize_all(alloc, &mut b)?;
-    assert_eq!(rt; first.as_str(), "3 |1 2 |end");
+    assert_eq!(rt; first.as_str(), "1 2 |end");
     b.unload();
     let again = resize_all(alloc, &mut b)?;
-    assert_eq!(rt; again.as_str(), "3 |1 2 |end");
+    assert_eq!(rt; again.as_str(), "1 2 |end");
     assert!(rt; b.kind() == Kind::Resize);
     Ok(())
 }

@@ -5,9 +5,17 @@
 #![tactic(auto)]
 
 #[cfg(test)]
+mod csv_procs_tests;
+#[cfg(test)]
 mod exec_core_tests;
 #[cfg(test)]
 mod flow_procs_tests;
+#[cfg(test)]
+mod pipeline_exec_tests;
+#[cfg(test)]
+mod plan_run_tests;
+#[cfg(test)]
+mod scripted;
 #[cfg(test)]
 mod sort_procs_tests;
 #[cfg(test)]

@@ -1,0 +1,164 @@
+ghost use Rattle.std.specs.Prelude.{◌≡◌, IfOk, OnOk, map};
+ghost use Rattle.std.specs.List.{All};
+ghost use Rattle.proc_api.specs.Clauses.{IsFresh};
+ghost use Rattle.pipeline_exec.specs.Ends.{IsNoList};
+
+use crate::scripted::{Role, make_box, part};
+use exec_graph::GraphBuilder;
+use flow_procs::{Collect, Numbers};
+use pipeline_exec::{ExecEnd, RunResult, run_graph};
+use proc_api::{Processor, Status, WorkFault};
+use query_model::processor_spec::{Kind, Spec};
+use std::alloc::Global;
+use std::test::Fail;
+
+// What a box of the kind is loaded with; none is a List, since that would grow the graph.
+fn spec_for(alloc: Global, kind: Kind) -> Result<Spec, Fail> {
+    match kind {
+        Kind::Csv => Ok(Spec::Csv(part(alloc))),
+        Kind::Numbers => Ok(Spec::Numbers(3, 1)),
+        Kind::Collect => Ok(Spec::Collect),
+        _ => Err("a box is of another kind".into()),
+    }
+}
+
+// Loads the box.
+fn loaded(alloc: Global, b: Box<dyn Processor + Send>) -> Result<Box<dyn Processor + Send>, Fail>
+    ensures fresh { IfOk result (λ b. IsFresh (seen b)) }
+    ensures no_list { IfOk result (λ b. IsNoList (seen b)) }
+{
+    let mut b = b;
+    match b.load(spec_for(alloc, b.kind())?) {
+        Ok(()) => {}
+        Err(_) => return Err("a blank box was not loaded".into()),
+    }
+    match b.kind() {
+        Kind::Csv | Kind::Numbers | Kind::Collect => Ok(b),
+        _ => Err("a box is of another kind".into()),
+    }
+}
+
+// Loads the box, and adds it as a node of the rank.
+fn add(
+    alloc: Global,
+    builder: &mut GraphBuilder,
+    b: Box<dyn Processor + Send>,
+    rank: u32,
+) -> Result<(), Fail>
+    ensures all_fresh { OnOk result (All IsFresh (map (λ b. seen b) builder.old.boxes.items)
+        → All IsFresh (map (λ b. seen b) builder.new.boxes.items)) }
+    ensures no_lists { OnOk result (All IsNoList (map (λ b. seen b) builder.old.boxes.items)
+        → All IsNoList (map (λ b. seen b) builder.new.boxes.items)) }
+{
+    let b = match loaded(alloc, b) {
+        Ok(b) => b,
+        Err(fail) => return Err(fail),
+    };
+    match builder.add(b, rank) {
+        Ok(_) => {}
+        Err(_) => return Err("a node was not added".into()),
+    }
+    Ok(())
+}
+
+// Adds an edge between the first ports of two nodes.
+fn connect(builder: &mut GraphBuilder, from: u32, to: u32) -> Result<(), Fail>
+    ensures boxes { builder.new.boxes.items ≡ builder.old.boxes.items }
+{
+    if from as usize >= builder.ranks.len() || to as usize >= builder.ranks.len() {
+        return Err("a node is missing".into());
+    }
+    match builder.connect(from, 0, to, 0) {
+        Ok(()) => Ok(()),
+        Err(_) => Err("an edge was not added".into()),
+    }
+}
+
+// Runs the boxes, of which the next is the last of the list: those of a chain have ranks that rise,
+// and in a row of pairs each second one is joined to the one before it.
+fn run_boxes<R: AllocGlobal>(
+    rt: &R,
+    boxes: Vec<Box<dyn Processor + Send>>,
+    chain: bool,
+) -> Result<(Vec<Box<dyn Processor + Send>>, ExecEnd), Fail> {
+    let mut boxes = boxes;
+    let count = u32::try_from(boxes.len()).unwrap_or(0);
+    let mut builder = GraphBuilder::new(rt.alloc());
+    for node in 0..count {
+        match boxes.pop() {
+            Some(b) => add(rt.alloc(), &mut builder, b, node)?,
+            None => return Err("a box is missing".into()),
+        }
+    }
+    for node in 1..count {
+        if chain || node % 2 == 1 {
+            connect(&mut builder, node - 1, node)?;
+        }
+    }
+    run_built(rt, builder)
+}
+
+fn run_built<R: AllocGlobal>(
+    rt: &R,
+    builder: GraphBuilder,
+) -> Result<(Vec<Box<dyn Processor + Send>>, ExecEnd), Fail>
+    requires fresh { All IsFresh (map (λ b. seen b) builder.boxes.items) }
+    requires no_lists { All IsNoList (map (λ b. seen b) builder.boxes.items) }
+{
+    match builder.finish() {
+        Ok(graph) => {
+            let RunResult { boxes, end } = run_graph(rt, graph, 2);
+            Ok((boxes, end))
+        }
+        Err(_) => Err("a graph was not built".into()),
+    }
+}
+
+#[test]
+fn all_boxes_of_256_nodes_come_back(rt: HostRuntime) -> Result<(), Fail> {
+    let mut boxes: Vec<Box<dyn Processor + Send>> = Vec::new(rt.alloc());
+    for _pair in 0..128 {
+        for (role, chunks) in [(Role::Take, 0), (Role::Give, 3)] {
+            let b = Box::new(rt.alloc(), make_box(rt, Kind::Csv, role, chunks)?)?;
+            boxes.push(b)?;
+        }
+    }
+    let (boxes, end) = run_boxes(&rt, boxes, false)?;
+    assert_eq!(rt; boxes.len(), 256);
+    assert!(rt; matches!(end, ExecEnd::Done));
+    Ok(())
+}
+
+// The numbers are never asked for, so their box is never prepared.
+#[test]
+fn a_box_that_asks_for_nothing_is_named(rt: HostRuntime) -> Result<(), Fail> {
+    let mut boxes: Vec<Box<dyn Processor + Send>> = Vec::new(rt.alloc());
+    boxes.push(Box::new(rt.alloc(), Collect::new(rt.alloc()))?)?;
+    let balking = make_box(rt, Kind::Csv, Role::Balk, 0)?;
+    boxes.push(Box::new(rt.alloc(), balking)?)?;
+    boxes.push(Box::new(rt.alloc(), Numbers::new(rt.alloc()))?)?;
+    let (boxes, end) = run_boxes(&rt, boxes, true)?;
+    assert_eq!(rt; boxes.len(), 3);
+    let ExecEnd::Stuck(report, node) = end else {
+        return Err("the run was not stuck".into());
+    };
+    assert_eq!(rt; node, 1);
+    assert_eq!(rt; report.len(), 3);
+    assert_eq!(rt; report.get(0).last, None);
+    assert_eq!(rt; report.get(1).last, Some(Status::NeedData));
+    assert_eq!(rt; report.get(2).last, Some(Status::NeedData));
+    Ok(())
+}
+
+#[test]
+fn a_fault_ends_the_run_and_gives_all_boxes_back(rt: HostRuntime) -> Result<(), Fail> {
+    let mut boxes: Vec<Box<dyn Processor + Send>> = Vec::new(rt.alloc());
+    for (role, chunks) in [(Role::Take, 0), (Role::Work, 0), (Role::Give, 3)] {
+        let b = Box::new(rt.alloc(), make_box(rt, Kind::Csv, role, chunks)?)?;
+        boxes.push(b)?;
+    }
+    let (boxes, end) = run_boxes(&rt, boxes, true)?;
+    assert_eq!(rt; boxes.len(), 3);
+    assert!(rt; matches!(end, ExecEnd::Fault(1, WorkFault::Bad(_))));
+    Ok(())
+}

@@ -1,0 +1,239 @@
+// Processors that keep to a script, and not to the contract of their kind.
+ghost use Rattle.std.specs.Prelude.{◌≡◌, ◌<◌};
+ghost use Rattle.std.specs.Option.{option_map, unwrap_or};
+ghost use Rattle.query_model.specs.declared.processor_spec.Spec.TheVariants as spec;
+ghost use Rattle.port_word.specs.Names.{in_count, ChangedByCalls};
+ghost use Rattle.proc_api.specs.Names.{no_notes};
+
+use chunk_data::{Bytes, Chunk, List};
+use port_word::PortView;
+use proc_api::{
+    BadField, BadPlace, BoxNotes, Growth, LoadRefusal, Processor, Status, Wake, WorkFault,
+};
+use query_model::processor_spec::{Kind, PartSpec, Spec};
+use std::alloc::Global;
+use std::mem::replace;
+use std::process::Abort;
+use std::test::Fail;
+
+/// What a test processor does when it is prepared.
+#[derive(Clone, Copy)]
+pub(crate) enum Role {
+    /// Gives as many chunks as it has, and finishes.
+    Give,
+    /// Is ready, and answers a fault.
+    Fail,
+    /// Takes each chunk.
+    Take,
+    /// Takes a chunk, is ready, and answers a fault.
+    Work,
+    /// Answers that it needs data, and asks for none.
+    Balk,
+}
+
+#[derive(Drop)]
+pub(crate) struct Scripted<R> {
+    kind: Kind,
+    role: Role,
+    loaded: bool,
+    part: Option<PartSpec>,
+    chunks: Vec<Chunk>,
+    notes: BoxNotes,
+    rt: R,
+}
+
+impl<R: Abort + AllocGlobal + Drop + Send> Processor for Scripted<R> {
+    ghost use Rattle.std.specs.Prelude.{false, Some, None, if◌then◌else◌};
+    ghost use Rattle.std.specs.Option.{option_map, unwrap_or};
+    ghost use Rattle.query_model.specs.declared.processor_spec.Spec.TheVariants as spec;
+    ghost use Rattle.proc_api.specs.Boxes.{idle_work};
+
+    ghost seen = { λ p. record {
+      kind = p.kind;
+      lawful = false;
+      files = None;
+      spec = if p.loaded then Some (unwrap_or (option_map spec.Csv p.part) spec.Collect) else None;
+      faults = 0;
+      pendings = 0;
+      pulled = 0;
+      work = record idle_work { gathered = p.chunks.items };
+      notes = record p.notes { given = 0 };
+      growth = None;
+    } };
+
+    ghost stands = { λ p. None };
+
+    fn kind(&self) -> Kind {
+        self.kind
+    }
+
+    fn load(&mut self, spec: Spec) -> Result<(), LoadRefusal> {
+        if self.loaded {
+            self.rt.abort()
+        }
+        must_be(&self.rt, spec.kind(), self.kind);
+        let part = part_of(&self.rt, spec);
+        self.part = part;
+        self.loaded = true;
+        self.notes = new_notes(&self.rt);
+        Ok(())
+    }
+
+    fn prepare(&mut self, view: &mut PortView) -> Status {
+        let status = match self.role {
+            Role::Give => give(&mut self.chunks, view),
+            Role::Fail => Status::Ready,
+            Role::Take => take(&self.rt, &mut self.chunks, view, false),
+            Role::Work => take(&self.rt, &mut self.chunks, view, true),
+            Role::Balk => Status::NeedData,
+        };
+        self.notes.note_view(view, status);
+        status
+    }
+
+    fn work(&mut self) -> Result<(), WorkFault> {
+        must_be(&self.rt, self.kind, Kind::Csv);
+        let fault = WorkFault::Bad(BadPlace {
+            row: 1,
+            field: BadField::Fields(2),
+        });
+        self.notes.note_fault(fault);
+        Err(fault)
+    }
+
+    fn schedule(&mut self) -> Result<Wake, WorkFault> {
+        self.rt.abort()
+    }
+
+    fn expand(&mut self) -> Result<Growth, WorkFault> {
+        self.rt.abort()
+    }
+
+    fn take_rows(&mut self) -> Vec<Chunk> {
+        match self.kind {
+            Kind::Collect => replace(&mut self.chunks, Vec::new(self.rt.alloc())),
+            _ => Vec::new(self.rt.alloc()),
+        }
+    }
+
+    fn unload(&mut self) {
+        self.loaded = false;
+        self.notes = new_notes(&self.rt);
+    }
+}
+
+fn must_be(rt: &impl Abort, a: Kind, b: Kind)
+    ensures { a ≡ b }
+{
+    match (a, b) {
+        (Kind::Csv, Kind::Csv) => {}
+        (Kind::Collect, Kind::Collect) => {}
+        _ => rt.abort(),
+    }
+}
+
+/// The part of a source's spec, and none of a collector's.
+fn part_of(rt: &impl Abort, given: Spec) -> Option<PartSpec>
+    ensures { given ≡ unwrap_or (option_map spec.Csv result) spec.Collect }
+{
+    match given {
+        Spec::Csv(part) => Some(part),
+        Spec::Collect => None,
+        _ => rt.abort(),
+    }
+}
+
+fn new_notes<R: Abort + AllocGlobal>(rt: &R) -> BoxNotes
+    ensures { result ≡ no_notes }
+{
+    match BoxNotes::new(rt.alloc()) {
+        Ok(notes) => notes,
+        Err(_) => rt.abort(),
+    }
+}
+
+fn give(chunks: &mut Vec<Chunk>, view: &mut PortView) -> Status
+    ensures { ChangedByCalls view.old view.new }
+{
+    if view.outputs() == 0 || view.out_finished(0) {
+        return Status::Finished;
+    }
+    if !view.can_push(0) {
+        return Status::PortFull;
+    }
+    match chunks.pop() {
+        Some(chunk) => {
+            let _ = view.push(0, chunk);
+            Status::PortFull
+        }
+        None => {
+            view.finish(0);
+            Status::Finished
+        }
+    }
+}
+
+fn take(rt: &impl Abort, chunks: &mut Vec<Chunk>, view: &mut PortView, works: bool) -> Status
+    ensures { ChangedByCalls view.old view.new }
+{
+    if view.inputs() == 0 {
+        return Status::Finished;
+    }
+    if let Some(chunk) = pull_and_want(view) {
+        if chunks.push(chunk).is_err() {
+            rt.abort()
+        }
+        if works {
+            return Status::Ready;
+        }
+    }
+    if view.in_finished(0) {
+        Status::Finished
+    } else {
+        Status::NeedData
+    }
+}
+
+fn pull_and_want(view: &mut PortView) -> Option<Chunk>
+    requires { 0 < in_count view.old }
+    ensures changed { ChangedByCalls view.old view.new }
+    ensures inputs { in_count view.new ≡ in_count view.old }
+{
+    let found = view.pull(0);
+    view.set_needed(0);
+    found
+}
+
+/// A blank processor of the kind and role, with so many chunks.
+pub(crate) fn make_box<R: Abort + AllocGlobal + Copy + Drop + Send>(
+    rt: R,
+    kind: Kind,
+    role: Role,
+    chunks: usize,
+) -> Result<Scripted<R>, Fail> {
+    let mut held = Vec::new(rt.alloc());
+    for _chunk in 0..chunks {
+        held.push(Chunk::new(rt.alloc(), &List::new(rt.alloc()))?)?;
+    }
+    Ok(Scripted {
+        kind,
+        role,
+        loaded: false,
+        part: None,
+        chunks: held,
+        notes: new_notes(&rt),
+        rt,
+    })
+}
+
+/// A part that a source may be loaded with.
+pub(crate) fn part(alloc: Global) -> PartSpec {
+    PartSpec {
+        table: 0,
+        part: 1,
+        path: Bytes::new(alloc),
+        types: List::new(alloc),
+        header: false,
+        rows: 1,
+    }
+}
