@@ -1,11 +1,14 @@
 //! `qrun` runs a SELECT query over CSV files and writes the answer's rows as CSV.
 #![tactic(auto)]
 
+mod breaker;
 mod racks;
 #[cfg(test)]
 mod tests;
 
+use crate::breaker::Breaker;
 use crate::racks::{OTHERS, SOURCES, unload_rack};
+use aggregate_proc::{MergeAggregate, PartialAggregate};
 use chunk_data::Memory;
 use csv_procs::CsvSource;
 use flow_procs::{Collect, Expression, Filter, Limit, Numbers, Resize};
@@ -70,15 +73,25 @@ fn run_words(rt: &HostRuntime, words: &[String]) -> Result<u8, Memory> {
                 Kind::Filter => rack.boxes.push(Box::new(alloc, Filter::new(alloc))?)?,
                 Kind::Expression => rack.boxes.push(Box::new(alloc, Expression::new(alloc))?)?,
                 Kind::Resize => rack.boxes.push(Box::new(alloc, Resize::new(alloc))?)?,
-                Kind::Sort => rack.boxes.push(Box::new(alloc, Sort::new(alloc))?)?,
-                Kind::MergeSorted => rack.boxes.push(Box::new(alloc, MergeSorted::new(alloc))?)?,
+                Kind::PartialAggregate => {
+                    let partial = Breaker::PartialAggregate(PartialAggregate::new(alloc));
+                    rack.boxes.push(Box::new(alloc, partial)?)?
+                }
+                Kind::MergeAggregate => {
+                    let merge = Breaker::MergeAggregate(MergeAggregate::new(alloc));
+                    rack.boxes.push(Box::new(alloc, merge)?)?
+                }
+                Kind::Sort => {
+                    let sort = Breaker::Sort(Sort::new(alloc));
+                    rack.boxes.push(Box::new(alloc, sort)?)?
+                }
+                Kind::MergeSorted => {
+                    let merge = Breaker::MergeSorted(MergeSorted::new(alloc));
+                    rack.boxes.push(Box::new(alloc, merge)?)?
+                }
                 Kind::Limit => rack.boxes.push(Box::new(alloc, Limit::new(alloc))?)?,
                 Kind::Collect => rack.boxes.push(Box::new(alloc, Collect::new(alloc))?)?,
-                Kind::Csv
-                | Kind::List
-                | Kind::PartialAggregate
-                | Kind::MergeAggregate
-                | Kind::HashJoin => {}
+                Kind::Csv | Kind::List | Kind::HashJoin => {}
             }
         }
     }

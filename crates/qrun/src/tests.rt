@@ -15,6 +15,7 @@ ghost use Rattle.qrun.specs.declared.racks.TheConstants.{OTHERS as others_of_rac
 mod boxes;
 mod cases;
 mod devices;
+mod groups;
 mod orders;
 mod plans;
 mod queries;
@@ -144,6 +145,8 @@ struct Setting<'a> {
     fake: Option<Fake>,
     /// How often a reader has nothing yet before its first byte.
     waits: u64,
+    /// The place of the one source whose reader is so, or else all are.
+    only: Option<u32>,
     /// How many sources and other boxes lie in the rack, where it isn't the standard one.
     stock: Option<(u32, &'a [(Kind, u32)])>,
     /// How often the words run.
@@ -159,6 +162,7 @@ fn ample(files: &List<FileEntry>) -> Setting<'_> {
         files,
         fake: None,
         waits: 0,
+        only: None,
         stock: None,
         runs: 1,
         step: 4096,
@@ -233,15 +237,19 @@ fn script_of(alloc: Global, fake: Option<Fake>) -> Result<List<Fake>, AllocError
     }
 }
 
-fn source_of(alloc: Global, setting: &Setting<'_>) -> Result<CsvSource<SlowFiles>, Fail>
+fn source_of(alloc: Global, setting: &Setting<'_>, place: u32) -> Result<CsvSource<SlowFiles>, Fail>
     ensures blank { IfOk result (λ s. IsLawfulBlank kind.Csv (source_seen s)) }
     ensures files { IfOk result (λ s. s.files ≡ Some (told_pairs setting.now.files.now)) }
 {
-    let script = script_of(alloc, setting.fake)?;
+    let (fake, waits) = match setting.only {
+        Some(only) if only != place => (None, 0),
+        _ => (setting.fake, setting.waits),
+    };
+    let script = script_of(alloc, fake)?;
     let files = copy_files(alloc, setting.files)?;
     let files = SlowFiles {
         files: MemFiles::new(alloc, files, script),
-        waits: setting.waits,
+        waits,
         pendings: 0,
     };
     Ok(CsvSource::new(alloc, files))
@@ -281,7 +289,7 @@ fn add_told_sources(
         (map (λ b. seen (b.vtable, b.value)) rack.new.boxes.items)) }
 {
     for n in 0..count {
-        let source = Box::new(rt.alloc(), source_of(rt.alloc(), setting)?)?;
+        let source = Box::new(rt.alloc(), source_of(rt.alloc(), setting, n)?)?;
         put_told(rack, setting.files, source)?;
     }
     Ok(())
@@ -407,19 +415,21 @@ fn outcome_of<R: AllocGlobal>(
 // A letter for each box of a rack, and a bar.
 fn show_kinds(kinds: &mut String, rack: &Rack) -> Result<(), Fail> {
     for b in rack.boxes.as_slice() {
-        kinds.push(letter_of(b))?;
+        kinds.push(letter_of(b.kind()))?;
     }
     kinds.push('|')?;
     Ok(())
 }
 
-fn letter_of(b: &Box<dyn Processor + Send>) -> char {
-    match b.kind() {
+fn letter_of(kind: Kind) -> char {
+    match kind {
         Kind::Csv => 's',
         Kind::Numbers => 'n',
         Kind::Filter => 'f',
         Kind::Expression => 'e',
         Kind::Resize => 'r',
+        Kind::PartialAggregate => 'p',
+        Kind::MergeAggregate => 'g',
         Kind::Sort => 'o',
         Kind::MergeSorted => 'm',
         Kind::Limit => 'l',

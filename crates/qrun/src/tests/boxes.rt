@@ -6,6 +6,7 @@ ghost use Rattle.query_model.specs.Database.{Files};
 ghost use Rattle.proc_api.specs.Clauses.{IsLawfulBlank, IsSourceKind};
 ghost use Rattle.qrun.specs.Stocking.{is_made, made, Adds, AddsEach};
 
+use aggregate_proc::{MergeAggregate, PartialAggregate};
 use chunk_data::Memory;
 use flow_procs::{Collect, Expression, Filter, Limit, Numbers, Resize};
 use proc_api::{Processor, Rack};
@@ -22,6 +23,34 @@ fn put(rack: &mut Rack, kind: Kind, b: Box<dyn Processor + Send>) -> Result<(), 
 {
     rack.boxes.push(b)?;
     Ok(())
+}
+
+// Makes a box of a kind that waits for its inputs and adds it; of no other kind. It stands apart,
+// since what proves a function that makes boxes goes over each of their types.
+fn add_breaker<R: AllocGlobal>(rt: &R, rack: &mut Rack, kind: Kind) -> Result<(), Memory>
+    ensures { (files : Option Files) → OnOk result (Adds kind (made kind 1) files
+        (map (λ b. seen (b.vtable, b.value)) rack.old.boxes.items)
+        (map (λ b. seen (b.vtable, b.value)) rack.new.boxes.items)) }
+{
+    match kind {
+        Kind::PartialAggregate => {
+            let partial = Box::new(rt.alloc(), PartialAggregate::new(rt.alloc()))?;
+            put(rack, kind, partial)
+        }
+        Kind::MergeAggregate => {
+            let merge = Box::new(rt.alloc(), MergeAggregate::new(rt.alloc()))?;
+            put(rack, kind, merge)
+        }
+        Kind::Sort => {
+            let sort = Box::new(rt.alloc(), Sort::new(rt.alloc()))?;
+            put(rack, kind, sort)
+        }
+        Kind::MergeSorted => {
+            let merge = Box::new(rt.alloc(), MergeSorted::new(rt.alloc()))?;
+            put(rack, kind, merge)
+        }
+        _ => Err(Memory),
+    }
 }
 
 // Makes a box of the kind and adds it, where such boxes are made and read no file.
@@ -47,14 +76,6 @@ fn add_box<R: AllocGlobal>(rt: &R, rack: &mut Rack, kind: Kind) -> Result<(), Me
             let resize = Box::new(rt.alloc(), Resize::new(rt.alloc()))?;
             put(rack, kind, resize)
         }
-        Kind::Sort => {
-            let sort = Box::new(rt.alloc(), Sort::new(rt.alloc()))?;
-            put(rack, kind, sort)
-        }
-        Kind::MergeSorted => {
-            let merge = Box::new(rt.alloc(), MergeSorted::new(rt.alloc()))?;
-            put(rack, kind, merge)
-        }
         Kind::Limit => {
             let limit = Box::new(rt.alloc(), Limit::new(rt.alloc()))?;
             put(rack, kind, limit)
@@ -63,8 +84,10 @@ fn add_box<R: AllocGlobal>(rt: &R, rack: &mut Rack, kind: Kind) -> Result<(), Me
             let collect = Box::new(rt.alloc(), Collect::new(rt.alloc()))?;
             put(rack, kind, collect)
         }
-        Kind::Csv | Kind::List | Kind::PartialAggregate | Kind::MergeAggregate | Kind::HashJoin =>
-            Ok(()),
+        Kind::PartialAggregate | Kind::MergeAggregate | Kind::Sort | Kind::MergeSorted => {
+            add_breaker(rt, rack, kind)
+        }
+        Kind::Csv | Kind::List | Kind::HashJoin => Ok(()),
     }
 }
 

@@ -1,9 +1,11 @@
 // Racks, readers and sinks that lack something, wait or fail.
 ghost use Rattle.std.specs.Prelude.{IsSome};
 
+use super::cases::{check, fields};
+use super::plans::SIZES;
 use super::{
-    Counted, USAGE, ample, one_file, put_told, run_once, run_setting, run_shown, script_of,
-    source_of, text, told_by, words_of,
+    Counted, Outcome, USAGE, ample, letter_of, one_file, put_told, run_once, run_setting,
+    run_shown, script_of, source_of, text, told_by, words_of,
 };
 use crate::racks::OTHERS;
 use crate::tests::boxes::add_each;
@@ -97,127 +99,55 @@ fn readers_fail_and_wait(rt: HostRuntime) -> Result<(), Fail> {
     Ok(())
 }
 
-/// A reader that has nothing yet 999,999 times before its block.
-#[test]
-fn a_reader_may_wait_many_times(rt: HostRuntime) -> Result<(), Fail> {
-    let words = words_of(rt.alloc(), "SELECT a FROM t", "t=f.csv:a Int64")?;
-    let files = one_file(rt.alloc(), b"7\n")?;
-    let mut setting = ample(&files);
-    setting.waits = 999_999;
-    let waited = run_once(&rt, words.as_slice(), &setting)?;
-    assert_eq!(rt; waited.status, 0);
-    assert_eq!(rt; waited.out.as_slice(), b"7\n".as_slice());
-    Ok(())
-}
-
-/// And one more time.
-#[test]
-fn a_reader_stalls_at_a_million_waits(rt: HostRuntime) -> Result<(), Fail> {
-    let words = words_of(rt.alloc(), "SELECT a FROM t", "t=f.csv:a Int64")?;
-    let files = one_file(rt.alloc(), b"7\n")?;
-    let mut setting = ample(&files);
-    setting.waits = 1_000_000;
-    let stalled = run_once(&rt, words.as_slice(), &setting)?;
-    assert_eq!(rt; stalled.status, 4);
-    assert_eq!(rt; stalled.out.len(), 0);
-    assert_eq!(rt;
-        stalled.err.as_slice(),
-        b"qrun: stalled: table t part 1\n".as_slice()
-    );
-    Ok(())
-}
-
-/// A rack that lacks a kind: how many sources and other boxes it has, the lanes, the query, and the
-/// line.
+/// Racks of few boxes, told by their letters, the lanes, the query, and what is written or told.
 #[test]
 fn a_missing_kind_is_told(rt: HostRuntime) -> Result<(), Fail> {
-    let filtering = "SELECT a FROM t WHERE a = 7";
-    let (filter, expression) = ((Kind::Filter, 1), (Kind::Expression, 1));
-    let (resizes, collect) = ((Kind::Resize, 2), (Kind::Collect, 1));
-    let none = (Kind::Limit, 0);
-    let cases: [(u32, [(Kind, u32); 4], &str, &str, &str); 9] = [
-        (
-            1,
-            [expression, resizes, collect, none],
-            "1",
-            filtering,
-            "qrun: limit: boxes of kind Filter needed 1, rack has 0\n",
-        ),
-        (
-            1,
-            [filter, expression, resizes, collect],
-            "2",
-            filtering,
-            "qrun: limit: boxes of kind Filter needed 2, rack has 1\n",
-        ),
-        (
-            1,
-            [expression, resizes, collect, none],
-            "1",
-            "SELECT a FROM t",
-            "7\n",
-        ),
-        (
-            0,
-            [none; 4],
-            "1",
-            filtering,
-            "qrun: limit: boxes of kind Csv needed 1, rack has 0\n",
-        ),
-        (
-            0,
-            [expression, resizes, collect, none],
-            "1",
-            "SELECT number FROM numbers(3)",
-            "qrun: limit: boxes of kind Numbers needed 1, rack has 0\n",
-        ),
-        (
-            1,
-            [filter, resizes, collect, none],
-            "1",
-            filtering,
-            "qrun: limit: boxes of kind Expression needed 1, rack has 0\n",
-        ),
-        (
-            1,
-            [expression, collect, none, none],
-            "1",
-            "SELECT a FROM t",
-            "qrun: limit: boxes of kind Resize needed 2, rack has 0\n",
-        ),
-        (
-            1,
-            [expression, resizes, collect, none],
-            "1",
-            "SELECT a FROM t LIMIT 1",
-            "qrun: limit: boxes of kind Limit needed 1, rack has 0\n",
-        ),
-        (
-            0,
-            [none; 4],
-            "1",
-            "SELECT b FROM t",
-            "qrun: refused: UnknownColumn b\n",
-        ),
+    let cases: [&str; 13] = [
+        "serrc~1~SELECT a FROM t WHERE a = 7~qrun: limit: boxes of kind Filter needed 1, rack has 0\n",
+        "sferrc~2~SELECT a FROM t WHERE a = 7~\
+         qrun: limit: boxes of kind Filter needed 2, rack has 1\n",
+        "serrc~1~SELECT a FROM t~7\n",
+        "~1~SELECT a FROM t WHERE a = 7~qrun: limit: boxes of kind Csv needed 1, rack has 0\n",
+        "errc~1~SELECT number FROM numbers(3)~\
+         qrun: limit: boxes of kind Numbers needed 1, rack has 0\n",
+        "sfrrc~1~SELECT a FROM t WHERE a = 7~\
+         qrun: limit: boxes of kind Expression needed 1, rack has 0\n",
+        "sec~1~SELECT a FROM t~qrun: limit: boxes of kind Resize needed 2, rack has 0\n",
+        "serrc~1~SELECT a FROM t LIMIT 1~qrun: limit: boxes of kind Limit needed 1, rack has 0\n",
+        "~1~SELECT b FROM t~qrun: refused: UnknownColumn b\n",
+        // a sort a lane and a merge, groups a lane and their merge
+        "seeeerrmc~4~SELECT a FROM t ORDER BY a~\
+         qrun: limit: boxes of kind Sort needed 4, rack has 0\n",
+        "seeeerroooooc~4~SELECT a FROM t ORDER BY a~\
+         qrun: limit: boxes of kind MergeSorted needed 1, rack has 0\n",
+        "seeeeerpppgc~4~SELECT count() FROM t~\
+         qrun: limit: boxes of kind PartialAggregate needed 4, rack has 3\n",
+        "seeeeerppppc~4~SELECT count() FROM t~\
+         qrun: limit: boxes of kind MergeAggregate needed 1, rack has 0\n",
     ];
     let files = one_file(rt.alloc(), b"7\n")?;
-    for (sources, others, lanes, query, told) in cases.iter() {
+    for case in cases.iter() {
+        let (letters, lanes, query, told) = fields(case);
         let words = words_by_lanes(rt.alloc(), query, lanes)?;
-        let others = *others;
+        let mut sources: u32 = 0;
+        let mut others = Vec::new(rt.alloc());
+        for letter in letters.chars() {
+            sources = sources.saturating_add((letter == 's') as u32);
+            for (kind, _) in OTHERS {
+                if letter_of(kind) == letter {
+                    others.push((kind, 1))?;
+                }
+            }
+        }
         let mut setting = ample(&files);
-        setting.stock = Some((*sources, &others));
-        let outcome = run_once(&rt, words.as_slice(), &setting)?;
-        assert_eq!(rt; told_by(&outcome), told.as_bytes(), "{query}");
+        setting.stock = Some((sources, others.as_slice()));
+        check(&rt, case, &run_once(&rt, words.as_slice(), &setting)?, told)?;
     }
     Ok(())
 }
 
 /// A query over the one file by so many lanes.
-pub(super) fn words_by_lanes(
-    alloc: Global,
-    query: &str,
-    lanes: &str,
-) -> Result<Vec<String>, AllocError> {
+fn words_by_lanes(alloc: Global, query: &str, lanes: &str) -> Result<Vec<String>, AllocError> {
     let mut words = words_of(alloc, query, "t=f.csv:a Int64")?;
     words.push(String::from_str(alloc, "--threads")?)?;
     words.push(String::from_str(alloc, lanes)?)?;
@@ -284,26 +214,81 @@ fn boxes_come_back_in_their_order(rt: HostRuntime) -> Result<(), Fail> {
     Ok(())
 }
 
-/// After a fault the same words run again by the same rack.
+/// Four parts, of which one source's reader fails its third call; then the same words run again by
+/// the same rack.
 #[test]
 fn a_fault_leaves_the_rack_for_another_run(rt: HostRuntime) -> Result<(), Fail> {
-    let words = words_of(rt.alloc(), "SELECT a FROM t", "t=f.csv:a Int64")?;
-    let files = one_file(rt.alloc(), b"7\n")?;
+    let files = one_file(rt.alloc(), b"1\n")?;
     let mut setting = ample(&files);
-    setting.stock = Some((1, &OTHERS));
     setting.runs = 2;
+    setting.only = Some(1);
     setting.fake = Some(Fake {
         call: 3,
         kind: FakeKind::Fail,
     });
-    let runs = run_setting(&rt, words.as_slice(), &setting)?;
-    let wanted: [(u8, &str); 2] = [(4, ""), (0, "7\n")];
-    assert_eq!(rt; runs.outcomes.len(), 2);
-    for ((status, written), outcome) in wanted.iter().zip(runs.outcomes.as_slice().iter()) {
-        assert_eq!(rt; outcome.status, *status);
-        assert_eq!(rt; outcome.out.as_slice(), written.as_bytes());
+    let wanted: [(u8, &str, &str); 2] = [
+        (4, "", "qrun: read fault: table t part 2\n"),
+        (0, "4\n", ""),
+    ];
+    for size in SIZES.iter() {
+        let words = count_words(rt.alloc(), *size)?;
+        let runs = run_setting(&rt, words.as_slice(), &setting)?;
+        assert_eq!(rt; runs.outcomes.len(), 2);
+        for ((status, written, line), outcome) in wanted
+            .iter()
+            .zip(runs.outcomes.as_slice().iter())
+        {
+            assert_eq!(rt; outcome.status, *status);
+            assert_eq!(rt; outcome.out.as_slice(), written.as_bytes());
+            assert_eq!(rt; outcome.err.as_slice(), line.as_bytes());
+        }
     }
     Ok(())
+}
+
+// The rows of four parts are counted, by so many lanes and rows of a chunk.
+fn count_words(alloc: Global, size: (&str, &str)) -> Result<Vec<String>, AllocError> {
+    let mut words = words_of(
+        alloc,
+        "SELECT count() FROM t",
+        "t=f.csv+f.csv+f.csv+f.csv:a Int64",
+    )?;
+    let (lanes, rows) = size;
+    for word in ["--threads", lanes, "--chunk", rows] {
+        words.push(String::from_str(alloc, word)?)?;
+    }
+    Ok(words)
+}
+
+/// A reader of the first of four parts that has nothing yet 999,999 times before its block.
+#[test]
+fn a_reader_may_wait_many_times(rt: HostRuntime) -> Result<(), Fail> {
+    let outcome = count_waiting(&rt, 999_999)?;
+    assert_eq!(rt; outcome.status, 0);
+    assert_eq!(rt; outcome.out.as_slice(), b"4\n".as_slice());
+    Ok(())
+}
+
+/// And one more time.
+#[test]
+fn a_reader_stalls_at_a_million_waits(rt: HostRuntime) -> Result<(), Fail> {
+    let outcome = count_waiting(&rt, 1_000_000)?;
+    assert_eq!(rt; outcome.status, 4);
+    assert_eq!(rt; outcome.out.len(), 0);
+    assert_eq!(rt;
+        outcome.err.as_slice(),
+        b"qrun: stalled: table t part 1\n".as_slice()
+    );
+    Ok(())
+}
+
+fn count_waiting(rt: &HostRuntime, waits: u64) -> Result<Outcome, Fail> {
+    let words = count_words(rt.alloc(), ("1", "8192"))?;
+    let files = one_file(rt.alloc(), b"1\n")?;
+    let mut setting = ample(&files);
+    setting.only = Some(0);
+    setting.waits = waits;
+    run_once(rt, words.as_slice(), &setting)
 }
 
 /// A source that counts is prepared: the query runs through the boxes.
@@ -316,7 +301,7 @@ fn a_source_is_prepared(rt: HostRuntime) -> Result<(), Fail> {
     let prepared = Arc::new(alloc, AtomicU64::new(0))?;
     let mut rack = Rack::new(alloc);
     let source = Counted {
-        source: source_of(alloc, &setting)?,
+        source: source_of(alloc, &setting, 0)?,
         prepared: Arc::try_clone(&prepared)?,
     };
     let source = Box::new(alloc, source)?;

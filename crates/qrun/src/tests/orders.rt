@@ -1,10 +1,6 @@
 // Queries with ORDER BY, by every number of lanes and rows of a chunk.
-use super::cases::{check, fields};
-use super::devices::words_by_lanes;
-use super::plans::{SIZES, answer_sized};
-use super::{ample, one_file, run_once, told_by};
-use crate::racks::SOURCES;
-use query_model::processor_spec::Kind;
+use super::plans::{SIZES, answer_sized, check_sized};
+use super::told_by;
 use std::test::Fail;
 
 /// The columns, the query, the parts, and what is written, as SQLite gives it, or told.
@@ -48,18 +44,7 @@ fn rows_come_in_their_order(rt: HostRuntime) -> Result<(), Fail> {
         "a Int64~SELECT a FROM t ORDER BY a LIMIT 0~1\n|2\n3,4\n~\
          qrun: bad data: table t part 2 row 2 fields 2\n",
     ];
-    for case in cases.iter() {
-        let (columns, query, parts, told) = fields(case);
-        for size in SIZES.iter() {
-            check(
-                &rt,
-                case,
-                &answer_sized(&rt, columns, query, parts, *size)?,
-                told,
-            )?;
-        }
-    }
-    Ok(())
+    check_sized(&rt, &rt, &cases)
 }
 
 /// Rows that the keys don't tell apart come in either order.
@@ -72,40 +57,6 @@ fn ties_come_in_either_order(rt: HostRuntime) -> Result<(), Fail> {
         let one = told == b"0,\"z\"\n1,\"x\"\n1,\"y\"\n".as_slice();
         let other = told == b"0,\"z\"\n1,\"y\"\n1,\"x\"\n".as_slice();
         assert!(rt; one || other);
-    }
-    Ok(())
-}
-
-/// How many sorts and merges a rack has, and what is told where those are too few for four lanes.
-#[test]
-fn a_sort_a_lane_and_a_merge_are_needed(rt: HostRuntime) -> Result<(), Fail> {
-    let cases: [(u32, u32, &str); 2] = [
-        (
-            0,
-            1,
-            "qrun: limit: boxes of kind Sort needed 4, rack has 0\n",
-        ),
-        (
-            17,
-            0,
-            "qrun: limit: boxes of kind MergeSorted needed 1, rack has 0\n",
-        ),
-    ];
-    let files = one_file(rt.alloc(), b"7\n")?;
-    let words = words_by_lanes(rt.alloc(), "SELECT a FROM t ORDER BY a", "4")?;
-    for (sorts, merges, told) in cases.iter() {
-        let others = [
-            (Kind::Expression, 17),
-            (Kind::Resize, 4),
-            (Kind::Sort, *sorts),
-            (Kind::MergeSorted, *merges),
-            (Kind::Collect, 1),
-        ];
-        let mut setting = ample(&files);
-        setting.stock = Some((SOURCES, &others));
-        let outcome = run_once(&rt, words.as_slice(), &setting)?;
-        assert_eq!(rt; outcome.status, 6);
-        assert_eq!(rt; told_by(&outcome), told.as_bytes());
     }
     Ok(())
 }

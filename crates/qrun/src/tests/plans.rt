@@ -5,6 +5,7 @@ use super::{Outcome, ample, run_once, text, told_by, words_of};
 use chunk_data::List;
 use outside_io::FileEntry;
 use std::alloc::{AllocError, Global};
+use std::process::Abort;
 use std::test::Fail;
 
 /// Numbers of lanes, and of rows of a chunk.
@@ -61,7 +62,7 @@ pub(super) fn answer_sized(
 }
 
 /// The words, between which a bar stands, over the parts.
-fn answer_words(rt: &HostRuntime, bars: &str, parts: &str) -> Result<Outcome, Fail> {
+pub(super) fn answer_words(rt: &HostRuntime, bars: &str, parts: &str) -> Result<Outcome, Fail> {
     let files = parts_of(rt.alloc(), parts)?;
     let mut words = Vec::new(rt.alloc());
     for word in bars.split('|') {
@@ -78,6 +79,38 @@ fn sorted_lines(alloc: Global, text: &[u8]) -> Result<Vec<Vec<u8>>, AllocError> 
     }
     lines.sort()?;
     Ok(lines)
+}
+
+/// By every size each case's run wrote its lines in some order, and told nothing.
+pub(super) fn lines_each(rt: &HostRuntime, abort: &impl Abort, cases: &[&str]) -> Result<(), Fail> {
+    for case in cases.iter() {
+        let (columns, query, parts, lines) = fields(case);
+        let wanted = sorted_lines(rt.alloc(), lines.as_bytes())?;
+        for size in SIZES.iter() {
+            let outcome = answer_sized(rt, columns, query, parts, *size)?;
+            let found = sorted_lines(rt.alloc(), outcome.out.as_slice())?;
+            assert_eq!(abort; outcome.status, 0, "status of {case}");
+            assert!(abort; found == wanted, "lines of {case}");
+            assert_eq!(abort; outcome.err.len(), 0, "no line for {case}");
+        }
+    }
+    Ok(())
+}
+
+/// By every size each case's run wrote its answer, or told its line.
+pub(super) fn check_sized(
+    rt: &HostRuntime,
+    abort: &impl Abort,
+    cases: &[&str],
+) -> Result<(), Fail> {
+    for case in cases.iter() {
+        let (columns, query, parts, told) = fields(case);
+        for size in SIZES.iter() {
+            let outcome = answer_sized(rt, columns, query, parts, *size)?;
+            check(abort, case, &outcome, told)?;
+        }
+    }
+    Ok(())
 }
 
 /// The columns, the query, the parts, and the lines, whose order is free where lanes are several.
@@ -100,18 +133,7 @@ fn every_size_gives_the_rows(rt: HostRuntime) -> Result<(), Fail> {
         "a Int64~SELECT number FROM numbers(0)~~",
         "a Int64~SELECT number * 2 AS n FROM numbers(5) WHERE number > 2~~6\n8\n",
     ];
-    for case in cases.iter() {
-        let (columns, query, parts, lines) = fields(case);
-        for size in SIZES.iter() {
-            let outcome = answer_sized(&rt, columns, query, parts, *size)?;
-            let found = sorted_lines(rt.alloc(), outcome.out.as_slice())?;
-            let wanted = sorted_lines(rt.alloc(), lines.as_bytes())?;
-            assert_eq!(rt; outcome.status, 0, "status of {case}");
-            assert!(rt; found == wanted, "lines of {case}");
-            assert_eq!(rt; outcome.err.len(), 0, "no line for {case}");
-        }
-    }
-    Ok(())
+    lines_each(&rt, &rt, &cases)
 }
 
 /// Three of six rows pass, none of them twice.

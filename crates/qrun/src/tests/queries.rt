@@ -2,7 +2,18 @@
 use super::cases::{check, fields};
 use super::{answer, told_by};
 use std::alloc::{AllocError, Global};
+use std::process::Abort;
 use std::test::Fail;
+
+// Each case's outcome over its one file.
+fn check_each(rt: &HostRuntime, abort: &impl Abort, cases: &[&str]) -> Result<(), Fail> {
+    for case in cases.iter() {
+        let (columns, query, file, told) = fields(case);
+        let outcome = answer(rt, columns, query, file.as_bytes())?;
+        check(abort, case, &outcome, told)?;
+    }
+    Ok(())
+}
 
 /// Valid files: the columns, the query, the file, and what is written.
 #[test]
@@ -24,16 +35,7 @@ fn answers_are_written(rt: HostRuntime) -> Result<(), Fail> {
         "a String,b String~SELECT a, b FROM t~,\n\"\",\n~\"\",\"\"\n\"\",\"\"\n",
         "a String~SELECT a FROM t~ x \n~\" x \"\n",
     ];
-    for case in cases.iter() {
-        let (columns, query, file, told) = fields(case);
-        check(
-            &rt,
-            case,
-            &answer(&rt, columns, query, file.as_bytes())?,
-            told,
-        )?;
-    }
-    Ok(())
+    check_each(&rt, &rt, &cases)
 }
 
 /// Bytes that are no text of Unicode.
@@ -62,16 +64,7 @@ fn other_ends_tell_their_line(rt: HostRuntime) -> Result<(), Fail> {
         "a Int64,a Int64~SELECT a FROM t~1\n~usage",
         "~SELECT a FROM t~1\n~usage",
     ];
-    for case in cases.iter() {
-        let (columns, query, file, told) = fields(case);
-        check(
-            &rt,
-            case,
-            &answer(&rt, columns, query, file.as_bytes())?,
-            told,
-        )?;
-    }
-    Ok(())
+    check_each(&rt, &rt, &cases)
 }
 
 /// Items with arithmetic: the columns, the query, the file, and what is written.
@@ -88,16 +81,7 @@ fn items_are_evaluated(rt: HostRuntime) -> Result<(), Fail> {
         "a Int64~SELECT a * -1, 2 - a FROM t~5\n~-5,-3\n",
         "u UInt64~SELECT u + -0 FROM t~5\n~5\n",
     ];
-    for case in cases.iter() {
-        let (columns, query, file, told) = fields(case);
-        check(
-            &rt,
-            case,
-            &answer(&rt, columns, query, file.as_bytes())?,
-            told,
-        )?;
-    }
-    Ok(())
+    check_each(&rt, &rt, &cases)
 }
 
 /// Conditions on numbers: the columns, the query, the file, and what is written.
@@ -116,16 +100,7 @@ fn conditions_choose_rows(rt: HostRuntime) -> Result<(), Fail> {
         "a Int64~SELECT a FROM t WHERE 1 <> 1~1\n2\n~",
         "a Int64~SELECT a FROM t WHERE 2 <= a~1\n2\n~2\n",
     ];
-    for case in cases.iter() {
-        let (columns, query, file, told) = fields(case);
-        check(
-            &rt,
-            case,
-            &answer(&rt, columns, query, file.as_bytes())?,
-            told,
-        )?;
-    }
-    Ok(())
+    check_each(&rt, &rt, &cases)
 }
 
 /// Conditions on texts, names, and the ways that a query may be written.
@@ -146,22 +121,13 @@ fn texts_and_names_are_read(rt: HostRuntime) -> Result<(), Fail> {
         "a Int64~\tSELECT\r\na ,(a+1)FROM t~1\n~1,2\n",
         "count Int64~SELECT count FROM t~1\n~1\n",
     ];
-    for case in cases.iter() {
-        let (columns, query, file, told) = fields(case);
-        check(
-            &rt,
-            case,
-            &answer(&rt, columns, query, file.as_bytes())?,
-            told,
-        )?;
-    }
-    Ok(())
+    check_each(&rt, &rt, &cases)
 }
 
 /// Refused texts and queries over `a Int64,b String`, and what the line says behind `refused: `.
 #[test]
 fn refusals_are_told(rt: HostRuntime) -> Result<(), Fail> {
-    let cases: [(&str, &str); 26] = [
+    let cases: [(&str, &str); 28] = [
         ("", "Syntax"),
         ("SELECT FROM t", "Syntax"),
         ("SELECT a b FROM t", "Syntax"),
@@ -172,8 +138,10 @@ fn refusals_are_told(rt: HostRuntime) -> Result<(), Fail> {
             "SELECT a FROM t LIMIT 18446744073709551616",
             "NumberTooLarge",
         ),
-        ("SELECT a FROM t GROUP BY a", "NotBuilt"),
-        ("SELECT count() FROM t", "NotBuilt"),
+        ("SELECT b FROM t GROUP BY a", "NotGrouped b"),
+        ("SELECT a, count() FROM t", "NotGrouped a"),
+        ("SELECT a FROM t GROUP BY a HAVING b = 'x'", "NotGrouped b"),
+        ("SELECT sum(b) FROM t", "TypeMismatch"),
         ("SELECT a FROM t JOIN u ON t.a = u.a", "NotBuilt"),
         ("SELECT a FROM x", "UnknownTable x"),
         ("SELECT c FROM x", "UnknownTable x"),

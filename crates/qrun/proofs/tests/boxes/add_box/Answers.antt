@@ -12,12 +12,6 @@ returns-in_ok-expression-in-Expression g c = λ files. c.put-in-Expression.ensur
 pub returns-in_ok-resize-in-Resize : goal.returns-in_ok-resize-in-Resize
 returns-in_ok-resize-in-Resize g c = λ files. c.put-in-Resize.ensures files
 
-pub returns-in_ok-sort-in-Sort : goal.returns-in_ok-sort-in-Sort
-returns-in_ok-sort-in-Sort g c = λ files. c.put-in-Sort.ensures files
-
-pub returns-in_ok-merge-in-MergeSorted : goal.returns-in_ok-merge-in-MergeSorted
-returns-in_ok-merge-in-MergeSorted g c = λ files. c.put-in-MergeSorted.ensures files
-
 pub returns-in_ok-limit-in-Limit : goal.returns-in_ok-limit-in-Limit
 returns-in_ok-limit-in-Limit g c = λ files. c.put-in-Limit.ensures files
 

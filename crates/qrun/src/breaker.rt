@@ -1,0 +1,77 @@
+ghost use Rattle.std.specs.Prelude.{None};
+ghost use Rattle.query_model.specs.declared.processor_spec.Kind.TheVariants as kind;
+ghost use Rattle.proc_shell.specs.Shells.{view_seen};
+ghost use Rattle.qrun.specs.declared.breaker.Breaker.TheVariants as breaker;
+
+use aggregate_proc::{MergeAggregate, PartialAggregate};
+use chunk_data::Chunk;
+use port_word::PortView;
+use proc_api::{Growth, LoadRefusal, Processor, Status, Wake, WorkFault};
+use query_model::processor_spec::{Kind, Spec};
+use sort_procs::{MergeSorted, Sort};
+
+/// A processor of a kind that gives no row before each of its inputs has given one or ended: one type
+/// of box for these kinds, since what proves a function that makes boxes goes over each of their
+/// types.
+#[derive(Drop)]
+pub(crate) enum Breaker {
+    PartialAggregate(PartialAggregate),
+    MergeAggregate(MergeAggregate),
+    Sort(Sort),
+    MergeSorted(MergeSorted),
+}
+
+/// A call of the processor that it is.
+macro_rules! of_each {
+    ($one:expr, $processor:ident => $call:expr) => {
+        match $one {
+            Breaker::PartialAggregate($processor) => $call,
+            Breaker::MergeAggregate($processor) => $call,
+            Breaker::Sort($processor) => $call,
+            Breaker::MergeSorted($processor) => $call,
+        }
+    };
+}
+
+impl Processor for Breaker {
+    ghost seen = { elim [
+      | breaker.PartialAggregate p ↦ view_seen kind.PartialAggregate p
+      | breaker.MergeAggregate p ↦ view_seen kind.MergeAggregate p
+      | breaker.Sort p ↦ view_seen kind.Sort p
+      | breaker.MergeSorted p ↦ view_seen kind.MergeSorted p
+    ] };
+
+    ghost stands = { λ s. None };
+
+    fn kind(&self) -> Kind {
+        of_each!(self, processor => processor.kind())
+    }
+
+    fn load(&mut self, spec: Spec) -> Result<(), LoadRefusal> {
+        of_each!(self, processor => processor.load(spec))
+    }
+
+    fn prepare(&mut self, view: &mut PortView) -> Status {
+        of_each!(self, processor => processor.prepare(view))
+    }
+
+    fn work(&mut self) -> Result<(), WorkFault> {
+        of_each!(self, processor => processor.work())
+    }
+
+    fn schedule(&mut self) -> Result<Wake, WorkFault> {
+        of_each!(self, processor => processor.schedule())
+    }
+
+    fn expand(&mut self) -> Result<Growth, WorkFault> {
+        of_each!(self, processor => processor.expand())
+    }
+
+    fn take_rows(&mut self) -> Vec<Chunk> {
+        of_each!(self, processor => processor.take_rows())
+    }
+
+    fn unload(&mut self) {
+        of_each!(self, processor => processor.unload())
+    }
+}
