@@ -29,8 +29,10 @@ for keys in k m s n 'k, s' ''; do
             'CREATE TABLE t(k INTEGER, m INTEGER, s TEXT, n TEXT, v INTEGER)' ".import $file t" "$query"
     fi
 done
-# reading alone: no row passes
+# a million groups of which none is written, and reading alone: no row passes
 for lanes in 1 4; do
+    measure "m, none, $lanes" "$here/../qrun" --threads "$lanes" --tables "$tables" \
+        --query "SELECT m, count(), sum(v), max(v) FROM t GROUP BY m HAVING count() > 1000"
     measure "rows, $lanes" "$here/../qrun" --threads "$lanes" \
         --query "SELECT k FROM t WHERE v > 1000" --tables "$tables"
 done
