@@ -1,8 +1,5 @@
 -- a list under a map
-use Rattle.std.proofs.Common.{◌≡◌, ℕ, ◌<◌, Bool, true, false, List, [], ◌∷◌, length, get_or, map, refl, ap, sym, arith, suc}
-use Rattle.std.proofs.lemmas.List.{get_or-map, take-map, drop-map, length-map}
-use Rattle.std.specs.List.{All}
-use Rattle.chunk_data.specs.Rows.{kept}
+use Rattle.chunk_data.proofs.Imports.{All, Bool, List, [], ap, arith, drop-map, false, get_or, get_or-map, kept, length, length-map, map, refl, suc, sym, take-map, true, ℕ, ◌<◌, ◌∷◌, ◌≡◌}
 
 pub kept-map : {X Y : Type 0} (f : X → Y) (mask : List Bool) (xs : List X) → kept mask (map f xs) ≡ map f (kept mask xs)
 kept-map f [] xs = refl

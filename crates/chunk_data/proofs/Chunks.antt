@@ -1,8 +1,5 @@
 -- chunks
-use Rattle.std.proofs.Common.{◌≡◌, ℕ, ◌+◌, ◌-◌, ◌<◌, ◌≤◌, Bool, List, [], ◌∷◌, ◌++◌, length, get_or, take, drop, map, refl, ap, sym, ◌∙◌, subst}
-use Rattle.std.proofs.lemmas.List.{length-map, take_at, get_or-map, take_more, map-append, nil_from_length}
-use Rattle.std.specs.List.{count_by, All}
-use Rattle.chunk_data.specs.Names.{Column, ColumnType, Value, FitsTypes, IsTable, Row, Table, value_at, kind_of, values, row_at, kept, rows_of, AreLong, joined, AreColumns}
+use Rattle.chunk_data.proofs.Imports.{All, AreColumns, AreLong, Bool, Column, ColumnType, FitsTypes, IsTable, List, Row, Table, Value, [], ap, count_by, drop, get_or, get_or-map, joined, kept, kind_of, length, length-map, map, map-append, nil_from_length, refl, row_at, rows_of, subst, sym, take, take_at, take_more, value_at, values, ℕ, ◌++◌, ◌+◌, ◌-◌, ◌<◌, ◌∙◌, ◌∷◌, ◌≡◌, ◌≤◌}
 use Rattle.chunk_data.proofs.Rows.{length-rows_of, AreLong-joined, rows_of-joined, AreLong-row, rows_of_push, AreLong-kept, rows_of-kept, column_of-rows_of, AreLong-places, rows_of-places, AreLong-take, rows_of-take, AreLong-drop, rows_of-drop}
 use Rattle.chunk_data.proofs.ColumnLists.{AreLong-at}
 use Rattle.chunk_data.proofs.Laws.{length-FitsTypes, rows_fit, AreLong-append, rows_of-append}

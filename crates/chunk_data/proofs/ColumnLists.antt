@@ -1,7 +1,5 @@
 -- loops over the columns of a list
-use Rattle.std.proofs.Common.{◌≡◌, ℕ, ◌+◌, ◌<◌, ◌≤◌, List, [], ◌∷◌, ◌++◌, length, get_or, set, take, map, refl, ap, sym, arith, suc, zero, ◌∙◌, subst, add-one}
-use Rattle.std.proofs.lemmas.List.{map-set, get_or-map, set-get_or, length-map, take_at, take_all}
-use Rattle.chunk_data.specs.Names.{Column, ColumnType, Value, kind_of, values, AreLong, joined, FitsType, FitsTypes}
+use Rattle.chunk_data.proofs.Imports.{AreLong, Column, ColumnType, FitsType, FitsTypes, List, Value, [], add-one, ap, arith, get_or, get_or-map, joined, kind_of, length, length-map, map, map-set, refl, set, set-get_or, subst, suc, sym, take, take_all, take_at, values, zero, ℕ, ◌++◌, ◌+◌, ◌<◌, ◌∙◌, ◌∷◌, ◌≡◌, ◌≤◌}
 use Rattle.chunk_data.proofs.Laws.{length-FitsTypes, FitsTypes-at}
 
 -- the first i elements changed

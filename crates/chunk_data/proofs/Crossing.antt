@@ -1,7 +1,5 @@
 -- Which data may cross threads: a list as its elements may, bytes and chunks always.
-use denote.RattleType.{RattleType}
-use denote.Param.Send.{IsSend, sendable}
-use Rattle.std.proofs.Crossing.{crosses}
+use Rattle.chunk_data.proofs.Imports.{IsSend, RattleType, crosses, sendable}
 use Rattle.chunk_data.specs.contracts.lists.Bytes as bytes
 use Rattle.chunk_data.specs.contracts.lists.List as list
 use Rattle.chunk_data.specs.contracts.row_chunk.Chunk as chunk

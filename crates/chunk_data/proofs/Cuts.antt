@@ -1,8 +1,5 @@
 -- texts that lie one after another
-use Rattle.std.proofs.Common.{◌≡◌, ℕ, ◌+◌, ◌-◌, ◌<◌, ◌≤◌, List, [], ◌∷◌, ◌++◌, length, get_or, take, drop, refl, ap, arith, suc, zero, ◌∙◌, length-append, sym, map}
-use Rattle.std.proofs.lemmas.List.{take-append-le, drop-append-le, drop_at, take_all, length-drop, length-take-le, get_or_default, drop-drop, drop-take, take-take}
-use Rattle.std.specs.List.{slice_range, All}
-use Rattle.chunk_data.specs.Texts.{cut, AreEnds}
+use Rattle.chunk_data.proofs.Imports.{All, AreEnds, List, [], ap, arith, cut, drop, drop-append-le, drop-drop, drop-take, drop_at, get_or, get_or_default, length, length-append, length-drop, length-take-le, map, refl, slice_range, suc, sym, take, take-append-le, take-take, take_all, zero, ℕ, ◌++◌, ◌+◌, ◌-◌, ◌<◌, ◌∙◌, ◌∷◌, ◌≡◌, ◌≤◌}
 
 pub length-cut : (bytes : List ℕ) (from : ℕ) (ends : List ℕ) → length (cut bytes from ends) ≡ length ends
 length-cut bytes from [] = refl

@@ -1,8 +1,5 @@
 -- a list that is compacted in place by a mask
-use Rattle.std.proofs.Common.{◌≡◌, ℕ, ◌+◌, ◌<◌, ◌≤◌, Bool, true, false, cond, List, [], ◌∷◌, ◌++◌, length, get_or, set, take, drop, refl, ap, sym, arith, ◌∙◌, add-zero}
-use Rattle.std.proofs.lemmas.List.{append-nil, take_more, take_more_set, take-set, drop-set-lt, drop-drop, length-set, length-take-le, take_all, get_or-drop}
-use Rattle.chunk_data.specs.Rows.{kept}
-use mir.Val.{bool_byte}
+use Rattle.chunk_data.proofs.Imports.{Bool, List, [], add-zero, ap, append-nil, arith, bool_byte, cond, drop, drop-drop, drop-set-lt, false, get_or, get_or-drop, kept, length, length-set, length-take-le, refl, set, sym, take, take-set, take_all, take_more, take_more_set, true, ℕ, ◌++◌, ◌+◌, ◌<◌, ◌∙◌, ◌∷◌, ◌≡◌, ◌≤◌}
 
 pub bool_byte-cond : (b : Bool) → bool_byte b ≡ cond b 1 0
 bool_byte-cond true = refl

@@ -1,9 +1,5 @@
 -- texts that are compacted in place by a mask
-use Rattle.std.proofs.Common.{◌≡◌, ℕ, ◌+◌, ◌-◌, ◌<◌, ◌≤◌, Bool, true, false, cond, List, [], ◌∷◌, ◌++◌, length, get_or, set, take, drop, refl, ap, sym, arith, ◌∙◌, length-append, add-one}
-use Rattle.std.proofs.lemmas.List.{append-nil, take_more_set, drop-set-lt, length-set, length-take, length-take-le, take_all, take_at, length-drop, drop-drop, get_or_read}
-use Rattle.std.proofs.lemmas.Slice.{drop-append-drop}
-use Rattle.std.specs.List.{slice_range, copy_within}
-use Rattle.chunk_data.specs.Names.{cut, AreEnds, kept}
+use Rattle.chunk_data.proofs.Imports.{AreEnds, Bool, List, [], add-one, ap, append-nil, arith, cond, copy_within, cut, drop, drop-append-drop, drop-drop, drop-set-lt, false, get_or, get_or_read, kept, length, length-append, length-drop, length-set, length-take, length-take-le, refl, set, slice_range, sym, take, take_all, take_at, take_more_set, true, ℕ, ◌++◌, ◌+◌, ◌-◌, ◌<◌, ◌∙◌, ◌∷◌, ◌≡◌, ◌≤◌}
 use Rattle.chunk_data.proofs.Keeps.{kept_more, here_from_rest, rest_more}
 use Rattle.chunk_data.proofs.Cuts.{get_or-cut, cut_more, AreEnds-push, length-cut, start_le_end, end_le_total, start_le_total}
 

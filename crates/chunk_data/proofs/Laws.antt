@@ -1,9 +1,5 @@
 -- The law between rows and columns, for all code that works column by column.
-use Rattle.std.proofs.Common.{◌≡◌, ℕ, ◌+◌, ◌<◌, List, [], ◌∷◌, ◌++◌, length, map, replicate, get_or, refl, ap, sym, arith, suc, zero, ◌∙◌, subst}
-use Rattle.std.proofs.lemmas.List.{length-map, length-replicate, get_or-replicate}
-use Rattle.std.specs.List.{All}
-use Rattle.chunk_data.specs.Names.{Value, ColumnType, Column, SortKey, AgreeOnKey, Row, FitsType, FitsTypes, value_at, kind_of, values, adds, rows_of, AreLong, joined}
-use Rattle.chunk_data.specs.declared.typed_column.Column.TheVariants.{Int64, UInt64, Text}
+use Rattle.chunk_data.proofs.Imports.{AgreeOnKey, All, AreLong, Column, ColumnType, FitsType, FitsTypes, Int64, List, Row, SortKey, Text, UInt64, Value, [], adds, ap, arith, get_or, get_or-replicate, joined, kind_of, length, length-map, length-replicate, map, refl, replicate, rows_of, subst, suc, sym, value_at, values, zero, ℕ, ◌++◌, ◌+◌, ◌<◌, ◌∙◌, ◌∷◌, ◌≡◌}
 use Rattle.chunk_data.specs.declared.typed_value.ColumnType.TheVariants as type
 use Rattle.chunk_data.specs.declared.typed_value.Value.TheVariants as value
 use Rattle.chunk_data.proofs.Rows.{AreLong-joined, AreLong-row}

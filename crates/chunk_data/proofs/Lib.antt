@@ -1,3 +1,4 @@
+pub mod Imports
 pub mod Cuts
 pub mod Keeps
 pub mod KeepsTexts

@@ -1,10 +1,5 @@
 -- comparing rows key by key
-use Rattle.std.proofs.Common.{◌≡◌, ℕ, ◌+◌, ◌<◌, ◌≤◌, List, length, get_or, drop, refl, ap, sym, ◌∙◌}
-use Rattle.std.proofs.lemmas.List.{drop_more, drop_all}
-use Rattle.std.specs.Ordering.{ordering_then}
-use Rattle.std.specs.declared.cmp.Ordering.{Ordering}
-use Rattle.std.specs.declared.cmp.Ordering.TheVariants.{Less, Equal, Greater}
-use Rattle.chunk_data.specs.Names.{SortKey, Row, value_at, key_cmp, row_cmp}
+use Rattle.chunk_data.proofs.Imports.{Equal, Greater, Less, List, Ordering, Row, SortKey, ap, drop, drop_all, drop_more, get_or, key_cmp, length, ordering_then, refl, row_cmp, sym, value_at, ℕ, ◌+◌, ◌<◌, ◌∙◌, ◌≡◌, ◌≤◌}
 
 first_unequal : (a b : Ordering) → (a ≡ Equal → ⊥) → ordering_then a b ≡ a
 first_unequal Less b h = refl

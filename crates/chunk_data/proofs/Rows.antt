@@ -1,9 +1,5 @@
 -- rows and the columns that they are made of
-use Rattle.std.proofs.Common.{◌≡◌, ℕ, ◌+◌, ◌-◌, ◌<◌, ◌≤◌, Bool, true, false, cond, List, [], ◌∷◌, ◌++◌, length, get_or, take, drop, map, replicate, refl, ap, sym, arith, suc, zero, ◌∙◌, length-append}
-use Rattle.std.proofs.lemmas.List.{replicate-append-replicate, length-replicate, get_or-replicate, length-map, length-take-le, length-drop, take-replicate, drop-replicate}
-use Rattle.std.proofs.lemmas.List.Recursion.{is_count_by}
-use Rattle.std.specs.List.{All, count_by}
-use Rattle.chunk_data.specs.Rows.{kept, adds, rows_of, AreLong, joined}
+use Rattle.chunk_data.proofs.Imports.{All, AreLong, Bool, List, [], adds, ap, arith, cond, count_by, drop, drop-replicate, false, get_or, get_or-replicate, is_count_by, joined, kept, length, length-append, length-drop, length-map, length-replicate, length-take-le, map, refl, replicate, replicate-append-replicate, rows_of, suc, sym, take, take-replicate, true, zero, ℕ, ◌++◌, ◌+◌, ◌-◌, ◌<◌, ◌∙◌, ◌∷◌, ◌≡◌, ◌≤◌}
 
 length-adds : {X : Type 0} (column : List X) (rows : List (List X)) → length column ≡ length rows → length (adds column rows) ≡ length column
 length-adds [] rows e = refl

@@ -1,12 +1,5 @@
 -- Texts that are cut at a byte.
-use Rattle.std.proofs.Common.{◌≡◌, ℕ, ◌+◌, ◌≤◌, Bool, true, false, not, ◌&&◌, ◌==◌, cond, List, [], ◌∷◌, ◌++◌, length, refl, sym, ap, ◌∙◌, inl, inr, arith, append_assoc, eq-eqb, eqb-true, ne_eqb, take, drop}
-use Rattle.std.specs.List.{All, list_all, slice_split, join_with_byte, before_first, after_first, position_or_len, prefix_len}
-use Rattle.std.proofs.Math.Seq.{take-append_seam}
-use Rattle.std.proofs.lemmas.Bool.{cases_lt}
-use Rattle.std.proofs.lemmas.List.{drop_all, drop_at, length-append}
-use Rattle.std.proofs.lemmas.List.Elements.{All-append, All-cons, All-head, All-nil, All-tail}
-use Rattle.std.proofs.lemmas.List.Splits.{slice_split_at, slice_split_none}
-use Rattle.std.proofs.lemmas.List.Sums.{passes_at_first, split_at_first}
+use Rattle.command_line.proofs.Imports.{All, All-append, All-cons, All-head, All-nil, All-tail, Bool, List, [], after_first, ap, append_assoc, arith, before_first, cases_lt, cond, drop, drop_all, drop_at, eq-eqb, eqb-true, false, inl, inr, join_with_byte, length, length-append, list_all, ne_eqb, not, passes_at_first, position_or_len, prefix_len, refl, slice_split, slice_split_at, slice_split_none, split_at_first, sym, take, take-append_seam, true, ℕ, ◌&&◌, ◌++◌, ◌+◌, ◌==◌, ◌∙◌, ◌∷◌, ◌≡◌, ◌≤◌}
 
 pub both_left : (a b : Bool) → (a && b) ≡ true → a ≡ true
 both_left true b e = refl

@@ -1,12 +1,5 @@
 -- The command that words mean, as a function and as a relation.
-use Rattle.std.proofs.Common.{◌≡◌, ℕ, ◌≤◌, ◌^◌, Bool, true, false, ◌&&◌, if◌then◌else◌, List, [], ◌∷◌, length, arith, refl, sym, ap, ap₂, subst, ◌∙◌, Option, Some, None}
-use Rattle.std.specs.Prelude.{nat_le, option_and_then}
-use Rattle.query_model.specs.Fields.{numeral_below}
-use Rattle.query_model.specs.declared.query.TableDecl.{TableDecl}
-use Rattle.command_options.specs.Options.{options_of}
-use Rattle.command_options.specs.declared.options.OptionTexts.{OptionTexts}
-use Rattle.command_line.specs.Words.{GivesNumber, GivesTables, IsWithinLimits, Means, command_in, command_of, command_with, number_given, number_in, tables_given}
-use Rattle.command_line.specs.declared.words.Command.{Command}
+use Rattle.command_line.proofs.Imports.{Bool, Command, GivesNumber, GivesTables, IsWithinLimits, List, Means, None, Option, OptionTexts, Some, TableDecl, [], ap, ap₂, arith, command_in, command_of, command_with, false, if◌then◌else◌, length, nat_le, number_given, number_in, numeral_below, option_and_then, options_of, refl, subst, sym, tables_given, true, ℕ, ◌&&◌, ◌^◌, ◌∙◌, ◌∷◌, ◌≡◌, ◌≤◌}
 use Rattle.command_line.proofs.Cuts.{both_left, both_right}
 use Rattle.command_line.proofs.Readings.{at_most, at_most_test, if_same, if_true, none_some, some_same}
 use Rattle.command_line.proofs.WrittenLaws.{declared_read, tables_declared}

@@ -1,9 +1,5 @@
 -- Walks along a list of things with names, one by one.
-use Rattle.std.proofs.Common.{◌≡◌, ℕ, ◌+◌, ◌<◌, ◌≤◌, Bool, true, false, ◌&&◌, ◌||◌, not, List, ◌∷◌, length, map, get_or, drop, sym, ap, ◌∙◌}
-use Rattle.std.specs.List.{list_any}
-use Rattle.std.specs.Str.{bytes_eq}
-use Rattle.std.proofs.lemmas.List.{at_drop_more, at_drop_all}
-use Rattle.query_model.specs.Projection.{are_distinct}
+use Rattle.command_line.proofs.Imports.{Bool, List, ap, are_distinct, at_drop_all, at_drop_more, bytes_eq, drop, false, get_or, length, list_any, map, not, sym, true, ℕ, ◌&&◌, ◌+◌, ◌<◌, ◌||◌, ◌∙◌, ◌∷◌, ◌≡◌, ◌≤◌}
 
 module _ {X : Type 0} (name : X → List ℕ) where
   any_step : (q : List ℕ → Bool) (xs : List X) (i : ℕ) (x : X) (b : Bool) → i < length xs

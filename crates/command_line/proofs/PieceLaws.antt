@@ -1,12 +1,5 @@
 -- Pieces that separators part, read one by one.
-use Rattle.std.proofs.Common.{◌≡◌, ℕ, ◌<◌, Bool, ◌==◌, List, [], ◌∷◌, ◌++◌, length, refl, sym, ap, ◌∙◌, inl, inr, arith, append_assoc, Option, Some, None}
-use Rattle.std.specs.List.{slice_split, before_first, after_first, position_or_len}
-use Rattle.std.specs.Prelude.{not}
-use Rattle.std.proofs.lemmas.Bool.{cases_lt}
-use Rattle.std.proofs.lemmas.List.{take_all}
-use Rattle.std.proofs.lemmas.List.Splits.{slice_split_first, slice_split_none}
-use Rattle.std.proofs.lemmas.List.Sums.{fails_before_first, prefix_len-le-length}
-use Rattle.command_line.specs.Pieces.{both_read, all_read, pieces_of}
+use Rattle.command_line.proofs.Imports.{Bool, List, None, Option, Some, [], after_first, all_read, ap, append_assoc, arith, before_first, both_read, cases_lt, fails_before_first, inl, inr, length, not, pieces_of, position_or_len, prefix_len-le-length, refl, slice_split, slice_split_first, slice_split_none, sym, take_all, ℕ, ◌++◌, ◌<◌, ◌==◌, ◌∙◌, ◌∷◌, ◌≡◌}
 
 module _ {X : Type 0} where
   -- what was read, and what is read of the pieces that are left

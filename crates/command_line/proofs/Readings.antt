@@ -1,15 +1,5 @@
 -- What is read of pieces, and what they are written as.
-use Rattle.std.proofs.Common.{◌≡◌, ℕ, ◌+◌, ◌≤◌, Bool, true, false, ◌&&◌, ◌==◌, if◌then◌else◌, List, [], ◌∷◌, length, map, refl, sym, ap, ap₂, subst, ◌∙◌, arith, Option, Some, None}
-use Rattle.std.specs.Prelude.{nat_le, option_map}
-use Rattle.std.specs.List.{All, count_by, slice_split, join_with_byte}
-use Rattle.std.proofs.lemmas.Bool.Decides.{nat_tests}
-use Rattle.std.proofs.lemmas.List.{length-map}
-use Rattle.std.proofs.lemmas.List.Elements.{All-cons, All-head, All-map, All-nil, All-tail, All-weaker}
-use Rattle.std.proofs.lemmas.List.Splits.{join_with_byte-slice_split, length-slice_split}
-use Rattle.query_model.specs.Projection.{are_distinct}
-use Rattle.command_line.specs.Pieces.{all_read, both_read, pieces_of}
-use Rattle.command_line.specs.Tables.{few_named, few_of}
-use Rattle.command_line.specs.Written.{AreFew}
+use Rattle.command_line.proofs.Imports.{All, All-cons, All-head, All-map, All-nil, All-tail, All-weaker, AreFew, Bool, List, None, Option, Some, [], all_read, ap, ap₂, are_distinct, arith, both_read, count_by, false, few_named, few_of, if◌then◌else◌, join_with_byte, join_with_byte-slice_split, length, length-map, length-slice_split, map, nat_le, nat_tests, option_map, pieces_of, refl, slice_split, subst, sym, true, ℕ, ◌&&◌, ◌+◌, ◌==◌, ◌∙◌, ◌∷◌, ◌≡◌, ◌≤◌}
 use Rattle.command_line.proofs.Cuts.{Lacks, both_left, both_right, joined_split}
 
 pub none_some : {X : Type 0} (x : X) → None ≡ Some x → ⊥

@@ -1,7 +1,5 @@
 -- A declaration whose parts were read.
-use Rattle.std.proofs.Common.{◌≡◌, ◌==◌, ◌∙◌, ℕ, List, ap}
-use Rattle.std.specs.List.{before_first, after_first}
-use Rattle.command_line.specs.Tables.{columns_of, parts_of, table_of, table_with}
+use Rattle.command_line.proofs.Imports.{List, after_first, ap, before_first, columns_of, parts_of, table_of, table_with, ℕ, ◌==◌, ◌∙◌, ◌≡◌}
 
 abbrev before : ℕ → List ℕ → List ℕ
 before byte text = before_first (λ b. b == byte) text

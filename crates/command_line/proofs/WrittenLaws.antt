@@ -1,20 +1,6 @@
 -- Tables are read from exactly what they are written as.
-use Rattle.std.proofs.Common.{◌≡◌, ℕ, ◌≤◌, Bool, true, false, not, ◌&&◌, ◌==◌, if◌then◌else◌, List, [], ◌∷◌, ◌++◌, length, map, refl, sym, ap, ap₂, subst, ◌∙◌, arith, codes, eqb-true, Option, Some, None}
-use Rattle.std.specs.Prelude.{option_map}
-use Rattle.std.specs.List.{All, list_all, before_first, after_first, join_with_byte}
-use Rattle.std.specs.Str.{bytes_eq}
-use Rattle.std.proofs.lemmas.List.Elements.{All-head, All-map, All-weaker}
-use Rattle.std.proofs.lemmas.Slice.Eq.{bytes_eq-Decides}
-use Rattle.chunk_data.specs.declared.typed_value.ColumnType.{ColumnType}
+use Rattle.command_line.proofs.Imports.{All, All-head, All-map, All-weaker, AreFew, AreParts, Bool, ColumnDecl, ColumnType, Declares, IsColumn, IsPath, IsTable, List, ListFile, None, Option, PartsDecl, Paths, Some, TableDecl, [], after_first, all_read, ap, ap₂, arith, before_first, bytes_eq, bytes_eq-Decides, codes, column_of, column_text, column_with, columns_of, eqb-true, false, if◌then◌else◌, is_name, is_path, is_path_byte, is_word_byte, join_with_byte, length, list_all, map, not, option_map, parts_of, parts_text, path_of, pieces_of, refl, subst, sym, table_if, table_of, table_text, table_with, tables_of, true, type_named, type_text, ℕ, ◌&&◌, ◌++◌, ◌==◌, ◌∙◌, ◌∷◌, ◌≡◌, ◌≤◌}
 use Rattle.chunk_data.specs.declared.typed_value.ColumnType.TheVariants as column
-use Rattle.query_model.specs.declared.query.ColumnDecl.{ColumnDecl}
-use Rattle.query_model.specs.declared.query.PartsDecl.{PartsDecl}
-use Rattle.query_model.specs.declared.query.TableDecl.{TableDecl}
-use Rattle.query_model.specs.declared.query.PartsDecl.TheVariants.{Paths, ListFile}
-use Rattle.sql_grammar.specs.Tokens.{is_name, is_word_byte}
-use Rattle.command_line.specs.Pieces.{all_read, pieces_of}
-use Rattle.command_line.specs.Tables.{type_named, column_with, column_of, columns_of, is_path_byte, is_path, path_of, parts_of, table_if, table_with, table_of, tables_of}
-use Rattle.command_line.specs.Written.{AreFew, AreParts, Declares, IsColumn, IsPath, IsTable, column_text, parts_text, table_text, type_text}
 use Rattle.command_line.proofs.Cuts.{Lacks, after_at, before_at, both_left, both_right, cut_at, lacks_both, lacks_by, lacks_joined, lacks_more, true_false}
 use Rattle.command_line.proofs.Readings.{few_whole, few_written, if_same, if_true, mapped, none_some, pieces_whole, pieces_written, some_same}
 

@@ -1,11 +1,5 @@
 -- The bits of node words, and the ends of edges.
-use Rattle.std.proofs.Common.{◌≡◌, ◌≢◌, ℕ, ◌+◌, ◌^◌, ◌<◌, ◌≤◌, eqb, Bool, true, false, not, bit_or, bit_xor, max, Option, Some, None, refl, sym, ap, subst, ◌∙◌, inl, inr, arith}
-use Rattle.std.specs.Int.{bit_at}
-use Rattle.std.proofs.lemmas.Bool.{both_ways, cases_eq, cases_Bool, eqb-true}
-use Rattle.std.proofs.lemmas.Nat.Bits.{bit_at_or, bit_at_xor, bit_at-pow_same, bit_at-pow_other, bit_at-lt, bit_at-zero}
-use Rattle.core_laws.specs.Views.{Wire, end_of, bit_of, is_end, names, is_set, is_unborn, wire_ok}
-use Rattle.core_laws.specs.Laws.{is_named, WordHolds}
-use Rattle.core_laws.specs.Steps.{bit_at_end, peer_in}
+use Rattle.core_laws.proofs.Imports.{Bool, None, Option, Some, Wire, WordHolds, ap, arith, bit_at, bit_at-lt, bit_at-pow_other, bit_at-pow_same, bit_at-zero, bit_at_end, bit_at_or, bit_at_xor, bit_of, bit_or, bit_xor, both_ways, cases_Bool, cases_eq, end_of, eqb, eqb-true, false, inl, inr, is_end, is_named, is_set, is_unborn, max, names, not, peer_in, refl, subst, sym, true, wire_ok, ℕ, ◌+◌, ◌<◌, ◌^◌, ◌∙◌, ◌≡◌, ◌≢◌, ◌≤◌}
 
 -- no bit of 0 is set
 pub zero-clear : (k : ℕ) → is_set 0 k ≡ false

@@ -1,13 +1,6 @@
 -- Every step keeps the laws: of edges, of nodes, and of tokens.
-use Rattle.std.proofs.Common.{◌≡◌, ◌≢◌, ℕ, ◌+◌, ◌-◌, ◌*◌, ◌^◌, ◌<◌, ◌≤◌, ◌&&◌, ◌||◌, eqb, length, set, List, [], ◌∷◌, Bool, true, false, not, cond, Option, Some, None, is_none, bit_or, refl, sym, ap, subst, ◌∙◌, inl, inr, arith}
-use Rattle.std.proofs.lemmas.Bool.{both_ways, cases_eq, cases_Bool, cond_both, ne_eqb, eqb-true, and_parts, or_cases, or_left, or_right}
-use Rattle.std.proofs.lemmas.List.{length-set, set-get_or, get_or-set_same, get_or-set_other, get_or_default, map-append}
-use Rattle.std.proofs.lemmas.List.Sums.{sum_by-set, sum_by-le, get_or-le-sum_by}
+use Rattle.core_laws.proofs.Imports.{Act, Bool, Close, CoreState, EdgeHolds, Edges, EndTold, Finish, Flags, Laws, List, NodeHolds, NodeState, Nodes, None, Option, PortState, Pull, Push, Sees, Sight, Sizes, Some, Step, Tokens, Told, Unwant, Want, Wire, WireHolds, WordHolds, [], acted, acting_end, adding, after, and_parts, ap, arith, bit_at_end, bit_of, bit_or, born, both_ways, cases_Bool, cases_eq, changed, cond, cond_both, counted, counts, edges_of, end_of, eqb, eqb-true, false, fits, flags_at, fresh_sight, get_or-le-sum_by, get_or-set_other, get_or-set_same, get_or_default, has, holds, inl, inr, is_excused, is_none, is_none_of, is_over, is_set, is_unborn, is_updated, knows, lacks, learned, learning, left, length, length-set, looked, map-append, marked, may, may_act, may_wire, names, ne_eqb, no_node, no_port, node_at, node_of, not, once, or_cases, or_left, or_right, peer_in, port_after, port_at, port_of, put_node, refl, seeing, set, set-get_or, spent, subst, sum_by-le, sum_by-set, sym, taken, telling, tells, told, true, weight, wire_ok, wiring, without, ℕ, ◌&&◌, ◌*◌, ◌+◌, ◌-◌, ◌<◌, ◌^◌, ◌||◌, ◌∙◌, ◌∷◌, ◌≡◌, ◌≢◌, ◌≤◌}
 use Rattle.core_laws.specs.declared.types.Step.TheVariants as step
-use Rattle.core_laws.specs.Views.{Flags, Wire, Sizes, Sight, PortState, NodeState, CoreState, no_node, no_port, node_of, node_at, port_of, port_at, put_node, has, once, adding, without, edges_of, knows, flags_at, seeing, end_of, bit_of, names, is_set, is_over, is_unborn, counts, wire_ok, may_wire}
-use Rattle.core_laws.specs.Start.{fits, fresh_sight}
-use Rattle.core_laws.specs.Laws.{Sees, WireHolds, EdgeHolds, Edges, WordHolds, NodeHolds, lacks, is_excused, EndTold, Told, Nodes, weight, Tokens, Laws}
-use Rattle.core_laws.specs.Steps.{Act, Want, Unwant, Push, Pull, Finish, Close, Step, acting_end, acted, may_act, port_after, changed, tells, holds, looked, peer_in, bit_at_end, spent, told, telling, marked, is_updated, taken, left, is_none_of, learning, learned, wiring, born, counted, may, after}
 use Rattle.core_laws.proofs.Lists.{at_put, has-filter, once-filter, has-last, has-adding, once-last, once-adding, edges-seeing, seeing-here, seeing-other, flags-unknown, flags-last}
 use Rattle.core_laws.proofs.Bits.{zero-clear, pow-clear, or-other, or-here, or-more, word-one, word-idle, word-told, flip-other, flip-lone, word-born, end-within, at-end, peer-of, EndOf, end-of, an-end, not-not, both-ends}
 use Rattle.core_laws.proofs.Moves.{Moves, act-moves, same-flags, lacks-none, look-moves}

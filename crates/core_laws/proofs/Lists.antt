@@ -1,9 +1,5 @@
 -- Places in lists, sets of edges as lists, and sights in lists.
-use Rattle.std.proofs.Common.{◌≡◌, ◌≢◌, ℕ, ◌<◌, eqb, List, [], ◌∷◌, ◌++◌, length, set, get_or, Bool, true, ◌||◌, ◌&&◌, false, refl, sym, ap, subst, ◌∙◌, inl, inr, arith}
-use Rattle.std.specs.List.{filter}
-use Rattle.std.proofs.lemmas.Bool.{cases_eq}
-use Rattle.std.proofs.lemmas.List.{get_or-set_same, get_or-set_other}
-use Rattle.core_laws.specs.Views.{Flags, Sight, no_flags, has, once, adding, edges_of, knows, flags_at, seeing}
+use Rattle.core_laws.proofs.Imports.{Bool, Flags, List, Sight, [], adding, ap, arith, cases_eq, edges_of, eqb, false, filter, flags_at, get_or, get_or-set_other, get_or-set_same, has, inl, inr, knows, length, no_flags, once, refl, seeing, set, subst, sym, true, ℕ, ◌&&◌, ◌++◌, ◌<◌, ◌||◌, ◌∙◌, ◌∷◌, ◌≡◌, ◌≢◌}
 
 -- what holds of a place of a list in which one place was set
 pub at_put : {A : Type 0} (P : A → Type 0) (l : List A) (n m : ℕ) (x d : A) → n < length l

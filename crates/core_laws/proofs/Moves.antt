@@ -1,8 +1,5 @@
 -- What a step of one end of an edge does to the edge, to the end's own sight, and to the peer's.
-use Rattle.std.proofs.Common.{◌≡◌, ℕ, ◌++◌, [], ◌∷◌, Bool, true, false, not, is_some, Option, Some, None, refl, sym, ap, ◌∙◌, append-nil, arith}
-use Rattle.core_laws.specs.Views.{Flags, PortState, listed}
-use Rattle.core_laws.specs.Laws.{Content, Sees, lacks}
-use Rattle.core_laws.specs.Steps.{Act, Push, Pull, Finish, acting_end, allows, changed, tells, port_after}
+use Rattle.core_laws.proofs.Imports.{Act, Bool, Content, Finish, Flags, None, Option, PortState, Pull, Push, Sees, Some, [], acting_end, allows, ap, append-nil, arith, changed, false, is_some, lacks, listed, not, port_after, refl, sym, tells, true, ℕ, ◌++◌, ◌∙◌, ◌∷◌, ◌≡◌}
 
 -- the end b of the edge, which saw the port p as `was`, leaves it as q, sees it as f, and owes a
 -- telling where `owes` says so

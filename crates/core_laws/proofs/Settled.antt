@@ -1,10 +1,5 @@
 -- What a state shows in which nothing is pending.
-use Rattle.std.proofs.Common.{◌≡◌, ℕ, ◌<◌, length, Bool, true, false, not, Some, ap, ◌∙◌, inl, inr, arith}
-use Rattle.std.proofs.lemmas.Bool.{and_parts, cases_Bool, cases_lt}
-use Rattle.std.proofs.lemmas.List.{get_or_past}
-use Rattle.std.proofs.lemmas.List.Sums.{get_or-le-sum_by}
-use Rattle.core_laws.specs.Views.{Flags, Wire, CoreState, no_node, node_at, port_at, has, knows, flags_at, end_of, bit_of, is_set, is_over, counts}
-use Rattle.core_laws.specs.Laws.{Sees, lacks, Nodes, weight, Tokens, Laws, Knows}
+use Rattle.core_laws.proofs.Imports.{Bool, CoreState, Flags, Knows, Laws, Nodes, Sees, Some, Tokens, Wire, and_parts, ap, arith, bit_of, cases_Bool, cases_lt, counts, end_of, false, flags_at, get_or-le-sum_by, get_or_past, has, inl, inr, is_over, is_set, knows, lacks, length, no_node, node_at, not, port_at, true, weight, ℕ, ◌<◌, ◌∙◌, ◌≡◌}
 use Rattle.core_laws.proofs.Bits.{zero-clear}
 use Rattle.core_laws.proofs.Kept.{held-word}
 

@@ -1,13 +1,5 @@
 -- The state at the start meets the laws.
-use Rattle.std.proofs.Common.{◌≡◌, ℕ, zero, suc, ◌+◌, ◌^◌, ◌<◌, ◌≤◌, leb, ltb, length, get_or, map, List, [], ◌∷◌, Bool, true, false, ◌&&◌, Some, None, refl, sym, ap, subst, ◌∙◌, inl, inr, arith}
-use Rattle.std.specs.List.{filter, range_with_len, sum_by}
-use Rattle.std.proofs.lemmas.Bool.{both_ways, and_parts, cases_lt, cond_both}
-use Rattle.std.proofs.lemmas.List.{get_or_past}
-use Rattle.std.proofs.lemmas.List.FromFn.{length-map-range_with_len, get_or-map-range_with_len}
-use Rattle.std.proofs.lemmas.List.Sums.{sum_by-cons, AllPass-from_list_all}
-use Rattle.core_laws.specs.Views.{Flags, Wire, Sizes, Sight, NodeState, no_flags, no_port, no_node, no_wire, node_at, port_at, has, once, edges_of, knows, flags_at, end_of, names, wire_ok, reserved_edges, counts}
-use Rattle.core_laws.specs.Start.{is_reserved, wire_fits, fits, has_output, start_port, fresh_sight, is_end_among, start_word, start_node, start}
-use Rattle.core_laws.specs.Laws.{Sees, EdgeHolds, Edges, WordHolds, NodeHolds, lacks, Nodes, weight, Tokens, Laws}
+use Rattle.core_laws.proofs.Imports.{AllPass-from_list_all, Bool, EdgeHolds, Edges, Flags, Laws, List, NodeHolds, NodeState, Nodes, None, Sees, Sight, Sizes, Some, Tokens, Wire, WordHolds, [], and_parts, ap, arith, both_ways, cases_lt, cond_both, counts, edges_of, end_of, false, filter, fits, flags_at, fresh_sight, get_or, get_or-map-range_with_len, get_or_past, has, has_output, inl, inr, is_end_among, is_reserved, knows, lacks, leb, length, length-map-range_with_len, ltb, map, names, no_flags, no_node, no_port, no_wire, node_at, once, port_at, range_with_len, refl, reserved_edges, start, start_node, start_port, start_word, subst, suc, sum_by, sum_by-cons, sym, true, weight, wire_fits, wire_ok, zero, ℕ, ◌&&◌, ◌+◌, ◌<◌, ◌^◌, ◌∙◌, ◌∷◌, ◌≡◌, ◌≤◌}
 use Rattle.core_laws.proofs.Lists.{has-filter, once-filter}
 use Rattle.core_laws.proofs.Bits.{word-one, word-idle}
 use Rattle.core_laws.proofs.Moves.{same-flags, lacks-none}

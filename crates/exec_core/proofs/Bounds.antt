@@ -1,11 +1,6 @@
 -- What the laws give to a step: bounds of the pending number, and the peer that a mark tells.
-use Rattle.std.proofs.Common.{◌≡◌, ◌<◌, ◌≤◌, length, true, subst, arith}
-use Rattle.core_laws.specs.declared.types.Event.{Event}
+use Rattle.exec_core.proofs.Imports.{CoreState, Event, Laws, arith, length, may, pending-most, some-pending, subst, true, ◌<◌, ◌≡◌, ◌≤◌}
 use Rattle.core_laws.specs.declared.types.Step.TheVariants as step
-use Rattle.core_laws.specs.declared.types.CoreState.{CoreState}
-use Rattle.core_laws.specs.Steps.{may}
-use Rattle.core_laws.specs.Laws.{Laws}
-use Rattle.core_laws.proofs.Kept.{pending-most, some-pending}
 
 -- the pending number is far from its type's end
 pub pending-small : (c : CoreState) → Laws c → c.pending ≤ 768

@@ -1,3 +1,4 @@
+pub mod Imports
 pub mod Replaced
 pub mod Lists
 pub mod Words

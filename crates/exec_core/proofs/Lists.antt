@@ -1,8 +1,5 @@
 -- What the loops of lists and sights make.
-use Rattle.std.proofs.Common.{◌≡◌, ℕ, zero, suc, ◌<◌, length, get_or, set, take, drop, List, [], ◌∷◌, ◌++◌, ap, arith}
-use Rattle.port_word.specs.declared.flags.Flags.{Flags}
-use Rattle.core_laws.specs.declared.types.Sight.{Sight}
-use Rattle.core_laws.specs.Views.{seeing}
+use Rattle.exec_core.proofs.Imports.{Flags, List, Sight, [], ap, arith, drop, get_or, length, seeing, set, suc, take, zero, ℕ, ◌++◌, ◌<◌, ◌∷◌, ◌≡◌}
 
 -- the sight at a place that has the edge
 pub seeing-hit : (e : ℕ) (f : Flags) (l : List Sight) (i : ℕ) (d : Sight) → i < length l → (get_or l i d).edge ≡ e

@@ -1,11 +1,5 @@
 -- What is left of a place of a list that was emptied and filled again, and of a node that was told.
-use Rattle.std.proofs.Common.{◌≡◌, ◌≢◌, ℕ, ◌-◌, ◌*◌, ◌^◌, ◌%◌, ◌<◌, sym, arith}
-use Rattle.std.proofs.lemmas.List.{set-set, get_or-set_other}
-use Rattle.std.proofs.Math.Pow.{pow-lt}
-use Rattle.std.proofs.lemmas.Grind.{common_steps}
-use Rattle.core_laws.specs.declared.types.CoreState.{CoreState}
-use Rattle.core_laws.specs.Views.{no_node, node_at, put_node}
-use Rattle.core_laws.specs.Steps.{told}
+use Rattle.exec_core.proofs.Imports.{CoreState, arith, common_steps, get_or-set_other, no_node, node_at, pow-lt, put_node, set-set, sym, told, ℕ, ◌%◌, ◌*◌, ◌-◌, ◌<◌, ◌^◌, ◌≡◌, ◌≢◌}
 
 pub ruleset replaced = (set-set)
 

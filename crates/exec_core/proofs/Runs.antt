@@ -1,10 +1,5 @@
 -- Runs of events.
-use Rattle.std.proofs.Common.{◌≡◌, ℕ, ◌+◌, ◌<◌, length, get_or, take, List, [], ◌∷◌, ◌++◌, true, Some, ap, ◌∙◌, arith}
-use Rattle.std.proofs.lemmas.List.{take_more}
-use Rattle.core_laws.specs.declared.types.Event.{Event}
-use Rattle.core_laws.specs.declared.types.CoreState.{CoreState}
-use Rattle.core_laws.specs.Steps.{may, after}
-use Rattle.exec_core.specs.Runs.{run}
+use Rattle.exec_core.proofs.Imports.{CoreState, Event, List, Some, [], after, ap, arith, get_or, length, may, run, take, take_more, true, ℕ, ◌++◌, ◌+◌, ◌<◌, ◌∙◌, ◌∷◌, ◌≡◌}
 
 run-last : (c : CoreState) (xs : List Event) (d : CoreState) (ev : Event) → run c xs ≡ Some d
     → may d ev.seat ev.step ≡ true → run c (xs ++ ev ∷ []) ≡ Some (after d ev.seat ev.step)

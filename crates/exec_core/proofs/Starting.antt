@@ -1,10 +1,5 @@
 -- The loops that make the state at the start.
-use Rattle.std.proofs.Common.{◌≡◌, ◌+◌, ◌≤◌, length, true, arith}
-use Rattle.std.proofs.lemmas.List.FromFn.{sum_by-map-range_with_len_more}
-use Rattle.core_laws.specs.declared.types.Sizes.{Sizes}
-use Rattle.core_laws.specs.Views.{reserved_edges}
-use Rattle.core_laws.specs.Start.{fits}
-use Rattle.core_laws.proofs.Starts.{start-laws}
+use Rattle.exec_core.proofs.Imports.{Sizes, arith, fits, length, reserved_edges, start-laws, sum_by-map-range_with_len_more, true, ◌+◌, ◌≡◌, ◌≤◌}
 
 -- one more of what is summed by counting
 pub ruleset one_more = (sum_by-map-range_with_len_more)

@@ -1,9 +1,5 @@
 -- Bits beyond a word's end.
-use Rattle.std.proofs.Common.{◌≡◌, ℕ, ◌^◌, ◌<◌, ◌≤◌, ◌%◌, ap, subst, inl, inr, arith}
-use Rattle.std.specs.Int.{bit_at}
-use Rattle.std.proofs.Math.Nat.{div-eq_of_lt}
-use Rattle.std.proofs.Math.Pow.{pow-lt}
-use Rattle.std.proofs.lemmas.Bool.{cases_lt}
+use Rattle.exec_core.proofs.Imports.{ap, arith, bit_at, cases_lt, div-eq_of_lt, inl, inr, pow-lt, subst, ℕ, ◌%◌, ◌<◌, ◌^◌, ◌≡◌, ◌≤◌}
 
 -- a word of 64 bits has none above
 pub high_bit : (w k : ℕ) → w < 2 ^ 64 → 64 ≤ k → bit_at w k ≡ 0

@@ -1,13 +1,6 @@
 -- Operators on numbers are those on values.
-use Rattle.std.proofs.Common.{◌≡◌, ℕ, Bool, true, false, List, map, refl, ap, sym, ◌∙◌, ℤ, pos, negsuc, ◌-ℤ◌}
-use Rattle.std.specs.Int.{int_wrap, w64}
-use Rattle.chunk_data.specs.declared.typed_value.Value.TheVariants.{Int, UInt}
+use Rattle.expr_eval.proofs.Imports.{Add, ArithOp, Bool, Int, List, Mul, Sub, UInt, ap, arith_value, exact_result, false, int_wrap, map, negsuc, plain_value, pos, refl, residue, result_type, sided, sym, true, w64, wrapped, zip, ℕ, ℤ, ◌-ℤ◌, ◌∙◌, ◌≡◌}
 use Rattle.chunk_data.specs.declared.typed_value.ColumnType.TheVariants as column
-use Rattle.query_model.specs.Names.{wrapped, exact_result, arith_value, plain_value}
-use Rattle.query_model.specs.declared.query.ArithOp.{ArithOp}
-use Rattle.query_model.specs.declared.query.ArithOp.TheVariants.{Add, Sub, Mul}
-use Rattle.expr_eval.specs.Results.{residue, sided, result_type}
-use Rattle.std.specs.List.{zip}
 use Rattle.expr_eval.proofs.Onto.{map-map, same_maps, zip-map}
 
 -- one list under a constructor

@@ -1,17 +1,6 @@
 -- Comparisons on numbers and texts are those on values.
-use Rattle.std.proofs.Common.{◌≡◌, ℕ, false, refl, ap, ◌∙◌, ℤ, pos, negsuc}
-use Rattle.std.specs.Ordering.{int_cmp, ordering_reverse}
-use Rattle.std.specs.declared.cmp.Ordering.{Ordering}
-use Rattle.std.specs.declared.cmp.Ordering.TheVariants.{Less, Equal, Greater}
-use Rattle.std.proofs.lemmas.Cmp.{nat_list_cmp_total}
-use Rattle.std.specs.Cmp.{int_cmp_total}
+use Rattle.expr_eval.proofs.Imports.{CompareOp, Eq, Equal, Ge, Greater, Gt, Int, Le, Less, Lt, Ne, Ordering, Text, UInt, Value, ap, compared, exact, false, flipped, int_cmp, int_cmp_total, is_text, nat_list_cmp_total, negsuc, ordering_reverse, passes, plain_value, pos, refl, ℕ, ℤ, ◌∙◌, ◌≡◌}
 use Rattle.chunk_data.specs.Values.{type_of as type_of_value}
-use Rattle.chunk_data.specs.declared.typed_value.Value.{Value}
-use Rattle.chunk_data.specs.declared.typed_value.Value.TheVariants.{Int, UInt, Text}
-use Rattle.query_model.specs.Names.{exact, compared, passes, plain_value, is_text}
-use Rattle.query_model.specs.declared.query.CompareOp.{CompareOp}
-use Rattle.query_model.specs.declared.query.CompareOp.TheVariants.{Eq, Ne, Lt, Le, Gt, Ge}
-use Rattle.expr_eval.specs.Results.{flipped}
 
 passes-reverse : (op : CompareOp) (o : Ordering) → passes (flipped op) (ordering_reverse o) ≡ passes op o
 passes-reverse Eq Less = refl

@@ -1,14 +1,8 @@
 -- The operands of typed arithmetic.
-use Rattle.std.proofs.Common.{◌≡◌, Bool, true, false, List, map, refl, ap, subst, ℤ, pos, negsuc, Option, Some, None, if◌then◌else◌}
-use Rattle.chunk_data.specs.Names.{Row, Table, type_of as type_of_value, kind_of, values}
-use Rattle.chunk_data.specs.declared.typed_value.ColumnType.{ColumnType}
-use Rattle.chunk_data.specs.declared.typed_column.Column.{Column}
+use Rattle.expr_eval.proofs.Imports.{Add, AreAlike, AreNumbersAlike, ArithOp, Bool, CanHold, Column, ColumnType, Expr, IsMade, List, Mul, None, Option, Row, Some, Sub, Table, ap, arith_type, false, if◌then◌else◌, kind_of, map, negsuc, plain_of, plain_value, pos, refl, result_type, subst, true, type_of, value_of, values, ℤ, ◌≡◌}
+use Rattle.chunk_data.specs.Names.{type_of as type_of_value}
 use Rattle.chunk_data.specs.declared.typed_value.ColumnType.TheVariants as column
-use Rattle.query_model.specs.Names.{Expr, value_of, type_of, plain_value, plain_of, CanHold, AreNumbersAlike, AreAlike}
-use Rattle.query_model.specs.declared.query.ArithOp.{ArithOp}
-use Rattle.query_model.specs.declared.query.ArithOp.TheVariants.{Add, Sub, Mul}
 use Rattle.query_model.specs.declared.query.ExprOf.TheVariants as expr
-use Rattle.expr_eval.specs.Results.{IsMade, arith_type, result_type}
 
 pub plain_before : (p q : Option ℤ) (s t : ColumnType) (z : ℤ) → p ≡ Some z → AreAlike p s q t → (q ≡ None) × CanHold t z
 plain_before None q s t z e h = absurd cc

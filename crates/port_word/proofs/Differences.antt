@@ -1,10 +1,5 @@
 -- Each call keeps the law of a list of actions, and what is true of every picture.
-use Rattle.std.proofs.Common.{◌≡◌, ℕ, ◌<◌, ◌==◌, not, ◌&&◌, ◌||◌, Bool, true, false, cond, Option, List, [], ◌∷◌, ◌++◌, length, get_or, refl, sym, ap, subst, ◌∙◌, inl, inr}
-use Rattle.std.proofs.lemmas.Bool.{eqb-true, eqb-false, cases_lt}
-use Rattle.std.proofs.Math.ListN.{get_or-eq_default}
-use Rattle.chunk_data.specs.Values.{Table}
-use Rattle.port_word.specs.Names.{Flags, Action, InputPort, Picture, input_at, output_at, in_count, out_count, with_input, with_output, with_actions, no_input, over_flags, holds_data, can_push, is_out_finished, input_step, chunk_step, output_step, input_allows, output_allows, IsOnce, noted_want, noted, emptied, closed, with_needed, IsSound, Explains, IsDifference, PortCall, pull_call, need_call, close_call, push_call, finish_call, after_call, after_calls, ChangedByCalls}
-use Rattle.port_word.specs.declared.flags.Action.TheVariants.{Pull, Close, Push, Finish}
+use Rattle.port_word.proofs.Imports.{Action, Bool, ChangedByCalls, Close, Explains, Finish, Flags, InputPort, IsDifference, IsOnce, IsSound, List, Option, Picture, PortCall, Pull, Push, Table, [], after_call, after_calls, ap, can_push, cases_lt, chunk_step, close_call, closed, cond, emptied, eqb-false, eqb-true, false, finish_call, get_or, get_or-eq_default, holds_data, in_count, inl, input_allows, input_at, input_step, inr, is_out_finished, length, need_call, no_input, not, noted, noted_want, out_count, output_allows, output_at, output_step, over_flags, pull_call, push_call, refl, subst, sym, true, with_actions, with_input, with_needed, with_output, ℕ, ◌&&◌, ◌++◌, ◌<◌, ◌==◌, ◌||◌, ◌∙◌, ◌∷◌, ◌≡◌}
 use Rattle.port_word.proofs.Laws.{input_at-with_input, input_at-with_input-other, output_at-with_output, output_at-with_output-other}
 use Rattle.port_word.proofs.Soundness.{sound-pull, sound-close, sound-push, sound-finish, sound-want}
 use Rattle.port_word.proofs.Steps.{cond-ap, cond-same, needs, input_after-append, chunk_after-append, output_after-append, inputs_allow-append, outputs_allow-append, input_after-want, chunk_after-want, output_after-want, inputs_allow-want, outputs_allow-want, input_after-fin_out, input_after-fin_in, output_after-needed, output_after-fin_in, output_after-fin_out}

@@ -1,9 +1,5 @@
 -- Each call leaves room for the actions that may still come.
-use Rattle.std.proofs.Common.{◌≡◌, ℕ, ◌+◌, ◌<◌, ◌≤◌, Bool, true, false, Option, None, is_some, List, [], ◌∷◌, ◌++◌, length, get_or, set, zero, suc, sym, ap, subst, arith, ◌∙◌, length-append, replicate}
-use Rattle.std.proofs.lemmas.List.{length-set, get_or_default, length-replicate, get_or_append_left}
-use Rattle.chunk_data.specs.Values.{Table}
-use Rattle.port_word.specs.Names.{Flags, Action, InputPort, Picture, input_at, output_at, in_count, out_count, with_input, with_output, with_actions, no_input, new_input, no_flags, over_flags, holds_data, noted_want, new_picture, noted, emptied, closed, with_needed, IsDone, IsSound, Fits, action_room}
-use Rattle.port_word.specs.declared.flags.Action.TheVariants.{Pull, Close, Push, Finish}
+use Rattle.port_word.proofs.Imports.{Action, Bool, Close, Finish, Fits, Flags, InputPort, IsDone, IsSound, List, None, Option, Picture, Pull, Push, Table, [], action_room, ap, arith, closed, emptied, false, get_or, get_or_append_left, get_or_default, holds_data, in_count, input_at, is_some, length, length-append, length-replicate, length-set, new_input, new_picture, no_flags, no_input, noted, noted_want, out_count, output_at, over_flags, replicate, set, subst, suc, sym, true, with_actions, with_input, with_needed, with_output, zero, ℕ, ◌++◌, ◌+◌, ◌<◌, ◌∙◌, ◌∷◌, ◌≡◌, ◌≤◌}
 use Rattle.port_word.proofs.Slots.{each-map}
 use Rattle.port_word.proofs.Soundness.{Follows, done-follows, actions-fit, sound-pull, sound-close, sound-push, sound-finish, sound-want}
 

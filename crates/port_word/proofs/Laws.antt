@@ -1,8 +1,5 @@
 -- How the words of a picture go together; crates above name `picture_laws` in their root attribute.
-use Rattle.std.specs.Prelude.{◌≡◌, ◌≢◌, ℕ, ◌<◌, List, refl}
-use Rattle.std.proofs.Common.{get_or-set_same, get_or-set_other}
-use Rattle.std.proofs.lemmas.List.{length-set}
-use Rattle.port_word.specs.Names.{Flags, Action, InputPort, Picture, input_at, output_at, in_count, out_count, with_input, with_output, with_actions}
+use Rattle.port_word.proofs.Imports.{Action, Flags, InputPort, List, Picture, get_or-set_other, get_or-set_same, in_count, input_at, length-set, out_count, output_at, refl, with_actions, with_input, with_output, ℕ, ◌<◌, ◌≡◌, ◌≢◌}
 
 pub input_at-with_input : (p : Picture) (i : ℕ) (x : InputPort) → i < in_count p → input_at (with_input p i x) i ≡ x
 unfolding input_at with_input in_count

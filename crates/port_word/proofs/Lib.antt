@@ -1,3 +1,4 @@
+pub mod Imports
 pub mod Slots
 pub mod Soundness
 pub mod Fitting

@@ -1,8 +1,5 @@
 -- Lists of actions without two in one slot, and how long they get.
-use Rattle.std.proofs.Common.{◌≡◌, ◌≢◌, ℕ, ◌*◌, ◌<◌, ◌≤◌, ◌==◌, Bool, true, false, cond, List, [], ◌∷◌, ◌++◌, length, zero, suc, refl, sym, ap, arith, ◌∙◌, take, drop, set, get_or, drop-cons}
-use Rattle.std.proofs.lemmas.Bool.{eqb-true, eqb-false}
-use Rattle.port_word.specs.Names.{Action, EachAction, IsOnce, action_slot, want_of, is_want, noted_want}
-use Rattle.port_word.specs.declared.flags.Action.TheVariants.{Want, Unwant, Pull, Close, Push, Finish}
+use Rattle.port_word.proofs.Imports.{Action, Bool, Close, EachAction, Finish, IsOnce, List, Pull, Push, Unwant, Want, [], action_slot, ap, arith, cond, drop, drop-cons, eqb-false, eqb-true, false, get_or, is_want, length, noted_want, refl, set, suc, sym, take, true, want_of, zero, ℕ, ◌*◌, ◌++◌, ◌<◌, ◌==◌, ◌∙◌, ◌∷◌, ◌≡◌, ◌≢◌, ◌≤◌}
 
 pub each-append : (P : Action → Type 0) (xs : List Action) (y : Action) → EachAction P xs → P y → EachAction P (xs ++ y ∷ [])
 each-append P [] y h k = (k, tt)

@@ -1,9 +1,5 @@
 -- Each call keeps what is true of every picture.
-use Rattle.std.proofs.Common.{◌≡◌, ◌≢◌, ℕ, ◌+◌, ◌*◌, ◌<◌, ◌≤◌, Bool, true, false, is_some, List, [], ◌∷◌, ◌++◌, length, refl, sym, ap, subst, arith, ◌∙◌, inl, inr}
-use Rattle.std.proofs.lemmas.Bool.{cases_eq}
-use Rattle.chunk_data.specs.Values.{Table}
-use Rattle.port_word.specs.Names.{Flags, Action, InputPort, Picture, input_at, output_at, in_count, out_count, with_input, with_output, with_actions, holds_data, EachAction, IsOnce, action_slot, want_of, noted_want, noted, emptied, closed, with_needed, IsDone, IsSound, action_room}
-use Rattle.port_word.specs.declared.flags.Action.TheVariants.{Want, Unwant, Pull, Close, Push, Finish}
+use Rattle.port_word.proofs.Imports.{Action, Bool, Close, EachAction, Finish, Flags, InputPort, IsDone, IsOnce, IsSound, List, Picture, Pull, Push, Table, Unwant, Want, [], action_room, action_slot, ap, arith, cases_eq, closed, emptied, false, holds_data, in_count, inl, input_at, inr, is_some, length, noted, noted_want, out_count, output_at, refl, subst, sym, true, want_of, with_actions, with_input, with_needed, with_output, ℕ, ◌*◌, ◌++◌, ◌+◌, ◌<◌, ◌∙◌, ◌∷◌, ◌≡◌, ◌≢◌, ◌≤◌}
 use Rattle.port_word.proofs.Laws.{input_at-with_input, input_at-with_input-other, output_at-with_output, output_at-with_output-other, output_at-with_input, input_at-with_output, in_count-with_input, out_count-with_input, in_count-with_output, out_count-with_output, input_at-with_actions, output_at-with_actions, in_count-with_actions, out_count-with_actions}
 use Rattle.port_word.proofs.Slots.{each-append, each-map, once-append, once-fits, each-noted_want, once-noted_want}
 

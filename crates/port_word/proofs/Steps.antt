@@ -1,9 +1,5 @@
 -- How actions carried out one after another go together.
-use Rattle.std.proofs.Common.{◌≡◌, ◌≢◌, ℕ, ◌*◌, ◌==◌, not, ◌||◌, Bool, true, false, cond, Option, List, [], ◌∷◌, ◌++◌, refl, sym, ap, subst, ◌∙◌, inl, inr}
-use Rattle.std.proofs.lemmas.Bool.{eqb-true, cases_Bool}
-use Rattle.chunk_data.specs.Values.{Table}
-use Rattle.port_word.specs.Names.{Flags, Action, input_step, chunk_step, output_step, input_after, chunk_after, output_after, input_allows, output_allows, InputAllows, OutputAllows, EachAction, IsOnce, action_slot, want_of, is_want, noted_want}
-use Rattle.port_word.specs.declared.flags.Action.TheVariants.{Want, Unwant, Pull, Close, Push, Finish}
+use Rattle.port_word.proofs.Imports.{Action, Bool, Close, EachAction, Finish, Flags, InputAllows, IsOnce, List, Option, OutputAllows, Pull, Push, Table, Unwant, Want, [], action_slot, ap, cases_Bool, chunk_after, chunk_step, cond, eqb-true, false, inl, input_after, input_allows, input_step, inr, is_want, not, noted_want, output_after, output_allows, output_step, refl, subst, sym, true, want_of, ℕ, ◌*◌, ◌++◌, ◌==◌, ◌||◌, ◌∙◌, ◌∷◌, ◌≡◌, ◌≢◌}
 use Rattle.port_word.proofs.Slots.{each-map, slot-is_want}
 
 pub cond-ap : {A B : Type 0} (h : A → B) (b : Bool) (x y : A) → h (cond b x y) ≡ cond b (h x) (h y)

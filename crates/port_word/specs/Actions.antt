@@ -1,9 +1,6 @@
 -- What actions do to ports: the flags and chunks of a port after a list of actions, in their order.
-use Rattle.std.specs.Prelude.{◌≡◌, ◌≢◌, ℕ, ◌+◌, ◌*◌, ◌==◌, Bool, true, false, not, ◌||◌, cond, List, [], ◌∷◌, Option, None}
-use Rattle.chunk_data.specs.Values.{Table}
-use Rattle.port_word.specs.declared.flags.Flags.{Flags}
-use Rattle.port_word.specs.declared.flags.Action.{Action}
-use Rattle.port_word.specs.declared.flags.Action.TheVariants.{Want, Unwant, Pull, Close, Push, Finish}
+use Rattle.std.specs.Prelude.{◌*◌, ◌+◌, ◌==◌, ◌||◌, ◌∷◌, ◌≡◌, ◌≢◌}
+use Rattle.port_word.specs.Prelude.{Action, Bool, Close, Finish, Flags, List, None, Option, Pull, Push, Table, Unwant, Want, [], cond, false, not, true, ℕ}
 use Rattle.port_word.specs.Pictures.{holds_data, can_push, is_out_finished}
 
 -- the flags of input i after an action

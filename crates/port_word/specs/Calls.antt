@@ -1,9 +1,6 @@
 -- What each call makes of a picture.
-use Rattle.std.specs.Prelude.{◌≡◌, ℕ, ◌-◌, Bool, true, false, not, ◌||◌, cond, [], ◌∷◌, ◌++◌, replicate, Option, Some, None}
-use Rattle.chunk_data.specs.Values.{Table}
-use Rattle.port_word.specs.declared.flags.Action.{Action}
-use Rattle.port_word.specs.declared.flags.Action.TheVariants.{Pull, Close, Push, Finish}
-use Rattle.port_word.specs.declared.port_view.InputPort.{InputPort}
+use Rattle.std.specs.Prelude.{◌++◌, ◌-◌, ◌||◌, ◌∷◌, ◌≡◌}
+use Rattle.port_word.specs.Prelude.{Action, Bool, Close, Finish, InputPort, None, Option, Pull, Push, Some, Table, [], cond, false, not, replicate, true, ℕ}
 use Rattle.port_word.specs.Pictures.{Picture, input_at, output_at, in_count, out_count, with_input, with_output, with_actions, new_input, no_flags, holds_data, can_push, is_out_finished}
 use Rattle.port_word.specs.Actions.{noted_want}
 

@@ -1,8 +1,6 @@
 -- The law of a list of actions: what it makes of the ports as they were.
-use Rattle.std.specs.Prelude.{◌≡◌, ℕ, Bool, List, [], ◌∷◌, Option}
-use Rattle.chunk_data.specs.Values.{Table}
-use Rattle.port_word.specs.declared.flags.Flags.{Flags}
-use Rattle.port_word.specs.declared.flags.Action.{Action}
+use Rattle.std.specs.Prelude.{◌∷◌, ◌≡◌}
+use Rattle.port_word.specs.Prelude.{Action, Bool, Flags, List, Option, Table, [], ℕ}
 use Rattle.port_word.specs.Pictures.{Picture, input_at, output_at}
 use Rattle.port_word.specs.Actions.{input_after, chunk_after, output_after, InputAllows, OutputAllows}
 use Rattle.port_word.specs.Calls.{after_pull, after_need, after_close, after_push, after_finish}

@@ -1,3 +1,4 @@
+pub mod Prelude
 pub mod Pictures
 pub mod Actions
 pub mod Calls

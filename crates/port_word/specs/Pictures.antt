@@ -1,8 +1,6 @@
 -- A node's picture of its ports, as plain data, and the words by which contracts read it.
-use Rattle.std.specs.Prelude.{ℕ, Bool, true, false, not, ◌&&◌, ◌||◌, List, length, None, slice_index_or, slice_set}
-use Rattle.port_word.specs.declared.flags.Flags.{Flags}
-use Rattle.port_word.specs.declared.flags.Action.{Action}
-use Rattle.port_word.specs.declared.port_view.InputPort.{InputPort}
+use Rattle.std.specs.Prelude.{◌&&◌, ◌||◌}
+use Rattle.port_word.specs.Prelude.{Action, Bool, Flags, InputPort, List, None, false, length, not, slice_index_or, slice_set, true, ℕ}
 
 -- each input with its flags and its chunk, the flags of each output, and the actions not yet carried out
 pub record Picture : Type 0 where

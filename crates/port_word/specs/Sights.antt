@@ -1,9 +1,6 @@
 -- How an executor brings a port up to date, and when it may.
-use Rattle.std.specs.Prelude.{◌≡◌, ◌<◌, Bool, true, false, not, ◌&&◌, [], Option, Some, None, is_some}
-use Rattle.chunk_data.specs.Values.{Table}
-use Rattle.port_word.specs.declared.flags.Flags.{Flags}
-use Rattle.port_word.specs.declared.flags.Port.{Port}
-use Rattle.port_word.specs.declared.flags.Port.TheVariants.{Input, Output}
+use Rattle.std.specs.Prelude.{◌&&◌, ◌<◌, ◌≡◌}
+use Rattle.port_word.specs.Prelude.{Bool, Flags, Input, None, Option, Output, Port, Some, Table, [], false, is_some, not, true}
 use Rattle.port_word.specs.Pictures.{Picture, input_at, output_at, in_count, out_count, with_input, with_output}
 
 -- the port is one of the node's

@@ -1,7 +1,6 @@
 -- What is true of every picture.
-use Rattle.std.specs.Prelude.{◌≡◌, ℕ, ◌<◌, ◌≤◌, ◌*◌, length, max, true, false, is_some}
-use Rattle.port_word.specs.declared.flags.Action.{Action}
-use Rattle.port_word.specs.declared.flags.Action.TheVariants.{Want, Unwant, Pull, Close, Push, Finish}
+use Rattle.std.specs.Prelude.{◌*◌, ◌<◌, ◌≡◌, ◌≤◌}
+use Rattle.port_word.specs.Prelude.{Action, Close, Finish, Pull, Push, Unwant, Want, false, is_some, length, max, true, ℕ}
 use Rattle.port_word.specs.Pictures.{Picture, input_at, output_at, in_count, out_count, holds_data}
 use Rattle.port_word.specs.Actions.{EachAction, IsOnce}
 

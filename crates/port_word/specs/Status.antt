@@ -1,5 +1,6 @@
 -- What a processor's answer says of its ports, by their flags.
-use Rattle.std.specs.Prelude.{◌≡◌, ℕ, ◌<◌, true, false}
+use Rattle.std.specs.Prelude.{◌<◌, ◌≡◌}
+use Rattle.port_word.specs.Prelude.{false, true, ℕ}
 use Rattle.port_word.specs.Pictures.{Picture, input_at, output_at, in_count, out_count, is_in_finished, is_out_finished}
 
 -- some input is needed, empty and not finished

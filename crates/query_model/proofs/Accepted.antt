@@ -1,11 +1,5 @@
 -- What holds of a query that no condition refuses.
-use Rattle.std.proofs.Common.{◌≡◌, ℕ, ◌≤◌, Bool, true, false, ◌&&◌, ◌||◌, cond, List, [], ◌∷◌, ◌++◌, length, length-append, map, filter, refl, sym, ap, ◌∙◌, arith, Option, Some, None}
-use Rattle.std.specs.Prelude.{nat_lt, is_some, find, flat_map, not, option_map, ◌==◌}
-use Rattle.std.specs.List.{All, list_any, list_all}
-use Rattle.std.proofs.lemmas.List.{append-nil}
-use Rattle.std.proofs.lemmas.List.Elements.{All-nil, All-cons}
-use Rattle.query_model.specs.Refusals.{FromColumn, Kind, plain, typed, unfit, written, meant, table_columns, from_columns, join_tables, join_pairs, text_columns, listed, item_kind, is_typed, is_call, is_grouped, fits_where, calls_in, expr_columns, expr_kind, arith_kind, bare_columns, operands_of, not_keys, star_name, first_name, ungrouped_names, unknown_table, unknown_column, ambiguous_column, bad_join_key, holds_pairs, type_mismatch, not_grouped, bad_order_key, too_wide, first_of_all, refusal_of}
-use Rattle.query_model.specs.Names.{types_fit_over, pairs_fit, unknown_among, ambiguous_among, refusal_unless, not_grouped_over, order_over, width_over, is_key_of, CanBePicked, HasNoCall, IsDue, ArithOp, ColumnRef, ExprOf, Item, ItemKind, Join, Query, Schema, Refusal}
+use Rattle.query_model.proofs.Imports.{All, All-cons, All-nil, ArithOp, Bool, CanBePicked, ColumnRef, ExprOf, FromColumn, HasNoCall, IsDue, Item, ItemKind, Join, Kind, List, None, Option, Query, Refusal, Schema, Some, [], ambiguous_among, ambiguous_column, ap, append-nil, arith, arith_kind, bad_join_key, bad_order_key, bare_columns, calls_in, cond, expr_columns, expr_kind, false, filter, find, first_name, first_of_all, fits_where, flat_map, from_columns, holds_pairs, is_call, is_grouped, is_key_of, is_some, is_typed, item_kind, join_pairs, join_tables, length, length-append, list_all, list_any, listed, map, meant, nat_lt, not, not_grouped, not_grouped_over, not_keys, operands_of, option_map, order_over, pairs_fit, plain, refl, refusal_of, refusal_unless, star_name, sym, table_columns, text_columns, too_wide, true, type_mismatch, typed, types_fit_over, unfit, ungrouped_names, unknown_among, unknown_column, unknown_table, width_over, written, ℕ, ◌&&◌, ◌++◌, ◌==◌, ◌||◌, ◌∙◌, ◌∷◌, ◌≡◌, ◌≤◌}
 use Rattle.query_model.specs.declared.query.ExprOf.TheVariants as expr
 use Rattle.query_model.specs.declared.query.ItemKind.TheVariants as kind
 use Rattle.query_model.specs.declared.query.Refusal.TheVariants as refuse

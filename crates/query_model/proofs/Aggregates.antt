@@ -1,12 +1,5 @@
 -- The merge of the aggregates of parts is the aggregate of the whole, and no order of the values matters.
-use Rattle.std.proofs.Common.{◌≡◌, ℕ, suc, ◌+◌, ◌%◌, ◌^◌, ◌<◌, Bool, true, false, ◌&&◌, cond, List, [], ◌∷◌, ◌++◌, map, flat_map, length, fold, refl, sym, ap, ap₂, ◌∙◌, subst, arith, ℤ, pos, ◌+ℤ◌, IsPermutation, Ordering, Less, Equal, Greater, is_lt}
-use Rattle.std.specs.List.{list_all}
-use Rattle.std.proofs.lemmas.Int.{ints}
-use Rattle.std.proofs.lemmas.List.Sorted.{length_permutation}
-use Rattle.chunk_data.specs.Values.{value_cmp}
-use Rattle.chunk_data.specs.declared.typed_value.Value.{Value}
-use Rattle.query_model.specs.Names.{exact, is_uint, wrapped, Combine, counted, added, counts_added, least, greatest, merge_of, combined, chosen, lesser, greater, exact_sum}
-use Rattle.chunk_data.specs.declared.typed_value.Value.TheVariants.{UInt}
+use Rattle.query_model.proofs.Imports.{Bool, Combine, Equal, Greater, IsPermutation, Less, List, Ordering, UInt, Value, [], added, ap, ap₂, arith, chosen, combined, cond, counted, counts_added, exact, exact_sum, false, flat_map, fold, greater, greatest, ints, is_lt, is_uint, least, length, length_permutation, lesser, list_all, map, merge_of, pos, refl, subst, suc, sym, true, value_cmp, wrapped, ℕ, ℤ, ◌%◌, ◌&&◌, ◌++◌, ◌+ℤ◌, ◌+◌, ◌<◌, ◌^◌, ◌∙◌, ◌∷◌, ◌≡◌}
 use Rattle.query_model.proofs.Wrapping.{Same, Same-add, wrapped-Same, exact-wrapped, is_uint-wrapped}
 use Rattle.query_model.proofs.ValueOrder.{value_cmp_total, value_cmp-IsAntisymmetric}
 use Rattle.query_model.proofs.Lists.{along_permutation}

@@ -1,15 +1,5 @@
 -- Laws of answers: output rows of parts, rows in another order, no keys and no limit.
-use Rattle.std.proofs.Common.{◌≡◌, Bool, true, false, List, [], ◌∷◌, ◌++◌, map, filter, refl, sym, ap, ◌∙◌, subst, arith, IsPermutation, IsSorted, Option, Some, None, Ordering}
-use Rattle.std.specs.Cmp.{IsTotalOrder, on_total, then_total}
-use Rattle.std.specs.Ordering.{ordering_reverse}
-use Rattle.std.proofs.lemmas.List.{map-append}
-use Rattle.std.proofs.lemmas.List.Elements.{filter-append}
-use Rattle.std.proofs.lemmas.List.Sorted.{IsPermutation-refl, IsPermutation-sym, IsPermutation-map, IsPermutation-trans, length_permutation}
-use Rattle.chunk_data.specs.Values.{Row, value_at, values_at, key_cmp, row_cmp}
-use Rattle.chunk_data.specs.declared.typed_value.ColumnType.{ColumnType}
-use Rattle.chunk_data.specs.declared.typed_value.SortKey.{SortKey}
-use Rattle.query_model.specs.Names.{Expr, Cond, holds, rows_where, agree, joined_rows, groups_or_default, item_row, selected_rows, IsOrderedAnswer, Span, Shape, KeyPair}
-use Rattle.query_model.specs.declared.checked.Shape.TheVariants.{Plain, Grouped}
+use Rattle.query_model.proofs.Imports.{Bool, ColumnType, Cond, Expr, Grouped, IsOrderedAnswer, IsPermutation, IsPermutation-map, IsPermutation-refl, IsPermutation-sym, IsPermutation-trans, IsSorted, IsTotalOrder, KeyPair, List, None, Option, Ordering, Plain, Row, Shape, Some, SortKey, Span, [], agree, ap, arith, false, filter, filter-append, groups_or_default, holds, item_row, joined_rows, key_cmp, length_permutation, map, map-append, on_total, ordering_reverse, refl, row_cmp, rows_where, selected_rows, subst, sym, then_total, true, value_at, values_at, ◌++◌, ◌∙◌, ◌∷◌, ◌≡◌}
 use Rattle.query_model.proofs.Lists.{IsPermutation-filter, flat_map-append}
 use Rattle.query_model.proofs.Merge.{IsPermutation-grouped_by}
 

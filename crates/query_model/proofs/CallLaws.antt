@@ -1,7 +1,5 @@
 -- Calls that are counted, and calls that are placed one behind another.
-use Rattle.std.proofs.Common.{◌≡◌, ℕ, suc, ◌+◌, ◌<◌, Bool, true, false, cond, filter, get_or, take, List, [], ◌∷◌, ◌++◌, length, map, flat_map, refl, sym, ap, ◌∙◌, subst, arith, append_assoc, length-append}
-use Rattle.std.proofs.lemmas.List.{append-nil, map-append, take_more}
-use Rattle.query_model.specs.Names.{FromColumn, operand_calls, total, EachWith, IsPlacedCall, IsPick, ArePicks, item_calls, place_in, is_call_item, AreAdded, AggCall, ColumnRef, Item, Operand}
+use Rattle.query_model.proofs.Imports.{AggCall, AreAdded, ArePicks, Bool, ColumnRef, EachWith, FromColumn, IsPick, IsPlacedCall, Item, List, Operand, [], ap, append-nil, append_assoc, arith, cond, false, filter, flat_map, get_or, is_call_item, item_calls, length, length-append, map, map-append, operand_calls, place_in, refl, subst, suc, sym, take, take_more, total, true, ℕ, ◌++◌, ◌+◌, ◌<◌, ◌∙◌, ◌∷◌, ◌≡◌}
 
 total-append : (xs ys : List ℕ) → total (xs ++ ys) ≡ total xs + total ys
 total-append [] ys = omega arith

@@ -3,18 +3,9 @@
 --     placed_expr_send, placed_cond_send, placed_exprs_send      of those over places
 --     spec_send      of what a processor is loaded with
 -- A type that holds itself is a ring of one member: what its layer has of `Send` where the member has it, the member has.
-use denote.Builtin.{u32}
-use denote.RattleType.{RattleType}
-use denote.Hole.{as_row}
-use denote.Hole.FixSend.{Sends, fix_send}
-use denote.Param.Send.{IsSend, sendable}
-use denote.Param.SendFields.{as_row_send, variants_send}
-use denote.Struct.Field.{row_field}
-use Rattle.std.proofs.Crossing.{Box-send, crosses}
+use Rattle.query_model.proofs.Imports.{Box-send, IsSend, RattleType, Sends, as_row, as_row_send, bytes_send, crosses, fix_send, ghosts, list_send, row_field, sendable, u32, variants_send}
 use Rattle.std.specs.contracts.alloc.Global as heap
 use Rattle.std.specs.contracts.boxed.Box as box
-use Rattle.std.specs.contracts.impls.GlobalAllocator.TheImpl.{ghosts}
-use Rattle.chunk_data.proofs.Crossing.{bytes_send, list_send}
 use Rattle.chunk_data.specs.contracts.lists.List as list
 use Rattle.query_model.specs.contracts.processor_spec.GroupSpec as group_spec
 use Rattle.query_model.specs.contracts.processor_spec.JoinSpec as join_spec

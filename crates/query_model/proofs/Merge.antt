@@ -1,12 +1,5 @@
 -- The merge of the groups of parts is the groups of all rows.
-use Rattle.std.proofs.Common.{◌≡◌, ℕ, zero, suc, ◌+◌, Bool, true, false, not, cond, List, [], ◌∷◌, ◌++◌, map, filter, flat_map, length, take, get_or, refl, sym, ap, ap₂, ◌∙◌, arith, append_assoc, IsPermutation, length-append}
-use Rattle.std.specs.List.{AllByRecursion}
-use Rattle.std.proofs.lemmas.List.{map-append}
-use Rattle.std.proofs.lemmas.List.Sorted.{IsPermutation-map, IsPermutation-trans}
-use Rattle.chunk_data.specs.Values.{Row, value_at, values_at, same_row}
-use Rattle.chunk_data.specs.declared.typed_value.Value.{Value}
-use Rattle.query_model.specs.Names.{Call, distinct, distinct_rows, rows_with, grouped_by, groups, call_of, state_calls, merged_groups, combined, merge_of, combine_of, Combine, AggCall}
-use Rattle.chunk_data.specs.declared.typed_value.Value.TheVariants.{Text}
+use Rattle.query_model.proofs.Imports.{AggCall, AllByRecursion, Bool, Call, Combine, IsPermutation, IsPermutation-map, IsPermutation-trans, List, Row, Text, Value, [], ap, append_assoc, ap₂, arith, call_of, combine_of, combined, cond, distinct, distinct_rows, false, filter, flat_map, get_or, grouped_by, groups, length, length-append, map, map-append, merge_of, merged_groups, not, refl, rows_with, same_row, state_calls, suc, sym, take, true, value_at, values_at, zero, ℕ, ◌++◌, ◌+◌, ◌∙◌, ◌∷◌, ◌≡◌}
 use Rattle.query_model.proofs.Lists.{map-map, map-flat_map, flat_map-map, filter-flat_map, filter-map, IsPermutation-filter, IsPermutation-same}
 use Rattle.query_model.proofs.Distinct.{distinct-filter, distinct-append_left, distinct-append_right, IsPermutation-distinct}
 use Rattle.query_model.proofs.ValueOrder.{same_row_is}

@@ -1,9 +1,5 @@
 -- Digits read in turn spell the number of the whole numeral.
-use Rattle.std.proofs.Common.{◌≡◌, ℕ, ◌+◌, ◌-◌, ◌*◌, ◌^◌, ◌<◌, ◌≤◌, Bool, true, false, ◌&&◌, cond, List, [], ◌∷◌, fold, length, drop, get_or, refl, ap, arith, Some, None}
-use Rattle.std.specs.Prelude.{nat_lt}
-use Rattle.std.specs.List.{list_all}
-use Rattle.std.proofs.lemmas.List.{drop_more, drop_all}
-use Rattle.query_model.specs.Names.{is_digit, numeral_below, with_digit, with_digits, and_then}
+use Rattle.query_model.proofs.Imports.{Bool, List, None, Some, [], and_then, ap, arith, cond, drop, drop_all, drop_more, false, fold, get_or, is_digit, length, list_all, nat_lt, numeral_below, refl, true, with_digit, with_digits, ℕ, ◌&&◌, ◌*◌, ◌+◌, ◌-◌, ◌<◌, ◌^◌, ◌∷◌, ◌≡◌, ◌≤◌}
 
 abbrev pub next : ℕ → ℕ → ℕ
 next n b = n * 10 + (b - 48)

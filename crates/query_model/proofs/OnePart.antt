@@ -1,11 +1,5 @@
 -- A table of one part: its rows, and whether it is valid.
-use Rattle.std.proofs.Common.{◌≡◌, ℕ, zero, suc, Bool, List, [], ◌∷◌, ◌++◌, flat_map, sym, ap, ◌∙◌, subst, arith}
-use Rattle.std.specs.List.{All}
-use Rattle.std.proofs.lemmas.List.{append-nil}
-use Rattle.chunk_data.specs.Values.{Row}
-use Rattle.chunk_data.specs.declared.typed_value.ColumnType.{ColumnType}
-use Rattle.query_model.specs.Names.{Database, UsedPart, column_types, part_paths, part_rows, IsValidPart, IsValidUsed, numbered_parts, database, AllPartsValid, projection_checked, Schema, PartsDecl, TableDecl}
-use Rattle.query_model.specs.declared.query.PartsDecl.TheVariants.{Paths}
+use Rattle.query_model.proofs.Imports.{All, AllPartsValid, Bool, ColumnType, Database, IsValidPart, IsValidUsed, List, PartsDecl, Paths, Row, Schema, TableDecl, UsedPart, [], ap, append-nil, arith, column_types, database, flat_map, numbered_parts, part_paths, part_rows, projection_checked, subst, suc, sym, zero, ℕ, ◌++◌, ◌∙◌, ◌∷◌, ◌≡◌}
 
 one_table : List ColumnType → List Row → Database
 one_table types rows = record { types = types; rows = rows } ∷ []

@@ -1,11 +1,5 @@
 -- Laws of parts and of joins.
-use Rattle.std.proofs.Common.{◌≡◌, ℕ, suc, ◌+◌, cond, List, [], ◌∷◌, ◌++◌, map, filter, flat_map, length, refl, ap, ◌∙◌, Option, Some, None, IsPermutation}
-use Rattle.std.specs.Prelude.{is_some}
-use Rattle.std.proofs.lemmas.List.Sorted.{IsPermutation-refl, IsPermutation-append, IsPermutation-map, IsPermutation-trans}
-use Rattle.chunk_data.specs.Values.{Row}
-use Rattle.chunk_data.specs.declared.typed_value.ColumnType.{ColumnType}
-use Rattle.query_model.specs.Names.{spelled_row, good_rows, bad_place, row_then, Expr, Cond, rows_where, agree, joined_rows, selected_rows, BadPlace, KeyPair}
-use Rattle.query_model.specs.declared.checked.Shape.TheVariants.{Plain}
+use Rattle.query_model.proofs.Imports.{BadPlace, ColumnType, Cond, Expr, IsPermutation, IsPermutation-append, IsPermutation-map, IsPermutation-refl, IsPermutation-trans, KeyPair, List, None, Option, Plain, Row, Some, [], agree, ap, bad_place, cond, filter, flat_map, good_rows, is_some, joined_rows, length, map, refl, row_then, rows_where, selected_rows, spelled_row, suc, ℕ, ◌++◌, ◌+◌, ◌∙◌, ◌∷◌, ◌≡◌}
 use Rattle.query_model.proofs.Lists.{IsPermutation-filter, IsPermutation-flat_map}
 use Rattle.query_model.proofs.AnswerLaws.{selected_rows-append}
 

@@ -1,10 +1,5 @@
 -- The place of the first that passes a test.
-use Rattle.std.proofs.Common.{◌≡◌, ℕ, ◌+◌, ◌<◌, ◌≤◌, Bool, true, false, cond, List, [], ◌∷◌, length, get_or, take, refl, ap, ◌∙◌, arith, suc, zero}
-use Rattle.std.specs.Prelude.{◌||◌}
-use Rattle.std.specs.List.{list_any}
-use Rattle.std.proofs.lemmas.List.{take_more}
-use Rattle.std.proofs.lemmas.List.Folds.{list_any-append}
-use Rattle.query_model.specs.Checks.{place_of}
+use Rattle.query_model.proofs.Imports.{Bool, List, [], ap, arith, cond, false, get_or, length, list_any, list_any-append, place_of, refl, suc, take, take_more, true, zero, ℕ, ◌+◌, ◌<◌, ◌||◌, ◌∙◌, ◌∷◌, ◌≡◌, ◌≤◌}
 
 -- the first that passes
 pub place_found : {A : Type 0} (test : A → Bool) (xs : List A) (i : ℕ) (d : A) → list_any test (take i xs) ≡ false → i < length xs → test (get_or xs i d) ≡ true

@@ -1,10 +1,6 @@
 -- Lists that are placed one by one.
-use Rattle.std.proofs.Common.{◌≡◌, ℕ, suc, ◌+◌, ◌<◌, List, [], ◌∷◌, ◌++◌, length, get_or, take, length-take, refl, ap, arith, subst, sym}
-use Rattle.std.specs.List.{All}
-use Rattle.std.proofs.lemmas.List.{take_more}
-use Rattle.std.proofs.lemmas.List.Elements.{All-nil, All-cons, All-head, All-tail}
+use Rattle.query_model.proofs.Imports.{All, All-cons, All-head, All-nil, All-tail, AreColumnsFrom, EachWith, Expr, FromColumn, Item, List, [], ap, arith, get_or, item_names, length, length-take, name_or, plain_name, refl, subst, suc, sym, take, take_more, ℕ, ◌++◌, ◌+◌, ◌<◌, ◌∷◌, ◌≡◌}
 use Rattle.chunk_data.specs.declared.typed_value.ColumnType.TheVariants as column
-use Rattle.query_model.specs.Names.{Expr, FromColumn, name_or, plain_name, item_names, EachWith, AreColumnsFrom, Item}
 use Rattle.query_model.specs.declared.query.ExprOf.TheVariants as expr
 
 pub All-front : {A : Type 0} (P : A → Type 0) (xs ys : List A) → All P (xs ++ ys) → All P xs

@@ -1,8 +1,5 @@
 -- A query of one table without further clauses.
-use Rattle.std.proofs.Common.{◌≡◌, false, ◌||◌, List, [], ◌∷◌, refl, ap₂}
-use Rattle.std.specs.List.{All, list_any}
-use Rattle.std.proofs.lemmas.List.Elements.{All-head, All-tail}
-use Rattle.query_model.specs.Names.{listed, is_call, is_grouped, HasNoCall, IsPlainQuery, Item, ItemKind, Query}
+use Rattle.query_model.proofs.Imports.{All, All-head, All-tail, HasNoCall, IsPlainQuery, Item, ItemKind, List, Query, [], ap₂, false, is_call, is_grouped, list_any, listed, refl, ◌||◌, ◌∷◌, ◌≡◌}
 use Rattle.query_model.specs.declared.query.ItemKind.TheVariants as kind
 
 no_call : (i : ItemKind) → HasNoCall i → is_call i ≡ false

@@ -1,14 +1,6 @@
 -- Reading a part field by field and record by record.
-use Rattle.std.proofs.Common.{◌≡◌, ◌≢◌, ℕ, suc, ◌+◌, ◌<◌, true, false, cond, List, [], ◌∷◌, ◌++◌, length, get_or, drop, refl, sym, ap, ap₂, ◌∙◌, subst, arith, ℤ, length-append, Option, Some, None}
-use Rattle.std.specs.Prelude.{◌==◌, is_some, option_map, ◌^◌}
-use Rattle.std.proofs.lemmas.List.{drop_more, drop_all}
-use Rattle.chunk_data.specs.Values.{Row, type_of, FitsType, FitsTypes}
-use Rattle.chunk_data.specs.declared.typed_value.Value.{Value}
-use Rattle.chunk_data.specs.declared.typed_value.ColumnType.{ColumnType}
-use Rattle.query_model.specs.Names.{spelled_value, spelled_row, spelled_int, both_spelled, numeral_below, bad_column, bad_field, SpelledFront}
-use Rattle.chunk_data.specs.declared.typed_value.Value.TheVariants.{Int, UInt}
+use Rattle.query_model.proofs.Imports.{Column, ColumnType, Fields, FitsType, FitsTypes, Int, List, None, Option, Row, Some, SpelledFront, UInt, Value, [], ap, ap₂, arith, bad_column, bad_field, both_spelled, cond, drop, drop_all, drop_more, false, get_or, is_some, length, length-append, numeral_below, option_map, refl, spelled_int, spelled_row, spelled_value, subst, suc, sym, true, type_of, ℕ, ℤ, ◌++◌, ◌+◌, ◌<◌, ◌==◌, ◌^◌, ◌∙◌, ◌∷◌, ◌≡◌, ◌≢◌}
 use Rattle.chunk_data.specs.declared.typed_value.ColumnType.TheVariants as column
-use Rattle.query_model.specs.declared.places.BadField.TheVariants.{Column, Fields}
 
 some_is : {A : Type 0} (x y : A) → Some x ≡ Some y → x ≡ y
 some_is x y h = cc

@@ -1,13 +1,9 @@
 -- Refused queries, by computation.
-use Rattle.std.specs.Prelude.{◌≡◌, ℕ, true, false, List, [], ◌∷◌, Some, None, codes, refl, replicate}
+use Rattle.query_model.proofs.Imports.{Add, ColumnRef, ExprOf, IsChecked, Item, List, Listed, Named, None, Query, Schema, Some, Star, Sub, [], codes, cond_fits, cond_operands, expr_columns, expr_kind, false, refl, refusal_of, replicate, true, ℕ, ◌∷◌, ◌≡◌}
 use Rattle.std.specs.Fmt.{digits}
-use Rattle.query_model.specs.Names.{refusal_of, expr_columns, cond_operands, expr_kind, cond_fits, ColumnRef, ExprOf, Item, Query, Schema, IsChecked}
 use Rattle.chunk_data.specs.declared.typed_value.ColumnType.TheVariants as column
-use Rattle.query_model.specs.declared.query.ArithOp.TheVariants.{Add, Sub}
 use Rattle.query_model.specs.declared.query.ExprOf.TheVariants as expr
 use Rattle.query_model.specs.declared.query.ItemKind.TheVariants as kind
-use Rattle.query_model.specs.declared.query.Items.TheVariants.{Star, Listed}
-use Rattle.query_model.specs.declared.query.TableRef.TheVariants.{Named}
 use Rattle.query_model.specs.declared.query.Refusal.TheVariants as refuse
 use Rattle.query_model.proofs.WorkedRows.{Place}
 use Rattle.query_model.specs.declared.checked.TableUse.TheVariants as checked

@@ -1,10 +1,5 @@
 -- Texts written piece by piece.
-use Rattle.std.proofs.Common.{◌≡◌, ℕ, zero, suc, ◌+◌, ◌<◌, ◌≤◌, List, [], ◌∷◌, ◌++◌, map, flat_map, length, get_or, take, refl, sym, ap, ◌∙◌, arith, append_assoc}
-use Rattle.std.specs.List.{join_with_byte}
-use Rattle.std.proofs.lemmas.List.{append-nil, take_more, take_all, map-append}
-use Rattle.chunk_data.specs.Values.{Row}
-use Rattle.chunk_data.specs.declared.typed_value.Value.{Value}
-use Rattle.query_model.specs.Texts.{doubled, quoted, separator, value_text, row_front, row_text, rows_text}
+use Rattle.query_model.proofs.Imports.{List, Row, Value, [], ap, append-nil, append_assoc, arith, doubled, flat_map, get_or, join_with_byte, length, map, map-append, quoted, refl, row_front, row_text, rows_text, separator, suc, sym, take, take_all, take_more, value_text, zero, ℕ, ◌++◌, ◌+◌, ◌<◌, ◌∙◌, ◌∷◌, ◌≡◌, ◌≤◌}
 use Rattle.query_model.proofs.Lists.{flat_map-append}
 
 -- one piece more of a list of pieces

@@ -1,13 +1,9 @@
 -- Laws of typed expressions.
-use Rattle.std.proofs.Common.{◌≡◌, Bool, true, false, List, [], length, refl, ap, ◌∙◌, arith, ℤ, if◌then◌else◌}
-use Rattle.chunk_data.specs.Values.{Row, FitsType, FitsTypes, type_of as type_of_value}
-use Rattle.chunk_data.specs.declared.typed_value.Value.{Value}
-use Rattle.chunk_data.specs.declared.typed_value.ColumnType.{ColumnType}
-use Rattle.chunk_data.proofs.Laws.{FitsTypes-at, length-FitsTypes}
-use Rattle.chunk_data.specs.declared.typed_value.Value.TheVariants.{Int, UInt, Text}
+use Rattle.query_model.proofs.Imports.{Bool, ColumnType, Expr, FitsType, FitsTypes, FitsTypes-at, Int, IsTyped, IsWithin, List, Row, Text, UInt, Value, [], ap, arith, false, gives_uint, if◌then◌else◌, is_uint, is_uint_column, length, length-FitsTypes, refl, true, value_of, wrapped, ℤ, ◌∙◌, ◌≡◌}
+use Rattle.chunk_data.specs.Values.{type_of as type_of_value}
 use Rattle.chunk_data.specs.declared.typed_value.ColumnType.TheVariants as column
 use Rattle.query_model.specs.declared.query.ExprOf.TheVariants as expr
-use Rattle.query_model.specs.Names.{wrapped, is_uint, Expr, IsWithin, value_of, type_of, gives_uint, is_uint_column, IsTyped}
+use Rattle.query_model.specs.Names.{type_of}
 
 -- the columns of a typed expression are there
 pub IsWithin_of_typed : (types : List ColumnType) (e : Expr) → IsTyped types e → IsWithin e (length types)

@@ -1,19 +1,11 @@
 -- The checked query of a query that no condition refuses is typed.
-use Rattle.std.proofs.Common.{◌≡◌, ℕ, suc, ◌+◌, ◌<◌, ◌≤◌, Bool, true, false, ◌&&◌, ◌||◌, cond, List, [], ◌∷◌, ◌++◌, length, map, filter, refl, sym, ap, ◌∙◌, subst, arith, append_assoc, length-append, Option, Some, None}
-use Rattle.std.specs.Prelude.{nat_lt, flat_map, slice_index_or, ◌==◌}
-use Rattle.std.specs.List.{All, list_any, list_all}
-use Rattle.std.proofs.lemmas.List.{length-map, get_or-append-add}
-use Rattle.std.proofs.lemmas.List.Elements.{All-nil, All-cons, All-head, All-tail, All-append}
-use Rattle.std.proofs.lemmas.Grind.{flat_map-append}
-use Rattle.chunk_data.specs.declared.typed_value.ColumnType.{ColumnType}
+use Rattle.query_model.proofs.Imports.{AggCall, All, All-append, All-cons, All-head, All-nil, All-tail, ArePicks, ArePlainItems, Bool, CanBePicked, Checked, ColumnRef, ColumnType, CondOf, EachWith, Expr, FromColumn, Grouping, HasItsArgument, IsAnalysable, IsChecked, IsGrouping, IsItem, IsNoCall, IsPick, IsPlacedCall, IsPlacedItem, IsShape, IsTypedCall, IsTypedGrouping, IsTypedQuery, IsTypedShape, Item, ItemKind, Items, Kind, List, Listed, NamePair, None, Operand, Option, Query, Schema, Shape, Some, Star, [], agg_kind, ap, append_assoc, arith, bare_columns, call_type, calls_of, comparable, cond, cond_fits, cond_operands, expr_columns, expr_kind, false, filter, fits_where, flat_map, flat_map-append, from_columns, get_or-append-add, group_types, is_grouped, is_key_of, is_typed, item_calls, item_columns, item_kind, join_pairs, key_place, known_kind, length, length-append, length-map, list_all, list_any, listed, map, means, meant, meant_type, nat_lt, operand_columns, operand_kind, operands_of, place_in, place_of, plain, query_calls, refl, refusal_of, same_column, slice_index_or, subst, suc, sym, text_columns, true, typed, types_of, unfit, ℕ, ◌&&◌, ◌++◌, ◌+◌, ◌<◌, ◌==◌, ◌||◌, ◌∙◌, ◌∷◌, ◌≡◌, ◌≤◌}
 use Rattle.chunk_data.specs.declared.typed_value.ColumnType.TheVariants as column
-use Rattle.query_model.specs.Names.{Expr, type_of, call_type, IsItem, IsTypedCall, group_types, EachWith, IsChecked, IsShape, IsGrouping, IsPlacedItem, IsPlacedCall, IsPick, ArePicks, ArePlainItems, item_calls, calls_of, query_calls, place_of, types_of, place_in, key_place, is_key_of, CanBePicked, IsAnalysable, IsNoCall, HasItsArgument, IsTypedGrouping, IsTypedQuery, IsTypedShape, AggCall, ColumnRef, CondOf, Operand, Item, ItemKind, Items, NamePair, Query, Schema, Checked, Grouping, Shape}
-use Rattle.query_model.specs.Refusals.{FromColumn, Kind, plain, typed, unfit, means, meant, meant_type, known_kind, same_column, from_columns, text_columns, listed, is_typed, is_grouped, item_kind, item_columns, expr_columns, operand_columns, bare_columns, operands_of, cond_operands, join_pairs, expr_kind, agg_kind, operand_kind, comparable, cond_fits, fits_where, refusal_of}
+use Rattle.query_model.specs.Names.{type_of}
 use Rattle.query_model.specs.declared.query.CondOf.TheVariants as cond'
 use Rattle.query_model.specs.declared.query.ExprOf.TheVariants as expr
 use Rattle.query_model.specs.declared.query.Operand.TheVariants as operand
 use Rattle.query_model.specs.declared.query.ItemKind.TheVariants as kind
-use Rattle.query_model.specs.declared.query.Items.TheVariants.{Star, Listed}
 use Rattle.query_model.specs.declared.checked.Shape.TheVariants as shape
 use Rattle.query_model.proofs.Placed.{All-front, All-behind}
 use Rattle.query_model.proofs.PlaceLaws.{place_within}

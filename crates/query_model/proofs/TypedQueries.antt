@@ -1,19 +1,11 @@
 -- A query whose types fit has typed items and a typed condition, once its names have places.
-use Rattle.std.proofs.Common.{◌≡◌, ℕ, suc, ◌+◌, ◌≤◌, Bool, true, false, ◌&&◌, not, cond, List, [], ◌∷◌, length, refl, sym, ap, ◌∙◌, subst, arith, ℤ, pos, negsuc, Option, Some, None}
-use Rattle.std.specs.Prelude.{◌++◌, flat_map, is_some, if◌then◌else◌, find, option_map, ⊤}
-use Rattle.std.specs.List.{All}
-use Rattle.std.proofs.lemmas.List.Elements.{All-nil, All-cons, All-head}
-use Rattle.std.proofs.lemmas.Grind.{flat_map-append}
+use Rattle.query_model.proofs.Imports.{Add, AggCall, AggOp, All, All-cons, All-head, All-nil, AreColumnsFrom, AreNumbersAlike, ArithOp, Bool, BothOrNone, CanHold, ColumnRef, ColumnType, CompareOp, Cond, CondOf, Count, Expr, ExprOf, FromColumn, HasItsArgument, IsGroupedOperand, IsItem, IsPlaced, IsPlacedCall, IsPlacedCond, IsTyped, IsTypedCall, IsTypedCond, IsTypedFilter, IsTypedOperand, Kind, List, Max, Min, Mul, None, Number, Operand, Option, Some, Sub, Sum, [], agg_kind, ap, arith, arith_kind, bare_columns, call_kind, call_type, calls_of, can_hold, comparable, cond, cond_fits, cond_operands, expr_columns, expr_kind, false, find, fits_where, flat_map, flat_map-append, gives_uint, if◌then◌else◌, is_some, is_text, is_typed, is_uint_column, known_kind, length, means, meant_type, negsuc, not, number_of, operand_kind, operand_type, operands_of, option_map, place_in, place_of, plain, plain_of, plain_value, pos, refl, result_type, same_type, subst, suc, sym, takes_argument, true, typed, types_of, unfit, ℕ, ℤ, ⊤, ◌&&◌, ◌++◌, ◌+◌, ◌∙◌, ◌∷◌, ◌≡◌, ◌≤◌}
 use Rattle.chunk_data.specs.Values.{type_of as type_of_value}
-use Rattle.chunk_data.specs.declared.typed_value.ColumnType.{ColumnType}
 use Rattle.chunk_data.specs.declared.typed_value.ColumnType.TheVariants as column
-use Rattle.query_model.specs.Names.{ArithOp, CompareOp, ColumnRef, AggOp, AggCall, ExprOf, CondOf, Number, Operand, Expr, Cond, number_of, plain_value, type_of, gives_uint, is_uint_column, IsTyped, IsTypedCond, IsTypedOperand, IsTypedCall, IsItem, CanHold, AreNumbersAlike, plain_of, plain_type as type_without_null, is_text, operand_type, BothOrNone, AreColumnsFrom, IsPlaced, IsPlacedCall, IsGroupedOperand, IsPlacedCond, calls_of, place_of, call_type, HasItsArgument, takes_argument, IsTypedFilter, types_of, place_in}
-use Rattle.query_model.specs.declared.query.ArithOp.TheVariants.{Add, Sub, Mul}
-use Rattle.query_model.specs.declared.query.AggOp.TheVariants.{Count, Sum, Min, Max}
+use Rattle.query_model.specs.Names.{type_of, plain_type as type_without_null}
 use Rattle.query_model.specs.declared.query.ExprOf.TheVariants as expr
 use Rattle.query_model.specs.declared.query.Operand.TheVariants as operand
 use Rattle.query_model.specs.declared.query.CondOf.TheVariants as cond'
-use Rattle.query_model.specs.Refusals.{FromColumn, Kind, plain, typed, unfit, means, meant_type, known_kind, arith_kind, can_hold, same_type, result_type, comparable, is_typed, expr_columns, expr_kind, call_kind, agg_kind, operand_kind, bare_columns, cond_operands, operands_of, cond_fits, fits_where}
 use Rattle.query_model.proofs.Placed.{All-front, All-behind}
 use Rattle.query_model.proofs.WorkedRows.{Place}
 

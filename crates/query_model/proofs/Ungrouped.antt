@@ -1,8 +1,5 @@
 -- The first name that may not stand in a grouped query.
-use Rattle.std.proofs.Common.{◌≡◌, ℕ, Bool, true, false, cond, List, [], ◌∷◌, ◌++◌, map, filter, flat_map, refl, ap, ◌∙◌, Option, Some, None}
-use Rattle.std.specs.Prelude.{find, not, option_map}
-use Rattle.std.specs.Option.{option_or}
-use Rattle.query_model.specs.Names.{FromColumn, written, star_name, not_keys, listed, bare_columns, operands_of, first_name, is_key_of, ungrouped_over, first_ungrouped, ColumnRef, Item, Query}
+use Rattle.query_model.proofs.Imports.{Bool, ColumnRef, FromColumn, Item, List, None, Option, Query, Some, [], ap, bare_columns, cond, false, filter, find, first_name, first_ungrouped, flat_map, is_key_of, listed, map, not, not_keys, operands_of, option_map, option_or, refl, star_name, true, ungrouped_over, written, ℕ, ◌++◌, ◌∙◌, ◌∷◌, ◌≡◌}
 
 first_of_both : (xs ys : List (List ℕ)) → first_name (xs ++ ys) ≡ option_or (first_name xs) (first_name ys)
 first_of_both [] ys = refl

@@ -1,13 +1,5 @@
 -- Where the keys tell any two rows apart, a query has one answer.
-use Rattle.std.proofs.Common.{◌≡◌, ℕ, suc, ◌<◌, ◌⊎◌, inl, inr, Bool, true, false, cond, List, [], ◌∷◌, length, refl, sym, ap, ap₂, ◌∙◌, subst, arith, IsSorted, IsPermutation, Option, Ordering, Less, Equal, Greater, is_gt}
-use Rattle.std.specs.List.{AllByRecursion}
-use Rattle.std.specs.Cmp.{IsTotalOrder}
-use Rattle.std.specs.Ordering.{ordering_reverse, ordering_then}
-use Rattle.std.proofs.lemmas.Cmp.{upto}
-use Rattle.chunk_data.specs.Values.{Row, value_at, key_cmp, row_cmp}
-use Rattle.chunk_data.specs.declared.typed_value.Value.{Value}
-use Rattle.chunk_data.specs.declared.typed_value.SortKey.{SortKey}
-use Rattle.query_model.specs.Names.{limited, IsOrderedAnswer, Span}
+use Rattle.query_model.proofs.Imports.{AllByRecursion, Bool, Equal, Greater, IsOrderedAnswer, IsPermutation, IsSorted, IsTotalOrder, Less, List, Option, Ordering, Row, SortKey, Span, Value, [], ap, ap₂, arith, cond, false, inl, inr, is_gt, key_cmp, length, limited, ordering_reverse, ordering_then, refl, row_cmp, subst, suc, sym, true, upto, value_at, ℕ, ◌<◌, ◌∙◌, ◌∷◌, ◌≡◌, ◌⊎◌}
 use Rattle.query_model.proofs.Lists.{along_permutation}
 use Rattle.query_model.proofs.Sorting.{IsAscending, ascending_from_sorted}
 use Rattle.query_model.proofs.ValueOrder.{value_cmp-IsAntisymmetric}

@@ -1,13 +1,5 @@
 -- The order of values is total, and values that tie are one.
-use Rattle.std.proofs.Common.{◌≡◌, true, refl, ap, Ordering, Less, Equal, Greater, is_eq}
-use Rattle.std.specs.Ordering.{ordering_reverse}
-use Rattle.std.specs.Cmp.{IsTotalOrder, nat_cmp_total, int_cmp_total}
-use Rattle.std.specs.Cmp.Lexicographic.{nat_list_cmp_total, lists_total}
-use Rattle.std.specs.FinMap.{IsAntisymmetric, nat_cmp-IsAntisymmetric, int_cmp-IsAntisymmetric, slice_cmp-IsAntisymmetric}
-use Rattle.std.proofs.lemmas.Cmp.{tied_itself}
-use Rattle.chunk_data.specs.Values.{value_cmp, same_row}
-use Rattle.chunk_data.specs.declared.typed_value.Value.{Value}
-use Rattle.chunk_data.specs.declared.typed_value.Value.TheVariants.{Int, UInt, Text}
+use Rattle.query_model.proofs.Imports.{Equal, Greater, Int, IsAntisymmetric, IsTotalOrder, Less, Ordering, Text, UInt, Value, ap, int_cmp-IsAntisymmetric, int_cmp_total, is_eq, lists_total, nat_cmp-IsAntisymmetric, nat_cmp_total, nat_list_cmp_total, ordering_reverse, refl, same_row, slice_cmp-IsAntisymmetric, tied_itself, true, value_cmp, ◌≡◌}
 use Rattle.query_model.proofs.Distinct.{IsSame}
 
 pub value_cmp-IsAntisymmetric : IsAntisymmetric value_cmp

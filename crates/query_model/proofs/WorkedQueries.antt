@@ -1,21 +1,13 @@
 -- Worked queries from their names to their answers: grouping, HAVING, aliases, keys, order, limit and join.
-use Rattle.std.specs.Prelude.{◌≡◌, ℕ, true, false, List, [], ◌∷◌, pos, Some, None, codes, refl}
-use Rattle.std.proofs.Common.{lit<}
+use Rattle.query_model.proofs.Imports.{AggCall, Checked, ColumnDecl, ColumnRef, Count, Database, Grouped, Int, IsAnswer, IsChecked, Item, ItemKind, List, Listed, Max, Mul, NamePair, None, OrderKey, Query, Row, Schema, Some, Sum, UInt, [], answer_text, codes, cond_fits, cond_operands, enough, expr_columns, expr_kind, false, lit<, parts_rows, pos, refl, refusal_of, row_cmp, true, ℕ, ◌∷◌, ◌≡◌}
 use Rattle.std.specs.Fmt.{digits}
-use Rattle.chunk_data.specs.Values.{Row, row_cmp}
-use Rattle.chunk_data.specs.declared.typed_value.Value.TheVariants.{Int, UInt}
 use Rattle.chunk_data.specs.declared.typed_value.ColumnType.TheVariants as column
-use Rattle.query_model.specs.Names.{enough, IsAnswer, IsChecked, parts_rows, refusal_of, expr_columns, cond_operands, expr_kind, cond_fits, Database, answer_text, AggCall, ColumnDecl, ColumnRef, Item, ItemKind, NamePair, OrderKey, Query, Schema, Checked}
-use Rattle.query_model.specs.declared.query.AggOp.TheVariants.{Count, Sum, Max}
-use Rattle.query_model.specs.declared.query.ArithOp.TheVariants.{Mul}
 use Rattle.query_model.specs.declared.query.CompareOp.TheVariants as compare
 use Rattle.query_model.specs.declared.query.CondOf.TheVariants as cond'
 use Rattle.query_model.specs.declared.query.ExprOf.TheVariants as expr
 use Rattle.query_model.specs.declared.query.ItemKind.TheVariants as kind
-use Rattle.query_model.specs.declared.query.Items.TheVariants.{Listed}
 use Rattle.query_model.specs.declared.query.Operand.TheVariants as operand
 use Rattle.query_model.specs.declared.query.TableRef.TheVariants as from
-use Rattle.query_model.specs.declared.checked.Shape.TheVariants.{Grouped}
 use Rattle.query_model.specs.declared.checked.TableUse.TheVariants as used
 use Rattle.query_model.proofs.Ordered.{IsSorted-tested}
 use Rattle.query_model.proofs.RefusedRows.{bare, of_table}

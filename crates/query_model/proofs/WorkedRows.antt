@@ -1,25 +1,13 @@
 -- Worked queries, by computation.
-use Rattle.std.specs.Prelude.{◌≡◌, ℕ, true, false, List, [], ◌∷◌, ◌++◌, pos, negsuc, Option, Some, None, codes, refl}
-use Rattle.chunk_data.specs.Values.{Row, Table, row_cmp}
-use Rattle.chunk_data.specs.declared.typed_value.ColumnType.{ColumnType}
-use Rattle.query_model.specs.Names.{parts_rows, part_records, bad_place, Expr, Cond, bad_line, lines_from, Database, output_rows, limited, IsAnswer, AggOp, AggCall, answer_text, Checked, Shape, database, projection_checked, TableDecl}
+use Rattle.query_model.proofs.Imports.{Add, AggCall, AggOp, Box, Checked, ColumnType, Cond, Count, Database, Declared, Expr, Global, Grouped, Int, IsAnswer, IsSorted, List, Min, Mul, None, Option, Paths, Plain, Row, Shape, Some, Sub, Sum, Table, TableDecl, Text, [], answer_text, arith, bad_line, bad_place, codes, database, false, flat_map, limited, lines_from, lit<, negsuc, output_rows, part_records, parts_rows, pos, projection_checked, refl, replicate, row_cmp, subst, sym, true, ℕ, ◌++◌, ◌∷◌, ◌≡◌}
 use Rattle.query_model.specs.declared.places.BadField.TheVariants as bad
-use Rattle.std.specs.Prelude.{flat_map, replicate}
 use Rattle.query_model.proofs.Ordered.{IsSorted-tested}
-use Rattle.std.proofs.Common.{Box, Global, arith, sym, subst, lit<}
 use Rattle.query_model.specs.declared.query.CondOf.TheVariants as cond'
 use Rattle.query_model.specs.declared.query.Operand.TheVariants as operand
-use Rattle.query_model.specs.declared.query.ArithOp.TheVariants.{Add, Sub, Mul}
 use Rattle.query_model.specs.declared.query.CompareOp.TheVariants as compare
-use Rattle.query_model.specs.declared.query.AggOp.TheVariants.{Count, Sum, Min}
-use Rattle.std.specs.Prelude.{IsSorted}
 use Rattle.query_model.proofs.Worked.{meaning_on_literals}
-use Rattle.chunk_data.specs.declared.typed_value.Value.TheVariants.{Int, Text}
 use Rattle.chunk_data.specs.declared.typed_value.ColumnType.TheVariants as column
-use Rattle.query_model.specs.declared.checked.Shape.TheVariants.{Plain, Grouped}
-use Rattle.query_model.specs.declared.checked.TableUse.TheVariants.{Declared}
 use Rattle.query_model.specs.declared.query.ExprOf.TheVariants as expr
-use Rattle.query_model.specs.declared.query.PartsDecl.TheVariants.{Paths}
 
 -- a table from the bytes of its parts
 abbrev pub table_of : List ColumnType → List (List ℕ) → Table

@@ -1,11 +1,6 @@
 -- Arithmetic modulo 2 ^ 64: a wrapped number counts in a sum as the number itself.
-use Rattle.std.proofs.Common.{◌+◌, ◌%◌, ◌-◌, ◌-ℤ◌, ◌≡◌, ℕ, ◌^◌, ◌<◌, Bool, true, false, refl, sym, ap, ◌∙◌, arith, ℤ, pos, negsuc, ◌+ℤ◌}
-use Rattle.std.specs.Int.{int_wrap, int_rem_euclid, cast_signed, cast_unsigned}
-use Rattle.std.specs.Prelude.{unsigned_abs}
-use Rattle.std.proofs.lemmas.Int.{ints, int_rem_euclid_is, int_wrap-add_left, int_wrap-add_right, int_wrap_fits, SFits-int_wrap, of_z-to_z}
-use mir.Syntax.{w64}
-use Rattle.query_model.specs.Numbers.{exact, is_uint, wrapped}
-use Rattle.chunk_data.specs.declared.typed_value.Value.TheVariants.{Int, UInt}
+use Rattle.query_model.proofs.Imports.{Bool, Int, SFits-int_wrap, UInt, ap, arith, cast_signed, cast_unsigned, exact, false, int_rem_euclid, int_rem_euclid_is, int_wrap-add_left, int_wrap-add_right, int_wrap_fits, ints, is_uint, negsuc, of_z-to_z, pos, refl, sym, true, unsigned_abs, w64, wrapped, ℕ, ℤ, ◌%◌, ◌+ℤ◌, ◌+◌, ◌-ℤ◌, ◌-◌, ◌<◌, ◌^◌, ◌∙◌, ◌≡◌}
+use Rattle.std.specs.Int.{int_wrap}
 
 -- equal modulo 2 ^ 64
 abbrev pub Same : ℤ → ℤ → Type 0

@@ -1,31 +1,16 @@
 -- What analysis asks and answers.
-use Rattle.std.specs.Prelude.{◌≡◌, ◌<◌, List, [], length, map, is_some, Bool, true, false, Option, Some, None, ⊤}
-use Rattle.std.specs.List.{All}
-use Rattle.chunk_data.specs.declared.typed_value.ColumnType.{ColumnType}
+use Rattle.std.specs.Prelude.{◌<◌, ◌≡◌}
+use Rattle.query_model.specs.Prelude.{AggCall, AggOp, All, Bool, Checked, ColumnRef, ColumnType, Count, Grouping, Item, ItemKind, List, Max, Min, None, Operand, Option, Query, Refusal, Schema, Shape, Some, Sum, TableRef, [], false, is_some, length, map, true, ⊤}
 use Rattle.query_model.specs.Expressions.{Cond}
 use Rattle.query_model.specs.Typing.{IsItem, IsTypedCall, IsTypedCond, group_types}
 use Rattle.query_model.specs.Checks.{query_calls}
 use Rattle.query_model.specs.Refusals.{FromColumn, from_columns, listed, operands_of, refusal_of}
-use Rattle.query_model.specs.declared.query.AggOp.{AggOp}
-use Rattle.query_model.specs.declared.query.AggOp.TheVariants.{Count, Sum, Min, Max}
-use Rattle.query_model.specs.declared.query.AggCall.{AggCall}
-use Rattle.query_model.specs.declared.query.ColumnRef.{ColumnRef}
 use Rattle.query_model.specs.declared.query.ExprOf.TheVariants as expr
-use Rattle.query_model.specs.declared.query.Operand.{Operand}
 use Rattle.query_model.specs.declared.query.Operand.TheVariants as operand
-use Rattle.query_model.specs.declared.query.Item.{Item}
-use Rattle.query_model.specs.declared.query.ItemKind.{ItemKind}
 use Rattle.query_model.specs.declared.query.ItemKind.TheVariants as kind
-use Rattle.query_model.specs.declared.query.TableRef.{TableRef}
 use Rattle.query_model.specs.declared.query.TableRef.TheVariants as table
-use Rattle.query_model.specs.declared.query.Query.{Query}
-use Rattle.query_model.specs.declared.query.Schema.{Schema}
-use Rattle.query_model.specs.declared.query.Refusal.{Refusal}
 use Rattle.query_model.specs.declared.query.Refusal.TheVariants as refuse
-use Rattle.query_model.specs.declared.checked.Grouping.{Grouping}
-use Rattle.query_model.specs.declared.checked.Shape.{Shape}
 use Rattle.query_model.specs.declared.checked.Shape.TheVariants as shape
-use Rattle.query_model.specs.declared.checked.Checked.{Checked}
 
 abbrev pub IsNamed : TableRef → Type 0
 IsNamed (table.Named t) = ⊤

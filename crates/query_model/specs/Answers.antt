@@ -1,16 +1,9 @@
 -- The answers of a query: its output rows, their order, and the limit.
-use Rattle.std.specs.Prelude.{◌≡◌, ℕ, ◌+◌, ◌==◌, cond, List, map, take, drop, IsPermutation, IsSorted, Option, Some, None}
-use Rattle.chunk_data.specs.Values.{Row, values_at, row_cmp}
-use Rattle.chunk_data.specs.declared.typed_value.ColumnType.{ColumnType}
-use Rattle.chunk_data.specs.declared.typed_value.SortKey.{SortKey}
+use Rattle.std.specs.Prelude.{◌+◌, ◌==◌, ◌≡◌}
+use Rattle.query_model.specs.Prelude.{Checked, ColumnType, Grouped, Grouping, IsPermutation, IsSorted, List, None, Option, Plain, Row, Shape, Some, SortKey, Span, cond, drop, map, row_cmp, take, values_at, ℕ}
 use Rattle.query_model.specs.Expressions.{Expr, value_of, rows_where}
 use Rattle.query_model.specs.Sources.{Database, source_table, filtered_rows}
 use Rattle.query_model.specs.Groups.{groups, groups_or_default, default_row}
-use Rattle.query_model.specs.declared.query.Span.{Span}
-use Rattle.query_model.specs.declared.checked.Checked.{Checked}
-use Rattle.query_model.specs.declared.checked.Grouping.{Grouping}
-use Rattle.query_model.specs.declared.checked.Shape.{Shape}
-use Rattle.query_model.specs.declared.checked.Shape.TheVariants.{Plain, Grouped}
 
 -- the row of the items' values
 abbrev pub item_row : List Expr → Row → Row

@@ -1,37 +1,16 @@
 -- The checked query of a query: places where the query has names. By cases on both, since an expression lies in boxes of its own.
-use Rattle.std.specs.Prelude.{◌≡◌, ℕ, ◌+◌, Bool, true, false, ◌==◌, if◌then◌else◌, List, [], ◌∷◌, ◌++◌, length, map, flat_map, bytes_eq, Option, Some, None}
+use Rattle.std.specs.Prelude.{if◌then◌else◌, ◌++◌, ◌+◌, ◌==◌, ◌∷◌, ◌≡◌}
+use Rattle.query_model.specs.Prelude.{AggCall, Bool, Checked, CheckedJoin, ColumnRef, ColumnType, CondOf, ExprOf, Grouping, Item, ItemKind, Items, Join, KeyPair, List, Listed, NamePair, None, Operand, Option, OrderKey, Query, Schema, Shape, Some, Star, TableRef, TableUse, [], bytes_eq, false, flat_map, length, map, true, ℕ}
 use Rattle.query_model.specs.Expressions.{Expr, Cond}
 use Rattle.query_model.specs.Refusals.{FromColumn, Kind, typed, means, same_column, table_columns, from_columns, joins, listed, is_grouped, output_names, item_kind, cond_operands, operands_of}
-use Rattle.chunk_data.specs.declared.typed_value.ColumnType.{ColumnType}
 use Rattle.chunk_data.specs.declared.typed_value.ColumnType.TheVariants as column
-use Rattle.query_model.specs.declared.query.ColumnRef.{ColumnRef}
-use Rattle.query_model.specs.declared.query.ExprOf.{ExprOf}
 use Rattle.query_model.specs.declared.query.ExprOf.TheVariants as expr
-use Rattle.query_model.specs.declared.query.AggCall.{AggCall}
-use Rattle.query_model.specs.declared.query.Operand.{Operand}
 use Rattle.query_model.specs.declared.query.Operand.TheVariants as operand
-use Rattle.query_model.specs.declared.query.CondOf.{CondOf}
 use Rattle.query_model.specs.declared.query.CondOf.TheVariants as condition
-use Rattle.query_model.specs.declared.query.Item.{Item}
-use Rattle.query_model.specs.declared.query.ItemKind.{ItemKind}
 use Rattle.query_model.specs.declared.query.ItemKind.TheVariants as kind
-use Rattle.query_model.specs.declared.query.Items.{Items}
-use Rattle.query_model.specs.declared.query.Items.TheVariants.{Star, Listed}
-use Rattle.query_model.specs.declared.query.TableRef.{TableRef}
 use Rattle.query_model.specs.declared.query.TableRef.TheVariants as table
-use Rattle.query_model.specs.declared.query.NamePair.{NamePair}
-use Rattle.query_model.specs.declared.query.Join.{Join}
-use Rattle.query_model.specs.declared.query.OrderKey.{OrderKey}
-use Rattle.query_model.specs.declared.query.Query.{Query}
-use Rattle.query_model.specs.declared.query.Schema.{Schema}
-use Rattle.query_model.specs.declared.checked.TableUse.{TableUse}
 use Rattle.query_model.specs.declared.checked.TableUse.TheVariants as use'
-use Rattle.query_model.specs.declared.checked.KeyPair.{KeyPair}
-use Rattle.query_model.specs.declared.checked.CheckedJoin.{CheckedJoin}
-use Rattle.query_model.specs.declared.checked.Grouping.{Grouping}
-use Rattle.query_model.specs.declared.checked.Shape.{Shape}
 use Rattle.query_model.specs.declared.checked.Shape.TheVariants as shape
-use Rattle.query_model.specs.declared.checked.Checked.{Checked}
 
 -- the place of the first that passes
 abbrev pub place_of : {A : Type 0} → (A → Bool) → List A → ℕ

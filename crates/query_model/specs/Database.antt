@@ -1,21 +1,9 @@
 -- The files of a run, the tables that declarations make of them, and the parts that a query uses.
-use Rattle.std.specs.Prelude.{◌≡◌, ℕ, ◌+◌, Bool, if◌then◌else◌, List, [], ◌∷◌, map, flat_map, bytes_eq, slice_get, Option, Some, None, IsSome}
-use Rattle.std.specs.List.{All}
-use Rattle.chunk_data.specs.Values.{Row, Table}
-use Rattle.chunk_data.specs.declared.typed_value.ColumnType.{ColumnType}
+use Rattle.std.specs.Prelude.{if◌then◌else◌, ◌+◌, ◌∷◌, ◌≡◌}
+use Rattle.query_model.specs.Prelude.{All, BadPlace, Bool, Checked, CheckedJoin, ColumnDecl, ColumnType, Declared, IsSome, List, ListFile, None, Numbers, Option, PartsDecl, Paths, Row, Schema, Some, Table, TableDecl, TableUse, [], bytes_eq, flat_map, map, slice_get, ℕ}
 use Rattle.query_model.specs.Parts.{part_records, good_rows, bad_place}
 use Rattle.query_model.specs.ListFiles.{list_paths, list_bad_line}
 use Rattle.query_model.specs.Sources.{Database}
-use Rattle.query_model.specs.declared.places.BadPlace.{BadPlace}
-use Rattle.query_model.specs.declared.query.ColumnDecl.{ColumnDecl}
-use Rattle.query_model.specs.declared.query.Schema.{Schema}
-use Rattle.query_model.specs.declared.query.PartsDecl.{PartsDecl}
-use Rattle.query_model.specs.declared.query.PartsDecl.TheVariants.{Paths, ListFile}
-use Rattle.query_model.specs.declared.query.TableDecl.{TableDecl}
-use Rattle.query_model.specs.declared.checked.TableUse.{TableUse}
-use Rattle.query_model.specs.declared.checked.TableUse.TheVariants.{Declared, Numbers}
-use Rattle.query_model.specs.declared.checked.CheckedJoin.{CheckedJoin}
-use Rattle.query_model.specs.declared.checked.Checked.{Checked}
 
 -- files, each a path and its bytes
 abbrev pub Files : Type 0

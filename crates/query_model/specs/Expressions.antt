@@ -1,23 +1,13 @@
 -- The value of an expression and the truth of a condition, at a row.
-use Rattle.std.specs.Prelude.{ℕ, ◌<◌, Bool, true, false, not, ◌&&◌, ◌||◌, if◌then◌else◌, List, [], ℤ, pos, negsuc, ◌+ℤ◌, ◌-ℤ◌, ◌*ℤ◌, neg_ℤ, slice_index_or, filter, Option, Some, None}
-use Rattle.std.specs.Ordering.{int_cmp, is_lt, is_le, is_gt, is_ge, is_eq, is_ne}
-use Rattle.std.specs.declared.cmp.Ordering.{Ordering}
-use Rattle.chunk_data.specs.Values.{Row, value_at, text_cmp, type_of as type_of_value}
-use Rattle.chunk_data.specs.declared.typed_value.Value.{Value}
-use Rattle.chunk_data.specs.declared.typed_value.ColumnType.{ColumnType}
+use Rattle.std.specs.Prelude.{if◌then◌else◌, ◌&&◌, ◌*ℤ◌, ◌+ℤ◌, ◌-ℤ◌, ◌<◌, ◌||◌}
+use Rattle.query_model.specs.Prelude.{Add, ArithOp, Bool, ColumnType, CompareOp, CondOf, ExprOf, List, Mul, None, Number, Operand, Option, Ordering, Row, Some, Sub, Value, [], false, filter, int_cmp, is_eq, is_ge, is_gt, is_le, is_lt, is_ne, neg_ℤ, negsuc, not, pos, slice_index_or, text_cmp, true, value_at, ℕ, ℤ}
+use Rattle.chunk_data.specs.Values.{type_of as type_of_value}
 use Rattle.query_model.specs.Numbers.{exact, is_uint, wrapped}
 use Rattle.chunk_data.specs.declared.typed_value.Value.TheVariants as value
 use Rattle.chunk_data.specs.declared.typed_value.ColumnType.TheVariants as column
-use Rattle.query_model.specs.declared.query.ArithOp.{ArithOp}
-use Rattle.query_model.specs.declared.query.ArithOp.TheVariants.{Add, Sub, Mul}
-use Rattle.query_model.specs.declared.query.CompareOp.{CompareOp}
 use Rattle.query_model.specs.declared.query.CompareOp.TheVariants as compare
-use Rattle.query_model.specs.declared.query.Number.{Number}
-use Rattle.query_model.specs.declared.query.ExprOf.{ExprOf}
 use Rattle.query_model.specs.declared.query.ExprOf.TheVariants as expr
-use Rattle.query_model.specs.declared.query.Operand.{Operand}
 use Rattle.query_model.specs.declared.query.Operand.TheVariants as operand
-use Rattle.query_model.specs.declared.query.CondOf.{CondOf}
 use Rattle.query_model.specs.declared.query.CondOf.TheVariants as cond'
 
 abbrev pub Expr : Type 0

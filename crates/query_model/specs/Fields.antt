@@ -1,10 +1,6 @@
 -- The value that a field of a CSV record spells, and what a value is written as.
-use Rattle.std.specs.Prelude.{ℕ, ◌+◌, ◌-◌, ◌*◌, ◌^◌, Bool, false, ◌&&◌, ◌==◌, nat_lt, nat_le, if◌then◌else◌, List, [], ◌∷◌, fold, ℤ, pos, neg_ℤ, Option, Some, None, option_map}
-use Rattle.std.specs.List.{list_all}
-use Rattle.chunk_data.specs.Values.{Row}
-use Rattle.chunk_data.specs.declared.typed_value.Value.{Value}
-use Rattle.chunk_data.specs.declared.typed_value.ColumnType.{ColumnType}
-use Rattle.chunk_data.specs.declared.typed_value.Value.TheVariants.{Int, UInt, Text}
+use Rattle.std.specs.Prelude.{if◌then◌else◌, ◌&&◌, ◌*◌, ◌+◌, ◌-◌, ◌==◌, ◌^◌, ◌∷◌}
+use Rattle.query_model.specs.Prelude.{Bool, ColumnType, Int, List, None, Option, Row, Some, Text, UInt, Value, [], false, fold, list_all, nat_le, nat_lt, neg_ℤ, option_map, pos, ℕ, ℤ}
 use Rattle.chunk_data.specs.declared.typed_value.ColumnType.TheVariants as column
 
 abbrev pub is_digit : ℕ → Bool

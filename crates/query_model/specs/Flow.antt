@@ -1,16 +1,9 @@
 -- How many rows the boxes of a kind pull together in a run.
-use Rattle.std.specs.Prelude.{ℕ, ◌+◌, List, [], ◌∷◌, length, Option, Some, None}
-use Rattle.chunk_data.specs.Values.{Row}
-use Rattle.chunk_data.specs.declared.typed_value.ColumnType.{ColumnType}
-use Rattle.chunk_data.specs.declared.typed_value.SortKey.{SortKey}
+use Rattle.std.specs.Prelude.{◌+◌, ◌∷◌}
+use Rattle.query_model.specs.Prelude.{Checked, CheckedJoin, ColumnType, Grouped, Kind, List, None, Option, Plain, Row, Shape, Some, SortKey, [], length, ℕ}
 use Rattle.query_model.specs.Expressions.{Cond}
 use Rattle.query_model.specs.Sources.{Database, used_table, source_table, source_rows, filtered_rows}
 use Rattle.query_model.specs.Answers.{grouped_rows, output_rows}
-use Rattle.query_model.specs.declared.checked.CheckedJoin.{CheckedJoin}
-use Rattle.query_model.specs.declared.checked.Shape.{Shape}
-use Rattle.query_model.specs.declared.checked.Shape.TheVariants.{Plain, Grouped}
-use Rattle.query_model.specs.declared.checked.Checked.{Checked}
-use Rattle.query_model.specs.declared.processor_spec.Kind.{Kind}
 use Rattle.query_model.specs.declared.processor_spec.Kind.TheVariants as kind
 
 -- the number of rows at which a condition is tested: all of them, or 0 where there is none

@@ -1,18 +1,9 @@
 -- Groups of rows and their aggregates, and the merge of partial states.
-use Rattle.std.specs.Prelude.{ℕ, ◌+◌, ◌%◌, ◌^◌, Bool, true, false, not, if◌then◌else◌, List, [], ◌∷◌, ◌++◌, length, map, take, filter, fold, ℤ, pos, ◌+ℤ◌, Option, Some, None}
-use Rattle.std.specs.List.{list_all}
-use Rattle.std.specs.Ordering.{is_lt}
-use Rattle.chunk_data.specs.Values.{Row, value_at, values_at, value_cmp, same_row, default_value}
-use Rattle.chunk_data.specs.declared.typed_value.Value.{Value}
-use Rattle.chunk_data.specs.declared.typed_value.ColumnType.{ColumnType}
+use Rattle.std.specs.Prelude.{if◌then◌else◌, ◌%◌, ◌++◌, ◌+ℤ◌, ◌+◌, ◌^◌, ◌∷◌}
+use Rattle.query_model.specs.Prelude.{AggCall, AggOp, Bool, ColumnType, Count, ExprOf, List, Max, Min, None, Option, Row, Some, Sum, Text, UInt, Value, [], default_value, false, filter, fold, is_lt, length, list_all, map, not, pos, same_row, take, true, value_at, value_cmp, values_at, ℕ, ℤ}
 use Rattle.query_model.specs.Numbers.{exact, is_uint, wrapped}
 use Rattle.query_model.specs.Expressions.{value_of, type_of}
-use Rattle.chunk_data.specs.declared.typed_value.Value.TheVariants.{UInt, Text}
 use Rattle.chunk_data.specs.declared.typed_value.ColumnType.TheVariants as column
-use Rattle.query_model.specs.declared.query.AggOp.{AggOp}
-use Rattle.query_model.specs.declared.query.AggOp.TheVariants.{Count, Sum, Min, Max}
-use Rattle.query_model.specs.declared.query.AggCall.{AggCall}
-use Rattle.query_model.specs.declared.query.ExprOf.{ExprOf}
 
 abbrev pub exact_sum : List Value → ℤ
 exact_sum [] = pos 0

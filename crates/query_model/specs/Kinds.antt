@@ -1,7 +1,6 @@
 -- The kind of processor that a spec is for.
-use Rattle.query_model.specs.declared.processor_spec.Kind.{Kind}
+use Rattle.query_model.specs.Prelude.{Kind, Spec}
 use Rattle.query_model.specs.declared.processor_spec.Kind.TheVariants as kind
-use Rattle.query_model.specs.declared.processor_spec.Spec.{Spec}
 use Rattle.query_model.specs.declared.processor_spec.Spec.TheVariants as spec
 
 abbrev pub kind_of : Spec → Kind

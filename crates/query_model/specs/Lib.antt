@@ -1,3 +1,4 @@
+pub mod Prelude
 pub use Rattle.chunk_data.specs.Values
 pub mod Numbers
 pub mod Fields

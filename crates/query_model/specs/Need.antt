@@ -1,20 +1,9 @@
 -- How many boxes of each kind the plan of a query takes.
-use Rattle.std.specs.Prelude.{ℕ, ◌+◌, List, [], ◌∷◌, length, sum_by, slice_get, Option, Some, None}
+use Rattle.std.specs.Prelude.{◌+◌, ◌∷◌}
+use Rattle.query_model.specs.Prelude.{Checked, CheckedJoin, Declared, Grouped, Kind, List, ListFile, None, Numbers, Option, PartsDecl, Paths, Plain, Shape, Some, SortKey, Span, TableDecl, TableUse, [], length, slice_get, sum_by, ℕ}
 use Rattle.query_model.specs.Database.{used_tables}
 use Rattle.query_model.specs.Flow.{if_grouped, if_plain, if_ordered}
 use Rattle.query_model.specs.Expressions.{Cond}
-use Rattle.chunk_data.specs.declared.typed_value.SortKey.{SortKey}
-use Rattle.query_model.specs.declared.query.PartsDecl.{PartsDecl}
-use Rattle.query_model.specs.declared.query.PartsDecl.TheVariants.{Paths, ListFile}
-use Rattle.query_model.specs.declared.query.Span.{Span}
-use Rattle.query_model.specs.declared.query.TableDecl.{TableDecl}
-use Rattle.query_model.specs.declared.checked.CheckedJoin.{CheckedJoin}
-use Rattle.query_model.specs.declared.checked.TableUse.{TableUse}
-use Rattle.query_model.specs.declared.checked.TableUse.TheVariants.{Declared, Numbers}
-use Rattle.query_model.specs.declared.checked.Shape.{Shape}
-use Rattle.query_model.specs.declared.checked.Shape.TheVariants.{Plain, Grouped}
-use Rattle.query_model.specs.declared.checked.Checked.{Checked}
-use Rattle.query_model.specs.declared.processor_spec.Kind.{Kind}
 use Rattle.query_model.specs.declared.processor_spec.Kind.TheVariants as kind
 
 -- a source for each path; those that are kept for the paths of a list file

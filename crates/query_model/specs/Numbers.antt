@@ -1,9 +1,6 @@
 -- The numbers of values, and how results are brought back into 64 bits.
-use Rattle.std.specs.Prelude.{◌^◌, Bool, true, false, ℤ, pos, unsigned_abs}
-use Rattle.std.specs.Int.{int_wrap, int_rem_euclid}
-use mir.Syntax.{w64}
-use Rattle.chunk_data.specs.declared.typed_value.Value.{Value}
-use Rattle.chunk_data.specs.declared.typed_value.Value.TheVariants.{Int, UInt, Text}
+use Rattle.std.specs.Prelude.{◌^◌}
+use Rattle.query_model.specs.Prelude.{Bool, Int, Text, UInt, Value, false, int_rem_euclid, int_wrap, pos, true, unsigned_abs, w64, ℤ}
 
 -- the exact number of a value
 abbrev pub exact : Value → ℤ

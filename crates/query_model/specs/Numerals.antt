@@ -1,5 +1,6 @@
 -- Digits read one after another, from the first to the last.
-use Rattle.std.specs.Prelude.{ℕ, ◌+◌, ◌-◌, ◌*◌, ◌^◌, ◌&&◌, nat_lt, if◌then◌else◌, List, [], ◌∷◌, Option, Some, None}
+use Rattle.std.specs.Prelude.{if◌then◌else◌, ◌&&◌, ◌*◌, ◌+◌, ◌-◌, ◌^◌, ◌∷◌}
+use Rattle.query_model.specs.Prelude.{List, None, Option, Some, [], nat_lt, ℕ}
 use Rattle.query_model.specs.Fields.{is_digit}
 
 -- the number with one digit more behind it, where that is below 2 ^ 64

@@ -1,12 +1,7 @@
 -- The rows of a part, a file of comma-separated records, and its first bad place.
-use Rattle.std.specs.Prelude.{◌≡◌, ℕ, ◌+◌, Bool, ◌==◌, is_some, if◌then◌else◌, List, [], ◌∷◌, length, drop, flat_map, Option, Some, None}
-use Rattle.csv.specs.Reading.{records, default_config, strip_bom}
-use Rattle.chunk_data.specs.Values.{Row}
-use Rattle.chunk_data.specs.declared.typed_value.ColumnType.{ColumnType}
+use Rattle.std.specs.Prelude.{if◌then◌else◌, ◌+◌, ◌==◌, ◌∷◌, ◌≡◌}
+use Rattle.query_model.specs.Prelude.{BadField, BadPlace, Bool, Column, ColumnType, Fields, List, None, Option, Row, Some, [], default_config, drop, flat_map, is_some, length, records, strip_bom, ℕ}
 use Rattle.query_model.specs.Fields.{spelled_value, spelled_row}
-use Rattle.query_model.specs.declared.places.BadPlace.{BadPlace}
-use Rattle.query_model.specs.declared.places.BadField.{BadField}
-use Rattle.query_model.specs.declared.places.BadField.TheVariants.{Column, Fields}
 
 -- the records of a part: those of its bytes behind a byte order mark, without the first where that is a header
 unfoldable pub part_records : Bool → List ℕ → List (List (List ℕ))

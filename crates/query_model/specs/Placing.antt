@@ -1,31 +1,13 @@
 -- What the steps of analysis answer.
-use Rattle.std.specs.Prelude.{◌≡◌, ℕ, ◌==◌, nat_lt, Bool, true, false, ◌&&◌, if◌then◌else◌, not, List, [], ◌∷◌, ◌++◌, length, map, filter, find, flat_map, bytes_eq, ℤ, Option, Some, None, option_map, ⊤}
-use Rattle.std.specs.List.{list_any, list_all}
-use Rattle.std.specs.Option.{option_or}
-use Rattle.chunk_data.specs.declared.typed_value.ColumnType.{ColumnType}
-use Rattle.chunk_data.specs.declared.typed_value.SortKey.{SortKey}
+use Rattle.std.specs.Prelude.{if◌then◌else◌, ◌&&◌, ◌++◌, ◌==◌, ◌∷◌, ◌≡◌}
+use Rattle.query_model.specs.Prelude.{AggCall, Bool, CheckedJoin, ColumnRef, ColumnType, CondOf, ExprKind, Item, ItemKind, Join, List, None, Operand, Option, OrderKey, Query, Refusal, Schema, Scope, Some, SortKey, TableRef, [], bytes_eq, false, filter, find, flat_map, length, list_all, list_any, map, nat_lt, not, option_map, option_or, true, ℕ, ℤ, ⊤}
 use Rattle.query_model.specs.Expressions.{number_of}
 use Rattle.query_model.specs.Refusals.{FromColumn, Kind, plain, typed, unfit, is_declared, table_name, means, meant, written, operand_columns, bare_columns, operands_of, listed, is_join_pair, is_typed, item_kind, fits_where, is_grouped, is_call, same_column, not_keys, star_name, first_name, output_names, calls_in, join_pairs}
 use Rattle.query_model.specs.Checks.{place_of, EachWith, IsPlacedCall, pair_of, use_of}
-use Rattle.query_model.specs.declared.query.AggCall.{AggCall}
-use Rattle.query_model.specs.declared.query.ColumnRef.{ColumnRef}
 use Rattle.query_model.specs.declared.query.ExprOf.TheVariants as expr
-use Rattle.query_model.specs.declared.query.CondOf.{CondOf}
-use Rattle.query_model.specs.declared.query.Operand.{Operand}
-use Rattle.query_model.specs.declared.query.Item.{Item}
-use Rattle.query_model.specs.declared.query.ItemKind.{ItemKind}
 use Rattle.query_model.specs.declared.query.ItemKind.TheVariants as kind
-use Rattle.query_model.specs.declared.query.Join.{Join}
-use Rattle.query_model.specs.declared.query.OrderKey.{OrderKey}
-use Rattle.query_model.specs.declared.query.Query.{Query}
-use Rattle.query_model.specs.declared.query.Schema.{Schema}
-use Rattle.query_model.specs.declared.query.TableRef.{TableRef}
-use Rattle.query_model.specs.declared.query.Refusal.{Refusal}
 use Rattle.query_model.specs.declared.query.Refusal.TheVariants as refuse
-use Rattle.query_model.specs.declared.checked.CheckedJoin.{CheckedJoin}
-use Rattle.query_model.specs.declared.analysis.kinds.ExprKind.{ExprKind}
 use Rattle.query_model.specs.declared.analysis.kinds.ExprKind.TheVariants as expression
-use Rattle.query_model.specs.declared.analysis.placing.Scope.{Scope}
 use Rattle.query_model.specs.declared.analysis.placing.Scope.TheVariants as scope
 
 abbrev pub types_of : List FromColumn → List ColumnType

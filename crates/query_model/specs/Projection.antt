@@ -1,17 +1,11 @@
 -- Queries that choose columns of one table, `SELECT a, b FROM t`.
-use Rattle.std.specs.Prelude.{ℕ, Bool, true, not, ◌&&◌, List, [], ◌∷◌, map, bytes_eq, slice_index_or, None}
-use Rattle.std.specs.List.{list_any}
+use Rattle.std.specs.Prelude.{◌&&◌, ◌∷◌}
+use Rattle.query_model.specs.Prelude.{Bool, Checked, ColumnDecl, ColumnType, Declared, List, None, Plain, Schema, [], bytes_eq, list_any, map, not, slice_index_or, true, ℕ}
 use Rattle.query_model.specs.Expressions.{Expr}
 use Rattle.query_model.specs.Checks.{place_of}
 use Rattle.query_model.specs.Database.{column_types}
-use Rattle.chunk_data.specs.declared.typed_value.ColumnType.{ColumnType}
 use Rattle.chunk_data.specs.declared.typed_value.ColumnType.TheVariants as column
 use Rattle.query_model.specs.declared.query.ExprOf.TheVariants as expr
-use Rattle.query_model.specs.declared.query.ColumnDecl.{ColumnDecl}
-use Rattle.query_model.specs.declared.query.Schema.{Schema}
-use Rattle.query_model.specs.declared.checked.TableUse.TheVariants.{Declared}
-use Rattle.query_model.specs.declared.checked.Shape.TheVariants.{Plain}
-use Rattle.query_model.specs.declared.checked.Checked.{Checked}
 
 abbrev pub column_names : Schema → List (List ℕ)
 column_names s = map (λ (c : ColumnDecl). c.name) s.columns

@@ -1,35 +1,14 @@
 -- Why a query is refused: conditions over the whole query, of which the first in this order counts.
-use Rattle.std.specs.Prelude.{ℕ, ◌+◌, ◌^◌, Bool, true, false, not, ◌&&◌, ◌||◌, ◌==◌, nat_lt, is_some, if◌then◌else◌, List, [], ◌∷◌, ◌++◌, length, map, filter, flat_map, find, bytes_eq, codes, decimal, ℤ, pos, negsuc, Option, Some, None, option_map}
-use Rattle.std.specs.List.{list_any, list_all}
+use Rattle.std.specs.Prelude.{if◌then◌else◌, ◌&&◌, ◌++◌, ◌+◌, ◌==◌, ◌^◌, ◌||◌, ◌∷◌}
+use Rattle.query_model.specs.Prelude.{Add, AggOp, ArithOp, Bool, ColumnDecl, ColumnRef, ColumnType, CondOf, Count, ExprOf, Item, ItemKind, Items, Join, List, Listed, Mul, NamePair, Named, None, Operand, Option, OrderKey, Query, Refusal, Schema, Some, Star, Sub, Sum, TableRef, [], bytes_eq, codes, decimal, false, filter, find, flat_map, is_some, length, list_all, list_any, map, nat_lt, negsuc, not, option_map, pos, true, ℕ, ℤ}
 use Rattle.query_model.specs.Expressions.{number_of, is_uint_column}
 use Rattle.query_model.specs.Typing.{is_text, plain_type}
-use Rattle.chunk_data.specs.declared.typed_value.ColumnType.{ColumnType}
 use Rattle.chunk_data.specs.declared.typed_value.ColumnType.TheVariants as column
-use Rattle.query_model.specs.declared.query.ArithOp.{ArithOp}
-use Rattle.query_model.specs.declared.query.ArithOp.TheVariants.{Add, Sub, Mul}
-use Rattle.query_model.specs.declared.query.AggOp.{AggOp}
-use Rattle.query_model.specs.declared.query.AggOp.TheVariants.{Count, Sum}
-use Rattle.query_model.specs.declared.query.ColumnRef.{ColumnRef}
-use Rattle.query_model.specs.declared.query.ExprOf.{ExprOf}
 use Rattle.query_model.specs.declared.query.ExprOf.TheVariants as expr
-use Rattle.query_model.specs.declared.query.Operand.{Operand}
 use Rattle.query_model.specs.declared.query.Operand.TheVariants as operand
-use Rattle.query_model.specs.declared.query.CondOf.{CondOf}
 use Rattle.query_model.specs.declared.query.CondOf.TheVariants as condition
-use Rattle.query_model.specs.declared.query.Item.{Item}
-use Rattle.query_model.specs.declared.query.ItemKind.{ItemKind}
 use Rattle.query_model.specs.declared.query.ItemKind.TheVariants as kind
-use Rattle.query_model.specs.declared.query.Items.{Items}
-use Rattle.query_model.specs.declared.query.Items.TheVariants.{Star, Listed}
-use Rattle.query_model.specs.declared.query.TableRef.{TableRef}
-use Rattle.query_model.specs.declared.query.TableRef.TheVariants.{Named, Numbers}
-use Rattle.query_model.specs.declared.query.NamePair.{NamePair}
-use Rattle.query_model.specs.declared.query.Join.{Join}
-use Rattle.query_model.specs.declared.query.OrderKey.{OrderKey}
-use Rattle.query_model.specs.declared.query.Query.{Query}
-use Rattle.query_model.specs.declared.query.Schema.{Schema}
-use Rattle.query_model.specs.declared.query.ColumnDecl.{ColumnDecl}
-use Rattle.query_model.specs.declared.query.Refusal.{Refusal}
+use Rattle.query_model.specs.declared.query.TableRef.TheVariants.{Numbers}
 use Rattle.query_model.specs.declared.query.Refusal.TheVariants as refuse
 
 -- the tables and columns that a query reads

@@ -1,16 +1,8 @@
 -- The rows that a query reads: a table's, or those of two joined tables.
-use Rattle.std.specs.Prelude.{ℕ, zero, suc, Bool, true, ◌&&◌, List, [], ◌∷◌, ◌++◌, map, filter, flat_map, slice_index_or, Option, Some, None}
-use Rattle.std.specs.Ordering.{is_eq}
-use Rattle.chunk_data.specs.Values.{Row, Table, value_at, value_cmp}
-use Rattle.chunk_data.specs.declared.typed_value.Value.{Value}
+use Rattle.std.specs.Prelude.{◌&&◌, ◌++◌, ◌∷◌}
+use Rattle.query_model.specs.Prelude.{Bool, Checked, CheckedJoin, Declared, KeyPair, List, None, Numbers, Option, Row, Some, Table, TableUse, UInt, Value, [], filter, flat_map, is_eq, map, slice_index_or, suc, true, value_at, value_cmp, zero, ℕ}
 use Rattle.query_model.specs.Expressions.{rows_where}
-use Rattle.chunk_data.specs.declared.typed_value.Value.TheVariants.{UInt}
 use Rattle.chunk_data.specs.declared.typed_value.ColumnType.TheVariants as column
-use Rattle.query_model.specs.declared.checked.TableUse.{TableUse}
-use Rattle.query_model.specs.declared.checked.TableUse.TheVariants.{Declared, Numbers}
-use Rattle.query_model.specs.declared.checked.KeyPair.{KeyPair}
-use Rattle.query_model.specs.declared.checked.CheckedJoin.{CheckedJoin}
-use Rattle.query_model.specs.declared.checked.Checked.{Checked}
 
 -- the declared tables, by their places
 abbrev pub Database : Type 0

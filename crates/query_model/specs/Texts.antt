@@ -1,10 +1,6 @@
 -- The text of an answer.
-use Rattle.std.specs.Prelude.{ℕ, zero, suc, ◌==◌, if◌then◌else◌, Bool, true, false, List, [], ◌∷◌, ◌++◌, map, flat_map, take, decimal}
-use Rattle.std.specs.Fmt.{signed_decimal}
-use Rattle.std.specs.List.{join_with_byte}
-use Rattle.chunk_data.specs.Values.{Row}
-use Rattle.chunk_data.specs.declared.typed_value.Value.{Value}
-use Rattle.chunk_data.specs.declared.typed_value.Value.TheVariants.{Int, UInt, Text}
+use Rattle.std.specs.Prelude.{if◌then◌else◌, ◌++◌, ◌==◌, ◌∷◌}
+use Rattle.query_model.specs.Prelude.{Bool, Int, List, Row, Text, UInt, Value, [], decimal, false, flat_map, join_with_byte, map, signed_decimal, suc, take, true, zero, ℕ}
 
 -- a byte inside of quotes: a quote is doubled
 abbrev pub doubled : ℕ → List ℕ

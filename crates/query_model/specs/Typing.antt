@@ -1,15 +1,10 @@
 -- Which expressions and conditions may be evaluated over columns of given types.
-use Rattle.std.specs.Prelude.{◌≡◌, ℕ, ◌^◌, ◌<◌, List, ◌++◌, length, map, slice_index_or, ℤ, pos, negsuc, Option, Some, None, Bool, true, false}
-use Rattle.chunk_data.specs.declared.typed_value.ColumnType.{ColumnType}
+use Rattle.std.specs.Prelude.{◌++◌, ◌<◌, ◌^◌, ◌≡◌}
+use Rattle.query_model.specs.Prelude.{AggCall, AggOp, Bool, ColumnType, Count, Grouping, List, Max, Min, None, Operand, Option, Some, Sum, false, length, map, negsuc, pos, slice_index_or, true, ℕ, ℤ}
 use Rattle.chunk_data.specs.declared.typed_value.ColumnType.TheVariants as column
 use Rattle.query_model.specs.declared.query.ExprOf.TheVariants as expr
-use Rattle.query_model.specs.declared.query.Operand.{Operand}
 use Rattle.query_model.specs.declared.query.Operand.TheVariants as operand
 use Rattle.query_model.specs.declared.query.CondOf.TheVariants as cond'
-use Rattle.query_model.specs.declared.query.AggOp.{AggOp}
-use Rattle.query_model.specs.declared.query.AggOp.TheVariants.{Count, Sum, Min, Max}
-use Rattle.query_model.specs.declared.query.AggCall.{AggCall}
-use Rattle.query_model.specs.declared.checked.Grouping.{Grouping}
 use Rattle.query_model.specs.Expressions.{Expr, Cond, number_of, type_of}
 use Rattle.query_model.specs.Groups.{call_type}
 

@@ -1,11 +1,5 @@
 -- How often numbers stand in lists, and sums over lists.
-use Rattle.std.proofs.Common.{◌≡◌, ◌≢◌, ℕ, zero, suc, ◌+◌, ◌<◌, ◌≤◌, eqb, eq-eqb, ne_eqb, List, [], ◌∷◌, ◌++◌, length, set, sym, refl, ap, ◌∙◌, Bool, cond, arith, lt-ltb, le-ltb, get_or, take, drop, append_assoc, subst, lt_of_not-le}
-use mathlib.Core.Logic.{dite}
-use mathlib.Core.Option.{some, some-injective, some-ne-none}
-use native.Mathlib.Decide.{ℕ_discrete, dec_le}
-use lib.ListN.{get_elem?}
-use Rattle.atomic_table.proofs.Lists.{drop_at}
-use Rattle.task_queue.specs.Numbers.{hit, times, once_below, without, total}
+use Rattle.task_queue.proofs.Imports.{Bool, List, [], ap, append_assoc, arith, cond, dec_le, dite, drop, drop_at, eq-eqb, eqb, get_elem?, get_or, hit, le-ltb, length, lt-ltb, lt_of_not-le, ne_eqb, once_below, refl, set, some, some-injective, some-ne-none, subst, suc, sym, take, times, total, without, zero, ℕ, ℕ_discrete, ◌++◌, ◌+◌, ◌<◌, ◌∙◌, ◌∷◌, ◌≡◌, ◌≢◌, ◌≤◌}
 
 if_same : {A : Type 0} (a b : ℕ) (x y : A) → a ≡ b → cond (eqb a b) x y ≡ x
 if_same a b x y e = ap (λ (t : Bool). cond t x y) (eq-eqb a b e)

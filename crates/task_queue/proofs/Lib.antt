@@ -1,3 +1,4 @@
+pub mod Imports
 pub mod Counts
 pub mod QueueRule
 pub mod ShelfRule

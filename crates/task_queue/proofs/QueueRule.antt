@@ -1,9 +1,5 @@
 -- Each step of a queue of numbers keeps its rule.
-use Rattle.std.proofs.Common.{◌≡◌, ℕ, [], ◌∷◌, ◌++◌, set, refl, arith}
-use Rattle.crossbeam_queue.specs.Fifo.{Pushes, Pops, Forks, Learns}
-use Rattle.task_queue.specs.declared.queue.Passage.{Passage}
-use Rattle.task_queue.specs.Numbers.{times}
-use Rattle.task_queue.specs.Passages.{IsBalanced, IsMoment, empty_passage, with_put, with_taken}
+use Rattle.task_queue.proofs.Imports.{Forks, IsBalanced, IsMoment, Learns, Passage, Pops, Pushes, [], arith, empty_passage, refl, set, times, with_put, with_taken, ℕ, ◌++◌, ◌∷◌, ◌≡◌}
 use Rattle.task_queue.proofs.Counts.{times-append, total-set, total-push}
 
 -- an empty queue has the rule

@@ -1,8 +1,5 @@
 -- What the slots of a seat are after its steps.
-use Rattle.std.proofs.Common.{◌≡◌, ℕ, List, [], ◌∷◌, ◌++◌, map, sym, refl, ap, ◌∙◌, subst, Option, None}
-use Rattle.std.proofs.lemmas.List.{map-append}
-use Rattle.atomic_table.specs.Table.{Me, rest, turned}
-use Rattle.task_queue.specs.declared.seat.Holding.{Holding}
+use Rattle.task_queue.proofs.Imports.{Holding, List, Me, None, Option, [], ap, map, map-append, refl, rest, subst, sym, turned, ℕ, ◌++◌, ◌∙◌, ◌∷◌, ◌≡◌}
 
 module _ {V : Type 0} where
   -- empty slots of numbers turn as the numbers rotate

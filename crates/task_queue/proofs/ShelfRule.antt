@@ -1,19 +1,6 @@
 -- Each step of a shelf keeps its rule, from its first state to its last.
-use Rattle.std.proofs.Common.{◌≡◌, ◌≢◌, ◌⊎◌, ◌++◌, inl, inr, ⊎_elim, ℕ, zero, suc, ◌+◌, ◌<◌, ◌≤◌, eqb, eq-eqb, ne_eqb, Bool, cond, List, [], ◌∷◌, length, map, replicate, set, get_or, sym, refl, ap, ◌∙◌, subst, arith, Option, Some, length-set, get_or-set_same, get_or-set_other}
-use Rattle.std.proofs.lemmas.List.{length-map, length-replicate}
-use mathlib.Core.Logic.{dite}
-use mathlib.Core.Option.{some, none, some-ne-none}
+use Rattle.task_queue.proofs.Imports.{Act, AllFit, Allows, Bool, Claims, Final, Holding, IsHome, IsKept, IsOut, Joins, List, Me, Option, Returns, Seen, SlotsFit, Some, Splits, State, Takes, Valid, [], all_parts, ap, arith, at_index, at_map, carried_after, cond, dite, either, eq-eqb, eqb, get_elem?, get_or, get_or-set_other, get_or-set_same, gives, held_at, inl, inr, keeps, leaving, length, length-map, length-replicate, length-set, less_one_part, map, ne_eqb, no_part, none, one_part, opening, refl, replicate, set, set_again, set_else, set_here, some, some-ne-none, step, stepped, subst, suc, sym, takes, taking, times, total, whole_holding, with_parts_of, zero, ℕ, ℕ_discrete, ⊎_elim, ◌++◌, ◌+◌, ◌<◌, ◌∙◌, ◌∷◌, ◌≡◌, ◌≢◌, ◌≤◌, ◌⊎◌}
 use mathlib.Core.Option as maybe
-use native.Mathlib.Decide.{ℕ_discrete}
-use lib.ListN.{get_elem?}
-use prog.Atomic.{either}
-use Rattle.atomic_table.specs.Table.{State, Me, step, Act, keeps, takes, gives, stepped, carried_after, Allows, Splits, Joins, Valid, opening, Final, Seen}
-use Rattle.atomic_table.proofs.Lists.{set_else, set_here, set_again, at_index, at_map}
-use Rattle.task_queue.specs.declared.seat.Holding.{Holding}
-use Rattle.task_queue.specs.Numbers.{times, total}
-use Rattle.task_queue.specs.Rules.{held_at, IsHome, IsOut, IsKept, all_parts, whole_holding}
-use Rattle.task_queue.specs.Steps.{taking, leaving, less_one_part, one_part, with_parts_of, no_part, Takes, Claims, Returns}
-use Rattle.task_queue.specs.Values.{AllFit, SlotsFit}
 use Rattle.task_queue.proofs.Counts.{hit_same, times-without-other, at_below, total-set, total-push, total-ge, total-single}
 
 below_from_at : {A : Type 0} (l : List A) (i : ℕ) (a : A) → get_elem? l i ≡ some a → i < length l

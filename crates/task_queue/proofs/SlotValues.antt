@@ -1,10 +1,5 @@
 -- Values that are laid out in slots and taken from them.
-use Rattle.std.proofs.Common.{◌≡◌, ℕ, zero, suc, ◌≤◌, List, [], ◌∷◌, ◌++◌, map, reverse, length, sym, refl, ap, ◌∙◌, subst, Option, Some, None, append-nil, append_assoc, Vec, vec_capacity, Global}
-use Rattle.std.proofs.lemmas.List.{reverse-append, reverse-reverse}
-use mathlib.Core.Option.{some-injective, some-ne-none}
-use Rattle.atomic_table.specs.Table.{opening}
-use Rattle.task_queue.specs.Rules.{HasRoom}
-use Rattle.task_queue.specs.Values.{values_of, AllFit}
+use Rattle.task_queue.proofs.Imports.{AllFit, Global, HasRoom, List, None, Option, Some, Vec, [], ap, append-nil, append_assoc, length, map, opening, refl, reverse, reverse-append, reverse-reverse, some-injective, some-ne-none, subst, suc, sym, values_of, vec_capacity, zero, ℕ, ◌++◌, ◌∙◌, ◌∷◌, ◌≡◌, ◌≤◌}
 
 module _ {V : Type 0} where
   abbrev full : V → Option V

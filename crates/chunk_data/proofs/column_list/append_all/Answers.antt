@@ -1,6 +1,4 @@
-use Rattle.std.proofs.Common.{arith, ◌∙◌, length, ◌<◌, ◌≡◌, map}
-use Rattle.std.proofs.lemmas.List.{length-map}
-use Rattle.chunk_data.specs.Columns.{values, kind_of}
+use Rattle.chunk_data.proofs.Imports.{arith, kind_of, length, length-map, map, values, ◌<◌, ◌∙◌, ◌≡◌}
 use Rattle.chunk_data.proofs.ColumnLists.{Joined-more, Joined-all, Joined-back, Joined-same, Joined-long, agrees_at, agreed_long, other_at}
 use Rattle.chunk_data.proofs.column_list.append_all.Goals as goal
 

@@ -1,5 +1,4 @@
-use Rattle.std.proofs.Common.{map}
-use Rattle.chunk_data.specs.Columns.{values}
+use Rattle.chunk_data.proofs.Imports.{map, values}
 use Rattle.chunk_data.proofs.ColumnLists.{Joined}
 use Rattle.chunk_data.proofs.column_list.append_all.Given as goal
 

@@ -1,4 +1,4 @@
-use Rattle.std.proofs.Common.{◌≡◌, ◌++◌}
+use Rattle.chunk_data.proofs.Imports.{◌++◌, ◌≡◌}
 use Rattle.chunk_data.proofs.column_list.beside_all.Given as goal
 
 abbrev pub invariant-loop-column : goal.invariant-loop-column

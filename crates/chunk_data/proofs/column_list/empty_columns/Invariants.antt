@@ -1,5 +1,4 @@
-use Rattle.std.proofs.Common.{◌≡◌, map, take, []}
-use Rattle.chunk_data.specs.Columns.{kind_of, values}
+use Rattle.chunk_data.proofs.Imports.{[], kind_of, map, take, values, ◌≡◌}
 use Rattle.chunk_data.proofs.column_list.empty_columns.Given as goal
 
 abbrev pub invariant-loop-kind : goal.invariant-loop-kind

@@ -1,5 +1,4 @@
-use Rattle.std.proofs.Common.{◌≡◌, map, take}
-use Rattle.chunk_data.specs.Names.{value_at, kind_of, values}
+use Rattle.chunk_data.proofs.Imports.{kind_of, map, take, value_at, values, ◌≡◌}
 use Rattle.chunk_data.proofs.column_list.gather_all.Given as goal
 
 abbrev pub invariant-loop-column : goal.invariant-loop-column

@@ -1,6 +1,4 @@
-use Rattle.std.proofs.Common.{arith, sym, ap, ◌∙◌, length, ◌<◌, map}
-use Rattle.std.proofs.lemmas.List.{length-map}
-use Rattle.chunk_data.specs.Columns.{values}
+use Rattle.chunk_data.proofs.Imports.{ap, arith, length, length-map, map, sym, values, ◌<◌, ◌∙◌}
 use Rattle.chunk_data.proofs.ColumnLists.{Mapped-here, Mapped-more, Mapped-all, AreLong-at}
 use Rattle.chunk_data.proofs.column_list.keep_all.Goals as goal
 

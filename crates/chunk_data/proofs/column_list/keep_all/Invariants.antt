@@ -1,4 +1,4 @@
-use Rattle.chunk_data.specs.Rows.{kept}
+use Rattle.chunk_data.proofs.Imports.{kept}
 use Rattle.chunk_data.proofs.ColumnLists.{Mapped}
 use Rattle.chunk_data.proofs.column_list.keep_all.Given as goal
 

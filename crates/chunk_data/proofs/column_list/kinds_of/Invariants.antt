@@ -1,5 +1,4 @@
-use Rattle.std.proofs.Common.{◌≡◌, map, take}
-use Rattle.chunk_data.specs.Columns.{kind_of}
+use Rattle.chunk_data.proofs.Imports.{kind_of, map, take, ◌≡◌}
 use Rattle.chunk_data.proofs.column_list.kinds_of.Given as goal
 
 abbrev pub invariant-loop-column : goal.invariant-loop-column

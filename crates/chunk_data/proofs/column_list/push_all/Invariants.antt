@@ -1,4 +1,4 @@
-use Rattle.std.proofs.Common.{map, ◌∷◌, []}
+use Rattle.chunk_data.proofs.Imports.{[], map, ◌∷◌}
 use Rattle.chunk_data.proofs.ColumnLists.{Joined}
 use Rattle.chunk_data.proofs.column_list.push_all.Given as goal
 

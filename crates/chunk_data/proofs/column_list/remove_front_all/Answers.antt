@@ -1,4 +1,4 @@
-use Rattle.std.proofs.Common.{arith}
+use Rattle.chunk_data.proofs.Imports.{arith}
 use Rattle.chunk_data.proofs.ColumnLists.{Mapped-more, Mapped-all}
 use Rattle.chunk_data.proofs.column_list.remove_front_all.Goals as goal
 

@@ -1,4 +1,4 @@
-use Rattle.std.proofs.Common.{drop}
+use Rattle.chunk_data.proofs.Imports.{drop}
 use Rattle.chunk_data.proofs.ColumnLists.{Mapped}
 use Rattle.chunk_data.proofs.column_list.remove_front_all.Given as goal
 

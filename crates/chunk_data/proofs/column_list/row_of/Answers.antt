@@ -1,4 +1,4 @@
-use Rattle.std.proofs.Common.{arith, ◌∙◌}
+use Rattle.chunk_data.proofs.Imports.{arith, ◌∙◌}
 use Rattle.chunk_data.proofs.Chunks.{column_long, row_more}
 use Rattle.chunk_data.proofs.column_list.row_of.Goals as goal
 

@@ -1,4 +1,4 @@
-use Rattle.std.proofs.Common.{take}
+use Rattle.chunk_data.proofs.Imports.{take}
 use Rattle.chunk_data.proofs.ColumnLists.{Mapped}
 use Rattle.chunk_data.proofs.column_list.truncate_columns.Given as goal
 

@@ -1,4 +1,4 @@
-use Rattle.std.proofs.Common.{arith, ap, ◌+◌, ◌∙◌}
+use Rattle.chunk_data.proofs.Imports.{ap, arith, ◌+◌, ◌∙◌}
 use Rattle.chunk_data.proofs.Keeps.{KeepsInPlace-more, bool_byte-cond}
 use Rattle.chunk_data.proofs.compact.keep_items.Goals as goal
 

@@ -1,4 +1,4 @@
-use Rattle.std.proofs.Common.{arith, refl}
+use Rattle.chunk_data.proofs.Imports.{arith, refl}
 use Rattle.chunk_data.proofs.KeepsTexts.{KeepsTexts-next, KeepsTexts-more_yes, KeepsTexts-more_no, KeepsTexts-all, KeepsTexts-ends}
 use Rattle.chunk_data.proofs.text_column.keep_texts.Goals as goal
 use Rattle.chunk_data.proofs.text_column.keep_texts.Goals.{then-mask-i, else-mask-i}

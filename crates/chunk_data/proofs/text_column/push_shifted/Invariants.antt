@@ -1,5 +1,4 @@
-use Rattle.std.proofs.Common.{◌≡◌, ◌+◌, ◌-◌, ◌≤◌, ◌++◌, length, map, take}
-use Rattle.std.specs.Vec.{vec_len, vec_capacity}
+use Rattle.chunk_data.proofs.Imports.{length, map, take, vec_capacity, vec_len, ◌++◌, ◌+◌, ◌-◌, ◌≡◌, ◌≤◌}
 use Rattle.chunk_data.proofs.text_column.push_shifted.Given as goal
 
 abbrev pub invariant-loop-end : goal.invariant-loop-end

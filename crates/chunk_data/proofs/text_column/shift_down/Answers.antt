@@ -1,4 +1,4 @@
-use Rattle.std.proofs.Common.{arith, ap, ◌∙◌, ◌≡◌, ◌<◌, ◌-◌, length, get_or, set, refl, add-one}
+use Rattle.chunk_data.proofs.Imports.{add-one, ap, arith, get_or, length, refl, set, ◌-◌, ◌<◌, ◌∙◌, ◌≡◌}
 use Rattle.chunk_data.proofs.ColumnLists.{changed, get_or-changed, changed_more, changed_all}
 use Rattle.chunk_data.proofs.text_column.shift_down.Goals as goal
 

@@ -1,4 +1,4 @@
-use Rattle.std.proofs.Common.{◌≡◌, ◌-◌}
+use Rattle.chunk_data.proofs.Imports.{◌-◌, ◌≡◌}
 use Rattle.chunk_data.proofs.ColumnLists.{changed}
 use Rattle.chunk_data.proofs.text_column.shift_down.Given as goal
 

@@ -1,5 +1,4 @@
-use Rattle.std.proofs.Common.{sym, ap, ◌∙◌}
-use Rattle.std.specs.Str.{bytes_eq}
+use Rattle.command_line.proofs.Imports.{ap, bytes_eq, sym, ◌∙◌}
 use Rattle.command_line.proofs.NameLaws.{name_found, name_passed, names_ended}
 use Rattle.command_line.proofs.names.has_name.Goals as goal
 

@@ -1,6 +1,4 @@
-use Rattle.std.proofs.Common.{◌≡◌, map, drop}
-use Rattle.std.specs.List.{list_any}
-use Rattle.std.specs.Str.{bytes_eq}
+use Rattle.command_line.proofs.Imports.{bytes_eq, drop, list_any, map, ◌≡◌}
 use Rattle.command_line.proofs.names.has_name.Given as goal
 
 abbrev pub invariant-loop-i : goal.invariant-loop-i

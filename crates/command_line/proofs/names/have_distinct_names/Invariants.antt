@@ -1,5 +1,4 @@
-use Rattle.std.proofs.Common.{◌≡◌, map, drop}
-use Rattle.query_model.specs.Projection.{are_distinct}
+use Rattle.command_line.proofs.Imports.{are_distinct, drop, map, ◌≡◌}
 use Rattle.command_line.proofs.names.have_distinct_names.Given as goal
 
 abbrev pub invariant-loop-i : goal.invariant-loop-i

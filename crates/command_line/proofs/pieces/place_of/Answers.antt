@@ -1,5 +1,4 @@
-use Rattle.std.proofs.Common.{◌==◌, length, sym, arith, eq-eqb}
-use Rattle.std.proofs.lemmas.List.Sums.{position_or_len_is}
+use Rattle.command_line.proofs.Imports.{arith, eq-eqb, length, position_or_len_is, sym, ◌==◌}
 use Rattle.command_line.proofs.pieces.place_of.Goals as goal
 
 pub returns-then-text-i-clause-place : goal.returns-then-text-i-clause-place

@@ -1,4 +1,4 @@
-use Rattle.std.proofs.Common.{◌≡◌, ℕ, ◌<◌, ◌==◌, false, get_or}
+use Rattle.command_line.proofs.Imports.{false, get_or, ℕ, ◌<◌, ◌==◌, ◌≡◌}
 use Rattle.command_line.proofs.pieces.place_of.Given as goal
 
 abbrev pub invariant-loop-i : goal.invariant-loop-i

@@ -1,5 +1,4 @@
-use Rattle.std.proofs.Common.{sym, ap, ◌∙◌, arith, Some}
-use Rattle.command_line.specs.Pieces.{pieces_of}
+use Rattle.command_line.proofs.Imports.{Some, ap, arith, pieces_of, sym, ◌∙◌}
 use Rattle.command_line.proofs.PieceLaws.{followed_by, followed_by_all, piece_refused, piece_last, piece_next}
 use Rattle.command_line.proofs.pieces.read_pieces.Goals as goal
 

@@ -1,5 +1,4 @@
-use Rattle.std.proofs.Common.{◌≡◌, length}
-use Rattle.command_line.specs.Pieces.{pieces_of}
+use Rattle.command_line.proofs.Imports.{length, pieces_of, ◌≡◌}
 use Rattle.command_line.proofs.PieceLaws.{followed_by}
 use Rattle.command_line.proofs.pieces.read_pieces.Given as goal
 

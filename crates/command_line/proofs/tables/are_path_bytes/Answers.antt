@@ -1,7 +1,4 @@
-use Rattle.std.proofs.Common.{rules, tests}
-use Rattle.std.proofs.lemmas.Iterator.{YieldsList-from_slice}
-use Rattle.std.proofs.lemmas.Iterator.Search.{all_from_yields_List}
-use Rattle.command_line.specs.Tables.{is_path_byte}
+use Rattle.command_line.proofs.Imports.{YieldsList-from_slice, all_from_yields_List, is_path_byte, rules, tests}
 use Rattle.command_line.proofs.tables.are_path_bytes.Goals as goal
 
 pub returns : goal.returns

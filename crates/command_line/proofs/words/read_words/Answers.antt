@@ -1,5 +1,4 @@
-use Rattle.std.proofs.Common.{sym, ◌∙◌, map}
-use Rattle.std.specs.String.{string_bytes}
+use Rattle.command_line.proofs.Imports.{map, string_bytes, sym, ◌∙◌}
 use Rattle.command_line.proofs.Meanings.{command_means, limits_kept, means_none}
 use Rattle.command_line.proofs.words.read_words.Goals as goal
 

@@ -1,8 +1,5 @@
-use Rattle.std.proofs.Common.{sym, ap, ◌∙◌, subst, arith, get_or, Some}
-use Rattle.core_laws.specs.declared.types.Event.{Event}
+use Rattle.exec_core.proofs.Imports.{Event, Laws, Some, ap, arith, get_or, laws-kept, subst, sym, ◌∙◌}
 use Rattle.core_laws.specs.declared.types.Step.TheVariants as step
-use Rattle.core_laws.specs.Laws.{Laws}
-use Rattle.core_laws.proofs.Kept.{laws-kept}
 use Rattle.exec_core.proofs.Runs.{run-more}
 use Rattle.exec_core.proofs.events.replay.Goals as goal
 

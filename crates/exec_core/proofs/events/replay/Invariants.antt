@@ -1,6 +1,4 @@
-use Rattle.std.proofs.Common.{◌≡◌, Some, take}
-use Rattle.core_laws.specs.Laws.{Laws}
-use Rattle.exec_core.specs.Runs.{run}
+use Rattle.exec_core.proofs.Imports.{Laws, Some, run, take, ◌≡◌}
 use Rattle.exec_core.proofs.events.replay.Given as goal
 
 abbrev pub invariant-loop-k : goal.invariant-loop-k

@@ -1,4 +1,4 @@
-use Rattle.std.proofs.Common.{arith}
+use Rattle.exec_core.proofs.Imports.{arith}
 use Rattle.exec_core.proofs.Bounds.{pending-small, token-pending}
 use Rattle.exec_core.proofs.events.step_after.Goals as goal
 

@@ -1,5 +1,4 @@
-use Rattle.std.proofs.Common.{◌≡◌, drop}
-use Rattle.core_laws.specs.Views.{flags_at}
+use Rattle.exec_core.proofs.Imports.{drop, flags_at, ◌≡◌}
 use Rattle.exec_core.proofs.lookups.flags_at.Given as goal
 
 abbrev pub invariant-loop-sight : goal.invariant-loop-sight

@@ -1,6 +1,4 @@
-use Rattle.std.proofs.Common.{arith}
-use Rattle.std.proofs.lemmas.List.{set-set}
-use Rattle.core_laws.proofs.Kept.{marks-of}
+use Rattle.exec_core.proofs.Imports.{arith, marks-of, set-set}
 use Rattle.exec_core.proofs.Replaced.{untold}
 use Rattle.exec_core.proofs.node_steps.mark.Goals as goal
 

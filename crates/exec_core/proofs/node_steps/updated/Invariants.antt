@@ -1,7 +1,4 @@
-use Rattle.std.proofs.Common.{◌≡◌, drop, ◌++◌}
-use Rattle.std.specs.List.{filter}
-use Rattle.core_laws.specs.Views.{edges_of}
-use Rattle.core_laws.specs.Steps.{is_updated}
+use Rattle.exec_core.proofs.Imports.{drop, edges_of, filter, is_updated, ◌++◌, ◌≡◌}
 use Rattle.exec_core.proofs.node_steps.updated.Given as goal
 
 abbrev pub invariant-loop-sight : goal.invariant-loop-sight

@@ -1,6 +1,4 @@
-use Rattle.std.proofs.Common.{List, take, drop, ◌++◌, sym, ap, ◌∙◌, arith}
-use Rattle.core_laws.specs.declared.types.Sight.{Sight}
-use Rattle.core_laws.specs.Views.{seeing}
+use Rattle.exec_core.proofs.Imports.{List, Sight, ap, arith, drop, seeing, sym, take, ◌++◌, ◌∙◌}
 use Rattle.exec_core.proofs.Lists.{seeing-hit}
 use Rattle.exec_core.proofs.places.with_sight.Goals as goal
 

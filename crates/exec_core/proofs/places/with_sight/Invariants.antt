@@ -1,5 +1,4 @@
-use Rattle.std.proofs.Common.{◌≡◌, take, drop, ◌++◌}
-use Rattle.core_laws.specs.Views.{seeing}
+use Rattle.exec_core.proofs.Imports.{drop, seeing, take, ◌++◌, ◌≡◌}
 use Rattle.exec_core.proofs.places.with_sight.Given as goal
 
 abbrev pub invariant-loop-i : goal.invariant-loop-i

@@ -1,6 +1,4 @@
-use Rattle.std.proofs.Common.{rules, not, eqb, ap, ◌∙◌}
-use Rattle.core_laws.specs.Views.{without}
-use Rattle.std.proofs.lemmas.Fn.{filter_same}
+use Rattle.exec_core.proofs.Imports.{ap, eqb, filter_same, not, rules, without, ◌∙◌}
 use Rattle.exec_core.proofs.places.without.Goals as goal
 
 pub returns : goal.returns

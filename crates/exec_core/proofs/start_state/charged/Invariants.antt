@@ -1,5 +1,4 @@
-use Rattle.std.proofs.Common.{◌≡◌, ◌≤◌}
-use Rattle.core_laws.specs.Start.{charged}
+use Rattle.exec_core.proofs.Imports.{charged, ◌≡◌, ◌≤◌}
 use Rattle.exec_core.proofs.start_state.charged.Given as goal
 
 abbrev pub invariant-loop-n : goal.invariant-loop-n

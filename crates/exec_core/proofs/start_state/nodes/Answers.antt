@@ -1,6 +1,4 @@
-use Rattle.std.proofs.Common.{arith}
-use Rattle.std.proofs.lemmas.List.FromFn.{map-range_with_len_more}
-use Rattle.core_laws.specs.Start.{start_node}
+use Rattle.exec_core.proofs.Imports.{arith, map-range_with_len_more, start_node}
 use Rattle.exec_core.proofs.start_state.nodes.Goals as goal
 
 pub loop-n-preserved : goal.loop-n-preserved

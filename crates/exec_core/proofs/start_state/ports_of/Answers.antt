@@ -1,6 +1,4 @@
-use Rattle.std.proofs.Common.{cond, [], ◌∷◌, append-nil, sym, ap, ◌∙◌, arith}
-use Rattle.std.proofs.lemmas.List.FromFn.{filter_of_map_range_with_len_more}
-use Rattle.core_laws.specs.Start.{is_end_among, fresh_sight}
+use Rattle.exec_core.proofs.Imports.{[], ap, append-nil, arith, cond, filter_of_map_range_with_len_more, fresh_sight, is_end_among, sym, ◌∙◌, ◌∷◌}
 use Rattle.exec_core.proofs.start_state.ports_of.Goals as goal
 use Rattle.exec_core.proofs.start_state.ports_of.Goals.{then-names+in_ok-push, else-names}
 

@@ -1,6 +1,4 @@
-use Rattle.std.proofs.Common.{◌≡◌, map}
-use Rattle.std.specs.List.{filter, range_with_len}
-use Rattle.core_laws.specs.Start.{is_end_among, fresh_sight}
+use Rattle.exec_core.proofs.Imports.{filter, fresh_sight, is_end_among, map, range_with_len, ◌≡◌}
 use Rattle.exec_core.proofs.start_state.ports_of.Given as goal
 
 abbrev pub invariant-loop-e : goal.invariant-loop-e

@@ -1,5 +1,4 @@
-use Rattle.std.proofs.Common.{◌≡◌, ◌+◌, drop}
-use Rattle.core_laws.specs.Views.{reserved_edges}
+use Rattle.exec_core.proofs.Imports.{drop, reserved_edges, ◌+◌, ◌≡◌}
 use Rattle.exec_core.proofs.start_state.reserved_edges.Given as goal
 
 abbrev pub invariant-loop-r : goal.invariant-loop-r

@@ -1,8 +1,4 @@
-use Rattle.std.proofs.Common.{arith, rules, ◌≡◌, ◌∙◌, pos, get_or}
-use Rattle.std.specs.Int.{int_wrap, w64}
-use Rattle.std.proofs.lemmas.Int.{to_z-of_z}
-use mir.Val.{to_z, of_z, SFits}
-use Rattle.query_model.specs.Expressions.{exact_result}
+use Rattle.expr_eval.proofs.Imports.{SFits, arith, exact_result, get_or, int_wrap, of_z, pos, rules, to_z, to_z-of_z, w64, ◌∙◌, ◌≡◌}
 use Rattle.expr_eval.proofs.Onto.{onto_more, onto_all}
 use Rattle.expr_eval.proofs.arith_loops.each_int_pair_onto.Goals as goal
 

@@ -1,6 +1,4 @@
-use Rattle.std.proofs.Common.{◌≡◌}
-use Rattle.std.specs.Int.{int_wrap, w64}
-use Rattle.query_model.specs.Expressions.{exact_result}
+use Rattle.expr_eval.proofs.Imports.{exact_result, int_wrap, w64, ◌≡◌}
 use Rattle.expr_eval.proofs.Onto.{onto}
 use Rattle.expr_eval.proofs.arith_loops.each_int_pair_onto.Given as goal
 

@@ -1,4 +1,4 @@
-use Rattle.std.proofs.Common.{◌≡◌, ◌||◌}
+use Rattle.expr_eval.proofs.Imports.{◌||◌, ◌≡◌}
 use Rattle.expr_eval.proofs.Onto.{onto}
 use Rattle.expr_eval.proofs.compare_loops.either_onto.Given as goal
 

@@ -1,4 +1,4 @@
-use Rattle.std.proofs.Common.{arith, ◌∙◌, false, refl, not}
+use Rattle.expr_eval.proofs.Imports.{arith, false, not, refl, ◌∙◌}
 use Rattle.expr_eval.proofs.Onto.{onto_more, onto_all, map_first}
 use Rattle.expr_eval.proofs.compare_loops.negate_onto.Goals as goal
 

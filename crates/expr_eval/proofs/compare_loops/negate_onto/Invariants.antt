@@ -1,4 +1,4 @@
-use Rattle.std.proofs.Common.{◌≡◌, not}
+use Rattle.expr_eval.proofs.Imports.{not, ◌≡◌}
 use Rattle.expr_eval.proofs.Onto.{onto}
 use Rattle.expr_eval.proofs.compare_loops.negate_onto.Given as goal
 

@@ -1,6 +1,4 @@
-use Rattle.std.proofs.Common.{◌≡◌, ◌++◌, ◌∷◌, [], rules, arith, get_or}
-use Rattle.chunk_data.specs.Values.{text_cmp}
-use Rattle.query_model.specs.Expressions.{passes}
+use Rattle.expr_eval.proofs.Imports.{[], arith, get_or, passes, rules, text_cmp, ◌++◌, ◌∷◌, ◌≡◌}
 use Rattle.expr_eval.proofs.Onto.{mask_more}
 use Rattle.expr_eval.proofs.compare_loops.text_mask.Goals as goal
 

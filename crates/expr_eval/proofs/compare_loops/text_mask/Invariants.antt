@@ -1,7 +1,4 @@
-use Rattle.std.proofs.Common.{◌≡◌, map, take}
-use Rattle.std.specs.List.{zip}
-use Rattle.chunk_data.specs.Values.{text_cmp}
-use Rattle.query_model.specs.Expressions.{passes}
+use Rattle.expr_eval.proofs.Imports.{map, passes, take, text_cmp, zip, ◌≡◌}
 use Rattle.expr_eval.proofs.compare_loops.text_mask.Given as goal
 
 abbrev pub invariant-loop-i : goal.invariant-loop-i

@@ -1,5 +1,4 @@
-use Rattle.std.proofs.Common.{refl, ◌&&◌, ◌||◌, not}
-use Rattle.query_model.specs.Expressions.{truth_of}
+use Rattle.expr_eval.proofs.Imports.{not, refl, truth_of, ◌&&◌, ◌||◌}
 use Rattle.expr_eval.proofs.Onto.{each_is, pairs_are}
 use Rattle.expr_eval.proofs.condition.+mask.Goals as goal
 

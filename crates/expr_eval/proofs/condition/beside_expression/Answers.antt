@@ -1,7 +1,4 @@
-use Rattle.std.proofs.Common.{◌∙◌}
-use Rattle.chunk_data.specs.declared.typed_value.Value.TheVariants.{Text}
-use Rattle.query_model.specs.Expressions.{value_of, operand_value, passes, compared}
-use Rattle.expr_eval.specs.Results.{flipped}
+use Rattle.expr_eval.proofs.Imports.{Text, compared, flipped, operand_value, passes, value_of, ◌∙◌}
 use Rattle.expr_eval.proofs.Onto.{same_maps}
 use Rattle.expr_eval.proofs.Comparisons.{turned}
 use Rattle.expr_eval.proofs.condition.beside_expression.Goals as goal

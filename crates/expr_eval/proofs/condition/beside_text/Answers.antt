@@ -1,6 +1,4 @@
-use Rattle.std.proofs.Common.{◌∙◌, ◌≡◌}
-use Rattle.chunk_data.specs.Values.{text_cmp}
-use Rattle.query_model.specs.Expressions.{operand_value, passes}
+use Rattle.expr_eval.proofs.Imports.{operand_value, passes, text_cmp, ◌∙◌, ◌≡◌}
 use Rattle.expr_eval.proofs.Onto.{same_value}
 use Rattle.expr_eval.proofs.condition.beside_text.Goals as goal
 

@@ -1,7 +1,4 @@
-use Rattle.std.proofs.Common.{ap, pos}
-use Rattle.std.specs.Ordering.{int_cmp}
-use Rattle.chunk_data.specs.declared.typed_value.Value.TheVariants.{Int, UInt}
-use Rattle.query_model.specs.Expressions.{plain_value, number_of, passes, compared}
+use Rattle.expr_eval.proofs.Imports.{Int, UInt, ap, compared, int_cmp, number_of, passes, plain_value, pos}
 use Rattle.expr_eval.proofs.Applied.{masked_one}
 use Rattle.expr_eval.proofs.Comparisons.{int_compared, uint_compared}
 use Rattle.expr_eval.proofs.condition.column_beside.Goals as goal

@@ -1,7 +1,4 @@
-use Rattle.std.proofs.Common.{refl}
-use Rattle.chunk_data.specs.Values.{text_cmp}
-use Rattle.chunk_data.specs.declared.typed_value.Value.TheVariants.{Text}
-use Rattle.query_model.specs.Expressions.{passes, compared}
+use Rattle.expr_eval.proofs.Imports.{Text, compared, passes, refl, text_cmp}
 use Rattle.expr_eval.proofs.Applied.{masked_pairs}
 use Rattle.expr_eval.proofs.condition.columns.Goals as goal
 

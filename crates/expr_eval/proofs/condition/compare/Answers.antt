@@ -1,4 +1,4 @@
-use Rattle.query_model.specs.Expressions.{operand_value}
+use Rattle.expr_eval.proofs.Imports.{operand_value}
 use Rattle.expr_eval.proofs.condition.compare.Goals as goal
 
 pub returns-in_ok-mask-in-Plain : goal.returns-in_ok-mask-in-Plain

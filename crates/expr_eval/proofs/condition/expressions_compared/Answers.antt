@@ -1,5 +1,4 @@
-use Rattle.std.proofs.Common.{refl}
-use Rattle.query_model.specs.Expressions.{value_of, passes, compared}
+use Rattle.expr_eval.proofs.Imports.{compared, passes, refl, value_of}
 use Rattle.expr_eval.proofs.Onto.{pairs_are}
 use Rattle.expr_eval.proofs.condition.expressions_compared.Goals as goal
 

@@ -1,5 +1,4 @@
-use Rattle.std.proofs.Common.{refl}
-use Rattle.query_model.specs.Expressions.{value_of, plain_value, number_of, passes, compared}
+use Rattle.expr_eval.proofs.Imports.{compared, number_of, passes, plain_value, refl, value_of}
 use Rattle.expr_eval.proofs.Onto.{each_is}
 use Rattle.expr_eval.proofs.condition.number_compared.Goals as goal
 

@@ -1,7 +1,4 @@
-use Rattle.std.proofs.Common.{ap, sym, ◌∙◌, ◌≡◌, Some}
-use Rattle.std.specs.Ordering.{int_cmp}
-use Rattle.query_model.specs.Names.{value_of, plain_value, number_of, passes, compared, plain_of}
-use Rattle.expr_eval.specs.Results.{flipped}
+use Rattle.expr_eval.proofs.Imports.{Some, ap, compared, flipped, int_cmp, number_of, passes, plain_of, plain_value, sym, value_of, ◌∙◌, ◌≡◌}
 use Rattle.expr_eval.proofs.Onto.{same_maps, same_value}
 use Rattle.expr_eval.proofs.Operands.{plain_value_of}
 use Rattle.expr_eval.proofs.Comparisons.{turned, plains_compared}

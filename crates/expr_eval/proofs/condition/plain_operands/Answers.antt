@@ -1,5 +1,4 @@
-use Rattle.std.proofs.Common.{ap, sym, ◌∙◌, ◌≡◌, Some}
-use Rattle.query_model.specs.Names.{value_of, plain_value, number_of, passes, compared, plain_of, is_text}
+use Rattle.expr_eval.proofs.Imports.{Some, ap, compared, is_text, number_of, passes, plain_of, plain_value, sym, value_of, ◌∙◌, ◌≡◌}
 use Rattle.expr_eval.proofs.Onto.{same_maps}
 use Rattle.expr_eval.proofs.Operands.{plain_value_of, plain_type_of}
 use Rattle.expr_eval.proofs.Comparisons.{plain_is_number}

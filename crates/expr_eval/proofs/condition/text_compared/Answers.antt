@@ -1,13 +1,9 @@
-use Rattle.std.proofs.Common.{refl, ap, ◌∙◌, ◌<◌, length}
-use Rattle.chunk_data.specs.Values.{text_cmp, value_at}
-use Rattle.chunk_data.specs.declared.typed_value.Value.TheVariants.{Text}
-use Rattle.query_model.specs.Names.{value_of, type_of, number_of, passes, compared, is_text}
+use Rattle.expr_eval.proofs.Imports.{Text, ap, compared, get_or_default, is_text, length, number_of, passes, refl, text_cmp, type_of, value_at, value_of, ◌<◌, ◌∙◌}
 use Rattle.expr_eval.proofs.Onto.{each_is}
 use Rattle.expr_eval.proofs.Applied.{masked_one}
 use Rattle.expr_eval.proofs.Operands.{arith_not_text}
 use Rattle.expr_eval.proofs.Comparisons.{plain_is_number}
 use Rattle.expr_eval.proofs.condition.text_compared.Goals as goal
-use Rattle.std.proofs.lemmas.List.{get_or_default}
 
 pub texts-requires : goal.texts-requires
 unfolding type_of

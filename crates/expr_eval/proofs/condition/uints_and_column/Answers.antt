@@ -1,8 +1,4 @@
-use Rattle.std.proofs.Common.{refl, ◌∙◌, pos}
-use Rattle.std.specs.Ordering.{int_cmp}
-use Rattle.chunk_data.specs.declared.typed_value.Value.TheVariants.{Int, UInt}
-use Rattle.query_model.specs.Expressions.{passes, compared}
-use Rattle.expr_eval.specs.Results.{flipped}
+use Rattle.expr_eval.proofs.Imports.{Int, UInt, compared, flipped, int_cmp, passes, pos, refl, ◌∙◌}
 use Rattle.expr_eval.proofs.Onto.{zip_turned}
 use Rattle.expr_eval.proofs.Applied.{masked_pairs}
 use Rattle.expr_eval.proofs.Comparisons.{turned}

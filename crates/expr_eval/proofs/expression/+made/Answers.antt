@@ -1,4 +1,4 @@
-use Rattle.query_model.specs.Expressions.{value_of, type_of}
+use Rattle.expr_eval.proofs.Imports.{type_of, value_of}
 use Rattle.expr_eval.proofs.expression.+made.Goals as goal
 
 pub returns-in_ok-column-in-Arith : goal.returns-in_ok-column-in-Arith

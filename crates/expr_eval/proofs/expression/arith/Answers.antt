@@ -1,6 +1,4 @@
-use Rattle.std.proofs.Common.{ap, sym, ◌∙◌, ◌≡◌, Some, None}
-use Rattle.query_model.specs.Names.{value_of, type_of, arith_value, number_of, plain_value, plain_of}
-use Rattle.expr_eval.specs.Results.{arith_type}
+use Rattle.expr_eval.proofs.Imports.{None, Some, ap, arith_type, arith_value, number_of, plain_of, plain_value, sym, type_of, value_of, ◌∙◌, ◌≡◌}
 use Rattle.expr_eval.proofs.Onto.{same_maps}
 use Rattle.expr_eval.proofs.Operands.{plain_before, plain_behind, plain_value_of, plain_type_of, type_before, type_behind}
 use Rattle.expr_eval.proofs.expression.arith.Goals as goal

@@ -1,6 +1,4 @@
-use Rattle.std.proofs.Common.{◌∙◌, ◌<◌, length}
-use Rattle.std.proofs.lemmas.List.{get_or_default}
-use Rattle.query_model.specs.Expressions.{value_of, type_of}
+use Rattle.expr_eval.proofs.Imports.{get_or_default, length, type_of, value_of, ◌<◌, ◌∙◌}
 use Rattle.expr_eval.proofs.expression.eval.Goals as goal
 
 pub column-requires : goal.column-requires

@@ -1,5 +1,4 @@
-use Rattle.std.proofs.Common.{refl}
-use Rattle.query_model.specs.Expressions.{value_of, arith_value}
+use Rattle.expr_eval.proofs.Imports.{arith_value, refl, value_of}
 use Rattle.expr_eval.proofs.Onto.{pairs_are}
 use Rattle.expr_eval.proofs.Operands.{made_values}
 use Rattle.expr_eval.proofs.expression.expressions.Goals as goal

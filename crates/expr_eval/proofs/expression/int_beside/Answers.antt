@@ -1,9 +1,4 @@
-use Rattle.std.proofs.Common.{◌∙◌}
-use Rattle.std.proofs.lemmas.Int.{to_z-of_z}
-use Rattle.std.specs.Int.{int_wrap, w64}
-use Rattle.chunk_data.specs.declared.typed_value.Value.TheVariants.{Int}
-use Rattle.query_model.specs.Expressions.{arith_value, plain_value, exact_result}
-use Rattle.expr_eval.specs.Results.{sided}
+use Rattle.expr_eval.proofs.Imports.{Int, arith_value, exact_result, int_wrap, plain_value, sided, to_z-of_z, w64, ◌∙◌}
 use Rattle.expr_eval.proofs.Applied.{under_one, int_beside_at}
 use Rattle.expr_eval.proofs.expression.int_beside.Goals as goal
 

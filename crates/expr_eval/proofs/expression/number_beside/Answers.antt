@@ -1,6 +1,4 @@
-use Rattle.std.proofs.Common.{refl}
-use Rattle.query_model.specs.Expressions.{value_of, arith_value, plain_value, number_of}
-use Rattle.expr_eval.specs.Results.{sided}
+use Rattle.expr_eval.proofs.Imports.{arith_value, number_of, plain_value, refl, sided, value_of}
 use Rattle.expr_eval.proofs.Onto.{each_is}
 use Rattle.expr_eval.proofs.expression.number_beside.Goals as goal
 

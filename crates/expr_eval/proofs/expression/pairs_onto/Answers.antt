@@ -1,7 +1,4 @@
-use Rattle.std.proofs.Common.{refl, ◌∙◌}
-use Rattle.std.specs.Int.{int_wrap, w64}
-use Rattle.chunk_data.specs.declared.typed_value.Value.TheVariants.{Int}
-use Rattle.query_model.specs.Expressions.{arith_value, exact_result}
+use Rattle.expr_eval.proofs.Imports.{Int, arith_value, exact_result, int_wrap, refl, w64, ◌∙◌}
 use Rattle.expr_eval.proofs.Onto.{under}
 use Rattle.expr_eval.proofs.Applied.{int_pair_at}
 use Rattle.expr_eval.proofs.expression.pairs_onto.Goals as goal

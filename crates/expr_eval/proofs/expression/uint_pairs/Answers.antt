@@ -1,8 +1,4 @@
-use Rattle.std.proofs.Common.{refl, pos, ◌-ℤ◌, ◌∙◌, sym}
-use Rattle.std.specs.Int.{int_wrap, w64}
-use Rattle.chunk_data.specs.declared.typed_value.Value.TheVariants.{Int, UInt}
-use Rattle.query_model.specs.Expressions.{arith_value, exact_result}
-use Rattle.expr_eval.specs.Results.{residue}
+use Rattle.expr_eval.proofs.Imports.{Int, UInt, arith_value, exact_result, int_wrap, pos, refl, residue, sym, w64, ◌-ℤ◌, ◌∙◌}
 use Rattle.expr_eval.proofs.Onto.{under}
 use Rattle.expr_eval.proofs.Applied.{uint_pair_at, uint_difference_at, uint_type}
 use Rattle.expr_eval.proofs.expression.uint_pairs.Goals as goal

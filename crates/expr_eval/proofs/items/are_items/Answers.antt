@@ -1,8 +1,4 @@
-use Rattle.std.proofs.Common.{arith, subst, refl}
-use Rattle.std.specs.List.{All}
-use Rattle.std.proofs.lemmas.List.{take_all}
-use Rattle.std.proofs.lemmas.List.Elements.{All-more}
-use Rattle.query_model.specs.Typing.{IsItem}
+use Rattle.expr_eval.proofs.Imports.{All, All-more, IsItem, arith, refl, subst, take_all}
 use Rattle.expr_eval.proofs.items.are_items.Goals as goal
 
 pub loop-expr-preserved : goal.loop-expr-preserved

@@ -1,6 +1,4 @@
-use Rattle.std.specs.List.{All}
-use Rattle.std.proofs.Common.{take}
-use Rattle.query_model.specs.Typing.{IsItem}
+use Rattle.expr_eval.proofs.Imports.{All, IsItem, take}
 use Rattle.expr_eval.proofs.items.are_items.Given as goal
 
 abbrev pub invariant-loop-expr : goal.invariant-loop-expr

@@ -1,8 +1,4 @@
-use Rattle.std.proofs.Common.{◌≡◌, ap, ◌∙◌, arith, map}
-use Rattle.std.proofs.lemmas.List.{take_all}
-use Rattle.chunk_data.specs.Columns.{kind_of, values}
-use Rattle.chunk_data.proofs.Laws.{AreLong_of_made, rows_of_made}
-use Rattle.query_model.specs.Expressions.{value_of, type_of}
+use Rattle.expr_eval.proofs.Imports.{AreLong_of_made, ap, arith, kind_of, map, rows_of_made, take_all, type_of, value_of, values, ◌∙◌, ◌≡◌}
 use Rattle.expr_eval.proofs.items.eval_items.Goals as goal
 
 pub of_columns-requires : goal.of_columns-requires

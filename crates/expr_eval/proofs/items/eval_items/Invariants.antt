@@ -1,6 +1,4 @@
-use Rattle.std.proofs.Common.{◌≡◌, take, map}
-use Rattle.chunk_data.specs.Columns.{kind_of, values}
-use Rattle.query_model.specs.Expressions.{value_of, type_of}
+use Rattle.expr_eval.proofs.Imports.{kind_of, map, take, type_of, value_of, values, ◌≡◌}
 use Rattle.expr_eval.proofs.items.eval_items.Given as goal
 
 abbrev pub invariant-loop-item : goal.invariant-loop-item

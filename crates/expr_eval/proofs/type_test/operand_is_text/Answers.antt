@@ -1,4 +1,4 @@
-use Rattle.query_model.proofs.Typed.{IsWithin_of_typed}
+use Rattle.expr_eval.proofs.Imports.{IsWithin_of_typed}
 use Rattle.expr_eval.proofs.type_test.operand_is_text.Goals as goal
 
 pub expr_type-requires : goal.expr_type-requires

@@ -1,5 +1,4 @@
-use Rattle.std.proofs.Common.{◌≡◌, rules, true, get_or, sym, ap, ◌∙◌}
-use Rattle.port_word.specs.Actions.{is_want}
+use Rattle.port_word.proofs.Imports.{ap, get_or, is_want, rules, sym, true, ◌∙◌, ◌≡◌}
 use Rattle.port_word.proofs.Slots.{noted_want-found}
 use Rattle.port_word.proofs.notes.want_place.Goals as goal
 

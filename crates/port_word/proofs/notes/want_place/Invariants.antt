@@ -1,5 +1,4 @@
-use Rattle.std.proofs.Common.{◌≡◌, ◌++◌, Bool, take, drop}
-use Rattle.port_word.specs.Actions.{noted_want}
+use Rattle.port_word.proofs.Imports.{Bool, drop, noted_want, take, ◌++◌, ◌≡◌}
 use Rattle.port_word.proofs.notes.want_place.Given as goal
 
 abbrev pub invariant-loop-k : goal.invariant-loop-k

@@ -1,5 +1,4 @@
-use Rattle.std.proofs.Common.{◌≡◌, ◌≤◌, ◌++◌, replicate, vec_capacity}
-use Rattle.port_word.specs.Pictures.{new_input}
+use Rattle.port_word.proofs.Imports.{new_input, replicate, vec_capacity, ◌++◌, ◌≡◌, ◌≤◌}
 use Rattle.port_word.proofs.port_view.add_inputs.Given as goal
 
 abbrev pub invariant-loop-i : goal.invariant-loop-i

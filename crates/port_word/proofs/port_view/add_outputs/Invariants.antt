@@ -1,5 +1,4 @@
-use Rattle.std.proofs.Common.{◌≡◌, ◌≤◌, ◌++◌, replicate, vec_capacity}
-use Rattle.port_word.specs.Pictures.{no_flags}
+use Rattle.port_word.proofs.Imports.{no_flags, replicate, vec_capacity, ◌++◌, ◌≡◌, ◌≤◌}
 use Rattle.port_word.proofs.port_view.add_outputs.Given as goal
 
 abbrev pub invariant-loop-o : goal.invariant-loop-o

@@ -1,4 +1,4 @@
-use Rattle.std.proofs.Common.{sym, ◌∙◌}
+use Rattle.query_model.proofs.Imports.{sym, ◌∙◌}
 use Rattle.query_model.proofs.Accepted.{refusal_is_due}
 use Rattle.query_model.proofs.analysis.analysed.Goals as goal
 

@@ -1,6 +1,4 @@
-use Rattle.std.proofs.Common.{◌≡◌, List, flat_map, ◌∙◌, refl, Option, Some, None}
-use Rattle.std.proofs.lemmas.List.{append-nil}
-use Rattle.query_model.specs.Names.{BothOrNone, IsCheckedJoin, FromColumn, table_columns, join_tables, from_columns, IsPlacedJoin, Join, Query, Schema, CheckedJoin}
+use Rattle.query_model.proofs.Imports.{BothOrNone, CheckedJoin, FromColumn, IsCheckedJoin, IsPlacedJoin, Join, List, None, Option, Query, Schema, Some, append-nil, flat_map, from_columns, join_tables, refl, table_columns, ◌∙◌, ◌≡◌}
 use Rattle.query_model.proofs.Accepted.{accepted, narrow, narrow_sides, ungrouped_items, are_keys}
 use Rattle.query_model.proofs.TypedGroups.{checked_is_typed}
 use Rattle.query_model.proofs.analysis.checked_query.Goals as goal

@@ -1,7 +1,4 @@
-use Rattle.std.proofs.Common.{ap}
-use Rattle.std.proofs.lemmas.Int.{wrapping_sub_is}
-use mir.Syntax.{w64}
-use Rattle.query_model.specs.Numbers.{wrapped}
+use Rattle.query_model.proofs.Imports.{ap, w64, wrapped, wrapping_sub_is}
 use Rattle.chunk_data.specs.declared.typed_value.Value.TheVariants as value
 use Rattle.query_model.proofs.arithmetic.sub_int.Goals as goal
 

@@ -1,6 +1,4 @@
-use Rattle.std.proofs.Common.{ap, sym, ◌∙◌}
-use Rattle.std.proofs.lemmas.Int.{to_z-of_z}
-use mir.Syntax.{w64}
+use Rattle.query_model.proofs.Imports.{ap, sym, to_z-of_z, w64, ◌∙◌}
 use Rattle.chunk_data.specs.declared.typed_value.Value.TheVariants as value
 use Rattle.query_model.proofs.Wrapping.{wrapped-difference}
 use Rattle.query_model.proofs.arithmetic.sub_uint.Goals as goal

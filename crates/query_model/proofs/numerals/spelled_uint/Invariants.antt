@@ -1,5 +1,4 @@
-use Rattle.std.proofs.Common.{◌≡◌, ◌^◌, drop}
-use Rattle.query_model.specs.Names.{numeral_below, with_digits}
+use Rattle.query_model.proofs.Imports.{drop, numeral_below, with_digits, ◌^◌, ◌≡◌}
 use Rattle.query_model.proofs.numerals.spelled_uint.Given as goal
 
 abbrev pub invariant-loop-b : goal.invariant-loop-b

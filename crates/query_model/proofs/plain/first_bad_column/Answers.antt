@@ -1,5 +1,4 @@
-use Rattle.std.proofs.Common.{◌≡◌, ◌+◌, ◌<◌, cond, length, drop, refl, ap, sym, ◌∙◌, arith}
-use Rattle.query_model.specs.Parts.{bad_column}
+use Rattle.query_model.proofs.Imports.{ap, arith, bad_column, cond, drop, length, refl, sym, ◌+◌, ◌<◌, ◌∙◌, ◌≡◌}
 use Rattle.query_model.proofs.Reading.{bad_column-step, bad_column-end}
 use Rattle.query_model.proofs.plain.first_bad_column.Goals as goal
 

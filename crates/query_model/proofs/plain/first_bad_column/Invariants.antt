@@ -1,5 +1,4 @@
-use Rattle.std.proofs.Common.{◌≡◌, ◌+◌, drop}
-use Rattle.query_model.specs.Parts.{bad_column}
+use Rattle.query_model.proofs.Imports.{bad_column, drop, ◌+◌, ◌≡◌}
 use Rattle.query_model.proofs.plain.first_bad_column.Given as goal
 
 abbrev pub invariant-loop-i : goal.invariant-loop-i

@@ -1,4 +1,4 @@
-use Rattle.std.proofs.Common.{◌++◌, ◌∷◌, [], ap, ◌∙◌}
+use Rattle.query_model.proofs.Imports.{[], ap, ◌++◌, ◌∙◌, ◌∷◌}
 use Rattle.query_model.proofs.TextLaws.{quoted-more, quoted-whole}
 use Rattle.query_model.proofs.plain.quoted_text.Goals as goal
 

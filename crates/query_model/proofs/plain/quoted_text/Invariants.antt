@@ -1,5 +1,4 @@
-use Rattle.std.proofs.Common.{◌≡◌, ◌∷◌, flat_map, take}
-use Rattle.query_model.specs.Texts.{doubled}
+use Rattle.query_model.proofs.Imports.{doubled, flat_map, take, ◌∷◌, ◌≡◌}
 use Rattle.query_model.proofs.plain.quoted_text.Given as goal
 
 abbrev pub invariant-loop-byte : goal.invariant-loop-byte

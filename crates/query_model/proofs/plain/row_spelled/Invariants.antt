@@ -1,5 +1,4 @@
-use Rattle.std.proofs.Common.{◌≡◌, length}
-use Rattle.query_model.specs.Parts.{SpelledFront}
+use Rattle.query_model.proofs.Imports.{SpelledFront, length, ◌≡◌}
 use Rattle.query_model.proofs.plain.row_spelled.Given as goal
 
 abbrev pub invariant-loop-i : goal.invariant-loop-i

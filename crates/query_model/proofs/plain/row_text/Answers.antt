@@ -1,5 +1,4 @@
-use Rattle.std.proofs.Common.{ap, ap₂, ◌++◌, ◌∷◌, [], sym, ◌∙◌}
-use Rattle.query_model.specs.Texts.{separator, value_text}
+use Rattle.query_model.proofs.Imports.{[], ap, ap₂, separator, sym, value_text, ◌++◌, ◌∙◌, ◌∷◌}
 use Rattle.query_model.proofs.TextLaws.{row_front-more, row_front-whole}
 use Rattle.query_model.proofs.plain.row_text.Goals as goal
 

@@ -1,5 +1,4 @@
-use Rattle.std.proofs.Common.{◌≡◌}
-use Rattle.query_model.specs.Texts.{row_front}
+use Rattle.query_model.proofs.Imports.{row_front, ◌≡◌}
 use Rattle.query_model.proofs.plain.row_text.Given as goal
 
 abbrev pub invariant-loop-i : goal.invariant-loop-i

@@ -1,5 +1,4 @@
-use Rattle.std.proofs.Common.{ap, ap₂, ◌++◌, sym, ◌∙◌}
-use Rattle.query_model.specs.Texts.{row_text}
+use Rattle.query_model.proofs.Imports.{ap, ap₂, row_text, sym, ◌++◌, ◌∙◌}
 use Rattle.query_model.proofs.TextLaws.{rows_text-take, rows_text-whole}
 use Rattle.query_model.proofs.plain.rows_text.Goals as goal
 

@@ -1,5 +1,4 @@
-use Rattle.std.proofs.Common.{◌≡◌, take}
-use Rattle.query_model.specs.Texts.{rows_text}
+use Rattle.query_model.proofs.Imports.{rows_text, take, ◌≡◌}
 use Rattle.query_model.proofs.plain.rows_text.Given as goal
 
 abbrev pub invariant-loop-row : goal.invariant-loop-row

@@ -1,4 +1,4 @@
-use Rattle.std.proofs.Common.{arith, ap, ◌∙◌, length, ◌++◌, ◌∷◌, [], length-append}
+use Rattle.task_queue.proofs.Imports.{[], ap, arith, length, length-append, ◌++◌, ◌∙◌, ◌∷◌}
 use Rattle.task_queue.proofs.SlotValues.{values-back, values-back_none}
 use Rattle.task_queue.proofs.layout.give_back.Goals as goal
 

@@ -1,5 +1,4 @@
-use Rattle.std.proofs.Common.{◌≡◌, ◌≤◌, ◌+◌, ◌++◌, reverse, length, vec_capacity}
-use Rattle.task_queue.specs.Values.{values_of}
+use Rattle.task_queue.proofs.Imports.{length, reverse, values_of, vec_capacity, ◌++◌, ◌+◌, ◌≡◌, ◌≤◌}
 use Rattle.task_queue.proofs.layout.give_back.Given as goal
 
 abbrev pub invariant-loop-slot : goal.invariant-loop-slot

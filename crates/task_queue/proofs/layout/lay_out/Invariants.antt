@@ -1,4 +1,4 @@
-use Rattle.std.proofs.Common.{◌≡◌, ◌≤◌, ◌+◌, ◌++◌, map, reverse, length, Some, vec_capacity}
+use Rattle.task_queue.proofs.Imports.{Some, length, map, reverse, vec_capacity, ◌++◌, ◌+◌, ◌≡◌, ◌≤◌}
 use Rattle.task_queue.proofs.layout.lay_out.Given as goal
 
 abbrev pub invariant-loop-value : goal.invariant-loop-value

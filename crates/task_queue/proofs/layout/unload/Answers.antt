@@ -1,10 +1,4 @@
-use Rattle.std.proofs.Common.{◌≡◌, arith, sym, ap, ◌∙◌, length, length-append, ◌∷◌, [], Some, None, set, get_or, true, false, get_or-set_same, get_or-set_other, subst}
-use mathlib.Core.Logic.{dite}
-use mathlib.Core.Option.{some-injective}
-use native.Mathlib.Decide.{ℕ_discrete}
-use lib.ListN.{get_elem?}
-use Rattle.std.specs.Slots.{slots_filled, slots_counts}
-use Rattle.task_queue.specs.Values.{AllFit}
+use Rattle.task_queue.proofs.Imports.{AllFit, None, Some, [], ap, arith, dite, false, get_elem?, get_or, get_or-set_other, get_or-set_same, length, length-append, set, slots_counts, slots_filled, some-injective, subst, sym, true, ℕ_discrete, ◌∙◌, ◌∷◌, ◌≡◌}
 use Rattle.task_queue.proofs.SlotValues.{AllFit-push}
 use Rattle.task_queue.proofs.layout.unload.Goals as goal
 

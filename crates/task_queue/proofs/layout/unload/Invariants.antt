@@ -1,7 +1,4 @@
-use Rattle.std.proofs.Common.{◌≡◌, ◌<◌, ℕ, false, length, get_or, vec_capacity}
-use Rattle.std.specs.Slots.{slots_items, slots_len, slots_filled}
-use Rattle.std.specs.Slots.Ownership.{Filled}
-use Rattle.task_queue.specs.Values.{AllFit}
+use Rattle.task_queue.proofs.Imports.{AllFit, Filled, false, get_or, length, slots_filled, slots_items, slots_len, vec_capacity, ℕ, ◌<◌, ◌≡◌}
 use Rattle.task_queue.proofs.layout.unload.Given as goal
 
 abbrev pub invariant-loop-i : goal.invariant-loop-i

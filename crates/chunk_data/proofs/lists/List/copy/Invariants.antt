@@ -1,4 +1,4 @@
-use Rattle.std.proofs.Common.{◌≡◌, take}
+use Rattle.chunk_data.proofs.Imports.{take, ◌≡◌}
 use Rattle.chunk_data.proofs.lists.List.copy.Given as goal
 
 abbrev pub invariant-loop-item : goal.invariant-loop-item

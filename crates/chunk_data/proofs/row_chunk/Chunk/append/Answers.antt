@@ -1,4 +1,4 @@
-use Rattle.std.proofs.Common.{ap}
+use Rattle.chunk_data.proofs.Imports.{ap}
 use Rattle.chunk_data.proofs.Chunks.{taken_step}
 use Rattle.chunk_data.proofs.row_chunk.Chunk.append.Goals as goal
 

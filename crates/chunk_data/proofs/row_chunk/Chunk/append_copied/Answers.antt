@@ -1,5 +1,4 @@
-use Rattle.std.proofs.Common.{arith, ap, sym, ◌∙◌, ◌≡◌}
-use Rattle.chunk_data.specs.Columns.{AreColumns}
+use Rattle.chunk_data.proofs.Imports.{AreColumns, ap, arith, sym, ◌∙◌, ◌≡◌}
 use Rattle.chunk_data.proofs.Chunks.{joined_step, appended}
 use Rattle.chunk_data.proofs.row_chunk.Chunk.append_copied.Goals as goal
 

@@ -1,4 +1,4 @@
-use Rattle.std.proofs.Common.{◌∙◌}
+use Rattle.chunk_data.proofs.Imports.{◌∙◌}
 use Rattle.chunk_data.proofs.Chunks.{appended, beside_long, beside_kinds, beside_rows}
 use Rattle.chunk_data.proofs.row_chunk.Chunk.beside.Goals as goal
 

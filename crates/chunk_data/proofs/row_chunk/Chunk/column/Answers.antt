@@ -1,6 +1,4 @@
-use Rattle.std.proofs.Common.{arith, ap, ◌∙◌, map, length}
-use Rattle.std.proofs.lemmas.List.{length-map}
-use Rattle.chunk_data.specs.Names.{value_at, kind_of, values}
+use Rattle.chunk_data.proofs.Imports.{ap, arith, kind_of, length, length-map, map, value_at, values, ◌∙◌}
 use Rattle.chunk_data.proofs.Chunks.{column_of}
 use Rattle.chunk_data.proofs.row_chunk.Chunk.column.Goals as goal
 

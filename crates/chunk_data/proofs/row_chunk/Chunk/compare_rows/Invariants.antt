@@ -1,5 +1,4 @@
-use Rattle.std.proofs.Common.{◌≡◌, drop}
-use Rattle.chunk_data.specs.Names.{row_cmp, row_at}
+use Rattle.chunk_data.proofs.Imports.{drop, row_at, row_cmp, ◌≡◌}
 use Rattle.chunk_data.proofs.row_chunk.Chunk.compare_rows.Given as goal
 
 abbrev pub invariant-loop-key : goal.invariant-loop-key

@@ -1,5 +1,4 @@
-use Rattle.std.proofs.Common.{ap, sym, ◌∙◌, ◌≡◌, length, map}
-use Rattle.chunk_data.specs.Rows.{row_at}
+use Rattle.chunk_data.proofs.Imports.{ap, length, map, row_at, sym, ◌∙◌, ◌≡◌}
 use Rattle.chunk_data.proofs.Chunks.{places_step, length_rows}
 use Rattle.chunk_data.proofs.row_chunk.Chunk.gather.Goals as goal
 

@@ -1,5 +1,4 @@
-use Rattle.std.proofs.Common.{arith, ap, sym, ◌∙◌, length, ◌≡◌}
-use Rattle.chunk_data.specs.Rows.{kept}
+use Rattle.chunk_data.proofs.Imports.{ap, arith, kept, length, sym, ◌∙◌, ◌≡◌}
 use Rattle.chunk_data.proofs.Chunks.{kept_step, length_rows}
 use Rattle.chunk_data.proofs.row_chunk.Chunk.keep.Goals as goal
 

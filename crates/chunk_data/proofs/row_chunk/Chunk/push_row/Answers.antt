@@ -1,5 +1,4 @@
-use Rattle.std.proofs.Common.{arith, ap, sym, ◌∙◌, subst, ◌++◌, ◌∷◌, []}
-use Rattle.chunk_data.specs.Values.{FitsTypes}
+use Rattle.chunk_data.proofs.Imports.{FitsTypes, [], ap, arith, subst, sym, ◌++◌, ◌∙◌, ◌∷◌}
 use Rattle.chunk_data.proofs.Chunks.{push_step}
 use Rattle.chunk_data.proofs.row_chunk.Chunk.push_row.Goals as goal
 

@@ -1,4 +1,4 @@
-use Rattle.std.proofs.Common.{arith, ap, ◌∙◌, drop}
+use Rattle.chunk_data.proofs.Imports.{ap, arith, drop, ◌∙◌}
 use Rattle.chunk_data.proofs.Chunks.{rest_step_at}
 use Rattle.chunk_data.proofs.row_chunk.Chunk.remove_front.Goals as goal
 

@@ -1,5 +1,4 @@
-use Rattle.std.proofs.Common.{arith, ap, sym, ◌∙◌, ◌≡◌, length, map}
-use Rattle.chunk_data.specs.Names.{value_at, values, row_at}
+use Rattle.chunk_data.proofs.Imports.{ap, arith, length, map, row_at, sym, value_at, values, ◌∙◌, ◌≡◌}
 use Rattle.chunk_data.proofs.Chunks.{length_rows}
 use Rattle.chunk_data.proofs.Rows.{row_of-rows_of}
 use Rattle.chunk_data.proofs.row_chunk.Chunk.row.Goals as goal

@@ -1,4 +1,4 @@
-use Rattle.std.proofs.Common.{arith, ap, sym, ◌∙◌, ◌≡◌, length, take, drop}
+use Rattle.chunk_data.proofs.Imports.{ap, arith, drop, length, sym, take, ◌∙◌, ◌≡◌}
 use Rattle.chunk_data.proofs.Chunks.{front_step, rest_step, length_rows}
 use Rattle.chunk_data.proofs.row_chunk.Chunk.split_front.Goals as goal
 

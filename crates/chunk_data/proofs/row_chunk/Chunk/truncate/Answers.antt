@@ -1,5 +1,4 @@
-use Rattle.std.proofs.Common.{arith, ap, sym, ◌∙◌, ◌≡◌, length, take}
-use Rattle.std.proofs.lemmas.List.{take_all}
+use Rattle.chunk_data.proofs.Imports.{ap, arith, length, sym, take, take_all, ◌∙◌, ◌≡◌}
 use Rattle.chunk_data.proofs.Chunks.{left_step, length_rows}
 use Rattle.chunk_data.proofs.row_chunk.Chunk.truncate.Goals as goal
 

@@ -1,4 +1,4 @@
-use Rattle.std.proofs.Common.{arith, length, ◌≤◌, ◌+◌, get_or}
+use Rattle.chunk_data.proofs.Imports.{arith, get_or, length, ◌+◌, ◌≤◌}
 use Rattle.chunk_data.proofs.Cuts.{ends_below}
 use Rattle.chunk_data.proofs.text_column.Texts.append.Goals as goal
 

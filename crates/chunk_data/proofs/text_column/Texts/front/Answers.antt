@@ -1,5 +1,4 @@
-use Rattle.std.proofs.Common.{◌≡◌, length, ap, sym, ◌∙◌, arith}
-use Rattle.std.proofs.lemmas.List.{take_all}
+use Rattle.chunk_data.proofs.Imports.{ap, arith, length, sym, take_all, ◌∙◌, ◌≡◌}
 use Rattle.chunk_data.proofs.Cuts.{length-cut}
 use Rattle.chunk_data.proofs.text_column.Texts.front.Goals as goal
 

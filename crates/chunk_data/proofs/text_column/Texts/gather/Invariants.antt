@@ -1,4 +1,4 @@
-use Rattle.std.proofs.Common.{◌≡◌, [], map, take, slice_index_or}
+use Rattle.chunk_data.proofs.Imports.{[], map, slice_index_or, take, ◌≡◌}
 use Rattle.chunk_data.proofs.text_column.Texts.gather.Given as goal
 
 abbrev pub invariant-loop-place : goal.invariant-loop-place

@@ -1,4 +1,4 @@
-use Rattle.std.proofs.Common.{pos, []}
+use Rattle.chunk_data.proofs.Imports.{[], pos}
 use Rattle.chunk_data.proofs.Cells.{places_of}
 use Rattle.chunk_data.proofs.typed_column.Column.gather.Goals as goal
 

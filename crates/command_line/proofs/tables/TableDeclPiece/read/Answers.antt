@@ -1,4 +1,4 @@
-use Rattle.std.proofs.Common.{◌≡◌, IfOk, subst}
+use Rattle.command_line.proofs.Imports.{IfOk, subst, ◌≡◌}
 use Rattle.command_line.proofs.TableLaws.{declared}
 use Rattle.command_line.proofs.tables.TableDeclPiece.read.Goals as goal
 

@@ -1,4 +1,4 @@
-use Rattle.port_word.specs.Pictures.{Picture}
+use Rattle.port_word.proofs.Imports.{Picture}
 use Rattle.port_word.proofs.Fitting.{input-in-range, room-close, fits-close}
 use Rattle.port_word.proofs.port_view.PortView.close.Goals as goal
 

@@ -1,5 +1,4 @@
-use Rattle.std.proofs.Common.{rules, arith, ◌≡◌, ◌≤◌, ◌-◌, length}
-use Rattle.port_word.specs.Pictures.{Picture}
+use Rattle.port_word.proofs.Imports.{Picture, arith, length, rules, ◌-◌, ◌≡◌, ◌≤◌}
 use Rattle.port_word.proofs.Fitting.{fits-grown, inputs-below, outputs-below}
 use Rattle.port_word.proofs.port_view.PortView.grow.Goals as goal
 

@@ -1,4 +1,4 @@
-use Rattle.port_word.specs.Pictures.{Picture}
+use Rattle.port_word.proofs.Imports.{Picture}
 use Rattle.port_word.proofs.Fitting.{output-in-range, room-push, fits-push}
 use Rattle.port_word.proofs.port_view.PortView.push.Goals as goal
 

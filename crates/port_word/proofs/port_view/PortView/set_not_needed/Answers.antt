@@ -1,5 +1,4 @@
-use Rattle.std.proofs.Common.{false}
-use Rattle.port_word.specs.Pictures.{Picture}
+use Rattle.port_word.proofs.Imports.{Picture, false}
 use Rattle.port_word.proofs.Fitting.{input-in-range, room-want, fits-want}
 use Rattle.port_word.proofs.port_view.PortView.set_not_needed.Goals as goal
 

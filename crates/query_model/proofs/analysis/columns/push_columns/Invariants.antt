@@ -1,5 +1,4 @@
-use Rattle.std.proofs.Common.{◌≡◌, ◌++◌, take, map}
-use Rattle.query_model.specs.Refusals.{declared_column}
+use Rattle.query_model.proofs.Imports.{declared_column, map, take, ◌++◌, ◌≡◌}
 use Rattle.query_model.proofs.analysis.columns.push_columns.Given as goal
 
 abbrev pub invariant-loop-column : goal.invariant-loop-column

@@ -1,6 +1,4 @@
-use Rattle.std.proofs.Common.{◌≡◌, length}
-use Rattle.query_model.specs.Refusals.{table_columns}
-use Rattle.query_model.specs.declared.query.TableRef.TheVariants.{Named}
+use Rattle.query_model.proofs.Imports.{Named, length, table_columns, ◌≡◌}
 use Rattle.query_model.proofs.analysis.columns.push_declared.Given as goal
 
 abbrev pub invariant-loop-schema : goal.invariant-loop-schema

@@ -1,5 +1,4 @@
-use Rattle.std.proofs.Common.{◌+◌, cond, ap, ◌∙◌}
-use Rattle.query_model.specs.Placing.{is_call_item}
+use Rattle.query_model.proofs.Imports.{ap, cond, is_call_item, ◌+◌, ◌∙◌}
 use Rattle.query_model.proofs.CallLaws.{one_more_counted}
 use Rattle.query_model.proofs.analysis.groups.count_item_calls.Goals as goal
 

@@ -1,5 +1,4 @@
-use Rattle.std.proofs.Common.{◌≡◌, length, filter, take}
-use Rattle.query_model.specs.Placing.{is_call_item}
+use Rattle.query_model.proofs.Imports.{filter, is_call_item, length, take, ◌≡◌}
 use Rattle.query_model.proofs.analysis.groups.count_item_calls.Given as goal
 
 abbrev pub invariant-loop-item : goal.invariant-loop-item

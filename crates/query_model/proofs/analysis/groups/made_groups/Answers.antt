@@ -1,5 +1,4 @@
-use Rattle.std.proofs.Common.{◌≡◌, ◌+◌, ◌++◌, [], length, flat_map, map, ap, ◌∙◌, subst, refl, arith}
-use Rattle.query_model.specs.Names.{BothOrNone, IsPlacedCond, ArePicks, item_calls, calls_of, listed, operands_of, place_in, key_place, Item}
+use Rattle.query_model.proofs.Imports.{ArePicks, BothOrNone, IsPlacedCond, Item, [], ap, arith, calls_of, flat_map, item_calls, key_place, length, listed, map, operands_of, place_in, refl, subst, ◌++◌, ◌+◌, ◌∙◌, ◌≡◌}
 use Rattle.query_model.proofs.CallLaws.{length_added, both_added, added_to_none}
 use Rattle.query_model.proofs.analysis.groups.made_groups.Goals as goal
 

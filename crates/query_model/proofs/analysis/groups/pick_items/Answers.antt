@@ -1,7 +1,4 @@
-use Rattle.std.proofs.Common.{◌≡◌, ◌+◌, ◌++◌, ◌∷◌, [], length, take, flat_map, ap, sym, ◌∙◌, arith}
-use Rattle.std.proofs.lemmas.List.{take_more, append-nil}
-use Rattle.std.proofs.lemmas.Grind.{flat_map-append}
-use Rattle.query_model.specs.Names.{item_calls, key_place, Item}
+use Rattle.query_model.proofs.Imports.{Item, [], ap, append-nil, arith, flat_map, flat_map-append, item_calls, key_place, length, sym, take, take_more, ◌++◌, ◌+◌, ◌∙◌, ◌∷◌, ◌≡◌}
 use Rattle.query_model.proofs.CallLaws.{length_added, both_added, picks_last}
 use Rattle.query_model.proofs.analysis.groups.pick_items.Goals as goal
 

@@ -1,5 +1,4 @@
-use Rattle.std.proofs.Common.{◌+◌, length, take, flat_map}
-use Rattle.query_model.specs.Names.{ArePicks, item_calls, key_place, AreAdded, Item}
+use Rattle.query_model.proofs.Imports.{AreAdded, ArePicks, Item, flat_map, item_calls, key_place, length, take, ◌+◌}
 use Rattle.query_model.proofs.analysis.groups.pick_items.Given as goal
 
 abbrev pub invariant-loop-item : goal.invariant-loop-item

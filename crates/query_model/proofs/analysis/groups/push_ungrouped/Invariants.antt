@@ -1,5 +1,4 @@
-use Rattle.std.proofs.Common.{◌≡◌, ◌++◌, take, flat_map}
-use Rattle.query_model.specs.Names.{not_keys, is_key_of, Item}
+use Rattle.query_model.proofs.Imports.{Item, flat_map, is_key_of, not_keys, take, ◌++◌, ◌≡◌}
 use Rattle.query_model.proofs.analysis.groups.push_ungrouped.Given as goal
 
 abbrev pub invariant-loop-item : goal.invariant-loop-item

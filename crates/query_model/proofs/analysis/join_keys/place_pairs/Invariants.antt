@@ -1,5 +1,4 @@
-use Rattle.std.proofs.Common.{◌≡◌, take, map}
-use Rattle.query_model.specs.Checks.{pair_of}
+use Rattle.query_model.proofs.Imports.{map, pair_of, take, ◌≡◌}
 use Rattle.query_model.proofs.analysis.join_keys.place_pairs.Given as goal
 
 abbrev pub invariant-loop-pair : goal.invariant-loop-pair

@@ -1,5 +1,4 @@
-use Rattle.std.proofs.Common.{ap, sym, ◌∙◌}
-use Rattle.query_model.specs.Refusals.{same_column}
+use Rattle.query_model.proofs.Imports.{ap, same_column, sym, ◌∙◌}
 use Rattle.query_model.proofs.PlaceLaws.{place_found, place_at_end}
 use Rattle.query_model.proofs.analysis.names.key_place.Goals as goal
 

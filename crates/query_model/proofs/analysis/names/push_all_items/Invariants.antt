@@ -1,5 +1,4 @@
-use Rattle.std.proofs.Common.{◌≡◌, ◌++◌, take, flat_map}
-use Rattle.query_model.specs.Names.{item_columns, Item}
+use Rattle.query_model.proofs.Imports.{Item, flat_map, item_columns, take, ◌++◌, ◌≡◌}
 use Rattle.query_model.proofs.analysis.names.push_all_items.Given as goal
 
 abbrev pub invariant-loop-item : goal.invariant-loop-item

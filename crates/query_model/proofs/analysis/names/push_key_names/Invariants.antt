@@ -1,4 +1,4 @@
-use Rattle.std.proofs.Common.{◌≡◌, ◌++◌, take}
+use Rattle.query_model.proofs.Imports.{take, ◌++◌, ◌≡◌}
 use Rattle.query_model.proofs.analysis.names.push_key_names.Given as goal
 
 abbrev pub invariant-loop-key : goal.invariant-loop-key

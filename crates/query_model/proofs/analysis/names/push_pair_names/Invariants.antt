@@ -1,5 +1,4 @@
-use Rattle.std.proofs.Common.{◌≡◌, ◌++◌, ◌∷◌, [], take, flat_map}
-use Rattle.query_model.specs.declared.query.NamePair.{NamePair}
+use Rattle.query_model.proofs.Imports.{NamePair, [], flat_map, take, ◌++◌, ◌∷◌, ◌≡◌}
 use Rattle.query_model.proofs.analysis.names.push_pair_names.Given as goal
 
 abbrev pub invariant-loop-pair : goal.invariant-loop-pair

@@ -1,5 +1,4 @@
-use Rattle.std.proofs.Common.{◌≡◌, length}
-use Rattle.query_model.specs.Placing.{order_refusal}
+use Rattle.query_model.proofs.Imports.{length, order_refusal, ◌≡◌}
 use Rattle.query_model.proofs.analysis.ordering.bad_order_key.Given as goal
 
 abbrev pub invariant-loop-key : goal.invariant-loop-key

@@ -1,6 +1,4 @@
-use Rattle.std.proofs.Common.{◌≡◌, take, false}
-use Rattle.std.specs.Prelude.{bytes_eq}
-use Rattle.std.specs.List.{list_any}
+use Rattle.query_model.proofs.Imports.{bytes_eq, false, list_any, take, ◌≡◌}
 use Rattle.query_model.proofs.analysis.ordering.name_place.Given as goal
 
 abbrev pub invariant-loop-i : goal.invariant-loop-i

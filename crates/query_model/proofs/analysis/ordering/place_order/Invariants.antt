@@ -1,5 +1,4 @@
-use Rattle.std.proofs.Common.{◌≡◌, map, take}
-use Rattle.query_model.specs.Placing.{sort_key}
+use Rattle.query_model.proofs.Imports.{map, sort_key, take, ◌≡◌}
 use Rattle.query_model.proofs.analysis.ordering.place_order.Given as goal
 
 abbrev pub invariant-loop-key : goal.invariant-loop-key

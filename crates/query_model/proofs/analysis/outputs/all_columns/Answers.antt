@@ -1,5 +1,4 @@
-use Rattle.std.proofs.Common.{sym, subst, take, ◌+◌}
-use Rattle.query_model.specs.Checks.{AreColumnsFrom}
+use Rattle.query_model.proofs.Imports.{AreColumnsFrom, subst, sym, take, ◌+◌}
 use Rattle.query_model.proofs.Placed.{columns_more}
 use Rattle.query_model.proofs.analysis.outputs.all_columns.Goals as goal
 

@@ -1,5 +1,4 @@
-use Rattle.std.proofs.Common.{take}
-use Rattle.query_model.specs.Checks.{AreColumnsFrom}
+use Rattle.query_model.proofs.Imports.{AreColumnsFrom, take}
 use Rattle.query_model.proofs.analysis.outputs.all_columns.Given as goal
 
 abbrev pub invariant-loop-i : goal.invariant-loop-i

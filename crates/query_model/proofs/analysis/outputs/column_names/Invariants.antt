@@ -1,5 +1,4 @@
-use Rattle.std.proofs.Common.{◌≡◌, map, take}
-use Rattle.query_model.specs.Refusals.{FromColumn}
+use Rattle.query_model.proofs.Imports.{FromColumn, map, take, ◌≡◌}
 use Rattle.query_model.proofs.analysis.outputs.column_names.Given as goal
 
 abbrev pub invariant-loop-column : goal.invariant-loop-column

@@ -1,5 +1,4 @@
-use Rattle.std.proofs.Common.{◌≡◌, take}
-use Rattle.query_model.specs.Placing.{types_of}
+use Rattle.query_model.proofs.Imports.{take, types_of, ◌≡◌}
 use Rattle.query_model.proofs.analysis.outputs.column_types.Given as goal
 
 abbrev pub invariant-loop-column : goal.invariant-loop-column

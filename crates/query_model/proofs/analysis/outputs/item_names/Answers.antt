@@ -1,6 +1,4 @@
-use Rattle.std.proofs.Common.{◌≡◌, ◌+◌, ◌++◌, ◌∷◌, [], length, take, ap, ap₂, sym, ◌∙◌, arith}
-use Rattle.std.proofs.lemmas.List.{take_more}
-use Rattle.query_model.specs.Names.{item_names, Item}
+use Rattle.query_model.proofs.Imports.{Item, [], ap, ap₂, arith, item_names, length, sym, take, take_more, ◌++◌, ◌+◌, ◌∙◌, ◌∷◌, ◌≡◌}
 use Rattle.query_model.proofs.Placed.{names_last, length-item_names}
 use Rattle.query_model.proofs.analysis.outputs.item_names.Goals as goal
 

@@ -1,5 +1,4 @@
-use Rattle.std.proofs.Common.{◌≡◌, take}
-use Rattle.query_model.specs.Refusals.{item_names}
+use Rattle.query_model.proofs.Imports.{item_names, take, ◌≡◌}
 use Rattle.query_model.proofs.analysis.outputs.item_names.Given as goal
 
 abbrev pub invariant-loop-item : goal.invariant-loop-item

@@ -1,5 +1,4 @@
-use Rattle.std.proofs.Common.{◌≡◌, map, take}
-use Rattle.query_model.specs.Names.{item_kind, known_type, Item}
+use Rattle.query_model.proofs.Imports.{Item, item_kind, known_type, map, take, ◌≡◌}
 use Rattle.query_model.proofs.analysis.outputs.item_types.Given as goal
 
 abbrev pub invariant-loop-item : goal.invariant-loop-item

@@ -1,6 +1,4 @@
-use Rattle.std.proofs.Common.{◌≡◌, ◌+◌, length, flat_map, subst, arith}
-use Rattle.std.proofs.lemmas.Grind.{flat_map-append}
-use Rattle.query_model.specs.Names.{cond_operands, IsPlacedCond, calls_of, place_by}
+use Rattle.query_model.proofs.Imports.{IsPlacedCond, arith, calls_of, cond_operands, flat_map, flat_map-append, length, place_by, subst, ◌+◌, ◌≡◌}
 use Rattle.query_model.proofs.CallLaws.{length_added, both_added}
 use Rattle.query_model.proofs.analysis.placing.+place_cond.Goals as goal
 

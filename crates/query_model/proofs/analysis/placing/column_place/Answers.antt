@@ -1,5 +1,4 @@
-use Rattle.std.proofs.Common.{arith}
-use Rattle.query_model.specs.Refusals.{means}
+use Rattle.query_model.proofs.Imports.{arith, means}
 use Rattle.query_model.proofs.PlaceLaws.{place_of-le}
 use Rattle.query_model.proofs.analysis.placing.column_place.Goals as goal
 

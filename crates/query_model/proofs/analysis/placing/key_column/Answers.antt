@@ -1,5 +1,4 @@
-use Rattle.std.proofs.Common.{arith}
-use Rattle.query_model.specs.Refusals.{same_column}
+use Rattle.query_model.proofs.Imports.{arith, same_column}
 use Rattle.query_model.proofs.PlaceLaws.{place_of-le}
 use Rattle.query_model.proofs.analysis.placing.key_column.Goals as goal
 

@@ -1,5 +1,4 @@
-use Rattle.std.proofs.Common.{◌≡◌, take, map}
-use Rattle.query_model.specs.Placing.{place_in}
+use Rattle.query_model.proofs.Imports.{map, place_in, take, ◌≡◌}
 use Rattle.query_model.proofs.analysis.placing.place_columns.Given as goal
 
 abbrev pub invariant-loop-name : goal.invariant-loop-name

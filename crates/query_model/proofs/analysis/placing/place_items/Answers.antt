@@ -1,5 +1,4 @@
-use Rattle.std.proofs.Common.{subst}
-use Rattle.query_model.specs.Names.{Expr, IsPlacedItem, place_in, Item}
+use Rattle.query_model.proofs.Imports.{Expr, IsPlacedItem, Item, place_in, subst}
 use Rattle.query_model.proofs.Placed.{each_more}
 use Rattle.query_model.proofs.analysis.placing.place_items.Goals as goal
 

@@ -1,5 +1,4 @@
-use Rattle.std.proofs.Common.{take}
-use Rattle.query_model.specs.Names.{EachWith, IsPlacedItem, place_in}
+use Rattle.query_model.proofs.Imports.{EachWith, IsPlacedItem, place_in, take}
 use Rattle.query_model.proofs.analysis.placing.place_items.Given as goal
 
 abbrev pub invariant-loop-item : goal.invariant-loop-item

@@ -1,6 +1,4 @@
-use Rattle.std.proofs.Common.{ap, sym, ◌∙◌}
-use Rattle.std.specs.Prelude.{bytes_eq}
-use Rattle.query_model.specs.declared.query.Schema.{Schema}
+use Rattle.query_model.proofs.Imports.{Schema, ap, bytes_eq, sym, ◌∙◌}
 use Rattle.query_model.proofs.PlaceLaws.{place_found, place_at_end}
 use Rattle.query_model.proofs.analysis.placing.schema_place.Goals as goal
 

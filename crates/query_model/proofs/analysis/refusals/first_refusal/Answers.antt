@@ -1,6 +1,4 @@
-use Rattle.std.proofs.Common.{◌≡◌, sym, subst, ◌∙◌, Option}
-use Rattle.std.specs.Prelude.{IfOk}
-use Rattle.query_model.specs.declared.query.Refusal.{Refusal}
+use Rattle.query_model.proofs.Imports.{IfOk, Option, Refusal, subst, sym, ◌∙◌, ◌≡◌}
 use Rattle.query_model.proofs.Accepted.{over_from, table_is_first, name_is_first, pair_is_first, later_is_first}
 use Rattle.query_model.proofs.analysis.refusals.first_refusal.Goals as goal
 

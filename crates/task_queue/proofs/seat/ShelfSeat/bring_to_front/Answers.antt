@@ -1,4 +1,4 @@
-use Rattle.std.proofs.Common.{arith, ap, sym, ◌∙◌, get_or}
+use Rattle.task_queue.proofs.Imports.{ap, arith, get_or, sym, ◌∙◌}
 use Rattle.task_queue.proofs.Counts.{at_below, front-rotated, rotated-next, times-take_next}
 use Rattle.task_queue.proofs.seat.ShelfSeat.bring_to_front.Goals as goal
 

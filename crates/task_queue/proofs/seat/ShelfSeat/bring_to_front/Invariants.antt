@@ -1,6 +1,4 @@
-use Rattle.std.proofs.Common.{◌≡◌, ◌++◌, take, drop}
-use Rattle.task_queue.specs.Numbers.{times}
-use Rattle.task_queue.specs.Shelves.{held}
+use Rattle.task_queue.proofs.Imports.{drop, held, take, times, ◌++◌, ◌≡◌}
 use Rattle.task_queue.proofs.seat.ShelfSeat.bring_to_front.Given as goal
 
 abbrev pub invariant-loop-i : goal.invariant-loop-i

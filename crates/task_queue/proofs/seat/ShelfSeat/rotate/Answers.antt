@@ -1,5 +1,4 @@
-use Rattle.std.proofs.Common.{◌≡◌, ℕ, arith, ap, ◌∙◌, ◌∷◌, []}
-use Rattle.task_queue.specs.Numbers.{times, once_below}
+use Rattle.task_queue.proofs.Imports.{[], ap, arith, once_below, times, ℕ, ◌∙◌, ◌∷◌, ◌≡◌}
 use Rattle.task_queue.proofs.Counts.{times-append}
 use Rattle.task_queue.proofs.Seats.{slots-rotated}
 use Rattle.task_queue.proofs.seat.ShelfSeat.rotate.Goals as goal

@@ -1,10 +1,4 @@
-use Rattle.std.proofs.Common.{refl, ◌≡◌, ◌∷◌, [], List, arith, sym, ap, ◌∙◌, length, map, subst, None, Some}
-use Rattle.std.proofs.lemmas.List.Elements.{All-pop}
-use Rattle.std.specs.Slots.{slots_items, slots_counts}
-use Rattle.task_queue.specs.declared.seat.ShelfSeat.{ShelfSeat}
-use Rattle.task_queue.specs.Numbers.{times, total}
-use Rattle.task_queue.specs.Shelves.{parts, held}
-use Rattle.task_queue.specs.Values.{SlotsFit}
+use Rattle.task_queue.proofs.Imports.{All-pop, List, None, ShelfSeat, SlotsFit, Some, [], ap, arith, held, length, map, parts, refl, slots_counts, slots_items, subst, sym, times, total, ◌∙◌, ◌∷◌, ◌≡◌}
 use Rattle.task_queue.proofs.Counts.{nil_from_times, total-push}
 use Rattle.task_queue.proofs.ShelfRule.{gather-allowed, fit-final}
 use Rattle.task_queue.proofs.shelf.Shelf.clear.Goals as goal

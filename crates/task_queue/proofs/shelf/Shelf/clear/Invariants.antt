@@ -1,7 +1,4 @@
-use Rattle.std.proofs.Common.{◌≡◌, ◌+◌, [], length, All}
-use Rattle.task_queue.specs.Numbers.{total}
-use Rattle.task_queue.specs.Rules.{all_parts}
-use Rattle.task_queue.specs.Shelves.{parts, held}
+use Rattle.task_queue.proofs.Imports.{All, [], all_parts, held, length, parts, total, ◌+◌, ◌≡◌}
 use Rattle.task_queue.proofs.shelf.Shelf.clear.Given as goal
 
 abbrev pub invariant-loop-next : goal.invariant-loop-next

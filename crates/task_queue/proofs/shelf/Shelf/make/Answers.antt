@@ -1,5 +1,4 @@
-use Rattle.std.proofs.Common.{rules, ap, ◌∙◌}
-use Rattle.task_queue.specs.Values.{values_of}
+use Rattle.task_queue.proofs.Imports.{ap, rules, values_of, ◌∙◌}
 use Rattle.task_queue.proofs.ShelfRule.{kept-opening}
 use Rattle.task_queue.proofs.SlotValues.{values_of-full}
 use Rattle.task_queue.proofs.shelf.Shelf.make.Goals as goal

@@ -1,9 +1,4 @@
-use Rattle.std.proofs.Common.{◌+◌, arith, refl, sym, ap, ◌∙◌, subst, None, map, drop}
-use mathlib.Core.Option.{none}
-use Rattle.atomic_table.specs.Table.{rest, Allows, step}
-use Rattle.task_queue.specs.Numbers.{times, once_below, without}
-use Rattle.task_queue.specs.Rules.{IsKept}
-use Rattle.task_queue.specs.Steps.{Returns}
+use Rattle.task_queue.proofs.Imports.{Allows, IsKept, None, Returns, ap, arith, drop, map, none, once_below, refl, rest, step, subst, sym, times, without, ◌+◌, ◌∙◌}
 use Rattle.task_queue.proofs.Counts.{below_from_once, times-both_without}
 use Rattle.task_queue.proofs.ShelfRule.{return-allowed}
 use Rattle.task_queue.proofs.shelf.Shelf.put.Goals as goal

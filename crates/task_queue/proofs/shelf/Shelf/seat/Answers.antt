@@ -1,4 +1,4 @@
-use Rattle.std.proofs.Common.{arith}
+use Rattle.task_queue.proofs.Imports.{arith}
 use Rattle.task_queue.proofs.ShelfRule.{share-allowed}
 use Rattle.task_queue.proofs.shelf.Shelf.seat.Goals as goal
 

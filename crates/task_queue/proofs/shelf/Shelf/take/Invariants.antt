@@ -1,5 +1,4 @@
-use Rattle.std.proofs.Common.{◌≡◌}
-use Rattle.task_queue.specs.Shelves.{held, parts}
+use Rattle.task_queue.proofs.Imports.{held, parts, ◌≡◌}
 use Rattle.task_queue.proofs.shelf.Shelf.take.Given as goal
 
 abbrev pub invariant-loop : goal.invariant-loop

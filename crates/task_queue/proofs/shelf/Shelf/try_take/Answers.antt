@@ -1,6 +1,4 @@
-use Rattle.std.proofs.Common.{◌≡◌, arith, refl, sym, ap, ◌∙◌, subst, Some, None, IfSome, IfNone, ◌∷◌, map}
-use Rattle.atomic_table.specs.Table.{rest}
-use Rattle.task_queue.specs.Numbers.{times, once_below}
+use Rattle.task_queue.proofs.Imports.{IfNone, IfSome, None, Some, ap, arith, map, once_below, refl, rest, subst, sym, times, ◌∙◌, ◌∷◌, ◌≡◌}
 use Rattle.task_queue.proofs.Counts.{once-cons, length-once}
 use Rattle.task_queue.proofs.ShelfRule.{claim-allowed}
 use Rattle.task_queue.proofs.Seats.{slots-first, first-same}
