@@ -1,6 +1,5 @@
 -- What each step of a fetch comes to.
-use Rattle.std.proofs.Common.{◌≡◌, ◌⊎◌, ℕ, ◌+◌, ◌-◌, ◌<◌, ◌≤◌, List, [], ◌++◌, length, Some, Result, Ok, Err, IsSome, IfSome, refl, sym, ap, subst, ◌∙◌, arith, inl, inr, length-append}
-use Rattle.csv_procs.proofs.Imports.{Fetching, HoldsFront, HoldsFront-beyond, HoldsFront-block, HoldsFront-start, HoldsFront-whole, HoldsPart, IsFile, IsTiedTo, Notes, PartSpec, PartState, ReadGives, Rose, Rows, RowsLeft, Shut, Stand, StaysAt, StepComes, Steps, StepsTo, Told, Wake, WorkFault, bad_place, file_bytes, part_records, raised, stage_of}
+use Rattle.csv_procs.proofs.Imports.{Err, Fetching, HoldsFront, HoldsFront-beyond, HoldsFront-block, HoldsFront-start, HoldsFront-whole, HoldsPart, IfSome, IsFile, IsSome, IsTiedTo, List, Notes, Ok, PartSpec, PartState, ReadGives, Result, Rose, Rows, RowsLeft, Shut, Some, Stand, StaysAt, StepComes, Steps, StepsTo, Told, Wake, WorkFault, [], ap, arith, bad_place, file_bytes, inl, inr, length, length-append, part_records, raised, refl, stage_of, subst, sym, ℕ, ◌++◌, ◌+◌, ◌-◌, ◌<◌, ◌∙◌, ◌≡◌, ◌≤◌, ◌⊎◌}
 use Rattle.csv_rows.specs.declared.file_fetch.Fetched.TheVariants as fetched
 use Rattle.proc_api.specs.declared.status.Wake.TheVariants as wake
 use Rattle.proc_api.specs.declared.status.WorkFault.TheVariants as fault
@@ -65,6 +64,12 @@ module _ (told : Told) (at at' : Stand) (f f' pd pd' : ℕ) (part : PartSpec) (h
   had : n.given ≡ length held
   had = holds.given_is
 
+  less : n.pendings < 1000000
+  less = tied.few_pendings
+
+  few : n.given ≤ 1073741824
+  few = tied.few_bytes
+
   tie : (grown : List ℕ) → HoldsPart told at' part grown n'.given → n'.pendings < 1000000 → n'.given ≤ 1073741824 → IsTiedTo told at' part (stage_of part (Fetching grown)) n'.given n'.pendings
   tie grown x a b = record { shut = λ e. absurd (cc); front = λ e g. x; read = λ e. absurd (cc); few_pendings = a; few_bytes = b }
 
@@ -75,7 +80,6 @@ module _ (told : Told) (at at' : Stand) (f f' pd pd' : ℕ) (part : PartSpec) (h
       let within = h.0.within in
       let some = h.0.reads.some in
       let pendings = ap (λ z. z.pendings) h.1 in
-      let less = tied.few_pendings in
       let front : HoldsFront told at' part.path (held ++ h.0.block) = HoldsFront-block h.0.block holds.front h.0.reads.next h.0.reads.moved in
       steps told at at' f f' pd pd' part (Fetching held) n n' f_kept pd_kept (Fetching grown) (Ok wake.Later) (omega (arith, given, had, lengths, within)) (inl (f_kept, ap (λ z. z.faults) h.1)) (inl (pd_kept, pendings)) (rw h.1 refl) (
         inl (omega (arith, given, had, lengths, within, some)),
@@ -87,8 +91,6 @@ module _ (told : Told) (at at' : Stand) (f f' pd pd' : ℕ) (part : PartSpec) (h
   read-pending grown h =
       let given = ap (λ z. z.given) h.3 in
       let pendings = ap (λ z. z.pendings) h.3 in
-      let less = tied.few_pendings in
-      let few = tied.few_bytes in
       let still : HoldsPart told at' part held n.given = subst (λ z. HoldsPart told z part held n.given) (sym h.1) holds in
       steps told at at' f f' pd pd' part (Fetching held) n n' f_kept pd_kept (Fetching grown) (Ok wake.Later) (omega (arith, given)) (inl (f_kept, ap (λ z. z.faults) h.3)) (inr (h.0, pendings)) (rw h.3 refl) (
         inr (omega (arith, pendings, less)),
@@ -102,8 +104,6 @@ module _ (told : Told) (at at' : Stand) (f f' pd pd' : ℕ) (part : PartSpec) (h
       let all : r.rest ≡ part_records part.header held = rest ∙ ap (part_records part.header) h.1 in
       let given = ap (λ z. z.given) h.2 in
       let pendings = ap (λ z. z.pendings) h.2 in
-      let less = tied.few_pendings in
-      let few = tied.few_bytes in
       quiet told at at' f f' pd pd' part (Fetching held) n n' f_kept pd_kept (Rows r) (Ok wake.Ready) h.2 (
         record { bytes = held; are = file; rest = all; count = count },
         record {
@@ -120,8 +120,6 @@ module _ (told : Told) (at at' : Stand) (f f' pd pd' : ℕ) (part : PartSpec) (h
   read-wanting s' e stays =
       let given = ap (λ z. z.given) e in
       let pendings = ap (λ z. z.pendings) e in
-      let less = tied.few_pendings in
-      let few = tied.few_bytes in
       quiet told at at' f f' pd pd' part (Fetching held) n n' f_kept pd_kept s' (Err fault.Memory) e ((omega (arith, pendings, less), omega (arith, given, few)), stays)
 
   pub read-fails : (grown : List ℕ) (e : WorkFault) → ReadGives told at at' f f' pd pd' held grown n n' (Err e) → Steps told at' f f' pd pd' part (Fetching held) (Fetching grown) n n' (Err e)
@@ -130,16 +128,12 @@ module _ (told : Told) (at at' : Stand) (f f' pd pd' : ℕ) (part : PartSpec) (h
   read-fails grown fault.Stalled h =
       let given = ap (λ z. z.given) h.1 in
       let pendings = ap (λ z. z.pendings) h.1 in
-      let less = tied.few_pendings in
-      let few = tied.few_bytes in
       let many = h.2 in
       steps told at at' f f' pd pd' part (Fetching held) n n' f_kept pd_kept (Fetching grown) (Err fault.Stalled) (omega (arith, given)) (inl (f_kept, ap (λ z. z.faults) h.1)) (inr (h.0, pendings)) (rw h.1 refl)
       ((omega (arith, pendings, less, many), omega (arith, given, few)), tt)
   read-fails grown fault.TooLong h =
       let given = ap (λ z. z.given) h.noted in
       let pendings = ap (λ z. z.pendings) h.noted in
-      let less = tied.few_pendings in
-      let few = tied.few_bytes in
       let counted = h.passes.counted in
       let beyond = h.passes.beyond in
       steps told at at' f f' pd pd' part (Fetching held) n n' f_kept pd_kept (Fetching grown) (Err fault.TooLong) (omega (arith, given, few)) (inl (f_kept, ap (λ z. z.faults) h.noted)) (inl (pd_kept, pendings)) (rw h.noted refl)

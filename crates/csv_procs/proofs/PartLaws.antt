@@ -1,6 +1,5 @@
 -- What the kernel of a part offers and makes.
-use Rattle.std.proofs.Common.{◌≡◌, ◌⊎◌, ℕ, ◌+◌, ◌<◌, max, Bool, true, false, List, [], ◌∷◌, ◌++◌, length, append_assoc, Option, Some, None, IsSome, refl, sym, ap, ◌∙◌, arith, inl, inr}
-use Rattle.csv_procs.proofs.Imports.{ColumnType, IsKernelOf, IsReadOut, IsRecordLeft, IsValid, Makes, Offers, PartSpec, Picture, Row, Rows, RowsLeft, Table, TakesRows, append-nil, at_end, bad_place, chunk_rows, good_rows, in_count, leaves-same, length-append, makes-nothing, parsing, row_then, spelled_row}
+use Rattle.csv_procs.proofs.Imports.{Bool, ColumnType, IsKernelOf, IsReadOut, IsRecordLeft, IsSome, IsValid, List, Makes, None, Offers, Option, PartSpec, Picture, Row, Rows, RowsLeft, Some, Table, TakesRows, [], ap, append-nil, append_assoc, arith, at_end, bad_place, chunk_rows, false, good_rows, in_count, inl, inr, leaves-same, length, length-append, makes-nothing, max, parsing, refl, row_then, spelled_row, sym, true, ℕ, ◌++◌, ◌+◌, ◌<◌, ◌∙◌, ◌∷◌, ◌≡◌, ◌⊎◌}
 use Rattle.query_model.specs.declared.processor_spec.Spec.TheVariants as spec
 use Rattle.proc_shell.specs.declared.kernel.Offer.TheVariants as offer
 

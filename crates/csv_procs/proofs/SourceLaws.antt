@@ -1,9 +1,8 @@
 -- The clauses of a source's calls.
-use Rattle.std.proofs.Common.{◌≡◌, ℕ, ◌+◌, ◌<◌, ◌≤◌, true, false, List, ◌++◌, is_some, Option, Some, None, IfSome, Result, Ok, Err, refl, sym, ap, subst, ◌∙◌, arith, inl, inr}
-use Rattle.csv_procs.proofs.Imports.{ArePartBytes, BadPlace, BoxPicture, CountsOn, FaultComes, FaultHolds, FaultInCall, FaultIsDue, Faults, Fetching, Held, IfErr, IfOk, IsBegun, IsKernelOf, IsLongFile, IsPlaceDue, IsRunning, IsTied, IsTiedSpec, IsTiedTo, KeepsLimits, KeepsPart, KeepsSame, Lists, Notes, PartNotes, PartSpec, PartState, ReaderView, RowCount, Rows, Schedules, ShellPart, Shut, Spec, Stand, StaysAt, Steps, StepsTo, Told, UnlessStalled, UnlessTooLong, Wake, WakeComes, WorkFault, bad_place, bad_place_in, chunk_rows, closes-still, files_of, finishes-still, good_rows, had-still, held_made, held_unworked, kept_output, option_map, parsing, part, part_seen, part_uses, same-output, shell_seen, source_of, stage_of, told_as_pairs, unmade_in, with_answer}
+use Rattle.csv_procs.proofs.Imports.{ArePartBytes, BadPlace, BoxPicture, CountsOn, Err, FaultComes, FaultHolds, FaultInCall, FaultIsDue, Faults, Fetching, Held, IfErr, IfOk, IfSome, IsBegun, IsFile, IsKernelOf, IsLongFile, IsPlaceDue, IsRunning, IsTied, IsTiedSpec, IsTiedTo, KeepsLimits, KeepsPart, KeepsSame, List, Lists, None, Notes, Ok, Option, PartNotes, PartSpec, PartState, ReaderView, Result, RowCount, Rows, Schedules, ShellPart, Shut, Some, Spec, Stand, StaysAt, Steps, StepsTo, Told, UnlessStalled, UnlessTooLong, Wake, WakeComes, WorkFault, ap, arith, bad_place, bad_place_in, chunk_rows, closes-still, false, files_of, finishes-still, good_rows, had-still, held_made, held_unworked, inl, inr, is_some, kept_output, option_map, parsing, part, part_seen, part_uses, refl, same-output, shell_seen, source_of, stage_of, subst, sym, told_as_pairs, true, unmade_in, with_answer, ℕ, ◌++◌, ◌+◌, ◌<◌, ◌∙◌, ◌≡◌, ◌≤◌}
 use Rattle.query_model.specs.declared.processor_spec.Kind.TheVariants as kind
 use Rattle.query_model.specs.declared.processor_spec.Spec.TheVariants as spec
-use Rattle.csv_rows.specs.Fetching.{IsFile, IsLongFile as IsLongTold}
+use Rattle.csv_rows.specs.Fetching.{IsLongFile as IsLongTold}
 use Rattle.proc_api.specs.declared.status.Wake.TheVariants as wake
 use Rattle.proc_api.specs.declared.status.WorkFault.TheVariants as fault
 
@@ -122,24 +121,25 @@ module _ (told : Told) (f f' pd pd' : ℕ) (count : RowCount) (part' : PartSpec)
         noted = λ i there y. absurd y;
       }
 
-step-opened : (told : Told) (part : PartSpec) (s s' : PartState) (a : Wake) (n n' : Notes) → StepsTo told part s n s' n' a
-    → ((stage_of part s).opened ≡ true → (stage_of part s').opened ≡ true) × ((stage_of part s).fetched ≡ true → (stage_of part s').fetched ≡ true)
-step-opened told part Shut (Fetching held) wake.Later n n' x = (λ e. refl, λ e. false-true e)
-step-opened told part (Fetching held) (Fetching grown) wake.Later n n' x = (λ e. refl, λ e. e)
-step-opened told part (Fetching held) (Rows r) wake.Ready n n' x = (λ e. refl, λ e. refl)
-step-opened told part s s' a n n' x = absurd x
-
 stays-opened : (part : PartSpec) (s s' : PartState) → StaysAt s s' → ((stage_of part s).opened ≡ true → (stage_of part s').opened ≡ true) × ((stage_of part s).fetched ≡ true → (stage_of part s').fetched ≡ true)
 stays-opened part Shut Shut x = (λ e. e, λ e. e)
 stays-opened part (Fetching held) (Fetching grown) x = (λ e. e, λ e. e)
 stays-opened part (Rows r) (Rows r') x = (λ e. e, λ e. e)
 stays-opened part s s' x = absurd x
 
-wakes : (told : Told) (f f' pd pd' : ℕ) (count : RowCount) (part : PartSpec) (h : Held) (s s' : PartState) (a : Wake) (n n' : Notes) → StepsTo told part s n s' n' a
-    → WakeComes a (source told f pd count part s h n) (source told f' pd' count part s' h (with_answer (Ok a) n'))
-wakes told f f' pd pd' count part h Shut (Fetching held) wake.Later n n' x = inl (refl, refl)
-wakes told f f' pd pd' count part h (Fetching held) (Fetching grown) wake.Later n n' x = inr x
-wakes told f f' pd pd' count part h (Fetching held) (Rows r) wake.Ready n n' x = (refl, refl)
+-- a step that wakes leaves what was opened and what was fetched
+wakes : (told : Told) (f f' pd pd' : ℕ) (count : RowCount) (part : PartSpec) (h : Held)
+    (s s' : PartState) (a : Wake) (n n' : Notes) → StepsTo told part s n s' n' a
+    → WakeComes a (source told f pd count part s h n)
+    (source told f' pd' count part s' h (with_answer (Ok a) n'))
+    × ((stage_of part s).opened ≡ true → (stage_of part s').opened ≡ true)
+    × ((stage_of part s).fetched ≡ true → (stage_of part s').fetched ≡ true)
+wakes told f f' pd pd' count part h Shut (Fetching held) wake.Later n n' x =
+    (inl (refl, refl), (λ e. refl), (λ e. false-true e))
+wakes told f f' pd pd' count part h (Fetching held) (Fetching grown) wake.Later n n' x =
+    (inr x, (λ e. refl), (λ e. e))
+wakes told f f' pd pd' count part h (Fetching held) (Rows r) wake.Ready n n' x =
+    ((refl, refl), (λ e. refl), (λ e. refl))
 wakes told f f' pd pd' count part h s s' a n n' x = absurd x
 
 -- a step of a source that runs
@@ -163,62 +163,45 @@ module _ (told : Told) (at' : Stand) (f f' pd pd' : ℕ) (count : RowCount) (par
         not_handed_out = refl;
         faultless = ap (λ z. z.fault) x.only ∙ faultless;
         keeps = λ lawful. step-keeps told f f' pd pd' count part' h n (with_answer (Ok a) n') view s s' a n' x.comes.0;
-        comes = λ lawful. wakes told f f' pd pd' count part' h s s' a n n' x.comes.0;
+        comes = λ lawful. (wakes told f f' pd pd' count part' h s s' a n n' x.comes.0).0;
       }
 
-  in-call : (e : WorkFault) → FaultComes e told f f' part' n' → FaultInCall e P (Q (Err e))
-  in-call fault.Read x = x.1
-  in-call fault.Memory x = tt
-  in-call fault.Stalled x = tt
-  in-call fault.TooLong x = tt
-  in-call e x = absurd x
-
-  holds : (e : WorkFault) → FaultComes e told f f' part' n' → FaultHolds (Some e) (Q (Err e))
-  holds fault.Read x = x.2
-  holds fault.Memory x = tt
-  holds fault.Stalled x = let m = x.0 in omega (arith, m)
-  holds fault.TooLong x = x.1
-  holds e x = absurd x
-
-  due : (e : WorkFault) → FaultComes e told f f' part' n' → FaultIsDue (Some e) (Q (Err e))
-  due fault.Read x = tt
-  due fault.Memory x = tt
-  due fault.Stalled x = x.0
-  due fault.TooLong x = long-pairs told part'.path x.2
-  due e x = absurd x
+  -- what a fault tells, and that each limit is kept but the one that it says was passed
+  told-by : (e : WorkFault) → FaultComes e told f f' part' n' → FaultInCall e P (Q (Err e))
+      × FaultHolds (Some e) (Q (Err e)) × FaultIsDue (Some e) (Q (Err e))
+      × UnlessStalled (Some e) (n'.pendings < 1000000)
+      × UnlessTooLong (Some e) (n'.given ≤ 1073741824)
+  told-by fault.Read x = (x.1, x.2, tt, x.0.0, x.0.1)
+  told-by fault.Memory x = (tt, tt, tt, x.0, x.1)
+  told-by fault.Stalled x = (tt, (let m = x.0 in omega (arith, m)), x.0, tt, x.1)
+  told-by fault.TooLong x = (tt, x.1, long-pairs told part'.path x.2, x.0, tt)
+  told-by e x = absurd x
 
   fault-of : (r : Result Wake WorkFault) → Steps told at' f f' pd pd' part' s s' n n' r → IfErr r (λ e. Faults e P (Q r))
   fault-of (Ok a) x = tt
   fault-of (Err e) x = record {
     same = record { view = ap (λ z. z.view) x.only; fits = ap (λ z. z.fits) x.only; answer = ap (λ z. z.answer) x.only; growth = refl; not_handed_out = refl };
     kept = refl;
-    in_call = in-call e x.comes.0;
-    holds = holds e x.comes.0;
-    is_due = λ lawful. due e x.comes.0;
+    in_call = (told-by e x.comes.0).0;
+    holds = (told-by e x.comes.0).1;
+    is_due = λ lawful. (told-by e x.comes.0).2;
   }
-
-  fault-limits : (e : WorkFault) → FaultComes e told f f' part' n' → UnlessStalled (Some e) (n'.pendings < 1000000) × UnlessTooLong (Some e) (n'.given ≤ 1073741824)
-  fault-limits fault.Read x = x.0
-  fault-limits fault.Memory x = x
-  fault-limits fault.Stalled x = (tt, x.1)
-  fault-limits fault.TooLong x = (x.0, tt)
-  fault-limits e x = absurd x
 
   limits-of : (r : Result Wake WorkFault) → Steps told at' f f' pd pd' part' s s' n n' r → KeepsLimits P (Q r)
   limits-of (Ok a) x =
       let e : n'.fault ≡ None = ap (λ z. z.fault) x.only ∙ faultless in
-      let y = step-opened told part' s s' a n n' x.comes.0 in
+      let y = wakes told f f' pd pd' count part' h s s' a n n' x.comes.0 in
       let t = x.comes.1 in
       record {
         pendings = λ lt. subst (λ z. UnlessStalled z (n'.pendings < 1000000)) (sym e) t.few_pendings;
         given = λ le. subst (λ z. UnlessTooLong z (n'.given ≤ 1073741824)) (sym e) t.few_bytes;
-        opened = y.0;
-        fetched = y.1;
+        opened = y.1;
+        fetched = y.2;
       }
   limits-of (Err e) x =
       let y = stays-opened part' s s' x.comes.1 in
-      let t = fault-limits e x.comes.0 in
-      record { pendings = λ lt. t.0; given = λ le. t.1; opened = y.0; fetched = y.1 }
+      let t = told-by e x.comes.0 in
+      record { pendings = λ lt. t.3; given = λ le. t.4; opened = y.0; fetched = y.1 }
 
   counts-of : (r : Result Wake WorkFault) → Steps told at' f f' pd pd' part' s s' n n' r → CountsOn P (Q r)
   counts-of (Ok a) x = record { faults = x.faults_kept; pendings = x.pendings_kept; given = x.given_kept; faults_since = x.faults_since; pendings_since = x.pendings_since }

@@ -1,26 +1,10 @@
 -- What a schedule of a source does, and what ties its part to its reader.
-use Rattle.std.specs.Prelude.{◌≡◌, ◌⊎◌, ℕ, ◌-◌, ◌<◌, ◌≤◌, true, false, List, length, Option, Some, None, Result, Ok, Err, IsSome, IfSome}
-use Rattle.outside_io.specs.declared.entries.FileEntry.{FileEntry}
-use Rattle.outside_io.specs.Counts.{Rose}
-use Rattle.outside_io.specs.Told.{file_bytes, StandsAtEnd}
-use Rattle.query_model.specs.Parts.{part_records, bad_place}
-use Rattle.query_model.specs.declared.places.BadPlace.{BadPlace}
-use Rattle.query_model.specs.declared.processor_spec.PartSpec.{PartSpec}
-use Rattle.query_model.specs.declared.processor_spec.Spec.{Spec}
+use Rattle.std.specs.Prelude.{◌-◌, ◌<◌, ◌≡◌, ◌≤◌, ◌⊎◌}
+use Rattle.csv_procs.specs.Prelude.{BadPlace, Err, Fetched, Fetching, FileEntry, HoldsFront, HoldsMore, IfSome, IsFile, IsLongFile, IsSome, List, None, Notes, Ok, Option, PartSpec, PartState, PassesLimit, Result, Rose, Rows, RowsLeft, ShellPart, Shut, Some, Spec, Stage, StandsAtEnd, Wake, WorkFault, bad_place, false, file_bytes, length, part_records, raised, true, ℕ}
 use Rattle.query_model.specs.declared.processor_spec.Spec.TheVariants as spec
-use Rattle.csv_rows.specs.declared.file_fetch.Fetched.{Fetched}
 use Rattle.csv_rows.specs.declared.file_fetch.Fetched.TheVariants as fetched
-use Rattle.csv_rows.specs.Fetching.{HoldsFront, HoldsMore, IsFile, IsLongFile, PassesLimit}
-use Rattle.csv_rows.specs.RowsLeft.{RowsLeft}
-use Rattle.proc_api.specs.Names.{Notes, raised}
-use Rattle.proc_api.specs.declared.status.Wake.{Wake}
 use Rattle.proc_api.specs.declared.status.Wake.TheVariants as wake
-use Rattle.proc_api.specs.declared.status.WorkFault.{WorkFault}
 use Rattle.proc_api.specs.declared.status.WorkFault.TheVariants as fault
-use Rattle.proc_shell.specs.Kernels.{Stage}
-use Rattle.proc_shell.specs.Shells.{ShellPart}
-use Rattle.csv_procs.specs.declared.parsing.PartState.{PartState}
-use Rattle.csv_procs.specs.declared.parsing.PartState.TheVariants.{Shut, Fetching, Rows}
 use Rattle.csv_procs.specs.Parts.{stage_of}
 
 -- where a reader stands: a path, and the place in its file

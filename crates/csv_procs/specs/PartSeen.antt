@@ -1,9 +1,6 @@
 -- What is seen of a source of a part's rows.
-use Rattle.std.specs.Prelude.{ℕ, List, Option, Some}
-use Rattle.query_model.specs.Names.{Files}
+use Rattle.csv_procs.specs.Prelude.{BoxPicture, Files, List, Option, ReaderView, RowCount, ShellPart, Some, shell_seen, ℕ}
 use Rattle.query_model.specs.declared.processor_spec.Kind.TheVariants as kind
-use Rattle.proc_api.specs.Boxes.{BoxPicture, RowCount}
-use Rattle.proc_shell.specs.Shells.{ReaderView, ShellPart, shell_seen}
 
 -- what a contract sees: the files that its reader tells, the reader's counts, and what is loaded
 pub record SourceView : Type 0 where

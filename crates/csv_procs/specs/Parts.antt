@@ -1,12 +1,6 @@
 -- A part inside its source.
-use Rattle.std.specs.Prelude.{◌+◌, true, List, []}
-use Rattle.chunk_data.specs.Values.{Row}
-use Rattle.chunk_data.specs.declared.typed_value.ColumnType.{ColumnType}
-use Rattle.query_model.specs.Names.{good_rows, bad_place}
-use Rattle.query_model.specs.declared.processor_spec.PartSpec.{PartSpec}
-use Rattle.proc_shell.specs.Kernels.{KernelState, Stage, first_stage, part_kernel}
-use Rattle.csv_procs.specs.declared.parsing.PartState.{PartState}
-use Rattle.csv_procs.specs.declared.parsing.PartState.TheVariants.{Shut, Fetching, Rows}
+use Rattle.std.specs.Prelude.{◌+◌}
+use Rattle.csv_procs.specs.Prelude.{ColumnType, Fetching, KernelState, List, PartSpec, PartState, Row, Rows, Shut, Stage, [], bad_place, first_stage, good_rows, part_kernel, true}
 
 -- the rows that aren't made yet
 abbrev pub unmade_in : List ColumnType → PartState → List Row

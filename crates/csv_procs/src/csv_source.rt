@@ -1,7 +1,5 @@
 ghost use Rattle.std.specs.Prelude.{◌≡◌};
-ghost use Rattle.proc_api.specs.Names.{MaySchedule};
-ghost use Rattle.proc_shell.specs.Shells.{PartNotes, part};
-ghost use Rattle.csv_procs.specs.Parts.{parsing};
+ghost use Rattle.csv_procs.specs.Names.{MaySchedule, PartNotes, parsing, part};
 
 use crate::feeds::Feeds;
 use crate::parsing::Parsing;
@@ -24,14 +22,8 @@ pub struct CsvSource<R: FileReader> {
 }
 
 impl<R: FileReader> Model for CsvSource<R> {
-    ghost use Rattle.std.specs.Coded.{codes};
-    ghost use Rattle.std.specs.Option.{option_map};
-    ghost use Rattle.outside_io.specs.Told.{files_of};
+    ghost use Rattle.csv_procs.specs.Names.{IsTied, SourceView, codes, files_of, option_map, parsing, part};
     ghost use Rattle.query_model.specs.contracts.processor_spec.Spec as spec;
-    ghost use Rattle.proc_shell.specs.Shells.{part};
-    ghost use Rattle.csv_procs.specs.Fetching.{IsTied};
-    ghost use Rattle.csv_procs.specs.Parts.{parsing};
-    ghost use Rattle.csv_procs.specs.PartSeen.{SourceView};
 
     ghost Value = { SourceView };
 
@@ -51,11 +43,8 @@ impl<R: FileReader> Model for CsvSource<R> {
 
 impl<R: FileReader> CsvSource<R> {
     ghost use Rattle.std.specs.Prelude.{◌≡◌};
-    ghost use Rattle.std.specs.Option.{option_map};
+    ghost use Rattle.csv_procs.specs.Names.{IsLawfulBlank, files_of, option_map, source_seen};
     ghost use Rattle.query_model.specs.declared.processor_spec.Kind.TheVariants as kind;
-    ghost use Rattle.outside_io.specs.Told.{files_of};
-    ghost use Rattle.proc_api.specs.Clauses.{IsLawfulBlank};
-    ghost use Rattle.csv_procs.specs.PartSeen.{source_seen};
 
     /// A blank source, which reads by this reader.
     pub fn new(alloc: Global, reader: R) -> CsvSource<R>
@@ -89,7 +78,7 @@ fn keep_fed(loaded: &mut Loaded<Parsing>, fed: Result<Wake, WorkFault>) -> Resul
 }
 
 impl<R: FileReader> Processor for CsvSource<R> {
-    ghost use Rattle.csv_procs.specs.PartSeen.{source_seen};
+    ghost use Rattle.csv_procs.specs.Names.{source_seen};
 
     ghost seen = { source_seen };
 

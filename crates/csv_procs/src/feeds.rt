@@ -1,7 +1,5 @@
-ghost use Rattle.std.specs.Prelude.{◌≡◌, ℕ, ◌≤◌, List, Option, IsSome};
-ghost use Rattle.outside_io.specs.declared.entries.FileEntry.{FileEntry};
-ghost use Rattle.csv_procs.specs.Fetching.{IsTiedTo, ReadGives, Steps};
-ghost use Rattle.csv_procs.specs.Parts.{stage_of};
+ghost use Rattle.std.specs.Prelude.{◌≡◌, ◌≤◌};
+ghost use Rattle.csv_procs.specs.Names.{FileEntry, IsSome, IsTiedTo, List, Option, ReadGives, Steps, stage_of, ℕ};
 
 use crate::parsing::{Parsing, PartState};
 use chunk_data::Bytes;

@@ -1,4 +1,5 @@
-ghost use Rattle.std.specs.Prelude.{◌≡◌, ◌<◌, ◌^◌, max, length};
+ghost use Rattle.std.specs.Prelude.{◌<◌, ◌^◌, ◌≡◌};
+ghost use Rattle.csv_procs.specs.Names.{length, max};
 
 use chunk_data::{Bytes, Chunk, Memory};
 use csv_rows::{RowReader, RowsFault};
@@ -35,10 +36,8 @@ fn most_rows(rows: u32) -> usize
 }
 
 impl Kernel for Parsing {
-    ghost use Rattle.std.specs.Prelude.{refl, false};
+    ghost use Rattle.csv_procs.specs.Names.{false, parsing, part_shelled, part_uses, refl, stage_of, unmade_in};
     ghost use Rattle.query_model.specs.declared.processor_spec.Kind.TheVariants as kind;
-    ghost use Rattle.proc_shell.proofs.Parts.{part_shelled, part_uses};
-    ghost use Rattle.csv_procs.specs.Parts.{parsing, stage_of, unmade_in};
 
     ghost kind_is = { kind.Csv };
 

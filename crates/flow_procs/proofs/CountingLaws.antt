@@ -1,20 +1,8 @@
 -- Numbers in order: those that are made, and those that are left.
-use Rattle.std.proofs.Common.{◌≡◌, ℕ, zero, suc, ◌+◌, ◌-◌, ◌<◌, ◌≤◌, min, max, Bool, List, [], ◌∷◌, ◌++◌, length, map, replicate, append_assoc, false, Some, None, refl, sym, ap, subst, ◌∙◌, arith, inl}
-use Rattle.std.proofs.lemmas.List.{append-nil, map-append}
-use Rattle.chunk_data.specs.Names.{Table, AreLong, adds, rows_of, values}
-use Rattle.chunk_data.specs.declared.typed_column.Column.{Column}
-use Rattle.chunk_data.specs.declared.typed_value.Value.TheVariants.{UInt}
+use Rattle.flow_procs.proofs.Imports.{AreLong, Begins, Bool, Column, List, Makes, Means, None, Offers, Picture, Some, Spec, Table, Takes, UInt, [], adds, ap, append-nil, append_assoc, arith, chunk_rows, count_on, count_up, counting_own, false, in_count, inl, leaves-same, length, makes-nothing, map, map-append, max, min, no_lists, number_row, refl, replicate, rows_of, subst, suc, sym, values, zero, ℕ, ◌++◌, ◌+◌, ◌-◌, ◌<◌, ◌∙◌, ◌∷◌, ◌≡◌, ◌≤◌}
 use Rattle.chunk_data.specs.declared.typed_value.ColumnType.TheVariants as column
-use Rattle.query_model.specs.Sources.{count_up}
-use Rattle.query_model.specs.declared.processor_spec.Spec.{Spec}
 use Rattle.query_model.specs.declared.processor_spec.Spec.TheVariants as spec
-use Rattle.port_word.specs.Pictures.{Picture, in_count}
-use Rattle.proc_api.specs.Names.{chunk_rows, no_lists}
 use Rattle.proc_shell.specs.declared.kernel.Offer.TheVariants as offer
-use Rattle.proc_shell.specs.Kernels.{Begins, Makes, Means, Offers, Takes}
-use Rattle.proc_shell.proofs.Through.{makes-nothing}
-use Rattle.proc_shell.proofs.TurnLaws.{leaves-same}
-use Rattle.flow_procs.specs.Counting.{count_on, counting_own, number_row}
 
 count_on-split : (a j k : ℕ) → count_on a (j + k) ≡ count_on a j ++ count_on (a + j) k
 count_on-split a zero k = let e : 0 + k ≡ k = omega arith in let f : a ≡ a + 0 = omega arith in ap (λ n. count_on a n) e ∙ ap (λ n. count_on n k) f

@@ -1,12 +1,6 @@
 -- A filter makes of its chunks the rows at which its condition is true.
-use Rattle.std.proofs.Common.{◌≡◌, ℕ, Bool, cond, List, [], ◌∷◌, map, filter, Some, refl, ap, ◌∙◌}
-use Rattle.chunk_data.specs.Names.{Row, Table, kept}
-use Rattle.query_model.specs.Names.{Cond, holds, truth_of, IsTypedCond}
+use Rattle.flow_procs.proofs.Imports.{Bool, Cond, IsTypedCond, List, Row, Some, Table, Takes, [], ap, cond, filter, filter_maker, holds, idle_own, kept, map, refl, takes-each, truth_of, ℕ, ◌∙◌, ◌∷◌, ◌≡◌}
 use Rattle.query_model.specs.declared.processor_spec.Spec.TheVariants as spec
-use Rattle.proc_api.specs.Made.{idle_own}
-use Rattle.proc_shell.specs.Kernels.{Takes}
-use Rattle.flow_procs.specs.Filters.{filter_maker}
-use Rattle.proc_shell.proofs.Through.{takes-each}
 
 -- rows kept by a mask of a condition's truths are those at which it is true
 kept-filter : (c : Cond) (rows : List Row) → kept (map (truth_of c) rows) rows ≡ filter (holds c) rows

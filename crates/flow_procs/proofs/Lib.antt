@@ -1,3 +1,4 @@
+pub mod Imports
 mod FilterLaws
 mod LimitLaws
 mod CountingLaws

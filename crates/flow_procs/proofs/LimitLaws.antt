@@ -1,14 +1,6 @@
 -- A limit makes of its chunks the rows of its span.
-use Rattle.std.proofs.Common.{◌≡◌, ℕ, ◌+◌, ◌-◌, ◌^◌, ◌<◌, min, List, ◌++◌, length, take, drop, Some, sym, subst}
-use Rattle.std.proofs.lemmas.List.{append-nil}
-use Rattle.chunk_data.specs.Values.{Row, Table}
-use Rattle.query_model.specs.declared.query.Span.{Span}
+use Rattle.flow_procs.proofs.Imports.{AreLimited, IsPulled, List, Row, Some, Span, Table, Takes, append-nil, chunk_rows, drop, last_read, length, limited-more, min, read_own, rows-here, subst, sym, take, with_chunk, ℕ, ◌++◌, ◌+◌, ◌-◌, ◌<◌, ◌^◌, ◌≡◌}
 use Rattle.query_model.specs.declared.processor_spec.Spec.TheVariants as spec
-use Rattle.proc_api.proofs.MadeLaws.{limited-more}
-use Rattle.proc_api.specs.Names.{chunk_rows, AreLimited, last_read, IsPulled}
-use Rattle.proc_shell.specs.Kernels.{Takes, with_chunk}
-use Rattle.proc_shell.proofs.Through.{rows-here}
-use Rattle.flow_procs.specs.Limits.{read_own}
 
 pub takes : (span : Span) (read i : ℕ) (t u : Table) → i ≡ 0 → span.skip < 2 ^ 64
     → span.count < 2 ^ 64 → u.types ≡ t.types

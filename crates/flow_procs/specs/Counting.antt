@@ -1,12 +1,7 @@
 -- Numbers in order, as rows.
-use Rattle.std.proofs.Common.{◌≡◌, ℕ, zero, suc, ◌-◌, List, [], ◌∷◌, ◌++◌, map, refl}
-use Rattle.chunk_data.specs.Values.{Row}
-use Rattle.chunk_data.specs.declared.typed_value.Value.TheVariants.{UInt}
-use Rattle.query_model.specs.Sources.{numbers}
+use Rattle.std.specs.Prelude.{◌++◌, ◌-◌, ◌∷◌, ◌≡◌}
+use Rattle.flow_procs.specs.Prelude.{IsInOrder, IsShelled, List, OwnState, Row, UInt, [], idle_own, map, numbers, refl, shelled-of, suc, zero, ℕ}
 use Rattle.query_model.specs.declared.processor_spec.Spec.TheVariants as spec
-use Rattle.proc_api.specs.Made.{OwnState, idle_own}
-use Rattle.proc_shell.specs.Kernels.{IsShelled}
-use Rattle.proc_shell.proofs.Through.{IsInOrder, shelled-of}
 
 -- so many numbers from the first on
 abbrev pub count_on : (first count : ℕ) → List ℕ
@@ -30,4 +25,4 @@ numbers_order end rows = record {
 pub numbers_shelled : (end rows : ℕ) → IsShelled (spec.Numbers end rows)
 numbers_shelled end rows =
     shelled-of (spec.Numbers end rows) 0 refl (record { ports = λ growth m n h. h; counts = λ growth m n h. h }) (numbers_order end rows)
-    (λ i j types h. tt) (λ p ins outs uses h. h) (λ p ins outs seen uses h. h)
+    (λ p ins outs uses h. h) (λ p ins outs seen uses h. h)

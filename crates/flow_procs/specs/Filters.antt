@@ -1,10 +1,6 @@
 -- A filter makes of its chunks the rows at which its condition is true.
-use Rattle.std.proofs.Common.{filter, refl, ap}
-use Rattle.std.proofs.lemmas.List.Elements.{filter-append}
-use Rattle.query_model.specs.Expressions.{Cond, holds}
+use Rattle.flow_procs.specs.Prelude.{Cond, IsMaker, IsShelled, ap, filter, filter-append, holds, refl, shelled-through}
 use Rattle.query_model.specs.declared.processor_spec.Spec.TheVariants as spec
-use Rattle.proc_shell.specs.Kernels.{IsShelled}
-use Rattle.proc_shell.proofs.Through.{IsMaker, shelled-through}
 
 pub filter_maker : (c : Cond) → IsMaker (spec.Filter c) (filter (holds c))
 filter_maker c = record {
@@ -19,4 +15,4 @@ pub filter_shelled : (c : Cond) → IsShelled (spec.Filter c)
 filter_shelled c =
     shelled-through (spec.Filter c) (filter (holds c)) (filter_maker c)
     (record { ports = λ growth m n h. h; counts = λ growth m n h. h })
-    (λ i j types h. h) (λ p ins outs h. h) (λ p ins outs h. h) (λ w e. (ap (λ x. x.unmade) e, ap (λ x. x.source) e))
+    (λ p ins outs h. h) (λ p ins outs h. h) (λ w e. (ap (λ x. x.unmade) e, ap (λ x. x.source) e))

@@ -1,5 +1,7 @@
+pub mod Prelude
 pub mod Filters
 pub mod Expressions
 pub mod Limits
 pub mod Resizes
 pub mod Counting
+pub mod Names

@@ -1,10 +1,6 @@
 -- A limit makes of its chunks the rows of its span.
-use Rattle.std.proofs.Common.{ℕ, refl}
-use Rattle.query_model.specs.declared.query.Span.{Span}
+use Rattle.flow_procs.specs.Prelude.{AreLimited, IsInOrder, IsShelled, OwnState, Span, chunk_rows, idle_own, refl, shelled-of, ℕ}
 use Rattle.query_model.specs.declared.processor_spec.Spec.TheVariants as spec
-use Rattle.proc_api.specs.Names.{chunk_rows, AreLimited, OwnState, idle_own}
-use Rattle.proc_shell.specs.Kernels.{IsShelled}
-use Rattle.proc_shell.proofs.Through.{IsInOrder, shelled-of}
 
 abbrev pub read_own : ℕ → OwnState
 read_own n = record idle_own { read = n }
@@ -20,4 +16,4 @@ pub limit_shelled : (span : Span) → IsShelled (spec.Limit span)
 limit_shelled span =
     shelled-of (spec.Limit span) 1 refl
     (record { ports = λ growth m n h. h; counts = λ growth m n h. h }) (limit_order span)
-    (λ i j types h. tt) (λ p ins outs uses h. h) (λ p ins outs seen uses h. h)
+    (λ p ins outs uses h. h) (λ p ins outs seen uses h. h)

@@ -1,11 +1,8 @@
 -- A resize passes rows on as they are: those of all outputs and those that wait are those of all inputs.
-use Rattle.std.proofs.Common.{refl}
+use Rattle.flow_procs.specs.Prelude.{IsShelled, refl, resize-pushes, shelled-plain}
 use Rattle.query_model.specs.declared.processor_spec.Spec.TheVariants as spec
-use Rattle.proc_shell.specs.Kernels.{IsShelled}
-use Rattle.proc_shell.proofs.Resizing.{resize-pushes}
-use Rattle.proc_shell.proofs.Through.{shelled-plain}
 
 pub resize_shelled : IsShelled spec.Resize
 resize_shelled =
     shelled-plain spec.Resize refl (λ growth m n h. h) (λ growth m n h. h) (λ kept m n had h stands. stands)
-    (λ i j types h. tt) (λ ins enough m n h. absurd enough) resize-pushes (λ p ins outs uses h. h) (λ p ins outs seen uses h. h)
+    (λ ins enough m n h. absurd enough) resize-pushes (λ p ins outs uses h. h) (λ p ins outs seen uses h. h)

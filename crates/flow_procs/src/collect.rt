@@ -1,4 +1,5 @@
-ghost use Rattle.std.specs.Prelude.{◌≡◌, ◌<◌, false, vec_len, vec_capacity};
+ghost use Rattle.std.specs.Prelude.{◌<◌, ◌≡◌};
+ghost use Rattle.flow_procs.specs.Names.{false, vec_capacity, vec_len};
 
 use chunk_data::{Chunk, Memory};
 use port_word::PortView;
@@ -20,10 +21,9 @@ pub struct Gathering {
 }
 
 impl Kernel for Gathering {
-    ghost use Rattle.std.specs.Prelude.{refl, false, ◌==◌};
+    ghost use Rattle.std.specs.Prelude.{◌==◌};
+    ghost use Rattle.flow_procs.specs.Names.{collect_shelled, collect_uses, false, gathering, refl};
     ghost use Rattle.query_model.specs.declared.processor_spec.Kind.TheVariants as kind;
-    ghost use Rattle.proc_shell.specs.Kernels.{gathering};
-    ghost use Rattle.proc_shell.proofs.Gathering.{collect_shelled, collect_uses};
 
     ghost kind_is = { kind.Collect };
 

@@ -17,13 +17,10 @@ pub struct Filtering {
 }
 
 impl Kernel for Filtering {
-    ghost use Rattle.std.specs.Prelude.{refl, ◌==◌};
+    ghost use Rattle.std.specs.Prelude.{◌==◌};
+    ghost use Rattle.flow_procs.specs.Names.{filter_shelled, first-source, idle_own, kernel_of, refl};
     ghost use Rattle.query_model.specs.declared.processor_spec.Kind.TheVariants as kind;
     ghost use Rattle.query_model.specs.declared.processor_spec.Spec.TheVariants as spec;
-    ghost use Rattle.proc_api.specs.Made.{idle_own};
-    ghost use Rattle.flow_procs.specs.Filters.{filter_shelled};
-    ghost use Rattle.proc_shell.specs.Kernels.{kernel_of};
-    ghost use Rattle.proc_shell.proofs.Through.{first-source};
 
     ghost kind_is = { kind.Filter };
 

@@ -1,4 +1,5 @@
-ghost use Rattle.std.specs.Prelude.{◌≡◌, ◌-◌, min};
+ghost use Rattle.std.specs.Prelude.{◌-◌, ◌≡◌};
+ghost use Rattle.flow_procs.specs.Names.{min};
 
 use chunk_data::{Chunk, Memory};
 use port_word::PortView;
@@ -27,12 +28,10 @@ fn rows_before(place: u128, read: u128, rows: usize) -> usize
 }
 
 impl Kernel for Limiting {
-    ghost use Rattle.std.specs.Prelude.{refl, ◌==◌};
+    ghost use Rattle.std.specs.Prelude.{◌==◌};
+    ghost use Rattle.flow_procs.specs.Names.{first-source, kernel_of, limit_shelled, read_own, refl};
     ghost use Rattle.query_model.specs.declared.processor_spec.Kind.TheVariants as kind;
     ghost use Rattle.query_model.specs.declared.processor_spec.Spec.TheVariants as spec;
-    ghost use Rattle.flow_procs.specs.Limits.{limit_shelled, read_own};
-    ghost use Rattle.proc_shell.specs.Kernels.{kernel_of};
-    ghost use Rattle.proc_shell.proofs.Through.{first-source};
 
     ghost kind_is = { kind.Limit };
 

@@ -1,6 +1,6 @@
-ghost use Rattle.std.specs.Prelude.{◌≡◌, ◌+◌, ◌<◌, ◌≤◌, ◌^◌, [], ◌∷◌, map, IfOk};
+ghost use Rattle.std.specs.Prelude.{◌+◌, ◌<◌, ◌^◌, ◌∷◌, ◌≡◌, ◌≤◌};
+ghost use Rattle.flow_procs.specs.Names.{IfOk, [], count_on, map, number_row};
 ghost use Rattle.chunk_data.specs.declared.typed_value.ColumnType.TheVariants as column;
-ghost use Rattle.flow_procs.specs.Counting.{count_on, number_row};
 
 use chunk_data::{Chunk, Column, List, Memory};
 use port_word::PortView;
@@ -46,11 +46,9 @@ fn chunk_from(alloc: Global, first: u64, count: usize) -> Result<Chunk, Memory>
 }
 
 impl Kernel for Counting {
-    ghost use Rattle.std.specs.Prelude.{true, refl};
+    ghost use Rattle.flow_procs.specs.Names.{counting_own, kernel_of, numbers_shelled, refl, true};
     ghost use Rattle.query_model.specs.declared.processor_spec.Kind.TheVariants as kind;
     ghost use Rattle.query_model.specs.declared.processor_spec.Spec.TheVariants as spec;
-    ghost use Rattle.flow_procs.specs.Counting.{counting_own, numbers_shelled};
-    ghost use Rattle.proc_shell.specs.Kernels.{kernel_of};
 
     ghost kind_is = { kind.Numbers };
 

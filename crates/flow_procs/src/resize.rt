@@ -13,12 +13,9 @@ pub type Resize = Shell<Resizing>;
 pub struct Resizing;
 
 impl Kernel for Resizing {
-    ghost use Rattle.std.specs.Prelude.{refl, true};
+    ghost use Rattle.flow_procs.specs.Names.{idle_own, kernel_of, refl, resize_shelled, true};
     ghost use Rattle.query_model.specs.declared.processor_spec.Kind.TheVariants as kind;
     ghost use Rattle.query_model.specs.declared.processor_spec.Spec.TheVariants as spec;
-    ghost use Rattle.proc_api.specs.Made.{idle_own};
-    ghost use Rattle.flow_procs.specs.Resizes.{resize_shelled};
-    ghost use Rattle.proc_shell.specs.Kernels.{kernel_of};
 
     ghost kind_is = { kind.Resize };
 

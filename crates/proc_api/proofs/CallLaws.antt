@@ -1,11 +1,5 @@
 -- What the actions of a view push.
-use Rattle.std.proofs.Common.{◌≡◌, ℕ, ◌==◌, Bool, true, false, cond, Option, Some, None, List, [], ◌∷◌, ◌++◌, refl, sym, ap, ◌∙◌}
-use Rattle.std.proofs.lemmas.Bool.{eqb-true}
-use Rattle.chunk_data.specs.Values.{Table}
-use Rattle.port_word.specs.Names.{Picture, input_at, output_at, noted_want, want_of, EachAction, IsSound, IsDone}
-use Rattle.port_word.specs.declared.flags.Action.{Action}
-use Rattle.port_word.specs.declared.flags.Action.TheVariants.{Want, Unwant, Pull, Close, Push, Finish}
-use Rattle.proc_api.specs.Histories.{pushes_to, pushed_at, pulled_at, taken_out}
+use Rattle.proc_api.proofs.Imports.{Action, Bool, Close, EachAction, Finish, IsDone, IsSound, List, None, Option, Picture, Pull, Push, Some, Table, Unwant, Want, [], ap, cond, cond_both, eqb-true, false, input_at, noted_want, output_at, pulled_at, pushed_at, pushes_to, refl, sym, taken_out, true, want_of, ℕ, ◌++◌, ◌==◌, ◌∙◌, ◌∷◌, ◌≡◌}
 
 more-or-same : (b : Bool) (chunk : Table) (xs ys zs : List Table) → xs ≡ ys ++ zs → cond b (chunk ∷ xs) xs ≡ cond b (chunk ∷ ys) ys ++ zs
 more-or-same true chunk xs ys zs e = ap (λ l. chunk ∷ l) e
@@ -68,11 +62,8 @@ taken_out-same (Some c) = refl
 
 -- nothing was pushed where the actions push the same as before
 pub none-pushed : (v w : Picture) (o : ℕ) → IsSound v → pushes_to o w.actions ≡ pushes_to o v.actions → pushed_at v w o ≡ []
-none-pushed v w o s e = go (output_at v o).has_data refl
-  where
-    go : (b : Bool) → (output_at v o).has_data ≡ b → cond b [] (pushes_to o w.actions) ≡ []
-    go true d = refl
-    go false d = e ∙ no-pushes v o s d
+none-pushed v w o s e = cond_both (output_at v o).has_data [] (pushes_to o w.actions)
+    (λ l. l ≡ []) (λ d. refl) (λ d. e ∙ no-pushes v o s d)
 
 -- the chunks that were added to the pushes of an empty port were pushed
 pub just-pushed : (v w : Picture) (o : ℕ) (chunks : List Table) → IsSound v → (output_at v o).has_data ≡ false → pushes_to o w.actions ≡ pushes_to o v.actions ++ chunks → pushed_at v w o ≡ chunks

@@ -1,25 +1,11 @@
 -- The view of a node is one that its box may be prepared against.
-use Rattle.std.proofs.Common.{◌≡◌, ℕ, ◌<◌, ◌≤◌, not, ◌&&◌, Bool, true, false, Option, Some, None, List, length, get_or, refl, sym, ap, subst, ◌∙◌, arith}
-use Rattle.chunk_data.specs.Values.{Table}
-use Rattle.query_model.specs.declared.processor_spec.Spec.{Spec}
+use Rattle.proc_api.proofs.Imports.{Action, AreAsKept, BoxPicture, Flags, FollowsKept, Input, InputFollows, InputPort, IsSound, List, MaySee, None, Option, Output, OutputFollows, Picture, PortFlags, Some, Spec, StandStill, Table, TakesFirst, after_see, and_from, and_parts, ap, arith, get_or, get_or-replicate, holds_data, in_count, in_count-with_input, in_count-with_output, input_at, input_at-with_input, input_at-with_input-other, input_at-with_output, kept_input, kept_inputs, kept_output, kept_outputs, kept_ports, length, length-replicate, new_input, new_picture, no_flags, no_input, no_notes, not, out_count, out_count-with_input, out_count-with_output, output_at, output_at-with_input, output_at-with_output, output_at-with_output-other, over_flags, port_flags, refl, seen_chunk, subst, sym, true, with_actions, with_input, with_output, ℕ, ◌<◌, ◌∙◌, ◌≡◌, ◌≤◌}
 use Rattle.query_model.specs.declared.processor_spec.Spec.TheVariants as spec
-use Rattle.port_word.specs.Names.{Picture, input_at, output_at, in_count, out_count, with_input, with_output, with_actions, new_input, no_input, no_flags, over_flags, holds_data, new_picture, TakesFirst, MaySee, after_see, seen_chunk, IsSound}
-use Rattle.port_word.specs.declared.flags.Flags.{Flags}
-use Rattle.port_word.specs.declared.port_view.InputPort.{InputPort}
-use Rattle.port_word.specs.declared.flags.Action.{Action}
-use Rattle.port_word.specs.declared.flags.Port.TheVariants.{Input, Output}
-use Rattle.std.proofs.lemmas.List.{get_or-replicate, length-replicate}
-use Rattle.port_word.proofs.Laws.{input_at-with_input, input_at-with_input-other, output_at-with_output, output_at-with_output-other, output_at-with_input, input_at-with_output, in_count-with_input, out_count-with_input, in_count-with_output, out_count-with_output}
-use Rattle.proc_api.specs.Names.{BoxPicture, PortFlags, no_notes, kept_input, kept_output, kept_inputs, kept_outputs, kept_ports, port_flags, FollowsKept, InputFollows, OutputFollows, AreAsKept, StandStill}
 use Rattle.proc_api.proofs.KeptFlags.{kept_input-of, kept_output-of, kept_inputs-of, kept_outputs-of}
 use Rattle.proc_api.proofs.ShutPorts.{by-place}
 
 held-data : (f : Flags) → holds_data f ≡ true → f.has_data ≡ true
-held-data f e = bits f.has_data f.fin_in e
-  where
-    bits : (d i : Bool) → (d && not i) ≡ true → d ≡ true
-    bits true i e = refl
-    bits false i e = absurd (cc)
+held-data f e = (and_parts f.has_data (not f.fin_in) e).0
 
 input-itself : (f : Flags) → InputFollows f f
 input-itself f = record { needed = refl; fin_in = refl; fin_out = λ e. e; stays_empty = λ a b. b; stays_full = held-data f }
@@ -72,14 +58,9 @@ as-kept-noted q w m n e ins outs =
 -- ---- a port that was brought up to date
 
 holds-when : (f g : Flags) → g.fin_in ≡ f.fin_in → g.has_data ≡ true → holds_data f ≡ true → holds_data g ≡ true
-holds-when f g same there e = bits f.has_data f.fin_in g.has_data g.fin_in same there e
-  where
-    bits : (d i d' i' : Bool) → i' ≡ i → d' ≡ true → (d && not i) ≡ true → (d' && not i') ≡ true
-    bits true true d' i' s t e = absurd (cc)
-    bits true false true true s t e = absurd (cc)
-    bits true false true false s t e = refl
-    bits true false false i' s t e = absurd (cc)
-    bits false i d' i' s t e = absurd (cc)
+holds-when f g same there e =
+    and_from g.has_data (not g.fin_in) there
+    (ap not same ∙ (and_parts f.has_data (not f.fin_in) e).1)
 
 follows-input : (p : BoxPicture) (v : Picture) (i : ℕ) (g : Flags) (c : Option Table) → IsSound v → MaySee v (Input i) g c → InputFollows (kept_input p i) (input_at v i).flags → InputFollows (kept_input p i) g
 follows-input p v i g c sound may f = record {

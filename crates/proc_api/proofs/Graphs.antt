@@ -1,15 +1,5 @@
 -- Laws of graphs: the ports of a node in use are numbered from 0 up to their count, and a graph is built node by node and edge by edge.
-use Rattle.std.proofs.Common.{◌≡◌, ℕ, ◌+◌, ◌<◌, ◌≤◌, ◌==◌, not, ◌&&◌, ◌||◌, Bool, true, false, List, [], ◌∷◌, ◌++◌, length, zero, suc, refl, sym, ap, subst, arith, ◌∙◌, inl, inr, ◌⊎◌}
-use Rattle.std.specs.List.{All}
-use Rattle.std.proofs.Math.Seq.{get_or-append_seam}
-use Rattle.std.proofs.lemmas.Bool.{both_ways, cases_lt, eqb-true, eq-eqb, and_parts, and_from}
-use Rattle.std.proofs.lemmas.List.{get_or_append_left, get_or_default, length-append}
-use Rattle.std.proofs.lemmas.List.Elements.{All-get_or, All-from_get_or}
-use Rattle.std.proofs.lemmas.List.Folds.{Any-from_list_any, list_any_at}
-use Rattle.std.proofs.lemmas.List.Sums.{AllPass-from_list_all, list_all-from_AllPass}
-use Rattle.port_word.specs.declared.flags.Wire.{Wire}
-use Rattle.port_word.specs.declared.flags.Reserve.{Reserve}
-use Rattle.proc_api.specs.Names.{wire_at, no_wire, HasInputWire, HasOutputWire, rank_at, has_input, has_output, input_count, output_count, all_below, follows_inputs, follows_outputs, is_gapless, reserved_edges, IsEdge, IsGraphSoFar, IsGraph}
+use Rattle.proc_api.proofs.Imports.{All, All-from_get_or, All-get_or, AllPass-from_list_all, Any-from_list_any, Bool, HasInputWire, HasOutputWire, IsEdge, IsGraph, IsGraphSoFar, List, Reserve, Wire, [], all_below, and_from, and_parts, ap, arith, both_ways, cases_lt, eq-eqb, eqb-true, false, follows_inputs, follows_outputs, get_or-append_seam, get_or_append_left, get_or_default, has_input, has_output, inl, input_count, inr, is_gapless, length, length-append, list_all-from_AllPass, list_any_at, no_wire, not, output_count, rank_at, refl, reserved_edges, subst, suc, sym, true, wire_at, zero, ℕ, ◌&&◌, ◌++◌, ◌+◌, ◌<◌, ◌==◌, ◌||◌, ◌∙◌, ◌∷◌, ◌≡◌, ◌≤◌, ◌⊎◌}
 use Rattle.proc_api.proofs.PortCounts.{AreOnce, AreGapless, below-case, port-below-count, port-of-count, count-limit}
 
 -- ---- a port in use has a wire

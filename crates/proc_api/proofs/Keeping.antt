@@ -1,15 +1,6 @@
 -- How what a box keeps goes on with what a `prepare` pulls and pushes.
-use Rattle.std.proofs.Common.{◌≡◌, ◌⊎◌, ℕ, zero, suc, ◌+◌, ◌<◌, List, [], ◌++◌, length, Option, Some, refl, ap, subst, ◌∙◌, arith, inl, inr}
-use Rattle.std.specs.List.{All}
-use Rattle.std.proofs.lemmas.List.{length-append, get_or_append_left, get_or-append-add, get_or_default}
-use Rattle.std.proofs.lemmas.Grind.{flat_map-append}
-use Rattle.std.proofs.lemmas.Bool.{cases_lt}
-use Rattle.chunk_data.specs.Values.{Table}
-use Rattle.chunk_data.specs.declared.typed_value.ColumnType.{ColumnType}
-use Rattle.query_model.specs.declared.processor_spec.Spec.{Spec}
+use Rattle.proc_api.proofs.Imports.{All, AllFit, BoxPicture, ColumnType, FitsInput, HasReadEnough, IsPulled, List, Lists, MakesTypes, NotesEnd, Option, OwnState, Picture, PulledOn, Some, Spec, Table, [], ap, arith, cases_lt, chunk_rows, flat_map-append, get_or-append-add, get_or_append_left, get_or_default, inl, inr, last_count, length, length-append, no_table, pulled_at, raised, refl, rows_pulled, subst, suc, total_rows, with_pulled, zero, ℕ, ◌++◌, ◌+◌, ◌<◌, ◌∙◌, ◌≡◌, ◌⊎◌}
 use Rattle.query_model.specs.declared.processor_spec.Spec.TheVariants as spec
-use Rattle.port_word.specs.Pictures.{Picture}
-use Rattle.proc_api.specs.Names.{BoxPicture, Lists, chunk_rows, pulled_at, with_pulled, total_rows, rows_pulled, raised, last_count, IsPulled, MakesTypes, AllFit, FitsInput, HasReadEnough, no_table, PulledOn, NotesEnd, OwnState}
 
 -- ---- chunks that were pulled
 
@@ -72,13 +63,16 @@ total-first (suc n) a e =
     let here = ap (λ l. length (chunk_rows l)) (e (suc n) (omega arith)) in
     omega (arith, rest, here)
 
-pub total-nothing : (n : ℕ) (a : Lists) → ((i : ℕ) → a i ≡ []) → total_rows n a ≡ 0
+pub total-none : (n : ℕ) (a : Lists) → ((i : ℕ) → i < n → a i ≡ []) → total_rows n a ≡ 0
 unfolding total_rows
-total-nothing zero a e = refl
-total-nothing (suc n) a e =
-    let rest = total-nothing n a e in
-    let here = ap (λ l. length (chunk_rows l)) (e n) in
+total-none zero a e = refl
+total-none (suc n) a e =
+    let rest = total-none n a (λ i lt. e i (omega (arith, lt))) in
+    let here = ap (λ l. length (chunk_rows l)) (e n (omega arith)) in
     omega (arith, rest, here)
+
+pub total-nothing : (n : ℕ) (a : Lists) → ((i : ℕ) → a i ≡ []) → total_rows n a ≡ 0
+total-nothing n a e = total-none n a (λ i lt. e i)
 
 -- the count of pulled rows goes on with what a prepare pulls
 pub counted-more : (p q : BoxPicture) (v w : Picture) (ins : Lists) → PulledOn p q → q.pulled ≡ raised p.pulled (rows_pulled v w)

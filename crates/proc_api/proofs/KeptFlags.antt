@@ -1,11 +1,5 @@
 -- The flags that a box keeps are those of the view that its last prepare left.
-use Rattle.std.proofs.Common.{◌≡◌, ◌⊎◌, ℕ, ◌<◌, ◌≤◌, length, map, get_or, Option, Some, None, refl, ap, ◌∙◌, false, arith, inl, inr}
-use Rattle.std.proofs.lemmas.List.{get_or-map, get_or_default, length-map}
-use Rattle.std.proofs.Math.ListN.{get_or-eq_default}
-use Rattle.port_word.specs.Pictures.{Picture, input_at, output_at, in_count, out_count, no_flags, no_input, over_flags}
-use Rattle.port_word.specs.declared.flags.Flags.{Flags}
-use Rattle.port_word.specs.declared.port_view.InputPort.{InputPort}
-use Rattle.proc_api.specs.Names.{BoxPicture, PortFlags, kept_input, kept_output, kept_inputs, kept_outputs, kept_ports, port_flags, MayBeInput}
+use Rattle.proc_api.proofs.Imports.{BoxPicture, Flags, InputPort, MayBeInput, None, Option, Picture, PortFlags, Some, ap, arith, false, get_or, get_or-eq_default, get_or-map, get_or_default, in_count, inl, input_at, inr, kept_input, kept_inputs, kept_output, kept_outputs, kept_ports, length, length-map, map, no_flags, no_input, out_count, output_at, over_flags, port_flags, refl, ℕ, ◌<◌, ◌∙◌, ◌≡◌, ◌≤◌, ◌⊎◌}
 
 module _ (q : BoxPicture) (w : Picture) (e : q.notes.view ≡ Some (port_flags w)) where
   pub kept_inputs-of : kept_inputs q ≡ in_count w

@@ -1,3 +1,4 @@
+pub mod Imports
 pub mod RackLaws
 pub mod ViewFlags
 pub mod CallLaws

@@ -1,14 +1,5 @@
 -- What one chunk more makes of the rows of all inputs or outputs, and of a span.
-use Rattle.std.proofs.Common.{◌≡◌, ◌≢◌, ℕ, zero, suc, ◌+◌, ◌-◌, ◌^◌, ◌<◌, ◌≤◌, min, List, [], ◌∷◌, ◌++◌, length, take, drop, append_assoc, refl, sym, ap, ap₂, subst, ◌∙◌, arith, inl, inr}
-use Rattle.std.proofs.lemmas.Bool.{cases_eq}
-use Rattle.std.proofs.lemmas.Grind.{common_steps}
-use Rattle.std.proofs.lemmas.List.Sorted.{IsPermutation-append_comm, IsPermutation-append_left, IsPermutation-append_right, IsPermutation-trans}
-use Rattle.std.proofs.lemmas.List.{drop-take, length-append, length-drop, length-take, take_min}
-use Rattle.std.specs.List.Sorted.{IsPermutation}
-use Rattle.chunk_data.specs.Values.{Row, Table}
-use Rattle.query_model.proofs.Lists.{IsPermutation-same}
-use Rattle.query_model.specs.declared.query.Span.{Span}
-use Rattle.proc_api.specs.Names.{AreLimited, Lists, all_rows, chunk_rows, last_read, no_lists}
+use Rattle.proc_api.proofs.Imports.{AreLimited, IsPermutation, IsPermutation-append_comm, IsPermutation-append_left, IsPermutation-append_right, IsPermutation-same, IsPermutation-trans, List, Lists, Row, Span, Table, [], all_rows, ap, append_assoc, ap₂, arith, cases_eq, chunk_rows, common_steps, drop, drop-take, inl, inr, last_read, length, length-append, length-drop, length-take, min, no_lists, refl, subst, suc, sym, take, take_min, zero, ℕ, ◌++◌, ◌+◌, ◌-◌, ◌<◌, ◌^◌, ◌∙◌, ◌∷◌, ◌≡◌, ◌≢◌, ◌≤◌}
 use Rattle.proc_api.proofs.Keeping.{rows-append}
 
 -- ---- the rows of all inputs or outputs

@@ -1,18 +1,5 @@
 -- Lists in order, each row against each later one.
-use Rattle.std.proofs.Common.{◌≡◌, ℕ, zero, suc, ◌+◌, ◌<◌, Bool, true, false, cond, List, [], ◌∷◌, ◌++◌, length, get_or, refl, subst, arith, IsPermutation}
-use Rattle.std.specs.Prelude.{IsSortedBy}
-use Rattle.std.specs.Cmp.{IsStrictWeakOrder}
-use Rattle.std.specs.Ordering.{is_lt}
-use Rattle.std.specs.List.{AllByRecursion, Contains}
-use Rattle.std.proofs.lemmas.List.Elements.{recursion_from_All, All-from_recursion, All-contains}
-use Rattle.std.proofs.lemmas.List.Sorted.{All-permutation, sorted_far, ranks_by, IsPermutation-refl, IsPermutation-cons, IsPermutation-trans, IsPermutation-append_left, IsPermutation-append_comm}
-use Rattle.chunk_data.specs.Values.{Row, row_cmp}
-use Rattle.chunk_data.specs.declared.typed_value.SortKey.{SortKey}
-use Rattle.query_model.proofs.AnswerLaws.{row_cmp_total}
-
--- y doesn't come before any of these
-abbrev pub NotBefore : (Row → Row → Bool) → Row → List Row → Type 0
-NotBefore lt y xs = AllByRecursion (λ x. lt y x ≡ false) xs
+use Rattle.proc_api.proofs.Imports.{All-contains, All-from_recursion, All-permutation, AllByRecursion, Bool, Contains, IsPermutation, IsPermutation-append_comm, IsPermutation-append_left, IsPermutation-cons, IsPermutation-refl, IsPermutation-trans, IsSortedBy, IsStrictWeakOrder, List, Row, SortKey, [], arith, cond, false, get_or, is_lt, length, ranks_by, recursion_from_All, refl, row_cmp, row_cmp_total, sorted_far, subst, suc, true, zero, ℕ, ◌++◌, ◌+◌, ◌<◌, ◌∷◌, ◌≡◌}
 
 -- no later row comes before an earlier one
 abbrev pub InOrder : (Row → Row → Bool) → List Row → Type 0
@@ -176,9 +163,6 @@ module _ (lt : Row → Row → Bool) (o : IsStrictWeakOrder lt) where
 pub every-contains : {X : Type 0} (P : X → Type 0) (xs : List X) (x : X) → AllByRecursion P xs
     → Contains xs x → P x
 every-contains P xs x h c = All-contains P xs x (All-from_recursion P xs h) c
-
-pub row_lt : List SortKey → Row → Row → Bool
-row_lt = λ keys a b. is_lt (row_cmp keys a b)
 
 pub rows-ordered : (keys : List SortKey) → IsStrictWeakOrder (λ a b. is_lt (row_cmp keys a b))
 rows-ordered keys = ranks_by (row_cmp_total keys) (λ (r : Row). r)

@@ -1,12 +1,6 @@
 -- How many wires of a list pass a test and have a port below a number: no more than the number where no two of them have one port, and no
 -- fewer where each port below the number has one. So the ports of those that pass are numbered from 0 up to their count.
-use Rattle.std.proofs.Common.{◌≡◌, ℕ, ◌+◌, ◌<◌, ◌≤◌, ◌==◌, nat_lt, ◌&&◌, Bool, true, false, cond, List, [], ◌∷◌, length, zero, suc, refl, sym, ap, subst, arith, ◌∙◌, get_or, inl, inr, ◌⊎◌}
-use Rattle.std.specs.List.{count_by, list_any}
-use Rattle.std.proofs.lemmas.Bool.{both_ways, cases_lt, cases_order, eqb-true, eq-eqb, ne_eqb, ltb-true, lt-ltb, le-ltb, and_parts, and_from}
-use Rattle.std.proofs.lemmas.List.Folds.{Any-from_list_any, list_any_at}
-use Rattle.std.proofs.lemmas.List.Sums.{sum_by-cons, get_or-le-sum_by, sum_by-le-sum_by}
-use Rattle.port_word.specs.declared.flags.Wire.{Wire}
-use Rattle.proc_api.specs.Settled.{wire_at, no_wire}
+use Rattle.proc_api.proofs.Imports.{Any-from_list_any, Bool, List, Wire, [], and_from, and_parts, ap, arith, both_ways, cases_lt, cases_order, cond, count_by, eq-eqb, eqb-true, false, false_from_ne_true, get_or, get_or-le-sum_by, inl, inr, le-ltb, length, list_any, list_any_at, lt-ltb, ltb-true, nat_lt, ne_eqb, no_wire, refl, subst, suc, sum_by-cons, sum_by-le-sum_by, sym, true, wire_at, zero, ℕ, ◌&&◌, ◌+◌, ◌<◌, ◌==◌, ◌∙◌, ◌∷◌, ◌≡◌, ◌≤◌, ◌⊎◌}
 
 -- the wire passes the test and has the port, or a port below k
 abbrev pub is_at : (Wire → Bool) → (Wire → ℕ) → ℕ → Wire → Bool
@@ -37,10 +31,6 @@ below-suc test port k (w ∷ ws) =
     let at = sum_by-cons (λ x. weight (is_at test port k x)) w ws in
     omega (arith, more, below, at, weight-order (test w) (port w) k (cases_order (port w) k), below-suc test port k ws)
 
-false-unless-true : (b : Bool) → (b ≡ true → ⊥) → b ≡ false
-false-unless-true true h = absurd (h refl)
-false-unless-true false h = refl
-
 weight-one : (b : Bool) → b ≡ true → weight b ≡ 1
 weight-one b e = ap weight e
 
@@ -63,7 +53,8 @@ unfolding wire_at
 count-nothing test [] h = refl
 count-nothing test (w ∷ ws) h =
     let rest : count_by test ws ≡ 0 = count-nothing test ws (λ e lt t. h (suc e) (omega (arith, lt)) t) in
-    let first : weight (test w) ≡ 0 = weight-zero (test w) (false-unless-true (test w) (h 0 (omega arith))) in
+    let first : weight (test w) ≡ 0 =
+    weight-zero (test w) (false_from_ne_true (test w) (h 0 (omega arith))) in
     omega (arith, count-cons test w ws, first, rest)
 
 count-one-at : (test : Wire → Bool) (w : Wire) (ws : List Wire) (b : Bool) → test w ≡ b → (b ≡ true → (e : ℕ) → e < length ws → test (wire_at ws e) ≡ true → ⊥) → count_by test ws ≤ 1 → count_by test (w ∷ ws) ≤ 1

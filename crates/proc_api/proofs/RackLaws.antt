@@ -1,10 +1,5 @@
 -- Laws of racks.
-use Rattle.std.proofs.Common.{◌≡◌, ℕ, zero, suc, ◌+◌, ◌<◌, Bool, false, cond, List, [], ◌∷◌, map, take, length, get_or, count_by, refl, ap, ◌∙◌, sym, arith}
-use Rattle.std.specs.List.{remove}
-use Rattle.std.proofs.lemmas.List.{get_or-map, length-map}
-use Rattle.std.proofs.lemmas.List.Sums.{sum_by-cons, count_by_more_no}
-use Rattle.query_model.specs.declared.processor_spec.Kind.{Kind}
-use Rattle.proc_api.specs.Names.{BoxPicture, is_of, IsPlaceOf, TakesOut}
+use Rattle.proc_api.proofs.Imports.{Bool, BoxPicture, IsPlaceOf, Kind, List, TakesOut, [], ap, arith, cond, count_by, count_by_more_no, false, get_or, get_or-map, is_of, length, length-map, map, refl, remove, suc, sum_by-cons, sym, take, zero, ℕ, ◌+◌, ◌<◌, ◌∙◌, ◌∷◌, ◌≡◌}
 
 count_by-cons : {A : Type 0} (test : A → Bool) (x : A) (xs : List A) → count_by test (x ∷ xs) ≡ cond (test x) 1 0 + count_by test xs
 count_by-cons test x xs = sum_by-cons (λ y. cond (test y) 1 0) x xs

@@ -1,14 +1,6 @@
 -- What several calls of a view pull and push: over two steps it is what the first did, and then
 -- what the second did.
-use Rattle.std.proofs.Common.{◌≡◌, ◌⊎◌, ℕ, ◌+◌, ◌<◌, ◌≤◌, not, ◌&&◌, Bool, true, false, cond, List, [], ◌∷◌, ◌++◌, Option, None, append_assoc, refl, sym, ap, subst, ◌∙◌, inl, inr}
-use Rattle.std.proofs.Math.ListN.{get_or-eq_default}
-use Rattle.std.proofs.lemmas.Bool.{cases_lt}
-use Rattle.std.proofs.lemmas.List.{append-nil}
-use Rattle.chunk_data.specs.Values.{Table}
-use Rattle.port_word.specs.Names.{Picture, input_at, output_at, in_count, out_count, no_input, over_flags, can_push, holds_data, is_out_finished, emptied, closed, after_pull, after_push, ChangedByCalls, PortCall, after_call, after_calls, pull_call, need_call, close_call, push_call, finish_call, IsSound}
-use Rattle.port_word.specs.declared.flags.Flags.{Flags}
-use Rattle.port_word.specs.declared.port_view.InputPort.{InputPort}
-use Rattle.proc_api.specs.Names.{Lists, pushes_to, pulled_at, pushed_at, taken_out, with_pulled, with_pushed, rows_pulled, total_rows}
+use Rattle.proc_api.proofs.Imports.{Bool, ChangedByCalls, Flags, InputPort, IsSound, List, Lists, None, Option, Picture, PortCall, Table, [], after_call, after_calls, after_pull, after_push, and_parts, ap, append-nil, append_assoc, can_push, cases_lt, close_call, closed, cond, cond_both, emptied, false, finish_call, get_or-eq_default, holds_data, in_count, inl, input_at, inr, is_out_finished, need_call, no_input, not, not-true, out_count, output_at, over_flags, pull_call, pulled_at, push_call, pushed_at, pushes_to, refl, rows_pulled, subst, sym, taken_out, total_rows, true, with_pulled, with_pushed, ℕ, ◌++◌, ◌+◌, ◌<◌, ◌∙◌, ◌∷◌, ◌≡◌, ◌≤◌, ◌⊎◌}
 use Rattle.proc_api.proofs.CallLaws.{no-pushes, taken_out-same}
 use Rattle.proc_api.proofs.Keeping.{total-append}
 use Rattle.proc_api.proofs.ShutPorts.{by-place}
@@ -77,19 +69,12 @@ unfolding output_at out_count
 past-output p o le = get_or-eq_default p.outputs over_flags le
 
 pub empty-of : (f : Flags) → can_push f ≡ true → f.has_data ≡ false
-empty-of f e = go f.needed f.has_data f.fin_out e
-  where
-    go : (n d o : Bool) → (n && (not d && not o)) ≡ true → d ≡ false
-    go true true o e = absurd (cc)
-    go true false o e = refl
-    go false d o e = absurd (cc)
+empty-of f e =
+    not-true f.has_data (and_parts (not f.has_data) (not f.fin_out) (and_parts f.needed _ e).1).0
 
 finishing-data : (f : Flags) → (finishing f).has_data ≡ f.has_data
-finishing-data f = by-flag (is_out_finished f)
-  where
-    by-flag : (t : Bool) → (cond t f (record f { fin_out = true })).has_data ≡ f.has_data
-    by-flag true = refl
-    by-flag false = refl
+finishing-data f = cond_both (is_out_finished f) f (record f { fin_out = true })
+    (λ g. g.has_data ≡ f.has_data) (λ e. refl) (λ e. refl)
 
 pulls-on : (p : Picture) (i : ℕ) (b : Bool) → i < in_count p → holds_data (input_at p i).flags ≡ b
     → GoesOn p (after_pull p i)

@@ -1,11 +1,5 @@
 -- Closing inputs and finishing outputs, one after another.
-use Rattle.std.proofs.Common.{◌≡◌, ◌≢◌, ℕ, ◌+◌, ◌<◌, Bool, true, false, cond, ◌||◌, refl, sym, ap, subst, ◌∙◌, arith, inl, inr}
-use Rattle.std.proofs.lemmas.Bool.{cases_eq}
-use Rattle.std.proofs.lemmas.List.{append-nil}
-use Rattle.port_word.specs.Names.{Picture, input_at, output_at, in_count, out_count, is_out_finished, after_close, after_finish, close_call, finish_call}
-use Rattle.port_word.specs.declared.flags.Flags.{Flags}
-use Rattle.port_word.proofs.Differences.{changed-by-none, changed-by-one, changed-by-both}
-use Rattle.proc_api.specs.Names.{pushes_to, SameChunks, ClosesFront, FinishesFront}
+use Rattle.proc_api.proofs.Imports.{ClosesFront, FinishesFront, Flags, Picture, SameChunks, after_close, after_finish, ap, append-nil, arith, cases_eq, changed-by-both, changed-by-none, changed-by-one, close_call, cond_both, finish_call, in_count, inl, input_at, inr, is_out_finished, out_count, output_at, pushes_to, refl, subst, sym, true, ℕ, ◌+◌, ◌<◌, ◌∙◌, ◌≡◌, ◌≢◌}
 use Rattle.proc_api.proofs.Turns.{close-turns, finish-turns, finishing, finishing-leaves}
 
 -- what holds of every input, where it holds of the changed one and of the others
@@ -48,11 +42,8 @@ finishes-none v = record {
 }
 
 pub is-finished : (f : Flags) → is_out_finished (finishing f) ≡ true
-is-finished f = go (f.fin_out || f.fin_in) refl
-  where
-    go : (b : Bool) → (f.fin_out || f.fin_in) ≡ b → is_out_finished (cond b f (record f { fin_out = true })) ≡ true
-    go true e = e
-    go false e = refl
+is-finished f = cond_both (is_out_finished f) f (record f { fin_out = true })
+    (λ g. is_out_finished g ≡ true) (λ e. e) (λ e. refl)
 
 pub finishes-next : (n : ℕ) (v w u : Picture) → n < out_count v → u ≡ after_finish w n → FinishesFront n v w → FinishesFront (n + 1) v u
 finishes-next n v w u lt e c =

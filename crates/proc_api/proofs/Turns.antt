@@ -1,14 +1,5 @@
 -- What each call of a view changes, port by port. A processor's proof takes these in the place of the calls' pictures.
-use Rattle.std.proofs.Common.{rules, ◌≡◌, ◌≢◌, ℕ, ◌<◌, ◌==◌, Bool, true, false, cond, not, ◌||◌, List, [], ◌∷◌, ◌++◌, refl, sym, ap, ◌∙◌}
-use Rattle.std.proofs.lemmas.List.{append-nil}
-use Rattle.chunk_data.specs.Values.{Table}
-use Rattle.port_word.specs.Names.{Picture, input_at, output_at, in_count, out_count, with_input, with_output, with_actions, holds_data, can_push, is_out_finished, noted_want, noted, emptied, closed, with_needed, after_pull, after_need, after_close, after_push, after_finish}
-use Rattle.port_word.specs.declared.flags.Flags.{Flags}
-use Rattle.port_word.specs.declared.flags.Action.{Action}
-use Rattle.port_word.specs.declared.port_view.InputPort.{InputPort}
-use Rattle.port_word.specs.declared.flags.Action.TheVariants.{Pull, Close, Push, Finish}
-use Rattle.port_word.proofs.Laws.{input_at-with_input, input_at-with_input-other, output_at-with_output, output_at-with_output-other, output_at-with_input, input_at-with_output, in_count-with_input, out_count-with_input, in_count-with_output, out_count-with_output}
-use Rattle.proc_api.specs.Histories.{pushes_to}
+use Rattle.proc_api.proofs.Imports.{Action, Bool, Close, Finish, Flags, InputPort, List, Picture, Pull, Push, Table, [], after_close, after_finish, after_need, after_pull, after_push, ap, append-nil, can_push, closed, cond, cond_both, emptied, false, holds_data, in_count, in_count-with_input, in_count-with_output, input_at, input_at-with_input, input_at-with_input-other, input_at-with_output, is_out_finished, not, not-true, noted, noted_want, out_count, out_count-with_input, out_count-with_output, output_at, output_at-with_input, output_at-with_output, output_at-with_output-other, pushes_to, refl, rules, sym, true, with_actions, with_input, with_needed, with_output, ℕ, ◌++◌, ◌<◌, ◌==◌, ◌||◌, ◌∙◌, ◌∷◌, ◌≡◌, ◌≢◌}
 use Rattle.proc_api.proofs.CallLaws.{pushes_to-append, pushes_to-noted_want}
 
 -- input i alone is changed, to x, and nothing is pushed
@@ -82,10 +73,6 @@ when-open x b e = ap (λ t. cond t x (with_needed x b)) (sym e)
 closed-or-needed : (x : InputPort) (b : Bool) (t n : Bool) → x.flags.fin_in ≡ t → x.flags.needed ≡ n → (t || n) ≡ true → (n ≡ true → x.flags.needed ≡ b) → x ≡ needing x b
 closed-or-needed x b true n e f h k = when-closed x b e
 closed-or-needed x b false n e f h k = needed-already x b (k h) ∙ when-open x b e
-
-not-true : (n : Bool) → not n ≡ true → n ≡ false
-not-true true e = absurd (cc)
-not-true false e = refl
 
 closed-or-unneeded : (x : InputPort) (t n : Bool) → x.flags.fin_in ≡ t → x.flags.needed ≡ n → (t || not n) ≡ true → x ≡ needing x false
 closed-or-unneeded x true n e f h = when-closed x false e
@@ -163,18 +150,13 @@ pub record LeavesInput (x y : InputPort) : Type 0 where
   pub fin_in : y.flags.fin_in ≡ x.flags.fin_in
 
 pub needing-leaves : (x : InputPort) (b : Bool) → LeavesInput x (needing x b)
-needing-leaves x b = by-flag x.flags.fin_in
-  where
-    by-flag : (t : Bool) → LeavesInput x (cond t x (with_needed x b))
-    by-flag true = record { chunk = refl; has_data = refl; fin_out = refl; fin_in = refl }
-    by-flag false = record { chunk = refl; has_data = refl; fin_out = refl; fin_in = refl }
+needing-leaves x b = cond_both x.flags.fin_in x (with_needed x b) (LeavesInput x)
+    (λ e. record { chunk = refl; has_data = refl; fin_out = refl; fin_in = refl })
+    (λ e. record { chunk = refl; has_data = refl; fin_out = refl; fin_in = refl })
 
 pub needing-needs : (x : InputPort) → x.flags.fin_in ≡ false → (needing x true).flags.needed ≡ true
 needing-needs x e = ap (λ t. (cond t x (with_needed x true)).flags.needed) e
 
 pub finishing-leaves : (f : Flags) → (finishing f).fin_in ≡ f.fin_in
-finishing-leaves f = by-flag (is_out_finished f)
-  where
-    by-flag : (t : Bool) → (cond t f (record f { fin_out = true })).fin_in ≡ f.fin_in
-    by-flag true = refl
-    by-flag false = refl
+finishing-leaves f = cond_both (is_out_finished f) f (record f { fin_out = true })
+    (λ g. g.fin_in ≡ f.fin_in) (λ e. refl) (λ e. refl)

@@ -1,10 +1,5 @@
 -- Flags of a view, port by port.
-use Rattle.std.proofs.Common.{◌≡◌, ℕ, ◌+◌, ◌<◌, ◌≤◌, ◌++◌, List, ◌∷◌, [], map, take, ap, ◌∙◌}
-use Rattle.std.proofs.lemmas.List.{get_or-map, length-map, take_all, take_more}
-use Rattle.port_word.specs.Pictures.{Picture, input_at, output_at, in_count, out_count, no_input, over_flags}
-use Rattle.port_word.specs.declared.flags.Flags.{Flags}
-use Rattle.port_word.specs.declared.port_view.InputPort.{InputPort}
-use Rattle.proc_api.specs.Clauses.{port_flags}
+use Rattle.proc_api.proofs.Imports.{Flags, InputPort, List, Picture, [], ap, get_or-map, in_count, input_at, length-map, map, no_input, out_count, output_at, over_flags, port_flags, take, take_all, take_more, ℕ, ◌++◌, ◌+◌, ◌<◌, ◌∙◌, ◌∷◌, ◌≡◌, ◌≤◌}
 
 pub next_input : (v : Picture) (i : ℕ) → i < in_count v → take (i + 1) (port_flags v).inputs ≡ take i (port_flags v).inputs ++ (input_at v i).flags ∷ []
 unfolding input_at in_count

@@ -1,16 +1,7 @@
 -- What contracts see of a boxed processor, as plain data.
-use Rattle.std.specs.Prelude.{ℕ, Bool, true, false, List, [], length, slice_index_or, Option, Some, None}
-use Rattle.chunk_data.specs.Values.{Row, Table}
-use Rattle.query_model.specs.Database.{Files}
-use Rattle.query_model.specs.declared.places.BadPlace.{BadPlace}
-use Rattle.query_model.specs.declared.processor_spec.Spec.{Spec}
-use Rattle.query_model.specs.declared.processor_spec.Kind.{Kind}
+use Rattle.proc_api.specs.Prelude.{Answer, BadPlace, Bool, Files, Flags, Kind, List, None, Option, Row, Some, Spec, Table, WorkFault, [], false, length, no_flags, slice_index_or, true, ℕ}
 use Rattle.query_model.specs.declared.processor_spec.Kind.TheVariants as kind
-use Rattle.port_word.specs.Pictures.{no_flags}
-use Rattle.port_word.specs.declared.flags.Flags.{Flags}
 use Rattle.proc_api.specs.Forms.{GrowthForm}
-use Rattle.proc_api.specs.declared.status.Answer.{Answer}
-use Rattle.proc_api.specs.declared.status.WorkFault.{WorkFault}
 
 -- the flags of each port of a view
 pub record PortFlags : Type 0 where

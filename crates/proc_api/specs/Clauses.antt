@@ -1,25 +1,12 @@
 -- The clauses of a processor's calls, over what is seen of the box before and after a call.
-use Rattle.std.specs.Prelude.{◌≡◌, ◌≢◌, ◌⊎◌, ℕ, ◌+◌, ◌<◌, ◌≤◌, true, false, IsTrue, List, [], length, map, Option, Some, None, IsSome, IfSome, ⊤}
-use Rattle.chunk_data.specs.Values.{Table}
-use Rattle.query_model.specs.Names.{kind_of, enough, Files, file_bytes, part_bad_place, bad_line_in}
-use Rattle.query_model.specs.declared.processor_spec.PartSpec.{PartSpec}
-use Rattle.query_model.specs.declared.processor_spec.Spec.{Spec}
-use Rattle.query_model.specs.declared.processor_spec.Kind.{Kind}
+use Rattle.std.specs.Prelude.{◌+◌, ◌<◌, ◌≡◌, ◌≢◌, ◌≤◌, ◌⊎◌}
+use Rattle.proc_api.specs.Prelude.{Answer, Files, Growth, IfSome, InputPort, IsAllFinished, IsSome, IsTrue, Kind, List, LoadRefusal, None, Option, PartSpec, Picture, Prepared, Scheduled, Some, Spec, Status, Table, WaitsForData, WaitsForRoom, Wake, WorkFault, [], bad_line_in, enough, false, file_bytes, kind_of, length, map, out_count, part_bad_place, true, ℕ, ⊤}
 use Rattle.query_model.specs.declared.processor_spec.Kind.TheVariants as kind
 use Rattle.query_model.specs.declared.processor_spec.Spec.TheVariants as spec
-use Rattle.port_word.specs.Names.{Picture, out_count, WaitsForData, WaitsForRoom, IsAllFinished}
-use Rattle.port_word.specs.declared.port_view.InputPort.{InputPort}
-use Rattle.proc_api.specs.declared.status.Status.{Status}
 use Rattle.proc_api.specs.declared.status.Status.TheVariants as status
-use Rattle.proc_api.specs.declared.status.Wake.{Wake}
 use Rattle.proc_api.specs.declared.status.Wake.TheVariants as wake
-use Rattle.proc_api.specs.declared.status.Answer.{Answer}
-use Rattle.proc_api.specs.declared.status.Answer.TheVariants.{Prepared, Scheduled}
-use Rattle.proc_api.specs.declared.status.LoadRefusal.{LoadRefusal}
 use Rattle.proc_api.specs.declared.status.LoadRefusal.TheVariants as refusal
-use Rattle.proc_api.specs.declared.status.WorkFault.{WorkFault}
 use Rattle.proc_api.specs.declared.status.WorkFault.TheVariants as fault
-use Rattle.proc_api.specs.declared.growth.Growth.{Growth}
 use Rattle.proc_api.specs.Forms.{growth_form}
 use Rattle.proc_api.specs.Boxes.{BoxPicture, PortFlags, WorkState, no_notes}
 use Rattle.proc_api.specs.Histories.{Lists, no_lists, chunk_rows, with_pulled, with_pushed, rows_pulled, raised}

@@ -1,17 +1,8 @@
 -- Specs and growths apart from where their boxes lie, since a copy has boxes of its own.
-use Rattle.std.specs.Prelude.{ℕ, List, map, Option, Some, None}
-use Rattle.query_model.specs.Names.{Formula, formula, Cond}
-use Rattle.query_model.specs.declared.query.AggOp.{AggOp}
-use Rattle.query_model.specs.declared.query.CompareOp.{CompareOp}
-use Rattle.query_model.specs.declared.query.ExprOf.{ExprOf}
-use Rattle.query_model.specs.declared.query.Operand.{Operand}
-use Rattle.query_model.specs.declared.processor_spec.Spec.{Spec}
+use Rattle.proc_api.specs.Prelude.{AggOp, CompareOp, Cond, Edge, ExprOf, Formula, GrowNode, Growth, List, None, Operand, Option, Some, Spec, formula, map, ℕ}
 use Rattle.query_model.specs.declared.query.Operand.TheVariants as operand
 use Rattle.query_model.specs.declared.query.CondOf.TheVariants as condition
 use Rattle.query_model.specs.declared.processor_spec.Spec.TheVariants as spec
-use Rattle.proc_api.specs.declared.growth.Edge.{Edge}
-use Rattle.proc_api.specs.declared.growth.GrowNode.{GrowNode}
-use Rattle.proc_api.specs.declared.growth.Growth.{Growth}
 
 pub data OperandForm : Type 0 where
   plain : Formula ℕ → OperandForm

@@ -1,9 +1,7 @@
 -- Graphs of processors: each node has a rank, each edge goes from a lower rank to a higher one, and the ports of a node that are in use have
 -- one edge each and are numbered from 0 without a gap.
-use Rattle.std.specs.Prelude.{◌≡◌, ℕ, zero, suc, ◌+◌, ◌<◌, ◌≤◌, ◌==◌, not, ◌&&◌, ◌||◌, Bool, true, List, length, slice_index_or, sum_by, count_by}
-use Rattle.std.specs.List.{list_any, list_all}
-use Rattle.port_word.specs.declared.flags.Wire.{Wire}
-use Rattle.port_word.specs.declared.flags.Reserve.{Reserve}
+use Rattle.std.specs.Prelude.{◌&&◌, ◌+◌, ◌<◌, ◌==◌, ◌||◌, ◌≡◌, ◌≤◌}
+use Rattle.proc_api.specs.Prelude.{Bool, List, Reserve, Wire, count_by, length, list_all, list_any, not, slice_index_or, suc, sum_by, true, zero, ℕ}
 use Rattle.proc_api.specs.Settled.{wire_at}
 
 unfoldable pub rank_at : List ℕ → ℕ → ℕ

@@ -1,15 +1,8 @@
 -- What a partial aggregate and a merge make of their rows.
-use Rattle.std.specs.Prelude.{ℕ, suc, cond, Bool, true, false, List, [], ◌∷◌, ◌++◌, length, map, Some, None}
-use Rattle.chunk_data.specs.Values.{Row, default_value}
-use Rattle.chunk_data.specs.declared.typed_value.ColumnType.{ColumnType}
-use Rattle.query_model.specs.Groups.{combine_of, groups, groups_or_default, merged_groups}
-use Rattle.query_model.specs.Sources.{count_up}
-use Rattle.query_model.specs.declared.query.AggCall.{AggCall}
-use Rattle.query_model.specs.declared.query.AggOp.{AggOp}
+use Rattle.std.specs.Prelude.{◌++◌, ◌∷◌}
+use Rattle.proc_api.specs.Prelude.{AggCall, AggOp, Bool, ColumnType, GroupSpec, List, None, Row, Some, StateCall, [], combine_of, cond, count_up, default_value, false, groups, groups_or_default, length, map, merged_groups, suc, true, ℕ}
 use Rattle.query_model.specs.declared.query.AggOp.TheVariants as agg
 use Rattle.query_model.specs.declared.query.ExprOf.TheVariants as expr
-use Rattle.query_model.specs.declared.processor_spec.GroupSpec.{GroupSpec}
-use Rattle.query_model.specs.declared.processor_spec.StateCall.{StateCall}
 
 abbrev pub is_count : AggOp → Bool
 is_count agg.Count = true

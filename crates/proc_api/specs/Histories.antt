@@ -1,9 +1,6 @@
 -- What a processor pulled and pushed: the list of chunks of each port, and what one call adds to it.
-use Rattle.std.specs.Prelude.{ℕ, zero, suc, ◌+◌, ◌-◌, ◌^◌, ◌==◌, min, cond, List, [], ◌∷◌, ◌++◌, length, flat_map, Option, Some, None}
-use Rattle.chunk_data.specs.Values.{Row, Table}
-use Rattle.port_word.specs.Pictures.{Picture, input_at, output_at}
-use Rattle.port_word.specs.declared.flags.Action.{Action}
-use Rattle.port_word.specs.declared.flags.Action.TheVariants.{Want, Unwant, Pull, Close, Push, Finish}
+use Rattle.std.specs.Prelude.{◌++◌, ◌+◌, ◌-◌, ◌==◌, ◌^◌, ◌∷◌}
+use Rattle.proc_api.specs.Prelude.{Action, Close, Finish, List, None, Option, Picture, Pull, Push, Row, Some, Table, Unwant, Want, [], cond, flat_map, input_at, length, min, output_at, suc, zero, ℕ}
 
 -- the chunks of each port, in order
 abbrev pub Lists : Type 0

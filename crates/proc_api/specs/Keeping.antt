@@ -1,16 +1,8 @@
 -- The processor contract: what a box keeps of the chunks that it pulled and pushed, by cases on its spec.
-use Rattle.std.specs.Prelude.{◌≡◌, ◌⊎◌, ℕ, ◌<◌, ◌≤◌, max, drop, true, false, List, [], ◌∷◌, ◌++◌, length, map, filter, slice_index_or, Option, Some, None, ⊤}
-use Rattle.std.specs.List.{All}
-use Rattle.chunk_data.specs.Values.{Row, Table}
-use Rattle.chunk_data.specs.declared.typed_value.ColumnType.{ColumnType}
-use Rattle.chunk_data.specs.declared.typed_value.SortKey.{SortKey}
+use Rattle.std.specs.Prelude.{◌++◌, ◌<◌, ◌∷◌, ◌≡◌, ◌≤◌, ◌⊎◌}
+use Rattle.proc_api.specs.Prelude.{All, ColumnType, Cond, Expr, Files, IsItem, IsTypedCond, JoinSpec, KeyPair, List, None, Option, PartSpec, Row, Some, SortKey, SortSpec, Spec, Table, [], bad_place, drop, enough, false, file_bytes, filter, good_rows, holds, is_in_finished, item_row, length, map, max, part_records, slice_index_or, suc, true, type_of, zero, ℕ, ⊤}
 use Rattle.chunk_data.specs.declared.typed_value.ColumnType.TheVariants as column
-use Rattle.query_model.specs.Names.{Cond, Expr, holds, type_of, item_row, enough, IsItem, IsTypedCond, part_records, good_rows, bad_place, Files, file_bytes}
-use Rattle.query_model.specs.declared.processor_spec.PartSpec.{PartSpec}
-use Rattle.query_model.specs.declared.processor_spec.SortSpec.{SortSpec}
-use Rattle.query_model.specs.declared.processor_spec.Spec.{Spec}
 use Rattle.query_model.specs.declared.processor_spec.Spec.TheVariants as spec
-use Rattle.port_word.specs.Pictures.{is_in_finished}
 use Rattle.proc_api.specs.Boxes.{BoxPicture, PortFlags, WorkState, idle_work, kept_input, kept_output, kept_inputs, kept_outputs}
 use Rattle.proc_api.specs.Histories.{Lists, chunk_rows, total_rows, last_count}
 use Rattle.proc_api.specs.Grouped.{group_types, partial_types}
@@ -92,7 +84,7 @@ pub record KeepsMade (s : Spec) (p : BoxPicture) (ins outs : Lists) : Type 0 whe
   pub rows : HasMade s (own_of p.work) worked outs (chunk_rows p.work.made)
   pub over : (o : ℕ) → (kept_output p o).fin_out ≡ true → IsOver s p.work
 
--- The rows that a box keeps. Nothing is asked yet of the kinds at the end.
+-- The rows that a box keeps. Nothing is asked yet of a list of parts.
 abbrev pub KeepsRows : Option Spec → BoxPicture → Lists → Lists → Type 0
 KeepsRows None p ins outs = ⊤
 KeepsRows (Some (spec.Csv part)) p ins outs = KeepsPart part p outs
@@ -107,7 +99,7 @@ KeepsRows (Some (spec.PartialAggregate groups)) p ins outs =
     KeepsMade (spec.PartialAggregate groups) p ins outs
 KeepsRows (Some (spec.MergeAggregate groups)) p ins outs =
     KeepsMade (spec.MergeAggregate groups) p ins outs
-KeepsRows (Some (spec.HashJoin join)) p ins outs = ⊤
+KeepsRows (Some (spec.HashJoin join)) p ins outs = KeepsMade (spec.HashJoin join) p ins outs
 KeepsRows (Some (spec.Sort order)) p ins outs = KeepsMade (spec.Sort order) p ins outs
 KeepsRows (Some (spec.MergeSorted order)) p ins outs = KeepsMade (spec.MergeSorted order) p ins outs
 
@@ -122,8 +114,25 @@ pub record FitsOrder (order : SortSpec) (types : List ColumnType) : Type 0 where
   pub types_are : types ≡ order.types
   pub keys_within : AreKeysWithin order
 
+-- the types of the rows of a join's input: the FROM table's at 0, the JOIN table's at 1
+abbrev pub side_types : JoinSpec → ℕ → List ColumnType
+side_types join zero = join.left
+side_types join (suc i) = join.right
+
+-- each pair has a column of either side, both of one type
+abbrev pub AreKeyPairs : JoinSpec → Type 0
+AreKeyPairs join =
+    All (λ (pair : KeyPair). (pair.left < length join.left) × (pair.right < length join.right)
+    × (slice_index_or join.left pair.left column.Text
+    ≡ slice_index_or join.right pair.right column.Text)) join.pairs
+
+-- the types are those of the join's input, and its pairs have columns
+pub record FitsJoin (join : JoinSpec) (i : ℕ) (types : List ColumnType) : Type 0 where
+  pub types_are : types ≡ side_types join i
+  pub pairs_within : AreKeyPairs join
+
 -- Chunks of these types fit an input of the spec: they are the types that it gives, or type its condition, expressions and columns. A
--- Resize and a Limit take every chunk, and so do so far the kinds at the end.
+-- Resize and a Limit take every chunk, and so does so far a list of parts.
 abbrev pub FitsInput : Option Spec → ℕ → List ColumnType → Type 0
 FitsInput (Some (spec.Filter c)) i types = IsTypedCond types c
 FitsInput (Some (spec.Expression items)) i types = All (IsItem types) items
@@ -136,7 +145,7 @@ FitsInput (Some spec.Collect) i types = ⊤
 FitsInput (Some (spec.List list)) i types = ⊤
 FitsInput (Some (spec.PartialAggregate groups)) i types = types ≡ partial_types groups
 FitsInput (Some (spec.MergeAggregate groups)) i types = types ≡ group_types groups
-FitsInput (Some (spec.HashJoin join)) i types = ⊤
+FitsInput (Some (spec.HashJoin join)) i types = FitsJoin join i types
 FitsInput (Some (spec.Sort order)) i types = FitsOrder order types
 FitsInput (Some (spec.MergeSorted order)) i types = FitsOrder order types
 
@@ -167,7 +176,7 @@ pub record IsMadeOfPulled (items : List Expr) (ins : Lists) (types : List Column
   pub is : types ≡ map (λ e. type_of e from) items
 
 -- Chunks of these types may be pushed: they are the types of the rows that the spec makes, or of a chunk that was
--- pulled and fits, where rows are passed on as they are. Nothing is asked yet of the kinds at the end.
+-- pulled and fits, where rows are passed on as they are. Nothing is asked yet of a list of parts.
 abbrev pub MakesTypes : Option Spec → Lists → List ColumnType → Type 0
 MakesTypes (Some (spec.Csv part)) ins types = types ≡ part.types
 MakesTypes (Some (spec.Filter c)) ins types = IsFitPulled c ins types
@@ -180,7 +189,7 @@ MakesTypes (Some spec.Collect) ins types = ⊤
 MakesTypes (Some (spec.List list)) ins types = ⊤
 MakesTypes (Some (spec.PartialAggregate groups)) ins types = types ≡ group_types groups
 MakesTypes (Some (spec.MergeAggregate groups)) ins types = types ≡ group_types groups
-MakesTypes (Some (spec.HashJoin join)) ins types = ⊤
+MakesTypes (Some (spec.HashJoin join)) ins types = types ≡ join.left ++ join.right
 MakesTypes (Some (spec.Sort order)) ins types = types ≡ order.types
 MakesTypes (Some (spec.MergeSorted order)) ins types = types ≡ order.types
 
@@ -261,6 +270,15 @@ pub record IsReadUp (p : BoxPicture) (i : ℕ) : Type 0 where
 abbrev pub moved_work : WorkState → WorkState
 moved_work w = record idle_work { unworked = w.unworked; source = w.source; made = w.made }
 
+-- a join pulls nothing of input 0 before it has noted the end of input 1
+pub record IsJoinWork (w : WorkState) : Type 0 where
+  pub idle : w ≡ record (moved_work w) {
+    unmade = w.unmade;
+    gathered = w.gathered;
+    ended = w.ended;
+  }
+  pub right_first : w.ended ≡ false → unworked_at w 0 ≡ []
+
 -- what a kind doesn't use of the state is idle
 abbrev pub IsWorkOf : Option Spec → WorkState → Type 0
 IsWorkOf (Some (spec.Csv part)) w = w ≡ record idle_work { made = w.made; unmade = w.unmade; opened = w.opened; fetched = w.fetched; bad = w.bad }
@@ -277,7 +295,7 @@ IsWorkOf (Some (spec.PartialAggregate groups)) w =
     w ≡ record (moved_work w) { unmade = w.unmade; gathered = w.gathered; ended = w.ended }
 IsWorkOf (Some (spec.MergeAggregate groups)) w =
     w ≡ record (moved_work w) { unmade = w.unmade; gathered = w.gathered; ended = w.ended }
-IsWorkOf (Some (spec.HashJoin join)) w = ⊤
+IsWorkOf (Some (spec.HashJoin join)) w = IsJoinWork w
 IsWorkOf (Some (spec.Sort order)) w =
     w ≡ record (moved_work w) { unmade = w.unmade; gathered = w.gathered; ended = w.ended }
 IsWorkOf (Some (spec.MergeSorted order)) w =

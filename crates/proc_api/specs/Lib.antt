@@ -1,3 +1,4 @@
+pub mod Prelude
 pub mod Settled
 pub mod Graphs
 pub mod Forms

@@ -1,13 +1,6 @@
 -- What a kind has made of the chunks that it worked, as they are worked one after another.
-use Rattle.std.specs.Prelude.{◌≡◌, ◌⊎◌, ℕ, zero, suc, ◌^◌, ◌-◌, ◌<◌, ◌==◌, nat_lt, min, cond, Bool, true, false, ◌||◌, List, [], ◌++◌, length, map, filter, flat_map, slice_index_or, IsPermutation, IsSorted, Option, Some, None, ⊤}
-use Rattle.std.specs.List.{AllByRecursion, Contains, list_all}
-use Rattle.std.specs.Ordering.{is_lt}
-use Rattle.chunk_data.specs.Values.{FitsTypes, Row, Table, row_cmp}
-use Rattle.chunk_data.specs.declared.typed_value.ColumnType.{ColumnType}
-use Rattle.chunk_data.specs.declared.typed_value.SortKey.{SortKey}
-use Rattle.query_model.specs.Names.{item_row, limited, holds, numbers}
-use Rattle.query_model.specs.declared.query.Span.{Span}
-use Rattle.query_model.specs.declared.processor_spec.Spec.{Spec}
+use Rattle.std.specs.Prelude.{◌++◌, ◌-◌, ◌<◌, ◌==◌, ◌^◌, ◌||◌, ◌≡◌, ◌⊎◌}
+use Rattle.proc_api.specs.Prelude.{AllByRecursion, Bool, ColumnType, Contains, FitsTypes, IsPermutation, IsSorted, KeyPair, List, None, Option, Row, Some, SortKey, Span, Spec, Table, [], cond, false, filter, flat_map, holds, is_lt, item_row, joined_rows, length, limited, list_all, map, min, nat_lt, numbers, row_cmp, slice_index_or, suc, true, zero, ℕ, ⊤}
 use Rattle.query_model.specs.declared.processor_spec.Spec.TheVariants as spec
 use Rattle.proc_api.specs.Boxes.{InputHead, WorkState}
 use Rattle.proc_api.specs.Grouped.{group_types, merged_rows, merged_states, partial_rows, partial_types}
@@ -99,6 +92,16 @@ pub record AreGrouped (types : List ColumnType) (groups whole : List Row → Lis
   pub gathering : own.ended ≡ false → AreGathering types groups own rows made
   pub grouped : own.ended ≡ true → IsPermutation (whole rows) (made ++ own.unmade)
 
+-- The rows of input 1 are gathered until its end is noted, and until then none of input 0 is worked.
+-- From then on the rows that are made, and those that can be made, are the pairs that agree, each as
+-- often.
+pub record AreJoined (pairs : List KeyPair) (own : OwnState) (left right made : List Row)
+    : Type 0 where
+  pub gathered_are : chunk_rows own.gathered ≡ right
+  pub none_left : own.ended ≡ false → left ≡ []
+  pub none_made : own.ended ≡ false → made ++ own.unmade ≡ []
+  pub joined : own.ended ≡ true → IsPermutation (joined_rows pairs left right) (made ++ own.unmade)
+
 abbrev pub no_head : InputHead
 no_head = record { rows = []; ended = false }
 
@@ -148,7 +151,7 @@ pub record AreMerged (keys : List SortKey) (heads : List InputHead) (worked : Li
       → HeldBack keys (head_at heads i) (chunk_rows (worked i)) made
 
 -- What a kind has made of its inputs: its own state, the chunks of each input that it worked, those that left by each
--- output, and the rows that wait. Nothing is asked yet of the kinds at the end.
+-- output, and the rows that wait.
 abbrev pub HasMade : Spec → OwnState → (worked outs : Lists) → (wait : List Row) → Type 0
 HasMade (spec.Numbers n rows) own worked outs wait = (chunk_rows (outs 0) ++ wait) ++ own.unmade ≡ (numbers n).rows
 HasMade (spec.Filter c) own worked outs wait = chunk_rows (outs 0) ++ wait ≡ filter (holds c) (chunk_rows (worked 0))
@@ -165,7 +168,9 @@ HasMade (spec.PartialAggregate groups) own worked outs wait =
 HasMade (spec.MergeAggregate groups) own worked outs wait =
     AreGrouped (group_types groups) (merged_states groups) (merged_rows groups) own
     (all_rows 32 worked) (chunk_rows (outs 0) ++ wait)
-HasMade (spec.HashJoin join) own worked outs wait = ⊤
+HasMade (spec.HashJoin join) own worked outs wait =
+    AreJoined join.pairs own (chunk_rows (worked 0)) (chunk_rows (worked 1))
+    (chunk_rows (outs 0) ++ wait)
 HasMade (spec.Sort order) own worked outs wait =
     AreSorted order.keys own (chunk_rows (worked 0)) (chunk_rows (outs 0) ++ wait)
 HasMade (spec.MergeSorted order) own worked outs wait =

@@ -1,12 +1,7 @@
 -- The ports of a processor, by its spec and its growth, and the view that it may be prepared against.
-use Rattle.std.specs.Prelude.{◌≡◌, ℕ, ◌<◌, ◌≤◌, Bool, true, false, not, ◌&&◌, length, count_by, Option, Some, None, ⊤}
-use Rattle.query_model.specs.declared.processor_spec.Spec.{Spec}
+use Rattle.std.specs.Prelude.{◌&&◌, ◌<◌, ◌≡◌, ◌≤◌}
+use Rattle.proc_api.specs.Prelude.{Bool, ChangedByCalls, Edge, Flags, Me, New, None, Option, Picture, Some, Spec, Who, can_push, count_by, false, holds_data, in_count, input_at, is_out_finished, length, not, out_count, output_at, true, ℕ, ⊤}
 use Rattle.query_model.specs.declared.processor_spec.Spec.TheVariants as spec
-use Rattle.port_word.specs.Names.{Picture, input_at, output_at, in_count, out_count, holds_data, can_push, is_out_finished, ChangedByCalls}
-use Rattle.port_word.specs.declared.flags.Flags.{Flags}
-use Rattle.proc_api.specs.declared.growth.Who.{Who}
-use Rattle.proc_api.specs.declared.growth.Who.TheVariants.{Me, New}
-use Rattle.proc_api.specs.declared.growth.Edge.{Edge}
 use Rattle.proc_api.specs.Forms.{GrowthForm}
 use Rattle.proc_api.specs.Histories.{pushes_to}
 use Rattle.proc_api.specs.Boxes.{BoxPicture, PortFlags, kept_input, kept_output, kept_inputs, kept_outputs}

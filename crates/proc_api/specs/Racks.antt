@@ -1,6 +1,6 @@
 -- Racks of blank boxes, in order.
-use Rattle.std.specs.Prelude.{◌≡◌, ℕ, Bool, true, nat_eq, List, ◌∷◌, ◌++◌, count_by, length, take, ◌<◌, slice_index_or, Option, Some, None}
-use Rattle.query_model.specs.declared.processor_spec.Kind.{Kind}
+use Rattle.std.specs.Prelude.{◌++◌, ◌<◌, ◌∷◌, ◌≡◌}
+use Rattle.proc_api.specs.Prelude.{Bool, Kind, List, None, Option, Some, count_by, length, nat_eq, slice_index_or, take, true, ℕ}
 use Rattle.query_model.specs.declared.processor_spec.Kind.TheVariants as kind
 use Rattle.proc_api.specs.Boxes.{BoxPicture, no_box}
 

@@ -1,9 +1,6 @@
 -- What is known of nodes that rest and of their ports, and the wires of a graph by place.
-use Rattle.std.specs.Prelude.{◌≡◌, ℕ, ◌<◌, true, List, length, slice_index_or, Option, Some, None}
-use Rattle.port_word.specs.Names.{Picture, WaitsForData, WaitsForRoom}
-use Rattle.port_word.specs.declared.flags.Flags.{Flags}
-use Rattle.port_word.specs.declared.flags.Wire.{Wire}
-use Rattle.proc_api.specs.declared.status.Status.{Status}
+use Rattle.std.specs.Prelude.{◌<◌, ◌≡◌}
+use Rattle.proc_api.specs.Prelude.{Flags, List, None, Option, Picture, Some, Status, WaitsForData, WaitsForRoom, Wire, length, slice_index_or, true, ℕ}
 use Rattle.proc_api.specs.declared.status.Status.TheVariants as status
 
 -- A node waits for data or for room, as its last status says and its picture shows. One that was

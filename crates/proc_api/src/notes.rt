@@ -1,7 +1,5 @@
-ghost use Rattle.std.specs.Prelude.{◌≡◌, ◌≤◌, true, false, Some, vec_capacity, IfOk};
-ghost use Rattle.port_word.specs.Pictures.{in_count, out_count};
-ghost use Rattle.proc_api.specs.declared.status.Answer.TheVariants.{Prepared, Scheduled};
-ghost use Rattle.proc_api.specs.Names.{no_notes, PortFlags, port_flags, raised};
+ghost use Rattle.std.specs.Prelude.{◌≡◌, ◌≤◌};
+ghost use Rattle.proc_api.specs.Names.{IfOk, PortFlags, Prepared, Scheduled, Some, false, in_count, no_notes, out_count, port_flags, raised, true, vec_capacity};
 
 use crate::status::{Answer, Status, Wake, WorkFault};
 use chunk_data::Memory;
@@ -26,8 +24,8 @@ pub struct BoxNotes {
 }
 
 impl Model for BoxNotes {
-    ghost use Rattle.std.specs.Prelude.{◌≤◌, Some, None, if◌then◌else◌, vec_capacity};
-    ghost use Rattle.proc_api.specs.Boxes.{Notes};
+    ghost use Rattle.std.specs.Prelude.{if◌then◌else◌, ◌≤◌};
+    ghost use Rattle.proc_api.specs.Names.{None, Notes, Some, vec_capacity};
 
     ghost Value = { Notes };
 

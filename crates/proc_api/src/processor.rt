@@ -1,8 +1,5 @@
-ghost use Rattle.std.specs.Prelude.{◌≡◌, ◌≢◌, ◌⊎◌, ℕ, List, Option, false, Some, None, IsTrue, IfOk, IfErr, OnOk};
-ghost use Rattle.port_word.specs.Differences.{ChangedByCalls};
-ghost use Rattle.proc_api.specs.declared.status.Answer.TheVariants.{Prepared};
-ghost use Rattle.proc_api.specs.declared.status.Status.TheVariants.{ExpandPipeline};
-ghost use Rattle.proc_api.specs.Names.{BoxPicture, FollowsKept, CountsOn, Expands, Faults, handed_out_by, HasNoReader, IsLoadRefused, IsRunning, IsSourceKind, KeepsLimits, KeepsUnlessOut, Loads, MaySchedule, MayWork, NotesView, PreparesLawfully, PulledOn, SameBox, SameCounts, SamePulled, Schedules, Unloads, Works};
+ghost use Rattle.std.specs.Prelude.{◌≡◌, ◌≢◌, ◌⊎◌};
+ghost use Rattle.proc_api.specs.Names.{BoxPicture, ChangedByCalls, CountsOn, ExpandPipeline, Expands, Faults, FollowsKept, HasNoReader, IfErr, IfOk, IsLoadRefused, IsRunning, IsSourceKind, IsTrue, KeepsLimits, KeepsUnlessOut, List, Loads, MaySchedule, MayWork, None, NotesView, OnOk, Option, Prepared, PreparesLawfully, PulledOn, SameBox, SameCounts, SamePulled, Schedules, Some, Unloads, Works, false, handed_out_by, ℕ};
 
 use crate::growth::Growth;
 use crate::status::{LoadRefusal, Status, Wake, WorkFault};

@@ -1,5 +1,5 @@
-ghost use Rattle.std.specs.Prelude.{◌≡◌, ◌+◌, ◌≤◌};
-ghost use Rattle.proc_api.specs.Histories.{raised};
+ghost use Rattle.std.specs.Prelude.{◌+◌, ◌≡◌, ◌≤◌};
+ghost use Rattle.proc_api.specs.Names.{raised};
 
 use std::marker::Model;
 
@@ -11,8 +11,8 @@ pub struct PulledRows {
 }
 
 impl Model for PulledRows {
-    ghost use Rattle.std.specs.Prelude.{◌≤◌, ◌-◌};
-    ghost use Rattle.proc_api.specs.Boxes.{RowCount};
+    ghost use Rattle.std.specs.Prelude.{◌-◌, ◌≤◌};
+    ghost use Rattle.proc_api.specs.Names.{RowCount};
 
     ghost Value = { RowCount };
 

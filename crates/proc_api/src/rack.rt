@@ -1,6 +1,5 @@
-ghost use Rattle.std.specs.Prelude.{◌≡◌, ◌+◌, ◌-◌, ◌<◌, ◌≤◌, ◌++◌, ◌∷◌, [], length, map, count_by, vec_capacity, OnOk, OnErr, IfErr};
-ghost use Rattle.std.specs.Option.{option_map};
-ghost use Rattle.proc_api.specs.Names.{IsBlank, is_of, same_kind, IsFirstPlace, TakesFirst};
+ghost use Rattle.std.specs.Prelude.{◌++◌, ◌+◌, ◌-◌, ◌<◌, ◌∷◌, ◌≡◌, ◌≤◌};
+ghost use Rattle.proc_api.specs.Names.{IfErr, IsBlank, IsFirstPlace, OnErr, OnOk, TakesFirst, [], count_by, is_of, length, map, option_map, same_kind, vec_capacity};
 
 use crate::processor::Processor;
 use query_model::processor_spec::Kind;

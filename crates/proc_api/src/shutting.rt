@@ -1,6 +1,5 @@
-ghost use Rattle.std.specs.Prelude.{◌≡◌, ℕ, ◌<◌, true};
-ghost use Rattle.port_word.specs.Names.{in_count, out_count, ChangedByCalls};
-ghost use Rattle.proc_api.specs.Ports.{ClosesFront, FinishesFront, IsShut, SameChunks};
+ghost use Rattle.std.specs.Prelude.{◌<◌, ◌≡◌};
+ghost use Rattle.proc_api.specs.Names.{ChangedByCalls, ClosesFront, FinishesFront, IsShut, SameChunks, in_count, out_count, true, ℕ};
 
 use port_word::PortView;
 

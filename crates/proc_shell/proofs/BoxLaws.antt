@@ -1,48 +1,40 @@
 -- The clauses of the calls of a shell, from what its kernel and its notes do.
-use Rattle.std.proofs.Common.{◌≡◌, ◌≢◌, ◌⊎◌, ℕ, ◌<◌, ◌≤◌, ◌||◌, ◌&&◌, not, Bool, true, false, cond, ◌==◌, List, [], ◌∷◌, ◌++◌, length, get_or, nat_lt, is_some, Option, Some, None, IfSome, OnOk, Result, Ok, Err, refl, sym, ap, ap₂, subst, ◌∙◌, arith, inl, inr}
-use Rattle.proc_shell.proofs.Imports.{All, AllFit, AllOutputsFinished, Answer, AnswerComes, BadPlace, BoxPicture, Fails, FaultHolds, FaultInCall, FaultIsDue, Faults, Finished, FitsInput, FollowsKept, HasNoReader, HasNotedEnd, HasRoom, HasSize, HasSpecPorts, Held, IfErr, IsAtMost, IsBegun, IsCrowded, IsKernelOf, IsLoadRefused, IsPulled, IsReadOut, IsRunning, IsSourceKind, IsWorkOf, Keeps, KeepsLimits, KeepsMeant, KeepsRows, KeepsSame, KernelState, Kind, Lists, Loads, Made, MakesHeld, MakesTypes, MayBeInput, MayBeReady, MaySchedule, MayWork, Means, Moves, NeedData, NeedsRoom, Notes, NotesEnd, NotesNoEnd, NotesView, Nothing, OfPart, OwnState, PartFails, PartPrepares, PartWorks, Passes, Prepared, PreparesLawfully, Progresses, Pushes, ReaderView, Ready, Row, RowCount, Scheduled, ShellPart, Shows, ShutsPart, Spec, Status, StatusComes, StatusHolds, StaysFit, Suits, Table, TakesHeld, Unworked, Wake, WorkFault, Works, WorksHeld, and_parts, append-nil, both-same, changed-by-both, chunk_rows, files_by, gathered_with, held_made, held_option, held_rows, held_unworked, is_ended, is_unworked, is_wanted, kept_input, kept_output, kind_of, length-append, most_rows, no_lists, no_table, none-pulled, not_made, noted_by, option_map, own_of, part, part_bad_place, part_seen, pulled_at, raised, reading_of, rows_of, rows_pulled, rows_since, shell_seen, source_of, suits, taken_out, total-nothing, total_rows, with_chunk, with_view}
+use Rattle.proc_shell.proofs.Imports.{All, All-behind, All-cons, All-nil, AllFit, AllOutputsFinished, AnswerComes, BadPlace, Bool, BoxPicture, Err, Fails, FaultHolds, FaultInCall, FaultIsDue, Faults, Finished, FitsInput, FollowsKept, HasNotedEnd, HasSize, HasSpecPorts, Held, IfErr, IfSome, IsAtMost, IsBegun, IsKernelOf, IsLoadRefused, IsPulled, IsReadOut, IsRunning, IsSourceKind, IsWorkOf, Keeps, KeepsLimits, KeepsMeant, KeepsRows, KeepsSame, KernelState, Kind, List, Lists, Loads, Made, MakesHeld, MakesTypes, MayBeInput, MayBeReady, Means, Moves, NeedData, NeedsRoom, None, Notes, NotesEnd, NotesNoEnd, NotesView, Nothing, OfPart, Ok, OnOk, Option, OwnState, PartFails, PartPrepares, PartWorks, Passes, Picture, PreparesLawfully, Progresses, ReaderView, Ready, Result, Row, RowCount, ShellPart, Shows, ShutsPart, Some, Spec, Status, StatusComes, StatusHolds, StaysFit, Suits, Table, TakesHeld, Unworked, WorkFault, Works, WorksHeld, [], and_parts, ap, append-nil, ap₂, arith, both-same, changed-by-both, chunk_rows, cond, eq-eqb, false, files_by, gathered_with, held_made, held_option, held_rows, held_unworked, in_count, inl, input_at, inr, is_ended, is_out_finished, is_some, is_unworked, is_wanted, kept_input, kept_output, kind_of, length, most_rows, nat_lt, no_lists, no_table, none-pulled, noted_by, option_map, out_count, output_at, own_of, part, part_bad_place, part_seen, pulled_at, raised, reading_of, refl, rows_of, rows_pulled, rows_since, shell_seen, source_of, subst, suits, sym, taken_out, total-nothing, total_rows, true, with_chunk, with_view, ℕ, ◌++◌, ◌<◌, ◌==◌, ◌||◌, ◌∙◌, ◌∷◌, ◌≡◌, ◌≢◌, ◌≤◌, ◌⊎◌}
 use Rattle.query_model.specs.declared.processor_spec.Spec.TheVariants as spec
 use Rattle.query_model.specs.declared.processor_spec.Kind.TheVariants as kind
-use Rattle.port_word.specs.Names.{Picture, input_at, output_at, in_count, out_count, can_push, is_out_finished}
 use Rattle.proc_api.specs.declared.status.Status.TheVariants as status
-use Rattle.proc_api.specs.declared.status.Wake.TheVariants as wake
 use Rattle.proc_api.specs.declared.status.WorkFault.TheVariants as fault
 use Rattle.proc_api.specs.declared.status.LoadRefusal.TheVariants as refusal
 use Rattle.proc_shell.proofs.PortMoves.{never-true, shut-law, total-one}
 use Rattle.proc_shell.proofs.SameView.{same-input, same-output, had-still, finishes-still, closes-still}
-use Rattle.proc_shell.proofs.KeepLaws.{Goes, keeps-over, noted-own, shown-one, spec-view}
+use Rattle.proc_shell.proofs.KeepLaws.{Goes, cond-none, keeps-over, noted-own, shown-one, spec-view}
 
 pub all-of-none : (P : Table → Type 0) → All P []
-all-of-none P = λ k d lt. absurd (omega arith)
-
-all-of-one : (P : Table → Type 0) (t : Table) → P t → All P (t ∷ [])
-all-of-one P t p = λ k d lt. let z : k ≡ 0 = omega (arith, lt) in subst (λ n. P (get_or (t ∷ []) n d)) (sym z) p
+all-of-none P = All-nil P
 
 -- ---- a chunk that can be pushed
 
+-- it is held where it has rows, and else nothing is
+pub by-rows : (P : Held → Type 0) (t : Table) → (t.rows ≡ [] → P Nothing)
+    → (0 < length t.rows → P (Made t)) → P (held_option (Some t))
+by-rows P t none some = go t.rows refl
+  where
+    go : (rows : List Row) → t.rows ≡ rows → P (held_rows rows t)
+    go [] e = none e
+    go (row ∷ rows) e = some (let l = ap length e in omega (arith, l))
+
 held-rows : (o : Option Table) → chunk_rows (held_made (held_option o)) ≡ rows_of o
 held-rows None = refl
-held-rows (Some t) = go t.rows refl
-  where
-    go : (rows : List Row) → rows ≡ t.rows → chunk_rows (held_made (held_rows rows t)) ≡ t.rows
-    go [] e = e
-    go (row ∷ rows) e = append-nil t.rows
+held-rows (Some t) = by-rows (λ h. chunk_rows (held_made h) ≡ t.rows) t
+    (λ none. sym none) (λ some. append-nil t.rows)
 
 pub held-worked : (o : Option Table) → held_unworked (held_option o) ≡ []
 held-worked None = refl
-held-worked (Some t) = go t.rows
-  where
-    go : (rows : List Row) → held_unworked (held_rows rows t) ≡ []
-    go [] = refl
-    go (row ∷ rows) = refl
+held-worked (Some t) = by-rows (λ h. held_unworked h ≡ []) t (λ e. refl) (λ e. refl)
 
 pub held-source : (o : Option Table) → source_of (held_option o) ≡ 0
 held-source None = refl
-held-source (Some t) = go t.rows
-  where
-    go : (rows : List Row) → source_of (held_rows rows t) ≡ 0
-    go [] = refl
-    go (row ∷ rows) = refl
+held-source (Some t) = by-rows (λ h. source_of h ≡ 0) t (λ e. refl) (λ e. refl)
 
 -- after a work nothing is unworked
 pub worked-source : (x : KernelState) (h k : Held) (new : OwnState) → WorksHeld x h new k → (source_of k ≡ 0) × (held_unworked k ≡ [])
@@ -52,55 +44,12 @@ worked-source x (Made c) k new y = absurd y
 
 held-all : (P : Table → Type 0) (o : Option Table) → IfSome o (λ (t : Table). 0 < length t.rows → P t) → All P (held_made (held_option o))
 held-all P None h = all-of-none P
-held-all P (Some t) h = go t.rows refl
-  where
-    go : (rows : List Row) → rows ≡ t.rows → All P (held_made (held_rows rows t))
-    go [] e = all-of-none P
-    go (row ∷ rows) e = all-of-one P t (h (let l = ap length e in omega (arith, l)))
+held-all P (Some t) h = by-rows (λ k. All P (held_made k)) t
+    (λ e. all-of-none P) (λ some. All-cons P t [] (h some) (All-nil P))
 
 each-some : (P Q : Table → Type 0) (o : Option Table) → ((t : Table) → P t → Q t) → IfSome o P → IfSome o Q
 each-some P Q None f h = tt
 each-some P Q (Some t) f h = f t h
-
--- ---- where `work` or `schedule` may be called
-
-pub suits-acted : (a : Option Answer) (k : Held) → MayWork a → suits a true k ≡ true
-suits-acted a Nothing m = refl
-suits-acted a (Unworked i c) m = refl
-suits-acted (Some (Prepared status.Ready)) (Made c) m = refl
-suits-acted (Some (Scheduled wake.Ready)) (Made c) m = refl
-suits-acted a (Made c) m = absurd m
-
-pub suits-work : (a : Option Answer) (b : Bool) (h : Held) → suits a b h ≡ true → MayWork a → b ≡ false → not_made h ≡ true
-suits-work a b Nothing e m f = refl
-suits-work a b (Unworked i c) e m f = refl
-suits-work (Some (Prepared status.Ready)) b (Made c) e m f = let x : not (not b) ≡ false = ap (λ z. not (not z)) f in sym x ∙ e
-suits-work (Some (Scheduled wake.Ready)) b (Made c) e m f = let x : not (not b) ≡ false = ap (λ z. not (not z)) f in sym x ∙ e
-suits-work a b (Made c) e m f = absurd m
-
-pub suits-wake : (a : Option Answer) (b : Bool) (h : Held) (w : Wake) → suits a b h ≡ true → MaySchedule a → suits (Some (Scheduled w)) false h ≡ true
-suits-wake a b Nothing w e m = refl
-suits-wake a b (Unworked i c) w e m = refl
-suits-wake (Some (Prepared status.Async)) b (Made c) w e m = absurd (cc)
-suits-wake (Some (Scheduled wake.Later)) b (Made c) w e m = absurd (cc)
-suits-wake a b (Made c) w e m = absurd m
-
--- after a prepare no chunk waits where there is room
-pub suits-room : (st : Status) (h : Held) (w : Picture) → (0 < length (held_made h) → IsCrowded w) → (NeedsRoom st → 0 < out_count w → HasRoom w) → suits (Some (Prepared st)) false h ≡ true
-suits-room st Nothing w a b = refl
-suits-room st (Unworked i c) w a b = refl
-suits-room st (Made c) w a b = go st b
-  where
-    never : HasRoom w → {X : Type 0} → X
-    never r = let x = a (omega arith) in never-true (can_push (output_at w r.output)) (x.none r.output r.in_range r.unfinished) r.room
-
-    go : (t : Status) → (NeedsRoom t → 0 < out_count w → HasRoom w) → suits (Some (Prepared t)) false (Made c) ≡ true
-    go status.NeedData b = refl
-    go status.PortFull b = refl
-    go status.Ready b = never (b tt (a (omega arith)).some)
-    go status.Async b = never (b tt (a (omega arith)).some)
-    go status.ExpandPipeline b = refl
-    go status.Finished b = refl
 
 -- what isn't worked came from input 0 or from a wanted one
 pub wanted-source : (wants : ℕ → Bool) (makes : Bool) (h : Held) → is_wanted wants makes h ≡ true → ((source_of h ≡ 0) × (held_unworked h ≡ [])) ⊎ (wants (source_of h) ≡ true)
@@ -114,33 +63,11 @@ wanted-made wants makes Nothing e f = refl
 wanted-made wants makes (Unworked i c) e f = refl
 wanted-made wants makes (Made c) e f = never-true makes f e
 
-pub wanted-option : (wants : ℕ → Bool) (makes : Bool) (o : Option Table) → (makes ≡ false → o ≡ None) → is_wanted wants makes (held_option o) ≡ true
-wanted-option wants makes None f = refl
-wanted-option wants true (Some t) f = go t.rows
-  where
-    go : (rows : List Row) → is_wanted wants true (held_rows rows t) ≡ true
-    go [] = refl
-    go (row ∷ rows) = refl
-wanted-option wants false (Some t) f = let e = f refl in absurd (cc)
-
-pub wanted-pushed : (wants : ℕ → Bool) (makes : Bool) (h k : Held) (v w : Picture) → Pushes h k v w → is_wanted wants makes h ≡ true → is_wanted wants makes k ≡ true
-wanted-pushed wants makes h Nothing v w x e = refl
-wanted-pushed wants makes (Unworked j d) (Unworked i c) v w x e = ap (λ n. wants n && nat_lt n 32) x.source ∙ e
-wanted-pushed wants makes Nothing (Unworked i c) v w x e = absurd (let f = x.unworked in cc)
-wanted-pushed wants makes (Made d) (Unworked i c) v w x e = absurd (let f = x.unworked in cc)
-wanted-pushed wants makes (Made d) (Made c) v w x e = e
-wanted-pushed wants makes Nothing (Made c) v w x e = absurd (let l = ap length x.made in let m = length-append x.left (c ∷ []) in omega (arith, l, m))
-wanted-pushed wants makes (Unworked j d) (Made c) v w x e = absurd (let l = ap length x.made in let m = length-append x.left (c ∷ []) in omega (arith, l, m))
-
 -- ---- load
 
 pub none-mapped : {A : Type 0} {B : Type 0} (f : A → B) (o : Option A) → is_some o ≡ false → is_some (option_map f o) ≡ false
 none-mapped f None e = e
 none-mapped f (Some x) e = absurd (cc)
-
-pub no-reader : (k : Kind) (count : RowCount) (o : Option ShellPart) → HasNoReader (shell_seen k None count o)
-no-reader k count None = record { files = refl; faults = refl; pendings = refl; given = refl }
-no-reader k count (Some p) = record { files = refl; faults = refl; pendings = refl; given = refl }
 
 -- a blank box that was given another kind's spec, or a spec of its kind
 pub wrong-kind : (k : Kind) (d : Option ReaderView) (count : RowCount) (o : Option ShellPart) (s : Spec) → is_some o ≡ false → kind_of s ≢ k → IsLoadRefused refusal.WrongKind (shell_seen k d count o) s
@@ -150,10 +77,6 @@ wrong-kind k d count None s none h = (refl, h)
 pub no-memory : (k : Kind) (d : Option ReaderView) (count : RowCount) (o : Option ShellPart) (s : Spec) → is_some o ≡ false → kind_of s ≡ k → IsLoadRefused refusal.Memory (shell_seen k d count o) s
 no-memory k d count (Some p) s none h = absurd (cc)
 no-memory k d count None s none h = (refl, h)
-
-cond-none : (c : Bool) (l : List Table) → l ≡ [] → cond c l [] ≡ []
-cond-none true l e = e
-cond-none false l e = refl
 
 noted-none : (d : Option ReaderView) → noted_by d 0 ≡ 0
 noted-none None = refl
@@ -441,9 +364,17 @@ module _ (k : Kind) (d : Option ReaderView) (count : RowCount) (p q : ShellPart)
       subst (λ r. Means r p.kernel.spec q.kernel.own worked outs (chunk_rows (held_made q.held))) (sym same-reading)
       (subst (Means (reading_of P) p.kernel.spec q.kernel.own worked outs) (sym made) h)
 
-  -- a chunk that was pulled fits where all that were pulled fit
-  fits-pulled : (ins : Lists) (i : ℕ) (t : Table) → AllFit (Some p.kernel.spec) ins → IsPulled ins t.types → FitsInput (Some p.kernel.spec) i t.types
-  fits-pulled ins i t f y = x.suits.shelled.any_input y.input i t.types (subst (λ types. FitsInput (Some p.kernel.spec) y.input types) y.is (f y.input y.place no_table y.in_range))
+  -- the chunk that isn't worked yet is the last of its input, and fits where all that were pulled fit
+  fits-held : (ins outs : Lists) (i : ℕ) (c : Table) → p.held ≡ Unworked i c
+      → AllFit (Some p.kernel.spec) ins → KeepsMeant p.kernel.spec P ins outs
+      → FitsInput (Some p.kernel.spec) i c.types
+  fits-held ins outs i c e f t =
+      let F : Table → Type 0 = λ (z : Table). FitsInput (Some p.kernel.spec) i z.types in
+      let same : (i == i) ≡ true = eq-eqb i i refl in
+      let last : ins i ≡ t.worked i ++ c ∷ [] =
+      t.ins_are i ∙ ap (λ h. t.worked i ++ cond (i == source_of h) (held_unworked h) []) e
+      ∙ ap (λ b. t.worked i ++ cond b (c ∷ []) []) same in
+      (All-behind F (t.worked i) (c ∷ []) (subst (λ l. All F l) last (f i))) 0 no_table (omega arith)
 
   none-of-one : {A : Type 0} {B : Type 0} {y : A} {ys : List A} → y ∷ ys ≡ [] → B
   none-of-one z = absurd (cc)
@@ -506,10 +437,10 @@ module _ (k : Kind) (d : Option ReaderView) (count : RowCount) (p q : ShellPart)
   all-held : (R : Table → Type 0) (o : Option Table) → q.held ≡ held_option o → IfSome o (λ (t : Table). 0 < length t.rows → R t) → All R (held_made q.held)
   all-held R o e f = subst (λ h. All R (held_made h)) (sym e) (held-all R o f)
 
-  works-rows : (ins outs : Lists) → AllFit (Some p.kernel.spec) ins → All (λ (z : Table). IsPulled ins z.types) (held_unworked p.held) → KeepsMeant p.kernel.spec P ins outs → KeepsMeant p.kernel.spec Q ins outs
-  works-rows ins outs fit pulled t = by-held (KeepsMeant p.kernel.spec Q ins outs)
+  works-rows : (ins outs : Lists) → AllFit (Some p.kernel.spec) ins → KeepsMeant p.kernel.spec P ins outs → KeepsMeant p.kernel.spec Q ins outs
+  works-rows ins outs fit t = by-held (KeepsMeant p.kernel.spec Q ins outs)
       (λ e y. makes-so ins outs e y t)
-      (λ i c e y. takes-so ins outs i c e y (fits-pulled ins i c fit (pulled-one ins i c e pulled)) t)
+      (λ i c e y. takes-so ins outs i c e y (fits-held ins outs i c e fit t) t)
 
   ends : NotesNoEnd p.kernel.spec p.kernel.own q.kernel.own
   ends = by-held (NotesNoEnd p.kernel.spec p.kernel.own q.kernel.own) (λ e y. y.makes.ends) (λ i c e y. y.takes.ends)
@@ -539,7 +470,7 @@ module _ (k : Kind) (d : Option ReaderView) (count : RowCount) (p q : ShellPart)
     rows = λ f.
         let fit : AllFit (Some p.kernel.spec) ins = subst (λ z. AllFit z ins) same-spec f in
         subst (λ z. KeepsRows z Q ins outs) (sym same-spec) (x.suits.shelled.into Q ins outs x.suits.uses made-sizes
-        (works-rows ins outs fit kept.unworked (x.suits.shelled.from P ins outs (spec-view p.kernel.spec x.suits.shelled P refl kept.ports) kept.idle out (kept.rows fit))));
+        (works-rows ins outs fit (x.suits.shelled.from P ins outs (spec-view p.kernel.spec x.suits.shelled P refl kept.ports) kept.idle out (kept.rows fit))));
     types = subst (λ z. (o : ℕ) → All (λ (t : Table). MakesTypes z ins t.types) (outs o)) (sym same-spec) kept.types;
     made_types = subst (λ z. All (λ (t : Table). MakesTypes z ins t.types) (held_made q.held)) (sym same-spec) (made-types ins kept.unworked);
     sizes = λ o. subst (λ z. All (HasSize z) (outs o)) (sym same-spec) (kept.sizes o);

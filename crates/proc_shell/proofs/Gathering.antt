@@ -1,6 +1,5 @@
 -- A collector hands out the chunks that it pulled.
-use Rattle.std.proofs.Common.{◌≡◌, ◌⊎◌, ℕ, ◌==◌, cond, Bool, true, false, List, [], ◌∷◌, ◌++◌, Some, None, refl, sym, ap, ◌∙◌, arith}
-use Rattle.proc_shell.proofs.Imports.{BoxPicture, HasSpecView, IsShelled, IsWorkOf, KeepsCollect, KeepsMeant, Lists, Table, Takes, gathered_own, gathering, kept_output, own_of, work_of}
+use Rattle.proc_shell.proofs.Imports.{Bool, BoxPicture, HasSpecView, IsShelled, IsWorkOf, KeepsCollect, KeepsMeant, List, Lists, None, Some, Table, Takes, [], ap, arith, cond, false, gathered_own, gathering, kept_output, own_of, refl, sym, true, work_of, ℕ, ◌++◌, ◌==◌, ◌∙◌, ◌∷◌, ◌≡◌, ◌⊎◌}
 use Rattle.query_model.specs.declared.processor_spec.Spec.TheVariants as spec
 use Rattle.proc_shell.proofs.Through.{chunk-here, first-source, here-unworked, last-here, spec-output, split-here}
 
@@ -48,7 +47,6 @@ collect_shelled = record {
   ungrown = λ growth m n h. h;
   grown = λ growth m n h. h;
   still = λ kept m n had h stands. (h.0 ∙ sym had.0, h.1 ∙ sym had.1);
-  any_input = λ i j types h. tt;
   enough_one = λ ins enough m n h. absurd enough;
   lets_push = λ x own worked outs more inputs outputs o pushed rest ports by others h. h;
   into = λ p ins outs uses sizes t. into-collect p ins outs uses t;

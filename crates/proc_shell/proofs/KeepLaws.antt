@@ -1,33 +1,16 @@
 -- A shell keeps the contract of its kernel's kind over a prepare.
-use Rattle.std.proofs.Common.{◌≡◌, ◌≢◌, ◌⊎◌, ℕ, zero, suc, ◌+◌, ◌<◌, ◌≤◌, Bool, true, false, ◌&&◌, ◌||◌, ◌==◌, not, cond, List, [], ◌∷◌, ◌++◌, length, get_or, append_assoc, Option, Some, None, IfSome, refl, sym, ap, ap₂, subst, ◌∙◌, arith, inl, inr}
-use Rattle.proc_shell.proofs.Imports.{All, All-append, AllFit, AllOutputsClosed, ArePortsOf, BoxPicture, EndsNow, Flags, FollowsKept, HadPorts, HasEnough, HasNotedEnd, HasReadEnough, HasSize, HasSpecView, Held, InputFollows, IsOver, IsPulled, IsReadUp, IsShelled, IsWorkOf, Keeps, KeepsMeant, KeepsOver, KernelState, Kind, Lists, MakesTypes, MayBeInput, Means, Moves, Notes, NotesEnd, Nothing, OwnState, PortFlags, PulledOn, PullsOne, Pushes, ReaderView, RowCount, Spec, StandStill, Status, Table, Turns, append-nil, append_cancel_right, by-place, cases_eq, cases_lt, chunk_rows, counted-more, enough-more, eq-eqb, false_from_ne_true, fits-front, front-all, gathered_with, get_or-append-add, held_made, held_unworked, is_ended, kept_input, kept_input-of, kept_input-past, kept_inputs, kept_inputs-of, kept_output, kept_output-of, kept_output-past, kept_outputs, kept_outputs-of, kept_ports, length-append, length-map, makes-more, may-be-input, ne_eqb, never-enough, own_of, part, part_seen, port_flags, pulled-last, pulled-more, pulled_at, pushed_at, raised, reading_of, rows_pulled, source_of, taken_out, unworked_at, with_pulled, with_pushed}
+use Rattle.proc_shell.proofs.Imports.{All, All-append, All-behind, All-weaker, AllFit, AllOutputsClosed, ArePortsOf, Bool, BoxPicture, EndsNow, Flags, FollowsKept, HadPorts, HasEnough, HasNotedEnd, HasReadEnough, HasSize, HasSpecView, Held, IfSome, InputFollows, IsOver, IsPulled, IsReadUp, IsShelled, IsWorkOf, Keeps, KeepsMeant, KeepsOver, KernelState, Kind, List, Lists, MakesTypes, MayBeInput, Means, Moves, None, Notes, NotesEnd, Nothing, Option, OwnState, Picture, PortFlags, PulledOn, PullsOne, Pushes, ReaderView, RowCount, Some, Spec, StandStill, Status, Table, Turns, [], and_from, and_parts, ap, append-nil, append_assoc, append_cancel_right, ap₂, arith, both_ways, by-place, cases_eq, cases_lt, chunk_rows, cond, cond_both, counted-more, enough-more, eq-eqb, false, false_from_ne_true, fits-front, front-all, gathered_with, get_or, held_made, held_unworked, in_count, inl, input_at, inr, is_ended, is_in_finished, is_out_finished, kept_input, kept_input-of, kept_input-past, kept_inputs, kept_inputs-of, kept_output, kept_output-of, kept_output-past, kept_outputs, kept_outputs-of, kept_ports, length, length-map, makes-more, may-be-input, ne_eqb, never-enough, no_flags, not, not-true, or_cases, out_count, output_at, own_of, part, part_seen, port_flags, pulled-last, pulled-more, pulled_at, pushed_at, raised, reading_of, refl, rows_pulled, source_of, subst, sym, taken_out, true, unworked_at, with_pulled, with_pushed, ℕ, ◌++◌, ◌+◌, ◌<◌, ◌==◌, ◌||◌, ◌∙◌, ◌∷◌, ◌≡◌, ◌≢◌, ◌≤◌, ◌⊎◌}
 use Rattle.query_model.specs.declared.processor_spec.Spec.TheVariants as spec
-use Rattle.port_word.specs.Pictures.{Picture, input_at, output_at, in_count, out_count, is_in_finished, is_out_finished, no_flags}
-use Rattle.proc_shell.proofs.PortMoves.{both-none, never-true}
+use Rattle.proc_shell.proofs.PortMoves.{all-or, both-none, never-true}
 use Rattle.proc_shell.proofs.TurnLaws.{holds-unended}
 
 -- ---- lists
 
--- what is true of all chunks of a longer list is true of its back
-back-all : (P : Table → Type 0) (xs ys : List Table) → All P (xs ++ ys) → All P ys
-back-all P xs ys h = λ k d lt. subst P (get_or-append-add xs ys k d) (h (length xs + k) d (let l = length-append xs ys in omega (arith, l, lt)))
-
-pub all-map : (P Q : Table → Type 0) (xs : List Table) → ((t : Table) → P t → Q t) → All P xs → All Q xs
-all-map P Q xs f h = λ k d lt. f (get_or xs k d) (h k d lt)
+pub cond-none : (c : Bool) (l : List Table) → l ≡ [] → cond c l [] ≡ []
+cond-none c l e = cond_both c l [] (λ x. x ≡ []) (λ t. e) (λ t. refl)
 
 all-none : (P : Table → Type 0) (xs : List Table) → xs ≡ [] → All P xs
 all-none P xs e = λ k d lt. absurd (let l = ap length e in omega (arith, l, lt))
-
--- each below n has one fact, or another is true
-all-or : (n : ℕ) (A : ℕ → Type 0) (E : Type 0) → ((i : ℕ) → i < n → A i ⊎ E) → ((i : ℕ) → i < n → A i) ⊎ E
-all-or zero A E f = inl (λ i lt. absurd (omega (arith, lt)))
-all-or (suc n) A E f = elim (all-or n A E (λ i lt. f i (omega (arith, lt)))) [
-  | inl all ↦ elim (f n (omega arith)) [
-    | inl last ↦ inl (λ i lt. by-place A n i last (λ ne. all i (omega (arith, lt, ne))))
-    | inr e ↦ inr e
-  ]
-  | inr e ↦ inr e
-]
 
 -- ---- the kept flags are as many as the view has
 
@@ -41,29 +24,18 @@ outs-count u = refl
 
 -- ---- flags
 
-pub never-ended : (f : Flags) → is_ended f ≡ true → is_in_finished f ≡ false → ⊥
-never-ended f e n = by-bit f.fin_in n
-  where
-    by-bit : (c : Bool) → (c || is_ended f) ≡ false → ⊥
-    by-bit true y = absurd (cc)
-    by-bit false y = let c : true ≡ false = sym e ∙ y in absurd (cc)
-
-ended-stays : (a b : Flags) → InputFollows a b → is_ended a ≡ true → is_ended b ≡ true
-ended-stays a b f e = by-bits a.fin_out a.has_data refl refl e
-  where
-    by-bits : (o d : Bool) → a.fin_out ≡ o → a.has_data ≡ d → (o && not d) ≡ true → (b.fin_out && not b.has_data) ≡ true
-    by-bits true false y z e = rw (f.fin_out y, f.stays_empty y z) refl
-    by-bits true true y z e = absurd (cc)
-    by-bits false d y z e = absurd (cc)
-
--- one of two flags is set
-either-set : (a b : Bool) → (a || b) ≡ true → (a ≡ true) ⊎ (b ≡ true)
-either-set true b e = inl refl
-either-set false b e = inr e
-
 either-true : (x y : Bool) → y ≡ true → (x || y) ≡ true
 either-true true y e = refl
 either-true false y e = e
+
+pub never-ended : (f : Flags) → is_ended f ≡ true → is_in_finished f ≡ false → ⊥
+never-ended f e n = both_ways (f.fin_in || is_ended f) n (either-true f.fin_in (is_ended f) e)
+
+ended-stays : (a b : Flags) → InputFollows a b → is_ended a ≡ true → is_ended b ≡ true
+ended-stays a b f e =
+    let both = and_parts a.fin_out (not a.has_data) e in
+    and_from b.fin_out (not b.has_data) (f.fin_out both.0)
+    (ap not (f.stays_empty both.0 (not-true a.has_data both.1)))
 
 -- ---- a prepare
 
@@ -212,10 +184,6 @@ module _ (kind : Kind) (d : Option ReaderView) (kernel : KernelState)
   own-is : (ins outs : Lists) (t : KeepsMeant s p ins outs) → t.own ≡ a
   own-is ins outs t = shown-one s t.own a (held_unworked h) (sym t.shows)
 
-  cond-none : (c : Bool) (l : List Table) → l ≡ [] → cond c l [] ≡ []
-  cond-none true l e = e
-  cond-none false l e = refl
-
   -- the chunks that are unworked are those that were, and what was pulled
   unworked-is : (i : ℕ) → unworked_at q.work i ≡ unworked_at p.work i ++ pulled_at v w i
   unworked-is i =
@@ -343,7 +311,8 @@ module _ (kind : Kind) (d : Option ReaderView) (kernel : KernelState)
           let unfinished = over.1 in
           all-or (in_count v) (λ i. is_ended (input_at w i).flags ≡ true)
           (HasReadEnough (Some s) (with_pulled v w ins))
-          (λ i less. elim (either-set (input_at u i).flags.fin_in (is_ended (input_at u i).flags) (over.0 i (omega (arith, less, g.pushes.ins)))) [
+          (λ i less. elim (or_cases (input_at u i).flags.fin_in (is_ended (input_at u i).flags)
+          (over.0 i (omega (arith, less, g.pushes.ins)))) [
             | inl closed ↦ elim (was-closed ins outs kept i less closed) [
               | inl all ↦ absurd (unfinished (let some = all.0 in omega (arith, some, g.pushes.outs)) (λ j n. either-true (output_at u j).fin_out (output_at u j).fin_in (all.1 j (omega (arith, n, g.pushes.outs)))))
               | inr enough ↦ inr (enough-still ins enough)
@@ -368,7 +337,8 @@ module _ (kind : Kind) (d : Option ReaderView) (kernel : KernelState)
     | inl before ↦ elim (was-closed ins outs kept i lt before) [ inl all ↦ inl (consumers-closed all.0 all.1) | inr enough ↦ inr (enough-still ins enough) ]
     | inr now ↦ elim now [
       | inl x ↦ elim (all-or (out_count v) (λ o. (output_at u o).fin_in ≡ true) (HasReadEnough (Some s) ins)
-          (λ o less. elim (either-set (output_at u o).fin_out (output_at u o).fin_in (x.all o (omega (arith, less, g.pushes.outs)))) [
+          (λ o less. elim (or_cases (output_at u o).fin_out (output_at u o).fin_in
+          (x.all o (omega (arith, less, g.pushes.outs)))) [
             | inl fin ↦ elim (was-finished ins outs kept o less fin) [
               | inl all ↦ absurd (never-ended (input_at u i).flags (all i lt) x.unfinished)
               | inr enough ↦ inr enough
@@ -450,7 +420,7 @@ module _ (kind : Kind) (d : Option ReaderView) (kernel : KernelState)
       ]) (λ ne. all-none P (pushed_at v w o) (pushed-others o ne))
 
   made-all : (P : Table → Type 0) → All P p.work.made → All P q.work.made
-  made-all P made = back-all P g.pushes.left (held_made k) (made-split P made)
+  made-all P made = All-behind P g.pushes.left (held_made k) (made-split P made)
 
   unworked-pulled : (ins : Lists) → All (λ (t : Table). IsPulled ins t.types) p.work.unworked
       → All (λ (t : Table). IsPulled (with_pulled v w ins) t.types) q.work.unworked
@@ -458,8 +428,8 @@ module _ (kind : Kind) (d : Option ReaderView) (kernel : KernelState)
       let P : Table → Type 0 = λ t. IsPulled (with_pulled v w ins) t.types in
       elim mv.pulls [
         | inl x ↦ subst (All P) (sym (x.unworked ∙ g.pushes.unworked))
-            (all-map (λ (t : Table). IsPulled ins t.types) P (held_unworked h)
-            (λ t. pulled-more v w ins t.types) f)
+            (All-weaker (λ (t : Table). IsPulled ins t.types) P
+            (λ t. pulled-more v w ins t.types) (held_unworked h) f)
         | inr x ↦ subst (All P) (pulled-is x.input ∙ x.here ∙ ap held_unworked (sym x.after))
             (pulled-last v w ins x.input)
       ]
@@ -481,9 +451,9 @@ module _ (kind : Kind) (d : Option ReaderView) (kernel : KernelState)
             (through ins outs kept (shelled.from p ins outs (viewed kept.ports) kept.idle
             g.not_handed_out (kept.rows (fits-front (Some s) v w ins f))));
         types = λ o. All-append Q (outs o) (pushed_at v w o)
-            (all-map P Q (outs o) still (kept.types o))
-            (all-map P Q (pushed_at v w o) still (pushed-all P kept.made_types o));
-        made_types = all-map P Q (held_made k) still (made-all P kept.made_types);
+            (All-weaker P Q still (outs o) (kept.types o))
+            (All-weaker P Q still (pushed_at v w o) (pushed-all P kept.made_types o));
+        made_types = All-weaker P Q still (held_made k) (made-all P kept.made_types);
         sizes = λ o. All-append (HasSize (Some s)) (outs o) (pushed_at v w o) (kept.sizes o)
             (pushed-all (HasSize (Some s)) kept.made_sizes o);
         made_sizes = made-all (HasSize (Some s)) kept.made_sizes;

@@ -1,6 +1,6 @@
 -- A source of a part's rows has no input and one output.
-use Rattle.std.proofs.Common.{◌≡◌, ◌⊎◌, ℕ, ◌<◌, Bool, true, false, cond, ◌==◌, List, [], ◌∷◌, ◌++◌, length, append_assoc, Some, refl, sym, ap, ap₂, subst, ◌∙◌, arith, inl, inr}
-use Rattle.proc_shell.proofs.Imports.{All, AreRead, BoxPicture, HasSize, HasSpecView, IsShelled, IsWorkOf, KeepsMeant, KeepsPart, Lists, PartSpec, Row, Stage, Table, append-nil, chunk_rows, kept_output, length-append, no_table, own_of, part, part_kernel, reading_of, work_of}
+use Rattle.proc_shell.proofs.KeepLaws.{cond-none}
+use Rattle.proc_shell.proofs.Imports.{All, AreRead, BoxPicture, HasSize, HasSpecView, IsShelled, IsWorkOf, KeepsMeant, KeepsPart, List, Lists, PartSpec, Row, Some, Stage, Table, [], ap, append-nil, append_assoc, ap₂, arith, chunk_rows, false, inl, inr, kept_output, length, length-append, no_table, own_of, part, part_kernel, reading_of, refl, subst, sym, true, work_of, ℕ, ◌++◌, ◌<◌, ◌==◌, ◌∙◌, ◌∷◌, ◌≡◌, ◌⊎◌}
 use Rattle.query_model.specs.declared.processor_spec.Spec.TheVariants as spec
 use Rattle.proc_shell.proofs.PortMoves.{both-none}
 use Rattle.proc_shell.proofs.Through.{IsInOrder, only-output, pushes-in-order}
@@ -60,10 +60,6 @@ from-part part p ins outs seen uses k =
     chunk-sum : List Row → List Table → List Row
     chunk-sum a c = a ++ chunk_rows c
 
-    cond-none : (c : Bool) (l : List Table) → l ≡ [] → cond c l [] ≡ []
-    cond-none true l e = e
-    cond-none false l e = refl
-
     first : (o : ℕ) → (kept_output p o).fin_out ≡ true → (kept_output p 0).fin_out ≡ true
     first o fin = subst (λ n. (kept_output p n).fin_out ≡ true) (only-output (spec.Csv part) 0 (record { ports = λ growth m n h. h; counts = λ growth m n h. h }) p seen o fin) fin
 
@@ -72,7 +68,6 @@ part_shelled part = record {
   ungrown = λ growth m n h. h;
   grown = λ growth m n h. h;
   still = λ kept m n had h stands. (h.0 ∙ sym had.0, h.1 ∙ sym had.1);
-  any_input = λ i j types h. tt;
   enough_one = λ ins enough m n h. absurd enough;
   lets_push = pushes-in-order (spec.Csv part) (in-order part) (λ m n h. h.1);
   into = λ p ins outs uses sizes t. into-part part p ins outs sizes t;

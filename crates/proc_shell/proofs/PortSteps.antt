@@ -1,7 +1,5 @@
 -- What changing the first inputs of a view does, one after another.
-use Rattle.std.proofs.Common.{◌≡◌, ℕ, ◌+◌, ◌<◌, Bool, false, cond, refl, sym, ap, subst, ◌∙◌, arith}
-use Rattle.port_word.specs.Names.{Picture, input_at, in_count, is_in_finished, after_close, after_need, closed, close_call, need_call}
-use Rattle.proc_shell.proofs.Imports.{ChangesInput, ChangesInputs, InputPort, TurnsInput, by-place, changed-by-both, changed-by-none, changed-by-one, close-turns, need-turns, needing, shut_open}
+use Rattle.proc_shell.proofs.Imports.{Bool, ChangesInput, ChangesInputs, InputPort, Picture, TurnsInput, after_close, after_need, ap, arith, by-place, changed-by-both, changed-by-none, changed-by-one, close-turns, close_call, closed, cond, false, in_count, input_at, is_in_finished, need-turns, need_call, needing, refl, shut_open, subst, sym, ℕ, ◌+◌, ◌<◌, ◌∙◌, ◌≡◌}
 
 pub inputs-none : (f : ℕ → InputPort → InputPort) (v : Picture) → ChangesInputs f 0 v v
 inputs-none f v = record {

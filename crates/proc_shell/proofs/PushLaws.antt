@@ -1,6 +1,6 @@
 -- Pushing what was made.
-use Rattle.std.proofs.Common.{◌≡◌, ◌⊎◌, ℕ, ◌<◌, List, [], ◌∷◌, ◌++◌, length, Some, refl, sym, ap, subst, ◌∙◌, arith, inl, inr}
-use Rattle.proc_shell.proofs.Imports.{Held, IsCrowded, IsFree, IsSound, Made, Nothing, Picture, Pushes, Row, Table, Unworked, after_push, by-place, cases_lt, changed-by-none, changed-by-one, empty-of, held_made, held_option, held_rows, held_unworked, is_out_finished, just-pushed, none-pushed, out_count, output_at, push-turns, push_call, source_of}
+use Rattle.proc_shell.proofs.BoxLaws.{by-rows}
+use Rattle.proc_shell.proofs.Imports.{Held, IsCrowded, IsFree, IsSound, List, Made, Nothing, Picture, Pushes, Some, Table, Unworked, [], after_push, ap, arith, by-place, cases_lt, changed-by-none, changed-by-one, empty-of, held_made, held_option, held_unworked, inl, inr, is_out_finished, just-pushed, length, none-pushed, out_count, output_at, push-turns, push_call, refl, source_of, subst, sym, ℕ, ◌++◌, ◌<◌, ◌∙◌, ◌∷◌, ◌≡◌, ◌⊎◌}
 use Rattle.proc_shell.proofs.PortMoves.{never-true}
 
 -- the view stays, and these chunks are dropped, where there is no output
@@ -72,17 +72,13 @@ never-made (Made c) never lt = absurd (never c refl)
 -- a chunk with rows is passed on
 pub passes-some : (c : Table) (v w : Picture) (o : ℕ) → 0 < length c.rows → IsSound v → IsFree v o
     → w ≡ after_push v o c → Pushes (held_option (Some c)) Nothing v w
-passes-some c v w o some sound free e = go c.rows some
-  where
-    go : (rows : List Row) → 0 < length rows → Pushes (held_rows rows c) Nothing v w
-    go [] lt = absurd (omega (arith, lt))
-    go (row ∷ rows) lt = pushes-one c v w o sound free e
+passes-some c v w o some sound free e = by-rows (λ h. Pushes h Nothing v w) c
+    (λ none. absurd (let l = ap length none in omega (arith, l, some)))
+    (λ more. pushes-one c v w o sound free e)
 
 -- a chunk without rows is dropped
 pub passes-none : (c : Table) (v : Picture) → length c.rows ≡ 0 → IsSound v
     → Pushes (held_option (Some c)) Nothing v v
-passes-none c v none sound = go c.rows none
-  where
-    go : (rows : List Row) → length rows ≡ 0 → Pushes (held_rows rows c) Nothing v v
-    go [] e = pushes-none Nothing v sound (λ lt. absurd (omega (arith, lt)))
-    go (row ∷ rows) e = absurd (omega (arith, e))
+passes-none c v none sound = by-rows (λ h. Pushes h Nothing v v) c
+    (λ e. pushes-none Nothing v sound (λ lt. absurd (omega (arith, lt))))
+    (λ some. absurd (omega (arith, none, some)))

@@ -1,7 +1,5 @@
 -- What passes rows on as they are, from any input to any output.
-use Rattle.std.proofs.Common.{◌≡◌, ℕ, ◌<◌, [], ◌∷◌, ◌++◌, append_assoc, false, Some, None, refl, sym, ap, subst, ◌∙◌, arith, inl, inr}
-use Rattle.proc_api.proofs.MadeLaws.{more-rows, no-rows}
-use Rattle.proc_shell.proofs.Imports.{Begins, IsFirstAlone, IsPermutation-append_left, IsPermutation-refl, IsPermutation-same, IsPermutation-sym, IsPermutation-trans, KernelState, LetsPush, Means, OwnState, Spec, Table, Takes, WorkState, all_rows, append-nil, by-place, cases_eq, chunk_rows, idle_own, kind_of, no_lists, rows-append, with_chunk}
+use Rattle.proc_shell.proofs.Imports.{Begins, IsFirstAlone, IsPermutation-append_left, IsPermutation-refl, IsPermutation-same, IsPermutation-sym, IsPermutation-trans, KernelState, LetsPush, Means, None, OwnState, Some, Spec, Table, Takes, WorkState, [], all_rows, ap, append-nil, append_assoc, arith, by-place, cases_eq, chunk_rows, false, idle_own, inl, inr, kind_of, more-rows, no-rows, no_lists, refl, rows-append, subst, sym, with_chunk, ℕ, ◌++◌, ◌<◌, ◌∙◌, ◌∷◌, ◌≡◌}
 use Rattle.query_model.specs.declared.processor_spec.Kind.TheVariants as kind
 use Rattle.query_model.specs.declared.processor_spec.Spec.TheVariants as spec
 use Rattle.proc_shell.proofs.PortMoves.{both-none}

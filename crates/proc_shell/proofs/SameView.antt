@@ -1,6 +1,5 @@
 -- What a box keeps of its ports stays where the kept view, the spec and the growth stay.
-use Rattle.std.proofs.Common.{◌≡◌, ◌⊎◌, ℕ, true, Option, Some, None, refl, sym, ap, subst, ◌∙◌, arith, inl, inr}
-use Rattle.proc_api.specs.Names.{BoxPicture, PortFlags, kept_input, kept_output, kept_inputs, kept_outputs, Lists, is_ended, HadPorts, HasReadEnough, AllInputsEnded, AllOutputsClosed}
+use Rattle.proc_shell.proofs.Imports.{AllInputsEnded, AllOutputsClosed, BoxPicture, HadPorts, HasReadEnough, Lists, None, Option, PortFlags, Some, ap, arith, inl, inr, is_ended, kept_input, kept_inputs, kept_output, kept_outputs, refl, subst, sym, true, ℕ, ◌∙◌, ◌≡◌, ◌⊎◌}
 
 module _ (P Q : BoxPicture) (view : Q.notes.view ≡ P.notes.view) (spec : Q.spec ≡ P.spec) (growth : Q.growth ≡ P.growth) where
   pub same-output : (o : ℕ) → kept_output Q o ≡ kept_output P o

@@ -1,13 +1,8 @@
 -- A prepare that works at once what it pulled is two prepares and a work between them.
-use Rattle.std.proofs.Common.{◌≡◌, ℕ, ◌<◌, ◌≤◌, nat_lt, ◌&&◌, Bool, true, false, List, [], ◌∷◌, Option, Some, None, refl, sym, ap, subst, ◌∙◌, arith}
-use Rattle.proc_api.proofs.Follows.{follows-noted, stands-still}
-use Rattle.proc_api.proofs.SeveralCalls.{goes-on, lists-pulled, lists-pushed, rows-both}
-use Rattle.proc_api.specs.Names.{AreAsKept}
+use Rattle.proc_shell.proofs.Imports.{AreAsKept, AreMoved, ArePortsOf, Bool, BoxPicture, CountsRows, FollowsKept, HasSpecPorts, Held, IsKernelOf, IsRunning, IsSound, IsWorkOf, Keeps, KernelState, Kind, List, None, Notes, Option, PartPrepares, PartWorks, PassesOn, Picture, PreparesLawfully, Pushes, ReaderView, Ready, RowCount, ShellPart, Some, Spec, Status, StaysFit, Suits, Table, Takes, Turns, Unworked, WorksHeld, [], and_parts, ap, arith, changed-by-both, false, follows-noted, goes-on, held_made, held_option, held_unworked, in_count, is_wanted, lists-pulled, lists-pushed, ltb-true, nat_lt, out_count, part, part_seen, port_flags, refl, rows-both, rows_pulled, source_of, stands-still, subst, sym, true, with_pulled, with_pushed, with_view, work_of, ℕ, ◌&&◌, ◌<◌, ◌∙◌, ◌∷◌, ◌≡◌, ◌≤◌}
 use Rattle.proc_shell.proofs.BoxLaws.{held-source, held-worked, keeps-work, limits-stay, passes-once}
-use Rattle.proc_shell.proofs.Imports.{AreMoved, ArePortsOf, BoxPicture, CountsRows, FollowsKept, HasSpecPorts, Held, IsKernelOf, IsRunning, IsSound, IsWorkOf, Keeps, KernelState, Kind, Notes, PartPrepares, PartWorks, PassesOn, Picture, PreparesLawfully, Pushes, ReaderView, Ready, RowCount, ShellPart, Spec, Status, StaysFit, Suits, Table, Takes, Turns, Unworked, WorksHeld, and_parts, changed-by-both, held_made, held_option, held_unworked, is_wanted, ltb-true, part, part_seen, port_flags, rows_pulled, source_of, with_pulled, with_pushed, with_view, work_of}
 use Rattle.proc_shell.proofs.KeepLaws.{kept-count, outs-count}
 use Rattle.proc_shell.proofs.PortMoves.{same-ports}
-use Rattle.port_word.specs.Names.{in_count, out_count}
 
 -- the view still has the ports of the spec
 pub still-ports : (k : Kind) (p q : ShellPart) (n m : RowCount) (v w : Picture) (s : Status)

@@ -1,9 +1,6 @@
 -- Kinds of one input and one output, and among them those that make something of each chunk by itself.
-use Rattle.std.proofs.Common.{◌≡◌, ◌≢◌, ◌⊎◌, ℕ, ◌<◌, ◌==◌, Bool, true, false, cond, List, [], ◌∷◌, ◌++◌, length, take, drop, get_or, append_assoc, Option, Some, None, IfSome, refl, sym, ap, subst, ◌∙◌, arith, inl, inr}
-use Rattle.proc_api.proofs.MadeLaws.{more-rows}
-use Rattle.proc_shell.proofs.Imports.{AreCounts, AreLastPulled, ArePortsOf, BadPlace, BoxPicture, ColumnType, FitsInput, Flags, GrowthForm, HasMade, HasNotedEnd, HasReadEnough, HasSpecView, IsAtMost, IsPermutation, IsPulled, IsReadOut, IsShelled, IsWanting, IsWorkOf, KeepsMade, KeepsMeant, KeepsRows, KeepsThrough, KernelState, LetsPush, Lists, Makes, MakesTypes, Means, Offers, OwnState, PortFlags, Reading, Row, Spec, StandStill, Table, Takes, WorkState, all_rows, append-nil, append_cancel_right, by-place, cases_lt, chunk_rows, common_steps, eq-eqb, eqb-true, gathered_with, get_or-eq_default, kept_output, kept_ports, most_rows, ne_eqb, own_of, part, reading_of, rows-append, rows_of, take-append-drop, unworked_at, with_chunk, work_of}
+use Rattle.proc_shell.proofs.Imports.{AreCounts, AreLastPulled, ArePortsOf, BadPlace, Bool, BoxPicture, FitsInput, Flags, GrowthForm, HasMade, HasNotedEnd, HasReadEnough, HasSpecView, IfSome, IsAtMost, IsPermutation, IsPulled, IsReadOut, IsShelled, IsWanting, IsWorkOf, KeepsMade, KeepsMeant, KeepsRows, KeepsThrough, KernelState, LetsPush, List, Lists, Makes, MakesTypes, Means, None, Offers, Option, OwnState, Picture, PortFlags, Reading, Row, Some, Spec, StandStill, Table, Takes, WorkState, [], all_rows, ap, append-nil, append_assoc, append_cancel_right, arith, by-place, cases_lt, chunk_rows, common_steps, cond, drop, drop-append_seam, eq-eqb, eqb-true, false, gathered_with, get_or, get_or-eq_default, in_count, inl, inr, kept_output, kept_ports, length, more-rows, most_rows, ne_eqb, no_flags, own_of, part, reading_of, refl, rows-append, rows_of, subst, sym, take, take-append-drop, true, unworked_at, with_chunk, work_of, ℕ, ◌++◌, ◌<◌, ◌==◌, ◌∙◌, ◌∷◌, ◌≡◌, ◌≢◌, ◌⊎◌}
 use Rattle.query_model.specs.declared.processor_spec.Spec.TheVariants as spec
-use Rattle.port_word.specs.Pictures.{Picture, in_count, no_flags}
 use Rattle.proc_shell.specs.declared.kernel.Offer.TheVariants as offer
 
 -- ---- what is worked
@@ -131,14 +128,13 @@ pub record HasPortCounts (s : Spec) (inputs : ℕ) : Type 0 where
 pub shelled-plain : (s : Spec) → is_plain s ≡ true → ((growth : Option GrowthForm) (m n : ℕ) → ArePortsOf (Some s) growth m n → ArePortsOf (Some s) None m n)
     → ((growth : Option GrowthForm) (m n : ℕ) → ArePortsOf (Some s) None m n → ArePortsOf (Some s) growth m n)
     → ((kept : PortFlags) (m n : ℕ) → ArePortsOf (Some s) None (length kept.inputs) (length kept.outputs) → ArePortsOf (Some s) None m n → StandStill (Some s) (Some kept) m n → (m ≡ length kept.inputs) × (n ≡ length kept.outputs))
-    → ((i j : ℕ) (types : List ColumnType) → FitsInput (Some s) i types → FitsInput (Some s) j types) → ((ins : Lists) → HasReadEnough (Some s) ins → (m n : ℕ) → ArePortsOf (Some s) None m n → n ≡ 1) → LetsPush s
+    → ((ins : Lists) → HasReadEnough (Some s) ins → (m n : ℕ) → ArePortsOf (Some s) None m n → n ≡ 1) → LetsPush s
     → ((p : BoxPicture) (ins outs : Lists) → IsWorkOf (Some s) p.work → KeepsMade s p ins outs → KeepsRows (Some s) p ins outs)
     → ((p : BoxPicture) (ins outs : Lists) → HasSpecView s p → IsWorkOf (Some s) p.work → KeepsRows (Some s) p ins outs → KeepsMade s p ins outs) → IsShelled s
-shelled-plain s e ungrown grown still any enough pushes into from = record {
+shelled-plain s e ungrown grown still enough pushes into from = record {
   ungrown = ungrown;
   grown = grown;
   still = still;
-  any_input = any;
   enough_one = enough;
   lets_push = pushes;
   into = λ p ins outs uses sizes t. into p ins outs uses (made-of s e p ins outs t);
@@ -146,13 +142,13 @@ shelled-plain s e ungrown grown still any enough pushes into from = record {
 }
 
 -- a plain kind with one output whose ports its spec fixes
-pub shelled-of : (s : Spec) (inputs : ℕ) → is_plain s ≡ true → HasPortCounts s inputs → IsInOrder s → ((i j : ℕ) (types : List ColumnType) → FitsInput (Some s) i types → FitsInput (Some s) j types)
+pub shelled-of : (s : Spec) (inputs : ℕ) → is_plain s ≡ true → HasPortCounts s inputs → IsInOrder s
     → ((p : BoxPicture) (ins outs : Lists) → IsWorkOf (Some s) p.work → KeepsMade s p ins outs → KeepsRows (Some s) p ins outs)
     → ((p : BoxPicture) (ins outs : Lists) → HasSpecView s p → IsWorkOf (Some s) p.work → KeepsRows (Some s) p ins outs → KeepsMade s p ins outs) → IsShelled s
-shelled-of s inputs e c k any into from =
+shelled-of s inputs e c k into from =
     shelled-plain s e (λ growth m n h. c.counts None m n (c.ports growth m n h)) (λ growth m n h. c.counts growth m n (c.ports None m n h))
     (λ kept m n had h stands. let x = c.ports None (length kept.inputs) (length kept.outputs) had in let y = c.ports None m n h in (y.0 ∙ sym x.0, y.1 ∙ sym x.1))
-    any (λ ins enough m n h. (c.ports None m n h).1) (pushes-in-order s k (λ m n h. (c.ports None m n h).1)) into from
+    (λ ins enough m n h. (c.ports None m n h).1) (pushes-in-order s k (λ m n h. (c.ports None m n h).1)) into from
 
 -- ---- each chunk by itself
 
@@ -198,10 +194,10 @@ pub here-unworked : (p : BoxPicture) → p.work.source ≡ 0 → (ins worked : L
 here-unworked p source ins worked are = are 0 ∙ ap (λ n. worked 0 ++ cond (0 == n) p.work.unworked []) source
 
 pub last-here : (u worked ins : List Table) → ins ≡ worked ++ u → AreLastPulled u ins
-last-here u worked ins e = record { worked = length worked; are = sym (drop-length worked u) ∙ ap (drop (length worked)) (sym e) }
-  where
-    drop-length : (xs ys : List Table) → drop (length xs) (xs ++ ys) ≡ ys
-    drop-length xs ys = grind (arith, common_steps)
+last-here u worked ins e = record {
+  worked = length worked;
+  are = sym (drop-append_seam worked u) ∙ ap (drop (length worked)) (sym e);
+}
 
 -- the chunks that were worked, by those that weren't
 pub record IsSplit (p : BoxPicture) (ins : Lists) : Type 0 where
@@ -286,11 +282,11 @@ from-through s make k p ins outs none source only t =
     }
 
 -- a kind of one input and one output that makes something of each chunk by itself
-pub shelled-through : (s : Spec) (make : List Row → List Row) → IsMaker s make → HasPortCounts s 1 → ((i j : ℕ) (types : List ColumnType) → FitsInput (Some s) i types → FitsInput (Some s) j types)
+pub shelled-through : (s : Spec) (make : List Row → List Row) → IsMaker s make → HasPortCounts s 1
     → ((p : BoxPicture) (ins outs : Lists) → KeepsThrough make p ins outs → KeepsRows (Some s) p ins outs) → ((p : BoxPicture) (ins outs : Lists) → KeepsRows (Some s) p ins outs → KeepsThrough make p ins outs)
     → ((w : WorkState) → IsWorkOf (Some s) w → (w.unmade ≡ []) × (w.source ≡ 0)) → IsShelled s
-shelled-through s make k c any into from idle =
-    shelled-of s 1 k.plain c (maker-order s make k) any
+shelled-through s make k c into from idle =
+    shelled-of s 1 k.plain c (maker-order s make k)
     (λ p ins outs uses t. into p ins outs (into-through s make k p ins outs t (idle p.work uses).1))
     (λ p ins outs seen uses t. from-through s make k p ins outs (idle p.work uses).0 (idle p.work uses).1 (only-output s 1 c p seen) (from p ins outs t))
 

@@ -1,9 +1,7 @@
 -- What each turn of a shell moves.
-use Rattle.std.proofs.Common.{◌≡◌, ◌⊎◌, ℕ, zero, suc, ◌<◌, nat_lt, Bool, true, false, not, ◌&&◌, ◌||◌, cond, Some, length, refl, sym, ap, ap₂, subst, ◌∙◌, arith, inl, inr}
-use Rattle.proc_shell.proofs.Imports.{AllOutputsFinished, AnswerComes, AreWantedEmpty, AreWantedOver, ChangesInputs, ClosesNow, EndsNow, Finished, FinishesFront, Flags, HasEnough, HasNoRoom, HasRoom, Held, InputPort, IsCrowded, IsKernelOf, IsReadOut, IsWanted, IsWantedFull, KernelState, Leaves, Made, MayMake, Moves, NeedData, NeedsRoom, Nothing, Offer, Offers, OwnState, Ready, Spec, Status, StatusHolds, Table, Turns, Unworked, WantsMore, asked, by-place, cases_lt, changed-by-both, changed-by-none, changed-by-one, held_made, is_ended, is_nothing, le-ltb, lt-ltb, needing, needing-leaves, needing-needs, none-pulled, pull-turns, pushes_to, shut_open, taken_out, unasked}
-use Rattle.port_word.specs.Names.{Picture, input_at, output_at, in_count, out_count, can_push, holds_data, is_in_finished, is_out_finished, after_pull, closed, ChangedByCalls, pull_call}
+use Rattle.proc_shell.proofs.Imports.{AllOutputsFinished, AnswerComes, AreWantedEmpty, AreWantedOver, Bool, ChangedByCalls, ChangesInputs, ClosesNow, EndsNow, Finished, FinishesFront, Flags, HasEnough, HasNoRoom, HasRoom, Held, InputPort, IsCrowded, IsKernelOf, IsReadOut, IsWanted, IsWantedFull, KernelState, Leaves, Made, MayMake, Moves, NeedData, NeedsRoom, Nothing, Offer, Offers, OwnState, Picture, Ready, Some, Spec, Status, StatusHolds, Table, Turns, Unworked, WantsMore, after_pull, and_parts, ap, ap₂, arith, asked, both_ways, by-place, can_push, cases_Bool, cases_lt, changed-by-both, changed-by-none, changed-by-one, closed, cond, cond_both, false, held_made, holds_data, in_count, inl, input_at, inr, is_ended, is_in_finished, is_nothing, is_out_finished, le-ltb, length, lt-ltb, nat_lt, needing, needing-leaves, needing-needs, none-pulled, not, not-true, out_count, output_at, pull-turns, pull_call, pushes_to, refl, shut_open, subst, sym, taken_out, true, unasked, ℕ, ◌&&◌, ◌<◌, ◌||◌, ◌∙◌, ◌≡◌, ◌⊎◌}
 use Rattle.proc_api.specs.declared.status.Status.TheVariants as status
-use Rattle.proc_shell.proofs.PortMoves.{never-true}
+use Rattle.proc_shell.proofs.PortMoves.{all-or, never-true}
 
 -- ---- flags
 
@@ -19,48 +17,32 @@ needing-end : (x : InputPort) (b : Bool) → LeavesEnd x (needing x b)
 needing-end x b = let k = needing-leaves x b in record { chunk = k.chunk; ended = rw (k.fin_out, k.has_data) refl }
 
 asked-end : (wants : ℕ → Bool) (i : ℕ) (x : InputPort) → LeavesEnd x (asked wants i x)
-asked-end wants i x = by-bit (wants i)
-  where
-    by-bit : (b : Bool) → LeavesEnd x (cond b (needing x true) x)
-    by-bit true = needing-end x true
-    by-bit false = same-end x
+asked-end wants i x = cond_both (wants i) (needing x true) x (LeavesEnd x)
+    (λ e. needing-end x true) (λ e. same-end x)
 
 shut-end : (i : ℕ) (x : InputPort) → LeavesEnd x (shut_open i x)
-shut-end i x = by-bit (is_in_finished x.flags)
-  where
-    by-bit : (b : Bool) → LeavesEnd x (cond b x (closed x))
-    by-bit true = same-end x
-    by-bit false = record { chunk = refl; ended = refl }
+shut-end i x = cond_both (is_in_finished x.flags) x (closed x) (LeavesEnd x)
+    (λ e. same-end x) (λ e. record { chunk = refl; ended = refl })
 
 asked-closed : (wants : ℕ → Bool) (i : ℕ) (x : InputPort) → (asked wants i x).flags.fin_in ≡ x.flags.fin_in
-asked-closed wants i x = by-bit (wants i)
-  where
-    by-bit : (b : Bool) → (cond b (needing x true) x).flags.fin_in ≡ x.flags.fin_in
-    by-bit true = (needing-leaves x true).fin_in
-    by-bit false = refl
+asked-closed wants i x = cond_both (wants i) (needing x true) x
+    (λ y. y.flags.fin_in ≡ x.flags.fin_in) (λ e. (needing-leaves x true).fin_in) (λ e. refl)
 
 -- an input that isn't finished is closed, and every other is finished
 shut-over : (i : ℕ) (x : InputPort) → is_in_finished (shut_open i x).flags ≡ true
-shut-over i x = by-bit (is_in_finished x.flags) refl
-  where
-    by-bit : (b : Bool) → is_in_finished x.flags ≡ b → is_in_finished (cond b x (closed x)).flags ≡ true
-    by-bit true e = e
-    by-bit false e = refl
+shut-over i x = cond_both (is_in_finished x.flags) x (closed x)
+    (λ y. is_in_finished y.flags ≡ true) (λ e. e) (λ e. refl)
 
 shut-why : (i : ℕ) (x : InputPort) → (shut_open i x).flags.fin_in ≡ true → (x.flags.fin_in ≡ true) ⊎ (is_in_finished x.flags ≡ false)
-shut-why i x e = by-bit (is_in_finished x.flags) refl e
-  where
-    by-bit : (b : Bool) → is_in_finished x.flags ≡ b → (cond b x (closed x)).flags.fin_in ≡ true → (x.flags.fin_in ≡ true) ⊎ (is_in_finished x.flags ≡ false)
-    by-bit true e f = inl f
-    by-bit false e f = inr e
+shut-why i x e = cond_both (is_in_finished x.flags) x (closed x)
+    (λ y. y.flags.fin_in ≡ true → (x.flags.fin_in ≡ true) ⊎ (is_in_finished x.flags ≡ false))
+    (λ f g. inl g) (λ f g. inr f) e
 
 pub holds-unended : (f : Flags) → holds_data f ≡ true → is_ended f ≡ true → ⊥
-holds-unended f h e = go f.fin_in f.fin_out f.has_data h e
-  where
-    go : (c o d : Bool) → (d && not c) ≡ true → (o && not d) ≡ true → ⊥
-    go c true true h e = absurd (cc)
-    go c true false h e = absurd (cc)
-    go c false d h e = absurd (cc)
+holds-unended f h e =
+    let full = (and_parts f.has_data (not f.fin_in) h).0 in
+    let none = not-true f.has_data (and_parts f.fin_out (not f.has_data) e).1 in
+    both_ways f.has_data none full
 
 open-empty : (f : Flags) → is_in_finished f ≡ false → holds_data f ≡ false → (f.fin_in ≡ false) × (f.has_data ≡ false)
 open-empty f e h = go f.fin_in f.fin_out f.has_data e h
@@ -79,25 +61,21 @@ full-of f u c n = go f.needed f.has_data f.fin_out f.fin_in u c n
     go true false false i u c e = absurd (cc)
     go false false o i u c e = absurd (cc)
 
--- an output below n that isn't finished
-record IsUnfinished (v : Picture) (n : ℕ) : Type 0 where
+-- an output that isn't finished
+record IsUnfinished (v : Picture) : Type 0 where
   output : ℕ
-  below : output < n
+  below : output < out_count v
   open_still : is_out_finished (output_at v output) ≡ false
 
-later : (v : Picture) (n : ℕ) → IsUnfinished v n → IsUnfinished v (suc n)
-later v n x = record { output = x.output; below = let lt = x.below in omega (arith, lt); open_still = x.open_still }
-
-by-last : (v : Picture) (n : ℕ) (b : Bool) → is_out_finished (output_at v n) ≡ b → (((o : ℕ) → o < suc n → is_out_finished (output_at v o) ≡ true) → ⊥)
-    → ((((o : ℕ) → o < n → is_out_finished (output_at v o) ≡ true) → ⊥) → IsUnfinished v n) → IsUnfinished v (suc n)
-by-last v n false e never rest = record { output = n; below = omega arith; open_still = e }
-by-last v n true e never rest =
-    later v n (rest (λ all. never (λ o lt. by-place (λ j. is_out_finished (output_at v j) ≡ true) n o e (λ ne. all o (omega (arith, lt, ne))))))
-
--- where not all of the first n are finished, one isn't
-some-unfinished : (v : Picture) (n : ℕ) → (((o : ℕ) → o < n → is_out_finished (output_at v o) ≡ true) → ⊥) → IsUnfinished v n
-some-unfinished v zero never = absurd (never (λ o lt. absurd (omega (arith, lt))))
-some-unfinished v (suc n) never = by-last v n (is_out_finished (output_at v n)) refl never (λ f. some-unfinished v n f)
+-- where not all are finished, one isn't
+some-unfinished : (v : Picture) → (AllOutputsFinished v → ⊥) → IsUnfinished v
+some-unfinished v never =
+    let finished = λ (o : ℕ). is_out_finished (output_at v o) ≡ true in
+    elim (all-or (out_count v) finished (IsUnfinished v)
+    (λ o lt. elim (cases_Bool (is_out_finished (output_at v o))) [
+      | inl e ↦ inl e
+      | inr e ↦ inr (record { output = o; below = lt; open_still = e })
+    ])) [ inl all ↦ absurd (never all) | inr x ↦ x ]
 
 room-unfinished : (v : Picture) → MayMake v → 0 < out_count v → AllOutputsFinished v → ⊥
 room-unfinished v may some all = elim may [
@@ -235,7 +213,7 @@ module _ (x : KernelState) (v : Picture) where
   -- no output has room
   pub moves-full : (h : Held) (w : Picture) → ((0 < out_count v) × AllOutputsFinished v → ⊥) → IsCrowded v → ChangesInputs unasked (in_count v) v w → Moves x h h v w status.PortFull
   moves-full h w open' crowd c =
-      let y = some-unfinished v (out_count v) (λ all. open' (crowd.some, all)) in
+      let y = some-unfinished v (λ all. open' (crowd.some, all)) in
       let crowded = same-crowded w c.outs c.outputs crowd.none in
       quiet-moves h w status.PortFull (quiet-inputs unasked (in_count v) v w (λ i z. needing-end z false) c)
       (λ o lt f. inl (ap (λ g. g.fin_out) (sym (c.outputs o)) ∙ f))

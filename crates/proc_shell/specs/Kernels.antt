@@ -1,20 +1,9 @@
 -- What the code of a kind promises, over plain data: its own state, a chunk, and the rows that it makes.
-use Rattle.std.specs.Prelude.{◌≡◌, ◌≢◌, ◌⊎◌, ℕ, ◌<◌, ◌==◌, Bool, true, false, cond, List, [], ◌∷◌, ◌++◌, length, Option, Some, None, IfSome, IsSome}
-use Rattle.std.specs.List.{All}
-use Rattle.chunk_data.specs.Values.{Row, Table}
-use Rattle.chunk_data.specs.declared.typed_value.ColumnType.{ColumnType}
-use Rattle.query_model.specs.Names.{Files, part_records, good_rows, bad_place}
-use Rattle.query_model.specs.declared.places.BadPlace.{BadPlace}
-use Rattle.query_model.specs.declared.processor_spec.Kind.{Kind}
+use Rattle.std.specs.Prelude.{◌++◌, ◌<◌, ◌==◌, ◌∷◌, ◌≡◌, ◌≢◌, ◌⊎◌}
+use Rattle.proc_shell.specs.Prelude.{All, ArePartBytes, ArePortsOf, BadPlace, Bool, BoxPicture, ColumnType, Files, FitsInput, GrowthForm, HasMade, HasNotedEnd, HasReadEnough, HasSize, IfSome, IsAtMost, IsOver, IsPulled, IsSome, IsSourceKind, IsWanting, IsWorkOf, KeepsRows, Kind, List, Lists, MakesTypes, None, NotesEnd, Offer, Option, OwnState, PartSpec, Picture, PortFlags, Row, Some, Spec, StandStill, Table, WorkFault, WorkState, [], bad_place, chunk_rows, cond, false, good_rows, idle_own, idle_work, in_count, input_at, is_in_finished, kept_output, length, most_rows, no_lists, own_of, part_records, true, unworked_at, ℕ}
 use Rattle.query_model.specs.declared.processor_spec.Kind.TheVariants as kind
-use Rattle.query_model.specs.declared.processor_spec.PartSpec.{PartSpec}
-use Rattle.query_model.specs.declared.processor_spec.Spec.{Spec}
 use Rattle.query_model.specs.declared.processor_spec.Spec.TheVariants as spec
-use Rattle.port_word.specs.Pictures.{Picture, input_at, in_count, is_in_finished}
-use Rattle.proc_api.specs.Names.{GrowthForm, BoxPicture, PortFlags, WorkState, idle_work, Lists, no_lists, chunk_rows, HasMade, HasNotedEnd, NotesEnd, OwnState, idle_own, own_of, unworked_at, kept_output, ArePartBytes, ArePortsOf, StandStill, IsOver, HasSize, KeepsRows, IsSourceKind, FitsInput, MakesTypes, IsPulled, IsAtMost, IsWorkOf, HasReadEnough, most_rows, IsWanting}
-use Rattle.proc_api.specs.declared.status.WorkFault.{WorkFault}
 use Rattle.proc_api.specs.declared.status.WorkFault.TheVariants as fault
-use Rattle.proc_shell.specs.declared.kernel.Offer.{Offer}
 use Rattle.proc_shell.specs.declared.kernel.Offer.TheVariants as offer
 use Rattle.proc_shell.specs.Steps.{AreWantedOver}
 
@@ -261,7 +250,6 @@ pub record IsShelled (s : Spec) : Type 0 where
   pub still : (kept : PortFlags) (inputs outputs : ℕ) → ArePortsOf (Some s) None (length kept.inputs) (length kept.outputs)
       → ArePortsOf (Some s) None inputs outputs → StandStill (Some s) (Some kept) inputs outputs
       → (inputs ≡ length kept.inputs) × (outputs ≡ length kept.outputs)
-  pub any_input : (i j : ℕ) (types : List ColumnType) → FitsInput (Some s) i types → FitsInput (Some s) j types
   pub enough_one : (ins : Lists) → HasReadEnough (Some s) ins → (inputs outputs : ℕ) → ArePortsOf (Some s) None inputs outputs → outputs ≡ 1
   pub lets_push : LetsPush s
   pub into : (p : BoxPicture) (ins outs : Lists) → IsWorkOf (Some s) p.work → All (HasSize (Some s)) p.work.made

@@ -1,19 +1,8 @@
 -- What is seen of a shell, and what its calls do.
-use Rattle.std.specs.Prelude.{◌≡◌, ◌≢◌, ◌⊎◌, ℕ, ◌+◌, ◌≤◌, Bool, true, false, List, Option, Some, None, Result, Ok, Err}
-use Rattle.chunk_data.specs.Values.{Table}
-use Rattle.query_model.specs.Names.{Files, kind_of}
-use Rattle.query_model.specs.declared.processor_spec.Kind.{Kind}
+use Rattle.std.specs.Prelude.{◌+◌, ◌≡◌, ◌≢◌, ◌≤◌, ◌⊎◌}
+use Rattle.proc_shell.specs.Prelude.{ArePortsOf, Bool, BoxPicture, ChangedByCalls, Err, Files, FollowsKept, Held, IsRunning, IsShut, IsWorkOf, Kind, List, Made, None, Notes, Nothing, Ok, Option, OwnState, Picture, Prepared, PreparesLawfully, Result, RowCount, SameChunks, Scheduled, Some, Spec, Status, Table, Unworked, Wake, WorkFault, WorkState, false, handed_out_by, idle_work, in_count, kind_of, no_notes, out_count, port_flags, rows_pulled, true, ℕ}
 use Rattle.query_model.specs.declared.processor_spec.Kind.TheVariants as kind
-use Rattle.query_model.specs.declared.processor_spec.Spec.{Spec}
-use Rattle.port_word.specs.Names.{Picture, in_count, out_count, ChangedByCalls}
-use Rattle.proc_api.specs.declared.status.Answer.TheVariants.{Prepared, Scheduled}
-use Rattle.proc_api.specs.declared.status.Wake.{Wake}
-use Rattle.proc_api.specs.Names.{BoxPicture, Notes, RowCount, WorkState, idle_work, no_notes, handed_out_by, FollowsKept, IsRunning, OwnState, PreparesLawfully, ArePortsOf, IsShut, IsWorkOf, SameChunks, port_flags, rows_pulled}
-use Rattle.proc_api.specs.declared.status.Status.{Status}
-use Rattle.proc_api.specs.declared.status.WorkFault.{WorkFault}
 use Rattle.proc_api.specs.declared.status.Status.TheVariants as status
-use Rattle.proc_shell.specs.declared.held.Held.{Held}
-use Rattle.proc_shell.specs.declared.held.Held.TheVariants.{Nothing, Unworked, Made}
 use Rattle.proc_shell.specs.Steps.{CountsRows, held_made, held_option, held_unworked, source_of}
 use Rattle.proc_shell.specs.Kernels.{Begins, IsKernelOf, IsLeftOf, IsShelled, IsValid, KernelState, Makes, Takes, first_stage, work_of}
 use Rattle.proc_shell.specs.Turning.{Pushes, Turns}

@@ -1,16 +1,8 @@
 -- What a shell holds, and what the steps of a prepare find and change at its ports.
-use Rattle.std.specs.Prelude.{◌≡◌, ℕ, ◌+◌, ◌<◌, ◌≤◌, nat_lt, Bool, length, true, false, ◌&&◌, not, cond, List, [], ◌∷◌, Option, Some, None}
-use Rattle.chunk_data.specs.Values.{Row, Table}
-use Rattle.port_word.specs.Names.{Picture, input_at, output_at, in_count, out_count, can_push, holds_data, is_in_finished, is_out_finished, closed, ChangedByCalls}
-use Rattle.port_word.specs.declared.port_view.InputPort.{InputPort}
-use Rattle.proc_api.specs.Names.{RowCount, chunk_rows, pushes_to, raised}
-use Rattle.proc_api.specs.declared.status.Answer.{Answer}
-use Rattle.proc_api.specs.declared.status.Answer.TheVariants.{Prepared, Scheduled}
+use Rattle.std.specs.Prelude.{◌&&◌, ◌+◌, ◌<◌, ◌∷◌, ◌≡◌, ◌≤◌}
+use Rattle.proc_shell.specs.Prelude.{Answer, Bool, ChangedByCalls, Held, InputPort, List, Made, None, Nothing, Option, Picture, Prepared, Row, RowCount, Scheduled, Some, Table, TurnsInput, Unworked, [], can_push, chunk_rows, closed, cond, false, holds_data, in_count, input_at, is_in_finished, is_out_finished, length, nat_lt, needing, not, out_count, output_at, pushes_to, raised, true, ℕ}
 use Rattle.proc_api.specs.declared.status.Status.TheVariants as status
 use Rattle.proc_api.specs.declared.status.Wake.TheVariants as wake
-use Rattle.proc_api.proofs.Turns.{TurnsInput, needing}
-use Rattle.proc_shell.specs.declared.held.Held.{Held}
-use Rattle.proc_shell.specs.declared.held.Held.TheVariants.{Nothing, Unworked, Made}
 
 -- ---- what is held
 

@@ -1,6 +1,6 @@
 ghost use Rattle.std.specs.Prelude.{◌≡◌};
-ghost use Rattle.proc_shell.specs.Kernels.{chunk_list};
-ghost use Rattle.proc_shell.specs.Steps.{held_option, held_unworked, is_unworked, rows_since as since};
+ghost use Rattle.proc_shell.specs.Names.{chunk_list, held_option, held_unworked, is_unworked};
+ghost use Rattle.proc_shell.specs.Steps.{rows_since as since};
 
 use chunk_data::Chunk;
 

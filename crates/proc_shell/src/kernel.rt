@@ -1,11 +1,7 @@
-ghost use Rattle.std.specs.Prelude.{◌≡◌, ◌⊎◌, ◌↔◌, ◌<◌, ◌++◌, ℕ, Bool, true, false, List, [], Some, None, IfOk, IfErr, OnOk, IsTrue};
-ghost use Rattle.chunk_data.specs.Values.{Table};
-ghost use Rattle.query_model.specs.Kinds.{kind_of};
+ghost use Rattle.std.specs.Prelude.{◌++◌, ◌<◌, ◌↔◌, ◌≡◌, ◌⊎◌};
+ghost use Rattle.proc_shell.specs.Names.{ArePortsOf, Begins, Bool, Fails, IfErr, IfOk, IsKernelOf, IsLeftOf, IsShelled, IsTrue, IsValid, IsWorkOf, KernelState, List, Makes, None, Offers, OnOk, Reads, Some, Table, Takes, [], chunk_list, false, first_stage, in_count, kind_of, out_count, true, work_of, ℕ};
 ghost use Rattle.query_model.specs.declared.processor_spec.Kind as the_kind;
 ghost use Rattle.query_model.specs.declared.processor_spec.Kind.TheVariants as kind;
-ghost use Rattle.port_word.specs.Pictures.{in_count, out_count};
-ghost use Rattle.proc_api.specs.Names.{ArePortsOf, IsWorkOf};
-ghost use Rattle.proc_shell.specs.Kernels.{Begins, Fails, IsKernelOf, IsLeftOf, IsShelled, IsValid, KernelState, Makes, Offers, Reads, Takes, chunk_list, first_stage, work_of};
 
 use chunk_data::{Chunk, Memory};
 use port_word::PortView;

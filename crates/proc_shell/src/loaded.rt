@@ -1,8 +1,5 @@
-ghost use Rattle.std.specs.Prelude.{◌≡◌, true, IfOk, IfErr, OnOk};
-ghost use Rattle.query_model.specs.Kinds.{kind_of};
-ghost use Rattle.proc_shell.specs.Kernels.{Fails, IsKernelOf, IsLeftOf};
-ghost use Rattle.proc_shell.specs.Shells.{IsBegun, WorksHeld, part};
-ghost use Rattle.proc_shell.specs.Steps.{is_wanted, not_made, suits};
+ghost use Rattle.std.specs.Prelude.{◌≡◌};
+ghost use Rattle.proc_shell.specs.Names.{Fails, IfErr, IfOk, IsBegun, IsKernelOf, IsLeftOf, OnOk, WorksHeld, is_wanted, kind_of, not_made, part, suits, true};
 
 use crate::held::{Held, held_of, unworked_of};
 use crate::kernel::Kernel;
@@ -66,10 +63,8 @@ fn held_after_work<K: Kernel>(alloc: Global, kernel: &mut K, held: Held) -> Resu
 }
 
 impl<K: Kernel> Loaded<K> {
-    ghost use Rattle.std.specs.Prelude.{◌≡◌, false, Ok, Err, OnOk, IfErr};
-    ghost use Rattle.proc_api.specs.Clauses.{MaySchedule, MayWork};
-    ghost use Rattle.proc_shell.specs.Kernels.{Fails};
-    ghost use Rattle.proc_shell.specs.Shells.{PartFails, PartGives, PartNotes, PartPrepares, PartWorks, part};
+    ghost use Rattle.std.specs.Prelude.{◌≡◌};
+    ghost use Rattle.proc_shell.specs.Names.{Err, Fails, IfErr, MaySchedule, MayWork, Ok, OnOk, PartFails, PartGives, PartNotes, PartPrepares, PartWorks, false, part};
 
     /// Prepares it; over a view with other ports than its spec's it shuts down.
     pub fn prepare(&mut self, view: &mut PortView, pulled: &mut PulledRows) -> Status

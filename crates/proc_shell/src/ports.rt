@@ -1,8 +1,5 @@
-ghost use Rattle.std.specs.Prelude.{◌≡◌, ◌↔◌, ℕ, ◌<◌, ◌≤◌, true, false, Some, None, IsTrue, IfSome};
-ghost use Rattle.port_word.specs.Pictures.{in_count, out_count};
-ghost use Rattle.proc_api.specs.Ports.{AllOutputsFinished, HasNoRoom};
-ghost use Rattle.proc_shell.specs.Turning.{IsCrowded, MayMake};
-ghost use Rattle.proc_shell.specs.Steps.{asked, AreWantedEmpty, AreWantedOver, ChangesInput, ChangesInputs, IsFree, IsWanted, IsWantedFull, shut_open, unasked};
+ghost use Rattle.std.specs.Prelude.{◌<◌, ◌↔◌, ◌≡◌, ◌≤◌};
+ghost use Rattle.proc_shell.specs.Names.{AllOutputsFinished, AreWantedEmpty, AreWantedOver, ChangesInput, ChangesInputs, HasNoRoom, IfSome, IsCrowded, IsFree, IsTrue, IsWanted, IsWantedFull, MayMake, None, Some, asked, false, in_count, out_count, shut_open, true, unasked, ℕ};
 
 use crate::kernel::Kernel;
 use port_word::PortView;

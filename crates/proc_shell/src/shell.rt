@@ -16,10 +16,8 @@ pub struct Shell<K: Kernel> {
 }
 
 impl<K: Kernel> Model for Shell<K> {
-    ghost use Rattle.std.specs.Coded.{codes};
-    ghost use Rattle.std.specs.Option.{option_map};
+    ghost use Rattle.proc_shell.specs.Names.{ShellView, codes, option_map, part};
     ghost use Rattle.query_model.specs.contracts.processor_spec.Spec as spec;
-    ghost use Rattle.proc_shell.specs.Shells.{part, ShellView};
 
     ghost Value = { ShellView };
 
@@ -32,8 +30,7 @@ impl<K: Kernel> Model for Shell<K> {
 }
 
 impl<K: Kernel> Shell<K> {
-    ghost use Rattle.proc_api.specs.Clauses.{IsLawfulBlank};
-    ghost use Rattle.proc_shell.specs.Shells.{view_seen};
+    ghost use Rattle.proc_shell.specs.Names.{IsLawfulBlank, view_seen};
 
     /// A blank processor of the kernel's kind.
     pub fn new(alloc: Global) -> Shell<K>
@@ -48,8 +45,7 @@ impl<K: Kernel> Shell<K> {
 }
 
 impl<K: Kernel + Send> Processor for Shell<K> {
-    ghost use Rattle.std.specs.Prelude.{None};
-    ghost use Rattle.proc_shell.specs.Shells.{view_seen};
+    ghost use Rattle.proc_shell.specs.Names.{None, view_seen};
 
     ghost seen = { view_seen K.kind_is };
 

@@ -51,6 +51,6 @@ merge_order order = record {
 pub merge_shelled : (order : SortSpec) → IsShelled (spec.MergeSorted order)
 merge_shelled order =
     shelled-plain (spec.MergeSorted order) refl (λ growth m n h. h) (λ growth m n h. h)
-    (λ kept m n had h stands. stands) (λ i j types h. h) (λ ins enough m n h. h)
+    (λ kept m n had h stands. stands) (λ ins enough m n h. h)
     (pushes-in-order (spec.MergeSorted order) (merge_order order) (λ m n h. h))
     (λ p ins outs uses h. h) (λ p ins outs seen uses h. h)

@@ -1,5 +1,4 @@
-use Rattle.std.proofs.Common.{◌≡◌, [], ◌∷◌, map, IfOk, ap, subst, ◌∙◌, rules}
-use Rattle.chunk_data.specs.declared.typed_value.Value.TheVariants.{UInt}
+use Rattle.flow_procs.proofs.Imports.{IfOk, UInt, [], ap, map, rules, subst, ◌∙◌, ◌∷◌, ◌≡◌}
 use Rattle.flow_procs.proofs.CountingLaws.{column-long, column-rows}
 use Rattle.flow_procs.proofs.numbers.chunk_from.Goals as goal
 

@@ -1,4 +1,4 @@
-use Rattle.std.proofs.Common.{◌+◌, [], ◌∷◌, ◌++◌, sym, ap, ◌∙◌}
+use Rattle.flow_procs.proofs.Imports.{[], ap, sym, ◌++◌, ◌+◌, ◌∙◌, ◌∷◌}
 use Rattle.flow_procs.proofs.CountingLaws.{count_on-next}
 use Rattle.flow_procs.proofs.numbers.numbers_from.Goals as goal
 

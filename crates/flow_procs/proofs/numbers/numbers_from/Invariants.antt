@@ -1,5 +1,4 @@
-use Rattle.std.specs.Prelude.{◌≡◌}
-use Rattle.flow_procs.specs.Counting.{count_on}
+use Rattle.flow_procs.proofs.Imports.{count_on, ◌≡◌}
 use Rattle.flow_procs.proofs.numbers.numbers_from.Given as goal
 
 abbrev pub invariant-loop-i : goal.invariant-loop-i

@@ -1,5 +1,4 @@
-use Rattle.std.proofs.Common.{arith}
-use Rattle.std.proofs.lemmas.Grind.{common_steps}
+use Rattle.proc_api.proofs.Imports.{arith, common_steps}
 use Rattle.proc_api.proofs.ViewFlags.{next_input, all_inputs}
 use Rattle.proc_api.proofs.notes.copy_inputs.Goals as goal
 

@@ -1,5 +1,4 @@
-use Rattle.std.proofs.Common.{◌≡◌, ◌≤◌, map, take, vec_capacity}
-use Rattle.port_word.specs.declared.port_view.InputPort.{InputPort}
+use Rattle.proc_api.proofs.Imports.{InputPort, map, take, vec_capacity, ◌≡◌, ◌≤◌}
 use Rattle.proc_api.proofs.notes.copy_inputs.Given as goal
 
 abbrev pub invariant-loop-i : goal.invariant-loop-i

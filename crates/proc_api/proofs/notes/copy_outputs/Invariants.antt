@@ -1,4 +1,4 @@
-use Rattle.std.proofs.Common.{◌≡◌, ◌≤◌, take, vec_capacity}
+use Rattle.proc_api.proofs.Imports.{take, vec_capacity, ◌≡◌, ◌≤◌}
 use Rattle.proc_api.proofs.notes.copy_outputs.Given as goal
 
 abbrev pub invariant-loop-o : goal.invariant-loop-o

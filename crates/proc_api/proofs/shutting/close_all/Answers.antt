@@ -1,4 +1,4 @@
-use Rattle.std.proofs.Common.{arith}
+use Rattle.proc_api.proofs.Imports.{arith}
 use Rattle.proc_api.proofs.ShutPorts.{closes-next}
 use Rattle.proc_api.proofs.shutting.close_all.Goals as goal
 

@@ -1,4 +1,4 @@
-use Rattle.proc_api.specs.Ports.{ClosesFront}
+use Rattle.proc_api.proofs.Imports.{ClosesFront}
 use Rattle.proc_api.proofs.shutting.close_all.Given as goal
 
 abbrev pub invariant-loop-i : goal.invariant-loop-i

@@ -1,4 +1,4 @@
-use Rattle.std.proofs.Common.{arith}
+use Rattle.proc_api.proofs.Imports.{arith}
 use Rattle.proc_api.proofs.ShutPorts.{finishes-next}
 use Rattle.proc_api.proofs.shutting.finish_all.Goals as goal
 

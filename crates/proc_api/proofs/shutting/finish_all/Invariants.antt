@@ -1,4 +1,4 @@
-use Rattle.proc_api.specs.Ports.{FinishesFront}
+use Rattle.proc_api.proofs.Imports.{FinishesFront}
 use Rattle.proc_api.proofs.shutting.finish_all.Given as goal
 
 abbrev pub invariant-loop-o : goal.invariant-loop-o

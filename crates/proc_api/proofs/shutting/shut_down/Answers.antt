@@ -1,4 +1,4 @@
-use Rattle.port_word.proofs.Differences.{changed-by-both}
+use Rattle.proc_api.proofs.Imports.{changed-by-both}
 use Rattle.proc_api.proofs.shutting.shut_down.Goals as goal
 
 pub returns-clause-changed : goal.returns-clause-changed

@@ -1,4 +1,4 @@
-use Rattle.std.proofs.Common.{[], refl, inl}
+use Rattle.proc_shell.proofs.Imports.{[], inl, refl}
 use Rattle.proc_shell.proofs.loaded.begun.Goals as goal
 
 pub returns-in-Ok-begin : goal.returns-in-Ok-begin

@@ -1,9 +1,6 @@
-use Rattle.proc_shell.specs.Steps.{asked}
-use Rattle.proc_shell.proofs.PortSteps.{inputs-next, inputs-none}
+use Rattle.proc_shell.proofs.Imports.{asked}
+use Rattle.proc_shell.proofs.PortSteps.{inputs-next}
 use Rattle.proc_shell.proofs.ports.ask_each.Goals as goal
-
-pub loop-i-init : goal.loop-i-init
-loop-i-init g c = inputs-none (asked (g.K.Kernel.open_to c.args.kernel.now)) c.args.view.now
 
 pub loop-i-preserved : goal.loop-i-preserved
 loop-i-preserved g c =

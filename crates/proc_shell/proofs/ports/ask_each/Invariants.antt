@@ -1,4 +1,4 @@
-use Rattle.proc_shell.specs.Steps.{ChangesInputs, asked}
+use Rattle.proc_shell.proofs.Imports.{ChangesInputs, asked}
 use Rattle.proc_shell.proofs.ports.ask_each.Given as goal
 
 abbrev pub invariant-loop-i : goal.invariant-loop-i

@@ -1,10 +1,6 @@
-use Rattle.std.proofs.Common.{false, arith, refl}
-use Rattle.proc_shell.specs.Steps.{unasked}
-use Rattle.proc_shell.proofs.PortSteps.{inputs-next, inputs-none, step-needs}
+use Rattle.proc_shell.proofs.Imports.{arith, false, refl, unasked}
+use Rattle.proc_shell.proofs.PortSteps.{inputs-next, step-needs}
 use Rattle.proc_shell.proofs.ports.ask_none.Goals as goal
-
-pub loop-i-init : goal.loop-i-init
-loop-i-init c = inputs-none unasked c.args.view.now
 
 pub loop-i-preserved : goal.loop-i-preserved
 loop-i-preserved c =

@@ -1,4 +1,4 @@
-use Rattle.proc_shell.specs.Steps.{ChangesInputs, unasked}
+use Rattle.proc_shell.proofs.Imports.{ChangesInputs, unasked}
 use Rattle.proc_shell.proofs.ports.ask_none.Given as goal
 
 abbrev pub invariant-loop-i : goal.invariant-loop-i

@@ -1,5 +1,4 @@
-use Rattle.std.proofs.Common.{true, cond, sym, ap, ◌∙◌}
-use Rattle.proc_shell.proofs.Imports.{asked, input_at, needing}
+use Rattle.proc_shell.proofs.Imports.{ap, asked, cond, input_at, needing, sym, true, ◌∙◌}
 use Rattle.proc_shell.proofs.PortSteps.{step-needs}
 use Rattle.proc_shell.proofs.ports.ask_wanted.Goals as goal
 

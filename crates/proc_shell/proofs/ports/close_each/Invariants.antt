@@ -1,4 +1,4 @@
-use Rattle.proc_shell.specs.Steps.{ChangesInputs, shut_open}
+use Rattle.proc_shell.proofs.Imports.{ChangesInputs, shut_open}
 use Rattle.proc_shell.proofs.ports.close_each.Given as goal
 
 abbrev pub invariant-loop-i : goal.invariant-loop-i

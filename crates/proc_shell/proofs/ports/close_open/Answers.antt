@@ -1,4 +1,4 @@
-use Rattle.std.proofs.Common.{rules}
+use Rattle.proc_shell.proofs.Imports.{rules}
 use Rattle.proc_shell.proofs.PortSteps.{step-closes}
 use Rattle.proc_shell.proofs.ports.close_open.Goals as goal
 

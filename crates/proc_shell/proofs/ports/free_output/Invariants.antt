@@ -1,5 +1,4 @@
-use Rattle.std.specs.Prelude.{◌≡◌, ℕ, ◌<◌, false}
-use Rattle.port_word.specs.Pictures.{can_push, is_out_finished, output_at}
+use Rattle.proc_shell.proofs.Imports.{can_push, false, is_out_finished, output_at, ℕ, ◌<◌, ◌≡◌}
 use Rattle.proc_shell.proofs.ports.free_output.Given as goal
 
 abbrev pub invariant-loop-o : goal.invariant-loop-o

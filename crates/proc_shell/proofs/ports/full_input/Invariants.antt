@@ -1,5 +1,4 @@
-use Rattle.std.specs.Prelude.{◌≡◌, ℕ, ◌<◌, true, false}
-use Rattle.port_word.specs.Pictures.{holds_data, input_at}
+use Rattle.proc_shell.proofs.Imports.{false, holds_data, input_at, true, ℕ, ◌<◌, ◌≡◌}
 use Rattle.proc_shell.proofs.ports.full_input.Given as goal
 
 abbrev pub invariant-loop-i : goal.invariant-loop-i

@@ -1,5 +1,4 @@
-use Rattle.std.specs.Prelude.{◌≡◌, ℕ, ◌<◌, true}
-use Rattle.port_word.specs.Pictures.{is_in_finished, input_at}
+use Rattle.proc_shell.proofs.Imports.{input_at, is_in_finished, true, ℕ, ◌<◌, ◌≡◌}
 use Rattle.proc_shell.proofs.ports.open_input.Given as goal
 
 abbrev pub invariant-loop-i : goal.invariant-loop-i

@@ -1,5 +1,4 @@
-use Rattle.std.proofs.Common.{sym, subst}
-use Rattle.proc_shell.proofs.Imports.{Finished, Moves, OfferComes, Reads}
+use Rattle.proc_shell.proofs.Imports.{Finished, Moves, OfferComes, Reads, subst, sym}
 use Rattle.proc_shell.proofs.TurnLaws.{moves-enough}
 use Rattle.proc_shell.proofs.turns.follow.Goals as goal
 

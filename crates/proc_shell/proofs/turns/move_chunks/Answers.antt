@@ -1,6 +1,5 @@
-use Rattle.std.proofs.Common.{rules, ◌≡◌, sym, subst, ◌∙◌, arith}
+use Rattle.proc_shell.proofs.Imports.{AreMoved, Held, Picture, Ready, arith, part, rules, subst, sym, with_view, ◌∙◌, ◌≡◌}
 use Rattle.query_model.specs.declared.processor_spec.Kind.TheVariants as kind
-use Rattle.proc_shell.proofs.Imports.{AreMoved, Held, Picture, Ready, part, with_view}
 use Rattle.proc_shell.proofs.Resizing.{resize-passes}
 use Rattle.proc_shell.proofs.SeveralTurns.{turns-again, turns-once}
 use Rattle.proc_shell.proofs.turns.move_chunks.Goals as goal

@@ -1,6 +1,4 @@
-use Rattle.std.proofs.Common.{◌≡◌, ◌≤◌, false, true, Some}
-use Rattle.port_word.specs.Pictures.{in_count}
-use Rattle.proc_shell.proofs.Imports.{AreMoved, HasSpecPorts, Prepared, is_wanted, suits}
+use Rattle.proc_shell.proofs.Imports.{AreMoved, HasSpecPorts, Prepared, Some, false, in_count, is_wanted, suits, true, ◌≡◌, ◌≤◌}
 use Rattle.proc_shell.proofs.turns.move_chunks.Given as goal
 
 abbrev pub invariant-loop-next : goal.invariant-loop-next

@@ -1,4 +1,4 @@
-use Rattle.std.proofs.Common.{sym, arith}
+use Rattle.proc_shell.proofs.Imports.{arith, sym}
 use Rattle.proc_shell.proofs.PushLaws.{passes-none, passes-some}
 use Rattle.proc_shell.proofs.turns.pass_on.Goals as goal
 

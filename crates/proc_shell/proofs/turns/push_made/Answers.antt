@@ -1,6 +1,4 @@
-use Rattle.std.proofs.Common.{◌≡◌, refl, sym, subst, arith}
-use Rattle.port_word.specs.Pictures.{out_count}
-use Rattle.proc_shell.proofs.Imports.{Made, Pushes}
+use Rattle.proc_shell.proofs.Imports.{Made, Pushes, arith, out_count, refl, subst, sym, ◌≡◌}
 use Rattle.proc_shell.proofs.PushLaws.{never-made, pushes-none, pushes-nowhere, pushes-one}
 use Rattle.proc_shell.proofs.turns.push_made.Goals as goal
 

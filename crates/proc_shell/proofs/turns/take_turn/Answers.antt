@@ -1,28 +1,13 @@
-use Rattle.std.proofs.Common.{sym, ◌∙◌, inl}
+use Rattle.proc_shell.proofs.Imports.{inl, sym, ◌∙◌}
 use Rattle.proc_shell.proofs.PortMoves.{unless-true}
-use Rattle.proc_shell.proofs.TurnLaws.{leaves-same, moves-close, idle-nothing, moves-full, moves-work, turns-offered}
+use Rattle.proc_shell.proofs.TurnLaws.{leaves-same, idle-nothing, moves-full, turns-offered}
 use Rattle.proc_shell.proofs.turns.take_turn.Goals as goal
-
-pub returns-then-is_over-clause-turns : goal.returns-then-is_over-clause-turns
-returns-then-is_over-clause-turns g c = record {
-  leaves = leaves-same (g.K.Kernel.state c.args.kernel.now).spec (g.K.Kernel.state c.args.kernel.now).own;
-  moves = moves-close (g.K.Kernel.state c.args.kernel.now) c.args.view.now c.args.held.now c.close_each.new.view (c.is_over.ensures.0 c.if-is_over.true) c.close_each.ensures;
-  ends = λ i lt n. inl n;
-}
 
 pub returns-then-not-may_make-clause-turns : goal.returns-then-not-may_make-clause-turns
 returns-then-not-may_make-clause-turns g c = record {
   leaves = leaves-same (g.K.Kernel.state c.args.kernel.now).spec (g.K.Kernel.state c.args.kernel.now).own;
   moves = moves-full (g.K.Kernel.state c.args.kernel.now) c.args.view.now c.args.held.now c.ask_none.new.view
       (unless-true c.is_over.result c.is_over.ensures c.if-is_over.false) (c.may_make.ensures.full c.if-not-may_make.true) c.ask_none.ensures;
-  ends = λ i lt n. inl n;
-}
-
-pub returns-then-not-is_idle-clause-turns : goal.returns-then-not-is_idle-clause-turns
-returns-then-not-is_idle-clause-turns g c = record {
-  leaves = leaves-same (g.K.Kernel.state c.args.kernel.now).spec (g.K.Kernel.state c.args.kernel.now).own;
-  moves = moves-work (g.K.Kernel.state c.args.kernel.now) c.args.view.now c.args.held.now (c.may_make.ensures.may c.if-not-may_make.false)
-      (sym c.is_idle.ensures ∙ c.if-not-is_idle.true) c.requires.pushed;
   ends = λ i lt n. inl n;
 }
 

@@ -1,5 +1,4 @@
-use Rattle.std.proofs.Common.{Some, ap, subst, ◌∙◌}
-use Rattle.proc_shell.proofs.Imports.{IsWorkOf, held_made, held_unworked, raised, rows_since, source_of, work_of}
+use Rattle.proc_shell.proofs.Imports.{IsWorkOf, Some, ap, held_made, held_unworked, raised, rows_since, source_of, subst, work_of, ◌∙◌}
 use Rattle.proc_shell.proofs.BoxLaws.{rows-turned, wanted-made, wanted-source}
 use Rattle.proc_shell.proofs.turns.turn.Goals as goal
 

@@ -1,6 +1,4 @@
-use denote.Enum.Bare.{differs_true, differs_false}
-use Rattle.std.proofs.Common.{Some, ◌∙◌, sym}
-use Rattle.csv_procs.proofs.Imports.{loads, none-mapped, option_map, parsing, part, wrong-kind}
+use Rattle.csv_procs.proofs.Imports.{differs_false, differs_true, loads, none-mapped, option_map, parsing, part, sym, wrong-kind, ◌∙◌}
 use Rattle.csv_procs.proofs.SourceLaws.{reads}
 use Rattle.query_model.specs.contracts.processor_spec.Kind as kinds
 use Rattle.query_model.specs.declared.processor_spec.Kind.TheVariants as kind

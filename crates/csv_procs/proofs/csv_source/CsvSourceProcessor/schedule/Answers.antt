@@ -1,5 +1,4 @@
-use Rattle.std.proofs.Common.{ap}
-use Rattle.csv_procs.proofs.Imports.{option_map, parsing, part}
+use Rattle.csv_procs.proofs.Imports.{ap, option_map, parsing, part}
 use Rattle.csv_procs.proofs.SourceLaws.{step-fault, step-ok}
 use Rattle.csv_procs.proofs.csv_source.CsvSourceProcessor.schedule.Goals as goal
 

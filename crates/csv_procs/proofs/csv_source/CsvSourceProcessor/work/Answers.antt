@@ -1,5 +1,4 @@
-use Rattle.std.proofs.Common.{ap, refl}
-use Rattle.csv_procs.proofs.Imports.{fails, option_map, parsing, part, works}
+use Rattle.csv_procs.proofs.Imports.{ap, fails, option_map, parsing, part, refl, works}
 use Rattle.query_model.specs.declared.processor_spec.Kind.TheVariants as kind
 use Rattle.csv_procs.proofs.SourceLaws.{place-told, reads, tied-now}
 use Rattle.csv_procs.proofs.csv_source.CsvSourceProcessor.work.Goals as goal

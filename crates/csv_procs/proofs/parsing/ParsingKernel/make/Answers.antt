@@ -1,5 +1,4 @@
-use Rattle.std.proofs.Common.{None, Some, inr, subst, sym, ◌∙◌}
-use Rattle.csv_procs.proofs.Imports.{IsValid, Makes, Rows, TakesRows, parsing}
+use Rattle.csv_procs.proofs.Imports.{IsValid, Makes, None, Rows, Some, TakesRows, inr, parsing, subst, sym, ◌∙◌}
 use Rattle.csv_procs.proofs.PartLaws.{makes-chunk, makes-end, read-out}
 use Rattle.csv_procs.proofs.parsing.ParsingKernel.make.Goals as goal
 

@@ -1,6 +1,5 @@
-use Rattle.std.proofs.Common.{false, subst, sym, ◌∙◌}
+use Rattle.csv_procs.proofs.Imports.{IsRecordLeft, Offers, Reads, false, parsing, subst, sym, ◌∙◌}
 use Rattle.proc_shell.specs.declared.kernel.Offer.TheVariants as offer
-use Rattle.csv_procs.proofs.Imports.{IsRecordLeft, Offers, Reads, parsing}
 use Rattle.csv_procs.proofs.PartLaws.{offers-end, read-out, record-left}
 use Rattle.csv_procs.proofs.parsing.ParsingKernel.offer.Goals as goal
 

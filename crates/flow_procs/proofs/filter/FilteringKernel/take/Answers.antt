@@ -1,5 +1,4 @@
-use Rattle.std.proofs.Common.{rules}
-use Rattle.std.proofs.lemmas.Bool.{eqb-true}
+use Rattle.flow_procs.proofs.Imports.{eqb-true, rules}
 use Rattle.flow_procs.proofs.FilterLaws.{takes}
 use Rattle.flow_procs.proofs.filter.FilteringKernel.take.Goals as goal
 

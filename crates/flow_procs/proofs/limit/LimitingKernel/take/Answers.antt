@@ -1,8 +1,5 @@
-use Rattle.std.proofs.Common.{◌≡◌, ◌+◌, ◌-◌, ◌^◌, min, Some, length, subst, sym, arith, rules}
-use Rattle.std.proofs.lemmas.Bool.{eqb-true}
+use Rattle.flow_procs.proofs.Imports.{Some, Takes, arith, eqb-true, length, min, read_own, rules, subst, sym, ◌+◌, ◌-◌, ◌^◌, ◌≡◌}
 use Rattle.query_model.specs.declared.processor_spec.Spec.TheVariants as spec
-use Rattle.proc_shell.specs.Kernels.{Takes}
-use Rattle.flow_procs.specs.Limits.{read_own}
 use Rattle.flow_procs.proofs.LimitLaws.{takes}
 use Rattle.flow_procs.proofs.limit.LimitingKernel.take.Goals as goal
 

@@ -1,4 +1,4 @@
-use Rattle.std.proofs.Common.{refl}
+use Rattle.flow_procs.proofs.Imports.{refl}
 use Rattle.flow_procs.proofs.CountingLaws.{begins}
 use Rattle.flow_procs.proofs.numbers.CountingKernel.begin.Goals.{in-Numbers, in_default}
 use Rattle.flow_procs.proofs.numbers.CountingKernel.begin.Goals as goal

@@ -1,4 +1,4 @@
-use Rattle.std.proofs.Common.{◌≡◌, ◌-◌, ◌<◌, min, max, arith, rules}
+use Rattle.flow_procs.proofs.Imports.{arith, max, min, rules, ◌-◌, ◌<◌, ◌≡◌}
 use Rattle.flow_procs.proofs.CountingLaws.{makes-some}
 use Rattle.flow_procs.proofs.numbers.CountingKernel.make.Goals as goal
 

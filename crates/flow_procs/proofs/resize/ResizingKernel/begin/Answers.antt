@@ -1,5 +1,4 @@
-use Rattle.std.proofs.Common.{refl}
-use Rattle.proc_shell.proofs.Resizing.{begins-resized}
+use Rattle.flow_procs.proofs.Imports.{begins-resized, refl}
 use Rattle.flow_procs.proofs.resize.ResizingKernel.begin.Goals.{in-Resize, in_default}
 use Rattle.flow_procs.proofs.resize.ResizingKernel.begin.Goals as goal
 

@@ -1,4 +1,4 @@
-use Rattle.proc_shell.proofs.Resizing.{takes-resized}
+use Rattle.flow_procs.proofs.Imports.{takes-resized}
 use Rattle.flow_procs.proofs.resize.ResizingKernel.take.Goals as goal
 
 pub returns-clause-takes : goal.returns-clause-takes

@@ -1,5 +1,4 @@
-use Rattle.std.proofs.Common.{◌≡◌, ◌≤◌, take, count_by}
-use Rattle.proc_api.specs.Racks.{is_of}
+use Rattle.proc_api.proofs.Imports.{count_by, is_of, take, ◌≡◌, ◌≤◌}
 use Rattle.proc_api.proofs.rack.Rack.count.Given as goal
 
 abbrev pub invariant-loop-b : goal.invariant-loop-b

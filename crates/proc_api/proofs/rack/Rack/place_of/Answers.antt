@@ -1,4 +1,4 @@
-use Rattle.std.proofs.Common.{rules, sym}
+use Rattle.proc_api.proofs.Imports.{rules, sym}
 use Rattle.proc_api.proofs.RackLaws.{none_so_far}
 use Rattle.proc_api.proofs.rack.Rack.place_of.Goals as goal
 

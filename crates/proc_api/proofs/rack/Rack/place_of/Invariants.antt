@@ -1,5 +1,4 @@
-use Rattle.std.proofs.Common.{◌≡◌, map, take, count_by}
-use Rattle.proc_api.specs.Racks.{is_of}
+use Rattle.proc_api.proofs.Imports.{count_by, is_of, map, take, ◌≡◌}
 use Rattle.proc_api.proofs.rack.Rack.place_of.Given as goal
 
 abbrev pub invariant-loop-i : goal.invariant-loop-i

@@ -1,15 +1,7 @@
-use Rattle.std.proofs.Common.{refl, sym, ap, subst, ◌∙◌}
-use Rattle.port_word.specs.Pictures.{in_count, out_count}
-use Rattle.proc_shell.proofs.Imports.{Finished, HasSpecPorts, PartPrepares, held_made, held_unworked, part, source_of, with_view}
+use Rattle.proc_shell.proofs.Imports.{Finished, HasSpecPorts, PartPrepares, ap, held_made, held_unworked, in_count, out_count, part, refl, source_of, subst, sym, with_view, ◌∙◌}
 use Rattle.proc_shell.proofs.BoxLaws.{shuts-once, wanted-made, wanted-source}
 use Rattle.proc_shell.proofs.PortMoves.{same-ports, unless-true}
 use Rattle.proc_shell.proofs.loaded.Loaded.prepare.Goals as goal
-
-pub move_chunks-status-requires-clause-ports : goal.move_chunks-status-requires-clause-ports
-move_chunks-status-requires-clause-ports g c =
-    same-ports (g.K.Kernel.state c.args.self.now.kernel).spec c.inputs.result c.outputs.result
-    (in_count c.args.view.now) (out_count c.args.view.now) c.inputs.ensures.count
-    c.outputs.ensures.count (c.fits.ensures.0 c.if-not-fits.false)
 
 pub returns-then-not-fits : goal.returns-then-not-fits
 returns-then-not-fits g c =

@@ -1,6 +1,4 @@
-use Rattle.std.proofs.Common.{Some, ap, subst, inl}
-use Rattle.proc_api.specs.Keeping.{IsWorkOf}
-use Rattle.proc_shell.proofs.Imports.{WorksHeld, held_made, held_unworked, source_of, work_of}
+use Rattle.proc_shell.proofs.Imports.{IsWorkOf, Some, WorksHeld, ap, held_made, held_unworked, inl, source_of, subst, work_of}
 use Rattle.proc_shell.proofs.BoxLaws.{wanted-made, worked-source}
 use Rattle.proc_shell.proofs.loaded.Loaded.work.Goals as goal
 

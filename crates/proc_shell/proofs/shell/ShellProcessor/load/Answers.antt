@@ -1,6 +1,4 @@
-use denote.Enum.Bare.{differs_true, differs_false}
-use Rattle.std.proofs.Common.{None, ◌∙◌, sym}
-use Rattle.proc_shell.proofs.Imports.{option_map, part}
+use Rattle.proc_shell.proofs.Imports.{None, differs_false, differs_true, option_map, part, sym, ◌∙◌}
 use Rattle.query_model.specs.contracts.processor_spec.Kind as kind
 use Rattle.proc_shell.proofs.BoxLaws.{loads, none-mapped, wrong-kind}
 use Rattle.proc_shell.proofs.shell.ShellProcessor.load.Goals as goal
