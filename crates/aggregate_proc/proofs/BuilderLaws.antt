@@ -1,8 +1,8 @@
 -- The columns that are built for a spec.
-use Rattle.std.proofs.Common.{◌≡◌, ℕ, zero, suc, ◌+◌, ◌<◌, ◌≤◌, Bool, true, false, List, [], ◌∷◌, ◌++◌, length, map, take, get_or, refl, sym, ap, ◌∙◌, subst, arith}
+use Rattle.std.proofs.Common.{◌≡◌, ℕ, suc, ◌+◌, ◌<◌, ◌≤◌, Bool, true, false, List, [], ◌∷◌, ◌++◌, length, map, take, get_or, refl, sym, ap, ◌∙◌, subst, arith}
 use Rattle.chunk_data.proofs.Laws.{AreLong-made, rows_of-made}
 use Rattle.std.proofs.lemmas.Grind.{common_steps}
-use Rattle.aggregate_proc.proofs.Prelude.{AggOp, All, AreLong, Column, ColumnType, FoldColumn, Folding, GroupSpec, IsTableFor, StateCall, TableView, adds, argument_types, call_foldings, call_types, count_up, default_value, empty_column, folding_of, foldings_for, get_or-map, get_or_default, group_types, key_foldings, kinds_of, length-append, length-map, map-append, map-id, map-map, rows_of, take-suc, take_all, take_at, types_for, values}
+use Rattle.aggregate_proc.proofs.Prelude.{AggOp, All, AreLong, Column, ColumnType, FoldColumn, Folding, GroupSpec, IsTableFor, StateCall, TableView, argument_types, call_foldings, call_types, count_up, default_value, empty_column, folding_of, foldings_for, get_or-map, get_or_default, group_types, key_foldings, kinds_of, length-append, length-map, map-append, map-id, map-map, rows_of, take_all, take_at, types_for, values}
 use Rattle.query_model.specs.declared.query.AggOp.TheVariants as agg
 use Rattle.chunk_data.specs.declared.typed_value.ColumnType.TheVariants as type
 use Rattle.aggregate_proc.proofs.ListLaws.{taken}

@@ -1,9 +1,8 @@
 -- The calls of a partial aggregate and of a merge are what is folded, and their groups are those by
 -- the first values.
-use Rattle.std.proofs.Common.{◌≡◌, ℕ, zero, suc, ◌+◌, ◌%◌, ◌^◌, ◌≤◌, ◌&&◌, Bool, true, false, List, [], ◌∷◌, ◌++◌, length, map, take, append_assoc, IsPermutation, refl, sym, ap, ap₂, ◌∙◌, subst, arith}
-use Rattle.aggregate_proc.proofs.Prelude.{fold_for, folded, merge_of, AggOp, AllByRecursion, AreCalls, AreSound, Call, ColumnType, FitsTypes, GroupSpec, IsPermutation-grouped_by, IsPermutation-refl, Row, StateCall, Value, added, call_foldings, call_of, calls_for, calls_from, can_fold, combine_of, combined, count_up, counted, counts_added, default_states, distinct_rows, exact_sum, fold_of, given_for, group_types, grouped_by, groups_for, groups_or_default, is_uint, key_of, length-append, length-map, length_permutation, list_all, map-append, merged_states, recursion_from_All, rows_with, same_row, state_calls, types_for, value_at, value_of, values_at, whole_for, wrapped}
-use Rattle.chunk_data.specs.declared.typed_value.ColumnType.TheVariants as column
-use Rattle.chunk_data.specs.declared.typed_value.Value.TheVariants.{Int, UInt, Text}
+use Rattle.std.proofs.Common.{◌≡◌, ℕ, suc, ◌+◌, ◌%◌, ◌^◌, Bool, true, false, List, [], ◌∷◌, ◌++◌, length, map, IsPermutation, refl, sym, ap, ◌∙◌, subst, arith}
+use Rattle.aggregate_proc.proofs.Prelude.{fold_for, folded, merge_of, AggOp, AllByRecursion, AreCalls, Call, FitsTypes, GroupSpec, IsPermutation-grouped_by, IsPermutation-refl, Row, StateCall, Value, call_foldings, call_of, calls_for, calls_from, combine_of, combined, count_up, counted, default_states, distinct_rows, given_for, group_types, grouped_by, groups_for, groups_or_default, key_of, length-append, length-map, length_permutation, merged_states, rows_with, same_row, state_calls, types_for, value_at, value_of, values_at, whole_for}
+use Rattle.chunk_data.specs.declared.typed_value.Value.TheVariants.{UInt, Text}
 use Rattle.query_model.specs.declared.query.AggOp.TheVariants as agg
 use Rattle.chunk_data.proofs.Laws.{length-FitsTypes}
 use Rattle.aggregate_proc.proofs.ListLaws.{taken, filter-same, map-same}

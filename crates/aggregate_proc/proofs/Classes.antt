@@ -1,5 +1,5 @@
 -- Rows that come one after another into classes by their codes, and what is made of each class.
-use Rattle.std.proofs.Common.{◌≡◌, ℕ, zero, suc, ◌+◌, Bool, true, false, not, ◌||◌, cond, List, [], ◌∷◌, ◌++◌, map, filter, fold, refl, sym, ap, ap₂, ◌∙◌, append_assoc, subst, arith}
+use Rattle.std.proofs.Common.{◌≡◌, Bool, true, false, not, ◌||◌, cond, List, [], ◌∷◌, ◌++◌, map, filter, fold, refl, sym, ap, ap₂, ◌∙◌, append_assoc, subst, arith}
 use Rattle.aggregate_proc.proofs.Prelude.{AllByRecursion, Fold, IsSame, Row, Value, any-filter_same, append-nil, distinct, filter-append, folded, insert_key, list_any, map-append, next_folded, places_from, position_or_len, put, put_all}
 use Rattle.std.proofs.lemmas.Grind.{common_steps}
 use Rattle.aggregate_proc.proofs.FoldLaws.{folded-next}
@@ -203,11 +203,11 @@ module _ {X : Type 0} (same : X → X → Bool) (is : IsSame same) where
     pub class-more : (rows more : List Row)
         → class_values (rows ++ more)
         ≡ put_all f (class_values rows)
-        (places_from same (distinct same (map code rows)) (map code more)) (map arg more)
+        (places_from true same (distinct same (map code rows)) (map code more)) (map arg more)
     class-more rows [] = ap class_values (append-nil rows)
     class-more rows (r ∷ more) =
         ap class_values (sym (append_assoc rows (r ∷ []) more)) ∙ class-more (rows ++ r ∷ []) more
-        ∙ ap₂ (λ l m. put_all f l (places_from same m (map code more)) (map arg more))
+        ∙ ap₂ (λ l m. put_all f l (places_from true same m (map code more)) (map arg more))
         (class-push rows r)
         (ap (distinct same) (map-append code rows (r ∷ []))
         ∙ distinct-push (map code rows) (code r))

@@ -1,15 +1,74 @@
 -- The rows of a group table are the groups of its rows.
-use Rattle.std.proofs.Common.{◌≡◌, ◌≤◌, ℕ, suc, Bool, true, false, List, [], ◌∷◌, ◌++◌, length, map, filter, fold, take, refl, sym, ap, ap₂, ◌∙◌, ◌||◌, subst, append_assoc, arith}
-use Rattle.aggregate_proc.proofs.Prelude.{All, AllByRecursion, AreCalls, AreCells, AreLong, Call, Column, ColumnType, FitsColumn, FoldColumn, Folding, GroupsMore, HasKey, IsTable, IsTableOf, Row, TableView, append-nil, argument_at, combined, count_up, distinct, distinct_rows, folded, folded_at, folding_of, foldings_of, get_or-map, group_column, group_keys, grouped_by, insert_key, key_code, key_foldings, key_of, length-map, length-rows_of, list_any, list_any-append, map-append, map-map, merged_groups, merged_groups_is, places_from, recursion_from_All, row_code, rows_in, rows_of, rows_with, same_code, same_row, same_row_is, value_at, values, with_rows}
+use Rattle.std.proofs.Common.{◌≡◌, ◌≤◌, ◌<◌, ℕ, ◌+◌, zero, suc, get_or, inl, inr, Bool, true, List, [], ◌∷◌, ◌++◌, length, map, filter, fold, refl, sym, ap, ap₂, ◌∙◌, subst, append_assoc, arith}
+use Rattle.aggregate_proc.proofs.Prelude.{All, AllByRecursion, AreCalls, AreCells, AreLong, Call, Column, ColumnType, FitsColumn, FoldColumn, Folding, GroupsMore, HasKey, IsTable, IsSeenFor, IsTableOf, Row, SeenKeys, TableView, append-nil, argument_at, cases_eq, combined, count_up, distinct, distinct_rows, first_of, folded, folded_at, folding_of, foldings_of, get_or-map, group_column, group_keys, grouped_by, insert_key, key_code, key_foldings, key_of, kind_at, kinds_at, length-append, length-map, length-rows_of, list_any, list_any-append, map-append, map-map, merged_groups, merged_groups_is, places_from, recursion_from_All, row_code, rows_in, rows_of, rows_with, same_code, same_row, same_row_is, value_at, values, with_rows}
 use Rattle.aggregate_proc.specs.declared.fold.Fold.TheVariants as fold
 use Rattle.std.proofs.lemmas.Grind.{common_steps}
-use Rattle.std.proofs.lemmas.List.{nil_from_length}
+use Rattle.std.proofs.lemmas.List.{get_or_append_left, nil_from_length}
+use Rattle.std.proofs.lemmas.List.Elements.{All-append}
 use Rattle.chunk_data.proofs.Laws.{AreLong-made, rows_of-made}
 use Rattle.proc_api.proofs.Orders.{every-append}
 use Rattle.aggregate_proc.proofs.Classes.{any-distinct, class-more, distinct-more, filter-some, list_any-map}
 use Rattle.aggregate_proc.proofs.FoldLaws.{earlier-first}
-use Rattle.aggregate_proc.proofs.KeyLaws.{codes-keys, key-long, places-keys}
+use Rattle.key_codes.proofs.KeyLaws.{codes-keys, places-keys}
 use Rattle.aggregate_proc.proofs.ListLaws.{all-distinct, map-same}
+
+-- the code of a row's first values
+abbrev code_of : ℕ → Row → List ℕ
+code_of n row = row_code (count_up n) row
+
+-- ---- the first columns
+
+pub first-long : (n : ℕ) → length (count_up n) ≡ n
+unfolding count_up
+first-long zero = refl
+first-long (suc n) =
+    let l = length-append (count_up n) (n ∷ []) in
+    let m = first-long n in omega (arith, l, m)
+
+key-long : (n : ℕ) (row : Row) → length (key_of n row) ≡ n
+key-long n row = length-map (count_up n) (value_at row) ∙ first-long n
+
+pub first-within : (n m : ℕ) → n ≤ m → All (λ c. c < m) (count_up n)
+unfolding count_up
+first-within zero m le = λ k d lt. absurd (omega (arith, lt))
+first-within (suc n) m le =
+    All-append (λ c. c < m) (count_up n) (n ∷ []) (first-within n m (omega (arith, le)))
+    (λ k d lt. elim (cases_eq k 0) [
+      | inl e ↦ subst (λ j. get_or (n ∷ []) j d < m) (sym e) (omega (arith, le))
+      | inr ne ↦ absurd (omega (arith, lt, ne))
+    ])
+
+pub first-first : (n : ℕ) → first_of (count_up n) ≡ 0
+unfolding count_up
+first-first zero = refl
+first-first (suc zero) = refl
+first-first (suc (suc n)) =
+    let l = first-long (suc n) in
+    get_or_append_left (count_up (suc n)) (suc n ∷ []) 0 0 (omega (arith, l))
+    ∙ first-first (suc n)
+
+pub first-none : [] ≡ count_up 0
+unfolding count_up
+first-none = refl
+
+pub first-next : (n : ℕ) → count_up n ++ n ∷ [] ≡ count_up (n + 1)
+unfolding count_up
+first-next n = ap count_up (let e : suc n ≡ n + 1 = omega arith in e)
+
+-- keys of the first columns are seen by the first column's type
+pub seen-first : (n : ℕ) (types : List ColumnType) (x : SeenKeys)
+    → IsSeenFor n (kind_at types 0) x
+    → IsSeenFor (length (count_up n)) (kind_at types (first_of (count_up n))) x
+seen-first n types x h =
+    subst (λ m. IsSeenFor m (kind_at types (first_of (count_up n))) x) (sym (first-long n))
+    (subst (λ c. IsSeenFor n (kind_at types c) x) (sym (first-first n)) h)
+
+pub first-seen : (n : ℕ) (types : List ColumnType) (x : SeenKeys)
+    → IsSeenFor (length (count_up n)) (kind_at types (first_of (count_up n))) x
+    → IsSeenFor n (kind_at types 0) x
+first-seen n types x h =
+    subst (λ c. IsSeenFor n (kind_at types c) x) (first-first n)
+    (subst (λ m. IsSeenFor m (kind_at types (first_of (count_up n))) x) (first-long n) h)
 
 -- each of the rows is among those that are one with it
 all-columns : (types : List ColumnType) (places : List ℕ) (more : List Row)
@@ -98,7 +157,7 @@ module _ (types : List ColumnType) (n : ℕ) (foldings : List Folding) (calls : 
 
 cells-of : (types : List ColumnType) (n : ℕ) (rows : List Row)
     → AllByRecursion (HasKey types n) rows
-    → AllByRecursion (AreCells (take n types)) (map (key_of n) rows)
+    → AllByRecursion (AreCells (kinds_at types (count_up n))) (map (key_of n) rows)
 cells-of types n [] h = tt
 cells-of types n (r ∷ rows) h = (h.0, cells-of types n rows h.1)
 
@@ -106,28 +165,29 @@ cells-of types n (r ∷ rows) h = (h.0, cells-of types n rows h.1)
 pub table-more : (types : List ColumnType) (n : ℕ) (foldings : List Folding) (codes : List (List ℕ))
     (columns : List FoldColumn) (rows more : List Row)
     → IsTableOf types n foldings codes columns rows → AllByRecursion (HasKey types n) more
-    → IsTableOf types n foldings (fold (insert_key same_code) codes (map (row_code n) more))
-    (map (with_rows (places_from same_code codes (map (row_code n) more)) more) columns)
+    → IsTableOf types n foldings (fold (insert_key same_code) codes (map (code_of n) more))
+    (map (with_rows (places_from true same_code codes (map (code_of n) more)) more) columns)
     (rows ++ more)
 table-more types n foldings codes columns rows more h k =
     let keys = group_keys n rows in
-    let ts = take n types in
+    let ts = kinds_at types (count_up n) in
     let ks = map (key_of n) more in
     let first = all-distinct (AreCells ts) same_row (map (key_of n) rows)
     (cells-of types n rows h.input) in
     let next = cells-of types n more k in
-    let es : map (row_code n) more ≡ map key_code ks = sym (map-map key_code (key_of n) more) in
-    let places : places_from same_code codes (map (row_code n) more)
-    ≡ places_from same_row keys ks =
-    ap₂ (places_from same_code) h.seen es ∙ places-keys ts ks next keys first in
+    let es : map (code_of n) more ≡ map key_code ks = sym (map-map key_code (key_of n) more) in
+    let places : places_from true same_code codes (map (code_of n) more)
+    ≡ places_from true same_row keys ks =
+    ap₂ (places_from true same_code) h.seen es ∙ places-keys ts true ks next keys first in
     record {
       input = every-append (HasKey types n) rows more h.input k;
       seen = ap₂ (λ l m. fold (insert_key same_code) l m) h.seen es
-          ∙ codes-keys ts ks next keys first
+          ∙ codes-keys ts true ks next keys first
           ∙ ap (map key_code) (sym (distinct-more same_row same_row_is (map (key_of n) rows) ks)
           ∙ ap distinct_rows (sym (map-append (key_of n) rows more)));
       folds = ap₂ (λ p l. map (with_rows p more) l) places h.folds
-          ∙ map-map (with_rows (places_from same_row keys ks) more) (group_column n rows) foldings
+          ∙ map-map (with_rows (places_from true same_row keys ks) more) (group_column n rows)
+          foldings
           ∙ (λ i. map (λ (f : Folding). record {
             op = f.op;
             input = f.input;
@@ -158,16 +218,17 @@ groups-more n calls xs ys more e =
 -- rows behind those of a table
 abbrev pub added_to : TableView → List Row → TableView
 added_to t more = record t {
-  codes = fold (insert_key same_code) t.codes (map (row_code t.keys) more);
+  codes = fold (insert_key same_code) t.codes (map (code_of t.keys) more);
   columns =
-      map (with_rows (places_from same_code t.codes (map (row_code t.keys) more)) more) t.columns;
+      map (with_rows (places_from true same_code t.codes (map (code_of t.keys) more)) more)
+      t.columns;
 }
 
 pub added-table : (t : TableView) (more : List Row) → AllByRecursion (HasKey t.types t.keys) more
     → IsTable t → IsTable (added_to t more)
 added-table t more k h =
     let new = added_to t more in
-    let places = places_from same_code t.codes (map (row_code t.keys) more) in
+    let places = places_from true same_code t.codes (map (code_of t.keys) more) in
     record {
       wide = h.wide;
       fits = all-columns t.types places more t.columns h.fits;
@@ -183,7 +244,7 @@ pub added-groups : (t : TableView) (more : List Row) → AllByRecursion (HasKey 
 unfolding added-table
 added-groups t more k h =
     let new = added_to t more in
-    let places = places_from same_code t.codes (map (row_code t.keys) more) in
+    let places = places_from true same_code t.codes (map (code_of t.keys) more) in
     record {
       types = refl;
       keys = refl;
@@ -244,7 +305,8 @@ no-rows t none h = nil_from_length (rows_in t) (rows-counted t h ∙ ap length n
 
 -- ---- what the code makes of a table
 
-pub places-long : (codes es : List (List ℕ)) → length (places_from same_code codes es) ≡ length es
+pub places-long : (codes es : List (List ℕ))
+    → length (places_from true same_code codes es) ≡ length es
 places-long codes [] = refl
 places-long codes (e ∷ es) = ap suc (places-long (insert_key same_code codes e) es)
 
@@ -252,8 +314,8 @@ places-long codes (e ∷ es) = ap suc (places-long (insert_key same_code codes e
 pub adds-rows : (t : TableView) (rows : List Row) (kinds : List ColumnType) (codes : List (List ℕ))
     (now : List FoldColumn) (places : List ℕ)
     → kinds ≡ t.types → All (HasKey kinds t.keys) rows → IsTable t
-    → places ≡ places_from same_code t.codes (map (row_code t.keys) rows)
-    → codes ≡ fold (insert_key same_code) t.codes (map (row_code t.keys) rows)
+    → places ≡ places_from true same_code t.codes (map (code_of t.keys) rows)
+    → codes ≡ fold (insert_key same_code) t.codes (map (code_of t.keys) rows)
     → now ≡ map (with_rows places rows) t.columns
     → IsTable (record t { codes = codes; columns = now })
     × GroupsMore t rows (record t { codes = codes; columns = now })

@@ -4,8 +4,6 @@ mod FoldLaws
 mod NextLaws
 mod PutLaws
 mod Classes
-mod KeyLaws
-mod CodeLaws
 mod GroupLaws
 mod CallLaws
 mod BuilderLaws

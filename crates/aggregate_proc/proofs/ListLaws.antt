@@ -1,13 +1,7 @@
 -- What is true of each element of a list, of its filtered and its distinct elements; the rows of
 -- columns.
 use Rattle.std.proofs.Common.{◌≡◌, ◌≤◌, ℕ, zero, suc, sym, take, get_or, Bool, true, false, not, cond, List, [], ◌∷◌, ◌++◌, length, map, filter, refl, ap, ap₂, ◌∙◌, arith}
-use Rattle.std.proofs.lemmas.Grind.{common_steps}
 use Rattle.aggregate_proc.proofs.Prelude.{AllByRecursion, count_up, distinct, map-append, take-suc}
-
--- what is made of the elements, of which one more is new where c is false
-pub map-insert : {A B : Type 0} (f : A → B) (b c : Bool) (xs : List A) (x : A) → b ≡ c
-    → cond b (map f xs) (map f xs ++ f x ∷ []) ≡ map f (cond c xs (xs ++ x ∷ []))
-map-insert f b c xs x e = grind (arith, common_steps)
 
 pub all-filter : {A : Type 0} (P : A → Type 0) (p : A → Bool) (xs : List A) → AllByRecursion P xs
     → AllByRecursion P (filter p xs)

@@ -1,5 +1,5 @@
 -- What the code makes of two numbers is what is folded of them.
-use Rattle.std.proofs.Common.{◌≡◌, ◌≢◌, ℕ, ◌+◌, ◌%◌, ◌^◌, ◌<◌, Bool, true, false, cond, List, [], ◌∷◌, refl, sym, ap, ◌∙◌, arith, ℤ, pos, ◌+ℤ◌, int_lt, SFits, to_z, of_z, w64, is_lt, min, max, ◌≤◌, Less, Equal, Greater, inl, inr}
+use Rattle.std.proofs.Common.{◌≡◌, ◌≢◌, ℕ, ◌+◌, ◌%◌, ◌^◌, ◌<◌, Bool, true, cond, List, [], ◌∷◌, refl, sym, ap, ◌∙◌, arith, ℤ, pos, ◌+ℤ◌, SFits, to_z, of_z, w64, is_lt, min, max}
 use Rattle.aggregate_proc.proofs.Prelude.{Fits-of_z, Fold, Value, can_fold, chosen, combined, folded, int_max, int_min, int_wrap, int_wrap_fits, ints, next_folded, text_cmp, to_z-of_z, value_cmp, wrapped, wrapping_add_onto}
 use Rattle.std.proofs.lemmas.Grind.{common_steps}
 use Rattle.chunk_data.specs.declared.typed_value.ColumnType.TheVariants as column

@@ -2,8 +2,9 @@
 pub use Rattle.aggregate_proc.specs.Cells.{FitsColumn, can_fold}
 pub use Rattle.aggregate_proc.specs.Folds.{FoldColumn, earlier, folded, next_folded, put, put_all, with_rows}
 pub use Rattle.aggregate_proc.specs.GroupKinds.{AreSound, GroupingView, IsGrouping, IsNext, IsPhaseFor, IsTableFor, NotesEnd, call_foldings, call_types, calls_for, empty_column, fold_for, fold_of, foldings_for, gathering_own, given_for, giving_own, groups_for, open_for, own_in, phase_own, spec_for, state_in, types_for, whole_for, worked_rows}
-pub use Rattle.aggregate_proc.specs.Keys.{AreCells, FindsCode, IsCell, IsSeenFor, byte_codes, codes_in, key_code, key_of, number_codes, places_from, row_code, same_code, value_bytes, value_code}
-pub use Rattle.aggregate_proc.specs.Tables.{AreCalls, Folding, GroupsMore, HasKey, IsTable, IsTableOf, TableView, table_view, argument_at, folded_at, folding_of, foldings_of, group_column, group_keys, key_foldings, kinds_of, rows_in}
+pub use Rattle.key_codes.specs.declared.key_code.SeenKeys.{SeenKeys}
+pub use Rattle.key_codes.specs.Keys.{AreCells, HasKey as HasKeyAt, IsSeenFor, codes_in, first_of, key_at, key_code, kind_at, kinds_at, places_from, row_code, same_code}
+pub use Rattle.aggregate_proc.specs.Tables.{AreCalls, Folding, GroupsMore, HasKey, IsTable, IsTableOf, TableView, table_view, argument_at, folded_at, folding_of, foldings_of, group_column, group_keys, key_foldings, key_of, kinds_of, rows_in}
 pub use Rattle.aggregate_proc.specs.declared.fold.Fold.{Fold}
 pub use Rattle.aggregate_proc.specs.declared.phase.Phase.{Phase}
 pub use Rattle.chunk_data.proofs.ColumnLists.{changed, changed_all, changed_more, get_or-changed}

@@ -26,10 +26,10 @@ pub grouping_shelled : (merges : Bool) (g : GroupSpec) → IsShelled (spec_for m
 grouping_shelled false g =
     shelled-of (spec.PartialAggregate g) 1 refl
     (record { ports = λ growth m n h. h; counts = λ growth m n h. h }) (partial_order g)
-    (λ i j types h. h) (λ p ins outs uses h. h) (λ p ins outs seen uses h. h)
+    (λ p ins outs uses h. h) (λ p ins outs seen uses h. h)
 grouping_shelled true g =
     shelled-plain (spec.MergeAggregate g) refl (λ growth m n h. h) (λ growth m n h. h)
-    (λ kept m n had h stands. stands) (λ i j types h. h) (λ ins enough m n h. h)
+    (λ kept m n had h stands. stands) (λ ins enough m n h. h)
     (pushes-in-order (spec.MergeAggregate g) (merge_order g) (λ m n h. h))
     (λ p ins outs uses h. h) (λ p ins outs seen uses h. h)
 

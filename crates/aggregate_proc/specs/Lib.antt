@@ -1,7 +1,6 @@
 pub mod Prelude
 pub mod Folds
 pub mod Cells
-pub mod Keys
 pub mod Tables
 pub mod GroupKinds
 pub mod GroupShells

@@ -3,7 +3,8 @@ pub use Rattle.chunk_data.specs.Rows.{rows_of}
 pub use Rattle.chunk_data.specs.Values.{FitsTypes, Row, Table, value_at}
 pub use Rattle.chunk_data.specs.declared.typed_value.ColumnType.{ColumnType}
 pub use Rattle.chunk_data.specs.declared.typed_value.Value.{Value}
-pub use Rattle.indexmap.specs.IndexSet.{IndexSet, insert_key}
+pub use Rattle.key_codes.specs.Keys.{HasKey as HasKeyAt, codes_in, key_at, key_code}
+pub use Rattle.key_codes.specs.declared.key_code.SeenKeys.{SeenKeys}
 pub use Rattle.proc_api.specs.Grouped.{calls_from, default_states, group_types, is_count, merged_rows, merged_states, partial_rows, partial_types}
 pub use Rattle.proc_api.specs.Histories.{Lists, chunk_rows}
 pub use Rattle.proc_api.specs.Keeping.{IsWorkOf}
@@ -19,6 +20,4 @@ pub use Rattle.query_model.specs.declared.processor_spec.Kind.{Kind}
 pub use Rattle.query_model.specs.declared.processor_spec.Spec.{Spec}
 pub use Rattle.query_model.specs.declared.processor_spec.StateCall.{StateCall}
 pub use Rattle.query_model.specs.declared.query.AggOp.{AggOp}
-pub use Rattle.std.specs.Cmp.Lexicographic.{pointwise}
-pub use Rattle.std.specs.Int.{cast_signed, cast_unsigned, to_le_bytes}
-pub use Rattle.std.specs.List.{All, AllByRecursion, position_or_len}
+pub use Rattle.std.specs.List.{All, AllByRecursion}

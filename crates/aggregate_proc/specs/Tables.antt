@@ -1,13 +1,11 @@
 -- A group table: of rows, their groups.
-use Rattle.std.specs.Prelude.{◌≡◌, ℕ, ◌≤◌, List, [], ◌∷◌, ◌++◌, length, map, take, slice_index_or}
-use Rattle.aggregate_proc.specs.Prelude.{All, AllByRecursion, Call, ColumnType, FitsTypes, Row, Value, combined, count_up, distinct_rows, grouped_by, rows_of, rows_with, value_at}
+use Rattle.std.specs.Prelude.{◌≡◌, ℕ, ◌≤◌, List, [], ◌∷◌, ◌++◌, length, map, slice_index_or}
+use Rattle.aggregate_proc.specs.Prelude.{All, AllByRecursion, Call, ColumnType, HasKeyAt, Row, SeenKeys, Value, codes_in, combined, count_up, distinct_rows, grouped_by, key_at, key_code, rows_of, rows_with, value_at}
 use Rattle.chunk_data.specs.declared.typed_value.ColumnType.TheVariants as column
 use Rattle.aggregate_proc.specs.declared.fold.Fold.{Fold}
 use Rattle.aggregate_proc.specs.declared.fold.Fold.TheVariants as fold
 use Rattle.aggregate_proc.specs.Cells.{FitsColumn}
 use Rattle.aggregate_proc.specs.Folds.{FoldColumn, folded}
-use Rattle.aggregate_proc.specs.declared.key_code.SeenKeys.{SeenKeys}
-use Rattle.aggregate_proc.specs.Keys.{codes_in, AreCells, key_code, key_of}
 
 -- what is folded of which column of the input
 pub record Folding : Type 0 where
@@ -20,6 +18,10 @@ folding_of c = record { op = c.op; input = c.input; kind = c.kind }
 
 abbrev pub argument_at : Folding → Row → Value
 argument_at f row = value_at row f.input
+
+-- the key of a row: its first n values
+abbrev pub key_of : ℕ → Row → Row
+key_of n row = key_at (count_up n) row
 
 -- the keys of the groups, in order of first appearance
 abbrev pub group_keys : ℕ → List Row → List Row
@@ -39,7 +41,7 @@ group_column n rows f = record {
 
 -- the first n values of the row are a key
 abbrev pub HasKey : List ColumnType → ℕ → Row → Type 0
-HasKey types n row = AreCells (take n types) (key_of n row)
+HasKey types n row = HasKeyAt types (count_up n) row
 
 -- The table of these rows of the types: the codes seen are those of their keys, the first n values,
 -- and each column has

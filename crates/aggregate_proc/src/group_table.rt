@@ -2,13 +2,14 @@ ghost use Rattle.std.specs.Prelude.{◌≡◌, ◌≤◌, ◌<◌, ◌++◌, Lis
 ghost use Rattle.std.specs.List.{All};
 ghost use Rattle.chunk_data.specs.Columns.{kind_of, values};
 ghost use Rattle.chunk_data.specs.Rows.{rows_of};
+ghost use Rattle.query_model.specs.Sources.{count_up};
 ghost use Rattle.aggregate_proc.specs.Cells.{FitsColumn};
 ghost use Rattle.aggregate_proc.specs.Folds.{with_rows};
 ghost use Rattle.aggregate_proc.specs.Tables.{GroupsMore, kinds_of, rows_in};
 
 use crate::fold::FoldColumn;
-use crate::key_code::{SeenKeys, find_places};
 use chunk_data::{Chunk, Column, ColumnType, List, Memory};
+use key_codes::{SeenKeys, find_places, type_at};
 use std::alloc::Global;
 use std::marker::Model;
 
@@ -26,7 +27,7 @@ pub(crate) struct GroupTable {
 impl Model for GroupTable {
     ghost use Rattle.std.specs.Prelude.{slice_index_or};
     ghost use Rattle.chunk_data.specs.declared.typed_value.ColumnType.TheVariants as type;
-    ghost use Rattle.aggregate_proc.specs.Keys.{IsSeenFor};
+    ghost use Rattle.key_codes.specs.Keys.{IsSeenFor};
     ghost use Rattle.aggregate_proc.specs.Tables.{IsTable, TableView, table_view};
 
     ghost Value = { TableView };
@@ -35,6 +36,17 @@ impl Model for GroupTable {
 
     ghost invariant = { λ t. IsTable (table_view t.types t.keys t.seen t.columns.items)
         × IsSeenFor t.keys (slice_index_or t.types 0 type.Text) t.seen };
+}
+
+// The first n columns.
+fn first_columns(alloc: Global, n: usize) -> Result<Vec<usize>, Memory>
+    ensures { IfOk result (λ v. v.items ≡ count_up n) }
+{
+    let mut columns = Vec::with_capacity(alloc, n)?;
+    for c in 0..n {
+        columns.push(c)?;
+    }
+    Ok(columns)
 }
 
 /// Each row goes to the group at its place in each column.
@@ -83,7 +95,7 @@ impl GroupTable {
         ensures columns { result.columns ≡ columns.items }
         ensures rows { rows_in result ≡ [] }
     {
-        let seen = SeenKeys::new(alloc, keys, types.as_slice());
+        let seen = SeenKeys::new(alloc, keys, type_at(types.as_slice(), 0));
         GroupTable {
             alloc,
             types,
@@ -119,7 +131,8 @@ impl GroupTable {
             mut seen,
             mut columns,
         } = self;
-        let places = find_places(&mut seen, alloc, keys, chunk)?;
+        let first = first_columns(alloc, keys)?;
+        let places = find_places(&mut seen, alloc, true, first.as_slice(), chunk)?;
         add_to_each(&mut columns, alloc, chunk, places.as_slice())?;
         Ok(GroupTable {
             alloc,

@@ -6,8 +6,6 @@
 //! - `grouping`: the kernel of both, which gathers to the end of its inputs and then gives rows.
 //! - `group_table`: the groups so far. For each chunk the places of its rows' groups are found
 //!   first, and then each column takes the rows to these places in one loop.
-//! - `key_code`: the places, by the types of the key: one number by its bits, one
-//!   text by its bytes, several values by the bytes of all; without keys nothing is looked up.
 //! - `fold`: a column of the table, and what it makes of the values of a group.
 //! - `group_builder`: the columns for a spec.
 #![tactic(auto)]
@@ -16,7 +14,6 @@ mod fold;
 mod group_builder;
 mod group_table;
 mod grouping;
-mod key_code;
 mod phase;
 
 pub use grouping::{

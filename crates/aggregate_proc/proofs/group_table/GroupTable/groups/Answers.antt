@@ -1,5 +1,5 @@
 use Rattle.std.proofs.Common.{length, ap, ◌∙◌, sym}
-use Rattle.aggregate_proc.proofs.Prelude.{TableView, table_view, codes_in, rows_in}
+use Rattle.aggregate_proc.proofs.Prelude.{TableView, table_view, rows_in}
 use Rattle.aggregate_proc.proofs.GroupLaws.{rows-counted}
 use Rattle.aggregate_proc.proofs.group_table.GroupTable.groups.Goals as goal
 

@@ -1,5 +1,5 @@
 use Rattle.std.proofs.Common.{◌≡◌, IfOk, ap, ap₂, ◌∙◌, subst}
-use Rattle.aggregate_proc.proofs.Prelude.{Table, TableView, table_view, codes_in, kinds_of, rows_in, rows_of}
+use Rattle.aggregate_proc.proofs.Prelude.{Table, table_view, kinds_of, rows_in, rows_of}
 use Rattle.aggregate_proc.proofs.GroupLaws.{chunk-long}
 use Rattle.aggregate_proc.proofs.group_table.GroupTable.into_chunk.Goals as goal
 

@@ -1,5 +1,5 @@
 use Rattle.aggregate_proc.proofs.GroupLaws.{empty-table, no-rows}
-use Rattle.aggregate_proc.proofs.Prelude.{TableView, table_view, codes_in}
+use Rattle.aggregate_proc.proofs.Prelude.{table_view}
 use Rattle.std.proofs.Common.{rules}
 use Rattle.aggregate_proc.proofs.group_table.GroupTable.new.Goals as goal
 

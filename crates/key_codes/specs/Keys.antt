@@ -1,17 +1,34 @@
 -- The code of a key: a number's bits, a text's bytes, or the bytes of all values. It is the same
 -- for equal keys alone.
-use Rattle.std.specs.Prelude.{◌≡◌, ◌≢◌, ℕ, ◌<◌, ◌^◌, cond, Bool, List, [], ◌∷◌, ◌++◌, length, map, flat_map, nat_eq, Vec}
-use Rattle.aggregate_proc.specs.Prelude.{ColumnType, IndexSet, Value, cast_signed, cast_unsigned, count_up, insert_key, pointwise, position_or_len, to_le_bytes}
+use Rattle.std.specs.Prelude.{◌≡◌, ◌≢◌, ℕ, ◌<◌, ◌^◌, cond, Bool, List, [], ◌∷◌, ◌++◌, length, map, flat_map, slice_index_or, nat_eq, Vec}
+use Rattle.std.specs.Cmp.Lexicographic.{pointwise}
+use Rattle.std.specs.Int.{cast_signed, cast_unsigned, to_le_bytes}
+use Rattle.std.specs.List.{position_or_len}
+use Rattle.indexmap.specs.IndexSet.{IndexSet, insert_key}
 use mir.Syntax.{w64}
 use Rattle.chunk_data.specs.Names.{Row, value_at}
+use Rattle.chunk_data.specs.declared.typed_value.ColumnType.{ColumnType}
+use Rattle.chunk_data.specs.declared.typed_value.Value.{Value}
 use Rattle.chunk_data.specs.declared.typed_value.ColumnType.TheVariants as column
 use Rattle.chunk_data.specs.declared.typed_value.Value.TheVariants.{Int, UInt, Text}
-use Rattle.aggregate_proc.specs.declared.key_code.SeenKeys.{SeenKeys}
-use Rattle.aggregate_proc.specs.declared.key_code.SeenKeys.TheVariants as seen
+use Rattle.key_codes.specs.declared.key_code.SeenKeys.{SeenKeys}
+use Rattle.key_codes.specs.declared.key_code.SeenKeys.TheVariants as seen
 
--- the key of a row: its first n values
-abbrev pub key_of : ℕ → Row → Row
-key_of n row = map (value_at row) (count_up n)
+-- the key of a row: its values at the places
+abbrev pub key_at : List ℕ → Row → Row
+key_at places row = map (value_at row) places
+
+-- the type of a column
+abbrev pub kind_at : List ColumnType → ℕ → ColumnType
+kind_at types c = slice_index_or types c column.Text
+
+-- the types of the key's values
+abbrev pub kinds_at : List ColumnType → List ℕ → List ColumnType
+kinds_at types places = map (kind_at types) places
+
+-- the key's first column
+abbrev pub first_of : List ℕ → ℕ
+first_of places = slice_index_or places 0 0
 
 -- a number's eight bytes, or a text's length and bytes
 abbrev pub value_bytes : Value → List ℕ
@@ -30,8 +47,8 @@ key_code [] = []
 key_code (v ∷ []) = value_code v
 key_code (v ∷ w ∷ key) = flat_map value_bytes (v ∷ w ∷ key)
 
-abbrev pub row_code : ℕ → Row → List ℕ
-row_code n row = key_code (key_of n row)
+abbrev pub row_code : List ℕ → Row → List ℕ
+row_code places row = key_code (key_at places row)
 
 -- a value that a column of the type has
 abbrev pub IsCell : ColumnType → Value → Type 0
@@ -47,20 +64,29 @@ AreCells [] [] = Unit {0}
 AreCells (t ∷ types) (v ∷ key) = IsCell t v × AreCells types key
 AreCells types key = ⊥
 
-module _ {X : Type 0} (same : X → X → Bool) where
-  -- the place of each code among those before it, each once in order of first appearance
+-- the row has a key of columns of the types
+abbrev pub HasKey : List ColumnType → List ℕ → Row → Type 0
+HasKey types places row = AreCells (kinds_at types places) (key_at places row)
+
+module _ {X : Type 0} (adds : Bool) (same : X → X → Bool) where
+  -- a key that isn't there goes to the end, where keys are added
+  abbrev pub with_key : List X → X → List X
+  with_key keys x = cond adds (insert_key same keys x) keys
+
+  -- the place of each key among those before it, each once in order of first appearance
   abbrev pub places_from : List X → List X → List ℕ
-  places_from codes [] = []
-  places_from codes (x ∷ xs) =
-      position_or_len (same x) codes ∷ places_from (insert_key same codes x) xs
+  places_from keys [] = []
+  places_from keys (x ∷ xs) = position_or_len (same x) keys ∷ places_from (with_key keys x) xs
 
 abbrev pub same_code : List ℕ → List ℕ → Bool
 same_code = pointwise nat_eq
 
--- the place of a code among those seen, where it goes to the end if it is new
-pub record FindsCode (code : List ℕ) (old new : List (List ℕ)) (place : ℕ) : Type 0 where
+-- The place of a code among those seen, where it goes to the end if it is new and codes are added.
+-- One that isn't there has the place behind them.
+pub record FindsCode (adds : Bool) (code : List ℕ) (old new : List (List ℕ)) (place : ℕ)
+    : Type 0 where
   pub is : place ≡ position_or_len (same_code code) old
-  pub codes : new ≡ insert_key same_code old code
+  pub codes : new ≡ with_key adds same_code old code
 
 abbrev pub number_codes : {S : Type 0} → IndexSet ℕ S → List (List ℕ)
 number_codes numbers = map (λ n. n ∷ []) numbers.keys

@@ -1,12 +1,11 @@
 -- Keys that have one code are one key.
-use Rattle.std.proofs.Common.{◌≡◌, ℕ, zero, suc, ◌<◌, ◌+◌, ◌^◌, ◌≤◌, ◌≢◌, ◌||◌, not, cond, Bool, true, false, append_assoc, List, [], ◌∷◌, ◌++◌, length, map, flat_map, take, drop, get_or, refl, sym, ap, ap₂, ◌∙◌, subst, arith, fold, inl, inr}
-use Rattle.aggregate_proc.proofs.Prelude.{AllByRecursion, AreCells, ColumnType, IsCell, IsSame, Row, Value, append-nil, at_drop_more, cases_eq, cast_signed, cast_unsigned, count_up, drop_at, flat_map-append, from_le_bytes, from_le_bytes-to_le_bytes_8, get_or-map, get_or_default, insert_key, key_code, key_of, length-append, list_any, map-append, nat_list_eq_equiv, places_from, position_or_len, row_code, same_code, same_row, same_row_is, same_text, take-suc, take_at, to_le_bytes, value_at, value_bytes, value_code}
+use Rattle.std.proofs.Common.{◌≡◌, ℕ, suc, ◌<◌, ◌+◌, ◌^◌, ◌≢◌, ◌||◌, not, cond, Bool, true, false, append_assoc, List, [], ◌∷◌, ◌++◌, length, map, flat_map, take, drop, get_or, refl, sym, ap, ap₂, ◌∙◌, subst, arith, fold, inl, inr}
+use Rattle.key_codes.proofs.Prelude.{AllByRecursion, AreCells, ColumnType, HasKey, IsCell, IsSame, Row, Value, append-nil, at_drop_more, cases_eq, cast_signed, cast_unsigned, drop_at, first_of, flat_map-append, from_le_bytes, from_le_bytes-to_le_bytes_8, get_or-map, get_or_default, key_at, key_code, kind_at, kinds_at, list_any, map-append, nat_list_eq_equiv, places_from, position_or_len, same_code, same_row, same_row_is, same_text, take-suc, take_at, to_le_bytes, value_at, value_bytes, value_code, with_key}
 use mir.Syntax.{w64}
 use Rattle.chunk_data.specs.declared.typed_value.ColumnType.TheVariants as column
 use Rattle.chunk_data.specs.declared.typed_value.Value.TheVariants.{Int, UInt, Text}
 use Rattle.std.proofs.lemmas.Grind.{common_steps}
-use Rattle.proc_api.proofs.Orders.{every-append}
-use Rattle.aggregate_proc.proofs.ListLaws.{map-insert}
+use Rattle.key_codes.proofs.CodeLaws.{map-insert}
 
 pub same_code_is : IsSame same_code
 same_code_is = record {
@@ -137,75 +136,71 @@ module _ (types : List ColumnType) where
   any-key k p (x ∷ keys) h =
       ap₂ (λ b c. b || c) (codes-agree types k x p h.0) (any-key k p keys h.1)
 
-  insert-code : (k : Row) → AreCells types k → (keys : List Row)
+  with-code : (adds : Bool) (k : Row) → AreCells types k → (keys : List Row)
       → AllByRecursion (AreCells types) keys
-      → insert_key same_code (map key_code keys) (key_code k)
-      ≡ map key_code (insert_key same_row keys k)
-  insert-code k p keys h = map-insert key_code _ _ keys k (any-key k p keys h)
+      → with_key adds same_code (map key_code keys) (key_code k)
+      ≡ map key_code (with_key adds same_row keys k)
+  with-code true k p keys h = map-insert key_code _ _ keys k (any-key k p keys h)
+  with-code false k p keys h = refl
 
-  insert-cells : (k : Row) → AreCells types k → (keys : List Row)
+  with-cells : (adds : Bool) (k : Row) → AreCells types k → (keys : List Row)
       → AllByRecursion (AreCells types) keys
-      → AllByRecursion (AreCells types) (insert_key same_row keys k)
-  insert-cells k p keys h = go (list_any (same_row k) keys)
+      → AllByRecursion (AreCells types) (with_key adds same_row keys k)
+  with-cells false k p keys h = h
+  with-cells true k p keys h = go (list_any (same_row k) keys)
     where
+      behind : (l : List Row) → AllByRecursion (AreCells types) l
+          → AllByRecursion (AreCells types) (l ++ k ∷ [])
+      behind [] g = (p, tt)
+      behind (x ∷ l) g = (g.0, behind l g.1)
+
       go : (b : Bool) → AllByRecursion (AreCells types) (cond b keys (keys ++ k ∷ []))
       go true = h
-      go false = every-append (AreCells types) keys (k ∷ []) h (p, tt)
+      go false = behind keys h
 
   -- The places of keys are those of their codes,
-  pub places-keys : (ks : List Row) → AllByRecursion (AreCells types) ks → (keys : List Row)
-      → AllByRecursion (AreCells types) keys
-      → places_from same_code (map key_code keys) (map key_code ks) ≡ places_from same_row keys ks
-  places-keys [] p keys h = refl
-  places-keys (k ∷ ks) p keys h =
+  pub places-keys : (adds : Bool) (ks : List Row) → AllByRecursion (AreCells types) ks
+      → (keys : List Row) → AllByRecursion (AreCells types) keys
+      → places_from adds same_code (map key_code keys) (map key_code ks)
+      ≡ places_from adds same_row keys ks
+  places-keys adds [] p keys h = refl
+  places-keys adds (k ∷ ks) p keys h =
       ap₂ ◌∷◌ (place-key k p.0 keys h)
-      (ap (λ l. places_from same_code l (map key_code ks)) (insert-code k p.0 keys h)
-      ∙ places-keys ks p.1 (insert_key same_row keys k) (insert-cells k p.0 keys h))
+      (ap (λ l. places_from adds same_code l (map key_code ks)) (with-code adds k p.0 keys h)
+      ∙ places-keys adds ks p.1 (with_key adds same_row keys k) (with-cells adds k p.0 keys h))
 
   -- and the codes that are seen then are those of the keys.
-  pub codes-keys : (ks : List Row) → AllByRecursion (AreCells types) ks → (keys : List Row)
-      → AllByRecursion (AreCells types) keys
-      → fold (insert_key same_code) (map key_code keys) (map key_code ks)
-      ≡ map key_code (fold (insert_key same_row) keys ks)
-  codes-keys [] p keys h = refl
-  codes-keys (k ∷ ks) p keys h =
-      ap (λ l. fold (insert_key same_code) l (map key_code ks)) (insert-code k p.0 keys h)
-      ∙ codes-keys ks p.1 (insert_key same_row keys k) (insert-cells k p.0 keys h)
+  pub codes-keys : (adds : Bool) (ks : List Row) → AllByRecursion (AreCells types) ks
+      → (keys : List Row) → AllByRecursion (AreCells types) keys
+      → fold (with_key adds same_code) (map key_code keys) (map key_code ks)
+      ≡ map key_code (fold (with_key adds same_row) keys ks)
+  codes-keys adds [] p keys h = refl
+  codes-keys adds (k ∷ ks) p keys h =
+      ap (λ l. fold (with_key adds same_code) l (map key_code ks)) (with-code adds k p.0 keys h)
+      ∙ codes-keys adds ks p.1 (with_key adds same_row keys k) (with-cells adds k p.0 keys h)
 
 -- ---- what the code writes
 
 -- one value of the key more
-pub key-next : (c : ℕ) (row : Row) → key_of (c + 1) row ≡ key_of c row ++ value_at row c ∷ []
-unfolding count_up
-key-next c row =
-    let next : c + 1 ≡ suc c = omega arith in
-    ap (λ n. key_of n row) next ∙ map-append (value_at row) (count_up c) (c ∷ [])
+key-next : (places : List ℕ) (k : ℕ) (row : Row) → k < length places
+    → key_at (take (k + 1) places) row
+    ≡ key_at (take k places) row ++ value_at row (get_or places k 0) ∷ []
+key-next places k row lt =
+    let next : k + 1 ≡ suc k = omega arith in
+    ap (λ l. key_at l row) (ap (λ n. take n places) next ∙ take-suc places k 0 lt)
+    ∙ map-append (value_at row) (take k places) (get_or places k 0 ∷ [])
 
-pub key-none : (row : Row) → key_of 0 row ≡ []
-unfolding count_up
-key-none row = refl
-
-pub key-first : (row : Row) → key_of 1 row ≡ value_at row 0 ∷ []
-unfolding count_up
-key-first row = refl
-
-pub key-long : (n : ℕ) (row : Row) → length (key_of n row) ≡ n
-unfolding count_up
-key-long zero row = refl
-key-long (suc n) row =
-    let e = ap length (map-append (value_at row) (count_up n) (n ∷ [])) in
-    let l = length-append (key_of n row) (value_at row n ∷ []) in
-    let m = key-long n row in omega (arith, e, l, m)
-
-pub bytes-next : (c : ℕ) (row : Row) (code : List ℕ) (v : Value)
-    → code ≡ flat_map value_bytes (key_of c row) ++ value_bytes v → v ≡ value_at row c
-    → code ≡ flat_map value_bytes (key_of (c + 1) row)
-bytes-next c row code v e is =
-    e ∙ ap (λ w. flat_map value_bytes (key_of c row) ++ value_bytes w) is
-    ∙ ap (λ l. flat_map value_bytes (key_of c row) ++ l)
-    (sym (append-nil (value_bytes (value_at row c))))
-    ∙ sym (ap (flat_map value_bytes) (key-next c row)
-    ∙ flat_map-append value_bytes (key_of c row) (value_at row c ∷ []))
+pub bytes-next : (places : List ℕ) (k : ℕ) (row : Row) (code : List ℕ) (v : Value)
+    → k < length places → code ≡ flat_map value_bytes (key_at (take k places) row) ++ value_bytes v
+    → v ≡ value_at row (get_or places k 0)
+    → code ≡ flat_map value_bytes (key_at (take (k + 1) places) row)
+bytes-next places k row code v lt e is =
+    let key = key_at (take k places) row in
+    e ∙ ap (λ w. flat_map value_bytes key ++ value_bytes w) is
+    ∙ ap (λ l. flat_map value_bytes key ++ l)
+    (sym (append-nil (value_bytes (value_at row (get_or places k 0)))))
+    ∙ sym (ap (flat_map value_bytes) (key-next places k row lt)
+    ∙ flat_map-append value_bytes key (value_at row (get_or places k 0) ∷ []))
 
 cells-append : (types : List ColumnType) (key : Row) (t : ColumnType) (v : Value)
     → AreCells types key → IsCell t v → AreCells (types ++ t ∷ []) (key ++ v ∷ [])
@@ -214,16 +209,19 @@ cells-append [] (w ∷ key) t v h p = absurd h
 cells-append (u ∷ types) [] t v h p = absurd h
 cells-append (u ∷ types) (w ∷ key) t v h p = (h.0, cells-append types key t v h.1 p)
 
-pub cells-next : (types : List ColumnType) (c : ℕ) (row : Row)
-    → AreCells (take c types) (key_of c row)
-    → c < length types → IsCell (get_or types c column.Text) (value_at row c)
-    → AreCells (take (c + 1) types) (key_of (c + 1) row)
-cells-next types c row h lt cell =
-    let next : c + 1 ≡ suc c = omega arith in
-    subst (λ k. AreCells (take (c + 1) types) k) (sym (key-next c row))
-    (subst (λ ts. AreCells ts (key_of c row ++ value_at row c ∷ []))
-    (sym (ap (λ n. take n types) next ∙ take-suc types c column.Text lt))
-    (cells-append (take c types) (key_of c row) _ _ h cell))
+pub cells-next : (types : List ColumnType) (places : List ℕ) (k : ℕ) (row : Row)
+    → HasKey types (take k places) row → k < length places
+    → IsCell (kind_at types (get_or places k 0)) (value_at row (get_or places k 0))
+    → HasKey types (take (k + 1) places) row
+cells-next types places k row h lt cell =
+    let next : k + 1 ≡ suc k = omega arith in
+    let more = ap (λ n. take n places) next ∙ take-suc places k 0 lt in
+    let kinds = ap (kinds_at types) more
+    ∙ map-append (kind_at types) (take k places) (get_or places k 0 ∷ []) in
+    subst (AreCells (kinds_at types (take (k + 1) places))) (sym (key-next places k row lt))
+    (subst (λ ts. AreCells ts (key_at (take k places) row ++ value_at row (get_or places k 0) ∷ []))
+    (sym kinds)
+    (cells-append (kinds_at types (take k places)) (key_at (take k places) row) _ _ h cell))
 
 -- the cell of a column of the rows
 pub cell-value : (rows : List Row) (c i : ℕ) (vs : List Value)
@@ -234,49 +232,34 @@ cell-value rows c i vs e lt =
 
 pub cell-type : (types : List ColumnType) (c : ℕ) (kind : ColumnType) (v w : Value)
     → kind ≡ get_or types c kind → c < length types → v ≡ w → IsCell kind v
-    → IsCell (get_or types c column.Text) w
+    → IsCell (kind_at types c) w
 cell-type types c kind v w e lt is h =
-    subst (λ x. IsCell (get_or types c column.Text) x) is
+    subst (IsCell (kind_at types c)) is
     (subst (λ t. IsCell t v) (e ∙ get_or_default types c kind column.Text lt) h)
 
--- no key, or a key of one value
-pub none-code : (n : ℕ) (row : Row) → n ≡ 0 → [] ≡ row_code n row
-none-code n row none = sym (ap (λ k. row_code k row) none ∙ ap key_code (key-none row))
+-- a key of one value
+pub one-cells : (types : List ColumnType) (places : List ℕ) (row : Row) → length places ≡ 1
+    → IsCell (kind_at types (first_of places)) (value_at row (first_of places))
+    → HasKey types places row
+one-cells types [] row one cell = absurd (omega (arith, one))
+one-cells types (c ∷ []) row one cell = (cell, tt)
+one-cells types (c ∷ d ∷ places) row one cell = absurd (omega (arith, one))
 
-pub none-cells : (types : List ColumnType) (n : ℕ) (row : Row) → n ≡ 0
-    → AreCells (take n types) (key_of n row)
-none-cells types n row none =
-    subst (λ k. AreCells (take k types) (key_of k row)) (sym none)
-    (subst (AreCells (take 0 types)) (sym (key-none row)) (tt {0}))
-
-pub one-code : (n : ℕ) (row : Row) (v : Value) → n ≡ 1 → v ≡ value_at row 0
-    → value_code v ≡ row_code n row
-one-code n row v one is =
-    ap value_code is ∙ sym (ap (λ k. row_code k row) one ∙ ap key_code (key-first row))
-
-pub one-cells : (types : List ColumnType) (n : ℕ) (row : Row) (kind : ColumnType) (v : Value)
-    → n ≡ 1 → n ≤ length types → kind ≡ get_or types 0 kind → v ≡ value_at row 0 → IsCell kind v
-    → AreCells (take n types) (key_of n row)
-one-cells types n row kind v one le e is cell =
-    let lt : 0 < length types = omega (arith, one, le) in
-    subst (λ k. AreCells (take k types) (key_of k row)) (sym one)
-    (cells-next types 0 row (none-cells types 0 row refl) lt
-    (cell-type types 0 kind v _ e lt is cell))
-
-pub place-next : (codes es : List (List ℕ)) (i : ℕ) (ps : List ℕ) (e : List ℕ) → e ≡ get_or es i []
-    → i < length es
-    → (ps ++ position_or_len (same_code e) codes ∷ []) ++ places_from same_code
-    (insert_key same_code codes e) (drop (i + 1) es) ≡ ps ++ places_from same_code codes (drop i es)
-place-next codes es i ps e is lt =
+pub place-next : (adds : Bool) (codes es : List (List ℕ)) (i : ℕ) (ps : List ℕ) (e : List ℕ)
+    → e ≡ get_or es i [] → i < length es
+    → (ps ++ position_or_len (same_code e) codes ∷ []) ++ places_from adds same_code
+    (with_key adds same_code codes e) (drop (i + 1) es)
+    ≡ ps ++ places_from adds same_code codes (drop i es)
+place-next adds codes es i ps e is lt =
     append_assoc ps (position_or_len (same_code e) codes ∷ [])
-    (places_from same_code (insert_key same_code codes e) (drop (i + 1) es))
-    ∙ ap (λ l. ps ++ l) (ap (λ x. places_from same_code codes (x ∷ drop (i + 1) es)) is
-    ∙ sym (at_drop_more (places_from same_code codes) es i [] lt))
+    (places_from adds same_code (with_key adds same_code codes e) (drop (i + 1) es))
+    ∙ ap (λ l. ps ++ l) (ap (λ x. places_from adds same_code codes (x ∷ drop (i + 1) es)) is
+    ∙ sym (at_drop_more (places_from adds same_code codes) es i [] lt))
 
-pub codes-next : (codes es : List (List ℕ)) (i : ℕ) (e : List ℕ) → e ≡ get_or es i []
-    → i < length es
-    → fold (insert_key same_code) (insert_key same_code codes e) (drop (i + 1) es)
-    ≡ fold (insert_key same_code) codes (drop i es)
-codes-next codes es i e is lt =
-    ap (λ x. fold (insert_key same_code) (insert_key same_code codes x) (drop (i + 1) es)) is
-    ∙ sym (at_drop_more (fold (insert_key same_code) codes) es i [] lt)
+pub codes-next : (adds : Bool) (codes es : List (List ℕ)) (i : ℕ) (e : List ℕ)
+    → e ≡ get_or es i [] → i < length es
+    → fold (with_key adds same_code) (with_key adds same_code codes e) (drop (i + 1) es)
+    ≡ fold (with_key adds same_code) codes (drop i es)
+codes-next adds codes es i e is lt =
+    ap (λ x. fold (with_key adds same_code) (with_key adds same_code codes x) (drop (i + 1) es)) is
+    ∙ sym (at_drop_more (fold (with_key adds same_code) codes) es i [] lt)

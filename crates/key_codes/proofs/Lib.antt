@@ -1,0 +1,3 @@
+mod Prelude
+mod CodeLaws
+pub mod KeyLaws

@@ -1,0 +1,26 @@
+use Rattle.std.proofs.Common.{[], ◌∷◌, subst, sym}
+use Rattle.key_codes.proofs.CodeLaws.{finds-number, misses-number, puts-number}
+use Rattle.key_codes.proofs.Prelude.{FindsCode, number_codes}
+use Rattle.key_codes.proofs.key_code.place_of_number.Goals as goal
+
+pub returns-in-Some : goal.returns-in-Some
+returns-in-Some c =
+    let codes = number_codes c.args.seen.now in
+    subst (λ b. FindsCode b (c.args.number ∷ []) codes codes c.in-Some.place)
+    (sym c.if-not-adds.true)
+    (finds-number c.args.number c.args.seen.now.keys c.in-Some.place c.in-Some.ensures.index)
+
+pub returns-in-None : goal.returns-in-None
+returns-in-None c =
+    let codes = number_codes c.args.seen.now in
+    subst (λ b. FindsCode b (c.args.number ∷ []) codes codes c.len.result)
+    (sym c.if-not-adds.true)
+    (misses-number c.args.number c.args.seen.now.keys c.len.result c.len.ensures.len
+    c.in-None.ensures.index)
+
+pub returns-in-Ok : goal.returns-in-Ok
+returns-in-Ok c =
+    subst (λ b. FindsCode b (c.args.number ∷ []) (number_codes c.args.seen.now)
+    (number_codes c.insert_full.new.self) c.in-Ok.place) (sym c.if-not-adds.false)
+    (puts-number c.args.number c.args.seen.now.keys c.insert_full.new.self.keys c.in-Ok.place
+    c.in-Ok.ensures.index c.in-Ok.ensures.keys)

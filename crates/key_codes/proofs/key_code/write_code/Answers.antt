@@ -1,0 +1,23 @@
+use Rattle.std.proofs.Common.{◌<◌, ◌++◌, length, get_or, ap, ◌∙◌, arith}
+use Rattle.key_codes.proofs.Prelude.{kind_of, row_at, value_at, value_bytes, values}
+use Rattle.key_codes.proofs.KeyLaws.{bytes-next, cell-type, cell-value, cells-next}
+use Rattle.key_codes.proofs.key_code.write_code.Goals as goal
+
+pub loop-place-preserved : goal.loop-place-preserved
+loop-place-preserved c =
+    let types = c.args.chunk.now.types in
+    let places = c.args.places.now in
+    let k = c.loop-place.place-index in
+    let lt : k < length places = omega (arith, c.loop-place-test.true) in
+    let at = get_or places k 0 in
+    let within = c.requires.within k 0 lt in
+    let row = row_at c.args.chunk.now.rows c.args.i in
+    let cell = value_at (values c.column.result.now) c.args.i in
+    let is = cell-value c.args.chunk.now.rows at c.args.i (values c.column.result.now)
+    c.column.ensures.values c.requires.row in (
+      bytes-next places k row c.push_value.new.code.items cell lt (c.in_ok-push_value.ensures.code
+          ∙ ap (λ l. l ++ value_bytes cell) c.loop-place.invariant.0) is,
+      cells-next types places k row c.loop-place.invariant.1 lt
+          (cell-type types at (kind_of c.column.result.now) cell _ c.column.ensures.kind within is
+          c.push_value.ensures.cell),
+    )

@@ -1,0 +1,9 @@
+use Rattle.std.proofs.Common.{◌≡◌, flat_map, take}
+use Rattle.key_codes.proofs.Prelude.{HasKey, key_at, row_at, value_bytes}
+use Rattle.key_codes.proofs.key_code.write_code.Given as goal
+
+abbrev pub invariant-loop-place : goal.invariant-loop-place
+invariant-loop-place l =
+    (l.code.items
+    ≡ flat_map value_bytes (key_at (take l.place-index l.places) (row_at l.chunk.rows l.i)))
+    × HasKey l.chunk.types (take l.place-index l.places) (row_at l.chunk.rows l.i)
