@@ -1,0 +1,124 @@
+-- Rows agree exactly where their keys have one code.
+use Rattle.std.proofs.Common.{◌≡◌, ℕ, ◌<◌, ◌&&◌, true, List, [], ◌∷◌, length, map, refl, sym, ap, ap₂, ◌∙◌, arith, subst}
+use Rattle.std.specs.Ordering.{is_eq, ordering_then}
+use Rattle.std.specs.declared.cmp.Ordering.{Ordering}
+use Rattle.std.specs.declared.cmp.Ordering.TheVariants.{Equal, Greater, Less}
+use Rattle.std.specs.Cmp.Lexicographic.{slice_cmp}
+use Rattle.join_proc.proofs.Imports.{All, All-map, AllByRecursion, AreCells, AreKeyPairs, ColumnType, HasKey, IsKeyPair, IsSeenFor, JoinSpec, KeyPair, Row, agree, codes-agree, first_of, key_at, kind_at, kinds_at, left_places, length-map, recursion_from_All, right_places, row_code, same_code, same_row, same_row_is, value_at, value_cmp}
+use Rattle.key_codes.specs.declared.key_code.SeenKeys.{SeenKeys}
+use Rattle.key_codes.specs.declared.key_code.SeenKeys.TheVariants as seen
+
+-- rows agree where they have one key
+agree-keys : (pairs : List KeyPair) (l r : Row)
+    → agree pairs l r
+    ≡ same_row (key_at (left_places pairs) l) (key_at (right_places pairs) r)
+agree-keys [] l r = refl
+agree-keys (pair ∷ pairs) l r =
+    go (value_cmp (value_at l pair.left) (value_at r pair.right)) (agree-keys pairs l r)
+  where
+    go : (o : Ordering) → agree pairs l r
+        ≡ same_row (key_at (left_places pairs) l) (key_at (right_places pairs) r)
+        → (is_eq o && agree pairs l r) ≡ is_eq (ordering_then o
+        (slice_cmp value_cmp (key_at (left_places pairs) l) (key_at (right_places pairs) r)))
+    go Less h = refl
+    go Equal h = h
+    go Greater h = refl
+
+-- the pairs are of columns of one type
+pub pair-kinds : (join : JoinSpec) → AreKeyPairs join
+    → kinds_at join.left (left_places join.pairs) ≡ kinds_at join.right (right_places join.pairs)
+pair-kinds join h = go join.pairs
+    (recursion_from_All (IsKeyPair join.left join.right) join.pairs h)
+  where
+    go : (pairs : List KeyPair) → AllByRecursion (IsKeyPair join.left join.right) pairs
+        → kinds_at join.left (left_places pairs) ≡ kinds_at join.right (right_places pairs)
+    go [] h = refl
+    go (pair ∷ pairs) h = ap₂ ◌∷◌ h.0.2 (go pairs h.1)
+
+-- The columns of the pairs are of their sides: as many of either, the first two of one type.
+sides-long : (pairs : List KeyPair)
+    → length (left_places pairs) ≡ length (right_places pairs)
+sides-long pairs =
+    length-map pairs (λ (p : KeyPair). p.left) ∙ sym (length-map pairs (λ (p : KeyPair). p.right))
+
+first-kinds : (join : JoinSpec) → AreKeyPairs join → 0 < length (left_places join.pairs)
+    → kind_at join.left (first_of (left_places join.pairs))
+    ≡ kind_at join.right (first_of (right_places join.pairs))
+first-kinds join h some = go join.pairs
+    (recursion_from_All (IsKeyPair join.left join.right) join.pairs h) some
+  where
+    go : (pairs : List KeyPair) → AllByRecursion (IsKeyPair join.left join.right) pairs
+        → 0 < length (left_places pairs)
+        → kind_at join.left (first_of (left_places pairs))
+        ≡ kind_at join.right (first_of (right_places pairs))
+    go [] h some = absurd (omega (arith, some))
+    go (pair ∷ pairs) h some = h.0.2
+
+pub left-within : (join : JoinSpec) → AreKeyPairs join
+    → All (λ c. c < length join.left) (left_places join.pairs)
+left-within join h = All-map (λ c. c < length join.left) (λ (p : KeyPair). p.left) join.pairs
+    (λ k d lt. (h k d lt).0)
+
+pub right-within : (join : JoinSpec) → AreKeyPairs join
+    → All (λ c. c < length join.right) (right_places join.pairs)
+right-within join h = All-map (λ c. c < length join.right) (λ (p : KeyPair). p.right) join.pairs
+    (λ k d lt. (h k d lt).1)
+
+-- keys are seen by the first column's type, where there is one
+same-form : (n : ℕ) (t u : ColumnType) (x : SeenKeys) → (0 < n → t ≡ u)
+    → IsSeenFor n t x → IsSeenFor n u x
+same-form n t u (seen.Whole some) e f = f
+same-form n t u (seen.Numbers numbers) e f =
+    (f.0, λ g. f.1 (e (let one = f.0 in omega (arith, one)) ∙ g))
+same-form n t u (seen.Bytes codes) e f = λ one. sym (e (omega (arith, one))) ∙ f one
+
+-- the form of either side's keys is that of the other's
+pub left-form : (join : JoinSpec) → AreKeyPairs join → (x : SeenKeys)
+    → IsSeenFor (length (right_places join.pairs))
+    (kind_at join.right (first_of (right_places join.pairs))) x
+    → IsSeenFor (length (left_places join.pairs))
+    (kind_at join.left (first_of (left_places join.pairs))) x
+left-form join h x f =
+    same-form (length (left_places join.pairs)) _ _ x (λ some. sym (first-kinds join h some))
+    (subst (λ n. IsSeenFor n (kind_at join.right (first_of (right_places join.pairs))) x)
+    (sym (sides-long join.pairs)) f)
+
+pub right-form : (join : JoinSpec) → AreKeyPairs join → (x : SeenKeys)
+    → IsSeenFor (length (left_places join.pairs))
+    (kind_at join.left (first_of (left_places join.pairs))) x
+    → IsSeenFor (length (right_places join.pairs))
+    (kind_at join.right (first_of (right_places join.pairs))) x
+right-form join h x f =
+    subst (λ n. IsSeenFor n (kind_at join.right (first_of (right_places join.pairs))) x)
+    (sides-long join.pairs) (same-form (length (left_places join.pairs)) _ _ x
+    (first-kinds join h) f)
+
+module _ (types : List ColumnType) (pairs : List KeyPair) where
+  -- the row agrees with just those whose keys have the code
+  abbrev pub HasCode : Row → List ℕ → Type 0
+  HasCode l e =
+      (r : Row) → HasKey types (right_places pairs) r
+      → agree pairs l r ≡ same_code e (row_code (right_places pairs) r)
+
+  pub left-code : (l : Row)
+      → AreCells (kinds_at types (right_places pairs)) (key_at (left_places pairs) l)
+      → HasCode l (row_code (left_places pairs) l)
+  left-code l p = λ r q.
+      agree-keys pairs l r ∙ sym (codes-agree (kinds_at types (right_places pairs))
+      (key_at (left_places pairs) l) (key_at (right_places pairs) r) p q)
+
+  -- as a row with which it agrees has
+  pub right-code : (l r : Row) → HasKey types (right_places pairs) r → agree pairs l r ≡ true
+      → HasCode l (row_code (right_places pairs) r)
+  right-code l r p e = λ s q.
+      let key = same_row_is.one (key_at (left_places pairs) l) (key_at (right_places pairs) r)
+      (sym (agree-keys pairs l r) ∙ e) in
+      agree-keys pairs l s ∙ ap (λ k. same_row k (key_at (right_places pairs) s)) key
+      ∙ sym (codes-agree (kinds_at types (right_places pairs))
+      (key_at (right_places pairs) r) (key_at (right_places pairs) s) p q)
+
+  pub code-mask : (l : Row) (e : List ℕ) → HasCode l e → (rows : List Row)
+      → AllByRecursion (HasKey types (right_places pairs)) rows
+      → map (agree pairs l) rows ≡ map (same_code e) (map (row_code (right_places pairs)) rows)
+  code-mask l e h [] cells = refl
+  code-mask l e h (r ∷ rows) cells = ap₂ ◌∷◌ (h r cells.0) (code-mask l e h rows cells.1)

@@ -1,0 +1,78 @@
+-- A join keeps what its kind says of the chunks that it worked.
+use Rattle.std.proofs.Common.{◌≡◌, ℕ, ◌<◌, true, [], ◌∷◌, ◌++◌, length, append_assoc, IsPermutation, Some, None, refl, sym, ap, ap₂, ◌∙◌, subst, arith}
+use Rattle.join_proc.proofs.Imports.{AreStarts, IsPermutation-append_left, JoinIndex, JoinSpec, JoinsSome, LeftRows, Lists, Makes, OwnState, Table, Takes, append-nil, chunk-elsewhere, chunk-here, chunk_rows, flat_map-append, joined_rows, joining_own, one-more, rows_left, with_chunk}
+use Rattle.query_model.specs.declared.processor_spec.Spec.TheVariants as spec
+
+-- the rows of an input with a chunk more, and those of another
+here : (i : ℕ) (t : Table) (worked : Lists)
+    → chunk_rows (with_chunk i t worked i) ≡ chunk_rows (worked i) ++ t.rows
+here i t worked = ap chunk_rows (chunk-here i t worked) ∙ one-more (worked i) t
+
+there : (i j : ℕ) (t : Table) (worked : Lists) → (j ≡ i → ⊥)
+    → chunk_rows (with_chunk i t worked j) ≡ chunk_rows (worked j)
+there i j t worked ne = ap chunk_rows (chunk-elsewhere i j t worked ne)
+
+-- a left chunk of which nothing is joined yet, where no rows were left
+pub takes-left : (join : JoinSpec) (old : OwnState) (x : JoinIndex) (l : LeftRows) (t : Table)
+    → old.unmade ≡ [] → old.ended ≡ true → old.gathered ≡ x.rows ∷ []
+    → AreStarts join.pairs t.rows x.rows.rows l
+    → Takes (spec.HashJoin join) old 0 t (joining_own join x l) None
+takes-left join old x l t none ended gathered s = record {
+  means = λ y fits worked outs h.
+      let made = chunk_rows (outs 0) ++ [] in
+      let left = chunk_rows (worked 0) in
+      let right : chunk_rows (worked 1) ≡ x.rows.rows =
+      sym h.gathered_are ∙ ap chunk_rows gathered ∙ append-nil x.rows.rows in
+      let all = h.joined ended in
+      let more : joined_rows join.pairs (left ++ t.rows) x.rows.rows
+      ≡ joined_rows join.pairs left x.rows.rows ++ joined_rows join.pairs t.rows x.rows.rows =
+      flat_map-append _ left t.rows in
+      record {
+        gathered_are = append-nil x.rows.rows ∙ sym right ∙ sym (there 0 1 t worked
+            (λ z. absurd (cc)));
+        none_left = λ f. absurd (cc);
+        none_made = λ f. absurd (cc);
+        joined = λ f.
+            subst (λ ls. IsPermutation (joined_rows join.pairs ls (chunk_rows
+            (with_chunk 0 t worked 1))) (made ++ rows_left join.pairs x.rows.rows l))
+            (sym (here 0 t worked))
+            (subst (λ rs. IsPermutation (joined_rows join.pairs (left ++ t.rows) rs)
+            (made ++ rows_left join.pairs x.rows.rows l))
+            (sym (there 0 1 t worked (λ z. absurd (cc)) ∙ right))
+            (subst (λ rows. IsPermutation rows (made ++ rows_left join.pairs x.rows.rows l))
+            (sym more)
+            (subst (λ rows. IsPermutation (joined_rows join.pairs left x.rows.rows
+            ++ joined_rows join.pairs t.rows x.rows.rows) (made ++ rows)) (sym s.all_left)
+            (IsPermutation-append_left (joined_rows join.pairs t.rows x.rows.rows) _ _
+            (subst (λ rs. IsPermutation (joined_rows join.pairs left rs) made) right
+            (subst (IsPermutation (joined_rows join.pairs left (chunk_rows (worked 1))))
+            (ap (λ u. made ++ u) none ∙ append-nil made) all))))));
+      };
+  types = λ ins pulled. tt;
+  sizes = tt;
+  ends = λ j n. (n.0, ended);
+}
+
+-- ---- rows are made
+
+pub makes : (join : JoinSpec) (x : JoinIndex) (old new : LeftRows) (c : Table)
+    → JoinsSome join x old new c → c.types ≡ join.left ++ join.right
+    → 0 < length (rows_left join.pairs x.rows.rows old)
+    → Makes (spec.HashJoin join) (joining_own join x old) (joining_own join x new) (Some c)
+makes join x old new c s types some = record {
+  means = λ y worked outs h. record {
+    gathered_are = h.gathered_are;
+    none_left = λ f. absurd (cc);
+    none_made = λ f. absurd (cc);
+    joined = λ f. subst (IsPermutation (joined_rows join.pairs (chunk_rows (worked 0))
+        (chunk_rows (worked 1))))
+        (ap₂ ◌++◌ (append-nil (chunk_rows (outs 0))) s.rows
+        ∙ sym (append_assoc (chunk_rows (outs 0)) c.rows
+        (rows_left join.pairs x.rows.rows new))) (h.joined refl);
+  };
+  types = λ ins. types;
+  sizes = s.few;
+  progress = s.some;
+  nothing = λ n. absurd (let e = ap length n in omega (arith, e, some));
+  ends = λ i n. n;
+}

@@ -1,0 +1,6 @@
+mod Imports
+mod PlaceLaws
+mod AgreeLaws
+mod IndexLaws
+mod LeftLaws
+mod JoiningLaws

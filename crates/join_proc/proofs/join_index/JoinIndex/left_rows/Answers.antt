@@ -1,0 +1,103 @@
+use Rattle.std.proofs.Common.{false, List, ◌≡◌, ◌<◌, ◌∙◌, suc, length, map, ap, ap₂, refl, subst, sym}
+use Rattle.join_proc.proofs.Imports.{All, All-from_recursion, AreCells, ColumnType, IsSeenFor, JoinIndex, Row, codes_in, first_of, key_at, kind_at, kinds_at, left_places, map-map, places_from, position_or_len, recursion_from_All, right_places, row_code, same_code, starts_at}
+use Rattle.join_proc.proofs.AgreeLaws.{left-form, left-within, pair-kinds, right-form}
+use Rattle.join_proc.proofs.LeftLaws.{starts-left}
+use Rattle.join_proc.proofs.PlaceLaws.{keys-found, places-found, places-within}
+use Rattle.join_proc.proofs.join_index.JoinIndex.left_rows.Goals as goal
+
+pub find_places-requires-clause-within : goal.find_places-requires-clause-within
+find_places-requires-clause-within c =
+    let join = c.args.join.now in
+    subst (All (λ p. p < length c.args.chunk.types))
+    (sym (c.as_slice.ensures.value ∙ c.in_ok-columns.ensures))
+    (subst (λ ts. All (λ p. p < length ts) (left_places join.pairs)) (sym c.requires.types)
+    (left-within join c.requires.pairs))
+
+pub find_places-requires-clause-form : goal.find_places-requires-clause-form
+find_places-requires-clause-form c =
+    let join = c.args.join.now in
+    let seen = c.args.self.now.seen in
+    subst (λ cs. IsSeenFor (length cs) (kind_at c.args.chunk.types (first_of cs)) seen)
+    (sym (c.as_slice.ensures.value ∙ c.in_ok-columns.ensures))
+    (subst (λ ts. IsSeenFor (length (left_places join.pairs))
+    (kind_at ts (first_of (left_places join.pairs))) seen) (sym c.requires.types)
+    (left-form join c.requires.pairs seen
+    (subst (λ ts. IsSeenFor (length (right_places join.pairs))
+    (kind_at ts (first_of (right_places join.pairs))) seen) c.requires.right
+    c.requires.index.form)))
+
+pub starts_of-requires : goal.starts_of-requires
+starts_of-requires c =
+    let x = c.args.self.now in
+    let es = map (row_code c.as_slice.result.now) c.args.chunk.rows in
+    let firsts = ap length c.as_slice-firsts.ensures.value ∙ c.requires.index.many in
+    subst (All (λ p. p < length c.as_slice-firsts.result.now))
+    (sym (c.as_slice-2.ensures.value ∙ c.in_ok-places.ensures.places
+    ∙ places-found same_code es (codes_in x.seen)))
+    (All-from_recursion (λ p. p < length c.as_slice-firsts.result.now) _
+    (places-within same_code (codes_in x.seen) es (length c.as_slice-firsts.result.now) firsts))
+
+pub returns-clause-index : goal.returns-clause-index
+returns-clause-index c =
+    let join = c.args.join.now in
+    let x = c.args.self.now in
+    let new = c.find_places.new.seen in
+    let is = c.requires.index in
+    let same : codes_in new ≡ codes_in x.seen =
+    c.in_ok-places.ensures.seen
+    ∙ keys-found same_code (map (row_code c.as_slice.result.now) c.args.chunk.rows)
+    (codes_in x.seen) in
+    record {
+      form = subst (λ ts. IsSeenFor (length (right_places join.pairs))
+          (kind_at ts (first_of (right_places join.pairs))) new) (sym c.requires.right)
+          (right-form join c.requires.pairs new
+          (subst (λ ts. IsSeenFor (length (left_places join.pairs))
+          (kind_at ts (first_of (left_places join.pairs))) new) c.requires.types
+          (subst (λ cs. IsSeenFor (length cs) (kind_at c.args.chunk.types (first_of cs)) new)
+          (c.as_slice.ensures.value ∙ c.in_ok-columns.ensures) c.in_ok-places.ensures.form)));
+      cells = is.cells;
+      codes = same ∙ is.codes;
+      many = is.many ∙ ap suc (ap length (sym same));
+      linked = is.linked;
+    }
+
+pub returns-clause-starts : goal.returns-clause-starts
+returns-clause-starts c =
+    let join = c.args.join.now in
+    let lefts = left_places join.pairs in
+    let rights = right_places join.pairs in
+    let x = c.args.self.now in
+    let rows = c.args.chunk.rows in
+    let cols = c.as_slice.ensures.value ∙ c.in_ok-columns.ensures in
+    let same : codes_in c.find_places.new.seen ≡ codes_in x.seen =
+    c.in_ok-places.ensures.seen
+    ∙ keys-found same_code (map (row_code c.as_slice.result.now) rows) (codes_in x.seen) in
+    let kinds : kinds_at c.args.chunk.types lefts ≡ kinds_at x.rows.types rights =
+    ap (λ (ts : List ColumnType). kinds_at ts lefts) c.requires.types
+    ∙ pair-kinds join c.requires.pairs
+    ∙ ap (λ (ts : List ColumnType). kinds_at ts rights) (sym c.requires.right) in
+    let cells = recursion_from_All (λ (r : Row). AreCells (kinds_at x.rows.types rights)
+    (key_at lefts r)) rows
+    (subst (λ ks. All (λ (r : Row). AreCells ks (key_at lefts r)) rows) kinds
+    (subst (λ cs. All (λ (r : Row). AreCells (kinds_at c.args.chunk.types cs) (key_at cs r)) rows)
+    cols c.in_ok-places.ensures.cells)) in
+    let places : c.as_slice-2.result.now ≡ map (λ (r : Row). position_or_len
+    (same_code (row_code lefts r)) (codes_in c.find_places.new.seen)) rows =
+    c.as_slice-2.ensures.value ∙ c.in_ok-places.ensures.places
+    ∙ ap (λ cs. places_from false same_code (codes_in x.seen) (map (row_code cs) rows)) cols
+    ∙ places-found same_code (map (row_code lefts) rows) (codes_in x.seen)
+    ∙ map-map (λ e. position_or_len (same_code e) (codes_in x.seen)) (row_code lefts) rows
+    ∙ ap (λ s. map (λ (r : Row). position_or_len (same_code (row_code lefts r)) s) rows)
+    (sym same) in
+    let new : JoinIndex = record {
+      rows = x.rows;
+      seen = c.find_places.new.seen;
+      firsts = x.firsts;
+      nexts = x.nexts;
+    } in
+    starts-left join.pairs new (returns-clause-index c) rows
+    (record { chunk = c.args.chunk; starts = c.in_ok-starts.starts; at = 0 }) refl refl cells
+    (c.in_ok-starts.ensures
+    ∙ ap₂ (λ fs n. starts_at fs n 0 c.as_slice-2.result.now) c.as_slice-firsts.ensures.value
+    c.rows.ensures.count
+    ∙ ap (starts_at x.firsts.items (length x.rows.rows) 0) places)

@@ -1,0 +1,14 @@
+use Rattle.std.proofs.Common.{None, [], ◌∷◌, ap, refl, subst, sym}
+use Rattle.query_model.specs.declared.processor_spec.Spec.TheVariants as spec
+use Rattle.join_proc.proofs.Imports.{JoinSpec, JoiningView, Table, Takes, gathered_own, joining_own}
+use Rattle.join_proc.proofs.JoiningLaws.{takes-left}
+use Rattle.join_proc.proofs.joining.Joining.take_left.Goals as goal
+
+pub returns-in-Ok-clause-takes : goal.returns-in-Ok-clause-takes
+returns-in-Ok-clause-takes c =
+    let join = c.self.inside.join in
+    let x = c.left_rows.new.self in
+    subst (λ (j : JoinSpec). Takes (spec.HashJoin j) (gathered_own c.args.index.rows) 0 c.args.chunk
+    (joining_own join x c.in-Ok.left) None) (ap (λ (v : JoiningView). v.join) c.self.view_is)
+    (takes-left join (gathered_own c.args.index.rows) x c.in-Ok.left c.args.chunk refl refl
+    (ap (λ (t : Table). t ∷ []) (sym c.in-Ok.ensures.rows)) c.in-Ok.ensures.starts)

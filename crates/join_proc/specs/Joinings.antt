@@ -1,0 +1,121 @@
+-- What a join is loaded with and keeps.
+use Rattle.std.specs.Prelude.{◌≡◌, ℕ, ◌<◌, ◌==◌, Bool, true, false, List, [], ◌∷◌, length, Some}
+use Rattle.std.proofs.Common.{◌⊎◌, ◌∙◌, ap, cond, inl, inr, refl, sym}
+use Rattle.std.proofs.lemmas.Bool.{eqb-true}
+use Rattle.chunk_data.specs.Names.{Row, Table}
+use Rattle.query_model.specs.declared.processor_spec.JoinSpec.{JoinSpec}
+use Rattle.query_model.specs.declared.processor_spec.Kind.TheVariants as kind
+use Rattle.query_model.specs.declared.processor_spec.Spec.TheVariants as spec
+use Rattle.proc_api.specs.Histories.{chunk_rows}
+use Rattle.proc_api.specs.Keeping.{IsWorkOf}
+use Rattle.proc_api.specs.Made.{AreJoined, OwnState, idle_own}
+use Rattle.proc_shell.specs.Kernels.{IsShelled, KernelState, kernel_of, work_of}
+use Rattle.proc_shell.specs.declared.kernel.Offer.{Offer}
+use Rattle.proc_shell.specs.declared.kernel.Offer.TheVariants as offer
+use Rattle.proc_shell.proofs.Through.{IsInOrder, pushes-in-order, shelled-plain}
+use Rattle.join_proc.specs.declared.join_index.JoinIndex.{JoinIndex}
+use Rattle.join_proc.specs.declared.left_rows.LeftRows.{LeftRows}
+use Rattle.join_proc.specs.declared.joining.Phase.{Phase}
+use Rattle.join_proc.specs.declared.joining.Phase.TheVariants as phase
+use Rattle.join_proc.specs.Joins.{AreFit, IsIndexOf, rows_left}
+
+-- ---- the state
+
+-- the rows that it can make, the right side, and whether its end was noted
+pub record JoiningView : Type 0 where
+  pub join : JoinSpec
+  pub unmade : List Row
+  pub gathered : List Table
+  pub ended : Bool
+
+abbrev pub own_in : JoiningView → OwnState
+own_in k = record idle_own { unmade = k.unmade; gathered = k.gathered; ended = k.ended }
+
+abbrev pub unmade_in : JoinSpec → Phase → List Row
+unmade_in join (phase.Joining x l) = rows_left join.pairs x.rows.rows l
+unmade_in join p = []
+
+abbrev pub gathered_in : Phase → List Table
+gathered_in (phase.Gathering t) = t ∷ []
+gathered_in (phase.Ended t) = t ∷ []
+gathered_in (phase.Joining x l) = x.rows ∷ []
+gathered_in phase.Failed = []
+
+abbrev pub ended_in : Phase → Bool
+ended_in (phase.Gathering t) = false
+ended_in p = true
+
+abbrev pub view_of : JoinSpec → Phase → JoiningView
+view_of join p = record {
+  join = join;
+  unmade = unmade_in join p;
+  gathered = gathered_in p;
+  ended = ended_in p;
+}
+
+-- the right side with its index, and a left chunk
+pub record IsJoining (join : JoinSpec) (x : JoinIndex) (l : LeftRows) : Type 0 where
+  pub right_types : x.rows.types ≡ join.right
+  pub left_types : l.chunk.types ≡ join.left
+  pub index : IsIndexOf join.pairs x
+  pub fit : AreFit join.pairs x.rows.rows l
+
+abbrev pub IsPhaseFor : JoinSpec → Phase → Type 0
+IsPhaseFor join (phase.Gathering t) = t.types ≡ join.right
+IsPhaseFor join (phase.Ended t) = t.types ≡ join.right
+IsPhaseFor join (phase.Joining x l) = IsJoining join x l
+IsPhaseFor join phase.Failed = Unit {0}
+
+-- the right side has ended, and nothing is made yet
+abbrev pub gathered_own : Table → OwnState
+gathered_own t = record idle_own { gathered = t ∷ []; ended = true }
+
+abbrev pub joining_own : JoinSpec → JoinIndex → LeftRows → OwnState
+joining_own join x l = own_in (view_of join (phase.Joining x l))
+
+-- The right side comes first; then each side is open, while no rows are left to be made.
+abbrev pub is_open : JoiningView → ℕ → Bool
+is_open k i = cond k.ended (length k.unmade == 0) (i == 1)
+
+-- the end of the right side is noted
+abbrev pub with_end : JoiningView → JoiningView
+with_end k = record k { ended = true }
+
+-- what is offered by what can be made
+abbrev pub IsNext : JoiningView → Offer → Type 0
+IsNext k offer.Rows = 0 < length k.unmade
+IsNext k offer.Wants = k.unmade ≡ []
+IsNext k _ = ⊥
+
+join_order : (join : JoinSpec) → IsInOrder (spec.HashJoin join)
+join_order join = record {
+  means = λ x own worked made. AreJoined join.pairs own (chunk_rows (worked 0))
+      (chunk_rows (worked 1)) made;
+  into = λ x own worked outs wait h. h;
+  from = λ x own worked outs wait h. h;
+}
+
+pub join_shelled : (join : JoinSpec) → IsShelled (spec.HashJoin join)
+join_shelled join =
+    shelled-plain (spec.HashJoin join) refl (λ growth m n h. h) (λ growth m n h. h)
+    (λ kept m n had h stands. (h.0 ∙ sym had.0, h.1 ∙ sym had.1)) (λ ins enough m n h. h.1)
+    (pushes-in-order (spec.HashJoin join) (join_order join) (λ m n h. h.1))
+    (λ p ins outs uses h. h) (λ p ins outs seen uses h. h)
+
+abbrev pub state_of : JoiningView → KernelState
+state_of k = kernel_of kind.HashJoin (spec.HashJoin k.join) (own_in k)
+
+pub join_uses : (k : JoiningView) (i : ℕ) (unworked made : List Table)
+    → ((i ≡ 0) × (unworked ≡ [])) ⊎ (is_open k i ≡ true)
+    → IsWorkOf (Some (spec.HashJoin k.join)) (work_of (state_of k) i unworked made)
+join_uses k i unworked made comes = record { idle = refl; right_first = λ f. go f comes }
+  where
+    none : (b : Bool) → unworked ≡ [] → cond b unworked [] ≡ []
+    none true e = e
+    none false e = refl
+
+    go : k.ended ≡ false → ((i ≡ 0) × (unworked ≡ [])) ⊎ (is_open k i ≡ true)
+        → cond (0 == i) unworked [] ≡ []
+    go f (inl e) = none (0 == i) e.1
+    go f (inr e) = ap (λ n. cond (0 == n) unworked []) (eqb-true i 1
+        (sym (ap (λ b. cond b (length k.unmade == 0) (i == 1)) f) ∙ e))
