@@ -1,6 +1,6 @@
 -- What analysis asks of a query holds of each query that is read: WHERE has no call, HAVING has the
 -- operands of groups, and each call has its argument.
-use Rattle.std.proofs.Common.{◌≡◌, ℕ, Bool, true, List, [], ◌∷◌, map, flat_map, Option, Some, None, option_map, refl}
+use Rattle.std.proofs.Common.{◌≡◌, ℕ, true, List, [], ◌∷◌, map, flat_map, Option, Some, None, option_map, refl}
 use Rattle.std.specs.Prelude.{is_some}
 use Rattle.std.specs.List.{All}
 use Rattle.std.proofs.lemmas.List.Elements.{All-nil, All-cons, All-head, All-tail, All-append, All-weaker}
@@ -21,7 +21,7 @@ use Rattle.sql_grammar.specs.declared.Sign.TheVariants as sign
 use Rattle.sql_grammar.specs.declared.Token.TheVariants as token
 use Rattle.sql_grammar.specs.Names.{has_argument, CallTree, Side, Condition, ItemWhat, ItemTree, Selection, QueryTree, call_tree, side, item_what, item_tree, Tokens, IsAgg, count_rows, count_star, call_over, IsOperand, an_expr, a_string, IsGroupOperand as IsGroupSide, a_call, IsCond, one_conj, disjunction, IsConj, one_neg, conjunction, IsNeg, negation, enclosed_cond, comparison, AreListed, last_one, one_more, IsWhat, an_expression, an_agg, IsItem, unnamed, named, IsSelection, all_columns, some_items, IsFilter, no_filter, filter_by, IsHaving, no_having, having_by, source_of, shaping_of, IsQuery, select_query, IsText, bare, with_semicolon}
 use Rattle.sql_grammar.proofs.Trees.{laid_expr, laid_call, laid_side, laid_condition, laid_what, laid_item, laid_items, laid, sides_of_are, items_are}
-use Rattle.sql_text.specs.Refusals.{IsReadBy}
+use Rattle.sql_text.specs.Refusals.{IsReadFrom}
 
 -- the calls of an item
 abbrev HaveArguments : ItemKind → Type 0
@@ -169,8 +169,8 @@ flattened f (x ∷ xs) h =
     (flattened f xs (All-tail (λ x. All HasItsArgument (f x)) x xs h))
 
 -- what is read may be analysed
-pub analysable_of_read : (strict : Bool) (q : Query) (bytes : List ℕ) → IsReadBy strict q bytes → IsAnalysable q
-analysable_of_read strict q bytes read =
+pub analysable_of_read : (q : Query) (bytes : List ℕ) → IsReadFrom q bytes → IsAnalysable q
+analysable_of_read q bytes read =
     let t = text_sides read.spells.text in
     let items = unlaid item_tree laid_item HasArguments item_calls_are
     (listed q.items) (rw items_are at t.items) in

@@ -6,5 +6,4 @@ pub mod QueryTexts
 pub mod ListTurns
 pub mod Bytes
 pub mod Readings
-pub mod BuiltQueries
 pub mod AnalysableQueries

@@ -1,5 +1,5 @@
 -- What the reading of a text's tokens says of the text.
-use Rattle.std.proofs.Common.{◌≡◌, ℕ, ◌≤◌, Bool, false, cond, List, length, Option, Some, None, IfSome, inr, sym, ap, subst, ◌∙◌, arith}
+use Rattle.std.proofs.Common.{◌≡◌, ℕ, ◌≤◌, false, cond, List, length, Option, Some, None, IfSome, inr, sym, ap, subst, ◌∙◌, arith}
 use Rattle.std.specs.Prelude.{nat_lt}
 use Rattle.std.proofs.lemmas.Option.{same_Some, none-some}
 use Rattle.query_model.specs.declared.query.Query.{Query}
@@ -9,7 +9,7 @@ use Rattle.sql_text.specs.declared.stop.Stop.{Stop}
 use Rattle.sql_text.specs.declared.stop.Stop.TheVariants as stop
 use Rattle.sql_text.specs.Answers.{Fails}
 use Rattle.sql_text.specs.Queries.{query_at}
-use Rattle.sql_text.specs.Refusals.{token_refusal, refusal_of_tokens, early_by, IsRefusedBy, IsReadBy, refusal_of}
+use Rattle.sql_text.specs.Refusals.{token_refusal, refusal_of_tokens, early_refusal, IsRefused, IsReadFrom, refusal_of}
 use Rattle.sql_text.proofs.QueryTexts.{text_found, text_spelled}
 
 -- the tokens of a spelled text are spelled
@@ -23,21 +23,32 @@ read_at q text ts are s = text_found (spelled_at q text ts are s) (length ts) (o
 not_long : (n : ℕ) → n ≤ 65536 → nat_lt 65536 n ≡ false
 not_long n h = grind arith
 
-pub early_is : (strict : Bool) (text : List ℕ) (ts : Tokens) → length text ≤ 65536 → tokens_of text ≡ Some ts → early_by strict text ≡ token_refusal strict ts
-early_is strict text ts short are =
-    ap (λ b. cond b (Some refusal.TooLong) (refusal_of_tokens strict (tokens_of text))) (not_long (length text) short) ∙ ap (refusal_of_tokens strict) are
+early_is : (text : List ℕ) (ts : Tokens) → length text ≤ 65536 → tokens_of text ≡ Some ts
+    → early_refusal text ≡ token_refusal ts
+early_is text ts short are =
+    ap (λ b. cond b (Some refusal.TooLong) (refusal_of_tokens (tokens_of text)))
+    (not_long (length text) short) ∙ ap refusal_of_tokens are
 
-pub is_read : (strict : Bool) (q : Query) (text : List ℕ) (ts : Tokens) → length text ≤ 65536 → tokens_of text ≡ Some ts → token_refusal strict ts ≡ None
-    → query_at (length ts) ts ≡ Some (query_tree q) → IsReadBy strict q text
-is_read strict q text ts short are none read =
-    let is : IsText (query_tree q) ts = subst (λ (r : Option QueryTree). IfSome r (λ t. IsText t ts)) read (text_spelled (length ts) ts) in
-    record { early = early_is strict text ts short are ∙ none; spells = record { tokens = ts; are = are; text = is } }
+pub is_read : (q : Query) (text : List ℕ) (ts : Tokens) → length text ≤ 65536
+    → tokens_of text ≡ Some ts → token_refusal ts ≡ None
+    → query_at (length ts) ts ≡ Some (query_tree q) → IsReadFrom q text
+is_read q text ts short are none read =
+    let is : IsText (query_tree q) ts =
+    subst (λ (r : Option QueryTree). IfSome r (λ t. IsText t ts)) read
+    (text_spelled (length ts) ts) in
+    record {
+      early = early_is text ts short are ∙ none;
+      spells = record { tokens = ts; are = are; text = is };
+    }
 
-pub is_refused : (strict : Bool) (e : Stop) (text : List ℕ) (ts : Tokens) → length text ≤ 65536 → tokens_of text ≡ Some ts → token_refusal strict ts ≡ None
-    → Fails e (query_at (length ts) ts) → IsRefusedBy strict (refusal_of e) text
-is_refused strict stop.Syntax text ts short are none fails =
-    inr (early_is strict text ts short are ∙ none, λ q s. none-some (query_tree q) (sym fails ∙ read_at q text ts are s))
-is_refused strict stop.Memory text ts short are none fails = tt
+pub is_refused : (e : Stop) (text : List ℕ) (ts : Tokens) → length text ≤ 65536
+    → tokens_of text ≡ Some ts → token_refusal ts ≡ None
+    → Fails e (query_at (length ts) ts) → IsRefused (refusal_of e) text
+is_refused stop.Syntax text ts short are none fails = inr (
+  early_is text ts short are ∙ none,
+  λ q s. none-some (query_tree q) (sym fails ∙ read_at q text ts are s),
+)
+is_refused stop.Memory text ts short are none fails = tt
 
 pub one_tree : (text : List ℕ) (p q : Query) → Spells p text → Spells q text → query_tree p ≡ query_tree q
 one_tree text p q s t =

@@ -11,4 +11,4 @@ mod tables;
 mod texts;
 
 pub use limits::{MAX_OPERATORS, MAX_TEXT, ParseRefusal};
-pub use texts::{one_reading, parse, parse_whole};
+pub use texts::{one_reading, parse};

@@ -1,7 +1,7 @@
 // What is refused before a query is read.
 ghost use Rattle.std.specs.Prelude.{◌≡◌, count_by};
 ghost use Rattle.std.specs.List.{list_any};
-ghost use Rattle.sql_text.specs.Refusals.{is_large, is_operator_sign, is_operator_keyword, is_operator, is_unbuilt_keyword, is_unbuilt, unbuilt_refusal, token_refusal};
+ghost use Rattle.sql_text.specs.Refusals.{is_large, is_operator_sign, is_operator_keyword, is_operator, token_refusal};
 
 use sql_grammar::{Keyword, Sign, Token};
 
@@ -22,8 +22,6 @@ pub enum ParseRefusal {
     NumberTooLarge,
     /// It has more than `MAX_OPERATORS` tokens `(`, `+`, `-`, `*`, AND, OR and NOT.
     TooComplex,
-    /// It has a clause that isn't there yet.
-    NotBuilt,
     /// There wasn't enough memory.
     Memory,
 }
@@ -68,41 +66,9 @@ fn operator_count(tokens: &[Token]) -> usize
     tokens.iter().filter(|token| is_operator(token)).count()
 }
 
-fn is_unbuilt_keyword(keyword: Keyword) -> bool
-    ensures { result ≡ is_unbuilt_keyword keyword }
-{
-    matches!(keyword, Keyword::Inner | Keyword::Join | Keyword::On)
-}
-
-fn is_unbuilt(token: &Token) -> bool
-    ensures { result ≡ is_unbuilt token.now }
-{
-    match token {
-        Token::Keyword(keyword) => is_unbuilt_keyword(*keyword),
-        Token::Name(_) | Token::Number(_) | Token::LargeNumber | Token::Text(_) | Token::Sign(_) =>
-            false,
-    }
-}
-
-fn has_unbuilt(tokens: &[Token]) -> bool
-    ensures { result ≡ list_any is_unbuilt tokens.now }
-{
-    tokens.iter().any(|token| is_unbuilt(token))
-}
-
-fn unbuilt_refusal(strict: bool, tokens: &[Token]) -> Option<ParseRefusal>
-    ensures { result ≡ unbuilt_refusal strict tokens.now }
-{
-    if strict && has_unbuilt(tokens) {
-        Some(ParseRefusal::NotBuilt)
-    } else {
-        None
-    }
-}
-
-/// The refusal for the tokens, where there is one. What isn't there yet is refused where `strict` says so.
-pub fn token_refusal(strict: bool, tokens: &[Token]) -> Option<ParseRefusal>
-    ensures { result ≡ token_refusal strict tokens.now }
+/// The refusal for the tokens, where there is one.
+pub fn token_refusal(tokens: &[Token]) -> Option<ParseRefusal>
+    ensures { result ≡ token_refusal tokens.now }
 {
     if has_large(tokens) {
         return Some(ParseRefusal::NumberTooLarge);
@@ -110,5 +76,5 @@ pub fn token_refusal(strict: bool, tokens: &[Token]) -> Option<ParseRefusal>
     if operator_count(tokens) > MAX_OPERATORS {
         return Some(ParseRefusal::TooComplex);
     }
-    unbuilt_refusal(strict, tokens)
+    None
 }

@@ -2,7 +2,7 @@
 ghost use Rattle.std.specs.Prelude.{◌≡◌, ℕ, List as Seq, true, false, IfOk, IfErr, length};
 ghost use Rattle.query_model.specs.declared.query.Query.{Query};
 ghost use Rattle.sql_grammar.specs.Names.{query_tree, Spells};
-ghost use Rattle.sql_text.specs.Refusals.{IsReadBy, IsReadFrom, IsRefusedBy, IsRefused, refusal_of};
+ghost use Rattle.sql_text.specs.Refusals.{IsReadFrom, IsRefused, refusal_of};
 
 use crate::limits::{MAX_TEXT, ParseRefusal, token_refusal};
 use crate::queries::query_at;
@@ -20,29 +20,13 @@ fn refusal_of(stop: Stop) -> ParseRefusal
     }
 }
 
-/// The query that spells the text, up to the boxes that it lies in. Refusals other than Memory come in the order of
-/// `ParseRefusal`, and NotBuilt before the Syntax of a text that no query spells.
+/// The query that spells the text, up to the boxes that it lies in. Refusals other than Memory come
+/// in the order of `ParseRefusal`.
 pub fn parse(alloc: Global, text: &[u8]) -> Result<Query, ParseRefusal>
     // What `Ok` means.
     ensures read { IfOk result (λ q. IsReadFrom q text.now) }
     // When each refusal comes.
     ensures refused { IfErr result (λ e. IsRefused e text.now) }
-{
-    parse_by(alloc, true, text)
-}
-
-/// As `parse`, but nothing is refused as NotBuilt: the whole grammar is read.
-pub fn parse_whole(alloc: Global, text: &[u8]) -> Result<Query, ParseRefusal>
-    ensures read { IfOk result (λ q. IsReadBy false q text.now) }
-    ensures refused { IfErr result (λ e. IsRefusedBy false e text.now) }
-{
-    parse_by(alloc, false, text)
-}
-
-// What isn't there yet is refused where `strict` says so.
-fn parse_by(alloc: Global, strict: bool, text: &[u8]) -> Result<Query, ParseRefusal>
-    ensures read { IfOk result (λ q. IsReadBy strict q text.now) }
-    ensures refused { IfErr result (λ e. IsRefusedBy strict e text.now) }
 {
     if text.len() > MAX_TEXT {
         return Err(ParseRefusal::TooLong);
@@ -52,7 +36,7 @@ fn parse_by(alloc: Global, strict: bool, text: &[u8]) -> Result<Query, ParseRefu
         Err(stop) => return Err(refusal_of(stop)),
     };
     let tokens = tokens.as_slice();
-    if let Some(refusal) = token_refusal(strict, tokens) {
+    if let Some(refusal) = token_refusal(tokens) {
         return Err(refusal);
     }
     match query_at(alloc, tokens, tokens.len()) {

@@ -1,19 +1,22 @@
 use Rattle.std.proofs.Common.{Some, sym, ap, subst, ◌∙◌, arith}
 use Rattle.sql_text.specs.declared.limits.ParseRefusal.{ParseRefusal}
-use Rattle.sql_text.specs.Refusals.{IsRefusedBy}
+use Rattle.sql_text.specs.Refusals.{IsRefused}
 use Rattle.sql_text.proofs.Readings.{is_read, is_refused}
-use Rattle.sql_text.proofs.texts.parse_by.Goals as goal
+use Rattle.sql_text.proofs.texts.parse.Goals as goal
 
 pub returns-in-Ok-query_at-clause-read : goal.returns-in-Ok-query_at-clause-read
 returns-in-Ok-query_at-clause-read c =
     let ts = c.as_slice-tokens.result.now in
     let are = c.in-Ok.ensures ∙ ap Some (sym c.as_slice-tokens.ensures.value) in
-    is_read c.args.strict c.in-Ok-query_at.query c.args.text.now ts (omega arith) are (sym c.in_default.ensures) c.in-Ok-query_at.ensures
+    is_read c.in-Ok-query_at.query c.args.text.now ts (omega arith) are (sym c.in_default.ensures)
+    c.in-Ok-query_at.ensures
 
 pub returns-clause-refused : goal.returns-clause-refused
 returns-clause-refused c =
     let ts = c.as_slice-tokens.result.now in
     let are = c.in-Ok.ensures ∙ ap Some (sym c.as_slice-tokens.ensures.value) in
     let e = c.in-Err-query_at.stop in
-    subst (λ (r : ParseRefusal). IsRefusedBy c.args.strict r c.args.text.now) (sym c.refusal_of-in-Err-query_at.ensures)
-    (is_refused c.args.strict e c.args.text.now ts (omega arith) are (sym c.in_default.ensures) c.in-Err-query_at.ensures)
+    subst (λ (r : ParseRefusal). IsRefused r c.args.text.now)
+    (sym c.refusal_of-in-Err-query_at.ensures)
+    (is_refused e c.args.text.now ts (omega arith) are (sym c.in_default.ensures)
+    c.in-Err-query_at.ensures)
