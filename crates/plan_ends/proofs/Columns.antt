@@ -1,7 +1,7 @@
 -- The columns of a table that a query names are those of the table that its plan reads, and its
 -- checked types are those of the rows that its items make.
-use Rattle.std.proofs.Common.{Bool, List, None, Option, Some, [], ap, append_assoc, ap₂, arith, bytes_eq, cond, false, filter, find, flat_map, length, length-append, map, not, option_map, refl, slice_get, slice_index_or, subst, suc, sym, true, zero, ℕ, ◌++◌, ◌+◌, ◌<◌, ◌==◌, ◌∙◌, ◌∷◌, ◌≡◌}
-use Rattle.plan_ends.proofs.Prelude.{AggCall, All, All-behind, All-cons, All-front, All-head, All-nil, All-tail, AreColumnsFrom, ArePlainItems, Checked, ColumnDecl, ColumnRef, ColumnType, EachWith, Expr, FromColumn, Grouped, Grouping, IsAnalysable, IsChecked, IsGrouping, IsPlacedItem, IsShape, IsTypedQuery, Item, ItemKind, Items, Listed, NamePair, OrderKey, Plain, Query, Schema, Shape, SortKey, Star, TableDecl, TableRef, accepted, all_fit, ambiguous_column, are_keys, bad_join_key, bad_order_key, bare_columns, both, call_type, calls_of, columns_if, every_column, expr_columns, expr_is_of_kind, expr_kind, first_name, first_of_all, from_columns, from_types, get_or_at, group_row_types, is_grouped, is_key_of, is_typed, item_columns, item_kind, item_names, join_pairs, key_place, known_type, length-map, list_all, listed, none_found, not_grouped, not_keys, operand_columns, operands_of, output_names, output_types, place_in, place_of, refusal_of, sort_key, star_name, table_columns, tells_each, too_wide, type_mismatch, type_of, types_declared, types_of, ungrouped_names, unknown_column, unknown_table, use_of, used_types, written}
+use Rattle.std.proofs.Common.{Bool, IfSome, List, None, Option, Some, [], ap, append_assoc, ap₂, arith, bytes_eq, cond, false, filter, find, flat_map, length, length-append, map, not, option_map, refl, slice_get, slice_index_or, subst, suc, sym, true, zero, ℕ, ◌++◌, ◌+◌, ◌<◌, ◌==◌, ◌∙◌, ◌∷◌, ◌||◌, ◌≡◌}
+use Rattle.plan_ends.proofs.Prelude.{AggCall, All, All-behind, All-cons, All-front, All-head, All-nil, All-tail, AreColumnsFrom, AreKeyPairs, ArePlainItems, BothOrNone, Checked, CheckedJoin, ColumnDecl, ColumnRef, ColumnType, EachWith, Expr, FromColumn, Grouped, Grouping, IsAnalysable, IsChecked, IsCheckedJoin, IsGrouping, IsPlacedItem, IsShape, IsTypedQuery, Item, ItemKind, Items, Join, KeyPair, Listed, NamePair, OrderKey, Plain, Query, Schema, Shape, SortKey, Star, TableDecl, TableRef, TableUse, accepted, append-nil, all_fit, ambiguous_column, are_keys, bad_join_key, bad_order_key, both, call_type, calls_of, columns_if, every_column, expr_columns, expr_is_of_kind, expr_kind, first_name, first_of_all, from_columns, from_types, get_or_at, group_row_types, holds_pairs, is_grouped, is_join_pair, is_key_of, is_typed, item_kind, item_names, join_spec, join_tables, joins, key_place, known_type, length-map, list_all, listed, map-append, meant_type, means, none_found, not_grouped, operands_of, output_names, output_types, pair_of, place_in, place_of, plain_type, refusal_of, same_known_type, same_type, sort_key, source_types, star_name, table_columns, tells_each, too_wide, type_mismatch, type_of, types_declared, types_of, ungrouped_names, unknown_column, unknown_table, use_of, used_types}
 use Rattle.chunk_data.specs.declared.typed_value.ColumnType.TheVariants as column
 use Rattle.query_model.specs.declared.query.ExprOf.TheVariants as expr
 use Rattle.query_model.specs.declared.query.ItemKind.TheVariants as kind
@@ -129,12 +129,150 @@ each-none [] h = All-nil (λ o. o ≡ None)
 each-none (None ∷ all) h = All-cons (λ o. o ≡ None) None all refl (each-none all h)
 each-none (Some x ∷ all) h = absurd cc
 
--- A query that is typed by the types of the rows that it reads. Its checked types are those of the
--- rows that its shape makes, which have the columns of its keys.
-pub record IsTypedSelect (types : List ColumnType) (c : Checked) : Type 0 where
-  pub typed : IsTypedQuery types c
-  pub made : c.types ≡ shape_types c.shape types
+-- ---- the pairs of a join
+
+plain-same : (t : ColumnType) → plain_type t ≡ t
+plain-same column.Int64 = refl
+plain-same column.UInt64 = refl
+plain-same column.Text = refl
+
+-- a column that a name means has a place and a type
+meant-at : (columns : List FromColumn) (c : ColumnRef) (t : ColumnType)
+    → meant_type columns c ≡ Some t
+    → (place_of (means c) columns < length (types_of columns))
+    × (slice_index_or (types_of columns) (place_of (means c) columns) column.Text ≡ t)
+meant-at [] c t e = absurd cc
+meant-at (x ∷ xs) c t e = go (means c x) e (meant-at xs c t)
+  where
+    place : ℕ
+    place = place_of (means c) xs
+
+    go : (b : Bool)
+        → option_map (λ (m : FromColumn). plain_type m.type) (cond b (Some x) (find (means c) xs))
+        ≡ Some t
+        → (meant_type xs c ≡ Some t → (place < length (types_of xs))
+        × (slice_index_or (types_of xs) place column.Text ≡ t))
+        → (cond b 0 (place + 1) < length (types_of (x ∷ xs)))
+        × (slice_index_or (types_of (x ∷ xs)) (cond b 0 (place + 1)) column.Text ≡ t)
+    go true e more =
+        let is : Some (plain_type x.type) ≡ Some t = e in
+        (omega arith, sym (plain-same x.type) ∙ cc)
+    go false e more =
+        let rest = more e in
+        let within = rest.0 in
+        let next : place + 1 ≡ suc place = omega arith in (
+          omega (arith, within),
+          ap (λ n. slice_index_or (types_of (x ∷ xs)) n column.Text) next ∙ rest.1,
+        )
+
+same-types : (a b : ColumnType) → same_type a b ≡ true → a ≡ b
+same-types column.Int64 column.Int64 e = refl
+same-types column.UInt64 column.UInt64 e = refl
+same-types column.Text column.Text e = refl
+same-types a b e = absurd cc
+
+-- a pair of places in two lists of columns that have one type
+abbrev IsPair : List ColumnType → List ColumnType → (left right : ℕ) → Type 0
+IsPair ls rs left right = (left < length ls) × (right < length rs)
+    × (slice_index_or ls left column.Text ≡ slice_index_or rs right column.Text)
+
+pair-fits : (left right : List FromColumn) (a b : ColumnRef) → joins left right a b ≡ true
+    → IsPair (types_of left) (types_of right) (place_of (means a) left) (place_of (means b) right)
+pair-fits left right a b e = go (meant_type left a) (meant_type right b) refl refl e
+  where
+    go : (s t : Option ColumnType) → meant_type left a ≡ s → meant_type right b ≡ t
+        → same_known_type s t ≡ true
+        → IsPair (types_of left) (types_of right) (place_of (means a) left)
+        (place_of (means b) right)
+    go (Some s) (Some t) f g e =
+        let l = meant-at left a s f in
+        let r = meant-at right b t g in
+        (l.0, r.0, l.1 ∙ same-types s t e ∙ sym r.1)
+    go None t f g e = absurd cc
+    go (Some s) None f g e = absurd cc
+
+-- a pair fits, whichever way it is written
+pair-is : (left right : List FromColumn) (p : NamePair) → is_join_pair left right p ≡ true
+    → IsPair (types_of left) (types_of right) (pair_of left right p).left
+    (pair_of left right p).right
+pair-is left right p h = go (joins left right p.left p.right) refl h
+  where
+    Fits : KeyPair → Type 0
+    Fits k = IsPair (types_of left) (types_of right) k.left k.right
+
+    placed : ColumnRef → ColumnRef → KeyPair
+    placed a b = record { left = place_of (means a) left; right = place_of (means b) right }
+
+    go : (b : Bool) → joins left right p.left p.right ≡ b
+        → (b || joins left right p.right p.left) ≡ true
+        → Fits (cond b (placed p.left p.right) (placed p.right p.left))
+    go true e h = pair-fits left right p.left p.right e
+    go false e h = pair-fits left right p.right p.left h
+
+pairs-fit : (left right : List FromColumn) (pairs : List NamePair)
+    → list_all (is_join_pair left right) pairs ≡ true
+    → All (λ (p : KeyPair). IsPair (types_of left) (types_of right) p.left p.right)
+    (map (pair_of left right) pairs)
+pairs-fit left right [] e =
+    All-nil (λ (p : KeyPair). IsPair (types_of left) (types_of right) p.left p.right)
+pairs-fit left right (p ∷ pairs) e =
+    let each = both (is_join_pair left right p) (list_all (is_join_pair left right) pairs) e in
+    All-cons (λ (p : KeyPair). IsPair (types_of left) (types_of right) p.left p.right)
+    (pair_of left right p) (map (pair_of left right) pairs) (pair-is left right p each.0)
+    (pairs-fit left right pairs each.1)
+
+-- A query that is typed by the types of the rows that it reads of these tables. Its checked types
+-- are those of the rows that its shape makes, which have the columns of its keys. The pairs of a
+-- join have columns of either table.
+pub record IsTypedSelect (tables : List TableDecl) (c : Checked) : Type 0 where
+  pub typed : IsTypedQuery (source_types tables c.from c.join) c
+  pub made : c.types ≡ shape_types c.shape (source_types tables c.from c.join)
   pub keys : All (λ (key : SortKey). key.column < length c.types) c.order
+  pub pairs : IfSome c.join (λ (j : CheckedJoin). AreKeyPairs (join_spec tables 0 c.from j))
+
+-- the types that are read, and the pairs of a join, by the tables that a query names
+record AreRead (q : Query) (schemas : List Schema) (tables : List TableDecl) (from : TableUse)
+    (a : Option Join) (b : Option CheckedJoin) : Type 0 where
+  pub types : types_of (flat_map (table_columns schemas) (q.from ∷ join_tables a))
+      ≡ source_types tables from b
+  pub pairs : holds_pairs q schemas a ≡ true
+      → IfSome b (λ (j : CheckedJoin). AreKeyPairs (join_spec tables 0 from j))
+
+read-types : (q : Query) (schemas : List Schema) (tables : List TableDecl)
+    → schemas ≡ map (λ (d : TableDecl). d.schema) tables → (from : TableUse)
+    → from ≡ use_of schemas q.from → (a : Option Join) (b : Option CheckedJoin)
+    → BothOrNone (IsCheckedJoin q schemas) a b → AreRead q schemas tables from a b
+read-types q schemas tables are from from_is a b both = go a b both
+  where
+    one : (t : TableRef) (u : TableUse) → u ≡ use_of schemas t
+        → types_of (table_columns schemas t) ≡ used_types tables u
+    one t u is =
+        ap (λ s. types_of (table_columns s t)) are ∙ types_of_table tables t
+        ∙ ap (λ s. used_types tables (use_of s t)) (sym are) ∙ ap (used_types tables) (sym is)
+
+    go : (a : Option Join) (b : Option CheckedJoin) → BothOrNone (IsCheckedJoin q schemas) a b
+        → AreRead q schemas tables from a b
+    go None None h = record {
+      types = ap types_of (append-nil (table_columns schemas q.from)) ∙ one q.from from from_is;
+      pairs = λ holds. tt;
+    }
+    go None (Some j) h = absurd h
+    go (Some x) None h = absurd h
+    go (Some x) (Some j) h =
+        let left : List FromColumn = table_columns schemas q.from in
+        let right : List FromColumn = table_columns schemas x.table in
+        let l = one q.from from from_is in
+        let r = one x.table j.table h.0 in
+        record {
+          types = ap (λ l. types_of (left ++ l)) (append-nil right)
+              ∙ map-append (λ (c : FromColumn). c.type) left right
+              ∙ ap₂ (λ a b. a ++ b) l r;
+          pairs = λ holds. subst (λ ls. All (λ (p : KeyPair). IsPair ls
+              (used_types tables j.table) p.left p.right) j.pairs) l
+              (subst (λ rs. All (λ (p : KeyPair). IsPair (types_of left) rs p.left p.right) j.pairs)
+              r (subst (λ ps. All (λ (p : KeyPair). IsPair (types_of left) (types_of right) p.left
+              p.right) ps) (sym h.1) (pairs-fit left right x.pairs holds)));
+        }
 
 module _ (q : Query) (schemas : List Schema) (c : Checked) (none : refusal_of q schemas ≡ None)
     (is : IsChecked q schemas c) where
@@ -150,12 +288,14 @@ module _ (q : Query) (schemas : List Schema) (c : Checked) (none : refusal_of q 
   abbrev is_no_name : OrderKey → Bool
   is_no_name key = not (length (filter (bytes_eq key.name) names) == 1)
 
-  well-ordered : bad_order_key q schemas ≡ None
+  -- nothing refuses the pairs of the join, or the keys of the order
+  well-joined-ordered : (bad_join_key q schemas ≡ None) × (bad_order_key q schemas ≡ None)
   unfolding refusal_of
-  well-ordered =
-      each-none (unknown_table q schemas ∷ unknown_column q schemas ∷ ambiguous_column q schemas
-      ∷ bad_join_key q schemas ∷ type_mismatch q schemas ∷ not_grouped q schemas
-      ∷ bad_order_key q schemas ∷ too_wide q schemas ∷ []) none 6 None (omega arith)
+  well-joined-ordered =
+      let all = each-none (unknown_table q schemas ∷ unknown_column q schemas
+      ∷ ambiguous_column q schemas ∷ bad_join_key q schemas ∷ type_mismatch q schemas
+      ∷ not_grouped q schemas ∷ bad_order_key q schemas ∷ too_wide q schemas ∷ []) none in
+      (all 3 None (omega arith), all 6 None (omega arith))
 
   keys-within : (keys : List OrderKey) → All (λ key. is_no_name key ≡ false) keys
       → All Within (map (sort_key names) keys)
@@ -201,15 +341,24 @@ module _ (q : Query) (schemas : List Schema) (c : Checked) (none : refusal_of q 
       no-star Star keys tested h = absurd cc
       no-star (Listed items) keys tested h = refl
 
-  pub typed-select : IsAnalysable q → IsTypedQuery (from_types q schemas) c
-      → IsTypedSelect (from_types q schemas) c
-  typed-select can query = record {
-    typed = query;
-    made = is.types ∙ made (is_grouped q) refl c.shape is.shape;
-    keys = rw is.order (keys-within q.order (none_found is_no_name
-        (λ (key : OrderKey). refuse.BadOrderKey key.name) q.order well-ordered));
-  }
+  pub typed-select : (tables : List TableDecl)
+      → schemas ≡ map (λ (d : TableDecl). d.schema) tables → IsAnalysable q
+      → IsTypedQuery (from_types q schemas) c → IsTypedSelect tables c
+  typed-select tables are can query =
+      let t = read-types q schemas tables are c.from is.from q.join c.join is.join in
+      record {
+        typed = subst (λ types. IsTypedQuery types c) t.types query;
+        made = is.types ∙ made (is_grouped q) refl c.shape is.shape
+            ∙ ap (shape_types c.shape) t.types;
+        keys = rw is.order (keys-within q.order (none_found is_no_name
+            (λ (key : OrderKey). refuse.BadOrderKey key.name) q.order well-joined-ordered.1));
+        pairs = t.pairs (holds-if (holds_pairs q schemas q.join) well-joined-ordered.0);
+      }
     where
+      holds-if : (b : Bool) → cond b None (Some refuse.BadJoinKey) ≡ None → b ≡ true
+      holds-if true e = refl
+      holds-if false e = absurd cc
+
       made : (b : Bool) → is_grouped q ≡ b → (s : Shape) → IsShape q columns b s
           → output_types q.items columns ≡ shape_types s (from_types q schemas)
       made false e (Plain items) shape =

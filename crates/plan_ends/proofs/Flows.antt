@@ -3,7 +3,6 @@ use Rattle.plan_ends.proofs.Prelude.{Checked, ColumnType, Cond, Database, DraftN
 use Rattle.std.proofs.Common.{Bool, IfSome, List, None, Option, Some, [], ap, ap₂, arith, cond, false, length, length-append, map, refl, suc, sym, true, ℕ, ◌++◌, ◌+◌, ◌∙◌, ◌∷◌, ◌≡◌}
 use Rattle.query_model.specs.declared.processor_spec.Kind.TheVariants as kind
 use Rattle.query_model.specs.declared.processor_spec.Spec.TheVariants as spec
-use Rattle.plan_ends.specs.Ended.{IsSimple}
 use Rattle.plan_ends.proofs.NodeKinds.{kind-same}
 
 -- ---- lists of nodes
@@ -124,7 +123,7 @@ module _ (k : Kind) (types made : List ColumnType) (n chunk_rows : ℕ) (keys : 
         ap (sort_pulls k order) out ∙ sorts k made chunk_rows keys m,
       )
 
--- ---- plans of one table
+-- ---- plans
 
 -- a run of the plan: the rows that its nodes pulled, and those that were collected
 pub record HasFlowed (p : SelectPlan) (parts : Parts) (nodes : List DraftNode)
@@ -165,26 +164,29 @@ module _ (p : SelectPlan) (parts : Parts) (nodes : List DraftNode) (f : NodePort
       omega (arith, all, none)
 
   -- Where there is no LIMIT, each kind pulled its flow of the query of which these are the rows.
-  module _ (simple : IsSimple p) (unlimited : p.limit ≡ None) (q : Checked) (db : Database)
-      (is : IsPlanOf q db parts p) (join : q.join ≡ None) (made : List ColumnType) (chunk_rows : ℕ)
+  module _ (unlimited : p.limit ≡ None) (q : Checked) (db : Database) (is : IsPlanOf q db parts p)
+      (joins : (k : Kind) → join_pulls k parts p.sources p.join
+      ≡ cond (same_kind kind.HashJoin k) (rows_joined q.join db (used_table db q.from).rows) 0)
+      (made : List ColumnType) (chunk_rows : ℕ)
       (order : p.order ≡ order_of made chunk_rows q.order) where
     abbrev types : List ColumnType
     types = (source_table q db).types
 
     told-pulled : (k : Kind) → IsTold k → pulled_rows k 0 nodes f
-        ≡ cond (same_kind kind.Filter k) (rows_tested q.filter (source_rows q db)) 0
+        ≡ cond (same_kind kind.HashJoin k) (rows_joined q.join db (used_table db q.from).rows) 0
+        + cond (same_kind kind.Filter k) (rows_tested q.filter (source_rows q db)) 0
         + shape_flow k types made is.chunk_rows chunk_rows q.order (filtered_rows q db) q.shape
         + cond (same_kind kind.Collect k) (length rows) 0
     told-pulled k told =
         let all = all-pulled k in
         let plan = h.pulled k unlimited told in
-        let none = ap (join_pulls k parts p.sources) simple.one_table in
+        let joined = joins k in
         let over = ap₂ (λ (c : Option Cond) (l : List Row). filter_pulls k c (length l)
         + shape_pulls k p.shape p.order (rows_where c l)) is.filter is.read in
         let shape = ap₂ (λ s o. shape_pulls k s o (filtered_rows q db)) is.shape order
         ∙ shape-told k types made is.chunk_rows chunk_rows q.order (filtered_rows q db) q.shape
         is.calls in
-        omega (arith, all, plan, none, over, tests k q.filter (source_rows q db), shape)
+        omega (arith, all, plan, joined, over, tests k q.filter (source_rows q db), shape)
 
     pub flow-pulled : (k : Kind)
         → IfSome (flow k q db rows) (λ n. pulled_rows k 0 nodes f ≡ n)
@@ -196,5 +198,4 @@ module _ (p : SelectPlan) (parts : Parts) (nodes : List DraftNode) (f : NodePort
     flow-pulled kind.Limit = tt
     flow-pulled k =
         let all = told-pulled k (record { no_resize = refl; no_merge = refl }) in
-        let joined = ap (λ j. rows_joined j db (used_table db q.from).rows) join in
-        omega (arith, all, joined)
+        omega (arith, all)

@@ -3,7 +3,7 @@ pub mod Pulls
 pub mod Pulled
 pub mod KindLaws
 pub mod Answers
-pub mod SimplePlans
+pub mod KnownKinds
 pub mod NodeKinds
 pub mod Flows
 pub mod Columns
@@ -14,5 +14,6 @@ pub mod Queries
 pub mod ResizeLaws
 pub mod SortLaws
 pub mod GroupLaws
+pub mod JoinLaws
 pub mod ShapeTypes
 pub mod PickTypes

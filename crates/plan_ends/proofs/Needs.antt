@@ -1,12 +1,17 @@
--- How many boxes a query of one table needs.
-use Rattle.std.proofs.Common.{Bool, List, None, Option, Some, [], ap, ap₂, arith, cond, false, is_some, refl, slice_get, true, ℕ, ◌+◌, ◌∷◌, ◌≡◌, ◌≤◌}
-use Rattle.plan_ends.proofs.Prelude.{Checked, Cond, Declared, Grouped, IsPlannable, Kind, NamedPaths, Numbers, Paths, Plain, Shape, SortKey, Span, TableDecl, TableUse, UsesNoList, by-paths, crowded, crowded_decl, few-paths, first_crowded, having_need, if_declared, if_filtered, if_grouped, if_joined, if_limited, if_ordered, if_plain, if_unordered, join_use, list_sources_need, need, or_else, part_sources_need, sorts_need, sum_by-cons, table_need, used_tables}
+-- How many boxes a query needs, by its tables and by which clauses it has.
+use Rattle.std.proofs.Common.{Bool, List, None, Option, Some, [], ap, ap₂, arith, cond, false, is_some, length, refl, slice_get, sum_by, true, ℕ, ◌*◌, ◌+◌, ◌∷◌, ◌≡◌, ◌≤◌}
+use Rattle.plan_ends.proofs.Prelude.{AllByRecursion, Checked, CheckedJoin, Cond, Declared, Grouped, Kind, Numbers, PartsDecl, Paths, Plain, Shape, SortKey, Span, TableDecl, TableUse, UsesNoList, by-paths, crowded, crowded_decl, few-paths, few-uses, first_crowded, having_need, if_declared, if_filtered, if_grouped, if_joined, if_limited, if_ordered, if_plain, if_unordered, join_use, list_sources_need, need, part_sources_need, sorts_need, sum_by-cons, table_need, used_tables}
 use Rattle.query_model.specs.declared.processor_spec.Kind.TheVariants as kind
 
 -- whether there are any
 abbrev pub are_some : {A : Type 0} → List A → Bool
 are_some [] = false
 are_some (x ∷ xs) = true
+
+-- whether there is a second one
+abbrev pub are_two : {A : Type 0} → List A → Bool
+are_two [] = false
+are_two (x ∷ xs) = are_some xs
 
 -- whether there are groups
 abbrev pub are_grouped : Shape → Bool
@@ -18,24 +23,29 @@ abbrev pub are_tested : Shape → Bool
 are_tested (Plain items) = false
 are_tested (Grouped g) = is_some g.having
 
--- How many boxes of a kind a query of one table needs.
-abbrev pub simple_need : List TableDecl → (lanes : ℕ) → TableUse
-    → (filtered grouped tested ordered limited : Bool) → Kind → ℕ
-simple_need tables n u f g h o l kind.Csv = table_need part_sources_need 0 tables u
-simple_need tables n u f g h o l kind.List = table_need list_sources_need 0 tables u
-simple_need tables n u f g h o l kind.Numbers = table_need (λ decl. 0) 1 tables u
-simple_need tables n u f g h o l kind.Filter = cond f n 0 + cond h 1 0
-simple_need tables n u f g h o l kind.Expression = n + cond g 1 0
-simple_need tables n u f g h o l kind.Resize = 1 + cond g 0 (cond o 0 1)
-simple_need tables n u f g h o l kind.PartialAggregate = cond g n 0
-simple_need tables n u f g h o l kind.MergeAggregate = cond g 1 0
-simple_need tables n u f g h o l kind.HashJoin = 0
-simple_need tables n u f g h o l kind.Sort = cond o (cond g 1 n) 0
-simple_need tables n u f g h o l kind.MergeSorted = cond o (cond g 0 1) 0
-simple_need tables n u f g h o l kind.Limit = cond l 1 0
-simple_need tables n u f g h o l kind.Collect = 1
+-- what the used tables need together
+abbrev pub uses_need : (PartsDecl → ℕ) → ℕ → List TableDecl → List TableUse → ℕ
+uses_need f n tables us = sum_by (table_need f n tables) us
 
-module _ (tables : List TableDecl) (lanes : ℕ) (q : Checked) (p : IsPlannable q tables) where
+-- How many boxes of a kind a query needs that uses these tables, with a second table where some are
+-- joined.
+abbrev pub clause_need : List TableDecl → (lanes : ℕ) → List TableUse
+    → (joined filtered grouped tested ordered limited : Bool) → Kind → ℕ
+clause_need tables n us j f g h o l kind.Csv = uses_need part_sources_need 0 tables us
+clause_need tables n us j f g h o l kind.List = uses_need list_sources_need 0 tables us
+clause_need tables n us j f g h o l kind.Numbers = uses_need (λ decl. 0) 1 tables us
+clause_need tables n us j f g h o l kind.Filter = cond f n 0 + cond h 1 0
+clause_need tables n us j f g h o l kind.Expression = n + cond g 1 0
+clause_need tables n us j f g h o l kind.Resize = cond j 3 1 + cond g 0 (cond o 0 1)
+clause_need tables n us j f g h o l kind.PartialAggregate = cond g n 0
+clause_need tables n us j f g h o l kind.MergeAggregate = cond g 1 0
+clause_need tables n us j f g h o l kind.HashJoin = cond j 1 0
+clause_need tables n us j f g h o l kind.Sort = cond o (cond g 1 n) 0
+clause_need tables n us j f g h o l kind.MergeSorted = cond o (cond g 0 1) 0
+clause_need tables n us j f g h o l kind.Limit = cond l 1 0
+clause_need tables n us j f g h o l kind.Collect = 1
+
+module _ (tables : List TableDecl) (lanes : ℕ) (q : Checked) where
   filters : (o : Option Cond) (n : ℕ) → if_filtered o n ≡ cond (is_some o) n 0
   filters None n = refl
   filters (Some c) n = refl
@@ -70,34 +80,34 @@ module _ (tables : List TableDecl) (lanes : ℕ) (q : Checked) (p : IsPlannable 
   resizes (Plain items) [] = refl
   resizes s keys = refl
 
-  pub need_simple : (k : Kind)
+  joins : (o : Option CheckedJoin) (m n : ℕ)
+      → if_joined o m n ≡ cond (are_two (q.from ∷ join_use o)) m n
+  joins None m n = refl
+  joins (Some j) m n = refl
+
+  pub need_by_clauses : (k : Kind)
       → need q tables lanes k
-      ≡ simple_need tables lanes q.from (is_some q.filter) (are_grouped q.shape)
-      (are_tested q.shape) (are_some q.order) (is_some q.limit) k
-  need_simple kind.Filter = ap₂ (λ a b. a + b) (filters q.filter lanes) (tests q.shape)
-  need_simple kind.Expression = ap (λ n. lanes + n) (groups q.shape 1)
-  need_simple kind.Resize =
-      ap₂ (λ j n. if_joined j 3 1 + n) p.one_table (resizes q.shape q.order)
-  need_simple kind.PartialAggregate = groups q.shape lanes
-  need_simple kind.MergeAggregate = groups q.shape 1
-  need_simple kind.Sort = sorts q.shape q.order
-  need_simple kind.MergeSorted = merges q.shape q.order
-  need_simple kind.Limit = limits q.limit
-  need_simple kind.Collect = refl
-  need_simple k = simp (p.one_table, sum_by-cons) (omega arith)
+      ≡ clause_need tables lanes (used_tables q) (are_two (used_tables q)) (is_some q.filter)
+      (are_grouped q.shape) (are_tested q.shape) (are_some q.order) (is_some q.limit) k
+  need_by_clauses kind.Filter = ap₂ (λ a b. a + b) (filters q.filter lanes) (tests q.shape)
+  need_by_clauses kind.Expression = ap (λ n. lanes + n) (groups q.shape 1)
+  need_by_clauses kind.Resize =
+      ap₂ (λ a b. a + b) (joins q.join 3 1) (resizes q.shape q.order)
+  need_by_clauses kind.PartialAggregate = groups q.shape lanes
+  need_by_clauses kind.MergeAggregate = groups q.shape 1
+  need_by_clauses kind.HashJoin = joins q.join 1 0
+  need_by_clauses kind.Sort = sorts q.shape q.order
+  need_by_clauses kind.MergeSorted = merges q.shape q.order
+  need_by_clauses kind.Limit = limits q.limit
+  need_by_clauses k = refl
 
--- where no used table names too many paths, that of FROM doesn't
-pub from_few : (tables : List TableDecl) (q : Checked)
-    → first_crowded tables (used_tables q) ≡ None → crowded tables q.from ≡ None
-from_few tables q e = go (crowded tables q.from) e
-  where
-    go : (o : Option NamedPaths) → or_else o (first_crowded tables (join_use q.join)) ≡ None
-        → o ≡ None
-    go None e = refl
-    go (Some n) e = absurd cc
+-- how many sources the used tables need: parts, where none is a list, and numbers
+pub record AreFewSources (tables : List TableDecl) (us : List TableUse) : Type 0 where
+  pub parts : uses_need part_sources_need 0 tables us ≤ 32 * length us
+  pub lists : uses_need list_sources_need 0 tables us ≡ 0
+  pub numbers : uses_need (λ decl. 0) 1 tables us ≤ length us
 
--- how many sources a used table needs: parts, where it is no list, and numbers
-pub source_bounds : (tables : List TableDecl) (u : TableUse) → UsesNoList tables u
+source_bounds : (tables : List TableDecl) (u : TableUse) → UsesNoList tables u
     → crowded tables u ≡ None → (table_need part_sources_need 0 tables u ≤ 32)
     × (table_need list_sources_need 0 tables u ≡ 0) × (table_need (λ decl. 0) 1 tables u ≤ 1)
 source_bounds tables (Numbers n) h few = (omega arith, refl, omega arith)
@@ -110,3 +120,20 @@ source_bounds tables (Declared t) h few =
       refl,
       omega arith,
     )) (slice_get tables t) h few
+
+pub few_sources : (tables : List TableDecl) (us : List TableUse)
+    → AllByRecursion (UsesNoList tables) us → first_crowded tables us ≡ None
+    → AreFewSources tables us
+few_sources tables [] h few =
+    record { parts = omega arith; lists = refl; numbers = omega arith }
+few_sources tables (u ∷ us) h few =
+    let here = source_bounds tables u h.0 (few-uses tables u us few).0 in
+    let rest = few_sources tables us h.1 (few-uses tables u us few).1 in
+    let parts = sum_by-cons (table_need part_sources_need 0 tables) u us in
+    let lists = sum_by-cons (table_need list_sources_need 0 tables) u us in
+    let numbers = sum_by-cons (table_need (λ decl. 0) 1 tables) u us in
+    record {
+      parts = omega (arith, here.0, rest.parts, parts);
+      lists = omega (arith, here.1, rest.lists, lists);
+      numbers = omega (arith, here.2, rest.numbers, numbers);
+    }

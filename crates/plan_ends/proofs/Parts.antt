@@ -1,6 +1,6 @@
 -- The parts that the sources of a used table read.
-use Rattle.std.proofs.Common.{Bool, List, None, Option, Some, [], ap, arith, false, is_none, is_some, refl, slice_get, suc, true, ℕ, ◌++◌, ◌+◌, ◌∙◌, ◌∷◌, ◌≡◌}
-use Rattle.plan_ends.proofs.Prelude.{All, All-cons, All-nil, AllByRecursion, BadPlace, Contains, Contains-append_left, Contains-append_right, Declared, Files, IsValidPart, IsValidUsed, Numbers, PartSpec, Paths, Reading, TableDecl, TableUse, UsedPart, UsesNoList, all_valid, and_parts, bad_place, bad_place_in, both_ways, by-paths, declared_sources, file_bytes, numbered_parts, part_records, part_spec, parts_declared, parts_used, path_sources, reading_of, table_sources}
+use Rattle.std.proofs.Common.{Bool, IfSome, List, None, Option, Some, [], ap, arith, false, flat_map, is_none, is_some, refl, slice_get, suc, true, ℕ, ◌++◌, ◌+◌, ◌∙◌, ◌∷◌, ◌≡◌}
+use Rattle.plan_ends.proofs.Prelude.{All, All-append, All-cons, All-nil, AllByRecursion, BadPlace, CheckedJoin, Contains, Contains-append_left, Contains-append_right, Declared, Files, IsValidPart, IsValidUsed, Numbers, PartSpec, Parts, Paths, PlanJoin, Reading, Spec, TableDecl, TableUse, UsedPart, UsesNoList, all_valid, and_parts, bad_place, bad_place_in, both_ways, by-paths, declared_sources, file_bytes, join_of, join_use, join_valid, numbered_parts, part_records, part_spec, parts_declared, parts_used, path_sources, read_valid, reading_of, table_sources}
 use Rattle.plan_ends.specs.Ended.{PartHas, part_in, parts_of, used_part}
 
 -- ---- the parts that are read
@@ -54,6 +54,19 @@ table-parts tables header rows used (Declared t) no_list among =
       among = λ files. among files (used_part part) m;
     })) (slice_get tables t) no_list refl among
 
+-- and so do those of a joined table
+pub joined-parts : (tables : List TableDecl) (header : Bool) (rows : ℕ)
+    (used : Files → List UsedPart) (from : TableUse) (j : Option CheckedJoin)
+    → AllByRecursion (UsesNoList tables) (join_use j)
+    → ((files : Files) (p : UsedPart) → Contains (flat_map (parts_used files tables) (join_use j)) p
+    → Contains (used files) p)
+    → IfSome (join_of tables header rows from j)
+    (λ (j : PlanJoin). AllByRecursion (PartHas (IsPartOf header tables used)) j.sources)
+joined-parts tables header rows used from None no_list among = tt
+joined-parts tables header rows used from (Some j) no_list among =
+    table-parts tables header rows used j.table no_list.0
+    (λ files p m. among files p (in-front p (parts_used files tables j.table) [] m))
+
 -- ---- valid parts
 
 -- a part that gives all its rows is there and valid
@@ -100,3 +113,20 @@ table-valid tables header rows files (Declared t) h e =
     (λ schema paths. paths-valid
     (reading_of header rows t (record { schema = schema; parts = Paths paths })) 1 paths files)
     (slice_get tables t) h e
+
+-- where all sources of a joined table are valid, its parts are
+pub joined-valid : (tables : List TableDecl) (header : Bool) (rows : ℕ) (files : Files)
+    (from : TableUse) (j : Option CheckedJoin) → AllByRecursion (UsesNoList tables) (join_use j)
+    → join_valid (parts_of files) (join_of tables header rows from j) ≡ true
+    → All (IsValidUsed header files) (flat_map (parts_used files tables) (join_use j))
+joined-valid tables header rows files from None h e = All-nil (IsValidUsed header files)
+joined-valid tables header rows files from (Some j) h e =
+    All-append (IsValidUsed header files) (parts_used files tables j.table) []
+    (table-valid tables header rows files j.table h.0 e) (All-nil (IsValidUsed header files))
+
+-- where all that is read is valid, both tables are
+pub both-valid : (parts : Parts) (sources : List Spec) (j : Option PlanJoin)
+    → read_valid parts sources j ≡ true
+    → (all_valid parts sources ≡ true) × (join_valid parts j ≡ true)
+both-valid parts sources None e = (e, refl)
+both-valid parts sources (Some j) e = and_parts _ _ e

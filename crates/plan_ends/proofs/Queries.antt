@@ -1,16 +1,16 @@
 -- At the end of a run of a query's plan the collector has an answer of the query, and its boxes
 -- pulled their flow.
-use Rattle.std.proofs.Common.{Bool, IfSome, List, None, Option, Some, [], ap, ap₂, arith, flat_map, get_or, inl, inr, length, map, refl, slice_get, subst, suc, sym, true, ℕ, ◌++◌, ◌+◌, ◌<◌, ◌∙◌, ◌∷◌, ◌≡◌, ◌≤◌, ◌⊎◌}
-use Rattle.plan_ends.proofs.Prelude.{All, AllByRecursion, AllTyped, BoxPicture, Checked, ColumnType, Database, Declared, DraftNode, Files, HasCalls, IsAnswer, IsCut, IsPlan, IsPlanOf, IsPlannable, IsSmall, IsSource, JoinsSources, Kind, NodePort, Numbers, OneType, PartSpec, Paths, Reading, SelectPlan, SortKey, Spec, Stream, Table, TableDecl, TableUse, UsesNoList, append-nil, by-paths, chunk_rows, database, declared_sources, declared_table, file_bytes, filtered_rows, flow, forms, get_or-map, get_or_past, join_of, joined_table, length-map, order_of, output_rows, part_rows, part_spec, path_sources, plan-needs, plan_keys, plan_nodes, plan_rows, plan_valid, plans-answer, pulled_rows, query-answers, read_rows, reading_of, rows_in, rows_where, select_plan, shape-selects, shape_of, shape_rows, slice_get_cases, source_table, source_types, sources_rows, table_sources, types_declared, used_table, used_types}
+use Rattle.std.proofs.Common.{Bool, IfSome, List, None, Option, Some, [], ap, ap₂, arith, cond, flat_map, get_or, inl, inr, length, map, refl, slice_get, subst, suc, sym, true, ℕ, ◌++◌, ◌+◌, ◌<◌, ◌∙◌, ◌∷◌, ◌≡◌, ◌≤◌, ◌⊎◌}
+use Rattle.plan_ends.proofs.Prelude.{All, AllByRecursion, AllTyped, AreKeyPairs, BoxPicture, Checked, CheckedJoin, ColumnType, Database, Declared, DraftNode, Files, HasCalls, IsAnswer, IsCut, IsPlan, IsPlanOf, IsPlannable, IsSmall, IsSource, IsTypedFilter, IsTypedShape, JoinsSources, Kind, NodePort, Numbers, OneType, PartSpec, Paths, Reading, SelectPlan, SortKey, Spec, Stream, Table, TableDecl, TableUse, UsesNoList, append-nil, by-paths, chunk_rows, database, declared_sources, declared_table, file_bytes, filtered_rows, flow, forms, get_or-map, get_or_past, join_of, join_pulls, join_spec, join_use, joined_rows, joined_table, length-map, none-of, order_of, output_rows, part_rows, part_spec, path_sources, plan-needs, plan_keys, plan_nodes, plan_rows, plan_valid, plans-answer, pulled_rows, query-answers, read_rows, reading_of, rows_in, rows_joined, rows_where, same_kind, select_plan, shape-selects, shape_of, shape_rows, slice_get_cases, source_table, source_types, sources_rows, table_sources, types_declared, used_table, used_types}
 use Rattle.query_model.specs.declared.processor_spec.Kind.TheVariants as kind
 use Rattle.query_model.specs.declared.processor_spec.Spec.TheVariants as spec
-use Rattle.plan_ends.specs.Ended.{part_in, parts_of, pulled_at, pushed_at, HasEnded, IsSimple}
+use Rattle.plan_ends.specs.Ended.{part_in, parts_of, pulled_at, pushed_at, HasEnded}
 use Rattle.plan_ends.proofs.Answers.{plan-run, PlanRun}
 use Rattle.plan_ends.proofs.Columns.{IsTypedSelect}
 use Rattle.plan_ends.proofs.Flows.{HasFlowed, collector-pulled, flow-pulled}
-use Rattle.plan_ends.proofs.SimplePlans.{simple-ready}
+use Rattle.plan_ends.proofs.KnownKinds.{plan-ready}
 use Rattle.plan_ends.proofs.ShapeTypes.{has-calls, shape_types}
-use Rattle.plan_ends.proofs.TypedPlans.{FitsOrdering, simple-typed}
+use Rattle.plan_ends.proofs.TypedPlans.{FitsOrdering, IsTypedJoin, plan-typed, read_types}
 
 -- ---- tables
 
@@ -103,66 +103,113 @@ each-source P tables header rows (Numbers n) h csv num = (num n refl, tt)
 
 -- ---- the plan of a query
 
-plan-of : (q : Checked) (tables : List TableDecl) (lanes rows : ℕ) (header : Bool) (files : Files)
-    → IsPlannable q tables → HasCalls q.shape
-    → IsPlanOf q (database header files tables) (parts_of files)
-    (select_plan q tables lanes rows header)
-plan-of q tables lanes rows header files p calls =
-    let db : Database = database header files tables in
-    let table : source_table q db ≡ used_table db q.from =
-    ap (λ j. joined_table j db (used_table db q.from)) p.one_table in
-    let types : source_types tables q.from q.join ≡ (source_table q db).types =
-    ap (source_types tables q.from) p.one_table ∙ types-used header files tables q.from
-    ∙ ap (λ (z : Table). z.types) (sym table) in
-    record {
+module _ (q : Checked) (tables : List TableDecl) (lanes rows : ℕ) (header : Bool) (files : Files)
+  where
+    abbrev db : Database
+    db = database header files tables
+
+    abbrev left : Table
+    left = used_table db q.from
+
+    abbrev sources : List Spec
+    sources = table_sources tables header rows q.from
+
+    -- what is read of the tables is the rows of FROM, with the columns' types
+    types-read : (j : Option CheckedJoin)
+        → source_types tables q.from j ≡ (joined_table j db left).types
+    types-read None = types-used header files tables q.from
+    types-read (Some j) = ap₂ (λ l r. l ++ r) (types-used header files tables q.from)
+        (types-used header files tables j.table)
+
+    rows-read : (j : Option CheckedJoin) → AllByRecursion (UsesNoList tables) (q.from ∷ join_use j)
+        → read_rows (parts_of files) sources (join_of tables header rows q.from j)
+        ≡ (joined_table j db left).rows
+    rows-read None p = rows-used header files tables rows q.from p.0
+    rows-read (Some j) p = ap₂ (joined_rows j.pairs) (rows-used header files tables rows q.from p.0)
+        (rows-used header files tables rows j.table p.1.0)
+
+    -- a join pulls the rows of both tables
+    join-pulled : (k : Kind) (j : Option CheckedJoin)
+        → AllByRecursion (UsesNoList tables) (q.from ∷ join_use j)
+        → join_pulls k (parts_of files) sources (join_of tables header rows q.from j)
+        ≡ cond (same_kind kind.HashJoin k) (rows_joined j db left.rows) 0
+    join-pulled k None p = sym (none-of (same_kind kind.HashJoin k))
+    join-pulled k (Some j) p =
+        ap₂ (λ l r. cond (same_kind kind.HashJoin k) (length l + length r) 0)
+        (rows-used header files tables rows q.from p.0)
+        (rows-used header files tables rows j.table p.1.0)
+
+    plan-of : IsPlannable q tables → HasCalls q.shape
+        → IsPlanOf q db (parts_of files) (select_plan q tables lanes rows header)
+    plan-of p calls = record {
       chunk_rows = rows;
       calls = calls;
-      shape = ap (λ t. shape_of q.shape t rows) types;
+      shape = ap (λ t. shape_of q.shape t rows) (types-read q.join);
       filter = refl;
       order = kept q.order;
       limit = refl;
-      read = ap (λ j. read_rows (parts_of files) (table_sources tables header rows q.from)
-          (join_of tables header rows q.from j)) p.one_table
-          ∙ rows-used header files tables rows q.from p.no_list
-          ∙ ap (λ (z : Table). z.rows) (sym table);
+      read = rows-read q.join p;
     }
-  where
-    kept : (keys : List SortKey) → plan_keys (order_of q.types rows keys) ≡ keys
-    kept [] = refl
-    kept (key ∷ keys) = refl
+      where
+        kept : (keys : List SortKey) → plan_keys (order_of q.types rows keys) ≡ keys
+        kept [] = refl
+        kept (key ∷ keys) = refl
 
 -- The plan of a typed query reads from sources, and its nodes' types fit.
 pub record IsQueryPlan (p : SelectPlan) : Type 0 where
   pub is : IsPlan p
-  pub simple : IsSimple p
   pub typed : AllTyped (plan_nodes p) []
 
 pub query-plan : (q : Checked) (tables : List TableDecl) (lanes rows : ℕ) (header : Bool)
-    → IsPlannable q tables → IsTypedSelect (used_types tables q.from) q → 0 < lanes
+    → IsPlannable q tables → IsTypedSelect tables q → 0 < lanes
     → IsQueryPlan (select_plan q tables lanes rows header)
 query-plan q tables lanes rows header p typed some =
     let plan : SelectPlan = select_plan q tables lanes rows header in
     let u : List ColumnType = used_types tables q.from in
-    let is : IsPlan plan = record {
-      some_lanes = some;
-      sources = each-source IsSource tables header rows q.from p.no_list (λ part t. tt) (λ n t. tt);
-      join = subst (λ j. JoinsSources (join_of tables header rows q.from j)) (sym p.one_table) tt;
-    } in
-    let simple : IsSimple plan =
-    record { one_table = ap (join_of tables header rows q.from) p.one_table } in
-    let one : AllByRecursion (λ s. OneType s [] u) plan.sources =
-    each-source (λ s. OneType s [] u) tables header rows q.from p.no_list
-    (λ part t. record { fit = tt; makes = λ v us x m. m ∙ t })
-    (λ n t. record { fit = tt; makes = λ v us x m. m ∙ ap (used_types tables) (sym t) }) in
+    let read = types q.join in
     record {
-      is = is;
-      simple = simple;
-      typed = simple-typed plan q.shape u rows simple.one_table
-          (ap (λ j. shape_of q.shape (source_types tables q.from j) rows) p.one_table) one
-          typed.typed.filter typed.typed.items
-          (order-fits (shape_types q.shape u) q.order typed.made typed.keys);
+      is = record {
+        some_lanes = some;
+        sources = are-sources q.from p.0;
+        join = joined q.join p.1;
+      };
+      typed = plan-typed plan q.shape u rows (ap (λ t. shape_of q.shape t rows) read)
+          (of-types q.from p.0) (join-typed q.join p.1 typed.pairs)
+          (subst (λ t. IsTypedFilter t q.filter) read typed.typed.filter)
+          (subst (λ t. IsTypedShape t q.shape) read typed.typed.items)
+          (order-fits (shape_types q.shape (read_types u plan.join)) q.order
+          (typed.made ∙ ap (shape_types q.shape) read) typed.keys);
     }
   where
+    are-sources : (t : TableUse) → UsesNoList tables t
+        → AllByRecursion IsSource (table_sources tables header rows t)
+    are-sources t h = each-source IsSource tables header rows t h (λ part t. tt) (λ n t. tt)
+
+    of-types : (t : TableUse) → UsesNoList tables t
+        → AllByRecursion (λ s. OneType s [] (used_types tables t))
+        (table_sources tables header rows t)
+    of-types t h =
+        each-source (λ s. OneType s [] (used_types tables t)) tables header rows t h
+        (λ part t. record { fit = tt; makes = λ v us x m. m ∙ t })
+        (λ n t. record { fit = tt; makes = λ v us x m. m ∙ ap (used_types tables) (sym t) })
+
+    types : (j : Option CheckedJoin) → source_types tables q.from j
+        ≡ read_types (used_types tables q.from) (join_of tables header rows q.from j)
+    types None = refl
+    types (Some j) = refl
+
+    joined : (j : Option CheckedJoin) → AllByRecursion (UsesNoList tables) (join_use j)
+        → JoinsSources (join_of tables header rows q.from j)
+    joined None h = tt
+    joined (Some j) h = are-sources j.table h.0
+
+    join-typed : (j : Option CheckedJoin) → AllByRecursion (UsesNoList tables) (join_use j)
+        → IfSome j (λ (j : CheckedJoin). AreKeyPairs (join_spec tables 0 q.from j))
+        → IfSome (join_of tables header rows q.from j) (IsTypedJoin (used_types tables q.from))
+    join-typed None h pairs = tt
+    join-typed (Some j) h pairs =
+        record { left = refl; right = of-types j.table h.0; pairs = pairs }
+
     order-fits : (v : List ColumnType) (keys : List SortKey) → q.types ≡ v
         → All (λ (key : SortKey). key.column < length q.types) keys
         → FitsOrdering v (order_of q.types rows keys)
@@ -190,7 +237,7 @@ pub record QueryAnswered (q : Checked) (header : Bool) (files : Files) (tables :
 pub planned-ended : (q : Checked) (tables : List TableDecl) (lanes rows : ℕ) (header : Bool)
     (files : Files) (nodes : List DraftNode) (boxes : List BoxPicture)
     (h : HasEnded files nodes boxes) (last : ℕ) → IsPlannable q tables
-    → IsTypedSelect (used_types tables q.from) q → 0 < lanes
+    → IsTypedSelect tables q → 0 < lanes
     → IsSmall (select_plan q tables lanes rows header)
     → forms nodes ≡ forms (plan_nodes (select_plan q tables lanes rows header))
     → length (plan_nodes (select_plan q tables lanes rows header)) ≡ last + 1
@@ -201,11 +248,11 @@ planned-ended q tables lanes rows header files nodes boxes h last p typed some s
     let db : Database = database header files tables in
     let is : IsPlanOf q db (parts_of files) plan =
     plan-of q tables lanes rows header files p
-    (has-calls (used_types tables q.from) q.shape typed.typed.items) in
+    (has-calls (source_types tables q.from q.join) q.shape typed.typed.items) in
     let ready : IsQueryPlan plan = query-plan q tables lanes rows header p typed some in
     let f : NodePort → Stream = pulled_at boxes h.done.pulled in
-    let r = plan-run files plan nodes boxes h last small e ready.typed (simple-ready plan nodes
-    ready.is ready.simple e) count in
+    let r = plan-run files plan nodes boxes h last small e ready.typed (plan-ready plan nodes
+    ready.is e) count in
     let a = plans-answer (parts_of files) plan f (pushed_at boxes h.done.pushed) ready.is small
     r.run last count r.collected.done in
     let flowed : HasFlowed plan (parts_of files) nodes f last = record {
@@ -222,6 +269,7 @@ planned-ended q tables lanes rows header files nodes boxes h last p typed some s
       valid = a.0.valid;
       run = r;
       collected = collector-pulled plan (parts_of files) nodes f last flowed;
-      pulled = λ unlimited k. flow-pulled plan (parts_of files) nodes f last flowed ready.simple
-          unlimited q db is p.one_table q.types rows refl k;
+      pulled = λ unlimited k. flow-pulled plan (parts_of files) nodes f last flowed
+          unlimited q db is (λ k. join-pulled q tables lanes rows header files k q.join p) q.types
+          rows refl k;
     }

@@ -6,7 +6,7 @@ use Rattle.plan_ends.specs.Ended.{IsKept, KindGives, chunk_types, in_stream, out
 use Rattle.plan_ends.proofs.KindLaws.{one-output, all-worked-at, at-ports, front-of, kept-rows, one-fits, stays-open, types-fit}
 use Rattle.plan_ends.proofs.ResizeLaws.{all-done, all-ports, at_ports, each-port, none-past, split-rows}
 
-front-none : {X : Type 0} (xs ys : List X) → xs ++ ys ≡ [] → xs ≡ []
+pub front-none : {X : Type 0} (xs ys : List X) → xs ++ ys ≡ [] → xs ≡ []
 front-none [] ys e = refl
 front-none (x ∷ xs) ys e = absurd (cc)
 
@@ -15,7 +15,7 @@ back-none [] ys e = e
 back-none (x ∷ xs) ys e = absurd (cc)
 
 -- an input whose end is noted is read up
-read-up : {s : Spec} {files : _} {takes gives : ℕ} {p : BoxPicture} {ins outs : Lists}
+pub read-up : {s : Spec} {files : _} {takes gives : ℕ} {p : BoxPicture} {ins outs : Lists}
     → IsKept s files takes gives p ins outs → (i : ℕ) → i < takes
     → NotesEnd (Some s) (own_of p.work) i → IsReadUp p i
 read-up {takes = takes} {p = p} k i lt n =

@@ -1,7 +1,7 @@
--- The types that stand at the open ends of a plan of one table. Each block stands before nodes that
--- fit the types that it leaves.
-use Rattle.std.proofs.Common.{List, None, Option, Some, [], ap, append_assoc, ap₂, arith, length, length-append, map, refl, replicate, subst, suc, sym, zero, ℕ, ◌++◌, ◌∙◌, ◌∷◌, ◌≡◌}
-use Rattle.plan_ends.proofs.Prelude.{All, All-append, AllByRecursion, AllTyped, Cond, DraftNode, Expr, FitsInput, FitsOrder, GroupSpec, Grouped, IsAmong, IsItem, IsTypedFilter, IsTypedShape, OneType, Plain, SelectPlan, Shape, SortSpec, Span, Spec, StateCall, Types, TypesFit, append-nil, call_arguments, collect_node, columns_of, filter_nodes, gather_nodes, group_row_types, group_spec, group_types, joint_node, lane_nodes, length-replicate, limit_nodes, map-append, map-map, partial_types, passes-type, plan_nodes, replaced-at, run-at, shape_nodes, shape_of, sort_nodes, source_nodes, state_of, taken_by, type_of, ⊤}
+-- The types that stand at the open ends of a plan. Each block stands before nodes that fit the
+-- types that it leaves.
+use Rattle.std.proofs.Common.{IfSome, List, None, Option, Some, [], ap, append_assoc, ap₂, arith, length, length-append, map, refl, replicate, subst, suc, sym, zero, ℕ, ◌++◌, ◌∙◌, ◌∷◌, ◌≡◌}
+use Rattle.plan_ends.proofs.Prelude.{All, All-append, AllByRecursion, AllTyped, AreKeyPairs, Cond, DraftNode, Expr, FitsInput, FitsOrder, GroupSpec, Grouped, IsAmong, IsItem, IsTypedFilter, IsTypedShape, OneType, Plain, PlanJoin, SelectPlan, Shape, SortSpec, Span, Spec, StateCall, Types, TypesFit, append-nil, call_arguments, columns_of, filter_nodes, gather_nodes, group_row_types, group_spec, group_types, joint_node, lane_nodes, length-replicate, limit_nodes, map-append, map-map, partial_types, passes-type, plan_nodes, read_nodes, replaced-at, run-at, shape_nodes, shape_of, sort_nodes, source_nodes, state_of, taken_by, type_of, ⊤}
 use Rattle.query_model.specs.declared.processor_spec.Spec.TheVariants as spec
 use Rattle.plan_ends.proofs.ShapeTypes.{calls-fit, columns-are, columns-fit, shape_types, type_at}
 
@@ -151,20 +151,70 @@ limit-typed more v (Some span) rest =
     joint-typed more (spec.Limit span) 13 1 1 v v
     (passes-type (spec.Limit span) 1 v (tt, tt) (λ us t m. m)) rest
 
+-- ---- what is read
+
+-- the types of the rows that are read, where those of FROM have the types u
+abbrev pub read_types : Types → Option PlanJoin → Types
+read_types u None = u
+read_types u (Some j) = u ++ j.join.right
+
+-- the join is of rows of the types u with those of its sources, on pairs of their columns
+pub record IsTypedJoin (u : Types) (j : PlanJoin) : Type 0 where
+  pub left : u ≡ j.join.left
+  pub right : AllByRecursion (λ s. OneType s [] j.join.right) j.sources
+  pub pairs : AreKeyPairs j.join
+
+read-typed : (more : List DraftNode) (sources : List Spec) (join : Option PlanJoin) (lanes : ℕ)
+    (u : Types) → AllByRecursion (λ s. OneType s [] u) sources → IfSome join (IsTypedJoin u)
+    → AllTyped more (replicate lanes (read_types u join))
+    → AllTyped (read_nodes sources join lanes ++ more) []
+read-typed more sources None lanes u h t rest =
+    let n : ℕ = length sources in
+    simp append_assoc (sources-typed _ sources 0 [] u refl h
+    (joint-typed more spec.Resize 2 n lanes u u (resize-type n u) rest))
+read-typed more sources (Some j) lanes u h t rest =
+    let n : ℕ = length sources in
+    let m : ℕ = length j.sources in
+    let w : Types = j.join.right in
+    let join : Spec = spec.HashJoin j.join in
+    let last : List DraftNode = joint_node spec.Resize 4 1 lanes ∷ more in
+    let rest' : List DraftNode = joint_node join 3 2 1 ∷ last in
+    let resize : DraftNode =
+    record { spec = spec.Resize; rank = 2; offset = 1; takes = m; gives = 1 } in
+    let one : OneType join (u ∷ w ∷ []) (u ++ w) = record {
+      fit = (
+        record { types_are = t.left; pairs_within = t.pairs },
+        (record { types_are = refl; pairs_within = t.pairs }, tt),
+      );
+      makes = λ z us all e. e ∙ ap (λ l. l ++ w) (sym t.left);
+    } in
+    let joined : AllTyped rest' (u ∷ w ∷ []) =
+    node-typed last (joint_node join 3 2 1) [] (u ∷ w ∷ []) [] (u ++ w) refl refl one
+    (joint-typed more spec.Resize 4 1 lanes (u ++ w) (u ++ w) (resize-type 1 (u ++ w)) rest) in
+    let second : AllTyped (resize ∷ rest') (u ∷ replicate m w) =
+    subst (λ l. AllTyped (resize ∷ rest') (u ∷ l)) (append-nil (replicate m w))
+    (node-typed rest' resize (u ∷ []) (replicate m w) [] w refl (length-replicate m w)
+    (resize-type m w) joined) in
+    simp append_assoc (sources-typed _ sources 0 [] u refl h
+    (joint-typed _ spec.Resize 2 n 1 u u (resize-type n u)
+    (sources-typed (resize ∷ rest') j.sources 1 (u ∷ []) w refl t.right second)))
+
 -- ---- the plan
 
--- The types of a plan whose sources all have the types u, whose condition and shape are typed by u,
--- and whose order is one of the rows that the shape makes.
-pub simple-typed : (p : SelectPlan) (s : Shape) (u : Types) (rows : ℕ) → p.join ≡ None
-    → p.shape ≡ shape_of s u rows → AllByRecursion (λ s. OneType s [] u) p.sources
-    → IsTypedFilter u p.filter → IsTypedShape u s → FitsOrdering (shape_types s u) p.order
+-- The types of a plan whose sources of FROM all have the types u, whose condition and shape are
+-- typed by those of the rows that are read, and whose order is one of the rows that the shape
+-- makes.
+pub plan-typed : (p : SelectPlan) (s : Shape) (u : Types) (rows : ℕ)
+    → p.shape ≡ shape_of s (read_types u p.join) rows
+    → AllByRecursion (λ s. OneType s [] u) p.sources → IfSome p.join (IsTypedJoin u)
+    → IsTypedFilter (read_types u p.join) p.filter → IsTypedShape (read_types u p.join) s
+    → FitsOrdering (shape_types s (read_types u p.join)) p.order
     → AllTyped (plan_nodes p) []
-simple-typed p s u rows join shape sources filter typed order =
-    let v : Types = shape_types s u in
-    let n : ℕ = length p.sources in
-    rw join (rw shape (simp append_assoc (sources-typed _ p.sources 0 [] u refl sources
-    (joint-typed _ spec.Resize 2 n p.lanes u u (resize-type n u)
-    (filter-typed _ u p.filter 5 p.lanes filter
-    (shape-typed _ s u rows p.order p.lanes typed order
+plan-typed p s u rows shape sources join filter typed order =
+    let w : Types = read_types u p.join in
+    let v : Types = shape_types s w in
+    rw shape (simp append_assoc (read-typed _ p.sources p.join p.lanes u sources join
+    (filter-typed _ w p.filter 5 p.lanes filter
+    (shape-typed _ s w rows p.order p.lanes typed order
     (limit-typed _ v p.limit (joint-typed [] spec.Collect 14 1 0 v v
-    (passes-type spec.Collect 1 v (tt, tt) (λ us t m. m)) tt))))))))
+    (passes-type spec.Collect 1 v (tt, tt) (λ us t m. m)) tt))))))

@@ -12,7 +12,7 @@ use Rattle.exec_laws.specs.Names.{box_at, IsDone}
 use Rattle.plan_graph.specs.Drafts.{no_draft, with_nodes, ports_of}
 use Rattle.plan_graph.specs.declared.nodes.DraftNode.{DraftNode}
 use Rattle.plan_graph.specs.declared.nodes.NodePort.{NodePort}
-use Rattle.plan_meaning.specs.Names.{Part, Parts, Stream, SelectPlan, GivesIf}
+use Rattle.plan_meaning.specs.Names.{Part, Parts, Stream, GivesIf}
 
 abbrev pub part_in : PartSpec → Option (List ℕ) → Part
 part_in part None = record { rows = []; valid = false }
@@ -115,8 +115,9 @@ KnownPorts (spec.PartialAggregate groups) takes gives = AreCounts takes gives 1 
 KnownPorts (spec.MergeAggregate groups) takes gives = gives ≡ 1
 KnownPorts (spec.Sort order) takes gives = AreCounts takes gives 1 1
 KnownPorts (spec.MergeSorted order) takes gives = gives ≡ 1
+KnownPorts (spec.HashJoin join) takes gives = AreCounts takes gives 2 1
 KnownPorts spec.Collect takes gives = AreCounts takes gives 1 0
-KnownPorts _ takes gives = ⊥
+KnownPorts (spec.List list) takes gives = ⊥
 
 -- a part that a source is loaded with, as queries use parts
 abbrev pub used_part : PartSpec → UsedPart
@@ -131,10 +132,6 @@ PartHas P _ = ⊤
 -- a node of a known kind, and this is true of its part where it reads one
 abbrev pub IsStep : (PartSpec → Type 0) → DraftNode → Type 0
 IsStep P n = KnownPorts n.spec n.takes n.gives × PartHas P n.spec
-
--- a plan of one table
-pub record IsSimple (p : SelectPlan) : Type 0 where
-  pub one_table : p.join ≡ None
 
 -- An ended run by lawful boxes that were loaded with the specs of these nodes. The sources tell
 -- these files.

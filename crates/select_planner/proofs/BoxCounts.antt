@@ -1,6 +1,6 @@
 -- The boxes of a kind that a query's plan uses are as many as the query needs.
-use Rattle.select_planner.proofs.Prelude.{Checked, ColumnType, Cond, Declared, Grouped, Kind, Numbers, Paths, Plain, Shape, SortKey, Span, Spec, TableDecl, TableUse, count_by-le-length, counted, filter_count, gather_count, if_declared, if_filtered, if_limited, if_ordered, if_unordered, kind_of, limit_count, list_sources_need, need, none-of, of_kind, part_sources_need, plan-counted, plan_count, plan_nodes, read_count, same_kind, shape_count, shape_of, sort_count, sources_count, sum_by-cons, sum_by-take-le, sum_by_more, table_need}
-use Rattle.std.proofs.Common.{Bool, List, None, Option, Some, [], ap, ap₂, arith, cond, false, get_or, length, refl, slice_get, suc, sum_by, sym, take, true, ℕ, ◌*◌, ◌+◌, ◌<◌, ◌∙◌, ◌∷◌, ◌≡◌, ◌≤◌}
+use Rattle.select_planner.proofs.Prelude.{AllByRecursion, Checked, CheckedJoin, ColumnType, Cond, Declared, Grouped, Kind, Numbers, Paths, Plain, Shape, SortKey, Span, Spec, TableDecl, TableUse, count_by-le-length, counted, filter_count, gather_count, if_declared, if_filtered, if_limited, if_ordered, if_unordered, join_use, kind_of, limit_count, list_sources_need, need, none-of, of_kind, part_sources_need, plan-counted, plan_count, plan_nodes, read_count, same_kind, shape_count, shape_of, sort_count, sources_count, sum_by-cons, sum_by-take-le, sum_by_more, table_need}
+use Rattle.std.proofs.Common.{Bool, IfSome, List, None, Option, Some, [], ap, ap₂, arith, cond, false, get_or, length, refl, slice_get, suc, sum_by, sym, take, true, ℕ, ◌*◌, ◌+◌, ◌<◌, ◌∙◌, ◌∷◌, ◌≡◌, ◌≤◌}
 use Rattle.select_planner.proofs.Laying.{by-paths}
 use Rattle.select_planner.specs.declared.nodes.PlanReserve.{PlanReserve}
 use Rattle.select_planner.specs.Boxes.{reserved_nodes}
@@ -119,11 +119,33 @@ shape-need k (Grouped g) types made rows lanes keys =
 
 -- ---- the plan
 
--- what the steps of a query without JOIN need
+-- what the sources of a used table need
+abbrev used_need : List TableDecl → TableUse → Kind → ℕ
+used_need tables u k = only k kind.Csv (table_need part_sources_need 0 tables u)
+    + only k kind.Numbers (table_need (λ decl. 0) 1 tables u)
+
+-- what reads the tables into the lanes
+abbrev read_need : List TableDecl → TableUse → Option CheckedJoin → Kind → ℕ
+read_need tables from None k = used_need tables from k + only k kind.Resize 1
+read_need tables from (Some j) k =
+    used_need tables from k + (only k kind.Resize 1 + (used_need tables j.table k
+    + (only k kind.Resize 1 + (only k kind.HashJoin 1 + only k kind.Resize 1))))
+
+read-need : (k : Kind) (tables : List TableDecl) (header : Bool) (rows : ℕ) (from : TableUse)
+    (j : Option CheckedJoin) → AllByRecursion (UsesNoList tables) (from ∷ join_use j)
+    → read_count (of_kind k) (table_sources tables header rows from)
+    (join_of tables header rows from j) ≡ read_need tables from j k
+read-need k tables header rows from None p =
+    ap (λ n. n + only k kind.Resize 1) (sources-need k tables header rows from p.0)
+read-need k tables header rows from (Some j) p =
+    ap₂ (λ m n. m + (only k kind.Resize 1 + (n
+    + (only k kind.Resize 1 + (only k kind.HashJoin 1 + only k kind.Resize 1)))))
+    (sources-need k tables header rows from p.0) (sources-need k tables header rows j.table p.1.0)
+
+-- what all steps of a query need
 abbrev steps_need : Checked → List TableDecl → ℕ → Kind → ℕ
 steps_need q tables lanes k =
-    (only k kind.Csv (table_need part_sources_need 0 tables q.from)
-    + only k kind.Numbers (table_need (λ decl. 0) 1 tables q.from) + only k kind.Resize 1)
+    read_need tables q.from q.join k
     + (only k kind.Filter (if_filtered q.filter lanes)
     + (shape_need q.shape q.order lanes k
     + (only k kind.Limit (if_limited q.limit 1) + only k kind.Collect 1)))
@@ -132,15 +154,10 @@ steps-counted : (q : Checked) (tables : List TableDecl) (lanes rows : ℕ) (head
     → IsPlannable q tables
     → plan_count (of_kind k) (select_plan q tables lanes rows header) ≡ steps_need q tables lanes k
 steps-counted q tables lanes rows header k p =
-    let sources : List Spec = table_sources tables header rows q.from in
     let types : List ColumnType = source_types tables q.from q.join in
-    let read : read_count (of_kind k) sources (join_of tables header rows q.from q.join)
-    ≡ sources_count (of_kind k) sources + only k kind.Resize 1 =
-    ap (λ j. read_count (of_kind k) sources (join_of tables header rows q.from j)) p.one_table in
     omega (
       arith,
-      read,
-      sources-need k tables header rows q.from p.no_list,
+      read-need k tables header rows q.from q.join p,
       filter-need k q.filter lanes,
       shape-need k q.shape types q.types rows lanes q.order,
       limit-need k q.limit,
@@ -160,19 +177,33 @@ none-ordered (key ∷ keys) = refl
 need-of-steps : (q : Checked) (tables : List TableDecl) (lanes : ℕ) (k : Kind)
     → IsPlannable q tables
     → steps_need q tables lanes k ≡ need q tables lanes k
-need-of-steps q tables lanes k p = go k q.shape refl (no-lists tables q.from p.no_list)
+need-of-steps q tables lanes k p =
+    go k q.shape q.join refl refl (no-lists tables q.from p.0) (joined q.join p.1)
   where
-    go : (k : Kind) (s : Shape) → q.shape ≡ s → table_need list_sources_need 0 tables q.from ≡ 0
+    NoList : Option CheckedJoin → Type 0
+    NoList j = IfSome j (λ (j : CheckedJoin). table_need list_sources_need 0 tables j.table ≡ 0)
+
+    joined : (j : Option CheckedJoin) → AllByRecursion (UsesNoList tables) (join_use j) → NoList j
+    joined None p = tt
+    joined (Some j) p = no-lists tables j.table p.0
+
+    go : (k : Kind) (s : Shape) (j : Option CheckedJoin) → q.shape ≡ s → q.join ≡ j
+        → table_need list_sources_need 0 tables q.from ≡ 0 → NoList j
         → steps_need q tables lanes k ≡ need q tables lanes k
-    go kind.Limit (Plain items) is none = simp is (omega arith)
-    go kind.Limit (Grouped g) is none = simp is (omega arith)
-    go kind.Collect (Plain items) is none = simp is (omega arith)
-    go kind.Collect (Grouped g) is none = simp is (omega arith)
-    go kind.MergeSorted (Grouped g) is none =
+    go kind.MergeSorted (Grouped g) None is at none more =
         let grouped : if_ordered q.order 0 ≡ 0 = none-ordered q.order in
-        simp is (omega (arith, grouped))
-    go k (Plain items) is none = simp (is, p.one_table, sum_by-cons) (omega (arith, none))
-    go k (Grouped g) is none = simp (is, p.one_table, sum_by-cons) (omega (arith, none))
+        simp (is, at) (omega (arith, grouped))
+    go kind.MergeSorted (Grouped g) (Some j) is at none more =
+        let grouped : if_ordered q.order 0 ≡ 0 = none-ordered q.order in
+        simp (is, at) (omega (arith, grouped))
+    go kind.Limit (Plain items) None is at none more = simp (is, at) (omega arith)
+    go kind.Limit (Plain items) (Some j) is at none more = simp (is, at) (omega arith)
+    go k (Plain items) None is at none more = simp (is, at, sum_by-cons) (omega (arith, none))
+    go k (Grouped g) None is at none more = simp (is, at, sum_by-cons) (omega (arith, none))
+    go k (Plain items) (Some j) is at none more =
+        simp (is, at, sum_by-cons) (omega (arith, none, more))
+    go k (Grouped g) (Some j) is at none more =
+        simp (is, at, sum_by-cons) (omega (arith, none, more))
 
 -- The nodes of a kind of a query's plan are as many as the query needs.
 pub plan-needs : (q : Checked) (tables : List TableDecl) (lanes rows : ℕ) (header : Bool) (k : Kind)

@@ -1,9 +1,9 @@
 -- The steps of a plan, laid down one behind another.
-use Rattle.std.proofs.Common.{Bool, List, None, Option, Some, [], ap, ap₂, arith, cond, false, get_or, length, map, nat_lt, refl, slice_get, subst, suc, sym, take, true, zero, ℕ, ◌++◌, ◌+◌, ◌<◌, ◌∙◌, ◌∷◌, ◌≡◌, ◌≤◌}
-use Rattle.select_planner.proofs.Prelude.{AggCall, Checked, Declared, DraftNode, Expr, FewJoined, IsSmall, ListFile, NodeForm, Numbers, PartSpec, PartsDecl, Paths, Schema, Spec, SpecForm, TableDecl, TableUse, append_assoc, call_arguments, collect_node, columns_of, filter_nodes, formula, forms, joint_node, lane_nodes, length-take-le, limit_nodes, map-append, nat_tests, node_form, plan_nodes, read_nodes, shape_nodes, shape_of, source_nodes, spec_form, take_more, with_argument}
+use Rattle.std.proofs.Common.{Bool, List, None, Option, Some, [], ap, ap₂, arith, cond, false, get_or, length, map, nat_lt, refl, slice_get, suc, sym, take, true, zero, ℕ, ◌++◌, ◌+◌, ◌<◌, ◌∙◌, ◌∷◌, ◌≡◌, ◌≤◌}
+use Rattle.select_planner.proofs.Prelude.{AggCall, AllByRecursion, Checked, CheckedJoin, Declared, DraftNode, Expr, FewJoined, IsSmall, JoinSpec, ListFile, NodeForm, Numbers, PartSpec, PartsDecl, Paths, Schema, Spec, SpecForm, TableDecl, TableUse, append_assoc, call_arguments, columns_of, formula, forms, join_use, joint_node, lane_nodes, length-take-le, map-append, nat_tests, node_form, plan_nodes, read_nodes, source_nodes, spec_form, take_more, used_tables, with_argument}
 use Rattle.query_model.specs.declared.processor_spec.Spec.TheVariants as spec
-use Rattle.select_planner.specs.Refusals.{NamedPaths, path_count, crowded_decl, crowded}
-use Rattle.select_planner.specs.Steps.{Reading, part_spec, path_sources, part_sources, reading_of, declared_sources, table_sources, join_of, source_types, order_of, select_plan, used_types, NamesPaths, IsNoList, UsesNoList, IsPlannable}
+use Rattle.select_planner.specs.Refusals.{NamedPaths, path_count, crowded_decl, crowded, first_crowded, or_else}
+use Rattle.select_planner.specs.Steps.{Reading, part_spec, path_sources, part_sources, reading_of, declared_sources, table_sources, table_nodes, join_of, select_plan, NamesPaths, IsNoList, UsesNoList, IsPlannable}
 
 -- a block more
 pub block-more : (x y done block : List DraftNode) → forms x ≡ forms done
@@ -85,34 +85,36 @@ paths-length : (r : Reading) (k : ℕ) (paths : List (List ℕ))
 paths-length r k [] = refl
 paths-length r k (path ∷ paths) = ap suc (paths-length r (suc k) paths)
 
--- the source of a path more
-pub path-more : (r : Reading) (paths : List (List ℕ)) (path : List ℕ) (part : PartSpec) (i : ℕ)
+-- the source of a path more, behind so many open ends
+pub path-more : (r : Reading) (place : ℕ) (paths : List (List ℕ)) (path : List ℕ)
+    (part : PartSpec) (i : ℕ)
     (x y z : List DraftNode) → i < length paths → path ≡ get_or paths i path
     → part ≡ part_spec r (i + 1) path
-    → forms y ≡ forms x ++ forms (source_nodes 0 (path_sources r 1 (take i paths)))
-    → forms z ≡ forms y ++ forms (source_nodes i (spec.Csv part ∷ []))
-    → forms z ≡ forms x ++ forms (source_nodes 0 (path_sources r 1 (take (i + 1) paths)))
-path-more r paths path part i x y z lt is same h g =
+    → forms y ≡ forms x ++ forms (source_nodes place (path_sources r 1 (take i paths)))
+    → forms z ≡ forms y ++ forms (source_nodes (place + i) (spec.Csv part ∷ []))
+    → forms z ≡ forms x ++ forms (source_nodes place (path_sources r 1 (take (i + 1) paths)))
+path-more r at paths path part i x y z lt is same h g =
     let first : List Spec = path_sources r 1 (take i paths) in
     let last : Spec = spec.Csv (part_spec r (i + 1) path) in
     let some : length (take i paths) ≡ i = length-take-le i paths (omega (arith, lt)) in
-    let count : 0 + length first ≡ i =
+    let count : at + length first ≡ at + i =
     let e = paths-length r 1 (take i paths) in omega (arith, e, some) in
     let place : 1 + length (take i paths) ≡ i + 1 = omega (arith, some) in
     let whole : path_sources r 1 (take (i + 1) paths) ≡ first ++ last ∷ [] =
     ap (path_sources r 1) (take_more paths i path lt ∙ ap (λ p. take i paths ++ p ∷ []) (sym is))
     ∙ paths-push r 1 (take i paths) path
     ∙ ap (λ n. first ++ spec.Csv (part_spec r n path) ∷ []) place in
-    g ∙ ap (λ l. l ++ forms (source_nodes i (spec.Csv part ∷ []))) h
-    ∙ append_assoc (forms x) (forms (source_nodes 0 first))
-    (forms (source_nodes i (spec.Csv part ∷ [])))
+    let next : ℕ = at + i in
+    g ∙ ap (λ l. l ++ forms (source_nodes next (spec.Csv part ∷ []))) h
+    ∙ append_assoc (forms x) (forms (source_nodes at first))
+    (forms (source_nodes next (spec.Csv part ∷ [])))
     ∙ ap (λ p. forms x
-    ++ (forms (source_nodes 0 first) ++ forms (source_nodes i (spec.Csv p ∷ [])))) same
+    ++ (forms (source_nodes at first) ++ forms (source_nodes next (spec.Csv p ∷ [])))) same
     ∙ ap (λ l. forms x ++ l)
-    (sym (map-append node_form (source_nodes 0 first) (source_nodes i (last ∷ []))))
-    ∙ ap (λ n. forms x ++ forms (source_nodes 0 first ++ source_nodes n (last ∷ []))) (sym count)
-    ∙ ap (λ l. forms x ++ forms l) (sym (sources-append 0 first (last ∷ [])))
-    ∙ ap (λ l. forms x ++ forms (source_nodes 0 l)) (sym whole)
+    (sym (map-append node_form (source_nodes at first) (source_nodes next (last ∷ []))))
+    ∙ ap (λ n. forms x ++ forms (source_nodes at first ++ source_nodes n (last ∷ []))) (sym count)
+    ∙ ap (λ l. forms x ++ forms l) (sym (sources-append at first (last ∷ [])))
+    ∙ ap (λ l. forms x ++ forms (source_nodes at l)) (sym whole)
 
 -- as many sources as paths
 pub parts-count : (r : Reading) (d : PartsDecl) (paths : List (List ℕ)) → d ≡ Paths paths
@@ -168,21 +170,43 @@ few-sources tables header rows (Declared t) e h =
     omega (arith, few, count)) (slice_get tables t) h e
 few-sources tables header rows (Numbers n) e h = omega arith
 
+-- where no used table names too many paths, neither that of FROM nor that of JOIN does
+pub few-uses : (tables : List TableDecl) (u : TableUse) (us : List TableUse)
+    → first_crowded tables (u ∷ us) ≡ None
+    → (crowded tables u ≡ None) × (first_crowded tables us ≡ None)
+few-uses tables u us e = go (crowded tables u) e
+  where
+    go : (o : Option NamedPaths) → or_else o (first_crowded tables us) ≡ None
+        → (o ≡ None) × (first_crowded tables us ≡ None)
+    go None e = (refl, e)
+    go (Some n) e = absurd cc
+
 pub is-small : (q : Checked) (tables : List TableDecl) (lanes rows : ℕ) (header : Bool)
-    → IsPlannable q tables → crowded tables q.from ≡ None → lanes ≤ 16
+    → IsPlannable q tables → first_crowded tables (used_tables q) ≡ None → lanes ≤ 16
     → IsSmall (select_plan q tables lanes rows header)
-is-small q tables lanes rows header p few le = record {
-  few_sources = few-sources tables header rows q.from few p.no_list;
-  few_joined = subst (λ j. FewJoined (join_of tables header rows q.from j)) (sym p.one_table) tt;
-  few_lanes = le;
-}
+is-small q tables lanes rows header p few le =
+    let both = few-uses tables q.from (join_use q.join) few in
+    record {
+      few_sources = few-sources tables header rows q.from both.0 p.0;
+      few_joined = joined q.join p.1 both.1;
+      few_lanes = le;
+    }
+  where
+    joined : (j : Option CheckedJoin) → AllByRecursion (UsesNoList tables) (join_use j)
+        → first_crowded tables (join_use j) ≡ None
+        → FewJoined (join_of tables header rows q.from j)
+    joined None p few = tt
+    joined (Some j) p few =
+        few-sources tables header rows j.table (few-uses tables j.table [] few).0 p.0
 
 -- a small plan, by the tables as the code reads them
 pub small-plan : (q : Checked) (tables read : List TableDecl) (lanes rows : ℕ) (header : Bool)
-    → read ≡ tables → IsPlannable q tables → lanes ≤ 16 → crowded read q.from ≡ None
+    → read ≡ tables → IsPlannable q tables → lanes ≤ 16
+    → first_crowded read (used_tables q) ≡ None
     → IsSmall (select_plan q tables lanes rows header)
 small-plan q tables read lanes rows header e p le few =
-    is-small q tables lanes rows header p (ap (λ t. crowded t q.from) (sym e) ∙ few) le
+    is-small q tables lanes rows header p
+    (ap (λ t. first_crowded t (used_tables q)) (sym e) ∙ few) le
 
 -- the nodes that were laid down for the tables
 pub steps-for : (q : Checked) (tables read : List TableDecl) (lanes rows : ℕ) (header : Bool)
@@ -194,34 +218,17 @@ steps-for q tables read lanes rows header nodes e same =
 
 -- ---- all steps
 
+-- a table's nodes, those of the second table, the join, and the resize to the lanes
+pub joined-steps : (s t : List Spec) (j : JoinSpec) (lanes : ℕ)
+    → ((table_nodes 0 s 1 ++ table_nodes 1 t 1) ++ joint_node (spec.HashJoin j) 3 2 1 ∷ [])
+    ++ joint_node spec.Resize 4 1 lanes ∷ []
+    ≡ read_nodes s (Some (record { sources = t; join = j })) lanes
+joined-steps s t j lanes = simp append_assoc
+
 -- the nodes step by step, as the code adds them
-abbrev pub laid_nodes : List DraftNode → List DraftNode → List DraftNode → List DraftNode
-    → List DraftNode → List DraftNode → List DraftNode
-laid_nodes a b c d e f = ((((a ++ b) ++ c) ++ d) ++ e) ++ f
-
-regrouped : (a b c d e f : List DraftNode)
-    → laid_nodes a b c d e f ≡ ((a ++ b) ++ (c ++ (d ++ e))) ++ f
-regrouped a b c d e f = simp append_assoc
-
--- a query without JOIN has these steps
-pub all-steps : (q : Checked) (tables : List TableDecl) (lanes rows : ℕ) (header : Bool)
-    → IsPlannable q tables
-    → laid_nodes (source_nodes 0 (table_sources tables header rows q.from))
-    (joint_node spec.Resize 2 (length (table_sources tables header rows q.from)) lanes ∷ [])
-    (filter_nodes q.filter 5 lanes)
-    (shape_nodes (shape_of q.shape (used_types tables q.from) rows)
-    (order_of q.types rows q.order) lanes) (limit_nodes q.limit) (collect_node ∷ [])
-    ≡ plan_nodes (select_plan q tables lanes rows header)
-all-steps q tables lanes rows header p =
-    let sources : List Spec = table_sources tables header rows q.from in
-    regrouped (source_nodes 0 sources) (joint_node spec.Resize 2 (length sources) lanes ∷ [])
-    (filter_nodes q.filter 5 lanes)
-    (shape_nodes (shape_of q.shape (used_types tables q.from) rows)
-    (order_of q.types rows q.order) lanes) (limit_nodes q.limit) (collect_node ∷ [])
-    ∙ sym (λ i. (read_nodes sources (join_of tables header rows q.from (p.one_table i)) lanes
-    ++ (filter_nodes q.filter 5 lanes
-    ++ (shape_nodes (shape_of q.shape (source_types tables q.from (p.one_table i)) rows)
-    (order_of q.types rows q.order) lanes ++ limit_nodes q.limit))) ++ collect_node ∷ [])
+pub regrouped : (a b c d e : List DraftNode)
+    → (((a ++ b) ++ c) ++ d) ++ e ≡ (a ++ (b ++ (c ++ d))) ++ e
+regrouped a b c d e = simp append_assoc
 
 -- ---- groups
 

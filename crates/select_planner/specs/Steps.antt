@@ -1,6 +1,6 @@
 -- What a checked query fills in of the table of steps.
-use Rattle.std.specs.Prelude.{Bool, List, None, Option, Some, [], slice_get, suc, ℕ, ⊤, ◌++◌, ◌∷◌, ◌≡◌}
-use Rattle.select_planner.specs.Prelude.{Checked, CheckedJoin, ColumnType, Declared, ListFile, Numbers, PartSpec, PartsDecl, Paths, PlanJoin, SelectPlan, SortKey, SortSpec, Spec, TableDecl, TableUse, column_types, numbers, shape_of}
+use Rattle.std.specs.Prelude.{Bool, List, None, Option, Some, [], length, slice_get, suc, ℕ, ⊤, ◌++◌, ◌∷◌}
+use Rattle.select_planner.specs.Prelude.{AllByRecursion, Checked, CheckedJoin, ColumnType, Declared, DraftNode, JoinSpec, ListFile, Numbers, PartSpec, PartsDecl, Paths, PlanJoin, SelectPlan, SortKey, SortSpec, Spec, TableDecl, TableUse, column_types, numbers, shape_of, source_nodes, used_tables}
 use Rattle.query_model.specs.declared.processor_spec.Spec.TheVariants as spec
 
 -- how the parts of a table are read: the place of the table, the types of its columns, whether the
@@ -58,17 +58,20 @@ abbrev pub used_types : List TableDecl → TableUse → List ColumnType
 used_types tables (Declared t) = types_declared (slice_get tables t)
 used_types tables (Numbers n) = (numbers n).types
 
+abbrev pub join_spec : List TableDecl → (rows : ℕ) → TableUse → CheckedJoin → JoinSpec
+join_spec tables rows from j = record {
+  pairs = j.pairs;
+  left = used_types tables from;
+  right = used_types tables j.table;
+  rows = rows;
+}
+
 abbrev pub join_of : List TableDecl → (header : Bool) (rows : ℕ) → TableUse → Option CheckedJoin
     → Option PlanJoin
 join_of tables header rows from None = None
 join_of tables header rows from (Some j) = Some (record {
   sources = table_sources tables header rows j.table;
-  join = record {
-    pairs = j.pairs;
-    left = used_types tables from;
-    right = used_types tables j.table;
-    rows = rows;
-  };
+  join = join_spec tables rows from j;
 })
 
 -- the types of the columns of FROM and then of JOIN
@@ -107,7 +110,16 @@ abbrev pub UsesNoList : List TableDecl → TableUse → Type 0
 UsesNoList tables (Declared t) = IsNoList (slice_get tables t)
 UsesNoList tables (Numbers n) = ⊤
 
--- a query of one table that is no list
-pub record IsPlannable (q : Checked) (tables : List TableDecl) : Type 0 where
-  pub one_table : q.join ≡ None
-  pub no_list : UsesNoList tables q.from
+-- no table that the query uses is a list
+abbrev pub IsPlannable : Checked → List TableDecl → Type 0
+IsPlannable q tables = AllByRecursion (UsesNoList tables) (used_tables q)
+
+-- the sources of a table behind so many open ends, and a resize of them
+abbrev pub table_nodes : (place : ℕ) → List Spec → (lanes : ℕ) → List DraftNode
+table_nodes place sources lanes = source_nodes place sources ++ record {
+  spec = spec.Resize;
+  rank = 2;
+  offset = place;
+  takes = length sources;
+  gives = lanes;
+} ∷ []

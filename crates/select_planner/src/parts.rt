@@ -1,32 +1,45 @@
 // The sources of a used table.
 ghost use Rattle.std.specs.Prelude.{◌≡◌, ◌≤◌, ◌++◌, ◌∷◌, [], map, length, IfOk, IfErr, OnOk};
+ghost use Rattle.query_model.specs.Database.{used_tables};
 ghost use Rattle.query_model.specs.declared.query.ColumnDecl.{ColumnDecl};
 ghost use Rattle.plan_graph.specs.Blocks.{source_nodes};
 ghost use Rattle.plan_meaning.specs.Same.{forms};
-ghost use Rattle.select_planner.specs.Refusals.{crowded, crowded_decl, path_count, IsCrowded};
-ghost use Rattle.select_planner.specs.Steps.{path_sources, part_sources, reading_of, table_sources, used_types, NamesPaths, UsesNoList};
+ghost use Rattle.select_planner.specs.Refusals.{crowded, crowded_decl, first_crowded, path_count, IsCrowded, IsDue};
+ghost use Rattle.select_planner.specs.Steps.{join_spec, part_sources, path_sources, reading_of, source_types, table_nodes, table_sources, used_types, NamesPaths, UsesNoList};
 
 use crate::lanes::add_node;
 use crate::nodes::PlanRefusal;
 use chunk_data::{Bytes, ColumnType, List, Memory};
 use plan_graph::DraftNode;
-use query_model::checked::TableUse;
-use query_model::processor_spec::{PartSpec, Spec};
+use query_model::checked::{Checked, CheckedJoin, TableUse};
+use query_model::processor_spec::{JoinSpec, PartSpec, Spec};
 use query_model::query::{ColumnDecl, PartsDecl, TableDecl};
 use std::alloc::Global;
 
 /// The most paths that a table may name.
 const MAX_PARTS: usize = 32;
 
-/// How the parts of the tables are read.
+/// How the parts of a table are read, and behind how many open ends its sources stand.
 #[derive(Clone, Copy)]
 pub(crate) struct Reading {
     pub header: bool,
     pub rows: u32,
+    pub place: u32,
 }
 
-/// Refuses a used table that names more than 32 paths.
-pub(crate) fn check_table(table: TableUse, tables: &[TableDecl]) -> Result<(), PlanRefusal>
+/// Refuses a used table that names more than 32 paths, that of FROM first.
+pub(crate) fn check_tables(query: &Checked, tables: &[TableDecl]) -> Result<(), PlanRefusal>
+    ensures ok { OnOk result (first_crowded tables.now (used_tables query.now) ≡ None) }
+    ensures err { IfErr result (IsDue query.now tables.now) }
+{
+    check_table(query.from, tables)?;
+    match &query.join {
+        None => Ok(()),
+        Some(join) => check_table(join.table, tables),
+    }
+}
+
+fn check_table(table: TableUse, tables: &[TableDecl]) -> Result<(), PlanRefusal>
     ensures ok { OnOk result (crowded tables.now table ≡ None) }
     ensures err { IfErr result (IsCrowded (crowded tables.now table)) }
 {
@@ -62,8 +75,34 @@ fn paths_named(parts: &PartsDecl) -> usize
     }
 }
 
+/// Adds the sources of a used table behind so many open ends, and their resize.
+pub(crate) fn add_table(
+    alloc: Global,
+    nodes: &mut List<DraftNode>,
+    table: TableUse,
+    tables: &[TableDecl],
+    reading: Reading,
+    lanes: u32,
+) -> Result<(), Memory>
+    requires few_parts { crowded tables.now table ≡ None }
+    requires no_list { UsesNoList tables.now table }
+    requires place { reading.place ≤ 1 }
+    ensures { OnOk result (forms nodes.new ≡ forms nodes.old ++ forms (table_nodes reading.place
+        (table_sources tables.now reading.header reading.rows table) lanes)) }
+{
+    let sources = add_sources(alloc, nodes, table, tables, reading)?;
+    let resize = DraftNode {
+        spec: Spec::Resize,
+        rank: 2,
+        offset: reading.place,
+        takes: sources,
+        gives: lanes,
+    };
+    add_node(nodes, resize)
+}
+
 /// Adds the sources of a used table, and says how many there are.
-pub(crate) fn add_sources(
+fn add_sources(
     alloc: Global,
     nodes: &mut List<DraftNode>,
     table: TableUse,
@@ -72,14 +111,16 @@ pub(crate) fn add_sources(
 ) -> Result<u32, Memory>
     requires few_parts { crowded tables.now table ≡ None }
     requires no_list { UsesNoList tables.now table }
+    requires place { reading.place ≤ 1 }
     ensures nodes { OnOk result (forms nodes.new ≡ forms nodes.old
-        ++ forms (source_nodes 0 (table_sources tables.now reading.header reading.rows table))) }
+        ++ forms (source_nodes reading.place
+        (table_sources tables.now reading.header reading.rows table))) }
     ensures count { IfOk result
         (λ n. n ≡ length (table_sources tables.now reading.header reading.rows table)) }
 {
     match table {
         TableUse::Numbers(n) => {
-            add_source(nodes, Spec::Numbers(n, reading.rows), 0)?;
+            add_source(nodes, Spec::Numbers(n, reading.rows), reading.place)?;
             Ok(1)
         }
         TableUse::Declared(t) => match tables.get(t as usize) {
@@ -113,7 +154,9 @@ fn add_declared(
 ) -> Result<u32, Memory>
     requires few_parts { path_count decl.now.parts ≤ 32 }
     requires no_list { NamesPaths decl.now.parts }
-    ensures nodes { OnOk result (forms nodes.new ≡ forms nodes.old ++ forms (source_nodes 0
+    requires place { reading.place ≤ 1 }
+    ensures nodes { OnOk result (forms nodes.new ≡ forms nodes.old
+        ++ forms (source_nodes reading.place
         (part_sources (reading_of reading.header reading.rows table decl.now) decl.now.parts))) }
     ensures count { IfOk result (λ n. n ≡ length
         (part_sources (reading_of reading.header reading.rows table decl.now) decl.now.parts)) }
@@ -135,8 +178,9 @@ fn add_paths(
     paths: &[Bytes],
     reading: Reading,
 ) -> Result<(), Memory>
-    requires { length paths.now ≤ 32 }
-    ensures { OnOk result (forms nodes.new ≡ forms nodes.old ++ forms (source_nodes 0
+    requires few_parts { length paths.now ≤ 32 }
+    requires place { reading.place ≤ 1 }
+    ensures { OnOk result (forms nodes.new ≡ forms nodes.old ++ forms (source_nodes reading.place
         (path_sources (reading_of reading.header reading.rows table decl.now) 1 paths.now))) }
 {
     for i in 0..paths.len() {
@@ -150,13 +194,61 @@ fn add_paths(
             header: reading.header,
             rows: reading.rows,
         };
-        add_source(nodes, Spec::Csv(part), i as u32)?;
+        add_source(nodes, Spec::Csv(part), reading.place + i as u32)?;
     }
     Ok(())
 }
 
+/// The join of the table of FROM with another.
+pub(crate) fn join_spec(
+    alloc: Global,
+    from: TableUse,
+    join: &CheckedJoin,
+    tables: &[TableDecl],
+    rows: u32,
+) -> Result<JoinSpec, Memory>
+    ensures { IfOk result (λ spec. spec ≡ join_spec tables.now rows from join.now) }
+{
+    Ok(JoinSpec {
+        pairs: join.pairs.copy()?,
+        left: used_types(alloc, from, tables)?,
+        right: used_types(alloc, join.table, tables)?,
+        rows,
+    })
+}
+
+/// The types of the columns of FROM and then of JOIN.
+pub(crate) fn source_types(
+    alloc: Global,
+    query: &Checked,
+    tables: &[TableDecl],
+) -> Result<List<ColumnType>, Memory>
+    ensures { IfOk result (λ types. types
+        ≡ source_types tables.now query.now.from query.now.join) }
+{
+    let left = used_types(alloc, query.from, tables)?;
+    match &query.join {
+        None => Ok(left),
+        Some(join) => {
+            let right = used_types(alloc, join.table, tables)?;
+            both_types(left, right.as_slice())
+        }
+    }
+}
+
+/// The types of two tables, one behind the other.
+fn both_types(left: List<ColumnType>, right: &[ColumnType]) -> Result<List<ColumnType>, Memory>
+    ensures { IfOk result (λ types. types ≡ left ++ right.now) }
+{
+    let mut types = left.into_vec();
+    for column in right {
+        types.push(*column)?;
+    }
+    Ok(List::from_vec(types))
+}
+
 /// The types of a used table's columns.
-pub(crate) fn used_types(
+fn used_types(
     alloc: Global,
     table: TableUse,
     tables: &[TableDecl],

@@ -3,17 +3,17 @@ ghost use Rattle.std.specs.Prelude.{◌≡◌, ◌≤◌, ◌++◌, [], map, len
 ghost use Rattle.query_model.specs.Database.{used_tables};
 ghost use Rattle.query_model.specs.declared.checked.Shape.TheVariants.{Grouped};
 ghost use Rattle.plan_graph.specs.Drafts.{AllFitDraft, no_draft, with_nodes};
-ghost use Rattle.plan_meaning.specs.Names.{plan_nodes, shape_nodes, shape_of, forms};
-ghost use Rattle.select_planner.specs.Refusals.{crowded, first_crowded, IsDue};
+ghost use Rattle.plan_meaning.specs.Names.{forms, plan_nodes, read_nodes, shape_nodes, shape_of};
+ghost use Rattle.select_planner.specs.Refusals.{first_crowded, IsDue};
 ghost use Rattle.select_planner.specs.Shapes.{node_of, edge_of, IsSound, LaysDown};
-ghost use Rattle.select_planner.specs.Steps.{IsPlannable, order_of, select_plan, used_types};
+ghost use Rattle.select_planner.specs.Steps.{IsPlannable, join_of, order_of, select_plan, source_types, table_sources};
 
 use crate::groups::{arguments_of, columns_of, group_spec};
 use crate::lanes::{
     add_filters, add_gather, add_items, add_joint, add_limit, add_partials, add_sort,
 };
 use crate::nodes::{Plan, PlanEdge, PlanNode, PlanRefusal};
-use crate::parts::{Reading, add_sources, check_table, used_types};
+use crate::parts::{Reading, add_table, check_tables, join_spec, source_types};
 use chunk_data::{ColumnType, List, Memory};
 use plan_graph::{DraftNode, build};
 use port_word::Wire;
@@ -41,10 +41,11 @@ pub fn plan(
     ensures accepted { IfOk result (λ p. first_crowded tables.now (used_tables query.now) ≡ None) }
     ensures refused { IfErr result (IsDue query.now tables.now) }
 {
-    check_table(query.from, tables.as_slice())?;
+    check_tables(query, tables.as_slice())?;
     let reading = Reading {
         header,
         rows: chunk_rows,
+        place: 0,
     };
     match lay_steps(alloc, query, tables.as_slice(), lanes, reading) {
         Ok(nodes) => match plan_of(alloc, nodes) {
@@ -65,18 +66,51 @@ fn lay_steps(
 ) -> Result<List<DraftNode>, Memory>
     requires few_lanes { lanes ≤ 16 }
     requires plannable { IsPlannable query.now tables.now }
-    requires few_parts { crowded tables.now query.now.from ≡ None }
+    requires few_parts { first_crowded tables.now (used_tables query.now) ≡ None }
+    requires at_start { reading.place ≡ 0 }
     ensures { IfOk result (λ nodes. forms nodes ≡ forms
         (plan_nodes (select_plan query.now tables.now lanes reading.rows reading.header))) }
 {
     let mut nodes = List::new(alloc);
-    let sources = add_sources(alloc, &mut nodes, query.from, tables, reading)?;
-    add_joint(&mut nodes, Spec::Resize, 2, sources, lanes)?;
+    add_read(alloc, &mut nodes, query, tables, lanes, reading)?;
     add_filters(alloc, &mut nodes, &query.filter, 5, lanes)?;
     add_shape(alloc, &mut nodes, query, tables, reading.rows, lanes)?;
     add_limit(&mut nodes, &query.limit)?;
     add_joint(&mut nodes, Spec::Collect, 14, 1, 0)?;
     Ok(nodes)
+}
+
+/// Adds what reads the table of FROM into the lanes, or its join with a second table.
+fn add_read(
+    alloc: Global,
+    nodes: &mut List<DraftNode>,
+    query: &Checked,
+    tables: &[TableDecl],
+    lanes: u32,
+    reading: Reading,
+) -> Result<(), Memory>
+    requires plannable { IsPlannable query.now tables.now }
+    requires few_parts { first_crowded tables.now (used_tables query.now) ≡ None }
+    requires at_start { reading.place ≡ 0 }
+    ensures { OnOk result (forms nodes.new ≡ forms nodes.old ++ forms (read_nodes
+        (table_sources tables.now reading.header reading.rows query.now.from)
+        (join_of tables.now reading.header reading.rows query.now.from query.now.join) lanes)) }
+{
+    match &query.join {
+        None => add_table(alloc, nodes, query.from, tables, reading, lanes),
+        Some(join) => {
+            add_table(alloc, nodes, query.from, tables, reading, 1)?;
+            let second = Reading {
+                header: reading.header,
+                rows: reading.rows,
+                place: 1,
+            };
+            add_table(alloc, nodes, join.table, tables, second, 1)?;
+            let spec = join_spec(alloc, query.from, join, tables, reading.rows)?;
+            add_joint(nodes, Spec::HashJoin(spec), 3, 2, 1)?;
+            add_joint(nodes, Spec::Resize, 4, 1, lanes)
+        }
+    }
 }
 
 /// Adds what makes the output rows of the filtered ones, in their order, in one stream.
@@ -89,7 +123,8 @@ fn add_shape(
     lanes: u32,
 ) -> Result<(), Memory>
     ensures { OnOk result (forms nodes.new ≡ forms nodes.old
-        ++ forms (shape_nodes (shape_of query.now.shape (used_types tables.now query.now.from) rows)
+        ++ forms (shape_nodes
+        (shape_of query.now.shape (source_types tables.now query.now.from query.now.join) rows)
         (order_of query.now.types rows query.now.order) lanes)) }
 {
     let order = order_of(query, rows)?;
@@ -100,7 +135,7 @@ fn add_shape(
             Ok(())
         }
         Shape::Grouped(grouping) => {
-            let types = used_types(alloc, query.from, tables)?;
+            let types = source_types(alloc, query, tables)?;
             add_groups(alloc, nodes, grouping, types.as_slice(), rows, order, lanes)
         }
     }

@@ -19,7 +19,8 @@ loop-i-preserved c =
     c.in_ok-types.ensures ∙ ap (map (λ (d : ColumnDecl). d.kind)) c.as_slice.ensures in
     let path_is : c.in_ok-path.path ≡ c.index-paths-i.result = c.in_ok-path.ensures in
     path-more (reading_of c.args.reading.header c.args.reading.rows c.args.table c.args.decl.now)
-    c.args.paths.now c.in_ok-path.path (part c.in_ok-types.types) c.loop-i.i c.args.nodes.now
+    c.args.reading.place c.args.paths.now c.in_ok-path.path (part c.in_ok-types.types) c.loop-i.i
+    c.args.nodes.now
     c.loop-i.nodes c.add_source.new.nodes c.loop-i-test.true
     (subst (λ p. p ≡ get_or c.args.paths.now c.loop-i.i p) (sym path_is) c.index-paths-i.is)
     (ap part typed) c.loop-i.invariant

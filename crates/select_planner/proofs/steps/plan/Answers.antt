@@ -12,7 +12,7 @@ plan_of-requires-clause-fit c =
     c.in-Ok.nodes
     (small-plan c.args.query.now c.args.tables.now c.as_slice.result.now c.args.lanes
     c.args.chunk_rows c.args.header c.as_slice.ensures c.requires.plannable c.requires.few_lanes
-    c.in_ok-check_table.ensures.ok)
+    c.in_ok-check_tables.ensures.ok)
     (steps-for c.args.query.now c.args.tables.now c.as_slice-2.result.now c.args.lanes
     c.args.chunk_rows c.args.header c.in-Ok.nodes c.as_slice-2.ensures c.in-Ok.ensures)).fit
 
@@ -23,7 +23,7 @@ plan_of-requires-clause-few_nodes c =
     c.in-Ok.nodes
     (small-plan c.args.query.now c.args.tables.now c.as_slice.result.now c.args.lanes
     c.args.chunk_rows c.args.header c.as_slice.ensures c.requires.plannable c.requires.few_lanes
-    c.in_ok-check_table.ensures.ok)
+    c.in_ok-check_tables.ensures.ok)
     (steps-for c.args.query.now c.args.tables.now c.as_slice-2.result.now c.args.lanes
     c.args.chunk_rows c.args.header c.in-Ok.nodes c.as_slice-2.ensures c.in-Ok.ensures) in
     let few = g.few in
@@ -35,7 +35,7 @@ returns-in-Ok-plan_of-clause-sound c =
     c.in-Ok-plan_of.plan c.requires.plannable
     (small-plan c.args.query.now c.args.tables.now c.as_slice.result.now c.args.lanes
     c.args.chunk_rows c.args.header c.as_slice.ensures c.requires.plannable c.requires.few_lanes
-    c.in_ok-check_table.ensures.ok)
+    c.in_ok-check_tables.ensures.ok)
     (record {
       copies = c.in-Ok.nodes;
       same = steps-for c.args.query.now c.args.tables.now c.as_slice-2.result.now c.args.lanes

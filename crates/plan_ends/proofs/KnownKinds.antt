@@ -1,9 +1,10 @@
--- Plans of one table have nodes of known kinds alone.
-use Rattle.std.proofs.Common.{List, None, Option, Some, [], ap, arith, length, refl, subst, suc, sym, zero, ℕ, ◌∷◌, ◌≡◌}
-use Rattle.plan_ends.proofs.Prelude.{AllByRecursion, ArePortsOf, Cond, DraftNode, GrowthForm, IsPlan, IsSource, NodeForm, PartSpec, PlanShape, SameSpec, SelectPlan, SortSpec, Span, Spec, body_nodes, by-forms, collect_node, every-append, every-weaker, filter_nodes, forms, gather_nodes, grouped, joint_node, lane_nodes, limit_nodes, node_form, plain, plan_nodes, read_nodes, same-spec, shape_nodes, sort_nodes, source_nodes, ⊤}
+-- Plans have nodes of known kinds alone.
+use Rattle.std.proofs.Common.{IfSome, List, None, Option, Some, [], ap, arith, refl, subst, suc, sym, zero, ℕ, ◌∷◌, ◌≡◌}
+use Rattle.plan_ends.proofs.Prelude.{AllByRecursion, ArePortsOf, Cond, DraftNode, GrowthForm, IsPlan, IsSource, JoinsSources, NodeForm, PartSpec, PlanJoin, PlanShape, SameSpec, SelectPlan, SortSpec, Span, Spec, body_nodes, by-forms, collect_node, every-append, every-weaker, filter_nodes, forms, gather_nodes, grouped, joint_node, lane_nodes, limit_nodes, node_form, plain, plan_nodes, read_nodes, same-spec, shape_nodes, sort_nodes, source_nodes, ⊤}
 use Rattle.query_model.specs.declared.processor_spec.Spec.TheVariants as spec
-use Rattle.plan_ends.specs.Ended.{IsReady, IsSimple, IsStep, KindGives, KnownPorts, PartHas}
+use Rattle.plan_ends.specs.Ended.{IsReady, IsStep, KindGives, KnownPorts, PartHas}
 use Rattle.plan_ends.proofs.GroupLaws.{merged-gives, partial-gives}
+use Rattle.plan_ends.proofs.JoinLaws.{join-gives}
 use Rattle.plan_ends.proofs.KindLaws.{collect-gives, expression-gives, filter-gives, limit-gives, numbers-gives, part-gives}
 use Rattle.plan_ends.proofs.ResizeLaws.{resize-gives}
 use Rattle.plan_ends.proofs.SortLaws.{merge-gives, sort-gives}
@@ -13,7 +14,6 @@ use Rattle.plan_ends.proofs.SortLaws.{merge-gives, sort-gives}
 known-ports : (s : Spec) (takes gives : ℕ) → KnownPorts s takes gives → (g : Option GrowthForm)
     → ArePortsOf (Some s) g takes gives
 known-ports (spec.List list) takes gives h g = absurd h
-known-ports (spec.HashJoin join) takes gives h g = absurd h
 known-ports s takes gives h g = h
 
 -- the contract of each known kind gives its promises
@@ -28,8 +28,9 @@ known-gives (spec.PartialAggregate groups) takes gives h = partial-gives groups
 known-gives (spec.MergeAggregate groups) takes gives h = merged-gives groups
 known-gives (spec.Sort order) takes gives h = sort-gives order
 known-gives (spec.MergeSorted order) takes gives h = merge-gives order
+known-gives (spec.HashJoin join) takes gives h = join-gives join
 known-gives spec.Collect takes gives h = collect-gives
-known-gives s takes gives h = absurd h
+known-gives (spec.List list) takes gives h = absurd h
 
 known-ready : (P : PartSpec → Type 0) (n : DraftNode) → IsStep P n → IsReady n
 known-ready P n h = record {
@@ -117,38 +118,59 @@ module _ (P : PartSpec → Type 0) where
   limit-known None = tt
   limit-known (Some span) = (((refl, refl), tt), tt)
 
-  plan-known : (p : SelectPlan) → IsPlan p → IsSimple p → AllByRecursion (PartHas P) p.sources
-      → AllByRecursion (IsStep P) (plan_nodes p)
-  plan-known p is simple parts =
+  -- what is true of the parts of both tables
+  abbrev pub BothHave : SelectPlan → Type 0
+  BothHave p = AllByRecursion (PartHas P) p.sources
+      × IfSome p.join (λ (j : PlanJoin). AllByRecursion (PartHas P) j.sources)
+
+  plan-known : (p : SelectPlan) → IsPlan p → BothHave p → AllByRecursion (IsStep P) (plan_nodes p)
+  plan-known p is parts =
       let K : DraftNode → Type 0 = (λ n. IsStep P n) in
-      let read : AllByRecursion K (read_nodes p.sources p.join p.lanes) =
-      rw simple.one_table (every-append K (source_nodes 0 p.sources) (joint_node spec.Resize 2
-      (length p.sources) p.lanes ∷ []) (sources-known 0 p.sources is.sources parts)
-      ((is.some_lanes, tt), tt)) in
       every-append K (body_nodes p) (collect_node ∷ [])
-      (every-append K (read_nodes p.sources p.join p.lanes) _ read
+      (every-append K (read_nodes p.sources p.join p.lanes) _ (read p.join is.join parts.1)
       (every-append K (filter_nodes p.filter 5 p.lanes) _ (filter-known p.filter 5 p.lanes)
       (every-append K (shape_nodes p.shape p.order p.lanes) (limit_nodes p.limit)
       (shape-known p.shape p.order p.lanes)
       (limit-known p.limit)))) (((refl, refl), tt), tt)
+    where
+      read : (j : Option PlanJoin) → JoinsSources j
+          → IfSome j (λ (j : PlanJoin). AllByRecursion (PartHas P) j.sources)
+          → AllByRecursion (IsStep P) (read_nodes p.sources j p.lanes)
+      read None are more =
+          every-append (IsStep P) (source_nodes 0 p.sources) _
+          (sources-known 0 p.sources is.sources parts.0) ((is.some_lanes, tt), tt)
+      read (Some j) are more =
+          every-append (IsStep P) (source_nodes 0 p.sources) _
+          (sources-known 0 p.sources is.sources parts.0) (
+            (omega arith, tt),
+            every-append (IsStep P) (source_nodes 1 j.sources) _
+                (sources-known 1 j.sources are more)
+                ((omega arith, tt), (((refl, refl), tt), ((is.some_lanes, tt), tt))),
+          )
 
   -- Each node of such a plan's graph is of a known kind, and what is true of the sources' parts is
   -- true of its part.
-  pub simple-steps : (p : SelectPlan) (nodes : List DraftNode) → IsPlan p → IsSimple p
-      → AllByRecursion (PartHas P) p.sources → forms nodes ≡ forms (plan_nodes p)
-      → AllByRecursion (IsStep P) nodes
-  simple-steps p nodes is simple parts e =
-      known-forms nodes (plan_nodes p) e (plan-known p is simple parts)
+  pub plan-steps : (p : SelectPlan) (nodes : List DraftNode) → IsPlan p → BothHave p
+      → forms nodes ≡ forms (plan_nodes p) → AllByRecursion (IsStep P) nodes
+  plan-steps p nodes is parts e = known-forms nodes (plan_nodes p) e (plan-known p is parts)
 
--- each node of such a plan's graph is ready
-pub simple-ready : (p : SelectPlan) (nodes : List DraftNode) → IsPlan p → IsSimple p
+-- each node of a plan's graph is ready
+pub plan-ready : (p : SelectPlan) (nodes : List DraftNode) → IsPlan p
     → forms nodes ≡ forms (plan_nodes p) → AllByRecursion IsReady nodes
-simple-ready p nodes is simple e =
-    let parts = every-weaker IsSource (PartHas (λ part. ⊤)) any-part p.sources is.sources in
+plan-ready p nodes is e =
     every-weaker (IsStep (λ part. ⊤)) IsReady (known-ready (λ part. ⊤)) nodes
-    (simple-steps (λ part. ⊤) p nodes is simple parts e)
+    (plan-steps (λ part. ⊤) p nodes is (any-parts p.sources is.sources, joined p.join is.join) e)
   where
     any-part : (s : Spec) → IsSource s → PartHas (λ part. ⊤) s
     any-part (spec.Csv part) h = tt
     any-part (spec.Numbers count rows) h = tt
     any-part s h = absurd h
+
+    any-parts : (specs : List Spec) → AllByRecursion IsSource specs
+        → AllByRecursion (PartHas (λ part. ⊤)) specs
+    any-parts = every-weaker IsSource (PartHas (λ part. ⊤)) any-part
+
+    joined : (j : Option PlanJoin) → JoinsSources j
+        → IfSome j (λ (j : PlanJoin). AllByRecursion (PartHas (λ part. ⊤)) j.sources)
+    joined None h = tt
+    joined (Some j) h = any-parts j.sources h

@@ -1,0 +1,100 @@
+-- What a join keeps is what it gives.
+use Rattle.std.proofs.Common.{Bool, IsPermutation, List, [], ap, append_assoc, ap₂, arith, false, length, not, refl, subst, sym, true, ◌++◌, ◌<◌, ◌∙◌, ◌≡◌}
+use Rattle.plan_ends.proofs.Prelude.{BoxPicture, GivesJoined, HasReadEnough, IsPermutation-append_left, IsPermutation-refl, IsReadUp, JoinSpec, KeepsMade, Lists, Row, and_parts, append-nil, chunk_rows, joined_rows, joined_rows-append, kept_outputs, rows-append, unworked_at}
+use Rattle.query_model.specs.declared.processor_spec.Spec.TheVariants as spec
+use Rattle.plan_ends.specs.Ended.{IsKept, KindGives, in_stream, out_stream}
+use Rattle.plan_ends.proofs.KindLaws.{all-worked-at, at-ports, kept-rows, one-output, stays-open}
+use Rattle.plan_ends.proofs.SortLaws.{all-fit-at, front-none, read-up}
+
+module _ (join : JoinSpec) (files : _) (p : BoxPicture) (ins outs : Lists)
+    (k : IsKept (spec.HashJoin join) files 2 1 p ins outs)
+    (m : KeepsMade (spec.HashJoin join) p ins outs) where
+  abbrev out : List Row
+  out = chunk_rows (outs 0)
+
+  abbrev waits : List Row
+  waits = chunk_rows p.work.made ++ p.work.unmade
+
+  abbrev right : List Row
+  right = chunk_rows (ins 1)
+
+  -- the rows of the first input that aren't worked yet
+  abbrev others : List Row
+  others = chunk_rows (unworked_at p.work 0)
+
+  some : 0 < kept_outputs p
+  some = let e = k.outputs in omega (arith, e)
+
+  -- both inputs are done where the output is
+  input-done : (i : _) → (out_stream p outs 0).done ≡ true → (in_stream p ins i).done ≡ true
+  input-done i done = stays-open p ins outs i 0 k.keeps
+      (subst (λ z. HasReadEnough z ins → ⊥) (sym k.loaded) (λ x. x)) some done
+
+  -- before the end of the second input is noted nothing is pulled of the first
+  none-pulled : p.work.ended ≡ false → chunk_rows (ins 0) ≡ []
+  none-pulled e =
+      let worked : chunk_rows (m.worked 0) ≡ [] = m.rows.none_left e in
+      let unworked : unworked_at p.work 0 ≡ [] = (rw k.loaded at k.keeps.idle).right_first e in
+      ap chunk_rows (m.ins_are 0) ∙ rows-append (m.worked 0) (unworked_at p.work 0)
+      ∙ ap₂ (λ a b. a ++ chunk_rows b) worked unworked
+
+  pairs-given : GivesJoined join.pairs (in_stream p ins 0) (in_stream p ins 1) (out_stream p outs 0)
+  pairs-given = go p.work.ended refl
+    where
+      go : (b : Bool) → p.work.ended ≡ b
+          → GivesJoined join.pairs (in_stream p ins 0) (in_stream p ins 1) (out_stream p outs 0)
+      go false e =
+          let none = none-pulled e in
+          let nothing : out ≡ [] = front-none out (chunk_rows p.work.made)
+          (front-none (out ++ chunk_rows p.work.made) p.work.unmade (m.rows.none_made e)) in
+          record {
+            held = λ more. absurd (let l = ap length none in omega (arith, l, more));
+            rest = [];
+            rows =
+                subst (λ l. IsPermutation (joined_rows join.pairs l right) (out ++ [])) (sym none)
+                (subst (λ l. IsPermutation [] (l ++ [])) (sym nothing) (IsPermutation-refl []));
+            nothing_left = λ done. refl;
+            left_done = input-done 0;
+            right_done = input-done 1;
+          }
+      go true e =
+          let end : IsReadUp p 1 = read-up k 1 (omega arith) (refl, e) in
+          let read : chunk_rows (m.worked 1) ≡ right =
+          ap chunk_rows (sym (append-nil (m.worked 1))
+          ∙ ap (λ l. m.worked 1 ++ l) (sym end.all_worked) ∙ sym (m.ins_are 1)) in
+          let done : List Row = chunk_rows (m.worked 0) in
+          let more : List Row = joined_rows join.pairs others right in
+          let whole : joined_rows join.pairs (chunk_rows (ins 0)) right
+          ≡ joined_rows join.pairs done right ++ more =
+          ap (λ l. joined_rows join.pairs l right)
+          (ap chunk_rows (m.ins_are 0) ∙ rows-append (m.worked 0) (unworked_at p.work 0))
+          ∙ joined_rows-append join.pairs done others right in
+          let made : List Row = chunk_rows p.work.made in
+          let grouped : ((out ++ made) ++ p.work.unmade) ++ more ≡ out ++ (waits ++ more) =
+          ap (λ l. l ++ more) (append_assoc out made p.work.unmade)
+          ∙ append_assoc out waits more in
+          record {
+            held = λ some. ap not end.not_closed;
+            rest = waits ++ more;
+            rows = subst (λ l. IsPermutation l (out ++ (waits ++ more))) (sym whole)
+                (subst (λ l. IsPermutation (joined_rows join.pairs done right ++ more) l) grouped
+                (IsPermutation-append_left more _ _
+                (subst (λ r. IsPermutation (joined_rows join.pairs done r)
+                ((out ++ made) ++ p.work.unmade)) read (m.rows.joined e))));
+            nothing_left = λ fin.
+                let over = m.over 0 (and_parts _ _ fin).0 in
+                ap₂ (λ a b. a ++ b)
+                (ap₂ (λ a b. a ++ b) (ap chunk_rows over.nothing_waits) over.all_made)
+                (ap (λ l. joined_rows join.pairs (chunk_rows l) right)
+                (all-worked-at p.work 0 over.all_worked));
+            left_done = input-done 0;
+            right_done = input-done 1;
+          }
+
+-- A join gives the rows of its inputs that agree, side by side.
+pub join-gives : (join : JoinSpec) → KindGives (spec.HashJoin join)
+join-gives join files takes gives n p ins outs k =
+    at-ports n 2 1 k.ports.0 k.ports.1
+    (λ h. one-output n h (λ fit. pairs-given join files p ins outs h
+    (kept-rows h (all-fit-at (spec.HashJoin join) p ins n 2 h.nothing_past fit)))
+    (λ t e. e)) k
