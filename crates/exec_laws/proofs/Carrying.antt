@@ -1,7 +1,5 @@
 -- An action of a node is carried out on its edge, and the node at the other end is told.
-use Rattle.exec_laws.proofs.Words.{Action, Bool, BoxPicture, CellPicture, Edge, EndHolds, HasEdge, Lists, Input, InputPort, IsAllFinished, IsEnd, IsGraph, IsSound, List, MarkHolds, NodeHolds, NodeState, None, Option, Output, OutputAllows, Picture, Port, QuietBut, Reserve, Rests, Running, Some, Status, Touches, Wire, action_port, actions-with_actions, after_action, ap, append_assoc, arith, cases_eq, chunks_of, eq-eqb, false, follows-taken, in_count, in_count-with_actions, inl, input_at, input_at-with_actions, input_count, inr, is_told, length, out_count, out_count-with_actions, output_at, output_count, peer, pushes_to, refl, rules, subst, sym, told_if, true, wire_at, with_actions, ℕ, ◌&&◌, ◌++◌, ◌<◌, ◌==◌, ◌∙◌, ◌∷◌, ◌≡◌, ◌≢◌}
-use Rattle.proc_api.specs.declared.status.Status.TheVariants as status
-use Rattle.exec_laws.specs.declared.edges.NodeState.TheVariants as node
+use Rattle.exec_laws.proofs.Words.{Action, BoxPicture, CellPicture, Edge, Lists, Input, IsEnd, IsSound, List, MarkHolds, NodeHolds, NodeState, None, Option, Output, Picture, Port, QuietBut, Running, Status, Touches, Wire, action_port, after_action, ap, append_assoc, arith, chunks_of, eq-eqb, false, follows-taken, in_count, in_count-with_actions, input_at, is_told, out_count, out_count-with_actions, output_at, peer, refl, rules, sym, told_if, true, wire_at, with_actions, ℕ, ◌&&◌, ◌++◌, ◌==◌, ◌∙◌, ◌∷◌, ◌≡◌, ◌≢◌}
 use Rattle.exec_laws.proofs.Nodes.{apart, other-end, touched-on}
 use Rattle.exec_laws.proofs.Ports.{port_allows, push-away, push-here}
 use Rattle.exec_laws.proofs.Sides.{Passes, QuietEnd, acts-here, acts-there, end-quiet, quiet-end}

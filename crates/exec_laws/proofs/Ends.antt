@@ -1,11 +1,8 @@
 -- Where nothing is due: either each born node is over, or some resting node's view belies its last status.
-use Rattle.exec_laws.proofs.Words.{Answer, BearsOut, Belies, Bool, BoxPicture, CellPicture, Edge, EdgeDone, Flags, FollowsKept, HasEdge, Input, Port, InputFollows, InputPort, IsAtRest, IsBorn, IsGraph, IsNothingDue, IsOver, IsRunning, IsStuck, IsTrue, LawfulDone, List, MarkHolds, MarkTells, MayRest, NodeHolds, NodeState, Option, Output, OutputFollows, Prepared, Reserve, Running, Some, Status, StuckNode, Table, Wire, [], ap, append-nil, arith, box_at, boxes_of, cell_at, chunks_of, false, false_from_ne_true, append_assoc, in_count, inl, input-below-count, input-of-count, input_at, input_count, inr, is_finished, is_in_finished, is_out_finished, is_resting, is_some, is_unfinished, is_waiting, kept_input, kept_output, last_answer, last_status, length, length-map, no_box, no_cell, not, out_count, output-below-count, output-of-count, output_at, output_count, pushes_to, rank_at, refl, rules, stuck_from, subst, sym, true, wire_at, ℕ, ◌&&◌, ◌++◌, ◌<◌, ◌||◌, ◌∙◌, ◌≡◌}
-use Rattle.proc_api.specs.declared.status.Status.TheVariants as status
-use Rattle.exec_laws.specs.declared.edges.NodeState.TheVariants as node
+use Rattle.exec_laws.proofs.Words.{BearsOut, Belies, CellPicture, Edge, HasEdge, Input, IsBorn, IsNothingDue, IsOver, IsStuck, IsTrue, List, MarkTells, Output, Running, StuckNode, Wire, [], append-nil, box_at, boxes_of, cell_at, append_assoc, input_count, length, length-map, no_cell, output_count, pushes_to, refl, rules, stuck_from, wire_at, ℕ, ◌<◌, ◌≡◌}
 use Rattle.exec_laws.specs.Ends.{IsDone}
 use Rattle.std.proofs.Math.ListN.{get_or-map}
 use Rattle.exec_laws.proofs.Settled.{all-over, end-here, end-node, end-shown, node-there, over-holds}
-use Rattle.exec_laws.proofs.Sides.{QuietEnd}
 
 -- the box of a cell
 pub box-of : (cells : List CellPicture) (n : ℕ) → box_at (boxes_of cells) n ≡ (cell_at cells n).box

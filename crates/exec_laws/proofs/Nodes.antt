@@ -1,5 +1,5 @@
 -- Where one node moved, and others were at most told, the graph is running on.
-use Rattle.exec_laws.proofs.Words.{Bool, BoxPicture, CellPicture, Edge, EndHolds, HasEdge, HoldsGraph, Input, IsBorn, IsEnd, IsGraph, IsSome, List, Lists, MarkHolds, NodeHolds, NodeMark, NodeState, None, Option, Output, Picture, Port, Reserve, Running, Status, Touches, Wire, ap, append_assoc, chunks_of, input_at, arith, cases_eq, cond, eq-eqb, false, inl, inr, length, ne_eqb, peer, pushes_to, rank_at, refl, rules, subst, sym, told, told_if, told_state, true, wire_at, ℕ, ◌++◌, ◌<◌, ◌==◌, ◌∙◌, ◌≡◌, ◌≢◌, ◌⊎◌}
+use Rattle.exec_laws.proofs.Words.{Bool, CellPicture, Edge, EndHolds, HasEdge, HoldsGraph, Input, IsBorn, IsEnd, IsSome, List, Lists, NodeHolds, None, Option, Output, Port, Running, Touches, Wire, ap, chunks_of, input_at, arith, cases_eq, cond, eq-eqb, inl, inr, length, ne_eqb, peer, refl, rules, subst, sym, told_if, wire_at, ℕ, ◌++◌, ◌<◌, ◌==◌, ◌∙◌, ◌≡◌, ◌≢◌}
 use Rattle.exec_laws.specs.declared.edges.NodeState.TheVariants as node
 use Rattle.exec_laws.proofs.Sides.{Moves, end-told}
 

@@ -1,5 +1,5 @@
 -- What actions leave at one port.
-use Rattle.exec_laws.proofs.Words.{Action, Bool, ChangedByCalls, Close, EachAction, Edge, Finish, Flags, Input, InputAllows, InputPort, chunk_step, input_allows, IsDone, List, None, Option, Output, OutputAllows, Picture, Port, PortCall, Pull, Push, Table, Unwant, Want, [], action_port, after_action, after_call, after_calls, ap, arith, both_ways, can_push, chunk_after, chunks_of, close_call, cond, cond-same, cond_both, eq-eqb, eqb-true, false, finish_call, holds_data, in_count, in_count-with_actions, in_count-with_input, in_count-with_output, input_after, input_step, inr, is_some, ne_eqb, need_call, not, out_count, out_count-with_actions, out_count-with_input, out_count-with_output, output_allows, output_step, pull_call, push_call, pushes_to, refl, rules, sym, taken_out, true, with_actions, with_input, with_output, ℕ, ◌&&◌, ◌++◌, ◌==◌, ◌||◌, ◌∙◌, ◌∷◌, ◌≡◌, ◌≤◌, ◌⊎◌}
+use Rattle.exec_laws.proofs.Words.{Action, Bool, ChangedByCalls, EachAction, Edge, Flags, Input, InputAllows, InputPort, chunk_step, input_allows, IsDone, List, None, Option, Output, OutputAllows, Picture, Port, PortCall, Table, [], action_port, after_action, after_call, after_calls, ap, arith, chunk_after, chunks_of, eqb-true, false, holds_data, in_count, in_count-with_actions, in_count-with_input, in_count-with_output, input_after, input_step, is_some, out_count, out_count-with_actions, out_count-with_input, out_count-with_output, output_allows, output_step, pushes_to, refl, rules, taken_out, true, with_actions, with_input, with_output, ℕ, ◌++◌, ◌||◌, ◌∙◌, ◌∷◌, ◌≡◌, ◌≤◌, ◌⊎◌}
 
 -- ---- an input and its chunk, while its node acts
 

@@ -1,5 +1,5 @@
 -- A due node sees one of its ports.
-use Rattle.exec_laws.proofs.Words.{Bool, BoxPicture, CellPicture, Edge, EndHolds, Flags, FollowsKept, HasEdge, HasPort, HoldsGraph, Lists, append_assoc, Input, InputHolds, InputPort, IsEnd, IsGraph, IsPort, IsSound, List, MarkHolds, MaySee, NodeHolds, None, Option, Output, OutputAllows, OutputHolds, Picture, Port, Reserve, Running, Table, Touches, ViewHolds, Wire, [], actions-with_input, actions-with_output, after_see, ap, arith, both_ways, cases_eq, chunks_of, cond, false, follows-seen-input, follows-seen-output, in_count, in_count-with_input, in_count-with_output, inl, input-below-count, input_after, input_at, input_at-with_input, input_at-with_input-other, input_at-with_output, input_count, inr, is_some, length, lifted, not, or_left, out_count, out_count-with_input, out_count-with_output, output-below-count, output_after, output_at, output_at-with_input, output_at-with_output, output_at-with_output-other, output_count, port_flags, pushes_to, refl, rules, seen_chunk, subst, sym, true, unloaded, wire_at, with_input, ℕ, ◌&&◌, ◌++◌, ◌<◌, ◌||◌, ◌∙◌, ◌≡◌, ◌≢◌, ◌⊎◌}
+use Rattle.exec_laws.proofs.Words.{CellPicture, Edge, Flags, HasEdge, HasPort, HoldsGraph, Lists, append_assoc, Input, IsPort, IsSound, List, MaySee, NodeHolds, Option, Output, Picture, Port, Running, Table, Touches, ViewHolds, Wire, [], actions-with_input, actions-with_output, after_see, ap, cases_eq, chunks_of, false, follows-seen-input, follows-seen-output, in_count, in_count-with_input, in_count-with_output, inl, input-below-count, input_at, input_at-with_input, input_at-with_input-other, input_at-with_output, input_count, inr, lifted, out_count, out_count-with_input, out_count-with_output, output-below-count, output_at-with_input, output_at-with_output, output_at-with_output-other, output_count, port_flags, rules, sym, unloaded, ℕ, ◌++◌, ◌<◌, ◌∙◌, ◌≡◌, ◌≢◌, ◌⊎◌}
 use Rattle.exec_laws.specs.declared.edges.NodeState.TheVariants as node
 use Rattle.exec_laws.proofs.Nodes.{busy-born, touched-on}
 use Rattle.exec_laws.proofs.Sides.{Passes, QuietEnd, SameAt, end-quiet, output-known, quiet-end, stays-end}

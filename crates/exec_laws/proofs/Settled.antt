@@ -1,6 +1,5 @@
 -- Where nothing is due, and each node at rest rests as its view bears out, every node is over.
-use Rattle.exec_laws.proofs.Words.{Bool, CellPicture, Edge, Flags, HasEdge, HasPort, Input, IsAllFinished, IsBorn, IsOver, List, NodeHolds, NodeState, None, Option, Output, Picture, Port, ProducerKnows, Rests, Running, Some, Status, WaitsForData, WaitsForRoom, Wire, [], arith, false, false_from_ne_true, get_or-le-sum_by, input_at, input_count, is_in_finished, is_out_finished, is_resting, is_waiting, not, number_at, output_at, output_count, rank_at, refl, rules, suc, sum_by, sym, true, wire_at, zero, ℕ, ◌&&◌, ◌+◌, ◌<◌, ◌||◌, ◌∙◌, ◌≡◌, ◌≤◌}
-use Rattle.proc_api.specs.declared.status.Status.TheVariants as status
+use Rattle.exec_laws.proofs.Words.{Bool, CellPicture, Edge, HasEdge, HasPort, Input, IsBorn, IsOver, List, NodeHolds, NodeState, Option, Output, Picture, Port, Rests, Running, Status, WaitsForData, WaitsForRoom, Wire, [], arith, false, false_from_ne_true, get_or-le-sum_by, input_count, is_out_finished, is_resting, is_waiting, number_at, output_count, rank_at, refl, rules, suc, sum_by, true, wire_at, zero, ℕ, ◌+◌, ◌<◌, ◌≡◌, ◌≤◌}
 use Rattle.exec_laws.specs.declared.edges.NodeState.TheVariants as node
 use Rattle.exec_laws.proofs.Nodes.{busy-born}
 use Rattle.exec_laws.proofs.Seeing.{port-below, port-shown}

@@ -1,7 +1,7 @@
 -- One end of an edge, as its node's view shows it, when an end sees the edge or acts on it.
-use Rattle.exec_laws.proofs.Words.{Action, Bool, Lists, Picture, pushes_to, append_assoc, ap, CellPicture, Close, Edge, EndHolds, Finish, Flags, Input, InputFollows, InputHolds, InputPort, IsEnd, List, NodeMark, NodeState, None, Option, Output, OutputAllows, OutputHolds, Port, Pull, Push, Some, Table, Unwant, Want, Wire, [], action_port, after_action, arith, both_ways, chunks_of, cond, false, holds_data, input_after, input_at, is_some, is_told, or_right, output_after, output_at, refl, rules, seen_chunk, subst, sym, told, told_if, told_state, true, unloaded, with_actions, ℕ, ◌&&◌, ◌++◌, ◌||◌, ◌∙◌, ◌∷◌, ◌≡◌, ◌≢◌}
+use Rattle.exec_laws.proofs.Words.{Action, Bool, Lists, Picture, pushes_to, CellPicture, Edge, EndHolds, Flags, Input, InputFollows, InputHolds, List, NodeMark, NodeState, Output, OutputHolds, Port, Table, [], action_port, after_action, arith, chunks_of, cond, input_at, output_at, refl, rules, told, told_if, with_actions, ◌++◌, ◌∷◌, ◌≡◌, ◌≢◌}
 use Rattle.exec_laws.specs.declared.edges.NodeState.TheVariants as node
-use Rattle.exec_laws.proofs.Ports.{port_allows, step-away}
+use Rattle.exec_laws.proofs.Ports.{step-away}
 
 -- ---- flags follow themselves
 

@@ -1,5 +1,5 @@
 -- A graph before its first move.
-use Rattle.exec_laws.proofs.Words.{AreAsKept, AreEdgesOf, Bool, BoxPicture, CellPicture, Edge, EndHolds, Flags, HasEdge, HoldsGraph, Input, InputHolds, InputPort, IsFresh, IsGraph, IsPort, List, MarkHolds, MayRest, NodeHolds, None, Output, Picture, Port, Reserve, Running, WaitsForRoom, Wire, [], ap, arith, both_ways, chunks_of, cond, false, follows-new, get_or-replicate, in_count, input-below-count, input_at, input_count, length, length-replicate, new_edge, new_input, new_mark, new_picture, no_flags, no_input, no_lists, out_count, output_at, output_count, over_flags, pushes_to, refl, rules, sound-new, subst, suc, sym, true, wire_at, zero, ℕ, ◌++◌, ◌<◌, ◌==◌, ◌||◌, ◌∙◌, ◌≡◌}
+use Rattle.exec_laws.proofs.Words.{AreEdgesOf, BoxPicture, CellPicture, Edge, EndHolds, HasEdge, HoldsGraph, Input, IsFresh, IsPort, List, MarkHolds, NodeHolds, None, Output, Port, Running, Wire, ap, arith, cond, follows-new, get_or-replicate, in_count, input_at, input_count, length, length-replicate, new_edge, new_input, new_mark, new_picture, no_flags, no_input, no_lists, out_count, output_at, output_count, over_flags, pushes_to, refl, rules, sound-new, suc, wire_at, zero, ℕ, ◌<◌, ◌==◌, ◌∙◌, ◌≡◌}
 use Rattle.query_model.specs.declared.processor_spec.Kind.TheVariants as kind
 use Rattle.exec_laws.specs.declared.edges.NodeState.TheVariants as node
 use Rattle.exec_laws.proofs.Nodes.{not-blank}

@@ -1,5 +1,5 @@
 -- A node that has seen its ports is prepared.
-use Rattle.exec_laws.proofs.Words.{AreEdgesOf, ArePortsOf, Bool, BoxHolds, BoxPicture, CellPicture, Edge, EndHolds, Flags, FollowsKept, HasEdge, HasFinished, Holds, HoldsGraph, Input, InputFollows, InputPort, IsAllFinished, IsGraph, IsOver, IsPort, IsSome, IsSound, IsTrue, Knows, List, Lists, MarkHolds, MayRest, MaySchedule, MayWork, NodeHolds, NodeMark, None, Output, OutputAllows, Picture, Port, Prepared, Reserve, Running, Some, StandStill, Status, StatusComes, StatusHolds, StaysFit, Table, Turns, ViewHolds, Wire, [], ap, append-nil, append_assoc, arith, as-kept-noted, changed-by-both, chunks_of, cond, difference-calls, eq-eqb, false, follows-noted, get_or-eq_default, in_count, inl, input_after, input_at, input_count, is_in_finished, is_out_finished, kept_input-of, kept_inputs, kept_inputs-of, kept_output-of, kept_outputs, kept_outputs-of, length, ne_eqb, no_input, out_count, output_after, output_at, output_count, port_flags, pushed_at, pushes_to, refl, rules, stands-still, state_after, subst, sym, taken_out, true, wire_at, with_pulled, with_pushed, ℕ, ◌++◌, ◌<◌, ◌==◌, ◌∙◌, ◌≡◌, ◌≢◌, ◌≤◌}
+use Rattle.exec_laws.proofs.Words.{BoxHolds, BoxPicture, CellPicture, Edge, Flags, HasFinished, Holds, Input, IsOver, IsPort, IsTrue, Knows, List, Lists, MarkHolds, NodeHolds, Output, Picture, Port, Prepared, Running, Some, Status, StatusComes, StatusHolds, Turns, ViewHolds, Wire, [], ap, append-nil, append_assoc, as-kept-noted, changed-by-both, chunks_of, difference-calls, false, follows-noted, get_or-eq_default, in_count, inl, input_after, input_at, input_count, kept_input-of, kept_inputs-of, kept_output-of, kept_outputs-of, out_count, output_after, output_at, output_count, port_flags, pushed_at, pushes_to, refl, rules, stands-still, state_after, sym, taken_out, with_pulled, with_pushed, ℕ, ◌++◌, ◌<◌, ◌∙◌, ◌≡◌, ◌≢◌, ◌≤◌}
 use Rattle.query_model.specs.declared.processor_spec.Kind.TheVariants as kind
 use Rattle.proc_api.specs.declared.status.Status.TheVariants as status
 use Rattle.exec_laws.specs.declared.edges.NodeState.TheVariants as node

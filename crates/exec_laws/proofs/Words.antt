@@ -10,7 +10,7 @@ pub use Rattle.port_word.proofs.Steps.{cond-same}
 pub use Rattle.proc_api.proofs.Follows.{as-kept-noted, follows-new, follows-noted, follows-same, follows-seen-input, follows-seen-output, follows-taken, stands-still}
 pub use Rattle.proc_api.proofs.Graphs.{few-inputs, few-outputs, input-below-count, input-of-count, output-below-count, output-of-count}
 pub use Rattle.proc_api.proofs.KeptFlags.{kept_input-of, kept_inputs-of, kept_output-of, kept_outputs-of}
-pub use Rattle.exec_laws.specs.Names.{Acts, ActsCell, AreEdgesOf, BearsOut, Belies, BoxHolds, CellPicture, Edge, EdgeDone, EndHolds, GivenBack, HasEdge, HasFinished, HoldsGraph, InputHolds, IsAtRest, IsBorn, IsEnd, IsFault, IsNothingDue, IsOver, IsPort, IsStuck, KeepsFault, Knows, LawfulDone, MarkHolds, MarkTells, MayRest, NodeHolds, NodeMark, NodeState, OutputHolds, QuietBut, Running, StaysBox, StuckNode, Touches, Turns, ViewHolds, action_port, after_action, boxes_of, cell_at, chunks_of, edge_at, is_finished, is_resting, is_told, is_unfinished, is_waiting, last_answer, last_status, lifted, new_edge, new_mark, no_cell, peer, number_at, port_edge, state_after, stuck_from, told, told_if, told_state, unloaded}
+pub use Rattle.exec_laws.specs.Names.{Acts, ActsCell, AreEdgesOf, BearsOut, Belies, BoxHolds, CellPicture, Edge, EdgeDone, EndHolds, GivenBack, HasEdge, HasFinished, HoldsGraph, InputHolds, IsAtRest, IsBorn, IsEnd, IsFault, IsNothingDue, IsOver, IsPort, IsStuck, KeepsFault, Knows, LawfulDone, MarkHolds, MarkTells, MayRest, NodeHolds, NodeMark, NodeState, OutputHolds, QuietBut, Running, StaysBox, StaysOrActs, StuckNode, Touches, Turns, ViewHolds, action_port, after_action, boxes_of, cell_at, chunks_of, edge_at, is_finished, is_resting, is_told, is_unfinished, is_waiting, last_answer, last_status, lifted, new_edge, new_mark, no_cell, peer, number_at, port_edge, state_after, stuck_from, told, told_if, told_state, unloaded}
 unfoldable pub use Rattle.exec_laws.specs.Names.{box_at}
 pub use Rattle.std.proofs.Math.Seq.{drop-cons, get_or-append_seam}
 pub use Rattle.std.specs.List.{All}

@@ -1,5 +1,5 @@
 -- The moves of an executor, and what each does.
-use Rattle.std.specs.Prelude.{Bool, IsTrue, List, None, Option, Some, cond, false, true, ℕ, ◌==◌, ◌≡◌, ◌≢◌}
+use Rattle.std.specs.Prelude.{Bool, IsTrue, List, None, Option, Some, cond, false, true, ℕ, ◌==◌, ◌≡◌, ◌≢◌, ◌⊎◌}
 use Rattle.exec_laws.specs.Prelude.{Action, BoxPicture, ChangedByCalls, Close, CountsOn, Edge, Finish, Input, IsAllFinished, KeepsSame, NodeMark, NodeState, NotesView, Output, Picture, Port, PreparesLawfully, Pull, PulledOn, Push, SameBox, SameChunks, Status, Table, Unwant, Want, Wire, port_flags}
 use Rattle.proc_api.specs.declared.status.Status.TheVariants as status
 use Rattle.exec_laws.specs.declared.edges.DueCall.TheVariants as call
@@ -145,9 +145,14 @@ pub record Acts (p q : BoxPicture) : Type 0 where
   pub not_handed_out : q.work.handed_out ≡ false
   pub keeps : IsTrue p.lawful → KeepsSame p q
 
--- the box worked or fetched, and its node is due or due a call
+-- the box of a node that isn't over worked or fetched, and the node is due or due a call
 pub record ActsCell (c d : CellPicture) : Type 0 where
+  pub busy : c.mark.state ≢ node.Over
   pub acts : Acts c.box d.box
   pub own : d ≡ record c { box = d.box; mark = record { state = d.mark.state; last = c.mark.last } }
   pub awake : d.mark.state ≡ node.Resting → ⊥
   pub holds : (m n : ℕ) (v : Picture) → MarkHolds d.mark.state c.mark.last m n d.box v
+
+-- a node was left as it was, or its box worked or fetched
+abbrev pub StaysOrActs : CellPicture → CellPicture → Type 0
+StaysOrActs c d = (d ≡ c) ⊎ ActsCell c d

@@ -1,13 +1,12 @@
 -- The state before the first move.
-use Rattle.exec_laws.proofs.Words.{All, All-get_or, AreEdgesOf, Bool, BoxPicture, CellPicture, HasEdge, HoldsGraph, IsEnd, Input, IsFresh, List, Output, Picture, Port, Wire, [], ap, append_assoc, arith, both_ways, box_at, boxes_of, cases_lt, cell_at, edge_at, eq-eqb, eqb-true, false, few-inputs, few-outputs, get_or, get_or-append_seam, get_or-eq_default, get_or-map, get_or_append_left, inl, input-of-count, input_count, inr, length, length-append, length-map, map, map-append, new_edge, new_mark, new_picture, no_box, no_cell, output-of-count, output_count, refl, remove, rules, subst, suc, sym, true, wire_at, zero, ℕ, ◌&&◌, ◌++◌, ◌+◌, ◌<◌, ◌∙◌, ◌∷◌, ◌≡◌, ◌≤◌}
+use Rattle.exec_laws.proofs.Words.{All, BoxPicture, CellPicture, HoldsGraph, Input, IsFresh, List, Output, Port, Wire, [], ap, arith, both_ways, box_at, boxes_of, cases_lt, cell_at, edge_at, eq-eqb, false, get_or-eq_default, inl, input-of-count, inr, length, length-map, map, no_box, no_cell, output-of-count, refl, rules, subst, suc, sym, wire_at, zero, ℕ, ◌++◌, ◌+◌, ◌<◌, ◌∙◌, ◌∷◌, ◌≡◌}
 use Rattle.exec_laws.specs.declared.edges.Edge.{Edge}
 use Rattle.exec_laws.proofs.Ends.{box-of}
 use Rattle.exec_laws.proofs.Starting.{IsNewNode, started}
 use Rattle.pipeline_exec.specs.declared.cell.Cell.{Cell}
 use Rattle.pipeline_exec.specs.declared.cell.NodePorts.{NodePorts}
 use Rattle.pipeline_exec.specs.declared.cell.Side.{Side}
-use Rattle.pipeline_exec.specs.declared.cell.Side.TheVariants.{Inputs, Outputs}
-use Rattle.pipeline_exec.specs.Cells.{AreFirstEdges, AreNewEdges, AreNewFrom, AreNewPorts, Fills, HasWire, IsUnderWay, cell_picture, cells_of, is_end, port_count, port_on}
+use Rattle.pipeline_exec.specs.Cells.{AreNewEdges, AreNewFrom, AreNewPorts, Fills, HasWire, IsUnderWay, cell_picture, cells_of, is_end, port_count, port_on}
 use Rattle.pipeline_exec.specs.Ends.{IsNoList}
 
 -- ---- edges of a node

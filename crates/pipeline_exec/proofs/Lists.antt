@@ -1,8 +1,8 @@
 -- Reading lists by index, changing one element, and adding one.
-use Rattle.exec_laws.proofs.Words.{Bool, BoxPicture, CellPicture, List, [], ap, cases_eq, cell_at, edge_at, eq-eqb, false, get_or, get_or-map, get_or-set_other, get_or-set_same, get_or_default, inl, inr, length, length-map, length-set, map, map-set, ne_eqb, new_edge, no_cell, refl, rules, set, subst, suc, sym, told_if, true, zero, ℕ, ◌&&◌, ◌+◌, ◌<◌, ◌==◌, ◌∙◌, ◌∷◌, ◌≡◌}
+use Rattle.exec_laws.proofs.Words.{Bool, BoxPicture, CellPicture, List, ap, cell_at, eq-eqb, false, get_or, get_or-map, get_or-set_other, get_or-set_same, length, length-map, length-set, map-set, ne_eqb, no_cell, refl, rules, set, sym, told_if, true, ℕ, ◌&&◌, ◌+◌, ◌<◌, ◌==◌, ◌∙◌, ◌≡◌}
 use Rattle.exec_laws.proofs.Nodes.{at-node}
 use Rattle.pipeline_exec.specs.declared.cell.Cell.{Cell}
-use Rattle.pipeline_exec.specs.Cells.{Changes, ChangesCell, MovesEdge, TellsNode, cell_picture, cells_of}
+use Rattle.pipeline_exec.specs.Cells.{Changes, ChangesCell, TellsNode, cell_picture, cells_of}
 
 pub one-more : (P : ℕ → Type 0) (k : ℕ) → ((n : ℕ) → n < k → P n) → P k → (n : ℕ) → n < k + 1 → P n
 one-more P k h1 h2 n h3 = search rules

@@ -1,16 +1,15 @@
 -- A move of one node keeps the state of the run.
-use Rattle.exec_laws.proofs.Words.{Action, ActsCell, AreEdgesOf, Bool, CellPicture, Flags, HasEdge, HasPort, HoldsGraph, QuietBut, Input, IsBorn, IsDone, IsGraph, IsPort, IsSome, IsSound, Knows, List, MaySee, NodeHolds, None, Option, Output, Picture, Port, Reserve, Running, Some, StaysBox, Table, Touches, Turns, Wire, [], action_port, after_action, ap, arith, cases_eq, cell_at, edge_at, false, in_count, inl, input_count, inr, is_told, length, lifted, ne_eqb, out_count, output_count, peer, port_edge, refl, rules, subst, sym, told_if, true, unloaded, wire_at, ℕ, ◌&&◌, ◌+◌, ◌<◌, ◌==◌, ◌∙◌, ◌≡◌, ◌≢◌}
+use Rattle.exec_laws.proofs.Words.{Action, CellPicture, Flags, HasEdge, QuietBut, IsPort, Knows, List, NodeHolds, None, Option, Picture, Port, Running, Some, StaysBox, Table, Touches, Turns, [], action_port, ap, arith, cases_eq, cell_at, edge_at, inl, input_count, inr, is_told, length, lifted, ne_eqb, output_count, peer, port_edge, refl, rules, subst, sym, told_if, unloaded, wire_at, ℕ, ◌&&◌, ◌+◌, ◌<◌, ◌==◌, ◌∙◌, ◌≡◌, ◌≢◌}
 use Rattle.exec_laws.specs.declared.edges.Edge.{Edge}
-use Rattle.exec_laws.specs.declared.edges.DueCall.{DueCall}
 use Rattle.exec_laws.specs.declared.edges.NodeState.TheVariants as node
-use Rattle.exec_laws.proofs.Acting.{acted, stays-both, stays-itself}
+use Rattle.exec_laws.proofs.Acting.{stays-both, stays-itself}
 use Rattle.exec_laws.proofs.Carrying.{carried}
 use Rattle.exec_laws.proofs.Nodes.{apart, at-node, busy-born}
 use Rattle.exec_laws.proofs.Seeing.{may-see, see-actions, see-keeps, see-knows, seen}
 use Rattle.exec_laws.proofs.Turns.{turned}
 use Rattle.pipeline_exec.specs.declared.cell.Side.{Side}
 use Rattle.pipeline_exec.specs.declared.cell.Side.TheVariants.{Inputs, Outputs}
-use Rattle.pipeline_exec.specs.Cells.{Board, Carries, CarriesOne, ChangesCell, IsCarrying, IsOnBoard, IsTurning, IsUnderWay, MayAct, MayCarryOne, MayPrepare, MovesEdge, SeesPort, Shows, Stays, TakesAction, port_count, port_on}
+use Rattle.pipeline_exec.specs.Cells.{Board, Carries, CarriesOne, ChangesCell, IsCarrying, IsTurning, IsUnderWay, MovesEdge, SeesPort, Shows, Stays, TakesAction, port_count, port_on}
 
 -- ---- what stays of the boxes
 
@@ -218,20 +217,3 @@ module _ (n : ℕ) (b : Board) (taken : List CellPicture) (k : IsCarrying n b) (
         each = λ j. rw (same-boxes j) (stays-itself (cell_at b.cells j).box);
       };
     }
-
--- ---- a call
-
-module _ (n : ℕ) (call : DueCall) (b : Board) (u : IsUnderWay b) (lt : n < length b.cells)
-    (due : (cell_at b.cells n).mark.state ≡ node.AtWork call) where
-  at-work : (cell_at b.cells n).mark.state ≢ node.Over
-  at-work over = let e : node.AtWork call ≡ node.Over = sym due ∙ over in cc
-
-  pub call-held : (after : List CellPicture) → ChangesCell n ActsCell b.cells after
-      → IsUnderWay (record { wires = b.wires; cells = after; edges = b.edges })
-  call-held after c = record {
-    board = record {
-      edges_len = u.board.edges_len;
-      running = rw c.len (acted u.board.running n lt at-work (cell_at after) c.here c.others);
-    };
-    quiet = quiet-on n _ b.cells after c (λ j _. u.quiet j) (rw c.here.own (u.quiet n));
-  }

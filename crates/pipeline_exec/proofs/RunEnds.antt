@@ -1,9 +1,9 @@
 -- How a run ends.
-use Rattle.exec_laws.proofs.Words.{BearsOut, Belies, Bool, BoxPicture, CellPicture, GivenBack, IsFault, IsNothingDue, IsStuck, List, MarkTells, Option, Status, WorkFault, [], ap, append-nil, append_assoc, arith, box_at, boxes_of, cell_at, cond, drop, drop-cons, drop_all, false, get_or, get_or-map, is_resting, is_unfinished, last_status, length, length-map, map, no_box, no_cell, refl, rules, stuck_from, subst, suc, sym, true, ℕ, ◌++◌, ◌+◌, ◌<◌, ◌∙◌, ◌∷◌, ◌≡◌, ◌≢◌, ◌≤◌}
+use Rattle.exec_laws.proofs.Words.{BearsOut, Belies, Bool, BoxPicture, CellPicture, GivenBack, IsFault, IsNothingDue, IsStuck, List, MarkTells, Option, Status, WorkFault, [], ap, append-nil, append_assoc, arith, box_at, boxes_of, cell_at, cond, drop, drop-cons, false, is_resting, length, length-map, map, no_box, refl, rules, stuck_from, suc, sym, true, ℕ, ◌++◌, ◌+◌, ◌<◌, ◌∙◌, ◌∷◌, ◌≡◌, ◌≢◌}
 use Rattle.exec_laws.specs.declared.edges.StuckNode.{StuckNode}
 use Rattle.proc_api.specs.declared.status.WorkFault.TheVariants as fault
 use Rattle.exec_laws.specs.Names.{IsDone}
-use Rattle.exec_laws.proofs.Ends.{box-of, marks-tell, run-done, run-stuck}
+use Rattle.exec_laws.proofs.Ends.{box-of, run-done, run-stuck}
 use Rattle.pipeline_exec.specs.Cells.{Board, FailsAt, IsUnderWay, Stays, cells_of}
 use Rattle.pipeline_exec.specs.declared.cell.Cell.{Cell}
 use Rattle.pipeline_exec.proofs.Creating.{boxes-are}

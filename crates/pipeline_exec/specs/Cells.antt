@@ -1,12 +1,13 @@
 -- The state of a run, as data: a cell for each node, and the graph's wires and edges.
-use Rattle.std.specs.Prelude.{Bool, List, Option, Some, [], false, length, map, slice_index_or, ℕ, ⊤, ◌&&◌, ◌<◌, ◌==◌, ◌∷◌, ◌≡◌, ◌≢◌, ◌≤◌}
+use Rattle.std.specs.Prelude.{Bool, IfSome, List, None, Option, Some, [], false, length, map, slice_index_or, ℕ, ⊤, ◌&&◌, ◌<◌, ◌==◌, ◌∷◌, ◌≡◌, ◌≢◌, ◌≤◌}
 use Rattle.exec_laws.specs.Prelude.{Action, BoxPicture, Flags, FollowsKept, HasInputWire, HasOutputWire, Input, IsRunning, IsSound, Output, Port, Scheduled, Table, Wire, WorkFault, after_see, input_count, new_picture, output_count, wire_at}
 use Rattle.exec_laws.specs.declared.edges.Edge.{Edge}
 use Rattle.exec_laws.specs.declared.edges.DueCall.{DueCall}
 use Rattle.std.specs.Prelude.{◌+◌}
 use Rattle.port_word.specs.Names.{TakesFirst}
 use Rattle.proc_api.specs.declared.status.Wake.{Wake}
-use Rattle.exec_laws.specs.Names.{Acts, AreEdgesOf, CellPicture, HasEdge, IsBorn, IsPort, KeepsFault, Knows, MayCall, QuietBut, Running, StaysBox, action_port, after_action, cell_at, edge_at, is_told, new_edge, new_mark, no_cell, peer, port_edge, told_if}
+use Rattle.exec_laws.specs.Names.{Acts, AreEdgesOf, CellPicture, HasEdge, IsBorn, IsPort, KeepsFault, Knows, MayCall, QuietBut, Running, StaysBox, StaysOrActs, action_port, after_action, cell_at, edge_at, is_told, new_edge, new_mark, no_cell, peer, port_edge, told_if}
+use Rattle.pipeline_exec.specs.declared.calls.NodeFault.{NodeFault}
 use Rattle.pipeline_exec.specs.declared.cell.Cell.{Cell}
 use Rattle.pipeline_exec.specs.declared.cell.NodePorts.{NodePorts}
 use Rattle.pipeline_exec.specs.declared.cell.Side.{Side}
@@ -193,6 +194,44 @@ pub record MayAct (call : DueCall) (p : BoxPicture) : Type 0 where
   pub running : IsRunning p
   pub may : MayCall call p
 
+-- the call that a node is due may come, if it is at work
+pub record MayBeCalled (c : CellPicture) : Type 0 where
+  pub may : (call : DueCall) → c.mark.state ≡ node.AtWork call → MayAct call c.box
+
+-- What a round's calls leave of a cell: where no fault is kept, the node was left as it was, or its
+-- box acted. A fault is one that the box keeps, unless there was one before.
+pub record IsCalled {P : Type 0} (seen : P → BoxPicture) (c d : Cell P) : Type 0 where
+  pub stays : StaysBox (seen c.processor) (seen d.processor)
+  pub acted : d.fault ≡ None → StaysOrActs (cell_picture seen c) (cell_picture seen d)
+  pub failed : c.fault ≡ None → IfSome d.fault (λ f. KeepsFault f (seen d.processor))
+
+-- the box of the node keeps the fault
+pub record FailsAt (n : ℕ) (f : WorkFault) (cells : List CellPicture) : Type 0 where
+  pub in_range : n < length cells
+  pub keeps : KeepsFault f (cell_at cells n).box
+
+-- What the calls of a round leave of all nodes, with the first fault that a box answered, if any.
+pub record AreCalled (first : Option NodeFault) (cells after : List CellPicture) : Type 0 where
+  pub len : length after ≡ length cells
+  pub stays : (n : ℕ) → StaysBox (cell_at cells n).box (cell_at after n).box
+  pub acted : first ≡ None → (n : ℕ) → StaysOrActs (cell_at cells n) (cell_at after n)
+  pub failed : IfSome first (λ f. FailsAt f.node f.fault after)
+
+abbrev pub IsClear : {P : Type 0} → Cell P → Type 0
+IsClear c = c.fault ≡ None
+
+abbrev pub IsCleared : {P : Type 0} → Cell P → Cell P → Type 0
+IsCleared c d = d ≡ record c { fault = None }
+
+abbrev pub HasFault : {P : Type 0} → WorkFault → Cell P → Type 0
+HasFault f c = c.fault ≡ Some f
+
+-- each element of the second list is what R allows of the first's at its place
+pub record Each {A : Type 0} (R : A → A → Type 0) (xs ys : List A) : Type 0 where
+  pub len : length ys ≡ length xs
+  pub at : (n : ℕ) (past : A) → n < length xs
+      → R (slice_index_or xs n past) (slice_index_or ys n past)
+
 -- the call that comes after a schedule
 abbrev pub call_after : Wake → DueCall
 call_after wake.Ready = call.Work
@@ -203,8 +242,3 @@ pub record Wakes (a : Wake) (p q : BoxPicture) : Type 0 where
   pub acts : Acts p q
   pub answer : q.notes.answer ≡ Some (Scheduled a)
   pub not_acted : q.notes.acted ≡ false
-
--- the box of the node keeps the fault
-pub record FailsAt (n : ℕ) (f : WorkFault) (cells : List CellPicture) : Type 0 where
-  pub in_range : n < length cells
-  pub keeps : KeepsFault f (cell_at cells n).box

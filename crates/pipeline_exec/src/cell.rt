@@ -2,7 +2,8 @@ ghost use Rattle.std.specs.Prelude.{◌≡◌, ℕ, ◌<◌, true, false, length
 ghost use Rattle.port_word.specs.Names.{MaySee, IsAllFinished};
 ghost use Rattle.proc_api.specs.Names.{IsRunning, MaySchedule, MayWork, AllOutputsFinished};
 ghost use Rattle.exec_laws.specs.Names.{Acts, ActsCell, IsPort, KeepsFault, Leaves, StaysBox, Turns, port_edge, state_after};
-ghost use Rattle.pipeline_exec.specs.Cells.{MayAct, MayPrepare, SeesPort, Wakes, call_after, cell_picture, port_on};
+ghost use Rattle.exec_laws.specs.declared.edges.NodeState.TheVariants.{AtWork};
+ghost use Rattle.pipeline_exec.specs.Cells.{IsCalled, MayAct, MayBeCalled, MayPrepare, SeesPort, Wakes, call_after, cell_picture, port_on};
 
 use chunk_data::Chunk;
 use exec_laws::{DueCall, NodeMark, NodeState};
@@ -19,11 +20,12 @@ pub(crate) struct NodePorts {
     pub outputs: Vec<u32>,
 }
 
-/// All that the executor has of a node.
+/// All that the executor has of a node, with the fault that its box answered in this round.
 #[derive(Drop)]
 pub(crate) struct Cell<P> {
     pub processor: P,
     pub ports: NodePorts,
+    pub fault: Option<WorkFault>,
 }
 
 /// The ports at one side of a node.
@@ -120,10 +122,23 @@ fn state_after(status: Status) -> NodeState
     }
 }
 
-/// Makes the call that the node is due. After a work it is due to be prepared, and after a schedule it is due
-/// the next call.
-pub(crate) fn call_cell<P: Processor>(cell: &mut Cell<P>, call: DueCall) -> Result<(), WorkFault>
-    requires { MayAct call (P.seen cell.old.processor) }
+/// Makes the call that the node is due, if it is at work, and keeps the fault that its box answers.
+pub(crate) fn call_cell<P: Processor>(cell: &mut Cell<P>)
+    requires { MayBeCalled (cell_picture P.seen cell.old) }
+    ensures { IsCalled P.seen cell.old cell.new }
+{
+    if let NodeState::AtWork(call) = cell.ports.mark.state {
+        cell.fault = match make_call(cell, call) {
+            Ok(()) => None,
+            Err(fault) => Some(fault),
+        };
+    }
+}
+
+/// After a work the node is due to be prepared, and after a schedule it is due the next call.
+fn make_call<P: Processor>(cell: &mut Cell<P>, call: DueCall) -> Result<(), WorkFault>
+    requires due { cell.old.ports.mark.state ≡ AtWork call }
+    requires may { MayAct call (P.seen cell.old.processor) }
     ensures stays { StaysBox (P.seen cell.old.processor) (P.seen cell.new.processor) }
     ensures ok { OnOk result (ActsCell (cell_picture P.seen cell.old) (cell_picture P.seen cell.new)) }
     ensures fault { IfErr result (λ f. KeepsFault f (P.seen cell.new.processor)) }

@@ -147,6 +147,7 @@ pub(crate) fn fill_cells<P: Drop>(
         cells.push_reserved(Cell {
             processor,
             ports: own,
+            fault: None,
         });
     }
 }
@@ -161,6 +162,7 @@ pub(crate) fn empty_cells<P: Drop>(processors: &mut Vec<P>, cells: &mut Vec<Cell
         let Cell {
             processor,
             ports: _,
+            fault: _,
         } = cells.remove(0);
         processors.push_reserved(processor);
     }

@@ -1,26 +1,25 @@
-ghost use Rattle.std.specs.Prelude.{◌≡◌, ◌+◌, ◌<◌, true, false, length, IfOk, IfErr, IfSome, OnOk};
+ghost use Rattle.std.specs.Prelude.{◌≡◌, ◌+◌, ◌<◌, true, false, length, IfOk, IfErr, OnOk};
 ghost use Rattle.port_word.specs.Names.{MaySee};
-ghost use Rattle.exec_laws.specs.Names.{ActsCell, IsNothingDue, KeepsFault, StaysBox, Turns, cell_at, edge_at, is_waiting, lifted, unloaded};
-ghost use Rattle.exec_laws.specs.declared.edges.NodeState.TheVariants.{AtWork, Due};
-ghost use Rattle.pipeline_exec.specs.Cells.{ChangesCell, FailsAt, IsTurning, IsUnderWay, MayAct, MayPrepare, MovesEdge, SeesPort, Shows, Stays, board_of, cells_of, port_count};
+ghost use Rattle.exec_laws.specs.Names.{IsNothingDue, Turns, cell_at, edge_at, is_waiting, lifted, unloaded};
+ghost use Rattle.exec_laws.specs.declared.edges.NodeState.TheVariants.{Due};
+ghost use Rattle.pipeline_exec.specs.Cells.{ChangesCell, FailsAt, IsTurning, IsUnderWay, MayPrepare, MovesEdge, SeesPort, Shows, Stays, board_of, cells_of, port_count};
 
 use crate::actions::{carry_actions, edge_at_port};
-use crate::cell::{Cell, Side, call_cell, port_on, prepare_cell, see};
+use crate::calls::{NodeFault, call_nodes};
+use crate::cell::{Cell, Side, port_on, prepare_cell, see};
 use crate::executor_state::ExecutorState;
 use chunk_data::Chunk;
-use exec_laws::{DueCall, Edge, NodeMark, NodeState};
+use exec_laws::{Edge, NodeMark, NodeState};
 use port_word::{Flags, Port};
-use proc_api::{Processor, WorkFault};
-
-/// A fault, and the node whose box answered it.
-#[derive(Clone, Copy)]
-pub(crate) struct NodeFault {
-    pub node: usize,
-    pub fault: WorkFault,
-}
+use proc_api::Processor;
+use std::thread::Threads;
 
 /// Goes in rounds until no node is due, and says whether that came.
-pub(crate) fn run_rounds<P: Processor>(state: &mut ExecutorState<P>) -> Result<bool, NodeFault>
+pub(crate) fn run_rounds<P: Processor, R: Threads + Sync>(
+    rt: &R,
+    state: &mut ExecutorState<P>,
+    workers: usize,
+) -> Result<bool, NodeFault>
     requires { IsUnderWay (board_of P.seen state.old) }
     ensures stays { Stays (board_of P.seen state.old) (board_of P.seen state.new) }
     ensures under_way { OnOk result (IsUnderWay (board_of P.seen state.new)) }
@@ -32,7 +31,7 @@ pub(crate) fn run_rounds<P: Processor>(state: &mut ExecutorState<P>) -> Result<b
             return Ok(true);
         }
         prepare_due(state);
-        match call_nodes(state) {
+        match call_nodes(rt, state, workers) {
             Ok(()) => {}
             Err(fault) => return Err(fault),
         }
@@ -187,66 +186,4 @@ fn prepare_at<P: Processor>(cells: &mut Vec<Cell<P>>, n: usize)
     ensures { ChangesCell n Turns (cells_of P.seen cells.old.items) (cells_of P.seen cells.new.items) }
 {
     prepare_cell(&mut cells[n]);
-}
-
-/// Makes the call that each node at work is due, one after another.
-fn call_nodes<P: Processor>(state: &mut ExecutorState<P>) -> Result<(), NodeFault>
-    requires { IsUnderWay (board_of P.seen state.old) }
-    ensures stays { Stays (board_of P.seen state.old) (board_of P.seen state.new) }
-    ensures under_way { OnOk result (IsUnderWay (board_of P.seen state.new)) }
-    ensures fault { IfErr result (λ f. FailsAt f.node f.fault (cells_of P.seen state.new.cells.items)) }
-{
-    for n in 0..state.cells.len() {
-        if let Some(call) = due_call(&state.cells, n) {
-            match call_node(state, n, call) {
-                Ok(()) => {}
-                Err(fault) => return Err(NodeFault { node: n, fault }),
-            }
-        }
-    }
-    Ok(())
-}
-
-/// The call that the node is due, if it is at work.
-fn due_call<P: Processor>(cells: &Vec<Cell<P>>, n: usize) -> Option<DueCall>
-    ensures in_range { IfSome result (λ call. n < length cells.now.items) }
-    ensures due { IfSome result (λ call. (cell_at (cells_of P.seen cells.now.items) n).mark.state ≡ AtWork call) }
-{
-    if n < cells.len() {
-        if let NodeState::AtWork(call) = mark_of(cells, n).state {
-            return Some(call);
-        }
-    }
-    None
-}
-
-fn call_node<P: Processor>(
-    state: &mut ExecutorState<P>,
-    n: usize,
-    call: DueCall,
-) -> Result<(), WorkFault>
-    requires under_way { IsUnderWay (board_of P.seen state.old) }
-    requires node { n < length state.old.cells.items }
-    requires due { (cell_at (cells_of P.seen state.old.cells.items) n).mark.state ≡ AtWork call }
-    ensures stays { Stays (board_of P.seen state.old) (board_of P.seen state.new) }
-    ensures under_way { OnOk result (IsUnderWay (board_of P.seen state.new)) }
-    ensures fault { IfErr result (λ f. FailsAt n f (cells_of P.seen state.new.cells.items)) }
-{
-    match call_at(&mut state.cells, n, call) {
-        Ok(()) => Ok(()),
-        Err(fault) => Err(fault),
-    }
-}
-
-fn call_at<P: Processor>(cells: &mut Vec<Cell<P>>, n: usize, call: DueCall) -> Result<(), WorkFault>
-    requires node { n < length cells.old.items }
-    requires may { MayAct call (cell_at (cells_of P.seen cells.old.items) n).box }
-    ensures stays { ChangesCell n (λ c d. StaysBox c.box d.box) (cells_of P.seen cells.old.items) (cells_of P.seen cells.new.items) }
-    ensures ok { OnOk result (ChangesCell n ActsCell (cells_of P.seen cells.old.items) (cells_of P.seen cells.new.items)) }
-    ensures fault { IfErr result (λ f. KeepsFault f (cell_at (cells_of P.seen cells.new.items) n).box) }
-{
-    match call_cell(&mut cells[n], call) {
-        Ok(()) => Ok(()),
-        Err(fault) => Err(fault),
-    }
 }

@@ -1,4 +1,4 @@
-ghost use Rattle.std.specs.Prelude.{◌≡◌, ◌≤◌, length, map, vec_capacity, []};
+ghost use Rattle.std.specs.Prelude.{◌≡◌, ◌<◌, ◌≤◌, length, map, vec_capacity, []};
 ghost use Rattle.std.specs.List.{All};
 ghost use Rattle.proc_api.specs.Clauses.{IsFresh};
 ghost use Rattle.exec_laws.specs.Ends.{GivenBack, IsNothingDue, boxes_of};
@@ -6,16 +6,18 @@ ghost use Rattle.exec_laws.specs.Runs.{HoldsGraph};
 ghost use Rattle.pipeline_exec.specs.Cells.{AreNewEdges, AreNewFrom, FailsAt, IsUnderWay, Stays, board_of, cells_of};
 ghost use Rattle.pipeline_exec.specs.Ends.{EndHolds, IsNoList};
 
+use crate::calls::NodeFault;
 use crate::cell::{Cell, NodePorts};
 use crate::ending::{first_unlawful, list_stuck};
 use crate::executor_state::{ExecutorState, empty_cells, fill_cells, new_edges, new_ports};
-use crate::rounds::{NodeFault, run_rounds};
+use crate::rounds::run_rounds;
 use chunk_data::{List, Memory};
 use exec_graph::Graph;
 use exec_laws::{Edge, StuckNode};
 use port_word::Wire;
 use proc_api::{Processor, WorkFault};
 use std::alloc::Global;
+use std::thread::Threads;
 
 /// How a run ended.
 #[derive(Debug, Drop)]
@@ -36,8 +38,8 @@ pub struct RunResult {
     pub end: ExecEnd,
 }
 
-/// Runs a graph to its end, with at most so many workers. So far all is done by the caller.
-pub fn run_graph<R: AllocGlobal>(rt: &R, graph: Graph, workers: u32) -> RunResult
+/// Runs a graph to its end, with at most so many workers.
+pub fn run_graph<R: AllocGlobal + Threads + Sync>(rt: &R, graph: Graph, workers: u32) -> RunResult
     requires some_workers { 1 ≤ workers }
     requires few_workers { workers ≤ 16 }
     requires fresh { All IsFresh (map (λ b. seen b) graph.boxes.items) }
@@ -52,12 +54,18 @@ pub fn run_graph<R: AllocGlobal>(rt: &R, graph: Graph, workers: u32) -> RunResul
         reserves: _,
     } = graph;
     let mut boxes = boxes;
-    let end = run_boxes(rt.alloc(), &mut boxes, wires);
+    let end = run_boxes(rt, rt.alloc(), &mut boxes, wires, workers as usize);
     RunResult { boxes, end }
 }
 
 /// The part that is generic in the processors.
-fn run_boxes<P: Processor>(alloc: Global, boxes: &mut Vec<P>, wires: List<Wire>) -> ExecEnd
+fn run_boxes<P: Processor, R: Threads + Sync>(
+    rt: &R,
+    alloc: Global,
+    boxes: &mut Vec<P>,
+    wires: List<Wire>,
+    workers: usize,
+) -> ExecEnd
     requires graph { HoldsGraph (length boxes.old.items) wires }
     requires fresh { All IsFresh (map P.seen boxes.old.items) }
     requires no_list { All IsNoList (map P.seen boxes.old.items) }
@@ -78,17 +86,19 @@ fn run_boxes<P: Processor>(alloc: Global, boxes: &mut Vec<P>, wires: List<Wire>)
     let Ok(report) = Vec::with_capacity(alloc, boxes.len()) else {
         return ExecEnd::Memory
     };
-    run_in_cells(boxes, ports, edges, cells, report, wires)
+    run_in_cells(rt, boxes, ports, edges, cells, report, wires, workers)
 }
 
 /// Moves the processors into cells, runs them, and moves them back.
-fn run_in_cells<P: Processor>(
+fn run_in_cells<P: Processor, R: Threads + Sync>(
+    rt: &R,
     boxes: &mut Vec<P>,
     mut ports: Vec<NodePorts>,
     edges: Vec<Edge>,
     mut cells: Vec<Cell<P>>,
     report: Vec<StuckNode>,
     wires: List<Wire>,
+    workers: usize,
 ) -> ExecEnd
     requires graph { HoldsGraph (length boxes.old.items) wires }
     requires fresh { All IsFresh (map P.seen boxes.old.items) }
@@ -109,7 +119,7 @@ fn run_in_cells<P: Processor>(
         wires,
         edges,
     };
-    let end = run_state(&mut state, report);
+    let end = run_state(rt, &mut state, report, workers);
     let ExecutorState {
         mut cells,
         wires: _,
@@ -119,14 +129,19 @@ fn run_in_cells<P: Processor>(
     end
 }
 
-fn run_state<P: Processor>(state: &mut ExecutorState<P>, report: Vec<StuckNode>) -> ExecEnd
+fn run_state<P: Processor, R: Threads + Sync>(
+    rt: &R,
+    state: &mut ExecutorState<P>,
+    report: Vec<StuckNode>,
+    workers: usize,
+) -> ExecEnd
     requires under_way { IsUnderWay (board_of P.seen state.old) }
     requires empty { report.items ≡ [] }
     requires room { length state.old.cells.items ≤ vec_capacity report }
     ensures stays { Stays (board_of P.seen state.old) (board_of P.seen state.new) }
     ensures end { EndHolds result state.old.wires (boxes_of (cells_of P.seen state.new.cells.items)) }
 {
-    match run_rounds(state) {
+    match run_rounds(rt, state, workers) {
         Ok(true) => end_of(state, report),
         Ok(false) => ExecEnd::Memory,
         Err(f) => fault_end(state, f),

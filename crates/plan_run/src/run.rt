@@ -17,6 +17,7 @@ use pipeline_exec::{ExecEnd, RunResult, run_graph};
 use port_word::Wire;
 use proc_api::{Processor, Rack, WorkFault};
 use query_model::processor_spec::{Kind, Spec};
+use std::thread::Threads;
 
 /// The nodes of a plan in order, by what each box is loaded with, their ranks and their wires.
 #[derive(Drop)]
@@ -47,7 +48,7 @@ struct PlanEnd {
 ///
 /// The first box of each spec's kind is taken in turn. Whatever comes, all boxes are given back in
 /// the order in which they were taken.
-pub fn run_plan<R: AllocGlobal>(
+pub fn run_plan<R: AllocGlobal + Threads + Sync>(
     rt: &R,
     rack: &mut Rack,
     plan: PlanGraph,
@@ -83,7 +84,7 @@ pub fn run_plan<R: AllocGlobal>(
 }
 
 /// Runs a plan by boxes that it takes into the room.
-fn run_in<R: AllocGlobal>(
+fn run_in<R: AllocGlobal + Threads + Sync>(
     rt: &R,
     rack: &mut Rack,
     plan: PlanGraph,
@@ -118,7 +119,7 @@ fn run_in<R: AllocGlobal>(
 }
 
 /// Loads the boxes and runs the graph of them.
-fn run_taken<R: AllocGlobal>(
+fn run_taken<R: AllocGlobal + Threads + Sync>(
     rt: &R,
     boxes: Vec<Box<dyn Processor + Send>>,
     plan: PlanGraph,
@@ -157,7 +158,7 @@ fn run_taken<R: AllocGlobal>(
 }
 
 /// Runs the graph of loaded boxes.
-fn run_loaded<R: AllocGlobal>(
+fn run_loaded<R: AllocGlobal + Threads + Sync>(
     rt: &R,
     boxes: Vec<Box<dyn Processor + Send>>,
     ranks: List<u32>,

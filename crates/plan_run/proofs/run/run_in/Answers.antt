@@ -5,11 +5,12 @@ use Rattle.plan_run.proofs.Telling.{fault-by, if-err, if-ok, plan-gives-back, pl
 use Rattle.plan_run.proofs.run.run_in.Goals as goal
 
 pub run_taken-boxes-requires-clause-blank : goal.run_taken-boxes-requires-clause-blank
-run_taken-boxes-requires-clause-blank g c = subst (All IsBlank) (sym c.take_boxes.ensures.taken)
+run_taken-boxes-requires-clause-blank g c κs lives =
+    subst (All IsBlank) (sym c.take_boxes.ensures.taken)
     (taken-all IsBlank (kinds_of c.args.plan.specs.items) _ c.requires.stock c.requires.blank)
 
 pub run_taken-boxes-requires-clause-kinds : goal.run_taken-boxes-requires-clause-kinds
-run_taken-boxes-requires-clause-kinds g c = ap kinds_in c.take_boxes.ensures.taken
+run_taken-boxes-requires-clause-kinds g c κs lives = ap kinds_in c.take_boxes.ensures.taken
     ∙ taken-kinds (kinds_of c.args.plan.specs.items) _ c.requires.stock
 
 pub returns-clause-rack : goal.returns-clause-rack

@@ -5,11 +5,11 @@ use Rattle.plan_run.proofs.Telling.{fault-by, if-err, still-then-later, taken-ro
 use Rattle.plan_run.proofs.run.run_taken.Goals as goal
 
 pub run_loaded-requires-clause-fresh : goal.run_loaded-requires-clause-fresh
-run_loaded-requires-clause-fresh g c = loaded-fresh c.args.plan.specs.items _ _
+run_loaded-requires-clause-fresh g c κs lives = loaded-fresh c.args.plan.specs.items _ _
     (same-count _ c.args.boxes.items c.args.plan.specs.items c.requires.kinds) c.in-Ok.ensures.ok
 
 pub run_loaded-requires-clause-no_list : goal.run_loaded-requires-clause-no_list
-run_loaded-requires-clause-no_list g c = loaded-no-list c.args.plan.specs.items _ _
+run_loaded-requires-clause-no_list g c κs lives = loaded-no-list c.args.plan.specs.items _ _
     (same-count _ c.args.boxes.items c.args.plan.specs.items c.requires.kinds) c.requires.no_list
     c.in-Ok.ensures.ok
 
