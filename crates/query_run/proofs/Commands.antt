@@ -1,7 +1,7 @@
 -- The query that was read of a command and checked, and the plan that it has.
-use Rattle.std.proofs.Common.{◌≡◌, ◌≤◌, Bool, true, false, not, ◌||◌, List, [], ◌∷◌, length, map, flat_map, Option, Some, None, is_some, option_map, refl, sym, ap, ap₂, subst, ◌∙◌, arith, append-nil}
+use Rattle.std.proofs.Common.{◌≡◌, ◌≤◌, Bool, true, false, not, ◌||◌, List, [], ◌∷◌, length, map, Option, Some, None, is_some, option_map, refl, sym, ap, ap₂, subst, ◌∙◌, arith}
 use Rattle.std.specs.Prelude.{◌==◌}
-use Rattle.query_run.proofs.Prelude.{All, All-head, IsTypedQuery, from_types, BothOrNone, IsChecked, IsCheckedJoin, IsShape, use_of, join_use, used_tables, need, FromColumn, from_columns, join_tables, refusal_of, table_columns, output_names, sort_key, Join, OrderKey, Query, Schema, TableDecl, Checked, CheckedJoin, Shape, Plain, Grouped, Kind, QueryTree, condition, IsReadFrom, analysable_of_read, is_grouped, one_table_of_read, one_tree, same_grouped, IsWithinLimits, Command, IsPlannable, UsesNoList, used_types, IsTypedSelect, typed-select, types_of_table, are_grouped, are_some, are_tested, from_few, need_simple, simple_need, source_bounds}
+use Rattle.query_run.proofs.Prelude.{All, IsTypedQuery, from_types, BothOrNone, IsChecked, IsCheckedJoin, IsShape, use_of, join_use, used_tables, need, FromColumn, from_columns, join_tables, refusal_of, output_names, sort_key, Join, OrderKey, Query, Schema, TableDecl, Checked, CheckedJoin, Shape, Plain, Grouped, Kind, QueryTree, condition, IsReadFrom, analysable_of_read, is_grouped, one_tree, same_grouped, IsWithinLimits, Command, IsPlannable, UsesNoList, IsTypedSelect, typed-select, are_grouped, are_some, are_tested, are_two, clause_need, few_sources, need_by_clauses, recursion_from_All}
 use Rattle.query_model.specs.declared.processor_spec.Kind.TheVariants as kind
 use Rattle.query_run.specs.Names.{NamesFewPaths, stock_of, IsAccepted, IsCheckedCommand, UsesLists, schemas_of, tables_used}
 
@@ -70,37 +70,20 @@ same_tables command p q a b =
 
 -- ---- the plan
 
-none_with : {A B : Type 0} (R : A → B → Type 0) (a : Option A) (b : Option B) → BothOrNone R a b
-    → a ≡ None → b ≡ None
-none_with R None None h e = refl
-none_with R None (Some y) h e = absurd h
-none_with R (Some x) b h e = absurd cc
-
 -- the query is one that is planned
 pub plannable : (command : Command) (checked : Checked) → IsCheckedCommand command checked
     → IsPlannable checked command.tables
-plannable command checked h = record {
-  one_table = none_with _ h.query.join checked.join h.is.join
-      (one_table_of_read h.query command.query h.read);
-  no_list = subst (UsesNoList command.tables) (sym h.is.from)
-      (All-head (UsesNoList command.tables) _ _ h.planned);
-}
+plannable command checked h =
+    recursion_from_All (UsesNoList command.tables) (used_tables checked)
+    (subst (All (UsesNoList command.tables)) (sym (used_are command h.query checked h.is))
+    h.planned)
 
--- a checked command's query is typed by the columns of its table
-pub typed_by_table : (command : Command) (checked : Checked) → IsCheckedCommand command checked
-    → IsTypedSelect (used_types command.tables checked.from) checked
-typed_by_table command checked h =
-    let schemas : List Schema = schemas_of command in
-    let types : from_types h.query schemas ≡ used_types command.tables checked.from =
-    ap (λ (j : Option Join). map (λ (c : FromColumn). c.type)
-    (flat_map (table_columns schemas) (h.query.from ∷ join_tables j)))
-    (one_table_of_read h.query command.query h.read)
-    ∙ ap (map (λ (c : FromColumn). c.type)) (append-nil (table_columns schemas h.query.from))
-    ∙ types_of_table command.tables h.query.from
-    ∙ ap (used_types command.tables) (sym h.is.from) in
-    subst (λ types. IsTypedSelect types checked) types
-    (typed-select h.query schemas checked h.accepted h.is
-    (analysable_of_read true h.query command.query h.read) h.typed)
+-- a checked command's query is typed by the columns of its tables
+pub typed_by_tables : (command : Command) (checked : Checked) → IsCheckedCommand command checked
+    → IsTypedSelect command.tables checked
+typed_by_tables command checked h =
+    typed-select h.query (schemas_of command) checked h.accepted h.is command.tables refl
+    (analysable_of_read h.query command.query h.read) h.typed
 
 -- ---- what it needs
 
@@ -155,9 +138,6 @@ module _ (command : Command) (p q : Checked) (a : IsCheckedCommand command p)
       ≡ need q command.tables command.threads k
   same_need k =
       let trees = one_tree command.query a.query b.query a.read.spells b.read.spells in
-      let from : p.from ≡ q.from =
-      a.is.from ∙ ap (λ (t : QueryTree). use_of (schemas_of command) t.from) trees
-      ∙ sym b.is.from in
       let filters : is_some p.filter ≡ is_some q.filter =
       sym (some_both _ a.query.filter p.filter a.is.filter)
       ∙ sym (some_mapped condition a.query.filter)
@@ -177,30 +157,35 @@ module _ (command : Command) (p q : Checked) (a : IsCheckedCommand command p)
       of_p.1 ∙ sym (some_mapped condition a.query.having)
       ∙ ap (λ (t : QueryTree). is_some t.having) trees
       ∙ some_mapped condition b.query.having ∙ sym of_q.1 in
-      need_simple command.tables command.threads p (plannable command p a) k
-      ∙ rw (from, filters, groups, tests, orders, limits) refl
-      ∙ sym (need_simple command.tables command.threads q (plannable command q b) k)
+      need_by_clauses command.tables command.threads p k
+      ∙ ap (λ us. clause_need command.tables command.threads us (are_two us) (is_some p.filter)
+      (are_grouped p.shape) (are_tested p.shape) (are_some p.order) (is_some p.limit) k) same_uses
+      ∙ rw (filters, groups, tests, orders, limits) refl
+      ∙ sym (need_by_clauses command.tables command.threads q k)
 
 -- the stock is enough for every plan within the limit of paths
 pub stock_serves : (command : Command) (q : Checked) → IsWithinLimits command
     → IsCheckedCommand command q → NamesFewPaths command q → (k : Kind)
     → need q command.tables command.threads k ≤ stock_of k
 stock_serves command q within h few k =
-    subst (λ n. n ≤ stock_of k)
-    (sym (need_simple command.tables command.threads q (plannable command q h) k))
-    (go k (is_some q.filter) (are_grouped q.shape) (are_tested q.shape) (are_some q.order)
-    (is_some q.limit))
+    subst (λ n. n ≤ stock_of k) (sym (need_by_clauses command.tables command.threads q k))
+    (go k (are_two (used_tables q)) (is_some q.filter) (are_grouped q.shape) (are_tested q.shape)
+    (are_some q.order) (is_some q.limit))
   where
-    go : (k : Kind) (filtered grouped tested ordered limited : Bool)
-        → simple_need command.tables command.threads q.from filtered grouped tested ordered limited
-        k ≤ stock_of k
-    go kind.Csv f g t o l = let most =
-        (source_bounds command.tables q.from (plannable command q h).no_list
-        (from_few command.tables q few)).0 in omega (arith, most)
-    go kind.List f g t o l = let none =
-        (source_bounds command.tables q.from (plannable command q h).no_list
-        (from_few command.tables q few)).1 in omega (arith, none)
-    go kind.Numbers f g t o l = let most =
-        (source_bounds command.tables q.from (plannable command q h).no_list
-        (from_few command.tables q few)).2 in omega (arith, most)
-    go k f g t o l = let most = within.few_threads in grind (arith, most)
+    two : (j : Option CheckedJoin) → length (q.from ∷ join_use j) ≤ 2
+    two None = omega arith
+    two (Some j) = omega arith
+
+    go : (k : Kind) (joined filtered grouped tested ordered limited : Bool)
+        → clause_need command.tables command.threads (used_tables q) joined filtered grouped tested
+        ordered limited k ≤ stock_of k
+    go kind.Csv j f g t o l =
+        let sources = few_sources command.tables (used_tables q) (plannable command q h) few in
+        let parts = sources.parts in omega (arith, parts, two q.join)
+    go kind.List j f g t o l =
+        let sources = few_sources command.tables (used_tables q) (plannable command q h) few in
+        let none = sources.lists in omega (arith, none)
+    go kind.Numbers j f g t o l =
+        let sources = few_sources command.tables (used_tables q) (plannable command q h) few in
+        let numbers = sources.numbers in omega (arith, numbers, two q.join)
+    go k j f g t o l = let most = within.few_threads in grind (arith, most)

@@ -1,11 +1,11 @@
 -- From the chunks that a plan's graph gives to the text of one answer of a command.
 use Rattle.std.proofs.Common.{◌≡◌, ◌⊎◌, ℕ, ◌+◌, ◌-◌, ◌<◌, Bool, true, false, if◌then◌else◌, List, [], ◌∷◌, ◌++◌, map, length, refl, ap, sym, subst, ◌∙◌, arith, Option, Some, None, inl, inr, length-append, flat_map}
-use Rattle.query_run.proofs.Prelude.{IfSome, All, get_or-map, length-map, All-append, All-nil, Row, ColumnType, SortKey, AllPartsValid, Files, database, join_use, parts_used, IsValidUsed, flow, kind_of, answer_text, rows_text, Checked, Spec, Shape, Plain, Grouped, heading, Kind, map-map, IsWithinLimits, Command, BoxPicture, handed_out_by, IsSourceKind, chunk_rows, box_at, no_draft, ports_of, with_nodes, DraftNode, NodePort, HasEnough, SelectPlan, body_nodes, collect_node, join_valid, needed_valid, plan_nodes, plan_valid, read_valid, shape_of, pulled_rows, NodeForm, forms, node_form, Stream, all_rows, rows_of, IsPlannable, join_of, order_of, source_types, HasEnded, HasPulled, parts_of, pulled_at, since-pulled, table-valid, QueryAnswered, planned-ended, HasStock, kinds_of, spec_at}
+use Rattle.query_run.proofs.Prelude.{IfSome, All, get_or-map, length-map, All-append, Row, ColumnType, SortKey, AllPartsValid, Files, database, join_use, parts_used, IsValidUsed, flow, kind_of, answer_text, rows_text, Checked, Spec, Shape, Plain, heading, Kind, map-map, IsWithinLimits, Command, BoxPicture, handed_out_by, IsSourceKind, chunk_rows, box_at, no_draft, ports_of, with_nodes, DraftNode, NodePort, HasEnough, SelectPlan, body_nodes, collect_node, join_valid, needed_valid, plan_nodes, plan_valid, shape_of, pulled_rows, NodeForm, forms, node_form, Stream, all_rows, rows_of, order_of, source_types, HasEnded, HasPulled, parts_of, pulled_at, since-pulled, both-valid, joined-valid, table-valid, QueryAnswered, planned-ended, HasStock, kinds_of, spec_at}
 use Rattle.query_model.specs.declared.processor_spec.Kind.TheVariants as kind
 use Rattle.query_model.specs.declared.processor_spec.Spec.TheVariants as spec
 use Rattle.query_run.specs.Names.{AreLawfulOver, IsPlain, IsRunnable, PulledMore, plan_of, specs_in, IsCheckedCommand, IsCertain, MakesText, PullsItsFlow, GivesText}
 use Rattle.query_run.proofs.Causes.{ran, stock}
-use Rattle.query_run.proofs.Commands.{plannable, typed_by_table}
+use Rattle.query_run.proofs.Commands.{plannable, typed_by_tables}
 use Rattle.query_run.proofs.Plans.{ended-files, ended-kind, ended-lawful, ran-at, small_plan}
 use Rattle.query_run.proofs.Pulling.{kind-pulled}
 
@@ -21,12 +21,13 @@ if-some : {A : Type 0} {P Q : A → Type 0} (o : Option A) → ((x : A) → P x 
 if-some None f h = h
 if-some (Some x) f h = f x h
 
--- a plan that was cut short reads valid parts alone, or the query has no groups and no order
+-- a plan that was cut short reads valid parts alone, or the query has no groups and no order, and
+-- the joined table's parts are valid
 cut_or_valid : (s : Shape) (from types : List ColumnType) (rows : ℕ) (keys : List SortKey)
     (all join : Bool)
     → needed_valid (shape_of s from rows) (order_of types rows keys) all join ≡ true
-    → (all ≡ true) ⊎ (IsPlain s × (keys ≡ []))
-cut_or_valid (Plain items) from types rows [] all join e = inr (tt, refl)
+    → (all ≡ true) ⊎ (IsPlain s × (keys ≡ []) × (join ≡ true))
+cut_or_valid (Plain items) from types rows [] all join e = inr (tt, refl, e)
 cut_or_valid s from types rows keys all join e = inl e
 
 -- ---- an ended plan
@@ -91,7 +92,7 @@ module _ (c : Command) (within : IsWithinLimits c) (q : Checked) (h : IsCheckedC
     answered : QueryAnswered q c.header files c.tables plan nodes ended has_ended last
     answered =
         planned-ended q c.tables c.threads c.chunk_rows c.header files nodes ended has_ended last
-        (plannable c q h) (typed_by_table c q h)
+        (plannable c q h) (typed_by_tables c q h)
         (let some = within.some_threads in omega (arith, some))
         (small_plan c within q h nodes same runnable.paths) same count
 
@@ -112,21 +113,17 @@ module _ (c : Command) (within : IsWithinLimits c) (q : Checked) (h : IsCheckedC
         ∙ ap (λ n. handed_out_by (box_at ended n).kind (box_at ended n).work) place
         ∙ ap (λ k. handed_out_by k (box_at ended last).work) of_kind ∙ collected.gathered)
 
-    joined : All (IsValidUsed c.header files)
-        (flat_map (parts_used files c.tables) (join_use q.join))
-    joined =
-        subst (λ j. All (IsValidUsed c.header files)
-        (flat_map (parts_used files c.tables) (join_use j))) (sym (plannable c q h).one_table)
-        (All-nil (IsValidUsed c.header files))
+    joined : join_valid (parts_of files) plan.join ≡ true
+        → All (IsValidUsed c.header files) (flat_map (parts_used files c.tables) (join_use q.join))
+    joined = joined-valid c.tables c.header c.chunk_rows files q.from q.join (plannable c q h).1
 
     all_parts : plan_valid (parts_of files) plan ≡ true → AllPartsValid c.header files c.tables q
     all_parts all =
-        let p : IsPlannable q c.tables = plannable c q h in
-        let from = ap (λ j. read_valid (parts_of files) plan.sources
-        (join_of c.tables c.header c.chunk_rows q.from j)) p.one_table in
+        let both = both-valid (parts_of files) plan.sources plan.join all in
         All-append (IsValidUsed c.header files) (parts_used files c.tables q.from)
         (flat_map (parts_used files c.tables) (join_use q.join))
-        (table-valid c.tables c.header c.chunk_rows files q.from p.no_list (sym from ∙ all)) joined
+        (table-valid c.tables c.header c.chunk_rows files q.from (plannable c q h).0 both.0)
+        (joined both.1)
 
     certain : IsCertain c.header files c.tables q
     certain = elim answered.valid [
@@ -141,7 +138,7 @@ module _ (c : Command) (within : IsWithinLimits c) (q : Checked) (h : IsCheckedC
               enough_rows = subst (HasEnough q.limit) answered.output cut.enough_rows;
               ungrouped = free.0;
               unordered = free.1;
-              joined = joined;
+              joined = joined free.2;
             })
           ]
     ]

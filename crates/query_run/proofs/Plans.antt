@@ -1,10 +1,10 @@
 -- The nodes of a checked query's plan, and the boxes that they take from a rack.
 use Rattle.std.proofs.Common.{◌≡◌, ◌≢◌, ℕ, zero, suc, ◌<◌, ◌≤◌, true, List, [], ◌∷◌, length, count_by, Some, refl, sym, subst, ◌∙◌, arith, flat_map}
-use Rattle.query_run.proofs.Prelude.{All, AllByRecursion, length-map, All-cons, All-nil, Files, join_use, parts_used, used_parts, kind_of, Checked, PartSpec, Spec, Kind, IsWithinLimits, Command, BoxPicture, no_box, IsSourceKind, is_of, box_at, DraftNode, IsSmall, plan_nodes, forms, plan-needs, is-small, IsStep, PartHas, kinds-counted, from_few, IsPartOf, in-front, table-parts, IsQueryPlan, query-plan, simple-steps, taken_for, HasStock, kinds_of, spec_at, taken_at, RanWith, RunsPlan, taken-all, taken-length}
+use Rattle.query_run.proofs.Prelude.{All, AllByRecursion, Contains-append_right, UsedPart, length-map, All-cons, All-nil, Files, join_use, parts_used, used_parts, kind_of, Checked, PartSpec, Spec, Kind, IsWithinLimits, Command, BoxPicture, no_box, IsSourceKind, is_of, box_at, DraftNode, IsSmall, plan_nodes, forms, plan-needs, is-small, IsStep, PartHas, kinds-counted, IsPartOf, in-front, joined-parts, table-parts, IsQueryPlan, plan-steps, query-plan, taken_for, HasStock, kinds_of, spec_at, taken_at, RanWith, RunsPlan, taken-all, taken-length}
 use Rattle.query_model.specs.declared.processor_spec.Kind.TheVariants as kind
 use Rattle.query_model.specs.declared.processor_spec.Spec.TheVariants as spec
 use Rattle.query_run.specs.Names.{AreLawfulOver, HasBoxes, NamesFewPaths, boxes_for, plan_kinds, plan_of, specs_in, IsCheckedCommand}
-use Rattle.query_run.proofs.Commands.{plannable, typed_by_table}
+use Rattle.query_run.proofs.Commands.{plannable, typed_by_tables}
 
 -- ---- the plan of a query
 
@@ -27,20 +27,27 @@ module _ (c : Command) (within : IsWithinLimits c) (q : Checked) (h : IsCheckedC
   query_plan : IsQueryPlan (plan_of c q)
   query_plan =
       query-plan q c.tables c.threads c.chunk_rows c.header (plannable c q h)
-      (typed_by_table c q h) (let some = within.some_threads in omega (arith, some))
+      (typed_by_tables c q h) (let some = within.some_threads in omega (arith, some))
 
   pub small_plan : NamesFewPaths c q → IsSmall (plan_of c q)
   small_plan few =
-      is-small q c.tables c.threads c.chunk_rows c.header (plannable c q h)
-      (from_few c.tables q few) within.few_threads
+      is-small q c.tables c.threads c.chunk_rows c.header (plannable c q h) few
+      within.few_threads
 
   -- each node's kind is known, and a part that it reads is one that the query uses
   pub steps_are : AllByRecursion (IsStep (IsUsedPart c q)) nodes
   steps_are =
-      simple-steps (IsUsedPart c q) (plan_of c q) nodes query_plan.is query_plan.simple
-      (table-parts c.tables c.header c.chunk_rows (λ files. used_parts files c.tables q) q.from
-      (plannable c q h).no_list (λ files p m. in-front p (parts_used files c.tables q.from)
-      (flat_map (parts_used files c.tables) (join_use q.join)) m)) same
+      let p = plannable c q h in
+      let used : Files → List UsedPart = λ files. used_parts files c.tables q in
+      let more : Files → List UsedPart =
+      λ files. flat_map (parts_used files c.tables) (join_use q.join) in
+      plan-steps (IsUsedPart c q) (plan_of c q) nodes query_plan.is (
+        table-parts c.tables c.header c.chunk_rows used q.from p.0
+            (λ files u m. in-front u (parts_used files c.tables q.from) (more files) m),
+        joined-parts c.tables c.header c.chunk_rows used q.from q.join p.1
+            (λ files u m.
+            Contains-append_right (parts_used files c.tables q.from) (more files) u m),
+      ) same
 
   -- none is a list
   pub no_list : All (λ (s : Spec). kind_of s ≢ kind.List) (specs_in nodes)

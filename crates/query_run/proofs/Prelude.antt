@@ -2,7 +2,7 @@
 pub use Rattle.std.proofs.lemmas.Bool.{both_ways, cases_lt, cond_both}
 pub use Rattle.std.proofs.lemmas.Grind.{flat_map-append}
 pub use Rattle.std.proofs.lemmas.List.{get_or-map, get_or_past, length-map, map-id, take-append-drop, take_more}
-pub use Rattle.std.proofs.lemmas.List.Elements.{All-append, All-cons, All-contains, All-head, All-nil}
+pub use Rattle.std.proofs.lemmas.List.Elements.{All-append, All-cons, All-contains, All-nil, Contains-append_right, recursion_from_All}
 pub use Rattle.std.proofs.lemmas.List.FromFn.{get_or-range_with_len}
 pub use Rattle.std.specs.List.{All, AllByRecursion}
 pub use Rattle.std.specs.Prelude.{IfSome, slice_get}
@@ -17,13 +17,13 @@ unfoldable pub use Rattle.exec_laws.specs.Runs.{box_at}
 pub use Rattle.outside_io.proofs.Growing.{GrewByPrefix-after, GrewByPrefix-append}
 pub use Rattle.outside_io.specs.Counts.{Rose, Rose-earlier}
 pub use Rattle.outside_io.specs.Growth.{GrewBy, GrewByPrefix, Untouched}
-pub use Rattle.plan_ends.proofs.Columns.{IsTypedSelect, typed-select, types_of_table}
-pub use Rattle.plan_ends.proofs.Needs.{are_grouped, are_some, are_tested, from_few, need_simple, simple_need, source_bounds}
+pub use Rattle.plan_ends.proofs.Columns.{IsTypedSelect, typed-select}
+pub use Rattle.plan_ends.proofs.KnownKinds.{plan-steps}
+pub use Rattle.plan_ends.proofs.Needs.{are_grouped, are_some, are_tested, are_two, clause_need, few_sources, need_by_clauses}
 pub use Rattle.plan_ends.proofs.NodeKinds.{kinds-counted, kinds-same}
-pub use Rattle.plan_ends.proofs.Parts.{IsPartOf, in-front, table-parts, table-valid}
+pub use Rattle.plan_ends.proofs.Parts.{IsPartOf, both-valid, in-front, joined-parts, joined-valid, table-parts, table-valid}
 pub use Rattle.plan_ends.proofs.Pulled.{since-pulled}
 pub use Rattle.plan_ends.proofs.Queries.{IsQueryPlan, QueryAnswered, planned-ended, query-plan}
-pub use Rattle.plan_ends.proofs.SimplePlans.{simple-steps}
 pub use Rattle.plan_ends.specs.Ended.{HasEnded, HasFullCount, HasPulled, IsStep, PartHas, parts_of, pulled_at, pulled_since, used_part}
 pub use Rattle.plan_graph.specs.Drafts.{no_draft, ports_of, with_nodes}
 pub use Rattle.plan_graph.specs.declared.nodes.DraftNode.{DraftNode}
@@ -59,13 +59,12 @@ pub use Rattle.select_planner.proofs.Laying.{is-small}
 pub use Rattle.select_planner.specs.Counts.{boxes_needed}
 pub use Rattle.select_planner.specs.Refusals.{first_crowded}
 pub use Rattle.select_planner.specs.Shapes.{edge_of, node_of, plan_ranks, plan_wires, wire_of}
-pub use Rattle.select_planner.specs.Steps.{IsPlannable, UsesNoList, join_of, order_of, source_types, used_types}
+pub use Rattle.select_planner.specs.Steps.{IsPlannable, UsesNoList, order_of, source_types}
 pub use Rattle.select_planner.specs.declared.nodes.Plan.{Plan}
 pub use Rattle.select_planner.specs.declared.nodes.PlanNode.{PlanNode}
 pub use Rattle.sql_grammar.proofs.Trees.{same_grouped, same_refusal}
 pub use Rattle.sql_grammar.specs.Trees.{QueryTree, condition}
 pub use Rattle.sql_text.proofs.AnalysableQueries.{analysable_of_read}
-pub use Rattle.sql_text.proofs.BuiltQueries.{one_table_of_read}
 pub use Rattle.sql_text.proofs.Readings.{one_tree}
 pub use Rattle.sql_text.specs.Refusals.{IsReadFrom, IsRefused}
 pub use Rattle.sql_text.specs.declared.limits.ParseRefusal.{ParseRefusal}

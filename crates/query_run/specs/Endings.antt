@@ -70,7 +70,6 @@ text_line parse.TooLong = codes "qrun: refused: TooLong"
 text_line parse.Syntax = codes "qrun: refused: Syntax"
 text_line parse.NumberTooLarge = codes "qrun: refused: NumberTooLarge"
 text_line parse.TooComplex = codes "qrun: refused: TooComplex"
-text_line parse.NotBuilt = codes "qrun: refused: NotBuilt"
 text_line parse.Memory = codes "qrun: out of memory"
 
 -- the refusal's name, and the name that it carries

@@ -18,7 +18,7 @@ use Rattle.query_run.specs.declared.stock.Shortage.{Shortage}
 
 -- ---- honest racks
 
--- the stock of each kind that is built
+-- the stock of each kind that is built; lists of parts aren't
 abbrev pub stock_of : Kind → ℕ
 stock_of kind.Csv = 64
 stock_of kind.List = 0
@@ -28,7 +28,7 @@ stock_of kind.Expression = 17
 stock_of kind.Resize = 4
 stock_of kind.PartialAggregate = 16
 stock_of kind.MergeAggregate = 1
-stock_of kind.HashJoin = 0
+stock_of kind.HashJoin = 1
 stock_of kind.Sort = 16
 stock_of kind.MergeSorted = 1
 stock_of kind.Limit = 1

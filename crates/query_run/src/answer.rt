@@ -23,9 +23,10 @@ use query_model::checked::Checked;
 use query_model::query::TableDecl;
 use select_planner::{Plan, PlanRefusal, plan};
 use std::alloc::Global;
+use std::thread::Threads;
 
 /// The text of the answer of the command that the words mean, made by the boxes of the rack.
-pub(crate) fn make_text<R: AllocGlobal>(
+pub(crate) fn make_text<R: AllocGlobal + Threads + Sync>(
     rt: &R,
     words: &[String],
     rack: &mut Rack,
@@ -54,7 +55,7 @@ pub(crate) fn make_text<R: AllocGlobal>(
 }
 
 /// The text of the answer of a command's checked query.
-fn checked_text<R: AllocGlobal>(
+fn checked_text<R: AllocGlobal + Threads + Sync>(
     rt: &R,
     command: Command,
     checked: Checked,
@@ -91,7 +92,7 @@ fn checked_text<R: AllocGlobal>(
 }
 
 /// The text of the answer of a checked query by its plan, for which the rack has the boxes.
-fn planned_text<R: AllocGlobal>(
+fn planned_text<R: AllocGlobal + Threads + Sync>(
     rt: &R,
     command: Command,
     checked: Checked,
@@ -135,7 +136,7 @@ fn planned_text<R: AllocGlobal>(
 }
 
 /// The text of what the graph of a plan gives.
-fn graph_text<R: AllocGlobal>(
+fn graph_text<R: AllocGlobal + Threads + Sync>(
     rt: &R,
     rack: &mut Rack,
     graph: PlanGraph,

@@ -222,7 +222,6 @@ fn text_line(refusal: ParseRefusal) -> &'static [u8]
         ParseRefusal::Syntax => b"qrun: refused: Syntax",
         ParseRefusal::NumberTooLarge => b"qrun: refused: NumberTooLarge",
         ParseRefusal::TooComplex => b"qrun: refused: TooComplex",
-        ParseRefusal::NotBuilt => b"qrun: refused: NotBuilt",
         ParseRefusal::Memory => b"qrun: out of memory",
     }
 }

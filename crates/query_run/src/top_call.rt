@@ -8,6 +8,7 @@ use crate::answer::make_text;
 use crate::ending::Ending;
 use outside_io::{Sink, WriteFault, write_all};
 use proc_api::Rack;
+use std::thread::Threads;
 
 /// Runs the command that the words mean, which are those after the program's name, by boxes of the
 /// rack.
@@ -16,7 +17,7 @@ use proc_api::Rack;
 /// another cause; a line that tells of any other end goes to `err`. The answer is the exit status:
 /// 0 answered, 1 usage, 2 refused, 3 bad data, 4 a read fault or a reader that stalled, 5 a write
 /// fault, 6 a limit, 7 out of memory. The files are read by the readers of the rack's sources.
-pub fn run<R: AllocGlobal, O: Sink, E: Sink>(
+pub fn run<R: AllocGlobal + Threads + Sync, O: Sink, E: Sink>(
     rt: &R,
     words: &[String],
     rack: &mut Rack,
@@ -37,7 +38,12 @@ pub fn run<R: AllocGlobal, O: Sink, E: Sink>(
     ending.status()
 }
 
-fn end_of<R: AllocGlobal, O: Sink>(rt: &R, words: &[String], rack: &mut Rack, out: &mut O) -> Ending
+fn end_of<R: AllocGlobal + Threads + Sync, O: Sink>(
+    rt: &R,
+    words: &[String],
+    rack: &mut Rack,
+    out: &mut O,
+) -> Ending
     requires blank { All IsBlank (map (λ b. seen (b.vtable, b.value)) rack.old.boxes.items) }
     ensures ends { EndsFor result (map string_bytes words.now)
         (map (λ b. seen (b.vtable, b.value)) rack.old.boxes.items)

@@ -4,32 +4,32 @@ use Rattle.query_run.proofs.Planned.{few-nodes, made-cause, made-fault, made-gra
 use Rattle.query_run.proofs.answer.planned_text.Goals as goal
 
 pub graph_text-requires-clause-no_list : goal.graph_text-requires-clause-no_list
-graph_text-requires-clause-no_list g c =
+graph_text-requires-clause-no_list g c κs lives =
     made-no-list c.requires.within c.requires.checked c.requires.planned
     c.in-Ok-graph_of.ensures.specs
 
 pub graph_text-requires-clause-some_nodes : goal.graph_text-requires-clause-some_nodes
-graph_text-requires-clause-some_nodes g c =
+graph_text-requires-clause-some_nodes g c κs lives =
     some-nodes c.requires.within c.requires.checked c.requires.planned
     c.in-Ok-graph_of.ensures.specs
 
 pub graph_text-requires-clause-few_nodes : goal.graph_text-requires-clause-few_nodes
-graph_text-requires-clause-few_nodes g c =
+graph_text-requires-clause-few_nodes g c κs lives =
     few-nodes c.requires.within c.requires.checked c.requires.planned c.in-Ok-graph_of.ensures.specs
 
 pub graph_text-requires-clause-one_each : goal.graph_text-requires-clause-one_each
-graph_text-requires-clause-one_each g c =
+graph_text-requires-clause-one_each g c κs lives =
     one-each c.requires.within c.requires.checked c.requires.planned c.in-Ok-graph_of.ensures.specs
     c.in-Ok-graph_of.ensures.ranks
 
 pub graph_text-requires-clause-graph : goal.graph_text-requires-clause-graph
-graph_text-requires-clause-graph g c =
+graph_text-requires-clause-graph g c κs lives =
     made-graph c.requires.within c.requires.checked c.requires.planned
     c.in-Ok-graph_of.ensures.specs
     c.in-Ok-graph_of.ensures.ranks c.in-Ok-graph_of.ensures.wires
 
 pub graph_text-requires-clause-stock : goal.graph_text-requires-clause-stock
-graph_text-requires-clause-stock g c =
+graph_text-requires-clause-stock g c κs lives =
     made-stock c.requires.within c.requires.checked c.requires.planned
     c.in-Ok-graph_of.ensures.specs
     c.requires.runnable

@@ -1,10 +1,10 @@
-use Rattle.std.proofs.Common.{true, ap, ◌∙◌, map}
+use Rattle.std.proofs.Common.{ap, ◌∙◌, map}
 use Rattle.query_run.proofs.Prelude.{both_ways, TableDecl, analysable_of_read}
 use Rattle.query_run.proofs.Commands.{checked_command, listed_command}
 use Rattle.query_run.proofs.checking.analysed.Goals as goal
 
 pub analyse-requires : goal.analyse-requires
-analyse-requires c = analysable_of_read true c.args.query c.args.command.now.query c.requires
+analyse-requires c = analysable_of_read c.args.query c.args.command.now.query c.requires
 
 pub returns-then-uses_no_lists-clause-checked : goal.returns-then-uses_no_lists-clause-checked
 returns-then-uses_no_lists-clause-checked c =
