@@ -1,11 +1,13 @@
 // Analysis of texts, over the tables t(a Int64, b String), u(a UInt64), w(k Int64, v UInt64, s String) and
 // twice(a Int64, a String).
+use crate::halves;
 use chunk_data::{Bytes, ColumnType, List};
 use query_model::analysis::analyse;
 use query_model::checked::{Checked, Grouping, Shape};
 use query_model::query::{ColumnDecl, Refusal, Schema};
-use sql_text::{ParseRefusal, parse_whole};
+use sql_text::parse;
 use std::alloc::Global;
+use std::process::Abort;
 use std::test::Fail;
 
 fn bytes(alloc: Global, text: &str) -> Result<Bytes, Fail> {
@@ -122,174 +124,134 @@ fn outcome(alloc: Global, answer: Result<Checked, Refusal>) -> Result<Vec<u8>, F
 /// What analysis tells of the query that the text spells.
 fn told(alloc: Global, text: &str) -> Result<Vec<u8>, Fail> {
     let tables = tables(alloc)?;
-    match parse_whole(alloc, text.as_bytes()) {
+    match parse(alloc, text.as_bytes()) {
         Ok(query) => outcome(alloc, analyse(alloc, query, &tables)),
         Err(_) => Err(Fail::new("not a query")),
     }
 }
 
-#[test]
-fn names_mean_one_column(rt: HostRuntime) -> Result<(), Fail> {
-    for (text, expected) in [
-        ("SELECT a FROM x", "UnknownTable x"),
-        ("SELECT c FROM x", "UnknownTable x"),
-        ("SELECT t.a FROM t JOIN x ON t.a = x.a", "UnknownTable x"),
-        ("SELECT c FROM t", "UnknownColumn c"),
-        ("SELECT t.z FROM t", "UnknownColumn t.z"),
-        ("SELECT u . a FROM t", "UnknownColumn u.a"),
-        ("SELECT d + c FROM t", "UnknownColumn d"),
-        ("SELECT a FROM t WHERE c = a", "UnknownColumn c"),
-        ("SELECT c FROM t WHERE d = a", "UnknownColumn c"),
-        ("SELECT a FROM t GROUP BY c", "UnknownColumn c"),
-        ("SELECT sum(c) FROM t", "UnknownColumn c"),
-        ("SELECT count() FROM t HAVING min(c) = 1", "UnknownColumn c"),
-        ("SELECT b FROM t JOIN u ON t.a = u.c", "UnknownColumn u.c"),
-        ("SELECT a, c FROM t JOIN u ON t.a = u.a", "UnknownColumn c"),
-        ("SELECT a FROM t JOIN u ON t.a = u.a", "AmbiguousColumn a"),
-        ("SELECT a FROM twice", "AmbiguousColumn a"),
-        ("SELECT twice.a FROM twice", "AmbiguousColumn twice.a"),
-        ("SELECT k FROM w JOIN w ON w.k = w.k", "AmbiguousColumn k"),
-        ("SELECT number FROM numbers(3)", "number |"),
-        ("SELECT numbers.number FROM numbers(3)", "number |"),
-        ("SELECT a FROM numbers(3)", "UnknownColumn a"),
-    ] {
-        let told = told(rt.alloc(), text)?;
+/// Each text has what is told of it behind a `~`.
+fn check_each(rt: &impl Abort, alloc: Global, cases: &[&str]) -> Result<(), Fail> {
+    for case in cases {
+        let (text, expected) = halves(case);
+        let told = told(alloc, text)?;
         assert_eq!(rt; told.as_slice(), expected.as_bytes(), "{text}");
     }
     Ok(())
+}
+
+#[test]
+fn names_mean_one_column(rt: HostRuntime) -> Result<(), Fail> {
+    let cases = [
+        "SELECT a FROM x~UnknownTable x",
+        "SELECT c FROM x~UnknownTable x",
+        "SELECT t.a FROM t JOIN x ON t.a = x.a~UnknownTable x",
+        "SELECT c FROM t~UnknownColumn c",
+        "SELECT t.z FROM t~UnknownColumn t.z",
+        "SELECT u . a FROM t~UnknownColumn u.a",
+        "SELECT d + c FROM t~UnknownColumn d",
+        "SELECT a FROM t WHERE c = a~UnknownColumn c",
+        "SELECT c FROM t WHERE d = a~UnknownColumn c",
+        "SELECT a FROM t GROUP BY c~UnknownColumn c",
+        "SELECT sum(c) FROM t~UnknownColumn c",
+        "SELECT count() FROM t HAVING min(c) = 1~UnknownColumn c",
+        "SELECT b FROM t JOIN u ON t.a = u.c~UnknownColumn u.c",
+        "SELECT a, c FROM t JOIN u ON t.a = u.a~UnknownColumn c",
+        "SELECT a FROM t JOIN u ON t.a = u.a~AmbiguousColumn a",
+        "SELECT a FROM twice~AmbiguousColumn a",
+        "SELECT twice.a FROM twice~AmbiguousColumn twice.a",
+        "SELECT k FROM w JOIN w ON w.k = w.k~AmbiguousColumn k",
+        "SELECT number FROM numbers(3)~number |",
+        "SELECT numbers.number FROM numbers(3)~number |",
+        "SELECT a FROM numbers(3)~UnknownColumn a",
+    ];
+    check_each(&rt, rt.alloc(), &cases)
 }
 
 #[test]
 fn types_fit(rt: HostRuntime) -> Result<(), Fail> {
-    for (text, expected) in [
-        ("SELECT a + b FROM t", "TypeMismatch"),
-        ("SELECT 1 FROM t", "TypeMismatch"),
-        ("SELECT 1 * 2 FROM t", "TypeMismatch"),
-        ("SELECT a - 9223372036854775808 FROM t", "TypeMismatch"),
-        ("SELECT a - -9223372036854775808 FROM t", "item_1 |"),
-        ("SELECT a + -0 FROM u", "item_1 |"),
-        ("SELECT -1 + a FROM u", "TypeMismatch"),
-        ("SELECT a + 18446744073709551615 FROM u", "item_1 |"),
-        ("SELECT k + v FROM w", "TypeMismatch"),
-        ("SELECT number + -1 FROM numbers(3)", "TypeMismatch"),
-        ("SELECT sum(b) FROM t", "TypeMismatch"),
-        ("SELECT sum(1) FROM t", "TypeMismatch"),
-        (
-            "SELECT min(b), max(a * a) FROM t",
-            "item_1 item_2 | keys picks 0 1 calls 2 lone",
-        ),
-        ("SELECT a FROM t WHERE a = 'x'", "TypeMismatch"),
-        ("SELECT a FROM t WHERE a = b", "TypeMismatch"),
-        ("SELECT a FROM t WHERE b = 'x'", "a |"),
-        ("SELECT k FROM w WHERE k = v", "k |"),
-        ("SELECT a FROM u WHERE a = -1", "a |"),
-        ("SELECT a FROM t WHERE 'x' = 'y' AND 1 < 2", "a |"),
-        ("SELECT a FROM t GROUP BY a HAVING a = 'x'", "TypeMismatch"),
-        (
-            "SELECT a FROM t GROUP BY a HAVING sum(b) = 1",
-            "TypeMismatch",
-        ),
-        (
-            "SELECT a FROM t GROUP BY a HAVING max(b) = 1",
-            "TypeMismatch",
-        ),
-    ] {
-        let told = told(rt.alloc(), text)?;
-        assert_eq!(rt; told.as_slice(), expected.as_bytes(), "{text}");
-    }
-    Ok(())
+    let cases = [
+        "SELECT a + b FROM t~TypeMismatch",
+        "SELECT 1 FROM t~TypeMismatch",
+        "SELECT 1 * 2 FROM t~TypeMismatch",
+        "SELECT a - 9223372036854775808 FROM t~TypeMismatch",
+        "SELECT a - -9223372036854775808 FROM t~item_1 |",
+        "SELECT a + -0 FROM u~item_1 |",
+        "SELECT -1 + a FROM u~TypeMismatch",
+        "SELECT a + 18446744073709551615 FROM u~item_1 |",
+        "SELECT k + v FROM w~TypeMismatch",
+        "SELECT number + -1 FROM numbers(3)~TypeMismatch",
+        "SELECT sum(b) FROM t~TypeMismatch",
+        "SELECT sum(1) FROM t~TypeMismatch",
+        "SELECT min(b), max(a * a) FROM t~item_1 item_2 | keys picks 0 1 calls 2 lone",
+        "SELECT a FROM t WHERE a = 'x'~TypeMismatch",
+        "SELECT a FROM t WHERE a = b~TypeMismatch",
+        "SELECT a FROM t WHERE b = 'x'~a |",
+        "SELECT k FROM w WHERE k = v~k |",
+        "SELECT a FROM u WHERE a = -1~a |",
+        "SELECT a FROM t WHERE 'x' = 'y' AND 1 < 2~a |",
+        "SELECT a FROM t GROUP BY a HAVING a = 'x'~TypeMismatch",
+        "SELECT a FROM t GROUP BY a HAVING sum(b) = 1~TypeMismatch",
+        "SELECT a FROM t GROUP BY a HAVING max(b) = 1~TypeMismatch",
+    ];
+    check_each(&rt, rt.alloc(), &cases)
 }
 
 #[test]
 fn pairs_are_of_two_tables(rt: HostRuntime) -> Result<(), Fail> {
-    for (text, expected) in [
-        ("SELECT b FROM t JOIN u ON t.a = u.a", "BadJoinKey"),
-        ("SELECT b FROM t JOIN w ON b = t.a", "BadJoinKey"),
-        ("SELECT b FROM t JOIN w ON t.a = a", "BadJoinKey"),
-        ("SELECT v FROM t JOIN w ON k = k", "BadJoinKey"),
-        ("SELECT b, v FROM t JOIN w ON a = k", "b v | 0=0"),
-        ("SELECT b, v FROM t INNER JOIN w ON w.k = t.a", "b v | 0=0"),
-        (
-            "SELECT v, a FROM w JOIN t ON b == s AND k = a",
-            "v a | 2=1 0=0",
-        ),
-        ("SELECT * FROM u JOIN w ON v = u.a", "a k v s | 0=1"),
-        ("SELECT k FROM w JOIN numbers(3) ON number = v", "k | 1=0"),
-        ("SELECT v + 'x' FROM t JOIN w ON t.a = b", "Syntax"),
-    ] {
-        let told = told_or_syntax(rt.alloc(), text)?;
-        assert_eq!(rt; told.as_slice(), expected.as_bytes(), "{text}");
-    }
-    Ok(())
-}
-
-fn told_or_syntax(alloc: Global, text: &str) -> Result<Vec<u8>, Fail> {
-    match parse_whole(alloc, text.as_bytes()) {
-        Err(ParseRefusal::Syntax) => Ok(Vec::from_slice(alloc, b"Syntax")?),
-        _ => told(alloc, text),
-    }
+    let cases = [
+        "SELECT b FROM t JOIN u ON t.a = u.a~BadJoinKey",
+        "SELECT b FROM t JOIN w ON b = t.a~BadJoinKey",
+        "SELECT b FROM t JOIN w ON t.a = a~BadJoinKey",
+        "SELECT v FROM t JOIN w ON k = k~BadJoinKey",
+        "SELECT b, v FROM t JOIN w ON a = k~b v | 0=0",
+        "SELECT b, v FROM t INNER JOIN w ON w.k = t.a~b v | 0=0",
+        "SELECT v, a FROM w JOIN t ON b == s AND k = a~v a | 2=1 0=0",
+        "SELECT * FROM u JOIN w ON v = u.a~a k v s | 0=1",
+        "SELECT k FROM w JOIN numbers(3) ON number = v~k | 1=0",
+    ];
+    check_each(&rt, rt.alloc(), &cases)
 }
 
 #[test]
 fn groups_have_keys_and_calls(rt: HostRuntime) -> Result<(), Fail> {
-    for (text, expected) in [
-        ("SELECT b FROM t GROUP BY a", "NotGrouped b"),
-        ("SELECT a, b, t.b FROM t GROUP BY a", "NotGrouped b"),
-        ("SELECT * FROM t GROUP BY a", "NotGrouped *"),
-        ("SELECT * FROM t HAVING count() > 1", "NotGrouped *"),
-        ("SELECT a + a FROM t GROUP BY a", "NotGrouped a"),
-        ("SELECT s, k + k FROM w GROUP BY s, k", "NotGrouped k"),
-        ("SELECT a, count() FROM t", "NotGrouped a"),
-        (
-            "SELECT count() FROM t HAVING a = 1 AND b = 'x'",
-            "NotGrouped a",
-        ),
-        ("SELECT a FROM t GROUP BY a HAVING b = 'x'", "NotGrouped b"),
-        (
-            "SELECT count() FROM t",
-            "item_1 | keys picks 0 calls 1 lone",
-        ),
-        ("SELECT t.a FROM t GROUP BY a", "a | keys 0 picks 0 calls 0"),
-        (
-            "SELECT s, max(v) AS m, k FROM w GROUP BY k, w.s, s HAVING count() > 1 AND max(k) < k",
-            "s m k | keys 0 2 2 picks 1 3 0 calls 3 having",
-        ),
-        (
-            "SELECT k, count(*) AS n FROM w GROUP BY k ORDER BY n DESC, k",
-            "k n | keys 0 picks 0 1 calls 1 -1 +0",
-        ),
-        (
-            "SELECT w.s, sum(number) FROM numbers(9) JOIN w ON v = number GROUP BY w.s",
-            "s item_2 | 0=1 keys 3 picks 0 1 calls 1",
-        ),
-    ] {
-        let told = told(rt.alloc(), text)?;
-        assert_eq!(rt; told.as_slice(), expected.as_bytes(), "{text}");
-    }
-    Ok(())
+    let cases = [
+        "SELECT b FROM t GROUP BY a~NotGrouped b",
+        "SELECT a, b, t.b FROM t GROUP BY a~NotGrouped b",
+        "SELECT * FROM t GROUP BY a~NotGrouped *",
+        "SELECT * FROM t HAVING count() > 1~NotGrouped *",
+        "SELECT a + a FROM t GROUP BY a~NotGrouped a",
+        "SELECT s, k + k FROM w GROUP BY s, k~NotGrouped k",
+        "SELECT a, count() FROM t~NotGrouped a",
+        "SELECT count() FROM t HAVING a = 1 AND b = 'x'~NotGrouped a",
+        "SELECT a FROM t GROUP BY a HAVING b = 'x'~NotGrouped b",
+        "SELECT count() FROM t~item_1 | keys picks 0 calls 1 lone",
+        "SELECT t.a FROM t GROUP BY a~a | keys 0 picks 0 calls 0",
+        "SELECT s, max(v) AS m, k FROM w GROUP BY k, w.s, s HAVING count() > 1 AND max(k) < k~\
+         s m k | keys 0 2 2 picks 1 3 0 calls 3 having",
+        "SELECT k, count(*) AS n FROM w GROUP BY k ORDER BY n DESC, k~\
+         k n | keys 0 picks 0 1 calls 1 -1 +0",
+        "SELECT w.s, sum(number) FROM numbers(9) JOIN w ON v = number GROUP BY w.s~\
+         s item_2 | 0=1 keys 3 picks 0 1 calls 1",
+    ];
+    check_each(&rt, rt.alloc(), &cases)
 }
 
 #[test]
 fn order_keys_name_one_item(rt: HostRuntime) -> Result<(), Fail> {
-    for (text, expected) in [
-        ("SELECT a FROM t ORDER BY b", "BadOrderKey b"),
-        ("SELECT a, b AS a FROM t ORDER BY a", "BadOrderKey a"),
-        ("SELECT a AS x FROM t ORDER BY a", "BadOrderKey a"),
-        ("SELECT a, b FROM t ORDER BY a, c, d", "BadOrderKey c"),
-        ("SELECT * FROM t JOIN u ON t.a = u.a", "BadJoinKey"),
-        ("SELECT b FROM t GROUP BY a ORDER BY c", "NotGrouped b"),
-        ("SELECT a, b FROM t ORDER BY b, a DESC", "a b | +1 -0"),
-        (
-            "SELECT t.a, b AS x FROM t ORDER BY x DESC, a ASC",
-            "a x | -1 +0",
-        ),
-        ("SELECT a * a, b FROM t ORDER BY item_1", "item_1 b | +0"),
-        ("SELECT * FROM t ORDER BY b", "a b | +1"),
-    ] {
-        let told = told(rt.alloc(), text)?;
-        assert_eq!(rt; told.as_slice(), expected.as_bytes(), "{text}");
-    }
-    Ok(())
+    let cases = [
+        "SELECT a FROM t ORDER BY b~BadOrderKey b",
+        "SELECT a, b AS a FROM t ORDER BY a~BadOrderKey a",
+        "SELECT a AS x FROM t ORDER BY a~BadOrderKey a",
+        "SELECT a, b FROM t ORDER BY a, c, d~BadOrderKey c",
+        "SELECT * FROM t JOIN u ON t.a = u.a~BadJoinKey",
+        "SELECT b FROM t GROUP BY a ORDER BY c~NotGrouped b",
+        "SELECT a, b FROM t ORDER BY b, a DESC~a b | +1 -0",
+        "SELECT t.a, b AS x FROM t ORDER BY x DESC, a ASC~a x | -1 +0",
+        "SELECT a * a, b FROM t ORDER BY item_1~item_1 b | +0",
+        "SELECT * FROM t ORDER BY b~a b | +1",
+    ];
+    check_each(&rt, rt.alloc(), &cases)
 }
 
 /// The text with `piece` repeated between its two ends.

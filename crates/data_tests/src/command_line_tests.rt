@@ -1,3 +1,4 @@
+use crate::halves;
 use chunk_data::{ColumnType, List};
 use command_line::{Command, WordsRefusal, read_words};
 use query_model::query::{ColumnDecl, PartsDecl, TableDecl};
@@ -7,188 +8,142 @@ use std::test::Fail;
 // Words, which line breaks part, and what they mean: the query, the tables, the number of workers,
 // the rows of a chunk and the header, or a faulty command line. What is expected is told by the
 // description of the command, and not taken from the program.
-static CASES: [(&str, &str); 111] = [
+static CASES: [&str; 111] = [
     // Options in any order, each with its value behind it or behind `=`.
-    (
-        "--query\nSELECT a FROM t\n--tables\nt=f.csv:a Int64,b String",
-        "SELECT a FROM t|t=f.csv:a Int64,b String|4|8192|",
-    ),
-    ("--query=q", "q||4|8192|"),
-    ("--query=a = b", "a = b||4|8192|"),
-    ("--tables=t=p:a Int64\n--query=q", "q|t=p:a Int64|4|8192|"),
-    (
-        "--header\n--chunk\n1\n--threads=16\n--query\nq",
-        "q||16|1|header",
-    ),
-    ("--query\nq\n--header", "q||4|8192|header"),
-    ("--query=", "||4|8192|"),
-    ("--query\n", "||4|8192|"),
-    ("--query=-1", "-1||4|8192|"),
-    ("--query\n-", "-||4|8192|"),
-    ("--query\nq\n--", "q||4|8192|"),
+    "--query\nSELECT a FROM t\n--tables\nt=f.csv:a Int64,b String~\
+     SELECT a FROM t|t=f.csv:a Int64,b String|4|8192|",
+    "--query=q~q||4|8192|",
+    "--query=a = b~a = b||4|8192|",
+    "--tables=t=p:a Int64\n--query=q~q|t=p:a Int64|4|8192|",
+    "--header\n--chunk\n1\n--threads=16\n--query\nq~q||16|1|header",
+    "--query\nq\n--header~q||4|8192|header",
+    "--query=~||4|8192|",
+    "--query\n~||4|8192|",
+    "--query=-1~-1||4|8192|",
+    "--query\n-~-||4|8192|",
+    "--query\nq\n--~q||4|8192|",
     // No value, a doubled option, a word that isn't the command's.
-    ("--query", "usage"),
-    ("--tables\nt=p:a Int64", "usage"),
-    ("--query\nq\n--tables", "usage"),
-    ("--query\nq\n--threads", "usage"),
-    ("--query\n--header", "usage"),
-    ("--query\n--", "usage"),
-    ("--query\n-1", "usage"),
-    ("--query\nq\n--query\nq", "usage"),
-    ("--query=q\n--query\nr", "usage"),
-    (
-        "--query\nq\n--tables\nt=p:a Int64\n--tables\nu=p:a Int64",
-        "usage",
-    ),
-    ("--query\nq\n--threads\n2\n--threads\n2", "usage"),
-    ("--query=q\n--chunk=2\n--chunk=2", "usage"),
-    ("--query\nq\n--header\n--header", "usage"),
-    ("--query\nq\n--header=true", "usage"),
-    ("--query\nq\n--header\ntrue", "usage"),
-    ("--query\nq\n--x", "usage"),
-    ("--query\nq\nx", "usage"),
-    ("--query\nq\n--\nx", "usage"),
-    ("--\n--query\nq", "usage"),
-    ("-query\nq", "usage"),
-    ("--quer\nq", "usage"),
-    ("--Query\nq", "usage"),
-    ("query\nq", "usage"),
-    ("", "usage"),
-    ("--query\nq\n--help", "usage"),
-    ("--query\nq\n-h", "usage"),
-    ("--query\nq\n--version", "usage"),
-    ("--query\nq\n-V", "usage"),
-    ("help", "usage"),
+    "--query~usage",
+    "--tables\nt=p:a Int64~usage",
+    "--query\nq\n--tables~usage",
+    "--query\nq\n--threads~usage",
+    "--query\n--header~usage",
+    "--query\n--~usage",
+    "--query\n-1~usage",
+    "--query\nq\n--query\nq~usage",
+    "--query=q\n--query\nr~usage",
+    "--query\nq\n--tables\nt=p:a Int64\n--tables\nu=p:a Int64~usage",
+    "--query\nq\n--threads\n2\n--threads\n2~usage",
+    "--query=q\n--chunk=2\n--chunk=2~usage",
+    "--query\nq\n--header\n--header~usage",
+    "--query\nq\n--header=true~usage",
+    "--query\nq\n--header\ntrue~usage",
+    "--query\nq\n--x~usage",
+    "--query\nq\nx~usage",
+    "--query\nq\n--\nx~usage",
+    "--\n--query\nq~usage",
+    "-query\nq~usage",
+    "--quer\nq~usage",
+    "--Query\nq~usage",
+    "query\nq~usage",
+    "~usage",
+    "--query\nq\n--help~usage",
+    "--query\nq\n-h~usage",
+    "--query\nq\n--version~usage",
+    "--query\nq\n-V~usage",
+    "help~usage",
     // Numbers of one to five digits, in range.
-    ("--query\nq\n--threads\n1", "q||1|8192|"),
-    ("--query\nq\n--threads\n16", "q||16|8192|"),
-    ("--query\nq\n--threads\n00016", "q||16|8192|"),
-    ("--query\nq\n--threads\n04", "q||4|8192|"),
-    ("--query\nq\n--threads=0", "usage"),
-    ("--query\nq\n--threads=17", "usage"),
-    ("--query\nq\n--threads=000016", "usage"),
-    ("--query\nq\n--threads=", "usage"),
-    ("--query\nq\n--threads=+4", "usage"),
-    ("--query\nq\n--threads=4 ", "usage"),
-    ("--query\nq\n--threads=x", "usage"),
-    ("--query\nq\n--threads=1e1", "usage"),
-    ("--query\nq\n--threads=99999", "usage"),
-    ("--query\nq\n--threads=-4", "usage"),
-    ("--query\nq\n--chunk\n1", "q||4|1|"),
-    ("--query\nq\n--chunk\n8192", "q||4|8192|"),
-    ("--query\nq\n--chunk\n65536", "q||4|65536|"),
-    ("--query\nq\n--chunk\n00001", "q||4|1|"),
-    ("--query\nq\n--chunk=0", "usage"),
-    ("--query\nq\n--chunk=65537", "usage"),
-    ("--query\nq\n--chunk=99999", "usage"),
-    ("--query\nq\n--chunk=100000", "usage"),
-    ("--query\nq\n--chunk=008192", "usage"),
-    ("--query\nq\n--chunk=8_192", "usage"),
+    "--query\nq\n--threads\n1~q||1|8192|",
+    "--query\nq\n--threads\n16~q||16|8192|",
+    "--query\nq\n--threads\n00016~q||16|8192|",
+    "--query\nq\n--threads\n04~q||4|8192|",
+    "--query\nq\n--threads=0~usage",
+    "--query\nq\n--threads=17~usage",
+    "--query\nq\n--threads=000016~usage",
+    "--query\nq\n--threads=~usage",
+    "--query\nq\n--threads=+4~usage",
+    "--query\nq\n--threads=4 ~usage",
+    "--query\nq\n--threads=x~usage",
+    "--query\nq\n--threads=1e1~usage",
+    "--query\nq\n--threads=99999~usage",
+    "--query\nq\n--threads=-4~usage",
+    "--query\nq\n--chunk\n1~q||4|1|",
+    "--query\nq\n--chunk\n8192~q||4|8192|",
+    "--query\nq\n--chunk\n65536~q||4|65536|",
+    "--query\nq\n--chunk\n00001~q||4|1|",
+    "--query\nq\n--chunk=0~usage",
+    "--query\nq\n--chunk=65537~usage",
+    "--query\nq\n--chunk=99999~usage",
+    "--query\nq\n--chunk=100000~usage",
+    "--query\nq\n--chunk=008192~usage",
+    "--query\nq\n--chunk=8_192~usage",
     // Declarations, and their parts.
-    (
-        "--query\nq\n--tables\nt=p+r:a Int64",
-        "q|t=p+r:a Int64|4|8192|",
-    ),
-    (
-        "--query\nq\n--tables\nt=@list.txt:a Int64",
-        "q|t=@list.txt:a Int64|4|8192|",
-    ),
-    (
-        "--query\nq\n--tables\nt=p@1:a UInt64",
-        "q|t=p@1:a UInt64|4|8192|",
-    ),
-    (
-        "--query\nq\n--tables\n_t1=a/b=c.csv:x_1 String",
-        "q|_t1=a/b=c.csv:x_1 String|4|8192|",
-    ),
-    (
-        "--query\nq\n--tables\nt=a b,c:a Int64",
-        "q|t=a b,c:a Int64|4|8192|",
-    ),
-    (
-        "--query\nq\n--tables\nl=l.csv:k Int64,a Int64;r=r.csv:k Int64,b Int64",
-        "q|l=l.csv:k Int64,a Int64;r=r.csv:k Int64,b Int64|4|8192|",
-    ),
-    (
-        "--query\nq\n--tables\nt=p:a Int64;T=p:a Int64,A String",
-        "q|t=p:a Int64;T=p:a Int64,A String|4|8192|",
-    ),
-    ("--query\nq\n--tables\n", "usage"),
-    ("--query\nq\n--tables\nt=@@list.txt:a Int64", "usage"),
-    ("--query\nq\n--tables\nt=@:a Int64", "usage"),
-    ("--query\nq\n--tables\nt=@l+p:a Int64", "usage"),
-    ("--query\nq\n--tables\nt=p+@l:a Int64", "usage"),
-    ("--query\nq\n--tables\nt=p+:a Int64", "usage"),
-    ("--query\nq\n--tables\nt=+p:a Int64", "usage"),
-    ("--query\nq\n--tables\nt=:a Int64", "usage"),
-    ("--query\nq\n--tables\nt=p;r:a Int64", "usage"),
-    ("--query\nq\n--tables\nt=p::a Int64", "usage"),
-    ("--query\nq\n--tables\nt=p:a Int64;", "usage"),
-    ("--query\nq\n--tables\n;t=p:a Int64", "usage"),
-    ("--query\nq\n--tables\nt=p:a Int64;t=r:b Int64", "usage"),
-    ("--query\nq\n--tables\nt=p", "usage"),
-    ("--query\nq\n--tables\nt=p:", "usage"),
-    ("--query\nq\n--tables\nt:a Int64", "usage"),
-    ("--query\nq\n--tables\n=p:a Int64", "usage"),
-    ("--query\nq\n--tables\n1t=p:a Int64", "usage"),
-    ("--query\nq\n--tables\nSeLect=p:a Int64", "usage"),
-    ("--query\nq\n--tables\nt =p:a Int64", "usage"),
+    "--query\nq\n--tables\nt=p+r:a Int64~q|t=p+r:a Int64|4|8192|",
+    "--query\nq\n--tables\nt=@list.txt:a Int64~q|t=@list.txt:a Int64|4|8192|",
+    "--query\nq\n--tables\nt=p@1:a UInt64~q|t=p@1:a UInt64|4|8192|",
+    "--query\nq\n--tables\n_t1=a/b=c.csv:x_1 String~q|_t1=a/b=c.csv:x_1 String|4|8192|",
+    "--query\nq\n--tables\nt=a b,c:a Int64~q|t=a b,c:a Int64|4|8192|",
+    "--query\nq\n--tables\nl=l.csv:k Int64,a Int64;r=r.csv:k Int64,b Int64~\
+     q|l=l.csv:k Int64,a Int64;r=r.csv:k Int64,b Int64|4|8192|",
+    "--query\nq\n--tables\nt=p:a Int64;T=p:a Int64,A String~\
+     q|t=p:a Int64;T=p:a Int64,A String|4|8192|",
+    "--query\nq\n--tables\n~usage",
+    "--query\nq\n--tables\nt=@@list.txt:a Int64~usage",
+    "--query\nq\n--tables\nt=@:a Int64~usage",
+    "--query\nq\n--tables\nt=@l+p:a Int64~usage",
+    "--query\nq\n--tables\nt=p+@l:a Int64~usage",
+    "--query\nq\n--tables\nt=p+:a Int64~usage",
+    "--query\nq\n--tables\nt=+p:a Int64~usage",
+    "--query\nq\n--tables\nt=:a Int64~usage",
+    "--query\nq\n--tables\nt=p;r:a Int64~usage",
+    "--query\nq\n--tables\nt=p::a Int64~usage",
+    "--query\nq\n--tables\nt=p:a Int64;~usage",
+    "--query\nq\n--tables\n;t=p:a Int64~usage",
+    "--query\nq\n--tables\nt=p:a Int64;t=r:b Int64~usage",
+    "--query\nq\n--tables\nt=p~usage",
+    "--query\nq\n--tables\nt=p:~usage",
+    "--query\nq\n--tables\nt:a Int64~usage",
+    "--query\nq\n--tables\n=p:a Int64~usage",
+    "--query\nq\n--tables\n1t=p:a Int64~usage",
+    "--query\nq\n--tables\nSeLect=p:a Int64~usage",
+    "--query\nq\n--tables\nt =p:a Int64~usage",
     // Columns.
-    ("--query\nq\n--tables\nt=p:1a Int64", "usage"),
-    ("--query\nq\n--tables\nt=p:null Int64", "usage"),
-    ("--query\nq\n--tables\nt=p:a int64", "usage"),
-    ("--query\nq\n--tables\nt=p:a  Int64", "usage"),
-    ("--query\nq\n--tables\nt=p:a Int64 ", "usage"),
-    ("--query\nq\n--tables\nt=p: a Int64", "usage"),
-    ("--query\nq\n--tables\nt=p:a", "usage"),
-    ("--query\nq\n--tables\nt=p:a Int64,", "usage"),
-    ("--query\nq\n--tables\nt=p:a Int64,a String", "usage"),
-    ("--query\nq\n--tables\nt=p:a Int64, b Int64", "usage"),
-    ("--query\nq\n--tables=", "usage"),
+    "--query\nq\n--tables\nt=p:1a Int64~usage",
+    "--query\nq\n--tables\nt=p:null Int64~usage",
+    "--query\nq\n--tables\nt=p:a int64~usage",
+    "--query\nq\n--tables\nt=p:a  Int64~usage",
+    "--query\nq\n--tables\nt=p:a Int64 ~usage",
+    "--query\nq\n--tables\nt=p: a Int64~usage",
+    "--query\nq\n--tables\nt=p:a~usage",
+    "--query\nq\n--tables\nt=p:a Int64,~usage",
+    "--query\nq\n--tables\nt=p:a Int64,a String~usage",
+    "--query\nq\n--tables\nt=p:a Int64, b Int64~usage",
+    "--query\nq\n--tables=~usage",
     // Worked commands: one row a chunk, several parts, a list file, a heading.
-    (
-        "--query\nSELECT a FROM t WHERE a > 5\n--tables\nt=f.csv:a Int64\n--chunk\n1",
-        "SELECT a FROM t WHERE a > 5|t=f.csv:a Int64|4|1|",
-    ),
-    (
-        "--query\nSELECT a, b FROM t ORDER BY a, b\n--tables\nt=f.csv:a Int64,b String\n\
-         --threads\n1\n--chunk\n1",
-        "SELECT a, b FROM t ORDER BY a, b|t=f.csv:a Int64,b String|1|1|",
-    ),
-    (
-        "--query\nSELECT a, b FROM t ORDER BY a, b\n--tables\nt=f.csv:a Int64,b String\n\
-         --chunk=8192\n--threads=2",
-        "SELECT a, b FROM t ORDER BY a, b|t=f.csv:a Int64,b String|2|8192|",
-    ),
-    (
-        "--threads=16\n--query=SELECT a, b FROM t ORDER BY a, b\n\
-         --tables=t=f.csv:a Int64,b String",
-        "SELECT a, b FROM t ORDER BY a, b|t=f.csv:a Int64,b String|16|8192|",
-    ),
-    (
-        "--query\nSELECT a FROM t LIMIT 3 OFFSET 2\n--tables\nt=p1+p2+p3+p4:a Int64",
-        "SELECT a FROM t LIMIT 3 OFFSET 2|t=p1+p2+p3+p4:a Int64|4|8192|",
-    ),
-    (
-        "--query\nSELECT a FROM t LIMIT 0\n--tables\nt=p1+p2+p3+p4:a Int64",
-        "SELECT a FROM t LIMIT 0|t=p1+p2+p3+p4:a Int64|4|8192|",
-    ),
-    (
-        "--query\nSELECT a, count() FROM t GROUP BY a LIMIT 0\n--tables\nt=f.csv:a Int64",
-        "SELECT a, count() FROM t GROUP BY a LIMIT 0|t=f.csv:a Int64|4|8192|",
-    ),
-    (
-        "--query\nSELECT count(), sum(a) FROM t\n--tables\nt=@list.txt:a Int64",
-        "SELECT count(), sum(a) FROM t|t=@list.txt:a Int64|4|8192|",
-    ),
-    (
-        "--header\n--query\nSELECT shop, count() AS n, sum(qty * price) AS total FROM sales \
-         WHERE price > 50 GROUP BY shop HAVING count() > 1 ORDER BY total DESC, shop LIMIT 10\n\
-         --tables\nsales=s.csv:day String,shop UInt64,qty UInt64,price UInt64",
-        "SELECT shop, count() AS n, sum(qty * price) AS total FROM sales \
-         WHERE price > 50 GROUP BY shop HAVING count() > 1 ORDER BY total DESC, shop LIMIT 10\
-         |sales=s.csv:day String,shop UInt64,qty UInt64,price UInt64|4|8192|header",
-    ),
+    "--query\nSELECT a FROM t WHERE a > 5\n--tables\nt=f.csv:a Int64\n--chunk\n1~\
+     SELECT a FROM t WHERE a > 5|t=f.csv:a Int64|4|1|",
+    "--query\nSELECT a, b FROM t ORDER BY a, b\n--tables\nt=f.csv:a Int64,b \
+     String\n--threads\n1\n--chunk\n1~SELECT a, b FROM t ORDER BY a, b|t=f.csv:a Int64,b \
+     String|1|1|",
+    "--query\nSELECT a, b FROM t ORDER BY a, b\n--tables\nt=f.csv:a Int64,b \
+     String\n--chunk=8192\n--threads=2~SELECT a, b FROM t ORDER BY a, b|t=f.csv:a Int64,b \
+     String|2|8192|",
+    "--threads=16\n--query=SELECT a, b FROM t ORDER BY a, b\n--tables=t=f.csv:a Int64,b String~\
+     SELECT a, b FROM t ORDER BY a, b|t=f.csv:a Int64,b String|16|8192|",
+    "--query\nSELECT a FROM t LIMIT 3 OFFSET 2\n--tables\nt=p1+p2+p3+p4:a Int64~\
+     SELECT a FROM t LIMIT 3 OFFSET 2|t=p1+p2+p3+p4:a Int64|4|8192|",
+    "--query\nSELECT a FROM t LIMIT 0\n--tables\nt=p1+p2+p3+p4:a Int64~\
+     SELECT a FROM t LIMIT 0|t=p1+p2+p3+p4:a Int64|4|8192|",
+    "--query\nSELECT a, count() FROM t GROUP BY a LIMIT 0\n--tables\nt=f.csv:a Int64~\
+     SELECT a, count() FROM t GROUP BY a LIMIT 0|t=f.csv:a Int64|4|8192|",
+    "--query\nSELECT count(), sum(a) FROM t\n--tables\nt=@list.txt:a Int64~\
+     SELECT count(), sum(a) FROM t|t=@list.txt:a Int64|4|8192|",
+    "--header\n--query\nSELECT shop, count() AS n, sum(qty * price) AS total FROM sales WHERE \
+     price > 50 GROUP BY shop HAVING count() > 1 ORDER BY total DESC, shop LIMIT \
+     10\n--tables\nsales=s.csv:day String,shop UInt64,qty UInt64,price UInt64~SELECT shop, \
+     count() AS n, sum(qty * price) AS total FROM sales WHERE price > 50 GROUP BY shop HAVING \
+     count() > 1 ORDER BY total DESC, shop LIMIT 10|sales=s.csv:day String,shop UInt64,qty \
+     UInt64,price UInt64|4|8192|header",
 ];
 
 // Adds a text of ASCII bytes.
@@ -285,9 +240,10 @@ fn words_of(alloc: Global, text: &str) -> Result<Vec<String>, Fail> {
 #[test]
 fn words_mean_what_clap_and_the_forms_say(rt: HostRuntime) -> Result<(), Fail> {
     let alloc = rt.alloc();
-    for (text, want) in CASES.iter() {
+    for case in CASES.iter() {
+        let (text, want) = halves(case);
         let words = words_of(alloc, text)?;
-        assert_eq!(rt; shown(alloc, words.as_slice())?.as_str(), *want, "{text}");
+        assert_eq!(rt; shown(alloc, words.as_slice())?.as_str(), want, "{text}");
     }
     Ok(())
 }

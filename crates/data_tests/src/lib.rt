@@ -25,3 +25,10 @@ mod select_planner_tests;
 mod sql_grammar_tests;
 #[cfg(test)]
 mod sql_text_tests;
+
+/// The two halves of a case, between which a `~` stands.
+#[cfg(test)]
+fn halves(case: &str) -> (&str, &str) {
+    let mut halves = case.split('~');
+    (halves.next().unwrap_or(""), halves.next().unwrap_or(""))
+}

@@ -2,7 +2,7 @@ ghost use Rattle.std.specs.Prelude.{◌≡◌, ◌≤◌, [], IfOk};
 ghost use Rattle.select_planner.specs.Steps.{IsPlannable};
 
 use chunk_data::{List, SortKey};
-use query_model::checked::{Checked, Shape, TableUse};
+use query_model::checked::{Checked, CheckedJoin, KeyPair, Shape, TableUse};
 use query_model::processor_spec::Kind;
 use query_model::query::{CompareOp, CondOf, ExprOf, Number, Operand, Span, TableDecl};
 use select_planner::{needs, plan};
@@ -10,8 +10,9 @@ use std::alloc::Global;
 use std::process::Abort;
 use std::test::Fail;
 
-// SELECT number FROM numbers(3) WHERE number < 2 LIMIT 1, and where it is ordered by number DESC.
-fn numbers_query(alloc: Global, ordered: bool) -> Result<Checked, Fail>
+// SELECT number FROM numbers(3) WHERE number < 2 LIMIT 1, also ordered by number DESC, or joined
+// with numbers(2).
+fn numbers_query(alloc: Global, ordered: bool, joined: bool) -> Result<Checked, Fail>
     ensures { IfOk result (λ q. IsPlannable q []) }
 {
     let mut items = Vec::new(alloc);
@@ -29,9 +30,15 @@ fn numbers_query(alloc: Global, ordered: bool) -> Result<Checked, Fail>
             descending: true,
         })?;
     }
+    let mut pairs = Vec::new(alloc);
+    pairs.push(KeyPair { left: 0, right: 0 })?;
+    let second = CheckedJoin {
+        table: TableUse::Numbers(2),
+        pairs: List::from_vec(pairs),
+    };
     Ok(Checked {
         from: TableUse::Numbers(3),
-        join: None,
+        join: if joined { Some(second) } else { None },
         filter: Some(CondOf::Compare(CompareOp::Lt, left, right)),
         shape: Shape::Plain(List::from_vec(items)),
         names: List::new(alloc),
@@ -54,7 +61,7 @@ fn has_plan(
     requires some { 1 ≤ lanes }
     requires few { lanes ≤ 16 }
 {
-    let query = numbers_query(alloc, ordered)?;
+    let query = numbers_query(alloc, ordered, false)?;
     let tables: List<TableDecl> = List::new(alloc);
     let made = plan(alloc, &query, &tables, lanes, 8192, false)?;
     assert_eq!(rt; made.nodes.len(), nodes);
@@ -82,4 +89,17 @@ fn lanes_are_laid_down(rt: HostRuntime) -> Result<(), Fail> {
     has_plan(&rt, rt.alloc(), 1, true, 8, 7)?;
     has_plan(&rt, rt.alloc(), 2, true, 11, 11)?;
     has_plan(&rt, rt.alloc(), 16, true, 53, 67)
+}
+
+#[test]
+fn two_tables_are_joined(rt: HostRuntime) -> Result<(), Fail> {
+    let query = numbers_query(rt.alloc(), false, true)?;
+    let tables: List<TableDecl> = List::new(rt.alloc());
+    let made = plan(rt.alloc(), &query, &tables, 16, 8192, false)?;
+    assert_eq!(rt; made.nodes.len(), 41);
+    assert_eq!(rt; made.edges.len(), 55);
+    assert_eq!(rt; needs(&made, Kind::Numbers), 2);
+    assert_eq!(rt; needs(&made, Kind::Resize), 4);
+    assert_eq!(rt; needs(&made, Kind::HashJoin), 1);
+    Ok(())
 }

@@ -180,6 +180,7 @@ pub(crate) fn load(b: &mut Box<dyn Processor + Send>, spec: Spec) -> Result<(), 
     ensures follows { OnOk result (FollowsKept (seen b.new) (new_picture 1 1)) }
     ensures follows_input { OnOk result (FollowsKept (seen b.new) (new_picture 1 0)) }
     ensures follows_output { OnOk result (FollowsKept (seen b.new) (new_picture 0 1)) }
+    ensures follows_two { OnOk result (FollowsKept (seen b.new) (new_picture 2 1)) }
     ensures follows_three { OnOk result (FollowsKept (seen b.new) (new_picture 3 1)) }
     ensures follows_many { OnOk result (FollowsKept (seen b.new) (new_picture 32 16)) }
 {

@@ -11,6 +11,8 @@ mod exec_core_tests;
 #[cfg(test)]
 mod flow_procs_tests;
 #[cfg(test)]
+mod join_proc_tests;
+#[cfg(test)]
 mod pipeline_exec_tests;
 #[cfg(test)]
 mod plan_run_tests;

@@ -1,16 +1,19 @@
-ghost use Rattle.std.specs.Prelude.{◌≡◌, IfOk, OnOk, map};
+ghost use Rattle.std.specs.Prelude.{◌≡◌, ◌≤◌, IfOk, OnOk, map};
 ghost use Rattle.std.specs.List.{All};
 ghost use Rattle.proc_api.specs.Clauses.{IsFresh};
 ghost use Rattle.pipeline_exec.specs.Ends.{IsNoList};
 
-use crate::scripted::{Role, make_box, part};
+use crate::scripted::{Gate, Role, make_box, part};
 use exec_graph::GraphBuilder;
 use flow_procs::{Collect, Numbers};
 use pipeline_exec::{ExecEnd, RunResult, run_graph};
 use proc_api::{Processor, Status, WorkFault};
 use query_model::processor_spec::{Kind, Spec};
 use std::alloc::Global;
+use std::sync::Arc;
+use std::sync::atomic::{AtomicBool, AtomicU64, Ordering};
 use std::test::Fail;
+use std::thread::Threads;
 
 // What a box of the kind is loaded with; none is a List, since that would grow the graph.
 fn spec_for(alloc: Global, kind: Kind) -> Result<Spec, Fail> {
@@ -76,11 +79,14 @@ fn connect(builder: &mut GraphBuilder, from: u32, to: u32) -> Result<(), Fail>
 
 // Runs the boxes, of which the next is the last of the list: those of a chain have ranks that rise,
 // and in a row of pairs each second one is joined to the one before it.
-fn run_boxes<R: AllocGlobal>(
+fn run_boxes<R: AllocGlobal + Threads + Sync>(
     rt: &R,
     boxes: Vec<Box<dyn Processor + Send>>,
     chain: bool,
-) -> Result<(Vec<Box<dyn Processor + Send>>, ExecEnd), Fail> {
+    workers: u32,
+) -> Result<(Vec<Box<dyn Processor + Send>>, ExecEnd), Fail>
+    requires { (1 ≤ workers) × (workers ≤ 16) }
+{
     let mut boxes = boxes;
     let count = u32::try_from(boxes.len()).unwrap_or(0);
     let mut builder = GraphBuilder::new(rt.alloc());
@@ -95,19 +101,21 @@ fn run_boxes<R: AllocGlobal>(
             connect(&mut builder, node - 1, node)?;
         }
     }
-    run_built(rt, builder)
+    run_built(rt, builder, workers)
 }
 
-fn run_built<R: AllocGlobal>(
+fn run_built<R: AllocGlobal + Threads + Sync>(
     rt: &R,
     builder: GraphBuilder,
+    workers: u32,
 ) -> Result<(Vec<Box<dyn Processor + Send>>, ExecEnd), Fail>
     requires fresh { All IsFresh (map (λ b. seen b) builder.boxes.items) }
     requires no_lists { All IsNoList (map (λ b. seen b) builder.boxes.items) }
+    requires workers { (1 ≤ workers) × (workers ≤ 16) }
 {
     match builder.finish() {
         Ok(graph) => {
-            let RunResult { boxes, end } = run_graph(rt, graph, 2);
+            let RunResult { boxes, end } = run_graph(rt, graph, workers);
             Ok((boxes, end))
         }
         Err(_) => Err("a graph was not built".into()),
@@ -123,7 +131,7 @@ fn all_boxes_of_256_nodes_come_back(rt: HostRuntime) -> Result<(), Fail> {
             boxes.push(b)?;
         }
     }
-    let (boxes, end) = run_boxes(&rt, boxes, false)?;
+    let (boxes, end) = run_boxes(&rt, boxes, false, 2)?;
     assert_eq!(rt; boxes.len(), 256);
     assert!(rt; matches!(end, ExecEnd::Done));
     Ok(())
@@ -137,7 +145,7 @@ fn a_box_that_asks_for_nothing_is_named(rt: HostRuntime) -> Result<(), Fail> {
     let balking = make_box(rt, Kind::Csv, Role::Balk, 0)?;
     boxes.push(Box::new(rt.alloc(), balking)?)?;
     boxes.push(Box::new(rt.alloc(), Numbers::new(rt.alloc()))?)?;
-    let (boxes, end) = run_boxes(&rt, boxes, true)?;
+    let (boxes, end) = run_boxes(&rt, boxes, true, 2)?;
     assert_eq!(rt; boxes.len(), 3);
     let ExecEnd::Stuck(report, node) = end else {
         return Err("the run was not stuck".into());
@@ -157,8 +165,44 @@ fn a_fault_ends_the_run_and_gives_all_boxes_back(rt: HostRuntime) -> Result<(), 
         let b = Box::new(rt.alloc(), make_box(rt, Kind::Csv, role, chunks)?)?;
         boxes.push(b)?;
     }
-    let (boxes, end) = run_boxes(&rt, boxes, true)?;
+    let (boxes, end) = run_boxes(&rt, boxes, true, 2)?;
     assert_eq!(rt; boxes.len(), 3);
     assert!(rt; matches!(end, ExecEnd::Fault(1, WorkFault::Bad(_))));
+    Ok(())
+}
+
+fn flag(alloc: Global) -> Result<Arc<AtomicBool, Global>, Fail> {
+    Ok(Arc::new(alloc, AtomicBool::new(false))?)
+}
+
+// Pairs of a source and what takes its chunks. The first work of each source waits for the other's,
+// and both are counted where they are prepared.
+#[test]
+fn boxes_work_at_the_same_time_in_each_of_200_runs(rt: HostRuntime) -> Result<(), Fail> {
+    for run in 0..200 {
+        let workers = if run == 0 { 2 } else { 16 };
+        let (left, right) = (flag(rt.alloc())?, flag(rt.alloc())?);
+        let mut boxes: Vec<Box<dyn Processor + Send>> = Vec::new(rt.alloc());
+        let mut counts = Vec::new(rt.alloc());
+        for (own, other) in [(&left, &right), (&right, &left)] {
+            let prepared = Arc::new(rt.alloc(), AtomicU64::new(0))?;
+            let taking = make_box(rt, Kind::Csv, Role::Take, 0)?;
+            let mut meeting = make_box(rt, Kind::Csv, Role::Meet, 3)?;
+            meeting.gate = Some(Gate {
+                own: Arc::try_clone(own)?,
+                other: Arc::try_clone(other)?,
+                prepared: Arc::try_clone(&prepared)?,
+            });
+            boxes.push(Box::new(rt.alloc(), taking)?)?;
+            boxes.push(Box::new(rt.alloc(), meeting)?)?;
+            counts.push(prepared)?;
+        }
+        let (boxes, end) = run_boxes(&rt, boxes, false, workers)?;
+        assert_eq!(rt; boxes.len(), 4);
+        assert!(rt; matches!(end, ExecEnd::Done));
+        for count in counts.as_slice() {
+            assert!(rt; count.load(Ordering::Relaxed) > 0);
+        }
+    }
     Ok(())
 }

@@ -11,6 +11,7 @@ use query_model::processor_spec::{Kind, Spec};
 use std::alloc::{AllocError, Global};
 use std::process::Abort;
 use std::test::Fail;
+use std::thread::Threads;
 
 /// Puts a box behind those of the rack, once it is blank.
 fn add_box(rack: &mut Rack, b: Box<dyn Processor + Send>) -> Result<(), Fail>
@@ -60,7 +61,7 @@ fn pair_wires(alloc: Global) -> Result<List<Wire>, AllocError>
 }
 
 /// Runs a source and a collector.
-fn run_pair<R: Abort + AllocGlobal>(
+fn run_pair<R: Abort + AllocGlobal + Threads + Sync>(
     rt: &R,
     rack: &mut Rack,
 ) -> Result<Result<Vec<Chunk>, PlanFault>, Fail>
@@ -81,7 +82,11 @@ fn run_pair<R: Abort + AllocGlobal>(
 }
 
 /// Runs a source and a collector, which gives so many chunks.
-fn expect_rows<R: Abort + AllocGlobal>(rt: &R, rack: &mut Rack, chunks: usize) -> Result<(), Fail>
+fn expect_rows<R: Abort + AllocGlobal + Threads + Sync>(
+    rt: &R,
+    rack: &mut Rack,
+    chunks: usize,
+) -> Result<(), Fail>
     requires { All IsBlank (map (λ b. seen (b.vtable, b.value)) rack.old.boxes.items) }
     ensures { OnOk result (All IsBlank (map (λ b. seen (b.vtable, b.value)) rack.new.boxes.items)) }
 {

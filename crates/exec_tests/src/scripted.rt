@@ -14,6 +14,8 @@ use query_model::processor_spec::{Kind, PartSpec, Spec};
 use std::alloc::Global;
 use std::mem::replace;
 use std::process::Abort;
+use std::sync::Arc;
+use std::sync::atomic::{AtomicBool, AtomicU64, Ordering};
 use std::test::Fail;
 
 /// What a test processor does when it is prepared.
@@ -29,12 +31,36 @@ pub(crate) enum Role {
     Work,
     /// Answers that it needs data, and asks for none.
     Balk,
+    /// Is ready, works once, which asks that it meets another there, and then gives.
+    Meet,
+}
+
+/// Where two boxes meet that work at the same time.
+#[derive(Drop)]
+pub(crate) struct Gate {
+    pub own: Arc<AtomicBool, Global>,
+    pub other: Arc<AtomicBool, Global>,
+    pub prepared: Arc<AtomicU64, Global>,
+}
+
+impl Gate {
+    /// Tells that its box works, and looks a while for the other.
+    fn is_met(&self) -> bool {
+        self.own.store(true, Ordering::SeqCst);
+        for _turn in 0..100_000_000 {
+            if self.other.load(Ordering::SeqCst) {
+                return true;
+            }
+        }
+        false
+    }
 }
 
 #[derive(Drop)]
 pub(crate) struct Scripted<R> {
     kind: Kind,
     role: Role,
+    pub gate: Option<Gate>,
     loaded: bool,
     part: Option<PartSpec>,
     chunks: Vec<Chunk>,
@@ -80,9 +106,12 @@ impl<R: Abort + AllocGlobal + Drop + Send> Processor for Scripted<R> {
     }
 
     fn prepare(&mut self, view: &mut PortView) -> Status {
+        if let Some(gate) = &self.gate {
+            gate.prepared.fetch_add(1, Ordering::Relaxed);
+        }
         let status = match self.role {
             Role::Give => give(&mut self.chunks, view),
-            Role::Fail => Status::Ready,
+            Role::Fail | Role::Meet => Status::Ready,
             Role::Take => take(&self.rt, &mut self.chunks, view, false),
             Role::Work => take(&self.rt, &mut self.chunks, view, true),
             Role::Balk => Status::NeedData,
@@ -93,10 +122,18 @@ impl<R: Abort + AllocGlobal + Drop + Send> Processor for Scripted<R> {
 
     fn work(&mut self) -> Result<(), WorkFault> {
         must_be(&self.rt, self.kind, Kind::Csv);
-        let fault = WorkFault::Bad(BadPlace {
-            row: 1,
-            field: BadField::Fields(2),
-        });
+        let fault = match &self.gate {
+            Some(gate) if gate.is_met() => {
+                self.role = Role::Give;
+                self.notes.note_act();
+                return Ok(());
+            }
+            Some(_) => WorkFault::Memory,
+            None => WorkFault::Bad(BadPlace {
+                row: 1,
+                field: BadField::Fields(2),
+            }),
+        };
         self.notes.note_fault(fault);
         Err(fault)
     }
@@ -218,6 +255,7 @@ pub(crate) fn make_box<R: Abort + AllocGlobal + Copy + Drop + Send>(
     Ok(Scripted {
         kind,
         role,
+        gate: None,
         loaded: false,
         part: None,
         chunks: held,

@@ -11,7 +11,7 @@ use std::alloc::Global;
 use std::test::Fail;
 
 // Rows of their number, a key and a name.
-fn rows(alloc: Global, first: i64, keys: &[i64], names: &[&str]) -> Result<Chunk, Fail> {
+pub(crate) fn rows(alloc: Global, first: i64, keys: &[i64], names: &[&str]) -> Result<Chunk, Fail> {
     if keys.len() != names.len() || first < 0 || first > 99 {
         return Err("these are no rows".into());
     }

@@ -20,6 +20,9 @@ returns-clause-follows_input g c = first-view _ _ c.args.spec 1 0 c.load.result 
 pub returns-clause-follows_output : goal.returns-clause-follows_output
 returns-clause-follows_output g c = first-view _ _ c.args.spec 0 1 c.load.result c.load.ensures.ok
 
+pub returns-clause-follows_two : goal.returns-clause-follows_two
+returns-clause-follows_two g c = first-view _ _ c.args.spec 2 1 c.load.result c.load.ensures.ok
+
 pub returns-clause-follows_three : goal.returns-clause-follows_three
 returns-clause-follows_three g c = first-view _ _ c.args.spec 3 1 c.load.result c.load.ensures.ok
 

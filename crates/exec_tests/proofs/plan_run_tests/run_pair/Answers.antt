@@ -47,5 +47,5 @@ graph_of ranks wires r w =
     (subst (λ l. IsGraph (1 ∷ 2 ∷ []) l []) (sym w) is_graph)
 
 pub run_plan-requires-clause-graph : goal.run_plan-requires-clause-graph
-run_plan-requires-clause-graph g c =
+run_plan-requires-clause-graph g c κs lives =
     graph_of _ _ c.in_ok-pair_ranks.ensures c.in_ok-pair_wires.ensures
