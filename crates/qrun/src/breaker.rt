@@ -5,18 +5,20 @@ ghost use Rattle.qrun.specs.declared.breaker.Breaker.TheVariants as breaker;
 
 use aggregate_proc::{MergeAggregate, PartialAggregate};
 use chunk_data::Chunk;
+use join_proc::HashJoin;
 use port_word::PortView;
 use proc_api::{Growth, LoadRefusal, Processor, Status, Wake, WorkFault};
 use query_model::processor_spec::{Kind, Spec};
 use sort_procs::{MergeSorted, Sort};
 
-/// A processor of a kind that gives no row before each of its inputs has given one or ended: one type
+/// A processor of a kind that gives no row before an input has ended, or each has given one: one type
 /// of box for these kinds, since what proves a function that makes boxes goes over each of their
 /// types.
 #[derive(Drop)]
 pub(crate) enum Breaker {
     PartialAggregate(PartialAggregate),
     MergeAggregate(MergeAggregate),
+    HashJoin(HashJoin),
     Sort(Sort),
     MergeSorted(MergeSorted),
 }
@@ -27,6 +29,7 @@ macro_rules! of_each {
         match $one {
             Breaker::PartialAggregate($processor) => $call,
             Breaker::MergeAggregate($processor) => $call,
+            Breaker::HashJoin($processor) => $call,
             Breaker::Sort($processor) => $call,
             Breaker::MergeSorted($processor) => $call,
         }
@@ -37,6 +40,7 @@ impl Processor for Breaker {
     ghost seen = { elim [
       | breaker.PartialAggregate p ↦ view_seen kind.PartialAggregate p
       | breaker.MergeAggregate p ↦ view_seen kind.MergeAggregate p
+      | breaker.HashJoin p ↦ view_seen kind.HashJoin p
       | breaker.Sort p ↦ view_seen kind.Sort p
       | breaker.MergeSorted p ↦ view_seen kind.MergeSorted p
     ] };

@@ -12,6 +12,7 @@ use aggregate_proc::{MergeAggregate, PartialAggregate};
 use chunk_data::Memory;
 use csv_procs::CsvSource;
 use flow_procs::{Collect, Expression, Filter, Limit, Numbers, Resize};
+use join_proc::HashJoin;
 use outside_io::{RealFiles, RealSink, Sink};
 use proc_api::Rack;
 use query_model::processor_spec::Kind;
@@ -20,12 +21,13 @@ use sort_procs::{MergeSorted, Sort};
 use std::env;
 use std::io::ErrorKind;
 use std::process::ExitCode;
+use std::thread::Threads;
 
 /// The exit status where memory ran out.
 const OUT_OF_MEMORY: u8 = 7;
 
 fn main(rt: HostRuntime) -> ExitCode {
-    match status_of(&rt) {
+    match status_of(&rt, &rt) {
         Ok(status) => ExitCode::from(status),
         Err(Memory) => {
             let _ = eprintln!(rt; "qrun: out of memory");
@@ -34,9 +36,9 @@ fn main(rt: HostRuntime) -> ExitCode {
     }
 }
 
-fn status_of(rt: &HostRuntime) -> Result<u8, Memory> {
+fn status_of<R: AllocGlobal + Threads + Sync>(rt: &HostRuntime, threads: &R) -> Result<u8, Memory> {
     let words = words_of(rt)?;
-    run_words(rt, words.as_slice())
+    run_words(rt, threads, words.as_slice())
 }
 
 // The words after the program's name. Words that aren't UTF-8 are no command, as no words are.
@@ -58,7 +60,11 @@ fn words_of(rt: &HostRuntime) -> Result<Vec<String>, Memory> {
 
 // Runs the words by the boxes of the standard rack, over files of the system. The boxes are made
 // here, where they lie: a function that hands out a box that it made could say anything of it.
-fn run_words(rt: &HostRuntime, words: &[String]) -> Result<u8, Memory> {
+fn run_words<R: AllocGlobal + Threads + Sync>(
+    rt: &HostRuntime,
+    threads: &R,
+    words: &[String],
+) -> Result<u8, Memory> {
     let alloc = rt.alloc();
     let mut rack = Rack::new(alloc);
     for _source in 0..SOURCES {
@@ -81,6 +87,10 @@ fn run_words(rt: &HostRuntime, words: &[String]) -> Result<u8, Memory> {
                     let merge = Breaker::MergeAggregate(MergeAggregate::new(alloc));
                     rack.boxes.push(Box::new(alloc, merge)?)?
                 }
+                Kind::HashJoin => {
+                    let join = Breaker::HashJoin(HashJoin::new(alloc));
+                    rack.boxes.push(Box::new(alloc, join)?)?
+                }
                 Kind::Sort => {
                     let sort = Breaker::Sort(Sort::new(alloc));
                     rack.boxes.push(Box::new(alloc, sort)?)?
@@ -91,17 +101,17 @@ fn run_words(rt: &HostRuntime, words: &[String]) -> Result<u8, Memory> {
                 }
                 Kind::Limit => rack.boxes.push(Box::new(alloc, Limit::new(alloc))?)?,
                 Kind::Collect => rack.boxes.push(Box::new(alloc, Collect::new(alloc))?)?,
-                Kind::Csv | Kind::List | Kind::HashJoin => {}
+                Kind::Csv | Kind::List => {}
             }
         }
     }
     let mut out = RealSink::new(rt.stdout());
     let mut err = RealSink::new(rt.stderr());
-    Ok(run_blank(rt, words, &mut rack, &mut out, &mut err))
+    Ok(run_blank(threads, words, &mut rack, &mut out, &mut err))
 }
 
 // That a box is blank is lost where it is made one of any kind, so that each is unloaded first.
-fn run_blank<R: AllocGlobal, O: Sink, E: Sink>(
+fn run_blank<R: AllocGlobal + Threads + Sync, O: Sink, E: Sink>(
     rt: &R,
     words: &[String],
     rack: &mut Rack,

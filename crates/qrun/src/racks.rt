@@ -11,13 +11,14 @@ use query_model::processor_spec::Kind;
 pub(crate) const SOURCES: u32 = 64;
 
 /// How many boxes of each other kind lie in it.
-pub(crate) const OTHERS: [(Kind, u32); 10] = [
+pub(crate) const OTHERS: [(Kind, u32); 11] = [
     (Kind::Numbers, 2),
     (Kind::Filter, 17),
     (Kind::Expression, 17),
     (Kind::Resize, 4),
     (Kind::PartialAggregate, 16),
     (Kind::MergeAggregate, 1),
+    (Kind::HashJoin, 1),
     (Kind::Sort, 16),
     (Kind::MergeSorted, 1),
     (Kind::Limit, 1),

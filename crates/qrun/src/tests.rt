@@ -16,6 +16,7 @@ mod boxes;
 mod cases;
 mod devices;
 mod groups;
+mod joins;
 mod orders;
 mod plans;
 mod queries;
@@ -33,6 +34,7 @@ use std::alloc::{AllocError, Global};
 use std::sync::Arc;
 use std::sync::atomic::{AtomicU64, Ordering};
 use std::test::Fail;
+use std::thread::Threads;
 
 /// The line of words that are no command.
 const USAGE: &str =
@@ -81,11 +83,24 @@ impl FileReader for SlowFiles {
     }
 }
 
-/// A source that counts its calls of `prepare`.
+/// A source that counts its calls of `prepare`, and whose work looks for that of another source.
 #[derive(Drop)]
 struct Counted {
     source: CsvSource<SlowFiles>,
     prepared: Arc<AtomicU64, Global>,
+    works: Arc<AtomicU64, Global>,
+    others: Arc<AtomicU64, Global>,
+    missed: Arc<AtomicU64, Global>,
+}
+
+/// Whether the count rises in so many looks.
+fn is_met(works: &AtomicU64) -> bool {
+    for _look in 0..100_000_000u64 {
+        if works.load(Ordering::SeqCst) > 0 {
+            return true;
+        }
+    }
+    false
 }
 
 impl Processor for Counted {
@@ -104,11 +119,15 @@ impl Processor for Counted {
     }
 
     fn prepare(&mut self, view: &mut PortView) -> Status {
-        self.prepared.fetch_add(1, Ordering::Relaxed);
+        self.prepared.fetch_add(1, Ordering::SeqCst);
         self.source.prepare(view)
     }
 
     fn work(&mut self) -> Result<(), WorkFault> {
+        self.works.fetch_add(1, Ordering::SeqCst);
+        if !is_met(&self.others) {
+            self.missed.fetch_add(1, Ordering::SeqCst);
+        }
         self.source.work()
     }
 
@@ -278,8 +297,8 @@ fn put_told(
     Ok(())
 }
 
-fn add_told_sources(
-    rt: &HostRuntime,
+fn add_told_sources<R: AllocGlobal + Threads + Sync>(
+    rt: &R,
     rack: &mut Rack,
     setting: &Setting<'_>,
     count: u32,
@@ -296,15 +315,19 @@ fn add_told_sources(
 }
 
 /// The words over a rack of the setting.
-fn run_setting(rt: &HostRuntime, words: &[String], setting: &Setting<'_>) -> Result<Runs, Fail> {
+fn run_setting<R: AllocGlobal + Threads + Sync>(
+    rt: &R,
+    words: &[String],
+    setting: &Setting<'_>,
+) -> Result<Runs, Fail> {
     match setting.stock {
         None => run_stocked(rt, words, setting, SOURCES, &OTHERS, true),
         Some((sources, others)) => run_stocked(rt, words, setting, sources, others, false),
     }
 }
 
-fn run_stocked(
-    rt: &HostRuntime,
+fn run_stocked<R: AllocGlobal + Threads + Sync>(
+    rt: &R,
     words: &[String],
     setting: &Setting<'_>,
     sources: u32,
@@ -321,7 +344,7 @@ fn run_stocked(
 }
 
 /// Runs by a rack that is the standard one or not.
-fn run_shown<R: AllocGlobal>(
+fn run_shown<R: AllocGlobal + Threads + Sync>(
     rt: &R,
     words: &[String],
     rack: &mut Rack,
@@ -345,7 +368,7 @@ fn run_shown<R: AllocGlobal>(
 }
 
 /// A run by a rack that is honest of the files: what was written is an answer's text over them.
-fn run_honest<R: AllocGlobal, O: Sink, E: Sink>(
+fn run_honest<R: AllocGlobal + Threads + Sync, O: Sink, E: Sink>(
     rt: &R,
     words: &[String],
     rack: &mut Rack,
@@ -368,7 +391,7 @@ fn run_honest<R: AllocGlobal, O: Sink, E: Sink>(
     run(rt, words, rack, out, err)
 }
 
-fn status_by<R: AllocGlobal, O: Sink, E: Sink>(
+fn status_by<R: AllocGlobal + Threads + Sync, O: Sink, E: Sink>(
     rt: &R,
     words: &[String],
     rack: &mut Rack,
@@ -389,7 +412,7 @@ fn status_by<R: AllocGlobal, O: Sink, E: Sink>(
     }
 }
 
-fn outcome_of<R: AllocGlobal>(
+fn outcome_of<R: AllocGlobal + Threads + Sync>(
     rt: &R,
     words: &[String],
     rack: &mut Rack,
@@ -430,6 +453,7 @@ fn letter_of(kind: Kind) -> char {
         Kind::Resize => 'r',
         Kind::PartialAggregate => 'p',
         Kind::MergeAggregate => 'g',
+        Kind::HashJoin => 'j',
         Kind::Sort => 'o',
         Kind::MergeSorted => 'm',
         Kind::Limit => 'l',
@@ -439,7 +463,11 @@ fn letter_of(kind: Kind) -> char {
 }
 
 /// The first outcome of the words over a rack of the setting.
-fn run_once(rt: &HostRuntime, words: &[String], setting: &Setting<'_>) -> Result<Outcome, Fail> {
+fn run_once<R: AllocGlobal + Threads + Sync>(
+    rt: &R,
+    words: &[String],
+    setting: &Setting<'_>,
+) -> Result<Outcome, Fail> {
     let Runs { outcomes, .. } = run_setting(rt, words, setting)?;
     let mut outcomes = outcomes;
     if outcomes.is_empty() {
@@ -449,7 +477,12 @@ fn run_once(rt: &HostRuntime, words: &[String], setting: &Setting<'_>) -> Result
 }
 
 /// The query over the one file, with ample room.
-fn answer(rt: &HostRuntime, columns: &str, query: &str, bytes: &[u8]) -> Result<Outcome, Fail> {
+fn answer<R: AllocGlobal + Threads + Sync>(
+    rt: &R,
+    columns: &str,
+    query: &str,
+    bytes: &[u8],
+) -> Result<Outcome, Fail> {
     let declaration = format!(in rt.alloc(); "t=f.csv:{columns}")?;
     let words = words_of(rt.alloc(), query, declaration.as_str())?;
     run_once(rt, words.as_slice(), &ample(&one_file(rt.alloc(), bytes)?))

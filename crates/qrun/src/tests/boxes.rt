@@ -9,6 +9,7 @@ ghost use Rattle.qrun.specs.Stocking.{is_made, made, Adds, AddsEach};
 use aggregate_proc::{MergeAggregate, PartialAggregate};
 use chunk_data::Memory;
 use flow_procs::{Collect, Expression, Filter, Limit, Numbers, Resize};
+use join_proc::HashJoin;
 use proc_api::{Processor, Rack};
 use query_model::processor_spec::Kind;
 use sort_procs::{MergeSorted, Sort};
@@ -40,6 +41,10 @@ fn add_breaker<R: AllocGlobal>(rt: &R, rack: &mut Rack, kind: Kind) -> Result<()
         Kind::MergeAggregate => {
             let merge = Box::new(rt.alloc(), MergeAggregate::new(rt.alloc()))?;
             put(rack, kind, merge)
+        }
+        Kind::HashJoin => {
+            let join = Box::new(rt.alloc(), HashJoin::new(rt.alloc()))?;
+            put(rack, kind, join)
         }
         Kind::Sort => {
             let sort = Box::new(rt.alloc(), Sort::new(rt.alloc()))?;
@@ -84,10 +89,12 @@ fn add_box<R: AllocGlobal>(rt: &R, rack: &mut Rack, kind: Kind) -> Result<(), Me
             let collect = Box::new(rt.alloc(), Collect::new(rt.alloc()))?;
             put(rack, kind, collect)
         }
-        Kind::PartialAggregate | Kind::MergeAggregate | Kind::Sort | Kind::MergeSorted => {
-            add_breaker(rt, rack, kind)
-        }
-        Kind::Csv | Kind::List | Kind::HashJoin => Ok(()),
+        Kind::PartialAggregate
+        | Kind::MergeAggregate
+        | Kind::HashJoin
+        | Kind::Sort
+        | Kind::MergeSorted => add_breaker(rt, rack, kind),
+        Kind::Csv | Kind::List => Ok(()),
     }
 }
 

@@ -1,10 +1,13 @@
 // Racks, readers and sinks that lack something, wait or fail.
-ghost use Rattle.std.specs.Prelude.{IsSome};
+ghost use Rattle.std.specs.Prelude.{IsSome, OnOk, Some, map};
+ghost use Rattle.outside_io.specs.Told.{files_of as told_pairs};
+ghost use Rattle.query_model.specs.declared.processor_spec.Kind.TheVariants as kind;
+ghost use Rattle.qrun.specs.Stocking.{Adds};
 
 use super::cases::{check, fields};
 use super::plans::SIZES;
 use super::{
-    Counted, Outcome, USAGE, ample, letter_of, one_file, put_told, run_once, run_setting,
+    Counted, Outcome, Setting, USAGE, ample, letter_of, one_file, put_told, run_once, run_setting,
     run_shown, script_of, source_of, text, told_by, words_of,
 };
 use crate::racks::OTHERS;
@@ -19,6 +22,7 @@ use std::alloc::{AllocError, Global};
 use std::sync::Arc;
 use std::sync::atomic::{AtomicU64, Ordering};
 use std::test::Fail;
+use std::thread::Threads;
 
 /// A sink of lines that takes three bytes a call, and fails after so many: the line is cut there,
 /// and all else is the same.
@@ -282,7 +286,7 @@ fn a_reader_stalls_at_a_million_waits(rt: HostRuntime) -> Result<(), Fail> {
     Ok(())
 }
 
-fn count_waiting(rt: &HostRuntime, waits: u64) -> Result<Outcome, Fail> {
+fn count_waiting<R: AllocGlobal + Threads + Sync>(rt: &R, waits: u64) -> Result<Outcome, Fail> {
     let words = count_words(rt.alloc(), ("1", "8192"))?;
     let files = one_file(rt.alloc(), b"1\n")?;
     let mut setting = ample(&files);
@@ -291,30 +295,75 @@ fn count_waiting(rt: &HostRuntime, waits: u64) -> Result<Outcome, Fail> {
     run_once(rt, words.as_slice(), &setting)
 }
 
-/// A source that counts is prepared: the query runs through the boxes.
+/// The query runs through the boxes, and the works of two sources run at the same time: each is
+/// prepared, and sees the other's first work while its own goes on.
 #[test]
-fn a_source_is_prepared(rt: HostRuntime) -> Result<(), Fail> {
+fn two_sources_meet_at_work(rt: HostRuntime) -> Result<(), Fail> {
     let alloc = rt.alloc();
-    let words = words_of(alloc, "SELECT a FROM t", "t=f.csv:a Int64")?;
-    let files = one_file(alloc, b"7\n")?;
+    let mut words = words_of(alloc, "SELECT a FROM t", "t=f.csv+f.csv:a Int64")?;
+    words.push(String::from_str(alloc, "--threads=2")?)?;
+    let files = one_file(alloc, b"1\n")?;
     let setting = ample(&files);
-    let prepared = Arc::new(alloc, AtomicU64::new(0))?;
+    let prepared = [new_count(alloc)?, new_count(alloc)?];
+    let works = [new_count(alloc)?, new_count(alloc)?];
+    let missed = new_count(alloc)?;
     let mut rack = Rack::new(alloc);
-    let source = Counted {
-        source: source_of(alloc, &setting, 0)?,
-        prepared: Arc::try_clone(&prepared)?,
-    };
-    let source = Box::new(alloc, source)?;
-    put_told(&mut rack, setting.files, source)?;
+    put_counted(
+        &rt,
+        &mut rack,
+        &setting,
+        &prepared[0],
+        (&works[0], &works[1]),
+        &missed,
+    )?;
+    put_counted(
+        &rt,
+        &mut rack,
+        &setting,
+        &prepared[1],
+        (&works[1], &works[0]),
+        &missed,
+    )?;
     add_each(&rt, &mut rack, &OTHERS)?;
     let runs = run_shown(&rt, words.as_slice(), &mut rack, &setting, false)?;
-    assert_eq!(rt; runs.outcomes.len(), 1);
     for outcome in runs.outcomes.as_slice() {
         assert_eq!(rt; outcome.status, 0);
-        assert_eq!(rt; outcome.out.as_slice(), b"7\n".as_slice());
+        assert_eq!(rt; outcome.out.as_slice(), b"1\n1\n".as_slice());
     }
-    assert!(rt; prepared.load(Ordering::Relaxed) > 0);
+    assert_eq!(rt; runs.outcomes.len(), 1);
+    assert_eq!(rt; missed.load(Ordering::SeqCst), 0);
+    assert!(rt; prepared[0].load(Ordering::SeqCst) > 0);
+    assert!(rt; prepared[1].load(Ordering::SeqCst) > 0);
     Ok(())
+}
+
+/// Adds a source that counts, with the count of its works and that of the other's.
+fn put_counted<R: AllocGlobal + Threads + Sync>(
+    rt: &R,
+    rack: &mut Rack,
+    setting: &Setting<'_>,
+    prepared: &Arc<AtomicU64, Global>,
+    works: (&Arc<AtomicU64, Global>, &Arc<AtomicU64, Global>),
+    missed: &Arc<AtomicU64, Global>,
+) -> Result<(), Fail>
+    ensures { OnOk result (Adds kind.Csv 1 (Some (told_pairs setting.now.files.now))
+        (map (λ b. seen (b.vtable, b.value)) rack.old.boxes.items)
+        (map (λ b. seen (b.vtable, b.value)) rack.new.boxes.items)) }
+{
+    let source = Counted {
+        source: source_of(rt.alloc(), setting, 0)?,
+        prepared: Arc::try_clone(prepared)?,
+        works: Arc::try_clone(works.0)?,
+        others: Arc::try_clone(works.1)?,
+        missed: Arc::try_clone(missed)?,
+    };
+    let source = Box::new(rt.alloc(), source)?;
+    put_told(rack, setting.files, source)?;
+    Ok(())
+}
+
+fn new_count(alloc: Global) -> Result<Arc<AtomicU64, Global>, Fail> {
+    Ok(Arc::new(alloc, AtomicU64::new(0))?)
 }
 
 /// More rows than one chunk holds.

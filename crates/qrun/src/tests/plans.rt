@@ -7,6 +7,7 @@ use outside_io::FileEntry;
 use std::alloc::{AllocError, Global};
 use std::process::Abort;
 use std::test::Fail;
+use std::thread::Threads;
 
 /// Numbers of lanes, and of rows of a chunk.
 pub(super) const SIZES: [(&str, &str); 6] = [
@@ -44,8 +45,8 @@ fn declared(alloc: Global, parts: usize, columns: &str) -> Result<String, Fail> 
 }
 
 /// The query over the parts of table `t`, by so many lanes and rows of a chunk.
-pub(super) fn answer_sized(
-    rt: &HostRuntime,
+pub(super) fn answer_sized<R: AllocGlobal + Threads + Sync>(
+    rt: &R,
     columns: &str,
     query: &str,
     parts: &str,
@@ -62,7 +63,11 @@ pub(super) fn answer_sized(
 }
 
 /// The words, between which a bar stands, over the parts.
-pub(super) fn answer_words(rt: &HostRuntime, bars: &str, parts: &str) -> Result<Outcome, Fail> {
+pub(super) fn answer_words<R: AllocGlobal + Threads + Sync>(
+    rt: &R,
+    bars: &str,
+    parts: &str,
+) -> Result<Outcome, Fail> {
     let files = parts_of(rt.alloc(), parts)?;
     let mut words = Vec::new(rt.alloc());
     for word in bars.split('|') {
@@ -82,7 +87,11 @@ fn sorted_lines(alloc: Global, text: &[u8]) -> Result<Vec<Vec<u8>>, AllocError> 
 }
 
 /// By every size each case's run wrote its lines in some order, and told nothing.
-pub(super) fn lines_each(rt: &HostRuntime, abort: &impl Abort, cases: &[&str]) -> Result<(), Fail> {
+pub(super) fn lines_each<R: AllocGlobal + Threads + Sync>(
+    rt: &R,
+    abort: &impl Abort,
+    cases: &[&str],
+) -> Result<(), Fail> {
     for case in cases.iter() {
         let (columns, query, parts, lines) = fields(case);
         let wanted = sorted_lines(rt.alloc(), lines.as_bytes())?;
@@ -98,8 +107,8 @@ pub(super) fn lines_each(rt: &HostRuntime, abort: &impl Abort, cases: &[&str]) -
 }
 
 /// By every size each case's run wrote its answer, or told its line.
-pub(super) fn check_sized(
-    rt: &HostRuntime,
+pub(super) fn check_sized<R: AllocGlobal + Threads + Sync>(
+    rt: &R,
     abort: &impl Abort,
     cases: &[&str],
 ) -> Result<(), Fail> {
@@ -154,6 +163,18 @@ fn a_limit_passes_any_of_the_rows(rt: HostRuntime) -> Result<(), Fail> {
         assert_eq!(rt; passed, 3);
         // Behind the last line's end lies an empty one.
         assert_eq!(rt; lines.len(), 4);
+    }
+    Ok(())
+}
+
+/// The same answer comes of 200 runs on 16 threads.
+#[test]
+fn many_runs_give_one_answer(rt: HostRuntime) -> Result<(), Fail> {
+    let query = "SELECT b, sum(a) AS s FROM t WHERE a > 0 GROUP BY b ORDER BY s DESC, b";
+    let parts = "1,x\n2,y\n|3,x\n0,z\n|4,y\n|5,x\n1,w\n";
+    for _run in 0..200 {
+        let outcome = answer_sized(&rt, "a Int64,b String", query, parts, ("16", "8192"))?;
+        check(&rt, query, &outcome, "\"x\",9\n\"y\",6\n\"w\",1\n")?;
     }
     Ok(())
 }

@@ -1,16 +1,25 @@
 // Queries: what is written, and what is told of those that are refused.
 use super::cases::{check, fields};
+use super::plans::answer_sized;
 use super::{answer, told_by};
 use std::alloc::{AllocError, Global};
 use std::process::Abort;
 use std::test::Fail;
+use std::thread::Threads;
 
-// Each case's outcome over its one file.
-fn check_each(rt: &HostRuntime, abort: &impl Abort, cases: &[&str]) -> Result<(), Fail> {
+// Each case's outcome over its one file, on one thread and on several. One chunk has all rows, so
+// that they come in their order.
+fn check_each<R: AllocGlobal + Threads + Sync>(
+    rt: &R,
+    abort: &impl Abort,
+    cases: &[&str],
+) -> Result<(), Fail> {
     for case in cases.iter() {
         let (columns, query, file, told) = fields(case);
-        let outcome = answer(rt, columns, query, file.as_bytes())?;
-        check(abort, case, &outcome, told)?;
+        for threads in ["1", "4", "16"] {
+            let outcome = answer_sized(rt, columns, query, file, (threads, "8192"))?;
+            check(abort, case, &outcome, told)?;
+        }
     }
     Ok(())
 }
@@ -142,7 +151,7 @@ fn refusals_are_told(rt: HostRuntime) -> Result<(), Fail> {
         ("SELECT a, count() FROM t", "NotGrouped a"),
         ("SELECT a FROM t GROUP BY a HAVING b = 'x'", "NotGrouped b"),
         ("SELECT sum(b) FROM t", "TypeMismatch"),
-        ("SELECT a FROM t JOIN u ON t.a = u.a", "NotBuilt"),
+        ("SELECT a FROM t JOIN u ON t.a = u.a", "UnknownTable u"),
         ("SELECT a FROM x", "UnknownTable x"),
         ("SELECT c FROM x", "UnknownTable x"),
         ("SELECT c FROM t", "UnknownColumn c"),

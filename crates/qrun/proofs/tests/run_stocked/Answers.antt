@@ -4,12 +4,12 @@ use Rattle.qrun.proofs.Stocking.{all_blank, is_honest, standard_when, stocked_no
 use Rattle.qrun.proofs.tests.run_stocked.Goals as goal
 
 pub run_shown-requires-clause-blank : goal.run_shown-requires-clause-blank
-run_shown-requires-clause-blank c = let files = Some (files_of c.args.setting.now.files.now) in
+run_shown-requires-clause-blank g c κs lives = let files = Some (files_of c.args.setting.now.files.now) in
     all_blank files _ _ (c.in_ok-add_each.ensures files _
     (c.in_ok-add_told_sources.ensures _ (stocked_none files _ _ c.new-rack.ensures)))
 
 pub run_shown-requires-clause-honest : goal.run_shown-requires-clause-honest
-run_shown-requires-clause-honest c = λ t.
+run_shown-requires-clause-honest g c κs lives = λ t.
     let files = Some (files_of c.args.setting.now.files.now) in
     let same = c.requires t in
     is_honest (files_of c.args.setting.now.files.now) _

@@ -7,6 +7,9 @@ returns-in_ok-partial-in-PartialAggregate g c = λ files.
 pub returns-in_ok-merge-in-MergeAggregate : goal.returns-in_ok-merge-in-MergeAggregate
 returns-in_ok-merge-in-MergeAggregate g c = λ files. c.put-in-MergeAggregate.ensures files
 
+pub returns-in_ok-join-in-HashJoin : goal.returns-in_ok-join-in-HashJoin
+returns-in_ok-join-in-HashJoin g c = λ files. c.put-in-HashJoin.ensures files
+
 pub returns-in_ok-sort-in-Sort : goal.returns-in_ok-sort-in-Sort
 returns-in_ok-sort-in-Sort g c = λ files. c.put-in-Sort.ensures files
 
