@@ -43,7 +43,7 @@ cat >"$crate/proofs/run_built/Answers.antt" <<'END'
 use Rattle.chain_bench.proofs.run_built.Goals as goal
 
 pub run_graph-boxes-requires-clause-fresh : goal.run_graph-boxes-requires-clause-fresh
-run_graph-boxes-requires-clause-fresh g c = c.in-Ok.ensures.all_fresh c.requires.fresh
+run_graph-boxes-requires-clause-fresh g c κs lives = c.in-Ok.ensures.all_fresh c.requires.fresh
 END
 (cd "$crate" && rt run -- 1 1 1) >"$copy/log" 2>&1 || { cat "$copy/log" >&2; exit 1; }
 program=$crate/out/chain_bench
