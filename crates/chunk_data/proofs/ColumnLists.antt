@@ -76,9 +76,6 @@ pub record Mapped (f : List Value → List Value) (old now : List Column) (i : �
   pub kinds : map kind_of now ≡ map kind_of old
   pub cells : map values now ≡ changed f i (map values old)
 
-pub Mapped-none : (f : List Value → List Value) (old : List Column) → Mapped f old old 0
-Mapped-none f old = record { kinds = refl; cells = refl }
-
 -- the values of column i are those that it had
 pub Mapped-here : {f : List Value → List Value} {old now : List Column} {i : ℕ} → (d : Column) → Mapped f old now i → i < length now → values (get_or now i d) ≡ get_or (map values old) i (values d)
 Mapped-here {f = f} {old = old} {now = now} {i = i} d h lt =

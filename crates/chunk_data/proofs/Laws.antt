@@ -1,5 +1,5 @@
 -- The law between rows and columns, for all code that works column by column.
-use Rattle.chunk_data.proofs.Imports.{AgreeOnKey, All, AreLong, Column, ColumnType, FitsType, FitsTypes, Int64, List, Row, SortKey, Text, UInt64, Value, [], adds, ap, arith, get_or, get_or-replicate, joined, kind_of, length, length-map, length-replicate, map, refl, replicate, rows_of, subst, suc, sym, value_at, values, zero, ℕ, ◌++◌, ◌+◌, ◌<◌, ◌∙◌, ◌∷◌, ◌≡◌}
+use Rattle.chunk_data.proofs.Imports.{All, AreLong, Column, ColumnType, FitsType, FitsTypes, Int64, List, Row, Text, UInt64, Value, [], adds, ap, arith, get_or, get_or-replicate, joined, kind_of, length, length-map, length-replicate, map, refl, replicate, rows_of, subst, suc, sym, value_at, values, zero, ℕ, ◌++◌, ◌+◌, ◌<◌, ◌∙◌, ◌∷◌, ◌≡◌}
 use Rattle.chunk_data.specs.declared.typed_value.ColumnType.TheVariants as type
 use Rattle.chunk_data.specs.declared.typed_value.Value.TheVariants as value
 use Rattle.chunk_data.proofs.Rows.{AreLong-joined, AreLong-row}
@@ -51,11 +51,6 @@ pub rows_of-append : {X : Type 0} (n : ℕ) (columns others : List (List X)) →
 rows_of-append n [] others k = sym (joined-replicate n (rows_of n others) (length-rows_of n others k))
 rows_of-append n (column ∷ columns) others k = ap (λ l. adds column l) (rows_of-append n columns others k) ∙ joined-adds column (rows_of n columns) (rows_of n others)
 
--- pairs of rows that are gathered by pairs of places
-pub joined-map : {K X : Type 0} (f g : K → List X) (ks : List K) → joined (map f ks) (map g ks) ≡ map (λ k. f k ++ g k) ks
-joined-map f g [] = refl
-joined-map f g (k ∷ ks) = ap (λ l. (f k ++ g k) ∷ l) (joined-map f g ks)
-
 -- ---- a row that is pushed value by value
 pub AreLong_push : {X : Type 0} (n : ℕ) (columns : List (List X)) (row : List X) → AreLong n columns → AreLong (n + 1) (joined columns (map (λ v. v ∷ []) row))
 AreLong_push n columns row h = AreLong-joined n 1 columns (map (λ v. v ∷ []) row) h (AreLong-row row)
@@ -73,15 +68,6 @@ FitsTypes-at [] (w ∷ row) c t v h lt = absurd h
 FitsTypes-at (s ∷ types) [] c t v h lt = absurd h
 FitsTypes-at (s ∷ types) (w ∷ row) zero t v h lt = h.0
 FitsTypes-at (s ∷ types) (w ∷ row) (suc c) t v h lt = FitsTypes-at types row c t v h.1 (omega arith)
-
-pub FitsTypes-append : (types others : List ColumnType) (row more : Row) → FitsTypes types row → FitsTypes others more → FitsTypes (types ++ others) (row ++ more)
-FitsTypes-append [] others [] more h k = k
-FitsTypes-append [] others (v ∷ row) more h k = absurd h
-FitsTypes-append (t ∷ types) others [] more h k = absurd h
-FitsTypes-append (t ∷ types) others (v ∷ row) more h k = (h.0, FitsTypes-append types others row more h.1 k)
-
-pub FitsTypes-snoc : (types : List ColumnType) (row : Row) (t : ColumnType) (v : Value) → FitsTypes types row → FitsType t v → FitsTypes (types ++ t ∷ []) (row ++ v ∷ [])
-FitsTypes-snoc types row t v h k = FitsTypes-append types (t ∷ []) row (v ∷ []) h (k, tt)
 
 all_mapped : {X : Type 0} (P : Value → Type 0) (f : X → Value) → ((x : X) → P (f x)) → (xs : List X) → All P (map f xs)
 all_mapped P f h [] = λ k d lt. absurd (omega arith)
@@ -114,5 +100,3 @@ column_fits types (row ∷ rows) c t h lt =
     λ k d l. elim k as (λ k. k < length (map (λ row. value_at row c) (row ∷ rows)) → FitsType (get_or types c t) (get_or (map (λ row. value_at row c) (row ∷ rows)) k d)) [ zero ↦ λ _. FitsTypes-at types row c t _ here (omega (arith, length-FitsTypes types row here)) | suc k ↦ λ l. more k d (omega arith) ] l
 
 -- ---- keys of chunks of the same types
-pub agree_on_keys : (types : List ColumnType) (keys : List SortKey) → All (λ key. key.column < length types) keys → All (AgreeOnKey types types) keys
-agree_on_keys types keys h = λ k d lt. (h k d lt, h k d lt, refl)

@@ -1,6 +1,6 @@
 -- records that are added to columns field by field
 use Rattle.std.proofs.Common.{◌≡◌, ◌≢◌, zero, suc, true, false, Bool, ℕ, ◌+◌, ◌<◌, ◌≤◌, List, [], ◌∷◌, ◌++◌, length, get_or, set, take, map, refl, ap, ap₂, sym, ◌∙◌, drop, subst, arith, append_assoc, None}
-use Rattle.csv_rows.proofs.Prelude.{AddsRecord, AddsSpelled, AreLong, AreLong_push, BeginsFields, Column, EndsRecord, FieldUpTo, HasMore, IsBadAt, Judged, Pushes, PushesFirst, ReadsFirst, ReadsFront, RowsLeft, StopsAt, TakesBack, TakesRow, at_end, bad_column, bad_field-lengths, bad_place, both_spelled, eq-eqb, get_or-map, good_rows, kind_of, length-FitsTypes, length-append, length-map, length-rows_of, map-set, rows_of, rows_of_push, set-get_or, spelled_row, spelled_row-lengths, spelled_value, starts_line, starts_with, take_at, values}
+use Rattle.csv_rows.proofs.Prelude.{AddsRecord, AddsSpelled, AreLong, AreLong_push, BeginsFields, Column, EndsRecord, FieldUpTo, HasMore, IsBadAt, Judged, Pushes, PushesFirst, ReadsFirst, ReadsFront, RowsLeft, TakesBack, TakesRow, at_end, bad_column, bad_field-lengths, bad_place, both_spelled, get_or-map, good_rows, kind_of, length-FitsTypes, length-append, length-map, length-rows_of, map-set, rows_of, rows_of_push, set-get_or, spelled_row, spelled_row-lengths, spelled_value, starts_line, starts_with, take_at, values}
 use Rattle.std.specs.Prelude.{◌==◌}
 use Rattle.query_model.specs.declared.places.BadField.TheVariants.{Column as column_field, Fields as fields_field}
 use Rattle.chunk_data.proofs.ColumnLists.{Joined-none, Joined-back}
@@ -229,24 +229,6 @@ first_lengths {read = read} {old = old} number h many =
       unspelled = spelled_row-lengths (map kind_of old) h.fields other;
       is = ap (λ f. record { row = number; field = f }) (ap fields_field (sym h.many)
           ∙ sym (bad_field-lengths (map kind_of old) h.fields other));
-    }
-
--- a field of the record spells no value
-pub first_stops : {bytes : List ℕ} {at : ℕ} {read : RecordRead} {old new : List Column}
-    → (number : ℕ) → PushesFirst bytes at read old new → read.count ≡ length old
-    → read.whole ≡ false
-    → IsBadAt old bytes at number (record { row = number; field = column_field (read.last + 1) })
-first_stops {read = read} {old = old} number h many whole =
-    let stops : StopsAt read.last h.fields old = rw whole at h.judged many in
-    let long : (length h.fields == length (map kind_of old)) ≡ true =
-    eq-eqb (length h.fields) (length (map kind_of old))
-    (h.many ∙ many ∙ sym (length-map old kind_of)) in
-    record {
-      fields = h.fields;
-      next = read.next;
-      reads = h.reads;
-      unspelled = stops.unspelled;
-      is = rw long (ap (λ c. record { row = number; field = column_field c }) (sym stops.first));
     }
 
 -- the records in front of those that are left now are rows of the columns

@@ -1,5 +1,5 @@
 -- Comparisons on numbers and texts are those on values.
-use Rattle.expr_eval.proofs.Imports.{CompareOp, Eq, Equal, Ge, Greater, Gt, Int, Le, Less, Lt, Ne, Ordering, Text, UInt, Value, ap, compared, exact, false, flipped, int_cmp, int_cmp_total, is_text, nat_list_cmp_total, negsuc, ordering_reverse, passes, plain_value, pos, refl, ℕ, ℤ, ◌∙◌, ◌≡◌}
+use Rattle.expr_eval.proofs.Imports.{CompareOp, Eq, Equal, Ge, Greater, Gt, Int, Le, Less, Lt, Ne, Ordering, Text, UInt, Value, ap, compared, false, flipped, int_cmp, int_cmp_total, is_text, nat_list_cmp_total, negsuc, ordering_reverse, passes, plain_value, pos, refl, ℕ, ℤ, ◌∙◌, ◌≡◌}
 use Rattle.chunk_data.specs.Values.{type_of as type_of_value}
 
 passes-reverse : (op : CompareOp) (o : Ordering) → passes (flipped op) (ordering_reverse o) ≡ passes op o
@@ -36,10 +36,6 @@ compared-reverse (UInt a) (UInt b) = int_cmp_total.antisymm (pos b) (pos a)
 -- a comparison turned round
 pub turned : (op : CompareOp) (a b : Value) → passes (flipped op) (compared b a) ≡ passes op (compared a b)
 turned op a b = ap (passes (flipped op)) (compared-reverse a b) ∙ passes-reverse op (compared a b)
-
-pub exact_plain : (z : ℤ) → exact (plain_value z) ≡ z
-exact_plain (pos n) = refl
-exact_plain (negsuc n) = refl
 
 pub int_compared : (x z : ℤ) → compared (Int x) (plain_value z) ≡ int_cmp x z
 int_compared x (pos n) = refl

@@ -1,5 +1,5 @@
 -- The operands of typed arithmetic.
-use Rattle.expr_eval.proofs.Imports.{Add, AreAlike, AreNumbersAlike, ArithOp, Bool, CanHold, Column, ColumnType, Expr, IsMade, List, Mul, None, Option, Row, Some, Sub, Table, ap, arith_type, false, if◌then◌else◌, kind_of, map, negsuc, plain_of, plain_value, pos, refl, result_type, subst, true, type_of, value_of, values, ℤ, ◌≡◌}
+use Rattle.expr_eval.proofs.Imports.{Add, AreAlike, ArithOp, Bool, CanHold, Column, ColumnType, Expr, IsMade, List, Mul, None, Option, Row, Some, Sub, Table, ap, arith_type, false, if◌then◌else◌, map, negsuc, plain_of, plain_value, pos, refl, result_type, subst, true, type_of, value_of, values, ℤ, ◌≡◌}
 use Rattle.chunk_data.specs.Names.{type_of as type_of_value}
 use Rattle.chunk_data.specs.declared.typed_value.ColumnType.TheVariants as column
 use Rattle.query_model.specs.declared.query.ExprOf.TheVariants as expr
@@ -13,11 +13,6 @@ pub plain_behind : (p q : Option ℤ) (s t : ColumnType) (z : ℤ) → p ≡ Non
 plain_behind (Some y) q s t z d e h = absurd cc
 plain_behind None None s t z d e h = absurd cc
 plain_behind None (Some y) s t z d e h = subst (λ q. AreAlike None s q t) e h
-
-pub neither_plain : (p q : Option ℤ) (s t : ColumnType) → p ≡ None → q ≡ None → AreAlike p s q t → AreNumbersAlike s t
-neither_plain (Some y) q s t d e h = absurd cc
-neither_plain None (Some y) s t d e h = absurd cc
-neither_plain None None s t d e h = h
 
 pub plain_value_of : (e : Expr) (z : ℤ) (row : Row) → plain_of e ≡ Some z → value_of e row ≡ plain_value z
 unfolding value_of
@@ -54,17 +49,6 @@ type_behind Add column.UInt64 (negsuc n) h = absurd h
 type_behind Mul column.UInt64 (negsuc n) h = absurd h
 type_behind Add column.Text z h = absurd h
 type_behind Mul column.Text z h = absurd h
-
-pub types_alike : (op : ArithOp) (s t : ColumnType) → AreNumbersAlike s t → arith_type op s t ≡ result_type op s
-types_alike op column.Int64 t h = rw h refl
-types_alike op column.UInt64 t h = rw h refl
-types_alike op column.Text t h = absurd h
-
--- a made column has the expression's values
-pub made_kind : (e : Expr) (table : Table) (c : Column) → IsMade e table (Some c) → kind_of c ≡ type_of e table.types
-made_kind (expr.Column k) table c h = absurd cc
-made_kind (expr.Number n) table c h = absurd cc
-made_kind (expr.Arith' op p a q b) table c h = h.0
 
 pub made_values : (e : Expr) (table : Table) (c : Column) → IsMade e table (Some c) → values c ≡ map (value_of e) table.rows
 made_values (expr.Column k) table c h = absurd cc

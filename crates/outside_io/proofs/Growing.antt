@@ -1,37 +1,17 @@
 -- How the growths of several writes make one.
 use Rattle.std.proofs.Common.{◌≡◌, ℕ, ◌+◌, List, [], ◌++◌, length, take, drop, ◌-◌, length-drop, Option, Some, None, ◌∙◌, sym, ap, append_assoc, refl, arith, length-append}
-use Rattle.std.proofs.lemmas.List.{append-nil, take-append-le}
+use Rattle.std.proofs.lemmas.List.{take-append-le}
 use Rattle.std.proofs.Math.Seq.{take-length, take-append-add, take-add}
-use Rattle.outside_io.specs.Growth.{grown, GrewBy, GrewByPrefix, Untouched}
+use Rattle.outside_io.specs.Growth.{grown, GrewBy, GrewByPrefix}
 
 pub grown-append : (told : Option (List ℕ)) (xs ys : List ℕ) → grown (grown told xs) ys ≡ grown told (xs ++ ys)
 grown-append None xs ys = refl
 grown-append (Some told) xs ys = ap Some (append_assoc told xs ys)
 
-pub grown-nil : (told : Option (List ℕ)) → grown told [] ≡ told
-grown-nil None = refl
-grown-nil (Some told) = ap Some (append-nil told)
-
 -- two writes are one
 pub GrewBy-trans : (first second third : Option (List ℕ)) (xs ys : List ℕ) → GrewBy first second xs → GrewBy second third ys → GrewBy first third (xs ++ ys)
 GrewBy-trans first second third xs ys one two =
     two ∙ ap (λ told. grown told ys) one ∙ grown-append first xs ys
-
-pub Untouched-refl : (told : Option (List ℕ)) → Untouched told told
-Untouched-refl told = sym (grown-nil told)
-
--- what is untouched is the same
-pub Untouched-same : (before after : Option (List ℕ)) → Untouched before after → after ≡ before
-Untouched-same before after same = same ∙ grown-nil before
-
--- all bytes are a front of themselves
-pub GrewByPrefix-whole : (before after : Option (List ℕ)) (xs : List ℕ) → GrewBy before after xs → GrewByPrefix before after xs
-GrewByPrefix-whole before after xs grew =
-    (length xs, omega arith, grew ∙ ap (grown before) (sym (take-length xs)))
-
--- no byte is a front of any
-pub GrewByPrefix-untouched : (before after : Option (List ℕ)) (xs : List ℕ) → Untouched before after → GrewByPrefix before after xs
-GrewByPrefix-untouched before after xs same = (0, omega arith, same)
 
 -- a front of the first of two texts is a front of both
 pub GrewByPrefix-append : (before after : Option (List ℕ)) (xs ys : List ℕ) → GrewByPrefix before after xs → GrewByPrefix before after (xs ++ ys)

@@ -1,4 +1,3 @@
 pub mod Growing
 pub mod Fakes
 pub mod Finding
-pub mod Reading

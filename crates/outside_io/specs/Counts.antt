@@ -10,10 +10,6 @@ one_more count = min (count + 1) (2 ^ 64 - 1)
 abbrev pub Rose : ℕ → ℕ → Type 0
 Rose old new = one_more old ≤ new
 
--- a count that rose and never falls has risen
-pub Rose-later : (old new later : ℕ) → Rose old new → new ≤ later → Rose old later
-Rose-later old new later rose kept = omega arith
-
 -- a count that rises from a later value has risen from an earlier one
 pub Rose-earlier : (earlier old new : ℕ) → earlier ≤ old → Rose old new → Rose earlier new
 Rose-earlier earlier old new kept rose = omega arith

@@ -27,13 +27,6 @@ at-all P boxes n lt all = All-get_or P boxes n no_box lt all
 
 -- ---- loading
 
-pub none-loaded : (specs : List Spec) (boxes : List BoxPicture) → LoadsFirst 0 specs boxes boxes
-none-loaded specs boxes = record {
-  count = refl;
-  loaded = λ n lt. absurd (omega (arith, lt));
-  others = λ n le. refl;
-}
-
 pub one-loaded : (k : ℕ) (specs : List Spec) (before mid after : List BoxPicture) (s : Spec)
     → LoadsFirst k specs before mid → OnlyBox k mid after → s ≡ spec_at specs k
     → Loads (box_at mid k) s (box_at after k) → LoadsFirst (k + 1) specs before after

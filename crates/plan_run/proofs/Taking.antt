@@ -102,18 +102,6 @@ first-of-kind k (p ∷ boxes) some = choose (is_of k p) refl (first-of-kind k bo
     choose true e rest = e
     choose false e rest = rest (some-rest k p boxes e some)
 
-pub one-less : (k : Kind) (boxes : List BoxPicture) → 0 < count_by (is_of k) boxes
-    → length (without_first k boxes) + 1 ≡ length boxes
-one-less k [] some = absurd (omega (arith, some))
-one-less k (p ∷ boxes) some = choose (is_of k p) refl (one-less k boxes)
-  where
-    choose : (t : Bool) → is_of k p ≡ t
-        → (0 < count_by (is_of k) boxes → length (without_first k boxes) + 1 ≡ length boxes)
-        → length (cond t boxes (p ∷ without_first k boxes)) + 1 ≡ suc (length boxes)
-    choose true e rest = omega arith
-    choose false e rest = let less : length (without_first k boxes) + 1 ≡ length boxes =
-        rest (some-rest k p boxes e some) in omega (arith, less)
-
 without-all : (P : BoxPicture → Type 0) (k : Kind) (boxes : List BoxPicture) → All P boxes
     → All P (without_first k boxes)
 without-all P k [] all = All-nil P

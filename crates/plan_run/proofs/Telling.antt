@@ -1,6 +1,6 @@
 -- What a run of a plan tells, from the steps that it is made of.
-use Rattle.std.proofs.Common.{◌≡◌, ◌⊎◌, ℕ, ◌+◌, ◌<◌, ◌≤◌, true, List, [], ◌++◌, map, length, Some, None, IsSome, Result, Ok, Err, IfOk, IfErr, refl, ap, subst, ◌∙◌, sym, arith}
-use Rattle.plan_run.proofs.Imports.{All, All-append, All-get_or, AreLater, AreStill, GivesBack, GivesRows, GivesUnloaded, HasStock, IsBlankAgain, IsLater, IsStill, Kind, LoadsFirst, PlanFault, PlanFaultHolds, RanWith, ReadsByKind, RunsLoaded, RunsPlan, RunsTaken, Spec, StuckWith, Table, Wire, append-nil, both_ways, ext_get_or, get_or-map, kind_of, kinds_of, left_after, length-map, spec_at, specs_of, taken_at, taken_for}
+use Rattle.std.proofs.Common.{◌≡◌, ◌⊎◌, ℕ, ◌+◌, ◌<◌, ◌≤◌, true, List, [], ◌++◌, map, length, Some, None, IsSome, Result, Ok, Err, IfOk, IfErr, ap, subst, ◌∙◌, sym, arith}
+use Rattle.plan_run.proofs.Imports.{All, All-append, All-get_or, AreLater, AreStill, GivesBack, GivesRows, GivesUnloaded, HasStock, IsBlankAgain, IsLater, IsStill, Kind, LoadsFirst, PlanFault, PlanFaultHolds, RanWith, ReadsByKind, RunsLoaded, RunsPlan, RunsTaken, Spec, StuckWith, Table, Wire, both_ways, ext_get_or, get_or-map, kind_of, kinds_of, left_after, length-map, spec_at, specs_of, taken_at, taken_for}
 use Rattle.query_model.specs.declared.processor_spec.Spec.TheVariants as spec
 use Rattle.proc_api.specs.Names.{BoxPicture, Notes, no_box, no_notes, IsBlank, IsFresh, IsSourceKind, HasNoReader, Loads, Unloads, raised}
 use Rattle.exec_laws.specs.Names.{IsBorn, box_at, StaysBox, GivenBack}
@@ -110,13 +110,6 @@ again-after p q r l u =
 
 -- ---- lists of boxes
 
-pub still-all-later : (before after : List BoxPicture) → AreStill before after
-    → AreLater before after
-still-all-later before after s = record {
-  count = s.count;
-  each = λ n lt. still-later (box_at before n) (box_at after n) (s.each n lt);
-}
-
 pub still-then-later : (before mid after : List BoxPicture) → AreStill before mid
     → AreLater mid after → AreLater before after
 still-then-later before mid after s l = record {
@@ -207,15 +200,6 @@ back-blank kinds before after blank g =
     subst (All IsBlank) (sym g.rack) (All-append IsBlank (left_after kinds before) g.given
     (left-all IsBlank kinds before blank)
     (all-at IsBlank g.given (λ n lt. (g.each n (subst (λ k. n < k) g.count lt)).blank)))
-
--- where nothing is taken
-pub none-taken : (boxes : List BoxPicture) → GivesBack [] boxes boxes
-none-taken boxes = record {
-  given = [];
-  rack = sym (append-nil boxes);
-  count = refl;
-  each = λ n lt. absurd (omega (arith, lt));
-}
 
 -- with lawful boxes no run ends stuck
 pub lawful-not-stuck : (specs : List Spec) (before after : List BoxPicture) (k : Kind)

@@ -2,7 +2,7 @@
 use Rattle.port_word.proofs.Imports.{Action, Bool, ChangedByCalls, Close, Explains, Finish, Flags, InputPort, IsDifference, IsOnce, IsSound, List, Option, Picture, PortCall, Pull, Push, Table, [], after_call, after_calls, ap, can_push, cases_lt, chunk_step, close_call, closed, cond, emptied, eqb-false, eqb-true, false, finish_call, get_or, get_or-eq_default, holds_data, in_count, inl, input_allows, input_at, input_step, inr, is_out_finished, length, need_call, no_input, not, noted, noted_want, out_count, output_allows, output_at, output_step, over_flags, pull_call, push_call, refl, subst, sym, true, with_actions, with_input, with_needed, with_output, ℕ, ◌&&◌, ◌++◌, ◌<◌, ◌==◌, ◌||◌, ◌∙◌, ◌∷◌, ◌≡◌}
 use Rattle.port_word.proofs.Laws.{input_at-with_input, input_at-with_input-other, output_at-with_output, output_at-with_output-other}
 use Rattle.port_word.proofs.Soundness.{sound-pull, sound-close, sound-push, sound-finish, sound-want}
-use Rattle.port_word.proofs.Steps.{cond-ap, cond-same, needs, input_after-append, chunk_after-append, output_after-append, inputs_allow-append, outputs_allow-append, input_after-want, chunk_after-want, output_after-want, inputs_allow-want, outputs_allow-want, input_after-fin_out, input_after-fin_in, output_after-needed, output_after-fin_in, output_after-fin_out}
+use Rattle.port_word.proofs.Steps.{cond-ap, cond-same, needs, input_after-append, chunk_after-append, output_after-append, inputs_allow-append, outputs_allow-append, input_after-want, chunk_after-want, output_after-want, inputs_allow-want, outputs_allow-want}
 
 -- the picture q is p after the action, which each port allows
 record StepsTo (p : Picture) (a : Action) (q : Picture) : Type 0 where
@@ -195,33 +195,6 @@ pub difference-calls : (before after : Picture) → IsSound before → before.ac
 difference-calls before after s e c =
     subst (λ p. Holds (λ i. (input_at before i).flags) (λ i. (input_at before i).chunk) (λ o. output_at before o) p) (sym c.gives)
     (holds-calls _ _ _ c.calls before (record { sound = s; explains = explains-itself before e }))
-
--- the first action is carried out: the port's flags and chunk move on, and the rest explains what is left
-pub explains-next : (ins : ℕ → Flags) (chunks : ℕ → Option Table) (outs : ℕ → Flags) (a : Action) (rest : List Action) (p : Picture) → Explains ins chunks outs (a ∷ rest) p → Explains (λ i. input_step i a (ins i)) (λ i. chunk_step i a (chunks i)) (λ o. output_step o a (outs o)) rest p
-explains-next ins chunks outs a rest p e = record {
-  input_flags = e.input_flags;
-  input_chunks = e.input_chunks;
-  output_flags = e.output_flags;
-  inputs_allow = λ i. (e.inputs_allow i).1;
-  outputs_allow = λ o. (e.outputs_allow o).1;
-}
-
--- what only the peer changes stays, and a finished flag only rises
-pub record OnlyRises (before after : Picture) : Type 0 where
-  pub input_fin_out : (i : ℕ) → (input_at after i).flags.fin_out ≡ (input_at before i).flags.fin_out
-  pub input_fin_in : (i : ℕ) → (input_at before i).flags.fin_in ≡ true → (input_at after i).flags.fin_in ≡ true
-  pub output_needed : (o : ℕ) → (output_at after o).needed ≡ (output_at before o).needed
-  pub output_fin_in : (o : ℕ) → (output_at after o).fin_in ≡ (output_at before o).fin_in
-  pub output_fin_out : (o : ℕ) → (output_at before o).fin_out ≡ true → (output_at after o).fin_out ≡ true
-
-pub difference-rises : (before after : Picture) → IsDifference before after → OnlyRises before after
-difference-rises before after e = record {
-  input_fin_out = λ i. ap (λ f. f.fin_out) (e.input_flags i) ∙ input_after-fin_out i after.actions (input_at before i).flags;
-  input_fin_in = λ i h. ap (λ f. f.fin_in) (e.input_flags i) ∙ input_after-fin_in i after.actions (input_at before i).flags h;
-  output_needed = λ o. ap (λ f. f.needed) (e.output_flags o) ∙ output_after-needed o after.actions (output_at before o);
-  output_fin_in = λ o. ap (λ f. f.fin_in) (e.output_flags o) ∙ output_after-fin_in o after.actions (output_at before o);
-  output_fin_out = λ o h. ap (λ f. f.fin_out) (e.output_flags o) ∙ output_after-fin_out o after.actions (output_at before o) h;
-}
 
 -- changes by calls go together
 

@@ -10,10 +10,6 @@ pub cond-same : {A B : Type 0} (h : A → B) (b : Bool) (x y : A) → h x ≡ h 
 cond-same h true x y e = e
 cond-same h false x y e = refl
 
-cond-keeps : {A : Type 0} (P : A → Type 0) (b : Bool) (x y : A) → P x → P y → P (cond b x y)
-cond-keeps P true x y p q = p
-cond-keeps P false x y p q = q
-
 -- a list and one more action
 
 pub input_after-append : (i : ℕ) (xs : List Action) (a : Action) (f : Flags) → input_after i (xs ++ a ∷ []) f ≡ input_step i a (input_after i xs f)
@@ -37,66 +33,6 @@ outputs_allow-append o [] a f h k = (k, tt)
 outputs_allow-append o (x ∷ xs) a f h k = (h.0, outputs_allow-append o xs a (output_step o x f) h.1 k)
 
 -- what stays: a finished flag only rises, and the bits of the other end don't change
-
-input_step-fin_out : (i : ℕ) (a : Action) (f : Flags) → (input_step i a f).fin_out ≡ f.fin_out
-input_step-fin_out i (Want j) f = cond-same (λ g. g.fin_out) (i == j) (record f { needed = true }) f refl
-input_step-fin_out i (Unwant j) f = cond-same (λ g. g.fin_out) (i == j) (record f { needed = false }) f refl
-input_step-fin_out i (Pull j) f = cond-same (λ g. g.fin_out) (i == j) (record f { has_data = false }) f refl
-input_step-fin_out i (Close j) f = cond-same (λ g. g.fin_out) (i == j) (record f { fin_in = true }) f refl
-input_step-fin_out i (Push j chunk) f = refl
-input_step-fin_out i (Finish j) f = refl
-
-pub input_after-fin_out : (i : ℕ) (xs : List Action) (f : Flags) → (input_after i xs f).fin_out ≡ f.fin_out
-input_after-fin_out i [] f = refl
-input_after-fin_out i (x ∷ xs) f = input_after-fin_out i xs (input_step i x f) ∙ input_step-fin_out i x f
-
-input_step-fin_in : (i : ℕ) (a : Action) (f : Flags) → f.fin_in ≡ true → (input_step i a f).fin_in ≡ true
-input_step-fin_in i (Want j) f h = cond-keeps (λ g. g.fin_in ≡ true) (i == j) (record f { needed = true }) f h h
-input_step-fin_in i (Unwant j) f h = cond-keeps (λ g. g.fin_in ≡ true) (i == j) (record f { needed = false }) f h h
-input_step-fin_in i (Pull j) f h = cond-keeps (λ g. g.fin_in ≡ true) (i == j) (record f { has_data = false }) f h h
-input_step-fin_in i (Close j) f h = cond-keeps (λ g. g.fin_in ≡ true) (i == j) (record f { fin_in = true }) f refl h
-input_step-fin_in i (Push j chunk) f h = h
-input_step-fin_in i (Finish j) f h = h
-
-pub input_after-fin_in : (i : ℕ) (xs : List Action) (f : Flags) → f.fin_in ≡ true → (input_after i xs f).fin_in ≡ true
-input_after-fin_in i [] f h = h
-input_after-fin_in i (x ∷ xs) f h = input_after-fin_in i xs (input_step i x f) (input_step-fin_in i x f h)
-
-output_step-fin_in : (o : ℕ) (a : Action) (f : Flags) → (output_step o a f).fin_in ≡ f.fin_in
-output_step-fin_in o (Want j) f = refl
-output_step-fin_in o (Unwant j) f = refl
-output_step-fin_in o (Pull j) f = refl
-output_step-fin_in o (Close j) f = refl
-output_step-fin_in o (Push j chunk) f = cond-same (λ g. g.fin_in) (o == j) (record f { has_data = true }) f refl
-output_step-fin_in o (Finish j) f = cond-same (λ g. g.fin_in) (o == j) (record f { fin_out = true }) f refl
-
-pub output_after-fin_in : (o : ℕ) (xs : List Action) (f : Flags) → (output_after o xs f).fin_in ≡ f.fin_in
-output_after-fin_in o [] f = refl
-output_after-fin_in o (x ∷ xs) f = output_after-fin_in o xs (output_step o x f) ∙ output_step-fin_in o x f
-
-output_step-needed : (o : ℕ) (a : Action) (f : Flags) → (output_step o a f).needed ≡ f.needed
-output_step-needed o (Want j) f = refl
-output_step-needed o (Unwant j) f = refl
-output_step-needed o (Pull j) f = refl
-output_step-needed o (Close j) f = refl
-output_step-needed o (Push j chunk) f = cond-same (λ g. g.needed) (o == j) (record f { has_data = true }) f refl
-output_step-needed o (Finish j) f = cond-same (λ g. g.needed) (o == j) (record f { fin_out = true }) f refl
-
-pub output_after-needed : (o : ℕ) (xs : List Action) (f : Flags) → (output_after o xs f).needed ≡ f.needed
-output_after-needed o [] f = refl
-output_after-needed o (x ∷ xs) f = output_after-needed o xs (output_step o x f) ∙ output_step-needed o x f
-
-output_step-fin_out : (o : ℕ) (a : Action) (f : Flags) → f.fin_out ≡ true → (output_step o a f).fin_out ≡ true
-output_step-fin_out o (Want j) f h = h
-output_step-fin_out o (Unwant j) f h = h
-output_step-fin_out o (Pull j) f h = h
-output_step-fin_out o (Close j) f h = h
-output_step-fin_out o (Push j chunk) f h = cond-keeps (λ g. g.fin_out ≡ true) (o == j) (record f { has_data = true }) f h h
-output_step-fin_out o (Finish j) f h = cond-keeps (λ g. g.fin_out ≡ true) (o == j) (record f { fin_out = true }) f refl h
-
-pub output_after-fin_out : (o : ℕ) (xs : List Action) (f : Flags) → f.fin_out ≡ true → (output_after o xs f).fin_out ≡ true
-output_after-fin_out o [] f h = h
-output_after-fin_out o (x ∷ xs) f h = output_after-fin_out o xs (output_step o x f) (output_step-fin_out o x f h)
 
 -- Want or Unwant in the place of an earlier one
 

@@ -1,5 +1,5 @@
 -- The merge of the aggregates of parts is the aggregate of the whole, and no order of the values matters.
-use Rattle.query_model.proofs.Imports.{Bool, Combine, Equal, Greater, IsPermutation, Less, List, Ordering, UInt, Value, [], added, ap, ap₂, arith, chosen, combined, cond, counted, counts_added, exact, exact_sum, false, flat_map, fold, greater, greatest, ints, is_lt, is_uint, least, length, length_permutation, lesser, list_all, map, merge_of, pos, refl, subst, suc, sym, true, value_cmp, wrapped, ℕ, ℤ, ◌%◌, ◌&&◌, ◌++◌, ◌+ℤ◌, ◌+◌, ◌<◌, ◌^◌, ◌∙◌, ◌∷◌, ◌≡◌}
+use Rattle.query_model.proofs.Imports.{Bool, Combine, Equal, Greater, IsPermutation, Less, List, Ordering, UInt, Value, [], added, ap, ap₂, arith, chosen, combined, cond, counted, counts_added, exact, exact_sum, false, flat_map, fold, greater, greatest, ints, is_lt, is_uint, least, length, length_permutation, lesser, list_all, merge_of, pos, refl, sym, true, value_cmp, wrapped, ℕ, ℤ, ◌%◌, ◌&&◌, ◌++◌, ◌+ℤ◌, ◌+◌, ◌<◌, ◌^◌, ◌∙◌, ◌∷◌, ◌≡◌}
 use Rattle.query_model.proofs.Wrapping.{Same, Same-add, wrapped-Same, exact-wrapped, is_uint-wrapped}
 use Rattle.query_model.proofs.ValueOrder.{value_cmp_total, value_cmp-IsAntisymmetric}
 use Rattle.query_model.proofs.Lists.{along_permutation}

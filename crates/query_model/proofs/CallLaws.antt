@@ -1,5 +1,5 @@
 -- Calls that are counted, and calls that are placed one behind another.
-use Rattle.query_model.proofs.Imports.{AggCall, AreAdded, ArePicks, Bool, ColumnRef, EachWith, FromColumn, IsPick, IsPlacedCall, Item, List, Operand, [], ap, append-nil, append_assoc, arith, cond, false, filter, flat_map, get_or, is_call_item, item_calls, length, length-append, map, map-append, operand_calls, place_in, refl, subst, suc, sym, take, take_more, total, true, ℕ, ◌++◌, ◌+◌, ◌<◌, ◌∙◌, ◌∷◌, ◌≡◌}
+use Rattle.query_model.proofs.Imports.{AggCall, AreAdded, ArePicks, Bool, ColumnRef, EachWith, FromColumn, IsPick, IsPlacedCall, Item, List, Operand, [], ap, append_assoc, arith, cond, false, filter, flat_map, get_or, is_call_item, item_calls, length, length-append, map, map-append, operand_calls, place_in, refl, subst, suc, sym, take, take_more, total, true, ℕ, ◌++◌, ◌+◌, ◌<◌, ◌∙◌, ◌∷◌, ◌≡◌}
 
 total-append : (xs ys : List ℕ) → total (xs ++ ys) ≡ total xs + total ys
 total-append [] ys = omega arith
@@ -21,10 +21,6 @@ each_append R [] zs [] ws h k = k
 each_append R [] zs (y ∷ ys) ws h k = absurd h
 each_append R (x ∷ xs) zs [] ws h k = absurd h
 each_append R (x ∷ xs) zs (y ∷ ys) ws h k = (h.0, each_append R xs zs ys ws h.1 k)
-
--- no call is added
-pub none_added : (columns : List FromColumn) (calls : List (AggCall ℕ)) → AreAdded columns [] calls calls
-none_added columns calls = record { more = []; is = sym (append-nil calls); placed = tt }
 
 -- as many calls are added as are placed
 pub length_added : (columns : List FromColumn) (calls : List (AggCall ColumnRef)) (before after : List (AggCall ℕ)) → AreAdded columns calls before after

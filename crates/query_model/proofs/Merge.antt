@@ -1,5 +1,5 @@
 -- The merge of the groups of parts is the groups of all rows.
-use Rattle.query_model.proofs.Imports.{AggCall, AllByRecursion, Bool, Call, Combine, IsPermutation, IsPermutation-map, IsPermutation-trans, List, Row, Text, Value, [], ap, append_assoc, ap₂, arith, call_of, combine_of, combined, cond, distinct, distinct_rows, false, filter, flat_map, get_or, grouped_by, groups, length, length-append, map, map-append, merge_of, merged_groups, not, refl, rows_with, same_row, state_calls, suc, sym, take, true, value_at, values_at, zero, ℕ, ◌++◌, ◌+◌, ◌∙◌, ◌∷◌, ◌≡◌}
+use Rattle.query_model.proofs.Imports.{AggCall, AllByRecursion, Bool, Call, Combine, IsPermutation, IsPermutation-map, IsPermutation-trans, List, Row, Text, Value, [], ap, append_assoc, ap₂, arith, call_of, combine_of, combined, cond, distinct, distinct_rows, false, filter, flat_map, get_or, grouped_by, groups, length, length-append, map, merge_of, merged_groups, not, refl, rows_with, same_row, state_calls, suc, sym, take, true, value_at, values_at, zero, ℕ, ◌++◌, ◌+◌, ◌∙◌, ◌∷◌, ◌≡◌}
 use Rattle.query_model.proofs.Lists.{map-map, map-flat_map, flat_map-map, filter-flat_map, filter-map, IsPermutation-filter, IsPermutation-same}
 use Rattle.query_model.proofs.Distinct.{distinct-filter, distinct-append_left, distinct-append_right, IsPermutation-distinct}
 use Rattle.query_model.proofs.ValueOrder.{same_row_is}

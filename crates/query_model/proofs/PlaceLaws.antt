@@ -1,5 +1,5 @@
 -- The place of the first that passes a test.
-use Rattle.query_model.proofs.Imports.{Bool, List, [], ap, arith, cond, false, get_or, length, list_any, list_any-append, place_of, refl, suc, take, take_more, true, zero, ℕ, ◌+◌, ◌<◌, ◌||◌, ◌∙◌, ◌∷◌, ◌≡◌, ◌≤◌}
+use Rattle.query_model.proofs.Imports.{Bool, List, [], arith, cond, false, get_or, length, list_any, place_of, refl, suc, take, true, zero, ℕ, ◌+◌, ◌<◌, ◌||◌, ◌∙◌, ◌∷◌, ◌≡◌, ◌≤◌}
 
 -- the first that passes
 pub place_found : {A : Type 0} (test : A → Bool) (xs : List A) (i : ℕ) (d : A) → list_any test (take i xs) ≡ false → i < length xs → test (get_or xs i d) ≡ true
@@ -12,11 +12,6 @@ place_found test (x ∷ xs) (suc i) d none lt t = go (test x) none (λ n. place_
         → ((b || list_any test xs) ≡ true) × (suc i ≡ cond b 0 (place_of test xs + 1))
     go true n more = absurd cc
     go false n more = ((more n).0, let e = (more n).1 in omega (arith, e))
-
--- none so far
-pub none_more : {A : Type 0} (test : A → Bool) (xs : List A) (i : ℕ) (d : A) → list_any test (take i xs) ≡ false → i < length xs → test (get_or xs i d) ≡ false → list_any test (take (i + 1) xs) ≡ false
-none_more test xs i d none lt t =
-    ap (list_any test) (take_more xs i d lt) ∙ list_any-append test (take i xs) (get_or xs i d ∷ []) ∙ rw (none, t) refl
 
 -- a place that was found is one of the places
 pub place_within : {A : Type 0} (test : A → Bool) (xs : List A) → list_any test xs ≡ true → place_of test xs < length xs

@@ -1,5 +1,5 @@
 -- Reading a part field by field and record by record.
-use Rattle.query_model.proofs.Imports.{Column, ColumnType, Fields, FitsType, FitsTypes, Int, List, None, Option, Row, Some, SpelledFront, UInt, Value, [], ap, ap₂, arith, bad_column, bad_field, both_spelled, cond, drop, drop_all, drop_more, false, get_or, is_some, length, length-append, numeral_below, option_map, refl, spelled_int, spelled_row, spelled_value, subst, suc, sym, true, type_of, ℕ, ℤ, ◌++◌, ◌+◌, ◌<◌, ◌==◌, ◌^◌, ◌∙◌, ◌∷◌, ◌≡◌, ◌≢◌}
+use Rattle.query_model.proofs.Imports.{Column, ColumnType, Fields, FitsType, FitsTypes, Int, List, None, Option, Row, Some, SpelledFront, UInt, Value, [], ap, ap₂, arith, bad_column, bad_field, both_spelled, cond, drop, drop_all, drop_more, false, get_or, is_some, length, length-append, numeral_below, option_map, refl, spelled_int, spelled_row, spelled_value, subst, suc, sym, type_of, ℕ, ℤ, ◌++◌, ◌+◌, ◌<◌, ◌==◌, ◌^◌, ◌∙◌, ◌∷◌, ◌≡◌, ◌≢◌}
 use Rattle.chunk_data.specs.declared.typed_value.ColumnType.TheVariants as column
 
 some_is : {A : Type 0} (x y : A) → Some x ≡ Some y → x ≡ y
@@ -7,9 +7,6 @@ some_is x y h = cc
 
 some_not_none : {A : Type 0} (x : A) → None ≡ Some x → ⊥
 some_not_none x h = cc
-
-same_number : (a b : ℕ) → a ≡ b → (a == b) ≡ true
-same_number a b e = grind arith
 
 other_number : (a b : ℕ) → a ≢ b → (a == b) ≡ false
 other_number a b e = grind arith
@@ -51,25 +48,6 @@ spelled_row-stops (t ∷ types) (f ∷ fields) [] d e front few long is = ap (λ
 spelled_row-stops (t ∷ types) (f ∷ fields) (w ∷ row) d e front few long is =
     ap (λ o. both_spelled o (spelled_row types fields)) front.0
     ∙ ap (option_map (λ r. w ∷ r)) (spelled_row-stops types fields row d e front.1 (omega (arith, few)) (omega (arith, long)) is)
-
-bad_column-stops : (c : ℕ) (types : List ColumnType) (fields : List (List ℕ)) (row : Row) (d : ColumnType) (e : List ℕ)
-    → SpelledFront types fields row → length row < length types → length row < length fields
-    → spelled_value (get_or types (length row) d) (get_or fields (length row) e) ≡ None → bad_column c types fields ≡ c + length row
-unfolding bad_column
-bad_column-stops c [] fields row d e front few long is = absurd (omega (arith, few))
-bad_column-stops c (t ∷ types) [] row d e front few long is = absurd (omega (arith, long))
-bad_column-stops c (t ∷ types) (f ∷ fields) [] d e front few long is =
-    ap (λ o. cond (is_some o) (bad_column (c + 1) types fields) c) is ∙ (omega arith)
-bad_column-stops c (t ∷ types) (f ∷ fields) (w ∷ row) d e front few long is =
-    ap (λ o. cond (is_some o) (bad_column (c + 1) types fields) c) front.0
-    ∙ bad_column-stops (c + 1) types fields row d e front.1 (omega (arith, few)) (omega (arith, long)) is ∙ (omega arith)
-
-pub bad_field-stops : (types : List ColumnType) (fields : List (List ℕ)) (row : Row) (d : ColumnType) (e : List ℕ)
-    → length fields ≡ length types → SpelledFront types fields row → length row < length types
-    → spelled_value (get_or types (length row) d) (get_or fields (length row) e) ≡ None → bad_field types fields ≡ Column (length row + 1)
-bad_field-stops types fields row d e same front few is =
-    ap (λ b. cond b (Column (bad_column 1 types fields)) (Fields (length fields))) (same_number _ _ same)
-    ∙ ap Column (bad_column-stops 1 types fields row d e front few (omega (arith, same, few)) is ∙ (omega arith))
 
 -- from column i on
 pub bad_column-step : (types : List ColumnType) (fields : List (List ℕ)) (i : ℕ) (d : ColumnType) (e f : List ℕ) (c : ℕ)

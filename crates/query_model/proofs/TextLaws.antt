@@ -18,10 +18,6 @@ pub quoted-whole : (bytes text grown : List ℕ) (i : ℕ) → text ≡ 34 ∷ f
     → grown ≡ text ++ 34 ∷ [] → grown ≡ quoted bytes
 quoted-whole bytes text grown i e h is = is ∙ ap (λ l. l ++ 34 ∷ []) (e ∙ ap (λ l. 34 ∷ flat_map doubled l) (take_all i bytes h))
 
--- The texts of two lists of rows.
-pub rows_text-append : (xs ys : List Row) → rows_text (xs ++ ys) ≡ rows_text xs ++ rows_text ys
-rows_text-append xs ys = flat_map-append row_text xs ys
-
 -- one row more
 pub rows_text-take : (rows : List Row) (i : ℕ) (d : Row) → i < length rows → rows_text (take (i + 1) rows) ≡ rows_text (take i rows) ++ row_text (get_or rows i d)
 rows_text-take rows i d h = flat_map-take row_text rows i d h

@@ -2,10 +2,6 @@
 use Rattle.task_queue.proofs.Imports.{Forks, IsBalanced, IsMoment, Learns, Passage, Pops, Pushes, [], arith, empty_passage, refl, set, times, with_put, with_taken, ℕ, ◌++◌, ◌∷◌, ◌≡◌}
 use Rattle.task_queue.proofs.Counts.{times-append, total-set, total-push}
 
--- an empty queue has the rule
-pub balanced-empty : IsBalanced [] (empty_passage ∷ [])
-balanced-empty n = refl
-
 -- a number joins at the back
 pub balanced-put : (room pass : ℕ) (v : Passage) (x : ℕ)
     → Pushes IsBalanced room pass v x (λ w. w ≡ with_put x v)
