@@ -1,8 +1,7 @@
 -- Numbers in order: those that are made, and those that are left.
-use Rattle.flow_procs.proofs.Imports.{AreLong, Begins, Bool, Column, List, Makes, Means, None, Offers, Picture, Some, Spec, Table, Takes, UInt, [], adds, ap, append-nil, append_assoc, arith, chunk_rows, count_on, count_up, counting_own, false, in_count, inl, leaves-same, length, makes-nothing, map, map-append, max, min, no_lists, number_row, refl, replicate, rows_of, subst, suc, sym, values, zero, ℕ, ◌++◌, ◌+◌, ◌-◌, ◌<◌, ◌∙◌, ◌∷◌, ◌≡◌, ◌≤◌}
+use Rattle.flow_procs.proofs.Imports.{AreLong, Begins, Column, List, Makes, Means, None, Some, Spec, Table, UInt, [], adds, ap, append-nil, append_assoc, arith, chunk_rows, count_on, count_up, counting_own, false, inl, length, length-map, map, map-append, max, min, no_lists, number_row, refl, replicate, rows_of, subst, suc, sym, values, zero, ℕ, ◌++◌, ◌+◌, ◌-◌, ◌<◌, ◌∙◌, ◌∷◌, ◌≡◌}
 use Rattle.chunk_data.specs.declared.typed_value.ColumnType.TheVariants as column
 use Rattle.query_model.specs.declared.processor_spec.Spec.TheVariants as spec
-use Rattle.proc_shell.specs.declared.kernel.Offer.TheVariants as offer
 
 count_on-split : (a j k : ℕ) → count_on a (j + k) ≡ count_on a j ++ count_on (a + j) k
 count_on-split a zero k = let e : 0 + k ≡ k = omega arith in let f : a ≡ a + 0 = omega arith in ap (λ n. count_on a n) e ∙ ap (λ n. count_on n k) f
@@ -11,16 +10,15 @@ count_on-split a (suc j) k =
     let f : suc a + j ≡ a + suc j = omega arith in
     ap (λ n. count_on a n) e ∙ ap (λ l. a ∷ l) (count_on-split (suc a) j k ∙ ap (λ n. count_on (suc a) j ++ count_on n k) f)
 
-pub count_on-next : (a j : ℕ) → count_on a (j + 1) ≡ count_on a j ++ (a + j) ∷ []
-count_on-next a j = count_on-split a j 1
+pub count_on_next : (a j : ℕ) → count_on a (j + 1) ≡ count_on a j ++ (a + j) ∷ []
+count_on_next a j = count_on-split a j 1
 
 length-count_on : (a k : ℕ) → length (count_on a k) ≡ k
 length-count_on a zero = refl
 length-count_on a (suc k) = ap suc (length-count_on (suc a) k)
 
 length-rows : (a k : ℕ) → length (map number_row (count_on a k)) ≡ k
-length-rows a zero = refl
-length-rows a (suc k) = ap suc (length-rows (suc a) k)
+length-rows a k = rw length-map (length-count_on a k)
 
 count_up-is : (n : ℕ) → count_up n ≡ count_on 0 n
 unfolding count_up
@@ -28,7 +26,8 @@ count_up-is zero = refl
 count_up-is (suc n) =
     let e : suc n ≡ n + 1 = omega arith in
     let f : 0 + n ≡ n = omega arith in
-    ap (λ l. l ++ n ∷ []) (count_up-is n) ∙ sym (ap (λ k. count_on 0 k) e ∙ count_on-next 0 n ∙ ap (λ k. count_on 0 n ++ k ∷ []) f)
+    ap (λ l. l ++ n ∷ []) (count_up-is n)
+    ∙ sym (ap (count_on 0) e ∙ count_on_next 0 n ∙ ap (λ k. count_on 0 n ++ k ∷ []) f)
 
 -- a column of numbers beside no other
 rows-of-numbers : (xs : List ℕ) (n : ℕ) → length xs ≡ n → adds (map UInt xs) (replicate n []) ≡ map number_row xs
@@ -40,18 +39,13 @@ rows-of-numbers xs n e = subst (λ k. adds (map UInt xs) (replicate k []) ≡ ma
 
 -- the numbers as a column beside no other
 pub column-long : (columns : List Column) (one : Column) (first count : ℕ) → columns ≡ one ∷ [] → values one ≡ map UInt (count_on first count) → AreLong count (map values columns)
-column-long columns one first count e v = rw e ((ap length v ∙ long first count), tt)
-  where
-    long : (a k : ℕ) → length (map UInt (count_on a k)) ≡ k
-    long a zero = refl
-    long a (suc k) = ap suc (long (suc a) k)
+column-long columns one first count e v =
+    let long : length (map UInt (count_on first count)) ≡ count =
+    rw length-map (length-count_on first count) in rw e (ap length v ∙ long, tt)
 
 pub column-rows : (columns : List Column) (one : Column) (first count : ℕ) → columns ≡ one ∷ [] → values one ≡ map UInt (count_on first count) → rows_of count (map values columns) ≡ map number_row (count_on first count)
 column-rows columns one first count e v =
     ap (λ l. rows_of count (map values l)) e ∙ ap (λ l. adds l (replicate count [])) v ∙ rows-of-numbers (count_on first count) count (length-count_on first count)
-
-none-left : (next end : ℕ) → end ≤ next → map number_row (count_on next (end - next)) ≡ []
-none-left next end le = let e : end - next ≡ 0 = omega (arith, le) in ap (λ k. map number_row (count_on next k)) e
 
 pub begins : (s : Spec) (end rows : ℕ) → s ≡ spec.Numbers end rows → Begins s (spec.Numbers end rows) (counting_own 0 end)
 begins s end rows e = record {
@@ -60,33 +54,6 @@ begins s end rows e = record {
       (let z : end - 0 ≡ end = omega arith in ap (λ k. map number_row (count_on 0 k)) z ∙ ap (λ l. map number_row l) (sym (count_up-is end)));
   unended = λ i n. n;
 }
-
-pub offers-rows : (wants : ℕ → Bool) (v : Picture) (next end rows : ℕ) → next < end → Offers wants (spec.Numbers end rows) v (counting_own next end) (counting_own next end) offer.Rows
-offers-rows wants v next end rows lt = record {
-  leaves = leaves-same (spec.Numbers end rows) (counting_own next end);
-  comes = let l = length-rows next (end - next) in omega (arith, l, lt);
-  ends = λ i lt n. inl n;
-}
-
-pub offers-end : (wants : ℕ → Bool) (v : Picture) (next end rows : ℕ) → end ≤ next → in_count v ≡ 0 → Offers wants (spec.Numbers end rows) v (counting_own next end) (counting_own next end) offer.Wants
-offers-end wants v next end rows le none = record {
-  leaves = leaves-same (spec.Numbers end rows) (counting_own next end);
-  comes = record { nothing = none-left next end le; wanting = tt; all_over = λ over i lt. absurd (omega (arith, none, lt)); noted = λ over. tt };
-  ends = λ i lt n. inl n;
-}
-
--- a chunk changes nothing
-pub drops : (next end rows i : ℕ) (t : Table) → Takes (spec.Numbers end rows) (counting_own next end) i t (counting_own next end) None
-drops next end rows i t =
-    record {
-      means = λ x fits worked outs h. h;
-      types = λ ins pulled. tt;
-      sizes = tt;
-      ends = λ i n. n;
-    }
-
-pub makes-none : (next end rows : ℕ) → end ≤ next → Makes (spec.Numbers end rows) (counting_own next end) (counting_own next end) None
-makes-none next end rows le = makes-nothing (spec.Numbers end rows) (counting_own next end) (none-left next end le)
 
 pub makes-some : (next end rows count : ℕ) (c : Table) → count ≡ min (end - next) (max rows 1) → 0 < count → c.types ≡ column.UInt64 ∷ [] → c.rows ≡ map number_row (count_on next count)
     → Makes (spec.Numbers end rows) (counting_own next end) (counting_own (next + count) end) (Some c)

@@ -1,12 +1,11 @@
 -- A limit makes of its chunks the rows of its span.
-use Rattle.flow_procs.proofs.Imports.{AreLimited, IsPulled, List, Row, Some, Span, Table, Takes, append-nil, chunk_rows, drop, last_read, length, limited-more, min, read_own, rows-here, subst, sym, take, with_chunk, ℕ, ◌++◌, ◌+◌, ◌-◌, ◌<◌, ◌^◌, ◌≡◌}
-use Rattle.query_model.specs.declared.processor_spec.Spec.TheVariants as spec
+use Rattle.flow_procs.proofs.Imports.{AreLimited, IsPulled, List, Row, Some, Span, Spec, Table, Takes, append-nil, chunk_rows, drop, last_read, length, limited-more, min, read_own, rows-here, subst, sym, take, with_chunk, ℕ, ◌++◌, ◌+◌, ◌-◌, ◌<◌, ◌^◌, ◌≡◌}
 
 pub takes : (span : Span) (read i : ℕ) (t u : Table) → i ≡ 0 → span.skip < 2 ^ 64
     → span.count < 2 ^ 64 → u.types ≡ t.types
     → u.rows ≡ drop (min (span.skip - read) (length t.rows))
     (take (min (span.skip + span.count - read) (length t.rows)) t.rows)
-    → Takes (spec.Limit span) (read_own read) i t
+    → Takes (Spec.Limit span) (read_own read) i t
     (read_own (min (read + length t.rows) last_read)) (Some u)
 takes span read i t u z a b types rows = record {
   means = λ x fits worked outs h.

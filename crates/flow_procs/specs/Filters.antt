@@ -1,8 +1,7 @@
 -- A filter makes of its chunks the rows at which its condition is true.
-use Rattle.flow_procs.specs.Prelude.{Cond, IsMaker, IsShelled, ap, filter, filter-append, holds, refl, shelled-through}
-use Rattle.query_model.specs.declared.processor_spec.Spec.TheVariants as spec
+use Rattle.flow_procs.specs.Prelude.{Cond, IsMaker, IsShelled, Spec, ap, filter, filter-append, holds, refl, shelled-through}
 
-pub filter_maker : (c : Cond) → IsMaker (spec.Filter c) (filter (holds c))
+pub filter_maker : (c : Cond) → IsMaker (Spec.Filter c) (filter (holds c))
 filter_maker c = record {
   each = record { nothing = refl; both = filter-append (holds c) };
   plain = refl;
@@ -11,8 +10,8 @@ filter_maker c = record {
   noted = λ own. tt;
 }
 
-pub filter_shelled : (c : Cond) → IsShelled (spec.Filter c)
+pub filter_shelled : (c : Cond) → IsShelled (Spec.Filter c)
 filter_shelled c =
-    shelled-through (spec.Filter c) (filter (holds c)) (filter_maker c)
+    shelled-through (Spec.Filter c) (filter (holds c)) (filter_maker c)
     (record { ports = λ growth m n h. h; counts = λ growth m n h. h })
     (λ p ins outs h. h) (λ p ins outs h. h) (λ w e. (ap (λ x. x.unmade) e, ap (λ x. x.source) e))

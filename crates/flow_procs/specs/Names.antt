@@ -3,6 +3,7 @@ pub use Rattle.flow_procs.specs.Counting.{count_on, counting_own, number_row, nu
 pub use Rattle.flow_procs.specs.Expressions.{expression_shelled}
 pub use Rattle.flow_procs.specs.Filters.{filter_shelled}
 pub use Rattle.flow_procs.specs.Limits.{limit_shelled, read_own}
+pub use Rattle.flow_procs.specs.Prelude.{ColumnType, Kind, Spec}
 pub use Rattle.flow_procs.specs.Resizes.{resize_shelled}
 pub use Rattle.proc_shell.proofs.Gathering.{collect_shelled, collect_uses}
 pub use Rattle.proc_shell.proofs.Through.{first-source}

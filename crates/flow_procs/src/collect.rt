@@ -22,10 +22,9 @@ pub struct Gathering {
 
 impl Kernel for Gathering {
     ghost use Rattle.std.specs.Prelude.{◌==◌};
-    ghost use Rattle.flow_procs.specs.Names.{collect_shelled, collect_uses, false, gathering, refl};
-    ghost use Rattle.query_model.specs.declared.processor_spec.Kind.TheVariants as kind;
+    ghost use Rattle.flow_procs.specs.Names.{Kind, collect_shelled, collect_uses, false, gathering, refl};
 
-    ghost kind_is = { kind.Collect };
+    ghost kind_is = { Kind.Collect };
 
     ghost state = { λ k. gathering k.chunks.items k.handed_out };
 

@@ -18,19 +18,18 @@ pub struct Evaluating {
 
 impl Kernel for Evaluating {
     ghost use Rattle.std.specs.Prelude.{◌==◌};
-    ghost use Rattle.flow_procs.specs.Names.{expression_shelled, first-source, idle_own, kernel_of, refl};
-    ghost use Rattle.query_model.specs.declared.processor_spec.Kind.TheVariants as kind;
-    ghost use Rattle.query_model.specs.declared.processor_spec.Spec.TheVariants as spec;
+    ghost use Rattle.flow_procs.specs.Names.{Kind, Spec, expression_shelled, first-source, idle_own, kernel_of, refl};
 
-    ghost kind_is = { kind.Expression };
+    ghost kind_is = { Kind.Expression };
 
-    ghost state = { λ k. kernel_of kind.Expression (spec.Expression k.items) idle_own };
+    ghost state = { λ k. kernel_of Kind.Expression (Spec.Expression k.items) idle_own };
 
     ghost open_to = { λ k i. i == 0 };
 
     ghost shelled = { λ k. expression_shelled k.items };
 
-    ghost uses = { λ k i unworked made e m. first-source (kernel_of kind.Expression (spec.Expression k.items) idle_own) i unworked made e };
+    ghost uses = { λ k i unworked made e m. first-source
+        (kernel_of Kind.Expression (Spec.Expression k.items) idle_own) i unworked made e };
 
     ghost of_kind = { λ k. (refl, refl) };
 

@@ -18,19 +18,18 @@ pub struct Filtering {
 
 impl Kernel for Filtering {
     ghost use Rattle.std.specs.Prelude.{◌==◌};
-    ghost use Rattle.flow_procs.specs.Names.{filter_shelled, first-source, idle_own, kernel_of, refl};
-    ghost use Rattle.query_model.specs.declared.processor_spec.Kind.TheVariants as kind;
-    ghost use Rattle.query_model.specs.declared.processor_spec.Spec.TheVariants as spec;
+    ghost use Rattle.flow_procs.specs.Names.{Kind, Spec, filter_shelled, first-source, idle_own, kernel_of, refl};
 
-    ghost kind_is = { kind.Filter };
+    ghost kind_is = { Kind.Filter };
 
-    ghost state = { λ k. kernel_of kind.Filter (spec.Filter k.cond) idle_own };
+    ghost state = { λ k. kernel_of Kind.Filter (Spec.Filter k.cond) idle_own };
 
     ghost open_to = { λ k i. i == 0 };
 
     ghost shelled = { λ k. filter_shelled k.cond };
 
-    ghost uses = { λ k i unworked made e m. first-source (kernel_of kind.Filter (spec.Filter k.cond) idle_own) i unworked made e };
+    ghost uses = { λ k i unworked made e m. first-source
+        (kernel_of Kind.Filter (Spec.Filter k.cond) idle_own) i unworked made e };
 
     ghost of_kind = { λ k. (refl, refl) };
 

@@ -29,20 +29,18 @@ fn rows_before(place: u128, read: u128, rows: usize) -> usize
 
 impl Kernel for Limiting {
     ghost use Rattle.std.specs.Prelude.{◌==◌};
-    ghost use Rattle.flow_procs.specs.Names.{first-source, kernel_of, limit_shelled, read_own, refl};
-    ghost use Rattle.query_model.specs.declared.processor_spec.Kind.TheVariants as kind;
-    ghost use Rattle.query_model.specs.declared.processor_spec.Spec.TheVariants as spec;
+    ghost use Rattle.flow_procs.specs.Names.{Kind, Spec, first-source, kernel_of, limit_shelled, read_own, refl};
 
-    ghost kind_is = { kind.Limit };
+    ghost kind_is = { Kind.Limit };
 
-    ghost state = { λ k. kernel_of kind.Limit (spec.Limit k.span) (read_own k.read) };
+    ghost state = { λ k. kernel_of Kind.Limit (Spec.Limit k.span) (read_own k.read) };
 
     ghost open_to = { λ k i. i == 0 };
 
     ghost shelled = { λ k. limit_shelled k.span };
 
     ghost uses = { λ k i unworked made e m. first-source
-        (kernel_of kind.Limit (spec.Limit k.span) (read_own k.read)) i unworked made e };
+        (kernel_of Kind.Limit (Spec.Limit k.span) (read_own k.read)) i unworked made e };
 
     ghost of_kind = { λ k. (refl, refl) };
 

@@ -1,6 +1,5 @@
 ghost use Rattle.std.specs.Prelude.{◌+◌, ◌<◌, ◌^◌, ◌∷◌, ◌≡◌, ◌≤◌};
-ghost use Rattle.flow_procs.specs.Names.{IfOk, [], count_on, map, number_row};
-ghost use Rattle.chunk_data.specs.declared.typed_value.ColumnType.TheVariants as column;
+ghost use Rattle.flow_procs.specs.Names.{ColumnType, IfOk, [], count_on, map, number_row};
 
 use chunk_data::{Chunk, Column, List, Memory};
 use port_word::PortView;
@@ -22,6 +21,7 @@ pub struct Counting {
 }
 
 /// So many numbers from the first on.
+#[tactic(auto, using(crate::proofs::CountingLaws::count_on_next))]
 fn numbers_from(alloc: Global, first: u64, count: usize) -> Result<Vec<u64>, Memory>
     requires { first + count < 2 ^ 64 }
     ensures { IfOk result (λ v. v.items ≡ count_on first count) }
@@ -36,7 +36,7 @@ fn numbers_from(alloc: Global, first: u64, count: usize) -> Result<Vec<u64>, Mem
 /// A chunk of so many numbers from the first on.
 fn chunk_from(alloc: Global, first: u64, count: usize) -> Result<Chunk, Memory>
     requires { first + count < 2 ^ 64 }
-    ensures types { IfOk result (λ c. c.types ≡ column.UInt64 ∷ []) }
+    ensures types { IfOk result (λ c. c.types ≡ ColumnType.UInt64 ∷ []) }
     ensures rows { IfOk result (λ c. c.rows ≡ map number_row (count_on first count)) }
 {
     let numbers = numbers_from(alloc, first, count)?;
@@ -46,13 +46,12 @@ fn chunk_from(alloc: Global, first: u64, count: usize) -> Result<Chunk, Memory>
 }
 
 impl Kernel for Counting {
-    ghost use Rattle.flow_procs.specs.Names.{counting_own, kernel_of, numbers_shelled, refl, true};
-    ghost use Rattle.query_model.specs.declared.processor_spec.Kind.TheVariants as kind;
-    ghost use Rattle.query_model.specs.declared.processor_spec.Spec.TheVariants as spec;
+    ghost use Rattle.flow_procs.specs.Names.{Kind, Spec, counting_own, kernel_of, numbers_shelled, refl, true};
 
-    ghost kind_is = { kind.Numbers };
+    ghost kind_is = { Kind.Numbers };
 
-    ghost state = { λ k. kernel_of kind.Numbers (spec.Numbers k.end k.rows) (counting_own k.next k.end) };
+    ghost state = { λ k.
+        kernel_of Kind.Numbers (Spec.Numbers k.end k.rows) (counting_own k.next k.end) };
 
     ghost open_to = { λ k i. true };
 

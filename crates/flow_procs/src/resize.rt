@@ -13,13 +13,11 @@ pub type Resize = Shell<Resizing>;
 pub struct Resizing;
 
 impl Kernel for Resizing {
-    ghost use Rattle.flow_procs.specs.Names.{idle_own, kernel_of, refl, resize_shelled, true};
-    ghost use Rattle.query_model.specs.declared.processor_spec.Kind.TheVariants as kind;
-    ghost use Rattle.query_model.specs.declared.processor_spec.Spec.TheVariants as spec;
+    ghost use Rattle.flow_procs.specs.Names.{Kind, Spec, idle_own, kernel_of, refl, resize_shelled, true};
 
-    ghost kind_is = { kind.Resize };
+    ghost kind_is = { Kind.Resize };
 
-    ghost state = { λ k. kernel_of kind.Resize spec.Resize idle_own };
+    ghost state = { λ k. kernel_of Kind.Resize Spec.Resize idle_own };
 
     ghost open_to = { λ k i. true };
 

@@ -1,5 +1,5 @@
 -- What the actions of a view push.
-use Rattle.proc_api.proofs.Imports.{Action, Bool, Close, EachAction, Finish, IsDone, IsSound, List, None, Option, Picture, Pull, Push, Some, Table, Unwant, Want, [], ap, cond, cond_both, eqb-true, false, input_at, noted_want, output_at, pulled_at, pushed_at, pushes_to, refl, sym, taken_out, true, want_of, ℕ, ◌++◌, ◌==◌, ◌∙◌, ◌∷◌, ◌≡◌}
+use Rattle.proc_api.proofs.Imports.{Action, Bool, EachAction, IsDone, IsSound, List, None, Option, Picture, Push, Some, Table, Unwant, Want, [], ap, both_ways, cond, cond_both, eqb-true, false, input_at, noted_want, output_at, pulled_at, pushed_at, pushes_to, refl, taken_out, true, want_of, ℕ, ◌++◌, ◌==◌, ◌∙◌, ◌∷◌, ◌≡◌}
 
 more-or-same : (b : Bool) (chunk : Table) (xs ys zs : List Table) → xs ≡ ys ++ zs → cond b (chunk ∷ xs) xs ≡ cond b (chunk ∷ ys) ys ++ zs
 more-or-same true chunk xs ys zs e = ap (λ l. chunk ∷ l) e
@@ -9,11 +9,7 @@ pub pushes_to-append : (o : ℕ) (xs ys : List Action) → pushes_to o (xs ++ ys
 unfolding pushes_to
 pushes_to-append o [] ys = refl
 pushes_to-append o (Push j chunk ∷ xs) ys = more-or-same (o == j) chunk (pushes_to o (xs ++ ys)) (pushes_to o xs) (pushes_to o ys) (pushes_to-append o xs ys)
-pushes_to-append o (Want j ∷ xs) ys = pushes_to-append o xs ys
-pushes_to-append o (Unwant j ∷ xs) ys = pushes_to-append o xs ys
-pushes_to-append o (Pull j ∷ xs) ys = pushes_to-append o xs ys
-pushes_to-append o (Close j ∷ xs) ys = pushes_to-append o xs ys
-pushes_to-append o (Finish j ∷ xs) ys = pushes_to-append o xs ys
+pushes_to-append o (a ∷ xs) ys = pushes_to-append o xs ys
 
 pushes_to-want_of : (o i : ℕ) (b : Bool) (xs : List Action) → pushes_to o (want_of b i ∷ xs) ≡ pushes_to o xs
 unfolding pushes_to
@@ -30,28 +26,17 @@ pushes_to-noted_want o i b [] = pushes_to-want_of o i b []
 pushes_to-noted_want o i b (Push j chunk ∷ xs) = ap (λ l. cond (o == j) (chunk ∷ l) l) (pushes_to-noted_want o i b xs)
 pushes_to-noted_want o i b (Want j ∷ xs) = either-pushes o (j == i) (want_of b i ∷ xs) (Want j ∷ noted_want i b xs) (pushes_to o xs) (pushes_to-want_of o i b xs) (pushes_to-noted_want o i b xs)
 pushes_to-noted_want o i b (Unwant j ∷ xs) = either-pushes o (j == i) (want_of b i ∷ xs) (Unwant j ∷ noted_want i b xs) (pushes_to o xs) (pushes_to-want_of o i b xs) (pushes_to-noted_want o i b xs)
-pushes_to-noted_want o i b (Pull j ∷ xs) = pushes_to-noted_want o i b xs
-pushes_to-noted_want o i b (Close j ∷ xs) = pushes_to-noted_want o i b xs
-pushes_to-noted_want o i b (Finish j ∷ xs) = pushes_to-noted_want o i b xs
-
-unless-pushed : (b : Bool) (chunk : Table) (xs : List Table) → (b ≡ true → ⊥) → xs ≡ [] → cond b (chunk ∷ xs) xs ≡ []
-unless-pushed true chunk xs never e = absurd (never refl)
-unless-pushed false chunk xs never e = e
-
-true-and-false : (b : Bool) → b ≡ true → b ≡ false → ⊥
-true-and-false b t f = let e : true ≡ false = sym t ∙ f in absurd (cc)
+pushes_to-noted_want o i b (a ∷ xs) = pushes_to-noted_want o i b xs
 
 -- a port without data has no push among actions that show
 pushes-shown : (p : Picture) (o : ℕ) (xs : List Action) → (output_at p o).has_data ≡ false → EachAction (IsDone p) xs → pushes_to o xs ≡ []
 unfolding pushes_to
 pushes-shown p o [] e h = refl
 pushes-shown p o (Push j chunk ∷ xs) e h =
-    unless-pushed (o == j) chunk (pushes_to o xs) (λ k. true-and-false (output_at p o).has_data (ap (λ n. (output_at p n).has_data) (eqb-true o j k) ∙ h.0.1) e) (pushes-shown p o xs e h.1)
-pushes-shown p o (Want j ∷ xs) e h = pushes-shown p o xs e h.1
-pushes-shown p o (Unwant j ∷ xs) e h = pushes-shown p o xs e h.1
-pushes-shown p o (Pull j ∷ xs) e h = pushes-shown p o xs e h.1
-pushes-shown p o (Close j ∷ xs) e h = pushes-shown p o xs e h.1
-pushes-shown p o (Finish j ∷ xs) e h = pushes-shown p o xs e h.1
+    cond_both (o == j) (chunk ∷ pushes_to o xs) (pushes_to o xs) (λ l. l ≡ [])
+    (λ k. absurd (both_ways (output_at p o).has_data e
+    (ap (λ n. (output_at p n).has_data) (eqb-true o j k) ∙ h.0.1))) (λ k. pushes-shown p o xs e h.1)
+pushes-shown p o (a ∷ xs) e h = pushes-shown p o xs e h.1
 
 pub no-pushes : (p : Picture) (o : ℕ) → IsSound p → (output_at p o).has_data ≡ false → pushes_to o p.actions ≡ []
 no-pushes p o s e = pushes-shown p o p.actions e s.done

@@ -1,14 +1,16 @@
 -- The view of a node is one that its box may be prepared against.
-use Rattle.proc_api.proofs.Imports.{Action, AreAsKept, BoxPicture, Flags, FollowsKept, Input, InputFollows, InputPort, IsSound, List, MaySee, None, Option, Output, OutputFollows, Picture, PortFlags, Some, Spec, StandStill, Table, TakesFirst, after_see, and_from, and_parts, ap, arith, get_or, get_or-replicate, holds_data, in_count, in_count-with_input, in_count-with_output, input_at, input_at-with_input, input_at-with_input-other, input_at-with_output, kept_input, kept_inputs, kept_output, kept_outputs, kept_ports, length, length-replicate, new_input, new_picture, no_flags, no_input, no_notes, not, out_count, out_count-with_input, out_count-with_output, output_at, output_at-with_input, output_at-with_output, output_at-with_output-other, over_flags, port_flags, refl, seen_chunk, subst, sym, true, with_actions, with_input, with_output, ℕ, ◌<◌, ◌∙◌, ◌≡◌, ◌≤◌}
-use Rattle.query_model.specs.declared.processor_spec.Spec.TheVariants as spec
+use Rattle.proc_api.proofs.Imports.{Action, AreAsKept, BoxPicture, Flags, FollowsKept, Input, InputFollows, InputPort, IsSound, List, MaySee, None, Option, Output, OutputFollows, Picture, PortFlags, Some, Spec, StandStill, Table, TakesFirst, after_see, and_from, and_parts, ap, arith, get_or-replicate, in_count, in_count-with_input, in_count-with_output, input_at, input_at-with_input, input_at-with_input-other, input_at-with_output, kept_input, kept_inputs, kept_output, kept_outputs, length-map, length-replicate, new_input, new_picture, no_flags, no_input, no_notes, not, out_count, out_count-with_input, out_count-with_output, output_at, output_at-with_input, output_at-with_output, output_at-with_output-other, over_flags, port_flags, refl, seen_chunk, subst, sym, with_actions, with_input, with_output, ℕ, ◌<◌, ◌∙◌, ◌≡◌, ◌≤◌}
 use Rattle.proc_api.proofs.KeptFlags.{kept_input-of, kept_output-of, kept_inputs-of, kept_outputs-of}
 use Rattle.proc_api.proofs.ShutPorts.{by-place}
 
-held-data : (f : Flags) → holds_data f ≡ true → f.has_data ≡ true
-held-data f e = (and_parts f.has_data (not f.fin_in) e).0
-
 input-itself : (f : Flags) → InputFollows f f
-input-itself f = record { needed = refl; fin_in = refl; fin_out = λ e. e; stays_empty = λ a b. b; stays_full = held-data f }
+input-itself f = record {
+  needed = refl;
+  fin_in = refl;
+  fin_out = λ e. e;
+  stays_empty = λ a b. b;
+  stays_full = λ e. (and_parts f.has_data (not f.fin_in) e).0;
+}
 
 output-itself : (f : Flags) → OutputFollows f f
 output-itself f = record { fin_out = refl; fin_in = λ e. e }
@@ -28,39 +30,25 @@ follows-noted q w e =
 -- a box that keeps the same view
 pub follows-same : (p q : BoxPicture) (v : Picture) → q.notes.view ≡ p.notes.view → FollowsKept p v → FollowsKept q v
 unfolding kept_input kept_output kept_inputs kept_outputs
-follows-same p q v e f =
-    let ins : kept_inputs q ≡ kept_inputs p = ap (λ k. length (kept_ports k).inputs) e in
-    let outs : kept_outputs q ≡ kept_outputs p = ap (λ k. length (kept_ports k).outputs) e in
-    record {
-      inputs_stay = subst (λ n. n ≤ in_count v) (sym ins) f.inputs_stay;
-      outputs_stay = subst (λ n. n ≤ out_count v) (sym outs) f.outputs_stay;
-      inputs = λ i lt. subst (λ g. InputFollows g (input_at v i).flags) (sym (ap (λ k. get_or (kept_ports k).inputs i no_flags) e)) (f.inputs i lt);
-      outputs = λ o lt. subst (λ g. OutputFollows g (output_at v o)) (sym (ap (λ k. get_or (kept_ports k).outputs o no_flags) e)) (f.outputs o lt);
-    }
+follows-same p q v e f = record {
+  inputs_stay = rw e f.inputs_stay;
+  outputs_stay = rw e f.outputs_stay;
+  inputs = λ i lt. rw e (f.inputs i lt);
+  outputs = λ o lt. rw e (f.outputs o lt);
+}
 
 -- as many ports as the last view had are those that the spec's ports stand still at
 pub stands-still : (s : Option Spec) (kept : Option PortFlags) (m n : ℕ) → AreAsKept kept m n → StandStill s kept m n
-stands-still (Some spec.Resize) kept m n h = h
-stands-still (Some (spec.MergeAggregate groups)) kept m n h = h
-stands-still (Some (spec.MergeSorted order)) kept m n h = h
+stands-still (Some Spec.Resize) kept m n h = h
+stands-still (Some (Spec.MergeAggregate groups)) kept m n h = h
+stands-still (Some (Spec.MergeSorted order)) kept m n h = h
 stands-still s kept m n h = tt
 
-kept-at : (k : Option PortFlags) (ports : PortFlags) (m n : ℕ) → k ≡ Some ports → length ports.inputs ≡ m → length ports.outputs ≡ n → AreAsKept k m n
-kept-at k ports m n e ins outs = subst (λ x. AreAsKept x m n) (sym e) (sym ins, sym outs)
-
 pub as-kept-noted : (q : BoxPicture) (w : Picture) (m n : ℕ) → q.notes.view ≡ Some (port_flags w) → in_count w ≡ m → out_count w ≡ n → AreAsKept q.notes.view m n
-unfolding kept_inputs kept_outputs
-as-kept-noted q w m n e ins outs =
-    let i : length (port_flags w).inputs ≡ m = sym (ap (λ k. length (kept_ports k).inputs) e) ∙ kept_inputs-of q w e ∙ ins in
-    let o : length (port_flags w).outputs ≡ n = sym (ap (λ k. length (kept_ports k).outputs) e) ∙ kept_outputs-of q w e ∙ outs in
-    kept-at q.notes.view (port_flags w) m n e i o
+unfolding in_count out_count
+as-kept-noted q w m n e ins outs = rw e (rw length-map (sym ins), sym outs)
 
 -- ---- a port that was brought up to date
-
-holds-when : (f g : Flags) → g.fin_in ≡ f.fin_in → g.has_data ≡ true → holds_data f ≡ true → holds_data g ≡ true
-holds-when f g same there e =
-    and_from g.has_data (not g.fin_in) there
-    (ap not same ∙ (and_parts f.has_data (not f.fin_in) e).1)
 
 follows-input : (p : BoxPicture) (v : Picture) (i : ℕ) (g : Flags) (c : Option Table) → IsSound v → MaySee v (Input i) g c → InputFollows (kept_input p i) (input_at v i).flags → InputFollows (kept_input p i) g
 follows-input p v i g c sound may f = record {
@@ -68,7 +56,8 @@ follows-input p v i g c sound may f = record {
   fin_in = may.own_bits.1 ∙ f.fin_in;
   fin_out = λ e. may.fin_out (f.fin_out e);
   stays_empty = λ e d. may.stays_empty (f.fin_out e) (f.stays_empty e d);
-  stays_full = λ e. may.keeps_chunk (sound.held i (holds-when (kept_input p i) (input_at v i).flags f.fin_in (f.stays_full e) e));
+  stays_full = λ e. may.keeps_chunk (sound.held i (and_from _ _ (f.stays_full e)
+      (ap not f.fin_in ∙ (and_parts (kept_input p i).has_data _ e).1)));
 }
 
 pub follows-seen-input : (p : BoxPicture) (v : Picture) (i : ℕ) (g : Flags) (c : Option Table) → IsSound v → MaySee v (Input i) g c → FollowsKept p v → FollowsKept p (after_see v (Input i) g c)

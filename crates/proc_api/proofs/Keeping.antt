@@ -1,6 +1,5 @@
 -- How what a box keeps goes on with what a `prepare` pulls and pushes.
 use Rattle.proc_api.proofs.Imports.{All, AllFit, BoxPicture, ColumnType, FitsInput, HasReadEnough, IsPulled, List, Lists, MakesTypes, NotesEnd, Option, OwnState, Picture, PulledOn, Some, Spec, Table, [], ap, arith, cases_lt, chunk_rows, flat_map-append, get_or-append-add, get_or_append_left, get_or_default, inl, inr, last_count, length, length-append, no_table, pulled_at, raised, refl, rows_pulled, subst, suc, total_rows, with_pulled, zero, ℕ, ◌++◌, ◌+◌, ◌<◌, ◌∙◌, ◌≡◌, ◌⊎◌}
-use Rattle.query_model.specs.declared.processor_spec.Spec.TheVariants as spec
 
 -- ---- chunks that were pulled
 
@@ -13,16 +12,16 @@ pulled-more v w ins types h = record {
 }
 
 pub makes-more : (s : Option Spec) (v w : Picture) (ins : Lists) (types : List ColumnType) → MakesTypes s ins types → MakesTypes s (with_pulled v w ins) types
-makes-more (Some (spec.Filter c)) v w ins types h =
+makes-more (Some (Spec.Filter c)) v w ins types h =
     record { pulled = pulled-more v w ins types h.pulled; fits = h.fits }
-makes-more (Some (spec.Expression items)) v w ins types h = record {
+makes-more (Some (Spec.Expression items)) v w ins types h = record {
   from = h.from;
   pulled = pulled-more v w ins h.from h.pulled;
   fits = h.fits;
   is = h.is;
 }
-makes-more (Some spec.Resize) v w ins types h = pulled-more v w ins types h
-makes-more (Some (spec.Limit span)) v w ins types h = pulled-more v w ins types h
+makes-more (Some Spec.Resize) v w ins types h = pulled-more v w ins types h
+makes-more (Some (Spec.Limit span)) v w ins types h = pulled-more v w ins types h
 makes-more s v w ins types h = h
 
 -- what is true of all chunks of a longer list is true of its front
@@ -87,7 +86,7 @@ counted-more p q v w ins on e h =
 
 -- enough that was read stays enough
 pub enough-more : (s : Option Spec) (v w : Picture) (ins : Lists) → HasReadEnough s ins → HasReadEnough s (with_pulled v w ins)
-enough-more (Some (spec.Limit span)) v w ins h =
+enough-more (Some (Spec.Limit span)) v w ins h =
     let more : length (chunk_rows (with_pulled v w ins 0))
     ≡ length (chunk_rows (ins 0)) + length (chunk_rows (pulled_at v w 0)) =
     ap length (rows-append (ins 0) (pulled_at v w 0))
@@ -98,5 +97,5 @@ enough-more s v w ins h = h
 -- a kind that notes an end never reads enough
 pub never-enough : (s : Spec) (own : OwnState) (i : ℕ) (ins : Lists) → NotesEnd (Some s) own i
     → HasReadEnough (Some s) ins → ⊥
-never-enough (spec.Limit span) own i ins n enough = n
+never-enough (Spec.Limit span) own i ins n enough = n
 never-enough s own i ins n enough = enough

@@ -91,17 +91,12 @@ limited-more span read xs made t u a b rows h =
     let n : ℕ = length xs in
     let front : List Row = take (span.skip + span.count - n) t.rows in
     let short = length-take (span.skip + span.count - n) t.rows in
+    let first = within span.skip n t.rows (omega (arith, a)) in
+    let last = within (span.skip + span.count) n t.rows (omega (arith, a, b)) in
+    let behind = drop-within (span.skip - n) (length t.rows) front (omega (arith, short)) in
+    let cut = take_min (span.skip + span.count - n) t.rows in
+    let more = span-more span.skip span.count xs t.rows in
     record {
       read_are = (let l = length-append xs t.rows in let r = h.read_are in omega (arith, l, r));
-      made_are = ap (λ l. l ++ u.rows) h.made_are
-          ∙ ap (λ l. take span.count (drop span.skip xs) ++ l) (rows
-          ∙ ap₂ (λ k m. drop k (take m t.rows))
-          (ap (λ r. min (span.skip - r) (length t.rows)) h.read_are
-          ∙ within span.skip n t.rows (omega (arith, a)))
-          (ap (λ r. min (span.skip + span.count - r) (length t.rows)) h.read_are
-          ∙ within (span.skip + span.count) n t.rows (omega (arith, a, b)))
-          ∙ ap (drop (min (span.skip - n) (length t.rows)))
-          (take_min (span.skip + span.count - n) t.rows)
-          ∙ drop-within (span.skip - n) (length t.rows) front (omega (arith, short)))
-          ∙ sym (span-more span.skip span.count xs t.rows);
+      made_are = cc;
     }

@@ -1,5 +1,5 @@
 -- Lists in order, each row against each later one.
-use Rattle.proc_api.proofs.Imports.{All-contains, All-from_recursion, All-permutation, AllByRecursion, Bool, Contains, IsPermutation, IsPermutation-append_comm, IsPermutation-append_left, IsPermutation-cons, IsPermutation-refl, IsPermutation-trans, IsSortedBy, IsStrictWeakOrder, List, Row, SortKey, [], arith, cond, false, get_or, is_lt, length, ranks_by, recursion_from_All, refl, row_cmp, row_cmp_total, sorted_far, subst, suc, true, zero, ℕ, ◌++◌, ◌+◌, ◌<◌, ◌∷◌, ◌≡◌}
+use Rattle.proc_api.proofs.Imports.{All-contains, All-from_recursion, All-permutation, AllByRecursion, Bool, Contains, IsPermutation, IsPermutation-cons, IsPermutation-middle, IsPermutation-refl, IsPermutation-trans, IsSortedBy, IsStrictWeakOrder, List, Row, SortKey, [], arith, false, is_lt, ranks_by, recursion_from_All, refl, row_cmp, row_cmp_total, sorted_far, suc, true, zero, ◌++◌, ◌+◌, ◌∷◌, ◌≡◌}
 
 -- no later row comes before an earlier one
 abbrev pub InOrder : (Row → Row → Bool) → List Row → Type 0
@@ -73,92 +73,67 @@ module _ (lt : Row → Row → Bool) (o : IsStrictWeakOrder lt) where
   order-cross [] ys h = tt
   order-cross (x ∷ xs) ys h = (every-back (λ y. lt y x ≡ false) xs ys h.0, order-cross xs ys h.1)
 
-  sorted-tail : (x : Row) (xs : List Row) → IsSortedBy lt (x ∷ xs) → IsSortedBy lt xs
-  sorted-tail x xs h k d low high =
-      let next : suc k + 1 ≡ suc (k + 1) = omega arith in
-      subst (λ j. lt (get_or (x ∷ xs) j d) (get_or xs k d) ≡ false) next
-      (h (suc k) d (omega arith) (omega (arith, high)))
-
   pub order-from_sorted : (xs : List Row) → IsSortedBy lt xs → InOrder lt xs
   order-from_sorted [] h = tt
   order-from_sorted (x ∷ xs) h = (
     recursion_from_All (λ y. lt y x ≡ false) xs (λ k d less. sorted_far lt o (x ∷ xs) h 0 (suc k) d
         (omega arith) (omega (arith, less))),
-    order-from_sorted xs (sorted-tail x xs h),
+    order-from_sorted xs (λ k d low high. let next : suc k + 1 ≡ suc (k + 1) = omega arith in
+        rw next at (h (suc k) d (omega arith) (omega (arith, high)))),
   )
 
-  neighbours : (xs : List Row) → InOrder lt xs → (k : ℕ) (d : Row) → suc k < length xs
-      → lt (get_or xs (suc k) d) (get_or xs k d) ≡ false
-  neighbours [] h k d less = absurd (omega (arith, less))
-  neighbours (x ∷ []) h k d less = absurd (omega (arith, less))
-  neighbours (x ∷ y ∷ xs) h zero d less = h.0.0
-  neighbours (x ∷ y ∷ xs) h (suc k) d less = neighbours (y ∷ xs) h.1 k d (omega (arith, less))
-
   pub sorted-from_order : (xs : List Row) → InOrder lt xs → IsSortedBy lt xs
-  sorted-from_order xs h k d low high =
-      let next : suc k ≡ k + 1 = omega arith in
-      subst (λ j. lt (get_or xs j d) (get_or xs k d) ≡ false) next
-      (neighbours xs h k d (omega (arith, high)))
+  sorted-from_order [] h k d low high = absurd (omega arith)
+  sorted-from_order (x ∷ []) h k d low high = absurd (omega arith)
+  sorted-from_order (x ∷ y ∷ xs) h zero d low high = h.0.0
+  sorted-from_order (x ∷ y ∷ xs) h (suc k) d low high =
+      let next : suc k + 1 ≡ suc (k + 1) = omega arith in
+      rw next (sorted-from_order (y ∷ xs) h.1 k d (omega arith) (omega (arith, high)))
 
   -- ---- an order of any rows
 
-  inserted : Row → List Row → List Row
-  inserted x [] = x ∷ []
-  inserted x (y ∷ ys) = cond (lt y x) (y ∷ inserted x ys) (x ∷ y ∷ ys)
+  -- an order of these rows
+  abbrev Orders : List Row → Type 0
+  Orders xs = (ys : List Row) × IsPermutation xs ys × InOrder lt ys
 
-  pub ordered : List Row → List Row
-  ordered [] = []
-  ordered (x ∷ xs) = inserted x (ordered xs)
-
-  swapped-heads : (x y : Row) (xs : List Row) → IsPermutation (x ∷ y ∷ xs) (y ∷ x ∷ xs)
-  swapped-heads x y xs = IsPermutation-append_left xs (x ∷ y ∷ []) (y ∷ x ∷ [])
-      (IsPermutation-append_comm (x ∷ []) (y ∷ []))
-
-  inserted-same : (x : Row) (ys : List Row) → IsPermutation (x ∷ ys) (inserted x ys)
-  unfolding inserted
-  inserted-same x [] = IsPermutation-refl (x ∷ [])
-  inserted-same x (y ∷ ys) =
-      elim (lt y x) as (λ b. IsPermutation (x ∷ y ∷ ys) (cond b (y ∷ inserted x ys) (x ∷ y ∷ ys))) [
-        | true ↦ IsPermutation-trans _ _ _ (swapped-heads x y ys)
-            (IsPermutation-cons y _ _ (inserted-same x ys))
-        | false ↦ IsPermutation-refl _
-      ]
-
-  inserted-order : (x : Row) (ys : List Row) → InOrder lt ys → InOrder lt (inserted x ys)
-  unfolding inserted
-  inserted-order x [] h = (tt, tt)
-  inserted-order x (y ∷ ys) h = go (lt y x) refl (inserted-order x ys h.1)
+  insertion : (x : Row) (ys : List Row) → InOrder lt ys → Orders (x ∷ ys)
+  insertion x [] h = (x ∷ [], IsPermutation-refl _, (tt, tt))
+  insertion x (y ∷ ys) h = go (lt y x) refl (insertion x ys h.1)
     where
-      go : (b : Bool) → lt y x ≡ b → InOrder lt (inserted x ys)
-          → InOrder lt (cond b (y ∷ inserted x ys) (x ∷ y ∷ ys))
+      go : (b : Bool) → lt y x ≡ b → Orders (x ∷ ys) → Orders (x ∷ y ∷ ys)
       go true e more = (
-        every-permuted (λ z. lt z y ≡ false) (x ∷ ys) (inserted x ys) (inserted-same x ys)
-            (o.one_way y x e, h.0),
-        more,
+        y ∷ more.0,
+        IsPermutation-trans _ _ _ (IsPermutation-middle (x ∷ []) y ys)
+            (IsPermutation-cons y _ _ more.1),
+        (every-permuted _ (x ∷ ys) more.0 more.1 (o.one_way y x e, h.0), more.2),
       )
       go false e more = (
-        (
-          e,
-          every-weaker (λ z. lt z y ≡ false) (λ z. lt z x ≡ false) (λ z k. o.chain z y x k e)
-              ys h.0,
-        ),
-        h,
+        x ∷ y ∷ ys,
+        IsPermutation-refl _,
+        ((e, every-weaker _ _ (λ z k. o.chain z y x k e) ys h.0), h),
       )
 
+  order-of : (xs : List Row) → Orders xs
+  order-of [] = ([], IsPermutation-refl [], tt)
+  order-of (x ∷ xs) =
+      let rest = order-of xs in
+      let all = insertion x rest.0 rest.2 in
+      (all.0, IsPermutation-trans _ _ _ (IsPermutation-cons x _ _ rest.1) all.1, all.2)
+
+  pub ordered : List Row → List Row
+  ordered xs = (order-of xs).0
+
   pub ordered-none : ordered [] ≡ []
-  unfolding ordered
+  unfolding ordered order-of
   ordered-none = refl
 
   pub ordered-same : (xs : List Row) → IsPermutation xs (ordered xs)
   unfolding ordered
-  ordered-same [] = IsPermutation-refl []
-  ordered-same (x ∷ xs) = IsPermutation-trans _ _ _ (IsPermutation-cons x _ _ (ordered-same xs))
-      (inserted-same x (ordered xs))
+  ordered-same xs = (order-of xs).1
 
   pub ordered-order : (xs : List Row) → InOrder lt (ordered xs)
   unfolding ordered
-  ordered-order [] = tt
-  ordered-order (x ∷ xs) = inserted-order x (ordered xs) (ordered-order xs)
+  ordered-order xs = (order-of xs).2
 
 pub every-contains : {X : Type 0} (P : X → Type 0) (xs : List X) (x : X) → AllByRecursion P xs
     → Contains xs x → P x

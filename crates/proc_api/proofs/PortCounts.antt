@@ -1,147 +1,118 @@
--- How many wires of a list pass a test and have a port below a number: no more than the number where no two of them have one port, and no
--- fewer where each port below the number has one. So the ports of those that pass are numbered from 0 up to their count.
-use Rattle.proc_api.proofs.Imports.{Any-from_list_any, Bool, List, Wire, [], and_from, and_parts, ap, arith, both_ways, cases_lt, cases_order, cond, count_by, eq-eqb, eqb-true, false, false_from_ne_true, get_or, get_or-le-sum_by, inl, inr, le-ltb, length, list_any, list_any_at, lt-ltb, ltb-true, nat_lt, ne_eqb, no_wire, refl, subst, suc, sum_by-cons, sum_by-le-sum_by, sym, true, wire_at, zero, ℕ, ◌&&◌, ◌+◌, ◌<◌, ◌==◌, ◌∙◌, ◌∷◌, ◌≡◌, ◌≤◌, ◌⊎◌}
+-- The ports of edges on one side, where `node` and `port` tell at which node an edge is, and
+-- at which port. Where no two edges are at one port, and each port below one in use is in use, the
+-- ports of a node are numbered from 0 up to their count.
+use Rattle.proc_api.proofs.Imports.{Any-from_list_any, Bool, List, Wire, [], and_from, and_parts, ap, ap₂, arith, both_ways, cases_Bool, cases_lt, cond, cond_both, count_by, eq-eqb, eqb-true, false, false_from_ne_true, filter, get_or_default, inl, inr, le-length_from_below, length, length-filter, length-le_from_distinct_below, length-map, list_any, list_any_at, map, nat_eq_equiv, no_wire, recursion_from_All, refl, subst, suc, sym, true, wire_at, ℕ, ◌&&◌, ◌<◌, ◌==◌, ◌||◌, ◌∙◌, ◌∷◌, ◌≡◌, ◌≤◌}
+use Rattle.std.specs.List.{IsDistinct}
 
--- the wire passes the test and has the port, or a port below k
-abbrev pub is_at : (Wire → Bool) → (Wire → ℕ) → ℕ → Wire → Bool
-is_at test port k w = test w && (port w == k)
+module _ (node port : Wire → ℕ) where
+  -- whether an edge is at the port of the node
+  abbrev pub has_port : List Wire → (n k : ℕ) → Bool
+  has_port wires n k = list_any (λ (w : Wire). (node w == n) && (port w == k)) wires
 
-abbrev pub is_below : (Wire → Bool) → (Wire → ℕ) → ℕ → Wire → Bool
-is_below test port k w = test w && nat_lt (port w) k
+  -- how many edges are at the node
+  abbrev pub port_count : List Wire → ℕ → ℕ
+  port_count wires n = count_by (λ (w : Wire). node w == n) wires
 
--- no two wires of the list pass the test and have one port
-abbrev pub AreOnce : (Wire → Bool) → (Wire → ℕ) → List Wire → Type 0
-AreOnce test port wires = (e f : ℕ) → e < length wires → f < length wires → test (wire_at wires e) ≡ true → test (wire_at wires f) ≡ true → port (wire_at wires e) ≡ port (wire_at wires f) → e ≡ f
+  -- two edges at one port are one edge
+  abbrev pub AreOnce : List Wire → Type 0
+  AreOnce wires = (e f : ℕ) → e < length wires → f < length wires
+      → node (wire_at wires e) ≡ node (wire_at wires f)
+      → port (wire_at wires e) ≡ port (wire_at wires f) → e ≡ f
 
--- what a wire counts by its test
-abbrev weight : Bool → ℕ
-weight b = cond b 1 0
+  -- each port below that of an edge has an edge
+  abbrev pub AreGapless : List Wire → Type 0
+  AreGapless wires = (e k : ℕ) → e < length wires → k < port (wire_at wires e)
+      → has_port wires (node (wire_at wires e)) k ≡ true
 
-weight-order : (t : Bool) (x k : ℕ) → (x ≡ k) ⊎ ((x < k) ⊎ (k < x)) → weight (t && nat_lt x (suc k)) ≡ weight (t && nat_lt x k) + weight (t && (x == k))
-weight-order false x k o = refl
-weight-order true x k (inl e) = rw (lt-ltb x (suc k) (omega (arith, e)), le-ltb x k (omega (arith, e)), eq-eqb x k e) refl
-weight-order true x k (inr (inl lt)) = rw (lt-ltb x (suc k) (omega (arith, lt)), lt-ltb x k lt, ne_eqb x k (λ e. omega (arith, e, lt))) refl
-weight-order true x k (inr (inr lt)) = rw (le-ltb x (suc k) (omega (arith, lt)), le-ltb x k (omega (arith, lt)), ne_eqb x k (λ e. omega (arith, e, lt))) refl
+  pub edge-of : (wires : List Wire) (n k : ℕ) → has_port wires n k ≡ true
+      → (e : ℕ) × (e < length wires) × (node (wire_at wires e) ≡ n) × (port (wire_at wires e) ≡ k)
+  unfolding wire_at
+  edge-of wires n k h =
+      let a = Any-from_list_any (λ (w : Wire). (node w == n) && (port w == k)) wires h in
+      let same : wire_at wires a.0 ≡ a.1 = get_or_default wires a.0 no_wire a.1 a.2 ∙ a.3 in
+      let both = and_parts _ _ a.4 in
+      (a.0, a.2, ap node same ∙ eqb-true _ _ both.0, ap port same ∙ eqb-true _ _ both.1)
 
-below-suc : (test : Wire → Bool) (port : Wire → ℕ) (k : ℕ) (wires : List Wire) → count_by (is_below test port (suc k)) wires ≡ count_by (is_below test port k) wires + count_by (is_at test port k) wires
-below-suc test port k [] = refl
-below-suc test port k (w ∷ ws) =
-    let more = sum_by-cons (λ x. weight (is_below test port (suc k) x)) w ws in
-    let below = sum_by-cons (λ x. weight (is_below test port k x)) w ws in
-    let at = sum_by-cons (λ x. weight (is_at test port k x)) w ws in
-    omega (arith, more, below, at, weight-order (test w) (port w) k (cases_order (port w) k), below-suc test port k ws)
+  pub port-of : (wires : List Wire) (e n k : ℕ) → e < length wires → node (wire_at wires e) ≡ n
+      → port (wire_at wires e) ≡ k → has_port wires n k ≡ true
+  unfolding wire_at
+  port-of wires e n k lt at is =
+      list_any_at (λ (w : Wire). (node w == n) && (port w == k)) wires e no_wire lt
+      (and_from _ _ (eq-eqb _ _ at) (eq-eqb _ _ is))
 
-weight-one : (b : Bool) → b ≡ true → weight b ≡ 1
-weight-one b e = ap weight e
+  -- the edges at a node, and their ports
+  abbrev edges_at : List Wire → ℕ → List Wire
+  edges_at wires n = filter (λ (w : Wire). node w == n) wires
 
-weight-zero : (b : Bool) → b ≡ false → weight b ≡ 0
-weight-zero b e = ap weight e
+  abbrev ports : List Wire → ℕ → List ℕ
+  ports wires n = map port (edges_at wires n)
 
-count-cons : (test : Wire → Bool) (w : Wire) (ws : List Wire) → count_by test (w ∷ ws) ≡ weight (test w) + count_by test ws
-count-cons test w ws = sum_by-cons (λ x. weight (test x)) w ws
+  ports-count : (wires : List Wire) (n : ℕ) → length (ports wires n) ≡ port_count wires n
+  ports-count wires n = rw length-map (length-filter (λ (w : Wire). node w == n) wires)
 
-absurd-below : (t : Bool) (x : ℕ) → (t && nat_lt x 0) ≡ true → ⊥
-absurd-below t x h = let lt : x < 0 = ltb-true x 0 (and_parts t (nat_lt x 0) h).1 in omega (arith, lt)
+  ports-any : (wires : List Wire) (n k : ℕ)
+      → list_any (λ j. k == j) (ports wires n) ≡ has_port wires n k
+  ports-any [] n k = refl
+  ports-any (w ∷ wires) n k = elim (node w == n) as (λ t.
+      list_any (λ j. k == j) (map port (cond t (w ∷ edges_at wires n) (edges_at wires n)))
+      ≡ ((t && (port w == k)) || has_port wires n k)) [
+        | true ↦ ap₂ (λ a b. a || b) (nat_eq_equiv.symm k (port w)) (ports-any wires n k)
+        | false ↦ ports-any wires n k
+      ]
 
-weight-le : (t u : Bool) → weight (t && u) ≤ weight t
-weight-le true true = omega arith
-weight-le true false = omega arith
-weight-le false u = omega arith
+  ports-distinct : (wires : List Wire) (n : ℕ) → AreOnce wires → IsDistinct ◌==◌ (ports wires n)
+  unfolding IsDistinct wire_at
+  ports-distinct [] n once = tt
+  ports-distinct (w ∷ wires) n once =
+      let rest = ports-distinct wires n (λ e f le lf at same. let s = once (suc e) (suc f)
+      (omega (arith, le)) (omega (arith, lf)) at same in omega (arith, s)) in
+      cond_both (node w == n) (w ∷ edges_at wires n) (edges_at wires n)
+      (λ l. IsDistinct ◌==◌ (map port l)) (λ e. (
+        recursion_from_All _ (ports wires n) (λ i d lt.
+            false_from_ne_true _ (λ t.
+            let h = list_any_at (λ j. port w == j) (ports wires n) i d lt t in
+            let a = edge-of wires n (port w) (sym (ports-any wires n (port w)) ∙ h) in
+            let s = once 0 (suc a.0) (omega arith) (omega (arith, a.1)) (eqb-true _ _ e ∙ sym a.2)
+            (sym a.3) in omega (arith, s))),
+        rest,
+      )) (λ e. rest)
 
-count-nothing : (test : Wire → Bool) (wires : List Wire) → ((e : ℕ) → e < length wires → test (wire_at wires e) ≡ true → ⊥) → count_by test wires ≡ 0
-unfolding wire_at
-count-nothing test [] h = refl
-count-nothing test (w ∷ ws) h =
-    let rest : count_by test ws ≡ 0 = count-nothing test ws (λ e lt t. h (suc e) (omega (arith, lt)) t) in
-    let first : weight (test w) ≡ 0 =
-    weight-zero (test w) (false_from_ne_true (test w) (h 0 (omega arith))) in
-    omega (arith, count-cons test w ws, first, rest)
+  up-to-own : (wires : List Wire) → AreGapless wires → (e k : ℕ) → e < length wires
+      → k ≤ port (wire_at wires e) → has_port wires (node (wire_at wires e)) k ≡ true
+  up-to-own wires gapless e k lt le = elim (cases_lt k (port (wire_at wires e))) [
+    | inl below ↦ gapless e k lt below
+    | inr above ↦ port-of wires e (node (wire_at wires e)) k lt refl (omega (arith, le, above))
+  ]
 
-count-one-at : (test : Wire → Bool) (w : Wire) (ws : List Wire) (b : Bool) → test w ≡ b → (b ≡ true → (e : ℕ) → e < length ws → test (wire_at ws e) ≡ true → ⊥) → count_by test ws ≤ 1 → count_by test (w ∷ ws) ≤ 1
-count-one-at test w ws true e others rest = omega (arith, count-cons test w ws, weight-one (test w) e, count-nothing test ws (others refl))
-count-one-at test w ws false e others rest = omega (arith, count-cons test w ws, weight-zero (test w) e, rest)
+  pub port-below-count : (wires : List Wire) → AreGapless wires → (e : ℕ) → e < length wires
+      → port (wire_at wires e) < port_count wires (node (wire_at wires e))
+  port-below-count wires gapless e lt =
+      let n : ℕ = node (wire_at wires e) in
+      let long = le-length_from_below (ports wires n) (suc (port (wire_at wires e)))
+      (λ k less. ports-any wires n k ∙ up-to-own wires gapless e k lt (omega (arith, less))) in
+      omega (arith, ports-count wires n, long)
 
--- at most one wire passes where no two do
-count-one : (test : Wire → Bool) (wires : List Wire) → ((e f : ℕ) → e < length wires → f < length wires → test (wire_at wires e) ≡ true → test (wire_at wires f) ≡ true → e ≡ f) → count_by test wires ≤ 1
-unfolding wire_at
-count-one test [] h = omega arith
-count-one test (w ∷ ws) h =
-    count-one-at test w ws (test w) refl
-    (λ t e lt u. let same : 0 ≡ suc e = h 0 (suc e) (omega arith) (omega (arith, lt)) t u in omega (arith, same))
-    (count-one test ws (λ e f le lf t u. let same : suc e ≡ suc f = h (suc e) (suc f) (omega (arith, le)) (omega (arith, lf)) t u in omega (arith, same)))
+  -- where each port is below a limit, no more than the limit are at a node
+  pub count-limit : (wires : List Wire) (limit : ℕ) → AreOnce wires → (n : ℕ)
+      → ((e : ℕ) → e < length wires → node (wire_at wires e) ≡ n → port (wire_at wires e) < limit)
+      → port_count wires n ≤ limit
+  count-limit wires limit once n under =
+      let short = length-le_from_distinct_below (ports wires n) limit (ports-distinct wires n once)
+      (λ k h. let a = edge-of wires n k (sym (ports-any wires n k) ∙ h) in
+      subst (λ j. j < limit) a.3 (under a.0 a.1 a.2)) in
+      omega (arith, ports-count wires n, short)
 
--- some wire passes
-count-some : (test : Wire → Bool) (wires : List Wire) → list_any test wires ≡ true → 1 ≤ count_by test wires
-count-some test wires h =
-    let a = Any-from_list_any test wires h in
-    let passes : test (get_or wires a.0 a.1) ≡ true = ap test a.3 ∙ a.4 in
-    omega (arith, get_or-le-sum_by (λ x. weight (test x)) wires a.0 a.1 a.2, weight-one _ passes)
-
--- where no two have one port, no more pass than there are ports
-pub below-at-most : (test : Wire → Bool) (port : Wire → ℕ) (wires : List Wire) → AreOnce test port wires → (k : ℕ) → count_by (is_below test port k) wires ≤ k
-below-at-most test port wires once zero = omega (arith, count-nothing (is_below test port 0) wires (λ e lt t. absurd-below (test (wire_at wires e)) (port (wire_at wires e)) t))
-below-at-most test port wires once (suc k) = omega (arith, below-suc test port k wires, below-at-most test port wires once k, count-one (is_at test port k) wires (λ e f le lf t u. let a = and_parts _ _ t in let b = and_parts _ _ u in once e f le lf a.0 b.0 (eqb-true _ _ a.1 ∙ sym (eqb-true _ _ b.1))))
-
--- where each port below the number has a wire, no fewer pass
-pub below-at-least : (test : Wire → Bool) (port : Wire → ℕ) (wires : List Wire) (k : ℕ) → ((i : ℕ) → i < k → list_any (is_at test port i) wires ≡ true) → k ≤ count_by (is_below test port k) wires
-below-at-least test port wires zero h = omega arith
-below-at-least test port wires (suc k) h = omega (arith, below-suc test port k wires, below-at-least test port wires k (λ i lt. h i (omega (arith, lt))), count-some (is_at test port k) wires (h k (omega arith)))
-
--- those below a number are among all
-pub below-of-all : (test : Wire → Bool) (port : Wire → ℕ) (k : ℕ) (wires : List Wire) → count_by (is_below test port k) wires ≤ count_by test wires
-below-of-all test port k wires = sum_by-le-sum_by (λ x. weight (is_below test port k x)) (λ x. weight (test x)) wires (λ x. weight-le (test x) (nat_lt (port x) k))
-
-all-below-at : (test : Wire → Bool) (port : Wire → ℕ) (k : ℕ) (w : Wire) (b : Bool) → test w ≡ b → (b ≡ true → port w < k) → weight (test w) ≤ weight (is_below test port k w)
-all-below-at test port k w true e h = rw (e, lt-ltb (port w) k (h refl)) (omega arith)
-all-below-at test port k w false e h = rw e (omega arith)
-
--- where all have a port below the number, these are all
-pub all-of-below : (test : Wire → Bool) (port : Wire → ℕ) (k : ℕ) (wires : List Wire) → ((e : ℕ) → e < length wires → test (wire_at wires e) ≡ true → port (wire_at wires e) < k) → count_by test wires ≤ count_by (is_below test port k) wires
-unfolding wire_at
-all-of-below test port k [] h = omega arith
-all-of-below test port k (w ∷ ws) h =
-    let first : weight (test w) ≤ weight (is_below test port k w) = all-below-at test port k w (test w) refl (h 0 (omega arith)) in
-    omega (arith, count-cons test w ws, count-cons (is_below test port k) w ws, first, all-of-below test port k ws (λ e lt t. h (suc e) (omega (arith, lt)) t))
-
--- ---- the ports of those that pass are numbered from 0 up to their count
-
-pub below-case : (test : ℕ → Bool) (k i : ℕ) → (i < k) ⊎ (k ≤ i) → i < suc k → (i < k → test i ≡ true) → test k ≡ true → test i ≡ true
-below-case test k i (inl lt) within below last = below lt
-below-case test k i (inr le) within below last = let same : k ≡ i = omega (arith, le, within) in subst (λ m. test m ≡ true) same last
-
--- each port below that of a wire that passes has a wire
-abbrev pub AreGapless : (Wire → Bool) → (Wire → ℕ) → List Wire → Type 0
-AreGapless test port wires = (e i : ℕ) → e < length wires → test (wire_at wires e) ≡ true → i < port (wire_at wires e) → list_any (is_at test port i) wires ≡ true
-
-own-port : (test : Wire → Bool) (port : Wire → ℕ) (wires : List Wire) (e : ℕ) → e < length wires → test (wire_at wires e) ≡ true → list_any (is_at test port (port (wire_at wires e))) wires ≡ true
-unfolding wire_at
-own-port test port wires e lt passes = list_any_at (is_at test port (port (wire_at wires e))) wires e no_wire lt (and_from _ _ passes (eq-eqb _ _ refl))
-
--- up to that of a wire that passes too
-up-to-own : (test : Wire → Bool) (port : Wire → ℕ) (wires : List Wire) → AreGapless test port wires → (e i : ℕ) → e < length wires → test (wire_at wires e) ≡ true → i < suc (port (wire_at wires e)) → list_any (is_at test port i) wires ≡ true
-up-to-own test port wires gapless e i lt passes within =
-    below-case (λ j. list_any (is_at test port j) wires) (port (wire_at wires e)) i (cases_lt i (port (wire_at wires e))) within (λ below. gapless e i lt passes below) (own-port test port wires e lt passes)
-
-pub port-below-count : (test : Wire → Bool) (port : Wire → ℕ) (wires : List Wire) → AreGapless test port wires → (e : ℕ) → e < length wires → test (wire_at wires e) ≡ true → port (wire_at wires e) < count_by test wires
-port-below-count test port wires gapless e lt passes =
-    let k : ℕ = suc (port (wire_at wires e)) in
-    omega (arith, below-at-least test port wires k (λ i within. up-to-own test port wires gapless e i lt passes within), below-of-all test port k wires)
-
-lower : (i j : ℕ) → (j < i) ⊎ (i ≤ j) → (i ≤ j → ⊥) → j < i
-lower i j (inl lt) h = lt
-lower i j (inr le) h = absurd (h le)
-
-port-of-count-at : (test : Wire → Bool) (port : Wire → ℕ) (wires : List Wire) → AreOnce test port wires → AreGapless test port wires → (i : ℕ) → i < count_by test wires → (b : Bool) → list_any (is_at test port i) wires ≡ b → list_any (is_at test port i) wires ≡ true
-port-of-count-at test port wires once gapless i lt true e = e
-port-of-count-at test port wires once gapless i lt false e =
-    let under : ((f : ℕ) → f < length wires → test (wire_at wires f) ≡ true → port (wire_at wires f) < i) = (λ f in_range passes.
-    lower i (port (wire_at wires f)) (cases_lt (port (wire_at wires f)) i) (λ le. both_ways _ e (up-to-own test port wires gapless f i in_range passes (omega (arith, le))))) in
-    absurd (omega (arith, lt, all-of-below test port i wires under, below-at-most test port wires once i))
-
--- each port below the count has a wire
-pub port-of-count : (test : Wire → Bool) (port : Wire → ℕ) (wires : List Wire) → AreOnce test port wires → AreGapless test port wires → (i : ℕ) → i < count_by test wires → list_any (is_at test port i) wires ≡ true
-port-of-count test port wires once gapless i lt = port-of-count-at test port wires once gapless i lt (list_any (is_at test port i) wires) refl
-
--- where no two have one port and each has a port below a limit, no more than the limit pass
-pub count-limit : (test : Wire → Bool) (port : Wire → ℕ) (wires : List Wire) (k : ℕ) → AreOnce test port wires → ((e : ℕ) → e < length wires → test (wire_at wires e) ≡ true → port (wire_at wires e) < k) → count_by test wires ≤ k
-count-limit test port wires k once under = omega (arith, all-of-below test port k wires under, below-at-most test port wires once k)
+  -- each port below the count has an edge
+  pub port-of-count : (wires : List Wire) → AreOnce wires → AreGapless wires → (n k : ℕ)
+      → k < port_count wires n → has_port wires n k ≡ true
+  port-of-count wires once gapless n k lt = elim (cases_Bool (has_port wires n k)) [
+    | inl e ↦ e
+    | inr e ↦
+        let few = count-limit wires k once n (λ f in_range at.
+        elim (cases_lt (port (wire_at wires f)) k) [
+          | inl less ↦ less
+          | inr le ↦ absurd (both_ways _ e (subst (λ m. has_port wires m k ≡ true) at
+              (up-to-own wires gapless f k in_range le)))
+        ]) in
+        absurd (omega (arith, lt, few))
+  ]

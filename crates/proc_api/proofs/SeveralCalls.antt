@@ -1,10 +1,10 @@
 -- What several calls of a view pull and push: over two steps it is what the first did, and then
 -- what the second did.
-use Rattle.proc_api.proofs.Imports.{Bool, ChangedByCalls, Flags, InputPort, IsSound, List, Lists, None, Option, Picture, PortCall, Table, [], after_call, after_calls, after_pull, after_push, and_parts, ap, append-nil, append_assoc, can_push, cases_lt, close_call, closed, cond, cond_both, emptied, false, finish_call, get_or-eq_default, holds_data, in_count, inl, input_at, inr, is_out_finished, need_call, no_input, not, not-true, out_count, output_at, over_flags, pull_call, pulled_at, push_call, pushed_at, pushes_to, refl, rows_pulled, subst, sym, taken_out, total_rows, true, with_pulled, with_pushed, ℕ, ◌++◌, ◌+◌, ◌<◌, ◌∙◌, ◌∷◌, ◌≡◌, ◌≤◌, ◌⊎◌}
-use Rattle.proc_api.proofs.CallLaws.{no-pushes, taken_out-same}
+use Rattle.proc_api.proofs.Imports.{Action, Bool, ChangedByCalls, Close, Finish, Flags, InputPort, IsSound, List, Lists, None, Option, Picture, PortCall, Pull, Push, Table, [], after_call, after_calls, and_parts, ap, append-nil, append_assoc, both_ways, can_push, cases_lt, close_call, closed, cond, cond_both, emptied, false, finish_call, get_or, holds_data, in_count, in_count-with_input, inl, input_at, input_at-with_input, input_at-with_input-other, inr, is_out_finished, need_call, no_input, not, not-true, noted_want, out_count, out_count-with_output, output_at, output_at-with_output, output_at-with_output-other, over_flags, pull_call, pulled_at, push_call, pushed_at, pushes_to, refl, rows_pulled, set_past, subst, sym, taken_out, total_rows, true, with_actions, with_input, with_needed, with_output, with_pulled, with_pushed, ℕ, ◌++◌, ◌+◌, ◌||◌, ◌∙◌, ◌∷◌, ◌≡◌, ◌≢◌, ◌⊎◌}
+use Rattle.proc_api.proofs.CallLaws.{no-pushes, pushes_to-noted_want, taken_out-same}
 use Rattle.proc_api.proofs.Keeping.{total-append}
 use Rattle.proc_api.proofs.ShutPorts.{by-place}
-use Rattle.proc_api.proofs.Turns.{TurnsInput, TurnsOutput, close-turns, finish-turns, finishing, need-turns, needing, needing-leaves, pull-turns, push-turns}
+use Rattle.proc_api.proofs.Turns.{nothing-more, pushes-elsewhere}
 
 -- A chunk that lay at an input lies there or was pulled, and where data lay at an output no more
 -- was pushed.
@@ -30,94 +30,73 @@ goes-both v u w a b = record {
   full = λ o d. let x = a.full o d in let y = b.full o x.0 in (y.0, y.1 ∙ x.1);
 }
 
--- an input alone is changed, and its chunk stays or is pulled
-goes-input : (p q : Picture) (i : ℕ) (x : InputPort) → TurnsInput p i x q
-    → (x.chunk ≡ (input_at p i).chunk) ⊎ (x.chunk ≡ None) → GoesOn p q
-goes-input p q i x t c = record {
-  ins = t.ins;
-  outs = t.outs;
-  chunk = λ j. by-place (λ n. ((input_at q n).chunk ≡ (input_at p n).chunk)
-      ⊎ ((input_at q n).chunk ≡ None)) i j
-      (subst (λ y. (y.chunk ≡ (input_at p i).chunk) ⊎ (y.chunk ≡ None)) (sym t.here) c)
-      (λ ne. inl (ap (λ y. y.chunk) (t.others j ne)));
-  full = λ o d. (ap (λ f. f.has_data) (t.outputs o) ∙ d, t.pushes o);
-}
-
--- an output alone is changed, and pushed to where no data lay there
-goes-output : (p q : Picture) (o : ℕ) (f : Flags) (chunks : List Table) → TurnsOutput p o f chunks q
-    → ((output_at p o).has_data ≡ true → (f.has_data ≡ true) × (chunks ≡ [])) → GoesOn p q
-goes-output p q o f chunks t c = record {
-  ins = t.ins;
-  outs = t.outs;
-  chunk = λ i. inl (ap (λ y. y.chunk) (t.inputs i));
-  full = λ j. by-place (λ n. (output_at p n).has_data ≡ true → ((output_at q n).has_data ≡ true)
-      × (pushes_to n q.actions ≡ pushes_to n p.actions)) o j
-      (λ d. let x = c d in (
-        ap (λ g. g.has_data) t.here ∙ x.0,
-        t.pushes ∙ ap (λ l. pushes_to o p.actions ++ l) x.1 ∙ append-nil (pushes_to o p.actions),
-      ))
-      (λ ne d. (ap (λ g. g.has_data) (t.others j ne) ∙ d, t.other_pushes j ne));
-}
-
--- past the last port nothing is changed
-past-input : (p : Picture) (i : ℕ) → in_count p ≤ i → input_at p i ≡ no_input
-unfolding input_at in_count
-past-input p i le = get_or-eq_default p.inputs no_input le
-
-past-output : (p : Picture) (o : ℕ) → out_count p ≤ o → output_at p o ≡ over_flags
-unfolding output_at out_count
-past-output p o le = get_or-eq_default p.outputs over_flags le
-
 pub empty-of : (f : Flags) → can_push f ≡ true → f.has_data ≡ false
 empty-of f e =
     not-true f.has_data (and_parts (not f.has_data) (not f.fin_out) (and_parts f.needed _ e).1).0
 
-finishing-data : (f : Flags) → (finishing f).has_data ≡ f.has_data
-finishing-data f = cond_both (is_out_finished f) f (record f { fin_out = true })
-    (λ g. g.has_data ≡ f.has_data) (λ e. refl) (λ e. refl)
+-- an input alone is changed, its chunk stays or is pulled, and nothing is pushed
+goes-input : (p : Picture) (i : ℕ) (x : InputPort) (actions : List Action)
+    → (x.chunk ≡ (input_at p i).chunk) ⊎ (x.chunk ≡ None)
+    → ((o : ℕ) → pushes_to o actions ≡ pushes_to o p.actions)
+    → GoesOn p (with_actions (with_input p i x) actions)
+unfolding with_actions with_input input_at output_at in_count out_count
+goes-input p i x actions c same = record {
+  ins = in_count-with_input p i x;
+  outs = refl;
+  chunk = λ j. by-place (λ n. ((input_at (with_input p i x) n).chunk ≡ (input_at p n).chunk)
+      ⊎ ((input_at (with_input p i x) n).chunk ≡ None)) i j (elim (cases_lt i (in_count p)) [
+        | inl lt ↦ rw (input_at-with_input p i x lt) c
+        | inr le ↦ inl (ap (λ l. (get_or l i no_input).chunk) (set_past p.inputs i x le))
+      ]) (λ ne. inl (ap (λ y. y.chunk) (input_at-with_input-other p i j x ne)));
+  full = λ o d. (d, same o);
+}
 
-pulls-on : (p : Picture) (i : ℕ) (b : Bool) → i < in_count p → holds_data (input_at p i).flags ≡ b
-    → GoesOn p (after_pull p i)
-pulls-on p i true lt e =
-    goes-input p (after_pull p i) i (emptied (input_at p i)) (pull-turns p i lt e) (inr refl)
-pulls-on p i false lt e = rw e (goes-none p)
-
-pushes-on : (p : Picture) (o : ℕ) (t : Table) (b : Bool) → o < out_count p
-    → can_push (output_at p o) ≡ b → GoesOn p (after_push p o t)
-pushes-on p o t true lt e =
-    goes-output p (after_push p o t) o (record (output_at p o) { has_data = true }) (t ∷ [])
-    (push-turns p o t lt e)
-    (λ d. absurd (let c : true ≡ false = sym d ∙ empty-of (output_at p o) e in cc))
-pushes-on p o t false lt e = rw e (goes-none p)
+-- an output alone is changed, and pushed to where no data lay there
+goes-output : (p : Picture) (o : ℕ) (f : Flags) (actions : List Action)
+    → ((output_at p o).has_data ≡ true
+    → (f.has_data ≡ true) × (pushes_to o actions ≡ pushes_to o p.actions))
+    → ((j : ℕ) → j ≢ o → pushes_to j actions ≡ pushes_to j p.actions)
+    → GoesOn p (with_actions (with_output p o f) actions)
+unfolding with_actions with_output input_at output_at in_count out_count
+goes-output p o f actions c same = record {
+  ins = refl;
+  outs = out_count-with_output p o f;
+  chunk = λ i. inl refl;
+  full = λ j. by-place (λ n. (output_at p n).has_data ≡ true
+      → ((output_at (with_output p o f) n).has_data ≡ true)
+      × (pushes_to n actions ≡ pushes_to n p.actions)) o j
+      (λ d. let here : (output_at (with_output p o f) o).has_data ≡ true =
+      elim (cases_lt o (out_count p)) [
+        | inl lt ↦ ap (λ g. g.has_data) (output_at-with_output p o f lt) ∙ (c d).0
+        | inr le ↦ ap (λ l. (get_or l o over_flags).has_data) (set_past p.outputs o f le) ∙ d
+      ] in (here, (c d).1))
+      (λ ne d. (ap (λ g. g.has_data) (output_at-with_output-other p o j f ne) ∙ d, same j ne));
+}
 
 one-call : (c : PortCall) (p : Picture) → GoesOn p (after_call c p)
-one-call (pull_call i) p = elim (cases_lt i (in_count p)) [
-  | inl lt ↦ pulls-on p i (holds_data (input_at p i).flags) lt refl
-  | inr le ↦ rw (past-input p i le) (goes-none p)
-]
-one-call (need_call i b) p = elim (cases_lt i (in_count p)) [
-  | inl lt ↦ goes-input p (after_call (need_call i b) p) i (needing (input_at p i) b)
-      (need-turns p i b lt) (inl (needing-leaves (input_at p i) b).chunk)
-  | inr le ↦ never-needs b (past-input p i le)
-]
-  where
-    never-needs : (b : Bool) → input_at p i ≡ no_input → GoesOn p (after_call (need_call i b) p)
-    never-needs true e = rw e (goes-none p)
-    never-needs false e = rw e (goes-none p)
-one-call (close_call i) p = elim (cases_lt i (in_count p)) [
-  | inl lt ↦ goes-input p (after_call (close_call i) p) i (closed (input_at p i))
-      (close-turns p i lt) (inl refl)
-  | inr le ↦ rw (past-input p i le) (goes-none p)
-]
-one-call (push_call o t) p = elim (cases_lt o (out_count p)) [
-  | inl lt ↦ pushes-on p o t (can_push (output_at p o)) lt refl
-  | inr le ↦ rw (past-output p o le) (goes-none p)
-]
-one-call (finish_call o) p = elim (cases_lt o (out_count p)) [
-  | inl lt ↦ goes-output p (after_call (finish_call o) p) o (finishing (output_at p o)) []
-      (finish-turns p o lt) (λ d. (finishing-data (output_at p o) ∙ d, refl))
-  | inr le ↦ rw (past-output p o le) (goes-none p)
-]
+unfolding with_input with_output pushes_to
+one-call (pull_call i) p = cond_both (holds_data (input_at p i).flags) _ p (GoesOn p)
+    (λ e. goes-input p i (emptied (input_at p i)) (p.actions ++ Pull i ∷ []) (inr refl)
+    (λ o. nothing-more o (Pull i) p.actions refl)) (λ e. goes-none p)
+one-call (need_call i true) p =
+    cond_both ((input_at p i).flags.fin_in || (input_at p i).flags.needed) p _ (GoesOn p)
+    (λ e. goes-none p) (λ e. goes-input p i (with_needed (input_at p i) true)
+    (noted_want i true p.actions) (inl refl) (λ o. pushes_to-noted_want o i true p.actions))
+one-call (need_call i false) p =
+    cond_both ((input_at p i).flags.fin_in || not (input_at p i).flags.needed) p _ (GoesOn p)
+    (λ e. goes-none p) (λ e. goes-input p i (with_needed (input_at p i) false)
+    (noted_want i false p.actions) (inl refl) (λ o. pushes_to-noted_want o i false p.actions))
+one-call (close_call i) p = cond_both (input_at p i).flags.fin_in p _ (GoesOn p) (λ e. goes-none p)
+    (λ e. goes-input p i (closed (input_at p i)) (p.actions ++ Close i ∷ []) (inl refl)
+    (λ o. nothing-more o (Close i) p.actions refl))
+one-call (push_call o t) p = cond_both (can_push (output_at p o)) _ p (GoesOn p)
+    (λ e. goes-output p o (record (output_at p o) { has_data = true }) (p.actions ++ Push o t ∷ [])
+    (λ d. absurd (both_ways _ (empty-of (output_at p o) e) d))
+    (λ j ne. nothing-more j (Push o t) p.actions (pushes-elsewhere o j t ne))) (λ e. goes-none p)
+one-call (finish_call o) p = cond_both (is_out_finished (output_at p o)) p _ (GoesOn p)
+    (λ e. goes-none p) (λ e. goes-output p o (record (output_at p o) { fin_out = true })
+    (p.actions ++ Finish o ∷ []) (λ d. (d, nothing-more o (Finish o) p.actions refl))
+    (λ j ne. nothing-more j (Finish o) p.actions refl))
 
 goes-calls : (calls : List PortCall) (p : Picture) → GoesOn p (after_calls calls p)
 goes-calls [] p = goes-none p

@@ -1,19 +1,13 @@
 -- Closing inputs and finishing outputs, one after another.
-use Rattle.proc_api.proofs.Imports.{ClosesFront, FinishesFront, Flags, Picture, SameChunks, after_close, after_finish, ap, append-nil, arith, cases_eq, changed-by-both, changed-by-none, changed-by-one, close_call, cond_both, finish_call, in_count, inl, input_at, inr, is_out_finished, out_count, output_at, pushes_to, refl, subst, sym, true, ℕ, ◌+◌, ◌<◌, ◌∙◌, ◌≡◌, ◌≢◌}
+use Rattle.proc_api.proofs.Imports.{ClosesFront, FinishesFront, Flags, Picture, SameChunks, after_close, after_finish, ap, append-nil, arith, cases_eq, changed-by-both, changed-by-one, close_call, cond_both, finish_call, in_count, inl, input_at, inr, is_out_finished, out_count, output_at, pushes_to, refl, subst, sym, true, ℕ, ◌+◌, ◌<◌, ◌∙◌, ◌≡◌, ◌≢◌}
 use Rattle.proc_api.proofs.Turns.{close-turns, finish-turns, finishing, finishing-leaves}
 
 -- what holds of every input, where it holds of the changed one and of the others
 pub by-place : (P : ℕ → Type 0) (n i : ℕ) → P n → (i ≢ n → P i) → P i
 by-place P n i here others = elim (cases_eq i n) [ inl e ↦ subst P (sym e) here | inr ne ↦ others ne ]
 
-same-chunks : (v : Picture) → SameChunks v v
-same-chunks v = record { inputs = λ i. refl; outputs = λ o. refl }
-
 pub both-same : (v w u : Picture) → SameChunks v w → SameChunks w u → SameChunks v u
 both-same v w u a b = record { inputs = λ i. b.inputs i ∙ a.inputs i; outputs = λ o. b.outputs o ∙ a.outputs o }
-
-pub closes-none : (v : Picture) → ClosesFront 0 v v
-closes-none v = record { changed = changed-by-none v; ins = refl; outs = refl; closed = λ i lt. absurd (omega arith); outputs = λ o. refl; chunks = same-chunks v }
 
 pub closes-next : (n : ℕ) (v w u : Picture) → n < in_count v → u ≡ after_close w n → ClosesFront n v w → ClosesFront (n + 1) v u
 closes-next n v w u lt e c =
@@ -29,17 +23,6 @@ closes-next n v w u lt e c =
         outputs = t.pushes;
       };
     }
-
-pub finishes-none : (v : Picture) → FinishesFront 0 v v
-finishes-none v = record {
-  changed = changed-by-none v;
-  ins = refl;
-  outs = refl;
-  finished = λ o lt. absurd (omega arith);
-  consumers = λ o. refl;
-  inputs = λ i. refl;
-  chunks = same-chunks v;
-}
 
 pub is-finished : (f : Flags) → is_out_finished (finishing f) ≡ true
 is-finished f = cond_both (is_out_finished f) f (record f { fin_out = true })

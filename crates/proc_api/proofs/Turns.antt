@@ -1,5 +1,5 @@
 -- What each call of a view changes, port by port. A processor's proof takes these in the place of the calls' pictures.
-use Rattle.proc_api.proofs.Imports.{Action, Bool, Close, Finish, Flags, InputPort, List, Picture, Pull, Push, Table, [], after_close, after_finish, after_need, after_pull, after_push, ap, append-nil, can_push, closed, cond, cond_both, emptied, false, holds_data, in_count, in_count-with_input, in_count-with_output, input_at, input_at-with_input, input_at-with_input-other, input_at-with_output, is_out_finished, not, not-true, noted, noted_want, out_count, out_count-with_input, out_count-with_output, output_at, output_at-with_input, output_at-with_output, output_at-with_output-other, pushes_to, refl, rules, sym, true, with_actions, with_input, with_needed, with_output, ℕ, ◌++◌, ◌<◌, ◌==◌, ◌||◌, ◌∙◌, ◌∷◌, ◌≡◌, ◌≢◌}
+use Rattle.proc_api.proofs.Imports.{Action, Bool, Close, Finish, Flags, InputPort, List, Picture, Pull, Push, Table, [], after_close, after_finish, after_need, after_pull, after_push, ap, append-nil, can_push, closed, cond, cond_both, emptied, eq-eqb, false, holds_data, in_count, in_count-with_input, in_count-with_output, input_at, input_at-with_input, input_at-with_input-other, input_at-with_output, is_out_finished, ne_eqb, not-true, noted, noted_want, out_count, out_count-with_input, out_count-with_output, output_at, output_at-with_input, output_at-with_output, output_at-with_output-other, pushes_to, refl, sym, true, with_actions, with_input, with_needed, with_output, ℕ, ◌++◌, ◌<◌, ◌||◌, ◌∙◌, ◌∷◌, ◌≡◌, ◌≢◌}
 use Rattle.proc_api.proofs.CallLaws.{pushes_to-append, pushes_to-noted_want}
 
 -- input i alone is changed, to x, and nothing is pushed
@@ -36,24 +36,19 @@ set-input p i x actions lt same = record {
   pushes = same;
 }
 
-nothing-more : (o : ℕ) (a : Action) (xs : List Action) → pushes_to o (a ∷ []) ≡ [] → pushes_to o (xs ++ a ∷ []) ≡ pushes_to o xs
+pub nothing-more : (o : ℕ) (a : Action) (xs : List Action) → pushes_to o (a ∷ []) ≡ [] → pushes_to o (xs ++ a ∷ []) ≡ pushes_to o xs
 nothing-more o a xs e = pushes_to-append o xs (a ∷ []) ∙ ap (λ l. pushes_to o xs ++ l) e ∙ append-nil (pushes_to o xs)
 
 noted-input : (p : Picture) (i : ℕ) (x : InputPort) (a : Action) → i < in_count p → ((o : ℕ) → pushes_to o (a ∷ []) ≡ []) → TurnsInput p i x (noted (with_input p i x) a)
 unfolding with_input
 noted-input p i x a lt e = set-input p i x (p.actions ++ a ∷ []) lt (λ o. nothing-more o a p.actions (e o))
 
-by-bool : (P : Picture → Type 0) (b : Bool) (x y : Picture) → (b ≡ true → P x) → (b ≡ false → P y) → P (cond b x y)
-by-bool P true x y f g = f refl
-by-bool P false x y f g = g refl
-
 closed-already : (x : InputPort) → x.flags.fin_in ≡ true → x ≡ closed x
 closed-already x e = λ i. record { flags = record x.flags { fin_in = e i }; chunk = x.chunk }
 
 pub close-turns : (p : Picture) (i : ℕ) → i < in_count p → TurnsInput p i (closed (input_at p i)) (after_close p i)
 unfolding pushes_to
-close-turns p i lt =
-    by-bool (TurnsInput p i (closed (input_at p i))) (input_at p i).flags.fin_in p (noted (with_input p i (closed (input_at p i))) (Close i))
+close-turns p i lt = cond_both _ _ _ (TurnsInput p i (closed (input_at p i)))
     (λ e. same-input p i (closed (input_at p i)) (closed-already (input_at p i) e))
     (λ e. noted-input p i (closed (input_at p i)) (Close i) lt (λ o. refl))
 
@@ -64,19 +59,13 @@ needing x b = cond x.flags.fin_in x (with_needed x b)
 needed-already : (x : InputPort) (b : Bool) → x.flags.needed ≡ b → x ≡ with_needed x b
 needed-already x b e = λ i. record { flags = record x.flags { needed = e i }; chunk = x.chunk }
 
-when-closed : (x : InputPort) (b : Bool) → x.flags.fin_in ≡ true → x ≡ needing x b
-when-closed x b e = ap (λ t. cond t x (with_needed x b)) (sym e)
-
 when-open : (x : InputPort) (b : Bool) → x.flags.fin_in ≡ false → with_needed x b ≡ needing x b
 when-open x b e = ap (λ t. cond t x (with_needed x b)) (sym e)
 
-closed-or-needed : (x : InputPort) (b : Bool) (t n : Bool) → x.flags.fin_in ≡ t → x.flags.needed ≡ n → (t || n) ≡ true → (n ≡ true → x.flags.needed ≡ b) → x ≡ needing x b
-closed-or-needed x b true n e f h k = when-closed x b e
-closed-or-needed x b false n e f h k = needed-already x b (k h) ∙ when-open x b e
-
-closed-or-unneeded : (x : InputPort) (t n : Bool) → x.flags.fin_in ≡ t → x.flags.needed ≡ n → (t || not n) ≡ true → x ≡ needing x false
-closed-or-unneeded x true n e f h = when-closed x false e
-closed-or-unneeded x false n e f h = needed-already x false (f ∙ not-true n h) ∙ when-open x false e
+closed-or-needed : (x : InputPort) (b t n : Bool) → x.flags.fin_in ≡ t → (t || n) ≡ true
+    → (n ≡ true → x.flags.needed ≡ b) → x ≡ needing x b
+closed-or-needed x b true n e h k = ap (λ t. cond t x (with_needed x b)) (sym e)
+closed-or-needed x b false n e h k = needed-already x b (k h) ∙ when-open x b e
 
 left-false : (a b : Bool) → (a || b) ≡ false → a ≡ false
 left-false true b e = absurd (cc)
@@ -84,13 +73,11 @@ left-false false b e = refl
 
 pub need-turns : (p : Picture) (i : ℕ) (b : Bool) → i < in_count p → TurnsInput p i (needing (input_at p i) b) (after_need p i b)
 unfolding with_input
-need-turns p i true lt =
-    by-bool (TurnsInput p i (needing (input_at p i) true)) ((input_at p i).flags.fin_in || (input_at p i).flags.needed) p (with_actions (with_input p i (with_needed (input_at p i) true)) (noted_want i true p.actions))
-    (λ e. same-input p i (needing (input_at p i) true) (closed-or-needed (input_at p i) true (input_at p i).flags.fin_in (input_at p i).flags.needed refl refl e (λ n. n)))
+need-turns p i true lt = cond_both _ _ _ (TurnsInput p i (needing (input_at p i) true))
+    (λ e. same-input p i _ (closed-or-needed (input_at p i) true _ _ refl e (λ n. n)))
     (λ e. rw (← when-open (input_at p i) true (left-false _ _ e)) (set-input p i (with_needed (input_at p i) true) (noted_want i true p.actions) lt (λ o. pushes_to-noted_want o i true p.actions)))
-need-turns p i false lt =
-    by-bool (TurnsInput p i (needing (input_at p i) false)) ((input_at p i).flags.fin_in || not (input_at p i).flags.needed) p (with_actions (with_input p i (with_needed (input_at p i) false)) (noted_want i false p.actions))
-    (λ e. same-input p i (needing (input_at p i) false) (closed-or-unneeded (input_at p i) (input_at p i).flags.fin_in (input_at p i).flags.needed refl refl e))
+need-turns p i false lt = cond_both _ _ _ (TurnsInput p i (needing (input_at p i) false))
+    (λ e. same-input p i _ (closed-or-needed (input_at p i) false _ _ refl e (not-true _)))
     (λ e. rw (← when-open (input_at p i) false (left-false _ _ e)) (set-input p i (with_needed (input_at p i) false) (noted_want i false p.actions) lt (λ o. pushes_to-noted_want o i false p.actions)))
 
 pub pull-turns : (p : Picture) (i : ℕ) → i < in_count p → holds_data (input_at p i).flags ≡ true → TurnsInput p i (emptied (input_at p i)) (after_pull p i)
@@ -115,17 +102,11 @@ noted-output p o f a lt e = record {
 
 pushes-here : (o : ℕ) (chunk : Table) → pushes_to o (Push o chunk ∷ []) ≡ chunk ∷ []
 unfolding pushes_to
-pushes-here o chunk = rw (same o) refl
-  where
-    same : (n : ℕ) → (n == n) ≡ true
-    same n = search rules
+pushes-here o chunk = rw (eq-eqb o o refl) refl
 
-pushes-elsewhere : (o j : ℕ) (chunk : Table) → j ≢ o → pushes_to j (Push o chunk ∷ []) ≡ []
+pub pushes-elsewhere : (o j : ℕ) (chunk : Table) → j ≢ o → pushes_to j (Push o chunk ∷ []) ≡ []
 unfolding pushes_to
-pushes-elsewhere o j chunk ne = rw (differ j o ne) refl
-  where
-    differ : (a b : ℕ) → a ≢ b → (a == b) ≡ false
-    differ a b ne = search rules
+pushes-elsewhere o j chunk ne = rw (ne_eqb j o ne) refl
 
 pub push-turns : (p : Picture) (o : ℕ) (chunk : Table) → o < out_count p → can_push (output_at p o) ≡ true → TurnsOutput p o (record (output_at p o) { has_data = true }) (chunk ∷ []) (after_push p o chunk)
 push-turns p o chunk lt h =
@@ -137,8 +118,7 @@ finishing f = cond (is_out_finished f) f (record f { fin_out = true })
 
 pub finish-turns : (p : Picture) (o : ℕ) → o < out_count p → TurnsOutput p o (finishing (output_at p o)) [] (after_finish p o)
 unfolding pushes_to
-finish-turns p o lt =
-    by-bool (TurnsOutput p o (finishing (output_at p o)) []) (is_out_finished (output_at p o)) p (noted (with_output p o (record (output_at p o) { fin_out = true })) (Finish o))
+finish-turns p o lt = cond_both _ _ _ (TurnsOutput p o (finishing (output_at p o)) [])
     (λ e. same-output p o (finishing (output_at p o)) (ap (λ t. cond t (output_at p o) (record (output_at p o) { fin_out = true })) (sym e)))
     (λ e. rw e (noted-output p o (record (output_at p o) { fin_out = true }) (Finish o) lt (λ j ne. refl)))
 

@@ -1,5 +1,5 @@
 -- Flags of a view, port by port.
-use Rattle.proc_api.proofs.Imports.{Flags, InputPort, List, Picture, [], ap, get_or-map, in_count, input_at, length-map, map, no_input, out_count, output_at, over_flags, port_flags, take, take_all, take_more, ℕ, ◌++◌, ◌+◌, ◌<◌, ◌∙◌, ◌∷◌, ◌≡◌, ◌≤◌}
+use Rattle.proc_api.proofs.Imports.{Flags, InputPort, List, Picture, [], ap, common_steps, get_or-map, in_count, input_at, length-map, map, no_input, out_count, output_at, over_flags, port_flags, take, take_all, take_more, ℕ, ◌++◌, ◌+◌, ◌<◌, ◌∙◌, ◌∷◌, ◌≡◌, ◌≤◌}
 
 pub next_input : (v : Picture) (i : ℕ) → i < in_count v → take (i + 1) (port_flags v).inputs ≡ take i (port_flags v).inputs ++ (input_at v i).flags ∷ []
 unfolding input_at in_count
@@ -19,3 +19,5 @@ all_inputs v flags n e le = e ∙ take_all n (map (λ (x : InputPort). x.flags) 
 pub all_outputs : (v : Picture) (flags : List Flags) (n : ℕ) → flags ≡ take n v.outputs → out_count v ≤ n → flags ≡ v.outputs
 unfolding out_count
 all_outputs v flags n e le = e ∙ take_all n v.outputs le
+
+pub ruleset copy_steps = (next_input, next_output, all_inputs, all_outputs, common_steps)

@@ -1,7 +1,6 @@
 -- What contracts see of a boxed processor, as plain data.
 use Rattle.proc_api.specs.Prelude.{Answer, BadPlace, Bool, Files, Flags, Kind, List, None, Option, Row, Some, Spec, Table, WorkFault, [], false, length, no_flags, slice_index_or, true, ℕ}
-use Rattle.query_model.specs.declared.processor_spec.Kind.TheVariants as kind
-use Rattle.proc_api.specs.Forms.{GrowthForm}
+pub use Rattle.proc_api.specs.Forms.{GrowthForm}
 
 -- the flags of each port of a view
 pub record PortFlags : Type 0 where
@@ -103,7 +102,7 @@ no_notes = record {
 -- a blank box that keeps no contract, as a box past the last one of a list is read
 abbrev pub no_box : BoxPicture
 no_box = record {
-  kind = kind.Collect;
+  kind = Kind.Collect;
   lawful = false;
   files = None;
   spec = None;

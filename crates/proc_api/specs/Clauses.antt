@@ -2,10 +2,7 @@
 use Rattle.std.specs.Prelude.{◌+◌, ◌<◌, ◌≡◌, ◌≢◌, ◌≤◌, ◌⊎◌}
 use Rattle.proc_api.specs.Prelude.{Answer, Files, Growth, IfSome, InputPort, IsAllFinished, IsSome, IsTrue, Kind, List, LoadRefusal, None, Option, PartSpec, Picture, Prepared, Scheduled, Some, Spec, Status, Table, WaitsForData, WaitsForRoom, Wake, WorkFault, [], bad_line_in, enough, false, file_bytes, kind_of, length, map, out_count, part_bad_place, true, ℕ, ⊤}
 use Rattle.query_model.specs.declared.processor_spec.Kind.TheVariants as kind
-use Rattle.query_model.specs.declared.processor_spec.Spec.TheVariants as spec
-use Rattle.proc_api.specs.declared.status.Status.TheVariants as status
 use Rattle.proc_api.specs.declared.status.Wake.TheVariants as wake
-use Rattle.proc_api.specs.declared.status.LoadRefusal.TheVariants as refusal
 use Rattle.proc_api.specs.declared.status.WorkFault.TheVariants as fault
 use Rattle.proc_api.specs.Forms.{growth_form}
 use Rattle.proc_api.specs.Boxes.{BoxPicture, PortFlags, WorkState, no_notes}
@@ -74,9 +71,9 @@ pub record Loads (p : BoxPicture) (s : Spec) (q : BoxPicture) : Type 0 where
 
 -- a load is refused where the box is loaded, or else where the spec is of another kind; want of memory is free
 abbrev pub IsLoadRefused : LoadRefusal → BoxPicture → Spec → Type 0
-IsLoadRefused refusal.NotBlank p s = IsSome p.spec
-IsLoadRefused refusal.WrongKind p s = IsBlank p × (kind_of s ≢ p.kind)
-IsLoadRefused refusal.Memory p s = IsBlank p × (kind_of s ≡ p.kind)
+IsLoadRefused LoadRefusal.NotBlank p s = IsSome p.spec
+IsLoadRefused LoadRefusal.WrongKind p s = IsBlank p × (kind_of s ≢ p.kind)
+IsLoadRefused LoadRefusal.Memory p s = IsBlank p × (kind_of s ≡ p.kind)
 
 -- the box is blank, and its counts stay
 pub record Unloads (p q : BoxPicture) : Type 0 where
@@ -151,12 +148,12 @@ pub record NotesView (p q : BoxPicture) (w : Picture) (s : Status) : Type 0 wher
 
 -- The status law: what an answer says of the ports.
 abbrev pub StatusHolds : Status → Picture → Type 0
-StatusHolds status.NeedData w = WaitsForData w
-StatusHolds status.PortFull w = WaitsForRoom w
-StatusHolds status.Ready w = ⊤
-StatusHolds status.Async w = ⊤
-StatusHolds status.ExpandPipeline w = ⊤
-StatusHolds status.Finished w = IsAllFinished w
+StatusHolds Status.NeedData w = WaitsForData w
+StatusHolds Status.PortFull w = WaitsForRoom w
+StatusHolds Status.Ready w = ⊤
+StatusHolds Status.Async w = ⊤
+StatusHolds Status.ExpandPipeline w = ⊤
+StatusHolds Status.Finished w = IsAllFinished w
 
 -- A chunk isn't worked, rows that can be pushed aren't made, or a source has to answer its part's bad place.
 abbrev pub MayBeReady : BoxPicture → Type 0
@@ -170,28 +167,28 @@ pub record IsFetching (p : BoxPicture) : Type 0 where
 -- a limit asks for data only as long as it hasn't read enough
 abbrev pub IsWanting : Option Spec → (read : ℕ) → Type 0
 IsWanting None read = ⊤
-IsWanting (Some (spec.Limit span)) read = read < enough span
-IsWanting (Some (spec.Csv part)) read = ⊤
-IsWanting (Some (spec.List list)) read = ⊤
-IsWanting (Some (spec.Numbers n rows)) read = ⊤
-IsWanting (Some (spec.Filter c)) read = ⊤
-IsWanting (Some (spec.Expression items)) read = ⊤
-IsWanting (Some spec.Resize) read = ⊤
-IsWanting (Some (spec.PartialAggregate groups)) read = ⊤
-IsWanting (Some (spec.MergeAggregate groups)) read = ⊤
-IsWanting (Some (spec.HashJoin join)) read = ⊤
-IsWanting (Some (spec.Sort order)) read = ⊤
-IsWanting (Some (spec.MergeSorted order)) read = ⊤
-IsWanting (Some spec.Collect) read = ⊤
+IsWanting (Some (Spec.Limit span)) read = read < enough span
+IsWanting (Some (Spec.Csv part)) read = ⊤
+IsWanting (Some (Spec.List list)) read = ⊤
+IsWanting (Some (Spec.Numbers n rows)) read = ⊤
+IsWanting (Some (Spec.Filter c)) read = ⊤
+IsWanting (Some (Spec.Expression items)) read = ⊤
+IsWanting (Some Spec.Resize) read = ⊤
+IsWanting (Some (Spec.PartialAggregate groups)) read = ⊤
+IsWanting (Some (Spec.MergeAggregate groups)) read = ⊤
+IsWanting (Some (Spec.HashJoin join)) read = ⊤
+IsWanting (Some (Spec.Sort order)) read = ⊤
+IsWanting (Some (Spec.MergeSorted order)) read = ⊤
+IsWanting (Some Spec.Collect) read = ⊤
 
 -- when an answer may come
 abbrev pub StatusComes : Status → BoxPicture → Type 0
-StatusComes status.NeedData p = IsWanting p.spec p.work.read
-StatusComes status.PortFull p = ⊤
-StatusComes status.Ready p = MayBeReady p
-StatusComes status.Async p = IsFetching p
-StatusComes status.ExpandPipeline p = p.kind ≡ kind.List
-StatusComes status.Finished p = ⊤
+StatusComes Status.NeedData p = IsWanting p.spec p.work.read
+StatusComes Status.PortFull p = ⊤
+StatusComes Status.Ready p = MayBeReady p
+StatusComes Status.Async p = IsFetching p
+StatusComes Status.ExpandPipeline p = p.kind ≡ kind.List
+StatusComes Status.Finished p = ⊤
 
 -- whatever the box kept of its lists, it keeps with what the call pulled and pushed
 abbrev pub KeepsOver : BoxPicture → Picture → BoxPicture → Picture → Type 0
@@ -199,21 +196,21 @@ KeepsOver p v q w = (ins outs : Lists) → Keeps p ins outs → Keeps q (with_pu
 
 -- each input is closed and each output is finished, and this was answered
 pub record ShutsDown (w : Picture) (s : Status) : Type 0 where
-  pub answer : s ≡ status.Finished
+  pub answer : s ≡ Status.Finished
   pub shut : IsShut w
 
 -- there is room where a chunk is to be fetched or made
 abbrev pub NeedsRoom : Status → Type 0
-NeedsRoom status.NeedData = ⊥
-NeedsRoom status.PortFull = ⊥
-NeedsRoom status.Ready = ⊤
-NeedsRoom status.Async = ⊤
-NeedsRoom status.ExpandPipeline = ⊥
-NeedsRoom status.Finished = ⊥
+NeedsRoom Status.NeedData = ⊥
+NeedsRoom Status.PortFull = ⊥
+NeedsRoom Status.Ready = ⊤
+NeedsRoom Status.Async = ⊤
+NeedsRoom Status.ExpandPipeline = ⊥
+NeedsRoom Status.Finished = ⊥
 
 -- no chunk was moved, and this was answered
 pub record EndsAtOnce (v w : Picture) (s : Status) : Type 0 where
-  pub answer : s ≡ status.Finished
+  pub answer : s ≡ Status.Finished
   pub chunks : SameChunks v w
 
 -- A prepare of a lawful box, from the view v to w. The outputs are looked at first: where all are finished it ends, a
@@ -238,12 +235,12 @@ abbrev pub KeepsSame : BoxPicture → BoxPicture → Type 0
 KeepsSame p q = (ins outs : Lists) → Keeps p ins outs → Keeps q ins outs
 
 abbrev pub MayWork : Option Answer → Type 0
-MayWork (Some (Prepared status.Ready)) = ⊤
+MayWork (Some (Prepared Status.Ready)) = ⊤
 MayWork (Some (Scheduled wake.Ready)) = ⊤
 MayWork _ = ⊥
 
 abbrev pub MaySchedule : Option Answer → Type 0
-MaySchedule (Some (Prepared status.Async)) = ⊤
+MaySchedule (Some (Prepared Status.Async)) = ⊤
 MaySchedule (Some (Scheduled wake.Later)) = ⊤
 MaySchedule _ = ⊥
 
@@ -259,17 +256,13 @@ pub record SameNotes (p q : BoxPicture) : Type 0 where
 abbrev pub Progresses : BoxPicture → BoxPicture → Type 0
 Progresses p q = (length q.work.unworked < length p.work.unworked) ⊎ ((length (chunk_rows p.work.made) < length (chunk_rows q.work.made)) ⊎ (MayBeReady q → ⊥))
 
--- every kind so far progresses with each work
-abbrev pub ProgressesBy : Kind → BoxPicture → BoxPicture → Type 0
-ProgressesBy _ p q = Progresses p q
-
 -- a work without a fault
 pub record Works (p q : BoxPicture) : Type 0 where
   pub same : SameNotes p q
   pub acted : q.notes.acted ≡ true
   pub faultless : q.notes.fault ≡ None
   pub keeps : IsTrue p.lawful → KeepsSame p q
-  pub progresses : IsTrue p.lawful → ProgressesBy p.kind p q
+  pub progresses : IsTrue p.lawful → Progresses p q
 
 -- a source wakes later where it opened its path, fetched a byte, or its reader was pending, and is ready where it has read its file's end
 abbrev pub WakeComes : Wake → BoxPicture → BoxPicture → Type 0
@@ -313,8 +306,8 @@ FaultHolds (Some (fault.BadList line)) p = p.kind ≡ kind.List
 
 -- the part or list file of a spec
 abbrev pub OfPart : Option Spec → (PartSpec → Type 0) → Type 0
-OfPart (Some (spec.Csv part)) P = P part
-OfPart (Some (spec.List list)) P = P list
+OfPart (Some (Spec.Csv part)) P = P part
+OfPart (Some (Spec.List list)) P = P list
 OfPart _ P = ⊥
 
 -- the file has more bytes than a part or list may have

@@ -1,8 +1,6 @@
 -- Specs and growths apart from where their boxes lie, since a copy has boxes of its own.
 use Rattle.proc_api.specs.Prelude.{AggOp, CompareOp, Cond, Edge, ExprOf, Formula, GrowNode, Growth, List, None, Operand, Option, Some, Spec, formula, map, ℕ}
-use Rattle.query_model.specs.declared.query.Operand.TheVariants as operand
 use Rattle.query_model.specs.declared.query.CondOf.TheVariants as condition
-use Rattle.query_model.specs.declared.processor_spec.Spec.TheVariants as spec
 
 pub data OperandForm : Type 0 where
   plain : Formula ℕ → OperandForm
@@ -14,9 +12,9 @@ argument_form None = None
 argument_form (Some e) = Some (formula e)
 
 abbrev pub operand_form : Operand ℕ → OperandForm
-operand_form (operand.Plain e) = plain (formula e)
-operand_form (operand.Text bytes) = text bytes
-operand_form (operand.Agg c) = call c.op (argument_form c.arg)
+operand_form (Operand.Plain e) = plain (formula e)
+operand_form (Operand.Text bytes) = text bytes
+operand_form (Operand.Agg c) = call c.op (argument_form c.arg)
 
 pub data CondForm : Type 0 where
   compare : CompareOp → OperandForm → OperandForm → CondForm
@@ -37,8 +35,8 @@ pub data SpecForm : Type 0 where
   unboxed : Spec → SpecForm
 
 abbrev pub spec_form : Spec → SpecForm
-spec_form (spec.Filter c) = filter (cond_form c)
-spec_form (spec.Expression items) = expression (map (λ (e : ExprOf ℕ). formula e) items)
+spec_form (Spec.Filter c) = filter (cond_form c)
+spec_form (Spec.Expression items) = expression (map (λ (e : ExprOf ℕ). formula e) items)
 spec_form s = unboxed s
 
 pub record GrowthForm : Type 0 where

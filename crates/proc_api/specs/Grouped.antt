@@ -1,11 +1,9 @@
 -- What a partial aggregate and a merge make of their rows.
 use Rattle.std.specs.Prelude.{◌++◌, ◌∷◌}
-use Rattle.proc_api.specs.Prelude.{AggCall, AggOp, Bool, ColumnType, GroupSpec, List, None, Row, Some, StateCall, [], combine_of, cond, count_up, default_value, false, groups, groups_or_default, length, map, merged_groups, suc, true, ℕ}
-use Rattle.query_model.specs.declared.query.AggOp.TheVariants as agg
-use Rattle.query_model.specs.declared.query.ExprOf.TheVariants as expr
+use Rattle.proc_api.specs.Prelude.{AggCall, AggOp, Bool, ColumnType, ExprOf, GroupSpec, List, None, Row, Some, StateCall, [], combine_of, cond, count_up, default_value, false, groups, groups_or_default, length, map, merged_groups, suc, true, ℕ}
 
 abbrev pub is_count : AggOp → Bool
-is_count agg.Count = true
+is_count AggOp.Count = true
 is_count _ = false
 
 -- The calls of a partial aggregate. Its input has the keys, and from column c on the argument of
@@ -14,7 +12,7 @@ abbrev pub calls_from : ℕ → List StateCall → List (AggCall ℕ)
 calls_from c [] = []
 calls_from c (call ∷ calls) =
     let this : AggCall ℕ =
-    record { op = call.op; arg = cond (is_count call.op) None (Some (expr.Column c)) } in
+    record { op = call.op; arg = cond (is_count call.op) None (Some (ExprOf.Column c)) } in
     this ∷ calls_from (cond (is_count call.op) c (suc c)) calls
 
 abbrev pub partial_rows : GroupSpec → List Row → List Row

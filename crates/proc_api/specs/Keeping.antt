@@ -1,12 +1,10 @@
 -- The processor contract: what a box keeps of the chunks that it pulled and pushed, by cases on its spec.
 use Rattle.std.specs.Prelude.{◌++◌, ◌<◌, ◌∷◌, ◌≡◌, ◌≤◌, ◌⊎◌}
 use Rattle.proc_api.specs.Prelude.{All, ColumnType, Cond, Expr, Files, IsItem, IsTypedCond, JoinSpec, KeyPair, List, None, Option, PartSpec, Row, Some, SortKey, SortSpec, Spec, Table, [], bad_place, drop, enough, false, file_bytes, filter, good_rows, holds, is_in_finished, item_row, length, map, max, part_records, slice_index_or, suc, true, type_of, zero, ℕ, ⊤}
-use Rattle.chunk_data.specs.declared.typed_value.ColumnType.TheVariants as column
 use Rattle.query_model.specs.declared.processor_spec.Spec.TheVariants as spec
 use Rattle.proc_api.specs.Boxes.{BoxPicture, PortFlags, WorkState, idle_work, kept_input, kept_output, kept_inputs, kept_outputs}
 use Rattle.proc_api.specs.Histories.{Lists, chunk_rows, total_rows, last_count}
-use Rattle.proc_api.specs.Grouped.{group_types, partial_types}
-use Rattle.proc_api.specs.Made.{HasMade, HasNotedEnd, NotesEnd, own_of, unworked_at}
+use Rattle.proc_api.specs.Made.{HasMade, HasNotedEnd, NotesEnd, group_types, own_of, partial_types, unworked_at}
 use Rattle.proc_api.specs.Ports.{ArePortsOf, is_ended}
 
 -- ---- rows, kind by kind
@@ -23,14 +21,6 @@ pub record KeepsThrough (make : List Row → List Row) (p : BoxPicture) (ins out
   pub nothing_waits : (kept_output p 0).fin_out ≡ true → p.work.made ≡ []
   pub all_worked : (kept_output p 0).fin_out ≡ true → p.work.unworked ≡ []
   pub last : AreLastPulled p.work.unworked (ins 0)
-
--- a filter gives the rows at which its condition is true
-abbrev pub KeepsFilter : Cond → BoxPicture → Lists → Lists → Type 0
-KeepsFilter c p ins outs = KeepsThrough (filter (holds c)) p ins outs
-
--- an expression gives the row of its items' values for each row
-abbrev pub KeepsExpression : List Expr → BoxPicture → Lists → Lists → Type 0
-KeepsExpression items p ins outs = KeepsThrough (map (item_row items)) p ins outs
 
 -- what a collector hands out are the chunks that it pulled
 pub record KeepsCollect (p : BoxPicture) (ins : Lists) : Type 0 where
@@ -84,24 +74,17 @@ pub record KeepsMade (s : Spec) (p : BoxPicture) (ins outs : Lists) : Type 0 whe
   pub rows : HasMade s (own_of p.work) worked outs (chunk_rows p.work.made)
   pub over : (o : ℕ) → (kept_output p o).fin_out ≡ true → IsOver s p.work
 
--- The rows that a box keeps. Nothing is asked yet of a list of parts.
+-- The rows that a box keeps: a filter gives the rows at which its condition is true, an expression the row of its
+-- items' values for each row, and the kinds that aren't named here what `HasMade` says. Nothing is asked yet of a
+-- list of parts.
 abbrev pub KeepsRows : Option Spec → BoxPicture → Lists → Lists → Type 0
 KeepsRows None p ins outs = ⊤
 KeepsRows (Some (spec.Csv part)) p ins outs = KeepsPart part p outs
-KeepsRows (Some (spec.Filter c)) p ins outs = KeepsFilter c p ins outs
-KeepsRows (Some (spec.Expression items)) p ins outs = KeepsExpression items p ins outs
+KeepsRows (Some (spec.Filter c)) p ins outs = KeepsThrough (filter (holds c)) p ins outs
+KeepsRows (Some (spec.Expression items)) p ins outs = KeepsThrough (map (item_row items)) p ins outs
 KeepsRows (Some spec.Collect) p ins outs = KeepsCollect p ins
-KeepsRows (Some (spec.Numbers n rows)) p ins outs = KeepsMade (spec.Numbers n rows) p ins outs
-KeepsRows (Some spec.Resize) p ins outs = KeepsMade spec.Resize p ins outs
-KeepsRows (Some (spec.Limit span)) p ins outs = KeepsMade (spec.Limit span) p ins outs
 KeepsRows (Some (spec.List list)) p ins outs = ⊤
-KeepsRows (Some (spec.PartialAggregate groups)) p ins outs =
-    KeepsMade (spec.PartialAggregate groups) p ins outs
-KeepsRows (Some (spec.MergeAggregate groups)) p ins outs =
-    KeepsMade (spec.MergeAggregate groups) p ins outs
-KeepsRows (Some (spec.HashJoin join)) p ins outs = KeepsMade (spec.HashJoin join) p ins outs
-KeepsRows (Some (spec.Sort order)) p ins outs = KeepsMade (spec.Sort order) p ins outs
-KeepsRows (Some (spec.MergeSorted order)) p ins outs = KeepsMade (spec.MergeSorted order) p ins outs
+KeepsRows (Some s) p ins outs = KeepsMade s p ins outs
 
 -- ---- what fits
 
@@ -123,8 +106,8 @@ side_types join (suc i) = join.right
 abbrev pub AreKeyPairs : JoinSpec → Type 0
 AreKeyPairs join =
     All (λ (pair : KeyPair). (pair.left < length join.left) × (pair.right < length join.right)
-    × (slice_index_or join.left pair.left column.Text
-    ≡ slice_index_or join.right pair.right column.Text)) join.pairs
+    × (slice_index_or join.left pair.left ColumnType.Text
+    ≡ slice_index_or join.right pair.right ColumnType.Text)) join.pairs
 
 -- the types are those of the join's input, and its pairs have columns
 pub record FitsJoin (join : JoinSpec) (i : ℕ) (types : List ColumnType) : Type 0 where
@@ -181,7 +164,7 @@ abbrev pub MakesTypes : Option Spec → Lists → List ColumnType → Type 0
 MakesTypes (Some (spec.Csv part)) ins types = types ≡ part.types
 MakesTypes (Some (spec.Filter c)) ins types = IsFitPulled c ins types
 MakesTypes (Some (spec.Expression items)) ins types = IsMadeOfPulled items ins types
-MakesTypes (Some (spec.Numbers n rows)) ins types = types ≡ column.UInt64 ∷ []
+MakesTypes (Some (spec.Numbers n rows)) ins types = types ≡ ColumnType.UInt64 ∷ []
 MakesTypes (Some spec.Resize) ins types = IsPulled ins types
 MakesTypes (Some (spec.Limit span)) ins types = IsPulled ins types
 MakesTypes None ins types = ⊤
@@ -223,22 +206,10 @@ HasSize s t = (0 < length t.rows) × IsAtMost (most_rows s) (length t.rows)
 
 -- ---- ends of ports
 
--- a limit that has read enough
+-- a limit that has read enough; no other kind ends before its inputs do
 abbrev pub HasReadEnough : Option Spec → Lists → Type 0
 HasReadEnough (Some (spec.Limit span)) ins = enough span ≤ length (chunk_rows (ins 0))
-HasReadEnough None ins = ⊥
-HasReadEnough (Some (spec.Csv part)) ins = ⊥
-HasReadEnough (Some (spec.List list)) ins = ⊥
-HasReadEnough (Some (spec.Numbers n rows)) ins = ⊥
-HasReadEnough (Some (spec.Filter c)) ins = ⊥
-HasReadEnough (Some (spec.Expression items)) ins = ⊥
-HasReadEnough (Some spec.Resize) ins = ⊥
-HasReadEnough (Some (spec.PartialAggregate groups)) ins = ⊥
-HasReadEnough (Some (spec.MergeAggregate groups)) ins = ⊥
-HasReadEnough (Some (spec.HashJoin join)) ins = ⊥
-HasReadEnough (Some (spec.Sort order)) ins = ⊥
-HasReadEnough (Some (spec.MergeSorted order)) ins = ⊥
-HasReadEnough (Some spec.Collect) ins = ⊥
+HasReadEnough _ ins = ⊥
 
 -- each input is finished or closed
 abbrev pub AllInputsFinished : BoxPicture → Type 0
@@ -270,13 +241,14 @@ pub record IsReadUp (p : BoxPicture) (i : ℕ) : Type 0 where
 abbrev pub moved_work : WorkState → WorkState
 moved_work w = record idle_work { unworked = w.unworked; source = w.source; made = w.made }
 
+-- beside those, the rows that can be made, what is gathered, and whether the end is noted
+abbrev pub IsGatheringWork : WorkState → Type 0
+IsGatheringWork w =
+    w ≡ record (moved_work w) { unmade = w.unmade; gathered = w.gathered; ended = w.ended }
+
 -- a join pulls nothing of input 0 before it has noted the end of input 1
 pub record IsJoinWork (w : WorkState) : Type 0 where
-  pub idle : w ≡ record (moved_work w) {
-    unmade = w.unmade;
-    gathered = w.gathered;
-    ended = w.ended;
-  }
+  pub idle : IsGatheringWork w
   pub right_first : w.ended ≡ false → unworked_at w 0 ≡ []
 
 -- what a kind doesn't use of the state is idle
@@ -291,15 +263,11 @@ IsWorkOf (Some spec.Resize) w = w ≡ record idle_work { unworked = w.unworked; 
 IsWorkOf (Some (spec.Limit span)) w = w ≡ record idle_work { unworked = w.unworked; made = w.made; read = w.read }
 IsWorkOf None w = ⊤
 IsWorkOf (Some (spec.List list)) w = ⊤
-IsWorkOf (Some (spec.PartialAggregate groups)) w =
-    w ≡ record (moved_work w) { unmade = w.unmade; gathered = w.gathered; ended = w.ended }
-IsWorkOf (Some (spec.MergeAggregate groups)) w =
-    w ≡ record (moved_work w) { unmade = w.unmade; gathered = w.gathered; ended = w.ended }
+IsWorkOf (Some (spec.PartialAggregate groups)) w = IsGatheringWork w
+IsWorkOf (Some (spec.MergeAggregate groups)) w = IsGatheringWork w
 IsWorkOf (Some (spec.HashJoin join)) w = IsJoinWork w
-IsWorkOf (Some (spec.Sort order)) w =
-    w ≡ record (moved_work w) { unmade = w.unmade; gathered = w.gathered; ended = w.ended }
-IsWorkOf (Some (spec.MergeSorted order)) w =
-    w ≡ record (moved_work w) { unmade = w.unmade; heads = w.heads }
+IsWorkOf (Some (spec.Sort order)) w = IsGatheringWork w
+IsWorkOf (Some (spec.MergeSorted order)) w = w ≡ record (moved_work w) { unmade = w.unmade; heads = w.heads }
 
 -- the kept view had the ports of the spec, as they were before or after its growth
 abbrev pub HadPorts : Option PortFlags → BoxPicture → Type 0

@@ -3,7 +3,7 @@ use Rattle.std.specs.Prelude.{◌++◌, ◌-◌, ◌<◌, ◌==◌, ◌^◌, ◌
 use Rattle.proc_api.specs.Prelude.{AllByRecursion, Bool, ColumnType, Contains, FitsTypes, IsPermutation, IsSorted, KeyPair, List, None, Option, Row, Some, SortKey, Span, Spec, Table, [], cond, false, filter, flat_map, holds, is_lt, item_row, joined_rows, length, limited, list_all, map, min, nat_lt, numbers, row_cmp, slice_index_or, suc, true, zero, ℕ, ⊤}
 use Rattle.query_model.specs.declared.processor_spec.Spec.TheVariants as spec
 use Rattle.proc_api.specs.Boxes.{InputHead, WorkState}
-use Rattle.proc_api.specs.Grouped.{group_types, merged_rows, merged_states, partial_rows, partial_types}
+pub use Rattle.proc_api.specs.Grouped.{group_types, merged_rows, merged_states, partial_rows, partial_types}
 use Rattle.proc_api.specs.Histories.{Lists, chunk_rows}
 
 -- What a kind keeps for itself beside chunks that are pulled and made: the rows that it can make,

@@ -11,7 +11,6 @@ pub use Rattle.proc_api.specs.Ports.{AllOutputsFinished, AreAsKept, AreCounts, A
 pub use Rattle.proc_api.specs.Prelude.{ChangedByCalls, Prepared, Scheduled}
 pub use Rattle.proc_api.specs.Racks.{IsFirstPlace, IsPlaceOf, TakesFirst, TakesOut, is_of, kind_place, same_kind}
 pub use Rattle.proc_api.specs.Settled.{HasInputWire, HasOutputWire, ProducerKnows, Rests, no_wire}
-pub use Rattle.proc_api.specs.declared.status.Status.TheVariants.{ExpandPipeline}
 pub use Rattle.std.specs.Option.{option_map}
 pub use Rattle.std.specs.Prelude.{IfErr, IfOk, IsTrue, List, None, OnErr, OnOk, Option, Some, [], count_by, false, length, map, true, vec_capacity, ℕ}
 unfoldable pub use Rattle.proc_api.specs.Boxes.{kept_input, kept_inputs, kept_output, kept_outputs}

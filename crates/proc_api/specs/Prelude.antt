@@ -1,9 +1,6 @@
 -- The names from outside that this crate's definitions use, in one place.
 pub use Rattle.chunk_data.specs.Values.{FitsTypes, Row, Table, default_value}
-pub use Rattle.chunk_data.specs.declared.typed_value.ColumnType.{ColumnType}
-pub use Rattle.chunk_data.specs.declared.typed_value.SortKey.{SortKey}
-pub use Rattle.port_word.specs.Names.{ChangedByCalls, IsAllFinished, Picture, WaitsForData, WaitsForRoom, can_push, holds_data, is_out_finished}
-pub use Rattle.port_word.specs.Pictures.{is_in_finished, no_flags}
+pub use Rattle.port_word.specs.Names.{ChangedByCalls, IsAllFinished, Picture, WaitsForData, WaitsForRoom, can_push, holds_data, is_in_finished, is_out_finished, no_flags}
 pub use Rattle.port_word.specs.declared.flags.Action.{Action}
 pub use Rattle.port_word.specs.declared.flags.Action.TheVariants.{Close, Finish, Pull, Push, Unwant, Want}
 pub use Rattle.port_word.specs.declared.flags.Flags.{Flags}
@@ -21,9 +18,8 @@ pub use Rattle.proc_api.specs.declared.status.LoadRefusal.{LoadRefusal}
 pub use Rattle.proc_api.specs.declared.status.Status.{Status}
 pub use Rattle.proc_api.specs.declared.status.Wake.{Wake}
 pub use Rattle.proc_api.specs.declared.status.WorkFault.{WorkFault}
-pub use Rattle.query_model.specs.Database.{Files}
-pub use Rattle.query_model.specs.Groups.{combine_of, groups, groups_or_default, merged_groups}
-pub use Rattle.query_model.specs.Names.{Cond, Expr, Formula, IsItem, IsTypedCond, bad_line_in, enough, file_bytes, formula, holds, item_row, joined_rows, kind_of, limited, numbers, part_bad_place}
+pub use Rattle.query_model.specs.Names.{Cond, Expr, Files, Formula, IsItem, IsTypedCond, bad_line_in, combine_of, enough, file_bytes, formula, groups, groups_or_default, holds, item_row, joined_rows, kind_of, limited, merged_groups, numbers, part_bad_place}
+pub use Rattle.query_model.specs.Prelude.{ColumnType, SortKey, is_lt}
 pub use Rattle.query_model.specs.declared.checked.KeyPair.{KeyPair}
 pub use Rattle.query_model.specs.declared.places.BadPlace.{BadPlace}
 pub use Rattle.query_model.specs.declared.processor_spec.GroupSpec.{GroupSpec}
@@ -40,10 +36,7 @@ pub use Rattle.query_model.specs.declared.query.ExprOf.{ExprOf}
 pub use Rattle.query_model.specs.declared.query.Operand.{Operand}
 pub use Rattle.query_model.specs.declared.query.Span.{Span}
 pub use Rattle.std.specs.List.{All, AllByRecursion, Contains, list_all, list_any}
-pub use Rattle.std.specs.Ordering.{is_lt}
 pub use Rattle.std.specs.Prelude.{Bool, IfSome, IsPermutation, IsSome, IsSorted, IsTrue, List, None, Option, Some, [], cond, count_by, drop, false, filter, flat_map, length, map, max, min, nat_eq, nat_lt, not, slice_index_or, suc, sum_by, take, true, zero, ℕ, ⊤}
 unfoldable pub use Rattle.chunk_data.specs.Values.{row_cmp}
-unfoldable pub use Rattle.port_word.specs.Names.{in_count, out_count}
-unfoldable pub use Rattle.port_word.specs.Pictures.{input_at, output_at}
-unfoldable pub use Rattle.query_model.specs.Names.{bad_place, good_rows, part_records, type_of}
-unfoldable pub use Rattle.query_model.specs.Sources.{count_up}
+unfoldable pub use Rattle.port_word.specs.Names.{in_count, input_at, out_count, output_at}
+unfoldable pub use Rattle.query_model.specs.Names.{bad_place, count_up, good_rows, part_records, type_of}

@@ -1,24 +1,23 @@
 -- Racks of blank boxes, in order.
 use Rattle.std.specs.Prelude.{◌++◌, ◌<◌, ◌∷◌, ◌≡◌}
 use Rattle.proc_api.specs.Prelude.{Bool, Kind, List, None, Option, Some, count_by, length, nat_eq, slice_index_or, take, true, ℕ}
-use Rattle.query_model.specs.declared.processor_spec.Kind.TheVariants as kind
 use Rattle.proc_api.specs.Boxes.{BoxPicture, no_box}
 
 -- the place of a kind in the order of kinds
 abbrev pub kind_place : Kind → ℕ
-kind_place kind.Csv = 0
-kind_place kind.List = 1
-kind_place kind.Numbers = 2
-kind_place kind.Filter = 3
-kind_place kind.Expression = 4
-kind_place kind.Resize = 5
-kind_place kind.PartialAggregate = 6
-kind_place kind.MergeAggregate = 7
-kind_place kind.HashJoin = 8
-kind_place kind.Sort = 9
-kind_place kind.MergeSorted = 10
-kind_place kind.Limit = 11
-kind_place kind.Collect = 12
+kind_place Kind.Csv = 0
+kind_place Kind.List = 1
+kind_place Kind.Numbers = 2
+kind_place Kind.Filter = 3
+kind_place Kind.Expression = 4
+kind_place Kind.Resize = 5
+kind_place Kind.PartialAggregate = 6
+kind_place Kind.MergeAggregate = 7
+kind_place Kind.HashJoin = 8
+kind_place Kind.Sort = 9
+kind_place Kind.MergeSorted = 10
+kind_place Kind.Limit = 11
+kind_place Kind.Collect = 12
 
 abbrev pub same_kind : Kind → Kind → Bool
 same_kind a b = nat_eq (kind_place a) (kind_place b)

@@ -1,17 +1,16 @@
 -- What is known of nodes that rest and of their ports, and the wires of a graph by place.
 use Rattle.std.specs.Prelude.{◌<◌, ◌≡◌}
 use Rattle.proc_api.specs.Prelude.{Flags, List, None, Option, Picture, Some, Status, WaitsForData, WaitsForRoom, Wire, length, slice_index_or, true, ℕ}
-use Rattle.proc_api.specs.declared.status.Status.TheVariants as status
 
 -- A node waits for data or for room, as its last status says and its picture shows. One that was
 -- never prepared has an output, and counts as one that waits for room.
 abbrev pub Rests : Option Status → Picture → Type 0
-Rests (Some status.NeedData) v = WaitsForData v
-Rests (Some status.PortFull) v = WaitsForRoom v
-Rests (Some status.Ready) v = ⊥
-Rests (Some status.Async) v = ⊥
-Rests (Some status.ExpandPipeline) v = ⊥
-Rests (Some status.Finished) v = ⊥
+Rests (Some Status.NeedData) v = WaitsForData v
+Rests (Some Status.PortFull) v = WaitsForRoom v
+Rests (Some Status.Ready) v = ⊥
+Rests (Some Status.Async) v = ⊥
+Rests (Some Status.ExpandPipeline) v = ⊥
+Rests (Some Status.Finished) v = ⊥
 Rests None v = WaitsForRoom v
 
 -- the producer knows the port's flags, but that it may see a need that was taken back

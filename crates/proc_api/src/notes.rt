@@ -133,6 +133,7 @@ impl BoxNotes {
 }
 
 // The flags of the view's inputs, in room that is there.
+#[tactic(auto, using(crate::proofs::ViewFlags::copy_steps))]
 fn copy_inputs(flags: &mut Vec<Flags>, view: &PortView)
     requires { 32 ≤ vec_capacity flags.old }
     ensures copied { flags.new.items ≡ (port_flags view.now).inputs }
@@ -145,6 +146,7 @@ fn copy_inputs(flags: &mut Vec<Flags>, view: &PortView)
 }
 
 // The flags of the view's outputs, in room that is there.
+#[tactic(auto, using(crate::proofs::ViewFlags::copy_steps))]
 fn copy_outputs(flags: &mut Vec<Flags>, view: &PortView)
     requires { 16 ≤ vec_capacity flags.old }
     ensures copied { flags.new.items ≡ (port_flags view.now).outputs }

@@ -1,5 +1,5 @@
 ghost use Rattle.std.specs.Prelude.{◌≡◌, ◌≢◌, ◌⊎◌};
-ghost use Rattle.proc_api.specs.Names.{BoxPicture, ChangedByCalls, CountsOn, ExpandPipeline, Expands, Faults, FollowsKept, HasNoReader, IfErr, IfOk, IsLoadRefused, IsRunning, IsSourceKind, IsTrue, KeepsLimits, KeepsUnlessOut, List, Loads, MaySchedule, MayWork, None, NotesView, OnOk, Option, Prepared, PreparesLawfully, PulledOn, SameBox, SameCounts, SamePulled, Schedules, Some, Unloads, Works, false, handed_out_by, ℕ};
+ghost use Rattle.proc_api.specs.Names.{BoxPicture, ChangedByCalls, CountsOn, Expands, Faults, FollowsKept, HasNoReader, IfErr, IfOk, IsLoadRefused, IsRunning, IsSourceKind, IsTrue, KeepsLimits, KeepsUnlessOut, List, Loads, MaySchedule, MayWork, None, NotesView, OnOk, Option, Prepared, PreparesLawfully, PulledOn, SameBox, SameCounts, SamePulled, Schedules, Some, Unloads, Works, false, handed_out_by, ℕ};
 
 use crate::growth::Growth;
 use crate::status::{LoadRefusal, Status, Wake, WorkFault};
@@ -66,7 +66,7 @@ pub trait Processor: Drop + Send {
     /// Says by what the graph is to grow; once an answer.
     fn expand(&mut self) -> Result<Growth, WorkFault>
         requires running { IsRunning (seen self.old) }
-        requires expanding { (seen self.old).notes.answer ≡ Some (Prepared ExpandPipeline) }
+        requires expanding { (seen self.old).notes.answer ≡ Some (Prepared Status.ExpandPipeline) }
         requires once { (seen self.old).notes.acted ≡ false }
         ensures same { SameBox (seen self.old) (seen self.new) }
         ensures counts { CountsOn (seen self.old) (seen self.new) }

@@ -1,5 +1,5 @@
 ghost use Rattle.std.specs.Prelude.{◌<◌, ◌≡◌};
-ghost use Rattle.proc_api.specs.Names.{ChangedByCalls, ClosesFront, FinishesFront, IsShut, SameChunks, in_count, out_count, true, ℕ};
+ghost use Rattle.proc_api.specs.Names.{ChangedByCalls, FinishesFront, IsShut, SameChunks, in_count, out_count, true, ℕ};
 
 use port_word::PortView;
 
@@ -9,16 +9,10 @@ pub fn shut_down(view: &mut PortView)
     ensures shut { IsShut view.new }
     ensures chunks { SameChunks view.old view.new }
 {
-    close_all(view);
-    finish_all(view);
-}
-
-fn close_all(view: &mut PortView)
-    ensures { ClosesFront (in_count view.old) view.old view.new }
-{
     for i in 0..view.inputs() {
         view.close(i);
     }
+    finish_all(view);
 }
 
 /// Finishes each output.

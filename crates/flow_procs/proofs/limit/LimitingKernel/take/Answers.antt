@@ -1,5 +1,4 @@
-use Rattle.flow_procs.proofs.Imports.{Some, Takes, arith, eqb-true, length, min, read_own, rules, subst, sym, ◌+◌, ◌-◌, ◌^◌, ◌≡◌}
-use Rattle.query_model.specs.declared.processor_spec.Spec.TheVariants as spec
+use Rattle.flow_procs.proofs.Imports.{Some, Spec, Takes, arith, eqb-true, length, min, read_own, rules, subst, sym, ◌+◌, ◌-◌, ◌^◌, ◌≡◌}
 use Rattle.flow_procs.proofs.LimitLaws.{takes}
 use Rattle.flow_procs.proofs.limit.LimitingKernel.take.Goals as goal
 
@@ -8,7 +7,7 @@ returns-clause-takes c = λ wanted.
     let k = c.args.self.now in
     let read : c.saturating_add-self.result
     ≡ min (k.read + length c.args.chunk.rows) (2 ^ 128 - 1) = search rules in
-    subst (λ n. Takes (spec.Limit k.span) (read_own k.read) c.args._input c.args.chunk
+    subst (λ n. Takes (Spec.Limit k.span) (read_own k.read) c.args._input c.args.chunk
     (read_own n) (Some c.remove_front.new.self)) (sym read)
     (takes k.span k.read c.args._input c.args.chunk c.remove_front.new.self
     (eqb-true c.args._input 0 wanted) (omega arith) (omega arith) (search rules)
