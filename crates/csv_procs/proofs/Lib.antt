@@ -1,4 +1,3 @@
 pub mod Imports
 pub mod PartLaws
-pub mod FetchingLaws
 pub mod SourceLaws

@@ -1,15 +1,10 @@
 -- A collector hands out the chunks that it pulled.
-use Rattle.proc_shell.proofs.Imports.{Bool, BoxPicture, HasSpecView, IsShelled, IsWorkOf, KeepsCollect, KeepsMeant, List, Lists, None, Some, Table, Takes, [], ap, arith, cond, false, gathered_own, gathering, kept_output, own_of, refl, sym, true, work_of, ℕ, ◌++◌, ◌==◌, ◌∙◌, ◌∷◌, ◌≡◌, ◌⊎◌}
+use Rattle.proc_shell.proofs.Imports.{Bool, BoxPicture, HasSpecView, IsShelled, IsWorkOf, KeepsCollect, KeepsMeant, List, Lists, Some, Table, [], ap, arith, common_steps, false, gathering, kept_output, own_of, refl, sym, true, work_of, ℕ, ◌==◌, ◌∙◌, ◌≡◌, ◌⊎◌}
 use Rattle.query_model.specs.declared.processor_spec.Spec.TheVariants as spec
-use Rattle.proc_shell.proofs.Through.{chunk-here, first-source, here-unworked, last-here, spec-output, split-here}
+use Rattle.proc_shell.proofs.Through.{first-source, here-unworked, last-here, spec-output, split-here}
 
 into-collect : (p : BoxPicture) (ins outs : Lists) → IsWorkOf (Some spec.Collect) p.work → KeepsMeant spec.Collect p ins outs → KeepsCollect p ins
-into-collect p ins outs uses t =
-    let here = here-unworked p (ap (λ w. w.source) uses) ins t.worked t.ins_are in
-    record {
-      gathered = λ out. ap (λ own. own.gathered) t.shows ∙ ap (λ l. l ++ p.work.unworked) t.rows ∙ sym here;
-      last = last-here p.work.unworked (t.worked 0) (ins 0) here;
-    }
+into-collect p ins outs uses t = grind (arith, common_steps, here-unworked, last-here)
 
 -- it has no output that it could have finished
 never-finished : {X : Type 0} (p : BoxPicture) → HasSpecView spec.Collect p → (o : ℕ) → (kept_output p o).fin_out ≡ true → X
@@ -27,15 +22,6 @@ from-collect p ins outs seen uses out k =
       over = λ o fin. never-finished p seen o fin;
       read = λ o fin. tt;
     }
-
--- a chunk more is gathered
-pub takes-gathered : (chunks : List Table) (i : ℕ) (t : Table) → i ≡ 0 → Takes spec.Collect (gathered_own chunks) i t (gathered_own (chunks ++ t ∷ [])) None
-takes-gathered chunks i t z = record {
-  means = λ x fits worked outs h. ap (λ l. l ++ t ∷ []) h ∙ sym (chunk-here 0 t worked) ∙ ap (λ n. worked 0 ++ cond (0 == n) (t ∷ []) []) (sym z);
-  types = λ ins pulled. tt;
-  sizes = tt;
-  ends = λ i n. n;
-}
 
 pub collect_uses : (chunks : List Table) (handed_out : Bool) (i : ℕ) (unworked made : List Table) → ((i ≡ 0) × (unworked ≡ [])) ⊎ ((i == 0) ≡ true) → made ≡ []
     → IsWorkOf (Some spec.Collect) (work_of (gathering chunks handed_out) i unworked made)

@@ -1,5 +1,5 @@
 -- A shell keeps the contract of its kernel's kind over a prepare.
-use Rattle.proc_shell.proofs.Imports.{All, All-append, All-behind, All-weaker, AllFit, AllOutputsClosed, ArePortsOf, Bool, BoxPicture, EndsNow, Flags, FollowsKept, HadPorts, HasEnough, HasNotedEnd, HasReadEnough, HasSize, HasSpecView, Held, IfSome, InputFollows, IsOver, IsPulled, IsReadUp, IsShelled, IsWorkOf, Keeps, KeepsMeant, KeepsOver, KernelState, Kind, List, Lists, MakesTypes, MayBeInput, Means, Moves, None, Notes, NotesEnd, Nothing, Option, OwnState, Picture, PortFlags, PulledOn, PullsOne, Pushes, ReaderView, RowCount, Some, Spec, StandStill, Status, Table, Turns, [], and_from, and_parts, ap, append-nil, append_assoc, append_cancel_right, ap₂, arith, both_ways, by-place, cases_eq, cases_lt, chunk_rows, cond, cond_both, counted-more, enough-more, eq-eqb, false, false_from_ne_true, fits-front, front-all, gathered_with, get_or, held_made, held_unworked, in_count, inl, input_at, inr, is_ended, is_in_finished, is_out_finished, kept_input, kept_input-of, kept_input-past, kept_inputs, kept_inputs-of, kept_output, kept_output-of, kept_output-past, kept_outputs, kept_outputs-of, kept_ports, length, length-map, makes-more, may-be-input, ne_eqb, never-enough, no_flags, not, not-true, or_cases, out_count, output_at, own_of, part, part_seen, port_flags, pulled-last, pulled-more, pulled_at, pushed_at, raised, reading_of, refl, rows_pulled, source_of, subst, sym, taken_out, true, unworked_at, with_pulled, with_pushed, ℕ, ◌++◌, ◌+◌, ◌<◌, ◌==◌, ◌||◌, ◌∙◌, ◌∷◌, ◌≡◌, ◌≢◌, ◌≤◌, ◌⊎◌}
+use Rattle.proc_shell.proofs.Imports.{All, All-append, All-behind, All-weaker, AllFit, AllOutputsClosed, ArePortsOf, Bool, BoxPicture, CountsRows, EndsNow, Flags, FollowsKept, HadPorts, HasEnough, HasNotedEnd, HasReadEnough, HasSize, HasSpecPorts, HasSpecView, Held, IfSome, InputFollows, IsOver, IsPulled, IsReadUp, IsRunning, IsShelled, Keeps, KeepsMeant, KeepsOver, KernelState, Kind, List, Lists, MakesTypes, MayBeInput, Means, Moves, None, Notes, NotesEnd, Nothing, Option, OwnState, Passes, Picture, PortFlags, PullsOne, Pushes, ReaderView, RowCount, Some, Spec, Status, StaysFit, Suits, Table, [], ap, append-nil, append_assoc, append_cancel_right, ap₂, arith, both_ways, by-place, cases_eq, cases_lt, chunk_rows, common_steps, cond, cond_both, counted-more, enough-more, eq-eqb, false, false_from_ne_true, fits-front, front-all, gathered_with, get_or, held_made, held_unworked, in_count, inl, input_at, inr, is_ended, is_in_finished, is_out_finished, kept_input, kept_input-of, kept_input-past, kept_inputs, kept_inputs-of, kept_output, kept_output-of, kept_output-past, kept_outputs, kept_outputs-of, kept_ports, length, length-map, makes-more, may-be-input, ne_eqb, never-enough, no_flags, not-true, or_cases, out_count, output_at, own_of, part, part_seen, port_flags, pulled-last, pulled-more, pulled_at, pushed_at, raised, reading_of, refl, rows_pulled, source_of, subst, sym, taken_out, total_rows, true, unworked_at, with_pulled, with_pushed, ℕ, ◌++◌, ◌<◌, ◌==◌, ◌||◌, ◌∙◌, ◌∷◌, ◌≡◌, ◌≢◌, ◌≤◌, ◌⊎◌}
 use Rattle.query_model.specs.declared.processor_spec.Spec.TheVariants as spec
 use Rattle.proc_shell.proofs.PortMoves.{all-or, both-none, never-true}
 use Rattle.proc_shell.proofs.TurnLaws.{holds-unended}
@@ -9,7 +9,7 @@ use Rattle.proc_shell.proofs.TurnLaws.{holds-unended}
 pub cond-none : (c : Bool) (l : List Table) → l ≡ [] → cond c l [] ≡ []
 cond-none c l e = cond_both c l [] (λ x. x ≡ []) (λ t. e) (λ t. refl)
 
-all-none : (P : Table → Type 0) (xs : List Table) → xs ≡ [] → All P xs
+pub all-none : (P : Table → Type 0) (xs : List Table) → xs ≡ [] → All P xs
 all-none P xs e = λ k d lt. absurd (let l = ap length e in omega (arith, l, lt))
 
 -- ---- the kept flags are as many as the view has
@@ -25,25 +25,18 @@ outs-count u = refl
 -- ---- flags
 
 either-true : (x y : Bool) → y ≡ true → (x || y) ≡ true
-either-true true y e = refl
-either-true false y e = e
+either-true x y e = grind (arith, common_steps)
 
 pub never-ended : (f : Flags) → is_ended f ≡ true → is_in_finished f ≡ false → ⊥
 never-ended f e n = both_ways (f.fin_in || is_ended f) n (either-true f.fin_in (is_ended f) e)
 
 ended-stays : (a b : Flags) → InputFollows a b → is_ended a ≡ true → is_ended b ≡ true
-ended-stays a b f e =
-    let both = and_parts a.fin_out (not a.has_data) e in
-    and_from b.fin_out (not b.has_data) (f.fin_out both.0)
-    (ap not (f.stays_empty both.0 (not-true a.has_data both.1)))
+ended-stays a b f e = grind (arith, common_steps, not-true)
 
 -- ---- a prepare
 
 had-spec : (s : Spec) → IsShelled s → (p : BoxPicture) → p.spec ≡ Some s → (ports : PortFlags) → HadPorts (Some ports) p → ArePortsOf (Some s) None (length ports.inputs) (length ports.outputs)
-had-spec s shelled p e ports had = elim (subst (λ x. ArePortsOf x None (length ports.inputs) (length ports.outputs) ⊎ ArePortsOf x p.growth (length ports.inputs) (length ports.outputs)) e had) [
-  | inl y ↦ y
-  | inr y ↦ shelled.ungrown p.growth (length ports.inputs) (length ports.outputs) y
-]
+had-spec s shelled p e ports had = grind (arith, common_steps)
 
 pub spec-view : (s : Spec) → IsShelled s → (p : BoxPicture) → p.spec ≡ Some s → HadPorts p.notes.view p → HasSpecView s p
 spec-view s shelled p e = go p.notes.view
@@ -52,12 +45,19 @@ spec-view s shelled p e = go p.notes.view
     go None had = tt
     go (Some ports) had = had-spec s shelled p e ports had
 
+-- the ports that were kept are those of any box with that spec and growth
+pub had-same : (view : Option PortFlags) (p q : BoxPicture) → q.spec ≡ p.spec
+    → q.growth ≡ p.growth → HadPorts view p → HadPorts view q
+had-same None p q spec growth had = tt
+had-same (Some ports) p q spec growth had = rw (spec, growth) had
+
 -- what the kernel notes is no matter of what it gathered
 pub noted-own : (s : Spec) (a : OwnState) (l m : List Table) (i : ℕ) → NotesEnd (Some s) (record a { gathered = l }) i → NotesEnd (Some s) (record a { gathered = m }) i
 noted-own spec.Collect a l m i n = n
 noted-own s a l m i n = n
 
-end-own : (s : Spec) (a : OwnState) (l m : List Table) → HasNotedEnd s (record a { gathered = l }) → HasNotedEnd s (record a { gathered = m })
+pub end-own : (s : Spec) (a : OwnState) (l m : List Table)
+    → HasNotedEnd s (record a { gathered = l }) → HasNotedEnd s (record a { gathered = m })
 end-own spec.Collect a l m n = n
 end-own s a l m n = n
 
@@ -68,24 +68,29 @@ shown-one spec.Collect a b u e =
     λ i. record (e i) { gathered = same i }
 shown-one s a b u e = e
 
--- A prepare of a kernel that holds h: what was made is pushed, which leaves m, and then a turn is
--- taken, which leaves b and k.
-pub record Goes (p : BoxPicture) (kernel : KernelState) (first last : Notes) (v u w : Picture)
-    (b : OwnState) (h m k : Held) (st : Status)
-    : Type 0 where
-  pub not_handed_out : kernel.stage.handed_out ≡ false
-  pub pushes : Pushes h m v u
-  pub turns : Turns kernel b m k u w st
-  pub view : last.view ≡ Some (port_flags w)
-  pub follows : FollowsKept p v
-  pub ports : ArePortsOf (Some kernel.spec) None (in_count v) (out_count v)
-  pub still : StandStill (Some kernel.spec) first.view (in_count v) (out_count v)
-  pub few : out_count v ≤ 16
+-- the count of a prepare, which pulls nothing where it pushes
+pub pulled-so : (h m : Held) (v u w : Picture) (old new : RowCount) → Pushes h m v u
+    → CountsRows (rows_pulled u w) old new → new.total ≡ raised old.total (rows_pulled v w)
+pulled-so h m v u w old new pushes counts =
+    counts.total ∙ ap (raised old.total) (ap (total_rows 32)
+    (λ z i. ap (λ y. taken_out y.chunk (input_at w i).chunk) (pushes.inputs i) z))
 
-module _ (kind : Kind) (d : Option ReaderView) (kernel : KernelState)
-    (shelled : IsShelled kernel.spec) (old new : RowCount) (first last : Notes) (v u w : Picture)
-    (b : OwnState) (h m k : Held) (st : Status)
-    (g : Goes (part_seen kind d old (part kernel h first)) kernel first last v u w b h m k st) where
+-- A prepare of a kernel that holds h: what was made is pushed, which leaves the view u and m, and
+-- then a turn is taken, which leaves b and k.
+module _ (kind : Kind) (d : Option ReaderView) (kernel : KernelState) (b : OwnState) (h k : Held)
+    (first last : Notes) (old new : RowCount) (v w : Picture) (st : Status)
+    (so : Suits kind kernel (record kernel { own = b }) k)
+    (g : Passes (part kernel h first) v old (part (record kernel { own = b }) k last) w new st)
+    (few : out_count v ≤ 16) (ports : HasSpecPorts kernel.spec v)
+    (run : IsRunning (part_seen kind d old (part kernel h first)))
+    (follows : FollowsKept (part_seen kind d old (part kernel h first)) v)
+    (fit : StaysFit (part_seen kind d old (part kernel h first)) v) where
+  abbrev u : Picture
+  u = g.view
+
+  abbrev m : Held
+  m = g.held
+
   abbrev p : BoxPicture
   p = part_seen kind d old (part kernel h first)
 
@@ -97,6 +102,9 @@ module _ (kind : Kind) (d : Option ReaderView) (kernel : KernelState)
 
   abbrev a : OwnState
   a = kernel.own
+
+  last-view : last.view ≡ Some (port_flags w)
+  last-view = ap (λ z. z.view) g.notes
 
   mv : Moves (record kernel { own = b }) m k u w st
   mv = g.turns.moves
@@ -122,25 +130,12 @@ module _ (kind : Kind) (d : Option ReaderView) (kernel : KernelState)
 
   -- where flags are kept, they are those of as many ports as the view has
   viewed : HadPorts first.view p → HasSpecView s p
-  viewed had = spec-view s shelled p refl had
+  viewed had = spec-view s so.shelled p refl had
 
   had-counts : HadPorts first.view p
       → (first.view ≡ None) ⊎ ((kept_inputs p ≡ in_count v) × (kept_outputs p ≡ out_count v))
   unfolding kept_inputs kept_outputs
-  had-counts had = go first.view refl had g.still
-    where
-      go : (x : Option PortFlags) → first.view ≡ x → HadPorts x p
-          → StandStill (Some s) x (in_count v) (out_count v)
-          → (first.view ≡ None) ⊎ ((length (kept_ports first.view).inputs ≡ in_count v)
-          × (length (kept_ports first.view).outputs ≡ out_count v))
-      go None e had still = inl e
-      go (Some ports) e had still =
-          let y = shelled.still ports (in_count v) (out_count v)
-          (had-spec s shelled p refl ports had) g.ports still in
-          inr (
-            ap (λ x. length (kept_ports x).inputs) e ∙ sym y.0,
-            ap (λ x. length (kept_ports x).outputs) e ∙ sym y.1,
-          )
+  had-counts had = grind (arith, common_steps, had-spec)
 
   never-out : {X : Type 0} (o : ℕ) → first.view ≡ None → (kept_output p o).fin_out ≡ true → X
   unfolding kept_output
@@ -151,7 +146,7 @@ module _ (kind : Kind) (d : Option ReaderView) (kernel : KernelState)
   never-in i e fin = let f : false ≡ true = ap (λ x. (get_or (kept_ports x).inputs i no_flags).fin_in) (sym e) ∙ fin in absurd (cc)
 
   kept-out : (o : ℕ) → o < out_count v → (output_at u o).fin_out ≡ true → (kept_output p o).fin_out ≡ true
-  kept-out o lt e = sym (g.follows.outputs o lt).fin_out ∙ sym (g.pushes.finished o) ∙ e
+  kept-out o lt e = sym (follows.outputs o lt).fin_out ∙ sym (g.pushes.finished o) ∙ e
 
   enough-still : (ins : Lists) → HasReadEnough (Some s) ins
       → HasReadEnough (Some s) (with_pulled v w ins)
@@ -164,7 +159,8 @@ module _ (kind : Kind) (d : Option ReaderView) (kernel : KernelState)
       elim (had-counts kept.ports) [
         | inl none ↦ never-out o none before
         | inr n ↦ elim (kept.finishes o before) [
-          | inl all ↦ inl (λ i less. ap (λ x. is_ended x.flags) (g.pushes.inputs i) ∙ ended-stays (kept_input p i) (input_at v i).flags (g.follows.inputs i less) (all i (let z = n.0 in omega (arith, z, less))))
+          | inl all ↦ inl (λ i less. ap (λ x. is_ended x.flags) (g.pushes.inputs i)
+              ∙ ended-stays _ _ (follows.inputs i less) (all i (omega (arith, n, less))))
           | inr enough ↦ inr enough
         ]
       ]
@@ -172,11 +168,16 @@ module _ (kind : Kind) (d : Option ReaderView) (kernel : KernelState)
   -- where it had closed an input, its consumers had closed all outputs, or it has read enough
   was-closed : (ins outs : Lists) → Keeps p ins outs → (i : ℕ) → i < in_count v → (input_at u i).flags.fin_in ≡ true → ((0 < out_count v) × ((o : ℕ) → o < out_count v → (output_at u o).fin_in ≡ true)) ⊎ HasReadEnough (Some s) ins
   was-closed ins outs kept i lt e =
-      let before : (kept_input p i).fin_in ≡ true = sym (g.follows.inputs i lt).fin_in ∙ ap (λ x. x.flags.fin_in) (sym (g.pushes.inputs i)) ∙ e in
+      let before : (kept_input p i).fin_in ≡ true = sym (follows.inputs i lt).fin_in
+      ∙ ap (λ x. x.flags.fin_in) (sym (g.pushes.inputs i)) ∙ e in
       elim (had-counts kept.ports) [
         | inl none ↦ never-in i none before
         | inr n ↦ elim (kept.closes i before) [
-          | inl all ↦ inl ((let z = n.1 in let some = all.some in omega (arith, z, some)), (λ o less. g.pushes.closed o ∙ (g.follows.outputs o less).fin_in (all.closed o (let z = n.1 in omega (arith, z, less)))))
+          | inl all ↦ inl (
+            omega (arith, n, all.some),
+            (λ o less. g.pushes.closed o
+                ∙ (follows.outputs o less).fin_in (all.closed o (omega (arith, n, less)))),
+          )
           | inr enough ↦ inr enough
         ]
       ]
@@ -226,7 +227,7 @@ module _ (kind : Kind) (d : Option ReaderView) (kernel : KernelState)
           | inr x ↦ absurd (elim (was-finished ins outs kept o lt fin) [
             | inl all ↦ holds-unended (input_at u x.input).flags x.holds (all x.input (let n = x.in_range in omega (arith, n, g.pushes.ins)))
             | inr enough ↦ x.unfinished (omega (arith, lt, g.pushes.outs)) (λ j less.
-                let one = shelled.enough_one ins enough (in_count v) (out_count v) g.ports in
+                let one = so.shelled.enough_one ins enough (in_count v) (out_count v) ports in
                 let z : o ≡ j = omega (arith, one, lt, less, g.pushes.outs) in
                 subst (λ n. is_out_finished (output_at u n) ≡ true) z (ap (λ c. c || (output_at u o).fin_in) fin))
           ])
@@ -236,10 +237,8 @@ module _ (kind : Kind) (d : Option ReaderView) (kernel : KernelState)
       }
 
   kept-in-range : (o : ℕ) → (kept_output q o).fin_out ≡ true → (o < out_count w) × ((output_at w o).fin_out ≡ true)
-  kept-in-range o fin = elim (cases_lt o (out_count w)) [
-    | inl lt ↦ (lt, ap (λ f. f.fin_out) (sym (kept_output-of q w g.view o lt)) ∙ fin)
-    | inr le ↦ let f : false ≡ true = ap (λ f. f.fin_out) (sym (kept_output-past q w g.view o le)) ∙ fin in absurd (cc)
-  ]
+  kept-in-range o fin =
+      grind (arith, common_steps, kept_output-of, last-view, never-true, kept_output-past)
 
   -- an output that it has finished was so before, or is so now
   finishes-now : (o : ℕ) → (kept_output q o).fin_out ≡ true → ((o < out_count v) × ((output_at u o).fin_out ≡ true)) ⊎ EndsNow (record kernel { own = b }) m k u
@@ -251,9 +250,14 @@ module _ (kind : Kind) (d : Option ReaderView) (kernel : KernelState)
   made-rows : (outs worked : Lists) → Means (reading_of p) s a worked outs (chunk_rows (held_made h)) → Means (reading_of p) s b worked (with_pushed v w outs) (chunk_rows (held_made k))
   made-rows outs worked t =
       g.turns.leaves.means (reading_of p) worked (with_pushed v w outs) (chunk_rows (held_made k))
-      (shelled.lets_push (reading_of p) a worked outs (with_pushed v w outs) (in_count v) (out_count v) g.pushes.out g.pushes.left (held_made k) g.ports
+      (so.shelled.lets_push (reading_of p) a worked outs (with_pushed v w outs) (in_count v)
+      (out_count v) g.pushes.out g.pushes.left (held_made k) ports
       (elim g.pushes.by [
-        | inl x ↦ inl (x.0, (let lt = x.0 in let few = g.few in omega (arith, lt, few)), ap (λ l. outs g.pushes.out ++ l) (pushed-is g.pushes.out ∙ x.1))
+        | inl x ↦ inl (
+          x.0,
+          omega (arith, x.0, few),
+          ap (λ l. outs g.pushes.out ++ l) (pushed-is g.pushes.out ∙ x.1),
+        )
         | inr none ↦ inr none
       ])
       (λ j ne. ap (λ l. outs j ++ l) (pushed-others j ne) ∙ append-nil (outs j))
@@ -289,8 +293,8 @@ module _ (kind : Kind) (d : Option ReaderView) (kernel : KernelState)
       → HasReadEnough (Some s) (with_pulled v w ins)
   now-enough ins outs kept e enough =
       let fit : AllFit (Some s) ins = λ i j d lt. enough.any i (get_or (ins i) j d).types in
-      let t : KeepsMeant s p ins outs = shelled.from p ins outs (viewed kept.ports) kept.idle
-      g.not_handed_out (kept.rows fit) in
+      let t : KeepsMeant s p ins outs = so.shelled.from p ins outs (viewed kept.ports) kept.idle
+      run.not_handed_out (kept.rows fit) in
       let none : held_unworked h ≡ [] = sym g.pushes.unworked ∙ ap held_unworked e in
       let all : (i : ℕ) → ins i ≡ t.worked i = λ i. t.ins_are i
       ∙ ap (λ l. t.worked i ++ l) (cond-none (i == source_of h) (held_unworked h) none)
@@ -324,10 +328,13 @@ module _ (kind : Kind) (d : Option ReaderView) (kernel : KernelState)
 
   consumers-closed : 0 < out_count v → ((o : ℕ) → o < out_count v → (output_at u o).fin_in ≡ true) → AllOutputsClosed q
   consumers-closed some all =
-      let n = kept_outputs-of q w g.view in
+      let n = kept_outputs-of q w last-view in
       record {
         some = omega (arith, n, some, outs-w);
-        closed = λ o lt. let less : o < out_count v = omega (arith, n, lt, outs-w) in ap (λ f. f.fin_in) (kept_output-of q w g.view o (omega (arith, less, outs-w))) ∙ mv.consumers o ∙ all o less;
+        closed = λ o lt.
+            let less : o < out_count v = omega (arith, n, lt, outs-w) in
+            ap (λ f. f.fin_in) (kept_output-of q w last-view o (omega (arith, less, outs-w)))
+            ∙ mv.consumers o ∙ all o less;
       }
 
   closes-right : (ins outs : Lists) → Keeps p ins outs → (i : ℕ) → i < in_count v
@@ -357,7 +364,7 @@ module _ (kind : Kind) (d : Option ReaderView) (kernel : KernelState)
       → NotesEnd (Some s) b i → is_ended (input_at u i).flags ≡ true
       → (input_at u i).flags.fin_in ≡ false → unworked_at p.work i ≡ [] → IsReadUp q i
   stays-read ins outs kept i lt n ended unclosed none =
-      let here = kept_input-of q w g.view i (omega (arith, lt, ins-w)) in
+      let here = kept_input-of q w last-view i (omega (arith, lt, ins-w)) in
       record {
         at_end = ap is_ended here ∙ mv.ended i ended;
         not_closed = ap (λ f. f.fin_in) here ∙ false_from_ne_true (input_at w i).flags.fin_in (λ e.
@@ -391,7 +398,7 @@ module _ (kind : Kind) (d : Option ReaderView) (kernel : KernelState)
             (elim (had-counts kept.ports) [ inl e ↦ inl e | inr e ↦ inr e.0 ]) lt in
             let was = kept.noted i there
             (noted-own s a a.gathered (gathered_with s a.gathered (held_unworked h)) i before) in
-            let f = g.follows.inputs i lt in
+            let f = follows.inputs i lt in
             stays (ap (λ x. is_ended x.flags) same ∙ ended-stays (kept_input p i)
             (input_at v i).flags f was.at_end)
             (ap (λ x. x.flags.fin_in) same ∙ f.fin_in ∙ was.not_closed) was.all_worked
@@ -435,21 +442,20 @@ module _ (kind : Kind) (d : Option ReaderView) (kernel : KernelState)
       ]
 
   -- it keeps its contract over the prepare, where its kind keeps its rows
-  pub keeps-over : PulledOn p q → new.total ≡ raised old.total (rows_pulled v w)
-      → IsWorkOf (Some s) q.work → KeepsOver p v q w
-  keeps-over on pulled idle ins outs kept =
+  pub keeps-over : KeepsOver p v q w
+  keeps-over ins outs kept =
       let more = with_pulled v w ins in
       let P : Table → Type 0 = λ t. MakesTypes (Some s) ins t.types in
       let Q : Table → Type 0 = λ t. MakesTypes (Some s) more t.types in
       let still : (t : Table) → P t → Q t = λ t. makes-more (Some s) v w ins t.types in
       record {
-        ports = subst (λ x. HadPorts x q) (sym g.view)
-            (inl (rw (kept-count w ∙ ins-w, outs-count w ∙ outs-w) g.ports));
-        idle = idle;
-        rows = λ f. shelled.into q more (with_pushed v w outs) idle
+        ports = subst (λ x. HadPorts x q) (sym last-view)
+            (inl (rw (kept-count w ∙ ins-w, outs-count w ∙ outs-w) ports));
+        idle = so.uses;
+        rows = λ f. so.shelled.into q more (with_pushed v w outs) so.uses
             (made-all (HasSize (Some s)) kept.made_sizes)
-            (through ins outs kept (shelled.from p ins outs (viewed kept.ports) kept.idle
-            g.not_handed_out (kept.rows (fits-front (Some s) v w ins f))));
+            (through ins outs kept (so.shelled.from p ins outs (viewed kept.ports) kept.idle
+            run.not_handed_out (kept.rows (fits-front (Some s) v w ins f))));
         types = λ o. All-append Q (outs o) (pushed_at v w o)
             (All-weaker P Q still (outs o) (kept.types o))
             (All-weaker P Q still (pushed_at v w o) (pushed-all P kept.made_types o));
@@ -458,28 +464,27 @@ module _ (kind : Kind) (d : Option ReaderView) (kernel : KernelState)
             (pushed-all (HasSize (Some s)) kept.made_sizes o);
         made_sizes = made-all (HasSize (Some s)) kept.made_sizes;
         unworked = unworked-pulled ins kept.unworked;
-        counted = counted-more p q v w ins on pulled kept.counted;
+        counted = counted-more p q v w ins
+            (record { count = g.counts.grows; since = g.counts.since })
+            (pulled-so h m v u w old new g.pushes g.counts) kept.counted;
         finishes = λ o fin.
             let x = kept-in-range o fin in
             let lt : o < out_count v = let n = x.0 in omega (arith, n, outs-w) in
             elim (ends-finished ins outs kept o lt x.1) [
               | inl all ↦ inl (λ i less.
-                  let n = kept_inputs-of q w g.view in
+                  let n = kept_inputs-of q w last-view in
                   let z : i < in_count w = omega (arith, n, less) in
-                  ap is_ended (kept_input-of q w g.view i z) ∙ all i (omega (arith, z, ins-w)))
+                  ap is_ended (kept_input-of q w last-view i z) ∙ all i (omega (arith, z, ins-w)))
               | inr e ↦ inr e
             ];
         closes = λ i fin. elim (cases_lt i (in_count w)) [
           | inl lt ↦ closes-right ins outs kept i (omega (arith, lt, ins-w))
-              (ap (λ f. f.fin_in) (sym (kept_input-of q w g.view i lt)) ∙ fin)
-          | inr le ↦
-              let f : false ≡ true = ap (λ f. f.fin_in) (sym (kept_input-past q w g.view i le))
-              ∙ fin in
-              absurd (cc)
+              (ap (λ f. f.fin_in) (sym (kept_input-of q w last-view i lt)) ∙ fin)
+          | inr le ↦ never-true _ (ap (λ f. f.fin_in) (kept_input-past q w last-view i le)) fin
         ];
         noted = λ i there n.
             let lt : i < in_count w =
-            subst (λ k. i < k) (kept-count w) (subst (λ x. MayBeInput x i) g.view there) in
+            subst (λ k. i < k) (kept-count w) (subst (λ x. MayBeInput x i) last-view there) in
             noted-right ins outs kept i (omega (arith, lt, ins-w))
             (noted-own s b (gathered_with s b.gathered (held_unworked k)) b.gathered i n);
       }

@@ -4,7 +4,6 @@ pub mod PortSteps
 pub mod PushLaws
 pub mod TurnLaws
 pub mod KeepLaws
-pub mod SameView
 pub mod BoxLaws
 pub mod Through
 pub mod Resizing

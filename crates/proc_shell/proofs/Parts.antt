@@ -1,6 +1,6 @@
 -- A source of a part's rows has no input and one output.
 use Rattle.proc_shell.proofs.KeepLaws.{cond-none}
-use Rattle.proc_shell.proofs.Imports.{All, AreRead, BoxPicture, HasSize, HasSpecView, IsShelled, IsWorkOf, KeepsMeant, KeepsPart, List, Lists, PartSpec, Row, Some, Stage, Table, [], ap, append-nil, append_assoc, ap₂, arith, chunk_rows, false, inl, inr, kept_output, length, length-append, no_table, own_of, part, part_kernel, reading_of, refl, subst, sym, true, work_of, ℕ, ◌++◌, ◌<◌, ◌==◌, ◌∙◌, ◌∷◌, ◌≡◌, ◌⊎◌}
+use Rattle.proc_shell.proofs.Imports.{All, AreRead, BoxPicture, HasSize, HasSpecView, IsShelled, IsWorkOf, KeepsMeant, KeepsPart, List, Lists, PartSpec, Row, Some, Stage, Table, [], ap, append-nil, append_assoc, ap₂, arith, chunk_rows, common_steps, false, kept_output, length, length-append, no_table, own_of, part, part_kernel, reading_of, refl, subst, sym, true, work_of, ℕ, ◌++◌, ◌<◌, ◌==◌, ◌∙◌, ◌∷◌, ◌≡◌, ◌⊎◌}
 use Rattle.query_model.specs.declared.processor_spec.Spec.TheVariants as spec
 use Rattle.proc_shell.proofs.PortMoves.{both-none}
 use Rattle.proc_shell.proofs.Through.{IsInOrder, only-output, pushes-in-order}
@@ -8,10 +8,7 @@ use Rattle.proc_shell.proofs.Through.{IsInOrder, only-output, pushes-in-order}
 -- nothing is unworked, since no input is wanted
 pub part_uses : (part : PartSpec) (unmade : List Row) (stage : Stage) (i : ℕ) (unworked made : List Table) → ((i ≡ 0) × (unworked ≡ [])) ⊎ (false ≡ true)
     → IsWorkOf (Some (spec.Csv part)) (work_of (part_kernel part unmade stage) i unworked made)
-part_uses part unmade stage i unworked made e = elim e [
-  | inl z ↦ ap₂ (λ n l. work_of (part_kernel part unmade stage) n l made) z.0 z.1
-  | inr z ↦ absurd (cc)
-]
+part_uses part unmade stage i unworked made e = grind (arith, common_steps)
 
 -- chunks with rows are none where there are no rows
 no-chunks : (P : Table → Type 0) (made : List Table) → ((t : Table) → P t → 0 < length t.rows) → All P made → chunk_rows made ≡ [] → made ≡ []

@@ -1,32 +1,13 @@
 -- Pushing what was made.
 use Rattle.proc_shell.proofs.BoxLaws.{by-rows}
-use Rattle.proc_shell.proofs.Imports.{Held, IsCrowded, IsFree, IsSound, List, Made, Nothing, Picture, Pushes, Some, Table, Unworked, [], after_push, ap, arith, by-place, cases_lt, changed-by-none, changed-by-one, empty-of, held_made, held_option, held_unworked, inl, inr, is_out_finished, just-pushed, length, none-pushed, out_count, output_at, push-turns, push_call, refl, source_of, subst, sym, ℕ, ◌++◌, ◌<◌, ◌∙◌, ◌∷◌, ◌≡◌, ◌⊎◌}
+use Rattle.proc_shell.proofs.Imports.{Held, IsCrowded, IsFree, IsSound, List, Made, Nothing, PassesOn, Picture, Pushes, Table, Unworked, [], after_push, ap, arith, by-place, changed-by-none, changed-by-one, common_steps, empty-of, held_made, held_unworked, inl, inr, is_out_finished, just-pushed, length, none-pushed, out_count, output_at, push-turns, push_call, refl, source_of, subst, sym, ℕ, ◌++◌, ◌<◌, ◌∷◌, ◌≡◌, ◌⊎◌}
 use Rattle.proc_shell.proofs.PortMoves.{never-true}
 
 -- the view stays, and these chunks are dropped, where there is no output
 still-pushes : (h k : Held) (left : List Table) (v : Picture) → IsSound v → held_made h ≡ left ++ held_made k → held_unworked k ≡ held_unworked h
     → source_of k ≡ source_of h → (left ≡ []) ⊎ (out_count v ≡ 0) → (0 < length (held_made k) → IsCrowded v) → Pushes h k v v
-still-pushes h k left v sound made unworked source e waits = record {
-  changed = changed-by-none v;
-  ins = refl;
-  outs = refl;
-  inputs = λ i. refl;
-  finished = λ o. refl;
-  closed = λ o. refl;
-  unworked = unworked;
-  source = source;
-  out = 0;
-  left = left;
-  made = made;
-  by = elim (cases_lt 0 (out_count v)) [
-    | inl lt ↦ elim e [ inl none ↦ inl (lt, none-pushed v v 0 sound refl ∙ sym none) | inr none ↦ inr none ]
-    | inr le ↦ inr (omega (arith, le))
-  ];
-  none = λ none. none-pushed v v 0 sound refl;
-  others = λ o ne. none-pushed v v o sound refl;
-  waits = waits;
-  at_once = λ all. record { inputs = λ i. refl; outputs = λ o. refl };
-}
+still-pushes h k left v sound made unworked source e waits =
+    grind (arith, common_steps, changed-by-none, none-pushed)
 
 -- nothing leaves
 pub pushes-none : (h : Held) (v : Picture) → IsSound v → (0 < length (held_made h) → IsCrowded v) → Pushes h h v v
@@ -65,20 +46,11 @@ pushes-one c v w o sound free e = subst (λ u. Pushes (Made c) Nothing v u) (sym
 
 -- nothing waits but what was made
 pub never-made : {X : Type 0} (h : Held) → ((c : Table) → h ≡ Made c → ⊥) → 0 < length (held_made h) → X
-never-made Nothing never lt = absurd (omega (arith, lt))
-never-made (Unworked i c) never lt = absurd (omega (arith, lt))
-never-made (Made c) never lt = absurd (never c refl)
+never-made h never lt = grind (arith, common_steps)
 
--- a chunk with rows is passed on
-pub passes-some : (c : Table) (v w : Picture) (o : ℕ) → 0 < length c.rows → IsSound v → IsFree v o
-    → w ≡ after_push v o c → Pushes (held_option (Some c)) Nothing v w
-passes-some c v w o some sound free e = by-rows (λ h. Pushes h Nothing v w) c
-    (λ none. absurd (let l = ap length none in omega (arith, l, some)))
-    (λ more. pushes-one c v w o sound free e)
-
--- a chunk without rows is dropped
-pub passes-none : (c : Table) (v : Picture) → length c.rows ≡ 0 → IsSound v
-    → Pushes (held_option (Some c)) Nothing v v
-passes-none c v none sound = by-rows (λ h. Pushes h Nothing v v) c
-    (λ e. pushes-none Nothing v sound (λ lt. absurd (omega (arith, lt))))
-    (λ some. absurd (omega (arith, none, some)))
+-- a chunk that was pulled is passed on, or dropped where it has no rows
+pub passes-on : (i : ℕ) (c : Table) (h k : Held) (v w : Picture) → IsSound v → h ≡ Unworked i c
+    → k ≡ Nothing → (0 < length c.rows → Pushes (Made c) Nothing v w) → (c.rows ≡ [] → w ≡ v)
+    → PassesOn h k v w
+passes-on i c h k v w sound before after some none =
+    grind (arith, common_steps, by-rows, pushes-none)

@@ -1,6 +1,6 @@
 -- A prepare that works at once what it pulled is two prepares and a work between them.
-use Rattle.proc_shell.proofs.Imports.{AreAsKept, AreMoved, ArePortsOf, Bool, BoxPicture, CountsRows, FollowsKept, HasSpecPorts, Held, IsKernelOf, IsRunning, IsSound, IsWorkOf, Keeps, KernelState, Kind, List, None, Notes, Option, PartPrepares, PartWorks, PassesOn, Picture, PreparesLawfully, Pushes, ReaderView, Ready, RowCount, ShellPart, Some, Spec, Status, StaysFit, Suits, Table, Takes, Turns, Unworked, WorksHeld, [], and_parts, ap, arith, changed-by-both, false, follows-noted, goes-on, held_made, held_option, held_unworked, in_count, is_wanted, lists-pulled, lists-pushed, ltb-true, nat_lt, out_count, part, part_seen, port_flags, refl, rows-both, rows_pulled, source_of, stands-still, subst, sym, true, with_pulled, with_pushed, with_view, work_of, ℕ, ◌&&◌, ◌<◌, ◌∙◌, ◌∷◌, ◌≡◌, ◌≤◌}
-use Rattle.proc_shell.proofs.BoxLaws.{held-source, held-worked, keeps-work, limits-stay, passes-once}
+use Rattle.proc_shell.proofs.Imports.{AreAsKept, AreMoved, ArePortsOf, Bool, BoxPicture, CountsRows, FollowsKept, HasSpecPorts, Held, IsKernelOf, IsRunning, IsSound, IsWorkOf, Keeps, KernelState, Kind, List, None, Option, PartPrepares, PartWorks, PassesOn, Picture, PreparesLawfully, Pushes, ReaderView, Ready, RowCount, ShellPart, Some, Spec, Status, StaysFit, Suits, Table, Takes, Turns, Unworked, WorksHeld, [], and_parts, ap, arith, changed-by-both, common_steps, follows-noted, goes-on, held_made, held_option, held_unworked, in_count, is_wanted, lists-pulled, lists-pushed, ltb-true, nat_lt, out_count, part, part_seen, port_flags, refl, rows-both, rows_pulled, source_of, stands-still, subst, sym, true, with_pulled, with_pushed, with_view, work_of, ℕ, ◌&&◌, ◌<◌, ◌∙◌, ◌∷◌, ◌≡◌, ◌≤◌}
+use Rattle.proc_shell.proofs.BoxLaws.{held-source, held-worked, limits-stay, passes-once, works-part}
 use Rattle.proc_shell.proofs.KeepLaws.{kept-count, outs-count}
 use Rattle.proc_shell.proofs.PortMoves.{same-ports}
 
@@ -24,15 +24,10 @@ module _ (k : Kind) (p a b q : ShellPart) (n m l : RowCount) (v u w : Picture) (
   noted = ap (λ z. z.view) work.notes ∙ ap (λ z. z.view) first.notes
 
   kernel-both : IsKernelOf p.kernel q.kernel
-  kernel-both =
-      last.suits.kernel ∙ ap (λ (z : KernelState). record z { own = q.kernel.own })
-      (work.suits.kernel
-      ∙ ap (λ (z : KernelState). record z { own = b.kernel.own }) first.suits.kernel)
+  kernel-both = grind (arith, common_steps)
 
   notes-both : q.notes ≡ with_view w s (record p.notes { fits = last.fits })
-  notes-both =
-      last.notes ∙ ap (λ (z : Notes). with_view w s (record z { fits = last.fits }))
-      (work.notes ∙ ap (λ (z : Notes). record z { acted = true }) first.notes)
+  notes-both = grind (arith, common_steps)
 
   lawful-both : (d : Option ReaderView) → IsRunning (part_seen k d n p)
       → FollowsKept (part_seen k d n p) v
@@ -42,11 +37,11 @@ module _ (k : Kind) (p a b q : ShellPart) (n m l : RowCount) (v u w : Picture) (
     comes = y.comes;
     pulled = let rows = rows-both v u w sound first.changed last.changed in
         let more = x.pulled in let rest = y.pulled in omega (arith, rows, more, rest);
-    limits = limits-stay k d p q n l w s last.fits kernel-both notes-both run.faultless;
+    limits = limits-stay _ _ _ _ _ _ w _ _ kernel-both notes-both run.faultless;
     fits = λ fit. y.fits (fits-on fit);
     keeps = λ fit ins outs kept.
-        let same = keeps-work k d m a b work out (with_pulled v u ins) (with_pushed v u outs)
-        (x.keeps fit ins outs kept) in
+        let same = (works-part k d m a b work after).keeps refl (with_pulled v u ins)
+        (with_pushed v u outs) (x.keeps fit ins outs kept) in
         subst (λ i. Keeps Q i (with_pushed v w outs))
         (lists-pulled v u w sound first.changed last.changed ins)
         (subst (Keeps Q (with_pulled u w (with_pulled v u ins)))
@@ -67,14 +62,18 @@ module _ (k : Kind) (p a b q : ShellPart) (n m l : RowCount) (v u w : Picture) (
       x : PreparesLawfully (part_seen k d n p) v (part_seen k d m a) u Ready
       x = first.lawful d run f
 
-      out : a.kernel.stage.handed_out ≡ false
-      out = ap (λ z. z.stage.handed_out) first.suits.kernel ∙ run.not_handed_out
+      after : IsRunning (part_seen k d m a)
+      after = record {
+        loaded = refl;
+        faultless = ap (λ z. z.fault) first.notes ∙ run.faultless;
+        not_handed_out = ap (λ z. z.stage.handed_out) first.suits.kernel ∙ run.not_handed_out;
+      }
 
       between : IsRunning B
       between = record {
         loaded = refl;
-        faultless = ap (λ z. z.fault) work.notes ∙ ap (λ z. z.fault) first.notes ∙ run.faultless;
-        not_handed_out = ap (λ z. z.stage.handed_out) work.suits.kernel ∙ out;
+        faultless = ap (λ z. z.fault) work.notes ∙ after.faultless;
+        not_handed_out = ap (λ z. z.stage.handed_out) work.suits.kernel ∙ after.not_handed_out;
       }
 
       y : PreparesLawfully B u Q w s

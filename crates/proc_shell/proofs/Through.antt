@@ -1,7 +1,6 @@
 -- Kinds of one input and one output, and among them those that make something of each chunk by itself.
-use Rattle.proc_shell.proofs.Imports.{AreCounts, AreLastPulled, ArePortsOf, BadPlace, Bool, BoxPicture, FitsInput, Flags, GrowthForm, HasMade, HasNotedEnd, HasReadEnough, HasSpecView, IfSome, IsAtMost, IsPermutation, IsPulled, IsReadOut, IsShelled, IsWanting, IsWorkOf, KeepsMade, KeepsMeant, KeepsRows, KeepsThrough, KernelState, LetsPush, List, Lists, Makes, MakesTypes, Means, None, Offers, Option, OwnState, Picture, PortFlags, Reading, Row, Some, Spec, StandStill, Table, Takes, WorkState, [], all_rows, ap, append-nil, append_assoc, append_cancel_right, arith, by-place, cases_lt, chunk_rows, common_steps, cond, drop, drop-append_seam, eq-eqb, eqb-true, false, gathered_with, get_or, get_or-eq_default, in_count, inl, inr, kept_output, kept_ports, length, more-rows, most_rows, ne_eqb, no_flags, own_of, part, reading_of, refl, rows-append, rows_of, subst, sym, take, take-append-drop, true, unworked_at, with_chunk, work_of, ℕ, ◌++◌, ◌<◌, ◌==◌, ◌∙◌, ◌∷◌, ◌≡◌, ◌≢◌, ◌⊎◌}
+use Rattle.proc_shell.proofs.Imports.{AreCounts, AreLastPulled, ArePortsOf, BadPlace, Bool, BoxPicture, FitsInput, GrowthForm, HasMade, HasNotedEnd, HasReadEnough, HasSpecView, IfSome, IsAtMost, IsPermutation, IsPulled, IsReadOut, IsShelled, IsWorkOf, KeepsMade, KeepsMeant, KeepsRows, KeepsThrough, KernelState, LetsPush, List, Lists, Makes, MakesTypes, Means, None, Option, OwnState, PortFlags, Reading, Row, Some, Spec, StandStill, Table, Takes, WorkState, [], all_rows, ap, append-nil, append_assoc, append_cancel_right, arith, by-place, chunk_rows, common_steps, cond, drop, drop-append_seam, eq-eqb, eqb-true, false, gathered_with, get_or-eq_default, inl, inr, kept_output, length, more-rows, most_rows, ne_eqb, own_of, part, reading_of, refl, rows-append, rows_of, subst, sym, take, take-append-drop, true, unworked_at, with_chunk, work_of, ℕ, ◌++◌, ◌<◌, ◌==◌, ◌∙◌, ◌∷◌, ◌≡◌, ◌≢◌, ◌⊎◌}
 use Rattle.query_model.specs.declared.processor_spec.Spec.TheVariants as spec
-use Rattle.proc_shell.specs.declared.kernel.Offer.TheVariants as offer
 
 -- ---- what is worked
 
@@ -30,31 +29,7 @@ all-more i t worked lt =
 
 -- a kind of which nothing is left to be made
 pub makes-nothing : (s : Spec) (own : OwnState) → own.unmade ≡ [] → Makes s own own None
-makes-nothing s own e = record {
-  means = λ x worked outs h. h;
-  types = λ ins. tt;
-  sizes = tt;
-  progress = inr e;
-  nothing = λ n. (refl, refl);
-  ends = λ i n. n;
-}
-
--- it wants a chunk of each input
-pub offers-wants : (s : Spec) (wants : ℕ → Bool) (v : Picture) (own : OwnState) → ((i : ℕ) → i < in_count v → wants i ≡ true) → own.unmade ≡ [] → IsWanting (Some s) own.read → HasNotedEnd s own → Offers wants s v own own offer.Wants
-offers-wants s wants v own all e wanting noted = record {
-  leaves = record { means = λ x worked outs wait h. h; stays_over = λ n x. (n, x) };
-  comes = record { nothing = e; wanting = wanting; all_over = λ over i lt. over i lt (all i lt); noted = λ over. noted };
-  ends = λ i lt n. inl n;
-}
-
--- a chunk that doesn't fit is dropped
-pub takes-none : (s : Spec) (own : OwnState) (i : ℕ) (t : Table) → (FitsInput (Some s) i t.types → ⊥) → Takes s own i t own None
-takes-none s own i t never = record {
-  means = λ x fits. absurd (never fits);
-  types = λ ins pulled. tt;
-  sizes = tt;
-  ends = λ i n. n;
-}
+makes-nothing s own e = grind (arith, common_steps)
 
 -- ---- one output
 
@@ -65,16 +40,8 @@ pub record IsInOrder (s : Spec) : Type 1 where
   pub from : (x : Reading) (own : OwnState) (worked outs : Lists) (wait : List Row) → Means x s own worked outs wait → means x own worked (chunk_rows (outs 0) ++ wait)
 
 pub pushes-in-order : (s : Spec) → IsInOrder s → ((inputs outputs : ℕ) → ArePortsOf (Some s) None inputs outputs → outputs ≡ 1) → LetsPush s
-pushes-in-order s k one x own worked outs more inputs outputs o pushed rest ports (inr none) others h = absurd (let e = one inputs outputs ports in omega (arith, e, none))
-pushes-in-order s k one x own worked outs more inputs outputs o pushed rest ports (inl at) others h =
-    let z : o ≡ 0 = let e = one inputs outputs ports in let lt = at.0 in omega (arith, e, lt) in
-    let first : more 0 ≡ outs 0 ++ pushed = subst (λ n. more n ≡ outs n ++ pushed) z at.2 in
-    k.into x own worked more (chunk_rows rest)
-    (subst (k.means x own worked) (sum (chunk_rows (outs 0)) (chunk_rows pushed) (chunk_rows rest) (chunk_rows (pushed ++ rest)) (chunk_rows (more 0)) (rows-append pushed rest) (ap chunk_rows first ∙ rows-append (outs 0) pushed))
-    (k.from x own worked outs (chunk_rows (pushed ++ rest)) h))
-  where
-    sum : (x a b ab m : List Row) → ab ≡ a ++ b → m ≡ x ++ a → x ++ ab ≡ m ++ b
-    sum x a b ab m e f = ap (λ l. x ++ l) e ∙ sym (append_assoc x a b) ∙ ap (λ l. l ++ b) (sym f)
+pushes-in-order s k one x own worked outs more inputs outputs o pushed rest ports at others h =
+    grind (arith, common_steps, rows-append)
 
 -- ---- kinds that read no file and gather nothing
 
@@ -109,15 +76,7 @@ meant-of s e p ins outs t =
     }
 
 made-of : (s : Spec) → is_plain s ≡ true → (p : BoxPicture) (ins outs : Lists) → KeepsMeant s p ins outs → KeepsMade s p ins outs
-made-of s e p ins outs t =
-    let k = plain s e in
-    let same : own_of p.work ≡ t.own = t.shows ∙ ap (λ l. record t.own { gathered = l }) (k.shown t.own.gathered p.work.unworked) in
-    record {
-      worked = t.worked;
-      ins_are = t.ins_are;
-      rows = subst (λ own. HasMade s own t.worked outs (chunk_rows p.work.made)) (sym same) (k.made (reading_of p) t.own t.worked outs (chunk_rows p.work.made) t.rows);
-      over = t.over;
-    }
+made-of s e p ins outs t = grind (arith, common_steps, plain)
 
 -- a kind with so many inputs and one output
 pub record HasPortCounts (s : Spec) (inputs : ℕ) : Type 0 where
@@ -230,14 +189,7 @@ pub record IsSpecOutput (s : Spec) (o : ℕ) : Type 0 where
 
 pub spec-output : (s : Spec) (p : BoxPicture) → HasSpecView s p → (o : ℕ) → (kept_output p o).fin_out ≡ true → IsSpecOutput s o
 unfolding kept_output
-spec-output s p seen o fin = go p.notes.view seen fin
-  where
-    go : (x : Option PortFlags) → IfSome x (λ (ports : PortFlags). ArePortsOf (Some s) None (length ports.inputs) (length ports.outputs)) → (get_or (kept_ports x).outputs o no_flags).fin_out ≡ true → IsSpecOutput s o
-    go None y f = absurd (cc)
-    go (Some ports) y f = elim (cases_lt o (length ports.outputs)) [
-      | inl lt ↦ record { inputs = length ports.inputs; outputs = length ports.outputs; ports = y; within = lt }
-      | inr le ↦ let e : false ≡ true = ap (λ (z : Flags). z.fin_out) (sym (get_or-eq_default ports.outputs no_flags le)) ∙ f in absurd (cc)
-    ]
+spec-output s p seen o fin = grind (arith, common_steps, get_or-eq_default)
 
 -- the only output that it can have finished is the first
 pub only-output : (s : Spec) (inputs : ℕ) → HasPortCounts s inputs → (p : BoxPicture) → HasSpecView s p → (o : ℕ) → (kept_output p o).fin_out ≡ true → o ≡ 0
@@ -250,21 +202,8 @@ only-output s inputs c p seen o fin =
 -- ---- the contract of such kinds is that of `KeepsThrough`
 
 pub into-through : (s : Spec) (make : List Row → List Row) → IsMaker s make → (p : BoxPicture) (ins outs : Lists) → KeepsMade s p ins outs → p.work.source ≡ 0 → KeepsThrough make p ins outs
-into-through s make k p ins outs t source = record {
-  rows =
-      let made = k.from (own_of p.work) t.worked outs (chunk_rows p.work.made) t.rows in
-      let all = ap (λ l. make (chunk_rows l)) ins-are ∙ ap make (rows-append (t.worked 0) p.work.unworked) ∙ k.each.both (chunk_rows (t.worked 0)) (chunk_rows p.work.unworked) in
-      sum (chunk_rows (outs 0)) (chunk_rows p.work.made) (make (chunk_rows p.work.unworked)) (make (chunk_rows (t.worked 0))) (make (chunk_rows (ins 0))) made all;
-  nothing_waits = λ fin. let over = t.over 0 fin in over.nothing_waits;
-  all_worked = λ fin. let over = t.over 0 fin in over.all_worked;
-  last = last-here p.work.unworked (t.worked 0) (ins 0) ins-are;
-}
-  where
-    ins-are : ins 0 ≡ t.worked 0 ++ p.work.unworked
-    ins-are = here-unworked p source ins t.worked t.ins_are
-
-    sum : (x m u w i : List Row) → x ++ m ≡ w → i ≡ w ++ u → x ++ (m ++ u) ≡ i
-    sum x m u w i a b = grind (arith, common_steps)
+into-through s make k p ins outs t source =
+    grind (arith, common_steps, rows-append, last-here, here-unworked)
 
 pub from-through : (s : Spec) (make : List Row → List Row) → IsMaker s make → (p : BoxPicture) (ins outs : Lists) → p.work.unmade ≡ [] → p.work.source ≡ 0 → ((o : ℕ) → (kept_output p o).fin_out ≡ true → o ≡ 0) → KeepsThrough make p ins outs → KeepsMade s p ins outs
 from-through s make k p ins outs none source only t =

@@ -26,59 +26,44 @@ pub record ReaderView : Type 0 where
   pub pendings : ℕ
 
 -- what is seen of a reader, if there is one
+abbrev pub reader_by : Option ReaderView → ReaderView
+reader_by None = record { files = None; faults = 0; pendings = 0 }
+reader_by (Some r) = r
+
 abbrev pub files_by : Option ReaderView → Option Files
-files_by None = None
-files_by (Some r) = r.files
-
-abbrev pub faults_by : Option ReaderView → ℕ
-faults_by None = 0
-faults_by (Some r) = r.faults
-
-abbrev pub pendings_by : Option ReaderView → ℕ
-pendings_by None = 0
-pendings_by (Some r) = r.pendings
+files_by d = (reader_by d).files
 
 -- what was noted of it
 abbrev pub noted_by : Option ReaderView → ℕ → ℕ
 noted_by None n = 0
 noted_by (Some r) n = n
 
--- a blank processor of a kind
-abbrev pub blank_seen : Kind → Option ReaderView → RowCount → BoxPicture
-blank_seen k d count = record {
+-- a processor of a kind, by its spec, its state and its notes
+abbrev pub box_seen : Kind → Option ReaderView → RowCount → Option Spec → WorkState → Notes
+    → BoxPicture
+box_seen k d count s w n = record {
   kind = k;
   lawful = true;
   files = files_by d;
-  spec = None;
-  faults = faults_by d;
-  pendings = pendings_by d;
+  spec = s;
+  faults = (reader_by d).faults;
+  pendings = (reader_by d).pendings;
   pulled = count.total;
-  work = idle_work;
-  notes = no_notes;
+  work = w;
+  notes = n;
   growth = None;
 }
 
 abbrev pub part_seen : Kind → Option ReaderView → RowCount → ShellPart → BoxPicture
-part_seen k d count p = record {
-  kind = k;
-  lawful = true;
-  files = files_by d;
-  spec = Some p.kernel.spec;
-  faults = faults_by d;
-  pendings = pendings_by d;
-  pulled = count.total;
-  work = part_work p;
-  notes = record p.notes {
-    given = noted_by d p.notes.given;
-    faults = noted_by d p.notes.faults;
-    pendings = noted_by d p.notes.pendings;
-    pulled = count.since;
-  };
-  growth = None;
-}
+part_seen k d count p = box_seen k d count (Some p.kernel.spec) (part_work p) (record p.notes {
+  given = noted_by d p.notes.given;
+  faults = noted_by d p.notes.faults;
+  pendings = noted_by d p.notes.pendings;
+  pulled = count.since;
+})
 
 abbrev pub shell_seen : Kind → Option ReaderView → RowCount → Option ShellPart → BoxPicture
-shell_seen k d count None = blank_seen k d count
+shell_seen k d count None = box_seen k d count None idle_work no_notes
 shell_seen k d count (Some p) = part_seen k d count p
 
 -- a shell, which counts the rows that it pulled

@@ -1,6 +1,6 @@
 -- What a shell holds, and what the steps of a prepare find and change at its ports.
 use Rattle.std.specs.Prelude.{◌&&◌, ◌+◌, ◌<◌, ◌∷◌, ◌≡◌, ◌≤◌}
-use Rattle.proc_shell.specs.Prelude.{Answer, Bool, ChangedByCalls, Held, InputPort, List, Made, None, Nothing, Option, Picture, Prepared, Row, RowCount, Scheduled, Some, Table, TurnsInput, Unworked, [], can_push, chunk_rows, closed, cond, false, holds_data, in_count, input_at, is_in_finished, is_out_finished, length, nat_lt, needing, not, out_count, output_at, pushes_to, raised, true, ℕ}
+use Rattle.proc_shell.specs.Prelude.{Answer, Bool, ChangedByCalls, Held, InputPort, List, Made, None, Nothing, Option, Picture, Prepared, Row, RowCount, Scheduled, Some, Table, TurnsInput, Unworked, [], can_push, closed, cond, false, holds_data, in_count, input_at, is_in_finished, is_out_finished, nat_lt, needing, not, out_count, output_at, pushes_to, raised, true, ℕ}
 use Rattle.proc_api.specs.declared.status.Status.TheVariants as status
 use Rattle.proc_api.specs.declared.status.Wake.TheVariants as wake
 
@@ -21,22 +21,6 @@ abbrev pub source_of : Held → ℕ
 source_of Nothing = 0
 source_of (Unworked i c) = i
 source_of (Made c) = 0
-
-abbrev pub is_nothing : Held → Bool
-is_nothing Nothing = true
-is_nothing (Unworked i c) = false
-is_nothing (Made c) = false
-
-abbrev pub is_unworked : Held → Bool
-is_unworked Nothing = false
-is_unworked (Unworked i c) = true
-is_unworked (Made c) = false
-
--- no chunk waits to be pushed
-abbrev pub not_made : Held → Bool
-not_made Nothing = true
-not_made (Unworked i c) = true
-not_made (Made c) = false
 
 -- what isn't worked came from an input from which a chunk was wanted, and a kind that makes none holds none
 abbrev pub is_wanted : (ℕ → Bool) → (makes : Bool) → Held → Bool
@@ -67,11 +51,6 @@ suits a acted Nothing = true
 suits a acted (Unworked i c) = true
 suits a acted (Made c) = not (is_due a acted)
 
--- the rows that were pulled in a prepare, by whether a chunk was unworked before it, and what is held after it
-abbrev pub rows_since : Bool → Held → ℕ
-rows_since true h = 0
-rows_since false h = length (chunk_rows (held_unworked h))
-
 -- so many rows were counted
 pub record CountsRows (rows : ℕ) (old new : RowCount) : Type 0 where
   pub total : new.total ≡ raised old.total rows
@@ -85,6 +64,12 @@ pub record IsFree (v : Picture) (o : ℕ) : Type 0 where
   pub in_range : o < out_count v
   pub room : can_push (output_at v o) ≡ true
   pub unfinished : is_out_finished (output_at v o) ≡ false
+
+-- an output isn't finished
+pub record HasOpen (v : Picture) : Type 0 where
+  pub output : ℕ
+  pub in_range : output < out_count v
+  pub unfinished : is_out_finished (output_at v output) ≡ false
 
 -- a wanted input with data
 pub record IsWantedFull (wants : ℕ → Bool) (v : Picture) (i : ℕ) : Type 0 where

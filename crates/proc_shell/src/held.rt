@@ -1,6 +1,5 @@
 ghost use Rattle.std.specs.Prelude.{◌≡◌};
-ghost use Rattle.proc_shell.specs.Names.{chunk_list, held_option, held_unworked, is_unworked};
-ghost use Rattle.proc_shell.specs.Steps.{rows_since as since};
+ghost use Rattle.proc_shell.specs.Names.{chunk_list, chunk_rows, held_option, held_unworked, length};
 
 use chunk_data::Chunk;
 
@@ -29,20 +28,10 @@ pub(crate) fn held_of(made: Option<Chunk>) -> Held
     }
 }
 
-/// Whether a chunk is held that isn't worked yet.
-pub(crate) fn holds_unworked(held: &Held) -> bool
-    ensures { result ≡ is_unworked held.now }
+/// How many rows are held that aren't worked yet.
+pub(crate) fn unworked_rows(held: &Held) -> usize
+    ensures { result ≡ length (chunk_rows (held_unworked held.now)) }
 {
-    matches!(held, Held::Unworked(_, _))
-}
-
-/// How many rows were pulled, by whether a chunk was unworked before, and what is held now.
-pub(crate) fn rows_since(unworked: bool, held: &Held) -> usize
-    ensures { result ≡ since unworked held.now }
-{
-    if unworked {
-        return 0;
-    }
     match held {
         Held::Unworked(_, chunk) => chunk.rows(),
         _ => 0,

@@ -1,5 +1,5 @@
 ghost use Rattle.std.specs.Prelude.{◌≡◌};
-ghost use Rattle.proc_shell.specs.Names.{Fails, IfErr, IfOk, IsBegun, IsKernelOf, IsLeftOf, OnOk, WorksHeld, is_wanted, kind_of, not_made, part, suits, true};
+ghost use Rattle.proc_shell.specs.Names.{Fails, IfErr, IfOk, IsBegun, IsKernelOf, IsLeftOf, OnOk, WorksHeld, [], held_made, is_wanted, kind_of, part, suits, true};
 
 use crate::held::{Held, held_of, unworked_of};
 use crate::kernel::Kernel;
@@ -26,23 +26,19 @@ pub fn begun<K: Kernel>(alloc: Global, spec: Spec) -> Result<Loaded<K>, Memory>
     requires { kind_of spec ≡ K.kind_is }
     ensures { IfOk result (λ l. IsBegun spec (part (K.state l.kernel) l.held l.notes)) }
 {
-    match BoxNotes::new(alloc) {
-        Ok(notes) => match K::begin(alloc, spec) {
-            Ok(kernel) => Ok(Loaded {
-                kernel,
-                held: Held::Nothing,
-                notes,
-            }),
-            Err(memory) => Err(memory),
-        },
-        Err(memory) => Err(memory),
-    }
+    let notes = BoxNotes::new(alloc)?;
+    let kernel = K::begin(alloc, spec)?;
+    Ok(Loaded {
+        kernel,
+        held: Held::Nothing,
+        notes,
+    })
 }
 
 // What is held after a work.
 fn held_after_work<K: Kernel>(alloc: Global, kernel: &mut K, held: Held) -> Result<Held, WorkFault>
     requires wanted { is_wanted (K.open_to kernel.old) K.makes held ≡ true }
-    requires due { not_made held ≡ true }
+    requires due { held_made held ≡ [] }
     ensures same { OnOk result (IsKernelOf (K.state kernel.old) (K.state kernel.new)) }
     ensures left { IsLeftOf (K.state kernel.old) (K.state kernel.new) }
     ensures wanted { IfOk result (λ h. is_wanted (K.open_to kernel.new) K.makes h ≡ true) }
@@ -50,10 +46,7 @@ fn held_after_work<K: Kernel>(alloc: Global, kernel: &mut K, held: Held) -> Resu
     ensures fails { IfErr result (Fails (K.state kernel.old)) }
 {
     match held {
-        Held::Nothing => match kernel.make(alloc) {
-            Ok(made) => Ok(held_of(made)),
-            Err(fault) => Err(fault),
-        },
+        Held::Nothing => Ok(held_of(kernel.make(alloc)?)),
         Held::Unworked(input, chunk) => match kernel.take(alloc, input, chunk) {
             Ok(made) => Ok(held_of(made)),
             Err(_) => Err(WorkFault::Memory),

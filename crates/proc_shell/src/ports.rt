@@ -1,26 +1,20 @@
-ghost use Rattle.std.specs.Prelude.{◌<◌, ◌↔◌, ◌≡◌, ◌≤◌};
-ghost use Rattle.proc_shell.specs.Names.{AllOutputsFinished, AreWantedEmpty, AreWantedOver, ChangesInput, ChangesInputs, HasNoRoom, IfSome, IsCrowded, IsFree, IsTrue, IsWanted, IsWantedFull, MayMake, None, Some, asked, false, in_count, out_count, shut_open, true, unasked, ℕ};
+ghost use Rattle.std.specs.Prelude.{◌<◌, ◌≡◌, ◌≤◌, ◌⊎◌};
+ghost use Rattle.proc_shell.specs.Names.{AllOutputsFinished, AreWantedEmpty, AreWantedOver, ChangesInput, ChangesInputs, HasNoRoom, HasOpen, IfSome, IsCrowded, IsFree, IsTrue, IsWanted, IsWantedFull, MayMake, None, Some, asked, false, in_count, out_count, shut_open, true, unasked, ℕ};
 
 use crate::kernel::Kernel;
 use port_word::PortView;
 
 /// Whether there is an output, and each was finished, by either end.
 pub(crate) fn is_over(view: &PortView) -> bool
-    ensures { IsTrue result ↔ ((0 < out_count view.now) × AllOutputsFinished view.now) }
-{
-    view.outputs() > 0 && all_finished(view)
-}
-
-// Whether each output was finished.
-fn all_finished(view: &PortView) -> bool
-    ensures { IsTrue result ↔ AllOutputsFinished view.now }
+    ensures over { IsTrue result → (0 < out_count view.now) × AllOutputsFinished view.now }
+    ensures open { result ≡ false → (out_count view.now ≡ 0) ⊎ HasOpen view.now }
 {
     for o in 0..view.outputs() {
         if !view.out_finished(o) {
             return false;
         }
     }
-    true
+    view.outputs() > 0
 }
 
 /// The first output that can take a chunk.

@@ -1,12 +1,12 @@
 use Rattle.proc_shell.proofs.Imports.{[], inl, refl}
 use Rattle.proc_shell.proofs.loaded.begun.Goals as goal
 
-pub returns-in-Ok-begin : goal.returns-in-Ok-begin
-returns-in-Ok-begin g c = record {
-  begins = c.in-Ok-begin.ensures.begins;
-  stage = c.in-Ok-begin.ensures.stage;
+pub returns : goal.returns
+returns g c = record {
+  begins = c.in_ok-kernel.ensures.begins;
+  stage = c.in_ok-kernel.ensures.stage;
   held = refl;
-  notes = c.in-Ok.ensures;
-  shelled = g.met.K.Kernel.shelled c.in-Ok-begin.kernel;
-  uses = g.met.K.Kernel.uses c.in-Ok-begin.kernel 0 [] [] (inl (refl, refl)) (λ e. refl);
+  notes = c.in_ok-notes.ensures;
+  shelled = g.met.K.Kernel.shelled c.in_ok-kernel.kernel;
+  uses = g.met.K.Kernel.uses c.in_ok-kernel.kernel 0 [] [] (inl (refl, refl)) (λ e. refl);
 }

@@ -1,5 +1,5 @@
 use Rattle.proc_shell.proofs.Imports.{is_out_finished, output_at, true, ℕ, ◌<◌, ◌≡◌}
-use Rattle.proc_shell.proofs.ports.all_finished.Given as goal
+use Rattle.proc_shell.proofs.ports.is_over.Given as goal
 
 abbrev pub invariant-loop-o : goal.invariant-loop-o
 invariant-loop-o l = (j : ℕ) → j < l.o → is_out_finished (output_at l.view j) ≡ true
