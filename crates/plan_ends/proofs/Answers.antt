@@ -1,6 +1,6 @@
 -- The end of a run of a plan's graph, by its nodes and its collector.
 use Rattle.std.proofs.Common.{List, Option, Some, [], ap, arith, get_or, is_some, length, length-append, map, refl, subst, suc, sym, true, zero, ℕ, ◌+◌, ◌<◌, ◌∙◌, ◌∷◌, ◌≡◌}
-use Rattle.plan_ends.proofs.Prelude.{AllByRecursion, AllPull, AllTyped, ArePortsOf, BoxPicture, Draft, DraftNode, EachGivesIf, Files, GrowthForm, HasRun, IsBorn, IsGraphOf, IsSmall, KeepsCollect, KeepsRows, Lists, NodeForm, NodePort, PlanGraph, SelectPlan, Spec, Stream, Wire, all_rows, body_nodes, box_at, collect_node, each-same, each-typed, few-inputs, few-outputs, fits, forms, get_or-map, get_or_at, get_or_default, graphs-same, input_count, length-map, map-append, no_box, no_draft, node_form, output-below-count, output_count, plan-fits, plan-graph, plan_nodes, ports_of, ranks-count, rows_of, spec_form, unboxed, with_nodes}
+use Rattle.plan_ends.proofs.Prelude.{AllByRecursion, AllPull, AllTyped, ArePortsOf, BoxPicture, Draft, DraftNode, EachGivesIf, Files, GrowthForm, HasRun, IsBorn, IsGraphOf, IsSmall, KeepsCollect, KeepsRows, Lists, NodeForm, NodePort, PlanGraph, SelectPlan, Spec, Stream, Wire, all_rows, box_at, collect_node, each-same, each-typed, few-inputs, few-outputs, fits, forms, get_or-map, get_or_at, get_or_default, graphs-same, input_count, length-map, map-append, no_box, no_draft, node_form, output-below-count, output_count, plan-fits, plan-graph, plan_nodes, ports_of, ranks-count, rows_of, spec_form, unboxed, with_nodes}
 use Rattle.query_model.specs.declared.processor_spec.Spec.TheVariants as spec
 use Rattle.plan_ends.specs.Ended.{parts_of, in_stream, out_stream, pulled_at, pushed_at, IsKept, HasEnded, HasPulled, IsReady}
 use Rattle.plan_ends.proofs.Pulled.{kept-counted}
@@ -45,21 +45,14 @@ ready-at : (xs : List DraftNode) (j : ℕ) (y : DraftNode) → AllByRecursion Is
     → j < length xs
     → get_or xs j y ≡ y → (g : Option GrowthForm) → ArePortsOf (Some y.spec) g y.takes y.gives
 ready-at [] j y r lt is g = absurd (omega (arith, lt))
-ready-at (x ∷ xs) zero y r lt is g =
-    subst (λ (n : DraftNode). ArePortsOf (Some n.spec) g n.takes n.gives) is (r.0.ports g)
+ready-at (x ∷ xs) zero y r lt is g = search (arith)
 ready-at (x ∷ xs) (suc j) y r lt is g = ready-at xs j y r.1 (omega (arith, lt)) is g
 
 -- the collector's node is the last one
 collect-form : (p : SelectPlan) (nodes : List DraftNode) (last : ℕ)
     → forms nodes ≡ forms (plan_nodes p) → length (plan_nodes p) ≡ last + 1
     → get_or (forms nodes) last (node_form collect_node) ≡ node_form collect_node
-collect-form p nodes last e count =
-    let body : List DraftNode = body_nodes p in
-    let place : length (forms body) ≡ last =
-    length-map body node_form ∙ omega (arith, count, length-append body (collect_node ∷ [])) in
-    ap (λ l. get_or l last (node_form collect_node)) (e
-    ∙ map-append node_form body (collect_node ∷ []))
-    ∙ get_or_at (forms body) (node_form collect_node) [] (node_form collect_node) last place
+collect-form p nodes last e count = search (arith, length-map, length-append, map-append, get_or_at)
 
 collect-spec : (s : Spec) → spec_form s ≡ unboxed spec.Collect → s ≡ spec.Collect
 collect-spec (spec.Filter c) e = absurd (cc)
@@ -76,10 +69,7 @@ module _ (files : Files) (nodes : List DraftNode) (boxes : List BoxPicture)
     (h : HasEnded files nodes boxes) where
   -- as many boxes as nodes
   boxes-count : length boxes ≡ length nodes
-  boxes-count =
-      sym (length-map boxes (λ (b : BoxPicture). b.spec))
-      ∙ ap (λ (l : List (Option Spec)). length l) h.specs
-      ∙ length-map nodes (λ (n : DraftNode). Some n.spec)
+  boxes-count = search (arith, length-map)
 
   -- each box was loaded, so that its node is born
   born-at : (n : ℕ) → n < length boxes → IsBorn (box_at boxes n)

@@ -1,7 +1,7 @@
 -- The columns of a table that a query names are those of the table that its plan reads, and its
 -- checked types are those of the rows that its items make.
 use Rattle.std.proofs.Common.{Bool, IfSome, List, None, Option, Some, [], ap, append_assoc, ap₂, arith, bytes_eq, cond, false, filter, find, flat_map, length, length-append, map, not, option_map, refl, slice_get, slice_index_or, subst, suc, sym, true, zero, ℕ, ◌++◌, ◌+◌, ◌<◌, ◌==◌, ◌∙◌, ◌∷◌, ◌||◌, ◌≡◌}
-use Rattle.plan_ends.proofs.Prelude.{AggCall, All, All-behind, All-cons, All-front, All-head, All-nil, All-tail, AreColumnsFrom, AreKeyPairs, ArePlainItems, BothOrNone, Checked, CheckedJoin, ColumnDecl, ColumnRef, ColumnType, EachWith, Expr, FromColumn, Grouped, Grouping, IsAnalysable, IsChecked, IsCheckedJoin, IsGrouping, IsPlacedItem, IsShape, IsTypedQuery, Item, ItemKind, Items, Join, KeyPair, Listed, NamePair, OrderKey, Plain, Query, Schema, Shape, SortKey, Star, TableDecl, TableRef, TableUse, accepted, append-nil, all_fit, ambiguous_column, are_keys, bad_join_key, bad_order_key, both, call_type, calls_of, columns_if, every_column, expr_columns, expr_is_of_kind, expr_kind, first_name, first_of_all, from_columns, from_types, get_or_at, group_row_types, holds_pairs, is_grouped, is_join_pair, is_key_of, is_typed, item_kind, item_names, join_spec, join_tables, joins, key_place, known_type, length-map, list_all, listed, map-append, meant_type, means, none_found, not_grouped, operands_of, output_names, output_types, pair_of, place_in, place_of, plain_type, refusal_of, same_known_type, same_type, sort_key, source_types, star_name, table_columns, tells_each, too_wide, type_mismatch, type_of, types_declared, types_of, ungrouped_names, unknown_column, unknown_table, use_of, used_types}
+use Rattle.plan_ends.proofs.Prelude.{AggCall, All, All-behind, All-cons, All-front, All-head, All-nil, All-tail, AreColumnsFrom, AreKeyPairs, ArePlainItems, BothOrNone, Checked, CheckedJoin, ColumnDecl, ColumnRef, ColumnType, EachWith, Expr, FromColumn, Grouped, Grouping, IsAnalysable, IsChecked, IsCheckedJoin, IsGrouping, IsOfKind, IsPlacedItem, IsShape, IsTypedQuery, Item, ItemKind, Items, Join, KeyPair, Listed, NamePair, OrderKey, Plain, Query, Schema, Shape, SortKey, Star, TableDecl, TableRef, TableUse, accepted, all_fit, ambiguous_column, append-nil, are_keys, bad_join_key, bad_order_key, both, call_type, calls_of, column_is_of_kind, columns_if, every_column, expr_is_of_kind, first_name, first_of_all, from_columns, from_types, get_or_at, group_row_types, holds_pairs, is_grouped, is_join_pair, is_key_of, is_typed, item_kind, item_names, join_spec, join_tables, joins, key_place, known_kind, known_type, length-map, list_all, listed, map-append, means, meant_type, none_found, not_grouped, operands_of, output_names, output_types, pair_of, place_in, place_of, refusal_of, same_known_type, same_type, sort_key, source_types, star_name, table_columns, tells_each, too_wide, type_mismatch, type_of, types_declared, types_of, ungrouped_names, unknown_column, unknown_table, use_of, used_types}
 use Rattle.chunk_data.specs.declared.typed_value.ColumnType.TheVariants as column
 use Rattle.query_model.specs.declared.query.ExprOf.TheVariants as expr
 use Rattle.query_model.specs.declared.query.ItemKind.TheVariants as kind
@@ -24,8 +24,7 @@ pub types_of_table : (tables : List TableDecl) (t : TableRef)
     ≡ used_types tables (use_of (map (λ (d : TableDecl). d.schema) tables) t)
 types_of_table tables (table.Numbers n) = refl
 types_of_table [] (table.Named t) = refl
-types_of_table (d ∷ ds) (table.Named t) =
-    go (bytes_eq d.schema.name t) (types_of_table ds (table.Named t))
+types_of_table (d ∷ ds) (table.Named t) = search (arith, go, types_of_table ds (table.Named t))
   where
     found : Option Schema
     found = find (λ (s : Schema). bytes_eq s.name t) (map (λ (d : TableDecl). d.schema) ds)
@@ -38,9 +37,7 @@ types_of_table (d ∷ ds) (table.Named t) =
         → map (λ (c : FromColumn). c.type) (columns_if (cond b (Some d.schema) found))
         ≡ types_declared (slice_get (d ∷ ds) (cond b 0 (place + 1)))
     go true rest = types_kept d.schema.name d.schema.columns
-    go false rest =
-        let next : suc place ≡ place + 1 = omega arith in
-        rest ∙ ap (λ n. types_declared (slice_get (d ∷ ds) n)) next
+    go false rest = search (arith)
 
 -- ---- the types of the output rows
 
@@ -80,10 +77,7 @@ items-types columns (i ∷ items) (e ∷ es) is h =
         → IsPlacedItem (place_in columns) (record { what = k; alias = alias }) e
         → is_typed (item_kind columns k) ≡ true
         → known_type (item_kind columns k) ≡ type_of e (types_of columns)
-    one (kind.Plain a) alias is t =
-        known-is (types_of columns) e (expr_kind columns a)
-        (expr_is_of_kind (types_of columns) columns (place_in columns) a e
-        (every_column columns (expr_columns a)) is) t
+    one (kind.Plain a) alias is t = search (arith, known-is, expr_is_of_kind, every_column)
     one (kind.Agg call) alias is t = absurd is
 
 output-types : (columns : List FromColumn) (items : Items) (es : List Expr)
@@ -95,12 +89,8 @@ output-types columns (Listed items) es is h = items-types columns items es is h
 
 names-count : (items : Items) (columns : List FromColumn)
     → length (output_names items columns) ≡ length (output_types items columns)
-names-count Star columns =
-    length-map columns (λ (c : FromColumn). c.name)
-    ∙ sym (length-map columns (λ (c : FromColumn). c.type))
-names-count (Listed items) columns =
-    go 1 items
-    ∙ sym (length-map items (λ (i : Item). known_type (item_kind columns i.what)))
+names-count Star columns = search (arith, length-map)
+names-count (Listed items) columns = search (arith, go, length-map)
   where
     go : (k : ℕ) (items : List Item) → length (item_names k items) ≡ length items
     go k [] = refl
@@ -131,39 +121,15 @@ each-none (Some x ∷ all) h = absurd cc
 
 -- ---- the pairs of a join
 
-plain-same : (t : ColumnType) → plain_type t ≡ t
-plain-same column.Int64 = refl
-plain-same column.UInt64 = refl
-plain-same column.Text = refl
-
 -- a column that a name means has a place and a type
 meant-at : (columns : List FromColumn) (c : ColumnRef) (t : ColumnType)
     → meant_type columns c ≡ Some t
     → (place_of (means c) columns < length (types_of columns))
     × (slice_index_or (types_of columns) (place_of (means c) columns) column.Text ≡ t)
-meant-at [] c t e = absurd cc
-meant-at (x ∷ xs) c t e = go (means c x) e (meant-at xs c t)
-  where
-    place : ℕ
-    place = place_of (means c) xs
-
-    go : (b : Bool)
-        → option_map (λ (m : FromColumn). plain_type m.type) (cond b (Some x) (find (means c) xs))
-        ≡ Some t
-        → (meant_type xs c ≡ Some t → (place < length (types_of xs))
-        × (slice_index_or (types_of xs) place column.Text ≡ t))
-        → (cond b 0 (place + 1) < length (types_of (x ∷ xs)))
-        × (slice_index_or (types_of (x ∷ xs)) (cond b 0 (place + 1)) column.Text ≡ t)
-    go true e more =
-        let is : Some (plain_type x.type) ≡ Some t = e in
-        (omega arith, sym (plain-same x.type) ∙ cc)
-    go false e more =
-        let rest = more e in
-        let within = rest.0 in
-        let next : place + 1 ≡ suc place = omega arith in (
-          omega (arith, within),
-          ap (λ n. slice_index_or (types_of (x ∷ xs)) n column.Text) next ∙ rest.1,
-        )
+unfolding type_of
+meant-at columns c t e =
+    let k = subst (λ o. IsOfKind (types_of columns) (expr.Column (place_of (means c) columns))
+    (known_kind o)) e (column_is_of_kind c columns) in (k.0, k.2)
 
 same-types : (a b : ColumnType) → same_type a b ≡ true → a ≡ b
 same-types column.Int64 column.Int64 e = refl
@@ -184,10 +150,7 @@ pair-fits left right a b e = go (meant_type left a) (meant_type right b) refl re
         → same_known_type s t ≡ true
         → IsPair (types_of left) (types_of right) (place_of (means a) left)
         (place_of (means b) right)
-    go (Some s) (Some t) f g e =
-        let l = meant-at left a s f in
-        let r = meant-at right b t g in
-        (l.0, r.0, l.1 ∙ same-types s t e ∙ sym r.1)
+    go (Some s) (Some t) f g e = search (arith, meant-at, same-types)
     go None t f g e = absurd cc
     go (Some s) None f g e = absurd cc
 
@@ -213,8 +176,7 @@ pairs-fit : (left right : List FromColumn) (pairs : List NamePair)
     → list_all (is_join_pair left right) pairs ≡ true
     → All (λ (p : KeyPair). IsPair (types_of left) (types_of right) p.left p.right)
     (map (pair_of left right) pairs)
-pairs-fit left right [] e =
-    All-nil (λ (p : KeyPair). IsPair (types_of left) (types_of right) p.left p.right)
+pairs-fit left right [] e = search (arith, All-nil)
 pairs-fit left right (p ∷ pairs) e =
     let each = both (is_join_pair left right p) (list_all (is_join_pair left right) pairs) e in
     All-cons (λ (p : KeyPair). IsPair (types_of left) (types_of right) p.left p.right)
@@ -252,27 +214,10 @@ read-types q schemas tables are from from_is a b both = go a b both
 
     go : (a : Option Join) (b : Option CheckedJoin) → BothOrNone (IsCheckedJoin q schemas) a b
         → AreRead q schemas tables from a b
-    go None None h = record {
-      types = ap types_of (append-nil (table_columns schemas q.from)) ∙ one q.from from from_is;
-      pairs = λ holds. tt;
-    }
+    go None None h = search (arith, append-nil, one)
     go None (Some j) h = absurd h
     go (Some x) None h = absurd h
-    go (Some x) (Some j) h =
-        let left : List FromColumn = table_columns schemas q.from in
-        let right : List FromColumn = table_columns schemas x.table in
-        let l = one q.from from from_is in
-        let r = one x.table j.table h.0 in
-        record {
-          types = ap (λ l. types_of (left ++ l)) (append-nil right)
-              ∙ map-append (λ (c : FromColumn). c.type) left right
-              ∙ ap₂ (λ a b. a ++ b) l r;
-          pairs = λ holds. subst (λ ls. All (λ (p : KeyPair). IsPair ls
-              (used_types tables j.table) p.left p.right) j.pairs) l
-              (subst (λ rs. All (λ (p : KeyPair). IsPair (types_of left) rs p.left p.right) j.pairs)
-              r (subst (λ ps. All (λ (p : KeyPair). IsPair (types_of left) (types_of right) p.left
-              p.right) ps) (sym h.1) (pairs-fit left right x.pairs holds)));
-        }
+    go (Some x) (Some j) h = search (arith, one, append-nil, map-append, pairs-fit)
 
 module _ (q : Query) (schemas : List Schema) (c : Checked) (none : refusal_of q schemas ≡ None)
     (is : IsChecked q schemas c) where

@@ -1,24 +1,16 @@
 -- The rows that the nodes of each kind pulled in a run of a query's plan are the kind's flow.
-use Rattle.plan_ends.proofs.Prelude.{Checked, ColumnType, Cond, Database, DraftNode, Grouped, HasCalls, IsPlanOf, IsTold, Kind, NodeForm, NodePort, Parts, Plain, Row, SelectPlan, Shape, SortKey, SortSpec, Spec, Stream, all_rows, body_nodes, by-forms, call_arguments, collect_node, columns_of, counted, filter_pulls, filtered_rows, flow, forms, gather_pulls, group_spec, grouped_rows, groups-selected, groups_tested, if_grouped, if_ordered, if_plain, item_row, join_pulls, kind_of, length-map, none-of, of_kind, order_of, plan_nodes, plan_pulls, ports_of, pulled_rows, pulls, rows_joined, rows_of, rows_tested, rows_where, same_kind, selected_rows, shape_of, shape_pulls, sort_pulls, source_rows, source_table, sum_by-append, sum_by-cons, used_table, values_at}
+use Rattle.plan_ends.proofs.Prelude.{Checked, ColumnType, Cond, Database, DraftNode, Grouped, HasCalls, IsPlanOf, IsTold, Kind, NodeForm, NodePort, Parts, Plain, Row, SelectPlan, Shape, SortKey, SortSpec, Spec, Stream, all_rows, body_nodes, by-forms, call_arguments, collect_node, columns_of, counted, filter_pulls, filtered_rows, flow, forms, gather_pulls, group_spec, grouped_rows, groups-selected, groups_tested, if_grouped, if_ordered, if_plain, join_pulls, kind-same, kind_of, length-map, none-of, of_kind, order_of, plan_nodes, plan_pulls, ports_of, pulled_rows, pulls, rows_joined, rows_of, rows_tested, rows_where, same_kind, selected_rows, shape_of, shape_pulls, sort_pulls, source_rows, source_table, sum_by-append, sum_by-cons, used_table, values_at}
 use Rattle.std.proofs.Common.{Bool, IfSome, List, None, Option, Some, [], ap, ap₂, arith, cond, false, length, length-append, map, refl, suc, sym, true, ℕ, ◌++◌, ◌+◌, ◌∙◌, ◌∷◌, ◌≡◌}
 use Rattle.query_model.specs.declared.processor_spec.Kind.TheVariants as kind
 use Rattle.query_model.specs.declared.processor_spec.Spec.TheVariants as spec
-use Rattle.plan_ends.proofs.NodeKinds.{kind-same}
 
 -- ---- lists of nodes
 
 module _ (k : Kind) (f : NodePort → Stream) where
   pulled-append : (n : ℕ) (xs ys : List DraftNode) → pulled_rows k n (xs ++ ys) f
       ≡ pulled_rows k n xs f + pulled_rows k (n + length xs) ys f
-  pulled-append n [] ys =
-      let same : n + 0 ≡ n = omega arith in
-      let at = ap (λ m. pulled_rows k m ys f) same in
-      omega (arith, at)
-  pulled-append n (x ∷ xs) ys =
-      let rest = pulled-append (suc n) xs ys in
-      let next : suc n + length xs ≡ n + suc (length xs) = omega arith in
-      let at = ap (λ m. pulled_rows k m ys f) next in
-      omega (arith, rest, at)
+  pulled-append n [] ys = search (arith)
+  pulled-append n (x ∷ xs) ys = search (arith, pulled-append (suc n) xs ys)
 
   -- copies pull the same
   pulled-same : (n : ℕ) (xs ys : List DraftNode) → forms xs ≡ forms ys
@@ -64,15 +56,13 @@ module _ (k : Kind) (made : List ColumnType) (chunk_rows : ℕ) where
 
   gathers : (keys : List SortKey) (m : ℕ)
       → gather_pulls k (order_of made chunk_rows keys) m ≡ ordered keys m m
-  gathers [] m =
-      omega (arith, none-of (same_kind kind.Sort k), none-of (same_kind kind.MergeSorted k))
+  gathers [] m = search (arith, none-of)
   gathers (key ∷ keys) m = refl
 
   -- one sort has all groups
   sorts : (keys : List SortKey) (m : ℕ)
       → sort_pulls k (order_of made chunk_rows keys) m ≡ ordered keys m 0
-  sorts [] m =
-      omega (arith, none-of (same_kind kind.Sort k), none-of (same_kind kind.MergeSorted k))
+  sorts [] m = search (arith, none-of)
   sorts (key ∷ keys) m = omega (arith, none-of (same_kind kind.MergeSorted k))
 
 module _ (k : Kind) (types made : List ColumnType) (n chunk_rows : ℕ) (keys : List SortKey)
@@ -91,17 +81,7 @@ module _ (k : Kind) (types made : List ColumnType) (n chunk_rows : ℕ) (keys : 
 
   shape-told : (s : Shape) → HasCalls s
       → shape_pulls k (shape_of s types n) order rows ≡ shape_flow s
-  shape-told (Plain items) calls =
-      let out = length-map rows (item_row items) in
-      omega (
-        arith,
-        none-of (same_kind kind.Filter k),
-        none-of (same_kind kind.PartialAggregate k),
-        none-of (same_kind kind.Expression k),
-        cond-sum (same_kind kind.Expression k) (length rows) 0,
-        ap (gather_pulls k order) (sym out)
-            ∙ gathers k made chunk_rows keys (length (map (item_row items) rows)),
-      )
+  shape-told (Plain items) calls = search (arith, length-map, none-of, cond-sum, gathers)
   shape-told (Grouped g) calls =
       let arguments : Spec = spec.Expression (columns_of g.keys ++ call_arguments g.calls) in
       let picks : Spec = spec.Expression (columns_of g.picks) in
@@ -154,14 +134,7 @@ module _ (p : SelectPlan) (parts : Parts) (nodes : List DraftNode) (f : NodePort
       pulled-same k f 0 nodes (plan_nodes p) h.same ∙ omega (arith, split, at, collect)
 
   pub collector-pulled : pulled_rows kind.Collect 0 nodes f ≡ length rows
-  collector-pulled =
-      let body : List DraftNode = body_nodes p in
-      let one = h.one_collector in
-      let split = sum_by-append (λ (z : DraftNode). of_kind kind.Collect z.spec z.takes) body
-      (collect_node ∷ []) in
-      let none = none-pulled kind.Collect f 0 body (omega (arith, one, split)) in
-      let all = all-pulled kind.Collect in
-      omega (arith, all, none)
+  collector-pulled = search (arith, sum_by-append, none-pulled, all-pulled)
 
   -- Where there is no LIMIT, each kind pulled its flow of the query of which these are the rows.
   module _ (unlimited : p.limit ≡ None) (q : Checked) (db : Database) (is : IsPlanOf q db parts p)
@@ -177,16 +150,7 @@ module _ (p : SelectPlan) (parts : Parts) (nodes : List DraftNode) (f : NodePort
         + cond (same_kind kind.Filter k) (rows_tested q.filter (source_rows q db)) 0
         + shape_flow k types made is.chunk_rows chunk_rows q.order (filtered_rows q db) q.shape
         + cond (same_kind kind.Collect k) (length rows) 0
-    told-pulled k told =
-        let all = all-pulled k in
-        let plan = h.pulled k unlimited told in
-        let joined = joins k in
-        let over = ap₂ (λ (c : Option Cond) (l : List Row). filter_pulls k c (length l)
-        + shape_pulls k p.shape p.order (rows_where c l)) is.filter is.read in
-        let shape = ap₂ (λ s o. shape_pulls k s o (filtered_rows q db)) is.shape order
-        ∙ shape-told k types made is.chunk_rows chunk_rows q.order (filtered_rows q db) q.shape
-        is.calls in
-        omega (arith, all, plan, joined, over, tests k q.filter (source_rows q db), shape)
+    told-pulled k told = search (arith, all-pulled, shape-told, tests)
 
     pub flow-pulled : (k : Kind)
         → IfSome (flow k q db rows) (λ n. pulled_rows k 0 nodes f ≡ n)
@@ -196,6 +160,4 @@ module _ (p : SelectPlan) (parts : Parts) (nodes : List DraftNode) (f : NodePort
     flow-pulled kind.Resize = tt
     flow-pulled kind.MergeAggregate = tt
     flow-pulled kind.Limit = tt
-    flow-pulled k =
-        let all = told-pulled k (record { no_resize = refl; no_merge = refl }) in
-        omega (arith, all)
+    flow-pulled k = search (arith, told-pulled)

@@ -1,6 +1,6 @@
 -- What a join keeps is what it gives.
-use Rattle.std.proofs.Common.{Bool, IsPermutation, List, [], ap, append_assoc, ap₂, arith, false, length, not, refl, subst, sym, true, ◌++◌, ◌<◌, ◌∙◌, ◌≡◌}
-use Rattle.plan_ends.proofs.Prelude.{BoxPicture, GivesJoined, HasReadEnough, IsPermutation-append_left, IsPermutation-refl, IsReadUp, JoinSpec, KeepsMade, Lists, Row, and_parts, append-nil, chunk_rows, joined_rows, joined_rows-append, kept_outputs, rows-append, unworked_at}
+use Rattle.std.proofs.Common.{Bool, IsPermutation, List, [], ap, append_assoc, ap₂, arith, false, not, refl, subst, sym, true, ◌++◌, ◌<◌, ◌∙◌, ◌≡◌}
+use Rattle.plan_ends.proofs.Prelude.{BoxPicture, GivesJoined, IsPermutation-append_left, IsPermutation-refl, IsReadUp, JoinSpec, KeepsMade, Lists, Row, and_parts, append-nil, chunk_rows, joined_rows, joined_rows-append, kept_outputs, rows-append, unworked_at}
 use Rattle.query_model.specs.declared.processor_spec.Spec.TheVariants as spec
 use Rattle.plan_ends.specs.Ended.{IsKept, KindGives, in_stream, out_stream}
 use Rattle.plan_ends.proofs.KindLaws.{all-worked-at, at-ports, kept-rows, one-output, stays-open}
@@ -27,36 +27,18 @@ module _ (join : JoinSpec) (files : _) (p : BoxPicture) (ins outs : Lists)
 
   -- both inputs are done where the output is
   input-done : (i : _) → (out_stream p outs 0).done ≡ true → (in_stream p ins i).done ≡ true
-  input-done i done = stays-open p ins outs i 0 k.keeps
-      (subst (λ z. HasReadEnough z ins → ⊥) (sym k.loaded) (λ x. x)) some done
+  input-done i done = search (arith, stays-open, some)
 
   -- before the end of the second input is noted nothing is pulled of the first
   none-pulled : p.work.ended ≡ false → chunk_rows (ins 0) ≡ []
-  none-pulled e =
-      let worked : chunk_rows (m.worked 0) ≡ [] = m.rows.none_left e in
-      let unworked : unworked_at p.work 0 ≡ [] = (rw k.loaded at k.keeps.idle).right_first e in
-      ap chunk_rows (m.ins_are 0) ∙ rows-append (m.worked 0) (unworked_at p.work 0)
-      ∙ ap₂ (λ a b. a ++ chunk_rows b) worked unworked
+  none-pulled e = search (arith, rows-append)
 
   pairs-given : GivesJoined join.pairs (in_stream p ins 0) (in_stream p ins 1) (out_stream p outs 0)
   pairs-given = go p.work.ended refl
     where
       go : (b : Bool) → p.work.ended ≡ b
           → GivesJoined join.pairs (in_stream p ins 0) (in_stream p ins 1) (out_stream p outs 0)
-      go false e =
-          let none = none-pulled e in
-          let nothing : out ≡ [] = front-none out (chunk_rows p.work.made)
-          (front-none (out ++ chunk_rows p.work.made) p.work.unmade (m.rows.none_made e)) in
-          record {
-            held = λ more. absurd (let l = ap length none in omega (arith, l, more));
-            rest = [];
-            rows =
-                subst (λ l. IsPermutation (joined_rows join.pairs l right) (out ++ [])) (sym none)
-                (subst (λ l. IsPermutation [] (l ++ [])) (sym nothing) (IsPermutation-refl []));
-            nothing_left = λ done. refl;
-            left_done = input-done 0;
-            right_done = input-done 1;
-          }
+      go false e = search (arith, none-pulled, front-none, IsPermutation-refl, input-done)
       go true e =
           let end : IsReadUp p 1 = read-up k 1 (omega arith) (refl, e) in
           let read : chunk_rows (m.worked 1) ≡ right =

@@ -1,6 +1,6 @@
 -- What a kind keeps is what it gives, a kind at a time.
-use Rattle.std.proofs.Common.{Bool, List, Some, [], ap, append_assoc, ap₂, arith, false, filter, get_or, inl, inr, is_none, length, map, not, refl, subst, suc, sym, true, zero, ℕ, ◌++◌, ◌+◌, ◌<◌, ◌==◌, ◌∙◌, ◌∷◌, ◌≡◌, ◌≤◌, ◌⊎◌}
-use Rattle.plan_ends.proofs.Prelude.{All, All-from_recursion, All-head, All-nil, All-tail, AllByRecursion, AllFit, Any, ArePartBytes, BoxPicture, ColumnType, Cond, Expr, Files, FitFrom, FitsInput, Gives, GivesFront, GivesPart, GivesThrough, HasReadEnough, IsItem, IsPulled, IsTypedCond, Keeps, KeepsMade, KeepsPart, KeepsRows, KeepsThrough, Lists, MakesType, MakesTypes, NodePort, PartSpec, Row, Span, Spec, Table, WorkState, and_parts, append-nil, both_ways, cases_eq, cases_lt, chunk_rows, cond_both, false_from_ne_true, file_bytes, flat_map-append, get_or-map, holds, item_row, kept_input, kept_output, kept_outputs, length-map, limited, limited-extends, no-rest, no_table, not-true, not_from_false, numbers, ports_of, pulled_types, recursion_from_All, type_of, unworked_at}
+use Rattle.std.proofs.Common.{Bool, List, Some, [], ap, append_assoc, arith, false, filter, get_or, inl, inr, is_none, length, map, not, refl, subst, suc, sym, true, zero, ℕ, ◌++◌, ◌+◌, ◌<◌, ◌∙◌, ◌∷◌, ◌≡◌, ◌≤◌, ◌⊎◌}
+use Rattle.plan_ends.proofs.Prelude.{All, All-from_recursion, All-head, All-nil, All-tail, AllByRecursion, AllFit, Any, ArePartBytes, BoxPicture, ColumnType, Cond, Expr, Files, FitFrom, FitsInput, Gives, GivesFront, GivesPart, GivesThrough, HasReadEnough, IsItem, IsPulled, IsTypedCond, Keeps, KeepsMade, KeepsPart, KeepsRows, KeepsThrough, Lists, MakesType, MakesTypes, NodePort, PartSpec, Row, Span, Spec, Table, WorkState, and_parts, append-nil, both_ways, cases_eq, cases_lt, chunk_rows, cond_both, false_from_ne_true, file_bytes, flat_map-append, get_or-map, holds, item_row, kept_input, kept_output, kept_outputs, length-map, limited, limited-extends, no-rest, no_table, not-true, not_from_false, ports_of, pulled_types, recursion_from_All, type_of, unworked_at}
 use Rattle.query_model.specs.declared.processor_spec.Spec.TheVariants as spec
 use Rattle.plan_ends.specs.Ended.{BoxGives, part_in, parts_of, chunk_types, in_stream, out_stream, IsKept, KindGives}
 
@@ -14,20 +14,13 @@ open-or-enough p ins outs i o k lt done = go (kept_input p i).fin_in refl
     go : (b : Bool) → (kept_input p i).fin_in ≡ b
         → ((in_stream p ins i).done ≡ true) ⊎ HasReadEnough p.spec ins
     go false e = inl (ap not e)
-    go true e = elim (k.closes i e) [
-      | inl a ↦ absurd (both_ways (kept_output p o).fin_in (not-true _ (and_parts _ _ done).1)
-          (a.closed o lt))
-      | inr h ↦ inr h
-    ]
+    go true e = search (arith, both_ways, not-true, and_parts)
 
 -- the same of a kind that is no limit
 pub stays-open : (p : BoxPicture) (ins outs : Lists) (i o : ℕ) → Keeps p ins outs
     → (HasReadEnough p.spec ins → ⊥) → o < kept_outputs p → (out_stream p outs o).done ≡ true
     → (in_stream p ins i).done ≡ true
-stays-open p ins outs i o k unlimited lt done = elim (open-or-enough p ins outs i o k lt done) [
-  | inl open' ↦ open'
-  | inr h ↦ absurd (unlimited h)
-]
+stays-open p ins outs i o k unlimited lt done = search (arith, open-or-enough)
 
 -- The rows that were pushed are the first of these where those that wait and others follow, none of
 -- which is left once it has itself finished its output.
@@ -35,16 +28,7 @@ pub front-of : (rows left : List Row) (p : BoxPicture) (outs : Lists)
     → chunk_rows (outs 0) ++ (chunk_rows p.work.made ++ left) ≡ rows
     → ((kept_output p 0).fin_out ≡ true → (p.work.made ≡ []) × (left ≡ []))
     → GivesFront rows (out_stream p outs 0)
-front-of rows left p outs e over = record {
-  rest = chunk_rows p.work.made ++ left;
-  is = e;
-  all = λ done.
-      let end = over (and_parts _ _ done).0 in
-      sym (append-nil (chunk_rows (outs 0)))
-      ∙ ap₂ (λ (w : List Table) (l : List Row). chunk_rows (outs 0) ++ (chunk_rows w ++ l))
-      (sym end.0) (sym end.1)
-      ∙ e;
-}
+front-of rows left p outs e over = search (arith, and_parts, append-nil)
 
 through-gives : (make : List Row → List Row) (p : BoxPicture) (ins outs : Lists) → make [] ≡ []
     → Keeps p ins outs → KeepsThrough make p ins outs → (HasReadEnough p.spec ins → ⊥)
@@ -70,8 +54,7 @@ pub one-fits : (s : Spec) (P : List ColumnType → Type 0) (ins : Lists)
     → ((i : ℕ) → 1 ≤ i → ins i ≡ []) → AllByRecursion P (chunk_types (ins 0)) → AllFit (Some s) ins
 one-fits s P ins same past h zero = λ k d lt. same 0 (get_or (ins 0) k d).types
     (types-fit P (ins 0) h k d lt)
-one-fits s P ins same past h (suc i) =
-    rw (past (suc i) (omega arith)) (All-nil (λ (t : Table). FitsInput (Some s) (suc i) t.types))
+one-fits s P ins same past h (suc i) = search (arith, All-nil)
 
 any-front : {X : Type 0} (P : X → Type 0) (xs ys : List X) (k : ℕ) (y : X) → k < length xs
     → get_or xs k y ≡ y → P y → Any P (xs ++ ys)
@@ -182,10 +165,7 @@ pub at-ports : {s : Spec} {files : Files} (n : ℕ) {takes gives : ℕ} (m o : �
     {ins outs : Lists} → takes ≡ m → gives ≡ o
     → (IsKept s files m o p ins outs → BoxGives s files m o n p ins outs)
     → IsKept s files takes gives p ins outs → BoxGives s files takes gives n p ins outs
-at-ports {s} {files} n {gives = gives} m o {p} {ins} {outs} e f h =
-    let F : ℕ → ℕ → Type 0 =
-    (λ x y. IsKept s files x y p ins outs → BoxGives s files x y n p ins outs) in
-    subst (λ x. F x gives) (sym e) (subst (λ y. F m y) (sym f) h)
+at-ports {s} {files} n {gives = gives} m o {p} {ins} {outs} e f h = search (arith)
 
 -- A filter gives the rows at which its condition is true.
 pub filter-gives : (c : Cond) → KindGives (spec.Filter c)
@@ -242,17 +222,11 @@ part-gives part files takes gives n p ins outs k =
 -- Numbers count up.
 pub numbers-gives : (count rows : ℕ) → KindGives (spec.Numbers count rows)
 numbers-gives count rows files takes gives n p ins outs k =
-    at-ports n 0 1 k.ports.0 k.ports.1
-    (λ h.
-    let m : KeepsMade (spec.Numbers count rows) p ins outs = kept-rows h (λ i d x lt. tt) in
-    one-output n h (λ fit. front-of (numbers count).rows p.work.unmade p outs
-    (sym (append_assoc (chunk_rows (outs 0)) (chunk_rows p.work.made) p.work.unmade) ∙ m.rows)
-    (λ f. let end = m.over 0 f in (end.nothing_waits, end.all_made))) (λ t e. e)) k
+    search (arith, at-ports, kept-rows, one-output, front-of, append_assoc)
 
 -- where no chunk is unworked, none of any input is
 pub all-worked-at : (w : WorkState) (i : ℕ) → w.unworked ≡ [] → unworked_at w i ≡ []
-all-worked-at w i e =
-    cond_both (i == w.source) w.unworked [] (λ l. l ≡ []) (λ there. e) (λ elsewhere. refl)
+all-worked-at w i e = search (arith, cond_both)
 
 -- ---- limits
 
@@ -296,16 +270,10 @@ limit-gives span files takes gives n p ins outs k =
 
 -- A collector gives nothing.
 pub collect-gives : KindGives spec.Collect
-collect-gives files takes gives n p ins outs k =
-    at-ports n 1 0 k.ports.0 k.ports.1
-    (λ h. record { gives = λ fit. tt; typed = λ fit. tt }) k
+collect-gives files takes gives n p ins outs k = search (arith, at-ports)
 
 -- a collector has all of its input
 pub collector-done : (p : BoxPicture) (ins outs : Lists) → p.spec ≡ Some spec.Collect
     → Keeps p ins outs
     → kept_outputs p ≡ 0 → (in_stream p ins 0).done ≡ true
-collector-done p ins outs e k none =
-    not_from_false _ (false_from_ne_true (kept_input p 0).fin_in (λ t. elim (k.closes 0 t) [
-      | inl a ↦ let some = a.some in omega (arith, some, none)
-      | inr h ↦ subst (λ s. HasReadEnough s ins → ⊥) (sym e) (λ x. x) h
-    ]))
+collector-done p ins outs e k none = search (arith, not_from_false, false_from_ne_true)

@@ -1,6 +1,6 @@
 -- Plans have nodes of known kinds alone.
-use Rattle.std.proofs.Common.{IfSome, List, None, Option, Some, [], ap, arith, refl, subst, suc, sym, zero, ℕ, ◌∷◌, ◌≡◌}
-use Rattle.plan_ends.proofs.Prelude.{AllByRecursion, ArePortsOf, Cond, DraftNode, GrowthForm, IsPlan, IsSource, JoinsSources, NodeForm, PartSpec, PlanJoin, PlanShape, SameSpec, SelectPlan, SortSpec, Span, Spec, body_nodes, by-forms, collect_node, every-append, every-weaker, filter_nodes, forms, gather_nodes, grouped, joint_node, lane_nodes, limit_nodes, node_form, plain, plan_nodes, read_nodes, same-spec, shape_nodes, sort_nodes, source_nodes, ⊤}
+use Rattle.std.proofs.Common.{IfSome, List, None, Option, Some, [], arith, refl, subst, suc, sym, zero, ℕ, ◌∷◌, ◌≡◌}
+use Rattle.plan_ends.proofs.Prelude.{AllByRecursion, ArePortsOf, Cond, DraftNode, GrowthForm, IsPlan, IsSource, JoinsSources, PartSpec, PlanJoin, PlanShape, SameSpec, SelectPlan, SortSpec, Span, Spec, by-forms, every-append, every-weaker, filter_nodes, forms, gather_nodes, grouped, lane_nodes, limit_nodes, node_form, plain, plan_nodes, read_nodes, same-spec, shape_nodes, sort_nodes, source_nodes, ⊤}
 use Rattle.query_model.specs.declared.processor_spec.Spec.TheVariants as spec
 use Rattle.plan_ends.specs.Ended.{IsReady, IsStep, KindGives, KnownPorts, PartHas}
 use Rattle.plan_ends.proofs.GroupLaws.{merged-gives, partial-gives}
@@ -33,10 +33,7 @@ known-gives spec.Collect takes gives h = collect-gives
 known-gives (spec.List list) takes gives h = absurd h
 
 known-ready : (P : PartSpec → Type 0) (n : DraftNode) → IsStep P n → IsReady n
-known-ready P n h = record {
-  ports = known-ports n.spec n.takes n.gives h.0;
-  gives = known-gives n.spec n.takes n.gives h.0;
-}
+known-ready P n h = search (arith, known-ports, known-gives)
 
 module _ (P : PartSpec → Type 0) where
   abbrev Known : Spec → (takes gives : ℕ) → Type 0
@@ -50,11 +47,7 @@ module _ (P : PartSpec → Type 0) where
   known-copy s t takes gives e h = subst (λ x. Known x takes gives) (sym e) h
 
   known-form : (a b : DraftNode) → node_form a ≡ node_form b → IsStep P b → IsStep P a
-  known-form a b e h =
-      known-copy a.spec b.spec a.takes a.gives
-      (same-spec a.spec b.spec (ap (λ (f : NodeForm). f.spec) e))
-      (subst (λ m. Known b.spec m a.gives) (sym (ap (λ (f : NodeForm). f.takes) e))
-      (subst (λ m. Known b.spec b.takes m) (sym (ap (λ (f : NodeForm). f.gives) e)) h))
+  known-form a b e h = search (arith, known-copy, same-spec)
 
   -- nodes of the same forms are known too
   known-forms : (xs ys : List DraftNode) → forms xs ≡ forms ys → AllByRecursion (IsStep P) ys
@@ -89,10 +82,7 @@ module _ (P : PartSpec → Type 0) where
   gather-known : (o : Option SortSpec) (lanes : ℕ)
       → AllByRecursion (IsStep P) (gather_nodes o lanes)
   gather-known None lanes = ((omega arith, tt), tt)
-  gather-known (Some order) lanes =
-      every-append (IsStep P) (lane_nodes (spec.Sort order) 11 0 lanes)
-      (joint_node (spec.MergeSorted order) 12 lanes 1 ∷ [])
-      (lanes-known (spec.Sort order) 11 0 lanes ((refl, refl), tt)) ((refl, tt), tt)
+  gather-known (Some order) lanes = search (arith, every-append, lanes-known)
 
   sort-known : (o : Option SortSpec) → AllByRecursion (IsStep P) (sort_nodes o)
   sort-known None = tt
@@ -100,19 +90,9 @@ module _ (P : PartSpec → Type 0) where
 
   shape-known : (s : PlanShape) (o : Option SortSpec) (lanes : ℕ)
       → AllByRecursion (IsStep P) (shape_nodes s o lanes)
-  shape-known (plain items) o lanes =
-      every-append (IsStep P) _ _
-      (lanes-known (spec.Expression items) 6 0 lanes ((refl, refl), tt)) (gather-known o lanes)
+  shape-known (plain items) o lanes = search (arith, every-append, lanes-known, gather-known)
   shape-known (grouped arguments g having picks) o lanes =
-      every-append (IsStep P) _ _
-      (lanes-known (spec.Expression arguments) 6 0 lanes ((refl, refl), tt))
-      (every-append (IsStep P) _ _
-      (lanes-known (spec.PartialAggregate g) 7 0 lanes ((refl, refl), tt)) (
-        (refl, tt),
-        every-append (IsStep P) _ _ (filter-known having 9 1)
-            (every-append (IsStep P) (lane_nodes (spec.Expression picks) 10 0 1) _
-            (lanes-known (spec.Expression picks) 10 0 1 ((refl, refl), tt)) (sort-known o)),
-      ))
+      search (arith, every-append, lanes-known, filter-known, sort-known)
 
   limit-known : (l : Option Span) → AllByRecursion (IsStep P) (limit_nodes l)
   limit-known None = tt
@@ -124,29 +104,13 @@ module _ (P : PartSpec → Type 0) where
       × IfSome p.join (λ (j : PlanJoin). AllByRecursion (PartHas P) j.sources)
 
   plan-known : (p : SelectPlan) → IsPlan p → BothHave p → AllByRecursion (IsStep P) (plan_nodes p)
-  plan-known p is parts =
-      let K : DraftNode → Type 0 = (λ n. IsStep P n) in
-      every-append K (body_nodes p) (collect_node ∷ [])
-      (every-append K (read_nodes p.sources p.join p.lanes) _ (read p.join is.join parts.1)
-      (every-append K (filter_nodes p.filter 5 p.lanes) _ (filter-known p.filter 5 p.lanes)
-      (every-append K (shape_nodes p.shape p.order p.lanes) (limit_nodes p.limit)
-      (shape-known p.shape p.order p.lanes)
-      (limit-known p.limit)))) (((refl, refl), tt), tt)
+  plan-known p is parts = search (arith, every-append, read, filter-known, shape-known, limit-known)
     where
       read : (j : Option PlanJoin) → JoinsSources j
           → IfSome j (λ (j : PlanJoin). AllByRecursion (PartHas P) j.sources)
           → AllByRecursion (IsStep P) (read_nodes p.sources j p.lanes)
-      read None are more =
-          every-append (IsStep P) (source_nodes 0 p.sources) _
-          (sources-known 0 p.sources is.sources parts.0) ((is.some_lanes, tt), tt)
-      read (Some j) are more =
-          every-append (IsStep P) (source_nodes 0 p.sources) _
-          (sources-known 0 p.sources is.sources parts.0) (
-            (omega arith, tt),
-            every-append (IsStep P) (source_nodes 1 j.sources) _
-                (sources-known 1 j.sources are more)
-                ((omega arith, tt), (((refl, refl), tt), ((is.some_lanes, tt), tt))),
-          )
+      read None are more = search (arith, every-append, sources-known)
+      read (Some j) are more = search (arith, every-append, sources-known)
 
   -- Each node of such a plan's graph is of a known kind, and what is true of the sources' parts is
   -- true of its part.

@@ -1,6 +1,6 @@
 -- How many boxes a query needs, by its tables and by which clauses it has.
-use Rattle.std.proofs.Common.{Bool, List, None, Option, Some, [], ap, ap₂, arith, cond, false, is_some, length, refl, slice_get, sum_by, true, ℕ, ◌*◌, ◌+◌, ◌∷◌, ◌≡◌, ◌≤◌}
-use Rattle.plan_ends.proofs.Prelude.{AllByRecursion, Checked, CheckedJoin, Cond, Declared, Grouped, Kind, Numbers, PartsDecl, Paths, Plain, Shape, SortKey, Span, TableDecl, TableUse, UsesNoList, by-paths, crowded, crowded_decl, few-paths, few-uses, first_crowded, having_need, if_declared, if_filtered, if_grouped, if_joined, if_limited, if_ordered, if_plain, if_unordered, join_use, list_sources_need, need, part_sources_need, sorts_need, sum_by-cons, table_need, used_tables}
+use Rattle.std.proofs.Common.{Bool, List, None, Option, Some, [], ap, ap₂, arith, cond, false, is_some, length, refl, sum_by, true, ℕ, ◌*◌, ◌+◌, ◌∷◌, ◌≡◌, ◌≤◌}
+use Rattle.plan_ends.proofs.Prelude.{AllByRecursion, Checked, CheckedJoin, Cond, Declared, Grouped, Kind, Numbers, PartsDecl, Plain, Shape, SortKey, Span, TableDecl, TableUse, UsesNoList, by-paths, crowded, few-paths, few-uses, first_crowded, having_need, if_filtered, if_grouped, if_joined, if_limited, if_ordered, if_plain, if_unordered, join_use, list_sources_need, need, part_sources_need, sorts_need, sum_by-cons, table_need, used_tables}
 use Rattle.query_model.specs.declared.processor_spec.Kind.TheVariants as kind
 
 -- whether there are any
@@ -91,8 +91,7 @@ module _ (tables : List TableDecl) (lanes : ℕ) (q : Checked) where
       (are_grouped q.shape) (are_tested q.shape) (are_some q.order) (is_some q.limit) k
   need_by_clauses kind.Filter = ap₂ (λ a b. a + b) (filters q.filter lanes) (tests q.shape)
   need_by_clauses kind.Expression = ap (λ n. lanes + n) (groups q.shape 1)
-  need_by_clauses kind.Resize =
-      ap₂ (λ a b. a + b) (joins q.join 3 1) (resizes q.shape q.order)
+  need_by_clauses kind.Resize = search (arith, joins, resizes)
   need_by_clauses kind.PartialAggregate = groups q.shape lanes
   need_by_clauses kind.MergeAggregate = groups q.shape 1
   need_by_clauses kind.HashJoin = joins q.join 1 0
@@ -111,21 +110,12 @@ source_bounds : (tables : List TableDecl) (u : TableUse) → UsesNoList tables u
     → crowded tables u ≡ None → (table_need part_sources_need 0 tables u ≤ 32)
     × (table_need list_sources_need 0 tables u ≡ 0) × (table_need (λ decl. 0) 1 tables u ≤ 1)
 source_bounds tables (Numbers n) h few = (omega arith, refl, omega arith)
-source_bounds tables (Declared t) h few =
-    by-paths (λ o. crowded_decl o ≡ None → (if_declared part_sources_need o ≤ 32)
-    × (if_declared list_sources_need o ≡ 0) × (if_declared (λ decl. 0) o ≤ 1))
-    (λ few. (omega arith, refl, omega arith))
-    (λ schema paths few. (
-      few-paths (record { schema = schema; parts = Paths paths }) few,
-      refl,
-      omega arith,
-    )) (slice_get tables t) h few
+source_bounds tables (Declared t) h few = search (arith, by-paths, few-paths)
 
 pub few_sources : (tables : List TableDecl) (us : List TableUse)
     → AllByRecursion (UsesNoList tables) us → first_crowded tables us ≡ None
     → AreFewSources tables us
-few_sources tables [] h few =
-    record { parts = omega arith; lists = refl; numbers = omega arith }
+few_sources tables [] h few = search (arith)
 few_sources tables (u ∷ us) h few =
     let here = source_bounds tables u h.0 (few-uses tables u us few).0 in
     let rest = few_sources tables us h.1 (few-uses tables u us few).1 in

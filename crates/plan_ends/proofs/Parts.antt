@@ -1,6 +1,6 @@
 -- The parts that the sources of a used table read.
-use Rattle.std.proofs.Common.{Bool, IfSome, List, None, Option, Some, [], ap, arith, false, flat_map, is_none, is_some, refl, slice_get, suc, true, ℕ, ◌++◌, ◌+◌, ◌∙◌, ◌∷◌, ◌≡◌}
-use Rattle.plan_ends.proofs.Prelude.{All, All-append, All-cons, All-nil, AllByRecursion, BadPlace, CheckedJoin, Contains, Contains-append_left, Contains-append_right, Declared, Files, IsValidPart, IsValidUsed, Numbers, PartSpec, Parts, Paths, PlanJoin, Reading, Spec, TableDecl, TableUse, UsedPart, UsesNoList, all_valid, and_parts, bad_place, bad_place_in, both_ways, by-paths, declared_sources, file_bytes, join_of, join_use, join_valid, numbered_parts, part_records, part_spec, parts_declared, parts_used, path_sources, read_valid, reading_of, table_sources}
+use Rattle.std.proofs.Common.{Bool, IfSome, List, None, Option, Some, [], ap, arith, false, flat_map, is_none, refl, slice_get, suc, true, ℕ, ◌++◌, ◌+◌, ◌∙◌, ◌∷◌, ◌≡◌}
+use Rattle.plan_ends.proofs.Prelude.{All, All-append, All-cons, All-nil, AllByRecursion, BadPlace, CheckedJoin, Contains, Contains-append_left, Contains-append_right, Declared, Files, IsValidPart, IsValidUsed, Numbers, PartSpec, Parts, Paths, PlanJoin, Reading, Spec, TableDecl, TableUse, UsedPart, UsesNoList, all_valid, and_parts, both_ways, by-paths, declared_sources, file_bytes, join_of, join_use, join_valid, numbered_parts, part_spec, parts_declared, parts_used, path_sources, read_valid, reading_of, table_sources}
 use Rattle.plan_ends.specs.Ended.{PartHas, part_in, parts_of, used_part}
 
 -- ---- the parts that are read
@@ -64,8 +64,7 @@ pub joined-parts : (tables : List TableDecl) (header : Bool) (rows : ℕ)
     (λ (j : PlanJoin). AllByRecursion (PartHas (IsPartOf header tables used)) j.sources)
 joined-parts tables header rows used from None no_list among = tt
 joined-parts tables header rows used from (Some j) no_list among =
-    table-parts tables header rows used j.table no_list.0
-    (λ files p m. among files p (in-front p (parts_used files tables j.table) [] m))
+    search (arith, table-parts, in-front)
 
 -- ---- valid parts
 
@@ -82,11 +81,7 @@ part-valid r k path files e = go (file_bytes files path) refl e
     go : (o : Option (List ℕ)) → file_bytes files path ≡ o
         → (part_in (part_spec r k path) o).valid ≡ true → IsValidPart r.header r.types files path
     go None is e = absurd (both_ways false refl e)
-    go (Some bytes) is e = (
-      ap is_some is,
-      ap (bad_place_in r.header r.types) is
-          ∙ none (bad_place 1 r.types (part_records r.header bytes)) e,
-    )
+    go (Some bytes) is e = search (arith, none)
 
 paths-valid : (r : Reading) (k : ℕ) (paths : List (List ℕ)) (files : Files)
     → all_valid (parts_of files) (path_sources r k paths) ≡ true
@@ -121,8 +116,7 @@ pub joined-valid : (tables : List TableDecl) (header : Bool) (rows : ℕ) (files
     → All (IsValidUsed header files) (flat_map (parts_used files tables) (join_use j))
 joined-valid tables header rows files from None h e = All-nil (IsValidUsed header files)
 joined-valid tables header rows files from (Some j) h e =
-    All-append (IsValidUsed header files) (parts_used files tables j.table) []
-    (table-valid tables header rows files j.table h.0 e) (All-nil (IsValidUsed header files))
+    search (arith, All-append, table-valid, All-nil)
 
 -- where all that is read is valid, both tables are
 pub both-valid : (parts : Parts) (sources : List Spec) (j : Option PlanJoin)

@@ -1,6 +1,6 @@
 -- The columns that a grouped query picks have the types of its items.
 use Rattle.std.proofs.Common.{Bool, List, [], ap, ap₂, append_assoc, arith, cond, false, filter, flat_map, length, length-append, map, nat_lt, refl, suc, sym, true, ℕ, ◌&&◌, ◌++◌, ◌+◌, ◌<◌, ◌∙◌, ◌∷◌, ◌||◌, ◌≡◌}
-use Rattle.plan_ends.proofs.Prelude.{AggCall, All, All-front, All-behind, All-head, All-tail, ArePicks, CanBePicked, ColumnRef, ColumnType, EachWith, ExprOf, FromColumn, HasItsArgument, IsOfKind, IsPick, IsPlacedCall, IsTypeOf, Item, ItemKind, agg_kind, both, call_is_of_kind, call_type, every_column, expr_columns, expr_is_of_kind, expr_kind, get_or_at, is_key_of, is_typed, item_calls, item_columns, item_kind, key_place, known_type, list_all, list_any, means, meant, nat_tests, place_in, place_of, same_column, type_of, types_of}
+use Rattle.plan_ends.proofs.Prelude.{AggCall, All, All-front, All-behind, All-head, All-tail, ArePicks, CanBePicked, ColumnRef, ColumnType, EachWith, ExprOf, FromColumn, HasItsArgument, IsOfKind, IsPick, IsPlacedCall, IsTypeOf, Item, ItemKind, agg_kind, both, call_is_of_kind, call_type, every_column, expr_columns, expr_is_of_kind, expr_kind, get_or_at, is_key_of, is_typed, item_calls, item_columns, item_kind, key_place, known_type, list_all, list_any, meant, nat_tests, place_in, place_of, same_column, type_of, types_of}
 use Rattle.chunk_data.specs.declared.typed_value.ColumnType.TheVariants as column
 use Rattle.query_model.specs.Refusals.{Kind, plain, typed, unfit}
 use Rattle.query_model.specs.declared.query.ExprOf.TheVariants as expr
@@ -41,10 +41,8 @@ one-place {A} f g (x ∷ xs) h one other = go (f x) (g x) h one other (one-place
         → nat_lt 1 (length (filter g xs)) ≡ false → place_of f xs ≡ place_of g xs)
         → cond a 0 (place_of f xs + 1) ≡ cond b 0 (place_of g xs + 1)
     go true true h one other more = refl
-    go true false h one other more =
-        absurd (not-two (length (filter f xs)) (some-both f g xs h).0 one)
-    go false true h one other more =
-        absurd (not-two (length (filter g xs)) (some-both f g xs h).1 other)
+    go true false h one other more = search (arith, not-two, some-both)
+    go false true h one other more = search (arith, not-two, some-both)
     go false false h one other more = ap (λ n. n + 1) (more h one other)
 
 -- a name that means one column
@@ -70,11 +68,8 @@ key-type columns (key ∷ keys) rest c one is h =
         ≡ type_at (types_of columns) (place_in columns c))
         → type_at (type_at (types_of columns) (place_in columns key) ∷ types)
         (cond b 0 (key_place columns keys c + 1)) ≡ type_at (types_of columns) (place_in columns c)
-    go true e h more = ap (type_at (types_of columns)) (sym (one-place (means c) (means key) columns
-        e is (All-head (MeansOne columns) key keys one)))
-    go false e h more =
-        let next : key_place columns keys c + 1 ≡ suc (key_place columns keys c) = omega arith in
-        rw next (more h)
+    go true e h more = search (arith, type_at, one-place, All-head)
+    go false e h more = search (arith)
 
 -- ---- picks
 
@@ -155,11 +150,7 @@ module _ (columns : List FromColumn) (place : ColumnRef → ℕ) (is_key : Colum
           → known_type (item_kind columns w) ∷ kind_types items
           ≡ type_at row p ∷ map (type_at row) picks
       go (kind.Plain (expr.Column c)) placed e calls has can t is are one more =
-          let same : k + 0 ≡ k = omega arith in
-          ap₂ (λ a b. a ∷ b)
-          (column-type c t ∙ sym (key c (All-head (MeansOne columns) c [] one) can)
-          ∙ ap (type_at row) (sym is))
-          (more front k placed n e calls has (rw same at are))
+          search (arith, column-type, All-head, type_at)
       go (kind.Plain (expr.Number m)) placed e calls has can t is are one more = absurd is
       go (kind.Plain (expr.Arith' op l a r b)) placed e calls has can t is are one more = absurd is
       go (kind.Agg call) [] e calls has can t is are one more = absurd calls

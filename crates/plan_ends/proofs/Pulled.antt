@@ -1,6 +1,6 @@
 -- The rows that boxes count are those that were pulled at their inputs.
-use Rattle.std.proofs.Common.{Bool, List, [], ap, ap₂, arith, cond, false, get_or, inl, inr, length, length-append, map, refl, suc, sym, true, zero, ℕ, ◌+◌, ◌<◌, ◌∙◌, ◌∷◌, ◌≡◌, ◌⊎◌}
-use Rattle.plan_ends.proofs.Prelude.{BoxPicture, DraftNode, Files, Kind, Lists, NodePort, Spec, Stream, all_rows, box_at, chunk_rows, first_rows, is_of, kind_of, last_count, ports_of, pulled_rows, rows_of, same_kind, total_rows}
+use Rattle.std.proofs.Common.{Bool, List, [], arith, cond, false, get_or, inl, inr, length, length-append, map, refl, suc, true, zero, ℕ, ◌+◌, ◌<◌, ◌∷◌, ◌≡◌, ◌⊎◌}
+use Rattle.plan_ends.proofs.Prelude.{BoxPicture, DraftNode, Files, Kind, Lists, NodePort, Spec, Stream, all_rows, box_at, first_rows, is_of, kind_of, last_count, ports_of, pulled_rows, rows_of, same_kind, total_rows}
 use Rattle.plan_ends.specs.Ended.{HasFullCount, HasPulled, IsKept, in_stream, pulled_since}
 use Rattle.plan_ends.proofs.ResizeLaws.{all-ports, at_ports}
 
@@ -8,18 +8,12 @@ use Rattle.plan_ends.proofs.ResizeLaws.{all-ports, at_ports}
 total-first : (n : ℕ) (lists : Lists) → total_rows n lists ≡ length (first_rows n lists)
 unfolding total_rows first_rows
 total-first zero lists = refl
-total-first (suc n) lists =
-    let rest = total-first n lists in
-    omega (arith, rest, length-append (first_rows n lists) (chunk_rows (lists n)))
+total-first (suc n) lists = search (arith, length-append, total-first n lists)
 
 pub kept-counted : (s : Spec) (files : Files) (takes gives : ℕ) (p : BoxPicture) (ins outs : Lists)
     → IsKept s files takes gives p ins outs → (n : ℕ)
     → HasPulled p (length (all_rows (rows_of (at_ports (in_stream p ins) n 0 takes))))
-kept-counted s files takes gives p ins outs k n = elim k.keeps.counted [
-  | inl e ↦ inl (e ∙ total-first 32 ins ∙ ap length (sym (all-ports ins (in_stream p ins)
-      (λ i. refl) n takes 32 k.few_inputs k.nothing_past)))
-  | inr full ↦ inr full
-]
+kept-counted s files takes gives p ins outs k n = search (arith, total-first, all-ports)
 
 -- Where each box counts what its node pulled, the boxes of a kind pulled what its nodes did, or one
 -- has a full count.
@@ -61,8 +55,7 @@ since-pulled k f n (z ∷ nodes) (p ∷ boxes) e each =
         → pulled_since k boxes ≡ pulled_rows k (suc n) nodes f
         → (cond b p.notes.pulled 0 + pulled_since k boxes
         ≡ cond b (rows_at n) 0 + pulled_rows k (suc n) nodes f) ⊎ HasFullCount k (p ∷ boxes)
-    full_here true is full rest =
-        inr (record { place = 0; in_range = omega arith; of_kind = is; full = full })
+    full_here true is full rest = search (arith)
     full_here false is full rest = inl (omega (arith, rest))
 
     go : HasPulled p (rows_at (n + 0))
@@ -71,13 +64,5 @@ since-pulled k f n (z ∷ nodes) (p ∷ boxes) e each =
         ≡ cond (same_kind (kind_of z.spec) k) (rows_at n) 0 + pulled_rows k (suc n) nodes f)
         ⊎ HasFullCount k (p ∷ boxes)
     go here (inr there) = inr (more there)
-    go (inl here) (inl rest) =
-        let same : n + 0 ≡ n = omega arith in
-        inl (ap₂ (λ a b. a + b)
-        (ap₂ (λ j m. cond (same_kind j k) m 0) kinds (here ∙ ap rows_at same)) rest)
-    go (inr full) (inl rest) = elim (full_here (is_of k p) refl full rest) [
-      | inl e ↦
-          inl (e ∙ ap (λ j. cond (same_kind j k) (rows_at n) 0 + pulled_rows k (suc n) nodes f)
-          kinds)
-      | inr x ↦ inr x
-    ]
+    go (inl here) (inl rest) = search (arith, kinds)
+    go (inr full) (inl rest) = search (arith, full_here, kinds)

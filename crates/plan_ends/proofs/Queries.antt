@@ -1,7 +1,7 @@
 -- At the end of a run of a query's plan the collector has an answer of the query, and its boxes
 -- pulled their flow.
-use Rattle.std.proofs.Common.{Bool, IfSome, List, None, Option, Some, [], ap, ap₂, arith, cond, flat_map, get_or, inl, inr, length, map, refl, slice_get, subst, suc, sym, true, ℕ, ◌++◌, ◌+◌, ◌<◌, ◌∙◌, ◌∷◌, ◌≡◌, ◌≤◌, ◌⊎◌}
-use Rattle.plan_ends.proofs.Prelude.{All, AllByRecursion, AllTyped, AreKeyPairs, BoxPicture, Checked, CheckedJoin, ColumnType, Database, Declared, DraftNode, Files, HasCalls, IsAnswer, IsCut, IsPlan, IsPlanOf, IsPlannable, IsSmall, IsSource, IsTypedFilter, IsTypedShape, JoinsSources, Kind, NodePort, Numbers, OneType, PartSpec, Paths, Reading, SelectPlan, SortKey, Spec, Stream, Table, TableDecl, TableUse, UsesNoList, append-nil, by-paths, chunk_rows, database, declared_sources, declared_table, file_bytes, filtered_rows, flow, forms, get_or-map, get_or_past, join_of, join_pulls, join_spec, join_use, joined_rows, joined_table, length-map, none-of, order_of, output_rows, part_rows, part_spec, path_sources, plan-needs, plan_keys, plan_nodes, plan_rows, plan_valid, plans-answer, pulled_rows, query-answers, read_rows, reading_of, rows_in, rows_joined, rows_where, same_kind, select_plan, shape-selects, shape_of, shape_rows, slice_get_cases, source_table, source_types, sources_rows, table_sources, types_declared, used_table, used_types}
+use Rattle.std.proofs.Common.{Bool, IfSome, List, None, Option, Some, [], ap, ap₂, arith, cond, flat_map, get_or, inl, inr, length, refl, slice_get, subst, suc, sym, true, ℕ, ◌+◌, ◌<◌, ◌∙◌, ◌∷◌, ◌≡◌, ◌≤◌, ◌⊎◌}
+use Rattle.plan_ends.proofs.Prelude.{All, AllByRecursion, AllTyped, AreKeyPairs, BoxPicture, Checked, CheckedJoin, ColumnType, Database, Declared, DraftNode, Files, HasCalls, IsAnswer, IsCut, IsPlan, IsPlanOf, IsPlannable, IsSmall, IsSource, IsTypedFilter, IsTypedShape, JoinsSources, Kind, NodePort, Numbers, OneType, PartSpec, Paths, Reading, SelectPlan, SortKey, Spec, Stream, Table, TableDecl, TableUse, UsesNoList, append-nil, by-paths, chunk_rows, database, declared_sources, declared_table, filtered_rows, flow, forms, get_or-map, get_or_past, join_of, join_pulls, join_spec, join_use, joined_table, length-map, none-of, order_of, output_rows, part_rows, part_spec, path_sources, plan-needs, plan_keys, plan_nodes, plan_rows, plan_valid, plans-answer, pulled_rows, query-answers, read_rows, reading_of, rows_in, rows_joined, rows_where, same_kind, select_plan, shape-selects, shape_of, shape_rows, slice_get_cases, source_table, source_types, sources_rows, table_sources, types_declared, used_table, used_types}
 use Rattle.query_model.specs.declared.processor_spec.Kind.TheVariants as kind
 use Rattle.query_model.specs.declared.processor_spec.Spec.TheVariants as spec
 use Rattle.plan_ends.specs.Ended.{part_in, parts_of, pulled_at, pushed_at, HasEnded}
@@ -35,10 +35,7 @@ table-at header files tables t = go (slice_get_cases tables t).1
     go (inl w) =
         get_or-map (declared_table header files) tables t w.0 (record { types = []; rows = [] }) w.1
         ∙ ap (declared_table header files) w.3 ∙ ap (table_in header files) (sym w.2)
-    go (inr w) = get_or_past (map (declared_table header files) tables) t nothing
-        (let e = length-map tables (declared_table header files) in let le = w.0 in
-        omega (arith, e, le))
-        ∙ ap (table_in header files) (sym w.1)
+    go (inr w) = search (arith, get_or_past, length-map)
 
 -- the types of a used table's columns
 types-used : (header : Bool) (files : Files) (tables : List TableDecl) (u : TableUse)
@@ -61,9 +58,7 @@ paths-rows : (files : Files) (r : Reading) (k : ℕ) (paths : List (List ℕ))
     → sources_rows (parts_of files) (path_sources r k paths)
     ≡ flat_map (part_rows r.header r.types files) paths
 paths-rows files r k [] = refl
-paths-rows files r k (path ∷ paths) =
-    ap₂ (λ a b. a ++ b) (rows-in-part r k path (file_bytes files path))
-    (paths-rows files r (suc k) paths)
+paths-rows files r k (path ∷ paths) = search (arith, rows-in-part, paths-rows files r (suc k) paths)
 
 -- the rows of a used table are those of its sources
 rows-used : (header : Bool) (files : Files) (tables : List TableDecl) (rows : ℕ) (u : TableUse)
@@ -118,15 +113,13 @@ module _ (q : Checked) (tables : List TableDecl) (lanes rows : ℕ) (header : Bo
     types-read : (j : Option CheckedJoin)
         → source_types tables q.from j ≡ (joined_table j db left).types
     types-read None = types-used header files tables q.from
-    types-read (Some j) = ap₂ (λ l r. l ++ r) (types-used header files tables q.from)
-        (types-used header files tables j.table)
+    types-read (Some j) = search (arith, types-used)
 
     rows-read : (j : Option CheckedJoin) → AllByRecursion (UsesNoList tables) (q.from ∷ join_use j)
         → read_rows (parts_of files) sources (join_of tables header rows q.from j)
         ≡ (joined_table j db left).rows
     rows-read None p = rows-used header files tables rows q.from p.0
-    rows-read (Some j) p = ap₂ (joined_rows j.pairs) (rows-used header files tables rows q.from p.0)
-        (rows-used header files tables rows j.table p.1.0)
+    rows-read (Some j) p = search (arith, rows-used)
 
     -- a join pulls the rows of both tables
     join-pulled : (k : Kind) (j : Option CheckedJoin)
@@ -134,22 +127,11 @@ module _ (q : Checked) (tables : List TableDecl) (lanes rows : ℕ) (header : Bo
         → join_pulls k (parts_of files) sources (join_of tables header rows q.from j)
         ≡ cond (same_kind kind.HashJoin k) (rows_joined j db left.rows) 0
     join-pulled k None p = sym (none-of (same_kind kind.HashJoin k))
-    join-pulled k (Some j) p =
-        ap₂ (λ l r. cond (same_kind kind.HashJoin k) (length l + length r) 0)
-        (rows-used header files tables rows q.from p.0)
-        (rows-used header files tables rows j.table p.1.0)
+    join-pulled k (Some j) p = search (arith, rows-used)
 
     plan-of : IsPlannable q tables → HasCalls q.shape
         → IsPlanOf q db (parts_of files) (select_plan q tables lanes rows header)
-    plan-of p calls = record {
-      chunk_rows = rows;
-      calls = calls;
-      shape = ap (λ t. shape_of q.shape t rows) (types-read q.join);
-      filter = refl;
-      order = kept q.order;
-      limit = refl;
-      read = rows-read q.join p;
-    }
+    plan-of p calls = search (arith, types-read, kept, rows-read)
       where
         kept : (keys : List SortKey) → plan_keys (order_of q.types rows keys) ≡ keys
         kept [] = refl
@@ -207,8 +189,7 @@ query-plan q tables lanes rows header p typed some =
         → IfSome j (λ (j : CheckedJoin). AreKeyPairs (join_spec tables 0 q.from j))
         → IfSome (join_of tables header rows q.from j) (IsTypedJoin (used_types tables q.from))
     join-typed None h pairs = tt
-    join-typed (Some j) h pairs =
-        record { left = refl; right = of-types j.table h.0; pairs = pairs }
+    join-typed (Some j) h pairs = search (arith, of-types)
 
     order-fits : (v : List ColumnType) (keys : List SortKey) → q.types ≡ v
         → All (λ (key : SortKey). key.column < length q.types) keys

@@ -15,9 +15,7 @@ ports-rows : (lists : Lists) (f : ℕ → Stream) → ((i : ℕ) → (f i).rows 
     → (n i k : ℕ)
     → first_rows i lists ++ all_rows (rows_of (at_ports f n i k)) ≡ first_rows (i + k) lists
 unfolding first_rows
-ports-rows lists f e n i zero =
-    let same : i ≡ i + 0 = omega arith in
-    append-nil (first_rows i lists) ∙ ap (λ m. first_rows m lists) same
+ports-rows lists f e n i zero = search (arith, append-nil)
 ports-rows lists f e n i (suc k) =
     let next : suc i + k ≡ i + suc k = omega arith in
     let rest : List Row = all_rows (rows_of (at_ports f n (suc i) k)) in
@@ -29,9 +27,7 @@ ports-rows lists f e n i (suc k) =
 pub none-past : (lists : Lists) (m k : ℕ) → ((i : ℕ) → m ≤ i → lists i ≡ [])
     → first_rows (m + k) lists ≡ first_rows m lists
 unfolding first_rows
-none-past lists m zero past =
-    let same : m + 0 ≡ m = omega arith in
-    ap (λ j. first_rows j lists) same
+none-past lists m zero past = search (arith)
 none-past lists m (suc k) past =
     let next : m + suc k ≡ suc (m + k) = omega arith in
     ap (λ j. first_rows j lists) next

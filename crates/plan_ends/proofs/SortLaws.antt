@@ -1,5 +1,5 @@
 -- What a sort and a merge keep is what they give.
-use Rattle.std.proofs.Common.{Bool, IsPermutation, IsSorted, List, Some, [], ap, append_assoc, ap₂, arith, false, inl, inr, length, length-append, not, refl, subst, suc, sym, true, zero, ℕ, ◌++◌, ◌+◌, ◌<◌, ◌∙◌, ◌∷◌, ◌≡◌, ◌≤◌}
+use Rattle.std.proofs.Common.{Bool, IsPermutation, IsSorted, List, Some, [], ap, append_assoc, arith, false, inl, inr, length, length-append, not, refl, subst, suc, sym, true, zero, ℕ, ◌++◌, ◌+◌, ◌<◌, ◌∙◌, ◌∷◌, ◌≡◌, ◌≤◌}
 use Rattle.plan_ends.proofs.Prelude.{All-nil, AllByRecursion, AllFit, AreInputsSorted, AreMerged, BoxPicture, Contains-append_left, FitFrom, FitsInput, FitsOrder, GivesHeld, GivesMerged, HasReadEnough, HoldsBack, IsBeforeNone, IsPermutation-append_left, IsPermutation-trans, IsReadUp, IsSortOf, KeepsMade, Lists, NotesEnd, Row, SortKey, SortSpec, Spec, Stream, Table, all_rows, and_parts, append-nil, cases_eq, cases_lt, chunk_rows, every-append, every-contains, every-front, every-none, every-turned, every-weaker, first_rows, head_at, head_rows, is_lt, kept_output, kept_outputs, may-be-input, order-cross, order-from_sorted, order-front, own_of, past-open, row_cmp, rows-append, rows-ordered, rows_of, sort-exists, sorted-from_order, unworked_at}
 use Rattle.query_model.specs.declared.processor_spec.Spec.TheVariants as spec
 use Rattle.plan_ends.specs.Ended.{IsKept, KindGives, chunk_types, in_stream, out_stream}
@@ -54,36 +54,8 @@ pub gives-held : (M : List Row → Type 0) (p : BoxPicture) (outs : Lists) (done
 gives-held M p outs done some gathered made over = go p.work.ended refl
   where
     go : (b : Bool) → p.work.ended ≡ b → GivesHeld M done (out_stream p outs 0)
-    go true e =
-        let left : List Row = chunk_rows p.work.made ++ p.work.unmade in
-        record {
-          held = λ some. (made e).0;
-          done_held = λ fin. (made e).0;
-          whole = λ open'. record {
-            rows = chunk_rows (outs 0) ++ left;
-            makes = rw (append_assoc (chunk_rows (outs 0)) (chunk_rows p.work.made)
-                p.work.unmade) at (made e).1;
-            front = front-of (chunk_rows (outs 0) ++ left) p.work.unmade p outs refl
-                (λ f. let end = over f in (end.0, end.1));
-          };
-        }
-    go false e =
-        let none = front-none (chunk_rows (outs 0)) (chunk_rows p.work.made) (gathered e) in
-        let unfinished : (kept_output p 0).fin_out ≡ true → ⊥ =
-        (λ f. let end = over f in let c : false ≡ true = sym e ∙ end.2 in cc) in
-        record {
-          held = λ some. absurd (let l = ap length none in omega (arith, l, some));
-          done_held = λ fin. absurd (unfinished (and_parts _ _ fin).0);
-          whole = λ open'. record {
-            rows = some.0;
-            makes = some.1;
-            front = record {
-              rest = some.0;
-              is = ap (λ l. l ++ some.0) none;
-              all = λ fin. absurd (unfinished (and_parts _ _ fin).0);
-            };
-          };
-        }
+    go true e = search (arith, append_assoc, front-of)
+    go false e = search (arith, front-none, and_parts)
 
 -- A sort gives the rows of its input in an order that its keys allow.
 pub sort-gives : (order : SortSpec) → KindGives (spec.Sort order)
@@ -259,11 +231,7 @@ module _ (order : SortSpec) (files : _) (takes : ℕ) (p : BoxPicture) (ins outs
 
   nothing-left : (kept_output p 0).fin_out ≡ true → waits ≡ []
   unfolding first_rows
-  nothing-left f =
-      let end = m.over 0 f in
-      ap₂ (λ a b. a ++ b) (ap chunk_rows end.nothing_waits)
-      (ap₂ (λ a b. a ++ b) end.noted
-      (none-past (unworked_at p.work) 0 32 (λ i le. all-worked-at p.work i end.all_worked)))
+  nothing-left f = search (arith, none-past, all-worked-at)
 
   merge-held : (n : ℕ)
       → GivesMerged keys (at_ports (in_stream p ins) n 0 takes) (out_stream p outs 0)

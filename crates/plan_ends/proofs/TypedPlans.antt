@@ -82,8 +82,7 @@ FitsOrdering v (Some order) = FitsOrder order v
 gather-typed : (more : List DraftNode) (order : Option SortSpec) (k : ℕ) (v : Types)
     → FitsOrdering v order → AllTyped more (v ∷ [])
     → AllTyped (gather_nodes order k ++ more) (replicate k v)
-gather-typed more None k v h rest =
-    joint-typed more spec.Resize 12 k 1 v v (resize-type k v) rest
+gather-typed more None k v h rest = search (arith, joint-typed, resize-type)
 gather-typed more (Some order) k v h rest =
     simp append_assoc (lanes-typed _ (spec.Sort order) 11 0 k [] v v refl
     (record { fit = (h, tt); makes = λ t us all m. m ∙ sym h.types_are })

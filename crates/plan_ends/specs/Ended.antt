@@ -1,18 +1,12 @@
 -- The streams of a run that has ended.
-use Rattle.std.specs.Prelude.{◌≡◌, ◌⊎◌, ℕ, ◌<◌, ◌≤◌, ◌+◌, not, ◌&&◌, cond, true, false, List, [], ◌∷◌, length, is_none, ⊤, Option, Some, None, map}
-use Rattle.chunk_data.specs.Values.{Table}
-use Rattle.chunk_data.specs.declared.typed_value.ColumnType.{ColumnType}
-use Rattle.query_model.specs.Names.{part_records, good_rows, bad_place, Files, UsedPart, file_bytes}
-use Rattle.query_model.specs.declared.processor_spec.PartSpec.{PartSpec}
-use Rattle.query_model.specs.declared.processor_spec.Spec.{Spec}
-use Rattle.query_model.specs.declared.processor_spec.Kind.{Kind}
+use Rattle.exec_laws.specs.Names.{IsDone, box_at}
+use Rattle.plan_meaning.specs.Names.{GivesIf, Part, Parts, Stream}
+use Rattle.plan_meaning.specs.Prelude.{DraftNode, NodePort, no_draft, ports_of, with_nodes}
+use Rattle.proc_api.specs.Names.{AreCounts, ArePortsOf, BoxPicture, GrowthForm, Keeps, Lists, chunk_rows, is_of, kept_input, kept_inputs, kept_output, kept_outputs, last_count}
+use Rattle.proc_api.specs.Prelude.{ColumnType, Kind, PartSpec, Spec, Table}
+use Rattle.query_model.specs.Names.{Files, UsedPart, bad_place, file_bytes, good_rows, part_records}
+use Rattle.std.specs.Prelude.{List, None, Option, Some, [], cond, false, is_none, length, map, not, true, ℕ, ⊤, ◌&&◌, ◌+◌, ◌<◌, ◌∷◌, ◌≡◌, ◌≤◌, ◌⊎◌}
 use Rattle.query_model.specs.declared.processor_spec.Spec.TheVariants as spec
-use Rattle.proc_api.specs.Names.{BoxPicture, kept_input, kept_output, kept_inputs, kept_outputs, Lists, chunk_rows, last_count, Keeps, GrowthForm, ArePortsOf, AreCounts, is_of}
-use Rattle.exec_laws.specs.Names.{box_at, IsDone}
-use Rattle.plan_graph.specs.Drafts.{no_draft, with_nodes, ports_of}
-use Rattle.plan_graph.specs.declared.nodes.DraftNode.{DraftNode}
-use Rattle.plan_graph.specs.declared.nodes.NodePort.{NodePort}
-use Rattle.plan_meaning.specs.Names.{Part, Parts, Stream, GivesIf}
 
 abbrev pub part_in : PartSpec → Option (List ℕ) → Part
 part_in part None = record { rows = []; valid = false }

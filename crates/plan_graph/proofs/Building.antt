@@ -1,9 +1,8 @@
 -- One port, wire or node more.
-use Rattle.std.proofs.Common.{List, [], ap, arith, drop, get_or, length, suc, sym, take, zero, ℕ, ◌++◌, ◌+◌, ◌<◌, ◌∙◌, ◌∷◌, ◌≡◌, ◌≤◌}
-use Rattle.plan_graph.proofs.Prelude.{get_or-drop, length-drop, length-take-le, take_more}
+use Rattle.chunk_data.proofs.Imports.{List, [], ap, arith, drop, get_or, length, suc, sym, take, zero, ℕ, ◌++◌, ◌+◌, ◌<◌, ◌∙◌, ◌∷◌, ◌≡◌, ◌≤◌}
 use Rattle.plan_graph.proofs.GraphLaws.{with-append}
-use Rattle.port_word.specs.declared.flags.Wire.{Wire}
-use Rattle.plan_graph.specs.Names.{AllFitDraft, Draft, FitsDraft, ports_of, run_of, wires_to, with_node, with_nodes, DraftNode, NodePort}
+use Rattle.plan_graph.proofs.Prelude.{Wire, get_or-drop, length-drop, length-take-le, take_more}
+use Rattle.plan_graph.specs.Names.{AllFitDraft, Draft, DraftNode, FitsDraft, NodePort, ports_of, run_of, wires_to, with_node, with_nodes}
 
 ports-suc : (n o k : ℕ) → ports_of n o (suc k) ≡ ports_of n o k ++ record { node = n; port = o + k }
     ∷ []
@@ -15,11 +14,7 @@ ports-suc n o (suc k) =
 
 pub ports-more : (n k : ℕ) → ports_of n 0 (k + 1) ≡ ports_of n 0 k ++ record { node = n; port = k }
     ∷ []
-ports-more n k =
-    let next : k + 1 ≡ suc k = omega arith in
-    let here : 0 + k ≡ k = omega arith in
-    ap (ports_of n 0) next ∙ ports-suc n 0 k
-    ∙ ap (λ m. ports_of n 0 k ++ record { node = n; port = m } ∷ []) here
+ports-more n k = search (arith, ports-suc)
 
 -- the wire from this end to input i of node n
 abbrev pub wire_to : ℕ → ℕ → NodePort → Wire
@@ -35,8 +30,7 @@ wires-push n i (x ∷ es) e =
 
 pub run-more : {X : Type 0} (a k : ℕ) (xs : List X) (d : X) → a + k < length xs
     → run_of a (k + 1) xs ≡ run_of a k xs ++ get_or xs (a + k) d ∷ []
-run-more a k xs d lt = take_more (drop a xs) k d (omega (arith, lt, length-drop a xs))
-    ∙ ap (λ x. take k (drop a xs) ++ x ∷ []) (get_or-drop a xs k d)
+run-more a k xs d lt = search (arith, take_more, length-drop, get_or-drop)
 
 pub wires-more : (n a k : ℕ) (xs : List NodePort) (d : NodePort) → a + k < length xs
     → wires_to n 0 (run_of a (k + 1) xs) ≡ wires_to n 0 (run_of a k xs)

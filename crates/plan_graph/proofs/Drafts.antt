@@ -1,9 +1,9 @@
 -- A list of nodes, each of which takes open ends of lower ranks, makes a graph where no end is left
 -- open.
-use Rattle.std.proofs.Common.{IsPermutation, List, [], ap, append_assoc, ap₂, arith, cond, count_by, drop, get_or, length, map, refl, subst, suc, sum_by, sym, take, zero, ℕ, ◌&&◌, ◌++◌, ◌+◌, ◌<◌, ◌==◌, ◌∙◌, ◌∷◌, ◌≡◌, ◌≤◌}
-use Rattle.plan_graph.proofs.Prelude.{All, All-append, All-cons, All-drop, All-nil, All-permutation, All-push, All-take, All-weaker, Contains, Contains-permutation, IsDistinct-IsPermutation, IsGraph, IsPermutation-append, IsPermutation-append_comm, IsPermutation-append_left, IsPermutation-append_right, IsPermutation-refl, IsPermutation-same, IsPermutation-sym, IsPermutation-trans, Wire, append-nil, get_or-map, get_or_append_left, input_count, is-gapless, length-append, length-map, map-append, no_wire, output_count, rank-kept, rank_at, sum_by-IsPermutation, sum_by-cons, wire-input, wire-output, wire_at}
+use Rattle.std.proofs.Common.{IsPermutation, List, [], ap, append_assoc, ap₂, arith, count_by, drop, get_or, length, map, refl, subst, suc, sym, take, zero, ℕ, ◌&&◌, ◌++◌, ◌+◌, ◌<◌, ◌==◌, ◌∙◌, ◌∷◌, ◌≡◌, ◌≤◌}
+use Rattle.plan_graph.proofs.Prelude.{All, All-append, All-cons, All-drop, All-nil, All-permutation, All-push, All-take, All-weaker, Contains, Contains-permutation, IsDistinct-IsPermutation, IsGraph, IsPermutation-append, IsPermutation-append_comm, IsPermutation-append_left, IsPermutation-append_right, IsPermutation-refl, IsPermutation-same, IsPermutation-sym, IsPermutation-trans, Wire, append-nil, get_or-map, get_or_append_left, input_count, is-gapless, length-append, length-map, map-append, no_wire, output_count, rank-kept, rank_at, sum_by-IsPermutation, wire-input, wire-output, wire_at}
 use Rattle.plan_graph.specs.Names.{AllFitDraft, Draft, FitsDraft, IsDraft, consumer_of, given_by, no_draft, ports_from, ports_of, producer_of, taken_by, wires_to, with_node, with_nodes, DraftNode, NodePort}
-use Rattle.plan_graph.proofs.Ports.{IsPortFrom, at_node, count-at, eqb-flips, ports-contain, ports-distinct, ports-from, ports_from-push, same-place, same_port}
+use Rattle.plan_graph.proofs.Ports.{IsPortFrom, at_node, count-at, eqb-flips, ports-contain, ports-distinct, ports-from, ports_from-push, same-place, same_port, sum_by-map}
 use Rattle.plan_graph.proofs.Places.{run-length, run-split}
 
 -- ---- wires
@@ -49,8 +49,7 @@ ends-known takes gives d h = All-permutation (λ (p : NodePort). p.node < length
     let count = h.outputs_count in omega (arith, is, lt, count)) _ (ports-from 0 gives))
 
 pub all-front : {X : Type 0} (P : X → Type 0) (xs ys : List X) → All P (xs ++ ys) → All P xs
-all-front P xs ys h = λ k d lt. subst P (get_or_append_left xs ys d k lt)
-    (h k d (omega (arith, length-append xs ys, lt)))
+all-front P xs ys h = search (arith, get_or_append_left, length-append)
 
 pub all-back : {X : Type 0} (P : X → Type 0) (xs ys : List X) → All P (xs ++ ys) → All P ys
 all-back P [] ys h = h
@@ -138,8 +137,7 @@ draft-from : (takes gives : List ℕ) (nodes : List DraftNode) (d : Draft) → I
     → AllFitDraft nodes d
     → IsDraft (takes ++ map (λ (z : DraftNode). z.takes) nodes)
     (gives ++ map (λ (z : DraftNode). z.gives) nodes) (with_nodes nodes d)
-draft-from takes gives [] d h f = subst (λ l. IsDraft l (gives ++ []) d) (sym (append-nil takes))
-    (subst (λ l. IsDraft takes l d) (sym (append-nil gives)) h)
+draft-from takes gives [] d h f = search (arith, append-nil)
 draft-from takes gives (node ∷ nodes) d h f =
     rw (append_assoc takes (node.takes ∷ []) (map (λ (z : DraftNode). z.takes) nodes)) at
     (rw (append_assoc gives (node.gives ∷ []) (map (λ (z : DraftNode). z.gives) nodes)) at
@@ -147,15 +145,7 @@ draft-from takes gives (node ∷ nodes) d h f =
     (draft-more takes gives node d h f.0) f.1))
 
 pub draft-start : IsDraft [] [] no_draft
-draft-start = record {
-  inputs_count = refl;
-  outputs_count = refl;
-  inputs = refl;
-  outputs = IsPermutation-refl [];
-  ranked = All-nil _;
-  few_inputs = All-nil _;
-  few_outputs = All-nil _;
-}
+draft-start = search (arith, IsPermutation-refl, All-nil)
 
 -- what a list of nodes makes is a draft of theirs
 pub draft-of : (nodes : List DraftNode) → AllFitDraft nodes no_draft
@@ -179,16 +169,7 @@ pub record HasImage {X Y : Type 0} (f : X → Y) (xs : List X) (d : X) (y : Y) :
 
 image-of : {X Y : Type 0} (f : X → Y) (xs : List X) (d : X) (y : Y) → Contains (map f xs) y
     → HasImage f xs d y
-image-of f xs d y c =
-    let lt : c.0 < length xs = let le = c.1 in omega (arith, le, length-map xs f) in
-    record { place = c.0; in_range = lt; is = sym (get_or-map f xs c.0 d y lt) ∙ c.2 }
-
-count-map : (f : Wire → NodePort) (n : ℕ) (ws : List Wire)
-    → count_by (λ (w : Wire). (f w).node == n) ws ≡ sum_by (at_node n) (map f ws)
-count-map f n [] = refl
-count-map f n (w ∷ ws) = sum_by-cons (λ (v : Wire). cond ((f v).node == n) 1 0) w ws
-    ∙ ap (λ k. at_node n (f w) + k) (count-map f n ws)
-    ∙ sym (sum_by-cons (at_node n) (f w) (map f ws))
+image-of f xs d y c = search (arith, length-map, get_or-map)
 
 -- one side of the wires: their producers are the nodes' outputs, and their consumers the inputs
 module _ (f : Wire → NodePort) (ks : List ℕ) (ws : List Wire)
@@ -222,13 +203,12 @@ module _ (f : Wire → NodePort) (ks : List ℕ) (ws : List Wire)
 
   -- as many ports as the nodes say
   side-count : (n : ℕ) → count_by (λ (w : Wire). (f w).node == n) ws ≡ get_or ks n 0
-  side-count n = count-map f n ws ∙ sym (sum_by-IsPermutation (at_node n) _ _ are)
+  side-count n = sym (sum_by-map (at_node n) f ws) ∙ sym (sum_by-IsPermutation (at_node n) _ _ are)
       ∙ count-at 0 n n ks (omega arith)
 
 outputs-are : (takes gives : List ℕ) (d : Draft) → IsDraft takes gives d → d.ends ≡ []
     → IsPermutation (map producer_of d.wires) (ports_from 0 gives)
-outputs-are takes gives d h none = rw (ap (λ l. map producer_of d.wires ++ l) none
-    ∙ append-nil (map producer_of d.wires)) at h.outputs
+outputs-are takes gives d h none = search (arith, append-nil)
 
 pub graph-of-draft : (takes gives : List ℕ) (d : Draft) → IsDraft takes gives d → d.ends ≡ []
     → length d.ranks ≤ 256 → length d.wires ≤ 1024

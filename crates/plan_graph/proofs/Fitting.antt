@@ -17,9 +17,7 @@ map-same f g (x ∷ xs) h = ap (λ y. y ∷ map f xs) (h 0 x (omega arith))
 ports-ranks : (ranks : List ℕ) (n o k r : ℕ) → rank_at ranks n ≡ r
     → map (λ (e : NodePort). rank_at ranks e.node) (ports_of n o k) ≡ replicate k r
 ports-ranks ranks n o zero r e = refl
-ports-ranks ranks n o (suc k) r e =
-    ap (λ x. x ∷ map (λ (e : NodePort). rank_at ranks e.node) (ports_of n (suc o) k)) e
-    ∙ ap (λ l. r ∷ l) (ports-ranks ranks n (suc o) k r e)
+ports-ranks ranks n o (suc k) r e = search (arith, ports-ranks ranks n (suc o) k r e)
 
 -- what is left open after the nodes has these ranks
 record EndsAre (d : Draft) (rs : List ℕ) : Type 0 where
@@ -96,10 +94,7 @@ pub record FitsBlock (nodes : List DraftNode) (before after : List ℕ) : Type 0
 
 pub block-append : {xs ys : List DraftNode} {a b c : List ℕ} → FitsBlock xs a b → FitsBlock ys b c
     → FitsBlock (xs ++ ys) a c
-block-append {xs} {ys} {a} f g = record {
-  fit = fit-append xs ys a f.fit (subst (AllFitEnds ys) (sym f.leaves) g.fit);
-  leaves = after-append xs ys a ∙ ap (ranks_after ys) f.leaves ∙ g.leaves;
-}
+block-append {xs} {ys} {a} f g = search (arith, fit-append, after-append)
 
 pub all-front' : (P : ℕ → Type 0) (xs ys : List ℕ) → All P ys → xs ≡ ys → All P xs
 all-front' P xs ys h e = subst (All P) (sym e) h
@@ -207,13 +202,7 @@ lanes-level s q n r t low high =
 
 pub joint-level : (s : Spec) (q m n r t : ℕ) → r < q → q < t → m ≤ 32 → n ≤ 16
     → Levels (joint_node s q m n ∷ []) (replicate m r) n t
-joint-level s q m n r t low high ins outs =
-    record {
-      rank = q;
-      low = high;
-      block = joint-fit s q m n (replicate m r) (length-replicate m r)
-          (same-ranks m r q low) ins outs;
-    }
+joint-level s q m n r t low high ins outs = search (arith, joint-fit, length-replicate, same-ranks)
 
 pub stay-level : (n r t : ℕ) → r < t → Levels [] (replicate n r) n t
 stay-level n r t low = record { rank = r; low = low; block = record { fit = tt; leaves = refl } }

@@ -26,14 +26,8 @@ replaced-at i k new xs t ys a b =
 
 pub taken-map : {X Y : Type 0} (f : X → Y) (node : DraftNode) (xs : List X)
     → taken_by node (map f xs) ≡ map f (taken_by node xs)
-taken-map f node xs = ap (take node.takes) (drop-map f node.offset xs)
-    ∙ take-map f node.takes (drop node.offset xs)
+taken-map f node xs = search (arith, drop-map, take-map)
 
 pub given-map : {X Y : Type 0} (f : X → Y) (node : DraftNode) (new xs : List X)
     → given_by node (map f new) (map f xs) ≡ map f (given_by node new xs)
-given-map f node new xs =
-    let k : ℕ = node.offset + node.takes in
-    ap (λ l. l ++ (map f new ++ drop k (map f xs))) (take-map f node.offset xs)
-    ∙ ap (λ l. map f (take node.offset xs) ++ (map f new ++ l)) (drop-map f k xs)
-    ∙ ap (λ l. map f (take node.offset xs) ++ l) (sym (map-append f new (drop k xs)))
-    ∙ sym (map-append f (take node.offset xs) (new ++ drop k xs))
+given-map f node new xs = search (arith, take-map, drop-map, map-append)

@@ -1,14 +1,13 @@
 -- The ports of nodes in order: each once, without a gap, and as many of each node as it has.
-use Rattle.std.proofs.Common.{Bool, List, [], ap, append_assoc, arith, cond, false, get_or, inl, inr, length, refl, subst, suc, sum_by, sym, true, zero, ℕ, ◌&&◌, ◌++◌, ◌+◌, ◌<◌, ◌==◌, ◌∙◌, ◌∷◌, ◌≡◌, ◌≤◌, ◌⊎◌}
-use Rattle.plan_graph.proofs.Prelude.{All, All-append, All-cons, All-from_recursion, All-nil, All-weaker, AllByRecursion, Contains, Contains-append_left, Contains-append_right, IsDistinct, IsDistinct-cons, and_from, and_parts, apart_from_distinct, append-nil, both_ways, cases_lt, eq-eqb, eqb-true, false_from_ne_true, recursion_from_All, sum_by-append, sum_by-cons}
+use Rattle.std.proofs.Common.{Bool, List, [], ap, append_assoc, arith, cond, false, get_or, inl, inr, length, map, refl, subst, suc, sum, sum_by, sym, true, zero, ℕ, ◌&&◌, ◌++◌, ◌+◌, ◌<◌, ◌==◌, ◌∙◌, ◌∷◌, ◌≡◌, ◌≤◌, ◌⊎◌}
+use Rattle.plan_graph.proofs.Prelude.{All, All-append, All-cons, All-from_recursion, All-nil, All-weaker, AllByRecursion, Contains, Contains-append_left, Contains-append_right, IsDistinct, IsDistinct-cons, and_from, and_parts, apart_from_distinct, append-nil, both_ways, cases_lt, eq-eqb, eqb-true, false_from_ne_true, map-map, recursion_from_All, sum-map, sum_by-append, sum_by-cons}
 use Rattle.plan_graph.specs.Names.{NodePort, ports_from, ports_of}
 
 -- ---- one more node
 
 pub ports_from-push : (n : ℕ) (ks : List ℕ) (k : ℕ) → ports_from n (ks ++ k ∷ []) ≡ ports_from n ks
     ++ ports_of (n + length ks) 0 k
-ports_from-push n [] k = let here : n ≡ n + 0 = omega arith in append-nil (ports_of n 0 k)
-    ∙ ap (λ m. ports_of m 0 k) here
+ports_from-push n [] k = search (arith, append-nil)
 ports_from-push n (j ∷ ks) k =
     let place : suc n + length ks ≡ n + suc (length ks) = omega arith in
     ap (λ l. ports_of n 0 j ++ l) (ports_from-push (suc n) ks k
@@ -90,12 +89,10 @@ pub same_port-from : (p q : NodePort) → p.node ≡ q.node → p.port ≡ q.por
 same_port-from p q n o = and_from _ _ (eq-eqb _ _ n) (eq-eqb _ _ o)
 
 node-differs : (p q : NodePort) → p.node < q.node → same_port p q ≡ false
-node-differs p q lt = false_from_ne_true _ (λ e. let same : p.node ≡ q.node =
-    eqb-true _ _ (and_parts _ _ e).0 in omega (arith, lt, same))
+node-differs p q lt = search (arith, false_from_ne_true, eqb-true, and_parts)
 
 port-differs : (p q : NodePort) → p.port < q.port → same_port p q ≡ false
-port-differs p q lt = false_from_ne_true _ (λ e. let same : p.port ≡ q.port =
-    eqb-true _ _ (and_parts _ _ e).1 in omega (arith, lt, same))
+port-differs p q lt = search (arith, false_from_ne_true, eqb-true, and_parts)
 
 later-differ : (n o m k : ℕ) → o < m
     → All (λ q. same_port (record { node = n; port = o }) q ≡ false) (ports_of n m k)
@@ -106,9 +103,8 @@ later-differ n o m (suc k) lt = All-cons (λ q. same_port (record { node = n; po
 distinct-of : (n o k : ℕ) → IsDistinct same_port (ports_of n o k)
 unfolding IsDistinct
 distinct-of n o zero = tt
-distinct-of n o (suc k) = IsDistinct-cons same_port (record { node = n; port = o })
-    (ports_of n (suc o) k) (recursion_from_All _ _ (later-differ n o (suc o) k (omega arith)))
-    (distinct-of n (suc o) k)
+distinct-of n o (suc k) =
+    search (arith, IsDistinct-cons, recursion_from_All, later-differ, distinct-of n (suc o) k)
 
 joined-distinct : (xs ys : List NodePort) → IsDistinct same_port xs → IsDistinct same_port ys
     → AllByRecursion (λ x. All (λ y. same_port x y ≡ false) ys) xs
@@ -152,6 +148,11 @@ ports-distinct n ks = distinct-from n ks
 
 -- ---- how many
 
+pub sum_by-map : {X Y : Type 0} (g : Y → ℕ) (f : X → Y) (xs : List X)
+    → sum_by g (map f xs) ≡ sum_by (λ x. g (f x)) xs
+sum_by-map g f xs = sym (sum-map g (map f xs)) ∙ ap sum (map-map g f xs)
+    ∙ sum-map (λ x. g (f x)) xs
+
 abbrev one_if : Bool → ℕ
 one_if b = cond b 1 0
 
@@ -171,12 +172,7 @@ count-none : (ps : List NodePort) (n : ℕ)
     → AllByRecursion (λ (p : NodePort). n < p.node ⊎ p.node < n) ps → sum_by (at_node n) ps ≡ 0
 count-none [] n h = refl
 count-none (p ∷ ps) n h =
-    let other : (p.node == n) ≡ false = false_from_ne_true _ (λ e. let same : p.node ≡ n =
-    eqb-true _ _ e in
-    elim h.0 [ inl lt ↦ omega (arith, same, lt) | inr lt ↦ omega (arith, same, lt) ]) in
-    let first : at_node n p ≡ 0 = ap one_if other in
-    let rest : sum_by (at_node n) ps ≡ 0 = count-none ps n h.1 in
-    sum_by-cons (at_node n) p ps ∙ omega (arith, first, rest)
+    search (arith, false_from_ne_true, eqb-true, sum_by-cons, count-none ps n h.1)
 
 none-of : (n o k j : ℕ) → n < j → sum_by (at_node j) (ports_of n o k) ≡ 0
 none-of n o k j lt = count-none (ports_of n o k) j
@@ -201,6 +197,4 @@ count-at n zero j (k ∷ ks) e =
     let rest = none-later (suc n) j ks (omega (arith, same)) in
     sum_by-append (at_node j) (ports_of n 0 k) (ports_from (suc n) ks) ∙ omega (arith, here, rest)
 count-at n (suc m) j (k ∷ ks) e =
-    let here : sum_by (at_node j) (ports_of n 0 k) ≡ 0 = none-of n 0 k j (omega (arith, e)) in
-    let rest = count-at (suc n) m j ks (omega (arith, e)) in
-    sum_by-append (at_node j) (ports_of n 0 k) (ports_from (suc n) ks) ∙ omega (arith, here, rest)
+    search (arith, none-of, sum_by-append, count-at (suc n) m j ks (omega (arith, e)))

@@ -1,11 +1,10 @@
 -- Plans as lists of nodes in order. An open end is an output that no wire joins yet. Each node
 -- takes a run of the open ends as its inputs 0, 1, .., and puts its outputs in their place.
-use Rattle.std.specs.Prelude.{◌≡◌, ℕ, zero, suc, ◌+◌, ◌<◌, ◌≤◌, List, [], ◌∷◌, ◌++◌, length, map, take, drop, replicate, IsPermutation, ⊤, slice_index_or}
-use Rattle.std.specs.List.{All}
-use Rattle.port_word.specs.declared.flags.Wire.{Wire}
-use Rattle.proc_api.specs.Graphs.{rank_at, IsGraph, input_count, output_count}
 use Rattle.plan_graph.specs.declared.nodes.DraftNode.{DraftNode}
 use Rattle.plan_graph.specs.declared.nodes.NodePort.{NodePort}
+use Rattle.proc_api.specs.Graphs.{IsGraph, input_count, output_count, rank_at}
+use Rattle.proc_api.specs.Prelude.{All, Wire}
+use Rattle.std.specs.Prelude.{IsPermutation, List, [], drop, length, map, replicate, slice_index_or, suc, take, zero, ℕ, ⊤, ◌++◌, ◌+◌, ◌<◌, ◌∷◌, ◌≡◌, ◌≤◌}
 
 -- ---- runs of a list
 

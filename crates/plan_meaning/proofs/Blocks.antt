@@ -1,9 +1,8 @@
 -- The meaning of blocks of nodes, one behind the other, and how many rows the nodes of a kind pull.
 use Rattle.std.proofs.Common.{Bool, IsPermutation, List, [], ap, ap₂, arith, cond, false, inl, inr, length, refl, subst, suc, sym, true, zero, ℕ, ◌++◌, ◌+◌, ◌<◌, ◌∙◌, ◌∷◌, ◌≡◌}
-use Rattle.plan_meaning.proofs.Prelude.{AllByRecursion, AllZip, DraftNode, IsPermutation-same, IsPermutation-trans, Kind, Row, Spec, and_from, and_parts, append-nil, append_assoc, every-append, given_by, joint_node, kind_of, lane_nodes, length-append, length-map, length_permutation, or_cases, replaced-at, run-at, same_kind, source_nodes, taken_by}
+use Rattle.plan_meaning.proofs.Prelude.{AllByRecursion, AllZip, AllZip-long, DraftNode, IsPermutation-same, IsPermutation-trans, Kind, Row, Spec, and_from, and_parts, append-nil, append_assoc, every-append, joint_node, kind_of, lane_nodes, length-append, length-map, length_permutation, or_cases, replaced-at, run-at, same_kind, source_nodes, taken_by}
 use Rattle.query_model.specs.declared.processor_spec.Spec.TheVariants as spec
 use Rattle.plan_meaning.specs.Names.{Flow, Parts, all_certain, all_rows, any_needs, flow_rows, flows_of, IsNoLimit, IsOpenNode, IsSource, IsTold, Makes, Means, MeansNode, all_valid, if_kind, is_certain, is_needed, is_valid_source, meant_by, pulls, source_list, sources_rows}
-use Rattle.plan_meaning.proofs.Zips.{zip-length}
 
 -- ---- nodes
 
@@ -28,19 +27,7 @@ record NodeMade (parts : Parts) (node : DraftNode) (xs t ys before after : List 
 node-at : (parts : Parts) (node : DraftNode) (xs t ys before after : List Flow)
     → before ≡ xs ++ (t ++ ys) → length xs ≡ node.offset → length t ≡ node.takes
     → MeansNode parts node before after → NodeMade parts node xs t ys before after
-node-at parts node xs t ys before after is a b m =
-    let taken : taken_by node before ≡ t = ap (λ l. taken_by node l) is
-    ∙ run-at node.offset node.takes xs t ys a b in
-    record {
-      outs = m.outs;
-      makes = subst (λ l. Makes parts node.spec (flow_rows l) m.outs) taken m.makes;
-      count = m.count;
-      are = m.are ∙ ap₂ (λ l k. given_by node
-          (flows_of (is_certain parts node.spec l) (is_needed parts node.spec l) m.outs) k) taken is
-          ∙ replaced-at node.offset node.takes (flows_of (is_certain parts node.spec t)
-          (is_needed parts node.spec t) m.outs) xs t ys a b;
-      pulled = λ k. ap (λ l. if_kind k node (length (all_rows (flow_rows l)))) taken;
-    }
+node-at parts node xs t ys before after is a b m = search (arith, run-at, replaced-at)
 
 pub only-one : {X : Type 0} (P : List X → Type 0) (xs : List X) → length xs ≡ 1 → P xs → (x : X)
     × (xs ≡ x ∷ []) × P (x ∷ [])
@@ -101,12 +88,7 @@ lanes-mean : (parts : Parts) (s : Spec) (rank i n : ℕ) (xs ys before after : L
     → before ≡ xs ++ ys → length xs ≡ i → length ys ≡ n
     → (m : Means parts (lane_nodes s rank i n) before after)
     → LanesMade parts s rank i n xs ys before after m
-lanes-mean parts s rank i zero xs [] before after is a b m = record {
-  lanes = [];
-  are = m ∙ is;
-  each = tt;
-  pulled = λ k. sym (none-of (same_kind (kind_of s) k));
-}
+lanes-mean parts s rank i zero xs [] before after is a b m = search (arith, none-of)
 lanes-mean parts s rank i (suc n) xs (y ∷ ys) before after is a b m =
     let node : DraftNode = record { spec = s; rank = rank; offset = i; takes = 1; gives = 1 } in
     let made = node-at parts node xs (y ∷ []) ys before m.0 is a refl m.1 in
@@ -155,14 +137,7 @@ sources-mean : (parts : Parts) (specs : List Spec) (i : ℕ) (xs before after : 
     → before ≡ xs → length xs ≡ i → AllByRecursion IsSource specs
     → (m : Means parts (source_nodes i specs) before after)
     → SourcesMade parts specs i xs before after m
-sources-mean parts [] i xs before after is a sources m = record {
-  flows = [];
-  are = m ∙ is ∙ sym (append-nil xs);
-  count = refl;
-  rows_are = refl;
-  certain = λ e. refl;
-  pulled = λ k. refl;
-}
+sources-mean parts [] i xs before after is a sources m = search (arith, append-nil)
 sources-mean parts (s ∷ specs) i xs before after is a sources m =
     let node : DraftNode = record { spec = s; rank = 1; offset = i; takes = 0; gives = 1 } in
     let made = node-at parts node xs [] [] before m.0 (is ∙ sym (append-nil xs)) a refl m.1 in
@@ -283,10 +258,7 @@ module _ {parts : Parts} {unlimited : Type 0} where
 
   pub no-block : {P Q : List Flow → Type 0} → ((l : List Flow) → P l → Q l)
       → Block parts unlimited [] P Q (λ k. 0)
-  no-block {P} {Q} to = record {
-    run = λ before after p m. (subst Q (sym m) (to before p), λ u k t. refl);
-    all_open = λ u. tt;
-  }
+  no-block {P} {Q} to = search (arith)
 
   -- lanes of a kind
   pub lanes-block : (s : Spec) (rank lanes : ℕ) (rows : List Row) (c n : Bool)
@@ -298,7 +270,7 @@ module _ {parts : Parts} {unlimited : Type 0} where
   lanes-block s rank lanes rows c n Q limit step = record {
     run = λ before after h m.
         let made = lanes-mean parts s rank 0 lanes [] before before after refl refl h.count m in
-        let count = sym (zip-length (LaneMade parts s) before made.lanes made.each) ∙ h.count in (
+        let count = AllZip-long (LaneMade parts s) before made.lanes made.each ∙ h.count in (
           subst Q (sym made.are) (step before made.lanes h made.each count),
           λ u k t. made.pulled k ∙ ap (pulls k s) (length_permutation _ _ h.same),
         );
@@ -393,12 +365,7 @@ module _ {parts : Parts} {unlimited : Type 0} where
       → ((k : Kind) (a : A) → unlimited → P a
       → pulls k s (length (all_rows (flow_rows (form a)))) ≡ n k)
       → Block parts unlimited (joint_node s rank m 1 ∷ []) (Form form P) (Alone Q) n
-  form-block s rank m form P Q n limit takes step pulled =
-      joint-block s rank m (Form form P) Q n limit (λ l a. ap length a.are ∙ takes a.value)
-      (λ t out a makes. subst (λ l. Q (flow_made parts s l out)) (sym a.are)
-      (step a.value out a.has (subst (λ l. Makes parts s (flow_rows l) (out ∷ [])) a.are makes)))
-      (λ k t u told a. ap (λ l. pulls k s (length (all_rows (flow_rows l)))) a.are
-      ∙ pulled k a.value u a.has)
+  form-block s rank m form P Q n limit takes step pulled = search (arith, joint-block)
 
   -- a resize of all flows but the first
   pub resize-behind : (rank i m n : ℕ) (P : List Flow → Type 0) (rows : List Row) (c d : Bool)
@@ -412,22 +379,16 @@ module _ {parts : Parts} {unlimited : Type 0} where
       } ∷ [])
       (Both P (Spread m rows c d)) (Both P (Spread n rows c d)) (λ k. 0)
   resize-behind rank i m n P rows c d some front =
-      node-block (record { spec = spec.Resize; rank = rank; offset = i; takes = m; gives = n }) P
-      (Spread m rows c d) (Spread n rows c d) (λ k. 0) (λ u. tt) some front (λ l h. h.count)
-      (λ t outs h makes count. record {
-        count = length-map outs (λ rows. record {
-          rows = rows;
-          certain = all_certain t;
-          needs = any_needs t;
-        }) ∙ count;
-        same = IsPermutation-trans _ _ _ h.same (IsPermutation-trans _ _ _ makes
-            (IsPermutation-same _ _ (ap all_rows (rows-marked (all_certain t) (any_needs t)
-            outs))));
-        certain = λ e. h.certain (certain-marked (all_certain t) (any_needs t) outs
-            (omega (arith, some, count)) e);
-        needs = λ e. h.needs (needs-marked (all_certain t) (any_needs t) outs e);
-      })
-      (λ k t u told h. ap (λ b. cond b (length (all_rows (flow_rows t))) 0) told.no_resize)
+      search (
+        arith,
+        node-block,
+        length-map,
+        IsPermutation-trans,
+        IsPermutation-same,
+        rows-marked,
+        certain-marked,
+        needs-marked,
+      )
 
   pub resize-block : (rank m n : ℕ) (rows : List Row) (c d : Bool) → 0 < n
       → Block parts unlimited (joint_node spec.Resize rank m n ∷ []) (Spread m rows c d)

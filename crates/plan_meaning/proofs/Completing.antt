@@ -1,21 +1,16 @@
 -- What passed by the end of a run is the first of what passes where nobody closes an input.
-use Rattle.std.proofs.Common.{Bool, IsPermutation, List, [], ap, ap₂, arith, false, inl, inr, length, refl, subst, sym, take, true, ◌++◌, ◌+◌, ◌<◌, ◌∙◌, ◌∷◌, ◌≡◌}
-use Rattle.plan_meaning.proofs.Prelude.{AllByRecursion, AllZip, DraftNode, IsSortOf, KeyPair, Spec, and_from, and_parts, both_ways, given_by, length-map, or_cases, or_left, run-split, taken_by}
-use Rattle.plan_meaning.specs.Names.{AllInputsDone, IsNoLimit, IsOpenNode, Pulls, Runs, RunsNode, if_kind, Completes, IsFront, Flow, ManyToOne, OneToOne, Parts, Source, Stream, TwoToOne, all_done, all_rows, any_done, flows_of, rows_of, Gives, GivesHeld, GivesJoined, GivesMerged, merged_rows, partial_rows, Makes, is_certain, is_needed}
+use Rattle.std.proofs.Common.{Bool, List, [], ap, ap₂, arith, false, length, refl, subst, sym, take, true, ◌++◌, ◌+◌, ◌<◌, ◌∙◌, ◌∷◌, ◌≡◌}
+use Rattle.plan_meaning.proofs.Prelude.{AllByRecursion, AllZip, AllZip-long, DraftNode, KeyPair, Spec, and_from, and_parts, both_ways, given_by, length-map, list_all-append, or_cases, or_left, run-split, taken_by}
+use Rattle.plan_meaning.specs.Names.{AllInputsDone, IsNoLimit, IsOpenNode, Pulls, Runs, RunsNode, if_kind, Completes, IsFront, Flow, ManyToOne, OneToOne, Parts, Source, Stream, TwoToOne, all_done, all_rows, any_done, flows_of, Gives, GivesJoined, Makes, is_certain, is_needed}
 use Rattle.plan_meaning.proofs.KindLaws.{CompletesKind, complete-kind, done-rows}
 use Rattle.plan_meaning.proofs.Fronts.{pulled-front}
-use Rattle.plan_meaning.proofs.Zips.{zip-chain, zip-given, zip-length, zip-taken}
+use Rattle.plan_meaning.proofs.Zips.{zip-chain, zip-given, zip-taken}
 use Rattle.query_model.specs.declared.processor_spec.Spec.TheVariants as spec
 
 pub completes : (parts : Parts) (nodes : List DraftNode) (before after : List Stream)
     (flows : List Flow) (r : Runs parts nodes before after) → AllZip IsFront before flows
     → Completes parts nodes flows before after r
-completes parts [] before after flows r z = record {
-  flows = flows;
-  means = refl;
-  fronts = subst (λ l. AllZip IsFront l flows) (sym r) z;
-  counted = λ d k. refl;
-}
+completes parts [] before after flows r z = search (arith)
 completes parts (node ∷ nodes) before after flows r z =
     let step : RunsNode parts node before r.0 = r.1 in
     let taken = zip-chain Pulls IsFront IsFront pulled-front step.ins (taken_by node before)
@@ -39,7 +34,7 @@ completes parts (node ∷ nodes) before after flows r z =
           count = sym
               (length-map k.lists
               (λ rows. record { rows = rows; certain = certain; needs = needs }))
-              ∙ sym (zip-length IsFront step.outs next k.fronts) ∙ step.count;
+              ∙ AllZip-long IsFront step.outs next k.fronts ∙ step.count;
           are = refl;
         },
         more.means,
@@ -58,18 +53,11 @@ pub record BothDone (parts : Parts) (nodes : List DraftNode) (before after : Lis
 
 done-append : (xs ys : List Stream) → all_done xs ≡ true → all_done ys ≡ true
     → all_done (xs ++ ys) ≡ true
-done-append [] ys h k = k
-done-append (x ∷ xs) ys h k = let both = and_parts _ _ h in
-    and_from _ _ both.0 (done-append xs ys both.1 k)
+done-append xs ys h k = list_all-append (λ (s : Stream). s.done) xs ys ∙ and_from _ _ h k
 
-done-front : (xs ys : List Stream) → all_done (xs ++ ys) ≡ true → all_done xs ≡ true
-done-front [] ys h = refl
-done-front (x ∷ xs) ys h = let both = and_parts _ _ h in
-    and_from _ _ both.0 (done-front xs ys both.1)
-
-done-back : (xs ys : List Stream) → all_done (xs ++ ys) ≡ true → all_done ys ≡ true
-done-back [] ys h = h
-done-back (x ∷ xs) ys h = done-back xs ys (and_parts _ _ h).1
+done-parts : (xs ys : List Stream) → all_done (xs ++ ys) ≡ true
+    → (all_done xs ≡ true) × (all_done ys ≡ true)
+done-parts xs ys h = and_parts _ _ (sym (list_all-append (λ (s : Stream). s.done) xs ys) ∙ h)
 
 any-of-all : (xs : List Stream) → 0 < length xs → all_done xs ≡ true → any_done xs ≡ true
 any-of-all [] lt h = absurd (omega (arith, lt))
@@ -84,15 +72,13 @@ pulled-done ins ss z h = absurd z
 
 one-done : (R : Stream → Stream → Type 0) → ((i o : Stream) → R i o → o.done ≡ true → i.done ≡ true)
     → (ins outs : List Stream) → OneToOne R ins outs → any_done outs ≡ true → all_done ins ≡ true
-one-done R f (i ∷ []) (o ∷ []) r e = elim (or_cases o.done false e)
-    [ inl d ↦ and_from _ _ (f i o r d) refl | inr off ↦ absurd (both_ways false refl off) ]
+one-done R f (i ∷ []) (o ∷ []) r e = search (arith, or_cases, and_from, both_ways)
 one-done R f ins outs r e = absurd r
 
 many-done : (R : List Stream → Stream → Type 0)
     → ((ins : List Stream) (o : Stream) → R ins o → o.done ≡ true → all_done ins ≡ true)
     → (ins outs : List Stream) → ManyToOne R ins outs → any_done outs ≡ true → all_done ins ≡ true
-many-done R f ins (o ∷ []) r e = elim (or_cases o.done false e)
-    [ inl d ↦ f ins o r d | inr off ↦ absurd (both_ways false refl off) ]
+many-done R f ins (o ∷ []) r e = search (arith, or_cases, both_ways)
 many-done R f ins outs r e = absurd r
 
 source-done : (P : Stream → Type 0) (ins outs : List Stream) → Source P ins outs
@@ -102,10 +88,7 @@ source-done P (i ∷ ins) outs r = absurd r
 
 join-done : (pairs : List KeyPair) (ins outs : List Stream) → TwoToOne (GivesJoined pairs) ins outs
     → any_done outs ≡ true → all_done ins ≡ true
-join-done pairs (l ∷ r ∷ []) (o ∷ []) q e = elim (or_cases o.done false e) [
-  | inl d ↦ and_from _ _ (q.left_done d) (and_from _ _ (q.right_done d) refl)
-  | inr off ↦ absurd (both_ways false refl off)
-]
+join-done pairs (l ∷ r ∷ []) (o ∷ []) q e = search (arith, or_cases, and_from, both_ways)
 join-done pairs ins outs q e = absurd q
 
 inputs-done : (parts : Parts) (s : Spec) (ins outs : List Stream) → Gives parts s ins outs
@@ -113,24 +96,14 @@ inputs-done : (parts : Parts) (s : Spec) (ins outs : List Stream) → Gives part
 inputs-done parts (spec.Csv part) ins outs g n e = source-done _ ins outs g
 inputs-done parts (spec.Numbers m rows) ins outs g n e = source-done _ ins outs g
 inputs-done parts (spec.Filter c) ins outs g n e = one-done _ (λ i o r. r.input_done) ins outs g e
-inputs-done parts (spec.Expression items) ins outs g n e = one-done _ (λ i o r. r.input_done) ins
-    outs g e
+inputs-done parts (spec.Expression items) ins outs g n e = search (arith, one-done)
 inputs-done parts spec.Resize ins outs g n e = g.inputs_done e
 inputs-done parts (spec.Limit span) ins outs g n e = absurd n
-inputs-done parts (spec.PartialAggregate p) ins outs g n e =
-    one-done (λ (i o : Stream). GivesHeld (λ rows. IsPermutation (partial_rows p i.rows) rows)
-    i.done o) (λ i o r. r.done_held) ins outs g e
-inputs-done parts (spec.MergeAggregate p) ins outs g n e =
-    many-done
-    (λ (is : List Stream) (o : Stream). GivesHeld
-    (λ rows. IsPermutation (merged_rows p (all_rows (rows_of is))) rows) (all_done is) o)
-    (λ is o r. r.done_held) ins outs g e
+inputs-done parts (spec.PartialAggregate p) ins outs g n e = search (arith, one-done)
+inputs-done parts (spec.MergeAggregate p) ins outs g n e = search (arith, many-done)
 inputs-done parts (spec.HashJoin join) ins outs g n e = join-done join.pairs ins outs g e
-inputs-done parts (spec.Sort order) ins outs g n e =
-    one-done (λ (i o : Stream). GivesHeld (IsSortOf order.keys i.rows) i.done o)
-    (λ i o r. r.done_held) ins outs g e
-inputs-done parts (spec.MergeSorted order) ins outs g n e = many-done (GivesMerged order.keys)
-    (λ is o r. r.inputs_done) ins outs g e
+inputs-done parts (spec.Sort order) ins outs g n e = search (arith, one-done)
+inputs-done parts (spec.MergeSorted order) ins outs g n e = search (arith, many-done)
 inputs-done parts spec.Collect ins [] g n e = absurd (both_ways false refl e)
 inputs-done parts spec.Collect (i ∷ []) (o ∷ outs) g n e = absurd g
 inputs-done parts _ ins outs g n e = absurd g
@@ -138,23 +111,23 @@ inputs-done parts _ ins outs g n e = absurd g
 pub all-inputs-done : (parts : Parts) (nodes : List DraftNode) (before after : List Stream)
     (r : Runs parts nodes before after) → AllByRecursion IsOpenNode nodes → all_done after ≡ true
     → BothDone parts nodes before after r
-all-inputs-done parts [] before after r open_nodes e =
-    record { ends = subst (λ l. all_done l ≡ true) r e; inputs = tt }
+all-inputs-done parts [] before after r open_nodes e = search (arith)
 all-inputs-done parts (node ∷ nodes) before after r open_nodes e =
     let more = all-inputs-done parts nodes r.0 after r.2 open_nodes.1 e in
     let step : RunsNode parts node before r.0 = r.1 in
     let all : all_done (given_by node step.outs before) ≡ true = subst (λ l. all_done l ≡ true)
     step.are more.ends in
-    let behind = done-back (take node.offset before) _ all in
+    let parted = done-parts (take node.offset before) _ all in
+    let behind = done-parts step.outs _ parted.1 in
     let count = step.count in
     let some : 0 < node.gives = open_nodes.0.0 in
     let ins = inputs-done parts node.spec step.ins step.outs step.gives open_nodes.0.1
-    (any-of-all step.outs (omega (arith, some, count)) (done-front step.outs _ behind)) in
+    (any-of-all step.outs (omega (arith, some, count)) behind.0) in
     record {
       ends = subst (λ l. all_done l ≡ true) (run-split node.offset node.takes before)
-          (done-append (take node.offset before) _ (done-front (take node.offset before) _ all)
+          (done-append (take node.offset before) _ parted.0
           (done-append (taken_by node before) _
           (pulled-done step.ins (taken_by node before) step.pulls ins)
-          (done-back step.outs _ behind)));
+          behind.1));
       inputs = (ins, more.inputs);
     }

@@ -1,6 +1,6 @@
 -- Expressions and conditions of one form have the same values and the same types.
 use Rattle.plan_meaning.proofs.Prelude.{All-cons, All-head, All-tail, ColumnType, Cond, Expr, IsItem, IsTyped, IsTypedCond, IsTypedOperand, Operand, Row, cond_form, formula, is_text, item_row, operand_form, operand_type, operand_value, plain_of, truth_of, type_of, value_of}
-use Rattle.std.proofs.Common.{All, List, [], ap, ap₂, map, not, refl, subst, ℕ, ◌&&◌, ◌||◌, ◌∷◌, ◌≡◌}
+use Rattle.std.proofs.Common.{All, List, [], ap, ap₂, arith, map, refl, ℕ, ◌∷◌, ◌≡◌}
 use Rattle.query_model.specs.declared.query.ExprOf.TheVariants as expr
 use Rattle.query_model.specs.declared.query.Operand.TheVariants as operand
 use Rattle.query_model.specs.declared.query.CondOf.TheVariants as cond'
@@ -14,31 +14,14 @@ pub record SameExpr (a b : Expr) : Type 0 where
   pub typed : (types : List ColumnType) → IsTyped types a → IsTyped types b
 
 itself : (a b : Expr) → a ≡ b → SameExpr a b
-itself a b e = subst (SameExpr a) e (record {
-  value = λ row. refl;
-  type = λ types. refl;
-  plain = refl;
-  typed = λ types h. h;
-})
+itself a b e = search (arith)
 
 pub exprs-same : (a b : Expr) → formula a ≡ formula b → SameExpr a b
 unfolding value_of type_of
 exprs-same (expr.Column c) (expr.Column d) e = itself _ _ (let same : c ≡ d = cc in cc)
 exprs-same (expr.Number m) (expr.Number n) e = itself _ _ (let same : m ≡ n = cc in cc)
 exprs-same (expr.Arith' o p a q b) (expr.Arith' u r c s d) e =
-    let op : o ≡ u = cc in
-    let left : SameExpr a c = exprs-same a c cc in
-    let right : SameExpr b d = exprs-same b d cc in
-    record {
-      value = λ row. let x = left.value row in let y = right.value row in cc;
-      type = λ types. let x = left.type types in let y = right.type types in cc;
-      plain = refl;
-      typed = λ types h. (
-        left.typed types h.0,
-        right.typed types h.1,
-        rw (left.plain, left.type types, right.plain, right.type types) at h.2,
-      );
-    }
+    search (arith, exprs-same a c cc, exprs-same b d cc)
 exprs-same a b e = absurd (cc)
 
 -- ---- items
@@ -79,15 +62,8 @@ unfolding operand_value
 operands-same (operand.Plain x) (operand.Plain y) e =
     let same : SameExpr x y = exprs-same x y cc in
     record { value = same.value; type = same.type; typed = same.typed }
-operands-same (operand.Text x) (operand.Text y) e =
-    let same : x ≡ y = cc in
-    record {
-      value = λ row. ap (λ k. operand_value (operand.Text k) row) same;
-      type = λ types. refl;
-      typed = λ types h. tt;
-    }
-operands-same (operand.Agg x) (operand.Agg y) e =
-    record { value = λ row. refl; type = λ types. refl; typed = λ types h. absurd h }
+operands-same (operand.Text x) (operand.Text y) e = search (arith)
+operands-same (operand.Agg x) (operand.Agg y) e = search (arith)
 operands-same a b e = absurd (cc)
 
 pub record SameCond (a b : Cond) : Type 0 where
@@ -109,20 +85,8 @@ conds-same (cond'.Compare o a b) (cond'.Compare u c d) e =
           (left.typed types h.0, right.typed types h.1, cc);
     }
 conds-same (cond'.And' p a q b) (cond'.And' r c s d) e =
-    let left : SameCond a c = conds-same a c cc in
-    let right : SameCond b d = conds-same b d cc in
-    record {
-      truth = λ row. ap₂ (λ x y. x && y) (left.truth row) (right.truth row);
-      typed = λ types h. (left.typed types h.0, right.typed types h.1);
-    }
+    search (arith, conds-same a c cc, conds-same b d cc)
 conds-same (cond'.Or' p a q b) (cond'.Or' r c s d) e =
-    let left : SameCond a c = conds-same a c cc in
-    let right : SameCond b d = conds-same b d cc in
-    record {
-      truth = λ row. ap₂ (λ x y. x || y) (left.truth row) (right.truth row);
-      typed = λ types h. (left.typed types h.0, right.typed types h.1);
-    }
-conds-same (cond'.Not' p a) (cond'.Not' r c) e =
-    let inner : SameCond a c = conds-same a c cc in
-    record { truth = λ row. ap not (inner.truth row); typed = inner.typed }
+    search (arith, conds-same a c cc, conds-same b d cc)
+conds-same (cond'.Not' p a) (cond'.Not' r c) e = search (arith, conds-same a c cc)
 conds-same a b e = absurd (cc)

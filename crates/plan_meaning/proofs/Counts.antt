@@ -1,5 +1,5 @@
 -- A plan's nodes counted step by step: their number, their inputs, those of a kind.
-use Rattle.std.proofs.Common.{List, None, Option, Some, [], ap, arith, length, refl, suc, sym, zero, ℕ, ◌*◌, ◌++◌, ◌+◌, ◌∙◌, ◌∷◌, ◌≡◌, ◌≤◌}
+use Rattle.std.proofs.Common.{List, None, Option, Some, [], ap, arith, length, refl, suc, zero, ℕ, ◌*◌, ◌++◌, ◌+◌, ◌∷◌, ◌≡◌, ◌≤◌}
 use Rattle.plan_meaning.proofs.Prelude.{AllFitDraft, Cond, Draft, DraftNode, NodePort, SortSpec, Span, Spec, lane_nodes, length-append, run-length, source_nodes, sum_by-append, sum_by-cons, taken_by, wires_to, with_node, with_nodes}
 use Rattle.query_model.specs.declared.processor_spec.Spec.TheVariants as spec
 use Rattle.plan_meaning.specs.Names.{PlanShape, plain, grouped, PlanJoin, SelectPlan, filter_nodes, limit_nodes, read_nodes, gather_nodes, sort_nodes, shape_nodes, plan_nodes, FewJoined, IsSmall, Count, counted, each_node, each_input, sources_count, read_count, filter_count, gather_count, sort_count, shape_count, limit_count, plan_count}
@@ -17,23 +17,17 @@ counted-cons w x xs = sum_by-cons (λ (n : DraftNode). w n.spec n.takes) x xs
 lanes-counted : (w : Count) (s : Spec) (rank i n : ℕ) → counted w (lane_nodes s rank i n) ≡ n * w s
     1
 lanes-counted w s rank i zero = omega arith
-lanes-counted w s rank i (suc n) =
-    let rest = lanes-counted w s rank (suc i) n in
-    counted-cons w (record { spec = s; rank = rank; offset = i; takes = 1; gives = 1 })
-    (lane_nodes s rank (suc i) n) ∙ omega (arith, rest)
+lanes-counted w s rank i (suc n) = search (arith, counted-cons, lanes-counted w s rank (suc i) n)
 
 sources-counted : (w : Count) (i : ℕ) (specs : List Spec)
     → counted w (source_nodes i specs) ≡ sources_count w specs
 sources-counted w i [] = refl
 sources-counted w i (s ∷ specs) =
-    counted-cons w (record { spec = s; rank = 1; offset = i; takes = 0; gives = 1 })
-    (source_nodes (suc i) specs)
-    ∙ ap (λ n. w s 0 + n) (sources-counted w (suc i) specs) ∙ sym (sum_by-cons (λ t. w t 0) s specs)
+    search (arith, counted-cons, sum_by-cons, sources-counted w (suc i) specs)
 
 read-counted : (w : Count) (sources : List Spec) (join : Option PlanJoin) (lanes : ℕ)
     → counted w (read_nodes sources join lanes) ≡ read_count w sources join
-read-counted w sources None lanes =
-    simp (counted-append, counted-cons, sources-counted) (omega arith)
+read-counted w sources None lanes = search (arith, counted-append, counted-cons, sources-counted)
 read-counted w sources (Some j) lanes =
     simp (counted-append, counted-cons, sources-counted) (omega arith)
 
@@ -45,8 +39,7 @@ filter-counted w (Some c) rank n = lanes-counted w (spec.Filter c) rank 0 n
 gather-counted : (w : Count) (order : Option SortSpec) (lanes : ℕ)
     → counted w (gather_nodes order lanes) ≡ gather_count w order lanes
 gather-counted w None lanes = simp counted-cons (omega arith)
-gather-counted w (Some o) lanes =
-    simp (counted-append, counted-cons, lanes-counted) (omega arith)
+gather-counted w (Some o) lanes = search (arith, counted-append, counted-cons, lanes-counted)
 
 sort-counted : (w : Count) (order : Option SortSpec) → counted w (sort_nodes order) ≡ sort_count w
     order
@@ -74,9 +67,7 @@ plan-counted w p =
 
 nodes-counted : (nodes : List DraftNode) → length nodes ≡ counted each_node nodes
 nodes-counted [] = refl
-nodes-counted (node ∷ nodes) =
-    let rest = nodes-counted nodes in let step = counted-cons each_node node nodes in
-    omega (arith, rest, step)
+nodes-counted (node ∷ nodes) = search (arith, counted-cons, nodes-counted nodes)
 
 wires-length : (n i : ℕ) (ends : List NodePort) → length (wires_to n i ends) ≡ length ends
 wires-length n i [] = refl
@@ -99,26 +90,16 @@ wires-counted (node ∷ nodes) d f =
 
 few-sources : (specs : List Spec) → sources_count each_node specs ≡ length specs
 few-sources [] = refl
-few-sources (s ∷ specs) =
-    let rest = few-sources specs in let step = sum_by-cons (λ (t : Spec). each_node t 0) s specs in
-    omega (arith, rest, step)
+few-sources (s ∷ specs) = search (arith, sum_by-cons, few-sources specs)
 
 no-inputs : (specs : List Spec) → sources_count each_input specs ≡ 0
 no-inputs [] = refl
-no-inputs (s ∷ specs) =
-    let rest = no-inputs specs in let step = sum_by-cons (λ (t : Spec). each_input t 0) s specs in
-    omega (arith, rest, step)
+no-inputs (s ∷ specs) = search (arith, sum_by-cons, no-inputs specs)
 
 few-read : (sources : List Spec) (join : Option PlanJoin) → length sources ≤ 32 → FewJoined join
     → (read_count each_node sources join ≤ 68) × (read_count each_input sources join ≤ 67)
-few-read sources None few fj = (
-  omega (arith, few, few-sources sources),
-  omega (arith, few, no-inputs sources),
-)
-few-read sources (Some j) few fj = (
-  omega (arith, few, fj, few-sources sources, few-sources j.sources),
-  omega (arith, few, fj, no-inputs sources, no-inputs j.sources),
-)
+few-read sources None few fj = search (arith, few-sources, no-inputs)
+few-read sources (Some j) few fj = search (arith, few-sources, no-inputs)
 
 few-filters : (f : Option Cond) (lanes : ℕ) → (filter_count each_node f lanes ≤ lanes)
     × (filter_count each_input f lanes ≤ lanes)
@@ -130,10 +111,8 @@ few-shape : (shape : PlanShape) (order : Option SortSpec) (lanes : ℕ) → lane
     × (shape_count each_input shape order lanes ≤ 52)
 few-shape (plain items) None lanes few = (omega (arith, few), omega (arith, few))
 few-shape (plain items) (Some o) lanes few = (omega (arith, few), omega (arith, few))
-few-shape (grouped arguments g having picks) None lanes few =
-    let h = few-filters having 1 in (omega (arith, few, h.0), omega (arith, few, h.1))
-few-shape (grouped arguments g having picks) (Some o) lanes few =
-    let h = few-filters having 1 in (omega (arith, few, h.0), omega (arith, few, h.1))
+few-shape (grouped arguments g having picks) None lanes few = search (arith, few-filters)
+few-shape (grouped arguments g having picks) (Some o) lanes few = search (arith, few-filters)
 
 few-limits : (l : Option Span) → (limit_count each_node l ≤ 1) × (limit_count each_input l ≤ 1)
 few-limits None = (omega arith, omega arith)
@@ -143,20 +122,4 @@ few-limits (Some span) = (omega arith, omega arith)
 pub few-nodes : (p : SelectPlan) → IsSmall p → (length (plan_nodes p) ≤ 124)
     × (counted each_input (plan_nodes p) ≤ 140)
 few-nodes p s =
-    let lanes = s.few_lanes in
-    let r = few-read p.sources p.join s.few_sources s.few_joined in
-    let f = few-filters p.filter p.lanes in
-    let h = few-shape p.shape p.order p.lanes s.few_lanes in
-    let l = few-limits p.limit in (
-      omega (
-        arith,
-        lanes,
-        r.0,
-        f.0,
-        h.0,
-        l.0,
-        nodes-counted (plan_nodes p),
-        plan-counted each_node p,
-      ),
-      omega (arith, lanes, r.1, f.1, h.1, l.1, plan-counted each_input p),
-    )
+    search (arith, few-read, few-filters, few-shape, few-limits, nodes-counted, plan-counted)

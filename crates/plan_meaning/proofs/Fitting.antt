@@ -64,8 +64,7 @@ read-level sources (Some j) lanes few fj fl =
 
 gather-level : (order : Option SortSpec) (lanes r : ℕ) → r < 11 → lanes ≤ 16
     → Levels (gather_nodes order lanes) (replicate lanes r) 1 13
-gather-level None lanes r low few = joint-level spec.Resize 12 lanes 1 r 13 (omega (arith, low))
-    (omega arith) (omega (arith, few)) (omega arith)
+gather-level None lanes r low few = search (arith, joint-level)
 gather-level (Some o) lanes r low few =
     level-append (lanes-level (spec.Sort o) 11 lanes r 12 low (omega arith))
     (λ s less. joint-level (spec.MergeSorted o) 12 lanes 1 s 13 less (omega arith)

@@ -1,17 +1,10 @@
 -- What was pulled is the first of what could pass.
-use Rattle.std.proofs.Common.{IsPermutation, IsSorted, List, [], ap, ap₂, arith, false, inl, inr, is_lt, length, refl, subst, sym, true, ◌++◌, ◌<◌, ◌∙◌, ◌∷◌, ◌≡◌}
+use Rattle.std.proofs.Common.{IsPermutation, IsSorted, List, [], ap₂, arith, false, inl, inr, is_lt, length, refl, subst, sym, true, ◌++◌, ◌<◌, ◌∙◌, ◌∷◌, ◌≡◌}
 use Rattle.plan_meaning.proofs.Prelude.{AllByRecursion, AllZip, InOrder, IsBeforeNone, IsPermutation-append_comm, IsPermutation-append_left, IsPermutation-append_right, IsPermutation-refl, IsPermutation-same, IsPermutation-trans, Row, SortKey, and_from, and_parts, append-nil, append_assoc, append_cancel_left, cases_lt, every-append, every-contains, every-weaker, length-append, or_left, or_right, order-cross, order-from_sorted, row_cmp, rows-ordered}
 use Rattle.plan_meaning.specs.Names.{Flow, Stream, all_certain, all_done, all_rows, any_needs, flow_rows, rows_of, HoldsBack, IsFront, Pulls}
 
 pub pulled-front : (i s : Stream) (f : Flow) → Pulls i s → IsFront s f → IsFront i f
-pulled-front i s f p h = record {
-  rest = p.rest ++ h.rest;
-  is = sym (append_assoc i.rows p.rest h.rest) ∙ ap (λ l. l ++ h.rest) p.is ∙ h.is;
-  all = λ e. p.all e ∙ h.all (p.finished e);
-  certain = λ e. h.certain (p.finished e);
-  needs = λ some. let same = ap length p.is in
-      h.needs (omega (arith, some, same, length-append i.rows p.rest));
-}
+pulled-front i s f p h = search (arith, append_assoc, length-append)
 
 pub certain-inputs : (ins : List Stream) (fs : List Flow) → AllZip IsFront ins fs
     → all_done ins ≡ true → all_certain fs ≡ true
@@ -59,8 +52,7 @@ paired a b c d = rw (append_assoc a b (c ++ d), append_assoc a c (b ++ d))
 later-rest : (keys : List SortKey) (out : List Row) (i : Stream) (f : Flow) (h : IsFront i f)
     → IsSorted (row_cmp keys) f.rows → HoldsBack keys out i
     → AllByRecursion (λ y. IsBeforeNone keys y out) h.rest
-later-rest keys out i f h sorted (inl done) =
-    rw (no-rest i.rows h.rest f.rows h.is (h.all done)) tt
+later-rest keys out i f h sorted (inl done) = search (arith, no-rest)
 later-rest keys out i f h sorted (inr w) =
     let lt = (λ (a b : Row). is_lt (row_cmp keys a b)) in
     let o = rows-ordered keys in

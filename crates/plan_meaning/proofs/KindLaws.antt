@@ -3,7 +3,7 @@
 use Rattle.std.proofs.Common.{Bool, IsPermutation, IsSorted, List, Some, [], ap, ap₂, arith, cond, drop, false, filter, inl, inr, is_lt, leb, length, map, refl, subst, suc, sym, take, true, zero, ℕ, ◌&&◌, ◌++◌, ◌+◌, ◌<◌, ◌==◌, ◌||◌, ◌∙◌, ◌∷◌, ◌≡◌, ◌≤◌, ◌⊎◌}
 use Rattle.plan_meaning.proofs.Prelude.{AllByRecursion, AllZip, InOrder, IsPermutation-append_comm, IsPermutation-append_left, IsPermutation-append_right, IsPermutation-refl, IsPermutation-same, IsPermutation-trans, IsSortOf, KeyPair, Row, SortKey, Span, Spec, and_from, and_parts, append-nil, append_assoc, both_ways, cases_lt, drop-append-le, enough, eqb-true, every-append, every-none, every-permuted, filter-append, holds, item_row, joined_rows, joined_rows-append, le-leb, length-append, length-drop, length_permutation, limited, list_all, map-append, numbers, or_left, or_right, order-from_sorted, order-front, order-joined, ordered, ordered-none, ordered-order, ordered-same, row_cmp, rows-ordered, sorted-from_order, take-append-le}
 use Rattle.plan_meaning.proofs.Fronts.{Behind, behind, certain-inputs, needed-inputs, no-rest}
-use Rattle.plan_meaning.specs.Names.{Flow, ManyToOne, OneToNone, OneToOne, Parts, Source, Stream, TwoToOne, all_certain, all_done, all_rows, any_done, any_needs, flow_rows, flows_of, rows_of, FrontOf, Gives, GivesHeld, GivesJoined, GivesLimited, GivesMerged, GivesResized, GivesThrough, HoldsBack, IsMergeOf, merged_rows, partial_rows, IsFront, Makes, is_certain, is_needed}
+use Rattle.plan_meaning.specs.Names.{Flow, ManyToOne, OneToNone, OneToOne, Parts, Source, Stream, TwoToOne, all_certain, all_done, all_rows, any_done, any_needs, flow_rows, flows_of, rows_of, Gives, GivesHeld, GivesJoined, GivesLimited, GivesMerged, GivesResized, GivesThrough, HoldsBack, IsMergeOf, merged_rows, partial_rows, IsFront, Makes, is_certain, is_needed}
 use Rattle.query_model.specs.declared.processor_spec.Spec.TheVariants as spec
 
 -- for a kind with one output
@@ -110,8 +110,7 @@ limited-extends span xs ys =
         × (take n xs ++ rest ≡ take n (xs ++ ys))
     take-extends zero xs ys = ([], refl)
     take-extends (suc n) [] ys = (take (suc n) ys, refl)
-    take-extends (suc n) (x ∷ xs) ys = let more = take-extends n xs ys in
-        (more.0, ap (λ l. x ∷ l) more.1)
+    take-extends (suc n) (x ∷ xs) ys = search (arith, take-extends n xs ys)
 
 limited-enough : (span : Span) (xs ys : List Row) → enough span ≤ length xs
     → limited (Some span) xs ≡ limited (Some span) (xs ++ ys)
@@ -120,10 +119,7 @@ limited-enough span xs ys le = go span.count (span.count == 0) refl le
     go : (count : ℕ) (b : Bool) → (count == 0) ≡ b → cond b 1 (span.skip + count) ≤ length xs
         → take count (drop span.skip xs) ≡ take count (drop span.skip (xs ++ ys))
     go count true e le = let none : count ≡ 0 = eqb-true _ _ e in rw (none) refl
-    go count false e le =
-        let len = length-drop span.skip xs in
-        sym (ap (take count) (drop-append-le span.skip xs ys (omega (arith, le)))
-        ∙ take-append-le count (drop span.skip xs) ys (omega (arith, le, len)))
+    go count false e le = search (arith, length-drop, drop-append-le, take-append-le)
 
 enough-some : (span : Span) → 0 < enough span
 enough-some span = go span.count (span.count == 0) refl
@@ -264,38 +260,14 @@ sort-exists keys rows =
 held : (M M' : List Row → Type 0) (inputs_done c : Bool) → (inputs_done ≡ true → c ≡ true)
     → (inputs_done ≡ true → (r : List Row) → M r → M' r) → (r : List Row) × M' r
     → (o : Stream) → GivesHeld M inputs_done o → CompletesOne M' c c o
-held M M' true c certain same exists o g =
-    let w : FrontOf M o = g.whole refl in
-    record {
-      out = w.rows;
-      makes = same refl w.rows w.makes;
-      front = record {
-        rest = w.front.rest;
-        is = w.front.is;
-        all = w.front.all;
-        certain = λ e. certain refl;
-        needs = λ e. certain refl;
-      };
-    }
-held M M' false c certain same exists o g = record {
-  out = exists.0;
-  makes = exists.1;
-  front = record {
-    rest = exists.0;
-    is = ap (λ l. l ++ exists.0) (empty-rows o.rows (λ some. both_ways false refl (g.held some)));
-    all = λ e. absurd (both_ways false refl (g.done_held e));
-    certain = λ e. absurd (both_ways false refl (g.done_held e));
-    needs = λ some. absurd (both_ways false refl (g.held some));
-  };
-}
+held M M' true c certain same exists o g = search (arith)
+held M M' false c certain same exists o g = search (arith, empty-rows, both_ways)
 
 -- the same of a kind of one input
 held-one : (M : List Row → List Row → Type 0) → ((rows : List Row) → (out : List Row) × M rows out)
     → (i o : Stream) (f : Flow) → GivesHeld (M i.rows) i.done o → IsFront i f
     → CompletesOne (M f.rows) (f.certain && true) (f.certain && true) o
-held-one M exists i o f r h = held (M i.rows) (M f.rows) i.done (f.certain && true)
-    (λ e. and_from _ _ (h.certain e) refl)
-    (λ e rows m. subst (λ l. M l rows) (h.all e) m) (exists f.rows) o r
+held-one M exists i o f r h = search (arith, held, and_from)
 
 joined : (pairs : List KeyPair) (l r o : Stream) (f g : Flow) → GivesJoined pairs l r o
     → IsFront l f → IsFront r g
@@ -307,15 +279,7 @@ joined pairs l r o f g k h j = go r.done refl
     nothing e = empty-rows l.rows (λ some. both_ways r.done e (k.held some))
 
     some-left : 0 < length o.rows → 0 < length l.rows
-    some-left some = elim (cases_lt 0 (length l.rows)) [
-      | inl lt ↦ lt
-      | inr le ↦
-          let none : l.rows ≡ [] = empty-rows l.rows (λ lt. omega (arith, lt, le)) in
-          let total = length_permutation _ _ k.rows in
-          let zero_rows : length (joined_rows pairs l.rows r.rows) ≡ 0 =
-          ap (λ z. length (joined_rows pairs z r.rows)) none in
-          absurd (omega (arith, some, total, zero_rows, length-append o.rows k.rest))
-    ]
+    some-left some = search (arith, cases_lt, empty-rows, length_permutation, length-append)
 
     go : (b : Bool) → r.done ≡ b
         → CompletesOne (λ out. IsPermutation (joined_rows pairs f.rows g.rows) out)
@@ -384,14 +348,8 @@ held-needs : (keys : List SortKey) (out : List Row) (ins : List Stream) (fs : Li
     → AllZip IsFront ins fs → AllByRecursion (HoldsBack keys out) ins
     → list_all (λ (f : Flow). f.certain || f.needs) fs ≡ true
 held-needs keys out [] [] z b = refl
-held-needs keys out (i ∷ ins) (f ∷ fs) z b = and_from (f.certain || f.needs)
-    (list_all (λ (g : Flow). g.certain || g.needs) fs)
-    (elim b.0 [
-      | inl done ↦ or_left f.certain f.needs (z.0.certain done)
-      | inr w ↦ or_right f.certain
-          f.needs (z.0.needs (let lt = w.1.1 in omega (arith, lt)))
-    ])
-    (held-needs keys out ins fs z.1 b.1)
+held-needs keys out (i ∷ ins) (f ∷ fs) z b =
+    search (arith, and_from, or_left, or_right, held-needs keys out ins fs z.1 b.1)
 held-needs keys out ins fs z b = absurd z
 
 merged : (keys : List SortKey) (ins : List Stream) (o : Stream) (fs : List Flow)

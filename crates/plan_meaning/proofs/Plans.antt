@@ -1,7 +1,7 @@
 -- The meaning of a plan is the answer of its query.
-use Rattle.std.proofs.Common.{Bool, IsPermutation, IsSorted, List, None, Option, Some, [], ap, ap₂, arith, cond, false, filter, flat_map, inl, inr, leb, length, map, refl, subst, suc, sym, true, zero, ℕ, ◌&&◌, ◌++◌, ◌+◌, ◌<◌, ◌||◌, ◌∙◌, ◌∷◌, ◌≡◌, ◌≤◌, ◌⊎◌}
-use Rattle.plan_meaning.proofs.Prelude.{AggCall, AllByRecursion, AllZip, Cond, Expr, GroupSpec, IsPermutation-append, IsPermutation-filter, IsPermutation-joined_rows, IsPermutation-map, IsPermutation-refl, IsPermutation-same, IsPermutation-trans, Row, SortKey, SortSpec, Span, Spec, StateCall, and_from, and_parts, append-nil, both_ways, combine_of, count_up, enough, filter-append, groups_or_default, holds, item_row, joined_rows, joint_node, lane_nodes, leb-true, length-append, length-map, length_permutation, limited, list_all, map-append, merged_groups, merged_in_any_order, or_cases, or_left, or_right, row_cmp, rows_where, source_nodes}
-use Rattle.plan_meaning.specs.Names.{Flow, Parts, all_certain, all_rows, any_needs, flow_rows, HasEnough, IsCut, IsNoLimit, IsPlan, IsSource, JoinsSources, PlanJoin, PlanShape, SelectPlan, all_valid, body_nodes, filter_nodes, filter_pulls, gather_nodes, gather_pulls, grouped, grouped_of, join_pulls, join_valid, limit_nodes, needed_valid, plain, plan_keys, plan_pulls, plan_rows, plan_valid, pulls, read_nodes, read_rows, read_valid, shape_nodes, shape_pulls, shape_rows, sort_nodes, sort_pulls, sources_rows, calls_from, merged_rows, partial_rows, Makes, is_certain, is_needed}
+use Rattle.std.proofs.Common.{Bool, IsPermutation, IsSorted, List, None, Option, Some, [], ap, ap₂, arith, cond, false, filter, flat_map, inl, inr, length, map, refl, suc, sym, true, zero, ℕ, ◌&&◌, ◌++◌, ◌+◌, ◌<◌, ◌||◌, ◌∙◌, ◌∷◌, ◌≡◌, ◌⊎◌}
+use Rattle.plan_meaning.proofs.Prelude.{AggCall, AllByRecursion, AllZip, Cond, Expr, GroupSpec, IsPermutation-append, IsPermutation-filter, IsPermutation-joined_rows, IsPermutation-map, IsPermutation-refl, IsPermutation-same, IsPermutation-trans, Row, SortKey, SortSpec, Span, Spec, StateCall, and_from, and_parts, append-nil, both_ways, combine_of, count_up, filter-append, groups_or_default, holds, item_row, joined_rows, joint_node, lane_nodes, leb-true, length-append, length-map, length_permutation, limited, list_all, map-append, merged_groups, merged_in_any_order, or_cases, or_left, or_right, row_cmp, rows_where, source_nodes}
+use Rattle.plan_meaning.specs.Names.{Flow, Parts, all_certain, all_rows, any_needs, flow_rows, IsCut, IsNoLimit, IsPlan, IsSource, JoinsSources, PlanJoin, PlanShape, SelectPlan, all_valid, body_nodes, filter_nodes, filter_pulls, gather_nodes, gather_pulls, grouped, grouped_of, join_pulls, join_valid, limit_nodes, needed_valid, plain, plan_keys, plan_pulls, plan_rows, plan_valid, pulls, read_nodes, read_rows, read_valid, shape_nodes, shape_pulls, shape_rows, sort_nodes, sort_pulls, sources_rows, calls_from, merged_rows, partial_rows, Makes, is_certain, is_needed}
 use Rattle.plan_meaning.proofs.Blocks.{Alone, Block, Both, Form, LaneMade, Spread, alone-to, block-so, block-then, form-block, joint-block, lanes-block, no-block, resize-behind, resize-block, sources-block}
 use Rattle.query_model.specs.declared.processor_spec.Spec.TheVariants as spec
 
@@ -23,28 +23,12 @@ record Ordered (keys : List SortKey) (rows : List Row) (c n : Bool) (f : Flow) :
 
 spread-one : (rows : List Row) (c n : Bool) (flows : List Flow) → Spread 1 rows c n flows
     → Alone (One rows c n) flows
-spread-one rows c n (f ∷ []) h = record {
-  value = f;
-  are = refl;
-  has = record {
-    same = subst (IsPermutation rows) (append-nil f.rows) h.same;
-    certain = λ e. h.certain (and_from _ _ e refl);
-    needs = λ e. h.needs (or_left _ _ e);
-  };
-}
+spread-one rows c n (f ∷ []) h = search (arith, append-nil, and_from, or_left)
 spread-one rows c n flows h = let e = h.count in absurd (omega (arith, e))
 
 one-spread : (rows : List Row) (c n : Bool) (flows : List Flow) → Alone (One rows c n) flows
     → Spread 1 rows c n flows
-one-spread rows c n flows a =
-    let f : Flow = a.value in
-    subst (Spread 1 rows c n) (sym a.are) (record {
-      count = refl;
-      same = subst (IsPermutation rows) (sym (append-nil f.rows)) a.has.same;
-      certain = λ e. a.has.certain (and_parts _ _ e).0;
-      needs = λ e. elim (or_cases _ _ e)
-          [ inl n' ↦ a.has.needs n' | inr off ↦ absurd (both_ways false refl off) ];
-    })
+one-spread rows c n flows a = search (arith, append-nil, and_parts, or_cases, both_ways)
 
 sorted-no-keys : (xs : List Row) → IsSorted (row_cmp []) xs
 unfolding row_cmp
@@ -70,8 +54,7 @@ order_needs (Some order) c n = c
 count_up-length : (n : ℕ) → length (count_up n) ≡ n
 unfolding count_up
 count_up-length zero = refl
-count_up-length (suc n) = let more : length (count_up n) ≡ n = count_up-length n in
-    omega (arith, more, length-append (count_up n) (n ∷ []))
+count_up-length (suc n) = search (arith, length-append, count_up-length n)
 
 calls-ops : (c : ℕ) (calls : List StateCall)
     → map (λ (a : AggCall ℕ). combine_of a.op) (calls_from c calls) ≡ map
@@ -123,9 +106,8 @@ module _ (parts : Parts) where
       → ((i o : List Row) → Makes parts s (i ∷ []) (o ∷ []) → o ≡ make i) → (ys zs : List Flow)
       → AllZip (LaneMade parts s) ys zs → make (all_rows (flow_rows ys)) ≡ all_rows (flow_rows zs)
   lanes-rows s make none joins is [] [] h = none
-  lanes-rows s make none joins is (y ∷ ys) (z ∷ zs) h = joins y.rows (all_rows (flow_rows ys))
-      ∙ ap₂ (λ a b. a ++ b) (sym (is y.rows z.rows h.0.0))
-      (lanes-rows s make none joins is ys zs h.1)
+  lanes-rows s make none joins is (y ∷ ys) (z ∷ zs) h =
+      search (arith, lanes-rows s make none joins is ys zs h.1)
   lanes-rows s make none joins is ys zs h = absurd h
 
   lanes-certain : (s : Spec) → ((l : List Flow) → is_certain parts s l ≡ all_certain l)
@@ -152,31 +134,17 @@ module _ (parts : Parts) where
   lanes-sorted : (order : SortSpec) (ys zs : List Flow)
       → AllZip (LaneMade parts (spec.Sort order)) ys zs
       → SortedLanes order.keys (length zs) (all_rows (flow_rows ys)) (all_certain ys) zs
-  lanes-sorted order [] [] h = record {
-    count = refl;
-    same = IsPermutation-refl [];
-    in_order = tt;
-    certain = λ e. refl;
-    needs = λ e. refl;
-  }
+  lanes-sorted order [] [] h = search (arith, IsPermutation-refl)
   lanes-sorted order (y ∷ ys) (z ∷ zs) h =
-      let more = lanes-sorted order ys zs h.1 in
-      let here : z.certain ≡ true → y.certain ≡ true =
-      (λ e. (and_parts y.certain true (sym h.0.1 ∙ e)).0) in
-      let there : z.needs ≡ true → y.certain ≡ true =
-      (λ e. (and_parts y.certain true (sym h.0.2 ∙ e)).0) in
-      record {
-        count = refl;
-        same = IsPermutation-append y.rows z.rows (all_rows (flow_rows ys))
-            (all_rows (flow_rows zs)) h.0.0.same more.same;
-        in_order = (h.0.0.in_order, more.in_order);
-        certain = λ e. let both = and_parts _ _ e in
-            and_from _ _ (here both.0) (more.certain both.1);
-        needs = λ e. let both = and_parts (z.certain || z.needs)
-            (list_all (λ (f : Flow). f.certain || f.needs) zs) e in
-            and_from _ _ (elim (or_cases _ _ both.0) [ inl k ↦ here k | inr k ↦ there k ])
-            (more.needs both.1);
-      }
+      search (
+        arith,
+        and_parts,
+        IsPermutation-append,
+        and_from,
+        or_cases,
+        lanes-sorted order ys zs
+            h.1,
+      )
   lanes-sorted order ys zs h = absurd h
 
   lanes-grouped : (g : GroupSpec) (ys zs : List Flow)
@@ -423,44 +391,18 @@ PlanOrdered parts p = Ordered (plan_keys p.order) (plan_rows parts p) (plan_vali
 limit-block : (parts : Parts) (p : SelectPlan) (limit : Option Span) → p.limit ≡ limit
     → Block parts (p.limit ≡ None) (limit_nodes limit) (Alone (PlanOrdered parts p))
     (Alone (PlanMade parts p)) (λ k. 0)
-limit-block parts p None e = no-block (λ l a. record {
-  value = a.value;
-  are = a.are;
-  has = record {
-    ordered = a.value.rows;
-    same = a.has.one.same;
-    in_order = a.has.in_order;
-    is = ap (λ l. limited l a.value.rows) (sym e);
-    valid = λ c. inl (a.has.one.certain c);
-  };
-})
+limit-block parts p None e = search (arith, no-block)
 limit-block parts p (Some span) e =
-    form-block {parts = parts} {unlimited = p.limit ≡ None} (spec.Limit span) 13 1 (λ f. f ∷ [])
-    (PlanOrdered parts p) (PlanMade parts p) (λ k. 0)
-    (λ u. let none : None ≡ Some span = sym u ∙ e in absurd (cc)) (λ f. refl)
-    (λ f out h makes. record {
-      ordered = f.rows;
-      same = h.one.same;
-      in_order = h.in_order;
-      is = makes ∙ ap (λ l. limited l f.rows) (sym e);
-      valid = λ sure. elim (or_cases (f.certain && true) _ sure) [
-        | inl v ↦ inl (h.one.certain (and_parts f.certain true v).0)
-        | inr cut ↦
-            let both = and_parts (f.needs || false)
-            (leb (enough span) (length (f.rows ++ []))) cut in
-            let needs : f.needs ≡ true = elim (or_cases f.needs false both.0)
-            [ inl k ↦ k | inr off ↦ absurd (both_ways false refl off) ] in
-            let le : enough span ≤ length (f.rows ++ []) = leb-true _ _ both.1 in
-            let same : length (f.rows ++ []) ≡ length f.rows = ap length (append-nil f.rows) in
-            let total = length_permutation _ _ h.one.same in
-            let many : enough span ≤ length (plan_rows parts p) = omega (arith, le, same, total) in
-            inr (record {
-              enough_rows = subst (λ l. HasEnough l (plan_rows parts p)) (sym e) many;
-              needed = h.one.needs needs;
-            })
-      ];
-    })
-    (λ k f u h. let none : None ≡ Some span = sym u ∙ e in absurd (cc))
+    search (
+      arith,
+      form-block,
+      or_cases,
+      and_parts,
+      both_ways,
+      leb-true,
+      append-nil,
+      length_permutation,
+    )
 
 -- What all nodes but the collector make. Where there is no limit, the nodes of a kind together pull
 -- as many rows as the plan says.

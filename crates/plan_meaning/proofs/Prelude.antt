@@ -1,29 +1,25 @@
 -- The names from outside that this crate's proofs use, in one place.
-pub use Rattle.chunk_data.specs.Values.{same_row, value_at, values_at}
-pub use Rattle.chunk_data.specs.declared.typed_value.Value.TheVariants.{Text}
 pub use Rattle.plan_graph.proofs.Drafts.{all-back, all-front, ports-length}
 pub use Rattle.plan_graph.proofs.Fitting.{FitsBlock, Fitted, Levels, all-front', block-append, fits, joint-fit, joint-level, lanes-level, level-append, same-ranks, sources-fit, stay-level}
 pub use Rattle.plan_graph.proofs.GraphLaws.{lists-are-graphs, ranks-count, with-append}
 pub use Rattle.plan_graph.proofs.Places.{given-map, replaced-at, run-at, run-length, run-split, taken-map}
-pub use Rattle.plan_graph.specs.Drafts.{AllFitDraft, AllFitEnds, Draft, FitsDraft, IsGraphOf, ranks_after, ranks_with, run_of, wires_to, with_node}
-pub use Rattle.plan_graph.specs.Names.{replaced}
-pub use Rattle.plan_meaning.specs.Prelude.{AggCall, AggOp, AllByRecursion, AllZip, Checked, ColumnType, Cond, Database, DraftNode, Expr, ExprOf, FitsInput, GroupSpec, Grouped, Grouping, IsOrderedAnswer, IsSortOf, KeyPair, Kind, NodePort, Plain, Row, Shape, SortKey, SortSpec, Span, Spec, SpecForm, StateCall, Wire, consumer_of, default_value, enough, given_by, groups, groups_or_default, holds, item_row, joined_rows, joint_node, kind_of, lane_nodes, limited, list_all, no_draft, numbers, ports_of, producer_of, rows_where, same_kind, source_nodes, source_table, spec_form, taken_by, with_nodes}
+pub use Rattle.plan_graph.proofs.Ports.{sum_by-map}
+pub use Rattle.plan_graph.proofs.Prelude.{All-from_recursion, All-replicate, rank_at, sum_by-append, sum_by-cons}
+pub use Rattle.plan_graph.specs.Drafts.{AllFitDraft, AllFitEnds, Draft, FitsDraft, IsGraphOf, ranks_after, ranks_with, replaced, run_of, wires_to, with_node}
+pub use Rattle.plan_meaning.specs.Prelude.{AggCall, AggOp, AllByRecursion, AllZip, Checked, ColumnType, Cond, Database, DraftNode, Expr, ExprOf, FitsInput, GroupSpec, Grouped, Grouping, IsSortOf, KeyPair, Kind, NodePort, Plain, Row, Shape, SortKey, SortSpec, Span, Spec, SpecForm, StateCall, Wire, consumer_of, default_value, enough, given_by, groups, groups_or_default, holds, item_row, joined_rows, joint_node, kind_of, lane_nodes, limited, list_all, no_draft, numbers, ports_of, producer_of, rows_where, same_kind, source_nodes, spec_form, taken_by, with_nodes}
 pub use Rattle.proc_api.proofs.Orders.{InOrder, every-append, every-contains, every-front, every-none, every-permuted, every-weaker, order-cross, order-from_sorted, order-front, order-joined, ordered, ordered-none, ordered-order, ordered-same, rows-ordered, sorted-from_order}
 pub use Rattle.proc_api.specs.Forms.{cond_form, operand_form}
-pub use Rattle.proc_api.specs.Graphs.{rank_at}
 pub use Rattle.proc_api.specs.Names.{IsBeforeNone, unboxed}
+pub use Rattle.proc_api.specs.Prelude.{Operand, formula}
 pub use Rattle.query_model.proofs.AnswerLaws.{joined_rows-append}
+pub use Rattle.query_model.proofs.Imports.{All-cons, All-head, All-tail, Call, IsAnswer, IsItem, IsPermutation-append, IsPermutation-append_comm, IsPermutation-append_left, IsPermutation-append_right, IsPermutation-map, IsPermutation-refl, IsPermutation-trans, IsTyped, IsTypedCond, IsTypedOperand, Text, call_of, combine_of, combined, distinct_rows, filter-append, grouped_by, is_text, length_permutation, merged_groups, operand_type, plain_of, rows_with, selected_rows, value_at, values_at}
 pub use Rattle.query_model.proofs.Lists.{IsPermutation-filter, IsPermutation-same, filter-map, map-map}
 pub use Rattle.query_model.proofs.Merge.{merged_in_any_order}
 pub use Rattle.query_model.proofs.PartLaws.{IsPermutation-joined_rows}
 pub use Rattle.query_model.specs.Answers.{grouped_rows}
-pub use Rattle.query_model.specs.Formulas.{formula}
-pub use Rattle.query_model.specs.Names.{AreAlike, Call, IsAnswer, IsItem, IsTyped, IsTypedCond, IsTypedOperand, call_of, combine_of, combined, distinct_rows, filtered_rows, grouped_by, is_text, merged_groups, operand_type, output_rows, plain_of, rows_with, selected_rows}
-pub use Rattle.query_model.specs.declared.query.Operand.{Operand}
 pub use Rattle.std.proofs.lemmas.Bool.{and_from, and_parts, both_ways, cases_lt, eqb-true, le-leb, leb-true, or_cases, or_left, or_right}
 pub use Rattle.std.proofs.lemmas.List.{append-nil, append_assoc, append_cancel_left, drop-append-le, get_or_at, length-append, length-drop, length-map, length-replicate, map-append, take-append-le, take_at, take_more}
-pub use Rattle.std.proofs.lemmas.List.Elements.{All-cons, All-from_recursion, All-head, All-replicate, All-tail, filter-append}
-pub use Rattle.std.proofs.lemmas.List.Sorted.{IsPermutation-append, IsPermutation-append_comm, IsPermutation-append_left, IsPermutation-append_right, IsPermutation-map, IsPermutation-refl, IsPermutation-trans, length_permutation}
-pub use Rattle.std.proofs.lemmas.List.Sums.{sum_by-append, sum_by-cons}
+pub use Rattle.std.proofs.lemmas.List.Folds.{list_all-append}
+pub use Rattle.std.proofs.lemmas.Slice.Zip.{AllZip-long}
 unfoldable pub use Rattle.chunk_data.specs.Values.{row_cmp}
 unfoldable pub use Rattle.query_model.specs.Names.{count_up, operand_value, truth_of, type_of, value_of}

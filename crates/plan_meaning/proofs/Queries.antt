@@ -1,7 +1,7 @@
 -- What the plan of a checked query makes of rows is what the query selects.
-use Rattle.std.proofs.Common.{List, None, Option, Some, [], ap, ap₂, arith, false, filter, is_none, length, map, refl, slice_index_or, subst, suc, sym, take, true, zero, ℕ, ◌++◌, ◌+◌, ◌∙◌, ◌∷◌, ◌≡◌, ◌≤◌}
-use Rattle.plan_meaning.proofs.Prelude.{AggCall, AggOp, AllByRecursion, Call, Checked, ColumnType, Database, Expr, ExprOf, Grouped, Grouping, IsAnswer, IsOrderedAnswer, Plain, Row, Shape, StateCall, Text, append_assoc, both_ways, call_of, combine_of, combined, count_up, default_value, distinct_rows, filter-map, filtered_rows, get_or_at, grouped_by, grouped_rows, groups, groups_or_default, item_row, length-append, length-map, map-append, map-map, output_rows, rows_where, rows_with, same_row, selected_rows, source_table, take_at, take_more, value_at, value_of, values_at}
-use Rattle.plan_meaning.specs.Names.{HasCalls, IsCall, IsPlanOf, call_arguments, columns_of, group_spec, grouped_of, shape_of, state_of, Parts, PlanAnswers, SelectPlan, plan_keys, plan_rows, shape_rows, calls_from, is_count}
+use Rattle.std.proofs.Common.{List, None, Option, Some, [], ap, ap₂, arith, false, is_none, length, map, refl, slice_index_or, suc, sym, take, true, zero, ℕ, ◌++◌, ◌+◌, ◌∙◌, ◌∷◌, ◌≡◌, ◌≤◌}
+use Rattle.plan_meaning.proofs.Prelude.{AggCall, AggOp, AllByRecursion, Call, Checked, ColumnType, Database, Expr, ExprOf, Grouped, Grouping, IsAnswer, Plain, Row, Shape, StateCall, Text, append_assoc, both_ways, call_of, combine_of, combined, count_up, default_value, distinct_rows, filter-map, get_or_at, grouped_by, grouped_rows, groups, groups_or_default, item_row, length-append, length-map, map-append, map-map, rows_with, selected_rows, take_at, take_more, value_at, value_of, values_at}
+use Rattle.plan_meaning.specs.Names.{HasCalls, IsCall, IsPlanOf, call_arguments, columns_of, group_spec, grouped_of, shape_of, state_of, Parts, PlanAnswers, SelectPlan, shape_rows, calls_from, is_count}
 use Rattle.chunk_data.specs.declared.typed_value.ColumnType.TheVariants as column
 use Rattle.query_model.specs.declared.query.AggOp.TheVariants as agg
 use Rattle.query_model.specs.declared.query.ExprOf.TheVariants as expr
@@ -23,10 +23,7 @@ grouped_by-map f key calls rows =
         ≡ map (λ (call : Call). combined call.op (map call.arg (rows_with (λ r. key (f r)) k rows)))
         (map (λ (c : Call). record { op = c.op; arg = λ r. c.arg (f r) }) calls)
     inner k [] = refl
-    inner k (c ∷ calls) = ap₂ (λ v vs. v ∷ vs)
-        (ap (λ l. combined c.op (map c.arg l)) (filter-map (λ r. same_row k (key r)) f rows)
-        ∙ ap (combined c.op) (map-map c.arg f (filter (λ r. same_row k (key (f r))) rows)))
-        (inner k calls)
+    inner k (c ∷ calls) = search (arith, filter-map, map-map, inner k calls)
 
 -- the first columns of a row
 first-values : (n : ℕ) (row : Row) → n ≤ length row → values_at (count_up n) row ≡ take n row
@@ -57,29 +54,13 @@ values-count (c ∷ cs) row = ap suc (values-count cs row)
 keys-kept : (cs : List ℕ) (es : List Expr) (row : Row)
     → values_at (count_up (length cs)) (item_row (columns_of cs ++ es) row) ≡ values_at cs row
 keys-kept cs es row =
-    let split : item_row (columns_of cs ++ es) row ≡ values_at cs row
-    ++ map (λ (e : Expr). value_of e row) es =
-    map-append (λ (e : Expr). value_of e row) (columns_of cs) es
-    ∙ ap (λ l. l ++ map (λ (e : Expr). value_of e row) es) (columns-values cs row) in
-    let len = values-count cs row in
-    ap (values_at (count_up (length cs))) split
-    ∙ first-values (length cs) (values_at cs row ++ map (λ (e : Expr). value_of e row) es)
-    (omega (
-      arith,
-      len,
-      length-append (values_at cs row) (map (λ (e : Expr). value_of e row) es),
-    ))
-    ∙ take_at (values_at cs row) (map (λ (e : Expr). value_of e row) es) (length cs) len
+    search (arith, map-append, columns-values, values-count, first-values, length-append, take_at)
 
 -- the argument behind the others
 argument-at : (front rest : List Expr) (e : Expr) (row : Row)
     → value_of (expr.Column (length front)) (item_row (front ++ e ∷ rest) row) ≡ value_of e row
 unfolding value_of
-argument-at front rest e row =
-    ap (λ l. value_at l (length front)) (map-append (λ (x : Expr). value_of x row) front (e ∷ rest))
-    ∙ get_or_at (map (λ (x : Expr). value_of x row) front) (value_of e row)
-    (map (λ (x : Expr). value_of x row) rest) (Text []) (length front)
-    (length-map front (λ (x : Expr). value_of x row))
+argument-at front rest e row = search (arith, map-append, get_or_at, length-map)
 
 -- the call over the row that these expressions make
 abbrev over : List Expr → Call → Call
@@ -100,8 +81,7 @@ calls-kept types front (call ∷ calls) h =
     go : (op : AggOp) (arg : Option (ExprOf ℕ)) → is_count op ≡ is_none arg
         → ((front' : List Expr) → AreKept types front' calls)
         → AreKept types front (record { op = op; arg = arg } ∷ calls)
-    go agg.Count None e more = ap (λ l. call_of (record { op = agg.Count; arg = None }) ∷ l)
-        (more front)
+    go agg.Count None e more = search (arith)
     go agg.Count (Some a) e more = absurd (both_ways true e refl)
     go op None e more = absurd (both_ways false refl e)
     go op (Some a) e more =
@@ -151,17 +131,9 @@ groups-selected g types n rows h =
 pub shape-selects : (shape : Shape) (types : List ColumnType) (n : ℕ) (rows : List Row)
     → HasCalls shape → shape_rows (shape_of shape types n) rows ≡ selected_rows shape types rows
 shape-selects (Plain items) types n rows h = refl
-shape-selects (Grouped g) types n rows h =
-    picks-kept g.picks _
-    ∙ ap (λ l. map (values_at g.picks) (rows_where g.having l)) (groups-selected g types n rows h)
+shape-selects (Grouped g) types n rows h = search (arith, picks-kept, groups-selected)
 
 -- An answer of a query's plan is an answer of the query.
 pub query-answers : (q : Checked) (db : Database) (parts : Parts) (p : SelectPlan) (rows : List Row)
     → IsPlanOf q db parts p → PlanAnswers parts p rows → IsAnswer q db rows
-query-answers q db parts p rows is a =
-    let output : plan_rows parts p ≡ output_rows q db =
-    ap₂ (λ s r. shape_rows s r) is.shape (ap₂ rows_where is.filter is.read)
-    ∙ shape-selects q.shape (source_table q db).types is.chunk_rows (filtered_rows q db)
-    is.calls in
-    rw is.limit at (subst (λ k. IsOrderedAnswer k p.limit (output_rows q db) rows) is.order
-    (subst (λ o. IsOrderedAnswer (plan_keys p.order) p.limit o rows) output a.answer))
+query-answers q db parts p rows is a = search (arith, shape-selects)

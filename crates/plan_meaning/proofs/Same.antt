@@ -1,8 +1,8 @@
 -- Nodes of one form make the same graph and give the same.
-use Rattle.std.proofs.Common.{All, Any, List, Some, [], ap, drop, filter, get_or, length, map, refl, subst, suc, sym, ℕ, ◌+◌, ◌<◌, ◌∙◌, ◌∷◌, ◌≡◌, ◌≤◌}
-use Rattle.plan_meaning.proofs.Prelude.{AllByRecursion, AllFitEnds, ColumnType, Draft, DraftNode, FitsInput, NodePort, Spec, SpecForm, cond_form, every-weaker, formula, ports_of, ranks_after, ranks_with, run_of, spec_form, unboxed, with_node, with_nodes}
+use Rattle.std.proofs.Common.{All, Any, List, Some, [], ap, arith, drop, filter, get_or, length, map, refl, subst, suc, sym, ℕ, ◌+◌, ◌<◌, ◌∙◌, ◌∷◌, ◌≡◌, ◌≤◌}
+use Rattle.plan_meaning.proofs.Prelude.{AllFitEnds, ColumnType, Draft, DraftNode, FitsInput, NodePort, Spec, SpecForm, cond_form, every-weaker, formula, kind_of, ports_of, ranks_after, ranks_with, run_of, spec_form, unboxed, with_node, with_nodes}
 use Rattle.query_model.specs.declared.processor_spec.Spec.TheVariants as spec
-use Rattle.plan_meaning.specs.Names.{Parts, Stream, OneToOne, GivesThrough, Gives, Types, FitFrom, MakesType, GivesIf, EachGivesIf, pulled_types, NodeForm, node_form, forms}
+use Rattle.plan_meaning.specs.Names.{Parts, Stream, OneToOne, GivesThrough, Gives, Types, FitFrom, MakesType, GivesIf, EachGivesIf, NodeForm, node_form, forms}
 use Rattle.plan_meaning.proofs.Copies.{conds-same, items-same}
 
 -- ---- specs
@@ -24,6 +24,15 @@ same-spec s (spec.Filter d) e = absurd (cc)
 same-spec (spec.Expression items) t e = absurd (cc)
 same-spec s (spec.Expression others) e = absurd (cc)
 same-spec s t e = ap spec_of e
+
+-- copies are of one kind
+pub kind-same : (s t : Spec) → spec_form s ≡ spec_form t → kind_of s ≡ kind_of t
+kind-same s t e = go s t (same-spec s t e)
+  where
+    go : (s t : Spec) → SameSpec s t → kind_of s ≡ kind_of t
+    go (spec.Filter c) (spec.Filter d) e = refl
+    go (spec.Expression items) (spec.Expression others) e = refl
+    go s t e = ap kind_of e
 
 gives-same : (parts : Parts) (s t : Spec) (ins outs : List Stream) → SameSpec s t
     → Gives parts s ins outs → Gives parts t ins outs
@@ -62,17 +71,7 @@ all-fit-same s t i (x ∷ ins) e h = (
 gives-if-same : (parts : Parts) (s t : Spec) (ins outs : List Stream) → spec_form s ≡ spec_form t
     → GivesIf parts s ins outs → GivesIf parts t ins outs
 gives-if-same parts s t ins outs e g =
-    let there : SameSpec s t = same-spec s t e in
-    let back : SameSpec t s = same-spec t s (sym e) in
-    record {
-      gives = λ f. gives-same parts s t ins outs there (g.gives (all-fit-same t s 0 ins back f));
-      typed = λ f. every-weaker
-          (λ (o : Stream). AllByRecursion (MakesType s (pulled_types ins)) o.types)
-          (λ (o : Stream). AllByRecursion (MakesType t (pulled_types ins)) o.types)
-          (λ o h. every-weaker (MakesType s (pulled_types ins)) (MakesType t (pulled_types ins))
-          (λ u. makes-same s t (pulled_types ins) u there) o.types h)
-          outs (g.typed (all-fit-same t s 0 ins back f));
-    }
+    search (arith, same-spec, gives-same, all-fit-same, every-weaker, makes-same)
 
 -- ---- nodes
 

@@ -1,23 +1,19 @@
 -- Where the types at the open ends fit each node, each chunk that a run pulled fits, and so each
 -- node gives what its kind promises.
-use Rattle.std.proofs.Common.{Any, List, Some, [], arith, length, map, refl, replicate, subst, suc, sym, zero, ℕ, ◌++◌, ◌∙◌, ◌∷◌, ◌≡◌}
-use Rattle.plan_meaning.proofs.Prelude.{length-map, AllByRecursion, AllFitDraft, AllZip, Draft, DraftNode, FitsInput, NodePort, Spec, every-append, every-front, every-weaker, given-map, given_by, ports-length, ports_of, taken-map, taken_by, with_node, with_nodes}
+use Rattle.std.proofs.Common.{Any, List, [], arith, length, map, replicate, subst, suc, sym, zero, ℕ, ◌++◌, ◌∙◌, ◌∷◌, ◌≡◌}
+use Rattle.plan_meaning.proofs.Prelude.{length-map, AllByRecursion, AllFitDraft, AllZip, Draft, DraftNode, NodePort, Spec, every-append, every-front, every-weaker, given-map, given_by, ports-length, ports_of, taken-map, taken_by, with_node, with_nodes}
 use Rattle.plan_meaning.specs.Names.{AllTyped, EachGivesIf, FitFrom, HasTypes, MakesType, Types, TypesFit, TypesNode, pulled_types, Parts, Stream, AllPull, EachGives, Pulls}
 use Rattle.plan_meaning.proofs.Runs.{next-node, node-pulls}
 use Rattle.plan_meaning.proofs.Zips.{zip-chain, zip-given, zip-taken}
 
 pulled-typed : (i s : Stream) (t : Types) → Pulls i s → HasTypes s t → HasTypes i t
-pulled-typed i s t p h = every-front (λ u. u ≡ t) i.types p.later
-    (subst (AllByRecursion (λ u. u ≡ t)) (sym p.types_are) h)
+pulled-typed i s t p h = search (arith, every-front)
 
 all-fit : (s : Spec) (n : ℕ) (ins : List Stream) (types : List Types) → AllZip HasTypes ins types
     → TypesFit s n types → FitFrom s n ins
 all-fit s n [] [] z f = tt
-all-fit s n (i ∷ ins) (t ∷ types) z f = (
-  every-weaker (λ u. u ≡ t) (FitsInput (Some s) n)
-      (λ u e. subst (FitsInput (Some s) n) (sym e) f.0) i.types z.0,
-  all-fit s (suc n) ins types z.1 f.1,
-)
+all-fit s n (i ∷ ins) (t ∷ types) z f =
+    search (arith, every-weaker, all-fit s (suc n) ins types z.1 f.1)
 all-fit s n ins types z f = absurd z
 
 any-more : (v : Types) (vs : List Types) (u : Types) → Any (λ w. u ≡ w) vs
@@ -27,12 +23,8 @@ any-more v vs u a = (suc a.0, a.1, omega (arith, a.2), a.3, a.4)
 are-taken : (ins : List Stream) (types : List Types) → AllZip HasTypes ins types
     → AllByRecursion (λ u. Any (λ v. u ≡ v) types) (pulled_types ins)
 are-taken [] [] z = tt
-are-taken (i ∷ ins) (t ∷ types) z = every-append (λ u. Any (λ v. u ≡ v) (t ∷ types)) i.types
-    (pulled_types ins)
-    (every-weaker (λ u. u ≡ t) (λ u. Any (λ v. u ≡ v) (t ∷ types))
-    (λ u e. (0, t, omega arith, refl, e)) i.types z.0)
-    (every-weaker (λ u. Any (λ v. u ≡ v) types) (λ u. Any (λ v. u ≡ v) (t ∷ types))
-    (λ u a. any-more t types u a) (pulled_types ins) (are-taken ins types z.1))
+are-taken (i ∷ ins) (t ∷ types) z =
+    search (arith, every-append, every-weaker, any-more, are-taken ins types z.1)
 are-taken ins types z = absurd z
 
 made-typed : (s : Spec) (ins : List Types) (made : Types) (outs : List Stream) (n : ℕ)
@@ -42,10 +34,8 @@ made-typed : (s : Spec) (ins : List Types) (made : Types) (outs : List Stream) (
 made-typed s ins made [] zero e f h = tt
 made-typed s ins made [] (suc n) e f h = absurd (omega (arith, e))
 made-typed s ins made (o ∷ outs) zero e f h = absurd (omega (arith, e))
-made-typed s ins made (o ∷ outs) (suc n) e f h = (
-  every-weaker (MakesType s ins) (λ t. t ≡ made) f o.types h.0,
-  made-typed s ins made outs n (omega (arith, e)) f h.1,
-)
+made-typed s ins made (o ∷ outs) (suc n) e f h =
+    search (arith, every-weaker, made-typed s ins made outs n (omega (arith, e)) f h.1)
 
 -- Where the types at the open ends fit each node, each node gives what its kind promises.
 pub each-typed : (parts : Parts) (pulled pushed : NodePort → Stream) (nodes : List DraftNode)

@@ -1,7 +1,6 @@
 -- Lists side by side.
-use Rattle.std.proofs.Common.{List, [], ap, drop, length, refl, suc, take, zero, ℕ, ◌++◌, ◌∷◌, ◌≡◌, ◌+◌}
-use Rattle.plan_meaning.proofs.Prelude.{AllZip, DraftNode}
-use Rattle.plan_graph.specs.Drafts.{given_by, taken_by}
+use Rattle.plan_meaning.proofs.Prelude.{AllZip, DraftNode, given_by, taken_by}
+use Rattle.std.proofs.Common.{List, [], arith, drop, suc, take, zero, ℕ, ◌++◌, ◌+◌, ◌∷◌}
 
 zip-take : {A B : Type 0} (R : A → B → Type 0) (n : ℕ) (xs : List A) (ys : List B)
     → AllZip R xs ys → AllZip R (take n xs) (take n ys)
@@ -26,17 +25,12 @@ zip-append R xs us ys vs h k = absurd h
 
 pub zip-taken : {A B : Type 0} (R : A → B → Type 0) (node : DraftNode) (xs : List A) (ys : List B)
     → AllZip R xs ys → AllZip R (taken_by node xs) (taken_by node ys)
-zip-taken R node xs ys h = zip-take R node.takes (drop node.offset xs) (drop node.offset ys)
-    (zip-drop R node.offset xs ys h)
+zip-taken R node xs ys h = search (arith, zip-take, zip-drop)
 
 pub zip-given : {A B : Type 0} (R : A → B → Type 0) (node : DraftNode) (us xs : List A)
     (vs ys : List B) → AllZip R us vs → AllZip R xs ys
     → AllZip R (given_by node us xs) (given_by node vs ys)
-zip-given R node us xs vs ys new h =
-    let k : ℕ = node.offset + node.takes in
-    zip-append R (take node.offset xs) (us ++ drop k xs) (take node.offset ys) (vs ++ drop k ys)
-    (zip-take R node.offset xs ys h)
-    (zip-append R us (drop k xs) vs (drop k ys) new (zip-drop R k xs ys h))
+zip-given R node us xs vs ys new h = search (arith, zip-append, zip-take, zip-drop)
 
 pub zip-chain : {A B C : Type 0} (R : A → B → Type 0) (S : B → C → Type 0) (T : A → C → Type 0)
     → ((a : A) (b : B) (c : C) → R a b → S b c → T a c)
@@ -47,9 +41,3 @@ zip-chain R S T step (x ∷ xs) (y ∷ ys) [] h k = absurd k
 zip-chain R S T step (x ∷ xs) (y ∷ ys) (z ∷ zs) h k =
     (step x y z h.0 k.0, zip-chain R S T step xs ys zs h.1 k.1)
 zip-chain R S T step xs ys zs h k = absurd h
-
-pub zip-length : {A B : Type 0} (R : A → B → Type 0) (xs : List A) (ys : List B) → AllZip R xs ys
-    → length xs ≡ length ys
-zip-length R [] [] h = refl
-zip-length R (x ∷ xs) (y ∷ ys) h = ap suc (zip-length R xs ys h.1)
-zip-length R xs ys h = absurd h

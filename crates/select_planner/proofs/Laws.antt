@@ -1,8 +1,6 @@
 -- What was laid down is a graph, and takes as many boxes of each kind as the query needs.
-use Rattle.std.proofs.Common.{Bool, List, [], ap, arith, cond, length, map, refl, subst, sum_by, sym, ℕ, ◌++◌, ◌∙◌, ◌∷◌, ◌≡◌}
-use Rattle.select_planner.proofs.Prelude.{Checked, Draft, DraftNode, IsGraph, IsSmall, Kind, NodeForm, Spec, SpecForm, TableDecl, Wire, append-nil, append_assoc, counted, counted-same, expression, filter, kind_of, length-map, need, no_draft, of_kind, plan-graph, plan_nodes, same_kind, spec_form, sum_by-cons, unboxed, with_node, with_nodes}
-use Rattle.query_model.specs.declared.processor_spec.Kind.TheVariants as kind
-use Rattle.query_model.specs.declared.processor_spec.Spec.TheVariants as spec
+use Rattle.std.proofs.Common.{Bool, List, [], ap, arith, cond, length, map, subst, sum_by, sym, ℕ, ◌++◌, ◌∙◌, ◌∷◌, ◌≡◌}
+use Rattle.select_planner.proofs.Prelude.{Checked, Draft, DraftNode, IsGraph, IsSmall, Kind, NodeForm, TableDecl, append-nil, append_assoc, counted-same, kind-same, length-map, map-id, map-map, need, no_draft, of_kind, plan-graph, plan_nodes, same_kind, sum_by-map, with_node, with_nodes}
 use Rattle.select_planner.specs.declared.nodes.Plan.{Plan}
 use Rattle.select_planner.specs.declared.nodes.PlanNode.{PlanNode}
 use Rattle.select_planner.specs.Counts.{boxes_needed, boxes_taken, boxes_reserved}
@@ -10,32 +8,7 @@ use Rattle.select_planner.specs.Shapes.{node_of, edge_of, wire_of, plan_ranks, p
 use Rattle.select_planner.specs.Steps.{select_plan, IsPlannable}
 use Rattle.select_planner.proofs.BoxCounts.{plan-needs}
 
--- ---- counts by forms
-
-form_kind : SpecForm → Kind
-form_kind = λ f. elim f as (λ g. Kind) [
-  | filter c ↦ kind.Filter
-  | expression items ↦ kind.Expression
-  | unboxed s ↦ kind_of s
-]
-
-kind-of-form : (s : Spec) → kind_of s ≡ form_kind (spec_form s)
-unfolding form_kind
-kind-of-form (spec.Filter c) = refl
-kind-of-form (spec.Expression items) = refl
-kind-of-form s = refl
-
 -- ---- boxes
-
-taken-counted : (k : Kind) (nodes : List DraftNode) → boxes_taken k (map node_of nodes) ≡ counted
-    (of_kind k) nodes
-taken-counted k [] = refl
-taken-counted k (n ∷ nodes) =
-    let rest = taken-counted k nodes in
-    let left = sum_by-cons (λ (z : PlanNode). cond (same_kind (kind_of z.spec) k) 1 0) (node_of n)
-    (map node_of nodes) in
-    let right = sum_by-cons (λ (z : DraftNode). of_kind k z.spec z.takes) n nodes in
-    omega (arith, rest, left, right)
 
 -- A plan that was laid down takes as many boxes of each kind as the query needs.
 pub needs-are : (q : Checked) (tables : List TableDecl) (lanes rows : ℕ) (header : Bool) (p : Plan)
@@ -45,9 +18,10 @@ pub needs-are : (q : Checked) (tables : List TableDecl) (lanes rows : ℕ) (head
 needs-are q tables lanes rows header p plannable l k =
     let steps : List DraftNode = plan_nodes (select_plan q tables lanes rows header) in
     let taken : boxes_taken k p.nodes ≡ need q tables lanes k =
-    ap (boxes_taken k) l.nodes ∙ taken-counted k l.copies
-    ∙ counted-same (of_kind k) (λ (f : NodeForm). cond (same_kind (form_kind f.spec) k) 1 0)
-    (λ n. ap (λ j. cond (same_kind j k) 1 0) (kind-of-form n.spec)) l.copies steps l.same
+    ap (boxes_taken k) l.nodes
+    ∙ sum_by-map (λ (n : PlanNode). of_kind k n.spec 0) node_of l.copies
+    ∙ counted-same (of_kind k) (λ x y form. ap (λ j. cond (same_kind j k) 1 0)
+    (kind-same x.spec y.spec (ap (λ (f : NodeForm). f.spec) form))) l.copies steps l.same
     ∙ plan-needs q tables lanes rows header k plannable in
     let none : sum_by (boxes_reserved k) p.reserves ≡ 0 = ap (sum_by (boxes_reserved k))
     l.reserves in
@@ -62,15 +36,6 @@ ranks-are (n ∷ nodes) d =
     ranks-are nodes (with_node n d)
     ∙ append_assoc d.ranks (n.rank ∷ []) (map (λ (z : DraftNode). z.rank) nodes)
 
-ranks-of : (nodes : List DraftNode) → map (λ (n : PlanNode). n.rank) (map node_of nodes) ≡ map
-    (λ (n : DraftNode). n.rank) nodes
-ranks-of [] = refl
-ranks-of (n ∷ nodes) = ap (λ l. n.rank ∷ l) (ranks-of nodes)
-
-wires-of : (wires : List Wire) → map wire_of (map edge_of wires) ≡ wires
-wires-of [] = refl
-wires-of (w ∷ wires) = ap (λ l. w ∷ l) (wires-of wires)
-
 -- A plan that was laid down is a graph, and takes as many boxes as the query needs.
 pub is-sound : (q : Checked) (tables : List TableDecl) (lanes rows : ℕ) (header : Bool) (p : Plan)
     → IsPlannable q tables → IsSmall (select_plan q tables lanes rows header)
@@ -79,9 +44,11 @@ is-sound q tables lanes rows header p plannable small l =
     let g = plan-graph (select_plan q tables lanes rows header) l.copies small l.same in
     let drawn : Draft = with_nodes l.copies no_draft in
     let ranks : plan_ranks p ≡ drawn.ranks =
-    ap (λ ns. map (λ (n : PlanNode). n.rank) ns) l.nodes ∙ ranks-of l.copies
+    ap (λ ns. map (λ (n : PlanNode). n.rank) ns) l.nodes
+    ∙ map-map (λ (n : PlanNode). n.rank) node_of l.copies
     ∙ sym (ranks-are l.copies no_draft) in
-    let wires : plan_wires p ≡ drawn.wires = ap (map wire_of) l.edges ∙ wires-of drawn.wires in
+    let wires : plan_wires p ≡ drawn.wires = ap (map wire_of) l.edges
+    ∙ map-map wire_of edge_of drawn.wires ∙ map-id drawn.wires in
     let count : length p.nodes ≡ length l.copies =
     ap (λ (ns : List PlanNode). length ns) l.nodes ∙ length-map l.copies node_of in
     let few = g.few in

@@ -1,15 +1,9 @@
 -- The steps of a plan, laid down one behind another.
-use Rattle.std.proofs.Common.{Bool, List, None, Option, Some, [], ap, ap₂, arith, cond, false, get_or, length, map, nat_lt, refl, slice_get, suc, sym, take, true, zero, ℕ, ◌++◌, ◌+◌, ◌<◌, ◌∙◌, ◌∷◌, ◌≡◌, ◌≤◌}
-use Rattle.select_planner.proofs.Prelude.{AggCall, AllByRecursion, Checked, CheckedJoin, Declared, DraftNode, Expr, FewJoined, IsSmall, JoinSpec, ListFile, NodeForm, Numbers, PartSpec, PartsDecl, Paths, Schema, Spec, SpecForm, TableDecl, TableUse, append_assoc, call_arguments, columns_of, formula, forms, join_use, joint_node, lane_nodes, length-take-le, map-append, nat_tests, node_form, plan_nodes, read_nodes, source_nodes, spec_form, take_more, used_tables, with_argument}
+use Rattle.std.proofs.Common.{Bool, List, None, Option, Some, [], ap, arith, cond, false, get_or, length, map, nat_lt, refl, slice_get, suc, sym, take, true, zero, ℕ, ◌++◌, ◌+◌, ◌<◌, ◌∙◌, ◌∷◌, ◌≡◌, ◌≤◌}
+use Rattle.select_planner.proofs.Prelude.{AggCall, AllByRecursion, Checked, CheckedJoin, Declared, DraftNode, Expr, FewJoined, IsSmall, ListFile, Numbers, PartSpec, PartsDecl, Paths, Schema, Spec, TableDecl, TableUse, append_assoc, call_arguments, columns_of, formula, forms, join_use, lane_nodes, length-take-le, map-append, nat_tests, node_form, plan_nodes, source_nodes, spec_form, take_more, used_tables, with_argument}
 use Rattle.query_model.specs.declared.processor_spec.Spec.TheVariants as spec
 use Rattle.select_planner.specs.Refusals.{NamedPaths, path_count, crowded_decl, crowded, first_crowded, or_else}
-use Rattle.select_planner.specs.Steps.{Reading, part_spec, path_sources, part_sources, reading_of, declared_sources, table_sources, table_nodes, join_of, select_plan, NamesPaths, IsNoList, UsesNoList, IsPlannable}
-
--- a block more
-pub block-more : (x y done block : List DraftNode) → forms x ≡ forms done
-    → forms y ≡ forms x ++ forms block → forms y ≡ forms (done ++ block)
-block-more x y done block d e =
-    e ∙ ap (λ l. l ++ forms block) d ∙ sym (map-append node_form done block)
+use Rattle.select_planner.specs.Steps.{Reading, part_spec, path_sources, part_sources, table_sources, join_of, select_plan, NamesPaths, IsNoList, UsesNoList, IsPlannable}
 
 -- two blocks more
 pub blocks-more : (x y z first block : List DraftNode) → forms y ≡ forms x ++ forms first
@@ -22,8 +16,7 @@ blocks-more x y z first block d e =
 
 lanes-push : (s : Spec) (rank i n : ℕ)
     → lane_nodes s rank i (suc n) ≡ lane_nodes s rank i n ++ lane_nodes s rank (i + n) 1
-lanes-push s rank i zero = let same : i ≡ i + 0 = omega arith in
-    ap (λ k. lane_nodes s rank k 1) same
+lanes-push s rank i zero = search (arith)
 lanes-push s rank i (suc n) =
     let same : suc i + n ≡ i + suc n = omega arith in
     ap (λ l. record { spec = s; rank = rank; offset = i; takes = 1; gives = 1 } ∷ l)
@@ -35,28 +28,13 @@ pub lane-more : (s t : Spec) (rank k : ℕ) (x y z : List DraftNode) → spec_fo
     → forms y ≡ forms x ++ forms (lane_nodes t rank 0 k)
     → forms z ≡ forms y ++ forms (lane_nodes s rank k 1)
     → forms z ≡ forms x ++ forms (lane_nodes t rank 0 (k + 1))
-lane-more s t rank k x y z e h g =
-    let first : List DraftNode = lane_nodes t rank 0 k in
-    let lane : SpecForm
-    → List NodeForm =
-    (λ f. record { spec = f; rank = rank; offset = k; takes = 1; gives = 1 } ∷ []) in
-    let next : suc k ≡ k + 1 = omega arith in
-    let here : 0 + k ≡ k = omega arith in
-    g ∙ ap (λ l. l ++ forms (lane_nodes s rank k 1)) h
-    ∙ append_assoc (forms x) (forms first) (forms (lane_nodes s rank k 1))
-    ∙ ap (λ l. forms x ++ (forms first ++ l)) (ap lane e)
-    ∙ ap (λ l. forms x ++ l) (sym (map-append node_form first (lane_nodes t rank k 1)))
-    ∙ ap (λ n. forms x ++ forms (first ++ lane_nodes t rank n 1)) (sym here)
-    ∙ ap (λ l. forms x ++ forms l) (sym (lanes-push t rank 0 k))
-    ∙ ap (λ n. forms x ++ forms (lane_nodes t rank 0 n)) next
+lane-more s t rank k x y z e h g = search (arith, append_assoc, map-append, lanes-push)
 
 -- lanes with copies have the same forms
 pub lanes-same : (s t : Spec) (rank i k : ℕ) → spec_form s ≡ spec_form t
     → forms (lane_nodes s rank i k) ≡ forms (lane_nodes t rank i k)
 lanes-same s t rank i zero e = refl
-lanes-same s t rank i (suc k) e =
-    ap₂ (λ f l. record { spec = f; rank = rank; offset = i; takes = 1; gives = 1 } ∷ l) e
-    (lanes-same s t rank (suc i) k e)
+lanes-same s t rank i (suc k) e = search (arith, lanes-same s t rank (suc i) k e)
 
 -- ---- sources
 
@@ -72,8 +50,7 @@ sources-append i (x ∷ xs) ys =
 paths-push : (r : Reading) (k : ℕ) (paths : List (List ℕ)) (path : List ℕ)
     → path_sources r k (paths ++ path ∷ [])
     ≡ path_sources r k paths ++ spec.Csv (part_spec r (k + length paths) path) ∷ []
-paths-push r k [] path =
-    let same : k ≡ k + 0 = omega arith in ap (λ n. spec.Csv (part_spec r n path) ∷ []) same
+paths-push r k [] path = search (arith)
 paths-push r k (p ∷ paths) path =
     let same : suc k + length paths ≡ k + suc (length paths) = omega arith in
     ap (λ l. spec.Csv (part_spec r k p) ∷ l)
@@ -119,14 +96,12 @@ path-more r at paths path part i x y z lt is same h g =
 -- as many sources as paths
 pub parts-count : (r : Reading) (d : PartsDecl) (paths : List (List ℕ)) → d ≡ Paths paths
     → length paths ≡ length (part_sources r d)
-parts-count r d paths e =
-    sym (paths-length r 1 paths) ∙ ap (λ p. length (part_sources r p)) (sym e)
+parts-count r d paths e = search (arith, paths-length)
 
 -- a table that isn't declared has no sources
 pub none-declared : (tables : List TableDecl) (header : Bool) (rows t : ℕ) (u : TableUse)
     → u ≡ Declared t → slice_get tables t ≡ None → table_sources tables header rows u ≡ []
-none-declared tables header rows t u e n =
-    ap (table_sources tables header rows) e ∙ ap (declared_sources header rows t) n
+none-declared tables header rows t u e n = search (arith)
 
 -- what is true of a declaration that is no list: it is of none, and of each that names paths
 pub by-paths : (P : Option TableDecl → Type 0) → P None
@@ -160,14 +135,7 @@ few-paths decl e = go (nat_lt 32 (path_count decl.parts)) refl e
 few-sources : (tables : List TableDecl) (header : Bool) (rows : ℕ) (u : TableUse)
     → crowded tables u ≡ None → UsesNoList tables u
     → length (table_sources tables header rows u) ≤ 32
-few-sources tables header rows (Declared t) e h =
-    by-paths (λ o. crowded_decl o ≡ None → length (declared_sources header rows t o) ≤ 32)
-    (λ e. omega arith)
-    (λ schema paths e.
-    let decl : TableDecl = record { schema = schema; parts = Paths paths } in
-    let few = few-paths decl e in
-    let count = paths-length (reading_of header rows t decl) 1 paths in
-    omega (arith, few, count)) (slice_get tables t) h e
+few-sources tables header rows (Declared t) e h = search (arith, by-paths, few-paths, paths-length)
 few-sources tables header rows (Numbers n) e h = omega arith
 
 -- where no used table names too many paths, neither that of FROM nor that of JOIN does
@@ -184,13 +152,7 @@ few-uses tables u us e = go (crowded tables u) e
 pub is-small : (q : Checked) (tables : List TableDecl) (lanes rows : ℕ) (header : Bool)
     → IsPlannable q tables → first_crowded tables (used_tables q) ≡ None → lanes ≤ 16
     → IsSmall (select_plan q tables lanes rows header)
-is-small q tables lanes rows header p few le =
-    let both = few-uses tables q.from (join_use q.join) few in
-    record {
-      few_sources = few-sources tables header rows q.from both.0 p.0;
-      few_joined = joined q.join p.1 both.1;
-      few_lanes = le;
-    }
+is-small q tables lanes rows header p few le = search (arith, few-uses, few-sources, joined)
   where
     joined : (j : Option CheckedJoin) → AllByRecursion (UsesNoList tables) (join_use j)
         → first_crowded tables (join_use j) ≡ None
@@ -213,22 +175,7 @@ pub steps-for : (q : Checked) (tables read : List TableDecl) (lanes rows : ℕ) 
     (nodes : List DraftNode) → read ≡ tables
     → forms nodes ≡ forms (plan_nodes (select_plan q read lanes rows header))
     → forms nodes ≡ forms (plan_nodes (select_plan q tables lanes rows header))
-steps-for q tables read lanes rows header nodes e same =
-    same ∙ ap (λ t. forms (plan_nodes (select_plan q t lanes rows header))) e
-
--- ---- all steps
-
--- a table's nodes, those of the second table, the join, and the resize to the lanes
-pub joined-steps : (s t : List Spec) (j : JoinSpec) (lanes : ℕ)
-    → ((table_nodes 0 s 1 ++ table_nodes 1 t 1) ++ joint_node (spec.HashJoin j) 3 2 1 ∷ [])
-    ++ joint_node spec.Resize 4 1 lanes ∷ []
-    ≡ read_nodes s (Some (record { sources = t; join = j })) lanes
-joined-steps s t j lanes = simp append_assoc
-
--- the nodes step by step, as the code adds them
-pub regrouped : (a b c d e : List DraftNode)
-    → (((a ++ b) ++ c) ++ d) ++ e ≡ (a ++ (b ++ (c ++ d))) ++ e
-regrouped a b c d e = simp append_assoc
+steps-for q tables read lanes rows header nodes e same = search (arith)
 
 -- ---- groups
 

@@ -1,7 +1,6 @@
-use Rattle.std.proofs.Common.{[], ap, append_assoc, arith, get_or, length, sym, ◌++◌, ◌+◌, ◌<◌, ◌∙◌, ◌∷◌}
-use Rattle.plan_graph.proofs.Prelude.{Wire}
-use Rattle.plan_graph.specs.Names.{NodePort, wires_to, run_of}
 use Rattle.plan_graph.proofs.Building.{wire_to, wires-more}
+use Rattle.plan_graph.specs.Names.{NodePort, run_of, wires_to}
+use Rattle.proc_api.proofs.Imports.{Wire, [], ap, append_assoc, arith, get_or, length, sym, ◌++◌, ◌+◌, ◌<◌, ◌∙◌, ◌∷◌}
 use Rattle.plan_graph.proofs.builder.add_wires.Goals as goal
 
 pub loop-i-preserved : goal.loop-i-preserved

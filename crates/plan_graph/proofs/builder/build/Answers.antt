@@ -1,8 +1,7 @@
-use Rattle.std.proofs.Common.{ap, arith, length, sym, take, ◌<◌, ◌∙◌, ◌≤◌}
-use Rattle.plan_graph.proofs.Prelude.{length-take-le}
-use Rattle.plan_graph.specs.Names.{Draft, no_draft, with_nodes, with_node, FitsDraft}
+use Rattle.plan_graph.proofs.Building.{fit-at, nodes-more}
 use Rattle.plan_graph.proofs.GraphLaws.{ranks-count}
-use Rattle.plan_graph.proofs.Building.{nodes-more, fit-at}
+use Rattle.plan_graph.specs.Names.{Draft, FitsDraft, no_draft, with_node, with_nodes}
+use Rattle.std.proofs.Common.{ap, arith, length, length-take-le, sym, take, ◌<◌, ◌∙◌, ◌≤◌}
 use Rattle.plan_graph.proofs.builder.build.Goals as goal
 
 pub add-requires-clause-ends_there : goal.add-requires-clause-ends_there
