@@ -1,13 +1,5 @@
 -- Texts that are cut at a byte.
-use Rattle.command_line.proofs.Imports.{All, All-append, All-cons, All-head, All-nil, All-tail, Bool, List, [], after_first, ap, append_assoc, arith, before_first, cases_lt, cond, drop, drop_all, drop_at, eq-eqb, eqb-true, false, inl, inr, join_with_byte, length, length-append, list_all, ne_eqb, not, passes_at_first, position_or_len, prefix_len, refl, slice_split, slice_split_at, slice_split_none, split_at_first, sym, take, take-append_seam, true, ℕ, ◌&&◌, ◌++◌, ◌+◌, ◌==◌, ◌∙◌, ◌∷◌, ◌≡◌, ◌≤◌}
-
-pub both_left : (a b : Bool) → (a && b) ≡ true → a ≡ true
-both_left true b e = refl
-both_left false b e = absurd (cc)
-
-pub both_right : (a b : Bool) → (a && b) ≡ true → b ≡ true
-both_right true b e = e
-both_right false b e = absurd (cc)
+use Rattle.command_line.proofs.Imports.{All, All-append, All-cons, All-head, All-nil, All-tail, Bool, List, [], after_first, ap, append_assoc, arith, before_first, cases_lt, cond, drop, drop_all, drop_at, eq-eqb, eqb-true, false, inl, inr, join_with_byte, length, length-append, list_all, ne_eqb, not, passes_at_first, position_or_len, prefix_len, refl, slice_split, slice_split_at, slice_split_none, split_at_first, sym, take, take-append_seam, true, ℕ, ◌++◌, ◌+◌, ◌==◌, ◌∙◌, ◌∷◌, ◌≡◌, ◌≤◌, and_parts}
 
 pub true_false : (b : Bool) → b ≡ true → b ≡ false → ⊥
 true_false b t f = let bad : true ≡ false = sym t ∙ f in cc
@@ -22,8 +14,9 @@ pub lacks_by : (q : ℕ → Bool) (s : ℕ) (text : List ℕ) → q s ≡ false 
 lacks_by q s [] f e = All-nil (λ b. (b == s) ≡ false)
 lacks_by q s (b ∷ bs) f e =
     All-cons (λ x. (x == s) ≡ false) b bs
-    (ne_eqb b s (λ same. true_false (q s) (sym (ap q same) ∙ both_left (q b) (list_all q bs) e) f))
-    (lacks_by q s bs f (both_right (q b) (list_all q bs) e))
+    (ne_eqb b s (λ same. true_false (q s)
+    (sym (ap q same) ∙ (and_parts (q b) (list_all q bs) e).0) f))
+    (lacks_by q s bs f (and_parts (q b) (list_all q bs) e).1)
 
 -- another byte in front
 pub lacks_more : (s b : ℕ) (text : List ℕ) → (b == s) ≡ false → Lacks s text → Lacks s (b ∷ text)

@@ -12,17 +12,18 @@ pub use Rattle.query_model.specs.declared.query.ColumnDecl.{ColumnDecl}
 pub use Rattle.query_model.specs.declared.query.PartsDecl.{PartsDecl}
 pub use Rattle.query_model.specs.declared.query.PartsDecl.TheVariants.{ListFile, Paths}
 pub use Rattle.query_model.specs.declared.query.TableDecl.{TableDecl}
-pub use Rattle.sql_grammar.specs.Tokens.{is_word_byte}
-pub use Rattle.std.proofs.Common.{Bool, IfOk, List, None, Option, Some, [], ap, append_assoc, ap₂, arith, codes, cond, drop, eq-eqb, eqb-true, false, get_or, if◌then◌else◌, inl, inr, length, map, ne_eqb, not, refl, rules, subst, sym, take, tests, true, ℕ, ◌&&◌, ◌++◌, ◌+◌, ◌<◌, ◌==◌, ◌^◌, ◌||◌, ◌∙◌, ◌∷◌, ◌≡◌, ◌≤◌}
+pub use Rattle.sql_grammar.specs.Tokens.{begins_with_letter, is_word_byte}
+pub use Rattle.std.proofs.Common.{Bool, List, None, Option, Some, [], ap, append_assoc, ap₂, arith, cond, drop, eq-eqb, eqb-true, false, get_or, if◌then◌else◌, inl, inr, length, map, ne_eqb, not, refl, rules, subst, sym, take, tests, true, ℕ, ◌&&◌, ◌++◌, ◌+◌, ◌<◌, ◌==◌, ◌^◌, ◌||◌, ◌∙◌, ◌∷◌, ◌≡◌, ◌≤◌}
 pub use Rattle.std.proofs.Math.Seq.{take-append_seam}
-pub use Rattle.std.proofs.lemmas.Bool.{cases_lt}
+pub use Rattle.std.proofs.lemmas.Bool.{and_parts, cases_lt, not-true}
 pub use Rattle.std.proofs.lemmas.Bool.Decides.{nat_tests}
 pub use Rattle.std.proofs.lemmas.Iterator.{YieldsList-from_slice}
-pub use Rattle.std.proofs.lemmas.Iterator.Search.{all_from_yields_List}
-pub use Rattle.std.proofs.lemmas.List.{at_drop_all, at_drop_more, drop_all, drop_at, length-append, length-map, take_all}
+pub use Rattle.std.proofs.lemmas.Iterator.Search.{all_from_yields_List, any_from_yields_List}
+pub use Rattle.std.proofs.lemmas.List.{append-nil, drop_all, drop_at, length-append, length-map, map-id, take_all}
 pub use Rattle.std.proofs.lemmas.List.Elements.{All-append, All-cons, All-head, All-map, All-nil, All-tail, All-weaker}
 pub use Rattle.std.proofs.lemmas.List.Splits.{join_with_byte-slice_split, length-slice_split, slice_split_at, slice_split_first, slice_split_none}
 pub use Rattle.std.proofs.lemmas.List.Sums.{fails_before_first, passes_at_first, position_or_len_is, prefix_len-le-length, split_at_first}
+pub use Rattle.std.proofs.lemmas.Option.{cond_some, none-some, same_Some}
 pub use Rattle.std.proofs.lemmas.Slice.Eq.{bytes_eq-Decides}
 pub use Rattle.std.specs.List.{All, after_first, before_first, count_by, join_with_byte, list_all, list_any, position_or_len, prefix_len, slice_split}
 pub use Rattle.std.specs.Prelude.{nat_le, option_and_then, option_map}

@@ -4,5 +4,4 @@ pub mod Meanings
 pub mod NameLaws
 pub mod PieceLaws
 pub mod Readings
-pub mod TableLaws
 pub mod WrittenLaws

@@ -1,14 +1,13 @@
 -- The command that words mean, as a function and as a relation.
-use Rattle.command_line.proofs.Imports.{Bool, Command, GivesNumber, GivesTables, IsWithinLimits, List, Means, None, Option, OptionTexts, Some, TableDecl, [], ap, ap₂, arith, command_in, command_of, command_with, false, if◌then◌else◌, length, nat_le, number_given, number_in, numeral_below, option_and_then, options_of, refl, subst, sym, tables_given, true, ℕ, ◌&&◌, ◌^◌, ◌∙◌, ◌∷◌, ◌≡◌, ◌≤◌}
-use Rattle.command_line.proofs.Cuts.{both_left, both_right}
-use Rattle.command_line.proofs.Readings.{at_most, at_most_test, if_same, if_true, none_some, some_same}
+use Rattle.command_line.proofs.Imports.{Bool, Command, GivesNumber, GivesTables, IsWithinLimits, List, Means, None, Option, OptionTexts, Some, TableDecl, [], ap, ap₂, arith, command_in, command_of, command_with, false, if◌then◌else◌, length, nat_le, number_given, number_in, numeral_below, option_and_then, options_of, refl, subst, sym, tables_given, true, ℕ, ◌&&◌, ◌^◌, ◌∙◌, ◌≡◌, ◌≤◌, none-some, same_Some, cond_some, and_parts}
+use Rattle.command_line.proofs.Readings.{at_most, at_most_test}
 use Rattle.command_line.proofs.WrittenLaws.{declared_read, tables_declared}
 
 -- ---- numbers
 
 number_read : (default most : ℕ) (text : Option (List ℕ)) (n : ℕ)
     → number_given default most text ≡ Some n → GivesNumber default most text n
-number_read default most None n e = sym (some_same default n e)
+number_read default most None n e = sym (same_Some default n e)
 number_read default most (Some text) n e = go (nat_le (length text) 5) (numeral_below (2 ^ 64) text)
     refl refl e
   where
@@ -16,17 +15,17 @@ number_read default most (Some text) n e = go (nat_le (length text) 5) (numeral_
         → numeral_below (2 ^ 64) text ≡ o
         → (if short then option_and_then (number_in most) o else None) ≡ Some n
         → GivesNumber default most (Some text) n
-    go false o short spelled e = absurd (none_some n e)
-    go true None short spelled e = absurd (none_some n e)
+    go false o short spelled e = absurd (none-some n e)
+    go true None short spelled e = absurd (none-some n e)
     go true (Some m) short spelled e =
-        let same = if_same (nat_le 1 m && nat_le m most) m n e in
-        let within = subst (λ k. (nat_le 1 k && nat_le k most) ≡ true) same
-        (if_true (nat_le 1 m && nat_le m most) m n e) in
+        let made = cond_some (nat_le 1 m && nat_le m most) m n e in
+        let within = and_parts (nat_le 1 n) (nat_le n most)
+        (subst (λ k. (nat_le 1 k && nat_le k most) ≡ true) made.1 made.0) in
         record {
           digits = at_most (length text) 5 short;
-          spells = spelled ∙ ap Some same;
-          some = at_most 1 n (both_left (nat_le 1 n) (nat_le n most) within);
-          few = at_most n most (both_right (nat_le 1 n) (nat_le n most) within);
+          spells = spelled ∙ ap Some made.1;
+          some = at_most 1 n within.0;
+          few = at_most n most within.1;
         }
 
 number_whole : (default most : ℕ) (text : Option (List ℕ)) (n : ℕ) → GivesNumber default most text n
@@ -42,7 +41,7 @@ number_whole default most (Some text) n h =
 
 given_read : (text : Option (List ℕ)) (tables : List TableDecl) → tables_given text ≡ Some tables
     → GivesTables text tables
-given_read None tables e = sym (some_same [] tables e)
+given_read None tables e = sym (same_Some [] tables e)
 given_read (Some text) tables e = tables_declared text tables e
 
 given_whole : (text : Option (List ℕ)) (tables : List TableDecl) → GivesTables text tables
@@ -64,11 +63,11 @@ command_means words c e = texts_read (options_of words) refl e
         → tables_given texts.tables ≡ tables
         → command_with texts threads rows tables ≡ Some c → Means words c
     parts_read texts None rows tables given has_threads has_rows has_tables e =
-        absurd (none_some c e)
+        absurd (none-some c e)
     parts_read texts (Some threads) None tables given has_threads has_rows has_tables e =
-        absurd (none_some c e)
+        absurd (none-some c e)
     parts_read texts (Some threads) (Some rows) None given has_threads has_rows has_tables e =
-        absurd (none_some c e)
+        absurd (none-some c e)
     parts_read texts (Some threads) (Some rows) (Some tables) given is_threads is_rows is_tables e =
         let made : Command = record {
           query = texts.query;
@@ -77,7 +76,7 @@ command_means words c e = texts_read (options_of words) refl e
           chunk_rows = rows;
           header = texts.header;
         } in
-        subst (Means words) (some_same made c e) (record {
+        subst (Means words) (same_Some made c e) (record {
           texts = texts;
           given = given;
           query = refl;
@@ -89,7 +88,7 @@ command_means words c e = texts_read (options_of words) refl e
 
     texts_read : (o : Option OptionTexts) → options_of words ≡ o
         → option_and_then command_in o ≡ Some c → Means words c
-    texts_read None given e = absurd (none_some c e)
+    texts_read None given e = absurd (none-some c e)
     texts_read (Some texts) given e =
         parts_read texts (number_given 4 16 texts.threads) (number_given 8192 65536 texts.chunk)
         (tables_given texts.tables) given refl refl refl e
@@ -116,7 +115,7 @@ means_command words c m =
 -- words of which the function gives none mean nothing
 pub means_none : (words : List (List ℕ)) → command_of words ≡ None → (c : Command) → Means words c
     → ⊥
-means_none words none c m = none_some c (sym none ∙ means_command words c m)
+means_none words none c m = none-some c (sym none ∙ means_command words c m)
 
 -- ---- what every command is
 

@@ -1,20 +1,6 @@
 -- What is read of pieces, and what they are written as.
-use Rattle.command_line.proofs.Imports.{All, All-cons, All-head, All-map, All-nil, All-tail, All-weaker, AreFew, Bool, List, None, Option, Some, [], all_read, ap, ap₂, are_distinct, arith, both_read, count_by, false, few_named, few_of, if◌then◌else◌, join_with_byte, join_with_byte-slice_split, length, length-map, length-slice_split, map, nat_le, nat_tests, option_map, pieces_of, refl, slice_split, subst, sym, true, ℕ, ◌&&◌, ◌+◌, ◌==◌, ◌∙◌, ◌∷◌, ◌≡◌, ◌≤◌}
-use Rattle.command_line.proofs.Cuts.{Lacks, both_left, both_right, joined_split}
-
-pub none_some : {X : Type 0} (x : X) → None ≡ Some x → ⊥
-none_some x e = cc
-
-pub some_same : {X : Type 0} (x y : X) → Some x ≡ Some y → x ≡ y
-some_same x y e = cc
-
-pub if_true : {X : Type 0} (b : Bool) (x y : X) → (if b then Some x else None) ≡ Some y → b ≡ true
-if_true true x y e = refl
-if_true false x y e = absurd (none_some y e)
-
-pub if_same : {X : Type 0} (b : Bool) (x y : X) → (if b then Some x else None) ≡ Some y → x ≡ y
-if_same true x y e = some_same x y e
-if_same false x y e = absurd (none_some y e)
+use Rattle.command_line.proofs.Imports.{All, All-cons, All-head, All-map, All-nil, All-tail, All-weaker, AreFew, Bool, List, None, Option, Some, [], all_read, ap, ap₂, are_distinct, arith, both_read, count_by, few_named, few_of, if◌then◌else◌, join_with_byte, join_with_byte-slice_split, length, length-map, length-slice_split, map, nat_le, nat_tests, option_map, pieces_of, refl, slice_split, subst, sym, true, ℕ, ◌&&◌, ◌+◌, ◌==◌, ◌∙◌, ◌∷◌, ◌≡◌, ◌≤◌, none-some, same_Some, cond_some, and_parts}
+use Rattle.command_line.proofs.Cuts.{Lacks, joined_split}
 
 -- what a map gives, it gives of something
 pub record IsMapped {X Y : Type 0} (f : X → Y) (o : Option X) (y : Y) : Type 0 where
@@ -24,8 +10,8 @@ pub record IsMapped {X Y : Type 0} (f : X → Y) (o : Option X) (y : Y) : Type 0
 
 pub mapped : {X Y : Type 0} (f : X → Y) (o : Option X) (y : Y) → option_map f o ≡ Some y
     → IsMapped f o y
-mapped f None y e = absurd (none_some y e)
-mapped f (Some x) y e = record { of = x; some = refl; is = some_same (f x) y e }
+mapped f None y e = absurd (none-some y e)
+mapped f (Some x) y e = record { of = x; some = refl; is = same_Some (f x) y e }
 
 pub at_most : (n m : ℕ) → nat_le n m ≡ true → n ≤ m
 at_most n m e = grind (arith, nat_tests)
@@ -45,12 +31,12 @@ module _ {X : Type 0} (read : List ℕ → Option X) (text_of : X → List ℕ) 
         → ((x : X) → o ≡ Some x → Good x × (text_of x ≡ t))
         → ((ys : List X) → more ≡ Some ys → AreWritten ts ys)
         → both_read o more ≡ Some xs → AreWritten (t ∷ ts) xs
-    both_written t ts None more xs one others e = absurd (none_some xs e)
-    both_written t ts (Some x) None xs one others e = absurd (none_some xs e)
+    both_written t ts None more xs one others e = absurd (none-some xs e)
+    both_written t ts (Some x) None xs one others e = absurd (none-some xs e)
     both_written t ts (Some x) (Some ys) xs one others e =
         let first = one x refl in
         let rest = others ys refl in
-        subst (AreWritten (t ∷ ts)) (some_same (x ∷ ys) xs e)
+        subst (AreWritten (t ∷ ts)) (same_Some (x ∷ ys) xs e)
         (record {
           each = All-cons Good x ys first.0 rest.each;
           written = ap₂ (λ (p : List ℕ) (ps : List (List ℕ)). p ∷ ps) first.1 rest.written;
@@ -58,7 +44,7 @@ module _ {X : Type 0} (read : List ℕ → Option X) (text_of : X → List ℕ) 
 
     all_written : (ts : List (List ℕ)) (xs : List X) → all_read read ts ≡ Some xs → AreWritten ts xs
     unfolding all_read
-    all_written [] xs e = subst (AreWritten []) (some_same [] xs e)
+    all_written [] xs e = subst (AreWritten []) (same_Some [] xs e)
         (record { each = All-nil Good; written = refl })
     all_written (t ∷ ts) xs e = both_written t ts (read t) (all_read read ts) xs (reads t)
         (all_written ts) e
@@ -84,18 +70,17 @@ module _ {X : Type 0} (read : List ℕ → Option X) (text_of : X → List ℕ) 
       where
         go : (o : Option (List X)) → pieces_of read s text ≡ o → few_of name most o ≡ Some xs
             → AreFew Good name most xs × (join_with_byte s (map text_of xs) ≡ text)
-        go None is e = absurd (none_some xs e)
+        go None is e = absurd (none-some xs e)
         go (Some ys) is e =
-            let same = if_same (few_named name most ys) ys xs e in
-            let passes = ap (few_named name most) (sym same)
-            ∙ if_true (few_named name most ys) ys xs e in
-            let read = pieces_written s text xs (is ∙ ap Some same) in (
+            let made = cond_some (few_named name most ys) ys xs e in
+            let passes = and_parts (nat_le (length xs) most) (are_distinct (map name xs))
+            (ap (few_named name most) (sym made.1) ∙ made.0) in
+            let read = pieces_written s text xs (is ∙ ap Some made.1) in (
               record {
                 each = read.0;
                 some = read.1;
-                few = at_most (length xs) most
-                    (both_left (nat_le (length xs) most) (are_distinct (map name xs)) passes);
-                distinct = both_right (nat_le (length xs) most) (are_distinct (map name xs)) passes;
+                few = at_most (length xs) most passes.0;
+                distinct = passes.1;
               },
               read.2,
             )

@@ -1,42 +1,34 @@
 -- Tables are read from exactly what they are written as.
-use Rattle.command_line.proofs.Imports.{All, All-head, All-map, All-weaker, AreFew, AreParts, Bool, ColumnDecl, ColumnType, Declares, IsColumn, IsPath, IsTable, List, ListFile, None, Option, PartsDecl, Paths, Some, TableDecl, [], after_first, all_read, ap, ap₂, arith, before_first, bytes_eq, bytes_eq-Decides, codes, column_of, column_text, column_with, columns_of, eqb-true, false, if◌then◌else◌, is_name, is_path, is_path_byte, is_word_byte, join_with_byte, length, list_all, map, not, option_map, parts_of, parts_text, path_of, pieces_of, refl, subst, sym, table_if, table_of, table_text, table_with, tables_of, true, type_named, type_text, ℕ, ◌&&◌, ◌++◌, ◌==◌, ◌∙◌, ◌∷◌, ◌≡◌, ◌≤◌}
+use Rattle.command_line.proofs.Imports.{All, All-head, All-map, All-weaker, AreFew, AreParts, Bool, ColumnDecl, ColumnType, Declares, IsColumn, IsPath, IsTable, List, ListFile, None, Option, PartsDecl, Paths, Some, TableDecl, [], after_first, all_read, ap, ap₂, arith, before_first, bytes_eq, bytes_eq-Decides, column_of, column_text, column_with, columns_of, eqb-true, false, if◌then◌else◌, is_name, is_path, is_path_byte, is_word_byte, join_with_byte, length, list_all, map, not, option_map, parts_of, parts_text, path_of, pieces_of, refl, subst, sym, table_if, table_of, table_text, table_with, tables_of, true, type_named, type_text, ℕ, ◌&&◌, ◌++◌, ◌==◌, ◌∙◌, ◌∷◌, ◌≡◌, ◌≤◌, none-some, same_Some, cond_some, and_parts, not-true, map-id, append-nil, begins_with_letter}
 use Rattle.chunk_data.specs.declared.typed_value.ColumnType.TheVariants as column
-use Rattle.command_line.proofs.Cuts.{Lacks, after_at, before_at, both_left, both_right, cut_at, lacks_both, lacks_by, lacks_joined, lacks_more, true_false}
-use Rattle.command_line.proofs.Readings.{few_whole, few_written, if_same, if_true, mapped, none_some, pieces_whole, pieces_written, some_same}
+use Rattle.command_line.proofs.Cuts.{Lacks, after_at, before_at, cut_at, lacks_both, lacks_by, lacks_joined, lacks_more}
+use Rattle.command_line.proofs.Readings.{few_whole, few_written, mapped, pieces_whole, pieces_written}
 
 -- ---- names
-
-middle_true : (a b c : Bool) → (a && b && c) ≡ true → b ≡ true
-middle_true true true c e = refl
-middle_true true false c e = absurd (cc)
-middle_true false b c e = absurd (cc)
 
 name_lacks : (s : ℕ) (name : List ℕ) → is_word_byte s ≡ false → is_name name ≡ true → Lacks s name
 unfolding is_name
 name_lacks s name f e = lacks_by is_word_byte s name f
-    (middle_true _ (list_all is_word_byte name) _ e)
+    (and_parts (begins_with_letter name) (list_all is_word_byte name)
+    (and_parts (begins_with_letter name && list_all is_word_byte name) _ e).0).1
 
 -- ---- columns
 
-type_read : (text : List ℕ) (kind : ColumnType) → type_named text ≡ Some kind
-    → type_text kind ≡ text
-type_read text kind e =
-    go (bytes_eq text (codes "Int64")) (bytes_eq text (codes "UInt64"))
-    (bytes_eq text (codes "String"))
-    (bytes_eq-Decides text (codes "Int64")).0 (bytes_eq-Decides text (codes "UInt64")).0
-    (bytes_eq-Decides text (codes "String")).0 e
-  where
-    go : (a b c : Bool) → (a ≡ true → text ≡ codes "Int64") → (b ≡ true → text ≡ codes "UInt64")
-        → (c ≡ true → text ≡ codes "String")
-        → (if a then Some column.Int64 else if b then Some column.UInt64 else if c then Some
-        column.Text else None) ≡ Some kind → type_text kind ≡ text
-    go true b c first second third e = ap type_text (sym (some_same column.Int64 kind e))
-        ∙ sym (first refl)
-    go false true c first second third e = ap type_text (sym (some_same column.UInt64 kind e))
-        ∙ sym (second refl)
-    go false false true first second third e = ap type_text (sym (some_same column.Text kind e))
-        ∙ sym (third refl)
-    go false false false first second third e = absurd (none_some kind e)
+module _ (text : List ℕ) (kind : ColumnType) where
+  named_by : (k : ColumnType) (more : Option ColumnType)
+      → (more ≡ Some kind → type_text kind ≡ text)
+      → (if bytes_eq text (type_text k) then Some k else more) ≡ Some kind → type_text kind ≡ text
+  named_by k more others e = go (bytes_eq text (type_text k))
+      (bytes_eq-Decides text (type_text k)).0 e
+    where
+      go : (b : Bool) → (b ≡ true → text ≡ type_text k) → (if b then Some k else more) ≡ Some kind
+          → type_text kind ≡ text
+      go true is e = ap type_text (sym (same_Some k kind e)) ∙ sym (is refl)
+      go false is e = others e
+
+  type_read : type_named text ≡ Some kind → type_text kind ≡ text
+  type_read = named_by column.Int64 _ (named_by column.UInt64 _
+      (named_by column.Text None (λ e. absurd (none-some kind e))))
 
 type_whole : (kind : ColumnType) → type_named (type_text kind) ≡ Some kind
 type_whole column.Int64 = refl
@@ -57,13 +49,13 @@ column_read text c e = go (type_named (after_first (λ b. b == 32) text)) refl e
 
     go : (o : Option ColumnType) → type_named (after_first (λ b. b == 32) text) ≡ o
         → column_with name o ≡ Some c → IsColumn c × (column_text c ≡ text)
-    go None is e = absurd (none_some c e)
+    go None is e = absurd (none-some c e)
     go (Some kind) is e =
-        let same = if_same (is_name name) (record { name = name; kind = kind }) c e in (
-          subst IsColumn same (if_true (is_name name) (record { name = name; kind = kind }) c e),
-          ap column_text (sym same)
+        let made = cond_some (is_name name) (record { name = name; kind = kind }) c e in (
+          subst IsColumn made.1 made.0,
+          ap column_text (sym made.1)
               ∙ ap (λ t. name ++ (32 ∷ t)) (type_read (after_first (λ b. b == 32) text) kind is)
-              ∙ cut_at 32 text (λ none. none_some kind (sym (ap type_named none) ∙ is)),
+              ∙ cut_at 32 text (λ none. none-some kind (sym (ap type_named none) ∙ is)),
         )
 
 column_whole : (c : ColumnDecl) → IsColumn c → column_of (column_text c) ≡ Some c
@@ -84,16 +76,16 @@ column_lacks s word space c good =
 
 path_read : (text path : List ℕ) → path_of text ≡ Some path → IsPath path × (path ≡ text)
 path_read text path e =
-    let same = if_same (is_path text) text path e in
-    (subst IsPath same (if_true (is_path text) text path e), sym same)
+    let made = cond_some (is_path text) text path e in
+    (subst IsPath made.1 made.0, sym made.1)
 
 path_whole : (path : List ℕ) → IsPath path → path_of path ≡ Some path
 path_whole path good = ap (λ (b : Bool). if b then Some path else None) good
 
 path_lacks : (s : ℕ) → is_path_byte s ≡ false → (path : List ℕ) → IsPath path → Lacks s path
-path_lacks s f [] good = absurd (true_false false good refl)
+path_lacks s f [] good = absurd cc
 path_lacks s f (b ∷ bytes) good = lacks_by is_path_byte s (b ∷ bytes) f
-    (both_right (not (b == 64)) (list_all is_path_byte (b ∷ bytes)) good)
+    (and_parts (not (b == 64)) (list_all is_path_byte (b ∷ bytes)) good).1
 
 -- the text doesn't begin with `@`
 abbrev begins_plain : List ℕ → Bool
@@ -101,40 +93,28 @@ begins_plain [] = false
 begins_plain (b ∷ bytes) = not (b == 64)
 
 path_begins : (path more : List ℕ) → IsPath path → begins_plain (path ++ more) ≡ true
-path_begins [] more good = absurd (true_false false good refl)
-path_begins (b ∷ bytes) more good = both_left (not (b == 64)) (list_all is_path_byte (b ∷ bytes))
-    good
-
-path_begins_alone : (path : List ℕ) → IsPath path → begins_plain path ≡ true
-path_begins_alone [] good = absurd (true_false false good refl)
-path_begins_alone (b ∷ bytes) good = both_left (not (b == 64)) (list_all is_path_byte (b ∷ bytes))
-    good
+path_begins [] more good = absurd cc
+path_begins (b ∷ bytes) more good =
+    (and_parts (not (b == 64)) (list_all is_path_byte (b ∷ bytes)) good).0
 
 paths_begin : (paths : List (List ℕ)) → All IsPath paths → 1 ≤ length paths
     → begins_plain (join_with_byte 43 paths) ≡ true
 paths_begin [] h some = absurd (omega (arith, some))
-paths_begin (path ∷ []) h some = path_begins_alone path (All-head IsPath path [] h)
+paths_begin (path ∷ []) h some =
+    rw append-nil at (path_begins path [] (All-head IsPath path [] h))
 paths_begin (path ∷ next ∷ more) h some = path_begins path (43 ∷ join_with_byte 43 (next ∷ more))
     (All-head IsPath path (next ∷ more) h)
 
-not_false : (b : Bool) → not b ≡ true → b ≡ false
-not_false true e = absurd (cc)
-not_false false e = refl
-
 plain_parts : (text : List ℕ) → begins_plain text ≡ true
     → parts_of text ≡ option_map Paths (pieces_of path_of 43 text)
-plain_parts [] e = absurd (true_false false e refl)
+plain_parts [] e = absurd cc
 plain_parts (b ∷ bytes) e =
     ap (λ (a : Bool). if a then option_map ListFile (path_of bytes) else option_map Paths
-    (pieces_of path_of 43 (b ∷ bytes))) (not_false (b == 64) e)
-
-same_paths : (paths : List (List ℕ)) → map (λ (p : List ℕ). p) paths ≡ paths
-same_paths [] = refl
-same_paths (p ∷ paths) = ap (λ ps. p ∷ ps) (same_paths paths)
+    (pieces_of path_of 43 (b ∷ bytes))) (not-true (b == 64) e)
 
 parts_read : (text : List ℕ) (parts : PartsDecl) → parts_of text ≡ Some parts
     → AreParts parts × (parts_text parts ≡ text)
-parts_read [] parts e = absurd (none_some parts e)
+parts_read [] parts e = absurd (none-some parts e)
 parts_read (b ∷ bytes) parts e = go (b == 64) refl e
   where
     go : (a : Bool) → (b == 64) ≡ a
@@ -153,14 +133,14 @@ parts_read (b ∷ bytes) parts e = go (b == 64) refl e
         let paths = pieces_written path_of (λ p. p) IsPath path_read 43 (b ∷ bytes) m.of m.some in (
           subst AreParts m.is (paths.0, paths.1),
           ap parts_text (sym m.is)
-              ∙ ap (join_with_byte 43) (sym (same_paths m.of)) ∙ paths.2,
+              ∙ ap (join_with_byte 43) (sym (map-id m.of)) ∙ paths.2,
         )
 
 parts_whole : (parts : PartsDecl) → AreParts parts → parts_of (parts_text parts) ≡ Some parts
 parts_whole (Paths paths) good =
     plain_parts (join_with_byte 43 paths) (paths_begin paths good.0 good.1)
     ∙ ap (option_map Paths) (ap (λ ps. pieces_of path_of 43 (join_with_byte 43 ps))
-    (sym (same_paths paths))
+    (sym (map-id paths))
     ∙ pieces_whole path_of (λ p. p) IsPath path_whole 43 paths (path_lacks 43 refl) good.0 good.1)
 parts_whole (ListFile path) good = ap (option_map ListFile) (path_whole path good)
 
@@ -194,7 +174,7 @@ columns_whole columns h = few_whole column_of column_text IsColumn column_whole 
 
 no_columns : (columns : List ColumnDecl) → columns_of [] ≡ Some columns → ⊥
 unfolding all_read
-no_columns columns e = none_some columns e
+no_columns columns e = none-some columns e
 
 table_read : (text : List ℕ) (t : TableDecl) → table_of text ≡ Some t
     → IsTable t × (table_text t ≡ text)
@@ -215,13 +195,13 @@ table_read text t e = go (is_name name) (parts_of parts) (columns_of columns) re
     go : (good : Bool) (p : Option PartsDecl) (c : Option (List ColumnDecl)) → is_name name ≡ good
         → parts_of parts ≡ p → columns_of columns ≡ c
         → (if good then table_if name p c else None) ≡ Some t → IsTable t × (table_text t ≡ text)
-    go false p c named has_parts has_columns e = absurd (none_some t e)
-    go true None c named has_parts has_columns e = absurd (none_some t e)
-    go true (Some ps) None named has_parts has_columns e = absurd (none_some t e)
+    go false p c named has_parts has_columns e = absurd (none-some t e)
+    go true None c named has_parts has_columns e = absurd (none-some t e)
+    go true (Some ps) None named has_parts has_columns e = absurd (none-some t e)
     go true (Some ps) (Some cs) named has_parts has_columns e =
         let made : TableDecl = record { schema = record { name = name; columns = cs }; parts = ps }
         in
-        let same : made ≡ t = some_same made t e in
+        let same : made ≡ t = same_Some made t e in
         let first = parts_read parts ps has_parts in
         let second = columns_read columns cs has_columns in
         let cut = cut_at 58 behind (λ none. no_columns cs (sym (ap columns_of none) ∙ has_columns))
@@ -230,7 +210,7 @@ table_read text t e = go (is_name name) (parts_of parts) (columns_of columns) re
           ap table_text (sym same)
               ∙ ap₂ (λ ps cs. name ++ (61 ∷ (ps ++ (58 ∷ cs)))) first.1 second.1
               ∙ ap (λ rest. name ++ (61 ∷ rest)) cut
-              ∙ cut_at 61 text (λ none. none_some ps
+              ∙ cut_at 61 text (λ none. none-some ps
               (sym (ap (λ rest. parts_of (before_first (λ b. b == 58) rest)) none) ∙ has_parts)),
         )
 

@@ -1,5 +1,5 @@
 -- The command that a list of words means.
-use Rattle.std.specs.Prelude.{◌≡◌, ℕ, ◌^◌, ◌≤◌, Bool, nat_le, ◌&&◌, if◌then◌else◌, List, [], ◌∷◌, length, Option, Some, None, option_and_then}
+use Rattle.std.specs.Prelude.{◌≡◌, ℕ, ◌^◌, ◌≤◌, nat_le, ◌&&◌, if◌then◌else◌, List, [], length, Option, Some, None, option_and_then}
 use Rattle.query_model.specs.Fields.{numeral_below}
 use Rattle.query_model.specs.declared.query.TableDecl.{TableDecl}
 use Rattle.command_options.specs.Options.{options_of}

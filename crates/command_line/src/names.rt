@@ -25,10 +25,5 @@ pub fn have_distinct_names<T: Named>(items: &[T]) -> bool
 fn has_name<T: Named>(items: &[T], name: &[u8]) -> bool
     ensures { result ≡ list_any (bytes_eq name.now) (map T.named items.now) }
 {
-    for i in 0..items.len() {
-        if name == items[i].name() {
-            return true;
-        }
-    }
-    false
+    items.iter().any(|item| name == item.name())
 }

@@ -140,19 +140,13 @@ fn read_parts(alloc: Global, text: &[u8]) -> Result<Option<PartsDecl>, Memory>
 fn read_list_file(alloc: Global, path: &[u8]) -> Result<Option<PartsDecl>, Memory>
     ensures { IfOk result (λ o. o ≡ option_map ListFile (path_of path.now)) }
 {
-    match Bytes::read(alloc, path)? {
-        None => Ok(None),
-        Some(path) => Ok(Some(PartsDecl::ListFile(path))),
-    }
+    Ok(Bytes::read(alloc, path)?.map(PartsDecl::ListFile))
 }
 
 fn read_paths(alloc: Global, text: &[u8]) -> Result<Option<PartsDecl>, Memory>
     ensures { IfOk result (λ o. o ≡ option_map Paths (pieces_of path_of 43 text.now)) }
 {
-    match read_pieces(alloc, text, b'+')? {
-        None => Ok(None),
-        Some(paths) => Ok(Some(PartsDecl::Paths(paths))),
-    }
+    Ok(read_pieces(alloc, text, b'+')?.map(PartsDecl::Paths))
 }
 
 // A path.

@@ -122,10 +122,7 @@ fn read_number(text: &[u8], most: u32) -> Option<u32>
     if text.len() > MOST_DIGITS {
         return None;
     }
-    match spelled_uint(text) {
-        None => None,
-        Some(number) => number_in(number, most),
-    }
+    number_in(spelled_uint(text)?, most)
 }
 
 fn number_in(number: u64, most: u32) -> Option<u32>

@@ -1,13 +1,11 @@
 -- The machine of strings reads what is written, as long as it goes on.
 use Rattle.std.proofs.Common.{◌≡◌, ◌≢◌, ℕ, suc, Bool, true, false, cond, List, [], ◌∷◌, ◌++◌, length, take, drop, refl, ap, ◌∙◌, subst, arith, Option, Some, None, option_map}
 use Rattle.std.specs.Prelude.{◌==◌, ◌||◌, ⊤}
+use Rattle.std.proofs.lemmas.Bool.{eqb-false as unequal, eqb-true as equal, ne_eqb as differ}
 use Rattle.std.proofs.lemmas.List.{take-append-drop, length-take-le}
 use Rattle.sql_grammar.specs.declared.TextPlace.TheVariants as place
 use Rattle.sql_grammar.specs.declared.TextByte.TheVariants as byte
 use Rattle.sql_grammar.specs.Names.{begins_with, text_on, text_at, IsQuoted, closed, another_byte, two_quotes, quote_behind_backslash, two_backslashes, IsStringAt, StringsAreRead, StringsAreWritten}
-
-differ : (b n : ℕ) → b ≢ n → (b == n) ≡ false
-differ b n h = grind (arith, h)
 
 -- behind the last quote
 behind_quote : (rest : List ℕ) → begins_with 39 rest ≡ false → text_at place.BehindQuote rest ≡ Some ([], 0)
@@ -46,12 +44,6 @@ strings_are_read bytes content n s =
 abbrev IsReadAt : List ℕ → Read → Type 0
 IsReadAt bytes None = ⊤
 IsReadAt bytes (Some r) = IsStringAt bytes r.0 r.1
-
-equal : (b n : ℕ) → (b == n) ≡ true → b ≡ n
-equal b n h = grind (arith, h)
-
-unequal : (b n : ℕ) → (b == n) ≡ false → b ≢ n
-unequal b n h = grind (arith, h)
 
 byte_read : (b : ℕ) (bs : List ℕ) (r : Read) → b ≢ 39 → b ≢ 92 → IsReadAt bs r → IsReadAt (b ∷ bs) (with_byte b r)
 byte_read b bs None n m h = tt

@@ -3,23 +3,9 @@
 use Rattle.std.proofs.Common.{◌≡◌, ℕ, suc, ◌+◌, Bool, true, false, not, ◌&&◌, ◌||◌, cond, List, [], ◌∷◌, ◌++◌, length, map, filter, flat_map, Option, Some, None, option_map, refl, sym, ap, ap₂, ◌∙◌, Box, Global}
 use Rattle.std.specs.Prelude.{◌==◌, nat_lt, is_some, find, bytes_eq}
 use Rattle.std.specs.List.{list_any, list_all}
-use Rattle.std.proofs.lemmas.List.{map-append}
+use Rattle.std.proofs.lemmas.List.{length-map, map-append}
 use denote.RawPtr.{null_ptr}
-use Rattle.query_model.specs.Names.{column, number, arith, formula}
-use Rattle.query_model.specs.declared.query.AggOp.{AggOp}
-use Rattle.query_model.specs.declared.query.AggCall.{AggCall}
-use Rattle.query_model.specs.declared.query.ColumnRef.{ColumnRef}
-use Rattle.query_model.specs.declared.query.ExprOf.{ExprOf}
-use Rattle.query_model.specs.declared.query.Operand.{Operand}
-use Rattle.query_model.specs.declared.query.CondOf.{CondOf}
-use Rattle.query_model.specs.declared.query.Item.{Item}
-use Rattle.query_model.specs.declared.query.ItemKind.{ItemKind}
-use Rattle.query_model.specs.declared.query.Items.{Items}
-use Rattle.query_model.specs.declared.query.NamePair.{NamePair}
-use Rattle.query_model.specs.declared.query.OrderKey.{OrderKey}
-use Rattle.query_model.specs.declared.query.Query.{Query}
-use Rattle.query_model.specs.declared.query.Schema.{Schema}
-use Rattle.query_model.specs.declared.query.Refusal.{Refusal}
+use Rattle.sql_grammar.specs.QueryTypes.{column, number, arith, formula, AggOp, AggCall, ColumnRef, ExprOf, Operand, CondOf, Item, ItemKind, Items, NamePair, OrderKey, Query, Schema, Refusal}
 use Rattle.query_model.specs.Refusals.{FromColumn, join_pairs, from_columns, meant, expr_columns, cond_operands, operands_of, operand_columns, bare_columns, argument_columns, item_columns, listed, text_columns, written, arith_kind, expr_kind, call_kind, agg_kind, operand_kind, comparable, cond_fits, fits_where, is_typed, item_kind, type_mismatch, is_call, is_grouped, same_column, not_keys, star_name, ungrouped_names, first_name, plain_name, name_or, item_names, output_names, operand_calls, total, calls_in, widths, first_of_all, refusal_of}
 use Rattle.query_model.specs.declared.query.ExprOf.TheVariants as expr
 use Rattle.query_model.specs.declared.query.Operand.TheVariants as operand
@@ -97,23 +83,18 @@ module _ {A C : Type 0} (g : A → C) (h : C → A) where
   count-laid : (f : A → Bool) → ((x : A) → f x ≡ f (h (g x))) → (xs : List A)
       → length (filter f xs) ≡ length (filter f (map h (map g xs)))
   count-laid f same [] = refl
-  count-laid f same (x ∷ xs) = go (f x) (f (h (g x))) (same x) (count-laid f same xs)
+  count-laid f same (x ∷ xs) = rw (same x) (go (f (h (g x))) (count-laid f same xs))
     where
-      go : (a b : Bool) → a ≡ b → length (filter f xs) ≡ length (filter f (map h (map g xs)))
+      go : (a : Bool) → length (filter f xs) ≡ length (filter f (map h (map g xs)))
           → length (cond a (x ∷ filter f xs) (filter f xs)) ≡ length
-          (cond b (h (g x) ∷ filter f (map h (map g xs))) (filter f (map h (map g xs))))
-      go true true is e = ap (λ n. suc n) e
-      go false false is e = e
-      go _ _ is e = absurd cc
+          (cond a (h (g x) ∷ filter f (map h (map g xs))) (filter f (map h (map g xs))))
+      go true e = ap (λ n. suc n) e
+      go false e = e
 
-  total-laid : (f : A → ℕ) → ((x : A) → f x ≡ f (h (g x))) → (xs : List A)
-      → total (map f xs) ≡ total (map f (map h (map g xs)))
-  total-laid f same [] = refl
-  total-laid f same (x ∷ xs) = ap₂ ◌+◌ (same x) (total-laid f same xs)
-
-  length-laid : (xs : List A) → length xs ≡ length (map h (map g xs))
-  length-laid [] = refl
-  length-laid (x ∷ xs) = ap (λ n. suc n) (length-laid xs)
+  map-laid : {B : Type 0} (f : A → B) → ((x : A) → f x ≡ f (h (g x))) → (xs : List A)
+      → map f xs ≡ map f (map h (map g xs))
+  map-laid f same [] = refl
+  map-laid f same (x ∷ xs) = ap₂ (λ y ys. y ∷ ys) (same x) (map-laid f same xs)
 
 -- ---- expressions
 
@@ -303,16 +284,16 @@ calls_are q =
     let f : Item → Bool = λ i. is_call i.what in
     ap₂ ◌+◌ (count-laid item_tree laid_item f is_call_is (listed q.items)
     ∙ ap (λ is. length (filter f is)) (sym (items_are q.items)))
-    (total-laid side laid_side operand_calls
-    (by_side operand_calls (λ e. refl) (λ c. refl)) (operands_of q.having)
+    (ap total (map-laid side laid_side operand_calls
+    (by_side operand_calls (λ e. refl) (λ c. refl)) (operands_of q.having))
     ∙ ap (λ os. total (map operand_calls os)) (sym (sides_of_are q.having)))
 
 widths_are : (q : Query) (schemas : List Schema)
     → widths q schemas ≡ widths (laid (query_tree q)) schemas
 widths_are q schemas =
     ap₂ (λ n k. length (from_columns q schemas) ∷ n ∷ length q.keys ∷ length q.order
-    ∷ length (join_pairs q.join) ∷ k ∷ []) (length-laid item_tree laid_item (listed q.items)
-    ∙ ap length (sym (items_are q.items))) (calls_are q)
+    ∷ length (join_pairs q.join) ∷ k ∷ [])
+    (sym (ap length (items_are q.items) ∙ simp length-map)) (calls_are q)
 
 refusal_is : (q : Query) (schemas : List Schema)
     → refusal_of q schemas ≡ refusal_of (laid (query_tree q)) schemas

@@ -1,16 +1,7 @@
 -- Which tokens spell a query. Each relation has a case for each line of the grammar: `IsTerm e ts rest` says that the tokens ts
 -- begin with a spelling of the term e, and that rest is what follows it.
 use Rattle.std.specs.Prelude.{◌≡◌, ℕ, true, false, List, [], ◌∷◌, Option, Some, None, codes}
-use Rattle.query_model.specs.Formulas.{column, number, arith}
-use Rattle.query_model.specs.declared.query.ColumnRef.{ColumnRef}
-use Rattle.query_model.specs.declared.query.AggOp.{AggOp}
-use Rattle.query_model.specs.declared.query.CompareOp.{CompareOp}
-use Rattle.query_model.specs.declared.query.TableRef.{TableRef}
-use Rattle.query_model.specs.declared.query.NamePair.{NamePair}
-use Rattle.query_model.specs.declared.query.Join.{Join}
-use Rattle.query_model.specs.declared.query.OrderKey.{OrderKey}
-use Rattle.query_model.specs.declared.query.Span.{Span}
-use Rattle.query_model.specs.declared.query.Query.{Query}
+use Rattle.sql_grammar.specs.QueryTypes.{column, number, arith, ColumnRef, AggOp, CompareOp, TableRef, NamePair, Join, OrderKey, Span, Query}
 use Rattle.query_model.specs.declared.query.ArithOp.TheVariants as op
 use Rattle.query_model.specs.declared.query.AggOp.TheVariants as agg
 use Rattle.query_model.specs.declared.query.CompareOp.TheVariants as order

@@ -1,5 +1,5 @@
 -- The tokens of a text, each as long as it can be.
-use Rattle.std.specs.Prelude.{◌≡◌, ◌≤◌, ◌++◌, ℕ, zero, suc, ◌+◌, ◌-◌, ◌*◌, ◌^◌, Bool, true, false, not, nat_lt, ◌==◌, ◌&&◌, ◌||◌, if◌then◌else◌, List, [], ◌∷◌, length, drop, map, find, take_while, fold, codes, Option, Some, None, option_map, is_some}
+use Rattle.std.specs.Prelude.{ℕ, zero, suc, ◌+◌, ◌-◌, ◌*◌, ◌^◌, Bool, true, false, not, nat_lt, ◌==◌, ◌&&◌, ◌||◌, if◌then◌else◌, List, [], ◌∷◌, length, drop, map, find, take_while, fold, codes, Option, Some, None, option_map, is_some}
 use Rattle.std.specs.List.{list_all}
 use Rattle.std.specs.Char.{is_ascii_digit, is_ascii_alphabetic, to_ascii_lowercase}
 use Rattle.std.specs.Str.{bytes_eq}
@@ -198,9 +198,3 @@ tokens_behind (suc n) (b ∷ bs) = tokens_behind n bs
 -- the tokens of a text, where it is a list of tokens
 abbrev pub tokens_of : List ℕ → Option (List Token)
 tokens_of text = tokens_behind 0 text
-
--- What is read of the front of a text alone takes no more bytes than what is read of the text: no
--- front of it that is a token is longer than the token that is read.
-abbrev pub TokensAreLongest : Type 0
-TokensAreLongest = (front more : List ℕ) (t u : Token) (n m : ℕ)
-    → token_front front ≡ Some (t, n) → token_front (front ++ more) ≡ Some (u, m) → n ≤ m

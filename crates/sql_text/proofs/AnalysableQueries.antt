@@ -1,27 +1,13 @@
 -- What analysis asks of a query holds of each query that is read: WHERE has no call, HAVING has the
 -- operands of groups, and each call has its argument.
-use Rattle.std.proofs.Common.{◌≡◌, ℕ, true, List, [], ◌∷◌, map, flat_map, Option, Some, None, option_map, refl}
-use Rattle.std.specs.Prelude.{is_some}
-use Rattle.std.specs.List.{All}
-use Rattle.std.proofs.lemmas.List.Elements.{All-nil, All-cons, All-head, All-tail, All-append, All-weaker}
-use Rattle.query_model.specs.Names.{formula, cond_operands, operands_of, listed, item_calls, calls_of, IsNoCall, IsGroupOperand, takes_argument, HasItsArgument, IsAnalysable}
-use Rattle.query_model.specs.declared.query.AggOp.{AggOp}
-use Rattle.query_model.specs.declared.query.AggCall.{AggCall}
-use Rattle.query_model.specs.declared.query.ColumnRef.{ColumnRef}
-use Rattle.query_model.specs.declared.query.ExprOf.{ExprOf}
-use Rattle.query_model.specs.declared.query.Operand.{Operand}
-use Rattle.query_model.specs.declared.query.Item.{Item}
-use Rattle.query_model.specs.declared.query.ItemKind.{ItemKind}
-use Rattle.query_model.specs.declared.query.Query.{Query}
+use Rattle.sql_text.proofs.Imports.{◌≡◌, ℕ, true, List, [], ◌∷◌, map, flat_map, Option, Some, None, option_map, refl, is_some, All, All-nil, All-cons, All-head, All-tail, All-append, All-weaker, formula, operands_of, item_calls, calls_of, IsNoCall, takes_argument, HasItsArgument, IsAnalysable, AggOp, AggCall, ColumnRef, ExprOf, Operand, Item, ItemKind, Query, has_argument, CallTree, Side, Condition, ItemWhat, ItemTree, Selection, QueryTree, call_tree, side, item_what, item_tree, Tokens, IsAgg, count_rows, count_star, call_over, IsOperand, an_expr, a_string, IsGroupOperand as IsGroupSide, a_call, IsCond, one_conj, disjunction, IsConj, one_neg, conjunction, IsNeg, negation, enclosed_cond, comparison, AreListed, last_one, one_more, IsWhat, an_expression, an_agg, IsItem, unnamed, named, IsSelection, all_columns, some_items, IsFilter, no_filter, filter_by, IsHaving, no_having, having_by, source_of, shaping_of, IsQuery, select_query, IsText, bare, with_semicolon, laid_expr, laid_call, laid_side, laid_condition, laid_what, laid_item, laid_items, laid, sides_of_are, items_are, IsReadFrom, sym, ◌∙◌}
+use Rattle.query_model.specs.Names.{cond_operands, listed, IsGroupOperand}
 use Rattle.query_model.specs.declared.query.AggOp.TheVariants as agg
 use Rattle.query_model.specs.declared.query.ExprOf.TheVariants as expr
 use Rattle.query_model.specs.declared.query.Operand.TheVariants as operand
 use Rattle.query_model.specs.declared.query.ItemKind.TheVariants as kind
 use Rattle.sql_grammar.specs.declared.Sign.TheVariants as sign
 use Rattle.sql_grammar.specs.declared.Token.TheVariants as token
-use Rattle.sql_grammar.specs.Names.{has_argument, CallTree, Side, Condition, ItemWhat, ItemTree, Selection, QueryTree, call_tree, side, item_what, item_tree, Tokens, IsAgg, count_rows, count_star, call_over, IsOperand, an_expr, a_string, IsGroupOperand as IsGroupSide, a_call, IsCond, one_conj, disjunction, IsConj, one_neg, conjunction, IsNeg, negation, enclosed_cond, comparison, AreListed, last_one, one_more, IsWhat, an_expression, an_agg, IsItem, unnamed, named, IsSelection, all_columns, some_items, IsFilter, no_filter, filter_by, IsHaving, no_having, having_by, source_of, shaping_of, IsQuery, select_query, IsText, bare, with_semicolon}
-use Rattle.sql_grammar.proofs.Trees.{laid_expr, laid_call, laid_side, laid_condition, laid_what, laid_item, laid_items, laid, sides_of_are, items_are}
-use Rattle.sql_text.specs.Refusals.{IsReadFrom}
 
 -- the calls of an item
 abbrev HaveArguments : ItemKind → Type 0
@@ -136,14 +122,13 @@ no_call : (o : Operand ColumnRef) → IsNoCall (laid_side (side o)) → IsNoCall
 no_call (operand.Agg c) h = h
 no_call _ h = tt
 
+some_laid : (a : Option (ExprOf ColumnRef))
+    → is_some (option_map laid_expr (option_map formula a)) ≡ is_some a
+some_laid None = refl
+some_laid (Some e) = refl
+
 argument : (c : AggCall ColumnRef) → HasItsArgument (laid_call (call_tree c)) → HasItsArgument c
-argument c h = go c.arg h
-  where
-    go : (a : Option (ExprOf ColumnRef))
-        → is_some (option_map laid_expr (option_map formula a)) ≡ takes_argument c.op
-        → is_some a ≡ takes_argument c.op
-    go None h = h
-    go (Some e) h = h
+argument c h = sym (some_laid c.arg) ∙ h
 
 group_operand : (o : Operand ColumnRef) → IsGroupWith (laid_side (side o)) → IsGroupWith o
 group_operand (operand.Plain (expr.Column c)) h = h

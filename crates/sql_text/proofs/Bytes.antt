@@ -1,11 +1,5 @@
 -- One turn of the scanner.
-use Rattle.std.proofs.Common.{◌≡◌, ℕ, zero, suc, ◌+◌, ◌-◌, ◌<◌, ◌≤◌, true, false, cond, List, [], ◌∷◌, ◌++◌, length, drop, get_or, Option, Some, None, option_map, refl, sym, ap, ◌∙◌, append_assoc, add-one, arith}
-use Rattle.std.proofs.Math.Seq.{drop-cons}
-use Rattle.std.proofs.lemmas.List.{append-nil}
-use Rattle.sql_grammar.specs.Tokens.{is_blank, text_byte, text_on, text_end, text_at, token_front, behind_token, tokens_behind}
-use Rattle.sql_grammar.specs.declared.Token.{Token}
-use Rattle.sql_grammar.specs.declared.TextPlace.{TextPlace}
-use Rattle.sql_grammar.specs.declared.TextByte.{TextByte}
+use Rattle.sql_text.proofs.Imports.{◌≡◌, ℕ, zero, suc, ◌+◌, ◌-◌, ◌<◌, ◌≤◌, true, false, cond, List, [], ◌∷◌, ◌++◌, length, drop, get_or, Option, Some, None, option_map, refl, sym, ap, ◌∙◌, append_assoc, add-one, arith, drop-cons, append-nil, is_blank, text_byte, text_on, text_end, text_at, token_front, behind_token, tokens_behind, Token, TextPlace, TextByte, drop_all}
 
 -- ---- strings
 
@@ -44,17 +38,13 @@ turn whole bytes front i p what at h is =
     ∙ ap (λ w. text_behind front i
     (text_on w (get_or bytes i 0) (λ next. text_at next (drop (i + 1) bytes)))) is
 
-drop_all : (xs : List ℕ) → drop (length xs) xs ≡ []
-drop_all [] = refl
-drop_all (x ∷ xs) = drop_all xs
-
 pub text_ends : (whole : Option (List ℕ × ℕ)) (bytes front : List ℕ) (i : ℕ) (p q : TextPlace)
     → whole ≡ text_behind front i (text_at p (drop i bytes)) → i ≡ length bytes → p ≡ q
     → whole ≡ text_behind front (length bytes) (text_end q)
 unfolding text_at
 text_ends whole bytes front i p q at last is =
     at ∙ ap (λ i. text_behind front i (text_at p (drop i bytes))) last
-    ∙ ap (λ bs. text_behind front (length bytes) (text_at p bs)) (drop_all bytes)
+    ∙ ap (λ bs. text_behind front (length bytes) (text_at p bs)) (drop_all (length bytes) bytes (omega arith))
     ∙ ap (λ p. text_behind front (length bytes) (text_end p)) is
 
 -- ---- one token after another

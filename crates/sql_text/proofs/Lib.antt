@@ -1,3 +1,4 @@
+pub mod Imports
 pub mod Behind
 pub mod Turns
 pub mod PartsFound

@@ -1,10 +1,5 @@
 -- One turn of the reading of a list.
-use Rattle.std.proofs.Common.{◌≡◌, ℕ, suc, ◌<◌, List, [], ◌∷◌, ◌++◌, Option, Some, None, option_map, ◌∙◌, refl, append_assoc}
-use Rattle.sql_grammar.specs.declared.Token.{Token}
-use Rattle.sql_text.specs.declared.stop.Stop.{Stop}
-use Rattle.sql_text.specs.Answers.{Fails}
-use Rattle.sql_text.specs.Parts.{Reading}
-use Rattle.sql_text.specs.Queries.{list_at}
+use Rattle.sql_text.proofs.Imports.{◌≡◌, ℕ, suc, ◌<◌, List, [], ◌∷◌, ◌++◌, Some, None, option_map, ◌∙◌, refl, append_assoc, Token, Stop, Fails, Reading, behind, list_at, Separator}
 use Rattle.sql_text.proofs.Turns.{fault_goes, some_turns}
 
 abbrev with_front : {X : Type 0} → List X → Reading (List X) → Reading (List X)
@@ -17,22 +12,22 @@ one_before front x (Some r) = rw append_assoc refl
 
 -- The reading is the one that goes on behind the elements before, at ts, with so many turns.
 pub record IsAt {X : Type 0} (read : List Token → Reading X)
-    (next : List Token → Option (List Token)) (reading : Reading (List X)) (front : List X) (n : ℕ)
+    (s : Separator) (reading : Reading (List X)) (front : List X) (n : ℕ)
     (ts : List Token) : Type 0 where
-  pub same : reading ≡ with_front front (list_at read next n ts)
+  pub same : reading ≡ with_front front (list_at read s n ts)
 
-module _ {X : Type 0} {read : List Token → Reading X} {next : List Token → Option (List Token)}
+module _ {X : Type 0} {read : List Token → Reading X} {s : Separator}
     {reading : Reading (List X)} {front : List X} {n : ℕ} {ts : List Token}
-    (at : IsAt read next reading front n ts) where
-  pub at_next : {m : ℕ} → n ≡ suc m → (x : X) (mid behind : List Token) → read ts ≡ Some (x, mid)
-      → next mid ≡ Some behind → IsAt read next reading (front ++ x ∷ []) m behind
+    (at : IsAt read s reading front n ts) where
+  pub at_next : {m : ℕ} → n ≡ suc m → (x : X) (mid after : List Token) → read ts ≡ Some (x, mid)
+      → behind s mid ≡ Some after → IsAt read s reading (front ++ x ∷ []) m after
   unfolding list_at
-  at_next {m = m} is x mid behind found more = record {
-    same = at.same ∙ rw (is, found, more) (one_before front x (list_at read next m behind));
+  at_next {m = m} is x mid after found more = record {
+    same = at.same ∙ rw (is, found, more) (one_before front x (list_at read s m after));
   }
 
   pub at_end : 0 < n → (x : X) (rest : List Token) → read ts ≡ Some (x, rest)
-      → next rest ≡ None → reading ≡ Some (front ++ x ∷ [], rest)
+      → behind s rest ≡ None → reading ≡ Some (front ++ x ∷ [], rest)
   unfolding list_at
   at_end h x rest found none = at.same ∙ rw ((some_turns n h).1, found, none) refl
 

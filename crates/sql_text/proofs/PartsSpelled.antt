@@ -1,26 +1,16 @@
 -- What is read is spelled so.
-use Rattle.std.proofs.Common.{◌≡◌, ℕ, zero, suc, ◌≤◌, Bool, true, false, cond, nat_le, List, [], ◌∷◌, length, Option, Some, None, option_and_then, option_map, IfSome, refl, sym, ap, subst, ◌∙◌, arith}
-use Rattle.std.proofs.lemmas.Option.{same_Some}
-use Rattle.query_model.specs.Formulas.{number, arith as arithmetic}
-use Rattle.query_model.specs.declared.query.AggOp.{AggOp}
-use Rattle.query_model.specs.declared.query.ArithOp.{ArithOp}
-use Rattle.query_model.specs.declared.query.CompareOp.{CompareOp}
+use Rattle.sql_text.proofs.Imports.{◌≡◌, ℕ, zero, suc, ◌≤◌, Bool, true, false, cond, nat_le, List, [], ◌∷◌, length, Option, Some, None, option_and_then, option_map, IfSome, refl, sym, ap, subst, ◌∙◌, arith, same_Some, number, AggOp, ArithOp, CompareOp, aggregate_of, has_argument, Expression, CallTree, Side, plain, text, Condition, compare, both, Tokens, IsColumn, unqualified, qualified, IsExpr, one_term, sum, difference, IsTerm, one_factor, product, IsFactor, a_column, a_number, negative, enclosed, IsAgg, count_rows, count_star, call_over as called_over, IsOperand, an_expr, a_string, IsGroupOperand, a_key, a_call, a_constant, a_negative, a_text, IsComparison, equal, not_equal, less, less_equal, greater, greater_equal, IsCond, one_conj, disjunction, IsConj, one_neg, conjunction, IsNeg, negation, enclosed_cond, comparison, Token, Keyword, Sign, Joint, Clause, Parsed, expression, string, aggregate, truth, Reading, Reads, sign_joint, keyword_joint, joint_of, level, if_level, next_joint, if_both, calculated, combined, side_of, plain_of, dotted, column_at, negative_at, closed_at, count_at, over, call_at, called, call_or_column, word_at, negation_at, first_sign, first_keyword, first_part, turn_of, joined_at, joined, part_at}
+use Rattle.query_model.specs.Formulas.{arith as arithmetic}
 use Rattle.query_model.specs.declared.query.AggOp.TheVariants as agg
 use Rattle.query_model.specs.declared.query.ArithOp.TheVariants as op
-use Rattle.sql_grammar.specs.Names.{aggregate_of, has_argument, Expression, CallTree, Side, plain, text, Condition, compare, both, Tokens, IsColumn, unqualified, qualified, IsExpr, one_term, sum, difference, IsTerm, one_factor, product, IsFactor, a_column, a_number, negative, enclosed, IsAgg, count_rows, count_star, call_over as called_over, IsOperand, an_expr, a_string, IsGroupOperand, a_key, a_call, a_constant, a_negative, a_text, IsComparison, equal, not_equal, less, less_equal, greater, greater_equal, IsCond, one_conj, disjunction, IsConj, one_neg, conjunction, IsNeg, negation, enclosed_cond, comparison}
-use Rattle.sql_grammar.specs.declared.Token.{Token}
-use Rattle.sql_grammar.specs.declared.Keyword.{Keyword}
-use Rattle.sql_grammar.specs.declared.Sign.{Sign}
 use Rattle.sql_grammar.specs.declared.Token.TheVariants as token
 use Rattle.sql_grammar.specs.declared.Keyword.TheVariants as keyword
 use Rattle.sql_grammar.specs.declared.Sign.TheVariants as sign
-use Rattle.sql_text.specs.declared.part.Joint.{Joint}
 use Rattle.sql_text.specs.declared.part.Joint.TheVariants as joint
-use Rattle.sql_text.specs.declared.part.Clause.{Clause}
 use Rattle.sql_text.specs.declared.part.Clause.TheVariants as clause
-use Rattle.sql_text.specs.Parts.{Parsed, expression, string, aggregate, truth, Reading, Reads, sign_joint, keyword_joint, joint_of, level, if_level, next_joint, if_both, calculated, combined, side_of, plain_of, dotted, column_at, negative_at, closed_at, count_at, over, call_over, call_at, called, call_or_column, word_at, negation_at, first_sign, first_keyword, first_part, turn_of, joined_at, joined, part_at}
+use Rattle.sql_text.specs.Parts.{call_over}
 use Rattle.sql_text.proofs.Turns.{level_below, loose, tighter}
-use Rattle.sql_text.proofs.PartsFound.{operands_in}
+use Rattle.sql_text.proofs.Behind.{operands_in}
 
 pub bind : {A B : Type 0} (P : A → Type 0) (Q : B → Type 0) (f : A → Option B) (o : Option A)
     → IfSome o P → ((x : A) → P x → IfSome (f x) Q) → IfSome (option_and_then f o) Q

@@ -1,65 +1,64 @@
 -- A query is read exactly where one is spelled.
-use Rattle.std.proofs.Common.{◌≡◌, ℕ, zero, suc, ◌≤◌, Bool, true, false, cond, List, [], ◌∷◌, length, Option, Some, None, option_and_then, option_map, IfSome, refl, sym, ap, subst, ◌∙◌, arith}
-use Rattle.std.specs.Prelude.{codes}
-use Rattle.std.specs.Str.{bytes_eq}
-use Rattle.std.proofs.lemmas.Option.{IfSome_then}
-use Rattle.std.proofs.lemmas.Slice.Eq.{bytes_eq-Decides}
-use Rattle.query_model.specs.declared.query.AggOp.{AggOp}
-use Rattle.query_model.specs.declared.query.ColumnRef.{ColumnRef}
-use Rattle.query_model.specs.declared.query.Join.{Join}
-use Rattle.query_model.specs.declared.query.NamePair.{NamePair}
-use Rattle.query_model.specs.declared.query.OrderKey.{OrderKey}
-use Rattle.query_model.specs.declared.query.Span.{Span}
-use Rattle.query_model.specs.declared.query.TableRef.{TableRef}
+use Rattle.sql_text.proofs.Imports.{◌≡◌, ℕ, zero, suc, ◌≤◌, Bool, true, false, cond, List, [], ◌∷◌, length, Option, Some, None, option_and_then, option_map, IfSome, refl, ap, subst, ◌∙◌, arith, codes, bytes_eq, IfSome_then, bytes_eq-Decides, AggOp, ColumnRef, Join, NamePair, OrderKey, Span, TableRef, Expression, CallTree, count_rows, count_star, call_over, Condition, ItemWhat, plain_item, call_item, ItemTree, Selection, listed, QueryTree, Tokens, IsExpr, IsColumn, unqualified, qualified, one_term, sum, difference, IsTerm, one_factor, product, IsFactor, a_column, a_number, negative, enclosed, IsAgg, IsCond, AreListed, last_one as the_last, one_more as and_more, IsWhat, an_expression, an_agg, IsItem, unnamed, named, IsSelection, all_columns, some_items, IsTable, named_table, numbers_table, IsPair, equal_columns, IsJoined, table_on, IsJoin, no_join, join_of as joined_with, inner_join, IsFilter, no_filter, filter_by, AreKeys, no_keys, keys_by, IsHaving, no_having, having_by, IsOrderKey, unstated, ascending, descending, IsOrder, no_order, order_by, IsLimit, no_limit, first_rows, rows_behind, source_of, shaping_of, IsQuery, select_query, IsText, bare, with_semicolon, Token, Separator, Clause, Parsed, expression, truth, Reading, next_joint, plain_of, condition_of, call_at, part_at, list_behind, list_at, behind, alias_at, call_front, plain_what, what_by, what_at, item_of, with_alias, item_at, items_at, selection_at, count_behind, table_named, table_at, from_at, column_ref_at, after_equal, pair_with, pair_behind, pair_at, pairs_at, on_at, joined_table_at, some_join, join_at, condition_at, clause_at, columns_at, keys_at, direction_at, order_key_at, order_keys_at, order_at, limit_at, is_end, query_at, same_Some}
 use Rattle.query_model.specs.declared.query.TableRef.TheVariants as table
-use Rattle.sql_grammar.specs.Names.{Expression, CallTree, count_rows, count_star, call_over, Condition, ItemWhat, plain_item, call_item, ItemTree, Selection, star, QueryTree, Tokens, IsExpr, IsColumn, unqualified, qualified, one_term, sum, difference, IsTerm, one_factor, product, IsFactor, a_column, a_number, negative, enclosed, IsAgg, IsCond, AreListed, last_one as the_last, one_more as and_more, IsWhat, an_expression, an_agg, IsItem, unnamed, named, IsSelection, all_columns, some_items, IsTable, named_table, numbers_table, IsPair, equal_columns, IsJoined, table_on, IsJoin, no_join, join_of as joined_with, inner_join, IsFilter, no_filter, filter_by, AreKeys, no_keys, keys_by, IsHaving, no_having, having_by, IsOrderKey, unstated, ascending, descending, IsOrder, no_order, order_by, IsLimit, no_limit, first_rows, rows_behind, source_of, shaping_of, IsQuery, select_query, IsText, bare, with_semicolon}
-use Rattle.sql_grammar.specs.declared.Token.{Token}
 use Rattle.sql_grammar.specs.declared.Token.TheVariants as token
 use Rattle.sql_grammar.specs.declared.Keyword.TheVariants as keyword
 use Rattle.sql_grammar.specs.declared.Sign.TheVariants as sign
-use Rattle.sql_text.specs.declared.part.Clause.{Clause}
+use Rattle.sql_text.specs.declared.lists.Separator.TheVariants as between
 use Rattle.sql_text.specs.declared.part.Clause.TheVariants as clause
-use Rattle.sql_text.specs.Parts.{Parsed, expression, truth, Reading, next_joint, plain_of, condition_of, call_at, part_at}
-use Rattle.sql_text.specs.Queries.{list_behind, list_at, after_comma, after_and, alias_at, call_front, plain_what, what_by, what_at, item_of, with_alias, item_at, after_star, selection_by, selection_at, count_behind, table_named, table_at, from_at, column_ref_at, after_equal, pair_with, pair_behind, pair_at, pairs_at, on_at, joined_table_at, some_join, join_at, condition_at, filter_at, having_at, columns_at, keys_at, direction_at, order_key_at, order_keys_at, order_at, offset_at, limit_at, is_end, query_at}
-use Rattle.sql_text.proofs.Behind.{IsBehind, shorter, column_behind, item_behind, selection_behind, table_behind, pair_behind as pair_leaves, joined_behind, order_key_behind, list_behind as list_leaves}
+use Rattle.sql_text.proofs.Behind.{IsShorter, operands_in, expr_shorter, cond_shorter, column_shorter, item_shorter, selection_shorter, table_shorter, pair_shorter, joined_shorter, order_key_shorter, list_shorter}
 use Rattle.sql_text.proofs.Turns.{ends_name, tighter, deeper}
-use Rattle.sql_text.proofs.PartsFound.{operands_in, expr_found, cond_found, expr_shorter, cond_shorter, Calls, agg_found, nothing_called, dotted_found}
+use Rattle.sql_text.proofs.PartsFound.{expr_found, cond_found, Calls, agg_found, nothing_called, dotted_found}
 use Rattle.sql_text.proofs.PartsSpelled.{IsPart, bind, map_some, part_spelled, word_called, dotted_spelled}
 
 -- ---- what is spelled is read
 
 -- ---- lists
 
-module _ {X : Type 0} (Is : X → Tokens → Tokens → Type 0) (separator : Token) (read : Tokens → Reading X) (next : Tokens → Option Tokens)
-    (more : (ts : Tokens) → next (separator ∷ ts) ≡ Some ts) (leaves : (x : X) (ts rest : Tokens) → Is x ts rest → IsBehind rest ts)
-    (most : ℕ) (Ends : Tokens → Type 0) (goes : (ts : Tokens) → Ends (separator ∷ ts))
-    (found : (x : X) (ts rest : Tokens) → Is x ts rest → length ts ≤ most → Ends rest → read ts ≡ Some (x, rest)) where
-  pub list_found : {xs : List X} {ts rest : Tokens} → AreListed Is separator xs ts rest
-      → (turns : ℕ) → length ts ≤ most → length ts ≤ turns → Ends rest → next rest ≡ None
-      → list_at read next turns ts ≡ Some (xs, rest)
-  unfolding list_at
-  list_found (the_last is) zero l k ends none = absurd (omega (arith, shorter (leaves _ _ _ is)))
-  list_found (the_last {x = x} {ts = ts} {rest = rest} is) (suc turns) l k ends none =
-      rw (found x ts rest is l ends, none) refl
-  list_found (and_more is others) zero l k ends none =
-      absurd (omega (arith, shorter (leaves _ _ _ is)))
-  list_found (and_more {x = x} {ts = ts} {mid = mid} is others) (suc turns) l k ends none =
-      let less = shorter (leaves x ts (separator ∷ mid) is) in
-      let others_read = list_found others turns (omega (arith, less)) (omega (arith, less)) ends none
-      in
-      rw (found x ts (separator ∷ mid) is l (goes mid), more mid, others_read) refl
+-- the token of a separator
+abbrev mark : Separator → Token
+mark between.Comma = token.Sign sign.Comma
+mark between.And = token.Keyword keyword.And
+
+mark_behind : (s : Separator) (ts : Tokens) → behind s (mark s ∷ ts) ≡ Some ts
+mark_behind between.Comma ts = refl
+mark_behind between.And ts = refl
+
+module _ {X : Type 0} (Is : X → Tokens → Tokens → Type 0) (s : Separator)
+    (read : Tokens → Reading X) where
+  module _ (less : (x : X) (ts rest : Tokens) → Is x ts rest → IsShorter rest ts)
+      (most : ℕ) (Ends : Tokens → Type 0) (goes : (ts : Tokens) → Ends (mark s ∷ ts))
+      (found : (x : X) (ts rest : Tokens) → Is x ts rest → length ts ≤ most → Ends rest
+      → read ts ≡ Some (x, rest)) where
+    list_found : {xs : List X} {ts rest : Tokens} → AreListed Is (mark s) xs ts rest
+        → (turns : ℕ) → length ts ≤ most → length ts ≤ turns → Ends rest → behind s rest ≡ None
+        → list_at read s turns ts ≡ Some (xs, rest)
+    unfolding list_at
+    list_found (the_last is) zero l k ends none = absurd (omega (arith, less _ _ _ is))
+    list_found (the_last {x = x} {ts = ts} {rest = rest} is) (suc turns) l k ends none =
+        rw (found x ts rest is l ends, none) refl
+    list_found (and_more is others) zero l k ends none = absurd (omega (arith, less _ _ _ is))
+    list_found (and_more {x = x} {ts = ts} {mid = mid} is others) (suc turns) l k ends none =
+        let more = less x ts (mark s ∷ mid) is in
+        let read = list_found others turns (omega (arith, more)) (omega (arith, more)) ends none in
+        rw (found x ts (mark s ∷ mid) is l (goes mid), mark_behind s mid, read) refl
 
 -- ---- items
 
 plain_found : (n : ℕ) {e : Expression} {ts rest : Tokens} → IsExpr e ts rest → length ts ≤ n → ends_name rest ≡ true → next_joint 5 rest ≡ None
     → part_at n clause.OfRows 5 ts ≡ Some (expression e, rest)
 plain_found n {e = e} {ts = ts} {rest = rest} is l ends none =
-    deeper clause.OfRows n 5 (expression e) ts rest l (expr_shorter is)
+    deeper n l (expr_shorter is)
     (λ m k. expr_found is m 5 (omega arith) ends (tighter 5 6 rest (omega arith) none) k) none
+
+-- whether the tokens begin with a star
+abbrev is_star : Tokens → Bool
+is_star (token.Sign sign.Star ∷ ts) = true
+is_star ts = false
 
 -- an item begins with no star, and no expression as a call where no parenthesis follows
 abbrev Begins : Tokens → Tokens → Type 0
-Begins ts rest = (after_star ts ≡ None) × (ends_name rest ≡ true → call_front ts ≡ None)
+Begins ts rest = (is_star ts ≡ false) × (ends_name rest ≡ true → call_front ts ≡ None)
 
 mutual
   expr_begins : {e : Expression} {ts rest : Tokens} → IsExpr e ts rest → Begins ts rest
@@ -106,31 +105,36 @@ item_found n (unnamed {w = w} {ts = ts} {rest = rest} is) l ends =
 item_found n (named {w = w} {name = name} {ts = ts} {rest = rest} is) l ends =
     item_from n w (Some name) ts _ rest (what_found is n l refl refl) refl
 
-agg_no_star : {c : CallTree} {ts rest : Tokens} → IsAgg c ts rest → after_star ts ≡ None
+agg_no_star : {c : CallTree} {ts rest : Tokens} → IsAgg c ts rest → is_star ts ≡ false
 agg_no_star (count_rows h) = refl
 agg_no_star (count_star h) = refl
 agg_no_star (call_over h k e) = refl
 
-item_no_star : {i : ItemTree} {ts rest : Tokens} → IsItem i ts rest → after_star ts ≡ None
+item_no_star : {i : ItemTree} {ts rest : Tokens} → IsItem i ts rest → is_star ts ≡ false
 item_no_star (unnamed (an_expression e)) = (expr_begins e).0
 item_no_star (named (an_expression e)) = (expr_begins e).0
 item_no_star (unnamed (an_agg c)) = agg_no_star c
 item_no_star (named (an_agg c)) = agg_no_star c
 
 no_star : {is : List ItemTree} {ts rest : Tokens}
-    → AreListed IsItem (token.Sign sign.Comma) is ts rest → after_star ts ≡ None
+    → AreListed IsItem (token.Sign sign.Comma) is ts rest → is_star ts ≡ false
 no_star (the_last i) = item_no_star i
 no_star (and_more i is) = item_no_star i
 
 selection_found : {s : Selection} {ts rest : Tokens} → IsSelection s ts rest → (n : ℕ) → length ts ≤ n
-    → EndsItem rest → after_comma rest ≡ None → selection_at n ts ≡ Some (s, rest)
+    → EndsItem rest → behind between.Comma rest ≡ None → selection_at n ts ≡ Some (s, rest)
 selection_found all_columns n l ends none = refl
-selection_found (some_items {is = is} {ts = ts} {rest = rest} items) n l ends none =
-    let read = list_found IsItem _ (item_at n) after_comma (λ ts. refl)
-    (λ x ts rest i. item_behind i) n EndsItem
+selection_found (some_items {ts = ts} {rest = rest} items) n l ends none =
+    listed_at ts (no_star items)
+    ∙ ap (option_map (λ is. (listed is.0, is.1))) (list_found IsItem between.Comma (item_at n)
+    (λ x ts rest i. item_shorter i) n EndsItem
     (λ ts. record { name = refl; joint = refl; alias = refl })
-    (λ x ts rest is l ends. item_found n is l ends) items (length ts) l (omega arith) ends none in
-    rw (no_star items, read) refl
+    (λ x ts rest is l ends. item_found n is l ends) items (length ts) l (omega arith) ends none)
+  where
+    listed_at : (ts : Tokens) → is_star ts ≡ false
+        → selection_at n ts ≡ option_map (λ is. (listed is.0, is.1)) (items_at n ts)
+    listed_at (token.Sign sign.Star ∷ ts) h = absurd cc
+    listed_at _ h = refl
 
 -- ---- tables and joins
 
@@ -157,10 +161,10 @@ pair_found (equal_columns {a = a} {b = b} {ts = ts} {mid = mid} {rest = rest} le
 abbrev EndsName : Tokens → Type 0
 EndsName rest = ends_name rest ≡ true
 
-joined_found : {j : Join} {ts rest : Tokens} → IsJoined j (token.Keyword keyword.Join ∷ ts) rest → ends_name rest ≡ true → after_and rest ≡ None
-    → joined_table_at ts ≡ Some (j, rest)
-joined_found (table_on {t = t} {ps = ps} {ts = ts} {mid = mid} {rest = rest} is pairs) h none =
-    let read = list_found IsPair _ pair_at after_and (λ ts. refl) (λ x ts rest p. pair_leaves p)
+joined_found : {j : Join} {ts rest : Tokens} → IsJoined j (token.Keyword keyword.Join ∷ ts) rest
+    → ends_name rest ≡ true → behind between.And rest ≡ None → joined_table_at ts ≡ Some (j, rest)
+joined_found (table_on {mid = mid} is pairs) h none =
+    let read = list_found IsPair between.And pair_at (λ x ts rest p. pair_shorter p)
     (length mid) EndsName (λ ts. refl) (λ x ts rest is l ends. pair_found is ends) pairs
     (length mid) (omega arith) (omega arith) h none in
     rw (table_found is refl, read) refl
@@ -183,13 +187,14 @@ rank _ = 7
 -- what a clause, or the end of a text, does not go on with
 record Ends (rest : Tokens) : Type 0 where
   name : ends_name rest ≡ true
-  no_and : after_and rest ≡ None
-  no_comma : after_comma rest ≡ None
+  no_and : behind between.And rest ≡ None
+  no_comma : behind between.Comma rest ≡ None
   joint : next_joint 1 rest ≡ None
   no_direction : direction_at rest ≡ (false, rest)
 
-simple : {rest : Tokens} → ends_name rest ≡ true → after_and rest ≡ None → after_comma rest ≡ None
-    → next_joint 1 rest ≡ None → direction_at rest ≡ (false, rest) → Ends rest
+simple : {rest : Tokens} → ends_name rest ≡ true → behind between.And rest ≡ None
+    → behind between.Comma rest ≡ None → next_joint 1 rest ≡ None
+    → direction_at rest ≡ (false, rest) → Ends rest
 simple a b c d e = record { name = a; no_and = b; no_comma = c; joint = d; no_direction = e }
 
 ends : (rest : Tokens) → rank rest ≤ 6 → Ends rest
@@ -208,19 +213,17 @@ ends _ h = absurd (omega arith)
 abbrev IsFound : {A : Type 0} → Reading A → A → Tokens → Tokens → ℕ → Type 0
 IsFound read a ts rest k = (read ≡ Some (a, rest)) × (rank ts ≤ k)
 
+-- no clause stands where the rest begins
+passed : {A : Type 0} {read : Reading A} {a : A} {rest : Tokens} (k : ℕ) → read ≡ Some (a, rest)
+    → rank rest ≤ k → IsFound read a rest rest (suc k)
+passed k e h = (e, omega arith)
+
 limit_found : {l : Option Span} {ts rest : Tokens} → IsLimit l ts rest → rank rest ≤ 0
     → IsFound (limit_at ts) l ts rest 1
-limit_found (no_limit {rest = rest}) h = (none rest h, omega arith)
-  where
-    none : (rest : Tokens) → rank rest ≤ 0 → limit_at rest ≡ Some (None, rest)
-    none (token.Keyword keyword.Limit ∷ ts) h = absurd (omega arith)
-    none _ h = refl
-limit_found (first_rows {n = n} {rest = rest}) h = (none rest h, omega arith)
-  where
-    none : (rest : Tokens) → rank rest ≤ 0
-        → offset_at n rest ≡ Some (Some (record { count = n; skip = 0 }), rest)
-    none (token.Keyword keyword.Offset ∷ ts) h = absurd (omega arith)
-    none _ h = refl
+limit_found (no_limit {rest = token.Keyword keyword.Limit ∷ ts}) h = absurd (omega arith)
+limit_found no_limit h = passed 0 refl h
+limit_found (first_rows {rest = token.Keyword keyword.Offset ∷ ts}) h = absurd (omega arith)
+limit_found first_rows h = (refl, omega arith)
 limit_found rows_behind h = (refl, omega arith)
 
 -- what may stand behind a key without a direction
@@ -235,16 +238,12 @@ order_key_found descending ends = refl
 
 order_found : {os : List OrderKey} {ts rest : Tokens} → IsOrder os ts rest → rank rest ≤ 1
     → IsFound (order_at ts) os ts rest 2
-order_found (no_order {rest = rest}) h = (none rest h, omega arith)
-  where
-    none : (rest : Tokens) → rank rest ≤ 1 → order_at rest ≡ Some ([], rest)
-    none (token.Keyword keyword.Order ∷ ts) h = absurd (omega arith)
-    none _ h = refl
+order_found (no_order {rest = token.Keyword keyword.Order ∷ ts}) h = absurd (omega arith)
+order_found no_order h = passed 1 refl h
 order_found (order_by {ts = ts} {rest = rest} keys) h =
     let e = ends rest (omega arith) in (
-      list_found IsOrderKey _ order_key_at after_comma (λ ts. refl)
-          (λ x ts rest k. order_key_behind k) (length ts) EndsKey (λ ts. refl)
-          (λ x ts rest is l ends. order_key_found is ends) keys
+      list_found IsOrderKey between.Comma order_key_at (λ x ts rest k. order_key_shorter k)
+          (length ts) EndsKey (λ ts. refl) (λ x ts rest is l ends. order_key_found is ends) keys
           (length ts) (omega arith) (omega arith) e.no_direction e.no_comma,
       omega arith,
     )
@@ -254,52 +253,40 @@ cond_read : (n : ℕ) (k : Clause) {c : Condition} {ts rest : Tokens}
     → condition_at n k ts ≡ Some (Some c, rest)
 cond_read n k {c = c} {ts = ts} {rest = rest} is l ends =
     ap (option_and_then (λ p. option_map (λ c. (Some c, p.1)) (condition_of p.0)))
-    (deeper k n 1 (truth c) ts rest l (cond_shorter k is) (λ m i. cond_found k is m 1 (omega arith)
+    (deeper n l (cond_shorter k is) (λ m i. cond_found k is m 1 (omega arith)
     ends.name (tighter 1 2 rest (omega arith) ends.joint) i) ends.joint)
 
 having_found : {c : Option Condition} {ts rest : Tokens} → IsHaving c ts rest → (n : ℕ)
-    → length ts ≤ n → rank rest ≤ 2 → IsFound (having_at n ts) c ts rest 3
-having_found (no_having {rest = rest}) n l h = (none rest h, omega arith)
-  where
-    none : (rest : Tokens) → rank rest ≤ 2 → having_at n rest ≡ Some (None, rest)
-    none (token.Keyword keyword.Having ∷ ts) h = absurd (omega arith)
-    none _ h = refl
+    → length ts ≤ n → rank rest ≤ 2 → IsFound (clause_at n clause.OfGroups ts) c ts rest 3
+having_found (no_having {rest = token.Keyword keyword.Having ∷ ts}) n l h = absurd (omega arith)
+having_found no_having n l h = passed 2 refl h
 having_found (having_by {ts = ts} {rest = rest} is) n l h =
     (cond_read n clause.OfGroups is (omega arith) (ends rest (omega arith)), omega arith)
 
 keys_found : {cs : List ColumnRef} {ts rest : Tokens} → AreKeys cs ts rest → rank rest ≤ 3
     → IsFound (keys_at ts) cs ts rest 4
-keys_found (no_keys {rest = rest}) h = (none rest h, omega arith)
-  where
-    none : (rest : Tokens) → rank rest ≤ 3 → keys_at rest ≡ Some ([], rest)
-    none (token.Keyword keyword.Group ∷ ts) h = absurd (omega arith)
-    none _ h = refl
+keys_found (no_keys {rest = token.Keyword keyword.Group ∷ ts}) h = absurd (omega arith)
+keys_found no_keys h = passed 3 refl h
 keys_found (keys_by {ts = ts} {rest = rest} columns) h =
     let e = ends rest (omega arith) in (
-      list_found IsColumn _ column_ref_at after_comma (λ ts. refl) (λ x ts rest c. column_behind c)
+      list_found IsColumn between.Comma column_ref_at (λ x ts rest c. column_shorter c)
           (length ts) EndsName (λ ts. refl) (λ x ts rest is l ends. column_found is ends) columns
           (length ts) (omega arith) (omega arith) e.name e.no_comma,
       omega arith,
     )
 
 filter_found : {c : Option Condition} {ts rest : Tokens} → IsFilter c ts rest → (n : ℕ)
-    → length ts ≤ n → rank rest ≤ 4 → IsFound (filter_at n ts) c ts rest 5
-filter_found (no_filter {rest = rest}) n l h = (none rest h, omega arith)
-  where
-    none : (rest : Tokens) → rank rest ≤ 4 → filter_at n rest ≡ Some (None, rest)
-    none (token.Keyword keyword.Where ∷ ts) h = absurd (omega arith)
-    none _ h = refl
+    → length ts ≤ n → rank rest ≤ 4 → IsFound (clause_at n clause.OfRows ts) c ts rest 5
+filter_found (no_filter {rest = token.Keyword keyword.Where ∷ ts}) n l h = absurd (omega arith)
+filter_found no_filter n l h = passed 4 refl h
 filter_found (filter_by {ts = ts} {rest = rest} is) n l h =
     (cond_read n clause.OfRows is (omega arith) (ends rest (omega arith)), omega arith)
 
 join_found : {j : Option Join} {ts rest : Tokens} → IsJoin j ts rest → rank rest ≤ 5
     → IsFound (join_at ts) j ts rest 6
-join_found (no_join {rest = rest}) h = (none rest h, omega arith)
-  where
-    none : (rest : Tokens) → rank rest ≤ 5 → join_at rest ≡ Some (None, rest)
-    none (token.Keyword keyword.Join ∷ ts) h = absurd (omega arith)
-    none (token.Keyword keyword.Inner ∷ ts) h = absurd (omega arith)
-    none _ h = refl
+join_found (no_join {rest = token.Keyword keyword.Join ∷ ts}) h = absurd (omega arith)
+join_found (no_join {rest = token.Keyword keyword.Inner ∷ ts}) h = absurd (omega arith)
+join_found no_join h = passed 5 refl h
 join_found (joined_with {rest = rest} (table_on is pairs)) h =
     let e = ends rest (omega arith) in
     (ap some_join (joined_found (table_on is pairs) e.name e.no_and), omega arith)
@@ -311,8 +298,8 @@ join_found (inner_join {rest = rest} (table_on is pairs)) h =
 module _ where
   join_within : {j : Option Join} {ts rest : Tokens} → IsJoin j ts rest → length rest ≤ length ts
   join_within no_join = omega arith
-  join_within (joined_with j) = omega (arith, shorter (joined_behind j))
-  join_within (inner_join j) = omega (arith, shorter (joined_behind j))
+  join_within (joined_with j) = omega (arith, joined_shorter j)
+  join_within (inner_join j) = omega (arith, joined_shorter j)
 
   filter_within : {f : Option Condition} {ts rest : Tokens} → IsFilter f ts rest → length rest ≤ length ts
   filter_within no_filter = omega arith
@@ -320,7 +307,8 @@ module _ where
 
   keys_within : {cs : List ColumnRef} {ts rest : Tokens} → AreKeys cs ts rest → length rest ≤ length ts
   keys_within no_keys = omega arith
-  keys_within (keys_by cs) = omega (arith, shorter (list_leaves IsColumn _ (λ x ts rest c. column_behind c) cs))
+  keys_within (keys_by cs) =
+      omega (arith, list_shorter IsColumn _ (λ x ts rest c. column_shorter c) cs)
 
 query_found : {q : QueryTree} {ts rest : Tokens} → IsQuery q ts rest → (n : ℕ) → length ts ≤ n
     → rank rest ≤ 0 → is_end rest ≡ true → query_at n ts ≡ Some q
@@ -328,8 +316,8 @@ query_found (select_query items (source_of is join filter) (shaping_of keys havi
     n l h end =
     let ls = limit_found limit h in
     let os = order_found order ls.1 in
-    let a = shorter (selection_behind items) in
-    let b = shorter (table_behind is) in
+    let a = selection_shorter items in
+    let b = table_shorter is in
     let c = join_within join in
     let d = filter_within filter in
     let hs = having_found having n (omega (arith, keys_within keys)) os.1 in
@@ -349,36 +337,34 @@ text_found (with_semicolon is) n l = query_found is n l (omega arith) refl
 
 -- ---- lists
 
-module _ {X : Type 0} (Is : X → Tokens → Tokens → Type 0) (separator : Token) (read : Tokens → Reading X) (next : Tokens → Option Tokens)
-    (each : (ts : Tokens) → IfSome (read ts) (λ r. Is r.0 ts r.1)) (is_next : (ts rest : Tokens) → next ts ≡ Some rest → ts ≡ separator ∷ rest) where
-  behind_spelled : (more : Tokens → Reading (List X)) → ((ts : Tokens) → IfSome (more ts) (λ r. AreListed Is separator r.0 ts r.1))
-      → (x : X) (ts mid : Tokens) → Is x ts mid → (o : Option Tokens) → next mid ≡ o → IfSome (list_behind more x mid o) (λ r. AreListed Is separator r.0 ts r.1)
+behind_is : (s : Separator) (ts rest : Tokens) → behind s ts ≡ Some rest → ts ≡ mark s ∷ rest
+behind_is between.Comma (token.Sign sign.Comma ∷ ts) rest h =
+    ap (λ l. mark between.Comma ∷ l) (same_Some ts rest h)
+behind_is between.And (token.Keyword keyword.And ∷ ts) rest h =
+    ap (λ l. mark between.And ∷ l) (same_Some ts rest h)
+behind_is _ _ rest h = absurd cc
+
+module _ {X : Type 0} (Is : X → Tokens → Tokens → Type 0) (s : Separator)
+    (read : Tokens → Reading X) (each : (ts : Tokens) → IfSome (read ts) (λ r. Is r.0 ts r.1)) where
+  abbrev Listed : Tokens → List X × Tokens → Type 0
+  Listed ts r = AreListed Is (mark s) r.0 ts r.1
+
+  behind_spelled : (more : Tokens → Reading (List X))
+      → ((ts : Tokens) → IfSome (more ts) (Listed ts)) → (x : X) (ts mid : Tokens) → Is x ts mid
+      → (o : Option Tokens) → behind s mid ≡ o → IfSome (list_behind more x mid o) (Listed ts)
   behind_spelled more h x ts mid is None e = the_last is
   behind_spelled more h x ts mid is (Some rest) e =
-      map_some (λ r. AreListed Is separator r.0 rest r.1) (λ r. AreListed Is separator r.0 ts r.1) (λ xs. (x ∷ xs.0, xs.1)) (more rest) (h rest)
-      (λ r are. and_more (subst (λ (m : Tokens). Is x ts m) (is_next mid rest e) is) are)
+      map_some (Listed rest) (Listed ts) (λ xs. (x ∷ xs.0, xs.1)) (more rest) (h rest)
+      (λ r are. and_more (subst (λ (m : Tokens). Is x ts m) (behind_is s mid rest e) is) are)
 
-  pub list_spelled : (turns : ℕ) (ts : Tokens) → IfSome (list_at read next turns ts) (λ r. AreListed Is separator r.0 ts r.1)
+  list_spelled : (turns : ℕ) (ts : Tokens) → IfSome (list_at read s turns ts) (Listed ts)
   unfolding list_at
   list_spelled zero ts = tt
   list_spelled (suc turns) ts =
-      bind (λ x. Is x.0 ts x.1) (λ r. AreListed Is separator r.0 ts r.1) (λ x. list_behind (list_at read next turns) x.0 x.1 (next x.1)) (read ts)
-      (each ts) (λ x is. behind_spelled (list_at read next turns) (list_spelled turns) x.0 ts x.1 is (next x.1) refl)
-
-some_same : (a b : Tokens) → Some a ≡ Some b → a ≡ b
-some_same a b h = cc
-
-comma_is : (ts rest : Tokens) → after_comma ts ≡ Some rest → ts ≡ token.Sign sign.Comma ∷ rest
-comma_is (token.Sign sign.Comma ∷ ts) rest h = ap (λ (l : Tokens). token.Sign sign.Comma ∷ l) (some_same ts rest h)
-comma_is _ rest h = absurd cc
-
-and_is : (ts rest : Tokens) → after_and ts ≡ Some rest → ts ≡ token.Keyword keyword.And ∷ rest
-and_is (token.Keyword keyword.And ∷ ts) rest h = ap (λ (l : Tokens). token.Keyword keyword.And ∷ l) (some_same ts rest h)
-and_is _ rest h = absurd cc
-
-star_is : (ts rest : Tokens) → after_star ts ≡ Some rest → ts ≡ token.Sign sign.Star ∷ rest
-star_is (token.Sign sign.Star ∷ ts) rest h = ap (λ (l : Tokens). token.Sign sign.Star ∷ l) (some_same ts rest h)
-star_is _ rest h = absurd cc
+      bind (λ x. Is x.0 ts x.1) (Listed ts)
+      (λ x. list_behind (list_at read s turns) x.0 x.1 (behind s x.1)) (read ts) (each ts)
+      (λ x is. behind_spelled (list_at read s turns) (list_spelled turns) x.0 ts x.1 is
+      (behind s x.1) refl)
 
 -- ---- items
 
@@ -418,29 +404,18 @@ item_spelled : (n : ℕ) (ts : Tokens) → IfSome (item_at n ts) (λ r. IsItem r
 item_spelled n ts =
     bind _ _ _ (what_at n ts) (what_spelled n ts) (λ w is. alias_spelled w.0 ts w.1 is)
 
-listed_spelled : (n : ℕ) (ts : Tokens)
-    → IfSome (selection_by n ts None) (λ r. IsSelection r.0 ts r.1)
-listed_spelled n ts =
-    map_some _ _ _ (list_at (item_at n) after_comma (length ts) ts) (list_spelled IsItem
-    (token.Sign sign.Comma) (item_at n) after_comma (item_spelled n) comma_is (length ts) ts)
-    (λ r are. some_items are)
-
 selection_spelled : (n : ℕ) (ts : Tokens) → IfSome (selection_at n ts) (λ r. IsSelection r.0 ts r.1)
-selection_spelled n ts = go (after_star ts) refl
-  where
-    go : (o : Option Tokens) → after_star ts ≡ o → IfSome (selection_by n ts o) (λ r. IsSelection r.0 ts r.1)
-    go None e = listed_spelled n ts
-    go (Some rest) e = subst (λ (l : Tokens). IsSelection star l rest) (sym (star_is ts rest e)) all_columns
+selection_spelled n (token.Sign sign.Star ∷ ts) = all_columns
+selection_spelled n ts =
+    map_some _ _ _ (items_at n ts) (list_spelled IsItem between.Comma (item_at n) (item_spelled n)
+    (length ts) ts) (λ r are. some_items are)
 
 -- ---- tables and joins
-
-same_name : (a b : List ℕ) → bytes_eq a b ≡ true → a ≡ b
-same_name a b h = (bytes_eq-Decides a b).0 h
 
 numbers_spelled : (name : List ℕ) (ts : Tokens) → name ≡ codes "numbers"
     → IfSome (count_behind ts) (λ r. IsTable r.0 (token.Name name ∷ token.Sign sign.Open ∷ ts) r.1)
 numbers_spelled name (token.Number n ∷ token.Sign sign.Close ∷ ts) e =
-    subst (λ (w : List ℕ). IsTable (table.Numbers n) (token.Name w ∷ token.Sign sign.Open ∷ token.Number n ∷ token.Sign sign.Close ∷ ts) ts) (sym e) numbers_table
+    rw e numbers_table
 numbers_spelled name _ e = tt
 
 named_spelled : (name : List ℕ) (ts : Tokens) → IfSome (table_named name ts) (λ r. IsTable r.0 (token.Name name ∷ ts) r.1)
@@ -448,7 +423,7 @@ named_spelled name (token.Sign sign.Open ∷ ts) = go (bytes_eq name (codes "num
   where
     go : (b : Bool) → bytes_eq name (codes "numbers") ≡ b
         → IfSome (cond b (count_behind ts) None) (λ r. IsTable r.0 (token.Name name ∷ token.Sign sign.Open ∷ ts) r.1)
-    go true e = numbers_spelled name ts (same_name name (codes "numbers") e)
+    go true e = numbers_spelled name ts ((bytes_eq-Decides name (codes "numbers")).0 e)
     go false e = tt
 named_spelled name _ = named_table
 
@@ -473,8 +448,8 @@ pair_spelled ts =
 on_spelled : (t : TableRef) (ts mid : Tokens) → IsTable t ts mid
     → IfSome (on_at t mid) (λ r. IsJoined r.0 (token.Keyword keyword.Join ∷ ts) r.1)
 on_spelled t ts (token.Keyword keyword.On ∷ mid) is =
-    map_some _ _ _ (pairs_at mid) (list_spelled IsPair (token.Keyword keyword.And) pair_at after_and
-    pair_spelled and_is (length mid) mid) (λ r are. table_on is are)
+    map_some _ _ _ (pairs_at mid) (list_spelled IsPair between.And pair_at pair_spelled
+    (length mid) mid) (λ r are. table_on is are)
 on_spelled t ts _ is = tt
 
 joined_spelled : (ts : Tokens)
@@ -504,13 +479,15 @@ cond_spelled n k ts Is by =
     (λ p found. map_some _ _ _ (condition_of p.0) (truth_spelled k p.0 ts p.1 found.is)
     (λ c is. by c p.1 is))
 
-filter_spelled : (n : ℕ) (ts : Tokens) → IfSome (filter_at n ts) (λ r. IsFilter r.0 ts r.1)
+filter_spelled : (n : ℕ) (ts : Tokens)
+    → IfSome (clause_at n clause.OfRows ts) (λ r. IsFilter r.0 ts r.1)
 filter_spelled n (token.Keyword keyword.Where ∷ ts) =
     cond_spelled n clause.OfRows ts
     (λ f rest. IsFilter f (token.Keyword keyword.Where ∷ ts) rest) (λ c rest is. filter_by is)
 filter_spelled n _ = no_filter
 
-having_spelled : (n : ℕ) (ts : Tokens) → IfSome (having_at n ts) (λ r. IsHaving r.0 ts r.1)
+having_spelled : (n : ℕ) (ts : Tokens)
+    → IfSome (clause_at n clause.OfGroups ts) (λ r. IsHaving r.0 ts r.1)
 having_spelled n (token.Keyword keyword.Having ∷ ts) =
     cond_spelled n clause.OfGroups ts
     (λ f rest. IsHaving f (token.Keyword keyword.Having ∷ ts) rest) (λ c rest is. having_by is)
@@ -520,8 +497,8 @@ having_spelled n _ = no_having
 
 keys_spelled : (ts : Tokens) → IfSome (keys_at ts) (λ r. AreKeys r.0 ts r.1)
 keys_spelled (token.Keyword keyword.Group ∷ token.Keyword keyword.By ∷ ts) =
-    IfSome_then (columns_at ts) (list_spelled IsColumn (token.Sign sign.Comma) column_ref_at
-    after_comma column_spelled comma_is (length ts) ts) (λ r are. keys_by are)
+    IfSome_then (columns_at ts) (list_spelled IsColumn between.Comma column_ref_at column_spelled
+    (length ts) ts) (λ r are. keys_by are)
 keys_spelled (token.Keyword keyword.Group ∷ _) = tt
 keys_spelled _ = no_keys
 
@@ -536,8 +513,8 @@ order_key_spelled _ = tt
 
 order_spelled : (ts : Tokens) → IfSome (order_at ts) (λ r. IsOrder r.0 ts r.1)
 order_spelled (token.Keyword keyword.Order ∷ token.Keyword keyword.By ∷ ts) =
-    IfSome_then (order_keys_at ts) (list_spelled IsOrderKey (token.Sign sign.Comma) order_key_at
-    after_comma order_key_spelled comma_is (length ts) ts) (λ r are. order_by are)
+    IfSome_then (order_keys_at ts) (list_spelled IsOrderKey between.Comma order_key_at
+    order_key_spelled (length ts) ts) (λ r are. order_by are)
 order_spelled (token.Keyword keyword.Order ∷ _) = tt
 order_spelled _ = no_order
 
@@ -576,9 +553,9 @@ text_spelled n (token.Keyword keyword.Select ∷ ts) =
     bind _ _ _ (selection_at n ts) (selection_spelled n ts) (λ s items.
     bind _ _ _ (from_at s.1) (from_spelled s.1) (λ t table.
     bind _ _ _ (join_at t.1) (join_spelled t.1) (λ j join.
-    bind _ _ _ (filter_at n j.1) (filter_spelled n j.1) (λ f filter.
+    bind _ _ _ (clause_at n clause.OfRows j.1) (filter_spelled n j.1) (λ f filter.
     bind _ _ _ (keys_at f.1) (keys_spelled f.1) (λ k keys.
-    bind _ _ _ (having_at n k.1) (having_spelled n k.1) (λ h having.
+    bind _ _ _ (clause_at n clause.OfGroups k.1) (having_spelled n k.1) (λ h having.
     bind _ _ _ (order_at h.1) (order_spelled h.1) (λ o order.
     bind _ _ _ (limit_at o.1) (limit_spelled o.1) (λ l limit.
     ended_spelled _ (token.Keyword keyword.Select ∷ ts) l.1

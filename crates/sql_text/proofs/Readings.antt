@@ -1,15 +1,7 @@
 -- What the reading of a text's tokens says of the text.
-use Rattle.std.proofs.Common.{◌≡◌, ℕ, ◌≤◌, false, cond, List, length, Option, Some, None, IfSome, inr, sym, ap, subst, ◌∙◌, arith}
-use Rattle.std.specs.Prelude.{nat_lt}
-use Rattle.std.proofs.lemmas.Option.{same_Some, none-some}
-use Rattle.query_model.specs.declared.query.Query.{Query}
-use Rattle.sql_grammar.specs.Names.{tokens_of, QueryTree, query_tree, Tokens, IsText, Spells}
+use Rattle.sql_text.proofs.Imports.{◌≡◌, ℕ, ◌≤◌, false, cond, List, length, Option, Some, None, IfSome, inr, sym, ap, subst, ◌∙◌, arith, nat_lt, same_Some, none-some, Query, tokens_of, QueryTree, query_tree, Tokens, IsText, Spells, Stop, Fails, query_at, token_refusal, refusal_of_tokens, early_refusal, IsRefused, IsReadFrom, refusal_of}
 use Rattle.sql_text.specs.declared.limits.ParseRefusal.TheVariants as refusal
-use Rattle.sql_text.specs.declared.stop.Stop.{Stop}
 use Rattle.sql_text.specs.declared.stop.Stop.TheVariants as stop
-use Rattle.sql_text.specs.Answers.{Fails}
-use Rattle.sql_text.specs.Queries.{query_at}
-use Rattle.sql_text.specs.Refusals.{token_refusal, refusal_of_tokens, early_refusal, IsRefused, IsReadFrom, refusal_of}
 use Rattle.sql_text.proofs.QueryTexts.{text_found, text_spelled}
 
 -- the tokens of a spelled text are spelled

@@ -1,28 +1,16 @@
 -- One turn of the reading of parts, and when it ends.
-use Rattle.std.proofs.Common.{◌≡◌, ℕ, zero, suc, ◌-◌, ◌<◌, ◌≤◌, Bool, true, false, nat_le, List, [], ◌∷◌, length, Option, Some, None, option_and_then, option_map, refl, ap, ◌∙◌, arith}
+use Rattle.sql_text.proofs.Imports.{◌≡◌, ℕ, zero, suc, ◌-◌, ◌<◌, ◌≤◌, Bool, true, false, List, [], ◌∷◌, length, Option, Some, None, option_and_then, option_map, refl, ap, ◌∙◌, arith, Token, Joint, Stop, Fails, Clause, Parsed, Reads, joint_of, level, if_level, next_joint, combined, first_part, turn_of, joined_at, joined, part_at}
 use Rattle.query_model.specs.declared.query.ArithOp.TheVariants as op
-use Rattle.sql_grammar.specs.declared.Token.{Token}
 use Rattle.sql_grammar.specs.declared.Token.TheVariants as token
 use Rattle.sql_grammar.specs.declared.Sign.TheVariants as sign
-use Rattle.sql_text.specs.declared.part.Joint.{Joint}
 use Rattle.sql_text.specs.declared.part.Joint.TheVariants as joint
-use Rattle.sql_text.specs.declared.stop.Stop.{Stop}
 use Rattle.sql_text.specs.declared.stop.Stop.TheVariants as stop
-use Rattle.sql_text.specs.Answers.{Fails}
-use Rattle.sql_text.specs.declared.part.Clause.{Clause}
-use Rattle.sql_text.specs.Parts.{Parsed, Reads, joint_of, level, if_level, next_joint, combined, first_part, turn_of, joined_at, joined, part_at}
 
 -- what may stand behind a name: no dot, and no parenthesis
 abbrev pub ends_name : List Token → Bool
 ends_name (token.Sign sign.Dot ∷ ts) = false
 ends_name (token.Sign sign.Open ∷ ts) = false
 ends_name _ = true
-
-pub le_false : (a b : ℕ) → b < a → nat_le a b ≡ false
-le_false a b h = grind arith
-
-pub le_true : (a b : ℕ) → a ≤ b → nat_le a b ≡ true
-le_true a b h = grind arith
 
 pub level_below : (j : Joint) → level j < 7
 level_below joint.Or = omega arith
@@ -34,10 +22,10 @@ level_below (joint.Arith op.Mul) = omega arith
 
 -- a joint at the front, where it binds tightly enough
 pub if_level-found : (least : ℕ) (ts : List Token) (j : Joint) → least ≤ level j → if_level least ts (Some j) ≡ Some (j, ts)
-if_level-found least ts j h = rw (le_true least (level j) h) refl
+if_level-found least ts j h = grind arith
 
 pub if_level-none : (least : ℕ) (ts : List Token) (j : Joint) → level j < least → if_level least ts (Some j) ≡ None
-if_level-none least ts j h = rw (le_false least (level j) h) refl
+if_level-none least ts j h = grind arith
 
 loose_joint : (ts : List Token) (o : Option Joint) → if_level 7 ts o ≡ None
 loose_joint ts None = refl
@@ -63,10 +51,10 @@ pub record Goes (k : Clause) (n least : ℕ) (v : Parsed) (ts rest : List Token)
   pub enough : length rest < turns
   pub goes : part_at (suc n) k least ts ≡ joined k (part_at n) least turns v rest
 
-pub from_first : (k : Clause) (n least : ℕ) (v : Parsed) (ts rest : List Token) → first_part k (part_at n) ts ≡ Some (v, rest)
-    → Goes k n least v ts rest
+pub from_first : {k : Clause} {n least : ℕ} {v : Parsed} {ts rest : List Token}
+    → first_part k (part_at n) ts ≡ Some (v, rest) → Goes k n least v ts rest
 unfolding part_at
-from_first k n least v ts rest h = record {
+from_first {k = k} {n = n} {least = least} {rest = rest} h = record {
   turns = suc (length rest);
   enough = omega arith;
   goes = ap (option_and_then (λ p. joined k (part_at n) least (suc (length p.1)) p.0 p.1)) h;
@@ -111,27 +99,34 @@ pub some_turns : (turns : ℕ) → 0 < turns → (k : ℕ) × (turns ≡ suc k)
 some_turns zero h = absurd (omega arith)
 some_turns (suc k) h = (k, refl)
 
-pub onward : (k : Clause) (n least : ℕ) (j : Joint) (v w u : Parsed) (ts at mid rest : List Token) → Goes k n least v ts at
-    → next_joint least at ≡ Some (j, mid) → part_at n k (suc (level j)) mid ≡ Some (w, rest) → combined k j v w ≡ Some u
-    → length rest < length mid → length mid < length at → Goes k n least u ts rest
-onward k n least j v w u ts at mid rest g next read join shorter later =
-    let t = some_turns g.turns (omega (arith, g.enough)) in
+-- the same at any depth that is enough, where no joint follows
+pub deeper : {k : Clause} (n : ℕ) {least : ℕ} {v : Parsed} {ts rest : List Token}
+    → length ts ≤ n → length rest < length ts
+    → ((m : ℕ) → length ts ≤ suc m → Goes k m least v ts rest) → next_joint least rest ≡ None
+    → part_at n k least ts ≡ Some (v, rest)
+deeper zero h shorter goes none = absurd (omega arith)
+deeper {k = k} (suc m) {least = least} {v = v} {rest = rest} h shorter goes none =
+    let g = goes m h in
+    g.goes ∙ end_of_turns k (part_at m) least g.turns v rest (omega (arith, g.enough)) none
+
+-- The part at the left, and what the joint behind it joins to it.
+pub onward : {k : Clause} {n least : ℕ} (j : Joint) {t : Token} {v w u : Parsed}
+    {ts mid rest : List Token} → Goes k n least v ts (t ∷ mid) → joint_of t ≡ Some j
+    → least ≤ level j → length (t ∷ mid) < length ts → length ts ≤ suc n → length rest < length mid
+    → ((m : ℕ) → length mid ≤ suc m → Goes k m (suc (level j)) w mid rest)
+    → next_joint (suc (level j)) rest ≡ None → combined k j v w ≡ Some u → Goes k n least u ts rest
+onward {k = k} {n = n} {least = least} j {t = t} {v = v} {w = w} {u = u} {mid = mid} {rest = rest}
+    g is low within enough shorter right none join =
+    let s = some_turns g.turns (omega (arith, g.enough)) in
+    let next = ap (if_level least mid) is ∙ if_level-found least mid j low in
+    let read : part_at n k (suc (level j)) mid ≡ Some (w, rest) =
+    deeper n (omega arith) shorter right none in
     record {
-      turns = t.0;
-      enough = omega (arith, g.enough, t.1);
-      goes = g.goes ∙ turn k (part_at n) least g.turns t.0 j v u at mid rest t.1 next
+      turns = s.0;
+      enough = omega (arith, g.enough, s.1);
+      goes = g.goes ∙ turn k (part_at n) least g.turns s.0 j v u (t ∷ mid) mid rest s.1 next
           (turned_by k (part_at n) j v w u mid rest read join);
     }
-
-pub whole : (k : Clause) (n least : ℕ) (v : Parsed) (ts rest : List Token) → Goes k n least v ts rest → next_joint least rest ≡ None
-    → part_at (suc n) k least ts ≡ Some (v, rest)
-whole k n least v ts rest g none = g.goes ∙ end_of_turns k (part_at n) least g.turns v rest (omega (arith, g.enough)) none
-
--- the same at any depth that is enough
-pub deeper : (k : Clause) (n least : ℕ) (v : Parsed) (ts rest : List Token) → length ts ≤ n → length rest < length ts
-    → ((m : ℕ) → length ts ≤ suc m → Goes k m least v ts rest) → next_joint least rest ≡ None → part_at n k least ts ≡ Some (v, rest)
-deeper k zero least v ts rest h shorter goes none = absurd (omega arith)
-deeper k (suc m) least v ts rest h shorter goes none = whole k m least v ts rest (goes m h) none
 
 pub no_depth : (k : Clause) (least : ℕ) (ts : List Token) → part_at 0 k least ts ≡ None
 unfolding part_at
@@ -142,10 +137,7 @@ pub part_goes : (k : Clause) (depth least : ℕ) (ts : List Token) → 0 < depth
 unfolding part_at
 part_goes k zero least ts h = absurd (omega arith)
 part_goes k (suc depth) least ts h =
-    ap (λ d. option_and_then (λ p. joined k (part_at d) least (suc (length p.1)) p.0 p.1) (first_part k (part_at d) ts)) (depth_is depth)
-  where
-    depth_is : (depth : ℕ) → depth ≡ suc depth - 1
-    depth_is depth = omega arith
+    let e : suc depth - 1 ≡ depth = omega arith in rw e refl
 
 -- a fault inside is a fault of the whole
 pub fault_goes : {Y W : Type 0} (e : Stop) (read : Option Y) (outer : Option W) → Fails e read → (read ≡ None → outer ≡ None) → Fails e outer

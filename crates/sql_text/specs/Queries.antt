@@ -14,6 +14,8 @@ use Rattle.sql_grammar.specs.declared.Token.{Token}
 use Rattle.sql_grammar.specs.declared.Token.TheVariants as token
 use Rattle.sql_grammar.specs.declared.Keyword.TheVariants as keyword
 use Rattle.sql_grammar.specs.declared.Sign.TheVariants as sign
+use Rattle.sql_text.specs.declared.lists.Separator.{Separator}
+use Rattle.sql_text.specs.declared.lists.Separator.TheVariants as between
 use Rattle.sql_text.specs.declared.part.Clause.{Clause}
 use Rattle.sql_text.specs.declared.part.Clause.TheVariants as clause
 use Rattle.sql_text.specs.Parts.{Reading, plain_of, condition_of, dotted, called, call_at, part_at}
@@ -24,18 +26,18 @@ abbrev pub list_behind : {X : Type 0} → (List Token → Reading (List X)) → 
 list_behind more x ts None = Some (x ∷ [], ts)
 list_behind more x ts (Some rest) = option_map (λ xs. (x ∷ xs.0, xs.1)) (more rest)
 
+-- behind the separator
+abbrev pub behind : Separator → List Token → Option (List Token)
+behind between.Comma (token.Sign sign.Comma ∷ ts) = Some ts
+behind between.And (token.Keyword keyword.And ∷ ts) = Some ts
+behind _ _ = None
+
 -- What is read again and again as long as a separator stands behind it. The last number bounds the turns.
-unfoldable pub list_at : {X : Type 0} → (List Token → Reading X) → (List Token → Option (List Token)) → ℕ → List Token → Reading (List X)
-list_at read next zero ts = None
-list_at read next (suc turns) ts = option_and_then (λ x. list_behind (list_at read next turns) x.0 x.1 (next x.1)) (read ts)
-
-abbrev pub after_comma : List Token → Option (List Token)
-after_comma (token.Sign sign.Comma ∷ ts) = Some ts
-after_comma _ = None
-
-abbrev pub after_and : List Token → Option (List Token)
-after_and (token.Keyword keyword.And ∷ ts) = Some ts
-after_and _ = None
+unfoldable pub list_at : {X : Type 0} → (List Token → Reading X) → Separator → ℕ → List Token
+    → Reading (List X)
+list_at read s zero ts = None
+list_at read s (suc turns) ts =
+    option_and_then (λ x. list_behind (list_at read s turns) x.0 x.1 (behind s x.1)) (read ts)
 
 -- ---- items
 
@@ -72,18 +74,11 @@ abbrev pub item_at : ℕ → List Token → Reading ItemTree
 item_at depth ts = option_and_then (λ w. with_alias w.0 (alias_at w.1)) (what_at depth ts)
 
 abbrev pub items_at : ℕ → List Token → Reading (List ItemTree)
-items_at depth ts = list_at (item_at depth) after_comma (length ts) ts
-
-abbrev pub after_star : List Token → Option (List Token)
-after_star (token.Sign sign.Star ∷ ts) = Some ts
-after_star _ = None
-
-abbrev pub selection_by : ℕ → List Token → Option (List Token) → Reading Selection
-selection_by depth ts (Some rest) = Some (star, rest)
-selection_by depth ts None = option_map (λ is. (listed is.0, is.1)) (items_at depth ts)
+items_at depth ts = list_at (item_at depth) between.Comma (length ts) ts
 
 abbrev pub selection_at : ℕ → List Token → Reading Selection
-selection_at depth ts = selection_by depth ts (after_star ts)
+selection_at depth (token.Sign sign.Star ∷ ts) = Some (star, ts)
+selection_at depth ts = option_map (λ is. (listed is.0, is.1)) (items_at depth ts)
 
 -- ---- tables
 
@@ -122,7 +117,7 @@ abbrev pub pair_at : List Token → Reading NamePair
 pair_at ts = option_and_then (λ l. pair_behind l.0 (after_equal l.1)) (column_ref_at ts)
 
 abbrev pub pairs_at : List Token → Reading (List NamePair)
-pairs_at ts = list_at pair_at after_and (length ts) ts
+pairs_at ts = list_at pair_at between.And (length ts) ts
 
 abbrev pub join_of : TableRef → Reading (List NamePair) → Reading Join
 join_of t read = option_map (λ ps. (record { table = t; pairs = ps.0 }, ps.1)) read
@@ -151,18 +146,18 @@ abbrev pub condition_at : ℕ → Clause → List Token → Reading (Option Cond
 condition_at depth k ts =
     option_and_then (λ p. option_map (λ c. (Some c, p.1)) (condition_of p.0)) (part_at depth k 1 ts)
 
-abbrev pub filter_at : ℕ → List Token → Reading (Option Condition)
-filter_at depth (token.Keyword keyword.Where ∷ ts) = condition_at depth clause.OfRows ts
-filter_at depth ts = Some (None, ts)
-
-abbrev pub having_at : ℕ → List Token → Reading (Option Condition)
-having_at depth (token.Keyword keyword.Having ∷ ts) = condition_at depth clause.OfGroups ts
-having_at depth ts = Some (None, ts)
+-- WHERE or HAVING, and the condition behind it
+abbrev pub clause_at : ℕ → Clause → List Token → Reading (Option Condition)
+clause_at depth clause.OfRows (token.Keyword keyword.Where ∷ ts) =
+    condition_at depth clause.OfRows ts
+clause_at depth clause.OfGroups (token.Keyword keyword.Having ∷ ts) =
+    condition_at depth clause.OfGroups ts
+clause_at depth k ts = Some (None, ts)
 
 -- ---- groups, order and limit
 
 abbrev pub columns_at : List Token → Reading (List ColumnRef)
-columns_at ts = list_at column_ref_at after_comma (length ts) ts
+columns_at ts = list_at column_ref_at between.Comma (length ts) ts
 
 abbrev pub keys_at : List Token → Reading (List ColumnRef)
 keys_at (token.Keyword keyword.Group ∷ token.Keyword keyword.By ∷ ts) = columns_at ts
@@ -181,7 +176,7 @@ abbrev pub order_key_at : List Token → Reading OrderKey
 order_key_at ts = option_map (λ n. order_key n.0 (direction_at n.1)) (name_at ts)
 
 abbrev pub order_keys_at : List Token → Reading (List OrderKey)
-order_keys_at ts = list_at order_key_at after_comma (length ts) ts
+order_keys_at ts = list_at order_key_at between.Comma (length ts) ts
 
 abbrev pub order_at : List Token → Reading (List OrderKey)
 order_at (token.Keyword keyword.Order ∷ token.Keyword keyword.By ∷ ts) = order_keys_at ts
@@ -216,7 +211,7 @@ reads read more = option_and_then (λ r. more r.0 r.1) read
 abbrev pub shaped : ℕ → Selection → TableRef → Option Join → Option Condition → List Token
     → Option QueryTree
 shaped depth s t j f ts =
-    reads (keys_at ts) (λ k ts. reads (having_at depth ts) (λ h ts.
+    reads (keys_at ts) (λ k ts. reads (clause_at depth clause.OfGroups ts) (λ h ts.
     reads (order_at ts) (λ o ts. reads (limit_at ts) (λ l ts. if is_end ts then Some (record {
       items = s;
       from = t;
@@ -235,5 +230,6 @@ after_select _ = None
 -- the query that the tokens are, all of them
 abbrev pub query_at : ℕ → List Token → Option QueryTree
 query_at depth ts = option_and_then (λ ts. reads (selection_at depth ts) (λ s ts.
-    reads (from_at ts) (λ t ts. reads (join_at ts) (λ j ts. reads (filter_at depth ts) (λ f ts.
-    shaped depth s t j f ts))))) (after_select ts)
+    reads (from_at ts) (λ t ts. reads (join_at ts) (λ j ts.
+    reads (clause_at depth clause.OfRows ts) (λ f ts. shaped depth s t j f ts)))))
+    (after_select ts)

@@ -4,8 +4,6 @@ use Rattle.std.specs.List.{list_any}
 use Rattle.query_model.specs.declared.query.Query.{Query}
 use Rattle.sql_grammar.specs.Names.{tokens_of, Spells}
 use Rattle.sql_grammar.specs.declared.Token.{Token}
-use Rattle.sql_grammar.specs.declared.Keyword.{Keyword}
-use Rattle.sql_grammar.specs.declared.Sign.{Sign}
 use Rattle.sql_grammar.specs.declared.Token.TheVariants as token
 use Rattle.sql_grammar.specs.declared.Keyword.TheVariants as keyword
 use Rattle.sql_grammar.specs.declared.Sign.TheVariants as sign
@@ -24,26 +22,15 @@ is_large (token.Sign s) = false
 
 -- ---- operators and parentheses
 
-abbrev pub is_operator_sign : Sign → Bool
-is_operator_sign sign.Open = true
-is_operator_sign sign.Plus = true
-is_operator_sign sign.Minus = true
-is_operator_sign sign.Star = true
-is_operator_sign _ = false
-
-abbrev pub is_operator_keyword : Keyword → Bool
-is_operator_keyword keyword.And = true
-is_operator_keyword keyword.Or = true
-is_operator_keyword keyword.Not = true
-is_operator_keyword _ = false
-
 abbrev pub is_operator : Token → Bool
-is_operator (token.Name w) = false
-is_operator (token.Keyword k) = is_operator_keyword k
-is_operator (token.Number n) = false
-is_operator token.LargeNumber = false
-is_operator (token.Text t) = false
-is_operator (token.Sign s) = is_operator_sign s
+is_operator (token.Sign sign.Open) = true
+is_operator (token.Sign sign.Plus) = true
+is_operator (token.Sign sign.Minus) = true
+is_operator (token.Sign sign.Star) = true
+is_operator (token.Keyword keyword.And) = true
+is_operator (token.Keyword keyword.Or) = true
+is_operator (token.Keyword keyword.Not) = true
+is_operator _ = false
 
 -- ---- refusals
 

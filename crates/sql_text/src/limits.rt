@@ -1,7 +1,7 @@
 // What is refused before a query is read.
 ghost use Rattle.std.specs.Prelude.{◌≡◌, count_by};
 ghost use Rattle.std.specs.List.{list_any};
-ghost use Rattle.sql_text.specs.Refusals.{is_large, is_operator_sign, is_operator_keyword, is_operator, token_refusal};
+ghost use Rattle.sql_text.specs.Refusals.{is_large, is_operator, token_refusal};
 
 use sql_grammar::{Keyword, Sign, Token};
 
@@ -38,26 +38,14 @@ fn has_large(tokens: &[Token]) -> bool
     tokens.iter().any(|token| is_large(token))
 }
 
-fn is_operator_sign(sign: Sign) -> bool
-    ensures { result ≡ is_operator_sign sign }
-{
-    matches!(sign, Sign::Open | Sign::Plus | Sign::Minus | Sign::Star)
-}
-
-fn is_operator_keyword(keyword: Keyword) -> bool
-    ensures { result ≡ is_operator_keyword keyword }
-{
-    matches!(keyword, Keyword::And | Keyword::Or | Keyword::Not)
-}
-
 fn is_operator(token: &Token) -> bool
     ensures { result ≡ is_operator token.now }
 {
-    match token {
-        Token::Sign(sign) => is_operator_sign(*sign),
-        Token::Keyword(keyword) => is_operator_keyword(*keyword),
-        Token::Name(_) | Token::Number(_) | Token::LargeNumber | Token::Text(_) => false,
-    }
+    matches!(
+        token,
+        Token::Sign(Sign::Open | Sign::Plus | Sign::Minus | Sign::Star)
+            | Token::Keyword(Keyword::And | Keyword::Or | Keyword::Not)
+    )
 }
 
 fn operator_count(tokens: &[Token]) -> usize

@@ -1,33 +1,84 @@
 // Lists: items, columns, pairs and keys of an order.
-ghost use Rattle.std.specs.Prelude.{◌≡◌, ℕ, map, Some, None, option_map, OnOk, IfOk};
-ghost use Rattle.sql_grammar.specs.Trees.{item_tree, item_what, selection};
+ghost use Rattle.std.specs.Prelude.{◌≡◌, ◌++◌, ◌∷◌, [], ℕ, length, List as Seq, map, Some, None, option_map, OnOk, IfOk, refl};
+ghost use Rattle.std.proofs.lemmas.List.{map-append};
+ghost use Rattle.sql_grammar.specs.Trees.{ItemTree, item_tree, item_what, selection};
+ghost use Rattle.sql_grammar.specs.declared.Token.{Token as Piece};
+ghost use Rattle.query_model.specs.declared.query.ColumnRef.{ColumnRef as Column};
+ghost use Rattle.query_model.specs.declared.query.OrderKey.{OrderKey as Key};
 ghost use Rattle.sql_text.specs.Answers.{Gives};
-ghost use Rattle.sql_text.specs.Queries.{after_comma, after_and, alias_at, call_front, plain_what, what_at, item_at, items_at, after_star, selection_at, column_ref_at, columns_at, pair_at, pairs_at, direction_at, order_key_at, order_keys_at};
+ghost use Rattle.sql_text.specs.Parts.{Reading};
+ghost use Rattle.sql_text.specs.Queries.{behind, list_at, alias_at, call_front, plain_what, what_at, item_at, selection_at, column_ref_at, direction_at, order_key_at};
 
 use crate::part::{Clause, EXPRESSION, call_at, called, part_at, plain_of};
 use crate::stop::Stop;
-use crate::tables::{column_ref_at, name_at, pair_at};
+use crate::tables::{column_ref_at, name_at};
 use chunk_data::{Bytes, List};
-use query_model::query::{AggOp, ColumnRef, Item, ItemKind, Items, NamePair, OrderKey};
+use query_model::query::{AggOp, ColumnRef, Item, ItemKind, Items, OrderKey};
 use sql_grammar::{Keyword, Sign, Token};
 use std::alloc::Global;
 
-fn after_comma(tokens: &[Token]) -> Option<&[Token]>
-    ensures { option_map (λ rest. rest.now) result ≡ after_comma tokens.now }
+/// What stands between the elements of a list.
+#[derive(Clone, Copy)]
+pub enum Separator {
+    Comma,
+    And,
+}
+
+fn behind(separator: Separator, tokens: &[Token]) -> Option<&[Token]>
+    ensures { option_map (λ rest. rest.now) result ≡ behind separator tokens.now }
 {
-    match tokens.split_first() {
-        Some((Token::Sign(Sign::Comma), rest)) => Some(rest),
+    match (separator, tokens.split_first()?) {
+        (Separator::Comma, (Token::Sign(Sign::Comma), rest)) => Some(rest),
+        (Separator::And, (Token::Keyword(Keyword::And), rest)) => Some(rest),
         _ => None,
     }
 }
 
-fn after_and(tokens: &[Token]) -> Option<&[Token]>
-    ensures { option_map (λ rest. rest.now) result ≡ after_and tokens.now }
+/// What stands in lists.
+pub trait Listed: Drop {
+    // Elements apart from where their boxes lie, and how one is read.
+    ghost Tree: { Type 0 };
+
+    ghost tree: { Self → Tree };
+
+    ghost trees: { Seq Self → Seq Tree };
+
+    ghost reading: { ℕ → Seq Piece → Reading Tree };
+
+    /// The element at the front, and the tokens behind it. `depth` is that of `part_at`.
+    fn read(alloc: Global, tokens: &[Token], depth: usize) -> Result<(Self, &[Token]), Stop>
+        ensures { Gives (λ p. (tree p.0, p.1.now)) result (reading depth tokens.now) };
+
+    ghost first: { trees [] ≡ [] };
+
+    ghost more: { (xs : Seq Self) (x : Self) → trees (xs ++ x ∷ []) ≡ trees xs ++ tree x ∷ [] };
+}
+
+/// The list at the front, and the tokens behind it. `depth` is that of `part_at`.
+pub fn list_at<T: Listed>(
+    alloc: Global,
+    separator: Separator,
+    tokens: &[Token],
+    depth: usize,
+) -> Result<(List<T>, &[Token]), Stop>
+    ensures { Gives (λ p. (T.trees p.0, p.1.now)) result
+        (list_at (T.reading depth) separator (length tokens.now) tokens.now) }
 {
-    match tokens.split_first() {
-        Some((Token::Keyword(Keyword::And), rest)) => Some(rest),
-        _ => None,
+    let mut elements = Vec::new(alloc);
+    let mut rest = tokens;
+    for _turn in 0..tokens.len() {
+        match T::read(alloc, rest, depth) {
+            Err(stop) => return Err(stop),
+            Ok((element, after)) => {
+                elements.push(element)?;
+                match behind(separator, after) {
+                    Some(next) => rest = next,
+                    None => return Ok((List::from_vec(elements), after)),
+                }
+            }
+        }
     }
+    Err(Stop::Syntax)
 }
 
 fn alias_at(tokens: &[Token]) -> Result<(Option<Bytes>, &[Token]), Stop>
@@ -72,40 +123,23 @@ fn what_at(alloc: Global, tokens: &[Token], depth: usize) -> Result<(ItemKind, &
     }
 }
 
-fn item_at(alloc: Global, tokens: &[Token], depth: usize) -> Result<(Item, &[Token]), Stop>
-    ensures { Gives (λ p. (item_tree p.0, p.1.now)) result (item_at depth tokens.now) }
-{
-    let (what, rest) = what_at(alloc, tokens, depth)?;
-    let (alias, rest) = alias_at(rest)?;
-    Ok((Item { what, alias }, rest))
-}
+impl Listed for Item {
+    ghost Tree = { ItemTree };
 
-fn items_at(alloc: Global, tokens: &[Token], depth: usize) -> Result<(List<Item>, &[Token]), Stop>
-    ensures { Gives (λ p. (map item_tree p.0, p.1.now)) result (items_at depth tokens.now) }
-{
-    let mut items = Vec::new(alloc);
-    let mut rest = tokens;
-    for _turn in 0..tokens.len() {
-        match item_at(alloc, rest, depth) {
-            Err(stop) => return Err(stop),
-            Ok((item, after)) => {
-                items.push(item)?;
-                match after_comma(after) {
-                    Some(behind) => rest = behind,
-                    None => return Ok((List::from_vec(items), after)),
-                }
-            }
-        }
-    }
-    Err(Stop::Syntax)
-}
+    ghost tree = { item_tree };
 
-fn after_star(tokens: &[Token]) -> Option<&[Token]>
-    ensures { option_map (λ rest. rest.now) result ≡ after_star tokens.now }
-{
-    match tokens.split_first() {
-        Some((Token::Sign(Sign::Star), rest)) => Some(rest),
-        _ => None,
+    ghost trees = { map item_tree };
+
+    ghost reading = { item_at };
+
+    ghost first = { refl };
+
+    ghost more = { λ xs x. map-append item_tree xs (x ∷ []) };
+
+    fn read(alloc: Global, tokens: &[Token], depth: usize) -> Result<(Item, &[Token]), Stop> {
+        let (what, rest) = what_at(alloc, tokens, depth)?;
+        let (alias, rest) = alias_at(rest)?;
+        Ok((Item { what, alias }, rest))
     }
 }
 
@@ -117,53 +151,31 @@ pub fn selection_at(
 ) -> Result<(Items, &[Token]), Stop>
     ensures { Gives (λ p. (selection p.0, p.1.now)) result (selection_at depth tokens.now) }
 {
-    match after_star(tokens) {
-        Some(rest) => Ok((Items::Star, rest)),
-        None => {
-            let (items, rest) = items_at(alloc, tokens, depth)?;
+    match tokens.split_first() {
+        Some((Token::Sign(Sign::Star), rest)) => Ok((Items::Star, rest)),
+        _ => {
+            let (items, rest) = list_at(alloc, Separator::Comma, tokens, depth)?;
             Ok((Items::Listed(items), rest))
         }
     }
 }
 
-pub fn columns_at(alloc: Global, tokens: &[Token]) -> Result<(List<ColumnRef>, &[Token]), Stop>
-    ensures { Gives (λ p. (p.0, p.1.now)) result (columns_at tokens.now) }
-{
-    let mut columns = Vec::new(alloc);
-    let mut rest = tokens;
-    for _turn in 0..tokens.len() {
-        match column_ref_at(rest) {
-            Err(stop) => return Err(stop),
-            Ok((column, after)) => {
-                columns.push(column)?;
-                match after_comma(after) {
-                    Some(behind) => rest = behind,
-                    None => return Ok((List::from_vec(columns), after)),
-                }
-            }
-        }
-    }
-    Err(Stop::Syntax)
-}
+impl Listed for ColumnRef {
+    ghost Tree = { Column };
 
-pub fn pairs_at(alloc: Global, tokens: &[Token]) -> Result<(List<NamePair>, &[Token]), Stop>
-    ensures { Gives (λ p. (p.0, p.1.now)) result (pairs_at tokens.now) }
-{
-    let mut pairs = Vec::new(alloc);
-    let mut rest = tokens;
-    for _turn in 0..tokens.len() {
-        match pair_at(rest) {
-            Err(stop) => return Err(stop),
-            Ok((pair, after)) => {
-                pairs.push(pair)?;
-                match after_and(after) {
-                    Some(behind) => rest = behind,
-                    None => return Ok((List::from_vec(pairs), after)),
-                }
-            }
-        }
+    ghost tree = { λ c. c };
+
+    ghost trees = { λ cs. cs };
+
+    ghost reading = { λ _ ts. column_ref_at ts };
+
+    ghost first = { refl };
+
+    ghost more = { λ cs c. refl };
+
+    fn read(_: Global, tokens: &[Token], _: usize) -> Result<(ColumnRef, &[Token]), Stop> {
+        column_ref_at(tokens)
     }
-    Err(Stop::Syntax)
 }
 
 // Whether DESC is stated.
@@ -177,30 +189,22 @@ fn direction_at(tokens: &[Token]) -> (bool, &[Token])
     }
 }
 
-fn order_key_at(tokens: &[Token]) -> Result<(OrderKey, &[Token]), Stop>
-    ensures { Gives (λ p. (p.0, p.1.now)) result (order_key_at tokens.now) }
-{
-    let (name, rest) = name_at(tokens)?;
-    let (descending, rest) = direction_at(rest);
-    Ok((OrderKey { name, descending }, rest))
-}
+impl Listed for OrderKey {
+    ghost Tree = { Key };
 
-pub fn order_keys_at(alloc: Global, tokens: &[Token]) -> Result<(List<OrderKey>, &[Token]), Stop>
-    ensures { Gives (λ p. (p.0, p.1.now)) result (order_keys_at tokens.now) }
-{
-    let mut keys = Vec::new(alloc);
-    let mut rest = tokens;
-    for _turn in 0..tokens.len() {
-        match order_key_at(rest) {
-            Err(stop) => return Err(stop),
-            Ok((key, after)) => {
-                keys.push(key)?;
-                match after_comma(after) {
-                    Some(behind) => rest = behind,
-                    None => return Ok((List::from_vec(keys), after)),
-                }
-            }
-        }
+    ghost tree = { λ k. k };
+
+    ghost trees = { λ ks. ks };
+
+    ghost reading = { λ _ ts. order_key_at ts };
+
+    ghost first = { refl };
+
+    ghost more = { λ ks k. refl };
+
+    fn read(_: Global, tokens: &[Token], _: usize) -> Result<(OrderKey, &[Token]), Stop> {
+        let (name, rest) = name_at(tokens)?;
+        let (descending, rest) = direction_at(rest);
+        Ok((OrderKey { name, descending }, rest))
     }
-    Err(Stop::Syntax)
 }

@@ -2,9 +2,9 @@
 ghost use Rattle.std.specs.Prelude.{◌≡◌, Some, None, option_map, OnOk, IfOk};
 ghost use Rattle.sql_grammar.specs.Trees.{condition, query_tree, selection};
 ghost use Rattle.sql_text.specs.Answers.{Gives};
-ghost use Rattle.sql_text.specs.Queries.{join_at, condition_at, filter_at, having_at, keys_at, order_at, offset_at, limit_at, is_end, shaped, after_select, query_at};
+ghost use Rattle.sql_text.specs.Queries.{join_at, condition_at, clause_at, keys_at, order_at, offset_at, limit_at, is_end, shaped, after_select, query_at};
 
-use crate::lists::{columns_at, order_keys_at, selection_at};
+use crate::lists::{Separator, list_at, selection_at};
 use crate::part::{CONDITION, Clause, condition_of, part_at};
 use crate::stop::{Stop, next_token};
 use crate::tables::{from_at, joined_table_at};
@@ -48,31 +48,22 @@ fn condition_at(
     Ok((Some(Box::into_inner(condition_of(part)?)), rest))
 }
 
-fn filter_at(
+// WHERE or HAVING, and the condition behind it.
+fn clause_at(
     alloc: Global,
+    clause: Clause,
     tokens: &[Token],
     depth: usize,
 ) -> Result<(Option<CondOf<ColumnRef>>, &[Token]), Stop>
-    ensures { Gives (λ p. (option_map condition p.0, p.1.now)) result (filter_at depth tokens.now) }
+    ensures { Gives (λ p. (option_map condition p.0, p.1.now)) result
+        (clause_at depth clause tokens.now) }
 {
-    match tokens.split_first() {
-        Some((Token::Keyword(Keyword::Where), rest)) => {
-            condition_at(alloc, Clause::OfRows, rest, depth)
+    match (clause, tokens.split_first()) {
+        (Clause::OfRows, Some((Token::Keyword(Keyword::Where), rest))) => {
+            condition_at(alloc, clause, rest, depth)
         }
-        _ => Ok((None, tokens)),
-    }
-}
-
-fn having_at(
-    alloc: Global,
-    tokens: &[Token],
-    depth: usize,
-) -> Result<(Option<CondOf<ColumnRef>>, &[Token]), Stop>
-    ensures { Gives (λ p. (option_map condition p.0, p.1.now)) result (having_at depth tokens.now) }
-{
-    match tokens.split_first() {
-        Some((Token::Keyword(Keyword::Having), rest)) => {
-            condition_at(alloc, Clause::OfGroups, rest, depth)
+        (Clause::OfGroups, Some((Token::Keyword(Keyword::Having), rest))) => {
+            condition_at(alloc, clause, rest, depth)
         }
         _ => Ok((None, tokens)),
     }
@@ -86,7 +77,7 @@ fn keys_at(alloc: Global, tokens: &[Token]) -> Result<(List<ColumnRef>, &[Token]
             Token::Keyword(Keyword::Group),
             Token::Keyword(Keyword::By),
             ..
-        ] => { columns_at(alloc, &tokens[2..]) }
+        ] => { list_at(alloc, Separator::Comma, &tokens[2..], 0) }
         [Token::Keyword(Keyword::Group), ..] => Err(Stop::Syntax),
         _ => Ok((List::new(alloc), tokens)),
     }
@@ -100,7 +91,7 @@ fn order_at(alloc: Global, tokens: &[Token]) -> Result<(List<OrderKey>, &[Token]
             Token::Keyword(Keyword::Order),
             Token::Keyword(Keyword::By),
             ..
-        ] => { order_keys_at(alloc, &tokens[2..]) }
+        ] => { list_at(alloc, Separator::Comma, &tokens[2..], 0) }
         [Token::Keyword(Keyword::Order), ..] => Err(Stop::Syntax),
         _ => Ok((List::new(alloc), tokens)),
     }
@@ -151,7 +142,7 @@ fn shaped(
         (shaped depth (selection items) from join (option_map condition filter) tokens.now) }
 {
     let (keys, rest) = keys_at(alloc, tokens)?;
-    let (having, rest) = having_at(alloc, rest, depth)?;
+    let (having, rest) = clause_at(alloc, Clause::OfGroups, rest, depth)?;
     let (order, rest) = order_at(alloc, rest)?;
     match limit_at(rest) {
         Ok((limit, rest)) if is_end(rest) => Ok(Query {
@@ -185,6 +176,6 @@ pub fn query_at(alloc: Global, tokens: &[Token], depth: usize) -> Result<Query, 
     let (items, rest) = selection_at(alloc, after_select(tokens)?, depth)?;
     let (from, rest) = from_at(rest)?;
     let (join, rest) = join_at(alloc, rest)?;
-    let (filter, rest) = filter_at(alloc, rest, depth)?;
+    let (filter, rest) = clause_at(alloc, Clause::OfRows, rest, depth)?;
     shaped(alloc, items, from, join, filter, rest, depth)
 }

@@ -1,10 +1,11 @@
 // Tables, columns and joins.
-ghost use Rattle.std.specs.Prelude.{◌≡◌, Some, option_map, OnOk, IfOk};
+ghost use Rattle.std.specs.Prelude.{◌≡◌, Some, option_map, OnOk, IfOk, refl};
+ghost use Rattle.query_model.specs.declared.query.NamePair.{NamePair as Pair};
 ghost use Rattle.sql_text.specs.Answers.{Gives};
 ghost use Rattle.sql_text.specs.Parts.{dotted};
 ghost use Rattle.sql_text.specs.Queries.{name_at, count_behind, table_named, table_at, from_at, column_ref_at, after_equal, pair_at, on_at, joined_table_at};
 
-use crate::lists::pairs_at;
+use crate::lists::{Listed, Separator, list_at};
 use crate::stop::{Stop, next_token};
 use chunk_data::Bytes;
 use query_model::query::{ColumnRef, Join, NamePair, TableRef};
@@ -95,12 +96,24 @@ fn after_equal(tokens: &[Token]) -> Result<&[Token], Stop>
     }
 }
 
-pub fn pair_at(tokens: &[Token]) -> Result<(NamePair, &[Token]), Stop>
-    ensures { Gives (λ p. (p.0, p.1.now)) result (pair_at tokens.now) }
-{
-    let (left, rest) = column_ref_at(tokens)?;
-    let (right, rest) = column_ref_at(after_equal(rest)?)?;
-    Ok((NamePair { left, right }, rest))
+impl Listed for NamePair {
+    ghost Tree = { Pair };
+
+    ghost tree = { λ p. p };
+
+    ghost trees = { λ ps. ps };
+
+    ghost reading = { λ _ ts. pair_at ts };
+
+    ghost first = { refl };
+
+    ghost more = { λ ps p. refl };
+
+    fn read(_: Global, tokens: &[Token], _: usize) -> Result<(NamePair, &[Token]), Stop> {
+        let (left, rest) = column_ref_at(tokens)?;
+        let (right, rest) = column_ref_at(after_equal(rest)?)?;
+        Ok((NamePair { left, right }, rest))
+    }
 }
 
 fn on_at(alloc: Global, table: TableRef, tokens: &[Token]) -> Result<(Join, &[Token]), Stop>
@@ -108,7 +121,7 @@ fn on_at(alloc: Global, table: TableRef, tokens: &[Token]) -> Result<(Join, &[To
 {
     match next_token(tokens)? {
         (Token::Keyword(Keyword::On), rest) => {
-            let (pairs, rest) = pairs_at(alloc, rest)?;
+            let (pairs, rest) = list_at(alloc, Separator::And, rest, 0)?;
             Ok((Join { table, pairs }, rest))
         }
         _ => Err(Stop::Syntax),

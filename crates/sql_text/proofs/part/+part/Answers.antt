@@ -1,5 +1,4 @@
-use Rattle.std.proofs.Common.{sym, ap, ◌∙◌, arith, rules}
-use Rattle.sql_text.specs.Parts.{parsed, part_at}
+use Rattle.sql_text.proofs.Imports.{sym, ap, ◌∙◌, arith, rules, parsed, part_at}
 use Rattle.sql_text.proofs.Turns.{turn, no_turn, no_turns, end_of_turns, no_depth, part_goes, fault_goes}
 use Rattle.sql_text.proofs.part.+part.Goals as goal
 

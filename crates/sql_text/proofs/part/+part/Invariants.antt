@@ -1,5 +1,4 @@
-use Rattle.std.proofs.Common.{◌≡◌, suc, ◌+◌, ◌-◌, ◌*◌, length}
-use Rattle.sql_text.specs.Parts.{parsed, joined, part_at}
+use Rattle.sql_text.proofs.Imports.{◌≡◌, suc, ◌+◌, ◌-◌, ◌*◌, length, parsed, joined, part_at}
 use Rattle.sql_text.proofs.part.+part.Given as goal
 
 abbrev pub decreases-part_at : goal.decreases-part_at

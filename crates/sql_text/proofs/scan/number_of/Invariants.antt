@@ -1,5 +1,4 @@
-use Rattle.std.proofs.Common.{◌≡◌, take}
-use Rattle.sql_grammar.specs.Tokens.{number_of, fitting}
+use Rattle.sql_text.proofs.Imports.{◌≡◌, take, number_of, fitting}
 use Rattle.sql_text.proofs.scan.number_of.Given as goal
 
 abbrev pub invariant-loop-digit : goal.invariant-loop-digit

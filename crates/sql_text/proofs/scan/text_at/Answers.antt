@@ -1,6 +1,5 @@
-use Rattle.std.proofs.Common.{◌+◌, inl, inr, length, get_or, drop, Some, sym, ap, ◌∙◌, arith}
+use Rattle.sql_text.proofs.Imports.{◌+◌, inl, inr, length, get_or, drop, Some, sym, ap, ◌∙◌, arith, text_at}
 use Rattle.sql_grammar.specs.declared.TextPlace.TheVariants as place
-use Rattle.sql_grammar.specs.Tokens.{text_at}
 use Rattle.sql_text.proofs.Bytes.{text_behind, turn, content_step, pass_step, text_ends, whole_text}
 use Rattle.sql_text.proofs.scan.text_at.Goals as goal
 use Rattle.sql_text.proofs.scan.text_at.Goals.{in-Content+in_ok-push-in-Content, in-Passed}

@@ -1,6 +1,4 @@
-use Rattle.std.proofs.Common.{◌≡◌, drop}
-use Rattle.sql_grammar.specs.declared.TextPlace.TheVariants.{Middle}
-use Rattle.sql_grammar.specs.Tokens.{text_at}
+use Rattle.sql_text.proofs.Imports.{◌≡◌, drop, Middle, text_at}
 use Rattle.sql_text.proofs.Bytes.{text_behind}
 use Rattle.sql_text.proofs.scan.text_at.Given as goal
 

@@ -1,5 +1,4 @@
-use Rattle.std.proofs.Common.{◌≡◌, ◌-◌, sym, ap, ◌∙◌, arith}
-use Rattle.sql_grammar.specs.Tokens.{behind_token, tokens_behind}
+use Rattle.sql_text.proofs.Imports.{◌≡◌, ◌-◌, sym, ap, ◌∙◌, arith, behind_token, tokens_behind}
 use Rattle.sql_text.proofs.Turns.{fault_goes}
 use Rattle.sql_text.proofs.Bytes.{tokens_with, tokens_passed, tokens_blank, tokens_front, token_step, tokens_end}
 use Rattle.sql_text.proofs.scan.tokens_of.Goals as goal

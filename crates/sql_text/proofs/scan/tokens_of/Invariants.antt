@@ -1,5 +1,4 @@
-use Rattle.std.proofs.Common.{◌≡◌, length}
-use Rattle.sql_grammar.specs.Tokens.{tokens_behind}
+use Rattle.sql_text.proofs.Imports.{◌≡◌, length, tokens_behind}
 use Rattle.sql_text.proofs.Bytes.{tokens_with}
 use Rattle.sql_text.proofs.scan.tokens_of.Given as goal
 

@@ -1,6 +1,4 @@
-use Rattle.std.proofs.Common.{Some, sym, ap, subst, ◌∙◌, arith}
-use Rattle.sql_text.specs.declared.limits.ParseRefusal.{ParseRefusal}
-use Rattle.sql_text.specs.Refusals.{IsRefused}
+use Rattle.sql_text.proofs.Imports.{Some, sym, ap, subst, ◌∙◌, arith, ParseRefusal, IsRefused}
 use Rattle.sql_text.proofs.Readings.{is_read, is_refused}
 use Rattle.sql_text.proofs.texts.parse.Goals as goal
 
