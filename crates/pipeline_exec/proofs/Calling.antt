@@ -1,5 +1,6 @@
 -- The calls of a round, made of many nodes at the same time.
-use Rattle.exec_laws.proofs.Words.{BoxPicture, CellPicture, KeepsFault, List, None, Option, Some, StaysBox, StaysOrActs, WorkFault, [], ap, arith, drop, cases_eq, cases_lt, cell_at, get_or, get_or-map, get_or_append_left, inl, inr, length, length-append, length-map, map-set, no_cell, refl, subst, suc, sym, zero, ℕ, ◌++◌, ◌+◌, ◌<◌, ◌∙◌, ◌∷◌, ◌≡◌, ◌≢◌, ◌≤◌}
+use Rattle.exec_laws.proofs.Words.{Acts, ActsCell, BoxPicture, CellPicture, KeepsFault, List, None, Option, StaysBox, StaysOrActs, [], ap, arith, drop, cases_eq, cases_lt, cell_at, get_or, get_or-map, get_or_append_left, inl, inr, length, length-append, length-map, no_cell, refl, subst, suc, sym, zero, ℕ, ◌++◌, ◌+◌, ◌<◌, ◌∙◌, ◌∷◌, ◌≡◌, ◌≢◌, ◌≤◌}
+use Rattle.exec_laws.specs.Prelude.{IsRunning, SameBox}
 use Rattle.std.specs.Prelude.{All, HoldsAt, IfNone, IfSome, swap, ◌-◌}
 use Rattle.std.proofs.lemmas.List.{get_or-append_right, get_or-drop, length-drop, with_items_is}
 use Rattle.std.specs.Vec.{with_items}
@@ -8,12 +9,12 @@ use Rattle.std.proofs.lemmas.List.Elements.{All-from_get_or}
 use Rattle.std.proofs.lemmas.List.Edits.{length-swap, swapped_from_swap}
 use Rattle.exec_laws.specs.declared.edges.DueCall.{DueCall}
 use Rattle.exec_laws.specs.declared.edges.NodeState.TheVariants as node
-use Rattle.exec_laws.proofs.Acting.{acted, stays-itself}
+use Rattle.exec_laws.proofs.Acting.{acted, stays-both, stays-itself}
 use Rattle.exec_laws.proofs.Nodes.{busy-born}
 use Rattle.pipeline_exec.specs.declared.calls.NodeFault.{NodeFault}
 use Rattle.pipeline_exec.specs.declared.cell.Cell.{Cell}
 use Rattle.pipeline_exec.specs.declared.executor_state.ExecutorState.{ExecutorState}
-use Rattle.pipeline_exec.specs.Cells.{Board, AreCalled, Each, FailsAt, HasFault, IsCalled, IsClear, IsCleared, IsUnderWay, MayBeCalled, Stays, board_of, cell_picture, cells_of}
+use Rattle.pipeline_exec.specs.Cells.{Board, AreCalled, Each, HasFault, IsCalled, IsClear, IsCleared, IsUnderWay, MayBeCalled, Stays, board_of, cell_picture, cells_of}
 
 -- ---- elements that change places
 
@@ -55,6 +56,56 @@ each-front R same xs ys k le len front = record {
   ];
 }
 
+-- ---- one call after another
+
+same-boxes : (p q r : BoxPicture) → SameBox p q → SameBox q r → SameBox p r
+same-boxes p q r a b = record {
+  kind = b.kind ∙ a.kind;
+  lawful = b.lawful ∙ a.lawful;
+  files = b.files ∙ a.files;
+  spec = b.spec ∙ a.spec;
+}
+
+acts-both : (p q r : BoxPicture) → Acts p q → Acts q r → Acts p r
+acts-both p q r a b = record {
+  same = same-boxes p q r a.same b.same;
+  view = b.view ∙ a.view;
+  fits = b.fits ∙ a.fits;
+  growth = b.growth ∙ a.growth;
+  faultless = b.faultless;
+  not_handed_out = b.not_handed_out;
+  keeps = λ yes ins outs k. b.keeps (rw a.same.lawful yes) ins outs (a.keeps yes ins outs k);
+}
+
+acted-both : (c d e : CellPicture) → StaysOrActs c d → StaysOrActs d e → StaysOrActs c e
+acted-both c d e (inl same) b = subst (λ (x : CellPicture). StaysOrActs x e) same b
+acted-both c d e (inr a) (inl same) = inr (subst (λ (x : CellPicture). ActsCell c x) (sym same) a)
+acted-both c d e (inr a) (inr b) =
+    let last : d.mark.last ≡ c.mark.last = ap (λ (x : CellPicture). x.mark.last) a.own in
+    inr (record {
+      busy = a.busy;
+      acts = acts-both c.box d.box e.box a.acts b.acts;
+      own = b.own ∙ ap (λ (x : CellPicture). record x {
+        box = e.box;
+        mark = record { state = e.mark.state; last = x.mark.last };
+      }) a.own;
+      awake = b.awake;
+      holds = λ m n v. rw last at (b.holds m n v);
+    })
+
+-- after a call without a fault the next one may come, if one is due
+pub may-again : (c d : CellPicture) → IsRunning c.box → ActsCell c d → MayBeCalled d
+may-again c d r a = record {
+  may = λ call due. record {
+    running = record {
+      loaded = rw a.acts.same.spec r.loaded;
+      faultless = a.acts.faultless;
+      not_handed_out = a.acts.not_handed_out;
+    };
+    may = rw due at (a.holds 0 0 d.view);
+  };
+}
+
 -- ---- the nodes
 
 absurd-work : (call : DueCall) → node.AtWork call ≡ node.Over → ⊥
@@ -87,6 +138,15 @@ module _ {P : Type 0} (seen : P → BoxPicture) where
     stays = stays-itself (seen c.processor);
     acted = λ _. inl refl;
     failed = λ clear. rw clear tt;
+  }
+
+  -- a call that answered no fault, and then another
+  pub called-both : (c d e : Cell P) → IsCalled seen c d → d.fault ≡ None → IsCalled seen d e
+      → IsCalled seen c e
+  called-both c d e a clear b = record {
+    stays = stays-both (seen c.processor) (seen d.processor) (seen e.processor) a.stays b.stays;
+    acted = λ none. acted-both _ _ _ (a.acted clear) (b.acted none);
+    failed = λ _. b.failed clear;
   }
 
   -- what holds of two cells at their place holds of their pictures

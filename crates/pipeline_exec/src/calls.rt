@@ -6,6 +6,7 @@ use crate::cell::{Cell, call_cell};
 use crate::executor_state::ExecutorState;
 use exec_laws::NodeState;
 use proc_api::{Processor, WorkFault};
+use query_model::processor_spec::Kind;
 use std::thread::{Threads, for_each_mut};
 
 /// A fault, and the node whose box answered it.
@@ -44,8 +45,20 @@ fn call_cells<P: Processor, R: Threads + Sync>(
     ensures { AreCalled result (cells_of P.seen cells.old) (cells_of P.seen cells.new) }
 {
     clear_faults(rt, cells);
-    call_gathered(rt, cells, 0, 0, workers);
+    let threads = threads_for(cells, workers);
+    call_gathered(rt, cells, 0, 0, threads);
     first_fault(cells)
+}
+
+/// How many threads a round takes: one, unless two nodes at least have work that is longer than a
+/// thread takes to start. A filter or an expression goes once over a chunk.
+fn threads_for<P: Processor>(cells: &[Cell<P>], workers: usize) -> usize {
+    let long = cells.iter().filter(|cell| is_long(cell)).count();
+    if long < 2 { 1 } else { workers }
+}
+
+fn is_long<P: Processor>(cell: &Cell<P>) -> bool {
+    is_at_work(cell) && !matches!(cell.processor.kind(), Kind::Filter | Kind::Expression)
 }
 
 /// With one thread the library's loop makes none; its clause says what each cell was left as.

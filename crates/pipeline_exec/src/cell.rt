@@ -1,4 +1,4 @@
-ghost use Rattle.std.specs.Prelude.{◌≡◌, ℕ, ◌<◌, true, false, length, IfOk, IfErr, OnOk};
+ghost use Rattle.std.specs.Prelude.{◌≡◌, ℕ, ◌<◌, true, false, length, None, IfOk, IfErr, OnOk};
 ghost use Rattle.port_word.specs.Names.{MaySee, IsAllFinished};
 ghost use Rattle.proc_api.specs.Names.{IsRunning, MaySchedule, MayWork, AllOutputsFinished};
 ghost use Rattle.exec_laws.specs.Names.{Acts, ActsCell, IsPort, KeepsFault, Leaves, StaysBox, Turns, port_edge, state_after};
@@ -122,10 +122,35 @@ fn state_after(status: Status) -> NodeState
     }
 }
 
+/// The most steps of a fetch that a source makes in one round. A thread takes longer to start than
+/// a block takes to read.
+const FETCH_STEPS: usize = 64;
+
 /// Makes the call that the node is due, if it is at work, and keeps the fault that its box answers.
+/// A source that isn't done fetching makes a few steps more.
 pub(crate) fn call_cell<P: Processor>(cell: &mut Cell<P>)
     requires { MayBeCalled (cell_picture P.seen cell.old) }
     ensures { IsCalled P.seen cell.old cell.new }
+{
+    call_once(cell);
+    for _step in 1..FETCH_STEPS {
+        if !is_fetching(cell) {
+            return;
+        }
+        call_once(cell);
+    }
+}
+
+fn is_fetching<P>(cell: &Cell<P>) -> bool
+    ensures { result ≡ true → cell.now.fault ≡ None }
+{
+    cell.fault.is_none() && matches!(cell.ports.mark.state, NodeState::AtWork(DueCall::Schedule))
+}
+
+fn call_once<P: Processor>(cell: &mut Cell<P>)
+    requires { MayBeCalled (cell_picture P.seen cell.old) }
+    ensures called { IsCalled P.seen cell.old cell.new }
+    ensures again { cell.new.fault ≡ None → MayBeCalled (cell_picture P.seen cell.new) }
 {
     if let NodeState::AtWork(call) = cell.ports.mark.state {
         cell.fault = match make_call(cell, call) {
