@@ -7,6 +7,8 @@
 #[cfg(test)]
 mod csv_procs_tests;
 #[cfg(test)]
+mod driven;
+#[cfg(test)]
 mod exec_core_tests;
 #[cfg(test)]
 mod flow_procs_tests;

@@ -1,6 +1,6 @@
 use Rattle.port_word.specs.Pictures.{Picture}
 use Rattle.proc_api.specs.Names.{FollowsKept, IsRunning, MaySchedule}
-use Rattle.exec_tests.proofs.csv_procs_tests.fetch_all.Given as goal
+use Rattle.exec_tests.proofs.driven.fetch_all.Given as goal
 
 abbrev pub invariant-loop-turn : goal.invariant-loop-turn
 invariant-loop-turn g l = record {

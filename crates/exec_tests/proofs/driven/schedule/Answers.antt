@@ -5,7 +5,7 @@ use Rattle.proc_api.specs.Names.{BoxPicture, FollowsKept, Schedules}
 use Rattle.proc_api.specs.declared.status.Wake.{Wake}
 use Rattle.proc_api.specs.declared.status.WorkFault.{WorkFault}
 use Rattle.proc_api.proofs.Follows.{follows-same}
-use Rattle.exec_tests.proofs.csv_procs_tests.schedule.Goals as goal
+use Rattle.exec_tests.proofs.driven.schedule.Goals as goal
 
 same-view : (p q : BoxPicture) (r : Result Wake WorkFault) → IfOk r (λ a. Schedules a p q)
     → OnOk r ((v : Picture) → FollowsKept p v → FollowsKept q v)

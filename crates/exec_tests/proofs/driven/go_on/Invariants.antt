@@ -1,6 +1,6 @@
 use Rattle.std.specs.Prelude.{◌≡◌, []}
 use Rattle.proc_api.specs.Names.{IsRunning, FollowsKept}
-use Rattle.exec_tests.proofs.join_proc_tests.go_on.Given as goal
+use Rattle.exec_tests.proofs.driven.go_on.Given as goal
 
 abbrev pub invariant-loop-turn : goal.invariant-loop-turn
 invariant-loop-turn g l = record {
