@@ -1,11 +1,12 @@
 -- chunks
-use Rattle.chunk_data.proofs.Imports.{All, AreColumns, AreLong, Bool, Column, ColumnType, FitsTypes, IsTable, List, Row, Table, Value, [], ap, count_by, drop, get_or, get_or-map, joined, kept, kind_of, length, length-map, map, map-append, nil_from_length, refl, row_at, rows_of, subst, sym, take, take_at, take_more, value_at, values, ℕ, ◌++◌, ◌+◌, ◌-◌, ◌<◌, ◌∙◌, ◌∷◌, ◌≡◌, ◌≤◌}
+use Rattle.chunk_data.proofs.Imports.{arith, All, AreColumns, AreLong, Bool, Column, ColumnType, FitsTypes, IsTable, List, Row, Table, Value, [], ap, count_by, drop, get_or, get_or-map, joined, kept, kind_of, length, length-map, map, map-append, nil_from_length, refl, row_at, rows_of, sym, take, take_at, take_more, value_at, values, ℕ, ◌++◌, ◌+◌, ◌-◌, ◌<◌, ◌∙◌, ◌∷◌, ◌≡◌, ◌≤◌}
 use Rattle.chunk_data.proofs.Rows.{length-rows_of, AreLong-joined, rows_of-joined, AreLong-row, rows_of_push, AreLong-kept, rows_of-kept, column_of-rows_of, AreLong-places, rows_of-places, AreLong-take, rows_of-take, AreLong-drop, rows_of-drop}
 use Rattle.chunk_data.proofs.ColumnLists.{AreLong-at}
 use Rattle.chunk_data.proofs.Laws.{length-FitsTypes, rows_fit, AreLong-append, rows_of-append}
 
 -- what a `&mut` slice of a Vec leaves
-pub written_back : {X : Type 0} (old now : List X) (n : ℕ) → length now ≡ length old → n ≡ length old → take n (now ++ drop (length now) old) ≡ now
+pub written_back : {X : Type 0} (old now : List X) (n : ℕ) → length now ≡ length old
+    → n ≡ length old → take n (now ++ drop (length now) old) ≡ now
 written_back old now n e k = take_at now (drop (length now) old) n (e ∙ sym k)
 
 all_empty : (types : List ColumnType) → AreLong {X = Value} 0 (map (λ _. []) types)
@@ -16,128 +17,237 @@ no_rows : (types : List ColumnType) → rows_of {X = Value} 0 (map (λ _. []) ty
 no_rows [] = refl
 no_rows (t ∷ types) = refl
 
-pub AreColumns-empty : (types : List ColumnType) (columns : List Column) → map kind_of columns ≡ types → map values columns ≡ map (λ _. []) types → AreColumns types columns 0
+pub AreColumns-empty : (types : List ColumnType) (columns : List Column) → map kind_of columns
+    ≡ types → map values columns ≡ map (λ _. []) types → AreColumns types columns 0
 AreColumns-empty types columns k v = record { kinds = k; long = rw v (all_empty types) }
 
-pub rows_of_empty : (types : List ColumnType) (columns : List Column) → map values columns ≡ map (λ _. []) types → rows_of 0 (map values columns) ≡ []
+pub rows_of_empty : (types : List ColumnType) (columns : List Column)
+    → map values columns ≡ map (λ _. []) types → rows_of 0 (map values columns) ≡ []
 rows_of_empty types columns v = rw v (no_rows types)
 
-same_long : (types : List ColumnType) (columns others : List Column) → map kind_of columns ≡ types → map kind_of others ≡ types → length (map values others) ≡ length (map values columns)
-same_long types columns others e k = length-map others values ∙ sym (length-map others kind_of) ∙ ap length (k ∙ sym e) ∙ length-map columns kind_of ∙ sym (length-map columns values)
+same_long : (types : List ColumnType) (columns others : List Column) → map kind_of columns ≡ types
+    → map kind_of others ≡ types → length (map values others) ≡ length (map values columns)
+same_long types columns others e k = search (arith, length-map)
 
-pub AreColumns-joined : (types : List ColumnType) (columns others now : List Column) (n m : ℕ) → AreColumns types columns n → AreColumns types others m → map kind_of now ≡ map kind_of columns → map values now ≡ joined (map values columns) (map values others) → AreColumns types now (n + m)
-AreColumns-joined types columns others now n m h k e v = record { kinds = e ∙ h.kinds; long = rw v (AreLong-joined n m _ _ h.long k.long) }
+pub AreColumns-joined : (types : List ColumnType) (columns others now : List Column) (n m : ℕ) →
+    AreColumns types columns n → AreColumns types others m → map kind_of now ≡ map kind_of columns →
+    map values now ≡ joined (map values columns) (map values others) → AreColumns types now (n + m)
+AreColumns-joined types columns others now n m h k e v = search (arith, AreLong-joined)
 
-pub rows_of_joined : (types : List ColumnType) (columns others now : List Column) (n m : ℕ) → AreColumns types columns n → AreColumns types others m → map values now ≡ joined (map values columns) (map values others) → rows_of (n + m) (map values now) ≡ rows_of n (map values columns) ++ rows_of m (map values others)
-rows_of_joined types columns others now n m h k v = rw v (rows_of-joined n m _ _ h.long k.long (same_long types columns others h.kinds k.kinds))
+pub rows_of_joined : (types : List ColumnType) (columns others now : List Column) (n m : ℕ)
+    → AreColumns types columns n → AreColumns types others m
+    → map values now ≡ joined (map values columns) (map values others) → rows_of (n + m)
+    (map values now) ≡ rows_of n (map values columns) ++ rows_of m (map values others)
+rows_of_joined types columns others now n m h k v = search (arith, rows_of-joined, same_long)
 
-pub AreColumns-push : (types : List ColumnType) (columns now : List Column) (row : List Value) (n : ℕ) → AreColumns types columns n → map kind_of now ≡ map kind_of columns → map values now ≡ joined (map values columns) (map (λ v. v ∷ []) row) → AreColumns types now (n + 1)
-AreColumns-push types columns now row n h e v = record { kinds = e ∙ h.kinds; long = rw v (AreLong-joined n 1 _ _ h.long (AreLong-row row)) }
+pub AreColumns-push : (types : List ColumnType) (columns now : List Column) (row : List Value)
+    (n : ℕ) → AreColumns types columns n → map kind_of now ≡ map kind_of columns → map values now
+    ≡ joined (map values columns) (map (λ v. v ∷ []) row) → AreColumns types now (n + 1)
+AreColumns-push types columns now row n h e v = search (arith, AreLong-joined, AreLong-row)
 
-pub rows_of_pushed : (types : List ColumnType) (columns now : List Column) (row : List Value) (n : ℕ) → AreColumns types columns n → FitsTypes types row → map values now ≡ joined (map values columns) (map (λ v. v ∷ []) row) → rows_of (n + 1) (map values now) ≡ rows_of n (map values columns) ++ row ∷ []
+pub rows_of_pushed : (types : List ColumnType) (columns now : List Column) (row : List Value)
+    (n : ℕ) → AreColumns types columns n → FitsTypes types row
+    → map values now ≡ joined (map values columns) (map (λ v. v ∷ []) row)
+    → rows_of (n + 1) (map values now) ≡ rows_of n (map values columns) ++ row ∷ []
 rows_of_pushed types columns now row n h t v =
-    let e : length row ≡ length (map values columns) = length-FitsTypes types row t ∙ ap length (sym h.kinds) ∙ length-map columns kind_of ∙ sym (length-map columns values) in
-    rw v (rows_of_push n (map values columns) row h.long e)
+    search (arith, length-FitsTypes, length-map, rows_of_push)
 
-pub AreColumns-kept : (types : List ColumnType) (columns now : List Column) (mask : List Bool) (n : ℕ) → AreColumns types columns n → length mask ≡ n → map kind_of now ≡ map kind_of columns → map values now ≡ map (kept mask) (map values columns) → AreColumns types now (count_by (λ m. m) mask)
-AreColumns-kept types columns now mask n h l e v = record { kinds = e ∙ h.kinds; long = rw v (AreLong-kept mask n _ h.long l) }
+pub AreColumns-kept : (types : List ColumnType) (columns now : List Column) (mask : List Bool)
+    (n : ℕ) → AreColumns types columns n → length mask ≡ n → map kind_of now ≡ map kind_of columns
+    → map values now ≡ map (kept mask) (map values columns)
+    → AreColumns types now (count_by (λ m. m) mask)
+AreColumns-kept types columns now mask n h l e v = search (arith, AreLong-kept)
 
-pub rows_of_kept : (types : List ColumnType) (columns now : List Column) (mask : List Bool) (n : ℕ) → AreColumns types columns n → length mask ≡ n → map values now ≡ map (kept mask) (map values columns) → rows_of (count_by (λ m. m) mask) (map values now) ≡ kept mask (rows_of n (map values columns))
+pub rows_of_kept : (types : List ColumnType) (columns now : List Column) (mask : List Bool) (n : ℕ)
+    → AreColumns types columns n → length mask ≡ n
+    → map values now ≡ map (kept mask) (map values columns)
+    → rows_of (count_by (λ m. m) mask) (map values now) ≡ kept mask (rows_of n (map values columns))
 rows_of_kept types columns now mask n h l v = rw v (rows_of-kept mask n _ h.long l)
 
-pub column_of : (types : List ColumnType) (columns : List Column) (n c : ℕ) (d : Column) → AreColumns types columns n → c < length columns → values (get_or columns c d) ≡ map (λ row. value_at row c) (rows_of n (map values columns))
+pub column_of : (types : List ColumnType) (columns : List Column) (n c : ℕ) (d : Column)
+    → AreColumns types columns n → c < length columns
+    → values (get_or columns c d) ≡ map (λ row. value_at row c) (rows_of n (map values columns))
 column_of types columns n c d h lt =
     let wide : c < length (map values columns) = rw length-map lt in
-    sym (get_or-map values columns c d [] lt) ∙ sym (column_of-rows_of n (map values columns) c _ h.long wide)
+    sym (get_or-map values columns c d [] lt)
+    ∙ sym (column_of-rows_of n (map values columns) c _ h.long wide)
 
 pub appended : {X : Type 0} {xs us ys vs : List X} → xs ≡ us → ys ≡ vs → xs ++ ys ≡ us ++ vs
 appended {us = us} {ys = ys} e k = ap (λ l. l ++ ys) e ∙ ap (λ l. us ++ l) k
 
--- ---- the steps of the calls: `given` is the slice that was passed, `now` what is left there, and the Vec has `len` columns
-pub kept_step : (types : List ColumnType) (columns given now : List Column) (mask : List Bool) (n count len : ℕ) → AreColumns types columns n → given ≡ columns → length now ≡ length given → len ≡ length columns → length mask ≡ n → count ≡ count_by (λ m. m) mask → map kind_of now ≡ map kind_of given → map values now ≡ map (kept mask) (map values given) → (AreColumns types (take len (now ++ drop (length now) columns)) count) × (rows_of count (map values (take len (now ++ drop (length now) columns))) ≡ kept mask (rows_of n (map values columns)))
+-- ---- the steps of the calls: `given` is the slice that was passed, `now` what is left there, and
+-- the Vec has `len` columns
+pub kept_step : (types : List ColumnType) (columns given now : List Column) (mask : List Bool)
+    (n count len : ℕ) → AreColumns types columns n → given ≡ columns → length now ≡ length given
+    → len ≡ length columns → length mask ≡ n → count ≡ count_by (λ m. m) mask → map kind_of now
+    ≡ map kind_of given → map values now ≡ map (kept mask) (map values given) → (AreColumns types
+    (take len (now ++ drop (length now) columns)) count) × (rows_of count (map values
+    (take len (now ++ drop (length now) columns))) ≡ kept mask (rows_of n (map values columns)))
 kept_step types columns given now mask n count len h g l w m e k v =
-    let back : take len (now ++ drop (length now) columns) ≡ now = written_back columns now len (l ∙ ap length g) w in
-    rw (back, e) (AreColumns-kept types columns now mask n h m (k ∙ ap (λ l. map kind_of l) g) (v ∙ ap (λ l. map (kept mask) (map values l)) g), rows_of_kept types columns now mask n h m (v ∙ ap (λ l. map (kept mask) (map values l)) g))
+    search (arith, written_back, AreColumns-kept, rows_of_kept)
 
-pub joined_step : (types : List ColumnType) (columns given now others others_given : List Column) (n m count len : ℕ) → AreColumns types columns n → AreColumns types others m → given ≡ columns → others_given ≡ others → length now ≡ length given → len ≡ length columns → count ≡ n + m → map kind_of now ≡ map kind_of given → map values now ≡ joined (map values given) (map values others_given) → (AreColumns types (take len (now ++ drop (length now) columns)) count) × (rows_of count (map values (take len (now ++ drop (length now) columns))) ≡ rows_of n (map values columns) ++ rows_of m (map values others))
+pub joined_step : (types : List ColumnType) (columns given now others others_given : List Column)
+    (n m count len : ℕ) → AreColumns types columns n → AreColumns types others m → given ≡ columns
+    → others_given ≡ others → length now ≡ length given → len ≡ length columns → count ≡ n + m
+    → map kind_of now ≡ map kind_of given → map values now ≡ joined (map values given) (map values
+    others_given) → (AreColumns types (take len (now ++ drop (length now) columns)) count)
+    × (rows_of count (map values (take len (now ++ drop (length now) columns)))
+    ≡ rows_of n (map values columns) ++ rows_of m (map values others))
 joined_step types columns given now others others_given n m count len h o g og l w e k v =
-    let back : take len (now ++ drop (length now) columns) ≡ now = written_back columns now len (l ∙ ap length g) w in
-    let cells : map values now ≡ joined (map values columns) (map values others) = v ∙ ap (λ l. joined (map values l) (map values others_given)) g ∙ ap (λ l. joined (map values columns) (map values l)) og in
-    rw (back, e) (AreColumns-joined types columns others now n m h o (k ∙ ap (λ l. map kind_of l) g) cells, rows_of_joined types columns others now n m h o cells)
+    let back : take len (now ++ drop (length now) columns) ≡ now =
+    written_back columns now len (l ∙ ap length g) w in
+    let cells : map values now ≡ joined (map values columns) (map values others) = v
+    ∙ ap (λ l. joined (map values l) (map values others_given)) g
+    ∙ ap (λ l. joined (map values columns) (map values l)) og in
+    rw (back, e) (
+      AreColumns-joined types columns others now n m h o (k ∙ ap (λ l. map kind_of l) g)
+          cells,
+      rows_of_joined types columns others now n m h o cells,
+    )
 
-pub push_step : (types : List ColumnType) (columns given now : List Column) (row row_given : List Value) (n count len : ℕ) → AreColumns types columns n → FitsTypes types row → given ≡ columns → row_given ≡ row → length now ≡ length given → len ≡ length columns → count ≡ n + 1 → map kind_of now ≡ map kind_of given → map values now ≡ joined (map values given) (map (λ v. v ∷ []) row_given) → (AreColumns types (take len (now ++ drop (length now) columns)) count) × (rows_of count (map values (take len (now ++ drop (length now) columns))) ≡ rows_of n (map values columns) ++ row ∷ [])
+pub push_step : (types : List ColumnType) (columns given now : List Column)
+    (row row_given : List Value) (n count len : ℕ) → AreColumns types columns n
+    → FitsTypes types row → given ≡ columns → row_given ≡ row → length now ≡ length given
+    → len ≡ length columns → count ≡ n + 1 → map kind_of now ≡ map kind_of given
+    → map values now ≡ joined (map values given) (map (λ v. v ∷ []) row_given) → (AreColumns types
+    (take len (now ++ drop (length now) columns)) count) × (rows_of count (map values
+    (take len (now ++ drop (length now) columns))) ≡ rows_of n (map values columns) ++ row ∷ [])
 push_step types columns given now row row_given n count len h t g rg l w e k v =
-    let back : take len (now ++ drop (length now) columns) ≡ now = written_back columns now len (l ∙ ap length g) w in
-    let cells : map values now ≡ joined (map values columns) (map (λ v. v ∷ []) row) = v ∙ ap (λ l. joined (map values l) (map (λ v. v ∷ []) row_given)) g ∙ ap (λ r. joined (map values columns) (map (λ v. v ∷ []) r)) rg in
-    rw (back, e) (AreColumns-push types columns now row n h (k ∙ ap (λ l. map kind_of l) g) cells, rows_of_pushed types columns now row n h t cells)
+    let back : take len (now ++ drop (length now) columns) ≡ now =
+    written_back columns now len (l ∙ ap length g) w in
+    let cells : map values now ≡ joined (map values columns) (map (λ v. v ∷ []) row) = v
+    ∙ ap (λ l. joined (map values l) (map (λ v. v ∷ []) row_given)) g
+    ∙ ap (λ r. joined (map values columns) (map (λ v. v ∷ []) r)) rg in
+    rw (back, e) (
+      AreColumns-push types columns now row n h (k ∙ ap (λ l. map kind_of l) g) cells,
+      rows_of_pushed types columns now row n h t cells,
+    )
 
-pub length_rows : (types : List ColumnType) (columns : List Column) (n : ℕ) → AreColumns types columns n → length (rows_of n (map values columns)) ≡ n
+pub length_rows : (types : List ColumnType) (columns : List Column) (n : ℕ)
+    → AreColumns types columns n → length (rows_of n (map values columns)) ≡ n
 length_rows types columns n h = length-rows_of n (map values columns) h.long
 
 -- a chunk is a table
-pub is_table : (types : List ColumnType) (columns : List Column) (n : ℕ) (t : Table) → AreColumns types columns n → record { types = types; rows = rows_of n (map values columns) } ≡ t → IsTable t
-is_table types columns n t h e =
-    let P : List ColumnType → Type 0 = λ ts. IsTable (record { types = ts; rows = rows_of n (map values columns) }) in
-    let Q : Table → Type 0 = IsTable in
-    subst Q e (subst P h.kinds (rows_fit columns n h.long))
+pub is_table : (types : List ColumnType) (columns : List Column) (n : ℕ) (t : Table)
+    → AreColumns types columns n
+    → record { types = types; rows = rows_of n (map values columns) } ≡ t → IsTable t
+is_table types columns n t h e = search (arith, rows_fit)
 
 -- rows after no rows
-pub taken_step : (types : List ColumnType) (columns : List Column) (n : ℕ) (old other : Table) (rows : List Row) → AreColumns types columns n → n ≡ 0 → record { types = types; rows = rows_of n (map values columns) } ≡ old → rows ≡ other.rows → rows ≡ old.rows ++ other.rows
+pub taken_step : (types : List ColumnType) (columns : List Column) (n : ℕ) (old other : Table)
+    (rows : List Row) → AreColumns types columns n → n ≡ 0 → record {
+      types = types;
+      rows =
+          rows_of n (map values columns);
+    } ≡ old → rows ≡ other.rows → rows ≡ old.rows ++ other.rows
 taken_step types columns n old other rows h z o e =
-    let none : old.rows ≡ [] = nil_from_length old.rows (ap (λ t. length t.rows) (sym o) ∙ length_rows types columns n h ∙ z) in
+    let none : old.rows ≡ [] = nil_from_length old.rows
+    (ap (λ t. length t.rows) (sym o) ∙ length_rows types columns n h ∙ z) in
     rw none e
 
 -- columns beside columns
-pub beside_long : (columns others all : List Column) (n m k : ℕ) → all ≡ columns ++ others → k ≡ n → m ≡ n → AreLong n (map values columns) → AreLong m (map values others) → AreLong k (map values all)
-beside_long columns others all n m k e kn mn h g =
-    let cells : map values all ≡ map values columns ++ map values others = ap (λ l. map values l) e ∙ map-append values columns others in
-    let P : ℕ → Type 0 = λ j. AreLong j (map values others) in
-    rw (cells, kn) (AreLong-append n (map values columns) (map values others) h (subst P mn g))
+pub beside_long : (columns others all : List Column) (n m k : ℕ) → all ≡ columns ++ others → k ≡ n
+    → m ≡ n → AreLong n (map values columns) → AreLong m (map values others)
+    → AreLong k (map values all)
+beside_long columns others all n m k e kn mn h g = search (arith, map-append, AreLong-append)
 
-pub beside_kinds : (columns others all : List Column) (types more : List ColumnType) → all ≡ columns ++ others → map kind_of columns ≡ types → map kind_of others ≡ more → map kind_of all ≡ types ++ more
-beside_kinds columns others all types more e k l = ap (λ l. map kind_of l) e ∙ map-append kind_of columns others ∙ appended k l
+pub beside_kinds : (columns others all : List Column) (types more : List ColumnType)
+    → all ≡ columns ++ others → map kind_of columns ≡ types → map kind_of others ≡ more
+    → map kind_of all ≡ types ++ more
+beside_kinds columns others all types more e k l = search (arith, map-append, appended)
 
-pub beside_rows : (columns others all : List Column) (n m k : ℕ) (rows more : List Row) → all ≡ columns ++ others → k ≡ n → m ≡ n → AreLong m (map values others) → rows_of n (map values columns) ≡ rows → rows_of m (map values others) ≡ more → rows_of k (map values all) ≡ joined rows more
+pub beside_rows : (columns others all : List Column) (n m k : ℕ) (rows more : List Row)
+    → all ≡ columns ++ others → k ≡ n → m ≡ n → AreLong m (map values others)
+    → rows_of n (map values columns) ≡ rows → rows_of m (map values others) ≡ more
+    → rows_of k (map values all) ≡ joined rows more
 beside_rows columns others all n m k rows more e kn mn g r t =
-    let cells : map values all ≡ map values columns ++ map values others = ap (λ l. map values l) e ∙ map-append values columns others in
-    let P : ℕ → Type 0 = λ j. AreLong j (map values others) in
-    let there : rows_of n (map values others) ≡ more = ap (λ j. rows_of j (map values others)) (sym mn) ∙ t in
-    rw (cells, kn) (rows_of-append n (map values columns) (map values others) (subst P mn g) ∙ rw (r, there) refl)
+    search (arith, map-append, rows_of-append)
 
 pub ruleset chunks = (length_rows, AreColumns-empty, rows_of_empty, column_of)
 
-pub column_long : (columns : List Column) (n i : ℕ) (x : Column) → AreLong n (map values columns) → i < length columns → x ≡ get_or columns i x → length (values x) ≡ n
+pub column_long : (columns : List Column) (n i : ℕ) (x : Column) → AreLong n (map values columns)
+    → i < length columns → x ≡ get_or columns i x → length (values x) ≡ n
 column_long columns n i x h lt is =
     let wide : i < length (map values columns) = rw length-map lt in
-    ap length (ap values is ∙ sym (get_or-map values columns i x (values x) lt)) ∙ AreLong-at n (map values columns) i (values x) h wide
+    ap length (ap values is ∙ sym (get_or-map values columns i x (values x) lt))
+    ∙ AreLong-at n (map values columns) i (values x) h wide
 
-pub places_step : (types : List ColumnType) (columns given now : List Column) (places : List ℕ) (n : ℕ) → AreColumns types columns n → All (λ p. p < n) places → given ≡ columns → map kind_of now ≡ map kind_of given → map values now ≡ map (λ column. map (value_at column) places) (map values given) → (AreColumns types now (length places)) × (rows_of (length places) (map values now) ≡ map (row_at (rows_of n (map values columns))) places)
+pub places_step : (types : List ColumnType) (columns given now : List Column) (places : List ℕ)
+    (n : ℕ) → AreColumns types columns n → All (λ p. p < n) places → given ≡ columns
+    → map kind_of now ≡ map kind_of given → map values now ≡ map (λ column. map (value_at column)
+    places) (map values given) → (AreColumns types now (length places)) × (rows_of (length places)
+    (map values now) ≡ map (row_at (rows_of n (map values columns))) places)
 places_step types columns given now places n h a g k v =
-    let cells : map values now ≡ map (λ column. map (value_at column) places) (map values columns) = v ∙ ap (λ l. map (λ column. map (value_at column) places) (map values l)) g in
-    (record { kinds = k ∙ ap (λ l. map kind_of l) g ∙ h.kinds; long = rw cells (AreLong-places places (map values columns) _) }, rw cells (rows_of-places n (map values columns) places _ h.long a))
+    let cells : map values now ≡ map (λ column. map (value_at column) places) (map values columns) =
+    v ∙ ap (λ l. map (λ column. map (value_at column) places) (map values l)) g in (
+      record {
+        kinds = k ∙ ap (λ l. map kind_of l) g ∙ h.kinds;
+        long =
+            rw cells (AreLong-places places (map values columns) _);
+      },
+      rw cells (rows_of-places n (map values columns) places _ h.long a),
+    )
 
-pub row_more : (columns : List Column) (n i at : ℕ) (x : Column) (v : Value) (row : List Value) → AreLong n (map values columns) → i < n → at < length columns → x ≡ get_or columns at x → v ≡ value_at (values x) i → row ≡ map (λ column. value_at column i) (map values (take at columns)) → row ++ v ∷ [] ≡ map (λ column. value_at column i) (map values (take (at + 1) columns))
+pub row_more : (columns : List Column) (n i at : ℕ) (x : Column) (v : Value) (row : List Value)
+    → AreLong n (map values columns) → i < n → at < length columns → x ≡ get_or columns at x → v
+    ≡ value_at (values x) i → row ≡ map (λ column. value_at column i) (map values (take at columns))
+    → row ++ v ∷ [] ≡ map (λ column. value_at column i) (map values (take (at + 1) columns))
 row_more columns n i at x v row h lt la is e r =
-    let more : take (at + 1) columns ≡ take at columns ++ get_or columns at x ∷ [] = take_more columns at x la in
+    let more : take (at + 1) columns ≡ take at columns ++ get_or columns at x ∷ [] =
+    take_more columns at x la in
     let same : get_or columns at x ≡ x = sym is in
     rw (more, same, map-append, map-append, ← r, ← e) refl
 
-pub front_step : (types : List ColumnType) (columns given now : List Column) (m n : ℕ) → AreColumns types columns n → m ≤ n → given ≡ columns → map kind_of now ≡ map kind_of given → map values now ≡ map (take m) (map values given) → (AreColumns types now m) × (rows_of m (map values now) ≡ take m (rows_of n (map values columns)))
+pub front_step : (types : List ColumnType) (columns given now : List Column) (m n : ℕ)
+    → AreColumns types columns n → m ≤ n → given ≡ columns → map kind_of now ≡ map kind_of given
+    → map values now ≡ map (take m) (map values given) → (AreColumns types now m)
+    × (rows_of m (map values now) ≡ take m (rows_of n (map values columns)))
 front_step types columns given now m n h le g k v =
-    let cells : map values now ≡ map (take m) (map values columns) = v ∙ ap (λ l. map (take m) (map values l)) g in
-    (record { kinds = k ∙ ap (λ l. map kind_of l) g ∙ h.kinds; long = rw cells (AreLong-take m n _ h.long le) }, rw cells (rows_of-take m n _ le))
+    let cells : map values now ≡ map (take m) (map values columns) = v
+    ∙ ap (λ l. map (take m) (map values l)) g in (
+      record {
+        kinds = k ∙ ap (λ l. map kind_of l) g ∙ h.kinds;
+        long =
+            rw cells (AreLong-take m n _ h.long le);
+      },
+      rw cells (rows_of-take m n _ le),
+    )
 
 -- the first m of n rows are left
-pub left_step : (types : List ColumnType) (columns given now : List Column) (m n len : ℕ) → AreColumns types columns n → m ≤ n → given ≡ columns → length now ≡ length given → len ≡ length columns → map kind_of now ≡ map kind_of given → map values now ≡ map (take m) (map values given) → (AreColumns types (take len (now ++ drop (length now) columns)) m) × (rows_of m (map values (take len (now ++ drop (length now) columns))) ≡ take m (rows_of n (map values columns)))
+pub left_step : (types : List ColumnType) (columns given now : List Column) (m n len : ℕ) →
+    AreColumns types columns n → m ≤ n → given ≡ columns → length now ≡ length given → len ≡ length
+    columns → map kind_of now ≡ map kind_of given → map values now ≡ map (take m) (map values given)
+    → (AreColumns types (take len (now ++ drop (length now) columns)) m) × (rows_of m (map values
+    (take len (now ++ drop (length now) columns))) ≡ take m (rows_of n (map values columns)))
 left_step types columns given now m n len h le g l w k v =
-    let back : take len (now ++ drop (length now) columns) ≡ now = written_back columns now len (l ∙ ap length g) w in
+    let back : take len (now ++ drop (length now) columns) ≡ now =
+    written_back columns now len (l ∙ ap length g) w in
     rw back (front_step types columns given now m n h le g k v)
 
-pub rest_step : (types : List ColumnType) (columns given now : List Column) (m n len : ℕ) → AreColumns types columns n → given ≡ columns → length now ≡ length given → len ≡ length columns → map kind_of now ≡ map kind_of given → map values now ≡ map (drop m) (map values given) → (AreColumns types (take len (now ++ drop (length now) columns)) (n - m)) × (rows_of (n - m) (map values (take len (now ++ drop (length now) columns))) ≡ drop m (rows_of n (map values columns)))
+pub rest_step : (types : List ColumnType) (columns given now : List Column) (m n len : ℕ) →
+    AreColumns types columns n → given ≡ columns → length now ≡ length given → len ≡ length columns
+    → map kind_of now ≡ map kind_of given → map values now ≡ map (drop m) (map values given) →
+    (AreColumns types (take len (now ++ drop (length now) columns)) (n - m)) × (rows_of (n - m) (map
+    values (take len (now ++ drop (length now) columns))) ≡ drop m (rows_of n (map values columns)))
 rest_step types columns given now m n len h g l w k v =
-    let back : take len (now ++ drop (length now) columns) ≡ now = written_back columns now len (l ∙ ap length g) w in
-    let cells : map values now ≡ map (drop m) (map values columns) = v ∙ ap (λ l. map (drop m) (map values l)) g in
-    rw back (record { kinds = k ∙ ap (λ l. map kind_of l) g ∙ h.kinds; long = rw cells (AreLong-drop m n _ h.long) }, rw cells (rows_of-drop m n _ h.long))
+    let back : take len (now ++ drop (length now) columns) ≡ now =
+    written_back columns now len (l ∙ ap length g) w in
+    let cells : map values now ≡ map (drop m) (map values columns) = v
+    ∙ ap (λ l. map (drop m) (map values l)) g in
+    rw back (
+      record {
+        kinds = k ∙ ap (λ l. map kind_of l) g ∙ h.kinds;
+        long =
+            rw cells (AreLong-drop m n _ h.long);
+      },
+      rw cells (rows_of-drop m n _ h.long),
+    )
 
-pub rest_step_at : (types : List ColumnType) (columns given now : List Column) (m n len count : ℕ) → AreColumns types columns n → given ≡ columns → length now ≡ length given → len ≡ length columns → map kind_of now ≡ map kind_of given → map values now ≡ map (drop m) (map values given) → count ≡ n - m → (AreColumns types (take len (now ++ drop (length now) columns)) count) × (rows_of count (map values (take len (now ++ drop (length now) columns))) ≡ drop m (rows_of n (map values columns)))
-rest_step_at types columns given now m n len count h g l w k v e = rw e (rest_step types columns given now m n len h g l w k v)
+pub rest_step_at : (types : List ColumnType) (columns given now : List Column) (m n len count : ℕ)
+    → AreColumns types columns n → given ≡ columns → length now ≡ length given
+    → len ≡ length columns → map kind_of now ≡ map kind_of given
+    → map values now ≡ map (drop m) (map values given) → count ≡ n - m
+    → (AreColumns types (take len (now ++ drop (length now) columns)) count) × (rows_of count (map
+    values (take len (now ++ drop (length now) columns))) ≡ drop m (rows_of n (map values columns)))
+rest_step_at types columns given now m n len count h g l w k v e =
+    rw e (rest_step types columns given now m n len h g l w k v)

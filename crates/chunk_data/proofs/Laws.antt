@@ -1,77 +1,97 @@
 -- The law between rows and columns, for all code that works column by column.
-use Rattle.chunk_data.proofs.Imports.{All, AreLong, Column, ColumnType, FitsType, FitsTypes, Int64, List, Row, Text, UInt64, Value, [], adds, ap, arith, get_or, get_or-replicate, joined, kind_of, length, length-map, length-replicate, map, refl, replicate, rows_of, subst, suc, sym, value_at, values, zero, ℕ, ◌++◌, ◌+◌, ◌<◌, ◌∙◌, ◌∷◌, ◌≡◌}
+use Rattle.chunk_data.proofs.Imports.{All, AreLong, Column, ColumnType, FitsType, FitsTypes, Int64, List, Row, Text, UInt64, Value, [], adds, ap, arith, get_or, get_or-replicate, joined, kind_of, length, length-map, length-replicate, map, refl, replicate, rows_of, suc, sym, value_at, values, zero, ℕ, ◌++◌, ◌+◌, ◌<◌, ◌∙◌, ◌∷◌, ◌≡◌}
 use Rattle.chunk_data.specs.declared.typed_value.ColumnType.TheVariants as type
 use Rattle.chunk_data.specs.declared.typed_value.Value.TheVariants as value
 use Rattle.chunk_data.proofs.Rows.{AreLong-joined, AreLong-row}
 pub use Rattle.chunk_data.proofs.Rows.{length-rows_of, column_of-rows_of, row_of-rows_of, rows_of_push}
 
 -- ---- columns made from rows: one for each `e`, with `value e row` at each row
-pub AreLong-made : {E X R : Type 0} (value : E → R → X) (es : List E) (rows : List R) → AreLong (length rows) (map (λ e. map (λ row. value e row) rows) es)
+pub AreLong-made : {E X R : Type 0} (value : E → R → X) (es : List E) (rows : List R)
+    → AreLong (length rows) (map (λ e. map (λ row. value e row) rows) es)
 AreLong-made value [] rows = tt
-AreLong-made value (e ∷ es) rows = (length-map rows (λ row. value e row), AreLong-made value es rows)
+AreLong-made value (e ∷ es) rows = search (arith, length-map, AreLong-made value es rows)
 
-no_values : {R : Type 0} (X : Type 0) (rows : List R) → let none : List (List X) = replicate (length rows) [] in none ≡ map (λ row. []) rows
+no_values : {R : Type 0} (X : Type 0) (rows : List R)
+    → let none : List (List X) = replicate (length rows) [] in none ≡ map (λ row. []) rows
 no_values X [] = refl
 no_values X (row ∷ rows) = ap (λ l. [] ∷ l) (no_values X rows)
 
-adds-map : {X R : Type 0} (f : R → X) (g : R → List X) (rows : List R) → adds (map f rows) (map g rows) ≡ map (λ row. f row ∷ g row) rows
+adds-map : {X R : Type 0} (f : R → X) (g : R → List X) (rows : List R)
+    → adds (map f rows) (map g rows) ≡ map (λ row. f row ∷ g row) rows
 adds-map f g [] = refl
 adds-map f g (row ∷ rows) = ap (λ l. (f row ∷ g row) ∷ l) (adds-map f g rows)
 
-pub rows_of-made : {E X R : Type 0} (value : E → R → X) (es : List E) (rows : List R) → rows_of (length rows) (map (λ e. map (λ row. value e row) rows) es) ≡ map (λ row. map (λ e. value e row) es) rows
+pub rows_of-made : {E X R : Type 0} (value : E → R → X) (es : List E) (rows : List R)
+    → rows_of (length rows) (map (λ e. map (λ row. value e row) rows) es)
+    ≡ map (λ row. map (λ e. value e row) es) rows
 rows_of-made {X = X} value [] rows = no_values X rows
-rows_of-made value (e ∷ es) rows =
-    ap (λ l. adds (map (λ row. value e row) rows) l) (rows_of-made value es rows) ∙ adds-map (λ row. value e row) (λ row. map (λ e. value e row) es) rows
+rows_of-made value (e ∷ es) rows = search (arith, adds-map, rows_of-made value es rows)
 
--- the same for columns whose values are known by an equation, as a caller of `Chunk::of_columns` has them
-pub AreLong_of_made : {E X R : Type 0} (value : E → R → X) (es : List E) (rows : List R) (columns : List (List X)) (n : ℕ) → columns ≡ map (λ e. map (λ row. value e row) rows) es → n ≡ length rows → AreLong n columns
+-- the same for columns whose values are known by an equation, as a caller of `Chunk::of_columns`
+-- has them
+pub AreLong_of_made : {E X R : Type 0} (value : E → R → X) (es : List E) (rows : List R)
+    (columns : List (List X)) (n : ℕ) → columns ≡ map (λ e. map (λ row. value e row) rows) es
+    → n ≡ length rows → AreLong n columns
 AreLong_of_made value es rows columns n c e = rw (c, e) (AreLong-made value es rows)
 
-pub rows_of_made : {E X R : Type 0} (value : E → R → X) (es : List E) (rows : List R) (columns : List (List X)) (n : ℕ) → columns ≡ map (λ e. map (λ row. value e row) rows) es → n ≡ length rows → rows_of n columns ≡ map (λ row. map (λ e. value e row) es) rows
+pub rows_of_made : {E X R : Type 0} (value : E → R → X) (es : List E) (rows : List R)
+    (columns : List (List X)) (n : ℕ) → columns ≡ map (λ e. map (λ row. value e row) rows) es
+    → n ≡ length rows → rows_of n columns ≡ map (λ row. map (λ e. value e row) es) rows
 rows_of_made value es rows columns n c e = rw (c, e) (rows_of-made value es rows)
 
 -- ---- columns beside columns make longer rows
-joined-replicate : {X : Type 0} (n : ℕ) (rows : List (List X)) → length rows ≡ n → joined (replicate n []) rows ≡ rows
+joined-replicate : {X : Type 0} (n : ℕ) (rows : List (List X)) → length rows ≡ n
+    → joined (replicate n []) rows ≡ rows
 joined-replicate zero [] e = refl
 joined-replicate zero (row ∷ rows) e = absurd (omega arith)
 joined-replicate (suc n) [] e = absurd (omega arith)
 joined-replicate (suc n) (row ∷ rows) e = ap (λ l. row ∷ l) (joined-replicate n rows (omega arith))
 
-joined-adds : {X : Type 0} (column : List X) (rows others : List (List X)) → adds column (joined rows others) ≡ joined (adds column rows) others
+joined-adds : {X : Type 0} (column : List X) (rows others : List (List X))
+    → adds column (joined rows others) ≡ joined (adds column rows) others
 joined-adds [] rows others = refl
 joined-adds (x ∷ column) [] others = refl
 joined-adds (x ∷ column) (row ∷ rows) [] = refl
-joined-adds (x ∷ column) (row ∷ rows) (other ∷ others) = ap (λ l. (x ∷ (row ++ other)) ∷ l) (joined-adds column rows others)
+joined-adds (x ∷ column) (row ∷ rows) (other ∷ others) =
+    ap (λ l. (x ∷ (row ++ other)) ∷ l) (joined-adds column rows others)
 
-pub AreLong-append : {X : Type 0} (n : ℕ) (columns others : List (List X)) → AreLong n columns → AreLong n others → AreLong n (columns ++ others)
+pub AreLong-append : {X : Type 0} (n : ℕ) (columns others : List (List X)) → AreLong n columns
+    → AreLong n others → AreLong n (columns ++ others)
 AreLong-append n [] others h k = k
 AreLong-append n (column ∷ columns) others h k = (h.0, AreLong-append n columns others h.1 k)
 
-pub rows_of-append : {X : Type 0} (n : ℕ) (columns others : List (List X)) → AreLong n others → rows_of n (columns ++ others) ≡ joined (rows_of n columns) (rows_of n others)
-rows_of-append n [] others k = sym (joined-replicate n (rows_of n others) (length-rows_of n others k))
-rows_of-append n (column ∷ columns) others k = ap (λ l. adds column l) (rows_of-append n columns others k) ∙ joined-adds column (rows_of n columns) (rows_of n others)
+pub rows_of-append : {X : Type 0} (n : ℕ) (columns others : List (List X)) → AreLong n others
+    → rows_of n (columns ++ others) ≡ joined (rows_of n columns) (rows_of n others)
+rows_of-append n [] others k = search (arith, joined-replicate, length-rows_of)
+rows_of-append n (column ∷ columns) others k = ap (λ l. adds column l)
+    (rows_of-append n columns others k) ∙ joined-adds column (rows_of n columns) (rows_of n others)
 
 -- ---- a row that is pushed value by value
-pub AreLong_push : {X : Type 0} (n : ℕ) (columns : List (List X)) (row : List X) → AreLong n columns → AreLong (n + 1) (joined columns (map (λ v. v ∷ []) row))
-AreLong_push n columns row h = AreLong-joined n 1 columns (map (λ v. v ∷ []) row) h (AreLong-row row)
+pub AreLong_push : {X : Type 0} (n : ℕ) (columns : List (List X)) (row : List X) → AreLong n columns
+    → AreLong (n + 1) (joined columns (map (λ v. v ∷ []) row))
+AreLong_push n columns row h = search (arith, AreLong-joined, AreLong-row)
 
 -- ---- rows that fit types
-pub length-FitsTypes : (types : List ColumnType) (row : Row) → FitsTypes types row → length row ≡ length types
+pub length-FitsTypes : (types : List ColumnType) (row : Row) → FitsTypes types row
+    → length row ≡ length types
 length-FitsTypes [] [] h = refl
 length-FitsTypes [] (v ∷ row) h = absurd h
 length-FitsTypes (t ∷ types) [] h = absurd h
 length-FitsTypes (t ∷ types) (v ∷ row) h = ap suc (length-FitsTypes types row h.1)
 
-pub FitsTypes-at : (types : List ColumnType) (row : Row) (c : ℕ) (t : ColumnType) (v : Value) → FitsTypes types row → c < length row → FitsType (get_or types c t) (get_or row c v)
+pub FitsTypes-at : (types : List ColumnType) (row : Row) (c : ℕ) (t : ColumnType) (v : Value)
+    → FitsTypes types row → c < length row → FitsType (get_or types c t) (get_or row c v)
 FitsTypes-at [] [] c t v h lt = absurd (omega arith)
 FitsTypes-at [] (w ∷ row) c t v h lt = absurd h
 FitsTypes-at (s ∷ types) [] c t v h lt = absurd h
 FitsTypes-at (s ∷ types) (w ∷ row) zero t v h lt = h.0
 FitsTypes-at (s ∷ types) (w ∷ row) (suc c) t v h lt = FitsTypes-at types row c t v h.1 (omega arith)
 
-all_mapped : {X : Type 0} (P : Value → Type 0) (f : X → Value) → ((x : X) → P (f x)) → (xs : List X) → All P (map f xs)
+all_mapped : {X : Type 0} (P : Value → Type 0) (f : X → Value) → ((x : X) → P (f x)) → (xs : List X)
+    → All P (map f xs)
 all_mapped P f h [] = λ k d lt. absurd (omega arith)
-all_mapped P f h (x ∷ xs) = λ k d lt. elim k as (λ k. k < length (map f (x ∷ xs)) → P (get_or (map f (x ∷ xs)) k d)) [ zero ↦ λ _. h x | suc k ↦ λ lt. all_mapped P f h xs k d (omega arith) ] lt
+all_mapped P f h (x ∷ xs) = λ k d lt. elim k as (λ k. k < length (map f (x ∷ xs)) → P (get_or (map f
+    (x ∷ xs)) k d)) [ zero ↦ λ _. h x | suc k ↦ λ lt. all_mapped P f h xs k d (omega arith) ] lt
 
 -- a column's values fit its type
 pub all_fit : (column : Column) → All (FitsType (kind_of column)) (values column)
@@ -79,24 +99,43 @@ all_fit (Int64 numbers) = all_mapped (FitsType type.Int64) value.Int (λ x. refl
 all_fit (UInt64 numbers) = all_mapped (FitsType type.UInt64) value.UInt (λ x. refl) numbers.items
 all_fit (Text texts) = all_mapped (FitsType type.Text) value.Text (λ x. refl) texts
 
-all_adds : (t : ColumnType) (types : List ColumnType) (column : List Value) (rows : List Row) → length column ≡ length rows → All (FitsType t) column → All (FitsTypes types) rows → All (FitsTypes (t ∷ types)) (adds column rows)
+all_adds : (t : ColumnType) (types : List ColumnType) (column : List Value) (rows : List Row)
+    → length column ≡ length rows → All (FitsType t) column → All (FitsTypes types) rows
+    → All (FitsTypes (t ∷ types)) (adds column rows)
 all_adds t types [] rows e h r = λ k d lt. absurd (omega arith)
 all_adds t types (x ∷ column) [] e h r = λ k d lt. absurd (omega arith)
 all_adds t types (x ∷ column) (row ∷ rows) e h r =
-    let more : All (FitsTypes (t ∷ types)) (adds column rows) = all_adds t types column rows (omega arith) (λ k d lt. h (suc k) d (omega arith)) (λ k d lt. r (suc k) d (omega arith)) in
-    λ k d lt. elim k as (λ k. k < length (adds (x ∷ column) (row ∷ rows)) → FitsTypes (t ∷ types) (get_or (adds (x ∷ column) (row ∷ rows)) k d)) [ zero ↦ λ _. (h 0 x (omega arith), r 0 row (omega arith)) | suc k ↦ λ lt. more k d (omega arith) ] lt
+    let more : All (FitsTypes (t ∷ types)) (adds column rows) = all_adds t types column rows
+    (omega arith) (λ k d lt. h (suc k) d (omega arith)) (λ k d lt. r (suc k) d (omega arith)) in
+    λ k d lt. elim k as (λ k. k < length (adds (x ∷ column) (row ∷ rows))
+    → FitsTypes (t ∷ types) (get_or (adds (x ∷ column) (row ∷ rows)) k d)) [
+      | zero ↦ λ _.
+          (h 0 x (omega arith), r 0 row (omega arith))
+      | suc k ↦ λ lt. more k d (omega arith)
+    ] lt
 
 -- each row of columns fits their types
-pub rows_fit : (columns : List Column) (n : ℕ) → AreLong n (map values columns) → All (FitsTypes (map kind_of columns)) (rows_of n (map values columns))
-rows_fit [] n h = λ k d lt. (let e : get_or (replicate n []) k d ≡ [] = get_or-replicate n k [] d (omega (arith, let none : Row = [] in length-replicate n none)) in let P : Row → Type 0 = FitsTypes [] in subst P (sym e) tt)
-rows_fit (column ∷ columns) n h = all_adds (kind_of column) (map kind_of columns) (values column) (rows_of n (map values columns)) (h.0 ∙ sym (length-rows_of n (map values columns) h.1)) (all_fit column) (rows_fit columns n h.1)
+pub rows_fit : (columns : List Column) (n : ℕ) → AreLong n (map values columns)
+    → All (FitsTypes (map kind_of columns)) (rows_of n (map values columns))
+rows_fit [] n h = search (arith, get_or-replicate, length-replicate)
+rows_fit (column ∷ columns) n h = all_adds (kind_of column) (map kind_of columns) (values column)
+    (rows_of n (map values columns)) (h.0 ∙ sym (length-rows_of n (map values columns) h.1))
+    (all_fit column) (rows_fit columns n h.1)
 
 -- ---- a column of rows that fit
-pub column_fits : (types : List ColumnType) (rows : List Row) (c : ℕ) (t : ColumnType) → All (FitsTypes types) rows → c < length types → All (FitsType (get_or types c t)) (map (λ row. value_at row c) rows)
+pub column_fits : (types : List ColumnType) (rows : List Row) (c : ℕ) (t : ColumnType)
+    → All (FitsTypes types) rows → c < length types
+    → All (FitsType (get_or types c t)) (map (λ row. value_at row c) rows)
 column_fits types [] c t h lt = λ k d l. absurd (omega arith)
 column_fits types (row ∷ rows) c t h lt =
     let here : FitsTypes types row = h 0 row (omega arith) in
-    let more : All (FitsType (get_or types c t)) (map (λ row. value_at row c) rows) = column_fits types rows c t (λ k d l. h (suc k) d (omega arith)) lt in
-    λ k d l. elim k as (λ k. k < length (map (λ row. value_at row c) (row ∷ rows)) → FitsType (get_or types c t) (get_or (map (λ row. value_at row c) (row ∷ rows)) k d)) [ zero ↦ λ _. FitsTypes-at types row c t _ here (omega (arith, length-FitsTypes types row here)) | suc k ↦ λ l. more k d (omega arith) ] l
+    let more : All (FitsType (get_or types c t)) (map (λ row. value_at row c) rows) =
+    column_fits types rows c t (λ k d l. h (suc k) d (omega arith)) lt in
+    λ k d l. elim k as (λ k. k < length (map (λ row. value_at row c) (row ∷ rows))
+    → FitsType (get_or types c t) (get_or (map (λ row. value_at row c) (row ∷ rows)) k d)) [
+      | zero ↦ λ _. FitsTypes-at types row c t _ here
+          (omega (arith, length-FitsTypes types row here))
+      | suc k ↦ λ l. more k d (omega arith)
+    ] l
 
 -- ---- keys of chunks of the same types

@@ -1,4 +1,5 @@
--- The names of this crate's definitions in one place: who needs several of its files imports from here.
+-- The names of this crate's definitions in one place: who needs several of its files imports from
+-- here.
 pub use Rattle.chunk_data.specs.Columns.{AreColumns, kind_of, values}
 pub use Rattle.chunk_data.specs.Rows.{AreLong, adds, joined, kept, row_at, rows_of}
 pub use Rattle.chunk_data.specs.Texts.{AreEnds, cut}

@@ -23,7 +23,8 @@ abbrev pub AreLong : {X : Type 0} → ℕ → List (List X) → Type 0
 AreLong n [] = Unit {0}
 AreLong n (column ∷ columns) = (length column ≡ n) × AreLong n columns
 
--- each column with the values of the one beside it after its own, or each row with those of the row beside it
+-- each column with the values of the one beside it after its own, or each row with those of the row
+-- beside it
 abbrev pub joined : {X : Type 0} → List (List X) → List (List X) → List (List X)
 joined [] others = []
 joined (column ∷ columns) [] = []

@@ -59,8 +59,8 @@ values_at (c ∷ cs) values = value_at values c ∷ values_at cs values
 abbrev pub text_cmp : List ℕ → List ℕ → Ordering
 text_cmp = slice_cmp nat_cmp
 
--- The order of the values of a column. Values of two types never stand in one column; there the first of
--- Int64, UInt64 and String comes first.
+-- The order of the values of a column. Values of two types never stand in one column; there the
+-- first of Int64, UInt64 and String comes first.
 abbrev pub value_cmp : Value → Value → Ordering
 value_cmp (Int a) (Int b) = int_cmp a b
 value_cmp (Int a) (UInt b) = Less
@@ -83,9 +83,11 @@ key_cmp true a b = ordering_reverse (value_cmp a b)
 -- the key's column stands in both lists of types, with one type
 abbrev pub AgreeOnKey : List ColumnType → List ColumnType → SortKey → Type 0
 AgreeOnKey left right key =
-    (key.column < length left) × (key.column < length right) × (slice_get left key.column ≡ slice_get right key.column)
+    (key.column < length left) × (key.column < length right)
+    × (slice_get left key.column ≡ slice_get right key.column)
 
 -- rows are compared by the keys in turn
 unfoldable pub row_cmp : List SortKey → Row → Row → Ordering
 row_cmp [] a b = Equal
-row_cmp (key ∷ keys) a b = ordering_then (key_cmp key.descending (value_at a key.column) (value_at b key.column)) (row_cmp keys a b)
+row_cmp (key ∷ keys) a b = ordering_then
+    (key_cmp key.descending (value_at a key.column) (value_at b key.column)) (row_cmp keys a b)

@@ -37,7 +37,8 @@ pub(crate) fn keep_all(columns: &mut [Column], mask: &[bool])
     }
 }
 
-/// Leaves of each column the first n values: a reader takes back the fields of a record that it gives up.
+/// Leaves of each column the first n values: a reader takes back the fields of a record that it
+/// gives up.
 pub fn truncate_columns(columns: &mut [Column], n: usize)
     ensures kinds { map kind_of columns.new ≡ map kind_of columns.old }
     ensures front { map values columns.new ≡ map (take n) (map values columns.old) }
@@ -56,7 +57,8 @@ pub(crate) fn append_all(
     requires agree { map kind_of others.now ≡ map kind_of columns.old }
     requires long { AreLong count (map values columns.old) }
     ensures kinds { map kind_of columns.new ≡ map kind_of columns.old }
-    ensures ok { OnOk result (map values columns.new ≡ joined (map values columns.old) (map values others.now)) }
+    ensures ok { OnOk result
+        (map values columns.new ≡ joined (map values columns.old) (map values others.now)) }
     ensures err { OnErr result (map values columns.new ≡ map values columns.old) }
 {
     for i in 0..columns.len() {
@@ -76,7 +78,8 @@ pub(crate) fn push_all(columns: &mut [Column], row: &[Value], count: usize) -> R
     requires fits { FitsTypes (map kind_of columns.old) row.now }
     requires long { AreLong count (map values columns.old) }
     ensures kinds { map kind_of columns.new ≡ map kind_of columns.old }
-    ensures ok { OnOk result (map values columns.new ≡ joined (map values columns.old) (map (λ v. v ∷ []) row.now)) }
+    ensures ok { OnOk result
+        (map values columns.new ≡ joined (map values columns.old) (map (λ v. v ∷ []) row.now)) }
     ensures err { OnErr result (map values columns.new ≡ map values columns.old) }
 {
     for i in 0..columns.len() {
@@ -126,7 +129,8 @@ pub(crate) fn gather_all(
     requires long { AreLong count (map values columns.now) }
     requires in_range { All (λ p. p < count) places.now }
     ensures kinds { IfOk result (λ v. map kind_of v.items ≡ map kind_of columns.now) }
-    ensures gathered { IfOk result (λ v. map values v.items ≡ map (λ column. map (value_at column) places.now) (map values columns.now)) }
+    ensures gathered { IfOk result (λ v. map values v.items
+        ≡ map (λ column. map (value_at column) places.now) (map values columns.now)) }
 {
     let mut gathered = Vec::new(alloc);
     for column in columns {

@@ -21,7 +21,8 @@ pub(crate) fn keep_items<T: Copy>(items: &mut Vec<T>, mask: &[bool])
 /// The numbers at the places, in the places' order.
 pub(crate) fn gather_ints(items: &Vec<i64>, places: &[usize]) -> Result<Vec<i64>, Memory>
     requires { All (λ p. p < length items.now.items) places.now }
-    ensures { IfOk result (λ v. v.items ≡ map (λ p. slice_index_or items.now.items p (pos 0)) places.now) }
+    ensures { IfOk result
+        (λ v. v.items ≡ map (λ p. slice_index_or items.now.items p (pos 0)) places.now) }
 {
     let numbers = items.as_slice();
     Ok(

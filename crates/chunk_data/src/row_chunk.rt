@@ -161,13 +161,14 @@ impl Chunk {
         Ok(chunk)
     }
 
-    /// The other's rows after its own, which are copied, but a chunk without rows takes the other's columns.
-    /// `Err` means want of memory: the other comes back and nothing has changed.
+    /// The other's rows after its own, which are copied, but a chunk without rows takes the other's
+    /// columns. `Err` means want of memory: the other comes back and nothing has changed.
     pub fn append(&mut self, other: Chunk) -> Result<(), Chunk>
         requires { other.types ≡ self.old.types }
         ensures types { self.new.types ≡ self.old.types }
         ensures ok { OnOk result (self.new.rows ≡ self.old.rows ++ other.rows) }
-        ensures err { MatchResult result (λ _. Unit {0}) (λ c. (c ≡ other) × (self.new.rows ≡ self.old.rows)) }
+        ensures err { MatchResult result (λ _. Unit {0})
+            (λ c. (c ≡ other) × (self.new.rows ≡ self.old.rows)) }
     {
         if self.count == 0 {
             *self = other;
@@ -181,7 +182,8 @@ impl Chunk {
         requires { other.types ≡ self.old.types }
         ensures types { self.new.types ≡ self.old.types }
         ensures ok { OnOk result (self.new.rows ≡ self.old.rows ++ other.rows) }
-        ensures err { MatchResult result (λ _. Unit {0}) (λ c. (c ≡ other) × (self.new.rows ≡ self.old.rows)) }
+        ensures err { MatchResult result (λ _. Unit {0})
+            (λ c. (c ≡ other) × (self.new.rows ≡ self.old.rows)) }
     {
         let Some(count) = self.count.checked_add(other.count) else {
             return Err(other);
@@ -225,7 +227,8 @@ impl Chunk {
         requires { n ≤ length self.old.rows }
         ensures types { self.new.types ≡ self.old.types }
         ensures front_types { IfOk result (λ c. c.types ≡ self.old.types) }
-        ensures ok { IfOk result (λ c. (c.rows ≡ take n self.old.rows) × (self.new.rows ≡ drop n self.old.rows)) }
+        ensures ok { IfOk result
+            (λ c. (c.rows ≡ take n self.old.rows) × (self.new.rows ≡ drop n self.old.rows)) }
         ensures err { OnErr result (self.new.rows ≡ self.old.rows) }
     {
         let kinds = self.kinds.copy()?;

@@ -29,7 +29,8 @@ fn compare_by(left: &Chunk, i: usize, right: &Chunk, j: usize, key: &SortKey) ->
     requires here { i < length left.now.rows }
     requires there { j < length right.now.rows }
     requires key { AgreeOnKey left.now.types right.now.types key.now }
-    ensures { result ≡ key_cmp key.now.descending (value_at (row_at left.now.rows i) key.now.column) (value_at (row_at right.now.rows j) key.now.column) }
+    ensures { result ≡ key_cmp key.now.descending (value_at (row_at left.now.rows i) key.now.column)
+        (value_at (row_at right.now.rows j) key.now.column) }
 {
     let place = key.column as usize;
     let order = left.column(place).compare(i, right.column(place), j);

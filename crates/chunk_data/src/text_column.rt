@@ -191,7 +191,8 @@ fn keep_texts(bytes: &mut Vec<u8>, ends: &mut Vec<usize>, mask: &[bool])
     requires ends { AreEnds 0 ends.old.items (length bytes.old.items) }
     requires long { length mask.now ≡ length ends.old.items }
     ensures ends { AreEnds 0 ends.new.items (length bytes.new.items) }
-    ensures kept { cut bytes.new.items 0 ends.new.items ≡ kept mask.now (cut bytes.old.items 0 ends.old.items) }
+    ensures kept { cut bytes.new.items 0 ends.new.items
+        ≡ kept mask.now (cut bytes.old.items 0 ends.old.items) }
 {
     let mut written = 0;
     let mut count = 0;

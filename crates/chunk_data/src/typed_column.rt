@@ -67,7 +67,8 @@ impl Column {
         Ok(())
     }
 
-    /// Adds a value that fits the column's type; after an error nothing has changed and the value is dropped.
+    /// Adds a value that fits the column's type; after an error nothing has changed and the value
+    /// is dropped.
     pub fn push(&mut self, value: Value) -> Result<(), Memory>
         requires { FitsType (kind_of self.old) value }
         ensures kind { kind_of self.new ≡ kind_of self.old }

@@ -3,21 +3,28 @@ use Rattle.chunk_data.proofs.ColumnLists.{Joined-more, Joined-all, Joined-back, 
 use Rattle.chunk_data.proofs.column_list.append_all.Goals as goal
 
 pub append-requires : goal.append-requires
-append-requires c = agrees_at kind_of _ _ _ _ _ _ c.requires.agree c.loop-i.invariant.kinds (omega arith) c.index-others-i.is
+append-requires c = agrees_at kind_of _ _ _ _ _ _ c.requires.agree c.loop-i.invariant.kinds
+    (omega arith) c.index-others-i.is
 
 pub returns-in-Err-clause-kinds : goal.returns-in-Err-clause-kinds
 returns-in-Err-clause-kinds c =
-    c.truncate_columns.ensures.kinds ∙ (Joined-same c.index-columns-i.result _ c.loop-i.invariant (omega arith) c.append.ensures.kind c.in-Err.ensures.err).kinds
+    c.truncate_columns.ensures.kinds ∙ (Joined-same c.index-columns-i.result _ c.loop-i.invariant
+    (omega arith) c.append.ensures.kind c.in-Err.ensures.err).kinds
 
 pub returns-in-Err-clause-err : goal.returns-in-Err-clause-err
 returns-in-Err-clause-err c =
-    c.truncate_columns.ensures.front ∙ Joined-back _ (Joined-same c.index-columns-i.result _ c.loop-i.invariant (omega arith) c.append.ensures.kind c.in-Err.ensures.err) c.requires.long
+    c.truncate_columns.ensures.front ∙ Joined-back _ (Joined-same c.index-columns-i.result _
+    c.loop-i.invariant (omega arith) c.append.ensures.kind c.in-Err.ensures.err) c.requires.long
 
 pub loop-i-preserved : goal.loop-i-preserved
 loop-i-preserved c =
-    let long : length (map values c.args.others.now) ≡ length c.args.columns.now = agreed_long kind_of _ _ values c.requires.agree in
-    let lt : c.loop-i.i < length c.args.others.now = omega (arith, long, length-map c.args.others.now values, Joined-long c.loop-i.invariant) in
-    Joined-more c.index-columns-i.result _ _ c.loop-i.invariant long (omega arith) c.append.ensures.kind (other_at values _ _ _ c.index-others-i.is lt) c.in-Ok.ensures.ok
+    let long : length (map values c.args.others.now) ≡ length c.args.columns.now =
+    agreed_long kind_of _ _ values c.requires.agree in
+    let lt : c.loop-i.i < length c.args.others.now =
+    omega (arith, long, length-map c.args.others.now values, Joined-long c.loop-i.invariant) in
+    Joined-more c.index-columns-i.result _ _ c.loop-i.invariant long (omega arith)
+    c.append.ensures.kind (other_at values _ _ _ c.index-others-i.is lt) c.in-Ok.ensures.ok
 
 pub returns-clause-ok : goal.returns-clause-ok
-returns-clause-ok c = Joined-all c.loop-i.invariant (agreed_long kind_of _ _ values c.requires.agree) (omega arith)
+returns-clause-ok c =
+    Joined-all c.loop-i.invariant (agreed_long kind_of _ _ values c.requires.agree) (omega arith)

@@ -4,24 +4,38 @@ use Rattle.chunk_data.proofs.Laws.{length-FitsTypes}
 use Rattle.chunk_data.proofs.column_list.push_all.Goals as goal
 
 pub push_copy-requires : goal.push_copy-requires
-push_copy-requires c = fits_at _ _ _ _ _ _ c.requires.fits c.loop-i.invariant.kinds (omega arith) c.index-row-i.is
+push_copy-requires c =
+    fits_at _ _ _ _ _ _ c.requires.fits c.loop-i.invariant.kinds (omega arith) c.index-row-i.is
 
 pub returns-in-Err-clause-kinds : goal.returns-in-Err-clause-kinds
 returns-in-Err-clause-kinds c =
-    c.truncate_columns.ensures.kinds ∙ (Joined-same c.index-columns-i.result _ c.loop-i.invariant (omega arith) c.push_copy.ensures.kind c.in-Err.ensures.err).kinds
+    c.truncate_columns.ensures.kinds ∙ (Joined-same c.index-columns-i.result _ c.loop-i.invariant
+    (omega arith) c.push_copy.ensures.kind c.in-Err.ensures.err).kinds
 
 pub returns-in-Err-clause-err : goal.returns-in-Err-clause-err
 returns-in-Err-clause-err c =
-    c.truncate_columns.ensures.front ∙ Joined-back _ (Joined-same c.index-columns-i.result _ c.loop-i.invariant (omega arith) c.push_copy.ensures.kind c.in-Err.ensures.err) c.requires.long
+    c.truncate_columns.ensures.front
+    ∙ Joined-back _ (Joined-same c.index-columns-i.result _ c.loop-i.invariant (omega arith)
+    c.push_copy.ensures.kind c.in-Err.ensures.err) c.requires.long
 
 pub loop-i-preserved : goal.loop-i-preserved
 loop-i-preserved c =
-    let long : length (map (λ v. v ∷ []) c.args.row.now) ≡ length c.args.columns.now = fits_long _ _ (λ v. v ∷ []) c.requires.fits in
-    let lt : c.loop-i.i < length c.args.row.now = omega (arith, long, length-map c.args.row.now (λ v. v ∷ []), Joined-long c.loop-i.invariant) in
-    Joined-more c.index-columns-i.result _ _ c.loop-i.invariant long (omega arith) c.push_copy.ensures.kind (other_at (λ v. v ∷ []) _ _ _ c.index-row-i.is lt) c.in-Ok.ensures.ok
+    let long : length (map (λ v. v ∷ []) c.args.row.now) ≡ length c.args.columns.now =
+    fits_long _ _ (λ v. v ∷ []) c.requires.fits in
+    let lt : c.loop-i.i < length c.args.row.now = omega
+    (arith, long, length-map c.args.row.now (λ v. v ∷ []), Joined-long c.loop-i.invariant) in
+    Joined-more c.index-columns-i.result _ _ c.loop-i.invariant long (omega arith)
+    c.push_copy.ensures.kind (other_at (λ v. v ∷ []) _ _ _ c.index-row-i.is lt)
+    c.in-Ok.ensures.ok
 
 pub returns-clause-ok : goal.returns-clause-ok
-returns-clause-ok c = Joined-all c.loop-i.invariant (fits_long _ _ (λ v. v ∷ []) c.requires.fits) (omega arith)
+returns-clause-ok c =
+    Joined-all c.loop-i.invariant (fits_long _ _ (λ v. v ∷ []) c.requires.fits) (omega arith)
 
 pub bounds-row-i : goal.bounds-row-i
-bounds-row-i c = omega (arith, length-FitsTypes _ _ c.requires.fits, length-map c.args.columns.now kind_of, Joined-long c.loop-i.invariant)
+bounds-row-i c = omega (
+  arith,
+  length-FitsTypes _ _ c.requires.fits,
+  length-map c.args.columns.now kind_of,
+  Joined-long c.loop-i.invariant,
+)

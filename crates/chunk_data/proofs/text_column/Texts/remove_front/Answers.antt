@@ -4,19 +4,24 @@ use Rattle.chunk_data.proofs.text_column.Texts.remove_front.Goals as goal
 
 pub returns-then-len-n : goal.returns-then-len-n
 returns-then-len-n c =
-    let e : length c.args.self.now ≡ length c.self.inside.ends.items = sym (ap length c.self.view_is) ∙ length-cut _ _ _ in
-    rw (c.clear.ensures.items, c.clear-then-len-n.ensures.items) (sym (drop_all c.args.n c.args.self.now (omega arith)))
+    let e : length c.args.self.now ≡ length c.self.inside.ends.items =
+    sym (ap length c.self.view_is) ∙ length-cut _ _ _ in
+    rw (c.clear.ensures.items, c.clear-then-len-n.ensures.items)
+    (sym (drop_all c.args.n c.args.self.now (omega arith)))
 
 pub shift_down-requires : goal.shift_down-requires
 shift_down-requires c =
-    rest_above _ _ _ c.args.n _ c.self.invariant (omega arith) (rw (← c.as_slice.ensures.value) c.start_of-start.ensures) c.remove_front-2.ensures
+    rest_above _ _ _ c.args.n _ c.self.invariant (omega arith)
+    (rw (← c.as_slice.ensures.value) c.start_of-start.ensures) c.remove_front-2.ensures
 
 pub invariant_of-self-2 : goal.invariant_of-self-2
 invariant_of-self-2 c =
     rw (c.shift_down.ensures, c.remove_front-2.ensures, c.remove_front.ensures)
-    (AreEnds_rest _ _ c.args.n _ c.self.invariant (omega arith) (rw (← c.as_slice.ensures.value) c.start_of-start.ensures))
+    (AreEnds_rest _ _ c.args.n _ c.self.invariant (omega arith)
+    (rw (← c.as_slice.ensures.value) c.start_of-start.ensures))
 
 pub returns : goal.returns
 returns c =
     rw (c.shift_down.ensures, c.remove_front-2.ensures, c.remove_front.ensures)
-    (cut_rest_of _ _ c.args.n _ c.self.invariant (omega arith) (rw (← c.as_slice.ensures.value) c.start_of-start.ensures) ∙ ap (λ l. drop c.args.n l) c.self.view_is)
+    (cut_rest_of _ _ c.args.n _ c.self.invariant (omega arith) (rw (← c.as_slice.ensures.value)
+    c.start_of-start.ensures) ∙ ap (λ l. drop c.args.n l) c.self.view_is)
