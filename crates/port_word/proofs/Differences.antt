@@ -1,5 +1,5 @@
 -- Each call keeps the law of a list of actions, and what is true of every picture.
-use Rattle.port_word.proofs.Imports.{Action, Bool, ChangedByCalls, Close, Explains, Finish, Flags, InputPort, IsDifference, IsOnce, IsSound, List, Option, Picture, PortCall, Pull, Push, Table, [], after_call, after_calls, ap, can_push, cases_lt, chunk_step, close_call, closed, cond, emptied, eqb-false, eqb-true, false, finish_call, get_or, get_or-eq_default, holds_data, in_count, inl, input_allows, input_at, input_step, inr, is_out_finished, length, need_call, no_input, not, noted, noted_want, out_count, output_allows, output_at, output_step, over_flags, pull_call, push_call, refl, subst, sym, true, with_actions, with_input, with_needed, with_output, ℕ, ◌&&◌, ◌++◌, ◌<◌, ◌==◌, ◌||◌, ◌∙◌, ◌∷◌, ◌≡◌}
+use Rattle.port_word.proofs.Imports.{arith, Action, Bool, ChangedByCalls, Close, Explains, Finish, Flags, InputPort, IsDifference, IsOnce, IsSound, List, Option, Picture, PortCall, Pull, Push, Table, [], after_call, after_calls, ap, can_push, cases_lt, chunk_step, close_call, closed, cond, emptied, eqb-false, eqb-true, false, finish_call, get_or-eq_default, holds_data, in_count, input_allows, input_at, input_step, is_out_finished, need_call, not, noted, noted_want, out_count, output_allows, output_at, output_step, pull_call, push_call, refl, subst, sym, true, with_actions, with_input, with_needed, with_output, ℕ, ◌&&◌, ◌++◌, ◌<◌, ◌==◌, ◌||◌, ◌∙◌, ◌∷◌, ◌≡◌}
 use Rattle.port_word.proofs.Laws.{input_at-with_input, input_at-with_input-other, output_at-with_output, output_at-with_output-other}
 use Rattle.port_word.proofs.Soundness.{sound-pull, sound-close, sound-push, sound-finish, sound-want}
 use Rattle.port_word.proofs.Steps.{cond-ap, cond-same, needs, input_after-append, chunk_after-append, output_after-append, inputs_allow-append, outputs_allow-append, input_after-want, chunk_after-want, output_after-want, inputs_allow-want, outputs_allow-want}
@@ -12,81 +12,70 @@ record StepsTo (p : Picture) (a : Action) (q : Picture) : Type 0 where
   input_may : (i : ℕ) → input_allows i a (input_at p i).flags ≡ true
   output_may : (o : ℕ) → output_allows o a (output_at p o) ≡ true
 
-explains-step : (ins : ℕ → Flags) (chunks : ℕ → Option Table) (outs : ℕ → Flags) (p q : Picture) (a : Action) → StepsTo p a q → Explains ins chunks outs p.actions p → Explains ins chunks outs (p.actions ++ a ∷ []) q
-explains-step ins chunks outs p q a s e = record {
-  input_flags = λ i. s.flags i ∙ ap (λ f. input_step i a f) (e.input_flags i) ∙ sym (input_after-append i p.actions a (ins i));
-  input_chunks = λ i. s.chunk i ∙ ap (λ c. chunk_step i a c) (e.input_chunks i) ∙ sym (chunk_after-append i p.actions a (chunks i));
-  output_flags = λ o. s.output o ∙ ap (λ f. output_step o a f) (e.output_flags o) ∙ sym (output_after-append o p.actions a (outs o));
-  inputs_allow = λ i. inputs_allow-append i p.actions a (ins i) (e.inputs_allow i) (ap (λ f. input_allows i a f) (sym (e.input_flags i)) ∙ s.input_may i);
-  outputs_allow = λ o. outputs_allow-append o p.actions a (outs o) (e.outputs_allow o) (ap (λ f. output_allows o a f) (sym (e.output_flags o)) ∙ s.output_may o);
-}
+explains-step : (ins : ℕ → Flags) (chunks : ℕ → Option Table) (outs : ℕ → Flags) (p q : Picture)
+    (a : Action) → StepsTo p a q → Explains ins chunks outs p.actions p
+    → Explains ins chunks outs (p.actions ++ a ∷ []) q
+explains-step ins chunks outs p q a s e = search (
+  arith,
+  input_after-append,
+  chunk_after-append,
+  output_after-append,
+  inputs_allow-append,
+  outputs_allow-append,
+)
 
-turned-at : (g : InputPort → InputPort) (p : Picture) (j i : ℕ) (t : Bool) → (i == j) ≡ t → j < in_count p → input_at (with_input p j (g (input_at p j))) i ≡ cond t (g (input_at p i)) (input_at p i)
-turned-at g p j i true e lt =
-    let k : i ≡ j = eqb-true i j e in
-    ap (λ n. input_at (with_input p j (g (input_at p j))) n) k ∙ input_at-with_input p j (g (input_at p j)) lt ∙ ap (λ n. g (input_at p n)) (sym k)
-turned-at g p j i false e lt = input_at-with_input-other p j i (g (input_at p j)) (eqb-false i j e)
-
-turned : (g : InputPort → InputPort) (p : Picture) (j i : ℕ) → j < in_count p → input_at (with_input p j (g (input_at p j))) i ≡ cond (i == j) (g (input_at p i)) (input_at p i)
-turned g p j i lt = turned-at g p j i (i == j) refl lt
-
-turned-output-at : (g : Flags → Flags) (p : Picture) (j o : ℕ) (t : Bool) → (o == j) ≡ t → j < out_count p → output_at (with_output p j (g (output_at p j))) o ≡ cond t (g (output_at p o)) (output_at p o)
-turned-output-at g p j o true e lt =
-    let k : o ≡ j = eqb-true o j e in
-    ap (λ n. output_at (with_output p j (g (output_at p j))) n) k ∙ output_at-with_output p j (g (output_at p j)) lt ∙ ap (λ n. g (output_at p n)) (sym k)
-turned-output-at g p j o false e lt = output_at-with_output-other p j o (g (output_at p j)) (eqb-false o j e)
-
-turned-output : (g : Flags → Flags) (p : Picture) (j o : ℕ) → j < out_count p → output_at (with_output p j (g (output_at p j))) o ≡ cond (o == j) (g (output_at p o)) (output_at p o)
-turned-output g p j o lt = turned-output-at g p j o (o == j) refl lt
-
-allowed-at : (P : ℕ → Bool) (i j : ℕ) (t : Bool) → (i == j) ≡ t → P j ≡ true → (not t || P i) ≡ true
-allowed-at P i j true e h = ap P (eqb-true i j e) ∙ h
-allowed-at P i j false e h = refl
+turned : (g : InputPort → InputPort) (p : Picture) (j i : ℕ) → j < in_count p → input_at
+    (with_input p j (g (input_at p j))) i ≡ cond (i == j) (g (input_at p i)) (input_at p i)
+turned g p j i lt =
+    search (arith, eqb-true, input_at-with_input, input_at-with_input-other, eqb-false)
 
 allowed : (P : ℕ → Bool) (i j : ℕ) → P j ≡ true → (not (i == j) || P i) ≡ true
-allowed P i j h = allowed-at P i j (i == j) refl h
+allowed P i j h = search (arith, eqb-true)
 
-steps-pull : (p : Picture) (j : ℕ) → j < in_count p → holds_data (input_at p j).flags ≡ true → StepsTo p (Pull j) (noted (with_input p j (emptied (input_at p j))) (Pull j))
+steps-pull : (p : Picture) (j : ℕ) → j < in_count p → holds_data (input_at p j).flags ≡ true
+    → StepsTo p (Pull j) (noted (with_input p j (emptied (input_at p j))) (Pull j))
 unfolding with_actions with_input input_at output_at
 steps-pull p j lt h = record {
-  flags = λ i. ap (λ y. y.flags) (turned emptied p j i lt) ∙ cond-ap (λ y. y.flags) (i == j) (emptied (input_at p i)) (input_at p i);
-  chunk = λ i. ap (λ y. y.chunk) (turned emptied p j i lt) ∙ cond-ap (λ y. y.chunk) (i == j) (emptied (input_at p i)) (input_at p i);
+  flags = λ i. ap (λ y. y.flags) (turned emptied p j i lt)
+      ∙ cond-ap (λ y. y.flags) (i == j) (emptied (input_at p i)) (input_at p i);
+  chunk = λ i. ap (λ y. y.chunk) (turned emptied p j i lt)
+      ∙ cond-ap (λ y. y.chunk) (i == j) (emptied (input_at p i)) (input_at p i);
   output = λ o. refl;
   input_may = λ i. allowed (λ n. holds_data (input_at p n).flags) i j h;
   output_may = λ o. refl;
 }
 
-steps-close : (p : Picture) (j : ℕ) → j < in_count p → (input_at p j).flags.fin_in ≡ false → StepsTo p (Close j) (noted (with_input p j (closed (input_at p j))) (Close j))
+steps-close : (p : Picture) (j : ℕ) → j < in_count p → (input_at p j).flags.fin_in ≡ false
+    → StepsTo p (Close j) (noted (with_input p j (closed (input_at p j))) (Close j))
 unfolding with_actions with_input input_at output_at
 steps-close p j lt h = record {
-  flags = λ i. ap (λ y. y.flags) (turned closed p j i lt) ∙ cond-ap (λ y. y.flags) (i == j) (closed (input_at p i)) (input_at p i);
-  chunk = λ i. ap (λ y. y.chunk) (turned closed p j i lt) ∙ cond-same (λ y. y.chunk) (i == j) (closed (input_at p i)) (input_at p i) refl;
+  flags = λ i. ap (λ y. y.flags) (turned closed p j i lt)
+      ∙ cond-ap (λ y. y.flags) (i == j) (closed (input_at p i)) (input_at p i);
+  chunk = λ i. ap (λ y. y.chunk) (turned closed p j i lt)
+      ∙ cond-same (λ y. y.chunk) (i == j) (closed (input_at p i)) (input_at p i) refl;
   output = λ o. refl;
   input_may = λ i. allowed (λ n. not (input_at p n).flags.fin_in) i j (ap not h);
   output_may = λ o. refl;
 }
 
-steps-push : (p : Picture) (j : ℕ) (chunk : Table) → j < out_count p → can_push (output_at p j) ≡ true → StepsTo p (Push j chunk) (noted (with_output p j (record (output_at p j) { has_data = true })) (Push j chunk))
+steps-push : (p : Picture) (j : ℕ) (chunk : Table) → j < out_count p
+    → can_push (output_at p j) ≡ true → StepsTo p (Push j chunk)
+    (noted (with_output p j (record (output_at p j) { has_data = true })) (Push j chunk))
 unfolding with_actions with_output input_at output_at
-steps-push p j chunk lt h = record {
-  flags = λ i. refl;
-  chunk = λ i. refl;
-  output = λ o. turned-output (λ f. record f { has_data = true }) p j o lt;
-  input_may = λ i. refl;
-  output_may = λ o. allowed (λ n. can_push (output_at p n)) o j h;
-}
+steps-push p j chunk lt h =
+    search (arith, allowed, eqb-true, output_at-with_output, output_at-with_output-other, eqb-false)
 
-steps-finish : (p : Picture) (j : ℕ) → j < out_count p → is_out_finished (output_at p j) ≡ false → StepsTo p (Finish j) (noted (with_output p j (record (output_at p j) { fin_out = true })) (Finish j))
+steps-finish : (p : Picture) (j : ℕ) → j < out_count p → is_out_finished (output_at p j) ≡ false
+    → StepsTo p (Finish j)
+    (noted (with_output p j (record (output_at p j) { fin_out = true })) (Finish j))
 unfolding with_actions with_output input_at output_at
-steps-finish p j lt h = record {
-  flags = λ i. refl;
-  chunk = λ i. refl;
-  output = λ o. turned-output (λ f. record f { fin_out = true }) p j o lt;
-  input_may = λ i. refl;
-  output_may = λ o. allowed (λ n. not (is_out_finished (output_at p n))) o j (ap not h);
-}
+steps-finish p j lt h =
+    search (arith, allowed, eqb-true, output_at-with_output, output_at-with_output-other, eqb-false)
 
-explains-want : (ins : ℕ → Flags) (chunks : ℕ → Option Table) (outs : ℕ → Flags) (p : Picture) (j : ℕ) (b : Bool) → IsOnce p.actions → j < in_count p → (input_at p j).flags.fin_in ≡ false → Explains ins chunks outs p.actions p → Explains ins chunks outs (noted_want j b p.actions) (with_actions (with_input p j (with_needed (input_at p j) b)) (noted_want j b p.actions))
+explains-want : (ins : ℕ → Flags) (chunks : ℕ → Option Table) (outs : ℕ → Flags) (p : Picture)
+    (j : ℕ) (b : Bool) → IsOnce p.actions → j < in_count p → (input_at p j).flags.fin_in ≡ false
+    → Explains ins chunks outs p.actions p → Explains ins chunks outs (noted_want j b p.actions)
+    (with_actions (with_input p j (with_needed (input_at p j) b)) (noted_want j b p.actions))
 unfolding with_actions with_input input_at output_at needs
 explains-want ins chunks outs p j b once lt h e = record {
   input_flags = λ i.
@@ -99,106 +88,141 @@ explains-want ins chunks outs p j b once lt h e = record {
       ∙ cond-same (λ y. y.chunk) (i == j) (with_needed (input_at p i) b) (input_at p i) refl
       ∙ e.input_chunks i ∙ sym (chunk_after-want i j b p.actions (chunks i));
   output_flags = λ o. e.output_flags o ∙ sym (output_after-want o j b p.actions (outs o));
-  inputs_allow = λ i. inputs_allow-want i j b p.actions (ins i) once (e.inputs_allow i) (ap (λ f. not (i == j) || not f.fin_in) (sym (e.input_flags i)) ∙ allowed (λ n. not (input_at p n).flags.fin_in) i j (ap not h));
+  inputs_allow = λ i. inputs_allow-want i j b p.actions (ins i) once (e.inputs_allow i)
+      (ap (λ f. not (i == j) || not f.fin_in) (sym (e.input_flags i))
+      ∙ allowed (λ n. not (input_at p n).flags.fin_in) i j (ap not h));
   outputs_allow = λ o. outputs_allow-want o j b p.actions (outs o) (e.outputs_allow o);
 }
 
-cond-case : (P : Picture → Type 0) (b : Bool) (x y : Picture) → (b ≡ true → P x) → (b ≡ false → P y) → P (cond b x y)
+cond-case : (P : Picture → Type 0) (b : Bool) (x y : Picture) → (b ≡ true → P x) → (b ≡ false → P y)
+    → P (cond b x y)
 cond-case P true x y h k = h refl
 cond-case P false x y h k = k refl
 
 open-in-range : (p : Picture) (i : ℕ) → (input_at p i).flags.fin_in ≡ false → i < in_count p
 unfolding input_at in_count
-open-in-range p i h = elim (cases_lt i (length p.inputs)) [ inl lt ↦ lt | inr le ↦ let e : (get_or p.inputs i no_input).flags.fin_in ≡ true = ap (λ x. x.flags.fin_in) (get_or-eq_default p.inputs no_input le) in absurd (cc) ]
+open-in-range p i h = search (arith, cases_lt, get_or-eq_default)
 
 open-out-range : (p : Picture) (o : ℕ) → (output_at p o).fin_out ≡ false → o < out_count p
 unfolding output_at out_count
-open-out-range p o h = elim (cases_lt o (length p.outputs)) [ inl lt ↦ lt | inr le ↦ let e : (get_or p.outputs o over_flags).fin_out ≡ true = ap (λ x. x.fin_out) (get_or-eq_default p.outputs over_flags le) in absurd (cc) ]
+open-out-range p o h = search (arith, cases_lt, get_or-eq_default)
 
 both : (a b : Bool) → (a && not b) ≡ true → (a ≡ true) × (b ≡ false)
 both true true e = absurd (cc)
 both true false e = (refl, refl)
 both false b e = absurd (cc)
 
-may-bits : (n d f : Bool) → (n && (not d && not f)) ≡ true → (d ≡ false) × (f ≡ false)
-may-bits true true f e = absurd (cc)
-may-bits true false true e = absurd (cc)
-may-bits true false false e = (refl, refl)
-may-bits false d f e = absurd (cc)
-
 may : (f : Flags) → can_push f ≡ true → (f.has_data ≡ false) × (f.fin_out ≡ false)
-may f e = may-bits f.needed f.has_data f.fin_out e
+may f e = search (arith)
 
 neither : (a b : Bool) → (a || b) ≡ false → (a ≡ false) × (b ≡ false)
 neither true b e = absurd (cc)
 neither false b e = (refl, e)
 
 -- a picture that is sound, and whose actions explain it
-pub record Holds (ins : ℕ → Flags) (chunks : ℕ → Option Table) (outs : ℕ → Flags) (p : Picture) : Type 0 where
+pub record Holds (ins : ℕ → Flags) (chunks : ℕ → Option Table) (outs : ℕ → Flags)
+    (p : Picture) : Type 0 where
   pub sound : IsSound p
   pub explains : Explains ins chunks outs p.actions p
 
-pub holds-call : (ins : ℕ → Flags) (chunks : ℕ → Option Table) (outs : ℕ → Flags) (c : PortCall) (p : Picture) → Holds ins chunks outs p → Holds ins chunks outs (after_call c p)
+pub holds-call : (ins : ℕ → Flags) (chunks : ℕ → Option Table) (outs : ℕ → Flags) (c : PortCall)
+    (p : Picture) → Holds ins chunks outs p → Holds ins chunks outs (after_call c p)
 unfolding with_actions with_input with_output
 holds-call ins chunks outs (pull_call i) p h =
-    cond-case (Holds ins chunks outs) (holds_data (input_at p i).flags) (noted (with_input p i (emptied (input_at p i))) (Pull i)) p
+    cond-case (Holds ins chunks outs) (holds_data (input_at p i).flags)
+    (noted (with_input p i (emptied (input_at p i))) (Pull i)) p
     (λ e. let b = both (input_at p i).flags.has_data (input_at p i).flags.fin_in e in
     let lt : i < in_count p = open-in-range p i b.1 in
-    record { sound = sound-pull p i h.sound lt b.0; explains = explains-step ins chunks outs p (noted (with_input p i (emptied (input_at p i))) (Pull i)) (Pull i) (steps-pull p i lt e) h.explains })
+    record {
+      sound = sound-pull p i h.sound lt b.0;
+      explains =
+          explains-step ins chunks outs p (noted (with_input p i (emptied (input_at p i))) (Pull i))
+          (Pull i) (steps-pull p i lt e) h.explains;
+    })
     (λ e. h)
 holds-call ins chunks outs (need_call i true) p h =
-    cond-case (Holds ins chunks outs) ((input_at p i).flags.fin_in || (input_at p i).flags.needed) p (with_actions (with_input p i (with_needed (input_at p i) true)) (noted_want i true p.actions))
+    cond-case (Holds ins chunks outs) ((input_at p i).flags.fin_in || (input_at p i).flags.needed) p
+    (with_actions (with_input p i (with_needed (input_at p i) true))
+    (noted_want i true p.actions))
     (λ e. h)
     (λ e. let b = neither (input_at p i).flags.fin_in (input_at p i).flags.needed e in
     let lt : i < in_count p = open-in-range p i b.0 in
-    record { sound = sound-want p i true h.sound lt; explains = explains-want ins chunks outs p i true h.sound.once lt b.0 h.explains })
+    record {
+      sound = sound-want p i true h.sound lt;
+      explains =
+          explains-want ins chunks outs p i true h.sound.once lt b.0 h.explains;
+    })
 holds-call ins chunks outs (need_call i false) p h =
-    cond-case (Holds ins chunks outs) ((input_at p i).flags.fin_in || not (input_at p i).flags.needed) p (with_actions (with_input p i (with_needed (input_at p i) false)) (noted_want i false p.actions))
+    cond-case (Holds ins chunks outs)
+    ((input_at p i).flags.fin_in || not (input_at p i).flags.needed) p (with_actions
+    (with_input p i (with_needed (input_at p i) false)) (noted_want i false p.actions))
     (λ e. h)
     (λ e. let b = neither (input_at p i).flags.fin_in (not (input_at p i).flags.needed) e in
     let lt : i < in_count p = open-in-range p i b.0 in
-    record { sound = sound-want p i false h.sound lt; explains = explains-want ins chunks outs p i false h.sound.once lt b.0 h.explains })
+    record {
+      sound = sound-want p i false h.sound lt;
+      explains =
+          explains-want ins chunks outs p i false h.sound.once lt b.0 h.explains;
+    })
 holds-call ins chunks outs (close_call i) p h =
-    cond-case (Holds ins chunks outs) (input_at p i).flags.fin_in p (noted (with_input p i (closed (input_at p i))) (Close i))
+    cond-case (Holds ins chunks outs) (input_at p i).flags.fin_in p
+    (noted (with_input p i (closed (input_at p i))) (Close i))
     (λ e. h)
     (λ e. let lt : i < in_count p = open-in-range p i e in
-    record { sound = sound-close p i h.sound lt e; explains = explains-step ins chunks outs p (noted (with_input p i (closed (input_at p i))) (Close i)) (Close i) (steps-close p i lt e) h.explains })
+    record {
+      sound = sound-close p i h.sound lt e;
+      explains =
+          explains-step ins chunks outs p (noted (with_input p i (closed (input_at p i))) (Close i))
+          (Close i) (steps-close p i lt e) h.explains;
+    })
 holds-call ins chunks outs (push_call o chunk) p h =
-    cond-case (Holds ins chunks outs) (can_push (output_at p o)) (noted (with_output p o (record (output_at p o) { has_data = true })) (Push o chunk)) p
+    cond-case (Holds ins chunks outs) (can_push (output_at p o))
+    (noted (with_output p o (record (output_at p o) { has_data = true })) (Push o chunk)) p
     (λ e. let b = may (output_at p o) e in
     let lt : o < out_count p = open-out-range p o b.1 in
-    record { sound = sound-push p o chunk h.sound lt b.0; explains = explains-step ins chunks outs p (noted (with_output p o (record (output_at p o) { has_data = true })) (Push o chunk)) (Push o chunk) (steps-push p o chunk lt e) h.explains })
+    record {
+      sound = sound-push p o chunk h.sound lt b.0;
+      explains = explains-step ins chunks outs p
+          (noted (with_output p o (record (output_at p o) { has_data = true })) (Push o chunk))
+          (Push o chunk) (steps-push p o chunk lt e) h.explains;
+    })
     (λ e. h)
 holds-call ins chunks outs (finish_call o) p h =
-    cond-case (Holds ins chunks outs) (is_out_finished (output_at p o)) p (noted (with_output p o (record (output_at p o) { fin_out = true })) (Finish o))
+    cond-case (Holds ins chunks outs) (is_out_finished (output_at p o)) p
+    (noted (with_output p o (record (output_at p o) { fin_out = true })) (Finish o))
     (λ e. h)
     (λ e. let b = neither (output_at p o).fin_out (output_at p o).fin_in e in
     let lt : o < out_count p = open-out-range p o b.0 in
-    record { sound = sound-finish p o h.sound lt b.0; explains = explains-step ins chunks outs p (noted (with_output p o (record (output_at p o) { fin_out = true })) (Finish o)) (Finish o) (steps-finish p o lt e) h.explains })
+    record {
+      sound = sound-finish p o h.sound lt b.0;
+      explains = explains-step ins chunks outs p
+          (noted (with_output p o (record (output_at p o) { fin_out = true })) (Finish o)) (Finish o)
+          (steps-finish p o lt e) h.explains;
+    })
 
-pub holds-calls : (ins : ℕ → Flags) (chunks : ℕ → Option Table) (outs : ℕ → Flags) (calls : List PortCall) (p : Picture) → Holds ins chunks outs p → Holds ins chunks outs (after_calls calls p)
+pub holds-calls : (ins : ℕ → Flags) (chunks : ℕ → Option Table) (outs : ℕ → Flags) (calls : List
+    PortCall) (p : Picture) → Holds ins chunks outs p → Holds ins chunks outs (after_calls calls p)
 holds-calls ins chunks outs [] p h = h
-holds-calls ins chunks outs (c ∷ calls) p h = holds-calls ins chunks outs calls (after_call c p) (holds-call ins chunks outs c p h)
+holds-calls ins chunks outs (c ∷ calls) p h =
+    holds-calls ins chunks outs calls (after_call c p) (holds-call ins chunks outs c p h)
 
 -- a picture without actions is explained by its own ports
 pub explains-itself : (p : Picture) → p.actions ≡ [] → IsDifference p p
-explains-itself p e = subst (λ actions. Explains (λ i. (input_at p i).flags) (λ i. (input_at p i).chunk) (λ o. output_at p o) actions p) (sym e) (record {
-  input_flags = λ i. refl;
-  input_chunks = λ i. refl;
-  output_flags = λ o. refl;
-  inputs_allow = λ i. tt;
-  outputs_allow = λ o. tt;
-})
+explains-itself p e = search (arith)
 
 -- from a picture without actions, calls leave a sound picture whose actions are all that changed
-pub difference-calls : (before after : Picture) → IsSound before → before.actions ≡ [] → ChangedByCalls before after → Holds (λ i. (input_at before i).flags) (λ i. (input_at before i).chunk) (λ o. output_at before o) after
+pub difference-calls : (before after : Picture) → IsSound before → before.actions ≡ []
+    → ChangedByCalls before after → Holds (λ i. (input_at before i).flags)
+    (λ i. (input_at before i).chunk) (λ o. output_at before o) after
 difference-calls before after s e c =
-    subst (λ p. Holds (λ i. (input_at before i).flags) (λ i. (input_at before i).chunk) (λ o. output_at before o) p) (sym c.gives)
+    subst (λ p. Holds (λ i. (input_at before i).flags) (λ i. (input_at before i).chunk)
+    (λ o. output_at before o) p) (sym c.gives)
     (holds-calls _ _ _ c.calls before (record { sound = s; explains = explains-itself before e }))
 
 -- changes by calls go together
 
-pub after_calls-append : (xs ys : List PortCall) (p : Picture) → after_calls (xs ++ ys) p ≡ after_calls ys (after_calls xs p)
+pub after_calls-append : (xs ys : List PortCall) (p : Picture)
+    → after_calls (xs ++ ys) p ≡ after_calls ys (after_calls xs p)
 after_calls-append [] ys p = refl
 after_calls-append (x ∷ xs) ys p = after_calls-append xs ys (after_call x p)
 
@@ -208,8 +232,10 @@ changed-by-none p = record { calls = []; gives = refl }
 pub changed-by-one : (p q : Picture) (c : PortCall) → q ≡ after_call c p → ChangedByCalls p q
 changed-by-one p q c e = record { calls = c ∷ []; gives = e }
 
-pub changed-by-both : (p q r : Picture) → ChangedByCalls p q → ChangedByCalls q r → ChangedByCalls p r
+pub changed-by-both : (p q r : Picture) → ChangedByCalls p q → ChangedByCalls q r
+    → ChangedByCalls p r
 changed-by-both p q r c d = record {
   calls = c.calls ++ d.calls;
-  gives = d.gives ∙ ap (λ x. after_calls d.calls x) c.gives ∙ sym (after_calls-append c.calls d.calls p);
+  gives = d.gives ∙ ap (λ x. after_calls d.calls x) c.gives
+      ∙ sym (after_calls-append c.calls d.calls p);
 }

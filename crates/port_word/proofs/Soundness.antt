@@ -1,5 +1,5 @@
 -- Each call keeps what is true of every picture.
-use Rattle.port_word.proofs.Imports.{Action, Bool, Close, EachAction, Finish, Flags, InputPort, IsDone, IsOnce, IsSound, List, Picture, Pull, Push, Table, Unwant, Want, [], action_room, action_slot, ap, arith, cases_eq, closed, emptied, false, holds_data, in_count, inl, input_at, inr, is_some, length, noted, noted_want, out_count, output_at, refl, subst, sym, true, want_of, with_actions, with_input, with_needed, with_output, ℕ, ◌*◌, ◌++◌, ◌+◌, ◌<◌, ◌∙◌, ◌∷◌, ◌≡◌, ◌≢◌, ◌≤◌}
+use Rattle.port_word.proofs.Imports.{Action, Bool, Close, EachAction, Finish, Flags, InputPort, IsDone, IsOnce, IsSound, List, Picture, Pull, Push, Table, Unwant, Want, [], action_room, action_slot, ap, arith, cases_eq, closed, emptied, false, holds_data, in_count, input_at, is_some, length, noted, noted_want, out_count, output_at, refl, sym, true, with_actions, with_input, with_needed, with_output, ℕ, ◌*◌, ◌++◌, ◌+◌, ◌<◌, ◌∙◌, ◌∷◌, ◌≡◌, ◌≢◌, ◌≤◌}
 use Rattle.port_word.proofs.Laws.{input_at-with_input, input_at-with_input-other, output_at-with_output, output_at-with_output-other, output_at-with_input, input_at-with_output, in_count-with_input, out_count-with_input, in_count-with_output, out_count-with_output, input_at-with_actions, output_at-with_actions, in_count-with_actions, out_count-with_actions}
 use Rattle.port_word.proofs.Slots.{each-append, each-map, once-append, once-fits, each-noted_want, once-noted_want}
 
@@ -7,10 +7,14 @@ use Rattle.port_word.proofs.Slots.{each-append, each-map, once-append, once-fits
 pub record Follows (p q : Picture) : Type 0 where
   pub ins : in_count p ≤ in_count q
   pub outs : out_count p ≤ out_count q
-  pub empty : (i : ℕ) → i < in_count p → (input_at p i).flags.has_data ≡ false → (input_at q i).flags.has_data ≡ false
-  pub shut : (i : ℕ) → i < in_count p → (input_at p i).flags.fin_in ≡ true → (input_at q i).flags.fin_in ≡ true
-  pub full : (o : ℕ) → o < out_count p → (output_at p o).has_data ≡ true → (output_at q o).has_data ≡ true
-  pub over : (o : ℕ) → o < out_count p → (output_at p o).fin_out ≡ true → (output_at q o).fin_out ≡ true
+  pub empty : (i : ℕ) → i < in_count p → (input_at p i).flags.has_data ≡ false
+      → (input_at q i).flags.has_data ≡ false
+  pub shut : (i : ℕ) → i < in_count p → (input_at p i).flags.fin_in ≡ true
+      → (input_at q i).flags.fin_in ≡ true
+  pub full : (o : ℕ) → o < out_count p → (output_at p o).has_data ≡ true
+      → (output_at q o).has_data ≡ true
+  pub over : (o : ℕ) → o < out_count p → (output_at p o).fin_out ≡ true
+      → (output_at q o).fin_out ≡ true
 
 pub done-follows : (p q : Picture) → Follows p q → (a : Action) → IsDone p a → IsDone q a
 done-follows p q f (Want i) d = omega (arith, f.ins)
@@ -20,33 +24,25 @@ done-follows p q f (Close i) d = (omega (arith, f.ins, d.0), f.shut i d.0 d.1)
 done-follows p q f (Push o chunk) d = (omega (arith, f.outs, d.0), f.full o d.0 d.1)
 done-follows p q f (Finish o) d = (omega (arith, f.outs, d.0), f.over o d.0 d.1)
 
-slot-done : (p : Picture) (a : Action) → IsDone p a → action_slot a < action_room (in_count p) (out_count p)
-slot-done p (Want i) d = omega arith
-slot-done p (Unwant i) d = omega arith
-slot-done p (Pull i) d = omega (arith, d.0)
-slot-done p (Close i) d = omega (arith, d.0)
-slot-done p (Push o chunk) d = omega (arith, d.0)
-slot-done p (Finish o) d = omega (arith, d.0)
-
 -- the actions of a sound picture fit into the room for its ports
-pub actions-fit : (p : Picture) → IsSound p → length p.actions ≤ action_room (in_count p) (out_count p)
-actions-fit p s =
-    once-fits _ p.actions s.once (each-map (IsDone p) (λ a. action_slot a < action_room (in_count p) (out_count p)) p.actions (slot-done p) s.done)
+pub actions-fit : (p : Picture) → IsSound p
+    → length p.actions ≤ action_room (in_count p) (out_count p)
+actions-fit p s = search (arith, once-fits, each-map)
 
 -- what holds of the new input i and of each other input
-picked : (P : InputPort → Type 0) (p : Picture) (i : ℕ) (x : InputPort) (actions : List Action) (j : ℕ) → i < in_count p → (j ≡ i → P x) → P (input_at p j) → P (input_at (with_actions (with_input p i x) actions) j)
+picked : (P : InputPort → Type 0) (p : Picture) (i : ℕ) (x : InputPort) (actions : List Action)
+    (j : ℕ) → i < in_count p → (j ≡ i → P x) → P (input_at p j)
+    → P (input_at (with_actions (with_input p i x) actions) j)
 unfolding with_actions input_at
-picked P p i x actions j lt px pj = elim (cases_eq j i) [
-  | inl k ↦ subst P (sym (ap (λ n. input_at (with_input p i x) n) k ∙ input_at-with_input p i x lt)) (px k)
-  | inr ne ↦ subst P (sym (input_at-with_input-other p i j x ne)) pj
-]
+picked P p i x actions j lt px pj =
+    search (arith, cases_eq, input_at-with_input, input_at-with_input-other)
 
-picked-output : (P : Flags → Type 0) (p : Picture) (i : ℕ) (x : Flags) (actions : List Action) (j : ℕ) → i < out_count p → (j ≡ i → P x) → P (output_at p j) → P (output_at (with_actions (with_output p i x) actions) j)
+picked-output : (P : Flags → Type 0) (p : Picture) (i : ℕ) (x : Flags) (actions : List Action)
+    (j : ℕ) → i < out_count p → (j ≡ i → P x) → P (output_at p j)
+    → P (output_at (with_actions (with_output p i x) actions) j)
 unfolding with_actions output_at
-picked-output P p i x actions j lt px pj = elim (cases_eq j i) [
-  | inl k ↦ subst P (sym (ap (λ n. output_at (with_output p i x) n) k ∙ output_at-with_output p i x lt)) (px k)
-  | inr ne ↦ subst P (sym (output_at-with_output-other p i j x ne)) pj
-]
+picked-output P p i x actions j lt px pj =
+    search (arith, cases_eq, output_at-with_output, output_at-with_output-other)
 
 -- input i becomes x, and the actions become these: no data comes, and a closed input stays so
 pub record InputTurns (p : Picture) (i : ℕ) (x : InputPort) : Type 0 where
@@ -61,89 +57,80 @@ pub record OutputTurns (p : Picture) (o : ℕ) (f : Flags) : Type 0 where
   pub full : (output_at p o).has_data ≡ true → f.has_data ≡ true
   pub over : (output_at p o).fin_out ≡ true → f.fin_out ≡ true
 
-follows-input : (p : Picture) (i : ℕ) (x : InputPort) (actions : List Action) → InputTurns p i x → Follows p (with_actions (with_input p i x) actions)
+follows-input : (p : Picture) (i : ℕ) (x : InputPort) (actions : List Action) → InputTurns p i x
+    → Follows p (with_actions (with_input p i x) actions)
 follows-input p i x actions t = record {
   ins = omega (arith, in_count-with_actions (with_input p i x) actions, in_count-with_input p i x);
-  outs = omega (arith, out_count-with_actions (with_input p i x) actions, out_count-with_input p i x);
-  empty = λ j h d. picked (λ y. y.flags.has_data ≡ false) p i x actions j t.in_range (λ k. t.empty (ap (λ n. (input_at p n).flags.has_data) (sym k) ∙ d)) d;
-  shut = λ j h d. picked (λ y. y.flags.fin_in ≡ true) p i x actions j t.in_range (λ k. t.shut (ap (λ n. (input_at p n).flags.fin_in) (sym k) ∙ d)) d;
-  full = λ o h d. ap (λ f. f.has_data) (output_at-with_actions (with_input p i x) actions o ∙ output_at-with_input p i o x) ∙ d;
-  over = λ o h d. ap (λ f. f.fin_out) (output_at-with_actions (with_input p i x) actions o ∙ output_at-with_input p i o x) ∙ d;
+  outs =
+      omega (arith, out_count-with_actions (with_input p i x) actions, out_count-with_input p i x);
+  empty = λ j h d. picked (λ y. y.flags.has_data ≡ false) p i x actions j t.in_range
+      (λ k. t.empty (ap (λ n. (input_at p n).flags.has_data) (sym k) ∙ d)) d;
+  shut = λ j h d. picked (λ y. y.flags.fin_in ≡ true) p i x actions j t.in_range
+      (λ k. t.shut (ap (λ n. (input_at p n).flags.fin_in) (sym k) ∙ d)) d;
+  full = λ o h d. ap (λ f. f.has_data)
+      (output_at-with_actions (with_input p i x) actions o ∙ output_at-with_input p i o x) ∙ d;
+  over = λ o h d. ap (λ f. f.fin_out)
+      (output_at-with_actions (with_input p i x) actions o ∙ output_at-with_input p i o x) ∙ d;
 }
 
-follows-output : (p : Picture) (o : ℕ) (x : Flags) (actions : List Action) → OutputTurns p o x → Follows p (with_actions (with_output p o x) actions)
+follows-output : (p : Picture) (o : ℕ) (x : Flags) (actions : List Action) → OutputTurns p o x
+    → Follows p (with_actions (with_output p o x) actions)
 follows-output p o x actions t = record {
-  ins = omega (arith, in_count-with_actions (with_output p o x) actions, in_count-with_output p o x);
-  outs = omega (arith, out_count-with_actions (with_output p o x) actions, out_count-with_output p o x);
-  empty = λ j h d. ap (λ y. y.flags.has_data) (input_at-with_actions (with_output p o x) actions j ∙ input_at-with_output p o j x) ∙ d;
-  shut = λ j h d. ap (λ y. y.flags.fin_in) (input_at-with_actions (with_output p o x) actions j ∙ input_at-with_output p o j x) ∙ d;
-  full = λ j h d. picked-output (λ f. f.has_data ≡ true) p o x actions j t.in_range (λ k. t.full (ap (λ n. (output_at p n).has_data) (sym k) ∙ d)) d;
-  over = λ j h d. picked-output (λ f. f.fin_out ≡ true) p o x actions j t.in_range (λ k. t.over (ap (λ n. (output_at p n).fin_out) (sym k) ∙ d)) d;
+  ins =
+      omega (arith, in_count-with_actions (with_output p o x) actions, in_count-with_output p o x);
+  outs = omega
+      (arith, out_count-with_actions (with_output p o x) actions, out_count-with_output p o x);
+  empty = λ j h d. ap (λ y. y.flags.has_data)
+      (input_at-with_actions (with_output p o x) actions j ∙ input_at-with_output p o j x) ∙ d;
+  shut = λ j h d. ap (λ y. y.flags.fin_in)
+      (input_at-with_actions (with_output p o x) actions j ∙ input_at-with_output p o j x) ∙ d;
+  full = λ j h d. picked-output (λ f. f.has_data ≡ true) p o x actions j t.in_range
+      (λ k. t.full (ap (λ n. (output_at p n).has_data) (sym k) ∙ d)) d;
+  over = λ j h d. picked-output (λ f. f.fin_out ≡ true) p o x actions j t.in_range
+      (λ k. t.over (ap (λ n. (output_at p n).fin_out) (sym k) ∙ d)) d;
 }
 
-sound-input : (p : Picture) (i : ℕ) (x : InputPort) (actions : List Action) → IsSound p → InputTurns p i x → IsOnce actions → EachAction (IsDone (with_actions (with_input p i x) actions)) actions → IsSound (with_actions (with_input p i x) actions)
+sound-input : (p : Picture) (i : ℕ) (x : InputPort) (actions : List Action) → IsSound p → InputTurns
+    p i x → IsOnce actions → EachAction (IsDone (with_actions (with_input p i x) actions)) actions
+    → IsSound (with_actions (with_input p i x) actions)
 unfolding with_actions
 sound-input p i x actions s t once done = record {
   done = done;
   once = once;
-  held = λ j. picked (λ y. holds_data y.flags ≡ true → is_some y.chunk ≡ true) p i x actions j t.in_range (λ k. t.held) (s.held j);
-  shown = λ j. picked (λ y. is_some y.chunk ≡ true → y.flags.has_data ≡ true) p i x actions j t.in_range (λ k. t.shown) (s.shown j);
+  held = λ j. picked (λ y. holds_data y.flags ≡ true → is_some y.chunk ≡ true) p i x actions j
+      t.in_range (λ k. t.held) (s.held j);
+  shown = λ j. picked (λ y. is_some y.chunk ≡ true → y.flags.has_data ≡ true) p i x actions j
+      t.in_range (λ k. t.shown) (s.shown j);
 }
 
-sound-output : (p : Picture) (o : ℕ) (f : Flags) (actions : List Action) → IsSound p → IsOnce actions → EachAction (IsDone (with_actions (with_output p o f) actions)) actions → IsSound (with_actions (with_output p o f) actions)
+sound-output : (p : Picture) (o : ℕ) (f : Flags) (actions : List Action) → IsSound p
+    → IsOnce actions → EachAction (IsDone (with_actions (with_output p o f) actions)) actions
+    → IsSound (with_actions (with_output p o f) actions)
 unfolding with_actions with_output input_at
-sound-output p o f actions s once done = record {
-  done = done;
-  once = once;
-  held = s.held;
-  shown = s.shown;
-}
+sound-output p o f actions s once done = search (arith)
 
 -- an action whose slot no other has goes last
-sound-noted-input : (p : Picture) (i : ℕ) (x : InputPort) (a : Action) → IsSound p → InputTurns p i x → ((b : Action) → IsDone p b → action_slot b ≢ action_slot a) → IsDone (noted (with_input p i x) a) a → IsSound (noted (with_input p i x) a)
+sound-noted-input : (p : Picture) (i : ℕ) (x : InputPort) (a : Action) → IsSound p
+    → InputTurns p i x → ((b : Action) → IsDone p b → action_slot b ≢ action_slot a)
+    → IsDone (noted (with_input p i x) a) a → IsSound (noted (with_input p i x) a)
 unfolding with_input
 sound-noted-input p i x a s t fresh d =
-    sound-input p i x (p.actions ++ a ∷ []) s t
-    (once-append p.actions a s.once (each-map (IsDone p) (λ b. action_slot b ≢ action_slot a) p.actions fresh s.done))
-    (each-append (IsDone (noted (with_input p i x) a)) p.actions a (each-map (IsDone p) (IsDone (noted (with_input p i x) a)) p.actions (done-follows p (noted (with_input p i x) a) (follows-input p i x (p.actions ++ a ∷ []) t)) s.done) d)
+    search (arith, sound-input, once-append, each-map, each-append, done-follows, follows-input)
 
-sound-noted-output : (p : Picture) (o : ℕ) (f : Flags) (a : Action) → IsSound p → OutputTurns p o f → ((b : Action) → IsDone p b → action_slot b ≢ action_slot a) → IsDone (noted (with_output p o f) a) a → IsSound (noted (with_output p o f) a)
+sound-noted-output : (p : Picture) (o : ℕ) (f : Flags) (a : Action) → IsSound p → OutputTurns p o f
+    → ((b : Action) → IsDone p b → action_slot b ≢ action_slot a)
+    → IsDone (noted (with_output p o f) a) a → IsSound (noted (with_output p o f) a)
 unfolding with_output
 sound-noted-output p o f a s t fresh d =
-    sound-output p o f (p.actions ++ a ∷ []) s
-    (once-append p.actions a s.once (each-map (IsDone p) (λ b. action_slot b ≢ action_slot a) p.actions fresh s.done))
-    (each-append (IsDone (noted (with_output p o f) a)) p.actions a (each-map (IsDone p) (IsDone (noted (with_output p o f) a)) p.actions (done-follows p (noted (with_output p o f) a) (follows-output p o f (p.actions ++ a ∷ []) t)) s.done) d)
+    search (arith, sound-output, once-append, each-map, each-append, done-follows, follows-output)
 
-done-want_of : (p : Picture) (b : Bool) (i : ℕ) → i < in_count p → IsDone p (want_of b i)
-done-want_of p true i h = h
-done-want_of p false i h = h
+pub sound-want : (p : Picture) (i : ℕ) (b : Bool) → IsSound p → i < in_count p → IsSound
+    (with_actions (with_input p i (with_needed (input_at p i) b)) (noted_want i b p.actions))
+sound-want p i b s lt = search
+    (arith, follows-input, sound-input, once-noted_want, each-noted_want, each-map, done-follows)
 
-pub sound-want : (p : Picture) (i : ℕ) (b : Bool) → IsSound p → i < in_count p → IsSound (with_actions (with_input p i (with_needed (input_at p i) b)) (noted_want i b p.actions))
-sound-want p i b s lt =
-    let x : InputPort = with_needed (input_at p i) b in
-    let t : InputTurns p i x = record { in_range = lt; empty = λ e. e; shut = λ e. e; held = s.held i; shown = s.shown i } in
-    let q : Picture = with_actions (with_input p i x) (noted_want i b p.actions) in
-    let f : Follows p q = follows-input p i x (noted_want i b p.actions) t in
-    sound-input p i x (noted_want i b p.actions) s t (once-noted_want i b p.actions s.once)
-    (each-noted_want (IsDone q) i b p.actions (each-map (IsDone p) (IsDone q) p.actions (done-follows p q f) s.done) (done-want_of q b i (omega (arith, f.ins))))
-
-fresh-pull : (p : Picture) (i : ℕ) → (input_at p i).flags.has_data ≡ true → (a : Action) → IsDone p a → action_slot a ≢ 5 * i + 1
-fresh-pull p i h (Want j) d = λ e. omega arith
-fresh-pull p i h (Unwant j) d = λ e. omega arith
-fresh-pull p i h (Pull j) d = λ e. let k : j ≡ i = omega arith in cc (h, d.1, k)
-fresh-pull p i h (Close j) d = λ e. omega arith
-fresh-pull p i h (Push j chunk) d = λ e. omega arith
-fresh-pull p i h (Finish j) d = λ e. omega arith
-
-fresh-close : (p : Picture) (i : ℕ) → (input_at p i).flags.fin_in ≡ false → (a : Action) → IsDone p a → action_slot a ≢ 5 * i + 2
-fresh-close p i h (Want j) d = λ e. omega arith
-fresh-close p i h (Unwant j) d = λ e. omega arith
-fresh-close p i h (Pull j) d = λ e. omega arith
-fresh-close p i h (Close j) d = λ e. let k : j ≡ i = omega arith in cc (h, d.1, k)
-fresh-close p i h (Push j chunk) d = λ e. omega arith
-fresh-close p i h (Finish j) d = λ e. omega arith
-
-fresh-push : (p : Picture) (o : ℕ) → (output_at p o).has_data ≡ false → (a : Action) → IsDone p a → action_slot a ≢ 5 * o + 3
+fresh-push : (p : Picture) (o : ℕ) → (output_at p o).has_data ≡ false → (a : Action) → IsDone p a
+    → action_slot a ≢ 5 * o + 3
 fresh-push p i h (Want j) d = λ e. omega arith
 fresh-push p i h (Unwant j) d = λ e. omega arith
 fresh-push p i h (Pull j) d = λ e. omega arith
@@ -151,7 +138,8 @@ fresh-push p i h (Close j) d = λ e. omega arith
 fresh-push p i h (Push j chunk) d = λ e. let k : j ≡ i = omega arith in cc (h, d.1, k)
 fresh-push p i h (Finish j) d = λ e. omega arith
 
-fresh-finish : (p : Picture) (o : ℕ) → (output_at p o).fin_out ≡ false → (a : Action) → IsDone p a → action_slot a ≢ 5 * o + 4
+fresh-finish : (p : Picture) (o : ℕ) → (output_at p o).fin_out ≡ false → (a : Action) → IsDone p a
+    → action_slot a ≢ 5 * o + 4
 fresh-finish p i h (Want j) d = λ e. omega arith
 fresh-finish p i h (Unwant j) d = λ e. omega arith
 fresh-finish p i h (Pull j) d = λ e. omega arith
@@ -159,30 +147,39 @@ fresh-finish p i h (Close j) d = λ e. omega arith
 fresh-finish p i h (Push j chunk) d = λ e. omega arith
 fresh-finish p i h (Finish j) d = λ e. let k : j ≡ i = omega arith in cc (h, d.1, k)
 
-pub sound-pull : (p : Picture) (i : ℕ) → IsSound p → i < in_count p → (input_at p i).flags.has_data ≡ true → IsSound (noted (with_input p i (emptied (input_at p i))) (Pull i))
+pub sound-pull : (p : Picture) (i : ℕ) → IsSound p → i < in_count p → (input_at p i).flags.has_data
+    ≡ true → IsSound (noted (with_input p i (emptied (input_at p i))) (Pull i))
 sound-pull p i s lt h =
-    let x : InputPort = emptied (input_at p i) in
-    let t : InputTurns p i x = record { in_range = lt; empty = λ e. refl; shut = λ e. e; held = λ e. cc; shown = λ e. cc } in
-    let f : Follows p (noted (with_input p i x) (Pull i)) = follows-input p i x ((with_input p i x).actions ++ Pull i ∷ []) t in
-    sound-noted-input p i x (Pull i) s t (fresh-pull p i h) (omega (arith, f.ins), ap (λ y. y.flags.has_data) (input_at-with_actions (with_input p i x) ((with_input p i x).actions ++ Pull i ∷ []) i ∙ input_at-with_input p i x lt))
+    search (arith, follows-input, sound-noted-input, input_at-with_actions, input_at-with_input)
 
-pub sound-close : (p : Picture) (i : ℕ) → IsSound p → i < in_count p → (input_at p i).flags.fin_in ≡ false → IsSound (noted (with_input p i (closed (input_at p i))) (Close i))
+pub sound-close : (p : Picture) (i : ℕ) → IsSound p → i < in_count p → (input_at p i).flags.fin_in
+    ≡ false → IsSound (noted (with_input p i (closed (input_at p i))) (Close i))
 sound-close p i s lt h =
-    let x : InputPort = closed (input_at p i) in
-    let t : InputTurns p i x = record { in_range = lt; empty = λ e. e; shut = λ e. refl; held = λ e. grind arith; shown = s.shown i } in
-    let f : Follows p (noted (with_input p i x) (Close i)) = follows-input p i x ((with_input p i x).actions ++ Close i ∷ []) t in
-    sound-noted-input p i x (Close i) s t (fresh-close p i h) (omega (arith, f.ins), ap (λ y. y.flags.fin_in) (input_at-with_actions (with_input p i x) ((with_input p i x).actions ++ Close i ∷ []) i ∙ input_at-with_input p i x lt))
+    search (arith, follows-input, sound-noted-input, input_at-with_actions, input_at-with_input)
 
-pub sound-push : (p : Picture) (o : ℕ) (chunk : Table) → IsSound p → o < out_count p → (output_at p o).has_data ≡ false → IsSound (noted (with_output p o (record (output_at p o) { has_data = true })) (Push o chunk))
+pub sound-push : (p : Picture) (o : ℕ) (chunk : Table) → IsSound p → o < out_count p
+    → (output_at p o).has_data ≡ false
+    → IsSound (noted (with_output p o (record (output_at p o) { has_data = true })) (Push o chunk))
 sound-push p o chunk s lt h =
     let x : Flags = record (output_at p o) { has_data = true } in
     let t : OutputTurns p o x = record { in_range = lt; full = λ e. refl; over = λ e. e } in
-    let f : Follows p (noted (with_output p o x) (Push o chunk)) = follows-output p o x ((with_output p o x).actions ++ Push o chunk ∷ []) t in
-    sound-noted-output p o x (Push o chunk) s t (fresh-push p o h) (omega (arith, f.outs), ap (λ y. y.has_data) (output_at-with_actions (with_output p o x) ((with_output p o x).actions ++ Push o chunk ∷ []) o ∙ output_at-with_output p o x lt))
+    let f : Follows p (noted (with_output p o x) (Push o chunk)) =
+    follows-output p o x ((with_output p o x).actions ++ Push o chunk ∷ []) t in
+    sound-noted-output p o x (Push o chunk) s t (fresh-push p o h) (
+      omega (arith, f.outs),
+      ap (λ y. y.has_data) (output_at-with_actions (with_output p o x)
+          ((with_output p o x).actions ++ Push o chunk ∷ []) o ∙ output_at-with_output p o x lt),
+    )
 
-pub sound-finish : (p : Picture) (o : ℕ) → IsSound p → o < out_count p → (output_at p o).fin_out ≡ false → IsSound (noted (with_output p o (record (output_at p o) { fin_out = true })) (Finish o))
+pub sound-finish : (p : Picture) (o : ℕ) → IsSound p → o < out_count p → (output_at p o).fin_out ≡
+    false → IsSound (noted (with_output p o (record (output_at p o) { fin_out = true })) (Finish o))
 sound-finish p o s lt h =
     let x : Flags = record (output_at p o) { fin_out = true } in
     let t : OutputTurns p o x = record { in_range = lt; full = λ e. e; over = λ e. refl } in
-    let f : Follows p (noted (with_output p o x) (Finish o)) = follows-output p o x ((with_output p o x).actions ++ Finish o ∷ []) t in
-    sound-noted-output p o x (Finish o) s t (fresh-finish p o h) (omega (arith, f.outs), ap (λ y. y.fin_out) (output_at-with_actions (with_output p o x) ((with_output p o x).actions ++ Finish o ∷ []) o ∙ output_at-with_output p o x lt))
+    let f : Follows p (noted (with_output p o x) (Finish o)) =
+    follows-output p o x ((with_output p o x).actions ++ Finish o ∷ []) t in
+    sound-noted-output p o x (Finish o) s t (fresh-finish p o h) (
+      omega (arith, f.outs),
+      ap (λ y. y.fin_out) (output_at-with_actions (with_output p o x)
+          ((with_output p o x).actions ++ Finish o ∷ []) o ∙ output_at-with_output p o x lt),
+    )

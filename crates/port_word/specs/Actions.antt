@@ -43,8 +43,8 @@ abbrev pub output_after : ℕ → List Action → Flags → Flags
 output_after o [] f = f
 output_after o (a ∷ actions) f = output_after o actions (output_step o a f)
 
--- whether input i, with these flags, allows an action: a pull where data lies at an open input, anything
--- else where it is open
+-- whether input i, with these flags, allows an action: a pull where data lies at an open input,
+-- anything else where it is open
 abbrev pub input_allows : ℕ → Action → Flags → Bool
 input_allows i (Want j) f = not (i == j) || not f.fin_in
 input_allows i (Unwant j) f = not (i == j) || not f.fin_in
@@ -53,8 +53,8 @@ input_allows i (Close j) f = not (i == j) || not f.fin_in
 input_allows i (Push j chunk) f = true
 input_allows i (Finish j) f = true
 
--- whether output o, with these flags, allows an action: a push where the port is needed, empty and not
--- finished by its producer, a finish where no end finished it
+-- whether output o, with these flags, allows an action: a push where the port is needed, empty and
+-- not finished by its producer, a finish where no end finished it
 abbrev pub output_allows : ℕ → Action → Flags → Bool
 output_allows o (Want j) f = true
 output_allows o (Unwant j) f = true
@@ -66,15 +66,17 @@ output_allows o (Finish j) f = not (o == j) || not (is_out_finished f)
 -- each action stands where input i allows it
 abbrev pub InputAllows : ℕ → List Action → Flags → Type 0
 InputAllows i [] f = Unit {0}
-InputAllows i (a ∷ actions) f = (input_allows i a f ≡ true) × InputAllows i actions (input_step i a f)
+InputAllows i (a ∷ actions) f = (input_allows i a f ≡ true)
+    × InputAllows i actions (input_step i a f)
 
 -- each action stands where output o allows it
 abbrev pub OutputAllows : ℕ → List Action → Flags → Type 0
 OutputAllows o [] f = Unit {0}
-OutputAllows o (a ∷ actions) f = (output_allows o a f ≡ true) × OutputAllows o actions (output_step o a f)
+OutputAllows o (a ∷ actions) f = (output_allows o a f ≡ true)
+    × OutputAllows o actions (output_step o a f)
 
--- Want and Unwant of a port share one slot, and each other action of a port has one of its own: three slots
--- an input, two an output
+-- Want and Unwant of a port share one slot, and each other action of a port has one of its own:
+-- three slots an input, two an output
 abbrev pub action_slot : Action → ℕ
 action_slot (Want i) = 5 * i
 action_slot (Unwant i) = 5 * i
@@ -108,4 +110,5 @@ is_want i (Finish j) = false
 -- Want or Unwant of input i in the place of the earlier one, or at the end
 abbrev pub noted_want : ℕ → Bool → List Action → List Action
 noted_want i b [] = want_of b i ∷ []
-noted_want i b (a ∷ actions) = cond (is_want i a) (want_of b i ∷ actions) (a ∷ noted_want i b actions)
+noted_want i b (a ∷ actions) =
+    cond (is_want i a) (want_of b i ∷ actions) (a ∷ noted_want i b actions)

@@ -5,9 +5,10 @@ use Rattle.port_word.specs.Pictures.{Picture, input_at, output_at}
 use Rattle.port_word.specs.Actions.{input_after, chunk_after, output_after, InputAllows, OutputAllows}
 use Rattle.port_word.specs.Calls.{after_pull, after_need, after_close, after_push, after_finish}
 
--- carried out one after another on ports with these flags and chunks, the actions give the flags and chunks
--- of the picture, and each stands where its port allows it
-pub record Explains (ins : ℕ → Flags) (chunks : ℕ → Option Table) (outs : ℕ → Flags) (actions : List Action) (p : Picture) : Type 0 where
+-- carried out one after another on ports with these flags and chunks, the actions give the flags
+-- and chunks of the picture, and each stands where its port allows it
+pub record Explains (ins : ℕ → Flags) (chunks : ℕ → Option Table) (outs : ℕ → Flags)
+    (actions : List Action) (p : Picture) : Type 0 where
   pub input_flags : (i : ℕ) → (input_at p i).flags ≡ input_after i actions (ins i)
   pub input_chunks : (i : ℕ) → (input_at p i).chunk ≡ chunk_after i actions (chunks i)
   pub output_flags : (o : ℕ) → output_at p o ≡ output_after o actions (outs o)
@@ -16,7 +17,8 @@ pub record Explains (ins : ℕ → Flags) (chunks : ℕ → Option Table) (outs 
 
 -- the actions of a picture are all that changed since the earlier one
 abbrev pub IsDifference : Picture → Picture → Type 0
-IsDifference before p = Explains (λ i. (input_at before i).flags) (λ i. (input_at before i).chunk) (λ o. output_at before o) p.actions p
+IsDifference before p = Explains (λ i. (input_at before i).flags) (λ i. (input_at before i).chunk)
+    (λ o. output_at before o) p.actions p
 
 -- a call by which a processor changes its picture
 pub data PortCall : Type 0 where

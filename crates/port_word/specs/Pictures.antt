@@ -2,7 +2,8 @@
 use Rattle.std.specs.Prelude.{◌&&◌, ◌||◌}
 use Rattle.port_word.specs.Prelude.{Action, Bool, Flags, InputPort, List, None, false, length, not, slice_index_or, slice_set, true, ℕ}
 
--- each input with its flags and its chunk, the flags of each output, and the actions not yet carried out
+-- each input with its flags and its chunk, the flags of each output, and the actions not yet
+-- carried out
 pub record Picture : Type 0 where
   pub inputs : List InputPort
   pub outputs : List Flags

@@ -50,5 +50,6 @@ seen_chunk None c = c
 seen_chunk (Some d) c = Some d
 
 abbrev pub after_see : Picture → Port → Flags → Option Table → Picture
-after_see p (Input i) g chunk = with_input p i (record { flags = g; chunk = seen_chunk chunk (input_at p i).chunk })
+after_see p (Input i) g chunk =
+    with_input p i (record { flags = g; chunk = seen_chunk chunk (input_at p i).chunk })
 after_see p (Output o) g chunk = with_output p o g

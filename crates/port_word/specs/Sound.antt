@@ -13,15 +13,16 @@ IsDone p (Close i) = (i < in_count p) × ((input_at p i).flags.fin_in ≡ true)
 IsDone p (Push o chunk) = (o < out_count p) × ((output_at p o).has_data ≡ true)
 IsDone p (Finish o) = (o < out_count p) × ((output_at p o).fin_out ≡ true)
 
--- each action shows, each slot has at most one, an open input with data has its chunk, and a chunk lies only
--- where there is data
+-- each action shows, each slot has at most one, an open input with data has its chunk, and a chunk
+-- lies only where there is data
 pub record IsSound (p : Picture) : Type 0 where
   pub done : EachAction (IsDone p) p.actions
   pub once : IsOnce p.actions
   pub held : (i : ℕ) → holds_data (input_at p i).flags ≡ true → is_some (input_at p i).chunk ≡ true
   pub shown : (i : ℕ) → is_some (input_at p i).chunk ≡ true → (input_at p i).flags.has_data ≡ true
 
--- room for every action that can stand in a list: a port number has three slots as an input and two as an output
+-- room for every action that can stand in a list: a port number has three slots as an input and two
+-- as an output
 abbrev pub action_room : ℕ → ℕ → ℕ
 action_room inputs outputs = 5 * max inputs outputs
 

@@ -16,7 +16,8 @@ pub record WaitsForRoom (p : Picture) : Type 0 where
   pub output : ℕ
   pub in_range : output < out_count p
   pub unfinished : is_out_finished (output_at p output) ≡ false
-  pub full : (o : ℕ) → o < out_count p → is_out_finished (output_at p o) ≡ false → (output_at p o).needed ≡ true → (output_at p o).has_data ≡ true
+  pub full : (o : ℕ) → o < out_count p → is_out_finished (output_at p o) ≡ false
+      → (output_at p o).needed ≡ true → (output_at p o).has_data ≡ true
 
 -- each input is finished or closed, and each output is finished
 pub record IsAllFinished (p : Picture) : Type 0 where

@@ -40,8 +40,8 @@ pub struct Wire {
     pub input: u32,
 }
 
-/// The nodes and edges that are kept for the growth of `node`: `nodes` many nodes from `first_node` on, and
-/// `edges` many edges from `first_edge` on.
+/// The nodes and edges that are kept for the growth of `node`: `nodes` many nodes from `first_node`
+/// on, and `edges` many edges from `first_edge` on.
 #[derive(Clone, Copy, Debug, PartialEq, Eq)]
 pub struct Reserve {
     pub node: u32,

@@ -24,8 +24,10 @@ fn is_want_at(action: &Action, i: usize) -> bool
 /// The place of the Want or Unwant of input i, or the list's length.
 fn want_place(actions: &[Action], i: usize) -> usize
     ensures bound { result ≤ length actions.now }
-    ensures found { result < length actions.now → (b : Bool) → noted_want i b actions.now ≡ slice_set actions.now result (want_of b i) }
-    ensures missing { result ≡ length actions.now → (b : Bool) → noted_want i b actions.now ≡ actions.now ++ want_of b i ∷ [] }
+    ensures found { result < length actions.now → (b : Bool)
+        → noted_want i b actions.now ≡ slice_set actions.now result (want_of b i) }
+    ensures missing { result ≡ length actions.now → (b : Bool)
+        → noted_want i b actions.now ≡ actions.now ++ want_of b i ∷ [] }
 {
     for (k, action) in actions.iter().enumerate() {
         if is_want_at(action, i) {

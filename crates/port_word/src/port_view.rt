@@ -14,8 +14,8 @@ pub struct InputPort {
     pub chunk: Option<Chunk>,
 }
 
-/// A node's picture of its ports. Every number of a port is in range as a condition. No call but `new` and
-/// `grow` takes memory.
+/// A node's picture of its ports. Every number of a port is in range as a condition. No call but
+/// `new` and `grow` takes memory.
 #[derive(Debug, Drop)]
 pub struct PortView {
     inputs: Vec<InputPort>,
@@ -30,9 +30,14 @@ impl Model for PortView {
 
     ghost Value = { Picture };
 
-    ghost view = { λ v. record { inputs = v.inputs.items; outputs = v.outputs.items; actions = v.actions.items } };
+    ghost view = { λ v.
+        record { inputs = v.inputs.items; outputs = v.outputs.items; actions = v.actions.items } };
 
-    ghost invariant = { λ v. Fits (record { inputs = v.inputs.items; outputs = v.outputs.items; actions = v.actions.items }) (vec_capacity v.actions) };
+    ghost invariant = { λ v. Fits (record {
+      inputs = v.inputs.items;
+      outputs = v.outputs.items;
+      actions = v.actions.items;
+    }) (vec_capacity v.actions) };
 }
 
 const NO_FLAGS: Flags = Flags {
@@ -153,8 +158,8 @@ impl PortView {
         note_want(&mut self.actions, i, false);
     }
 
-    /// Closes the input: this node pulls nothing from it any more. A chunk that lies there is dropped with the
-    /// view.
+    /// Closes the input: this node pulls nothing from it any more. A chunk that lies there is
+    /// dropped with the view.
     pub fn close(&mut self, i: usize)
         requires { i < in_count self.old }
         ensures { self.new ≡ after_close self.old i }
@@ -233,7 +238,8 @@ impl PortView {
         }
     }
 
-    /// Adds ports behind those that are there, up to these counts; after an error nothing has changed.
+    /// Adds ports behind those that are there, up to these counts; after an error nothing has
+    /// changed.
     pub fn grow(&mut self, inputs: usize, outputs: usize) -> Result<(), Memory>
         requires more_inputs { in_count self.old ≤ inputs }
         requires more_outputs { out_count self.old ≤ outputs }
