@@ -1,17 +1,11 @@
 -- What holds of a query that no condition refuses.
-use Rattle.query_model.proofs.Imports.{All, All-cons, All-nil, ArithOp, Bool, CanBePicked, ColumnRef, ExprOf, FromColumn, HasNoCall, IsDue, Item, ItemKind, Join, Kind, List, None, Option, Query, Refusal, Schema, Some, [], ambiguous_among, ambiguous_column, ap, append-nil, arith, arith_kind, bad_join_key, bad_order_key, bare_columns, calls_in, cond, expr_columns, expr_kind, false, filter, find, first_name, first_of_all, fits_where, flat_map, from_columns, holds_pairs, is_call, is_grouped, is_key_of, is_some, is_typed, item_kind, join_pairs, join_tables, length, length-append, list_all, list_any, listed, map, meant, nat_lt, not, not_grouped, not_grouped_over, not_keys, operands_of, option_map, order_over, pairs_fit, plain, refl, refusal_of, refusal_unless, star_name, sym, table_columns, text_columns, too_wide, true, type_mismatch, typed, types_fit_over, unfit, ungrouped_names, unknown_among, unknown_column, unknown_table, width_over, written, ℕ, ◌&&◌, ◌++◌, ◌==◌, ◌||◌, ◌∙◌, ◌∷◌, ◌≡◌, ◌≤◌}
+use Rattle.query_model.proofs.Imports.{All, All-cons, All-nil, ArithOp, Bool, CanBePicked, ColumnRef, ExprOf, FromColumn, HasNoCall, IsDue, Item, ItemKind, Join, Kind, List, None, Option, Query, Refusal, Schema, Some, [], ambiguous_among, ambiguous_column, ap, append-nil, arith, arith_kind, bad_join_key, bad_order_key, bare_columns, cond, expr_columns, expr_kind, false, filter, find, first_name, first_of_all, fits_where, flat_map, from_columns, holds_pairs, is_call, is_grouped, is_key_of, is_typed, item_kind, join_tables, length, length-append, list_all, list_any, listed, map, meant, nat_lt, not, not_grouped, not_grouped_over, not_keys, operands_of, option_map, order_over, pairs_fit, plain, refl, refusal_of, refusal_unless, star_name, sym, table_columns, text_columns, too_wide, true, type_mismatch, typed, types_fit_over, unfit, ungrouped_names, unknown_among, unknown_column, unknown_table, width_over, written, ℕ, ◌&&◌, ◌++◌, ◌==◌, ◌||◌, ◌∙◌, ◌∷◌, ◌≡◌, ◌≤◌}
 use Rattle.query_model.specs.declared.query.ExprOf.TheVariants as expr
 use Rattle.query_model.specs.declared.query.ItemKind.TheVariants as kind
 use Rattle.query_model.specs.declared.query.Refusal.TheVariants as refuse
 use Rattle.query_model.proofs.TypedQueries.{both}
 
 -- The first of several.
-
-pub is_first : {X : Type 0} (o : Option X) (rest : List (Option X)) (x : X) → o ≡ Some x → first_of_all (o ∷ rest) ≡ Some x
-is_first o rest x e = ap (λ p. first_of_all (p ∷ rest)) e
-
-pub passed_over : {X : Type 0} (o : Option X) (rest : List (Option X)) → o ≡ None → first_of_all (o ∷ rest) ≡ first_of_all rest
-passed_over o rest e = ap (λ p. first_of_all (p ∷ rest)) e
 
 none_first : {X : Type 0} (o : Option X) (rest : List (Option X)) → first_of_all (o ∷ rest) ≡ None → (o ≡ None) × (first_of_all rest ≡ None)
 none_first None rest h = (refl, h)
@@ -44,16 +38,6 @@ accepted q schemas h = go (unknown_table q schemas) (unknown_column q schemas) (
 
 -- The first condition that stands, step by step.
 
-past_two : {X : Type 0} (a b : Option X) (rest : List (Option X)) → first_of_all (a ∷ b ∷ []) ≡ None → first_of_all (a ∷ b ∷ rest) ≡ first_of_all rest
-past_two None None rest h = refl
-past_two None (Some b) rest h = absurd cc
-past_two (Some a) b rest h = absurd cc
-
-in_two : {X : Type 0} (a b : Option X) (rest : List (Option X)) (x : X) → first_of_all (a ∷ b ∷ []) ≡ Some x → first_of_all (a ∷ b ∷ rest) ≡ Some x
-in_two None None rest x h = absurd cc
-in_two None (Some b) rest x h = h
-in_two (Some a) b rest x h = h
-
 module _ (q : Query) (schemas : List Schema) where
   abbrev names_over : List FromColumn → Option Refusal
   names_over columns = first_of_all (unknown_among columns (text_columns q) ∷ ambiguous_among columns (text_columns q) ∷ [])
@@ -70,32 +54,30 @@ module _ (q : Query) (schemas : List Schema) where
   -- an unknown table
   pub table_is_first : (r : Refusal) → unknown_table q schemas ≡ Some r → Some r ≡ refusal_of q schemas
   unfolding refusal_of
-  table_is_first r h = sym (is_first (unknown_table q schemas) (unknown_column q schemas ∷ ambiguous_column q schemas ∷ bad_join_key q schemas ∷ type_mismatch q schemas ∷ not_grouped q schemas ∷ bad_order_key q schemas ∷ too_wide q schemas ∷ []) r h)
+  table_is_first r h = search (arith)
 
   behind_tables : unknown_table q schemas ≡ None → refusal_of q schemas ≡ first_of_all (unknown_column q schemas ∷ ambiguous_column q schemas ∷ bad_join_key q schemas ∷ type_mismatch q schemas ∷ not_grouped q schemas ∷ bad_order_key q schemas ∷ too_wide q schemas ∷ [])
   unfolding refusal_of
-  behind_tables h = passed_over (unknown_table q schemas) (unknown_column q schemas ∷ ambiguous_column q schemas ∷ bad_join_key q schemas ∷ type_mismatch q schemas ∷ not_grouped q schemas ∷ bad_order_key q schemas ∷ too_wide q schemas ∷ []) h
+  behind_tables h = search (arith)
 
   -- a name
   pub name_is_first : (r : Refusal) → unknown_table q schemas ≡ None → first_of_all (unknown_column q schemas ∷ ambiguous_column q schemas ∷ []) ≡ Some r → Some r ≡ refusal_of q schemas
-  name_is_first r h k = sym (behind_tables h ∙ in_two (unknown_column q schemas) (ambiguous_column q schemas) (bad_join_key q schemas ∷ type_mismatch q schemas ∷ not_grouped q schemas ∷ bad_order_key q schemas ∷ too_wide q schemas ∷ []) r k)
+  name_is_first r h k = search (arith, behind_tables)
 
   behind_names : unknown_table q schemas ≡ None → first_of_all (unknown_column q schemas ∷ ambiguous_column q schemas ∷ []) ≡ None
       → refusal_of q schemas ≡ first_of_all (bad_join_key q schemas ∷ type_mismatch q schemas ∷ not_grouped q schemas ∷ bad_order_key q schemas ∷ too_wide q schemas ∷ [])
-  behind_names h k = behind_tables h ∙ past_two (unknown_column q schemas) (ambiguous_column q schemas) (bad_join_key q schemas ∷ type_mismatch q schemas ∷ not_grouped q schemas ∷ bad_order_key q schemas ∷ too_wide q schemas ∷ []) k
+  behind_names h k = search (arith, behind_tables)
 
   same_pairs : (left right : List FromColumn) (o : Option Join) → left ≡ table_columns schemas q.from → right ≡ flat_map (table_columns schemas) (join_tables o)
       → pairs_fit left right o ≡ holds_pairs q schemas o
   same_pairs left right None l r = refl
-  same_pairs left right (Some join) l r = rw (l, r ∙ append-nil (table_columns schemas join.table)) refl
+  same_pairs left right (Some join) l r = search (arith, append-nil)
 
   -- a pair of ON
   pub pair_is_first : (left right : List FromColumn) → left ≡ table_columns schemas q.from → right ≡ flat_map (table_columns schemas) (join_tables q.join)
       → unknown_table q schemas ≡ None → first_of_all (unknown_column q schemas ∷ ambiguous_column q schemas ∷ []) ≡ None → pairs_fit left right q.join ≡ false
       → Some refuse.BadJoinKey ≡ refusal_of q schemas
-  pair_is_first left right l r h k f =
-      sym (behind_names h k ∙ ap (λ b. first_of_all (cond b None (Some refuse.BadJoinKey) ∷ type_mismatch q schemas ∷ not_grouped q schemas ∷ bad_order_key q schemas ∷ too_wide q schemas ∷ []))
-      (sym (same_pairs left right q.join l r) ∙ f))
+  pair_is_first left right l r h k f = search (arith, behind_names, same_pairs)
 
   -- types and what comes behind them
   pub later_is_first : (columns left right : List FromColumn) → columns ≡ from_columns q schemas → left ≡ table_columns schemas q.from
@@ -109,19 +91,15 @@ module _ (q : Query) (schemas : List Schema) where
 -- what no name passes
 pub none_found : {A B : Type 0} (test : A → Bool) (f : A → B) (xs : List A) → option_map f (find test xs) ≡ None → All (λ x. test x ≡ false) xs
 none_found test f [] h = All-nil (λ x. test x ≡ false)
-none_found test f (x ∷ xs) h = go (test x) refl h (none_found test f xs)
-  where
-    go : (b : Bool) → test x ≡ b → option_map f (cond b (Some x) (find test xs)) ≡ None → (option_map f (find test xs) ≡ None → All (λ x. test x ≡ false) xs) → All (λ x. test x ≡ false) (x ∷ xs)
-    go true e h more = absurd cc
-    go false e h more = All-cons (λ x. test x ≡ false) x xs e (more h)
+none_found test f (x ∷ xs) h = search (arith, none_found test f xs)
 
 -- Each name means one column.
 
 pub knows_each : (q : Query) (schemas : List Schema) → IsAccepted q schemas → All (λ c. (length (meant c (from_columns q schemas)) == 0) ≡ false) (text_columns q)
-knows_each q schemas a = none_found (λ c. length (meant c (from_columns q schemas)) == 0) (λ c. refuse.UnknownColumn (written c)) (text_columns q) a.known
+knows_each q schemas a = search (arith, none_found)
 
 pub tells_each : (q : Query) (schemas : List Schema) → IsAccepted q schemas → All (λ c. nat_lt 1 (length (meant c (from_columns q schemas))) ≡ false) (text_columns q)
-tells_each q schemas a = none_found (λ c. nat_lt 1 (length (meant c (from_columns q schemas)))) (λ c. refuse.AmbiguousColumn (written c)) (text_columns q) a.one
+tells_each q schemas a = search (arith, none_found)
 
 -- Types.
 
@@ -135,39 +113,23 @@ pub record AllFit (columns : List FromColumn) (q : Query) : Type 0 where
   pub having : fits_where columns q.having ≡ true
 
 pub all_fit : (q : Query) (schemas : List Schema) → IsAccepted q schemas → AllFit (from_columns q schemas) q
-all_fit q schemas a =
-    let columns = from_columns q schemas in
-    let items = list_all (λ (i : Item). is_typed (item_kind columns i.what)) (listed q.items) in
-    let last = both (items && fits_where columns q.filter) (fits_where columns q.having) (unless (types_fit_over columns q) refuse.TypeMismatch a.typed) in
-    let first = both items (fits_where columns q.filter) last.0 in
-    record { items = first.0; filter = first.1; having = last.1 }
+all_fit q schemas a = search (arith, both, unless)
 
 -- Widths.
 
 at_most : (n : ℕ) → nat_lt 64 n ≡ false → n ≤ 64
 at_most n k = grind arith
 
-none_wide : (n : ℕ) (ns : List ℕ) → cond (list_any (λ n. nat_lt 64 n) (n ∷ ns)) (Some refuse.TooWide) None ≡ None → (n ≤ 64) × (cond (list_any (λ n. nat_lt 64 n) ns) (Some refuse.TooWide) None ≡ None)
-none_wide n ns h = go (nat_lt 64 n) refl h
-  where
-    go : (b : Bool) → nat_lt 64 n ≡ b → cond (b || list_any (λ n. nat_lt 64 n) ns) (Some refuse.TooWide) None ≡ None → (n ≤ 64) × (cond (list_any (λ n. nat_lt 64 n) ns) (Some refuse.TooWide) None ≡ None)
-    go true e h = absurd cc
-    go false e h = (at_most n e, h)
-
 pub record IsNarrow (columns : List FromColumn) (q : Query) : Type 0 where
   pub width : length columns ≤ 64
   pub keys : length q.keys ≤ 64
 
 pub narrow : (q : Query) (schemas : List Schema) → IsAccepted q schemas → IsNarrow (from_columns q schemas) q
-narrow q schemas a =
-    let cs = none_wide (length (from_columns q schemas)) (length (listed q.items) ∷ length q.keys ∷ length q.order ∷ length (join_pairs q.join) ∷ calls_in q ∷ []) a.narrow in
-    let is = none_wide (length (listed q.items)) (length q.keys ∷ length q.order ∷ length (join_pairs q.join) ∷ calls_in q ∷ []) cs.1 in
-    let ks = none_wide (length q.keys) (length q.order ∷ length (join_pairs q.join) ∷ calls_in q ∷ []) is.1 in
-    record { width = cs.0; keys = ks.0 }
+narrow q schemas a = search (arith, at_most)
 
 -- the two tables of From are no wider than both together
 pub narrow_sides : (n : ℕ) (all left right : List FromColumn) → all ≡ left ++ right → length all ≤ n → (length left ≤ n) × (length right ≤ n)
-narrow_sides n all left right e le = let l = length-append left right in let k = ap length e in (omega (arith, l, k, le), omega (arith, l, k, le))
+narrow_sides n all left right e le = search (arith, length-append)
 
 -- Groups.
 
@@ -187,9 +149,7 @@ no_calls (i ∷ items) h =
 
 -- a query without groups has no call among its items
 pub ungrouped_items : (q : Query) → is_grouped q ≡ false → All (λ (i : Item). HasNoCall i.what) (listed q.items)
-ungrouped_items q h =
-    let calls = list_any (λ (i : Item). is_call i.what) (listed q.items) in
-    no_calls (listed q.items) (or_true (not (length q.keys == 0) || is_some q.having) calls h).1
+ungrouped_items q h = search (arith, no_calls, or_true)
 
 -- nothing is of a type that has no name of a column
 
@@ -218,16 +178,10 @@ true_false false h k = cc
 
 can_be_picked : (columns : List FromColumn) (is_key : ColumnRef → Bool) (k : ItemKind) → not_keys is_key k ≡ [] → is_typed (item_kind columns k) ≡ true → CanBePicked is_key k
 unfolding expr_kind
-can_be_picked columns is_key (kind.Plain (expr.Column c)) h t = go (is_key c) refl h
-  where
-    go : (b : Bool) → is_key c ≡ b → cond b [] (c ∷ []) ≡ [] → is_key c ≡ true
-    go true e h = e
-    go false e h = absurd cc
+can_be_picked columns is_key (kind.Plain (expr.Column c)) h t = search (arith)
 can_be_picked columns is_key (kind.Plain (expr.Number n)) h t = absurd cc
 can_be_picked columns is_key (kind.Plain (expr.Arith' op p a q b)) h t =
-    let each = none_twice (expr_columns a) (expr_columns b) h in
-    absurd (true_false (is_typed (arith_kind op (expr_kind columns a) (expr_kind columns b))) t
-    (untyped_arith op (expr_kind columns a) (expr_kind columns b) (no_name columns a each.0) (no_name columns b each.1)))
+    search (arith, none_twice, true_false, untyped_arith, no_name)
 can_be_picked columns is_key (kind.Agg call) h t = tt
 
 all_can_be_picked : (columns : List FromColumn) (is_key : ColumnRef → Bool) (items : List Item) → flat_map (λ (i : Item). not_keys is_key i.what) items ≡ []
@@ -240,11 +194,7 @@ all_can_be_picked columns is_key (i ∷ items) h t =
 
 none_left : {A : Type 0} (test : A → Bool) (xs : List A) → filter (λ x. not (test x)) xs ≡ [] → All (λ x. test x ≡ true) xs
 none_left test [] h = All-nil (λ x. test x ≡ true)
-none_left test (x ∷ xs) h = go (test x) refl h (none_left test xs)
-  where
-    go : (b : Bool) → test x ≡ b → cond (not b) (x ∷ filter (λ x. not (test x)) xs) (filter (λ x. not (test x)) xs) ≡ [] → (filter (λ x. not (test x)) xs ≡ [] → All (λ x. test x ≡ true) xs) → All (λ x. test x ≡ true) (x ∷ xs)
-    go true e h more = All-cons (λ x. test x ≡ true) x xs e (more h)
-    go false e h more = absurd cc
+none_left test (x ∷ xs) h = search (arith, none_left test xs)
 
 none_mapped : {A B : Type 0} (f : A → B) (xs : List A) → map f xs ≡ [] → xs ≡ []
 none_mapped f [] h = refl

@@ -27,8 +27,7 @@ uint_sums : (vss : List (List Value)) → list_all is_uint (partials added vss) 
 unfolding combined
 uint_sums [] = refl
 uint_sums ([] ∷ vss) = uint_sums vss
-uint_sums ((v ∷ vs) ∷ vss) =
-    ap₂ ◌&&◌ (is_uint-wrapped (list_all is_uint (v ∷ vs)) (exact_sum (v ∷ vs))) (uint_sums vss) ∙ sym (list_all-append is_uint (v ∷ vs) (joined vss))
+uint_sums ((v ∷ vs) ∷ vss) = search (arith, is_uint-wrapped, list_all-append, uint_sums vss)
 
 sums : (vss : List (List Value)) → Same (exact_sum (partials added vss)) (exact_sum (joined vss))
 unfolding combined
@@ -52,9 +51,7 @@ module _ (f : Value → Value → Value) (assoc : (a b c : Value) → f (f a b) 
   choice_of_parts op is a [] = refl
   choice_of_parts op is a ([] ∷ vss) = choice_of_parts op is a vss
   choice_of_parts op is a ((v ∷ vs) ∷ vss) =
-      choice_of_parts op is (f a (combined op (v ∷ vs))) vss
-      ∙ ap (λ w. fold f w (joined vss)) (ap (f a) (is v vs) ∙ sym (fold-out a v vs))
-      ∙ sym (fold-append (f a v) vs (joined vss))
+      search (arith, fold-out, fold-append, choice_of_parts op is (f a (combined op (v ∷ vs))) vss)
 
   pub chosen_of_parts : (op : Combine) → ((v : Value) (vs : List Value) → combined op (v ∷ vs) ≡ fold f v vs) → (vss : List (List Value)) → chosen f (partials op vss) ≡ chosen f (joined vss)
   unfolding chosen
@@ -111,14 +108,6 @@ module _ (R : Value → Value → Ordering) (total : Rattle.std.specs.Cmp.IsTota
       go false true e f = refl
       go false false e f = ap (λ u. cond u c a) (le-trans a b c e f) ∙ sym (ap (λ u. cond u b a) e)
 
-  pub first-comm : (a b : Value) → first a b ≡ first b a
-  first-comm a b = go (R a b) (R b a) (total.antisymm b a) refl
-    where
-      go : (o p : Ordering) → R b a ≡ Rattle.std.specs.Ordering.ordering_reverse (R a b) → R a b ≡ o → cond (is_lt (R b a)) b a ≡ cond (is_lt (R a b)) a b
-      go Less p h e = rw (h, e) refl
-      go Equal p h e = rw (h, e) (tie a b e)
-      go Greater p h e = rw (h, e) refl
-
 above_total : Rattle.std.specs.Cmp.IsTotalOrder (λ a b. value_cmp b a)
 above_total = record {
   antisymm = λ a b. value_cmp_total.antisymm b a;
@@ -130,13 +119,13 @@ pub lesser-assoc : (a b c : Value) → lesser (lesser a b) c ≡ lesser a (lesse
 lesser-assoc = first-assoc value_cmp value_cmp_total value_cmp-IsAntisymmetric
 
 pub lesser-comm : (a b : Value) → lesser a b ≡ lesser b a
-lesser-comm = first-comm value_cmp value_cmp_total value_cmp-IsAntisymmetric
+lesser-comm = search (arith, value_cmp_total, value_cmp-IsAntisymmetric)
 
 pub greater-assoc : (a b c : Value) → greater (greater a b) c ≡ greater a (greater b c)
 greater-assoc = first-assoc (λ a b. value_cmp b a) above_total (λ a b e. sym (value_cmp-IsAntisymmetric b a e))
 
 pub greater-comm : (a b : Value) → greater a b ≡ greater b a
-greater-comm = first-comm (λ a b. value_cmp b a) above_total (λ a b e. sym (value_cmp-IsAntisymmetric b a e))
+greater-comm = search (arith, above_total, value_cmp-IsAntisymmetric)
 
 counts : (vss : List (List Value)) → Same (exact_sum (partials counted vss)) (pos (length (joined vss)))
 unfolding combined wrapped
@@ -166,15 +155,9 @@ combined-merge counted vss = wrapped-Same true _ _ (counts vss) ∙ shown (lengt
     shown : (n : ℕ) → wrapped true (pos n) ≡ UInt (n % 2 ^ 64)
     shown n = refl
 combined-merge counts_added vss = wrapped-Same true _ _ (count_sums vss)
-combined-merge added vss = wrapped-Same _ _ _ (sums vss) ∙ ap (λ b. wrapped b (exact_sum (joined vss))) (uint_sums vss)
-combined-merge least vss = chosen_of_parts lesser lesser-assoc least (λ v vs. opened lesser v vs) vss
-  where
-    opened : (f : Value → Value → Value) (v : Value) (vs : List Value) → chosen f (v ∷ vs) ≡ fold f v vs
-    opened f v vs = refl
-combined-merge greatest vss = chosen_of_parts greater greater-assoc greatest (λ v vs. opened greater v vs) vss
-  where
-    opened : (f : Value → Value → Value) (v : Value) (vs : List Value) → chosen f (v ∷ vs) ≡ fold f v vs
-    opened f v vs = refl
+combined-merge added vss = search (arith, wrapped-Same, sums, uint_sums)
+combined-merge least vss = search (arith, chosen_of_parts, lesser-assoc)
+combined-merge greatest vss = search (arith, chosen_of_parts, greater-assoc)
 
 record SameSum (xs ys : List Value) : Type 0 where
   uint : list_all is_uint xs ≡ list_all is_uint ys
@@ -196,7 +179,7 @@ sum-permutation = along_permutation SameSum
 -- no order of the values matters
 pub combined-permutation : (op : Combine) (xs ys : List Value) → IsPermutation xs ys → combined op xs ≡ combined op ys
 unfolding combined
-combined-permutation counted xs ys h = ap (λ n. UInt (n % 2 ^ 64)) (sym (length_permutation xs ys h))
+combined-permutation counted xs ys h = search (arith, length_permutation)
 combined-permutation counts_added xs ys h = ap (wrapped true) (sum-permutation xs ys h).total
 combined-permutation added xs ys h = let s = sum-permutation xs ys h in ap₂ wrapped s.uint s.total
 combined-permutation least xs ys h = chosen-permutation lesser lesser-assoc lesser-comm xs ys h

@@ -1,5 +1,5 @@
 -- Calls that are counted, and calls that are placed one behind another.
-use Rattle.query_model.proofs.Imports.{AggCall, AreAdded, ArePicks, Bool, ColumnRef, EachWith, FromColumn, IsPick, IsPlacedCall, Item, List, Operand, [], ap, append_assoc, arith, cond, false, filter, flat_map, get_or, is_call_item, item_calls, length, length-append, map, map-append, operand_calls, place_in, refl, subst, suc, sym, take, take_more, total, true, ℕ, ◌++◌, ◌+◌, ◌<◌, ◌∙◌, ◌∷◌, ◌≡◌}
+use Rattle.query_model.proofs.Imports.{AggCall, AreAdded, ArePicks, ColumnRef, EachWith, FromColumn, IsPick, IsPlacedCall, Item, List, Operand, [], ap, append_assoc, arith, cond, filter, flat_map, get_or, is_call_item, item_calls, length, length-append, map, map-append, operand_calls, place_in, refl, suc, take, take_more, total, ℕ, ◌++◌, ◌+◌, ◌<◌, ◌∙◌, ◌∷◌, ◌≡◌}
 
 total-append : (xs ys : List ℕ) → total (xs ++ ys) ≡ total xs + total ys
 total-append [] ys = omega arith
@@ -7,7 +7,7 @@ total-append (x ∷ xs) ys = let e = total-append xs ys in omega (arith, e)
 
 -- the calls of operands in two lists
 pub calls_of_both : (xs ys : List (Operand ColumnRef)) → total (map operand_calls (xs ++ ys)) ≡ total (map operand_calls xs) + total (map operand_calls ys)
-calls_of_both xs ys = ap total (map-append operand_calls xs ys) ∙ total-append (map operand_calls xs) (map operand_calls ys)
+calls_of_both xs ys = search (arith, map-append, total-append)
 
 -- lists that are related one by one are as long
 pub length_each : {A B : Type 0} (R : A → B → Type 0) (xs : List A) (ys : List B) → EachWith R xs ys → length ys ≡ length xs
@@ -25,28 +25,21 @@ each_append R (x ∷ xs) zs (y ∷ ys) ws h k = (h.0, each_append R xs zs ys ws 
 -- as many calls are added as are placed
 pub length_added : (columns : List FromColumn) (calls : List (AggCall ColumnRef)) (before after : List (AggCall ℕ)) → AreAdded columns calls before after
     → length after ≡ length before + length calls
-length_added columns calls before after h =
-    let a = length-append before h.more in
-    let b = length_each (IsPlacedCall (place_in columns)) calls h.more h.placed in
-    ap length h.is ∙ a ∙ ap (λ n. length before + n) b
+length_added columns calls before after h = search (arith, length-append, length_each)
 
 -- calls that are added behind added ones
 pub both_added : (columns : List FromColumn) (calls others : List (AggCall ColumnRef)) (before mid after : List (AggCall ℕ)) → AreAdded columns calls before mid → AreAdded columns others mid after
     → AreAdded columns (calls ++ others) before after
-both_added columns calls others before mid after h k = record {
-  more = h.more ++ k.more;
-  is = k.is ∙ ap (λ l. l ++ k.more) h.is ∙ append_assoc before h.more k.more;
-  placed = each_append (IsPlacedCall (place_in columns)) calls others h.more k.more h.placed k.placed;
-}
+both_added columns calls others before mid after h k = search (arith, append_assoc, each_append)
 
 -- all calls are placed that are added to none
 pub added_to_none : (columns : List FromColumn) (calls : List (AggCall ColumnRef)) (after : List (AggCall ℕ)) → AreAdded columns calls [] after → EachWith (IsPlacedCall (place_in columns)) calls after
-added_to_none columns calls after h = subst (λ l. EachWith (IsPlacedCall (place_in columns)) calls l) (sym h.is) h.placed
+added_to_none columns calls after h = search (arith)
 
 -- one more item is picked
 pub picks_last : (place : ColumnRef → ℕ) (k n : ℕ) (items : List Item) (picks : List ℕ) (i : Item) (p : ℕ) → ArePicks place k items picks
     → n ≡ k + length (flat_map (λ (i : Item). item_calls i.what) items) → IsPick place n i.what p → ArePicks place k (items ++ i ∷ []) (picks ++ p ∷ [])
-picks_last place k n [] [] i p h e is = (subst (λ m. IsPick place m i.what p) (omega (arith, e)) is, tt)
+picks_last place k n [] [] i p h e is = search (arith)
 picks_last place k n [] (q ∷ picks) i p h e is = absurd h
 picks_last place k n (x ∷ items) [] i p h e is = absurd h
 picks_last place k n (x ∷ items) (q ∷ picks) i p h e is =
@@ -54,20 +47,8 @@ picks_last place k n (x ∷ items) (q ∷ picks) i p h e is =
     (h.0, picks_last place (k + length (item_calls x.what)) n items picks i p h.1 (omega (arith, e, long)) is)
 
 last_counted : (xs : List Item) (x : Item) → length (filter is_call_item xs) + cond (is_call_item x) 1 0 ≡ length (filter is_call_item (xs ++ x ∷ []))
-last_counted [] x = one (is_call_item x)
-  where
-    one : (b : Bool) → 0 + cond b 1 0 ≡ length (cond b (x ∷ []) [])
-    one true = refl
-    one false = refl
-last_counted (y ∷ xs) x = go (is_call_item y) (last_counted xs x)
-  where
-    go : (b : Bool) → length (filter is_call_item xs) + cond (is_call_item x) 1 0 ≡ length (filter is_call_item (xs ++ x ∷ []))
-        → length (cond b (y ∷ filter is_call_item xs) (filter is_call_item xs)) + cond (is_call_item x) 1 0
-        ≡ length (cond b (y ∷ filter is_call_item (xs ++ x ∷ [])) (filter is_call_item (xs ++ x ∷ [])))
-    go true h =
-        let step : suc (length (filter is_call_item xs)) + cond (is_call_item x) 1 0 ≡ suc (length (filter is_call_item (xs ++ x ∷ []))) = omega (arith, h) in
-        step
-    go false h = h
+last_counted [] x = search (arith)
+last_counted (y ∷ xs) x = search (arith, last_counted xs x)
 
 -- one more item is counted
 pub one_more_counted : (items : List Item) (i : ℕ) (d : Item) (n m : ℕ) → i < length items → n ≡ length (filter is_call_item (take i items))

@@ -1,31 +1,18 @@
 -- The names from outside that this crate's proofs use, in one place.
 pub use Rattle.chunk_data.proofs.Crossing.{bytes_send, list_send}
+pub use Rattle.chunk_data.proofs.Imports.{IsSend, RattleType, drop_all, drop_more, length-map, map-append, sendable, take_more}
 pub use Rattle.chunk_data.proofs.Laws.{FitsTypes-at, length-FitsTypes}
 pub use Rattle.chunk_data.specs.Values.{FitsType, FitsTypes, Row, Table, key_cmp, same_row, type_of, value_at, value_cmp, values_at}
-pub use Rattle.chunk_data.specs.declared.typed_value.ColumnType.{ColumnType}
-pub use Rattle.chunk_data.specs.declared.typed_value.SortKey.{SortKey}
-pub use Rattle.chunk_data.specs.declared.typed_value.Value.{Value}
-pub use Rattle.chunk_data.specs.declared.typed_value.Value.TheVariants.{Int, Text, UInt}
-pub use Rattle.query_model.specs.Checks.{pair_of, place_of}
-pub use Rattle.query_model.specs.Names.{AggCall, AggOp, AllPartsValid, AreAdded, AreColumnsFrom, AreNumbersAlike, ArePicks, ArePlainItems, ArithOp, BadPlace, BothOrNone, Call, CanBePicked, CanHold, Checked, CheckedJoin, ColumnDecl, ColumnRef, Combine, CompareOp, Cond, CondOf, Database, EachWith, Expr, ExprOf, Grouping, HasItsArgument, HasNoCall, IsAnalysable, IsAnswer, IsChecked, IsCheckedJoin, IsDue, IsGroupedOperand, IsGrouping, IsItem, IsNoCall, IsOrderedAnswer, IsPick, IsPlaced, IsPlacedCall, IsPlacedCond, IsPlacedItem, IsPlacedJoin, IsPlainQuery, IsShape, IsTyped, IsTypedCall, IsTypedCond, IsTypedFilter, IsTypedGrouping, IsTypedOperand, IsTypedQuery, IsTypedShape, IsValidPart, IsValidUsed, IsWithin, Item, ItemKind, Items, Join, KeyPair, NamePair, Number, Operand, OrderKey, PartsDecl, Query, Refusal, Schema, Shape, Span, SpelledFront, TableDecl, UsedPart, added, agree, ambiguous_among, and_then, answer_text, bad_field, both_spelled, call_of, call_type, calls_of, column_types, combine_of, counted, counts_added, database, distinct_rows, enough, exact, exact_sum, first_ungrouped, gives_uint, greater, greatest, group_types, grouped_by, groups, groups_or_default, holds, is_call_item, is_digit, is_key_of, is_text, is_uint, is_uint_column, item_calls, item_names, item_row, joined_rows, key_place, known_type, least, lesser, limited, merge_of, merged_groups, name_or, not_grouped_over, number_of, numbered_parts, numeral_below, operand_calls, operand_type, order_over, output_rows, pairs_fit, part_paths, part_rows, parts_rows, place_by, place_in, plain_name, plain_of, plain_value, projection_checked, query_calls, refusal_unless, row_then, rows_where, rows_with, selected_rows, spelled_int, spelled_value, state_calls, takes_argument, total, types_fit_over, types_of, ungrouped_over, unknown_among, width_over, with_digit}
-pub use Rattle.query_model.specs.Placing.{order_refusal, sort_key}
+pub use Rattle.query_model.specs.Names.{AggCall, AggOp, AllPartsValid, AreAdded, AreColumnsFrom, AreNumbersAlike, ArePicks, ArePlainItems, ArithOp, BadPlace, BothOrNone, Call, CanBePicked, CanHold, Checked, CheckedJoin, ColumnDecl, ColumnRef, Combine, CompareOp, Cond, CondOf, Database, EachWith, Expr, ExprOf, Grouping, HasItsArgument, HasNoCall, IsAnalysable, IsAnswer, IsChecked, IsCheckedJoin, IsDue, IsGroupedOperand, IsGrouping, IsItem, IsNoCall, IsOrderedAnswer, IsPick, IsPlaced, IsPlacedCall, IsPlacedCond, IsPlacedItem, IsPlacedJoin, IsPlainQuery, IsShape, IsTyped, IsTypedCall, IsTypedCond, IsTypedFilter, IsTypedGrouping, IsTypedOperand, IsTypedQuery, IsTypedShape, IsValidPart, IsValidUsed, IsWithin, Item, ItemKind, Items, Join, KeyPair, NamePair, Number, Operand, OrderKey, PartsDecl, Query, Refusal, Schema, Shape, Span, SpelledFront, TableDecl, UsedPart, added, agree, ambiguous_among, and_then, answer_text, bad_field, both_spelled, call_of, call_type, calls_of, column_types, combine_of, counted, counts_added, database, distinct_rows, enough, exact, exact_sum, first_ungrouped, gives_uint, greater, greatest, group_types, grouped_by, groups, groups_or_default, holds, is_call_item, is_digit, is_key_of, is_text, is_uint, is_uint_column, item_calls, item_names, item_row, joined_rows, key_place, known_type, least, lesser, limited, merge_of, merged_groups, name_or, not_grouped_over, number_of, numbered_parts, numeral_below, operand_calls, operand_type, order_over, order_refusal, output_rows, pair_of, pairs_fit, part_paths, part_rows, parts_rows, place_by, place_in, place_of, plain_name, plain_of, plain_value, projection_checked, query_calls, refusal_unless, row_then, rows_where, rows_with, selected_rows, sort_key, spelled_int, spelled_value, state_calls, takes_argument, total, types_fit_over, types_of, ungrouped_over, unknown_among, width_over, with_digit}
+pub use Rattle.query_model.specs.Prelude.{Add, Column, ColumnType, Count, Declared, Fields, Grouped, Int, Listed, Max, Min, Mul, Named, Paths, Plain, SortKey, Star, Sub, Sum, Text, UInt, Value, bytes_eq, codes, find, flat_map, is_some, nat_lt, not, option_map, option_or, slice_index_or, unsigned_abs, ⊤}
 pub use Rattle.query_model.specs.Refusals.{FromColumn, Kind, agg_kind, ambiguous_column, arith_kind, bad_join_key, bad_order_key, bare_columns, call_kind, calls_in, can_hold, comparable, declared_column, first_name, first_of_all, fits_where, from_columns, holds_pairs, is_call, is_grouped, is_typed, item_columns, item_kind, join_pairs, join_tables, known_kind, listed, means, meant, meant_type, not_grouped, not_keys, operand_columns, operand_kind, operands_of, plain, result_type, same_column, same_type, star_name, table_columns, text_columns, too_wide, type_mismatch, typed, unfit, ungrouped_names, unknown_column, unknown_table, written}
 pub use Rattle.query_model.specs.Texts.{doubled, quoted, row_front, row_text, rows_text, separator, value_text}
-pub use Rattle.query_model.specs.declared.checked.Shape.TheVariants.{Grouped, Plain}
-pub use Rattle.query_model.specs.declared.checked.TableUse.TheVariants.{Declared}
-pub use Rattle.query_model.specs.declared.places.BadField.TheVariants.{Column, Fields}
-pub use Rattle.query_model.specs.declared.query.AggOp.TheVariants.{Count, Max, Min, Sum}
-pub use Rattle.query_model.specs.declared.query.ArithOp.TheVariants.{Add, Mul, Sub}
-pub use Rattle.query_model.specs.declared.query.Items.TheVariants.{Listed, Star}
-pub use Rattle.query_model.specs.declared.query.PartsDecl.TheVariants.{Paths}
-pub use Rattle.query_model.specs.declared.query.TableRef.TheVariants.{Named}
-pub use Rattle.std.proofs.Common.{Bool, Box, Equal, Global, Greater, IsPermutation, IsSorted, Less, List, None, Option, Ordering, Some, [], ap, append_assoc, ap₂, arith, cond, drop, false, filter, fold, get_or, if◌then◌else◌, inl, inr, is_eq, is_gt, is_lt, length, length-append, length-take, lit<, map, negsuc, pos, refl, set, subst, suc, swap, sym, take, true, zero, ℕ, ℤ, ◌%◌, ◌&&◌, ◌*◌, ◌++◌, ◌+ℤ◌, ◌+◌, ◌-ℤ◌, ◌-◌, ◌<◌, ◌^◌, ◌||◌, ◌∙◌, ◌∷◌, ◌≡◌, ◌≢◌, ◌≤◌, ◌⊎◌}
+pub use Rattle.std.proofs.Common.{Bool, Box, Equal, Global, Greater, IfOk, IsPermutation, IsSorted, Less, List, None, Option, Ordering, Some, [], ap, append-nil, append_assoc, ap₂, arith, cond, drop, false, filter, fold, get_or, get_or-append-add, if◌then◌else◌, inl, inr, is_eq, is_gt, is_lt, length, length-append, length-take, lit<, map, negsuc, pos, refl, replicate, set, subst, suc, swap, sym, take, take_all, true, zero, ℕ, ℤ, ◌%◌, ◌&&◌, ◌*◌, ◌++◌, ◌+ℤ◌, ◌+◌, ◌-ℤ◌, ◌-◌, ◌<◌, ◌==◌, ◌^◌, ◌||◌, ◌∙◌, ◌∷◌, ◌≡◌, ◌≢◌, ◌≤◌, ◌⊎◌}
 pub use Rattle.std.proofs.Crossing.{Box-send, crosses}
 pub use Rattle.std.proofs.lemmas.Bool.{both_ways, cond_both}
 pub use Rattle.std.proofs.lemmas.Cmp.{tied_itself, upto}
 pub use Rattle.std.proofs.lemmas.Grind.{flat_map-append}
 pub use Rattle.std.proofs.lemmas.Int.{SFits-int_wrap, int_rem_euclid_is, int_wrap-add_left, int_wrap-add_right, int_wrap_fits, ints, of_z-to_z, to_z-of_z, wrapping_add_is, wrapping_sub_is}
-pub use Rattle.std.proofs.lemmas.List.{append-nil, drop_all, drop_more, get_or-append-add, length-map, map-append, take_all, take_more}
 pub use Rattle.std.proofs.lemmas.List.Elements.{All-append, All-cons, All-head, All-nil, All-tail, filter-append}
 pub use Rattle.std.proofs.lemmas.List.Folds.{list_any-append}
 pub use Rattle.std.proofs.lemmas.List.Sorted.{IsPermutation-append, IsPermutation-append_comm, IsPermutation-append_left, IsPermutation-append_right, IsPermutation-cons, IsPermutation-keeps, IsPermutation-map, IsPermutation-refl, IsPermutation-sym, IsPermutation-trans, length_permutation}
@@ -34,19 +21,13 @@ pub use Rattle.std.specs.Cmp.Lexicographic.{lists_total, nat_list_cmp_total}
 pub use Rattle.std.specs.FinMap.{IsAntisymmetric, int_cmp-IsAntisymmetric, nat_cmp-IsAntisymmetric, slice_cmp-IsAntisymmetric}
 pub use Rattle.std.specs.Int.{cast_signed, cast_unsigned, int_rem_euclid}
 pub use Rattle.std.specs.List.{All, AllByRecursion, join_with_byte, list_all, list_any}
-pub use Rattle.std.specs.Option.{option_or}
 pub use Rattle.std.specs.Ordering.{ordering_reverse, ordering_then}
-pub use Rattle.std.specs.Prelude.{IfOk, bytes_eq, codes, find, flat_map, is_some, nat_lt, not, option_map, replicate, slice_index_or, unsigned_abs, ⊤, ◌==◌}
 pub use Rattle.std.specs.contracts.impls.GlobalAllocator.TheImpl.{ghosts}
 pub use denote.Builtin.{u32}
 pub use denote.Hole.{as_row}
 pub use denote.Hole.FixSend.{Sends, fix_send}
-pub use denote.Param.Send.{IsSend, sendable}
 pub use denote.Param.SendFields.{as_row_send, variants_send}
-pub use denote.RattleType.{RattleType}
 pub use denote.Struct.Field.{row_field}
 pub use mir.Syntax.{w64}
 unfoldable pub use Rattle.chunk_data.specs.Values.{row_cmp}
-unfoldable pub use Rattle.query_model.specs.Groups.{distinct}
-unfoldable pub use Rattle.query_model.specs.Names.{bad_column, bad_line, bad_place, chosen, combined, cond_fits, cond_operands, count_up, good_rows, lines_from, operand_value, part_records, spelled_row, truth_of, value_of, with_digits, wrapped}
-unfoldable pub use Rattle.query_model.specs.Refusals.{expr_columns, expr_kind, refusal_of}
+unfoldable pub use Rattle.query_model.specs.Names.{bad_column, bad_line, bad_place, chosen, combined, cond_fits, cond_operands, count_up, distinct, expr_columns, expr_kind, good_rows, lines_from, operand_value, part_records, refusal_of, spelled_row, truth_of, value_of, with_digits, wrapped}

@@ -1,5 +1,5 @@
 -- The merge of the groups of parts is the groups of all rows.
-use Rattle.query_model.proofs.Imports.{AggCall, AllByRecursion, Bool, Call, Combine, IsPermutation, IsPermutation-map, IsPermutation-trans, List, Row, Text, Value, [], ap, append_assoc, ap₂, arith, call_of, combine_of, combined, cond, distinct, distinct_rows, false, filter, flat_map, get_or, grouped_by, groups, length, length-append, map, merge_of, merged_groups, not, refl, rows_with, same_row, state_calls, suc, sym, take, true, value_at, values_at, zero, ℕ, ◌++◌, ◌+◌, ◌∙◌, ◌∷◌, ◌≡◌}
+use Rattle.query_model.proofs.Imports.{AggCall, AllByRecursion, Bool, Call, Combine, IsPermutation, IsPermutation-map, IsPermutation-trans, List, Row, Text, Value, [], ap, append_assoc, ap₂, arith, call_of, combine_of, combined, cond, distinct, distinct_rows, false, filter, flat_map, get_or, grouped_by, groups, length, length-append, map, merge_of, merged_groups, refl, rows_with, same_row, state_calls, suc, sym, take, true, value_at, values_at, zero, ℕ, ◌++◌, ◌+◌, ◌∙◌, ◌∷◌, ◌≡◌}
 use Rattle.query_model.proofs.Lists.{map-map, map-flat_map, flat_map-map, filter-flat_map, filter-map, IsPermutation-filter, IsPermutation-same}
 use Rattle.query_model.proofs.Distinct.{distinct-filter, distinct-append_left, distinct-append_right, IsPermutation-distinct}
 use Rattle.query_model.proofs.ValueOrder.{same_row_is}
@@ -51,16 +51,7 @@ key_of k (r ∷ rs) = k ∷ []
 one_key : (k : Row) (ks : List Row) → distinct_rows (filter (same_row k) ks) ≡ key_of k (filter (same_row k) ks)
 unfolding distinct
 one_key k [] = refl
-one_key k (x ∷ ks) = go (same_row k x) refl (one_key k ks)
-  where
-    none_left : (ys : List Row) → distinct_rows ys ≡ key_of k ys → k ≡ x → filter (λ y. not (same_row x y)) (distinct_rows ys) ≡ []
-    none_left [] h e = refl
-    none_left (y ∷ ys) h e = ap (filter (λ z. not (same_row x z))) h ∙ rw (e, same_row_is.itself x) refl
-
-    go : (b : Bool) → same_row k x ≡ b → distinct_rows (filter (same_row k) ks) ≡ key_of k (filter (same_row k) ks)
-        → distinct_rows (cond b (x ∷ filter (same_row k) ks) (filter (same_row k) ks)) ≡ key_of k (cond b (x ∷ filter (same_row k) ks) (filter (same_row k) ks))
-    go true e h = let q : k ≡ x = same_row_is.one k x e in ap₂ ◌∷◌ (sym q) (none_left (filter (same_row k) ks) h q)
-    go false e h = h
+one_key k (x ∷ ks) = search (arith, same_row_is, one_key k ks)
 
 key_of-map : (f : Row → Row) (k : Row) (rs : List Row) → key_of k (map f rs) ≡ key_of k rs
 key_of-map f k [] = refl

@@ -16,11 +16,7 @@ place_found test (x ∷ xs) (suc i) d none lt t = go (test x) none (λ n. place_
 -- a place that was found is one of the places
 pub place_within : {A : Type 0} (test : A → Bool) (xs : List A) → list_any test xs ≡ true → place_of test xs < length xs
 place_within test [] h = absurd cc
-place_within test (x ∷ xs) h = go (test x) h (place_within test xs)
-  where
-    go : (b : Bool) → (b || list_any test xs) ≡ true → (list_any test xs ≡ true → place_of test xs < length xs) → cond b 0 (place_of test xs + 1) < suc (length xs)
-    go true h more = omega arith
-    go false h more = let m = more h in omega (arith, m)
+place_within test (x ∷ xs) h = search (arith, place_within test xs)
 
 -- none passes
 pub place_at_end : {A : Type 0} (test : A → Bool) (xs : List A) (i : ℕ) → list_any test (take i xs) ≡ false → length xs ≤ i → length xs ≡ place_of test xs
@@ -34,8 +30,4 @@ place_at_end test (x ∷ xs) (suc i) none le = go (test x) none (λ n. place_at_
 
 pub place_of-le : {A : Type 0} (test : A → Bool) (xs : List A) → place_of test xs ≤ length xs
 place_of-le test [] = omega arith
-place_of-le test (x ∷ xs) = go (test x) (place_of-le test xs)
-  where
-    go : (b : Bool) → place_of test xs ≤ length xs → cond b 0 (place_of test xs + 1) ≤ suc (length xs)
-    go true m = omega arith
-    go false m = omega arith
+place_of-le test (x ∷ xs) = search (arith, place_of-le test xs)

@@ -19,7 +19,7 @@ each_last R (a ∷ xs) (b ∷ ys) x y h r = (h.0, each_last R xs ys x y h.1 r)
 
 pub each_more : {A B : Type 0} (R : A → B → Type 0) (xs : List A) (ys : List B) (i : ℕ) (d : A) (y : B) → i < length xs → EachWith R (take i xs) ys → R (get_or xs i d) y
     → EachWith R (take (i + 1) xs) (ys ++ y ∷ [])
-each_more R xs ys i d y lt h r = subst (λ l. EachWith R l (ys ++ y ∷ [])) (sym (take_more xs i d lt)) (each_last R (take i xs) ys (get_or xs i d) y h r)
+each_more R xs ys i d y lt h r = search (arith, take_more, each_last)
 
 columns_last : (k n : ℕ) (cs : List FromColumn) (es : List Expr) (c : FromColumn) → AreColumnsFrom k cs es → n ≡ k + length cs → AreColumnsFrom k (cs ++ c ∷ []) (es ++ expr.Column n ∷ [])
 columns_last k n [] [] c h e = (omega (arith, e), tt)
@@ -40,7 +40,7 @@ columns_more cs es i lt h =
 -- names of items, of which the last has a place behind them
 pub names_last : (k n : ℕ) (items : List Item) (i : Item) → n ≡ k + length items → item_names k (items ++ i ∷ []) ≡ item_names k items ++ name_or i.alias (plain_name i.what n) ∷ []
 names_last k n [] i e = ap (λ m. name_or i.alias (plain_name i.what m) ∷ []) (omega (arith, e))
-names_last k n (x ∷ items) i e = ap (λ l. name_or x.alias (plain_name x.what k) ∷ l) (names_last (k + 1) n items i (omega (arith, e)))
+names_last k n (x ∷ items) i e = search (arith, names_last (k + 1) n items i (omega (arith, e)))
 
 pub length-item_names : (k : ℕ) (items : List Item) → length (item_names k items) ≡ length items
 length-item_names k [] = refl

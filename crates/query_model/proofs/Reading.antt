@@ -1,5 +1,5 @@
 -- Reading a part field by field and record by record.
-use Rattle.query_model.proofs.Imports.{Column, ColumnType, Fields, FitsType, FitsTypes, Int, List, None, Option, Row, Some, SpelledFront, UInt, Value, [], ap, ap₂, arith, bad_column, bad_field, both_spelled, cond, drop, drop_all, drop_more, false, get_or, is_some, length, length-append, numeral_below, option_map, refl, spelled_int, spelled_row, spelled_value, subst, suc, sym, type_of, ℕ, ℤ, ◌++◌, ◌+◌, ◌<◌, ◌==◌, ◌^◌, ◌∙◌, ◌∷◌, ◌≡◌, ◌≢◌}
+use Rattle.query_model.proofs.Imports.{ColumnType, Fields, FitsType, FitsTypes, List, None, Option, Row, Some, SpelledFront, Value, [], ap, arith, bad_column, bad_field, both_spelled, cond, drop, drop_all, drop_more, false, get_or, is_some, length, length-append, refl, spelled_row, spelled_value, subst, suc, sym, type_of, ℕ, ℤ, ◌++◌, ◌+◌, ◌<◌, ◌==◌, ◌^◌, ◌∙◌, ◌∷◌, ◌≡◌, ◌≢◌}
 use Rattle.chunk_data.specs.declared.typed_value.ColumnType.TheVariants as column
 
 some_is : {A : Type 0} (x y : A) → Some x ≡ Some y → x ≡ y
@@ -7,9 +7,6 @@ some_is x y h = cc
 
 some_not_none : {A : Type 0} (x : A) → None ≡ Some x → ⊥
 some_not_none x h = cc
-
-other_number : (a b : ℕ) → a ≢ b → (a == b) ≡ false
-other_number a b e = grind arith
 
 -- one more field
 
@@ -33,8 +30,7 @@ spelled_row-front (t ∷ types) fields [] front a b = absurd (omega (arith, a))
 spelled_row-front [] fields (v ∷ row) front a b = absurd front
 spelled_row-front (t ∷ types) [] (v ∷ row) front a b = absurd front
 spelled_row-front (t ∷ types) (f ∷ fields) (v ∷ row) front a b =
-    ap (λ o. both_spelled o (spelled_row types fields)) front.0
-    ∙ ap (option_map (λ r. v ∷ r)) (spelled_row-front types fields row front.1 (omega (arith, a)) (omega (arith, b)))
+    search (arith, spelled_row-front types fields row front.1 (omega (arith, a)) (omega (arith, b)))
 
 -- a field that spells no value
 
@@ -44,45 +40,34 @@ pub spelled_row-stops : (types : List ColumnType) (fields : List (List ℕ)) (ro
 unfolding spelled_row
 spelled_row-stops [] fields row d e front few long is = absurd (omega (arith, few))
 spelled_row-stops (t ∷ types) [] row d e front few long is = absurd (omega (arith, long))
-spelled_row-stops (t ∷ types) (f ∷ fields) [] d e front few long is = ap (λ o. both_spelled o (spelled_row types fields)) is
-spelled_row-stops (t ∷ types) (f ∷ fields) (w ∷ row) d e front few long is =
-    ap (λ o. both_spelled o (spelled_row types fields)) front.0
-    ∙ ap (option_map (λ r. w ∷ r)) (spelled_row-stops types fields row d e front.1 (omega (arith, few)) (omega (arith, long)) is)
+spelled_row-stops (t ∷ types) (f ∷ fields) [] d e front few long is = search (arith)
+spelled_row-stops (t ∷ types) (f ∷ fields) (w ∷ row) d e front few long is = search (
+  arith,
+  spelled_row-stops types fields row d e front.1 (omega (arith, few)) (omega (arith, long)) is,
+)
 
 -- from column i on
 pub bad_column-step : (types : List ColumnType) (fields : List (List ℕ)) (i : ℕ) (d : ColumnType) (e f : List ℕ) (c : ℕ)
     → i < length types → i < length fields → f ≡ get_or fields i e
     → bad_column c (drop i types) (drop i fields) ≡ cond (is_some (spelled_value (get_or types i d) f)) (bad_column (c + 1) (drop (i + 1) types) (drop (i + 1) fields)) c
 unfolding bad_column
-bad_column-step types fields i d e f c few long is =
-    ap₂ (bad_column c) (drop_more types i d few) (drop_more fields i e long)
-    ∙ ap (λ g. cond (is_some (spelled_value (get_or types i d) g)) (bad_column (c + 1) (drop (i + 1) types) (drop (i + 1) fields)) c) (sym is)
+bad_column-step types fields i d e f c few long is = search (arith, drop_more)
 
 pub bad_column-end : (types : List ColumnType) (fields : List (List ℕ)) (i : ℕ) → i ≡ length types
     → bad_column (i + 1) (drop i types) (drop i fields) ≡ length types + 1
 unfolding bad_column
-bad_column-end types fields i whole =
-    ap (λ ts. bad_column (i + 1) ts (drop i fields)) (drop_all i types (omega (arith, whole))) ∙ ap (λ k. k + 1) whole
+bad_column-end types fields i whole = search (arith, drop_all)
 
 -- another number of fields
 
 pub bad_field-lengths : (types : List ColumnType) (fields : List (List ℕ)) → length fields ≢ length types → bad_field types fields ≡ Fields (length fields)
-bad_field-lengths types fields other =
-    ap (λ b. cond b (Column (bad_column 1 types fields)) (Fields (length fields))) (other_number _ _ other)
+bad_field-lengths types fields other = search (arith)
 
 -- what a spelled row is like
 
 spelled_value-fits : (t : ColumnType) (f : List ℕ) (v : Value) → spelled_value t f ≡ Some v → FitsType t v
-spelled_value-fits column.Int64 f v h = go (spelled_int f) h
-  where
-    go : (o : Option ℤ) → option_map Int o ≡ Some v → type_of v ≡ column.Int64
-    go None e = absurd (some_not_none _ e)
-    go (Some z) e = ap type_of (sym (some_is _ _ e))
-spelled_value-fits column.UInt64 f v h = go (numeral_below (2 ^ 64) f) h
-  where
-    go : (o : Option ℕ) → option_map UInt o ≡ Some v → type_of v ≡ column.UInt64
-    go None e = absurd (some_not_none _ e)
-    go (Some z) e = ap type_of (sym (some_is _ _ e))
+spelled_value-fits column.Int64 f v h = search (arith, some_not_none, some_is)
+spelled_value-fits column.UInt64 f v h = search (arith, some_not_none, some_is)
 spelled_value-fits column.Text f v h = ap type_of (sym (some_is _ _ h))
 
 -- a row of the types, from as many fields
@@ -92,7 +77,7 @@ pub record IsSpelled (types : List ColumnType) (fields : List (List ℕ)) (row :
 
 pub spelled_row-is : (types : List ColumnType) (fields : List (List ℕ)) (row : Row) → spelled_row types fields ≡ Some row → IsSpelled types fields row
 unfolding spelled_row
-spelled_row-is [] [] row h = subst (IsSpelled [] []) (some_is _ _ h) (record { fits = tt; long = refl })
+spelled_row-is [] [] row h = search (arith, some_is)
 spelled_row-is [] (f ∷ fields) row h = absurd (some_not_none _ h)
 spelled_row-is (t ∷ types) [] row h = absurd (some_not_none _ h)
 spelled_row-is (t ∷ types) (f ∷ fields) row h = go (spelled_value t f) (spelled_row types fields) refl (λ r e. spelled_row-is types fields r e) h
@@ -112,36 +97,25 @@ pub spelled_row-length : (types : List ColumnType) (fields : List (List ℕ)) (r
 spelled_row-length types fields row h = (spelled_row-is types fields row h).long
 
 pub spelled_row-lengths : (types : List ColumnType) (fields : List (List ℕ)) → length fields ≢ length types → spelled_row types fields ≡ None
-spelled_row-lengths types fields other = go (spelled_row types fields) refl
-  where
-    go : (o : Option Row) → spelled_row types fields ≡ o → o ≡ None
-    go None e = refl
-    go (Some row) e = absurd (other (spelled_row-length types fields row e))
+spelled_row-lengths types fields other = search (arith, spelled_row-length)
 
 -- The same, as a loop over the columns has them: with i columns read, the field at place i is f.
 
 pub front_starts : (types : List ColumnType) (fields : List (List ℕ)) (row : Row) → row ≡ [] → SpelledFront types fields row × (length row ≡ 0)
-front_starts types fields row e = let P : Row → Type 0 = λ r. SpelledFront types fields r × (length r ≡ 0) in subst P (sym e) (tt, refl)
+front_starts types fields row e = search (arith)
 
 pub none_spelled : (types : List ColumnType) (fields : List (List ℕ)) (row : Row) (i : ℕ) (d : ColumnType) (e f : List ℕ)
     → length types ≡ length fields → SpelledFront types fields row → length row ≡ i → i < length types → f ≡ get_or fields i e
     → spelled_value (get_or types i d) f ≡ None → spelled_row types fields ≡ None
 none_spelled types fields row i d e f same front long inside is no_value =
-    spelled_row-stops types fields row d e front (omega (arith, long, inside)) (omega (arith, same, long, inside))
-    (ap (λ k. spelled_value (get_or types k d) (get_or fields k e)) long ∙ ap (spelled_value (get_or types i d)) (sym is) ∙ no_value)
+    search (arith, spelled_row-stops)
 
 pub front_grows : (types : List ColumnType) (fields : List (List ℕ)) (row grown : Row) (v : Value) (i : ℕ) (d : ColumnType) (e f : List ℕ)
     → length types ≡ length fields → SpelledFront types fields row → length row ≡ i → i < length types → f ≡ get_or fields i e
     → spelled_value (get_or types i d) f ≡ Some v → grown ≡ row ++ v ∷ [] → SpelledFront types fields grown × (length grown ≡ i + 1)
 front_grows types fields row grown v i d e f same front long inside is value grows =
-    let P : Row → Type 0 = λ r. SpelledFront types fields r × (length r ≡ i + 1) in
-    let one_more = length-append row (v ∷ []) in
-    subst P (sym grows) (
-      SpelledFront-snoc types fields row v d e front (omega (arith, long, inside)) (omega (arith, same, long, inside))
-          (ap (λ k. spelled_value (get_or types k d) (get_or fields k e)) long ∙ ap (spelled_value (get_or types i d)) (sym is) ∙ value),
-      omega (arith, one_more, long),
-    )
+    search (arith, length-append, SpelledFront-snoc)
 
 pub front_whole : (types : List ColumnType) (fields : List (List ℕ)) (row whole : Row)
     → length types ≡ length fields → SpelledFront types fields row → length types ≡ length row → whole ≡ row → spelled_row types fields ≡ Some whole
-front_whole types fields row whole same front long is = spelled_row-front types fields row front long (omega (arith, same, long)) ∙ ap Some (sym is)
+front_whole types fields row whole same front long is = search (arith, spelled_row-front)

@@ -1,5 +1,5 @@
 -- Refused queries, by computation.
-use Rattle.query_model.proofs.Imports.{Add, ColumnRef, ExprOf, IsChecked, Item, List, Listed, Named, None, Query, Schema, Some, Star, Sub, [], codes, cond_fits, cond_operands, expr_columns, expr_kind, false, refl, refusal_of, replicate, true, ℕ, ◌∷◌, ◌≡◌}
+use Rattle.query_model.proofs.Imports.{arith, Add, ColumnRef, ExprOf, IsChecked, Item, List, Listed, Named, None, Query, Schema, Some, Star, Sub, [], codes, cond_fits, cond_operands, expr_columns, expr_kind, false, refl, refusal_of, replicate, true, ℕ, ◌∷◌, ◌≡◌}
 use Rattle.std.specs.Fmt.{digits}
 use Rattle.chunk_data.specs.declared.typed_value.ColumnType.TheVariants as column
 use Rattle.query_model.specs.declared.query.ExprOf.TheVariants as expr
@@ -74,7 +74,7 @@ fits = refl
 pub checked_a : IsChecked (select (codes "a") (codes "t")) schemas
     (record { from = checked.Declared 0; join = None; filter = None; shape = shape.Plain (expr.Column 0 ∷ []); names = codes "a" ∷ []; types = column.Int64 ∷ []; order = []; limit = None })
 unfolding refusal_of expr_columns cond_operands expr_kind cond_fits digits
-checked_a = record { from = refl; join = tt; filter = tt; shape = (refl, tt); names = refl; types = refl; order = refl; limit = refl }
+checked_a = search (arith)
 
 abbrev pub plain : List ℕ → ExprOf ColumnRef
 plain name = expr.Column (bare name)

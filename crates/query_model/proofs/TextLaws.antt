@@ -16,7 +16,7 @@ quoted-more bytes text grown i d e h is = is ∙ ap (λ l. l ++ doubled (get_or 
 
 pub quoted-whole : (bytes text grown : List ℕ) (i : ℕ) → text ≡ 34 ∷ flat_map doubled (take i bytes) → length bytes ≤ i
     → grown ≡ text ++ 34 ∷ [] → grown ≡ quoted bytes
-quoted-whole bytes text grown i e h is = is ∙ ap (λ l. l ++ 34 ∷ []) (e ∙ ap (λ l. 34 ∷ flat_map doubled l) (take_all i bytes h))
+quoted-whole bytes text grown i e h is = search (arith, take_all)
 
 -- one row more
 pub rows_text-take : (rows : List Row) (i : ℕ) (d : Row) → i < length rows → rows_text (take (i + 1) rows) ≡ rows_text (take i rows) ++ row_text (get_or rows i d)
@@ -29,14 +29,11 @@ rows_text-whole rows i h = ap rows_text (take_all i rows h)
 
 join-snoc : (x : List ℕ) (xs : List (List ℕ)) (y : List ℕ) → join_with_byte 44 (x ∷ (xs ++ y ∷ [])) ≡ join_with_byte 44 (x ∷ xs) ++ (44 ∷ y)
 join-snoc x [] y = refl
-join-snoc x (z ∷ xs) y = ap (λ l. x ++ (44 ∷ l)) (join-snoc z xs y) ∙ sym (append_assoc x (44 ∷ join_with_byte 44 (z ∷ xs)) (44 ∷ y))
+join-snoc x (z ∷ xs) y = search (arith, append_assoc, join-snoc z xs y)
 
 pub joined-snoc : (xs : List (List ℕ)) (y : List ℕ) → join_with_byte 44 (xs ++ y ∷ []) ≡ join_with_byte 44 xs ++ separator (length xs) ++ y
 joined-snoc [] y = refl
-joined-snoc (x ∷ xs) y = join-snoc x xs y ∙ apart
-  where
-    apart : join_with_byte 44 (x ∷ xs) ++ (44 ∷ y) ≡ join_with_byte 44 (x ∷ xs) ++ (44 ∷ []) ++ y
-    apart = sym (append_assoc (join_with_byte 44 (x ∷ xs)) (44 ∷ []) y)
+joined-snoc (x ∷ xs) y = search (arith, join-snoc, append_assoc)
 
 -- one value more of a row
 pub row_front-more : (row : Row) (i : ℕ) (d : Value) → i < length row → row_front row (i + 1) ≡ row_front row i ++ separator i ++ value_text (get_or row i d)
@@ -53,4 +50,4 @@ row_front-more row i d h =
 
 -- with all of its values
 pub row_front-whole : (row : Row) (i : ℕ) → length row ≤ i → row_front row i ++ 10 ∷ [] ≡ row_text row
-row_front-whole row i h = ap (λ l. join_with_byte 44 (map value_text l) ++ 10 ∷ []) (take_all i row h)
+row_front-whole row i h = search (arith, take_all)

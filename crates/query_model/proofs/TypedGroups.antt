@@ -1,5 +1,5 @@
 -- The checked query of a query that no condition refuses is typed.
-use Rattle.query_model.proofs.Imports.{AggCall, All, All-append, All-cons, All-head, All-nil, All-tail, ArePicks, ArePlainItems, Bool, CanBePicked, Checked, ColumnRef, ColumnType, CondOf, EachWith, Expr, FromColumn, Grouping, HasItsArgument, IsAnalysable, IsChecked, IsGrouping, IsItem, IsNoCall, IsPick, IsPlacedCall, IsPlacedItem, IsShape, IsTypedCall, IsTypedGrouping, IsTypedQuery, IsTypedShape, Item, ItemKind, Items, Kind, List, Listed, NamePair, None, Operand, Option, Query, Schema, Shape, Some, Star, [], agg_kind, ap, append_assoc, arith, bare_columns, call_type, calls_of, comparable, cond, cond_fits, cond_operands, expr_columns, expr_kind, false, filter, fits_where, flat_map, flat_map-append, from_columns, get_or-append-add, group_types, is_grouped, is_key_of, is_typed, item_calls, item_columns, item_kind, join_pairs, key_place, known_kind, length, length-append, length-map, list_all, list_any, listed, map, means, meant, meant_type, nat_lt, operand_columns, operand_kind, operands_of, place_in, place_of, plain, query_calls, refl, refusal_of, same_column, slice_index_or, subst, suc, sym, text_columns, true, typed, types_of, unfit, ℕ, ◌&&◌, ◌++◌, ◌+◌, ◌<◌, ◌==◌, ◌||◌, ◌∙◌, ◌∷◌, ◌≡◌, ◌≤◌}
+use Rattle.query_model.proofs.Imports.{AggCall, All, All-append, All-cons, All-head, All-nil, All-tail, ArePicks, ArePlainItems, Bool, CanBePicked, Checked, ColumnRef, ColumnType, CondOf, EachWith, Expr, FromColumn, Grouping, HasItsArgument, IsAnalysable, IsChecked, IsGrouping, IsItem, IsNoCall, IsPick, IsPlacedCall, IsPlacedItem, IsShape, IsTypedCall, IsTypedGrouping, IsTypedQuery, IsTypedShape, Item, ItemKind, Items, Kind, List, Listed, NamePair, None, Operand, Option, Query, Schema, Shape, Some, Star, [], agg_kind, ap, append_assoc, arith, bare_columns, call_type, calls_of, comparable, cond, cond_fits, cond_operands, expr_columns, expr_kind, false, filter, fits_where, flat_map, flat_map-append, from_columns, get_or-append-add, group_types, is_grouped, is_key_of, is_typed, item_calls, item_columns, item_kind, join_pairs, key_place, length, length-append, length-map, list_all, list_any, listed, map, means, meant, nat_lt, operand_columns, operands_of, place_in, place_of, plain, query_calls, refl, refusal_of, same_column, slice_index_or, subst, suc, sym, text_columns, true, typed, types_of, unfit, ℕ, ◌&&◌, ◌++◌, ◌+◌, ◌<◌, ◌==◌, ◌||◌, ◌∙◌, ◌∷◌, ◌≡◌, ◌≤◌}
 use Rattle.chunk_data.specs.declared.typed_value.ColumnType.TheVariants as column
 use Rattle.query_model.specs.Names.{type_of}
 use Rattle.query_model.specs.declared.query.CondOf.TheVariants as cond'
@@ -18,28 +18,15 @@ use Rattle.query_model.proofs.Accepted.{IsAccepted, accepted, knows_each, tells_
 -- no other passes behind one that passes
 none_behind : {A : Type 0} (test : A → Bool) (xs : List A) → nat_lt 1 (suc (length (filter test xs))) ≡ false → list_any test xs ≡ false
 none_behind test [] h = refl
-none_behind test (x ∷ xs) h = go (test x) h (none_behind test xs)
-  where
-    go : (b : Bool) → nat_lt 1 (suc (length (cond b (x ∷ filter test xs) (filter test xs)))) ≡ false → (nat_lt 1 (suc (length (filter test xs))) ≡ false → list_any test xs ≡ false) → (b || list_any test xs) ≡ false
-    go true h more = absurd (grind arith)
-    go false h more = more h
+none_behind test (x ∷ xs) h = search (arith, none_behind test xs)
 
 and_left : {A : Type 0} (f g : A → Bool) (xs : List A) → list_any (λ x. f x && g x) xs ≡ true → list_any f xs ≡ true
 and_left f g [] h = absurd cc
-and_left f g (x ∷ xs) h = go (f x) (g x) h (and_left f g xs)
-  where
-    go : (a b : Bool) → ((a && b) || list_any (λ x. f x && g x) xs) ≡ true → (list_any (λ x. f x && g x) xs ≡ true → list_any f xs ≡ true) → (a || list_any f xs) ≡ true
-    go true b h more = refl
-    go false b h more = more h
+and_left f g (x ∷ xs) h = search (arith, and_left f g xs)
 
 and_right : {A : Type 0} (f g : A → Bool) (xs : List A) → list_any (λ x. f x && g x) xs ≡ true → list_any g xs ≡ true
 and_right f g [] h = absurd cc
-and_right f g (x ∷ xs) h = go (f x) (g x) h (and_right f g xs)
-  where
-    go : (a b : Bool) → ((a && b) || list_any (λ x. f x && g x) xs) ≡ true → (list_any (λ x. f x && g x) xs ≡ true → list_any g xs ≡ true) → (b || list_any g xs) ≡ true
-    go a true h more = refl
-    go true false h more = more h
-    go false false h more = more h
+and_right f g (x ∷ xs) h = search (arith, and_right f g xs)
 
 clash : (b : Bool) → b ≡ true → b ≡ false → ⊥
 clash true h k = cc
@@ -49,24 +36,13 @@ clash false h k = cc
 same_place : {A : Type 0} (f g : A → Bool) (xs : List A) → list_any (λ x. f x && g x) xs ≡ true → nat_lt 1 (length (filter f xs)) ≡ false → nat_lt 1 (length (filter g xs)) ≡ false
     → place_of f xs ≡ place_of g xs
 same_place f g [] h one other = absurd cc
-same_place f g (x ∷ xs) h one other = go (f x) (g x) h one other (same_place f g xs)
-  where
-    go : (a b : Bool) → ((a && b) || list_any (λ x. f x && g x) xs) ≡ true → nat_lt 1 (length (cond a (x ∷ filter f xs) (filter f xs))) ≡ false → nat_lt 1 (length (cond b (x ∷ filter g xs) (filter g xs))) ≡ false
-        → (list_any (λ x. f x && g x) xs ≡ true → nat_lt 1 (length (filter f xs)) ≡ false → nat_lt 1 (length (filter g xs)) ≡ false → place_of f xs ≡ place_of g xs)
-        → cond a 0 (place_of f xs + 1) ≡ cond b 0 (place_of g xs + 1)
-    go true true h one other more = refl
-    go true false h one other more = absurd (clash (list_any f xs) (and_left f g xs h) (none_behind f xs one))
-    go false true h one other more = absurd (clash (list_any g xs) (and_right f g xs h) (none_behind g xs other))
-    go false false h one other more = ap (λ n. n + 1) (more h one other)
+same_place f g (x ∷ xs) h one other =
+    search (arith, clash, and_left, none_behind, and_right, same_place f g xs)
 
 -- a name that means a column has a place among the columns
 some_meant : {A : Type 0} (test : A → Bool) (xs : List A) → (length (filter test xs) == 0) ≡ false → list_any test xs ≡ true
 some_meant test [] h = absurd cc
-some_meant test (x ∷ xs) h = go (test x) h (some_meant test xs)
-  where
-    go : (b : Bool) → (length (cond b (x ∷ filter test xs) (filter test xs)) == 0) ≡ false → ((length (filter test xs) == 0) ≡ false → list_any test xs ≡ true) → (b || list_any test xs) ≡ true
-    go true h more = refl
-    go false h more = more h
+some_meant test (x ∷ xs) h = search (arith, some_meant test xs)
 
 -- Keys.
 
@@ -107,31 +83,20 @@ key_has_place columns (key ∷ keys) rest c one is h =
 key_is_well_placed : (columns : List FromColumn) (keys : List ColumnRef) (rest : List ColumnType) (c : ColumnRef) → IsKeyPlace columns keys rest c
     → IsWellPlaced (map (type_at (types_of columns)) (map (place_in columns) keys) ++ rest) columns (key_place columns keys) c
 unfolding type_of
-key_is_well_placed columns keys rest c key = go (meant_type columns c) (column_is_of_kind c columns)
-  where
-    types : List ColumnType
-    types = map (type_at (types_of columns)) (map (place_in columns) keys) ++ rest
-
-    within : key_place columns keys c < length (map (type_at (types_of columns)) (map (place_in columns) keys) ++ rest)
-    within =
-        let a = length-append (map (type_at (types_of columns)) (map (place_in columns) keys)) rest in
-        let b = length-map (map (place_in columns) keys) (type_at (types_of columns)) in
-        let d = length-map keys (place_in columns) in
-        let k = key.within in
-        omega (arith, a, b, d, k)
-
-    go : (o : Option ColumnType) → IsOfKind (types_of columns) (expr.Column (place_in columns c)) (known_kind o)
-        → IsOfKind (map (type_at (types_of columns)) (map (place_in columns) keys) ++ rest) (expr.Column (key_place columns keys c)) (known_kind o)
-    go None h = tt
-    go (Some t) h = (within, refl, key.type ∙ h.2)
+key_is_well_placed columns keys rest c key =
+    search (arith, column_is_of_kind, length-append, length-map, IsOfKind)
 
 all_well_placed : (columns : List FromColumn) (keys : List ColumnRef) (rest : List ColumnType) (cs : List ColumnRef) → All (MeansOne columns) keys → All (MeansOne columns) cs
     → All (λ c. is_key_of columns keys c ≡ true) cs → All (IsWellPlaced (map (type_at (types_of columns)) (map (place_in columns) keys) ++ rest) columns (key_place columns keys)) cs
-all_well_placed columns keys rest [] one each are = All-nil (IsWellPlaced (map (type_at (types_of columns)) (map (place_in columns) keys) ++ rest) columns (key_place columns keys))
-all_well_placed columns keys rest (c ∷ cs) one each are =
-    All-cons (IsWellPlaced (map (type_at (types_of columns)) (map (place_in columns) keys) ++ rest) columns (key_place columns keys)) c cs
-    (key_is_well_placed columns keys rest c (key_has_place columns keys rest c one (All-head (MeansOne columns) c cs each) (All-head (λ c. is_key_of columns keys c ≡ true) c cs are)))
-    (all_well_placed columns keys rest cs one (All-tail (MeansOne columns) c cs each) (All-tail (λ c. is_key_of columns keys c ≡ true) c cs are))
+all_well_placed columns keys rest [] one each are = search (arith, IsWellPlaced)
+all_well_placed columns keys rest (c ∷ cs) one each are = search (
+  arith,
+  IsWellPlaced,
+  key_is_well_placed,
+  key_has_place,
+  all_well_placed columns keys rest cs one (All-tail
+      (MeansOne columns) c cs each) (All-tail (λ c. is_key_of columns keys c ≡ true) c cs are),
+)
 
 keys_within : (columns : List FromColumn) (keys : List ColumnRef) → All (λ c. (length (meant c columns) == 0) ≡ false) keys → All (λ k. k < length (types_of columns)) (map (place_in columns) keys)
 keys_within columns [] h = All-nil (λ k. k < length (types_of columns))
@@ -193,15 +158,6 @@ fit_typed (plain z) h = tt
 fit_typed (typed t) h = tt
 fit_typed unfit h = absurd cc
 
-fit_left : (x y : Kind) → comparable x y ≡ true → IsFit x × IsFit y
-fit_left (typed s) (typed t) h = (tt, tt)
-fit_left (typed s) (plain z) h = (tt, tt)
-fit_left (typed s) unfit h = absurd cc
-fit_left (plain z) (typed t) h = (tt, tt)
-fit_left (plain z) (plain w) h = (tt, tt)
-fit_left (plain z) unfit h = absurd cc
-fit_left unfit y h = absurd cc
-
 item_calls_fit : (columns : List FromColumn) (items : List Item) → list_all (λ (i : Item). is_typed (item_kind columns i.what)) items ≡ true
     → All (IsFitCall columns) (flat_map (λ (i : Item). item_calls i.what) items)
 item_calls_fit columns [] h = All-nil (IsFitCall columns)
@@ -215,14 +171,7 @@ item_calls_fit columns (i ∷ items) h =
 
 cond_calls_fit : (columns : List FromColumn) (c : CondOf ColumnRef) → cond_fits columns c ≡ true → All (IsFitCall columns) (flat_map calls_of (cond_operands c))
 unfolding cond_operands cond_fits
-cond_calls_fit columns (cond'.Compare op a b) h =
-    let each = fit_left (operand_kind columns a) (operand_kind columns b) h in
-    All-append (IsFitCall columns) (calls_of a) (calls_of b ++ []) (side a each.0) (All-append (IsFitCall columns) (calls_of b) [] (side b each.1) (All-nil (IsFitCall columns)))
-  where
-    side : (o : Operand ColumnRef) → IsFit (operand_kind columns o) → All (IsFitCall columns) (calls_of o)
-    side (operand.Plain e) h = All-nil (IsFitCall columns)
-    side (operand.Text bytes) h = All-nil (IsFitCall columns)
-    side (operand.Agg call) h = All-cons (IsFitCall columns) call [] h (All-nil (IsFitCall columns))
+cond_calls_fit columns (cond'.Compare op a b) h = search (arith, IsFit)
 cond_calls_fit columns (cond'.And' p a q b) h =
     let each = both (cond_fits columns a) (cond_fits columns b) h in
     subst (λ l. All (IsFitCall columns) l) (sym (flat_map-append calls_of (cond_operands a) (cond_operands b)))
@@ -276,7 +225,7 @@ in_keys P q h =
     (All-front P (items_columns q ++ pairs_columns q ++ where_columns q ++ q.keys) (flat_map operand_columns (operands_of q.having)) h)
 
 in_having : (P : ColumnRef → Type 0) (q : Query) → All P (text_columns q) → All P (flat_map operand_columns (operands_of q.having))
-in_having P q h = All-behind P (items_columns q ++ pairs_columns q ++ where_columns q ++ q.keys) (flat_map operand_columns (operands_of q.having)) h
+in_having P q h = search (arith, All-behind)
 
 bare_among : (P : ColumnRef → Type 0) (os : List (Operand ColumnRef)) → All P (flat_map operand_columns os) → All P (flat_map bare_columns os)
 bare_among P [] h = All-nil P

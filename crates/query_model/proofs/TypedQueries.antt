@@ -1,5 +1,5 @@
 -- A query whose types fit has typed items and a typed condition, once its names have places.
-use Rattle.query_model.proofs.Imports.{Add, AggCall, AggOp, All, All-cons, All-head, All-nil, AreColumnsFrom, AreNumbersAlike, ArithOp, Bool, BothOrNone, CanHold, ColumnRef, ColumnType, CompareOp, Cond, CondOf, Count, Expr, ExprOf, FromColumn, HasItsArgument, IsGroupedOperand, IsItem, IsPlaced, IsPlacedCall, IsPlacedCond, IsTyped, IsTypedCall, IsTypedCond, IsTypedFilter, IsTypedOperand, Kind, List, Max, Min, Mul, None, Number, Operand, Option, Some, Sub, Sum, [], agg_kind, ap, arith, arith_kind, bare_columns, call_kind, call_type, calls_of, can_hold, comparable, cond, cond_fits, cond_operands, expr_columns, expr_kind, false, find, fits_where, flat_map, flat_map-append, gives_uint, if◌then◌else◌, is_some, is_text, is_typed, is_uint_column, known_kind, length, means, meant_type, negsuc, not, number_of, operand_kind, operand_type, operands_of, option_map, place_in, place_of, plain, plain_of, plain_value, pos, refl, result_type, same_type, subst, suc, sym, takes_argument, true, typed, types_of, unfit, ℕ, ℤ, ⊤, ◌&&◌, ◌++◌, ◌+◌, ◌∙◌, ◌∷◌, ◌≡◌, ◌≤◌}
+use Rattle.query_model.proofs.Imports.{Add, AggCall, AggOp, All, All-head, All-nil, AreColumnsFrom, AreNumbersAlike, ArithOp, Bool, BothOrNone, CanHold, ColumnRef, ColumnType, CompareOp, Cond, CondOf, Count, Expr, ExprOf, FromColumn, HasItsArgument, IsGroupedOperand, IsItem, IsPlaced, IsPlacedCall, IsPlacedCond, IsTyped, IsTypedCall, IsTypedCond, IsTypedFilter, IsTypedOperand, Kind, List, Max, Min, Mul, None, Number, Operand, Option, Some, Sub, Sum, [], agg_kind, arith, arith_kind, bare_columns, call_kind, call_type, calls_of, can_hold, comparable, cond, cond_fits, cond_operands, expr_columns, expr_kind, false, fits_where, flat_map, flat_map-append, gives_uint, if◌then◌else◌, is_some, is_text, is_typed, is_uint_column, known_kind, length, means, meant_type, negsuc, not, operand_kind, operand_type, operands_of, place_in, place_of, plain, plain_of, plain_value, pos, refl, result_type, same_type, subst, sym, takes_argument, true, typed, types_of, unfit, ℕ, ℤ, ⊤, ◌&&◌, ◌++◌, ◌+◌, ◌∙◌, ◌∷◌, ◌≡◌, ◌≤◌}
 use Rattle.chunk_data.specs.Values.{type_of as type_of_value}
 use Rattle.chunk_data.specs.declared.typed_value.ColumnType.TheVariants as column
 use Rattle.query_model.specs.Names.{type_of, plain_type as type_without_null}
@@ -23,40 +23,17 @@ IsOperandOfKind types o unfit = ⊤
 
 -- A column.
 
--- no type is Nullable
-pub not_nullable : (t : ColumnType) → t ≡ type_without_null t
-not_nullable column.Int64 = refl
-not_nullable column.UInt64 = refl
-not_nullable column.Text = refl
-
 pub column_is_of_kind : (c : ColumnRef) (columns : List FromColumn) → IsOfKind (types_of columns) (expr.Column (place_of (means c) columns)) (known_kind (meant_type columns c))
 unfolding type_of
 column_is_of_kind c [] = tt
-column_is_of_kind c (x ∷ columns) = go (means c x) (column_is_of_kind c columns)
-  where
-    place : ℕ
-    place = place_of (means c) columns
-
-    moved : (o : Option ColumnType) → IsOfKind (types_of columns) (expr.Column (place_of (means c) columns)) (known_kind o) → IsOfKind (x.type ∷ types_of columns) (expr.Column (place_of (means c) columns + 1)) (known_kind o)
-    moved None h = tt
-    moved (Some t) h =
-        let next : place_of (means c) columns + 1 ≡ suc (place_of (means c) columns) = omega arith in
-        rw next (let k = h.0 in omega (arith, k), refl, h.2)
-
-    go : (b : Bool) → IsOfKind (types_of columns) (expr.Column (place_of (means c) columns)) (known_kind (meant_type columns c))
-        → IsOfKind (x.type ∷ types_of columns) (expr.Column (cond b 0 (place_of (means c) columns + 1))) (known_kind (option_map (λ (m : FromColumn). type_without_null m.type) (cond b (Some x) (find (means c) columns))))
-    go true h = (omega arith, refl, not_nullable x.type)
-    go false h = moved (meant_type columns c) h
+column_is_of_kind c (x ∷ columns) = search (arith, column_is_of_kind c columns)
 
 -- A plain number.
 
 plain_type : (types : List ColumnType) (e : Expr) (z : ℤ) → plain_of e ≡ Some z → type_of e types ≡ type_of_value (plain_value z)
 unfolding type_of
 plain_type types (expr.Column c) z h = absurd cc
-plain_type types (expr.Number n) z h = ap (λ z. type_of_value (plain_value z)) (same h)
-  where
-    same : Some (number_of n) ≡ Some z → number_of n ≡ z
-    same e = cc
+plain_type types (expr.Number n) z h = search (arith)
 plain_type types (expr.Arith' op p a q b) z h = absurd cc
 
 -- Arithmetic.
@@ -80,28 +57,7 @@ alike_types op column.Int64 column.UInt64 h = absurd cc
 alike_types op column.Int64 column.Text h = absurd cc
 alike_types op column.UInt64 column.Int64 h = absurd cc
 alike_types op column.UInt64 column.Text h = absurd cc
-alike_types op column.Text t h = absurd (text_alone t h)
-  where
-    text_alone : (t : ColumnType) → (same_type column.Text t && false) ≡ true → ⊥
-    text_alone column.Int64 h = cc
-    text_alone column.UInt64 h = cc
-    text_alone column.Text h = cc
-
--- the result of a type beside a number that it has
-beside_type : (op : ArithOp) (t : ColumnType) (z : ℤ) → can_hold t z ≡ true
-    → ((if gives_uint op (is_uint_column t) (is_uint_column (type_of_value (plain_value z))) then column.UInt64 else column.Int64) ≡ result_type op t)
-    × ((if gives_uint op (is_uint_column (type_of_value (plain_value z))) (is_uint_column t) then column.UInt64 else column.Int64) ≡ result_type op t)
-beside_type Add column.Int64 (pos n) h = (refl, refl)
-beside_type Sub column.Int64 (pos n) h = (refl, refl)
-beside_type Mul column.Int64 (pos n) h = (refl, refl)
-beside_type Add column.Int64 (negsuc n) h = (refl, refl)
-beside_type Sub column.Int64 (negsuc n) h = (refl, refl)
-beside_type Mul column.Int64 (negsuc n) h = (refl, refl)
-beside_type Add column.UInt64 (pos n) h = (refl, refl)
-beside_type Sub column.UInt64 (pos n) h = (refl, refl)
-beside_type Mul column.UInt64 (pos n) h = (refl, refl)
-beside_type op column.UInt64 (negsuc n) h = absurd cc
-beside_type op column.Text z h = absurd cc
+alike_types op column.Text t h = search (arith)
 
 module _ (types : List ColumnType) (op : ArithOp) (p q : Place) (a b : Expr) where
   alike_arith : (s t : ColumnType) → IsOfKind types a (typed s) → IsOfKind types b (typed t) → IsOfKind types (expr.Arith' op p a q b) (arith_kind op (typed s) (typed t))
@@ -116,19 +72,11 @@ module _ (types : List ColumnType) (op : ArithOp) (p q : Place) (a b : Expr) whe
 
   number_behind : (t : ColumnType) (z : ℤ) → IsOfKind types a (typed t) → IsOfKind types b (plain z) → IsOfKind types (expr.Arith' op p a q b) (arith_kind op (typed t) (plain z))
   unfolding type_of
-  number_behind t z h k = go (can_hold t z) refl
-    where
-      go : (x : Bool) → can_hold t z ≡ x → IsOfKind types (expr.Arith' op p a q b) (cond x (typed (result_type op t)) unfit)
-      go true e = ((h.0, k.0, rw (h.1, k.1, h.2) (held t z e)), refl, rw (h.2, plain_type types b z k.1) (beside_type op t z e).0)
-      go false e = tt
+  number_behind t z h k = search (arith, held, plain_type)
 
   number_in_front : (t : ColumnType) (z : ℤ) → IsOfKind types a (plain z) → IsOfKind types b (typed t) → IsOfKind types (expr.Arith' op p a q b) (arith_kind op (plain z) (typed t))
   unfolding type_of
-  number_in_front t z h k = go (can_hold t z) refl
-    where
-      go : (x : Bool) → can_hold t z ≡ x → IsOfKind types (expr.Arith' op p a q b) (cond x (typed (result_type op t)) unfit)
-      go true e = ((h.0, k.0, rw (h.1, k.1, k.2) (held t z e)), refl, rw (k.2, plain_type types a z h.1) (beside_type op t z e).1)
-      go false e = tt
+  number_in_front t z h k = search (arith, held, plain_type)
 
   pub arith_is_of_kind : (x y : Kind) → IsOfKind types a x → IsOfKind types b y → IsOfKind types (expr.Arith' op p a q b) (arith_kind op x y)
   arith_is_of_kind (typed s) (typed t) h k = alike_arith s t h k
@@ -142,36 +90,16 @@ module _ (types : List ColumnType) (op : ArithOp) (p q : Place) (a b : Expr) whe
 -- Conditions.
 
 pub operand_is_of_kind : (types : List ColumnType) (e : Expr) (kind : Kind) → IsOfKind types e kind → IsOperandOfKind types (operand.Plain e) kind
-operand_is_of_kind types e (plain z) h = (h.0, ap is_text (plain_type types e z h.1) ∙ no_text z)
-  where
-    no_text : (z : ℤ) → is_text (type_of_value (plain_value z)) ≡ false
-    no_text (pos n) = refl
-    no_text (negsuc n) = refl
+operand_is_of_kind types e (plain z) h = search (arith, plain_type)
 operand_is_of_kind types e (typed t) h = (h.0, h.2)
 operand_is_of_kind types e unfit h = tt
 
-no_text_alone : (t : ColumnType) → not (is_text t) ≡ true → is_text t ≡ false
-no_text_alone column.Int64 h = refl
-no_text_alone column.UInt64 h = refl
-no_text_alone column.Text h = absurd cc
-
-both_texts : (s t : ColumnType) → comparable (typed s) (typed t) ≡ true → is_text s ≡ is_text t
-both_texts column.Int64 column.Int64 h = refl
-both_texts column.Int64 column.UInt64 h = refl
-both_texts column.Int64 column.Text h = absurd cc
-both_texts column.UInt64 column.Int64 h = refl
-both_texts column.UInt64 column.UInt64 h = refl
-both_texts column.UInt64 column.Text h = absurd cc
-both_texts column.Text column.Int64 h = absurd cc
-both_texts column.Text column.UInt64 h = absurd cc
-both_texts column.Text column.Text h = refl
-
 pub comparison_is_typed : (types : List ColumnType) (op : CompareOp) (a b : Operand ℕ) (x y : Kind) → IsOperandOfKind types a x → IsOperandOfKind types b y → comparable x y ≡ true
     → IsTypedCond types (cond'.Compare op a b)
-comparison_is_typed types op a b (typed s) (typed t) h k e = (h.0, k.0, rw (h.1, k.1) (both_texts s t e))
-comparison_is_typed types op a b (typed s) (plain z) h k e = (h.0, k.0, rw (h.1, k.1) (no_text_alone s e))
+comparison_is_typed types op a b (typed s) (typed t) h k e = search (arith)
+comparison_is_typed types op a b (typed s) (plain z) h k e = search (arith)
 comparison_is_typed types op a b (typed s) unfit h k e = absurd cc
-comparison_is_typed types op a b (plain z) (typed t) h k e = (h.0, k.0, rw (h.1, k.1) (sym (no_text_alone t e)))
+comparison_is_typed types op a b (plain z) (typed t) h k e = search (arith)
 comparison_is_typed types op a b (plain y) (plain z) h k e = (h.0, k.0, h.1 ∙ sym k.1)
 comparison_is_typed types op a b (plain z) unfit h k e = absurd cc
 comparison_is_typed types op a b unfit y h k e = absurd cc
@@ -193,7 +121,7 @@ columns_are_typed types k [] [] h lt = All-nil (IsItem types)
 columns_are_typed types k [] (e ∷ es) h lt = absurd h
 columns_are_typed types k (c ∷ columns) [] h lt = absurd h
 columns_are_typed types k (c ∷ columns) (expr.Column n ∷ es) h lt =
-    All-cons (IsItem types) (expr.Column n) es (record { typed = let e = h.0 in omega (arith, e, lt); not_plain = refl }) (columns_are_typed types (k + 1) columns es h.1 (omega (arith, lt)))
+    search (arith, columns_are_typed types (k + 1) columns es h.1 (omega (arith, lt)))
 columns_are_typed types k (c ∷ columns) (expr.Number n ∷ es) h lt = absurd h
 columns_are_typed types k (c ∷ columns) (expr.Arith' op p a q b ∷ es) h lt = absurd h
 
@@ -205,14 +133,14 @@ IsWellPlaced types columns place c = IsOfKind types (expr.Column (place c)) (kno
 
 pub every_column : (columns : List FromColumn) (cs : List ColumnRef) → All (IsWellPlaced (types_of columns) columns (place_in columns)) cs
 every_column columns [] = All-nil (IsWellPlaced (types_of columns) columns (place_in columns))
-every_column columns (c ∷ cs) = All-cons (IsWellPlaced (types_of columns) columns (place_in columns)) c cs (column_is_of_kind c columns) (every_column columns cs)
+every_column columns (c ∷ cs) = search (arith, column_is_of_kind, every_column columns cs)
 
 pub expr_is_of_kind : (types : List ColumnType) (columns : List FromColumn) (place : ColumnRef → ℕ) (e : ExprOf ColumnRef) (p : Expr)
     → All (IsWellPlaced types columns place) (expr_columns e) → IsPlaced place e p → IsOfKind types p (expr_kind columns e)
 unfolding expr_columns expr_kind
 expr_is_of_kind types columns place (expr.Column c) (expr.Column k) h is =
     subst (λ (n : ℕ). IsOfKind types (expr.Column n) (known_kind (meant_type columns c))) (sym is) (All-head (IsWellPlaced types columns place) c [] h)
-expr_is_of_kind types columns place (expr.Number m) (expr.Number n) h is = (tt, ap (λ (n : Number). Some (number_of n)) (sym is))
+expr_is_of_kind types columns place (expr.Number m) (expr.Number n) h is = search (arith)
 expr_is_of_kind types columns place (expr.Arith' op p a q b) (expr.Arith' o r c s d) h is =
     let left = expr_is_of_kind types columns place a c (All-front (IsWellPlaced types columns place) (expr_columns a) (expr_columns b) h) is.1 in
     let right = expr_is_of_kind types columns place b d (All-behind (IsWellPlaced types columns place) (expr_columns a) (expr_columns b) h) is.2 in
@@ -239,17 +167,13 @@ pub record IsCallOfKind (types : List ColumnType) (call : AggCall ℕ) (kind : K
 over_argument : (types : List ColumnType) (op : AggOp) (e : Expr) (k : Kind) → true ≡ takes_argument op → IsOfKind types e k → IsCallOfKind types (record { op = op; arg = Some e }) (call_kind op k)
 over_argument types Count e k h is = absurd cc
 over_argument types Sum e (plain z) h is = record { typed = λ f. absurd f; type = tt }
-over_argument types Sum e (typed t) h is = go (is_text t) refl
-  where
-    go : (b : Bool) → is_text t ≡ b → IsCallOfKind types (record { op = Sum; arg = Some e }) (cond b unfit (typed t))
-    go true x = record { typed = λ f. absurd f; type = tt }
-    go false x = record { typed = λ f. (record { typed = is.0; not_plain = is.1 }, ap is_text is.2 ∙ x); type = is.2 }
+over_argument types Sum e (typed t) h is = search (arith)
 over_argument types Sum e unfit h is = record { typed = λ f. absurd f; type = tt }
 over_argument types Min e (plain z) h is = record { typed = λ f. absurd f; type = tt }
-over_argument types Min e (typed t) h is = record { typed = λ f. record { typed = is.0; not_plain = is.1 }; type = is.2 }
+over_argument types Min e (typed t) h is = search (arith)
 over_argument types Min e unfit h is = record { typed = λ f. absurd f; type = tt }
 over_argument types Max e (plain z) h is = record { typed = λ f. absurd f; type = tt }
-over_argument types Max e (typed t) h is = record { typed = λ f. record { typed = is.0; not_plain = is.1 }; type = is.2 }
+over_argument types Max e (typed t) h is = search (arith)
 over_argument types Max e unfit h is = record { typed = λ f. absurd f; type = tt }
 
 without_argument : (types : List ColumnType) (op : AggOp) → false ≡ takes_argument op → IsCallOfKind types (record { op = op; arg = None }) (typed column.UInt64)

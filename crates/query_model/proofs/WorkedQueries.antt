@@ -1,5 +1,5 @@
 -- Worked queries from their names to their answers: grouping, HAVING, aliases, keys, order, limit and join.
-use Rattle.query_model.proofs.Imports.{AggCall, Checked, ColumnDecl, ColumnRef, Count, Database, Grouped, Int, IsAnswer, IsChecked, Item, ItemKind, List, Listed, Max, Mul, NamePair, None, OrderKey, Query, Row, Schema, Some, Sum, UInt, [], answer_text, codes, cond_fits, cond_operands, enough, expr_columns, expr_kind, false, lit<, parts_rows, pos, refl, refusal_of, row_cmp, true, ℕ, ◌∷◌, ◌≡◌}
+use Rattle.query_model.proofs.Imports.{arith, AggCall, Checked, ColumnDecl, ColumnRef, Count, Database, Grouped, Int, IsAnswer, IsChecked, Item, ItemKind, List, Listed, Max, Mul, NamePair, None, OrderKey, Query, Row, Schema, Some, Sum, UInt, [], answer_text, codes, cond_fits, cond_operands, enough, expr_columns, expr_kind, false, lit<, parts_rows, pos, refl, refusal_of, row_cmp, true, ℕ, ◌∷◌, ◌≡◌}
 use Rattle.std.specs.Fmt.{digits}
 use Rattle.chunk_data.specs.declared.typed_value.ColumnType.TheVariants as column
 use Rattle.query_model.specs.declared.query.CompareOp.TheVariants as compare
@@ -20,12 +20,7 @@ by_a_down = record by_a { order = record { column = 0; descending = true } ∷ r
 
 pub xyz_answers : IsAnswer by_a_down three_rows (row_1x ∷ row_1y ∷ row_0z ∷ [])
 unfolding meaning_on_literals
-xyz_answers = record {
-  ordered = row_1x ∷ row_1y ∷ row_0z ∷ [];
-  same_rows = record { moves = []; below = tt; is = refl };
-  in_order = IsSorted-tested (row_cmp by_a_down.order) (row_1x ∷ row_1y ∷ row_0z ∷ []) refl;
-  is = refl;
-}
+xyz_answers = search (arith, row_1x, row_1y, row_0z, IsSorted-tested)
 
 -- SELECT a FROM t LIMIT 3 OFFSET 2, over four parts: any three of the six rows
 abbrev pub six_rows : Database
@@ -121,12 +116,12 @@ join_is_accepted = refl
 
 pub join_is_checked : IsChecked (join_on (record { left = left_k; right = right_k })) left_and_right checked_join
 unfolding expr_kind digits
-join_is_checked = record { from = refl; join = (refl, refl); filter = tt; shape = (refl, (refl, (refl, tt))); names = refl; types = refl; order = refl; limit = refl }
+join_is_checked = search (arith)
 
 -- a pair that is written the other way round means the same
 pub turned_join_is_checked : IsChecked (join_on (record { left = right_k; right = left_k })) left_and_right checked_join
 unfolding expr_kind digits
-turned_join_is_checked = record { from = refl; join = (refl, refl); filter = tt; shape = (refl, (refl, (refl, tt))); names = refl; types = refl; order = refl; limit = refl }
+turned_join_is_checked = search (arith)
 
 -- SELECT shop, count() AS n, sum(qty * price) AS total FROM sales WHERE price > 50 GROUP BY shop HAVING count() > 1
 -- ORDER BY total DESC, shop LIMIT 10
@@ -184,22 +179,7 @@ module _ (p q : Place) where
 
   pub totals_are_checked : IsChecked totals_query sales totals
   unfolding expr_kind cond_operands digits
-  totals_are_checked = record {
-    from = refl;
-    join = tt;
-    filter = (refl, refl, refl);
-    shape = record {
-      keys = refl;
-      calls = ((refl, tt), ((refl, (refl, refl, refl)), ((refl, tt), tt)));
-      having = (refl, refl, refl);
-      picks = (refl, (refl, (refl, tt)));
-      lone = refl;
-    };
-    names = refl;
-    types = refl;
-    order = refl;
-    limit = refl;
-  }
+  totals_are_checked = search (arith)
 
   abbrev pub sales_rows : Database
   sales_rows =

@@ -1,5 +1,5 @@
 -- Worked queries, by computation.
-use Rattle.query_model.proofs.Imports.{Add, AggCall, AggOp, Box, Checked, ColumnType, Cond, Count, Database, Declared, Expr, Global, Grouped, Int, IsAnswer, IsSorted, List, Min, Mul, None, Option, Paths, Plain, Row, Shape, Some, Sub, Sum, Table, TableDecl, Text, [], answer_text, arith, bad_line, bad_place, codes, database, false, flat_map, limited, lines_from, lit<, negsuc, output_rows, part_records, parts_rows, pos, projection_checked, refl, replicate, row_cmp, subst, sym, true, ℕ, ◌++◌, ◌∷◌, ◌≡◌}
+use Rattle.query_model.proofs.Imports.{Add, AggCall, AggOp, Box, Checked, ColumnType, Cond, Count, Database, Declared, Expr, Global, Grouped, Int, IsAnswer, List, Min, Mul, None, Option, Paths, Plain, Row, Shape, Some, Sub, Sum, Table, TableDecl, Text, [], answer_text, arith, bad_line, bad_place, codes, database, false, flat_map, limited, lines_from, lit<, negsuc, output_rows, part_records, parts_rows, pos, projection_checked, refl, replicate, row_cmp, true, ℕ, ◌++◌, ◌∷◌, ◌≡◌}
 use Rattle.query_model.specs.declared.places.BadField.TheVariants as bad
 use Rattle.query_model.proofs.Ordered.{IsSorted-tested}
 use Rattle.query_model.specs.declared.query.CondOf.TheVariants as cond'
@@ -177,10 +177,7 @@ zyx_answers = record {
 -- no other order does
 pub xzy_fails : IsAnswer by_a three_rows (row_1x ∷ row_0z ∷ row_1y ∷ []) → ⊥
 unfolding meaning_on_literals
-xzy_fails a =
-    let sorted : IsSorted (row_cmp by_a.order) (row_1x ∷ row_0z ∷ row_1y ∷ []) = subst (IsSorted (row_cmp by_a.order)) (sym a.is) a.in_order in
-    let wrong : true ≡ false = sorted 0 [] (omega arith) (lit< tt) in
-    absurd cc
+xzy_fails a = search (arith)
 
 -- a list of 33 paths has its bad line at the 33rd
 pub path_33 : bad_line 1 32 (lines_from [] (flat_map (λ (k : ℕ). codes "p1.csv\n") (replicate 33 0))) ≡ Some 33

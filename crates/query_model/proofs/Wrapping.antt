@@ -14,13 +14,9 @@ Same-add a b c d h k =
 abbrev pub residue : ℤ → ℕ
 residue z = unsigned_abs (int_rem_euclid z (pos (2 ^ 64)))
 
-pub residue-lt : (z : ℤ) → residue z < 2 ^ 64
-residue-lt (pos n) = omega arith
-residue-lt (negsuc n) = omega arith
-
 pub residue-wrap : (z : ℤ) → residue z ≡ cast_unsigned w64 (int_wrap w64 z)
 unfolding int_wrap
-residue-wrap z = sym (of_z-to_z w64 (residue z) (residue-lt z))
+residue-wrap z = search (arith, of_z-to_z)
 
 pub wrapped-Same : (b : Bool) (y z : ℤ) → Same y z → wrapped b y ≡ wrapped b z
 unfolding wrapped
@@ -29,10 +25,7 @@ wrapped-Same false y z h = ap Int h
 
 pub exact-wrapped : (b : Bool) (z : ℤ) → Same (exact (wrapped b z)) z
 unfolding wrapped int_wrap
-exact-wrapped true z = ap (cast_signed w64) small
-  where
-    small : residue (pos (residue z)) ≡ residue z
-    small = let l = residue-lt z in omega (arith, l)
+exact-wrapped true z = search (arith)
 exact-wrapped false z = int_wrap_fits w64 (int_wrap w64 z) (SFits-int_wrap w64 z)
 
 pub is_uint-wrapped : (b : Bool) (z : ℤ) → is_uint (wrapped b z) ≡ b
@@ -43,4 +36,4 @@ is_uint-wrapped false z = refl
 -- the difference of two UInt64, as an Int64
 pub wrapped-difference : (a b : ℕ) → a < 2 ^ 64 → b < 2 ^ 64 → wrapped false (pos a -ℤ pos b) ≡ Int (cast_signed w64 ((a + (2 ^ 64 - b)) % 2 ^ 64))
 unfolding wrapped int_wrap
-wrapped-difference a b h k = ap (λ z. Int (cast_signed w64 (unsigned_abs z))) (int_rem_euclid_is _ _ (2 ^ 64) 1 (a + (2 ^ 64 - b)) (omega arith) refl (omega (arith, ints)))
+wrapped-difference a b h k = search (arith, int_rem_euclid_is, ints)

@@ -64,8 +64,10 @@ pub record IsPlainQuery (q : Query) : Type 0 where
 -- the refusal is the one that is due; want of memory is free
 abbrev pub IsDue : Query → List Schema → Refusal → Type 0
 IsDue q schemas (refuse.UnknownTable name) = refusal_of q schemas ≡ Some (refuse.UnknownTable name)
-IsDue q schemas (refuse.UnknownColumn name) = refusal_of q schemas ≡ Some (refuse.UnknownColumn name)
-IsDue q schemas (refuse.AmbiguousColumn name) = refusal_of q schemas ≡ Some (refuse.AmbiguousColumn name)
+IsDue q schemas (refuse.UnknownColumn name) =
+    refusal_of q schemas ≡ Some (refuse.UnknownColumn name)
+IsDue q schemas (refuse.AmbiguousColumn name) =
+    refusal_of q schemas ≡ Some (refuse.AmbiguousColumn name)
 IsDue q schemas refuse.BadJoinKey = refusal_of q schemas ≡ Some refuse.BadJoinKey
 IsDue q schemas refuse.TypeMismatch = refusal_of q schemas ≡ Some refuse.TypeMismatch
 IsDue q schemas (refuse.NotGrouped name) = refusal_of q schemas ≡ Some (refuse.NotGrouped name)

@@ -11,12 +11,14 @@ item_row items row = map (λ e. value_of e row) items
 
 -- the groups of the rows, or the one row of defaults
 abbrev pub grouped_rows : Grouping → List ColumnType → List Row → List Row
-grouped_rows g types rows = groups_or_default g.lone (default_row g.calls types) (groups g.keys g.calls rows)
+grouped_rows g types rows =
+    groups_or_default g.lone (default_row g.calls types) (groups g.keys g.calls rows)
 
 -- what SELECT makes of the filtered rows
 abbrev pub selected_rows : Shape → List ColumnType → List Row → List Row
 selected_rows (Plain items) types rows = map (item_row items) rows
-selected_rows (Grouped g) types rows = map (values_at g.picks) (rows_where g.having (grouped_rows g types rows))
+selected_rows (Grouped g) types rows =
+    map (values_at g.picks) (rows_where g.having (grouped_rows g types rows))
 
 -- the rows of the answer, before order and limit
 abbrev pub output_rows : Checked → Database → List Row
@@ -32,7 +34,8 @@ abbrev pub enough : Span → ℕ
 enough span = cond (span.count == 0) 1 (span.skip + span.count)
 
 -- the rows in some order that the keys allow, of which the limit leaves the answer
-pub record IsOrderedAnswer (keys : List SortKey) (limit : Option Span) (rows answer : List Row) : Type 0 where
+pub record IsOrderedAnswer (keys : List SortKey) (limit : Option Span)
+    (rows answer : List Row) : Type 0 where
   pub ordered : List Row
   pub same_rows : IsPermutation rows ordered
   pub in_order : IsSorted (row_cmp keys) ordered

@@ -1,4 +1,5 @@
--- The checked query of a query: places where the query has names. By cases on both, since an expression lies in boxes of its own.
+-- The checked query of a query: places where the query has names. By cases on both, since an
+-- expression lies in boxes of its own.
 use Rattle.std.specs.Prelude.{if◌then◌else◌, ◌++◌, ◌+◌, ◌==◌, ◌∷◌, ◌≡◌}
 use Rattle.query_model.specs.Prelude.{AggCall, Bool, Checked, CheckedJoin, ColumnRef, ColumnType, CondOf, ExprOf, Grouping, Item, ItemKind, Items, Join, KeyPair, List, Listed, NamePair, None, Operand, Option, OrderKey, Query, Schema, Shape, Some, Star, TableRef, TableUse, [], bytes_eq, false, flat_map, length, map, true, ℕ}
 use Rattle.query_model.specs.Expressions.{Expr, Cond}
@@ -34,7 +35,8 @@ BothOrNone R (Some x) (Some y) = R x y
 abbrev pub IsPlaced : (ColumnRef → ℕ) → ExprOf ColumnRef → Expr → Type 0
 IsPlaced place (expr.Column c) (expr.Column k) = k ≡ place c
 IsPlaced place (expr.Number m) (expr.Number n) = m ≡ n
-IsPlaced place (expr.Arith' op p a q b) (expr.Arith' op2 r c s d) = (op ≡ op2) × IsPlaced place a c × IsPlaced place b d
+IsPlaced place (expr.Arith' op p a q b) (expr.Arith' op2 r c s d) = (op ≡ op2) × IsPlaced place a c
+    × IsPlaced place b d
 IsPlaced place _ _ = ⊥
 
 abbrev pub IsPlacedCall : (ColumnRef → ℕ) → AggCall ColumnRef → AggCall ℕ → Type 0
@@ -61,25 +63,30 @@ abbrev pub IsPlacedCond : (ColumnRef → ℕ) → ℕ → CondOf ColumnRef → C
 IsPlacedCond place k (condition.Compare op a b) (condition.Compare op2 c d) =
     (op ≡ op2) × IsGroupedOperand place k a c × IsGroupedOperand place (k + length (calls_of a)) b d
 IsPlacedCond place k (condition.And' p a q b) (condition.And' r c s d) =
-    IsPlacedCond place k a c × IsPlacedCond place (k + length (flat_map calls_of (cond_operands a))) b d
+    IsPlacedCond place k a c
+    × IsPlacedCond place (k + length (flat_map calls_of (cond_operands a))) b d
 IsPlacedCond place k (condition.Or' p a q b) (condition.Or' r c s d) =
-    IsPlacedCond place k a c × IsPlacedCond place (k + length (flat_map calls_of (cond_operands a))) b d
+    IsPlacedCond place k a c
+    × IsPlacedCond place (k + length (flat_map calls_of (cond_operands a))) b d
 IsPlacedCond place k (condition.Not' p a) (condition.Not' r c) = IsPlacedCond place k a c
 IsPlacedCond place k _ _ = ⊥
 
 abbrev pub use_of : List Schema → TableRef → TableUse
-use_of schemas (table.Named t) = use'.Declared (place_of (λ (s : Schema). bytes_eq s.name t) schemas)
+use_of schemas (table.Named t) =
+    use'.Declared (place_of (λ (s : Schema). bytes_eq s.name t) schemas)
 use_of schemas (table.Numbers n) = use'.Numbers n
 
 -- a pair of columns of the two tables, whichever way it is written
 abbrev pub pair_of : List FromColumn → List FromColumn → NamePair → KeyPair
 pair_of left right p =
-    if joins left right p.left p.right then record { left = place_of (means p.left) left; right = place_of (means p.right) right }
+    if joins left right p.left p.right
+    then record { left = place_of (means p.left) left; right = place_of (means p.right) right }
     else record { left = place_of (means p.right) left; right = place_of (means p.left) right }
 
 abbrev pub IsCheckedJoin : Query → List Schema → Join → CheckedJoin → Type 0
 IsCheckedJoin q schemas a b =
-    (b.table ≡ use_of schemas a.table) × (b.pairs ≡ map (pair_of (table_columns schemas q.from) (table_columns schemas a.table)) a.pairs)
+    (b.table ≡ use_of schemas a.table) × (b.pairs
+    ≡ map (pair_of (table_columns schemas q.from) (table_columns schemas a.table)) a.pairs)
 
 abbrev pub item_calls : ItemKind → List (AggCall ColumnRef)
 item_calls (kind.Plain e) = []
@@ -87,9 +94,11 @@ item_calls (kind.Agg call) = call ∷ []
 
 -- the calls of items and HAVING, in the order of the text
 abbrev pub query_calls : Query → List (AggCall ColumnRef)
-query_calls q = flat_map (λ (i : Item). item_calls i.what) (listed q.items) ++ flat_map calls_of (operands_of q.having)
+query_calls q = flat_map (λ (i : Item). item_calls i.what) (listed q.items)
+    ++ flat_map calls_of (operands_of q.having)
 
--- the place of an item in a row of keys and calls, of which the next call stands in column k; arithmetic has none
+-- the place of an item in a row of keys and calls, of which the next call stands in column k;
+-- arithmetic has none
 abbrev pub IsPick : (ColumnRef → ℕ) → ℕ → ItemKind → ℕ → Type 0
 IsPick place k (kind.Plain (expr.Column c)) p = p ≡ place c
 IsPick place k (kind.Plain (expr.Number n)) p = ⊥
@@ -99,7 +108,8 @@ IsPick place k (kind.Agg call) p = p ≡ k
 -- the places of items, of which the first call stands in column k
 abbrev pub ArePicks : (ColumnRef → ℕ) → ℕ → List Item → List ℕ → Type 0
 ArePicks place k [] [] = Unit {0}
-ArePicks place k (i ∷ items) (p ∷ picks) = IsPick place k i.what p × ArePicks place (k + length (item_calls i.what)) items picks
+ArePicks place k (i ∷ items) (p ∷ picks) = IsPick place k i.what p
+    × ArePicks place (k + length (item_calls i.what)) items picks
 ArePicks place k _ _ = ⊥
 
 abbrev pub IsPlacedItem : (ColumnRef → ℕ) → Item → Expr → Type 0
@@ -119,16 +129,21 @@ abbrev pub ArePlainItems : (ColumnRef → ℕ) → List FromColumn → Items →
 ArePlainItems place columns Star es = AreColumnsFrom 0 columns es
 ArePlainItems place columns (Listed items) es = EachWith (IsPlacedItem place) items es
 
--- the grouping of a query: keys by their places in From, picks and HAVING by places in a row of keys and calls
+-- the grouping of a query: keys by their places in From, picks and HAVING by places in a row of
+-- keys and calls
 pub record IsGrouping (q : Query) (columns : List FromColumn) (g : Grouping) : Type 0 where
   pub keys : g.keys ≡ map (λ c. place_of (means c) columns) q.keys
   pub calls : EachWith (IsPlacedCall (λ c. place_of (means c) columns)) (query_calls q) g.calls
-  pub having : BothOrNone (IsPlacedCond (λ c. place_of (same_column columns c) q.keys) (length q.keys + length (flat_map (λ (i : Item). item_calls i.what) (listed q.items)))) q.having g.having
-  pub picks : ArePicks (λ c. place_of (same_column columns c) q.keys) (length q.keys) (listed q.items) g.picks
+  pub having : BothOrNone (IsPlacedCond (λ c. place_of (same_column columns c) q.keys)
+      (length q.keys + length (flat_map (λ (i : Item). item_calls i.what) (listed q.items))))
+      q.having g.having
+  pub picks : ArePicks (λ c. place_of (same_column columns c) q.keys) (length q.keys)
+      (listed q.items) g.picks
   pub lone : g.lone ≡ (length q.keys == 0)
 
 abbrev pub IsShape : Query → List FromColumn → Bool → Shape → Type 0
-IsShape q columns false (shape.Plain es) = ArePlainItems (λ c. place_of (means c) columns) columns q.items es
+IsShape q columns false (shape.Plain es) =
+    ArePlainItems (λ c. place_of (means c) columns) columns q.items es
 IsShape q columns true (shape.Grouped g) = IsGrouping q columns g
 IsShape q columns _ _ = ⊥
 
@@ -138,15 +153,21 @@ known_type _ = column.Text
 
 abbrev pub output_types : Items → List FromColumn → List ColumnType
 output_types Star columns = map (λ (c : FromColumn). c.type) columns
-output_types (Listed items) columns = map (λ (i : Item). known_type (item_kind columns i.what)) items
+output_types (Listed items) columns =
+    map (λ (i : Item). known_type (item_kind columns i.what)) items
 
 -- the checked query of a query that no condition refuses
 pub record IsChecked (q : Query) (schemas : List Schema) (c : Checked) : Type 0 where
   pub from : c.from ≡ use_of schemas q.from
   pub join : BothOrNone (IsCheckedJoin q schemas) q.join c.join
-  pub filter : BothOrNone (IsPlacedCond (λ n. place_of (means n) (from_columns q schemas)) 0) q.filter c.filter
+  pub filter : BothOrNone (IsPlacedCond (λ n. place_of (means n) (from_columns q schemas)) 0)
+      q.filter c.filter
   pub shape : IsShape q (from_columns q schemas) (is_grouped q) c.shape
   pub names : c.names ≡ output_names q.items (from_columns q schemas)
   pub types : c.types ≡ output_types q.items (from_columns q schemas)
-  pub order : c.order ≡ map (λ (key : OrderKey). record { column = place_of (bytes_eq key.name) (output_names q.items (from_columns q schemas)); descending = key.descending }) q.order
+  pub order : c.order ≡ map (λ (key : OrderKey). record {
+    column = place_of (bytes_eq key.name)
+        (output_names q.items (from_columns q schemas));
+    descending = key.descending;
+  }) q.order
   pub limit : c.limit ≡ q.limit

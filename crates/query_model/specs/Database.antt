@@ -45,12 +45,14 @@ bad_place_in header types None = None
 bad_place_in header types (Some bytes) = bad_place 1 types (part_records header bytes)
 
 -- the first bad place of a part; none where the file is not there
-abbrev pub part_bad_place : Bool → List ColumnType → List (List ℕ × List ℕ) → List ℕ → Option BadPlace
+abbrev pub part_bad_place : Bool → List ColumnType → List (List ℕ × List ℕ) → List ℕ
+    → Option BadPlace
 part_bad_place header types files path = bad_place_in header types (file_bytes files path)
 
 -- the part's file is there, and has no bad place
 abbrev pub IsValidPart : Bool → List ColumnType → List (List ℕ × List ℕ) → List ℕ → Type 0
-IsValidPart header types files path = IsSome (file_bytes files path) × (part_bad_place header types files path ≡ None)
+IsValidPart header types files path = IsSome (file_bytes files path)
+    × (part_bad_place header types files path ≡ None)
 
 abbrev pub bad_line_in : Option (List ℕ) → Option ℕ
 bad_line_in None = None
@@ -59,7 +61,8 @@ bad_line_in (Some text) = list_bad_line text
 -- where a table has a list file, it is there and has no bad line
 abbrev pub IsValidList : List (List ℕ × List ℕ) → PartsDecl → Type 0
 IsValidList files (Paths paths) = Unit {0}
-IsValidList files (ListFile path) = IsSome (file_bytes files path) × (bad_line_in (file_bytes files path) ≡ None)
+IsValidList files (ListFile path) = IsSome (file_bytes files path)
+    × (bad_line_in (file_bytes files path) ≡ None)
 
 -- a declared table: the rows of its parts, in order of the parts
 abbrev pub declared_table : Bool → List (List ℕ × List ℕ) → TableDecl → Table
@@ -80,7 +83,8 @@ join_use (Some join) = join.table ∷ []
 abbrev pub used_tables : Checked → List TableUse
 used_tables q = q.from ∷ join_use q.join
 
--- a part that a query uses: the place of its table from 0, its place in the table from 1, and what it holds
+-- a part that a query uses: the place of its table from 0, its place in the table from 1, and what
+-- it holds
 pub record UsedPart : Type 0 where
   pub table : ℕ
   pub part : ℕ
@@ -90,11 +94,17 @@ pub record UsedPart : Type 0 where
 -- the parts with these paths, of which the first has place k
 abbrev pub numbered_parts : ℕ → List ColumnType → ℕ → List (List ℕ) → List UsedPart
 numbered_parts table types k [] = []
-numbered_parts table types k (path ∷ paths) = record { table = table; part = k; types = types; path = path } ∷ numbered_parts table types (k + 1) paths
+numbered_parts table types k (path ∷ paths) = record {
+  table = table;
+  part = k;
+  types = types;
+  path = path;
+} ∷ numbered_parts table types (k + 1) paths
 
 abbrev pub parts_declared : List (List ℕ × List ℕ) → ℕ → Option TableDecl → List UsedPart
 parts_declared files t None = []
-parts_declared files t (Some decl) = numbered_parts t (column_types decl.schema) 1 (part_paths files decl.parts)
+parts_declared files t (Some decl) =
+    numbered_parts t (column_types decl.schema) 1 (part_paths files decl.parts)
 
 abbrev pub parts_used : List (List ℕ × List ℕ) → List TableDecl → TableUse → List UsedPart
 parts_used files decls (Declared t) = parts_declared files t (slice_get decls t)

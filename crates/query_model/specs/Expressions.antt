@@ -20,7 +20,8 @@ Cond = CondOf ℕ
 abbrev pub number_of : Number → ℤ
 number_of n = if n.negative then neg_ℤ (pos n.size) else pos n.size
 
--- A plain number is a UInt64 where it is not negative. Beside an Int64 it counts as one, by `arith`.
+-- A plain number is a UInt64 where it is not negative. Beside an Int64 it counts as one, by
+-- `arith`.
 abbrev pub plain_value : ℤ → Value
 plain_value (pos n) = value.UInt n
 plain_value (negsuc n) = value.Int (negsuc n)
@@ -38,7 +39,8 @@ gives_uint Mul a b = a && b
 
 -- the number of the result's type that equals the exact result modulo 2 ^ 64
 abbrev pub arith_value : ArithOp → Value → Value → Value
-arith_value op a b = wrapped (gives_uint op (is_uint a) (is_uint b)) (exact_result op (exact a) (exact b))
+arith_value op a b =
+    wrapped (gives_uint op (is_uint a) (is_uint b)) (exact_result op (exact a) (exact b))
 
 -- the value of an expression at a row
 unfoldable pub value_of : Expr → Row → Value
@@ -56,7 +58,8 @@ unfoldable pub type_of : Expr → List ColumnType → ColumnType
 type_of (expr.Column c) types = slice_index_or types c column.Text
 type_of (expr.Number n) types = type_of_value (plain_value (number_of n))
 type_of (expr.Arith' op p a q b) types =
-    if gives_uint op (is_uint_column (type_of a types)) (is_uint_column (type_of b types)) then column.UInt64 else column.Int64
+    if gives_uint op (is_uint_column (type_of a types)) (is_uint_column (type_of b types))
+    then column.UInt64 else column.Int64
 
 -- texts are compared by bytes, and numbers by their exact values
 abbrev pub compared : Value → Value → Ordering
@@ -71,7 +74,8 @@ passes compare.Le o = is_le o
 passes compare.Gt o = is_gt o
 passes compare.Ge o = is_ge o
 
--- The value of a side of a comparison. A checked condition has no aggregate call: it has the column of its value.
+-- The value of a side of a comparison. A checked condition has no aggregate call: it has the column
+-- of its value.
 unfoldable pub operand_value : Operand ℕ → Row → Value
 operand_value (operand.Plain e) row = value_of e row
 operand_value (operand.Text bytes) row = value.Text bytes
@@ -79,7 +83,8 @@ operand_value (operand.Agg call) row = value.Text []
 
 -- the truth of a condition at a row
 unfoldable pub truth_of : Cond → Row → Bool
-truth_of (cond'.Compare op a b) row = passes op (compared (operand_value a row) (operand_value b row))
+truth_of (cond'.Compare op a b) row =
+    passes op (compared (operand_value a row) (operand_value b row))
 truth_of (cond'.And' p a q b) row = truth_of a row && truth_of b row
 truth_of (cond'.Or' p a q b) row = truth_of a row || truth_of b row
 truth_of (cond'.Not' p a) row = not (truth_of a row)

@@ -16,7 +16,8 @@ numeral_value bytes = fold (λ n b. n * 10 + (b - 48)) 0 bytes
 
 -- a numeral below a limit
 abbrev pub numeral_below : ℕ → List ℕ → Option ℕ
-numeral_below limit bytes = if is_numeral bytes && nat_lt (numeral_value bytes) limit then Some (numeral_value bytes) else None
+numeral_below limit bytes = if is_numeral bytes && nat_lt (numeral_value bytes) limit
+    then Some (numeral_value bytes) else None
 
 abbrev pub spelled_int : List ℕ → Option ℤ
 spelled_int [] = None

@@ -36,15 +36,20 @@ abbrev pub rows_joined : Option CheckedJoin → Database → List Row → ℕ
 rows_joined None db left = 0
 rows_joined (Some join) db left = length left + length (used_table db join.table).rows
 
--- The number of rows that the boxes of a kind pull together in a run without LIMIT whose answer is `answer`. A kind of which the query has no use
--- pulls nothing: a Filter without WHERE and HAVING, a PartialAggregate without grouping, a HashJoin without JOIN, a Sort without ORDER BY, and a
--- MergeSorted without ORDER BY or with grouping, since then one Sort has all rows. Of the kinds that aren't named here nothing is said.
+-- The number of rows that the boxes of a kind pull together in a run without LIMIT whose answer is
+-- `answer`. A kind of which the query has no use pulls nothing: a Filter without WHERE and HAVING,
+-- a PartialAggregate without grouping, a HashJoin without JOIN, a Sort without ORDER BY, and a
+-- MergeSorted without ORDER BY or with grouping, since then one Sort has all rows. Of the kinds
+-- that aren't named here nothing is said.
 abbrev pub flow : Kind → Checked → Database → List Row → Option ℕ
-flow kind.Filter q db answer = Some (rows_tested q.filter (source_rows q db) + groups_tested q.shape (source_table q db).types (filtered_rows q db))
-flow kind.Expression q db answer = Some (length (filtered_rows q db) + if_grouped q.shape (length (output_rows q db)))
+flow kind.Filter q db answer = Some (rows_tested q.filter (source_rows q db)
+    + groups_tested q.shape (source_table q db).types (filtered_rows q db))
+flow kind.Expression q db answer =
+    Some (length (filtered_rows q db) + if_grouped q.shape (length (output_rows q db)))
 flow kind.PartialAggregate q db answer = Some (if_grouped q.shape (length (filtered_rows q db)))
 flow kind.HashJoin q db answer = Some (rows_joined q.join db (used_table db q.from).rows)
 flow kind.Sort q db answer = Some (if_ordered q.order (length (output_rows q db)))
-flow kind.MergeSorted q db answer = Some (if_ordered q.order (if_plain q.shape (length (output_rows q db))))
+flow kind.MergeSorted q db answer =
+    Some (if_ordered q.order (if_plain q.shape (length (output_rows q db))))
 flow kind.Collect q db answer = Some (length answer)
 flow _ q db answer = None

@@ -20,7 +20,8 @@ unfoldable pub chosen : (Value → Value → Value) → List Value → Value
 chosen choose [] = Text []
 chosen choose (v ∷ vs) = fold choose v vs
 
--- What is made of values: their number, their sum, the sum of partial numbers, the least, or the greatest.
+-- What is made of values: their number, their sum, the sum of partial numbers, the least, or the
+-- greatest.
 pub data Combine : Type 0 where
   counted : Combine
   added : Combine
@@ -67,10 +68,12 @@ distinct_rows rows = distinct same_row rows
 abbrev pub rows_with : (Row → Row) → Row → List Row → List Row
 rows_with key k rows = filter (λ r. same_row k (key r)) rows
 
--- one row for each distinct key, in order of first appearance: the key, and each call's value over the rows with it
+-- one row for each distinct key, in order of first appearance: the key, and each call's value over
+-- the rows with it
 abbrev pub grouped_by : (Row → Row) → List Call → List Row → List Row
 grouped_by key calls rows =
-    map (λ k. k ++ map (λ (call : Call). combined call.op (map call.arg (rows_with key k rows))) calls) (distinct_rows (map key rows))
+    map (λ k. k ++ map (λ (call : Call). combined call.op (map call.arg (rows_with key k rows)))
+    calls) (distinct_rows (map key rows))
 
 -- what a call is over: the value of its argument; `count` has none
 abbrev pub argument_of : Option (ExprOf ℕ) → Row → Value
@@ -87,7 +90,8 @@ groups keys calls rows = grouped_by (values_at keys) (map call_of calls) rows
 -- the calls over rows whose states begin in column c
 abbrev pub state_calls : ℕ → List Combine → List Call
 state_calls c [] = []
-state_calls c (op ∷ ops) = record { op = merge_of op; arg = λ row. value_at row c } ∷ state_calls (c + 1) ops
+state_calls c (op ∷ ops) =
+    record { op = merge_of op; arg = λ row. value_at row c } ∷ state_calls (c + 1) ops
 
 -- the groups of rows that have n keys and then the states of partial groups
 abbrev pub merged_groups : ℕ → List Combine → List Row → List Row
@@ -101,7 +105,8 @@ call_type op (Some e) types = type_of e types
 
 -- the row of an aggregate query over no rows
 abbrev pub default_row : List (AggCall ℕ) → List ColumnType → Row
-default_row calls types = map (λ (call : AggCall ℕ). default_value (call_type call.op call.arg types)) calls
+default_row calls types =
+    map (λ (call : AggCall ℕ). default_value (call_type call.op call.arg types)) calls
 
 -- the groups, or without GROUP BY and without rows the one default row
 abbrev pub groups_or_default : Bool → Row → List Row → List Row

@@ -5,7 +5,8 @@ use Rattle.query_model.specs.Fields.{is_digit}
 
 -- the number with one digit more behind it, where that is below 2 ^ 64
 abbrev pub with_digit : ℕ → ℕ → Option ℕ
-with_digit n b = if is_digit b && nat_lt (n * 10 + (b - 48)) (2 ^ 64) then Some (n * 10 + (b - 48)) else None
+with_digit n b = if is_digit b && nat_lt (n * 10 + (b - 48)) (2 ^ 64) then Some (n * 10 + (b - 48))
+    else None
 
 abbrev pub and_then : Option ℕ → (ℕ → Option ℕ) → Option ℕ
 and_then None f = None

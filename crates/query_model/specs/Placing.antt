@@ -30,14 +30,16 @@ place_by scope.Groups columns keys c = key_place columns keys c
 
 -- calls that are placed behind others
 pub record AreAdded
-    (columns : List FromColumn) (calls : List (AggCall ColumnRef)) (before after : List (AggCall ℕ)) : Type 0 where
+    (columns : List FromColumn) (calls : List (AggCall ColumnRef))
+    (before after : List (AggCall ℕ)) : Type 0 where
   pub more : List (AggCall ℕ)
   pub is : after ≡ before ++ more
   pub placed : EachWith (IsPlacedCall (place_in columns)) calls more
 
 -- the join with places in its two tables
 pub record IsPlacedJoin
-    (schemas : List Schema) (left right : List FromColumn) (a : Join) (b : CheckedJoin) : Type 0 where
+    (schemas : List Schema) (left right : List FromColumn) (a : Join)
+    (b : CheckedJoin) : Type 0 where
   pub table : b.table ≡ use_of schemas a.table
   pub pairs : b.pairs ≡ map (pair_of left right) a.pairs
 
@@ -59,7 +61,8 @@ undeclared_table schemas t =
 
 abbrev pub unknown_among : List FromColumn → List ColumnRef → Option Refusal
 unknown_among columns names =
-    option_map (λ c. refuse.UnknownColumn (written c)) (find (λ c. length (meant c columns) == 0) names)
+    option_map (λ c. refuse.UnknownColumn (written c))
+    (find (λ c. length (meant c columns) == 0) names)
 
 abbrev pub ambiguous_among : List FromColumn → List ColumnRef → Option Refusal
 ambiguous_among columns names =
@@ -106,7 +109,8 @@ first_ungrouped columns q =
 
 abbrev pub not_grouped_over : List FromColumn → Query → Option Refusal
 not_grouped_over columns q =
-    if is_grouped q then option_map refuse.NotGrouped (first_name (ungrouped_over columns q)) else None
+    if is_grouped q then option_map refuse.NotGrouped (first_name (ungrouped_over columns q))
+    else None
 
 -- the first key that is not exactly one of the output names
 abbrev pub order_refusal : List (List ℕ) → List OrderKey → Option Refusal

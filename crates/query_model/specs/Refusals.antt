@@ -34,7 +34,8 @@ columns_if (Some s) = schema_columns s
 -- the first declared table with a name is meant
 abbrev pub table_columns : List Schema → TableRef → List FromColumn
 table_columns schemas (Named t) = columns_if (find (λ (s : Schema). bytes_eq s.name t) schemas)
-table_columns schemas (Numbers n) = record { table = codes "numbers"; name = codes "number"; type = column.UInt64 } ∷ []
+table_columns schemas (Numbers n) =
+    record { table = codes "numbers"; name = codes "number"; type = column.UInt64 } ∷ []
 
 abbrev pub join_tables : Option Join → List TableRef
 join_tables None = []
@@ -131,15 +132,18 @@ table_name (Named t) = t
 table_name (Numbers n) = codes "numbers"
 
 abbrev pub unknown_table : Query → List Schema → Option Refusal
-unknown_table q schemas = option_map (λ t. refuse.UnknownTable (table_name t)) (find (λ t. not (is_declared schemas t)) (query_tables q))
+unknown_table q schemas = option_map (λ t. refuse.UnknownTable (table_name t))
+    (find (λ t. not (is_declared schemas t)) (query_tables q))
 
 abbrev pub unknown_column : Query → List Schema → Option Refusal
 unknown_column q schemas =
-    option_map (λ c. refuse.UnknownColumn (written c)) (find (λ c. length (meant c (from_columns q schemas)) == 0) (text_columns q))
+    option_map (λ c. refuse.UnknownColumn (written c))
+    (find (λ c. length (meant c (from_columns q schemas)) == 0) (text_columns q))
 
 abbrev pub ambiguous_column : Query → List Schema → Option Refusal
 ambiguous_column q schemas =
-    option_map (λ c. refuse.AmbiguousColumn (written c)) (find (λ c. nat_lt 1 (length (meant c (from_columns q schemas)))) (text_columns q))
+    option_map (λ c. refuse.AmbiguousColumn (written c))
+    (find (λ c. nat_lt 1 (length (meant c (from_columns q schemas)))) (text_columns q))
 
 -- the type of the column that a name means, taken without Nullable
 abbrev pub meant_type : List FromColumn → ColumnRef → Option ColumnType
@@ -167,7 +171,8 @@ is_join_pair left right p = joins left right p.left p.right || joins left right 
 
 abbrev pub holds_pairs : Query → List Schema → Option Join → Bool
 holds_pairs q schemas None = true
-holds_pairs q schemas (Some join) = list_all (is_join_pair (table_columns schemas q.from) (table_columns schemas join.table)) join.pairs
+holds_pairs q schemas (Some join) = list_all
+    (is_join_pair (table_columns schemas q.from) (table_columns schemas join.table)) join.pairs
 
 abbrev pub bad_join_key : Query → List Schema → Option Refusal
 bad_join_key q schemas = if holds_pairs q schemas q.join then None else Some refuse.BadJoinKey
@@ -194,7 +199,8 @@ result_type Sub t = column.Int64
 result_type Mul t = t
 
 abbrev pub arith_kind : ArithOp → Kind → Kind → Kind
-arith_kind op (typed s) (typed t) = if same_type s t && not (is_text s) then typed (result_type op s) else unfit
+arith_kind op (typed s) (typed t) = if same_type s t && not (is_text s)
+    then typed (result_type op s) else unfit
 arith_kind op (typed t) (plain z) = if can_hold t z then typed (result_type op t) else unfit
 arith_kind op (plain z) (typed t) = if can_hold t z then typed (result_type op t) else unfit
 arith_kind op _ _ = unfit
@@ -206,7 +212,8 @@ known_kind (Some t) = typed t
 unfoldable pub expr_kind : List FromColumn → ExprOf ColumnRef → Kind
 expr_kind columns (expr.Column c) = known_kind (meant_type columns c)
 expr_kind columns (expr.Number n) = plain (number_of n)
-expr_kind columns (expr.Arith' op p a q b) = arith_kind op (expr_kind columns a) (expr_kind columns b)
+expr_kind columns (expr.Arith' op p a q b) =
+    arith_kind op (expr_kind columns a) (expr_kind columns b)
 
 -- the kind of a call over an argument of a kind
 abbrev pub call_kind : AggOp → Kind → Kind
@@ -238,7 +245,8 @@ comparable (plain y) (plain z) = true
 comparable _ _ = false
 
 unfoldable pub cond_fits : List FromColumn → CondOf ColumnRef → Bool
-cond_fits columns (condition.Compare op a b) = comparable (operand_kind columns a) (operand_kind columns b)
+cond_fits columns (condition.Compare op a b) =
+    comparable (operand_kind columns a) (operand_kind columns b)
 cond_fits columns (condition.And' p a q b) = cond_fits columns a && cond_fits columns b
 cond_fits columns (condition.Or' p a q b) = cond_fits columns a && cond_fits columns b
 cond_fits columns (condition.Not' p a) = cond_fits columns a
@@ -258,7 +266,8 @@ item_kind columns (kind.Agg call) = agg_kind columns call.op call.arg
 abbrev pub type_mismatch : Query → List Schema → Option Refusal
 type_mismatch q schemas =
     let columns = from_columns q schemas in
-    if list_all (λ (i : Item). is_typed (item_kind columns i.what)) (listed q.items) && fits_where columns q.filter && fits_where columns q.having
+    if list_all (λ (i : Item). is_typed (item_kind columns i.what)) (listed q.items)
+    && fits_where columns q.filter && fits_where columns q.having
     then None else Some refuse.TypeMismatch
 
 -- grouping
@@ -269,7 +278,8 @@ is_call (kind.Agg call) = true
 
 -- a query is grouped where it has GROUP BY, HAVING or an aggregate call
 abbrev pub is_grouped : Query → Bool
-is_grouped q = not (length q.keys == 0) || is_some q.having || list_any (λ (i : Item). is_call i.what) (listed q.items)
+is_grouped q = not (length q.keys == 0) || is_some q.having
+    || list_any (λ (i : Item). is_call i.what) (listed q.items)
 
 -- two names mean one column
 abbrev pub same_column : List FromColumn → ColumnRef → ColumnRef → Bool
@@ -299,7 +309,8 @@ first_name [] = None
 first_name (name ∷ names) = Some name
 
 abbrev pub not_grouped : Query → List Schema → Option Refusal
-not_grouped q schemas = if is_grouped q then option_map refuse.NotGrouped (first_name (ungrouped_names q schemas)) else None
+not_grouped q schemas = if is_grouped q
+    then option_map refuse.NotGrouped (first_name (ungrouped_names q schemas)) else None
 
 -- output names and order
 
@@ -340,15 +351,18 @@ total [] = 0
 total (n ∷ ns) = n + total ns
 
 abbrev pub calls_in : Query → ℕ
-calls_in q = length (filter (λ (i : Item). is_call i.what) (listed q.items)) + total (map operand_calls (operands_of q.having))
+calls_in q = length (filter (λ (i : Item). is_call i.what) (listed q.items))
+    + total (map operand_calls (operands_of q.having))
 
 -- what may not be more than 64
 abbrev pub widths : Query → List Schema → List ℕ
 widths q schemas =
-    length (from_columns q schemas) ∷ length (listed q.items) ∷ length q.keys ∷ length q.order ∷ length (join_pairs q.join) ∷ calls_in q ∷ []
+    length (from_columns q schemas) ∷ length (listed q.items) ∷ length q.keys ∷ length q.order
+    ∷ length (join_pairs q.join) ∷ calls_in q ∷ []
 
 abbrev pub too_wide : Query → List Schema → Option Refusal
-too_wide q schemas = if list_any (λ n. nat_lt 64 n) (widths q schemas) then Some refuse.TooWide else None
+too_wide q schemas = if list_any (λ n. nat_lt 64 n) (widths q schemas) then Some refuse.TooWide
+    else None
 
 abbrev pub first_of_all : {X : Type 0} → List (Option X) → Option X
 first_of_all [] = None
@@ -358,5 +372,7 @@ first_of_all (Some x ∷ rest) = Some x
 -- the first condition that the query meets, with the name that it carries
 unfoldable pub refusal_of : Query → List Schema → Option Refusal
 refusal_of q schemas = first_of_all (
-    unknown_table q schemas ∷ unknown_column q schemas ∷ ambiguous_column q schemas ∷ bad_join_key q schemas
-    ∷ type_mismatch q schemas ∷ not_grouped q schemas ∷ bad_order_key q schemas ∷ too_wide q schemas ∷ [])
+    unknown_table q schemas ∷ unknown_column q schemas ∷ ambiguous_column q schemas
+    ∷ bad_join_key q schemas
+    ∷ type_mismatch q schemas ∷ not_grouped q schemas ∷ bad_order_key q schemas ∷ too_wide q schemas
+    ∷ [])

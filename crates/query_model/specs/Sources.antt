@@ -28,7 +28,8 @@ values_agree a b = is_eq (value_cmp a b)
 -- two rows agree on every pair of columns
 abbrev pub agree : List KeyPair → Row → Row → Bool
 agree [] l r = true
-agree (pair ∷ pairs) l r = values_agree (value_at l pair.left) (value_at r pair.right) && agree pairs l r
+agree (pair ∷ pairs) l r =
+    values_agree (value_at l pair.left) (value_at r pair.right) && agree pairs l r
 
 -- each row of the one table beside each row of the other with which it agrees
 abbrev pub joined_rows : List KeyPair → List Row → List Row → List Row

@@ -40,7 +40,8 @@ AreNumbersAlike column.Int64 t = t ≡ column.Int64
 AreNumbersAlike column.UInt64 t = t ≡ column.UInt64
 AreNumbersAlike column.Text t = ⊥
 
--- Arithmetic is of two operands of one type of numbers. One of them may be a plain number that the other's type has.
+-- Arithmetic is of two operands of one type of numbers. One of them may be a plain number that the
+-- other's type has.
 abbrev pub AreAlike : Option ℤ → ColumnType → Option ℤ → ColumnType → Type 0
 AreAlike None s None t = AreNumbersAlike s t
 AreAlike None s (Some z) t = CanHold s z
@@ -51,7 +52,8 @@ AreAlike (Some y) s (Some z) t = ⊥
 abbrev pub IsTyped : List ColumnType → Expr → Type 0
 IsTyped types (expr.Column c) = c < length types
 IsTyped types (expr.Number n) = Unit {0}
-IsTyped types (expr.Arith' op p a q b) = IsTyped types a × IsTyped types b × AreAlike (plain_of a) (type_of a types) (plain_of b) (type_of b types)
+IsTyped types (expr.Arith' op p a q b) = IsTyped types a × IsTyped types b
+    × AreAlike (plain_of a) (type_of a types) (plain_of b) (type_of b types)
 
 -- what an item of SELECT may be: typed, and not a plain number alone
 pub record IsItem (types : List ColumnType) (e : Expr) : Type 0 where
@@ -77,7 +79,8 @@ is_text column.Text = true
 
 -- the condition is typed by the columns' types: a comparison is of two numbers or of two texts
 abbrev pub IsTypedCond : List ColumnType → Cond → Type 0
-IsTypedCond types (cond'.Compare op a b) = IsTypedOperand types a × IsTypedOperand types b × (is_text (operand_type a types) ≡ is_text (operand_type b types))
+IsTypedCond types (cond'.Compare op a b) = IsTypedOperand types a × IsTypedOperand types b
+    × (is_text (operand_type a types) ≡ is_text (operand_type b types))
 IsTypedCond types (cond'.And' p a q b) = IsTypedCond types a × IsTypedCond types b
 IsTypedCond types (cond'.Or' p a q b) = IsTypedCond types a × IsTypedCond types b
 IsTypedCond types (cond'.Not' p a) = IsTypedCond types a

@@ -73,8 +73,8 @@ fn checked_query(
     })
 }
 
-/// The query over the columns of its From, of which those of the FROM table are `left` and those of the JOIN
-/// table `right`.
+/// The query over the columns of its From, of which those of the FROM table are `left` and those of
+/// the JOIN table `right`.
 fn analysed(
     alloc: Global,
     query: Query,
@@ -113,8 +113,8 @@ fn analysed(
     }
 }
 
-/// The query with places in the place of names. Refusals come in the order of `Refusal`, and a name that one
-/// carries is the first in the text's order: items, ON, WHERE, GROUP BY, HAVING, ORDER BY.
+/// The query with places in the place of names. Refusals come in the order of `Refusal`, and a name
+/// that one carries is the first in the text's order: items, ON, WHERE, GROUP BY, HAVING, ORDER BY.
 pub fn analyse(alloc: Global, query: Query, tables: &List<Schema>) -> Result<Checked, Refusal>
     requires { IsAnalysable query }
     ensures checked { IfOk result (IsChecked query tables.now) }

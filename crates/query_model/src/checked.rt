@@ -29,8 +29,9 @@ pub struct CheckedJoin {
     pub pairs: List<KeyPair>,
 }
 
-/// Groups: the places of the keys in From, and the calls of the items and then of HAVING. HAVING and `picks`
-/// have places in a row of the keys and then the calls. `lone` says that there is no GROUP BY.
+/// Groups: the places of the keys in From, and the calls of the items and then of HAVING. HAVING
+/// and `picks` have places in a row of the keys and then the calls. `lone` says that there is no
+/// GROUP BY.
 #[derive(Debug, Drop)]
 pub struct Grouping {
     pub keys: List<u32>,
@@ -47,8 +48,8 @@ pub enum Shape {
     Grouped(Grouping),
 }
 
-/// A query with places where the parsed one has names. `order` has places of items, and `names` and `types`
-/// are those of the items.
+/// A query with places where the parsed one has names. `order` has places of items, and `names` and
+/// `types` are those of the items.
 #[derive(Debug, Drop)]
 pub struct Checked {
     pub from: TableUse,

@@ -5,7 +5,8 @@ ghost use Rattle.query_model.specs.Names.{numeral_below, spelled_int as int_spel
 /// The most numbers to which any digit can be added, below 2^64.
 const ROOMY: u64 = 1_844_674_407_370_955_161;
 
-/// The number with one digit more, or none where the byte is no digit or the number would be too large.
+/// The number with one digit more, or none where the byte is no digit or the number would be too
+/// large.
 fn add_digit(number: u64, b: u8) -> Option<u64>
     ensures { result ≡ with_digit number b }
 {

@@ -25,8 +25,8 @@ pub fn copy_expr(alloc: Global, e: &Expr) -> Result<Expr, AllocError>
     }
 }
 
-/// A condition in a box. It stands apart from the recursions over conditions, whose frames are to be
-/// small: texts nest a thousand of them.
+/// A condition in a box. It stands apart from the recursions over conditions, whose frames are to
+/// be small: texts nest a thousand of them.
 #[inline(never)]
 pub fn boxed_cond(alloc: Global, cond: Cond) -> Result<Box<Cond>, Memory>
     ensures { IfOk result (λ b. b.value ≡ cond) }
@@ -124,7 +124,8 @@ pub fn row_spelled(
     Ok(Some(List::from_vec(row)))
 }
 
-/// The first column, counted from 1, whose field spells no value, or the number behind the last column's.
+/// The first column, counted from 1, whose field spells no value, or the number behind the last
+/// column's.
 fn first_bad_column(types: &[ColumnType], fields: &[Bytes]) -> u32
     requires few { length types.now < 2 ^ 32 - 1 }
     requires long { length fields.now ≡ length types.now }

@@ -172,8 +172,8 @@ pub struct TableDecl {
     pub parts: PartsDecl,
 }
 
-/// Why a query is refused, in the order of the causes. A name is carried as it is written, `t.c` where it is
-/// qualified.
+/// Why a query is refused, in the order of the causes. A name is carried as it is written, `t.c`
+/// where it is qualified.
 #[derive(Debug, Drop)]
 pub enum Refusal {
     UnknownTable(Bytes),

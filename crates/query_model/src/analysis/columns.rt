@@ -81,7 +81,8 @@ fn push_declared(
     table: &[u8],
     tables: &[Schema],
 ) -> Result<(), Memory>
-    ensures { OnOk result (columns.new.items ≡ columns.old.items ++ table_columns tables.now (TableRef.Named table.now)) }
+    ensures { OnOk result (columns.new.items
+        ≡ columns.old.items ++ table_columns tables.now (TableRef.Named table.now)) }
 {
     let mut rest = tables;
     while let Some((schema, behind)) = rest.split_first() {
@@ -94,7 +95,8 @@ fn push_declared(
 }
 
 fn push_number(alloc: Global, columns: &mut Vec<FromColumn>, count: u64) -> Result<(), Memory>
-    ensures { OnOk result (columns.new.items ≡ columns.old.items ++ table_columns [] (TableRef.Numbers count)) }
+    ensures { OnOk result
+        (columns.new.items ≡ columns.old.items ++ table_columns [] (TableRef.Numbers count)) }
 {
     columns.push(FromColumn {
         table: Bytes::from_slice(alloc, b"numbers")?,
@@ -110,7 +112,8 @@ fn push_table(
     table: &TableRef,
     tables: &[Schema],
 ) -> Result<(), Memory>
-    ensures { OnOk result (columns.new.items ≡ columns.old.items ++ table_columns tables.now table.now) }
+    ensures { OnOk result
+        (columns.new.items ≡ columns.old.items ++ table_columns tables.now table.now) }
 {
     match table {
         TableRef::Named(name) => push_declared(alloc, columns, name.as_slice(), tables),
@@ -138,7 +141,8 @@ pub(crate) fn push_joined(
     join: &Option<Join>,
     tables: &[Schema],
 ) -> Result<(), Memory>
-    ensures { OnOk result (columns.new.items ≡ columns.old.items ++ flat_map (table_columns tables.now) (join_tables join.now)) }
+    ensures { OnOk result (columns.new.items
+        ≡ columns.old.items ++ flat_map (table_columns tables.now) (join_tables join.now)) }
 {
     match join {
         Some(join) => push_table(alloc, columns, &join.table, tables),

@@ -70,7 +70,8 @@ fn push_item_ungrouped(
     keys: &[ColumnRef],
     names: &mut Vec<ColumnRef>,
 ) -> Result<(), Memory>
-    ensures { OnOk result (names.new.items ≡ names.old.items ++ not_keys (is_key_of columns.now keys.now) item.now.what) }
+    ensures { OnOk result (names.new.items
+        ≡ names.old.items ++ not_keys (is_key_of columns.now keys.now) item.now.what) }
 {
     match &item.what {
         ItemKind::Plain(ExprOf::Column(c)) => {
@@ -95,7 +96,8 @@ fn push_ungrouped(
     keys: &[ColumnRef],
     names: &mut Vec<ColumnRef>,
 ) -> Result<(), Memory>
-    ensures { OnOk result (names.new.items ≡ names.old.items ++ items_ungrouped columns.now keys.now items.now) }
+    ensures { OnOk result
+        (names.new.items ≡ names.old.items ++ items_ungrouped columns.now keys.now items.now) }
 {
     for item in items {
         push_item_ungrouped(item, columns, keys, names)?;
@@ -119,7 +121,8 @@ fn ungrouped_in_items(
     columns: &[FromColumn],
     keys: &[ColumnRef],
 ) -> Result<Option<Bytes>, Memory>
-    ensures { IfOk result (λ name. name ≡ first_name (map written_name (items_ungrouped columns.now keys.now items.now))) }
+    ensures { IfOk result (λ name. name
+        ≡ first_name (map written_name (items_ungrouped columns.now keys.now items.now))) }
 {
     let mut names = Vec::new(alloc);
     push_ungrouped(items, columns, keys, &mut names)?;
@@ -132,7 +135,8 @@ fn first_not_key(
     columns: &[FromColumn],
     keys: &[ColumnRef],
 ) -> Result<Option<Bytes>, Memory>
-    ensures { IfOk result (λ name. name ≡ option_map written_name (find (λ c. not (is_key_of columns.now keys.now c)) names.now)) }
+    ensures { IfOk result (λ name. name
+        ≡ option_map written_name (find (λ c. not (is_key_of columns.now keys.now c)) names.now)) }
 {
     match names.iter().find(|c| !is_key(c, keys, columns)) {
         Some(c) => Ok(Some(written(c)?)),
@@ -146,7 +150,8 @@ fn ungrouped_in_having(
     columns: &[FromColumn],
     keys: &[ColumnRef],
 ) -> Result<Option<Bytes>, Memory>
-    ensures { IfOk result (λ name. name ≡ option_map written_name (find (λ c. not (is_key_of columns.now keys.now c)) (bare_names having.now))) }
+    ensures { IfOk result (λ name. name ≡ option_map written_name
+        (find (λ c. not (is_key_of columns.now keys.now c)) (bare_names having.now))) }
 {
     let mut names = Vec::new(alloc);
     push_filter_names(false, having, &mut names)?;
@@ -202,8 +207,10 @@ fn pick_item(
     requires few { length columns.now ≤ 64 }
     requires few_keys { length keys.now ≤ 64 }
     requires pickable { CanBePicked (is_key_of columns.now keys.now) item.now.what }
-    ensures picked { IfOk result (IsPick (key_place columns.now keys.now) (length keys.now + length calls.old.items) item.now.what) }
-    ensures added { OnOk result (AreAdded columns.now (item_calls item.now.what) calls.old.items calls.new.items) }
+    ensures picked { IfOk result (IsPick (key_place columns.now keys.now)
+        (length keys.now + length calls.old.items) item.now.what) }
+    ensures added { OnOk result
+        (AreAdded columns.now (item_calls item.now.what) calls.old.items calls.new.items) }
 {
     match &item.what {
         ItemKind::Plain(ExprOf::Column(c)) => Ok(key_column(c, columns, keys)),
@@ -222,9 +229,12 @@ fn pick_items(
 ) -> Result<List<u32>, Memory>
     requires few { length columns.now ≤ 64 }
     requires few_keys { length keys.now ≤ 64 }
-    requires pickable { All (λ (i : Item). CanBePicked (is_key_of columns.now keys.now) i.what) items.now }
-    ensures picked { IfOk result (ArePicks (key_place columns.now keys.now) (length keys.now + length calls.old.items) items.now) }
-    ensures added { OnOk result (AreAdded columns.now (flat_map (λ (i : Item). item_calls i.what) items.now) calls.old.items calls.new.items) }
+    requires pickable { All (λ (i : Item). CanBePicked (is_key_of columns.now keys.now) i.what)
+        items.now }
+    ensures picked { IfOk result (ArePicks (key_place columns.now keys.now)
+        (length keys.now + length calls.old.items) items.now) }
+    ensures added { OnOk result (AreAdded columns.now
+        (flat_map (λ (i : Item). item_calls i.what) items.now) calls.old.items calls.new.items) }
 {
     let mut picks = Vec::with_capacity(alloc, items.len())?;
     for item in items {
@@ -241,7 +251,8 @@ pub(crate) fn made_groups(
 ) -> Result<Grouping, Memory>
     requires few { length columns.now ≤ 64 }
     requires few_keys { length query.now.keys ≤ 64 }
-    requires pickable { All (λ (i : Item). CanBePicked (is_key_of columns.now query.now.keys) i.what) (listed query.now.items) }
+    requires pickable { All (λ (i : Item). CanBePicked (is_key_of columns.now query.now.keys)
+        i.what) (listed query.now.items) }
     ensures { IfOk result (IsGrouping query.now columns.now) }
 {
     let names = query.keys.as_slice();

@@ -51,7 +51,8 @@ fn can_hold(kind: ColumnType, n: Number) -> bool
     }
 }
 
-/// Whether a number is a UInt64. Its size is an argument of its own, since a clause knows the range of such a one.
+/// Whether a number is a UInt64. Its size is an argument of its own, since a clause knows the range
+/// of such a one.
 fn is_uint(negative: bool, size: u64) -> bool
     ensures { result ≡ holds_number ColumnType.UInt64 (number_value negative size) }
 {
@@ -70,7 +71,8 @@ fn result_type(op: ArithOp, operands: ColumnType) -> ColumnType
 
 /// What arithmetic is of two operands with types.
 fn typed_arith(op: ArithOp, s: ColumnType, t: ColumnType) -> ExprKind
-    ensures { as_kind result ≡ kind_of_arith op (as_kind (ExprKind.Typed s)) (as_kind (ExprKind.Typed t)) }
+    ensures { as_kind result
+        ≡ kind_of_arith op (as_kind (ExprKind.Typed s)) (as_kind (ExprKind.Typed t)) }
 {
     if same_type(s, t) && !is_text(s) {
         ExprKind::Typed(result_type(op, s))
@@ -81,7 +83,8 @@ fn typed_arith(op: ArithOp, s: ColumnType, t: ColumnType) -> ExprKind
 
 /// What arithmetic is of an operand with a type and a plain number.
 fn arith_beside(op: ArithOp, t: ColumnType, n: Number) -> ExprKind
-    ensures { as_kind result ≡ kind_of_arith op (as_kind (ExprKind.Typed t)) (as_kind (ExprKind.Plain n)) }
+    ensures { as_kind result
+        ≡ kind_of_arith op (as_kind (ExprKind.Typed t)) (as_kind (ExprKind.Plain n)) }
 {
     if can_hold(t, n) {
         ExprKind::Typed(result_type(op, t))
@@ -248,7 +251,8 @@ fn item_fits(item: &Item, columns: &[FromColumn]) -> bool
 }
 
 fn items_fit(items: &Items, columns: &[FromColumn]) -> bool
-    ensures { result ≡ list_all (λ (i : Item). has_type (kind_of_item columns.now i.what)) (listed items.now) }
+    ensures { result
+        ≡ list_all (λ (i : Item). has_type (kind_of_item columns.now i.what)) (listed items.now) }
 {
     match items {
         Items::Star => true,
@@ -257,7 +261,8 @@ fn items_fit(items: &Items, columns: &[FromColumn]) -> bool
 }
 
 fn list_fits(items: &[Item], columns: &[FromColumn]) -> bool
-    ensures { result ≡ list_all (λ (i : Item). has_type (kind_of_item columns.now i.what)) items.now }
+    ensures { result
+        ≡ list_all (λ (i : Item). has_type (kind_of_item columns.now i.what)) items.now }
 {
     items.iter().all(|item| item_fits(item, columns))
 }

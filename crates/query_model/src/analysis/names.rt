@@ -198,7 +198,8 @@ fn push_cond_names(
     cond: &CondOf<ColumnRef>,
     names: &mut Vec<ColumnRef>,
 ) -> Result<(), Memory>
-    ensures { OnOk result (names.new.items ≡ names.old.items ++ flat_map (columns_in in_calls) (cond_operands cond.now)) }
+    ensures { OnOk result (names.new.items
+        ≡ names.old.items ++ flat_map (columns_in in_calls) (cond_operands cond.now)) }
 {
     match cond {
         CondOf::Compare(_, a, b) => {
@@ -223,7 +224,8 @@ pub(crate) fn push_filter_names(
     filter: &Option<CondOf<ColumnRef>>,
     names: &mut Vec<ColumnRef>,
 ) -> Result<(), Memory>
-    ensures { OnOk result (names.new.items ≡ names.old.items ++ flat_map (columns_in in_calls) (operands_of filter.now)) }
+    ensures { OnOk result (names.new.items
+        ≡ names.old.items ++ flat_map (columns_in in_calls) (operands_of filter.now)) }
 {
     match filter {
         Some(cond) => push_cond_names(in_calls, cond, names),
@@ -251,7 +253,8 @@ pub(crate) fn listed_items(items: &Items) -> &[Item]
 }
 
 fn push_all_items(items: &[Item], names: &mut Vec<ColumnRef>) -> Result<(), Memory>
-    ensures { OnOk result (names.new.items ≡ names.old.items ++ flat_map (λ (i : Item). item_columns i.what) items.now) }
+    ensures { OnOk result (names.new.items
+        ≡ names.old.items ++ flat_map (λ (i : Item). item_columns i.what) items.now) }
 {
     for item in items {
         push_item_names(item, names)?;
@@ -260,7 +263,8 @@ fn push_all_items(items: &[Item], names: &mut Vec<ColumnRef>) -> Result<(), Memo
 }
 
 fn push_pair_names(pairs: &[NamePair], names: &mut Vec<ColumnRef>) -> Result<(), Memory>
-    ensures { OnOk result (names.new.items ≡ names.old.items ++ flat_map (λ (p : Pair). p.left ∷ p.right ∷ []) pairs.now) }
+    ensures { OnOk result (names.new.items
+        ≡ names.old.items ++ flat_map (λ (p : Pair). p.left ∷ p.right ∷ []) pairs.now) }
 {
     for pair in pairs {
         push_name(&pair.left, names)?;
@@ -270,7 +274,8 @@ fn push_pair_names(pairs: &[NamePair], names: &mut Vec<ColumnRef>) -> Result<(),
 }
 
 fn push_join_names(join: &Option<Join>, names: &mut Vec<ColumnRef>) -> Result<(), Memory>
-    ensures { OnOk result (names.new.items ≡ names.old.items ++ flat_map (λ (p : Pair). p.left ∷ p.right ∷ []) (join_pairs join.now)) }
+    ensures { OnOk result (names.new.items
+        ≡ names.old.items ++ flat_map (λ (p : Pair). p.left ∷ p.right ∷ []) (join_pairs join.now)) }
 {
     match join {
         Some(join) => push_pair_names(join.pairs.as_slice(), names),

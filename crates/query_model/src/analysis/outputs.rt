@@ -110,7 +110,8 @@ fn item_types(
     items: &[Item],
     columns: &[FromColumn],
 ) -> Result<List<ColumnType>, Memory>
-    ensures { IfOk result (λ types. types ≡ map (λ (i : Item). type_known (kind_of_item columns.now i.what)) items.now) }
+    ensures { IfOk result (λ types. types
+        ≡ map (λ (i : Item). type_known (kind_of_item columns.now i.what)) items.now) }
 {
     let mut types = Vec::with_capacity(alloc, items.len())?;
     for item in items {
@@ -174,8 +175,10 @@ pub(crate) fn made_shape(
 ) -> Result<Shape, Memory>
     requires few { length columns.now ≤ 64 }
     requires few_keys { length query.now.keys ≤ 64 }
-    requires plain { has_groups query.now ≡ false → All (λ (i : Item). HasNoCall i.what) (listed query.now.items) }
-    requires grouped { has_groups query.now ≡ true → All (λ (i : Item). CanBePicked (is_key_of columns.now query.now.keys) i.what) (listed query.now.items) }
+    requires plain { has_groups query.now ≡ false
+        → All (λ (i : Item). HasNoCall i.what) (listed query.now.items) }
+    requires grouped { has_groups query.now ≡ true → All (λ (i : Item). CanBePicked
+        (is_key_of columns.now query.now.keys) i.what) (listed query.now.items) }
     ensures { IfOk result (IsShape query.now columns.now (has_groups query.now)) }
 {
     if is_grouped(query) {

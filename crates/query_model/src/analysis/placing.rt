@@ -147,7 +147,8 @@ pub(crate) fn add_call(
 ) -> Result<u32, Memory>
     requires { length columns.now ≤ 64 }
     ensures place { IfOk result (λ place. place ≡ keys + length calls.old.items) }
-    ensures added { OnOk result (AreAdded columns.now (call.now ∷ []) calls.old.items calls.new.items) }
+    ensures added { OnOk result
+        (AreAdded columns.now (call.now ∷ []) calls.old.items calls.new.items) }
 {
     let place = next_place(keys, calls.len())?;
     let placed = place_call(alloc, call, columns)?;
@@ -165,8 +166,10 @@ fn place_operand(
 ) -> Result<Operand<u32>, Memory>
     requires few { length columns.now ≤ 64 }
     requires few_keys { length keys.now ≤ 64 }
-    ensures placed { IfOk result (IsGroupedOperand (place_by scope columns.now keys.now) (length keys.now + length calls.old.items) operand.now) }
-    ensures added { OnOk result (AreAdded columns.now (calls_of operand.now) calls.old.items calls.new.items) }
+    ensures placed { IfOk result (IsGroupedOperand (place_by scope columns.now keys.now)
+        (length keys.now + length calls.old.items) operand.now) }
+    ensures added { OnOk result
+        (AreAdded columns.now (calls_of operand.now) calls.old.items calls.new.items) }
 {
     match operand {
         Operand::Plain(e) => {
@@ -197,8 +200,10 @@ fn place_comparison(
 ) -> Result<Cond, Memory>
     requires few { length columns.now ≤ 64 }
     requires few_keys { length keys.now ≤ 64 }
-    ensures placed { IfOk result (IsPlacedCond (place_by scope columns.now keys.now) (length keys.now + length calls.old.items) (condition.Compare op a.now b.now)) }
-    ensures added { OnOk result (AreAdded columns.now (flat_map calls_of (cond_operands (condition.Compare op a.now b.now))) calls.old.items calls.new.items) }
+    ensures placed { IfOk result (IsPlacedCond (place_by scope columns.now keys.now)
+        (length keys.now + length calls.old.items) (condition.Compare op a.now b.now)) }
+    ensures added { OnOk result (AreAdded columns.now (flat_map calls_of
+        (cond_operands (condition.Compare op a.now b.now))) calls.old.items calls.new.items) }
 {
     let left = place_operand(alloc, scope, a, columns, keys, calls)?;
     let right = place_operand(alloc, scope, b, columns, keys, calls)?;
@@ -217,8 +222,10 @@ fn place_cond(
 ) -> Result<Cond, Memory>
     requires few { length columns.now ≤ 64 }
     requires few_keys { length keys.now ≤ 64 }
-    ensures placed { IfOk result (IsPlacedCond (place_by scope columns.now keys.now) (length keys.now + length calls.old.items) cond.now) }
-    ensures added { OnOk result (AreAdded columns.now (flat_map calls_of (cond_operands cond.now)) calls.old.items calls.new.items) }
+    ensures placed { IfOk result (IsPlacedCond (place_by scope columns.now keys.now)
+        (length keys.now + length calls.old.items) cond.now) }
+    ensures added { OnOk result (AreAdded columns.now (flat_map calls_of (cond_operands cond.now))
+        calls.old.items calls.new.items) }
 {
     match cond {
         CondOf::Compare(op, a, b) => {
@@ -256,8 +263,10 @@ pub(crate) fn place_filter(
 ) -> Result<Option<Cond>, Memory>
     requires few { length columns.now ≤ 64 }
     requires few_keys { length keys.now ≤ 64 }
-    ensures placed { IfOk result (BothOrNone (IsPlacedCond (place_by scope columns.now keys.now) (length keys.now + length calls.old.items)) filter.now) }
-    ensures added { OnOk result (AreAdded columns.now (flat_map calls_of (operands_of filter.now)) calls.old.items calls.new.items) }
+    ensures placed { IfOk result (BothOrNone (IsPlacedCond (place_by scope columns.now keys.now)
+        (length keys.now + length calls.old.items)) filter.now) }
+    ensures added { OnOk result (AreAdded columns.now (flat_map calls_of (operands_of filter.now))
+        calls.old.items calls.new.items) }
 {
     match filter {
         Some(cond) => {

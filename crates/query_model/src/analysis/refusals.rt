@@ -129,7 +129,8 @@ fn order_or_width(
     names: &[Bytes],
 ) -> Result<Option<Refusal>, Memory>
     requires { names.now ≡ output_names query.now.items columns.now }
-    ensures { IfOk result (λ refusal. refusal ≡ first_of_all (order_over columns.now query.now ∷ width_over columns.now query.now ∷ [])) }
+    ensures { IfOk result (λ refusal. refusal
+        ≡ first_of_all (order_over columns.now query.now ∷ width_over columns.now query.now ∷ [])) }
 {
     match bad_order_key(query.order.as_slice(), names)? {
         Some(refusal) => Ok(Some(refusal)),
@@ -145,7 +146,8 @@ fn groups_or_later(
     names: &[Bytes],
 ) -> Result<Option<Refusal>, Memory>
     requires { names.now ≡ output_names query.now.items columns.now }
-    ensures { IfOk result (λ refusal. refusal ≡ first_of_all (not_grouped_over columns.now query.now ∷ order_over columns.now query.now ∷ width_over columns.now query.now ∷ [])) }
+    ensures { IfOk result (λ refusal. refusal ≡ first_of_all (not_grouped_over columns.now query.now
+        ∷ order_over columns.now query.now ∷ width_over columns.now query.now ∷ [])) }
 {
     match not_grouped(alloc, query, columns)? {
         Some(refusal) => Ok(Some(refusal)),
@@ -161,7 +163,9 @@ fn types_or_later(
     names: &[Bytes],
 ) -> Result<Option<Refusal>, Memory>
     requires { names.now ≡ output_names query.now.items columns.now }
-    ensures { IfOk result (λ refusal. refusal ≡ first_of_all (refusal_unless (types_fit_over columns.now query.now) Refusal.TypeMismatch ∷ not_grouped_over columns.now query.now ∷ order_over columns.now query.now ∷ width_over columns.now query.now ∷ [])) }
+    ensures { IfOk result (λ refusal. refusal ≡ first_of_all (refusal_unless
+        (types_fit_over columns.now query.now) Refusal.TypeMismatch ∷ not_grouped_over columns.now
+        query.now ∷ order_over columns.now query.now ∷ width_over columns.now query.now ∷ [])) }
 {
     if types_fit(query, columns) {
         groups_or_later(alloc, query, columns, names)
@@ -172,7 +176,8 @@ fn types_or_later(
 
 /// The first name that means no column, or more than one.
 fn bad_name(alloc: Global, query: &Query, columns: &[FromColumn]) -> Result<Option<Refusal>, Memory>
-    ensures { IfOk result (λ refusal. refusal ≡ first_of_all (unknown_among columns.now (text_columns query.now) ∷ ambiguous_among columns.now (text_columns query.now) ∷ [])) }
+    ensures { IfOk result (λ refusal. refusal ≡ first_of_all (unknown_among columns.now
+        (text_columns query.now) ∷ ambiguous_among columns.now (text_columns query.now) ∷ [])) }
 {
     let names = names_in(alloc, query)?;
     match unknown_column(names.as_slice(), columns)? {
