@@ -1,12 +1,11 @@
 -- Operators on numbers are those on values.
-use Rattle.expr_eval.proofs.Imports.{Add, ArithOp, Bool, Int, List, Mul, Sub, UInt, ap, arith_value, exact_result, false, int_wrap, map, negsuc, plain_value, pos, refl, residue, result_type, sided, sym, true, w64, wrapped, zip, ℕ, ℤ, ◌-ℤ◌, ◌∙◌, ◌≡◌}
+use Rattle.expr_eval.proofs.Imports.{arith, Add, ArithOp, Bool, Int, List, Mul, Sub, UInt, arith_value, exact_result, false, int_wrap, map, negsuc, plain_value, pos, refl, residue, result_type, sided, true, w64, wrapped, zip, ℕ, ℤ, ◌-ℤ◌, ◌∙◌, ◌≡◌}
 use Rattle.chunk_data.specs.declared.typed_value.ColumnType.TheVariants as column
 use Rattle.expr_eval.proofs.Onto.{map-map, same_maps, zip-map}
 
 -- one list under a constructor
 pub under_one : {A X Z W : Type 0} (f : A → X) (w : Z → W) (h : X → W) (k : A → Z) (us : List A) {zs : List Z} → zs ≡ map k us → ((a : A) → h (f a) ≡ w (k a)) → map w zs ≡ map h (map f us)
-under_one f w h k us e q =
-    ap (λ l. map w l) e ∙ map-map w k us ∙ same_maps (λ a. w (k a)) (λ a. h (f a)) us (λ a. sym (q a)) ∙ sym (map-map h f us)
+under_one f w h k us e q = search (arith, map-map, same_maps)
 
 pub int_pair_at : (op : ArithOp) (x y : ℤ) → arith_value op (Int x) (Int y) ≡ Int (int_wrap w64 (exact_result op x y))
 unfolding wrapped
@@ -61,10 +60,8 @@ uint_difference_beside_at true op x y e = uint_difference_at op y x e
 
 -- what one list gives, seen under a constructor
 pub masked_one : {A X Z : Type 0} (f : A → X) (h : X → Z) (k : A → Z) (us : List A) {zs : List Z} {xs : List X} → zs ≡ map k us → xs ≡ map f us → ((a : A) → h (f a) ≡ k a) → zs ≡ map h xs
-masked_one f h k us e x q = e ∙ same_maps k (λ a. h (f a)) us (λ a. sym (q a)) ∙ sym (map-map h f us) ∙ ap (λ l. map h l) (sym x)
+masked_one f h k us e x q = search (arith, same_maps, map-map)
 
 -- what two lists give, each seen under a constructor
 pub masked_pairs : {A B X Y Z : Type 0} (f : A → X) (g : B → Y) (h : X → Y → Z) (k : A → B → Z) (us : List A) (bs : List B) {zs : List Z} {xs : List X} {ys : List Y} → zs ≡ map (λ p. k p.0 p.1) (zip us bs) → xs ≡ map f us → ys ≡ map g bs → ((a : A) (b : B) → h (f a) (g b) ≡ k a b) → zs ≡ map (λ p. h p.0 p.1) (zip xs ys)
-masked_pairs f g h k us bs {xs = xs} e x y q =
-    e ∙ same_maps (λ p. k p.0 p.1) (λ p. h (f p.0) (g p.1)) (zip us bs) (λ p. sym (q p.0 p.1))
-    ∙ sym (zip-map f g (λ p. h p.0 p.1) us bs) ∙ ap (λ l. map (λ p. h p.0 p.1) (zip l (map g bs))) (sym x) ∙ ap (λ l. map (λ p. h p.0 p.1) (zip xs l)) (sym y)
+masked_pairs f g h k us bs {xs = xs} e x y q = search (arith, same_maps, zip-map)

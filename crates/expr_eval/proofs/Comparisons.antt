@@ -1,26 +1,6 @@
 -- Comparisons on numbers and texts are those on values.
-use Rattle.expr_eval.proofs.Imports.{CompareOp, Eq, Equal, Ge, Greater, Gt, Int, Le, Less, Lt, Ne, Ordering, Text, UInt, Value, ap, compared, false, flipped, int_cmp, int_cmp_total, is_text, nat_list_cmp_total, negsuc, ordering_reverse, passes, plain_value, pos, refl, ℕ, ℤ, ◌∙◌, ◌≡◌}
+use Rattle.expr_eval.proofs.Imports.{arith, CompareOp, Int, Text, UInt, Value, compared, false, flipped, int_cmp, int_cmp_total, is_text, nat_list_cmp_total, negsuc, ordering_reverse, passes, plain_value, pos, refl, ℕ, ℤ, ◌∙◌, ◌≡◌}
 use Rattle.chunk_data.specs.Values.{type_of as type_of_value}
-
-passes-reverse : (op : CompareOp) (o : Ordering) → passes (flipped op) (ordering_reverse o) ≡ passes op o
-passes-reverse Eq Less = refl
-passes-reverse Eq Equal = refl
-passes-reverse Eq Greater = refl
-passes-reverse Ne Less = refl
-passes-reverse Ne Equal = refl
-passes-reverse Ne Greater = refl
-passes-reverse Lt Less = refl
-passes-reverse Lt Equal = refl
-passes-reverse Lt Greater = refl
-passes-reverse Le Less = refl
-passes-reverse Le Equal = refl
-passes-reverse Le Greater = refl
-passes-reverse Gt Less = refl
-passes-reverse Gt Equal = refl
-passes-reverse Gt Greater = refl
-passes-reverse Ge Less = refl
-passes-reverse Ge Equal = refl
-passes-reverse Ge Greater = refl
 
 compared-reverse : (a b : Value) → compared b a ≡ ordering_reverse (compared a b)
 compared-reverse (Text a) (Text b) = nat_list_cmp_total.antisymm b a
@@ -35,7 +15,7 @@ compared-reverse (UInt a) (UInt b) = int_cmp_total.antisymm (pos b) (pos a)
 
 -- a comparison turned round
 pub turned : (op : CompareOp) (a b : Value) → passes (flipped op) (compared b a) ≡ passes op (compared a b)
-turned op a b = ap (passes (flipped op)) (compared-reverse a b) ∙ passes-reverse op (compared a b)
+turned op a b = search (arith, compared-reverse)
 
 pub int_compared : (x z : ℤ) → compared (Int x) (plain_value z) ≡ int_cmp x z
 int_compared x (pos n) = refl

@@ -1,5 +1,5 @@
 -- The operands of typed arithmetic.
-use Rattle.expr_eval.proofs.Imports.{Add, AreAlike, ArithOp, Bool, CanHold, Column, ColumnType, Expr, IsMade, List, Mul, None, Option, Row, Some, Sub, Table, ap, arith_type, false, if◌then◌else◌, map, negsuc, plain_of, plain_value, pos, refl, result_type, subst, true, type_of, value_of, values, ℤ, ◌≡◌}
+use Rattle.expr_eval.proofs.Imports.{arith, Add, AreAlike, ArithOp, Bool, CanHold, Column, ColumnType, Expr, IsMade, List, Mul, None, Option, Row, Some, Sub, Table, arith_type, false, if◌then◌else◌, map, negsuc, plain_of, plain_value, pos, refl, result_type, subst, true, type_of, value_of, values, ℤ, ◌≡◌}
 use Rattle.chunk_data.specs.Names.{type_of as type_of_value}
 use Rattle.chunk_data.specs.declared.typed_value.ColumnType.TheVariants as column
 use Rattle.query_model.specs.declared.query.ExprOf.TheVariants as expr
@@ -17,13 +17,13 @@ plain_behind None (Some y) s t z d e h = subst (λ q. AreAlike None s q t) e h
 pub plain_value_of : (e : Expr) (z : ℤ) (row : Row) → plain_of e ≡ Some z → value_of e row ≡ plain_value z
 unfolding value_of
 plain_value_of (expr.Column c) z row h = absurd cc
-plain_value_of (expr.Number n) z row h = ap plain_value (ap (λ o. elim o as (λ _. ℤ) [ None ↦ z | Some y ↦ y ]) h)
+plain_value_of (expr.Number n) z row h = search (arith)
 plain_value_of (expr.Arith' op p a q b) z row h = absurd cc
 
 pub plain_type_of : (e : Expr) (z : ℤ) (types : List ColumnType) → plain_of e ≡ Some z → type_of e types ≡ type_of_value (plain_value z)
 unfolding type_of
 plain_type_of (expr.Column c) z types h = absurd cc
-plain_type_of (expr.Number n) z types h = ap (λ y. type_of_value (plain_value y)) (ap (λ o. elim o as (λ _. ℤ) [ None ↦ z | Some y ↦ y ]) h)
+plain_type_of (expr.Number n) z types h = search (arith)
 plain_type_of (expr.Arith' op p a q b) z types h = absurd cc
 
 pub type_before : (op : ArithOp) (t : ColumnType) (z : ℤ) → CanHold t z → arith_type op (type_of_value (plain_value z)) t ≡ result_type op t

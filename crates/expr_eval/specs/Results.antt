@@ -1,13 +1,12 @@
 -- What operators give at each pair of values.
-use Rattle.std.specs.Prelude.{◌≡◌, ℕ, ◌^◌, ℤ, pos, unsigned_abs, Bool, true, false, map, Option, Some, None, if◌then◌else◌}
-use Rattle.std.specs.Int.{int_rem_euclid}
 use Rattle.chunk_data.specs.Names.{Table, kind_of, values}
-use Rattle.chunk_data.specs.declared.typed_value.ColumnType.{ColumnType}
 use Rattle.chunk_data.specs.declared.typed_column.Column.{Column}
-use Rattle.chunk_data.specs.declared.typed_value.ColumnType.TheVariants as column
-use Rattle.query_model.specs.Expressions.{Expr, value_of, type_of, gives_uint, is_uint_column}
+use Rattle.query_model.specs.Expressions.{Expr, gives_uint, is_uint_column, type_of, value_of}
+use Rattle.query_model.specs.Prelude.{ColumnType, int_rem_euclid}
 use Rattle.query_model.specs.declared.query.ArithOp.{ArithOp}
 use Rattle.query_model.specs.declared.query.CompareOp.{CompareOp}
+use Rattle.std.specs.Prelude.{Bool, None, Option, Some, false, if◌then◌else◌, map, pos, true, unsigned_abs, ℕ, ℤ, ◌^◌, ◌≡◌}
+use Rattle.chunk_data.specs.declared.typed_value.ColumnType.TheVariants as column
 use Rattle.query_model.specs.declared.query.CompareOp.TheVariants as compare
 use Rattle.query_model.specs.declared.query.ExprOf.TheVariants as expr
 
