@@ -1,11 +1,10 @@
 -- The calls of a partial aggregate and of a merge are what is folded, and their groups are those by
 -- the first values.
-use Rattle.std.proofs.Common.{◌≡◌, ℕ, suc, ◌+◌, ◌%◌, ◌^◌, Bool, true, false, List, [], ◌∷◌, ◌++◌, length, map, IsPermutation, refl, sym, ap, ◌∙◌, subst, arith}
-use Rattle.aggregate_proc.proofs.Prelude.{fold_for, folded, merge_of, AggOp, AllByRecursion, AreCalls, Call, FitsTypes, GroupSpec, IsPermutation-grouped_by, IsPermutation-refl, Row, StateCall, Value, call_foldings, call_of, calls_for, calls_from, combine_of, combined, count_up, counted, default_states, distinct_rows, given_for, group_types, grouped_by, groups_for, groups_or_default, key_of, length-append, length-map, length_permutation, merged_states, rows_with, same_row, state_calls, types_for, value_at, value_of, values_at, whole_for}
-use Rattle.chunk_data.specs.declared.typed_value.Value.TheVariants.{UInt, Text}
+use Rattle.aggregate_proc.proofs.ListLaws.{filter-same, map-same, taken}
+use Rattle.aggregate_proc.proofs.Prelude.{AggOp, AllByRecursion, AreCalls, Call, FitsTypes, GroupSpec, IsPermutation-grouped_by, IsPermutation-refl, Row, StateCall, Value, call_foldings, call_of, calls_for, calls_from, combine_of, combined, count_up, counted, default_states, distinct_rows, fold_for, folded, given_for, group_types, grouped_by, groups_for, groups_or_default, key_of, length-append, length-map, length_permutation, merge_of, merged_states, rows_with, same_row, state_calls, types_for, value_at, value_of, values_at, whole_for}
+use Rattle.query_model.proofs.Imports.{Text, UInt, length-FitsTypes}
+use Rattle.std.proofs.Common.{Bool, IsPermutation, List, [], ap, arith, false, length, map, refl, subst, suc, sym, true, ℕ, ◌%◌, ◌++◌, ◌+◌, ◌^◌, ◌∙◌, ◌∷◌, ◌≡◌}
 use Rattle.query_model.specs.declared.query.AggOp.TheVariants as agg
-use Rattle.chunk_data.proofs.Laws.{length-FitsTypes}
-use Rattle.aggregate_proc.proofs.ListLaws.{taken, filter-same, map-same}
 
 -- ---- calls
 

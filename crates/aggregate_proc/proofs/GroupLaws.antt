@@ -1,16 +1,15 @@
 -- The rows of a group table are the groups of its rows.
-use Rattle.std.proofs.Common.{◌≡◌, ◌≤◌, ◌<◌, ℕ, ◌+◌, zero, suc, get_or, inl, inr, Bool, true, List, [], ◌∷◌, ◌++◌, length, map, filter, fold, refl, sym, ap, ap₂, ◌∙◌, subst, append_assoc, arith}
-use Rattle.aggregate_proc.proofs.Prelude.{All, AllByRecursion, AreCalls, AreCells, AreLong, Call, Column, ColumnType, FitsColumn, FoldColumn, Folding, GroupsMore, HasKey, IsTable, IsSeenFor, IsTableOf, Row, SeenKeys, TableView, append-nil, argument_at, cases_eq, combined, count_up, distinct, distinct_rows, first_of, folded, folded_at, folding_of, foldings_of, get_or-map, group_column, group_keys, grouped_by, insert_key, key_code, key_foldings, key_of, kind_at, kinds_at, length-append, length-map, length-rows_of, list_any, list_any-append, map-append, map-map, merged_groups, merged_groups_is, places_from, recursion_from_All, row_code, rows_in, rows_of, rows_with, same_code, same_row, same_row_is, value_at, values, with_rows}
-use Rattle.aggregate_proc.specs.declared.fold.Fold.TheVariants as fold
-use Rattle.std.proofs.lemmas.Grind.{common_steps}
-use Rattle.std.proofs.lemmas.List.{get_or_append_left, nil_from_length}
-use Rattle.std.proofs.lemmas.List.Elements.{All-append}
-use Rattle.chunk_data.proofs.Laws.{AreLong-made, rows_of-made}
-use Rattle.proc_api.proofs.Orders.{every-append}
 use Rattle.aggregate_proc.proofs.Classes.{any-distinct, class-more, distinct-more, filter-some, list_any-map}
 use Rattle.aggregate_proc.proofs.FoldLaws.{earlier-first}
-use Rattle.key_codes.proofs.KeyLaws.{codes-keys, places-keys}
 use Rattle.aggregate_proc.proofs.ListLaws.{all-distinct, map-same}
+use Rattle.aggregate_proc.proofs.Prelude.{All, AllByRecursion, AreCalls, AreCells, AreLong, Call, Column, ColumnType, FitsColumn, FoldColumn, Folding, GroupsMore, HasKey, IsSeenFor, IsTable, IsTableOf, Row, SeenKeys, TableView, append-nil, argument_at, cases_eq, combined, count_up, distinct, distinct_rows, first_of, folded, folded_at, folding_of, foldings_of, get_or-map, group_column, group_keys, grouped_by, insert_key, key_code, key_foldings, key_of, kind_at, kinds_at, length-append, length-map, length-rows_of, list_any, list_any-append, map-append, map-map, merged_groups, merged_groups_is, places_from, recursion_from_All, row_code, rows_in, rows_of, rows_with, same_code, same_row, same_row_is, value_at, values, with_rows}
+use Rattle.chunk_data.proofs.Laws.{AreLong-made, rows_of-made}
+use Rattle.key_codes.proofs.KeyLaws.{codes-keys, places-keys}
+use Rattle.proc_api.proofs.Orders.{every-append}
+use Rattle.proc_shell.proofs.Imports.{All-append, common_steps}
+use Rattle.std.proofs.Common.{Bool, List, [], ap, append_assoc, ap₂, arith, filter, fold, get_or, inl, inr, length, map, refl, subst, suc, sym, true, zero, ℕ, ◌++◌, ◌+◌, ◌<◌, ◌∙◌, ◌∷◌, ◌≡◌, ◌≤◌}
+use Rattle.std.proofs.lemmas.List.{get_or_append_left, nil_from_length}
+use Rattle.aggregate_proc.specs.declared.fold.Fold.TheVariants as fold
 
 -- the code of a row's first values
 abbrev code_of : ℕ → Row → List ℕ

@@ -1,14 +1,11 @@
 -- A grouping keeps what its kind says of the chunks that it worked.
-use Rattle.std.proofs.Common.{◌≡◌, ◌⊎◌, ℕ, ◌+◌, ◌<◌, ◌≤◌, max, Bool, true, false, List, [], ◌++◌, length, drop, take, append_assoc, IsPermutation, Some, None, refl, sym, ap, ◌∙◌, subst, arith, inl, inr}
-use Rattle.aggregate_proc.proofs.Prelude.{All, AllByRecursion, AreCalls, AreGrouped, AreInputsOver, ArePortsOf, Begins, Call, ColumnType, FitsTypes, Folding, GroupSpec, GroupsMore, HasNotedEnd, IsAtMost, IsNext, IsPermutation-append_left, IsPermutation-same, IsPermutation-trans, IsTableFor, Lists, Makes, MakesTypes, Means, NotesEnd, Offer, OfferComes, Offers, OwnState, Picture, Reading, Row, Table, TableView, Takes, all-more, append-nil, call_foldings, calls_for, chunk_rows, distinct, eqb-true, foldings_of, gathering_own, given_for, giving_own, group_types, grouped_by, groups_for, in_count, key_foldings, key_of, kinds_of, length-drop, length-take, most_rows, no-rows, no_lists, open_for, recursion_from_All, rows-here, rows_in, spec_for, take-append-drop, types_for, whole_for, with_chunk, worked_rows}
-use Rattle.std.proofs.lemmas.Bool.{eq-eqb}
-use Rattle.std.proofs.lemmas.List.{drop-drop, length-append}
-use Rattle.query_model.specs.declared.processor_spec.Spec.{Spec}
-use Rattle.proc_api.specs.Made.{NotesEnd as EndIsNoted}
-use Rattle.proc_api.specs.Names.{FitsInput, IsWanting}
-use Rattle.proc_shell.specs.declared.kernel.Offer.TheVariants as offer
-use Rattle.proc_api.proofs.Orders.{every-append}
 use Rattle.aggregate_proc.proofs.CallLaws.{calls-are, given-whole, groups-by}
+use Rattle.aggregate_proc.proofs.Prelude.{All, AllByRecursion, AreCalls, AreGrouped, AreInputsOver, ArePortsOf, Begins, Call, ColumnType, FitsTypes, Folding, GroupSpec, GroupsMore, HasNotedEnd, IsAtMost, IsNext, IsPermutation-append_left, IsPermutation-same, IsPermutation-trans, IsTableFor, Lists, Makes, MakesTypes, Means, NotesEnd, Offer, OfferComes, Offers, OwnState, Picture, Reading, Row, Table, TableView, Takes, all-more, append-nil, call_foldings, calls_for, chunk_rows, distinct, eqb-true, foldings_of, gathering_own, given_for, giving_own, group_types, grouped_by, groups_for, in_count, key_foldings, key_of, kinds_of, length-append, length-drop, length-take, most_rows, no-rows, no_lists, open_for, recursion_from_All, rows-here, rows_in, spec_for, take-append-drop, types_for, whole_for, with_chunk, worked_rows}
+use Rattle.proc_api.proofs.Orders.{every-append}
+use Rattle.proc_api.specs.Made.{NotesEnd as EndIsNoted}
+use Rattle.proc_shell.proofs.Imports.{FitsInput, IsWanting, Spec, eq-eqb}
+use Rattle.std.proofs.Common.{Bool, IsPermutation, List, None, Some, [], ap, append_assoc, arith, drop, drop-drop, false, inl, inr, length, max, refl, subst, sym, take, true, ℕ, ◌++◌, ◌+◌, ◌<◌, ◌∙◌, ◌≡◌, ◌≤◌, ◌⊎◌}
+use Rattle.proc_shell.specs.declared.kernel.Offer.TheVariants as offer
 
 -- ---- by whether partial groups are merged
 

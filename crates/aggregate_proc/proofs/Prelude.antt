@@ -2,54 +2,32 @@
 pub use Rattle.aggregate_proc.specs.Cells.{FitsColumn, can_fold}
 pub use Rattle.aggregate_proc.specs.Folds.{FoldColumn, earlier, folded, next_folded, put, put_all, with_rows}
 pub use Rattle.aggregate_proc.specs.GroupKinds.{AreSound, GroupingView, IsGrouping, IsNext, IsPhaseFor, IsTableFor, NotesEnd, call_foldings, call_types, calls_for, empty_column, fold_for, fold_of, foldings_for, gathering_own, given_for, giving_own, groups_for, open_for, own_in, phase_own, spec_for, state_in, types_for, whole_for, worked_rows}
-pub use Rattle.key_codes.specs.declared.key_code.SeenKeys.{SeenKeys}
-pub use Rattle.key_codes.specs.Keys.{AreCells, HasKey as HasKeyAt, IsSeenFor, codes_in, first_of, key_at, key_code, kind_at, kinds_at, places_from, row_code, same_code}
-pub use Rattle.aggregate_proc.specs.Tables.{AreCalls, Folding, GroupsMore, HasKey, IsTable, IsTableOf, TableView, table_view, argument_at, folded_at, folding_of, foldings_of, group_column, group_keys, key_foldings, key_of, kinds_of, rows_in}
+pub use Rattle.aggregate_proc.specs.Prelude.{AggOp, AreGrouped, GroupSpec, Offer, SeenKeys, StateCall, rows_of}
+pub use Rattle.aggregate_proc.specs.Tables.{AreCalls, Folding, GroupsMore, HasKey, IsTable, IsTableOf, TableView, argument_at, folded_at, folding_of, foldings_of, group_column, group_keys, key_foldings, key_of, kinds_of, rows_in, table_view}
 pub use Rattle.aggregate_proc.specs.declared.fold.Fold.{Fold}
 pub use Rattle.aggregate_proc.specs.declared.phase.Phase.{Phase}
 pub use Rattle.chunk_data.proofs.ColumnLists.{changed, changed_all, changed_more, get_or-changed}
+pub use Rattle.chunk_data.proofs.Imports.{AreLong, adds, kind_of, row_at, values}
 pub use Rattle.chunk_data.proofs.Rows.{length-rows_of}
-pub use Rattle.chunk_data.specs.Columns.{kind_of, values}
-pub use Rattle.chunk_data.specs.Rows.{AreLong, adds, row_at, rows_of}
-pub use Rattle.chunk_data.specs.Values.{FitsTypes, Row, Table, default_value, same_row, text_cmp, value_at, value_cmp, values_at}
 pub use Rattle.chunk_data.specs.declared.typed_column.Column.{Column}
-pub use Rattle.chunk_data.specs.declared.typed_value.ColumnType.{ColumnType}
-pub use Rattle.chunk_data.specs.declared.typed_value.Value.{Value}
 pub use Rattle.indexmap.specs.IndexSet.{insert_key}
-pub use Rattle.port_word.specs.Pictures.{Picture, in_count, input_at, is_in_finished, out_count}
+pub use Rattle.key_codes.specs.Keys.{AreCells, HasKey as HasKeyAt, IsSeenFor, codes_in, first_of, key_at, key_code, kind_at, kinds_at, places_from, row_code, same_code}
 pub use Rattle.proc_api.specs.Grouped.{argument_types, calls_from, default_states, group_types, merged_states}
-pub use Rattle.proc_api.specs.Histories.{Lists, chunk_rows, no_lists}
-pub use Rattle.proc_api.specs.Keeping.{IsAtMost, IsPulled, MakesTypes, most_rows}
-pub use Rattle.proc_api.specs.Made.{AreGrouped, HasNotedEnd, OwnState}
-unfoldable pub use Rattle.proc_api.specs.Made.{all_rows}
-pub use Rattle.proc_api.specs.Ports.{ArePortsOf}
-pub use Rattle.proc_api.proofs.MadeLaws.{no-rows}
+pub use Rattle.proc_shell.proofs.Imports.{ArePortsOf, HasNotedEnd, IsAtMost, IsPulled, Lists, MakesTypes, OwnState, Picture, cases_eq, cases_lt, chunk_rows, eqb-true, in_count, input_at, is_in_finished, most_rows, no-rows, no_lists, out_count}
 pub use Rattle.proc_shell.proofs.Through.{all-more, makes-nothing, rows-here}
 pub use Rattle.proc_shell.specs.Kernels.{AreInputsOver, Begins, IsReadOut, Makes, Means, OfferComes, Offers, Reading, Reads, Takes, with_chunk}
-pub use Rattle.proc_shell.specs.declared.kernel.Offer.{Offer}
 pub use Rattle.query_model.proofs.Aggregates.{combined-merge, greater-comm}
 pub use Rattle.query_model.proofs.Distinct.{IsSame}
+pub use Rattle.query_model.proofs.Imports.{Call, ColumnType, Combine, FitsTypes, IsPermutation-append_left, IsPermutation-refl, IsPermutation-trans, Row, Table, Value, added, both_ways, call_of, combine_of, counted, counts_added, distinct_rows, exact_sum, flat_map-append, greatest, grouped_by, groups_or_default, is_uint, least, length_permutation, list_any-append, merge_of, merged_groups, rows_with, same_row, state_calls, value_at, value_cmp, values_at}
 pub use Rattle.query_model.proofs.Lists.{IsPermutation-same, map-map}
 pub use Rattle.query_model.proofs.Merge.{IsPermutation-grouped_by, merged_groups_is}
 pub use Rattle.query_model.proofs.ValueOrder.{same_row_is}
-unfoldable pub use Rattle.query_model.specs.Expressions.{value_of}
-pub use Rattle.query_model.specs.Groups.{Call, Combine, added, call_of, combine_of, counted, counts_added, distinct_rows, exact_sum, greatest, grouped_by, groups_or_default, least, merge_of, merged_groups, rows_with, state_calls}
-unfoldable pub use Rattle.query_model.specs.Groups.{chosen, combined, distinct}
-pub use Rattle.query_model.specs.Numbers.{is_uint}
-unfoldable pub use Rattle.query_model.specs.Numbers.{wrapped}
-unfoldable pub use Rattle.query_model.specs.Sources.{count_up}
-pub use Rattle.query_model.specs.declared.processor_spec.GroupSpec.{GroupSpec}
-pub use Rattle.query_model.specs.declared.processor_spec.StateCall.{StateCall}
-pub use Rattle.query_model.specs.declared.query.AggOp.{AggOp}
+pub use Rattle.query_model.specs.Prelude.{default_value, text_cmp}
 pub use Rattle.std.proofs.Math.Facts.{Fits-of_z, to_z-of_z}
 pub use Rattle.std.proofs.Math.Seq.{take-suc}
-pub use Rattle.std.proofs.lemmas.Bool.{both_ways, cases_eq, cases_lt, eqb-true}
-pub use Rattle.std.proofs.lemmas.Grind.{flat_map-append}
 pub use Rattle.std.proofs.lemmas.Int.{int_wrap_fits, ints, wrapping_add_onto}
 pub use Rattle.std.proofs.lemmas.List.{append-nil, at_drop_all, at_drop_more, drop_all, drop_at, get_or-map, get_or_default, length-append, length-drop, length-map, length-take, map-append, map-id, set-get_or, take-append-drop, take_all, take_at}
 pub use Rattle.std.proofs.lemmas.List.Elements.{filter-append, recursion_from_All}
-pub use Rattle.std.proofs.lemmas.List.Folds.{list_any-append}
-pub use Rattle.std.proofs.lemmas.List.Sorted.{IsPermutation-append_left, IsPermutation-refl, IsPermutation-trans, length_permutation}
 pub use Rattle.std.proofs.lemmas.Map.Views.{any-filter_same}
 pub use Rattle.std.proofs.lemmas.Nat.{from_le_bytes-to_le_bytes_8}
 pub use Rattle.std.proofs.lemmas.Slice.Eq.{slice_eq-Decides}
@@ -58,3 +36,5 @@ pub use Rattle.std.specs.Cmp.Lexicographic.{nat_list_eq_equiv, same_text}
 pub use Rattle.std.specs.Int.{cast_signed, cast_unsigned, from_le_bytes, int_max, int_min, int_wrap, to_le_bytes}
 pub use Rattle.std.specs.List.{All, AllByRecursion, list_all, list_any, position_or_len}
 pub use Rattle.std.specs.Ordering.{int_cmp, nat_cmp}
+unfoldable pub use Rattle.proc_api.specs.Made.{all_rows}
+unfoldable pub use Rattle.query_model.specs.Names.{chosen, combined, count_up, distinct, value_of, wrapped}

@@ -1,15 +1,14 @@
 -- How tables are written on the command line.
-use Rattle.std.specs.Prelude.{◌≡◌, ℕ, ◌≤◌, true, List, ◌∷◌, ◌++◌, length, map, codes}
-use Rattle.std.specs.List.{All, join_with_byte}
-use Rattle.chunk_data.specs.declared.typed_value.ColumnType.{ColumnType}
-use Rattle.chunk_data.specs.declared.typed_value.ColumnType.TheVariants as column
+use Rattle.command_line.specs.Tables.{is_path}
+use Rattle.query_model.specs.Prelude.{All, ColumnType, join_with_byte}
 use Rattle.query_model.specs.Projection.{are_distinct}
 use Rattle.query_model.specs.declared.query.ColumnDecl.{ColumnDecl}
 use Rattle.query_model.specs.declared.query.PartsDecl.{PartsDecl}
+use Rattle.query_model.specs.declared.query.PartsDecl.TheVariants.{ListFile, Paths}
 use Rattle.query_model.specs.declared.query.TableDecl.{TableDecl}
-use Rattle.query_model.specs.declared.query.PartsDecl.TheVariants.{Paths, ListFile}
 use Rattle.sql_grammar.specs.Tokens.{is_name}
-use Rattle.command_line.specs.Tables.{is_path}
+use Rattle.std.specs.Prelude.{List, codes, length, map, true, ℕ, ◌++◌, ◌∷◌, ◌≡◌, ◌≤◌}
+use Rattle.chunk_data.specs.declared.typed_value.ColumnType.TheVariants as column
 
 -- ---- as text
 

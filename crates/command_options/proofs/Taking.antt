@@ -1,22 +1,20 @@
 -- The command of the program, and when it takes words.
-use Rattle.std.proofs.Common.{◌≡◌, ◌∙◌, true, false, List, [], ◌∷◌, map, refl, sym, ap, ap₂, subst, inl, inr, codes, option_map, Option, Some, None}
-use Rattle.std.specs.Borrow.{Bor}
-use Rattle.clap.specs.Faults.{fault_of, is_simple_and_free}
-use Rattle.clap.specs.Kinds.{HasKind, IsAmong, Kinds}
-use Rattle.clap.specs.Simple.{app_of_fields}
-use Rattle.clap.specs.Words.{AddsArg, App, Row, Rule, Text, app_of, first_of, first_value, found_of, is_simple, kind_of, matches_of, new_app, rows_of, rule_of, with_rule}
-use Rattle.clap.specs.declared.builder.command.Command.{Command}
-use Rattle.clap.specs.declared.builder.arg.Arg.{Arg}
-use Rattle.clap.specs.declared.builder.command.Command.TheViews.{out-Command as fields_of}
-use Rattle.clap.specs.declared.builder.command.Command.TheOpen.{Command-F}
-use Rattle.clap.specs.declared.error.Error.{Error}
-use Rattle.clap.specs.declared.error.kind.ErrorKind.{ErrorKind}
-use Rattle.clap.specs.declared.error.kind.ErrorKind.TheVariants as kind
-use Rattle.clap.specs.declared.parser.matches.ArgMatches.{ArgMatches}
-use Rattle.clap.specs.declared.parser.matches.Found.{Found}
 use Rattle.clap.proofs.OnLiterals.{clap_on_literals}
 use Rattle.clap.proofs.WalkLemmas.{first_value-rows}
+use Rattle.clap.specs.Simple.{app_of_fields}
+use Rattle.clap.specs.Words.{AddsArg, App, HasKind, IsAmong, Kinds, Row, Rule, Text, app_of, fault_of, first_of, first_value, found_of, is_simple, is_simple_and_free, kind_of, matches_of, new_app, rows_of, rule_of, with_rule}
+use Rattle.clap.specs.declared.builder.arg.Arg.{Arg}
+use Rattle.clap.specs.declared.builder.command.Command.{Command}
+use Rattle.clap.specs.declared.builder.command.Command.TheOpen.{Command-F}
+use Rattle.clap.specs.declared.builder.command.Command.TheViews.{out-Command as fields_of}
+use Rattle.clap.specs.declared.error.Error.{Error}
+use Rattle.clap.specs.declared.error.kind.ErrorKind.{ErrorKind}
+use Rattle.clap.specs.declared.parser.matches.ArgMatches.{ArgMatches}
+use Rattle.clap.specs.declared.parser.matches.Found.{Found}
 use Rattle.command_options.specs.Options.{bare_app, is_memory_kind, options_of, qrun_app, rows_given, rows_unless, texts_if}
+use Rattle.std.proofs.Common.{List, None, Option, Some, [], ap, ap₂, codes, false, inl, inr, map, option_map, refl, subst, sym, true, ◌∙◌, ◌∷◌, ◌≡◌}
+use Rattle.std.specs.Borrow.{Bor}
+use Rattle.clap.specs.declared.error.kind.ErrorKind.TheVariants as kind
 
 simple : is_simple qrun_app ≡ true
 unfolding qrun_app clap_on_literals

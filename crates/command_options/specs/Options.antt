@@ -1,13 +1,11 @@
 -- What `clap` reads from the words of the command line.
-use Rattle.std.specs.Prelude.{ℕ, Bool, true, false, List, [], ◌∷◌, codes, Option, Some, None}
-use Rattle.std.specs.Str.{bytes_eq}
-use Rattle.clap.specs.Faults.{fault_of}
-use Rattle.clap.specs.Kinds.{Kinds}
-use Rattle.clap.specs.Words.{App, Row, Rule, Text, new_app, new_rule, with_rule, matches_of, first_of}
+use Rattle.clap.specs.Words.{App, Kinds, Row, Rule, Text, fault_of, first_of, matches_of, new_app, new_rule, with_rule}
 use Rattle.clap.specs.declared.builder.action.ArgAction.TheVariants.{Set, SetTrue}
 use Rattle.clap.specs.declared.error.kind.ErrorKind.{ErrorKind}
-use Rattle.clap.specs.declared.error.kind.ErrorKind.TheVariants as kind
 use Rattle.command_options.specs.declared.options.OptionTexts.{OptionTexts}
+use Rattle.std.specs.Prelude.{Bool, List, None, Option, Some, [], codes, false, true, ℕ, ◌∷◌}
+use Rattle.std.specs.Str.{bytes_eq}
+use Rattle.clap.specs.declared.error.kind.ErrorKind.TheVariants as kind
 
 -- `--name VALUE`
 abbrev pub option_rule : Text → Rule

@@ -1,23 +1,21 @@
 -- The names from outside that several files of proofs use, in one place.
+pub use Rattle.chunk_data.proofs.Imports.{AreLong, drop-drop, drop-take, get_or-map, kind_of, length-drop, map-set, row_at, rows_of, set-get_or, take-take, take_at, values}
 pub use Rattle.chunk_data.proofs.Laws.{AreLong_push, length-FitsTypes, length-rows_of, rows_of_push}
-pub use Rattle.chunk_data.specs.Names.{AreLong, Table, kind_of, row_at, rows_of, value_at, values}
 pub use Rattle.chunk_data.specs.declared.typed_column.Column.{Column}
 pub use Rattle.csv.specs.Machine.{Read, ends_at_end, is_end, state_code, step}
-unfoldable pub use Rattle.csv.specs.Machine.{next_record}
 pub use Rattle.csv.specs.Reading.{default_config, is_bom, records, records_next}
-unfoldable pub use Rattle.csv.specs.Reading.{records_from, strip_bom}
 pub use Rattle.csv_rows.specs.Places.{AddsFirst, AddsRecord, AddsSpelled, BeginsField, BeginsFields, EndsRecord, FieldUpTo, FirstRecord, HasMore, IsBadAt, Judged, OnBad, Pushes, PushesFirst, ReadsFirst, SkipsEnds, StartsLine, StartsPart, StopsAt, TakesBack, at_mark, first_or, is_line_end, is_mark, no_mark, no_quote, part, records_at, starts_line, starts_with}
 pub use Rattle.csv_rows.specs.RowsLeft.{ReadsFront, RowsLeft, TakesRow, at_end}
+pub use Rattle.query_model.proofs.Imports.{Table, append-nil, both_spelled, doubled, drop_all, drop_more, is_digit, length-append, length-map, nat_lt, numeral_below, row_front, rows_text, separator, spelled_value, take_all, value_at, value_text, with_digits}
 pub use Rattle.query_model.proofs.NumeralLaws.{with_digits-end, with_digits-numeral, with_digits-step}
 pub use Rattle.query_model.proofs.Reading.{bad_field-lengths, spelled_row-fits, spelled_row-lengths}
-pub use Rattle.query_model.specs.Names.{both_spelled, is_digit, numeral_below, spelled_value, with_digits}
-unfoldable pub use Rattle.query_model.specs.Names.{bad_column, bad_place, good_rows, spelled_row}
-pub use Rattle.query_model.specs.Texts.{doubled, row_front, rows_text, separator, value_text}
-pub use Rattle.std.proofs.lemmas.Bool.{false_from_ne_true, and_parts, eq-eqb, eqb-true, ne_eqb, not-true, or_cases, or_parts}
-pub use Rattle.std.proofs.lemmas.List.{append-nil, drop-drop, drop-take, drop_all, drop_more, get_or-map, length-append, length-drop, length-map, map-set, set-get_or, take-append-drop, take-take, take_all, take_at}
+pub use Rattle.std.proofs.Common.{IfSome, IsSome, nat_eq, take-append-drop}
+pub use Rattle.std.proofs.lemmas.Bool.{and_parts, eq-eqb, eqb-true, false_from_ne_true, ne_eqb, not-true, or_cases, or_parts}
 pub use Rattle.std.proofs.lemmas.List.Sums.{prefix_len-le-length, prefix_len_is}
 pub use Rattle.std.proofs.lemmas.Simd.{chunk-drop, leading_from_mask_l, length-chunk, mask_l-mod, trailing_mask_l, zip2_of_maps, zip2_splat}
 pub use Rattle.std.specs.List.{list_any, prefix_len}
-pub use Rattle.std.specs.Prelude.{IfSome, IsSome, nat_eq, nat_lt}
 pub use lib.Lanes.{chunk, mask_l, top}
 pub use native.Mathlib.Decide.{dec_lt}
+unfoldable pub use Rattle.csv.specs.Machine.{next_record}
+unfoldable pub use Rattle.csv.specs.Reading.{records_from, strip_bom}
+unfoldable pub use Rattle.query_model.specs.Names.{bad_column, bad_place, good_rows, spelled_row}

@@ -1,10 +1,9 @@
 -- The records of a part that are left.
-use Rattle.std.specs.Prelude.{◌≡◌, ℕ, ◌+◌, ◌<◌, ◌≤◌, Bool, true, false, List, [], ◌∷◌, ◌++◌, length, map}
-use Rattle.chunk_data.specs.Names.{Row, FitsTypes, AreLong, rows_of, joined, kind_of, values}
+use Rattle.chunk_data.specs.Names.{AreLong, FitsTypes, Row, joined, kind_of, rows_of, values}
 use Rattle.chunk_data.specs.declared.typed_column.Column.{Column}
-use Rattle.chunk_data.specs.declared.typed_value.Value.{Value}
-use Rattle.chunk_data.specs.declared.typed_value.ColumnType.{ColumnType}
 use Rattle.query_model.specs.Parts.{bad_place, good_rows}
+use Rattle.query_model.specs.Prelude.{ColumnType, Value}
+use Rattle.std.specs.Prelude.{Bool, List, [], false, length, map, true, ℕ, ◌++◌, ◌+◌, ◌<◌, ◌∷◌, ◌≡◌, ◌≤◌}
 
 -- what a contract sees: the records that are left, and how many were passed
 pub record RowsLeft : Type 0 where

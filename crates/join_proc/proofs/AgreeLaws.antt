@@ -1,11 +1,10 @@
 -- Rows agree exactly where their keys have one code.
-use Rattle.std.proofs.Common.{◌≡◌, ℕ, ◌<◌, ◌&&◌, true, List, [], ◌∷◌, length, map, refl, sym, ap, ap₂, ◌∙◌, arith, subst}
-use Rattle.std.specs.Ordering.{is_eq, ordering_then}
-use Rattle.std.specs.declared.cmp.Ordering.{Ordering}
-use Rattle.std.specs.declared.cmp.Ordering.TheVariants.{Equal, Greater, Less}
-use Rattle.std.specs.Cmp.Lexicographic.{slice_cmp}
+use Rattle.chunk_data.proofs.Imports.{Equal, Greater, Less, Ordering}
 use Rattle.join_proc.proofs.Imports.{All, All-map, AllByRecursion, AreCells, AreKeyPairs, ColumnType, HasKey, IsKeyPair, IsSeenFor, JoinSpec, KeyPair, Row, agree, codes-agree, first_of, key_at, kind_at, kinds_at, left_places, length-map, recursion_from_All, right_places, row_code, same_code, same_row, same_row_is, value_at, value_cmp}
 use Rattle.key_codes.specs.declared.key_code.SeenKeys.{SeenKeys}
+use Rattle.std.proofs.Common.{List, [], ap, ap₂, arith, length, map, refl, subst, sym, true, ℕ, ◌&&◌, ◌<◌, ◌∙◌, ◌∷◌, ◌≡◌}
+use Rattle.std.specs.Cmp.Lexicographic.{slice_cmp}
+use Rattle.std.specs.Ordering.{is_eq, ordering_then}
 use Rattle.key_codes.specs.declared.key_code.SeenKeys.TheVariants as seen
 
 -- rows agree where they have one key

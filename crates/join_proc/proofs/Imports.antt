@@ -1,10 +1,8 @@
 -- The names of other crates and of the definitions that the proofs use, in one place.
 pub use Rattle.chunk_data.specs.Names.{Row, Table, joined, row_at, value_at, value_cmp}
-pub use Rattle.chunk_data.specs.Values.{same_row}
-pub use Rattle.chunk_data.specs.declared.typed_value.ColumnType.{ColumnType}
 pub use Rattle.indexmap.specs.IndexSet.{insert_key}
-pub use Rattle.join_proc.specs.Joins.{AreFit, AreLinked, AreStarts, IsIndexOf, IsKeyPair, IsStart, JoinsRows, JoinsSome, Moves, PairsMore, key_codes, key_places, left_places, no_start, paired, right_places, row_after, rows_left, start_rows, starts_at}
 pub use Rattle.join_proc.specs.Joinings.{IsJoining, IsNext, IsPhaseFor, JoiningView, gathered_own, is_open, joining_own, own_in, unmade_in, view_of, with_end}
+pub use Rattle.join_proc.specs.Joins.{AreFit, AreLinked, AreStarts, IsIndexOf, IsKeyPair, IsStart, JoinsRows, JoinsSome, Moves, PairsMore, key_codes, key_places, left_places, no_start, paired, right_places, row_after, rows_left, start_rows, starts_at}
 pub use Rattle.join_proc.specs.declared.join_index.JoinIndex.{JoinIndex}
 pub use Rattle.join_proc.specs.declared.joining.Phase.{Phase}
 pub use Rattle.join_proc.specs.declared.left_rows.LeftRows.{LeftRows}
@@ -12,26 +10,19 @@ pub use Rattle.join_proc.specs.declared.left_rows.PlacePairs.{PlacePairs}
 pub use Rattle.join_proc.specs.declared.left_rows.Start.{Start}
 pub use Rattle.key_codes.proofs.KeyLaws.{codes-agree}
 pub use Rattle.key_codes.specs.Keys.{AreCells, HasKey, IsSeenFor, codes_in, first_of, key_at, kind_at, kinds_at, places_from, row_code, same_code, with_key}
-pub use Rattle.port_word.specs.Names.{Picture, in_count, input_at, is_in_finished}
-pub use Rattle.proc_api.specs.Histories.{Lists, chunk_rows, no_lists}
-pub use Rattle.proc_api.specs.Keeping.{AreKeyPairs, FitsJoin, side_types}
-pub use Rattle.proc_api.specs.Made.{AreJoined, OwnState}
+pub use Rattle.proc_api.specs.Names.{AreJoined, AreKeyPairs, FitsJoin, Lists, OwnState, chunk_rows, no_lists, side_types}
+pub use Rattle.proc_api.specs.Prelude.{JoinSpec, KeyPair, Picture, in_count, input_at, is_in_finished}
 pub use Rattle.proc_shell.proofs.Through.{chunk-elsewhere, chunk-here, makes-nothing, one-more}
 pub use Rattle.proc_shell.specs.Kernels.{AreInputsOver, Begins, Makes, OfferComes, Offers, Takes, with_chunk}
 pub use Rattle.proc_shell.specs.declared.kernel.Offer.{Offer}
 pub use Rattle.query_model.proofs.Distinct.{IsSame}
+pub use Rattle.query_model.proofs.Imports.{ColumnType, IsPermutation-append_left, agree, flat_map-append, joined_rows, list_any-append, same_row}
 pub use Rattle.query_model.proofs.Lists.{IsPermutation-same, map-map}
 pub use Rattle.query_model.proofs.ValueOrder.{same_row_is}
-pub use Rattle.query_model.specs.Names.{agree, joined_rows}
-pub use Rattle.query_model.specs.declared.checked.KeyPair.{KeyPair}
-pub use Rattle.query_model.specs.declared.processor_spec.JoinSpec.{JoinSpec}
 pub use Rattle.std.proofs.Math.Seq.{drop-cons}
 pub use Rattle.std.proofs.lemmas.Bool.{cases_eq, cases_lt, leb-false, leb-true, ltb-true}
-pub use Rattle.std.proofs.lemmas.Grind.{flat_map-append}
-pub use Rattle.std.proofs.lemmas.List.{append-nil, drop-drop, drop-map, drop-set, drop_all, get_or-drop, get_or-map, get_or_default, get_or-set_other, get_or-set_same, length-append, length-drop, length-map, length-set, map-append}
+pub use Rattle.std.proofs.lemmas.List.{append-nil, drop-drop, drop-map, drop-set, drop_all, get_or-drop, get_or-map, get_or-set_other, get_or-set_same, get_or_default, length-append, length-drop, length-map, length-set, map-append}
 pub use Rattle.std.proofs.lemmas.List.Elements.{All-append, All-from_recursion, All-map, All-set, recursion_from_All}
-pub use Rattle.std.proofs.lemmas.List.Sorted.{IsPermutation-append_left}
-pub use Rattle.std.proofs.lemmas.List.Folds.{list_any-append}
 pub use Rattle.std.proofs.lemmas.List.Sums.{passes_at_first, prefix_len-le-length}
-pub use Rattle.std.specs.List.{All, AllByRecursion, list_any, position_or_len}
 pub use Rattle.std.proofs.lemmas.Slice.Eq.{slice_eq-Decides}
+pub use Rattle.std.specs.List.{All, AllByRecursion, list_any, position_or_len}

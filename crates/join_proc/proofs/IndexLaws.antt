@@ -1,10 +1,9 @@
 -- An index gives of each row's matches the first, and of each match the next.
-use Rattle.std.proofs.lemmas.Bool.{eq-eqb, ne_eqb}
-use Rattle.std.proofs.Common.{◌≡◌, ◌≢◌, not, cond, ℕ, suc, ◌+◌, ◌<◌, nat_eq, true, List, [], ◌∷◌, length, drop, fold, get_or, map, set, refl, sym, ap, ◌∙◌, subst, arith, inl, inr}
-use Rattle.join_proc.proofs.Imports.{All, All-from_recursion, AreLinked, HasKey, IsIndexOf, JoinIndex, KeyPair, Row, agree, cases_eq, codes_in, drop-cons, drop_all, get_or-map, get_or-set_other, get_or-set_same, key_codes, key_places, length-map, length-set, places_from, position_or_len, prefix_len-le-length, recursion_from_All, right_places, row_after, row_at, row_code, same_code, with_key}
-use Rattle.key_codes.proofs.KeyLaws.{same_code_is}
 use Rattle.join_proc.proofs.AgreeLaws.{HasCode, code-mask, right-code}
+use Rattle.join_proc.proofs.Imports.{All, All-from_recursion, AreLinked, HasKey, IsIndexOf, JoinIndex, KeyPair, Row, agree, cases_eq, codes_in, drop-cons, drop_all, get_or-map, get_or-set_other, get_or-set_same, key_codes, key_places, length-map, length-set, places_from, position_or_len, prefix_len-le-length, recursion_from_All, right_places, row_after, row_at, row_code, same_code, with_key}
 use Rattle.join_proc.proofs.PlaceLaws.{mask-places, places-all, places-within, same-mask}
+use Rattle.key_codes.proofs.KeyLaws.{same_code_is}
+use Rattle.std.proofs.Common.{List, [], ap, arith, cond, drop, eq-eqb, fold, get_or, inl, inr, length, map, nat_eq, ne_eqb, not, refl, set, subst, suc, sym, true, ℕ, ◌+◌, ◌<◌, ◌∙◌, ◌∷◌, ◌≡◌, ◌≢◌}
 
 -- the first row from a row on with which it agrees
 abbrev pub next_row : List KeyPair → Row → List Row → ℕ → ℕ

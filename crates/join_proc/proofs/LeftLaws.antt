@@ -1,11 +1,10 @@
 -- What a left chunk still makes, and what is made of it pair by pair.
-use Rattle.std.proofs.Common.{◌≡◌, ◌⊎◌, ℕ, suc, ◌+◌, ◌<◌, ◌≤◌, max, leb, ltb, ◌==◌, cond, Bool, true, false, append_assoc, List, [], ◌∷◌, ◌++◌, length, drop, filter, flat_map, get_or, map, refl, sym, ap, ap₂, ◌∙◌, subst, arith, inl, inr}
-use Rattle.join_proc.proofs.Imports.{All, All-append, All-from_recursion, All-set, AllByRecursion, AreFit, AreStarts, IsIndexOf, IsStart, JoinIndex, JoinSpec, JoinsRows, JoinsSome, KeyPair, LeftRows, Moves, PairsMore, PlacePairs, Row, Start, Table, agree, cases_lt, codes_in, drop-cons, drop-set, drop_all, get_or_default, joined, joined_rows, key_at, kinds_at, left_places, length-append, ltb-true, no_start, paired, position_or_len, right_places, row_at, row_code, rows_left, same_code, start_rows, starts_at}
-use Rattle.std.proofs.lemmas.Bool.{eq-eqb, le-leb, lt-leb, lt-ltb, ne_eqb}
-use Rattle.key_codes.specs.Keys.{AreCells}
 use Rattle.join_proc.proofs.AgreeLaws.{left-code}
+use Rattle.join_proc.proofs.Imports.{All, All-append, All-from_recursion, All-set, AllByRecursion, AreCells, AreFit, AreStarts, IsIndexOf, IsStart, JoinIndex, JoinSpec, JoinsRows, JoinsSome, KeyPair, LeftRows, Moves, PairsMore, PlacePairs, Row, Start, Table, agree, cases_lt, codes_in, drop-cons, drop-set, drop_all, get_or_default, joined, joined_rows, key_at, kinds_at, left_places, length-append, ltb-true, no_start, paired, position_or_len, right_places, row_at, row_code, rows_left, same_code, start_rows, starts_at}
 use Rattle.join_proc.proofs.IndexLaws.{first-row, next-match, next_row, rows-linked}
 use Rattle.join_proc.proofs.PlaceLaws.{filter-from, first-passes}
+use Rattle.std.proofs.Common.{Bool, List, [], ap, append_assoc, ap₂, arith, cond, drop, false, filter, flat_map, get_or, inl, inr, leb, length, ltb, map, max, refl, subst, suc, sym, true, ℕ, ◌++◌, ◌+◌, ◌<◌, ◌==◌, ◌∙◌, ◌∷◌, ◌≡◌, ◌≤◌, ◌⊎◌}
+use Rattle.std.proofs.lemmas.Bool.{eq-eqb, le-leb, lt-leb, lt-ltb, ne_eqb}
 
 ltb-over : (a b : ℕ) → ltb a b ≡ false → b ≤ a
 ltb-over a b e = elim (cases_lt a b) [

@@ -1,9 +1,8 @@
 -- Places of keys: keys are one exactly where they have one place. The first of a list that passes a
 -- test, by what the test says of each.
-use Rattle.std.proofs.Common.{◌≡◌, ℕ, suc, ◌+◌, ◌<◌, ◌||◌, not, cond, nat_eq, Bool, true, false, List, [], ◌∷◌, ◌++◌, length, drop, filter, fold, get_or, map, refl, sym, ap, ap₂, ◌∙◌, arith, inl, inr}
-use Rattle.std.proofs.lemmas.Bool.{cases_eq, eq-eqb, ne_eqb}
+use Rattle.join_proc.proofs.Imports.{AllByRecursion, IsSame, Row, cases_eq, drop-drop, drop-map, get_or-drop, insert_key, length-drop, list_any, list_any-append, map-map, passes_at_first, places_from, position_or_len, prefix_len-le-length, with_key}
+use Rattle.std.proofs.Common.{Bool, List, [], ap, ap₂, arith, cond, drop, eq-eqb, false, filter, fold, get_or, inl, inr, length, map, nat_eq, ne_eqb, not, refl, suc, sym, true, ℕ, ◌++◌, ◌+◌, ◌<◌, ◌||◌, ◌∙◌, ◌∷◌, ◌≡◌}
 use Rattle.std.proofs.lemmas.Grind.{common_steps}
-use Rattle.join_proc.proofs.Imports.{AllByRecursion, IsSame, Row, drop-drop, drop-map, get_or-drop, insert_key, length-drop, list_any, list_any-append, map-map, passes_at_first, places_from, position_or_len, prefix_len-le-length, with_key}
 
 -- the first that passes isn't another one where one that passes comes behind all
 place-push : {X : Type 0} (p : X → Bool) (x : X) → p x ≡ true → (xs : List X)

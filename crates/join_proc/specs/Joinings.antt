@@ -1,23 +1,19 @@
 -- What a join is loaded with and keeps.
-use Rattle.std.specs.Prelude.{◌≡◌, ℕ, ◌<◌, ◌==◌, Bool, true, false, List, [], ◌∷◌, length, Some}
-use Rattle.std.proofs.Common.{◌⊎◌, ◌∙◌, ap, cond, inl, inr, refl, sym}
-use Rattle.std.proofs.lemmas.Bool.{eqb-true}
-use Rattle.chunk_data.specs.Names.{Row, Table}
-use Rattle.query_model.specs.declared.processor_spec.JoinSpec.{JoinSpec}
-use Rattle.query_model.specs.declared.processor_spec.Kind.TheVariants as kind
-use Rattle.query_model.specs.declared.processor_spec.Spec.TheVariants as spec
-use Rattle.proc_api.specs.Histories.{chunk_rows}
-use Rattle.proc_api.specs.Keeping.{IsWorkOf}
-use Rattle.proc_api.specs.Made.{AreJoined, OwnState, idle_own}
+use Rattle.join_proc.specs.Joins.{AreFit, IsIndexOf, rows_left}
+use Rattle.join_proc.specs.declared.join_index.JoinIndex.{JoinIndex}
+use Rattle.join_proc.specs.declared.joining.Phase.{Phase}
+use Rattle.join_proc.specs.declared.left_rows.LeftRows.{LeftRows}
+use Rattle.proc_api.specs.Names.{AreJoined, IsWorkOf, OwnState, chunk_rows, idle_own}
+use Rattle.proc_api.specs.Prelude.{JoinSpec, Row, Table}
+use Rattle.proc_shell.proofs.Through.{IsInOrder, pushes-in-order, shelled-plain}
 use Rattle.proc_shell.specs.Kernels.{IsShelled, KernelState, kernel_of, work_of}
 use Rattle.proc_shell.specs.declared.kernel.Offer.{Offer}
+use Rattle.std.proofs.Common.{ap, cond, eqb-true, inl, inr, refl, sym, ◌∙◌, ◌⊎◌}
+use Rattle.std.specs.Prelude.{Bool, List, Some, [], false, length, true, ℕ, ◌<◌, ◌==◌, ◌∷◌, ◌≡◌}
+use Rattle.query_model.specs.declared.processor_spec.Kind.TheVariants as kind
+use Rattle.query_model.specs.declared.processor_spec.Spec.TheVariants as spec
 use Rattle.proc_shell.specs.declared.kernel.Offer.TheVariants as offer
-use Rattle.proc_shell.proofs.Through.{IsInOrder, pushes-in-order, shelled-plain}
-use Rattle.join_proc.specs.declared.join_index.JoinIndex.{JoinIndex}
-use Rattle.join_proc.specs.declared.left_rows.LeftRows.{LeftRows}
-use Rattle.join_proc.specs.declared.joining.Phase.{Phase}
 use Rattle.join_proc.specs.declared.joining.Phase.TheVariants as phase
-use Rattle.join_proc.specs.Joins.{AreFit, IsIndexOf, rows_left}
 
 -- ---- the state
 

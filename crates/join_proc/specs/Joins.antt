@@ -1,17 +1,15 @@
 -- Where a right side's keys are, and the pairs of rows that a left chunk's rows make with them.
-use Rattle.std.specs.Prelude.{◌≡◌, ◌⊎◌, ℕ, suc, ◌+◌, ◌<◌, ◌≤◌, max, nat_eq, nat_lt, cond, true, List, [], ◌∷◌, ◌++◌, length, drop, filter, flat_map, fold, map, slice_index_or, slice_set}
-use Rattle.std.specs.List.{All, position_or_len}
 use Rattle.chunk_data.specs.Names.{Row, Table, joined, row_at}
-use Rattle.chunk_data.specs.declared.typed_value.ColumnType.{ColumnType}
-use Rattle.chunk_data.specs.declared.typed_value.ColumnType.TheVariants as column
-use Rattle.query_model.specs.Names.{agree, joined_rows}
-use Rattle.query_model.specs.declared.checked.KeyPair.{KeyPair}
-use Rattle.query_model.specs.declared.processor_spec.JoinSpec.{JoinSpec}
-use Rattle.key_codes.specs.Keys.{HasKey, IsSeenFor, codes_in, first_of, kind_at, places_from, row_code, same_code, with_key}
 use Rattle.join_proc.specs.declared.join_index.JoinIndex.{JoinIndex}
 use Rattle.join_proc.specs.declared.left_rows.LeftRows.{LeftRows}
 use Rattle.join_proc.specs.declared.left_rows.PlacePairs.{PlacePairs}
 use Rattle.join_proc.specs.declared.left_rows.Start.{Start}
+use Rattle.key_codes.specs.Keys.{HasKey, IsSeenFor, codes_in, first_of, kind_at, places_from, row_code, same_code, with_key}
+use Rattle.proc_api.specs.Prelude.{ColumnType, JoinSpec, KeyPair}
+use Rattle.query_model.specs.Names.{agree, joined_rows}
+use Rattle.std.specs.List.{All, position_or_len}
+use Rattle.std.specs.Prelude.{List, [], cond, drop, filter, flat_map, fold, length, map, max, nat_eq, nat_lt, slice_index_or, slice_set, suc, true, ℕ, ◌++◌, ◌+◌, ◌<◌, ◌∷◌, ◌≡◌, ◌≤◌, ◌⊎◌}
+use Rattle.chunk_data.specs.declared.typed_value.ColumnType.TheVariants as column
 
 -- the columns of either side that must agree
 abbrev pub left_places : List KeyPair → List ℕ

@@ -1,16 +1,12 @@
 -- The names of other crates and of the definitions that the proofs use, in one place.
-pub use Rattle.key_codes.specs.Keys.{AreCells, FindsCode, HasKey, IsCell, IsSeenFor, byte_codes, codes_in, first_of, key_at, key_code, kind_at, kinds_at, number_codes, places_from, row_code, same_code, value_bytes, value_code, with_key}
-pub use Rattle.chunk_data.specs.Columns.{kind_of, values}
-pub use Rattle.chunk_data.specs.Rows.{row_at}
-pub use Rattle.chunk_data.specs.Values.{Row, same_row, value_at}
-pub use Rattle.chunk_data.specs.declared.typed_value.ColumnType.{ColumnType}
-pub use Rattle.chunk_data.specs.declared.typed_value.Value.{Value}
+pub use Rattle.chunk_data.proofs.Imports.{kind_of, row_at, values}
 pub use Rattle.indexmap.specs.IndexSet.{insert_key}
+pub use Rattle.key_codes.specs.Keys.{AreCells, FindsCode, HasKey, IsCell, IsSeenFor, byte_codes, codes_in, first_of, key_at, key_code, kind_at, kinds_at, number_codes, places_from, row_code, same_code, value_bytes, value_code, with_key}
 pub use Rattle.query_model.proofs.Distinct.{IsSame}
+pub use Rattle.query_model.proofs.Imports.{ColumnType, Row, Value, flat_map-append, same_row, value_at}
 pub use Rattle.query_model.proofs.ValueOrder.{same_row_is}
 pub use Rattle.std.proofs.Math.Seq.{take-suc}
 pub use Rattle.std.proofs.lemmas.Bool.{cases_eq, cases_lt}
-pub use Rattle.std.proofs.lemmas.Grind.{flat_map-append}
 pub use Rattle.std.proofs.lemmas.List.{append-nil, at_drop_more, drop_at, get_or-map, get_or_default, length-append, length-map, map-append, take_all, take_at}
 pub use Rattle.std.proofs.lemmas.List.Sums.{prefix_len-le-length}
 pub use Rattle.std.proofs.lemmas.Nat.{from_le_bytes-to_le_bytes_8}

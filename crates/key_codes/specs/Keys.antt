@@ -1,17 +1,14 @@
 -- The code of a key: a number's bits, a text's bytes, or the bytes of all values. It is the same
 -- for equal keys alone.
-use Rattle.std.specs.Prelude.{◌≡◌, ◌≢◌, ℕ, ◌<◌, ◌^◌, cond, Bool, List, [], ◌∷◌, ◌++◌, length, map, flat_map, slice_index_or, nat_eq, Vec}
+use Rattle.indexmap.specs.IndexSet.{IndexSet, insert_key}
+use Rattle.key_codes.specs.declared.key_code.SeenKeys.{SeenKeys}
+use Rattle.query_model.specs.Prelude.{ColumnType, Int, Row, Text, UInt, Value, value_at}
 use Rattle.std.specs.Cmp.Lexicographic.{pointwise}
 use Rattle.std.specs.Int.{cast_signed, cast_unsigned, to_le_bytes}
 use Rattle.std.specs.List.{position_or_len}
-use Rattle.indexmap.specs.IndexSet.{IndexSet, insert_key}
+use Rattle.std.specs.Prelude.{Bool, List, Vec, [], cond, flat_map, length, map, nat_eq, slice_index_or, ℕ, ◌++◌, ◌<◌, ◌^◌, ◌∷◌, ◌≡◌, ◌≢◌}
 use mir.Syntax.{w64}
-use Rattle.chunk_data.specs.Names.{Row, value_at}
-use Rattle.chunk_data.specs.declared.typed_value.ColumnType.{ColumnType}
-use Rattle.chunk_data.specs.declared.typed_value.Value.{Value}
 use Rattle.chunk_data.specs.declared.typed_value.ColumnType.TheVariants as column
-use Rattle.chunk_data.specs.declared.typed_value.Value.TheVariants.{Int, UInt, Text}
-use Rattle.key_codes.specs.declared.key_code.SeenKeys.{SeenKeys}
 use Rattle.key_codes.specs.declared.key_code.SeenKeys.TheVariants as seen
 
 -- the key of a row: its values at the places

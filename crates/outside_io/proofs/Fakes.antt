@@ -1,13 +1,12 @@
 -- What a script says of the next call, by the fakes that are still to come.
-use Rattle.std.proofs.Common.{◌≡◌, ℕ, ◌+◌, ◌-◌, ◌<◌, ◌≤◌, ◌^◌, cond, List, [], ◌∷◌, ◌++◌, length, take, drop, slice_index_or, Option, Some, None, ◌∙◌, sym, ap, refl, arith, subst, add-one, inl, inr, suc}
-use Rattle.std.proofs.lemmas.List.{take-append-drop, take_more}
-use Rattle.std.proofs.lemmas.Bool.{eq-eqb, lt-ltb}
-use Rattle.std.proofs.lemmas.Bool.Decides.{eqb_tells}
-use Rattle.std.proofs.Math.Seq.{drop-cons}
-use Rattle.std.proofs.Math.ListN.{drop_of_length-le}
+use Rattle.outside_io.specs.Scripts.{IsPassed, IsPlacedAt, RisesFrom, fake_at, next_fake}
 use Rattle.outside_io.specs.declared.entries.Fake.{Fake}
 use Rattle.outside_io.specs.declared.entries.FakeKind.{FakeKind}
-use Rattle.outside_io.specs.Scripts.{fake_at, next_fake, RisesFrom, IsPassed, IsPlacedAt}
+use Rattle.std.proofs.Common.{List, None, Option, Some, [], add-one, ap, arith, cond, drop, eq-eqb, inl, inr, length, lt-ltb, refl, slice_index_or, subst, suc, sym, take, ℕ, ◌++◌, ◌+◌, ◌-◌, ◌<◌, ◌^◌, ◌∙◌, ◌∷◌, ◌≡◌, ◌≤◌}
+use Rattle.std.proofs.Math.ListN.{drop_of_length-le}
+use Rattle.std.proofs.Math.Seq.{drop-cons}
+use Rattle.std.proofs.lemmas.Bool.Decides.{eqb_tells}
+use Rattle.std.proofs.lemmas.List.{take-append-drop, take_more}
 
 -- a number at which the script's head does not stand is looked up behind it
 behind_head : (f : Fake) (fs : List Fake) (call : ℕ) → (f.call ≡ call → ⊥) → fake_at (f ∷ fs) call ≡ fake_at fs call

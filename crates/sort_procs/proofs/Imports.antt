@@ -1,25 +1,21 @@
 -- The names from outside that this crate's proofs use, in one place.
 pub use Rattle.chunk_data.proofs.Chunks.{AreColumns-empty, AreColumns-push, rows_of_pushed, written_back}
 pub use Rattle.chunk_data.proofs.ColumnLists.{Joined, Joined-all, Joined-long, Joined-more, fits_long}
+pub use Rattle.chunk_data.proofs.Imports.{Equal, Less, Ordering}
 pub use Rattle.chunk_data.proofs.Laws.{column_fits, length-FitsTypes, length-rows_of}
 pub use Rattle.chunk_data.specs.Names.{AgreeOnKey, AreColumns, FitsTypes, IsTable, Row, Table, joined, key_cmp, kind_of, row_at, rows_of, text_cmp, type_of, value_at, value_cmp, values}
 pub use Rattle.chunk_data.specs.declared.lists.Memory.{Memory}
 pub use Rattle.chunk_data.specs.declared.typed_column.Column.{Column}
-pub use Rattle.chunk_data.specs.declared.typed_value.SortKey.{SortKey}
-pub use Rattle.chunk_data.specs.declared.typed_value.Value.TheVariants.{Int, Text, UInt}
-pub use Rattle.chunk_data.specs.declared.typed_value.Value.{Value}
-pub use Rattle.port_word.specs.Names.{Picture, in_count, input_at, is_in_finished}
+pub use Rattle.proc_api.proofs.Imports.{All, All-permutation, AllByRecursion, Contains, IsPermutation-append_comm, IsPermutation-append_left, IsPermutation-append_right, IsPermutation-middle, IsPermutation-refl, IsPermutation-trans, IsSortedBy, Picture, SortKey, get_or-eq_default, in_count, input_at, list_all, ranks_by, row_cmp_total}
 pub use Rattle.proc_api.proofs.Orders.{InOrder, every-append, every-back, every-contains, every-front, every-none, every-permuted, every-turned, every-weaker, order-back, order-cross, order-from_sorted, order-front, order-joined, ordered, ordered-order, ordered-same, rows-ordered, sorted-from_order}
 pub use Rattle.proc_api.specs.Boxes.{InputHead}
 pub use Rattle.proc_api.specs.Made.{is_ready_head}
 pub use Rattle.proc_api.specs.Names.{AreInputsSorted, AreKeysWithin, AreMerged, AreSorted, FitsOrder, IsBeforeNone, IsSortOf, Lists, OwnState, all_rows, chunk_rows, head_at, head_rows, no_lists}
-pub use Rattle.proc_api.proofs.MadeLaws.{no-rows}
+pub use Rattle.proc_shell.proofs.Imports.{AreWantedOver, Begins, Leaves, Makes, OfferComes, Offers, Takes, WantsMore, is_in_finished, no-rows, with_chunk}
 pub use Rattle.proc_shell.proofs.Through.{all-more, chunk-elsewhere, chunk-here, makes-nothing, one-more}
-pub use Rattle.proc_shell.specs.Kernels.{Begins, Leaves, Makes, OfferComes, Offers, Takes, WantsMore, with_chunk}
-pub use Rattle.proc_shell.specs.Steps.{AreWantedOver}
-pub use Rattle.proc_shell.specs.declared.kernel.Offer.TheVariants.{Rows, Wants}
 pub use Rattle.proc_shell.specs.declared.kernel.Offer.{Offer}
-pub use Rattle.query_model.proofs.AnswerLaws.{row_cmp_total}
+pub use Rattle.proc_shell.specs.declared.kernel.Offer.TheVariants.{Rows, Wants}
+pub use Rattle.query_model.proofs.Imports.{IfOk, Int, IsPermutation-map, IsPermutation-sym, Text, UInt, Value, ints, length_permutation, tied_itself}
 pub use Rattle.query_model.proofs.Lists.{map-map}
 pub use Rattle.query_model.proofs.ValueOrder.{value_cmp_total}
 pub use Rattle.query_model.specs.declared.processor_spec.SortSpec.{SortSpec}
@@ -30,23 +26,14 @@ pub use Rattle.sort_procs.specs.Sorted.{own_of}
 pub use Rattle.sort_procs.specs.Sorting.{PutsInOrder, rows_left, sorting_own}
 pub use Rattle.sort_procs.specs.declared.heads.Head.{Head}
 pub use Rattle.sort_procs.specs.declared.ranks.Ranked.{Ranked}
-pub use Rattle.std.proofs.Math.ListN.{get_or-eq_default}
 pub use Rattle.std.proofs.Math.Nat.{mul-le-mul_left, mul-suc}
 pub use Rattle.std.proofs.Math.Seq.{drop-cons}
 pub use Rattle.std.proofs.lemmas.Bool.{and_from, and_parts, cases_eq, cases_lt, cond_both, le-leb, le-ltb, leb-false, leb-true, lt-leb, lt-ltb, ltb-true, not-true, or_left, or_right}
-pub use Rattle.std.proofs.lemmas.Cmp.{tied_itself}
 pub use Rattle.std.proofs.lemmas.Fn.{always_returns_same}
-pub use Rattle.std.proofs.lemmas.Int.{ints}
+pub use Rattle.std.proofs.lemmas.List.{append-nil, drop-drop, drop_all, get_or-map, get_or-set_other, get_or-set_same, get_or_past, get_or_read, length-append, length-drop, length-map, length-set, length-take, map-append, map-set, nil_from_length, take-append-drop, take_all, take_more}
 pub use Rattle.std.proofs.lemmas.List.Elements.{All-append, All-map, Contains-append_left, Contains-append_right}
 pub use Rattle.std.proofs.lemmas.List.Folds.{list_all-map}
-pub use Rattle.std.proofs.lemmas.List.Sorted.{All-permutation, IsPermutation-append_comm, IsPermutation-append_left, IsPermutation-append_right, IsPermutation-map, IsPermutation-middle, IsPermutation-refl, IsPermutation-sym, IsPermutation-trans, length_permutation, ranks_by}
-pub use Rattle.std.proofs.lemmas.List.{append-nil, drop-drop, drop_all, get_or-map, get_or-set_other, get_or-set_same, get_or_past, get_or_read, length-append, length-drop, length-map, length-set, length-take, map-append, map-set, nil_from_length, take-append-drop, take_all, take_more}
 pub use Rattle.std.specs.Cmp.{IsStrictWeakOrder, IsTotalOrder, bool_cmp_total, int_cmp_is, nat_cmp_total, on_total, then_total}
-pub use Rattle.std.specs.List.{All, AllByRecursion, Contains, list_all}
 pub use Rattle.std.specs.Ordering.{bool_cmp, int_cmp, is_lt, nat_cmp, ordering_reverse, ordering_then}
-pub use Rattle.std.specs.Prelude.{IfOk, IsSortedBy}
-pub use Rattle.std.specs.declared.cmp.Ordering.TheVariants.{Equal, Less}
-pub use Rattle.std.specs.declared.cmp.Ordering.{Ordering}
-unfoldable pub use Rattle.chunk_data.specs.Names.{row_cmp}
-unfoldable pub use Rattle.query_model.specs.Sources.{count_up}
+unfoldable pub use Rattle.query_model.proofs.Imports.{count_up, row_cmp}
 unfoldable pub use Rattle.sort_procs.specs.Ranks.{AreBytes, text_rank, weight}

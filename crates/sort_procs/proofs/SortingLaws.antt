@@ -1,8 +1,7 @@
 -- A sort gathers the rows of its chunks, and then makes them in order.
-use Rattle.std.proofs.Common.{◌+◌, ◌-◌, ◌⊎◌, IsPermutation, IsSorted, ◌≡◌, ◌↔◌, ℕ, ◌<◌, ◌||◌, nat_lt, min, max, Bool, true, false, IsTrue, List, [], ◌∷◌, ◌++◌, length, get_or, take, drop, append_assoc, Option, Some, None, refl, sym, ap, subst, ◌∙◌, arith, inl, inr}
-use Rattle.sort_procs.proofs.Imports.{AgreeOnKey, All, AllByRecursion, AreKeysWithin, AreSorted, IsPermutation-append_right, IsPermutation-sym, IsPermutation-trans, IsSortOf, Makes, Offer, OfferComes, Offers, OwnState, PutsInOrder, Ranked, Row, SortKey, SortSpec, SortsPlaces, Table, WantsMore, append-nil, chunk_rows, drop-drop, every-permuted, every-turned, is_lt, length-append, length-drop, length-map, length-take, length_permutation, lt-ltb, ltb-true, makes-nothing, map-append, or_right, order-cross, order-from_sorted, order-front, order-joined, ordered, ordered-order, ordered-same, row_at, row_cmp, rows-ordered, rows_at, rows_left, sorted-from_order, sorting_own, take-append-drop}
+use Rattle.sort_procs.proofs.Imports.{AgreeOnKey, All, AllByRecursion, AreKeysWithin, AreSorted, IsPermutation-append_right, IsPermutation-sym, IsPermutation-trans, IsSortOf, Makes, Offer, OfferComes, Offers, OwnState, Picture, PutsInOrder, Ranked, Row, SortKey, SortSpec, SortsPlaces, Table, WantsMore, append-nil, chunk_rows, drop-drop, every-permuted, every-turned, in_count, input_at, is_in_finished, is_lt, length-append, length-drop, length-map, length-take, length_permutation, lt-ltb, ltb-true, makes-nothing, map-append, or_right, order-cross, order-from_sorted, order-front, order-joined, ordered, ordered-order, ordered-same, row_at, row_cmp, rows-ordered, rows_at, rows_left, sorted-from_order, sorting_own, take-append-drop}
+use Rattle.std.proofs.Common.{Bool, IsPermutation, IsSorted, IsTrue, List, None, Option, Some, [], ap, append_assoc, arith, drop, false, get_or, inl, inr, length, max, min, nat_lt, refl, subst, sym, take, true, ℕ, ◌++◌, ◌+◌, ◌-◌, ◌<◌, ◌||◌, ◌↔◌, ◌∙◌, ◌∷◌, ◌≡◌, ◌⊎◌}
 use Rattle.query_model.specs.declared.processor_spec.Spec.TheVariants as spec
-use Rattle.port_word.specs.Pictures.{Picture, in_count, input_at, is_in_finished}
 
 nothing-of : (rows : List Row) → (0 < length rows → ⊥) → rows ≡ []
 nothing-of [] h = refl

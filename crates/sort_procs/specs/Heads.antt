@@ -1,14 +1,12 @@
 -- What a merge holds of its inputs.
-use Rattle.std.specs.Prelude.{◌≡◌, ℕ, ◌<◌, ◌≤◌, leb, Bool, false, ◌||◌, ◌&&◌, not, List, [], length, map, drop, slice_index_or}
-use Rattle.std.specs.Ordering.{bool_cmp, is_lt, ordering_then}
-use Rattle.std.specs.declared.cmp.Ordering.{Ordering}
 use Rattle.chunk_data.specs.Names.{Row, row_at, row_cmp}
-use Rattle.chunk_data.specs.declared.typed_value.SortKey.{SortKey}
-use Rattle.query_model.specs.declared.processor_spec.SortSpec.{SortSpec}
-use Rattle.port_word.specs.Names.{Picture, in_count, input_at, is_in_finished}
 use Rattle.proc_api.specs.Boxes.{InputHead}
 use Rattle.proc_api.specs.Names.{FitsOrder}
+use Rattle.proc_api.specs.Prelude.{Picture, SortKey, SortSpec, in_count, input_at, is_in_finished}
 use Rattle.sort_procs.specs.declared.heads.Head.{Head}
+use Rattle.std.specs.Ordering.{bool_cmp, is_lt, ordering_then}
+use Rattle.std.specs.Prelude.{Bool, List, [], drop, false, leb, length, map, not, slice_index_or, ℕ, ◌&&◌, ◌<◌, ◌||◌, ◌≡◌, ◌≤◌}
+use Rattle.std.specs.declared.cmp.Ordering.{Ordering}
 
 abbrev pub head_of : Head → InputHead
 head_of h = record { rows = drop h.place h.chunk.rows; ended = h.ended }

@@ -1,18 +1,15 @@
 -- The state of a merge, and what it makes of its heads.
-use Rattle.std.specs.Prelude.{◌≡◌, ◌⊎◌, ℕ, ◌<◌, ◌≤◌, max, Bool, true, List, ◌++◌, length, map}
-use Rattle.std.specs.List.{list_all}
-use Rattle.std.proofs.Common.{refl}
-use Rattle.chunk_data.specs.Names.{AreColumns, Row, rows_of, Table, values}
+use Rattle.chunk_data.specs.Names.{AreColumns, Row, Table, rows_of, values}
 use Rattle.chunk_data.specs.declared.typed_column.Column.{Column}
-use Rattle.chunk_data.specs.declared.typed_value.SortKey.{SortKey}
-use Rattle.query_model.specs.declared.processor_spec.SortSpec.{SortSpec}
-use Rattle.query_model.specs.declared.processor_spec.Spec.TheVariants as spec
 use Rattle.proc_api.specs.Made.{AreMerged, OwnState, idle_own, ready_rows}
 use Rattle.proc_api.specs.Names.{Lists}
-use Rattle.proc_shell.specs.Kernels.{IsShelled}
+use Rattle.proc_api.specs.Prelude.{SortKey, SortSpec, list_all}
 use Rattle.proc_shell.proofs.Through.{IsInOrder, pushes-in-order, shelled-plain}
-use Rattle.sort_procs.specs.declared.heads.Head.{Head}
+use Rattle.proc_shell.specs.Kernels.{IsShelled}
 use Rattle.sort_procs.specs.Heads.{at, heads_of, is_used}
+use Rattle.sort_procs.specs.declared.heads.Head.{Head}
+use Rattle.std.specs.Prelude.{Bool, List, length, map, max, refl, true, ℕ, ◌++◌, ◌<◌, ◌≡◌, ◌≤◌, ◌⊎◌}
+use Rattle.query_model.specs.declared.processor_spec.Spec.TheVariants as spec
 
 abbrev pub merging_own : List Head → OwnState
 merging_own heads = record idle_own { unmade = ready_rows (heads_of heads); heads = heads_of heads }

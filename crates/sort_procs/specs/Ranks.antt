@@ -1,13 +1,9 @@
 -- A number for each row that goes before the keys, so that most rows are compared by it alone.
-use Rattle.std.specs.Prelude.{◌≡◌, ℕ, pos, ◌+ℤ◌, zero, suc, ◌+◌, ◌-◌, ◌*◌, ◌^◌, ◌<◌, leb, Bool, List, [], ◌∷◌, length, map, slice_index_or, IsPermutation, IsSortedBy, cond, ⊤}
-use Rattle.std.specs.List.{All}
-use Rattle.std.specs.Ordering.{bool_cmp, is_lt, nat_cmp, ordering_then}
-use Rattle.std.specs.declared.cmp.Ordering.{Ordering}
-use Rattle.chunk_data.specs.Names.{Row, row_cmp, value_at, row_at}
-use Rattle.chunk_data.specs.declared.typed_value.SortKey.{SortKey}
-use Rattle.chunk_data.specs.declared.typed_value.Value.{Value}
-use Rattle.chunk_data.specs.declared.typed_value.Value.TheVariants.{Int, UInt, Text}
+use Rattle.chunk_data.specs.Names.{Row, row_at, row_cmp, value_at}
+use Rattle.query_model.specs.Prelude.{All, Int, Ordering, SortKey, Text, UInt, Value}
 use Rattle.sort_procs.specs.declared.ranks.Ranked.{Ranked}
+use Rattle.std.specs.Ordering.{bool_cmp, is_lt, nat_cmp, ordering_then}
+use Rattle.std.specs.Prelude.{Bool, IsPermutation, IsSortedBy, List, [], cond, leb, length, map, pos, slice_index_or, suc, zero, ℕ, ⊤, ◌*◌, ◌+ℤ◌, ◌+◌, ◌-◌, ◌<◌, ◌^◌, ◌∷◌, ◌≡◌}
 
 -- what the byte before n others counts
 unfoldable pub weight : ℕ → ℕ

@@ -1,9 +1,8 @@
 -- What is seen of a sort.
-use Rattle.query_model.specs.declared.processor_spec.Spec.{Spec}
-use Rattle.query_model.specs.declared.processor_spec.Spec.TheVariants as spec
-use Rattle.proc_api.specs.Made.{OwnState}
-use Rattle.sort_procs.specs.declared.sort.Sorting.{Sorting}
+use Rattle.proc_shell.specs.Prelude.{OwnState, Spec}
 use Rattle.sort_procs.specs.Sorting.{sorting_own}
+use Rattle.sort_procs.specs.declared.sort.Sorting.{Sorting}
+use Rattle.query_model.specs.declared.processor_spec.Spec.TheVariants as spec
 
 abbrev pub sort_of : Sorting → Spec
 sort_of k = spec.Sort k.order

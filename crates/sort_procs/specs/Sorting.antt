@@ -1,17 +1,13 @@
 -- The state of a sort.
-use Rattle.std.specs.Prelude.{◌≡◌, ℕ, Bool, true, false, cond, List, [], ◌∷◌, drop}
-use Rattle.std.proofs.Common.{refl}
-use Rattle.std.specs.Ordering.{is_lt}
-use Rattle.chunk_data.specs.Values.{Row, Table, row_cmp}
-use Rattle.chunk_data.specs.declared.typed_value.SortKey.{SortKey}
-use Rattle.query_model.specs.declared.processor_spec.SortSpec.{SortSpec}
-use Rattle.query_model.specs.declared.processor_spec.Spec.TheVariants as spec
-use Rattle.proc_api.specs.Names.{chunk_rows, AreSorted, OwnState, idle_own}
 use Rattle.proc_api.proofs.Orders.{ordered, rows-ordered}
-use Rattle.proc_shell.specs.Kernels.{IsShelled}
+use Rattle.proc_api.specs.Names.{AreSorted, OwnState, chunk_rows, idle_own}
+use Rattle.proc_api.specs.Prelude.{Row, SortKey, SortSpec, Table, is_lt, row_cmp}
 use Rattle.proc_shell.proofs.Through.{IsInOrder, shelled-of}
-use Rattle.sort_procs.specs.declared.ranks.Ranked.{Ranked}
+use Rattle.proc_shell.specs.Kernels.{IsShelled}
 use Rattle.sort_procs.specs.Ranks.{rows_at}
+use Rattle.sort_procs.specs.declared.ranks.Ranked.{Ranked}
+use Rattle.std.specs.Prelude.{Bool, List, [], cond, drop, false, refl, true, ℕ, ◌∷◌, ◌≡◌}
+use Rattle.query_model.specs.declared.processor_spec.Spec.TheVariants as spec
 
 -- The rows that are left: those at the places that weren't reached. Before there are places, an
 -- order that the keys allow.

@@ -1,11 +1,10 @@
 -- The machine of strings reads what is written, as long as it goes on.
-use Rattle.std.proofs.Common.{◌≡◌, ◌≢◌, ℕ, suc, Bool, true, false, cond, List, [], ◌∷◌, ◌++◌, length, take, drop, refl, ap, ◌∙◌, subst, arith, Option, Some, None, option_map}
-use Rattle.std.specs.Prelude.{◌==◌, ◌||◌, ⊤}
+use Rattle.sql_grammar.specs.Names.{IsQuoted, IsStringAt, StringsAreRead, StringsAreWritten, another_byte, begins_with, closed, quote_behind_backslash, text_at, text_on, two_backslashes, two_quotes}
+use Rattle.std.proofs.Common.{Bool, List, None, Option, Some, [], ap, arith, cond, drop, false, length, length-take-le, option_map, refl, subst, suc, take, take-append-drop, true, ℕ, ◌++◌, ◌∙◌, ◌∷◌, ◌≡◌, ◌≢◌}
 use Rattle.std.proofs.lemmas.Bool.{eqb-false as unequal, eqb-true as equal, ne_eqb as differ}
-use Rattle.std.proofs.lemmas.List.{take-append-drop, length-take-le}
+use Rattle.std.specs.Prelude.{⊤, ◌==◌, ◌||◌}
 use Rattle.sql_grammar.specs.declared.TextPlace.TheVariants as place
 use Rattle.sql_grammar.specs.declared.TextByte.TheVariants as byte
-use Rattle.sql_grammar.specs.Names.{begins_with, text_on, text_at, IsQuoted, closed, another_byte, two_quotes, quote_behind_backslash, two_backslashes, IsStringAt, StringsAreRead, StringsAreWritten}
 
 -- behind the last quote
 behind_quote : (rest : List ℕ) → begins_with 39 rest ≡ false → text_at place.BehindQuote rest ≡ Some ([], 0)

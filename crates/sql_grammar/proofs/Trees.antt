@@ -1,19 +1,17 @@
 -- Why a query is refused goes by its tree alone: it is refused as the query of that tree whose
 -- boxes all lie in one place.
-use Rattle.std.proofs.Common.{◌≡◌, ℕ, suc, ◌+◌, Bool, true, false, not, ◌&&◌, ◌||◌, cond, List, [], ◌∷◌, ◌++◌, length, map, filter, flat_map, Option, Some, None, option_map, refl, sym, ap, ap₂, ◌∙◌, Box, Global}
-use Rattle.std.specs.Prelude.{◌==◌, nat_lt, is_some, find, bytes_eq}
-use Rattle.std.specs.List.{list_any, list_all}
-use Rattle.std.proofs.lemmas.List.{length-map, map-append}
+use Rattle.query_model.proofs.Imports.{bytes_eq, find, is_some, length-map, list_all, list_any, map-append, nat_lt, ◌==◌}
+use Rattle.query_model.specs.Refusals.{FromColumn, agg_kind, argument_columns, arith_kind, bare_columns, call_kind, calls_in, comparable, cond_fits, cond_operands, expr_columns, expr_kind, first_name, first_of_all, fits_where, from_columns, is_call, is_grouped, is_typed, item_columns, item_kind, item_names, join_pairs, listed, meant, name_or, not_keys, operand_calls, operand_columns, operand_kind, operands_of, output_names, plain_name, refusal_of, same_column, star_name, text_columns, total, type_mismatch, ungrouped_names, widths, written}
+use Rattle.sql_grammar.specs.QueryTypes.{AggCall, AggOp, ColumnRef, CondOf, ExprOf, Item, ItemKind, Items, NamePair, Operand, OrderKey, Query, Refusal, Schema, arith, column, formula, number}
+use Rattle.sql_grammar.specs.Trees.{CallTree, Condition, Expression, ItemTree, ItemWhat, QueryTree, Selection, Side, both, call, call_item, call_tree, compare, condition, either, item_tree, item_what, listed as listed_items, negated, plain, plain_item, query_tree, selection, side, star, text}
+use Rattle.std.proofs.Common.{Bool, Box, Global, List, None, Option, Some, [], ap, ap₂, cond, false, filter, flat_map, length, map, not, option_map, refl, suc, sym, true, ℕ, ◌&&◌, ◌++◌, ◌+◌, ◌||◌, ◌∙◌, ◌∷◌, ◌≡◌}
 use denote.RawPtr.{null_ptr}
-use Rattle.sql_grammar.specs.QueryTypes.{column, number, arith, formula, AggOp, AggCall, ColumnRef, ExprOf, Operand, CondOf, Item, ItemKind, Items, NamePair, OrderKey, Query, Schema, Refusal}
-use Rattle.query_model.specs.Refusals.{FromColumn, join_pairs, from_columns, meant, expr_columns, cond_operands, operands_of, operand_columns, bare_columns, argument_columns, item_columns, listed, text_columns, written, arith_kind, expr_kind, call_kind, agg_kind, operand_kind, comparable, cond_fits, fits_where, is_typed, item_kind, type_mismatch, is_call, is_grouped, same_column, not_keys, star_name, ungrouped_names, first_name, plain_name, name_or, item_names, output_names, operand_calls, total, calls_in, widths, first_of_all, refusal_of}
 use Rattle.query_model.specs.declared.query.ExprOf.TheVariants as expr
 use Rattle.query_model.specs.declared.query.Operand.TheVariants as operand
 use Rattle.query_model.specs.declared.query.CondOf.TheVariants as cond'
 use Rattle.query_model.specs.declared.query.ItemKind.TheVariants as kind
 use Rattle.query_model.specs.declared.query.Items.TheVariants as items
 use Rattle.query_model.specs.declared.query.Refusal.TheVariants as refuse
-use Rattle.sql_grammar.specs.Trees.{Expression, CallTree, Side, plain, text, call, Condition, compare, both, either, negated, ItemWhat, plain_item, call_item, ItemTree, Selection, star, listed as listed_items, QueryTree, call_tree, side, condition, item_what, item_tree, selection, query_tree}
 
 -- ---- the query of a tree
 

@@ -1,10 +1,9 @@
-use Rattle.std.proofs.Common.{◌∙◌, sym, ap, get_or, map, arith}
-use Rattle.aggregate_proc.proofs.Prelude.{get_or_default}
-use Rattle.chunk_data.specs.declared.typed_value.Value.TheVariants as value
-use Rattle.aggregate_proc.specs.declared.fold.Fold.TheVariants as fold
 use Rattle.aggregate_proc.proofs.NextLaws.{counted-first, counted-one}
 use Rattle.aggregate_proc.proofs.PutLaws.{left-none, step-push, step-set}
-use Rattle.aggregate_proc.proofs.fold.fold_counts.Goals.{then-place-len, else-place-len+in_ok-push}
+use Rattle.aggregate_proc.proofs.fold.fold_counts.Goals.{else-place-len+in_ok-push, then-place-len}
+use Rattle.chunk_data.proofs.Imports.{ap, arith, get_or, get_or_default, map, sym, ◌∙◌}
+use Rattle.chunk_data.specs.declared.typed_value.Value.TheVariants as value
+use Rattle.aggregate_proc.specs.declared.fold.Fold.TheVariants as fold
 use Rattle.aggregate_proc.proofs.fold.fold_counts.Goals as goal
 
 pub loop-i-preserved : goal.loop-i-preserved

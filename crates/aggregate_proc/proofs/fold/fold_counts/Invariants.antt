@@ -1,8 +1,7 @@
-use Rattle.std.proofs.Common.{◌≡◌, List, length, map}
-use Rattle.aggregate_proc.proofs.Prelude.{Value}
+use Rattle.aggregate_proc.proofs.PutLaws.{left_to_put}
+use Rattle.query_model.proofs.Imports.{List, Value, length, map, ◌≡◌}
 use Rattle.chunk_data.specs.declared.typed_value.Value.TheVariants as value
 use Rattle.aggregate_proc.specs.declared.fold.Fold.TheVariants as fold
-use Rattle.aggregate_proc.proofs.PutLaws.{left_to_put}
 use Rattle.aggregate_proc.proofs.fold.fold_counts.Given as goal
 
 abbrev pub invariant-loop-i : goal.invariant-loop-i

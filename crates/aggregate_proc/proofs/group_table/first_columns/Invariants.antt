@@ -1,5 +1,4 @@
-use Rattle.std.proofs.Common.{◌≡◌}
-use Rattle.aggregate_proc.proofs.Prelude.{count_up}
+use Rattle.query_model.proofs.Imports.{count_up, ◌≡◌}
 use Rattle.aggregate_proc.proofs.group_table.first_columns.Given as goal
 
 abbrev pub invariant-loop-c : goal.invariant-loop-c

@@ -1,5 +1,4 @@
-use Rattle.std.proofs.Common.{◌≡◌, ◌<◌, drop, length, map, take}
-use Rattle.aggregate_proc.proofs.Prelude.{All, row_at}
+use Rattle.chunk_data.proofs.Imports.{All, drop, length, map, row_at, take, ◌<◌, ◌≡◌}
 use Rattle.aggregate_proc.proofs.grouping.part_of.Given as goal
 
 abbrev pub invariant-loop-i : goal.invariant-loop-i

@@ -1,6 +1,5 @@
-use Rattle.std.proofs.Common.{◌≡◌, IfOk, subst}
-use Rattle.aggregate_proc.proofs.Prelude.{Table}
 use Rattle.aggregate_proc.proofs.BuilderLaws.{table-types}
+use Rattle.query_model.proofs.Imports.{IfOk, Table, subst, ◌≡◌}
 use Rattle.aggregate_proc.proofs.grouping.whole_chunk.Goals as goal
 
 pub returns-clause-types : goal.returns-clause-types

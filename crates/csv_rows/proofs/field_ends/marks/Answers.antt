@@ -1,6 +1,5 @@
-use Rattle.std.proofs.Common.{◌≡◌, ℕ, ◌%◌, ◌^◌, ◌==◌, ◌||◌, Bool, true, false, cond, List, [], ◌∷◌, map, refl, ap, ap₂, ◌∙◌, arith}
 use Rattle.csv_rows.proofs.Prelude.{is_mark, length-map, mask_l, mask_l-mod, top, zip2_of_maps, zip2_splat}
-use lib.Bits.{bit_or}
+use Rattle.std.proofs.Common.{Bool, List, [], ap, ap₂, arith, bit_or, cond, false, map, refl, true, ℕ, ◌%◌, ◌==◌, ◌^◌, ◌||◌, ◌∙◌, ◌∷◌, ◌≡◌}
 use Rattle.csv_rows.proofs.field_ends.marks.Goals as goal
 
 abbrev hit : ℕ → ℕ → ℕ

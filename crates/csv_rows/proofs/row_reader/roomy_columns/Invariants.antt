@@ -1,5 +1,4 @@
-use Rattle.std.proofs.Common.{◌≡◌, map, take, []}
-use Rattle.csv_rows.proofs.Prelude.{kind_of, values}
+use Rattle.chunk_data.proofs.Imports.{[], kind_of, map, take, values, ◌≡◌}
 use Rattle.csv_rows.proofs.row_reader.roomy_columns.Given as goal
 
 abbrev pub invariant-loop-kind : goal.invariant-loop-kind

@@ -1,5 +1,4 @@
-use Rattle.std.proofs.Common.{arith}
-use Rattle.csv_rows.proofs.Prelude.{length-FitsTypes}
+use Rattle.query_model.proofs.Imports.{arith, length-FitsTypes}
 use Rattle.csv_rows.proofs.text.append_chunk.Goals as goal
 
 pub append_row-requires-clause-wide : goal.append_row-requires-clause-wide

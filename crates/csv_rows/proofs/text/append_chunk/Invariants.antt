@@ -1,5 +1,4 @@
-use Rattle.std.proofs.Common.{◌≡◌, ◌++◌, take}
-use Rattle.csv_rows.proofs.Prelude.{rows_text}
+use Rattle.query_model.proofs.Imports.{rows_text, take, ◌++◌, ◌≡◌}
 use Rattle.csv_rows.proofs.text.append_chunk.Given as goal
 
 abbrev pub invariant-loop-i : goal.invariant-loop-i

@@ -1,5 +1,4 @@
-use Rattle.std.proofs.Common.{◌≡◌, ◌++◌, take, flat_map}
-use Rattle.csv_rows.proofs.Prelude.{doubled}
+use Rattle.query_model.proofs.Imports.{doubled, flat_map, take, ◌++◌, ◌≡◌}
 use Rattle.csv_rows.proofs.text.append_doubled.Given as goal
 
 abbrev pub invariant-loop-byte : goal.invariant-loop-byte

@@ -1,5 +1,4 @@
-use Rattle.std.proofs.Common.{◌≡◌, take, map}
-use Rattle.chunk_data.specs.declared.typed_value.Value.TheVariants.{Text}
+use Rattle.query_model.proofs.Imports.{Text, map, take, ◌≡◌}
 use Rattle.csv_rows.proofs.text.texts_of.Given as goal
 
 abbrev pub invariant-loop-name : goal.invariant-loop-name

@@ -1,7 +1,6 @@
-use Rattle.std.proofs.Common.{◌≡◌, ◌++◌, take, flat_map}
-use Rattle.std.specs.Option.{option_copied}
-use Rattle.csv_rows.proofs.Prelude.{Table, rows_text}
 use Rattle.csv_rows.specs.Lines.{heading}
+use Rattle.query_model.proofs.Imports.{Table, flat_map, rows_text, take, ◌++◌, ◌≡◌}
+use Rattle.std.specs.Option.{option_copied}
 use Rattle.csv_rows.proofs.text.write_rows.Given as goal
 
 abbrev pub invariant-loop-chunk : goal.invariant-loop-chunk

@@ -1,6 +1,5 @@
-use Rattle.std.proofs.Common.{◌≡◌, length, subst, ◌∙◌}
-use Rattle.std.specs.Prelude.{IfOk}
 use Rattle.sort_procs.proofs.RankLaws.{places-within, rows-gathered}
+use Rattle.std.proofs.Common.{IfOk, length, subst, ◌∙◌, ◌≡◌}
 use Rattle.sort_procs.proofs.ranks.gather_ranked.Goals as goal
 
 pub gather-requires : goal.gather-requires

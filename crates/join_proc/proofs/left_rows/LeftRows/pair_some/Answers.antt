@@ -1,6 +1,5 @@
-use Rattle.std.proofs.Common.{[], ◌∷◌, ◌∙◌, length, ap, arith, inl, inr, refl, sym}
-use Rattle.join_proc.proofs.Imports.{leb-true, length-append}
 use Rattle.join_proc.proofs.LeftLaws.{joins-more, joins-none, none-left}
+use Rattle.std.proofs.Common.{[], ap, arith, inl, inr, leb-true, length, length-append, refl, sym, ◌∙◌, ◌∷◌}
 use Rattle.join_proc.proofs.left_rows.LeftRows.pair_some.Goals as goal
 
 pub loop-done-init : goal.loop-done-init
