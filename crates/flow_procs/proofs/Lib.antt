@@ -2,3 +2,4 @@ pub mod Imports
 mod FilterLaws
 mod LimitLaws
 mod CountingLaws
+mod KindLaws

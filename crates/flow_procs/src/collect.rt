@@ -13,7 +13,7 @@ use std::mem::replace;
 pub type Collect = Shell<Gathering>;
 
 /// A collector inside its shell. It has room for one chunk more, which may be handed out before it is worked.
-#[derive(Debug, Drop)]
+#[derive(Drop)]
 pub struct Gathering {
     chunks: Vec<Chunk>,
     handed_out: bool,
@@ -42,17 +42,15 @@ impl Kernel for Gathering {
         Kind::Collect
     }
 
-    fn begin(alloc: Global, spec: Spec) -> Result<Gathering, Memory> {
-        match spec {
-            Spec::Collect => match Vec::with_capacity(alloc, 1) {
-                Ok(chunks) => Ok(Gathering {
-                    chunks,
-                    handed_out: false,
-                }),
-                Err(_) => Err(Memory),
-            },
-            // The shell hands it no other kind's.
-            _ => Err(Memory),
+    // A spec of its kind has nothing to be kept.
+    #[tactic(auto, using(crate::proofs::KindLaws::collect_alone))]
+    fn begin(alloc: Global, _spec: Spec) -> Result<Gathering, Memory> {
+        match Vec::with_capacity(alloc, 1) {
+            Ok(chunks) => Ok(Gathering {
+                chunks,
+                handed_out: false,
+            }),
+            Err(_) => Err(Memory),
         }
     }
 

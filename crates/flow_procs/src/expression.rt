@@ -11,7 +11,7 @@ use std::alloc::Global;
 pub type Expression = Shell<Evaluating>;
 
 /// An expression inside its shell.
-#[derive(Debug, Drop)]
+#[derive(Drop)]
 pub struct Evaluating {
     items: List<Expr>,
 }

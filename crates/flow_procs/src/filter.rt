@@ -11,7 +11,7 @@ use std::alloc::Global;
 pub type Filter = Shell<Filtering>;
 
 /// A filter inside its shell.
-#[derive(Debug, Drop)]
+#[derive(Drop)]
 pub struct Filtering {
     cond: Cond,
 }

@@ -13,7 +13,7 @@ use std::alloc::Global;
 pub type Limit = Shell<Limiting>;
 
 /// A limit inside its shell.
-#[derive(Debug, Drop)]
+#[derive(Drop)]
 pub struct Limiting {
     span: Span,
     /// How many rows it has read; at its last value it stands still.

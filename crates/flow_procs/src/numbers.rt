@@ -12,7 +12,7 @@ use std::alloc::Global;
 pub type Numbers = Shell<Counting>;
 
 /// Numbers inside their shell.
-#[derive(Debug, Drop)]
+#[derive(Drop)]
 pub struct Counting {
     next: u64,
     end: u64,

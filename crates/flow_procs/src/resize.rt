@@ -9,7 +9,7 @@ use std::alloc::Global;
 pub type Resize = Shell<Resizing>;
 
 /// A resize inside its shell, which does all.
-#[derive(Debug, Drop)]
+#[derive(Drop)]
 pub struct Resizing;
 
 impl Kernel for Resizing {
@@ -31,12 +31,10 @@ impl Kernel for Resizing {
         Kind::Resize
     }
 
-    fn begin(_alloc: Global, spec: Spec) -> Result<Resizing, Memory> {
-        match spec {
-            Spec::Resize => Ok(Resizing),
-            // The shell hands it no other kind's.
-            _ => Err(Memory),
-        }
+    // A spec of its kind has nothing to be kept.
+    #[tactic(auto, using(crate::proofs::KindLaws::begins_resize))]
+    fn begin(_alloc: Global, _spec: Spec) -> Result<Resizing, Memory> {
+        Ok(Resizing)
     }
 
     fn fits(&self, _inputs: usize, outputs: usize) -> bool {
