@@ -667,7 +667,7 @@ kept c n step.Stop g h k = same-kept c true h k
 kept c n step.See g h k = same-kept c c.stopped h k
 
 -- no step changes the sizes
-sizes-kept : (c : CoreState) (n : ℕ) (s : Step) → (after c n s).sizes ≡ c.sizes
+pub sizes-kept : (c : CoreState) (n : ℕ) (s : Step) → (after c n s).sizes ≡ c.sizes
 sizes-kept c n step.Rest = grind arith
 sizes-kept c n (step.Wire e w) = grind arith
 sizes-kept c n (step.Wired e) = grind arith

@@ -16,7 +16,7 @@ port-start s e i = get_or-map-range_with_len (start_port s) 0 _ e e no_port
     (let n = ports-length s in omega (arith, n, i)) (omega arith)
 
 -- what holds of each node at the start, and of none
-all-nodes : (s : Sizes) (P : ℕ → NodeState → Type 0) → ((m : ℕ) → P m (start_node s m))
+pub all-nodes : (s : Sizes) (P : ℕ → NodeState → Type 0) → ((m : ℕ) → P m (start_node s m))
     → ((m : ℕ) → P m no_node) → (m : ℕ) → P m (node_at (start s) m)
 all-nodes s P here past m = elim (cases_lt m s.nodes) [
   | inl l ↦ subst (P m) (sym (get_or-map-range_with_len (start_node s) 0 s.nodes m m no_node l
@@ -46,7 +46,7 @@ once-range a zero = refl
 once-range a (suc n) = grind (arith, once-range (a + 1) n, has-range (a + 1) n a)
 
 -- a node knows the wires that name it
-learned-start : (s : Sizes) (e m : ℕ) → knows e (node_at (start s) m).seen ≡ true
+pub learned-start : (s : Sizes) (e m : ℕ) → knows e (node_at (start s) m).seen ≡ true
     → (e < length s.wires) × (names m (Some (get_or s.wires e no_wire)) ≡ true)
 learned-start s e = all-nodes s (λ m y. knows e y.seen ≡ true
     → (e < length s.wires) × (names m (Some (get_or s.wires e no_wire)) ≡ true))

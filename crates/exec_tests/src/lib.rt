@@ -23,4 +23,6 @@ mod scripted;
 #[cfg(test)]
 mod sort_procs_tests;
 #[cfg(test)]
+mod table_tests;
+#[cfg(test)]
 mod task_queue_tests;

@@ -1,0 +1,17 @@
+mod Imports
+mod Readiness
+mod Wording
+mod Moving
+mod LaneSteps
+mod Stepping
+mod Growing
+mod Kept
+mod Tied
+mod Showing
+mod Hands
+mod Seating
+mod SlotLists
+mod Handling
+mod Working
+mod Starting
+mod Surveying

@@ -1,0 +1,79 @@
+-- Lists of slots as they turn, and how long a list without repetition can be.
+use Rattle.exec_table.proofs.Imports.{Chunk, List, Option, Some, [], and_parts, ap, arith, cond, drop, drop_more, eqb, false, filter, get_or, has, has-filter, length, map-append, not, once, once-filter, once-last, refl, subst, suc, sym, take, take_more, true, turned, zero, ℕ, ◌&&◌, ◌++◌, ◌+◌, ◌<◌, ◌∙◌, ◌∷◌, ◌≡◌, ◌≤◌, cases_eq, inl, inr, Slots, edges_out, slot_in}
+
+-- ---- how long a list is
+
+without-none : (n : ℕ) (l : List ℕ) → has n l ≡ false
+    → length (filter (λ d. not (eqb d n)) l) ≡ length l
+without-none n [] h = refl
+without-none n (x ∷ xs) h = grind (arith, without-none n xs)
+
+without-one : (n : ℕ) (l : List ℕ) → once l ≡ true
+    → length l ≤ length (filter (λ d. not (eqb d n)) l) + 1
+without-one n [] h = omega arith
+without-one n (x ∷ xs) h = elim (cases_eq x n) [
+  | inl e ↦ let z : has n xs ≡ false = subst (λ k. has k xs ≡ false) e (grind arith) in
+      grind (arith, without-none n xs, z, e)
+  | inr ne ↦ grind (arith, without-one n xs, ne)
+]
+
+-- numbers below n, each once, are at most n
+pub few-below : (n : ℕ) (l : List ℕ) → once l ≡ true → ((e : ℕ) → has e l ≡ true → e < n)
+    → length l ≤ n
+few-below zero [] h less = omega arith
+few-below zero (x ∷ xs) h less = let z = less x (grind arith) in absurd (omega arith)
+few-below (suc n) l h less = let t = λ (d : ℕ). not (eqb d n) in
+    let z = few-below n (filter t l) (once-filter t l h) (λ e q.
+    let y : (not (eqb e n) && has e l) ≡ true = sym (has-filter t l e) ∙ q in
+    let k = less e (and_parts (not (eqb e n)) _ y).1 in
+    let ne : eqb e n ≡ false = grind arith in grind arith) in
+    let y = without-one n l h in omega (arith, z, y)
+
+-- ---- turns
+
+pub turned-edges : (l : Slots) (n : ℕ) (ns : List ℕ) → edges_out l ≡ n ∷ ns
+    → edges_out (turned l) ≡ ns ++ n ∷ []
+turned-edges [] n ns h = absurd (let z : [] ≡ n ∷ ns = h in cc)
+turned-edges (y ∷ ys) n ns h = map-append (λ (y : ℕ × Option Chunk). y.0) ys (y ∷ [])
+    ∙ (let p : y.0 ≡ n = ap (λ l. get_or l 0 0) h in let q : edges_out ys ≡ ns = ap (drop 1) h in
+    λ i. q i ++ p i ∷ [])
+
+pub turned-once : (n : ℕ) (ns : List ℕ) → once (n ∷ ns) ≡ true → once (ns ++ n ∷ []) ≡ true
+turned-once n ns h = once-last n ns (grind arith) (and_parts (not (has n ns)) _ h).1
+
+last-slot : (d : ℕ) (y : ℕ × Option Chunk) (ys : Slots) → has y.0 (edges_out ys) ≡ false
+    → slot_in d (ys ++ y ∷ []) ≡ cond (eqb y.0 d) (Some y.1) (slot_in d ys)
+last-slot d y [] h = refl
+last-slot d y (z ∷ zs) h = grind (arith, last-slot d y zs)
+
+pub turned-slots : (l : Slots) (d : ℕ) → once (edges_out l) ≡ true
+    → slot_in d (turned l) ≡ slot_in d l
+turned-slots [] d h = refl
+turned-slots (y ∷ ys) d h = last-slot d y ys (grind arith)
+
+-- ---- a list rotated until a number stands first
+
+pub front-rotated : (l now : List ℕ) (i : ℕ) → now ≡ drop i l ++ take i l → i < length l
+    → now ≡ get_or l i 0 ∷ (drop (i + 1) l ++ take i l)
+front-rotated l now i is less = is ∙ ap (λ z. z ++ take i l) (drop_more l i 0 less)
+
+pub rotated-next : (l now : List ℕ) (i : ℕ)
+    → now ≡ (drop (i + 1) l ++ take i l) ++ get_or l i 0 ∷ [] → i < length l
+    → now ≡ drop (i + 1) l ++ take (i + 1) l
+rotated-next l now i is less = is ∙ (append_assoc (drop (i + 1) l) (take i l) (get_or l i 0 ∷ [])
+    ∙ ap (λ z. drop (i + 1) l ++ z) (sym (take_more l i 0 less)))
+  where
+    append_assoc : (a b c : List ℕ) → (a ++ b) ++ c ≡ a ++ (b ++ c)
+    append_assoc [] b c = refl
+    append_assoc (y ∷ ys) b c = ap (λ z. y ∷ z) (append_assoc ys b c)
+
+-- the first slot is that of the edge that the data name first
+pub first-slot : (l : Slots) (e : ℕ) (ns : List ℕ) → edges_out l ≡ e ∷ ns
+    → (v : Option Chunk) × (ys : Slots) × (l ≡ (e, v) ∷ ys) × (edges_out ys ≡ ns)
+first-slot [] e ns h = absurd (let z : [] ≡ e ∷ ns = h in cc)
+first-slot (y ∷ ys) e ns h = (
+  y.1,
+  ys,
+  ap (λ k. (k, y.1) ∷ ys) (ap (λ l. get_or l 0 0) h),
+  ap (drop 1) h,
+)

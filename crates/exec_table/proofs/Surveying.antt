@@ -1,0 +1,308 @@
+-- Views joined and words noted keep the rule.
+use Rattle.exec_table.proofs.Imports.{Allows, Board, Bool, Distinct, Fits, Holds, Joins, List, NodeView, Sat, Shown, Sizes, View, [], ap, arith, at_index, at_set, deque_capacity, drop, cond, edge_count, eqb, eq-eqb, false, get_elem?, get_or, inl, inr, keeps, length, ne_eqb, no_view, refl, set, some, some-injective, some-ne-none, subst, suc, sym, take, true, unstopped, words_of, zero, length-map, map-append, ℕ, ⊎_elim, ◌++◌, ◌+◌, ◌%◌, ◌<◌, ◌^◌, ◌∙◌, ◌∷◌, ◌≡◌, ◌≢◌, ◌≤◌, ◌⊎◌, Enters, IsFinal, just_first, first_or_none, HandHolds, IsSeatOf, edges_out, key_of, slots, view, ExecTable, AreAll, HasAll, IsBack, IsLent, Surveyed, joined, noted_word, noting, views, NodeSeat, at_map, drop_at, ext_get_or, Chunk, Lane, None, Option, Seen, home_of, map, no_lane, none}
+use Rattle.atomic_table.specs.Table.{Final as AtEnd}
+use Rattle.exec_table.specs.declared.shut.Final.{Final}
+use Rattle.exec_table.proofs.Growing.{pending-small}
+use Rattle.exec_table.proofs.Seating.{reseen, seat-other}
+use Rattle.exec_table.proofs.Showing.{fits-none, fits-set, regrouped}
+use Rattle.exec_table.proofs.Starting.{one-more, words-count}
+
+-- ---- joined views
+
+at-append : {A : Type 0} (l k : List A) (i : ℕ) (a : A) → get_elem? (l ++ k) i ≡ some a
+    → (get_elem? l i ≡ some a) ⊎ ((j : ℕ) × (get_elem? k j ≡ some a))
+at-append [] k i a h = inr (i, h)
+at-append (x ∷ xs) k zero a h = inl h
+at-append (x ∷ xs) k (suc i) a h = at-append xs k i a h
+
+apart-append : (l k : List NodeView) → Distinct l → Distinct k
+    → ((i j : ℕ) (x y : NodeView) → get_elem? l i ≡ some x → get_elem? k j ≡ some y
+    → x.number ≢ y.number) → Distinct (l ++ k)
+apart-append [] k d e ne = e
+apart-append (x ∷ xs) k d e ne = (
+  (λ i y q. ⊎_elim (λ (z : get_elem? xs i ≡ some y). d.0 i y z)
+      (λ (z : (j : ℕ) × (get_elem? k j ≡ some y)). ne 0 z.0 x y refl z.1) (at-append xs k i y q)),
+  apart-append xs k d.1 e (λ i j a b p q. ne (suc i) j a b p q),
+)
+
+-- a seat takes in the nodes of another
+pub joins : (key : Sizes) (id other : ℕ) (v w : View) → Joins (Shown key) id v other w
+    (joined v w) no_view
+joins key id other v w st r mine apart theirs = regrouped r refl refl owner
+    (fits-set _ _ _ (Fits r.board owner) (fits-none r.board owner other no_view refl refl
+    (omega arith)
+    (λ k p. absurd (cc))) (λ j u ne q. fits-set _ _ _ (λ j u. j ≢ other → Fits r.board owner j u)
+    (λ _. both) (λ j u a q b. others j u b a q) j u q ne))
+  where
+    was : Fits r.board r.owner id v
+    was = r.seats id v mine
+
+    it : Fits r.board r.owner other w
+    it = r.seats other w (⊎_elim (λ (t : (other ≡ id) × (joined v w ≡ w)). absurd (apart t.0))
+        (λ (t : (other ≢ id) × (get_elem? st.views other ≡ some w)). t.1)
+        (at_set st.views id other (joined v w) w theirs))
+
+    owner : ℕ → ℕ
+    owner n = cond (eqb (r.owner n) other) id (r.owner n)
+
+    mine_still : (n : ℕ) → r.owner n ≡ id → owner n ≡ id
+    mine_still n q = ap (λ t. cond t id (r.owner n)) (ne_eqb (r.owner n) other
+        (λ e. apart (sym e ∙ q))) ∙ q
+
+    mine_now : (n : ℕ) → r.owner n ≡ other → owner n ≡ id
+    mine_now n q = ap (λ t. cond t id (r.owner n)) (eq-eqb (r.owner n) other q)
+
+    same : (n j : ℕ) → j ≢ other → r.owner n ≡ j → owner n ≡ j
+    same n j ne q = ap (λ t. cond t id (r.owner n)) (ne_eqb (r.owner n) other
+        (λ e. ne (sym q ∙ e))) ∙ q
+
+    both : Fits r.board owner id (joined v w)
+    both = record {
+      each = λ i x q. ⊎_elim (λ (t : get_elem? v.nodes i ≡ some x). let z = was.each i x t in
+          record { is = z.is; inside = z.inside; owned = mine_still x.number z.owned })
+          (λ (t : (j : ℕ) × (get_elem? w.nodes j ≡ some x)). let z = it.each t.0 x t.1 in
+          record { is = z.is; inside = z.inside; owned = mine_now x.number z.owned })
+          (at-append v.nodes w.nodes i x q);
+      apart = apart-append v.nodes w.nodes was.apart it.apart (λ i j x y p q e.
+          apart (sym (it.each j y q).owned ∙ (ap r.owner (sym e) ∙ (was.each i x p).owned)));
+      noted = λ i n q. absurd (some-ne-none n (sym q));
+      made = was.made;
+      worker = was.worker;
+    }
+
+    others : (j : ℕ) (u : View) → j ≢ other → j ≢ id → get_elem? st.views j ≡ some u
+        → Fits r.board owner j u
+    others j u a b q = let t = r.seats j u q in record {
+      each = λ i x p. let z = t.each i x p in
+          record { is = z.is; inside = z.inside; owned = same x.number j a z.owned };
+      apart = t.apart;
+      noted = λ i n p. let z = t.noted i n p in
+          record { is = z.is; all = λ k l. same k j a (z.all k l) };
+      made = t.made;
+      worker = t.worker;
+    }
+
+-- ---- noted words
+
+-- a word without the stop bit
+noted-is : (b : Board) (i : ℕ) → Holds b → get_or (words_of (unstopped b.core)) i 0
+    ≡ noted_word i (get_or (words_of b.core) i 0)
+noted-is b zero h = by b.core.pending b.core.stopped (pending-small b h)
+  where
+    by : (p : ℕ) (t : Bool) → p < 2 ^ 62 → p + 0 ≡ (p + cond t (2 ^ 63) 0) % 2 ^ 63
+    by p true l = omega arith
+    by p false l = omega arith
+noted-is b (suc i) h = let w = get_or (words_of b.core) (suc i) 0 in
+    sym (ap (λ t. cond t (w % 2 ^ 63) w) (ne_eqb (suc i) 0 (λ z. omega arith)))
+
+-- a seat that has every node notes one more word
+pub note-allowed : (key : Sizes) (slots id i : ℕ) (m : Sat) → HasAll key.nodes m.0
+    → length m.0.noted ≡ i
+    → Allows (Shown key) slots id m i (λ n. n) (λ n m'. m' ≡ (noting i n m.0, m.1))
+note-allowed key slots id i m all next st r deep mine fit = (
+  noting i (get_or st.words i 0) m.0,
+  keeps,
+  tt,
+  reseen key st r id i m (noting i (get_or st.words i 0) m.0) (record {
+    each = was.each;
+    apart = was.apart;
+    noted = λ j w q. ⊎_elim (λ (t : get_elem? m.0.noted j ≡ some w). was.noted j w t)
+        (λ (t : (j ≡ i) × (noted_word i (get_or st.words i 0) ≡ w)). record {
+          is = ap (λ k. get_or (words_of (unstopped r.board.core)) k 0) t.0
+              ∙ (noted-is r.board i r.holds ∙ (ap (λ l. noted_word i (get_or l i 0)) (sym r.words)
+              ∙ t.1));
+          all = λ n l. let x = all n (subst (λ s. n < s.nodes) r.sizes l) in
+              ap r.owner (sym x.3) ∙ (was.each x.0 x.1 x.2).owned;
+        }) (one-more m.0.noted (noted_word i (get_or st.words i 0)) w j i next q);
+    made = was.made;
+    worker = was.worker;
+  }),
+  refl,
+)
+  where
+    was : Fits r.board r.owner id m.0
+    was = r.seats id m.0 mine
+
+read-at : {A : Type 0} (l : List A) (i : ℕ) (d : A) → i < length l
+    → get_elem? l i ≡ some (get_or l i d)
+read-at [] i d h = absurd (omega arith)
+read-at (x ∷ xs) zero d h = refl
+read-at (x ∷ xs) (suc i) d h = read-at xs i d (omega arith)
+
+unstopped-holds : (b : Board) → Holds b → Holds (record b { core = unstopped b.core })
+unstopped-holds b h = let l = h.laws in record {
+  laws = record {
+    fit = l.fit;
+    edges = record { count = l.edges.count; each = l.edges.each };
+    nodes = record { number = l.nodes.number; each = l.nodes.each; told = l.nodes.told };
+    tokens = record { pending = l.tokens.pending; few = l.tokens.few };
+  };
+  lane_count = h.lane_count;
+  stage_count = h.stage_count;
+  lanes = h.lanes;
+  stages = h.stages;
+}
+
+-- once it has noted every word, one more load tells that they are the words of one state
+pub survey-allowed : (key : Sizes) (slots id i : ℕ) (m : Sat)
+    → length m.0.noted ≡ (key.nodes + (edge_count key + edge_count key)) + 1
+    → Allows (Shown key) slots id m i (λ n. n) (λ n m'. (m' ≡ m) × Surveyed m.0.noted m.0.nodes)
+survey-allowed key slots id i m full st r deep mine fit = (
+  m.0,
+  keeps,
+  tt,
+  reseen key st r id i m m.0 was,
+  (
+    refl,
+    record {
+      board = record r.board { core = unstopped r.board.core };
+      holds = unstopped-holds r.board r.holds;
+      all = ext_get_or 0 m.0.noted (words_of (unstopped r.board.core)) (full ∙ sym long)
+          (λ k l. sym (was.noted k (get_or m.0.noted k 0) (read-at m.0.noted k 0 l)).is);
+      seen = λ k x q. (was.each k x q).is;
+    },
+  ),
+)
+  where
+    was : Fits r.board r.owner id m.0
+    was = r.seats id m.0 mine
+
+    long : length (words_of (unstopped r.board.core))
+        ≡ (key.nodes + (edge_count key + edge_count key)) + 1
+    long = words-count (unstopped r.board.core) ∙ (let n = r.holds.laws.nodes.number in
+        let e = r.holds.laws.edges.count in (λ j. (n j + (e j + e j)) + 1)
+        ∙ ap (λ s. (s.nodes + (edge_count s + edge_count s)) + 1) r.sizes)
+
+-- a new seat knows nothing
+pub enter-allowed : (key : Sizes) (slots i : ℕ) → Enters (Shown key) slots i (λ n w. w ≡ no_view)
+enter-allowed key slots i st r deep fit = (
+  no_view,
+  regrouped r refl refl r.owner (λ j u q. ⊎_elim (r.seats j u)
+      (λ (t : (j ≡ length st.views) × (no_view ≡ u)). subst (Fits r.board r.owner j) t.1
+      (fits-none r.board r.owner j no_view refl refl (omega arith) (λ k p. absurd (cc))))
+      (one-more st.views no_view u j (length st.views) refl q)),
+  refl,
+)
+
+-- ---- seats one by one
+
+pub has-still : (count : ℕ) (v w : View) → w.nodes ≡ v.nodes → HasAll count v → HasAll count w
+has-still count v w same all n less = let x = all n less in
+    (x.0, x.1, ap (λ l. get_elem? l x.0) same ∙ x.2, x.3)
+
+-- one more seat was changed as P says
+pub each-done : (P : NodeSeat → NodeSeat → Type 0) (olds ss : List NodeSeat) (i : ℕ)
+    (s r : NodeSeat) → get_elem? olds i ≡ some s → P s r
+    → ((k : ℕ) (t : NodeSeat) → k < i → get_elem? ss k ≡ some t
+    → (was : NodeSeat) × (get_elem? olds k ≡ some was) × P was t)
+    → (k : ℕ) (t : NodeSeat) → k < i + 1 → get_elem? (set ss i r) k ≡ some t
+    → (was : NodeSeat) × (get_elem? olds k ≡ some was) × P was t
+each-done P olds ss i s r at new done k t less h = ⊎_elim
+    (λ (y : (k ≡ i) × (r ≡ t)). (s, ap (get_elem? olds) y.0 ∙ at, subst (P s) y.1 new))
+    (λ (y : (k ≢ i) × (get_elem? ss k ≡ some t)). done k t (smaller k i less y.0) y.1)
+    (at_set ss i k r t h)
+  where
+    smaller : (k i : ℕ) → k < i + 1 → k ≢ i → k < i
+    smaller k i less n = omega arith
+
+-- the others are left as they were
+pub each-left : (P : NodeSeat → NodeSeat → Type 0) (olds ss : List NodeSeat) (i : ℕ) (r : NodeSeat)
+    → ((k : ℕ) (t : NodeSeat) → i ≤ k → get_elem? ss k ≡ some t
+    → (was : NodeSeat) × (get_elem? olds k ≡ some was) × P was t)
+    → (k : ℕ) (t : NodeSeat) → i + 1 ≤ k → get_elem? (set ss i r) k ≡ some t
+    → (was : NodeSeat) × (get_elem? olds k ≡ some was) × P was t
+each-left P olds ss i r left k t less h = ⊎_elim
+    (λ (y : (k ≡ i) × (r ≡ t)). let z = y.0 in absurd (omega arith))
+    (λ (y : (k ≢ i) × (get_elem? ss k ≡ some t)). left k t (omega arith) y.1) (at_set ss i k r t h)
+
+-- one more of a list is taken
+pub taken-next : {A : Type 0} (l now next : List A) (i : ℕ) (a : A) → now ≡ take i l
+    → next ≡ now ++ a ∷ [] → get_elem? l i ≡ some a → next ≡ take (i + 1) l
+taken-next l now next i a is more h = more ∙ (ap (λ k. k ++ a ∷ []) is ∙ (sym (by l i a h)
+    ∙ ap (λ k. take k l) (let z : suc i ≡ i + 1 = omega arith in z)))
+  where
+    by : {A : Type 0} (l : List A) (i : ℕ) (a : A) → get_elem? l i ≡ some a
+        → take (suc i) l ≡ take i l ++ a ∷ []
+    by [] i a h = absurd (some-ne-none a (sym h))
+    by (x ∷ xs) zero a h = ap (λ y. y ∷ []) (some-injective x a h)
+    by (x ∷ xs) (suc i) a h = ap (λ l. x ∷ l) (by xs i a h)
+
+pub next-view : (ss : List NodeSeat) (i : ℕ) (s : NodeSeat) → get_elem? ss i ≡ some s
+    → views (take (i + 1) ss) ≡ views (take i ss) ++ view s ∷ []
+next-view ss i s h = ap views (sym (taken-next ss _ _ i s refl refl h))
+    ∙ map-append view (take i ss) (s ∷ [])
+
+pub at-now : (ss : List NodeSeat) (i : ℕ) (a : NodeSeat) → i < length ss → a ≡ get_or ss i a
+    → get_elem? ss i ≡ some (get_or ss i a)
+at-now ss i a less is = subst (λ s. get_elem? ss i ≡ some s) is (at_index ss i a less is)
+
+pub below : {A : Type 0} (l : List A) (i : ℕ) (a : A) → get_elem? l i ≡ some a → i < length l
+below [] i a e = absurd (some-ne-none a (sym e))
+below (x ∷ xs) zero a e = omega arith
+below (x ∷ xs) (suc i) a e = let h = below xs i a e in omega arith
+
+there : {A : Type 0} (l : List A) (i : ℕ) → i < length l → (a : A) × (get_elem? l i ≡ some a)
+there [] i h = absurd (omega arith)
+there (x ∷ xs) zero h = (x, refl)
+there (x ∷ xs) (suc i) h = there xs i (omega arith)
+
+-- who has the views of all seats has each node
+pub all-there : (t : ExecTable) (seats : List NodeSeat) (v : View) → AreAll t seats
+    → v.nodes ≡ views seats → HasAll (key_of t).nodes v
+all-there t seats v all is n less = let c = all.0 in let s = there seats n (omega arith) in
+    (n, view s.0, ap (λ l. get_elem? l n) is ∙ at_map view seats n s.0 s.1, (all.1 n s.0 s.1).1)
+
+-- the seat whose turn it is comes first among those that are left
+pub left-views : (seats : List NodeSeat) (i : ℕ) (s : NodeSeat) → get_elem? seats i ≡ some s
+    → views (drop i seats) ≡ view s ∷ views (drop (i + 1) seats)
+left-views seats i s h = ap views (drop_at seats i s h)
+    ∙ ap (λ k. view s ∷ views (drop k seats)) (let z : suc i ≡ i + 1 = omega arith in z)
+
+-- a seat that has its node again
+pub is-back : (t : ExecTable) (was lent s : NodeSeat) (v : View) → IsSeatOf t was → IsLent was lent
+    → first_or_none v.nodes ≡ view was → s.seat.table_id ≡ lent.seat.table_id
+    → s.seat.me ≡ (joined lent.seat.me.0 (just_first v), lent.seat.me.1) → s.node ≡ lent.node
+    → s.held ≡ lent.held → IsBack t was s
+is-back t was lent s v o l first table me node held = (
+  seat-other t was s o (table ∙ l.0) nodes (node ∙ l.3)
+      (subst (HandHolds (view was)) (sym same) o.hand)
+      (ap (λ h. h.items) (held ∙ l.4) ∙ (o.places ∙ sym (ap edges_out same)))
+      (ap deque_capacity (held ∙ l.4)),
+  ap first_or_none nodes,
+  same,
+)
+  where
+    same : slots s ≡ slots was
+    same = ap (λ m. m.1) me ∙ l.2
+
+    nodes : s.seat.me.0.nodes ≡ was.seat.me.0.nodes
+    nodes = ap (λ m. m.0.nodes) me ∙ ((λ i. l.1 i ++ first i ∷ []) ∙ sym o.single)
+
+-- ---- the end
+
+-- the last words and slots, and what a seat knew, are those of one state
+pub closing : (key : Sizes) (id : ℕ) (v : View) (nodes : List NodeView) (f : Final) (ws : List ℕ)
+    (xs : List (Option Chunk)) → AtEnd (Seen (Shown key) id v) ws xs → f.words.items ≡ ws
+    → f.chunks.items ≡ xs → v.nodes ≡ nodes → IsFinal nodes f
+closing key id v nodes f ws xs e words chunks is = let r = e.1.0 in record {
+  shown = record {
+    board = r.board;
+    holds = r.holds;
+    all = words ∙ (sym e.2 ∙ r.words);
+    seen = λ i x q. ((r.seats id v e.1.1).each i x (ap (λ l. get_elem? l i) is ∙ q)).is;
+  };
+  slots = λ i home. ap (λ l. get_or l i None) chunks ∙ lies r.board.lanes xs i home
+      (sym (length-map r.board.lanes home_of) ∙ (ap length (sym r.homes) ∙ e.3))
+      (λ y q. e.4 i y (ap (λ l. get_elem? l i) r.homes ∙ q));
+}
+  where
+    lies : (ls : List Lane) (xs : List (Option Chunk)) (i : ℕ)
+        → (get_or ls i no_lane).taken ≡ false → length ls ≡ length xs
+        → ((y : Option Chunk) → get_elem? (map home_of ls) i ≡ some (some y)
+        → get_elem? xs i ≡ some y) → get_or xs i None ≡ (get_or ls i no_lane).content
+    lies [] [] i home long at = refl
+    lies [] (x ∷ xs) i home long at = absurd (omega arith)
+    lies (l ∷ ls) [] i home long at = absurd (omega arith)
+    lies (l ∷ ls) (x ∷ xs) zero home long at = some-injective x l.content
+        (at l.content (ap (λ t. some (cond t none (some l.content))) home))
+    lies (l ∷ ls) (x ∷ xs) (suc i) home long at = lies ls xs i home (omega arith) at

@@ -1,0 +1,11 @@
+use Rattle.exec_table.proofs.Imports.{ap, subst, sym, ◌∙◌, AreAll, views}
+use Rattle.exec_table.proofs.Surveying.{closing}
+use Rattle.exec_table.proofs.rule.ExecTable.shut.Goals as goal
+
+pub gather-requires-clause-seats : goal.gather-requires-clause-seats
+gather-requires-clause-seats c = subst (AreAll c.args.self) (sym c.as_mut_slice.ensures.value)
+    c.requires.nodes
+
+pub returns : goal.returns
+returns c = closing _ _ _ _ _ _ _ c.close_with.ensures.values.2 c.unload.ensures.words
+    c.unload.ensures.slots (c.gather.ensures.root.1 ∙ ap views c.as_mut_slice.ensures.value)

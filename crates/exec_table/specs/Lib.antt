@@ -1,0 +1,10 @@
+pub mod CoreNames
+pub mod Words
+pub mod Boards
+pub mod Rule
+pub mod Ready
+pub mod Plays
+pub mod Seats
+pub mod Made
+pub mod Surveys
+pub mod Closings

@@ -1,0 +1,40 @@
+-- What `make` gives, and how views are cut and joined.
+use Rattle.std.specs.Prelude.{◌≡◌, ℕ, [], ◌∷◌, length, List, Vec}
+use Rattle.std.specs.declared.alloc.Global.{Global}
+use mathlib.Core.Option.{some}
+use lib.ListN.{get_elem?}
+use Rattle.exec_table.specs.CoreNames.{Sizes}
+use Rattle.exec_table.specs.Boards.{NodeView, View, node_view}
+use Rattle.exec_table.specs.Rule.{no_view, one, start_board}
+use Rattle.exec_table.specs.Plays.{node_of}
+use Rattle.exec_table.specs.Seats.{IsRootOf, IsSeatOf, key_of, slots, view}
+use Rattle.exec_table.specs.declared.rule.ExecTable.{ExecTable}
+use Rattle.exec_table.specs.declared.rule.NodeSeat.{NodeSeat}
+use Rattle.exec_table.specs.declared.make.Made.{Made}
+
+-- the seat of the node k, as at the start
+abbrev pub IsOpen : ExecTable → ℕ → NodeSeat → Type 0
+IsOpen t k s = IsSeatOf t s × (view s ≡ node_view (start_board (key_of t)) k) × (slots s ≡ [])
+
+abbrev pub AreOpen : ExecTable → Vec NodeSeat Global → Type 0
+AreOpen t nodes = (length nodes.items ≡ (key_of t).nodes)
+    × ((k : ℕ) (s : NodeSeat) → get_elem? nodes.items k ≡ some s → IsOpen t k s)
+
+pub record IsMade (z : Sizes) (m : Made) : Type 0 where
+  pub key : key_of m.table ≡ z
+  pub nodes : AreOpen m.table m.nodes
+  pub root : IsRootOf m.table m.root
+  pub none_made : m.root.seat.me.0.made ≡ 0
+
+-- ---- views cut and joined
+
+abbrev pub rest_of : List NodeView → List NodeView
+rest_of [] = []
+rest_of (x ∷ xs) = xs
+
+-- the first node of a seat goes to another seat
+abbrev pub without_first : View → View
+without_first v = record no_view { nodes = rest_of v.nodes; made = v.made }
+
+abbrev pub just_first : View → View
+just_first v = one (node_of v)

@@ -1,0 +1,76 @@
+-- What each atomic step tells the seat that makes it.
+use Rattle.std.specs.Prelude.{◌≡◌, ℕ, ◌+◌, ◌-◌, List, [], ◌∷◌, length, Some, None, true, false}
+use Rattle.core_laws.specs.Views.{wire_ok}
+use Rattle.core_laws.specs.Steps.{may}
+use Rattle.core_laws.specs.declared.types.Step.TheVariants as step
+use Rattle.exec_table.specs.CoreNames.{Step}
+use Rattle.exec_table.specs.Words.{first_word, port_place, wire_place, wire_of}
+use Rattle.exec_table.specs.Boards.{Board, Holds, NodeView, View, board_after}
+use Rattle.exec_table.specs.declared.types.Stage.TheVariants.{Begun}
+use Rattle.exec_table.specs.Rule.{Sat, Stp, aiming, no_view}
+use Rattle.exec_table.specs.Ready.{Did, end_of_view}
+
+abbrev pub no_node_view : NodeView
+no_node_view = record {
+  sizes = record { nodes = 0; wires = []; reserves = []; workers = 0 };
+  number = 0;
+  state = record { word = 0; held = false; tokens = 0; seen = []; unlooked = []; owes = [] };
+  stage = Begun;
+  ends = [];
+}
+
+abbrev pub first_or_none : List NodeView → NodeView
+first_or_none [] = no_node_view
+first_or_none (x ∷ xs) = x
+
+-- the node of a seat that has one
+abbrev pub node_of : View → NodeView
+node_of v = first_or_none v.nodes
+
+-- the step of the seat's node that the atomic step is
+abbrev pub does : (Stp → NodeView → Step) → Stp → Sat → ℕ → Sat → Type 0
+does s st m found m' = Did (node_of m.0) (s st (node_of m.0)) m.1 found m'
+
+-- the edge whose port word it is
+abbrev pub port_edge : Stp → NodeView → ℕ
+port_edge st x = st.word - port_place x.sizes 0
+
+-- the edge whose wire word it is
+abbrev pub wire_edge : Stp → NodeView → ℕ
+wire_edge st x = st.word - wire_place x.sizes 0
+
+abbrev pub push_step : Stp → NodeView → Step
+push_step st x = step.Push (port_edge st x) (length (end_of_view x (port_edge st x)).chunks)
+
+abbrev pub wire_step : Stp → NodeView → Step
+wire_step st x = step.Wire (wire_edge st x) (wire_of st.second)
+
+-- the peer is told of the edge whose wire the seat looked up last
+abbrev pub marks : Stp → Sat → ℕ → Sat → Type 0
+marks st m found m' = Did (node_of m.0) (step.Mark m.0.aim) m.1 found m'
+
+-- a look-up of an edge's wire: no step of the core
+abbrev pub aims : Stp → Sat → ℕ → Sat → Type 0
+aims st m found m' = let x = node_of m.0 in let e = wire_edge st x in
+    (m' ≡ (aiming e x, m.1)) × ((end_of_view x e).wire ≡ Some (wire_of found))
+    × (wire_ok x.sizes.nodes (wire_of found) ≡ true)
+
+-- ---- workers
+
+-- a step of the worker k: the state before it, and the word 0 that it found
+pub record Worked (k : ℕ) (s : Step) (found : ℕ) : Type 0 where
+  pub before : Board
+  pub holds : Holds before
+  pub may : may before.core (before.core.sizes.nodes + k) s ≡ true
+  pub kept : Holds (board_after before (before.core.sizes.nodes + k) s None)
+  pub word : found ≡ first_word before.core
+
+abbrev pub works : Step → Stp → Sat → ℕ → Sat → Type 0
+works s st m found m' = (m' ≡ m) × ((k : ℕ) → m.0.worker ≡ Some k → Worked k s found)
+
+-- the root's view with one more worker made, and the view of that worker
+abbrev pub with_worker : View → View
+with_worker v = record no_view { made = v.made + 1 }
+
+abbrev pub next_worker : View → View
+next_worker v = record no_view { worker = Some v.made }

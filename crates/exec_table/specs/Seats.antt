@@ -1,0 +1,170 @@
+-- What clauses say of a table, its seats and their steps.
+use Rattle.std.specs.Prelude.{◌≡◌, ◌⊎◌, ℕ, ◌+◌, ◌<◌, ◌≤◌, ◌==◌, ◌^◌, ◌%◌, ◌/◌, cond, Bool, true, false, is_some, nat_le, List, [], ◌∷◌, length, map, Option, Some, None, Result, Ok, Err}
+use Rattle.std.specs.VecDeque.{deque_capacity}
+use Rattle.chunk_data.specs.Names.{Table as Chunk}
+use Rattle.core_laws.specs.Views.{has, knows, once, is_set}
+use Rattle.core_laws.specs.Steps.{Answer, may, answer}
+use Rattle.core_laws.specs.Steps as core
+use Rattle.core_laws.specs.declared.types.Step.TheVariants as step
+use Rattle.exec_table.specs.CoreNames.{Sizes, Step, Wire}
+use Rattle.exec_table.specs.Words.{edge_count}
+use Rattle.exec_table.specs.Boards.{Board, Holds, NodeView, node_view, board_after}
+use Rattle.exec_table.specs.Ready.{end_of_view}
+use Rattle.exec_table.specs.Plays.{node_of}
+use Rattle.exec_table.specs.declared.rule.ExecTable.{ExecTable}
+use Rattle.exec_table.specs.Rule.{no_view}
+use Rattle.exec_table.specs.declared.rule.NodeSeat.{NodeSeat}
+use Rattle.exec_table.specs.declared.rule.RootSeat.{RootSeat}
+use Rattle.exec_table.specs.declared.rule.WorkerSeat.{WorkerSeat}
+use Rattle.exec_table.specs.declared.types.Marked.{Marked}
+use Rattle.exec_table.specs.declared.types.Marked.TheVariants.{Charged, AlreadyDue, Over}
+use Rattle.exec_table.specs.declared.types.Updated.{Updated}
+use Rattle.exec_table.specs.declared.types.Rested.{Rested}
+use Rattle.exec_table.specs.declared.types.Rested.TheVariants.{Idle, UpdatedAgain}
+use Rattle.exec_table.specs.declared.types.Seen.{Seen}
+use Rattle.exec_table.specs.declared.types.Seen.TheVariants.{Pending, Zero, Stopped}
+
+-- ---- slots that are out with a seat
+
+abbrev pub Slots : Type 0
+Slots = List (ℕ × Option Chunk)
+
+abbrev pub edges_out : Slots → List ℕ
+edges_out slots = map (λ (y : ℕ × Option Chunk). y.0) slots
+
+-- what the slot of the edge e has, if it is out with the seat
+abbrev pub slot_in : ℕ → Slots → Option (Option Chunk)
+slot_in e [] = None
+slot_in e (y ∷ ys) = cond (y.0 == e) (Some y.1) (slot_in e ys)
+
+-- the slots that are out with a seat are those whose turn it has; each has what lay in the port, or
+-- was emptied
+pub record HandHolds (x : NodeView) (slots : Slots) : Type 0 where
+  pub once : once (edges_out slots) ≡ true
+  pub turns : (e : ℕ) → has e (edges_out slots) ≡ is_some (end_of_view x e).turn
+  pub lies : (e : ℕ) (v : Option Chunk) → slot_in e slots ≡ Some v
+      → (v ≡ None) ⊎ ((end_of_view x e).turn ≡ Some v)
+
+-- ---- seats
+
+-- what a seat knows of its node
+abbrev pub view : NodeSeat → NodeView
+view s = node_of s.seat.me.0
+
+abbrev pub slots : NodeSeat → Slots
+slots s = s.seat.me.1
+
+-- the slot of the edge e, if it is out with the seat
+abbrev pub slot_of : NodeSeat → ℕ → Option (Option Chunk)
+slot_of s e = slot_in e (slots s)
+
+abbrev pub holds_chunk : Option (Option Chunk) → Bool
+holds_chunk (Some (Some x)) = true
+holds_chunk x = false
+
+-- a push at the edge e: the chunk has the number of those that were pushed before it
+abbrev pub push_of : NodeSeat → ℕ → Step
+push_of s e = step.Push e (length (end_of_view (view s) e).chunks)
+
+abbrev pub key_of : ExecTable → Sizes
+key_of t = t.table.shared.key
+
+-- the data of the seat name the slots that are out with it, each once
+pub record IsInHand (s : NodeSeat) : Type 0 where
+  pub places : s.held.items ≡ edges_out (slots s)
+  pub once : once s.held.items ≡ true
+
+pub record IsSeatOf (t : ExecTable) (s : NodeSeat) : Type 0 where
+  pub table : s.seat.table_id ≡ t.table.shared.table_id
+  pub single : s.seat.me.0.nodes ≡ view s ∷ []
+  pub sizes : (view s).sizes ≡ key_of t
+  pub number : s.node ≡ (view s).number
+  pub inside : (view s).number < (key_of t).nodes
+  pub ends : length (view s).ends ≡ edge_count (key_of t)
+  pub edges : (e : ℕ) → knows e (view s).state.seen ≡ true → e < edge_count (key_of t)
+  pub owes : (e : ℕ) → has e (view s).state.owes ≡ true → knows e (view s).state.seen ≡ true
+  pub hand : HandHolds (view s) (slots s)
+  pub places : s.held.items ≡ edges_out (slots s)
+  pub room : edge_count (key_of t) ≤ deque_capacity s.held
+
+-- ---- steps
+
+-- a slot that is out is as it was, or has what lies in the port
+abbrev pub Carried : NodeSeat → NodeSeat → Type 0
+Carried old new = (d : ℕ) (v : Option Chunk) → slot_of new d ≡ Some v
+    → (slot_of old d ≡ Some v) ⊎ ((end_of_view (view new) d).turn ≡ Some v)
+
+-- the call made the step s of the core, which put x into a slot, and answered a: there was a state
+-- that met the laws, in which the seat's view said what was so, as the new view says it after it
+pub record Makes (t : ExecTable) (old new : NodeSeat) (s : Step) (x : Option Chunk)
+    (a : Answer) : Type 0 where
+  pub seat : IsSeatOf t new
+  pub before : Board
+  pub holds : Holds before
+  pub was : node_view before (view old).number ≡ view old
+  pub may : may before.core (view old).number s ≡ true
+  pub kept : Holds (board_after before (view old).number s x)
+  pub now : node_view (board_after before (view old).number s x) (view old).number ≡ view new
+  pub says : answer before.core (view old).number s ≡ a
+  pub carried : Carried old new
+
+-- ---- answers
+
+abbrev pub marked_of : Marked → core.Marked
+marked_of Charged = core.charged
+marked_of AlreadyDue = core.already_due
+marked_of Over = core.over
+
+-- the ports that a node's word names
+abbrev pub updated_of : ℕ → Updated
+updated_of w = record {
+  inputs = w % 2 ^ 32;
+  outputs = w / 2 ^ 32 % 2 ^ 16;
+  first = is_set w 60;
+}
+
+-- the step tells the word whose ports are these
+pub record MakesUpdated (t : ExecTable) (old new : NodeSeat) (s : Step)
+    (u : Updated) : Type 0 where
+  pub word : ℕ
+  pub ports : u ≡ updated_of word
+  pub makes : Makes t old new s None (core.updated word)
+
+abbrev pub is_idle : Rested → Bool
+is_idle Idle = true
+is_idle UpdatedAgain = false
+
+abbrev pub wire_found : {A : Type 0} → Result A Wire → Option Wire
+wire_found (Ok x) = None
+wire_found (Err w) = Some w
+
+abbrev pub seen_of : Seen → core.Seen
+seen_of (Pending n) = core.pending n
+seen_of Zero = core.quiet
+seen_of Stopped = core.stopped
+
+-- ---- workers
+
+-- the root has no node, and is no worker
+pub record IsRootOf (t : ExecTable) (s : RootSeat) : Type 0 where
+  pub table : s.seat.table_id ≡ t.table.shared.table_id
+  pub view : s.seat.me ≡ (record no_view { made = s.seat.me.0.made }, [])
+
+pub record IsWorkerOf (t : ExecTable) (s : WorkerSeat) : Type 0 where
+  pub table : s.seat.table_id ≡ t.table.shared.table_id
+  pub number : ℕ
+  pub view : s.seat.me ≡ (record no_view { worker = Some number }, [])
+
+-- the step s of the worker, from a state that met the laws, which answered a
+pub record WorkerDoes (s : WorkerSeat) (p : Step) (a : Answer) : Type 0 where
+  pub number : ℕ
+  pub is : s.seat.me.0.worker ≡ Some number
+  pub before : Board
+  pub holds : Holds before
+  pub may : may before.core (before.core.sizes.nodes + number) p ≡ true
+  pub kept : Holds (board_after before (before.core.sizes.nodes + number) p None)
+  pub says : answer before.core (before.core.sizes.nodes + number) p ≡ a
+
+-- what word 0 tells
+abbrev pub seen_in : ℕ → core.Seen
+seen_in w = cond (nat_le (2 ^ 63) w) core.stopped (cond (w == 0) core.quiet (core.pending w))

@@ -1,0 +1,101 @@
+//! All words at one moment.
+ghost use Rattle.std.specs.Prelude.{◌≡◌, ◌∷◌, [], List, length};
+ghost use Rattle.exec_table.specs.Boards.{NodeView};
+ghost use Rattle.exec_table.specs.Made.{just_first, without_first};
+ghost use Rattle.exec_table.specs.Seats.{IsSeatOf, key_of};
+ghost use Rattle.exec_table.specs.Surveys.{AreAll, Each, HasAll, IsBack, IsLent, Surveyed, joined, noted_word, views};
+
+use crate::plays::{Enter, Gather, Note, Peel, Survey};
+use crate::rule::{ExecTable, NodeSeat};
+use crate::types::View;
+use atomic_table::Seat;
+use chunk_data::Chunk;
+
+fn noted(i: usize, word: u64) -> u64
+    ensures { result ≡ noted_word i word }
+{
+    if i == 0 { word % (1 << 63) } else { word }
+}
+
+type AnySeat = Seat<Option<Chunk>, View>;
+
+impl ExecTable {
+    // Takes the seat's node to the root.
+    fn lend(&self, root: &mut AnySeat, seat: &mut NodeSeat)
+        requires root { root.old.table_id ≡ self.now.table.shared.table_id }
+        requires seat { IsSeatOf self.now seat.old }
+        ensures root { (root.new.table_id ≡ root.old.table_id)
+            × (root.new.me ≡ (
+              joined root.old.me.0
+                  (just_first seat.old.seat.me.0),
+              root.old.me.1,
+            )) }
+        ensures seat { IsLent seat.old seat.new }
+    {
+        let piece = self.table.shared.split_seat::<Peel>(&mut seat.seat);
+        self.table.shared.join_seat::<Gather>(root, piece);
+    }
+
+    // Gives the root's first node back.
+    fn give_back(&self, root: &mut AnySeat, seat: &mut NodeSeat)
+        requires root { root.old.table_id ≡ self.now.table.shared.table_id }
+        requires seat { seat.old.seat.table_id ≡ self.now.table.shared.table_id }
+        requires node { (x : NodeView) × (xs : List NodeView) × (root.old.me.0.nodes ≡ x ∷ xs) }
+        ensures root { (root.new.table_id ≡ root.old.table_id)
+            × (root.new.me ≡ (without_first root.old.me.0, root.old.me.1)) }
+        ensures seat { (seat.new.seat.table_id ≡ seat.old.seat.table_id)
+            × (seat.new.seat.me
+            ≡ (joined seat.old.seat.me.0 (just_first root.old.me.0), seat.old.seat.me.1))
+            × (seat.new.node ≡ seat.old.node) × (seat.new.held ≡ seat.old.held) }
+    {
+        let piece = self.table.shared.split_seat::<Peel>(root);
+        self.table.shared.join_seat::<Gather>(&mut seat.seat, piece);
+    }
+
+    // Reads each word, but for the stop bit. While the root has every node, none of them changes.
+    fn note(&self, root: &mut AnySeat, words: &mut [u64])
+        requires root { root.old.table_id ≡ self.now.table.shared.table_id }
+        requires all { HasAll (key_of self.now).nodes root.old.me.0 }
+        requires none { root.old.me.0.noted ≡ [] }
+        requires words { length words.old ≡ self.now.table.shared.table_id.words }
+        ensures root { (root.new.table_id ≡ root.old.table_id)
+            × (root.new.me.0.nodes ≡ root.old.me.0.nodes) }
+        ensures shown { Surveyed words.new root.old.me.0.nodes }
+    {
+        for i in 0..words.len() {
+            words[i] = noted(i, self.table.shared.load::<Note>(root, i));
+        }
+        self.table.shared.load::<Survey>(root, 0);
+    }
+
+    // Takes all nodes to the root.
+    pub(crate) fn gather(&self, root: &mut AnySeat, seats: &mut [NodeSeat])
+        requires root { (root.old.table_id ≡ self.now.table.shared.table_id)
+            × (root.old.me.0.nodes ≡ []) × (root.old.me.0.noted ≡ []) }
+        requires seats { AreAll self.now seats.old }
+        ensures root { (root.new.table_id ≡ root.old.table_id)
+            × (root.new.me.0.nodes ≡ views seats.old) × (root.new.me.0.noted ≡ []) }
+        ensures seats { Each IsLent seats.old seats.new }
+        ensures many { length seats.new ≡ length seats.old }
+    {
+        for i in 0..seats.len() {
+            self.lend(root, &mut seats[i]);
+        }
+    }
+
+    /// Reads each word at a moment at which no node can change one: the words, in which the stop
+    /// bit is left unset, and what the seats know show one state that meets the laws.
+    pub fn survey(&self, seats: &mut [NodeSeat], words: &mut [u64])
+        requires seats { AreAll self.now seats.old }
+        requires words { length words.old ≡ self.now.table.shared.table_id.words }
+        ensures seats { Each (IsBack self.now) seats.old seats.new }
+        ensures shown { Surveyed words.new (views seats.old) }
+    {
+        let mut root = self.table.shared.load_new_seat::<Enter>(0).1;
+        self.gather(&mut root, seats);
+        self.note(&mut root, words);
+        for i in 0..seats.len() {
+            self.give_back(&mut root, &mut seats[i]);
+        }
+    }
+}

@@ -1,0 +1,62 @@
+//! Workers: their seats, and what they see and do of the whole run.
+ghost use Rattle.std.specs.Prelude.{◌≡◌, ◌+◌, ◌<◌, [], Some};
+ghost use Rattle.core_laws.specs.Steps.{seen as tells_seen, nothing};
+ghost use Rattle.core_laws.specs.declared.types.Step.TheVariants as step;
+ghost use Rattle.exec_table.specs.Rule.{no_view};
+ghost use Rattle.exec_table.specs.Seats.{IsRootOf, IsWorkerOf, WorkerDoes, key_of, seen_in, seen_of};
+
+use crate::plays::{MakeWorker, See, Stop};
+use crate::rule::{ExecTable, RootSeat, WorkerSeat};
+use crate::types::Seen;
+
+const STOPPED: u64 = 1 << 63;
+
+fn seen(word: u64) -> Seen
+    ensures { seen_of result ≡ seen_in word }
+{
+    if word >= STOPPED {
+        Seen::Stopped
+    } else if word == 0 {
+        Seen::Zero
+    } else {
+        Seen::Pending(word)
+    }
+}
+
+impl ExecTable {
+    /// The seat of the next worker.
+    pub fn worker(&self, root: &mut RootSeat) -> WorkerSeat
+        requires root { IsRootOf self.now root.old }
+        requires spare { root.old.seat.me.0.made < (key_of self.now).workers }
+        ensures root { IsRootOf self.now root.new }
+        ensures made { root.new.seat.me.0.made ≡ root.old.seat.me.0.made + 1 }
+        ensures worker { IsWorkerOf self.now result }
+        ensures number { result.seat.me.0.worker ≡ Some root.old.seat.me.0.made }
+    {
+        WorkerSeat {
+            seat: self.table.shared.split_seat::<MakeWorker>(&mut root.seat),
+        }
+    }
+
+    /// Ends the run: every worker sees it from now on.
+    pub fn stop(&self, seat: &mut WorkerSeat)
+        requires { IsWorkerOf self.now seat.old }
+        ensures same { seat.new.seat.me ≡ seat.old.seat.me }
+        ensures worker { IsWorkerOf self.now seat.new }
+        ensures told { WorkerDoes seat.old step.Stop nothing }
+    {
+        self.table
+            .shared
+            .fetch_or::<Stop>(&mut seat.seat, 0, STOPPED);
+    }
+
+    /// Whether something is pending, and whether the run was stopped.
+    pub fn see(&self, seat: &mut WorkerSeat) -> Seen
+        requires { IsWorkerOf self.now seat.old }
+        ensures same { seat.new.seat.me ≡ seat.old.seat.me }
+        ensures worker { IsWorkerOf self.now seat.new }
+        ensures told { WorkerDoes seat.old step.See (tells_seen (seen_of result)) }
+    {
+        seen(self.table.shared.load::<See>(&mut seat.seat, 0))
+    }
+}
