@@ -2,9 +2,7 @@ mod Imports
 mod Readiness
 mod Wording
 mod Moving
-mod LaneSteps
 mod Stepping
-mod Growing
 mod Kept
 mod Tied
 mod Showing
@@ -13,5 +11,7 @@ mod Seating
 mod SlotLists
 mod Handling
 mod Working
+pub mod Known
 mod Starting
 mod Surveying
+mod Cited

@@ -1,5 +1,5 @@
 -- Lists of slots as they turn, and how long a list without repetition can be.
-use Rattle.exec_table.proofs.Imports.{Chunk, List, Option, Some, [], and_parts, ap, arith, cond, drop, drop_more, eqb, false, filter, get_or, has, has-filter, length, map-append, not, once, once-filter, once-last, refl, subst, suc, sym, take, take_more, true, turned, zero, ℕ, ◌&&◌, ◌++◌, ◌+◌, ◌<◌, ◌∙◌, ◌∷◌, ◌≡◌, ◌≤◌, cases_eq, inl, inr, Slots, edges_out, slot_in}
+use Rattle.exec_table.proofs.Imports.{Chunk, List, Option, Some, [], and_parts, ap, arith, cond, drop, drop_more, eqb, false, filter, get_or, has, has-filter, length, map-append, not, once, once-filter, once-last, refl, suc, sym, take, take_more, true, turned, zero, ℕ, ◌&&◌, ◌++◌, ◌+◌, ◌<◌, ◌∙◌, ◌∷◌, ◌≡◌, ◌≤◌, cases_eq, Slots, edges_out, slot_in}
 
 -- ---- how long a list is
 
@@ -11,11 +11,7 @@ without-none n (x ∷ xs) h = grind (arith, without-none n xs)
 without-one : (n : ℕ) (l : List ℕ) → once l ≡ true
     → length l ≤ length (filter (λ d. not (eqb d n)) l) + 1
 without-one n [] h = omega arith
-without-one n (x ∷ xs) h = elim (cases_eq x n) [
-  | inl e ↦ let z : has n xs ≡ false = subst (λ k. has k xs ≡ false) e (grind arith) in
-      grind (arith, without-none n xs, z, e)
-  | inr ne ↦ grind (arith, without-one n xs, ne)
-]
+without-one n (x ∷ xs) h = grind (arith, cases_eq, without-none, without-one n xs)
 
 -- numbers below n, each once, are at most n
 pub few-below : (n : ℕ) (l : List ℕ) → once l ≡ true → ((e : ℕ) → has e l ≡ true → e < n)
@@ -34,9 +30,7 @@ few-below (suc n) l h less = let t = λ (d : ℕ). not (eqb d n) in
 pub turned-edges : (l : Slots) (n : ℕ) (ns : List ℕ) → edges_out l ≡ n ∷ ns
     → edges_out (turned l) ≡ ns ++ n ∷ []
 turned-edges [] n ns h = absurd (let z : [] ≡ n ∷ ns = h in cc)
-turned-edges (y ∷ ys) n ns h = map-append (λ (y : ℕ × Option Chunk). y.0) ys (y ∷ [])
-    ∙ (let p : y.0 ≡ n = ap (λ l. get_or l 0 0) h in let q : edges_out ys ≡ ns = ap (drop 1) h in
-    λ i. q i ++ p i ∷ [])
+turned-edges (y ∷ ys) n ns h = grind (arith, map-append)
 
 pub turned-once : (n : ℕ) (ns : List ℕ) → once (n ∷ ns) ≡ true → once (ns ++ n ∷ []) ≡ true
 turned-once n ns h = once-last n ns (grind arith) (and_parts (not (has n ns)) _ h).1

@@ -1,10 +1,10 @@
 -- Views joined and words noted keep the rule.
-use Rattle.exec_table.proofs.Imports.{Allows, Board, Bool, Distinct, Fits, Holds, Joins, List, NodeView, Sat, Shown, Sizes, View, [], ap, arith, at_index, at_set, deque_capacity, drop, cond, edge_count, eqb, eq-eqb, false, get_elem?, get_or, inl, inr, keeps, length, ne_eqb, no_view, refl, set, some, some-injective, some-ne-none, subst, suc, sym, take, true, unstopped, words_of, zero, length-map, map-append, ℕ, ⊎_elim, ◌++◌, ◌+◌, ◌%◌, ◌<◌, ◌^◌, ◌∙◌, ◌∷◌, ◌≡◌, ◌≢◌, ◌≤◌, ◌⊎◌, Enters, IsFinal, just_first, first_or_none, HandHolds, IsSeatOf, edges_out, key_of, slots, view, ExecTable, AreAll, HasAll, IsBack, IsLent, Surveyed, joined, noted_word, noting, views, NodeSeat, at_map, drop_at, ext_get_or, Chunk, Lane, None, Option, Seen, home_of, map, no_lane, none}
+use Rattle.exec_table.proofs.Imports.{Allows, Board, Distinct, Fits, Holds, Joins, List, NodeView, Sat, Shown, Sizes, View, [], ap, arith, at_index, at_set, drop, cond, edge_count, eqb, false, get_elem?, get_or, inl, inr, keeps, length, no_view, refl, set, some, some-injective, some-ne-none, subst, suc, sym, take, unstopped, words_of, zero, length-map, map-append, ℕ, ⊎_elim, ◌++◌, ◌+◌, ◌<◌, ◌∙◌, ◌∷◌, ◌≡◌, ◌≢◌, ◌≤◌, ◌⊎◌, Enters, IsFinal, just_first, first_or_none, IsSeatOf, key_of, slots, view, ExecTable, AreAll, HasAll, Each, IsBack, IsLent, Surveyed, joined, noted_word, noting, views, NodeSeat, at_map, drop_at, ext_get_or, Chunk, Lane, None, Option, Seen, home_of, map, no_lane, none}
 use Rattle.atomic_table.specs.Table.{Final as AtEnd}
 use Rattle.exec_table.specs.declared.shut.Final.{Final}
-use Rattle.exec_table.proofs.Growing.{pending-small}
-use Rattle.exec_table.proofs.Seating.{reseen, seat-other}
-use Rattle.exec_table.proofs.Showing.{fits-none, fits-set, regrouped}
+use Rattle.exec_table.proofs.Wording.{pending-small}
+use Rattle.exec_table.proofs.Seating.{reseen}
+use Rattle.exec_table.proofs.Showing.{fits-none, fits-owned, fits-set, regrouped, stopped_at, stopped-holds}
 use Rattle.exec_table.proofs.Starting.{one-more, words-count}
 
 -- ---- joined views
@@ -34,37 +34,31 @@ joins key id other v w st r mine apart theirs = regrouped r refl refl owner
     (λ k p. absurd (cc))) (λ j u ne q. fits-set _ _ _ (λ j u. j ≢ other → Fits r.board owner j u)
     (λ _. both) (λ j u a q b. others j u b a q) j u q ne))
   where
-    was : Fits r.board r.owner id v
-    was = r.seats id v mine
-
-    it : Fits r.board r.owner other w
-    it = r.seats other w (⊎_elim (λ (t : (other ≡ id) × (joined v w ≡ w)). absurd (apart t.0))
-        (λ (t : (other ≢ id) × (get_elem? st.views other ≡ some w)). t.1)
-        (at_set st.views id other (joined v w) w theirs))
-
     owner : ℕ → ℕ
     owner n = cond (eqb (r.owner n) other) id (r.owner n)
 
-    mine_still : (n : ℕ) → r.owner n ≡ id → owner n ≡ id
-    mine_still n q = ap (λ t. cond t id (r.owner n)) (ne_eqb (r.owner n) other
-        (λ e. apart (sym e ∙ q))) ∙ q
-
-    mine_now : (n : ℕ) → r.owner n ≡ other → owner n ≡ id
-    mine_now n q = ap (λ t. cond t id (r.owner n)) (eq-eqb (r.owner n) other q)
-
     same : (n j : ℕ) → j ≢ other → r.owner n ≡ j → owner n ≡ j
-    same n j ne q = ap (λ t. cond t id (r.owner n)) (ne_eqb (r.owner n) other
-        (λ e. ne (sym q ∙ e))) ∙ q
+    same n j ne q = grind (arith, q, ne)
+
+    mine_was : Fits r.board r.owner id v
+    mine_was = r.seats id v mine
+
+    was : Fits r.board owner id v
+    was = fits-owned r.board r.owner owner id id v mine_was
+        (λ n. same n id (λ e. apart (sym e)))
+
+    theirs_was : Fits r.board r.owner other w
+    theirs_was = r.seats other w (grind (arith, at_set st.views id other (joined v w) w theirs))
+
+    it : Fits r.board owner id w
+    it = fits-owned r.board r.owner owner other id w theirs_was
+        (λ n q. grind (arith, q))
 
     both : Fits r.board owner id (joined v w)
     both = record {
-      each = λ i x q. ⊎_elim (λ (t : get_elem? v.nodes i ≡ some x). let z = was.each i x t in
-          record { is = z.is; inside = z.inside; owned = mine_still x.number z.owned })
-          (λ (t : (j : ℕ) × (get_elem? w.nodes j ≡ some x)). let z = it.each t.0 x t.1 in
-          record { is = z.is; inside = z.inside; owned = mine_now x.number z.owned })
-          (at-append v.nodes w.nodes i x q);
+      each = λ i x q. grind (arith, was.each i x, it.each, at-append v.nodes w.nodes i x q);
       apart = apart-append v.nodes w.nodes was.apart it.apart (λ i j x y p q e.
-          apart (sym (it.each j y q).owned ∙ (ap r.owner (sym e) ∙ (was.each i x p).owned)));
+          grind (arith, theirs_was.each j y q, mine_was.each i x p));
       noted = λ i n q. absurd (some-ne-none n (sym q));
       made = was.made;
       worker = was.worker;
@@ -72,28 +66,15 @@ joins key id other v w st r mine apart theirs = regrouped r refl refl owner
 
     others : (j : ℕ) (u : View) → j ≢ other → j ≢ id → get_elem? st.views j ≡ some u
         → Fits r.board owner j u
-    others j u a b q = let t = r.seats j u q in record {
-      each = λ i x p. let z = t.each i x p in
-          record { is = z.is; inside = z.inside; owned = same x.number j a z.owned };
-      apart = t.apart;
-      noted = λ i n p. let z = t.noted i n p in
-          record { is = z.is; all = λ k l. same k j a (z.all k l) };
-      made = t.made;
-      worker = t.worker;
-    }
+    others j u a b q = fits-owned r.board r.owner owner j j u (r.seats j u q) (λ n. same n j a)
 
 -- ---- noted words
 
 -- a word without the stop bit
 noted-is : (b : Board) (i : ℕ) → Holds b → get_or (words_of (unstopped b.core)) i 0
     ≡ noted_word i (get_or (words_of b.core) i 0)
-noted-is b zero h = by b.core.pending b.core.stopped (pending-small b h)
-  where
-    by : (p : ℕ) (t : Bool) → p < 2 ^ 62 → p + 0 ≡ (p + cond t (2 ^ 63) 0) % 2 ^ 63
-    by p true l = omega arith
-    by p false l = omega arith
-noted-is b (suc i) h = let w = get_or (words_of b.core) (suc i) 0 in
-    sym (ap (λ t. cond t (w % 2 ^ 63) w) (ne_eqb (suc i) 0 (λ z. omega arith)))
+noted-is b zero h = grind (arith, pending-small)
+noted-is b (suc i) h = grind arith
 
 -- a seat that has every node notes one more word
 pub note-allowed : (key : Sizes) (slots id i : ℕ) (m : Sat) → HasAll key.nodes m.0
@@ -129,20 +110,6 @@ read-at [] i d h = absurd (omega arith)
 read-at (x ∷ xs) zero d h = refl
 read-at (x ∷ xs) (suc i) d h = read-at xs i d (omega arith)
 
-unstopped-holds : (b : Board) → Holds b → Holds (record b { core = unstopped b.core })
-unstopped-holds b h = let l = h.laws in record {
-  laws = record {
-    fit = l.fit;
-    edges = record { count = l.edges.count; each = l.edges.each };
-    nodes = record { number = l.nodes.number; each = l.nodes.each; told = l.nodes.told };
-    tokens = record { pending = l.tokens.pending; few = l.tokens.few };
-  };
-  lane_count = h.lane_count;
-  stage_count = h.stage_count;
-  lanes = h.lanes;
-  stages = h.stages;
-}
-
 -- once it has noted every word, one more load tells that they are the words of one state
 pub survey-allowed : (key : Sizes) (slots id i : ℕ) (m : Sat)
     → length m.0.noted ≡ (key.nodes + (edge_count key + edge_count key)) + 1
@@ -155,9 +122,15 @@ survey-allowed key slots id i m full st r deep mine fit = (
   (
     refl,
     record {
-      board = record r.board { core = unstopped r.board.core };
-      holds = unstopped-holds r.board r.holds;
-      all = ext_get_or 0 m.0.noted (words_of (unstopped r.board.core)) (full ∙ sym long)
+      board = stopped_at false r.board;
+      holds = stopped-holds false r.board r.holds;
+      all = ext_get_or 0 m.0.noted (words_of (unstopped r.board.core))
+          (grind (
+            arith,
+            words-count (unstopped r.board.core),
+            r.holds.laws.nodes.number,
+            r.holds.laws.edges.count,
+          ))
           (λ k l. sym (was.noted k (get_or m.0.noted k 0) (read-at m.0.noted k 0 l)).is);
       seen = λ k x q. (was.each k x q).is;
     },
@@ -166,12 +139,6 @@ survey-allowed key slots id i m full st r deep mine fit = (
   where
     was : Fits r.board r.owner id m.0
     was = r.seats id m.0 mine
-
-    long : length (words_of (unstopped r.board.core))
-        ≡ (key.nodes + (edge_count key + edge_count key)) + 1
-    long = words-count (unstopped r.board.core) ∙ (let n = r.holds.laws.nodes.number in
-        let e = r.holds.laws.edges.count in (λ j. (n j + (e j + e j)) + 1)
-        ∙ ap (λ s. (s.nodes + (edge_count s + edge_count s)) + 1) r.sizes)
 
 -- a new seat knows nothing
 pub enter-allowed : (key : Sizes) (slots i : ℕ) → Enters (Shown key) slots i (λ n w. w ≡ no_view)
@@ -187,33 +154,32 @@ enter-allowed key slots i st r deep fit = (
 -- ---- seats one by one
 
 pub has-still : (count : ℕ) (v w : View) → w.nodes ≡ v.nodes → HasAll count v → HasAll count w
-has-still count v w same all n less = let x = all n less in
-    (x.0, x.1, ap (λ l. get_elem? l x.0) same ∙ x.2, x.3)
+has-still count v w same all n less = grind (arith, all n less)
 
--- one more seat was changed as P says
-pub each-done : (P : NodeSeat → NodeSeat → Type 0) (olds ss : List NodeSeat) (i : ℕ)
-    (s r : NodeSeat) → get_elem? olds i ≡ some s → P s r
-    → ((k : ℕ) (t : NodeSeat) → k < i → get_elem? ss k ≡ some t
-    → (was : NodeSeat) × (get_elem? olds k ≡ some was) × P was t)
-    → (k : ℕ) (t : NodeSeat) → k < i + 1 → get_elem? (set ss i r) k ≡ some t
-    → (was : NodeSeat) × (get_elem? olds k ≡ some was) × P was t
-each-done P olds ss i s r at new done k t less h = ⊎_elim
-    (λ (y : (k ≡ i) × (r ≡ t)). (s, ap (get_elem? olds) y.0 ∙ at, subst (P s) y.1 new))
-    (λ (y : (k ≢ i) × (get_elem? ss k ≡ some t)). done k t (smaller k i less y.0) y.1)
-    (at_set ss i k r t h)
-  where
-    smaller : (k i : ℕ) → k < i + 1 → k ≢ i → k < i
-    smaller k i less n = omega arith
+below : {A : Type 0} (l : List A) (i : ℕ) (a : A) → get_elem? l i ≡ some a → i < length l
+below [] i a e = absurd (some-ne-none a (sym e))
+below (x ∷ xs) zero a e = omega arith
+below (x ∷ xs) (suc i) a e = let h = below xs i a e in omega arith
 
--- the others are left as they were
-pub each-left : (P : NodeSeat → NodeSeat → Type 0) (olds ss : List NodeSeat) (i : ℕ) (r : NodeSeat)
-    → ((k : ℕ) (t : NodeSeat) → i ≤ k → get_elem? ss k ≡ some t
-    → (was : NodeSeat) × (get_elem? olds k ≡ some was) × P was t)
-    → (k : ℕ) (t : NodeSeat) → i + 1 ≤ k → get_elem? (set ss i r) k ≡ some t
-    → (was : NodeSeat) × (get_elem? olds k ≡ some was) × P was t
-each-left P olds ss i r left k t less h = ⊎_elim
-    (λ (y : (k ≡ i) × (r ≡ t)). let z = y.0 in absurd (omega arith))
-    (λ (y : (k ≢ i) × (get_elem? ss k ≡ some t)). left k t (omega arith) y.1) (at_set ss i k r t h)
+-- of seats gone through one by one the first i are as P says, and the others as Q says
+abbrev pub Between : (P Q : NodeSeat → NodeSeat → Type 0) → ℕ → List NodeSeat → List NodeSeat
+    → Type 0
+Between P Q i olds news = (k : ℕ) (s : NodeSeat) → get_elem? news k ≡ some s
+    → (was : NodeSeat) × (get_elem? olds k ≡ some was) × (k < i → P was s) × (i ≤ k → Q was s)
+
+pub each-next : (P Q : NodeSeat → NodeSeat → Type 0) (olds ss : List NodeSeat) (i : ℕ)
+    (s r : NodeSeat) → get_elem? olds i ≡ some s → P s r → Between P Q i olds ss
+    → Between P Q (i + 1) olds (set ss i r)
+each-next P Q olds ss i s r at new each k t h = ⊎_elim
+    (λ (y : (k ≡ i) × (r ≡ t)). let z = y.0 in
+    (s, ap (get_elem? olds) z ∙ at, (λ _. subst (P s) y.1 new), (λ l. absurd (omega arith))))
+    (λ (y : (k ≢ i) × (get_elem? ss k ≡ some t)). let x = each k t y.1 in let n = y.0 in
+    (x.0, x.1, (λ l. x.2 (omega arith)), (λ l. x.3 (omega arith)))) (at_set ss i k r t h)
+
+pub each-all : (P Q : NodeSeat → NodeSeat → Type 0) (olds ss : List NodeSeat) (i : ℕ)
+    → Between P Q i olds ss → length ss ≤ i → Each P olds ss
+each-all P Q olds ss i each all k s h = let x = each k s h in let l = below ss k s h in
+    (x.0, x.1, x.2 (omega arith))
 
 -- one more of a list is taken
 pub taken-next : {A : Type 0} (l now next : List A) (i : ℕ) (a : A) → now ≡ take i l
@@ -229,17 +195,11 @@ taken-next l now next i a is more h = more ∙ (ap (λ k. k ++ a ∷ []) is ∙ 
 
 pub next-view : (ss : List NodeSeat) (i : ℕ) (s : NodeSeat) → get_elem? ss i ≡ some s
     → views (take (i + 1) ss) ≡ views (take i ss) ++ view s ∷ []
-next-view ss i s h = ap views (sym (taken-next ss _ _ i s refl refl h))
-    ∙ map-append view (take i ss) (s ∷ [])
+next-view ss i s h = grind (arith, taken-next, map-append view (take i ss) (s ∷ []))
 
 pub at-now : (ss : List NodeSeat) (i : ℕ) (a : NodeSeat) → i < length ss → a ≡ get_or ss i a
     → get_elem? ss i ≡ some (get_or ss i a)
 at-now ss i a less is = subst (λ s. get_elem? ss i ≡ some s) is (at_index ss i a less is)
-
-pub below : {A : Type 0} (l : List A) (i : ℕ) (a : A) → get_elem? l i ≡ some a → i < length l
-below [] i a e = absurd (some-ne-none a (sym e))
-below (x ∷ xs) zero a e = omega arith
-below (x ∷ xs) (suc i) a e = let h = below xs i a e in omega arith
 
 there : {A : Type 0} (l : List A) (i : ℕ) → i < length l → (a : A) × (get_elem? l i ≡ some a)
 there [] i h = absurd (omega arith)
@@ -255,28 +215,14 @@ all-there t seats v all is n less = let c = all.0 in let s = there seats n (omeg
 -- the seat whose turn it is comes first among those that are left
 pub left-views : (seats : List NodeSeat) (i : ℕ) (s : NodeSeat) → get_elem? seats i ≡ some s
     → views (drop i seats) ≡ view s ∷ views (drop (i + 1) seats)
-left-views seats i s h = ap views (drop_at seats i s h)
-    ∙ ap (λ k. view s ∷ views (drop k seats)) (let z : suc i ≡ i + 1 = omega arith in z)
+left-views seats i s h = grind (arith, drop_at)
 
 -- a seat that has its node again
 pub is-back : (t : ExecTable) (was lent s : NodeSeat) (v : View) → IsSeatOf t was → IsLent was lent
     → first_or_none v.nodes ≡ view was → s.seat.table_id ≡ lent.seat.table_id
     → s.seat.me ≡ (joined lent.seat.me.0 (just_first v), lent.seat.me.1) → s.node ≡ lent.node
     → s.held ≡ lent.held → IsBack t was s
-is-back t was lent s v o l first table me node held = (
-  seat-other t was s o (table ∙ l.0) nodes (node ∙ l.3)
-      (subst (HandHolds (view was)) (sym same) o.hand)
-      (ap (λ h. h.items) (held ∙ l.4) ∙ (o.places ∙ sym (ap edges_out same)))
-      (ap deque_capacity (held ∙ l.4)),
-  ap first_or_none nodes,
-  same,
-)
-  where
-    same : slots s ≡ slots was
-    same = ap (λ m. m.1) me ∙ l.2
-
-    nodes : s.seat.me.0.nodes ≡ was.seat.me.0.nodes
-    nodes = ap (λ m. m.0.nodes) me ∙ ((λ i. l.1 i ++ first i ∷ []) ∙ sym o.single)
+is-back t was lent s v o l first table me node held = grind arith
 
 -- ---- the end
 

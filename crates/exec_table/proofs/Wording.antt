@@ -1,27 +1,6 @@
 -- Each step changes one word, as its atomic operation says, and leaves the others.
-use Rattle.exec_table.proofs.Imports.{Act, Bool, Close, CoreState, Finish, Flags, Laws, List, NodeState, PortState, Pull, Push, Unwant, Want, ap, and_parts, arith, bit_and, bit_or, changed, edge_count, eqb, eqb-true, false, first_word, flags_word, get_or, get_or-append_right, get_or-map, get_or_append_left, length, length-map, no_node, no_port, node_at, node_place, node_words, port_at, port_place, port_words, refl, set, set-append_left, set-append_right, suc, true, wire_place, wire_word, wire_words, words_of, ℕ, ◌&&◌, ◌++◌, ◌+◌, ◌-◌, ◌<◌, ◌∙◌, ◌∷◌, ◌≡◌}
-
--- ---- the flags of a port as bits
-
-every : (t : Bool → Bool) → (t true && t false) ≡ true → (b : Bool) → t b ≡ true
-every t h true = (and_parts _ _ h).0
-every t h false = (and_parts _ _ h).1
-
-abbrev over_all : (Bool → Bool) → Bool
-over_all t = t true && t false
-
-abbrev flagged : Bool → Bool → Bool → Bool → Flags
-flagged a b c d = record { needed = a; has_data = b; fin_out = c; fin_in = d }
-
--- what is computed for each list of flags holds of all
-pub every-flags : (t : Flags → Bool)
-    → over_all (λ a. over_all (λ b. over_all (λ c. over_all (λ d. t (flagged a b c d))))) ≡ true
-    → (f : Flags) → t f ≡ true
-every-flags t h f = every (λ d. t (flagged f.needed f.has_data f.fin_out d))
-    (every (λ c. over_all (λ d. t (flagged f.needed f.has_data c d)))
-    (every (λ b. over_all (λ c. over_all (λ d. t (flagged f.needed b c d))))
-    (every (λ a. over_all (λ b. over_all (λ c. over_all (λ d. t (flagged a b c d))))) h f.needed)
-    f.has_data) f.fin_out) f.fin_in
+use Rattle.exec_table.proofs.Imports.{Act, [], Bool, Board, Close, CoreState, Finish, Flags, Holds, Laws, List, NodeState, None, Option, PortState, Pull, Push, Some, Step, Unwant, Want, Wire, acted, after, ap, arith, bit_and, bit_at_end, bit_or, bit_xor, changed, cond, either, eqb, first_word, flags_word, get_or, get_or-append_right, get_or-map, get_or-set_other, get_or_append_left, is_none, learning, left, length, length-map, looked, map-set, map-set_same, marks-of, may, may_act, mod-eq_of_lt, no_node, no_port, node_after, node_at, node_place, node_words, peer_in, pending-most, place, port_after, port_at, port_place, port_words, put_node, put_port, refl, set, set-append_left, set-get_or, some-pending, spent, telling, told, true, wire_place, wire_word, wire_words, wiring, words_of, ℕ, ◌++◌, ◌+◌, ◌-◌, ◌%◌, ◌<◌, ◌^◌, ◌∙◌, ◌∷◌, ◌≡◌}
+use Rattle.core_laws.specs.declared.types.Step.TheVariants as step
 
 -- the operation of an act on its port's word
 abbrev pub act_bits : Act → ℕ → ℕ
@@ -32,87 +11,200 @@ act_bits Pull n = bit_and n 18446744073709551613
 act_bits Finish n = bit_or n 4
 act_bits Close n = bit_or n 8
 
-pub act-word : (a : Act) (f : Flags) → act_bits a (flags_word f) ≡ flags_word (changed a f)
-act-word Want f = eqb-true _ _ (every-flags (λ f. eqb (act_bits Want (flags_word f)) (flags_word
-    (changed Want f))) refl f)
-act-word Unwant f = eqb-true _ _ (every-flags (λ f. eqb (act_bits Unwant (flags_word f)) (flags_word
-    (changed Unwant f))) refl f)
-act-word (Push x) f = eqb-true _ _ (every-flags (λ f. eqb (act_bits (Push 0) (flags_word f))
-    (flags_word (changed (Push 0) f))) refl f)
-act-word Pull f = eqb-true _ _ (every-flags (λ f. eqb (act_bits Pull (flags_word f)) (flags_word
-    (changed Pull f))) refl f)
-act-word Finish f = eqb-true _ _ (every-flags (λ f. eqb (act_bits Finish (flags_word f)) (flags_word
-    (changed Finish f))) refl f)
-act-word Close f = eqb-true _ _ (every-flags (λ f. eqb (act_bits Close (flags_word f)) (flags_word
-    (changed Close f))) refl f)
+act-word : (a : Act) (f : Flags) → act_bits a (flags_word f) ≡ flags_word (changed a f)
+act-word a f = grind arith
+
+-- what the atomic operation of a step makes of the word
+abbrev pub op : CoreState → ℕ → Step → ℕ → ℕ
+op c n (step.Want e) w = act_bits Want w
+op c n (step.Unwant e) w = act_bits Unwant w
+op c n (step.Push e x) w = act_bits (Push x) w
+op c n (step.Pull e) w = act_bits Pull w
+op c n (step.Finish e) w = act_bits Finish w
+op c n (step.ClosePort e) w = act_bits Close w
+op c n (step.Mark e) w = bit_or w (2 ^ bit_at_end (peer_in n (port_at c e).wire) (port_at c e).wire)
+op c n step.Begin w = 2 ^ 62
+op c n step.Again w = 2 ^ 62
+op c n step.Rest w = either (eqb w (2 ^ 62)) 0 w
+op c n step.Over w = 2 ^ 63
+op c n step.TokenIn w = (w + 1) % 2 ^ 64
+op c n step.TokenOut w = (w + (2 ^ 64 - 1)) % 2 ^ 64
+op c n (step.Wire e v) w = either (eqb w 0) (wire_word (Some v)) w
+op c n step.Birth w = bit_xor w (2 ^ 60 + 2 ^ 61)
+op c n s w = w
+
+-- the words of which the one at the place i became f of what it was
+abbrev word_changed : CoreState → ℕ → (ℕ → ℕ) → List ℕ
+word_changed c i f = set (words_of c) i (f (get_or (words_of c) i 0))
 
 -- ---- places
 
+set-behind : (p t : List ℕ) (i j v : ℕ) → i ≡ length p + j → set (p ++ t) i v ≡ p ++ set t j v
+set-behind [] t i j v e = ap (λ k. set t k v) (let z : i ≡ j = omega (arith, e) in z)
+set-behind (x ∷ p) t i j v e = grind (arith, set-behind p t (length p + j) j v refl)
+
 module _ (c : CoreState) where
-  abbrev tail_words : List ℕ
-  tail_words = wire_words c ++ port_words c
-
-  pub set-node : (i v : ℕ) → i < length c.nodes → set (words_of c) (node_place i) v
-      ≡ first_word c ∷ (set (node_words c) i v ++ tail_words)
-  set-node i v h = let l = length-map c.nodes (λ (nd : NodeState). nd.word) in
-      let e : i + 1 ≡ suc i = omega arith in
-      ap (λ k. set (words_of c) k v) e ∙ ap (λ ws. first_word c ∷ ws)
-      (set-append_left (node_words c) tail_words i v (omega (arith, l, h)))
-
   pub read-node : (i : ℕ) → i < length c.nodes
       → get_or (words_of c) (node_place i) 0 ≡ (node_at c i).word
-  read-node i h = let l = length-map c.nodes (λ (nd : NodeState). nd.word) in
-      let e : i + 1 ≡ suc i = omega arith in ap (λ k. get_or (words_of c) k 0) e
-      ∙ (get_or_append_left (node_words c) tail_words 0 i (omega (arith, l, h))
-      ∙ get_or-map (λ (nd : NodeState). nd.word) c.nodes i no_node 0 h)
+  read-node i h = grind (
+    arith,
+    length-map,
+    get_or_append_left,
+    get_or-map (λ (y : NodeState). y.word) c.nodes i no_node 0 h,
+  )
+
+  -- a change of a node changes its word
+  node-word : (n : ℕ) (nd : NodeState) (f : ℕ → ℕ) → n < length c.nodes
+      → f (node_at c n).word ≡ nd.word
+      → words_of (put_node c n nd) ≡ word_changed c (node_place n) f
+  node-word n nd f i e = grind (arith, read-node, map-set, length-map, set-append_left)
+
+  -- a change that leaves the node's word leaves all
+  same-node : (n : ℕ) (nd : NodeState) → nd.word ≡ (node_at c n).word
+      → words_of (put_node c n nd) ≡ words_of c
+  same-node n nd e = grind (arith, map-set_same)
+
+  same-words : (i : ℕ) (f : ℕ → ℕ) → f (get_or (words_of c) i 0) ≡ get_or (words_of c) i 0
+      → words_of c ≡ word_changed c i f
+  same-words i f e = grind (arith, e, set-get_or)
 
   module _ (laws : Laws c) (e : ℕ) (h : e < length c.ports) where
-    nodes-long : length (node_words c) ≡ c.sizes.nodes
-    nodes-long = length-map c.nodes (λ (nd : NodeState). nd.word) ∙ laws.nodes.number
-
-    wires-long : length (wire_words c) ≡ length c.ports
-    wires-long = length-map c.ports (λ (p : PortState). wire_word p.wire)
-
-    edges-long : length c.ports ≡ edge_count c.sizes
-    edges-long = laws.edges.count
-
-    pub set-wire : (v : ℕ) → set (words_of c) (wire_place c.sizes e) v
-        ≡ first_word c ∷ (node_words c ++ (set (wire_words c) e v ++ port_words c))
-    set-wire v = let i : (c.sizes.nodes + e) + 1 ≡ suc (c.sizes.nodes + e) = omega arith in
-        let j : (c.sizes.nodes + e) - c.sizes.nodes ≡ e = omega arith in
-        ap (λ k. set (words_of c) k v) i ∙ ap (λ ws. first_word c ∷ ws)
-        (set-append_right (node_words c) tail_words c.sizes.nodes (c.sizes.nodes + e) v nodes-long
-        (omega arith) ∙ ap (λ ws. node_words c ++ ws) (ap (λ k. set tail_words k v) j
-        ∙ set-append_left (wire_words c) (port_words c) e v (let l = wires-long in omega
-        (arith, l, h))))
-
     pub read-wire : get_or (words_of c) (wire_place c.sizes e) 0 ≡ wire_word (port_at c e).wire
-    read-wire = let i : (c.sizes.nodes + e) + 1 ≡ suc (c.sizes.nodes + e) = omega arith in
-        let j : (c.sizes.nodes + e) - c.sizes.nodes ≡ e = omega arith in
-        ap (λ k. get_or (words_of c) k 0) i
-        ∙ (get_or-append_right (node_words c) tail_words c.sizes.nodes
-        (c.sizes.nodes + e) 0 nodes-long (omega arith) ∙ (ap (λ k. get_or tail_words k 0) j
-        ∙ (get_or_append_left (wire_words c) (port_words c) 0 e (let l = wires-long in omega
-        (arith, l, h)) ∙ get_or-map (λ (p : PortState). wire_word p.wire) c.ports e no_port 0 h)))
-
-    pub set-port : (v : ℕ) → set (words_of c) (port_place c.sizes e) v
-        ≡ first_word c ∷ (node_words c ++ (wire_words c ++ set (port_words c) e v))
-    set-port v = let k = c.sizes.nodes in let t = edge_count c.sizes in
-        let i : (k + (t + e)) + 1 ≡ suc (k + (t + e)) = omega arith in
-        let j : (k + (t + e)) - k ≡ t + e = omega arith in let u : (t + e) - t ≡ e = omega arith in
-        ap (λ k. set (words_of c) k v) i ∙ ap (λ ws. first_word c ∷ ws)
-        (set-append_right (node_words c) tail_words k (k + (t + e)) v nodes-long (omega arith)
-        ∙ ap (λ ws. node_words c ++ ws) (ap (λ k. set tail_words k v) j
-        ∙ (set-append_right (wire_words c) (port_words c) t (t + e) v (wires-long ∙ edges-long)
-        (omega arith) ∙ ap (λ k. wire_words c ++ set (port_words c) k v) u)))
+    read-wire = grind (
+      arith,
+      laws.nodes.number,
+      length-map,
+      get_or-append_right,
+      get_or_append_left,
+      get_or-map (λ (p : PortState). wire_word p.wire) c.ports e no_port 0 h,
+    )
 
     pub read-port : get_or (words_of c) (port_place c.sizes e) 0 ≡ flags_word (port_at c e).flags
-    read-port = let k = c.sizes.nodes in let t = edge_count c.sizes in
-        let i : (k + (t + e)) + 1 ≡ suc (k + (t + e)) = omega arith in
-        let j : (k + (t + e)) - k ≡ t + e = omega arith in let u : (t + e) - t ≡ e = omega arith in
-        ap (λ k. get_or (words_of c) k 0) i
-        ∙ (get_or-append_right (node_words c) tail_words k (k + (t + e)) 0 nodes-long (omega arith)
-        ∙ (ap (λ k. get_or tail_words k 0) j
-        ∙ (get_or-append_right (wire_words c) (port_words c) t (t + e) 0 (wires-long ∙ edges-long)
-        (omega arith) ∙ (ap (λ k. get_or (port_words c) k 0) u
-        ∙ get_or-map (λ (p : PortState). flags_word p.flags) c.ports e no_port 0 h))))
+    read-port = grind (
+      arith,
+      laws.nodes.number,
+      laws.edges.count,
+      length-map,
+      get_or-append_right,
+      get_or-map (λ (p : PortState). flags_word p.flags) c.ports e no_port 0 h,
+    )
+
+    -- a change of an edge's wire, or of its port's flags, changes that word
+    wire-word : (q : PortState) (f : ℕ → ℕ) → q.flags ≡ (port_at c e).flags
+        → f (wire_word (port_at c e).wire) ≡ wire_word q.wire
+        → words_of (put_port c e q) ≡ word_changed c (wire_place c.sizes e) f
+    wire-word q f same is = grind (
+      arith,
+      read-wire,
+      laws.nodes.number,
+      length-map,
+      set-behind (first_word c ∷ node_words c) (wire_words c ++ port_words c)
+          (wire_place c.sizes e) e (wire_word q.wire),
+      set-append_left (wire_words c) (port_words c) e (wire_word q.wire),
+      map-set (λ (p : PortState). wire_word p.wire) c.ports e q,
+      map-set_same (λ (p : PortState). flags_word p.flags) c.ports e q no_port (ap flags_word same),
+    )
+
+    flag-word : (q : PortState) (f : ℕ → ℕ) → q.wire ≡ (port_at c e).wire
+        → f (flags_word (port_at c e).flags) ≡ flags_word q.flags
+        → words_of (put_port c e q) ≡ word_changed c (port_place c.sizes e) f
+    flag-word q f same is = grind (
+      arith,
+      read-port,
+      laws.nodes.number,
+      laws.edges.count,
+      length-map,
+      set-behind (first_word c ∷ node_words c) (wire_words c ++ port_words c)
+          (port_place c.sizes e) (length c.ports + e) (flags_word q.flags),
+      set-behind (wire_words c) (port_words c) (length c.ports + e) e (flags_word q.flags),
+      map-set (λ (p : PortState). flags_word p.flags) c.ports e q,
+      map-set_same (λ (p : PortState). wire_word p.wire) c.ports e q no_port (ap wire_word same),
+    )
+
+-- ---- word 0
+
+pub pending-small : (b : Board) → Holds b → b.core.pending < 2 ^ 62
+pending-small b h = grind (arith, pending-most)
+
+-- word 0 counts one more or one less; a stop bit stays
+count-up : (p : ℕ) (t : Bool) → p < 2 ^ 62
+    → ((p + cond t (2 ^ 63) 0) + 1) % 2 ^ 64 ≡ (p + 1) + cond t (2 ^ 63) 0
+count-up p t h = grind (arith, mod-eq_of_lt)
+
+count-down : (p : ℕ) (t : Bool) → p < 2 ^ 62 → 0 < p
+    → ((p + cond t (2 ^ 63) 0) + (2 ^ 64 - 1)) % 2 ^ 64 ≡ (p - 1) + cond t (2 ^ 63) 0
+count-down p t h some = grind (arith, mod-eq_of_lt)
+
+-- ---- all kinds
+
+act-after : (a : Act) (c : CoreState) (n e : ℕ) → Laws c → may_act a c n e ≡ true
+    → words_of (acted a c n e) ≡ word_changed c (port_place c.sizes e) (act_bits a)
+act-after a c n e l g = let i : e < length c.ports = grind arith in
+    same-node (put_port c e (port_after a (port_at c e))) n
+    (node_after a e (port_at c e).flags (node_at c n)) refl
+    ∙ flag-word c l e i (port_after a (port_at c e)) (act_bits a) (grind arith)
+    (act-word a (port_at c e).flags)
+
+-- the wire word of an edge is 0 where it has no wire
+wire-none : (x : Option Wire) → eqb (wire_word x) 0 ≡ is_none x
+wire-none None = refl
+wire-none (Some w) = grind arith
+
+wire-after : (c : CoreState) (n e : ℕ) (w : Wire) → Laws c → e < length c.ports
+    → words_of (after c n (step.Wire e w))
+    ≡ word_changed c (wire_place c.sizes e) (op c n (step.Wire e w))
+wire-after c n e w l j = let f = λ (v : ℕ). either (eqb v 0) (wire_word (Some w)) v in
+    grind (
+      arith,
+      wire-word c l e j (record (port_at c e) { wire = Some w }) f refl,
+      same-node
+          (wiring c e w) n (learning e (node_at c n)) refl,
+      read-wire c l e j,
+      same-words c (wire_place c.sizes e) f,
+      wire-none (port_at c e).wire,
+    )
+
+-- the words after a step of a node
+pub word-after : (b : Board) (n : ℕ) (s : Step) → Holds b → n < b.core.sizes.nodes
+    → may b.core n s ≡ true → words_of (after b.core n s)
+    ≡ word_changed b.core (place b.core n s) (op b.core n s)
+word-after b n (step.Look e) h i g = same-node b.core n (looked b.core n e) refl
+    ∙ same-words b.core _ (λ w. w) refl
+word-after b n (step.Want e) h i g = act-after Want b.core n e h.laws g
+word-after b n (step.Unwant e) h i g = act-after Unwant b.core n e h.laws g
+word-after b n (step.Push e x) h i g = act-after (Push x) b.core n e h.laws g
+word-after b n (step.Pull e) h i g = act-after Pull b.core n e h.laws g
+word-after b n (step.Finish e) h i g = act-after Finish b.core n e h.laws g
+word-after b n (step.ClosePort e) h i g = act-after Close b.core n e h.laws g
+word-after b n (step.Mark e) h i g = let c = b.core in
+    let x = marks-of c n e g h.laws.edges h.laws.nodes in
+    let m = peer_in n (port_at c e).wire in let k = bit_at_end m (port_at c e).wire in
+    same-node (put_node c m (told k (node_at c m))) n
+    (telling e (spent (node_at c m).word) (node_at c n))
+    (grind (arith, x.apart, get_or-set_other c.nodes m n (told k (node_at c m)) no_node))
+    ∙ node-word c m (told k (node_at c m)) (λ w. bit_or w (2 ^ k)) x.peer_in refl
+word-after b n step.Begin h i g = node-word b.core n _ (λ _. 2 ^ 62) (grind arith) refl
+word-after b n step.Again h i g = node-word b.core n _ (λ _. 2 ^ 62) (grind arith) refl
+word-after b n step.Rest h i g = let c = b.core in let f = λ (w : ℕ). either (eqb w (2 ^ 62)) 0 w in
+    let j : n < length c.nodes = grind arith in
+    grind (
+      arith,
+      node-word c n (left 0 (node_at c n)) f j,
+      read-node c n j,
+      same-words c (node_place n) f,
+    )
+word-after b n step.Over h i g = node-word b.core n _ (λ _. 2 ^ 63) (grind arith) refl
+word-after b n step.TokenIn h i g = grind (arith, count-up, pending-small, map-set_same)
+word-after b n step.TokenOut h i g =
+    grind (arith, count-down, pending-small, some-pending, map-set_same)
+word-after b n (step.Wire e w) h i g = wire-after b.core n e w h.laws (grind arith)
+word-after b n (step.Wired e) h i g = let c = b.core in grind (
+  arith,
+  same-node c n
+      (learning e (node_at c n)) refl,
+  same-words c (wire_place c.sizes e) (λ w. w) refl,
+)
+word-after b n step.Birth h i g =
+    node-word b.core n _ (λ w. bit_xor w (2 ^ 60 + 2 ^ 61)) (grind arith) refl
+word-after b n step.Stop h i g = absurd (let c = h.laws.nodes.number in grind (arith, c, i))
+word-after b n step.See h i g = absurd (let c = h.laws.nodes.number in grind (arith, c, i))

@@ -3,19 +3,14 @@
 use Rattle.std.specs.Prelude.{◌≡◌, ℕ, ◌<◌, ◌||◌, ◌&&◌, cond, Bool, true, false, is_some, is_none, List, [], ◌∷◌, ◌++◌, map, length, Option, Some, None, slice_index_or, slice_set}
 use Rattle.std.specs.List.{range_with_len}
 use mathlib.Core.Option as maybe
-use Rattle.chunk_data.specs.Names.{Table as Chunk}
-use Rattle.core_laws.specs.Views.{node_at, port_at, is_end, knows, is_set, is_unborn, is_over}
-use Rattle.core_laws.specs.Steps.{after}
 use Rattle.core_laws.specs.declared.types.Step.TheVariants as step
-use Rattle.core_laws.specs.Start.{has_output}
-use Rattle.core_laws.specs.Laws.{Laws}
 use Rattle.exec_table.specs.Words.{edge_count}
 pub use Rattle.exec_table.specs.declared.types.End.{End}
 pub use Rattle.exec_table.specs.declared.types.NodeView.{NodeView}
 pub use Rattle.exec_table.specs.declared.types.View.{View}
 pub use Rattle.exec_table.specs.declared.types.Stage.{Stage}
-use Rattle.exec_table.specs.declared.types.Stage.TheVariants.{Unborn, Born, Begun, Over}
-use Rattle.exec_table.specs.CoreNames.{CoreState, NodeState, PortState, Sizes, Step, Wire}
+pub use Rattle.exec_table.specs.declared.types.Stage.TheVariants.{Unborn, Born, Begun, Over}
+use Rattle.exec_table.specs.CoreNames.{CoreState, NodeState, PortState, Sizes, Step, Wire, node_at, port_at, is_end, knows, is_set, is_unborn, is_over, after, has_output, Laws, Chunk}
 
 -- an edge: the chunks pushed and pulled so far, the one that is between, and whether the slot is
 -- out with a seat

@@ -3,6 +3,7 @@ pub mod Words
 pub mod Boards
 pub mod Rule
 pub mod Ready
+pub mod Known
 pub mod Plays
 pub mod Seats
 pub mod Made

@@ -7,9 +7,7 @@ use Rattle.exec_table.specs.CoreNames.{Sizes}
 use Rattle.exec_table.specs.Boards.{NodeView, View, node_view}
 use Rattle.exec_table.specs.Rule.{no_view, one, start_board}
 use Rattle.exec_table.specs.Plays.{node_of}
-use Rattle.exec_table.specs.Seats.{IsRootOf, IsSeatOf, key_of, slots, view}
-use Rattle.exec_table.specs.declared.rule.ExecTable.{ExecTable}
-use Rattle.exec_table.specs.declared.rule.NodeSeat.{NodeSeat}
+use Rattle.exec_table.specs.Seats.{IsRootOf, IsSeatOf, key_of, slots, view, ExecTable, NodeSeat}
 use Rattle.exec_table.specs.declared.make.Made.{Made}
 
 -- the seat of the node k, as at the start

@@ -1,12 +1,9 @@
 -- What each atomic step tells the seat that makes it.
 use Rattle.std.specs.Prelude.{◌≡◌, ℕ, ◌+◌, ◌-◌, List, [], ◌∷◌, length, Some, None, true, false}
-use Rattle.core_laws.specs.Views.{wire_ok}
-use Rattle.core_laws.specs.Steps.{may}
 use Rattle.core_laws.specs.declared.types.Step.TheVariants as step
-use Rattle.exec_table.specs.CoreNames.{Step}
+use Rattle.exec_table.specs.CoreNames.{Step, wire_ok, may}
 use Rattle.exec_table.specs.Words.{first_word, port_place, wire_place, wire_of}
-use Rattle.exec_table.specs.Boards.{Board, Holds, NodeView, View, board_after}
-use Rattle.exec_table.specs.declared.types.Stage.TheVariants.{Begun}
+use Rattle.exec_table.specs.Boards.{Board, Holds, NodeView, View, board_after, Begun}
 use Rattle.exec_table.specs.Rule.{Sat, Stp, aiming, no_view}
 use Rattle.exec_table.specs.Ready.{Did, end_of_view}
 

@@ -1,16 +1,12 @@
 -- The rule of the table: words, slots and views show one board, which meets the laws.
-use Rattle.std.specs.Prelude.{◌≡◌, ◌≢◌, ℕ, ◌<◌, ◌≤◌, List, [], ◌∷◌, map, Option, Some, None, slice_index_or}
+use Rattle.std.specs.Prelude.{◌≡◌, ◌≢◌, ℕ, ◌<◌, ◌≤◌, List, [], ◌∷◌, map, Option, Some, None, slice_index_or, cond, false}
 use Rattle.std.specs.List.{range_with_len}
 use mathlib.Core.Option.{some}
 use lib.ListN.{get_elem?}
 use Rattle.atomic_table.specs.Table.{State, Me, Step as TableStep}
-use Rattle.chunk_data.specs.Names.{Table as Chunk}
-use Rattle.core_laws.specs.Start.{start, is_reserved}
 use Rattle.exec_table.specs.Words.{words_of}
-use Rattle.exec_table.specs.Boards.{Board, View, NodeView, Stage, Holds, node_view, home_of, no_lane}
-use Rattle.exec_table.specs.declared.types.Stage.TheVariants.{Unborn, Born}
-use Rattle.std.specs.Prelude.{cond, false}
-use Rattle.exec_table.specs.CoreNames.{CoreState, Sizes}
+use Rattle.exec_table.specs.Boards.{Board, View, NodeView, Stage, Holds, node_view, home_of, no_lane, Unborn, Born}
+use Rattle.exec_table.specs.CoreNames.{CoreState, Sizes, start, is_reserved, Chunk}
 
 -- a seat, with the slots that are out with it
 abbrev pub Sat : Type 0

@@ -1,21 +1,18 @@
 -- What clauses say of a table, its seats and their steps.
 use Rattle.std.specs.Prelude.{◌≡◌, ◌⊎◌, ℕ, ◌+◌, ◌<◌, ◌≤◌, ◌==◌, ◌^◌, ◌%◌, ◌/◌, cond, Bool, true, false, is_some, nat_le, List, [], ◌∷◌, length, map, Option, Some, None, Result, Ok, Err}
 use Rattle.std.specs.VecDeque.{deque_capacity}
-use Rattle.chunk_data.specs.Names.{Table as Chunk}
-use Rattle.core_laws.specs.Views.{has, knows, once, is_set}
-use Rattle.core_laws.specs.Steps.{Answer, may, answer}
 use Rattle.core_laws.specs.Steps as core
 use Rattle.core_laws.specs.declared.types.Step.TheVariants as step
-use Rattle.exec_table.specs.CoreNames.{Sizes, Step, Wire}
+use Rattle.exec_table.specs.CoreNames.{Sizes, Step, Wire, has, knows, once, is_set, Answer, may, answer, Chunk}
 use Rattle.exec_table.specs.Words.{edge_count}
 use Rattle.exec_table.specs.Boards.{Board, Holds, NodeView, node_view, board_after}
-use Rattle.exec_table.specs.Ready.{end_of_view}
-use Rattle.exec_table.specs.Plays.{node_of}
-use Rattle.exec_table.specs.declared.rule.ExecTable.{ExecTable}
+pub use Rattle.exec_table.specs.Ready.{end_of_view, is_full_hand as holds_chunk}
+use Rattle.exec_table.specs.Plays.{Worked, node_of}
+pub use Rattle.exec_table.specs.declared.rule.ExecTable.{ExecTable}
 use Rattle.exec_table.specs.Rule.{no_view}
-use Rattle.exec_table.specs.declared.rule.NodeSeat.{NodeSeat}
-use Rattle.exec_table.specs.declared.rule.RootSeat.{RootSeat}
-use Rattle.exec_table.specs.declared.rule.WorkerSeat.{WorkerSeat}
+pub use Rattle.exec_table.specs.declared.rule.NodeSeat.{NodeSeat}
+pub use Rattle.exec_table.specs.declared.rule.RootSeat.{RootSeat}
+pub use Rattle.exec_table.specs.declared.rule.WorkerSeat.{WorkerSeat}
 use Rattle.exec_table.specs.declared.types.Marked.{Marked}
 use Rattle.exec_table.specs.declared.types.Marked.TheVariants.{Charged, AlreadyDue, Over}
 use Rattle.exec_table.specs.declared.types.Updated.{Updated}
@@ -57,10 +54,6 @@ slots s = s.seat.me.1
 -- the slot of the edge e, if it is out with the seat
 abbrev pub slot_of : NodeSeat → ℕ → Option (Option Chunk)
 slot_of s e = slot_in e (slots s)
-
-abbrev pub holds_chunk : Option (Option Chunk) → Bool
-holds_chunk (Some (Some x)) = true
-holds_chunk x = false
 
 -- a push at the edge e: the chunk has the number of those that were pushed before it
 abbrev pub push_of : NodeSeat → ℕ → Step
@@ -155,15 +148,13 @@ pub record IsWorkerOf (t : ExecTable) (s : WorkerSeat) : Type 0 where
   pub number : ℕ
   pub view : s.seat.me ≡ (record no_view { worker = Some number }, [])
 
--- the step s of the worker, from a state that met the laws, which answered a
+-- the step of the worker, from a state that met the laws, which answered a
 pub record WorkerDoes (s : WorkerSeat) (p : Step) (a : Answer) : Type 0 where
   pub number : ℕ
   pub is : s.seat.me.0.worker ≡ Some number
-  pub before : Board
-  pub holds : Holds before
-  pub may : may before.core (before.core.sizes.nodes + number) p ≡ true
-  pub kept : Holds (board_after before (before.core.sizes.nodes + number) p None)
-  pub says : answer before.core (before.core.sizes.nodes + number) p ≡ a
+  pub found : ℕ
+  pub did : Worked number p found
+  pub says : answer did.before.core (did.before.core.sizes.nodes + number) p ≡ a
 
 -- what word 0 tells
 abbrev pub seen_in : ℕ → core.Seen

@@ -5,9 +5,7 @@ use lib.ListN.{get_elem?}
 use Rattle.exec_table.specs.Words.{words_of}
 use Rattle.exec_table.specs.Boards.{Board, Holds, NodeView, View, node_view}
 use Rattle.exec_table.specs.Rule.{Sat, Stp}
-use Rattle.exec_table.specs.Seats.{IsSeatOf, key_of, slots, view}
-use Rattle.exec_table.specs.declared.rule.ExecTable.{ExecTable}
-use Rattle.exec_table.specs.declared.rule.NodeSeat.{NodeSeat}
+use Rattle.exec_table.specs.Seats.{IsSeatOf, key_of, slots, view, ExecTable, NodeSeat}
 
 -- a seat takes in the nodes of another
 abbrev pub joined : View → View → View

@@ -1,9 +1,7 @@
 -- The words of the table: what each says, and where it stands.
 use Rattle.std.specs.Prelude.{ℕ, ◌+◌, ◌*◌, ◌/◌, ◌%◌, ◌^◌, ◌==◌, cond, List, ◌∷◌, ◌++◌, map, length, Option, Some, None, slice_index_or}
-use Rattle.core_laws.specs.Views.{port_at, reserved_edges}
-use Rattle.core_laws.specs.Steps.{peer_in}
 use Rattle.core_laws.specs.declared.types.Step.TheVariants as step
-use Rattle.exec_table.specs.CoreNames.{CoreState, Flags, NodeState, PortState, Sizes, Step, Wire}
+use Rattle.exec_table.specs.CoreNames.{CoreState, Flags, NodeState, PortState, Sizes, Step, Wire, port_at, reserved_edges, peer_in}
 
 abbrev pub flags_word : Flags → ℕ
 flags_word f = cond f.needed 1 0 + (cond f.has_data 2 0 + (cond f.fin_out 4 0 + cond f.fin_in 8 0))

@@ -13,8 +13,11 @@
 //!   `survey.rt`: all words at one moment; `shut.rt`: the end of a table
 //! - `specs/Boards.antt`: a state of the core with its chunks, and the laws of both;
 //!   `specs/Ready.antt`: when a seat may make a step; `specs/Seats.antt`: what the clauses say
-//! - `proofs/Kept.antt`: each step keeps the laws; `proofs/Tied.antt`: each step of a seat is one
-//!   of the core; `proofs/Starting.antt`: the start meets the laws
+//! - `specs/Known.antt`: what a seat knows after a step by what the step answered, which
+//!   `proofs/Known.antt` proves; users of the table show their conditions by it
+//! - `proofs/Wording.antt`: each step changes one word; `proofs/Kept.antt`: it keeps the laws;
+//!   `proofs/Tied.antt`: each step of a seat is one of the core; `proofs/Starting.antt`: the start
+//!   meets the laws
 #![tactic(auto)]
 
 mod growth;

@@ -3,7 +3,6 @@ ghost use Rattle.std.specs.Prelude.{◌≡◌, ◌<◌, ◌^◌, true, Some, Non
 ghost use Rattle.core_laws.specs.Steps.{bit_at_end, is_idle as tells_idle, marked_by, marked_peer, nothing, peer_in};
 ghost use Rattle.core_laws.specs.declared.types.Step.TheVariants as step;
 ghost use Rattle.core_laws.specs.Views.{is_set as is_set_there, wire_ok};
-ghost use Rattle.exec_table.specs.Words.{node_place as place_of_node};
 ghost use Rattle.exec_table.specs.Ready.{ready};
 ghost use Rattle.exec_table.specs.Seats.{IsSeatOf, Makes, MakesUpdated, is_idle, marked_of, updated_of as updated_there, view};
 
@@ -69,14 +68,6 @@ fn bit(k: u32) -> u64
     1 << k
 }
 
-impl NodeSeat {
-    fn place(&self) -> usize
-        ensures { result ≡ place_of_node self.now.node }
-    {
-        self.node as usize + 1
-    }
-}
-
 impl ExecTable {
     /// Tells the node at the other end of e that the port changed. Where that node's word was 0 it
     /// is charged with a token of this one.
@@ -99,7 +90,7 @@ impl ExecTable {
         requires ready { ready (view seat.old) step.Begin ≡ true }
         ensures { MakesUpdated self.now seat.old seat.new step.Begin result }
     {
-        let place = seat.place();
+        let place = seat.node as usize + 1;
         updated_of(self.table.shared.swap::<Begin>(&mut seat.seat, place, HELD))
     }
 
@@ -108,7 +99,7 @@ impl ExecTable {
         requires ready { ready (view seat.old) step.Again ≡ true }
         ensures { MakesUpdated self.now seat.old seat.new step.Again result }
     {
-        let place = seat.place();
+        let place = seat.node as usize + 1;
         updated_of(self.table.shared.swap::<Again>(&mut seat.seat, place, HELD))
     }
 
@@ -118,7 +109,7 @@ impl ExecTable {
         requires ready { ready (view seat.old) step.Rest ≡ true }
         ensures { Makes self.now seat.old seat.new step.Rest None (tells_idle (is_idle result)) }
     {
-        let place = seat.place();
+        let place = seat.node as usize + 1;
         let shared = &self.table.shared;
         if shared.compare_exchange::<Rest>(&mut seat.seat, place, HELD, 0) == HELD {
             Rested::Idle
@@ -132,7 +123,7 @@ impl ExecTable {
         requires ready { ready (view seat.old) step.Over ≡ true }
         ensures { Makes self.now seat.old seat.new step.Over None nothing }
     {
-        let place = seat.place();
+        let place = seat.node as usize + 1;
         self.table.shared.swap::<Over>(&mut seat.seat, place, OVER);
     }
 
@@ -149,9 +140,8 @@ impl ExecTable {
         requires ready { ready (view seat.old) step.TokenOut ≡ true }
         ensures { Makes self.now seat.old seat.new step.TokenOut None nothing }
     {
-        self.table
-            .shared
-            .fetch_sub::<TokenOut>(&mut seat.seat, 0, 1);
+        let shared = &self.table.shared;
+        shared.fetch_sub::<TokenOut>(&mut seat.seat, 0, 1);
     }
 
     /// The unborn node is live and charged from now on, with the token that it had.
@@ -160,9 +150,8 @@ impl ExecTable {
         requires ready { ready (view seat.old) step.Birth ≡ true }
         ensures { Makes self.now seat.old seat.new step.Birth None nothing }
     {
-        let place = seat.place();
-        self.table
-            .shared
-            .fetch_xor::<Birth>(&mut seat.seat, place, BORN);
+        let place = seat.node as usize + 1;
+        let shared = &self.table.shared;
+        shared.fetch_xor::<Birth>(&mut seat.seat, place, BORN);
     }
 }

@@ -95,9 +95,8 @@ impl ExecTable {
         ensures { Makes self.now seat.old seat.new (step.Want e) None nothing }
     {
         let place = self.port_place(e);
-        self.table
-            .shared
-            .fetch_or::<Want>(&mut seat.seat, place, NEEDED);
+        let shared = &self.table.shared;
+        shared.fetch_or::<Want>(&mut seat.seat, place, NEEDED);
     }
 
     pub fn unwant(&self, seat: &mut NodeSeat, e: u32)
@@ -106,9 +105,8 @@ impl ExecTable {
         ensures { Makes self.now seat.old seat.new (step.Unwant e) None nothing }
     {
         let place = self.port_place(e);
-        self.table
-            .shared
-            .fetch_and::<Unwant>(&mut seat.seat, place, !NEEDED);
+        let shared = &self.table.shared;
+        shared.fetch_and::<Unwant>(&mut seat.seat, place, !NEEDED);
     }
 
     /// The chunk goes into the slot, whose turn this seat has.
@@ -157,9 +155,8 @@ impl ExecTable {
         seat.bring_to_front(e);
         seat.held.pop_front();
         let place = self.port_place(e);
-        self.table
-            .shared
-            .fetch_and::<Pull>(&mut seat.seat, place, !HAS_DATA);
+        let shared = &self.table.shared;
+        shared.fetch_and::<Pull>(&mut seat.seat, place, !HAS_DATA);
     }
 
     pub fn finish(&self, seat: &mut NodeSeat, e: u32)
@@ -168,9 +165,8 @@ impl ExecTable {
         ensures { Makes self.now seat.old seat.new (step.Finish e) None nothing }
     {
         let place = self.port_place(e);
-        self.table
-            .shared
-            .fetch_or::<Finish>(&mut seat.seat, place, FIN_OUT);
+        let shared = &self.table.shared;
+        shared.fetch_or::<Finish>(&mut seat.seat, place, FIN_OUT);
     }
 
     pub fn close_port(&self, seat: &mut NodeSeat, e: u32)
@@ -179,8 +175,7 @@ impl ExecTable {
         ensures { Makes self.now seat.old seat.new (step.ClosePort e) None nothing }
     {
         let place = self.port_place(e);
-        self.table
-            .shared
-            .fetch_or::<ClosePort>(&mut seat.seat, place, FIN_IN);
+        let shared = &self.table.shared;
+        shared.fetch_or::<ClosePort>(&mut seat.seat, place, FIN_IN);
     }
 }

@@ -45,9 +45,8 @@ impl ExecTable {
         ensures worker { IsWorkerOf self.now seat.new }
         ensures told { WorkerDoes seat.old step.Stop nothing }
     {
-        self.table
-            .shared
-            .fetch_or::<Stop>(&mut seat.seat, 0, STOPPED);
+        let shared = &self.table.shared;
+        shared.fetch_or::<Stop>(&mut seat.seat, 0, STOPPED);
     }
 
     /// Whether something is pending, and whether the run was stopped.

@@ -1,5 +1,4 @@
-use Rattle.exec_table.proofs.Imports.{ap, arith, false, get_elem?, get_or, get_or-set_other, get_or-set_same, set, sym, take_all, ◌∙◌, dite, ℕ_discrete, slots_counts, slots_filled, slots_items}
-use Rattle.exec_table.proofs.Surveying.{taken-next}
+use Rattle.exec_table.proofs.Cited.{ap, arith, false, get_elem?, get_or, get_or-set_other, get_or-set_same, set, sym, ◌∙◌, dite, ℕ_discrete, slots_counts, slots_filled, taken-next}
 use Rattle.exec_table.proofs.shut.unload.Goals as goal
 
 pub loop-i-preserved : goal.loop-i-preserved
@@ -28,9 +27,3 @@ loop-i-2-preserved c = let inv = c.loop-i-2.invariant in let o = c.take.ensures.
           (let m = n.1 in let d = inv.count in omega arith))
           (λ q. get_or-set_other was i k false false q ∙ inv.gone k (omega arith));
     }
-
-pub returns-clause-words : goal.returns-clause-words
-returns-clause-words c = let n = slots_counts c.args.closed.words in
-    let e = c.len-i-end.ensures in let t = c.loop-i-test.false in
-    ap (λ v. v.items) c.loop-i-2.invariant.words ∙ (c.loop-i.invariant.moved
-    ∙ take_all c.loop-i.i (slots_items c.args.closed.words) (let m = n.0 in omega arith))

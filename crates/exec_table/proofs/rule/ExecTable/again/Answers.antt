@@ -1,17 +1,14 @@
-use Rattle.exec_table.proofs.Imports.{ap, arith, refl, sym, ◌∙◌, updated}
-use Rattle.exec_table.proofs.Seating.{node-asks, own-word, quiet-makes}
-use Rattle.core_laws.specs.declared.types.Step.TheVariants as step
+use Rattle.exec_table.proofs.Cited.{ap, arith, refl, sym, updated, ◌∙◌, read-node, node-asks, quiet-makes}
 use Rattle.exec_table.proofs.rule.ExecTable.again.Goals as goal
 
 pub swap-requires : goal.swap-requires
-swap-requires c = node-asks step.Again c.requires.seat c.place-place.ensures c.requires.ready refl
-    (λ _ _. refl) (λ _ _ _. refl)
+swap-requires c = node-asks c.requires.seat refl c.requires.ready refl
+    (λ _ _ _. (refl, refl))
 
 pub returns : goal.returns
-returns c = record {
+returns c = let d = c.swap.ensures.2 in let g = d.may in record {
   word = c.swap.result;
   ports = c.updated_of.ensures;
-  makes = quiet-makes step.Again (λ _ _. refl) refl (λ _ _ _. refl) c.requires.seat c.swap.ensures.0
-      refl refl c.swap.ensures.2
-      (λ b h can found. ap updated (sym (found ∙ own-word b _ h (grind arith))));
+  makes = quiet-makes refl c.requires.seat d c.swap.ensures.0 refl refl
+      (ap updated (sym (d.word ∙ read-node d.before.core _ (grind arith))));
 }

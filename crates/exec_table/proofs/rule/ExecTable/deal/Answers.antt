@@ -1,5 +1,4 @@
-use Rattle.exec_table.proofs.Imports.{[], ap, arith, get_elem?, length, no_view, one, refl, some-ne-none, subst, sym, ℕ, ⊎_elim, ◌+◌, ◌-◌, ◌<◌, ◌∙◌, ◌≡◌, rules, IsOpen, rest_of, without_first, first_or_none, key_of, NodeSeat, length_push}
-use Rattle.exec_table.proofs.Starting.{first-of, nodes_from, one-more, opened, peels}
+use Rattle.exec_table.proofs.Cited.{[], ap, arith, get_elem?, length, no_view, one, refl, subst, sym, ℕ, ⊎_elim, ◌+◌, ◌<◌, ◌∙◌, ◌≡◌, IsOpen, rest_of, without_first, first_or_none, key_of, NodeSeat, length_push, first-of, one-more, opened, peels}
 use Rattle.exec_table.proofs.rule.ExecTable.deal.Goals as goal
 
 pub split_seat-seat-requires : goal.split_seat-seat-requires
@@ -11,17 +10,6 @@ split_seat-seat-requires c = let w = c.args.self.now.words in let inv = c.loop-i
       peels key c.loop-i.root.seat.id c.loop-i.root.seat.me.0 _ _
           (ap (λ m. m.0.nodes) inv.view ∙ first-of key c.loop-i.i key.nodes (omega arith)),
     )
-
-pub loop-i-init : goal.loop-i-init
-loop-i-init c = let key = key_of c.args.self.now in record {
-  table = c.requires.seat;
-  view = c.requires.view ∙ ap (λ k. (record no_view { nodes = nodes_from key 0 k }, []))
-      (let z : key.nodes ≡ key.nodes - 0 = omega arith in z);
-  count = ap length c.requires.room.0;
-  room = search rules;
-  each = λ k s h. absurd (some-ne-none s (sym (ap (λ l. get_elem? l k) (sym c.requires.room.0)
-      ∙ h)));
-}
 
 pub loop-i-preserved : goal.loop-i-preserved
 loop-i-preserved c = let t = c.args.self.now in let key = key_of t in
@@ -49,16 +37,3 @@ loop-i-preserved c = let t = c.args.self.now in let key = key_of t in
           (λ j. (sym z.0 j, z.1 j)) at_start) (one-more c.loop-i.nodes.items dealt s k i inv.count
           (ap (λ l. get_elem? l k) (sym items) ∙ h));
     }
-
-pub returns-clause-root : goal.returns-clause-root
-returns-clause-root c = let t = c.args.self.now in let key = key_of t in
-    let inv = c.loop-i.invariant in
-    let test = c.loop-i-test.false in let n = t.nodes_are in let e = c.loop-i.auto.i-end in
-    let is = inv.view ∙ ap (λ k. (record no_view { nodes = nodes_from key c.loop-i.i k }, []))
-    (let z : key.nodes - c.loop-i.i ≡ 0 = omega arith in z) in (
-      record {
-        table = inv.table;
-        view = is ∙ ap (λ k. (record no_view { made = k }, [])) (sym (ap (λ m. m.0.made) is));
-      },
-      ap (λ m. m.0.made) is,
-    )

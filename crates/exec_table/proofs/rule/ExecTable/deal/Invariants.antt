@@ -1,5 +1,4 @@
-use Rattle.exec_table.proofs.Imports.{[], get_elem?, length, no_view, some, ℕ, ◌-◌, ◌≡◌, IsOpen, key_of, NodeSeat, vec_capacity}
-use Rattle.exec_table.proofs.Starting.{nodes_from}
+use Rattle.exec_table.proofs.Cited.{[], get_elem?, length, no_view, some, ℕ, ◌-◌, ◌≡◌, IsOpen, key_of, NodeSeat, vec_capacity, nodes_from}
 use Rattle.exec_table.proofs.rule.ExecTable.deal.Given as goal
 
 abbrev pub invariant-loop-i : goal.invariant-loop-i

@@ -1,7 +1,4 @@
-use Rattle.exec_table.proofs.Imports.{Allows, Did, None, Shown, Some, ap, arith, bit_at_end, bit_or, peer_in, ready, refl, subst, sym, true, ◌+◌, ◌<◌, ◌^◌, ◌∙◌, ◌≡◌, end_of_view, key_of, slots, view, marked_by, marked_peer, marks-of}
-use Rattle.exec_table.specs.Plays.{node_of}
-use Rattle.exec_table.proofs.Seating.{makes-before, own-word, quiet-makes, word-asks}
-use Rattle.exec_table.proofs.Working.{owed-wire, peer-inside}
+use Rattle.exec_table.proofs.Cited.{Allows, Did, None, Shown, Some, ap, arith, bit_at_end, bit_or, peer_in, ready, refl, subst, sym, true, ◌+◌, ◌<◌, ◌^◌, ◌∙◌, ◌≡◌, end_of_view, key_of, slots, view, marked_by, marked_peer, marks-of, node_of, read-node, makes-before, quiet-makes, word-asks, owed-wire, peer-inside}
 use Rattle.core_laws.specs.declared.types.Step.TheVariants as step
 use Rattle.exec_table.proofs.rule.ExecTable.mark.Goals as goal
 
@@ -15,7 +12,7 @@ fetch_or-requires c = let o = c.wire_at-wire.ensures.seat in let mid = c.wire_at
     × (c.peer_of-peer.result.0 + 1 < t.table.shared.table_id.words)
     × Allows (Shown (key_of t)) t.table.shared.table_id.slots mid.seat.id mid.seat.me
     (c.peer_of-peer.result.0 + 1) (λ v. bit_or v c.bit.result)
-    (Did (view mid) (step.Mark k) (slots mid))) (sym aim) (word-asks (step.Mark e) o
+    (Did (view mid) (step.Mark k) (slots mid))) (sym aim) (word-asks o
     (let k = t.words in let n = t.nodes_are in
     let i = peer-inside (key_of t).nodes mid.node w wire.sound in let q = p.peer in omega arith)
     (subst (λ x. ready x (step.Mark e) ≡ true) (sym same) c.requires.ready) refl
@@ -27,15 +24,11 @@ fetch_or-requires c = let o = c.wire_at-wire.ensures.seat in let mid = c.wire_at
     )))
 
 pub returns : goal.returns
-returns c = let o = c.wire_at-wire.ensures.seat in let mid = c.wire_at-wire.new.seat in
-    let t = c.args.self.now in let e = c.args.e in let old = c.args.seat.now in
-    let w = c.wire_at-wire.result in let wire = c.wire_at-wire.ensures in
-    let aim = ap (λ m. m.0.aim) wire.view in
-    let same : view mid ≡ view old = ap (λ m. node_of m.0) wire.view in let n = (view mid).number in
-    makes-before t old mid _ (step.Mark e) None _ same
-    (ap (λ m. m.1) c.wire_at-wire.ensures.view)
-    (quiet-makes (step.Mark e) (λ _ _. refl) refl (λ _ _ _. refl) o
-    c.fetch_or.ensures.0 refl refl (subst (λ k. Did (view mid) (step.Mark k) (slots mid)
-    c.fetch_or.result c.fetch_or.new.seat.me) aim c.fetch_or.ensures.2)
-    (λ b h can found. ap marked_peer (ap marked_by (sym (found ∙ own-word b _ h
-    (marks-of b.core n e can h.laws.edges h.laws.nodes).peer_in)) ∙ sym c.marked.ensures)))
+returns c = let mid = c.wire_at-wire.new.seat in let wire = c.wire_at-wire.ensures in
+    let d = subst (λ k. Did (view mid) (step.Mark k) (slots mid) c.fetch_or.result
+    c.fetch_or.new.seat.me) (ap (λ m. m.0.aim) wire.view) c.fetch_or.ensures.2 in
+    makes-before c.args.self.now c.args.seat.now mid _ (step.Mark c.args.e) None _
+    (ap (λ m. node_of m.0) wire.view) (ap (λ m. m.1) wire.view) (quiet-makes refl wire.seat d
+    c.fetch_or.ensures.0 refl refl (ap marked_peer (ap marked_by (sym (d.word
+    ∙ read-node d.before.core _ (marks-of d.before.core (view mid).number c.args.e d.may
+    d.holds.laws.edges d.holds.laws.nodes).peer_in)) ∙ sym c.marked.ensures)))

@@ -1,5 +1,4 @@
-use Rattle.exec_table.proofs.Imports.{ap, arith, length, ◌∙◌, key_of, length-take-le}
-use Rattle.exec_table.proofs.Surveying.{has-still, note-allowed, survey-allowed}
+use Rattle.exec_table.proofs.Cited.{ap, arith, length, ◌∙◌, key_of, length-take-le, has-still, note-allowed, survey-allowed}
 use Rattle.exec_table.proofs.rule.ExecTable.note.Goals as goal
 
 pub load-requires : goal.load-requires

@@ -1,5 +1,4 @@
-use Rattle.exec_table.proofs.Imports.{ap, subst, sym, ◌∙◌, AreAll, views}
-use Rattle.exec_table.proofs.Surveying.{closing}
+use Rattle.exec_table.proofs.Cited.{ap, subst, sym, ◌∙◌, AreAll, views, closing}
 use Rattle.exec_table.proofs.rule.ExecTable.shut.Goals as goal
 
 pub gather-requires-clause-seats : goal.gather-requires-clause-seats

@@ -1,5 +1,4 @@
-use Rattle.exec_table.proofs.Imports.{ap, arith, drop, get_or, ◌+◌, ◌∙◌, rest_of, first_or_none, view, IsBack, IsLent, views}
-use Rattle.exec_table.proofs.Surveying.{all-there, at-now, below, each-done, each-left, enter-allowed, is-back, left-views}
+use Rattle.exec_table.proofs.Cited.{ap, arith, drop, get_or, ◌+◌, ◌∙◌, rest_of, first_or_none, view, IsBack, IsLent, views, all-there, at-now, each-all, each-next, enter-allowed, is-back, left-views}
 use Rattle.exec_table.proofs.rule.ExecTable.survey.Goals as goal
 
 pub load_new_seat-requires : goal.load_new_seat-requires
@@ -13,21 +12,21 @@ pub loop-i-init : goal.loop-i-init
 loop-i-init c = record {
   table = c.note.ensures.root.0 ∙ (c.gather.ensures.root.0 ∙ c.load_new_seat.ensures.0);
   nodes = c.note.ensures.root.1 ∙ c.gather.ensures.root.1;
-  done = λ k s less h. absurd (omega arith);
-  left = λ k s less h. c.gather.ensures.seats k s h;
+  seats = λ k s h. let x = c.gather.ensures.seats k s h in
+      (x.0, x.1, (λ l. absurd (omega arith)), (λ _. x.2));
 }
 
 pub give_back-requires-clause-seat : goal.give_back-requires-clause-seat
 give_back-requires-clause-seat c = let many = c.loop-i.auto.seats in
     let test = c.loop-i-test.true in
-    let x = c.loop-i.invariant.left _ _ (omega arith) (at-now c.loop-i.seats c.loop-i.i
+    let x = c.loop-i.invariant.seats _ _ (at-now c.loop-i.seats c.loop-i.i
     c.index-seats-i.result (omega arith) c.index-seats-i.is) in
-    x.2.0 ∙ (c.requires.seats.1 _ x.0 x.1).0.table
+    (x.3 (omega arith)).0 ∙ (c.requires.seats.1 _ x.0 x.1).0.table
 
 pub give_back-requires-clause-node : goal.give_back-requires-clause-node
 give_back-requires-clause-node c = let many = c.loop-i.auto.seats in
     let test = c.loop-i-test.true in
-    let i = c.loop-i.i in let x = c.loop-i.invariant.left _ _ (omega arith) (at-now c.loop-i.seats i
+    let i = c.loop-i.i in let x = c.loop-i.invariant.seats _ _ (at-now c.loop-i.seats i
     c.index-seats-i.result (omega arith) c.index-seats-i.is) in (
       view x.0,
       views (drop (i + 1) c.args.seats.now),
@@ -38,19 +37,18 @@ pub loop-i-preserved : goal.loop-i-preserved
 loop-i-preserved c = let many = c.loop-i.auto.seats in let test = c.loop-i-test.true in
     let inv = c.loop-i.invariant in let i = c.loop-i.i in let seats = c.args.seats.now in
     let now = get_or c.loop-i.seats i c.index-seats-i.result in
-    let x = inv.left i now (omega arith) (at-now c.loop-i.seats i c.index-seats-i.result
-    (omega arith) c.index-seats-i.is) in let did = c.give_back.ensures in
+    let x = inv.seats i now (at-now c.loop-i.seats i c.index-seats-i.result (omega arith)
+    c.index-seats-i.is) in let did = c.give_back.ensures in
     let first = inv.nodes ∙ left-views seats i x.0 x.1 in record {
       table = did.root.0 ∙ inv.table;
       nodes = ap (λ m. m.0.nodes) did.root.1 ∙ ap rest_of first;
-      done = each-done (IsBack c.args.self.now) seats c.loop-i.seats i x.0 c.give_back.new.seat x.1
-          (is-back c.args.self.now x.0 now c.give_back.new.seat c.loop-i.root.me.0
-          (c.requires.seats.1 i x.0 x.1).0 x.2 (ap first_or_none first) did.seat.0 did.seat.1
-          did.seat.2 did.seat.3) inv.done;
-      left = each-left IsLent seats c.loop-i.seats i c.give_back.new.seat inv.left;
+      seats = each-next (IsBack c.args.self.now) IsLent seats c.loop-i.seats i x.0
+          c.give_back.new.seat x.1 (is-back c.args.self.now x.0 now c.give_back.new.seat
+          c.loop-i.root.me.0 (c.requires.seats.1 i x.0 x.1).0 (x.3 (omega arith))
+          (ap first_or_none first) did.seat.0 did.seat.1 did.seat.2 did.seat.3) inv.seats;
     }
 
 pub returns-clause-seats : goal.returns-clause-seats
-returns-clause-seats c = λ k s h. c.loop-i.invariant.done k s (let z = below c.loop-i.seats k s h in
-    let e = c.loop-i-test.false in let n = c.loop-i.auto.seats in
-    let m = c.gather.ensures.many in omega arith) h
+returns-clause-seats c = each-all (IsBack c.args.self.now) IsLent _ _ _ c.loop-i.invariant.seats
+    (let e = c.loop-i-test.false in let n = c.loop-i.auto.seats in
+    let m = c.gather.ensures.many in omega arith)

@@ -1,13 +1,13 @@
-use Rattle.exec_table.proofs.Imports.{refl, rules, true}
-use Rattle.exec_table.proofs.Seating.{edge-makes, quiet-asks}
+use Rattle.exec_table.proofs.Cited.{refl, rules, true, edge-asks, edge-did, quiet-makes}
 use Rattle.core_laws.specs.declared.types.Step.TheVariants as step
 use Rattle.exec_table.proofs.rule.ExecTable.unwant.Goals as goal
 
 pub fetch_and-requires : goal.fetch_and-requires
-fetch_and-requires c = quiet-asks true step.Unwant c.args.e c.requires.seat (search rules)
-    c.port_place-place.ensures c.requires.ready refl (λ _ _. refl) (λ _ _ _. refl)
+fetch_and-requires c =
+    edge-asks true c.args.seat.now.seat (λ _. step.Unwant) c.args.e c.requires.seat refl refl
+    (search rules) c.port_place-place.ensures c.requires.ready refl (λ _ _ _. (refl, refl))
 
 pub returns : goal.returns
-returns c = edge-makes true step.Unwant c.args.e (λ _ _. refl) refl (λ _ _ _. refl) c.requires.seat
-    c.port_place-place.ensures c.fetch_and.ensures.0 refl refl c.fetch_and.ensures.2
-    (λ _ _ _ _. refl)
+returns c = quiet-makes refl c.requires.seat (edge-did {m = c.args.seat.now.seat.me} true
+    (λ _. step.Unwant) c.args.e c.requires.seat refl c.port_place-place.ensures
+    c.fetch_and.ensures.2) c.fetch_and.ensures.0 refl refl refl

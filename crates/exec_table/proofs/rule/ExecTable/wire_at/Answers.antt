@@ -1,5 +1,4 @@
-use Rattle.exec_table.proofs.Imports.{Allows, Shown, Some, Wire, aiming, ap, false, subst, sym, true, wire_ok, wire_of, ℕ, ◌∙◌, ◌≡◌, end_of_view, key_of, slots, view}
-use Rattle.exec_table.proofs.Seating.{aim-allowed, place-edge, place-inside}
+use Rattle.exec_table.proofs.Cited.{Allows, Shown, Some, aiming, false, subst, sym, true, wire_ok, wire_of, ◌≡◌, end_of_view, key_of, slots, view, aim-allowed, place-edge, place-inside}
 use Rattle.exec_table.proofs.rule.ExecTable.wire_at.Goals as goal
 
 pub load-requires : goal.load-requires
@@ -16,14 +15,3 @@ load-requires c = let s = c.requires.seat in let t = c.args.self.now in
           (aim-allowed (key_of t) _ seat.seat.id seat.seat.me x c.args.e _ s.single s.sizes
           c.requires.known at),
     )
-
-pub returns-clause-wire : goal.returns-clause-wire
-returns-clause-wire c = let t = c.args.self.now in let seat = c.args.seat.now in
-    subst (λ e. (end_of_view (view seat) e).wire ≡ Some c.wire_of.result)
-    (place-edge false t seat c.args.e _ c.requires.seat c.wire_place-place.ensures)
-    (c.load.ensures.2.1 ∙ ap Some (sym c.wire_of.ensures))
-
-pub returns-clause-sound : goal.returns-clause-sound
-returns-clause-sound c = let t = c.args.self.now in let seat = c.args.seat.now in
-    subst (λ (z : ℕ × Wire). wire_ok z.0 z.1 ≡ true)
-    (λ i. ((ap (λ z. z.nodes) c.requires.seat.sizes) i, sym c.wire_of.ensures i)) c.load.ensures.2.2

@@ -1,18 +1,15 @@
-use Rattle.exec_table.proofs.Imports.{ap, arith, false, refl, sym, ◌∙◌, view, wire_in, wired}
-use Rattle.exec_table.proofs.Seating.{edge-below, edge-makes, quiet-asks}
-use Rattle.exec_table.proofs.Working.{wire-in-read, wire-found}
+use Rattle.exec_table.proofs.Cited.{ap, arith, false, refl, sym, wire_in, wired, ◌∙◌, read-wire, edge-asks, edge-did, quiet-makes, wire-in-read}
 use Rattle.core_laws.specs.declared.types.Step.TheVariants as step
 use Rattle.exec_table.proofs.rule.ExecTable.wired.Goals as goal
 
 pub load-requires : goal.load-requires
-load-requires c = let s = c.requires.seat in quiet-asks false step.Wired c.args.e s
-    (edge-below c.args.self.now c.args.seat.now c.args.e s c.requires.ready)
-    c.wire_place-place.ensures c.requires.ready refl (λ _ _. refl) (λ _ _ _. refl)
+load-requires c = edge-asks false c.args.seat.now.seat (λ _. step.Wired) c.args.e c.requires.seat
+    refl refl (let s = c.requires.seat.sizes in let g = c.requires.ready in grind arith)
+    c.wire_place-place.ensures c.requires.ready refl (λ _ _ _. (refl, refl))
 
 pub returns : goal.returns
-returns c = let seat = c.args.seat.now in
-    edge-makes false step.Wired c.args.e (λ _ _. refl) refl (λ _ _ _. refl) c.requires.seat
-    c.wire_place-place.ensures c.load.ensures.0 refl refl c.load.ensures.2
-    (λ b h can found. ap wired (sym (c.wire_in_word.ensures ∙ (ap wire_in (found
-    ∙ wire-found b (view seat).number c.args.e h (grind arith)) ∙ wire-in-read b c.args.e h
-    (grind arith)))))
+returns c = let d = edge-did {m = c.args.seat.now.seat.me} false (λ _. step.Wired) c.args.e
+    c.requires.seat refl c.wire_place-place.ensures c.load.ensures.2 in let g = d.may in
+    quiet-makes refl c.requires.seat d c.load.ensures.0 refl refl (ap wired (sym
+    (c.wire_in_word.ensures ∙ (ap wire_in (d.word ∙ read-wire d.before.core d.holds.laws c.args.e
+    (grind arith)) ∙ wire-in-read d.before c.args.e d.holds (grind arith)))))

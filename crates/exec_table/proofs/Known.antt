@@ -1,0 +1,159 @@
+-- What a seat knows after a step follows from what it knew before and what the step answered.
+use Rattle.exec_table.proofs.Imports.{Act, Board, Bool, Chunk, Close, CoreState, ExecTable, Finish, Holds, IsSeatOf, List, Lane, Makes, NodeSeat, NodeState, NodeView, None, Option, Pull, Push, Some, Step, Unwant, Want, [], acted, adding, after, ap, arith, bit_at_end, board_after, changed, cond, cond_both, edges_of, end-of, end_of_view, eqb, false, filter, fits_end, flags_at, get_or, get_or-set_same, has, is_end, is_none, is_over, is_set, is_updated, key_of, knows, lane_at, learned, learning, left, length, length-set, marked_by, may, may_act, names, no_node, no_wire, not, node_at, node_view, or_right, peer_in, port_at, refl, seeing, set, spent, subst, sym, taken, telling, tells, told, true, turn_at, view, wiring, ℕ, ◌&&◌, ◌-◌, ◌<◌, ◌^◌, ◌∙◌, ◌∷◌, ◌≡◌, ◌||◌}
+use Rattle.core_laws.specs.Steps.{Answer, already_due, answer, charged, over}
+use Rattle.core_laws.specs.declared.types.Step.TheVariants as step
+use Rattle.exec_table.specs.Known.{is_due, price, state_acted, state_after, state_learned, state_taken}
+use Rattle.exec_table.proofs.Readiness.{edge-count}
+use Rattle.exec_table.proofs.Hands.{turn-of-end, view-turn}
+use Rattle.exec_table.proofs.Seating.{known-wire}
+use Rattle.exec_table.proofs.Stepping.{act-parts, holds-in}
+
+-- a view doesn't show the node's word
+abbrev bare : NodeState → NodeState
+bare nd = record nd { word = 0 }
+
+filter-same : (p q : ℕ → Bool) (l : List ℕ) → ((e : ℕ) → has e l ≡ true → p e ≡ q e)
+    → filter p l ≡ filter q l
+filter-same p q [] h = refl
+filter-same p q (x ∷ xs) h = let here = h x (grind arith) in
+    let rest = filter-same p q xs (λ e k. h e (or_right _ _ k)) in
+    λ i. cond (here i) (x ∷ rest i) (rest i)
+
+module _ (b : Board) (n : ℕ) (h : Holds b) (here : n < length b.core.nodes) where
+  abbrev c : CoreState
+  c = b.core
+
+  abbrev nd : NodeState
+  nd = node_at c n
+
+  own : (md : NodeState) → get_or (set c.nodes n md) n no_node ≡ md
+  own md = get_or-set_same c.nodes n md no_node here
+
+  -- what the word says of who is to be told, the sight says too
+  acts : (a : Act) (e : ℕ) → tells a (port_at c e).flags ≡ tells a (flags_at e nd.seen)
+      → bare (node_at (acted a c n e) n) ≡ state_acted a (node_view b n) e
+  acts a e told = ap bare (own _) ∙ ap (λ t. bare (record nd {
+    seen = seeing e (changed a (flags_at e nd.seen)) nd.seen;
+    owes = cond t (adding e nd.owes) nd.owes;
+  })) told
+
+  wants : (e : ℕ) → may_act Want c n e ≡ true
+      → tells Want (port_at c e).flags ≡ tells Want (flags_at e nd.seen)
+  wants e g = let parts = act-parts Want c n e g in
+      let x = end-of true n (port_at c e).wire parts.1 in
+      let sees = (h.laws.edges.each e (holds-in c n e parts.0).1).sees true x.wire x.is in
+      ap not (sym sees.needed ∙ ap (λ m. (flags_at e (node_at c m).seen).needed) x.end)
+
+  takes : (w k : ℕ) → w ≡ nd.word → bare (taken c n k) ≡ state_taken (node_view b n) w k
+  takes w k is = ap (λ l. bare (record nd { held = true; tokens = nd.tokens - k; unlooked = l }))
+      (filter-same (is_updated c n) (is_due (node_view b n) w) (edges_of nd.seen) due)
+    where
+      due : (e : ℕ) → knows e nd.seen ≡ true → is_updated c n e ≡ is_due (node_view b n) w e
+      due e k = λ i. has e nd.unlooked || (is_set (sym is i) 60
+          || is_set (sym is i) (bit_at_end n (sym (known-wire b n e h k) i)))
+
+  learns : (e : ℕ) (d : CoreState) (t : Bool) → n < length d.nodes
+      → bare (node_at (cond t d (record d { nodes = set d.nodes n (learning e (node_at d n)) })) n)
+      ≡ cond t (bare (node_at d n)) (learning e (bare (node_at d n)))
+  learns e d true i = refl
+  learns e d false i = ap bare (get_or-set_same d.nodes n _ no_node i)
+
+  -- the edge is learned where it may be
+  wires : (e : ℕ) (d : CoreState) (t : Bool) → d.nodes ≡ c.nodes
+      → bare (node_at (cond t (learned d n e) c) n) ≡ cond t (state_learned e (bare nd)) (bare nd)
+  wires e d true q = learns e d (knows e (node_at d n).seen)
+      (subst (λ l. n < length l) (sym q) here)
+      ∙ ap (λ l. state_learned e (bare (get_or l n no_node))) q
+  wires e d false q = refl
+
+  rests : (t : Bool) → bare (node_at (cond t (record c { nodes = set c.nodes n (left 0 nd) }) c) n)
+      ≡ cond t (left 0 (bare nd)) (bare nd)
+  rests true = ap bare (own _)
+  rests false = refl
+
+  priced : (w : ℕ) → spent w ≡ price (marked_by w)
+  priced w = both (eqb w 0) (is_over w)
+    where
+      both : (t o : Bool) → cond t 1 0 ≡ price (cond t charged (cond o over already_due))
+      both true o = refl
+      both false true = refl
+      both false false = refl
+
+  pub state-after : (s : Step) → may c n s ≡ true
+      → bare (node_at (after c n s) n) ≡ state_after (node_view b n) s (answer c n s)
+  state-after (step.Look e) g = ap bare (own _)
+  state-after (step.Want e) g = acts Want e (wants e g)
+  state-after (step.Unwant e) g = acts Unwant e refl
+  state-after (step.Push e k) g = acts (Push k) e refl
+  state-after (step.Pull e) g = acts Pull e refl
+  state-after (step.Finish e) g = acts Finish e refl
+  state-after (step.ClosePort e) g = acts Close e refl
+  state-after (step.Mark e) g = let m = peer_in n (port_at c e).wire in
+      let md = told (bit_at_end m (port_at c e).wire) (node_at c m) in
+      ap bare (get_or-set_same (set c.nodes m md) n _ no_node
+      (let l = length-set c.nodes m md in omega (arith, l, here)))
+      ∙ ap (λ k. bare (telling e k nd)) (priced (node_at c m).word)
+  state-after step.Begin g = ap bare (own _) ∙ takes nd.word (spent nd.word) refl
+  state-after step.Again g = ap bare (own _) ∙ takes nd.word 0 refl
+  state-after step.Rest g = rests (eqb nd.word (2 ^ 62))
+  state-after step.Over g = ap bare (own _)
+  state-after step.TokenIn g = ap bare (own _)
+  state-after step.TokenOut g = ap bare (own _)
+  state-after (step.Wire e w) g = wires e (wiring c e w) (is_none (port_at c e).wire) refl
+  state-after (step.Wired e) g = wires e c (names n (port_at c e).wire) refl
+  state-after step.Birth g = ap bare (own _)
+  state-after s g = refl
+
+module _ {t : ExecTable} {old new : NodeSeat} {s : Step} {x : Option Chunk} {a : Answer}
+    (o : IsSeatOf t old) (m : Makes t old new s x a) where
+  abbrev n : ℕ
+  n = (view old).number
+
+  sizes : m.before.core.sizes ≡ key_of t
+  sizes = ap (λ (v : NodeView). v.sizes) m.was ∙ o.sizes
+
+  pub state-made : (view new).state ≡ state_after (view old) s a
+  state-made = let i = o.inside in let z = ap (λ z. z.nodes) sizes in
+      let l = m.holds.laws.nodes.number in sym (ap (λ (v : NodeView). v.state) m.now)
+      ∙ (state-after m.before n m.holds (omega (arith, i, z, l)) s m.may
+      ∙ (λ i. state_after (m.was i) s (m.says i)))
+
+  -- the wire of an edge from the start, which the node has learned
+  pub wire-made : (e : ℕ) → knows e (view new).state.seen ≡ true → e < length (key_of t).wires
+      → (end_of_view (view new) e).wire ≡ Some (get_or (key_of t).wires e no_wire)
+  wire-made e k i = let d = board_after m.before n s x in let same = m.seat.sizes in
+      let is = ap (λ (v : NodeView). v.sizes) m.now ∙ same in
+      let l = ap (λ z. length z.wires) is in let count = m.kept.laws.edges.count in
+      let edge = m.kept.laws.edges.each e (omega (arith, i, l, count)) in
+      sym (ap (λ (v : NodeView). (end_of_view v e).wire) m.now)
+      ∙ (known-wire d n e m.kept (ap (λ (v : NodeView). knows e v.state.seen) m.now ∙ k)
+      ∙ (edge.wired.fixed (subst (λ z. e < length z.wires) (sym is) i)
+      ∙ ap (λ z. Some (get_or z.wires e no_wire)) is))
+
+  -- where the seat has the turn of the slot, it has what its end may take
+  pub turn-fits : (e : ℕ) → knows e (view new).state.seen ≡ true → (v : Option Chunk)
+      → (end_of_view (view new) e).turn ≡ Some v
+      → fits_end (is_end true (view new).number (end_of_view (view new) e).wire) v ≡ true
+  turn-fits e = subst (λ (y : NodeView). knows e y.state.seen ≡ true → (v : Option Chunk)
+      → (end_of_view y e).turn ≡ Some v
+      → fits_end (is_end true y.number (end_of_view y e).wire) v ≡ true) m.now fits
+    where
+      d : Board
+      d = board_after m.before n s x
+
+      turned : (b : Bool) (l : Lane) (v : Option Chunk) → turn_at b l ≡ Some v
+          → fits_end b v ≡ true
+      turned b l v = cond_both (l.taken && fits_end b l.content) (Some l.content) None
+          (λ y. y ≡ Some v → fits_end b v ≡ true)
+          (λ t q. let is : l.content ≡ v = cc in subst (λ v. fits_end b v ≡ true) is (grind arith))
+          (λ _ q. absurd (let z : None ≡ Some v = q in cc))
+
+      fits : knows e (node_at d.core n).seen ≡ true → (v : Option Chunk)
+          → (end_of_view (node_view d n) e).turn ≡ Some v
+          → fits_end (is_end true n (end_of_view (node_view d n) e).wire) v ≡ true
+      fits k v q = let w = (port_at d.core e).wire in let l = lane_at d e in
+          let less = (m.kept.stages n).known e k in let count = edge-count d m.kept in
+          let named = (m.kept.laws.edges.each e (omega (arith, less, count))).learned n k in
+          ap (λ w. fits_end (is_end true n w) v) (known-wire d n e m.kept k)
+          ∙ turned (is_end true n w) l v (sym (turn-of-end n w l named)
+          ∙ (sym (view-turn d n e m.kept) ∙ q))
