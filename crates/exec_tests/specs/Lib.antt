@@ -1,1 +1,2 @@
 pub mod NamedCells
+pub mod TableRows

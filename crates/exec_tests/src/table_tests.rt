@@ -1,11 +1,15 @@
 //! Tests of the execution table.
-ghost use Rattle.std.specs.Prelude.{◌≡◌, IfOk};
+ghost use Rattle.std.specs.Prelude.{◌≡◌, ℕ, true, false, [], IfOk, IfSome, IsTrue};
+ghost use Rattle.core_laws.specs.Views.{has};
 ghost use Rattle.exec_table.specs.Made.{IsMade};
+ghost use Rattle.exec_table.specs.Seats.{IsRootOf, IsSeatOf, view};
+ghost use Rattle.exec_tests.specs.TableRows.{Is, IsFirst, IsHeld, Saw, node, seen_as};
 
-use chunk_data::List;
-use core_laws::{Reserve, Sizes, Wire};
-use exec_table::{ExecTable, Made, Seen};
+use chunk_data::{Chunk, ColumnType, List, Value};
+use core_laws::{Flags, Reserve, Sizes, Wire};
+use exec_table::{ExecTable, Made, Marked, NodeSeat, Rested, RootSeat, Seen, Updated};
 use std::test::Fail;
+use std::thread::join;
 
 fn wire(from: u32, out: u32, to: u32, input: u32) -> Wire
     ensures { result ≡ record { from = from; out = out; to = to; input = input } }
@@ -55,5 +59,198 @@ fn a_worker_sees_the_consumers_pending(rt: HostRuntime) -> Result<(), Fail> {
     assert!(rt; table.see(&mut worker) == Seen::Pending(2));
     table.stop(&mut worker);
     assert!(rt; table.see(&mut worker) == Seen::Stopped);
+    Ok(())
+}
+
+// ---- rows of calls at two nodes and an edge
+
+fn two_nodes(rt: &HostRuntime) -> Result<(ExecTable, NodeSeat, NodeSeat, RootSeat), Fail>
+    ensures zero { IfOk result (λ p. IsFirst 0 p.0 p.1) }
+    ensures one { IfOk result (λ p. IsFirst 1 p.0 p.2) }
+    ensures root { IfOk result (λ p. IsRootOf p.0 p.3 × (p.3.seat.me.0.made ≡ 0)) }
+{
+    let sizes = Sizes {
+        nodes: 2,
+        wires: List::from_vec(vec![in rt.alloc(); wire(0, 0, 1, 0)]?),
+        reserves: List::new(rt.alloc()),
+        workers: 1,
+    };
+    let Made {
+        table,
+        mut nodes,
+        root,
+    } = ExecTable::make(rt.alloc(), &sizes)?;
+    let one = nodes.pop().unwrap();
+    let zero = nodes.pop().unwrap();
+    Ok((table, zero, one, root))
+}
+
+fn chunk(rt: &HostRuntime) -> Result<Chunk, Fail> {
+    let types = List::from_vec(vec![in rt.alloc(); ColumnType::Int64]?);
+    let mut chunk = Chunk::new(rt.alloc(), &types)?;
+    chunk.push_row(List::from_vec(vec![in rt.alloc(); Value::Int(7)]?))?;
+    Ok(chunk)
+}
+
+fn updated(inputs: u32, outputs: u16, first: bool) -> Updated
+    ensures { result ≡ record { inputs = inputs; outputs = outputs; first = first } }
+{
+    Updated {
+        inputs,
+        outputs,
+        first,
+    }
+}
+
+fn has_slot(seat: &NodeSeat) -> bool
+    ensures { result ≡ has 0 seat.now.held.items }
+{
+    seat.held.iter().any(|e| *e == 0)
+}
+
+// Looks, with the slot at home, until the port is so.
+fn sees(table: &ExecTable, seat: &mut NodeSeat, needed: bool, has_data: bool) -> bool
+    requires { (n k : ℕ) × IsHeld n k table.now seat.old }
+    ensures seat { IsSeatOf table.now seat.new }
+    ensures saw { IsTrue result → (n k : ℕ) → IsHeld n k table.now seat.old
+        → Saw n k (seen_as needed has_data) table.now seat.new }
+{
+    let wanted = Flags {
+        needed,
+        has_data,
+        fin_out: false,
+        fin_in: false,
+    };
+    for _ in 0..100_000_000u64 {
+        let is_out = has_slot(seat);
+        if table.look(seat, 0) == wanted && !is_out {
+            return true;
+        }
+    }
+    false
+}
+
+// Node 1 begins, wants a chunk and charges node 0.
+fn asks(table: &ExecTable, seat: &mut NodeSeat) -> bool
+    requires { IsFirst 1 table.now seat.old }
+    ensures { IsTrue result
+        → Is 1 (node true 0 (seen_as true false) [] false) table.now seat.new }
+{
+    table.token_in(seat);
+    if table.begin(seat) != updated(0, 0, true) || !sees(table, seat, false, false) {
+        return false;
+    }
+    table.want(seat, 0);
+    table.mark(seat, 0) == Marked::Charged
+}
+
+// Node 0 begins, pushes the chunk that is needed and tells node 1, which is held.
+fn gives(table: &ExecTable, seat: &mut NodeSeat, chunk: Chunk) -> bool
+    requires { IsFirst 0 table.now seat.old }
+    ensures { IsTrue result
+        → Is 0 (node true 1 (seen_as true true) [] false) table.now seat.new }
+{
+    table.token_in(seat);
+    if table.begin(seat) != updated(0, 1, false) || !sees(table, seat, true, false) {
+        return false;
+    }
+    if !has_slot(seat) {
+        return false;
+    }
+    table.push(seat, 0, chunk);
+    table.mark(seat, 0) == Marked::AlreadyDue
+}
+
+fn takes(table: &ExecTable, seat: &mut NodeSeat) -> Option<Chunk>
+    requires { (k : ℕ) × IsHeld 1 k table.now seat.old }
+    ensures { IfSome result (λ _. IsSeatOf table.now seat.new × ((view seat.new).number ≡ 1)) }
+{
+    if !sees(table, seat, true, true) || !has_slot(seat) {
+        return None;
+    }
+    let chunk = table.lift(seat, 0);
+    table.pull(seat, 0);
+    Some(chunk)
+}
+
+// Node 0 rests, and gives its tokens back.
+fn rests(table: &ExecTable, seat: &mut NodeSeat) -> bool
+    requires { Is 0 (node true 1 (seen_as true true) [] false) table.now seat.old }
+    ensures { IsTrue result → IsSeatOf table.now seat.new × ((view seat.new).number ≡ 0) }
+{
+    if table.rest(seat) != Rested::Idle {
+        return false;
+    }
+    table.token_out(seat);
+    table.token_out(seat);
+    true
+}
+
+// Node 1, which was told meanwhile, takes the chunk.
+fn takes_again(table: &ExecTable, seat: &mut NodeSeat) -> Option<Chunk>
+    requires { Is 1 (node true 0 (seen_as true false) [] false) table.now seat.old }
+    ensures { IfSome result (λ _. IsSeatOf table.now seat.new × ((view seat.new).number ≡ 1)) }
+{
+    if table.rest(seat) != Rested::UpdatedAgain || table.again(seat) != updated(1, 0, false) {
+        return None;
+    }
+    takes(table, seat)
+}
+
+#[test]
+fn a_chunk_passes(rt: HostRuntime) -> Result<(), Fail> {
+    let (table, mut zero, mut one, mut root) = two_nodes(&rt)?;
+    let mut worker = table.worker(&mut root);
+    if !asks(&table, &mut one) || !gives(&table, &mut zero, chunk(&rt)?) {
+        return Err("the chunk wasn't given".into());
+    }
+    if !rests(&table, &mut zero) || table.see(&mut worker) != Seen::Pending(1) {
+        return Err("node 0 isn't idle".into());
+    }
+    let Some(chunk) = takes_again(&table, &mut one) else {
+        return Err("the chunk wasn't taken".into());
+    };
+    assert_eq!(rt; chunk.rows(), 1);
+    let mut words = [7; 5];
+    let mut nodes = vec![in rt.alloc(); zero, one]?;
+    table.survey(nodes.as_mut_slice(), &mut words);
+    let at_last = [1, 0, 1 << 62, 1 + (1 << 25), 1];
+    assert_eq!(rt; words, at_last);
+    let last = table.shut(root, nodes, vec![in rt.alloc(); worker]?)?;
+    assert_eq!(rt; last.words.as_slice(), at_last.as_slice());
+    assert!(rt; matches!(last.chunks.as_slice(), [None]));
+    Ok(())
+}
+
+#[test]
+fn a_chunk_passes_between_threads(rt: HostRuntime) -> Result<(), Fail> {
+    let (table, mut zero, mut one, _) = two_nodes(&rt)?;
+    let chunk = chunk(&rt)?;
+    if !asks(&table, &mut one) {
+        return Err("node 1 didn't ask".into());
+    }
+    let (given, taken) = join(
+        &rt,
+        ||
+            requires { IsFirst 0 table zero }
+        { gives(&table, &mut zero, chunk) && sees(&table, &mut zero, true, false) },
+        ||
+            requires { (k : ℕ) × IsHeld 1 k table one }
+        { takes(&table, &mut one) },
+    );
+    assert!(rt; given);
+    assert_eq!(rt; taken.map(|chunk| chunk.rows()), Some(1));
+    Ok(())
+}
+
+#[test]
+fn a_chunk_left_in_its_slot_is_handed_back(rt: HostRuntime) -> Result<(), Fail> {
+    let (table, mut zero, mut one, root) = two_nodes(&rt)?;
+    if !asks(&table, &mut one) || !gives(&table, &mut zero, chunk(&rt)?) {
+        return Err("the chunk wasn't given".into());
+    }
+    let nodes = vec![in rt.alloc(); zero, one]?;
+    let last = table.shut(root, nodes, Vec::new(rt.alloc()))?;
+    assert!(rt; matches!(last.chunks.as_slice(), [Some(_)]));
     Ok(())
 }

@@ -1,0 +1,32 @@
+use Rattle.core_laws.specs.declared.types.Step.TheVariants as step
+use Rattle.exec_tests.proofs.TableRows.{AlreadyDue, Push, and_from, ap, arith, begun, can, can-act, end_of_view, eqb, in-hand, length, marked_of, marked_peer, may-push, refl, rules, stepped, sym, true, view, ◌≡◌, ◌∙◌}
+use Rattle.exec_tests.proofs.table_tests.gives.Goals as goal
+
+pub sees-requires : goal.sees-requires
+sees-requires c = (
+  0,
+  1,
+  begun c.requires c.token_in.ensures c.begin.ensures
+      (search rules),
+)
+
+pub push-requires-clause-ready : goal.push-requires-clause-ready
+push-requires-clause-ready c = let j = length (end_of_view (view c.sees.new.seat) 0).chunks in
+    and_from _ _ (can-act (c.sees.ensures.saw c.if-not-sees.false 0 1 (begun c.requires c.token_in.ensures c.begin.ensures (search rules))) (Push j) refl)
+    (let z : eqb j j ≡ true = grind arith in z)
+
+pub push-requires-clause-slot : goal.push-requires-clause-slot
+push-requires-clause-slot c = let w = c.sees.ensures.saw c.if-not-sees.false 0 1
+    (begun c.requires c.token_in.ensures c.begin.ensures (search rules)) in
+    may-push _ (in-hand w.is ∙ (sym c.has_slot.ensures ∙ c.if-not-has_slot.false)) w.fits
+
+pub mark-requires-clause-ready : goal.mark-requires-clause-ready
+mark-requires-clause-ready c = can (stepped (c.sees.ensures.saw c.if-not-sees.false 0 1
+    (begun c.requires c.token_in.ensures c.begin.ensures (search rules))).is
+    c.push.ensures refl) (step.Mark 0) refl
+
+pub returns : goal.returns
+returns c = λ t. stepped (stepped (c.sees.ensures.saw c.if-not-sees.false 0 1
+    (begun c.requires c.token_in.ensures c.begin.ensures (search rules))).is
+    c.push.ensures refl) c.mark.ensures (ap (λ r. marked_peer (marked_of r))
+    (let q : c.mark.result ≡ AlreadyDue = search rules in q))
