@@ -263,7 +263,7 @@ impl<G: Grouped> Kernel for Grouping<G> {
             Spec::PartialAggregate(group) => Grouping::begun(alloc, group),
             Spec::MergeAggregate(group) => Grouping::begun(alloc, group),
             // The shell hands it no other kind's.
-            _ => Err(Memory),
+            _ => unreachable!(),
         }
     }
 

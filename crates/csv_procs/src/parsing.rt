@@ -68,7 +68,7 @@ impl Kernel for Parsing {
                 })
             }
             // The shell hands it no other kind's.
-            _ => Err(Memory),
+            _ => unreachable!(),
         }
     }
 

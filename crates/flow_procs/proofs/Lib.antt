@@ -2,4 +2,3 @@ pub mod Imports
 mod FilterLaws
 mod LimitLaws
 mod CountingLaws
-mod KindLaws

@@ -42,15 +42,17 @@ impl Kernel for Gathering {
         Kind::Collect
     }
 
-    // A spec of its kind has nothing to be kept.
-    #[tactic(auto, using(crate::proofs::KindLaws::collect_alone))]
-    fn begin(alloc: Global, _spec: Spec) -> Result<Gathering, Memory> {
-        match Vec::with_capacity(alloc, 1) {
-            Ok(chunks) => Ok(Gathering {
-                chunks,
-                handed_out: false,
-            }),
-            Err(_) => Err(Memory),
+    fn begin(alloc: Global, spec: Spec) -> Result<Gathering, Memory> {
+        match spec {
+            Spec::Collect => match Vec::with_capacity(alloc, 1) {
+                Ok(chunks) => Ok(Gathering {
+                    chunks,
+                    handed_out: false,
+                }),
+                Err(_) => Err(Memory),
+            },
+            // The shell hands it no other kind's.
+            _ => unreachable!(),
         }
     }
 

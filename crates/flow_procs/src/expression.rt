@@ -41,7 +41,7 @@ impl Kernel for Evaluating {
         match spec {
             Spec::Expression(items) => Ok(Evaluating { items }),
             // The shell hands it no other kind's.
-            _ => Err(Memory),
+            _ => unreachable!(),
         }
     }
 

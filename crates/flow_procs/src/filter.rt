@@ -41,7 +41,7 @@ impl Kernel for Filtering {
         match spec {
             Spec::Filter(cond) => Ok(Filtering { cond }),
             // The shell hands it no other kind's.
-            _ => Err(Memory),
+            _ => unreachable!(),
         }
     }
 

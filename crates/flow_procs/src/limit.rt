@@ -52,7 +52,7 @@ impl Kernel for Limiting {
         match spec {
             Spec::Limit(span) => Ok(Limiting { span, read: 0 }),
             // The shell hands it no other kind's.
-            _ => Err(Memory),
+            _ => unreachable!(),
         }
     }
 

@@ -69,7 +69,7 @@ impl Kernel for Counting {
         match spec {
             Spec::Numbers(end, rows) => Ok(Counting { next: 0, end, rows }),
             // The shell hands it no other kind's.
-            _ => Err(Memory),
+            _ => unreachable!(),
         }
     }
 

@@ -31,10 +31,12 @@ impl Kernel for Resizing {
         Kind::Resize
     }
 
-    // A spec of its kind has nothing to be kept.
-    #[tactic(auto, using(crate::proofs::KindLaws::begins_resize))]
-    fn begin(_alloc: Global, _spec: Spec) -> Result<Resizing, Memory> {
-        Ok(Resizing)
+    fn begin(_alloc: Global, spec: Spec) -> Result<Resizing, Memory> {
+        match spec {
+            Spec::Resize => Ok(Resizing),
+            // The shell hands it no other kind's.
+            _ => unreachable!(),
+        }
     }
 
     fn fits(&self, _inputs: usize, outputs: usize) -> bool {

@@ -165,7 +165,7 @@ impl Kernel for Joining {
                 Err(memory) => Err(memory),
             },
             // The shell hands it no other kind's.
-            _ => Err(Memory),
+            _ => unreachable!(),
         }
     }
 

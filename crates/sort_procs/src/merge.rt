@@ -69,7 +69,7 @@ impl Kernel for Merging {
                 Err(memory) => Err(memory),
             },
             // The shell hands it no other kind's.
-            _ => Err(Memory),
+            _ => unreachable!(),
         }
     }
 

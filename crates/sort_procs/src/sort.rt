@@ -150,7 +150,7 @@ impl Kernel for Sorting {
                 Err(memory) => Err(memory),
             },
             // The shell hands it no other kind's.
-            _ => Err(Memory),
+            _ => unreachable!(),
         }
     }
 
