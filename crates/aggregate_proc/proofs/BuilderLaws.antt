@@ -1,22 +1,12 @@
 -- The columns that are built for a spec.
-use Rattle.std.proofs.Common.{◌≡◌, ℕ, suc, ◌+◌, ◌<◌, ◌≤◌, Bool, true, false, List, [], ◌∷◌, ◌++◌, length, map, take, get_or, refl, sym, ap, ◌∙◌, subst, arith}
-use Rattle.chunk_data.proofs.Laws.{AreLong-made, rows_of-made}
-use Rattle.std.proofs.lemmas.Grind.{common_steps}
-use Rattle.aggregate_proc.proofs.Prelude.{AggOp, All, AreLong, Column, ColumnType, FoldColumn, Folding, GroupSpec, IsTableFor, StateCall, TableView, argument_types, call_foldings, call_types, count_up, default_value, empty_column, folding_of, foldings_for, get_or-map, get_or_default, group_types, key_foldings, kinds_of, length-append, length-map, map-append, map-id, map-map, rows_of, take_all, take_at, types_for, values}
-use Rattle.query_model.specs.declared.query.AggOp.TheVariants as agg
+use Rattle.aggregate_proc.proofs.Prelude.{◌≡◌, ℕ, ◌+◌, ◌<◌, ◌≤◌, Bool, true, false, List, [], ◌∷◌, ◌++◌, length, map, take, get_or, refl, sym, ap, ◌∙◌, subst, arith, AreLong-made, rows_of-made, common_steps, All, AreLong, Column, ColumnType, FoldColumn, Folding, GroupSpec, IsTableFor, StateCall, TableView, argument_types, call_foldings, call_types, count_up, default_value, empty_column, folding_of, foldings_for, get_or-map, get_or_default, group_types, key_foldings, kinds_of, length-append, length-map, map-append, map-id, map-map, rows_of, take_all, take_at, types_for, values}
 use Rattle.chunk_data.specs.declared.typed_value.ColumnType.TheVariants as type
 use Rattle.aggregate_proc.proofs.ListLaws.{taken}
 use Rattle.aggregate_proc.specs.declared.fold.Fold.TheVariants as fold
 
 arguments : (calls : List StateCall) → call_types false calls ≡ argument_types calls
 arguments [] = refl
-arguments (call ∷ calls) = go call.op (arguments calls)
-  where
-    go : (op : AggOp) → call_types false calls ≡ argument_types calls
-        → call_types false (record call { op = op } ∷ calls)
-        ≡ argument_types (record call { op = op } ∷ calls)
-    go agg.Count e = e
-    go op e = ap (λ l. call.kind ∷ l) e
+arguments (call ∷ calls) = grind (arith, arguments calls)
 
 kinds : (calls : List StateCall) → call_types true calls ≡ map (λ (c : StateCall). c.kind) calls
 kinds calls = grind (arith, common_steps)
@@ -37,14 +27,7 @@ pub key-push : (types : List ColumnType) (c : ℕ) (columns : List FoldColumn) (
     → c < length types
     → columns ++ column ∷ [] ≡ map empty_column (key_foldings types (c + 1))
 unfolding count_up
-key-push types c columns d e column is lt =
-    let next : suc c ≡ c + 1 = omega arith in
-    ap (λ l. l ++ column ∷ []) e ∙ ap (λ x. map empty_column (key_foldings types c) ++ x ∷ [])
-    (is ∙ ap (λ k. empty_column (record { op = fold.First; input = c; kind = k }))
-    (get_or_default types c d type.Text lt))
-    ∙ sym (ap (map empty_column) (map-append _ (count_up c) (c ∷ []))
-    ∙ map-append empty_column (key_foldings types c) _)
-    ∙ ap (λ n. map empty_column (key_foldings types n)) next
+key-push types c columns d e column is lt = grind (arith, get_or_default, map-append)
 
 pub all-empty : (fs : List Folding) (columns : List FoldColumn) → columns ≡ map empty_column fs
     → All (λ (c : FoldColumn). c.values ≡ []) columns
@@ -67,11 +50,7 @@ pub built-columns : (merges : Bool) (g : GroupSpec) (types : List ColumnType)
     → keys ≡ map empty_column (key_foldings types (length g.keys))
     → now ≡ keys ++ map empty_column (call_foldings merges (length g.keys) g.calls)
     → now ≡ map empty_column (foldings_for merges g)
-built-columns merges g types keys now t k n =
-    n ∙ ap (λ l. l ++ map empty_column (call_foldings merges (length g.keys) g.calls))
-    (k ∙ ap (λ ts. map empty_column (key_foldings ts (length g.keys))) t)
-    ∙ sym (map-append empty_column (key_foldings (types_for merges g) (length g.keys))
-    (call_foldings merges (length g.keys) g.calls))
+built-columns merges g types keys now t k n = grind (arith, map-append)
 
 -- ---- the types of a table's rows
 
@@ -84,14 +63,7 @@ call-kinds merges c (call ∷ calls) = ap (λ l. call.kind ∷ l) (call-kinds me
 front-keys : (merges : Bool) (g : GroupSpec)
     → (take (length g.keys) (types_for merges g) ≡ g.keys)
     × (length g.keys ≤ length (types_for merges g))
-front-keys merges g =
-    let P : List ColumnType → Type 0 =
-    λ l. (take (length g.keys) l ≡ g.keys) × (length g.keys ≤ length l) in
-    let m = length-append g.keys (call_types merges g.calls) in
-    subst P (types-are merges g) (
-      take_at g.keys (call_types merges g.calls) (length g.keys) refl,
-      omega (arith, m),
-    )
+front-keys merges g = grind (arith, length-append, types-are, take_at)
 
 pub table-types : (merges : Bool) (g : GroupSpec) (t : TableView) → IsTableFor merges g t
     → kinds_of t ≡ group_types g
@@ -120,6 +92,4 @@ pub default-values : (calls : List StateCall) (columns given : List Column) (ind
     → length calls ≤ index → given ≡ columns
     → map values columns ≡ map (λ (c : StateCall). default_value c.kind ∷ []) (take index calls)
     → map values given ≡ map (λ (c : StateCall). default_value c.kind ∷ []) calls
-default-values calls columns given index le is e =
-    ap (map values) is ∙ e
-    ∙ ap (map (λ (c : StateCall). default_value c.kind ∷ [])) (take_all index calls le)
+default-values calls columns given index le is e = grind (arith, take_all)

@@ -1,9 +1,7 @@
 -- The calls of a partial aggregate and of a merge are what is folded, and their groups are those by
 -- the first values.
+use Rattle.aggregate_proc.proofs.Prelude.{AggOp, AllByRecursion, AreCalls, Call, FitsTypes, GroupSpec, IsPermutation-grouped_by, IsPermutation-refl, Row, StateCall, Value, call_foldings, call_of, calls_for, calls_from, combine_of, combined, counted, distinct_rows, given_for, group_types, grouped_by, groups_for, groups_or_default, key_of, length-append, length-map, length_permutation, rows_with, same_row, state_calls, types_for, value_at, value_of, values_at, whole_for, Text, UInt, length-FitsTypes, Bool, IsPermutation, List, [], ap, arith, false, length, map, refl, suc, sym, true, ℕ, ◌%◌, ◌++◌, ◌^◌, ◌∙◌, ◌∷◌, ◌≡◌}
 use Rattle.aggregate_proc.proofs.ListLaws.{filter-same, map-same, taken}
-use Rattle.aggregate_proc.proofs.Prelude.{AggOp, AllByRecursion, AreCalls, Call, FitsTypes, GroupSpec, IsPermutation-grouped_by, IsPermutation-refl, Row, StateCall, Value, call_foldings, call_of, calls_for, calls_from, combine_of, combined, count_up, counted, default_states, distinct_rows, fold_for, folded, given_for, group_types, grouped_by, groups_for, groups_or_default, key_of, length-append, length-map, length_permutation, merge_of, merged_states, rows_with, same_row, state_calls, types_for, value_at, value_of, values_at, whole_for}
-use Rattle.query_model.proofs.Imports.{Text, UInt, length-FitsTypes}
-use Rattle.std.proofs.Common.{Bool, IsPermutation, List, [], ap, arith, false, length, map, refl, subst, suc, sym, true, ℕ, ◌%◌, ◌++◌, ◌+◌, ◌^◌, ◌∙◌, ◌∷◌, ◌≡◌}
 use Rattle.query_model.specs.declared.query.AggOp.TheVariants as agg
 
 -- ---- calls
@@ -30,19 +28,7 @@ merge-calls : (c : ℕ) (calls : List StateCall)
     → AreCalls (call_foldings true c calls)
     (state_calls c (map (λ (s : StateCall). combine_of s.op) calls))
 merge-calls c [] = tt
-merge-calls c (call ∷ calls) =
-    let next : suc c ≡ c + 1 = omega arith in (
-      head call.op,
-      subst (λ n. AreCalls (call_foldings true (suc c) calls)
-          (state_calls n (map (λ (s : StateCall). combine_of s.op) calls))) next
-          (merge-calls (suc c) calls),
-    )
-  where
-    head : (op : AggOp) (rows : List Row)
-        → folded (fold_for true op) (map (λ (r : Row). value_at r c) rows)
-        ≡ combined (merge_of (combine_of op)) (map (λ (r : Row). value_at r c) rows)
-    head agg.Count rows = refl
-    head op rows = refl
+merge-calls c (call ∷ calls) = grind (arith, merge-calls (suc c) calls)
 
 pub calls-are : (merges : Bool) (g : GroupSpec)
     → AreCalls (call_foldings merges (length g.keys) g.calls) (calls_for merges g)
@@ -68,9 +54,7 @@ values-map (c ∷ cs) row = ap (λ l. value_at row c ∷ l) (values-map cs row)
 pub groups-by : (merges : Bool) (g : GroupSpec) (rows : List Row)
     → AllByRecursion (FitsTypes (types_for merges g)) rows
     → groups_for merges g rows ≡ grouped_by (key_of (length g.keys)) (calls_for merges g) rows
-groups-by false g rows h =
-    grouped-same (FitsTypes (types_for false g)) _ _
-    (λ r p. values-map (count_up (length g.keys)) r) (calls_for false g) rows h
+groups-by false g rows h = grind (arith, grouped-same, values-map)
 groups-by true g rows h = grouped-same (FitsTypes (group_types g)) _ _
     (λ r p. let a = length-FitsTypes (group_types g) r p in
     let b = length-append g.keys (map (λ (c : StateCall). c.kind) g.calls) in
@@ -83,15 +67,11 @@ default-permutation : (lone : Bool) (d : Row) (xs ys : List Row) → IsPermutati
     → IsPermutation (groups_or_default lone d xs) (groups_or_default lone d ys)
 default-permutation false d xs ys h = h
 default-permutation true d [] [] h = IsPermutation-refl (d ∷ [])
-default-permutation true d [] (y ∷ ys) h =
-    absurd (let l = length_permutation [] (y ∷ ys) h in omega (arith, l))
-default-permutation true d (x ∷ xs) [] h =
-    absurd (let l = length_permutation (x ∷ xs) [] h in omega (arith, l))
+default-permutation true d [] (y ∷ ys) h = grind (arith, length_permutation)
+default-permutation true d (x ∷ xs) [] h = grind (arith, length_permutation)
 default-permutation true d (x ∷ xs) (y ∷ ys) h = h
 
 pub given-whole : (merges : Bool) (g : GroupSpec) (rows order : List Row) → IsPermutation rows order
     → IsPermutation (whole_for merges g rows) (given_for merges g (groups_for merges g order))
 given-whole false g rows order h = IsPermutation-grouped_by _ _ rows order h
-given-whole true g rows order h =
-    default-permutation g.lone (default_states g) (merged_states g rows) (merged_states g order)
-    (IsPermutation-grouped_by _ _ rows order h)
+given-whole true g rows order h = grind (arith, default-permutation, IsPermutation-grouped_by)

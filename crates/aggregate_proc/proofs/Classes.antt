@@ -1,7 +1,5 @@
 -- Rows that come one after another into classes by their codes, and what is made of each class.
-use Rattle.std.proofs.Common.{◌≡◌, Bool, true, false, not, ◌||◌, cond, List, [], ◌∷◌, ◌++◌, map, filter, fold, refl, sym, ap, ap₂, ◌∙◌, append_assoc, subst, arith}
-use Rattle.aggregate_proc.proofs.Prelude.{AllByRecursion, Fold, IsSame, Row, Value, any-filter_same, append-nil, distinct, filter-append, folded, insert_key, list_any, map-append, next_folded, places_from, position_or_len, put, put_all}
-use Rattle.std.proofs.lemmas.Grind.{common_steps}
+use Rattle.aggregate_proc.proofs.Prelude.{◌≡◌, Bool, true, false, not, ◌||◌, cond, List, [], ◌∷◌, ◌++◌, map, filter, fold, refl, sym, ap, ap₂, ◌∙◌, append_assoc, subst, arith, AllByRecursion, Fold, IsSame, Row, Value, any-filter_same, append-nil, distinct, filter-append, folded, insert_key, list_any, map-append, next_folded, places_from, position_or_len, put, put_all, common_steps}
 use Rattle.aggregate_proc.proofs.FoldLaws.{folded-next}
 use Rattle.aggregate_proc.proofs.ListLaws.{all-filter}
 
@@ -46,17 +44,10 @@ list_any-map p f (x ∷ xs) = ap (λ b. p (f x) || b) (list_any-map p f xs)
 module _ {X : Type 0} (same : X → X → Bool) (is : IsSame same) where
   -- what is the same as x isn't what x differs from
   apart : (x y z : X) → same x y ≡ false → same x z ≡ true → not (same y z) ≡ true
-  apart x y z e f =
-      let a = is.one x z in
-      let b = is.one y z in
-      let c = is.itself y in grind (arith, common_steps)
+  apart x y z e f = grind arith
 
   turned : (x y : X) → same y x ≡ same x y
-  turned x y =
-      let a = is.one x y in
-      let b = is.one y x in
-      let c = is.itself x in
-      let d = is.itself y in grind (arith, common_steps)
+  turned x y = grind arith
 
   any-others : (x y : X) (xs : List X) → same x y ≡ false
       → list_any (same x) (filter (λ z. not (same y z)) xs) ≡ list_any (same x) xs
@@ -68,18 +59,13 @@ module _ {X : Type 0} (same : X → X → Bool) (is : IsSame same) where
   unfolding distinct
   distinct-push [] x = refl
   distinct-push (y ∷ xs) x =
-      let e = any-others x y (distinct same xs) in
-      let t = turned x y in
-      let a = filter-append (λ z. not (same y z)) (distinct same xs) (x ∷ []) in
-      ap (λ l. y ∷ filter (λ z. not (same y z)) l) (distinct-push xs x)
-      ∙ grind (arith, common_steps)
+      grind (arith, any-others, turned, filter-append, common_steps, distinct-push xs x)
 
   pub distinct-more : (xs ys : List X)
       → distinct same (xs ++ ys) ≡ fold (insert_key same) (distinct same xs) ys
   distinct-more xs [] = ap (distinct same) (append-nil xs)
   distinct-more xs (y ∷ ys) =
-      ap (distinct same) (sym (append_assoc xs (y ∷ []) ys)) ∙ distinct-more (xs ++ y ∷ []) ys
-      ∙ ap (λ l. fold (insert_key same) l ys) (distinct-push xs y)
+      grind (arith, append_assoc, distinct-push, distinct-more (xs ++ y ∷ []) ys)
 
   -- each differs from those behind it
   abbrev AreApart : List X → Type 0
@@ -88,40 +74,23 @@ module _ {X : Type 0} (same : X → X → Bool) (is : IsSame same) where
 
   apart-filter : (p : X → Bool) (xs : List X) → AreApart xs → AreApart (filter p xs)
   apart-filter p [] h = tt
-  apart-filter p (x ∷ xs) h = elim (p x) as
-      (λ b. AreApart (cond b (x ∷ filter p xs) (filter p xs))) [
-        | true ↦ (all-filter (λ y. same x y ≡ false) p xs h.0, apart-filter p xs h.1)
-        | false ↦ apart-filter p xs h.1
-      ]
+  apart-filter p (x ∷ xs) h = grind (arith, all-filter, apart-filter p xs h.1)
 
   left-out : (x : X) (xs : List X)
       → AllByRecursion (λ y. same x y ≡ false) (filter (λ y. not (same x y)) xs)
   left-out x [] = tt
-  left-out x (y ∷ xs) = go (same x y) refl (left-out x xs)
-    where
-      go : (b : Bool) → same x y ≡ b
-          → AllByRecursion (λ y. same x y ≡ false) (filter (λ y. not (same x y)) xs)
-          → AllByRecursion (λ y. same x y ≡ false)
-          (cond (not b) (y ∷ filter (λ y. not (same x y)) xs) (filter (λ y. not (same x y)) xs))
-      go true e h = h
-      go false e h = (e, h)
+  left-out x (y ∷ xs) = grind (arith, left-out x xs)
 
   distinct-apart : (xs : List X) → AreApart (distinct same xs)
   unfolding distinct
   distinct-apart [] = tt
-  distinct-apart (x ∷ xs) = (
-    left-out x (distinct same xs),
-    apart-filter (λ y. not (same x y)) (distinct same xs)
-        (distinct-apart xs),
-  )
+  distinct-apart (x ∷ xs) = grind (arith, left-out, apart-filter, distinct-apart xs)
 
   pub any-distinct : (x : X) (xs : List X)
       → list_any (same x) (distinct same xs) ≡ list_any (same x) xs
   unfolding distinct
   any-distinct x [] = refl
-  any-distinct x (y ∷ xs) =
-      let e = any-others x y (distinct same xs) in
-      let more = any-distinct x xs in grind (arith, common_steps)
+  any-distinct x (y ∷ xs) = grind (arith, any-others, common_steps, any-distinct x xs)
 
   -- ---- what is made of each class
 

@@ -1,14 +1,8 @@
 -- The rows of a group table are the groups of its rows.
+use Rattle.aggregate_proc.proofs.Prelude.{All, AllByRecursion, AreCalls, AreCells, AreLong, Call, Column, ColumnType, FitsColumn, FoldColumn, Folding, GroupsMore, HasKey, HasKeyAt, IsTable, IsTableOf, Row, TableView, append-nil, argument_at, cases_eq, combined, count_up, distinct, distinct_rows, first_of, folded, folded_at, folding_of, foldings_of, get_or-map, group_column, group_keys, grouped_by, insert_key, key_code, key_foldings, key_of, kinds_at, length-append, length-map, length-rows_of, list_any, list_any-append, map-append, map-map, merged_groups, merged_groups_is, places_from, recursion_from_All, row_code, rows_in, rows_of, rows_with, same_code, same_row, same_row_is, value_at, values, with_rows, AreLong-made, rows_of-made, codes-keys, places-keys, every-append, common_steps, Bool, List, [], ap, append_assoc, ap₂, arith, filter, fold, length, map, refl, subst, suc, sym, true, zero, ℕ, ◌++◌, ◌<◌, ◌∙◌, ◌∷◌, ◌≡◌, ◌≤◌, get_or_append_left, nil_from_length}
 use Rattle.aggregate_proc.proofs.Classes.{any-distinct, class-more, distinct-more, filter-some, list_any-map}
 use Rattle.aggregate_proc.proofs.FoldLaws.{earlier-first}
 use Rattle.aggregate_proc.proofs.ListLaws.{all-distinct, map-same}
-use Rattle.aggregate_proc.proofs.Prelude.{All, AllByRecursion, AreCalls, AreCells, AreLong, Call, Column, ColumnType, FitsColumn, FoldColumn, Folding, GroupsMore, HasKey, IsSeenFor, IsTable, IsTableOf, Row, SeenKeys, TableView, append-nil, argument_at, cases_eq, combined, count_up, distinct, distinct_rows, first_of, folded, folded_at, folding_of, foldings_of, get_or-map, group_column, group_keys, grouped_by, insert_key, key_code, key_foldings, key_of, kind_at, kinds_at, length-append, length-map, length-rows_of, list_any, list_any-append, map-append, map-map, merged_groups, merged_groups_is, places_from, recursion_from_All, row_code, rows_in, rows_of, rows_with, same_code, same_row, same_row_is, value_at, values, with_rows}
-use Rattle.chunk_data.proofs.Laws.{AreLong-made, rows_of-made}
-use Rattle.key_codes.proofs.KeyLaws.{codes-keys, places-keys}
-use Rattle.proc_api.proofs.Orders.{every-append}
-use Rattle.proc_shell.proofs.Imports.{All-append, common_steps}
-use Rattle.std.proofs.Common.{Bool, List, [], ap, append_assoc, ap₂, arith, filter, fold, get_or, inl, inr, length, map, refl, subst, suc, sym, true, zero, ℕ, ◌++◌, ◌+◌, ◌<◌, ◌∙◌, ◌∷◌, ◌≡◌, ◌≤◌}
-use Rattle.std.proofs.lemmas.List.{get_or_append_left, nil_from_length}
 use Rattle.aggregate_proc.specs.declared.fold.Fold.TheVariants as fold
 
 -- the code of a row's first values
@@ -20,9 +14,7 @@ code_of n row = row_code (count_up n) row
 pub first-long : (n : ℕ) → length (count_up n) ≡ n
 unfolding count_up
 first-long zero = refl
-first-long (suc n) =
-    let l = length-append (count_up n) (n ∷ []) in
-    let m = first-long n in omega (arith, l, m)
+first-long (suc n) = grind (arith, length-append, first-long n)
 
 key-long : (n : ℕ) (row : Row) → length (key_of n row) ≡ n
 key-long n row = length-map (count_up n) (value_at row) ∙ first-long n
@@ -31,43 +23,14 @@ pub first-within : (n m : ℕ) → n ≤ m → All (λ c. c < m) (count_up n)
 unfolding count_up
 first-within zero m le = λ k d lt. absurd (omega (arith, lt))
 first-within (suc n) m le =
-    All-append (λ c. c < m) (count_up n) (n ∷ []) (first-within n m (omega (arith, le)))
-    (λ k d lt. elim (cases_eq k 0) [
-      | inl e ↦ subst (λ j. get_or (n ∷ []) j d < m) (sym e) (omega (arith, le))
-      | inr ne ↦ absurd (omega (arith, lt, ne))
-    ])
+    grind (arith, common_steps, cases_eq, first-within n m (omega (arith, le)))
 
 pub first-first : (n : ℕ) → first_of (count_up n) ≡ 0
 unfolding count_up
 first-first zero = refl
 first-first (suc zero) = refl
 first-first (suc (suc n)) =
-    let l = first-long (suc n) in
-    get_or_append_left (count_up (suc n)) (suc n ∷ []) 0 0 (omega (arith, l))
-    ∙ first-first (suc n)
-
-pub first-none : [] ≡ count_up 0
-unfolding count_up
-first-none = refl
-
-pub first-next : (n : ℕ) → count_up n ++ n ∷ [] ≡ count_up (n + 1)
-unfolding count_up
-first-next n = ap count_up (let e : suc n ≡ n + 1 = omega arith in e)
-
--- keys of the first columns are seen by the first column's type
-pub seen-first : (n : ℕ) (types : List ColumnType) (x : SeenKeys)
-    → IsSeenFor n (kind_at types 0) x
-    → IsSeenFor (length (count_up n)) (kind_at types (first_of (count_up n))) x
-seen-first n types x h =
-    subst (λ m. IsSeenFor m (kind_at types (first_of (count_up n))) x) (sym (first-long n))
-    (subst (λ c. IsSeenFor n (kind_at types c) x) (sym (first-first n)) h)
-
-pub first-seen : (n : ℕ) (types : List ColumnType) (x : SeenKeys)
-    → IsSeenFor (length (count_up n)) (kind_at types (first_of (count_up n))) x
-    → IsSeenFor n (kind_at types 0) x
-first-seen n types x h =
-    subst (λ c. IsSeenFor n (kind_at types c) x) (first-first n)
-    (subst (λ m. IsSeenFor m (kind_at types (first_of (count_up n))) x) (first-long n) h)
+    grind (arith, common_steps, first-long, get_or_append_left, first-first (suc n))
 
 -- each of the rows is among those that are one with it
 all-columns : (types : List ColumnType) (places : List ℕ) (more : List Row)
@@ -109,8 +72,7 @@ calls-made : (foldings : List Folding) (calls : List Call) → AreCalls foldings
 calls-made [] [] h rows = refl
 calls-made [] (call ∷ calls) h rows = absurd h
 calls-made (f ∷ foldings) [] h rows = absurd h
-calls-made (f ∷ foldings) (call ∷ calls) h rows =
-    ap₂ ◌∷◌ (h.0 rows) (calls-made foldings calls h.1 rows)
+calls-made (f ∷ foldings) (call ∷ calls) h rows = grind (arith, calls-made foldings calls h.1 rows)
 
 -- each key is found among them
 keys-found : (n : ℕ) (rows : List Row) (k : Row) → list_any (same_row k) (group_keys n rows) ≡ true
@@ -310,26 +272,23 @@ places-long codes [] = refl
 places-long codes (e ∷ es) = ap suc (places-long (insert_key same_code codes e) es)
 
 -- what the code leaves is the table of more rows
-pub adds-rows : (t : TableView) (rows : List Row) (kinds : List ColumnType) (codes : List (List ℕ))
-    (now : List FoldColumn) (places : List ℕ)
-    → kinds ≡ t.types → All (HasKey kinds t.keys) rows → IsTable t
-    → places ≡ places_from true same_code t.codes (map (code_of t.keys) rows)
-    → codes ≡ fold (insert_key same_code) t.codes (map (code_of t.keys) rows)
+pub adds-rows : (t : TableView) (rows : List Row) (kinds : List ColumnType) (cs : List ℕ)
+    (codes : List (List ℕ)) (now : List FoldColumn) (places : List ℕ)
+    → kinds ≡ t.types → cs ≡ count_up t.keys → All (HasKeyAt kinds cs) rows → IsTable t
+    → places ≡ places_from true same_code t.codes (map (row_code cs) rows)
+    → codes ≡ fold (insert_key same_code) t.codes (map (row_code cs) rows)
     → now ≡ map (with_rows places rows) t.columns
     → IsTable (record t { codes = codes; columns = now })
     × GroupsMore t rows (record t { codes = codes; columns = now })
-adds-rows t rows kinds codes now places same cells h p s n =
-    let input = subst (λ ts. AllByRecursion (HasKey ts t.keys) rows) same
-    (recursion_from_All (HasKey kinds t.keys) rows cells) in
-    let P : TableView → Type 0 = λ v. IsTable v × GroupsMore t rows v in
-    subst (λ cs. P (record t { codes = codes; columns = cs }))
-    (sym (n ∙ ap (λ a. map (with_rows a rows) t.columns) p))
-    (subst (λ cs. P (record t { codes = cs; columns = (added_to t rows).columns })) (sym s)
-    (added-table t rows input h, added-groups t rows input h))
+adds-rows t rows kinds cs codes now places same cols cells h p s n =
+    let k = recursion_from_All (HasKey t.types t.keys) rows
+    (subst (λ l. All (HasKeyAt t.types l) rows) cols
+    (subst (λ ts. All (HasKeyAt ts cs) rows) same cells)) in
+    let e : added_to t rows ≡ record t { codes = codes; columns = now } = grind arith in
+    subst (λ (v : TableView). IsTable v × GroupsMore t rows v) e
+    (added-table t rows k h, added-groups t rows k h)
 
 pub chunk-long : (t : TableView) (n : ℕ) (columns : List Column) → IsTable t
     → n ≡ length t.codes → map values columns ≡ map (λ (c : FoldColumn). c.values) t.columns
     → AreLong n (map values columns)
-chunk-long t n columns h l e =
-    subst (λ k. AreLong k (map values columns)) (sym l)
-    (subst (λ vs. AreLong (length t.codes) vs) (sym e) (columns-long t h))
+chunk-long t n columns h l e = grind (arith, columns-long)

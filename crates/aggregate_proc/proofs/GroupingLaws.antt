@@ -1,10 +1,6 @@
 -- A grouping keeps what its kind says of the chunks that it worked.
+use Rattle.aggregate_proc.proofs.Prelude.{All, AllByRecursion, AreGrouped, AreInputsOver, ArePortsOf, Begins, ColumnType, FitsTypes, GroupSpec, GroupsMore, HasNotedEnd, IsAtMost, IsNext, IsPermutation-append_left, IsPermutation-same, IsPermutation-trans, IsTableFor, Lists, Makes, MakesTypes, Means, NotesEnd, Offer, OfferComes, Offers, OwnState, Picture, Reading, Row, Table, TableView, Takes, all-more, append-nil, calls_for, chunk_rows, distinct, eqb-true, gathering_own, giving_own, group_types, grouped_by, groups_for, in_count, key_of, kinds_of, length-append, length-drop, length-take, most_rows, no-rows, no_lists, open_for, recursion_from_All, rows-here, rows_in, spec_for, take-append-drop, types_for, whole_for, with_chunk, worked_rows, every-append, EndIsNoted, Spec, Bool, IsPermutation, List, None, Some, [], ap, append_assoc, arith, drop, drop-drop, false, inl, inr, length, max, refl, subst, sym, take, true, ℕ, ◌++◌, ◌+◌, ◌<◌, ◌∙◌, ◌≡◌, ◌≤◌, ◌⊎◌}
 use Rattle.aggregate_proc.proofs.CallLaws.{calls-are, given-whole, groups-by}
-use Rattle.aggregate_proc.proofs.Prelude.{All, AllByRecursion, AreCalls, AreGrouped, AreInputsOver, ArePortsOf, Begins, Call, ColumnType, FitsTypes, Folding, GroupSpec, GroupsMore, HasNotedEnd, IsAtMost, IsNext, IsPermutation-append_left, IsPermutation-same, IsPermutation-trans, IsTableFor, Lists, Makes, MakesTypes, Means, NotesEnd, Offer, OfferComes, Offers, OwnState, Picture, Reading, Row, Table, TableView, Takes, all-more, append-nil, call_foldings, calls_for, chunk_rows, distinct, eqb-true, foldings_of, gathering_own, given_for, giving_own, group_types, grouped_by, groups_for, in_count, key_foldings, key_of, kinds_of, length-append, length-drop, length-take, most_rows, no-rows, no_lists, open_for, recursion_from_All, rows-here, rows_in, spec_for, take-append-drop, types_for, whole_for, with_chunk, worked_rows}
-use Rattle.proc_api.proofs.Orders.{every-append}
-use Rattle.proc_api.specs.Made.{NotesEnd as EndIsNoted}
-use Rattle.proc_shell.proofs.Imports.{FitsInput, IsWanting, Spec, eq-eqb}
-use Rattle.std.proofs.Common.{Bool, IsPermutation, List, None, Some, [], ap, append_assoc, arith, drop, drop-drop, false, inl, inr, length, max, refl, subst, sym, take, true, ℕ, ◌++◌, ◌+◌, ◌<◌, ◌∙◌, ◌≡◌, ◌≤◌, ◌⊎◌}
 use Rattle.proc_shell.specs.declared.kernel.Offer.TheVariants as offer
 
 -- ---- by whether partial groups are merged
@@ -26,48 +22,20 @@ record IsGroupKind (merges : Bool) (g : GroupSpec) : Type 0 where
   ended : (own : OwnState) → HasNotedEnd (spec_for merges g) own → own.ended ≡ true
   notes : (own : OwnState) (i : ℕ) → own.ended ≡ true → EndIsNoted (Some (spec_for merges g)) own i
   noting : (own : OwnState) (i : ℕ) → EndIsNoted (Some (spec_for merges g)) own i → own.ended ≡ true
-  fits : (i : ℕ) (types : List ColumnType) → FitsInput (Some (spec_for merges g)) i types
-      → types ≡ types_for merges g
   types : (ins : Lists) (types : List ColumnType) → types ≡ group_types g
       → MakesTypes (Some (spec_for merges g)) ins types
   size : (n : ℕ) → n ≤ max g.rows 1 → IsAtMost (most_rows (Some (spec_for merges g))) n
-  wanting : (n : ℕ) → IsWanting (Some (spec_for merges g)) n
 
 group-kind : (merges : Bool) (g : GroupSpec) → IsGroupKind merges g
-group-kind false g = record {
-  into = λ x own worked outs wait h. h;
-  from = λ x own worked outs wait h. h;
-  noted = λ own e. e;
-  ended = λ own e. e;
-  notes = λ own i e. e;
-  noting = λ own i e. e;
-  fits = λ i types e. e;
-  types = λ ins types e. e;
-  size = λ n le. le;
-  wanting = λ n. tt;
-}
-group-kind true g = record {
-  into = λ x own worked outs wait h. h;
-  from = λ x own worked outs wait h. h;
-  noted = λ own e. e;
-  ended = λ own e. e;
-  notes = λ own i e. e;
-  noting = λ own i e. e;
-  fits = λ i types e. e;
-  types = λ ins types e. e;
-  size = λ n le. le;
-  wanting = λ n. tt;
-}
+group-kind false g = grind arith
+group-kind true g = grind arith
 
 -- the rows of one chunk more
 worked-more : (merges : Bool) (i : ℕ) (t : Table) (worked : Lists) → open_for merges i ≡ true
     → i < 32
     → IsPermutation (worked_rows merges (with_chunk i t worked))
     (worked_rows merges worked ++ t.rows)
-worked-more false i t worked w lt =
-    subst (λ n. IsPermutation (chunk_rows (with_chunk n t worked 0))
-    (chunk_rows (worked 0) ++ t.rows))
-    (sym (eqb-true i 0 w)) (IsPermutation-same _ _ (rows-here t worked))
+worked-more false i t worked w lt = grind (arith, eqb-true, IsPermutation-same, rows-here)
 worked-more true i t worked w lt = all-more i t worked lt
 
 none-worked : (merges : Bool) → worked_rows merges no_lists ≡ []
@@ -95,22 +63,7 @@ module _ (merges : Bool) (g : GroupSpec) where
   is = group-kind merges g
 
   pub begins : (t : TableView) → rows_in t ≡ [] → Begins s s (table_own t)
-  begins t none = record {
-    spec = refl;
-    nothing = λ files. is.into (record { files = files; fetched = false; bad = None }) (table_own t)
-        no_lists no_lists [] (record {
-          gathering = λ e. record {
-            nothing_made = refl;
-            nothing_unmade = refl;
-            order = [];
-            same = IsPermutation-same _ _ (none-worked merges);
-            fit = tt;
-            groups_are = append-nil (rows_in t) ∙ none ∙ sym (none-grouped merges g);
-          };
-          grouped = λ e. absurd (cc);
-        });
-    unended = λ i n. absurd (let e = is.noting (table_own t) i n in cc);
-  }
+  begins t none = grind (arith, is, IsPermutation-same, none-worked, append-nil, none-grouped)
 
   -- ---- a chunk more
 
@@ -118,16 +71,7 @@ module _ (merges : Bool) (g : GroupSpec) where
       → GroupsMore old more new → (rows : List Row)
       → rows_in old ≡ grouped_by (key_of (length g.keys)) (calls_for merges g) rows
       → rows_in new ≡ grouped_by (key_of (length g.keys)) (calls_for merges g) (rows ++ more)
-  more-groups old new more h m =
-      let P : List ColumnType → ℕ → Type 0 = λ ts k. (calls : List Call) (foldings : List Folding)
-      → foldings_of old ≡ key_foldings ts k ++ foldings → AreCalls foldings calls
-      → (rows : List Row)
-      → rows_in old ≡ grouped_by (key_of k) calls rows
-      → rows_in new ≡ grouped_by (key_of k) calls (rows ++ more) in
-      let all : P (types_for merges g) (length g.keys) =
-      subst (λ k. P (types_for merges g) k) h.keys (subst (λ ts. P ts old.keys) h.types m.groups) in
-      all (calls_for merges g) (call_foldings merges (length g.keys) g.calls) h.foldings
-      (calls-are merges g)
+  more-groups old new more h m = grind (arith, calls-are)
 
   pub takes : (old new : TableView) (i : ℕ) (t : Table) → IsTableFor merges g old
       → open_for merges i ≡ true → i < 32 → t.types ≡ old.types → All (FitsTypes t.types) t.rows
@@ -158,64 +102,22 @@ module _ (merges : Bool) (g : GroupSpec) where
     ends = λ j n. absurd (let e = is.noting (table_own new) j n in cc);
   }
 
-  -- a chunk that doesn't fit is dropped
-  pub drops : (own : OwnState) (i : ℕ) (t : Table) (types : List ColumnType)
-      → types ≡ types_for merges g → (t.types ≡ types → ⊥) → Takes s own i t own None
-  drops own i t types e never = record {
-    means = λ x fits. absurd (never (is.fits i t.types fits ∙ sym e));
-    types = λ ins pulled. tt;
-    sizes = tt;
-    ends = λ j n. n;
-  }
-
   -- ---- the end
 
   goes-on : (old new : OwnState) → NotesEnd merges g old new → (worked : Lists) (made : List Row)
       → (b : Bool) → old.ended ≡ b → Made merges g old worked made → Made merges g new worked made
-  goes-on old new n worked made true e h =
-      subst (λ (o : OwnState). Made merges g o worked made) (sym (n.was e)) h
-  goes-on old new n worked made false e h =
-      let a = h.gathering e in
-      let rows = worked_rows merges worked in
-      subst (λ (o : OwnState). Made merges g o worked made) (sym (n.ends e)) (record {
-        gathering = λ f. absurd (cc);
-        grouped = λ f. subst (λ m. IsPermutation (whole_for merges g rows)
-            (m ++ given_for merges g (chunk_rows old.gathered))) (sym a.nothing_made)
-            (subst (λ l. IsPermutation (whole_for merges g rows) (given_for merges g l))
-            (sym a.groups_are) (given-whole merges g rows a.order a.same));
-      })
+  goes-on old new n worked made true e h = grind arith
+  goes-on old new n worked made false e h = grind (arith, given-whole)
 
   pub offers : (wants : ℕ → Bool) (v : Picture) (old new : OwnState) (o : Offer) → AreInputsOver v
       → NotesEnd merges g old new → OfferComes wants o s v new → Offers wants s v old new o
-  offers wants v old new o over n comes = record {
-    leaves = record {
-      means = λ x worked outs wait h. is.into x new worked outs wait
-          (goes-on old new n worked (chunk_rows (outs 0) ++ wait) old.ended refl
-          (is.from x old worked outs wait h));
-      stays_over = λ none ended. (
-        ap (λ (x : OwnState). x.unmade) (n.was (is.ended old ended)) ∙ none,
-        is.noted new n.ended,
-      );
-    };
-    comes = comes;
-    ends = λ i lt e. inr (over i lt);
-  }
-
-  open' : (b : Bool) (n i : ℕ) → i < n → (n ≡ 1) ⊎ (b ≡ true) → open_for b i ≡ true
-  open' true n i lt e = refl
-  open' false n i lt (inl e) = eq-eqb i 0 (omega (arith, lt, e))
-  open' false n i lt (inr e) = absurd (cc)
+  offers wants v old new o over n comes = grind (arith, is, goes-on)
 
   pub comes : (v : Picture) (own : OwnState) (o : Offer) → IsNext own o
       → (in_count v ≡ 1) ⊎ (merges ≡ true) → (AreInputsOver v → own.ended ≡ true)
       → OfferComes (open_for merges) o s v own
   comes v own offer.Rows n one ended = n
-  comes v own offer.Wants n one ended = record {
-    nothing = n;
-    wanting = is.wanting own.read;
-    all_over = λ h i lt. h i lt (open' merges (in_count v) i lt one);
-    noted = λ h. is.noted own (ended (λ i lt. h i lt (open' merges (in_count v) i lt one)));
-  }
+  comes v own offer.Wants n one ended = grind arith
   comes v own _ n one ended = absurd n
 
   -- ---- rows are made

@@ -8,3 +8,4 @@ mod GroupLaws
 mod CallLaws
 mod BuilderLaws
 mod GroupingLaws
+mod Cited

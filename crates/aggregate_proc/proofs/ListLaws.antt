@@ -1,7 +1,6 @@
 -- What is true of each element of a list, of its filtered and its distinct elements; the rows of
 -- columns.
-use Rattle.std.proofs.Common.{◌≡◌, ◌≤◌, ℕ, zero, suc, sym, take, get_or, Bool, true, false, not, cond, List, [], ◌∷◌, ◌++◌, length, map, filter, refl, ap, ap₂, ◌∙◌, arith}
-use Rattle.aggregate_proc.proofs.Prelude.{AllByRecursion, count_up, distinct, map-append, take-suc}
+use Rattle.aggregate_proc.proofs.Prelude.{◌≡◌, ◌≤◌, ℕ, zero, suc, take, get_or, Bool, true, false, cond, List, [], ◌∷◌, length, map, filter, refl, ap₂, arith, AllByRecursion, count_up, distinct, map-append, take-suc}
 
 pub all-filter : {A : Type 0} (P : A → Type 0) (p : A → Bool) (xs : List A) → AllByRecursion P xs
     → AllByRecursion P (filter p xs)
@@ -14,8 +13,7 @@ pub all-distinct : {A : Type 0} (P : A → Type 0) (R : A → A → Bool) (xs : 
     → AllByRecursion P xs → AllByRecursion P (distinct R xs)
 unfolding distinct
 all-distinct P R [] h = tt
-all-distinct P R (x ∷ xs) h =
-    (h.0, all-filter P (λ y. not (R x y)) (distinct R xs) (all-distinct P R xs h.1))
+all-distinct P R (x ∷ xs) h = grind (arith, all-filter, all-distinct P R xs h.1)
 
 pub map-same : {A B : Type 0} (P : A → Type 0) (f g : A → B) → ((x : A) → P x → f x ≡ g x)
     → (xs : List A) → AllByRecursion P xs → map f xs ≡ map g xs
@@ -25,15 +23,11 @@ map-same P f g e (x ∷ xs) h = ap₂ ◌∷◌ (e x h.0) (map-same P f g e xs h
 pub filter-same : {A : Type 0} (P : A → Type 0) (p q : A → Bool) → ((x : A) → P x → p x ≡ q x)
     → (xs : List A) → AllByRecursion P xs → filter p xs ≡ filter q xs
 filter-same P p q e [] h = refl
-filter-same P p q e (x ∷ xs) h =
-    ap₂ (λ b l. cond b (x ∷ l) l) (e x h.0) (filter-same P p q e xs h.1)
+filter-same P p q e (x ∷ xs) h = grind (arith, filter-same P p q e xs h.1)
 
 -- the first elements, one by one
 pub taken : {A : Type 0} (n : ℕ) (l : List A) (d : A) → n ≤ length l
     → map (λ c. get_or l c d) (count_up n) ≡ take n l
 unfolding count_up
 taken zero l d le = refl
-taken (suc n) l d le =
-    map-append (λ c. get_or l c d) (count_up n) (n ∷ [])
-    ∙ ap (λ xs. xs ++ get_or l n d ∷ []) (taken n l d (omega (arith, le)))
-    ∙ sym (take-suc l n d (omega (arith, le)))
+taken (suc n) l d le = grind (arith, map-append, take-suc, taken n l d (omega (arith, le)))

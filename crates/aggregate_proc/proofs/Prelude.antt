@@ -1,4 +1,11 @@
 -- The names of other crates and of the definitions that the proofs use, in one place.
+pub use Rattle.chunk_data.proofs.Laws.{AreLong-made, rows_of-made}
+pub use Rattle.key_codes.proofs.KeyLaws.{codes-keys, places-keys}
+pub use Rattle.proc_api.proofs.Orders.{every-append}
+pub use Rattle.proc_api.specs.Made.{NotesEnd as EndIsNoted}
+pub use Rattle.std.proofs.Common.{Bool, IfOk, IsPermutation, List, None, SFits, Some, [], ap, append_assoc, ap₂, arith, cond, drop, drop-drop, false, filter, fold, get_or, inl, inr, length, map, max, min, not, of_z, pos, refl, rules, set, subst, suc, sym, take, to_z, true, w64, zero, ℕ, ℤ, ◌%◌, ◌++◌, ◌+ℤ◌, ◌+◌, ◌-◌, ◌<◌, ◌^◌, ◌||◌, ◌∙◌, ◌∷◌, ◌≡◌, ◌≢◌, ◌≤◌, ◌⊎◌}
+pub use Rattle.std.proofs.lemmas.Grind.{common_steps}
+pub use denote.Enum.Bare.{same_true, true_same}
 pub use Rattle.aggregate_proc.specs.Cells.{FitsColumn, can_fold}
 pub use Rattle.aggregate_proc.specs.Folds.{FoldColumn, earlier, folded, next_folded, put, put_all, with_rows}
 pub use Rattle.aggregate_proc.specs.GroupKinds.{AreSound, GroupingView, IsGrouping, IsNext, IsPhaseFor, IsTableFor, NotesEnd, call_foldings, call_types, calls_for, empty_column, fold_for, fold_of, foldings_for, gathering_own, given_for, giving_own, groups_for, open_for, own_in, phase_own, spec_for, state_in, types_for, whole_for, worked_rows}
@@ -13,12 +20,12 @@ pub use Rattle.chunk_data.specs.declared.typed_column.Column.{Column}
 pub use Rattle.indexmap.specs.IndexSet.{insert_key}
 pub use Rattle.key_codes.specs.Keys.{AreCells, HasKey as HasKeyAt, IsSeenFor, codes_in, first_of, key_at, key_code, kind_at, kinds_at, places_from, row_code, same_code}
 pub use Rattle.proc_api.specs.Grouped.{argument_types, calls_from, default_states, group_types, merged_states}
-pub use Rattle.proc_shell.proofs.Imports.{ArePortsOf, HasNotedEnd, IsAtMost, IsPulled, Lists, MakesTypes, OwnState, Picture, cases_eq, cases_lt, chunk_rows, eqb-true, in_count, input_at, is_in_finished, most_rows, no-rows, no_lists, out_count}
+pub use Rattle.proc_shell.proofs.Imports.{ArePortsOf, HasNotedEnd, IsAtMost, IsPulled, Lists, MakesTypes, OwnState, Picture, Spec, cases_eq, cases_lt, chunk_rows, eqb-true, in_count, input_at, is_in_finished, most_rows, no-rows, no_lists, out_count}
 pub use Rattle.proc_shell.proofs.Through.{all-more, makes-nothing, rows-here}
 pub use Rattle.proc_shell.specs.Kernels.{AreInputsOver, Begins, IsReadOut, Makes, Means, OfferComes, Offers, Reading, Reads, Takes, with_chunk}
 pub use Rattle.query_model.proofs.Aggregates.{combined-merge, greater-comm}
 pub use Rattle.query_model.proofs.Distinct.{IsSame}
-pub use Rattle.query_model.proofs.Imports.{Call, ColumnType, Combine, FitsTypes, IsPermutation-append_left, IsPermutation-refl, IsPermutation-trans, Row, Table, Value, added, both_ways, call_of, combine_of, counted, counts_added, distinct_rows, exact_sum, flat_map-append, greatest, grouped_by, groups_or_default, is_uint, least, length_permutation, list_any-append, merge_of, merged_groups, rows_with, same_row, state_calls, value_at, value_cmp, values_at}
+pub use Rattle.query_model.proofs.Imports.{Call, ColumnType, Combine, FitsTypes, IsPermutation-append_left, IsPermutation-refl, IsPermutation-trans, Row, Table, Text, UInt, Value, added, both_ways, call_of, combine_of, counted, counts_added, distinct_rows, exact_sum, flat_map-append, greatest, grouped_by, groups_or_default, is_uint, least, length-FitsTypes, length_permutation, list_any-append, merge_of, merged_groups, rows_with, same_row, state_calls, value_at, value_cmp, values_at}
 pub use Rattle.query_model.proofs.Lists.{IsPermutation-same, map-map}
 pub use Rattle.query_model.proofs.Merge.{IsPermutation-grouped_by, merged_groups_is}
 pub use Rattle.query_model.proofs.ValueOrder.{same_row_is}
@@ -26,7 +33,7 @@ pub use Rattle.query_model.specs.Prelude.{default_value, text_cmp}
 pub use Rattle.std.proofs.Math.Facts.{Fits-of_z, to_z-of_z}
 pub use Rattle.std.proofs.Math.Seq.{take-suc}
 pub use Rattle.std.proofs.lemmas.Int.{int_wrap_fits, ints, wrapping_add_onto}
-pub use Rattle.std.proofs.lemmas.List.{append-nil, at_drop_all, at_drop_more, drop_all, drop_at, get_or-map, get_or_default, length-append, length-drop, length-map, length-take, map-append, map-id, set-get_or, take-append-drop, take_all, take_at}
+pub use Rattle.std.proofs.lemmas.List.{append-nil, at_drop_all, at_drop_more, drop_all, drop_at, get_or-map, get_or_append_left, get_or_default, length-append, length-drop, length-map, length-take, map-append, map-id, nil_from_length, set-get_or, take-append-drop, take_all, take_at}
 pub use Rattle.std.proofs.lemmas.List.Elements.{filter-append, recursion_from_All}
 pub use Rattle.std.proofs.lemmas.Map.Views.{any-filter_same}
 pub use Rattle.std.proofs.lemmas.Nat.{from_le_bytes-to_le_bytes_8}

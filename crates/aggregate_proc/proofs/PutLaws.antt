@@ -1,14 +1,12 @@
 -- A loop that puts each value to the group at its place.
-use Rattle.std.proofs.Common.{◌≡◌, ℕ, zero, suc, ◌+◌, ◌<◌, ◌≤◌, List, [], ◌∷◌, ◌++◌, length, map, set, get_or, drop, sym, ap, ◌∙◌, arith}
-use Rattle.aggregate_proc.proofs.Prelude.{Fold, Value, at_drop_all, at_drop_more, folded, get_or-map, length-map, next_folded, put, put_all, set-get_or}
+use Rattle.aggregate_proc.proofs.Prelude.{◌≡◌, ℕ, zero, suc, ◌+◌, ◌<◌, ◌≤◌, List, [], ◌∷◌, ◌++◌, length, map, set, get_or, drop, sym, ap, ◌∙◌, arith, Fold, Value, at_drop_more, folded, get_or-map, length-map, next_folded, put, put_all, set-get_or}
 
 -- y, which stands at the place, becomes x
 put-set : {A : Type 0} (f : Fold) (h : A → Value) (xs : List A) (p : ℕ) (v : Value) (x y : A)
     → p < length xs → y ≡ get_or xs p y → h x ≡ next_folded f (h y) v
     → map h (set xs p x) ≡ put f (map h xs) p v
 put-set f h [] p v x y lt at e = absurd (omega (arith, lt))
-put-set f h (z ∷ xs) zero v x y lt at e =
-    ap (λ w. w ∷ map h xs) (e ∙ ap (λ w. next_folded f (h w) v) at)
+put-set f h (z ∷ xs) zero v x y lt at e = grind arith
 put-set f h (z ∷ xs) (suc p) v x y lt at e =
     ap (λ l. h z ∷ l) (put-set f h xs p v x y (omega (arith, lt)) at e)
 
@@ -17,8 +15,7 @@ put-push : {A : Type 0} (f : Fold) (h : A → Value) (xs : List A) (p : ℕ) (v 
     → map h (xs ++ x ∷ []) ≡ put f (map h xs) p v
 put-push f h [] p v x le e = ap (λ w. w ∷ []) e
 put-push f h (y ∷ xs) zero v x le e = absurd (omega (arith, le))
-put-push f h (y ∷ xs) (suc p) v x le e =
-    ap (λ l. h y ∷ l) (put-push f h xs p v x (omega (arith, le)) e)
+put-push f h (y ∷ xs) (suc p) v x le e = grind (arith, put-push f h xs p v x (omega (arith, le)) e)
 
 -- what is left to do
 abbrev pub left_to_put : Fold → List Value → List ℕ → List Value → ℕ → List Value
@@ -29,32 +26,24 @@ module _ {A : Type 0} (f : Fold) (h : A → Value) (xs : List A) (ps : List ℕ)
     (i : ℕ) (v : Value) (lt : i < length ps) (less : i < length vs) (at : get_or vs i v ≡ v) where
   one-step : (states : List Value)
       → left_to_put f states ps vs i ≡ left_to_put f (put f states (get_or ps i 0) v) ps vs (i + 1)
-  one-step states =
-      at_drop_more (λ l. put_all f states l (drop i vs)) ps i 0 lt
-      ∙ at_drop_more (λ l. put_all f states (get_or ps i 0 ∷ drop (i + 1) ps) l) vs i v less
-      ∙ ap (λ w. left_to_put f (put f states (get_or ps i 0) w) ps vs (i + 1)) at
+  one-step states = let e = at_drop_more (λ l. l) ps i 0 lt in
+      let g = at_drop_more (λ l. l) vs i v less in grind (arith, e, g)
 
   pub step-set : (new : List A) (x y : A) → new ≡ set xs (get_or ps i 0) x
       → get_or ps i 0 < length xs → y ≡ get_or xs (get_or ps i 0) y → h x ≡ next_folded f (h y) v
       → left_to_put f (map h new) ps vs (i + 1) ≡ left_to_put f (map h xs) ps vs i
-  step-set new x y e within here is =
-      ap (λ l. left_to_put f l ps vs (i + 1))
-      (ap (map h) e ∙ put-set f h xs (get_or ps i 0) v x y within here is)
-      ∙ sym (one-step (map h xs))
+  step-set new x y e within here is = grind (arith, put-set, one-step)
 
   pub step-push : (new : List A) (x : A) → new ≡ xs ++ x ∷ [] → length xs ≤ get_or ps i 0
       → h x ≡ folded f (v ∷ [])
       → left_to_put f (map h new) ps vs (i + 1) ≡ left_to_put f (map h xs) ps vs i
-  step-push new x e past is =
-      ap (λ l. left_to_put f l ps vs (i + 1))
-      (ap (map h) e ∙ put-push f h xs (get_or ps i 0) v x past is)
-      ∙ sym (one-step (map h xs))
+  step-push new x e past is = grind (arith, put-push, one-step)
 
 -- the same at the elements of a list
 module _ {A : Type 0} (f : Fold) (h : A → Value) (xs : List A) (ps : List ℕ) (ns : List A) (i : ℕ)
     (d : A) (lt : i < length ps) (e : length ns ≡ length ps) where
   less : i < length (map h ns)
-  less = let l = length-map ns h in omega (arith, l, e, lt)
+  less = grind (arith, length-map)
 
   at : get_or (map h ns) i (h (get_or ns i d)) ≡ h (get_or ns i d)
   at = get_or-map h ns i d (h (get_or ns i d)) (omega (arith, e, lt))
@@ -80,7 +69,3 @@ module _ {A : Type 0} (f : Fold) (h : A → Value) (xs : List A) (ps : List ℕ)
       → left_to_put f (map h new) ps (map h ns) (i + 1)
       ≡ left_to_put f (map h xs) ps (map h ns) i
   push-next = step-push f h xs ps (map h ns) i (h (get_or ns i d)) lt less at
-
-pub left-none : (f : Fold) (states : List Value) (ps : List ℕ) (vs : List Value) (i : ℕ)
-    → length ps ≤ i → left_to_put f states ps vs i ≡ states
-left-none f states ps vs i le = at_drop_all (λ l. put_all f states l (drop i vs)) ps i le

@@ -1,7 +1,5 @@
-use Rattle.aggregate_proc.proofs.NextLaws.{counted-first, counted-one}
-use Rattle.aggregate_proc.proofs.PutLaws.{left-none, step-push, step-set}
+use Rattle.aggregate_proc.proofs.Cited.{counted-first, counted-one, step-push, step-set, ap, arith, get_or, get_or_default, ◌∙◌}
 use Rattle.aggregate_proc.proofs.fold.fold_counts.Goals.{else-place-len+in_ok-push, then-place-len}
-use Rattle.chunk_data.proofs.Imports.{ap, arith, get_or, get_or_default, map, sym, ◌∙◌}
 use Rattle.chunk_data.specs.declared.typed_value.Value.TheVariants as value
 use Rattle.aggregate_proc.specs.declared.fold.Fold.TheVariants as fold
 use Rattle.aggregate_proc.proofs.fold.fold_counts.Goals as goal
@@ -21,8 +19,3 @@ loop-i-preserved c = λ vs e.
           (ap (λ l. l.items) w.states-is ∙ w.in_ok-push.ensures.items) (omega arith)
           (counted-first v) ∙ c.loop-i.invariant vs e
     ]
-
-pub returns : goal.returns
-returns c = λ vs e.
-    sym (left-none fold.Count (map value.UInt c.loop-i.states.items) c.args.places.now vs c.loop-i.i
-    c.loop-i-test.false) ∙ c.loop-i.invariant vs e

@@ -1,8 +1,5 @@
-use Rattle.std.proofs.Common.{◌∙◌, sym, ap, get_or, map, pos, w64, SFits, arith, rules}
-use Rattle.std.proofs.lemmas.Int.{to_z-of_z}
+use Rattle.aggregate_proc.proofs.Cited.{◌∙◌, sym, ap, get_or, pos, w64, SFits, arith, rules, to_z-of_z, starts-int, push-next, set-next}
 use Rattle.chunk_data.specs.declared.typed_value.Value.TheVariants as value
-use Rattle.aggregate_proc.proofs.NextLaws.{starts-int}
-use Rattle.aggregate_proc.proofs.PutLaws.{left-none, push-next, set-next}
 use Rattle.aggregate_proc.proofs.fold.fold_ints.Goals.{then-place-len, else-place-len+in_ok-push}
 use Rattle.aggregate_proc.proofs.fold.fold_ints.Goals as goal
 
@@ -26,8 +23,3 @@ loop-i-preserved c =
           (ap (λ l. l.items) w.states-is ∙ s) (omega arith)
           (sym (starts-int c.args.op _ c.requires.op number)) ∙ c.loop-i.invariant
     ]
-
-pub returns : goal.returns
-returns c =
-    sym (left-none c.args.op (map value.Int c.loop-i.states.items) c.args.places.now
-    (map value.Int c.args.numbers.now) c.loop-i.i c.loop-i-test.false) ∙ c.loop-i.invariant

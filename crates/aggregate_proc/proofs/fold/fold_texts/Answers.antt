@@ -1,8 +1,5 @@
-use Rattle.std.proofs.Common.{◌≡◌, ◌∙◌, [], sym, ap, ap₂, cond, get_or, map, arith}
+use Rattle.aggregate_proc.proofs.Cited.{◌≡◌, ◌∙◌, [], sym, ap, ap₂, cond, get_or, arith, next_folded, starts-text, keep-next, push-next, set-next}
 use Rattle.chunk_data.specs.declared.typed_value.Value.TheVariants as value
-use Rattle.aggregate_proc.proofs.Prelude.{next_folded}
-use Rattle.aggregate_proc.proofs.NextLaws.{starts-text}
-use Rattle.aggregate_proc.proofs.PutLaws.{left-none, keep-next, push-next, set-next}
 use Rattle.aggregate_proc.proofs.fold.fold_texts.Goals.{then-place-len+then-replaces+in_ok-states, then-place-len+else-replaces, else-place-len+in_ok-from_slice+in_ok-push}
 use Rattle.aggregate_proc.proofs.fold.fold_texts.Goals as goal
 
@@ -35,8 +32,3 @@ loop-i-preserved c =
           ∙ sym (starts-text c.args.op (get_or c.args.texts.now c.loop-i.i []) c.requires.op))
           ∙ c.loop-i.invariant
     ]
-
-pub returns : goal.returns
-returns c =
-    sym (left-none c.args.op (map value.Text c.loop-i.states.items) c.args.places.now
-    (map value.Text c.args.texts.now) c.loop-i.i c.loop-i-test.false) ∙ c.loop-i.invariant

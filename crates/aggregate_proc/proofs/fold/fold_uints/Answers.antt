@@ -1,7 +1,5 @@
-use Rattle.std.proofs.Common.{◌∙◌, sym, ap, get_or, map, arith}
+use Rattle.aggregate_proc.proofs.Cited.{◌∙◌, sym, ap, get_or, arith, starts-uint, push-next, set-next}
 use Rattle.chunk_data.specs.declared.typed_value.Value.TheVariants as value
-use Rattle.aggregate_proc.proofs.NextLaws.{starts-uint}
-use Rattle.aggregate_proc.proofs.PutLaws.{left-none, push-next, set-next}
 use Rattle.aggregate_proc.proofs.fold.fold_uints.Goals.{then-place-len, else-place-len+in_ok-push}
 use Rattle.aggregate_proc.proofs.fold.fold_uints.Goals as goal
 
@@ -21,8 +19,3 @@ loop-i-preserved c =
           (omega (arith, c.type_inv.numbers c.loop-i.i))))
           ∙ c.loop-i.invariant
     ]
-
-pub returns : goal.returns
-returns c =
-    sym (left-none c.args.op (map value.UInt c.loop-i.states.items) c.args.places.now
-    (map value.UInt c.args.numbers.now) c.loop-i.i c.loop-i-test.false) ∙ c.loop-i.invariant

@@ -1,4 +1,4 @@
-use Rattle.std.proofs.Common.{◌≡◌, take}
+use Rattle.aggregate_proc.proofs.Cited.{◌≡◌, take}
 use Rattle.aggregate_proc.proofs.fold.texts_of.Given as goal
 
 abbrev pub invariant-loop-i : goal.invariant-loop-i

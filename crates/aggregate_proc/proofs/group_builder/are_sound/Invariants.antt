@@ -1,5 +1,4 @@
-use Rattle.std.proofs.Common.{◌≡◌, ◌<◌, ℕ, true, get_or}
-use Rattle.aggregate_proc.proofs.Prelude.{StateCall, can_fold, fold_of}
+use Rattle.aggregate_proc.proofs.Cited.{◌≡◌, ◌<◌, ℕ, true, get_or, StateCall, can_fold, fold_of}
 use Rattle.aggregate_proc.proofs.group_builder.are_sound.Given as goal
 
 abbrev pub invariant-loop-i : goal.invariant-loop-i

@@ -1,5 +1,4 @@
-use Rattle.std.proofs.Common.{◌<◌, ℕ, get_or}
-use Rattle.aggregate_proc.proofs.Prelude.{FitsColumn, FoldColumn}
+use Rattle.aggregate_proc.proofs.Cited.{◌<◌, ℕ, get_or, FitsColumn, FoldColumn}
 use Rattle.aggregate_proc.proofs.group_builder.fit_columns.Given as goal
 
 abbrev pub invariant-loop-i : goal.invariant-loop-i

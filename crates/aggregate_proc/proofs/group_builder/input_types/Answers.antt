@@ -1,6 +1,4 @@
-use Rattle.std.proofs.Common.{◌++◌, ◌∙◌, ap, length, sym, arith}
-use Rattle.aggregate_proc.proofs.Prelude.{append-nil, at_drop_all, call_types}
-use Rattle.aggregate_proc.proofs.BuilderLaws.{types-are}
+use Rattle.aggregate_proc.proofs.Cited.{◌++◌, ◌∙◌, ap, length, sym, arith, append-nil, at_drop_all, call_types, types-are}
 use Rattle.aggregate_proc.proofs.group_builder.input_types.Goals as goal
 
 pub returns : goal.returns

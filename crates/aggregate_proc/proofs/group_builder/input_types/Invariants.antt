@@ -1,5 +1,4 @@
-use Rattle.std.proofs.Common.{◌≡◌, ◌++◌, drop}
-use Rattle.aggregate_proc.proofs.Prelude.{call_types}
+use Rattle.aggregate_proc.proofs.Cited.{◌≡◌, ◌++◌, drop, call_types}
 use Rattle.aggregate_proc.proofs.group_builder.input_types.Given as goal
 
 abbrev pub invariant-loop-call : goal.invariant-loop-call

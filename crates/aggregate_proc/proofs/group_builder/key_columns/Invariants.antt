@@ -1,5 +1,4 @@
-use Rattle.std.proofs.Common.{◌≡◌, map}
-use Rattle.aggregate_proc.proofs.Prelude.{empty_column, key_foldings}
+use Rattle.aggregate_proc.proofs.Cited.{◌≡◌, map, empty_column, key_foldings}
 use Rattle.aggregate_proc.proofs.group_builder.key_columns.Given as goal
 
 abbrev pub invariant-loop-c : goal.invariant-loop-c

@@ -1,16 +1,8 @@
-use Rattle.std.proofs.Common.{◌≡◌, ◌+◌, suc, List, ◌∙◌, get_or, set, ap, ap₂, sym, subst, arith}
-use Rattle.aggregate_proc.proofs.Prelude.{FitsColumn, FoldColumn, changed, changed_all, changed_more, get_or-changed, with_rows}
+use Rattle.aggregate_proc.proofs.Cited.{◌≡◌, ◌+◌, suc, List, ◌∙◌, get_or, set, ap, ap₂, arith, FoldColumn, changed, changed_all, changed_more, get_or-changed, with_rows}
 use Rattle.aggregate_proc.proofs.group_table.add_to_each.Goals as goal
 
 pub add-requires-clause-fits : goal.add-requires-clause-fits
-add-requires-clause-fits c =
-    let d = c.index_mut.result.now in
-    let f = with_rows c.args.places.now c.args.chunk.now.rows in
-    subst (FitsColumn c.args.chunk.now.types)
-    (sym (c.index_mut.ensures.value
-    ∙ ap (λ (l : List FoldColumn). get_or l c.loop-i.i d) c.loop-i.invariant
-    ∙ get_or-changed f c.loop-i.i c.args.columns.now.items d))
-    (c.requires.fits c.loop-i.i d (omega arith))
+add-requires-clause-fits c = grind (arith, get_or-changed)
 
 pub loop-i-preserved : goal.loop-i-preserved
 loop-i-preserved c =
@@ -26,8 +18,4 @@ loop-i-preserved c =
     ∙ ap (λ n. changed f n c.args.columns.now.items) next
 
 pub returns : goal.returns
-returns c =
-    c.loop-i.invariant
-    ∙ changed_all (with_rows c.args.places.now c.args.chunk.now.rows) c.loop-i.i
-    c.args.columns.now.items
-    (omega arith)
+returns c = grind (arith, changed_all)

@@ -1,5 +1,4 @@
-use Rattle.std.proofs.Common.{◌≡◌}
-use Rattle.aggregate_proc.proofs.Prelude.{changed, with_rows}
+use Rattle.aggregate_proc.proofs.Cited.{◌≡◌, changed, with_rows}
 use Rattle.aggregate_proc.proofs.group_table.add_to_each.Given as goal
 
 abbrev pub invariant-loop-i : goal.invariant-loop-i

@@ -1,5 +1,4 @@
-use Rattle.std.proofs.Common.{◌≡◌, map}
-use Rattle.aggregate_proc.proofs.Prelude.{FoldColumn, kind_of, values}
+use Rattle.aggregate_proc.proofs.Cited.{◌≡◌, map, FoldColumn, kind_of, values}
 use Rattle.aggregate_proc.proofs.group_table.columns_of.Given as goal
 
 abbrev pub invariant-loop-column : goal.invariant-loop-column

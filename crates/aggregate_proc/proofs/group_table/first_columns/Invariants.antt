@@ -1,4 +1,5 @@
-use Rattle.query_model.proofs.Imports.{count_up, ◌≡◌}
+use Rattle.aggregate_proc.proofs.Cited.{◌≡◌}
+use Rattle.query_model.proofs.Imports.{count_up}
 use Rattle.aggregate_proc.proofs.group_table.first_columns.Given as goal
 
 abbrev pub invariant-loop-c : goal.invariant-loop-c

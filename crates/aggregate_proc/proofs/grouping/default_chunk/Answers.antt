@@ -1,6 +1,4 @@
-use Rattle.std.proofs.Common.{◌≡◌, IfOk, length, ap, ◌∙◌, sym, subst, arith}
-use Rattle.aggregate_proc.proofs.Prelude.{AreLong, Table, rows_of}
-use Rattle.aggregate_proc.proofs.BuilderLaws.{default-long, default-rows, default-values}
+use Rattle.aggregate_proc.proofs.Cited.{◌≡◌, IfOk, length, ap, ◌∙◌, sym, subst, arith, AreLong, Table, rows_of, default-long, default-rows, default-values}
 use Rattle.aggregate_proc.proofs.grouping.default_chunk.Goals as goal
 
 pub of_columns-requires : goal.of_columns-requires

@@ -1,5 +1,4 @@
-use Rattle.std.proofs.Common.{◌≡◌, [], ◌∷◌, map, take}
-use Rattle.aggregate_proc.proofs.Prelude.{StateCall, default_value, kind_of, values}
+use Rattle.aggregate_proc.proofs.Cited.{◌≡◌, [], ◌∷◌, map, take, StateCall, default_value, kind_of, values}
 use Rattle.aggregate_proc.proofs.grouping.default_chunk.Given as goal
 
 abbrev pub invariant-loop-call : goal.invariant-loop-call

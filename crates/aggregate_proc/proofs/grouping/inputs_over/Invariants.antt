@@ -1,5 +1,4 @@
-use Rattle.std.specs.Prelude.{◌≡◌, ℕ, ◌<◌, true}
-use Rattle.aggregate_proc.proofs.Prelude.{input_at, is_in_finished}
+use Rattle.aggregate_proc.proofs.Cited.{◌≡◌, ℕ, ◌<◌, true, input_at, is_in_finished}
 use Rattle.aggregate_proc.proofs.grouping.inputs_over.Given as goal
 
 abbrev pub invariant-loop-i : goal.invariant-loop-i

@@ -1,4 +1,4 @@
-use Rattle.chunk_data.proofs.Imports.{All, drop, length, map, row_at, take, ◌<◌, ◌≡◌}
+use Rattle.aggregate_proc.proofs.Cited.{All, drop, length, map, row_at, take, ◌<◌, ◌≡◌}
 use Rattle.aggregate_proc.proofs.grouping.part_of.Given as goal
 
 abbrev pub invariant-loop-i : goal.invariant-loop-i

@@ -1,14 +1,8 @@
-use Rattle.aggregate_proc.proofs.GroupLaws.{empty-table, no-rows}
-use Rattle.aggregate_proc.proofs.Prelude.{table_view}
-use Rattle.std.proofs.Common.{rules}
+use Rattle.aggregate_proc.proofs.Cited.{arith, empty-table, no-rows, table_view}
 use Rattle.aggregate_proc.proofs.group_table.GroupTable.new.Goals as goal
 
 pub invariant_of-result : goal.invariant_of-result
-invariant_of-result c =
-    let t = table_view c.args.types c.args.keys c.new-seen.result c.args.columns.items in (
-      empty-table t c.requires.wide c.requires.fits c.new-seen.ensures.none c.requires.empty,
-      search rules,
-    )
+invariant_of-result c = grind (arith, empty-table)
 
 pub returns-clause-rows : goal.returns-clause-rows
 returns-clause-rows c =

@@ -1,5 +1,4 @@
-use Rattle.std.proofs.Common.{◌≡◌, ◌-◌, ◌∙◌, length, max, min, arith, rules}
-use Rattle.aggregate_proc.proofs.GroupingLaws.{makes-part}
+use Rattle.aggregate_proc.proofs.Cited.{◌≡◌, ◌-◌, ◌∙◌, length, max, min, arith, rules, makes-part}
 use Rattle.aggregate_proc.proofs.grouping.Grouping.give.Goals as goal
 
 pub returns-in-Ok-clause-makes : goal.returns-in-Ok-clause-makes

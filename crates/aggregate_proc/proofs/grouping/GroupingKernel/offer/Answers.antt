@@ -1,5 +1,4 @@
-use Rattle.aggregate_proc.proofs.Prelude.{in_count, open_for, out_count, own_in}
-use Rattle.aggregate_proc.proofs.GroupingLaws.{comes, offers, one-input}
+use Rattle.aggregate_proc.proofs.Cited.{in_count, open_for, out_count, own_in, comes, offers, one-input}
 use Rattle.aggregate_proc.proofs.grouping.GroupingKernel.offer.Goals as goal
 
 pub returns-then-inputs_over-clause-offers : goal.returns-then-inputs_over-clause-offers
