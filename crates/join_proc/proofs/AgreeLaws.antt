@@ -1,10 +1,5 @@
 -- Rows agree exactly where their keys have one code.
-use Rattle.chunk_data.proofs.Imports.{Equal, Greater, Less, Ordering}
-use Rattle.join_proc.proofs.Imports.{All, All-map, AllByRecursion, AreCells, AreKeyPairs, ColumnType, HasKey, IsKeyPair, IsSeenFor, JoinSpec, KeyPair, Row, agree, codes-agree, first_of, key_at, kind_at, kinds_at, left_places, length-map, recursion_from_All, right_places, row_code, same_code, same_row, same_row_is, value_at, value_cmp}
-use Rattle.key_codes.specs.declared.key_code.SeenKeys.{SeenKeys}
-use Rattle.std.proofs.Common.{List, [], ap, ap₂, arith, length, map, refl, subst, sym, true, ℕ, ◌&&◌, ◌<◌, ◌∙◌, ◌∷◌, ◌≡◌}
-use Rattle.std.specs.Cmp.Lexicographic.{slice_cmp}
-use Rattle.std.specs.Ordering.{is_eq, ordering_then}
+use Rattle.join_proc.proofs.Imports.{All, All-map, AllByRecursion, AreCells, AreKeyPairs, ColumnType, HasKey, IsKeyPair, IsSeenFor, JoinSpec, KeyPair, Row, agree, codes-agree, first_of, key_at, kind_at, kinds_at, left_places, length-map, recursion_from_All, right_places, row_code, same_code, same_row, same_row_is, SeenKeys, List, [], ap, ap₂, arith, length, map, refl, sym, true, ℕ, ◌<◌, ◌∙◌, ◌∷◌, ◌≡◌}
 use Rattle.key_codes.specs.declared.key_code.SeenKeys.TheVariants as seen
 
 -- rows agree where they have one key
@@ -12,16 +7,7 @@ agree-keys : (pairs : List KeyPair) (l r : Row)
     → agree pairs l r
     ≡ same_row (key_at (left_places pairs) l) (key_at (right_places pairs) r)
 agree-keys [] l r = refl
-agree-keys (pair ∷ pairs) l r =
-    go (value_cmp (value_at l pair.left) (value_at r pair.right)) (agree-keys pairs l r)
-  where
-    go : (o : Ordering) → agree pairs l r
-        ≡ same_row (key_at (left_places pairs) l) (key_at (right_places pairs) r)
-        → (is_eq o && agree pairs l r) ≡ is_eq (ordering_then o
-        (slice_cmp value_cmp (key_at (left_places pairs) l) (key_at (right_places pairs) r)))
-    go Less h = refl
-    go Equal h = h
-    go Greater h = refl
+agree-keys (pair ∷ pairs) l r = grind (arith, agree-keys pairs l r)
 
 -- the pairs are of columns of one type
 pub pair-kinds : (join : JoinSpec) → AreKeyPairs join
@@ -37,8 +23,7 @@ pair-kinds join h = go join.pairs
 -- The columns of the pairs are of their sides: as many of either, the first two of one type.
 sides-long : (pairs : List KeyPair)
     → length (left_places pairs) ≡ length (right_places pairs)
-sides-long pairs =
-    length-map pairs (λ (p : KeyPair). p.left) ∙ sym (length-map pairs (λ (p : KeyPair). p.right))
+sides-long pairs = grind (arith, length-map)
 
 first-kinds : (join : JoinSpec) → AreKeyPairs join → 0 < length (left_places join.pairs)
     → kind_at join.left (first_of (left_places join.pairs))
@@ -67,8 +52,7 @@ right-within join h = All-map (λ c. c < length join.right) (λ (p : KeyPair). p
 same-form : (n : ℕ) (t u : ColumnType) (x : SeenKeys) → (0 < n → t ≡ u)
     → IsSeenFor n t x → IsSeenFor n u x
 same-form n t u (seen.Whole some) e f = f
-same-form n t u (seen.Numbers numbers) e f =
-    (f.0, λ g. f.1 (e (let one = f.0 in omega (arith, one)) ∙ g))
+same-form n t u (seen.Numbers numbers) e f = grind arith
 same-form n t u (seen.Bytes codes) e f = λ one. sym (e (omega (arith, one))) ∙ f one
 
 -- the form of either side's keys is that of the other's
@@ -77,20 +61,14 @@ pub left-form : (join : JoinSpec) → AreKeyPairs join → (x : SeenKeys)
     (kind_at join.right (first_of (right_places join.pairs))) x
     → IsSeenFor (length (left_places join.pairs))
     (kind_at join.left (first_of (left_places join.pairs))) x
-left-form join h x f =
-    same-form (length (left_places join.pairs)) _ _ x (λ some. sym (first-kinds join h some))
-    (subst (λ n. IsSeenFor n (kind_at join.right (first_of (right_places join.pairs))) x)
-    (sym (sides-long join.pairs)) f)
+left-form join h x f = grind (arith, same-form, first-kinds, sides-long)
 
 pub right-form : (join : JoinSpec) → AreKeyPairs join → (x : SeenKeys)
     → IsSeenFor (length (left_places join.pairs))
     (kind_at join.left (first_of (left_places join.pairs))) x
     → IsSeenFor (length (right_places join.pairs))
     (kind_at join.right (first_of (right_places join.pairs))) x
-right-form join h x f =
-    subst (λ n. IsSeenFor n (kind_at join.right (first_of (right_places join.pairs))) x)
-    (sides-long join.pairs) (same-form (length (left_places join.pairs)) _ _ x
-    (first-kinds join h) f)
+right-form join h x f = grind (arith, sides-long, same-form, first-kinds)
 
 module _ (types : List ColumnType) (pairs : List KeyPair) where
   -- the row agrees with just those whose keys have the code
@@ -102,9 +80,7 @@ module _ (types : List ColumnType) (pairs : List KeyPair) where
   pub left-code : (l : Row)
       → AreCells (kinds_at types (right_places pairs)) (key_at (left_places pairs) l)
       → HasCode l (row_code (left_places pairs) l)
-  left-code l p = λ r q.
-      agree-keys pairs l r ∙ sym (codes-agree (kinds_at types (right_places pairs))
-      (key_at (left_places pairs) l) (key_at (right_places pairs) r) p q)
+  left-code l p = grind (arith, agree-keys, codes-agree)
 
   -- as a row with which it agrees has
   pub right-code : (l r : Row) → HasKey types (right_places pairs) r → agree pairs l r ≡ true

@@ -1,4 +1,8 @@
 -- The names of other crates and of the definitions that the proofs use, in one place.
+pub use Rattle.key_codes.specs.declared.key_code.SeenKeys.{SeenKeys}
+pub use Rattle.std.proofs.Common.{Bool, IsPermutation, List, None, Some, [], ap, append_assoc, ap₂, arith, cond, drop, eq-eqb, false, filter, flat_map, fold, get_or, inl, inr, leb, length, ltb, map, max, nat_eq, ne_eqb, not, refl, set, subst, suc, sym, take, true, ℕ, ◌++◌, ◌+◌, ◌-◌, ◌<◌, ◌==◌, ◌||◌, ◌∙◌, ◌∷◌, ◌≡◌, ◌≤◌, ◌⊎◌}
+pub use Rattle.std.proofs.lemmas.Grind.{common_steps}
+pub use denote.Enum.Bare.{same_true, true_same}
 pub use Rattle.chunk_data.specs.Names.{Row, Table, joined, row_at, value_at, value_cmp}
 pub use Rattle.indexmap.specs.IndexSet.{insert_key}
 pub use Rattle.join_proc.specs.Joinings.{IsJoining, IsNext, IsPhaseFor, JoiningView, gathered_own, is_open, joining_own, own_in, unmade_in, view_of, with_end}
@@ -8,7 +12,7 @@ pub use Rattle.join_proc.specs.declared.joining.Phase.{Phase}
 pub use Rattle.join_proc.specs.declared.left_rows.LeftRows.{LeftRows}
 pub use Rattle.join_proc.specs.declared.left_rows.PlacePairs.{PlacePairs}
 pub use Rattle.join_proc.specs.declared.left_rows.Start.{Start}
-pub use Rattle.key_codes.proofs.KeyLaws.{codes-agree}
+pub use Rattle.key_codes.proofs.KeyLaws.{codes-agree, same_code_is}
 pub use Rattle.key_codes.specs.Keys.{AreCells, HasKey, IsSeenFor, codes_in, first_of, key_at, kind_at, kinds_at, places_from, row_code, same_code, with_key}
 pub use Rattle.proc_api.specs.Names.{AreJoined, AreKeyPairs, FitsJoin, Lists, OwnState, chunk_rows, no_lists, side_types}
 pub use Rattle.proc_api.specs.Prelude.{JoinSpec, KeyPair, Picture, in_count, input_at, is_in_finished}
@@ -20,7 +24,7 @@ pub use Rattle.query_model.proofs.Imports.{ColumnType, IsPermutation-append_left
 pub use Rattle.query_model.proofs.Lists.{IsPermutation-same, map-map}
 pub use Rattle.query_model.proofs.ValueOrder.{same_row_is}
 pub use Rattle.std.proofs.Math.Seq.{drop-cons}
-pub use Rattle.std.proofs.lemmas.Bool.{cases_eq, cases_lt, leb-false, leb-true, ltb-true}
+pub use Rattle.std.proofs.lemmas.Bool.{cases_eq, cases_lt, le-leb, leb-false, leb-true, lt-leb, ltb-true}
 pub use Rattle.std.proofs.lemmas.List.{append-nil, drop-drop, drop-map, drop-set, drop_all, get_or-drop, get_or-map, get_or-set_other, get_or-set_same, get_or_default, length-append, length-drop, length-map, length-set, map-append}
 pub use Rattle.std.proofs.lemmas.List.Elements.{All-append, All-from_recursion, All-map, All-set, recursion_from_All}
 pub use Rattle.std.proofs.lemmas.List.Sums.{passes_at_first, prefix_len-le-length}

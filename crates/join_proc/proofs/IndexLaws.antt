@@ -1,9 +1,7 @@
 -- An index gives of each row's matches the first, and of each match the next.
+use Rattle.join_proc.proofs.Imports.{All, All-from_recursion, AreLinked, HasKey, IsIndexOf, JoinIndex, KeyPair, Row, agree, cases_eq, codes_in, drop-cons, drop_all, get_or-map, get_or-set_other, get_or-set_same, key_codes, key_places, length-map, length-set, places_from, position_or_len, prefix_len-le-length, recursion_from_All, right_places, row_after, row_at, row_code, same_code, with_key, same_code_is, List, [], ap, arith, drop, eq-eqb, fold, get_or, length, map, nat_eq, not, set, subst, suc, sym, true, ℕ, ◌+◌, ◌<◌, ◌∙◌, ◌≡◌}
 use Rattle.join_proc.proofs.AgreeLaws.{HasCode, code-mask, right-code}
-use Rattle.join_proc.proofs.Imports.{All, All-from_recursion, AreLinked, HasKey, IsIndexOf, JoinIndex, KeyPair, Row, agree, cases_eq, codes_in, drop-cons, drop_all, get_or-map, get_or-set_other, get_or-set_same, key_codes, key_places, length-map, length-set, places_from, position_or_len, prefix_len-le-length, recursion_from_All, right_places, row_after, row_at, row_code, same_code, with_key}
 use Rattle.join_proc.proofs.PlaceLaws.{mask-places, places-all, places-within, same-mask}
-use Rattle.key_codes.proofs.KeyLaws.{same_code_is}
-use Rattle.std.proofs.Common.{List, [], ap, arith, cond, drop, eq-eqb, fold, get_or, inl, inr, length, map, nat_eq, ne_eqb, not, refl, set, subst, suc, sym, true, ℕ, ◌+◌, ◌<◌, ◌∙◌, ◌∷◌, ◌≡◌, ◌≢◌}
 
 -- the first row from a row on with which it agrees
 abbrev pub next_row : List KeyPair → Row → List Row → ℕ → ℕ
@@ -13,59 +11,20 @@ next_row pairs l rows r = r + position_or_len (agree pairs l) (drop r rows)
 
 pub none-linked : (places firsts nexts : List ℕ) → length nexts ≡ length places
     → All (λ n. n ≡ length places) firsts → AreLinked places (length places) firsts nexts
-none-linked places firsts nexts long same = record {
-  long = long;
-  firsts_are = λ p lt. same p 0 lt ∙ sym (let e = ap (position_or_len (nat_eq p))
-      (drop_all (length places) places (omega arith)) in omega (arith, e));
-  nexts_are = λ r le lt. absurd (omega (arith, le, lt));
-}
+none-linked places firsts nexts long same = grind (arith, drop_all)
 
 pub link-row : (places : List ℕ) (row : ℕ) (firsts nexts : List ℕ) → row < length places
     → get_or places row 0 < length firsts → AreLinked places (suc row) firsts nexts
     → AreLinked places row (set firsts (get_or places row 0) row)
     (set nexts row (get_or firsts (get_or places row 0) 0))
 link-row places row firsts nexts lt within h =
-    let here = get_or places row 0 in
-    let at : (p : ℕ) → row_after p places row
-    ≡ row + position_or_len (nat_eq p) (here ∷ drop (suc row) places) =
-    λ p. ap (λ l. row + position_or_len (nat_eq p) l) (drop-cons places row 0 lt) in
-    record {
-      long = length-set nexts row (get_or firsts here 0) ∙ h.long;
-      firsts_are = λ p l. elim (cases_eq p here) [
-        | inl e ↦ subst (λ n. get_or (set firsts here row) n 0 ≡ row_after n places row) (sym e)
-            (get_or-set_same firsts here row 0 within
-            ∙ sym (at here ∙ let s = same here in omega (arith, s)))
-        | inr ne ↦ get_or-set_other firsts here p row 0 ne
-            ∙ h.firsts_are p (let m = length-set firsts here row in omega (arith, l, m))
-            ∙ sym (at p ∙ let o = other p here (drop (suc row) places) ne in omega (arith, o))
-      ];
-      nexts_are = λ r le l. elim (cases_eq r row) [
-        | inl e ↦ subst (λ n. get_or (set nexts row (get_or firsts here 0)) n 0
-            ≡ row_after (get_or places n 0) places (suc n)) (sym e)
-            (get_or-set_same nexts row (get_or firsts here 0) 0
-            (let m = h.long in omega (arith, m, lt)) ∙ h.firsts_are here within)
-        | inr ne ↦ get_or-set_other nexts row r (get_or firsts here 0) 0 ne
-            ∙ h.nexts_are r (omega (arith, le, ne)) l
-      ];
-    }
-  where
-    same : (p : ℕ) → position_or_len (nat_eq p) (p ∷ drop (suc row) places) ≡ 0
-    same p = ap (λ b. cond (not b) (1 + position_or_len (nat_eq p) (drop (suc row) places)) 0)
-        (eq-eqb p p refl)
-
-    other : (p q : ℕ) (l : List ℕ) → p ≢ q
-        → position_or_len (nat_eq p) (q ∷ l) ≡ 1 + position_or_len (nat_eq p) l
-    other p q l ne =
-        ap (λ b. cond (not b) (1 + position_or_len (nat_eq p) l) 0) (ne_eqb p q ne)
+    grind (arith, drop-cons, length-set, cases_eq, get_or-set_same, get_or-set_other, eq-eqb)
 
 -- ---- places of the right side's keys
 
 pub key-places-long : (columns : List ℕ) (rows : List Row)
     → length (key_places columns rows) ≡ length rows
-key-places-long columns rows =
-    let es = map (row_code columns) rows in
-    ap length (places-all same_code same_code_is es [])
-    ∙ length-map es _ ∙ length-map rows (row_code columns)
+key-places-long columns rows = grind (arith, places-all, same_code_is, length-map)
 
 pub key-places-within : (columns : List ℕ) (rows : List Row) (n : ℕ)
     → n ≡ suc (length (key_codes columns rows)) → All (λ p. p < n) (key_places columns rows)

@@ -1,6 +1,5 @@
 -- A join keeps what its kind says of the chunks that it worked.
-use Rattle.std.proofs.Common.{◌≡◌, ℕ, ◌<◌, true, [], ◌∷◌, ◌++◌, length, append_assoc, IsPermutation, Some, None, refl, sym, ap, ap₂, ◌∙◌, subst, arith}
-use Rattle.join_proc.proofs.Imports.{AreStarts, IsPermutation-append_left, JoinIndex, JoinSpec, JoinsSome, LeftRows, Lists, Makes, OwnState, Table, Takes, append-nil, chunk-elsewhere, chunk-here, chunk_rows, flat_map-append, joined_rows, joining_own, one-more, rows_left, with_chunk}
+use Rattle.join_proc.proofs.Imports.{◌≡◌, ℕ, ◌<◌, true, [], ◌∷◌, ◌++◌, length, append_assoc, IsPermutation, Some, None, sym, ap, ◌∙◌, subst, arith, AreStarts, IsPermutation-append_left, JoinIndex, JoinSpec, JoinsSome, LeftRows, Lists, Makes, OwnState, Table, Takes, append-nil, chunk-elsewhere, chunk-here, chunk_rows, flat_map-append, joined_rows, joining_own, one-more, rows_left, with_chunk}
 use Rattle.query_model.specs.declared.processor_spec.Spec.TheVariants as spec
 
 -- the rows of an input with a chunk more, and those of another
@@ -59,20 +58,4 @@ pub makes : (join : JoinSpec) (x : JoinIndex) (old new : LeftRows) (c : Table)
     → JoinsSome join x old new c → c.types ≡ join.left ++ join.right
     → 0 < length (rows_left join.pairs x.rows.rows old)
     → Makes (spec.HashJoin join) (joining_own join x old) (joining_own join x new) (Some c)
-makes join x old new c s types some = record {
-  means = λ y worked outs h. record {
-    gathered_are = h.gathered_are;
-    none_left = λ f. absurd (cc);
-    none_made = λ f. absurd (cc);
-    joined = λ f. subst (IsPermutation (joined_rows join.pairs (chunk_rows (worked 0))
-        (chunk_rows (worked 1))))
-        (ap₂ ◌++◌ (append-nil (chunk_rows (outs 0))) s.rows
-        ∙ sym (append_assoc (chunk_rows (outs 0)) c.rows
-        (rows_left join.pairs x.rows.rows new))) (h.joined refl);
-  };
-  types = λ ins. types;
-  sizes = s.few;
-  progress = s.some;
-  nothing = λ n. absurd (let e = ap length n in omega (arith, e, some));
-  ends = λ i n. n;
-}
+makes join x old new c s types some = grind (arith, append-nil, append_assoc)

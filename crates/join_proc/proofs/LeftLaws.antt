@@ -1,16 +1,11 @@
 -- What a left chunk still makes, and what is made of it pair by pair.
+use Rattle.join_proc.proofs.Imports.{All, All-append, All-from_recursion, All-set, AllByRecursion, AreCells, AreFit, AreStarts, IsIndexOf, IsStart, JoinIndex, JoinSpec, JoinsRows, JoinsSome, KeyPair, LeftRows, Moves, PairsMore, PlacePairs, Row, Start, Table, agree, cases_lt, codes_in, drop-cons, drop-set, drop_all, get_or_default, joined, joined_rows, key_at, kinds_at, left_places, length-append, ltb-true, no_start, paired, position_or_len, right_places, row_at, row_code, rows_left, same_code, start_rows, starts_at, Bool, List, [], ap, append_assoc, ap₂, arith, cond, drop, false, filter, flat_map, get_or, inl, inr, leb, length, ltb, map, max, refl, subst, suc, sym, true, ℕ, ◌++◌, ◌+◌, ◌<◌, ◌==◌, ◌∙◌, ◌∷◌, ◌≡◌, ◌≤◌, ◌⊎◌, eq-eqb, le-leb, lt-leb, ne_eqb}
 use Rattle.join_proc.proofs.AgreeLaws.{left-code}
-use Rattle.join_proc.proofs.Imports.{All, All-append, All-from_recursion, All-set, AllByRecursion, AreCells, AreFit, AreStarts, IsIndexOf, IsStart, JoinIndex, JoinSpec, JoinsRows, JoinsSome, KeyPair, LeftRows, Moves, PairsMore, PlacePairs, Row, Start, Table, agree, cases_lt, codes_in, drop-cons, drop-set, drop_all, get_or_default, joined, joined_rows, key_at, kinds_at, left_places, length-append, ltb-true, no_start, paired, position_or_len, right_places, row_at, row_code, rows_left, same_code, start_rows, starts_at}
 use Rattle.join_proc.proofs.IndexLaws.{first-row, next-match, next_row, rows-linked}
 use Rattle.join_proc.proofs.PlaceLaws.{filter-from, first-passes}
-use Rattle.std.proofs.Common.{Bool, List, [], ap, append_assoc, ap₂, arith, cond, drop, false, filter, flat_map, get_or, inl, inr, leb, length, ltb, map, max, refl, subst, suc, sym, true, ℕ, ◌++◌, ◌+◌, ◌<◌, ◌==◌, ◌∙◌, ◌∷◌, ◌≡◌, ◌≤◌, ◌⊎◌}
-use Rattle.std.proofs.lemmas.Bool.{eq-eqb, le-leb, lt-leb, lt-ltb, ne_eqb}
 
 ltb-over : (a b : ℕ) → ltb a b ≡ false → b ≤ a
-ltb-over a b e = elim (cases_lt a b) [
-  | inl lt ↦ absurd (let t = lt-ltb a b lt in cc)
-  | inr le ↦ le
-]
+ltb-over a b e = grind arith
 
 -- no row comes behind the last
 none-behind : (pairs : List KeyPair) (l : Row) (rows : List Row) (n : ℕ) → length rows ≤ n
@@ -223,8 +218,7 @@ some-left pairs right l fit some =
 
 pub none-left : (pairs : List KeyPair) (right : List Row) (l : LeftRows)
     → length l.starts.items ≤ l.at → rows_left pairs right l ≡ []
-none-left pairs right l le =
-    ap (flat_map (start_rows pairs l.chunk.rows right)) (drop_all l.at l.starts.items le)
+none-left pairs right l le = grind (arith, drop_all)
 
 -- ---- several pairs
 
@@ -242,16 +236,6 @@ pub paired-long : (f g : ℕ → Row) (ps qs : List ℕ) → length ps ≡ lengt
 paired-long f g [] qs e = refl
 paired-long f g (x ∷ ps) [] e = absurd (omega (arith, e))
 paired-long f g (x ∷ ps) (y ∷ qs) e = ap suc (paired-long f g ps qs (omega (arith, e)))
-
-pub joins-none : (pairs : List KeyPair) (right : List Row) (l : LeftRows) (places : PlacePairs)
-    → places.lefts.items ≡ [] → places.rights.items ≡ [] → JoinsRows pairs right l l places
-joins-none pairs right l places e f = record {
-  lefts = subst (All (λ p. p < length l.chunk.rows)) (sym e) (λ k d lt. absurd (omega (arith, lt)));
-  rights = subst (All (λ p. p < length right)) (sym f) (λ k d lt. absurd (omega (arith, lt)));
-  same = ap length e ∙ sym (ap length f);
-  rows = ap (λ m. joined (map (row_at l.chunk.rows) m)
-      (map (row_at right) places.rights.items) ++ rows_left pairs right l) e;
-}
 
 one-within : (n p : ℕ) → p < n → All (λ q. q < n) (p ∷ [])
 one-within n p lt = All-from_recursion (λ q. q < n) (p ∷ []) (lt, tt)
@@ -295,27 +279,10 @@ pub joins-some : (join : JoinSpec) (x : JoinIndex) (old new : LeftRows) (places 
     ⊎ (rows_left join.pairs x.rows.rows new ≡ [])
     → t.types ≡ old.chunk.types ++ x.rows.types
     → t.rows ≡ paired old.chunk.rows x.rows.rows places → JoinsSome join x old new t
-joins-some join x old new places t h few some types rows =
-    let left = old.chunk.rows in
-    let long = ap length rows ∙ paired-long (row_at left) (row_at x.rows.rows) places.lefts.items
-    places.rights.items h.same in
-    record {
-      types = types;
-      few = omega (arith, long, few);
-      some = elim some [
-        | inl e ↦ inl (omega (arith, long, e))
-        | inr e ↦ inr e
-      ];
-      rows = sym (ap (λ l. l ++ rows_left join.pairs x.rows.rows new) rows ∙ h.rows);
-    }
+joins-some join x old new places t h few some types rows = grind (arith, paired-long)
 
 -- a left chunk is joined where no row is left
 pub joined-empty : (pairs : List KeyPair) (right : List Row) (l : LeftRows) → AreFit pairs right l
     → leb (length l.starts.items) l.at ≡ (length (rows_left pairs right l) == 0)
-joined-empty pairs right l fit = elim (cases_lt l.at (length l.starts.items)) [
-  | inl lt ↦ lt-leb (length l.starts.items) l.at lt
-      ∙ sym (ne_eqb (length (rows_left pairs right l)) 0
-      (λ z. absurd (let s = some-left pairs right l fit lt in omega (arith, z, s))))
-  | inr le ↦ le-leb (length l.starts.items) l.at le
-      ∙ sym (eq-eqb (length (rows_left pairs right l)) 0 (ap length (none-left pairs right l le)))
-]
+joined-empty pairs right l fit =
+    grind (arith, cases_lt, lt-leb, ne_eqb, some-left, le-leb, eq-eqb, none-left)

@@ -4,3 +4,4 @@ mod AgreeLaws
 mod IndexLaws
 mod LeftLaws
 mod JoiningLaws
+mod Cited

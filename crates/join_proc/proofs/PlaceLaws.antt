@@ -1,8 +1,6 @@
 -- Places of keys: keys are one exactly where they have one place. The first of a list that passes a
 -- test, by what the test says of each.
-use Rattle.join_proc.proofs.Imports.{AllByRecursion, IsSame, Row, cases_eq, drop-drop, drop-map, get_or-drop, insert_key, length-drop, list_any, list_any-append, map-map, passes_at_first, places_from, position_or_len, prefix_len-le-length, with_key}
-use Rattle.std.proofs.Common.{Bool, List, [], ap, ap₂, arith, cond, drop, eq-eqb, false, filter, fold, get_or, inl, inr, length, map, nat_eq, ne_eqb, not, refl, suc, sym, true, ℕ, ◌++◌, ◌+◌, ◌<◌, ◌||◌, ◌∙◌, ◌∷◌, ◌≡◌}
-use Rattle.std.proofs.lemmas.Grind.{common_steps}
+use Rattle.join_proc.proofs.Imports.{AllByRecursion, IsSame, Row, drop-drop, drop-map, get_or-drop, insert_key, length-drop, list_any, list_any-append, map-map, passes_at_first, places_from, position_or_len, prefix_len-le-length, with_key, Bool, List, [], ap, ap₂, arith, cond, drop, false, filter, fold, get_or, length, map, nat_eq, ne_eqb, not, refl, suc, sym, true, ℕ, ◌++◌, ◌+◌, ◌<◌, ◌||◌, ◌∙◌, ◌∷◌, ◌≡◌, common_steps}
 
 -- the first that passes isn't another one where one that passes comes behind all
 place-push : {X : Type 0} (p : X → Bool) (x : X) → p x ≡ true → (xs : List X)
@@ -29,41 +27,22 @@ map-same P f g e [] h = refl
 map-same P f g e (x ∷ xs) h = ap₂ ◌∷◌ (e x h.0) (map-same P f g e xs h.1)
 
 one-more-each : (a b : ℕ) → nat_eq a b ≡ nat_eq (1 + a) (1 + b)
-one-more-each a b = elim (cases_eq a b) [
-  | inl e ↦ eq-eqb a b e ∙ sym (eq-eqb (1 + a) (1 + b) (ap (λ n. 1 + n) e))
-  | inr ne ↦ ne_eqb a b ne ∙ sym (ne_eqb (1 + a) (1 + b) (λ z. ne (omega (arith, z))))
-]
+one-more-each a b = grind arith
 
 module _ {X : Type 0} (same : X → X → Bool) (is : IsSame same) where
   turned : (x y : X) → same y x ≡ same x y
-  turned x y =
-      let a = is.one x y in
-      let b = is.one y x in
-      let c = is.itself x in
-      let d = is.itself y in grind (arith, common_steps)
+  turned x y = grind arith
 
   abbrev all_keys : List X → List X → List X
   all_keys keys xs = fold (with_key true same) keys xs
 
   -- a key that is put there is there, at the place that it had, and stays there
   put-there : (keys : List X) (x : X) → list_any (same x) (insert_key same keys x) ≡ true
-  put-there keys x = go (list_any (same x) keys) refl
-    where
-      go : (b : Bool) → list_any (same x) keys ≡ b
-          → list_any (same x) (cond b keys (keys ++ x ∷ [])) ≡ true
-      go true e = e
-      go false e =
-          let a = list_any-append (same x) keys (x ∷ []) in
-          let i = is.itself x in grind (arith, common_steps)
+  put-there keys x = grind (arith, list_any-append, common_steps)
 
   put-place : (keys : List X) (x : X)
       → position_or_len (same x) (insert_key same keys x) ≡ position_or_len (same x) keys
-  put-place keys x = go (list_any (same x) keys)
-    where
-      go : (b : Bool) → position_or_len (same x) (cond b keys (keys ++ x ∷ []))
-          ≡ position_or_len (same x) keys
-      go true = refl
-      go false = place-push (same x) x (is.itself x) keys
+  put-place keys x = grind (arith, place-push)
 
   -- what is there stays there, at its place
   record Stays (x : X) (keys more : List X) : Type 0 where
@@ -72,15 +51,7 @@ module _ {X : Type 0} (same : X → X → Bool) (is : IsSame same) where
 
   stays : (x y : X) (keys : List X) → list_any (same x) keys ≡ true
       → Stays x keys (insert_key same keys y)
-  stays x y keys h = go (list_any (same y) keys)
-    where
-      go : (b : Bool) → Stays x keys (cond b keys (keys ++ y ∷ []))
-      go true = record { there = h; place = refl }
-      go false = record {
-        there = list_any-append (same x) keys (y ∷ [])
-            ∙ ap (λ b. b || list_any (same x) (y ∷ [])) h;
-        place = place-behind (same x) keys (y ∷ []) h;
-      }
+  stays x y keys h = grind (arith, list_any-append, place-behind)
 
   all-stay : (x : X) (xs keys : List X) → list_any (same x) keys ≡ true
       → Stays x keys (all_keys keys xs)
@@ -103,10 +74,8 @@ module _ {X : Type 0} (same : X → X → Bool) (is : IsSame same) where
   all-there : (xs keys : List X)
       → AllByRecursion (λ x. list_any (same x) (all_keys keys xs) ≡ true) xs
   all-there [] keys = tt
-  all-there (x ∷ xs) keys = (
-    (all-stay x xs (insert_key same keys x) (put-there keys x)).there,
-    all-there xs (insert_key same keys x),
-  )
+  all-there (x ∷ xs) keys =
+      grind (arith, all-stay, put-there, all-there xs (insert_key same keys x))
 
   -- one that is there has another's place where it is that
   same-place : (e x : X) (keys : List X) → list_any (same x) keys ≡ true
@@ -143,8 +112,7 @@ module _ {X : Type 0} (same : X → X → Bool) (is : IsSame same) where
 pub places-found : {X : Type 0} (same : X → X → Bool) (xs keys : List X)
     → places_from false same keys xs ≡ map (λ x. position_or_len (same x) keys) xs
 places-found same [] keys = refl
-places-found same (x ∷ xs) keys =
-    ap (λ l. position_or_len (same x) keys ∷ l) (places-found same xs keys)
+places-found same (x ∷ xs) keys = grind (arith, places-found same xs keys)
 
 pub keys-found : {X : Type 0} (same : X → X → Bool) (xs keys : List X)
     → fold (with_key false same) keys xs ≡ keys
@@ -156,10 +124,8 @@ pub places-within : {X : Type 0} (same : X → X → Bool) (keys xs : List X) (n
     → n ≡ suc (length keys)
     → AllByRecursion (λ p. p < n) (map (λ x. position_or_len (same x) keys) xs)
 places-within same keys [] n e = tt
-places-within same keys (x ∷ xs) n e = (
-  let le = prefix_len-le-length (λ k. not (same x k)) keys in omega (arith, le, e),
-  places-within same keys xs n e,
-)
+places-within same keys (x ∷ xs) n e =
+    grind (arith, prefix_len-le-length, places-within same keys xs n e)
 
 -- ---- the first that passes
 
@@ -191,15 +157,8 @@ filter-skip p (x ∷ xs) = go (p x) refl (filter-skip p xs)
 -- what stands before the first that passes is left out
 pub filter-from : {A : Type 0} (p : A → Bool) (xs : List A) (r n : ℕ)
     → n ≡ r + position_or_len p (drop r xs) → filter p (drop r xs) ≡ filter p (drop n xs)
-filter-from p xs r n e =
-    let k = position_or_len p (drop r xs) in
-    filter-skip p (drop r xs) ∙ ap (filter p) (drop-drop k r xs)
-    ∙ ap (λ m. filter p (drop m xs)) (sym e)
+filter-from p xs r n e = grind (arith, filter-skip, drop-drop)
 
 pub first-passes : (p : Row → Bool) (xs : List Row) (r n : ℕ)
     → n ≡ r + position_or_len p (drop r xs) → n < length xs → p (get_or xs n []) ≡ true
-first-passes p xs r n e lt =
-    let k = position_or_len p (drop r xs) in
-    let l = length-drop r xs in
-    sym (ap p (get_or-drop r xs k [] ∙ ap (λ m. get_or xs m []) (sym e)))
-    ∙ passes_at_first p (drop r xs) [] (omega (arith, l, e, lt))
+first-passes p xs r n e lt = grind (arith, length-drop, get_or-drop, passes_at_first)

@@ -1,30 +1,11 @@
-use Rattle.std.proofs.Common.{false, List, ◌≡◌, ◌<◌, ◌∙◌, suc, length, map, ap, ap₂, refl, subst, sym}
-use Rattle.join_proc.proofs.Imports.{All, All-from_recursion, AreCells, ColumnType, IsSeenFor, JoinIndex, Row, codes_in, first_of, key_at, kind_at, kinds_at, left_places, map-map, places_from, position_or_len, recursion_from_All, right_places, row_code, same_code, starts_at}
-use Rattle.join_proc.proofs.AgreeLaws.{left-form, left-within, pair-kinds, right-form}
-use Rattle.join_proc.proofs.LeftLaws.{starts-left}
-use Rattle.join_proc.proofs.PlaceLaws.{keys-found, places-found, places-within}
+use Rattle.join_proc.proofs.Cited.{arith, false, List, ◌≡◌, ◌<◌, ◌∙◌, length, map, ap, ap₂, refl, subst, sym, All, All-from_recursion, AreCells, ColumnType, JoinIndex, Row, codes_in, key_at, kinds_at, left_places, map-map, places_from, position_or_len, recursion_from_All, right_places, row_code, same_code, starts_at, left-form, left-within, pair-kinds, right-form, starts-left, keys-found, places-found, places-within}
 use Rattle.join_proc.proofs.join_index.JoinIndex.left_rows.Goals as goal
 
 pub find_places-requires-clause-within : goal.find_places-requires-clause-within
-find_places-requires-clause-within c =
-    let join = c.args.join.now in
-    subst (All (λ p. p < length c.args.chunk.types))
-    (sym (c.as_slice.ensures.value ∙ c.in_ok-columns.ensures))
-    (subst (λ ts. All (λ p. p < length ts) (left_places join.pairs)) (sym c.requires.types)
-    (left-within join c.requires.pairs))
+find_places-requires-clause-within c = grind (arith, left-within)
 
 pub find_places-requires-clause-form : goal.find_places-requires-clause-form
-find_places-requires-clause-form c =
-    let join = c.args.join.now in
-    let seen = c.args.self.now.seen in
-    subst (λ cs. IsSeenFor (length cs) (kind_at c.args.chunk.types (first_of cs)) seen)
-    (sym (c.as_slice.ensures.value ∙ c.in_ok-columns.ensures))
-    (subst (λ ts. IsSeenFor (length (left_places join.pairs))
-    (kind_at ts (first_of (left_places join.pairs))) seen) (sym c.requires.types)
-    (left-form join c.requires.pairs seen
-    (subst (λ ts. IsSeenFor (length (right_places join.pairs))
-    (kind_at ts (first_of (right_places join.pairs))) seen) c.requires.right
-    c.requires.index.form)))
+find_places-requires-clause-form c = grind (arith, left-form)
 
 pub starts_of-requires : goal.starts_of-requires
 starts_of-requires c =
@@ -38,28 +19,7 @@ starts_of-requires c =
     (places-within same_code (codes_in x.seen) es (length c.as_slice-firsts.result.now) firsts))
 
 pub returns-clause-index : goal.returns-clause-index
-returns-clause-index c =
-    let join = c.args.join.now in
-    let x = c.args.self.now in
-    let new = c.find_places.new.seen in
-    let is = c.requires.index in
-    let same : codes_in new ≡ codes_in x.seen =
-    c.in_ok-places.ensures.seen
-    ∙ keys-found same_code (map (row_code c.as_slice.result.now) c.args.chunk.rows)
-    (codes_in x.seen) in
-    record {
-      form = subst (λ ts. IsSeenFor (length (right_places join.pairs))
-          (kind_at ts (first_of (right_places join.pairs))) new) (sym c.requires.right)
-          (right-form join c.requires.pairs new
-          (subst (λ ts. IsSeenFor (length (left_places join.pairs))
-          (kind_at ts (first_of (left_places join.pairs))) new) c.requires.types
-          (subst (λ cs. IsSeenFor (length cs) (kind_at c.args.chunk.types (first_of cs)) new)
-          (c.as_slice.ensures.value ∙ c.in_ok-columns.ensures) c.in_ok-places.ensures.form)));
-      cells = is.cells;
-      codes = same ∙ is.codes;
-      many = is.many ∙ ap suc (ap length (sym same));
-      linked = is.linked;
-    }
+returns-clause-index c = grind (arith, keys-found, right-form)
 
 pub returns-clause-starts : goal.returns-clause-starts
 returns-clause-starts c =

@@ -1,16 +1,8 @@
-use Rattle.std.proofs.Common.{true, ◌≡◌, ◌<◌, ◌∙◌, length, map, fold, ap, ap₂, arith, subst, sym}
-use Rattle.join_proc.proofs.Imports.{All, codes_in, key_codes, key_places, places_from, right_places, row_code, same_code, with_key}
-use Rattle.join_proc.proofs.AgreeLaws.{right-within}
-use Rattle.join_proc.proofs.IndexLaws.{key-places-long, key-places-within, none-linked}
+use Rattle.join_proc.proofs.Cited.{true, ◌≡◌, ◌<◌, ◌∙◌, length, map, fold, ap, ap₂, arith, subst, sym, All, codes_in, key_codes, key_places, places_from, right_places, row_code, same_code, with_key, right-within, key-places-long, key-places-within, none-linked}
 use Rattle.join_proc.proofs.join_index.JoinIndex.new.Goals as goal
 
 pub find_places-requires-clause-within : goal.find_places-requires-clause-within
-find_places-requires-clause-within c =
-    let join = c.args.join.now in
-    subst (All (λ p. p < length c.args.rows.types))
-    (sym (c.as_slice-columns.ensures.value ∙ c.in_ok-columns.ensures))
-    (subst (λ ts. All (λ p. p < length ts) (right_places join.pairs)) (sym c.requires.types)
-    (right-within join c.requires.pairs))
+find_places-requires-clause-within c = grind (arith, right-within)
 
 pub link_rows-requires-clause-places : goal.link_rows-requires-clause-places
 link_rows-requires-clause-places c =

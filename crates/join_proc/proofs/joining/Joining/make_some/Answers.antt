@@ -1,8 +1,5 @@
-use Rattle.std.proofs.Common.{Some, ◌++◌, ◌∙◌, ap, ap₂, length, subst, sym}
+use Rattle.join_proc.proofs.Cited.{Some, ◌++◌, ◌∙◌, ap, ap₂, length, subst, sym, IsJoining, JoinSpec, JoiningView, Makes, joining_own, leb-false, makes, some-left}
 use Rattle.query_model.specs.declared.processor_spec.Spec.TheVariants as spec
-use Rattle.join_proc.proofs.Imports.{IsJoining, JoinSpec, JoiningView, Makes, joining_own, leb-false}
-use Rattle.join_proc.proofs.JoiningLaws.{makes}
-use Rattle.join_proc.proofs.LeftLaws.{some-left}
 use Rattle.join_proc.proofs.joining.Joining.make_some.Goals as goal
 
 pub returns-in-Ok-clause-makes : goal.returns-in-Ok-clause-makes

@@ -1,7 +1,5 @@
-use Rattle.std.proofs.Common.{None, [], ◌∷◌, ap, refl, subst, sym}
+use Rattle.join_proc.proofs.Cited.{None, [], ◌∷◌, ap, refl, subst, sym, JoinSpec, JoiningView, Table, Takes, gathered_own, joining_own, takes-left}
 use Rattle.query_model.specs.declared.processor_spec.Spec.TheVariants as spec
-use Rattle.join_proc.proofs.Imports.{JoinSpec, JoiningView, Table, Takes, gathered_own, joining_own}
-use Rattle.join_proc.proofs.JoiningLaws.{takes-left}
 use Rattle.join_proc.proofs.joining.Joining.take_left.Goals as goal
 
 pub returns-in-Ok-clause-takes : goal.returns-in-Ok-clause-takes

@@ -1,5 +1,4 @@
-use Rattle.std.proofs.Common.{◌≡◌, length}
-use Rattle.join_proc.proofs.Imports.{AreFit, JoinsRows}
+use Rattle.join_proc.proofs.Cited.{◌≡◌, length, AreFit, JoinsRows}
 use Rattle.join_proc.proofs.left_rows.LeftRows.pair_some.Given as goal
 
 abbrev pub invariant-loop-done : goal.invariant-loop-done
