@@ -148,7 +148,8 @@ pub(crate) fn row_of(
 ) -> Result<List<Value>, Memory>
     requires long { AreLong count (map values columns.now) }
     requires in_range { i < count }
-    ensures { IfOk result (λ row. row ≡ map (λ column. value_at column i) (map values columns.now)) }
+    ensures { IfOk result
+        (λ row. row ≡ map (λ column. value_at column i) (map values columns.now)) }
 {
     let mut row = Vec::new(alloc);
     for column in columns {

@@ -36,7 +36,8 @@ pub(crate) fn gather_ints(items: &Vec<i64>, places: &[usize]) -> Result<Vec<i64>
 /// The same for numbers without a sign.
 pub(crate) fn gather_uints(items: &Vec<u64>, places: &[usize]) -> Result<Vec<u64>, Memory>
     requires { All (λ p. p < length items.now.items) places.now }
-    ensures { IfOk result (λ v. v.items ≡ map (λ p. slice_index_or items.now.items p 0) places.now) }
+    ensures { IfOk result
+        (λ v. v.items ≡ map (λ p. slice_index_or items.now.items p 0) places.now) }
 {
     let numbers = items.as_slice();
     Ok(

@@ -30,7 +30,10 @@ impl Model for Chunk {
 
     ghost Value = { Table };
 
-    ghost view = { λ c. record { types = c.kinds; rows = rows_of c.count (map values c.columns.items) } };
+    ghost view = { λ c. record {
+      types = c.kinds;
+      rows = rows_of c.count (map values c.columns.items);
+    } };
 
     ghost invariant = { λ c. AreColumns c.kinds c.columns.items c.count };
 }

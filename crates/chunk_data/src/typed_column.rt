@@ -117,7 +117,8 @@ impl Column {
         requires kinds { kind_of other.now ≡ kind_of self.now }
         requires here { i < length (values self.now) }
         requires there { j < length (values other.now) }
-        ensures { result ≡ value_cmp (value_at (values self.now) i) (value_at (values other.now) j) }
+        ensures { result
+            ≡ value_cmp (value_at (values self.now) i) (value_at (values other.now) j) }
     {
         match (self, other) {
             (Column::Int64(numbers), Column::Int64(others)) => numbers[i].cmp(&others[j]),
