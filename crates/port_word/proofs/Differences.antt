@@ -196,8 +196,8 @@ holds-call ins chunks outs (finish_call o) p h =
     record {
       sound = sound-finish p o h.sound lt b.0;
       explains = explains-step ins chunks outs p
-          (noted (with_output p o (record (output_at p o) { fin_out = true })) (Finish o)) (Finish o)
-          (steps-finish p o lt e) h.explains;
+          (noted (with_output p o (record (output_at p o) { fin_out = true })) (Finish o))
+          (Finish o) (steps-finish p o lt e) h.explains;
     })
 
 pub holds-calls : (ins : ℕ → Flags) (chunks : ℕ → Option Table) (outs : ℕ → Flags) (calls : List
