@@ -1,15 +1,16 @@
 -- What holds of a query that no condition refuses.
-use Rattle.query_model.proofs.Imports.{All, All-cons, All-nil, ArithOp, Bool, CanBePicked, ColumnRef, ExprOf, FromColumn, HasNoCall, IsDue, Item, ItemKind, Join, Kind, List, None, Option, Query, Refusal, Schema, Some, [], ambiguous_among, ambiguous_column, ap, append-nil, arith, arith_kind, bad_join_key, bad_order_key, bare_columns, cond, expr_columns, expr_kind, false, filter, find, first_name, first_of_all, fits_where, flat_map, from_columns, holds_pairs, is_call, is_grouped, is_key_of, is_typed, item_kind, join_tables, length, length-append, list_all, list_any, listed, map, meant, nat_lt, not, not_grouped, not_grouped_over, not_keys, operands_of, option_map, order_over, pairs_fit, plain, refl, refusal_of, refusal_unless, star_name, sym, table_columns, text_columns, too_wide, true, type_mismatch, typed, types_fit_over, unfit, ungrouped_names, unknown_among, unknown_column, unknown_table, width_over, written, ℕ, ◌&&◌, ◌++◌, ◌==◌, ◌||◌, ◌∙◌, ◌∷◌, ◌≡◌, ◌≤◌}
+use Rattle.query_model.proofs.Imports.{All, All-cons, All-nil, AllByRecursion, ArithOp, Bool, CanBePicked, ColumnRef, ExprOf, FromColumn, HasNoCall, IsDue, Item, ItemKind, Join, Kind, List, None, Option, Query, Refusal, Schema, Some, [], ambiguous_among, ambiguous_column, ap, append-nil, arith, arith_kind, bad_join_key, bad_order_key, bare_columns, cond, expr_columns, expr_kind, false, filter, find, first_name, first_of_all, fits_where, flat_map, from_columns, holds_pairs, is_call, is_grouped, is_key_of, is_typed, item_kind, join_tables, length, length-append, list_all, list_any, listed, map, meant, nat_lt, not, not_grouped, not_grouped_over, not_keys, operands_of, option_map, order_over, pairs_fit, plain, refl, refusal_of, refusal_unless, star_name, sym, table_columns, text_columns, too_wide, true, type_mismatch, typed, types_fit_over, ungrouped_names, unknown_among, unknown_column, unknown_table, width_over, written, ℕ, ◌++◌, ◌==◌, ◌||◌, ◌∙◌, ◌∷◌, ◌≡◌, ◌≤◌}
 use Rattle.query_model.specs.declared.query.ExprOf.TheVariants as expr
 use Rattle.query_model.specs.declared.query.ItemKind.TheVariants as kind
 use Rattle.query_model.specs.declared.query.Refusal.TheVariants as refuse
 use Rattle.query_model.proofs.TypedQueries.{both}
 
--- The first of several.
-
-none_first : {X : Type 0} (o : Option X) (rest : List (Option X)) → first_of_all (o ∷ rest) ≡ None → (o ≡ None) × (first_of_all rest ≡ None)
-none_first None rest h = (refl, h)
-none_first (Some x) rest h = absurd cc
+-- none of several stands
+none_of_all : {X : Type 0} (os : List (Option X)) → first_of_all os ≡ None
+    → AllByRecursion (λ o. o ≡ None) os
+none_of_all [] h = tt
+none_of_all (None ∷ os) h = (refl, none_of_all os h)
+none_of_all (Some x ∷ os) h = absurd cc
 
 -- none of the conditions stands
 pub record IsAccepted (q : Query) (schemas : List Schema) : Type 0 where
@@ -19,86 +20,106 @@ pub record IsAccepted (q : Query) (schemas : List Schema) : Type 0 where
   pub grouped : not_grouped q schemas ≡ None
   pub narrow : too_wide q schemas ≡ None
 
-pub accepted : (q : Query) (schemas : List Schema) → refusal_of q schemas ≡ None → IsAccepted q schemas
+pub accepted : (q : Query) (schemas : List Schema) → refusal_of q schemas ≡ None
+    → IsAccepted q schemas
 unfolding refusal_of
-accepted q schemas h = go (unknown_table q schemas) (unknown_column q schemas) (ambiguous_column q schemas) (bad_join_key q schemas) (type_mismatch q schemas) (not_grouped q schemas) (bad_order_key q schemas) (too_wide q schemas) refl refl refl refl refl h
-  where
-    go : (a b c d e f g w : Option Refusal) → unknown_column q schemas ≡ b → ambiguous_column q schemas ≡ c → type_mismatch q schemas ≡ e → not_grouped q schemas ≡ f → too_wide q schemas ≡ w
-        → first_of_all (a ∷ b ∷ c ∷ d ∷ e ∷ f ∷ g ∷ w ∷ []) ≡ None → IsAccepted q schemas
-    go a b c d e f g w bs cs es fs ws h =
-        let ha = none_first a (b ∷ c ∷ d ∷ e ∷ f ∷ g ∷ w ∷ []) h in
-        let hb = none_first b (c ∷ d ∷ e ∷ f ∷ g ∷ w ∷ []) ha.1 in
-        let hc = none_first c (d ∷ e ∷ f ∷ g ∷ w ∷ []) hb.1 in
-        let hd = none_first d (e ∷ f ∷ g ∷ w ∷ []) hc.1 in
-        let he = none_first e (f ∷ g ∷ w ∷ []) hd.1 in
-        let hf = none_first f (g ∷ w ∷ []) he.1 in
-        let hg = none_first g (w ∷ []) hf.1 in
-        let hw = none_first w [] hg.1 in
-        record { known = bs ∙ hb.0; one = cs ∙ hc.0; typed = es ∙ he.0; grouped = fs ∙ hf.0; narrow = ws ∙ hw.0 }
+accepted q schemas h =
+    let none = none_of_all (
+    unknown_table q schemas ∷ unknown_column q schemas ∷ ambiguous_column q schemas
+    ∷ bad_join_key q schemas
+    ∷ type_mismatch q schemas ∷ not_grouped q schemas ∷ bad_order_key q schemas
+    ∷ too_wide q schemas ∷ []) h in
+    let later = none.1.1.1.1 in
+    record {
+      known = none.1.0;
+      one = none.1.1.0;
+      typed = later.0;
+      grouped = later.1.0;
+      narrow =
+          later.1.1.1.0;
+    }
 
 -- The first condition that stands, step by step.
 
 module _ (q : Query) (schemas : List Schema) where
   abbrev names_over : List FromColumn → Option Refusal
-  names_over columns = first_of_all (unknown_among columns (text_columns q) ∷ ambiguous_among columns (text_columns q) ∷ [])
+  names_over columns = first_of_all
+      (unknown_among columns (text_columns q) ∷ ambiguous_among columns (text_columns q) ∷ [])
 
   abbrev later_over : List FromColumn → Option Refusal
   later_over columns =
-      first_of_all (refusal_unless (types_fit_over columns q) refuse.TypeMismatch ∷ not_grouped_over columns q ∷ order_over columns q ∷ width_over columns q ∷ [])
+      first_of_all (refusal_unless (types_fit_over columns q) refuse.TypeMismatch
+      ∷ not_grouped_over columns q ∷ order_over columns q ∷ width_over columns q ∷ [])
+
+  abbrev bad_name : Option Refusal
+  bad_name = first_of_all (unknown_column q schemas ∷ ambiguous_column q schemas ∷ [])
+
+  abbrev behind_names : Option Refusal
+  behind_names =
+      first_of_all (bad_join_key q schemas ∷ type_mismatch q schemas ∷ not_grouped q schemas
+      ∷ bad_order_key q schemas ∷ too_wide q schemas ∷ [])
 
   -- what is said of the columns is said of those of From
-  pub over_from : (columns : List FromColumn) → columns ≡ from_columns q schemas → (o : Option Refusal) → o ≡ names_over columns
-      → o ≡ first_of_all (unknown_column q schemas ∷ ambiguous_column q schemas ∷ [])
+  pub over_from : (columns : List FromColumn) → columns ≡ from_columns q schemas
+      → (o : Option Refusal) → o ≡ names_over columns → o ≡ bad_name
   over_from columns e o h = h ∙ ap names_over e
 
   -- an unknown table
-  pub table_is_first : (r : Refusal) → unknown_table q schemas ≡ Some r → Some r ≡ refusal_of q schemas
+  pub table_is_first : (r : Refusal) → unknown_table q schemas ≡ Some r
+      → Some r ≡ refusal_of q schemas
   unfolding refusal_of
   table_is_first r h = search (arith)
 
-  behind_tables : unknown_table q schemas ≡ None → refusal_of q schemas ≡ first_of_all (unknown_column q schemas ∷ ambiguous_column q schemas ∷ bad_join_key q schemas ∷ type_mismatch q schemas ∷ not_grouped q schemas ∷ bad_order_key q schemas ∷ too_wide q schemas ∷ [])
-  unfolding refusal_of
-  behind_tables h = search (arith)
-
   -- a name
-  pub name_is_first : (r : Refusal) → unknown_table q schemas ≡ None → first_of_all (unknown_column q schemas ∷ ambiguous_column q schemas ∷ []) ≡ Some r → Some r ≡ refusal_of q schemas
-  name_is_first r h k = search (arith, behind_tables)
+  pub name_is_first : (r : Refusal) → unknown_table q schemas ≡ None → bad_name ≡ Some r
+      → Some r ≡ refusal_of q schemas
+  unfolding refusal_of
+  name_is_first r h k = search (arith)
 
-  behind_names : unknown_table q schemas ≡ None → first_of_all (unknown_column q schemas ∷ ambiguous_column q schemas ∷ []) ≡ None
-      → refusal_of q schemas ≡ first_of_all (bad_join_key q schemas ∷ type_mismatch q schemas ∷ not_grouped q schemas ∷ bad_order_key q schemas ∷ too_wide q schemas ∷ [])
-  behind_names h k = search (arith, behind_tables)
+  none_before : unknown_table q schemas ≡ None → bad_name ≡ None
+      → refusal_of q schemas ≡ behind_names
+  unfolding refusal_of
+  none_before h k = search (arith)
 
-  same_pairs : (left right : List FromColumn) (o : Option Join) → left ≡ table_columns schemas q.from → right ≡ flat_map (table_columns schemas) (join_tables o)
+  same_pairs : (left right : List FromColumn) (o : Option Join) → left
+      ≡ table_columns schemas q.from → right ≡ flat_map (table_columns schemas) (join_tables o)
       → pairs_fit left right o ≡ holds_pairs q schemas o
   same_pairs left right None l r = refl
   same_pairs left right (Some join) l r = search (arith, append-nil)
 
   -- a pair of ON
-  pub pair_is_first : (left right : List FromColumn) → left ≡ table_columns schemas q.from → right ≡ flat_map (table_columns schemas) (join_tables q.join)
-      → unknown_table q schemas ≡ None → first_of_all (unknown_column q schemas ∷ ambiguous_column q schemas ∷ []) ≡ None → pairs_fit left right q.join ≡ false
+  pub pair_is_first : (left right : List FromColumn) → left ≡ table_columns schemas q.from
+      → right ≡ flat_map (table_columns schemas) (join_tables q.join)
+      → unknown_table q schemas ≡ None → bad_name ≡ None → pairs_fit left right q.join ≡ false
       → Some refuse.BadJoinKey ≡ refusal_of q schemas
-  pair_is_first left right l r h k f = search (arith, behind_names, same_pairs)
+  pair_is_first left right l r h k f = search (arith, none_before, same_pairs)
 
   -- types and what comes behind them
-  pub later_is_first : (columns left right : List FromColumn) → columns ≡ from_columns q schemas → left ≡ table_columns schemas q.from
-      → right ≡ flat_map (table_columns schemas) (join_tables q.join) → unknown_table q schemas ≡ None
-      → first_of_all (unknown_column q schemas ∷ ambiguous_column q schemas ∷ []) ≡ None → pairs_fit left right q.join ≡ true → later_over columns ≡ refusal_of q schemas
+  pub later_is_first : (columns left right : List FromColumn) → columns ≡ from_columns q schemas
+      → left ≡ table_columns schemas q.from → right ≡ flat_map (table_columns schemas)
+      (join_tables q.join) → unknown_table q schemas ≡ None → bad_name ≡ None
+      → pairs_fit left right q.join ≡ true → later_over columns ≡ refusal_of q schemas
   later_is_first columns left right e l r h k f =
       ap later_over e
-      ∙ sym (behind_names h k ∙ ap (λ b. first_of_all (cond b None (Some refuse.BadJoinKey) ∷ type_mismatch q schemas ∷ not_grouped q schemas ∷ bad_order_key q schemas ∷ too_wide q schemas ∷ []))
+      ∙ sym (none_before h k
+      ∙ ap (λ b. first_of_all (cond b None (Some refuse.BadJoinKey) ∷ type_mismatch q schemas
+      ∷ not_grouped q schemas ∷ bad_order_key q schemas ∷ too_wide q schemas ∷ []))
       (sym (same_pairs left right q.join l r) ∙ f))
 
 -- what no name passes
-pub none_found : {A B : Type 0} (test : A → Bool) (f : A → B) (xs : List A) → option_map f (find test xs) ≡ None → All (λ x. test x ≡ false) xs
+pub none_found : {A B : Type 0} (test : A → Bool) (f : A → B) (xs : List A)
+    → option_map f (find test xs) ≡ None → All (λ x. test x ≡ false) xs
 none_found test f [] h = All-nil (λ x. test x ≡ false)
 none_found test f (x ∷ xs) h = search (arith, none_found test f xs)
 
 -- Each name means one column.
 
-pub knows_each : (q : Query) (schemas : List Schema) → IsAccepted q schemas → All (λ c. (length (meant c (from_columns q schemas)) == 0) ≡ false) (text_columns q)
+pub knows_each : (q : Query) (schemas : List Schema) → IsAccepted q schemas
+    → All (λ c. (length (meant c (from_columns q schemas)) == 0) ≡ false) (text_columns q)
 knows_each q schemas a = search (arith, none_found)
 
-pub tells_each : (q : Query) (schemas : List Schema) → IsAccepted q schemas → All (λ c. nat_lt 1 (length (meant c (from_columns q schemas))) ≡ false) (text_columns q)
+pub tells_each : (q : Query) (schemas : List Schema) → IsAccepted q schemas
+    → All (λ c. nat_lt 1 (length (meant c (from_columns q schemas))) ≡ false) (text_columns q)
 tells_each q schemas a = search (arith, none_found)
 
 -- Types.
@@ -112,7 +133,8 @@ pub record AllFit (columns : List FromColumn) (q : Query) : Type 0 where
   pub filter : fits_where columns q.filter ≡ true
   pub having : fits_where columns q.having ≡ true
 
-pub all_fit : (q : Query) (schemas : List Schema) → IsAccepted q schemas → AllFit (from_columns q schemas) q
+pub all_fit : (q : Query) (schemas : List Schema) → IsAccepted q schemas
+    → AllFit (from_columns q schemas) q
 all_fit q schemas a = search (arith, both, unless)
 
 -- Widths.
@@ -120,16 +142,25 @@ all_fit q schemas a = search (arith, both, unless)
 at_most : (n : ℕ) → nat_lt 64 n ≡ false → n ≤ 64
 at_most n k = grind arith
 
-pub record IsNarrow (columns : List FromColumn) (q : Query) : Type 0 where
-  pub width : length columns ≤ 64
+pub record IsNarrow (q : Query) (schemas : List Schema) : Type 0 where
+  pub width : length (from_columns q schemas) ≤ 64
+  pub left : length (table_columns schemas q.from) ≤ 64
+  pub right : length (flat_map (table_columns schemas) (join_tables q.join)) ≤ 64
   pub keys : length q.keys ≤ 64
 
-pub narrow : (q : Query) (schemas : List Schema) → IsAccepted q schemas → IsNarrow (from_columns q schemas) q
-narrow q schemas a = search (arith, at_most)
-
--- the two tables of From are no wider than both together
-pub narrow_sides : (n : ℕ) (all left right : List FromColumn) → all ≡ left ++ right → length all ≤ n → (length left ≤ n) × (length right ≤ n)
-narrow_sides n all left right e le = search (arith, length-append)
+pub narrow : (q : Query) (schemas : List Schema) → refusal_of q schemas ≡ None → IsNarrow q schemas
+narrow q schemas none =
+    let a = accepted q schemas none in
+    let e = length-append (table_columns schemas q.from)
+    (flat_map (table_columns schemas) (join_tables q.join)) in
+    let width : length (from_columns q schemas) ≤ 64 = search (arith, at_most) in
+    record {
+      width = width;
+      left = omega (arith, e, width);
+      right = omega (arith, e, width);
+      keys =
+          search (arith, at_most);
+    }
 
 -- Groups.
 
@@ -137,18 +168,18 @@ or_true : (a b : Bool) → (a || b) ≡ false → (a ≡ false) × (b ≡ false)
 or_true false b h = (refl, h)
 or_true true b h = absurd cc
 
-no_calls : (items : List Item) → list_any (λ (i : Item). is_call i.what) items ≡ false → All (λ (i : Item). HasNoCall i.what) items
+no_call : (k : ItemKind) → is_call k ≡ false → HasNoCall k
+no_call (kind.Plain e) h = tt
+no_call (kind.Agg call) h = absurd cc
+
+no_calls : (items : List Item) → list_any (λ (i : Item). is_call i.what) items ≡ false
+    → All (λ (i : Item). HasNoCall i.what) items
 no_calls [] h = All-nil (λ (i : Item). HasNoCall i.what)
-no_calls (i ∷ items) h =
-    let each = or_true (is_call i.what) (list_any (λ (i : Item). is_call i.what) items) h in
-    All-cons (λ (i : Item). HasNoCall i.what) i items (no_call i.what each.0) (no_calls items each.1)
-  where
-    no_call : (k : ItemKind) → is_call k ≡ false → HasNoCall k
-    no_call (kind.Plain e) h = tt
-    no_call (kind.Agg call) h = absurd cc
+no_calls (i ∷ items) h = search (arith, or_true, no_call, no_calls items)
 
 -- a query without groups has no call among its items
-pub ungrouped_items : (q : Query) → is_grouped q ≡ false → All (λ (i : Item). HasNoCall i.what) (listed q.items)
+pub ungrouped_items : (q : Query) → is_grouped q ≡ false
+    → All (λ (i : Item). HasNoCall i.what) (listed q.items)
 ungrouped_items q h = search (arith, no_calls, or_true)
 
 -- nothing is of a type that has no name of a column
@@ -157,42 +188,45 @@ none_twice : {A : Type 0} (xs ys : List A) → xs ++ ys ≡ [] → (xs ≡ []) �
 none_twice [] ys h = (refl, h)
 none_twice (x ∷ xs) ys h = absurd cc
 
-untyped_arith : (op : ArithOp) (x y : Kind) → is_typed x ≡ false → is_typed y ≡ false → is_typed (arith_kind op x y) ≡ false
+untyped_arith : (op : ArithOp) (x y : Kind) → is_typed x ≡ false → is_typed y ≡ false
+    → is_typed (arith_kind op x y) ≡ false
 untyped_arith op (typed s) y h k = absurd cc
 untyped_arith op (plain z) (typed t) h k = absurd cc
-untyped_arith op (plain z) (plain w) h k = refl
-untyped_arith op (plain z) unfit h k = refl
-untyped_arith op unfit y h k = refl
+untyped_arith op x y h k = refl
 
-no_name : (columns : List FromColumn) (e : ExprOf ColumnRef) → expr_columns e ≡ [] → is_typed (expr_kind columns e) ≡ false
+no_name : (columns : List FromColumn) (e : ExprOf ColumnRef) → expr_columns e ≡ []
+    → is_typed (expr_kind columns e) ≡ false
 unfolding expr_columns expr_kind
 no_name columns (expr.Column c) h = absurd cc
 no_name columns (expr.Number n) h = refl
 no_name columns (expr.Arith' op p a q b) h =
     let each = none_twice (expr_columns a) (expr_columns b) h in
-    untyped_arith op (expr_kind columns a) (expr_kind columns b) (no_name columns a each.0) (no_name columns b each.1)
+    untyped_arith op (expr_kind columns a) (expr_kind columns b) (no_name columns a each.0)
+    (no_name columns b each.1)
 
-true_false : (b : Bool) → b ≡ true → b ≡ false → ⊥
-true_false true h k = cc
-true_false false h k = cc
-
-can_be_picked : (columns : List FromColumn) (is_key : ColumnRef → Bool) (k : ItemKind) → not_keys is_key k ≡ [] → is_typed (item_kind columns k) ≡ true → CanBePicked is_key k
+can_be_picked : (columns : List FromColumn) (is_key : ColumnRef → Bool) (k : ItemKind)
+    → not_keys is_key k ≡ [] → is_typed (item_kind columns k) ≡ true → CanBePicked is_key k
 unfolding expr_kind
 can_be_picked columns is_key (kind.Plain (expr.Column c)) h t = search (arith)
 can_be_picked columns is_key (kind.Plain (expr.Number n)) h t = absurd cc
 can_be_picked columns is_key (kind.Plain (expr.Arith' op p a q b)) h t =
-    search (arith, none_twice, true_false, untyped_arith, no_name)
+    search (arith, none_twice, untyped_arith, no_name)
 can_be_picked columns is_key (kind.Agg call) h t = tt
 
-all_can_be_picked : (columns : List FromColumn) (is_key : ColumnRef → Bool) (items : List Item) → flat_map (λ (i : Item). not_keys is_key i.what) items ≡ []
-    → list_all (λ (i : Item). is_typed (item_kind columns i.what)) items ≡ true → All (λ (i : Item). CanBePicked is_key i.what) items
+all_can_be_picked : (columns : List FromColumn) (is_key : ColumnRef → Bool) (items : List Item)
+    → flat_map (λ (i : Item). not_keys is_key i.what) items ≡ [] → list_all (λ (i : Item). is_typed
+    (item_kind columns i.what)) items ≡ true → All (λ (i : Item). CanBePicked is_key i.what) items
 all_can_be_picked columns is_key [] h t = All-nil (λ (i : Item). CanBePicked is_key i.what)
 all_can_be_picked columns is_key (i ∷ items) h t =
-    let each = none_twice (not_keys is_key i.what) (flat_map (λ (i : Item). not_keys is_key i.what) items) h in
-    let fits = both (is_typed (item_kind columns i.what)) (list_all (λ (i : Item). is_typed (item_kind columns i.what)) items) t in
-    All-cons (λ (i : Item). CanBePicked is_key i.what) i items (can_be_picked columns is_key i.what each.0 fits.0) (all_can_be_picked columns is_key items each.1 fits.1)
+    let each = none_twice (not_keys is_key i.what)
+    (flat_map (λ (i : Item). not_keys is_key i.what) items) h in
+    let fits = both (is_typed (item_kind columns i.what))
+    (list_all (λ (i : Item). is_typed (item_kind columns i.what)) items) t in
+    All-cons (λ (i : Item). CanBePicked is_key i.what) i items (can_be_picked columns is_key i.what
+    each.0 fits.0) (all_can_be_picked columns is_key items each.1 fits.1)
 
-none_left : {A : Type 0} (test : A → Bool) (xs : List A) → filter (λ x. not (test x)) xs ≡ [] → All (λ x. test x ≡ true) xs
+none_left : {A : Type 0} (test : A → Bool) (xs : List A) → filter (λ x. not (test x)) xs ≡ []
+    → All (λ x. test x ≡ true) xs
 none_left test [] h = All-nil (λ x. test x ≡ true)
 none_left test (x ∷ xs) h = search (arith, none_left test xs)
 
@@ -200,42 +234,39 @@ none_mapped : {A B : Type 0} (f : A → B) (xs : List A) → map f xs ≡ [] →
 none_mapped f [] h = refl
 none_mapped f (x ∷ xs) h = absurd cc
 
-no_first : (names : List (List ℕ)) → option_map refuse.NotGrouped (first_name names) ≡ None → names ≡ []
+no_first : (names : List (List ℕ)) → option_map refuse.NotGrouped (first_name names) ≡ None
+    → names ≡ []
 no_first [] h = refl
 no_first (name ∷ names) h = absurd cc
 
--- in a grouped query each item is a key or a call, and each column of HAVING outside a call is a key
+-- in a grouped query each item is a key or a call, and each column of HAVING outside a call is a
+-- key
 pub record AreKeys (columns : List FromColumn) (q : Query) : Type 0 where
   pub items : All (λ (i : Item). CanBePicked (is_key_of columns q.keys) i.what) (listed q.items)
-  pub having : All (λ c. is_key_of columns q.keys c ≡ true) (flat_map bare_columns (operands_of q.having))
+  pub having : All (λ c. is_key_of columns q.keys c ≡ true)
+      (flat_map bare_columns (operands_of q.having))
 
-pub are_keys : (q : Query) (schemas : List Schema) → IsAccepted q schemas → is_grouped q ≡ true → AreKeys (from_columns q schemas) q
+pub are_keys : (q : Query) (schemas : List Schema) → IsAccepted q schemas → is_grouped q ≡ true
+    → AreKeys (from_columns q schemas) q
 are_keys q schemas a grouped =
     let columns = from_columns q schemas in
     let is_key : ColumnRef → Bool = λ c. is_key_of columns q.keys c in
     let in_items = flat_map (λ (i : Item). not_keys is_key i.what) (listed q.items) in
     let in_having = filter (λ c. not (is_key c)) (flat_map bare_columns (operands_of q.having)) in
-    let none = no_first (ungrouped_names q schemas) (is_due (is_grouped q) grouped a.grouped) in
-    let last = none_twice (star_name q.items ++ map written in_items) (map written in_having) none in
+    let none = no_first (ungrouped_names q schemas) (rw grouped at a.grouped) in
+    let last =
+    none_twice (star_name q.items ++ map written in_items) (map written in_having) none in
     let first = none_twice (star_name q.items) (map written in_items) last.0 in
     record {
-      items = all_can_be_picked columns is_key (listed q.items) (none_mapped written in_items first.1) (all_fit q schemas a).items;
-      having = none_left is_key (flat_map bare_columns (operands_of q.having)) (none_mapped written in_having last.1);
+      items = all_can_be_picked columns is_key (listed q.items)
+          (none_mapped written in_items first.1) (all_fit q schemas a).items;
+      having = none_left is_key (flat_map bare_columns (operands_of q.having))
+          (none_mapped written in_having last.1);
     }
-  where
-    is_due : (b : Bool) → b ≡ true → cond b (option_map refuse.NotGrouped (first_name (ungrouped_names q schemas))) None ≡ None → option_map refuse.NotGrouped (first_name (ungrouped_names q schemas)) ≡ None
-    is_due true e h = h
-    is_due false e h = absurd cc
 
 -- The refusal that is due.
 
-pub refusal_is_due : (q : Query) (schemas : List Schema) (r : Refusal) → Some r ≡ refusal_of q schemas → IsDue q schemas r
-refusal_is_due q schemas (refuse.UnknownTable name) e = sym e
-refusal_is_due q schemas (refuse.UnknownColumn name) e = sym e
-refusal_is_due q schemas (refuse.AmbiguousColumn name) e = sym e
-refusal_is_due q schemas refuse.BadJoinKey e = sym e
-refusal_is_due q schemas refuse.TypeMismatch e = sym e
-refusal_is_due q schemas (refuse.NotGrouped name) e = sym e
-refusal_is_due q schemas (refuse.BadOrderKey name) e = sym e
-refusal_is_due q schemas refuse.TooWide e = sym e
+pub refusal_is_due : (q : Query) (schemas : List Schema) (r : Refusal)
+    → Some r ≡ refusal_of q schemas → IsDue q schemas r
 refusal_is_due q schemas refuse.Memory e = tt
+refusal_is_due q schemas r e = sym e

@@ -6,52 +6,64 @@ total-append [] ys = omega arith
 total-append (x ∷ xs) ys = let e = total-append xs ys in omega (arith, e)
 
 -- the calls of operands in two lists
-pub calls_of_both : (xs ys : List (Operand ColumnRef)) → total (map operand_calls (xs ++ ys)) ≡ total (map operand_calls xs) + total (map operand_calls ys)
+pub calls_of_both : (xs ys : List (Operand ColumnRef)) → total (map operand_calls (xs ++ ys))
+    ≡ total (map operand_calls xs) + total (map operand_calls ys)
 calls_of_both xs ys = search (arith, map-append, total-append)
 
 -- lists that are related one by one are as long
-pub length_each : {A B : Type 0} (R : A → B → Type 0) (xs : List A) (ys : List B) → EachWith R xs ys → length ys ≡ length xs
+pub length_each : {A B : Type 0} (R : A → B → Type 0) (xs : List A) (ys : List B) → EachWith R xs ys
+    → length ys ≡ length xs
 length_each R [] [] h = refl
-length_each R [] (y ∷ ys) h = absurd h
-length_each R (x ∷ xs) [] h = absurd h
 length_each R (x ∷ xs) (y ∷ ys) h = ap suc (length_each R xs ys h.1)
+length_each R xs ys h = absurd h
 
-each_append : {A B : Type 0} (R : A → B → Type 0) (xs zs : List A) (ys ws : List B) → EachWith R xs ys → EachWith R zs ws → EachWith R (xs ++ zs) (ys ++ ws)
+each_append : {A B : Type 0} (R : A → B → Type 0) (xs zs : List A) (ys ws : List B)
+    → EachWith R xs ys → EachWith R zs ws → EachWith R (xs ++ zs) (ys ++ ws)
 each_append R [] zs [] ws h k = k
-each_append R [] zs (y ∷ ys) ws h k = absurd h
-each_append R (x ∷ xs) zs [] ws h k = absurd h
 each_append R (x ∷ xs) zs (y ∷ ys) ws h k = (h.0, each_append R xs zs ys ws h.1 k)
+each_append R xs zs ys ws h k = absurd h
 
 -- as many calls are added as are placed
-pub length_added : (columns : List FromColumn) (calls : List (AggCall ColumnRef)) (before after : List (AggCall ℕ)) → AreAdded columns calls before after
+pub length_added : (columns : List FromColumn) (calls : List (AggCall ColumnRef))
+    (before after : List (AggCall ℕ)) → AreAdded columns calls before after
     → length after ≡ length before + length calls
 length_added columns calls before after h = search (arith, length-append, length_each)
 
 -- calls that are added behind added ones
-pub both_added : (columns : List FromColumn) (calls others : List (AggCall ColumnRef)) (before mid after : List (AggCall ℕ)) → AreAdded columns calls before mid → AreAdded columns others mid after
-    → AreAdded columns (calls ++ others) before after
+pub both_added : (columns : List FromColumn) (calls others : List (AggCall ColumnRef))
+    (before mid after : List (AggCall ℕ)) → AreAdded columns calls before mid
+    → AreAdded columns others mid after → AreAdded columns (calls ++ others) before after
 both_added columns calls others before mid after h k = search (arith, append_assoc, each_append)
 
 -- all calls are placed that are added to none
-pub added_to_none : (columns : List FromColumn) (calls : List (AggCall ColumnRef)) (after : List (AggCall ℕ)) → AreAdded columns calls [] after → EachWith (IsPlacedCall (place_in columns)) calls after
+pub added_to_none : (columns : List FromColumn) (calls : List (AggCall ColumnRef))
+    (after : List (AggCall ℕ)) → AreAdded columns calls [] after
+    → EachWith (IsPlacedCall (place_in columns)) calls after
 added_to_none columns calls after h = search (arith)
 
 -- one more item is picked
-pub picks_last : (place : ColumnRef → ℕ) (k n : ℕ) (items : List Item) (picks : List ℕ) (i : Item) (p : ℕ) → ArePicks place k items picks
-    → n ≡ k + length (flat_map (λ (i : Item). item_calls i.what) items) → IsPick place n i.what p → ArePicks place k (items ++ i ∷ []) (picks ++ p ∷ [])
+pub picks_last : (place : ColumnRef → ℕ) (k n : ℕ) (items : List Item) (picks : List ℕ) (i : Item)
+    (p : ℕ) → ArePicks place k items picks → n ≡ k + length (flat_map (λ (i : Item). item_calls
+    i.what) items) → IsPick place n i.what p → ArePicks place k (items ++ i ∷ []) (picks ++ p ∷ [])
 picks_last place k n [] [] i p h e is = search (arith)
-picks_last place k n [] (q ∷ picks) i p h e is = absurd h
-picks_last place k n (x ∷ items) [] i p h e is = absurd h
 picks_last place k n (x ∷ items) (q ∷ picks) i p h e is =
-    let long = length-append (item_calls x.what) (flat_map (λ (i : Item). item_calls i.what) items) in
-    (h.0, picks_last place (k + length (item_calls x.what)) n items picks i p h.1 (omega (arith, e, long)) is)
+    let long =
+    length-append (item_calls x.what) (flat_map (λ (i : Item). item_calls i.what) items) in (
+      h.0,
+      picks_last place (k + length (item_calls x.what)) n items picks i p h.1
+          (omega (arith, e, long)) is,
+    )
+picks_last place k n items picks i p h e is = absurd h
 
-last_counted : (xs : List Item) (x : Item) → length (filter is_call_item xs) + cond (is_call_item x) 1 0 ≡ length (filter is_call_item (xs ++ x ∷ []))
+last_counted : (xs : List Item) (x : Item) → length (filter is_call_item xs)
+    + cond (is_call_item x) 1 0 ≡ length (filter is_call_item (xs ++ x ∷ []))
 last_counted [] x = search (arith)
 last_counted (y ∷ xs) x = search (arith, last_counted xs x)
 
 -- one more item is counted
-pub one_more_counted : (items : List Item) (i : ℕ) (d : Item) (n m : ℕ) → i < length items → n ≡ length (filter is_call_item (take i items))
-    → m ≡ n + cond (is_call_item (get_or items i d)) 1 0 → m ≡ length (filter is_call_item (take (i + 1) items))
+pub one_more_counted : (items : List Item) (i : ℕ) (d : Item) (n m : ℕ) → i < length items
+    → n ≡ length (filter is_call_item (take i items)) → m ≡ n + cond
+    (is_call_item (get_or items i d)) 1 0 → m ≡ length (filter is_call_item (take (i + 1) items))
 one_more_counted items i d n m lt e f =
-    rw (take_more items i d lt) (f ∙ ap (λ k. k + cond (is_call_item (get_or items i d)) 1 0) e ∙ last_counted (take i items) (get_or items i d))
+    rw (take_more items i d lt) (f ∙ ap (λ k. k + cond (is_call_item (get_or items i d)) 1 0) e
+    ∙ last_counted (take i items) (get_or items i d))

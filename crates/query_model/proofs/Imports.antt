@@ -11,10 +11,11 @@ pub use Rattle.std.proofs.Common.{Bool, Box, Equal, Global, Greater, IfOk, IsPer
 pub use Rattle.std.proofs.Crossing.{Box-send, crosses}
 pub use Rattle.std.proofs.lemmas.Bool.{both_ways, cond_both}
 pub use Rattle.std.proofs.lemmas.Cmp.{tied_itself, upto}
-pub use Rattle.std.proofs.lemmas.Grind.{flat_map-append}
+pub use Rattle.std.proofs.lemmas.Grind.{flat_map-append, fold-append}
 pub use Rattle.std.proofs.lemmas.Int.{SFits-int_wrap, int_rem_euclid_is, int_wrap-add_left, int_wrap-add_right, int_wrap_fits, ints, of_z-to_z, to_z-of_z, wrapping_add_is, wrapping_sub_is}
-pub use Rattle.std.proofs.lemmas.List.Elements.{All-append, All-cons, All-head, All-nil, All-tail, filter-append}
-pub use Rattle.std.proofs.lemmas.List.Folds.{list_any-append}
+pub use Rattle.std.proofs.lemmas.List.{map-id, take-append-le}
+pub use Rattle.std.proofs.lemmas.List.Elements.{All-append, All-cons, All-filter, All-head, All-map, All-nil, All-tail, All-weaker, filter-append}
+pub use Rattle.std.proofs.lemmas.List.Folds.{list_all-append, list_any-append}
 pub use Rattle.std.proofs.lemmas.List.Sorted.{IsPermutation-append, IsPermutation-append_comm, IsPermutation-append_left, IsPermutation-append_right, IsPermutation-cons, IsPermutation-keeps, IsPermutation-map, IsPermutation-refl, IsPermutation-sym, IsPermutation-trans, length_permutation}
 pub use Rattle.std.specs.Cmp.{IsTotalOrder, int_cmp_total, nat_cmp_total, on_total, then_total}
 pub use Rattle.std.specs.Cmp.Lexicographic.{lists_total, nat_list_cmp_total}

@@ -5,40 +5,44 @@ use Rattle.query_model.specs.declared.query.ExprOf.TheVariants as expr
 
 pub All-front : {A : Type 0} (P : A → Type 0) (xs ys : List A) → All P (xs ++ ys) → All P xs
 All-front P [] ys h = All-nil P
-All-front P (x ∷ xs) ys h = All-cons P x xs (All-head P x (xs ++ ys) h) (All-front P xs ys (All-tail P x (xs ++ ys) h))
+All-front P (x ∷ xs) ys h =
+    All-cons P x xs (All-head P x (xs ++ ys) h) (All-front P xs ys (All-tail P x (xs ++ ys) h))
 
 pub All-behind : {A : Type 0} (P : A → Type 0) (xs ys : List A) → All P (xs ++ ys) → All P ys
 All-behind P [] ys h = h
 All-behind P (x ∷ xs) ys h = All-behind P xs ys (All-tail P x (xs ++ ys) h)
 
-each_last : {A B : Type 0} (R : A → B → Type 0) (xs : List A) (ys : List B) (x : A) (y : B) → EachWith R xs ys → R x y → EachWith R (xs ++ x ∷ []) (ys ++ y ∷ [])
+each_last : {A B : Type 0} (R : A → B → Type 0) (xs : List A) (ys : List B) (x : A) (y : B)
+    → EachWith R xs ys → R x y → EachWith R (xs ++ x ∷ []) (ys ++ y ∷ [])
 each_last R [] [] x y h r = (r, tt)
-each_last R [] (b ∷ ys) x y h r = absurd h
-each_last R (a ∷ xs) [] x y h r = absurd h
 each_last R (a ∷ xs) (b ∷ ys) x y h r = (h.0, each_last R xs ys x y h.1 r)
+each_last R xs ys x y h r = absurd h
 
-pub each_more : {A B : Type 0} (R : A → B → Type 0) (xs : List A) (ys : List B) (i : ℕ) (d : A) (y : B) → i < length xs → EachWith R (take i xs) ys → R (get_or xs i d) y
+pub each_more : {A B : Type 0} (R : A → B → Type 0) (xs : List A) (ys : List B) (i : ℕ) (d : A)
+    (y : B) → i < length xs → EachWith R (take i xs) ys → R (get_or xs i d) y
     → EachWith R (take (i + 1) xs) (ys ++ y ∷ [])
 each_more R xs ys i d y lt h r = search (arith, take_more, each_last)
 
-columns_last : (k n : ℕ) (cs : List FromColumn) (es : List Expr) (c : FromColumn) → AreColumnsFrom k cs es → n ≡ k + length cs → AreColumnsFrom k (cs ++ c ∷ []) (es ++ expr.Column n ∷ [])
+columns_last : (k n : ℕ) (cs : List FromColumn) (es : List Expr) (c : FromColumn) → AreColumnsFrom k
+    cs es → n ≡ k + length cs → AreColumnsFrom k (cs ++ c ∷ []) (es ++ expr.Column n ∷ [])
 columns_last k n [] [] c h e = (omega (arith, e), tt)
-columns_last k n [] (x ∷ es) c h e = absurd h
-columns_last k n (x ∷ cs) [] c h e = absurd h
-columns_last k n (x ∷ cs) (expr.Column m ∷ es) c h e = (h.0, columns_last (k + 1) n cs es c h.1 (omega (arith, e)))
-columns_last k n (x ∷ cs) (expr.Number m ∷ es) c h e = absurd h
-columns_last k n (x ∷ cs) (expr.Arith' op p a q b ∷ es) c h e = absurd h
+columns_last k n (x ∷ cs) (expr.Column m ∷ es) c h e =
+    (h.0, columns_last (k + 1) n cs es c h.1 (omega (arith, e)))
+columns_last k n cs es c h e = absurd h
 
-pub columns_more : (cs : List FromColumn) (es : List Expr) (i : ℕ) → i < length cs → AreColumnsFrom 0 (take i cs) es → AreColumnsFrom 0 (take (i + 1) cs) (es ++ expr.Column i ∷ [])
+pub columns_more : (cs : List FromColumn) (es : List Expr) (i : ℕ) → i < length cs → AreColumnsFrom
+    0 (take i cs) es → AreColumnsFrom 0 (take (i + 1) cs) (es ++ expr.Column i ∷ [])
 columns_more cs es i lt h =
     subst (λ l. AreColumnsFrom 0 l (es ++ expr.Column i ∷ [])) (sym (take_more cs i none lt))
-    (columns_last 0 i (take i cs) es (get_or cs i none) h (let e = length-take i cs in omega (arith, e, lt)))
+    (columns_last 0 i (take i cs) es (get_or cs i none) h
+    (let e = length-take i cs in omega (arith, e, lt)))
   where
     none : FromColumn
     none = record { table = []; name = []; type = column.Text }
 
 -- names of items, of which the last has a place behind them
-pub names_last : (k n : ℕ) (items : List Item) (i : Item) → n ≡ k + length items → item_names k (items ++ i ∷ []) ≡ item_names k items ++ name_or i.alias (plain_name i.what n) ∷ []
+pub names_last : (k n : ℕ) (items : List Item) (i : Item) → n ≡ k + length items → item_names k
+    (items ++ i ∷ []) ≡ item_names k items ++ name_or i.alias (plain_name i.what n) ∷ []
 names_last k n [] i e = ap (λ m. name_or i.alias (plain_name i.what m) ∷ []) (omega (arith, e))
 names_last k n (x ∷ items) i e = search (arith, names_last (k + 1) n items i (omega (arith, e)))
 

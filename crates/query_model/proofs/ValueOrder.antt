@@ -1,46 +1,28 @@
 -- The order of values is total, and values that tie are one.
-use Rattle.query_model.proofs.Imports.{Equal, Greater, Int, IsAntisymmetric, IsTotalOrder, Less, Ordering, Text, UInt, Value, ap, int_cmp-IsAntisymmetric, int_cmp_total, is_eq, lists_total, nat_cmp-IsAntisymmetric, nat_cmp_total, nat_list_cmp_total, ordering_reverse, refl, same_row, slice_cmp-IsAntisymmetric, tied_itself, true, value_cmp, ◌≡◌}
+use Rattle.query_model.proofs.Imports.{Equal, Int, IsAntisymmetric, IsTotalOrder, Less, Ordering, Text, UInt, Value, ap, int_cmp-IsAntisymmetric, int_cmp_total, is_eq, lists_total, nat_cmp-IsAntisymmetric, nat_cmp_total, nat_list_cmp_total, ordering_reverse, refl, same_row, slice_cmp-IsAntisymmetric, tied_itself, true, value_cmp, ◌≡◌}
 use Rattle.query_model.proofs.Distinct.{IsSame}
 
 pub value_cmp-IsAntisymmetric : IsAntisymmetric value_cmp
 value_cmp-IsAntisymmetric (Int a) (Int b) e = ap Int (int_cmp-IsAntisymmetric a b e)
-value_cmp-IsAntisymmetric (Int a) (UInt b) e = cc
-value_cmp-IsAntisymmetric (Int a) (Text b) e = cc
-value_cmp-IsAntisymmetric (UInt a) (Int b) e = cc
 value_cmp-IsAntisymmetric (UInt a) (UInt b) e = ap UInt (nat_cmp-IsAntisymmetric a b e)
-value_cmp-IsAntisymmetric (UInt a) (Text b) e = cc
-value_cmp-IsAntisymmetric (Text a) (Int b) e = cc
-value_cmp-IsAntisymmetric (Text a) (UInt b) e = cc
-value_cmp-IsAntisymmetric (Text a) (Text b) e = ap Text (slice_cmp-IsAntisymmetric nat_cmp-IsAntisymmetric a b e)
+value_cmp-IsAntisymmetric (Text a) (Text b) e =
+    ap Text (slice_cmp-IsAntisymmetric nat_cmp-IsAntisymmetric a b e)
+value_cmp-IsAntisymmetric a b e = cc
 
 flips : (a b : Value) → value_cmp a b ≡ ordering_reverse (value_cmp b a)
 flips (Int a) (Int b) = int_cmp_total.antisymm a b
-flips (Int a) (UInt b) = refl
-flips (Int a) (Text b) = refl
-flips (UInt a) (Int b) = refl
 flips (UInt a) (UInt b) = nat_cmp_total.antisymm a b
-flips (UInt a) (Text b) = refl
-flips (Text a) (Int b) = refl
-flips (Text a) (UInt b) = refl
 flips (Text a) (Text b) = nat_list_cmp_total.antisymm a b
+flips a b = refl
 
 chains : (a b c : Value) → value_cmp a b ≡ Less → value_cmp b c ≡ Less → value_cmp a c ≡ Less
 chains (Int a) (Int b) (Int c) h k = int_cmp_total.trans a b c h k
-chains (Int a) b (UInt c) h k = refl
-chains (Int a) b (Text c) h k = refl
 chains (UInt a) (UInt b) (UInt c) h k = nat_cmp_total.trans a b c h k
-chains (UInt a) b (Text c) h k = refl
 chains (Text a) (Text b) (Text c) h k = nat_list_cmp_total.trans a b c h k
 chains (Int a) (UInt b) (Int c) h k = cc
 chains (Int a) (Text b) (Int c) h k = cc
-chains (UInt a) (Int b) c h k = cc
-chains (UInt a) (UInt b) (Int c) h k = cc
-chains (UInt a) (Text b) (Int c) h k = cc
-chains (UInt a) (Text b) (UInt c) h k = cc
-chains (Text a) (Int b) c h k = cc
-chains (Text a) (UInt b) c h k = cc
-chains (Text a) (Text b) (Int c) h k = cc
-chains (Text a) (Text b) (UInt c) h k = cc
+chains (UInt a) (Text b) (Text c) h k = refl
+chains a b c h k = cc
 
 pub value_cmp_total : IsTotalOrder value_cmp
 value_cmp_total = record {
@@ -50,9 +32,8 @@ value_cmp_total = record {
 }
 
 is_eq-Equal : (o : Ordering) → is_eq o ≡ true → o ≡ Equal
-is_eq-Equal Less h = cc
 is_eq-Equal Equal h = refl
-is_eq-Equal Greater h = cc
+is_eq-Equal o h = cc
 
 -- rows that are the same row are one
 pub same_row_is : IsSame same_row

@@ -8,5 +8,7 @@ use Rattle.std.specs.Str.{chars, is_utf8}
 use lib.Utf8.{encode}
 
 unfoldable pub meaning_on_literals : ⊤
-unfolding csv_on_literals is_utf8 chars encode lines_from bad_line int_wrap digits wrapped spelled_row part_records good_rows bad_column bad_place value_of type_of operand_value truth_of count_up chosen combined distinct row_cmp
+unfolding csv_on_literals is_utf8 chars encode lines_from bad_line int_wrap digits wrapped
+    spelled_row part_records good_rows bad_column bad_place value_of type_of operand_value truth_of
+    count_up chosen combined distinct row_cmp
 meaning_on_literals = tt

@@ -1,7 +1,7 @@
 -- Worked queries, by computation.
-use Rattle.query_model.proofs.Imports.{Add, AggCall, AggOp, Box, Checked, ColumnType, Cond, Count, Database, Declared, Expr, Global, Grouped, Int, IsAnswer, List, Min, Mul, None, Option, Paths, Plain, Row, Shape, Some, Sub, Sum, Table, TableDecl, Text, [], answer_text, arith, bad_line, bad_place, codes, database, false, flat_map, limited, lines_from, lit<, negsuc, output_rows, part_records, parts_rows, pos, projection_checked, refl, replicate, row_cmp, true, ℕ, ◌++◌, ◌∷◌, ◌≡◌}
+use Rattle.query_model.proofs.Imports.{Add, AggCall, AggOp, BadPlace, Box, Checked, ColumnDecl, ColumnType, CompareOp, Cond, Count, Database, Declared, Expr, Global, Grouped, Int, IsAnswer, IsOrderedAnswer, IsPermutation, List, Min, Mul, None, Option, Paths, Plain, Row, Schema, Shape, Some, SortKey, Span, Sub, Sum, Table, Text, [], answer_text, arith, bad_line, bad_place, codes, database, false, flat_map, limited, lines_from, lit<, map, negsuc, output_rows, part_records, parts_rows, pos, projection_checked, refl, replicate, row_cmp, true, ℕ, ◌++◌, ◌∷◌, ◌≡◌}
 use Rattle.query_model.specs.declared.places.BadField.TheVariants as bad
-use Rattle.query_model.proofs.Ordered.{IsSorted-tested}
+use Rattle.query_model.proofs.Ordered.{IsSorted-tested, sorted_test}
 use Rattle.query_model.specs.declared.query.CondOf.TheVariants as cond'
 use Rattle.query_model.specs.declared.query.Operand.TheVariants as operand
 use Rattle.query_model.specs.declared.query.CompareOp.TheVariants as compare
@@ -13,139 +13,162 @@ use Rattle.query_model.specs.declared.query.ExprOf.TheVariants as expr
 abbrev pub table_of : List ColumnType → List (List ℕ) → Table
 table_of types parts = record { types = types; rows = parts_rows types false parts }
 
+abbrev pub int_text : List ColumnType
+int_text = column.Int64 ∷ column.Text ∷ []
+
+abbrev pub two_ints : List ColumnType
+two_ints = column.Int64 ∷ column.Int64 ∷ []
+
 -- SELECT of a shape from the first table, with nothing else
-abbrev pub select_from : Shape → List (List ℕ) → List ColumnType → Checked
-select_from shape names types = record { from = Declared 0; join = None; filter = None; shape = shape; names = names; types = types; order = []; limit = None }
+abbrev pub select_from : Shape → Checked
+select_from shape =
+    record {
+      from = Declared 0;
+      join = None;
+      filter = None;
+      shape = shape;
+      names = [];
+      types = [];
+      order = [];
+      limit = None;
+    }
+
+abbrev pub select : List Expr → Checked
+select items = select_from (Plain items)
+
+abbrev pub select_a : Checked
+select_a =
+    record (select (expr.Column 0 ∷ [])) { names = codes "a" ∷ []; types = column.Int64 ∷ [] }
+
+abbrev pub plain_number : ℕ → Expr
+plain_number n = expr.Number (record { negative = false; size = n })
+
+abbrev pub call : AggOp → Option Expr → AggCall ℕ
+call op arg = record { op = op; arg = arg }
+
+abbrev pub sum_of : ℕ → AggCall ℕ
+sum_of c = call Sum (Some (expr.Column c))
+
+-- a record of counts, sums and so on, with no GROUP BY
+abbrev pub lone_calls : List (AggCall ℕ) → List ℕ → Checked
+lone_calls calls picks =
+    select_from
+    (Grouped (record { keys = []; calls = calls; having = None; picks = picks; lone = true }))
+
+-- the condition that compares two expressions
+abbrev pub compared : CompareOp → Expr → Expr → Cond
+compared op a b = cond'.Compare op (operand.Plain a) (operand.Plain b)
+
+abbrev pub select_where : Cond → Checked
+select_where c = record (select (expr.Column 0 ∷ [])) { filter = Some c }
 
 -- the text of the output rows as they stand
 abbrev pub text_of : Checked → Database → List ℕ
 text_of q db = answer_text false q.names (limited q.limit (output_rows q db))
 
-abbrev pub select_a : Checked
-select_a = select_from (Plain (expr.Column 0 ∷ [])) (codes "a" ∷ []) (column.Int64 ∷ [])
-
--- SELECT a FROM t, over `7,x` and `7,y`
-pub two_rows : text_of select_a (table_of (column.Int64 ∷ column.Text ∷ []) (codes "7,x\n7,y\n" ∷ []) ∷ []) ≡ codes "7\n7\n"
-unfolding meaning_on_literals
-two_rows = refl
-
--- over an empty file
-pub no_rows : text_of select_a (table_of (column.Int64 ∷ column.Text ∷ []) ([] ∷ []) ∷ []) ≡ []
-unfolding meaning_on_literals
-no_rows = refl
-
-abbrev pub column_expr : ℕ → Expr
-column_expr c = expr.Column c
-
-abbrev pub plain_number : ℕ → Expr
-plain_number n = expr.Number (record { negative = false; size = n })
-
--- a record of counts, sums and so on, with no GROUP BY
-abbrev pub lone_calls : List (AggCall ℕ) → List ℕ → Shape
-lone_calls calls picks = Grouped (record { keys = []; calls = calls; having = None; picks = picks; lone = true })
-
-abbrev pub call : AggOp → Option Expr → AggCall ℕ
-call op arg = record { op = op; arg = arg }
-
--- SELECT count(), sum(a), min(b) FROM t, over an empty file
-pub defaults : text_of
-    (select_from (lone_calls (call Count None ∷ call Sum (Some (column_expr 0)) ∷ call Min (Some (column_expr 1)) ∷ []) (0 ∷ 1 ∷ 2 ∷ [])) [] [])
-    (table_of (column.Int64 ∷ column.Text ∷ []) ([] ∷ []) ∷ [])
-    ≡ codes "0,0,\"\"\n"
-unfolding meaning_on_literals
-defaults = refl
-
--- SELECT sum(u) FROM t, over two parts whose sum wraps
-pub sum_wraps : text_of
-    (select_from (lone_calls (call Sum (Some (column_expr 0)) ∷ []) (0 ∷ [])) [] [])
-    (table_of (column.UInt64 ∷ []) (codes "18446744073709551615\n" ∷ codes "2\n" ∷ []) ∷ [])
-    ≡ codes "1\n"
-unfolding meaning_on_literals
-sum_wraps = refl
-
--- SELECT a, b, c FROM t: the output is the file
-pub quoted_texts : text_of
-    (select_from (Plain (column_expr 0 ∷ column_expr 1 ∷ column_expr 2 ∷ [])) [] [])
-    (table_of (column.Text ∷ column.Text ∷ column.Text ∷ []) (codes "\"say \"\"hi\"\"\",\"a,b\",\"x\ny\"\n" ∷ []) ∷ [])
-    ≡ codes "\"say \"\"hi\"\"\",\"a,b\",\"x\ny\"\n"
-unfolding meaning_on_literals
-quoted_texts = refl
-
-pub byte_255 : text_of (select_from (Plain (column_expr 0 ∷ [])) [] []) (table_of (column.Text ∷ []) ((255 ∷ 10 ∷ []) ∷ []) ∷ []) ≡ 34 ∷ 255 ∷ 34 ∷ 10 ∷ []
-unfolding meaning_on_literals
-byte_255 = refl
-
-abbrev pub select_where : Cond → List Expr → Checked
-select_where c items = record (select_from (Plain items) [] []) { filter = Some c }
-
-abbrev pub less : Expr → Expr → Cond
-less a b = cond'.Compare compare.Lt (operand.Plain a) (operand.Plain b)
-
--- SELECT a FROM t WHERE a > 5
-pub none_above_five : text_of
-    (select_where (cond'.Compare compare.Gt (operand.Plain (column_expr 0)) (operand.Plain (plain_number 5))) (column_expr 0 ∷ []))
-    (table_of (column.Int64 ∷ []) (codes "1\n2\n3\n" ∷ []) ∷ [])
-    ≡ []
-unfolding meaning_on_literals
-none_above_five = refl
-
--- SELECT k, count(), sum(v) FROM t GROUP BY k, over four parts
-pub one_group : text_of
-    (select_from (Grouped (record { keys = 0 ∷ []; calls = call Count None ∷ call Sum (Some (column_expr 1)) ∷ []; having = None; picks = 0 ∷ 1 ∷ 2 ∷ []; lone = false })) [] [])
-    (table_of (column.Text ∷ column.Int64 ∷ []) (codes "x,1\n" ∷ codes "x,1\n" ∷ codes "x,1\n" ∷ codes "x,1\n" ∷ []) ∷ [])
-    ≡ codes "\"x\",4,4\n"
-unfolding meaning_on_literals
-one_group = refl
-
-abbrev pub joined_lr : Checked
-joined_lr = record (select_from (Plain (column_expr 0 ∷ column_expr 1 ∷ column_expr 3 ∷ [])) [] []) {
-  join = Some (record { table = Declared 1; pairs = record { left = 0; right = 0 } ∷ [] });
-  order = record { column = 0; descending = false } ∷ record { column = 1; descending = false } ∷ record { column = 2; descending = false } ∷ [];
-}
-
-abbrev pub three : ℕ → List Row
-three a = (Int (pos 1) ∷ Int (pos a) ∷ Int (pos 20) ∷ []) ∷ (Int (pos 1) ∷ Int (pos a) ∷ Int (pos 21) ∷ []) ∷ (Int (pos 1) ∷ Int (pos a) ∷ Int (pos 22) ∷ []) ∷ []
-
--- SELECT l.k, a, b FROM l JOIN r ON l.k = r.k: the output rows already stand in order
-pub joined : text_of joined_lr
-    (table_of (column.Int64 ∷ column.Int64 ∷ []) (codes "1,10\n1,11\n2,12\n" ∷ []) ∷ table_of (column.Int64 ∷ column.Int64 ∷ []) (codes "1,20\n1,21\n1,22\n3,23\n" ∷ []) ∷ [])
-    ≡ codes "1,10,20\n1,10,21\n1,10,22\n1,11,20\n1,11,21\n1,11,22\n"
-unfolding meaning_on_literals
-joined = refl
+-- a query gives a text over the bytes of the parts of one table
+abbrev pub Gives : Checked → List ColumnType → List (List ℕ) → List ℕ → Type 0
+Gives q types parts text = text_of q (table_of types parts ∷ []) ≡ text
 
 -- where a boxed part of an expression lies says nothing of its value
 abbrev pub Place : Type 0
 Place = Box (Unit {0}) Global
 
--- SELECT a - b, over UInt64 columns
-pub minus_one : (p q : Place) → text_of (select_from (Plain (expr.Arith' Sub p (column_expr 0) q (column_expr 1) ∷ [])) [] []) (table_of (column.UInt64 ∷ column.UInt64 ∷ []) (codes "0,1\n" ∷ []) ∷ []) ≡ codes "-1\n"
+pub texts : (p q r : Place)
+    -- SELECT a FROM t, over `7,x` and `7,y`
+    → Gives select_a int_text (codes "7,x\n7,y\n" ∷ []) (codes "7\n7\n")
+    -- over an empty file
+    × Gives select_a int_text ([] ∷ []) []
+    -- SELECT count(), sum(a), min(b) FROM t, over an empty file
+    × Gives (lone_calls (call Count None ∷ sum_of 0 ∷ call Min (Some (expr.Column 1)) ∷ [])
+    (0 ∷ 1 ∷ 2 ∷ [])) int_text ([] ∷ []) (codes "0,0,\"\"\n")
+    -- SELECT sum(u) FROM t, over two parts whose sum wraps
+    × Gives (lone_calls (sum_of 0 ∷ []) (0 ∷ [])) (column.UInt64 ∷ [])
+    (codes "18446744073709551615\n" ∷ codes "2\n" ∷ []) (codes "1\n")
+    -- SELECT a, b, c FROM t: the output is the file
+    × Gives (select (expr.Column 0 ∷ expr.Column 1 ∷ expr.Column 2 ∷ []))
+    (column.Text ∷ column.Text ∷ column.Text ∷ [])
+    (codes "\"say \"\"hi\"\"\",\"a,b\",\"x\ny\"\n" ∷ [])
+    (codes "\"say \"\"hi\"\"\",\"a,b\",\"x\ny\"\n")
+    -- a byte that is no text
+    × Gives (select (expr.Column 0 ∷ [])) (column.Text ∷ []) ((255 ∷ 10 ∷ []) ∷ [])
+    (34 ∷ 255 ∷ 34 ∷ 10 ∷ [])
+    -- SELECT a FROM t WHERE a > 5
+    × Gives (select_where (compared compare.Gt (expr.Column 0) (plain_number 5)))
+    (column.Int64 ∷ []) (codes "1\n2\n3\n" ∷ []) []
+    -- SELECT k, count(), sum(v) FROM t GROUP BY k, over four parts
+    × Gives (select_from (Grouped (record {
+      keys = 0 ∷ [];
+      calls = call Count None ∷ sum_of 1 ∷ [];
+      having = None;
+      picks = 0 ∷ 1 ∷ 2 ∷ [];
+      lone = false;
+    }))) (column.Text ∷ column.Int64 ∷ []) (replicate 4 (codes "x,1\n")) (codes "\"x\",4,4\n")
+    -- SELECT a - b, over UInt64 columns
+    × Gives (select (expr.Arith' Sub p (expr.Column 0) q (expr.Column 1) ∷ []))
+    (column.UInt64 ∷ column.UInt64 ∷ []) (codes "0,1\n" ∷ []) (codes "-1\n")
+    -- SELECT a + 1, over UInt64
+    × Gives (select (expr.Arith' Add p (expr.Column 0) q (plain_number 1) ∷ []))
+    (column.UInt64 ∷ []) (codes "18446744073709551615\n" ∷ []) (codes "0\n")
+    -- SELECT a * 2, over Int64
+    × Gives (select (expr.Arith' Mul p (expr.Column 0) q (plain_number 2) ∷ [])) (column.Int64 ∷ [])
+    (codes "4611686018427387904\n" ∷ []) (codes "-9223372036854775808\n")
+    -- SELECT a FROM t WHERE a < b AND NOT a = 7
+    × Gives (select_where (cond'.And' p (compared compare.Lt (expr.Column 0) (expr.Column 1))
+    q (cond'.Not' r (compared compare.Eq (expr.Column 0) (plain_number 7)))))
+    (column.Int64 ∷ column.UInt64 ∷ []) (codes "-1,0\n7,9\n5,5\n" ∷ []) (codes "-1\n")
 unfolding meaning_on_literals
-minus_one p q = refl
+texts p q r = (refl, refl, refl, refl, refl, refl, refl, refl, refl, refl, refl, refl)
 
--- SELECT a + 1, over UInt64
-pub plus_wraps : (p q : Place) → text_of (select_from (Plain (expr.Arith' Add p (column_expr 0) q (plain_number 1) ∷ [])) [] []) (table_of (column.UInt64 ∷ []) (codes "18446744073709551615\n" ∷ []) ∷ []) ≡ codes "0\n"
-unfolding meaning_on_literals
-plus_wraps p q = refl
+abbrev pub ascending : ℕ → SortKey
+ascending c = record { column = c; descending = false }
 
--- SELECT a * 2, over Int64
-pub times_wraps : (p q : Place) → text_of (select_from (Plain (expr.Arith' Mul p (column_expr 0) q (plain_number 2) ∷ [])) [] []) (table_of (column.Int64 ∷ []) (codes "4611686018427387904\n" ∷ []) ∷ []) ≡ codes "-9223372036854775808\n"
-unfolding meaning_on_literals
-times_wraps p q = refl
+abbrev pub joined_lr : Checked
+joined_lr = record (select (expr.Column 0 ∷ expr.Column 1 ∷ expr.Column 3 ∷ [])) {
+  join = Some (record { table = Declared 1; pairs = record { left = 0; right = 0 } ∷ [] });
+  order = ascending 0 ∷ ascending 1 ∷ ascending 2 ∷ [];
+}
 
--- SELECT a FROM t WHERE a < b AND NOT a = 7
-pub below_and_not_seven : (p q r : Place) → text_of
-    (select_where (cond'.And' p (less (column_expr 0) (column_expr 1)) q (cond'.Not' r (cond'.Compare compare.Eq (operand.Plain (column_expr 0)) (operand.Plain (plain_number 7))))) (column_expr 0 ∷ []))
-    (table_of (column.Int64 ∷ column.UInt64 ∷ []) (codes "-1,0\n7,9\n5,5\n" ∷ []) ∷ [])
-    ≡ codes "-1\n"
+abbrev pub left_and_right_rows : Database
+left_and_right_rows =
+    table_of two_ints (codes "1,10\n1,11\n2,12\n" ∷ [])
+    ∷ table_of two_ints (codes "1,20\n1,21\n1,22\n3,23\n" ∷ []) ∷ []
+
+-- SELECT l.k, a, b FROM l JOIN r ON l.k = r.k: the output rows already stand in order
+pub joined : text_of joined_lr left_and_right_rows
+    ≡ codes "1,10,20\n1,10,21\n1,10,22\n1,11,20\n1,11,21\n1,11,22\n"
 unfolding meaning_on_literals
-below_and_not_seven p q r = refl
+joined = refl
+
+abbrev pub int_row : List ℕ → Row
+int_row numbers = map (λ n. Int (pos n)) numbers
+
+abbrev pub three : ℕ → List Row
+three a = map (λ b. int_row (1 ∷ a ∷ b ∷ [])) (20 ∷ 21 ∷ 22 ∷ [])
+
+-- rows that pass the test of their order, of which the limit leaves the answer
+pub answers : (keys : List SortKey) (limit : Option Span) (rows ordered answer : List Row)
+    → IsPermutation rows ordered → sorted_test (row_cmp keys) ordered ≡ true
+    → answer ≡ limited limit ordered → IsOrderedAnswer keys limit rows answer
+answers keys limit rows ordered answer same sorted is = record {
+  ordered = ordered;
+  same_rows = same;
+  in_order = IsSorted-tested (row_cmp keys) ordered sorted;
+  is = is;
+}
+
+-- the join's answer, of which there is one
+pub joined_answers : IsAnswer joined_lr left_and_right_rows (three 10 ++ three 11)
+unfolding meaning_on_literals
+joined_answers =
+    answers _ _ _ (three 10 ++ three 11) _ (record { moves = []; below = tt; is = refl }) refl refl
 
 -- SELECT a, b FROM t ORDER BY a, over `1,x`, `1,y`, `0,z`
 abbrev pub by_a : Checked
-by_a = record (select_from (Plain (column_expr 0 ∷ column_expr 1 ∷ [])) [] []) { order = record { column = 0; descending = false } ∷ [] }
+by_a = record (select (expr.Column 0 ∷ expr.Column 1 ∷ [])) { order = ascending 0 ∷ [] }
 
 abbrev pub three_rows : Database
-three_rows = table_of (column.Int64 ∷ column.Text ∷ []) (codes "1,x\n1,y\n0,z\n" ∷ []) ∷ []
+three_rows = table_of int_text (codes "1,x\n1,y\n0,z\n" ∷ []) ∷ []
 
 abbrev pub row_1x : Row
 row_1x = Int (pos 1) ∷ Text (codes "x") ∷ []
@@ -158,99 +181,72 @@ row_0z = Int (pos 0) ∷ Text (codes "z") ∷ []
 
 pub zxy_answers : IsAnswer by_a three_rows (row_0z ∷ row_1x ∷ row_1y ∷ [])
 unfolding meaning_on_literals
-zxy_answers = record {
-  ordered = row_0z ∷ row_1x ∷ row_1y ∷ [];
-  same_rows = record { moves = (1, 2) ∷ (0, 2) ∷ []; below = (lit< tt, lit< tt, (lit< tt, lit< tt, tt)); is = refl };
-  in_order = IsSorted-tested (row_cmp by_a.order) (row_0z ∷ row_1x ∷ row_1y ∷ []) refl;
-  is = refl;
-}
+zxy_answers = answers _ _ _ (row_0z ∷ row_1x ∷ row_1y ∷ []) _ (record
+    { moves = (1, 2) ∷ (0, 2) ∷ []; below = (lit< tt, lit< tt, (lit< tt, lit< tt, tt)); is = refl })
+    refl refl
 
 pub zyx_answers : IsAnswer by_a three_rows (row_0z ∷ row_1y ∷ row_1x ∷ [])
 unfolding meaning_on_literals
-zyx_answers = record {
-  ordered = row_0z ∷ row_1y ∷ row_1x ∷ [];
-  same_rows = record { moves = (0, 2) ∷ []; below = (lit< tt, lit< tt, tt); is = refl };
-  in_order = IsSorted-tested (row_cmp by_a.order) (row_0z ∷ row_1y ∷ row_1x ∷ []) refl;
-  is = refl;
-}
+zyx_answers = answers _ _ _ (row_0z ∷ row_1y ∷ row_1x ∷ []) _
+    (record { moves = (0, 2) ∷ []; below = (lit< tt, lit< tt, tt); is = refl }) refl refl
 
 -- no other order does
 pub xzy_fails : IsAnswer by_a three_rows (row_1x ∷ row_0z ∷ row_1y ∷ []) → ⊥
 unfolding meaning_on_literals
 xzy_fails a = search (arith)
 
--- a list of 33 paths has its bad line at the 33rd
-pub path_33 : bad_line 1 32 (lines_from [] (flat_map (λ (k : ℕ). codes "p1.csv\n") (replicate 33 0))) ≡ Some 33
-unfolding meaning_on_literals
-path_33 = refl
+-- the first bad place of a part with a column of Int64
+abbrev bad_in : List ℕ → Option BadPlace
+bad_in bytes = bad_place 1 (column.Int64 ∷ []) (part_records false bytes)
 
-pub path_32 : bad_line 1 32 (lines_from [] (flat_map (λ (k : ℕ). codes "p1.csv\r\n\n") (replicate 32 0) ++ codes "\n")) ≡ None
+pub bad_places :
+    -- a list of 33 paths has its bad line at the 33rd
+    (bad_line 1 32 (lines_from [] (flat_map (λ (k : ℕ). codes "p1.csv\n") (replicate 33 0)))
+    ≡ Some 33) × (bad_line 1 32
+    (lines_from [] (flat_map (λ (k : ℕ). codes "p1.csv\r\n\n") (replicate 32 0) ++ codes "\n"))
+    ≡ None)
+    -- a number out of range, and a record with too many fields
+    × (bad_in (codes "9223372036854775808\n") ≡ Some (record { row = 1; field = bad.Column 1 }))
+    × (bad_in (codes "1\n2,3\n") ≡ Some (record { row = 2; field = bad.Fields 2 }))
+    -- a field that spells no number, in the second record
+    × (bad_in (codes "1\nz\n") ≡ Some (record { row = 2; field = bad.Column 1 }))
 unfolding meaning_on_literals
-path_32 = refl
-
--- a number out of range, and a record with too many fields
-pub bad_number : bad_place 1 (column.Int64 ∷ []) (part_records false (codes "9223372036854775808\n")) ≡ Some (record { row = 1; field = bad.Column 1 })
-unfolding meaning_on_literals
-bad_number = refl
-
-pub bad_fields : bad_place 1 (column.Int64 ∷ []) (part_records false (codes "1\n2,3\n")) ≡ Some (record { row = 2; field = bad.Fields 2 })
-unfolding meaning_on_literals
-bad_fields = refl
-
--- the join's answer, of which there is one
-pub joined_answers : IsAnswer (record joined_lr { limit = None })
-    (table_of (column.Int64 ∷ column.Int64 ∷ []) (codes "1,10\n1,11\n2,12\n" ∷ []) ∷ table_of (column.Int64 ∷ column.Int64 ∷ []) (codes "1,20\n1,21\n1,22\n3,23\n" ∷ []) ∷ [])
-    (three 10 ++ three 11)
-unfolding meaning_on_literals
-joined_answers = record {
-  ordered = three 10 ++ three 11;
-  same_rows = record { moves = []; below = tt; is = refl };
-  in_order = IsSorted-tested (row_cmp joined_lr.order) (three 10 ++ three 11) refl;
-  is = refl;
-}
+bad_places = (refl, refl, refl, refl, refl)
 
 -- SELECT a FROM t ORDER BY a, over the greatest and the least Int64
-abbrev pub ends : Database
-ends = table_of (column.Int64 ∷ []) (codes "9223372036854775807\n-9223372036854775808\n" ∷ []) ∷ []
-
-abbrev pub sorted_a : Checked
-sorted_a = record select_a { order = record { column = 0; descending = false } ∷ [] }
-
 abbrev pub least_first : List Row
 least_first = (Int (negsuc 9223372036854775807) ∷ []) ∷ (Int (pos 9223372036854775807) ∷ []) ∷ []
 
-pub ends_answers : IsAnswer sorted_a ends least_first
+pub ends_answers : IsAnswer (record select_a { order = ascending 0 ∷ [] })
+    (table_of (column.Int64 ∷ []) (codes "9223372036854775807\n-9223372036854775808\n" ∷ []) ∷ [])
+    least_first
 unfolding meaning_on_literals
-ends_answers = record {
-  ordered = least_first;
-  same_rows = record { moves = (0, 1) ∷ []; below = (lit< tt, lit< tt, tt); is = refl };
-  in_order = IsSorted-tested (row_cmp sorted_a.order) least_first refl;
-  is = refl;
-}
+ends_answers = answers _ _ _ least_first _
+    (record { moves = (0, 1) ∷ []; below = (lit< tt, lit< tt, tt); is = refl }) refl refl
 
-pub ends_text : answer_text false (codes "a" ∷ []) least_first ≡ codes "-9223372036854775808\n9223372036854775807\n"
+pub ends_text : answer_text false (codes "a" ∷ []) least_first
+    ≡ codes "-9223372036854775808\n9223372036854775807\n"
 unfolding meaning_on_literals
 ends_text = refl
 
--- a field that spells no number, in the second record
-pub bad_letter : bad_place 1 (column.Int64 ∷ []) (part_records false (codes "1\nz\n")) ≡ Some (record { row = 2; field = bad.Column 1 })
-unfolding meaning_on_literals
-bad_letter = refl
+abbrev pub decl : List ℕ → ColumnType → ColumnDecl
+decl name kind = record { name = name; kind = kind }
 
--- SELECT a FROM t, from the declaration `t=f.csv:a Int64,b String` and the file's bytes to the text
-abbrev pub declared_t : TableDecl
-declared_t = record {
-  schema = record { name = codes "t"; columns = record { name = codes "a"; kind = column.Int64 } ∷ record { name = codes "b"; kind = column.Text } ∷ [] };
-  parts = Paths (codes "f.csv" ∷ []);
+-- a table with columns a and b
+abbrev pub schema_t : Schema
+schema_t = record {
+  name = codes "t";
+  columns =
+      decl (codes "a") column.Int64 ∷ decl (codes "b") column.Text ∷ [];
 }
 
+-- SELECT a FROM t, from the declaration `t=f.csv:a Int64,b String` and the file's bytes to the text
 abbrev pub text_over : List ℕ → List ℕ
-text_over bytes = text_of (projection_checked declared_t.schema (codes "a" ∷ [])) (database false ((codes "f.csv", bytes) ∷ []) (declared_t ∷ []))
+text_over bytes =
+    text_of (projection_checked schema_t (codes "a" ∷ []))
+    (database false ((codes "f.csv", bytes) ∷ [])
+    (record { schema = schema_t; parts = Paths (codes "f.csv" ∷ []) } ∷ []))
 
-pub file_to_text : text_over (codes "7,x\n7,y\n") ≡ codes "7\n7\n"
+pub file_to_text : (text_over (codes "7,x\n7,y\n") ≡ codes "7\n7\n") × (text_over [] ≡ [])
 unfolding meaning_on_literals
-file_to_text = refl
-
-pub empty_file : text_over [] ≡ []
-unfolding meaning_on_literals
-empty_file = refl
+file_to_text = (refl, refl)

@@ -1,5 +1,5 @@
 -- Arithmetic modulo 2 ^ 64: a wrapped number counts in a sum as the number itself.
-use Rattle.query_model.proofs.Imports.{Bool, Int, SFits-int_wrap, UInt, ap, arith, cast_signed, cast_unsigned, exact, false, int_rem_euclid, int_rem_euclid_is, int_wrap-add_left, int_wrap-add_right, int_wrap_fits, ints, is_uint, negsuc, of_z-to_z, pos, refl, sym, true, unsigned_abs, w64, wrapped, ℕ, ℤ, ◌%◌, ◌+ℤ◌, ◌+◌, ◌-ℤ◌, ◌-◌, ◌<◌, ◌^◌, ◌∙◌, ◌≡◌}
+use Rattle.query_model.proofs.Imports.{Bool, Int, SFits-int_wrap, UInt, ap, arith, cast_signed, cast_unsigned, exact, false, int_rem_euclid, int_rem_euclid_is, int_wrap-add_left, int_wrap-add_right, int_wrap_fits, ints, is_uint, of_z-to_z, pos, refl, sym, true, unsigned_abs, w64, wrapped, ℕ, ℤ, ◌%◌, ◌+ℤ◌, ◌+◌, ◌-ℤ◌, ◌-◌, ◌<◌, ◌^◌, ◌∙◌, ◌≡◌}
 use Rattle.std.specs.Int.{int_wrap}
 
 -- equal modulo 2 ^ 64
@@ -9,7 +9,8 @@ Same a b = int_wrap w64 a ≡ int_wrap w64 b
 pub Same-add : (a b c d : ℤ) → Same a b → Same c d → Same (a +ℤ c) (b +ℤ d)
 Same-add a b c d h k =
     sym (int_wrap-add_left w64 a c) ∙ ap (λ z. int_wrap w64 (z +ℤ c)) h ∙ int_wrap-add_left w64 b c
-    ∙ sym (int_wrap-add_right w64 b c) ∙ ap (λ z. int_wrap w64 (b +ℤ z)) k ∙ int_wrap-add_right w64 b d
+    ∙ sym (int_wrap-add_right w64 b c) ∙ ap (λ z. int_wrap w64 (b +ℤ z)) k
+    ∙ int_wrap-add_right w64 b d
 
 abbrev pub residue : ℤ → ℕ
 residue z = unsigned_abs (int_rem_euclid z (pos (2 ^ 64)))
@@ -34,6 +35,7 @@ is_uint-wrapped true z = refl
 is_uint-wrapped false z = refl
 
 -- the difference of two UInt64, as an Int64
-pub wrapped-difference : (a b : ℕ) → a < 2 ^ 64 → b < 2 ^ 64 → wrapped false (pos a -ℤ pos b) ≡ Int (cast_signed w64 ((a + (2 ^ 64 - b)) % 2 ^ 64))
+pub wrapped-difference : (a b : ℕ) → a < 2 ^ 64 → b < 2 ^ 64
+    → wrapped false (pos a -ℤ pos b) ≡ Int (cast_signed w64 ((a + (2 ^ 64 - b)) % 2 ^ 64))
 unfolding wrapped int_wrap
 wrapped-difference a b h k = search (arith, int_rem_euclid_is, ints)

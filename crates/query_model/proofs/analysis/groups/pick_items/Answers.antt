@@ -10,13 +10,23 @@ loop-item-preserved c =
     let item = c.item-item.result in
     let before = take c.loop-item.item-index c.args.items.now in
     let calls = flat_map (λ (i : Item). item_calls i.what) before in
-    let long = length_added columns calls c.args.calls.now.items c.loop-item.calls.items c.loop-item.invariant.added in
-    let n : length c.args.keys.now + length c.loop-item.calls.items ≡ k + length calls = omega (arith, long) in
+    let long = length_added columns calls c.args.calls.now.items c.loop-item.calls.items
+    c.loop-item.invariant.added in
+    let n : length c.args.keys.now + length c.loop-item.calls.items ≡ k + length calls =
+    omega (arith, long) in
     let more : take (c.loop-item.item-index + 1) c.args.items.now ≡ before ++ item ∷ [] =
-    take_more {X = Item} c.args.items.now c.loop-item.item-index item c.loop-item-test.true ∙ ap (λ (i : Item). before ++ i ∷ []) (sym c.item-item.is) in
+    take_more {X = Item} c.args.items.now c.loop-item.item-index item c.loop-item-test.true
+    ∙ ap (λ (i : Item). before ++ i ∷ []) (sym c.item-item.is) in
     record {
       picked = rw (more, c.in_ok-push.ensures.items)
-          (picks_last place k (length c.args.keys.now + length c.loop-item.calls.items) before c.loop-item.picks.items item c.in_ok-pick_item.field-0 c.loop-item.invariant.picked n c.in_ok-pick_item.ensures.picked);
-      added = rw (more, flat_map-append (λ (i : Item). item_calls i.what) before (item ∷ []), append-nil (item_calls item.what))
-          (both_added columns calls (item_calls item.what) c.args.calls.now.items c.loop-item.calls.items c.pick_item.new.calls.items c.loop-item.invariant.added c.in_ok-pick_item.ensures.added);
+          (picks_last place k (length c.args.keys.now + length c.loop-item.calls.items) before
+          c.loop-item.picks.items item c.in_ok-pick_item.field-0 c.loop-item.invariant.picked n
+          c.in_ok-pick_item.ensures.picked);
+      added = rw (
+        more,
+        flat_map-append (λ (i : Item). item_calls i.what) before (item ∷ []),
+        append-nil (item_calls item.what),
+      ) (both_added columns calls (item_calls item.what)
+          c.args.calls.now.items c.loop-item.calls.items c.pick_item.new.calls.items
+          c.loop-item.invariant.added c.in_ok-pick_item.ensures.added);
     }
