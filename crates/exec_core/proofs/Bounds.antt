@@ -8,7 +8,7 @@ pending-small c h = let a = pending-most c h.tokens in let f = h.fit in let k = 
     let b : length c.nodes ≤ 256 = grind (arith, f, k) in omega (arith, a, b)
 
 -- where a token goes out, some is pending
-pub token-pending : (c : CoreState) (ev : Event) → ev.step ≡ step.TokenOut → may c ev.seat ev.step ≡ true
-    → Laws c → 0 < c.pending
+pub token-pending : (c : CoreState) (ev : Event) → ev.step ≡ step.TokenOut
+    → may c ev.seat ev.step ≡ true → Laws c → 0 < c.pending
 token-pending c ev is g h = let z = subst (λ s. may c ev.seat s ≡ true) is g in
     some-pending c ev.seat (grind (arith, z)) (grind (arith, z)) h.tokens

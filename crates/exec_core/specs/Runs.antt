@@ -20,7 +20,8 @@ pub record IsBadAt (start : CoreState) (events : List Event) (k : ℕ) : Type 0 
   pub before : CoreState
   pub inside : k < length events
   pub run : run start (take k events) ≡ Some before
-  pub bad : may before (slice_index_or events k no_event).seat (slice_index_or events k no_event).step ≡ false
+  pub bad : may before (slice_index_or events k no_event).seat
+      (slice_index_or events k no_event).step ≡ false
 
 -- what an end says; want of memory needs no cause
 abbrev pub EndsRight : CoreState → List Event → ReplayEnd → Type 0

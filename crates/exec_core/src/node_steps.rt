@@ -103,7 +103,8 @@ pub(crate) fn leave(alloc: Global, core: CoreState, n: u32, word: u64) -> CoreSt
 /// The step `rest`: a node that was told meanwhile stays held.
 pub(crate) fn rest(alloc: Global, core: CoreState, n: u32) -> CoreState
     requires { may core n step.Rest ≡ true }
-    ensures told { (node_at core n).word ≢ 2 ^ 62 → (node_at result n).word ≡ (node_at core n).word }
+    ensures told { (node_at core n).word ≢ 2 ^ 62
+        → (node_at result n).word ≡ (node_at core n).word }
     ensures exact { result ≡ after core n step.Rest }
 {
     if node(&core, n).word == 1 << 62 {

@@ -9,7 +9,8 @@ loop-k-preserved c =
     let ev = get_or c.args.events.now c.loop-k.k d in
     let g = sym c.is_step.ensures ∙ c.if-not-is_step.false in
     record {
-      run = run-more c.args.start c.args.events.now c.loop-k.k c.loop-k.core d (omega arith) c.loop-k.invariant.run g
-          ∙ ap Some (sym c.in-Ok.ensures);
-      laws = subst Laws (sym c.in-Ok.ensures) (laws-kept c.loop-k.core ev.seat ev.step g c.loop-k.invariant.laws);
+      run = run-more c.args.start c.args.events.now c.loop-k.k c.loop-k.core d
+          (omega arith) c.loop-k.invariant.run g ∙ ap Some (sym c.in-Ok.ensures);
+      laws = subst Laws (sym c.in-Ok.ensures)
+          (laws-kept c.loop-k.core ev.seat ev.step g c.loop-k.invariant.laws);
     }
