@@ -11,7 +11,8 @@ use Rattle.outside_io.specs.Counts.{one_more}
 use Rattle.outside_io.specs.Told.{told_content, place_of}
 use Rattle.outside_io.specs.Scripts.{next_fake}
 
--- files in memory, where the reader stands, its counts, its script, and how many of its calls were made
+-- files in memory, where the reader stands, its counts, its script, and how many of its calls were
+-- made
 pub record FilesState : Type 0 where
   pub files : List FileEntry
   pub stands : Option (List ℕ × ℕ)

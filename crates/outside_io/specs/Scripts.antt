@@ -8,7 +8,8 @@ unfoldable pub fake_at : List Fake → ℕ → Option FakeKind
 fake_at [] call = None
 fake_at (f ∷ fs) call = if f.call == call then Some f.kind else fake_at fs call
 
--- what the script says of the call after so many calls; their count stands at its last value, and no call is a fake from there on
+-- what the script says of the call after so many calls; their count stands at its last value, and
+-- no call is a fake from there on
 abbrev pub next_fake : List Fake → ℕ → Option FakeKind
 next_fake script calls = if nat_lt calls (2 ^ 64 - 1) then fake_at script (calls + 1) else None
 

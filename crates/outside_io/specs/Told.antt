@@ -32,8 +32,10 @@ moved_by n (Some stand) = Some (stand.0, stand.1 + n)
 abbrev pub GivesNext : Option (List FileEntry) → Option (List ℕ × ℕ) → ℕ → List ℕ → Type 0
 GivesNext files stand n buffer =
     IfSome (told_content files stand)
-    (λ content. (place_of stand + n ≤ length content) × (take n buffer ≡ take n (drop (place_of stand) content)))
+    (λ content. (place_of stand + n ≤ length content)
+    × (take n buffer ≡ take n (drop (place_of stand) content)))
 
 -- the reader stands at the end of the file, where it is told
 abbrev pub StandsAtEnd : Option (List FileEntry) → Option (List ℕ × ℕ) → Type 0
-StandsAtEnd files stand = IfSome (told_content files stand) (λ content. place_of stand ≡ length content)
+StandsAtEnd files stand =
+    IfSome (told_content files stand) (λ content. place_of stand ≡ length content)

@@ -114,7 +114,8 @@ impl FileReader for MemFiles {
         ensures opened { OnOk result
             (self.new ≡ record (counted self.old) { stands = Some (path.now, 0) }) }
         ensures fault { OnErr result
-            (self.new ≡ record (counted self.old) { stands = None; faults = one_more self.old.faults }) }
+            (self.new
+            ≡ record (counted self.old) { stands = None; faults = one_more self.old.faults }) }
         ensures faults_kept { self.old.faults ≤ self.new.faults }
     {
         self.standing = None;

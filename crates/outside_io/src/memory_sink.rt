@@ -24,16 +24,24 @@ impl Model for MemSink {
 
     ghost Value = { SinkState };
 
-    ghost view = { λ s. record { taken = s.bytes.items; step = s.step; room = s.room; faults = s.faults } };
+    ghost view = { λ s. record {
+      taken = s.bytes.items;
+      step = s.step;
+      room = s.room;
+      faults = s.faults;
+    } };
 
-    ghost invariant = { λ s. (0 < s.step) × (length s.bytes.items ≤ s.room) × (s.room ≤ vec_capacity s.bytes) };
+    ghost invariant = { λ s. (0 < s.step) × (length s.bytes.items ≤ s.room)
+        × (s.room ≤ vec_capacity s.bytes) };
 }
 
 impl MemSink {
-    /// A sink that takes at most `step` bytes a call and `room` bytes in all. Its room is taken here.
+    /// A sink that takes at most `step` bytes a call and `room` bytes in all. Its room is taken
+    /// here.
     pub fn new(alloc: Global, step: usize, room: usize) -> Result<MemSink, Memory>
         requires { 0 < step }
-        ensures { IfOk result (λ s. s ≡ record { taken = []; step = step; room = room; faults = 0 }) }
+        ensures { IfOk result
+            (λ s. s ≡ record { taken = []; step = step; room = room; faults = 0 }) }
     {
         Ok(MemSink {
             bytes: Vec::with_capacity(alloc, room)?,
@@ -61,8 +69,10 @@ impl Sink for MemSink {
     // It fails exactly where its room is full.
     fn write_some(&mut self, piece: &[u8]) -> Result<usize, Failed>
         ensures answer { result ≡ write_answer self.old (length piece.now) }
-        ensures grew { IfOk result (λ n. self.new ≡ record self.old { taken = self.old.taken ++ take n piece.now }) }
-        ensures fault { OnErr result (self.new ≡ record self.old { faults = one_more self.old.faults }) }
+        ensures grew { IfOk result
+            (λ n. self.new ≡ record self.old { taken = self.old.taken ++ take n piece.now }) }
+        ensures fault { OnErr result
+            (self.new ≡ record self.old { faults = one_more self.old.faults }) }
         ensures some { IfOk result (λ n. 0 < length piece.now → 0 < n) }
         ensures faults_kept { self.old.faults ≤ self.new.faults }
     {

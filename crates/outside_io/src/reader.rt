@@ -23,7 +23,8 @@ pub trait FileReader: Drop + Send {
     fn open_path(&mut self, path: &Bytes) -> Result<(), Failed>
         ensures told { files self.new ≡ files self.old }
         ensures opened { OnOk result (stands self.new ≡ Some (path.now, 0)) }
-        ensures found { OnOk result (IfSome (files self.old) (λ all. IsSome (file_bytes all path.now))) }
+        ensures found { OnOk result
+            (IfSome (files self.old) (λ all. IsSome (file_bytes all path.now))) }
         ensures closed { OnErr result (stands self.new ≡ None) }
         ensures fault { OnErr result (Rose (faults self.old) (faults self.new)) }
         ensures faultless { OnOk result (faults self.new ≡ faults self.old) }
@@ -37,7 +38,8 @@ pub trait FileReader: Drop + Send {
         ensures told { files self.new ≡ files self.old }
         ensures some { OnBytes result (λ n. 0 < n) }
         ensures bound { OnBytes result (λ n. n ≤ length buf.new) }
-        ensures bytes { OnBytes result (λ n. GivesNext (files self.old) (stands self.old) n buf.new) }
+        ensures bytes { OnBytes result
+            (λ n. GivesNext (files self.old) (stands self.old) n buf.new) }
         ensures moved { OnBytes result (λ n. stands self.new ≡ moved_by n (stands self.old)) }
         ensures end { OnEnd result (StandsAtEnd (files self.old) (stands self.old)) }
         ensures stays_open { IsSome (stands self.new) }

@@ -15,7 +15,8 @@ pub trait Sink {
     fn write_some(&mut self, piece: &[u8]) -> Result<usize, Failed>
         ensures bound { IfOk result (λ n. n ≤ length piece.now) }
         ensures some { IfOk result (λ n. 0 < length piece.now → 0 < n) }
-        ensures grew { IfOk result (λ n. GrewBy (written self.old) (written self.new) (take n piece.now)) }
+        ensures grew { IfOk result
+            (λ n. GrewBy (written self.old) (written self.new) (take n piece.now)) }
         ensures untouched { OnErr result (Untouched (written self.old) (written self.new)) }
         ensures fault { OnErr result (Rose (faults self.old) (faults self.new)) }
         ensures faultless { OnOk result (faults self.new ≡ faults self.old) }
@@ -25,7 +26,8 @@ pub trait Sink {
 /// Writes all bytes. It takes no memory, and succeeds over a sink whose faults do not rise.
 pub fn write_all<S: Sink>(sink: &mut S, bytes: &[u8]) -> Result<(), WriteFault>
     ensures grew { OnOk result (GrewBy (S.written sink.old) (S.written sink.new) bytes.now) }
-    ensures grew_by_prefix { OnErr result (GrewByPrefix (S.written sink.old) (S.written sink.new) bytes.now) }
+    ensures grew_by_prefix { OnErr result
+        (GrewByPrefix (S.written sink.old) (S.written sink.new) bytes.now) }
     ensures fault { OnErr result (Rose (S.faults sink.old) (S.faults sink.new)) }
     ensures faultless { OnOk result (S.faults sink.new ≡ S.faults sink.old) }
     ensures faults_kept { S.faults sink.old ≤ S.faults sink.new }
