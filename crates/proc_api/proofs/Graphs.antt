@@ -1,11 +1,14 @@
--- Laws of graphs: the ports of a node in use are numbered from 0 up to their count, and a graph is built node by node and edge by edge.
+-- Laws of graphs: the ports of a node in use are numbered from 0 up to their count, and a graph is
+-- built node by node and edge by edge.
 use Rattle.proc_api.proofs.Imports.{All-from_get_or, All-get_or, AllPass-from_list_all, Bool, HasInputWire, HasOutputWire, IsEdge, IsGraph, IsGraphSoFar, List, Reserve, Wire, [], all_below, and_from, and_parts, arith, both_ways, cases_lt, eq-eqb, eqb-true, false, get_or-append_seam, get_or_append_left, has_input, has_output, inl, input_count, inr, is_gapless, length, length-append, list_all, list_all-from_AllPass, no_wire, not, output_count, rank_at, refl, reserved_edges, subst, suc, sym, true, wire_at, zero, ℕ, ◌++◌, ◌+◌, ◌<◌, ◌==◌, ◌||◌, ◌∷◌, ◌≡◌, ◌≤◌}
 use Rattle.proc_api.proofs.PortCounts.{AreGapless, AreOnce, count-limit, edge-of, has_port, port-below-count, port-of, port-of-count}
 
-pub wire-input : (wires : List Wire) (e n i : ℕ) → e < length wires → (wire_at wires e).to ≡ n → (wire_at wires e).input ≡ i → has_input wires n i ≡ true
+pub wire-input : (wires : List Wire) (e n i : ℕ) → e < length wires → (wire_at wires e).to ≡ n
+    → (wire_at wires e).input ≡ i → has_input wires n i ≡ true
 wire-input = port-of (λ w. w.to) (λ w. w.input)
 
-pub wire-output : (wires : List Wire) (e n o : ℕ) → e < length wires → (wire_at wires e).from ≡ n → (wire_at wires e).out ≡ o → has_output wires n o ≡ true
+pub wire-output : (wires : List Wire) (e n o : ℕ) → e < length wires → (wire_at wires e).from ≡ n
+    → (wire_at wires e).out ≡ o → has_output wires n o ≡ true
 wire-output = port-of (λ w. w.from) (λ w. w.out)
 
 -- ---- no gap
@@ -20,8 +23,10 @@ all_below-at test (suc k) i h lt =
     ]
 
 -- one that fails is enough
-pub all_below-fails : (test : ℕ → Bool) (k i : ℕ) → i < k → test i ≡ false → (b : Bool) → all_below test k ≡ b → all_below test k ≡ false
-all_below-fails test k i lt off true e = absurd (both_ways (test i) off (all_below-at test k i e lt))
+pub all_below-fails : (test : ℕ → Bool) (k i : ℕ) → i < k → test i ≡ false → (b : Bool)
+    → all_below test k ≡ b → all_below test k ≡ false
+all_below-fails test k i lt off true e =
+    absurd (both_ways (test i) off (all_below-at test k i e lt))
 all_below-fails test k i lt off false e = e
 
 -- what follows from a test that is met
@@ -33,12 +38,14 @@ unless_met : (a b : Bool) → (a ≡ true → b ≡ true) → (not a || b) ≡ t
 unless_met true b h = h refl
 unless_met false b h = refl
 
-all_below-from : (test : ℕ → Bool) (k : ℕ) → ((i : ℕ) → i < k → test i ≡ true) → all_below test k ≡ true
+all_below-from : (test : ℕ → Bool) (k : ℕ) → ((i : ℕ) → i < k → test i ≡ true)
+    → all_below test k ≡ true
 all_below-from test zero h = refl
-all_below-from test (suc k) h = and_from _ _ (all_below-from test k (λ i lt. h i (omega (arith, lt)))) (h k (omega arith))
+all_below-from test (suc k) h =
+    and_from _ _ (all_below-from test k (λ i lt. h i (omega (arith, lt)))) (h k (omega arith))
 
--- where each edge is at another node, or each port below its own is in use, there is no gap; and the
--- other way round
+-- where each edge is at another node, or each port below its own is in use, there is no gap; and
+-- the other way round
 module _ (node port : Wire → ℕ) (wires : List Wire) where
   abbrev follows : ℕ → Wire → Bool
   follows n w = not (node w == n) || all_below (has_port node port wires n) (port w)
@@ -64,9 +71,9 @@ module _ (node port : Wire → ℕ) (wires : List Wire) where
 
 -- a node has no gap where each port below one in use is in use
 pub is-gapless : (wires : List Wire) (n : ℕ)
-    → ((e i : ℕ) → e < length wires → (wire_at wires e).to ≡ n → i < (wire_at wires e).input → has_input wires n i ≡ true)
-    → ((e o : ℕ) → e < length wires → (wire_at wires e).from ≡ n → o < (wire_at wires e).out → has_output wires n o ≡ true)
-    → is_gapless wires n ≡ true
+    → ((e i : ℕ) → e < length wires → (wire_at wires e).to ≡ n → i < (wire_at wires e).input
+    → has_input wires n i ≡ true) → ((e o : ℕ) → e < length wires → (wire_at wires e).from ≡ n
+    → o < (wire_at wires e).out → has_output wires n o ≡ true) → is_gapless wires n ≡ true
 is-gapless wires n inputs outputs = and_from _ _
     (all-follow (λ w. w.to) (λ w. w.input) wires n inputs)
     (all-follow (λ w. w.from) (λ w. w.out) wires n outputs)
@@ -106,19 +113,22 @@ module _ (ranks : List ℕ) (wires : List Wire) (reserves : List Reserve)
       record { edge = a.0; in_range = a.1; from = a.2; out_is = a.3 }
 
 -- the counts are within the limits
-pub few-inputs : (ranks : List ℕ) (wires : List Wire) (reserves : List Reserve) → IsGraphSoFar ranks wires reserves → (n : ℕ) → input_count wires n ≤ 32
+pub few-inputs : (ranks : List ℕ) (wires : List Wire) (reserves : List Reserve)
+    → IsGraphSoFar ranks wires reserves → (n : ℕ) → input_count wires n ≤ 32
 few-inputs ranks wires reserves g n =
     count-limit (λ w. w.to) (λ w. w.input) wires 32 g.inputs_once n
     (λ e lt at. (g.edges e lt).few_inputs)
 
-pub few-outputs : (ranks : List ℕ) (wires : List Wire) (reserves : List Reserve) → IsGraphSoFar ranks wires reserves → (n : ℕ) → output_count wires n ≤ 16
+pub few-outputs : (ranks : List ℕ) (wires : List Wire) (reserves : List Reserve)
+    → IsGraphSoFar ranks wires reserves → (n : ℕ) → output_count wires n ≤ 16
 few-outputs ranks wires reserves g n =
     count-limit (λ w. w.from) (λ w. w.out) wires 16 g.outputs_once n
     (λ e lt at. (g.edges e lt).few_outputs)
 
 -- ---- how a graph is built
 
-pub rank-kept : (ranks : List ℕ) (r n : ℕ) → n < length ranks → rank_at (ranks ++ r ∷ []) n ≡ rank_at ranks n
+pub rank-kept : (ranks : List ℕ) (r n : ℕ) → n < length ranks
+    → rank_at (ranks ++ r ∷ []) n ≡ rank_at ranks n
 unfolding rank_at
 rank-kept ranks r n lt = get_or_append_left ranks (r ∷ []) 0 n lt
 
@@ -126,13 +136,16 @@ edge-kept : (ranks : List ℕ) (r : ℕ) (w : Wire) → IsEdge ranks w → IsEdg
 edge-kept ranks r w h = record {
   from_in_range = omega (arith, h.from_in_range, length-append ranks (r ∷ []));
   to_in_range = omega (arith, h.to_in_range, length-append ranks (r ∷ []));
-  ranked = rw (rank-kept ranks r w.from h.from_in_range, rank-kept ranks r w.to h.to_in_range) h.ranked;
+  ranked =
+      rw (rank-kept ranks r w.from h.from_in_range, rank-kept ranks r w.to h.to_in_range) h.ranked;
   few_inputs = h.few_inputs;
   few_outputs = h.few_outputs;
 }
 
 -- a node is added
-pub node-added : (ranks : List ℕ) (wires : List Wire) (reserves : List Reserve) (r : ℕ) → IsGraphSoFar ranks wires reserves → length ranks < 256 → IsGraphSoFar (ranks ++ r ∷ []) wires reserves
+pub node-added : (ranks : List ℕ) (wires : List Wire) (reserves : List Reserve) (r : ℕ)
+    → IsGraphSoFar ranks wires reserves → length ranks < 256
+    → IsGraphSoFar (ranks ++ r ∷ []) wires reserves
 node-added ranks wires reserves r g lt = record {
   few_nodes = omega (arith, lt, length-append ranks (r ∷ []));
   few_edges = g.few_edges;
@@ -176,7 +189,10 @@ module _ (wires : List Wire) (w : Wire) where
           both_ways _ free (port-of node port wires d (node w) (port w) ld (cc) (cc))
 
 -- an edge is added at two free ports
-pub edge-added : (ranks : List ℕ) (wires : List Wire) (reserves : List Reserve) (w : Wire) → IsGraphSoFar ranks wires reserves → IsEdge ranks w → has_input wires w.to w.input ≡ false → has_output wires w.from w.out ≡ false → length wires + reserved_edges reserves < 1024 → IsGraphSoFar ranks (wires ++ w ∷ []) reserves
+pub edge-added : (ranks : List ℕ) (wires : List Wire) (reserves : List Reserve) (w : Wire)
+    → IsGraphSoFar ranks wires reserves → IsEdge ranks w → has_input wires w.to w.input ≡ false
+    → has_output wires w.from w.out ≡ false → length wires + reserved_edges reserves < 1024
+    → IsGraphSoFar ranks (wires ++ w ∷ []) reserves
 edge-added ranks wires reserves w g h free_input free_output lt = record {
   few_nodes = g.few_nodes;
   few_edges = omega (arith, lt, length-append wires (w ∷ []));

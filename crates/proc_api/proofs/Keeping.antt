@@ -3,15 +3,19 @@ use Rattle.proc_api.proofs.Imports.{All, AllFit, BoxPicture, ColumnType, FitsInp
 
 -- ---- chunks that were pulled
 
-pub pulled-more : (v w : Picture) (ins : Lists) (types : List ColumnType) → IsPulled ins types → IsPulled (with_pulled v w ins) types
+pub pulled-more : (v w : Picture) (ins : Lists) (types : List ColumnType) → IsPulled ins types
+    → IsPulled (with_pulled v w ins) types
 pulled-more v w ins types h = record {
   input = h.input;
   place = h.place;
-  in_range = let l = length-append (ins h.input) (pulled_at v w h.input) in omega (arith, l, h.in_range);
-  is = ap (λ (t : Table). t.types) (get_or_append_left (ins h.input) (pulled_at v w h.input) no_table h.place h.in_range) ∙ h.is;
+  in_range = let l = length-append (ins h.input) (pulled_at v w h.input) in
+      omega (arith, l, h.in_range);
+  is = ap (λ (t : Table). t.types)
+      (get_or_append_left (ins h.input) (pulled_at v w h.input) no_table h.place h.in_range) ∙ h.is;
 }
 
-pub makes-more : (s : Option Spec) (v w : Picture) (ins : Lists) (types : List ColumnType) → MakesTypes s ins types → MakesTypes s (with_pulled v w ins) types
+pub makes-more : (s : Option Spec) (v w : Picture) (ins : Lists) (types : List ColumnType)
+    → MakesTypes s ins types → MakesTypes s (with_pulled v w ins) types
 makes-more (Some (Spec.Filter c)) v w ins types h =
     record { pulled = pulled-more v w ins types h.pulled; fits = h.fits }
 makes-more (Some (Spec.Expression items)) v w ins types h = record {
@@ -26,18 +30,23 @@ makes-more s v w ins types h = h
 
 -- what is true of all chunks of a longer list is true of its front
 pub front-all : (P : Table → Type 0) (xs ys : List Table) → All P (xs ++ ys) → All P xs
-front-all P xs ys h = λ k d lt. subst P (get_or_append_left xs ys d k lt) (h k d (let l = length-append xs ys in omega (arith, l, lt)))
+front-all P xs ys h = λ k d lt. subst P (get_or_append_left xs ys d k lt)
+    (h k d (let l = length-append xs ys in omega (arith, l, lt)))
 
-pub fits-front : (s : Option Spec) (v w : Picture) (ins : Lists) → AllFit s (with_pulled v w ins) → AllFit s ins
-fits-front s v w ins h = λ i. front-all (λ (t : Table). FitsInput s i t.types) (ins i) (pulled_at v w i) (h i)
+pub fits-front : (s : Option Spec) (v w : Picture) (ins : Lists) → AllFit s (with_pulled v w ins)
+    → AllFit s ins
+fits-front s v w ins h =
+    λ i. front-all (λ (t : Table). FitsInput s i t.types) (ins i) (pulled_at v w i) (h i)
 
 -- the last of the longer list was pulled
-pub pulled-last : (v w : Picture) (ins : Lists) (i : ℕ) → All (λ (t : Table). IsPulled (with_pulled v w ins) t.types) (pulled_at v w i)
+pub pulled-last : (v w : Picture) (ins : Lists) (i : ℕ)
+    → All (λ (t : Table). IsPulled (with_pulled v w ins) t.types) (pulled_at v w i)
 pulled-last v w ins i = λ k d lt. record {
   input = i;
   place = length (ins i) + k;
   in_range = let l = length-append (ins i) (pulled_at v w i) in omega (arith, l, lt);
-  is = ap (λ (t : Table). t.types) (get_or-append-add (ins i) (pulled_at v w i) k no_table ∙ get_or_default (pulled_at v w i) k no_table d lt);
+  is = ap (λ (t : Table). t.types) (get_or-append-add (ins i) (pulled_at v w i) k no_table
+      ∙ get_or_default (pulled_at v w i) k no_table d lt);
 }
 
 -- ---- counts
@@ -45,16 +54,19 @@ pulled-last v w ins i = λ k d lt. record {
 pub rows-append : (xs ys : List Table) → chunk_rows (xs ++ ys) ≡ chunk_rows xs ++ chunk_rows ys
 rows-append xs ys = flat_map-append (λ (t : Table). t.rows) xs ys
 
-pub total-append : (n : ℕ) (a b : Lists) → total_rows n (λ i. a i ++ b i) ≡ total_rows n a + total_rows n b
+pub total-append : (n : ℕ) (a b : Lists)
+    → total_rows n (λ i. a i ++ b i) ≡ total_rows n a + total_rows n b
 unfolding total_rows
 total-append zero a b = refl
 total-append (suc n) a b =
     let rest = total-append n a b in
-    let here = ap length (rows-append (a n) (b n)) ∙ length-append (chunk_rows (a n)) (chunk_rows (b n)) in
+    let here = ap length (rows-append (a n) (b n))
+    ∙ length-append (chunk_rows (a n)) (chunk_rows (b n)) in
     omega (arith, rest, here)
 
 -- nothing is there behind the first list
-pub total-first : (n : ℕ) (a : Lists) → ((i : ℕ) → 0 < i → a i ≡ []) → total_rows (suc n) a ≡ length (chunk_rows (a 0))
+pub total-first : (n : ℕ) (a : Lists) → ((i : ℕ) → 0 < i → a i ≡ [])
+    → total_rows (suc n) a ≡ length (chunk_rows (a 0))
 unfolding total_rows
 total-first zero a e = omega arith
 total-first (suc n) a e =
@@ -74,18 +86,24 @@ pub total-nothing : (n : ℕ) (a : Lists) → ((i : ℕ) → a i ≡ []) → tot
 total-nothing n a e = total-none n a (λ i lt. e i)
 
 -- the count of pulled rows goes on with what a prepare pulls
-pub counted-more : (p q : BoxPicture) (v w : Picture) (ins : Lists) → PulledOn p q → q.pulled ≡ raised p.pulled (rows_pulled v w)
-    → (p.notes.pulled ≡ total_rows 32 ins) ⊎ (p.pulled ≡ last_count) → (q.notes.pulled ≡ total_rows 32 (with_pulled v w ins)) ⊎ (q.pulled ≡ last_count)
+pub counted-more : (p q : BoxPicture) (v w : Picture) (ins : Lists) → PulledOn p q → q.pulled
+    ≡ raised p.pulled (rows_pulled v w) → (p.notes.pulled ≡ total_rows 32 ins) ⊎ (p.pulled
+    ≡ last_count) → (q.notes.pulled ≡ total_rows 32 (with_pulled v w ins)) ⊎ (q.pulled ≡ last_count)
 counted-more p q v w ins on e h =
     let more = total-append 32 ins (pulled_at v w) in
     let since = on.since in
     elim (cases_lt (p.pulled + rows_pulled v w) last_count) [
-      | inl less ↦ elim h [ inl kept ↦ inl (omega (arith, more, since, e, less, kept)) | inr full ↦ absurd (omega (arith, less, full)) ]
+      | inl less ↦ elim h [
+        | inl kept ↦ inl (omega (arith, more, since, e, less, kept))
+        | inr full ↦
+            absurd (omega (arith, less, full))
+      ]
       | inr reached ↦ inr (omega (arith, e, reached))
     ]
 
 -- enough that was read stays enough
-pub enough-more : (s : Option Spec) (v w : Picture) (ins : Lists) → HasReadEnough s ins → HasReadEnough s (with_pulled v w ins)
+pub enough-more : (s : Option Spec) (v w : Picture) (ins : Lists) → HasReadEnough s ins
+    → HasReadEnough s (with_pulled v w ins)
 enough-more (Some (Spec.Limit span)) v w ins h =
     let more : length (chunk_rows (with_pulled v w ins 0))
     ≡ length (chunk_rows (ins 0)) + length (chunk_rows (pulled_at v w 0)) =

@@ -14,19 +14,24 @@ module _ (q : BoxPicture) (w : Picture) (e : q.notes.view ≡ Some (port_flags w
   unfolding kept_input in_count input_at
   kept_input-of i lt =
       let flags = λ (x : InputPort). x.flags in
-      ap (λ p. get_or (kept_ports p).inputs i no_flags) e ∙ get_or_default (map flags w.inputs) i no_flags (flags no_input) (rw length-map lt) ∙ get_or-map flags w.inputs i no_input (flags no_input) lt
+      ap (λ p. get_or (kept_ports p).inputs i no_flags) e
+      ∙ get_or_default (map flags w.inputs) i no_flags (flags no_input) (rw length-map lt)
+      ∙ get_or-map flags w.inputs i no_input (flags no_input) lt
 
   pub kept_input-past : (i : ℕ) → in_count w ≤ i → kept_input q i ≡ no_flags
   unfolding kept_input in_count
-  kept_input-past i le = ap (λ p. get_or (kept_ports p).inputs i no_flags) e ∙ get_or-eq_default (map (λ (x : InputPort). x.flags) w.inputs) no_flags (rw length-map le)
+  kept_input-past i le = ap (λ p. get_or (kept_ports p).inputs i no_flags) e
+      ∙ get_or-eq_default (map (λ (x : InputPort). x.flags) w.inputs) no_flags (rw length-map le)
 
   pub kept_output-of : (o : ℕ) → o < out_count w → kept_output q o ≡ output_at w o
   unfolding kept_output out_count output_at
-  kept_output-of o lt = ap (λ p. get_or (kept_ports p).outputs o no_flags) e ∙ get_or_default w.outputs o no_flags over_flags lt
+  kept_output-of o lt = ap (λ p. get_or (kept_ports p).outputs o no_flags) e
+      ∙ get_or_default w.outputs o no_flags over_flags lt
 
   pub kept_output-past : (o : ℕ) → out_count w ≤ o → kept_output q o ≡ no_flags
   unfolding kept_output out_count
-  kept_output-past o le = ap (λ p. get_or (kept_ports p).outputs o no_flags) e ∙ get_or-eq_default w.outputs no_flags le
+  kept_output-past o le = ap (λ p. get_or (kept_ports p).outputs o no_flags) e
+      ∙ get_or-eq_default w.outputs no_flags le
 
 -- an input in the range of the kept view
 pub may-be-input : (p : BoxPicture) (n i : ℕ) → (p.notes.view ≡ None) ⊎ (kept_inputs p ≡ n) → i < n

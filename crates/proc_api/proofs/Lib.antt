@@ -12,3 +12,4 @@ pub mod KeptFlags
 pub mod Follows
 pub mod PortCounts
 pub mod Graphs
+pub mod Reserving

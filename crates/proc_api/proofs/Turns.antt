@@ -1,4 +1,5 @@
--- What each call of a view changes, port by port. A processor's proof takes these in the place of the calls' pictures.
+-- What each call of a view changes, port by port. A processor's proof takes these in the place of
+-- the calls' pictures.
 use Rattle.proc_api.proofs.Imports.{Action, Bool, Close, Finish, Flags, InputPort, List, Picture, Pull, Push, Table, [], after_close, after_finish, after_need, after_pull, after_push, ap, append-nil, can_push, closed, cond, cond_both, emptied, eq-eqb, false, holds_data, in_count, in_count-with_input, in_count-with_output, input_at, input_at-with_input, input_at-with_input-other, input_at-with_output, is_out_finished, ne_eqb, not-true, noted, noted_want, out_count, out_count-with_input, out_count-with_output, output_at, output_at-with_input, output_at-with_output, output_at-with_output-other, pushes_to, refl, sym, true, with_actions, with_input, with_needed, with_output, ℕ, ◌++◌, ◌<◌, ◌||◌, ◌∙◌, ◌∷◌, ◌≡◌, ◌≢◌}
 use Rattle.proc_api.proofs.CallLaws.{pushes_to-append, pushes_to-noted_want}
 
@@ -12,7 +13,8 @@ pub record TurnsInput (p : Picture) (i : ℕ) (x : InputPort) (q : Picture) : Ty
   pub pushes : (o : ℕ) → pushes_to o q.actions ≡ pushes_to o p.actions
 
 -- output o alone is changed, to f, and these chunks are pushed there
-pub record TurnsOutput (p : Picture) (o : ℕ) (f : Flags) (chunks : List Table) (q : Picture) : Type 0 where
+pub record TurnsOutput (p : Picture) (o : ℕ) (f : Flags) (chunks : List Table)
+    (q : Picture) : Type 0 where
   pub here : output_at q o ≡ f
   pub others : (j : ℕ) → j ≢ o → output_at q j ≡ output_at p j
   pub inputs : (i : ℕ) → input_at q i ≡ input_at p i
@@ -22,10 +24,19 @@ pub record TurnsOutput (p : Picture) (o : ℕ) (f : Flags) (chunks : List Table)
   pub other_pushes : (j : ℕ) → j ≢ o → pushes_to j q.actions ≡ pushes_to j p.actions
 
 same-input : (p : Picture) (i : ℕ) (x : InputPort) → input_at p i ≡ x → TurnsInput p i x p
-same-input p i x e = record { here = e; others = λ j ne. refl; outputs = λ o. refl; ins = refl; outs = refl; pushes = λ o. refl }
+same-input p i x e = record {
+  here = e;
+  others = λ j ne. refl;
+  outputs = λ o. refl;
+  ins = refl;
+  outs = refl;
+  pushes = λ o. refl;
+}
 
 -- input i is set to x, and the actions become others that push the same
-set-input : (p : Picture) (i : ℕ) (x : InputPort) (actions : List Action) → i < in_count p → ((o : ℕ) → pushes_to o actions ≡ pushes_to o p.actions) → TurnsInput p i x (with_actions (with_input p i x) actions)
+set-input : (p : Picture) (i : ℕ) (x : InputPort) (actions : List Action) → i < in_count p
+    → ((o : ℕ) → pushes_to o actions ≡ pushes_to o p.actions)
+    → TurnsInput p i x (with_actions (with_input p i x) actions)
 unfolding with_actions input_at output_at in_count out_count
 set-input p i x actions lt same = record {
   here = input_at-with_input p i x lt;
@@ -36,17 +47,22 @@ set-input p i x actions lt same = record {
   pushes = same;
 }
 
-pub nothing-more : (o : ℕ) (a : Action) (xs : List Action) → pushes_to o (a ∷ []) ≡ [] → pushes_to o (xs ++ a ∷ []) ≡ pushes_to o xs
-nothing-more o a xs e = pushes_to-append o xs (a ∷ []) ∙ ap (λ l. pushes_to o xs ++ l) e ∙ append-nil (pushes_to o xs)
+pub nothing-more : (o : ℕ) (a : Action) (xs : List Action) → pushes_to o (a ∷ []) ≡ []
+    → pushes_to o (xs ++ a ∷ []) ≡ pushes_to o xs
+nothing-more o a xs e = pushes_to-append o xs (a ∷ []) ∙ ap (λ l. pushes_to o xs ++ l) e
+    ∙ append-nil (pushes_to o xs)
 
-noted-input : (p : Picture) (i : ℕ) (x : InputPort) (a : Action) → i < in_count p → ((o : ℕ) → pushes_to o (a ∷ []) ≡ []) → TurnsInput p i x (noted (with_input p i x) a)
+noted-input : (p : Picture) (i : ℕ) (x : InputPort) (a : Action) → i < in_count p
+    → ((o : ℕ) → pushes_to o (a ∷ []) ≡ []) → TurnsInput p i x (noted (with_input p i x) a)
 unfolding with_input
-noted-input p i x a lt e = set-input p i x (p.actions ++ a ∷ []) lt (λ o. nothing-more o a p.actions (e o))
+noted-input p i x a lt e =
+    set-input p i x (p.actions ++ a ∷ []) lt (λ o. nothing-more o a p.actions (e o))
 
 closed-already : (x : InputPort) → x.flags.fin_in ≡ true → x ≡ closed x
 closed-already x e = λ i. record { flags = record x.flags { fin_in = e i }; chunk = x.chunk }
 
-pub close-turns : (p : Picture) (i : ℕ) → i < in_count p → TurnsInput p i (closed (input_at p i)) (after_close p i)
+pub close-turns : (p : Picture) (i : ℕ) → i < in_count p
+    → TurnsInput p i (closed (input_at p i)) (after_close p i)
 unfolding pushes_to
 close-turns p i lt = cond_both _ _ _ (TurnsInput p i (closed (input_at p i)))
     (λ e. same-input p i (closed (input_at p i)) (closed-already (input_at p i) e))
@@ -71,24 +87,40 @@ left-false : (a b : Bool) → (a || b) ≡ false → a ≡ false
 left-false true b e = absurd (cc)
 left-false false b e = refl
 
-pub need-turns : (p : Picture) (i : ℕ) (b : Bool) → i < in_count p → TurnsInput p i (needing (input_at p i) b) (after_need p i b)
+pub need-turns : (p : Picture) (i : ℕ) (b : Bool) → i < in_count p
+    → TurnsInput p i (needing (input_at p i) b) (after_need p i b)
 unfolding with_input
 need-turns p i true lt = cond_both _ _ _ (TurnsInput p i (needing (input_at p i) true))
     (λ e. same-input p i _ (closed-or-needed (input_at p i) true _ _ refl e (λ n. n)))
-    (λ e. rw (← when-open (input_at p i) true (left-false _ _ e)) (set-input p i (with_needed (input_at p i) true) (noted_want i true p.actions) lt (λ o. pushes_to-noted_want o i true p.actions)))
+    (λ e. rw (← when-open (input_at p i) true (left-false _ _ e))
+    (set-input p i (with_needed (input_at p i) true) (noted_want i true p.actions) lt
+    (λ o. pushes_to-noted_want o i true p.actions)))
 need-turns p i false lt = cond_both _ _ _ (TurnsInput p i (needing (input_at p i) false))
     (λ e. same-input p i _ (closed-or-needed (input_at p i) false _ _ refl e (not-true _)))
-    (λ e. rw (← when-open (input_at p i) false (left-false _ _ e)) (set-input p i (with_needed (input_at p i) false) (noted_want i false p.actions) lt (λ o. pushes_to-noted_want o i false p.actions)))
+    (λ e. rw (← when-open (input_at p i) false (left-false _ _ e))
+    (set-input p i (with_needed (input_at p i) false) (noted_want i false p.actions) lt
+    (λ o. pushes_to-noted_want o i false p.actions)))
 
-pub pull-turns : (p : Picture) (i : ℕ) → i < in_count p → holds_data (input_at p i).flags ≡ true → TurnsInput p i (emptied (input_at p i)) (after_pull p i)
+pub pull-turns : (p : Picture) (i : ℕ) → i < in_count p → holds_data (input_at p i).flags ≡ true
+    → TurnsInput p i (emptied (input_at p i)) (after_pull p i)
 unfolding pushes_to
 pull-turns p i lt h =
     rw h (noted-input p i (emptied (input_at p i)) (Pull i) lt (λ o. refl))
 
 same-output : (p : Picture) (o : ℕ) (f : Flags) → output_at p o ≡ f → TurnsOutput p o f [] p
-same-output p o f e = record { here = e; others = λ j ne. refl; inputs = λ i. refl; ins = refl; outs = refl; pushes = sym (append-nil (pushes_to o p.actions)); other_pushes = λ j ne. refl }
+same-output p o f e = record {
+  here = e;
+  others = λ j ne. refl;
+  inputs = λ i. refl;
+  ins = refl;
+  outs = refl;
+  pushes = sym (append-nil (pushes_to o p.actions));
+  other_pushes = λ j ne. refl;
+}
 
-noted-output : (p : Picture) (o : ℕ) (f : Flags) (a : Action) → o < out_count p → ((j : ℕ) → j ≢ o → pushes_to j (a ∷ []) ≡ []) → TurnsOutput p o f (pushes_to o (a ∷ [])) (noted (with_output p o f) a)
+noted-output : (p : Picture) (o : ℕ) (f : Flags) (a : Action) → o < out_count p
+    → ((j : ℕ) → j ≢ o → pushes_to j (a ∷ []) ≡ [])
+    → TurnsOutput p o f (pushes_to o (a ∷ [])) (noted (with_output p o f) a)
 unfolding with_actions with_output input_at output_at in_count out_count
 noted-output p o f a lt e = record {
   here = output_at-with_output p o f lt;
@@ -108,19 +140,24 @@ pub pushes-elsewhere : (o j : ℕ) (chunk : Table) → j ≢ o → pushes_to j (
 unfolding pushes_to
 pushes-elsewhere o j chunk ne = rw (ne_eqb j o ne) refl
 
-pub push-turns : (p : Picture) (o : ℕ) (chunk : Table) → o < out_count p → can_push (output_at p o) ≡ true → TurnsOutput p o (record (output_at p o) { has_data = true }) (chunk ∷ []) (after_push p o chunk)
+pub push-turns : (p : Picture) (o : ℕ) (chunk : Table) → o < out_count p
+    → can_push (output_at p o) ≡ true → TurnsOutput p o (record (output_at p o) { has_data = true })
+    (chunk ∷ []) (after_push p o chunk)
 push-turns p o chunk lt h =
-    rw h (rw (← pushes-here o chunk) (noted-output p o (record (output_at p o) { has_data = true }) (Push o chunk) lt (λ j ne. pushes-elsewhere o j chunk ne)))
+    rw h (rw (← pushes-here o chunk) (noted-output p o (record (output_at p o) { has_data = true })
+    (Push o chunk) lt (λ j ne. pushes-elsewhere o j chunk ne)))
 
 -- an output once it is finished, where neither end had finished it
 abbrev pub finishing : Flags → Flags
 finishing f = cond (is_out_finished f) f (record f { fin_out = true })
 
-pub finish-turns : (p : Picture) (o : ℕ) → o < out_count p → TurnsOutput p o (finishing (output_at p o)) [] (after_finish p o)
+pub finish-turns : (p : Picture) (o : ℕ) → o < out_count p
+    → TurnsOutput p o (finishing (output_at p o)) [] (after_finish p o)
 unfolding pushes_to
 finish-turns p o lt = cond_both _ _ _ (TurnsOutput p o (finishing (output_at p o)) [])
-    (λ e. same-output p o (finishing (output_at p o)) (ap (λ t. cond t (output_at p o) (record (output_at p o) { fin_out = true })) (sym e)))
-    (λ e. rw e (noted-output p o (record (output_at p o) { fin_out = true }) (Finish o) lt (λ j ne. refl)))
+    (λ e. same-output p o (finishing (output_at p o))
+    (ap (λ t. cond t (output_at p o) (record (output_at p o) { fin_out = true })) (sym e))) (λ e. rw
+    e (noted-output p o (record (output_at p o) { fin_out = true }) (Finish o) lt (λ j ne. refl)))
 
 -- what asking leaves of an input
 pub record LeavesInput (x y : InputPort) : Type 0 where

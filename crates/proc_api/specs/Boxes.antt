@@ -13,9 +13,11 @@ pub record InputHead : Type 0 where
   pub rows : List Row
   pub ended : Bool
 
--- The state of a processor. A later kind may add a field, which is as `idle_work` has it in every other kind.
+-- The state of a processor. A later kind may add a field, which is as `idle_work` has it in every
+-- other kind.
 pub record WorkState : Type 0 where
-  -- the chunks that were pulled and are not worked yet, in order, and the input from which they were pulled
+  -- the chunks that were pulled and are not worked yet, in order, and the input from which they
+  -- were pulled
   pub unworked : List Table
   pub source : ℕ
   -- the chunks that are made and not pushed yet, in order
@@ -35,15 +37,19 @@ pub record WorkState : Type 0 where
   pub fetched : Bool
   -- the bad place of the part that it has fetched
   pub bad : Option BadPlace
+  -- the paths of the list that it has fetched, and its bad line; one with a bad line names no path
+  pub paths : List (List ℕ)
+  pub bad_line : Option ℕ
 
 -- a count of pulled rows, and by how much it rose since `load`
 pub record RowCount : Type 0 where
   pub total : ℕ
   pub since : ℕ
 
--- What a processor keeps besides from `load` on: how many bytes its reader gave, by how much its counts rose, its last answer, whether `work`
--- or `expand` was called on it, the fault that it answered, the flags of the view that its last `prepare` left, and whether each view had the
--- ports of its spec and growth.
+-- What a processor keeps besides from `load` on: how many bytes its reader gave, by how much its
+-- counts rose, its last answer, whether `work` or `expand` was called on it, the fault that it
+-- answered, the flags of the view that its last `prepare` left, and whether each view had the ports
+-- of its spec and growth.
 pub record Notes : Type 0 where
   pub given : ℕ
   pub faults : ℕ
@@ -55,8 +61,9 @@ pub record Notes : Type 0 where
   pub view : Option PortFlags
   pub fits : Bool
 
--- A boxed processor. A blank one has no spec. `faults` and `pendings` are its reader's, and `pulled` counts the rows that it pulled; none of
--- the three ever falls. `files` are those that its reader tells, and `growth` is the last that it answered since `load`.
+-- A boxed processor. A blank one has no spec. `faults` and `pendings` are its reader's, and
+-- `pulled` counts the rows that it pulled; none of the three ever falls. `files` are those that its
+-- reader tells, and `growth` is the last that it answered since `load`.
 pub record BoxPicture : Type 0 where
   pub kind : Kind
   pub lawful : Bool
@@ -68,6 +75,24 @@ pub record BoxPicture : Type 0 where
   pub work : WorkState
   pub notes : Notes
   pub growth : Option GrowthForm
+
+-- What is known of the file that a box reads, none of it before the file is fetched whole: the bad
+-- place of a part, the paths and the bad line of a list, and by what these let the graph grow.
+pub record FileSeen : Type 0 where
+  pub fetched : Bool
+  pub bad : Option BadPlace
+  pub paths : List (List ℕ)
+  pub bad_line : Option ℕ
+  pub growth : Option GrowthForm
+
+abbrev pub file_of : BoxPicture → FileSeen
+file_of p = record {
+  fetched = p.work.fetched;
+  bad = p.work.bad;
+  paths = p.work.paths;
+  bad_line = p.work.bad_line;
+  growth = p.growth;
+}
 
 abbrev pub idle_work : WorkState
 idle_work = record {
@@ -83,6 +108,8 @@ idle_work = record {
   opened = false;
   fetched = false;
   bad = None;
+  paths = [];
+  bad_line = None;
 }
 
 -- what a processor keeps as `load` leaves it

@@ -5,10 +5,13 @@ use Rattle.query_model.specs.declared.processor_spec.Kind.TheVariants as kind
 use Rattle.proc_api.specs.declared.status.Wake.TheVariants as wake
 use Rattle.proc_api.specs.declared.status.WorkFault.TheVariants as fault
 use Rattle.proc_api.specs.Forms.{growth_form}
-use Rattle.proc_api.specs.Boxes.{BoxPicture, PortFlags, WorkState, no_notes}
+use Rattle.proc_api.specs.Boxes.{BoxPicture, FileSeen, PortFlags, WorkState, file_of, no_notes}
+use Rattle.proc_api.specs.Growing.{MayGrow}
 use Rattle.proc_api.specs.Histories.{Lists, no_lists, chunk_rows, with_pulled, with_pushed, rows_pulled, raised}
 use Rattle.proc_api.specs.Ports.{AllOutputsFinished, HasNoRoom, HasPorts, HasRoom, IsShut, SameChunks, StaysFit}
 use Rattle.proc_api.specs.Keeping.{Keeps}
+use Rattle.proc_api.specs.Growing.{MayGrow}
+use Rattle.proc_api.specs.Forms.{GrowthForm}
 
 -- ---- what stays
 
@@ -19,14 +22,17 @@ pub record SameBox (p q : BoxPicture) : Type 0 where
   pub files : q.files ≡ p.files
   pub spec : q.spec ≡ p.spec
 
--- The reader's counts never fall, and what they rose since `load` is no more than they rose: whatever count a reader had at `load`, by what
--- is kept, it may still have had. At its last value a count stands still.
+-- The reader's counts never fall, and what they rose since `load` is no more than they rose:
+-- whatever count a reader had at `load`, by what is kept, it may still have had. At its last value
+-- a count stands still.
 pub record CountsOn (p q : BoxPicture) : Type 0 where
   pub faults : p.faults ≤ q.faults
   pub pendings : p.pendings ≤ q.pendings
   pub given : p.notes.given ≤ q.notes.given
-  pub faults_since : (base : ℕ) → raised base p.notes.faults ≤ p.faults → raised base q.notes.faults ≤ q.faults
-  pub pendings_since : (base : ℕ) → raised base p.notes.pendings ≤ p.pendings → raised base q.notes.pendings ≤ q.pendings
+  pub faults_since : (base : ℕ) → raised base p.notes.faults ≤ p.faults
+      → raised base q.notes.faults ≤ q.faults
+  pub pendings_since : (base : ℕ) → raised base p.notes.pendings ≤ p.pendings
+      → raised base q.notes.pendings ≤ q.pendings
 
 -- the count of pulled rows never falls, and what it rose since `load` is exactly that
 pub record PulledOn (p q : BoxPicture) : Type 0 where
@@ -69,7 +75,8 @@ pub record Loads (p : BoxPicture) (s : Spec) (q : BoxPicture) : Type 0 where
   pub counts : SameCounts p q
   pub fresh : IsFresh q
 
--- a load is refused where the box is loaded, or else where the spec is of another kind; want of memory is free
+-- a load is refused where the box is loaded, or else where the spec is of another kind; want of
+-- memory is free
 abbrev pub IsLoadRefused : LoadRefusal → BoxPicture → Spec → Type 0
 IsLoadRefused LoadRefusal.NotBlank p s = IsSome p.spec
 IsLoadRefused LoadRefusal.WrongKind p s = IsBlank p × (kind_of s ≢ p.kind)
@@ -107,7 +114,8 @@ pub record HasNoReader (p : BoxPicture) : Type 0 where
   pub pendings : p.pendings ≡ 0
   pub given : p.notes.given ≡ 0
 
--- loaded, without a fault, and its rows not handed out: every call may come whose own condition holds
+-- loaded, without a fault, and its rows not handed out: every call may come whose own condition
+-- holds
 pub record IsRunning (p : BoxPicture) : Type 0 where
   pub loaded : IsSome p.spec
   pub faultless : p.notes.fault ≡ None
@@ -123,10 +131,11 @@ abbrev pub UnlessTooLong : Option WorkFault → Type 0 → Type 0
 UnlessTooLong (Some fault.TooLong) P = ⊤
 UnlessTooLong _ P = P
 
--- A lawful box stalls as soon as its reader was pending 1,000,000 times, and its file is too long as soon as its bytes pass 1,073,741,824. It opens
--- its file once, and fetches it once.
+-- A lawful box stalls as soon as its reader was pending 1,000,000 times, and its file is too long
+-- as soon as its bytes pass 1,073,741,824. It opens its file once, and fetches it once.
 pub record KeepsLimits (p q : BoxPicture) : Type 0 where
-  pub pendings : p.notes.pendings < 1000000 → UnlessStalled q.notes.fault (q.notes.pendings < 1000000)
+  pub pendings : p.notes.pendings < 1000000
+      → UnlessStalled q.notes.fault (q.notes.pendings < 1000000)
   pub given : p.notes.given ≤ 1073741824 → UnlessTooLong q.notes.fault (q.notes.given ≤ 1073741824)
   pub opened : p.work.opened ≡ true → q.work.opened ≡ true
   pub fetched : p.work.fetched ≡ true → q.work.fetched ≡ true
@@ -155,9 +164,20 @@ StatusHolds Status.Async w = ⊤
 StatusHolds Status.ExpandPipeline w = ⊤
 StatusHolds Status.Finished w = IsAllFinished w
 
--- A chunk isn't worked, rows that can be pushed aren't made, or a source has to answer its part's bad place.
+-- a source has to answer its part's bad place, or its list's bad line
+abbrev pub IsBadFile : Kind → FileSeen → Type 0
+IsBadFile k f = ((k ≡ kind.Csv) × IsSome f.bad) ⊎ ((k ≡ kind.List) × IsSome f.bad_line)
+
+-- a chunk isn't worked, rows that can be pushed aren't made, or a bad file has to be answered
 abbrev pub MayBeReady : BoxPicture → Type 0
-MayBeReady p = (0 < length p.work.unworked) ⊎ ((0 < length p.work.unmade) ⊎ ((p.kind ≡ kind.Csv) × IsSome p.work.bad))
+MayBeReady p = (0 < length p.work.unworked)
+    ⊎ ((0 < length p.work.unmade) ⊎ IsBadFile p.kind (file_of p))
+
+-- a list that names a path and hasn't grown
+pub record MayExpand (k : Kind) (f : FileSeen) : Type 0 where
+  pub list : k ≡ kind.List
+  pub ungrown : f.growth ≡ None
+  pub names_path : 0 < length f.paths
 
 -- a source whose file isn't fetched whole
 pub record IsFetching (p : BoxPicture) : Type 0 where
@@ -187,12 +207,13 @@ StatusComes Status.NeedData p = IsWanting p.spec p.work.read
 StatusComes Status.PortFull p = ⊤
 StatusComes Status.Ready p = MayBeReady p
 StatusComes Status.Async p = IsFetching p
-StatusComes Status.ExpandPipeline p = p.kind ≡ kind.List
+StatusComes Status.ExpandPipeline p = MayExpand p.kind (file_of p)
 StatusComes Status.Finished p = ⊤
 
 -- whatever the box kept of its lists, it keeps with what the call pulled and pushed
 abbrev pub KeepsOver : BoxPicture → Picture → BoxPicture → Picture → Type 0
-KeepsOver p v q w = (ins outs : Lists) → Keeps p ins outs → Keeps q (with_pulled v w ins) (with_pushed v w outs)
+KeepsOver p v q w = (ins outs : Lists) → Keeps p ins outs
+    → Keeps q (with_pulled v w ins) (with_pushed v w outs)
 
 -- each input is closed and each output is finished, and this was answered
 pub record ShutsDown (w : Picture) (s : Status) : Type 0 where
@@ -213,10 +234,11 @@ pub record EndsAtOnce (v w : Picture) (s : Status) : Type 0 where
   pub answer : s ≡ Status.Finished
   pub chunks : SameChunks v w
 
--- A prepare of a lawful box, from the view v to w. The outputs are looked at first: where all are finished it ends, a
--- chunk that waits is pushed where there is room, and nothing is fetched or made where there is none. Where the view
--- hasn't the ports of its spec and growth it shuts down.
-pub record PreparesLawfully (p : BoxPicture) (v : Picture) (q : BoxPicture) (w : Picture) (s : Status) : Type 0 where
+-- A prepare of a lawful box, from the view v to w. The outputs are looked at first: where all are
+-- finished it ends, a chunk that waits is pushed where there is room, and nothing is fetched or
+-- made where there is none. Where the view hasn't the ports of its spec and growth it shuts down.
+pub record PreparesLawfully (p : BoxPicture) (v : Picture) (q : BoxPicture) (w : Picture)
+    (s : Status) : Type 0 where
   pub law : StatusHolds s w
   pub comes : StatusComes s q
   pub pulled : q.pulled ≡ raised p.pulled (rows_pulled v w)
@@ -254,7 +276,8 @@ pub record SameNotes (p q : BoxPicture) : Type 0 where
 
 -- fewer chunks are unworked, or more rows are made, or nothing is left to be ready for
 abbrev pub Progresses : BoxPicture → BoxPicture → Type 0
-Progresses p q = (length q.work.unworked < length p.work.unworked) ⊎ ((length (chunk_rows p.work.made) < length (chunk_rows q.work.made)) ⊎ (MayBeReady q → ⊥))
+Progresses p q = (length q.work.unworked < length p.work.unworked)
+    ⊎ ((length (chunk_rows p.work.made) < length (chunk_rows q.work.made)) ⊎ (MayBeReady q → ⊥))
 
 -- a work without a fault
 pub record Works (p q : BoxPicture) : Type 0 where
@@ -264,9 +287,11 @@ pub record Works (p q : BoxPicture) : Type 0 where
   pub keeps : IsTrue p.lawful → KeepsSame p q
   pub progresses : IsTrue p.lawful → Progresses p q
 
--- a source wakes later where it opened its path, fetched a byte, or its reader was pending, and is ready where it has read its file's end
+-- a source wakes later where it opened its path, fetched a byte, or its reader was pending, and is
+-- ready where it has read its file's end
 abbrev pub WakeComes : Wake → BoxPicture → BoxPicture → Type 0
-WakeComes wake.Later p q = ((p.work.opened ≡ false) × (q.work.opened ≡ true)) ⊎ ((p.notes.given < q.notes.given) ⊎ (p.notes.pendings < q.notes.pendings))
+WakeComes wake.Later p q = ((p.work.opened ≡ false) × (q.work.opened ≡ true))
+    ⊎ ((p.notes.given < q.notes.given) ⊎ (p.notes.pendings < q.notes.pendings))
 WakeComes wake.Ready p q = (p.work.fetched ≡ false) × (q.work.fetched ≡ true)
 
 -- a schedule without a fault
@@ -288,6 +313,7 @@ pub record Expands (g : Growth) (p q : BoxPicture) : Type 0 where
   pub answer : q.notes.answer ≡ p.notes.answer
   pub acted : q.notes.acted ≡ true
   pub growth : q.growth ≡ Some (growth_form g)
+  pub grows : IsTrue p.lawful → MayGrow p.spec p.files q.growth
   pub not_handed_out : q.work.handed_out ≡ false
   pub faultless : q.notes.fault ≡ None
   pub keeps : IsTrue p.lawful → KeepsSame p q
@@ -322,9 +348,12 @@ FaultIsDue None p = ⊤
 FaultIsDue (Some fault.Memory) p = ⊤
 FaultIsDue (Some fault.Read) p = ⊤
 FaultIsDue (Some fault.Stalled) p = p.notes.pendings ≡ 1000000
-FaultIsDue (Some fault.TooLong) p = OfPart p.spec (λ part. IfSome p.files (λ files. IsLongFile files part.path))
-FaultIsDue (Some (fault.Bad place)) p = OfPart p.spec (λ part. IfSome p.files (λ files. part_bad_place part.header part.types files part.path ≡ Some place))
-FaultIsDue (Some (fault.BadList line)) p = OfPart p.spec (λ part. IfSome p.files (λ files. bad_line_in (file_bytes files part.path) ≡ Some line))
+FaultIsDue (Some fault.TooLong) p =
+    OfPart p.spec (λ part. IfSome p.files (λ files. IsLongFile files part.path))
+FaultIsDue (Some (fault.Bad place)) p = OfPart p.spec (λ part. IfSome p.files
+    (λ files. part_bad_place part.header part.types files part.path ≡ Some place))
+FaultIsDue (Some (fault.BadList line)) p = OfPart p.spec
+    (λ part. IfSome p.files (λ files. bad_line_in (file_bytes files part.path) ≡ Some line))
 
 -- A read fault comes only in a call in which the reader's faults rose.
 abbrev pub FaultInCall : WorkFault → BoxPicture → BoxPicture → Type 0
@@ -346,6 +375,7 @@ abbrev pub handed_out_by : Kind → WorkState → List Table
 handed_out_by kind.Collect w = w.gathered
 handed_out_by _ w = []
 
--- what a lawful box keeps when it hands out its chunks; a box that has handed them out for good keeps nothing of them
+-- what a lawful box keeps when it hands out its chunks; a box that has handed them out for good
+-- keeps nothing of them
 abbrev pub KeepsUnlessOut : BoxPicture → BoxPicture → Type 0
 KeepsUnlessOut p q = q.work.handed_out ≡ false → KeepsSame p q

@@ -1,5 +1,5 @@
--- Graphs of processors: each node has a rank, each edge goes from a lower rank to a higher one, and the ports of a node that are in use have
--- one edge each and are numbered from 0 without a gap.
+-- Graphs of processors: each node has a rank, each edge goes from a lower rank to a higher one, and
+-- the ports of a node that are in use have one edge each and are numbered from 0 without a gap.
 use Rattle.std.specs.Prelude.{◌&&◌, ◌+◌, ◌<◌, ◌==◌, ◌||◌, ◌≡◌, ◌≤◌}
 use Rattle.proc_api.specs.Prelude.{Bool, List, Reserve, Wire, count_by, length, list_all, list_any, not, slice_index_or, suc, sum_by, true, zero, ℕ}
 use Rattle.proc_api.specs.Settled.{wire_at}
@@ -38,7 +38,8 @@ follows_outputs wires n w = not (w.from == n) || all_below (has_output wires n) 
 
 -- whether each port of the node below one in use is in use too
 abbrev pub is_gapless : List Wire → ℕ → Bool
-is_gapless wires n = list_all (follows_inputs wires n) wires && list_all (follows_outputs wires n) wires
+is_gapless wires n =
+    list_all (follows_inputs wires n) wires && list_all (follows_outputs wires n) wires
 
 -- the edges that are kept for nodes that grow
 abbrev pub reserved_edges : List Reserve → ℕ
@@ -52,13 +53,17 @@ pub record IsEdge (ranks : List ℕ) (w : Wire) : Type 0 where
   pub few_inputs : w.input < 32
   pub few_outputs : w.out < 16
 
--- A graph to which edges may still be added: two edges at one port are one edge. What is kept for growth counts among the edges.
-pub record IsGraphSoFar (ranks : List ℕ) (wires : List Wire) (reserves : List Reserve) : Type 0 where
+-- A graph to which edges may still be added: two edges at one port are one edge. What is kept for
+-- growth counts among the edges.
+pub record IsGraphSoFar (ranks : List ℕ) (wires : List Wire)
+    (reserves : List Reserve) : Type 0 where
   pub few_nodes : length ranks ≤ 256
   pub few_edges : length wires + reserved_edges reserves ≤ 1024
   pub edges : (e : ℕ) → e < length wires → IsEdge ranks (wire_at wires e)
-  pub inputs_once : (e f : ℕ) → e < length wires → f < length wires → (wire_at wires e).to ≡ (wire_at wires f).to → (wire_at wires e).input ≡ (wire_at wires f).input → e ≡ f
-  pub outputs_once : (e f : ℕ) → e < length wires → f < length wires → (wire_at wires e).from ≡ (wire_at wires f).from → (wire_at wires e).out ≡ (wire_at wires f).out → e ≡ f
+  pub inputs_once : (e f : ℕ) → e < length wires → f < length wires → (wire_at wires e).to
+      ≡ (wire_at wires f).to → (wire_at wires e).input ≡ (wire_at wires f).input → e ≡ f
+  pub outputs_once : (e f : ℕ) → e < length wires → f < length wires → (wire_at wires e).from
+      ≡ (wire_at wires f).from → (wire_at wires e).out ≡ (wire_at wires f).out → e ≡ f
 
 -- a graph
 pub record IsGraph (ranks : List ℕ) (wires : List Wire) (reserves : List Reserve) : Type 0 where

@@ -1,4 +1,5 @@
--- What a processor pulled and pushed: the list of chunks of each port, and what one call adds to it.
+-- What a processor pulled and pushed: the list of chunks of each port, and what one call adds to
+-- it.
 use Rattle.std.specs.Prelude.{◌++◌, ◌+◌, ◌-◌, ◌==◌, ◌^◌, ◌∷◌}
 use Rattle.proc_api.specs.Prelude.{Action, Close, Finish, List, None, Option, Picture, Pull, Push, Row, Some, Table, Unwant, Want, [], cond, flat_map, input_at, length, min, output_at, suc, zero, ℕ}
 
@@ -26,14 +27,16 @@ pulled_at before after i = taken_out (input_at before i).chunk (input_at after i
 -- the chunks that a list of actions pushes to an output
 unfoldable pub pushes_to : ℕ → List Action → List Table
 pushes_to o [] = []
-pushes_to o (Push j chunk ∷ actions) = cond (o == j) (chunk ∷ pushes_to o actions) (pushes_to o actions)
+pushes_to o (Push j chunk ∷ actions) =
+    cond (o == j) (chunk ∷ pushes_to o actions) (pushes_to o actions)
 pushes_to o (Want j ∷ actions) = pushes_to o actions
 pushes_to o (Unwant j ∷ actions) = pushes_to o actions
 pushes_to o (Pull j ∷ actions) = pushes_to o actions
 pushes_to o (Close j ∷ actions) = pushes_to o actions
 pushes_to o (Finish j ∷ actions) = pushes_to o actions
 
--- What was pushed to an output between two pictures of a view. A push that is among the actions of the first shows as data there.
+-- What was pushed to an output between two pictures of a view. A push that is among the actions of
+-- the first shows as data there.
 abbrev pub pushed_at : Picture → Picture → ℕ → List Table
 pushed_at before after o = cond (output_at before o).has_data [] (pushes_to o after.actions)
 

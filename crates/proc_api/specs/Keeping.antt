@@ -1,8 +1,10 @@
--- The processor contract: what a box keeps of the chunks that it pulled and pushed, by cases on its spec.
+-- The processor contract: what a box keeps of the chunks that it pulled and pushed, by cases on its
+-- spec.
 use Rattle.std.specs.Prelude.{◌++◌, ◌<◌, ◌∷◌, ◌≡◌, ◌≤◌, ◌⊎◌}
-use Rattle.proc_api.specs.Prelude.{All, ColumnType, Cond, Expr, Files, IsItem, IsTypedCond, JoinSpec, KeyPair, List, None, Option, PartSpec, Row, Some, SortKey, SortSpec, Spec, Table, [], bad_place, drop, enough, false, file_bytes, filter, good_rows, holds, is_in_finished, item_row, length, map, max, part_records, slice_index_or, suc, true, type_of, zero, ℕ, ⊤}
+use Rattle.proc_api.specs.Prelude.{All, ColumnType, Cond, Expr, IsItem, IsTypedCond, JoinSpec, KeyPair, List, None, Option, PartSpec, Prepared, Row, Some, SortKey, SortSpec, Spec, Status, Table, [], bad_place, drop, enough, false, filter, good_rows, holds, is_in_finished, item_row, length, map, max, no_flags, part_records, slice_index_or, suc, true, type_of, zero, ℕ, ⊤}
 use Rattle.query_model.specs.declared.processor_spec.Spec.TheVariants as spec
-use Rattle.proc_api.specs.Boxes.{BoxPicture, PortFlags, WorkState, idle_work, kept_input, kept_output, kept_inputs, kept_outputs}
+use Rattle.proc_api.specs.Boxes.{BoxPicture, PortFlags, WorkState, file_of, idle_work, kept_input, kept_output, kept_inputs, kept_outputs, kept_ports}
+use Rattle.proc_api.specs.Growing.{ArePartBytes, KnowsList}
 use Rattle.proc_api.specs.Histories.{Lists, chunk_rows, total_rows, last_count}
 use Rattle.proc_api.specs.Made.{HasMade, HasNotedEnd, NotesEnd, group_types, own_of, partial_types, unworked_at}
 use Rattle.proc_api.specs.Ports.{ArePortsOf, is_ended}
@@ -14,10 +16,13 @@ pub record AreLastPulled (unworked ins : List Table) : Type 0 where
   pub worked : ℕ
   pub are : unworked ≡ drop worked ins
 
--- The rows of out, those that wait to be pushed, and what is made of the rows not yet worked, are what is made of the rows of in. Once it has
--- itself finished its output, nothing waits and nothing is unworked.
-pub record KeepsThrough (make : List Row → List Row) (p : BoxPicture) (ins outs : Lists) : Type 0 where
-  pub rows : chunk_rows (outs 0) ++ (chunk_rows p.work.made ++ make (chunk_rows p.work.unworked)) ≡ make (chunk_rows (ins 0))
+-- The rows of out, those that wait to be pushed, and what is made of the rows not yet worked, are
+-- what is made of the rows of in. Once it has itself finished its output, nothing waits and nothing
+-- is unworked.
+pub record KeepsThrough (make : List Row → List Row) (p : BoxPicture)
+    (ins outs : Lists) : Type 0 where
+  pub rows : chunk_rows (outs 0) ++ (chunk_rows p.work.made ++ make (chunk_rows p.work.unworked))
+      ≡ make (chunk_rows (ins 0))
   pub nothing_waits : (kept_output p 0).fin_out ≡ true → p.work.made ≡ []
   pub all_worked : (kept_output p 0).fin_out ≡ true → p.work.unworked ≡ []
   pub last : AreLastPulled p.work.unworked (ins 0)
@@ -27,16 +32,13 @@ pub record KeepsCollect (p : BoxPicture) (ins : Lists) : Type 0 where
   pub gathered : p.work.handed_out ≡ false → p.work.gathered ≡ ins 0
   pub last : AreLastPulled p.work.unworked (ins 0)
 
--- the bytes of a part: those of its file, where files are told, and else any
-abbrev pub ArePartBytes : Option Files → List ℕ → List ℕ → Type 0
-ArePartBytes None path bytes = ⊤
-ArePartBytes (Some files) path bytes = file_bytes files path ≡ Some bytes
-
--- the rows of out, those that wait and those not yet made are the good rows of the part, and its bad place is known
+-- the rows of out, those that wait and those not yet made are the good rows of the part, and its
+-- bad place is known
 pub record KeepsPartRows (part : PartSpec) (p : BoxPicture) (out : List Row) : Type 0 where
   pub bytes : List ℕ
   pub are : ArePartBytes p.files part.path bytes
-  pub rows : out ++ (chunk_rows p.work.made ++ p.work.unmade) ≡ good_rows part.types (part_records part.header bytes)
+  pub rows : out ++ (chunk_rows p.work.made ++ p.work.unmade)
+      ≡ good_rows part.types (part_records part.header bytes)
   pub bad : p.work.bad ≡ bad_place 1 part.types (part_records part.header bytes)
 
 -- no row was made so far
@@ -53,14 +55,15 @@ pub record HasPushedPart (p : BoxPicture) : Type 0 where
   pub all_made : p.work.unmade ≡ []
   pub valid : p.work.bad ≡ None
 
--- A source gives the good rows of its part, those before its first bad place. Once it has itself finished its output they are all pushed, and the
--- part is valid.
+-- A source gives the good rows of its part, those before its first bad place. Once it has itself
+-- finished its output they are all pushed, and the part is valid.
 pub record KeepsPart (part : PartSpec) (p : BoxPicture) (outs : Lists) : Type 0 where
   pub before : p.work.fetched ≡ false → HasMadeNothing p (chunk_rows (outs 0))
   pub fetched : p.work.fetched ≡ true → KeepsPartRows part p (chunk_rows (outs 0))
   pub finished : (kept_output p 0).fin_out ≡ true → HasPushedPart p
 
--- Once it has itself finished an output nothing waits, nothing is unworked, and nothing can be made.
+-- Once it has itself finished an output nothing waits, nothing is unworked, and nothing can be
+-- made.
 pub record IsOver (s : Spec) (w : WorkState) : Type 0 where
   pub nothing_waits : w.made ≡ []
   pub all_worked : w.unworked ≡ []
@@ -74,16 +77,28 @@ pub record KeepsMade (s : Spec) (p : BoxPicture) (ins outs : Lists) : Type 0 whe
   pub rows : HasMade s (own_of p.work) worked outs (chunk_rows p.work.made)
   pub over : (o : ℕ) → (kept_output p o).fin_out ≡ true → IsOver s p.work
 
--- The rows that a box keeps: a filter gives the rows at which its condition is true, an expression the row of its
--- items' values for each row, and the kinds that aren't named here what `HasMade` says. Nothing is asked yet of a
--- list of parts.
+-- A valid list is fetched, and each of its paths has its input.
+pub record HasReadList (p : BoxPicture) : Type 0 where
+  pub fetched : p.work.fetched ≡ true
+  pub valid : p.work.bad_line ≡ None
+  pub inputs : kept_inputs p ≡ length p.work.paths
+
+-- A list of parts grows by a source for each path, and passes on what these give.
+pub record KeepsList (list : PartSpec) (p : BoxPicture) (ins outs : Lists) : Type 0 where
+  pub knows : KnowsList list p.files (file_of p)
+  pub made : KeepsMade (spec.List list) p ins outs
+  pub finished : (o : ℕ) → (kept_output p o).fin_out ≡ true → HasReadList p
+
+-- The rows that a box keeps: a filter gives the rows at which its condition is true, an expression
+-- the row of its items' values for each row, and the kinds that aren't named here what `HasMade`
+-- says.
 abbrev pub KeepsRows : Option Spec → BoxPicture → Lists → Lists → Type 0
 KeepsRows None p ins outs = ⊤
 KeepsRows (Some (spec.Csv part)) p ins outs = KeepsPart part p outs
 KeepsRows (Some (spec.Filter c)) p ins outs = KeepsThrough (filter (holds c)) p ins outs
 KeepsRows (Some (spec.Expression items)) p ins outs = KeepsThrough (map (item_row items)) p ins outs
 KeepsRows (Some spec.Collect) p ins outs = KeepsCollect p ins
-KeepsRows (Some (spec.List list)) p ins outs = ⊤
+KeepsRows (Some (spec.List list)) p ins outs = KeepsList list p ins outs
 KeepsRows (Some s) p ins outs = KeepsMade s p ins outs
 
 -- ---- what fits
@@ -114,8 +129,8 @@ pub record FitsJoin (join : JoinSpec) (i : ℕ) (types : List ColumnType) : Type
   pub types_are : types ≡ side_types join i
   pub pairs_within : AreKeyPairs join
 
--- Chunks of these types fit an input of the spec: they are the types that it gives, or type its condition, expressions and columns. A
--- Resize and a Limit take every chunk, and so does so far a list of parts.
+-- Chunks of these types fit an input of the spec: they are the types that it gives, or type its
+-- condition, expressions and columns. A Resize and a Limit take every chunk.
 abbrev pub FitsInput : Option Spec → ℕ → List ColumnType → Type 0
 FitsInput (Some (spec.Filter c)) i types = IsTypedCond types c
 FitsInput (Some (spec.Expression items)) i types = All (IsItem types) items
@@ -125,7 +140,7 @@ FitsInput (Some (spec.Numbers n rows)) i types = ⊤
 FitsInput (Some spec.Resize) i types = ⊤
 FitsInput (Some (spec.Limit span)) i types = ⊤
 FitsInput (Some spec.Collect) i types = ⊤
-FitsInput (Some (spec.List list)) i types = ⊤
+FitsInput (Some (spec.List list)) i types = types ≡ list.types
 FitsInput (Some (spec.PartialAggregate groups)) i types = types ≡ partial_types groups
 FitsInput (Some (spec.MergeAggregate groups)) i types = types ≡ group_types groups
 FitsInput (Some (spec.HashJoin join)) i types = FitsJoin join i types
@@ -158,8 +173,8 @@ pub record IsMadeOfPulled (items : List Expr) (ins : Lists) (types : List Column
   pub fits : All (IsItem from) items
   pub is : types ≡ map (λ e. type_of e from) items
 
--- Chunks of these types may be pushed: they are the types of the rows that the spec makes, or of a chunk that was
--- pulled and fits, where rows are passed on as they are. Nothing is asked yet of a list of parts.
+-- Chunks of these types may be pushed: they are the types of the rows that the spec makes, or of a
+-- chunk that was pulled and fits, where rows are passed on as they are.
 abbrev pub MakesTypes : Option Spec → Lists → List ColumnType → Type 0
 MakesTypes (Some (spec.Csv part)) ins types = types ≡ part.types
 MakesTypes (Some (spec.Filter c)) ins types = IsFitPulled c ins types
@@ -169,7 +184,7 @@ MakesTypes (Some spec.Resize) ins types = IsPulled ins types
 MakesTypes (Some (spec.Limit span)) ins types = IsPulled ins types
 MakesTypes None ins types = ⊤
 MakesTypes (Some spec.Collect) ins types = ⊤
-MakesTypes (Some (spec.List list)) ins types = ⊤
+MakesTypes (Some (spec.List list)) ins types = types ≡ list.types
 MakesTypes (Some (spec.PartialAggregate groups)) ins types = types ≡ group_types groups
 MakesTypes (Some (spec.MergeAggregate groups)) ins types = types ≡ group_types groups
 MakesTypes (Some (spec.HashJoin join)) ins types = types ≡ join.left ++ join.right
@@ -253,31 +268,56 @@ pub record IsJoinWork (w : WorkState) : Type 0 where
 
 -- what a kind doesn't use of the state is idle
 abbrev pub IsWorkOf : Option Spec → WorkState → Type 0
-IsWorkOf (Some (spec.Csv part)) w = w ≡ record idle_work { made = w.made; unmade = w.unmade; opened = w.opened; fetched = w.fetched; bad = w.bad }
+IsWorkOf (Some (spec.Csv part)) w = w ≡ record idle_work
+    { made = w.made; unmade = w.unmade; opened = w.opened; fetched = w.fetched; bad = w.bad }
 IsWorkOf (Some (spec.Filter c)) w = w ≡ record idle_work { unworked = w.unworked; made = w.made }
-IsWorkOf (Some (spec.Expression items)) w = w ≡ record idle_work { unworked = w.unworked; made = w.made }
-IsWorkOf (Some spec.Collect) w = w ≡ record idle_work { unworked = w.unworked; gathered = w.gathered; handed_out = w.handed_out }
+IsWorkOf (Some (spec.Expression items)) w =
+    w ≡ record idle_work { unworked = w.unworked; made = w.made }
+IsWorkOf (Some spec.Collect) w =
+    w ≡ record idle_work { unworked = w.unworked; gathered = w.gathered; handed_out = w.handed_out }
 IsWorkOf (Some (spec.Numbers n rows)) w =
-    w ≡ record idle_work { unworked = w.unworked; source = w.source; made = w.made; unmade = w.unmade }
-IsWorkOf (Some spec.Resize) w = w ≡ record idle_work { unworked = w.unworked; source = w.source; made = w.made }
-IsWorkOf (Some (spec.Limit span)) w = w ≡ record idle_work { unworked = w.unworked; made = w.made; read = w.read }
+    w ≡ record idle_work
+    { unworked = w.unworked; source = w.source; made = w.made; unmade = w.unmade }
+IsWorkOf (Some spec.Resize) w =
+    w ≡ record idle_work { unworked = w.unworked; source = w.source; made = w.made }
+IsWorkOf (Some (spec.Limit span)) w =
+    w ≡ record idle_work { unworked = w.unworked; made = w.made; read = w.read }
 IsWorkOf None w = ⊤
-IsWorkOf (Some (spec.List list)) w = ⊤
+IsWorkOf (Some (spec.List list)) w =
+    w ≡ record (moved_work w) {
+      unmade = w.unmade;
+      opened = w.opened;
+      fetched = w.fetched;
+      paths = w.paths;
+      bad_line = w.bad_line;
+    }
 IsWorkOf (Some (spec.PartialAggregate groups)) w = IsGatheringWork w
 IsWorkOf (Some (spec.MergeAggregate groups)) w = IsGatheringWork w
 IsWorkOf (Some (spec.HashJoin join)) w = IsJoinWork w
 IsWorkOf (Some (spec.Sort order)) w = IsGatheringWork w
-IsWorkOf (Some (spec.MergeSorted order)) w = w ≡ record (moved_work w) { unmade = w.unmade; heads = w.heads }
+IsWorkOf (Some (spec.MergeSorted order)) w =
+    w ≡ record (moved_work w) { unmade = w.unmade; heads = w.heads }
 
--- the kept view had the ports of the spec, as they were before or after its growth
+-- the processor has finished no output by itself, and closed no input
+pub record AreOpen (ports : PortFlags) : Type 0 where
+  pub outputs : (o : ℕ) → (slice_index_or ports.outputs o no_flags).fin_out ≡ false
+  pub inputs : (i : ℕ) → (slice_index_or ports.inputs i no_flags).fin_in ≡ false
+
+-- The kept view had the ports of the spec and growth, or those from before the growth, each open.
 abbrev pub HadPorts : Option PortFlags → BoxPicture → Type 0
 HadPorts None p = ⊤
-HadPorts (Some ports) p = ArePortsOf p.spec None (length ports.inputs) (length ports.outputs) ⊎ ArePortsOf p.spec p.growth (length ports.inputs) (length ports.outputs)
+HadPorts (Some ports) p =
+    ArePortsOf p.spec p.growth (length ports.inputs) (length ports.outputs)
+    ⊎ (ArePortsOf p.spec None (length ports.inputs) (length ports.outputs) × AreOpen ports)
 
--- What a box keeps of the chunks that it pulled and pushed so far, as long as its views have the ports of its spec and growth. Which ports are
--- finished or closed is as the flags say that it keeps of the view that its last `prepare` left.
+-- What a box keeps of the chunks that it pulled and pushed so far, as long as its views have the
+-- ports of its spec and growth. Which ports are finished or closed is as the flags say that it
+-- keeps of the view that its last `prepare` left.
 pub record Keeps (p : BoxPicture) (ins outs : Lists) : Type 0 where
   pub ports : HadPorts p.notes.view p
+  -- as long as it asks to grow, each port is open
+  pub opens : p.notes.answer ≡ Some (Prepared Status.ExpandPipeline)
+      → AreOpen (kept_ports p.notes.view)
   pub idle : IsWorkOf p.spec p.work
   -- what its kind keeps, as long as each chunk that was pulled fits
   pub rows : AllFit p.spec ins → KeepsRows p.spec p ins outs
@@ -291,8 +331,10 @@ pub record Keeps (p : BoxPicture) (ins outs : Lists) : Type 0 where
   -- the count of pulled rows rose by the rows of its inputs, or stands at its last value
   pub counted : (p.notes.pulled ≡ total_rows 32 ins) ⊎ (p.pulled ≡ last_count)
   -- an output that it finished by itself
-  pub finishes : (o : ℕ) → (kept_output p o).fin_out ≡ true → AllInputsEnded p ⊎ HasReadEnough p.spec ins
+  pub finishes : (o : ℕ) → (kept_output p o).fin_out ≡ true
+      → AllInputsEnded p ⊎ HasReadEnough p.spec ins
   -- an input that it closed
-  pub closes : (i : ℕ) → (kept_input p i).fin_in ≡ true → AllOutputsClosed p ⊎ HasReadEnough p.spec ins
+  pub closes : (i : ℕ) → (kept_input p i).fin_in ≡ true
+      → AllOutputsClosed p ⊎ HasReadEnough p.spec ins
   -- an input of which it has noted the end
   pub noted : (i : ℕ) → MayBeInput p.notes.view i → NotesEnd p.spec (own_of p.work) i → IsReadUp p i

@@ -3,11 +3,13 @@ pub mod Settled
 pub mod Graphs
 pub mod Forms
 pub mod Boxes
+pub mod Growing
 pub mod Histories
 pub mod Grouped
 pub mod Made
 pub mod Ports
 pub mod Keeping
 pub mod Clauses
+pub mod Reserves
 pub mod Racks
 pub mod Names

@@ -45,10 +45,12 @@ last_read = 2 ^ 128 - 1
 abbrev pub IsFirstAlone : Lists → Type 0
 IsFirstAlone lists = (i : ℕ) → 0 < i → lists i ≡ []
 
--- Rows are passed on as they are, each as often. Where one input gives all and one output takes all, in order.
+-- Rows are passed on as they are, each as often. Where one input gives all and one output takes
+-- all, in order.
 pub record AreResized (worked outs : Lists) (wait : List Row) : Type 0 where
   pub same_rows : IsPermutation (all_rows 32 worked) (all_rows 16 outs ++ wait)
-  pub in_order : IsFirstAlone worked → IsFirstAlone outs → chunk_rows (outs 0) ++ wait ≡ chunk_rows (worked 0)
+  pub in_order : IsFirstAlone worked → IsFirstAlone outs
+      → chunk_rows (outs 0) ++ wait ≡ chunk_rows (worked 0)
 
 -- the rows of the span
 pub record AreLimited (span : Span) (rows made : List Row) (read : ℕ) : Type 0 where
@@ -86,15 +88,14 @@ pub record AreGathering (types : List ColumnType) (groups : List Row → List Ro
 
 -- The groups are gathered until the end is noted. From then on the rows that are made and those
 -- that can be made are what is made of all rows, in some order.
-pub record AreGrouped (types : List ColumnType) (groups whole : List Row → List Row) (own : OwnState)
-    (rows made : List Row)
-    : Type 0 where
+pub record AreGrouped (types : List ColumnType) (groups whole : List Row → List Row)
+    (own : OwnState) (rows made : List Row) : Type 0 where
   pub gathering : own.ended ≡ false → AreGathering types groups own rows made
   pub grouped : own.ended ≡ true → IsPermutation (whole rows) (made ++ own.unmade)
 
--- The rows of input 1 are gathered until its end is noted, and until then none of input 0 is worked.
--- From then on the rows that are made, and those that can be made, are the pairs that agree, each as
--- often.
+-- The rows of input 1 are gathered until its end is noted, and until then none of input 0 is
+-- worked. From then on the rows that are made, and those that can be made, are the pairs that
+-- agree, each as often.
 pub record AreJoined (pairs : List KeyPair) (own : OwnState) (left right made : List Row)
     : Type 0 where
   pub gathered_are : chunk_rows own.gathered ≡ right
@@ -150,18 +151,20 @@ pub record AreMerged (keys : List SortKey) (heads : List InputHead) (worked : Li
   pub held_back : 0 < length made → (i : ℕ) → i < 32
       → HeldBack keys (head_at heads i) (chunk_rows (worked i)) made
 
--- What a kind has made of its inputs: its own state, the chunks of each input that it worked, those that left by each
--- output, and the rows that wait.
+-- What a kind has made of its inputs: its own state, the chunks of each input that it worked, those
+-- that left by each output, and the rows that wait.
 abbrev pub HasMade : Spec → OwnState → (worked outs : Lists) → (wait : List Row) → Type 0
-HasMade (spec.Numbers n rows) own worked outs wait = (chunk_rows (outs 0) ++ wait) ++ own.unmade ≡ (numbers n).rows
-HasMade (spec.Filter c) own worked outs wait = chunk_rows (outs 0) ++ wait ≡ filter (holds c) (chunk_rows (worked 0))
+HasMade (spec.Numbers n rows) own worked outs wait =
+    (chunk_rows (outs 0) ++ wait) ++ own.unmade ≡ (numbers n).rows
+HasMade (spec.Filter c) own worked outs wait =
+    chunk_rows (outs 0) ++ wait ≡ filter (holds c) (chunk_rows (worked 0))
 HasMade (spec.Expression items) own worked outs wait =
     chunk_rows (outs 0) ++ wait ≡ map (item_row items) (chunk_rows (worked 0))
 HasMade spec.Resize own worked outs wait = (own.unmade ≡ []) × AreResized worked outs wait
 HasMade (spec.Limit span) own worked outs wait =
     AreLimited span (chunk_rows (worked 0)) (chunk_rows (outs 0) ++ wait) own.read
 HasMade (spec.Csv part) own worked outs wait = ⊤
-HasMade (spec.List list) own worked outs wait = ⊤
+HasMade (spec.List list) own worked outs wait = AreResized worked outs (wait ++ own.unmade)
 HasMade (spec.PartialAggregate groups) own worked outs wait =
     AreGrouped (partial_types groups) (partial_rows groups) (partial_rows groups) own
     (chunk_rows (worked 0)) (chunk_rows (outs 0) ++ wait)

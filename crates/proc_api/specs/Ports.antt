@@ -1,4 +1,5 @@
--- The ports of a processor, by its spec and its growth, and the view that it may be prepared against.
+-- The ports of a processor, by its spec and its growth, and the view that it may be prepared
+-- against.
 use Rattle.std.specs.Prelude.{◌&&◌, ◌<◌, ◌≡◌, ◌≤◌}
 use Rattle.proc_api.specs.Prelude.{Bool, ChangedByCalls, Edge, Flags, Me, New, None, Option, Picture, Some, Spec, Who, can_push, count_by, false, holds_data, in_count, input_at, is_out_finished, length, not, out_count, output_at, true, ℕ, ⊤}
 use Rattle.proc_api.specs.Histories.{pushes_to}
@@ -16,7 +17,8 @@ grown_inputs (Some g) = count_by (λ (e : Edge). is_me e.to.who) g.edges
 abbrev pub AreCounts : (inputs outputs m n : ℕ) → Type 0
 AreCounts inputs outputs m n = (inputs ≡ m) × (outputs ≡ n)
 
--- So many inputs and outputs are the ports of the spec and the growth. Where the spec fixes no number, any will do; a Resize has an output.
+-- So many inputs and outputs are the ports of the spec and the growth. Where the spec fixes no
+-- number, any will do; a Resize has an output.
 abbrev pub ArePortsOf : Option Spec → Option GrowthForm → (inputs outputs : ℕ) → Type 0
 ArePortsOf None growth i o = ⊥
 ArePortsOf (Some (Spec.Csv part)) growth i o = AreCounts i o 0 1
@@ -40,7 +42,8 @@ HasPorts p v = ArePortsOf p.spec p.growth (in_count v) (out_count v)
 -- as many ports as the last view had
 abbrev pub AreAsKept : Option PortFlags → (inputs outputs : ℕ) → Type 0
 AreAsKept None inputs outputs = ⊤
-AreAsKept (Some ports) inputs outputs = AreCounts inputs outputs (length ports.inputs) (length ports.outputs)
+AreAsKept (Some ports) inputs outputs =
+    AreCounts inputs outputs (length ports.inputs) (length ports.outputs)
 
 -- where the spec fixes no number of ports, it is that of the last view
 abbrev pub StandStill : Option Spec → Option PortFlags → (inputs outputs : ℕ) → Type 0
@@ -55,7 +58,8 @@ pub record StaysFit (p : BoxPicture) (v : Picture) : Type 0 where
   pub ports : HasPorts p v
   pub still : StandStill p.spec p.notes.view (in_count v) (out_count v)
 
--- An input as it may be seen after it had these flags: the node's own bits stay, a finished flag stays, and a chunk stays until it is pulled.
+-- An input as it may be seen after it had these flags: the node's own bits stay, a finished flag
+-- stays, and a chunk stays until it is pulled.
 pub record InputFollows (kept seen : Flags) : Type 0 where
   pub needed : seen.needed ≡ kept.needed
   pub fin_in : seen.fin_in ≡ kept.fin_in
@@ -68,8 +72,9 @@ pub record OutputFollows (kept seen : Flags) : Type 0 where
   pub fin_out : seen.fin_out ≡ kept.fin_out
   pub fin_in : kept.fin_in ≡ true → seen.fin_in ≡ true
 
--- The view is the one that the last `prepare` left, but for what its actions' carrying out, `see` and `grow` changed; before the first
--- `prepare` it is a new one. A port that was added since is as a new one.
+-- The view is the one that the last `prepare` left, but for what its actions' carrying out, `see`
+-- and `grow` changed; before the first `prepare` it is a new one. A port that was added since is as
+-- a new one.
 pub record FollowsKept (p : BoxPicture) (v : Picture) : Type 0 where
   pub inputs_stay : kept_inputs p ≤ in_count v
   pub outputs_stay : kept_outputs p ≤ out_count v
@@ -91,7 +96,8 @@ AllOutputsFinished v = (o : ℕ) → o < out_count v → is_out_finished (output
 
 -- no output that isn't finished has room
 abbrev pub HasNoRoom : Picture → Type 0
-HasNoRoom v = (o : ℕ) → o < out_count v → is_out_finished (output_at v o) ≡ false → can_push (output_at v o) ≡ false
+HasNoRoom v = (o : ℕ) → o < out_count v → is_out_finished (output_at v o) ≡ false
+    → can_push (output_at v o) ≡ false
 
 -- there is room at an output that isn't finished
 pub record HasRoom (v : Picture) : Type 0 where

@@ -19,6 +19,7 @@ pub use Rattle.proc_api.specs.declared.status.Status.{Status}
 pub use Rattle.proc_api.specs.declared.status.Wake.{Wake}
 pub use Rattle.proc_api.specs.declared.status.WorkFault.{WorkFault}
 pub use Rattle.query_model.specs.Names.{Cond, Expr, Files, Formula, IsItem, IsTypedCond, bad_line_in, combine_of, enough, file_bytes, formula, groups, groups_or_default, holds, item_row, joined_rows, kind_of, limited, merged_groups, numbers, part_bad_place}
+pub use Rattle.query_model.specs.Database.{paths_in}
 pub use Rattle.query_model.specs.Prelude.{ColumnType, SortKey, is_lt}
 pub use Rattle.query_model.specs.declared.checked.KeyPair.{KeyPair}
 pub use Rattle.query_model.specs.declared.places.BadPlace.{BadPlace}

@@ -1,7 +1,8 @@
 use chunk_data::List;
 use query_model::processor_spec::Spec;
 
-/// An end of an edge: the processor that grows, or one of the new nodes, by its place in the growth.
+/// An end of an edge: the processor that grows, or one of the new nodes, by its place in the
+/// growth.
 #[derive(Clone, Copy, Debug, PartialEq, Eq)]
 pub enum Who {
     Me,

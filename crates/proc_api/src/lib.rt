@@ -1,4 +1,5 @@
-//! What processors and executors agree on: the trait of processors, what each kind keeps of its rows, and the rack.
+//! What processors and executors agree on: the trait of processors, what each kind keeps of its
+//! rows, and the rack.
 #![tactic(auto)]
 
 mod growth;

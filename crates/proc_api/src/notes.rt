@@ -7,8 +7,8 @@ use port_word::{Flags, PortView};
 use std::alloc::Global;
 use std::marker::Model;
 
-/// What a processor keeps from `load` on beside its state, but for the count of pulled rows, which outlives a load.
-/// It takes its room at once, so that `prepare` needs none.
+/// What a processor keeps from `load` on beside its state, but for the count of pulled rows, which
+/// outlives a load. It takes its room at once, so that `prepare` needs none.
 #[derive(Debug, Drop)]
 pub struct BoxNotes {
     viewed: bool,
@@ -37,7 +37,8 @@ impl Model for BoxNotes {
       answer = n.answer;
       acted = n.acted;
       fault = n.fault;
-      view = if n.viewed then Some (record { inputs = n.inputs.items; outputs = n.outputs.items }) else None;
+      view = if n.viewed
+          then Some (record { inputs = n.inputs.items; outputs = n.outputs.items }) else None;
       fits = n.fits;
     } };
 
@@ -66,7 +67,8 @@ impl BoxNotes {
 
     /// Keeps the flags of the view that a `prepare` leaves, and its answer.
     pub fn note_view(&mut self, view: &PortView, status: Status)
-        ensures { self.new ≡ record self.old { view = Some (port_flags view.now); answer = Some (Prepared status); acted = false } }
+        ensures { self.new ≡ record self.old
+            { view = Some (port_flags view.now); answer = Some (Prepared status); acted = false } }
     {
         copy_inputs(&mut self.inputs, view);
         copy_outputs(&mut self.outputs, view);

@@ -7,15 +7,18 @@ use chunk_data::Chunk;
 use port_word::PortView;
 use query_model::processor_spec::{Kind, Spec};
 
-/// A processor of rows, as in ClickHouse's `IProcessor`: chunks come to its inputs and leave by its outputs.
+/// A processor of rows, as in ClickHouse's `IProcessor`: chunks come to its inputs and leave by its
+/// outputs.
 ///
-/// A blank one is loaded with what it is to do. Then `prepare` moves chunks between it and the view of its ports
-/// and says what comes next, and `work`, `schedule` and `expand` do it without touching a port. After a fault only
-/// `kind`, `take_rows` and `unload` may be called, and after a Collect's rows were taken only `kind` and `unload`.
+/// A blank one is loaded with what it is to do. Then `prepare` moves chunks between it and the view
+/// of its ports and says what comes next, and `work`, `schedule` and `expand` do it without
+/// touching a port. After a fault only `kind`, `take_rows` and `unload` may be called, and after a
+/// Collect's rows were taken only `kind` and `unload`.
 pub trait Processor: Drop + Send {
     ghost seen: { Self → BoxPicture };
 
-    /// Where its reader stands: a path, and the place in its file; none where it has no reader, or that is shut.
+    /// Where its reader stands: a path, and the place in its file; none where it has no reader, or
+    /// that is shut.
     ghost stands: { Self → Option (List ℕ × ℕ) };
 
     /// The kind of processor, which never changes.
@@ -38,7 +41,8 @@ pub trait Processor: Drop + Send {
         ensures pulled { PulledOn (seen self.old) (seen self.new) }
         ensures changed { ChangedByCalls view.old view.new }
         ensures notes { NotesView (seen self.old) (seen self.new) view.new result }
-        ensures lawful { IsTrue (seen self.old).lawful → PreparesLawfully (seen self.old) view.old (seen self.new) view.new result };
+        ensures lawful { IsTrue (seen self.old).lawful
+            → PreparesLawfully (seen self.old) view.old (seen self.new) view.new result };
 
     /// Works on what was pulled, or makes rows that can be pushed; once an answer.
     fn work(&mut self) -> Result<(), WorkFault>
@@ -50,7 +54,8 @@ pub trait Processor: Drop + Send {
         ensures pulled { SamePulled (seen self.old) (seen self.new) }
         ensures ok { OnOk result (Works (seen self.old) (seen self.new)) }
         ensures fault { IfErr result (λ f. Faults f (seen self.old) (seen self.new)) }
-        ensures limits { IsTrue (seen self.old).lawful → KeepsLimits (seen self.old) (seen self.new) };
+        ensures limits { IsTrue (seen self.old).lawful
+            → KeepsLimits (seen self.old) (seen self.new) };
 
     /// Makes one step of work with a device.
     fn schedule(&mut self) -> Result<Wake, WorkFault>
@@ -61,7 +66,8 @@ pub trait Processor: Drop + Send {
         ensures pulled { SamePulled (seen self.old) (seen self.new) }
         ensures ok { IfOk result (λ wake. Schedules wake (seen self.old) (seen self.new)) }
         ensures fault { IfErr result (λ f. Faults f (seen self.old) (seen self.new)) }
-        ensures limits { IsTrue (seen self.old).lawful → KeepsLimits (seen self.old) (seen self.new) };
+        ensures limits { IsTrue (seen self.old).lawful
+            → KeepsLimits (seen self.old) (seen self.new) };
 
     /// Says by what the graph is to grow; once an answer.
     fn expand(&mut self) -> Result<Growth, WorkFault>
@@ -73,7 +79,8 @@ pub trait Processor: Drop + Send {
         ensures pulled { SamePulled (seen self.old) (seen self.new) }
         ensures ok { IfOk result (λ growth. Expands growth (seen self.old) (seen self.new)) }
         ensures fault { IfErr result (λ f. Faults f (seen self.old) (seen self.new)) }
-        ensures limits { IsTrue (seen self.old).lawful → KeepsLimits (seen self.old) (seen self.new) };
+        ensures limits { IsTrue (seen self.old).lawful
+            → KeepsLimits (seen self.old) (seen self.new) };
 
     /// The chunks that a Collect has gathered, in order; none of any other kind.
     fn take_rows(&mut self) -> Vec<Chunk>
@@ -83,7 +90,8 @@ pub trait Processor: Drop + Send {
         ensures counts { SameCounts (seen self.old) (seen self.new) }
         ensures notes { (seen self.new).notes ≡ (seen self.old).notes }
         ensures growth { (seen self.new).growth ≡ (seen self.old).growth }
-        ensures keeps { IsTrue (seen self.old).lawful → KeepsUnlessOut (seen self.old) (seen self.new) }
+        ensures keeps { IsTrue (seen self.old).lawful
+            → KeepsUnlessOut (seen self.old) (seen self.new) }
         ensures usable { (seen self.old).kind ≢ Kind.Collect → seen self.new ≡ seen self.old };
 
     /// Makes the processor blank, and shuts its reader.

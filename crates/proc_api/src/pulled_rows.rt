@@ -3,7 +3,8 @@ ghost use Rattle.proc_api.specs.Names.{raised};
 
 use std::marker::Model;
 
-/// The count of the rows that a processor pulled, over all its loads. At its last value it stands still.
+/// The count of the rows that a processor pulled, over all its loads. At its last value it stands
+/// still.
 #[derive(Debug, Drop)]
 pub struct PulledRows {
     total: u64,

@@ -49,7 +49,8 @@ impl Rack {
 
     /// Takes the first box of the kind. Its room stays, so that a box can be given back.
     pub fn take(&mut self, kind: Kind) -> Option<Box<dyn Processor + Send>>
-        ensures taken { TakesFirst kind (map (λ b. seen b) self.old.boxes.items) (map (λ b. seen b) self.new.boxes.items) (option_map (λ b. seen b) result) }
+        ensures taken { TakesFirst kind (map (λ b. seen b) self.old.boxes.items)
+            (map (λ b. seen b) self.new.boxes.items) (option_map (λ b. seen b) result) }
         ensures room { vec_capacity self.old.boxes ≤ vec_capacity self.new.boxes }
     {
         match self.place_of(kind) {

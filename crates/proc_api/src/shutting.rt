@@ -3,7 +3,8 @@ ghost use Rattle.proc_api.specs.Names.{ChangedByCalls, FinishesFront, IsShut, Sa
 
 use port_word::PortView;
 
-/// Closes each input and finishes each output, as a processor does over a view that hasn't its ports.
+/// Closes each input and finishes each output, as a processor does over a view that hasn't its
+/// ports.
 pub fn shut_down(view: &mut PortView)
     ensures changed { ChangedByCalls view.old view.new }
     ensures shut { IsShut view.new }
