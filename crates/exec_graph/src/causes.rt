@@ -24,9 +24,26 @@ pub enum BuildRefusal {
     TooManyPorts,
     /// One of its two ports has an edge.
     PortTaken,
-    /// 1,024 edges are there.
+    /// 1,024 edges are there, reserved ones included.
     TooManyEdges,
     Memory,
+}
+
+/// Why nothing was reserved.
+#[derive(Clone, Copy, Debug, PartialEq, Eq)]
+pub enum ReserveCause {
+    /// There would be more than 256 nodes.
+    TooManyNodes,
+    /// There would be more than 1,024 edges.
+    TooManyEdges,
+    Memory,
+}
+
+/// Blanks that were not reserved, in their order.
+#[derive(Drop)]
+pub struct NotReserved {
+    pub blanks: Vec<Box<dyn Processor + Send>>,
+    pub cause: ReserveCause,
 }
 
 /// Why a graph was not built.

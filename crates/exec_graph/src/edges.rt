@@ -27,8 +27,9 @@ pub(crate) fn has_small_ports(wire: &Wire) -> bool
 }
 
 /// Whether one of the edge's ports has an edge.
-pub(crate) fn is_port_taken(wires: &List<Wire>, wire: &Wire) -> bool
-    ensures { result ≡ (has_input wires.now wire.now.to wire.now.input || has_output wires.now wire.now.from wire.now.out) }
+pub fn is_port_taken(wires: &List<Wire>, wire: &Wire) -> bool
+    ensures { result ≡ (has_input wires.now wire.now.to wire.now.input
+        || has_output wires.now wire.now.from wire.now.out) }
 {
     let edges = wires.as_slice();
     has_input(edges, wire.to, wire.input) || has_output(edges, wire.from, wire.out)
@@ -101,7 +102,7 @@ fn has_gapless_outputs(wires: &[Wire], node: u32) -> bool
 }
 
 /// Whether each port of the node below one in use is in use too.
-pub(crate) fn is_gapless(wires: &[Wire], node: u32) -> bool
+pub fn is_gapless(wires: &[Wire], node: u32) -> bool
     ensures { result ≡ is_gapless wires.now node }
 {
     has_gapless_inputs(wires, node) && has_gapless_outputs(wires, node)

@@ -1,10 +1,14 @@
-ghost use Rattle.std.specs.Prelude.{◌≡◌, ℕ, ◌<◌, ◌≤◌, ◌++◌, ◌∷◌, [], true, false, None, length, map, IfOk, IfErr, OnOk, OnErr, IfSome, IfNone};
+ghost use Rattle.std.specs.Prelude.{◌≡◌, ℕ, ◌<◌, ◌≤◌, ◌+◌, ◌++◌, ◌∷◌, ◌≢◌, [], true, false, None, length, map, replicate, IfOk, IfErr, OnOk, OnErr, IfSome, IfNone};
 ghost use Rattle.std.specs.List.{All};
-ghost use Rattle.proc_api.specs.Names.{IsFresh, is_gapless, IsGraphSoFar, IsGraph};
-ghost use Rattle.exec_graph.specs.Building.{IsAddRefused, edge_refusal, IsEdgeRefused, IsBuildRefused};
+ghost use Rattle.proc_api.specs.Names.{IsBlank, IsFresh, is_gapless, IsGraphSoFar, IsGraph, reserved_edges};
+ghost use Rattle.exec_graph.specs.Building.{IsAddRefused, edge_refusal, IsEdgeRefused, IsBuildRefused, IsReserveRefused};
+ghost use Rattle.proc_api.specs.Reserves.{AreReserves, AreStarting, IsAdded, behind_wires, reserve_at};
 
-use crate::causes::{AddCause, BuildCause, BuildRefusal, NotAdded, NotBuilt};
+use crate::causes::{
+    AddCause, BuildCause, BuildRefusal, NotAdded, NotBuilt, NotReserved, ReserveCause,
+};
 use crate::edges::{has_small_ports, is_gapless, is_port_taken, is_ranked};
+use crate::reserves::{behind_wires, reserved_edges, with_reserve, with_unborn};
 use chunk_data::List;
 use port_word::{Reserve, Wire};
 use proc_api::Processor;
@@ -20,11 +24,11 @@ pub struct Graph {
     pub boxes: Vec<Box<dyn Processor + Send>>,
     pub ranks: List<u32>,
     pub wires: List<Wire>,
-    /// What is kept for nodes that grow; nothing so far.
+    /// What is kept for nodes that grow. The edges that are kept are numbered behind the wires.
     pub reserves: List<Reserve>,
     ghost one_each: { length boxes.items ≡ length ranks },
     ghost well_formed: { IsGraph ranks wires reserves },
-    ghost none_reserved: { reserves ≡ [] },
+    ghost reserves_fit: { AreReserves (length ranks) (length wires) wires reserves },
 }
 
 /// A graph to which nodes and edges are added.
@@ -33,8 +37,12 @@ pub struct GraphBuilder {
     pub boxes: Vec<Box<dyn Processor + Send>>,
     pub ranks: List<u32>,
     pub wires: List<Wire>,
+    /// What is kept for nodes that grow. Until `finish` the edges that are kept are numbered from
+    /// 0.
+    pub reserves: List<Reserve>,
     ghost one_each: { length boxes.items ≡ length ranks },
-    ghost well_formed: { IsGraphSoFar ranks wires [] },
+    ghost well_formed: { IsGraphSoFar ranks wires reserves },
+    ghost reserves_fit: { AreReserves (length ranks) 0 wires reserves },
 }
 
 impl GraphBuilder {
@@ -43,27 +51,32 @@ impl GraphBuilder {
         ensures boxes { result.boxes.items ≡ [] }
         ensures ranks { result.ranks ≡ [] }
         ensures wires { result.wires ≡ [] }
+        ensures reserves { result.reserves ≡ [] }
     {
         GraphBuilder {
             boxes: Vec::new(alloc),
             ranks: List::new(alloc),
             wires: List::new(alloc),
+            reserves: List::new(alloc),
         }
     }
 
-    /// Adds a node, and gives its number. After a refusal the builder is unchanged, and the box is handed back.
+    /// Adds a node, and gives its number. After a refusal the builder is unchanged, and the box is
+    /// handed back.
     pub fn add(&mut self, b: Box<dyn Processor + Send>, rank: u32) -> Result<u32, NotAdded>
         requires fresh { IsFresh (seen b) }
         ensures number { IfOk result (λ n. n ≡ length self.old.ranks) }
         ensures room { OnOk result (length self.old.ranks < 256) }
         ensures boxes { OnOk result (self.new.boxes.items ≡ self.old.boxes.items ++ b ∷ []) }
         ensures ranks { OnOk result (self.new.ranks ≡ self.old.ranks ++ rank ∷ []) }
-        ensures all_fresh { All IsFresh (map (λ b. seen b) self.old.boxes.items) → All IsFresh (map (λ b. seen b) self.new.boxes.items) }
+        ensures starting { AreStarting self.old.reserves (map (λ b. seen b) self.old.boxes.items)
+            → AreStarting self.new.reserves (map (λ b. seen b) self.new.boxes.items) }
         ensures handed_back { IfErr result (λ r. r.processor ≡ b) }
         ensures refused { IfErr result (λ r. IsAddRefused r.cause (length self.old.ranks)) }
         ensures same_boxes { OnErr result (self.new.boxes.items ≡ self.old.boxes.items) }
         ensures same_ranks { OnErr result (self.new.ranks ≡ self.old.ranks) }
         ensures same_wires { self.new.wires ≡ self.old.wires }
+        ensures same_reserves { self.new.reserves ≡ self.old.reserves }
     {
         let node = self.ranks.len();
         if node >= MAX_NODES {
@@ -90,16 +103,21 @@ impl GraphBuilder {
         }
     }
 
-    /// Adds an edge from an output of a node to an input of another. After a refusal the builder is unchanged.
+    /// Adds an edge from an output of a node to an input of another. After a refusal the builder is
+    /// unchanged.
     pub fn connect(&mut self, from: u32, out: u32, to: u32, input: u32) -> Result<(), BuildRefusal>
-        requires from_added { from < length self.old.ranks }
-        requires to_added { to < length self.old.ranks }
-        ensures ok { OnOk result (edge_refusal self.old.ranks self.old.wires (record { from = from; out = out; to = to; input = input }) ≡ None) }
-        ensures refused { IfErr result (λ r. IsEdgeRefused r self.old.ranks self.old.wires (record { from = from; out = out; to = to; input = input })) }
-        ensures wires { OnOk result (self.new.wires ≡ self.old.wires ++ record { from = from; out = out; to = to; input = input } ∷ []) }
+        requires from_added { IsAdded (length self.old.ranks) self.old.reserves from }
+        requires to_added { IsAdded (length self.old.ranks) self.old.reserves to }
+        ensures ok { OnOk result (edge_refusal self.old.ranks self.old.wires self.old.reserves
+            (record { from = from; out = out; to = to; input = input }) ≡ None) }
+        ensures refused { IfErr result (λ r. IsEdgeRefused r self.old.ranks self.old.wires
+            self.old.reserves (record { from = from; out = out; to = to; input = input })) }
+        ensures wires { OnOk result (self.new.wires
+            ≡ self.old.wires ++ record { from = from; out = out; to = to; input = input } ∷ []) }
         ensures same_wires { OnErr result (self.new.wires ≡ self.old.wires) }
         ensures same_boxes { self.new.boxes.items ≡ self.old.boxes.items }
         ensures same_ranks { self.new.ranks ≡ self.old.ranks }
+        ensures same_reserves { self.new.reserves ≡ self.old.reserves }
     {
         let wire = Wire {
             from,
@@ -107,7 +125,7 @@ impl GraphBuilder {
             to,
             input,
         };
-        if let Some(refusal) = due_refusal(&self.ranks, &self.wires, &wire) {
+        if let Some(refusal) = due_refusal(&self.ranks, &self.wires, &self.reserves, &wire) {
             return Err(refusal);
         }
         match self.wires.push(wire) {
@@ -116,37 +134,133 @@ impl GraphBuilder {
         }
     }
 
+    /// Keeps the blanks as unborn nodes, and so many edges, for the growth of a node. After a
+    /// refusal the builder is unchanged, and the blanks are handed back.
+    pub fn reserve(
+        &mut self,
+        expander: u32,
+        blanks: Vec<Box<dyn Processor + Send>>,
+        edges: u32,
+    ) -> Result<(), NotReserved>
+        requires expander_added { IsAdded (length self.old.ranks) self.old.reserves expander }
+        requires no_reserve { (k : ℕ) → k < length self.old.reserves
+            → (reserve_at self.old.reserves k).node ≢ expander }
+        requires blank { All IsBlank (map (λ b. seen b) blanks.items) }
+        ensures room { OnOk result ((length self.old.ranks + length blanks.items ≤ 256)
+            × (length self.old.wires + reserved_edges self.old.reserves + edges ≤ 1024)) }
+        ensures boxes { OnOk result (self.new.boxes.items ≡ self.old.boxes.items ++ blanks.items) }
+        ensures ranks { OnOk result
+            (self.new.ranks ≡ self.old.ranks ++ replicate (length blanks.items) 0) }
+        ensures reserves { OnOk result (self.new.reserves ≡ self.old.reserves
+            ++ record {
+              node = expander;
+              first_node = length self.old.ranks;
+              nodes = length
+                  blanks.items;
+              first_edge = reserved_edges self.old.reserves;
+              edges = edges;
+            } ∷ []) }
+        ensures starting { AreStarting self.old.reserves (map (λ b. seen b) self.old.boxes.items)
+            → AreStarting self.new.reserves (map (λ b. seen b) self.new.boxes.items) }
+        ensures handed_back { IfErr result (λ r. r.blanks.items ≡ blanks.items) }
+        ensures refused { IfErr result
+            (λ r. IsReserveRefused r.cause (length self.old.ranks + length blanks.items)
+            (length self.old.wires + reserved_edges self.old.reserves + edges)) }
+        ensures same_boxes { OnErr result (self.new.boxes.items ≡ self.old.boxes.items) }
+        ensures same_ranks { OnErr result (self.new.ranks ≡ self.old.ranks) }
+        ensures same_reserves { OnErr result (self.new.reserves ≡ self.old.reserves) }
+        ensures same_wires { self.new.wires ≡ self.old.wires }
+    {
+        let mut blanks = blanks;
+        let nodes = self.ranks.len();
+        let first_edge = reserved_edges(self.reserves.as_slice());
+        if blanks.len() > MAX_NODES - nodes {
+            return Err(NotReserved {
+                blanks,
+                cause: ReserveCause::TooManyNodes,
+            });
+        }
+        if edges as usize > MAX_EDGES - (self.wires.len() + first_edge) {
+            return Err(NotReserved {
+                blanks,
+                cause: ReserveCause::TooManyEdges,
+            });
+        }
+        let reserve = Reserve {
+            node: expander,
+            first_node: nodes as u32,
+            nodes: blanks.len() as u32,
+            first_edge: first_edge as u32,
+            edges,
+        };
+        // All room is taken before anything is changed.
+        let Ok(ranks) = with_unborn(&self.ranks, blanks.len()) else {
+            return Err(NotReserved {
+                blanks,
+                cause: ReserveCause::Memory,
+            })
+        };
+        let Ok(reserves) = with_reserve(&self.reserves, reserve) else {
+            return Err(NotReserved {
+                blanks,
+                cause: ReserveCause::Memory,
+            })
+        };
+        match self.boxes.append(&mut blanks) {
+            Ok(()) => {
+                self.ranks = ranks;
+                self.reserves = reserves;
+                Ok(())
+            }
+            Err(_) => Err(NotReserved {
+                blanks,
+                cause: ReserveCause::Memory,
+            }),
+        }
+    }
+
     /// The graph of what was added. Where it is refused, the boxes are handed back in order.
     pub fn finish(self) -> Result<Graph, NotBuilt>
-        ensures gapless { OnOk result ((n : ℕ) → n < length self.ranks → is_gapless self.wires n ≡ true) }
+        ensures gapless { OnOk result
+            ((n : ℕ) → n < length self.ranks → is_gapless self.wires n ≡ true) }
         ensures boxes { IfOk result (λ g. g.boxes.items ≡ self.boxes.items) }
-        ensures all_fresh { All IsFresh (map (λ b. seen b) self.boxes.items) → IfOk result (λ g. All IsFresh (map (λ b. seen b) g.boxes.items)) }
+        ensures starting { AreStarting self.reserves (map (λ b. seen b) self.boxes.items)
+            → IfOk result (λ g. AreStarting g.reserves (map (λ b. seen b) g.boxes.items)) }
         ensures ranks { IfOk result (λ g. g.ranks ≡ self.ranks) }
         ensures wires { IfOk result (λ g. g.wires ≡ self.wires) }
+        ensures reserves { IfOk result
+            (λ g. g.reserves ≡ map (behind_wires (length self.wires)) self.reserves) }
         ensures handed_back { IfErr result (λ r. r.boxes.items ≡ self.boxes.items) }
-        ensures refused { IfErr result (λ r. IsBuildRefused r.cause (length self.ranks) self.wires) }
+        ensures refused { IfErr result
+            (λ r. IsBuildRefused r.cause (length self.ranks) self.wires) }
     {
-        let alloc = *self.boxes.allocator();
         if let Some(node) = first_gap(self.wires.as_slice(), self.ranks.len()) {
             return Err(NotBuilt {
                 boxes: self.boxes,
                 cause: BuildCause::PortGap(node),
             });
         }
+        let reserves = behind_wires(self.reserves, self.wires.len());
         Ok(Graph {
             boxes: self.boxes,
             ranks: self.ranks,
             wires: self.wires,
-            reserves: List::new(alloc),
+            reserves,
         })
     }
 }
 
 // The refusal that is due to an edge, if one is.
-fn due_refusal(ranks: &List<u32>, wires: &List<Wire>, wire: &Wire) -> Option<BuildRefusal>
+fn due_refusal(
+    ranks: &List<u32>,
+    wires: &List<Wire>,
+    reserves: &List<Reserve>,
+    wire: &Wire,
+) -> Option<BuildRefusal>
     requires from_in_range { wire.now.from < length ranks.now }
     requires to_in_range { wire.now.to < length ranks.now }
-    ensures { result ≡ edge_refusal ranks.now wires.now wire.now }
+    requires few_edges { length wires.now + reserved_edges reserves.now ≤ 1024 }
+    ensures { result ≡ edge_refusal ranks.now wires.now reserves.now wire.now }
 {
     if !is_ranked(ranks, wire) {
         return Some(BuildRefusal::RankOrder);
@@ -157,7 +271,7 @@ fn due_refusal(ranks: &List<u32>, wires: &List<Wire>, wire: &Wire) -> Option<Bui
     if is_port_taken(wires, wire) {
         return Some(BuildRefusal::PortTaken);
     }
-    if wires.len() >= MAX_EDGES {
+    if wires.len() + reserved_edges(reserves.as_slice()) >= MAX_EDGES {
         return Some(BuildRefusal::TooManyEdges);
     }
     None
@@ -166,7 +280,8 @@ fn due_refusal(ranks: &List<u32>, wires: &List<Wire>, wire: &Wire) -> Option<Bui
 // The first node whose ports in use have a gap.
 fn first_gap(wires: &[Wire], nodes: usize) -> Option<u32>
     requires { nodes ≤ 256 }
-    ensures found { IfSome result (λ n. (n < nodes) × (is_gapless wires.now n ≡ false) × ((m : ℕ) → m < n → is_gapless wires.now m ≡ true)) }
+    ensures found { IfSome result (λ n. (n < nodes) × (is_gapless wires.now n ≡ false)
+        × ((m : ℕ) → m < n → is_gapless wires.now m ≡ true)) }
     ensures missing { IfNone result ((n : ℕ) → n < nodes → is_gapless wires.now n ≡ true) }
 {
     for node in 0..nodes as u32 {

@@ -4,8 +4,12 @@
 mod causes;
 mod edges;
 mod graph;
+mod reserves;
 #[cfg(test)]
 mod tests;
 
-pub use causes::{AddCause, BuildCause, BuildRefusal, NotAdded, NotBuilt};
+pub use causes::{
+    AddCause, BuildCause, BuildRefusal, NotAdded, NotBuilt, NotReserved, ReserveCause,
+};
+pub use edges::{is_gapless, is_port_taken};
 pub use graph::{Graph, GraphBuilder};

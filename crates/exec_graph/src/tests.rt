@@ -1,4 +1,5 @@
-ghost use Rattle.std.specs.Prelude.{◌≡◌, IfOk};
+ghost use Rattle.std.specs.Prelude.{◌≡◌, length, true, IfOk};
+ghost use Rattle.proc_api.specs.Reserves.{IsAdded};
 ghost use Rattle.proc_api.specs.Names.{no_notes, IsFresh};
 
 use crate::{AddCause, BuildCause, BuildRefusal, GraphBuilder};
@@ -26,7 +27,8 @@ impl<R: Abort + Drop + Send> Processor for Idle<R> {
       kind = kind.Csv;
       lawful = false;
       files = None;
-      spec = Some (spec.Csv (record { table = 0; part = 1; path = []; types = []; header = false; rows = 1 }));
+      spec = Some (spec.Csv
+          (record { table = 0; part = 1; path = []; types = []; header = false; rows = 1 }));
       faults = 0;
       pendings = 0;
       pulled = 0;
@@ -109,10 +111,18 @@ fn connect(
     to: u32,
     input: u32,
 ) -> Result<Option<BuildRefusal>, Fail> {
-    if from as usize >= builder.ranks.len() || to as usize >= builder.ranks.len() {
+    if !is_added(builder, from) || !is_added(builder, to) {
         return Err("a node is missing".into());
     }
     Ok(builder.connect(from, out, to, input).err())
+}
+
+// Whether the node is there; nothing is reserved here.
+#[tactic(auto, using(crate::proofs::Refusals::added))]
+fn is_added(builder: &GraphBuilder, node: u32) -> bool
+    ensures { result ≡ true → IsAdded (length builder.now.ranks) builder.now.reserves node }
+{
+    (node as usize) < builder.ranks.len() && builder.reserves.len() == 0
 }
 
 // The first node with a gap, and how many boxes come back.
