@@ -1,6 +1,6 @@
 -- A box works, or fetches.
-use Rattle.exec_laws.proofs.Words.{ActsCell, BoxPicture, CellPicture, Edge, List, NodeHolds, Picture, Running, StaysBox, StaysOrActs, Wire, wire_at, ap, follows-same, rules, inl, inr, ℕ, ◌<◌, ◌≡◌}
-use Rattle.exec_laws.proofs.Nodes.{busy-born}
+use Rattle.exec_laws.proofs.Words.{arith, ActsCell, BoxPicture, CellPicture, Edge, IsBorn, KeepsBox, List, NodeHolds, Running, StaysBox, StaysOrActs, Wire, follows-same, inl, inr, refl, rules, wire_at, ℕ, ◌<◌, ◌≡◌}
+use Rattle.exec_laws.proofs.Nodes.{busy-born, not-blank}
 use Rattle.exec_laws.proofs.Sides.{same-at, stays-end}
 
 -- ---- what stays of a box
@@ -11,6 +11,16 @@ stays-itself p = search rules
 pub stays-both : (p q r : BoxPicture) → StaysBox p q → StaysBox q r → StaysBox p r
 stays-both p q r h1 h2 = search rules
 
+pub keeps-itself : (p : BoxPicture) → KeepsBox p p
+keeps-itself p = record { born = λ _. stays-itself p; unborn = λ _. refl; growth = refl }
+
+pub keeps-both : (p q r : BoxPicture) → KeepsBox p q → KeepsBox q r → KeepsBox p r
+keeps-both p q r h k = search (rules, stays-both)
+
+-- what stays of a born box
+pub keeps-born : (p q : BoxPicture) → IsBorn p → StaysBox p q → q.growth ≡ p.growth → KeepsBox p q
+keeps-born p q b s g = search (rules, not-blank)
+
 -- ---- the nodes and their edges
 
 module _ {count : ℕ} {wires : List Wire} {cells : ℕ → CellPicture} {edges : ℕ → Edge}
@@ -20,7 +30,7 @@ module _ {count : ℕ} {wires : List Wire} {cells : ℕ → CellPicture} {edges 
   acted-node n lt d a =
       let c : CellPicture = cells n in
       let old : NodeHolds wires n c (r.pulled n) (r.pushed n) =
-      r.each n lt (busy-born count wires cells edges r n lt a.busy) in
+      r.each n lt (busy-born count wires cells edges r n lt a.not_unborn) in
       rw a.own record {
         box = search (rules, old.box, a.acts);
         view = old.view;
@@ -33,14 +43,8 @@ module _ {count : ℕ} {wires : List Wire} {cells : ℕ → CellPicture} {edges 
   pub acted : (after : ℕ → CellPicture) → ((n : ℕ) → StaysOrActs (cells n) (after n))
       → Running count wires after edges
   acted after each =
-      let view : (n : ℕ) → (after n).view ≡ (cells n).view = (λ n. elim (each n) [
-        | inl e ↦ ap (λ (x : CellPicture). x.view) e
-        | inr a ↦ ap (λ (x : CellPicture). x.view) a.own
-      ]) in
-      let spec : (n : ℕ) → (after n).box.spec ≡ (cells n).box.spec = (λ n. elim (each n) [
-        | inl e ↦ ap (λ (x : CellPicture). x.box.spec) e
-        | inr a ↦ a.acts.same.spec
-      ]) in
+      let view : (n : ℕ) → (after n).view ≡ (cells n).view = grind arith in
+      let spec : (n : ℕ) → (after n).box.spec ≡ (cells n).box.spec = grind arith in
       record {
         graph = r.graph;
         pulled = r.pulled;
@@ -49,16 +53,8 @@ module _ {count : ℕ} {wires : List Wire} {cells : ℕ → CellPicture} {edges 
           | inl e ↦ rw e (r.each n lt (rw (spec n) at born))
           | inr a ↦ acted-node n lt (after n) a
         ];
-        unborn = λ n lt blank. elim (each n) [
-          | inl e ↦ rw e (r.unborn n lt (rw (spec n) at blank))
-          | inr a ↦ absurd (a.busy (r.unborn n lt (rw (spec n) at blank)))
-        ];
+        unborn = λ n lt blank. grind arith;
         born = λ e n p h. rw (spec n) (r.born e n p h);
-        ends = λ e n p h. elim (each n) [
-          | inl s ↦ rw s (r.ends e n p h)
-          | inr a ↦ (stays-end p (cells n) (after n) (edges e) (r.pulled n) (r.pushed n)
-              (same-at p _ _ (view n)) (ap (λ (v : Picture). v.actions) (view n))
-              (λ rests. absurd (a.awake rests)) (r.ends e n p h)).holds
-        ];
+        ends = λ e n p h. grind (arith, stays-end, same-at);
         lists = λ e lt. rw (view (wire_at wires e).to, view (wire_at wires e).from) (r.lists e lt);
       }

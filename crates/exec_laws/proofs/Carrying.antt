@@ -1,13 +1,13 @@
 -- An action of a node is carried out on its edge, and the node at the other end is told.
-use Rattle.exec_laws.proofs.Words.{Action, BoxPicture, CellPicture, Edge, Lists, Input, IsEnd, IsSound, List, MarkHolds, NodeHolds, NodeState, None, Option, Output, Picture, Port, QuietBut, Running, Status, Touches, Wire, action_port, after_action, ap, append_assoc, arith, chunks_of, eq-eqb, false, follows-taken, in_count, in_count-with_actions, input_at, is_told, out_count, out_count-with_actions, output_at, peer, refl, rules, sym, told_if, true, wire_at, with_actions, ℕ, ◌&&◌, ◌++◌, ◌==◌, ◌∙◌, ◌∷◌, ◌≡◌, ◌≢◌}
+use Rattle.exec_laws.proofs.Words.{Action, BoxPicture, CellPicture, Edge, Input, IsEnd, IsSound, List, Lists, MarkHolds, NodeHolds, NodeState, None, Option, Output, Picture, Port, QuietBut, Running, Status, Touches, Wire, action_port, after_action, ap, append_assoc, arith, chunks_of, eq-eqb, false, follows-taken, in_count, in_count-with_actions, input_at, is_told, out_count, out_count-with_actions, output_at, peer, refl, rules, sym, told_if, true, wire_at, with_actions, ℕ, ◌&&◌, ◌++◌, ◌==◌, ◌∙◌, ◌∷◌, ◌≡◌, ◌≢◌}
 use Rattle.exec_laws.proofs.Nodes.{apart, other-end, touched-on}
 use Rattle.exec_laws.proofs.Ports.{port_allows, push-away, push-here}
 use Rattle.exec_laws.proofs.Sides.{Passes, QuietEnd, acts-here, acts-there, end-quiet, quiet-end}
 
 -- ---- a view whose actions were taken
 
-mark-taken : (s : NodeState) (last : Option Status) (m n : ℕ) (p : BoxPicture) (v : Picture) (xs : List Action)
-    → MarkHolds s last m n p v → MarkHolds s last m n p (with_actions v xs)
+mark-taken : (s : NodeState) (last : Option Status) (m n : ℕ) (p : BoxPicture) (v : Picture)
+    (xs : List Action) → MarkHolds s last m n p v → MarkHolds s last m n p (with_actions v xs)
 unfolding with_actions input_at output_at in_count out_count
 mark-taken s last m n p v xs h1 = search rules
 

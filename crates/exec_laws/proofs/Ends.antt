@@ -1,8 +1,9 @@
--- Where nothing is due: either each born node is over, or some resting node's view belies its last status.
-use Rattle.exec_laws.proofs.Words.{BearsOut, Belies, CellPicture, Edge, HasEdge, Input, IsBorn, IsNothingDue, IsOver, IsStuck, IsTrue, List, MarkTells, Output, Running, StuckNode, Wire, [], append-nil, box_at, boxes_of, cell_at, append_assoc, input_count, length, length-map, no_cell, output_count, pushes_to, refl, rules, stuck_from, wire_at, ℕ, ◌<◌, ◌≡◌}
+-- Where nothing is due: either each born node is over, or some resting node's view belies its last
+-- status.
+use Rattle.exec_laws.proofs.Words.{BearsOut, Belies, CellPicture, Edge, HasEdge, Input, IsBorn, IsNothingDue, IsOver, IsStuck, IsTrue, List, MarkTells, Output, Running, StuckNode, Wire, [], append-nil, append_assoc, box_at, boxes_of, cell_at, input_count, length, length-map, no_cell, output_count, pushes_to, refl, rules, stuck_from, wire_at, ℕ, ◌<◌, ◌≡◌}
+use Rattle.exec_laws.proofs.Settled.{all-over, end-here, end-node, end-shown, node-there, over-holds}
 use Rattle.exec_laws.specs.Ends.{IsDone}
 use Rattle.std.proofs.Math.ListN.{get_or-map}
-use Rattle.exec_laws.proofs.Settled.{all-over, end-here, end-node, end-shown, node-there, over-holds}
 
 -- the box of a cell
 pub box-of : (cells : List CellPicture) (n : ℕ) → box_at (boxes_of cells) n ≡ (cell_at cells n).box
@@ -66,7 +67,8 @@ module _ (wires : List Wire) (cells : List CellPicture) (edges : ℕ → Edge)
           (search (rules, passed, ports, from_kept, to_kept, from_end, to_end));
     }
 
-  -- Where the view of a resting node belies its last status, its box isn't lawful, and the run is stuck there.
+  -- Where the view of a resting node belies its last status, its box isn't lawful, and the run is
+  -- stuck there.
   pub run-stuck : (n : ℕ) (report : List StuckNode) → n < length cells → Belies (cell_at cells n)
       → report ≡ stuck_from 0 (boxes_of cells) → IsStuck (boxes_of cells) report n
   run-stuck n report h1 h2 h3 = search (rules, boxes-len, box-of, marks-tell)

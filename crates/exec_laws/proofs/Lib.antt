@@ -8,4 +8,8 @@ pub mod Carrying
 pub mod Turns
 pub mod Acting
 pub mod Starting
+pub mod BirthLaws
+pub mod GrownGraphs
+pub mod Growing
+pub mod ListGrowths
 pub mod Ends

@@ -1,7 +1,7 @@
 -- Where one node moved, and others were at most told, the graph is running on.
-use Rattle.exec_laws.proofs.Words.{Bool, CellPicture, Edge, EndHolds, HasEdge, HoldsGraph, Input, IsBorn, IsEnd, IsSome, List, Lists, NodeHolds, None, Option, Output, Port, Running, Touches, Wire, ap, chunks_of, input_at, arith, cases_eq, cond, eq-eqb, inl, inr, length, ne_eqb, peer, refl, rules, subst, sym, told_if, wire_at, ℕ, ◌++◌, ◌<◌, ◌==◌, ◌∙◌, ◌≡◌, ◌≢◌}
-use Rattle.exec_laws.specs.declared.edges.NodeState.TheVariants as node
+use Rattle.exec_laws.proofs.Words.{Bool, CellPicture, Edge, EndHolds, HasEdge, HoldsGraph, Input, IsBorn, IsEnd, IsSome, List, Lists, NodeHolds, None, Option, Output, Port, Running, Touches, Wire, ap, arith, cases_eq, chunks_of, cond, eq-eqb, inl, input_at, inr, length, ne_eqb, peer, refl, rules, subst, sym, told_if, wire_at, ℕ, ◌++◌, ◌<◌, ◌==◌, ◌∙◌, ◌≡◌, ◌≢◌}
 use Rattle.exec_laws.proofs.Sides.{Moves, end-told}
+use Rattle.exec_laws.specs.declared.edges.NodeState.TheVariants as node
 
 -- ---- ends of edges
 
@@ -19,9 +19,9 @@ other-end w n m p q h1 h2 h3 = search rules
 pub not-blank : {A : Type 0} (s : Option A) → IsSome s → s ≡ None → ⊥
 not-blank s h1 h2 = grind arith
 
--- a node that isn't over is born
+-- a node that isn't unborn is born
 pub busy-born : (count : ℕ) (wires : List Wire) (cells : ℕ → CellPicture) (edges : ℕ → Edge)
-    → Running count wires cells edges → (n : ℕ) → n < count → (cells n).mark.state ≢ node.Over
+    → Running count wires cells edges → (n : ℕ) → n < count → (cells n).mark.state ≢ node.Unborn
     → IsBorn (cells n).box
 busy-born count wires cells edges h1 n h2 h3 = search rules
 
@@ -66,10 +66,10 @@ module _ {count : ℕ} {wires : List Wire} {cells : ℕ → CellPicture} {edges 
         rw (others m ne, lists-there n m ins r.pulled ne, lists-there n m outs r.pushed ne)
         (let old = r.each m l (rw (others m ne) at b) in search (rules, old))) lt born;
     unborn = λ m lt blank.
-        at-node (λ k. k < count → (after k).box.spec ≡ None → (after k).mark.state ≡ node.Over) n m
-        (λ _ b. absurd (not-blank (after n).box.spec here.box.running.loaded b))
-        (λ ne l b. rw (others m ne)
-        (let old = r.unborn m l (rw (others m ne) at b) in grind (arith, old))) lt blank;
+        at-node (λ k. k < count → (after k).box.spec ≡ None → (after k).mark.state ≡ node.Unborn) n
+        m (λ _ b. absurd (not-blank (after n).box.spec here.box.running.loaded b)) (λ ne l b. rw
+        (others m ne) (let old = r.unborn m l (rw (others m ne) at b) in grind (arith, old))) lt
+        blank;
     born = λ e m p h. at-node (λ k. IsBorn (cells k).box → IsBorn (after k).box) n m
         (λ _. here.box.running.loaded) (λ ne b. rw (others m ne) b) (r.born e m p h);
     ends = λ e m p h. at-node (λ k. HasEdge wires k p e → EndHolds p (after k) (moved e)) n m

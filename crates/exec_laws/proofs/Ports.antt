@@ -1,10 +1,11 @@
 -- What actions leave at one port.
-use Rattle.exec_laws.proofs.Words.{Action, Bool, ChangedByCalls, EachAction, Edge, Flags, Input, InputAllows, InputPort, chunk_step, input_allows, IsDone, List, None, Option, Output, OutputAllows, Picture, Port, PortCall, Table, [], action_port, after_action, after_call, after_calls, ap, arith, chunk_after, chunks_of, eqb-true, false, holds_data, in_count, in_count-with_actions, in_count-with_input, in_count-with_output, input_after, input_step, is_some, out_count, out_count-with_actions, out_count-with_input, out_count-with_output, output_allows, output_step, pushes_to, refl, rules, taken_out, true, with_actions, with_input, with_output, ℕ, ◌++◌, ◌||◌, ◌∙◌, ◌∷◌, ◌≡◌, ◌≤◌, ◌⊎◌}
+use Rattle.exec_laws.proofs.Words.{Action, Bool, ChangedByCalls, EachAction, Edge, Flags, Input, InputAllows, InputPort, IsDone, List, None, Option, Output, OutputAllows, Picture, Port, PortCall, Table, [], action_port, after_action, after_call, after_calls, ap, arith, chunk_after, chunk_step, chunks_of, eqb-true, false, holds_data, in_count, in_count-with_actions, in_count-with_input, in_count-with_output, input_after, input_allows, input_step, is_some, out_count, out_count-with_actions, out_count-with_input, out_count-with_output, output_allows, output_step, pushes_to, refl, rules, taken_out, true, with_actions, with_input, with_output, ℕ, ◌++◌, ◌||◌, ◌∙◌, ◌∷◌, ◌≡◌, ◌≤◌, ◌⊎◌}
 
 -- ---- an input and its chunk, while its node acts
 
--- The flags f and the chunk c at an input that had chunk d, where x lies in the edge: there is data exactly where a
--- chunk lies, in one of the two places, and at an open input in this one. The chunk is the one it had, or is pulled.
+-- The flags f and the chunk c at an input that had chunk d, where x lies in the edge: there is data
+-- exactly where a chunk lies, in one of the two places, and at an open input in this one. The chunk
+-- is the one it had, or is pulled.
 pub record Lies (d x : Option Table) (f : Flags) (c : Option Table) : Type 0 where
   pub there : f.has_data ≡ (is_some c || is_some x)
   pub one : is_some c ≡ true → x ≡ None
@@ -22,7 +23,8 @@ module _ (d x : Option Table) (i : ℕ) where
   lies-after (a ∷ xs) f c allows h = lies-after xs _ _ allows.1 (lies-on a f c allows.0 h)
 
 -- what was taken out, and what is left
-pub taken-left : (c d : Option Table) → (d ≡ c) ⊎ (d ≡ None) → chunks_of c ≡ taken_out c d ++ chunks_of d
+pub taken-left : (c d : Option Table) → (d ≡ c) ⊎ (d ≡ None)
+    → chunks_of c ≡ taken_out c d ++ chunks_of d
 taken-left c d h1 = grind arith
 
 -- ---- pushes
@@ -76,14 +78,15 @@ push-away o a xs h1 = grind arith
 -- what is pushed here lies in the edge, which was empty
 pub push-here : (a : Action) (xs : List Action) (o : ℕ) (e : Edge) → Output o ≡ action_port a
     → (e.flags.has_data ≡ false → e.chunk ≡ None) → port_allows (action_port a) a e.flags ≡ true
-    → chunks_of e.chunk ++ pushes_to o (a ∷ xs) ≡ chunks_of (after_action a e).chunk ++ pushes_to o xs
+    → chunks_of e.chunk ++ pushes_to o (a ∷ xs)
+    ≡ chunks_of (after_action a e).chunk ++ pushes_to o xs
 unfolding pushes_to
 push-here a xs o e h1 h2 h3 = search rules
 
 -- ---- calls keep the number of ports
 
-module _ (h : Picture → ℕ) (ins : (p : Picture) (i : ℕ) (x : InputPort) → h (with_input p i x) ≡ h p)
-    (outs : (p : Picture) (o : ℕ) (f : Flags) → h (with_output p o f) ≡ h p)
+module _ (h : Picture → ℕ) (ins : (p : Picture) (i : ℕ) (x : InputPort) → h (with_input p i x)
+    ≡ h p) (outs : (p : Picture) (o : ℕ) (f : Flags) → h (with_output p o f) ≡ h p)
     (acts : (p : Picture) (xs : List Action) → h (with_actions p xs) ≡ h p) where
   call-keeps : (c : PortCall) (p : Picture) → h (after_call c p) ≡ h p
   call-keeps c p = search rules
@@ -100,4 +103,5 @@ changed-inputs v w c =
 pub changed-outputs : (v w : Picture) → ChangedByCalls v w → out_count w ≡ out_count v
 changed-outputs v w c =
     ap out_count c.gives
-    ∙ calls-keep out_count out_count-with_input out_count-with_output out_count-with_actions c.calls v
+    ∙ calls-keep out_count out_count-with_input out_count-with_output out_count-with_actions c.calls
+    v

@@ -1,8 +1,8 @@
 -- A due node sees one of its ports.
-use Rattle.exec_laws.proofs.Words.{CellPicture, Edge, Flags, HasEdge, HasPort, HoldsGraph, Lists, append_assoc, Input, IsPort, IsSound, List, MaySee, NodeHolds, Option, Output, Picture, Port, Running, Table, Touches, ViewHolds, Wire, [], actions-with_input, actions-with_output, after_see, ap, cases_eq, chunks_of, false, follows-seen-input, follows-seen-output, in_count, in_count-with_input, in_count-with_output, inl, input-below-count, input_at, input_at-with_input, input_at-with_input-other, input_at-with_output, input_count, inr, lifted, out_count, out_count-with_input, out_count-with_output, output-below-count, output_at-with_input, output_at-with_output, output_at-with_output-other, output_count, port_flags, rules, sym, unloaded, ℕ, ◌++◌, ◌<◌, ◌∙◌, ◌≡◌, ◌≢◌, ◌⊎◌}
-use Rattle.exec_laws.specs.declared.edges.NodeState.TheVariants as node
+use Rattle.exec_laws.proofs.Words.{CellPicture, Edge, Flags, HasEdge, HasPort, HoldsGraph, Input, IsPort, IsSound, List, Lists, MaySee, NodeHolds, Option, Output, Picture, Port, Running, Table, Touches, ViewHolds, Wire, [], actions-with_input, actions-with_output, after_see, ap, append_assoc, cases_eq, chunks_of, false, follows-seen-input, follows-seen-output, in_count, in_count-with_input, in_count-with_output, inl, input-below-count, input_at, input_at-with_input, input_at-with_input-other, input_at-with_output, input_count, inr, lifted, out_count, out_count-with_input, out_count-with_output, output-below-count, output_at-with_input, output_at-with_output, output_at-with_output-other, output_count, port_flags, rules, sym, unloaded, ℕ, ◌++◌, ◌<◌, ◌∙◌, ◌≡◌, ◌≢◌, ◌⊎◌}
 use Rattle.exec_laws.proofs.Nodes.{busy-born, touched-on}
 use Rattle.exec_laws.proofs.Sides.{Passes, QuietEnd, SameAt, end-quiet, output-known, quiet-end, stays-end}
+use Rattle.exec_laws.specs.declared.edges.NodeState.TheVariants as node
 
 -- ---- ports in range
 
@@ -25,14 +25,16 @@ see-counts : (p : Port) (v : Picture) (f : Flags) (x : Option Table)
 see-counts (Input i) v f x = (in_count-with_input v i _, out_count-with_input v i _)
 see-counts (Output o) v f x = (in_count-with_output v o f, out_count-with_output v o f)
 
-pub see-actions : (p : Port) (v : Picture) (f : Flags) (x : Option Table) → (after_see v p f x).actions ≡ v.actions
+pub see-actions : (p : Port) (v : Picture) (f : Flags) (x : Option Table)
+    → (after_see v p f x).actions ≡ v.actions
 see-actions p v f x = search (rules, actions-with_input, actions-with_output)
 
 ruleset other_inputs = (input_at-with_input-other, input_at-with_output)
 
 ruleset other_ports = (other_inputs, output_at-with_input, output_at-with_output-other)
 
-pub see-elsewhere : (p q : Port) (v : Picture) (f : Flags) (x : Option Table) → q ≢ p → SameAt q (after_see v p f x) v
+pub see-elsewhere : (p q : Port) (v : Picture) (f : Flags) (x : Option Table) → q ≢ p
+    → SameAt q (after_see v p f x) v
 see-elsewhere p q v f x h1 = search (rules, other_ports)
 
 -- the view shows the edge's flags at the port, and what it showed at others
@@ -49,10 +51,12 @@ see-keeps p q v e f ours same h = elim (port-cases q p) [
 ]
   where
     port-cases : (x y : Port) → (x ≡ y) ⊎ (x ≢ y)
-    port-cases (Input i) (Input j) = elim (cases_eq i j) [ inl e ↦ inl (ap Input e) | inr ne ↦ inr (λ h. ne (cc)) ]
+    port-cases (Input i) (Input j) =
+        elim (cases_eq i j) [ inl e ↦ inl (ap Input e) | inr ne ↦ inr (λ h. ne (cc)) ]
     port-cases (Input i) (Output o) = inr (λ h. cc)
     port-cases (Output o) (Input i) = inr (λ h. cc)
-    port-cases (Output o) (Output k) = elim (cases_eq o k) [ inl e ↦ inl (ap Output e) | inr ne ↦ inr (λ h. ne (cc)) ]
+    port-cases (Output o) (Output k) =
+        elim (cases_eq o k) [ inl e ↦ inl (ap Output e) | inr ne ↦ inr (λ h. ne (cc)) ]
 
     shown : (x : Port) (u w : Picture) → SameAt x u w → port_flags u x ≡ port_flags w x
     shown x u w k = search rules

@@ -1,7 +1,7 @@
 -- One end of an edge, as its node's view shows it, when an end sees the edge or acts on it.
-use Rattle.exec_laws.proofs.Words.{Action, Bool, Lists, Picture, pushes_to, CellPicture, Edge, EndHolds, Flags, Input, InputFollows, InputHolds, List, NodeMark, NodeState, Output, OutputHolds, Port, Table, [], action_port, after_action, arith, chunks_of, cond, input_at, output_at, refl, rules, told, told_if, with_actions, ◌++◌, ◌∷◌, ◌≡◌, ◌≢◌}
-use Rattle.exec_laws.specs.declared.edges.NodeState.TheVariants as node
+use Rattle.exec_laws.proofs.Words.{Action, Bool, CellPicture, Edge, EndHolds, Flags, Input, InputFollows, InputHolds, List, Lists, NodeMark, NodeState, Output, OutputHolds, Picture, Port, Table, [], action_port, after_action, arith, chunks_of, cond, input_at, output_at, pushes_to, refl, rules, told, told_if, with_actions, ◌++◌, ◌∷◌, ◌≡◌, ◌≢◌}
 use Rattle.exec_laws.proofs.Ports.{step-away}
+use Rattle.exec_laws.specs.declared.edges.NodeState.TheVariants as node
 
 -- ---- flags follow themselves
 
@@ -19,10 +19,12 @@ abbrev pub QuietEnd : Port → CellPicture → Edge → Type 0
 QuietEnd (Input i) c e = InputHolds c.mark.state (input_at c.view i) e.flags e.chunk
 QuietEnd (Output o) c e = OutputHolds c.mark.state (output_at c.view o) e.flags
 
-pub end-quiet : (p : Port) (c : CellPicture) (e : Edge) → c.view.actions ≡ [] → EndHolds p c e → QuietEnd p c e
+pub end-quiet : (p : Port) (c : CellPicture) (e : Edge) → c.view.actions ≡ [] → EndHolds p c e
+    → QuietEnd p c e
 end-quiet p c e h1 h2 = search rules
 
-pub quiet-end : (p : Port) (c : CellPicture) (e : Edge) → c.view.actions ≡ [] → QuietEnd p c e → EndHolds p c e
+pub quiet-end : (p : Port) (c : CellPicture) (e : Edge) → c.view.actions ≡ [] → QuietEnd p c e
+    → EndHolds p c e
 quiet-end p c e h1 h2 = search rules
 
 -- ---- the own end of an edge

@@ -1,23 +1,23 @@
 -- A node that has seen its ports is prepared.
 use Rattle.exec_laws.proofs.Words.{BoxHolds, BoxPicture, CellPicture, Edge, Flags, HasFinished, Holds, Input, IsOver, IsPort, IsTrue, Knows, List, Lists, MarkHolds, NodeHolds, Output, Picture, Port, Prepared, Running, Some, Status, StatusComes, StatusHolds, Turns, ViewHolds, Wire, [], ap, append-nil, append_assoc, as-kept-noted, changed-by-both, chunks_of, difference-calls, false, follows-noted, get_or-eq_default, in_count, inl, input_after, input_at, input_count, kept_input-of, kept_inputs-of, kept_output-of, kept_outputs-of, out_count, output_after, output_at, output_count, port_flags, pushed_at, pushes_to, refl, rules, stands-still, state_after, sym, taken_out, with_pulled, with_pushed, ℕ, ◌++◌, ◌<◌, ◌∙◌, ◌≡◌, ◌≢◌, ◌≤◌}
-use Rattle.query_model.specs.declared.processor_spec.Kind.TheVariants as kind
-use Rattle.proc_api.specs.declared.status.Status.TheVariants as status
-use Rattle.exec_laws.specs.declared.edges.NodeState.TheVariants as node
 use Rattle.exec_laws.proofs.Nodes.{busy-born, moved-on}
 use Rattle.exec_laws.proofs.Ports.{Lies, changed-inputs, changed-outputs, full-unpushed, lies-after, past-unpushed, taken-left}
 use Rattle.exec_laws.proofs.Seeing.{port-below}
 use Rattle.exec_laws.proofs.Sides.{Moves, QuietEnd, end-quiet, input-itself, output-known}
+use Rattle.proc_api.specs.declared.status.Status.TheVariants as status
+use Rattle.exec_laws.specs.declared.edges.NodeState.TheVariants as node
 
 -- ---- what the answer says of the node
 
 mark-after : (s : Status) (inputs outputs : ℕ) (q : BoxPicture) (v : Picture)
-    → q.notes.answer ≡ Some (Prepared s) → q.notes.acted ≡ false → (q.kind ≡ kind.List → ⊥)
+    → q.notes.answer ≡ Some (Prepared s) → q.notes.acted ≡ false
     → (IsTrue q.lawful → StatusHolds s v) → (IsTrue q.lawful → StatusComes s q)
     → (s ≡ status.Finished → IsOver inputs outputs q v)
     → MarkHolds (state_after s) (Some s) inputs outputs q v
-mark-after s inputs outputs q v h1 h2 h3 h4 h5 h6 = search rules
+mark-after s inputs outputs q v h1 h2 h3 h4 h5 = search rules
 
-past : (v w : Picture) (ins : Lists) (i : ℕ) → in_count v ≤ i → ins i ≡ [] → with_pulled v w ins i ≡ []
+past : (v w : Picture) (ins : Lists) (i : ℕ) → in_count v ≤ i → ins i ≡ []
+    → with_pulled v w ins i ≡ []
 unfolding in_count input_at
 past v w ins i h1 h2 = search (rules, get_or-eq_default)
 
@@ -94,13 +94,10 @@ module _ (wires : List Wire) (n : ℕ) (c d : CellPicture) (t : Turns c d)
   was-lawful : IsTrue d.box.lawful → IsTrue c.box.lawful
   was-lawful l = sym t.prepares.stays.same.lawful ∙ l
 
-  no-list : d.box.kind ≡ kind.List → ⊥
-  no-list k = h.box.not_list (sym t.prepares.stays.same.kind ∙ k)
-
   turned-view : ViewHolds (input_count wires n) (output_count wires n) d.view
   turned-view = search (rules, explained, changed-inputs, ins-left, changed-outputs, outs-left)
 
-  ruleset box_laws = (no-list, as-kept-noted, ins-left, outs-left, was-lawful, stands-still)
+  ruleset box_laws = (as-kept-noted, ins-left, outs-left, was-lawful, stands-still)
 
   ruleset chunk_laws = (past, pushed-by-actions, past-unpushed, turned-view, explained)
 
@@ -135,7 +132,6 @@ module _ (wires : List Wire) (n : ℕ) (c d : CellPicture) (t : Turns c d)
     kept = λ k. rw (left-so (λ e. k (ap state_after e)))
         (follows-noted d.box t.left t.prepares.notes.view);
     mark = mark-after t.answer _ _ d.box d.view t.prepares.notes.answer t.prepares.notes.not_acted
-        no-list
         (λ l. rw (left-so (λ _. l)) (t.prepares.lawful (was-lawful l)).law)
         (λ l. (t.prepares.lawful (was-lawful l)).comes)
         (λ e. record {
@@ -147,16 +143,17 @@ module _ (wires : List Wire) (n : ℕ) (c d : CellPicture) (t : Turns c d)
 
 -- ---- the graph
 
--- A node that isn't over and knows its ports was prepared: the graph runs on, and its actions wait.
+-- A due node that knows its ports was prepared: the graph runs on, and its actions wait.
 pub turned : {count : ℕ} {wires : List Wire} {cells : ℕ → CellPicture} {edges : ℕ → Edge}
     (r : Running count wires cells edges) → ((m : ℕ) → (cells m).view.actions ≡ [])
-    → (n : ℕ) → n < count → (cells n).mark.state ≢ node.Over
+    → (n : ℕ) → n < count → (cells n).mark.state ≡ node.Due
     → ((p : Port) → IsPort (input_count wires n) (output_count wires n) p → Knows (cells n) p edges)
     → (after : ℕ → CellPicture) → Turns (cells n) (after n) → ((m : ℕ) → m ≢ n → after m ≡ cells m)
     → Running count wires after edges
-turned {count} {wires} {cells} {edges} r quiet n lt busy knows after t others =
+turned {count} {wires} {cells} {edges} r quiet n lt due knows after t others =
     let own : NodeHolds wires n (cells n) (r.pulled n) (r.pushed n) =
-    r.each n lt (busy-born count wires cells edges r n lt busy) in
+    r.each n lt (busy-born count wires cells edges r n lt (λ e.
+    let f : node.Due ≡ node.Unborn = sym due ∙ e in cc)) in
     moved-on r n after edges (λ _. false) others (with_pulled (cells n).view t.left (r.pulled n))
     (with_pushed (cells n).view t.left (r.pushed n))
     (turned-node wires n (cells n) (after n) t (quiet n) _ _ own)

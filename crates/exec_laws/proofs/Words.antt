@@ -1,21 +1,26 @@
 -- The names that proofs about runs use, in one place: who needs several of them imports from here.
-pub use Rattle.std.proofs.Common.{Bool, IsSome, IsTrue, List, None, Option, Some, [], ap, arith, cond, drop, false, get_or, inl, inr, is_some, length, map, not, refl, rules, set, subst, suc, sym, true, zero, ℕ, ◌&&◌, ◌++◌, ◌+◌, ◌<◌, ◌==◌, ◌||◌, ◌∙◌, ◌∷◌, ◌≡◌, ◌≢◌, ◌≤◌, ◌⊎◌}
-pub use Rattle.std.proofs.Math.ListN.{get_or-eq_default}
-pub use Rattle.std.proofs.lemmas.Bool.{and_parts, both_ways, cases_eq, cases_lt, cond_both, eq-eqb, eqb-true, false_from_ne_true, ne_eqb, or_left, or_parts, or_right}
-pub use Rattle.std.proofs.lemmas.List.{append-nil, append_assoc, drop_all, get_or-map, get_or-replicate, get_or-set_other, get_or-set_same, get_or_append_left, get_or_default, length-append, length-map, length-replicate, length-set, map-append, map-set}
-pub use Rattle.port_word.proofs.Differences.{Holds, changed-by-both, difference-calls}
-pub use Rattle.port_word.proofs.Fitting.{sound-new}
-pub use Rattle.port_word.proofs.Laws.{actions-with_actions, actions-with_input, actions-with_output, in_count-with_actions, in_count-with_input, in_count-with_output, input_at-with_actions, input_at-with_input, input_at-with_input-other, input_at-with_output, out_count-with_actions, out_count-with_input, out_count-with_output, output_at-with_input, output_at-with_output, output_at-with_output-other}
+pub use Rattle.exec_laws.specs.Births.{growth_list}
+pub use Rattle.exec_laws.specs.Growths.{all_kinds, end_node, end_rank, form_kind, has_gap, has_large_port, has_wrong_end, is_blank_of, is_named, is_out_of_order, is_port_taken, lacks_blank}
+pub use Rattle.exec_laws.specs.Names.{Acts, ActsCell, AreBirths, AreEdgesOf, AreOnce, AsksToGrow, BearsOut, Belies, Birth, BoxHolds, CellPicture, Edge, EdgeDone, EndHolds, GivenBack, GivesBox, GrewCell, HasEdge, HasFinished, HasForm, HoldsGraph, InputHolds, IsAtRest, IsBirth, IsBorn, IsEnd, IsFault, IsNewNode, IsNothingDue, IsOver, IsPort, IsStuck, KeepsBox, KeepsFault, Knows, LawfulDone, Left, MarkHolds, MarkTells, MayRest, NodeHolds, NodeMark, NodeState, OutputHolds, QuietBut, Running, StaysBox, StaysOrActs, StuckNode, TakeBlanks, Touches, Turns, ViewHolds, WasLoaded, action_port, after_action, all_places, births_of, blanks_of, born_wires, boxes_of, cell_at, chunks_of, edge_at, form_at, grown_ranks, grown_wires, growth_flaw, growths_of, is_finished, is_place, is_resting, is_told, is_unfinished, is_waiting, kept_growths, last_answer, last_status, lifted, new_edge, new_mark, new_wire, new_wires, no_cell, number_at, peer, places_for, port_edge, reserve_of, set_ranks, state_after, stuck_from, told, told_if, told_state, unloaded, wired_by}
+pub use Rattle.exec_laws.specs.Prelude.{Action, Answer, ArePortsOf, Blank, Close, DueCall, Finish, GrowthForm, HasPort, Input, InputAllows, IsAllFinished, IsBlank, IsFresh, IsRunning, MayGrow, MaySchedule, MayWork, Me, New, NewEdge, Output, OutputAllows, Port, Prepared, ProducerKnows, Pull, Push, Reserve, Rests, Scheduled, SpecForm, Status, StatusComes, StatusHolds, StaysFit, Unwant, WaitsForData, WaitsForRoom, Want, Who, WorkFault, after_grow, chunk_after, chunk_step, input_after, input_allows, input_step, is_in_finished, is_me, output_after, output_allows, output_step, port_flags, same_kind}
+pub use Rattle.port_word.proofs.Differences.{Holds, difference-calls}
+pub use Rattle.port_word.proofs.Fitting.{sound-grow, sound-new}
+pub use Rattle.port_word.proofs.Laws.{actions-with_actions, actions-with_input, actions-with_output, in_count-with_actions, input_at-with_actions, out_count-with_actions}
 pub use Rattle.port_word.proofs.Steps.{cond-same}
 pub use Rattle.proc_api.proofs.Follows.{as-kept-noted, follows-new, follows-noted, follows-same, follows-seen-input, follows-seen-output, follows-taken, stands-still}
-pub use Rattle.proc_api.proofs.Graphs.{few-inputs, few-outputs, input-below-count, input-of-count, output-below-count, output-of-count}
+pub use Rattle.proc_api.proofs.Graphs.{edge-added, few-inputs, few-outputs, input-below-count, input-of-count, is-gapless, output-below-count, output-of-count, wire-input, wire-output}
+pub use Rattle.proc_api.proofs.Imports.{All, All-from_get_or, All-get_or, AllByRecursion, AreAsKept, Bool, BoxPicture, ChangedByCalls, EachAction, Flags, FollowsKept, HasInputWire, HasOutputWire, InputFollows, InputPort, IsDone, IsEdge, IsGraph, IsGraphSoFar, IsSound, Kind, List, Lists, MaySee, None, Option, OutputFollows, Picture, PortCall, Some, Spec, StandStill, Table, Wire, [], after_call, after_calls, after_see, and_parts, ap, append-nil, append_assoc, arith, both_ways, can_push, cases_Bool, cases_eq, cases_lt, changed-by-both, close_call, cond, cond_both, count_by, drop, eq-eqb, eqb-true, false, false_from_ne_true, filter, finish_call, flat_map-append, get_or, get_or-append_seam, get_or-eq_default, get_or-le-sum_by, get_or-map, get_or-replicate, get_or_append_left, get_or_default, has_input, has_output, holds_data, in_count-with_input, in_count-with_output, inl, input_at-with_input, input_at-with_input-other, input_at-with_output, input_count, inr, is_gapless, is_out_finished, le-ltb, length, length-append, length-map, length-replicate, list_any, list_any_at, lt-ltb, ltb-true, map, map-append, nat_lt, ne_eqb, need_call, new_input, new_picture, no_box, no_flags, no_input, no_lists, no_wire, not, out_count-with_input, out_count-with_output, output_at-with_input, output_at-with_output, output_at-with_output-other, output_count, over_flags, pull_call, push_call, pushed_at, refl, rules, seen_chunk, subst, suc, sum_by-cons, sym, taken_out, true, with_pulled, with_pushed, zero, ℕ, ◌&&◌, ◌++◌, ◌+◌, ◌-◌, ◌<◌, ◌==◌, ◌||◌, ◌∙◌, ◌∷◌, ◌≡◌, ◌≢◌, ◌≤◌, ◌⊎◌}
 pub use Rattle.proc_api.proofs.KeptFlags.{kept_input-of, kept_inputs-of, kept_output-of, kept_outputs-of}
-pub use Rattle.exec_laws.specs.Names.{Acts, ActsCell, AreEdgesOf, BearsOut, Belies, BoxHolds, CellPicture, Edge, EdgeDone, EndHolds, GivenBack, HasEdge, HasFinished, HoldsGraph, InputHolds, IsAtRest, IsBorn, IsEnd, IsFault, IsNothingDue, IsOver, IsPort, IsStuck, KeepsFault, Knows, LawfulDone, MarkHolds, MarkTells, MayRest, NodeHolds, NodeMark, NodeState, OutputHolds, QuietBut, Running, StaysBox, StaysOrActs, StuckNode, Touches, Turns, ViewHolds, action_port, after_action, boxes_of, cell_at, chunks_of, edge_at, is_finished, is_resting, is_told, is_unfinished, is_waiting, last_answer, last_status, lifted, new_edge, new_mark, no_cell, peer, number_at, port_edge, state_after, stuck_from, told, told_if, told_state, unloaded}
+pub use Rattle.proc_api.specs.Names.{IsListGrowth, list_growth, listed_edge, listed_edges, listed_parts, option_map}
+pub use Rattle.proc_api.specs.Ports.{grown_inputs}
+pub use Rattle.proc_api.specs.Prelude.{Files, PartSpec, paths_in}
+pub use Rattle.std.proofs.Common.{IsSome, IsTrue, flat_map, get_or-set_other, get_or-set_same, is_some, length-set, remove, replicate, set, sum_by}
+pub use Rattle.std.proofs.Math.Seq.{drop-cons, get_or-append_right}
+pub use Rattle.std.proofs.lemmas.Bool.{or_left, or_parts, or_right}
+pub use Rattle.std.proofs.lemmas.List.{drop_all, map-set}
+pub use Rattle.std.proofs.lemmas.List.Folds.{list_any-append, list_any_none}
+pub use Rattle.std.proofs.lemmas.List.FromFn.{get_or-map-range_with_len, get_or-range_with_len, length-map-range_with_len, length-range_with_len, map-range_with_len_more}
+pub use Rattle.std.proofs.lemmas.List.Sums.{sum_by-append}
+pub use Rattle.std.specs.List.{find, range_with_len}
 unfoldable pub use Rattle.exec_laws.specs.Names.{box_at}
-pub use Rattle.std.proofs.Math.Seq.{drop-cons, get_or-append_seam}
-pub use Rattle.std.specs.List.{All}
-pub use Rattle.std.proofs.lemmas.List.Elements.{All-get_or}
-pub use Rattle.std.proofs.lemmas.List.Sums.{get_or-le-sum_by}
-pub use Rattle.std.specs.Prelude.{remove, sum_by}
-pub use Rattle.exec_laws.specs.Prelude.{Action, Answer, AreAsKept, ArePortsOf, BoxPicture, ChangedByCalls, Close, DueCall, EachAction, Finish, Flags, FollowsKept, HasInputWire, HasOutputWire, HasPort, Input, InputAllows, InputFollows, InputPort, IsAllFinished, IsDone, IsFresh, IsGraph, IsRunning, IsSound, Lists, MaySchedule, MaySee, MayWork, Output, OutputAllows, OutputFollows, Picture, Port, PortCall, Prepared, ProducerKnows, Pull, Push, Reserve, Rests, Scheduled, Spec, StandStill, Status, StatusComes, StatusHolds, StaysFit, Table, Unwant, WaitsForData, WaitsForRoom, Want, Wire, WorkFault, after_call, after_calls, after_see, can_push, chunk_after, chunk_step, close_call, finish_call, holds_data, input_after, input_allows, input_count, input_step, is_in_finished, is_out_finished, need_call, new_input, new_picture, no_box, no_flags, no_input, no_lists, output_after, output_allows, output_count, output_step, over_flags, port_flags, pull_call, push_call, pushed_at, seen_chunk, taken_out, with_pulled, with_pushed}
 unfoldable pub use Rattle.exec_laws.specs.Prelude.{in_count, input_at, kept_input, kept_inputs, kept_output, kept_outputs, out_count, output_at, pushes_to, rank_at, wire_at, with_actions, with_input, with_output}

@@ -1,36 +1,40 @@
 -- What is true of the boxes when a run has ended, over plain data.
-use Rattle.std.specs.Prelude.{Bool, IsTrue, List, None, Option, Some, [], cond, false, is_some, length, map, not, suc, true, ℕ, ◌&&◌, ◌++◌, ◌<◌, ◌∷◌, ◌≡◌, ◌≢◌, ◌≤◌}
-use Rattle.exec_laws.specs.Prelude.{Answer, ArePortsOf, BoxPicture, FaultHolds, FaultIsDue, Flags, IsRunning, Keeps, Lists, Prepared, Rests, Scheduled, Status, StuckNode, Table, Wire, WorkFault, input_count, is_ended, kept_input, kept_output, output_count, wire_at}
+use Rattle.exec_laws.specs.Prelude.{Answer, ArePortsOf, BoxPicture, FaultHolds, FaultIsDue, Flags, IsRunning, Keeps, Lists, Loads, Prepared, Rests, Scheduled, Spec, Status, StuckNode, Table, Wire, WorkFault, input_count, is_ended, kept_input, kept_output, output_count, wire_at}
+use Rattle.exec_laws.specs.Moves.{StaysBox, is_resting, is_waiting}
+use Rattle.exec_laws.specs.Runs.{CellPicture, HasFinished, IsBorn, MayRest, box_at, cell_at}
+use Rattle.std.specs.Prelude.{Bool, IsTrue, List, None, Option, Some, [], cond, false, is_some, length, map, not, suc, true, ℕ, ◌&&◌, ◌++◌, ◌<◌, ◌∷◌, ◌≡◌, ◌≢◌, ◌≤◌, ◌⊎◌}
 use Rattle.proc_api.specs.declared.status.Status.TheVariants as status
 use Rattle.proc_api.specs.declared.status.WorkFault.TheVariants as fault
-use Rattle.exec_laws.specs.Runs.{CellPicture, HasFinished, IsBorn, MayRest, box_at, cell_at}
-use Rattle.exec_laws.specs.Moves.{StaysBox, is_resting, is_waiting}
 
 -- ---- done
 
--- An edge at the end: the chunks pulled are the first of those pushed. They are all of them unless the consumer's
--- node closed the port, and wherever a lawful consumer saw its input end, whether it closed it afterwards or not.
--- A lawful box keeps its own finished flag where its node set it, and a peer's only where the peer's node set it.
-pub record EdgeDone (w : Wire) (from to : BoxPicture) (pulled pushed : List Table) (port : Flags) : Type 0 where
+-- An edge at the end: the chunks pulled are the first of those pushed. They are all of them unless
+-- the consumer's node closed the port, and wherever a lawful consumer saw its input end, whether it
+-- closed it afterwards or not. A lawful box keeps its own finished flag where its node set it, and
+-- a peer's only where the peer's node set it.
+pub record EdgeDone (w : Wire) (from to : BoxPicture) (pulled pushed : List Table)
+    (port : Flags) : Type 0 where
   pub left : List Table
   pub first : pushed ≡ pulled ++ left
   pub all : port.fin_in ≡ false → pulled ≡ pushed
   pub ended : IsTrue to.lawful → is_ended (kept_input to w.input) ≡ true → pulled ≡ pushed
   pub closed : IsTrue to.lawful → port.fin_in ≡ true → (kept_input to w.input).fin_in ≡ true
   pub finished : IsTrue from.lawful → port.fin_out ≡ true → (kept_output from w.out).fin_out ≡ true
-  pub sees_finished : IsTrue to.lawful → (kept_input to w.input).fin_out ≡ true → port.fin_out ≡ true
+  pub sees_finished : IsTrue to.lawful → (kept_input to w.input).fin_out ≡ true
+      → port.fin_out ≡ true
   pub sees_closed : IsTrue from.lawful → (kept_output from w.out).fin_in ≡ true → port.fin_in ≡ true
 
--- A lawful box at the end: if it has the ports of its spec and growth, it keeps what was pulled and pushed. Its
--- kept flags say that it has finished. Nothing was pulled where there is no input.
+-- A lawful box at the end: if it has the ports of its spec and growth, it keeps what was pulled and
+-- pushed. Its kept flags say that it has finished. Nothing was pulled where there is no input.
 pub record LawfulDone (inputs outputs : ℕ) (p : BoxPicture) (pulled pushed : Lists) : Type 0 where
   pub keeps : ArePortsOf p.spec p.growth inputs outputs → Keeps p pulled pushed
   pub finished : HasFinished inputs outputs p
   pub nothing_past : (i : ℕ) → inputs ≤ i → pulled i ≡ []
   pub nothing_pushed_past : (o : ℕ) → outputs ≤ o → pushed o ≡ []
 
--- Every born node is over, and its box may still be called. There are lists of chunks for each port, and the
--- flags of each edge's port, as an ended run left them. The wires are those at the end.
+-- Every born node is over, and its box may still be called. There are lists of chunks for each
+-- port, and the flags of each edge's port, as an ended run left them. The wires are those at the
+-- end.
 pub record IsDone (wires : List Wire) (boxes : List BoxPicture) : Type 0 where
   pub pulled : ℕ → Lists
   pub pushed : ℕ → Lists
@@ -39,9 +43,11 @@ pub record IsDone (wires : List Wire) (boxes : List BoxPicture) : Type 0 where
       → (box_at boxes n).notes.answer ≡ Some (Prepared status.Finished)
   pub running : (n : ℕ) → n < length boxes → IsBorn (box_at boxes n) → IsRunning (box_at boxes n)
   pub each : (n : ℕ) → n < length boxes → IsBorn (box_at boxes n) → IsTrue (box_at boxes n).lawful
-      → LawfulDone (input_count wires n) (output_count wires n) (box_at boxes n) (pulled n) (pushed n)
+      → LawfulDone (input_count wires n) (output_count wires n) (box_at boxes n) (pulled n)
+      (pushed n)
   pub joined : (e : ℕ) → e < length wires → let w = wire_at wires e in
-      EdgeDone w (box_at boxes w.from) (box_at boxes w.to) (pulled w.to w.input) (pushed w.from w.out) (ports e)
+      EdgeDone w (box_at boxes w.from) (box_at boxes w.to) (pulled w.to w.input)
+      (pushed w.from w.out) (ports e)
 
 -- ---- stuck
 
@@ -65,7 +71,8 @@ is_finished (Some (Scheduled w)) = false
 abbrev pub is_unfinished : BoxPicture → Bool
 is_unfinished p = is_some p.spec && not (is_finished p.notes.answer)
 
--- The born nodes that aren't over, with the last status of each, in order; the first box is that of node n.
+-- The born nodes that aren't over, with the last status of each, in order; the first box is that of
+-- node n.
 abbrev pub stuck_from : ℕ → List BoxPicture → List StuckNode
 stuck_from n [] = []
 stuck_from n (p ∷ boxes) =
@@ -73,8 +80,8 @@ stuck_from n (p ∷ boxes) =
     (record { node = n; last = last_status p.notes.answer } ∷ stuck_from (suc n) boxes)
     (stuck_from (suc n) boxes)
 
--- The report lists all born nodes that aren't over, and each of them is at rest. The named node is one of them,
--- and its box isn't lawful.
+-- The report lists all born nodes that aren't over, and each of them is at rest. The named node is
+-- one of them, and its box isn't lawful.
 pub record IsStuck (boxes : List BoxPicture) (report : List StuckNode) (node : ℕ) : Type 0 where
   pub lists : report ≡ stuck_from 0 boxes
   pub at_rest : (n : ℕ) → n < length boxes → is_unfinished (box_at boxes n) ≡ true
@@ -85,8 +92,10 @@ pub record IsStuck (boxes : List BoxPicture) (report : List StuckNode) (node : �
 
 -- ---- faults
 
--- The box keeps the fault that it answered, with what is true then of every box and of a lawful one.
+-- The box of a born node keeps the fault that it answered, with what is true then of every box and
+-- of a lawful one.
 pub record KeepsFault (f : WorkFault) (p : BoxPicture) : Type 0 where
+  pub born : IsBorn p
   pub kept : p.notes.fault ≡ Some f
   pub holds : FaultHolds (Some f) p
   pub is_due : IsTrue p.lawful → FaultIsDue (Some f) p
@@ -99,10 +108,22 @@ pub record IsFault (boxes : List BoxPicture) (node : ℕ) (f : WorkFault) : Type
 
 -- ---- all boxes are given back
 
--- the same boxes in their order, with what they have besides
+-- a blank box was loaded, when its node was born, and ran
+pub record WasLoaded (p q : BoxPicture) : Type 0 where
+  pub spec : Spec
+  pub loaded : BoxPicture
+  pub loads : Loads p spec loaded
+  pub stays : StaysBox loaded q
+
+-- a box is the same, with what it had besides, and a blank one is as it was or was loaded
+pub record GivesBox (p q : BoxPicture) : Type 0 where
+  pub born : IsBorn p → StaysBox p q
+  pub unborn : p.spec ≡ None → (q ≡ p) ⊎ WasLoaded p q
+
+-- the same boxes in their order
 pub record GivenBack (before after : List BoxPicture) : Type 0 where
   pub count : length after ≡ length before
-  pub each : (n : ℕ) → n < length before → StaysBox (box_at before n) (box_at after n)
+  pub each : (n : ℕ) → n < length before → GivesBox (box_at before n) (box_at after n)
 
 -- ---- the cells, where nothing is due
 

@@ -1,15 +1,14 @@
 -- What is true of a running graph between two moves: of each node, and of each edge.
+use Rattle.exec_laws.specs.Prelude.{AllInputsFinished, Answer, ArePortsOf, BoxPicture, DueCall, Edge, Flags, FollowsKept, Input, InputFollows, InputPort, IsAllFinished, IsGraph, IsRunning, IsSound, Keeps, Lists, MaySchedule, MayWork, NodeMark, NodeState, Output, OutputAllows, OutputFollows, Picture, Port, Prepared, ProducerKnows, Reserve, Rests, Scheduled, StandStill, Status, StatusComes, Table, Wire, in_count, input_after, input_at, input_count, is_out_finished, kept_inputs, kept_output, kept_outputs, new_picture, no_box, no_flags, out_count, output_after, output_at, output_count, pushes_to, wire_at}
 use Rattle.std.specs.Prelude.{IsSome, IsTrue, List, None, Option, Some, [], false, is_some, length, slice_index_or, true, ℕ, ⊤, ◌++◌, ◌<◌, ◌||◌, ◌∷◌, ◌≡◌, ◌≢◌, ◌≤◌}
-use Rattle.exec_laws.specs.Prelude.{AllInputsFinished, Answer, AreAsKept, ArePortsOf, BoxPicture, DueCall, Edge, Flags, FollowsKept, Input, InputFollows, InputPort, IsAllFinished, IsGraph, IsRunning, IsSound, Keeps, Lists, MaySchedule, MayWork, NodeMark, NodeState, Output, OutputAllows, OutputFollows, Picture, Port, Prepared, ProducerKnows, Reserve, Rests, Scheduled, Status, Table, Wire, in_count, input_after, input_at, input_count, is_out_finished, kept_inputs, kept_output, kept_outputs, new_picture, no_box, no_flags, out_count, output_after, output_at, output_count, pushes_to, wire_at}
-use Rattle.query_model.specs.declared.processor_spec.Kind.TheVariants as kind
 use Rattle.proc_api.specs.declared.status.Status.TheVariants as status
 use Rattle.exec_laws.specs.declared.edges.DueCall.TheVariants as call
 use Rattle.exec_laws.specs.declared.edges.NodeState.TheVariants as node
 
 -- ---- the state
 
--- What an executor has of a node: the picture of its box, its view, its mark, and the numbers of the edges at
--- its inputs and at its outputs.
+-- What an executor has of a node: the picture of its box, its view, its mark, and the numbers of
+-- the edges at its inputs and at its outputs.
 pub record CellPicture : Type 0 where
   pub box : BoxPicture
   pub view : Picture
@@ -24,7 +23,7 @@ abbrev pub no_cell : CellPicture
 no_cell = record {
   box = no_box;
   view = new_picture 0 0;
-  mark = record { state = node.Over; last = None };
+  mark = record { state = node.Unborn; last = None };
   inputs = [];
   outputs = [];
 }
@@ -84,25 +83,31 @@ abbrev pub last_answer : Option Status → Option Answer
 last_answer None = None
 last_answer (Some s) = Some (Prepared s)
 
--- A node may rest on this answer: nothing is left to do but what a change at a port asks for. No graph grows
--- so far.
+-- A node may rest on this answer: nothing is left to do but what a change at a port asks for.
 abbrev pub MayRest : Option Answer → Type 0
 MayRest None = ⊤
 MayRest (Some (Prepared status.NeedData)) = ⊤
 MayRest (Some (Prepared status.PortFull)) = ⊤
 MayRest (Some (Prepared status.Ready)) = ⊥
 MayRest (Some (Prepared status.Async)) = ⊥
-MayRest (Some (Prepared status.ExpandPipeline)) = ⊤
+MayRest (Some (Prepared status.ExpandPipeline)) = ⊥
 MayRest (Some (Prepared status.Finished)) = ⊥
 MayRest (Some (Scheduled w)) = ⊥
+
+-- the box was asked and says that the graph is to grow
+pub record AsksToGrow (p : BoxPicture) : Type 0 where
+  pub answer : p.notes.answer ≡ Some (Prepared status.ExpandPipeline)
+  pub not_acted : p.notes.acted ≡ false
+  pub comes : IsTrue p.lawful → StatusComes status.ExpandPipeline p
 
 -- the box's own answer lets the call come
 abbrev pub MayCall : DueCall → BoxPicture → Type 0
 MayCall call.Work p = MayWork p.notes.answer × (p.notes.acted ≡ false)
 MayCall call.Schedule p = MaySchedule p.notes.answer × (p.notes.acted ≡ false)
+MayCall call.Expand p = AsksToGrow p
 
--- The flags that a box keeps of its ports, so many inputs and outputs, say that each input is finished or
--- closed, and each output finished.
+-- The flags that a box keeps of its ports, so many inputs and outputs, say that each input is
+-- finished or closed, and each output finished.
 pub record HasFinished (inputs outputs : ℕ) (p : BoxPicture) : Type 0 where
   pub ins : kept_inputs p ≡ inputs
   pub outs : kept_outputs p ≡ outputs
@@ -122,18 +127,19 @@ pub record IsOver (inputs outputs : ℕ) (p : BoxPicture) (v : Picture) : Type 0
   pub kept : IsTrue p.lawful → HasFinished inputs outputs p
 
 -- what a mark says of the node
-abbrev pub MarkHolds : NodeState → Option Status → (inputs outputs : ℕ) → BoxPicture → Picture → Type 0
+abbrev pub MarkHolds : NodeState → Option Status → (inputs outputs : ℕ) → BoxPicture → Picture
+    → Type 0
 MarkHolds node.Resting last inputs outputs p v = IsAtRest last p v
 MarkHolds node.Due last inputs outputs p v = ⊤
 MarkHolds (node.AtWork c) last inputs outputs p v = MayCall c p
 MarkHolds node.Over last inputs outputs p v = IsOver inputs outputs p v
+MarkHolds node.Unborn last inputs outputs p v = ⊥
 
--- A box with so many inputs and outputs, whatever the mark is. A lawful box that has the ports of its spec keeps
--- what it pulled and pushed.
+-- A box with so many inputs and outputs, whatever the mark is. A lawful box that has the ports of
+-- its spec keeps what it pulled and pushed.
 pub record BoxHolds (inputs outputs : ℕ) (p : BoxPicture) (pulled pushed : Lists) : Type 0 where
   pub running : IsRunning p
-  pub not_list : p.kind ≡ kind.List → ⊥
-  pub as_kept : AreAsKept p.notes.view inputs outputs
+  pub still : IsTrue p.lawful → StandStill p.spec p.notes.view inputs outputs
   pub fits : IsTrue p.lawful → ArePortsOf p.spec p.growth inputs outputs → p.notes.fits ≡ true
   pub keeps : IsTrue p.lawful → ArePortsOf p.spec p.growth inputs outputs → Keeps p pulled pushed
   pub nothing_past : (i : ℕ) → inputs ≤ i → pulled i ≡ []
@@ -144,14 +150,16 @@ pub record ViewHolds (inputs outputs : ℕ) (v : Picture) : Type 0 where
   pub ins : in_count v ≡ inputs
   pub outs : out_count v ≡ outputs
 
--- A born node, whether or not all its actions were carried out. What an executor closes or finishes besides of a
--- box that has finished shows in its view alone, and it is over then.
-pub record NodeHolds (wires : List Wire) (n : ℕ) (c : CellPicture) (pulled pushed : Lists) : Type 0 where
+-- A born node, whether or not all its actions were carried out. What an executor closes or finishes
+-- besides of a box that has finished shows in its view alone, and it is over then.
+pub record NodeHolds (wires : List Wire) (n : ℕ) (c : CellPicture)
+    (pulled pushed : Lists) : Type 0 where
   pub box : BoxHolds (input_count wires n) (output_count wires n) c.box pulled pushed
   pub view : ViewHolds (input_count wires n) (output_count wires n) c.view
   pub numbers : AreEdgesOf wires n c.inputs c.outputs
   pub kept : (c.mark.state ≡ node.Over → IsTrue c.box.lawful) → FollowsKept c.box c.view
-  pub mark : MarkHolds c.mark.state c.mark.last (input_count wires n) (output_count wires n) c.box c.view
+  pub mark : MarkHolds c.mark.state c.mark.last (input_count wires n) (output_count wires n) c.box
+      c.view
 
 -- ---- an edge
 
@@ -164,16 +172,17 @@ pub record OutputHolds (m : NodeState) (f g : Flags) : Type 0 where
   pub follows : OutputFollows f g
   pub known : m ≡ node.Resting → ProducerKnows f g
 
--- An input, and the flags and the chunk there. There is data exactly where a chunk lies in the view or in the
--- edge, and never in both.
-pub record InputHolds (m : NodeState) (c : InputPort) (g : Flags) (chunk : Option Table) : Type 0 where
+-- An input, and the flags and the chunk there. There is data exactly where a chunk lies in the view
+-- or in the edge, and never in both.
+pub record InputHolds (m : NodeState) (c : InputPort) (g : Flags)
+    (chunk : Option Table) : Type 0 where
   pub follows : InputFollows c.flags g
   pub data_there : g.has_data ≡ (is_some c.chunk || is_some chunk)
   pub one_chunk : is_some c.chunk ≡ true → chunk ≡ None
   pub known : m ≡ node.Resting → c.flags ≡ g
 
--- An edge at a port of a node, whose own actions there aren't all carried out: the view shows the edge as they
--- will leave it.
+-- An edge at a port of a node, whose own actions there aren't all carried out: the view shows the
+-- edge as they will leave it.
 abbrev pub EndHolds : Port → CellPicture → Edge → Type 0
 EndHolds (Input i) c e =
     InputHolds c.mark.state (input_at c.view i) (input_after i c.view.actions e.flags) e.chunk
@@ -200,7 +209,7 @@ pub record Running (count : ℕ) (wires : List Wire) (cells : ℕ → CellPictur
   pub pushed : ℕ → Lists
   pub each : (n : ℕ) → n < count → IsBorn (cells n).box
       → NodeHolds wires n (cells n) (pulled n) (pushed n)
-  pub unborn : (n : ℕ) → n < count → (cells n).box.spec ≡ None → (cells n).mark.state ≡ node.Over
+  pub unborn : (n : ℕ) → n < count → (cells n).box.spec ≡ None → (cells n).mark.state ≡ node.Unborn
   pub born : (e n : ℕ) (p : Port) → HasEdge wires n p e → IsBorn (cells n).box
   pub ends : (e n : ℕ) (p : Port) → HasEdge wires n p e → EndHolds p (cells n) (edges e)
   pub lists : (e : ℕ) → e < length wires → let w = wire_at wires e in

@@ -5,8 +5,8 @@ use chunk_data::Chunk;
 use port_word::Flags;
 use proc_api::Status;
 
-/// A connection between two ports: their flags, and the chunk that was pushed and that its consumer hasn't
-/// seen yet.
+/// A connection between two ports: their flags, and the chunk that was pushed and that its consumer
+/// hasn't seen yet.
 #[derive(Debug, Drop)]
 pub struct Edge {
     pub flags: Flags,
@@ -37,6 +37,8 @@ impl Edge {
 pub enum DueCall {
     Work,
     Schedule,
+    /// It says by what the graph grows.
+    Expand,
 }
 
 /// What an executor does next with a node.
@@ -48,8 +50,10 @@ pub enum NodeState {
     Due,
     /// This call of its box comes, and then it is prepared.
     AtWork(DueCall),
-    /// It is finished for good, or not born.
+    /// It is finished for good.
     Over,
+    /// It is kept for the growth of another node.
+    Unborn,
 }
 
 /// What an executor remembers of a node: what comes next, and the last answer to `prepare`.
@@ -60,8 +64,8 @@ pub struct NodeMark {
 }
 
 impl NodeMark {
-    /// The mark before the first move of a node with this number of outputs. A node without outputs is due: it
-    /// asks first.
+    /// The mark before the first move of a node with this number of outputs. A node without outputs
+    /// is due: it asks first.
     pub fn new(outputs: usize) -> NodeMark
         ensures { result ≡ new_mark outputs }
     {
