@@ -1,20 +1,8 @@
 -- The calls of a round, made of many nodes at the same time.
-use Rattle.exec_laws.proofs.Words.{Acts, ActsCell, BoxPicture, CellPicture, KeepsFault, List, None, Option, StaysBox, StaysOrActs, [], ap, arith, drop, cases_eq, cases_lt, cell_at, get_or, get_or-map, get_or_append_left, inl, inr, length, length-append, length-map, no_cell, refl, subst, suc, sym, zero, ℕ, ◌++◌, ◌+◌, ◌<◌, ◌∙◌, ◌∷◌, ◌≡◌, ◌≢◌, ◌≤◌}
-use Rattle.exec_laws.specs.Prelude.{IsRunning, SameBox}
-use Rattle.std.specs.Prelude.{All, HoldsAt, IfNone, IfSome, swap, ◌-◌}
-use Rattle.std.proofs.lemmas.List.{get_or-append_right, get_or-drop, length-drop, with_items_is}
-use Rattle.std.specs.Vec.{with_items}
-use Rattle.std.proofs.lemmas.Option.{IfSome_then}
-use Rattle.std.proofs.lemmas.List.Elements.{All-from_get_or}
-use Rattle.std.proofs.lemmas.List.Edits.{length-swap, swapped_from_swap}
-use Rattle.exec_laws.specs.declared.edges.DueCall.{DueCall}
+use Rattle.pipeline_exec.proofs.Words.{Acts, ActsCell, All-from_get_or, AreCalled, Board, BoxPicture, Cell, CellPicture, DueCall, Each, ExecutorState, HasFault, HoldsAt, IfNone, IfSome, IfSome_then, IsCalled, IsClear, IsCleared, IsRunning, IsUnderWay, KeepsBox, KeepsFault, List, MayBeCalled, NodeFault, None, Option, SameBox, Stays, StaysOrActs, [], acted, ap, arith, board_of, busy-born, cases_eq, cases_lt, cell_at, cell_picture, cells_of, drop, get_or, get_or-append_right, get_or-drop, get_or-map, get_or_append_left, inl, inr, keeps-both, keeps-itself, length, length-append, length-drop, length-map, length-swap, no_cell, refl, subst, suc, swap, swapped_from_swap, sym, with_items, with_items_is, zero, ℕ, ◌++◌, ◌+◌, ◌-◌, ◌<◌, ◌∙◌, ◌∷◌, ◌≡◌, ◌≢◌, ◌≤◌}
+use Rattle.pipeline_exec.proofs.Moving.{on-board}
+use Rattle.std.specs.Prelude.{All}
 use Rattle.exec_laws.specs.declared.edges.NodeState.TheVariants as node
-use Rattle.exec_laws.proofs.Acting.{acted, stays-both, stays-itself}
-use Rattle.exec_laws.proofs.Nodes.{busy-born}
-use Rattle.pipeline_exec.specs.declared.calls.NodeFault.{NodeFault}
-use Rattle.pipeline_exec.specs.declared.cell.Cell.{Cell}
-use Rattle.pipeline_exec.specs.declared.executor_state.ExecutorState.{ExecutorState}
-use Rattle.pipeline_exec.specs.Cells.{Board, AreCalled, Each, HasFault, IsCalled, IsClear, IsCleared, IsUnderWay, MayBeCalled, Stays, board_of, cell_picture, cells_of}
 
 -- ---- elements that change places
 
@@ -84,6 +72,7 @@ acted-both c d e (inr a) (inr b) =
     let last : d.mark.last ≡ c.mark.last = ap (λ (x : CellPicture). x.mark.last) a.own in
     inr (record {
       busy = a.busy;
+      not_unborn = a.not_unborn;
       acts = acts-both c.box d.box e.box a.acts b.acts;
       own = b.own ∙ ap (λ (x : CellPicture). record x {
         box = e.box;
@@ -108,15 +97,15 @@ may-again c d r a = record {
 
 -- ---- the nodes
 
-absurd-work : (call : DueCall) → node.AtWork call ≡ node.Over → ⊥
+absurd-work : (call : DueCall) → node.AtWork call ≡ node.Unborn → ⊥
 absurd-work call e = cc
 
 -- a node at work may get the call that it is due
 pub may-be-called : (b : Board) → IsUnderWay b → All MayBeCalled b.cells
 may-be-called b u = All-from_get_or MayBeCalled b.cells no_cell (λ n lt. record {
   may = λ call due.
-      let busy : (cell_at b.cells n).mark.state ≢ node.Over = (λ over.
-      absurd-work call (sym due ∙ over)) in
+      let busy : (cell_at b.cells n).mark.state ≢ node.Unborn = (λ e.
+      absurd-work call (sym due ∙ e)) in
       let own = u.board.running.each n lt (busy-born _ _ _ _ u.board.running n lt busy) in
       let mark = own.mark in
       record { running = own.box.running; may = rw due at mark };
@@ -135,7 +124,7 @@ module _ {P : Type 0} (seen : P → BoxPicture) where
 
   pub called-itself : (c : Cell P) → IsCalled seen c c
   called-itself c = record {
-    stays = stays-itself (seen c.processor);
+    stays = keeps-itself (seen c.processor);
     acted = λ _. inl refl;
     failed = λ clear. rw clear tt;
   }
@@ -144,7 +133,7 @@ module _ {P : Type 0} (seen : P → BoxPicture) where
   pub called-both : (c d e : Cell P) → IsCalled seen c d → d.fault ≡ None → IsCalled seen d e
       → IsCalled seen c e
   called-both c d e a clear b = record {
-    stays = stays-both (seen c.processor) (seen d.processor) (seen e.processor) a.stays b.stays;
+    stays = keeps-both (seen c.processor) (seen d.processor) (seen e.processor) a.stays b.stays;
     acted = λ none. acted-both _ _ _ (a.acted clear) (b.acted none);
     failed = λ _. b.failed clear;
   }
@@ -175,8 +164,8 @@ module _ {P : Type 0} (seen : P → BoxPicture) where
       (e.at n past (rw cleared.len lt)) in
       record {
         len = rw (length-map, length-map) len;
-        stays = λ n. at-pictures (λ c d. StaysBox c.box d.box) was after n len
-            (λ _. stays-itself no_cell.box) (λ past lt. (each n past lt).stays);
+        stays = λ n. at-pictures (λ c d. KeepsBox c.box d.box) was after n len
+            (λ _. keeps-itself no_cell.box) (λ past lt. (each n past lt).stays);
         acted = λ none n. at-pictures StaysOrActs was after n len (λ _. inl refl)
             (λ past lt. (each n past lt).acted ((rw none at missing) n past (rw len lt)));
         failed = IfSome_then first found (λ f at. record {
@@ -201,15 +190,20 @@ module _ {P : Type 0} (seen : P → BoxPicture) (state : ExecutorState P) (lent 
   called = rw (with_items_is state.cells after len, ← value) a
 
   pub calls-stay : Stays (board_of seen state) now
-  calls-stay = record { wires = refl; len = called.len; each = called.stays }
+  calls-stay = record {
+    wires = refl;
+    ranks = refl;
+    reserves = refl;
+    left = refl;
+    len = called.len;
+    each = called.stays;
+  }
 
   pub calls-held : IsUnderWay (board_of seen state) → first ≡ None → IsUnderWay now
   calls-held u none =
       let each = called.acted none in
       record {
-        board = record {
-          edges_len = u.board.edges_len;
-          running = rw called.len (acted u.board.running (cell_at now.cells) each);
-        };
+        board = on-board (board_of seen state) now u.board refl refl refl refl called.len refl
+            (rw called.len (acted u.board.running (cell_at now.cells) each));
         quiet = λ n. elim (each n) [ inl s ↦ rw s (u.quiet n) | inr x ↦ rw x.own (u.quiet n) ];
       }

@@ -1,15 +1,14 @@
 -- The names that proofs of this crate's functions use, in one place.
-pub use Rattle.exec_laws.proofs.Words.{ActsCell, BearsOut, CellPicture, KeepsFault, StaysBox, [], ap, arith, boxes_of, cell_at, cond, drop, false, is_in_finished, is_out_finished, is_resting, is_waiting, length, map, refl, stuck_from, subst, sym, true, ℕ, ◌++◌, ◌+◌, ◌<◌, ◌∙◌, ◌∷◌, ◌≡◌, ◌≤◌}
-unfoldable pub use Rattle.exec_laws.proofs.Words.{input_at, output_at, wire_at}
-pub use Rattle.pipeline_exec.proofs.Calling.{are-called, called-itself, calls-held, calls-stay, each-front, each-swapped, may-be-called, may-each}
+pub use Rattle.pipeline_exec.proofs.BirthSteps.{bears-still, carries-out, gives-same, gives-some, more-bears, more-ports-at, next-dropped, next-form, next-is, on-err}
+pub use Rattle.pipeline_exec.proofs.Calling.{are-called, called-both, called-itself, calls-held, calls-stay, each-front, each-swapped, may-again, may-be-called, may-each}
 pub use Rattle.pipeline_exec.proofs.Creating.{found-some, has-wire, more-ports, state-started}
-pub use Rattle.pipeline_exec.proofs.Lists.{cell-changed, cell-read, cell-told, cells-below, cells-within}
-pub use Rattle.pipeline_exec.proofs.Moving.{all-carried, carried-one, none-carried, prepared, prepared-stays, shows-seen, side-count}
+pub use Rattle.pipeline_exec.proofs.GrowthEnds.{bad-end, failed-end}
+pub use Rattle.pipeline_exec.proofs.GrowthFlaws.{gap, lacks, large-port, out-of-order, taken}
+pub use Rattle.pipeline_exec.proofs.GrowthLaws.{blank-found, find-on, kinds-count}
+pub use Rattle.pipeline_exec.proofs.GrowthRuns.{ends-after, failed-grow, gives-after, grew-gives, grows-on, stays-grows}
+pub use Rattle.pipeline_exec.proofs.GrowthSteps.{bad-growth, few-blanks, grew, may}
+pub use Rattle.pipeline_exec.proofs.Lists.{cell-changed, cell-read, cell-told, cells-below, cells-within, changed-if-err, changed-if-ok}
+pub use Rattle.pipeline_exec.proofs.Moving.{all-carried, carried-one, none-carried, prepared, prepared-stays, shows-seen, side-count, stay-both}
 pub use Rattle.pipeline_exec.proofs.RunEnds.{all-back, boxes-end, is-done, is-fault, is-stuck, more-stuck}
-pub use Rattle.pipeline_exec.specs.Cells.{AreFirstEdges, AreNewEdges, AreNewFrom, AreNewPorts, Carries, HasWire, IsCalled, IsClear, IsUnderWay, MayBeCalled, Shows, Stays, board_of, cell_picture, cells_of, is_end}
-pub use Rattle.pipeline_exec.specs.Ends.{EndHolds}
-pub use Rattle.pipeline_exec.specs.Resting.{has_room, is_wanting}
-pub use Rattle.std.proofs.lemmas.List.Elements.{AllWithin-more_set}
-pub use Rattle.std.proofs.lemmas.List.Sorted.{All-permutation}
-pub use Rattle.std.specs.List.{All, AllWithin}
-pub use Rattle.std.specs.Prelude.{vec_capacity, ◌-◌}
+pub use Rattle.pipeline_exec.proofs.Words.{ActsCell, All, All-permutation, AllWithin, AllWithin-more_set, AreFirstEdges, AreFirstPorts, AreFree, AreNewEdges, AreNewFrom, AreNewPorts, ArePortsAt, Bears, BearsOut, BearsSome, Blank, Bore, Carries, CellPicture, ChangesCell, EndHolds, GrowsTo, HasWire, IfErr-weaker, IsCalled, IsClear, IsUnderWay, KeepsFault, Kind, MayBeCalled, None, RoundEndHolds, Shows, Stays, StaysBox, [], ap, are_left, arith, begun, blank_place, board_of, boxes_of, cell_at, cell_picture, cells_of, cond, drop, eq-eqb, false, find, form_at, forms_of, get_or, get_or-take, get_or_default, has_gap, has_room, inr, is_blank_of, is_end, is_in_finished, is_out_finished, is_port_taken, is_resting, is_waiting, is_wanting, keeps-born, kind_of, kind_place, kinds_of, lacks_blank, le-ltb, length, length-map, length-take-le, list_any, map, new_edge, new_wires, on_ok_weaker, option_map, place_at, places_for, ranks_of, refl, replicate, reserve_of, rules, same_kind, same_true, set_ranks, slice_set, spec_form, stuck_from, subst, sym, take, true, unborn_of, vec_capacity, without_blank, ℕ, ◌++◌, ◌+◌, ◌-◌, ◌<◌, ◌∙◌, ◌∷◌, ◌≡◌, ◌≢◌, ◌≤◌}
+unfoldable pub use Rattle.pipeline_exec.proofs.Words.{input_at, output_at, wire_at}

@@ -1,6 +1,13 @@
+pub mod Words
 pub mod Lists
 pub mod Moving
 pub mod Calling
 pub mod Creating
 pub mod RunEnds
+pub mod GrowthLaws
+pub mod GrowthFlaws
+pub mod BirthSteps
+pub mod GrowthRuns
+pub mod GrowthSteps
+pub mod GrowthEnds
 pub mod Imports

@@ -1,25 +1,40 @@
 -- A move of one node keeps the state of the run.
-use Rattle.exec_laws.proofs.Words.{Action, CellPicture, Flags, HasEdge, QuietBut, IsPort, Knows, List, NodeHolds, None, Option, Picture, Port, Running, Some, StaysBox, Table, Touches, Turns, [], action_port, ap, arith, cases_eq, cell_at, edge_at, inl, input_count, inr, is_told, length, lifted, ne_eqb, output_count, peer, port_edge, refl, rules, subst, sym, told_if, unloaded, wire_at, ℕ, ◌&&◌, ◌+◌, ◌<◌, ◌==◌, ◌∙◌, ◌≡◌, ◌≢◌}
-use Rattle.exec_laws.specs.declared.edges.Edge.{Edge}
+use Rattle.pipeline_exec.proofs.Words.{Action, Board, Carries, CarriesOne, CellPicture, ChangesCell, Edge, Flags, HasEdge, Inputs, IsCarrying, IsOnBoard, IsPort, IsTurning, IsUnderWay, KeepsBox, Knows, List, MovesEdge, NodeHolds, None, Option, Outputs, Picture, Port, QuietBut, Running, SeesPort, Shows, Side, Some, Stays, Table, TakesAction, Touches, Turns, [], action_port, ap, apart, arith, at-node, busy-born, carried, cases_eq, cell_at, edge_at, inl, input_count, inr, is_told, keeps-born, keeps-both, keeps-itself, length, lifted, may-see, ne_eqb, output_count, peer, port_count, port_edge, port_on, refl, rules, see-actions, see-keeps, see-knows, seen, subst, sym, told_if, turned, unloaded, wire_at, ℕ, ◌&&◌, ◌+◌, ◌<◌, ◌==◌, ◌∙◌, ◌≡◌, ◌≢◌}
 use Rattle.exec_laws.specs.declared.edges.NodeState.TheVariants as node
-use Rattle.exec_laws.proofs.Acting.{stays-both, stays-itself}
-use Rattle.exec_laws.proofs.Carrying.{carried}
-use Rattle.exec_laws.proofs.Nodes.{apart, at-node, busy-born}
-use Rattle.exec_laws.proofs.Seeing.{may-see, see-actions, see-keeps, see-knows, seen}
-use Rattle.exec_laws.proofs.Turns.{turned}
-use Rattle.pipeline_exec.specs.declared.cell.Side.{Side}
-use Rattle.pipeline_exec.specs.declared.cell.Side.TheVariants.{Inputs, Outputs}
-use Rattle.pipeline_exec.specs.Cells.{Board, Carries, CarriesOne, ChangesCell, IsCarrying, IsTurning, IsUnderWay, MovesEdge, SeesPort, Shows, Stays, TakesAction, port_count, port_on}
 
 -- ---- what stays of the boxes
 
 pub stay-both : (a b c : Board) → Stays a b → Stays b c → Stays a c
-stay-both a b c h1 h2 = search (rules, stays-both)
+stay-both a b c h1 h2 = search (rules, keeps-both)
 
 -- where one cell has changed, and what stays of its box is known
-pub stay-changed : (n : ℕ) (R : CellPicture → CellPicture → Type 0) (b d : Board) → d.wires ≡ b.wires
-    → ChangesCell n R b.cells d.cells → StaysBox (cell_at b.cells n).box (cell_at d.cells n).box → Stays b d
-stay-changed n R b d h1 h2 h3 = search (rules, at-node, stays-itself)
+pub stay-changed : (n : ℕ) (R : CellPicture → CellPicture → Type 0) (b : Board)
+    (cells : List CellPicture) (edges : List Edge) → ChangesCell n R b.cells cells
+    → KeepsBox (cell_at b.cells n).box (cell_at cells n).box
+    → Stays b (record b { cells = cells; edges = edges })
+stay-changed n R b cells edges h1 h2 = record {
+  wires = refl;
+  ranks = refl;
+  reserves = refl;
+  left = refl;
+  len = h1.len;
+  each = λ m. at-node (λ k. KeepsBox (cell_at b.cells k).box (cell_at cells k).box) n m h2
+      (λ ne. rw (h1.others m ne) (keeps-itself (cell_at b.cells m).box));
+}
+
+-- a graph is running on with the same wires and reserves
+pub on-board : (b d : Board) → IsOnBoard b → d.wires ≡ b.wires → d.ranks ≡ b.ranks
+    → d.reserves ≡ b.reserves → d.left ≡ b.left → length d.cells ≡ length b.cells
+    → length d.edges ≡ length b.edges
+    → Running (length d.cells) d.wires (cell_at d.cells) (edge_at d.edges) → IsOnBoard d
+on-board b d o wires ranks reserves left cells edges r = record {
+  edges_len = edges ∙ o.edges_len ∙ ap length (sym wires);
+  graph = rw (ranks, wires) o.graph;
+  ranks_len = ap length ranks ∙ o.ranks_len ∙ sym cells;
+  left_len = ap length left ∙ o.left_len ∙ sym cells;
+  within = λ n. rw (reserves, cells) (o.within n);
+  running = r;
+}
 
 -- ---- a port is shown
 
@@ -31,8 +46,8 @@ quiet-on n R cells after c h1 h2 m = at-node (λ k. (cell_at after k).view.actio
     (λ ne. rw (c.others m ne) (h1 m ne))
 
 module _ (n : ℕ) (b : Board) (t : IsTurning n b) where
-  busy : (cell_at b.cells n).mark.state ≢ node.Over
-  busy over = let e : node.Due ≡ node.Over = sym t.due ∙ over in cc
+  busy : (cell_at b.cells n).mark.state ≢ node.Unborn
+  busy e = let f : node.Due ≡ node.Unborn = sym t.due ∙ e in cc
 
   turning-node : NodeHolds b.wires n (cell_at b.cells n) (t.under_way.board.running.pulled n)
       (t.under_way.board.running.pushed n)
@@ -55,7 +70,7 @@ pub shows-seen : (n : ℕ) (b : Board) → IsTurning n b → (side : Side) (k : 
     → e ≡ port_edge (cell_at b.cells n).inputs (cell_at b.cells n).outputs p
     → f ≡ (edge_at b.edges e).flags → x ≡ lifted p (edge_at b.edges e)
     → MovesEdge e (unloaded p) b.edges moved → ChangesCell n (SeesPort p f x) b.cells after
-    → Shows n side k (k + 1) b (record { wires = b.wires; cells = after; edges = moved })
+    → Shows n side k (k + 1) b (record b { cells = after; edges = moved })
 shows-seen n b t side k lt p e f x after moved port is flags chunk m changed =
     let u = t.under_way in
     let v : Picture = (cell_at b.cells n).view in
@@ -68,18 +83,17 @@ shows-seen n b t side k lt p e f x after moved port is flags chunk m changed =
     record {
       turning = record {
         under_way = record {
-          board = record {
-            edges_len = m.len ∙ u.board.edges_len;
-            running = rw c.len (seen u.board.running u.quiet n t.in_range t.due p (cell_at after)
-                (edge_at moved) touched c.here.own c.here.sound c.others);
-          };
+          board = on-board b (record b { cells = after; edges = moved }) u.board refl refl refl refl
+              c.len m.len (rw c.len (seen u.board.running u.quiet n t.in_range t.due p
+              (cell_at after) (edge_at moved) touched c.here.own c.here.sound c.others));
           quiet = quiet-on n _ b.cells after c (λ j _. u.quiet j)
               (rw c.here.own (see-actions p _ _ _ ∙ u.quiet n));
         };
         in_range = rw c.len t.in_range;
         due = rw c.here.own t.due;
       };
-      stays = stay-changed n _ b _ refl c (rw c.here.own (stays-itself (cell_at b.cells n).box));
+      stays = stay-changed n _ b after moved c
+          (rw c.here.own (keeps-itself (cell_at b.cells n).box));
       knows = λ j le less. let i : j ≡ k = omega (arith, le, less) in
           rw (i, ← port, c.here.own, ← is)
           (see-knows p v (edge_at b.edges e) may.ours ∙ sym (same-flags p e b.edges moved m e));
@@ -100,7 +114,7 @@ module _ (n : ℕ) (a b c : Board) (ins outs : ℕ) (p : Shows n Inputs 0 ins a 
     (all_outs : outs ≡ output_count a.wires n)
     (after : List CellPicture) (t : ChangesCell n Turns c.cells after) where
   abbrev now : Board
-  now = record { wires = c.wires; cells = after; edges = c.edges }
+  now = record c { cells = after }
 
   same-wires : c.wires ≡ a.wires
   same-wires = q.stays.wires ∙ p.stays.wires
@@ -113,18 +127,20 @@ module _ (n : ℕ) (a b c : Board) (ins outs : ℕ) (p : Shows n Inputs 0 ins a 
   prepared =
       let s = q.turning.under_way in
       record {
-        board = record {
-          edges_len = s.board.edges_len;
-          running = rw t.len (turned s.board.running s.quiet n q.turning.in_range
-              (busy n c q.turning) knows-all (cell_at after) t.here t.others);
-        };
+        board = on-board c now s.board refl refl refl refl t.len refl
+            (rw t.len (turned s.board.running s.quiet n q.turning.in_range q.turning.due knows-all
+            (cell_at after) t.here t.others));
         in_range = rw t.len q.turning.in_range;
         born = rw t.here.prepares.stays.same.spec (turning-node n c q.turning).box.running.loaded;
         quiet = λ m ne. rw (t.others m ne) (s.quiet m);
       }
 
   pub prepared-stays : (e : Board) → Stays now e → Stays a e
-  prepared-stays e h1 = search (rules, stay-both, stay-changed)
+  prepared-stays e h =
+      let born = (turning-node n c q.turning).box.running.loaded in
+      stay-both a b e p.stays (stay-both b c e q.stays (stay-both c now e
+      (stay-changed n Turns c after c.edges t (keeps-born _ _ born t.here.prepares.stays
+      t.here.prepares.notes.growth)) h))
 
 -- ---- an action is carried out
 
@@ -134,18 +150,25 @@ module _ (n : ℕ) (b : Board) (taken : List CellPicture) (k : IsCarrying n b)
   same-cell : (m : ℕ) → cell_at taken m ≡ cell_at b.cells m
   same-cell m = search (rules, at-node)
 
-  pub all-carried : IsUnderWay (record { wires = b.wires; cells = taken; edges = b.edges })
+  pub all-carried : IsUnderWay (record b { cells = taken })
   all-carried = record {
-    board = record {
-      edges_len = k.board.edges_len;
-      running = rw c.len (subst (λ f. Running (length b.cells) b.wires f (edge_at b.edges))
-          (λ i m. sym (same-cell m) i) k.board.running);
-    };
+    board = on-board b (record b { cells = taken }) k.board refl refl refl refl c.len refl
+        (rw c.len (subst (λ f. Running (length b.cells) b.wires f (edge_at b.edges))
+        (λ i m. sym (same-cell m) i) k.board.running));
     quiet = quiet-on n _ b.cells taken c k.quiet (rw (same-cell n) c.here.taken.0);
   }
 
-  pub none-carried : Carries n b (record { wires = b.wires; cells = taken; edges = b.edges })
-  none-carried = search (rules, all-carried, same-cell, stay-changed, stays-itself)
+  pub none-carried : Carries n b (record b { cells = taken })
+  none-carried = record {
+    carrying = record {
+      board = all-carried.board;
+      in_range = rw c.len k.in_range;
+      born = rw (same-cell n) k.born;
+      quiet = λ m ne. rw (same-cell m) (k.quiet m ne);
+    };
+    stays = stay-changed n _ b taken b.edges c
+        (rw (same-cell n) (keeps-itself (cell_at b.cells n).box));
+  }
 
 -- the first action was taken off node n's view
 module _ (n : ℕ) (b : Board) (taken : List CellPicture) (k : IsCarrying n b) (a : Action)
@@ -168,7 +191,7 @@ module _ (n : ℕ) (b : Board) (taken : List CellPicture) (k : IsCarrying n b) (
   action-edge : HasEdge b.wires n (action_port a) edge_now
   action-edge = search (rules, carrying-node, action-port)
 
-  module _ (d : Board) (m : CarriesOne n a (record { wires = b.wires; cells = taken; edges = b.edges }) d) where
+  module _ (d : Board) (m : CarriesOne n a (record b { cells = taken }) d) where
     at-edge : HasEdge b.wires n (action_port a) m.edge
     at-edge = subst (λ e. HasEdge b.wires n (action_port a) e) (sym m.edge_is) action-edge
 
@@ -194,26 +217,27 @@ module _ (n : ℕ) (b : Board) (taken : List CellPicture) (k : IsCarrying n b) (
     pub carried-one : Carries n b d
     carried-one = record {
       carrying = record {
-        board = record {
-          edges_len = m.moves.len ∙ k.board.edges_len ∙ ap length (sym m.wires);
-          running = rw (m.tells.len, c.len, m.wires) (carried k.board.running n k.quiet
-              carrying-node a (cell_at taken n).view.actions c.here.taken.0 (cell_at d.cells)
-              (edge_at d.edges) record {
-                edge = m.edge;
-                is_there = at-edge;
-                here = m.moves.here;
-                elsewhere = m.moves.others;
-              }
-              (own-same ∙ c.here.rest ∙ ap (λ v. record own { view = v }) c.here.taken.1)
-              (rw own-same c.here.sound) others-told);
-        };
+        board = on-board b d k.board m.wires m.ranks m.reserves m.left (m.tells.len ∙ c.len)
+            m.moves.len (rw (m.tells.len, c.len, m.wires) (carried k.board.running n k.quiet
+            carrying-node a (cell_at taken n).view.actions c.here.taken.0 (cell_at d.cells)
+            (edge_at d.edges) record {
+              edge = m.edge;
+              is_there = at-edge;
+              here = m.moves.here;
+              elsewhere = m.moves.others;
+            }
+            (own-same ∙ c.here.rest ∙ ap (λ v. record own { view = v }) c.here.taken.1)
+            (rw own-same c.here.sound) others-told));
         in_range = rw (m.tells.len, c.len) k.in_range;
         born = rw (same-boxes n) k.born;
         quiet = λ j ne. rw (others-told j ne) (k.quiet j ne);
       };
       stays = record {
         wires = m.wires;
+        ranks = m.ranks;
+        reserves = m.reserves;
+        left = m.left;
         len = m.tells.len ∙ c.len;
-        each = λ j. rw (same-boxes j) (stays-itself (cell_at b.cells j).box);
+        each = λ j. rw (same-boxes j) (keeps-itself (cell_at b.cells j).box);
       };
     }

@@ -1,12 +1,7 @@
 -- How a run ends.
-use Rattle.exec_laws.proofs.Words.{BearsOut, Belies, Bool, BoxPicture, CellPicture, GivenBack, IsFault, IsNothingDue, IsStuck, List, MarkTells, Option, Status, WorkFault, [], ap, append-nil, append_assoc, arith, box_at, boxes_of, cell_at, cond, drop, drop-cons, false, is_resting, length, length-map, map, no_box, refl, rules, stuck_from, suc, sym, true, ℕ, ◌++◌, ◌+◌, ◌<◌, ◌∙◌, ◌∷◌, ◌≡◌, ◌≢◌}
-use Rattle.exec_laws.specs.declared.edges.StuckNode.{StuckNode}
-use Rattle.proc_api.specs.declared.status.WorkFault.TheVariants as fault
-use Rattle.exec_laws.specs.Names.{IsDone}
-use Rattle.exec_laws.proofs.Ends.{box-of, run-done, run-stuck}
-use Rattle.pipeline_exec.specs.Cells.{Board, FailsAt, IsUnderWay, Stays, cells_of}
-use Rattle.pipeline_exec.specs.declared.cell.Cell.{Cell}
+use Rattle.pipeline_exec.proofs.Words.{BearsOut, Belies, Board, Bool, BoxPicture, Cell, CellPicture, FailsAt, GivenBack, Gives, IsDone, IsFault, IsNothingDue, IsStuck, IsUnderWay, List, MarkTells, Option, Status, StuckNode, WorkFault, [], ap, append-nil, append_assoc, arith, box-of, box_at, boxes_of, cell_at, cells_of, cond, drop, drop-cons, false, is_resting, length, length-map, map, no_box, refl, rules, run-done, run-stuck, stuck_from, suc, sym, true, ℕ, ◌++◌, ◌+◌, ◌<◌, ◌∙◌, ◌∷◌, ◌≡◌, ◌≢◌}
 use Rattle.pipeline_exec.proofs.Creating.{boxes-are}
+use Rattle.proc_api.specs.declared.status.WorkFault.TheVariants as fault
 
 -- ---- the report
 
@@ -33,15 +28,16 @@ more-stuck cells n items lt t =
 -- ---- the end
 
 module _ (b : Board) (u : IsUnderWay b) (settled : IsNothingDue b.cells) where
-  pub is-done : ((n : ℕ) → n < length b.cells → BearsOut (cell_at b.cells n)) → IsDone b.wires (boxes_of b.cells)
+  pub is-done : ((n : ℕ) → n < length b.cells → BearsOut (cell_at b.cells n))
+      → IsDone b.wires (boxes_of b.cells)
   is-done h1 = search (rules, run-done)
 
   pub is-stuck : (n : ℕ) (report : List StuckNode) → n < length b.cells → Belies (cell_at b.cells n)
       → report ≡ stuck_from 0 (boxes_of b.cells) → IsStuck (boxes_of b.cells) report n
   is-stuck n report h1 h2 h3 = search (rules, run-stuck)
 
-pub is-fault : (n : ℕ) (cells : List CellPicture) (f : WorkFault) → FailsAt n f cells → f ≢ fault.Memory
-    → IsFault (boxes_of cells) n f
+pub is-fault : (n : ℕ) (cells : List CellPicture) (f : WorkFault) → FailsAt n f cells
+    → f ≢ fault.Memory → IsFault (boxes_of cells) n f
 is-fault n cells f h1 h2 = search (rules, length-map, box-of)
 
 -- ---- all boxes are given back
@@ -50,14 +46,17 @@ pub boxes-end : {P : Type 0} (seen : P → BoxPicture) (cells : List (Cell P)) (
     → all ≡ map (λ (c : Cell P). c.processor) cells → boxes_of (cells_of seen cells) ≡ map seen all
 boxes-end seen cells all e = boxes-are seen cells ∙ ap (λ l. map seen l) (sym e)
 
-boxes-back : (b d : Board) → Stays b d → GivenBack (boxes_of b.cells) (boxes_of d.cells)
-boxes-back b d h1 = search (rules, length-map, box-of)
+boxes-back : (cells after : List CellPicture) → Gives cells after
+    → GivenBack (boxes_of cells) (boxes_of after)
+boxes-back cells after h = record {
+  count = rw (length-map, length-map) h.len;
+  each = λ n lt. rw (box-of cells n, box-of after n) (h.each n);
+}
 
 pub all-back : {P : Type 0} (seen : P → BoxPicture) (cells after : List (Cell P))
-    (all back : List P) (b d : Board) → b.cells ≡ cells_of seen cells
-    → d.cells ≡ cells_of seen after → map (λ (c : Cell P). c.processor) cells ≡ all
-    → back ≡ map (λ (c : Cell P). c.processor) after → Stays b d
-    → GivenBack (map seen all) (map seen back)
-all-back seen cells after all back b d here there e f s =
-    rw (← boxes-end seen cells all (sym e), ← boxes-end seen after back f, ← here, ← there)
-    (boxes-back b d s)
+    (all back : List P) → map (λ (c : Cell P). c.processor) cells ≡ all
+    → back ≡ map (λ (c : Cell P). c.processor) after
+    → Gives (cells_of seen cells) (cells_of seen after) → GivenBack (map seen all) (map seen back)
+all-back seen cells after all back e f s =
+    rw (← boxes-end seen cells all (sym e), ← boxes-end seen after back f)
+    (boxes-back (cells_of seen cells) (cells_of seen after) s)

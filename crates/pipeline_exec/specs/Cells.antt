@@ -1,18 +1,6 @@
 -- The state of a run, as data: a cell for each node, and the graph's wires and edges.
-use Rattle.std.specs.Prelude.{Bool, IfSome, List, None, Option, Some, [], false, length, map, slice_index_or, ℕ, ⊤, ◌&&◌, ◌<◌, ◌==◌, ◌∷◌, ◌≡◌, ◌≢◌, ◌≤◌}
-use Rattle.exec_laws.specs.Prelude.{Action, BoxPicture, Flags, FollowsKept, HasInputWire, HasOutputWire, Input, IsRunning, IsSound, Output, Port, Scheduled, Table, Wire, WorkFault, after_see, input_count, new_picture, output_count, wire_at}
-use Rattle.exec_laws.specs.declared.edges.Edge.{Edge}
-use Rattle.exec_laws.specs.declared.edges.DueCall.{DueCall}
-use Rattle.std.specs.Prelude.{◌+◌}
-use Rattle.port_word.specs.Names.{TakesFirst}
-use Rattle.proc_api.specs.declared.status.Wake.{Wake}
-use Rattle.exec_laws.specs.Names.{Acts, AreEdgesOf, CellPicture, HasEdge, IsBorn, IsPort, KeepsFault, Knows, MayCall, QuietBut, Running, StaysBox, StaysOrActs, action_port, after_action, cell_at, edge_at, is_told, new_edge, new_mark, no_cell, peer, port_edge, told_if}
-use Rattle.pipeline_exec.specs.declared.calls.NodeFault.{NodeFault}
-use Rattle.pipeline_exec.specs.declared.cell.Cell.{Cell}
-use Rattle.pipeline_exec.specs.declared.cell.NodePorts.{NodePorts}
-use Rattle.pipeline_exec.specs.declared.cell.Side.{Side}
-use Rattle.pipeline_exec.specs.declared.cell.Side.TheVariants.{Inputs, Outputs}
-use Rattle.pipeline_exec.specs.declared.executor_state.ExecutorState.{ExecutorState}
+use Rattle.pipeline_exec.specs.Prelude.{Action, Acts, AreEdgesOf, BoxPicture, Cell, CellPicture, DueCall, Edge, ExecutorState, Flags, FollowsKept, HasEdge, HasInputWire, HasOutputWire, Input, Inputs, IsBorn, IsGraph, IsPort, IsRunning, IsSound, KeepsBox, KeepsFault, Knows, MayCall, NodeFault, NodeMark, NodePorts, Output, Outputs, Port, QuietBut, Reserve, Running, Scheduled, Side, StaysOrActs, Table, TakesFirst, Wake, Wire, WorkFault, action_port, after_action, after_see, cell_at, edge_at, input_count, is_reserved, is_told, new_edge, new_mark, new_picture, no_cell, output_count, peer, port_edge, reserve_of, told_if, wire_at}
+use Rattle.std.specs.Prelude.{Bool, IfSome, List, None, Option, Some, [], false, length, map, slice_index_or, true, ℕ, ⊤, ◌&&◌, ◌+◌, ◌<◌, ◌==◌, ◌∷◌, ◌≡◌, ◌≢◌, ◌≤◌}
 use Rattle.proc_api.specs.declared.status.Wake.TheVariants as wake
 use Rattle.exec_laws.specs.declared.edges.DueCall.TheVariants as call
 use Rattle.exec_laws.specs.declared.edges.NodeState.TheVariants as node
@@ -37,17 +25,30 @@ pub record Board : Type 0 where
   pub wires : List Wire
   pub cells : List CellPicture
   pub edges : List Edge
+  pub ranks : List ℕ
+  pub reserves : List Reserve
+  -- for each node how many edges of its reserve aren't wired
+  pub left : List ℕ
 
 abbrev pub board_of : {P : Type 0} → (P → BoxPicture) → ExecutorState P → Board
-board_of seen s = record { wires = s.wires; cells = cells_of seen s.cells.items; edges = s.edges.items }
+board_of seen s = record {
+  wires = s.wires;
+  cells = cells_of seen s.cells.items;
+  edges = s.edges.items;
+  ranks = s.ranks.items;
+  reserves = s.reserves;
+  left = s.left.items;
+}
 
 -- one element alone has changed, in this way
-pub record Changes {A : Type 0} (past : A) (n : ℕ) (R : A → A → Type 0) (xs ys : List A) : Type 0 where
+pub record Changes {A : Type 0} (past : A) (n : ℕ) (R : A → A → Type 0)
+    (xs ys : List A) : Type 0 where
   pub len : length ys ≡ length xs
   pub here : R (slice_index_or xs n past) (slice_index_or ys n past)
   pub others : (m : ℕ) → m ≢ n → slice_index_or ys m past ≡ slice_index_or xs m past
 
-abbrev pub ChangesCell : ℕ → (CellPicture → CellPicture → Type 0) → List CellPicture → List CellPicture → Type 0
+abbrev pub ChangesCell : ℕ → (CellPicture → CellPicture → Type 0) → List CellPicture
+    → List CellPicture → Type 0
 ChangesCell n R cells after = Changes no_cell n R cells after
 
 -- one edge alone has moved on, in this way
@@ -56,9 +57,13 @@ MovesEdge e how edges moved = Changes new_edge e (λ before now. now ≡ how bef
 
 -- ---- the run
 
--- A graph is running.
+-- A graph is running, and the nodes of its reserves are among its own.
 pub record IsOnBoard (b : Board) : Type 0 where
   pub edges_len : length b.edges ≡ length b.wires
+  pub graph : IsGraph b.ranks b.wires []
+  pub ranks_len : length b.ranks ≡ length b.cells
+  pub left_len : length b.left ≡ length b.cells
+  pub within : (n : ℕ) → let r = reserve_of b.reserves n in r.first_node + r.nodes ≤ length b.cells
   pub running : Running (length b.cells) b.wires (cell_at b.cells) (edge_at b.edges)
 
 -- It is between two moves: no action waits.
@@ -82,8 +87,11 @@ pub record IsCarrying (n : ℕ) (b : Board) : Type 0 where
 -- all boxes are the same, with what they had besides, and so are the wires
 pub record Stays (b d : Board) : Type 0 where
   pub wires : d.wires ≡ b.wires
+  pub ranks : d.ranks ≡ b.ranks
+  pub reserves : d.reserves ≡ b.reserves
+  pub left : d.left ≡ b.left
   pub len : length d.cells ≡ length b.cells
-  pub each : (n : ℕ) → StaysBox (cell_at b.cells n).box (cell_at d.cells n).box
+  pub each : (n : ℕ) → KeepsBox (cell_at b.cells n).box (cell_at d.cells n).box
 
 -- ---- the first moment
 
@@ -108,7 +116,8 @@ HasWire wires n (Input i) = HasInputWire wires n i
 HasWire wires n (Output o) = HasOutputWire wires n o
 
 -- the first k numbers of a list of edges
-pub record AreFirstEdges (wires : List Wire) (n k : ℕ) (side : Side) (numbers : List ℕ) : Type 0 where
+pub record AreFirstEdges (wires : List Wire) (n k : ℕ) (side : Side)
+    (numbers : List ℕ) : Type 0 where
   pub len : length numbers ≡ k
   pub each : (i : ℕ) → i < k → HasEdge wires n (port_on side i) (slice_index_or numbers i 0)
 
@@ -122,13 +131,27 @@ pub record AreNewEdges (count : ℕ) (edges : List Edge) : Type 0 where
   pub len : length edges ≡ count
   pub each : (e : ℕ) → e < count → edge_at edges e ≡ new_edge
 
+-- the mark of a node before the first move: one that is reserved isn't born
+abbrev pub first_mark : (reserved : Bool) → ℕ → NodeMark
+first_mark true outputs = record { state = node.Unborn; last = None }
+first_mark false outputs = new_mark outputs
+
+-- the same of a node that may be reserved
+pub record AreFirstPorts (reserves : List Reserve) (wires : List Wire) (n : ℕ) (ports : NodePorts)
+    : Type 0 where
+  pub view : ports.view ≡ new_picture (input_count wires n) (output_count wires n)
+  pub mark : ports.mark ≡ first_mark (is_reserved reserves n) (output_count wires n)
+  pub edges : AreEdgesOf wires n ports.inputs.items ports.outputs.items
+
 -- the ports of the nodes from number n on, in order
-abbrev pub AreNewFrom : List Wire → ℕ → List NodePorts → Type 0
-AreNewFrom wires n [] = ⊤
-AreNewFrom wires n (p ∷ ports) = AreNewPorts wires n p × AreNewFrom wires (n + 1) ports
+abbrev pub AreNewFrom : List Reserve → List Wire → ℕ → List NodePorts → Type 0
+AreNewFrom reserves wires n [] = ⊤
+AreNewFrom reserves wires n (p ∷ ports) =
+    AreFirstPorts reserves wires n p × AreNewFrom reserves wires (n + 1) ports
 
 -- the cells have these processors and ports, in order
-pub record Fills {P : Type 0} (cells : List (Cell P)) (all : List P) (of_nodes : List NodePorts) : Type 0 where
+pub record Fills {P : Type 0} (cells : List (Cell P)) (all : List P)
+    (of_nodes : List NodePorts) : Type 0 where
   pub processors : map (λ (c : Cell P). c.processor) cells ≡ all
   pub ports : map (λ (c : Cell P). c.ports) cells ≡ of_nodes
 
@@ -139,11 +162,13 @@ pub record SeesPort (p : Port) (f : Flags) (chunk : Option Table) (c d : CellPic
   pub own : d ≡ record c { view = after_see c.view p f chunk }
   pub sound : IsSound d.view
 
--- Node n has seen the ports of a side from one number on to another, and still knows what it knew before.
+-- Node n has seen the ports of a side from one number on to another, and still knows what it knew
+-- before.
 pub record Shows (n : ℕ) (side : Side) (from to : ℕ) (b d : Board) : Type 0 where
   pub turning : IsTurning n d
   pub stays : Stays b d
-  pub knows : (k : ℕ) → from ≤ k → k < to → Knows (cell_at d.cells n) (port_on side k) (edge_at d.edges)
+  pub knows : (k : ℕ) → from ≤ k → k < to
+      → Knows (cell_at d.cells n) (port_on side k) (edge_at d.edges)
   pub kept : (p : Port) → Knows (cell_at b.cells n) p (edge_at b.edges)
       → Knows (cell_at d.cells n) p (edge_at d.edges)
 
@@ -168,19 +193,26 @@ pub record TellsNode (told : Bool) (m : ℕ) (cells after : List CellPicture) : 
 -- the action's edge and its peer are there
 pub record MayCarryOne (n : ℕ) (a : Action) (b : Board) : Type 0 where
   pub in_range : n < length b.cells
-  pub number : IsPort (length (cell_at b.cells n).inputs) (length (cell_at b.cells n).outputs) (action_port a)
-  pub edge : port_edge (cell_at b.cells n).inputs (cell_at b.cells n).outputs (action_port a) < length b.wires
+  pub number : IsPort (length (cell_at b.cells n).inputs) (length (cell_at b.cells n).outputs)
+      (action_port a)
+  pub edge : port_edge (cell_at b.cells n).inputs (cell_at b.cells n).outputs (action_port a)
+      < length b.wires
   pub edges_len : length b.edges ≡ length b.wires
-  pub peer_there : peer (wire_at b.wires (port_edge (cell_at b.cells n).inputs (cell_at b.cells n).outputs (action_port a))) (action_port a)
-      < length b.cells
+  pub peer_there : peer (wire_at b.wires (port_edge (cell_at b.cells n).inputs
+      (cell_at b.cells n).outputs (action_port a))) (action_port a) < length b.cells
 
--- One action of node n was carried out on its edge, and its peer was told unless the action is Unwant.
+-- One action of node n was carried out on its edge, and its peer was told unless the action is
+-- Unwant.
 pub record CarriesOne (n : ℕ) (a : Action) (b d : Board) : Type 0 where
   pub edge : ℕ
-  pub edge_is : edge ≡ port_edge (cell_at b.cells n).inputs (cell_at b.cells n).outputs (action_port a)
+  pub edge_is : edge
+      ≡ port_edge (cell_at b.cells n).inputs (cell_at b.cells n).outputs (action_port a)
   pub moves : MovesEdge edge (after_action a) b.edges d.edges
   pub tells : TellsNode (is_told a) (peer (wire_at b.wires edge) (action_port a)) b.cells d.cells
   pub wires : d.wires ≡ b.wires
+  pub ranks : d.ranks ≡ b.ranks
+  pub reserves : d.reserves ≡ b.reserves
+  pub left : d.left ≡ b.left
 
 -- one action more of node n is carried out
 pub record Carries (n : ℕ) (b d : Board) : Type 0 where
@@ -201,7 +233,7 @@ pub record MayBeCalled (c : CellPicture) : Type 0 where
 -- What a round's calls leave of a cell: where no fault is kept, the node was left as it was, or its
 -- box acted. A fault is one that the box keeps, unless there was one before.
 pub record IsCalled {P : Type 0} (seen : P → BoxPicture) (c d : Cell P) : Type 0 where
-  pub stays : StaysBox (seen c.processor) (seen d.processor)
+  pub stays : KeepsBox (seen c.processor) (seen d.processor)
   pub acted : d.fault ≡ None → StaysOrActs (cell_picture seen c) (cell_picture seen d)
   pub failed : c.fault ≡ None → IfSome d.fault (λ f. KeepsFault f (seen d.processor))
 
@@ -213,7 +245,7 @@ pub record FailsAt (n : ℕ) (f : WorkFault) (cells : List CellPicture) : Type 0
 -- What the calls of a round leave of all nodes, with the first fault that a box answered, if any.
 pub record AreCalled (first : Option NodeFault) (cells after : List CellPicture) : Type 0 where
   pub len : length after ≡ length cells
-  pub stays : (n : ℕ) → StaysBox (cell_at cells n).box (cell_at after n).box
+  pub stays : (n : ℕ) → KeepsBox (cell_at cells n).box (cell_at after n).box
   pub acted : first ≡ None → (n : ℕ) → StaysOrActs (cell_at cells n) (cell_at after n)
   pub failed : IfSome first (λ f. FailsAt f.node f.fault after)
 

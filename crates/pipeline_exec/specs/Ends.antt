@@ -1,19 +1,55 @@
 -- The ends of a run.
-use Rattle.std.specs.Prelude.{◌≡◌, List, ⊤}
-use Rattle.query_model.specs.declared.processor_spec.Kind.TheVariants as kind
-use Rattle.port_word.specs.declared.flags.Wire.{Wire}
-use Rattle.proc_api.specs.Boxes.{BoxPicture}
-use Rattle.exec_laws.specs.Ends.{IsDone, IsStuck, IsFault}
-use Rattle.pipeline_exec.specs.declared.run.ExecEnd.{ExecEnd}
+use Rattle.pipeline_exec.specs.Prelude.{AreBirths, Birth, BoxPicture, ExecEnd, GrowthFlaw, IsBadGrowth, IsDone, IsFault, IsGraph, IsStuck, Reserve, SameBox, Wire, WorkFault, box_at, grown_ranks, grown_wires}
+use Rattle.std.specs.Prelude.{IsTrue, List, None, [], ℕ, ⊤, ◌≡◌, ◌≢◌}
+use Rattle.proc_api.specs.declared.status.WorkFault.TheVariants as fault
 use Rattle.pipeline_exec.specs.declared.run.ExecEnd.TheVariants as end
 
--- the box isn't one that grows the graph
-abbrev pub IsNoList : BoxPicture → Type 0
-IsNoList p = p.kind ≡ kind.List → ⊥
+-- a graph before its run: its boxes by what is seen of them
+pub record Begun : Type 0 where
+  pub ranks : List ℕ
+  pub wires : List Wire
+  pub reserves : List Reserve
+  pub boxes : List BoxPicture
 
--- what each end says of the boxes as they are given back; the wires are those at the end
-abbrev pub EndHolds : ExecEnd → List Wire → List BoxPicture → Type 0
-EndHolds end.Done wires boxes = IsDone wires boxes
-EndHolds (end.Stuck report node) wires boxes = IsStuck boxes report node
-EndHolds (end.Fault node f) wires boxes = IsFault boxes node f
-EndHolds end.Memory wires boxes = ⊤
+-- the graph has grown, and this is true of the wires then
+pub record HasGrown (b : Begun) (boxes : List BoxPicture) (P : List Wire → Type 0) : Type 0 where
+  pub births : List Birth
+  pub are : AreBirths b.reserves b.boxes boxes births
+  pub holds : P (grown_wires b.wires births)
+
+-- The last growth has a flaw. The graph had grown by the births before it, which left these boxes;
+-- that of the node is the same, and had not grown if it is lawful.
+pub record EndsBadly (b : Begun) (boxes : List BoxPicture) (node : ℕ)
+    (f : GrowthFlaw) : Type 0 where
+  pub births : List Birth
+  pub grown : List BoxPicture
+  pub are : AreBirths b.reserves b.boxes grown births
+  pub graph : IsGraph (grown_ranks b.ranks births) (grown_wires b.wires births) []
+  pub others : (n : ℕ) → n ≢ node → box_at boxes n ≡ box_at grown n
+  pub same : SameBox (box_at grown node) (box_at boxes node)
+  pub once : IsTrue (box_at boxes node).lawful → (box_at grown node).growth ≡ None
+  pub bad : IsBadGrowth b.ranks b.wires b.reserves births boxes node f
+
+-- what each end says of the boxes as they are given back
+abbrev pub EndHolds : ExecEnd → Begun → List BoxPicture → Type 0
+EndHolds end.Done b boxes = HasGrown b boxes (λ wires. IsDone wires boxes)
+EndHolds (end.Stuck report node) b boxes = HasGrown b boxes (λ wires. IsStuck boxes report node)
+EndHolds (end.Fault node f) b boxes = HasGrown b boxes (λ wires. IsFault boxes node f)
+EndHolds (end.BadGrowth node f) b boxes = EndsBadly b boxes node f
+EndHolds end.Memory b boxes = ⊤
+
+-- a fault but want of memory ends the run
+abbrev pub IsFaultEnd : ExecEnd → ℕ → WorkFault → Type 0
+IsFaultEnd end.Memory node f = ⊤
+IsFaultEnd (end.Fault n g) node f = (n ≡ node) × (g ≡ f) × (f ≢ fault.Memory)
+IsFaultEnd end.Done node f = ⊥
+IsFaultEnd (end.Stuck report n) node f = ⊥
+IsFaultEnd (end.BadGrowth n g) node f = ⊥
+
+-- where nothing is due, the run is done or stuck
+abbrev pub EndsSettled : ExecEnd → List Wire → List BoxPicture → Type 0
+EndsSettled end.Done wires boxes = IsDone wires boxes
+EndsSettled (end.Stuck report node) wires boxes = IsStuck boxes report node
+EndsSettled (end.Fault n g) wires boxes = ⊥
+EndsSettled (end.BadGrowth n g) wires boxes = ⊥
+EndsSettled end.Memory wires boxes = ⊥

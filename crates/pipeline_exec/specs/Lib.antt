@@ -1,3 +1,5 @@
+pub mod Prelude
 pub mod Resting
 pub mod Cells
 pub mod Ends
+pub mod Growing

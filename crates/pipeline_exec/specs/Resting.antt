@@ -1,12 +1,12 @@
 -- What a view says of a node at rest.
-use Rattle.std.specs.Prelude.{◌≡◌, ℕ, ◌<◌, not, ◌&&◌, Bool, false}
-use Rattle.port_word.specs.Pictures.{Picture, input_at, output_at, out_count, is_in_finished, is_out_finished}
-use Rattle.port_word.specs.declared.flags.Flags.{Flags}
+use Rattle.pipeline_exec.specs.Prelude.{Flags, Picture, input_at, is_in_finished, is_out_finished, out_count, output_at}
+use Rattle.std.specs.Prelude.{Bool, false, not, ℕ, ◌&&◌, ◌<◌, ◌≡◌}
 
 -- whether the input is needed, empty and not finished
 abbrev pub is_wanting : Picture → ℕ → Bool
 is_wanting v i =
-    ((input_at v i).flags.needed && not (input_at v i).flags.has_data) && not (is_in_finished (input_at v i).flags)
+    ((input_at v i).flags.needed && not (input_at v i).flags.has_data)
+    && not (is_in_finished (input_at v i).flags)
 
 -- whether the output is unfinished, needed and empty
 abbrev pub has_room : Flags → Bool

@@ -22,7 +22,8 @@ fn carry_next<P: Processor>(state: &mut ExecutorState<P>, n: usize) -> bool
     requires { IsCarrying n (board_of P.seen state.old) }
     ensures carries { Carries n (board_of P.seen state.old) (board_of P.seen state.new) }
     ensures last { result ≡ false → IsUnderWay (board_of P.seen state.new) }
-    ensures fewer { result ≡ true → length (cell_at (cells_of P.seen state.new.cells.items) n).view.actions < length (cell_at (cells_of P.seen state.old.cells.items) n).view.actions }
+    ensures fewer { result ≡ true → length (cell_at (cells_of P.seen state.new.cells.items)
+        n).view.actions < length (cell_at (cells_of P.seen state.old.cells.items) n).view.actions }
 {
     match take_action(&mut state.cells, n) {
         Some(action) => {
@@ -35,7 +36,8 @@ fn carry_next<P: Processor>(state: &mut ExecutorState<P>, n: usize) -> bool
 
 fn take_action<P: Processor>(cells: &mut Vec<Cell<P>>, n: usize) -> Option<Action>
     requires { n < length cells.old.items }
-    ensures { ChangesCell n (TakesAction result) (cells_of P.seen cells.old.items) (cells_of P.seen cells.new.items) }
+    ensures { ChangesCell n (TakesAction result) (cells_of P.seen cells.old.items)
+        (cells_of P.seen cells.new.items) }
 {
     next_action(&mut cells[n])
 }
@@ -67,7 +69,8 @@ fn port_of(action: &Action) -> Port
     }
 }
 
-/// Whether the node at the other end is told: of everything but that an input isn't needed any more.
+/// Whether the node at the other end is told: of everything but that an input isn't needed any
+/// more.
 fn is_told(action: &Action) -> bool
     ensures { result ≡ is_told action.now }
 {
@@ -85,8 +88,10 @@ fn peer_of(wire: &Wire, port: Port) -> usize
 
 pub(crate) fn edge_at_port<P: Processor>(cells: &Vec<Cell<P>>, n: usize, port: Port) -> usize
     requires node { n < length cells.now.items }
-    requires number { IsPort (length (cell_at (cells_of P.seen cells.now.items) n).inputs) (length (cell_at (cells_of P.seen cells.now.items) n).outputs) port }
-    ensures { result ≡ port_edge (cell_at (cells_of P.seen cells.now.items) n).inputs (cell_at (cells_of P.seen cells.now.items) n).outputs port }
+    requires number { IsPort (length (cell_at (cells_of P.seen cells.now.items) n).inputs)
+        (length (cell_at (cells_of P.seen cells.now.items) n).outputs) port }
+    ensures { result ≡ port_edge (cell_at (cells_of P.seen cells.now.items) n).inputs
+        (cell_at (cells_of P.seen cells.now.items) n).outputs port }
 {
     edge_of_cell(&cells[n], port)
 }

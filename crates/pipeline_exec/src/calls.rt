@@ -4,7 +4,7 @@ ghost use Rattle.pipeline_exec.specs.Cells.{AreCalled, Each, FailsAt, HasFault, 
 
 use crate::cell::{Cell, call_cell};
 use crate::executor_state::ExecutorState;
-use exec_laws::NodeState;
+use exec_laws::{DueCall, NodeState};
 use proc_api::{Processor, WorkFault};
 use query_model::processor_spec::Kind;
 use std::thread::{Threads, for_each_mut};
@@ -107,7 +107,10 @@ fn call_gathered<P: Processor, R: Threads + Sync>(
 }
 
 fn is_at_work<P>(cell: &Cell<P>) -> bool {
-    matches!(cell.ports.mark.state, NodeState::AtWork(_))
+    matches!(
+        cell.ports.mark.state,
+        NodeState::AtWork(DueCall::Work | DueCall::Schedule)
+    )
 }
 
 /// Deals the cells in front out to the threads, as cards are dealt, calls them, and brings each

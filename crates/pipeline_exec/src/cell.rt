@@ -10,8 +10,8 @@ use exec_laws::{DueCall, NodeMark, NodeState};
 use port_word::{Flags, Port, PortView};
 use proc_api::{Processor, Status, Wake, WorkFault, shut_down};
 
-/// What the executor has of a node beside its processor: its view, its mark, and the numbers of the edges at
-/// its inputs and at its outputs.
+/// What the executor has of a node beside its processor: its view, its mark, and the numbers of the
+/// edges at its inputs and at its outputs.
 #[derive(Drop)]
 pub(crate) struct NodePorts {
     pub view: PortView,
@@ -46,7 +46,8 @@ pub(crate) fn port_on(side: Side, k: usize) -> Port
 
 /// The number of the edge at a port.
 pub(crate) fn edge_of_cell<P: Processor>(cell: &Cell<P>, port: Port) -> usize
-    requires { IsPort (length cell.now.ports.inputs.items) (length cell.now.ports.outputs.items) port }
+    requires { IsPort (length cell.now.ports.inputs.items)
+        (length cell.now.ports.outputs.items) port }
     ensures { result ≡ port_edge cell.now.ports.inputs.items cell.now.ports.outputs.items port }
 {
     match port {
@@ -58,7 +59,8 @@ pub(crate) fn edge_of_cell<P: Processor>(cell: &Cell<P>, port: Port) -> usize
 /// Brings a port of the node up to date.
 pub(crate) fn see<P: Processor>(cell: &mut Cell<P>, port: Port, flags: Flags, chunk: Option<Chunk>)
     requires { MaySee cell.old.ports.view port flags chunk }
-    ensures { SeesPort port flags chunk (cell_picture P.seen cell.old) (cell_picture P.seen cell.new) }
+    ensures { SeesPort port flags chunk (cell_picture P.seen cell.old)
+        (cell_picture P.seen cell.new) }
 {
     cell.ports.view.see(port, flags, chunk);
 }
@@ -115,8 +117,9 @@ fn state_after(status: Status) -> NodeState
     ensures { result ≡ state_after status }
 {
     match status {
-        Status::NeedData | Status::PortFull | Status::ExpandPipeline => NodeState::Resting,
+        Status::NeedData | Status::PortFull => NodeState::Resting,
         Status::Ready => NodeState::AtWork(DueCall::Work),
+        Status::ExpandPipeline => NodeState::AtWork(DueCall::Expand),
         Status::Async => NodeState::AtWork(DueCall::Schedule),
         Status::Finished => NodeState::Over,
     }
@@ -165,7 +168,9 @@ fn make_call<P: Processor>(cell: &mut Cell<P>, call: DueCall) -> Result<(), Work
     requires due { cell.old.ports.mark.state ≡ AtWork call }
     requires may { MayAct call (P.seen cell.old.processor) }
     ensures stays { StaysBox (P.seen cell.old.processor) (P.seen cell.new.processor) }
-    ensures ok { OnOk result (ActsCell (cell_picture P.seen cell.old) (cell_picture P.seen cell.new)) }
+    ensures growth { (P.seen cell.new.processor).growth ≡ (P.seen cell.old.processor).growth }
+    ensures ok { OnOk result
+        (ActsCell (cell_picture P.seen cell.old) (cell_picture P.seen cell.new)) }
     ensures fault { IfErr result (λ f. KeepsFault f (P.seen cell.new.processor)) }
 {
     match call {
@@ -183,6 +188,8 @@ fn make_call<P: Processor>(cell: &mut Cell<P>, call: DueCall) -> Result<(), Work
             }
             Err(fault) => Err(fault),
         },
+        // The graph grows at the end of the round.
+        DueCall::Expand => Ok(()),
     }
 }
 
@@ -200,6 +207,7 @@ fn work<P: Processor>(processor: &mut P) -> Result<(), WorkFault>
     requires ready { MayWork (P.seen processor.old).notes.answer }
     requires once { (P.seen processor.old).notes.acted ≡ false }
     ensures stays { StaysBox (P.seen processor.old) (P.seen processor.new) }
+    ensures growth { (P.seen processor.new).growth ≡ (P.seen processor.old).growth }
     ensures ok { OnOk result (Acts (P.seen processor.old) (P.seen processor.new)) }
     ensures fault { IfErr result (λ f. KeepsFault f (P.seen processor.new)) }
 {
@@ -210,6 +218,7 @@ fn schedule<P: Processor>(processor: &mut P) -> Result<Wake, WorkFault>
     requires running { IsRunning (P.seen processor.old) }
     requires fetching { MaySchedule (P.seen processor.old).notes.answer }
     ensures stays { StaysBox (P.seen processor.old) (P.seen processor.new) }
+    ensures growth { (P.seen processor.new).growth ≡ (P.seen processor.old).growth }
     ensures ok { IfOk result (λ wake. Wakes wake (P.seen processor.old) (P.seen processor.new)) }
     ensures fault { IfErr result (λ f. KeepsFault f (P.seen processor.new)) }
 {

@@ -14,7 +14,8 @@ use proc_api::{Processor, Status};
 pub(crate) fn first_unlawful<P: Processor>(cells: &Vec<Cell<P>>) -> Option<usize>
     ensures in_range { IfSome result (λ n. n < length cells.now.items) }
     ensures found { IfSome result (λ n. Belies (cell_at (cells_of P.seen cells.now.items) n)) }
-    ensures missing { IfNone result ((n : ℕ) → n < length cells.now.items → BearsOut (cell_at (cells_of P.seen cells.now.items) n)) }
+    ensures missing { IfNone result ((n : ℕ) → n < length cells.now.items
+        → BearsOut (cell_at (cells_of P.seen cells.now.items) n)) }
 {
     for n in 0..cells.len() {
         if !is_borne_out(cells, n) {
@@ -121,7 +122,8 @@ pub(crate) fn list_stuck<P: Processor>(report: &mut Vec<StuckNode>, cells: &Vec<
     requires empty { report.old.items ≡ [] }
     requires room { length cells.now.items ≤ vec_capacity report.old }
     requires few { length cells.now.items ≤ 256 }
-    requires tells { (n : ℕ) → n < length cells.now.items → MarkTells (cell_at (cells_of P.seen cells.now.items) n) }
+    requires tells { (n : ℕ) → n < length cells.now.items
+        → MarkTells (cell_at (cells_of P.seen cells.now.items) n) }
     ensures { report.new.items ≡ stuck_from 0 (boxes_of (cells_of P.seen cells.now.items)) }
 {
     for n in 0..cells.len() {
@@ -131,7 +133,9 @@ pub(crate) fn list_stuck<P: Processor>(report: &mut Vec<StuckNode>, cells: &Vec<
 
 fn list_if_stuck<P: Processor>(report: &mut Vec<StuckNode>, node: u32, cell: &Cell<P>)
     requires { length report.old.items < vec_capacity report.old }
-    ensures items { report.new.items ≡ report.old.items ++ cond (is_resting cell.now.ports.mark.state) (record { node = node; last = cell.now.ports.mark.last } ∷ []) [] }
+    ensures items { report.new.items ≡ report.old.items
+        ++ cond (is_resting cell.now.ports.mark.state)
+        (record { node = node; last = cell.now.ports.mark.last } ∷ []) [] }
     ensures few { length report.new.items ≤ length report.old.items + 1 }
     ensures room { vec_capacity report.old ≤ vec_capacity report.new }
 {

@@ -1,12 +1,13 @@
 ghost use Rattle.std.specs.Prelude.{◌≡◌, ◌<◌, ◌≤◌, [], length, map, IfOk, vec_capacity};
 ghost use Rattle.proc_api.specs.Names.{wire_at};
 ghost use Rattle.exec_laws.specs.Names.{HasEdge, HoldsGraph};
-ghost use Rattle.pipeline_exec.specs.Cells.{AreFirstEdges, AreNewEdges, AreNewFrom, AreNewPorts, Fills, HasWire, is_end, port_count};
+ghost use Rattle.proc_api.specs.Reserves.{holds_node, is_reserved};
+ghost use Rattle.pipeline_exec.specs.Cells.{AreFirstEdges, AreFirstPorts, AreNewEdges, AreNewFrom, AreNewPorts, Fills, HasWire, is_end, port_count};
 
 use crate::cell::{Cell, NodePorts, Side, port_on};
 use chunk_data::{List, Memory};
-use exec_laws::{Edge, NodeMark};
-use port_word::{Port, PortView, Wire};
+use exec_laws::{Edge, NodeMark, NodeState};
+use port_word::{Port, PortView, Reserve, Wire};
 use std::alloc::Global;
 
 /// What the executor has of a graph: a cell for each node, the wires, and each wire's edge.
@@ -15,6 +16,10 @@ pub(crate) struct ExecutorState<P> {
     pub cells: Vec<Cell<P>>,
     pub wires: List<Wire>,
     pub edges: Vec<Edge>,
+    pub ranks: Vec<u32>,
+    pub reserves: List<Reserve>,
+    /// For each node how many edges of its reserve aren't wired.
+    pub left: Vec<u32>,
 }
 
 /// The wire of an edge.
@@ -26,7 +31,7 @@ pub(crate) fn wire_of(wires: &[Wire], e: usize) -> Wire
     wires[e]
 }
 
-fn count_ports(wires: &[Wire], node: usize, side: Side) -> usize
+pub(crate) fn count_ports(wires: &[Wire], node: usize, side: Side) -> usize
     ensures { result ≡ port_count wires.now node side }
 {
     match side {
@@ -40,19 +45,52 @@ pub(crate) fn new_ports(
     alloc: Global,
     nodes: usize,
     wires: &[Wire],
+    reserves: &[Reserve],
 ) -> Result<Vec<NodePorts>, Memory>
     requires { HoldsGraph nodes wires.now }
-    ensures { IfOk result (λ all. (length all.items ≡ nodes) × AreNewFrom wires.now 0 all.items) }
+    ensures { IfOk result
+        (λ all. (length all.items ≡ nodes) × AreNewFrom reserves.now wires.now 0 all.items) }
 {
     let mut all = Vec::with_capacity(alloc, nodes)?;
     for node in 0..nodes {
-        let ports = ports_of_node(alloc, node, nodes, wires)?;
+        let ports = first_ports(alloc, node, nodes, wires, reserves)?;
         all.push(ports)?;
     }
     Ok(all)
 }
 
-fn ports_of_node(
+/// A node that is reserved isn't born.
+fn first_ports(
+    alloc: Global,
+    node: usize,
+    nodes: usize,
+    wires: &[Wire],
+    reserves: &[Reserve],
+) -> Result<NodePorts, Memory>
+    requires graph { HoldsGraph nodes wires.now }
+    ensures { IfOk result (λ ports. AreFirstPorts reserves.now wires.now node ports) }
+{
+    let mut ports = ports_of_node(alloc, node, nodes, wires)?;
+    if is_reserved(reserves, node) {
+        ports.mark.state = NodeState::Unborn;
+    }
+    Ok(ports)
+}
+
+fn is_reserved(reserves: &[Reserve], node: usize) -> bool
+    ensures { result ≡ is_reserved reserves.now node }
+{
+    reserves.iter().any(|r| holds_node(r, node))
+}
+
+pub(crate) fn holds_node(reserve: &Reserve, node: usize) -> bool
+    ensures { result ≡ holds_node node reserve.now }
+{
+    reserve.first_node as usize <= node
+        && node < reserve.first_node as usize + reserve.nodes as usize
+}
+
+pub(crate) fn ports_of_node(
     alloc: Global,
     node: usize,
     nodes: usize,
@@ -75,7 +113,7 @@ fn ports_of_node(
 }
 
 /// The numbers of the edges at a side of the node.
-fn edge_numbers(
+pub(crate) fn edge_numbers(
     alloc: Global,
     node: usize,
     side: Side,

@@ -1,42 +1,67 @@
-ghost use Rattle.std.specs.Prelude.{◌≡◌, ◌+◌, ◌<◌, true, false, length, IfOk, IfErr, OnOk};
+ghost use Rattle.std.specs.Prelude.{◌≡◌, ◌+◌, ◌<◌, true, false, length, IfErr, OnOk};
 ghost use Rattle.port_word.specs.Names.{MaySee};
 ghost use Rattle.exec_laws.specs.Names.{IsNothingDue, Turns, cell_at, edge_at, is_waiting, lifted, unloaded};
 ghost use Rattle.exec_laws.specs.declared.edges.NodeState.TheVariants.{Due};
-ghost use Rattle.pipeline_exec.specs.Cells.{ChangesCell, FailsAt, IsTurning, IsUnderWay, MayPrepare, MovesEdge, SeesPort, Shows, Stays, board_of, cells_of, port_count};
+ghost use Rattle.pipeline_exec.specs.Growing.{GrowsTo, RoundEndHolds};
+ghost use Rattle.pipeline_exec.specs.Cells.{ChangesCell, IsTurning, IsUnderWay, MayPrepare, MovesEdge, SeesPort, Shows, Stays, board_of, cells_of, port_count};
 
 use crate::actions::{carry_actions, edge_at_port};
-use crate::calls::{NodeFault, call_nodes};
+use crate::births::{RoundEnd, grow_due};
+use crate::calls::call_nodes;
 use crate::cell::{Cell, Side, port_on, prepare_cell, see};
 use crate::executor_state::ExecutorState;
 use chunk_data::Chunk;
 use exec_laws::{Edge, NodeMark, NodeState};
 use port_word::{Flags, Port};
 use proc_api::Processor;
+use std::alloc::Global;
 use std::thread::Threads;
 
 /// Goes in rounds until no node is due, and says whether that came.
+#[tactic(auto, using(crate::proofs::GrowthRuns::growth_runs))]
 pub(crate) fn run_rounds<P: Processor, R: Threads + Sync>(
     rt: &R,
     state: &mut ExecutorState<P>,
+    alloc: Global,
     workers: usize,
-) -> Result<bool, NodeFault>
+) -> Result<(), RoundEnd>
     requires { IsUnderWay (board_of P.seen state.old) }
-    ensures stays { Stays (board_of P.seen state.old) (board_of P.seen state.new) }
-    ensures under_way { OnOk result (IsUnderWay (board_of P.seen state.new)) }
-    ensures settled { IfOk result (λ settled. settled ≡ true → IsNothingDue (cells_of P.seen state.new.cells.items)) }
-    ensures fault { IfErr result (λ f. FailsAt f.node f.fault (cells_of P.seen state.new.cells.items)) }
+    ensures grows { OnOk result (GrowsTo (board_of P.seen state.old) (board_of P.seen state.new)) }
+    ensures settled { OnOk result (IsNothingDue (cells_of P.seen state.new.cells.items)) }
+    ensures end { IfErr result
+        (λ e. RoundEndHolds e (board_of P.seen state.old) (board_of P.seen state.new)) }
 {
     for _round in 0..u64::MAX {
         if !is_any_due(&state.cells) {
-            return Ok(true);
+            return Ok(());
         }
-        prepare_due(state);
-        match call_nodes(rt, state, workers) {
+        match run_round(rt, state, alloc, workers) {
             Ok(()) => {}
-            Err(fault) => return Err(fault),
+            Err(end) => return Err(end),
         }
     }
-    Ok(false)
+    Err(RoundEnd::Memory)
+}
+
+/// A round: the due nodes are prepared, those at work are called, and the graph grows.
+#[tactic(auto, using(crate::proofs::GrowthRuns::growth_runs))]
+fn run_round<P: Processor, R: Threads + Sync>(
+    rt: &R,
+    state: &mut ExecutorState<P>,
+    alloc: Global,
+    workers: usize,
+) -> Result<(), RoundEnd>
+    requires { IsUnderWay (board_of P.seen state.old) }
+    ensures grows { OnOk result (GrowsTo (board_of P.seen state.old) (board_of P.seen state.new)) }
+    ensures end { IfErr result
+        (λ e. RoundEndHolds e (board_of P.seen state.old) (board_of P.seen state.new)) }
+{
+    prepare_due(state);
+    match call_nodes(rt, state, workers) {
+        Ok(()) => {}
+        Err(fault) => return Err(RoundEnd::Fault(fault)),
+    }
+    grow_due(alloc, state)
 }
 
 /// Whether a node is due or at work.
@@ -175,7 +200,8 @@ fn see_at<P: Processor>(
 )
     requires node { n < length cells.old.items }
     requires may { MaySee (cell_at (cells_of P.seen cells.old.items) n).view port flags chunk }
-    ensures { ChangesCell n (SeesPort port flags chunk) (cells_of P.seen cells.old.items) (cells_of P.seen cells.new.items) }
+    ensures { ChangesCell n (SeesPort port flags chunk) (cells_of P.seen cells.old.items)
+        (cells_of P.seen cells.new.items) }
 {
     see(&mut cells[n], port, flags, chunk);
 }
@@ -183,7 +209,8 @@ fn see_at<P: Processor>(
 fn prepare_at<P: Processor>(cells: &mut Vec<Cell<P>>, n: usize)
     requires node { n < length cells.old.items }
     requires may { MayPrepare (cell_at (cells_of P.seen cells.old.items) n) }
-    ensures { ChangesCell n Turns (cells_of P.seen cells.old.items) (cells_of P.seen cells.new.items) }
+    ensures { ChangesCell n Turns (cells_of P.seen cells.old.items)
+        (cells_of P.seen cells.new.items) }
 {
     prepare_cell(&mut cells[n]);
 }

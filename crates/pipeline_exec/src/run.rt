@@ -1,20 +1,21 @@
 ghost use Rattle.std.specs.Prelude.{◌≡◌, ◌<◌, ◌≤◌, length, map, vec_capacity, []};
-ghost use Rattle.std.specs.List.{All};
-ghost use Rattle.proc_api.specs.Clauses.{IsFresh};
+ghost use Rattle.proc_api.specs.Graphs.{IsGraph};
+ghost use Rattle.proc_api.specs.Reserves.{AreReserves, AreStarting};
 ghost use Rattle.exec_laws.specs.Ends.{GivenBack, IsNothingDue, boxes_of};
-ghost use Rattle.exec_laws.specs.Runs.{HoldsGraph};
-ghost use Rattle.pipeline_exec.specs.Cells.{AreNewEdges, AreNewFrom, FailsAt, IsUnderWay, Stays, board_of, cells_of};
-ghost use Rattle.pipeline_exec.specs.Ends.{EndHolds, IsNoList};
+ghost use Rattle.pipeline_exec.specs.Cells.{AreNewEdges, AreNewFrom, IsUnderWay, board_of, cells_of};
+ghost use Rattle.pipeline_exec.specs.Ends.{EndHolds, EndsSettled, IsFaultEnd};
+ghost use Rattle.pipeline_exec.specs.Growing.{Gives, are_left, begun};
 
-use crate::calls::NodeFault;
+use crate::births::RoundEnd;
 use crate::cell::{Cell, NodePorts};
 use crate::ending::{first_unlawful, list_stuck};
 use crate::executor_state::{ExecutorState, empty_cells, fill_cells, new_edges, new_ports};
+use crate::growth::edges_left;
 use crate::rounds::run_rounds;
 use chunk_data::{List, Memory};
 use exec_graph::Graph;
-use exec_laws::{Edge, StuckNode};
-use port_word::Wire;
+use exec_laws::{Edge, GrowthFlaw, StuckNode};
+use port_word::{Reserve, Wire};
 use proc_api::{Processor, WorkFault};
 use std::alloc::Global;
 use std::thread::Threads;
@@ -22,12 +23,15 @@ use std::thread::Threads;
 /// How a run ended.
 #[derive(Debug, Drop)]
 pub enum ExecEnd {
-    /// All nodes are over, and the chunks pulled at each edge are those pushed, but for what a consumer closed.
+    /// All nodes are over, and the chunks pulled at each edge are those pushed, but for what a
+    /// consumer closed.
     Done,
     /// Nothing is due, and these nodes aren't over; the box of the named one isn't lawful.
     Stuck(List<StuckNode>, u32),
     /// The box of this node answered this fault.
     Fault(u32, WorkFault),
+    /// The growth that the box of this node gave last has this flaw.
+    BadGrowth(u32, GrowthFlaw),
     Memory,
 }
 
@@ -42,19 +46,34 @@ pub struct RunResult {
 pub fn run_graph<R: AllocGlobal + Threads + Sync>(rt: &R, graph: Graph, workers: u32) -> RunResult
     requires some_workers { 1 ≤ workers }
     requires few_workers { workers ≤ 16 }
-    requires fresh { All IsFresh (map (λ b. seen b) graph.boxes.items) }
-    requires no_list { All IsNoList (map (λ b. seen b) graph.boxes.items) }
-    ensures back { GivenBack (map (λ b. seen b) graph.boxes.items) (map (λ b. seen b) result.boxes.items) }
-    ensures end { EndHolds result.end graph.wires (map (λ b. seen b) result.boxes.items) }
+    requires starting { AreStarting graph.reserves (map (λ b. seen b) graph.boxes.items) }
+    ensures back { GivenBack (map (λ b. seen b) graph.boxes.items)
+        (map (λ b. seen b) result.boxes.items) }
+    ensures end { EndHolds result.end (record {
+      ranks = graph.ranks;
+      wires = graph.wires;
+      reserves =
+          graph.reserves;
+      boxes = map (λ b. seen b) graph.boxes.items;
+    })
+        (map (λ b. seen b) result.boxes.items) }
 {
     let Graph {
         boxes,
-        ranks: _,
+        ranks,
         wires,
-        reserves: _,
+        reserves,
     } = graph;
     let mut boxes = boxes;
-    let end = run_boxes(rt, rt.alloc(), &mut boxes, wires, workers as usize);
+    let end = run_boxes(
+        rt,
+        rt.alloc(),
+        &mut boxes,
+        ranks,
+        wires,
+        reserves,
+        workers as usize,
+    );
     RunResult { boxes, end }
 }
 
@@ -63,21 +82,33 @@ fn run_boxes<P: Processor, R: Threads + Sync>(
     rt: &R,
     alloc: Global,
     boxes: &mut Vec<P>,
+    ranks: List<u32>,
     wires: List<Wire>,
+    reserves: List<Reserve>,
     workers: usize,
 ) -> ExecEnd
-    requires graph { HoldsGraph (length boxes.old.items) wires }
-    requires fresh { All IsFresh (map P.seen boxes.old.items) }
-    requires no_list { All IsNoList (map P.seen boxes.old.items) }
+    requires graph { IsGraph ranks wires reserves }
+    requires one_each { length boxes.old.items ≡ length ranks }
+    requires reserves { AreReserves (length ranks) (length wires) wires reserves }
+    requires starting { AreStarting reserves (map P.seen boxes.old.items) }
     ensures back { GivenBack (map P.seen boxes.old.items) (map P.seen boxes.new.items) }
-    ensures end { EndHolds result wires (map P.seen boxes.new.items) }
+    ensures end { EndHolds result (record {
+      ranks = ranks;
+      wires = wires;
+      reserves = reserves;
+      boxes = map P.seen boxes.old.items;
+    }) (map P.seen boxes.new.items) }
 {
-    let ports = match new_ports(alloc, boxes.len(), wires.as_slice()) {
+    let ports = match new_ports(alloc, boxes.len(), wires.as_slice(), reserves.as_slice()) {
         Ok(ports) => ports,
         Err(Memory) => return ExecEnd::Memory,
     };
     let edges = match new_edges(alloc, wires.len()) {
         Ok(edges) => edges,
+        Err(Memory) => return ExecEnd::Memory,
+    };
+    let left = match edges_left(alloc, reserves.as_slice(), boxes.len()) {
+        Ok(left) => left,
         Err(Memory) => return ExecEnd::Memory,
     };
     let Ok(cells) = Vec::with_capacity(alloc, boxes.len()) else {
@@ -86,51 +117,60 @@ fn run_boxes<P: Processor, R: Threads + Sync>(
     let Ok(report) = Vec::with_capacity(alloc, boxes.len()) else {
         return ExecEnd::Memory
     };
-    run_in_cells(rt, boxes, ports, edges, cells, report, wires, workers)
+    let state = ExecutorState {
+        cells,
+        wires,
+        edges,
+        ranks: ranks.into_vec(),
+        reserves,
+        left,
+    };
+    run_in_cells(rt, alloc, boxes, ports, state, report, workers)
 }
 
 /// Moves the processors into cells, runs them, and moves them back.
 fn run_in_cells<P: Processor, R: Threads + Sync>(
     rt: &R,
+    alloc: Global,
     boxes: &mut Vec<P>,
     mut ports: Vec<NodePorts>,
-    edges: Vec<Edge>,
-    mut cells: Vec<Cell<P>>,
+    state: ExecutorState<P>,
     report: Vec<StuckNode>,
-    wires: List<Wire>,
     workers: usize,
 ) -> ExecEnd
-    requires graph { HoldsGraph (length boxes.old.items) wires }
-    requires fresh { All IsFresh (map P.seen boxes.old.items) }
-    requires no_list { All IsNoList (map P.seen boxes.old.items) }
+    requires graph { IsGraph state.ranks.items state.wires state.reserves }
+    requires one_each { length boxes.old.items ≡ length state.ranks.items }
+    requires reserves { AreReserves (length state.ranks.items)
+        (length state.wires) state.wires state.reserves }
+    requires starting { AreStarting state.reserves (map P.seen boxes.old.items) }
     requires ports_len { length ports.items ≡ length boxes.old.items }
-    requires ports { AreNewFrom wires 0 ports.items }
-    requires edges { AreNewEdges (length wires) edges.items }
-    requires cells { cells.items ≡ [] }
-    requires cells_room { length boxes.old.items ≤ vec_capacity cells }
+    requires ports { AreNewFrom state.reserves state.wires 0 ports.items }
+    requires edges { AreNewEdges (length state.wires) state.edges.items }
+    requires left { state.left.items ≡ are_left state.reserves (length boxes.old.items) }
+    requires cells { state.cells.items ≡ [] }
+    requires cells_room { length boxes.old.items ≤ vec_capacity state.cells }
     requires report { report.items ≡ [] }
     requires report_room { length boxes.old.items ≤ vec_capacity report }
     ensures back { GivenBack (map P.seen boxes.old.items) (map P.seen boxes.new.items) }
-    ensures end { EndHolds result wires (map P.seen boxes.new.items) }
+    ensures end { EndHolds result (record {
+      ranks = state.ranks.items;
+      wires = state.wires;
+      reserves =
+          state.reserves;
+      boxes = map P.seen boxes.old.items;
+    }) (map P.seen boxes.new.items) }
 {
-    fill_cells(&mut cells, boxes, &mut ports);
-    let mut state = ExecutorState {
-        cells,
-        wires,
-        edges,
-    };
-    let end = run_state(rt, &mut state, report, workers);
-    let ExecutorState {
-        mut cells,
-        wires: _,
-        edges: _,
-    } = state;
-    empty_cells(boxes, &mut cells);
+    let mut state = state;
+    fill_cells(&mut state.cells, boxes, &mut ports);
+    let end = run_state(rt, alloc, &mut state, report, workers);
+    empty_cells(boxes, &mut state.cells);
     end
 }
 
+#[tactic(auto, using(crate::proofs::GrowthEnds::growth_ends, crate::proofs::GrowthRuns::growth_runs))]
 fn run_state<P: Processor, R: Threads + Sync>(
     rt: &R,
+    alloc: Global,
     state: &mut ExecutorState<P>,
     report: Vec<StuckNode>,
     workers: usize,
@@ -138,24 +178,28 @@ fn run_state<P: Processor, R: Threads + Sync>(
     requires under_way { IsUnderWay (board_of P.seen state.old) }
     requires empty { report.items ≡ [] }
     requires room { length state.old.cells.items ≤ vec_capacity report }
-    ensures stays { Stays (board_of P.seen state.old) (board_of P.seen state.new) }
-    ensures end { EndHolds result state.old.wires (boxes_of (cells_of P.seen state.new.cells.items)) }
+    requires left { state.old.left.items
+        ≡ are_left state.old.reserves (length state.old.cells.items) }
+    ensures gives { Gives (cells_of P.seen state.old.cells.items)
+        (cells_of P.seen state.new.cells.items) }
+    ensures end { EndHolds result (begun (board_of P.seen state.old))
+        (boxes_of (cells_of P.seen state.new.cells.items)) }
 {
-    match run_rounds(rt, state, workers) {
-        Ok(true) => end_of(state, report),
-        Ok(false) => ExecEnd::Memory,
-        Err(f) => fault_end(state, f),
+    match run_rounds(rt, state, alloc, workers) {
+        Ok(()) => end_of(state, report),
+        Err(RoundEnd::Fault(f)) => fault_end(f.node, f.fault),
+        Err(RoundEnd::Flaw(n, flaw)) => ExecEnd::BadGrowth(n as u32, flaw),
+        Err(RoundEnd::Memory) => ExecEnd::Memory,
     }
 }
 
-fn fault_end<P: Processor>(state: &ExecutorState<P>, f: NodeFault) -> ExecEnd
-    requires few { length state.now.cells.items ≤ 256 }
-    requires fails { FailsAt f.node f.fault (cells_of P.seen state.now.cells.items) }
-    ensures { EndHolds result state.now.wires (boxes_of (cells_of P.seen state.now.cells.items)) }
+fn fault_end(node: usize, fault: WorkFault) -> ExecEnd
+    requires { node ≤ 256 }
+    ensures { IsFaultEnd result node fault }
 {
-    match f.fault {
+    match fault {
         WorkFault::Memory => ExecEnd::Memory,
-        fault => ExecEnd::Fault(f.node as u32, fault),
+        fault => ExecEnd::Fault(node as u32, fault),
     }
 }
 
@@ -164,7 +208,8 @@ fn end_of<P: Processor>(state: &ExecutorState<P>, report: Vec<StuckNode>) -> Exe
     requires settled { IsNothingDue (cells_of P.seen state.now.cells.items) }
     requires empty { report.items ≡ [] }
     requires room { length state.now.cells.items ≤ vec_capacity report }
-    ensures { EndHolds result state.now.wires (boxes_of (cells_of P.seen state.now.cells.items)) }
+    ensures { EndsSettled result state.now.wires
+        (boxes_of (cells_of P.seen state.now.cells.items)) }
 {
     let mut report = report;
     match first_unlawful(&state.cells) {

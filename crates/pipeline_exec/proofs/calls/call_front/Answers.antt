@@ -1,5 +1,4 @@
-use Rattle.pipeline_exec.proofs.Imports.{IsCalled, called-itself, each-front, ◌∙◌}
-use Rattle.std.proofs.lemmas.List.{get_or-take, length-take-le}
+use Rattle.pipeline_exec.proofs.Imports.{IsCalled, called-itself, each-front, get_or-take, length-take-le, ◌∙◌}
 use Rattle.pipeline_exec.proofs.calls.call_front.Goals as goal
 
 pub returns : goal.returns

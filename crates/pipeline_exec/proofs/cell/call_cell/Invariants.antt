@@ -1,5 +1,4 @@
-use Rattle.pipeline_exec.proofs.Imports.{IsCalled, MayBeCalled, cell_picture, ◌≡◌}
-use Rattle.std.specs.Prelude.{None}
+use Rattle.pipeline_exec.proofs.Imports.{IsCalled, MayBeCalled, None, cell_picture, ◌≡◌}
 use Rattle.pipeline_exec.proofs.cell.call_cell.Given as goal
 
 abbrev pub invariant-loop-step : goal.invariant-loop-step
