@@ -1,7 +1,5 @@
 -- What the last node of a plan has, all of whose input is done, is an answer.
-use Rattle.std.proofs.Common.{All, List, None, [], ap, arith, length, map, refl, subst, suc, sym, true, ℕ, ◌++◌, ◌+◌, ◌∙◌, ◌∷◌, ◌≡◌}
-use Rattle.plan_meaning.proofs.Prelude.{AllZip, Draft, DraftNode, FitsBlock, Fitted, Kind, Levels, NodePort, Wire, all-back, all-front, and_from, consumer_of, fits, length-append, length-map, no_draft, producer_of, rank_at, ranks-count, taken_by, wires_to, with-append, with_node, with_nodes}
-use Rattle.plan_meaning.specs.Names.{AllPull, EachGives, HasRun, Pulls, pulled_rows, IsFront, Parts, Stream, IsPlan, IsSmall, IsTold, PlanAnswers, SelectPlan, body_nodes, collect_node, plan_nodes, plan_pulls}
+use Rattle.plan_meaning.proofs.Prelude.{All, List, None, [], arith, length, map, refl, subst, suc, true, ℕ, ◌++◌, ◌+◌, ◌∙◌, ◌∷◌, ◌≡◌, AllZip, Draft, DraftNode, FitsBlock, Fitted, Kind, Levels, NodePort, Wire, all-back, all-front, and_from, consumer_of, fits, length-append, length-map, no_draft, producer_of, ranks-count, taken_by, wires_to, with-append, with_node, with_nodes, AllPull, EachGives, HasRun, Pulls, pulled_rows, IsFront, Parts, Stream, IsPlan, IsSmall, IsTold, PlanAnswers, SelectPlan, body_nodes, collect_node, plan_nodes, plan_pulls}
 use Rattle.plan_meaning.proofs.Runs.{RunsOf, runs}
 use Rattle.plan_meaning.proofs.Completing.{all-inputs-done, completes}
 use Rattle.plan_meaning.proofs.Fitting.{body-level}
@@ -43,23 +41,19 @@ body-run parts p pulled pushed small run last count =
     let level : Levels body [] 1 14 = body-level p small in
     let block : FitsBlock body [] (level.rank ∷ []) = level.block in
     let fitted : Fitted body no_draft [] = fits body block.fit in
-    let one : length d.ends ≡ 1 = sym (length-map d.ends (λ (e : NodePort). rank_at d.ranks e.node))
-    ∙ ap length (fitted.ends ∙ block.leaves) in
+    let one : length d.ends ≡ 1 = grind (arith, length-map) in
     let split = with-append body (collect_node ∷ []) no_draft in
-    let along : AllPull pulled pushed (with_node collect_node d).wires =
-    subst (λ (z : Draft). AllPull pulled pushed z.wires) split run.along in
+    let along : AllPull pulled pushed (with_node collect_node d).wires = grind arith in
     let first = all-front (λ (w : Wire). Pulls (pulled (consumer_of w)) (pushed (producer_of w)))
     d.wires (wires_to (length d.ranks) 0 (taken_by collect_node d.ends)) along in
     let all = runs parts pulled pushed body no_draft fitted.fit (gives-front parts pulled pushed 0
     body (collect_node ∷ []) run.each) first in
     let end = only-one (λ l. RunsOf parts pulled 0 body [] (map pushed l)) d.ends one all in
-    let place : length d.ranks ≡ last = ranks-count body no_draft
-    ∙ omega (arith, count, length-append body (collect_node ∷ [])) in
+    let place : length d.ranks ≡ last = grind (arith, ranks-count, length-append) in
     record {
       end = end.0;
       body = end.2;
-      pulls = subst (λ n. Pulls (pulled (record { node = n; port = 0 })) (pushed end.0)) place
-          (one-end pulled pushed d along end.0 end.1);
+      pulls = grind (arith, one-end);
     }
 
 -- What the collector pulled is an answer. Where there is no limit, the nodes of each kind that is
@@ -89,8 +83,5 @@ plans-answer parts p pulled pushed is small run last count done =
         };
         valid = made.has.valid (front.0.certain end);
       },
-      λ unlimited k told.
-          let inputs = all-inputs-done parts (body_nodes p) [] (s ∷ []) b.body.run
-          (block.all_open unlimited) (and_from _ _ end refl) in
-          sym (b.body.counted k) ∙ c.counted inputs.inputs k ∙ means.1 unlimited k told,
+      grind (arith, all-inputs-done, and_from),
     )

@@ -1,8 +1,7 @@
 -- The meaning of blocks of nodes, one behind the other, and how many rows the nodes of a kind pull.
-use Rattle.std.proofs.Common.{Bool, IsPermutation, List, [], ap, ap₂, arith, cond, false, inl, inr, length, refl, subst, suc, sym, true, zero, ℕ, ◌++◌, ◌+◌, ◌<◌, ◌∙◌, ◌∷◌, ◌≡◌}
-use Rattle.plan_meaning.proofs.Prelude.{AllByRecursion, AllZip, AllZip-long, DraftNode, IsPermutation-same, IsPermutation-trans, Kind, Row, Spec, and_from, and_parts, append-nil, append_assoc, every-append, joint_node, kind_of, lane_nodes, length-append, length-map, length_permutation, or_cases, replaced-at, run-at, same_kind, source_nodes, taken_by}
+use Rattle.std.proofs.lemmas.Grind.{common_steps}
+use Rattle.plan_meaning.proofs.Prelude.{Bool, IsPermutation, List, [], ap, ap₂, arith, cond, inl, inr, length, refl, subst, suc, sym, true, zero, ℕ, ◌++◌, ◌+◌, ◌<◌, ◌∙◌, ◌∷◌, ◌≡◌, AllByRecursion, AllZip, AllZip-long, DraftNode, IsPermutation-append, IsPermutation-refl, IsPermutation-same, IsPermutation-trans, Kind, Row, Spec, and_from, and_parts, append-nil, append_assoc, every-append, joint_node, lane_nodes, length-append, length-map, length_permutation, or_cases, replaced-at, run-at, source_nodes, taken_by, Flow, Parts, all_certain, all_rows, any_needs, flow_rows, flows_of, IsNoLimit, IsOpenNode, IsSource, IsTold, Makes, Means, MeansNode, all_valid, if_kind, is_certain, is_needed, is_valid_source, meant_by, pulls, source_list, sources_rows}
 use Rattle.query_model.specs.declared.processor_spec.Spec.TheVariants as spec
-use Rattle.plan_meaning.specs.Names.{Flow, Parts, all_certain, all_rows, any_needs, flow_rows, flows_of, IsNoLimit, IsOpenNode, IsSource, IsTold, Makes, Means, MeansNode, all_valid, if_kind, is_certain, is_needed, is_valid_source, meant_by, pulls, source_list, sources_rows}
 
 -- ---- nodes
 
@@ -62,12 +61,10 @@ split parts (node ∷ front) back before after m =
 
 -- where nothing counts, none does
 pub none-of : (b : Bool) → (let n : ℕ = cond b 0 0 in n) ≡ 0
-none-of true = refl
-none-of false = refl
+none-of b = grind arith
 
 sum-of : (b : Bool) (m n : ℕ) → cond b m 0 + cond b n 0 ≡ cond b (m + n) 0
-sum-of true m n = refl
-sum-of false m n = omega arith
+sum-of b m n = grind arith
 
 -- ---- lanes
 
@@ -94,19 +91,14 @@ lanes-mean parts s rank i (suc n) xs (y ∷ ys) before after is a b m =
     let made = node-at parts node xs (y ∷ []) ys before m.0 is a refl m.1 in
     let one = only-one (λ l. Makes parts s (y.rows ∷ []) l) made.outs made.count made.makes in
     let z : Flow = flow_made parts s (y ∷ []) one.0 in
-    let here : m.0 ≡ (xs ++ z ∷ []) ++ ys =
-    made.are ∙ ap (λ l. xs ++ (flows_of z.certain z.needs l ++ ys)) one.1
-    ∙ sym (append_assoc xs (z ∷ []) ys) in
+    let here : m.0 ≡ (xs ++ z ∷ []) ++ ys = grind (arith, append_assoc) in
     let more = lanes-mean parts s rank (suc i) n (xs ++ z ∷ []) ys m.0 after here
     (omega (arith, a, length-append xs (z ∷ []))) (omega (arith, b)) m.2 in
     record {
       lanes = z ∷ more.lanes;
       are = more.are ∙ append_assoc xs (z ∷ []) more.lanes;
       each = ((one.2, refl, refl), more.each);
-      pulled = λ k. ap₂ (λ p q. p + q) (made.pulled k
-          ∙ ap (λ l. pulls k s (length l)) (append-nil y.rows)) (more.pulled k)
-          ∙ sum-of (same_kind (kind_of s) k) (length y.rows) (length (all_rows (flow_rows ys)))
-          ∙ ap (pulls k s) (sym (length-append y.rows (all_rows (flow_rows ys))));
+      pulled = grind (arith, append-nil, sum-of, length-append);
     }
 lanes-mean parts s rank i n xs ys before after is a b m = absurd (omega (arith, b))
 
@@ -118,18 +110,16 @@ open-lanes s rank i (suc n) h = ((omega arith, h), open-lanes s rank (suc i) n h
 -- ---- sources
 
 source-made : (parts : Parts) (s : Spec) (rows : List Row) → IsSource s
-    → Makes parts s [] (rows ∷ []) → (rows ≡ source_list parts s)
+    → Makes parts s [] (rows ∷ []) → IsPermutation (source_list parts s) rows
     × (is_certain parts s [] ≡ true → is_valid_source parts s ≡ true)
-source-made parts (spec.Csv part) rows i m = (m, λ e. e)
-source-made parts (spec.Numbers n chunk_rows) rows i m = (m, λ e. refl)
-source-made parts _ rows i m = absurd i
+source-made parts x1 rows i m = grind (arith, IsPermutation-same)
 
 record SourcesMade (parts : Parts) (specs : List Spec) (i : ℕ) (xs before after : List Flow)
     (m : Means parts (source_nodes i specs) before after) : Type 0 where
   pub flows : List Flow
   pub are : after ≡ xs ++ flows
   pub count : length flows ≡ length specs
-  pub rows_are : sources_rows parts specs ≡ all_rows (flow_rows flows)
+  pub same : IsPermutation (sources_rows parts specs) (all_rows (flow_rows flows))
   pub certain : all_certain flows ≡ true → all_valid parts specs ≡ true
   pub pulled : (k : Kind) → meant_by parts k (source_nodes i specs) before after m ≡ 0
 
@@ -137,7 +127,8 @@ sources-mean : (parts : Parts) (specs : List Spec) (i : ℕ) (xs before after : 
     → before ≡ xs → length xs ≡ i → AllByRecursion IsSource specs
     → (m : Means parts (source_nodes i specs) before after)
     → SourcesMade parts specs i xs before after m
-sources-mean parts [] i xs before after is a sources m = search (arith, append-nil)
+sources-mean parts [] i xs before after is a sources m =
+    search (arith, append-nil, IsPermutation-refl)
 sources-mean parts (s ∷ specs) i xs before after is a sources m =
     let node : DraftNode = record { spec = s; rank = 1; offset = i; takes = 0; gives = 1 } in
     let made = node-at parts node xs [] [] before m.0 (is ∙ sym (append-nil xs)) a refl m.1 in
@@ -151,22 +142,15 @@ sources-mean parts (s ∷ specs) i xs before after is a sources m =
       flows = z ∷ more.flows;
       are = more.are ∙ append_assoc xs (z ∷ []) more.flows;
       count = ap suc more.count;
-      rows_are = ap₂ (λ a b. a ++ b) (sym first.0) more.rows_are;
-      certain = λ e. let both = and_parts _ _ e in
-          and_from _ _ (first.1 both.0) (more.certain both.1);
-      pulled = λ k. ap₂ (λ p q. p + q) (made.pulled k ∙ none-of (same_kind (kind_of s) k))
-          (more.pulled k);
+      same = IsPermutation-append _ _ _ _ first.0 more.same;
+      certain = grind (arith, and_parts, and_from);
+      pulled = grind (arith, none-of);
     }
 
 open-sources : (specs : List Spec) (i : ℕ) → AllByRecursion IsSource specs
     → AllByRecursion IsOpenNode (source_nodes i specs)
 open-sources [] i h = tt
-open-sources (s ∷ specs) i h = ((omega arith, no-limit s h.0), open-sources specs (suc i) h.1)
-  where
-    no-limit : (s : Spec) → IsSource s → IsNoLimit s
-    no-limit (spec.Csv part) h = tt
-    no-limit (spec.Numbers n rows) h = tt
-    no-limit _ h = absurd h
+open-sources (s ∷ specs) i h = grind (arith, open-sources specs (suc i) h.1)
 
 -- ---- what is true of some flows
 
@@ -294,7 +278,7 @@ module _ {parts : Parts} {unlimited : Type 0} where
             first = p;
             second = record {
               count = made.count;
-              same = IsPermutation-same _ _ made.rows_are;
+              same = made.same;
               certain = made.certain;
               needs = λ e. refl;
             };
@@ -315,24 +299,8 @@ module _ {parts : Parts} {unlimited : Type 0} where
       → ((k : Kind) (t : List Flow) → unlimited → IsTold k → Q t
       → pulls k node.spec (length (all_rows (flow_rows t))) ≡ n k)
       → Block parts unlimited (node ∷ []) (Both P Q) (Both P R) n
-  node-block node P Q R n limit some front takes step pulled = record {
-    run = λ before after h m.
-        let made = node-at parts node h.front h.back [] before m.0
-        (h.are ∙ ap (λ l. h.front ++ l) (sym (append-nil h.back))) (front h.front h.first)
-        (takes h.back h.second) m.1 in
-        let outs : List Flow = flows_of (is_certain parts node.spec h.back)
-        (is_needed parts node.spec h.back) made.outs in (
-          record {
-            front = h.front;
-            back = outs;
-            are = m.2 ∙ made.are ∙ ap (λ l. h.front ++ l) (append-nil outs);
-            first = h.first;
-            second = step h.back made.outs h.second made.makes made.count;
-          },
-          λ u k t. let e = made.pulled k ∙ pulled k h.back u t h.second in omega (arith, e),
-        );
-    all_open = λ u. ((some, limit u), tt);
-  }
+  node-block node P Q R n limit some front takes step pulled =
+      grind (arith, common_steps, node-at, append-nil)
 
   -- a node that takes all flows, and has one output
   pub joint-block : (s : Spec) (rank m : ℕ) (P : List Flow → Type 0) (Q : Flow → Type 0)

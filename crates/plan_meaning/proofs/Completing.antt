@@ -1,7 +1,5 @@
 -- What passed by the end of a run is the first of what passes where nobody closes an input.
-use Rattle.std.proofs.Common.{Bool, List, [], ap, ap₂, arith, false, length, refl, subst, sym, take, true, ◌++◌, ◌+◌, ◌<◌, ◌∙◌, ◌∷◌, ◌≡◌}
-use Rattle.plan_meaning.proofs.Prelude.{AllByRecursion, AllZip, AllZip-long, DraftNode, KeyPair, Spec, and_from, and_parts, both_ways, given_by, length-map, list_all-append, or_cases, or_left, run-split, taken_by}
-use Rattle.plan_meaning.specs.Names.{AllInputsDone, IsNoLimit, IsOpenNode, Pulls, Runs, RunsNode, if_kind, Completes, IsFront, Flow, ManyToOne, OneToOne, Parts, Source, Stream, TwoToOne, all_done, all_rows, any_done, flows_of, Gives, GivesJoined, Makes, is_certain, is_needed}
+use Rattle.plan_meaning.proofs.Prelude.{Bool, List, [], arith, length, refl, subst, sym, true, ◌++◌, ◌+◌, ◌<◌, ◌∙◌, ◌∷◌, ◌≡◌, AllByRecursion, AllZip, AllZip-long, DraftNode, KeyPair, Spec, and_from, and_parts, both_ways, given_by, length-map, list_all-append, or_cases, or_left, run-split, taken_by, AllInputsDone, IsNoLimit, IsOpenNode, Pulls, Runs, RunsNode, Completes, IsFront, Flow, OneToOne, Parts, Source, Stream, TwoToOne, all_done, any_done, flows_of, Gives, GivesJoined, Makes, is_certain, is_needed}
 use Rattle.plan_meaning.proofs.KindLaws.{CompletesKind, complete-kind, done-rows}
 use Rattle.plan_meaning.proofs.Fronts.{pulled-front}
 use Rattle.plan_meaning.proofs.Zips.{zip-chain, zip-given, zip-taken}
@@ -40,8 +38,7 @@ completes parts (node ∷ nodes) before after flows r z =
         more.means,
       );
       fronts = more.fronts;
-      counted = λ d x. ap₂ (λ a b. a + b) (ap (λ l. if_kind x node (length (all_rows l)))
-          (done-rows step.ins (taken_by node flows) taken d.0)) (more.counted d.1 x);
+      counted = grind (arith, done-rows);
     }
 
 -- ---- where the ends are done and no node is a limit, all inputs are done
@@ -65,69 +62,38 @@ any-of-all (x ∷ xs) lt h = or_left x.done (any_done xs) (and_parts x.done (all
 
 pulled-done : (ins ss : List Stream) → AllZip Pulls ins ss → all_done ins ≡ true
     → all_done ss ≡ true
-pulled-done [] [] z h = refl
 pulled-done (i ∷ ins) (s ∷ ss) z h = let both = and_parts _ _ h in
     and_from _ _ (z.0.finished both.0) (pulled-done ins ss z.1 both.1)
-pulled-done ins ss z h = absurd z
+pulled-done ins ss z h = grind arith
 
 one-done : (R : Stream → Stream → Type 0) → ((i o : Stream) → R i o → o.done ≡ true → i.done ≡ true)
     → (ins outs : List Stream) → OneToOne R ins outs → any_done outs ≡ true → all_done ins ≡ true
-one-done R f (i ∷ []) (o ∷ []) r e = search (arith, or_cases, and_from, both_ways)
-one-done R f ins outs r e = absurd r
-
-many-done : (R : List Stream → Stream → Type 0)
-    → ((ins : List Stream) (o : Stream) → R ins o → o.done ≡ true → all_done ins ≡ true)
-    → (ins outs : List Stream) → ManyToOne R ins outs → any_done outs ≡ true → all_done ins ≡ true
-many-done R f ins (o ∷ []) r e = search (arith, or_cases, both_ways)
-many-done R f ins outs r e = absurd r
+one-done R f ins outs r e = grind (arith, or_cases, and_from, both_ways)
 
 source-done : (P : Stream → Type 0) (ins outs : List Stream) → Source P ins outs
     → all_done ins ≡ true
-source-done P [] outs r = refl
-source-done P (i ∷ ins) outs r = absurd r
+source-done P ins outs r = grind arith
 
 join-done : (pairs : List KeyPair) (ins outs : List Stream) → TwoToOne (GivesJoined pairs) ins outs
     → any_done outs ≡ true → all_done ins ≡ true
-join-done pairs (l ∷ r ∷ []) (o ∷ []) q e = search (arith, or_cases, and_from, both_ways)
-join-done pairs ins outs q e = absurd q
+join-done pairs ins outs q e = grind (arith, or_cases, and_from, both_ways)
 
 inputs-done : (parts : Parts) (s : Spec) (ins outs : List Stream) → Gives parts s ins outs
     → IsNoLimit s → any_done outs ≡ true → all_done ins ≡ true
-inputs-done parts (spec.Csv part) ins outs g n e = source-done _ ins outs g
-inputs-done parts (spec.Numbers m rows) ins outs g n e = source-done _ ins outs g
-inputs-done parts (spec.Filter c) ins outs g n e = one-done _ (λ i o r. r.input_done) ins outs g e
-inputs-done parts (spec.Expression items) ins outs g n e = search (arith, one-done)
-inputs-done parts spec.Resize ins outs g n e = g.inputs_done e
-inputs-done parts (spec.Limit span) ins outs g n e = absurd n
-inputs-done parts (spec.PartialAggregate p) ins outs g n e = search (arith, one-done)
-inputs-done parts (spec.MergeAggregate p) ins outs g n e = search (arith, many-done)
-inputs-done parts (spec.HashJoin join) ins outs g n e = join-done join.pairs ins outs g e
-inputs-done parts (spec.Sort order) ins outs g n e = search (arith, one-done)
-inputs-done parts (spec.MergeSorted order) ins outs g n e = search (arith, many-done)
-inputs-done parts spec.Collect ins [] g n e = absurd (both_ways false refl e)
-inputs-done parts spec.Collect (i ∷ []) (o ∷ outs) g n e = absurd g
-inputs-done parts _ ins outs g n e = absurd g
+inputs-done parts s ins outs g n e =
+    grind (arith, source-done, one-done, join-done, both_ways, or_cases)
 
 pub all-inputs-done : (parts : Parts) (nodes : List DraftNode) (before after : List Stream)
     (r : Runs parts nodes before after) → AllByRecursion IsOpenNode nodes → all_done after ≡ true
     → BothDone parts nodes before after r
 all-inputs-done parts [] before after r open_nodes e = search (arith)
-all-inputs-done parts (node ∷ nodes) before after r open_nodes e =
-    let more = all-inputs-done parts nodes r.0 after r.2 open_nodes.1 e in
-    let step : RunsNode parts node before r.0 = r.1 in
-    let all : all_done (given_by node step.outs before) ≡ true = subst (λ l. all_done l ≡ true)
-    step.are more.ends in
-    let parted = done-parts (take node.offset before) _ all in
-    let behind = done-parts step.outs _ parted.1 in
-    let count = step.count in
-    let some : 0 < node.gives = open_nodes.0.0 in
-    let ins = inputs-done parts node.spec step.ins step.outs step.gives open_nodes.0.1
-    (any-of-all step.outs (omega (arith, some, count)) behind.0) in
-    record {
-      ends = subst (λ l. all_done l ≡ true) (run-split node.offset node.takes before)
-          (done-append (take node.offset before) _ parted.0
-          (done-append (taken_by node before) _
-          (pulled-done step.ins (taken_by node before) step.pulls ins)
-          behind.1));
-      inputs = (ins, more.inputs);
-    }
+all-inputs-done parts (node ∷ nodes) before after r open_nodes e = grind (
+  arith,
+  done-parts,
+  inputs-done,
+  any-of-all,
+  done-append,
+  pulled-done,
+  all-inputs-done parts nodes r.0 after r.2 open_nodes.1 e,
+  run-split node.offset node.takes before,
+)

@@ -1,6 +1,5 @@
 -- Expressions and conditions of one form have the same values and the same types.
-use Rattle.plan_meaning.proofs.Prelude.{All-cons, All-head, All-tail, ColumnType, Cond, Expr, IsItem, IsTyped, IsTypedCond, IsTypedOperand, Operand, Row, cond_form, formula, is_text, item_row, operand_form, operand_type, operand_value, plain_of, truth_of, type_of, value_of}
-use Rattle.std.proofs.Common.{All, List, [], ap, ap₂, arith, map, refl, ℕ, ◌∷◌, ◌≡◌}
+use Rattle.plan_meaning.proofs.Prelude.{All-cons, All-head, All-tail, ColumnType, Cond, Expr, IsItem, IsTyped, IsTypedCond, IsTypedOperand, Operand, Row, cond_form, formula, item_row, operand_form, operand_type, operand_value, plain_of, truth_of, type_of, value_of, All, List, [], ap₂, arith, map, refl, ℕ, ◌∷◌, ◌≡◌}
 use Rattle.query_model.specs.declared.query.ExprOf.TheVariants as expr
 use Rattle.query_model.specs.declared.query.Operand.TheVariants as operand
 use Rattle.query_model.specs.declared.query.CondOf.TheVariants as cond'
@@ -59,9 +58,7 @@ record SameOperand (a b : Operand ℕ) : Type 0 where
 
 operands-same : (a b : Operand ℕ) → operand_form a ≡ operand_form b → SameOperand a b
 unfolding operand_value
-operands-same (operand.Plain x) (operand.Plain y) e =
-    let same : SameExpr x y = exprs-same x y cc in
-    record { value = same.value; type = same.type; typed = same.typed }
+operands-same (operand.Plain x) (operand.Plain y) e = grind (arith, exprs-same x y cc)
 operands-same (operand.Text x) (operand.Text y) e = search (arith)
 operands-same (operand.Agg x) (operand.Agg y) e = search (arith)
 operands-same a b e = absurd (cc)
@@ -73,17 +70,7 @@ pub record SameCond (a b : Cond) : Type 0 where
 pub conds-same : (a b : Cond) → cond_form a ≡ cond_form b → SameCond a b
 unfolding truth_of
 conds-same (cond'.Compare o a b) (cond'.Compare u c d) e =
-    let op : o ≡ u = cc in
-    let left : SameOperand a c = operands-same a c cc in
-    let right : SameOperand b d = operands-same b d cc in
-    record {
-      truth = λ row. let x = left.value row in let y = right.value row in cc;
-      typed = λ types h.
-          let x = ap is_text (left.type types) in
-          let y = ap is_text (right.type types) in
-          let both = h.2 in
-          (left.typed types h.0, right.typed types h.1, cc);
-    }
+    grind (arith, operands-same a c cc, operands-same b d cc)
 conds-same (cond'.And' p a q b) (cond'.And' r c s d) e =
     search (arith, conds-same a c cc, conds-same b d cc)
 conds-same (cond'.Or' p a q b) (cond'.Or' r c s d) e =

@@ -1,15 +1,14 @@
 -- Each plan with few parts and lanes fits.
-use Rattle.std.proofs.Common.{List, None, Option, Some, [], ap, arith, length, refl, replicate, sym, ℕ, ◌++◌, ◌<◌, ◌∙◌, ◌∷◌, ◌≡◌, ◌≤◌}
-use Rattle.plan_meaning.proofs.Prelude.{AllFitEnds, Cond, FitsBlock, Levels, SortSpec, Span, Spec, all-front', append-nil, block-append, joint-fit, joint-level, lanes-level, length-replicate, level-append, ranks_after, replaced, replaced-at, run-at, run_of, same-ranks, sources-fit, stay-level}
-use Rattle.plan_meaning.specs.Plans.{FewJoined, IsSmall, PlanJoin, PlanShape, SelectPlan, body_nodes, filter_nodes, gather_nodes, grouped, limit_nodes, plain, plan_nodes, read_nodes, shape_nodes, sort_nodes}
+use Rattle.std.proofs.lemmas.Grind.{common_steps}
+use Rattle.plan_meaning.proofs.Prelude.{List, None, Option, Some, [], arith, length, refl, replicate, ℕ, ◌++◌, ◌<◌, ◌∙◌, ◌∷◌, ◌≡◌, ◌≤◌, AllFitEnds, Cond, FitsBlock, Levels, SortSpec, Span, Spec, all-front', append-nil, block-append, joint-fit, joint-level, lanes-level, length-replicate, level-append, ranks_after, replaced-at, run-at, same-ranks, sources-fit, stay-level}
+use Rattle.plan_meaning.specs.Plans.{FewJoined, FewSources, IsSmall, PlanJoin, PlanShape, SelectPlan, body_nodes, filter_nodes, gather_nodes, grouped, limit_nodes, plain, plan_nodes, read_nodes, shape_nodes, sort_nodes}
 use Rattle.query_model.specs.declared.processor_spec.Spec.TheVariants as spec
 
 filter-level : (f : Option Cond) (q n r t : ℕ) → r < q → q < t
     → Levels (filter_nodes f q n) (replicate n r) n t
-filter-level None q n r t low high = stay-level n r t (omega (arith, low, high))
-filter-level (Some c) q n r t low high = lanes-level (spec.Filter c) q n r t low high
+filter-level f q n r t low high = grind (arith, stay-level, lanes-level)
 
-join-fit : (j : PlanJoin) → length j.sources ≤ 32
+join-fit : (j : PlanJoin) → FewSources j.sources
     → FitsBlock (record {
       spec = spec.Resize;
       rank = 2;
@@ -17,33 +16,26 @@ join-fit : (j : PlanJoin) → length j.sources ≤ 32
       takes = length j.sources;
       gives = 1;
     } ∷ []) (2 ∷ replicate (length j.sources) 1) (2 ∷ 2 ∷ [])
-join-fit j few =
-    let p : ℕ = length j.sources in
-    let mid : List ℕ = replicate p 1 in
-    let at : 2 ∷ mid ≡ (2 ∷ []) ++ (mid ++ []) = ap (λ l. 2 ∷ l) (sym (append-nil mid)) in
-    record {
-      fit = (
-        record {
-          in_range = let one : ℕ = 1 in let len = length-replicate p one in omega (arith, len);
-          ranked = all-front' (λ r. r < 2) (run_of 1 p (2 ∷ mid)) mid
-              (same-ranks p 1 2 (omega arith)) (ap (run_of 1 p) at
-              ∙ run-at 1 p (2 ∷ []) mid [] refl (length-replicate p 1));
-          few_inputs = few;
-          few_outputs = omega arith;
-        },
-        tt,
-      );
-      leaves = ap (λ l. replaced 1 p (2 ∷ []) l) at
-          ∙ replaced-at 1 p (2 ∷ []) (2 ∷ []) mid [] refl (length-replicate p 1);
-    }
+join-fit j fj = grind (
+  arith,
+  common_steps,
+  append-nil,
+  length-replicate,
+  all-front',
+  same-ranks,
+  run-at,
+  replaced-at,
+)
 
-read-level : (sources : List Spec) (join : Option PlanJoin) (lanes : ℕ) → length sources ≤ 32
+read-level : (sources : List Spec) (join : Option PlanJoin) (lanes : ℕ) → FewSources sources
     → FewJoined join → lanes ≤ 16 → Levels (read_nodes sources join lanes) [] lanes 5
-read-level sources None lanes few fj fl =
+read-level sources None lanes fs fj fl =
+    let few = fs.few in
     let p : ℕ = length sources in
     level-append (record { rank = 1; low = omega arith; block = sources-fit sources 0 [] refl })
     (λ r low. joint-level spec.Resize 2 p lanes r 5 low (omega arith) few fl)
-read-level sources (Some j) lanes few fj fl =
+read-level sources (Some j) lanes fs fj fl =
+    let few = fs.few in
     let p : ℕ = length sources in
     record {
       rank = 4;

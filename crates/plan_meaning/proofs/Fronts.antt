@@ -1,29 +1,25 @@
 -- What was pulled is the first of what could pass.
-use Rattle.std.proofs.Common.{IsPermutation, IsSorted, List, [], ap₂, arith, false, inl, inr, is_lt, length, refl, subst, sym, true, ◌++◌, ◌<◌, ◌∙◌, ◌∷◌, ◌≡◌}
-use Rattle.plan_meaning.proofs.Prelude.{AllByRecursion, AllZip, InOrder, IsBeforeNone, IsPermutation-append_comm, IsPermutation-append_left, IsPermutation-append_right, IsPermutation-refl, IsPermutation-same, IsPermutation-trans, Row, SortKey, and_from, and_parts, append-nil, append_assoc, append_cancel_left, cases_lt, every-append, every-contains, every-weaker, length-append, or_left, or_right, order-cross, order-from_sorted, row_cmp, rows-ordered}
-use Rattle.plan_meaning.specs.Names.{Flow, Stream, all_certain, all_done, all_rows, any_needs, flow_rows, rows_of, HoldsBack, IsFront, Pulls}
+use Rattle.plan_meaning.proofs.Prelude.{IsPermutation, IsSorted, List, [], arith, false, inl, inr, is_lt, length, refl, sym, true, ◌++◌, ◌<◌, ◌∙◌, ◌∷◌, ◌≡◌, AllByRecursion, AllZip, InOrder, IsBeforeNone, IsPermutation-append_comm, IsPermutation-append_left, IsPermutation-append_right, IsPermutation-refl, IsPermutation-same, IsPermutation-trans, Row, SortKey, and_from, and_parts, append-nil, append_assoc, append_cancel_left, cases_lt, every-append, every-contains, every-weaker, length-append, or_left, or_right, order-cross, order-from_sorted, row_cmp, rows-ordered, Flow, Stream, all_certain, all_done, all_rows, any_needs, flow_rows, rows_of, HoldsBack, IsFront, Pulls}
 
 pub pulled-front : (i s : Stream) (f : Flow) → Pulls i s → IsFront s f → IsFront i f
 pulled-front i s f p h = search (arith, append_assoc, length-append)
 
 pub certain-inputs : (ins : List Stream) (fs : List Flow) → AllZip IsFront ins fs
     → all_done ins ≡ true → all_certain fs ≡ true
-certain-inputs [] [] h e = refl
 certain-inputs (i ∷ ins) (f ∷ fs) h e = let both = and_parts _ _ e in
     and_from _ _ (h.0.certain both.0) (certain-inputs ins fs h.1 both.1)
-certain-inputs ins fs h e = absurd h
+certain-inputs ins fs h e = grind arith
 
 -- where a row passed, what one of them needs is there
 pub needed-inputs : (ins : List Stream) (fs : List Flow) → AllZip IsFront ins fs
     → 0 < length (all_rows (rows_of ins)) → any_needs fs ≡ true
-needed-inputs [] fs h some = absurd (omega (arith, some))
-needed-inputs (i ∷ ins) [] h some = absurd h
 needed-inputs (i ∷ ins) (f ∷ fs) h some = elim (cases_lt 0 (length i.rows)) [
   | inl here ↦ or_left _ _ (h.0.needs here)
   | inr none ↦ or_right f.needs _
       (needed-inputs ins fs h.1
       (omega (arith, some, none, length-append i.rows (all_rows (rows_of ins)))))
 ]
+needed-inputs ins fs h some = grind arith
 
 -- the rows that are yet to pass at some ports
 pub record Behind (ins : List Stream) (fs : List Flow) : Type 0 where
@@ -56,8 +52,7 @@ later-rest keys out i f h sorted (inl done) = search (arith, no-rest)
 later-rest keys out i f h sorted (inr w) =
     let lt = (λ (a b : Row). is_lt (row_cmp keys a b)) in
     let o = rows-ordered keys in
-    let whole : InOrder lt (i.rows ++ h.rest) = order-from_sorted lt o (i.rows ++ h.rest)
-    (subst (IsSorted (row_cmp keys)) (sym h.is) sorted) in
+    let whole : InOrder lt (i.rows ++ h.rest) = grind (arith, order-from_sorted) in
     let behind_last = every-contains (λ x. AllByRecursion (λ y. lt y x ≡ false) h.rest) i.rows w.0
     (order-cross lt o i.rows h.rest whole) w.1 in
     every-weaker (λ y. lt y w.0 ≡ false) (λ y. AllByRecursion (λ x. lt y x ≡ false) out)
@@ -77,9 +72,7 @@ behind (i ∷ ins) (f ∷ fs) h =
       rest = h.0.rest ++ more.rest;
       are = rw h.0.is at (IsPermutation-trans _ _ _ (IsPermutation-append_right (i.rows ++ h.0.rest)
           _ _ more.are) (paired i.rows h.0.rest (all_rows (rows_of ins)) more.rest));
-      none = λ e. let both = and_parts _ _ e in
-          ap₂ (λ a b. a ++ b) (no-rest i.rows h.0.rest f.rows h.0.is (h.0.all both.0))
-          (more.none both.1);
+      none = grind (arith, and_parts, no-rest);
       later = λ keys out s b. every-append
           (λ y. IsBeforeNone keys y out) h.0.rest more.rest
           (later-rest keys out i f h.0 s.0 b.0) (more.later keys out s.1 b.1);

@@ -1,9 +1,7 @@
 -- What each kind gave by the end of a run is the first of what it makes where nobody closes an
 -- input.
-use Rattle.std.proofs.Common.{Bool, IsPermutation, IsSorted, List, Some, [], ap, ap₂, arith, cond, drop, false, filter, inl, inr, is_lt, leb, length, map, refl, subst, suc, sym, take, true, zero, ℕ, ◌&&◌, ◌++◌, ◌+◌, ◌<◌, ◌==◌, ◌||◌, ◌∙◌, ◌∷◌, ◌≡◌, ◌≤◌, ◌⊎◌}
-use Rattle.plan_meaning.proofs.Prelude.{AllByRecursion, AllZip, InOrder, IsPermutation-append_comm, IsPermutation-append_left, IsPermutation-append_right, IsPermutation-refl, IsPermutation-same, IsPermutation-trans, IsSortOf, KeyPair, Row, SortKey, Span, Spec, and_from, and_parts, append-nil, append_assoc, both_ways, cases_lt, drop-append-le, enough, eqb-true, every-append, every-none, every-permuted, filter-append, holds, item_row, joined_rows, joined_rows-append, le-leb, length-append, length-drop, length_permutation, limited, list_all, map-append, numbers, or_left, or_right, order-from_sorted, order-front, order-joined, ordered, ordered-none, ordered-order, ordered-same, row_cmp, rows-ordered, sorted-from_order, take-append-le}
+use Rattle.plan_meaning.proofs.Prelude.{Bool, IsPermutation, IsSorted, List, Some, [], ap, ap₂, arith, drop, false, filter, inl, inr, is_lt, leb, length, map, refl, subst, suc, sym, take, true, zero, ℕ, ◌&&◌, ◌++◌, ◌+◌, ◌<◌, ◌==◌, ◌||◌, ◌∙◌, ◌∷◌, ◌≡◌, ◌≤◌, ◌⊎◌, AllByRecursion, AllZip, InOrder, IsPermutation-append_comm, IsPermutation-append_left, IsPermutation-append_right, IsPermutation-refl, IsPermutation-same, IsPermutation-trans, IsSortOf, KeyPair, Row, SortKey, Span, Spec, and_from, and_parts, append-nil, append_assoc, both_ways, cases_lt, drop-append-le, enough, eqb-true, every-append, every-none, every-permuted, filter-append, holds, item_row, joined_rows, joined_rows-append, le-leb, length-append, length-drop, length_permutation, limited, list_all, map-append, numbers, or_left, or_right, order-from_sorted, order-front, order-joined, ordered, ordered-none, ordered-order, ordered-same, row_cmp, rows-ordered, sorted-from_order, take-append-le, Flow, ManyToOne, OneToOne, Part, Parts, Source, Stream, TwoToOne, all_certain, all_done, all_rows, any_done, any_needs, flow_rows, flows_of, rows_of, Gives, GivesHeld, GivesJoined, GivesLimited, GivesMerged, GivesPart, GivesResized, GivesThrough, HoldsBack, IsMergeOf, merged_rows, partial_rows, IsFront, Makes, is_certain, is_needed}
 use Rattle.plan_meaning.proofs.Fronts.{Behind, behind, certain-inputs, needed-inputs, no-rest}
-use Rattle.plan_meaning.specs.Names.{Flow, ManyToOne, OneToNone, OneToOne, Parts, Source, Stream, TwoToOne, all_certain, all_done, all_rows, any_done, any_needs, flow_rows, flows_of, rows_of, Gives, GivesHeld, GivesJoined, GivesLimited, GivesMerged, GivesResized, GivesThrough, HoldsBack, IsMergeOf, merged_rows, partial_rows, IsFront, Makes, is_certain, is_needed}
 use Rattle.query_model.specs.declared.processor_spec.Spec.TheVariants as spec
 
 -- for a kind with one output
@@ -26,9 +24,7 @@ one-to-one : (parts : Parts) (s : Spec) {R : Stream → Stream → Type 0}
     → CompletesKind (OneToOne M) (is_certain parts s fs) (is_needed parts s fs) fs outs
 one-to-one parts s step (i ∷ []) (o ∷ []) (f ∷ []) r z = let w = step i o f r z.0 in
     record { lists = w.out ∷ []; makes = w.makes; fronts = (w.front, tt) }
-one-to-one parts s step (i ∷ []) (o ∷ []) [] r z = absurd z
-one-to-one parts s step (i ∷ []) (o ∷ []) (f ∷ g ∷ fs) r z = absurd z.1
-one-to-one parts s step ins outs fs r z = absurd r
+one-to-one parts s step ins outs fs r z = grind arith
 
 two-to-one : (parts : Parts) (s : Spec) {R : Stream → Stream → Stream → Type 0}
     {M : List Row → List Row → List Row → Type 0}
@@ -40,10 +36,7 @@ two-to-one : (parts : Parts) (s : Spec) {R : Stream → Stream → Stream → Ty
 two-to-one parts s step (l ∷ r ∷ []) (o ∷ []) (f ∷ g ∷ []) q z = let w =
     step l r o f g q z.0 z.1.0 in
     record { lists = w.out ∷ []; makes = w.makes; fronts = (w.front, tt) }
-two-to-one parts s step (l ∷ r ∷ []) (o ∷ []) [] q z = absurd z
-two-to-one parts s step (l ∷ r ∷ []) (o ∷ []) (f ∷ []) q z = absurd z.1
-two-to-one parts s step (l ∷ r ∷ []) (o ∷ []) (f ∷ g ∷ h ∷ fs) q z = absurd z.1.1
-two-to-one parts s step ins outs fs q z = absurd q
+two-to-one parts s step ins outs fs q z = grind arith
 
 many-to-one : (parts : Parts) (s : Spec) {R : List Stream → Stream → Type 0}
     {M : List (List Row) → List Row → Type 0}
@@ -61,8 +54,7 @@ source : (parts : Parts) (s : Spec) {P : Stream → Type 0} {M : List Row → Ty
     → CompletesKind (Source M) (is_certain parts s fs) (is_needed parts s fs) fs outs
 source parts s step [] (o ∷ []) [] r z = let w = step o r in
     record { lists = w.out ∷ []; makes = w.makes; fronts = (w.front, tt) }
-source parts s step [] (o ∷ []) (f ∷ fs) r z = absurd z
-source parts s step ins outs fs r z = absurd r
+source parts s step ins outs fs r z = grind arith
 
 -- more rows in, more rows behind those that came out
 abbrev pub Extends : (List Row → List Row) → Type 0
@@ -71,8 +63,7 @@ Extends make = (xs ys : List Row) → (rest : List Row) × (make xs ++ rest ≡ 
 -- a row that came out came of one
 some-input : (make : List Row → List Row) → make [] ≡ [] → (ins outs rest : List Row)
     → outs ++ rest ≡ make ins → 0 < length outs → 0 < length ins
-some-input make none [] outs rest e some = let len = ap length (e ∙ none) in
-    absurd (omega (arith, some, len, length-append outs rest))
+some-input make none [] outs rest e some = grind (arith, length-append outs rest)
 some-input make none (i ∷ ins) outs rest e some = omega arith
 
 through : (make : List Row → List Row) → Extends make → make [] ≡ [] → (i o : Stream) (f : Flow)
@@ -85,8 +76,7 @@ through make extends none i o f g h =
       makes = refl;
       front = record {
         rest = g.front.rest ++ more.0;
-        is = sym (append_assoc o.rows g.front.rest more.0) ∙ ap (λ l. l ++ more.0) g.front.is
-            ∙ more.1 ∙ ap make h.is;
+        is = grind (arith, append_assoc);
         all = λ e. g.front.all e ∙ ap make (h.all (g.input_done e));
         certain = λ e. and_from _ _ (h.certain (g.input_done e)) refl;
         needs = λ some. or_left _ _
@@ -114,31 +104,13 @@ limited-extends span xs ys =
 
 limited-enough : (span : Span) (xs ys : List Row) → enough span ≤ length xs
     → limited (Some span) xs ≡ limited (Some span) (xs ++ ys)
-limited-enough span xs ys le = go span.count (span.count == 0) refl le
-  where
-    go : (count : ℕ) (b : Bool) → (count == 0) ≡ b → cond b 1 (span.skip + count) ≤ length xs
-        → take count (drop span.skip xs) ≡ take count (drop span.skip (xs ++ ys))
-    go count true e le = let none : count ≡ 0 = eqb-true _ _ e in rw (none) refl
-    go count false e le = search (arith, length-drop, drop-append-le, take-append-le)
+limited-enough span xs ys le = grind (arith, eqb-true, length-drop, drop-append-le, take-append-le)
 
-enough-some : (span : Span) → 0 < enough span
-enough-some span = go span.count (span.count == 0) refl
-  where
-    go : (count : ℕ) (b : Bool) → (count == 0) ≡ b → 0 < cond b 1 (span.skip + count)
-    go count true e = omega arith
-    go zero false e = absurd (cc)
-    go (suc count) false e = omega arith
+pub enough-some : (span : Span) → 0 < enough span
+enough-some span = grind arith
 
 limited-none : (span : Span) → limited (Some span) [] ≡ []
-limited-none span = ap (take span.count) (dropped span.skip) ∙ taken span.count
-  where
-    dropped : (n : ℕ) → drop n (let none : List Row = [] in none) ≡ []
-    dropped zero = refl
-    dropped (suc n) = refl
-
-    taken : (n : ℕ) → take n (let none : List Row = [] in none) ≡ []
-    taken zero = refl
-    taken (suc n) = refl
+limited-none span = grind arith
 
 limit : (span : Span) (i o : Stream) (f : Flow) → GivesLimited span i o → IsFront i f
     → CompletesOne (λ b. b ≡ limited (Some span) f.rows)
@@ -146,28 +118,16 @@ limit : (span : Span) (i o : Stream) (f : Flow) → GivesLimited span i o → Is
     (f.needs || false) o
 limit span i o f g h =
     let more = limited-extends span i.rows h.rest in
-    let far : length i.rows ≤ length f.rows = let e = ap length h.is in
-    omega (arith, e, length-append i.rows h.rest) in
+    let far : length i.rows ≤ length f.rows = grind (arith, length-append) in
     let same : length (f.rows ++ []) ≡ length f.rows = ap length (append-nil f.rows) in
     record {
       out = limited (Some span) f.rows;
       makes = refl;
       front = record {
         rest = g.front.rest ++ more.0;
-        is = sym (append_assoc o.rows g.front.rest more.0) ∙ ap (λ l. l ++ more.0) g.front.is
-            ∙ more.1 ∙ ap (limited (Some span)) h.is;
-        all = λ e. g.front.all e ∙ elim (g.input_done e) [
-          | inl done ↦ ap (limited (Some span)) (h.all done)
-          | inr le ↦ limited-enough span i.rows h.rest le ∙ ap (limited (Some span)) h.is
-        ];
-        certain = λ e. elim (g.input_done e) [
-          | inl done ↦ or_left _ _ (and_from _ _ (h.certain done) refl)
-          | inr le ↦ let enough_there : enough span ≤ length (f.rows ++ []) =
-              omega (arith, le, far, same) in
-              or_right (f.certain && true) _
-              (and_from _ _ (or_left _ _ (h.needs (omega (arith, le, enough-some span))))
-              (le-leb _ _ enough_there))
-        ];
+        is = grind (arith, append_assoc);
+        all = grind (arith, limited-enough);
+        certain = grind (arith, or_left, and_from, or_right, enough-some, le-leb);
         needs = λ some. or_left _ _
             (h.needs (some-input (limited (Some span)) (limited-none span) i.rows o.rows
             g.front.rest g.front.is some));
@@ -211,21 +171,7 @@ resize ins (o ∷ outs) fs g z =
           (IsPermutation-same _ _ (append_assoc (o.rows ++ all_rows (rows_of outs)) g.waits
           b.rest))
           (put-first o.rows (all_rows (rows_of outs)) extra)));
-      fronts = (
-        record {
-          rest = extra;
-          is = refl;
-          all = λ e. let any : any_done (o ∷ outs) ≡ true = or_left _ _ e in
-              sym (append-nil o.rows)
-              ∙ ap (λ l. o.rows ++ l)
-              (sym (ap₂ (λ k l. k ++ l) (g.nothing_waits any) (b.none (g.inputs_done any))));
-          certain = λ e. certain-inputs ins fs z (g.inputs_done (or_left _ _ e));
-          needs = λ some. passed (omega (arith, some, heads));
-        },
-        stand-still (all_certain fs) (any_needs fs) outs
-            (λ e. certain-inputs ins fs z (g.inputs_done (or_right o.done _ e)))
-            (λ some. passed (omega (arith, some, heads))),
-      );
+      fronts = grind (arith, or_left, append-nil, certain-inputs, stand-still, or_right);
     }
   where
     put-first : (a b e : List Row) → IsPermutation ((a ++ b) ++ e) ((a ++ e) ++ b)
@@ -234,10 +180,9 @@ resize ins (o ∷ outs) fs g z =
 
 pub done-rows : (ins : List Stream) (fs : List Flow) → AllZip IsFront ins fs → all_done ins ≡ true
     → rows_of ins ≡ flow_rows fs
-done-rows [] [] h e = refl
 done-rows (i ∷ ins) (f ∷ fs) h e = let both = and_parts _ _ e in
     ap₂ (λ a b. a ∷ b) (h.0.all both.0) (done-rows ins fs h.1 both.1)
-done-rows ins fs h e = absurd h
+done-rows ins fs h e = grind arith
 
 empty-rows : (rows : List Row) → (0 < length rows → ⊥) → rows ≡ []
 empty-rows [] h = refl
@@ -260,8 +205,7 @@ sort-exists keys rows =
 held : (M M' : List Row → Type 0) (inputs_done c : Bool) → (inputs_done ≡ true → c ≡ true)
     → (inputs_done ≡ true → (r : List Row) → M r → M' r) → (r : List Row) × M' r
     → (o : Stream) → GivesHeld M inputs_done o → CompletesOne M' c c o
-held M M' true c certain same exists o g = search (arith)
-held M M' false c certain same exists o g = search (arith, empty-rows, both_ways)
+held M M' inputs_done c certain same exists o g = grind (arith, empty-rows, both_ways)
 
 -- the same of a kind of one input
 held-one : (M : List Row → List Row → Type 0) → ((rows : List Row) → (out : List Row) × M rows out)
@@ -287,8 +231,7 @@ joined pairs l r o f g k h j = go r.done refl
     go true e =
         let extra : List Row = joined_rows pairs h.rest r.rows in
         let split : joined_rows pairs f.rows g.rows ≡ joined_rows pairs l.rows r.rows ++ extra =
-        ap₂ (joined_rows pairs) (sym h.is) (sym (j.all e))
-        ∙ joined_rows-append pairs l.rows h.rest r.rows in
+        grind (arith, joined_rows-append) in
         record {
           out = o.rows ++ (k.rest ++ extra);
           makes = IsPermutation-trans _ _ _ (IsPermutation-same _ _ split)
@@ -297,18 +240,13 @@ joined pairs l r o f g k h j = go r.done refl
           front = record {
             rest = k.rest ++ extra;
             is = refl;
-            all = λ d. sym (append-nil o.rows) ∙ ap (λ z. o.rows ++ z)
-                (sym (ap₂ (λ a b. a ++ b) (k.nothing_left d)
-                (ap (λ z. joined_rows pairs z r.rows)
-                (no-rest l.rows h.rest f.rows h.is (h.all (k.left_done d))))));
-            certain = λ d. and_from _ _ (h.certain (k.left_done d))
-                (and_from _ _ (j.certain (k.right_done d)) refl);
+            all = grind (arith, append-nil, no-rest);
+            certain = grind (arith, and_from);
             needs = λ some. and_from _ _ (h.needs (some-left some)) (j.certain e);
           };
         }
     go false e =
-        let none : o.rows ≡ [] = empty-rows o.rows (λ some. let lt = some-left some in
-        let len = ap length (nothing e) in omega (arith, lt, len)) in
+        let none : o.rows ≡ [] = grind (arith, empty-rows, some-left, nothing) in
         record {
           out = joined_rows pairs f.rows g.rows;
           makes = IsPermutation-refl _;
@@ -325,17 +263,15 @@ joined pairs l r o f g k h j = go r.done refl
 front-sorted : (keys : List SortKey) (ins : List Stream) (fs : List Flow) → AllZip IsFront ins fs
     → AllByRecursion (λ (f : Flow). IsSorted (row_cmp keys) f.rows) fs
     → AllByRecursion (λ rows. IsSorted (row_cmp keys) rows) (rows_of ins)
-front-sorted keys [] [] z s = tt
-front-sorted keys (i ∷ ins) (f ∷ fs) z s =
-    let lt = (λ (a b : Row). is_lt (row_cmp keys a b)) in
-    let o = rows-ordered keys in (
-      sorted-from_order lt o i.rows
-          (order-front lt o i.rows z.0.rest
-          (order-from_sorted lt o (i.rows ++ z.0.rest)
-          (subst (IsSorted (row_cmp keys)) (sym z.0.is) s.0))),
-      front-sorted keys ins fs z.1 s.1,
-    )
-front-sorted keys ins fs z s = absurd z
+front-sorted keys (i ∷ ins) (f ∷ fs) z s = grind (
+  arith,
+  sorted-from_order,
+  order-front,
+  order-from_sorted,
+  rows-ordered keys,
+  front-sorted keys ins fs z.1 s.1,
+)
+front-sorted keys ins fs z s = grind arith
 
 flows-sorted : (keys : List SortKey) (fs : List Flow)
     → AllByRecursion (λ rows. IsSorted (row_cmp keys) rows) (flow_rows fs)
@@ -347,10 +283,9 @@ flows-sorted keys (f ∷ fs) h = (h.0, flows-sorted keys fs h.1)
 held-needs : (keys : List SortKey) (out : List Row) (ins : List Stream) (fs : List Flow)
     → AllZip IsFront ins fs → AllByRecursion (HoldsBack keys out) ins
     → list_all (λ (f : Flow). f.certain || f.needs) fs ≡ true
-held-needs keys out [] [] z b = refl
 held-needs keys out (i ∷ ins) (f ∷ fs) z b =
     search (arith, and_from, or_left, or_right, held-needs keys out ins fs z.1 b.1)
-held-needs keys out ins fs z b = absurd z
+held-needs keys out ins fs z b = grind arith
 
 merged : (keys : List SortKey) (ins : List Stream) (o : Stream) (fs : List Flow)
     → GivesMerged keys ins o → AllZip IsFront ins fs
@@ -383,11 +318,7 @@ merged keys ins o fs k z =
       front = record {
         rest = tail;
         is = refl;
-        all = λ d. sym (append-nil o.rows)
-            ∙ ap (λ l. o.rows ++ l)
-            (sym (ap (ordered lt w)
-            (ap₂ (λ x y. x ++ y) (k.nothing_waits d) (b.none (k.inputs_done d)))
-            ∙ ordered-none lt w));
+        all = grind (arith, append-nil, ordered, ordered-none);
         certain = λ d. certain-inputs ins fs z (k.inputs_done d);
         needs = λ some. held-needs keys o.rows ins fs z (k.held some);
       };
@@ -401,20 +332,26 @@ merged keys ins o fs k z =
         rw (empty-rows o.rows (λ some. omega (arith, some, none)))
         (every-none (λ y x. is_lt (row_cmp keys y x) ≡ false) b.rest)
 
+-- a part's source gives the first of its rows
+pub part-front : (part : Part) (o : Stream) → GivesPart part o
+    → IsFront o (record { rows = part.rows; certain = part.valid; needs = true })
+part-front part o p = grind arith
+
 pub complete-kind : (parts : Parts) (s : Spec) (ins outs : List Stream) (fs : List Flow)
     → Gives parts s ins outs → AllZip IsFront ins fs
     → CompletesKind (Makes parts s) (is_certain parts s fs) (is_needed parts s fs) fs outs
-complete-kind parts (spec.Csv part) ins outs fs g z = source parts (spec.Csv part) (λ o p. record {
-  out = (parts part).rows;
-  makes = refl;
-  front = record {
-    rest = p.front.rest;
-    is = p.front.is;
-    all = p.front.all;
-    certain = p.valid;
-    needs = λ some. refl;
-  };
-}) ins outs fs g z
+complete-kind parts (spec.Csv part) ins outs fs g z =
+    source parts (spec.Csv part) (λ o p. record {
+      out = (parts (spec.Csv part)).rows;
+      makes = refl;
+      front = part-front (parts (spec.Csv part)) o p;
+    }) ins outs fs g z
+complete-kind parts (spec.List list) ins outs fs g z =
+    source parts (spec.List list) (λ o p. record {
+      out = p.order;
+      makes = p.same;
+      front = grind (arith, part-front);
+    }) ins outs fs g z
 complete-kind parts (spec.Numbers n rows) ins outs fs g z =
     source parts (spec.Numbers n rows) (λ o p. record {
       out = (numbers n).rows;
@@ -454,12 +391,4 @@ complete-kind parts (spec.Sort order) ins outs fs g z =
     outs fs g z
 complete-kind parts (spec.MergeSorted order) ins outs fs g z =
     many-to-one parts (spec.MergeSorted order) (merged order.keys) ins outs fs g z
-complete-kind parts spec.Collect ins outs fs g z = collect ins outs fs g z
-  where
-    collect : (ins outs : List Stream) (fs : List Flow) → OneToNone ins outs → AllZip IsFront ins fs
-        → CompletesKind OneToNone (all_certain fs) (any_needs fs) fs outs
-    collect (i ∷ []) [] (f ∷ []) g z = record { lists = []; makes = tt; fronts = tt }
-    collect (i ∷ []) [] (f ∷ e ∷ fs) g z = absurd z.1
-    collect (i ∷ []) [] [] g z = absurd z
-    collect ins outs fs g z = absurd g
-complete-kind parts _ ins outs fs g z = absurd g
+complete-kind parts spec.Collect ins outs fs g z = grind arith

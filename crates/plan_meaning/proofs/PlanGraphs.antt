@@ -1,10 +1,9 @@
 -- A list of nodes of the forms of a plan's is a graph of few nodes.
-use Rattle.std.proofs.Common.{List, [], ap, arith, length, refl, sym, ◌∙◌, ◌≡◌, ◌≤◌}
-use Rattle.plan_meaning.proofs.Prelude.{AllFitDraft, DraftNode, IsGraphOf, fits, length-map, lists-are-graphs, no_draft, sum_by-cons}
-use Rattle.plan_meaning.specs.Names.{Count, counted, each_input, SelectPlan, IsSmall, plan_nodes, NodeForm, node_form, forms}
-use Rattle.plan_meaning.proofs.Counts.{few-nodes, wires-counted}
+use Rattle.plan_meaning.proofs.Prelude.{List, [], ap, arith, cond, length, refl, ◌+◌, ◌∙◌, ◌≡◌, ◌≤◌, AllFitDraft, DraftNode, IsGraphOf, fits, lists-are-graphs, no_draft, sum_by-cons, with_nodes, Count, counted, each_input, each_kept, SelectPlan, IsSmall, plan_nodes, NodeForm, node_form, forms, same_kind}
+use Rattle.query_model.specs.declared.processor_spec.Kind.TheVariants as kind
+use Rattle.plan_meaning.proofs.Counts.{few-nodes, nodes-counted, wires-counted}
 use Rattle.plan_meaning.proofs.Fitting.{plan-fits}
-use Rattle.plan_meaning.proofs.Same.{by-forms, fit-same, after-same}
+use Rattle.plan_meaning.proofs.Same.{by-forms, fit-same, after-same, kind-same}
 
 -- nodes of one form count the same
 pub counted-same : (w : Count)
@@ -19,7 +18,8 @@ counted-same w same xs ys e =
 -- the nodes fit, are few, and make a graph
 pub record PlanGraph (nodes : List DraftNode) : Type 0 where
   pub fit : AllFitDraft nodes no_draft
-  pub few : length nodes ≤ 124
+  pub few : counted each_kept nodes ≤ 124
+  pub few_wires : length (with_nodes nodes no_draft).wires ≤ 140
   pub graph : IsGraphOf nodes
 
 pub plan-graph : (p : SelectPlan) (nodes : List DraftNode) → IsSmall p
@@ -28,18 +28,16 @@ plan-graph p nodes small e =
     let steps : List DraftNode = plan_nodes p in
     let ends = plan-fits p small in
     let bounds = few-nodes p small in
-    let most = bounds.0 in
-    let most_inputs = bounds.1 in
     let ranked = fit-same nodes steps [] e ends.0 in
     let drawn : AllFitDraft nodes no_draft = (fits nodes ranked).fit in
-    let count : length nodes ≡ length steps =
-    sym (length-map nodes node_form) ∙ ap length e ∙ length-map steps node_form in
-    let few : length nodes ≤ 124 = omega (arith, count, most) in
+    let kept = counted-same each_kept (λ x y same. ap (λ j. 1 + cond (same_kind j kind.List) 32 0)
+    (kind-same x.spec y.spec (ap (λ (f : NodeForm). f.spec) same))) nodes steps e in
+    let few : counted each_kept nodes ≤ 124 = omega (arith, kept, bounds.0) in
     let inputs = counted-same each_input (λ x y. ap (λ (f : NodeForm). f.takes)) nodes steps e in
     let wires = wires-counted nodes no_draft drawn in
     record {
       fit = drawn;
       few = few;
-      graph = lists-are-graphs nodes ranked (after-same nodes steps [] e ∙ ends.1)
-          (omega (arith, few)) (omega (arith, wires, inputs, most_inputs));
+      few_wires = omega (arith, wires, inputs, bounds.1);
+      graph = grind (arith, lists-are-graphs, after-same, nodes-counted);
     }

@@ -1,7 +1,5 @@
 -- The meaning of a plan is the answer of its query.
-use Rattle.std.proofs.Common.{Bool, IsPermutation, IsSorted, List, None, Option, Some, [], ap, ap₂, arith, cond, false, filter, flat_map, inl, inr, length, map, refl, suc, sym, true, zero, ℕ, ◌&&◌, ◌++◌, ◌+◌, ◌<◌, ◌||◌, ◌∙◌, ◌∷◌, ◌≡◌, ◌⊎◌}
-use Rattle.plan_meaning.proofs.Prelude.{AggCall, AllByRecursion, AllZip, Cond, Expr, GroupSpec, IsPermutation-append, IsPermutation-filter, IsPermutation-joined_rows, IsPermutation-map, IsPermutation-refl, IsPermutation-same, IsPermutation-trans, Row, SortKey, SortSpec, Span, Spec, StateCall, and_from, and_parts, append-nil, both_ways, combine_of, count_up, filter-append, groups_or_default, holds, item_row, joined_rows, joint_node, lane_nodes, leb-true, length-append, length-map, length_permutation, limited, list_all, map-append, merged_groups, merged_in_any_order, or_cases, or_left, or_right, row_cmp, rows_where, source_nodes}
-use Rattle.plan_meaning.specs.Names.{Flow, Parts, all_certain, all_rows, any_needs, flow_rows, IsCut, IsNoLimit, IsPlan, IsSource, JoinsSources, PlanJoin, PlanShape, SelectPlan, all_valid, body_nodes, filter_nodes, filter_pulls, gather_nodes, gather_pulls, grouped, grouped_of, join_pulls, join_valid, limit_nodes, needed_valid, plain, plan_keys, plan_pulls, plan_rows, plan_valid, pulls, read_nodes, read_rows, read_valid, shape_nodes, shape_pulls, shape_rows, sort_nodes, sort_pulls, sources_rows, calls_from, merged_rows, partial_rows, Makes, is_certain, is_needed}
+use Rattle.plan_meaning.proofs.Prelude.{Bool, IsPermutation, IsSorted, List, None, Option, Some, [], ap, ap₂, arith, cond, false, filter, flat_map, inl, inr, length, map, refl, suc, sym, true, zero, ℕ, ◌&&◌, ◌++◌, ◌+◌, ◌<◌, ◌||◌, ◌∙◌, ◌∷◌, ◌≡◌, ◌⊎◌, AggCall, AllByRecursion, AllZip, Cond, Expr, GroupSpec, IsPermutation-append, IsPermutation-filter, IsPermutation-joined_rows, IsPermutation-map, IsPermutation-same, IsPermutation-trans, Row, SortKey, SortSpec, Span, Spec, StateCall, and_from, and_parts, append-nil, both_ways, combine_of, count_up, filter-append, groups_or_default, holds, item_row, joined_rows, joint_node, lane_nodes, leb-true, length-append, length-map, length_permutation, limited, list_all, map-append, merged_groups, merged_in_any_order, or_cases, or_left, or_right, row_cmp, rows_where, source_nodes, Flow, Parts, all_certain, all_rows, any_needs, flow_rows, IsCut, IsNoLimit, IsPlan, IsSource, JoinsSources, PlanJoin, PlanShape, SelectPlan, all_valid, body_nodes, filter_nodes, filter_pulls, gather_nodes, gather_pulls, grouped, grouped_of, join_pulls, join_valid, limit_nodes, needed_valid, plain, plan_keys, plan_pulls, plan_rows, plan_valid, pulls, read_nodes, read_rows, read_valid, shape_nodes, shape_pulls, shape_rows, sort_nodes, sort_pulls, sources_rows, calls_from, merged_rows, partial_rows, Makes, is_certain, is_needed}
 use Rattle.plan_meaning.proofs.Blocks.{Alone, Block, Both, Form, LaneMade, Spread, alone-to, block-so, block-then, form-block, joint-block, lanes-block, no-block, resize-behind, resize-block, sources-block}
 use Rattle.query_model.specs.declared.processor_spec.Spec.TheVariants as spec
 
@@ -36,13 +34,7 @@ sorted-no-keys xs k d p q = refl
 
 unordered : (rows : List Row) (c n : Bool) (flows : List Flow) → Spread 1 rows c n flows
     → Alone (Ordered [] rows c n) flows
-unordered rows c n flows h =
-    let a = spread-one rows c n flows h in
-    record {
-      value = a.value;
-      are = a.are;
-      has = record { one = a.has; in_order = sorted-no-keys a.value.rows };
-    }
+unordered rows c n flows h = grind (arith, sorted-no-keys, spread-one rows c n flows h)
 
 -- what is needed before a row passes where there is an order: all
 abbrev order_needs : Option SortSpec → (c n : Bool) → Bool
@@ -64,10 +56,7 @@ calls-ops c (call ∷ calls) = ap (λ l. combine_of call.op ∷ l) (calls-ops _ 
 
 or-default : (lone : Bool) (default : Row) (xs ys : List Row) → IsPermutation xs ys
     → IsPermutation (groups_or_default lone default xs) (groups_or_default lone default ys)
-or-default false default xs ys h = h
-or-default true default [] [] h = IsPermutation-refl _
-or-default true default (x ∷ xs) (y ∷ ys) h = h
-or-default true default xs ys h = absurd (omega (arith, length_permutation _ _ h))
+or-default lone default xs ys h = grind (arith, length_permutation)
 
 -- the groups of parts of the rows, merged
 merged-groups : (g : GroupSpec) (lists : List (List Row)) (rows states : List Row)
@@ -105,36 +94,32 @@ module _ (parts : Parts) where
       → ((xs ys : List Row) → make (xs ++ ys) ≡ make xs ++ make ys)
       → ((i o : List Row) → Makes parts s (i ∷ []) (o ∷ []) → o ≡ make i) → (ys zs : List Flow)
       → AllZip (LaneMade parts s) ys zs → make (all_rows (flow_rows ys)) ≡ all_rows (flow_rows zs)
-  lanes-rows s make none joins is [] [] h = none
   lanes-rows s make none joins is (y ∷ ys) (z ∷ zs) h =
       search (arith, lanes-rows s make none joins is ys zs h.1)
-  lanes-rows s make none joins is ys zs h = absurd h
+  lanes-rows s make none joins is ys zs h = grind arith
 
   lanes-certain : (s : Spec) → ((l : List Flow) → is_certain parts s l ≡ all_certain l)
       → (ys zs : List Flow) → AllZip (LaneMade parts s) ys zs → all_certain zs ≡ true
       → all_certain ys ≡ true
-  lanes-certain s passes [] [] h e = refl
   lanes-certain s passes (y ∷ ys) (z ∷ zs) h e =
       let both = and_parts _ _ e in
       and_from _ _ (and_parts y.certain true (sym (h.0.1 ∙ passes (y ∷ [])) ∙ both.0)).0
       (lanes-certain s passes ys zs h.1 both.1)
-  lanes-certain s passes ys zs h e = absurd h
+  lanes-certain s passes ys zs h e = grind arith
 
   lanes-need : (s : Spec) → ((l : List Flow) → is_needed parts s l ≡ any_needs l)
       → (ys zs : List Flow) → AllZip (LaneMade parts s) ys zs → any_needs zs ≡ true
       → any_needs ys ≡ true
-  lanes-need s passes [] [] h e = e
   lanes-need s passes (y ∷ ys) (z ∷ zs) h e = elim (or_cases _ _ e) [
     | inl here ↦ elim (or_cases y.needs false (sym (h.0.2 ∙ passes (y ∷ [])) ∙ here))
         [ inl n ↦ or_left _ _ n | inr off ↦ absurd (both_ways false refl off) ]
     | inr more ↦ or_right y.needs _ (lanes-need s passes ys zs h.1 more)
   ]
-  lanes-need s passes ys zs h e = absurd h
+  lanes-need s passes ys zs h e = grind arith
 
   lanes-sorted : (order : SortSpec) (ys zs : List Flow)
       → AllZip (LaneMade parts (spec.Sort order)) ys zs
       → SortedLanes order.keys (length zs) (all_rows (flow_rows ys)) (all_certain ys) zs
-  lanes-sorted order [] [] h = search (arith, IsPermutation-refl)
   lanes-sorted order (y ∷ ys) (z ∷ zs) h =
       search (
         arith,
@@ -145,15 +130,14 @@ module _ (parts : Parts) where
         lanes-sorted order ys zs
             h.1,
       )
-  lanes-sorted order ys zs h = absurd h
+  lanes-sorted order ys zs h = grind arith
 
   lanes-grouped : (g : GroupSpec) (ys zs : List Flow)
       → AllZip (LaneMade parts (spec.PartialAggregate g)) ys zs
       → IsPermutation (flat_map (partial_rows g) (flow_rows ys)) (all_rows (flow_rows zs))
-  lanes-grouped g [] [] h = IsPermutation-refl []
   lanes-grouped g (y ∷ ys) (z ∷ zs) h = IsPermutation-append _ _ _ _ h.0.0
       (lanes-grouped g ys zs h.1)
-  lanes-grouped g ys zs h = absurd h
+  lanes-grouped g ys zs h = grind arith
 
 -- ---- steps of a plan
 
@@ -234,9 +218,7 @@ module _ {parts : Parts} {unlimited : Type 0} where
       (λ p out h makes. record {
         same = IsPermutation-trans _ _ _
             (IsPermutation-joined_rows j.join.pairs _ _ _ _ h.0.same h.1.same) makes;
-        certain = λ e. let both = and_parts p.0.certain (p.1.certain && true) e in
-            and_from _ _ (h.0.certain both.0)
-            (h.1.certain (and_parts p.1.certain true both.1).0);
+        certain = grind (arith, and_parts, and_from);
         needs = λ e. h.1.certain (and_parts p.0.needs p.1.certain e).1;
       })
       (λ k p u h. ap (pulls k (spec.HashJoin j.join))
@@ -319,9 +301,7 @@ module _ {parts : Parts} {unlimited : Type 0} where
         lists = flow_rows ys;
         same = h.same;
         made = lanes-grouped parts g ys zs each;
-        certain = λ e. h.certain (lanes-certain parts (spec.PartialAggregate g) (λ l. refl) ys zs
-            each
-            e);
+        certain = grind (arith, lanes-certain);
       })
 
   merge-block : (g : GroupSpec) (lanes : ℕ) (rows : List Row) (c : Bool)
@@ -345,18 +325,15 @@ module _ {parts : Parts} {unlimited : Type 0} where
       → Block parts unlimited (shape_nodes shape order lanes) (Spread lanes rows c n)
       (Alone (Ordered (plan_keys order) (shape_rows shape rows) c
       (needed_valid shape order c n))) (λ k. shape_pulls k shape order rows)
-  shape-block (plain items) order lanes rows c n =
-      block-so (λ l h. h)
-      (λ l h. rw (same-needs order) at h)
-      (λ k. ap (λ m. pulls k (spec.Expression items) (length rows) + gather_pulls k order m)
-      (length-map rows (item_row items)))
-      (block-then (items-block items 6 lanes rows c n)
-      (gather-block order lanes (map (item_row items) rows) c n))
-    where
-      same-needs : (order : Option SortSpec) → order_needs order c n ≡ needed_valid (plain items)
-          order c n
-      same-needs None = refl
-      same-needs (Some o) = refl
+  shape-block (plain items) order lanes rows c n = grind (
+    arith,
+    block-so,
+    length-map rows (item_row items),
+    block-then (items-block items 6 lanes rows c n)
+        (gather-block order lanes (map (item_row items) rows) c n),
+    items-block items 6 lanes rows c n,
+    gather-block order lanes (map (item_row items) rows) c n,
+  )
   shape-block (grouped arguments g having picks) order lanes rows c n =
       let input : List Row = map (item_row arguments) rows in
       let groups : List Row = grouped_of g input in
@@ -364,8 +341,7 @@ module _ {parts : Parts} {unlimited : Type 0} where
       block-so (λ l h. h) (λ l h. h)
       (λ k.
       let count = ap (pulls k (spec.PartialAggregate g)) (length-map rows (item_row arguments)) in
-      let sort = ap (sort_pulls k order) (length-map kept (item_row picks)) in
-      omega (arith, count, sort))
+      omega (arith, count, ap (sort_pulls k order) (length-map kept (item_row picks))))
       (block-then (items-block arguments 6 lanes rows c n)
       (block-then (partial-block g lanes input c n)
       (block-then (merge-block g lanes input c)
@@ -391,18 +367,17 @@ PlanOrdered parts p = Ordered (plan_keys p.order) (plan_rows parts p) (plan_vali
 limit-block : (parts : Parts) (p : SelectPlan) (limit : Option Span) → p.limit ≡ limit
     → Block parts (p.limit ≡ None) (limit_nodes limit) (Alone (PlanOrdered parts p))
     (Alone (PlanMade parts p)) (λ k. 0)
-limit-block parts p None e = search (arith, no-block)
-limit-block parts p (Some span) e =
-    search (
-      arith,
-      form-block,
-      or_cases,
-      and_parts,
-      both_ways,
-      leb-true,
-      append-nil,
-      length_permutation,
-    )
+limit-block parts p limit e = grind (
+  arith,
+  no-block,
+  form-block,
+  or_cases,
+  and_parts,
+  both_ways,
+  leb-true,
+  append-nil,
+  length_permutation,
+)
 
 -- What all nodes but the collector make. Where there is no limit, the nodes of a kind together pull
 -- as many rows as the plan says.

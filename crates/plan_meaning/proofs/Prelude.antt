@@ -1,4 +1,6 @@
 -- The names from outside that this crate's proofs use, in one place.
+pub use Rattle.plan_meaning.specs.Names.{AllInputsDone, AllPull, AllTyped, Completes, Count, EachGives, EachGivesIf, FewJoined, FewSources, FitFrom, Flow, Gives, GivesHeld, GivesIf, GivesJoined, GivesLimited, GivesMerged, GivesPart, GivesResized, GivesThrough, HasCalls, HasRun, HasTypes, HoldsBack, IsAmong, IsCall, IsCut, IsFront, IsMergeOf, IsNoLimit, IsOpenNode, IsPlan, IsPlanOf, IsSmall, IsSource, IsTold, JoinsSources, Makes, MakesType, ManyToOne, Means, MeansNode, NodeForm, OneToNone, OneToOne, Part, Parts, PlanAnswers, PlanJoin, PlanShape, Pulls, Runs, RunsNode, SelectPlan, Source, Stream, TwoToOne, Types, TypesFit, TypesNode, all_certain, all_done, all_rows, all_valid, any_done, any_needs, body_nodes, call_arguments, calls_from, collect_node, columns_of, counted, each_input, each_kept, filter_count, filter_nodes, filter_pulls, flow_rows, flows_of, forms, gather_count, gather_nodes, gather_pulls, group_spec, grouped, grouped_of, if_kind, is_certain, is_count, is_needed, is_valid_source, join_pulls, join_valid, kept_for, limit_count, limit_nodes, meant_by, merged_rows, needed_valid, node_form, partial_rows, plain, plan_count, plan_keys, plan_nodes, plan_pulls, plan_rows, plan_valid, pulled_by, pulled_rows, pulled_types, pulls, read_count, read_nodes, read_rows, read_valid, rows_of, shape_count, shape_nodes, shape_of, shape_pulls, shape_rows, sort_count, sort_nodes, sort_pulls, source_list, sources_count, sources_rows, state_of}
+pub use Rattle.std.proofs.Common.{All, Any, Bool, IsPermutation, IsSorted, List, None, Option, Some, [], ap, ap₂, arith, cond, drop, false, filter, flat_map, get_or, inl, inr, is_lt, is_none, leb, length, map, refl, replicate, slice_index_or, subst, suc, sum_by, sym, take, true, zero, ℕ, ◌&&◌, ◌*◌, ◌++◌, ◌+◌, ◌<◌, ◌==◌, ◌||◌, ◌∙◌, ◌∷◌, ◌≡◌, ◌≤◌, ◌⊎◌}
 pub use Rattle.plan_graph.proofs.Drafts.{all-back, all-front, ports-length}
 pub use Rattle.plan_graph.proofs.Fitting.{FitsBlock, Fitted, Levels, all-front', block-append, fits, joint-fit, joint-level, lanes-level, level-append, same-ranks, sources-fit, stay-level}
 pub use Rattle.plan_graph.proofs.GraphLaws.{lists-are-graphs, ranks-count, with-append}

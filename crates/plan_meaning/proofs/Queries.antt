@@ -1,7 +1,5 @@
 -- What the plan of a checked query makes of rows is what the query selects.
-use Rattle.std.proofs.Common.{List, None, Option, Some, [], ap, ap₂, arith, false, is_none, length, map, refl, slice_index_or, suc, sym, take, true, zero, ℕ, ◌++◌, ◌+◌, ◌∙◌, ◌∷◌, ◌≡◌, ◌≤◌}
-use Rattle.plan_meaning.proofs.Prelude.{AggCall, AggOp, AllByRecursion, Call, Checked, ColumnType, Database, Expr, ExprOf, Grouped, Grouping, IsAnswer, Plain, Row, Shape, StateCall, Text, append_assoc, both_ways, call_of, combine_of, combined, count_up, default_value, distinct_rows, filter-map, get_or_at, grouped_by, grouped_rows, groups, groups_or_default, item_row, length-append, length-map, map-append, map-map, rows_with, selected_rows, take_at, take_more, value_at, value_of, values_at}
-use Rattle.plan_meaning.specs.Names.{HasCalls, IsCall, IsPlanOf, call_arguments, columns_of, group_spec, grouped_of, shape_of, state_of, Parts, PlanAnswers, SelectPlan, shape_rows, calls_from, is_count}
+use Rattle.plan_meaning.proofs.Prelude.{List, None, Option, Some, [], ap, ap₂, arith, false, is_none, length, map, refl, suc, sym, take, true, zero, ℕ, ◌++◌, ◌+◌, ◌∙◌, ◌∷◌, ◌≡◌, ◌≤◌, AggCall, AggOp, AllByRecursion, Call, Checked, ColumnType, Database, Expr, ExprOf, Grouped, Grouping, IsAnswer, Plain, Row, Shape, Text, append_assoc, both_ways, call_of, count_up, filter-map, get_or_at, grouped_by, grouped_rows, groups, item_row, length-append, length-map, map-append, map-map, selected_rows, take_at, take_more, value_at, value_of, values_at, HasCalls, IsCall, IsPlanOf, call_arguments, columns_of, group_spec, grouped_of, shape_of, state_of, Parts, PlanAnswers, SelectPlan, shape_rows, calls_from, is_count}
 use Rattle.chunk_data.specs.declared.typed_value.ColumnType.TheVariants as column
 use Rattle.query_model.specs.declared.query.AggOp.TheVariants as agg
 use Rattle.query_model.specs.declared.query.ExprOf.TheVariants as expr
@@ -10,20 +8,7 @@ use Rattle.query_model.specs.declared.query.ExprOf.TheVariants as expr
 pub grouped_by-map : (f : Row → Row) (key : Row → Row) (calls : List Call) (rows : List Row)
     → grouped_by key calls (map f rows) ≡ grouped_by (λ r. key (f r))
     (map (λ (c : Call). record { op = c.op; arg = λ r. c.arg (f r) }) calls) rows
-grouped_by-map f key calls rows =
-    ap (λ l. map
-    (λ k. k ++ map
-    (λ (call : Call). combined call.op (map call.arg (rows_with key k (map f rows)))) calls)
-    (distinct_rows l)) (map-map key f rows)
-    ∙ ap (λ h. map h (distinct_rows (map (λ r. key (f r)) rows))) (λ i k. k ++ inner k calls i)
-  where
-    inner : (k : Row) (calls : List Call)
-        → map (λ (call : Call). combined call.op (map call.arg (rows_with key k (map f rows))))
-        calls
-        ≡ map (λ (call : Call). combined call.op (map call.arg (rows_with (λ r. key (f r)) k rows)))
-        (map (λ (c : Call). record { op = c.op; arg = λ r. c.arg (f r) }) calls)
-    inner k [] = refl
-    inner k (c ∷ calls) = search (arith, filter-map, map-map, inner k calls)
+grouped_by-map f key calls rows = grind (arith, map-map, filter-map)
 
 -- the first columns of a row
 first-values : (n : ℕ) (row : Row) → n ≤ length row → values_at (count_up n) row ≡ take n row
@@ -84,17 +69,7 @@ calls-kept types front (call ∷ calls) h =
     go agg.Count None e more = search (arith)
     go agg.Count (Some a) e more = absurd (both_ways true e refl)
     go op None e more = absurd (both_ways false refl e)
-    go op (Some a) e more =
-        let rest : List Expr = call_arguments calls in
-        let first : over (front ++ a ∷ rest)
-        (call_of (record { op = op; arg = Some (expr.Column (length front)) }))
-        ≡ call_of (record { op = op; arg = Some a }) =
-        (λ i. record { op = combine_of op; arg = λ (r : Row). argument-at front rest a r i }) in
-        let place : length (front ++ a ∷ []) ≡ suc (length front) = length-append front (a ∷ [])
-        ∙ omega arith in
-        ap₂ (λ x xs. x ∷ xs) first
-        (ap₂ (λ l n. map (over l) (map call_of (calls_from n (map (state_of types) calls))))
-        (sym (append_assoc front (a ∷ []) rest)) (sym place) ∙ more (front ++ a ∷ []))
+    go op (Some a) e more = grind (arith, argument-at, append_assoc, length-append front (a ∷ []))
 
 -- the groups of the rows of keys and arguments
 groups-kept : (types : List ColumnType) (keys : List ℕ) (calls : List (AggCall ℕ)) (rows : List Row)
@@ -120,12 +95,7 @@ pub groups-selected : (g : Grouping) (types : List ColumnType) (n : ℕ) (rows :
     → grouped_of (group_spec g types n)
     (map (item_row (columns_of g.keys ++ call_arguments g.calls)) rows) ≡ grouped_rows g types rows
 groups-selected g types n rows h =
-    ap₂ (λ default l. groups_or_default g.lone default l)
-    (map-map (λ (call : StateCall). default_value call.kind) (state_of types) g.calls)
-    (ap (λ k. groups (count_up k) (calls_from k (map (state_of types) g.calls))
-    (map (item_row (columns_of g.keys ++ call_arguments g.calls)) rows))
-    (length-map g.keys (λ c. slice_index_or types c column.Text))
-    ∙ groups-kept types g.keys g.calls rows h)
+    grind (arith, map-map, length-map, groups-kept types g.keys g.calls rows h)
 
 -- What the plan makes of the filtered rows is what the query selects.
 pub shape-selects : (shape : Shape) (types : List ColumnType) (n : ℕ) (rows : List Row)

@@ -1,15 +1,11 @@
 -- The lists of a graph, which was made of a list of nodes, are a run of that list.
-use Rattle.std.proofs.Common.{All, List, [], ap, arith, length, map, refl, suc, sym, ℕ, ◌++◌, ◌+◌, ◌∙◌, ◌∷◌, ◌≡◌}
-use Rattle.plan_meaning.proofs.Prelude.{length-map, AllFitDraft, AllZip, Draft, DraftNode, FitsDraft, Kind, NodePort, Wire, all-back, all-front, consumer_of, given-map, length-append, ports-length, ports_of, producer_of, run-length, taken-map, taken_by, wires_to, with_node, with_nodes}
-use Rattle.plan_meaning.specs.Names.{AllPull, EachGives, Pulls, Runs, if_kind, pulled_by, pulled_rows, Parts, Stream, all_rows, rows_of}
+use Rattle.plan_meaning.proofs.Prelude.{All, List, [], ap, arith, length, map, refl, suc, sym, ℕ, ◌++◌, ◌+◌, ◌∙◌, ◌∷◌, ◌≡◌, length-map, AllFitDraft, AllZip, Draft, DraftNode, FitsDraft, Kind, NodePort, Wire, all-back, all-front, consumer_of, given-map, length-append, ports-length, ports_of, producer_of, run-length, taken-map, taken_by, wires_to, with_node, with_nodes, AllPull, EachGives, Pulls, Runs, if_kind, pulled_by, pulled_rows, Parts, Stream, all_rows, rows_of}
 
 -- the wires so far stay
 wires-stay : (P : Wire → Type 0) (nodes : List DraftNode) (d : Draft)
     → All P (with_nodes nodes d).wires → All P d.wires
 wires-stay P [] d h = h
-wires-stay P (node ∷ nodes) d h =
-    all-front P d.wires (wires_to (length d.ranks) 0 (taken_by node d.ends))
-    (wires-stay P nodes (with_node node d) h)
+wires-stay P (node ∷ nodes) d h = search (arith, all-front, wires-stay P nodes (with_node node d) h)
 
 pulled-along : (pulled pushed : NodePort → Stream) (n i : ℕ) (ends : List NodePort)
     → All (λ (w : Wire). Pulls (pulled (consumer_of w)) (pushed (producer_of w)))

@@ -1,8 +1,6 @@
 -- Nodes of one form make the same graph and give the same.
-use Rattle.std.proofs.Common.{All, Any, List, Some, [], ap, arith, drop, filter, get_or, length, map, refl, subst, suc, sym, ℕ, ◌+◌, ◌<◌, ◌∙◌, ◌∷◌, ◌≡◌, ◌≤◌}
-use Rattle.plan_meaning.proofs.Prelude.{AllFitEnds, ColumnType, Draft, DraftNode, FitsInput, NodePort, Spec, SpecForm, cond_form, every-weaker, formula, kind_of, ports_of, ranks_after, ranks_with, run_of, spec_form, unboxed, with_node, with_nodes}
+use Rattle.plan_meaning.proofs.Prelude.{List, Some, [], ap, arith, drop, get_or, length, map, refl, subst, suc, sym, ℕ, ◌+◌, ◌<◌, ◌∙◌, ◌∷◌, ◌≡◌, ◌≤◌, AllFitEnds, ColumnType, Draft, DraftNode, FitsInput, NodePort, Spec, SpecForm, cond_form, every-weaker, formula, kind_of, ports_of, ranks_after, ranks_with, spec_form, unboxed, with_node, with_nodes, Parts, Stream, Gives, Types, FitFrom, MakesType, GivesIf, EachGivesIf, NodeForm, node_form, forms}
 use Rattle.query_model.specs.declared.processor_spec.Spec.TheVariants as spec
-use Rattle.plan_meaning.specs.Names.{Parts, Stream, OneToOne, GivesThrough, Gives, Types, FitFrom, MakesType, GivesIf, EachGivesIf, NodeForm, node_form, forms}
 use Rattle.plan_meaning.proofs.Copies.{conds-same, items-same}
 
 -- ---- specs
@@ -17,32 +15,17 @@ spec_of = λ f. elim f as (λ g. Spec) [ unboxed s ↦ s | _ ↦ spec.Collect ]
 
 pub same-spec : (s t : Spec) → spec_form s ≡ spec_form t → SameSpec s t
 unfolding spec_of
-same-spec (spec.Filter c) (spec.Filter d) e = cc
-same-spec (spec.Expression items) (spec.Expression others) e = cc
-same-spec (spec.Filter c) t e = absurd (cc)
-same-spec s (spec.Filter d) e = absurd (cc)
-same-spec (spec.Expression items) t e = absurd (cc)
-same-spec s (spec.Expression others) e = absurd (cc)
-same-spec s t e = ap spec_of e
+same-spec s t e = grind (arith, spec_of)
 
 -- copies are of one kind
 pub kind-same : (s t : Spec) → spec_form s ≡ spec_form t → kind_of s ≡ kind_of t
-kind-same s t e = go s t (same-spec s t e)
-  where
-    go : (s t : Spec) → SameSpec s t → kind_of s ≡ kind_of t
-    go (spec.Filter c) (spec.Filter d) e = refl
-    go (spec.Expression items) (spec.Expression others) e = refl
-    go s t e = ap kind_of e
+kind-same s t e = grind (arith, same-spec)
 
 gives-same : (parts : Parts) (s t : Spec) (ins outs : List Stream) → SameSpec s t
     → Gives parts s ins outs → Gives parts t ins outs
-gives-same parts (spec.Filter c) (spec.Filter d) ins outs e g =
-    subst (λ h. OneToOne (GivesThrough (filter h)) ins outs) (λ i row. (conds-same c d e).truth row
-    i) g
+gives-same parts (spec.Filter c) (spec.Filter d) ins outs e g = grind (arith, conds-same c d e)
 gives-same parts (spec.Expression items) (spec.Expression others) ins outs e g =
-    subst (λ h. OneToOne (GivesThrough (map h)) ins outs) (λ i row. (items-same items others e).row
-    row i)
-    g
+    grind (arith, items-same items others e)
 gives-same parts s t ins outs e g = subst (λ x. Gives parts x ins outs) e g
 
 fits-same : (s t : Spec) (i : ℕ) (types : List ColumnType) → SameSpec s t
@@ -56,17 +39,14 @@ makes-same : (s t : Spec) (ins : List Types) (types : Types) → SameSpec s t
     → MakesType s ins types → MakesType t ins types
 makes-same (spec.Filter c) (spec.Filter d) ins types e h = h
 makes-same (spec.Expression items) (spec.Expression others) ins types e h =
-    subst (λ (f : Types → Types). Any (λ u. types ≡ f u) ins)
-    (λ i u. (items-same items others e).types u i) h
+    grind (arith, items-same items others e)
 makes-same s t ins types e h = subst (λ x. MakesType x ins types) e h
 
 all-fit-same : (s t : Spec) (i : ℕ) (ins : List Stream) → SameSpec s t → FitFrom s i ins
     → FitFrom t i ins
 all-fit-same s t i [] e h = tt
-all-fit-same s t i (x ∷ ins) e h = (
-  every-weaker (FitsInput (Some s) i) (FitsInput (Some t) i) (λ u. fits-same s t i u e) x.types h.0,
-  all-fit-same s t (suc i) ins e h.1,
-)
+all-fit-same s t i (x ∷ ins) e h =
+    grind (arith, every-weaker, fits-same, all-fit-same s t (suc i) ins e h.1)
 
 gives-if-same : (parts : Parts) (s t : Spec) (ins outs : List Stream) → spec_form s ≡ spec_form t
     → GivesIf parts s ins outs → GivesIf parts t ins outs
@@ -111,13 +91,11 @@ fit-same xs ys rs e h =
     (λ x y xs ys same rest rs h. (
       record {
         in_range = subst (λ (f : NodeForm). f.offset + f.takes ≤ length rs) (sym same) h.0.in_range;
-        ranked = subst (λ (f : NodeForm). All (λ r. r < f.rank) (run_of f.offset f.takes rs))
-            (sym same) h.0.ranked;
+        ranked = grind arith;
         few_inputs = subst (λ (f : NodeForm). f.takes ≤ 32) (sym same) h.0.few_inputs;
         few_outputs = subst (λ (f : NodeForm). f.gives ≤ 16) (sym same) h.0.few_outputs;
       },
-      subst (AllFitEnds xs) (sym (ap (λ f. ranks_with (bare f) rs) same))
-          (rest (ranks_with y rs) h.1),
+      grind arith,
     )) xs ys e rs h
 
 -- and leave the same ranks
@@ -138,9 +116,6 @@ each-same parts pulled pushed n xs ys e g =
     by-forms (λ xs ys. (n : ℕ) → EachGivesIf parts n xs pulled pushed
     → EachGivesIf parts n ys pulled pushed) (λ n g. tt)
     (λ x y xs ys same rest n g. (
-      gives-if-same parts x.spec y.spec (ins n y.takes) (outs n y.gives)
-          (ap (λ (f : NodeForm). f.spec) same)
-          (subst (λ (f : NodeForm). GivesIf parts x.spec (ins n f.takes) (outs n f.gives)) same
-          g.0),
+      grind (arith, gives-if-same),
       rest (suc n) g.1,
     )) xs ys e n g

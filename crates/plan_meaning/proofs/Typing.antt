@@ -1,8 +1,6 @@
 -- Where the types at the open ends fit each node, each chunk that a run pulled fits, and so each
 -- node gives what its kind promises.
-use Rattle.std.proofs.Common.{Any, List, [], arith, length, map, replicate, subst, suc, sym, zero, ℕ, ◌++◌, ◌∙◌, ◌∷◌, ◌≡◌}
-use Rattle.plan_meaning.proofs.Prelude.{length-map, AllByRecursion, AllFitDraft, AllZip, Draft, DraftNode, NodePort, Spec, every-append, every-front, every-weaker, given-map, given_by, ports-length, ports_of, taken-map, taken_by, with_node, with_nodes}
-use Rattle.plan_meaning.specs.Names.{AllTyped, EachGivesIf, FitFrom, HasTypes, MakesType, Types, TypesFit, TypesNode, pulled_types, Parts, Stream, AllPull, EachGives, Pulls}
+use Rattle.plan_meaning.proofs.Prelude.{Any, List, [], arith, length, map, replicate, subst, suc, sym, ℕ, ◌++◌, ◌∙◌, ◌∷◌, ◌≡◌, length-map, AllByRecursion, AllFitDraft, AllZip, Draft, DraftNode, NodePort, Spec, every-append, every-front, every-weaker, given-map, given_by, ports-length, ports_of, taken-map, taken_by, with_node, with_nodes, AllTyped, EachGivesIf, FitFrom, HasTypes, MakesType, Types, TypesFit, TypesNode, pulled_types, Parts, Stream, AllPull, EachGives, Pulls}
 use Rattle.plan_meaning.proofs.Runs.{next-node, node-pulls}
 use Rattle.plan_meaning.proofs.Zips.{zip-chain, zip-given, zip-taken}
 
@@ -11,10 +9,9 @@ pulled-typed i s t p h = search (arith, every-front)
 
 all-fit : (s : Spec) (n : ℕ) (ins : List Stream) (types : List Types) → AllZip HasTypes ins types
     → TypesFit s n types → FitFrom s n ins
-all-fit s n [] [] z f = tt
 all-fit s n (i ∷ ins) (t ∷ types) z f =
     search (arith, every-weaker, all-fit s (suc n) ins types z.1 f.1)
-all-fit s n ins types z f = absurd z
+all-fit s n ins types z f = grind arith
 
 any-more : (v : Types) (vs : List Types) (u : Types) → Any (λ w. u ≡ w) vs
     → Any (λ w. u ≡ w) (v ∷ vs)
@@ -22,20 +19,17 @@ any-more v vs u a = (suc a.0, a.1, omega (arith, a.2), a.3, a.4)
 
 are-taken : (ins : List Stream) (types : List Types) → AllZip HasTypes ins types
     → AllByRecursion (λ u. Any (λ v. u ≡ v) types) (pulled_types ins)
-are-taken [] [] z = tt
 are-taken (i ∷ ins) (t ∷ types) z =
     search (arith, every-append, every-weaker, any-more, are-taken ins types z.1)
-are-taken ins types z = absurd z
+are-taken ins types z = grind arith
 
 made-typed : (s : Spec) (ins : List Types) (made : Types) (outs : List Stream) (n : ℕ)
     → length outs ≡ n → ((t : Types) → MakesType s ins t → t ≡ made)
     → AllByRecursion (λ (o : Stream). AllByRecursion (MakesType s ins) o.types) outs
     → AllZip HasTypes outs (replicate n made)
-made-typed s ins made [] zero e f h = tt
-made-typed s ins made [] (suc n) e f h = absurd (omega (arith, e))
-made-typed s ins made (o ∷ outs) zero e f h = absurd (omega (arith, e))
 made-typed s ins made (o ∷ outs) (suc n) e f h =
     search (arith, every-weaker, made-typed s ins made outs n (omega (arith, e)) f h.1)
+made-typed s ins made outs n e f h = grind arith
 
 -- Where the types at the open ends fit each node, each node gives what its kind promises.
 pub each-typed : (parts : Parts) (pulled pushed : NodePort → Stream) (nodes : List DraftNode)
@@ -55,8 +49,7 @@ each-typed parts pulled pushed (node ∷ nodes) d types f z t g w =
     let taken = zip-chain Pulls HasTypes HasTypes pulled-typed ins (map pushed (taken_by node
     d.ends)) (taken_by node types) (node-pulls pulled pushed node nodes d f.0 w) before in
     let fit = all-fit node.spec 0 ins (taken_by node types) taken here.fit in
-    let count : length (map pushed ports) ≡ node.gives = length-map ports pushed
-    ∙ ports-length n 0 node.gives in
+    let count : length (map pushed ports) ≡ node.gives = grind (arith, length-map, ports-length) in
     let outs = made-typed node.spec (pulled_types ins) here.made (map pushed ports) node.gives count
     (λ u m. here.makes u (pulled_types ins) (are-taken ins (taken_by node types) taken) m)
     (g.0.typed fit) in

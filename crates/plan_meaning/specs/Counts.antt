@@ -3,7 +3,7 @@
 use Rattle.std.specs.Prelude.{List, None, Option, Some, cond, length, sum_by, ℕ, ◌*◌, ◌+◌}
 use Rattle.plan_meaning.specs.Prelude.{Cond, DraftNode, Kind, SortSpec, Span, Spec, kind_of, same_kind}
 use Rattle.query_model.specs.declared.processor_spec.Spec.TheVariants as spec
-use Rattle.plan_meaning.specs.Plans.{PlanShape, plain, grouped, PlanJoin, SelectPlan}
+use Rattle.plan_meaning.specs.Plans.{PlanShape, plain, grouped, PlanJoin, SelectPlan, kept_for}
 
 -- what a node counts, by its spec and its number of inputs
 abbrev pub Count : Type 0
@@ -12,9 +12,9 @@ Count = Spec → ℕ → ℕ
 abbrev pub counted : Count → List DraftNode → ℕ
 counted w nodes = sum_by (λ (n : DraftNode). w n.spec n.takes) nodes
 
--- 1 for each node
-abbrev pub each_node : Count
-each_node s takes = 1
+-- 1 for each node, and 1 for each that is kept for it
+abbrev pub each_kept : Count
+each_kept s takes = 1 + kept_for s
 
 -- 1 for each input
 abbrev pub each_input : Count

@@ -22,6 +22,12 @@ pub record GivesPart (part : Part) (o : Stream) : Type 0 where
   pub front : GivesFront part.rows o
   pub valid : o.done ≡ true → part.valid ≡ true
 
+-- the rows of a list's parts come in any order
+pub record GivesListed (list : Part) (o : Stream) : Type 0 where
+  pub order : List Row
+  pub same : IsPermutation list.rows order
+  pub gives : GivesPart (record { rows = order; valid = list.valid }) o
+
 -- it finishes its output only where its input is done
 pub record GivesThrough (make : List Row → List Row) (i o : Stream) : Type 0 where
   pub front : GivesFront (make i.rows) o
@@ -81,7 +87,8 @@ pub record GivesMerged (keys : List SortKey) (ins : List Stream) (o : Stream) : 
   pub inputs_done : o.done ≡ true → all_done ins ≡ true
 
 abbrev pub Gives : Parts → Spec → List Stream → List Stream → Type 0
-Gives parts (spec.Csv part) ins outs = Source (GivesPart (parts part)) ins outs
+Gives parts (spec.Csv part) ins outs = Source (GivesPart (parts (spec.Csv part))) ins outs
+Gives parts (spec.List list) ins outs = Source (GivesListed (parts (spec.List list))) ins outs
 Gives parts (spec.Numbers n rows) ins outs = Source (GivesFront (numbers n).rows) ins outs
 Gives parts (spec.Filter c) ins outs = OneToOne (GivesThrough (filter (holds c))) ins outs
 Gives parts (spec.Expression items) ins outs = OneToOne (GivesThrough (map (item_row items))) ins
@@ -101,4 +108,3 @@ Gives parts (spec.HashJoin join) ins outs = TwoToOne (GivesJoined join.pairs) in
 Gives parts (spec.Sort order) ins outs =
     OneToOne (λ (i o : Stream). GivesHeld (IsSortOf order.keys i.rows) i.done o) ins outs
 Gives parts (spec.MergeSorted order) ins outs = ManyToOne (GivesMerged order.keys) ins outs
-Gives parts _ ins outs = ⊥

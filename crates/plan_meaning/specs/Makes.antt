@@ -8,7 +8,9 @@ use Rattle.query_model.specs.declared.processor_spec.Spec.TheVariants as spec
 -- ---- what each kind makes of all that could pass
 
 abbrev pub Makes : Parts → Spec → List (List Row) → List (List Row) → Type 0
-Makes parts (spec.Csv part) ins outs = Source (λ o. o ≡ (parts part).rows) ins outs
+Makes parts (spec.Csv part) ins outs = Source (λ o. o ≡ (parts (spec.Csv part)).rows) ins outs
+Makes parts (spec.List list) ins outs =
+    Source (λ o. IsPermutation (parts (spec.List list)).rows o) ins outs
 Makes parts (spec.Numbers n rows) ins outs = Source (λ o. o ≡ (numbers n).rows) ins outs
 Makes parts (spec.Filter c) ins outs = OneToOne (λ i o. o ≡ filter (holds c) i) ins outs
 Makes parts (spec.Expression items) ins outs = OneToOne (λ i o. o ≡ map (item_row items) i) ins outs
@@ -24,11 +26,11 @@ Makes parts (spec.HashJoin join) ins outs =
 Makes parts (spec.Sort order) ins outs = OneToOne (λ i o. IsSortOf order.keys i o) ins outs
 Makes parts (spec.MergeSorted order) ins outs = ManyToOne (λ is o. IsMergeOf order.keys is o) ins
     outs
-Makes parts _ ins outs = ⊥
 
 -- whether what a kind makes is certain
 abbrev pub is_certain : Parts → Spec → List Flow → Bool
-is_certain parts (spec.Csv part) ins = (parts part).valid
+is_certain parts (spec.Csv part) ins = (parts (spec.Csv part)).valid
+is_certain parts (spec.List list) ins = (parts (spec.List list)).valid
 is_certain parts (spec.Limit span) ins = all_certain ins
     || (any_needs ins && nat_le (enough span) (length (all_rows (flow_rows ins))))
 is_certain parts _ ins = all_certain ins
@@ -40,6 +42,7 @@ join_needs _ = false
 -- whether those parts are valid that a kind reads to the end before it gives a row
 abbrev pub is_needed : Parts → Spec → List Flow → Bool
 is_needed parts (spec.Csv part) ins = true
+is_needed parts (spec.List list) ins = true
 is_needed parts (spec.Numbers n rows) ins = true
 is_needed parts (spec.PartialAggregate g) ins = all_certain ins
 is_needed parts (spec.MergeAggregate g) ins = all_certain ins

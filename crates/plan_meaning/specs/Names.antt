@@ -1,10 +1,11 @@
--- The names of this crate's definitions in one place: who needs several of its files imports from here.
-pub use Rattle.plan_meaning.specs.Counts.{Count, counted, each_input, each_node, filter_count, gather_count, limit_count, of_kind, plan_count, read_count, shape_count, sort_count, sources_count}
-pub use Rattle.plan_meaning.specs.Gives.{FrontOf, Gives, GivesFront, GivesHeld, GivesJoined, GivesLimited, GivesMerged, GivesPart, GivesResized, GivesThrough, HoldsBack, IsMergeOf}
+-- The names of this crate's definitions in one place: who needs several of its files imports from
+-- here.
+pub use Rattle.plan_meaning.specs.Counts.{Count, counted, each_input, each_kept, filter_count, gather_count, limit_count, of_kind, plan_count, read_count, shape_count, sort_count, sources_count}
+pub use Rattle.plan_meaning.specs.Gives.{FrontOf, Gives, GivesFront, GivesHeld, GivesJoined, GivesLimited, GivesListed, GivesMerged, GivesPart, GivesResized, GivesThrough, HoldsBack, IsMergeOf}
 pub use Rattle.plan_meaning.specs.Prelude.{calls_from, is_count, merged_rows, partial_rows}
 pub use Rattle.plan_meaning.specs.Makes.{Makes, is_certain, is_needed, join_needs}
 pub use Rattle.plan_meaning.specs.Meaning.{Completes, IsFront, Means, MeansNode, meant_by}
-pub use Rattle.plan_meaning.specs.Plans.{FewJoined, HasEnough, IsCut, IsPlan, IsSmall, IsSource, IsTold, JoinsSources, PlanAnswers, PlanJoin, PlanShape, SelectPlan, all_valid, body_nodes, collect_node, filter_nodes, filter_pulls, gather_nodes, gather_pulls, grouped, grouped_of, is_valid_source, join_pulls, join_valid, limit_nodes, needed_valid, plain, plan_keys, plan_nodes, plan_pulls, plan_rows, plan_valid, pulls, read_nodes, read_rows, read_valid, shape_nodes, shape_pulls, shape_rows, sort_nodes, sort_pulls, source_list, sources_rows}
+pub use Rattle.plan_meaning.specs.Plans.{FewJoined, FewSources, HasEnough, IsCut, IsPlan, IsSmall, IsSource, IsTold, JoinsSources, PlanAnswers, PlanJoin, PlanShape, SelectPlan, all_valid, body_nodes, collect_node, filter_nodes, filter_pulls, gather_nodes, gather_pulls, grouped, grouped_of, is_valid_source, join_pulls, join_valid, kept_for, limit_nodes, needed_valid, plain, plan_keys, plan_nodes, plan_pulls, plan_rows, plan_valid, pulls, read_nodes, read_rows, read_valid, shape_nodes, shape_pulls, shape_rows, sort_nodes, sort_pulls, source_list, sources_rows}
 pub use Rattle.plan_meaning.specs.Queries.{HasCalls, IsCall, IsPlanOf, call_arguments, columns_of, group_spec, shape_of, state_of, with_argument}
 pub use Rattle.plan_meaning.specs.Runs.{AllInputsDone, AllPull, EachGives, HasRun, IsNoLimit, IsOpenNode, Pulls, Runs, RunsNode, if_kind, pulled_by, pulled_rows}
 pub use Rattle.plan_meaning.specs.Same.{NodeForm, forms, node_form}

@@ -1,5 +1,5 @@
 -- The plan of a query as a list of nodes, and what it answers.
-use Rattle.std.specs.Prelude.{Bool, List, None, Option, Some, [], cond, false, flat_map, length, map, true, ℕ, ⊤, ◌&&◌, ◌++◌, ◌+◌, ◌<◌, ◌∷◌, ◌≡◌, ◌≤◌, ◌⊎◌}
+use Rattle.std.specs.Prelude.{Bool, List, None, Option, Some, [], cond, false, flat_map, length, map, sum_by, true, ℕ, ⊤, ◌&&◌, ◌++◌, ◌+◌, ◌<◌, ◌∷◌, ◌≡◌, ◌≤◌, ◌⊎◌}
 use Rattle.plan_meaning.specs.Prelude.{AllByRecursion, Cond, DraftNode, Expr, GroupSpec, IsOrderedAnswer, JoinSpec, Kind, Row, SortKey, SortSpec, Span, Spec, default_states, enough, groups_or_default, item_row, joined_rows, joint_node, kind_of, lane_nodes, list_all, numbers, partial_rows, rows_where, same_kind, source_nodes}
 use Rattle.plan_meaning.specs.Streams.{Parts}
 use Rattle.query_model.specs.declared.processor_spec.Kind.TheVariants as kind
@@ -83,6 +83,7 @@ plan_nodes p = body_nodes p ++ collect_node ∷ []
 -- the kinds that read no rows of others
 abbrev pub IsSource : Spec → Type 0
 IsSource (spec.Csv part) = ⊤
+IsSource (spec.List list) = ⊤
 IsSource (spec.Numbers n rows) = ⊤
 IsSource _ = ⊥
 
@@ -96,13 +97,21 @@ pub record IsPlan (p : SelectPlan) : Type 0 where
   pub sources : AllByRecursion IsSource p.sources
   pub join : JoinsSources p.join
 
+-- a source for each of the parts that a list may name is kept for it
+abbrev pub kept_for : Spec → ℕ
+kept_for s = cond (same_kind (kind_of s) kind.List) 32 0
+
+pub record FewSources (sources : List Spec) : Type 0 where
+  pub few : length sources ≤ 32
+  pub few_kept : length sources + sum_by kept_for sources ≤ 33
+
 abbrev pub FewJoined : Option PlanJoin → Type 0
 FewJoined None = ⊤
-FewJoined (Some j) = length j.sources ≤ 32
+FewJoined (Some j) = FewSources j.sources
 
 -- it has no more parts and lanes than a node has ports
 pub record IsSmall (p : SelectPlan) : Type 0 where
-  pub few_sources : length p.sources ≤ 32
+  pub few_sources : FewSources p.sources
   pub few_joined : FewJoined p.join
   pub few_lanes : p.lanes ≤ 16
 
@@ -110,12 +119,14 @@ pub record IsSmall (p : SelectPlan) : Type 0 where
 
 -- the rows of a source, and whether they are all that its part should have
 abbrev pub source_list : Parts → Spec → List Row
-source_list parts (spec.Csv part) = (parts part).rows
+source_list parts (spec.Csv part) = (parts (spec.Csv part)).rows
+source_list parts (spec.List list) = (parts (spec.List list)).rows
 source_list parts (spec.Numbers n rows) = (numbers n).rows
 source_list parts _ = []
 
 abbrev pub is_valid_source : Parts → Spec → Bool
-is_valid_source parts (spec.Csv part) = (parts part).valid
+is_valid_source parts (spec.Csv part) = (parts (spec.Csv part)).valid
+is_valid_source parts (spec.List list) = (parts (spec.List list)).valid
 is_valid_source parts _ = true
 
 abbrev pub sources_rows : Parts → List Spec → List Row

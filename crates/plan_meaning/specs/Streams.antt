@@ -1,17 +1,19 @@
 -- What passes at a port in a run that has ended, and what would have passed if nobody had closed an
 -- input.
 use Rattle.std.specs.Prelude.{Bool, List, [], flat_map, map, ⊤, ◌∷◌}
-use Rattle.plan_meaning.specs.Prelude.{ColumnType, PartSpec, Row, list_all, list_any}
+use Rattle.plan_meaning.specs.Prelude.{ColumnType, Row, Spec, list_all, list_any}
 
 -- ---- rows
 
--- the rows of a part before its first bad record, and whether it has none
+-- the rows of a part before its first bad record, and whether it has none; of a list of parts,
+-- those of all its parts, and whether it and each of them are valid
 pub record Part : Type 0 where
   pub rows : List Row
   pub valid : Bool
 
+-- what the sources of these specs read
 abbrev pub Parts : Type 0
-Parts = PartSpec → Part
+Parts = Spec → Part
 
 abbrev pub all_rows : List (List Row) → List Row
 all_rows lists = flat_map (λ rows. rows) lists

@@ -34,6 +34,7 @@ IsAmong ins t = Any (λ u. t ≡ u) ins
 -- what a kind makes of a chunk of some of these types
 abbrev pub MakesType : Spec → List Types → Types → Type 0
 MakesType (spec.Csv part) ins t = t ≡ part.types
+MakesType (spec.List list) ins t = t ≡ list.types
 MakesType (spec.Numbers n rows) ins t = t ≡ (numbers n).types
 MakesType (spec.Expression items) ins t = Any (λ u. t ≡ map (λ e. type_of e u) items) ins
 MakesType (spec.PartialAggregate g) ins t = t ≡ group_types g
