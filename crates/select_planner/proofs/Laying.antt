@@ -1,16 +1,12 @@
 -- The steps of a plan, laid down one behind another.
-use Rattle.std.proofs.Common.{Bool, List, None, Option, Some, [], ap, arith, cond, false, get_or, length, map, nat_lt, refl, slice_get, suc, sym, take, true, zero, ℕ, ◌++◌, ◌+◌, ◌<◌, ◌∙◌, ◌∷◌, ◌≡◌, ◌≤◌}
-use Rattle.select_planner.proofs.Prelude.{AggCall, AllByRecursion, Checked, CheckedJoin, Declared, DraftNode, Expr, FewJoined, IsSmall, ListFile, Numbers, PartSpec, PartsDecl, Paths, Schema, Spec, TableDecl, TableUse, append_assoc, call_arguments, columns_of, formula, forms, join_use, lane_nodes, length-take-le, map-append, nat_tests, node_form, plan_nodes, source_nodes, spec_form, take_more, used_tables, with_argument}
+use Rattle.std.proofs.lemmas.Grind.{common_steps}
+use Rattle.select_planner.proofs.Prelude.{Bool, List, None, Some, [], ap, arith, false, get_or, length, map, nat_lt, refl, slice_get, suc, sum_by, sym, take, zero, ℕ, ◌++◌, ◌+◌, ◌<◌, ◌∙◌, ◌∷◌, ◌≡◌, ◌≤◌, AggCall, Checked, Declared, DraftNode, Expr, FewSources, IsSmall, PartSpec, PartsDecl, Paths, Spec, TableDecl, TableUse, append_assoc, call_arguments, columns_of, formula, forms, kept_for, lane_nodes, length-take-le, map-append, nat_tests, plan_nodes, source_nodes, spec_form, sum_by-cons, take_more, used_tables, with_argument, path_count, crowded_decl, crowded, first_crowded, Reading, part_spec, path_sources, part_sources, table_sources, select_plan}
 use Rattle.query_model.specs.declared.processor_spec.Spec.TheVariants as spec
-use Rattle.select_planner.specs.Refusals.{NamedPaths, path_count, crowded_decl, crowded, first_crowded, or_else}
-use Rattle.select_planner.specs.Steps.{Reading, part_spec, path_sources, part_sources, table_sources, join_of, select_plan, NamesPaths, IsNoList, UsesNoList, IsPlannable}
 
 -- two blocks more
 pub blocks-more : (x y z first block : List DraftNode) → forms y ≡ forms x ++ forms first
     → forms z ≡ forms y ++ forms block → forms z ≡ forms x ++ forms (first ++ block)
-blocks-more x y z first block d e =
-    e ∙ ap (λ l. l ++ forms block) d ∙ append_assoc (forms x) (forms first) (forms block)
-    ∙ ap (λ l. forms x ++ l) (sym (map-append node_form first block))
+blocks-more x y z first block d e = grind (arith, append_assoc, map-append)
 
 -- ---- lanes
 
@@ -70,28 +66,17 @@ pub path-more : (r : Reading) (place : ℕ) (paths : List (List ℕ)) (path : Li
     → forms y ≡ forms x ++ forms (source_nodes place (path_sources r 1 (take i paths)))
     → forms z ≡ forms y ++ forms (source_nodes (place + i) (spec.Csv part ∷ []))
     → forms z ≡ forms x ++ forms (source_nodes place (path_sources r 1 (take (i + 1) paths)))
-path-more r at paths path part i x y z lt is same h g =
-    let first : List Spec = path_sources r 1 (take i paths) in
-    let last : Spec = spec.Csv (part_spec r (i + 1) path) in
-    let some : length (take i paths) ≡ i = length-take-le i paths (omega (arith, lt)) in
-    let count : at + length first ≡ at + i =
-    let e = paths-length r 1 (take i paths) in omega (arith, e, some) in
-    let place : 1 + length (take i paths) ≡ i + 1 = omega (arith, some) in
-    let whole : path_sources r 1 (take (i + 1) paths) ≡ first ++ last ∷ [] =
-    ap (path_sources r 1) (take_more paths i path lt ∙ ap (λ p. take i paths ++ p ∷ []) (sym is))
-    ∙ paths-push r 1 (take i paths) path
-    ∙ ap (λ n. first ++ spec.Csv (part_spec r n path) ∷ []) place in
-    let next : ℕ = at + i in
-    g ∙ ap (λ l. l ++ forms (source_nodes next (spec.Csv part ∷ []))) h
-    ∙ append_assoc (forms x) (forms (source_nodes at first))
-    (forms (source_nodes next (spec.Csv part ∷ [])))
-    ∙ ap (λ p. forms x
-    ++ (forms (source_nodes at first) ++ forms (source_nodes next (spec.Csv p ∷ [])))) same
-    ∙ ap (λ l. forms x ++ l)
-    (sym (map-append node_form (source_nodes at first) (source_nodes next (last ∷ []))))
-    ∙ ap (λ n. forms x ++ forms (source_nodes at first ++ source_nodes n (last ∷ []))) (sym count)
-    ∙ ap (λ l. forms x ++ forms l) (sym (sources-append at first (last ∷ [])))
-    ∙ ap (λ l. forms x ++ forms (source_nodes at l)) (sym whole)
+path-more r at paths path part i x y z lt is same h g = grind (
+  arith,
+  common_steps,
+  length-take-le,
+  paths-length,
+  take_more,
+  paths-push,
+  append_assoc,
+  map-append,
+  sources-append,
+) steps 1500000
 
 -- as many sources as paths
 pub parts-count : (r : Reading) (d : PartsDecl) (paths : List (List ℕ)) → d ≡ Paths paths
@@ -103,18 +88,6 @@ pub none-declared : (tables : List TableDecl) (header : Bool) (rows t : ℕ) (u 
     → u ≡ Declared t → slice_get tables t ≡ None → table_sources tables header rows u ≡ []
 none-declared tables header rows t u e n = search (arith)
 
--- what is true of a declaration that is no list: it is of none, and of each that names paths
-pub by-paths : (P : Option TableDecl → Type 0) → P None
-    → ((schema : Schema) (paths : List (List ℕ))
-    → P (Some (record { schema = schema; parts = Paths paths })))
-    → (o : Option TableDecl) → IsNoList o → P o
-by-paths P none some None h = none
-by-paths P none some (Some decl) h = go decl.parts h
-  where
-    go : (d : PartsDecl) → NamesPaths d → P (Some (record { schema = decl.schema; parts = d }))
-    go (Paths paths) h = some decl.schema paths
-    go (ListFile path) h = absurd h
-
 -- ---- a small plan
 
 not-crowded : (n : ℕ) (b : Bool) → nat_lt 32 n ≡ b → b ≡ false → n ≤ 32
@@ -122,52 +95,37 @@ not-crowded n b e f = let off : nat_lt 32 n ≡ false = e ∙ f in grind (arith,
 
 -- a declaration that isn't crowded names few paths
 pub few-paths : (decl : TableDecl) → crowded_decl (Some decl) ≡ None → path_count decl.parts ≤ 32
-few-paths decl e = go (nat_lt 32 (path_count decl.parts)) refl e
-  where
-    table : NamedPaths
-    table = record { name = decl.schema.name; count = path_count decl.parts }
+few-paths decl e = grind (arith, not-crowded)
 
-    go : (b : Bool) → nat_lt 32 (path_count decl.parts) ≡ b → cond b (Some table) None ≡ None
-        → path_count decl.parts ≤ 32
-    go true e n = absurd (cc)
-    go false e n = not-crowded (path_count decl.parts) false e refl
+paths-kept : (r : Reading) (k : ℕ) (paths : List (List ℕ))
+    → sum_by kept_for (path_sources r k paths) ≡ 0
+paths-kept r k [] = refl
+paths-kept r k (path ∷ paths) = grind (arith, sum_by-cons, paths-kept r (suc k) paths)
+
+few-parts : (r : Reading) (d : PartsDecl) → path_count d ≤ 32 → FewSources (part_sources r d)
+few-parts r d few = grind (arith, paths-length, paths-kept)
 
 few-sources : (tables : List TableDecl) (header : Bool) (rows : ℕ) (u : TableUse)
-    → crowded tables u ≡ None → UsesNoList tables u
-    → length (table_sources tables header rows u) ≤ 32
-few-sources tables header rows (Declared t) e h = search (arith, by-paths, few-paths, paths-length)
-few-sources tables header rows (Numbers n) e h = omega arith
+    → crowded tables u ≡ None → FewSources (table_sources tables header rows u)
+few-sources tables header rows u e = grind (arith, few-parts, few-paths)
 
 -- where no used table names too many paths, neither that of FROM nor that of JOIN does
 pub few-uses : (tables : List TableDecl) (u : TableUse) (us : List TableUse)
     → first_crowded tables (u ∷ us) ≡ None
     → (crowded tables u ≡ None) × (first_crowded tables us ≡ None)
-few-uses tables u us e = go (crowded tables u) e
-  where
-    go : (o : Option NamedPaths) → or_else o (first_crowded tables us) ≡ None
-        → (o ≡ None) × (first_crowded tables us ≡ None)
-    go None e = (refl, e)
-    go (Some n) e = absurd cc
+few-uses tables u us e = grind arith
 
 pub is-small : (q : Checked) (tables : List TableDecl) (lanes rows : ℕ) (header : Bool)
-    → IsPlannable q tables → first_crowded tables (used_tables q) ≡ None → lanes ≤ 16
+    → first_crowded tables (used_tables q) ≡ None → lanes ≤ 16
     → IsSmall (select_plan q tables lanes rows header)
-is-small q tables lanes rows header p few le = search (arith, few-uses, few-sources, joined)
-  where
-    joined : (j : Option CheckedJoin) → AllByRecursion (UsesNoList tables) (join_use j)
-        → first_crowded tables (join_use j) ≡ None
-        → FewJoined (join_of tables header rows q.from j)
-    joined None p few = tt
-    joined (Some j) p few =
-        few-sources tables header rows j.table (few-uses tables j.table [] few).0 p.0
+is-small q tables lanes rows header few le = grind (arith, few-uses, few-sources)
 
 -- a small plan, by the tables as the code reads them
 pub small-plan : (q : Checked) (tables read : List TableDecl) (lanes rows : ℕ) (header : Bool)
-    → read ≡ tables → IsPlannable q tables → lanes ≤ 16
-    → first_crowded read (used_tables q) ≡ None
+    → read ≡ tables → lanes ≤ 16 → first_crowded read (used_tables q) ≡ None
     → IsSmall (select_plan q tables lanes rows header)
-small-plan q tables read lanes rows header e p le few =
-    is-small q tables lanes rows header p
+small-plan q tables read lanes rows header e le few =
+    is-small q tables lanes rows header
     (ap (λ t. first_crowded t (used_tables q)) (sym e) ∙ few) le
 
 -- the nodes that were laid down for the tables
@@ -182,14 +140,7 @@ steps-for q tables read lanes rows header nodes e same = search (arith)
 arguments-push : (calls : List (AggCall ℕ)) (call : AggCall ℕ)
     → call_arguments (calls ++ call ∷ []) ≡ call_arguments calls ++ with_argument call.arg []
 arguments-push [] call = refl
-arguments-push (c ∷ calls) call = go c.arg (arguments-push calls call)
-  where
-    go : (arg : Option Expr)
-        → call_arguments (calls ++ call ∷ []) ≡ call_arguments calls ++ with_argument call.arg []
-        → with_argument arg (call_arguments (calls ++ call ∷ []))
-        ≡ with_argument arg (call_arguments calls) ++ with_argument call.arg []
-    go None e = e
-    go (Some a) e = ap (λ l. a ∷ l) e
+arguments-push (c ∷ calls) call = grind (arith, arguments-push calls call)
 
 -- the argument of a call more
 pub argument-more : (keys : List ℕ) (calls : List (AggCall ℕ)) (call : AggCall ℕ) (i : ℕ)
@@ -198,14 +149,7 @@ pub argument-more : (keys : List ℕ) (calls : List (AggCall ℕ)) (call : AggCa
     → map formula y ≡ map formula x ++ map formula (with_argument call.arg [])
     → map formula y ≡ map formula (columns_of keys ++ call_arguments (take (i + 1) calls))
 argument-more keys calls call i x y lt is h e =
-    let first : List Expr = call_arguments (take i calls) in
-    let last : List Expr = with_argument call.arg [] in
-    let whole : call_arguments (take (i + 1) calls) ≡ first ++ last =
-    ap call_arguments (take_more calls i call lt ∙ ap (λ z. take i calls ++ z ∷ []) (sym is))
-    ∙ arguments-push (take i calls) call in
-    e ∙ ap (λ l. l ++ map formula last) h ∙ sym (map-append formula (columns_of keys ++ first) last)
-    ∙ ap (map formula) (append_assoc (columns_of keys) first last
-    ∙ ap (λ l. columns_of keys ++ l) (sym whole))
+    grind (arith, common_steps, take_more, arguments-push, map-append, append_assoc)
 
 -- the steps of groups, as the code adds them
 pub group-steps : (a b c d e f : List DraftNode)

@@ -1,10 +1,20 @@
 -- The names from outside that this crate's proofs use, in one place.
+pub use Rattle.select_planner.specs.Boxes.{reserved_nodes}
+pub use Rattle.select_planner.specs.Counts.{boxes_needed, boxes_reserved, boxes_taken}
+pub use Rattle.select_planner.specs.Refusals.{NamedPaths, crowded, crowded_decl, first_crowded, or_else, path_count}
+pub use Rattle.select_planner.specs.Shapes.{IsSound, LaysDown, edge_of, kept_at, node_of, plan_ranks, plan_wires, reserves_from, wire_of}
+pub use Rattle.select_planner.specs.Steps.{Reading, declared_sources, join_of, order_of, part_sources, part_spec, path_sources, reading_of, select_plan, table_sources}
+pub use Rattle.select_planner.specs.declared.nodes.Plan.{Plan}
+pub use Rattle.select_planner.specs.declared.nodes.PlanEdge.{PlanEdge}
+pub use Rattle.select_planner.specs.declared.nodes.PlanNode.{PlanNode}
+pub use Rattle.select_planner.specs.declared.nodes.PlanReserve.{PlanReserve}
+pub use Rattle.std.proofs.Common.{Bool, List, None, Option, Some, [], ap, ap₂, arith, cond, count_by, false, get_or, length, map, nat_lt, refl, replicate, slice_get, slice_index_or, subst, suc, sum_by, sym, take, true, zero, ℕ, ◌*◌, ◌++◌, ◌+◌, ◌<◌, ◌∙◌, ◌∷◌, ◌≡◌, ◌≤◌}
 pub use Rattle.plan_meaning.proofs.Blocks.{none-of}
 pub use Rattle.plan_meaning.proofs.Counts.{plan-counted}
 pub use Rattle.plan_meaning.proofs.PlanGraphs.{counted-same, plan-graph}
 pub use Rattle.plan_meaning.proofs.Same.{kind-same}
 pub use Rattle.plan_meaning.proofs.Prelude.{AggCall, Draft, Expr, Span, formula, joint_node, lane_nodes, map-map, source_nodes, sum_by-map, with_node}
-pub use Rattle.plan_meaning.specs.Names.{FewJoined, IsSmall, NodeForm, call_arguments, columns_of, counted, filter_count, filter_nodes, gather_count, group_spec, limit_count, node_form, of_kind, plan_count, plan_nodes, sort_count, sort_nodes, sources_count, state_of, with_argument}
+pub use Rattle.plan_meaning.specs.Names.{Count, FewJoined, FewSources, IsSmall, NodeForm, call_arguments, columns_of, counted, each_kept, filter_count, filter_nodes, gather_count, group_spec, kept_for, limit_count, node_form, of_kind, plan_count, plan_nodes, sort_count, sort_nodes, sources_count, state_of, with_argument}
 pub use Rattle.proc_api.specs.Forms.{expression, filter, spec_form, unboxed}
 pub use Rattle.query_model.specs.Names.{Cond, if_declared, if_filtered, if_limited, if_ordered, if_unordered, join_use, list_sources_need, part_sources_need, table_need}
 pub use Rattle.query_model.specs.declared.query.ColumnDecl.{ColumnDecl}
@@ -12,5 +22,6 @@ pub use Rattle.query_model.specs.declared.query.Schema.{Schema}
 pub use Rattle.select_planner.specs.Prelude.{AllByRecursion, Checked, CheckedJoin, ColumnType, Declared, DraftNode, Grouped, IsGraph, JoinSpec, Kind, ListFile, Numbers, PartSpec, PartsDecl, Paths, Plain, Shape, SortKey, Spec, TableDecl, TableUse, column_types, forms, kind_of, need, no_draft, same_kind, used_tables, with_nodes}
 pub use Rattle.std.proofs.lemmas.Bool.Decides.{nat_tests}
 pub use Rattle.std.proofs.lemmas.List.{append-nil, append_assoc, length-map, length-take-le, map-append, map-id, take_more}
-pub use Rattle.std.proofs.lemmas.List.Sums.{count_by-le-length, sum_by-cons, sum_by-take-le, sum_by_more}
+pub use Rattle.std.proofs.lemmas.List.Sums.{count_by-le-length, sum_by-append, sum_by-cons, sum_by-take-le, sum_by_more}
 pub use Rattle.std.proofs.lemmas.Option.{slice_get_past}
+pub use Rattle.std.proofs.lemmas.List.Folds.{sum_by-replicate}

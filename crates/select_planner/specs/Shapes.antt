@@ -1,9 +1,12 @@
 -- A plan that was laid down by a list of nodes.
-use Rattle.std.specs.Prelude.{List, [], length, map, ℕ, ◌≡◌, ◌≤◌}
-use Rattle.select_planner.specs.Prelude.{Checked, DraftNode, IsGraph, Kind, TableDecl, Wire, forms, need, no_draft, with_nodes}
+use Rattle.std.specs.Prelude.{List, [], cond, length, map, replicate, suc, ℕ, ◌++◌, ◌+◌, ◌∷◌, ◌≡◌, ◌≤◌}
+use Rattle.select_planner.specs.Prelude.{Checked, DraftNode, IsGraph, Kind, TableDecl, Wire, forms, kind_of, need, no_draft, same_kind, with_nodes}
+use Rattle.query_model.specs.declared.processor_spec.Kind.TheVariants as kind
+use Rattle.select_planner.specs.Boxes.{reserved_nodes}
 use Rattle.select_planner.specs.Counts.{boxes_needed}
 use Rattle.select_planner.specs.declared.nodes.PlanNode.{PlanNode}
 use Rattle.select_planner.specs.declared.nodes.PlanEdge.{PlanEdge}
+use Rattle.select_planner.specs.declared.nodes.PlanReserve.{PlanReserve}
 use Rattle.select_planner.specs.declared.nodes.Plan.{Plan}
 
 abbrev pub node_of : DraftNode → PlanNode
@@ -21,11 +24,22 @@ plan_ranks p = map (λ (n : PlanNode). n.rank) p.nodes
 abbrev pub plan_wires : Plan → List Wire
 plan_wires p = map wire_of p.edges
 
+-- what is kept for node n: for a list of parts, a source and an edge for each that it may name
+abbrev pub kept_at : ℕ → DraftNode → List PlanReserve
+kept_at n node = cond (same_kind (kind_of node.spec) kind.List)
+    (record { node = n; kinds = replicate 32 kind.Csv; edges = 32 } ∷ []) []
+
+-- what is kept for the nodes, of which the first is node n
+abbrev pub reserves_from : ℕ → List DraftNode → List PlanReserve
+reserves_from n [] = []
+reserves_from n (node ∷ nodes) = kept_at n node ++ reserves_from (suc n) nodes
+
 -- the plan is a graph, and takes as many boxes of each kind as the query needs
 pub record IsSound (q : Checked) (tables : List TableDecl) (lanes : ℕ) (p : Plan) : Type 0 where
   pub graph : IsGraph (plan_ranks p) (plan_wires p) []
   pub needed : (k : Kind) → boxes_needed p k ≡ need q tables lanes k
-  pub few : length p.nodes ≤ 124
+  pub few : length p.nodes + reserved_nodes p.reserves ≤ 124
+  pub few_edges : length p.edges ≤ 140
 
 -- The plan has the nodes of these steps, each lane with a copy of its own, and the edges that they
 -- make.
@@ -34,4 +48,4 @@ pub record LaysDown (steps : List DraftNode) (p : Plan) : Type 0 where
   pub same : forms copies ≡ forms steps
   pub nodes : p.nodes ≡ map node_of copies
   pub edges : p.edges ≡ map edge_of (with_nodes copies no_draft).wires
-  pub reserves : p.reserves ≡ []
+  pub reserves : p.reserves ≡ reserves_from 0 copies

@@ -1,6 +1,6 @@
 -- What a checked query fills in of the table of steps.
-use Rattle.std.specs.Prelude.{Bool, List, None, Option, Some, [], length, slice_get, suc, ℕ, ⊤, ◌++◌, ◌∷◌}
-use Rattle.select_planner.specs.Prelude.{AllByRecursion, Checked, CheckedJoin, ColumnType, Declared, DraftNode, JoinSpec, ListFile, Numbers, PartSpec, PartsDecl, Paths, PlanJoin, SelectPlan, SortKey, SortSpec, Spec, TableDecl, TableUse, column_types, numbers, shape_of, source_nodes, used_tables}
+use Rattle.std.specs.Prelude.{Bool, List, None, Option, Some, [], length, slice_get, suc, ℕ, ◌++◌, ◌∷◌}
+use Rattle.select_planner.specs.Prelude.{Checked, CheckedJoin, ColumnType, Declared, DraftNode, JoinSpec, ListFile, Numbers, PartSpec, PartsDecl, Paths, PlanJoin, SelectPlan, SortKey, SortSpec, Spec, TableDecl, TableUse, column_types, numbers, shape_of, source_nodes}
 use Rattle.query_model.specs.declared.processor_spec.Spec.TheVariants as spec
 
 -- how the parts of a table are read: the place of the table, the types of its columns, whether the
@@ -95,24 +95,6 @@ select_plan q tables lanes rows header = record {
   limit = q.limit;
   lanes = lanes;
 }
-
--- ---- the steps that are laid down so far
-
-abbrev pub NamesPaths : PartsDecl → Type 0
-NamesPaths (Paths paths) = ⊤
-NamesPaths (ListFile path) = ⊥
-
-abbrev pub IsNoList : Option TableDecl → Type 0
-IsNoList None = ⊤
-IsNoList (Some decl) = NamesPaths decl.parts
-
-abbrev pub UsesNoList : List TableDecl → TableUse → Type 0
-UsesNoList tables (Declared t) = IsNoList (slice_get tables t)
-UsesNoList tables (Numbers n) = ⊤
-
--- no table that the query uses is a list
-abbrev pub IsPlannable : Checked → List TableDecl → Type 0
-IsPlannable q tables = AllByRecursion (UsesNoList tables) (used_tables q)
 
 -- the sources of a table behind so many open ends, and a resize of them
 abbrev pub table_nodes : (place : ℕ) → List Spec → (lanes : ℕ) → List DraftNode

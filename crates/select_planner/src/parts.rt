@@ -5,7 +5,7 @@ ghost use Rattle.query_model.specs.declared.query.ColumnDecl.{ColumnDecl};
 ghost use Rattle.plan_graph.specs.Blocks.{source_nodes};
 ghost use Rattle.plan_meaning.specs.Same.{forms};
 ghost use Rattle.select_planner.specs.Refusals.{crowded, crowded_decl, first_crowded, path_count, IsCrowded, IsDue};
-ghost use Rattle.select_planner.specs.Steps.{join_spec, part_sources, path_sources, reading_of, source_types, table_nodes, table_sources, used_types, NamesPaths, UsesNoList};
+ghost use Rattle.select_planner.specs.Steps.{join_spec, part_sources, part_spec, path_sources, reading_of, source_types, table_nodes, table_sources, used_types};
 
 use crate::lanes::add_node;
 use crate::nodes::PlanRefusal;
@@ -16,8 +16,8 @@ use query_model::processor_spec::{JoinSpec, PartSpec, Spec};
 use query_model::query::{ColumnDecl, PartsDecl, TableDecl};
 use std::alloc::Global;
 
-/// The most paths that a table may name.
-const MAX_PARTS: usize = 32;
+/// The most paths that a table, or its list file, may name.
+pub(crate) const MAX_PARTS: u32 = 32;
 
 /// How the parts of a table are read, and behind how many open ends its sources stand.
 #[derive(Clone, Copy)]
@@ -57,7 +57,7 @@ fn check_declared(decl: &TableDecl) -> Result<(), PlanRefusal>
     ensures err { IfErr result (IsCrowded (crowded_decl (Some decl.now))) }
 {
     let count = paths_named(&decl.parts);
-    if count <= MAX_PARTS {
+    if count <= MAX_PARTS as usize {
         return Ok(());
     }
     match decl.schema.name.copy() {
@@ -85,7 +85,6 @@ pub(crate) fn add_table(
     lanes: u32,
 ) -> Result<(), Memory>
     requires few_parts { crowded tables.now table ≡ None }
-    requires no_list { UsesNoList tables.now table }
     requires place { reading.place ≤ 1 }
     ensures { OnOk result (forms nodes.new ≡ forms nodes.old ++ forms (table_nodes reading.place
         (table_sources tables.now reading.header reading.rows table) lanes)) }
@@ -110,7 +109,6 @@ fn add_sources(
     reading: Reading,
 ) -> Result<u32, Memory>
     requires few_parts { crowded tables.now table ≡ None }
-    requires no_list { UsesNoList tables.now table }
     requires place { reading.place ≤ 1 }
     ensures nodes { OnOk result (forms nodes.new ≡ forms nodes.old
         ++ forms (source_nodes reading.place
@@ -153,7 +151,6 @@ fn add_declared(
     reading: Reading,
 ) -> Result<u32, Memory>
     requires few_parts { path_count decl.now.parts ≤ 32 }
-    requires no_list { NamesPaths decl.now.parts }
     requires place { reading.place ≤ 1 }
     ensures nodes { OnOk result (forms nodes.new ≡ forms nodes.old
         ++ forms (source_nodes reading.place
@@ -166,7 +163,11 @@ fn add_declared(
             add_paths(alloc, nodes, table, decl, paths.as_slice(), reading)?;
             Ok(paths.len() as u32)
         }
-        PartsDecl::ListFile(_) => unreachable!(),
+        PartsDecl::ListFile(path) => {
+            let list = part_spec(alloc, table, decl, 0, path, reading)?;
+            add_source(nodes, Spec::List(list), reading.place)?;
+            Ok(1)
+        }
     }
 }
 
@@ -184,19 +185,34 @@ fn add_paths(
         (path_sources (reading_of reading.header reading.rows table decl.now) 1 paths.now))) }
 {
     for i in 0..paths.len() {
-        let path = paths[i].copy()?;
-        let types = types_of(alloc, decl.schema.columns.as_slice())?;
-        let part = PartSpec {
-            table,
-            part: i as u32 + 1,
-            path,
-            types,
-            header: reading.header,
-            rows: reading.rows,
-        };
+        let part = part_spec(alloc, table, decl, i as u32 + 1, &paths[i], reading)?;
         add_source(nodes, Spec::Csv(part), reading.place + i as u32)?;
     }
     Ok(())
+}
+
+/// A file of the table, read as this part of it; a list is part 0.
+fn part_spec(
+    alloc: Global,
+    table: u32,
+    decl: &TableDecl,
+    part: u32,
+    path: &Bytes,
+    reading: Reading,
+) -> Result<PartSpec, Memory>
+    ensures { IfOk result (λ spec. spec ≡ part_spec
+        (reading_of reading.header reading.rows table decl.now) part path.now) }
+{
+    let path = path.copy()?;
+    let types = types_of(alloc, decl.schema.columns.as_slice())?;
+    Ok(PartSpec {
+        table,
+        part,
+        path,
+        types,
+        header: reading.header,
+        rows: reading.rows,
+    })
 }
 
 /// The join of the table of FROM with another.

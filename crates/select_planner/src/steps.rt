@@ -1,24 +1,26 @@
 // The steps of a plan.
-ghost use Rattle.std.specs.Prelude.{◌≡◌, ◌≤◌, ◌++◌, [], map, length, IfOk, IfErr, OnOk};
+ghost use Rattle.std.specs.Prelude.{◌≡◌, ◌+◌, ◌≤◌, ◌++◌, map, length, replicate, IfOk, IfErr, OnOk};
 ghost use Rattle.query_model.specs.Database.{used_tables};
 ghost use Rattle.query_model.specs.declared.checked.Shape.TheVariants.{Grouped};
+ghost use Rattle.query_model.specs.declared.processor_spec.Kind.TheVariants as csv;
 ghost use Rattle.plan_graph.specs.Drafts.{AllFitDraft, no_draft, with_nodes};
 ghost use Rattle.plan_meaning.specs.Names.{forms, plan_nodes, read_nodes, shape_nodes, shape_of};
 ghost use Rattle.select_planner.specs.Refusals.{first_crowded, IsDue};
-ghost use Rattle.select_planner.specs.Shapes.{node_of, edge_of, IsSound, LaysDown};
-ghost use Rattle.select_planner.specs.Steps.{IsPlannable, join_of, order_of, select_plan, source_types, table_sources};
+ghost use Rattle.select_planner.specs.Shapes.{edge_of, kept_at, node_of, reserves_from, IsSound, LaysDown};
+ghost use Rattle.select_planner.specs.Boxes.{reserved_nodes};
+ghost use Rattle.select_planner.specs.Steps.{join_of, order_of, select_plan, source_types, table_sources};
 
 use crate::groups::{arguments_of, columns_of, group_spec};
 use crate::lanes::{
     add_filters, add_gather, add_items, add_joint, add_limit, add_partials, add_sort,
 };
-use crate::nodes::{Plan, PlanEdge, PlanNode, PlanRefusal};
-use crate::parts::{Reading, add_table, check_tables, join_spec, source_types};
+use crate::nodes::{Plan, PlanEdge, PlanNode, PlanRefusal, PlanReserve};
+use crate::parts::{MAX_PARTS, Reading, add_table, check_tables, join_spec, source_types};
 use chunk_data::{ColumnType, List, Memory};
 use plan_graph::{DraftNode, build};
 use port_word::Wire;
 use query_model::checked::{Checked, Expr, Grouping, Shape};
-use query_model::processor_spec::{SortSpec, Spec};
+use query_model::processor_spec::{Kind, SortSpec, Spec};
 use query_model::query::TableDecl;
 use std::alloc::Global;
 
@@ -34,7 +36,6 @@ pub fn plan(
 ) -> Result<Plan, PlanRefusal>
     requires some_lanes { 1 ≤ lanes }
     requires few_lanes { lanes ≤ 16 }
-    requires plannable { IsPlannable query.now tables.now }
     ensures steps { IfOk result (LaysDown
         (plan_nodes (select_plan query.now tables.now lanes chunk_rows header))) }
     ensures sound { IfOk result (IsSound query.now tables.now lanes) }
@@ -65,7 +66,6 @@ fn lay_steps(
     reading: Reading,
 ) -> Result<List<DraftNode>, Memory>
     requires few_lanes { lanes ≤ 16 }
-    requires plannable { IsPlannable query.now tables.now }
     requires few_parts { first_crowded tables.now (used_tables query.now) ≡ None }
     requires at_start { reading.place ≡ 0 }
     ensures { IfOk result (λ nodes. forms nodes ≡ forms
@@ -89,7 +89,6 @@ fn add_read(
     lanes: u32,
     reading: Reading,
 ) -> Result<(), Memory>
-    requires plannable { IsPlannable query.now tables.now }
     requires few_parts { first_crowded tables.now (used_tables query.now) ≡ None }
     requires at_start { reading.place ≡ 0 }
     ensures { OnOk result (forms nodes.new ≡ forms nodes.old ++ forms (read_nodes
@@ -184,19 +183,67 @@ fn order_of(query: &Checked, rows: u32) -> Result<Option<SortSpec>, Memory>
 /// The nodes, and the edges that they make.
 fn plan_of(alloc: Global, nodes: List<DraftNode>) -> Result<Plan, Memory>
     requires fit { AllFitDraft nodes no_draft }
-    requires few_nodes { length nodes ≤ 256 }
+    requires few_nodes { length nodes + reserved_nodes (reserves_from 0 nodes) ≤ 256 }
     ensures nodes { IfOk result (λ p. p.nodes ≡ map node_of nodes) }
     ensures edges { IfOk result (λ p. p.edges ≡ map edge_of (with_nodes nodes no_draft).wires) }
-    ensures reserves { IfOk result (λ p. p.reserves ≡ []) }
+    ensures reserves { IfOk result (λ p. p.reserves ≡ reserves_from 0 nodes) }
 {
     let graph = build(alloc, nodes.as_slice())?;
     let edges = edges_of(alloc, graph.wires.as_slice())?;
+    let reserves = reserves_of(alloc, nodes.as_slice())?;
     let nodes = nodes_of(alloc, nodes)?;
     Ok(Plan {
         nodes,
         edges,
-        reserves: List::new(alloc),
+        reserves,
     })
+}
+
+/// What is kept for the lists of parts among the nodes.
+fn reserves_of(alloc: Global, nodes: &[DraftNode]) -> Result<List<PlanReserve>, Memory>
+    requires { length nodes.now ≤ 256 }
+    ensures { IfOk result (λ reserves. reserves ≡ reserves_from 0 nodes.now) }
+{
+    let mut reserves = List::new(alloc);
+    for n in 0..nodes.len() {
+        keep_for(alloc, &mut reserves, &nodes[n], n as u32)?;
+    }
+    Ok(reserves)
+}
+
+/// Adds what is kept for node `n`, where it is a list of parts.
+fn keep_for(
+    alloc: Global,
+    reserves: &mut List<PlanReserve>,
+    node: &DraftNode,
+    n: u32,
+) -> Result<(), Memory>
+    ensures { OnOk result (reserves.new ≡ reserves.old ++ kept_at n node.now) }
+{
+    if node.spec.kind() != Kind::List {
+        return Ok(());
+    }
+    let kinds = listed_kinds(alloc)?;
+    let reserve = PlanReserve {
+        node: n,
+        kinds,
+        edges: MAX_PARTS,
+    };
+    match reserves.push(reserve) {
+        Ok(()) => Ok(()),
+        Err(_) => Err(Memory),
+    }
+}
+
+/// The kinds of the nodes that are kept for a list: a source for each part that it may name.
+fn listed_kinds(alloc: Global) -> Result<List<Kind>, Memory>
+    ensures { IfOk result (λ kinds. kinds ≡ replicate 32 csv.Csv) }
+{
+    let mut kinds = Vec::new(alloc);
+    for _part in 0..MAX_PARTS {
+        kinds.push(Kind::Csv)?;
+    }
+    Ok(List::from_vec(kinds))
 }
 
 fn edges_of(alloc: Global, wires: &[Wire]) -> Result<List<PlanEdge>, Memory>

@@ -1,5 +1,4 @@
-use Rattle.std.proofs.Common.{map, take, ◌≡◌}
-use Rattle.select_planner.proofs.Prelude.{formula}
+use Rattle.select_planner.proofs.Cited.{map, take, ◌≡◌, formula}
 use Rattle.select_planner.proofs.copies.copy_items.Given as goal
 
 abbrev pub invariant-loop-item : goal.invariant-loop-item

@@ -1,5 +1,4 @@
-use Rattle.std.proofs.Common.{map, take, ◌++◌, ◌≡◌}
-use Rattle.select_planner.proofs.Prelude.{call_arguments, columns_of, formula}
+use Rattle.select_planner.proofs.Cited.{map, take, ◌++◌, ◌≡◌, call_arguments, columns_of, formula}
 use Rattle.select_planner.proofs.groups.arguments_of.Given as goal
 
 abbrev pub invariant-loop-call : goal.invariant-loop-call

@@ -1,5 +1,4 @@
-use Rattle.std.proofs.Common.{take, ◌≡◌}
-use Rattle.select_planner.proofs.Prelude.{columns_of}
+use Rattle.select_planner.proofs.Cited.{take, ◌≡◌, columns_of}
 use Rattle.select_planner.proofs.groups.columns_of.Given as goal
 
 abbrev pub invariant-loop-place : goal.invariant-loop-place

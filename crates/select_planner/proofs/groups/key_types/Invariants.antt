@@ -1,4 +1,4 @@
-use Rattle.std.proofs.Common.{map, slice_index_or, take, ◌≡◌}
+use Rattle.select_planner.proofs.Cited.{map, slice_index_or, take, ◌≡◌}
 use Rattle.chunk_data.specs.declared.typed_value.ColumnType.TheVariants as column
 use Rattle.select_planner.proofs.groups.key_types.Given as goal
 

@@ -1,5 +1,4 @@
-use Rattle.std.proofs.Common.{map, take, ◌≡◌}
-use Rattle.select_planner.proofs.Prelude.{state_of}
+use Rattle.select_planner.proofs.Cited.{map, take, ◌≡◌, state_of}
 use Rattle.select_planner.proofs.groups.states_of.Given as goal
 
 abbrev pub invariant-loop-call : goal.invariant-loop-call

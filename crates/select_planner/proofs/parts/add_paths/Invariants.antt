@@ -1,6 +1,4 @@
-use Rattle.std.proofs.Common.{take, ◌++◌, ◌≡◌}
-use Rattle.select_planner.proofs.Prelude.{forms, source_nodes}
-use Rattle.select_planner.specs.Steps.{path_sources, reading_of}
+use Rattle.select_planner.proofs.Cited.{take, ◌++◌, ◌≡◌, forms, source_nodes, path_sources, reading_of}
 use Rattle.select_planner.proofs.parts.add_paths.Given as goal
 
 abbrev pub invariant-loop-i : goal.invariant-loop-i

@@ -1,7 +1,5 @@
-use Rattle.std.proofs.Common.{List, [], ap, ap₂, map, ◌++◌, ◌∙◌, ◌∷◌, ◌≡◌}
-use Rattle.select_planner.proofs.Prelude.{DraftNode, call_arguments, columns_of, expression, filter_nodes, forms, formula, group_spec, joint_node, lane_nodes, sort_nodes}
+use Rattle.select_planner.proofs.Cited.{List, [], ap, ap₂, map, ◌++◌, ◌∙◌, ◌∷◌, ◌≡◌, DraftNode, call_arguments, columns_of, expression, filter_nodes, forms, formula, group_spec, joint_node, lane_nodes, sort_nodes, blocks-more, group-steps, lanes-same}
 use Rattle.query_model.specs.declared.processor_spec.Spec.TheVariants as spec
-use Rattle.select_planner.proofs.Laying.{blocks-more, group-steps, lanes-same}
 use Rattle.select_planner.proofs.steps.add_groups.Goals as goal
 
 pub returns : goal.returns

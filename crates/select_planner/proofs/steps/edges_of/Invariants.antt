@@ -1,5 +1,4 @@
-use Rattle.std.proofs.Common.{map, take, ◌≡◌}
-use Rattle.select_planner.specs.Shapes.{edge_of}
+use Rattle.select_planner.proofs.Cited.{map, take, ◌≡◌, edge_of}
 use Rattle.select_planner.proofs.steps.edges_of.Given as goal
 
 abbrev pub invariant-loop-wire : goal.invariant-loop-wire

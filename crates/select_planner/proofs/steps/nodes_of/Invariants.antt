@@ -1,5 +1,4 @@
-use Rattle.std.proofs.Common.{map, ◌≡◌}
-use Rattle.select_planner.specs.Shapes.{node_of}
+use Rattle.select_planner.proofs.Cited.{map, ◌≡◌, node_of}
 use Rattle.select_planner.proofs.steps.nodes_of.Given as goal
 
 abbrev pub invariant-loop-node : goal.invariant-loop-node

@@ -1,8 +1,4 @@
-use Rattle.std.proofs.Common.{arith}
-use Rattle.select_planner.proofs.Prelude.{plan-graph}
-use Rattle.select_planner.specs.Steps.{select_plan}
-use Rattle.select_planner.proofs.Laying.{small-plan, steps-for}
-use Rattle.select_planner.proofs.Laws.{is-sound}
+use Rattle.select_planner.proofs.Cited.{arith, plan-graph, select_plan, small-plan, steps-for, nodes-kept, is-sound}
 use Rattle.select_planner.proofs.steps.plan.Goals as goal
 
 pub plan_of-requires-clause-fit : goal.plan_of-requires-clause-fit
@@ -11,7 +7,7 @@ plan_of-requires-clause-fit c =
     (select_plan c.args.query.now c.args.tables.now c.args.lanes c.args.chunk_rows c.args.header)
     c.in-Ok.nodes
     (small-plan c.args.query.now c.args.tables.now c.as_slice.result.now c.args.lanes
-    c.args.chunk_rows c.args.header c.as_slice.ensures c.requires.plannable c.requires.few_lanes
+    c.args.chunk_rows c.args.header c.as_slice.ensures c.requires.few_lanes
     c.in_ok-check_tables.ensures.ok)
     (steps-for c.args.query.now c.args.tables.now c.as_slice-2.result.now c.args.lanes
     c.args.chunk_rows c.args.header c.in-Ok.nodes c.as_slice-2.ensures c.in-Ok.ensures)).fit
@@ -22,19 +18,18 @@ plan_of-requires-clause-few_nodes c =
     (select_plan c.args.query.now c.args.tables.now c.args.lanes c.args.chunk_rows c.args.header)
     c.in-Ok.nodes
     (small-plan c.args.query.now c.args.tables.now c.as_slice.result.now c.args.lanes
-    c.args.chunk_rows c.args.header c.as_slice.ensures c.requires.plannable c.requires.few_lanes
+    c.args.chunk_rows c.args.header c.as_slice.ensures c.requires.few_lanes
     c.in_ok-check_tables.ensures.ok)
     (steps-for c.args.query.now c.args.tables.now c.as_slice-2.result.now c.args.lanes
     c.args.chunk_rows c.args.header c.in-Ok.nodes c.as_slice-2.ensures c.in-Ok.ensures) in
-    let few = g.few in
-    omega (arith, few)
+    omega (arith, g.few, nodes-kept 0 c.in-Ok.nodes)
 
 pub returns-in-Ok-plan_of-clause-sound : goal.returns-in-Ok-plan_of-clause-sound
 returns-in-Ok-plan_of-clause-sound c =
     is-sound c.args.query.now c.args.tables.now c.args.lanes c.args.chunk_rows c.args.header
-    c.in-Ok-plan_of.plan c.requires.plannable
+    c.in-Ok-plan_of.plan
     (small-plan c.args.query.now c.args.tables.now c.as_slice.result.now c.args.lanes
-    c.args.chunk_rows c.args.header c.as_slice.ensures c.requires.plannable c.requires.few_lanes
+    c.args.chunk_rows c.args.header c.as_slice.ensures c.requires.few_lanes
     c.in_ok-check_tables.ensures.ok)
     (record {
       copies = c.in-Ok.nodes;
