@@ -1,11 +1,11 @@
 -- The end of a run of a plan's graph, by its nodes and its collector.
-use Rattle.std.proofs.Common.{List, Option, Some, [], ap, arith, get_or, is_some, length, length-append, map, refl, subst, suc, sym, true, zero, ℕ, ◌+◌, ◌<◌, ◌∙◌, ◌∷◌, ◌≡◌}
-use Rattle.plan_ends.proofs.Prelude.{AllByRecursion, AllPull, AllTyped, ArePortsOf, BoxPicture, Draft, DraftNode, EachGivesIf, Files, GrowthForm, HasRun, IsBorn, IsGraphOf, IsSmall, KeepsCollect, KeepsRows, Lists, NodeForm, NodePort, PlanGraph, SelectPlan, Spec, Stream, Wire, all_rows, box_at, collect_node, each-same, each-typed, few-inputs, few-outputs, fits, forms, get_or-map, get_or_at, get_or_default, graphs-same, input_count, length-map, map-append, no_box, no_draft, node_form, output-below-count, output_count, plan-fits, plan-graph, plan_nodes, ports_of, ranks-count, rows_of, spec_form, unboxed, with_nodes}
+use Rattle.plan_ends.proofs.Prelude.{List, Some, [], ap, arith, get_or, inl, inr, is_some, length, length-append, map, refl, subst, suc, sym, true, zero, ℕ, ◌++◌, ◌+◌, ◌<◌, ◌∙◌, ◌∷◌, ◌≡◌, ◌≤◌, ◌⊎◌, AllByRecursion, AllPull, AllTyped, ArePortsOf, BoxPicture, Draft, DraftNode, EachGivesIf, Files, GivesIf, HasRun, IsGraphOf, IsSmall, KeepsCollect, KeepsRows, Lists, NodeForm, NodePort, PartSpec, PlanGraph, Pulls, SelectPlan, Spec, Stream, Wire, all_rows, box_at, collect_node, consumer_of, each-same, each-typed, few-inputs, few-outputs, fits, forms, get_or-map, get_or_at, get_or_default, graphs-same, input_count, length-map, map-append, no_draft, node_form, output-below-count, output_count, part_spec, plan-fits, plan-graph, plan_nodes, ports_of, producer_of, ranks-count, rows_of, spec_form, unboxed, wire_at, with_nodes, BoxGives, HasEnded, HasListed, HasPulled, IsKept, IsListedNode, IsOrdinary, IsReady, IsUngrown, in_stream, out_stream, parts_of, pulled_at, pushed_at, reading_in}
 use Rattle.query_model.specs.declared.processor_spec.Spec.TheVariants as spec
-use Rattle.plan_ends.specs.Ended.{parts_of, in_stream, out_stream, pulled_at, pushed_at, IsKept, HasEnded, HasPulled, IsReady}
+use Rattle.plan_ends.proofs.GrownLists.{at-recursion}
 use Rattle.plan_ends.proofs.Pulled.{kept-counted}
-use Rattle.plan_ends.proofs.Pulls.{all-pull}
-use Rattle.plan_ends.proofs.KindLaws.{collector-done}
+use Rattle.plan_ends.proofs.Pulls.{IsWireOf, all-pull, wire-pulls}
+use Rattle.plan_ends.proofs.ListLaws.{IsFed, IsGrownList, few-paths-in, list-gives}
+use Rattle.plan_ends.proofs.KindLaws.{collector-done, part-gives}
 
 -- ---- node by node
 
@@ -17,36 +17,24 @@ ports-at f n i zero = refl
 ports-at f n i (suc k) = ap (λ l. f n (record { node = n; port = i }) ∷ l) (ports-at f n (suc i) k)
 
 each-gives : (files : Files) (boxes : List BoxPicture) (pulled pushed : ℕ → Lists) (n : ℕ)
-    (nodes : List DraftNode) → AllByRecursion IsReady nodes
+    (nodes : List DraftNode)
     → ((k : ℕ) (z : DraftNode) → k < length nodes → get_or nodes k z ≡ z
-    → IsKept z.spec files z.takes z.gives (box_at boxes (n + k)) (pulled (n + k)) (pushed (n + k)))
+    → BoxGives z.spec files z.takes z.gives (n + k) (box_at boxes (n + k)) (pulled (n + k))
+    (pushed (n + k)))
     → EachGivesIf (parts_of files) n nodes (pulled_at boxes pulled) (pushed_at boxes pushed)
-each-gives files boxes pulled pushed n [] ready kept = tt
-each-gives files boxes pulled pushed n (node ∷ nodes) ready kept =
+each-gives files boxes pulled pushed n [] gives = tt
+each-gives files boxes pulled pushed n (node ∷ nodes) gives =
     let here : n + 0 ≡ n = omega arith in
-    let one : IsKept node.spec files node.takes node.gives (box_at boxes n) (pulled n) (pushed n) =
-    rw here at (kept 0 node (omega arith) refl) in (
+    let one : BoxGives node.spec files node.takes node.gives n (box_at boxes n) (pulled n)
+    (pushed n) = rw here at (gives 0 node (omega arith) refl) in (
       rw (
         ports-at (λ m (q : NodePort). in_stream (box_at boxes m) (pulled m) q.port) n 0 node.takes,
         ports-at (λ m (q : NodePort). out_stream (box_at boxes m) (pushed m) q.port) n 0 node.gives,
-      ) (ready.0.gives files node.takes node.gives n (box_at boxes n) (pulled n) (pushed n) one),
-      each-gives files boxes pulled pushed (suc n) nodes ready.1 (λ k z lt is.
+      ) one,
+      each-gives files boxes pulled pushed (suc n) nodes (λ k z lt is.
           let next : n + suc k ≡ suc n + k = omega arith in
-          rw next at (kept (suc k) z (omega (arith, lt)) is)),
+          rw next at (gives (suc k) z (omega (arith, lt)) is)),
     )
-
-all-some : (nodes : List DraftNode) (n : ℕ) → n < length nodes
-    → is_some (get_or (map (λ (m : DraftNode). Some m.spec) nodes) n no_box.spec) ≡ true
-all-some [] n lt = absurd (omega (arith, lt))
-all-some (x ∷ xs) zero lt = refl
-all-some (x ∷ xs) (suc n) lt = all-some xs n (omega (arith, lt))
-
-ready-at : (xs : List DraftNode) (j : ℕ) (y : DraftNode) → AllByRecursion IsReady xs
-    → j < length xs
-    → get_or xs j y ≡ y → (g : Option GrowthForm) → ArePortsOf (Some y.spec) g y.takes y.gives
-ready-at [] j y r lt is g = absurd (omega (arith, lt))
-ready-at (x ∷ xs) zero y r lt is g = search (arith)
-ready-at (x ∷ xs) (suc j) y r lt is g = ready-at xs j y r.1 (omega (arith, lt)) is g
 
 -- the collector's node is the last one
 collect-form : (p : SelectPlan) (nodes : List DraftNode) (last : ℕ)
@@ -55,9 +43,11 @@ collect-form : (p : SelectPlan) (nodes : List DraftNode) (last : ℕ)
 collect-form p nodes last e count = search (arith, length-map, length-append, map-append, get_or_at)
 
 collect-spec : (s : Spec) → spec_form s ≡ unboxed spec.Collect → s ≡ spec.Collect
-collect-spec (spec.Filter c) e = absurd (cc)
-collect-spec (spec.Expression items) e = absurd (cc)
-collect-spec s e = cc
+collect-spec s e = grind arith
+
+-- a node of a kind that doesn't grow is an ordinary one
+ordinary : (z : DraftNode) → IsReady z → IsUngrown z.spec → IsOrdinary z
+ordinary z x1 u = grind arith
 
 -- A collector has all of its input, and it gathered that.
 pub record HasCollected (p : BoxPicture) (ins : Lists) : Type 0 where
@@ -67,77 +57,180 @@ pub record HasCollected (p : BoxPicture) (ins : Lists) : Type 0 where
 
 module _ (files : Files) (nodes : List DraftNode) (boxes : List BoxPicture)
     (h : HasEnded files nodes boxes) where
-  -- as many boxes as nodes
-  boxes-count : length boxes ≡ length nodes
-  boxes-count = search (arith, length-map)
+  abbrev plan_wires : List Wire
+  plan_wires = (with_nodes nodes no_draft).wires
 
-  -- each box was loaded, so that its node is born
-  born-at : (n : ℕ) → n < length boxes → IsBorn (box_at boxes n)
-  unfolding box_at
-  born-at n lt =
-      let count = boxes-count in
-      ap is_some (sym (get_or-map (λ (b : BoxPicture). b.spec) boxes n no_box no_box.spec lt)
-      ∙ ap (λ l. get_or l n no_box.spec) h.specs) ∙ all-some nodes n (omega (arith, lt, count))
+  -- all wires, those of the growths among them
+  abbrev wires : List Wire
+  wires = plan_wires ++ h.more
 
   module _ (g : IsGraphOf nodes) (ready : AllByRecursion IsReady nodes) where
-    -- the box of a node keeps its contract of the node's lists
-    node-kept : (k : ℕ) (z : DraftNode) → k < length nodes → get_or nodes k z ≡ z
-        → IsKept z.spec files z.takes z.gives (box_at boxes k) (h.done.pulled k) (h.done.pushed k)
-    unfolding box_at
-    node-kept k z lt is =
-        let wires : List Wire = (with_nodes nodes no_draft).wires in
-        let ranks : List ℕ = (with_nodes nodes no_draft).ranks in
-        let p : BoxPicture = box_at boxes k in
-        let count = boxes-count in
-        let in_boxes : k < length boxes = omega (arith, lt, count) in
-        let d = h.done.each k in_boxes (born-at k in_boxes) (h.lawful k in_boxes) in
-        let spec_is : p.spec ≡ Some z.spec =
-        sym (get_or-map (λ (b : BoxPicture). b.spec) boxes k no_box no_box.spec in_boxes)
-        ∙ ap (λ l. get_or l k no_box.spec) h.specs
-        ∙ get_or-map (λ (n : DraftNode). Some n.spec) nodes k z no_box.spec lt
-        ∙ ap (λ (n : DraftNode). Some n.spec) is in
-        let takes : input_count wires k ≡ z.takes =
-        g.inputs k ∙ get_or-map (λ (n : DraftNode). n.takes) nodes k z 0 lt
-        ∙ ap (λ (n : DraftNode). n.takes) is in
-        let gives : output_count wires k ≡ z.gives =
-        g.outputs k ∙ get_or-map (λ (n : DraftNode). n.gives) nodes k z 0 lt
-        ∙ ap (λ (n : DraftNode). n.gives) is in
-        let ports = ready-at nodes k z ready lt is p.growth in
+    abbrev node_at : ℕ → DraftNode → Type 0
+    node_at k z = (k < length nodes) × (get_or nodes k z ≡ z)
+
+    takes-at : (k : ℕ) (z : DraftNode) → node_at k z → input_count plan_wires k ≡ z.takes
+    takes-at k z at =
+        g.inputs k ∙ get_or-map (λ (n : DraftNode). n.takes) nodes k z 0 at.0
+        ∙ ap (λ (n : DraftNode). n.takes) at.1
+
+    gives-at : (k : ℕ) (z : DraftNode) → node_at k z → output_count wires k ≡ z.gives
+    gives-at k z at =
+        h.grown.outputs k at.0 ∙ g.outputs k
+        ∙ get_or-map (λ (n : DraftNode). n.gives) nodes k z 0 at.0
+        ∙ ap (λ (n : DraftNode). n.gives) at.1
+
+    -- the box of a node, where its ports are those of its spec, keeps its contract of its lists
+    box-kept : (k : ℕ) (s : Spec) → k < length boxes → (box_at boxes k).spec ≡ Some s
+        → ArePortsOf (Some s) (box_at boxes k).growth (input_count wires k) (output_count wires k)
+        → input_count wires k ≤ 32 → output_count wires k ≤ 16
+        → IsKept s files (input_count wires k) (output_count wires k) (box_at boxes k)
+        (h.done.pulled k) (h.done.pushed k)
+    box-kept k s lt loaded ports few_inputs few_outputs =
+        let d = h.done.each k lt (ap is_some loaded) (h.lawful k lt) in
         record {
-          loaded = spec_is;
-          told = λ part e. h.told k part in_boxes (spec_is ∙ ap (λ s. Some s) e);
+          loaded = loaded;
+          told = h.told k s lt loaded;
           ports = ports;
-          few_inputs = let most = few-inputs ranks wires [] g.graph.so_far k in
-              omega (arith, most, takes);
-          few_outputs = let most = few-outputs ranks wires [] g.graph.so_far k in
-              omega (arith, most, gives);
-          inputs = d.finished.ins ∙ takes;
-          outputs = d.finished.outs ∙ gives;
-          keeps = d.keeps (rw (spec_is, takes, gives) ports);
-          nothing_past = λ i le. d.nothing_past i (omega (arith, le, takes));
-          nothing_pushed_past = λ o le. d.nothing_pushed_past o (omega (arith, le, gives));
+          few_inputs = few_inputs;
+          few_outputs = few_outputs;
+          inputs = d.finished.ins;
+          outputs = d.finished.outs;
+          keeps = d.keeps (rw loaded ports);
+          nothing_past = d.nothing_past;
+          nothing_pushed_past = d.nothing_pushed_past;
         }
+
+    -- the box of an ordinary node keeps its contract of the node's lists
+    node-kept : (k : ℕ) (z : DraftNode) → node_at k z → IsOrdinary z
+        → IsKept z.spec files z.takes z.gives (box_at boxes k) (h.done.pulled k) (h.done.pushed k)
+    node-kept k z at o =
+        let takes : input_count wires k ≡ z.takes =
+        h.grown.inputs k z at.0 at.1 o.ungrown ∙ takes-at k z at in
+        let gives = gives-at k z at in
+        let ranks : List ℕ = (with_nodes nodes no_draft).ranks in
+        let few_inputs = few-inputs ranks plan_wires [] g.graph.so_far k in
+        let few_outputs = few-outputs ranks plan_wires [] g.graph.so_far k in
+        let same = h.grown.outputs k at.0 in
+        subst (λ m. IsKept z.spec files m z.gives (box_at boxes k) (h.done.pulled k)
+        (h.done.pushed k)) takes
+        (subst (λ m. IsKept z.spec files (input_count wires k) m (box_at boxes k) (h.done.pulled k)
+        (h.done.pushed k)) gives
+        (box-kept k z.spec (omega (arith, at.0, h.count)) (h.specs k z at.0 at.1)
+        (rw (takes, gives) (o.ports (box_at boxes k).growth))
+        (omega (arith, few_inputs, takes-at k z at, takes)) (omega (arith, few_outputs, same))))
+
+    -- an input of a list has the first of what the source of its part gave
+    listed-fed : (list : PartSpec) (n i : ℕ) (path : List ℕ) → n < length boxes
+        → IsListedNode list wires boxes n i path
+        → IsFed files (reading_in list) (in_stream (box_at boxes n) (h.done.pulled n) i) (suc i)
+        path
+    listed-fed list n i path lt b =
+        let part : PartSpec = part_spec (reading_in list) (suc i) path in
+        let kept = subst (λ m. IsKept (spec.Csv part) files m 1 (box_at boxes b.node)
+        (h.done.pulled b.node) (h.done.pushed b.node)) b.inputs
+        (subst (λ m. IsKept (spec.Csv part) files (input_count wires b.node) m
+        (box_at boxes b.node) (h.done.pulled b.node) (h.done.pushed b.node)) b.outputs
+        (box-kept b.node (spec.Csv part) b.in_range b.loaded (b.inputs, b.outputs)
+        (omega (arith, b.inputs)) (omega (arith, b.outputs)))) in
+        let gives = part-gives part files 0 1 b.node (box_at boxes b.node)
+        (h.done.pulled b.node) (h.done.pushed b.node) kept in
+        record {
+          pushed = out_stream (box_at boxes b.node) (h.done.pushed b.node) 0;
+          gives = gives.gives tt;
+          typed = (gives.typed tt).0;
+          pulls = subst (λ (w : Wire). Pulls (pulled_at boxes h.done.pulled (consumer_of w))
+              (pushed_at boxes h.done.pushed (producer_of w))) b.wire
+              (wire-pulls wires boxes h.done b.edge b.edge_in_range
+              (subst (IsWireOf wires boxes) (sym b.wire) (record {
+                from_in_range = b.in_range;
+                from_born = ap is_some b.loaded;
+                from_lawful = h.lawful b.node b.in_range;
+                to_lawful = h.lawful n lt;
+                out_in_range = omega (arith, b.outputs);
+              })));
+        }
+
+    list-kept : (k : ℕ) (list : PartSpec) → k < length nodes
+        → (box_at boxes k).spec ≡ Some (spec.List list) → output_count wires k ≡ 1
+        → GivesIf (parts_of files) (spec.List list) []
+        (out_stream (box_at boxes k) (h.done.pushed k) 0 ∷ [])
+    list-kept k list lt loaded one = go (h.grown.lists k list lt loaded)
+      where
+        in_boxes : k < length boxes
+        in_boxes = let count = h.count in omega (arith, lt, count)
+
+        gives : input_count wires k ≤ 32
+            → (input_count wires k ≡ 0) ⊎ IsGrownList list files (input_count wires k)
+            (box_at boxes k) (h.done.pulled k)
+            → GivesIf (parts_of files) (spec.List list) []
+            (out_stream (box_at boxes k) (h.done.pushed k) 0 ∷ [])
+        gives few grown =
+            list-gives list files (input_count wires k) k (box_at boxes k) (h.done.pulled k)
+            (h.done.pushed k)
+            (subst (λ m. IsKept (spec.List list) files (input_count wires k) m (box_at boxes k)
+            (h.done.pulled k) (h.done.pushed k)) one
+            (box-kept k (spec.List list) in_boxes loaded (h.grown.list_ports k list lt loaded)
+            few (omega (arith, one)))) grown
+
+        go : (input_count wires k ≡ 0) ⊎ HasListed list files wires boxes k
+            → GivesIf (parts_of files) (spec.List list) []
+            (out_stream (box_at boxes k) (h.done.pushed k) 0 ∷ [])
+        go (inl none) = gives (omega (arith, none)) (inl none)
+        go (inr w) =
+            let count = w.count in
+            gives (omega (arith, count, few-paths-in (Some w.text))) (inr (record {
+              text = w.text;
+              are = w.are;
+              valid = w.valid;
+              fed = λ i path lt is. listed-fed list k i path in_boxes (w.nodes i path lt is);
+              count = w.count;
+            }))
+
+    -- the box of each node gives what its kind promises
+    node-gives : (k : ℕ) (z : DraftNode) → node_at k z
+        → BoxGives z.spec files z.takes z.gives k (box_at boxes k) (h.done.pulled k)
+        (h.done.pushed k)
+    node-gives k z at = go (at-recursion IsReady nodes ready k z at.0 at.1)
+      where
+        go : IsReady z
+            → BoxGives z.spec files z.takes z.gives k (box_at boxes k) (h.done.pulled k)
+            (h.done.pushed k)
+        go (inl o) = o.gives files z.takes z.gives k (box_at boxes k) (h.done.pulled k)
+            (h.done.pushed k) (node-kept k z at o)
+        go (inr l) =
+            let p : BoxPicture = box_at boxes k in
+            let ins : Lists = h.done.pulled k in
+            let outs : Lists = h.done.pushed k in
+            subst (λ s. BoxGives s files z.takes z.gives k p ins outs) (sym l.is)
+            (subst (λ m. BoxGives (spec.List l.list) files m z.gives k p ins outs) (sym l.takes)
+            (subst (λ m. BoxGives (spec.List l.list) files 0 m k p ins outs) (sym l.gives)
+            (list-kept k l.list at.0 (h.specs k z at.0 at.1 ∙ ap (λ s. Some s) l.is)
+            (gives-at k z at ∙ l.gives))))
 
     -- the nodes' promises and the fronts along the wires
     ended-run : EachGivesIf (parts_of files) 0 nodes (pulled_at boxes h.done.pulled)
         (pushed_at boxes h.done.pushed) × AllPull (pulled_at boxes h.done.pulled)
-        (pushed_at boxes h.done.pushed) (with_nodes nodes no_draft).wires
+        (pushed_at boxes h.done.pushed) plan_wires
     ended-run =
         let d : Draft = with_nodes nodes no_draft in
-        let count : length boxes ≡ length nodes = boxes-count in
         let ranks : length d.ranks ≡ length nodes = ranks-count nodes no_draft ∙ omega arith in (
-          each-gives files boxes h.done.pulled h.done.pushed 0 nodes ready (λ k z lt is.
+          each-gives files boxes h.done.pulled h.done.pushed 0 nodes (λ k z lt is.
               let here : k ≡ 0 + k = omega arith in
-              rw here at (node-kept k z lt is)),
-          all-pull d.wires boxes h.done (λ e lt.
+              rw here at (node-gives k z (lt, is))),
+          all-pull plan_wires h.more boxes h.done (λ e lt.
               let edge = g.graph.so_far.edges e lt in
-              let from = edge.from_in_range in
-              let to = edge.to_in_range in
+              let w : Wire = wire_at plan_wires e in
+              let from_node : w.from < length nodes = omega (arith, edge.from_in_range, ranks) in
+              let z : DraftNode = get_or nodes w.from collect_node in
+              let out = output-below-count d.ranks d.wires [] g.graph e lt in
               record {
-                from_in_range = omega (arith, from, count, ranks);
-                to_in_range = omega (arith, to, count, ranks);
-                out_in_range = output-below-count d.ranks d.wires [] g.graph e lt;
-              }) born-at h.lawful,
+                from_in_range = omega (arith, edge.from_in_range, h.count, ranks);
+                from_born = ap is_some (h.specs w.from z from_node
+                    (get_or_default nodes w.from z collect_node from_node));
+                from_lawful = h.lawful w.from (omega (arith, edge.from_in_range, h.count, ranks));
+                to_lawful = h.lawful w.to (omega (arith, edge.to_in_range, h.count, ranks));
+                out_in_range = omega (arith, out, h.grown.outputs w.from from_node);
+              }),
         )
 
     collected : (p : SelectPlan) (last : ℕ) → forms nodes ≡ forms (plan_nodes p)
@@ -149,15 +242,17 @@ module _ (files : Files) (nodes : List DraftNode) (boxes : List BoxPicture)
         ∙ length-map (plan_nodes p) node_form in
         let lt : last < length nodes = omega (arith, same, count) in
         let in_boxes : last < length boxes =
-        let all = boxes-count in omega (arith, lt, all) in
+        let all = h.count in omega (arith, lt, all) in
         let z : DraftNode = get_or nodes last collect_node in
         let form : node_form z ≡ node_form collect_node =
         sym (get_or-map node_form nodes last collect_node (node_form collect_node) lt)
         ∙ collect-form p nodes last e count in
         let is : z.spec ≡ spec.Collect = collect-spec z.spec (ap (λ (f : NodeForm). f.spec) form) in
         let none : z.gives ≡ 0 = ap (λ (f : NodeForm). f.gives) form in
-        let k = node-kept last z lt
-        (get_or_default nodes last z collect_node lt) in
+        let there : node_at last z = (lt, get_or_default nodes last z collect_node lt) in
+        let k = node-kept last z there
+        (ordinary z (at-recursion IsReady nodes ready last z there.0 there.1)
+        (subst IsUngrown (sym is) tt)) in
         let b : BoxPicture = box_at boxes last in
         let ins : Lists = h.done.pulled last in
         let loaded : b.spec ≡ Some spec.Collect = k.loaded ∙ ap (λ s. Some s) is in
@@ -168,7 +263,7 @@ module _ (files : Files) (nodes : List DraftNode) (boxes : List BoxPicture)
           loaded = loaded;
           done = collector-done b ins (h.done.pushed last) loaded k.keeps (k.outputs ∙ none);
           gathered = keeps.gathered
-              (h.done.running last in_boxes (born-at last in_boxes)).not_handed_out;
+              (h.done.running last in_boxes (ap is_some loaded)).not_handed_out;
         }
 
 -- ---- the plan
@@ -181,7 +276,7 @@ pub record PlanRun (files : Files) (p : SelectPlan) (nodes : List DraftNode)
       (pushed_at boxes h.done.pushed)
   pub collected : HasCollected (box_at boxes last) (h.done.pulled last)
   pub counted : (n : ℕ) (z : DraftNode) → n < length nodes → get_or nodes n z ≡ z
-      → HasPulled (box_at boxes n)
+      → IsUngrown z.spec → HasPulled (box_at boxes n)
       (length (all_rows (rows_of (map (pulled_at boxes h.done.pulled) (ports_of n 0 z.takes)))))
 
 pub plan-run : (files : Files) (p : SelectPlan) (nodes : List DraftNode) (boxes : List BoxPicture)
@@ -196,15 +291,17 @@ plan-run files p nodes boxes h last small e typed ready count =
     let pushed : NodePort → Stream = pushed_at boxes h.done.pushed in
     let steps : List DraftNode = plan_nodes p in
     let along : AllPull pulled pushed (with_nodes steps no_draft).wires =
-    rw (graphs-same nodes steps no_draft e) at run.1 in
+    subst (λ (d : Draft). AllPull pulled pushed d.wires) (graphs-same nodes steps no_draft e)
+    run.1 in
     let fit = (fits steps (plan-fits p small).0).fit in
     let each = each-typed (parts_of files) pulled pushed steps no_draft [] fit tt typed
     (each-same (parts_of files) pulled pushed 0 nodes steps e run.0) along in
     record {
       run = record { each = each; along = along };
       collected = collected files nodes boxes h g.graph ready p last e count;
-      counted = λ n z lt is.
+      counted = λ n z lt is ungrown.
           rw (ports-at (λ m (q : NodePort). in_stream (box_at boxes m) (h.done.pulled m) q.port) n 0
           z.takes) (kept-counted z.spec files z.takes z.gives (box_at boxes n) (h.done.pulled n)
-          (h.done.pushed n) (node-kept files nodes boxes h g.graph ready n z lt is) n);
+          (h.done.pushed n) (node-kept files nodes boxes h g.graph ready n z (lt, is)
+          (ordinary z (at-recursion IsReady nodes ready n z lt is) ungrown)) n);
     }

@@ -1,7 +1,6 @@
 -- The columns of a table that a query names are those of the table that its plan reads, and its
 -- checked types are those of the rows that its items make.
-use Rattle.std.proofs.Common.{Bool, IfSome, List, None, Option, Some, [], ap, append_assoc, ap₂, arith, bytes_eq, cond, false, filter, find, flat_map, length, length-append, map, not, option_map, refl, slice_get, slice_index_or, subst, suc, sym, true, zero, ℕ, ◌++◌, ◌+◌, ◌<◌, ◌==◌, ◌∙◌, ◌∷◌, ◌||◌, ◌≡◌}
-use Rattle.plan_ends.proofs.Prelude.{AggCall, All, All-behind, All-cons, All-front, All-head, All-nil, All-tail, AreColumnsFrom, AreKeyPairs, ArePlainItems, BothOrNone, Checked, CheckedJoin, ColumnDecl, ColumnRef, ColumnType, EachWith, Expr, FromColumn, Grouped, Grouping, IsAnalysable, IsChecked, IsCheckedJoin, IsGrouping, IsOfKind, IsPlacedItem, IsShape, IsTypedQuery, Item, ItemKind, Items, Join, KeyPair, Listed, NamePair, OrderKey, Plain, Query, Schema, Shape, SortKey, Star, TableDecl, TableRef, TableUse, accepted, all_fit, ambiguous_column, append-nil, are_keys, bad_join_key, bad_order_key, both, call_type, calls_of, column_is_of_kind, columns_if, every_column, expr_is_of_kind, first_name, first_of_all, from_columns, from_types, get_or_at, group_row_types, holds_pairs, is_grouped, is_join_pair, is_key_of, is_typed, item_kind, item_names, join_spec, join_tables, joins, key_place, known_kind, known_type, length-map, list_all, listed, map-append, means, meant_type, none_found, not_grouped, operands_of, output_names, output_types, pair_of, place_in, place_of, refusal_of, same_known_type, same_type, sort_key, source_types, star_name, table_columns, tells_each, too_wide, type_mismatch, type_of, types_declared, types_of, ungrouped_names, unknown_column, unknown_table, use_of, used_types}
+use Rattle.plan_ends.proofs.Prelude.{Bool, IfSome, List, None, Option, Some, [], ap, append_assoc, ap₂, arith, bytes_eq, cond, false, filter, flat_map, length, length-append, map, not, option_map, refl, slice_index_or, subst, suc, sym, true, ℕ, ◌++◌, ◌+◌, ◌<◌, ◌==◌, ◌∙◌, ◌∷◌, ◌||◌, ◌≡◌, AggCall, All, All-behind, All-cons, All-front, All-head, All-nil, All-tail, AreColumnsFrom, AreKeyPairs, ArePlainItems, BothOrNone, Checked, CheckedJoin, ColumnDecl, ColumnRef, ColumnType, EachWith, Expr, FromColumn, Grouped, Grouping, IsAnalysable, IsChecked, IsCheckedJoin, IsGrouping, IsOfKind, IsPlacedItem, IsShape, IsTypedQuery, Item, ItemKind, Items, Join, KeyPair, Listed, NamePair, OrderKey, Plain, Query, Schema, Shape, SortKey, Star, TableDecl, TableRef, TableUse, accepted, all_fit, ambiguous_column, append-nil, are_keys, bad_join_key, bad_order_key, both, call_type, calls_of, column_is_of_kind, every_column, expr_is_of_kind, first_name, first_of_all, from_columns, from_types, get_or_at, group_row_types, holds_pairs, is_grouped, is_join_pair, is_key_of, is_typed, item_kind, item_names, join_spec, join_tables, key_place, known_type, length-map, list_all, listed, map-append, means, meant_type, none_found, not_grouped, operands_of, output_names, output_types, pair_of, place_in, place_of, refusal_of, same_type, sort_key, source_types, star_name, table_columns, tells_each, too_wide, type_mismatch, type_of, types_of, ungrouped_names, unknown_column, unknown_table, use_of, used_types}
 use Rattle.chunk_data.specs.declared.typed_value.ColumnType.TheVariants as column
 use Rattle.query_model.specs.declared.query.ExprOf.TheVariants as expr
 use Rattle.query_model.specs.declared.query.ItemKind.TheVariants as kind
@@ -22,22 +21,9 @@ pub types_of_table : (tables : List TableDecl) (t : TableRef)
     → map (λ (c : FromColumn). c.type)
     (table_columns (map (λ (d : TableDecl). d.schema) tables) t)
     ≡ used_types tables (use_of (map (λ (d : TableDecl). d.schema) tables) t)
-types_of_table tables (table.Numbers n) = refl
-types_of_table [] (table.Named t) = refl
-types_of_table (d ∷ ds) (table.Named t) = search (arith, go, types_of_table ds (table.Named t))
-  where
-    found : Option Schema
-    found = find (λ (s : Schema). bytes_eq s.name t) (map (λ (d : TableDecl). d.schema) ds)
-
-    place : ℕ
-    place = place_of (λ (s : Schema). bytes_eq s.name t) (map (λ (d : TableDecl). d.schema) ds)
-
-    go : (b : Bool)
-        → map (λ (c : FromColumn). c.type) (columns_if found) ≡ types_declared (slice_get ds place)
-        → map (λ (c : FromColumn). c.type) (columns_if (cond b (Some d.schema) found))
-        ≡ types_declared (slice_get (d ∷ ds) (cond b 0 (place + 1)))
-    go true rest = types_kept d.schema.name d.schema.columns
-    go false rest = search (arith)
+types_of_table (d ∷ ds) (table.Named t) =
+    grind (arith, types_kept, types_of_table ds (table.Named t))
+types_of_table tables t = grind arith
 
 -- ---- the types of the output rows
 
@@ -46,28 +32,21 @@ columns-types : (k : ℕ) (done : List ColumnType) (columns : List FromColumn) (
     → length done ≡ k → AreColumnsFrom k columns es
     → types_of columns ≡ map (λ e. type_of e (done ++ types_of columns)) es
 unfolding type_of
-columns-types k done [] [] e h = refl
-columns-types k done [] (x ∷ es) e h = absurd h
-columns-types k done (c ∷ columns) [] e h = absurd h
-columns-types k done (c ∷ columns) (expr.Column n ∷ es) e h =
-    let types : List ColumnType = types_of columns in
-    let rest = columns-types (k + 1) (done ++ c.type ∷ []) columns es
-    (omega (arith, e, length-append done (c.type ∷ []))) h.1 in
-    ap₂ (λ t ts. t ∷ ts)
-    (sym (ap (λ m. slice_index_or (done ++ c.type ∷ types) m column.Text) h.0
-    ∙ get_or_at done c.type types column.Text k e))
-    (rest ∙ ap (λ l. map (λ x. type_of x l) es) (append_assoc done (c.type ∷ []) types))
-columns-types k done (c ∷ columns) (expr.Number n ∷ es) e h = absurd h
-columns-types k done (c ∷ columns) (expr.Arith' op p a q b ∷ es) e h = absurd h
+columns-types k done (c ∷ columns) (expr.Column n ∷ es) e h = grind (
+  arith,
+  get_or_at,
+  append_assoc,
+  columns-types (k + 1) (done ++ c.type ∷ []) columns es
+      (omega (arith, e, length-append done (c.type ∷ []))) h.1,
+  length-append done (c.type ∷ []),
+)
+columns-types k done columns es e h = grind arith
 
 items-types : (columns : List FromColumn) (items : List Item) (es : List Expr)
     → EachWith (IsPlacedItem (place_in columns)) items es
     → list_all (λ (i : Item). is_typed (item_kind columns i.what)) items ≡ true
     → map (λ (i : Item). known_type (item_kind columns i.what)) items
     ≡ map (λ e. type_of e (types_of columns)) es
-items-types columns [] [] is h = refl
-items-types columns [] (e ∷ es) is h = absurd is
-items-types columns (i ∷ items) [] is h = absurd is
 items-types columns (i ∷ items) (e ∷ es) is h =
     let each = both (is_typed (item_kind columns i.what))
     (list_all (λ (i : Item). is_typed (item_kind columns i.what)) items) h in
@@ -79,6 +58,7 @@ items-types columns (i ∷ items) (e ∷ es) is h =
         → known_type (item_kind columns k) ≡ type_of e (types_of columns)
     one (kind.Plain a) alias is t = search (arith, known-is, expr_is_of_kind, every_column)
     one (kind.Agg call) alias is t = absurd is
+items-types columns items es is h = grind arith
 
 output-types : (columns : List FromColumn) (items : Items) (es : List Expr)
     → ArePlainItems (place_in columns) columns items es
@@ -100,24 +80,16 @@ names-count (Listed items) columns = search (arith, go, length-map)
 place-within : {A : Type 0} (test : A → Bool) (xs : List A) → 0 < length (filter test xs)
     → place_of test xs < length xs
 place-within test [] some = absurd (omega (arith, some))
-place-within test (x ∷ xs) some = go (test x) some (place-within test xs)
-  where
-    go : (b : Bool) → 0 < length (cond b (x ∷ filter test xs) (filter test xs))
-        → (0 < length (filter test xs) → place_of test xs < length xs)
-        → cond b 0 (place_of test xs + 1) < suc (length xs)
-    go true some more = omega arith
-    go false some more = let m = more some in omega (arith, m)
+place-within test (x ∷ xs) some = grind (arith, place-within test xs)
 
 one-passes : (n : ℕ) → not (n == 1) ≡ false → 0 < n
-one-passes zero h = absurd cc
-one-passes (suc n) h = omega arith
+one-passes n h = grind arith
 
 -- where there is no first refusal, there is none
 each-none : {X : Type 0} (all : List (Option X)) → first_of_all all ≡ None
     → All (λ o. o ≡ None) all
-each-none [] h = All-nil (λ o. o ≡ None)
 each-none (None ∷ all) h = All-cons (λ o. o ≡ None) None all refl (each-none all h)
-each-none (Some x ∷ all) h = absurd cc
+each-none all h = grind arith
 
 -- ---- the pairs of a join
 
@@ -127,50 +99,21 @@ meant-at : (columns : List FromColumn) (c : ColumnRef) (t : ColumnType)
     → (place_of (means c) columns < length (types_of columns))
     × (slice_index_or (types_of columns) (place_of (means c) columns) column.Text ≡ t)
 unfolding type_of
-meant-at columns c t e =
-    let k = subst (λ o. IsOfKind (types_of columns) (expr.Column (place_of (means c) columns))
-    (known_kind o)) e (column_is_of_kind c columns) in (k.0, k.2)
+meant-at columns c t e = grind (arith, IsOfKind, column_is_of_kind c columns)
 
 same-types : (a b : ColumnType) → same_type a b ≡ true → a ≡ b
-same-types column.Int64 column.Int64 e = refl
-same-types column.UInt64 column.UInt64 e = refl
-same-types column.Text column.Text e = refl
-same-types a b e = absurd cc
+same-types a b e = grind arith
 
 -- a pair of places in two lists of columns that have one type
 abbrev IsPair : List ColumnType → List ColumnType → (left right : ℕ) → Type 0
 IsPair ls rs left right = (left < length ls) × (right < length rs)
     × (slice_index_or ls left column.Text ≡ slice_index_or rs right column.Text)
 
-pair-fits : (left right : List FromColumn) (a b : ColumnRef) → joins left right a b ≡ true
-    → IsPair (types_of left) (types_of right) (place_of (means a) left) (place_of (means b) right)
-pair-fits left right a b e = go (meant_type left a) (meant_type right b) refl refl e
-  where
-    go : (s t : Option ColumnType) → meant_type left a ≡ s → meant_type right b ≡ t
-        → same_known_type s t ≡ true
-        → IsPair (types_of left) (types_of right) (place_of (means a) left)
-        (place_of (means b) right)
-    go (Some s) (Some t) f g e = search (arith, meant-at, same-types)
-    go None t f g e = absurd cc
-    go (Some s) None f g e = absurd cc
-
 -- a pair fits, whichever way it is written
 pair-is : (left right : List FromColumn) (p : NamePair) → is_join_pair left right p ≡ true
     → IsPair (types_of left) (types_of right) (pair_of left right p).left
     (pair_of left right p).right
-pair-is left right p h = go (joins left right p.left p.right) refl h
-  where
-    Fits : KeyPair → Type 0
-    Fits k = IsPair (types_of left) (types_of right) k.left k.right
-
-    placed : ColumnRef → ColumnRef → KeyPair
-    placed a b = record { left = place_of (means a) left; right = place_of (means b) right }
-
-    go : (b : Bool) → joins left right p.left p.right ≡ b
-        → (b || joins left right p.right p.left) ≡ true
-        → Fits (cond b (placed p.left p.right) (placed p.right p.left))
-    go true e h = pair-fits left right p.left p.right e
-    go false e h = pair-fits left right p.right p.left h
+pair-is left right p h = search (arith, meant-at, same-types)
 
 pairs-fit : (left right : List FromColumn) (pairs : List NamePair)
     → list_all (is_join_pair left right) pairs ≡ true
@@ -208,9 +151,7 @@ read-types q schemas tables are from from_is a b both = go a b both
   where
     one : (t : TableRef) (u : TableUse) → u ≡ use_of schemas t
         → types_of (table_columns schemas t) ≡ used_types tables u
-    one t u is =
-        ap (λ s. types_of (table_columns s t)) are ∙ types_of_table tables t
-        ∙ ap (λ s. used_types tables (use_of s t)) (sym are) ∙ ap (used_types tables) (sym is)
+    one t u is = grind (arith, types_of_table tables t)
 
     go : (a : Option Join) (b : Option CheckedJoin) → BothOrNone (IsCheckedJoin q schemas) a b
         → AreRead q schemas tables from a b
@@ -293,8 +234,7 @@ module _ (q : Query) (schemas : List Schema) (c : Checked) (none : refusal_of q 
       let t = read-types q schemas tables are c.from is.from q.join c.join is.join in
       record {
         typed = subst (λ types. IsTypedQuery types c) t.types query;
-        made = is.types ∙ made (is_grouped q) refl c.shape is.shape
-            ∙ ap (shape_types c.shape) t.types;
+        made = grind (arith, made, shape_types);
         keys = rw is.order (keys-within q.order (none_found is_no_name
             (λ (key : OrderKey). refuse.BadOrderKey key.name) q.order well-joined-ordered.1));
         pairs = t.pairs (holds-if (holds_pairs q schemas q.join) well-joined-ordered.0);

@@ -1,6 +1,5 @@
 -- The rows that the nodes of each kind pulled in a run of a query's plan are the kind's flow.
-use Rattle.plan_ends.proofs.Prelude.{Checked, ColumnType, Cond, Database, DraftNode, Grouped, HasCalls, IsPlanOf, IsTold, Kind, NodeForm, NodePort, Parts, Plain, Row, SelectPlan, Shape, SortKey, SortSpec, Spec, Stream, all_rows, body_nodes, by-forms, call_arguments, collect_node, columns_of, counted, filter_pulls, filtered_rows, flow, forms, gather_pulls, group_spec, grouped_rows, groups-selected, groups_tested, if_grouped, if_ordered, if_plain, join_pulls, kind-same, kind_of, length-map, none-of, of_kind, order_of, plan_nodes, plan_pulls, ports_of, pulled_rows, pulls, rows_joined, rows_of, rows_tested, rows_where, same_kind, selected_rows, shape_of, shape_pulls, sort_pulls, source_rows, source_table, sum_by-append, sum_by-cons, used_table, values_at}
-use Rattle.std.proofs.Common.{Bool, IfSome, List, None, Option, Some, [], ap, ap₂, arith, cond, false, length, length-append, map, refl, suc, sym, true, ℕ, ◌++◌, ◌+◌, ◌∙◌, ◌∷◌, ◌≡◌}
+use Rattle.plan_ends.proofs.Prelude.{Checked, ColumnType, Cond, Database, DraftNode, Grouped, HasCalls, IsPlanOf, IsTold, Kind, NodeForm, NodePort, Parts, Plain, Row, SelectPlan, Shape, SortKey, SortSpec, Stream, all_rows, body_nodes, by-forms, collect_node, counted, filter_pulls, filtered_rows, flow, forms, gather_pulls, groups-selected, groups_tested, if_grouped, if_ordered, if_plain, join_pulls, kind-same, kind_of, length-map, none-of, of_kind, order_of, plan_nodes, plan_pulls, ports_of, pulled_rows, rows_joined, rows_of, rows_tested, same_kind, selected_rows, shape_of, shape_pulls, sort_pulls, source_rows, source_table, sum_by-append, sum_by-cons, used_table, Bool, IfSome, List, None, Option, [], ap, ap₂, arith, cond, false, length, length-append, map, refl, suc, sym, true, ℕ, ◌++◌, ◌+◌, ◌∙◌, ◌∷◌, ◌≡◌}
 use Rattle.query_model.specs.declared.processor_spec.Kind.TheVariants as kind
 use Rattle.query_model.specs.declared.processor_spec.Spec.TheVariants as spec
 
@@ -40,13 +39,11 @@ module _ (k : Kind) (f : NodePort → Stream) where
 -- ---- what makes the output rows
 
 cond-sum : (b : Bool) (m n : ℕ) → cond b (m + n) 0 ≡ cond b m 0 + cond b n 0
-cond-sum true m n = refl
-cond-sum false m n = refl
+cond-sum b m n = grind arith
 
 tests : (k : Kind) (c : Option Cond) (l : List Row)
     → filter_pulls k c (length l) ≡ cond (same_kind kind.Filter k) (rows_tested c l) 0
-tests k None l = sym (none-of (same_kind kind.Filter k))
-tests k (Some c) l = refl
+tests k c l = grind (arith, none-of)
 
 module _ (k : Kind) (made : List ColumnType) (chunk_rows : ℕ) where
   -- the rows of the sorts, and of the merge behind them
@@ -56,14 +53,12 @@ module _ (k : Kind) (made : List ColumnType) (chunk_rows : ℕ) where
 
   gathers : (keys : List SortKey) (m : ℕ)
       → gather_pulls k (order_of made chunk_rows keys) m ≡ ordered keys m m
-  gathers [] m = search (arith, none-of)
-  gathers (key ∷ keys) m = refl
+  gathers keys m = grind (arith, none-of)
 
   -- one sort has all groups
   sorts : (keys : List SortKey) (m : ℕ)
       → sort_pulls k (order_of made chunk_rows keys) m ≡ ordered keys m 0
-  sorts [] m = search (arith, none-of)
-  sorts (key ∷ keys) m = omega (arith, none-of (same_kind kind.MergeSorted k))
+  sorts keys m = grind (arith, none-of)
 
 module _ (k : Kind) (types made : List ColumnType) (n chunk_rows : ℕ) (keys : List SortKey)
     (rows : List Row) where
@@ -83,25 +78,7 @@ module _ (k : Kind) (types made : List ColumnType) (n chunk_rows : ℕ) (keys : 
       → shape_pulls k (shape_of s types n) order rows ≡ shape_flow s
   shape-told (Plain items) calls = search (arith, length-map, none-of, cond-sum, gathers)
   shape-told (Grouped g) calls =
-      let arguments : Spec = spec.Expression (columns_of g.keys ++ call_arguments g.calls) in
-      let picks : Spec = spec.Expression (columns_of g.picks) in
-      let groups : List Row = grouped_rows g types rows in
-      let passed : List Row = rows_where g.having groups in
-      let partial : Spec = spec.PartialAggregate (group_spec g types n) in
-      let selected = ap (λ l. pulls k arguments (length rows) + (pulls k partial (length rows)
-      + (filter_pulls k g.having (length l) + (pulls k picks (length (rows_where g.having l))
-      + sort_pulls k order (length (rows_where g.having l))))))
-      (groups-selected g types n rows calls) in
-      let m : ℕ = length (map (values_at g.picks) passed) in
-      let out : length passed ≡ m = sym (length-map passed (values_at g.picks)) in
-      omega (
-        arith,
-        selected,
-        tests k g.having groups,
-        cond-sum (same_kind kind.Expression k) (length rows) m,
-        ap (pulls k picks) out,
-        ap (sort_pulls k order) out ∙ sorts k made chunk_rows keys m,
-      )
+      grind (arith, length-map, tests, cond-sum, sorts, groups-selected g types n rows calls)
 
 -- ---- plans
 
@@ -124,9 +101,8 @@ module _ (p : SelectPlan) (parts : Parts) (nodes : List DraftNode) (f : NodePort
       ≡ pulled_rows k 0 (body_nodes p) f + cond (same_kind kind.Collect k) (length rows) 0
   all-pulled k =
       let body : List DraftNode = body_nodes p in
-      let count = h.count in
       let place : 0 + length body ≡ last =
-      omega (arith, count, length-append body (collect_node ∷ [])) in
+      omega (arith, h.count, length-append body (collect_node ∷ [])) in
       let split = pulled-append k f 0 body (collect_node ∷ []) in
       let at = ap (λ n. pulled_rows k n (collect_node ∷ []) f) place in
       let one : length (rows ++ []) ≡ length rows = length-append rows [] ∙ omega arith in

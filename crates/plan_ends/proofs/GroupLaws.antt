@@ -1,8 +1,6 @@
 -- What a partial aggregate and a merge of groups keep is what they give.
-use Rattle.std.proofs.Common.{IsPermutation, List, refl, subst, sym, ◌++◌, ◌∙◌, ◌≡◌}
-use Rattle.plan_ends.proofs.Prelude.{GroupSpec, IsPermutation-refl, KeepsMade, Row, Spec, all_done, all_rows, chunk_rows, first_rows, merged_rows, partial_rows, partial_types, rows_of}
+use Rattle.plan_ends.proofs.Prelude.{arith, IsPermutation, List, refl, sym, ◌++◌, ◌∙◌, ◌≡◌, GroupSpec, IsPermutation-refl, KeepsMade, Row, Spec, all_done, all_rows, chunk_rows, first_rows, merged_rows, partial_rows, partial_types, rows_of, KindGives, in_stream}
 use Rattle.query_model.specs.declared.processor_spec.Spec.TheVariants as spec
-use Rattle.plan_ends.specs.Ended.{KindGives, in_stream}
 use Rattle.plan_ends.proofs.KindLaws.{at-ports, kept-rows, one-fits, one-output}
 use Rattle.plan_ends.proofs.ResizeLaws.{all-done, all-ports, at_ports}
 use Rattle.plan_ends.proofs.SortLaws.{all-fit-at, all-worked, gives-held}
@@ -20,9 +18,7 @@ partial-gives g files takes gives n p ins outs k =
     (whole, IsPermutation-refl whole) (λ e. (m.rows.gathering e).nothing_made)
     (λ e. let all = all-worked h m (λ i. e) 0 in (
       all.0,
-      subst (λ l. IsPermutation (partial_rows g (chunk_rows l))
-          ((chunk_rows (outs 0) ++ chunk_rows p.work.made) ++ p.work.unmade)) all.1
-          (m.rows.grouped e),
+      grind arith,
     ))
     (λ f. let end = m.over 0 f in (end.nothing_waits, end.all_made, end.noted))) (λ t e. e)) k
 
@@ -46,8 +42,6 @@ merged-gives g files takes gives n p ins outs k =
     let worked : first_rows 32 m.worked ≡ all_rows lists =
     (λ j. first_rows 32 (λ i. (all i).1 j)) ∙ sym rows in (
       all-done (in_stream p ins) (λ i. (all i).0) n 0 takes,
-      subst (λ l. IsPermutation (merged_rows g l)
-          ((chunk_rows (outs 0) ++ chunk_rows p.work.made) ++ p.work.unmade)) worked
-          (m.rows.grouped e),
+      grind arith,
     ))
     (λ f. let end = m.over 0 f in (end.nothing_waits, end.all_made, end.noted))) (λ t e. e)) k

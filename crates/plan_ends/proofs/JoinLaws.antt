@@ -1,8 +1,6 @@
 -- What a join keeps is what it gives.
-use Rattle.std.proofs.Common.{Bool, IsPermutation, List, [], ap, append_assoc, ap₂, arith, false, not, refl, subst, sym, true, ◌++◌, ◌<◌, ◌∙◌, ◌≡◌}
-use Rattle.plan_ends.proofs.Prelude.{BoxPicture, GivesJoined, IsPermutation-append_left, IsPermutation-refl, IsReadUp, JoinSpec, KeepsMade, Lists, Row, and_parts, append-nil, chunk_rows, joined_rows, joined_rows-append, kept_outputs, rows-append, unworked_at}
+use Rattle.plan_ends.proofs.Prelude.{Bool, IsPermutation, List, [], ap, append_assoc, arith, false, not, refl, subst, sym, true, ◌++◌, ◌<◌, ◌∙◌, ◌≡◌, BoxPicture, GivesJoined, IsPermutation-append_left, IsPermutation-refl, IsReadUp, JoinSpec, KeepsMade, Lists, Row, and_parts, append-nil, chunk_rows, joined_rows, joined_rows-append, kept_outputs, rows-append, unworked_at, IsKept, KindGives, in_stream, out_stream}
 use Rattle.query_model.specs.declared.processor_spec.Spec.TheVariants as spec
-use Rattle.plan_ends.specs.Ended.{IsKept, KindGives, in_stream, out_stream}
 use Rattle.plan_ends.proofs.KindLaws.{all-worked-at, at-ports, kept-rows, one-output, stays-open}
 use Rattle.plan_ends.proofs.SortLaws.{all-fit-at, front-none, read-up}
 
@@ -41,20 +39,14 @@ module _ (join : JoinSpec) (files : _) (p : BoxPicture) (ins outs : Lists)
       go false e = search (arith, none-pulled, front-none, IsPermutation-refl, input-done)
       go true e =
           let end : IsReadUp p 1 = read-up k 1 (omega arith) (refl, e) in
-          let read : chunk_rows (m.worked 1) ≡ right =
-          ap chunk_rows (sym (append-nil (m.worked 1))
-          ∙ ap (λ l. m.worked 1 ++ l) (sym end.all_worked) ∙ sym (m.ins_are 1)) in
+          let read : chunk_rows (m.worked 1) ≡ right = grind (arith, append-nil) in
           let done : List Row = chunk_rows (m.worked 0) in
           let more : List Row = joined_rows join.pairs others right in
-          let whole : joined_rows join.pairs (chunk_rows (ins 0)) right
-          ≡ joined_rows join.pairs done right ++ more =
-          ap (λ l. joined_rows join.pairs l right)
-          (ap chunk_rows (m.ins_are 0) ∙ rows-append (m.worked 0) (unworked_at p.work 0))
-          ∙ joined_rows-append join.pairs done others right in
+          let whole : joined_rows join.pairs (chunk_rows (ins 0)) right ≡ joined_rows join.pairs
+          done right ++ more = grind (arith, rows-append, joined_rows-append) in
           let made : List Row = chunk_rows p.work.made in
           let grouped : ((out ++ made) ++ p.work.unmade) ++ more ≡ out ++ (waits ++ more) =
-          ap (λ l. l ++ more) (append_assoc out made p.work.unmade)
-          ∙ append_assoc out waits more in
+          grind (arith, append_assoc) in
           record {
             held = λ some. ap not end.not_closed;
             rest = waits ++ more;
@@ -63,12 +55,7 @@ module _ (join : JoinSpec) (files : _) (p : BoxPicture) (ins outs : Lists)
                 (IsPermutation-append_left more _ _
                 (subst (λ r. IsPermutation (joined_rows join.pairs done r)
                 ((out ++ made) ++ p.work.unmade)) read (m.rows.joined e))));
-            nothing_left = λ fin.
-                let over = m.over 0 (and_parts _ _ fin).0 in
-                ap₂ (λ a b. a ++ b)
-                (ap₂ (λ a b. a ++ b) (ap chunk_rows over.nothing_waits) over.all_made)
-                (ap (λ l. joined_rows join.pairs (chunk_rows l) right)
-                (all-worked-at p.work 0 over.all_worked));
+            nothing_left = grind (arith, and_parts, all-worked-at);
             left_done = input-done 0;
             right_done = input-done 1;
           }

@@ -1,20 +1,13 @@
 -- What a kind keeps is what it gives, a kind at a time.
-use Rattle.std.proofs.Common.{Bool, List, Some, [], ap, append_assoc, arith, false, filter, get_or, inl, inr, is_none, length, map, not, refl, subst, suc, sym, true, zero, ℕ, ◌++◌, ◌+◌, ◌<◌, ◌∙◌, ◌∷◌, ◌≡◌, ◌≤◌, ◌⊎◌}
-use Rattle.plan_ends.proofs.Prelude.{All, All-from_recursion, All-head, All-nil, All-tail, AllByRecursion, AllFit, Any, ArePartBytes, BoxPicture, ColumnType, Cond, Expr, Files, FitFrom, FitsInput, Gives, GivesFront, GivesPart, GivesThrough, HasReadEnough, IsItem, IsPulled, IsTypedCond, Keeps, KeepsMade, KeepsPart, KeepsRows, KeepsThrough, Lists, MakesType, MakesTypes, NodePort, PartSpec, Row, Span, Spec, Table, WorkState, and_parts, append-nil, both_ways, cases_eq, cases_lt, chunk_rows, cond_both, false_from_ne_true, file_bytes, flat_map-append, get_or-map, holds, item_row, kept_input, kept_output, kept_outputs, length-map, limited, limited-extends, no-rest, no_table, not-true, not_from_false, ports_of, pulled_types, recursion_from_All, type_of, unworked_at}
+use Rattle.plan_ends.proofs.Prelude.{Bool, List, Some, [], ap, append_assoc, arith, false, filter, get_or, inl, inr, length, map, refl, subst, suc, sym, true, zero, ℕ, ◌++◌, ◌+◌, ◌<◌, ◌∙◌, ◌∷◌, ◌≡◌, ◌≤◌, ◌⊎◌, All, All-head, All-nil, All-tail, AllByRecursion, AllFit, Any, BoxPicture, ColumnType, Cond, Expr, Files, FitFrom, FitsInput, Gives, GivesFront, GivesPart, GivesThrough, HasReadEnough, IsItem, IsPulled, IsTypedCond, Keeps, KeepsMade, KeepsPart, KeepsRows, KeepsThrough, Lists, MakesType, MakesTypes, NodePort, PartSpec, Row, Span, Spec, Table, WorkState, and_parts, append-nil, both_ways, cases_eq, cases_lt, chunk_rows, cond_both, false_from_ne_true, flat_map-append, get_or-map, holds, item_row, kept_output, kept_outputs, length-map, limited, limited-extends, no-rest, no_table, not-true, not_from_false, numbers, ports_of, pulled_types, recursion_from_All, type_of, unworked_at, BoxGives, part_of, parts_of, chunk_types, in_stream, out_stream, IsKept, KindGives}
 use Rattle.query_model.specs.declared.processor_spec.Spec.TheVariants as spec
-use Rattle.plan_ends.specs.Ended.{BoxGives, part_in, parts_of, chunk_types, in_stream, out_stream, IsKept, KindGives}
 
 -- a box that finished an output which nobody closed has closed no input, but for a limit that has
 -- read enough
 open-or-enough : (p : BoxPicture) (ins outs : Lists) (i o : ℕ) → Keeps p ins outs
     → o < kept_outputs p → (out_stream p outs o).done ≡ true
     → ((in_stream p ins i).done ≡ true) ⊎ HasReadEnough p.spec ins
-open-or-enough p ins outs i o k lt done = go (kept_input p i).fin_in refl
-  where
-    go : (b : Bool) → (kept_input p i).fin_in ≡ b
-        → ((in_stream p ins i).done ≡ true) ⊎ HasReadEnough p.spec ins
-    go false e = inl (ap not e)
-    go true e = search (arith, both_ways, not-true, and_parts)
+open-or-enough p ins outs i o k lt done = grind (arith, both_ways, not-true, and_parts)
 
 -- the same of a kind that is no limit
 pub stays-open : (p : BoxPicture) (ins outs : Lists) (i o : ℕ) → Keeps p ins outs
@@ -33,11 +26,7 @@ front-of rows left p outs e over = search (arith, and_parts, append-nil)
 through-gives : (make : List Row → List Row) (p : BoxPicture) (ins outs : Lists) → make [] ≡ []
     → Keeps p ins outs → KeepsThrough make p ins outs → (HasReadEnough p.spec ins → ⊥)
     → 0 < kept_outputs p → GivesThrough make (in_stream p ins 0) (out_stream p outs 0)
-through-gives make p ins outs none k t unlimited some = record {
-  front = front-of (make (chunk_rows (ins 0))) (make (chunk_rows p.work.unworked)) p outs t.rows
-      (λ f. (t.nothing_waits f, ap (λ l. make (chunk_rows l)) (t.all_worked f) ∙ none));
-  input_done = λ done. stays-open p ins outs 0 0 k unlimited some done;
-}
+through-gives make p ins outs none k t unlimited some = grind (arith, front-of, stays-open)
 
 -- ---- what was pulled
 
@@ -45,8 +34,7 @@ through-gives make p ins outs none k t unlimited some = record {
 pub types-fit : (P : List ColumnType → Type 0) (chunks : List Table)
     → AllByRecursion P (chunk_types chunks) → All (λ (t : Table). P t.types) chunks
 types-fit P [] h = All-nil (λ (t : Table). P t.types)
-types-fit P (c ∷ chunks) h = All-from_recursion (λ (t : Table). P t.types) (c ∷ chunks)
-    (h.0, recursion_from_All (λ (t : Table). P t.types) chunks (types-fit P chunks h.1))
+types-fit P (c ∷ chunks) h = grind (arith, recursion_from_All, types-fit P chunks h.1)
 
 -- each chunk fits a kind of one input that takes the same at each
 pub one-fits : (s : Spec) (P : List ColumnType → Type 0) (ins : Lists)
@@ -58,19 +46,16 @@ one-fits s P ins same past h (suc i) = search (arith, All-nil)
 
 any-front : {X : Type 0} (P : X → Type 0) (xs ys : List X) (k : ℕ) (y : X) → k < length xs
     → get_or xs k y ≡ y → P y → Any P (xs ++ ys)
-any-front P [] ys k y lt is h = absurd (omega (arith, lt))
-any-front P (x ∷ xs) ys zero y lt is h = (0, y, omega arith, is, h)
 any-front P (x ∷ xs) ys (suc k) y lt is h =
     let more = any-front P xs ys k y (omega (arith, lt)) is h in
-    let within = more.2 in
-    (suc more.0, more.1, omega (arith, within), more.3, more.4)
+    (suc more.0, more.1, omega (arith, more.2), more.3, more.4)
+any-front P xs ys k y lt is h = grind arith
 
 any-behind : {X : Type 0} (P : X → Type 0) (xs ys : List X) → Any P ys → Any P (xs ++ ys)
 any-behind P [] ys h = h
 any-behind P (x ∷ xs) ys h =
     let more = any-behind P xs ys h in
-    let within = more.2 in
-    (suc more.0, more.1, omega (arith, within), more.3, more.4)
+    (suc more.0, more.1, omega (arith, more.2), more.3, more.4)
 
 -- a chunk at one of so many inputs has these types
 among-pulled : (Q : List ColumnType → Type 0) (p : BoxPicture) (ins : Lists) (n i m input k : ℕ)
@@ -98,9 +83,8 @@ is-among Q p ins n takes types past w q = elim (cases_lt w.input takes) [
   | inl lt ↦ among-pulled Q p ins n 0 takes w.input w.place (omega arith) (omega (arith, lt))
       w.in_range (subst Q (sym w.is) q)
   | inr le ↦
-      let some = w.in_range in
       let none = ap (λ (l : List Table). length l) (past w.input le) in
-      absurd (omega (arith, some, none))
+      absurd (omega (arith, w.in_range, none))
 ]
 
 -- ---- kinds
@@ -125,8 +109,7 @@ made-typed {s} {ins = ins} {outs} k from o makes =
 -- what is kept of a kind, where each chunk that was pulled fits
 pub kept-rows : {s : Spec} {files : Files} {takes gives : ℕ} {p : BoxPicture} {ins outs : Lists}
     → IsKept s files takes gives p ins outs → AllFit (Some s) ins → KeepsRows (Some s) p ins outs
-kept-rows {p = p} {ins} {outs} k = subst (λ z. AllFit z ins → KeepsRows z p ins outs) k.loaded
-    k.keeps.rows
+kept-rows {p = p} {ins} {outs} k = grind arith
 
 -- a kind of one output, by what it gives and the types that it makes
 pub one-output : {s : Spec} {files : Files} {takes : ℕ} (n : ℕ) {p : BoxPicture} {ins outs : Lists}
@@ -194,35 +177,29 @@ part-gives part files takes gives n p ins outs k =
     keeps h = kept-rows h (λ i d x lt. tt)
 
     rows : IsKept (spec.Csv part) files 0 1 p ins outs → (b : Bool) → p.work.fetched ≡ b
-        → GivesPart (parts_of files part) (out_stream p outs 0)
+        → GivesPart (part_of files part) (out_stream p outs 0)
     rows h false f =
         let nothing = (keeps h).before f in
-        let never : (kept_output p 0).fin_out ≡ true
-        → ⊥ = (λ t. both_ways p.work.fetched f ((keeps h).finished t).fetched) in
+        let never : (kept_output p 0).fin_out ≡ true → ⊥ = grind (arith, both_ways, keeps) in
         record {
           front = record {
-            rest = (parts_of files part).rows;
-            is = ap (λ l. l ++ (parts_of files part).rows) nothing.nothing_out;
+            rest = (part_of files part).rows;
+            is = ap (λ l. l ++ (part_of files part).rows) nothing.nothing_out;
             all = λ done. absurd (never (and_parts _ _ done).0);
           };
           valid = λ done. absurd (never (and_parts _ _ done).0);
         }
-    rows h true f =
-        let r = (keeps h).fetched f in
-        let bytes : file_bytes files part.path ≡ Some r.bytes =
-        subst (λ o. ArePartBytes o part.path r.bytes) (h.told part refl) r.are in
-        let here : parts_of files part ≡ part_in part (Some r.bytes) = ap (part_in part) bytes in
-        subst (λ z. GivesPart z (out_stream p outs 0)) (sym here) (record {
-          front = front-of (part_in part (Some r.bytes)).rows p.work.unmade p outs r.rows
-              (λ f. let end = (keeps h).finished f in (end.nothing_waits, end.all_made));
-          valid = λ done.
-              ap is_none (sym r.bad ∙ ((keeps h).finished (and_parts _ _ done).0).valid);
-        })
+    rows h true f = grind (arith, keeps, front-of, and_parts)
 
 -- Numbers count up.
 pub numbers-gives : (count rows : ℕ) → KindGives (spec.Numbers count rows)
 numbers-gives count rows files takes gives n p ins outs k =
-    search (arith, at-ports, kept-rows, one-output, front-of, append_assoc)
+    at-ports n 0 1 k.ports.0 k.ports.1
+    (λ h.
+    let m = kept-rows h (λ i d x lt. tt) in
+    one-output n h (λ fit. front-of (numbers count).rows p.work.unmade p outs
+    (sym (append_assoc (chunk_rows (outs 0)) (chunk_rows p.work.made) p.work.unmade) ∙ m.rows)
+    (λ f. let end = m.over 0 f in (end.nothing_waits, end.all_made))) (λ t e. e)) k
 
 -- where no chunk is unworked, none of any input is
 pub all-worked-at : (w : WorkState) (i : ℕ) → w.unworked ≡ [] → unworked_at w i ≡ []
@@ -237,9 +214,7 @@ limit-front span p ins outs m =
     let done : List Row = chunk_rows (m.worked 0) in
     let others : List Row = chunk_rows (unworked_at p.work 0) in
     let more = limited-extends span done others in
-    let all : done ++ others ≡ chunk_rows (ins 0) =
-    sym (flat_map-append (λ (t : Table). t.rows) (m.worked 0) (unworked_at p.work 0))
-    ∙ ap chunk_rows (sym (m.ins_are 0)) in
+    let all : done ++ others ≡ chunk_rows (ins 0) = grind (arith, flat_map-append) in
     front-of (limited (Some span) (chunk_rows (ins 0))) more.0 p outs
     (sym (append_assoc (chunk_rows (outs 0)) (chunk_rows p.work.made) more.0)
     ∙ ap (λ l. l ++ more.0) m.rows.made_are
@@ -249,9 +224,7 @@ limit-front span p ins outs m =
     let none : others ≡ [] =
     ap chunk_rows (all-worked-at p.work 0 end.all_worked) in (
       end.nothing_waits,
-      no-rest (limited (Some span) done) more.0
-          (limited (Some span) (done ++ others)) more.1
-          (ap (limited (Some span)) (sym (append-nil done) ∙ ap (λ l. done ++ l) (sym none))),
+      grind (arith, no-rest, append-nil),
     ))
 
 -- A limit gives the rows of its span.
@@ -262,10 +235,7 @@ limit-gives span files takes gives n p ins outs k =
     let some : 0 < kept_outputs p = let e = h.outputs in omega (arith, e) in
     one-output n h (λ fit. record {
       front = limit-front span p ins outs (kept-rows h (λ i d x lt. tt));
-      input_done = λ done. elim (open-or-enough p ins outs 0 0 h.keeps some done) [
-        | inl open' ↦ inl open'
-        | inr enough ↦ inr (subst (λ z. HasReadEnough z ins) h.loaded enough)
-      ];
+      input_done = grind (arith, open-or-enough);
     }) (λ t w. is-among (λ u. t ≡ u) p ins n 1 t h.nothing_past w refl)) k
 
 -- A collector gives nothing.

@@ -12,6 +12,8 @@ pub mod Parts
 pub mod Needs
 pub mod Queries
 pub mod ResizeLaws
+pub mod ListLaws
+pub mod GrownLists
 pub mod SortLaws
 pub mod GroupLaws
 pub mod JoinLaws

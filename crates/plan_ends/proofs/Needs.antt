@@ -1,6 +1,6 @@
 -- How many boxes a query needs, by its tables and by which clauses it has.
-use Rattle.std.proofs.Common.{Bool, List, None, Option, Some, [], ap, ap₂, arith, cond, false, is_some, length, refl, sum_by, true, ℕ, ◌*◌, ◌+◌, ◌∷◌, ◌≡◌, ◌≤◌}
-use Rattle.plan_ends.proofs.Prelude.{AllByRecursion, Checked, CheckedJoin, Cond, Declared, Grouped, Kind, Numbers, PartsDecl, Plain, Shape, SortKey, Span, TableDecl, TableUse, UsesNoList, by-paths, crowded, few-paths, few-uses, first_crowded, having_need, if_filtered, if_grouped, if_joined, if_limited, if_ordered, if_plain, if_unordered, join_use, list_sources_need, need, part_sources_need, sorts_need, sum_by-cons, table_need, used_tables}
+use Rattle.std.proofs.lemmas.Grind.{common_steps}
+use Rattle.plan_ends.proofs.Prelude.{Bool, List, None, Option, [], arith, cond, false, is_some, length, sum_by, true, ℕ, ◌*◌, ◌+◌, ◌∷◌, ◌≡◌, ◌≤◌, Checked, CheckedJoin, Cond, Grouped, Kind, Numbers, PartsDecl, Plain, Shape, SortKey, Span, TableDecl, TableUse, crowded, few-paths, few-uses, first_crowded, having_need, if_filtered, if_grouped, if_joined, if_limited, if_ordered, if_plain, join_use, list_sources_need, need, part_sources_need, sorts_need, sum_by-cons, table_need, used_tables}
 use Rattle.query_model.specs.declared.processor_spec.Kind.TheVariants as kind
 
 -- whether there are any
@@ -47,83 +47,55 @@ clause_need tables n us j f g h o l kind.Collect = 1
 
 module _ (tables : List TableDecl) (lanes : ℕ) (q : Checked) where
   filters : (o : Option Cond) (n : ℕ) → if_filtered o n ≡ cond (is_some o) n 0
-  filters None n = refl
-  filters (Some c) n = refl
+  filters o n = grind arith
 
   limits : (o : Option Span) → if_limited o 1 ≡ cond (is_some o) 1 0
-  limits None = refl
-  limits (Some span) = refl
+  limits o = grind arith
 
   tests : (s : Shape) → having_need s 1 ≡ cond (are_tested s) 1 0
-  tests (Plain items) = refl
-  tests (Grouped g) = filters g.having 1
+  tests s = grind (arith, filters)
 
   groups : (s : Shape) (n : ℕ) → if_grouped s n ≡ cond (are_grouped s) n 0
-  groups (Plain items) n = refl
-  groups (Grouped g) n = refl
+  groups s n = grind arith
 
   sorts : (s : Shape) (keys : List SortKey)
       → if_ordered keys (sorts_need s lanes)
       ≡ cond (are_some keys) (cond (are_grouped s) 1 lanes) 0
-  sorts (Plain items) [] = refl
-  sorts (Grouped g) [] = refl
-  sorts s keys = refl
+  sorts s keys = grind arith
 
   merges : (s : Shape) (keys : List SortKey)
       → if_ordered keys (if_plain s 1) ≡ cond (are_some keys) (cond (are_grouped s) 0 1) 0
-  merges (Plain items) [] = refl
-  merges (Grouped g) [] = refl
-  merges s keys = refl
-
-  resizes : (s : Shape) (keys : List SortKey)
-      → if_plain s (if_unordered keys 1) ≡ cond (are_grouped s) 0 (cond (are_some keys) 0 1)
-  resizes (Plain items) [] = refl
-  resizes s keys = refl
+  merges s keys = grind arith
 
   joins : (o : Option CheckedJoin) (m n : ℕ)
       → if_joined o m n ≡ cond (are_two (q.from ∷ join_use o)) m n
-  joins None m n = refl
-  joins (Some j) m n = refl
+  joins o m n = grind arith
 
   pub need_by_clauses : (k : Kind)
       → need q tables lanes k
       ≡ clause_need tables lanes (used_tables q) (are_two (used_tables q)) (is_some q.filter)
       (are_grouped q.shape) (are_tested q.shape) (are_some q.order) (is_some q.limit) k
-  need_by_clauses kind.Filter = ap₂ (λ a b. a + b) (filters q.filter lanes) (tests q.shape)
-  need_by_clauses kind.Expression = ap (λ n. lanes + n) (groups q.shape 1)
-  need_by_clauses kind.Resize = search (arith, joins, resizes)
-  need_by_clauses kind.PartialAggregate = groups q.shape lanes
-  need_by_clauses kind.MergeAggregate = groups q.shape 1
-  need_by_clauses kind.HashJoin = joins q.join 1 0
-  need_by_clauses kind.Sort = sorts q.shape q.order
-  need_by_clauses kind.MergeSorted = merges q.shape q.order
-  need_by_clauses kind.Limit = limits q.limit
-  need_by_clauses k = refl
+  need_by_clauses k = grind (arith, filters, tests, groups, joins, sorts, merges, limits)
 
--- how many sources the used tables need: parts, where none is a list, and numbers
+-- how many sources the used tables need: parts, lists of them, and numbers
 pub record AreFewSources (tables : List TableDecl) (us : List TableUse) : Type 0 where
   pub parts : uses_need part_sources_need 0 tables us ≤ 32 * length us
-  pub lists : uses_need list_sources_need 0 tables us ≡ 0
+  pub lists : uses_need list_sources_need 0 tables us ≤ length us
   pub numbers : uses_need (λ decl. 0) 1 tables us ≤ length us
 
-source_bounds : (tables : List TableDecl) (u : TableUse) → UsesNoList tables u
-    → crowded tables u ≡ None → (table_need part_sources_need 0 tables u ≤ 32)
-    × (table_need list_sources_need 0 tables u ≡ 0) × (table_need (λ decl. 0) 1 tables u ≤ 1)
-source_bounds tables (Numbers n) h few = (omega arith, refl, omega arith)
-source_bounds tables (Declared t) h few = search (arith, by-paths, few-paths)
+source_bounds : (tables : List TableDecl) (u : TableUse) → crowded tables u ≡ None
+    → (table_need part_sources_need 0 tables u ≤ 32)
+    × (table_need list_sources_need 0 tables u ≤ 1) × (table_need (λ decl. 0) 1 tables u ≤ 1)
+source_bounds tables u few = grind (arith, few-paths)
 
 pub few_sources : (tables : List TableDecl) (us : List TableUse)
-    → AllByRecursion (UsesNoList tables) us → first_crowded tables us ≡ None
-    → AreFewSources tables us
-few_sources tables [] h few = search (arith)
-few_sources tables (u ∷ us) h few =
-    let here = source_bounds tables u h.0 (few-uses tables u us few).0 in
-    let rest = few_sources tables us h.1 (few-uses tables u us few).1 in
-    let parts = sum_by-cons (table_need part_sources_need 0 tables) u us in
-    let lists = sum_by-cons (table_need list_sources_need 0 tables) u us in
-    let numbers = sum_by-cons (table_need (λ decl. 0) 1 tables) u us in
-    record {
-      parts = omega (arith, here.0, rest.parts, parts);
-      lists = omega (arith, here.1, rest.lists, lists);
-      numbers = omega (arith, here.2, rest.numbers, numbers);
-    }
+    → first_crowded tables us ≡ None → AreFewSources tables us
+few_sources tables [] few = search (arith)
+few_sources tables (u ∷ us) few = grind (
+  arith,
+  common_steps,
+  source_bounds,
+  few-uses,
+  sum_by-cons,
+  few_sources tables us (few-uses tables u us few).1,
+)

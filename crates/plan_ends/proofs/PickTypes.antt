@@ -1,8 +1,7 @@
 -- The columns that a grouped query picks have the types of its items.
-use Rattle.std.proofs.Common.{Bool, List, [], ap, ap₂, append_assoc, arith, cond, false, filter, flat_map, length, length-append, map, nat_lt, refl, suc, sym, true, ℕ, ◌&&◌, ◌++◌, ◌+◌, ◌<◌, ◌∙◌, ◌∷◌, ◌||◌, ◌≡◌}
-use Rattle.plan_ends.proofs.Prelude.{AggCall, All, All-front, All-behind, All-head, All-tail, ArePicks, CanBePicked, ColumnRef, ColumnType, EachWith, ExprOf, FromColumn, HasItsArgument, IsOfKind, IsPick, IsPlacedCall, IsTypeOf, Item, ItemKind, agg_kind, both, call_is_of_kind, call_type, every_column, expr_columns, expr_is_of_kind, expr_kind, get_or_at, is_key_of, is_typed, item_calls, item_columns, item_kind, key_place, known_type, list_all, list_any, meant, nat_tests, place_in, place_of, same_column, type_of, types_of}
+use Rattle.plan_ends.proofs.Prelude.{Bool, List, [], ap₂, append_assoc, arith, cond, false, filter, flat_map, length, length-append, map, nat_lt, refl, sym, true, ℕ, ◌&&◌, ◌++◌, ◌+◌, ◌<◌, ◌∙◌, ◌∷◌, ◌||◌, ◌≡◌, AggCall, All, All-front, All-behind, All-head, All-tail, ArePicks, CanBePicked, ColumnRef, ColumnType, EachWith, ExprOf, FromColumn, HasItsArgument, IsOfKind, IsPick, IsPlacedCall, IsTypeOf, Item, ItemKind, agg_kind, both, call_is_of_kind, call_type, every_column, expr_columns, expr_is_of_kind, expr_kind, get_or_at, is_key_of, is_typed, item_calls, item_columns, item_kind, key_place, known_type, list_all, list_any, meant, nat_tests, place_in, place_of, same_column, type_of, types_of, typed, unfit}
 use Rattle.chunk_data.specs.declared.typed_value.ColumnType.TheVariants as column
-use Rattle.query_model.specs.Refusals.{Kind, plain, typed, unfit}
+use Rattle.query_model.specs.Refusals.{Kind, plain}
 use Rattle.query_model.specs.declared.query.ExprOf.TheVariants as expr
 use Rattle.query_model.specs.declared.query.ItemKind.TheVariants as kind
 use Rattle.plan_ends.proofs.ShapeTypes.{type_at}
@@ -12,38 +11,14 @@ use Rattle.plan_ends.proofs.ShapeTypes.{type_at}
 some-both : {A : Type 0} (f g : A → Bool) (xs : List A) → list_any (λ x. f x && g x) xs ≡ true
     → (0 < length (filter f xs)) × (0 < length (filter g xs))
 some-both f g [] h = absurd cc
-some-both {A} f g (x ∷ xs) h = go (f x) (g x) h (some-both f g xs)
-  where
-    go : (a b : Bool) → ((a && b) || list_any (λ x. f x && g x) xs) ≡ true
-        → (list_any (λ x. f x && g x) xs ≡ true
-        → (0 < length (filter f xs)) × (0 < length (filter g xs)))
-        → (0 < length (cond a (x ∷ filter f xs) (filter f xs)))
-        × (0 < length (cond b (x ∷ filter g xs) (filter g xs)))
-    go true true h more = (omega arith, omega arith)
-    go true false h more = (omega arith, (more h).1)
-    go false true h more = ((more h).0, omega arith)
-    go false false h more = more h
-
-not-two : (n : ℕ) → 0 < n → nat_lt 1 (suc n) ≡ false → ⊥
-not-two n some h = grind (arith, nat_tests)
+some-both {A} f g (x ∷ xs) h = grind (arith, some-both f g xs)
 
 -- two tests that one passes, and no two pass the one or the other, are passed at one place
 one-place : {A : Type 0} (f g : A → Bool) (xs : List A) → list_any (λ x. f x && g x) xs ≡ true
     → nat_lt 1 (length (filter f xs)) ≡ false → nat_lt 1 (length (filter g xs)) ≡ false
     → place_of f xs ≡ place_of g xs
 one-place f g [] h one other = absurd cc
-one-place {A} f g (x ∷ xs) h one other = go (f x) (g x) h one other (one-place f g xs)
-  where
-    go : (a b : Bool) → ((a && b) || list_any (λ x. f x && g x) xs) ≡ true
-        → nat_lt 1 (length (cond a (x ∷ filter f xs) (filter f xs))) ≡ false
-        → nat_lt 1 (length (cond b (x ∷ filter g xs) (filter g xs))) ≡ false
-        → (list_any (λ x. f x && g x) xs ≡ true → nat_lt 1 (length (filter f xs)) ≡ false
-        → nat_lt 1 (length (filter g xs)) ≡ false → place_of f xs ≡ place_of g xs)
-        → cond a 0 (place_of f xs + 1) ≡ cond b 0 (place_of g xs + 1)
-    go true true h one other more = refl
-    go true false h one other more = search (arith, not-two, some-both)
-    go false true h one other more = search (arith, not-two, some-both)
-    go false false h one other more = ap (λ n. n + 1) (more h one other)
+one-place {A} f g (x ∷ xs) h one other = grind (arith, some-both, nat_tests, one-place f g xs)
 
 -- a name that means one column
 abbrev pub MeansOne : List FromColumn → ColumnRef → Type 0
@@ -124,9 +99,6 @@ module _ (columns : List FromColumn) (place : ColumnRef → ℕ) (is_key : Colum
       → list_all (λ (i : Item). is_typed (item_kind columns i.what)) items ≡ true
       → ArePicks place k items picks → kind_types items ≡ map (type_at row) picks
   unfolding expr_columns
-  picks-types front k [] [] placed n e calls has one can t are = refl
-  picks-types front k [] (p ∷ picks) placed n e calls has one can t are = absurd are
-  picks-types front k (i ∷ items) [] placed n e calls has one can t are = absurd are
   picks-types front k (i ∷ items) (p ∷ picks) placed n e calls has one can t are =
       let each = both (is_typed (item_kind columns i.what)) _ t in
       let P : Item → Type 0 = (λ (i : Item). CanBePicked is_key i.what) in
@@ -165,3 +137,4 @@ module _ (columns : List FromColumn) (place : ColumnRef → ℕ) (is_key : Colum
           (let l = length-append front (type ∷ []) in omega (arith, l, n))
           (e ∙ sym (append_assoc front (type ∷ []) (calls_types placed))) calls.1
           (All-tail HasItsArgument call _ has) are)
+  picks-types front k items picks placed n e calls has one can t are = grind arith

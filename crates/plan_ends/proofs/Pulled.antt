@@ -1,7 +1,5 @@
 -- The rows that boxes count are those that were pulled at their inputs.
-use Rattle.std.proofs.Common.{Bool, List, [], arith, cond, false, get_or, inl, inr, length, length-append, map, refl, suc, true, zero, ℕ, ◌+◌, ◌<◌, ◌∷◌, ◌≡◌, ◌⊎◌}
-use Rattle.plan_ends.proofs.Prelude.{BoxPicture, DraftNode, Files, Kind, Lists, NodePort, Spec, Stream, all_rows, box_at, first_rows, is_of, kind_of, last_count, ports_of, pulled_rows, rows_of, same_kind, total_rows}
-use Rattle.plan_ends.specs.Ended.{HasFullCount, HasPulled, IsKept, in_stream, pulled_since}
+use Rattle.plan_ends.proofs.Prelude.{Bool, List, [], ap, arith, cond, false, get_or, inl, inr, length, length-append, map, refl, suc, true, zero, ℕ, ◌+◌, ◌<◌, ◌∙◌, ◌∷◌, ◌≡◌, ◌≤◌, ◌⊎◌, BoxPicture, DraftNode, Files, Kind, Lists, NodePort, Spec, Stream, all_rows, box_at, first_rows, is_of, kind_of, ports_of, pulled_rows, rows_of, same_kind, total_rows, HasFullCount, HasPulled, IsKept, in_stream, pulled_since}
 use Rattle.plan_ends.proofs.ResizeLaws.{all-ports, at_ports}
 
 -- the rows of the first lists, counted
@@ -15,22 +13,30 @@ pub kept-counted : (s : Spec) (files : Files) (takes gives : ℕ) (p : BoxPictur
     → HasPulled p (length (all_rows (rows_of (at_ports (in_stream p ins) n 0 takes))))
 kept-counted s files takes gives p ins outs k n = search (arith, total-first, all-ports)
 
--- Where each box counts what its node pulled, the boxes of a kind pulled what its nodes did, or one
--- has a full count.
+none-since : (k : Kind) (boxes : List BoxPicture)
+    → ((i : ℕ) → i < length boxes → is_of k (box_at boxes i) ≡ false) → pulled_since k boxes ≡ 0
+unfolding box_at
+none-since k [] other = refl
+none-since k (p ∷ boxes) other =
+    let here = ap (λ c. let n : ℕ = cond c p.notes.pulled 0 in n) (other 0 (omega arith)) in
+    let rest = none-since k boxes (λ i lt. other (suc i) (omega (arith, lt))) in
+    omega (arith, here, rest)
+
+-- Where each box of the kind is a node's and counts what that pulled, these boxes pulled what their
+-- nodes did, or one has a full count.
 pub since-pulled : (k : Kind) (f : NodePort → Stream) (n : ℕ) (nodes : List DraftNode)
-    (boxes : List BoxPicture) → length boxes ≡ length nodes
+    (boxes : List BoxPicture) → length nodes ≤ length boxes
+    → ((i : ℕ) → length nodes ≤ i → i < length boxes → is_of k (box_at boxes i) ≡ false)
     → ((i : ℕ) (z : DraftNode) → i < length nodes → get_or nodes i z ≡ z
-    → ((box_at boxes i).kind ≡ kind_of z.spec)
-    × HasPulled (box_at boxes i)
-    (length (all_rows (rows_of (map f (ports_of (n + i) 0 z.takes))))))
+    → ((box_at boxes i).kind ≡ kind_of z.spec) × (same_kind (kind_of z.spec) k ≡ true
+    → HasPulled (box_at boxes i)
+    (length (all_rows (rows_of (map f (ports_of (n + i) 0 z.takes)))))))
     → (pulled_since k boxes ≡ pulled_rows k n nodes f) ⊎ HasFullCount k boxes
 unfolding box_at
-since-pulled k f n [] [] e each = inl refl
-since-pulled k f n [] (p ∷ boxes) e each = absurd (omega (arith, e))
-since-pulled k f n (z ∷ nodes) [] e each = absurd (omega (arith, e))
-since-pulled k f n (z ∷ nodes) (p ∷ boxes) e each =
-    go (each 0 z (omega arith) refl).1
-    (since-pulled k f (suc n) nodes boxes (omega (arith, e)) (λ i y lt is.
+since-pulled k f n (z ∷ nodes) (p ∷ boxes) e other each =
+    go (same_kind (kind_of z.spec) k) refl (each 0 z (omega arith) refl).1
+    (since-pulled k f (suc n) nodes boxes (omega (arith, e))
+    (λ i le lt. other (suc i) (omega (arith, le)) (omega (arith, lt))) (λ i y lt is.
     let next : n + suc i ≡ suc n + i = omega arith in
     let there = each (suc i) y (omega (arith, lt)) is in (
       there.0,
@@ -51,18 +57,11 @@ since-pulled k f n (z ∷ nodes) (p ∷ boxes) e each =
       full = there.full;
     }
 
-    full_here : (b : Bool) → is_of k p ≡ b → p.pulled ≡ last_count
-        → pulled_since k boxes ≡ pulled_rows k (suc n) nodes f
-        → (cond b p.notes.pulled 0 + pulled_since k boxes
-        ≡ cond b (rows_at n) 0 + pulled_rows k (suc n) nodes f) ⊎ HasFullCount k (p ∷ boxes)
-    full_here true is full rest = search (arith)
-    full_here false is full rest = inl (omega (arith, rest))
-
-    go : HasPulled p (rows_at (n + 0))
+    go : (b : Bool) → same_kind (kind_of z.spec) k ≡ b → (b ≡ true → HasPulled p (rows_at (n + 0)))
         → (pulled_since k boxes ≡ pulled_rows k (suc n) nodes f) ⊎ HasFullCount k boxes
         → (cond (is_of k p) p.notes.pulled 0 + pulled_since k boxes
         ≡ cond (same_kind (kind_of z.spec) k) (rows_at n) 0 + pulled_rows k (suc n) nodes f)
         ⊎ HasFullCount k (p ∷ boxes)
-    go here (inr there) = inr (more there)
-    go (inl here) (inl rest) = search (arith, kinds)
-    go (inr full) (inl rest) = search (arith, full_here, kinds)
+    go b is here (inr there) = inr (more there)
+    go b is here (inl rest) = grind (arith, kinds, rows_at)
+since-pulled k f n nodes boxes e other each = grind (arith, none-since)

@@ -1,41 +1,35 @@
 -- Along each wire of an ended run what was pulled is the first of what was pushed.
-use Rattle.std.proofs.Common.{Bool, List, arith, false, length, not, refl, true, ℕ, ◌&&◌, ◌<◌, ◌||◌, ◌≡◌}
-use Rattle.plan_ends.proofs.Prelude.{AllPull, BoxPicture, IsBorn, IsDone, Pulls, Wire, both_ways, box_at, consumer_of, false_from_ne_true, flat_map-append, get_or_default, map-append, not-true, output_count, producer_of, wire_at}
-use Rattle.plan_ends.specs.Ended.{pulled_at, pushed_at}
-
-not-closed : (a b : Bool) → (a ≡ true → b ≡ true) → not b ≡ true → a ≡ false
-not-closed a b h e = false_from_ne_true a (λ t. both_ways b (not-true b e) (h t))
+use Rattle.plan_ends.proofs.Prelude.{Bool, List, arith, false, get_or, length, length-append, not, subst, sym, true, ℕ, ◌&&◌, ◌++◌, ◌<◌, ◌∙◌, ◌||◌, ◌≡◌, AllPull, BoxPicture, IsBorn, IsDone, Pulls, Wire, both_ways, box_at, consumer_of, false_from_ne_true, flat_map-append, get_or_append_left, get_or_default, map-append, no_wire, not-true, output_count, producer_of, wire_at, pulled_at, pushed_at}
 
 by-itself : (out ins : Bool) → (out || ins) ≡ true → ins ≡ false → (out && not ins) ≡ true
-by-itself true true h e = absurd (both_ways true e refl)
-by-itself true false h e = refl
-by-itself false true h e = absurd (both_ways true e refl)
-by-itself false false h e = h
+by-itself out ins h e = grind (arith, both_ways)
 
--- the wire's ends are nodes, and it begins at one of the outputs of its node
-pub record IsWireOf (wires : List Wire) (count : ℕ) (w : Wire) : Type 0 where
-  pub from_in_range : w.from < count
-  pub to_in_range : w.to < count
+-- The wire's ends are born nodes with lawful boxes, and it begins at one of the outputs of its
+-- node.
+pub record IsWireOf (wires : List Wire) (boxes : List BoxPicture) (w : Wire) : Type 0 where
+  pub from_in_range : w.from < length boxes
+  pub from_born : IsBorn (box_at boxes w.from)
+  pub from_lawful : (box_at boxes w.from).lawful ≡ true
+  pub to_lawful : (box_at boxes w.to).lawful ≡ true
   pub out_in_range : w.out < output_count wires w.from
 
-pub all-pull : (wires : List Wire) (boxes : List BoxPicture) (d : IsDone wires boxes)
-    → ((e : ℕ) → e < length wires → IsWireOf wires (length boxes) (wire_at wires e))
-    → ((n : ℕ) → n < length boxes → IsBorn (box_at boxes n))
-    → ((n : ℕ) → n < length boxes → (box_at boxes n).lawful ≡ true)
+pub wire-pulls : (wires : List Wire) (boxes : List BoxPicture) (d : IsDone wires boxes) (e : ℕ)
+    → e < length wires → IsWireOf wires boxes (wire_at wires e)
+    → Pulls (pulled_at boxes d.pulled (consumer_of (wire_at wires e)))
+    (pushed_at boxes d.pushed (producer_of (wire_at wires e)))
+wire-pulls wires boxes d e lt is =
+    grind (arith, map-append, flat_map-append, by-itself, false_from_ne_true, both_ways, not-true)
+
+pub all-pull : (wires more : List Wire) (boxes : List BoxPicture)
+    (d : IsDone (wires ++ more) boxes)
+    → ((e : ℕ) → e < length wires → IsWireOf (wires ++ more) boxes (wire_at wires e))
     → AllPull (pulled_at boxes d.pulled) (pushed_at boxes d.pushed) wires
 unfolding wire_at
-all-pull wires boxes d are born lawful = search (arith, get_or_default, one)
-  where
-    one : (e : ℕ) → e < length wires
-        → Pulls (pulled_at boxes d.pulled (consumer_of (wire_at wires e)))
-        (pushed_at boxes d.pushed (producer_of (wire_at wires e)))
-    one e lt =
-        search (
-          arith,
-          not-closed,
-          map-append,
-          flat_map-append,
-          by-itself,
-          false_from_ne_true,
-          both_ways,
-        )
+all-pull wires more boxes d are e w lt =
+    let all : e < length (wires ++ more) = omega (arith, lt, length-append wires more) in
+    let same : wire_at (wires ++ more) e ≡ wire_at wires e = grind (arith, get_or_append_left) in
+    let here : wire_at wires e ≡ get_or wires e w = get_or_default wires e no_wire w lt in
+    subst (λ v. Pulls (pulled_at boxes d.pulled (consumer_of v))
+    (pushed_at boxes d.pushed (producer_of v))) (same ∙ here)
+    (wire-pulls (wires ++ more) boxes d e all
+    (subst (IsWireOf (wires ++ more) boxes) (sym same) (are e lt)))

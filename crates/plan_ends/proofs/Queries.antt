@@ -1,10 +1,8 @@
 -- At the end of a run of a query's plan the collector has an answer of the query, and its boxes
 -- pulled their flow.
-use Rattle.std.proofs.Common.{Bool, IfSome, List, None, Option, Some, [], ap, ap₂, arith, cond, flat_map, get_or, inl, inr, length, refl, slice_get, subst, suc, sym, true, ℕ, ◌+◌, ◌<◌, ◌∙◌, ◌∷◌, ◌≡◌, ◌≤◌, ◌⊎◌}
-use Rattle.plan_ends.proofs.Prelude.{All, AllByRecursion, AllTyped, AreKeyPairs, BoxPicture, Checked, CheckedJoin, ColumnType, Database, Declared, DraftNode, Files, HasCalls, IsAnswer, IsCut, IsPlan, IsPlanOf, IsPlannable, IsSmall, IsSource, IsTypedFilter, IsTypedShape, JoinsSources, Kind, NodePort, Numbers, OneType, PartSpec, Paths, Reading, SelectPlan, SortKey, Spec, Stream, Table, TableDecl, TableUse, UsesNoList, append-nil, by-paths, chunk_rows, database, declared_sources, declared_table, filtered_rows, flow, forms, get_or-map, get_or_past, join_of, join_pulls, join_spec, join_use, joined_table, length-map, none-of, order_of, output_rows, part_rows, part_spec, path_sources, plan-needs, plan_keys, plan_nodes, plan_rows, plan_valid, plans-answer, pulled_rows, query-answers, read_rows, reading_of, rows_in, rows_joined, rows_where, same_kind, select_plan, shape-selects, shape_of, shape_rows, slice_get_cases, source_table, source_types, sources_rows, table_sources, types_declared, used_table, used_types}
+use Rattle.plan_ends.proofs.Prelude.{Bool, IfSome, List, None, Option, Some, [], ap, arith, cond, flat_map, length, refl, slice_get, subst, suc, sym, true, ℕ, ◌++◌, ◌+◌, ◌<◌, ◌∙◌, ◌∷◌, ◌≡◌, ◌≤◌, ◌⊎◌, All, AllByRecursion, AllTyped, AreKeyPairs, BoxPicture, Checked, CheckedJoin, ColumnType, Database, Declared, DraftNode, Files, HasCalls, IsAnswer, IsCut, IsPlan, IsPlanOf, IsSmall, IsSource, IsTypedFilter, IsTypedShape, JoinsSources, Kind, ListFile, NodePort, Numbers, OneType, PartSpec, Parts, PartsDecl, Paths, Reading, SelectPlan, SortKey, Spec, Stream, Table, TableDecl, TableUse, append-nil, boxes_for, chunk_rows, counted, database, declared_sources, declared_table, flow, forms, get_or-map, get_or_past, join_of, join_pulls, join_spec, joined_table, length-map, none-of, of_kind, order_of, output_rows, part_paths, part_rows, part_sources, part_spec, path_sources, plan-needs, plan_keys, plan_nodes, plan_rows, plan_valid, plans-answer, pulled_rows, query-answers, read_rows, reading_of, rows_joined, same_kind, select_plan, shape-selects, shape_of, slice_get_cases, source_types, sources_rows, sum_by-cons, table_sources, types_declared, used_table, used_types, HasEnded, part_of, parts_of, pulled_at, pushed_at}
 use Rattle.query_model.specs.declared.processor_spec.Kind.TheVariants as kind
 use Rattle.query_model.specs.declared.processor_spec.Spec.TheVariants as spec
-use Rattle.plan_ends.specs.Ended.{part_in, parts_of, pulled_at, pushed_at, HasEnded}
 use Rattle.plan_ends.proofs.Answers.{plan-run, PlanRun}
 use Rattle.plan_ends.proofs.Columns.{IsTypedSelect}
 use Rattle.plan_ends.proofs.Flows.{HasFlowed, collector-pulled, flow-pulled}
@@ -22,56 +20,40 @@ table_in header files (Some decl) = declared_table header files decl
 table-at : (header : Bool) (files : Files) (tables : List TableDecl) (t : ℕ)
     → used_table (database header files tables) (Declared t) ≡ table_in header files
     (slice_get tables t)
-table-at header files tables t = go (slice_get_cases tables t).1
-  where
-    nothing : Table
-    nothing = record { types = []; rows = [] }
-
-    go : ((x : TableDecl) × (t < length tables) × (slice_get tables t ≡ Some x)
-        × (get_or tables t x ≡ x))
-        ⊎ ((length tables ≤ t) × (slice_get tables t ≡ None))
-        → used_table (database header files tables) (Declared t) ≡ table_in header files
-        (slice_get tables t)
-    go (inl w) =
-        get_or-map (declared_table header files) tables t w.0 (record { types = []; rows = [] }) w.1
-        ∙ ap (declared_table header files) w.3 ∙ ap (table_in header files) (sym w.2)
-    go (inr w) = search (arith, get_or_past, length-map)
+table-at header files tables t = grind (arith, slice_get_cases, get_or-map, get_or_past, length-map)
 
 -- the types of a used table's columns
 types-used : (header : Bool) (files : Files) (tables : List TableDecl) (u : TableUse)
     → used_types tables u ≡ (used_table (database header files tables) u).types
-types-used header files tables (Declared t) =
-    go (slice_get tables t) ∙ ap (λ (z : Table). z.types) (sym (table-at header files tables t))
-  where
-    go : (o : Option TableDecl) → types_declared o ≡ (table_in header files o).types
-    go None = refl
-    go (Some decl) = refl
-types-used header files tables (Numbers n) = refl
+types-used header files tables u = grind (arith, table-at)
 
--- the rows of a part
-rows-in-part : (r : Reading) (k : ℕ) (path : List ℕ) (bytes : Option (List ℕ))
-    → (part_in (part_spec r k path) bytes).rows ≡ rows_in r.header r.types bytes
-rows-in-part r k path None = refl
-rows-in-part r k path (Some bytes) = refl
+module _ (files : Files) (parts : Parts)
+    (same : (part : PartSpec) → parts (spec.Csv part) ≡ part_of files part) where
+  paths-rows : (r : Reading) (k : ℕ) (paths : List (List ℕ))
+      → sources_rows parts (path_sources r k paths)
+      ≡ flat_map (part_rows r.header r.types files) paths
+  paths-rows r k [] = refl
+  paths-rows r k (path ∷ paths) = grind (arith, paths-rows r (suc k) paths)
 
-paths-rows : (files : Files) (r : Reading) (k : ℕ) (paths : List (List ℕ))
-    → sources_rows (parts_of files) (path_sources r k paths)
-    ≡ flat_map (part_rows r.header r.types files) paths
-paths-rows files r k [] = refl
-paths-rows files r k (path ∷ paths) = search (arith, rows-in-part, paths-rows files r (suc k) paths)
+-- the rows of a declaration's parts, or of the parts that its list names
+declared-rows : (files : Files) (r : Reading) (d : PartsDecl)
+    → sources_rows (parts_of files) (part_sources r d)
+    ≡ flat_map (part_rows r.header r.types files) (part_paths files d)
+declared-rows files r (Paths paths) = paths-rows files (parts_of files) (λ part. refl) r 1 paths
+declared-rows files r (ListFile path) = search (arith, append-nil, paths-rows)
 
 -- the rows of a used table are those of its sources
 rows-used : (header : Bool) (files : Files) (tables : List TableDecl) (rows : ℕ) (u : TableUse)
-    → UsesNoList tables u → sources_rows (parts_of files) (table_sources tables header rows u)
+    → sources_rows (parts_of files) (table_sources tables header rows u)
     ≡ (used_table (database header files tables) u).rows
-rows-used header files tables rows (Declared t) h =
-    by-paths (λ o. sources_rows (parts_of files) (declared_sources header rows t o)
-    ≡ (table_in header files o).rows) refl
-    (λ schema paths. paths-rows files
-    (reading_of header rows t (record { schema = schema; parts = Paths paths })) 1 paths)
-    (slice_get tables t) h
-    ∙ ap (λ (z : Table). z.rows) (sym (table-at header files tables t))
-rows-used header files tables rows (Numbers n) h = append-nil _
+rows-used header files tables rows (Declared t) =
+    go (slice_get tables t) ∙ ap (λ (z : Table). z.rows) (sym (table-at header files tables t))
+  where
+    go : (o : Option TableDecl) → sources_rows (parts_of files) (declared_sources header rows t o)
+        ≡ (table_in header files o).rows
+    go None = refl
+    go (Some decl) = declared-rows files (reading_of header rows t decl) decl.parts
+rows-used header files tables rows (Numbers n) = append-nil _
 
 -- ---- sources
 
@@ -81,20 +63,31 @@ paths-sources : (P : Spec → Type 0) (r : Reading)
 paths-sources P r h k [] = tt
 paths-sources P r h k (path ∷ paths) = (h k path, paths-sources P r h (suc k) paths)
 
+-- what holds of a source of parts, or of a list of them
+abbrev OfBoth : (Spec → Type 0) → PartSpec → Type 0
+OfBoth P part = P (spec.Csv part) × P (spec.List part)
+
 -- what holds of each source of a used table
 each-source : (P : Spec → Type 0) (tables : List TableDecl) (header : Bool) (rows : ℕ)
     (u : TableUse)
-    → UsesNoList tables u
-    → ((part : PartSpec) → part.types ≡ used_types tables u → P (spec.Csv part))
+    → ((part : PartSpec) → part.types ≡ used_types tables u → OfBoth P part)
     → ((n : ℕ) → u ≡ Numbers n → P (spec.Numbers n rows))
     → AllByRecursion P (table_sources tables header rows u)
-each-source P tables header rows (Declared t) h csv num =
-    by-paths (λ o. ((part : PartSpec) → part.types ≡ types_declared o → P (spec.Csv part))
-    → AllByRecursion P (declared_sources header rows t o)) (λ csv. tt)
-    (λ schema paths csv.
-    let r : Reading = reading_of header rows t (record { schema = schema; parts = Paths paths }) in
-    paths-sources P r (λ k path. csv (part_spec r k path) refl) 1 paths) (slice_get tables t) h csv
-each-source P tables header rows (Numbers n) h csv num = (num n refl, tt)
+each-source P tables header rows (Declared t) file num = go (slice_get tables t) file
+  where
+    of-parts : (r : Reading) (d : PartsDecl)
+        → ((part : PartSpec) → part.types ≡ r.types → OfBoth P part)
+        → AllByRecursion P (part_sources r d)
+    of-parts r (Paths paths) file =
+        paths-sources P r (λ k path. (file (part_spec r k path) refl).0) 1 paths
+    of-parts r (ListFile path) file = ((file (part_spec r 0 path) refl).1, tt)
+
+    go : (o : Option TableDecl)
+        → ((part : PartSpec) → part.types ≡ types_declared o → OfBoth P part)
+        → AllByRecursion P (declared_sources header rows t o)
+    go None file = tt
+    go (Some decl) file = of-parts (reading_of header rows t decl) decl.parts file
+each-source P tables header rows (Numbers n) file num = (num n refl, tt)
 
 -- ---- the plan of a query
 
@@ -115,27 +108,31 @@ module _ (q : Checked) (tables : List TableDecl) (lanes rows : ℕ) (header : Bo
     types-read None = types-used header files tables q.from
     types-read (Some j) = search (arith, types-used)
 
-    rows-read : (j : Option CheckedJoin) → AllByRecursion (UsesNoList tables) (q.from ∷ join_use j)
-        → read_rows (parts_of files) sources (join_of tables header rows q.from j)
-        ≡ (joined_table j db left).rows
-    rows-read None p = rows-used header files tables rows q.from p.0
-    rows-read (Some j) p = search (arith, rows-used)
+    rows-read : (j : Option CheckedJoin) → read_rows (parts_of files) sources
+        (join_of tables header rows q.from j) ≡ (joined_table j db left).rows
+    rows-read None = rows-used header files tables rows q.from
+    rows-read (Some j) = search (arith, rows-used)
 
     -- a join pulls the rows of both tables
     join-pulled : (k : Kind) (j : Option CheckedJoin)
-        → AllByRecursion (UsesNoList tables) (q.from ∷ join_use j)
         → join_pulls k (parts_of files) sources (join_of tables header rows q.from j)
         ≡ cond (same_kind kind.HashJoin k) (rows_joined j db left.rows) 0
-    join-pulled k None p = sym (none-of (same_kind kind.HashJoin k))
-    join-pulled k (Some j) p = search (arith, rows-used)
+    join-pulled k None = sym (none-of (same_kind kind.HashJoin k))
+    join-pulled k (Some j) = search (arith, rows-used)
 
-    plan-of : IsPlannable q tables → HasCalls q.shape
+    plan-of : HasCalls q.shape
         → IsPlanOf q db (parts_of files) (select_plan q tables lanes rows header)
-    plan-of p calls = search (arith, types-read, kept, rows-read)
+    plan-of calls = search (arith, types-read, kept, rows-read)
       where
         kept : (keys : List SortKey) → plan_keys (order_of q.types rows keys) ≡ keys
         kept [] = refl
         kept (key ∷ keys) = refl
+
+-- nothing that is kept for a list is a collector
+none-kept : (nodes : List DraftNode)
+    → counted (boxes_for kind.Collect) nodes ≡ counted (of_kind kind.Collect) nodes
+none-kept [] = refl
+none-kept (z ∷ nodes) = grind (arith, sum_by-cons, boxes_for, none-of, none-kept nodes)
 
 -- The plan of a typed query reads from sources, and its nodes' types fit.
 pub record IsQueryPlan (p : SelectPlan) : Type 0 where
@@ -143,36 +140,36 @@ pub record IsQueryPlan (p : SelectPlan) : Type 0 where
   pub typed : AllTyped (plan_nodes p) []
 
 pub query-plan : (q : Checked) (tables : List TableDecl) (lanes rows : ℕ) (header : Bool)
-    → IsPlannable q tables → IsTypedSelect tables q → 0 < lanes
-    → IsQueryPlan (select_plan q tables lanes rows header)
-query-plan q tables lanes rows header p typed some =
+    → IsTypedSelect tables q → 0 < lanes → IsQueryPlan (select_plan q tables lanes rows header)
+query-plan q tables lanes rows header typed some =
     let plan : SelectPlan = select_plan q tables lanes rows header in
     let u : List ColumnType = used_types tables q.from in
     let read = types q.join in
     record {
       is = record {
         some_lanes = some;
-        sources = are-sources q.from p.0;
-        join = joined q.join p.1;
+        sources = are-sources q.from;
+        join = joined q.join;
       };
       typed = plan-typed plan q.shape u rows (ap (λ t. shape_of q.shape t rows) read)
-          (of-types q.from p.0) (join-typed q.join p.1 typed.pairs)
+          (of-types q.from) (join-typed q.join typed.pairs)
           (subst (λ t. IsTypedFilter t q.filter) read typed.typed.filter)
           (subst (λ t. IsTypedShape t q.shape) read typed.typed.items)
           (order-fits (shape_types q.shape (read_types u plan.join)) q.order
           (typed.made ∙ ap (shape_types q.shape) read) typed.keys);
     }
   where
-    are-sources : (t : TableUse) → UsesNoList tables t
-        → AllByRecursion IsSource (table_sources tables header rows t)
-    are-sources t h = each-source IsSource tables header rows t h (λ part t. tt) (λ n t. tt)
+    are-sources : (t : TableUse) → AllByRecursion IsSource (table_sources tables header rows t)
+    are-sources t = each-source IsSource tables header rows t (λ part t. (tt, tt)) (λ n t. tt)
 
-    of-types : (t : TableUse) → UsesNoList tables t
-        → AllByRecursion (λ s. OneType s [] (used_types tables t))
+    of-types : (t : TableUse) → AllByRecursion (λ s. OneType s [] (used_types tables t))
         (table_sources tables header rows t)
-    of-types t h =
-        each-source (λ s. OneType s [] (used_types tables t)) tables header rows t h
-        (λ part t. record { fit = tt; makes = λ v us x m. m ∙ t })
+    of-types t =
+        each-source (λ s. OneType s [] (used_types tables t)) tables header rows t
+        (λ part t. (
+          record { fit = tt; makes = λ v us x m. m ∙ t },
+          record { fit = tt; makes = λ v us x m. m ∙ t },
+        ))
         (λ n t. record { fit = tt; makes = λ v us x m. m ∙ ap (used_types tables) (sym t) })
 
     types : (j : Option CheckedJoin) → source_types tables q.from j
@@ -180,16 +177,15 @@ query-plan q tables lanes rows header p typed some =
     types None = refl
     types (Some j) = refl
 
-    joined : (j : Option CheckedJoin) → AllByRecursion (UsesNoList tables) (join_use j)
-        → JoinsSources (join_of tables header rows q.from j)
-    joined None h = tt
-    joined (Some j) h = are-sources j.table h.0
+    joined : (j : Option CheckedJoin) → JoinsSources (join_of tables header rows q.from j)
+    joined None = tt
+    joined (Some j) = are-sources j.table
 
-    join-typed : (j : Option CheckedJoin) → AllByRecursion (UsesNoList tables) (join_use j)
+    join-typed : (j : Option CheckedJoin)
         → IfSome j (λ (j : CheckedJoin). AreKeyPairs (join_spec tables 0 q.from j))
         → IfSome (join_of tables header rows q.from j) (IsTypedJoin (used_types tables q.from))
-    join-typed None h pairs = tt
-    join-typed (Some j) h pairs = search (arith, of-types)
+    join-typed None pairs = tt
+    join-typed (Some j) pairs = search (arith, of-types)
 
     order-fits : (v : List ColumnType) (keys : List SortKey) → q.types ≡ v
         → All (λ (key : SortKey). key.column < length q.types) keys
@@ -217,20 +213,19 @@ pub record QueryAnswered (q : Checked) (header : Bool) (files : Files) (tables :
 -- nodes' specs, the collector has pulled an answer of the query.
 pub planned-ended : (q : Checked) (tables : List TableDecl) (lanes rows : ℕ) (header : Bool)
     (files : Files) (nodes : List DraftNode) (boxes : List BoxPicture)
-    (h : HasEnded files nodes boxes) (last : ℕ) → IsPlannable q tables
-    → IsTypedSelect tables q → 0 < lanes
+    (h : HasEnded files nodes boxes) (last : ℕ) → IsTypedSelect tables q → 0 < lanes
     → IsSmall (select_plan q tables lanes rows header)
     → forms nodes ≡ forms (plan_nodes (select_plan q tables lanes rows header))
     → length (plan_nodes (select_plan q tables lanes rows header)) ≡ last + 1
     → QueryAnswered q header files tables (select_plan q tables lanes rows header) nodes boxes h
     last
-planned-ended q tables lanes rows header files nodes boxes h last p typed some small e count =
+planned-ended q tables lanes rows header files nodes boxes h last typed some small e count =
     let plan : SelectPlan = select_plan q tables lanes rows header in
     let db : Database = database header files tables in
     let is : IsPlanOf q db (parts_of files) plan =
-    plan-of q tables lanes rows header files p
+    plan-of q tables lanes rows header files
     (has-calls (source_types tables q.from q.join) q.shape typed.typed.items) in
-    let ready : IsQueryPlan plan = query-plan q tables lanes rows header p typed some in
+    let ready : IsQueryPlan plan = query-plan q tables lanes rows header typed some in
     let f : NodePort → Stream = pulled_at boxes h.done.pulled in
     let r = plan-run files plan nodes boxes h last small e ready.typed (plan-ready plan nodes
     ready.is e) count in
@@ -239,18 +234,16 @@ planned-ended q tables lanes rows header files nodes boxes h last p typed some s
     let flowed : HasFlowed plan (parts_of files) nodes f last = record {
       same = e;
       count = count;
-      one_collector = plan-needs q tables lanes rows header kind.Collect p;
+      one_collector = search (arith, none-kept, plan-needs);
       pulled = λ k unlimited told. a.1 unlimited k told;
     } in
     record {
       answer = query-answers q db (parts_of files) plan (chunk_rows (h.done.pulled last 0)) is a.0;
-      output = ap₂ (λ s l. shape_rows s l) is.shape (ap₂ rows_where is.filter is.read)
-          ∙ shape-selects q.shape (source_table q db).types is.chunk_rows (filtered_rows q db)
-          is.calls;
+      output = grind (arith, shape-selects);
       valid = a.0.valid;
       run = r;
       collected = collector-pulled plan (parts_of files) nodes f last flowed;
       pulled = λ unlimited k. flow-pulled plan (parts_of files) nodes f last flowed
-          unlimited q db is (λ k. join-pulled q tables lanes rows header files k q.join p) q.types
+          unlimited q db is (λ k. join-pulled q tables lanes rows header files k q.join) q.types
           rows refl k;
     }

@@ -1,8 +1,6 @@
 -- What a resize keeps is what it gives: the rows of any inputs by any outputs.
-use Rattle.std.proofs.Common.{IsPermutation, List, [], ap, append_assoc, ap₂, arith, false, inl, inr, map, refl, subst, suc, sym, true, zero, ℕ, ◌++◌, ◌+◌, ◌-◌, ◌<◌, ◌∙◌, ◌≡◌, ◌≤◌}
-use Rattle.plan_ends.proofs.Prelude.{AllByRecursion, BoxPicture, HasReadEnough, IsPermutation-append_left, IsPermutation-refl, IsPermutation-trans, KeepsMade, Lists, MakesType, NodePort, Row, Stream, Table, Types, all_done, all_rows, and_from, and_parts, any_done, append-nil, both_ways, chunk_rows, first_rows, flat_map-append, kept_output, length-map, or_cases, paired, ports-length, ports_of, pulled_types, rows_of, unworked_at}
+use Rattle.plan_ends.proofs.Prelude.{IsPermutation, List, Some, [], ap, append_assoc, arith, false, inl, inr, map, refl, subst, suc, sym, true, zero, ℕ, ◌++◌, ◌+◌, ◌-◌, ◌<◌, ◌∙◌, ◌≡◌, ◌≤◌, AllByRecursion, AreResized, BoxPicture, Files, GivesResized, HasReadEnough, IsOver, IsPermutation-append_left, IsPermutation-refl, IsPermutation-trans, KeepsMade, Lists, MakesType, NodePort, Row, Spec, Stream, Table, Types, all_done, all_rows, and_from, and_parts, any_done, append-nil, both_ways, chunk_rows, first_rows, flat_map-append, length-map, or_cases, paired, ports-length, ports_of, pulled_types, rows_of, unworked_at, IsKept, KindGives, in_stream, out_stream}
 use Rattle.query_model.specs.declared.processor_spec.Spec.TheVariants as spec
-use Rattle.plan_ends.specs.Ended.{in_stream, out_stream, KindGives}
 use Rattle.plan_ends.proofs.KindLaws.{all-worked-at, is-among, kept-rows, made-typed, stays-open}
 
 -- ---- streams at the ports of a node
@@ -16,12 +14,7 @@ ports-rows : (lists : Lists) (f : ℕ → Stream) → ((i : ℕ) → (f i).rows 
     → first_rows i lists ++ all_rows (rows_of (at_ports f n i k)) ≡ first_rows (i + k) lists
 unfolding first_rows
 ports-rows lists f e n i zero = search (arith, append-nil)
-ports-rows lists f e n i (suc k) =
-    let next : suc i + k ≡ i + suc k = omega arith in
-    let rest : List Row = all_rows (rows_of (at_ports f n (suc i) k)) in
-    sym (append_assoc (first_rows i lists) (f i).rows rest)
-    ∙ ap (λ l. (first_rows i lists ++ l) ++ rest) (e i)
-    ∙ ports-rows lists f e n (suc i) k ∙ ap (λ m. first_rows m lists) next
+ports-rows lists f e n i (suc k) = grind (arith, append_assoc, ports-rows lists f e n (suc i) k)
 
 -- lists past the last one that has chunks add nothing
 pub none-past : (lists : Lists) (m k : ℕ) → ((i : ℕ) → m ≤ i → lists i ≡ [])
@@ -40,10 +33,7 @@ pub all-ports : (lists : Lists) (f : ℕ → Stream) → ((i : ℕ) → (f i).ro
     → all_rows (rows_of (at_ports f n 0 m)) ≡ first_rows most lists
 unfolding first_rows
 all-ports lists f e n m most le past =
-    let start : 0 + m ≡ m = omega arith in
-    let whole : m + (most - m) ≡ most = omega (arith, le) in
-    ports-rows lists f e n 0 m ∙ ap (λ j. first_rows j lists) start
-    ∙ sym (none-past lists m (most - m) past) ∙ ap (λ j. first_rows j lists) whole
+    grind (arith, ports-rows lists f e n 0 m, none-past lists m (most - m) past)
 
 -- a port that is done
 record DoneAt (f : ℕ → Stream) (m : ℕ) : Type 0 where
@@ -57,8 +47,7 @@ any-done f n i (suc k) e = elim (or_cases _ _ e) [
   | inl here ↦ record { port = i; in_range = omega arith; done = here }
   | inr more ↦
       let d = any-done f n (suc i) k more in
-      let within = d.in_range in
-      record { port = d.port; in_range = omega (arith, within); done = d.done }
+      record { port = d.port; in_range = omega (arith, d.in_range); done = d.done }
 ]
 
 pub all-done : (f : ℕ → Stream) → ((i : ℕ) → (f i).done ≡ true) → (n i k : ℕ)
@@ -84,53 +73,52 @@ split-rows (suc n) whole a b e =
     (b n)) _ _ (split-rows n whole a b e)) (paired (first_rows n a) (first_rows n b)
     (chunk_rows (a n)) (chunk_rows (b n))))
 
--- the rows that are made and not pushed, and those that aren't worked yet
-abbrev waiting : BoxPicture → List Row
-waiting p = chunk_rows p.work.made ++ first_rows 32 (unworked_at p.work)
+-- ---- what passes rows on as they are
 
-resized-rows : (p : BoxPicture) (ins outs : Lists) → KeepsMade spec.Resize p ins outs
-    → IsPermutation (first_rows 32 ins) (first_rows 16 outs ++ waiting p)
-resized-rows p ins outs m =
-    let left : List Row = first_rows 32 (unworked_at p.work) in
-    IsPermutation-trans _ _ _ (split-rows 32 ins m.worked (unworked_at p.work) m.ins_are)
-    (rw (append_assoc (first_rows 16 outs) (chunk_rows p.work.made) left) at
-    (IsPermutation-append_left left _ _ m.rows.1.same_rows))
+-- The rows that were made and didn't leave yet, and those that aren't worked.
+abbrev waiting : BoxPicture → List Row → List Row
+waiting p wait = wait ++ first_rows 32 (unworked_at p.work)
 
-nothing-waits : (p : BoxPicture) (ins outs : Lists) (o : ℕ) → KeepsMade spec.Resize p ins outs
-    → (kept_output p o).fin_out ≡ true → waiting p ≡ []
+-- A box that passes rows on as they are gives the rows of its inputs by its outputs; some wait.
+pub gives-resized : {s : Spec} {files : Files} {takes gives : ℕ} {p : BoxPicture}
+    {ins outs : Lists} → IsKept s files takes gives p ins outs → (n : ℕ) (wait : List Row)
+    → 0 < gives → (HasReadEnough (Some s) ins → ⊥) → (m : KeepsMade s p ins outs)
+    → AreResized m.worked outs wait → (IsOver s p.work → wait ≡ [])
+    → GivesResized (at_ports (in_stream p ins) n 0 takes) (at_ports (out_stream p outs) n 0 gives)
 unfolding first_rows
-nothing-waits p ins outs o m f =
-    let end = m.over o f in
-    ap₂ (λ a b. a ++ b) (ap chunk_rows end.nothing_waits)
-    (none-past (unworked_at p.work) 0 32 (λ i le. all-worked-at p.work i end.all_worked))
+gives-resized {takes = takes} {gives} {p} {ins} {outs} k n wait some unlimited m resized over =
+    let left : List Row = first_rows 32 (unworked_at p.work) in
+    let i_rows : all_rows (rows_of (at_ports (in_stream p ins) n 0 takes)) ≡ first_rows 32 ins =
+    all-ports ins (in_stream p ins) (λ i. refl) n takes 32 k.few_inputs k.nothing_past in
+    let o_rows : all_rows (rows_of (at_ports (out_stream p outs) n 0 gives)) ≡ first_rows 16 outs =
+    all-ports outs (out_stream p outs) (λ i. refl) n gives 16 k.few_outputs k.nothing_pushed_past in
+    let rows : IsPermutation (first_rows 32 ins) (first_rows 16 outs ++ waiting p wait) =
+    IsPermutation-trans _ _ _ (split-rows 32 ins m.worked (unworked_at p.work) m.ins_are)
+    (rw (append_assoc (first_rows 16 outs) wait left) at
+    (IsPermutation-append_left left _ _ resized.same_rows)) in
+    record {
+      some =
+          let e = length-map (ports_of n 0 gives) (λ (q : NodePort). out_stream p outs q.port) in
+          omega (arith, e, some, ports-length n 0 gives);
+      waits = waiting p wait;
+      rows = rw i_rows (rw o_rows rows);
+      nothing_waits = search (arith, any-done, and_parts, none-past, all-worked-at);
+      inputs_done = λ done.
+          let d = any-done (out_stream p outs) n 0 gives done in
+          all-done (in_stream p ins) (λ i. stays-open p ins outs i d.port k.keeps
+          (subst (λ z. HasReadEnough z ins → ⊥) (sym k.loaded) unlimited)
+          (let within = d.in_range in let e = k.outputs in omega (arith, within, e)) d.done)
+          n 0 takes;
+    }
 
 -- A resize gives the rows of its inputs by its outputs.
 pub resize-gives : KindGives spec.Resize
 resize-gives files takes gives n p ins outs k =
     let m = kept-rows k (λ i d x lt. tt) in
-    let i_rows : all_rows (rows_of (at_ports (in_stream p ins) n 0 takes)) ≡ first_rows 32 ins =
-    all-ports ins (in_stream p ins) (λ i. refl) n takes 32 k.few_inputs k.nothing_past in
-    let o_rows : all_rows (rows_of (at_ports (out_stream p outs) n 0 gives)) ≡ first_rows 16 outs =
-    all-ports outs (out_stream p outs) (λ i. refl) n gives 16 k.few_outputs k.nothing_pushed_past in
     let from : List Types = pulled_types (at_ports (in_stream p ins) n 0 takes) in
     record {
-      gives = λ fit. record {
-        some =
-            let e = length-map (ports_of n 0 gives) (λ (q : NodePort). out_stream p outs q.port) in
-            let some = k.ports in
-            omega (arith, e, some, ports-length n 0 gives);
-        waits = waiting p;
-        rows = rw i_rows (rw o_rows (resized-rows p ins outs m));
-        nothing_waits = λ done.
-            let d = any-done (out_stream p outs) n 0 gives done in
-            nothing-waits p ins outs d.port m (and_parts _ _ d.done).0;
-        inputs_done = λ done.
-            let d = any-done (out_stream p outs) n 0 gives done in
-            all-done (in_stream p ins) (λ i. stays-open p ins outs i d.port k.keeps
-            (subst (λ z. HasReadEnough z ins → ⊥) (sym k.loaded) (λ x. x))
-            (let within = d.in_range in let e = k.outputs in omega (arith, within, e)) d.done)
-            n 0 takes;
-      };
+      gives = λ fit. gives-resized k n (chunk_rows p.work.made) k.ports (λ x. x) m m.rows.1
+          (λ end. ap chunk_rows end.nothing_waits);
       typed = λ fit. each-port (λ (o : Stream). AllByRecursion (MakesType spec.Resize from) o.types)
           (out_stream p outs)
           (λ o. made-typed k from o

@@ -1,6 +1,5 @@
 -- The types of the rows that a query's shape makes, and of the columns and arguments of its groups.
-use Rattle.std.proofs.Common.{List, None, Option, Some, [], ap, length, map, refl, slice_index_or, ℕ, ◌<◌, ◌∷◌, ◌≡◌}
-use Rattle.plan_ends.proofs.Prelude.{AggCall, AggOp, All, All-cons, All-head, All-nil, All-tail, AllByRecursion, ColumnType, Expr, Grouped, HasCalls, IsCall, IsItem, IsTypedArgument, IsTypedCall, IsTypedShape, Plain, Shape, argument_types, call_arguments, columns_of, group_row_types, state_of, type_of}
+use Rattle.plan_ends.proofs.Prelude.{List, None, Option, Some, [], ap, length, map, refl, slice_index_or, ℕ, ◌<◌, ◌∷◌, ◌≡◌, AggCall, AggOp, All, All-cons, All-head, All-nil, All-tail, AllByRecursion, ColumnType, Expr, Grouped, HasCalls, IsCall, IsItem, IsTypedArgument, IsTypedCall, IsTypedShape, Plain, Shape, argument_types, call_arguments, columns_of, group_row_types, state_of, type_of}
 use Rattle.chunk_data.specs.declared.typed_value.ColumnType.TheVariants as column
 use Rattle.query_model.specs.declared.query.AggOp.TheVariants as agg
 use Rattle.query_model.specs.declared.query.ExprOf.TheVariants as expr

@@ -1,8 +1,6 @@
 -- What a sort and a merge keep is what they give.
-use Rattle.std.proofs.Common.{Bool, IsPermutation, IsSorted, List, Some, [], ap, append_assoc, arith, false, inl, inr, length, length-append, not, refl, subst, suc, sym, true, zero, ℕ, ◌++◌, ◌+◌, ◌<◌, ◌∙◌, ◌∷◌, ◌≡◌, ◌≤◌}
-use Rattle.plan_ends.proofs.Prelude.{All-nil, AllByRecursion, AllFit, AreInputsSorted, AreMerged, BoxPicture, Contains-append_left, FitFrom, FitsInput, FitsOrder, GivesHeld, GivesMerged, HasReadEnough, HoldsBack, IsBeforeNone, IsPermutation-append_left, IsPermutation-trans, IsReadUp, IsSortOf, KeepsMade, Lists, NotesEnd, Row, SortKey, SortSpec, Spec, Stream, Table, all_rows, and_parts, append-nil, cases_eq, cases_lt, chunk_rows, every-append, every-contains, every-front, every-none, every-turned, every-weaker, first_rows, head_at, head_rows, is_lt, kept_output, kept_outputs, may-be-input, order-cross, order-from_sorted, order-front, own_of, past-open, row_cmp, rows-append, rows-ordered, rows_of, sort-exists, sorted-from_order, unworked_at}
+use Rattle.plan_ends.proofs.Prelude.{Bool, IsPermutation, IsSorted, List, Some, [], ap, append_assoc, arith, false, inl, inr, length, length-append, not, refl, subst, suc, sym, true, zero, ℕ, ◌++◌, ◌+◌, ◌<◌, ◌∙◌, ◌∷◌, ◌≡◌, ◌≤◌, All-nil, AllByRecursion, AllFit, AreInputsSorted, AreMerged, BoxPicture, Contains-append_left, FitFrom, FitsInput, FitsOrder, GivesHeld, GivesMerged, HoldsBack, IsBeforeNone, IsPermutation-append_left, IsPermutation-trans, IsReadUp, IsSortOf, KeepsMade, Lists, NotesEnd, Row, SortKey, SortSpec, Spec, Stream, Table, all_rows, and_parts, append-nil, cases_eq, cases_lt, chunk_rows, every-append, every-contains, every-front, every-none, every-turned, every-weaker, first_rows, head_at, head_rows, is_lt, kept_output, kept_outputs, may-be-input, order-cross, order-from_sorted, order-front, own_of, past-open, row_cmp, rows-append, rows-ordered, rows_of, sort-exists, sorted-from_order, unworked_at, IsKept, KindGives, chunk_types, in_stream, out_stream}
 use Rattle.query_model.specs.declared.processor_spec.Spec.TheVariants as spec
-use Rattle.plan_ends.specs.Ended.{IsKept, KindGives, chunk_types, in_stream, out_stream}
 use Rattle.plan_ends.proofs.KindLaws.{one-output, all-worked-at, at-ports, front-of, kept-rows, one-fits, stays-open, types-fit}
 use Rattle.plan_ends.proofs.ResizeLaws.{all-done, all-ports, at_ports, each-port, none-past, split-rows}
 
@@ -18,8 +16,7 @@ back-none (x ∷ xs) ys e = absurd (cc)
 pub read-up : {s : Spec} {files : _} {takes gives : ℕ} {p : BoxPicture} {ins outs : Lists}
     → IsKept s files takes gives p ins outs → (i : ℕ) → i < takes
     → NotesEnd (Some s) (own_of p.work) i → IsReadUp p i
-read-up {takes = takes} {p = p} k i lt n =
-    k.keeps.noted i (may-be-input p takes i (inr k.inputs) lt) (rw k.loaded n)
+read-up {takes = takes} {p = p} k i lt n = grind (arith, may-be-input p takes i (inr k.inputs) lt)
 
 -- where the ends of all inputs are noted, each is done and worked
 pub all-worked : {s : Spec} {files : _} {takes gives : ℕ} {p : BoxPicture} {ins outs : Lists}
@@ -30,8 +27,7 @@ all-worked {takes = takes} {p = p} k m noted i = elim (cases_lt i takes) [
   | inl lt ↦
       let r = read-up k i lt (noted i) in (
         ap not r.not_closed,
-        sym (append-nil (m.worked i)) ∙ ap (λ l. m.worked i ++ l) (sym r.all_worked)
-            ∙ sym (m.ins_are i),
+        grind (arith, append-nil),
       )
   | inr le ↦
       let none = k.nothing_past i le in (
@@ -51,11 +47,8 @@ pub gives-held : (M : List Row → Type 0) (p : BoxPicture) (outs : Lists) (done
     → ((kept_output p 0).fin_out ≡ true → (p.work.made ≡ []) × (p.work.unmade ≡ [])
     × (p.work.ended ≡ true))
     → GivesHeld M done (out_stream p outs 0)
-gives-held M p outs done some gathered made over = go p.work.ended refl
-  where
-    go : (b : Bool) → p.work.ended ≡ b → GivesHeld M done (out_stream p outs 0)
-    go true e = search (arith, append_assoc, front-of)
-    go false e = search (arith, front-none, and_parts)
+gives-held M p outs done some gathered made over =
+    grind (arith, append_assoc, front-of, front-none, and_parts)
 
 -- A sort gives the rows of its input in an order that its keys allow.
 pub sort-gives : (order : SortSpec) → KindGives (spec.Sort order)
@@ -249,8 +242,7 @@ module _ (order : SortSpec) (files : _) (takes : ℕ) (p : BoxPicture) (ins outs
         before_waits = λ s. behind-out (inputs-sorted n s) out refl;
         held = λ some. each-port (HoldsBack keys out) (in_stream p ins) (holds-back some) n 0 takes;
         nothing_waits = λ done. nothing-left (and_parts _ _ done).0;
-        inputs_done = λ done. all-done (in_stream p ins) (λ i. stays-open p ins outs i 0 k.keeps
-            (subst (λ z. HasReadEnough z ins → ⊥) (sym k.loaded) (λ x. x)) one done) n 0 takes;
+        inputs_done = grind (arith, all-done, stays-open);
       }
 
 -- A merge gives the rows of its inputs, in order where each of these is.

@@ -1,7 +1,7 @@
 -- The types that stand at the open ends of a plan. Each block stands before nodes that fit the
 -- types that it leaves.
-use Rattle.std.proofs.Common.{IfSome, List, None, Option, Some, [], ap, append_assoc, ap₂, arith, length, length-append, map, refl, replicate, subst, suc, sym, zero, ℕ, ◌++◌, ◌∙◌, ◌∷◌, ◌≡◌}
-use Rattle.plan_ends.proofs.Prelude.{All, All-append, AllByRecursion, AllTyped, AreKeyPairs, Cond, DraftNode, Expr, FitsInput, FitsOrder, GroupSpec, Grouped, IsAmong, IsItem, IsTypedFilter, IsTypedShape, OneType, Plain, PlanJoin, SelectPlan, Shape, SortSpec, Span, Spec, StateCall, Types, TypesFit, append-nil, call_arguments, columns_of, filter_nodes, gather_nodes, group_row_types, group_spec, group_types, joint_node, lane_nodes, length-replicate, limit_nodes, map-append, map-map, partial_types, passes-type, plan_nodes, read_nodes, replaced-at, run-at, shape_nodes, shape_of, sort_nodes, source_nodes, state_of, taken_by, type_of, ⊤}
+use Rattle.std.proofs.lemmas.Grind.{common_steps}
+use Rattle.plan_ends.proofs.Prelude.{IfSome, List, None, Option, Some, [], ap, append_assoc, ap₂, arith, length, length-append, map, refl, replicate, subst, suc, sym, zero, ℕ, ◌++◌, ◌∙◌, ◌∷◌, ◌≡◌, All, All-append, AllByRecursion, AllTyped, AreKeyPairs, Cond, DraftNode, Expr, FitsInput, FitsOrder, GroupSpec, Grouped, IsAmong, IsItem, IsTypedFilter, IsTypedShape, OneType, Plain, PlanJoin, SelectPlan, Shape, SortSpec, Span, Spec, Types, TypesFit, append-nil, call_arguments, columns_of, filter_nodes, gather_nodes, group_row_types, group_spec, group_types, joint_node, lane_nodes, length-replicate, limit_nodes, map-append, map-map, partial_types, passes-type, plan_nodes, read_nodes, replaced-at, run-at, shape_nodes, shape_of, sort_nodes, source_nodes, taken_by, type_of, ⊤}
 use Rattle.query_model.specs.declared.processor_spec.Spec.TheVariants as spec
 use Rattle.plan_ends.proofs.ShapeTypes.{calls-fit, columns-are, columns-fit, shape_types, type_at}
 
@@ -68,11 +68,7 @@ resize-type m u = passes-type spec.Resize m u (each-fits spec.Resize 0 m u (λ i
 
 items-type : (items : List Expr) (u v : Types) → All (IsItem u) items
     → v ≡ map (λ e. type_of e u) items → OneType (spec.Expression items) (u ∷ []) v
-items-type items u v h made = record {
-  fit = (h, tt);
-  makes = λ t us all w. w.4 ∙ ap (λ z. map (λ e. type_of e z) items)
-      ((resize-type 1 u).makes w.1 us all (w.0, w.1, w.2, w.3, refl)) ∙ sym made;
-}
+items-type items u v h made = grind (arith, common_steps, resize-type)
 
 -- rows of these types can be put in the order
 abbrev pub FitsOrdering : Types → Option SortSpec → Type 0
@@ -121,8 +117,7 @@ shape-typed more (Grouped g) u rows order k t o rest =
     let groups : GroupSpec = group_spec g u rows in
     let v : Types = map (type_at (group_row_types g u)) g.picks in
     let w : Types = group_row_types g u in
-    let same : w ≡ group_types groups =
-    ap (λ l. groups.keys ++ l) (sym (map-map (λ (c : StateCall). c.kind) (state_of u) g.calls)) in
+    let same : w ≡ group_types groups = grind (arith, map-map) in
     let calls = calls-fit u g.calls t.calls in
     let arguments : List Expr = columns_of g.keys ++ call_arguments g.calls in
     simp append_assoc (lanes-typed _ (spec.Expression arguments) 6 0 k [] u (partial_types groups)
@@ -181,10 +176,7 @@ read-typed more sources (Some j) lanes u h t rest =
     let resize : DraftNode =
     record { spec = spec.Resize; rank = 2; offset = 1; takes = m; gives = 1 } in
     let one : OneType join (u ∷ w ∷ []) (u ++ w) = record {
-      fit = (
-        record { types_are = t.left; pairs_within = t.pairs },
-        (record { types_are = refl; pairs_within = t.pairs }, tt),
-      );
+      fit = grind arith;
       makes = λ z us all e. e ∙ ap (λ l. l ++ w) (sym t.left);
     } in
     let joined : AllTyped rest' (u ∷ w ∷ []) =

@@ -1,11 +1,15 @@
 -- The streams of a run that has ended.
 use Rattle.exec_laws.specs.Names.{IsDone, box_at}
-use Rattle.plan_meaning.specs.Names.{GivesIf, Part, Parts, Stream}
+use Rattle.plan_meaning.specs.Names.{GivesIf, Part, Parts, Stream, all_valid, sources_rows}
 use Rattle.plan_meaning.specs.Prelude.{DraftNode, NodePort, no_draft, ports_of, with_nodes}
-use Rattle.proc_api.specs.Names.{AreCounts, ArePortsOf, BoxPicture, GrowthForm, Keeps, Lists, chunk_rows, is_of, kept_input, kept_inputs, kept_output, kept_outputs, last_count}
-use Rattle.proc_api.specs.Prelude.{ColumnType, Kind, PartSpec, Spec, Table}
-use Rattle.query_model.specs.Names.{Files, UsedPart, bad_place, file_bytes, good_rows, part_records}
-use Rattle.std.specs.Prelude.{List, None, Option, Some, [], cond, false, is_none, length, map, not, true, ℕ, ⊤, ◌&&◌, ◌+◌, ◌<◌, ◌∷◌, ◌≡◌, ◌≤◌, ◌⊎◌}
+use Rattle.proc_api.specs.Names.{AreCounts, ArePortsOf, BoxPicture, GrowthForm, IsSourceKind, Keeps, Lists, chunk_rows, input_count, is_of, kept_input, kept_inputs, kept_output, kept_outputs, last_count, output_count}
+unfoldable use Rattle.proc_api.specs.Names.{wire_at}
+use Rattle.proc_api.specs.Prelude.{ColumnType, Kind, PartSpec, Spec, Table, Wire, kind_of}
+use Rattle.query_model.specs.Database.{paths_in}
+use Rattle.query_model.specs.ListFiles.{list_bad_line}
+use Rattle.query_model.specs.Names.{Files, UsedPart, bad_line_in, bad_place, file_bytes, good_rows, part_records}
+use Rattle.select_planner.specs.Steps.{Reading, part_spec, path_sources}
+use Rattle.std.specs.Prelude.{Bool, List, None, Option, Some, [], cond, false, is_none, length, map, not, slice_index_or, suc, true, ℕ, ⊤, ◌&&◌, ◌++◌, ◌+◌, ◌<◌, ◌∷◌, ◌≡◌, ◌≤◌, ◌⊎◌}
 use Rattle.query_model.specs.declared.processor_spec.Spec.TheVariants as spec
 
 abbrev pub part_in : PartSpec → Option (List ℕ) → Part
@@ -17,9 +21,38 @@ part_in part (Some bytes) =
       valid = is_none (bad_place 1 part.types records);
     }
 
--- the parts of the files
+abbrev pub part_of : Files → PartSpec → Part
+part_of files part = part_in part (file_bytes files part.path)
+
+-- the parts of the files, none of which is a list
+abbrev pub paths_of : Files → Parts
+paths_of files (spec.Csv part) = part_of files part
+paths_of files _ = record { rows = []; valid = true }
+
+-- how the parts of a list are read
+abbrev pub reading_in : PartSpec → Reading
+reading_in list =
+    record { table = list.table; types = list.types; header = list.header; rows = list.rows }
+
+-- the sources of the parts that a list's file names
+abbrev pub listed_sources : PartSpec → Option (List ℕ) → List Spec
+listed_sources list text = path_sources (reading_in list) 1 (paths_in text)
+
+abbrev pub is_valid_list : Option (List ℕ) → Bool
+is_valid_list None = false
+is_valid_list (Some text) = is_none (list_bad_line text)
+
+-- a list of parts, by the bytes of its own file
+abbrev pub list_in : Files → PartSpec → Option (List ℕ) → Part
+list_in files list text = record {
+  rows = sources_rows (paths_of files) (listed_sources list text);
+  valid = is_valid_list text && all_valid (paths_of files) (listed_sources list text);
+}
+
+-- the parts and the lists of parts of the files
 abbrev pub parts_of : Files → Parts
-parts_of files part = part_in part (file_bytes files part.path)
+parts_of files (spec.List list) = list_in files list (file_bytes files list.path)
+parts_of files s = paths_of files s
 
 abbrev pub chunk_types : List Table → List (List ColumnType)
 chunk_types chunks = map (λ (t : Table). t.types) chunks
@@ -55,7 +88,7 @@ NothingPast ports lists = (i : ℕ) → ports ≤ i → lists i ≡ []
 pub record IsKept (s : Spec) (files : Files) (takes gives : ℕ) (p : BoxPicture) (ins outs : Lists)
     : Type 0 where
   pub loaded : p.spec ≡ Some s
-  pub told : (part : PartSpec) → s ≡ spec.Csv part → p.files ≡ Some files
+  pub told : IsSourceKind (kind_of s) → p.files ≡ Some files
   pub ports : ArePortsOf (Some s) p.growth takes gives
   pub few_inputs : takes ≤ 32
   pub few_outputs : gives ≤ 16
@@ -92,14 +125,31 @@ abbrev pub pulled_since : Kind → List BoxPicture → ℕ
 pulled_since k [] = 0
 pulled_since k (p ∷ boxes) = cond (is_of k p) p.notes.pulled 0 + pulled_since k boxes
 
+-- the kinds whose nodes have in every run the ports that the plan gives them
+abbrev pub IsUngrown : Spec → Type 0
+IsUngrown (spec.List list) = ⊥
+IsUngrown _ = ⊤
+
 -- a node with the ports of its spec, of whose kind the processor contract gives the promises
-pub record IsReady (n : DraftNode) : Type 0 where
+pub record IsOrdinary (n : DraftNode) : Type 0 where
+  pub ungrown : IsUngrown n.spec
   pub ports : (g : Option GrowthForm) → ArePortsOf (Some n.spec) g n.takes n.gives
   pub gives : KindGives n.spec
+
+-- a list of parts, whose inputs come with its growth
+pub record IsListNode (n : DraftNode) : Type 0 where
+  pub list : PartSpec
+  pub is : n.spec ≡ spec.List list
+  pub takes : n.takes ≡ 0
+  pub gives : n.gives ≡ 1
+
+abbrev pub IsReady : DraftNode → Type 0
+IsReady n = IsOrdinary n ⊎ IsListNode n
 
 -- ports of a kind whose promises the processor contract gives by the proofs of this crate
 abbrev pub KnownPorts : Spec → (takes gives : ℕ) → Type 0
 KnownPorts (spec.Csv part) takes gives = AreCounts takes gives 0 1
+KnownPorts (spec.List list) takes gives = AreCounts takes gives 0 1
 KnownPorts (spec.Numbers count rows) takes gives = AreCounts takes gives 0 1
 KnownPorts (spec.Filter c) takes gives = AreCounts takes gives 1 1
 KnownPorts (spec.Expression items) takes gives = AreCounts takes gives 1 1
@@ -111,29 +161,73 @@ KnownPorts (spec.Sort order) takes gives = AreCounts takes gives 1 1
 KnownPorts (spec.MergeSorted order) takes gives = gives ≡ 1
 KnownPorts (spec.HashJoin join) takes gives = AreCounts takes gives 2 1
 KnownPorts spec.Collect takes gives = AreCounts takes gives 1 0
-KnownPorts (spec.List list) takes gives = ⊥
 
--- a part that a source is loaded with, as queries use parts
+-- a part or a list that a source is loaded with, as queries use parts
 abbrev pub used_part : PartSpec → UsedPart
 used_part p = record { table = p.table; part = p.part; types = p.types; path = p.path }
 
--- what is true of the part that a source reads; a list of parts is no source here
-abbrev pub PartHas : (PartSpec → Type 0) → Spec → Type 0
-PartHas P (spec.Csv part) = P part
-PartHas P (spec.List list) = ⊥
-PartHas P _ = ⊤
+-- what is true of the part, or of the list of parts, that a source reads
+abbrev pub SourceHas : (P L : PartSpec → Type 0) → Spec → Type 0
+SourceHas P L (spec.Csv part) = P part
+SourceHas P L (spec.List list) = L list
+SourceHas P L _ = ⊤
 
--- a node of a known kind, and this is true of its part where it reads one
-abbrev pub IsStep : (PartSpec → Type 0) → DraftNode → Type 0
-IsStep P n = KnownPorts n.spec n.takes n.gives × PartHas P n.spec
+-- a node of a known kind, and this is true of its part or list where it reads one
+abbrev pub IsStep : (P L : PartSpec → Type 0) → DraftNode → Type 0
+IsStep P L n = KnownPorts n.spec n.takes n.gives × SourceHas P L n.spec
 
--- An ended run by lawful boxes that were loaded with the specs of these nodes. The sources tell
--- these files.
+-- ---- lists that grew
+
+-- The node that was born for a list's part, with an edge from its output to input i of the list.
+pub record IsListedNode (list : PartSpec) (wires : List Wire) (boxes : List BoxPicture) (n i : ℕ)
+    (path : List ℕ) : Type 0 where
+  pub node : ℕ
+  pub in_range : node < length boxes
+  pub loaded : (box_at boxes node).spec
+      ≡ Some (spec.Csv (part_spec (reading_in list) (suc i) path))
+  pub inputs : input_count wires node ≡ 0
+  pub outputs : output_count wires node ≡ 1
+  pub edge : ℕ
+  pub edge_in_range : edge < length wires
+  pub wire : wire_at wires edge ≡ record { from = node; out = 0; to = n; input = i }
+
+-- The list at node n is valid, and it grew by a source for each of its parts.
+pub record HasListed (list : PartSpec) (files : Files) (wires : List Wire)
+    (boxes : List BoxPicture) (n : ℕ) : Type 0 where
+  pub text : List ℕ
+  pub are : file_bytes files list.path ≡ Some text
+  pub valid : bad_line_in (Some text) ≡ None
+  pub nodes : (i : ℕ) (path : List ℕ) → i < length (paths_in (Some text))
+      → slice_index_or (paths_in (Some text)) i path ≡ path
+      → IsListedNode list wires boxes n i path
+  pub count : input_count wires n ≡ length (paths_in (Some text))
+
+-- A graph that grew by its lists alone: each of them grew by its parts' sources or has no input,
+-- and else the first nodes have the ports that they had.
+pub record HasGrown (files : Files) (nodes : List DraftNode) (wires more : List Wire)
+    (boxes : List BoxPicture) : Type 0 where
+  pub inputs : (n : ℕ) (z : DraftNode) → n < length nodes → slice_index_or nodes n z ≡ z
+      → IsUngrown z.spec → input_count (wires ++ more) n ≡ input_count wires n
+  pub outputs : (n : ℕ) → n < length nodes
+      → output_count (wires ++ more) n ≡ output_count wires n
+  pub list_ports : (n : ℕ) (list : PartSpec) → n < length nodes
+      → (box_at boxes n).spec ≡ Some (spec.List list)
+      → ArePortsOf (Some (spec.List list)) (box_at boxes n).growth (input_count (wires ++ more) n)
+      (output_count (wires ++ more) n)
+  pub lists : (n : ℕ) (list : PartSpec) → n < length nodes
+      → (box_at boxes n).spec ≡ Some (spec.List list)
+      → (input_count (wires ++ more) n ≡ 0) ⊎ HasListed list files (wires ++ more) boxes n
+
+-- An ended run by lawful boxes, of which the first were loaded with the specs of these nodes. The
+-- sources tell these files.
 pub record HasEnded (files : Files) (nodes : List DraftNode) (boxes : List BoxPicture) : Type 0
   where
-    pub specs : map (λ (b : BoxPicture). b.spec) boxes ≡ map (λ (n : DraftNode). Some n.spec) nodes
+    pub more : List Wire
+    pub count : length nodes ≤ length boxes
+    pub specs : (n : ℕ) (z : DraftNode) → n < length nodes → slice_index_or nodes n z ≡ z
+        → (box_at boxes n).spec ≡ Some z.spec
     pub lawful : (n : ℕ) → n < length boxes → (box_at boxes n).lawful ≡ true
-    pub told : (n : ℕ) (part : PartSpec) → n < length boxes
-        → (box_at boxes n).spec ≡ Some (spec.Csv part)
-        → (box_at boxes n).files ≡ Some files
-    pub done : IsDone (with_nodes nodes no_draft).wires boxes
+    pub told : (n : ℕ) (s : Spec) → n < length boxes → (box_at boxes n).spec ≡ Some s
+        → IsSourceKind (kind_of s) → (box_at boxes n).files ≡ Some files
+    pub grown : HasGrown files nodes (with_nodes nodes no_draft).wires more boxes
+    pub done : IsDone ((with_nodes nodes no_draft).wires ++ more) boxes
