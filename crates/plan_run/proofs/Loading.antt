@@ -1,13 +1,13 @@
 -- Laws of loading and unloading boxes one after another.
-use Rattle.std.proofs.Common.{◌≡◌, ◌≢◌, ℕ, ◌+◌, ◌<◌, List, [], ◌∷◌, ◌++◌, map, length, get_or, set, drop, refl, ap, subst, ◌∙◌, sym, arith, inl, inr}
-use Rattle.plan_run.proofs.Imports.{All, All-from_get_or, All-get_or, All-head, All-tail, AreStill, IsNoList, IsStill, Kind, LoadsFirst, OnlyBox, Spec, UnloadsFirst, append_assoc, box_at, cases_eq, cases_lt, drop-drop, get_or-drop, get_or-map, get_or_default, kind_of, kinds_in, kinds_of, length-map, one-more, spec_at}
+use Rattle.std.proofs.Common.{◌≡◌, ℕ, ◌+◌, ◌<◌, true, false, List, [], ◌∷◌, ◌++◌, map, length, length-append, get_or, set, drop, refl, ap, subst, ◌∙◌, sym, arith, inl, inr}
+use Rattle.plan_run.proofs.Imports.{All, All-from_get_or, All-get_or, All-head, All-tail, AreStarting, AreStill, GraphForm, IsStill, KeepsBehind, Kind, LoadsFirst, OnlyBox, Spec, StartsAs, UnloadsFirst, append_assoc, box_at, cases_eq, cases_lt, drop-drop, ext_get_or, get_or-drop, get_or-map, get_or_append_left, get_or_default, is_reserved, kind_of, kinds_in, kinds_of, kinds_taken, length-map, one-more, spec_at}
 use Rattle.query_model.specs.declared.processor_spec.Kind.TheVariants as kind
 use Rattle.query_model.specs.declared.processor_spec.Spec.TheVariants as spec
-use Rattle.proc_api.specs.Names.{BoxPicture, no_box, IsBlank, IsFresh, Loads, Unloads}
+use Rattle.proc_api.specs.Names.{BoxPicture, no_box, IsBlank, Loads, Unloads}
 use Rattle.plan_run.proofs.OneBox.{box-read, box-set, only-box}
 
-pub kept : (p : BoxPicture) → IsStill p p
-kept p = record {
+pub still : (p : BoxPicture) → IsStill p p
+still p = record {
   kind = refl;
   lawful = refl;
   files = refl;
@@ -68,7 +68,7 @@ loads-still k specs before after f = record {
       files = l.files;
       counts = l.counts;
     }
-    | inr le ↦ subst (IsStill (box_at before n)) (sym (f.others n le)) (kept (box_at before n))
+    | inr le ↦ subst (IsStill (box_at before n)) (sym (f.others n le)) (still (box_at before n))
   ];
 }
 
@@ -79,25 +79,13 @@ pub next-blank : (k : ℕ) (specs : List Spec) (before mid : List BoxPicture)
 next-blank k specs before mid f all lt = subst IsBlank (sym (f.others k (omega arith)))
     (at-all IsBlank before k lt all)
 
-kind-at : (kinds : List Kind) (boxes : List BoxPicture) (k : ℕ) (d : Kind)
-    → map (λ (p : BoxPicture). p.kind) boxes ≡ kinds → k < length boxes
-    → get_or kinds k d ≡ (box_at boxes k).kind
-unfolding box_at
-kind-at kinds boxes k d e lt = ap (λ l. get_or l k d) (sym e)
-    ∙ get_or-map (λ (p : BoxPicture). p.kind) boxes k no_box d lt
-
-spec-kind : (specs : List Spec) (k : ℕ) → k < length specs
-    → get_or (kinds_of specs) k kind.Collect ≡ kind_of (spec_at specs k)
-unfolding spec_at
-spec-kind specs k lt = get_or-map kind_of specs k spec.Collect kind.Collect lt
-
+-- the next box is of the kind of the next spec
 pub next-kind : (k : ℕ) (specs : List Spec) (before mid : List BoxPicture) (s : Spec)
-    → LoadsFirst k specs before mid → map (λ (p : BoxPicture). p.kind) before ≡ kinds_of specs
-    → k < length before → k < length specs → s ≡ spec_at specs k
-    → kind_of s ≡ (box_at mid k).kind
-next-kind k specs before mid s f kinds lt in_specs here =
-    ap kind_of here ∙ sym (spec-kind specs k in_specs) ∙ kind-at (kinds_of specs) before k
-    kind.Collect kinds lt ∙ ap (λ (p : BoxPicture). p.kind) (sym (f.others k (omega arith)))
+    → LoadsFirst k specs before mid
+    → ((n : ℕ) → n < length specs → kind_of (spec_at specs n) ≡ (box_at before n).kind)
+    → k < length specs → s ≡ spec_at specs k → kind_of s ≡ (box_at mid k).kind
+next-kind k specs before mid s f kinds lt here = ap kind_of here ∙ kinds k lt
+    ∙ ap (λ (p : BoxPicture). p.kind) (sym (f.others k (omega arith)))
 
 -- the spec that is taken from the front of what is left
 pub next-spec : (specs rest : List Spec) (k : ℕ) (s : Spec) → rest ≡ drop k specs
@@ -140,24 +128,61 @@ unloaded-blank k before after len f =
 
 -- ---- loaded boxes
 
-pub loaded-fresh : (specs : List Spec) (before after : List BoxPicture)
-    → length before ≡ length specs → LoadsFirst (length specs) specs before after
-    → All IsFresh after
-loaded-fresh specs before after len f =
-    all-at IsFresh after (λ n lt. (f.loaded n (subst (λ k. n < k) (f.count ∙ len) lt)).fresh)
+-- the loaded boxes start the graph, whose other nodes are kept
+pub loaded-starting : (specs : List Spec) (form : GraphForm) (before after : List BoxPicture)
+    → length form.ranks ≡ length before → KeepsBehind (length specs) form → All IsBlank before
+    → LoadsFirst (length specs) specs before after → AreStarting form.reserves after
+unfolding box_at
+loaded-starting specs form before after ranks keeps blank f n lt =
+    let count = f.count in
+    let kept = keeps.kept n (omega (arith, lt, count, ranks)) in
+    elim (cases_lt n (length specs)) [
+      | inl less ↦
+          let first : is_reserved form.reserves n ≡ false = grind (arith, kept, less) in
+          subst (λ b. StartsAs b (box_at after n)) (sym first) (f.loaded n less).fresh
+      | inr past ↦
+          let behind : is_reserved form.reserves n ≡ true = grind (arith, kept, past) in
+          subst (λ b. StartsAs b (box_at after n)) (sym behind)
+          (subst IsBlank (sym (f.others n past))
+          (at-all IsBlank before n (omega (arith, lt, count)) blank))
+    ]
 
-none-list : (specs : List Spec) (n : ℕ) → All (λ s. kind_of s ≢ kind.List) specs → n < length specs
-    → kind_of (spec_at specs n) ≢ kind.List
-unfolding spec_at
-none-list specs n none lt = All-get_or (λ s. kind_of s ≢ kind.List) specs n spec.Collect lt none
+-- the kinds of the first boxes are those of the specs
+pub first-kinds : (specs : List Spec) (kept : List Kind) (boxes : List BoxPicture)
+    → kinds_in boxes ≡ kinds_taken specs kept → (n : ℕ) → n < length specs
+    → kind_of (spec_at specs n) ≡ (box_at boxes n).kind
+unfolding box_at spec_at
+first-kinds specs kept boxes e n lt =
+    let in_kinds : n < length (kinds_of specs) =
+    subst (λ k. n < k) (sym (length-map specs kind_of)) lt in
+    let len = ap (λ (l : List Kind). length l) e in
+    let boxes_len = length-map boxes (λ (p : BoxPicture). p.kind) in
+    let all = length-append (kinds_of specs) kept in
+    sym (get_or-map kind_of specs n spec.Collect kind.Collect lt)
+    ∙ sym (get_or_append_left (kinds_of specs) kept kind.Collect n in_kinds)
+    ∙ ap (λ l. get_or l n kind.Collect) (sym e)
+    ∙ get_or-map (λ (p : BoxPicture). p.kind) boxes n no_box kind.Collect
+    (omega (arith, in_kinds, len, boxes_len, all))
 
-pub loaded-no-list : (specs : List Spec) (before after : List BoxPicture)
-    → length before ≡ length specs → All (λ s. kind_of s ≢ kind.List) specs
-    → LoadsFirst (length specs) specs before after → All IsNoList after
-loaded-no-list specs before after len none f = all-at IsNoList after (λ n lt.
-    let in_specs : n < length specs = subst (λ k. n < k) (f.count ∙ len) lt in
-    let l = f.loaded n in_specs in
-    λ is_list. none-list specs n none in_specs (l.of_kind ∙ sym l.kind ∙ is_list))
+pub boxes-count : (specs : List Spec) (kept : List Kind) (boxes : List BoxPicture)
+    → kinds_in boxes ≡ kinds_taken specs kept → length boxes ≡ length specs + length kept
+boxes-count specs kept boxes e = sym (length-map boxes (λ (p : BoxPicture). p.kind))
+    ∙ ap (λ (l : List Kind). length l) e ∙ length-append (kinds_of specs) kept
+    ∙ ap (λ n. n + length kept) (length-map specs kind_of)
+
+-- boxes that keep what they are keep their kinds
+pub still-kinds : (before after : List BoxPicture) → AreStill before after
+    → kinds_in after ≡ kinds_in before
+unfolding box_at
+still-kinds before after s =
+    let kind_at : BoxPicture → Kind = λ p. p.kind in
+    let len : length (kinds_in after) ≡ length after = length-map after kind_at in
+    ext_get_or kind.Collect (kinds_in after) (kinds_in before)
+    (len ∙ s.count ∙ sym (length-map before kind_at)) (λ n lt.
+    let in_after : n < length after = subst (λ k. n < k) len lt in
+    let in_before : n < length before = subst (λ k. n < k) s.count in_after in
+    get_or-map kind_at after n no_box kind.Collect in_after ∙ (s.each n in_before).kind
+    ∙ sym (get_or-map kind_at before n no_box kind.Collect in_before))
 
 -- ---- lists of boxes, as the code has them
 
@@ -167,11 +192,6 @@ map-len f xs = length-map xs f
 pub in-map : {A : Type 0} (f : A → BoxPicture) (xs : List A) (i : ℕ) → i < length xs
     → i < length (map f xs)
 in-map f xs i lt = subst (λ n. i < n) (sym (map-len f xs)) lt
-
-pub same-count : {A : Type 0} (f : A → BoxPicture) (xs : List A) (specs : List Spec)
-    → kinds_in (map f xs) ≡ kinds_of specs → length (map f xs) ≡ length specs
-same-count f xs specs e = sym (length-map (map f xs) (λ (p : BoxPicture). p.kind)) ∙ ap length e
-    ∙ length-map specs kind_of
 
 pub front-all : {A : Type 0} (P : BoxPicture → Type 0) (f : A → BoxPicture) (xs : List A) (x : A)
     → x ≡ get_or xs 0 x → 0 < length xs → All P (map f xs) → P (f x)
@@ -206,6 +226,6 @@ still-at f xs n x y lt read s =
             (sym (box-read f xs n x lt read)) (subst (IsStill (f x)) (sym (box-set f xs n y lt))
             s))
         | inr ne ↦ subst (IsStill (box_at (map f xs) m)) (sym (only.others m ne))
-            (kept (box_at (map f xs) m))
+            (still (box_at (map f xs) m))
       ];
     }

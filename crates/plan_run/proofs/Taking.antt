@@ -1,6 +1,6 @@
 -- Laws of what is taken from a rack, and what is left.
-use Rattle.std.proofs.Common.{◌≡◌, ℕ, zero, suc, ◌+◌, ◌<◌, ◌≤◌, Bool, true, false, cond, List, [], ◌∷◌, ◌++◌, map, take, length, get_or, refl, ap, subst, ◌∙◌, sym, arith}
-use Rattle.plan_run.proofs.Imports.{All, All-cons, All-head, All-nil, All-tail, BoxPicture, HasStock, Kind, Spec, TakesOut, count_by, eq-eqb, eqb-true, first_of, get_or-map, is_of, kind_of, kind_place, kinds_in, kinds_of, left_after, length-map, map_push, same_kind, sum_by-cons, take_more, taken_for, without_first}
+use Rattle.std.proofs.Common.{◌≡◌, ℕ, zero, suc, ◌+◌, ◌<◌, ◌≤◌, Bool, true, false, cond, List, [], ◌∷◌, ◌++◌, map, take, length, length-append, get_or, refl, ap, subst, ◌∙◌, sym, arith}
+use Rattle.plan_run.proofs.Imports.{All, All-cons, All-head, All-nil, All-tail, BoxPicture, HasStock, Kind, Spec, TakesOut, count_by, eq-eqb, eqb-true, first_of, get_or-append-add, get_or-map, get_or_append_left, get_or_default, is_of, kind_of, kind_place, kinds_in, kinds_of, kinds_taken, left_after, length-map, map_push, same_kind, sum_by-cons, take_more, taken_for, without_first}
 use Rattle.query_model.specs.declared.processor_spec.Kind.TheVariants as kind
 
 -- ---- kinds
@@ -230,6 +230,15 @@ pub left-more : (kinds : List Kind) (n : ℕ) (k : Kind) (boxes left : List BoxP
 left-more kinds n k boxes left more l = ap (without_first k) l
     ∙ sym (left-snoc (take n kinds) k boxes) ∙ sym (ap (λ ks. left_after ks boxes) more)
 
+-- at the same place
+pub taken-same : (kinds : List Kind) (n m : ℕ) (boxes taken : List BoxPicture) → n ≡ m
+    → taken ≡ taken_for (take n kinds) boxes → taken ≡ taken_for (take m kinds) boxes
+taken-same kinds n m boxes taken e h = subst (λ k. taken ≡ taken_for (take k kinds) boxes) e h
+
+pub left-same : (kinds : List Kind) (n m : ℕ) (boxes left : List BoxPicture) → n ≡ m
+    → left ≡ left_after (take n kinds) boxes → left ≡ left_after (take m kinds) boxes
+left-same kinds n m boxes left e h = subst (λ k. left ≡ left_after (take k kinds) boxes) e h
+
 -- ---- the next box, as the code takes it
 
 pub pushed-first : {A : Type 0} (f : A → BoxPicture) (k : Kind) (before after : List BoxPicture)
@@ -242,24 +251,43 @@ pub left-first : {A : Type 0} (f : A → BoxPicture) (k : Kind) (before : List B
     (ys : List A) (b : A) → TakesOut k before (map f ys) (f b) → map f ys ≡ without_first k before
 left-first f k before ys b t = sym (takes-first k before (map f ys) (f b) t).1
 
-kind-read : (specs : List Spec) (i : ℕ) (s : Spec) (k : Kind) → s ≡ get_or specs i s
-    → i < length specs → k ≡ kind_of s → k ≡ get_or (kinds_of specs) i k
-kind-read specs i s k read lt e = e ∙ ap kind_of read ∙ sym (get_or-map kind_of specs i s k lt)
+pub kinds-length : (specs : List Spec) (kept : List Kind)
+    → length (kinds_taken specs kept) ≡ length specs + length kept
+kinds-length specs kept = length-append (kinds_of specs) kept
+    ∙ ap (λ n. n + length kept) (length-map specs kind_of)
 
-in-kinds : (specs : List Spec) (i : ℕ) → i < length specs → i < length (kinds_of specs)
-in-kinds specs i lt = subst (λ n. i < n) (sym (length-map specs kind_of)) lt
+-- the kind that is asked for next, where it is that of the next node
+pub node-kind : (specs : List Spec) (kept : List Kind) (i : ℕ) (s : Spec) (k : Kind)
+    → s ≡ get_or specs i s → i < length specs → k ≡ kind_of s
+    → get_or (kinds_taken specs kept) i k ≡ k
+node-kind specs kept i s k read lt e =
+    get_or_append_left (kinds_of specs) kept k i
+    (subst (λ n. i < n) (sym (length-map specs kind_of)) lt)
+    ∙ get_or-map kind_of specs i s k lt ∙ ap kind_of (sym read) ∙ sym e
 
-pub next-there : (specs : List Spec) (i : ℕ) (s : Spec) (k : Kind) (before left : List BoxPicture)
-    → HasStock (kinds_of specs) before → left ≡ left_after (take i (kinds_of specs)) before
-    → s ≡ get_or specs i s → i < length specs → k ≡ kind_of s → 0 < count_by (is_of k) left
-next-there specs i s k before left stock l read lt e =
+-- or the next that is kept
+pub kept-kind : (specs : List Spec) (kept : List Kind) (i : ℕ) (k : Kind) → k ≡ get_or kept i k
+    → get_or (kinds_taken specs kept) (length specs + i) k ≡ k
+kept-kind specs kept i k read =
+    ap (λ n. get_or (kinds_taken specs kept) (n + i) k) (sym (length-map specs kind_of))
+    ∙ get_or-append-add (kinds_of specs) kept i k ∙ sym read
+
+pub kept-read : (specs : List Spec) (kept seen : List Kind) (i : ℕ) → seen ≡ kept → i < length kept
+    → get_or (kinds_taken specs kept) (length specs + i) (get_or seen i kind.Csv)
+    ≡ get_or seen i kind.Csv
+kept-read specs kept seen i e lt =
+    let k : Kind = get_or seen i kind.Csv in
+    kept-kind specs kept i k
+    (ap (λ l. get_or l i kind.Csv) e ∙ get_or_default kept i kind.Csv k lt)
+
+pub next-there : (kinds : List Kind) (i : ℕ) (k : Kind) (before left : List BoxPicture)
+    → HasStock kinds before → left ≡ left_after (take i kinds) before → i < length kinds
+    → get_or kinds i k ≡ k → 0 < count_by (is_of k) left
+next-there kinds i k before left stock l lt e =
     subst (λ boxes. 0 < count_by (is_of k) boxes) (sym l)
-    (subst (λ j. 0 < count_by (is_of j) (left_after (take i (kinds_of specs)) before))
-    (sym (kind-read specs i s k read lt e))
-    (still-there (kinds_of specs) i k before stock (in-kinds specs i lt)))
+    (subst (λ j. 0 < count_by (is_of j) (left_after (take i kinds) before)) e
+    (still-there kinds i k before stock lt))
 
-pub more-kinds : (specs : List Spec) (i : ℕ) (s : Spec) (k : Kind) → s ≡ get_or specs i s
-    → i < length specs → k ≡ kind_of s
-    → take (i + 1) (kinds_of specs) ≡ take i (kinds_of specs) ++ k ∷ []
-more-kinds specs i s k read lt e = take_more (kinds_of specs) i k (in-kinds specs i lt)
-    ∙ ap (λ j. take i (kinds_of specs) ++ j ∷ []) (sym (kind-read specs i s k read lt e))
+pub more-kinds : (kinds : List Kind) (i : ℕ) (k : Kind) → i < length kinds
+    → get_or kinds i k ≡ k → take (i + 1) kinds ≡ take i kinds ++ k ∷ []
+more-kinds kinds i k lt e = take_more kinds i k lt ∙ ap (λ j. take i kinds ++ j ∷ []) e

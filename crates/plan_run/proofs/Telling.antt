@@ -1,12 +1,12 @@
 -- What a run of a plan tells, from the steps that it is made of.
-use Rattle.std.proofs.Common.{◌≡◌, ◌⊎◌, ℕ, ◌+◌, ◌<◌, ◌≤◌, true, List, [], ◌++◌, map, length, Some, None, IsSome, Result, Ok, Err, IfOk, IfErr, ap, subst, ◌∙◌, sym, arith}
-use Rattle.plan_run.proofs.Imports.{All, All-append, All-get_or, AreLater, AreStill, GivesBack, GivesRows, GivesUnloaded, HasStock, IsBlankAgain, IsLater, IsStill, Kind, LoadsFirst, PlanFault, PlanFaultHolds, RanWith, ReadsByKind, RunsLoaded, RunsPlan, RunsTaken, Spec, StuckWith, Table, Wire, both_ways, ext_get_or, get_or-map, kind_of, kinds_of, left_after, length-map, spec_at, specs_of, taken_at, taken_for}
-use Rattle.query_model.specs.declared.processor_spec.Spec.TheVariants as spec
-use Rattle.proc_api.specs.Names.{BoxPicture, Notes, no_box, no_notes, IsBlank, IsFresh, IsSourceKind, HasNoReader, Loads, Unloads, raised}
-use Rattle.exec_laws.specs.Names.{IsBorn, box_at, StaysBox, GivenBack}
+use Rattle.std.proofs.Common.{◌≡◌, ◌⊎◌, ℕ, ◌+◌, ◌<◌, ◌≤◌, true, false, List, ◌++◌, length, length-append, Option, Some, None, IsSome, Result, Ok, Err, IfOk, IfErr, refl, ap, subst, ◌∙◌, sym, arith, inl, inr}
+use Rattle.std.proofs.lemmas.Bool.{lt-leb}
+use Rattle.plan_run.proofs.Imports.{All, All-append, AreLater, AreStarting, AreStill, Begins, Begun, GivesBack, GivesRows, GivesUnloaded, GraphForm, HasStock, IsBlankAgain, IsLater, IsStill, IsThese, KeepsBehind, Kind, LoadsFirst, PlanFault, PlanFaultHolds, RanKept, RanWith, ReadsByKind, RunsLoaded, RunsPlan, RunsTaken, Spec, StartsAs, StuckWith, Table, both_ways, cases_lt, is_reserved, kind_of, kinds_in, kinds_of, kinds_taken, left_after, length-map, spec_at, taken_at, taken_for}
+use Rattle.proc_api.specs.Names.{BoxPicture, Notes, no_notes, IsBlank, IsFresh, IsSourceKind, HasNoReader, Loads, Unloads, raised}
+use Rattle.exec_laws.specs.Names.{IsBorn, box_at, GivenBack, GivesBox, StaysBox}
 use Rattle.plan_run.specs.declared.run.PlanFault.TheVariants as end
-use Rattle.plan_run.proofs.Loading.{all-at, at-all}
-use Rattle.plan_run.proofs.Taking.{left-all, taken-all, taken-length}
+use Rattle.plan_run.proofs.Loading.{all-at, at-all, still}
+use Rattle.plan_run.proofs.Taking.{kinds-length, left-all, taken-all, taken-length}
 
 -- ---- one box
 
@@ -73,6 +73,55 @@ ran-box s p m q l t =
       pulled = omega (arith, no_pulled, since, pulled);
     }
 
+-- what a run makes of a box of a graph that it began with: the same box, later
+born-of : (p : BoxPicture) (s : Spec) → p.spec ≡ Some s → IsBorn p
+born-of p s e = subst IsSome (sym e) refl
+
+loads-later : (s : Spec) (p q : BoxPicture) → Loads p s q → IsLater p q
+loads-later s p q l = record {
+  kind = l.kind;
+  lawful = l.lawful;
+  files = l.files;
+  faults = le-of p.faults q.faults l.counts.faults;
+  pendings = le-of p.pendings q.pendings l.counts.pendings;
+  pulled = le-of p.pulled q.pulled l.counts.pulled;
+}
+
+same-later : (p q : BoxPicture) → q ≡ p → IsLater p q
+same-later p q e = subst (IsLater p) (sym e) (still-later p p (still p))
+
+gives-later : (p q : BoxPicture) → GivesBox p q → IsLater p q
+gives-later p q g = go p.spec refl
+  where
+    go : (o : Option Spec) → p.spec ≡ o → IsLater p q
+    go None e = elim (g.unborn e) [
+      | inl same ↦ same-later p q same
+      | inr w ↦ later-later p w.loaded q (loads-later w.spec p w.loaded w.loads)
+          (stays-later w.loaded q w.stays)
+    ]
+    go (Some s) e = stays-later p q (g.born (born-of p s e))
+
+-- a blank box that wasn't loaded before the run
+pub ran-kept : (p q : BoxPicture) → p.spec ≡ None → GivesBox p q → RanKept p q
+ran-kept p q blank g = elim (g.unborn blank) [
+  | inl same ↦ inl (same, subst IsBlank (sym same) blank)
+  | inr w ↦ inr (w.spec, ran-box w.spec p w.loaded q w.loads w.stays)
+]
+
+ran-later : (s : Spec) (p q : BoxPicture) → RanWith s p q → IsLater p q
+ran-later s p q ran = record {
+  kind = ran.kind;
+  lawful = ran.lawful;
+  files = ran.files;
+  faults = ran.faults;
+  pendings = ran.pendings;
+  pulled = let more = ran.pulled in omega (arith, more);
+}
+
+kept-later : (p q : BoxPicture) → RanKept p q → IsLater p q
+kept-later p q (inl same) = same-later p q same.0
+kept-later p q (inr r) = ran-later r.0 p q r.1
+
 unloads-after : (p q r : BoxPicture) → IsStill p q → Unloads q r → Unloads p r
 unloads-after p q r s u = record {
   kind = u.kind ∙ s.kind;
@@ -124,7 +173,7 @@ pub run-later : (loaded ended after : List BoxPicture) → GivenBack loaded ende
 run-later loaded ended after g s = record {
   count = s.count ∙ g.count;
   each = λ n lt. later-later (box_at loaded n) (box_at ended n) (box_at after n)
-      (stays-later (box_at loaded n) (box_at ended n) (g.each n lt))
+      (gives-later (box_at loaded n) (box_at ended n) (g.each n lt))
       (still-later (box_at ended n) (box_at after n)
       (s.each n (subst (λ k. n < k) (sym g.count) lt)));
 }
@@ -132,49 +181,45 @@ run-later loaded ended after g s = record {
 -- ---- what each step makes of the boxes that a run left
 
 pub taken-runs : (specs : List Spec) (taken loaded after ended : List BoxPicture)
-    → length taken ≡ length specs → LoadsFirst (length specs) specs taken loaded
+    → length specs ≤ length taken → All IsBlank taken → LoadsFirst (length specs) specs taken loaded
     → RunsLoaded loaded after ended → RunsTaken specs taken after ended
-taken-runs specs taken loaded after ended len f r =
-    let loaded_len : length loaded ≡ length specs = f.count ∙ len in
+taken-runs specs taken loaded after ended enough blank f r =
+    let count = f.count in
     record {
-      count = r.back.count ∙ loaded_len;
+      count = r.back.count ∙ f.count;
       ran = λ n lt. ran-box (spec_at specs n) (box_at taken n) (box_at loaded n) (box_at ended n)
-          (f.loaded n lt) (r.back.each n (subst (λ k. n < k) (sym loaded_len) lt));
+          (f.loaded n lt) ((r.back.each n (omega (arith, lt, enough, count))).born
+          (born-of (box_at loaded n) (spec_at specs n) (f.loaded n lt).spec));
+      ran_kept = λ n past lt. ran-kept (box_at taken n) (box_at ended n)
+          (at-all IsBlank taken n lt blank)
+          (subst (λ p. GivesBox p (box_at ended n)) (f.others n past)
+          (r.back.each n (omega (arith, lt, count))));
       still = r.still;
     }
 
-loaded-specs : (specs : List Spec) (ended : List BoxPicture) → length ended ≡ length specs
-    → ((n : ℕ) → n < length specs → (box_at ended n).spec ≡ Some (spec_at specs n))
-    → specs_of ended ≡ map Some specs
-unfolding box_at spec_at
-loaded-specs specs ended len each =
-    let ended_len : length (specs_of ended) ≡ length ended =
-    length-map ended (λ (p : BoxPicture). p.spec) in
-    let specs_len : length (map Some specs) ≡ length specs = length-map specs Some in
-    ext_get_or None (specs_of ended) (map Some specs) (ended_len ∙ len ∙ sym specs_len) (λ n lt.
-    let in_ended : n < length ended = subst (λ k. n < k) ended_len lt in
-    let in_specs : n < length specs = subst (λ k. n < k) len in_ended in
-    get_or-map (λ (p : BoxPicture). p.spec) ended n no_box None in_ended ∙ each n in_specs
-    ∙ sym (get_or-map Some specs n spec.Collect None in_specs))
-
-pub plan-runs : (specs : List Spec) (before taken left rack after ended : List BoxPicture)
-    → taken ≡ taken_for (kinds_of specs) before → left ≡ left_after (kinds_of specs) before
+pub plan-runs : (specs : List Spec) (kept : List Kind)
+    (before taken left rack after ended : List BoxPicture)
+    → taken ≡ taken_for (kinds_taken specs kept) before
+    → left ≡ left_after (kinds_taken specs kept) before
     → GivesUnloaded after left rack → RunsTaken specs taken after ended
-    → RunsPlan specs before rack ended
-plan-runs specs before taken left rack after ended t l g h =
-    let r : RunsTaken specs (taken_for (kinds_of specs) before) after ended =
+    → RunsPlan specs kept before rack ended
+plan-runs specs kept before taken left rack after ended t l g h =
+    let kinds : List Kind = kinds_taken specs kept in
+    let r : RunsTaken specs (taken_for kinds before) after ended =
     subst (λ boxes. RunsTaken specs boxes after ended) t h in
-    let after_len : length after ≡ length specs = r.still.count ∙ r.count in
+    let all : length (taken_for kinds before) ≡ length specs + length kept =
+    taken-length kinds before ∙ kinds-length specs kept in
+    let count = r.count in
+    let still = r.still.count in
     record {
-      count = r.count;
-      loaded = loaded-specs specs ended r.count (λ n lt. (r.ran n lt).spec);
+      count = r.count ∙ all;
       ran = r.ran;
+      ran_kept = λ n past lt. r.ran_kept n past (omega (arith, lt, count));
       given = g.given;
       rack = g.rack ∙ ap (λ l. l ++ g.given) l;
-      given_count = g.unloaded.count ∙ after_len;
+      given_count = g.unloaded.count ∙ r.still.count;
       unloaded = λ n lt. unloads-after (box_at ended n) (box_at after n) (box_at g.given n)
-          (r.still.each n (subst (λ k. n < k) (sym r.count) lt))
-          (g.unloaded.unloaded n (subst (λ k. n < k) (sym after_len) lt));
+          (r.still.each n lt) (g.unloaded.unloaded n (omega (arith, lt, still)));
     }
 
 pub plan-gives-back : (kinds : List Kind) (before taken left rack after : List BoxPicture)
@@ -201,48 +246,54 @@ back-blank kinds before after blank g =
     (left-all IsBlank kinds before blank)
     (all-at IsBlank g.given (λ n lt. (g.each n (subst (λ k. n < k) g.count lt)).blank)))
 
+module _ (specs : List Spec) (kept : List Kind) (before after ended : List BoxPicture)
+    (run : RunsPlan specs kept before after ended) where
+  abbrev kinds : List Kind
+  kinds = kinds_taken specs kept
+
+  -- each box that a run of a plan left is that which was taken
+  pub ended-later : (n : ℕ) → n < length ended
+      → IsLater (taken_at kinds before n) (box_at ended n)
+  ended-later n lt = elim (cases_lt n (length specs)) [
+    | inl less ↦ ran-later (spec_at specs n) _ _ (run.ran n less)
+    | inr past ↦ kept-later _ _ (run.ran_kept n past lt)
+  ]
+
+  -- and it was given back
+  pub runs-give-back : GivesBack kinds before after
+  runs-give-back =
+      let count = run.count in
+      let all = kinds-length specs kept in
+      record {
+        given = run.given;
+        rack = run.rack;
+        count = run.given_count ∙ run.count ∙ sym all;
+        each = λ n lt.
+            let in_ended : n < length ended = omega (arith, lt, count, all) in
+            again-after (taken_at kinds before n) (box_at ended n) (box_at run.given n)
+            (ended-later n in_ended) (run.unloaded n in_ended);
+      }
+
+  -- what is true of all boxes of the rack is true of those that are taken
+  pub taken-has : (P : BoxPicture → Type 0) → HasStock kinds before → All P before → (n : ℕ)
+      → n < length ended → P (taken_at kinds before n)
+  taken-has P stock all n lt =
+      let count = run.count in
+      let total = kinds-length specs kept in
+      let len = taken-length kinds before in
+      at-all P (taken_for kinds before) n (omega (arith, lt, count, total, len))
+      (taken-all P kinds before stock all)
+
 -- with lawful boxes no run ends stuck
-pub lawful-not-stuck : (specs : List Spec) (before after : List BoxPicture) (k : Kind)
-    → HasStock (kinds_of specs) before → All (λ (p : BoxPicture). p.lawful ≡ true) before
-    → StuckWith (RunsPlan specs before after) k → ⊥
-lawful-not-stuck specs before after k stock lawful h =
-    let is_lawful : BoxPicture → Type 0 = λ p. p.lawful ≡ true in
-    let taken : List BoxPicture = taken_for (kinds_of specs) before in
-    let count : length taken ≡ length specs =
-    taken-length (kinds_of specs) before ∙ length-map specs kind_of in
-    let in_specs : h.node < length specs = subst (λ n. h.node < n) h.runs.count h.stuck.in_range in
-    let in_taken : h.node < length taken = subst (λ n. h.node < n) (sym count) in_specs in
-    let one : (taken_at (kinds_of specs) before h.node).lawful ≡ true =
-    at-all is_lawful taken h.node in_taken (taken-all is_lawful (kinds_of specs) before stock
-    lawful) in
-    both_ways (box_at h.ended h.node).lawful h.stuck.unlawful ((h.runs.ran h.node in_specs).lawful
-    ∙ one)
-
--- a box that was run and unloaded is the same box, none of whose counts has fallen
-ran-again : (s : Spec) (p q r : BoxPicture) → RanWith s p q → Unloads q r → IsBlankAgain p r
-ran-again s p q r ran u = again-after p q r (record {
-  kind = ran.kind;
-  lawful = ran.lawful;
-  files = ran.files;
-  faults = ran.faults;
-  pendings = ran.pendings;
-  pulled = let more = ran.pulled in omega (arith, more);
-}) u
-
--- a run of a plan gives its boxes back
-pub runs-give-back : (specs : List Spec) (before after ended : List BoxPicture)
-    → RunsPlan specs before after ended → GivesBack (kinds_of specs) before after
-runs-give-back specs before after ended run =
-    let kinds : length (kinds_of specs) ≡ length specs = length-map specs kind_of in
-    record {
-      given = run.given;
-      rack = run.rack;
-      count = run.given_count ∙ sym kinds;
-      each = λ n lt.
-          let in_specs : n < length specs = subst (λ k. n < k) kinds lt in
-          ran-again (spec_at specs n) (taken_at (kinds_of specs) before n) (box_at ended n)
-          (box_at run.given n) (run.ran n in_specs) (run.unloaded n in_specs);
-    }
+pub lawful-not-stuck : (specs : List Spec) (kept : List Kind) (before after : List BoxPicture)
+    (k : Kind) → HasStock (kinds_taken specs kept) before
+    → All (λ (p : BoxPicture). p.lawful ≡ true) before
+    → StuckWith (RunsPlan specs kept before after) k → ⊥
+lawful-not-stuck specs kept before after k stock lawful h =
+    both_ways (box_at h.ended h.node).lawful h.stuck.unlawful
+    ((ended-later specs kept before after h.ended h.runs h.node h.stuck.in_range).lawful
+    ∙ taken-has specs kept before after h.ended h.runs (λ (p : BoxPicture). p.lawful ≡ true) stock
+    lawful h.node h.stuck.in_range)
 
 -- ---- the ends
 
@@ -252,33 +303,73 @@ pub reads-at : (at p : BoxPicture) (k : Kind) → at ≡ p → k ≡ p.kind → 
 reads-at at p k same is h = subst ReadsByKind (sym same)
     (subst (λ j. IsSourceKind j ⊎ HasNoReader p) is h)
 
-pub rows-by : (R S : List BoxPicture → Type 0) (wires : List Wire) (nodes : ℕ) (chunks : List Table)
-    → ((ended : List BoxPicture) → R ended → S ended) → GivesRows R wires nodes chunks
-    → GivesRows S wires nodes chunks
-rows-by R S wires nodes chunks by r = record {
-  ended = r.ended;
-  runs = by r.ended r.runs;
-  done = r.done;
-  rows = r.rows;
+module _ (R S : List BoxPicture → Type 0) (by : (ended : List BoxPicture) → R ended → S ended) where
+  pub rows-by : (nodes : ℕ) (chunks : List Table) (b : Begun) → GivesRows R nodes chunks b
+      → GivesRows S nodes chunks b
+  rows-by nodes chunks b r =
+      record { ended = r.ended; runs = by r.ended r.runs; done = r.done; rows = r.rows }
+
+  pub rows-for : (nodes n : ℕ) (chunks : List Table) → nodes ≡ n → (b : Begun)
+      → GivesRows R nodes chunks b → GivesRows S n chunks b
+  rows-for nodes n chunks e b r =
+      subst (λ k. GivesRows S k chunks b) e (rows-by nodes chunks b r)
+
+  pub fault-by : (f : PlanFault) (B C : (Begun → Type 0) → Type 0)
+      → ((P Q : Begun → Type 0) → ((b : Begun) → P b → Q b) → B P → C Q)
+      → PlanFaultHolds f B R → PlanFaultHolds f C S
+  fault-by (end.Fault node f) B C up h = up _ _ (λ b h. record {
+    ended = h.ended;
+    runs = by h.ended h.runs;
+    grown = h.grown;
+    reader = h.reader;
+  }) h
+  fault-by (end.Stuck k) B C up h = record {
+    ended = h.ended;
+    runs = by h.ended h.runs;
+    report = h.report;
+    node = h.node;
+    stuck = h.stuck;
+    of_kind = h.of_kind;
+  }
+  fault-by (end.BadGrowth k) B C up h = up _ _ (λ b h. record {
+    ended = h.ended;
+    runs = by h.ended h.runs;
+    node = h.node;
+    flaw = h.flaw;
+    bad = h.bad;
+    of_kind = h.of_kind;
+  }) h
+  fault-by end.Memory B C up h = h
+
+pub begins-by : (form : GraphForm) (ks all : List Kind) → ks ≡ all → (P Q : Begun → Type 0)
+    → ((b : Begun) → P b → Q b) → Begins form ks P → Begins form all Q
+begins-by form ks all e P Q by h = record {
+  boxes = h.boxes;
+  kinds_are = h.kinds_are ∙ e;
+  starting = h.starting;
+  holds = by _ h.holds;
 }
 
-pub fault-by : (R S : List BoxPicture → Type 0) (f : PlanFault)
-    → ((ended : List BoxPicture) → R ended → S ended) → PlanFaultHolds f R → PlanFaultHolds f S
-fault-by R S (end.Fault node f) by h = record {
-  ended = h.ended;
-  runs = by h.ended h.runs;
-  fault = h.fault;
-  reader = h.reader;
+-- these boxes, as a run left them
+pub these-run : (loaded final after : List BoxPicture) → GivenBack loaded final
+    → AreStill final after → (ended : List BoxPicture) → IsThese final ended
+    → RunsLoaded loaded after ended
+these-run loaded final after back still ended e = record {
+  back = subst (GivenBack loaded) (sym e) back;
+  still = subst (λ l. AreStill l after) (sym e) still;
 }
-fault-by R S (end.Stuck k) by h = record {
-  ended = h.ended;
-  runs = by h.ended h.runs;
-  report = h.report;
-  node = h.node;
-  stuck = h.stuck;
-  of_kind = h.of_kind;
-}
-fault-by R S end.Memory by h = h
+
+-- the graph began with these boxes
+pub begun-with : (form : GraphForm) (boxes : List BoxPicture) → AreStarting form.reserves boxes
+    → (P Q : Begun → Type 0) → ((b : Begun) → P b → Q b)
+    → P (record {
+      ranks = form.ranks;
+      wires = form.wires;
+      reserves = form.reserves;
+      boxes = boxes;
+    }) → Begins form (kinds_in boxes) Q
+begun-with form boxes starting P Q by h =
+    record { boxes = boxes; kinds_are = refl; starting = starting; holds = by _ h }
 
 pub if-ok : {A E : Type 0} (r : Result A E) (P Q : A → Type 0) → ((x : A) → P x → Q x) → IfOk r P
     → IfOk r Q
@@ -290,28 +381,17 @@ pub if-err : {A E : Type 0} (r : Result A E) (P Q : E → Type 0) → ((e : E) �
 if-err (Ok x) P Q by h = h
 if-err (Err e) P Q by h = by e h
 
--- the rows of loaded boxes are those of the boxes as they were taken
-pub taken-rows : {V E : Type 0} (specs : List Spec) (taken loaded after : List BoxPicture)
-    (wires : List Wire) (nodes : ℕ) (r : Result V E) (chunks : V → List Table)
-    → length taken ≡ length specs → length loaded ≡ nodes
-    → LoadsFirst (length specs) specs taken loaded
-    → IfOk r (λ v. GivesRows (RunsLoaded loaded after) wires nodes (chunks v))
-    → IfOk r (λ v. GivesRows (RunsTaken specs taken after) wires (length specs) (chunks v))
-taken-rows specs taken loaded after wires nodes r chunks len nodes_are f h =
-    let same : nodes ≡ length specs = sym nodes_are ∙ f.count ∙ len in
-    if-ok r (λ v. GivesRows (RunsLoaded loaded after) wires nodes (chunks v))
-    (λ v. GivesRows (RunsTaken specs taken after) wires (length specs) (chunks v))
-    (λ v k. rows-by (RunsLoaded loaded after) (RunsTaken specs taken after) wires (length specs)
-    (chunks v)
-    (λ ended. taken-runs specs taken loaded after ended len f)
-    (subst (λ n. GivesRows (RunsLoaded loaded after) wires n (chunks v)) same k)) h
-
--- boxes that were fresh are loaded still
-pub all-born : (loaded ended : List BoxPicture) → All IsFresh loaded → GivenBack loaded ended
-    → (n : ℕ)
-    → n < length ended → IsBorn (box_at ended n)
+-- the first boxes are loaded still
+pub starting-born : (form : GraphForm) (nodes : ℕ) (boxes ended : List BoxPicture)
+    → KeepsBehind nodes form → length form.ranks ≡ length boxes → nodes ≤ length boxes
+    → AreStarting form.reserves boxes → GivenBack boxes ended → (n : ℕ) → n < nodes
+    → IsBorn (box_at ended n)
 unfolding box_at
-all-born loaded ended fresh back n lt =
-    let before : n < length loaded = subst (λ k. n < k) back.count lt in
-    let f : IsFresh (box_at loaded n) = All-get_or IsFresh loaded n no_box before fresh in
-    subst (λ s. IsSome s) (sym (back.each n before).same.spec) f.loaded
+starting-born form nodes boxes ended keeps ranks within starting back n lt =
+    let in_boxes : n < length boxes = omega (arith, lt, within) in
+    let first : is_reserved form.reserves n ≡ false =
+    keeps.kept n (omega (arith, in_boxes, ranks)) ∙ lt-leb nodes n lt in
+    let fresh : IsFresh (box_at boxes n) =
+    subst (λ b. StartsAs b (box_at boxes n)) first (starting n in_boxes) in
+    let same = ((back.each n in_boxes).born fresh.loaded).same.spec in
+    subst IsSome (sym same) fresh.loaded

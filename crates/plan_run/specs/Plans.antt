@@ -1,16 +1,20 @@
 -- What a run of a plan tells: how it ended, of which boxes, and what the rack has afterwards.
-use Rattle.std.specs.Prelude.{◌≡◌, ◌⊎◌, ℕ, ◌+◌, ◌-◌, ◌<◌, ◌≤◌, ◌++◌, List, length, map, slice_index_or, Option, Some, ⊤}
+use Rattle.std.specs.Prelude.{◌≡◌, ◌⊎◌, ℕ, ◌+◌, ◌-◌, ◌<◌, ◌≤◌, ◌++◌, List, length, map, nat_le, slice_index_or, Some, ⊤}
 use Rattle.chunk_data.specs.Values.{Table}
 use Rattle.query_model.specs.Kinds.{kind_of}
 use Rattle.query_model.specs.declared.processor_spec.Spec.{Spec}
 use Rattle.query_model.specs.declared.processor_spec.Kind.{Kind}
 use Rattle.query_model.specs.declared.processor_spec.Spec.TheVariants as spec
-use Rattle.port_word.specs.declared.flags.Wire.{Wire}
+use Rattle.proc_api.specs.Graphs.{IsGraph}
+use Rattle.proc_api.specs.Reserves.{AreReserves, AreStarting, is_reserved}
+use Rattle.exec_laws.specs.declared.growth.GrowthFlaw.{GrowthFlaw}
+use Rattle.pipeline_exec.specs.Ends.{Begun, EndsBadly, HasGrown}
 use Rattle.proc_api.specs.Names.{BoxPicture, IsBlank, IsSourceKind, HasNoReader, Unloads, handed_out_by, raised}
 use Rattle.proc_api.specs.declared.status.WorkFault.{WorkFault}
 use Rattle.exec_laws.specs.Names.{box_at, IsDone, IsFault, IsStuck}
 use Rattle.exec_laws.specs.declared.edges.StuckNode.{StuckNode}
 use Rattle.plan_run.specs.Stock.{taken_for, left_after}
+use Rattle.plan_run.specs.declared.run.GraphForm.{GraphForm}
 use Rattle.plan_run.specs.declared.run.PlanFault.{PlanFault}
 use Rattle.plan_run.specs.declared.run.PlanFault.TheVariants as end
 
@@ -24,8 +28,15 @@ kinds_of specs = map kind_of specs
 abbrev pub kinds_in : List BoxPicture → List Kind
 kinds_in boxes = map (λ (p : BoxPicture). p.kind) boxes
 
-abbrev pub specs_of : List BoxPicture → List (Option Spec)
-specs_of boxes = map (λ (p : BoxPicture). p.spec) boxes
+-- the kinds of the boxes that a plan takes: those of its nodes, and then those that are kept
+abbrev pub kinds_taken : List Spec → (kept : List Kind) → List Kind
+kinds_taken specs kept = kinds_of specs ++ kept
+
+-- exactly the nodes behind the first are kept for nodes that grow
+pub record KeepsBehind (nodes : ℕ) (g : GraphForm) : Type 0 where
+  pub graph : IsGraph g.ranks g.wires g.reserves
+  pub reserves_fit : AreReserves (length g.ranks) (length g.wires) g.wires g.reserves
+  pub kept : (n : ℕ) → n < length g.ranks → is_reserved g.reserves n ≡ nat_le nodes n
 
 -- ---- the boxes
 
@@ -42,6 +53,11 @@ pub record RanWith (s : Spec) (p q : BoxPicture) : Type 0 where
   pub faults_since : raised p.faults q.notes.faults ≤ q.faults
   pub pendings_since : raised p.pendings q.notes.pendings ≤ q.pendings
   pub pulled : q.pulled ≡ p.pulled + q.notes.pulled
+
+-- a blank box that was kept, as the run left it: as it was, or loaded when its node was born, and
+-- run
+abbrev pub RanKept : (p q : BoxPicture) → Type 0
+RanKept p q = ((q ≡ p) × IsBlank q) ⊎ ((s : Spec) × RanWith s p q)
 
 -- a box of a rack that was taken and given back: the same box, blank again, none of whose counts
 -- has fallen
@@ -61,8 +77,7 @@ abbrev pub taken_at : List Kind → List BoxPicture → ℕ → BoxPicture
 taken_at kinds before n = box_at (taken_for kinds before) n
 
 -- The first box of each kind in turn was taken from the rack. It has the boxes that weren't taken,
--- in their order, and then the taken ones in
--- the order in which they were taken.
+-- in their order, and then the taken ones in the order in which they were taken.
 pub record GivesBack (kinds : List Kind) (before after : List BoxPicture) : Type 0 where
   pub given : List BoxPicture
   pub rack : after ≡ left_after kinds before ++ given
@@ -73,25 +88,37 @@ pub record GivesBack (kinds : List Kind) (before after : List BoxPicture) : Type
 abbrev pub LeavesRack : List Kind → List BoxPicture → List BoxPicture → Type 0
 LeavesRack kinds before after = GivesBack kinds before after ⊎ (after ≡ before)
 
--- The boxes that were taken for the specs, as the run left them, and as they were given back.
-pub record RunsPlan (specs : List Spec) (before after ended : List BoxPicture) : Type 0 where
-  pub count : length ended ≡ length specs
-  pub loaded : specs_of ended ≡ map Some specs
+-- The boxes that were taken for the specs and for what is kept, as the run left them, and as they
+-- were given back.
+pub record RunsPlan (specs : List Spec) (kept : List Kind) (before after ended : List BoxPicture)
+    : Type 0 where
+  pub count : length ended ≡ length specs + length kept
   pub ran : (n : ℕ) → n < length specs
-      → RanWith (spec_at specs n) (taken_at (kinds_of specs) before n) (box_at ended n)
+      → RanWith (spec_at specs n) (taken_at (kinds_taken specs kept) before n) (box_at ended n)
+  pub ran_kept : (n : ℕ) → length specs ≤ n → n < length ended
+      → RanKept (taken_at (kinds_taken specs kept) before n) (box_at ended n)
   pub given : List BoxPicture
-  pub rack : after ≡ left_after (kinds_of specs) before ++ given
-  pub given_count : length given ≡ length specs
-  pub unloaded : (n : ℕ) → n < length specs → Unloads (box_at ended n) (box_at given n)
+  pub rack : after ≡ left_after (kinds_taken specs kept) before ++ given
+  pub given_count : length given ≡ length ended
+  pub unloaded : (n : ℕ) → n < length ended → Unloads (box_at ended n) (box_at given n)
 
 -- ---- the ends, where R says which lists of boxes a run may have left
 
--- each node of the graph is over, and the last one handed out these chunks
-pub record GivesRows (R : List BoxPicture → Type 0) (wires : List Wire) (nodes : ℕ)
-    (chunks : List Table) : Type 0 where
+-- A graph of this form began with boxes of these kinds, of which the first were loaded, and this is
+-- true of it.
+pub record Begins (g : GraphForm) (kinds : List Kind) (P : Begun → Type 0) : Type 0 where
+  pub boxes : List BoxPicture
+  pub kinds_are : kinds_in boxes ≡ kinds
+  pub starting : AreStarting g.reserves boxes
+  pub holds : P (record { ranks = g.ranks; wires = g.wires; reserves = g.reserves; boxes = boxes })
+
+-- Each node of the graph as it has grown is over, and the last of the first nodes handed out these
+-- chunks.
+pub record GivesRows (R : List BoxPicture → Type 0) (nodes : ℕ) (chunks : List Table) (b : Begun)
+    : Type 0 where
   pub ended : List BoxPicture
   pub runs : R ended
-  pub done : IsDone wires ended
+  pub done : HasGrown b ended (λ wires. IsDone wires ended)
   pub rows : chunks ≡ handed_out_by (box_at ended (nodes - 1)).kind (box_at ended (nodes - 1)).work
 
 -- a box of a kind that reads no file has no reader
@@ -99,11 +126,12 @@ abbrev pub ReadsByKind : BoxPicture → Type 0
 ReadsByKind p = IsSourceKind p.kind ⊎ HasNoReader p
 
 -- the box of the node keeps this fault
-pub record FailsWith (R : List BoxPicture → Type 0) (node : ℕ) (f : WorkFault) : Type 0 where
-  pub ended : List BoxPicture
-  pub runs : R ended
-  pub fault : IsFault ended node f
-  pub reader : ReadsByKind (box_at ended node)
+pub record FailsWith (R : List BoxPicture → Type 0) (node : ℕ) (f : WorkFault) (b : Begun) : Type 0
+  where
+    pub ended : List BoxPicture
+    pub runs : R ended
+    pub grown : HasGrown b ended (λ wires. IsFault ended node f)
+    pub reader : ReadsByKind (box_at ended node)
 
 -- the run ended stuck, at a node whose box is of the kind and isn't lawful
 pub record StuckWith (R : List BoxPicture → Type 0) (k : Kind) : Type 0 where
@@ -114,7 +142,19 @@ pub record StuckWith (R : List BoxPicture → Type 0) (k : Kind) : Type 0 where
   pub stuck : IsStuck ended report node
   pub of_kind : (box_at ended node).kind ≡ k
 
-abbrev pub PlanFaultHolds : PlanFault → (List BoxPicture → Type 0) → Type 0
-PlanFaultHolds (end.Fault node f) R = FailsWith R node f
-PlanFaultHolds (end.Stuck k) R = StuckWith R k
-PlanFaultHolds end.Memory R = ⊤
+-- the run ended by a growth with a flaw, of a node whose box is of the kind
+pub record FlawedWith (R : List BoxPicture → Type 0) (k : Kind) (b : Begun) : Type 0 where
+  pub ended : List BoxPicture
+  pub runs : R ended
+  pub node : ℕ
+  pub flaw : GrowthFlaw
+  pub bad : EndsBadly b ended node flaw
+  pub of_kind : (box_at ended node).kind ≡ k
+
+-- why a plan gave no rows, where B says what is true of the graph as it began
+abbrev pub PlanFaultHolds : PlanFault → ((Begun → Type 0) → Type 0) → (List BoxPicture → Type 0)
+    → Type 0
+PlanFaultHolds (end.Fault node f) B R = B (FailsWith R node f)
+PlanFaultHolds (end.Stuck k) B R = StuckWith R k
+PlanFaultHolds (end.BadGrowth k) B R = B (FlawedWith R k)
+PlanFaultHolds end.Memory B R = ⊤

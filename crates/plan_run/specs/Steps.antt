@@ -3,7 +3,7 @@ use Rattle.std.specs.Prelude.{◌≡◌, ℕ, ◌<◌, ◌≤◌, ◌++◌, List
 use Rattle.query_model.specs.declared.processor_spec.Spec.{Spec}
 use Rattle.proc_api.specs.Names.{BoxPicture, Loads, SameCounts, Unloads}
 use Rattle.exec_laws.specs.Names.{box_at, GivenBack}
-use Rattle.plan_run.specs.Plans.{RanWith, spec_at}
+use Rattle.plan_run.specs.Plans.{RanKept, RanWith, spec_at}
 
 -- the same box, with the same counts
 pub record IsStill (p q : BoxPicture) : Type 0 where
@@ -50,10 +50,13 @@ pub record RunsLoaded (loaded after ended : List BoxPicture) : Type 0 where
   pub back : GivenBack loaded ended
   pub still : AreStill ended after
 
--- blank boxes were loaded with the specs and run, and then kept what they were and their counts
+-- The first of these blank boxes were loaded with the specs, all were run, and then they kept what
+-- they were and their counts.
 pub record RunsTaken (specs : List Spec) (taken after ended : List BoxPicture) : Type 0 where
-  pub count : length ended ≡ length specs
+  pub count : length ended ≡ length taken
   pub ran : (n : ℕ) → n < length specs → RanWith (spec_at specs n) (box_at taken n) (box_at ended n)
+  pub ran_kept : (n : ℕ) → length specs ≤ n → n < length taken
+      → RanKept (box_at taken n) (box_at ended n)
   pub still : AreStill ended after
 
 -- the boxes were unloaded, and lie behind those that the rack had

@@ -4,32 +4,40 @@ ghost use Rattle.query_model.specs.Kinds.{kind_of};
 ghost use Rattle.proc_api.specs.Names.{IsBlank, Loads, Unloads, is_of};
 ghost use Rattle.exec_laws.specs.Runs.{box_at};
 ghost use Rattle.plan_run.specs.OneBox.{OnlyBox};
-ghost use Rattle.plan_run.specs.Plans.{kinds_in, kinds_of};
+ghost use Rattle.plan_run.specs.Plans.{kinds_taken, spec_at};
 ghost use Rattle.plan_run.specs.Stock.{first_of, without_first, taken_for, left_after, HasStock};
 ghost use Rattle.plan_run.specs.Steps.{AreStill, GivesUnloaded, LoadsFirst, UnloadsFirst};
 
-use chunk_data::Memory;
+use chunk_data::{List, Memory};
 use proc_api::{LoadRefusal, Processor, Rack};
 use query_model::processor_spec::{Kind, Spec};
 
-/// Takes the first box of each spec's kind in turn, in room that is there.
+/// Takes the first box of each spec's kind in turn, and then of each kind that is kept, in room
+/// that is there.
 pub(crate) fn take_boxes(
     rack: &mut Rack,
     specs: &Vec<Spec>,
+    kept: &List<Kind>,
     boxes: &mut Vec<Box<dyn Processor + Send>>,
 )
-    requires stock { HasStock (kinds_of specs.now.items) (map (λ b. seen b) rack.old.boxes.items) }
-    requires empty { boxes.old.items ≡ [] }
-    requires room { length specs.now.items ≤ vec_capacity boxes.old }
-    ensures taken { map (λ b. seen b) boxes.new.items ≡ taken_for (kinds_of specs.now.items)
+    requires stock { HasStock (kinds_taken specs.now.items kept.now)
         (map (λ b. seen b) rack.old.boxes.items) }
-    ensures left { map (λ b. seen b) rack.new.boxes.items ≡ left_after (kinds_of specs.now.items)
+    requires empty { boxes.old.items ≡ [] }
+    requires room { length specs.now.items + length kept.now ≤ vec_capacity boxes.old }
+    ensures taken { map (λ b. seen b) boxes.new.items
+        ≡ taken_for (kinds_taken specs.now.items kept.now)
+        (map (λ b. seen b) rack.old.boxes.items) }
+    ensures left { map (λ b. seen b) rack.new.boxes.items
+        ≡ left_after (kinds_taken specs.now.items kept.now)
         (map (λ b. seen b) rack.old.boxes.items) }
     ensures spare { length rack.new.boxes.items + length boxes.new.items
         ≤ vec_capacity rack.new.boxes }
 {
     for i in 0..specs.len() {
         take_next(rack, specs[i].kind(), boxes);
+    }
+    for k in 0..kept.len() {
+        take_next(rack, kept.as_slice()[k], boxes);
     }
 }
 
@@ -52,20 +60,22 @@ fn take_next(rack: &mut Rack, kind: Kind, boxes: &mut Vec<Box<dyn Processor + Se
     }
 }
 
-/// Loads each box with its spec, until there is no memory for it.
+/// Loads the first boxes, each with its spec, until there is no memory for it.
 pub(crate) fn load_boxes(
     boxes: &mut Vec<Box<dyn Processor + Send>>,
     specs: Vec<Spec>,
 ) -> Result<(), Memory>
     requires blank { All IsBlank (map (λ b. seen b) boxes.old.items) }
-    requires kinds { kinds_in (map (λ b. seen b) boxes.old.items) ≡ kinds_of specs.items }
+    requires enough { length specs.items ≤ length boxes.old.items }
+    requires kinds { (n : ℕ) → n < length specs.items → kind_of (spec_at specs.items n)
+        ≡ (box_at (map (λ b. seen b) boxes.old.items) n).kind }
     ensures ok { OnOk result (LoadsFirst (length specs.items) specs.items
         (map (λ b. seen b) boxes.old.items) (map (λ b. seen b) boxes.new.items)) }
     ensures still { AreStill (map (λ b. seen b) boxes.old.items)
         (map (λ b. seen b) boxes.new.items) }
 {
     let mut specs = specs;
-    for i in 0..boxes.len() {
+    for i in 0..specs.len() {
         load_at(boxes, i, specs.remove(0))?;
     }
     Ok(())

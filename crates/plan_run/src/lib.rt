@@ -4,4 +4,4 @@
 mod boxes;
 mod run;
 
-pub use run::{PlanFault, PlanGraph, run_plan};
+pub use run::{GraphForm, PlanFault, PlanGraph, run_plan};

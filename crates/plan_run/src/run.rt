@@ -1,30 +1,37 @@
-ghost use Rattle.std.specs.Prelude.{◌≡◌, ◌≢◌, ℕ, ◌<◌, ◌≤◌, [], List, length, map, false, vec_capacity, IfOk, IfErr};
+ghost use Rattle.std.specs.Prelude.{◌≡◌, ℕ, ◌+◌, ◌<◌, ◌≤◌, [], List, length, map, false, vec_capacity, IfOk, IfErr};
 ghost use Rattle.std.specs.List.{All};
-ghost use Rattle.query_model.specs.Kinds.{kind_of};
-ghost use Rattle.query_model.specs.declared.processor_spec.Kind.TheVariants as kinds;
-ghost use Rattle.port_word.specs.declared.flags.Wire.{Wire as Edge};
-ghost use Rattle.proc_api.specs.Names.{handed_out_by, IsBlank, IsFresh, IsGraph};
+ghost use Rattle.proc_api.specs.Names.{handed_out_by, IsBlank};
+ghost use Rattle.proc_api.specs.Reserves.{AreStarting};
 ghost use Rattle.exec_laws.specs.Runs.{IsBorn, box_at};
-ghost use Rattle.pipeline_exec.specs.Ends.{EndHolds, IsNoList};
+ghost use Rattle.pipeline_exec.specs.Ends.{Begun, EndHolds};
 ghost use Rattle.plan_run.specs.Stock.{HasStock};
-ghost use Rattle.plan_run.specs.Plans.{kinds_in, kinds_of, PlanFaultHolds, GivesRows, GivesBack, LeavesRack, ReadsByKind, RunsPlan};
+ghost use Rattle.plan_run.specs.Plans.{kinds_in, kinds_taken, Begins, KeepsBehind, PlanFaultHolds, GivesRows, GivesBack, LeavesRack, ReadsByKind, RunsPlan};
 ghost use Rattle.plan_run.specs.Steps.{AreLater, AreStill, IsStill, IsThese, RunsLoaded, RunsTaken};
 
 use crate::boxes::{give_back, load_boxes, take_boxes};
 use chunk_data::{Chunk, List, Memory};
 use exec_graph::Graph;
 use pipeline_exec::{ExecEnd, RunResult, run_graph};
-use port_word::Wire;
+use port_word::{Reserve, Wire};
 use proc_api::{Processor, Rack, WorkFault};
 use query_model::processor_spec::{Kind, Spec};
 use std::thread::Threads;
 
-/// The nodes of a plan in order, by what each box is loaded with, their ranks and their wires.
+/// The nodes of a plan in order, by what each box is loaded with; the kinds of the boxes that are
+/// kept behind them for nodes that grow; and the graph.
 #[derive(Drop)]
 pub struct PlanGraph {
     pub specs: Vec<Spec>,
+    pub kept: List<Kind>,
+    pub form: GraphForm,
+}
+
+/// A graph without its boxes: the ranks of its nodes, its wires, and what is kept for which node.
+#[derive(Drop)]
+pub struct GraphForm {
     pub ranks: List<u32>,
     pub wires: List<Wire>,
+    pub reserves: List<Reserve>,
 }
 
 /// Why a plan gave no rows.
@@ -32,8 +39,10 @@ pub struct PlanGraph {
 pub enum PlanFault {
     /// The box of this node answered this fault, which isn't `Memory`.
     Fault(u32, WorkFault),
-    /// A box of this kind isn't lawful.
+    /// A box of this kind isn't lawful: it left the run stuck.
     Stuck(Kind),
+    /// A box of this kind let the graph grow by a growth that has a flaw.
+    BadGrowth(Kind),
     Memory,
 }
 
@@ -55,29 +64,31 @@ pub fn run_plan<R: AllocGlobal + Threads + Sync>(
     workers: u32,
 ) -> Result<Vec<Chunk>, PlanFault>
     requires blank { All IsBlank (map (λ b. seen (b.vtable, b.value)) rack.old.boxes.items) }
-    requires stock { HasStock (kinds_of plan.specs.items)
+    requires stock { HasStock (kinds_taken plan.specs.items plan.kept)
         (map (λ b. seen (b.vtable, b.value)) rack.old.boxes.items) }
-    requires no_list { All (λ s. kind_of s ≢ kinds.List) plan.specs.items }
     requires some_nodes { 1 ≤ length plan.specs.items }
-    requires few_nodes { length plan.specs.items ≤ 256 }
-    requires one_each { length plan.ranks ≡ length plan.specs.items }
-    requires graph { IsGraph plan.ranks plan.wires [] }
+    requires one_each { length plan.form.ranks ≡ length plan.specs.items + length plan.kept }
+    requires graph { KeepsBehind (length plan.specs.items) plan.form }
     requires some_workers { 1 ≤ workers }
     requires few_workers { workers ≤ 16 }
-    ensures rack { LeavesRack (kinds_of plan.specs.items)
+    ensures rack { LeavesRack (kinds_taken plan.specs.items plan.kept)
         (map (λ b. seen (b.vtable, b.value)) rack.old.boxes.items)
         (map (λ b. seen (b.vtable, b.value)) rack.new.boxes.items) }
     ensures blank { All IsBlank (map (λ b. seen (b.vtable, b.value)) rack.new.boxes.items) }
-    ensures rows { IfOk result (λ chunks. GivesRows (RunsPlan plan.specs.items
+    ensures rows { IfOk result (λ chunks. Begins plan.form
+        (kinds_taken plan.specs.items plan.kept) (GivesRows
+        (RunsPlan plan.specs.items plan.kept
         (map (λ b. seen (b.vtable, b.value)) rack.old.boxes.items)
         (map (λ b. seen (b.vtable, b.value)) rack.new.boxes.items))
-        plan.wires (length plan.specs.items) chunks.items) }
-    ensures fault { IfErr result (λ f. PlanFaultHolds f (RunsPlan plan.specs.items
+        (length plan.specs.items) chunks.items)) }
+    ensures fault { IfErr result (λ f. PlanFaultHolds f
+        (Begins plan.form (kinds_taken plan.specs.items plan.kept))
+        (RunsPlan plan.specs.items plan.kept
         (map (λ b. seen (b.vtable, b.value)) rack.old.boxes.items)
         (map (λ b. seen (b.vtable, b.value)) rack.new.boxes.items))) }
 {
     // The room for the boxes is there before one is taken.
-    match Vec::with_capacity(rt.alloc(), plan.specs.len()) {
+    match Vec::with_capacity(rt.alloc(), plan.specs.len() + plan.kept.len()) {
         Ok(room) => run_in(rt, rack, plan, room, workers),
         Err(_) => Err(PlanFault::Memory),
     }
@@ -92,27 +103,28 @@ fn run_in<R: AllocGlobal + Threads + Sync>(
     workers: u32,
 ) -> Result<Vec<Chunk>, PlanFault>
     requires blank { All IsBlank (map (λ b. seen b) rack.old.boxes.items) }
-    requires stock { HasStock (kinds_of plan.specs.items)
+    requires stock { HasStock (kinds_taken plan.specs.items plan.kept)
         (map (λ b. seen b) rack.old.boxes.items) }
-    requires no_list { All (λ s. kind_of s ≢ kinds.List) plan.specs.items }
     requires some_nodes { 1 ≤ length plan.specs.items }
-    requires few_nodes { length plan.specs.items ≤ 256 }
-    requires one_each { length plan.ranks ≡ length plan.specs.items }
-    requires graph { IsGraph plan.ranks plan.wires [] }
+    requires one_each { length plan.form.ranks ≡ length plan.specs.items + length plan.kept }
+    requires graph { KeepsBehind (length plan.specs.items) plan.form }
     requires empty { room.items ≡ [] }
-    requires room { length plan.specs.items ≤ vec_capacity room }
+    requires room { length plan.specs.items + length plan.kept ≤ vec_capacity room }
     requires some_workers { 1 ≤ workers }
     requires few_workers { workers ≤ 16 }
-    ensures rack { GivesBack (kinds_of plan.specs.items) (map (λ b. seen b) rack.old.boxes.items)
-        (map (λ b. seen b) rack.new.boxes.items) }
-    ensures rows { IfOk result (λ chunks. GivesRows (RunsPlan plan.specs.items
-        (map (λ b. seen b) rack.old.boxes.items) (map (λ b. seen b) rack.new.boxes.items))
-        plan.wires (length plan.specs.items) chunks.items) }
-    ensures fault { IfErr result (λ f. PlanFaultHolds f (RunsPlan plan.specs.items
-        (map (λ b. seen b) rack.old.boxes.items) (map (λ b. seen b) rack.new.boxes.items))) }
+    ensures rack { GivesBack (kinds_taken plan.specs.items plan.kept)
+        (map (λ b. seen b) rack.old.boxes.items) (map (λ b. seen b) rack.new.boxes.items) }
+    ensures rows { IfOk result (λ chunks. Begins plan.form
+        (kinds_taken plan.specs.items plan.kept) (GivesRows
+        (RunsPlan plan.specs.items plan.kept (map (λ b. seen b) rack.old.boxes.items)
+        (map (λ b. seen b) rack.new.boxes.items)) (length plan.specs.items) chunks.items)) }
+    ensures fault { IfErr result (λ f. PlanFaultHolds f
+        (Begins plan.form (kinds_taken plan.specs.items plan.kept))
+        (RunsPlan plan.specs.items plan.kept (map (λ b. seen b) rack.old.boxes.items)
+        (map (λ b. seen b) rack.new.boxes.items))) }
 {
     let mut boxes = room;
-    take_boxes(rack, &plan.specs, &mut boxes);
+    take_boxes(rack, &plan.specs, &plan.kept, &mut boxes);
     let PlanEnd { boxes, result } = run_taken(rt, boxes, plan, workers);
     give_back(rack, boxes);
     result
@@ -126,30 +138,33 @@ fn run_taken<R: AllocGlobal + Threads + Sync>(
     workers: u32,
 ) -> PlanEnd
     requires blank { All IsBlank (map (λ b. seen b) boxes.items) }
-    requires kinds { kinds_in (map (λ b. seen b) boxes.items) ≡ kinds_of plan.specs.items }
-    requires no_list { All (λ s. kind_of s ≢ kinds.List) plan.specs.items }
+    requires kinds { kinds_in (map (λ b. seen b) boxes.items)
+        ≡ kinds_taken plan.specs.items plan.kept }
     requires some_nodes { 1 ≤ length plan.specs.items }
-    requires few_nodes { length plan.specs.items ≤ 256 }
-    requires one_each { length plan.ranks ≡ length plan.specs.items }
-    requires graph { IsGraph plan.ranks plan.wires [] }
+    requires one_each { length plan.form.ranks ≡ length plan.specs.items + length plan.kept }
+    requires graph { KeepsBehind (length plan.specs.items) plan.form }
     requires some_workers { 1 ≤ workers }
     requires few_workers { workers ≤ 16 }
     ensures later { AreLater (map (λ b. seen b) boxes.items)
         (map (λ b. seen b) result.boxes.items) }
-    ensures rows { IfOk result.result (λ chunks. GivesRows (RunsTaken plan.specs.items
-        (map (λ b. seen b) boxes.items) (map (λ b. seen b) result.boxes.items))
-        plan.wires (length plan.specs.items) chunks.items) }
-    ensures fault { IfErr result.result (λ f. PlanFaultHolds f (RunsTaken plan.specs.items
-        (map (λ b. seen b) boxes.items) (map (λ b. seen b) result.boxes.items))) }
+    ensures rows { IfOk result.result (λ chunks. Begins plan.form
+        (kinds_taken plan.specs.items plan.kept) (GivesRows
+        (RunsTaken plan.specs.items (map (λ b. seen b) boxes.items)
+        (map (λ b. seen b) result.boxes.items)) (length plan.specs.items) chunks.items)) }
+    ensures fault { IfErr result.result (λ f. PlanFaultHolds f
+        (Begins plan.form (kinds_taken plan.specs.items plan.kept))
+        (RunsTaken plan.specs.items (map (λ b. seen b) boxes.items)
+        (map (λ b. seen b) result.boxes.items))) }
 {
     let PlanGraph {
         specs,
-        ranks,
-        wires,
+        kept: _,
+        form,
     } = plan;
+    let nodes = specs.len();
     let mut boxes = boxes;
     match load_boxes(&mut boxes, specs) {
-        Ok(()) => run_loaded(rt, boxes, ranks, wires, workers),
+        Ok(()) => run_loaded(rt, boxes, nodes, form, workers),
         Err(Memory) => PlanEnd {
             boxes,
             result: Err(PlanFault::Memory),
@@ -157,69 +172,77 @@ fn run_taken<R: AllocGlobal + Threads + Sync>(
     }
 }
 
-/// Runs the graph of loaded boxes.
+/// Runs the graph of boxes of which so many are loaded.
 fn run_loaded<R: AllocGlobal + Threads + Sync>(
     rt: &R,
     boxes: Vec<Box<dyn Processor + Send>>,
-    ranks: List<u32>,
-    wires: List<Wire>,
+    nodes: usize,
+    form: GraphForm,
     workers: u32,
 ) -> PlanEnd
-    requires fresh { All IsFresh (map (λ b. seen b) boxes.items) }
-    requires no_list { All IsNoList (map (λ b. seen b) boxes.items) }
-    requires some_nodes { 1 ≤ length boxes.items }
-    requires one_each { length ranks ≡ length boxes.items }
-    requires graph { IsGraph ranks wires [] }
+    requires starting { AreStarting form.reserves (map (λ b. seen b) boxes.items) }
+    requires some_nodes { 1 ≤ nodes }
+    requires nodes_within { nodes ≤ length boxes.items }
+    requires one_each { length form.ranks ≡ length boxes.items }
+    requires graph { KeepsBehind nodes form }
     requires some_workers { 1 ≤ workers }
     requires few_workers { workers ≤ 16 }
     ensures later { AreLater (map (λ b. seen b) boxes.items)
         (map (λ b. seen b) result.boxes.items) }
-    ensures rows { IfOk result.result (λ chunks. GivesRows (RunsLoaded
-        (map (λ b. seen b) boxes.items) (map (λ b. seen b) result.boxes.items))
-        wires (length boxes.items) chunks.items) }
-    ensures fault { IfErr result.result (λ f. PlanFaultHolds f (RunsLoaded
-        (map (λ b. seen b) boxes.items) (map (λ b. seen b) result.boxes.items))) }
+    ensures rows { IfOk result.result (λ chunks. Begins form
+        (kinds_in (map (λ b. seen b) boxes.items)) (GivesRows
+        (RunsLoaded (map (λ b. seen b) boxes.items) (map (λ b. seen b) result.boxes.items))
+        nodes chunks.items)) }
+    ensures fault { IfErr result.result (λ f. PlanFaultHolds f
+        (Begins form (kinds_in (map (λ b. seen b) boxes.items)))
+        (RunsLoaded (map (λ b. seen b) boxes.items) (map (λ b. seen b) result.boxes.items))) }
 {
+    let GraphForm {
+        ranks,
+        wires,
+        reserves,
+    } = form;
     let graph = Graph {
         boxes,
         ranks,
         wires,
-        reserves: List::new(rt.alloc()),
+        reserves,
     };
     let RunResult { boxes, end } = run_graph(rt, graph, workers);
     let mut boxes = boxes;
-    let result = result_of(&mut boxes, end);
+    let result = result_of(&mut boxes, nodes, end);
     PlanEnd { boxes, result }
 }
 
-/// What a run gave that ended so, whatever its wires.
+/// What a run gave that ended so, whatever its graph, of which the first nodes were loaded.
 fn result_of(
     boxes: &mut Vec<Box<dyn Processor + Send>>,
+    nodes: usize,
     end: ExecEnd,
 ) -> Result<Vec<Chunk>, PlanFault>
-    requires some_nodes { 1 ≤ length boxes.old.items }
-    requires born { (n : ℕ) → n < length (map (λ b. seen b) boxes.old.items)
+    requires some_nodes { 1 ≤ nodes }
+    requires nodes_within { nodes ≤ length boxes.old.items }
+    requires born { (n : ℕ) → n < nodes
         → IsBorn (box_at (map (λ b. seen b) boxes.old.items) n) }
-    requires end { (wires : List Edge) × EndHolds end wires (map (λ b. seen b) boxes.old.items) }
+    requires end { (b : Begun) × EndHolds end b (map (λ b. seen b) boxes.old.items) }
     ensures still { AreStill (map (λ b. seen b) boxes.old.items)
         (map (λ b. seen b) boxes.new.items) }
-    ensures rows { (wires : List Edge) → EndHolds end wires (map (λ b. seen b) boxes.old.items)
-        → IfOk result (λ chunks. GivesRows (IsThese (map (λ b. seen b) boxes.old.items))
-        wires (length boxes.old.items) chunks.items) }
-    ensures fault { IfErr result
-        (λ f. PlanFaultHolds f (IsThese (map (λ b. seen b) boxes.old.items))) }
+    ensures rows { (b : Begun) → EndHolds end b (map (λ b. seen b) boxes.old.items)
+        → IfOk result (λ chunks. GivesRows (IsThese (map (λ b. seen b) boxes.old.items)) nodes
+        chunks.items b) }
+    ensures fault { (b : Begun) → EndHolds end b (map (λ b. seen b) boxes.old.items)
+        → IfErr result
+        (λ f. PlanFaultHolds f (λ P. P b) (IsThese (map (λ b. seen b) boxes.old.items))) }
 {
     match end {
-        ExecEnd::Done => {
-            let last = boxes.len() - 1;
-            Ok(take_rows_at(boxes, last))
-        }
+        ExecEnd::Done => Ok(take_rows_at(boxes, nodes - 1)),
         ExecEnd::Stuck(_, node) => Err(PlanFault::Stuck(kind_at(boxes, node as usize))),
         ExecEnd::Fault(node, fault) => {
             // What the kind says of the box's reader holds of the fault's box.
             let _ = kind_at(boxes, node as usize);
             Err(PlanFault::Fault(node, fault))
         }
+        ExecEnd::BadGrowth(node, _) => Err(PlanFault::BadGrowth(kind_at(boxes, node as usize))),
         ExecEnd::Memory => Err(PlanFault::Memory),
     }
 }

@@ -1,6 +1,6 @@
-use Rattle.std.proofs.Common.{◌≡◌, ◌<◌, length, map, subst, sym, ◌∙◌, arith}
+use Rattle.std.proofs.Common.{◌≡◌, length, map, subst, arith}
 use Rattle.plan_run.specs.Steps.{LoadsFirst}
-use Rattle.plan_run.proofs.Loading.{in-map, loads-still, map-len, next-blank, next-kind, next-rest, next-spec, none-more, one-loaded, same-count}
+use Rattle.plan_run.proofs.Loading.{in-map, loads-still, next-blank, next-kind, next-rest, next-spec, none-more, one-loaded}
 use Rattle.plan_run.proofs.boxes.load_boxes.Goals as goal
 
 pub load_at-requires-clause-blank : goal.load_at-requires-clause-blank
@@ -10,13 +10,9 @@ load_at-requires-clause-blank g c = next-blank c.loop-i.i c.args.specs.items _ _
 
 pub load_at-requires-clause-of_kind : goal.load_at-requires-clause-of_kind
 load_at-requires-clause-of_kind g c =
-    let in_boxes = in-map (λ b. (goal.Processor-dyn g (b.vtable, b.value)).seen b.value)
-    c.args.boxes.now.items c.loop-i.i (omega arith) in
-    let in_specs : c.loop-i.i < length c.args.specs.items = subst (λ n. c.loop-i.i < n)
-    (same-count _ c.args.boxes.now.items c.args.specs.items c.requires.kinds) in_boxes in
     next-kind c.loop-i.i c.args.specs.items _ _ c.remove.result c.loop-i.invariant.loads
-    c.requires.kinds in_boxes in_specs (next-spec c.args.specs.items c.loop-i.specs.items
-    c.loop-i.i c.remove.result c.loop-i.invariant.rest c.remove.ensures.value in_specs)
+    c.requires.kinds (omega arith) (next-spec c.args.specs.items c.loop-i.specs.items
+    c.loop-i.i c.remove.result c.loop-i.invariant.rest c.remove.ensures.value (omega arith))
 
 pub returns-in_err-load_at-clause-still : goal.returns-in_err-load_at-clause-still
 returns-in_err-load_at-clause-still g c =
@@ -25,25 +21,18 @@ returns-in_err-load_at-clause-still g c =
     c.in_err-load_at.ensures.only c.in_err-load_at.ensures.unchanged)
 
 pub loop-i-preserved : goal.loop-i-preserved
-loop-i-preserved g c =
-    let in_boxes = in-map (λ b. (goal.Processor-dyn g (b.vtable, b.value)).seen b.value)
-    c.args.boxes.now.items c.loop-i.i (omega arith) in
-    let in_specs : c.loop-i.i < length c.args.specs.items = subst (λ n. c.loop-i.i < n)
-    (same-count _ c.args.boxes.now.items c.args.specs.items c.requires.kinds) in_boxes in
-    record {
-      loads = one-loaded c.loop-i.i c.args.specs.items _ _ _ c.remove.result
-          c.loop-i.invariant.loads c.in_ok-load_at.ensures.only
-          (next-spec c.args.specs.items c.loop-i.specs.items c.loop-i.i c.remove.result
-          c.loop-i.invariant.rest c.remove.ensures.value in_specs) c.in_ok-load_at.ensures.ok;
-      rest = next-rest c.args.specs.items c.loop-i.specs.items c.remove.new.self.items c.loop-i.i
-          c.loop-i.invariant.rest c.remove.ensures.items;
-    }
+loop-i-preserved g c = record {
+  loads = one-loaded c.loop-i.i c.args.specs.items _ _ _ c.remove.result
+      c.loop-i.invariant.loads c.in_ok-load_at.ensures.only
+      (next-spec c.args.specs.items c.loop-i.specs.items c.loop-i.i c.remove.result
+      c.loop-i.invariant.rest c.remove.ensures.value (omega arith)) c.in_ok-load_at.ensures.ok;
+  rest = next-rest c.args.specs.items c.loop-i.specs.items c.remove.new.self.items c.loop-i.i
+      c.loop-i.invariant.rest c.remove.ensures.items;
+}
 
 pub returns-clause-ok : goal.returns-clause-ok
 returns-clause-ok g c =
-    let boxes : c.loop-i.i ≡ length c.args.boxes.now.items = omega arith in
-    let end = boxes ∙ sym (map-len _ c.args.boxes.now.items) ∙ same-count _ c.args.boxes.now.items
-    c.args.specs.items c.requires.kinds in
+    let end : c.loop-i.i ≡ length c.args.specs.items = omega arith in
     subst (λ k. LoadsFirst k c.args.specs.items
     (map (λ b. (goal.Processor-dyn g (b.vtable, b.value)).seen b.value) c.args.boxes.now.items)
     (map (λ b. (goal.Processor-dyn g (b.vtable, b.value)).seen b.value) c.loop-i.boxes.items))

@@ -1,17 +1,26 @@
-use Rattle.std.proofs.Common.{List, length, map}
-use Rattle.proc_api.specs.Boxes.{BoxPicture}
-use Rattle.plan_run.proofs.Loading.{loaded-fresh, loaded-no-list, map-len, same-count}
-use Rattle.plan_run.proofs.Telling.{fault-by, if-err, still-then-later, taken-rows, taken-runs}
+use Rattle.std.proofs.Common.{arith, length, map, sym, ◌+◌, ◌∙◌, ◌≡◌}
+use Rattle.plan_run.proofs.Imports.{kinds_in}
+use Rattle.plan_run.proofs.Loading.{boxes-count, first-kinds, loaded-starting, map-len, still-kinds}
+use Rattle.plan_run.proofs.Telling.{begins-by, fault-by, if-err, if-ok, rows-for, still-then-later, taken-runs}
 use Rattle.plan_run.proofs.run.run_taken.Goals as goal
 
-pub run_loaded-requires-clause-fresh : goal.run_loaded-requires-clause-fresh
-run_loaded-requires-clause-fresh g c κs lives = loaded-fresh c.args.plan.specs.items _ _
-    (same-count _ c.args.boxes.items c.args.plan.specs.items c.requires.kinds) c.in-Ok.ensures.ok
+pub load_boxes-requires-clause-kinds : goal.load_boxes-requires-clause-kinds
+load_boxes-requires-clause-kinds g c =
+    first-kinds c.args.plan.specs.items c.args.plan.kept _ c.requires.kinds
 
-pub run_loaded-requires-clause-no_list : goal.run_loaded-requires-clause-no_list
-run_loaded-requires-clause-no_list g c κs lives = loaded-no-list c.args.plan.specs.items _ _
-    (same-count _ c.args.boxes.items c.args.plan.specs.items c.requires.kinds) c.requires.no_list
-    c.in-Ok.ensures.ok
+pub load_boxes-requires-clause-enough : goal.load_boxes-requires-clause-enough
+load_boxes-requires-clause-enough g c =
+    omega (
+      arith,
+      boxes-count c.args.plan.specs.items c.args.plan.kept _ c.requires.kinds,
+      map-len (λ b. (goal.Processor-dyn g (b.vtable, b.value)).seen b.value) c.args.boxes.items,
+    )
+
+pub run_loaded-requires-clause-starting : goal.run_loaded-requires-clause-starting
+run_loaded-requires-clause-starting g c κs lives =
+    loaded-starting c.args.plan.specs.items c.args.plan.form _ _
+    (c.requires.one_each ∙ sym (boxes-count c.args.plan.specs.items c.args.plan.kept _
+    c.requires.kinds)) c.requires.graph c.requires.blank c.in-Ok.ensures.ok
 
 pub returns-in-Ok-clause-later : goal.returns-in-Ok-clause-later
 returns-in-Ok-clause-later g c = still-then-later _ _ _ c.in-Ok.ensures.still
@@ -19,21 +28,18 @@ returns-in-Ok-clause-later g c = still-then-later _ _ _ c.in-Ok.ensures.still
 
 pub returns-in-Ok-clause-rows : goal.returns-in-Ok-clause-rows
 returns-in-Ok-clause-rows g c =
-    let seen_old : List BoxPicture = map (λ b. (goal.Processor-dyn g (b.vtable, b.value)).seen
-    b.value) c.args.boxes.items in
-    let seen_loaded : List BoxPicture =
-    map (λ b. (goal.Processor-dyn g (b.vtable, b.value)).seen b.value)
-    c.load_boxes.new.boxes.items in
-    let seen_new : List BoxPicture = map (λ b. (goal.Processor-dyn g (b.vtable, b.value)).seen
-    b.value) c.run_loaded.result.boxes.items in
-    taken-rows c.args.plan.specs.items seen_old seen_loaded seen_new c.args.plan.wires
-    (length c.load_boxes.new.boxes.items) c.run_loaded.result.result (λ chunks. chunks.items)
-    (same-count _ c.args.boxes.items c.args.plan.specs.items c.requires.kinds)
-    (map-len _ c.load_boxes.new.boxes.items) c.in-Ok.ensures.ok c.run_loaded.ensures.rows
+    let count = boxes-count c.args.plan.specs.items c.args.plan.kept _ c.requires.kinds in
+    let nodes : c.len-nodes.result ≡ length c.args.plan.specs.items = omega arith in
+    if-ok c.run_loaded.result.result _ _
+    (λ chunks. begins-by _ _ _ (still-kinds _ _ c.in-Ok.ensures.still ∙ c.requires.kinds) _ _
+    (rows-for _ _ (λ ended. taken-runs c.args.plan.specs.items _ _ _ ended (omega (arith, count))
+    c.requires.blank c.in-Ok.ensures.ok) _ _ _ nodes)) c.run_loaded.ensures.rows
 
 pub returns-in-Ok-clause-fault : goal.returns-in-Ok-clause-fault
 returns-in-Ok-clause-fault g c =
+    let count = boxes-count c.args.plan.specs.items c.args.plan.kept _ c.requires.kinds in
     if-err c.run_loaded.result.result _ _
-    (λ f h. fault-by _ _ f (λ ended r. taken-runs c.args.plan.specs.items _ _ _ ended
-    (same-count _ c.args.boxes.items c.args.plan.specs.items c.requires.kinds)
-    c.in-Ok.ensures.ok r) h) c.run_loaded.ensures.fault
+    (λ f. fault-by _ _ (λ ended. taken-runs c.args.plan.specs.items _ _ _ ended
+    (omega (arith, count)) c.requires.blank c.in-Ok.ensures.ok) f _ _
+    (begins-by _ _ _ (still-kinds _ _ c.in-Ok.ensures.still ∙ c.requires.kinds)))
+    c.run_loaded.ensures.fault
