@@ -1,11 +1,11 @@
 -- The clauses of the calls of a shell, from what its kernel and its notes do.
-use Rattle.proc_shell.proofs.Imports.{All, All-behind, All-cons, All-nil, AllFit, AllOutputsFinished, AnswerComes, BadPlace, Bool, BoxPicture, Err, Fails, FaultHolds, FaultInCall, FaultIsDue, Faults, FitsInput, FollowsKept, HasNotedEnd, HasSize, HasSpecPorts, Held, IfErr, IfSome, IsAtMost, IsBegun, IsKernelOf, IsLoadRefused, IsPulled, IsRunning, IsShelled, IsSourceKind, IsValid, IsWorkOf, Keeps, KeepsLimits, KeepsMeant, KernelState, Kind, List, Lists, Loads, Made, Makes, MakesTypes, Means, Moves, None, Notes, NotesNoEnd, Nothing, OfPart, Ok, OnOk, Option, OwnState, PartFails, PartPrepares, PartWorks, Passes, Picture, PreparesLawfully, Progresses, ReaderView, Result, RowCount, ShellPart, ShutsPart, Some, Spec, Status, StatusComes, Suits, Table, Takes, Unworked, WorkFault, Works, WorksHeld, [], ap, append-nil, ap₂, arith, both-same, changed-by-both, chunk_rows, common_steps, false, files_by, gathered_with, held_made, held_option, held_unworked, in_count, inl, inr, is_some, is_wanted, kept_input, kept_inputs, kept_output, kept_outputs, kind_of, length, most_rows, no_lists, no_table, none-pulled, noted_by, option_map, out_count, own_of, part, part_bad_place, part_seen, pulled_at, reading_of, refl, rows_of, rows_pulled, shell_seen, source_of, subst, sym, total-nothing, total_rows, true, unworked_at, with_chunk, with_view, work_of, ℕ, ◌++◌, ◌+◌, ◌<◌, ◌==◌, ◌||◌, ◌∙◌, ◌∷◌, ◌≡◌, ◌≢◌, ◌≤◌, ◌⊎◌}
+use Rattle.proc_shell.proofs.Imports.{All, All-behind, All-cons, All-nil, AllFit, AllOutputsFinished, AnswerComes, Bool, BoxPicture, Err, Fails, FaultHolds, FaultInCall, FaultIsDue, Faults, FitsInput, FollowsKept, HasNotedEnd, HasSize, HasSpecPorts, Held, IfErr, IfSome, IsAtMost, IsBadFile, IsBegun, IsKernelOf, IsLoadRefused, IsPulled, IsRunning, IsShelled, IsSourceKind, IsValid, IsWorkOf, Keeps, KeepsLimits, KeepsMeant, KernelState, Kind, List, Lists, Loads, Made, Makes, MakesTypes, MayExpand, Means, Moves, None, Notes, NotesNoEnd, Nothing, Ok, OnOk, Option, OwnState, PartFails, PartPrepares, PartWorks, Passes, Picture, Prepared, PreparesLawfully, Progresses, ReaderView, Result, RowCount, ShellPart, ShutsPart, Some, Spec, Status, StatusComes, Suits, Table, Takes, Unworked, WorkFault, Works, WorksHeld, [], ap, append-nil, ap₂, arith, both-same, changed-by-both, chunk_rows, common_steps, false, file_in, file_of, files_by, gathered_with, growth_in, held_made, held_option, held_unworked, in_count, inl, inr, is_some, is_wanted, kept_input, kept_inputs, kept_output, kept_outputs, kind_of, length, most_rows, no_lists, no_table, none-pulled, noted_by, option_map, out_count, own_of, part, part_seen, pulled_at, reading_of, refl, rows_of, rows_pulled, shell_seen, source_of, subst, sym, total-nothing, total_rows, true, unworked_at, with_chunk, with_view, work_of, ℕ, ◌++◌, ◌+◌, ◌<◌, ◌==◌, ◌||◌, ◌∙◌, ◌∷◌, ◌≡◌, ◌≢◌, ◌≤◌, ◌⊎◌}
 use Rattle.query_model.specs.declared.processor_spec.Kind.TheVariants as kind
 use Rattle.proc_api.specs.declared.status.Status.TheVariants as status
 use Rattle.proc_api.specs.declared.status.WorkFault.TheVariants as fault
 use Rattle.proc_api.specs.declared.status.LoadRefusal.TheVariants as refusal
 use Rattle.proc_shell.proofs.PortMoves.{never-true, shut-law, total-one}
-use Rattle.proc_shell.proofs.KeepLaws.{all-none, cond-none, end-own, had-same, keeps-over, noted-own, pulled-so, shown-one, spec-view}
+use Rattle.proc_shell.proofs.KeepLaws.{all-none, cond-none, end-own, had-same, keeps-over, noted-own, pulled-so, shown-one}
 use Rattle.proc_shell.proofs.Through.{chunk-here}
 
 -- ---- a chunk that can be pushed
@@ -30,11 +30,13 @@ held-all : (R : Table → Type 0) (o : Option Table) → IfSome o R
 held-all R o h = grind (arith, common_steps, All-nil, by-rows, All-cons)
 
 -- what isn't worked came from input 0 or from a wanted one
-pub wanted-source : (wants : ℕ → Bool) (makes : Bool) (h : Held) → is_wanted wants makes h ≡ true → ((source_of h ≡ 0) × (held_unworked h ≡ [])) ⊎ (wants (source_of h) ≡ true)
+pub wanted-source : (wants : ℕ → Bool) (makes : Bool) (h : Held) → is_wanted wants makes h ≡ true
+    → ((source_of h ≡ 0) × (held_unworked h ≡ [])) ⊎ (wants (source_of h) ≡ true)
 wanted-source wants makes h e = grind (arith, common_steps)
 
 -- a kind that makes none holds none
-pub wanted-made : (wants : ℕ → Bool) (makes : Bool) (h : Held) → is_wanted wants makes h ≡ true → makes ≡ false → held_made h ≡ []
+pub wanted-made : (wants : ℕ → Bool) (makes : Bool) (h : Held) → is_wanted wants makes h ≡ true
+    → makes ≡ false → held_made h ≡ []
 wanted-made wants makes h e f = grind (arith, common_steps, never-true)
 
 -- a kernel of the same kind and spec that holds what it wanted
@@ -48,18 +50,22 @@ suits-so k x y wants makes h same kind shelled uses wanted =
 
 -- ---- load
 
-pub none-mapped : {A : Type 0} {B : Type 0} (f : A → B) (o : Option A) → is_some o ≡ false → is_some (option_map f o) ≡ false
+pub none-mapped : {A : Type 0} {B : Type 0} (f : A → B) (o : Option A) → is_some o ≡ false
+    → is_some (option_map f o) ≡ false
 none-mapped f o e = grind (arith, common_steps)
 
 -- a blank box that was given another kind's spec, or a spec of its kind
-pub wrong-kind : (k : Kind) (d : Option ReaderView) (count : RowCount) (o : Option ShellPart) (s : Spec) → is_some o ≡ false → kind_of s ≢ k → IsLoadRefused refusal.WrongKind (shell_seen k d count o) s
+pub wrong-kind : (k : Kind) (d : Option ReaderView) (count : RowCount) (o : Option ShellPart)
+    (s : Spec) → is_some o ≡ false → kind_of s ≢ k
+    → IsLoadRefused refusal.WrongKind (shell_seen k d count o) s
 wrong-kind k d count (Some p) s none h = absurd (cc)
 wrong-kind k d count None s none h = (refl, h)
 
 noted-none : (d : Option ReaderView) → noted_by d 0 ≡ 0
 noted-none d = grind (arith, common_steps)
 
-module _ (k : Kind) (d : Option ReaderView) (count : RowCount) (s : Spec) (p : ShellPart) (x : IsBegun s p) (since : count.since ≡ 0) where
+module _ (k : Kind) (d : Option ReaderView) (count : RowCount) (s : Spec) (p : ShellPart)
+    (x : IsBegun s p) (since : count.since ≡ 0) where
   abbrev F : BoxPicture
   F = part_seen k d count p
 
@@ -69,12 +75,17 @@ module _ (k : Kind) (d : Option ReaderView) (count : RowCount) (s : Spec) (p : S
     own = p.kernel.own;
     shows = refl;
     worked = no_lists;
-    ins_are = λ i. sym (cond-none (i == source_of p.held) (held_unworked p.held) (ap held_unworked x.held));
+    ins_are = λ i. sym
+        (cond-none (i == source_of p.held) (held_unworked p.held) (ap held_unworked x.held));
     rows =
-        let y : Means (record { files = files_by d; fetched = p.kernel.stage.fetched; bad = p.kernel.stage.bad }) s p.kernel.own no_lists no_lists [] =
-        subst (λ g. Means (record { files = files_by d; fetched = g.fetched; bad = g.bad }) s p.kernel.own no_lists no_lists []) (sym x.stage) (x.begins.nothing (files_by d)) in
-        subst (λ h. Means (reading_of F) p.kernel.spec p.kernel.own no_lists no_lists (chunk_rows (held_made h))) (sym x.held)
-        (subst (λ z. Means (reading_of F) z p.kernel.own no_lists no_lists []) (sym x.begins.spec) y);
+        let y : Means (reading_of F) s p.kernel.own no_lists no_lists [] =
+        subst (λ g. Means (record { files = files_by d; file = file_in p.kernel.spec g }) s
+        p.kernel.own no_lists
+        no_lists []) (sym x.stage) (x.begins.nothing (files_by d)) in
+        subst (λ h. Means (reading_of F) p.kernel.spec p.kernel.own no_lists no_lists
+        (chunk_rows (held_made h))) (sym x.held)
+        (subst (λ z. Means (reading_of F) z p.kernel.own no_lists no_lists []) (sym x.begins.spec)
+        y);
     over = λ o fin. let f : false ≡ true = rw x.notes at fin in absurd (cc);
     read = λ o fin. let f : false ≡ true = rw x.notes at fin in absurd (cc);
   }
@@ -83,8 +94,10 @@ module _ (k : Kind) (d : Option ReaderView) (count : RowCount) (s : Spec) (p : S
   unfolding kept_output kept_input total_rows
   fresh-keeps = record {
     ports = rw x.notes tt;
+    opens = λ e. let f : None ≡ Some (Prepared status.ExpandPipeline) = rw x.notes at e in
+        absurd (cc);
     idle = x.uses;
-    rows = λ f. x.shelled.into F no_lists no_lists x.uses
+    rows = λ f. x.shelled.into F no_lists no_lists (refl, rw x.notes tt) x.uses
         (rw x.held (All-nil (HasSize (Some p.kernel.spec)))) fresh-meant;
     types = λ o. All-nil (λ (t : Table). MakesTypes (Some p.kernel.spec) no_lists t.types);
     made_types = rw x.held
@@ -95,12 +108,17 @@ module _ (k : Kind) (d : Option ReaderView) (count : RowCount) (s : Spec) (p : S
     counted = inl since;
     finishes = λ o fin. let f : false ≡ true = rw x.notes at fin in absurd (cc);
     closes = λ i fin. let f : false ≡ true = rw x.notes at fin in absurd (cc);
-    noted = λ i there n. absurd (x.begins.unended i (noted-own p.kernel.spec p.kernel.own (gathered_with p.kernel.spec p.kernel.own.gathered (held_unworked p.held)) p.kernel.own.gathered i n));
+    noted =
+        λ i there n. absurd (x.begins.unended i (noted-own p.kernel.spec p.kernel.own (gathered_with
+        p.kernel.spec p.kernel.own.gathered (held_unworked p.held)) p.kernel.own.gathered i n));
   }
 
 -- a blank shell that was loaded
-pub loads : (k : Kind) (d : Option ReaderView) (count more : RowCount) (o : Option ShellPart) (s : Spec) (p : ShellPart) → is_some o ≡ false → kind_of s ≡ k → IsBegun s p
-    → more ≡ record { total = count.total; since = 0 } → Loads (shell_seen k d count o) s (part_seen k d more p)
+pub loads : (k : Kind) (d : Option ReaderView) (count more : RowCount) (o : Option ShellPart)
+    (s : Spec) (p : ShellPart) → is_some o ≡ false → kind_of s ≡ k → IsBegun s p → more ≡ record {
+      total = count.total;
+      since = 0;
+    } → Loads (shell_seen k d count o) s (part_seen k d more p)
 loads k d count more (Some y) s p none sk x m = absurd (cc)
 loads k d count more None s p none sk x m =
     let since : more.since ≡ 0 = ap (λ c. c.since) m in
@@ -116,7 +134,7 @@ loads k d count more None s p none sk x m =
         loaded = refl;
         of_kind = ap kind_of x.begins.spec ∙ sk;
         notes = rw (x.notes, since, noted-none d) refl;
-        ungrown = refl;
+        ungrown = ap (growth_in p.kernel.spec) x.stage;
         not_handed_out = ap (λ g. g.handed_out) x.stage;
         keeps = λ l. fresh-keeps k d more s p x since;
       };
@@ -160,18 +178,20 @@ module _ (k : Kind) (d : Option ReaderView) (p : ShellPart) (b : OwnState) (j : 
   abbrev PassesHere : Type 0
   PassesHere = Passes p v n (part (record p.kernel { own = b }) j notes) w m st
 
-  may-come : (u : Status) → AnswerComes u (record p.kernel { own = b }) j → StatusComes u after
+  may-come : (u : Status) → AnswerComes u (record p.kernel { own = b }) j w → StatusComes u after
   may-come status.NeedData e = e
   may-come status.PortFull e = tt
   may-come status.Ready (inl some) = inl some
   may-come status.Ready (inr (inl row)) = inr (inl row)
-  may-come status.Ready (inr (inr bad)) = inr (inr (sym so.kind.0 ∙ bad.0, bad.1))
+  may-come status.Ready (inr (inr bad)) =
+      inr (inr (subst (λ z. IsBadFile z (file_of after)) so.kind.0 bad))
   may-come status.Async e =
       record { source = subst IsSourceKind so.kind.0 e.0; unfetched = e.1 }
-  may-come status.ExpandPipeline e = absurd e
+  may-come status.ExpandPipeline e =
+      subst (λ z. MayExpand z (file_of after)) so.kind.0 e.0
   may-come status.Finished e = tt
 
-  prepares-fit : out_count v ≤ 16 → HasSpecPorts p.kernel.spec v → PassesHere
+  prepares-fit : out_count v ≤ 16 → HasSpecPorts p.kernel v → PassesHere
       → FollowsKept before v → IsRunning before → PreparesLawfully before v after w st
   prepares-fit few ports x f run =
       let y = x.turns.moves in
@@ -195,10 +215,10 @@ module _ (k : Kind) (d : Option ReaderView) (p : ShellPart) (b : OwnState) (j : 
         pushes = λ some.
             y.waits (x.pushes.waits (let e = ap length y.made in omega (arith, e, some))).none;
         room = y.room;
-        misfit = λ never. absurd (never (so.shelled.grown None (in_count v) (out_count v) ports));
+        misfit = λ never. absurd (never ports);
       }
 
-  prepares-misfit : (HasSpecPorts p.kernel.spec v → ⊥)
+  prepares-misfit : (HasSpecPorts p.kernel v → ⊥)
       → ShutsPart p v n (part (record p.kernel { own = b }) j notes) w m st → IsRunning before
       → PreparesLawfully before v after w st
   prepares-misfit never x run =
@@ -206,7 +226,7 @@ module _ (k : Kind) (d : Option ReaderView) (p : ShellPart) (b : OwnState) (j : 
 
 -- a prepare that takes one turn
 pub passes-once : (k : Kind) (p q : ShellPart) (n m : RowCount) (v w : Picture) (st : Status)
-    → Suits k p.kernel q.kernel q.held → out_count v ≤ 16 → HasSpecPorts p.kernel.spec v
+    → Suits k p.kernel q.kernel q.held → out_count v ≤ 16 → HasSpecPorts p.kernel v
     → Passes p v n q w m st → PartPrepares k p v n q w m st
 passes-once k p q n m v w st so few ports x = record {
   suits = so;
@@ -223,7 +243,7 @@ passes-once k p q n m v w st so few ports x = record {
 
 -- a prepare over a view with other ports
 pub shuts-once : (k : Kind) (p q : ShellPart) (n m : RowCount) (v w : Picture) (st : Status)
-    → Suits k p.kernel q.kernel q.held → (HasSpecPorts p.kernel.spec v → ⊥)
+    → Suits k p.kernel q.kernel q.held → (HasSpecPorts p.kernel v → ⊥)
     → ShutsPart p v n q w m st → PartPrepares k p v n q w m st
 shuts-once k p q n m v w st so never x = record {
   suits = so;
@@ -339,9 +359,11 @@ module _ (k : Kind) (d : Option ReaderView) (count : RowCount) (x : KernelState)
         (types ins kept.unworked) in
         record {
           ports = had-same n.view (P h) Q refl refl kept.ports;
+          opens = kept.opens;
           idle = so.uses;
-          rows = λ fit. so.shelled.into Q ins outs so.uses sized (meant ins outs fit
-              (so.shelled.from (P h) ins outs (spec-view s so.shelled (P h) refl kept.ports)
+          rows = λ fit. so.shelled.into Q ins outs
+              (refl, had-same n.view (P h) Q refl refl kept.ports) so.uses sized (meant ins outs fit
+              (so.shelled.from (P h) ins outs (refl, kept.ports)
               kept.idle run.not_handed_out (kept.rows fit)));
           types = kept.types;
           made_types = λ i z lt. (typed i z lt).1;
@@ -410,41 +432,46 @@ works k d count p q (Ok u) run w = works-part k d count p q w run
 
 -- ---- faults
 
--- a place that a lawful box may answer as bad
-abbrev pub IsPlaceDue : Option ReaderView → Spec → BadPlace → Type 0
-IsPlaceDue d s place = OfPart (Some s) (λ part. IfSome (files_by d) (λ files. part_bad_place part.header part.types files part.path ≡ Some place))
-
-module _ (k : Kind) (d : Option ReaderView) (count : RowCount) (p q : ShellPart) (f : WorkFault) (x : PartFails f p q) where
+module _ (k : Kind) (d : Option ReaderView) (count : RowCount) (p q : ShellPart) (f : WorkFault)
+    (x : PartFails f p q) where
   -- a fault of a work, which is kept
-  fails-part : p.kernel.kind ≡ k → Fails p.kernel f → ((place : BadPlace) → p.kernel.kind ≡ kind.Csv → p.kernel.stage.bad ≡ Some place → IsPlaceDue d p.kernel.spec place)
+  fails-part : p.kernel.kind ≡ k → Fails p.kernel f → FaultIsDue (Some f) (part_seen k d count p)
       → p.kernel.stage.handed_out ≡ false → Faults f (part_seen k d count p) (part_seen k d count q)
   fails-part of why due out =
       record {
-        same = record { view = ap (λ n. n.view) x.notes; fits = ap (λ n. n.fits) x.notes; answer = ap (λ n. n.answer) x.notes; growth = refl; not_handed_out = ap (λ z. z.stage.handed_out) x.kernel ∙ out };
+        same = record {
+          view = ap (λ n. n.view) x.notes;
+          fits = ap (λ n. n.fits) x.notes;
+          answer =
+              ap (λ n. n.answer) x.notes;
+          growth = ap (λ z. growth_in z.spec z.stage) x.kernel;
+          not_handed_out = ap (λ z. z.stage.handed_out) x.kernel ∙ out;
+        };
         kept = ap (λ n. n.fault) x.notes;
-        in_call = (told f why).0;
-        holds = (told f why).1;
-        is_due = λ lawful. (told f why).2;
+        in_call = (told f why due).0;
+        holds = (told f why due).1;
+        is_due = λ lawful. (told f why due).2;
       }
     where
-      told : (g : WorkFault) → Fails p.kernel g
+      still : (g : WorkFault) → FaultIsDue (Some g) (part_seen k d count p)
+          → FaultIsDue (Some g) (record (part_seen k d count p) { spec = Some q.kernel.spec })
+      still g = subst (λ s. FaultIsDue (Some g) (record (part_seen k d count p) { spec = Some s }))
+          (sym (ap (λ z. z.spec) x.kernel))
+
+      told : (g : WorkFault) → Fails p.kernel g → FaultIsDue (Some g) (part_seen k d count p)
           → FaultInCall g (part_seen k d count p) (part_seen k d count q)
           × FaultHolds (Some g) (part_seen k d count q)
           × FaultIsDue (Some g) (part_seen k d count q)
-      told fault.Memory y = (tt, tt, tt)
-      told (fault.Bad place) y = (
-        tt,
-        sym of ∙ y.0,
-        subst (λ s. IsPlaceDue d s place) (sym (ap (λ z. z.spec) x.kernel)) (due place y.0 y.1),
-      )
-      told g y = absurd y
+      told fault.Memory y z = (tt, tt, tt)
+      told (fault.Bad place) y z = (tt, sym of ∙ y.0, still (fault.Bad place) z)
+      told (fault.BadList line) y z = (tt, sym of ∙ y.0, still (fault.BadList line) z)
+      told g y z = absurd y
 
 pub fails : (k : Kind) (d : Option ReaderView) (count : RowCount) (p q : ShellPart)
     (r : Result (Unit {0}) WorkFault) → p.kernel.kind ≡ k → IsRunning (part_seen k d count p)
     → IfErr r (λ f. PartFails f p q) → IfErr r (Fails p.kernel)
-    → ((place : BadPlace) → p.kernel.kind ≡ kind.Csv → p.kernel.stage.bad ≡ Some place
-    → IsPlaceDue d p.kernel.spec place)
+    → ((f : WorkFault) → Fails p.kernel f → FaultIsDue (Some f) (part_seen k d count p))
     → IfErr r (λ f. Faults f (part_seen k d count p) (part_seen k d count q))
 fails k d count p q (Ok u) of run w why due = tt
 fails k d count p q (Err f) of run w why due =
-    fails-part k d count p q f w of why due run.not_handed_out
+    fails-part k d count p q f w of why (due f why) run.not_handed_out

@@ -3,14 +3,19 @@ use Rattle.proc_shell.proofs.Imports.{Bool, BoxPicture, HasSpecView, IsShelled, 
 use Rattle.query_model.specs.declared.processor_spec.Spec.TheVariants as spec
 use Rattle.proc_shell.proofs.Through.{first-source, here-unworked, last-here, spec-output, split-here}
 
-into-collect : (p : BoxPicture) (ins outs : Lists) → IsWorkOf (Some spec.Collect) p.work → KeepsMeant spec.Collect p ins outs → KeepsCollect p ins
+into-collect : (p : BoxPicture) (ins outs : Lists) → IsWorkOf (Some spec.Collect) p.work
+    → KeepsMeant spec.Collect p ins outs → KeepsCollect p ins
 into-collect p ins outs uses t = grind (arith, common_steps, here-unworked, last-here)
 
 -- it has no output that it could have finished
-never-finished : {X : Type 0} (p : BoxPicture) → HasSpecView spec.Collect p → (o : ℕ) → (kept_output p o).fin_out ≡ true → X
-never-finished p seen o fin = let x = spec-output spec.Collect p seen o fin in let none = x.ports.1 in let lt = x.within in absurd (omega (arith, none, lt))
+never-finished : {X : Type 0} (p : BoxPicture) → HasSpecView spec.Collect p → (o : ℕ)
+    → (kept_output p o).fin_out ≡ true → X
+never-finished p seen o fin = let x = spec-output spec.Collect p seen o fin in
+    let none = x.ports.1 in let lt = x.within in absurd (omega (arith, none, lt))
 
-from-collect : (p : BoxPicture) (ins outs : Lists) → HasSpecView spec.Collect p → IsWorkOf (Some spec.Collect) p.work → p.work.handed_out ≡ false → KeepsCollect p ins → KeepsMeant spec.Collect p ins outs
+from-collect : (p : BoxPicture) (ins outs : Lists) → HasSpecView spec.Collect p
+    → IsWorkOf (Some spec.Collect) p.work → p.work.handed_out ≡ false → KeepsCollect p ins
+    → KeepsMeant spec.Collect p ins outs
 from-collect p ins outs seen uses out k =
     let x = split-here p ins (ap (λ w. w.source) uses) k.last in
     record {
@@ -23,18 +28,18 @@ from-collect p ins outs seen uses out k =
       read = λ o fin. tt;
     }
 
-pub collect_uses : (chunks : List Table) (handed_out : Bool) (i : ℕ) (unworked made : List Table) → ((i ≡ 0) × (unworked ≡ [])) ⊎ ((i == 0) ≡ true) → made ≡ []
+pub collect_uses : (chunks : List Table) (handed_out : Bool) (i : ℕ) (unworked made : List Table)
+    → ((i ≡ 0) × (unworked ≡ [])) ⊎ ((i == 0) ≡ true) → made ≡ []
     → IsWorkOf (Some spec.Collect) (work_of (gathering chunks handed_out) i unworked made)
 collect_uses chunks handed_out i unworked made e none =
-    first-source (gathering chunks handed_out) i unworked made e ∙ ap (λ l. work_of (gathering chunks handed_out) 0 unworked l) none
+    first-source (gathering chunks handed_out) i unworked made e
+    ∙ ap (λ l. work_of (gathering chunks handed_out) 0 unworked l) none
 
 pub collect_shelled : IsShelled spec.Collect
 collect_shelled = record {
-  ungrown = λ growth m n h. h;
-  grown = λ growth m n h. h;
-  still = λ kept m n had h stands. (h.0 ∙ sym had.0, h.1 ∙ sym had.1);
-  enough_one = λ ins enough m n h. absurd enough;
-  lets_push = λ x own worked outs more inputs outputs o pushed rest ports by others h. h;
-  into = λ p ins outs uses sizes t. into-collect p ins outs uses t;
+  still = λ growth kept m n had h stands. (h.0 ∙ sym had.0, h.1 ∙ sym had.1);
+  enough_one = λ ins enough growth m n h. absurd enough;
+  lets_push = λ x own worked outs more growth inputs outputs o pushed rest ports by others h. h;
+  into = λ p ins outs seen uses sizes t. into-collect p ins outs uses t;
   from = from-collect;
 }

@@ -1,7 +1,8 @@
 -- A shell keeps the contract of its kernel's kind over a prepare.
-use Rattle.proc_shell.proofs.Imports.{All, All-append, All-behind, All-weaker, AllFit, AllOutputsClosed, ArePortsOf, Bool, BoxPicture, CountsRows, EndsNow, Flags, FollowsKept, HadPorts, HasEnough, HasNotedEnd, HasReadEnough, HasSize, HasSpecPorts, HasSpecView, Held, IfSome, InputFollows, IsOver, IsPulled, IsReadUp, IsRunning, IsShelled, Keeps, KeepsMeant, KeepsOver, KernelState, Kind, List, Lists, MakesTypes, MayBeInput, Means, Moves, None, Notes, NotesEnd, Nothing, Option, OwnState, Passes, Picture, PortFlags, PullsOne, Pushes, ReaderView, RowCount, Some, Spec, Status, StaysFit, Suits, Table, [], ap, append-nil, append_assoc, append_cancel_right, ap₂, arith, both_ways, by-place, cases_eq, cases_lt, chunk_rows, common_steps, cond, cond_both, counted-more, enough-more, eq-eqb, false, false_from_ne_true, fits-front, front-all, gathered_with, get_or, held_made, held_unworked, in_count, inl, input_at, inr, is_ended, is_in_finished, is_out_finished, kept_input, kept_input-of, kept_input-past, kept_inputs, kept_inputs-of, kept_output, kept_output-of, kept_output-past, kept_outputs, kept_outputs-of, kept_ports, length, length-map, makes-more, may-be-input, ne_eqb, never-enough, no_flags, not-true, or_cases, out_count, output_at, own_of, part, part_seen, port_flags, pulled-last, pulled-more, pulled_at, pushed_at, raised, reading_of, refl, rows_pulled, source_of, subst, sym, taken_out, total_rows, true, unworked_at, with_pulled, with_pushed, ℕ, ◌++◌, ◌<◌, ◌==◌, ◌||◌, ◌∙◌, ◌∷◌, ◌≡◌, ◌≢◌, ◌≤◌, ◌⊎◌}
+use Rattle.proc_shell.proofs.Imports.{All, All-append, All-behind, All-weaker, AllFit, AllOutputsClosed, AnswerComes, AreOpen, ArePortsOf, Bool, BoxPicture, CountsRows, EndsNow, Flags, FollowsKept, GrowthForm, HadPorts, HasEnough, HasNotedEnd, HasReadEnough, HasSize, HasSpecPorts, HasSpecView, Held, IfSome, InputFollows, IsOver, IsPulled, IsReadUp, IsRunning, IsShelled, Keeps, KeepsMeant, KeepsOver, KernelState, Kind, List, Lists, MakesTypes, MayBeInput, Means, Moves, None, Notes, NotesEnd, Nothing, Option, OwnState, Passes, Picture, PortFlags, Prepared, PullsOne, Pushes, ReaderView, RowCount, Some, Spec, StandStill, Status, StaysFit, Suits, Table, [], ap, append-nil, append_assoc, append_cancel_right, ap₂, arith, both_ways, by-place, cases_eq, cases_lt, chunk_rows, common_steps, cond, cond_both, counted-more, enough-more, eq-eqb, false, false_from_ne_true, fits-front, front-all, gathered_with, get_or, growth_in, held_made, held_unworked, in_count, inl, input_at, inr, is_ended, is_in_finished, is_out_finished, kept_input, kept_input-of, kept_input-past, kept_inputs, kept_inputs-of, kept_output, kept_output-of, kept_output-past, kept_outputs, kept_outputs-of, kept_ports, length, length-map, makes-more, may-be-input, ne_eqb, never-enough, no_flags, not-true, or_cases, out_count, output_at, own_of, part, part_seen, port_flags, pulled-last, pulled-more, pulled_at, pushed_at, raised, reading_of, refl, rows_pulled, source_of, subst, sym, taken_out, total_rows, true, unworked_at, with_pulled, with_pushed, ℕ, ◌++◌, ◌<◌, ◌==◌, ◌||◌, ◌∙◌, ◌∷◌, ◌≡◌, ◌≢◌, ◌≤◌, ◌⊎◌}
 use Rattle.query_model.specs.declared.processor_spec.Spec.TheVariants as spec
-use Rattle.proc_shell.proofs.PortMoves.{all-or, both-none, never-true}
+use Rattle.proc_api.specs.declared.status.Status.TheVariants as status
+use Rattle.proc_shell.proofs.PortMoves.{all-or, both-none, kept-count, never-true, outs-count}
 use Rattle.proc_shell.proofs.TurnLaws.{holds-unended}
 
 -- ---- lists
@@ -11,16 +12,6 @@ cond-none c l e = cond_both c l [] (λ x. x ≡ []) (λ t. e) (λ t. refl)
 
 pub all-none : (P : Table → Type 0) (xs : List Table) → xs ≡ [] → All P xs
 all-none P xs e = λ k d lt. absurd (let l = ap length e in omega (arith, l, lt))
-
--- ---- the kept flags are as many as the view has
-
-pub kept-count : (u : Picture) → length (port_flags u).inputs ≡ in_count u
-unfolding in_count
-kept-count u = rw length-map refl
-
-pub outs-count : (u : Picture) → length (port_flags u).outputs ≡ out_count u
-unfolding out_count
-outs-count u = refl
 
 -- ---- flags
 
@@ -35,15 +26,17 @@ ended-stays a b f e = grind (arith, common_steps, not-true)
 
 -- ---- a prepare
 
-had-spec : (s : Spec) → IsShelled s → (p : BoxPicture) → p.spec ≡ Some s → (ports : PortFlags) → HadPorts (Some ports) p → ArePortsOf (Some s) None (length ports.inputs) (length ports.outputs)
-had-spec s shelled p e ports had = grind (arith, common_steps)
+-- a kind that notes an end has the same ports before and after a growth
+noted-ports : (s : Spec) (own : OwnState) (i m n : ℕ) (growth : Option GrowthForm)
+    → NotesEnd (Some s) own i → ArePortsOf (Some s) None m n → ArePortsOf (Some s) growth m n
+noted-ports (spec.List list) own i m n growth noted h = absurd noted
+noted-ports s own i m n growth noted h = h
 
-pub spec-view : (s : Spec) → IsShelled s → (p : BoxPicture) → p.spec ≡ Some s → HadPorts p.notes.view p → HasSpecView s p
-spec-view s shelled p e = go p.notes.view
-  where
-    go : (x : Option PortFlags) → HadPorts x p → IfSome x (λ (ports : PortFlags). ArePortsOf (Some s) None (length ports.inputs) (length ports.outputs))
-    go None had = tt
-    go (Some ports) had = had-spec s shelled p e ports had
+-- while it asks to grow, each port is open
+opens-now : (x : KernelState) (k : Held) (w : Picture) (st : Status) → AnswerComes st x k w
+    → Some (Prepared st) ≡ Some (Prepared status.ExpandPipeline) → AreOpen (port_flags w)
+opens-now x k w status.ExpandPipeline comes e = comes.1
+opens-now x k w st comes e = absurd (cc)
 
 -- the ports that were kept are those of any box with that spec and growth
 pub had-same : (view : Option PortFlags) (p q : BoxPicture) → q.spec ≡ p.spec
@@ -52,7 +45,8 @@ had-same None p q spec growth had = tt
 had-same (Some ports) p q spec growth had = rw (spec, growth) had
 
 -- what the kernel notes is no matter of what it gathered
-pub noted-own : (s : Spec) (a : OwnState) (l m : List Table) (i : ℕ) → NotesEnd (Some s) (record a { gathered = l }) i → NotesEnd (Some s) (record a { gathered = m }) i
+pub noted-own : (s : Spec) (a : OwnState) (l m : List Table) (i : ℕ) → NotesEnd (Some s)
+    (record a { gathered = l }) i → NotesEnd (Some s) (record a { gathered = m }) i
 noted-own spec.Collect a l m i n = n
 noted-own s a l m i n = n
 
@@ -62,9 +56,13 @@ end-own spec.Collect a l m n = n
 end-own s a l m n = n
 
 -- a box shows one state of its kernel
-pub shown-one : (s : Spec) (a b : OwnState) (u : List Table) → record a { gathered = gathered_with s a.gathered u } ≡ record b { gathered = gathered_with s b.gathered u } → a ≡ b
+pub shown-one : (s : Spec) (a b : OwnState) (u : List Table) → record a {
+  gathered =
+      gathered_with s a.gathered u;
+} ≡ record b { gathered = gathered_with s b.gathered u } → a ≡ b
 shown-one spec.Collect a b u e =
-    let same : a.gathered ≡ b.gathered = append_cancel_right a.gathered b.gathered u (ap (λ x. x.gathered) e) in
+    let same : a.gathered ≡ b.gathered =
+    append_cancel_right a.gathered b.gathered u (ap (λ x. x.gathered) e) in
     λ i. record (e i) { gathered = same i }
 shown-one s a b u e = e
 
@@ -81,7 +79,7 @@ module _ (kind : Kind) (d : Option ReaderView) (kernel : KernelState) (b : OwnSt
     (first last : Notes) (old new : RowCount) (v w : Picture) (st : Status)
     (so : Suits kind kernel (record kernel { own = b }) k)
     (g : Passes (part kernel h first) v old (part (record kernel { own = b }) k last) w new st)
-    (few : out_count v ≤ 16) (ports : HasSpecPorts kernel.spec v)
+    (few : out_count v ≤ 16) (ports : HasSpecPorts kernel v)
     (run : IsRunning (part_seen kind d old (part kernel h first)))
     (follows : FollowsKept (part_seen kind d old (part kernel h first)) v)
     (fit : StaysFit (part_seen kind d old (part kernel h first)) v) where
@@ -102,6 +100,9 @@ module _ (kind : Kind) (d : Option ReaderView) (kernel : KernelState) (b : OwnSt
 
   abbrev a : OwnState
   a = kernel.own
+
+  abbrev growth : Option GrowthForm
+  growth = growth_in kernel.spec kernel.stage
 
   last-view : last.view ≡ Some (port_flags w)
   last-view = ap (λ z. z.view) g.notes
@@ -129,23 +130,49 @@ module _ (kind : Kind) (d : Option ReaderView) (kernel : KernelState) (b : OwnSt
   pushed-others o ne = pushed-is o ∙ g.pushes.others o ne
 
   -- where flags are kept, they are those of as many ports as the view has
-  viewed : HadPorts first.view p → HasSpecView s p
-  viewed had = spec-view s so.shelled p refl had
+  same-counts : (kept : PortFlags) → first.view ≡ Some kept
+      → ArePortsOf (Some s) growth (length kept.inputs) (length kept.outputs)
+      → (in_count v ≡ length kept.inputs) × (out_count v ≡ length kept.outputs)
+  same-counts kept e had =
+      so.shelled.still growth kept (in_count v) (out_count v) had ports
+      (subst (λ x. StandStill (Some s) x (in_count v) (out_count v)) e fit.still)
 
-  had-counts : HadPorts first.view p
-      → (first.view ≡ None) ⊎ ((kept_inputs p ≡ in_count v) × (kept_outputs p ≡ out_count v))
+  had-counts : HadPorts first.view p → AreOpen (kept_ports first.view)
+      ⊎ ((kept_inputs p ≡ in_count v) × (kept_outputs p ≡ out_count v))
   unfolding kept_inputs kept_outputs
-  had-counts had = grind (arith, common_steps, had-spec)
+  had-counts = go first.view refl
+    where
+      go : (x : Option PortFlags) → first.view ≡ x → HadPorts x p → AreOpen (kept_ports x)
+          ⊎ ((length (kept_ports x).inputs ≡ in_count v)
+          × (length (kept_ports x).outputs ≡ out_count v))
+      go None e had = inl (record { outputs = λ o. refl; inputs = λ i. refl })
+      go (Some kept) e (inl had) = let n = same-counts kept e had in inr (sym n.0, sym n.1)
+      go (Some kept) e (inr had) = inl had.1
 
-  never-out : {X : Type 0} (o : ℕ) → first.view ≡ None → (kept_output p o).fin_out ≡ true → X
+  noted-counts : (i : ℕ) → NotesEnd (Some s) a i → HadPorts first.view p
+      → (first.view ≡ None) ⊎ (kept_inputs p ≡ in_count v)
+  unfolding kept_inputs
+  noted-counts i n = go first.view refl
+    where
+      go : (x : Option PortFlags) → first.view ≡ x → HadPorts x p
+          → (x ≡ None) ⊎ (length (kept_ports x).inputs ≡ in_count v)
+      go None e had = inl refl
+      go (Some kept) e (inl had) = inr (sym (same-counts kept e had).0)
+      go (Some kept) e (inr had) = inr (sym (same-counts kept e
+          (noted-ports s a i _ _ growth n had.0)).0)
+
+  never-out : {X : Type 0} (o : ℕ) → AreOpen (kept_ports first.view)
+      → (kept_output p o).fin_out ≡ true → X
   unfolding kept_output
-  never-out o e fin = let f : false ≡ true = ap (λ x. (get_or (kept_ports x).outputs o no_flags).fin_out) (sym e) ∙ fin in absurd (cc)
+  never-out o open' fin = never-true _ (open'.outputs o) fin
 
-  never-in : {X : Type 0} (i : ℕ) → first.view ≡ None → (kept_input p i).fin_in ≡ true → X
+  never-in : {X : Type 0} (i : ℕ) → AreOpen (kept_ports first.view)
+      → (kept_input p i).fin_in ≡ true → X
   unfolding kept_input
-  never-in i e fin = let f : false ≡ true = ap (λ x. (get_or (kept_ports x).inputs i no_flags).fin_in) (sym e) ∙ fin in absurd (cc)
+  never-in i open' fin = never-true _ (open'.inputs i) fin
 
-  kept-out : (o : ℕ) → o < out_count v → (output_at u o).fin_out ≡ true → (kept_output p o).fin_out ≡ true
+  kept-out : (o : ℕ) → o < out_count v → (output_at u o).fin_out ≡ true
+      → (kept_output p o).fin_out ≡ true
   kept-out o lt e = sym (follows.outputs o lt).fin_out ∙ sym (g.pushes.finished o) ∙ e
 
   enough-still : (ins : Lists) → HasReadEnough (Some s) ins
@@ -153,7 +180,9 @@ module _ (kind : Kind) (d : Option ReaderView) (kernel : KernelState) (b : OwnSt
   enough-still ins x = enough-more (Some s) v w ins x
 
   -- where it had finished an output by itself, its inputs are at their ends, or it has read enough
-  was-finished : (ins outs : Lists) → Keeps p ins outs → (o : ℕ) → o < out_count v → (output_at u o).fin_out ≡ true → ((i : ℕ) → i < in_count v → is_ended (input_at u i).flags ≡ true) ⊎ HasReadEnough (Some s) ins
+  was-finished : (ins outs : Lists) → Keeps p ins outs → (o : ℕ) → o < out_count v
+      → (output_at u o).fin_out ≡ true → ((i : ℕ) → i < in_count v
+      → is_ended (input_at u i).flags ≡ true) ⊎ HasReadEnough (Some s) ins
   was-finished ins outs kept o lt fin =
       let before = kept-out o lt fin in
       elim (had-counts kept.ports) [
@@ -166,7 +195,9 @@ module _ (kind : Kind) (d : Option ReaderView) (kernel : KernelState) (b : OwnSt
       ]
 
   -- where it had closed an input, its consumers had closed all outputs, or it has read enough
-  was-closed : (ins outs : Lists) → Keeps p ins outs → (i : ℕ) → i < in_count v → (input_at u i).flags.fin_in ≡ true → ((0 < out_count v) × ((o : ℕ) → o < out_count v → (output_at u o).fin_in ≡ true)) ⊎ HasReadEnough (Some s) ins
+  was-closed : (ins outs : Lists) → Keeps p ins outs → (i : ℕ) → i < in_count v
+      → (input_at u i).flags.fin_in ≡ true → ((0 < out_count v)
+      × ((o : ℕ) → o < out_count v → (output_at u o).fin_in ≡ true)) ⊎ HasReadEnough (Some s) ins
   was-closed ins outs kept i lt e =
       let before : (kept_input p i).fin_in ≡ true = sym (follows.inputs i lt).fin_in
       ∙ ap (λ x. x.flags.fin_in) (sym (g.pushes.inputs i)) ∙ e in
@@ -212,7 +243,8 @@ module _ (kind : Kind) (d : Option ReaderView) (kernel : KernelState) (b : OwnSt
   ends-after n = end-own s b b.gathered (gathered_with s b.gathered (held_unworked k)) n
 
   -- what is over stays over
-  over-before : (ins outs : Lists) → Keeps p ins outs → KeepsMeant s p ins outs → (o : ℕ) → o < out_count v → (output_at u o).fin_out ≡ true → IsOver s q.work
+  over-before : (ins outs : Lists) → Keeps p ins outs → KeepsMeant s p ins outs → (o : ℕ)
+      → o < out_count v → (output_at u o).fin_out ≡ true → IsOver s q.work
   over-before ins outs kept t o lt fin =
       let was = t.over o (kept-out o lt fin) in
       let unworked : held_unworked m ≡ [] = g.pushes.unworked ∙ was.all_worked in
@@ -225,32 +257,39 @@ module _ (kind : Kind) (d : Option ReaderView) (kernel : KernelState) (b : OwnSt
         all_worked = elim mv.pulls [
           | inl x ↦ x.unworked ∙ unworked
           | inr x ↦ absurd (elim (was-finished ins outs kept o lt fin) [
-            | inl all ↦ holds-unended (input_at u x.input).flags x.holds (all x.input (let n = x.in_range in omega (arith, n, g.pushes.ins)))
+            | inl all ↦ holds-unended (input_at u x.input).flags x.holds
+                (all x.input (let n = x.in_range in omega (arith, n, g.pushes.ins)))
             | inr enough ↦ x.unfinished (omega (arith, lt, g.pushes.outs)) (λ j less.
-                let one = so.shelled.enough_one ins enough (in_count v) (out_count v) ports in
+                let one =
+                so.shelled.enough_one ins enough growth (in_count v) (out_count v) ports in
                 let z : o ≡ j = omega (arith, one, lt, less, g.pushes.outs) in
-                subst (λ n. is_out_finished (output_at u n) ≡ true) z (ap (λ c. c || (output_at u o).fin_in) fin))
+                subst (λ n. is_out_finished (output_at u n) ≡ true) z
+                (ap (λ c. c || (output_at u o).fin_in) fin))
           ])
         ];
         all_made = rest.0;
         noted = ends-after rest.1;
       }
 
-  kept-in-range : (o : ℕ) → (kept_output q o).fin_out ≡ true → (o < out_count w) × ((output_at w o).fin_out ≡ true)
+  kept-in-range : (o : ℕ) → (kept_output q o).fin_out ≡ true
+      → (o < out_count w) × ((output_at w o).fin_out ≡ true)
   kept-in-range o fin =
       grind (arith, common_steps, kept_output-of, last-view, never-true, kept_output-past)
 
   -- an output that it has finished was so before, or is so now
-  finishes-now : (o : ℕ) → (kept_output q o).fin_out ≡ true → ((o < out_count v) × ((output_at u o).fin_out ≡ true)) ⊎ EndsNow (record kernel { own = b }) m k u
+  finishes-now : (o : ℕ) → (kept_output q o).fin_out ≡ true → ((o < out_count v)
+      × ((output_at u o).fin_out ≡ true)) ⊎ EndsNow (record kernel { own = b }) m k u
   finishes-now o fin =
       let x = kept-in-range o fin in
       let lt : o < out_count u = let n = x.0 in omega (arith, n, mv.outs) in
-      elim (mv.finishes o lt x.1) [ inl before ↦ inl (omega (arith, lt, g.pushes.outs), before) | inr now ↦ inr now ]
+      elim (mv.finishes o lt x.1)
+      [ inl before ↦ inl (omega (arith, lt, g.pushes.outs), before) | inr now ↦ inr now ]
 
-  made-rows : (outs worked : Lists) → Means (reading_of p) s a worked outs (chunk_rows (held_made h)) → Means (reading_of p) s b worked (with_pushed v w outs) (chunk_rows (held_made k))
+  made-rows : (outs worked : Lists) → Means (reading_of p) s a worked outs (chunk_rows (held_made
+      h)) → Means (reading_of p) s b worked (with_pushed v w outs) (chunk_rows (held_made k))
   made-rows outs worked t =
       g.turns.leaves.means (reading_of p) worked (with_pushed v w outs) (chunk_rows (held_made k))
-      (so.shelled.lets_push (reading_of p) a worked outs (with_pushed v w outs) (in_count v)
+      (so.shelled.lets_push (reading_of p) a worked outs (with_pushed v w outs) growth (in_count v)
       (out_count v) g.pushes.out g.pushes.left (held_made k) ports
       (elim g.pushes.by [
         | inl x ↦ inl (
@@ -263,15 +302,19 @@ module _ (kind : Kind) (d : Option ReaderView) (kernel : KernelState) (b : OwnSt
       (λ j ne. ap (λ l. outs j ++ l) (pushed-others j ne) ∙ append-nil (outs j))
       (subst (λ l. Means (reading_of p) s a worked outs (chunk_rows l)) made-are t))
 
-  meant-before : (ins outs : Lists) (t : KeepsMeant s p ins outs) → Means (reading_of p) s a t.worked outs (chunk_rows p.work.made)
-  meant-before ins outs t = subst (λ z. Means (reading_of p) s z t.worked outs (chunk_rows p.work.made)) (own-is ins outs t) t.rows
+  meant-before : (ins outs : Lists) (t : KeepsMeant s p ins outs)
+      → Means (reading_of p) s a t.worked outs (chunk_rows p.work.made)
+  meant-before ins outs t = subst (λ z. Means (reading_of p) s z t.worked outs
+      (chunk_rows p.work.made)) (own-is ins outs t) t.rows
 
-  pub through : (ins outs : Lists) → Keeps p ins outs → KeepsMeant s p ins outs → KeepsMeant s q (with_pulled v w ins) (with_pushed v w outs)
+  pub through : (ins outs : Lists) → Keeps p ins outs → KeepsMeant s p ins outs
+      → KeepsMeant s q (with_pulled v w ins) (with_pushed v w outs)
   through ins outs kept t = record {
     own = b;
     shows = refl;
     worked = t.worked;
-    ins_are = λ i. ap (λ l. l ++ pulled_at v w i) (t.ins_are i) ∙ append_assoc (t.worked i) (unworked_at p.work i) (pulled_at v w i) ∙ ap (λ l. t.worked i ++ l) (sym (unworked-is i));
+    ins_are = λ i. ap (λ l. l ++ pulled_at v w i) (t.ins_are i) ∙ append_assoc (t.worked i)
+        (unworked_at p.work i) (pulled_at v w i) ∙ ap (λ l. t.worked i ++ l) (sym (unworked-is i));
     rows = made-rows outs t.worked (meant-before ins outs t);
     over = λ o fin. elim (finishes-now o fin) [
       | inl before ↦ over-before ins outs kept t o before.0 before.1
@@ -293,7 +336,7 @@ module _ (kind : Kind) (d : Option ReaderView) (kernel : KernelState) (b : OwnSt
       → HasReadEnough (Some s) (with_pulled v w ins)
   now-enough ins outs kept e enough =
       let fit : AllFit (Some s) ins = λ i j d lt. enough.any i (get_or (ins i) j d).types in
-      let t : KeepsMeant s p ins outs = so.shelled.from p ins outs (viewed kept.ports) kept.idle
+      let t : KeepsMeant s p ins outs = so.shelled.from p ins outs (refl, kept.ports) kept.idle
       run.not_handed_out (kept.rows fit) in
       let none : held_unworked h ≡ [] = sym g.pushes.unworked ∙ ap held_unworked e in
       let all : (i : ℕ) → ins i ≡ t.worked i = λ i. t.ins_are i
@@ -307,26 +350,35 @@ module _ (kind : Kind) (d : Option ReaderView) (kernel : KernelState) (b : OwnSt
       → (output_at w o).fin_out ≡ true
       → ((i : ℕ) → i < in_count v → is_ended (input_at w i).flags ≡ true)
       ⊎ HasReadEnough (Some s) (with_pulled v w ins)
-  ends-finished ins outs kept o lt fin = elim (mv.finishes o (omega (arith, lt, g.pushes.outs)) fin) [
-    | inl before ↦ elim (was-finished ins outs kept o lt before) [ inl all ↦ inl (λ i less. mv.ended i (all i less)) | inr enough ↦ inr (enough-still ins enough) ]
-    | inr now ↦ elim now.why [
-      | inl enough ↦ inr (now-enough ins outs kept now.before enough)
-      | inr over ↦
-          let unfinished = over.1 in
-          all-or (in_count v) (λ i. is_ended (input_at w i).flags ≡ true)
-          (HasReadEnough (Some s) (with_pulled v w ins))
-          (λ i less. elim (or_cases (input_at u i).flags.fin_in (is_ended (input_at u i).flags)
-          (over.0 i (omega (arith, less, g.pushes.ins)))) [
-            | inl closed ↦ elim (was-closed ins outs kept i less closed) [
-              | inl all ↦ absurd (unfinished (let some = all.0 in omega (arith, some, g.pushes.outs)) (λ j n. either-true (output_at u j).fin_out (output_at u j).fin_in (all.1 j (omega (arith, n, g.pushes.outs)))))
-              | inr enough ↦ inr (enough-still ins enough)
-            ]
-            | inr ended ↦ inl (mv.ended i ended)
-          ])
-    ]
-  ]
+  ends-finished ins outs kept o lt fin =
+      elim (mv.finishes o (omega (arith, lt, g.pushes.outs)) fin) [
+        | inl before ↦ elim (was-finished ins outs kept o lt before) [
+          | inl all ↦ inl
+              (λ i less. mv.ended i (all i less))
+          | inr enough ↦ inr (enough-still ins enough)
+        ]
+        | inr now ↦ elim now.why [
+          | inl enough ↦ inr (now-enough ins outs kept now.before enough)
+          | inr over ↦
+              let unfinished = over.1 in
+              all-or (in_count v) (λ i. is_ended (input_at w i).flags ≡ true)
+              (HasReadEnough (Some s) (with_pulled v w ins))
+              (λ i less. elim (or_cases (input_at u i).flags.fin_in (is_ended (input_at u i).flags)
+              (over.0 i (omega (arith, less, g.pushes.ins)))) [
+                | inl closed ↦ elim (was-closed ins outs kept i less closed) [
+                  | inl all ↦
+                      absurd (unfinished (let some = all.0 in omega (arith, some, g.pushes.outs))
+                      (λ j n. either-true (output_at u j).fin_out (output_at u j).fin_in
+                      (all.1 j (omega (arith, n, g.pushes.outs)))))
+                  | inr enough ↦ inr (enough-still ins enough)
+                ]
+                | inr ended ↦ inl (mv.ended i ended)
+              ])
+        ]
+      ]
 
-  consumers-closed : 0 < out_count v → ((o : ℕ) → o < out_count v → (output_at u o).fin_in ≡ true) → AllOutputsClosed q
+  consumers-closed : 0 < out_count v → ((o : ℕ) → o < out_count v → (output_at u o).fin_in ≡ true)
+      → AllOutputsClosed q
   consumers-closed some all =
       let n = kept_outputs-of q w last-view in
       record {
@@ -341,10 +393,14 @@ module _ (kind : Kind) (d : Option ReaderView) (kernel : KernelState) (b : OwnSt
       → (input_at w i).flags.fin_in ≡ true → AllOutputsClosed q
       ⊎ HasReadEnough (Some s) (with_pulled v w ins)
   closes-right ins outs kept i lt e = elim (mv.closes i (omega (arith, lt, g.pushes.ins)) e) [
-    | inl before ↦ elim (was-closed ins outs kept i lt before) [ inl all ↦ inl (consumers-closed all.0 all.1) | inr enough ↦ inr (enough-still ins enough) ]
+    | inl before ↦ elim (was-closed ins outs kept i lt before) [
+      | inl all ↦ inl
+          (consumers-closed all.0 all.1)
+      | inr enough ↦ inr (enough-still ins enough)
+    ]
     | inr now ↦ elim now [
-      | inl x ↦ elim (all-or (out_count v) (λ o. (output_at u o).fin_in ≡ true) (HasReadEnough (Some s) ins)
-          (λ o less. elim (or_cases (output_at u o).fin_out (output_at u o).fin_in
+      | inl x ↦ elim (all-or (out_count v) (λ o. (output_at u o).fin_in ≡ true) (HasReadEnough
+          (Some s) ins) (λ o less. elim (or_cases (output_at u o).fin_out (output_at u o).fin_in
           (x.all o (omega (arith, less, g.pushes.outs)))) [
             | inl fin ↦ elim (was-finished ins outs kept o less fin) [
               | inl all ↦ absurd (never-ended (input_at u i).flags (all i lt) x.unfinished)
@@ -352,7 +408,8 @@ module _ (kind : Kind) (d : Option ReaderView) (kernel : KernelState) (b : OwnSt
             ]
             | inr closed ↦ inl closed
           ])) [
-            | inl all ↦ inl (consumers-closed (let some = x.some in omega (arith, some, g.pushes.outs)) all)
+            | inl all ↦ inl
+                (consumers-closed (let some = x.some in omega (arith, some, g.pushes.outs)) all)
             | inr enough ↦ inr (enough-still ins enough)
           ]
       | inr x ↦ inr (now-enough ins outs kept x.0 x.1)
@@ -394,8 +451,7 @@ module _ (kind : Kind) (d : Option ReaderView) (kernel : KernelState) (b : OwnSt
       let stays = stays-read ins outs kept i lt n in
       elim (g.turns.ends i (omega (arith, lt, g.pushes.ins)) n) [
         | inl before ↦
-            let there = may-be-input p (in_count v) i
-            (elim (had-counts kept.ports) [ inl e ↦ inl e | inr e ↦ inr e.0 ]) lt in
+            let there = may-be-input p (in_count v) i (noted-counts i before kept.ports) lt in
             let was = kept.noted i there
             (noted-own s a a.gathered (gathered_with s a.gathered (held_unworked h)) i before) in
             let f = follows.inputs i lt in
@@ -406,8 +462,9 @@ module _ (kind : Kind) (d : Option ReaderView) (kernel : KernelState) (b : OwnSt
             let open' : (input_at u i).flags.fin_in ≡ false =
             false_from_ne_true (input_at u i).flags.fin_in (λ e.
             elim (was-closed ins outs kept i lt e) [
-              | inl all ↦ now.unfinished (let some = all.0 in omega (arith, some, g.pushes.outs)) (λ o less. either-true (output_at u o).fin_out
-                  (output_at u o).fin_in (all.1 o (omega (arith, less, g.pushes.outs))))
+              | inl all ↦ now.unfinished (let some = all.0 in omega (arith, some, g.pushes.outs))
+                  (λ o less. either-true (output_at u o).fin_out (output_at u o).fin_in
+                  (all.1 o (omega (arith, less, g.pushes.outs))))
               | inr enough ↦ never-enough s b i ins n enough
             ]) in
             stays (ap (λ c. c || is_ended (input_at u i).flags) (sym open') ∙ now.over) open'
@@ -422,8 +479,10 @@ module _ (kind : Kind) (d : Option ReaderView) (kernel : KernelState) (b : OwnSt
   pushed-all : (P : Table → Type 0) → All P p.work.made → (o : ℕ) → All P (pushed_at v w o)
   pushed-all P made o =
       by-place (λ j. All P (pushed_at v w j)) g.pushes.out o (elim g.pushes.by [
-        | inl x ↦ subst (All P) (sym (pushed-is g.pushes.out ∙ x.1)) (front-all P g.pushes.left (held_made k) (made-split P made))
-        | inr none ↦ all-none P (pushed_at v w g.pushes.out) (pushed-is g.pushes.out ∙ g.pushes.none none)
+        | inl x ↦ subst (All P) (sym (pushed-is g.pushes.out ∙ x.1))
+            (front-all P g.pushes.left (held_made k) (made-split P made))
+        | inr none ↦ all-none P (pushed_at v w g.pushes.out)
+            (pushed-is g.pushes.out ∙ g.pushes.none none)
       ]) (λ ne. all-none P (pushed_at v w o) (pushed-others o ne))
 
   made-all : (P : Table → Type 0) → All P p.work.made → All P q.work.made
@@ -448,13 +507,17 @@ module _ (kind : Kind) (d : Option ReaderView) (kernel : KernelState) (b : OwnSt
       let P : Table → Type 0 = λ t. MakesTypes (Some s) ins t.types in
       let Q : Table → Type 0 = λ t. MakesTypes (Some s) more t.types in
       let still : (t : Table) → P t → Q t = λ t. makes-more (Some s) v w ins t.types in
+      let had : HadPorts last.view q = subst (λ x. HadPorts x q) (sym last-view)
+      (inl (rw (kept-count w ∙ ins-w, outs-count w ∙ outs-w) ports)) in
       record {
-        ports = subst (λ x. HadPorts x q) (sym last-view)
-            (inl (rw (kept-count w ∙ ins-w, outs-count w ∙ outs-w) ports));
+        ports = had;
+        opens = λ e. subst (λ x. AreOpen (kept_ports x)) (sym last-view)
+            (opens-now (record kernel { own = b }) k w st mv.comes
+            (sym (ap (λ z. z.answer) g.notes) ∙ e));
         idle = so.uses;
-        rows = λ f. so.shelled.into q more (with_pushed v w outs) so.uses
+        rows = λ f. so.shelled.into q more (with_pushed v w outs) (refl, had) so.uses
             (made-all (HasSize (Some s)) kept.made_sizes)
-            (through ins outs kept (so.shelled.from p ins outs (viewed kept.ports) kept.idle
+            (through ins outs kept (so.shelled.from p ins outs (refl, kept.ports) kept.idle
             run.not_handed_out (kept.rows (fits-front (Some s) v w ins f))));
         types = λ o. All-append Q (outs o) (pushed_at v w o)
             (All-weaker P Q still (outs o) (kept.types o))

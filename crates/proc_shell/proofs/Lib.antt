@@ -8,5 +8,6 @@ pub mod BoxLaws
 pub mod Through
 pub mod Resizing
 pub mod Parts
+pub mod Lists
 pub mod Gathering
 pub mod SeveralTurns

@@ -4,21 +4,26 @@ use Rattle.proc_shell.proofs.Imports.{Held, IsCrowded, IsFree, IsSound, List, Ma
 use Rattle.proc_shell.proofs.PortMoves.{never-true}
 
 -- the view stays, and these chunks are dropped, where there is no output
-still-pushes : (h k : Held) (left : List Table) (v : Picture) → IsSound v → held_made h ≡ left ++ held_made k → held_unworked k ≡ held_unworked h
-    → source_of k ≡ source_of h → (left ≡ []) ⊎ (out_count v ≡ 0) → (0 < length (held_made k) → IsCrowded v) → Pushes h k v v
+still-pushes : (h k : Held) (left : List Table) (v : Picture) → IsSound v → held_made h
+    ≡ left ++ held_made k → held_unworked k ≡ held_unworked h → source_of k ≡ source_of h
+    → (left ≡ []) ⊎ (out_count v ≡ 0) → (0 < length (held_made k) → IsCrowded v) → Pushes h k v v
 still-pushes h k left v sound made unworked source e waits =
     grind (arith, common_steps, changed-by-none, none-pushed)
 
 -- nothing leaves
-pub pushes-none : (h : Held) (v : Picture) → IsSound v → (0 < length (held_made h) → IsCrowded v) → Pushes h h v v
+pub pushes-none : (h : Held) (v : Picture) → IsSound v → (0 < length (held_made h) → IsCrowded v)
+    → Pushes h h v v
 pushes-none h v sound waits = still-pushes h h [] v sound refl refl refl (inl refl) waits
 
 -- the chunk has no output
-pub pushes-nowhere : (c : Table) (v : Picture) → IsSound v → out_count v ≡ 0 → Pushes (Made c) Nothing v v
-pushes-nowhere c v sound none = still-pushes (Made c) Nothing (c ∷ []) v sound refl refl refl (inr none) (λ lt. absurd (omega (arith, lt)))
+pub pushes-nowhere : (c : Table) (v : Picture) → IsSound v → out_count v ≡ 0
+    → Pushes (Made c) Nothing v v
+pushes-nowhere c v sound none = still-pushes (Made c) Nothing (c ∷ []) v sound refl refl refl
+    (inr none) (λ lt. absurd (omega (arith, lt)))
 
 -- the chunk leaves by an output that is free
-pub pushes-one : (c : Table) (v w : Picture) (o : ℕ) → IsSound v → IsFree v o → w ≡ after_push v o c → Pushes (Made c) Nothing v w
+pub pushes-one : (c : Table) (v w : Picture) (o : ℕ) → IsSound v → IsFree v o → w ≡ after_push v o c
+    → Pushes (Made c) Nothing v w
 pushes-one c v w o sound free e = subst (λ u. Pushes (Made c) Nothing v u) (sym e) made
   where
     made : Pushes (Made c) Nothing v (after_push v o c)
@@ -30,22 +35,29 @@ pushes-one c v w o sound free e = subst (λ u. Pushes (Made c) Nothing v u) (sym
           ins = t.ins;
           outs = t.outs;
           inputs = t.inputs;
-          finished = λ j. by-place (λ n. (output_at u n).fin_out ≡ (output_at v n).fin_out) o j (ap (λ f. f.fin_out) t.here) (λ ne. ap (λ f. f.fin_out) (t.others j ne));
-          closed = λ j. by-place (λ n. (output_at u n).fin_in ≡ (output_at v n).fin_in) o j (ap (λ f. f.fin_in) t.here) (λ ne. ap (λ f. f.fin_in) (t.others j ne));
+          finished = λ j. by-place (λ n. (output_at u n).fin_out ≡ (output_at v n).fin_out) o j
+              (ap (λ f. f.fin_out) t.here) (λ ne. ap (λ f. f.fin_out) (t.others j ne));
+          closed = λ j. by-place (λ n. (output_at u n).fin_in ≡ (output_at v n).fin_in) o j
+              (ap (λ f. f.fin_in) t.here) (λ ne. ap (λ f. f.fin_in) (t.others j ne));
           unworked = refl;
           source = refl;
           out = o;
           left = c ∷ [];
           made = refl;
-          by = inl (free.in_range, just-pushed v u o (c ∷ []) sound (empty-of (output_at v o) free.room) t.pushes);
+          by = inl (
+            free.in_range,
+            just-pushed v u o (c ∷ []) sound (empty-of (output_at v o) free.room) t.pushes,
+          );
           none = λ none. absurd (let lt = free.in_range in omega (arith, none, lt));
           others = λ j ne. none-pushed v u j sound (t.other_pushes j ne);
           waits = λ lt. absurd (omega (arith, lt));
-          at_once = λ all. never-true (is_out_finished (output_at v o)) free.unfinished (all o free.in_range);
+          at_once = λ all. never-true (is_out_finished (output_at v o)) free.unfinished
+              (all o free.in_range);
         }
 
 -- nothing waits but what was made
-pub never-made : {X : Type 0} (h : Held) → ((c : Table) → h ≡ Made c → ⊥) → 0 < length (held_made h) → X
+pub never-made : {X : Type 0} (h : Held) → ((c : Table) → h ≡ Made c → ⊥) → 0 < length (held_made h)
+    → X
 never-made h never lt = grind (arith, common_steps)
 
 -- a chunk that was pulled is passed on, or dropped where it has no rows

@@ -1,17 +1,17 @@
 -- A prepare that works at once what it pulled is two prepares and a work between them.
-use Rattle.proc_shell.proofs.Imports.{AreAsKept, AreMoved, ArePortsOf, Bool, BoxPicture, CountsRows, FollowsKept, HasSpecPorts, Held, IsKernelOf, IsRunning, IsSound, IsWorkOf, Keeps, KernelState, Kind, List, None, Option, PartPrepares, PartWorks, PassesOn, Picture, PreparesLawfully, Pushes, ReaderView, Ready, RowCount, ShellPart, Some, Spec, Status, StaysFit, Suits, Table, Takes, Turns, Unworked, WorksHeld, [], and_parts, ap, arith, changed-by-both, common_steps, follows-noted, goes-on, held_made, held_option, held_unworked, in_count, is_wanted, lists-pulled, lists-pushed, ltb-true, nat_lt, out_count, part, part_seen, port_flags, refl, rows-both, rows_pulled, source_of, stands-still, subst, sym, true, with_pulled, with_pushed, with_view, work_of, ℕ, ◌&&◌, ◌<◌, ◌∙◌, ◌∷◌, ◌≡◌, ◌≤◌}
+use Rattle.proc_shell.proofs.Imports.{AreAsKept, AreMoved, Bool, BoxPicture, CountsRows, FollowsKept, HasSpecPorts, Held, IsKernelOf, IsRunning, IsSound, IsWorkOf, Keeps, KernelState, Kind, List, Option, PartPrepares, PartWorks, PassesOn, Picture, PreparesLawfully, Pushes, ReaderView, Ready, RowCount, ShellPart, Some, Spec, Status, StaysFit, Suits, Table, Takes, Turns, Unworked, WorksHeld, [], and_parts, ap, arith, changed-by-both, common_steps, follows-noted, goes-on, growth_in, held_made, held_option, held_unworked, in_count, is_wanted, lists-pulled, lists-pushed, ltb-true, nat_lt, out_count, part, part_seen, port_flags, refl, rows-both, rows_pulled, source_of, stands-still, subst, sym, true, with_pulled, with_pushed, with_view, work_of, ℕ, ◌&&◌, ◌<◌, ◌∙◌, ◌∷◌, ◌≡◌, ◌≤◌}
 use Rattle.proc_shell.proofs.BoxLaws.{held-source, held-worked, limits-stay, passes-once, works-part}
-use Rattle.proc_shell.proofs.KeepLaws.{kept-count, outs-count}
-use Rattle.proc_shell.proofs.PortMoves.{same-ports}
+use Rattle.proc_shell.proofs.PortMoves.{kept-count, outs-count, same-ports}
 
 -- the view still has the ports of the spec
 pub still-ports : (k : Kind) (p q : ShellPart) (n m : RowCount) (v w : Picture) (s : Status)
-    → PartPrepares k p v n q w m s → HasSpecPorts p.kernel.spec v → HasSpecPorts q.kernel.spec w
+    → PartPrepares k p v n q w m s → HasSpecPorts p.kernel v → HasSpecPorts q.kernel w
 still-ports k p q n m v w s x ports =
     let g = goes-on v w x.changed in
-    subst (λ z. HasSpecPorts z w) (sym (ap (λ z. z.spec) x.suits.kernel))
-    (same-ports p.kernel.spec (in_count v) (out_count v) (in_count w) (out_count w) (sym g.ins)
-    (sym g.outs) ports)
+    subst (λ z. HasSpecPorts z w) (sym x.suits.kernel)
+    (same-ports p.kernel.spec (growth_in p.kernel.spec p.kernel.stage) (in_count v) (out_count v)
+    (in_count w)
+    (out_count w) (sym g.ins) (sym g.outs) ports)
 
 module _ (k : Kind) (p a b q : ShellPart) (n m l : RowCount) (v u w : Picture) (s : Status)
     (sound : IsSound u) (first : PartPrepares k p v n a u m Ready) (work : PartWorks k a b)
@@ -84,9 +84,11 @@ module _ (k : Kind) (p a b q : ShellPart) (n m l : RowCount) (v u w : Picture) (
         fits = ap (λ z. z.fits) work.notes ∙ x.fits fit;
         ports =
             let g = goes-on v u first.changed in
-            subst (λ z. ArePortsOf z None (in_count u) (out_count u)) (sym spec-stays)
-            (same-ports p.kernel.spec (in_count v) (out_count v) (in_count u) (out_count u)
-            (sym g.ins) (sym g.outs) fit.ports);
+            subst (λ z. HasSpecPorts z u) (sym work.suits.kernel)
+            (subst (λ z. HasSpecPorts z u) (sym first.suits.kernel)
+            (same-ports p.kernel.spec (growth_in p.kernel.spec p.kernel.stage) (in_count v)
+            (out_count v) (in_count u)
+            (out_count u) (sym g.ins) (sym g.outs) fit.ports));
         still =
             stands-still (Some b.kernel.spec) b.notes.view (in_count u) (out_count u)
             (subst (λ z. AreAsKept z (in_count u) (out_count u)) (sym noted)
@@ -121,7 +123,7 @@ pub record PassesChunks (x : KernelState) : Type 0 where
 
 -- chunks are moved by one turn
 pub turns-once : (k : Kind) (x y : KernelState) (h i j : Held) (n m : RowCount) (v u w : Picture)
-    (s : Status) → Suits k x y j → HasSpecPorts x.spec v → out_count v ≤ 16 → Pushes h i v u
+    (s : Status) → Suits k x y j → HasSpecPorts x v → out_count v ≤ 16 → Pushes h i v u
     → Turns x y.own i j u w s → CountsRows (rows_pulled u w) n m → AreMoved k x h v n y j w m s
 turns-once k x y h i j n m v u w s so ports few pushes turns counts = λ notes.
     passes-once k (part x h notes) (part y j (with_view w s notes)) n m v w s so few ports
@@ -137,7 +139,7 @@ turns-once k x y h i j n m v u w s so ports few pushes turns counts = λ notes.
 -- a turn behind one of which the chunk that it pulled was passed on
 pub turns-again : (k : Kind) (wants : ℕ → Bool) (makes : Bool) (p a : ShellPart) (y : KernelState)
     (i h : Held) (n m l : RowCount) (v u t w : Picture) (r s : Status) → PassesChunks a.kernel
-    → r ≡ Ready → HasSpecPorts p.kernel.spec v → out_count v ≤ 16
+    → r ≡ Ready → HasSpecPorts p.kernel v → out_count v ≤ 16
     → is_wanted wants makes a.held ≡ true → PassesOn a.held i u t → Suits k a.kernel y h
     → Turns a.kernel y.own i h t w s → CountsRows (rows_pulled t w) m l
     → PartPrepares k p v n a u m r → PartPrepares k p v n (part y h (with_view w s a.notes)) w l s

@@ -1,17 +1,37 @@
 -- What each turn of a shell moves.
-use Rattle.proc_shell.proofs.Imports.{AllOutputsFinished, Bool, Flags, IsWantedFull, KernelState, Leaves, MayMake, Moves, Nothing, OwnState, Picture, PullsOne, Some, Spec, Table, TurnsInput, Unworked, after_pull, ap, ap₂, arith, by-place, changed-by-both, changed-by-one, common_steps, emptied, holds_data, input_at, is_ended, none-pulled, not-true, out_count, pull-turns, pull_call, refl, taken_out, true, ℕ, ◌<◌, ◌∙◌, ◌≡◌}
+use Rattle.proc_shell.proofs.Imports.{AllOutputsFinished, AreCounts, AreOpen, Bool, Flags, IsWantedFull, KernelState, Leaves, MayMake, Moves, Nothing, OwnState, Picture, PullsOne, Some, Spec, Table, TurnsInput, Unworked, after_pull, ap, ap₂, arith, by-place, cases_lt, changed-by-both, changed-by-one, common_steps, emptied, false, get_or-eq_default, get_or_default, holds_data, in_count, inl, inr, input_at, is_ended, is_out_finished, no_flags, none-pulled, not-true, or_parts, out_count, output_at, over_flags, port_flags, pull-turns, pull_call, refl, subst, taken_out, true, ℕ, ◌<◌, ◌∙◌, ◌≡◌}
 use Rattle.proc_api.specs.declared.status.Status.TheVariants as status
-use Rattle.proc_shell.proofs.PortMoves.{never-true}
+use Rattle.proc_shell.proofs.PortMoves.{kept-count, never-true}
 
 pub holds-unended : (f : Flags) → holds_data f ≡ true → is_ended f ≡ true → ⊥
 holds-unended f h e = grind (arith, common_steps, not-true)
 
--- what a view's calls change, one after another
-pub ruleset two_steps = (changed-by-both)
-
 -- a kernel that wasn't asked stays as it is
 pub leaves-same : (s : Spec) (own : OwnState) → Leaves s own own
 leaves-same s own = record { means = λ x worked outs wait h. h; stays_over = λ n y. (n, y) }
+
+-- where there is no input, and one output, which has room, each port is open
+pub open-ports : (v : Picture) → AreCounts (in_count v) (out_count v) 0 1 → MayMake v
+    → AreOpen (port_flags v)
+unfolding in_count out_count output_at
+open-ports v n may = record {
+  outputs = λ o. elim (cases_lt o (out_count v)) [
+    | inl lt ↦ ap (λ (f : Flags). f.fin_out) (get_or_default v.outputs o no_flags over_flags lt)
+        ∙ elim may [
+          | inl none ↦ absurd (let one = n.1 in omega (arith, none, one))
+          | inr room ↦ (or_parts _ _ (subst (λ k. is_out_finished (output_at v k) ≡ false)
+              (let k = room.in_range in let one = n.1 in omega (arith, k, one, lt))
+              room.unfinished)).0
+        ]
+    | inr le ↦ ap (λ (f : Flags). f.fin_out) (get_or-eq_default v.outputs no_flags le)
+  ];
+  inputs = λ i. ap (λ (f : Flags). f.fin_in)
+      (get_or-eq_default (port_flags v).inputs no_flags
+      (let none = n.0 in let l = kept-count v in omega (arith, none, l)));
+}
+
+-- what a view's calls change, one after another, and that its ports are open
+pub ruleset two_steps = (changed-by-both, open-ports)
 
 room-unfinished : (v : Picture) → MayMake v → 0 < out_count v → AllOutputsFinished v → ⊥
 room-unfinished v may some all = grind (arith, common_steps, never-true)

@@ -1,6 +1,7 @@
--- What the code of a kind promises, over plain data: its own state, a chunk, and the rows that it makes.
+-- What the code of a kind promises, over plain data: its own state, a chunk, and the rows that it
+-- makes.
 use Rattle.std.specs.Prelude.{◌++◌, ◌<◌, ◌==◌, ◌∷◌, ◌≡◌, ◌≢◌, ◌⊎◌}
-use Rattle.proc_shell.specs.Prelude.{All, ArePartBytes, ArePortsOf, BadPlace, Bool, BoxPicture, ColumnType, Files, FitsInput, GrowthForm, HasMade, HasNotedEnd, HasReadEnough, HasSize, IfSome, IsAtMost, IsOver, IsPulled, IsSome, IsSourceKind, IsWanting, IsWorkOf, KeepsRows, Kind, List, Lists, MakesTypes, None, NotesEnd, Offer, Option, OwnState, PartSpec, Picture, PortFlags, Row, Some, Spec, StandStill, Table, WorkFault, WorkState, [], bad_place, chunk_rows, cond, false, good_rows, idle_own, idle_work, in_count, input_at, is_in_finished, kept_output, length, most_rows, no_lists, own_of, part_records, true, unworked_at, ℕ}
+use Rattle.proc_shell.specs.Prelude.{All, AreCounts, ArePartBytes, ArePortsOf, BadPlace, Bool, BoxPicture, ColumnType, FileSeen, Files, FitsInput, GrowthForm, HadPorts, HasMade, HasNotedEnd, HasReadEnough, HasSize, IfSome, IsAtMost, IsBadFile, IsOver, IsPulled, IsSome, IsSourceKind, IsWanting, IsWorkOf, KeepsRows, Kind, KnowsList, List, Lists, MakesTypes, MayExpand, None, NotesEnd, Offer, Option, OwnState, PartSpec, Picture, PortFlags, Row, Some, Spec, StandStill, Table, WorkFault, WorkState, [], bad_place, chunk_rows, cond, false, file_of, good_rows, grown_inputs, idle_own, idle_work, in_count, input_at, is_in_finished, kept_output, length, list_growth, most_rows, no_lists, out_count, own_of, part_records, true, unworked_at, ℕ}
 use Rattle.query_model.specs.declared.processor_spec.Kind.TheVariants as kind
 use Rattle.query_model.specs.declared.processor_spec.Spec.TheVariants as spec
 use Rattle.proc_api.specs.declared.status.WorkFault.TheVariants as fault
@@ -15,17 +16,48 @@ abbrev pub chunk_list : Option Table → List Table
 chunk_list None = []
 chunk_list (Some t) = t ∷ []
 
--- What no call that works a chunk changes: whether the kernel has opened its file, whether it has fetched it whole, its
--- first bytes until then, its bad place from then on, and whether it has handed its chunks out.
+-- What no call that works a chunk changes: whether the kernel has opened its file, whether it has
+-- fetched it whole, its first bytes until then, what is known of the file from then on, whether it
+-- let its graph grow, and whether it has handed its chunks out.
 pub record Stage : Type 0 where
   pub opened : Bool
   pub fetched : Bool
   pub held : List ℕ
   pub bad : Option BadPlace
+  pub paths : List (List ℕ)
+  pub bad_line : Option ℕ
+  pub grown : Bool
   pub handed_out : Bool
 
 abbrev pub first_stage : Stage
-first_stage = record { opened = false; fetched = false; held = []; bad = None; handed_out = false }
+first_stage = record {
+  opened = false;
+  fetched = false;
+  held = [];
+  bad = None;
+  paths = [];
+  bad_line = None;
+  grown = false;
+  handed_out = false;
+}
+
+-- by what it let its graph grow, which a list alone does
+abbrev pub spec_growth : Spec → List (List ℕ) → Option GrowthForm
+spec_growth (spec.List list) paths = Some (list_growth list paths)
+spec_growth s paths = None
+
+abbrev pub growth_in : Spec → Stage → Option GrowthForm
+growth_in s g = cond g.grown (spec_growth s g.paths) None
+
+-- what is known of its file
+abbrev pub file_in : Spec → Stage → FileSeen
+file_in s g = record {
+  fetched = g.fetched;
+  bad = g.bad;
+  paths = g.paths;
+  bad_line = g.bad_line;
+  growth = growth_in s g;
+}
 
 -- a kernel: its kind and spec, its own state, and its stage
 pub record KernelState : Type 0 where
@@ -52,7 +84,7 @@ part_kernel part unmade stage = record {
   kind = kind.Csv;
   spec = spec.Csv part;
   own = record idle_own { unmade = unmade };
-  stage = record stage { handed_out = false };
+  stage = record stage { paths = []; bad_line = None; grown = false; handed_out = false };
 }
 
 -- the kernel of a collector
@@ -87,6 +119,8 @@ work_of x source unworked made = record idle_work {
   opened = x.stage.opened;
   fetched = x.stage.fetched;
   bad = x.stage.bad;
+  paths = x.stage.paths;
+  bad_line = x.stage.bad_line;
 }
 
 -- the kernel's state is shown so
@@ -95,37 +129,45 @@ Shows s own w = own_of w ≡ record own { gathered = gathered_with s own.gathere
 
 -- ---- what a kind means
 
--- the files that a reader tells, and what was read of one
+-- the files that a reader tells, and what is known of the one that it reads
 pub record Reading : Type 0 where
   pub files : Option Files
-  pub fetched : Bool
-  pub bad : Option BadPlace
+  pub file : FileSeen
 
 abbrev pub reading_of : BoxPicture → Reading
-reading_of p = record { files = p.files; fetched = p.work.fetched; bad = p.work.bad }
+reading_of p = record { files = p.files; file = file_of p }
+
+abbrev pub unread : Option Files → Reading
+unread files = record { files = files; file = file_in spec.Resize first_stage }
 
 -- the rows and those not yet made are the good rows of the part, and its bad place is known
 pub record ArePartRows (x : Reading) (part : PartSpec) (unmade rows : List Row) : Type 0 where
   pub bytes : List ℕ
   pub are : ArePartBytes x.files part.path bytes
   pub rows_are : rows ++ unmade ≡ good_rows part.types (part_records part.header bytes)
-  pub bad : x.bad ≡ bad_place 1 part.types (part_records part.header bytes)
+  pub bad : x.file.bad ≡ bad_place 1 part.types (part_records part.header bytes)
 
 -- until a file is fetched whole no row is made of it
 pub record AreRead (x : Reading) (part : PartSpec) (unmade rows : List Row) : Type 0 where
-  pub before : x.fetched ≡ false → (rows ≡ []) × (unmade ≡ []) × (x.bad ≡ None)
-  pub fetched : x.fetched ≡ true → ArePartRows x part unmade rows
+  pub before : x.file.fetched ≡ false → (rows ≡ []) × (unmade ≡ []) × (x.file.bad ≡ None)
+  pub fetched : x.file.fetched ≡ true → ArePartRows x part unmade rows
 
--- What a kind has made of its inputs, or of what it reads. What a collector gathered are the chunks that it worked.
+-- What a kind has made of its inputs, or of what it reads. What a collector gathered are the chunks
+-- that it worked.
 abbrev pub Means : Reading → Spec → OwnState → (worked outs : Lists) → (wait : List Row) → Type 0
-Means x (spec.Csv part) own worked outs wait = AreRead x part own.unmade (chunk_rows (outs 0) ++ wait)
+Means x (spec.Csv part) own worked outs wait =
+    AreRead x part own.unmade (chunk_rows (outs 0) ++ wait)
+Means x (spec.List list) own worked outs wait =
+    KnowsList list x.files x.file × HasMade (spec.List list) own worked outs wait
 Means x spec.Collect own worked outs wait = own.gathered ≡ worked 0
 Means x s own worked outs wait = HasMade s own worked outs wait
 
--- a part is fetched whole, and valid
-abbrev pub IsReadOut : Spec → (fetched : Bool) → (bad : Option BadPlace) → Type 0
-IsReadOut (spec.Csv part) fetched bad = (fetched ≡ true) × (bad ≡ None)
-IsReadOut s fetched bad = Unit {0}
+-- a part or list is fetched whole, and valid, and each path of the list has its input
+abbrev pub IsReadOut : Spec → FileSeen → Type 0
+IsReadOut (spec.Csv part) f = (f.fetched ≡ true) × (f.bad ≡ None)
+IsReadOut (spec.List list) f =
+    (f.fetched ≡ true) × (f.bad_line ≡ None) × (grown_inputs f.growth ≡ length f.paths)
+IsReadOut s f = Unit {0}
 
 -- ---- a kernel's calls
 
@@ -136,14 +178,14 @@ with_chunk i t worked j = worked j ++ cond (j == i) (t ∷ []) []
 -- a kernel that was loaded with a spec has made nothing
 pub record Begins (s t : Spec) (own : OwnState) : Type 0 where
   pub spec : t ≡ s
-  pub nothing : (files : Option Files) → Means (record { files = files; fetched = false; bad = None }) s own no_lists no_lists []
+  pub nothing : (files : Option Files) → Means (unread files) s own no_lists no_lists []
   pub unended : (i : ℕ) → NotesEnd (Some t) own i → ⊥
 
 -- a kind that may end by itself takes every chunk, and has read enough of those that it worked
 pub record HasEnough (s : Spec) (own : OwnState) : Type 0 where
   pub any : (i : ℕ) (types : List ColumnType) → FitsInput (Some s) i types
-  pub enough : (x : Reading) (worked outs ins : Lists) (wait : List Row) → ((i : ℕ) → ins i ≡ worked i) → Means x s own worked outs wait
-      → HasReadEnough (Some s) ins
+  pub enough : (x : Reading) (worked outs ins : Lists) (wait : List Row)
+      → ((i : ℕ) → ins i ≡ worked i) → Means x s own worked outs wait → HasReadEnough (Some s) ins
   pub nothing : own.unmade ≡ []
   pub noted : HasNotedEnd s own
 
@@ -163,36 +205,42 @@ abbrev pub OfferComes : (ℕ → Bool) → Offer → Spec → Picture → OwnSta
 OfferComes wants offer.Rows s v own = 0 < length own.unmade
 OfferComes wants offer.Fetch s v own = Unit {0}
 OfferComes wants offer.Record s v own = Unit {0}
+OfferComes wants offer.Grow s v own = AreCounts (in_count v) (out_count v) 0 1
 OfferComes wants offer.Enough s v own = HasEnough s own
 OfferComes wants offer.Wants s v own = WantsMore wants s v own
 
--- what has to be answered to a record that is left: its row can be made, or it is bad
+-- what has to be answered to a record that is left: its row can be made, or it is bad; to a list,
+-- that it is bad
 abbrev pub IsRecordLeft : KernelState → Type 0
-IsRecordLeft x = (0 < length x.own.unmade) ⊎ ((x.kind ≡ kind.Csv) × IsSome x.stage.bad)
+IsRecordLeft x = (0 < length x.own.unmade) ⊎ IsBadFile x.kind (file_in x.spec x.stage)
 
 -- why an offer comes, by what was read
 abbrev pub Reads : KernelState → Offer → Type 0
 Reads x offer.Rows = Unit {0}
 Reads x offer.Fetch = IsSourceKind x.kind × (x.stage.fetched ≡ false)
 Reads x offer.Record = IsRecordLeft x
-Reads x _ = IsReadOut x.spec x.stage.fetched x.stage.bad
+Reads x offer.Grow = MayExpand x.kind (file_in x.spec x.stage)
+Reads x _ = IsReadOut x.spec (file_in x.spec x.stage)
 
--- why no rows are made: memory is wanting, or the next record is bad
+-- why no rows are made: memory is wanting, or the next record or the list is bad
 abbrev pub Fails : KernelState → WorkFault → Type 0
 Fails x fault.Memory = Unit {0}
 Fails x (fault.Bad place) = (x.kind ≡ kind.Csv) × (x.stage.bad ≡ Some place)
+Fails x (fault.BadList line) = (x.kind ≡ kind.List) × (x.stage.bad_line ≡ Some line)
 Fails x _ = ⊥
 
--- a row was made, or no bad record is left
+-- a row was made, or no bad record is left, and the list isn't bad
 abbrev pub IsValid : KernelState → Option Table → Type 0
-IsValid x o = (0 < length (rows_of o)) ⊎ (x.stage.bad ≡ None)
+IsValid x o = (0 < length (rows_of o)) ⊎ ((x.stage.bad ≡ None) × (x.stage.bad_line ≡ None))
 
 -- an offer leaves what was made, and what was over stays over
 pub record Leaves (s : Spec) (old new : OwnState) : Type 0 where
-  pub means : (x : Reading) (worked outs : Lists) (wait : List Row) → Means x s old worked outs wait → Means x s new worked outs wait
+  pub means : (x : Reading) (worked outs : Lists) (wait : List Row) → Means x s old worked outs wait
+      → Means x s new worked outs wait
   pub stays_over : old.unmade ≡ [] → HasNotedEnd s old → (new.unmade ≡ []) × HasNotedEnd s new
 
-pub record Offers (wants : ℕ → Bool) (s : Spec) (v : Picture) (old new : OwnState) (o : Offer) : Type 0 where
+pub record Offers (wants : ℕ → Bool) (s : Spec) (v : Picture) (old new : OwnState)
+    (o : Offer) : Type 0 where
   pub leaves : Leaves s old new
   pub comes : OfferComes wants o s v new
   -- an end that is noted now
@@ -204,16 +252,19 @@ abbrev pub NotesNoEnd : Spec → (old new : OwnState) → Type 0
 NotesNoEnd s old new = (i : ℕ) → NotesEnd (Some s) new i → NotesEnd (Some s) old i
 
 -- a chunk of input i is worked
-pub record Takes (s : Spec) (old : OwnState) (i : ℕ) (t : Table) (new : OwnState) (o : Option Table) : Type 0 where
-  pub means : (x : Reading) → FitsInput (Some s) i t.types → (worked outs : Lists) → Means x s old worked outs []
-      → Means x s new (with_chunk i t worked) outs (rows_of o)
-  pub types : (ins : Lists) → IsPulled ins t.types → IfSome o (λ (c : Table). MakesTypes (Some s) ins c.types)
+pub record Takes (s : Spec) (old : OwnState) (i : ℕ) (t : Table) (new : OwnState)
+    (o : Option Table) : Type 0 where
+  pub means : (x : Reading) → FitsInput (Some s) i t.types → (worked outs : Lists)
+      → Means x s old worked outs [] → Means x s new (with_chunk i t worked) outs (rows_of o)
+  pub types : (ins : Lists) → IsPulled ins t.types
+      → IfSome o (λ (c : Table). MakesTypes (Some s) ins c.types)
   pub sizes : IfSome o (λ (c : Table). IsAtMost (most_rows (Some s)) (length c.rows))
   pub ends : NotesNoEnd s old new
 
 -- rows that can be made are made, where there are some
 pub record Makes (s : Spec) (old new : OwnState) (o : Option Table) : Type 0 where
-  pub means : (x : Reading) (worked outs : Lists) → Means x s old worked outs [] → Means x s new worked outs (rows_of o)
+  pub means : (x : Reading) (worked outs : Lists) → Means x s old worked outs []
+      → Means x s new worked outs (rows_of o)
   pub types : (ins : Lists) → IfSome o (λ (c : Table). MakesTypes (Some s) ins c.types)
   pub sizes : IfSome o (λ (c : Table). IsAtMost (most_rows (Some s)) (length c.rows))
   pub progress : (0 < length (rows_of o)) ⊎ (new.unmade ≡ [])
@@ -223,17 +274,19 @@ pub record Makes (s : Spec) (old new : OwnState) (o : Option Table) : Type 0 whe
 -- a chunk that waited leaves by an output, or is dropped where there is none
 abbrev pub LetsPush : Spec → Type 0
 LetsPush s =
-    (x : Reading) (own : OwnState) (worked outs more : Lists) (inputs outputs o : ℕ) (pushed rest : List Table)
-    → ArePortsOf (Some s) None inputs outputs
-    → ((o < outputs) × (o < 16) × (more o ≡ outs o ++ pushed)) ⊎ (outputs ≡ 0) → ((j : ℕ) → j ≢ o → more j ≡ outs j)
-    → Means x s own worked outs (chunk_rows (pushed ++ rest)) → Means x s own worked more (chunk_rows rest)
+    (x : Reading) (own : OwnState) (worked outs more : Lists) (growth : Option GrowthForm)
+    (inputs outputs o : ℕ) (pushed rest : List Table) → ArePortsOf (Some s) growth inputs outputs
+    → ((o < outputs) × (o < 16) × (more o ≡ outs o ++ pushed)) ⊎ (outputs ≡ 0)
+    → ((j : ℕ) → j ≢ o → more j ≡ outs j)
+    → Means x s own worked outs (chunk_rows (pushed ++ rest))
+    → Means x s own worked more (chunk_rows rest)
 
--- the kept view, if any, had the ports of the spec
+-- the kept view, if any, had the ports of the spec, before or after its growth
 abbrev pub HasSpecView : Spec → BoxPicture → Type 0
-HasSpecView s p = IfSome p.notes.view (λ (ports : PortFlags). ArePortsOf (Some s) None (length ports.inputs) (length ports.outputs))
+HasSpecView s p = (p.spec ≡ Some s) × HadPorts p.notes.view p
 
--- What a box keeps of its kind: the first chunks of each input are worked, and of them its kernel has made what its kind
--- says.
+-- What a box keeps of its kind: the first chunks of each input are worked, and of them its kernel
+-- has made what its kind says.
 pub record KeepsMeant (s : Spec) (p : BoxPicture) (ins outs : Lists) : Type 0 where
   pub own : OwnState
   pub shows : Shows s own p.work
@@ -241,18 +294,18 @@ pub record KeepsMeant (s : Spec) (p : BoxPicture) (ins outs : Lists) : Type 0 wh
   pub ins_are : (i : ℕ) → ins i ≡ worked i ++ unworked_at p.work i
   pub rows : Means (reading_of p) s own worked outs (chunk_rows p.work.made)
   pub over : (o : ℕ) → (kept_output p o).fin_out ≡ true → IsOver s p.work
-  pub read : (o : ℕ) → (kept_output p o).fin_out ≡ true → IsReadOut s p.work.fetched p.work.bad
+  pub read : (o : ℕ) → (kept_output p o).fin_out ≡ true → IsReadOut s (file_of p)
 
--- a kind of processors that don't grow, whose box keeps what its kernel has made
+-- a kind of processors whose box keeps what its kernel has made
 pub record IsShelled (s : Spec) : Type 0 where
-  pub ungrown : (growth : Option GrowthForm) (inputs outputs : ℕ) → ArePortsOf (Some s) growth inputs outputs → ArePortsOf (Some s) None inputs outputs
-  pub grown : (growth : Option GrowthForm) (inputs outputs : ℕ) → ArePortsOf (Some s) None inputs outputs → ArePortsOf (Some s) growth inputs outputs
-  pub still : (kept : PortFlags) (inputs outputs : ℕ) → ArePortsOf (Some s) None (length kept.inputs) (length kept.outputs)
-      → ArePortsOf (Some s) None inputs outputs → StandStill (Some s) (Some kept) inputs outputs
+  pub still : (growth : Option GrowthForm) (kept : PortFlags) (inputs outputs : ℕ)
+      → ArePortsOf (Some s) growth (length kept.inputs) (length kept.outputs)
+      → ArePortsOf (Some s) growth inputs outputs → StandStill (Some s) (Some kept) inputs outputs
       → (inputs ≡ length kept.inputs) × (outputs ≡ length kept.outputs)
-  pub enough_one : (ins : Lists) → HasReadEnough (Some s) ins → (inputs outputs : ℕ) → ArePortsOf (Some s) None inputs outputs → outputs ≡ 1
+  pub enough_one : (ins : Lists) → HasReadEnough (Some s) ins → (growth : Option GrowthForm)
+      (inputs outputs : ℕ) → ArePortsOf (Some s) growth inputs outputs → outputs ≡ 1
   pub lets_push : LetsPush s
-  pub into : (p : BoxPicture) (ins outs : Lists) → IsWorkOf (Some s) p.work → All (HasSize (Some s)) p.work.made
-      → KeepsMeant s p ins outs → KeepsRows (Some s) p ins outs
-  pub from : (p : BoxPicture) (ins outs : Lists) → HasSpecView s p → IsWorkOf (Some s) p.work → p.work.handed_out ≡ false
-      → KeepsRows (Some s) p ins outs → KeepsMeant s p ins outs
+  pub into : (p : BoxPicture) (ins outs : Lists) → HasSpecView s p → IsWorkOf (Some s) p.work
+      → All (HasSize (Some s)) p.work.made → KeepsMeant s p ins outs → KeepsRows (Some s) p ins outs
+  pub from : (p : BoxPicture) (ins outs : Lists) → HasSpecView s p → IsWorkOf (Some s) p.work
+      → p.work.handed_out ≡ false → KeepsRows (Some s) p ins outs → KeepsMeant s p ins outs

@@ -1,6 +1,6 @@
 -- The names that this crate's contracts speak of, in one place.
 pub use Rattle.proc_api.specs.Names.{IfErr, IfOk, IsLawfulBlank, IsTrue, MaySchedule, MayWork, OnOk, option_map}
-pub use Rattle.proc_shell.specs.Kernels.{Begins, Fails, IsKernelOf, IsLeftOf, IsReadOut, IsShelled, IsValid, KernelState, Makes, OfferComes, Offers, Reads, Takes, WantsMore, chunk_list, first_stage, work_of}
+pub use Rattle.proc_shell.specs.Kernels.{Begins, Fails, IsKernelOf, IsLeftOf, IsReadOut, IsShelled, IsValid, KernelState, Makes, OfferComes, Offers, Reads, Takes, WantsMore, chunk_list, file_in, first_stage, growth_in, work_of}
 pub use Rattle.proc_shell.specs.Prelude.{AllOutputsFinished, ArePortsOf, Bool, Err, HasNoRoom, IfSome, IsSound, IsWorkOf, List, None, Nothing, Ok, Prepared, Some, Table, [], chunk_rows, false, kind_of, length, rows_pulled, true, ℕ}
 pub use Rattle.proc_shell.specs.Shells.{AreMoved, HasSpecPorts, IsBegun, PartFails, PartGives, PartNotes, PartPrepares, PartWorks, ShellView, Suits, WorksHeld, part, view_seen}
 pub use Rattle.proc_shell.specs.Steps.{AreWantedEmpty, AreWantedOver, ChangesInput, ChangesInputs, CountsRows, HasOpen, IsFree, IsWanted, IsWantedFull, asked, held_made, held_option, held_unworked, is_wanted, shut_open, suits, unasked}

@@ -1,10 +1,10 @@
 -- What is seen of a shell, and what its calls do.
 use Rattle.std.specs.Prelude.{◌+◌, ◌≡◌, ◌≢◌, ◌≤◌, ◌⊎◌}
-use Rattle.proc_shell.specs.Prelude.{ArePortsOf, Bool, BoxPicture, ChangedByCalls, Err, Files, FollowsKept, Held, IsRunning, IsShut, IsWorkOf, Kind, List, Made, None, Notes, Nothing, Ok, Option, OwnState, Picture, Prepared, PreparesLawfully, Result, RowCount, SameChunks, Scheduled, Some, Spec, Status, Table, Unworked, Wake, WorkFault, WorkState, false, handed_out_by, idle_work, in_count, kind_of, no_notes, out_count, port_flags, rows_pulled, true, ℕ}
+use Rattle.proc_shell.specs.Prelude.{ArePortsOf, Bool, BoxPicture, ChangedByCalls, Err, Files, FollowsKept, GrowthForm, Held, IsRunning, IsShut, IsWorkOf, Kind, List, Made, None, Notes, Nothing, Ok, Option, OwnState, Picture, Prepared, PreparesLawfully, Result, RowCount, SameChunks, Scheduled, Some, Spec, Status, Table, Unworked, Wake, WorkFault, WorkState, false, handed_out_by, idle_work, in_count, kind_of, no_notes, out_count, port_flags, rows_pulled, true, ℕ}
 use Rattle.query_model.specs.declared.processor_spec.Kind.TheVariants as kind
 use Rattle.proc_api.specs.declared.status.Status.TheVariants as status
 use Rattle.proc_shell.specs.Steps.{CountsRows, held_made, held_option, held_unworked, source_of}
-use Rattle.proc_shell.specs.Kernels.{Begins, IsKernelOf, IsLeftOf, IsShelled, IsValid, KernelState, Makes, Takes, first_stage, work_of}
+use Rattle.proc_shell.specs.Kernels.{Begins, IsKernelOf, IsLeftOf, IsShelled, IsValid, KernelState, Makes, Takes, first_stage, growth_in, work_of}
 use Rattle.proc_shell.specs.Turning.{Pushes, Turns}
 
 -- a loaded shell: its kernel, the chunk that it holds, and its notes
@@ -40,8 +40,8 @@ noted_by (Some r) n = n
 
 -- a processor of a kind, by its spec, its state and its notes
 abbrev pub box_seen : Kind → Option ReaderView → RowCount → Option Spec → WorkState → Notes
-    → BoxPicture
-box_seen k d count s w n = record {
+    → Option GrowthForm → BoxPicture
+box_seen k d count s w n growth = record {
   kind = k;
   lawful = true;
   files = files_by d;
@@ -51,7 +51,7 @@ box_seen k d count s w n = record {
   pulled = count.total;
   work = w;
   notes = n;
-  growth = None;
+  growth = growth;
 }
 
 abbrev pub part_seen : Kind → Option ReaderView → RowCount → ShellPart → BoxPicture
@@ -60,10 +60,10 @@ part_seen k d count p = box_seen k d count (Some p.kernel.spec) (part_work p) (r
   faults = noted_by d p.notes.faults;
   pendings = noted_by d p.notes.pendings;
   pulled = count.since;
-})
+}) (growth_in p.kernel.spec p.kernel.stage)
 
 abbrev pub shell_seen : Kind → Option ReaderView → RowCount → Option ShellPart → BoxPicture
-shell_seen k d count None = box_seen k d count None idle_work no_notes
+shell_seen k d count None = box_seen k d count None idle_work no_notes None
 shell_seen k d count (Some p) = part_seen k d count p
 
 -- a shell, which counts the rows that it pulled
@@ -74,9 +74,9 @@ pub record ShellView : Type 0 where
 abbrev pub view_seen : Kind → ShellView → BoxPicture
 view_seen k s = shell_seen k None s.count s.loaded
 
--- the view has the ports of the spec
-abbrev pub HasSpecPorts : Spec → Picture → Type 0
-HasSpecPorts s v = ArePortsOf (Some s) None (in_count v) (out_count v)
+-- the view has the ports of the kernel's spec and growth
+abbrev pub HasSpecPorts : KernelState → Picture → Type 0
+HasSpecPorts x v = ArePortsOf (Some x.spec) (growth_in x.spec x.stage) (in_count v) (out_count v)
 
 -- a shell as it is loaded
 pub record IsBegun (s : Spec) (p : ShellPart) : Type 0 where
@@ -141,7 +141,8 @@ abbrev pub AreMoved : Kind → KernelState → Held → Picture → RowCount
 AreMoved k x h v n y j w m s =
     (notes : Notes) → PartPrepares k (part x h notes) v n (part y j (with_view w s notes)) w m s
 
-pub record TakesHeld (x : KernelState) (i : ℕ) (t : Table) (new : OwnState) (h : Held) : Type 0 where
+pub record TakesHeld (x : KernelState) (i : ℕ) (t : Table) (new : OwnState)
+    (h : Held) : Type 0 where
   pub out : Option Table
   pub takes : Takes x.spec x.own i t new out
   pub held : h ≡ held_option out

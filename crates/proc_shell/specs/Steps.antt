@@ -22,7 +22,8 @@ source_of Nothing = 0
 source_of (Unworked i c) = i
 source_of (Made c) = 0
 
--- what isn't worked came from an input from which a chunk was wanted, and a kind that makes none holds none
+-- what isn't worked came from an input from which a chunk was wanted, and a kind that makes none
+-- holds none
 abbrev pub is_wanted : (ℕ → Bool) → (makes : Bool) → Held → Bool
 is_wanted wants makes Nothing = true
 is_wanted wants makes (Unworked i c) = wants i && nat_lt i 32
@@ -84,10 +85,12 @@ pub record IsWanted (wants : ℕ → Bool) (v : Picture) (i : ℕ) : Type 0 wher
   pub unfinished : is_in_finished (input_at v i).flags ≡ false
 
 abbrev pub AreWantedEmpty : (ℕ → Bool) → Picture → Type 0
-AreWantedEmpty wants v = (i : ℕ) → i < in_count v → wants i ≡ true → holds_data (input_at v i).flags ≡ false
+AreWantedEmpty wants v = (i : ℕ) → i < in_count v → wants i ≡ true
+    → holds_data (input_at v i).flags ≡ false
 
 abbrev pub AreWantedOver : (ℕ → Bool) → Picture → Type 0
-AreWantedOver wants v = (i : ℕ) → i < in_count v → wants i ≡ true → is_in_finished (input_at v i).flags ≡ true
+AreWantedOver wants v = (i : ℕ) → i < in_count v → wants i ≡ true
+    → is_in_finished (input_at v i).flags ≡ true
 
 -- ---- what is changed at them
 

@@ -3,8 +3,8 @@ ghost use Rattle.proc_shell.specs.Names.{chunk_list, chunk_rows, held_option, he
 
 use chunk_data::Chunk;
 
-/// What lies between the inputs and the outputs: nothing, a chunk of an input that isn't worked yet, or one that can
-/// be pushed.
+/// What lies between the inputs and the outputs: nothing, a chunk of an input that isn't worked
+/// yet, or one that can be pushed.
 #[derive(Debug, Drop)]
 pub enum Held {
     Nothing,

@@ -1,5 +1,5 @@
 ghost use Rattle.std.specs.Prelude.{◌++◌, ◌<◌, ◌↔◌, ◌≡◌, ◌⊎◌};
-ghost use Rattle.proc_shell.specs.Names.{ArePortsOf, Begins, Bool, Fails, IfErr, IfOk, IsKernelOf, IsLeftOf, IsShelled, IsTrue, IsValid, IsWorkOf, KernelState, List, Makes, None, Offers, OnOk, Reads, Some, Table, Takes, [], chunk_list, false, first_stage, in_count, kind_of, out_count, true, work_of, ℕ};
+ghost use Rattle.proc_shell.specs.Names.{ArePortsOf, Begins, Bool, Fails, HasSpecPorts, IfErr, IfOk, IsKernelOf, IsLeftOf, IsShelled, IsTrue, IsValid, IsWorkOf, KernelState, List, Makes, None, Offers, OnOk, Reads, Some, Table, Takes, [], chunk_list, false, first_stage, growth_in, kind_of, true, work_of, ℕ};
 ghost use Rattle.query_model.specs.declared.processor_spec.Kind as the_kind;
 ghost use Rattle.query_model.specs.declared.processor_spec.Kind.TheVariants as kind;
 
@@ -16,15 +16,19 @@ pub enum Offer {
     Rows,
     /// Its file isn't fetched whole.
     Fetch,
-    /// A record of its file is left, which is a row or bad.
+    /// A record of its file is left, which is a row or bad, or its list is bad.
     Record,
+    /// Its graph is to grow.
+    Grow,
     /// It has read enough, and nothing is left to be made.
     Enough,
-    /// It wants a chunk of the inputs that `wants` names. Where each of these is finished, all are, and it is done.
+    /// It wants a chunk of the inputs that `wants` names. Where each of these is finished, all are,
+    /// and it is done.
     Wants,
 }
 
-/// What a kind of processor does with its chunks. It sees the ports' flags, and its shell does all at them.
+/// What a kind of processor does with its chunks. It sees the ports' flags, and its shell does all
+/// at them.
 pub trait Kernel: Drop {
     ghost kind_is: { the_kind.Kind };
 
@@ -43,16 +47,18 @@ pub trait Kernel: Drop {
         ensures begins { IfOk result (λ k. Begins spec (state k).spec (state k).own) }
         ensures stage { IfOk result (λ k. (state k).stage ≡ first_stage) };
 
-    /// Whether so many ports are those of its spec.
+    /// Whether so many ports are those of its spec and growth.
     fn fits(&self, inputs: usize, outputs: usize) -> bool
-        ensures { IsTrue result ↔ ArePortsOf (Some (state self.now).spec) None inputs outputs };
+        ensures { IsTrue result ↔ ArePortsOf (Some (state self.now).spec)
+            (growth_in (state self.now).spec (state self.now).stage) inputs outputs };
 
     /// What comes next, where nothing is held and there is room at an output. It takes no memory.
     fn offer(&mut self, view: &PortView) -> Offer
-        requires { ArePortsOf (Some (state self.old).spec) None (in_count view.now) (out_count view.now) }
+        requires { HasSpecPorts (state self.old) view.now }
         ensures same { IsKernelOf (state self.old) (state self.new) }
         ensures reads { Reads (state self.new) result }
-        ensures offers { Offers (open_to self.new) (state self.old).spec view.now (state self.old).own (state self.new).own result };
+        ensures offers { Offers (open_to self.new) (state self.old).spec view.now
+            (state self.old).own (state self.new).own result };
 
     /// Whether it wants a chunk of the input.
     fn wants(&self, input: usize) -> bool
@@ -63,13 +69,15 @@ pub trait Kernel: Drop {
         requires { input < 32 }
         ensures same { IsKernelOf (state self.old) (state self.new) }
         ensures none { IfOk result (λ o. makes ≡ false → o ≡ None) }
-        ensures takes { open_to self.old input ≡ true → IfOk result (Takes (state self.old).spec (state self.old).own input chunk (state self.new).own) };
+        ensures takes { open_to self.old input ≡ true → IfOk result
+            (Takes (state self.old).spec (state self.old).own input chunk (state self.new).own) };
 
     /// Makes a chunk of rows that can be made.
     fn make(&mut self, alloc: Global) -> Result<Option<Chunk>, WorkFault>
         ensures same { OnOk result (IsKernelOf (state self.old) (state self.new)) }
         ensures left { IsLeftOf (state self.old) (state self.new) }
-        ensures makes { IfOk result (Makes (state self.old).spec (state self.old).own (state self.new).own) }
+        ensures makes { IfOk result
+            (Makes (state self.old).spec (state self.old).own (state self.new).own) }
         ensures none { IfOk result (λ o. makes ≡ false → o ≡ None) }
         ensures valid { IfOk result (IsValid (state self.old)) }
         ensures fails { IfErr result (Fails (state self.old)) };
@@ -81,11 +89,14 @@ pub trait Kernel: Drop {
         ensures kind { (state self.new).kind ≡ (state self.old).kind }
         ensures spec { (state self.new).spec ≡ (state self.old).spec }
         ensures out { kind_is ≡ kind.Collect → (state self.new).stage.handed_out ≡ true }
-        ensures rows { kind_is ≡ kind.Collect → result.items ≡ (state self.old).own.gathered ++ chunk_list last };
+        ensures rows { kind_is ≡ kind.Collect
+            → result.items ≡ (state self.old).own.gathered ++ chunk_list last };
 
     ghost of_kind: { (k : Self) → ((state k).kind ≡ kind_is) × (kind_of (state k).spec ≡ kind_is) };
 
     ghost shelled: { (k : Self) → IsShelled (state k).spec };
 
-    ghost uses: { (k : Self) (i : ℕ) (unworked made : List Table) → ((i ≡ 0) × (unworked ≡ [])) ⊎ (open_to k i ≡ true) → (makes ≡ false → made ≡ []) → IsWorkOf (Some (state k).spec) (work_of (state k) i unworked made) };
+    ghost uses: { (k : Self) (i : ℕ) (unworked made : List Table)
+        → ((i ≡ 0) × (unworked ≡ [])) ⊎ (open_to k i ≡ true) → (makes ≡ false → made ≡ [])
+        → IsWorkOf (Some (state k).spec) (work_of (state k) i unworked made) };
 }

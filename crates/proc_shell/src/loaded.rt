@@ -61,7 +61,9 @@ impl<K: Kernel> Loaded<K> {
 
     /// Prepares it; over a view with other ports than its spec's it shuts down.
     pub fn prepare(&mut self, view: &mut PortView, pulled: &mut PulledRows) -> Status
-        ensures { PartPrepares K.kind_is (part (K.state self.old.kernel) self.old.held self.old.notes) view.old pulled.old (part (K.state self.new.kernel) self.new.held self.new.notes) view.new pulled.new result }
+        ensures { PartPrepares K.kind_is
+            (part (K.state self.old.kernel) self.old.held self.old.notes) view.old pulled.old (part
+            (K.state self.new.kernel) self.new.held self.new.notes) view.new pulled.new result }
     {
         if !self.kernel.fits(view.inputs(), view.outputs()) {
             shut_down(view);
@@ -79,8 +81,10 @@ impl<K: Kernel> Loaded<K> {
     pub fn work(&mut self, alloc: Global) -> Result<(), WorkFault>
         requires ready { MayWork self.old.notes.answer }
         requires once { self.old.notes.acted ≡ false }
-        ensures ok { OnOk result (PartWorks K.kind_is (part (K.state self.old.kernel) self.old.held self.old.notes) (part (K.state self.new.kernel) self.new.held self.new.notes)) }
-        ensures fault { IfErr result (λ f. PartFails f (part (K.state self.old.kernel) self.old.held self.old.notes) (part (K.state self.new.kernel) self.new.held self.new.notes)) }
+        ensures ok { OnOk result (PartWorks K.kind_is (part (K.state self.old.kernel) self.old.held
+            self.old.notes) (part (K.state self.new.kernel) self.new.held self.new.notes)) }
+        ensures fault { IfErr result (λ f. PartFails f (part (K.state self.old.kernel) self.old.held
+            self.old.notes) (part (K.state self.new.kernel) self.new.held self.new.notes)) }
         ensures fails { IfErr result (Fails (K.state self.old.kernel)) }
     {
         let held = replace(&mut self.held, Held::Nothing);
@@ -96,7 +100,8 @@ impl<K: Kernel> Loaded<K> {
 
     /// Keeps a fault.
     pub fn fail(&mut self, fault: WorkFault) -> WorkFault
-        ensures notes { PartNotes (Err fault) (part (K.state self.old.kernel) self.old.held self.old.notes) (part (K.state self.new.kernel) self.new.held self.new.notes) }
+        ensures notes { PartNotes (Err fault) (part (K.state self.old.kernel) self.old.held
+            self.old.notes) (part (K.state self.new.kernel) self.new.held self.new.notes) }
         ensures same { result ≡ fault }
     {
         self.notes.note_fault(fault);
@@ -106,7 +111,8 @@ impl<K: Kernel> Loaded<K> {
     /// Keeps what a schedule answers.
     pub fn wake(&mut self, wake: Wake)
         requires { MaySchedule self.old.notes.answer }
-        ensures { PartNotes (Ok wake) (part (K.state self.old.kernel) self.old.held self.old.notes) (part (K.state self.new.kernel) self.new.held self.new.notes) }
+        ensures { PartNotes (Ok wake) (part (K.state self.old.kernel) self.old.held self.old.notes)
+            (part (K.state self.new.kernel) self.new.held self.new.notes) }
     {
         self.notes.note_wake(wake);
     }
@@ -114,7 +120,8 @@ impl<K: Kernel> Loaded<K> {
     /// Hands out what a collector gathered; none of another kind.
     pub fn hand_out(&mut self, alloc: Global) -> Vec<Chunk>
         requires { (K.state self.old.kernel).stage.handed_out ≡ false }
-        ensures { PartGives K.kind_is (part (K.state self.old.kernel) self.old.held self.old.notes) result.items (part (K.state self.new.kernel) self.new.held self.new.notes) }
+        ensures { PartGives K.kind_is (part (K.state self.old.kernel) self.old.held self.old.notes)
+            result.items (part (K.state self.new.kernel) self.new.held self.new.notes) }
     {
         if K::kind() != Kind::Collect {
             return Vec::new(alloc);

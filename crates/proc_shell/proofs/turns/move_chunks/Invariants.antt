@@ -7,5 +7,5 @@ invariant-loop-next g l =
     l.fn.pulled (g.K.Kernel.state l.kernel) l.held l.view l.pulled l.status
     × (is_wanted (g.K.Kernel.open_to l.kernel) g.K.Kernel.makes l.held ≡ true)
     × (suits (Some (Prepared l.status)) false l.held ≡ true)
-    × HasSpecPorts (g.K.Kernel.state l.kernel).spec l.view
+    × HasSpecPorts (g.K.Kernel.state l.kernel) l.view
     × (in_count l.view ≤ 32)

@@ -6,8 +6,8 @@ use Rattle.proc_shell.proofs.loaded.Loaded.prepare.Goals as goal
 pub returns-then-not-fits : goal.returns-then-not-fits
 returns-then-not-fits g c =
     let k = c.args.self.now.kernel in
-    let never : HasSpecPorts (g.K.Kernel.state k).spec c.args.view.now → ⊥ =
-    λ ports. unless-true _ c.fits.ensures c.if-not-fits.true (same-ports _ _ _ _ _
+    let never : HasSpecPorts (g.K.Kernel.state k) c.args.view.now → ⊥ =
+    λ ports. unless-true _ c.fits.ensures c.if-not-fits.true (same-ports _ _ _ _ _ _
     (sym c.inputs.ensures.count) (sym c.outputs.ensures.count) ports) in
     shuts-once _ _ _ _ _ _ _ _
     (suits-so _ _ _ _ _ _ refl (g.met.K.Kernel.of_kind k) (g.met.K.Kernel.shelled k)
