@@ -21,19 +21,21 @@ sided true f x y = f y x
 
 -- the type of the result of an operator at operands of these types
 abbrev pub arith_type : ArithOp → ColumnType → ColumnType → ColumnType
-arith_type op s t = if gives_uint op (is_uint_column s) (is_uint_column t) then column.UInt64 else column.Int64
+arith_type op s t = if gives_uint op (is_uint_column s) (is_uint_column t) then column.UInt64
+    else column.Int64
 
 -- the type of the result of an operator at operands of this type of numbers
 abbrev pub result_type : ArithOp → ColumnType → ColumnType
 result_type op kind = arith_type op kind kind
 
--- The column that was made of an expression at each row. None is made of a column reference, which is read in
--- place, and none of a plain number.
+-- The column that was made of an expression at each row. None is made of a column reference, which
+-- is read in place, and none of a plain number.
 abbrev pub IsMade : Expr → Table → Option Column → Type 0
 IsMade (expr.Column c) table made = made ≡ None
 IsMade (expr.Number n) table made = made ≡ None
 IsMade (expr.Arith' op p a q b) table None = ⊥
-IsMade (expr.Arith' op p a q b) table (Some c) = (kind_of c ≡ type_of (expr.Arith' op p a q b) table.types) × (values c ≡ map (value_of (expr.Arith' op p a q b)) table.rows)
+IsMade (expr.Arith' op p a q b) table (Some c) = (kind_of c ≡ type_of (expr.Arith' op p a q b)
+    table.types) × (values c ≡ map (value_of (expr.Arith' op p a q b)) table.rows)
 
 -- the comparison that is true of two operands in the other order
 abbrev pub flipped : CompareOp → CompareOp

@@ -1,5 +1,5 @@
-// One loop for each operator and shape of its operands. Each stands by itself, since a closure is compiled once: with the
-// operator taken from outside it would be told apart at every row.
+// One loop for each operator and shape of its operands. Each stands by itself, since a closure is
+// compiled once: with the operator taken from outside it would be told apart at every row.
 ghost use Rattle.std.specs.Prelude.{◌≡◌, ◌-ℤ◌, pos, length, map, IfOk};
 ghost use Rattle.std.specs.List.{zip};
 ghost use Rattle.std.specs.Int.{int_wrap, w64};
@@ -29,11 +29,17 @@ macro_rules! each_beside {
         let all = $xs.iter();
         match ($op, $swapped) {
             (ArithOp::Add, true) => Ok(all.map(|x| $result(ArithOp::Add, $y, *x)).collect($alloc)?),
-            (ArithOp::Add, false) => Ok(all.map(|x| $result(ArithOp::Add, *x, $y)).collect($alloc)?),
+            (ArithOp::Add, false) => {
+                Ok(all.map(|x| $result(ArithOp::Add, *x, $y)).collect($alloc)?)
+            }
             (ArithOp::Sub, true) => Ok(all.map(|x| $result(ArithOp::Sub, $y, *x)).collect($alloc)?),
-            (ArithOp::Sub, false) => Ok(all.map(|x| $result(ArithOp::Sub, *x, $y)).collect($alloc)?),
+            (ArithOp::Sub, false) => {
+                Ok(all.map(|x| $result(ArithOp::Sub, *x, $y)).collect($alloc)?)
+            }
             (ArithOp::Mul, true) => Ok(all.map(|x| $result(ArithOp::Mul, $y, *x)).collect($alloc)?),
-            (ArithOp::Mul, false) => Ok(all.map(|x| $result(ArithOp::Mul, *x, $y)).collect($alloc)?),
+            (ArithOp::Mul, false) => {
+                Ok(all.map(|x| $result(ArithOp::Mul, *x, $y)).collect($alloc)?)
+            }
         }
     }};
 }
@@ -75,7 +81,8 @@ pub(crate) fn uint_difference(x: u64, y: u64) -> i64
 
 /// The differences of UInt64, which are Int64.
 pub(crate) fn uint_differences(alloc: Global, xs: &[u64], ys: &[u64]) -> Result<Vec<i64>, Memory>
-    ensures { IfOk result (λ v. v.items ≡ map (λ p. int_wrap w64 (pos p.0 -ℤ pos p.1)) (zip xs.now ys.now)) }
+    ensures { IfOk result
+        (λ v. v.items ≡ map (λ p. int_wrap w64 (pos p.0 -ℤ pos p.1)) (zip xs.now ys.now)) }
 {
     Ok(
         xs.iter()
@@ -92,7 +99,8 @@ pub(crate) fn uint_differences_beside(
     xs: &[u64],
     y: u64,
 ) -> Result<Vec<i64>, Memory>
-    ensures { IfOk result (λ v. v.items ≡ map (λ x. int_wrap w64 (sided swapped (λ a b. a -ℤ b) (pos x) (pos y))) xs.now) }
+    ensures { IfOk result (λ v. v.items
+        ≡ map (λ x. int_wrap w64 (sided swapped (λ a b. a -ℤ b) (pos x) (pos y))) xs.now) }
 {
     if swapped {
         Ok(xs.iter().map(|x| uint_difference(y, *x)).collect(alloc)?)
@@ -108,7 +116,8 @@ pub(crate) fn int_results(
     xs: &[i64],
     ys: &[i64],
 ) -> Result<Vec<i64>, Memory>
-    ensures { IfOk result (λ v. v.items ≡ map (λ p. int_wrap w64 (exact_result op p.0 p.1)) (zip xs.now ys.now)) }
+    ensures { IfOk result
+        (λ v. v.items ≡ map (λ p. int_wrap w64 (exact_result op p.0 p.1)) (zip xs.now ys.now)) }
 {
     each_pair!(alloc, op, xs, ys, int_result)
 }
@@ -120,7 +129,8 @@ pub(crate) fn uint_results(
     xs: &[u64],
     ys: &[u64],
 ) -> Result<Vec<u64>, Memory>
-    ensures { IfOk result (λ v. v.items ≡ map (λ p. residue (exact_result op (pos p.0) (pos p.1))) (zip xs.now ys.now)) }
+    ensures { IfOk result (λ v. v.items
+        ≡ map (λ p. residue (exact_result op (pos p.0) (pos p.1))) (zip xs.now ys.now)) }
 {
     each_pair!(alloc, op, xs, ys, uint_result)
 }
@@ -133,7 +143,8 @@ pub(crate) fn int_results_beside(
     xs: &[i64],
     y: i64,
 ) -> Result<Vec<i64>, Memory>
-    ensures { IfOk result (λ v. v.items ≡ map (λ x. int_wrap w64 (sided swapped (exact_result op) x y)) xs.now) }
+    ensures { IfOk result
+        (λ v. v.items ≡ map (λ x. int_wrap w64 (sided swapped (exact_result op) x y)) xs.now) }
 {
     each_beside!(alloc, op, swapped, xs, y, int_result)
 }
@@ -146,7 +157,8 @@ pub(crate) fn uint_results_beside(
     xs: &[u64],
     y: u64,
 ) -> Result<Vec<u64>, Memory>
-    ensures { IfOk result (λ v. v.items ≡ map (λ x. residue (sided swapped (exact_result op) (pos x) (pos y))) xs.now) }
+    ensures { IfOk result (λ v. v.items
+        ≡ map (λ x. residue (sided swapped (exact_result op) (pos x) (pos y))) xs.now) }
 {
     each_beside!(alloc, op, swapped, xs, y, uint_result)
 }
@@ -164,7 +176,8 @@ fn each_int_pair_onto(op: ArithOp, xs: &mut [i64], ys: &[i64])
 /// The results at each pair, in the first ones' memory.
 pub(crate) fn int_results_onto(op: ArithOp, mut xs: Vec<i64>, ys: &[i64]) -> Vec<i64>
     requires { length ys.now ≡ length xs.items }
-    ensures { result.items ≡ map (λ p. int_wrap w64 (exact_result op p.0 p.1)) (zip xs.items ys.now) }
+    ensures { result.items
+        ≡ map (λ p. int_wrap w64 (exact_result op p.0 p.1)) (zip xs.items ys.now) }
 {
     match op {
         ArithOp::Add => {

@@ -1,5 +1,5 @@
-// One loop for each comparison and shape of its operands. Each stands by itself, since a closure is compiled once: with the
-// comparison taken from outside it would be told apart at every row.
+// One loop for each comparison and shape of its operands. Each stands by itself, since a closure is
+// compiled once: with the comparison taken from outside it would be told apart at every row.
 ghost use Rattle.std.specs.Prelude.{◌≡◌, pos, length, map, replicate, IfOk, not, ◌&&◌, ◌||◌};
 ghost use Rattle.std.specs.List.{zip};
 ghost use Rattle.std.specs.Ordering.{int_cmp};
@@ -173,7 +173,8 @@ pub(crate) fn uint_far_mask(
     xs: &[u64],
     n: Number,
 ) -> Result<Vec<bool>, Memory>
-    ensures { IfOk result (λ v. v.items ≡ map (λ x. passes op (int_cmp (pos x) (number_of n))) xs.now) }
+    ensures { IfOk result
+        (λ v. v.items ≡ map (λ x. passes op (int_cmp (pos x) (number_of n))) xs.now) }
 {
     Ok(
         xs.iter()
@@ -189,7 +190,8 @@ pub(crate) fn int_mask(
     xs: &[i64],
     ys: &[i64],
 ) -> Result<Vec<bool>, Memory>
-    ensures { IfOk result (λ v. v.items ≡ map (λ p. passes op (int_cmp p.0 p.1)) (zip xs.now ys.now)) }
+    ensures { IfOk result
+        (λ v. v.items ≡ map (λ p. passes op (int_cmp p.0 p.1)) (zip xs.now ys.now)) }
 {
     each_pair!(alloc, op, xs, ys, int_passes)
 }
@@ -201,7 +203,8 @@ pub(crate) fn uint_mask(
     xs: &[u64],
     ys: &[u64],
 ) -> Result<Vec<bool>, Memory>
-    ensures { IfOk result (λ v. v.items ≡ map (λ p. passes op (int_cmp (pos p.0) (pos p.1))) (zip xs.now ys.now)) }
+    ensures { IfOk result
+        (λ v. v.items ≡ map (λ p. passes op (int_cmp (pos p.0) (pos p.1))) (zip xs.now ys.now)) }
 {
     each_pair!(alloc, op, xs, ys, uint_passes)
 }
@@ -213,7 +216,8 @@ pub(crate) fn int_uint_mask(
     xs: &[i64],
     ys: &[u64],
 ) -> Result<Vec<bool>, Memory>
-    ensures { IfOk result (λ v. v.items ≡ map (λ p. passes op (int_cmp p.0 (pos p.1))) (zip xs.now ys.now)) }
+    ensures { IfOk result
+        (λ v. v.items ≡ map (λ p. passes op (int_cmp p.0 (pos p.1))) (zip xs.now ys.now)) }
 {
     each_pair!(alloc, op, xs, ys, int_uint_passes)
 }
@@ -267,7 +271,8 @@ pub(crate) fn text_mask(
     ys: &Texts,
 ) -> Result<Vec<bool>, Memory>
     requires { length ys.now ≡ length xs.now }
-    ensures { IfOk result (λ v. v.items ≡ map (λ p. passes op (text_cmp p.0 p.1)) (zip xs.now ys.now)) }
+    ensures { IfOk result
+        (λ v. v.items ≡ map (λ p. passes op (text_cmp p.0 p.1)) (zip xs.now ys.now)) }
 {
     let mut mask = Vec::new(alloc);
     mask.try_reserve(xs.len())?;

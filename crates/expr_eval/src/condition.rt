@@ -50,7 +50,8 @@ fn ints_beside(alloc: Global, op: CompareOp, xs: &[i64], n: Number) -> Result<Ve
 
 // The comparison at each UInt64 and a plain number.
 fn uints_beside(alloc: Global, op: CompareOp, xs: &[u64], n: Number) -> Result<Vec<bool>, Memory>
-    ensures { IfOk result (λ m. m.items ≡ map (λ x. passes op (int_cmp (pos x) (number_of n))) xs.now) }
+    ensures { IfOk result
+        (λ m. m.items ≡ map (λ x. passes op (int_cmp (pos x) (number_of n))) xs.now) }
 {
     match number_in_uint(n) {
         Some(y) => uint_mask_beside(alloc, op, xs, y),
@@ -66,7 +67,8 @@ fn column_beside(
     n: Number,
 ) -> Result<Vec<bool>, Memory>
     requires { is_text (kind_of column.now) ≡ false }
-    ensures { IfOk result (λ m. m.items ≡ map (λ v. passes op (compared v (plain_value (number_of n)))) (values column.now)) }
+    ensures { IfOk result (λ m. m.items
+        ≡ map (λ v. passes op (compared v (plain_value (number_of n)))) (values column.now)) }
 {
     match column.kind() {
         ColumnType::Int64 => {
@@ -89,7 +91,8 @@ fn ints_and_column(
     right: &Column,
 ) -> Result<Vec<bool>, Memory>
     requires { is_text (kind_of right.now) ≡ false }
-    ensures { IfOk result (λ m. m.items ≡ map (λ p. passes op (compared p.0 p.1)) (zip (map Value.Int xs.now) (values right.now))) }
+    ensures { IfOk result (λ m. m.items
+        ≡ map (λ p. passes op (compared p.0 p.1)) (zip (map Value.Int xs.now) (values right.now))) }
 {
     match right.kind() {
         ColumnType::Int64 => {
@@ -112,7 +115,8 @@ fn uints_and_column(
     right: &Column,
 ) -> Result<Vec<bool>, Memory>
     requires { is_text (kind_of right.now) ≡ false }
-    ensures { IfOk result (λ m. m.items ≡ map (λ p. passes op (compared p.0 p.1)) (zip (map Value.UInt xs.now) (values right.now))) }
+    ensures { IfOk result (λ m. m.items ≡ map (λ p. passes op (compared p.0 p.1))
+        (zip (map Value.UInt xs.now) (values right.now))) }
 {
     match right.kind() {
         ColumnType::Int64 => {
@@ -131,7 +135,8 @@ fn uints_and_column(
 fn columns(alloc: Global, op: CompareOp, left: &Column, right: &Column) -> Result<Vec<bool>, Memory>
     requires alike { is_text (kind_of left.now) ≡ is_text (kind_of right.now) }
     requires long { length (values right.now) ≡ length (values left.now) }
-    ensures { IfOk result (λ m. m.items ≡ map (λ p. passes op (compared p.0 p.1)) (zip (values left.now) (values right.now))) }
+    ensures { IfOk result (λ m. m.items
+        ≡ map (λ p. passes op (compared p.0 p.1)) (zip (values left.now) (values right.now))) }
 {
     match left.kind() {
         ColumnType::Int64 => {
@@ -160,7 +165,8 @@ fn number_compared(
     requires typed { IsTyped chunk.now.types expr.now }
     requires not_plain { plain_of expr.now ≡ None }
     requires not_text { is_text (type_of expr.now chunk.now.types) ≡ false }
-    ensures { IfOk result (λ m. m.items ≡ map (λ row. passes op (compared (value_of expr.now row) (plain_value (number_of n)))) chunk.now.rows) }
+    ensures { IfOk result (λ m. m.items ≡ map (λ row. passes op
+        (compared (value_of expr.now row) (plain_value (number_of n)))) chunk.now.rows) }
 {
     let column = made(alloc, expr, chunk)?;
     let mask = column_beside(alloc, op, column_at(expr, &column, chunk), n)?;
@@ -179,8 +185,10 @@ fn expressions_compared(
     requires right { IsTyped chunk.now.types right.now }
     requires left_not_plain { plain_of left.now ≡ None }
     requires right_not_plain { plain_of right.now ≡ None }
-    requires alike { is_text (type_of left.now chunk.now.types) ≡ is_text (type_of right.now chunk.now.types) }
-    ensures { IfOk result (λ m. m.items ≡ map (λ row. passes op (compared (value_of left.now row) (value_of right.now row))) chunk.now.rows) }
+    requires alike { is_text (type_of left.now chunk.now.types)
+        ≡ is_text (type_of right.now chunk.now.types) }
+    ensures { IfOk result (λ m. m.items ≡ map (λ row. passes op
+        (compared (value_of left.now row) (value_of right.now row))) chunk.now.rows) }
 {
     let left_made = made(alloc, left, chunk)?;
     let right_made = made(alloc, right, chunk)?;
@@ -200,7 +208,8 @@ fn plain_compared(
 ) -> Result<Vec<bool>, Memory>
     requires right { IsTyped chunk.now.types right.now }
     requires not_text { is_text (type_of right.now chunk.now.types) ≡ false }
-    ensures { IfOk result (λ m. m.items ≡ map (λ row. passes op (compared (plain_value (number_of n)) (value_of right.now row))) chunk.now.rows) }
+    ensures { IfOk result (λ m. m.items ≡ map (λ row. passes op
+        (compared (plain_value (number_of n)) (value_of right.now row))) chunk.now.rows) }
 {
     match plain_number(right) {
         Some(k) => {
@@ -224,8 +233,10 @@ fn plain_operands(
 ) -> Result<Vec<bool>, Memory>
     requires left { IsTyped chunk.now.types left.now }
     requires right { IsTyped chunk.now.types right.now }
-    requires alike { is_text (type_of left.now chunk.now.types) ≡ is_text (type_of right.now chunk.now.types) }
-    ensures { IfOk result (λ m. m.items ≡ map (λ row. passes op (compared (value_of left.now row) (value_of right.now row))) chunk.now.rows) }
+    requires alike { is_text (type_of left.now chunk.now.types)
+        ≡ is_text (type_of right.now chunk.now.types) }
+    ensures { IfOk result (λ m. m.items ≡ map (λ row. passes op
+        (compared (value_of left.now row) (value_of right.now row))) chunk.now.rows) }
 {
     match plain_number(left) {
         Some(n) => {
@@ -255,7 +266,8 @@ fn text_compared(
 ) -> Result<Vec<bool>, Memory>
     requires typed { IsTyped chunk.now.types expr.now }
     requires is_text { type_of expr.now chunk.now.types ≡ ColumnType.Text }
-    ensures { IfOk result (λ m. m.items ≡ map (λ row. passes op (compared (value_of expr.now row) (Value.Text text.now))) chunk.now.rows) }
+    ensures { IfOk result (λ m. m.items ≡ map (λ row. passes op
+        (compared (value_of expr.now row) (Value.Text text.now))) chunk.now.rows) }
 {
     match expr {
         ExprOf::Column(c) => {
@@ -278,7 +290,8 @@ fn beside_text(
 ) -> Result<Vec<bool>, Memory>
     requires typed { IsTypedOperand chunk.now.types left.now }
     requires is_text { operand_type left.now chunk.now.types ≡ ColumnType.Text }
-    ensures { IfOk result (λ m. m.items ≡ map (λ row. passes op (compared (operand_value left.now row) (Value.Text text.now))) chunk.now.rows) }
+    ensures { IfOk result (λ m. m.items ≡ map (λ row. passes op
+        (compared (operand_value left.now row) (Value.Text text.now))) chunk.now.rows) }
 {
     match left {
         Operand::Plain(expr) => {
@@ -307,8 +320,10 @@ fn beside_expression(
 ) -> Result<Vec<bool>, Memory>
     requires left { IsTypedOperand chunk.now.types left.now }
     requires right { IsTyped chunk.now.types right.now }
-    requires alike { is_text (operand_type left.now chunk.now.types) ≡ is_text (type_of right.now chunk.now.types) }
-    ensures { IfOk result (λ m. m.items ≡ map (λ row. passes op (compared (operand_value left.now row) (value_of right.now row))) chunk.now.rows) }
+    requires alike { is_text (operand_type left.now chunk.now.types)
+        ≡ is_text (type_of right.now chunk.now.types) }
+    ensures { IfOk result (λ m. m.items ≡ map (λ row. passes op
+        (compared (operand_value left.now row) (value_of right.now row))) chunk.now.rows) }
 {
     match left {
         Operand::Plain(expr) => {
@@ -333,8 +348,10 @@ fn compare(
 ) -> Result<Vec<bool>, Memory>
     requires left { IsTypedOperand chunk.now.types left.now }
     requires right { IsTypedOperand chunk.now.types right.now }
-    requires alike { is_text (operand_type left.now chunk.now.types) ≡ is_text (operand_type right.now chunk.now.types) }
-    ensures { IfOk result (λ m. m.items ≡ map (λ row. passes op (compared (operand_value left.now row) (operand_value right.now row))) chunk.now.rows) }
+    requires alike { is_text (operand_type left.now chunk.now.types)
+        ≡ is_text (operand_type right.now chunk.now.types) }
+    ensures { IfOk result (λ m. m.items ≡ map (λ row. passes op
+        (compared (operand_value left.now row) (operand_value right.now row))) chunk.now.rows) }
 {
     match right {
         Operand::Plain(expr) => {
@@ -349,8 +366,8 @@ fn compare(
     }
 }
 
-/// The condition's truth at each row. Numbers are compared by their exact values, whatever their types, and texts
-/// by bytes.
+/// The condition's truth at each row. Numbers are compared by their exact values, whatever their
+/// types, and texts by bytes.
 pub fn mask(alloc: Global, cond: &Cond, chunk: &Chunk) -> Result<Vec<bool>, Memory>
     requires { IsTypedCond chunk.now.types cond.now }
     ensures { IfOk result (λ m. m.items ≡ map (holds cond.now) chunk.now.rows) }

@@ -54,7 +54,8 @@ fn int_beside(
     y: i64,
 ) -> Result<Column, Memory>
     ensures kind { IfOk result (λ c. kind_of c ≡ ColumnType.Int64) }
-    ensures values { IfOk result (λ c. values c ≡ map (λ v. sided swapped (arith_value op) v (plain_value y)) (map Value.Int xs.now)) }
+    ensures values { IfOk result (λ c. values c
+        ≡ map (λ v. sided swapped (arith_value op) v (plain_value y)) (map Value.Int xs.now)) }
 {
     match int_results_beside(alloc, swapped, op, xs, y) {
         Ok(numbers) => Ok(Column::of_ints(numbers)),
@@ -71,7 +72,8 @@ fn uint_beside(
     y: u64,
 ) -> Result<Column, Memory>
     ensures kind { IfOk result (λ c. kind_of c ≡ result_type op ColumnType.UInt64) }
-    ensures values { IfOk result (λ c. values c ≡ map (λ v. sided swapped (arith_value op) v (Value.UInt y)) (map Value.UInt xs.now)) }
+    ensures values { IfOk result (λ c. values c
+        ≡ map (λ v. sided swapped (arith_value op) v (Value.UInt y)) (map Value.UInt xs.now)) }
 {
     match op {
         ArithOp::Sub => match uint_differences_beside(alloc, swapped, xs, y) {
@@ -95,7 +97,8 @@ fn beside(
 ) -> Result<Column, Memory>
     requires { CanHold (kind_of column.now) (number_of n) }
     ensures kind { IfOk result (λ c. kind_of c ≡ result_type op (kind_of column.now)) }
-    ensures values { IfOk result (λ c. values c ≡ map (λ v. sided swapped (arith_value op) v (plain_value (number_of n))) (values column.now)) }
+    ensures values { IfOk result (λ c. values c ≡ map
+        (λ v. sided swapped (arith_value op) v (plain_value (number_of n))) (values column.now)) }
 {
     match column.kind() {
         ColumnType::Int64 => int_beside(alloc, swapped, op, column.ints(), number_as_int(n)),
@@ -107,7 +110,8 @@ fn beside(
 // The operator at each pair of Int64.
 fn int_pairs(alloc: Global, op: ArithOp, xs: &[i64], ys: &[i64]) -> Result<Column, Memory>
     ensures kind { IfOk result (λ c. kind_of c ≡ ColumnType.Int64) }
-    ensures values { IfOk result (λ c. values c ≡ map (λ p. arith_value op p.0 p.1) (zip (map Value.Int xs.now) (map Value.Int ys.now))) }
+    ensures values { IfOk result (λ c. values c
+        ≡ map (λ p. arith_value op p.0 p.1) (zip (map Value.Int xs.now) (map Value.Int ys.now))) }
 {
     match int_results(alloc, op, xs, ys) {
         Ok(numbers) => Ok(Column::of_ints(numbers)),
@@ -118,7 +122,8 @@ fn int_pairs(alloc: Global, op: ArithOp, xs: &[i64], ys: &[i64]) -> Result<Colum
 // The operator at each pair of UInt64.
 fn uint_pairs(alloc: Global, op: ArithOp, xs: &[u64], ys: &[u64]) -> Result<Column, Memory>
     ensures kind { IfOk result (λ c. kind_of c ≡ result_type op ColumnType.UInt64) }
-    ensures values { IfOk result (λ c. values c ≡ map (λ p. arith_value op p.0 p.1) (zip (map Value.UInt xs.now) (map Value.UInt ys.now))) }
+    ensures values { IfOk result (λ c. values c
+        ≡ map (λ p. arith_value op p.0 p.1) (zip (map Value.UInt xs.now) (map Value.UInt ys.now))) }
 {
     match op {
         ArithOp::Sub => match uint_differences(alloc, xs, ys) {
@@ -136,7 +141,8 @@ fn uint_pairs(alloc: Global, op: ArithOp, xs: &[u64], ys: &[u64]) -> Result<Colu
 fn pairs(alloc: Global, op: ArithOp, left: &Column, right: &Column) -> Result<Column, Memory>
     requires { AreNumbersAlike (kind_of left.now) (kind_of right.now) }
     ensures kind { IfOk result (λ c. kind_of c ≡ result_type op (kind_of left.now)) }
-    ensures values { IfOk result (λ c. values c ≡ map (λ p. arith_value op p.0 p.1) (zip (values left.now) (values right.now))) }
+    ensures values { IfOk result (λ c. values c
+        ≡ map (λ p. arith_value op p.0 p.1) (zip (values left.now) (values right.now))) }
 {
     match left.kind() {
         ColumnType::Int64 => int_pairs(alloc, op, left.ints(), right.ints()),
@@ -150,7 +156,8 @@ fn pairs_onto(alloc: Global, op: ArithOp, left: Column, right: &Column) -> Resul
     requires alike { AreNumbersAlike (kind_of left) (kind_of right.now) }
     requires long { length (values right.now) ≡ length (values left) }
     ensures kind { IfOk result (λ c. kind_of c ≡ result_type op (kind_of left)) }
-    ensures values { IfOk result (λ c. values c ≡ map (λ p. arith_value op p.0 p.1) (zip (values left) (values right.now))) }
+    ensures values { IfOk result
+        (λ c. values c ≡ map (λ p. arith_value op p.0 p.1) (zip (values left) (values right.now))) }
 {
     match left {
         Column::Int64(xs) => Ok(Column::of_ints(int_results_onto(op, xs, right.ints()))),
@@ -178,8 +185,8 @@ pub(crate) fn column_at<'a>(expr: &Expr, made: &'a Option<Column>, chunk: &'a Ch
     }
 }
 
-// The operator at the values of an expression and a plain number, which is written in front where `swapped` is
-// true.
+// The operator at the values of an expression and a plain number, which is written in front where
+// `swapped` is true.
 fn number_beside(
     alloc: Global,
     swapped: bool,
@@ -193,8 +200,10 @@ fn number_beside(
     requires not_plain { plain_of expr.now ≡ None }
     requires made { IsMade expr.now chunk.now made }
     requires held { CanHold (type_of expr.now chunk.now.types) (number_of n) }
-    ensures kind { IfOk result (λ c. kind_of c ≡ result_type op (type_of expr.now chunk.now.types)) }
-    ensures values { IfOk result (λ c. values c ≡ map (λ row. sided swapped (arith_value op) (value_of expr.now row) (plain_value (number_of n))) chunk.now.rows) }
+    ensures kind { IfOk result
+        (λ c. kind_of c ≡ result_type op (type_of expr.now chunk.now.types)) }
+    ensures values { IfOk result (λ c. values c ≡ map (λ row. sided swapped (arith_value op)
+        (value_of expr.now row) (plain_value (number_of n))) chunk.now.rows) }
 {
     let column = beside(alloc, swapped, op, column_at(expr, &made, chunk), n)?;
     Ok(column)
@@ -214,11 +223,14 @@ fn expressions(
     requires right { IsTyped chunk.now.types right.now }
     requires left_not_plain { plain_of left.now ≡ None }
     requires right_not_plain { plain_of right.now ≡ None }
-    requires alike { AreNumbersAlike (type_of left.now chunk.now.types) (type_of right.now chunk.now.types) }
+    requires alike { AreNumbersAlike (type_of left.now chunk.now.types)
+        (type_of right.now chunk.now.types) }
     requires left_made { IsMade left.now chunk.now left_made }
     requires right_made { IsMade right.now chunk.now right_made }
-    ensures kind { IfOk result (λ c. kind_of c ≡ result_type op (type_of left.now chunk.now.types)) }
-    ensures values { IfOk result (λ c. values c ≡ map (λ row. arith_value op (value_of left.now row) (value_of right.now row)) chunk.now.rows) }
+    ensures kind { IfOk result
+        (λ c. kind_of c ≡ result_type op (type_of left.now chunk.now.types)) }
+    ensures values { IfOk result (λ c. values c ≡ map
+        (λ row. arith_value op (value_of left.now row) (value_of right.now row)) chunk.now.rows) }
 {
     let there = column_at(right, &right_made, chunk);
     match left_made {
@@ -246,11 +258,14 @@ fn arith(
 ) -> Result<Column, Memory>
     requires left { IsTyped chunk.now.types left.now }
     requires right { IsTyped chunk.now.types right.now }
-    requires alike { AreAlike (plain_of left.now) (type_of left.now chunk.now.types) (plain_of right.now) (type_of right.now chunk.now.types) }
+    requires alike { AreAlike (plain_of left.now) (type_of left.now chunk.now.types)
+        (plain_of right.now) (type_of right.now chunk.now.types) }
     requires left_made { IsMade left.now chunk.now left_made }
     requires right_made { IsMade right.now chunk.now right_made }
-    ensures kind { IfOk result (λ c. kind_of c ≡ arith_type op (type_of left.now chunk.now.types) (type_of right.now chunk.now.types)) }
-    ensures values { IfOk result (λ c. values c ≡ map (λ row. arith_value op (value_of left.now row) (value_of right.now row)) chunk.now.rows) }
+    ensures kind { IfOk result (λ c. kind_of c
+        ≡ arith_type op (type_of left.now chunk.now.types) (type_of right.now chunk.now.types)) }
+    ensures values { IfOk result (λ c. values c ≡ map
+        (λ row. arith_value op (value_of left.now row) (value_of right.now row)) chunk.now.rows) }
 {
     match plain_number(left) {
         Some(n) => {
@@ -270,7 +285,8 @@ fn arith(
     }
 }
 
-/// The column of the expression's values, where it is neither a column reference nor a plain number.
+/// The column of the expression's values, where it is neither a column reference nor a plain
+/// number.
 pub(crate) fn made(alloc: Global, expr: &Expr, chunk: &Chunk) -> Result<Option<Column>, Memory>
     requires { IsTyped chunk.now.types expr.now }
     ensures { IfOk result (λ m. IsMade expr.now chunk.now m) }
@@ -287,8 +303,8 @@ pub(crate) fn made(alloc: Global, expr: &Expr, chunk: &Chunk) -> Result<Option<C
     }
 }
 
-/// The expression's value at each row. A column reference alone is copied; within an expression it is read in
-/// place.
+/// The expression's value at each row. A column reference alone is copied; within an expression it
+/// is read in place.
 pub fn eval(alloc: Global, expr: &Expr, chunk: &Chunk) -> Result<Column, Memory>
     requires { IsItem chunk.now.types expr.now }
     ensures kind { IfOk result (λ c. kind_of c ≡ type_of expr.now chunk.now.types) }

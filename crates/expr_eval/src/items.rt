@@ -18,7 +18,8 @@ fn is_item(expr: &Expr, types: &[ColumnType]) -> bool
     plain_number(expr).is_none()
 }
 
-/// Whether each expression may be an item of SELECT: typed by the columns' types, and not a plain number alone.
+/// Whether each expression may be an item of SELECT: typed by the columns' types, and not a plain
+/// number alone.
 pub fn are_items(exprs: &[Expr], types: &[ColumnType]) -> bool
     ensures { IsTrue result ↔ All (IsItem types.now) exprs.now }
 {

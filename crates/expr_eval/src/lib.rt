@@ -1,4 +1,5 @@
-//! Expressions and conditions over chunks, evaluated column by column: one loop over slices for each operator.
+//! Expressions and conditions over chunks, evaluated column by column: one loop over slices for
+//! each operator.
 #![tactic(auto)]
 
 mod arith_loops;

@@ -56,7 +56,8 @@ fn alike(p: Option<Number>, s: ColumnType, q: Option<Number>, t: ColumnType) -> 
 fn operands_alike(left: &Expr, right: &Expr, types: &[ColumnType]) -> bool
     requires left { IsTyped types.now left.now }
     requires right { IsTyped types.now right.now }
-    ensures { IsTrue result ↔ AreAlike (plain_of left.now) (type_of left.now types.now) (plain_of right.now) (type_of right.now types.now) }
+    ensures { IsTrue result ↔ AreAlike (plain_of left.now) (type_of left.now types.now)
+        (plain_of right.now) (type_of right.now types.now) }
 {
     alike(
         plain_number(left),

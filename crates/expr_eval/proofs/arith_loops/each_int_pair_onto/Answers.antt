@@ -9,7 +9,9 @@ loop-i-preserved c =
     let d : SFits w64 (get_or c.args.ys.now c.loop-i.i (pos 0)) = search rules in
     let e : to_z w64 (of_z w64 c.int_result.result) ≡ c.int_result.result = simp to_z-of_z in
     let r = simp to_z-of_z at c.int_result.ensures in
-    onto_more (λ p. int_wrap w64 (exact_result c.args.op p.0 p.1)) c.args.xs.now c.args.ys.now c.loop-i.xs c.loop-i.i (pos 0) (pos 0) _ c.loop-i.invariant (omega arith) (omega arith) (e ∙ r)
+    onto_more (λ p. int_wrap w64 (exact_result c.args.op p.0 p.1)) c.args.xs.now c.args.ys.now
+    c.loop-i.xs c.loop-i.i (pos 0) (pos 0) _ c.loop-i.invariant (omega arith) (omega arith)
+    (e ∙ r)
 
 pub returns : goal.returns
 returns c = c.loop-i.invariant ∙ onto_all _ c.loop-i.i _ _ (omega arith) c.requires

@@ -9,17 +9,25 @@ returns-in_ok-truths-in-Compare t c = rw c.in-Compare.is c.in_ok-truths-in-Compa
 pub returns-in_ok-others-in-And : goal.returns-in_ok-others-in-And
 unfolding truth_of
 returns-in_ok-others-in-And t c =
-    pairs_are (λ a b. a && b) (truth_of c.deref.result.now) (truth_of c.deref-in-And.result.now) (truth_of c.args.cond.now) c.args.chunk.now.rows
-    (rw c.as_slice.ensures.value at c.both.ensures) c.in_ok-truths-in-And.ensures c.in_ok-others-in-And.ensures (λ row. rw (c.in-And.is, c.deref.ensures, c.deref-in-And.ensures) refl)
+    pairs_are (λ a b. a && b) (truth_of c.deref.result.now) (truth_of c.deref-in-And.result.now)
+    (truth_of c.args.cond.now) c.args.chunk.now.rows
+    (rw c.as_slice.ensures.value at c.both.ensures) c.in_ok-truths-in-And.ensures
+    c.in_ok-others-in-And.ensures
+    (λ row. rw (c.in-And.is, c.deref.ensures, c.deref-in-And.ensures) refl)
 
 pub returns-in_ok-others-in-Or : goal.returns-in_ok-others-in-Or
 unfolding truth_of
 returns-in_ok-others-in-Or t c =
-    pairs_are (λ a b. a || b) (truth_of c.deref-in-Or.result.now) (truth_of c.deref-in-Or-2.result.now) (truth_of c.args.cond.now) c.args.chunk.now.rows
-    (rw c.as_slice-in-Or.ensures.value at c.either.ensures) c.in_ok-truths-in-Or.ensures c.in_ok-others-in-Or.ensures (λ row. rw (c.in-Or.is, c.deref-in-Or.ensures, c.deref-in-Or-2.ensures) refl)
+    pairs_are (λ a b. a || b) (truth_of c.deref-in-Or.result.now)
+    (truth_of c.deref-in-Or-2.result.now) (truth_of c.args.cond.now) c.args.chunk.now.rows
+    (rw c.as_slice-in-Or.ensures.value at c.either.ensures) c.in_ok-truths-in-Or.ensures
+    c.in_ok-others-in-Or.ensures
+    (λ row. rw (c.in-Or.is, c.deref-in-Or.ensures, c.deref-in-Or-2.ensures) refl)
 
 pub returns-in_ok-truths-in-Not : goal.returns-in_ok-truths-in-Not
 unfolding truth_of
 returns-in_ok-truths-in-Not t c =
-    each_is (λ m. not m) (truth_of c.deref-in-Not.result.now) (truth_of c.args.cond.now) c.args.chunk.now.rows
-    c.negated.ensures c.in_ok-truths-in-Not.ensures (λ row. rw (c.in-Not.is, c.deref-in-Not.ensures) refl)
+    each_is (λ m. not m) (truth_of c.deref-in-Not.result.now) (truth_of c.args.cond.now)
+    c.args.chunk.now.rows
+    c.negated.ensures c.in_ok-truths-in-Not.ensures
+    (λ row. rw (c.in-Not.is, c.deref-in-Not.ensures) refl)

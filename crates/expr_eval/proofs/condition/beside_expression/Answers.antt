@@ -11,4 +11,7 @@ pub returns-in_ok-mask-in-Text : goal.returns-in_ok-mask-in-Text
 unfolding operand_value
 returns-in_ok-mask-in-Text c =
     let e = rw c.flip.ensures at c.in_ok-mask-in-Text.ensures in
-    rw c.in-Text.is (e ∙ same_maps (λ row. passes (flipped c.args.op) (compared (value_of c.args.right.now row) (Text c.in-Text.text))) (λ row. passes c.args.op (compared (Text c.in-Text.text) (value_of c.args.right.now row))) c.args.chunk.now.rows (λ row. turned c.args.op (Text c.in-Text.text) (value_of c.args.right.now row)))
+    rw c.in-Text.is (e ∙ same_maps (λ row. passes (flipped c.args.op)
+    (compared (value_of c.args.right.now row) (Text c.in-Text.text))) (λ row. passes c.args.op
+    (compared (Text c.in-Text.text) (value_of c.args.right.now row))) c.args.chunk.now.rows
+    (λ row. turned c.args.op (Text c.in-Text.text) (value_of c.args.right.now row)))

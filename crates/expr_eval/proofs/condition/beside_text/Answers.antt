@@ -9,5 +9,7 @@ returns-in_ok-mask-in-Plain c = rw c.in-Plain.is c.in_ok-mask-in-Plain.ensures
 pub returns-in_ok-mask-in-Text : goal.returns-in_ok-mask-in-Text
 unfolding operand_value
 returns-in_ok-mask-in-Text c =
-    let b : c.text_passes.result ≡ passes c.args.op (text_cmp c.in-Text.bytes c.args.text.now) = rw (← c.as_slice.ensures, ← c.as_slice-in-Text.ensures) c.text_passes.ensures in
-    rw c.in-Text.is (rw (c.rows.ensures.count, b) at c.in_ok-mask-in-Text.ensures ∙ same_value _ c.args.chunk.now.rows)
+    let b : c.text_passes.result ≡ passes c.args.op (text_cmp c.in-Text.bytes c.args.text.now) =
+    rw (← c.as_slice.ensures, ← c.as_slice-in-Text.ensures) c.text_passes.ensures in
+    rw c.in-Text.is (rw (c.rows.ensures.count, b) at c.in_ok-mask-in-Text.ensures
+    ∙ same_value _ c.args.chunk.now.rows)

@@ -4,5 +4,8 @@ use Rattle.expr_eval.proofs.condition.expressions_compared.Goals as goal
 
 pub returns : goal.returns
 returns c =
-    pairs_are (λ a b. passes c.args.op (compared a b)) (value_of c.args.left.now) (value_of c.args.right.now) (λ row. passes c.args.op (compared (value_of c.args.left.now row) (value_of c.args.right.now row))) c.args.chunk.now.rows
-    c.in_ok-mask.ensures c.column_at-here.ensures.values c.column_at-there.ensures.values (λ row. refl)
+    pairs_are (λ a b. passes c.args.op (compared a b)) (value_of c.args.left.now)
+    (value_of c.args.right.now) (λ row. passes c.args.op (compared
+    (value_of c.args.left.now row) (value_of c.args.right.now row))) c.args.chunk.now.rows
+    c.in_ok-mask.ensures c.column_at-here.ensures.values c.column_at-there.ensures.values
+    (λ row. refl)

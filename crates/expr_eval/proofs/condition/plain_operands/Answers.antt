@@ -6,20 +6,34 @@ use Rattle.expr_eval.proofs.condition.plain_operands.Goals as goal
 
 pub plain_compared-requires-clause-not_text : goal.plain_compared-requires-clause-not_text
 plain_compared-requires-clause-not_text c =
-    let e : plain_of c.args.left.now ≡ Some (number_of c.in-Some.n) = rw c.in-Some.is at c.plain_number.ensures in
-    sym c.requires.alike ∙ ap is_text (plain_type_of c.args.left.now _ c.args.chunk.now.types e) ∙ plain_is_number (number_of c.in-Some.n)
+    let e : plain_of c.args.left.now ≡ Some (number_of c.in-Some.n) =
+    rw c.in-Some.is at c.plain_number.ensures in
+    sym c.requires.alike ∙ ap is_text (plain_type_of c.args.left.now _ c.args.chunk.now.types e)
+    ∙ plain_is_number (number_of c.in-Some.n)
 
 pub number_compared-requires-clause-not_text : goal.number_compared-requires-clause-not_text
 number_compared-requires-clause-not_text c =
-    let e : plain_of c.args.right.now ≡ Some (number_of c.in-Some-plain_number.k) = rw c.in-Some-plain_number.is at c.plain_number-in-None.ensures in
-    c.requires.alike ∙ ap is_text (plain_type_of c.args.right.now _ c.args.chunk.now.types e) ∙ plain_is_number (number_of c.in-Some-plain_number.k)
+    let e : plain_of c.args.right.now ≡ Some (number_of c.in-Some-plain_number.k) =
+    rw c.in-Some-plain_number.is at c.plain_number-in-None.ensures in
+    c.requires.alike ∙ ap is_text (plain_type_of c.args.right.now _ c.args.chunk.now.types e)
+    ∙ plain_is_number (number_of c.in-Some-plain_number.k)
 
 pub returns-in_ok-mask-in-Some : goal.returns-in_ok-mask-in-Some
 returns-in_ok-mask-in-Some c =
-    let e : plain_of c.args.left.now ≡ Some (number_of c.in-Some.n) = rw c.in-Some.is at c.plain_number.ensures in
-    c.in_ok-mask-in-Some.ensures ∙ same_maps (λ row. passes c.args.op (compared (plain_value (number_of c.in-Some.n)) (value_of c.args.right.now row))) (λ row. passes c.args.op (compared (value_of c.args.left.now row) (value_of c.args.right.now row))) c.args.chunk.now.rows (λ row. ap (λ v. passes c.args.op (compared v (value_of c.args.right.now row))) (sym (plain_value_of c.args.left.now _ row e)))
+    let e : plain_of c.args.left.now ≡ Some (number_of c.in-Some.n) =
+    rw c.in-Some.is at c.plain_number.ensures in
+    c.in_ok-mask-in-Some.ensures ∙ same_maps (λ row. passes c.args.op
+    (compared (plain_value (number_of c.in-Some.n)) (value_of c.args.right.now row))) (λ row.
+    passes c.args.op (compared (value_of c.args.left.now row) (value_of c.args.right.now row)))
+    c.args.chunk.now.rows (λ row. ap (λ v. passes c.args.op (compared v
+    (value_of c.args.right.now row))) (sym (plain_value_of c.args.left.now _ row e)))
 
 pub returns-in_ok-mask-in-Some-plain_number : goal.returns-in_ok-mask-in-Some-plain_number
 returns-in_ok-mask-in-Some-plain_number c =
-    let e : plain_of c.args.right.now ≡ Some (number_of c.in-Some-plain_number.k) = rw c.in-Some-plain_number.is at c.plain_number-in-None.ensures in
-    c.in_ok-mask-in-Some-plain_number.ensures ∙ same_maps (λ row. passes c.args.op (compared (value_of c.args.left.now row) (plain_value (number_of c.in-Some-plain_number.k)))) (λ row. passes c.args.op (compared (value_of c.args.left.now row) (value_of c.args.right.now row))) c.args.chunk.now.rows (λ row. ap (λ v. passes c.args.op (compared (value_of c.args.left.now row) v)) (sym (plain_value_of c.args.right.now _ row e)))
+    let e : plain_of c.args.right.now ≡ Some (number_of c.in-Some-plain_number.k) =
+    rw c.in-Some-plain_number.is at c.plain_number-in-None.ensures in
+    c.in_ok-mask-in-Some-plain_number.ensures ∙ same_maps (λ row. passes c.args.op (compared
+    (value_of c.args.left.now row) (plain_value (number_of c.in-Some-plain_number.k)))) (λ row.
+    passes c.args.op (compared (value_of c.args.left.now row) (value_of c.args.right.now row)))
+    c.args.chunk.now.rows (λ row. ap (λ v. passes c.args.op (compared
+    (value_of c.args.left.now row) v)) (sym (plain_value_of c.args.right.now _ row e)))

@@ -8,8 +8,10 @@ use Rattle.expr_eval.proofs.condition.text_compared.Goals as goal
 pub texts-requires : goal.texts-requires
 unfolding type_of
 texts-requires c =
-    let lt : c.in-Column.c < length c.args.chunk.now.types = rw c.in-Column.is at c.requires.typed in
-    c.column-column.ensures.kind ∙ get_or_default c.args.chunk.now.types c.in-Column.c _ _ lt ∙ (rw c.in-Column.is at c.requires.is_text)
+    let lt : c.in-Column.c < length c.args.chunk.now.types =
+    rw c.in-Column.is at c.requires.typed in
+    c.column-column.ensures.kind ∙ get_or_default c.args.chunk.now.types c.in-Column.c _ _ lt
+    ∙ (rw c.in-Column.is at c.requires.is_text)
 
 pub unreachable-requires : goal.unreachable-requires
 unfolding type_of
@@ -24,6 +26,10 @@ unreachable-requires-in-Arith c = arith_not_text _ (rw c.in-Arith.is at c.requir
 pub returns : goal.returns
 unfolding value_of
 returns c =
-    each_is (λ v. passes c.args.op (compared v (Text c.args.text.now))) (λ row. value_at row c.in-Column.c) (λ row. passes c.args.op (compared (value_of c.args.expr.now row) (Text c.args.text.now))) c.args.chunk.now.rows
-    (masked_one Text (λ v. passes c.args.op (compared v (Text c.args.text.now))) (λ x. passes c.args.op (text_cmp x c.args.text.now)) c.texts.result.now (rw c.as_slice.ensures at c.in_ok-mask-in-Column.ensures) c.texts.ensures (λ x. refl))
+    each_is (λ v. passes c.args.op (compared v (Text c.args.text.now)))
+    (λ row. value_at row c.in-Column.c) (λ row. passes c.args.op
+    (compared (value_of c.args.expr.now row) (Text c.args.text.now))) c.args.chunk.now.rows
+    (masked_one Text (λ v. passes c.args.op (compared v (Text c.args.text.now)))
+    (λ x. passes c.args.op (text_cmp x c.args.text.now)) c.texts.result.now
+    (rw c.as_slice.ensures at c.in_ok-mask-in-Column.ensures) c.texts.ensures (λ x. refl))
     c.column-column.ensures.values (λ row. rw c.in-Column.is refl)

@@ -5,23 +5,41 @@ use Rattle.expr_eval.proofs.expression.arith.Goals as goal
 
 pub returns-in_ok-column-in-Some-clause-kind : goal.returns-in_ok-column-in-Some-clause-kind
 returns-in_ok-column-in-Some-clause-kind c =
-    let e : plain_of c.args.left.now ≡ Some (number_of c.in-Some.n) = rw c.in-Some.is at c.plain_number.ensures in
+    let e : plain_of c.args.left.now ≡ Some (number_of c.in-Some.n) =
+    rw c.in-Some.is at c.plain_number.ensures in
     let held = (plain_before _ _ _ _ _ e c.requires.alike).1 in
-    c.in_ok-column-in-Some.ensures.kind ∙ sym (ap (λ s. arith_type c.args.op s (type_of c.args.right.now c.args.chunk.now.types)) (plain_type_of c.args.left.now _ c.args.chunk.now.types e) ∙ type_before c.args.op _ _ held)
+    c.in_ok-column-in-Some.ensures.kind
+    ∙ sym (ap (λ s. arith_type c.args.op s (type_of c.args.right.now c.args.chunk.now.types))
+    (plain_type_of c.args.left.now _ c.args.chunk.now.types e) ∙ type_before c.args.op _ _ held)
 
 pub returns-in_ok-column-in-Some-clause-values : goal.returns-in_ok-column-in-Some-clause-values
 returns-in_ok-column-in-Some-clause-values c =
-    let e : plain_of c.args.left.now ≡ Some (number_of c.in-Some.n) = rw c.in-Some.is at c.plain_number.ensures in
-    c.in_ok-column-in-Some.ensures.values ∙ same_maps (λ row. arith_value c.args.op (plain_value (number_of c.in-Some.n)) (value_of c.args.right.now row)) (λ row. arith_value c.args.op (value_of c.args.left.now row) (value_of c.args.right.now row)) c.args.chunk.now.rows (λ row. ap (λ v. arith_value c.args.op v (value_of c.args.right.now row)) (sym (plain_value_of c.args.left.now _ row e)))
+    let e : plain_of c.args.left.now ≡ Some (number_of c.in-Some.n) =
+    rw c.in-Some.is at c.plain_number.ensures in
+    c.in_ok-column-in-Some.ensures.values ∙ same_maps (λ row. arith_value c.args.op (plain_value
+    (number_of c.in-Some.n)) (value_of c.args.right.now row)) (λ row. arith_value c.args.op
+    (value_of c.args.left.now row) (value_of c.args.right.now row)) c.args.chunk.now.rows
+    (λ row. ap (λ v. arith_value c.args.op v (value_of c.args.right.now row))
+    (sym (plain_value_of c.args.left.now _ row e)))
 
-pub returns-in_ok-column-in-Some-plain_number-clause-kind : goal.returns-in_ok-column-in-Some-plain_number-clause-kind
+pub returns-in_ok-column-in-Some-plain_number-clause-kind :
+    goal.returns-in_ok-column-in-Some-plain_number-clause-kind
 returns-in_ok-column-in-Some-plain_number-clause-kind c =
     let d : plain_of c.args.left.now ≡ None = rw c.in-None.is at c.plain_number.ensures in
-    let e : plain_of c.args.right.now ≡ Some (number_of c.in-Some-plain_number.m) = rw c.in-Some-plain_number.is at c.plain_number-in-None.ensures in
+    let e : plain_of c.args.right.now ≡ Some (number_of c.in-Some-plain_number.m) =
+    rw c.in-Some-plain_number.is at c.plain_number-in-None.ensures in
     let held = plain_behind _ _ _ _ _ d e c.requires.alike in
-    c.in_ok-column-in-Some-plain_number.ensures.kind ∙ sym (ap (λ t. arith_type c.args.op (type_of c.args.left.now c.args.chunk.now.types) t) (plain_type_of c.args.right.now _ c.args.chunk.now.types e) ∙ type_behind c.args.op _ _ held)
+    c.in_ok-column-in-Some-plain_number.ensures.kind ∙ sym (ap (λ t. arith_type c.args.op
+    (type_of c.args.left.now c.args.chunk.now.types) t) (plain_type_of c.args.right.now _
+    c.args.chunk.now.types e) ∙ type_behind c.args.op _ _ held)
 
-pub returns-in_ok-column-in-Some-plain_number-clause-values : goal.returns-in_ok-column-in-Some-plain_number-clause-values
+pub returns-in_ok-column-in-Some-plain_number-clause-values :
+    goal.returns-in_ok-column-in-Some-plain_number-clause-values
 returns-in_ok-column-in-Some-plain_number-clause-values c =
-    let e : plain_of c.args.right.now ≡ Some (number_of c.in-Some-plain_number.m) = rw c.in-Some-plain_number.is at c.plain_number-in-None.ensures in
-    c.in_ok-column-in-Some-plain_number.ensures.values ∙ same_maps (λ row. arith_value c.args.op (value_of c.args.left.now row) (plain_value (number_of c.in-Some-plain_number.m))) (λ row. arith_value c.args.op (value_of c.args.left.now row) (value_of c.args.right.now row)) c.args.chunk.now.rows (λ row. ap (λ v. arith_value c.args.op (value_of c.args.left.now row) v) (sym (plain_value_of c.args.right.now _ row e)))
+    let e : plain_of c.args.right.now ≡ Some (number_of c.in-Some-plain_number.m) =
+    rw c.in-Some-plain_number.is at c.plain_number-in-None.ensures in
+    c.in_ok-column-in-Some-plain_number.ensures.values ∙ same_maps (λ row. arith_value c.args.op
+    (value_of c.args.left.now row) (plain_value (number_of c.in-Some-plain_number.m)))
+    (λ row. arith_value c.args.op (value_of c.args.left.now row)
+    (value_of c.args.right.now row)) c.args.chunk.now.rows (λ row. ap (λ v. arith_value
+    c.args.op (value_of c.args.left.now row) v) (sym (plain_value_of c.args.right.now _ row e)))

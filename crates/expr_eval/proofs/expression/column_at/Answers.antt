@@ -6,7 +6,9 @@ column-requires c = rw c.in-Column.is at c.requires.typed
 
 pub returns-in-Column-clause-kind : goal.returns-in-Column-clause-kind
 unfolding type_of
-returns-in-Column-clause-kind c = let lt : c.in-Column.c < length c.args.chunk.now.types = rw c.in-Column.is at c.requires.typed in rw c.in-Column.is (c.column.ensures.kind ∙ get_or_default c.args.chunk.now.types c.in-Column.c _ _ lt)
+returns-in-Column-clause-kind c = let lt : c.in-Column.c < length c.args.chunk.now.types =
+    rw c.in-Column.is at c.requires.typed in rw c.in-Column.is
+    (c.column.ensures.kind ∙ get_or_default c.args.chunk.now.types c.in-Column.c _ _ lt)
 
 pub returns-in-Column-clause-values : goal.returns-in-Column-clause-values
 unfolding value_of

@@ -7,9 +7,12 @@ column-requires c = rw c.in-Column.is at c.requires.typed
 pub returns-in_ok-column-in-Column-clause-kind : goal.returns-in_ok-column-in-Column-clause-kind
 unfolding type_of
 returns-in_ok-column-in-Column-clause-kind c =
-    let lt : c.in-Column.c < length c.args.chunk.now.types = rw c.in-Column.is at c.requires.typed in
-    rw c.in-Column.is (c.in_ok-column-in-Column.ensures.kind ∙ c.column.ensures.kind ∙ get_or_default c.args.chunk.now.types c.in-Column.c _ _ lt)
+    let lt : c.in-Column.c < length c.args.chunk.now.types =
+    rw c.in-Column.is at c.requires.typed in
+    rw c.in-Column.is (c.in_ok-column-in-Column.ensures.kind ∙ c.column.ensures.kind
+    ∙ get_or_default c.args.chunk.now.types c.in-Column.c _ _ lt)
 
 pub returns-in_ok-column-in-Column-clause-values : goal.returns-in_ok-column-in-Column-clause-values
 unfolding value_of
-returns-in_ok-column-in-Column-clause-values c = rw c.in-Column.is (c.in_ok-column-in-Column.ensures.values ∙ c.column.ensures.values)
+returns-in_ok-column-in-Column-clause-values c =
+    rw c.in-Column.is (c.in_ok-column-in-Column.ensures.values ∙ c.column.ensures.values)

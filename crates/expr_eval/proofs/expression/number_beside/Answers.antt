@@ -4,5 +4,7 @@ use Rattle.expr_eval.proofs.expression.number_beside.Goals as goal
 
 pub returns-clause-values : goal.returns-clause-values
 returns-clause-values c =
-    each_is (λ v. sided c.args.swapped (arith_value c.args.op) v (plain_value (number_of c.args.n))) (value_of c.args.expr.now) (λ row. sided c.args.swapped (arith_value c.args.op) (value_of c.args.expr.now row) (plain_value (number_of c.args.n))) c.args.chunk.now.rows
+    each_is (λ v. sided c.args.swapped (arith_value c.args.op) v (plain_value (number_of c.args.n)))
+    (value_of c.args.expr.now) (λ row. sided c.args.swapped (arith_value c.args.op)
+    (value_of c.args.expr.now row) (plain_value (number_of c.args.n))) c.args.chunk.now.rows
     c.in_ok-column.ensures.values c.column_at.ensures.values (λ row. refl)
