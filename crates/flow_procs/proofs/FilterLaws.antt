@@ -3,11 +3,15 @@ use Rattle.flow_procs.proofs.Imports.{Bool, Cond, IsTypedCond, List, Row, Some, 
 use Rattle.query_model.specs.declared.processor_spec.Spec.TheVariants as spec
 
 -- rows kept by a mask of a condition's truths are those at which it is true
-kept-filter : (c : Cond) (rows : List Row) → kept (map (truth_of c) rows) rows ≡ filter (holds c) rows
+kept-filter : (c : Cond) (rows : List Row)
+    → kept (map (truth_of c) rows) rows ≡ filter (holds c) rows
 kept-filter c [] = refl
 kept-filter c (row ∷ rows) = ap (λ l. cond (truth_of c row) (row ∷ l) l) (kept-filter c rows)
 
-pub takes : (c : Cond) (i : ℕ) (t u : Table) (mask : List Bool) → i ≡ 0 → IsTypedCond t.types c → mask ≡ map (truth_of c) t.rows → u.types ≡ t.types → u.rows ≡ kept mask t.rows → Takes (spec.Filter c) idle_own i t idle_own (Some u)
+pub takes : (c : Cond) (i : ℕ) (t u : Table) (mask : List Bool) → i ≡ 0 → IsTypedCond t.types c
+    → mask ≡ map (truth_of c) t.rows → u.types ≡ t.types → u.rows ≡ kept mask t.rows
+    → Takes (spec.Filter c) idle_own i t idle_own (Some u)
 takes c i t u mask z typed m types rows =
-    takes-each (spec.Filter c) (filter (holds c)) (filter_maker c) idle_own i t (Some u) z (λ fits. rows ∙ ap (λ l. kept l t.rows) m ∙ kept-filter c t.rows)
+    takes-each (spec.Filter c) (filter (holds c)) (filter_maker c) idle_own i t (Some u) z
+    (λ fits. rows ∙ ap (λ l. kept l t.rows) m ∙ kept-filter c t.rows)
     (λ ins pulled. record { pulled = rw types pulled; fits = rw types typed }) tt

@@ -24,5 +24,5 @@ numbers_order end rows = record {
 pub numbers_shelled : (end rows : ℕ) → IsShelled (Spec.Numbers end rows)
 numbers_shelled end rows =
     shelled-of (Spec.Numbers end rows) 0 refl
-    (record { ports = λ growth m n h. h; counts = λ growth m n h. h })
+    (record { ports = λ growth m n h. h })
     (numbers_order end rows) (λ p ins outs uses h. h) (λ p ins outs seen uses h. h)

@@ -13,5 +13,5 @@ expression_maker items = record {
 pub expression_shelled : (items : List Expr) → IsShelled (Spec.Expression items)
 expression_shelled items =
     shelled-through (Spec.Expression items) (map (item_row items)) (expression_maker items)
-    (record { ports = λ growth m n h. h; counts = λ growth m n h. h })
+    (record { ports = λ growth m n h. h })
     (λ p ins outs h. h) (λ p ins outs h. h) (λ w e. (ap (λ x. x.unmade) e, ap (λ x. x.source) e))

@@ -13,5 +13,5 @@ filter_maker c = record {
 pub filter_shelled : (c : Cond) → IsShelled (Spec.Filter c)
 filter_shelled c =
     shelled-through (Spec.Filter c) (filter (holds c)) (filter_maker c)
-    (record { ports = λ growth m n h. h; counts = λ growth m n h. h })
+    (record { ports = λ growth m n h. h })
     (λ p ins outs h. h) (λ p ins outs h. h) (λ w e. (ap (λ x. x.unmade) e, ap (λ x. x.source) e))

@@ -14,5 +14,5 @@ limit_order span = record {
 pub limit_shelled : (span : Span) → IsShelled (Spec.Limit span)
 limit_shelled span =
     shelled-of (Spec.Limit span) 1 refl
-    (record { ports = λ growth m n h. h; counts = λ growth m n h. h }) (limit_order span)
+    (record { ports = λ growth m n h. h }) (limit_order span)
     (λ p ins outs uses h. h) (λ p ins outs seen uses h. h)

@@ -12,7 +12,8 @@ use std::mem::replace;
 /// Gathers the chunks of its input, in order, until they are taken.
 pub type Collect = Shell<Gathering>;
 
-/// A collector inside its shell. It has room for one chunk more, which may be handed out before it is worked.
+/// A collector inside its shell. It has room for one chunk more, which may be handed out before it
+/// is worked.
 #[derive(Drop)]
 pub struct Gathering {
     chunks: Vec<Chunk>,
@@ -36,7 +37,8 @@ impl Kernel for Gathering {
 
     ghost shelled = { λ k. collect_shelled };
 
-    ghost uses = { λ k i unworked made e m. collect_uses k.chunks.items k.handed_out i unworked made e (m refl) };
+    ghost uses = { λ k i unworked made e m. collect_uses k.chunks.items k.handed_out i unworked made
+        e (m refl) };
 
     fn kind() -> Kind {
         Kind::Collect

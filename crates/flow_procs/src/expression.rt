@@ -7,7 +7,8 @@ use query_model::checked::Expr;
 use query_model::processor_spec::{Kind, Spec};
 use std::alloc::Global;
 
-/// Makes of each row the row of its items' values. Each item is evaluated over a whole chunk, column by column.
+/// Makes of each row the row of its items' values. Each item is evaluated over a whole chunk,
+/// column by column.
 pub type Expression = Shell<Evaluating>;
 
 /// An expression inside its shell.
