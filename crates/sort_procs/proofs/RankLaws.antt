@@ -83,17 +83,20 @@ eight-bytes bytes h = (
 pub int-rank : (xs : List ℤ) (i r : ℕ) (d : ℤ) → i < length (map Int xs)
     → pos r ≡ get_or xs i d +ℤ pos (2 ^ 63) → IsValueRank (value_at (map Int xs) i) r
 int-rank xs i r d lt h =
-    subst (λ v. IsValueRank v r) (sym (get_or-map Int xs i d (Text []) (let l = length-map xs Int in omega (arith, l, lt)))) h
+    subst (λ v. IsValueRank v r) (sym
+    (get_or-map Int xs i d (Text []) (let l = length-map xs Int in omega (arith, l, lt)))) h
 
 pub uint-rank : (xs : List ℕ) (i r d : ℕ) → i < length (map UInt xs) → r ≡ get_or xs i d
     → IsValueRank (value_at (map UInt xs) i) r
 uint-rank xs i r d lt h =
-    subst (λ v. IsValueRank v r) (sym (get_or-map UInt xs i d (Text []) (let l = length-map xs UInt in omega (arith, l, lt)))) h
+    subst (λ v. IsValueRank v r) (sym
+    (get_or-map UInt xs i d (Text []) (let l = length-map xs UInt in omega (arith, l, lt)))) h
 
 pub text-rank : (xs : List (List ℕ)) (i r : ℕ) (d : List ℕ) → i < length (map Text xs)
     → IsValueRank (Text (get_or xs i d)) r → IsValueRank (value_at (map Text xs) i) r
 text-rank xs i r d lt h =
-    subst (λ v. IsValueRank v r) (sym (get_or-map Text xs i d (Text []) (let l = length-map xs Text in omega (arith, l, lt)))) h
+    subst (λ v. IsValueRank v r) (sym
+    (get_or-map Text xs i d (Text []) (let l = length-map xs Text in omega (arith, l, lt)))) h
 
 ints-less : (a b : ℤ) (r s : ℕ) → pos r ≡ a +ℤ pos (2 ^ 63) → pos s ≡ b +ℤ pos (2 ^ 63) → r < s
     → int_cmp a b ≡ Less
@@ -189,7 +192,8 @@ alike [] t i j fit agree a b = tt
 alike (key ∷ keys) t i j fit agree a b =
     let c = key.column in
     let all = column_fits t.types t.rows c column.Int64 fit (agree 0 key (omega arith)).0 in
-    let at : (k : ℕ) → k < length t.rows → type_of (value_at (row_at t.rows k) c) ≡ get_or t.types c column.Int64 =
+    let at : (k : ℕ) → k < length t.rows
+    → type_of (value_at (row_at t.rows k) c) ≡ get_or t.types c column.Int64 =
     (λ k lt. let f = (λ (row : Row). value_at row c) in
     subst (λ v. type_of v ≡ get_or t.types c column.Int64) (get_or-map f t.rows k [] (Text []) lt)
     (all k (Text []) (let l = length-map t.rows f in omega (arith, l, lt)))) in
@@ -208,7 +212,8 @@ sorts keys t old new fit agree places ranked same sorted =
       within = λ k d lt. let h = all k d lt in h.within;
       same = subst (λ l. IsPermutation l (rows_at t.rows new))
           (sym (map-map (row_at t.rows) place_of old) ∙ ap (map (row_at t.rows)) places
-          ∙ all-places t.rows (length t.rows) (omega arith) ∙ take_all (length t.rows) t.rows (omega arith))
+          ∙ all-places t.rows (length t.rows) (omega arith)
+          ∙ take_all (length t.rows) t.rows (omega arith))
           (IsPermutation-map f old new same);
       in_order = λ k d low high.
           let long = length-map new f in

@@ -99,8 +99,10 @@ module _ (order : SortSpec) where
         → IsTrue (nat_lt 0 n) ↔ (0 < length (rows_left keys sorted places next rows.rows))
     has-left true n e count = absurd (cc)
     has-left false n e count =
-        let l = length_permutation _ _ (ordered-same lt (rows-ordered keys) rows.rows) in
-        (λ t. omega (arith, ltb-true 0 n t, count, l), λ some. lt-ltb 0 n (omega (arith, some, count, l)))
+        let l = length_permutation _ _ (ordered-same lt (rows-ordered keys) rows.rows) in (
+          λ t. omega (arith, ltb-true 0 n t, count, l),
+          λ some. lt-ltb 0 n (omega (arith, some, count, l)),
+        )
 
     pub none-made : (ended sorted made : Bool)
         → IsTrue made ↔ (0 < length (own ended sorted).unmade) → made ≡ false

@@ -39,5 +39,5 @@ sort_order order = record {
 pub sort_shelled : (order : SortSpec) → IsShelled (spec.Sort order)
 sort_shelled order =
     shelled-of (spec.Sort order) 1 refl
-    (record { ports = λ growth m n h. h; counts = λ growth m n h. h }) (sort_order order)
+    (record { ports = λ growth m n h. h }) (sort_order order)
     (λ p ins outs uses h. h) (λ p ins outs seen uses h. h)

@@ -48,7 +48,8 @@ impl Kernel for Merging {
 
     ghost kind_is = { kind.MergeSorted };
 
-    ghost state = { λ k. kernel_of kind.MergeSorted (spec.MergeSorted k.order) (merging_own k.heads.items) };
+    ghost state = { λ k. kernel_of kind.MergeSorted (spec.MergeSorted k.order)
+        (merging_own k.heads.items) };
 
     ghost open_to = { λ k. is_open_at k.heads.items };
 

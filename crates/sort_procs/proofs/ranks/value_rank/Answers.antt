@@ -5,7 +5,8 @@ use Rattle.sort_procs.proofs.ranks.value_rank.Goals as goal
 pub returns-in-Int64 : goal.returns-in-Int64
 returns-in-Int64 c =
     let z : to_z w64 (of_z w64 c.index.result.now) ≡ c.index.result.now = search rules in
-    rw c.in-Int64.is (int-rank c.in-Int64.numbers.items c.args.i c.int_rank.result c.index.result.now
+    rw c.in-Int64.is
+    (int-rank c.in-Int64.numbers.items c.args.i c.int_rank.result c.index.result.now
     (rw c.in-Int64.is at c.requires)
     (c.int_rank.ensures ∙ ap (λ x. x +ℤ pos (2 ^ 63)) (z ∙ c.index.ensures)))
 

@@ -13,5 +13,6 @@ returns-in-Ok-clause-puts c =
 pub places_in_order-requires : goal.places_in_order-requires
 places_in_order-requires c =
     let s = c.args.self.now in
-    rw c.as_slice.ensures (agree s.order s.ended s.sorted s.places.items s.next s.rows s.typed s.keyed
+    rw c.as_slice.ensures
+    (agree s.order s.ended s.sorted s.places.items s.next s.rows s.typed s.keyed
     c.if-self.false c.requires.some)
