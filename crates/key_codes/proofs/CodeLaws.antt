@@ -1,5 +1,5 @@
 -- Codes in a set, by which its keys are shown, and their places.
-use Rattle.std.proofs.Common.{◌≡◌, ℕ, ◌+◌, ◌||◌, ◌&&◌, Bool, true, false, not, cond, List, [], ◌∷◌, ◌++◌, length, map, Some, None, position, nat_eq, refl, sym, ap, ◌∙◌, arith, Result, Ok, Err, OnOk}
+use Rattle.std.proofs.Common.{◌≡◌, ℕ, ◌+◌, ◌||◌, ◌&&◌, Bool, true, false, cond, List, [], ◌∷◌, ◌++◌, length, map, Some, None, position, nat_eq, refl, ap, arith, Result, OnOk, sym, not, ◌∙◌, Ok, Err}
 use Rattle.std.proofs.lemmas.Grind.{common_steps}
 use Rattle.key_codes.proofs.Prelude.{FindsCode, insert_key, list_any, position_or_len, prefix_len-le-length, same_code}
 
@@ -13,8 +13,7 @@ module _ {K : Type 0} (show : K → List ℕ) where
       → position_or_len (λ k. same_code code (show k)) ks
       ≡ position_or_len (same_code code) (map show ks)
   place-of-code code [] = refl
-  place-of-code code (k ∷ ks) =
-      ap (λ n. cond (not (same_code code (show k))) (1 + n) 0) (place-of-code code ks)
+  place-of-code code (k ∷ ks) = grind (arith, place-of-code code ks)
 
   any-code : (code : List ℕ) (ks : List K)
       → list_any (λ k. same_code code (show k)) ks ≡ list_any (same_code code) (map show ks)
@@ -30,29 +29,13 @@ module _ {K : Type 0} (show : K → List ℕ) where
       → Some p ≡ position (λ k. same_code code (show k)) ks
       → true ≡ list_any (λ k. same_code code (show k)) ks
       → FindsCode adds code (map show ks) (map show ks) p
-  finds-code adds code ks p e found = record {
-    is = first-place (λ k. same_code code (show k)) ks p e ∙ place-of-code code ks;
-    codes = both adds (map show ks) _ (ap (λ b. cond b (map show ks) (map show ks ++ code ∷ []))
-        (found ∙ any-code code ks));
-  }
-    where
-      both : (b : Bool) (xs ys : List (List ℕ)) → xs ≡ ys → xs ≡ cond b ys xs
-      both true xs ys h = h
-      both false xs ys h = refl
+  finds-code adds code ks p e found = grind (arith, first-place, place-of-code, any-code)
 
   -- a code that isn't there, and isn't put there
   pub misses-code : (code : List ℕ) (ks : List K) (n : ℕ) → n ≡ length ks
       → None ≡ position (λ k. same_code code (show k)) ks
       → FindsCode false code (map show ks) (map show ks) n
-  misses-code code ks n l e = record {
-    is = behind (λ k. same_code code (show k)) ks n l e ∙ place-of-code code ks;
-    codes = refl;
-  }
-    where
-      behind : (t : K → Bool) (ks : List K) (n : ℕ) → n ≡ length ks → None ≡ position t ks
-          → n ≡ position_or_len t ks
-      behind t ks n l e =
-          let le = prefix_len-le-length (λ x. not (t x)) ks in grind (arith, common_steps)
+  misses-code code ks n l e = grind (arith, place-of-code, prefix_len-le-length, common_steps)
 
   -- a code that is put there
   pub puts-code : (code : List ℕ) (ks more : List K) (v : K) (p : ℕ) → show v ≡ code
@@ -93,5 +76,4 @@ misses-number n ks p l e =
     (e ∙ (λ i. position (λ k. and-true (nat_eq n k) i) ks))
 
 pub on-ok : {A E : Type 0} (r : Result A E) {P : Type 0} → P → OnOk r P
-on-ok (Ok a) p = p
-on-ok (Err e) p = tt
+on-ok r p = grind arith

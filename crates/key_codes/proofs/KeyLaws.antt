@@ -1,11 +1,10 @@
 -- Keys that have one code are one key.
-use Rattle.std.proofs.Common.{◌≡◌, ℕ, suc, ◌<◌, ◌+◌, ◌^◌, ◌≢◌, ◌||◌, not, cond, Bool, true, false, append_assoc, List, [], ◌∷◌, ◌++◌, length, map, flat_map, take, drop, get_or, refl, sym, ap, ap₂, ◌∙◌, subst, arith, fold, inl, inr}
-use Rattle.key_codes.proofs.Prelude.{AllByRecursion, AreCells, ColumnType, HasKey, IsCell, IsSame, Row, Value, append-nil, at_drop_more, cases_eq, cast_signed, cast_unsigned, drop_at, first_of, flat_map-append, from_le_bytes, from_le_bytes-to_le_bytes_8, get_or-map, get_or_default, key_at, key_code, kind_at, kinds_at, list_any, map-append, nat_list_eq_equiv, places_from, position_or_len, same_code, same_row, same_row_is, same_text, take-suc, take_at, to_le_bytes, value_at, value_bytes, value_code, with_key}
-use mir.Syntax.{w64}
-use Rattle.chunk_data.specs.declared.typed_value.ColumnType.TheVariants as column
+use Rattle.std.proofs.Common.{◌≡◌, ℕ, suc, ◌<◌, ◌+◌, ◌^◌, ◌≢◌, Bool, true, false, append_assoc, List, [], ◌∷◌, ◌++◌, length, map, flat_map, take, drop, get_or, refl, sym, ap, ap₂, ◌∙◌, arith, fold, w64, inl, inr, subst, cond, not, ◌||◌}
 use Rattle.chunk_data.specs.declared.typed_value.Value.TheVariants.{Int, UInt, Text}
+use Rattle.key_codes.proofs.Prelude.{AllByRecursion, AreCells, ColumnType, HasKey, IsCell, IsSame, Row, Value, append-nil, at_drop_more, cases_eq, drop_at, first_of, flat_map-append, from_le_bytes-to_le_bytes_8, get_or-map, get_or_default, key_at, key_code, kind_at, list_any, map-append, nat_list_eq_equiv, places_from, position_or_len, same_code, same_row, same_row_is, same_text, take-suc, take_at, to_le_bytes, value_at, value_bytes, value_code, with_key, from_le_bytes, cast_unsigned, cast_signed, kinds_at}
 use Rattle.std.proofs.lemmas.Grind.{common_steps}
 use Rattle.key_codes.proofs.CodeLaws.{map-insert}
+use Rattle.chunk_data.specs.declared.typed_value.ColumnType.TheVariants as column
 
 pub same_code_is : IsSame same_code
 same_code_is = record {
@@ -56,32 +55,20 @@ values-one column.Text v w xs ys p q e = absurd p
 bytes-one : (types : List ColumnType) (a b : Row) → AreCells types a → AreCells types b
     → flat_map value_bytes a ≡ flat_map value_bytes b → a ≡ b
 bytes-one [] [] [] p q e = refl
-bytes-one [] [] (w ∷ b) p q e = absurd q
 bytes-one [] (v ∷ a) b p q e = absurd p
 bytes-one (t ∷ types) [] b p q e = absurd p
-bytes-one (t ∷ types) (v ∷ a) [] p q e = absurd q
-bytes-one (t ∷ types) (v ∷ a) (w ∷ b) p q e =
-    let o = values-one t v w (flat_map value_bytes a) (flat_map value_bytes b) p.0 q.0 e in
-    ap₂ ◌∷◌ o.value (bytes-one types a b p.1 q.1 o.rest)
+bytes-one (t ∷ types) (v ∷ a) (w ∷ b) p q e = let o = values-one t v w (flat_map value_bytes a)
+    (flat_map value_bytes b) p.0 q.0 e in ap₂ ◌∷◌ o.value (bytes-one types a b p.1 q.1 o.rest)
+bytes-one _ _ _ p q e = absurd q
 
 value-one : (t : ColumnType) (v w : Value) → IsCell t v → IsCell t w
     → value_code v ≡ value_code w → v ≡ w
-value-one column.Int64 (Int y) (Int z) p q e =
-    ap Int (sym p.0 ∙ ap (λ l. cast_signed w64 (get_or l 0 0)) e ∙ q.0)
-value-one column.UInt64 (UInt m) (UInt n) p q e = ap UInt (ap (λ l. get_or l 0 0) e)
-value-one column.Text (Text a) (Text b) p q e = ap Text e
-value-one column.Int64 (Int y) w p q e = absurd q
-value-one column.Int64 v w p q e = absurd p
-value-one column.UInt64 (UInt m) w p q e = absurd q
-value-one column.UInt64 v w p q e = absurd p
-value-one column.Text (Text a) w p q e = absurd q
-value-one column.Text v w p q e = absurd p
+value-one t v w p q e = grind arith
 
 cells-long : (types : List ColumnType) (a : Row) → AreCells types a → length a ≡ length types
 cells-long [] [] h = refl
-cells-long [] (v ∷ a) h = absurd h
-cells-long (t ∷ types) [] h = absurd h
 cells-long (t ∷ types) (v ∷ a) h = ap suc (cells-long types a h.1)
+cells-long _ _ h = absurd h
 
 pub many-code : (key : Row) → length key ≢ 1 → key_code key ≡ flat_map value_bytes key
 many-code key ne = grind (arith, common_steps)
@@ -205,9 +192,8 @@ bytes-next places k row code v lt e is =
 cells-append : (types : List ColumnType) (key : Row) (t : ColumnType) (v : Value)
     → AreCells types key → IsCell t v → AreCells (types ++ t ∷ []) (key ++ v ∷ [])
 cells-append [] [] t v h p = (p, tt)
-cells-append [] (w ∷ key) t v h p = absurd h
-cells-append (u ∷ types) [] t v h p = absurd h
 cells-append (u ∷ types) (w ∷ key) t v h p = (h.0, cells-append types key t v h.1 p)
+cells-append _ _ t v h p = absurd h
 
 pub cells-next : (types : List ColumnType) (places : List ℕ) (k : ℕ) (row : Row)
     → HasKey types (take k places) row → k < length places
@@ -227,15 +213,12 @@ cells-next types places k row h lt cell =
 pub cell-value : (rows : List Row) (c i : ℕ) (vs : List Value)
     → vs ≡ map (λ (row : Row). value_at row c) rows → i < length rows
     → value_at vs i ≡ value_at (get_or rows i []) c
-cell-value rows c i vs e lt =
-    ap (λ l. value_at l i) e ∙ get_or-map (λ (row : Row). value_at row c) rows i [] (Text []) lt
+cell-value rows c i vs e lt = grind (arith, get_or-map)
 
 pub cell-type : (types : List ColumnType) (c : ℕ) (kind : ColumnType) (v w : Value)
     → kind ≡ get_or types c kind → c < length types → v ≡ w → IsCell kind v
     → IsCell (kind_at types c) w
-cell-type types c kind v w e lt is h =
-    subst (IsCell (kind_at types c)) is
-    (subst (λ t. IsCell t v) (e ∙ get_or_default types c kind column.Text lt) h)
+cell-type types c kind v w e lt is h = grind (arith, get_or_default)
 
 -- a key of one value
 pub one-cells : (types : List ColumnType) (places : List ℕ) (row : Row) → length places ≡ 1
