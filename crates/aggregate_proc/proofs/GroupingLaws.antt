@@ -1,5 +1,5 @@
 -- A grouping keeps what its kind says of the chunks that it worked.
-use Rattle.aggregate_proc.proofs.Prelude.{All, AllByRecursion, AreGrouped, AreInputsOver, ArePortsOf, Begins, ColumnType, FitsTypes, GroupSpec, GroupsMore, HasNotedEnd, IsAtMost, IsNext, IsPermutation-append_left, IsPermutation-same, IsPermutation-trans, IsTableFor, Lists, Makes, MakesTypes, Means, NotesEnd, Offer, OfferComes, Offers, OwnState, Picture, Reading, Row, Table, TableView, Takes, all-more, append-nil, calls_for, chunk_rows, distinct, eqb-true, gathering_own, giving_own, group_types, grouped_by, groups_for, in_count, key_of, kinds_of, length-append, length-drop, length-take, most_rows, no-rows, no_lists, open_for, recursion_from_All, rows-here, rows_in, spec_for, take-append-drop, types_for, whole_for, with_chunk, worked_rows, every-append, EndIsNoted, Spec, Bool, IsPermutation, List, None, Some, [], ap, append_assoc, arith, drop, drop-drop, false, inl, inr, length, max, refl, subst, sym, take, true, ℕ, ◌++◌, ◌+◌, ◌<◌, ◌∙◌, ◌≡◌, ◌≤◌, ◌⊎◌}
+use Rattle.aggregate_proc.proofs.Prelude.{All, AllByRecursion, AreGrouped, AreInputsOver, ArePortsOf, Begins, ColumnType, FitsTypes, GroupSpec, GroupsMore, HasNotedEnd, IsAtMost, IsNext, IsPermutation-append_left, IsPermutation-same, IsPermutation-trans, IsTableFor, Lists, Makes, MakesTypes, Means, NotesEnd, Offer, OfferComes, Offers, OwnState, Picture, Reading, Row, Table, TableView, Takes, all-more, append-nil, calls_for, chunk_rows, distinct, eqb-true, gathering_own, giving_own, group_types, grouped_by, groups_for, in_count, key_of, kinds_of, length-append, length-drop, length-take, most_rows, no-rows, no_lists, open_for, recursion_from_All, rows-here, rows_in, spec_for, take-append-drop, types_for, unread, whole_for, with_chunk, worked_rows, every-append, EndIsNoted, Spec, Bool, IsPermutation, List, None, Some, [], ap, append_assoc, arith, drop, drop-drop, false, inl, inr, length, max, refl, subst, sym, take, true, ℕ, ◌++◌, ◌+◌, ◌<◌, ◌∙◌, ◌≡◌, ◌≤◌, ◌⊎◌}
 use Rattle.aggregate_proc.proofs.CallLaws.{calls-are, given-whole, groups-by}
 use Rattle.proc_shell.specs.declared.kernel.Offer.TheVariants as offer
 
@@ -63,7 +63,22 @@ module _ (merges : Bool) (g : GroupSpec) where
   is = group-kind merges g
 
   pub begins : (t : TableView) → rows_in t ≡ [] → Begins s s (table_own t)
-  begins t none = grind (arith, is, IsPermutation-same, none-worked, append-nil, none-grouped)
+  begins t none = record {
+    spec = refl;
+    nothing = λ files. is.into (unread files) (table_own t)
+        no_lists no_lists [] (record {
+          gathering = λ e. record {
+            nothing_made = refl;
+            nothing_unmade = refl;
+            order = [];
+            same = IsPermutation-same _ _ (none-worked merges);
+            fit = tt;
+            groups_are = append-nil (rows_in t) ∙ none ∙ sym (none-grouped merges g);
+          };
+          grouped = λ e. absurd (cc);
+        });
+    unended = λ i n. absurd (let e = is.noting (table_own t) i n in cc);
+  }
 
   -- ---- a chunk more
 

@@ -25,12 +25,12 @@ merge_order g = record {
 pub grouping_shelled : (merges : Bool) (g : GroupSpec) → IsShelled (spec_for merges g)
 grouping_shelled false g =
     shelled-of (spec.PartialAggregate g) 1 refl
-    (record { ports = λ growth m n h. h; counts = λ growth m n h. h }) (partial_order g)
+    (record { ports = λ growth m n h. h }) (partial_order g)
     (λ p ins outs uses h. h) (λ p ins outs seen uses h. h)
 grouping_shelled true g =
-    shelled-plain (spec.MergeAggregate g) refl (λ growth m n h. h) (λ growth m n h. h)
-    (λ kept m n had h stands. stands) (λ ins enough m n h. h)
-    (pushes-in-order (spec.MergeAggregate g) (merge_order g) (λ m n h. h))
+    shelled-plain (spec.MergeAggregate g) refl (λ growth kept m n had h stands. stands)
+    (λ ins enough growth m n h. h)
+    (pushes-in-order (spec.MergeAggregate g) (merge_order g) (λ growth m n h. h))
     (λ p ins outs uses h. h) (λ p ins outs seen uses h. h)
 
 pub grouping_kind : (merges : Bool) (g : GroupSpec) → kind_of (spec_for merges g) ≡ kind_for merges
