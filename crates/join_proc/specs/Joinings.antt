@@ -93,9 +93,10 @@ join_order join = record {
 
 pub join_shelled : (join : JoinSpec) → IsShelled (spec.HashJoin join)
 join_shelled join =
-    shelled-plain (spec.HashJoin join) refl (λ growth m n h. h) (λ growth m n h. h)
-    (λ kept m n had h stands. (h.0 ∙ sym had.0, h.1 ∙ sym had.1)) (λ ins enough m n h. h.1)
-    (pushes-in-order (spec.HashJoin join) (join_order join) (λ m n h. h.1))
+    shelled-plain (spec.HashJoin join) refl
+    (λ growth kept m n had h stands. (h.0 ∙ sym had.0, h.1 ∙ sym had.1))
+    (λ ins enough growth m n h. h.1)
+    (pushes-in-order (spec.HashJoin join) (join_order join) (λ growth m n h. h.1))
     (λ p ins outs uses h. h) (λ p ins outs seen uses h. h)
 
 abbrev pub state_of : JoiningView → KernelState
