@@ -1,5 +1,5 @@
 -- A run of bytes that fail p, seen a vector at a time through the mask of those that pass it.
-use Rattle.std.proofs.Common.{◌≡◌, ℕ, ◌+◌, ◌*◌, ◌<◌, ◌≤◌, Bool, true, false, not, cond, eqb, List, [], ◌∷◌, map, length, drop, refl, sym, ap, ◌∙◌, arith}
+use Rattle.std.proofs.Common.{◌≡◌, ℕ, ◌+◌, ◌*◌, ◌<◌, ◌≤◌, Bool, not, cond, eqb, List, [], ◌∷◌, map, length, drop, refl, ap, ◌∙◌, arith, true, false, sym}
 use Rattle.csv_rows.proofs.Prelude.{chunk, chunk-drop, eq-eqb, leading_from_mask_l, length-chunk, length-drop, mask_l, ne_eqb, prefix_len, prefix_len-le-length, trailing_mask_l}
 use Rattle.std.proofs.lemmas.List.Folds.{prefix_len-append}
 use lib.Count.{count_trailing_zeros}
@@ -11,14 +11,12 @@ run_bound q d i h = omega (arith, prefix_len-le-length q (drop i d), length-drop
 
 none_fails : (b : Bool) (n l m : ℕ) → n ≤ l → cond (not b) (1 + n) 0 ≡ 1 + l → (n ≡ l → m ≡ 0)
     → cond b 1 0 + 2 * m ≡ 0
-none_fails true n l m le e ih = let no : ⊥ = omega arith in absurd no
-none_fails false n l m le e ih = let z = ih (omega arith) in omega arith
+none_fails b n l m le e ih = grind arith
 
 all_fail : (p : ℕ → Bool) (xs : List ℕ) → prefix_len (λ x. not (p x)) xs ≡ length xs
     → mask_l (map p xs) ≡ 0
 all_fail p [] e = refl
-all_fail p (x ∷ xs) e = none_fails (p x) _ (length xs) _
-    (prefix_len-le-length (λ y. not (p y)) xs) (omega arith) (all_fail p xs)
+all_fail p (x ∷ xs) e = grind (arith, none_fails, prefix_len-le-length, all_fail p xs)
 
 module _ (p : ℕ → Bool) (d : List ℕ) (i n : ℕ) (room : i + n ≤ length d) where
   split : (b : Bool)

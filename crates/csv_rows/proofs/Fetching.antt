@@ -1,7 +1,6 @@
 -- a file that is fetched block by block
-use Rattle.std.proofs.Common.{◌≡◌, ℕ, ◌+◌, ◌<◌, List, [], ◌++◌, length, take, drop, refl, ap, ap₂, sym, ◌∙◌, arith, length-append, Option, Some, None, cond, ◌∷◌}
+use Rattle.std.proofs.Common.{◌≡◌, ℕ, ◌+◌, ◌<◌, List, [], ◌++◌, length, take, drop, refl, ap, ap₂, sym, ◌∙◌, arith, length-append, Option, Some, ◌∷◌}
 use Rattle.csv_rows.proofs.Prelude.{IfSome, IsSome, drop-take, take-append-drop, take-take, take_all}
-use Rattle.std.specs.Str.{bytes_eq}
 use Rattle.outside_io.specs.declared.entries.FileEntry.{FileEntry}
 use Rattle.outside_io.specs.Told.{files_of, file_bytes, moved_by, GivesNext, StandsAtEnd}
 use Rattle.query_model.specs.Database.{file_bytes as pair_bytes}
@@ -9,21 +8,15 @@ use Rattle.csv_rows.specs.Fetching.{HoldsFront, IsFile, IsLongFile}
 
 -- a fact of what is told, if anything is
 if_told : {X : Type 0} (o : Option X) {P : X → Type 0} → ((x : X) → o ≡ Some x → P x) → IfSome o P
-if_told None h = tt
-if_told (Some x) h = h x refl
+if_told o h = grind arith
 
 some_such : {X : Type 0} (o : Option X) {Q : Type 0} → IsSome o → ((x : X) → o ≡ Some x → Q) → Q
-some_such None s h = absurd cc
-some_such (Some x) s h = h x refl
+some_such o s h = grind arith
 
 -- nothing is held of a file that was just opened
 pub HoldsFront-start : (files : Option (List FileEntry)) (stands : Option (List ℕ × ℕ))
     (path : List ℕ) → stands ≡ Some (path, 0) → HoldsFront files stands path []
-HoldsFront-start files stands path h = record {
-  at = h;
-  front = if_told files (λ all there.
-      if_told (file_bytes all path) (λ content is. (omega arith, refl)));
-}
+HoldsFront-start files stands path h = grind (arith, if_told)
 
 take_both : (a b : ℕ) (xs : List ℕ) → take (a + b) xs ≡ take a xs ++ take b (drop a xs)
 take_both a b xs = sym (take-append-drop a (take (a + b) xs))
@@ -62,15 +55,11 @@ pub HoldsFront-beyond : {files : Option (List FileEntry)} {old : Option (List �
     {path held : List ℕ} {limit : ℕ} → (block : List ℕ) → HoldsFront files old path held
     → GivesNext files old (length block) block → limit < length held + length block
     → IfSome files (λ all. IsSome (file_bytes all path)) → IsLongFile files path limit
-HoldsFront-beyond {files = files} {path = path} block h next beyond found =
-    if_told files (λ all there. some_such (file_bytes all path) (rw there at found) (λ content is.
-    let given = rw (h.at, there, is) at next in
-    record { bytes = content; are = is; long = omega (arith, given.0, beyond) }))
+HoldsFront-beyond block h next beyond found = grind (arith, if_told, some_such)
 
 -- the reader's told bytes are those of the files as pairs
 pub told_as_pairs : (told : List FileEntry) (path : List ℕ)
     → pair_bytes (files_of told) path ≡ file_bytes told path
 unfolding file_bytes
 told_as_pairs [] path = refl
-told_as_pairs (e ∷ told) path =
-    ap (λ o. cond (bytes_eq e.path path) (Some e.bytes) o) (told_as_pairs told path)
+told_as_pairs (e ∷ told) path = grind (arith, told_as_pairs told path)

@@ -1,6 +1,6 @@
 -- Fields by their places.
-use Rattle.std.proofs.Common.{◌≡◌, ℕ, ◌+◌, ◌-◌, ◌<◌, ◌≤◌, ◌==◌, ◌||◌, Bool, true, false, List, [], ◌∷◌, ◌++◌, length, take, drop, get_or, refl, sym, ap, ◌∙◌, arith, append_assoc, length-append}
-use Rattle.csv_rows.proofs.Prelude.{EndsRecord, FieldUpTo, HasMore, SkipsEnds, append-nil, at_mark, dec_lt, default_config, drop-drop, drop_all, drop_more, eqb-true, first_or, is_line_end, is_mark, next_record, no_mark, no_quote, part, prefix_len, records_at, starts_with}
+use Rattle.std.proofs.Common.{◌≡◌, ℕ, ◌+◌, ◌-◌, ◌<◌, ◌≤◌, ◌==◌, ◌||◌, Bool, true, false, List, [], ◌∷◌, ◌++◌, length, take, drop, get_or, sym, ap, ◌∙◌, arith, append_assoc, length-append, refl}
+use Rattle.csv_rows.proofs.Prelude.{EndsRecord, FieldUpTo, HasMore, SkipsEnds, append-nil, at_mark, dec_lt, default_config, drop-drop, drop_all, drop_more, eqb-true, first_or, is_line_end, next_record, no_mark, no_quote, part, prefix_len, records_at, starts_with, is_mark}
 use Rattle.csv.specs.declared.parser.State.TheVariants as st
 use Rattle.csv_rows.proofs.ByteRuns.{run_bound}
 use Rattle.csv_rows.proofs.MachineSteps.{copied, quoted_copies, prefix_stops, plain_run, plain_field, one_more, records_skip, last_in_line, last_of_text}
@@ -9,11 +9,7 @@ use Rattle.csv_rows.proofs.MachineSteps.{copied, quoted_copies, prefix_stops, pl
 run_part : (q : ℕ → Bool) (bytes : List ℕ) (at end : ℕ) → end ≡ at + prefix_len q (drop at bytes)
     → (take (prefix_len q (drop at bytes)) (drop at bytes) ≡ part bytes at end)
     × (drop (prefix_len q (drop at bytes)) (drop at bytes) ≡ drop end bytes)
-run_part q bytes at end e =
-    let size : prefix_len q (drop at bytes) ≡ end - at = omega (arith, e) in (
-      ap (λ n. take n (drop at bytes)) size,
-      drop-drop (prefix_len q (drop at bytes)) at bytes ∙ ap (λ n. drop n bytes) (sym e),
-    )
+run_part q bytes at end e = grind (arith, drop-drop)
 
 -- the byte at a place
 pub first_is : (none : Bool) (c : ℕ) (bytes : List ℕ) (at : ℕ) → at < length bytes
@@ -25,11 +21,7 @@ first_is none c bytes at lt h =
 
 pub first_within : (c : ℕ) (bytes : List ℕ) (at : ℕ) → starts_with c (drop at bytes) ≡ true
     → at < length bytes
-first_within c bytes at h = elim (dec_lt at (length bytes)) [
-  | yes lt ↦ lt
-  | no over ↦ let f : true ≡ false =
-      sym h ∙ ap (starts_with c) (drop_all at bytes (omega (arith, over))) in absurd cc
-]
+first_within c bytes at h = grind (arith, dec_lt, drop_all)
 
 -- a field without quotes, up to the next mark
 pub plain_upto : (bytes : List ℕ) (at end : ℕ) → end ≡ at + prefix_len no_mark (drop at bytes)
@@ -56,18 +48,13 @@ closed_plain : (field : List ℕ) (fields : List (List ℕ)) (xs : List ℕ) →
     → next_record default_config st.AfterQuote fields field xs
     ≡ next_record default_config st.InField fields field xs
 unfolding next_record
-closed_plain field fields [] h = refl
-closed_plain field fields (c ∷ xs) h = rw h refl
+closed_plain field fields xs h = grind arith
 
 -- the quote in front
 pub quoted_starts : (bytes : List ℕ) (at : ℕ) (field : List ℕ) → at < length bytes
     → starts_with 34 (drop at bytes) ≡ true → field ≡ [] → QuotedSoFar bytes at field (at + 1)
 unfolding next_record
-quoted_starts bytes at field lt q e = record {
-  reads = λ fields. rw (first_is false 34 bytes at lt q, e) refl;
-  low = omega arith;
-  high = omega (arith, lt);
-}
+quoted_starts bytes at field lt q e = grind (arith, first_is)
 
 -- the bytes up to the next quote
 quoted_run : {bytes : List ℕ} {at i : ℕ} {field : List ℕ} → (j : ℕ)
@@ -148,18 +135,12 @@ pub skip_more : (bytes : List ℕ) (at i : ℕ) → i < length bytes
     → ((left : ℕ) → records_at left bytes at ≡ records_at left bytes i)
     → is_line_end (get_or bytes i 0) ≡ true
     → (left : ℕ) → records_at left bytes at ≡ records_at left bytes (i + 1)
-skip_more bytes at i lt h e left = h left ∙ rw (drop_more bytes i 0 lt)
-    (records_skip left (get_or bytes i 0) (drop (i + 1) bytes) e)
+skip_more bytes at i lt h e left = grind (arith, drop_more, records_skip)
 
 -- the end of the text ends a record
 pub text_ends : (bytes : List ℕ) (at : ℕ) → at ≤ length bytes → length bytes ≤ at
     → EndsRecord bytes at [] at
-text_ends bytes at le ge =
-    let none : drop at bytes ≡ [] = drop_all at bytes ge in
-    record {
-      ends = λ xs mid fields field begins last. rw none (last_of_text begins (rw none at last));
-      starts = record { within = le; line = λ lt. absurd (omega (arith, lt, ge)) };
-    }
+text_ends bytes at le ge = grind (arith, drop_all, last_of_text)
 
 -- the end of a line ends a record
 pub line_ends : (bytes : List ℕ) (at next : ℕ) → at < length bytes → at_mark (drop at bytes) ≡ true
@@ -208,14 +189,7 @@ pub record MoreSoFar (bytes : List ℕ) (start end count : ℕ) : Type 0 where
 -- no field was read yet
 pub more_none : (bytes : List ℕ) (at : ℕ) → at ≤ length bytes → at_mark (drop at bytes) ≡ true
     → MoreSoFar bytes at at 0
-more_none bytes at le m = record {
-  read = [];
-  many = refl;
-  few = omega arith;
-  within = le;
-  mark = m;
-  goes = λ more next h. h;
-}
+more_none bytes at le m = grind arith
 
 -- one field more
 pub more_next : {bytes field : List ℕ} {start end later count : ℕ} → MoreSoFar bytes start end count

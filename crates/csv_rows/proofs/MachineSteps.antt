@@ -1,6 +1,6 @@
 -- The machine of the `csv` crate, by fields and lines.
-use Rattle.std.proofs.Common.{◌≡◌, inl, inr, ℕ, zero, suc, ◌+◌, ◌==◌, ◌&&◌, Bool, true, false, cond, not, List, [], ◌∷◌, ◌++◌, take, drop, refl, ap, ◌∙◌, arith, append_assoc, Option, Some, None}
-use Rattle.csv_rows.proofs.Prelude.{BeginsField, BeginsFields, FirstRecord, IsSome, Read, and_parts, append-nil, at_end, default_config, ends_at_end, eqb-true, first_or, is_end, is_line_end, is_mark, next_record, no_mark, no_quote, not-true, or_cases, or_parts, prefix_len, records_from, records_next, starts_line, starts_with, state_code, step}
+use Rattle.std.proofs.Common.{◌≡◌, ℕ, zero, suc, ◌+◌, ◌==◌, ◌&&◌, Bool, true, false, cond, not, List, [], ◌∷◌, ◌++◌, take, drop, refl, ap, ◌∙◌, arith, append_assoc, Option, Some, None}
+use Rattle.csv_rows.proofs.Prelude.{BeginsField, BeginsFields, FirstRecord, IsSome, Read, and_parts, append-nil, at_end, default_config, ends_at_end, eqb-true, first_or, is_end, is_line_end, next_record, no_mark, no_quote, not-true, or_cases, or_parts, prefix_len, records_from, records_next, starts_line, starts_with, state_code, step, is_mark}
 use Rattle.csv.specs.declared.parser.State.{State}
 use Rattle.csv.specs.declared.parser.State.TheVariants as st
 use Rattle.csv.specs.declared.parser.Action.TheVariants as act
@@ -33,10 +33,7 @@ copied s q h fields field (c ∷ xs) =
 
 plain_copies : (c : ℕ) → no_mark c ≡ true
     → step default_config st.InField c ≡ (st.InField, act.Copy)
-plain_copies c h =
-    let marks = or_parts (c == 44) _ (not-true _ h) in
-    let ends = or_parts (c == 10) _ marks.1 in
-    rw (marks.0, ends.1, ends.0) refl
+plain_copies c h = grind (arith, or_parts, not-true)
 
 pub quoted_copies : (c : ℕ) → no_quote c ≡ true
     → step default_config st.InQuoted c ≡ (st.InQuoted, act.Copy)
@@ -67,8 +64,7 @@ start_plain : (fields : List (List ℕ)) (field xs : List ℕ) → starts_with 3
     → next_record default_config st.StartField fields field xs
     ≡ next_record default_config st.InField fields field xs
 unfolding next_record
-start_plain fields field [] h = refl
-start_plain fields field (c ∷ xs) h = rw h refl
+start_plain fields field xs h = grind arith
 
 -- a field without quotes
 pub plain_field : (xs : List ℕ) → starts_with 34 xs ≡ false
@@ -84,19 +80,12 @@ after_return : (fields : List (List ℕ)) (field xs : List ℕ)
     ≡ next_record default_config st.StartRecord fields field xs
 unfolding next_record
 after_return fields field [] = refl
-after_return fields field (c ∷ xs) = go (c == 10) refl
-  where
-    go : (b : Bool) → (c == 10) ≡ b → next_record default_config st.AfterCr fields field (c ∷ xs)
-        ≡ next_record default_config st.StartRecord fields field (c ∷ xs)
-    go true e = let is : c ≡ 10 = eqb-true c 10 e in rw is refl
-    go false e = rw e refl
+after_return fields field (c ∷ xs) = grind (arith, eqb-true)
 
 records_from_return : (n : ℕ) (xs : List ℕ) → records_from default_config n st.AfterCr xs
     ≡ records_from default_config n st.StartRecord xs
 unfolding records_from
-records_from_return zero xs = refl
-records_from_return (suc n) xs =
-    ap (records_next (records_from default_config n)) (after_return [] [] xs)
+records_from_return a xs = grind (arith, after_return)
 
 -- the end of a line in front of a record is passed over
 skip_line_end : (fields : List (List ℕ)) (field : List ℕ) (c : ℕ) (xs : List ℕ)
@@ -104,32 +93,24 @@ skip_line_end : (fields : List (List ℕ)) (field : List ℕ) (c : ℕ) (xs : Li
     → next_record default_config st.StartRecord fields field (c ∷ xs)
     ≡ next_record default_config st.StartRecord fields field xs
 unfolding next_record
-skip_line_end fields field c xs h = elim (or_cases (c == 10) _ h) [
-  | inl feed ↦ rw (eqb-true c 10 feed) refl
-  | inr return ↦ rw (eqb-true c 13 return) refl
-]
+skip_line_end fields field c xs h = grind (arith, or_cases, eqb-true)
 
 -- the end of a line in front of the first record is passed over
 pub records_skip : (n c : ℕ) (xs : List ℕ) → is_line_end c ≡ true
     → records_from default_config n st.StartRecord (c ∷ xs)
     ≡ records_from default_config n st.StartRecord xs
 unfolding records_from
-records_skip zero c xs h = refl
-records_skip (suc n) c xs h =
-    ap (records_next (records_from default_config n)) (skip_line_end [] [] c xs h)
+records_skip n c xs h = grind (arith, skip_line_end)
 
 -- no bytes, no records
 pub records_nil : (n : ℕ) → records_from default_config n st.StartRecord [] ≡ []
 unfolding next_record records_from
-records_nil zero = refl
-records_nil (suc n) = refl
+records_nil n = grind arith
 
 -- a record starts as a field does
 pub record_starts : (xs : List ℕ) → starts_line xs ≡ true → BeginsFields xs [] xs
 unfolding next_record
-record_starts [] h = absurd cc
-record_starts (c ∷ xs) h = let ends = or_parts (c == 10) _ (not-true _ h) in
-    record { reads = rw (ends.0, ends.1) refl }
+record_starts xs h = grind (arith, or_parts, not-true)
 
 -- a field, and a comma behind it
 pub one_more : {xs mid rest : List ℕ} {fields : List (List ℕ)} {field : List ℕ}
@@ -144,29 +125,21 @@ record_from : (xs rest : List ℕ) (fields : List (List ℕ)) (s : State)
     → next_record default_config st.StartRecord [] [] xs ≡ Some (fields, s, rest)
     → FirstRecord xs fields rest
 unfolding records_from
-record_from xs rest fields s same e = record {
-  reads = λ n. ap (records_next (records_from default_config n)) e ∙ ap (λ l. fields ∷ l) (same n);
-}
+record_from xs rest fields s same e = grind arith
 
 -- a field, and the end of a line behind it
 pub last_in_line : {xs mid rest : List ℕ} {fields : List (List ℕ)} {field : List ℕ} → (c : ℕ)
     → is_line_end c ≡ true → BeginsFields xs fields mid → BeginsField mid field (c ∷ rest)
     → FirstRecord xs (fields ++ field ∷ []) rest
 unfolding next_record
-last_in_line {xs = xs} {rest = rest} {fields = fields} c h a b = elim (or_cases (c == 10) _ h) [
-  | inl feed ↦ record_from xs rest _ st.StartRecord (λ n. refl) (a.reads ∙ b.reads fields
-      ∙ rw (eqb-true c 10 feed) refl)
-  | inr return ↦ record_from xs rest _ st.AfterCr (λ n. records_from_return n rest) (a.reads
-      ∙ b.reads fields ∙ rw (eqb-true c 13 return) refl)
-]
+last_in_line c h a b = grind (arith, or_cases, record_from, eqb-true, records_from_return)
 
 -- a field, and the end of the text behind it
 pub last_of_text : {xs mid : List ℕ} {fields : List (List ℕ)} {field : List ℕ}
     → BeginsFields xs fields mid → BeginsField mid field []
     → FirstRecord xs (fields ++ field ∷ []) []
 unfolding next_record
-last_of_text {xs = xs} {fields = fields} {field = field} a b =
-    record_from xs [] _ st.StartRecord (λ n. refl) (a.reads ∙ b.reads fields)
+last_of_text a b = grind (arith, record_from)
 
 -- in these states a record has begun
 abbrev busy : State → Bool
@@ -175,13 +148,11 @@ busy s = ends_at_end s && not (state_code s == 1536)
 -- a record that has begun goes on, unless the action ends it
 step_goes : (s : State) (c : ℕ) → busy s ≡ true → is_end (step default_config s c).1 ≡ false
     → busy (step default_config s c).0 ≡ true
-step_goes st.InEscape c h e = refl
-step_goes s c h e = grind (arith, h, e)
+step_goes s c h e = grind arith
 
 some_in : (b : Bool) (p : Read) (o : Option Read) → (b ≡ false → IsSome o)
     → IsSome (cond b (Some p) o)
-some_in true p o h = refl
-some_in false p o h = h refl
+some_in b p o h = grind arith
 
 -- a record that has begun is one
 there_is : (s : State) (fields : List (List ℕ)) (field xs : List ℕ) → busy s ≡ true

@@ -2,7 +2,7 @@
 use Rattle.std.proofs.Common.{◌≡◌, ◌≢◌, ℕ, zero, suc, ◌+◌, ◌-◌, ◌<◌, ◌≤◌, Bool, true, false, cond, List, [], ◌∷◌, length, drop, map, get_or, refl, sym, ap, ◌∙◌, arith, length-drop, eq-eqb, Some}
 use Rattle.csv_rows.proofs.Prelude.{AddsFirst, Column, FieldUpTo, FirstRecord, HasMore, IsBadAt, OnBad, RowsLeft, SkipsEnds, StartsLine, StartsPart, TakesRow, at_end, dec_lt, default_config, drop_all, is_bom, kind_of, nat_eq, ne_eqb, records, records_at, records_from, spelled_row-fits, starts_line, strip_bom}
 use Rattle.csv.specs.declared.parser.State.TheVariants as st
-use Rattle.query_model.specs.Parts.{part_records, good_rows, bad_place, row_then}
+use Rattle.query_model.specs.Parts.{part_records, good_rows, bad_place}
 use Rattle.csv_rows.specs.declared.rows.RowsFault.{RowsFault}
 use Rattle.csv_rows.specs.declared.rows.RowsFault.TheVariants.{Bad, Memory}
 use Rattle.csv_rows.proofs.MachineSteps.{record_left, record_starts, records_nil}
@@ -15,25 +15,18 @@ none_left left bytes at le = rw (drop_all at bytes le) (records_nil left)
 pub some_left : (left : ℕ) (bytes : List ℕ) (at : ℕ) → at_end (records_at left bytes at) ≡ false
     → 0 < left
 unfolding records_from
-some_left zero bytes at h = absurd cc
-some_left (suc left) bytes at h = omega arith
+some_left left bytes at h = grind arith
 
 -- where a record is left, a line starts
 pub line_there : (left : ℕ) (bytes : List ℕ) (at : ℕ) → StartsLine bytes at
     → at_end (records_at left bytes at) ≡ false → starts_line (drop at bytes) ≡ true
-line_there left bytes at h some = elim (dec_lt at (length bytes)) [
-  | yes lt ↦ h.line lt
-  | no over ↦ let f : false ≡ true =
-      sym some ∙ ap at_end (none_left left bytes at (omega (arith, over))) in absurd cc
-]
+line_there left bytes at h some = grind (arith, dec_lt, none_left)
 
 first_here : (left : ℕ) (bytes : List ℕ) (at : ℕ) {tail : List ℕ} {fields : List (List ℕ)}
     {rest : List (List (List ℕ))} → at_end rest ≡ false → records_at left bytes at ≡ rest
     → FirstRecord (drop at bytes) fields tail
     → rest ≡ fields ∷ records_from default_config (left - 1) st.StartRecord tail
-first_here left bytes at some is h =
-    let e : left ≡ suc (left - 1) = omega (arith, some_left left bytes at (ap at_end is ∙ some)) in
-    sym is ∙ ap (λ n. records_at n bytes at) e ∙ h.reads (left - 1)
+first_here left bytes at some is h = grind (arith, some_left)
 
 -- the first of the records that are left is a row
 pub row_here : (left : ℕ) (bytes : List ℕ) (at next : ℕ) (old : RowsLeft) (number : ℕ)
@@ -43,16 +36,7 @@ pub row_here : (left : ℕ) (bytes : List ℕ) (at next : ℕ) (old : RowsLeft) 
     before after
 unfolding good_rows bad_place
 row_here left bytes at next old number before after some is n h =
-    let types = map kind_of before in
-    let whole = first_here left bytes at some is h.reads.is in
-    record {
-      row = h.adds.row;
-      fits = spelled_row-fits types h.fields h.adds.row h.adds.spells;
-      good = ap (good_rows types) whole
-          ∙ ap (λ o. row_then o (good_rows types (records_at (left - 1) bytes next))) h.adds.spells;
-      places = ap (bad_place (old.count + 1) types) whole ∙ rw (h.adds.spells, n) refl;
-      added = h.adds.added;
-    }
+    grind (arith, first_here, spelled_row-fits)
 
 -- the first of them is no row
 pub bad_here : (left : ℕ) (bytes : List ℕ) (at number : ℕ) (columns : List Column)
@@ -88,18 +72,13 @@ pub bom_is : (bytes : List ℕ) (b : Bool) → 3 ≤ length bytes
     → is_bom (get_or bytes 0 0) (get_or bytes 1 0) (get_or bytes 2 0) ≡ b
     → drop (cond b 3 0) bytes ≡ strip_bom bytes
 unfolding strip_bom
-bom_is (a ∷ b' ∷ c ∷ rest) true le h = rw h refl
-bom_is (a ∷ b' ∷ c ∷ rest) false le h = rw h refl
-bom_is bytes b le h = absurd (omega (arith, le))
+bom_is bytes b le h = grind arith
 
 -- the records of a part behind a byte order mark
 part_at : (bytes : List ℕ) (m at : ℕ) → m ≤ length bytes → drop m bytes ≡ strip_bom bytes
     → SkipsEnds bytes m at
     → records_at (length bytes - m + 1) bytes at ≡ records default_config (strip_bom bytes)
-part_at bytes m at le e h =
-    let size : length bytes - m ≡ length (strip_bom bytes) =
-    omega (arith, le, length-drop m bytes, ap length e) in
-    sym (h.same (length bytes - m + 1)) ∙ rw (e, size) refl
+part_at bytes m at le e h = grind (arith, length-drop)
 
 -- the rows of a part without a header
 pub part_starts : (bytes : List ℕ) (m at : ℕ) → m ≤ length bytes → drop m bytes ≡ strip_bom bytes
@@ -111,9 +90,7 @@ part_starts bytes m at le e h = record { is = part_at bytes m at le e h; starts 
 pub part_empty : (bytes : List ℕ) (m at : ℕ) → m ≤ length bytes → drop m bytes ≡ strip_bom bytes
     → SkipsEnds bytes m at → length bytes ≤ at → StartsPart true bytes at (length bytes - m + 1)
 unfolding part_records
-part_empty bytes m at le e h over =
-    let none = none_left (length bytes - m + 1) bytes at over in
-    record { is = none ∙ ap (drop 1) (sym none ∙ part_at bytes m at le e h); starts = h.starts }
+part_empty bytes m at le e h over = grind (arith, none_left, part_at)
 
 -- behind a header they begin with the second record
 pub part_headed : {bytes field : List ℕ} {m at end count next : ℕ} → m ≤ length bytes

@@ -4,8 +4,8 @@ use Rattle.csv_rows.proofs.FieldPlaces.{first_is, first_within}
 use Rattle.csv_rows.proofs.MachineSteps.{one_more, record_starts}
 use Rattle.csv_rows.proofs.Prelude.{AddsRecord, AddsSpelled, AreLong, AreLong_push, BeginsFields, Column, EndsRecord, FieldUpTo, HasMore, IsBadAt, Judged, Pushes, PushesFirst, ReadsFirst, ReadsFront, RowsLeft, TakesBack, TakesRow, at_end, bad_column, bad_field-lengths, bad_place, both_spelled, get_or-map, good_rows, kind_of, length-FitsTypes, length-append, length-map, length-rows_of, map-set, rows_of, rows_of_push, set-get_or, spelled_row, spelled_row-lengths, spelled_value, starts_line, starts_with, take_at, values}
 use Rattle.csv_rows.specs.declared.record_by_field.RecordRead.{RecordRead}
-use Rattle.query_model.specs.declared.places.BadField.TheVariants.{Column as column_field, Fields as fields_field}
-use Rattle.std.proofs.Common.{Bool, List, None, [], ap, append_assoc, ap₂, arith, drop, false, get_or, length, map, refl, set, subst, suc, sym, take, true, zero, ℕ, ◌++◌, ◌+◌, ◌<◌, ◌==◌, ◌∙◌, ◌∷◌, ◌≡◌, ◌≢◌, ◌≤◌}
+use Rattle.query_model.specs.declared.places.BadField.TheVariants.{Fields as fields_field}
+use Rattle.std.proofs.Common.{Bool, List, None, [], ap, append_assoc, ap₂, arith, drop, false, get_or, length, map, refl, set, subst, suc, take, true, zero, ℕ, ◌++◌, ◌+◌, ◌<◌, ◌∙◌, ◌∷◌, ◌≡◌, ◌≢◌, ◌≤◌, sym}
 
 -- the fields were added to the first columns, one to each, and the others are as they were
 abbrev pub Front : List (List ℕ) → List Column → List Column → Type 0
@@ -51,8 +51,7 @@ front_kinds (f ∷ fields) old now h = absurd h
 
 pub front_long : (fields : List (List ℕ)) (old now : List Column) → Front fields old now
     → length now ≡ length old
-front_long fields old now h = sym (length-map now kind_of)
-    ∙ ap length (front_kinds fields old now h) ∙ length-map old kind_of
+front_long fields old now h = grind (arith, length-map, front_kinds)
 
 -- what was added is taken back
 pub front_back : (fields : List (List ℕ)) (old now : List Column) → Front fields old now
@@ -79,13 +78,9 @@ front_stops : (fields : List (List ℕ)) (f : List ℕ) (more : List (List ℕ))
     × ((c : ℕ) → bad_column c (map kind_of old) (fields ++ f ∷ more) ≡ c + length fields)
 unfolding spelled_row bad_column
 front_stops [] f more old [] d h lt u = absurd (omega (arith, lt))
-front_stops [] f more old (n ∷ now) d h lt u =
-    subst (λ o. (spelled_row (map kind_of o) (f ∷ more) ≡ None)
-    × ((c : ℕ) → bad_column c (map kind_of o) (f ∷ more) ≡ c + 0)) h
-    (ap (λ v. both_spelled v (spelled_row (map kind_of now) more)) u, λ c. rw u (omega arith))
+front_stops [] f more old (n ∷ now) d h lt u = grind arith
 front_stops (g ∷ fields) f more (o ∷ old) (n ∷ now) d h lt u =
-    let rest = front_stops fields f more old now d h.2 (omega (arith, lt)) u in
-    (ap₂ both_spelled h.1.spells rest.0, λ c. rw h.1.spells (omega (arith, rest.1 (c + 1))))
+    grind (arith, front_stops fields f more old now d h.2 (omega (arith, lt)) u)
 front_stops (g ∷ fields) f more old now d h lt u = absurd h
 
 -- the same where column i was then left as it is
@@ -113,13 +108,7 @@ pub record RowSoFar (bytes : List ℕ) (at place : ℕ) (old now : List Column) 
 -- no field was added yet
 pub row_none : (bytes : List ℕ) (at : ℕ) (columns : List Column) → at ≤ length bytes
     → starts_line (drop at bytes) ≡ true → RowSoFar bytes at at columns columns 0
-row_none bytes at columns le h = record {
-  fields = [];
-  count = refl;
-  begins = record_starts (drop at bytes) h;
-  within = le;
-  added = refl;
-}
+row_none bytes at columns le h = grind (arith, record_starts)
 
 -- one field more, with a comma behind it
 pub row_more : {bytes f : List ℕ} {at place end i : ℕ} {old now : List Column} → (d y : Column)
@@ -156,10 +145,7 @@ pub ruleset backs = (front_back, back_at, row_back)
 row_reads : {bytes f : List ℕ} {at place end next i : ℕ} {old now : List Column}
     → (more : List (List ℕ)) (h : RowSoFar bytes at place old now i) → FieldUpTo bytes place f end
     → EndsRecord bytes end more next → ReadsFirst bytes at (h.fields ++ f ∷ more) next
-row_reads {bytes = bytes} {f = f} {at = at} {place = place} more h upto line = record {
-  is = line.ends (drop at bytes) (drop place bytes) h.fields f h.begins upto.begins;
-  starts = line.starts;
-}
+row_reads more h upto line = grind arith
 
 -- that field is the last, or spells no value
 pub row_ends : {bytes f : List ℕ} {at place end i : ℕ} {old now : List Column} {read : RecordRead}
@@ -218,17 +204,7 @@ no_items (x ∷ xs) h = absurd (omega arith)
 pub first_lengths : {bytes : List ℕ} {at : ℕ} {read : RecordRead} {old new : List Column}
     → (number : ℕ) → PushesFirst bytes at read old new → read.count ≢ length old
     → IsBadAt old bytes at number (record { row = number; field = fields_field read.count })
-first_lengths {read = read} {old = old} number h many =
-    let other : length h.fields ≢ length (map kind_of old) =
-    λ e. many (sym h.many ∙ e ∙ length-map old kind_of) in
-    record {
-      fields = h.fields;
-      next = read.next;
-      reads = h.reads;
-      unspelled = spelled_row-lengths (map kind_of old) h.fields other;
-      is = ap (λ f. record { row = number; field = f }) (ap fields_field (sym h.many)
-          ∙ sym (bad_field-lengths (map kind_of old) h.fields other));
-    }
+first_lengths number h many = grind (arith, length-map, spelled_row-lengths, bad_field-lengths)
 
 -- the records in front of those that are left now are rows of the columns
 pub record ReadSoFar (old now : List Column) (before after : RowsLeft)
@@ -245,62 +221,25 @@ pub record ReadSoFar (old now : List Column) (before after : RowsLeft)
 -- no record was read yet
 pub ReadSoFar-none : (old : List Column) (before : RowsLeft) (most : ℕ) → AreLong 0 (map values old)
     → ReadSoFar old old before before 0 most
-ReadSoFar-none old before most h = record {
-  kinds = refl;
-  long = h;
-  good = ap (λ l. l ++ good_rows (map kind_of old) before.rest)
-      (sym (no_items (rows_of 0 (map values old)) (length-rows_of 0 (map values old) h)));
-  places = refl;
-  within = omega arith;
-  unread = λ e. refl;
-}
+ReadSoFar-none old before most h = grind (arith, no_items, length-rows_of)
 
 -- one record more
 pub ReadSoFar-more : {old now new : List Column} {before after later : RowsLeft} {rows most : ℕ}
     → ReadSoFar old now before after rows most → rows < most
     → map kind_of new ≡ map kind_of now → TakesRow after later now new
     → ReadSoFar old new before later (rows + 1) most
-ReadSoFar-more {old = old} {now = now} {new = new} {later = later} {rows = rows} h lt k a =
-    let types = map kind_of old in
-    let wide : length a.row ≡ length (map values now) =
-    length-FitsTypes (map kind_of now) a.row a.fits
-    ∙ length-map now kind_of ∙ sym (length-map now values) in
-    let more_rows : rows_of (rows + 1) (map values new)
-    ≡ rows_of rows (map values now) ++ a.row ∷ [] =
-    rw a.added (rows_of_push rows (map values now) a.row h.long wide) in
-    record {
-      kinds = k ∙ h.kinds;
-      long = rw a.added (AreLong_push rows (map values now) a.row h.long);
-      good = h.good ∙ ap (λ l. rows_of rows (map values now) ++ l) (rw h.kinds at a.good)
-          ∙ sym (append_assoc (rows_of rows (map values now)) (a.row ∷ [])
-          (good_rows types later.rest))
-          ∙ ap (λ l. l ++ good_rows types later.rest) (sym more_rows);
-      places = h.places ∙ (rw h.kinds at a.places);
-      within = omega (arith, lt);
-      unread = λ e. absurd (omega (arith, e));
-    }
+ReadSoFar-more h lt k a =
+    grind (arith, length-FitsTypes, length-map, rows_of_push, AreLong_push, append_assoc)
 
 -- what was read so far is what is given
 pub ReadSoFar-stop : {old now : List Column} {before after : RowsLeft} {rows most : ℕ}
     → ReadSoFar old now before after rows most
     → (at_end before.rest ≡ false → 0 < most → 0 < rows)
     → ReadsFront (map kind_of old) before after (map values now) rows most
-ReadSoFar-stop {now = now} {rows = rows} h some =
-    let count = length-rows_of rows (map values now) h.long in
-    record {
-      long = h.long;
-      takes = record {
-        good = h.good;
-        places = h.places;
-        within = omega (arith, count, h.within);
-        some = λ left lt. omega (arith, count, some left lt);
-      };
-    }
+ReadSoFar-stop h some = grind (arith, length-rows_of)
 
 -- a record was read, where none is left of some
 pub ReadSoFar-some : {old now : List Column} {before after : RowsLeft} {rows most : ℕ}
     → ReadSoFar old now before after rows most → at_end after.rest ≡ true
     → at_end before.rest ≡ false → 0 < rows
-ReadSoFar-some {rows = zero} h over left = let f : false ≡ true =
-    sym left ∙ ap at_end (sym (h.unread refl)) ∙ over in absurd cc
-ReadSoFar-some {rows = suc n} h over left = omega arith
+ReadSoFar-some h over left = grind arith
