@@ -1,19 +1,39 @@
 -- The names from outside that this crate's proofs use, in one place.
-pub use Rattle.csv_procs.specs.Fetching.{FaultComes, Stand, StepComes, StepsTo, Told}
-pub use Rattle.csv_procs.specs.Names.{IsSome, IsTied, IsTiedTo, PartNotes, ReadGives, Steps, files_of, max, parsing, part_uses, stage_of, unmade_in}
-pub use Rattle.csv_procs.specs.Prelude.{Fetching, HoldsFront, IsFile, PartState, Rose, Rows, RowsLeft, Shut, file_bytes, part_records}
-pub use Rattle.csv_rows.proofs.Fetching.{told_as_pairs}
-pub use Rattle.csv_rows.specs.RowsLeft.{TakesRows, at_end}
-pub use Rattle.proc_api.specs.Names.{ArePartBytes, CountsOn, IsLongFile, Schedules, UnlessStalled, UnlessTooLong, WakeComes}
-pub use Rattle.proc_shell.proofs.BoxLaws.{IsPlaceDue, fails, loads, none-mapped, works, wrong-kind}
-pub use Rattle.proc_shell.proofs.Imports.{BadPlace, Bool, BoxPicture, ColumnType, Err, FaultHolds, FaultInCall, FaultIsDue, Faults, IfErr, IfSome, IsBegun, IsKernelOf, IsReadOut, IsRunning, KeepsLimits, KeepsPart, KeepsSame, List, Lists, Makes, None, Notes, Offers, Ok, Option, PartSpec, Picture, ReaderView, Reads, Result, Row, RowCount, ShellPart, Some, Spec, Table, Wake, WorkFault, [], ap, append-nil, append_assoc, arith, chunk_rows, differs_false, differs_true, false, held_made, held_unworked, in_count, inl, inr, is_some, length, length-append, option_map, part, part_seen, raised, refl, shell_seen, source_of, subst, sym, true, ℕ, ◌++◌, ◌+◌, ◌<◌, ◌∙◌, ◌∷◌, ◌≡◌, ◌≤◌, ◌⊎◌}
+pub use Rattle.csv_procs.specs.Fetching.{FaultComes, IsAfter, IsKnownOf, IsRead, ReaderState, Stand, StaysAt, StepComes, StepsTo, Told}
+pub use Rattle.csv_procs.specs.ListLines.{AreOf, AreTaken}
+pub use Rattle.csv_procs.specs.Names.{GivesLeft, HasFitLeft, IsLineTaken, IsNext, IsNextOfList, IsSome, IsSpecOf, IsTied, IsTiedTo, IsWholeFile, Steps, files_of, inputs_in, is_path, kind_for, left_rows, list_bad_line, list_paths, listed_edge, listed_part, lists_in, max, open_in, sourcing, stage_in, without_cr}
+pub use Rattle.csv_procs.specs.Parts.{is_fetched, is_grown, paths_of, spec_for, types_or, unmade_in}
+pub use Rattle.csv_procs.specs.Prelude.{Fetching, FileState, Growth, HoldsFront, HoldsMore, IsFile, ListedPaths, Paths, Rows, Shut, StandsAtEnd, bad_line_in, filter, growth_form, list_growth, rows_of}
+pub use Rattle.csv_procs.specs.SourceShells.{list_uses, source_uses}
+pub use Rattle.csv_rows.proofs.Fetching.{HoldsFront-block, HoldsFront-whole, told_as_pairs}
+pub use Rattle.csv_rows.specs.Fetching.{IsLongFile as IsLongTold}
+pub use Rattle.csv_rows.specs.RowsLeft.{RowsLeft, TakesRows, at_end}
+pub use Rattle.proc_api.specs.Forms.{spec_form}
+pub use Rattle.proc_api.specs.Growing.{listed_edges, listed_parts}
+pub use Rattle.proc_api.specs.Names.{ArePartBytes, AreResized, Expands, IsLongFile, KeepsList, KnowsList, OwnState, Schedules, WakeComes}
+pub use Rattle.proc_api.specs.Ports.{is_me}
+pub use Rattle.proc_api.specs.declared.growth.Edge.{Edge}
+pub use Rattle.proc_api.specs.declared.growth.GrowNode.{GrowNode}
+pub use Rattle.proc_api.specs.declared.status.Status.{Status}
+pub use Rattle.proc_shell.proofs.BoxLaws.{fails, loads, none-mapped, works, wrong-kind}
+pub use Rattle.proc_shell.proofs.Imports.{is_some, ArePortsOf, Begins, Bool, BoxPicture, ColumnType, Err, Fails, FaultHolds, FaultInCall, FaultIsDue, Faults, IfErr, IfSome, IsKernelOf, IsSourceKind, IsWorkOf, KeepsPart, KeepsRows, KeepsSame, Kind, List, Lists, Makes, None, Notes, NotesEnd, OfPart, Offers, Ok, Option, PartSpec, Picture, Prepared, ReaderView, Reads, Result, Row, RowCount, Some, Spec, Table, Takes, Wake, WorkFault, [], ap, append-nil, append_assoc, arith, chunk_rows, common_steps, cond, differs_false, differs_true, false, file_of, grown_inputs, growth_in, held_made, held_unworked, idle_own, in_count, inl, inr, kind_of, length, length-append, option_map, out_count, part, part_seen, raised, refl, source_of, subst, sym, true, with_chunk, ℕ, ◌++◌, ◌+◌, ◌<◌, ◌∙◌, ◌∷◌, ◌≡◌, ◌≤◌, ◌⊎◌}
 pub use Rattle.proc_shell.proofs.KeepLaws.{had-same}
+pub use Rattle.proc_shell.proofs.Lists.{grown-keeps}
+pub use Rattle.proc_shell.proofs.Resizing.{begins-resized, resized-takes}
 pub use Rattle.proc_shell.proofs.Through.{makes-nothing}
 pub use Rattle.proc_shell.proofs.TurnLaws.{leaves-same}
-pub use Rattle.proc_shell.specs.Kernels.{IsRecordLeft, IsValid}
+pub use Rattle.proc_shell.specs.Kernels.{IsValid, OfferComes, spec_growth}
 pub use Rattle.proc_shell.specs.Shells.{with_answer}
 pub use Rattle.proc_shell.specs.declared.held.Held.{Held}
+pub use Rattle.proc_shell.specs.declared.kernel.Offer.{Offer}
 pub use Rattle.query_model.specs.Names.{bad_place_in, row_then, spelled_row}
-pub use Rattle.std.specs.Prelude.{IfOk, ◌-◌}
+pub use Rattle.std.proofs.Common.{get_or, rules}
+pub use Rattle.std.proofs.lemmas.Bool.{cases_eq, eq-eqb, eqb-true, false_from_ne_true, ne_eqb}
+pub use Rattle.std.proofs.lemmas.List.{drop_all, drop_more, map-append, nil_from_length}
+pub use Rattle.std.proofs.lemmas.Slice.Eq.{slice_eq-Decides, strip_suffix_is}
+pub use Rattle.std.proofs.lemmas.Str.{IsUtf8-from_is_utf8, is_utf8-from_IsUtf8}
+pub use Rattle.std.specs.Prelude.{IfOk, count_by, drop, map, ◌-◌, ◌==◌, ◌≢◌}
+pub use denote.Enum.Bare.{same_true, true_same}
 unfoldable pub use Rattle.csv_procs.specs.Prelude.{bad_place, good_rows}
 unfoldable pub use Rattle.proc_shell.proofs.Imports.{kept_input, kept_inputs, kept_output, kept_outputs}
+unfoldable pub use Rattle.query_model.specs.ListFiles.{bad_line, lines_from}

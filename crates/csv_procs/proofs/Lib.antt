@@ -1,3 +1,6 @@
 pub mod Imports
-pub mod PartLaws
+mod ListTexts
+mod GrowthLaws
+pub mod KernelLaws
+mod FeedLaws
 pub mod SourceLaws

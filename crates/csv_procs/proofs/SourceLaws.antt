@@ -1,8 +1,5 @@
 -- The clauses of a source's calls.
-use Rattle.csv_procs.proofs.Imports.{ArePartBytes, BadPlace, BoxPicture, Err, FaultComes, FaultHolds, FaultInCall, FaultIsDue, Faults, Fetching, Held, IfErr, IfOk, IfSome, IsFile, IsLongFile, IsPlaceDue, IsRunning, IsTied, IsTiedTo, KeepsPart, KeepsSame, List, Lists, None, Notes, Ok, Option, PartNotes, PartSpec, PartState, ReaderView, Result, RowCount, Rows, Schedules, ShellPart, Shut, Some, Stand, StepComes, Steps, StepsTo, Told, Wake, WakeComes, WorkFault, ap, arith, bad_place, bad_place_in, chunk_rows, false, files_of, good_rows, had-same, held_made, held_unworked, inl, inr, kept_input, kept_inputs, kept_output, kept_outputs, option_map, parsing, part, part_seen, part_uses, refl, shell_seen, source_of, stage_of, subst, sym, told_as_pairs, true, unmade_in, with_answer, ℕ, ◌++◌, ◌+◌, ◌∙◌, ◌≡◌}
-use Rattle.query_model.specs.declared.processor_spec.Kind.TheVariants as kind
-use Rattle.query_model.specs.declared.processor_spec.Spec.TheVariants as spec
-use Rattle.csv_rows.specs.Fetching.{IsLongFile as IsLongTold}
+use Rattle.csv_procs.proofs.Imports.{ArePartBytes, AreResized, Bool, BoxPicture, Err, Expands, Fails, FaultComes, FaultHolds, FaultInCall, FaultIsDue, Faults, Fetching, FileState, Growth, Held, IfErr, IfOk, IfSome, IsFile, IsLongFile, IsLongTold, IsRead, IsTied, IsTiedTo, IsWholeFile, IsWorkOf, KeepsList, KeepsPart, KeepsRows, KeepsSame, Kind, KnowsList, List, ListedPaths, Lists, None, Notes, NotesEnd, OfPart, Ok, Option, OwnState, PartSpec, Paths, Prepared, ReaderState, ReaderView, Result, RowCount, Rows, Schedules, Shut, Some, Stand, Status, StaysAt, StepComes, StepsTo, Told, Wake, WakeComes, WorkFault, ap, arith, bad_line_in, bad_place, bad_place_in, chunk_rows, cond, false, file_of, files_of, good_rows, grown-keeps, growth_form, had-same, held_made, held_unworked, inl, inr, is_fetched, is_grown, kept_input, kept_inputs, kept_output, kept_outputs, kind_for, length, list_growth, list_uses, lists_in, option_map, part, part_seen, paths_of, refl, rows_of, source_of, source_uses, sourcing, spec_for, spec_growth, stage_in, subst, sym, told_as_pairs, true, unmade_in, with_answer, ℕ, ◌++◌, ◌+◌, ◌<◌, ◌∙◌, ◌≡◌}
 use Rattle.proc_api.specs.declared.status.Wake.TheVariants as wake
 use Rattle.proc_api.specs.declared.status.WorkFault.TheVariants as fault
 
@@ -11,54 +8,80 @@ use Rattle.proc_api.specs.declared.status.WorkFault.TheVariants as fault
 false-true : {A : Type 0} → false ≡ true → A
 false-true e = absurd (cc)
 
--- a bad place that is found is that of the file
-pub place-told : (told : Told) (stands : Stand) (f pd : ℕ) (part : PartSpec) (s : PartState) (given pendings : ℕ) (place : BadPlace) → IsTiedTo told stands part (stage_of part s) given pendings → (stage_of part s).bad ≡ Some place
-    → IsPlaceDue (Some (record { files = option_map files_of told; faults = f; pendings = pd })) (spec.Csv part) place
-place-told None stands f pd part s given pendings place t e = tt
-place-told (Some all) stands f pd part (Rows r) given pendings place t e =
-    let h = t.read refl in
-    ap (bad_place_in part.header part.types) (told_as_pairs all part.path ∙ h.are) ∙ sym h.bad_is ∙ e
-place-told (Some all) stands f pd part s given pendings place t e = absurd (cc)
-
--- ---- schedule
-
-pub tied-now : (told : Told) (stands : Stand) (d : Option ReaderView) (count : RowCount) (part' : PartSpec) (s : PartState) (h : Held) (n : Notes) (o : Option ShellPart) → o ≡ Some (part (parsing part' s) h n)
-    → IsRunning (shell_seen kind.Csv d count o) → IsTied told stands o → IsTiedTo told stands part' (stage_of part' s) n.given n.pendings
-tied-now told stands d count part' s h n o is run tied =
-    let t = subst (IsTied told stands) is tied (subst (λ z. IsRunning (shell_seen kind.Csv d count z)) is run).faultless in
-    record { shut = t.shut; front = t.front; read = t.read; few_pendings = t.few_pendings; few_bytes = t.few_bytes }
-
-told-bytes : (told : Told) (path bytes : List ℕ) → IsFile told path bytes → ArePartBytes (option_map files_of told) path bytes
-told-bytes None path bytes e = tt
-told-bytes (Some all) path bytes e = told_as_pairs all path ∙ e
-
-long-pairs : (told : Told) (path : List ℕ) → IsLongTold told path 1073741824 → IfSome (option_map files_of told) (λ files. IsLongFile files path)
-long-pairs None path x = tt
-long-pairs (Some all) path x = record { bytes = x.bytes; are = told_as_pairs all path ∙ x.are; long = x.long }
-
 abbrev pub reads : Told → (f pd : ℕ) → Option ReaderView
 reads told f pd = Some (record { files = option_map files_of told; faults = f; pendings = pd })
 
--- a source before and after a step
-abbrev source : Told → (f pd : ℕ) → RowCount → PartSpec → PartState → Held → Notes → BoxPicture
-source told f pd count part' s h n = part_seen kind.Csv (reads told f pd) count (part (parsing part' s) h n)
+-- a source whose file is so far
+abbrev source : Told → (f pd : ℕ) → RowCount → Bool → PartSpec → FileState → Held → Notes
+    → BoxPicture
+source told f pd count lists part' s h n =
+    part_seen (kind_for lists) (reads told f pd) count (part (sourcing lists part' s) h n)
+
+-- a bad place or line that is found is that of the file
+pub fault-told : (told : Told) (stands : Stand) (f pd : ℕ) (k : Kind) (count : RowCount)
+    (lists : Bool) (part' : PartSpec) (s : FileState) (h : Held) (n : Notes)
+    → IsTiedTo told stands lists part' (stage_in part' s) n.given n.pendings
+    → (e : WorkFault) → Fails (sourcing lists part' s) e
+    → FaultIsDue (Some e) (part_seen k (reads told f pd) count (part (sourcing lists part' s) h n))
+fault-told told stands f pd k count lists part' s h n t fault.Memory y = tt
+fault-told None stands f pd k count false part' s h n t (fault.Bad place) y = tt
+fault-told None stands f pd k count true part' s h n t (fault.BadList line) y = tt
+fault-told (Some all) stands f pd k count false part' (Rows r) h n t (fault.Bad place) y =
+    let read = t.read refl in
+    ap (bad_place_in part'.header part'.types) (told_as_pairs all part'.path ∙ read.are)
+    ∙ sym read.known ∙ y.1
+fault-told (Some all) stands f pd k count true part' (Paths l) h n t (fault.BadList line) y =
+    let read = t.read refl in
+    ap bad_line_in (told_as_pairs all part'.path ∙ read.are) ∙ sym read.known.1 ∙ y.1
+fault-told (Some all) stands f pd k count false part' s h n t (fault.Bad place) y =
+    absurd (let e = y.1 in cc)
+fault-told (Some all) stands f pd k count true part' s h n t (fault.BadList line) y =
+    absurd (let e = y.1 in cc)
+fault-told told stands f pd k count true part' s h n t (fault.Bad place) y =
+    absurd (let e = y.0 in cc)
+fault-told told stands f pd k count false part' s h n t (fault.BadList line) y =
+    absurd (let e = y.0 in cc)
+fault-told told stands f pd k count lists part' s h n t e y = absurd y
+
+-- what a source without a fault is tied to
+pub tied-now : (told : Told) (stands : Stand) (lists : Bool) (part' : PartSpec) (s : FileState)
+    (h : Held) (n : Notes) → IsTied told stands (Some (part (sourcing lists part' s) h n))
+    → n.fault ≡ None → IsTiedTo told stands lists part' (stage_in part' s) n.given n.pendings
+tied-now told stands false part' s h n tied faultless = tied faultless
+tied-now told stands true part' s h n tied faultless = tied faultless
+
+told-bytes : (told : Told) (path bytes : List ℕ) → IsFile told path bytes
+    → ArePartBytes (option_map files_of told) path bytes
+told-bytes None path bytes e = tt
+told-bytes (Some all) path bytes e = told_as_pairs all path ∙ e
+
+long-pairs : (told : Told) (path : List ℕ) → IsLongTold told path 1073741824
+    → IfSome (option_map files_of told) (λ files. IsLongFile files path)
+long-pairs None path x = tt
+long-pairs (Some all) path x =
+    record { bytes = x.bytes; are = told_as_pairs all path ∙ x.are; long = x.long }
+
+-- ---- schedule
 
 -- a step of a source, which notes nothing of its view
-module _ (told : Told) (f f' pd pd' : ℕ) (count : RowCount) (part' : PartSpec) (h : Held)
+module _ (d e : ReaderState) (count : RowCount) (lists : Bool) (part' : PartSpec) (h : Held)
     (n : Notes) (given faults pendings : ℕ) where
+  abbrev told : Told
+  told = d.files
+
   abbrev noted : Notes
   noted = record n { given = given; faults = faults; pendings = pendings }
 
-  abbrev P : PartState → BoxPicture
-  P s = source told f pd count part' s h n
+  abbrev P : Bool → FileState → BoxPicture
+  P b s = source told d.faults d.pendings count b part' s h n
 
-  abbrev Q : PartState → Result Wake WorkFault → BoxPicture
-  Q s r = source told f' pd' count part' s h (with_answer r noted)
+  abbrev Q : Bool → FileState → Result Wake WorkFault → BoxPicture
+  Q b s r = source told e.faults e.pendings count b part' s h (with_answer r noted)
 
   -- no row is made before the file is fetched whole
-  unread : (s : PartState) (held : List ℕ) (a : Wake) → (stage_of part' s).fetched ≡ false
-      → (outs : Lists) → KeepsPart part' (P s) outs
-      → KeepsPart part' (Q (Fetching held) (Ok a)) outs
+  unread : (s : FileState) (held : List ℕ) (a : Wake) → is_fetched s ≡ false
+      → (outs : Lists) → KeepsPart part' (P false s) outs
+      → KeepsPart part' (Q false (Fetching held) (Ok a)) outs
   unfolding kept_output
   unread s held a none outs t = record {
     before = λ e. record {
@@ -71,35 +94,123 @@ module _ (told : Told) (f f' pd pd' : ℕ) (count : RowCount) (part' : PartSpec)
     finished = λ fin. false-true (sym none ∙ (t.finished fin).fetched);
   }
 
-  step-rows : (s s' : PartState) (a : Wake) → StepsTo told part' s n s' noted a → (outs : Lists)
-      → KeepsPart part' (P s) outs → KeepsPart part' (Q s' (Ok a)) outs
+  -- a list that isn't fetched whole has passed on nothing, and what it knows then is of the file
+  list-step : (s s' : FileState) (a : Wake) → is_fetched s ≡ false
+      → unmade_in part'.types s ≡ unmade_in part'.types s'
+      → KnowsList part' (option_map files_of told) (file_of (Q true s' (Ok a)))
+      → (ins outs : Lists) → KeepsList part' (P true s) ins outs
+      → KeepsList part' (Q true s' (Ok a)) ins outs
+  unfolding kept_output kept_inputs
+  list-step s s' a none same knows ins outs t = record {
+    knows = knows;
+    made = record {
+      worked = t.made.worked;
+      ins_are = t.made.ins_are;
+      rows = subst (λ l. AreResized t.made.worked outs (chunk_rows (held_made h) ++ l)) same
+          t.made.rows;
+      over = λ o fin. false-true (sym none ∙ (t.finished o fin).fetched);
+    };
+    finished = λ o fin. false-true (sym none ∙ (t.finished o fin).fetched);
+  }
+
+  knows-nothing : (held : List ℕ) (a : Wake)
+      → KnowsList part' (option_map files_of told) (file_of (Q true (Fetching held) (Ok a)))
+  knows-nothing held a = record {
+    before = λ e. record { no_paths = refl; no_bad_line = refl; ungrown = refl };
+    read = λ e. absurd (cc);
+    grown = tt;
+  }
+
+  knows-list : (l : ListedPaths) (a : Wake) → IsRead told true part' (Paths l)
+      → KnowsList part' (option_map files_of told) (file_of (Q true (Paths l) (Ok a)))
+  knows-list l a x = record {
+    before = λ e. absurd (cc);
+    read = λ e. record {
+      text = x.bytes;
+      are = told-bytes told part'.path x.bytes x.are;
+      paths_are = x.whole.0;
+      bad_line_is = x.whole.1;
+    };
+    grown = rw x.whole.2 tt;
+  }
+
+  step-rows : (b : Bool) (s s' : FileState) (a : Wake) → StepsTo told b part' s n s' noted a
+      → (ins outs : Lists) → KeepsRows (Some (spec_for b part')) (P b s) ins outs
+      → KeepsRows (Some (spec_for b part')) (Q b s' (Ok a)) ins outs
   unfolding kept_output
-  step-rows Shut (Fetching held) wake.Later x outs t = unread Shut held wake.Later refl outs t
-  step-rows (Fetching held) (Fetching grown) wake.Later x outs t =
+  step-rows false Shut (Fetching held) wake.Later x ins outs t =
+      unread Shut held wake.Later refl outs t
+  step-rows false (Fetching held) (Fetching grown) wake.Later x ins outs t =
       unread (Fetching held) grown wake.Later refl outs t
-  step-rows (Fetching held) (Rows r) wake.Ready x outs t = record {
+  step-rows false (Fetching held) (Rows r) wake.Ready x ins outs t = record {
     before = λ e. absurd (cc);
     fetched = λ e.
         let b = t.before refl in
         record {
           bytes = x.bytes;
           are = told-bytes told part'.path x.bytes x.are;
-          rows = ap (λ l. l ++ (chunk_rows (held_made h) ++ good_rows part'.types r.rest)) b.nothing_out ∙ ap (λ l. chunk_rows l ++ good_rows part'.types r.rest) b.nothing_waits ∙ ap (good_rows part'.types) x.rest;
-          bad = ap (λ c. bad_place (c + 1) part'.types r.rest) x.count ∙ ap (bad_place 1 part'.types) x.rest;
+          rows = ap (λ l. l ++ (chunk_rows (held_made h) ++ good_rows part'.types r.rest))
+              b.nothing_out ∙ ap (λ l. chunk_rows l ++ good_rows part'.types r.rest) b.nothing_waits
+              ∙ ap (good_rows part'.types) x.whole.0;
+          bad = ap (λ c. bad_place (c + 1) part'.types r.rest) x.whole.1
+              ∙ ap (bad_place 1 part'.types) x.whole.0;
         };
     finished = λ fin. false-true (t.finished fin).fetched;
   }
-  step-rows s s' a x outs t = absurd x
+  step-rows false (Fetching held) s' wake.Ready x ins outs t = absurd x.whole
+  step-rows true Shut (Fetching held) wake.Later x ins outs t =
+      list-step Shut (Fetching held) wake.Later refl refl (knows-nothing held wake.Later) ins outs t
+  step-rows true (Fetching held) (Fetching grown) wake.Later x ins outs t =
+      list-step (Fetching held) (Fetching grown) wake.Later refl refl
+      (knows-nothing grown wake.Later) ins outs t
+  step-rows true (Fetching held) (Paths l) wake.Ready x ins outs t =
+      list-step (Fetching held) (Paths l) wake.Ready refl (sym (ap rows_of x.whole.3))
+      (knows-list l wake.Ready x) ins outs t
+  step-rows true (Fetching held) s' wake.Ready x ins outs t = absurd x.whole
+  step-rows b s s' a x ins outs t = absurd x
 
-  step-keeps : (s s' : PartState) (a : Wake) → StepsTo told part' s n s' noted a
-      → KeepsSame (P s) (Q s' (Ok a))
+  -- no end is noted
+  notes-none : (b : Bool) (own : OwnState) (i : ℕ) → NotesEnd (Some (spec_for b part')) own i → ⊥
+  notes-none false own i y = y
+  notes-none true own i y = y
+
+  -- what a step reads, that it lets nothing grow, and what it wakes for
+  whole-file : (b : Bool) (header : Bool) (bytes : List ℕ) (s : FileState)
+      → IsWholeFile b header bytes s
+      → (lists_in b s ≡ b) × (is_grown s ≡ false) × (is_fetched s ≡ true)
+  whole-file false header bytes (Rows r) x = (refl, refl, refl)
+  whole-file true header bytes (Paths l) x = (refl, x.2, refl)
+  whole-file b header bytes s x = absurd x
+
+  step-facts : (s s' : FileState) (a : Wake) → StepsTo told lists part' s n s' noted a
+      → (lists_in lists s' ≡ lists) × ((Q lists s' (Ok a)).growth ≡ (P lists s).growth)
+      × WakeComes a (P lists s) (Q lists s' (Ok a))
+  step-facts Shut (Fetching held) wake.Later x = (refl, refl, inl (refl, refl))
+  step-facts (Fetching held) (Fetching grown) wake.Later x = (refl, refl, inr x)
+  step-facts (Fetching held) s' wake.Ready x =
+      let w = whole-file lists part'.header x.bytes s' x.whole in (
+        w.0,
+        ap (λ g. cond g (spec_growth (spec_for lists part') (paths_of s')) None) w.1,
+        (refl, w.2),
+      )
+  step-facts s s' a x = absurd x
+
+  step-idle : (b : Bool) (s s' : FileState) (r : Result Wake WorkFault) → lists_in b s' ≡ b
+      → IsWorkOf (Some (spec_for b part')) (P b s).work
+      → IsWorkOf (Some (spec_for b part')) (Q b s' r).work
+  step-idle false s s' r read idle = source_uses false part' s' read (source_of h)
+      (held_unworked h) (held_made h) (inl (ap (λ w. w.source) idle, ap (λ w. w.unworked) idle))
+  step-idle true s s' r read idle =
+      list_uses part' s' read (source_of h) (held_unworked h) (held_made h)
+
+  step-keeps : (s s' : FileState) (a : Wake) → StepsTo told lists part' s n s' noted a
+      → KeepsSame (P lists s) (Q lists s' (Ok a))
   unfolding kept_input kept_output kept_inputs kept_outputs
   step-keeps s s' a x ins outs kept = record {
-    ports = had-same n.view (P s) (Q s' (Ok a)) refl refl kept.ports;
-    idle = part_uses part' (unmade_in part'.types s') (stage_of part' s') (source_of h)
-        (held_unworked h) (held_made h)
-        (inl (ap (λ w. w.source) kept.idle, ap (λ w. w.unworked) kept.idle));
-    rows = λ fits. step-rows s s' a x outs (kept.rows fits);
+    ports = had-same n.view (P lists s) (Q lists s' (Ok a)) refl (step-facts s s' a x).1 kept.ports;
+    opens = λ e. absurd (cc);
+    idle = step-idle lists s s' (Ok a) (step-facts s s' a x).0 kept.idle;
+    rows = λ fits. step-rows lists s s' a x ins outs (kept.rows fits);
     types = kept.types;
     made_types = kept.made_types;
     sizes = kept.sizes;
@@ -111,91 +222,102 @@ module _ (told : Told) (f f' pd pd' : ℕ) (count : RowCount) (part' : PartSpec)
       | inl all ↦ inl (record { some = all.some; closed = all.closed })
       | inr enough ↦ inr enough
     ];
-    noted = λ i there y. absurd y;
+    noted = λ i there y. absurd (notes-none lists _ i y);
   }
 
-  wakes : (s s' : PartState) (a : Wake) → StepsTo told part' s n s' noted a
-      → WakeComes a (P s) (Q s' (Ok a))
-  wakes Shut (Fetching held) wake.Later x = inl (refl, refl)
-  wakes (Fetching held) (Fetching grown) wake.Later x = inr x
-  wakes (Fetching held) (Rows r) wake.Ready x = (refl, refl)
-  wakes s s' a x = absurd x
-
-  ok-of : (s s' : PartState) (r : Result Wake WorkFault) (at' : Stand) → n.fault ≡ None
-      → StepComes r told at' f f' part' s s' n noted → IfOk r (λ a. Schedules a (P s) (Q s' r))
-  ok-of s s' (Err e) at' faultless x = tt
-  ok-of s s' (Ok a) at' faultless x = record {
+  pub ok-of : (s s' : FileState) (r : Result Wake WorkFault) → n.fault ≡ None
+      → StepComes r d e lists part' s s' n noted
+      → IfOk r (λ a. Schedules a (P lists s) (Q lists s' r))
+  ok-of s s' (Err f) faultless x = tt
+  ok-of s s' (Ok a) faultless x = record {
     view = refl;
     fits = refl;
     answer = refl;
     not_acted = refl;
-    growth = refl;
+    growth = (step-facts s s' a x.0).1;
     not_handed_out = refl;
     faultless = faultless;
     keeps = λ lawful. step-keeps s s' a x.0;
-    comes = λ lawful. wakes s s' a x.0;
+    comes = λ lawful. (step-facts s s' a x.0).2;
   }
 
+  of-part : (b : Bool) (X : PartSpec → Type 0) → X part' → OfPart (Some (spec_for b part')) X
+  of-part false X x = x
+  of-part true X x = x
+
+  stays-grown : (s s' : FileState) → StaysAt s s'
+      → (Q lists s' (Err fault.Memory)).growth ≡ (P lists s).growth
+  stays-grown (Paths l) (Paths l') x = ap (λ z. (P lists (Paths z)).growth) x
+  stays-grown Shut Shut x = refl
+  stays-grown (Fetching held) (Fetching kept) x = refl
+  stays-grown (Rows r) (Rows r') x = refl
+  stays-grown s s' x = absurd x
+
   -- what a fault tells
-  told-by : (s s' : PartState) (e : WorkFault) → FaultComes e told f f' part' noted
-      → FaultInCall e (P s) (Q s' (Err e)) × FaultHolds (Some e) (Q s' (Err e))
-      × FaultIsDue (Some e) (Q s' (Err e))
+  told-by : (s s' : FileState) (f : WorkFault) → FaultComes f d e part' noted
+      → FaultInCall f (P lists s) (Q lists s' (Err f)) × FaultHolds (Some f) (Q lists s' (Err f))
+      × FaultIsDue (Some f) (Q lists s' (Err f))
   told-by s s' fault.Read x = (x.1, x.2, tt)
   told-by s s' fault.Memory x = (tt, tt, tt)
   told-by s s' fault.Stalled x = (tt, (let m = x.0 in omega (arith, m)), x.0)
-  told-by s s' fault.TooLong x = (tt, x.1, long-pairs told part'.path x.2)
-  told-by s s' e x = absurd x
+  told-by s s' fault.TooLong x = (tt, x.1, of-part lists _ (long-pairs told part'.path x.2))
+  told-by s s' f x = absurd x
 
-  fault-of : (s s' : PartState) (r : Result Wake WorkFault) (at' : Stand)
-      → StepComes r told at' f f' part' s s' n noted → IfErr r (λ e. Faults e (P s) (Q s' r))
-  fault-of s s' (Ok a) at' x = tt
-  fault-of s s' (Err e) at' x = record {
-    same = record {
-      view = refl;
-      fits = refl;
-      answer = refl;
-      growth = refl;
-      not_handed_out = refl;
-    };
-    kept = refl;
-    in_call = (told-by s s' e x.0).0;
-    holds = (told-by s s' e x.0).1;
-    is_due = λ lawful. (told-by s s' e x.0).2;
+  pub fault-of : (s s' : FileState) (r : Result Wake WorkFault)
+      → StepComes r d e lists part' s s' n noted
+      → IfErr r (λ f. Faults f (P lists s) (Q lists s' r))
+  fault-of s s' (Ok a) x = tt
+  fault-of s s' (Err f) x =
+      let t = told-by s s' f x.0 in
+      record {
+        same = record {
+          view = refl;
+          fits = refl;
+          answer = refl;
+          growth = stays-grown s s' x.1;
+          not_handed_out = refl;
+        };
+        kept = refl;
+        in_call = t.0;
+        holds = t.1;
+        is_due = λ lawful. t.2;
+      }
+
+-- ---- expand
+
+-- a valid list that names a path grows by its paths
+module _ (told : Told) (stands : Stand) (f pd : ℕ) (count : RowCount) (list : PartSpec)
+    (h : Held) (n : Notes) (g : Growth) (asks : n.answer ≡ Some (Prepared Status.ExpandPipeline))
+    (faultless : n.fault ≡ None) where
+  abbrev Had : Bool → FileState → BoxPicture
+  Had b s = source told f pd count b list s h n
+
+  abbrev Has : Bool → FileState → BoxPicture
+  Has b s = source told f pd count b list s h (record n { acted = true })
+
+  abbrev Ties : Bool → FileState → Type 0
+  Ties b s = IsTiedTo told stands b list (stage_in list s) n.given n.pendings
+
+  pub by-paths : (l : ListedPaths) → l.bad_line ≡ None → l.grown ≡ false → 0 < length l.paths
+      → growth_form g ≡ list_growth list l.paths → Ties true (Paths l)
+      → Expands g (Had true (Paths l)) (Has true (Paths (record l { grown = true })))
+  by-paths l valid ungrown names is tied = record {
+    view = refl;
+    fits = refl;
+    answer = refl;
+    acted = refl;
+    growth = ap Some (sym is);
+    grows = λ lawful.
+        let read = tied.read refl in
+        record {
+          text = read.bytes;
+          are = told-bytes told list.path read.bytes read.are;
+          valid = sym read.known.1 ∙ valid;
+          names_path = subst (λ l. 0 < length l) read.known.0 names;
+          is = ap (list_growth list) read.known.0;
+        };
+    not_handed_out = refl;
+    faultless = faultless;
+    keeps = λ lawful. grown-keeps list (Had true (Paths l)) refl asks
+        (ap (λ b. cond b (Some (list_growth list l.paths)) None) ungrown) refl;
   }
-
-module _ (told told' : Told) (same : told' ≡ told) (at' : Stand) (f f' pd pd' : ℕ) (count : RowCount) (part' part'' : PartSpec) (same_part : part'' ≡ part') (h : Held) (s s' : PartState) (n n' : Notes) (r : Result Wake WorkFault)
-    (x : Steps told at' f f' pd pd' part' s s' n n' r) (q : ShellPart) (y : PartNotes r (part (parsing part'' s') h n') q) (o : Option ShellPart) (is : o ≡ Some (part (parsing part' s) h n)) (run : IsRunning (shell_seen kind.Csv (reads told f pd) count o)) where
-  faultless : n.fault ≡ None
-  faultless = (subst (λ z. IsRunning (shell_seen kind.Csv (reads told f pd) count z)) is run).faultless
-
-  abbrev m : Notes
-  m = record n { given = n'.given; faults = n'.faults; pendings = n'.pendings }
-
-  comes : StepComes r told at' f f' part' s s' n m
-  comes = subst (StepComes r told at' f f' part' s s' n) x.only x.comes
-
-  after : q ≡ part (parsing part' s') h (with_answer r m)
-  after = λ i. part ((y.kernel ∙ ap (λ z. parsing z s') same_part) i) (y.held i)
-      ((y.notes ∙ ap (with_answer r) x.only) i)
-
-  between : (X : BoxPicture → BoxPicture → Type 0) → X (source told f pd count part' s h n)
-      (source told f' pd' count part' s' h (with_answer r m))
-      → X (shell_seen kind.Csv (reads told f pd) count o)
-      (part_seen kind.Csv (reads told' f' pd') count q)
-  between X z =
-      subst (λ w. X (shell_seen kind.Csv (reads told f pd) count w)
-      (part_seen kind.Csv (reads told' f' pd') count q)) (sym is)
-      (subst (λ w. X (source told f pd count part' s h n)
-      (part_seen kind.Csv (reads w f' pd') count q)) (sym same)
-      (subst (λ w. X (source told f pd count part' s h n)
-      (part_seen kind.Csv (reads told f' pd') count w)) (sym after) z))
-
-  pub step-ok : IfOk r (λ a. Schedules a (shell_seen kind.Csv (reads told f pd) count o)
-      (part_seen kind.Csv (reads told' f' pd') count q))
-  step-ok = between (λ p q. IfOk r (λ a. Schedules a p q)) (ok-of told f f' pd pd' count part' h n
-      n'.given n'.faults n'.pendings s s' r at' faultless comes)
-
-  pub step-fault : IfErr r (λ e. Faults e (shell_seen kind.Csv (reads told f pd) count o)
-      (part_seen kind.Csv (reads told' f' pd') count q))
-  step-fault = between (λ p q. IfErr r (λ e. Faults e p q)) (fault-of told f f' pd pd' count part' h
-      n n'.given n'.faults n'.pendings s s' r at' comes)

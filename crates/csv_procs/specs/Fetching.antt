@@ -1,11 +1,11 @@
 -- What a schedule of a source does, and what ties its part to its reader.
 use Rattle.std.specs.Prelude.{◌-◌, ◌<◌, ◌≡◌, ◌≤◌, ◌⊎◌}
-use Rattle.csv_procs.specs.Prelude.{BadPlace, Err, Fetched, Fetching, FileEntry, HoldsFront, HoldsMore, IfSome, IsFile, IsLongFile, IsSome, List, None, Notes, Ok, Option, PartSpec, PartState, PassesLimit, Result, Rose, Rows, RowsLeft, ShellPart, Shut, Some, Spec, Stage, StandsAtEnd, Wake, WorkFault, bad_place, false, file_bytes, length, part_records, raised, true, ℕ}
+use Rattle.csv_procs.specs.Prelude.{Bool, Err, Fetched, Fetching, FileEntry, FileState, HoldsFront, HoldsMore, IfSome, IsFile, IsLongFile, IsSome, List, None, Notes, Ok, Option, PartSpec, PassesLimit, Paths, Result, Rose, Rows, ShellPart, Shut, Some, Spec, Stage, StandsAtEnd, Wake, WorkFault, bad_line_in, bad_place, false, file_bytes, length, part_records, paths_in, raised, true, ℕ}
 use Rattle.query_model.specs.declared.processor_spec.Spec.TheVariants as spec
 use Rattle.csv_rows.specs.declared.file_fetch.Fetched.TheVariants as fetched
 use Rattle.proc_api.specs.declared.status.Wake.TheVariants as wake
 use Rattle.proc_api.specs.declared.status.WorkFault.TheVariants as fault
-use Rattle.csv_procs.specs.Parts.{stage_of}
+use Rattle.csv_procs.specs.Parts.{IsWholeFile, stage_in}
 
 -- where a reader stands: a path, and the place in its file
 abbrev pub Stand : Type 0
@@ -14,102 +14,138 @@ Stand = Option (List ℕ × ℕ)
 abbrev pub Told : Type 0
 Told = Option (List FileEntry)
 
+-- a reader: the files that it tells, where it stands, and its counts
+pub record ReaderState : Type 0 where
+  pub files : Told
+  pub stands : Stand
+  pub faults : ℕ
+  pub pendings : ℕ
+
+-- it tells the same files, and its counts don't fall
+pub record IsAfter (x y : ReaderState) : Type 0 where
+  pub told : y.files ≡ x.files
+  pub faults_kept : x.faults ≤ y.faults
+  pub pendings_kept : x.pendings ≤ y.pendings
+
 -- the held bytes begin the file, and are all that the reader gave
-pub record HoldsPart (told : Told) (stands : Stand) (part : PartSpec) (held : List ℕ) (given : ℕ) : Type 0 where
+pub record HoldsPart (told : Told) (stands : Stand) (part : PartSpec) (held : List ℕ) (given : ℕ)
+    : Type 0 where
   pub front : HoldsFront told stands part.path held
   pub found : IfSome told (λ all. IsSome (file_bytes all part.path))
   pub given_is : given ≡ length held
 
--- the bad place is that of the file
-pub record HasRead (told : Told) (part : PartSpec) (bad : Option BadPlace) : Type 0 where
+-- the bad place is that of the bytes, or the paths and the bad line are
+abbrev pub IsKnownOf : Bool → PartSpec → List ℕ → Stage → Type 0
+IsKnownOf false part bytes g = g.bad ≡ bad_place 1 part.types (part_records part.header bytes)
+IsKnownOf true list bytes g =
+    (g.paths ≡ paths_in (Some bytes)) × (g.bad_line ≡ bad_line_in (Some bytes))
+
+-- what is known is of the file
+pub record HasRead (told : Told) (lists : Bool) (part : PartSpec) (g : Stage) : Type 0 where
   pub bytes : List ℕ
   pub are : IsFile told part.path bytes
-  pub bad_is : bad ≡ bad_place 1 part.types (part_records part.header bytes)
+  pub known : IsKnownOf lists part bytes g
 
 -- how far the part is, by its reader's files and where that stands, within the limits
-pub record IsTiedTo (told : Told) (stands : Stand) (part : PartSpec) (g : Stage) (given pendings : ℕ) : Type 0 where
+pub record IsTiedTo (told : Told) (stands : Stand) (lists : Bool) (part : PartSpec) (g : Stage)
+    (given pendings : ℕ) : Type 0 where
   pub shut : g.opened ≡ false → given ≡ 0
   pub front : g.opened ≡ true → g.fetched ≡ false → HoldsPart told stands part g.held given
-  pub read : g.fetched ≡ true → HasRead told part g.bad
+  pub read : g.fetched ≡ true → HasRead told lists part g
   pub few_pendings : pendings < 1000000
   pub few_bytes : given ≤ 1073741824
 
 abbrev pub IsTiedSpec : Told → Stand → Spec → Stage → (given pendings : ℕ) → Type 0
-IsTiedSpec told stands (spec.Csv part) g given pendings = IsTiedTo told stands part g given pendings
+IsTiedSpec told stands (spec.Csv part) g given pendings =
+    IsTiedTo told stands false part g given pendings
+IsTiedSpec told stands (spec.List list) g given pendings =
+    IsTiedTo told stands true list g given pendings
 IsTiedSpec told stands s g given pendings = Unit {0}
 
 -- as long as no fault is kept
 abbrev pub IsTied : Told → Stand → Option ShellPart → Type 0
 IsTied told stands None = Unit {0}
-IsTied told stands (Some p) = p.notes.fault ≡ None → IsTiedSpec told stands p.kernel.spec p.kernel.stage p.notes.given p.notes.pendings
+IsTied told stands (Some p) = p.notes.fault ≡ None
+    → IsTiedSpec told stands p.kernel.spec p.kernel.stage p.notes.given p.notes.pendings
 
 -- ---- one read
 
 -- the bytes of a read pass the limit
-pub record ReadsTooMany (told : Told) (at at' : Stand) (held : List ℕ) (n n' : Notes) : Type 0 where
+pub record ReadsTooMany (x y : ReaderState) (held : List ℕ) (n n' : Notes) : Type 0 where
   pub count : ℕ
-  pub passes : PassesLimit told at at' held 1073741824 count
+  pub passes : PassesLimit x.files x.stands y.stands held 1073741824 count
   pub noted : n' ≡ record n { given = raised n.given count }
 
 -- what a read gave, and what was noted of it
-abbrev pub ReadGives : Told → (at at' : Stand) → (f f' pd pd' : ℕ) → (held grown : List ℕ) → Notes → Notes → Result Fetched WorkFault → Type 0
-ReadGives told at at' f f' pd pd' held grown n n' (Ok fetched.More) =
-    HoldsMore told at at' held grown 1073741824 × (n' ≡ record n { given = raised n.given (length grown - length held) })
-ReadGives told at at' f f' pd pd' held grown n n' (Ok fetched.Whole) = StandsAtEnd told at × (grown ≡ held) × (n' ≡ n)
-ReadGives told at at' f f' pd pd' held grown n n' (Ok fetched.Pending) =
-    Rose pd pd' × (at' ≡ at) × (grown ≡ held) × (n' ≡ record n { pendings = raised n.pendings 1 }) × (n'.pendings < 1000000)
-ReadGives told at at' f f' pd pd' held grown n n' (Err fault.Stalled) =
-    Rose pd pd' × (n' ≡ record n { pendings = raised n.pendings 1 }) × (1000000 ≤ n'.pendings)
-ReadGives told at at' f f' pd pd' held grown n n' (Err fault.Read) = Rose f f' × (n' ≡ record n { faults = raised n.faults 1 })
-ReadGives told at at' f f' pd pd' held grown n n' (Err fault.TooLong) = ReadsTooMany told at at' held n n'
-ReadGives told at at' f f' pd pd' held grown n n' (Err fault.Memory) = n' ≡ n
-ReadGives told at at' f f' pd pd' held grown n n' (Err e) = ⊥
+abbrev pub ReadGives : (x y : ReaderState) → (held grown : List ℕ) → (n n' : Notes)
+    → Result Fetched WorkFault → Type 0
+ReadGives x y held grown n n' (Ok fetched.More) =
+    HoldsMore x.files x.stands y.stands held grown 1073741824
+    × (n' ≡ record n { given = raised n.given (length grown - length held) })
+ReadGives x y held grown n n' (Ok fetched.Whole) =
+    StandsAtEnd x.files x.stands × (grown ≡ held) × (n' ≡ n)
+ReadGives x y held grown n n' (Ok fetched.Pending) =
+    Rose x.pendings y.pendings × (y.stands ≡ x.stands) × (grown ≡ held)
+    × (n' ≡ record n { pendings = raised n.pendings 1 }) × (n'.pendings < 1000000)
+ReadGives x y held grown n n' (Err fault.Stalled) =
+    Rose x.pendings y.pendings × (n' ≡ record n { pendings = raised n.pendings 1 })
+    × (1000000 ≤ n'.pendings)
+ReadGives x y held grown n n' (Err fault.Read) =
+    Rose x.faults y.faults × (n' ≡ record n { faults = raised n.faults 1 })
+ReadGives x y held grown n n' (Err fault.TooLong) = ReadsTooMany x y held n n'
+ReadGives x y held grown n n' (Err fault.Memory) = n' ≡ n
+ReadGives x y held grown n n' (Err e) = ⊥
 
 -- ---- one step
 
--- all rows of the file are left
-pub record IsRead (told : Told) (part : PartSpec) (r : RowsLeft) : Type 0 where
+-- all of the file is there
+pub record IsRead (told : Told) (lists : Bool) (part : PartSpec) (s : FileState) : Type 0 where
   pub bytes : List ℕ
   pub are : IsFile told part.path bytes
-  pub rest : r.rest ≡ part_records part.header bytes
-  pub count : r.count ≡ 0
+  pub whole : IsWholeFile lists part.header bytes s
 
 -- a step of the fetch, by its answer
-abbrev pub StepsTo : Told → PartSpec → PartState → Notes → PartState → Notes → Wake → Type 0
-StepsTo told part Shut n (Fetching held) n' wake.Later = Unit {0}
-StepsTo told part (Fetching held) n (Fetching grown) n' wake.Later = (n.given < n'.given) ⊎ (n.pendings < n'.pendings)
-StepsTo told part (Fetching held) n (Rows r) n' wake.Ready = IsRead told part r
-StepsTo told part s n s' n' _ = ⊥
+abbrev pub StepsTo : Told → Bool → PartSpec → FileState → Notes → FileState → Notes → Wake → Type 0
+StepsTo told lists part Shut n (Fetching held) n' wake.Later = Unit {0}
+StepsTo told lists part (Fetching held) n (Fetching grown) n' wake.Later =
+    (n.given < n'.given) ⊎ (n.pendings < n'.pendings)
+StepsTo told lists part (Fetching held) n s' n' wake.Ready = IsRead told lists part s'
+StepsTo told lists part s n s' n' _ = ⊥
 
 -- within the limits
 abbrev pub IsWithin : Notes → Type 0
 IsWithin n = (n.pendings < 1000000) × (n.given ≤ 1073741824)
 
 -- why a step fails
-abbrev pub FaultComes : WorkFault → Told → (f f' : ℕ) → PartSpec → Notes → Type 0
-FaultComes fault.Memory told f f' part n = IsWithin n
-FaultComes fault.Read told f f' part n = IsWithin n × Rose f f' × (0 < n.faults)
-FaultComes fault.Stalled told f f' part n = (n.pendings ≡ 1000000) × (n.given ≤ 1073741824)
-FaultComes fault.TooLong told f f' part n = (n.pendings < 1000000) × (1073741824 < n.given) × IsLongFile told part.path 1073741824
-FaultComes e told f f' part n = ⊥
+abbrev pub FaultComes : WorkFault → (x y : ReaderState) → PartSpec → Notes → Type 0
+FaultComes fault.Memory x y part n = IsWithin n
+FaultComes fault.Read x y part n = IsWithin n × Rose x.faults y.faults × (0 < n.faults)
+FaultComes fault.Stalled x y part n = (n.pendings ≡ 1000000) × (n.given ≤ 1073741824)
+FaultComes fault.TooLong x y part n =
+    (n.pendings < 1000000) × (1073741824 < n.given) × IsLongFile x.files part.path 1073741824
+FaultComes e x y part n = ⊥
 
 -- a file that is opened or fetched whole stays so, and nothing more
-abbrev pub StaysAt : PartState → PartState → Type 0
+abbrev pub StaysAt : FileState → FileState → Type 0
 StaysAt Shut Shut = Unit {0}
 StaysAt (Fetching held) (Fetching kept) = Unit {0}
 StaysAt (Rows r) (Rows r') = Unit {0}
+StaysAt (Paths l) (Paths l') = l' ≡ l
 StaysAt _ _ = ⊥
 
-abbrev pub StepComes : Result Wake WorkFault → Told → Stand → (f f' : ℕ) → PartSpec → (s s' : PartState) → (n n' : Notes) → Type 0
-StepComes (Ok a) told at' f f' part s s' n n' = StepsTo told part s n s' n' a × IsTiedTo told at' part (stage_of part s') n'.given n'.pendings
-StepComes (Err e) told at' f f' part s s' n n' = FaultComes e told f f' part n' × StaysAt s s'
+abbrev pub StepComes : Result Wake WorkFault → (x y : ReaderState) → Bool → PartSpec
+    → (s s' : FileState) → (n n' : Notes) → Type 0
+StepComes (Ok a) x y lists part s s' n n' = StepsTo x.files lists part s n s' n' a
+    × IsTiedTo x.files y.stands lists part (stage_in part s') n'.given n'.pendings
+StepComes (Err e) x y lists part s s' n n' = FaultComes e x y part n' × StaysAt s s'
 
 -- A step. The reader's counts never fall, and what is noted of them rose by no more.
-pub record Steps (told : Told) (at' : Stand) (f f' pd pd' : ℕ) (part : PartSpec) (s s' : PartState) (n n' : Notes) (r : Result Wake WorkFault) : Type 0 where
-  pub faults_kept : f ≤ f'
-  pub pendings_kept : pd ≤ pd'
+pub record Steps (x y : ReaderState) (lists : Bool) (part : PartSpec) (s s' : FileState)
+    (n n' : Notes) (r : Result Wake WorkFault) : Type 0 where
+  pub after : IsAfter x y
   pub given_kept : n.given ≤ n'.given
-  pub faults_since : (base : ℕ) → raised base n.faults ≤ f → raised base n'.faults ≤ f'
-  pub pendings_since : (base : ℕ) → raised base n.pendings ≤ pd → raised base n'.pendings ≤ pd'
+  pub faults_since : (base : ℕ) → raised base n.faults ≤ x.faults → raised base n'.faults ≤ y.faults
+  pub pendings_since : (base : ℕ) → raised base n.pendings ≤ x.pendings
+      → raised base n'.pendings ≤ y.pendings
   pub only : n' ≡ record n { given = n'.given; faults = n'.faults; pendings = n'.pendings }
-  pub comes : StepComes r told at' f f' part s s' n n'
+  pub comes : StepComes r x y lists part s s' n n'

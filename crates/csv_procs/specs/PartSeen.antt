@@ -1,6 +1,5 @@
--- What is seen of a source of a part's rows.
-use Rattle.csv_procs.specs.Prelude.{BoxPicture, Files, List, Option, ReaderView, RowCount, ShellPart, Some, shell_seen, ℕ}
-use Rattle.query_model.specs.declared.processor_spec.Kind.TheVariants as kind
+-- What is seen of a source of rows by its file.
+use Rattle.csv_procs.specs.Prelude.{BoxPicture, Files, Kind, List, Option, ReaderView, RowCount, ShellPart, Some, shell_seen, ℕ}
 
 -- what a contract sees: the files that its reader tells, the reader's counts, and what is loaded
 pub record SourceView : Type 0 where
@@ -15,5 +14,5 @@ pub record SourceView : Type 0 where
 abbrev pub reader_of : SourceView → ReaderView
 reader_of s = record { files = s.files; faults = s.faults; pendings = s.pendings }
 
-abbrev pub source_seen : SourceView → BoxPicture
-source_seen s = shell_seen kind.Csv (Some (reader_of s)) s.count s.loaded
+abbrev pub seen_by : Kind → SourceView → BoxPicture
+seen_by k s = shell_seen k (Some (reader_of s)) s.count s.loaded

@@ -1,11 +1,15 @@
-ghost use Rattle.std.specs.Prelude.{◌≡◌, ◌≤◌};
-ghost use Rattle.csv_procs.specs.Names.{FileEntry, IsSome, IsTiedTo, List, Option, ReadGives, Steps, stage_of, ℕ};
+ghost use Rattle.std.specs.Prelude.{◌≡◌};
+ghost use Rattle.csv_procs.specs.Names.{IfOk, IfSome, IsAfter, IsSome, IsWholeFile, OnErr, OnOk, ReadGives, ReaderState, Rose, Some, file_bytes, lists_in};
 
-use crate::parsing::{Parsing, PartState};
-use chunk_data::Bytes;
+use crate::file_kernel::FileKernel;
+use crate::file_state::FileState;
+use crate::listed_growth::listed_growth;
+use crate::listed_paths::read_list;
+use crate::sourcing::{Sourced, Sourcing};
+use chunk_data::{Bytes, Memory};
 use csv_rows::{FetchFault, Fetched, RowReader, hold_block};
 use outside_io::{Failed, FileReader, Got};
-use proc_api::{BoxNotes, Wake, WorkFault};
+use proc_api::{BoxNotes, Growth, Wake, WorkFault};
 use std::alloc::Global;
 use std::mem::replace;
 
@@ -18,46 +22,37 @@ const MOST_BYTES: u64 = 1_073_741_824;
 /// The reader stalls as soon as it had nothing to give so often.
 const MOST_PENDINGS: u64 = 1_000_000;
 
-/// A reader that can feed a source.
-pub(crate) trait Feeds {
-    ghost files: { Self → Option (List FileEntry) };
+/// A reader as its source uses it.
+pub trait Feeds {
+    ghost reader: { Self → ReaderState };
 
-    ghost stands: { Self → Option (List ℕ × ℕ) };
-
-    ghost faults: { Self → ℕ };
-
-    ghost pendings: { Self → ℕ };
+    /// Opens a file at its first byte.
+    fn open_file(&mut self, path: &Bytes) -> Result<(), Failed>
+        ensures after { IsAfter (reader self.old) (reader self.new) }
+        ensures opened { OnOk result ((reader self.new).stands ≡ Some (path.now, 0)) }
+        ensures found { OnOk result (IfSome (reader self.old).files
+            (λ all. IsSome (file_bytes all path.now))) }
+        ensures fault { OnErr result (Rose (reader self.old).faults (reader self.new).faults) };
 
     /// Makes one read of the file in which it stands, and notes what it gave.
     fn fetch_more(&mut self, held: &mut Bytes, notes: &mut BoxNotes) -> Result<Fetched, WorkFault>
-        requires { IsSome (stands self.old) }
-        ensures told { files self.new ≡ files self.old }
-        ensures faults_kept { faults self.old ≤ faults self.new }
-        ensures pendings_kept { pendings self.old ≤ pendings self.new }
-        ensures gives { ReadGives (files self.old) (stands self.old) (stands self.new) (faults self.old) (faults self.new) (pendings self.old) (pendings self.new) held.old held.new notes.old notes.new result };
-
-    /// Makes one step of the fetch of a part's file: opens its path, or reads on. At the file's end the rows are in
-    /// front of the first record.
-    fn feed(
-        &mut self,
-        alloc: Global,
-        kernel: &mut Parsing,
-        notes: &mut BoxNotes,
-    ) -> Result<Wake, WorkFault>
-        requires { IsTiedTo (files self.old) (stands self.old) kernel.old.part (stage_of kernel.old.part kernel.old.state) notes.old.given notes.old.pendings }
-        ensures told { files self.new ≡ files self.old }
-        ensures part { kernel.new.part ≡ kernel.old.part }
-        ensures steps { Steps (files self.old) (stands self.new) (faults self.old) (faults self.new) (pendings self.old) (pendings self.new) kernel.old.part kernel.old.state kernel.new.state notes.old notes.new result };
+        requires { IsSome (reader self.old).stands }
+        ensures after { IsAfter (reader self.old) (reader self.new) }
+        ensures gives { ReadGives (reader self.old) (reader self.new) held.old held.new notes.old
+            notes.new result };
 }
 
 impl<R: FileReader> Feeds for R {
-    ghost files = { R.files };
+    ghost reader = { λ r. record {
+      files = R.files r;
+      stands = R.stands r;
+      faults = R.faults r;
+      pendings = R.pendings r;
+    } };
 
-    ghost stands = { R.stands };
-
-    ghost faults = { R.faults };
-
-    ghost pendings = { R.pendings };
+    fn open_file(&mut self, path: &Bytes) -> Result<(), Failed> {
+        self.open_path(path)
+    }
 
     fn fetch_more(&mut self, held: &mut Bytes, notes: &mut BoxNotes) -> Result<Fetched, WorkFault> {
         let had = held.len();
@@ -88,17 +83,45 @@ impl<R: FileReader> Feeds for R {
             }
         }
     }
+}
 
-    fn feed(
+// What is made of the bytes of a file that is fetched whole: a part's rows are in front of the
+// first record.
+fn whole_file(alloc: Global, lists: bool, bytes: Bytes, header: bool) -> Result<FileState, Memory>
+    ensures whole { IfOk result (IsWholeFile lists header bytes) }
+    ensures read { IfOk result (λ s. lists_in lists s ≡ lists) }
+{
+    if lists {
+        return Ok(FileState::Paths(read_list(alloc, bytes.as_slice())?));
+    }
+    Ok(FileState::Rows(RowReader::new(alloc, bytes.into_vec(), header)?))
+}
+
+impl<S: Sourced> FileKernel for Sourcing<S> {
+    ghost use Rattle.std.proofs.Common.{refl};
+
+    ghost lists = { S.lists };
+
+    ghost part_of = { λ k. k.part };
+
+    ghost file_of = { λ k. k.state };
+
+    ghost kinds = { refl };
+
+    ghost shows = { λ k. refl };
+
+    ghost opens = { λ k i. refl };
+
+    fn feed<F: Feeds>(
         &mut self,
         alloc: Global,
-        kernel: &mut Parsing,
+        reader: &mut F,
         notes: &mut BoxNotes,
     ) -> Result<Wake, WorkFault> {
-        match &mut kernel.state {
-            PartState::Shut => match self.open_path(&kernel.part.path) {
+        match &mut self.state {
+            FileState::Shut => match reader.open_file(&self.part.path) {
                 Ok(()) => {
-                    kernel.state = PartState::Fetching(Bytes::new(alloc));
+                    self.state = FileState::Fetching(Bytes::new(alloc));
                     Ok(Wake::Later)
                 }
                 Err(Failed) => {
@@ -106,12 +129,12 @@ impl<R: FileReader> Feeds for R {
                     Err(WorkFault::Read)
                 }
             },
-            PartState::Fetching(held) => match self.fetch_more(held, notes) {
+            FileState::Fetching(held) => match reader.fetch_more(held, notes) {
                 Ok(Fetched::Whole) => {
                     let bytes = replace(held, Bytes::new(alloc));
-                    match RowReader::new(alloc, bytes.into_vec(), kernel.part.header) {
-                        Ok(rows) => {
-                            kernel.state = PartState::Rows(rows);
+                    match whole_file(alloc, S::lists(), bytes, self.part.header) {
+                        Ok(whole) => {
+                            self.state = whole;
                             Ok(Wake::Ready)
                         }
                         Err(_) => Err(WorkFault::Memory),
@@ -122,7 +145,19 @@ impl<R: FileReader> Feeds for R {
                 Err(fault) => Err(fault),
             },
             // It answers Async and Later only until then.
-            PartState::Rows(_) => Err(WorkFault::Memory),
+            FileState::Rows(_) | FileState::Paths(_) => Err(WorkFault::Memory),
         }
+    }
+
+    fn grow(&mut self, alloc: Global) -> Result<Growth, Memory> {
+        let FileState::Paths(list) = &mut self.state else {
+            return Err(Memory);
+        };
+        if list.grown || list.bad_line.is_some() || list.paths.len() == 0 {
+            return Err(Memory);
+        }
+        let growth = listed_growth(alloc, &self.part, &list.paths)?;
+        list.grown = true;
+        Ok(growth)
     }
 }
