@@ -1,5 +1,6 @@
--- Which tokens spell a query. Each relation has a case for each line of the grammar: `IsTerm e ts rest` says that the tokens ts
--- begin with a spelling of the term e, and that rest is what follows it.
+-- Which tokens spell a query. Each relation has a case for each line of the grammar: `IsTerm e ts
+-- rest` says that the tokens ts begin with a spelling of the term e, and that rest is what follows
+-- it.
 use Rattle.std.specs.Prelude.{◌≡◌, ℕ, true, false, List, [], ◌∷◌, Option, Some, None, codes}
 use Rattle.sql_grammar.specs.QueryTypes.{column, number, arith, ColumnRef, AggOp, CompareOp, TableRef, NamePair, Join, OrderKey, Span, Query}
 use Rattle.query_model.specs.declared.query.ArithOp.TheVariants as op
@@ -19,43 +20,52 @@ Tokens = List Token
 
 -- column = name | name "." name
 pub data IsColumn : ColumnRef → Tokens → Tokens → Type 0 where
-  unqualified : {name : List ℕ} {rest : Tokens} → IsColumn (record { table = None; name = name }) (token.Name name ∷ rest) rest
+  unqualified : {name : List ℕ} {rest : Tokens}
+      → IsColumn (record { table = None; name = name }) (token.Name name ∷ rest) rest
   qualified : {table name : List ℕ} {rest : Tokens}
-      → IsColumn (record { table = Some table; name = name }) (token.Name table ∷ token.Sign sign.Dot ∷ token.Name name ∷ rest) rest
+      → IsColumn (record { table = Some table; name = name })
+      (token.Name table ∷ token.Sign sign.Dot ∷ token.Name name ∷ rest) rest
 
 mutual
   -- expr = term {("+" | "-") term}
   pub data IsExpr : Expression → Tokens → Tokens → Type 0 where
     one_term : {e : Expression} {ts rest : Tokens} → IsTerm e ts rest → IsExpr e ts rest
     sum : {a b : Expression} {ts mid rest : Tokens}
-        → IsExpr a ts (token.Sign sign.Plus ∷ mid) → IsTerm b mid rest → IsExpr (arith op.Add a b) ts rest
+        → IsExpr a ts (token.Sign sign.Plus ∷ mid) → IsTerm b mid rest
+        → IsExpr (arith op.Add a b) ts rest
     difference : {a b : Expression} {ts mid rest : Tokens}
-        → IsExpr a ts (token.Sign sign.Minus ∷ mid) → IsTerm b mid rest → IsExpr (arith op.Sub a b) ts rest
+        → IsExpr a ts (token.Sign sign.Minus ∷ mid) → IsTerm b mid rest
+        → IsExpr (arith op.Sub a b) ts rest
 
   -- term = factor {"*" factor}
   pub data IsTerm : Expression → Tokens → Tokens → Type 0 where
     one_factor : {e : Expression} {ts rest : Tokens} → IsFactor e ts rest → IsTerm e ts rest
     product : {a b : Expression} {ts mid rest : Tokens}
-        → IsTerm a ts (token.Sign sign.Star ∷ mid) → IsFactor b mid rest → IsTerm (arith op.Mul a b) ts rest
+        → IsTerm a ts (token.Sign sign.Star ∷ mid) → IsFactor b mid rest
+        → IsTerm (arith op.Mul a b) ts rest
 
   -- factor = column | number | "-" number | "(" expr ")"
   pub data IsFactor : Expression → Tokens → Tokens → Type 0 where
     a_column : {c : ColumnRef} {ts rest : Tokens} → IsColumn c ts rest → IsFactor (column c) ts rest
-    a_number : {n : ℕ} {rest : Tokens} → IsFactor (number (record { negative = false; size = n })) (token.Number n ∷ rest) rest
+    a_number : {n : ℕ} {rest : Tokens}
+        → IsFactor (number (record { negative = false; size = n })) (token.Number n ∷ rest) rest
     negative : {n : ℕ} {rest : Tokens}
-        → IsFactor (number (record { negative = true; size = n })) (token.Sign sign.Minus ∷ token.Number n ∷ rest) rest
+        → IsFactor (number (record { negative = true; size = n }))
+        (token.Sign sign.Minus ∷ token.Number n ∷ rest) rest
     enclosed : {e : Expression} {ts rest : Tokens}
         → IsExpr e ts (token.Sign sign.Close ∷ rest) → IsFactor e (token.Sign sign.Open ∷ ts) rest
 
 -- agg = "count" "(" ["*"] ")" | ("sum" | "min" | "max") "(" expr ")"
 pub data IsAgg : CallTree → Tokens → Tokens → Type 0 where
   count_rows : {w : List ℕ} {rest : Tokens} → aggregate_of w ≡ Some agg.Count
-      → IsAgg (record { op = agg.Count; arg = None }) (token.Name w ∷ token.Sign sign.Open ∷ token.Sign sign.Close ∷ rest) rest
+      → IsAgg (record { op = agg.Count; arg = None })
+      (token.Name w ∷ token.Sign sign.Open ∷ token.Sign sign.Close ∷ rest) rest
   count_star : {w : List ℕ} {rest : Tokens} → aggregate_of w ≡ Some agg.Count
       → IsAgg (record { op = agg.Count; arg = None })
-      (token.Name w ∷ token.Sign sign.Open ∷ token.Sign sign.Star ∷ token.Sign sign.Close ∷ rest) rest
-  call_over : {w : List ℕ} {op : AggOp} {e : Expression} {ts rest : Tokens} → aggregate_of w ≡ Some op → has_argument op ≡ true
-      → IsExpr e ts (token.Sign sign.Close ∷ rest)
+      (token.Name w ∷ token.Sign sign.Open ∷ token.Sign sign.Star ∷ token.Sign sign.Close ∷ rest)
+      rest
+  call_over : {w : List ℕ} {op : AggOp} {e : Expression} {ts rest : Tokens} → aggregate_of w
+      ≡ Some op → has_argument op ≡ true → IsExpr e ts (token.Sign sign.Close ∷ rest)
       → IsAgg (record { op = op; arg = Some e }) (token.Name w ∷ token.Sign sign.Open ∷ ts) rest
 
 -- operand = expr | string
@@ -65,11 +75,14 @@ pub data IsOperand : Side → Tokens → Tokens → Type 0 where
 
 -- operand of HAVING = column | agg | number | "-" number | string
 pub data IsGroupOperand : Side → Tokens → Tokens → Type 0 where
-  a_key : {c : ColumnRef} {ts rest : Tokens} → IsColumn c ts rest → IsGroupOperand (plain (column c)) ts rest
+  a_key : {c : ColumnRef} {ts rest : Tokens} → IsColumn c ts rest
+      → IsGroupOperand (plain (column c)) ts rest
   a_call : {c : CallTree} {ts rest : Tokens} → IsAgg c ts rest → IsGroupOperand (call c) ts rest
-  a_constant : {n : ℕ} {rest : Tokens} → IsGroupOperand (plain (number (record { negative = false; size = n }))) (token.Number n ∷ rest) rest
+  a_constant : {n : ℕ} {rest : Tokens} → IsGroupOperand
+      (plain (number (record { negative = false; size = n }))) (token.Number n ∷ rest) rest
   a_negative : {n : ℕ} {rest : Tokens}
-      → IsGroupOperand (plain (number (record { negative = true; size = n }))) (token.Sign sign.Minus ∷ token.Number n ∷ rest) rest
+      → IsGroupOperand (plain (number (record { negative = true; size = n })))
+      (token.Sign sign.Minus ∷ token.Number n ∷ rest) rest
   a_text : {t : List ℕ} {rest : Tokens} → IsGroupOperand (text t) (token.Text t ∷ rest) rest
 
 -- op = "=" | "==" | "!=" | "<>" | "<" | "<=" | ">" | ">="
@@ -84,39 +97,50 @@ pub data IsComparison : CompareOp → Sign → Type 0 where
 -- Conditions, over a relation of the operands of comparisons: WHERE and HAVING have each its own.
 mutual
   -- cond = conj {OR conj}
-  pub data IsCond (Op : Side → Tokens → Tokens → Type 0) : Condition → Tokens → Tokens → Type 0 where
+  pub data IsCond (Op : Side → Tokens → Tokens → Type 0) : Condition → Tokens → Tokens
+      → Type 0 where
     one_conj : {c : Condition} {ts rest : Tokens} → IsConj Op c ts rest → IsCond Op c ts rest
     disjunction : {a b : Condition} {ts mid rest : Tokens}
-        → IsCond Op a ts (token.Keyword keyword.Or ∷ mid) → IsConj Op b mid rest → IsCond Op (either a b) ts rest
+        → IsCond Op a ts (token.Keyword keyword.Or ∷ mid) → IsConj Op b mid rest
+        → IsCond Op (either a b) ts rest
 
   -- conj = neg {AND neg}
-  pub data IsConj (Op : Side → Tokens → Tokens → Type 0) : Condition → Tokens → Tokens → Type 0 where
+  pub data IsConj (Op : Side → Tokens → Tokens → Type 0) : Condition → Tokens → Tokens
+      → Type 0 where
     one_neg : {c : Condition} {ts rest : Tokens} → IsNeg Op c ts rest → IsConj Op c ts rest
     conjunction : {a b : Condition} {ts mid rest : Tokens}
-        → IsConj Op a ts (token.Keyword keyword.And ∷ mid) → IsNeg Op b mid rest → IsConj Op (both a b) ts rest
+        → IsConj Op a ts (token.Keyword keyword.And ∷ mid) → IsNeg Op b mid rest
+        → IsConj Op (both a b) ts rest
 
   -- neg = NOT neg | "(" cond ")" | operand op operand
   pub data IsNeg (Op : Side → Tokens → Tokens → Type 0) : Condition → Tokens → Tokens → Type 0 where
-    negation : {c : Condition} {ts rest : Tokens} → IsNeg Op c ts rest → IsNeg Op (negated c) (token.Keyword keyword.Not ∷ ts) rest
+    negation : {c : Condition} {ts rest : Tokens} → IsNeg Op c ts rest
+        → IsNeg Op (negated c) (token.Keyword keyword.Not ∷ ts) rest
     enclosed_cond : {c : Condition} {ts rest : Tokens}
-        → IsCond Op c ts (token.Sign sign.Close ∷ rest) → IsNeg Op c (token.Sign sign.Open ∷ ts) rest
+        → IsCond Op c ts (token.Sign sign.Close ∷ rest)
+        → IsNeg Op c (token.Sign sign.Open ∷ ts) rest
     comparison : {o : CompareOp} {s : Sign} {a b : Side} {ts mid rest : Tokens}
-        → Op a ts (token.Sign s ∷ mid) → IsComparison o s → Op b mid rest → IsNeg Op (compare o a b) ts rest
+        → Op a ts (token.Sign s ∷ mid) → IsComparison o s → Op b mid rest
+        → IsNeg Op (compare o a b) ts rest
 
 -- x {separator x}
-pub data AreListed {X : Type 0} (Is : X → Tokens → Tokens → Type 0) (separator : Token) : List X → Tokens → Tokens → Type 0 where
+pub data AreListed {X : Type 0} (Is : X → Tokens → Tokens → Type 0) (separator : Token) : List X
+    → Tokens → Tokens → Type 0 where
   last_one : {x : X} {ts rest : Tokens} → Is x ts rest → AreListed Is separator (x ∷ []) ts rest
   one_more : {x : X} {xs : List X} {ts mid rest : Tokens}
-      → Is x ts (separator ∷ mid) → AreListed Is separator xs mid rest → AreListed Is separator (x ∷ xs) ts rest
+      → Is x ts (separator ∷ mid) → AreListed Is separator xs mid rest
+      → AreListed Is separator (x ∷ xs) ts rest
 
 -- expr | agg
 pub data IsWhat : ItemWhat → Tokens → Tokens → Type 0 where
-  an_expression : {e : Expression} {ts rest : Tokens} → IsExpr e ts rest → IsWhat (plain_item e) ts rest
+  an_expression : {e : Expression} {ts rest : Tokens} → IsExpr e ts rest
+      → IsWhat (plain_item e) ts rest
   an_agg : {c : CallTree} {ts rest : Tokens} → IsAgg c ts rest → IsWhat (call_item c) ts rest
 
 -- item = (expr | agg) [AS name]
 pub data IsItem : ItemTree → Tokens → Tokens → Type 0 where
-  unnamed : {w : ItemWhat} {ts rest : Tokens} → IsWhat w ts rest → IsItem (record { what = w; alias = None }) ts rest
+  unnamed : {w : ItemWhat} {ts rest : Tokens} → IsWhat w ts rest
+      → IsItem (record { what = w; alias = None }) ts rest
   named : {w : ItemWhat} {name : List ℕ} {ts rest : Tokens}
       → IsWhat w ts (token.Keyword keyword.As ∷ token.Name name ∷ rest)
       → IsItem (record { what = w; alias = Some name }) ts rest
@@ -124,42 +148,49 @@ pub data IsItem : ItemTree → Tokens → Tokens → Type 0 where
 -- items = "*" | item {"," item}
 pub data IsSelection : Selection → Tokens → Tokens → Type 0 where
   all_columns : {rest : Tokens} → IsSelection star (token.Sign sign.Star ∷ rest) rest
-  some_items : {is : List ItemTree} {ts rest : Tokens} → AreListed IsItem (token.Sign sign.Comma) is ts rest → IsSelection (listed is) ts rest
+  some_items : {is : List ItemTree} {ts rest : Tokens}
+      → AreListed IsItem (token.Sign sign.Comma) is ts rest → IsSelection (listed is) ts rest
 
 -- table = name | "numbers" "(" number ")"
 pub data IsTable : TableRef → Tokens → Tokens → Type 0 where
-  named_table : {name : List ℕ} {rest : Tokens} → IsTable (table.Named name) (token.Name name ∷ rest) rest
+  named_table : {name : List ℕ} {rest : Tokens}
+      → IsTable (table.Named name) (token.Name name ∷ rest) rest
   numbers_table : {n : ℕ} {rest : Tokens}
       → IsTable (table.Numbers n)
-      (token.Name (codes "numbers") ∷ token.Sign sign.Open ∷ token.Number n ∷ token.Sign sign.Close ∷ rest) rest
+      (token.Name (codes "numbers") ∷ token.Sign sign.Open ∷ token.Number n ∷ token.Sign sign.Close
+      ∷ rest) rest
 
 -- pair = column ("=" | "==") column
 pub data IsPair : NamePair → Tokens → Tokens → Type 0 where
   equal_columns : {a b : ColumnRef} {ts mid rest : Tokens}
-      → IsColumn a ts (token.Sign sign.Equal ∷ mid) → IsColumn b mid rest → IsPair (record { left = a; right = b }) ts rest
+      → IsColumn a ts (token.Sign sign.Equal ∷ mid) → IsColumn b mid rest
+      → IsPair (record { left = a; right = b }) ts rest
 
 -- JOIN table ON pair {AND pair}
 pub data IsJoined : Join → Tokens → Tokens → Type 0 where
   table_on : {t : TableRef} {ps : List NamePair} {ts mid rest : Tokens}
-      → IsTable t ts (token.Keyword keyword.On ∷ mid) → AreListed IsPair (token.Keyword keyword.And) ps mid rest
+      → IsTable t ts (token.Keyword keyword.On ∷ mid)
+      → AreListed IsPair (token.Keyword keyword.And) ps mid rest
       → IsJoined (record { table = t; pairs = ps }) (token.Keyword keyword.Join ∷ ts) rest
 
 -- [[INNER] JOIN table ON pair {AND pair}]
 pub data IsJoin : Option Join → Tokens → Tokens → Type 0 where
   no_join : {rest : Tokens} → IsJoin None rest rest
   join_of : {j : Join} {ts rest : Tokens} → IsJoined j ts rest → IsJoin (Some j) ts rest
-  inner_join : {j : Join} {ts rest : Tokens} → IsJoined j ts rest → IsJoin (Some j) (token.Keyword keyword.Inner ∷ ts) rest
+  inner_join : {j : Join} {ts rest : Tokens} → IsJoined j ts rest
+      → IsJoin (Some j) (token.Keyword keyword.Inner ∷ ts) rest
 
 -- [WHERE cond]
 pub data IsFilter : Option Condition → Tokens → Tokens → Type 0 where
   no_filter : {rest : Tokens} → IsFilter None rest rest
-  filter_by : {c : Condition} {ts rest : Tokens} → IsCond IsOperand c ts rest → IsFilter (Some c) (token.Keyword keyword.Where ∷ ts) rest
+  filter_by : {c : Condition} {ts rest : Tokens} → IsCond IsOperand c ts rest
+      → IsFilter (Some c) (token.Keyword keyword.Where ∷ ts) rest
 
 -- [GROUP BY column {"," column}]
 pub data AreKeys : List ColumnRef → Tokens → Tokens → Type 0 where
   no_keys : {rest : Tokens} → AreKeys [] rest rest
-  keys_by : {cs : List ColumnRef} {ts rest : Tokens} → AreListed IsColumn (token.Sign sign.Comma) cs ts rest
-      → AreKeys cs (token.Keyword keyword.Group ∷ token.Keyword keyword.By ∷ ts) rest
+  keys_by : {cs : List ColumnRef} {ts rest : Tokens} → AreListed IsColumn (token.Sign sign.Comma) cs
+      ts rest → AreKeys cs (token.Keyword keyword.Group ∷ token.Keyword keyword.By ∷ ts) rest
 
 -- [HAVING hcond]
 pub data IsHaving : Option Condition → Tokens → Tokens → Type 0 where
@@ -169,26 +200,31 @@ pub data IsHaving : Option Condition → Tokens → Tokens → Type 0 where
 
 -- key = name [ASC | DESC]
 pub data IsOrderKey : OrderKey → Tokens → Tokens → Type 0 where
-  unstated : {name : List ℕ} {rest : Tokens} → IsOrderKey (record { name = name; descending = false }) (token.Name name ∷ rest) rest
+  unstated : {name : List ℕ} {rest : Tokens}
+      → IsOrderKey (record { name = name; descending = false }) (token.Name name ∷ rest) rest
   ascending : {name : List ℕ} {rest : Tokens}
-      → IsOrderKey (record { name = name; descending = false }) (token.Name name ∷ token.Keyword keyword.Asc ∷ rest) rest
+      → IsOrderKey (record { name = name; descending = false })
+      (token.Name name ∷ token.Keyword keyword.Asc ∷ rest) rest
   descending : {name : List ℕ} {rest : Tokens}
-      → IsOrderKey (record { name = name; descending = true }) (token.Name name ∷ token.Keyword keyword.Desc ∷ rest) rest
+      → IsOrderKey (record { name = name; descending = true })
+      (token.Name name ∷ token.Keyword keyword.Desc ∷ rest) rest
 
 -- [ORDER BY key {"," key}]
 pub data IsOrder : List OrderKey → Tokens → Tokens → Type 0 where
   no_order : {rest : Tokens} → IsOrder [] rest rest
-  order_by : {ks : List OrderKey} {ts rest : Tokens} → AreListed IsOrderKey (token.Sign sign.Comma) ks ts rest
-      → IsOrder ks (token.Keyword keyword.Order ∷ token.Keyword keyword.By ∷ ts) rest
+  order_by : {ks : List OrderKey} {ts rest : Tokens} → AreListed IsOrderKey (token.Sign sign.Comma)
+      ks ts rest → IsOrder ks (token.Keyword keyword.Order ∷ token.Keyword keyword.By ∷ ts) rest
 
 -- [LIMIT number [OFFSET number]]
 pub data IsLimit : Option Span → Tokens → Tokens → Type 0 where
   no_limit : {rest : Tokens} → IsLimit None rest rest
   first_rows : {n : ℕ} {rest : Tokens}
-      → IsLimit (Some (record { count = n; skip = 0 })) (token.Keyword keyword.Limit ∷ token.Number n ∷ rest) rest
+      → IsLimit (Some (record { count = n; skip = 0 }))
+      (token.Keyword keyword.Limit ∷ token.Number n ∷ rest) rest
   rows_behind : {n m : ℕ} {rest : Tokens}
       → IsLimit (Some (record { count = n; skip = m }))
-      (token.Keyword keyword.Limit ∷ token.Number n ∷ token.Keyword keyword.Offset ∷ token.Number m ∷ rest) rest
+      (token.Keyword keyword.Limit ∷ token.Number n ∷ token.Keyword keyword.Offset ∷ token.Number m
+      ∷ rest) rest
 
 -- FROM table [[INNER] JOIN ..] [WHERE cond]
 pub data IsSource : TableRef → Option Join → Option Condition → Tokens → Tokens → Type 0 where
@@ -197,12 +233,14 @@ pub data IsSource : TableRef → Option Join → Option Condition → Tokens →
       → IsSource t j f (token.Keyword keyword.From ∷ ts) rest
 
 -- [GROUP BY ..] [HAVING hcond] [ORDER BY ..] [LIMIT ..]
-pub data IsShaping : List ColumnRef → Option Condition → List OrderKey → Option Span → Tokens → Tokens → Type 0 where
-  shaping_of : {ks : List ColumnRef} {h : Option Condition} {os : List OrderKey} {l : Option Span} {ts behind more last rest : Tokens}
-      → AreKeys ks ts behind → IsHaving h behind more → IsOrder os more last → IsLimit l last rest
-      → IsShaping ks h os l ts rest
+pub data IsShaping : List ColumnRef → Option Condition → List OrderKey → Option Span → Tokens
+    → Tokens → Type 0 where
+  shaping_of : {ks : List ColumnRef} {h : Option Condition} {os : List OrderKey} {l : Option Span}
+      {ts behind more last rest : Tokens} → AreKeys ks ts behind → IsHaving h behind more
+      → IsOrder os more last → IsLimit l last rest → IsShaping ks h os l ts rest
 
--- query = SELECT items FROM table [[INNER] JOIN table ON pair {AND pair}] [WHERE cond] [GROUP BY column {"," column}]
+-- query = SELECT items FROM table [[INNER] JOIN table ON pair {AND pair}] [WHERE cond] [GROUP BY
+-- column {"," column}]
 --     [HAVING hcond] [ORDER BY key {"," key}] [LIMIT number [OFFSET number]]
 pub data IsQuery : QueryTree → Tokens → Tokens → Type 0 where
   select_query : {q : QueryTree} {ts mid behind rest : Tokens}
@@ -214,7 +252,8 @@ pub data IsQuery : QueryTree → Tokens → Tokens → Type 0 where
 -- text = query [";"]
 pub data IsText : QueryTree → Tokens → Type 0 where
   bare : {q : QueryTree} {ts : Tokens} → IsQuery q ts [] → IsText q ts
-  with_semicolon : {q : QueryTree} {ts : Tokens} → IsQuery q ts (token.Sign sign.Semicolon ∷ []) → IsText q ts
+  with_semicolon : {q : QueryTree} {ts : Tokens} → IsQuery q ts (token.Sign sign.Semicolon ∷ [])
+      → IsText q ts
 
 -- the query spells the text
 pub record Spells (q : Query) (bytes : List ℕ) : Type 0 where

@@ -70,7 +70,8 @@ word_token word None = token.Name word
 
 -- the word at the front and how many bytes it takes
 abbrev pub word_front : List ℕ → Token × ℕ
-word_front bs = let word = take_while is_word_byte bs in (word_token word (keyword_of word), length word)
+word_front bs = let word = take_while is_word_byte bs in
+    (word_token word (keyword_of word), length word)
 
 abbrev pub begins_with_letter : List ℕ → Bool
 begins_with_letter [] = false
@@ -78,13 +79,16 @@ begins_with_letter (b ∷ bs) = is_letter b
 
 -- a letter or an underscore, then letters, digits and underscores, and no keyword
 unfoldable pub is_name : List ℕ → Bool
-is_name word = begins_with_letter word && list_all is_word_byte word && not (is_some (keyword_of word))
+is_name word =
+    begins_with_letter word && list_all is_word_byte word && not (is_some (keyword_of word))
 
 -- the aggregate that a word means before "(", in any ASCII case
 abbrev pub aggregate_of : List ℕ → Option AggOp
 aggregate_of word =
-    if is_word word (codes "count") then Some agg.Count else if is_word word (codes "sum") then Some agg.Sum
-    else if is_word word (codes "min") then Some agg.Min else if is_word word (codes "max") then Some agg.Max else None
+    if is_word word (codes "count") then Some agg.Count else if is_word word (codes "sum")
+    then Some agg.Sum
+    else if is_word word (codes "min") then Some agg.Min else if is_word word (codes "max")
+    then Some agg.Max else None
 
 -- `count` has no argument, each other call has one
 abbrev pub has_argument : AggOp → Bool
@@ -110,14 +114,17 @@ number_token None = token.LargeNumber
 abbrev pub number_front : List ℕ → Option (Token × ℕ)
 number_front bs =
     let digits = take_while is_ascii_digit bs in
-    if begins_with_letter (drop (length digits) bs) then None else Some (number_token (fitting (number_of digits)), length digits)
+    if begins_with_letter (drop (length digits) bs) then None
+    else Some (number_token (fitting (number_of digits)), length digits)
 
 -- ---- strings
 
--- what a byte is to a string: a quote may be written as two quotes or behind a backslash, and a backslash behind a backslash
+-- what a byte is to a string: a quote may be written as two quotes or behind a backslash, and a
+-- backslash behind a backslash
 abbrev pub text_byte : TextPlace → ℕ → TextByte
 text_byte place.Middle b =
-    if b == 39 then byte.Passed place.BehindQuote else if b == 92 then byte.Passed place.BehindBackslash else byte.Content
+    if b == 39 then byte.Passed place.BehindQuote else if b == 92
+    then byte.Passed place.BehindBackslash else byte.Content
 text_byte place.BehindQuote b = if b == 39 then byte.Content else byte.Behind
 text_byte place.BehindBackslash b = if (b == 39) || (b == 92) then byte.Content else byte.Bad
 
@@ -132,7 +139,8 @@ text_end place.Middle = None
 text_end place.BehindQuote = Some ([], 0)
 text_end place.BehindBackslash = None
 
--- the content of the string that goes on here, and how many bytes are left of it with its last quote
+-- the content of the string that goes on here, and how many bytes are left of it with its last
+-- quote
 unfoldable pub text_at : TextPlace → List ℕ → Option (List ℕ × ℕ)
 text_at p [] = text_end p
 text_at p (b ∷ bs) = text_on (text_byte p b) b (λ next. text_at next bs)
@@ -153,7 +161,8 @@ single_sign b =
 
 -- the sign that begins with `<`, and how many bytes it takes
 abbrev pub less_sign : List ℕ → Sign × ℕ
-less_sign bs = if begins_with 62 bs then (sign.NotEqual, 2) else if begins_with 61 bs then (sign.LessEqual, 2) else (sign.Less, 1)
+less_sign bs = if begins_with 62 bs then (sign.NotEqual, 2) else if begins_with 61 bs
+    then (sign.LessEqual, 2) else (sign.Less, 1)
 
 -- the sign of a comparison that begins with the byte, and how many bytes it takes
 abbrev pub comparison_sign : ℕ → List ℕ → Option (Sign × ℕ)
@@ -161,14 +170,16 @@ comparison_sign b bs =
     if b == 61 then Some (sign.Equal, if begins_with 61 bs then 2 else 1)
     else if b == 33 then (if begins_with 61 bs then Some (sign.NotEqual, 2) else None)
     else if b == 60 then Some (less_sign bs)
-    else if b == 62 then (if begins_with 61 bs then Some (sign.GreaterEqual, 2) else Some (sign.Greater, 1)) else None
+    else if b == 62 then (if begins_with 61 bs then Some (sign.GreaterEqual, 2)
+    else Some (sign.Greater, 1)) else None
 
 abbrev pub sign_or : Option Sign → Option (Sign × ℕ) → Option (Sign × ℕ)
 sign_or (Some s) other = Some (s, 1)
 sign_or None other = other
 
 abbrev pub sign_front : ℕ → List ℕ → Option (Token × ℕ)
-sign_front b bs = option_map (λ r. (token.Sign r.0, r.1)) (sign_or (single_sign b) (comparison_sign b bs))
+sign_front b bs =
+    option_map (λ r. (token.Sign r.0, r.1)) (sign_or (single_sign b) (comparison_sign b bs))
 
 -- ---- texts
 
@@ -181,7 +192,8 @@ abbrev pub token_front : List ℕ → Option (Token × ℕ)
 token_front [] = None
 token_front (b ∷ bs) =
     if is_letter b then Some (word_front (b ∷ bs))
-    else if is_ascii_digit b then number_front (b ∷ bs) else if b == 39 then text_front bs else sign_front b bs
+    else if is_ascii_digit b then number_front (b ∷ bs) else if b == 39 then text_front bs
+    else sign_front b bs
 
 -- the tokens behind a token, which are those behind its bytes
 abbrev pub behind_token : Option (Token × ℕ) → (ℕ → Option (List Token)) → Option (List Token)
@@ -192,7 +204,8 @@ behind_token (Some t) rest = option_map (λ ts. t.0 ∷ ts) (rest (t.1 - 1))
 unfoldable pub tokens_behind : ℕ → List ℕ → Option (List Token)
 tokens_behind n [] = Some []
 tokens_behind zero (b ∷ bs) =
-    if is_blank b then tokens_behind 0 bs else behind_token (token_front (b ∷ bs)) (λ n. tokens_behind n bs)
+    if is_blank b then tokens_behind 0 bs
+    else behind_token (token_front (b ∷ bs)) (λ n. tokens_behind n bs)
 tokens_behind (suc n) (b ∷ bs) = tokens_behind n bs
 
 -- the tokens of a text, where it is a list of tokens

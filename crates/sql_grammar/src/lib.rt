@@ -1,5 +1,5 @@
-//! The tokens of a query's text, keywords and names. The definitions beside it say which tokens a text has, and which tokens
-//! spell a query.
+//! The tokens of a query's text, keywords and names. The definitions beside it say which tokens a
+//! text has, and which tokens spell a query.
 #![tactic(auto)]
 
 ghost use Rattle.std.specs.Prelude.{◌≡◌, Some};
@@ -74,7 +74,8 @@ pub fn keywords_are_read()
     ensures { (k : Keyword) → keyword_of (keyword_text k) ≡ Some k }
 {}
 
-/// A string is read where it is written: its content, from the longest bytes that its quotes enclose.
+/// A string is read where it is written: its content, from the longest bytes that its quotes
+/// enclose.
 pub fn strings_are_read()
     ensures read { StringsAreRead }
     ensures written { StringsAreWritten }
@@ -111,7 +112,8 @@ pub enum Token {
     Sign(Sign),
 }
 
-/// Where a string is: in its middle, or behind a quote or a backslash, which may stand for more than themselves.
+/// Where a string is: in its middle, or behind a quote or a backslash, which may stand for more
+/// than themselves.
 #[derive(Clone, Copy, Debug, PartialEq, Eq)]
 pub enum TextPlace {
     Middle,

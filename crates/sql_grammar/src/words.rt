@@ -101,7 +101,8 @@ fn are_word_bytes(bytes: &[u8]) -> bool
     bytes.iter().all(|byte| is_word_byte(*byte))
 }
 
-/// Whether a text is a name: a letter or an underscore, then letters, digits and underscores, and no keyword.
+/// Whether a text is a name: a letter or an underscore, then letters, digits and underscores, and
+/// no keyword.
 #[tactic(auto, unfolding(crate::specs::Tokens::is_name))]
 pub fn is_name(text: &[u8]) -> bool
     ensures { result ≡ is_name text.now }

@@ -6,4 +6,5 @@ use Rattle.sql_grammar.proofs.words.are_word_bytes.Goals as goal
 
 pub returns : goal.returns
 returns c =
-    all_from_yields_List is_word_byte _ _ _ c.all.ensures.ran (YieldsList-from_slice c.args.bytes.now cc) (λ x b q k. search (rules, tests))
+    all_from_yields_List is_word_byte _ _ _ c.all.ensures.ran
+    (YieldsList-from_slice c.args.bytes.now cc) (λ x b q k. search (rules, tests))
