@@ -44,7 +44,8 @@ pub text_ends : (whole : Option (List ℕ × ℕ)) (bytes front : List ℕ) (i :
 unfolding text_at
 text_ends whole bytes front i p q at last is =
     at ∙ ap (λ i. text_behind front i (text_at p (drop i bytes))) last
-    ∙ ap (λ bs. text_behind front (length bytes) (text_at p bs)) (drop_all (length bytes) bytes (omega arith))
+    ∙ ap (λ bs. text_behind front (length bytes) (text_at p bs))
+    (drop_all (length bytes) bytes (omega arith))
     ∙ ap (λ p. text_behind front (length bytes) (text_end p)) is
 
 -- ---- one token after another

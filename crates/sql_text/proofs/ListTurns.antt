@@ -6,7 +6,8 @@ abbrev with_front : {X : Type 0} → List X → Reading (List X) → Reading (Li
 with_front front read = option_map (λ xs. (front ++ xs.0, xs.1)) read
 
 one_before : {X : Type 0} (front : List X) (x : X) (read : Reading (List X))
-    → with_front front (option_map (λ xs. (x ∷ xs.0, xs.1)) read) ≡ with_front (front ++ x ∷ []) read
+    → with_front front (option_map (λ xs. (x ∷ xs.0, xs.1)) read)
+    ≡ with_front (front ++ x ∷ []) read
 one_before front x None = refl
 one_before front x (Some r) = rw append_assoc refl
 

@@ -32,8 +32,10 @@ column_found clause.OfRows n qualified h = refl
 column_found clause.OfGroups n qualified h = refl
 
 -- what stands in parentheses
-inside_found : (k : Clause) (n : ℕ) (v : Parsed) (ts rest : Tokens) → part_at n k 1 ts ≡ Some (v, token.Sign sign.Close ∷ rest)
-    → closed_at k v (token.Sign sign.Close ∷ rest) ≡ Some (v, rest)
+inside_found : (k : Clause) (n : ℕ) (v : Parsed) (ts rest : Tokens) → part_at n k 1 ts ≡ Some (
+  v,
+  token.Sign sign.Close ∷ rest,
+) → closed_at k v (token.Sign sign.Close ∷ rest) ≡ Some (v, rest)
     → first_part k (part_at n) (token.Sign sign.Open ∷ ts) ≡ Some (v, rest)
 inside_found k n v ts rest read close = ap (option_and_then (λ p. closed_at k p.0 p.1)) read ∙ close
 
@@ -86,17 +88,34 @@ pub record Calls (n : ℕ) (c : CallTree) (ts rest : Tokens) : Type 0 where
   pub known : aggregate_of word ≡ Some op
   pub read : call_at (part_at n) op inside ≡ Some (c, rest)
 
-over_read : (inner : Reads) (op : AggOp) (ts : Tokens) → has_argument op ≡ true → call_at inner op ts ≡ call_over op (inner clause.OfRows 5 ts)
+over_read : (inner : Reads) (op : AggOp) (ts : Tokens) → has_argument op ≡ true
+    → call_at inner op ts ≡ call_over op (inner clause.OfRows 5 ts)
 over_read inner agg.Count ts h = absurd cc
 over_read inner agg.Sum ts h = refl
 over_read inner agg.Min ts h = refl
 over_read inner agg.Max ts h = refl
 
-pub agg_found : {c : CallTree} {ts rest : Tokens} → IsAgg c ts rest → (n : ℕ) → length ts ≤ suc n → Calls n c ts rest
+pub agg_found : {c : CallTree} {ts rest : Tokens} → IsAgg c ts rest → (n : ℕ) → length ts ≤ suc n
+    → Calls n c ts rest
 agg_found (count_rows {w = w} {rest = rest} h) n l =
-    record { word = w; op = agg.Count; inside = token.Sign sign.Close ∷ rest; front = refl; known = h; read = refl }
+    record {
+      word = w;
+      op = agg.Count;
+      inside = token.Sign sign.Close ∷ rest;
+      front = refl;
+      known =
+          h;
+      read = refl;
+    }
 agg_found (count_star {w = w} {rest = rest} h) n l =
-    record { word = w; op = agg.Count; inside = token.Sign sign.Star ∷ token.Sign sign.Close ∷ rest; front = refl; known = h; read = refl }
+    record {
+      word = w;
+      op = agg.Count;
+      inside = token.Sign sign.Star ∷ token.Sign sign.Close ∷ rest;
+      front = refl;
+      known = h;
+      read = refl;
+    }
 agg_found (over {w = w} {op = op} {e = e} {ts = ts} {rest = rest} h k is) n l = record {
   word = w;
   op = op;
@@ -108,10 +127,12 @@ agg_found (over {w = w} {op = op} {e = e} {ts = ts} {rest = rest} h k is) n l = 
 }
 
 -- a call is read as one in HAVING
-call_found : (n : ℕ) (c : CallTree) (ts rest : Tokens) → Calls n c ts rest → first_part clause.OfGroups (part_at n) ts ≡ Some (aggregate c, rest)
+call_found : (n : ℕ) (c : CallTree) (ts rest : Tokens) → Calls n c ts rest
+    → first_part clause.OfGroups (part_at n) ts ≡ Some (aggregate c, rest)
 call_found n c ts rest it =
     ap (first_part clause.OfGroups (part_at n)) it.front
-    ∙ ap (λ o. call_or_column (part_at n) it.word (token.Sign sign.Open ∷ it.inside) (option_map (λ op. (op, it.inside)) o)) it.known
+    ∙ ap (λ o. call_or_column (part_at n) it.word (token.Sign sign.Open ∷ it.inside)
+    (option_map (λ op. (op, it.inside)) o)) it.known
     ∙ ap (option_map (λ r. (aggregate r.0, r.1))) it.read
 
 -- ---- conditions

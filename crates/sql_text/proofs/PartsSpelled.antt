@@ -51,7 +51,8 @@ IsPart k tight (string t) ts rest = ts ≡ token.Text t ∷ rest
 IsPart k tight (aggregate c) ts rest = AsCall k c ts rest
 IsPart k tight (truth c) ts rest = AsCond k tight c ts rest
 
-lower : (k : Clause) (p q : ℕ) (v : Parsed) (ts rest : Tokens) → p ≤ q → IsPart k q v ts rest → IsPart k p v ts rest
+lower : (k : Clause) (p q : ℕ) (v : Parsed) (ts rest : Tokens) → p ≤ q → IsPart k q v ts rest
+    → IsPart k p v ts rest
 lower clause.OfRows p q (expression e) ts rest h is = record {
   expr = is.expr;
   term = λ i. is.term (omega arith);
@@ -66,10 +67,13 @@ lower k p q (truth c) ts rest h is = record {
   neg = λ i. is.neg (omega arith);
 }
 
-pub a_factor : (tight : ℕ) {e : Expression} {ts rest : Tokens} → IsFactor e ts rest → AsExpr tight e ts rest
-a_factor tight f = record { expr = one_term (one_factor f); term = λ k. one_factor f; factor = λ k. f }
+pub a_factor : (tight : ℕ) {e : Expression} {ts rest : Tokens} → IsFactor e ts rest
+    → AsExpr tight e ts rest
+a_factor tight f =
+    record { expr = one_term (one_factor f); term = λ k. one_factor f; factor = λ k. f }
 
-pub a_neg : (k : Clause) (tight : ℕ) {c : Condition} {ts rest : Tokens} → IsNeg (operands_in k) c ts rest → AsCond k tight c ts rest
+pub a_neg : (k : Clause) (tight : ℕ) {c : Condition} {ts rest : Tokens}
+    → IsNeg (operands_in k) c ts rest → AsCond k tight c ts rest
 a_neg k tight n = record { cond' = one_conj (one_neg n); conj = λ i. one_neg n; neg = λ i. n }
 
 -- A part, behind which no joint binds so tightly.
@@ -78,7 +82,8 @@ pub record Found (k : Clause) (least : ℕ) (v : Parsed) (ts rest : Tokens) : Ty
   pub none : next_joint least rest ≡ None
 
 abbrev pub AreSpelled : Reads → Type 0
-AreSpelled inner = (k : Clause) (least : ℕ) (ts : Tokens) → least ≤ 7 → IfSome (inner k least ts) (λ r. Found k least r.0 ts r.1)
+AreSpelled inner = (k : Clause) (least : ℕ) (ts : Tokens) → least ≤ 7
+    → IfSome (inner k least ts) (λ r. Found k least r.0 ts r.1)
 
 -- ---- calls
 
@@ -88,19 +93,21 @@ count_spelled w (token.Sign sign.Close ∷ ts) h = count_rows h
 count_spelled w (token.Sign sign.Star ∷ token.Sign sign.Close ∷ ts) h = count_star h
 count_spelled w _ h = tt
 
-over_spelled : (w : List ℕ) (op : AggOp) (v : Parsed) (ts mid : Tokens) → aggregate_of w ≡ Some op → has_argument op ≡ true
-    → IsPart clause.OfRows 5 v ts mid
-    → IfSome (option_and_then (λ e. over op e mid) (plain_of v)) (λ r. IsAgg r.0 (token.Name w ∷ token.Sign sign.Open ∷ ts) r.1)
+over_spelled : (w : List ℕ) (op : AggOp) (v : Parsed) (ts mid : Tokens) → aggregate_of w ≡ Some op
+    → has_argument op ≡ true → IsPart clause.OfRows 5 v ts mid → IfSome (option_and_then (λ e. over
+    op e mid) (plain_of v)) (λ r. IsAgg r.0 (token.Name w ∷ token.Sign sign.Open ∷ ts) r.1)
 over_spelled w op (expression e) ts (token.Sign sign.Close ∷ rest) h k is = called_over h k is.expr
 over_spelled w op _ ts _ h k is = tt
 
-read_over_spelled : (inner : Reads) → AreSpelled inner → (w : List ℕ) (op : AggOp) (ts : Tokens) → aggregate_of w ≡ Some op → has_argument op ≡ true
-    → IfSome (call_over op (inner clause.OfRows 5 ts)) (λ r. IsAgg r.0 (token.Name w ∷ token.Sign sign.Open ∷ ts) r.1)
+read_over_spelled : (inner : Reads) → AreSpelled inner → (w : List ℕ) (op : AggOp) (ts : Tokens)
+    → aggregate_of w ≡ Some op → has_argument op ≡ true → IfSome (call_over op
+    (inner clause.OfRows 5 ts)) (λ r. IsAgg r.0 (token.Name w ∷ token.Sign sign.Open ∷ ts) r.1)
 read_over_spelled inner h w op ts known has =
     bind _ _ _ (inner clause.OfRows 5 ts) (h clause.OfRows 5 ts (omega arith))
     (λ p found. over_spelled w op p.0 ts p.1 known has found.is)
 
-pub call_spelled : (inner : Reads) → AreSpelled inner → (w : List ℕ) (op : AggOp) (ts : Tokens) → aggregate_of w ≡ Some op
+pub call_spelled : (inner : Reads) → AreSpelled inner → (w : List ℕ) (op : AggOp) (ts : Tokens)
+    → aggregate_of w ≡ Some op
     → IfSome (call_at inner op ts) (λ r. IsAgg r.0 (token.Name w ∷ token.Sign sign.Open ∷ ts) r.1)
 call_spelled inner h w agg.Count ts known = count_spelled w ts known
 call_spelled inner h w agg.Sum ts known = read_over_spelled inner h w agg.Sum ts known refl
@@ -108,23 +115,29 @@ call_spelled inner h w agg.Min ts known = read_over_spelled inner h w agg.Min ts
 call_spelled inner h w agg.Max ts known = read_over_spelled inner h w agg.Max ts known refl
 
 -- what is called stands behind a parenthesis
-pub called_is : (w : List ℕ) (ts : Tokens) (c : AggOp × Tokens) → called w ts ≡ Some c → (ts ≡ token.Sign sign.Open ∷ c.1) × (aggregate_of w ≡ Some c.0)
+pub called_is : (w : List ℕ) (ts : Tokens) (c : AggOp × Tokens) → called w ts ≡ Some c
+    → (ts ≡ token.Sign sign.Open ∷ c.1) × (aggregate_of w ≡ Some c.0)
 called_is w (token.Sign sign.Open ∷ ts) c e = go (aggregate_of w) refl e
   where
     go : (o : Option AggOp) → aggregate_of w ≡ o → option_map (λ op. (op, ts)) o ≡ Some c
         → (token.Sign sign.Open ∷ ts ≡ token.Sign sign.Open ∷ c.1) × (aggregate_of w ≡ Some c.0)
     go None k m = absurd cc
     go (Some op) k m =
-        let same : (op, ts) ≡ c = same_Some (op, ts) c m in
-        (ap (λ (p : AggOp × Tokens). token.Sign sign.Open ∷ p.1) same, k ∙ ap (λ (p : AggOp × Tokens). Some p.0) same)
+        let same : (op, ts) ≡ c = same_Some (op, ts) c m in (
+          ap (λ (p : AggOp × Tokens). token.Sign sign.Open ∷ p.1) same,
+          k
+              ∙ ap (λ (p : AggOp × Tokens). Some p.0) same,
+        )
 called_is w _ c e = absurd cc
 
 -- a call that is found at a word
-pub word_called : (inner : Reads) → AreSpelled inner → (w : List ℕ) (ts : Tokens) (c : AggOp × Tokens) → called w ts ≡ Some c
+pub word_called : (inner : Reads) → AreSpelled inner
+    → (w : List ℕ) (ts : Tokens) (c : AggOp × Tokens) → called w ts ≡ Some c
     → IfSome (call_at inner c.0 c.1) (λ r. IsAgg r.0 (token.Name w ∷ ts) r.1)
 word_called inner h w ts c e =
     let is = called_is w ts c e in
-    subst (λ (x : Tokens). IfSome (call_at inner c.0 c.1) (λ r. IsAgg r.0 (token.Name w ∷ x) r.1)) (sym is.0) (call_spelled inner h w c.0 c.1 is.1)
+    subst (λ (x : Tokens). IfSome (call_at inner c.0 c.1) (λ r. IsAgg r.0 (token.Name w ∷ x) r.1))
+    (sym is.0) (call_spelled inner h w c.0 c.1 is.1)
 
 -- ---- single parts
 
@@ -133,7 +146,8 @@ pub dotted_spelled : (name : List ℕ) (ts : Tokens)
 dotted_spelled name (token.Sign sign.Dot ∷ token.Name c ∷ ts) = qualified
 dotted_spelled name _ = unqualified
 
-column_spelled : (k : Clause) (w : List ℕ) (ts : Tokens) → IsPart k 7 (column_at w ts).0 (token.Name w ∷ ts) (column_at w ts).1
+column_spelled : (k : Clause) (w : List ℕ) (ts : Tokens)
+    → IsPart k 7 (column_at w ts).0 (token.Name w ∷ ts) (column_at w ts).1
 column_spelled clause.OfRows w ts = a_factor 7 (a_column (dotted_spelled w ts))
 column_spelled clause.OfGroups w ts = a_key (dotted_spelled w ts)
 
@@ -143,23 +157,27 @@ word_spelled clause.OfRows inner h w ts = column_spelled clause.OfRows w ts
 word_spelled clause.OfGroups inner h w ts = go (called w ts) refl
   where
     go : (o : Option (AggOp × Tokens)) → called w ts ≡ o
-        → IfSome (call_or_column inner w ts o) (λ r. IsPart clause.OfGroups 7 r.0 (token.Name w ∷ ts) r.1)
+        → IfSome (call_or_column inner w ts o)
+        (λ r. IsPart clause.OfGroups 7 r.0 (token.Name w ∷ ts) r.1)
     go None e = column_spelled clause.OfGroups w ts
     go (Some c) e =
         map_some _ _ _ (call_at inner c.0 c.1) (word_called inner h w ts c e) (λ r is. is)
 
-number_spelled : (k : Clause) (n : ℕ) (ts : Tokens) → IsPart k 7 (expression (number (record { negative = false; size = n }))) (token.Number n ∷ ts) ts
+number_spelled : (k : Clause) (n : ℕ) (ts : Tokens) → IsPart k 7
+    (expression (number (record { negative = false; size = n }))) (token.Number n ∷ ts) ts
 number_spelled clause.OfRows n ts = a_factor 7 a_number
 number_spelled clause.OfGroups n ts = a_constant
 
-negative_spelled : (k : Clause) (ts : Tokens) → IfSome (negative_at ts) (λ r. IsPart k 7 r.0 (token.Sign sign.Minus ∷ ts) r.1)
+negative_spelled : (k : Clause) (ts : Tokens)
+    → IfSome (negative_at ts) (λ r. IsPart k 7 r.0 (token.Sign sign.Minus ∷ ts) r.1)
 negative_spelled clause.OfRows (token.Number n ∷ ts) = a_factor 7 negative
 negative_spelled clause.OfGroups (token.Number n ∷ ts) = a_negative
 negative_spelled k _ = tt
 
 closed_spelled : (k : Clause) (v : Parsed) (ts mid : Tokens) → IsPart k 1 v ts mid
     → IfSome (closed_at k v mid) (λ r. IsPart k 7 r.0 (token.Sign sign.Open ∷ ts) r.1)
-closed_spelled clause.OfRows (expression e) ts (token.Sign sign.Close ∷ rest) is = a_factor 7 (enclosed is.expr)
+closed_spelled clause.OfRows (expression e) ts (token.Sign sign.Close ∷ rest) is =
+    a_factor 7 (enclosed is.expr)
 closed_spelled k (truth c) ts (token.Sign sign.Close ∷ rest) is = a_neg k 7 (enclosed_cond is.cond')
 closed_spelled k _ ts _ is = tt
 
@@ -183,7 +201,8 @@ keyword_spelled k inner h keyword.Not ts =
     (λ p found. negation_spelled k p.0 ts p.1 found.is)
 keyword_spelled k inner h _ ts = tt
 
-first_spelled : (k : Clause) (inner : Reads) → AreSpelled inner → (ts : Tokens) → IfSome (first_part k inner ts) (λ r. IsPart k 7 r.0 ts r.1)
+first_spelled : (k : Clause) (inner : Reads) → AreSpelled inner → (ts : Tokens)
+    → IfSome (first_part k inner ts) (λ r. IsPart k 7 r.0 ts r.1)
 first_spelled k inner h [] = tt
 first_spelled k inner h (token.Name w ∷ ts) = word_spelled k inner h w ts
 first_spelled k inner h (token.Keyword w ∷ ts) = keyword_spelled k inner h w ts
@@ -233,16 +252,20 @@ record Joins (least bound : ℕ) (ts mid : Tokens) (j : Joint) : Type 0 where
   low : least ≤ level j
   high : level j ≤ bound
 
-high_level : (bound : ℕ) (ts : Tokens) (j : Joint) → if_level (suc bound) ts (Some j) ≡ None → level j ≤ bound
+high_level : (bound : ℕ) (ts : Tokens) (j : Joint) → if_level (suc bound) ts (Some j) ≡ None
+    → level j ≤ bound
 high_level bound ts j none = grind arith
 
-joins_by : (least bound : ℕ) (t : Token) (ts : Tokens) (j : Joint) → IsJoint j t → level j ≤ bound → (b : Bool)
-    → nat_le least (level j) ≡ b → IfSome {T = Joint × Tokens} (cond b (Some (j, ts)) None) (λ n. Joins least bound (t ∷ ts) n.1 n.0)
-joins_by least bound t ts j is high true e = record { token = t; front = refl; is = is; low = grind arith; high = high }
+joins_by : (least bound : ℕ) (t : Token) (ts : Tokens) (j : Joint) → IsJoint j t → level j ≤ bound
+    → (b : Bool) → nat_le least (level j) ≡ b → IfSome {T = Joint × Tokens}
+    (cond b (Some (j, ts)) None) (λ n. Joins least bound (t ∷ ts) n.1 n.0)
+joins_by least bound t ts j is high true e =
+    record { token = t; front = refl; is = is; low = grind arith; high = high }
 joins_by least bound t ts j is high false e = tt
 
-if_level-joins : (least bound : ℕ) (t : Token) (ts : Tokens) (o : Option Joint) → IfSome o (λ j. IsJoint j t)
-    → if_level (suc bound) ts o ≡ None → IfSome (if_level least ts o) (λ n. Joins least bound (t ∷ ts) n.1 n.0)
+if_level-joins : (least bound : ℕ) (t : Token) (ts : Tokens) (o : Option Joint)
+    → IfSome o (λ j. IsJoint j t) → if_level (suc bound) ts o ≡ None
+    → IfSome (if_level least ts o) (λ n. Joins least bound (t ∷ ts) n.1 n.0)
 if_level-joins least bound t ts None is none = tt
 if_level-joins least bound t ts (Some j) is none =
     joins_by least bound t ts j is (high_level bound ts j none) (nat_le least (level j)) refl
@@ -250,61 +273,92 @@ if_level-joins least bound t ts (Some j) is none =
 next_joins : (least bound : ℕ) (ts : Tokens) → next_joint (suc bound) ts ≡ None
     → IfSome (next_joint least ts) (λ n. Joins least bound ts n.1 n.0)
 next_joins least bound [] none = tt
-next_joins least bound (t ∷ ts) none = if_level-joins least bound t ts (joint_of t) (token_is t) none
+next_joins least bound (t ∷ ts) none =
+    if_level-joins least bound t ts (joint_of t) (token_is t) none
 
 -- arithmetic of two expressions, which HAVING hasn't
-arith_spelled : (k : Clause) (o : ArithOp) (bound : ℕ) (v w : Parsed) (ts mid rest : Tokens) (t : Token) → IsJoint (joint.Arith o) t
-    → level (joint.Arith o) ≤ bound → IsPart k bound v ts (t ∷ mid) → IsPart k (suc (level (joint.Arith o))) w mid rest
+arith_spelled : (k : Clause) (o : ArithOp) (bound : ℕ) (v w : Parsed) (ts mid rest : Tokens)
+    (t : Token) → IsJoint (joint.Arith o) t → level (joint.Arith o) ≤ bound
+    → IsPart k bound v ts (t ∷ mid) → IsPart k (suc (level (joint.Arith o))) w mid rest
     → IfSome (calculated k o v w) (λ u. IsPart k (level (joint.Arith o)) u ts rest)
 arith_spelled clause.OfRows op.Add bound (expression a) (expression b) ts mid rest t is h l r =
-    record { expr = sum (subst (λ (x : Token). IsExpr a ts (x ∷ mid)) is l.expr) (r.term (omega arith)); term = λ k. absurd (omega arith); factor = λ k. absurd (omega arith) }
+    record {
+      expr = sum (subst (λ (x : Token). IsExpr a ts (x ∷ mid)) is l.expr) (r.term
+          (omega arith));
+      term = λ k. absurd (omega arith);
+      factor = λ k. absurd (omega arith);
+    }
 arith_spelled clause.OfRows op.Sub bound (expression a) (expression b) ts mid rest t is h l r =
-    record { expr = difference (subst (λ (x : Token). IsExpr a ts (x ∷ mid)) is l.expr) (r.term (omega arith)); term = λ k. absurd (omega arith); factor = λ k. absurd (omega arith) }
+    record {
+      expr = difference (subst (λ (x : Token). IsExpr a ts (x ∷ mid)) is l.expr) (r.term
+          (omega arith));
+      term = λ k. absurd (omega arith);
+      factor = λ k. absurd (omega arith);
+    }
 arith_spelled clause.OfRows op.Mul bound (expression a) (expression b) ts mid rest t is h l r =
-    let p : IsTerm (arithmetic op.Mul a b) ts rest = product (subst (λ (x : Token). IsTerm a ts (x ∷ mid)) is (l.term (omega arith))) (r.factor (omega arith)) in
+    let p : IsTerm (arithmetic op.Mul a b) ts rest = product (subst (λ (x : Token). IsTerm a ts
+    (x ∷ mid)) is (l.term (omega arith))) (r.factor (omega arith)) in
     record { expr = one_term p; term = λ k. p; factor = λ k. absurd (omega arith) }
 arith_spelled _ o bound v w ts mid rest t is h l r = tt
 
 -- a part that may be a side of a comparison
-as_operand : (k : Clause) (tight : ℕ) (v : Parsed) (ts rest : Tokens) → IsPart k tight v ts rest → IfSome (side_of v) (λ s. operands_in k s ts rest)
+as_operand : (k : Clause) (tight : ℕ) (v : Parsed) (ts rest : Tokens) → IsPart k tight v ts rest
+    → IfSome (side_of v) (λ s. operands_in k s ts rest)
 as_operand clause.OfRows tight (expression e) ts rest is = an_expr is.expr
 as_operand clause.OfGroups tight (expression e) ts rest is = is
-as_operand clause.OfRows tight (string t) ts rest is = subst (λ (x : Tokens). IsOperand (text t) x rest) (sym is) a_string
-as_operand clause.OfGroups tight (string t) ts rest is = subst (λ (x : Tokens). IsGroupOperand (text t) x rest) (sym is) a_text
+as_operand clause.OfRows tight (string t) ts rest is =
+    subst (λ (x : Tokens). IsOperand (text t) x rest) (sym is) a_string
+as_operand clause.OfGroups tight (string t) ts rest is =
+    subst (λ (x : Tokens). IsGroupOperand (text t) x rest) (sym is) a_text
 as_operand clause.OfRows tight (aggregate c) ts rest is = absurd is
 as_operand clause.OfGroups tight (aggregate c) ts rest is = a_call is
 as_operand k tight (truth c) ts rest is = tt
 
 module _ (k : Clause) where
-  sides_compared : (o : CompareOp) (v w : Option Side) (ts mid rest : Tokens) (s : Sign) → IsComparison o s
-      → IfSome v (λ a. operands_in k a ts (token.Sign s ∷ mid)) → IfSome w (λ b. operands_in k b mid rest)
+  sides_compared : (o : CompareOp) (v w : Option Side) (ts mid rest : Tokens) (s : Sign)
+      → IsComparison o s → IfSome v (λ a. operands_in k a ts (token.Sign s ∷ mid))
+      → IfSome w (λ b. operands_in k b mid rest)
       → IfSome (if_both (λ l r. truth (compare o l r)) v w) (λ u. IsPart k 4 u ts rest)
   sides_compared o None w ts mid rest s is l r = tt
   sides_compared o (Some a) None ts mid rest s is l r = tt
   sides_compared o (Some a) (Some b) ts mid rest s is l r = a_neg k 4 (comparison l is r)
 
-  and_spelled : (bound : ℕ) (v w : Parsed) (ts mid rest : Tokens) (t : Token) → t ≡ token.Keyword keyword.And → 2 ≤ bound
-      → IsPart k bound v ts (t ∷ mid) → IsPart k 3 w mid rest → IfSome (combined k joint.And v w) (λ u. IsPart k 2 u ts rest)
+  and_spelled : (bound : ℕ) (v w : Parsed) (ts mid rest : Tokens) (t : Token)
+      → t ≡ token.Keyword keyword.And → 2 ≤ bound → IsPart k bound v ts (t ∷ mid)
+      → IsPart k 3 w mid rest → IfSome (combined k joint.And v w) (λ u. IsPart k 2 u ts rest)
   and_spelled bound (truth a) (truth b) ts mid rest t is h l r =
-      let c : IsConj (operands_in k) (both a b) ts rest = conjunction (subst (λ (x : Token). IsConj (operands_in k) a ts (x ∷ mid)) is (l.conj h)) (r.neg (omega arith)) in
+      let c : IsConj (operands_in k) (both a b) ts rest = conjunction (subst (λ (x : Token). IsConj
+      (operands_in k) a ts (x ∷ mid)) is (l.conj h)) (r.neg (omega arith)) in
       record { cond' = one_conj c; conj = λ i. c; neg = λ i. absurd (omega arith) }
   and_spelled bound _ _ ts mid rest t is h l r = tt
 
-  or_spelled : (bound : ℕ) (v w : Parsed) (ts mid rest : Tokens) (t : Token) → t ≡ token.Keyword keyword.Or
-      → IsPart k bound v ts (t ∷ mid) → IsPart k 2 w mid rest → IfSome (combined k joint.Or v w) (λ u. IsPart k 1 u ts rest)
+  or_spelled : (bound : ℕ) (v w : Parsed) (ts mid rest : Tokens) (t : Token)
+      → t ≡ token.Keyword keyword.Or → IsPart k bound v ts (t ∷ mid) → IsPart k 2 w mid rest
+      → IfSome (combined k joint.Or v w) (λ u. IsPart k 1 u ts rest)
   or_spelled bound (truth a) (truth b) ts mid rest t is l r =
-      record { cond' = disjunction (subst (λ (x : Token). IsCond (operands_in k) a ts (x ∷ mid)) is l.cond') (r.conj (omega arith)); conj = λ i. absurd (omega arith); neg = λ i. absurd (omega arith) }
+      record {
+        cond' = disjunction (subst (λ (x : Token). IsCond (operands_in k) a ts (x ∷ mid)) is
+            l.cond') (r.conj (omega arith));
+        conj = λ i. absurd (omega arith);
+        neg =
+            λ i. absurd (omega arith);
+      }
   or_spelled bound _ _ ts mid rest t is l r = tt
 
-  combined_spelled : (j : Joint) (bound : ℕ) (v w : Parsed) (ts mid rest : Tokens) (t : Token) → IsJoint j t → level j ≤ bound
-      → IsPart k bound v ts (t ∷ mid) → IsPart k (suc (level j)) w mid rest → IfSome (combined k j v w) (λ u. IsPart k (level j) u ts rest)
-  combined_spelled (joint.Arith o) bound v w ts mid rest t is h l r = arith_spelled k o bound v w ts mid rest t is h l r
+  combined_spelled : (j : Joint) (bound : ℕ) (v w : Parsed) (ts mid rest : Tokens) (t : Token)
+      → IsJoint j t → level j ≤ bound → IsPart k bound v ts (t ∷ mid) → IsPart k
+      (suc (level j)) w mid rest → IfSome (combined k j v w) (λ u. IsPart k (level j) u ts rest)
+  combined_spelled (joint.Arith o) bound v w ts mid rest t is h l r =
+      arith_spelled k o bound v w ts mid rest t is h l r
   combined_spelled (joint.Compare o) bound v w ts mid rest t is h l r =
       sides_compared o (side_of v) (side_of w) ts mid rest is.0 is.2
-      (subst (λ (x : Token). IfSome (side_of v) (λ a. operands_in k a ts (x ∷ mid))) is.1 (as_operand k bound v ts (t ∷ mid) l))
+      (subst (λ (x : Token). IfSome (side_of v) (λ a. operands_in k a ts (x ∷ mid))) is.1
+      (as_operand k bound v ts (t ∷ mid) l))
       (as_operand k 5 w mid rest r)
-  combined_spelled joint.And bound v w ts mid rest t is h l r = and_spelled bound v w ts mid rest t is h l r
-  combined_spelled joint.Or bound v w ts mid rest t is h l r = or_spelled bound v w ts mid rest t is l r
+  combined_spelled joint.And bound v w ts mid rest t is h l r =
+      and_spelled bound v w ts mid rest t is h l r
+  combined_spelled joint.Or bound v w ts mid rest t is h l r =
+      or_spelled bound v w ts mid rest t is l r
 
 -- a part with all that joints of its level join to it
 record IsTurned (k : Clause) (tight : ℕ) (v : Parsed) (ts rest : Tokens) : Type 0 where
@@ -313,12 +367,13 @@ record IsTurned (k : Clause) (tight : ℕ) (v : Parsed) (ts rest : Tokens) : Typ
 
 -- what the turns keep: the part at the left, behind which none binds more tightly than bound
 abbrev GoOn : Clause → (Parsed → Tokens → Reading Parsed) → ℕ → Type 0
-GoOn k more least = (bound : ℕ) (v : Parsed) (ts mid : Tokens) → least ≤ bound → IsPart k bound v ts mid
-    → next_joint (suc bound) mid ≡ None → IfSome (more v mid) (λ r. Found k least r.0 ts r.1)
+GoOn k more least = (bound : ℕ) (v : Parsed) (ts mid : Tokens) → least ≤ bound → IsPart k bound v ts
+    mid → next_joint (suc bound) mid ≡ None → IfSome (more v mid) (λ r. Found k least r.0 ts r.1)
 
 module _ (k : Clause) (right : Reads) (h : AreSpelled right) where
   turn_spelled : (j : Joint) (bound : ℕ) (v : Parsed) (ts mid : Tokens) (t : Token)
-      → IsJoint j t → level j ≤ bound → IsPart k bound v ts (t ∷ mid) → IfSome (turn_of k right j v mid) (λ r. IsTurned k (level j) r.0 ts r.1)
+      → IsJoint j t → level j ≤ bound → IsPart k bound v ts (t ∷ mid)
+      → IfSome (turn_of k right j v mid) (λ r. IsTurned k (level j) r.0 ts r.1)
   turn_spelled j bound v ts mid t is high left =
       bind _ _ _ (right k (suc (level j)) mid) (h k (suc (level j)) mid (level_below j))
       (λ r found. map_some _ _ _ (combined k j v r.0)
@@ -326,20 +381,23 @@ module _ (k : Clause) (right : Reads) (h : AreSpelled right) where
       (λ u part. record { is = part; none = found.none }))
 
   joined_at-spelled : (more : Parsed → Tokens → Reading Parsed) (least : ℕ) → GoOn k more least
-      → (bound : ℕ) (v : Parsed) (ts mid : Tokens) → least ≤ bound → IsPart k bound v ts mid → (o : Option (Joint × Tokens))
-      → next_joint least mid ≡ o → IfSome o (λ n. Joins least bound mid n.1 n.0)
-      → IfSome (joined_at k right more v mid o) (λ r. Found k least r.0 ts r.1)
-  joined_at-spelled more least go bound v ts mid i is None e joins = record { is = lower k least bound v ts mid i is; none = e }
+      → (bound : ℕ) (v : Parsed) (ts mid : Tokens) → least ≤ bound → IsPart k bound v ts mid
+      → (o : Option (Joint × Tokens)) → next_joint least mid ≡ o → IfSome o (λ n. Joins least bound
+      mid n.1 n.0) → IfSome (joined_at k right more v mid o) (λ r. Found k least r.0 ts r.1)
+  joined_at-spelled more least go bound v ts mid i is None e joins =
+      record { is = lower k least bound v ts mid i is; none = e }
   joined_at-spelled more least go bound v ts mid i is (Some n) e joins =
       bind _ _ _ (turn_of k right n.0 v n.1)
-      (turn_spelled n.0 bound v ts n.1 joins.token joins.is joins.high (subst (λ (x : Tokens). IsPart k bound v ts x) joins.front is))
+      (turn_spelled n.0 bound v ts n.1 joins.token joins.is joins.high
+      (subst (λ (x : Tokens). IsPart k bound v ts x) joins.front is))
       (λ r turned. go (level n.0) r.0 ts r.1 joins.low turned.is turned.none)
 
   joined_spelled : (least turns : ℕ) → GoOn k (joined k right least turns) least
   unfolding joined
   joined_spelled least zero bound v ts mid i is none = tt
   joined_spelled least (suc turns) bound v ts mid i is none =
-      joined_at-spelled (joined k right least turns) least (joined_spelled least turns) bound v ts mid i is
+      joined_at-spelled (joined k right least turns) least (joined_spelled least turns) bound v ts
+      mid i is
       (next_joint least mid) refl (next_joins least bound mid none)
 
 pub part_spelled : (depth : ℕ) → AreSpelled (part_at depth)
@@ -348,4 +406,5 @@ part_spelled zero k least ts i = tt
 part_spelled (suc depth) k least ts i =
     bind _ _ _ (first_part k (part_at depth) ts)
     (first_spelled k (part_at depth) (part_spelled depth) ts)
-    (λ p is. joined_spelled k (part_at depth) (part_spelled depth) least (suc (length p.1)) 7 p.0 ts p.1 i is (tighter 7 8 p.1 (omega arith) (loose p.1)))
+    (λ p is. joined_spelled k (part_at depth) (part_spelled depth) least (suc (length p.1)) 7 p.0 ts
+    p.1 i is (tighter 7 8 p.1 (omega arith) (loose p.1)))

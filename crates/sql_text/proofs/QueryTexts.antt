@@ -45,7 +45,8 @@ module _ {X : Type 0} (Is : X → Tokens → Tokens → Type 0) (s : Separator)
 
 -- ---- items
 
-plain_found : (n : ℕ) {e : Expression} {ts rest : Tokens} → IsExpr e ts rest → length ts ≤ n → ends_name rest ≡ true → next_joint 5 rest ≡ None
+plain_found : (n : ℕ) {e : Expression} {ts rest : Tokens} → IsExpr e ts rest → length ts ≤ n
+    → ends_name rest ≡ true → next_joint 5 rest ≡ None
     → part_at n clause.OfRows 5 ts ≡ Some (expression e, rest)
 plain_found n {e = e} {ts = ts} {rest = rest} is l ends none =
     deeper n l (expr_shorter is)
@@ -78,15 +79,17 @@ mutual
   factor_begins negative = (refl, λ h. refl)
   factor_begins (enclosed e) = (refl, λ h. refl)
 
-what_found : {w : ItemWhat} {ts rest : Tokens} → IsWhat w ts rest → (n : ℕ) → length ts ≤ n → ends_name rest ≡ true → next_joint 5 rest ≡ None
-    → what_at n ts ≡ Some (w, rest)
+what_found : {w : ItemWhat} {ts rest : Tokens} → IsWhat w ts rest → (n : ℕ) → length ts ≤ n
+    → ends_name rest ≡ true → next_joint 5 rest ≡ None → what_at n ts ≡ Some (w, rest)
 what_found (an_expression {e = e} {ts = ts} {rest = rest} is) n l ends none =
     ap (what_by n ts) ((expr_begins is).1 ends)
-    ∙ ap (option_and_then (λ p. option_map (λ e. (plain_item e, p.1)) (plain_of p.0))) (plain_found n is l ends none)
+    ∙ ap (option_and_then (λ p. option_map (λ e. (plain_item e, p.1)) (plain_of p.0)))
+    (plain_found n is l ends none)
 what_found (an_agg {c = c} {ts = ts} {rest = rest} is) n l ends none =
     let call : Calls n c ts rest = agg_found is n (omega arith) in
     ap (what_at n) call.front
-    ∙ ap (λ o. what_by n (token.Name call.word ∷ token.Sign sign.Open ∷ call.inside) (option_map (λ op. (op, call.inside)) o)) call.known
+    ∙ ap (λ o. what_by n (token.Name call.word ∷ token.Sign sign.Open ∷ call.inside)
+    (option_map (λ op. (op, call.inside)) o)) call.known
     ∙ ap (option_map (λ r. (call_item r.0, r.1))) call.read
 
 -- what ends an item
@@ -95,11 +98,13 @@ record EndsItem (rest : Tokens) : Type 0 where
   joint : next_joint 5 rest ≡ None
   alias : alias_at rest ≡ Some (None, rest)
 
-item_from : (n : ℕ) (w : ItemWhat) (alias : Option (List ℕ)) (ts mid rest : Tokens) → what_at n ts ≡ Some (w, mid)
-    → alias_at mid ≡ Some (alias, rest) → item_at n ts ≡ Some (item_of w alias, rest)
-item_from n w alias ts mid rest read more = ap (option_and_then (λ w. with_alias w.0 (alias_at w.1))) read ∙ ap (with_alias w) more
+item_from : (n : ℕ) (w : ItemWhat) (alias : Option (List ℕ)) (ts mid rest : Tokens) → what_at n ts ≡
+    Some (w, mid) → alias_at mid ≡ Some (alias, rest) → item_at n ts ≡ Some (item_of w alias, rest)
+item_from n w alias ts mid rest read more =
+    ap (option_and_then (λ w. with_alias w.0 (alias_at w.1))) read ∙ ap (with_alias w) more
 
-item_found : (n : ℕ) {i : ItemTree} {ts rest : Tokens} → IsItem i ts rest → length ts ≤ n → EndsItem rest → item_at n ts ≡ Some (i, rest)
+item_found : (n : ℕ) {i : ItemTree} {ts rest : Tokens} → IsItem i ts rest → length ts ≤ n
+    → EndsItem rest → item_at n ts ≡ Some (i, rest)
 item_found n (unnamed {w = w} {ts = ts} {rest = rest} is) l ends =
     item_from n w None ts rest rest (what_found is n l ends.name ends.joint) ends.alias
 item_found n (named {w = w} {name = name} {ts = ts} {rest = rest} is) l ends =
@@ -121,8 +126,8 @@ no_star : {is : List ItemTree} {ts rest : Tokens}
 no_star (the_last i) = item_no_star i
 no_star (and_more i is) = item_no_star i
 
-selection_found : {s : Selection} {ts rest : Tokens} → IsSelection s ts rest → (n : ℕ) → length ts ≤ n
-    → EndsItem rest → behind between.Comma rest ≡ None → selection_at n ts ≡ Some (s, rest)
+selection_found : {s : Selection} {ts rest : Tokens} → IsSelection s ts rest → (n : ℕ) → length ts
+    ≤ n → EndsItem rest → behind between.Comma rest ≡ None → selection_at n ts ≡ Some (s, rest)
 selection_found all_columns n l ends none = refl
 selection_found (some_items {ts = ts} {rest = rest} items) n l ends none =
     listed_at ts (no_star items)
@@ -139,24 +144,30 @@ selection_found (some_items {ts = ts} {rest = rest} items) n l ends none =
 -- ---- tables and joins
 
 numbers_named : (n : ℕ) (rest : Tokens)
-    → table_named (codes "numbers") (token.Sign sign.Open ∷ token.Number n ∷ token.Sign sign.Close ∷ rest) ≡ Some (table.Numbers n, rest)
+    → table_named (codes "numbers") (token.Sign sign.Open ∷ token.Number n ∷ token.Sign sign.Close
+    ∷ rest) ≡ Some (table.Numbers n, rest)
 numbers_named n rest = refl
 
-named_found : (name : List ℕ) (rest : Tokens) → ends_name rest ≡ true → table_named name rest ≡ Some (table.Named name, rest)
+named_found : (name : List ℕ) (rest : Tokens) → ends_name rest ≡ true
+    → table_named name rest ≡ Some (table.Named name, rest)
 named_found name (token.Sign sign.Open ∷ ts) h = cc
 named_found name _ h = refl
 
-table_found : {t : TableRef} {ts rest : Tokens} → IsTable t ts rest → ends_name rest ≡ true → table_at ts ≡ Some (t, rest)
+table_found : {t : TableRef} {ts rest : Tokens} → IsTable t ts rest → ends_name rest ≡ true
+    → table_at ts ≡ Some (t, rest)
 table_found (named_table {name = name} {rest = rest}) h = named_found name rest h
 table_found (numbers_table {n = n} {rest = rest}) h = numbers_named n rest
 
-column_found : {c : ColumnRef} {ts rest : Tokens} → IsColumn c ts rest → ends_name rest ≡ true → column_ref_at ts ≡ Some (c, rest)
+column_found : {c : ColumnRef} {ts rest : Tokens} → IsColumn c ts rest → ends_name rest ≡ true
+    → column_ref_at ts ≡ Some (c, rest)
 column_found (unqualified {name = name} {rest = rest}) h = rw (dotted_found name rest h) refl
 column_found qualified h = refl
 
-pair_found : {p : NamePair} {ts rest : Tokens} → IsPair p ts rest → ends_name rest ≡ true → pair_at ts ≡ Some (p, rest)
+pair_found : {p : NamePair} {ts rest : Tokens} → IsPair p ts rest → ends_name rest ≡ true
+    → pair_at ts ≡ Some (p, rest)
 pair_found (equal_columns {a = a} {b = b} {ts = ts} {mid = mid} {rest = rest} left right) h =
-    ap (option_and_then (λ l. pair_behind l.0 (after_equal l.1))) (column_found left refl) ∙ ap (pair_with a) (column_found right h)
+    ap (option_and_then (λ l. pair_behind l.0 (after_equal l.1))) (column_found left refl)
+    ∙ ap (pair_with a) (column_found right h)
 
 abbrev EndsName : Tokens → Type 0
 EndsName rest = ends_name rest ≡ true
@@ -301,11 +312,13 @@ module _ where
   join_within (joined_with j) = omega (arith, joined_shorter j)
   join_within (inner_join j) = omega (arith, joined_shorter j)
 
-  filter_within : {f : Option Condition} {ts rest : Tokens} → IsFilter f ts rest → length rest ≤ length ts
+  filter_within : {f : Option Condition} {ts rest : Tokens} → IsFilter f ts rest
+      → length rest ≤ length ts
   filter_within no_filter = omega arith
   filter_within (filter_by c) = omega (arith, cond_shorter clause.OfRows c)
 
-  keys_within : {cs : List ColumnRef} {ts rest : Tokens} → AreKeys cs ts rest → length rest ≤ length ts
+  keys_within : {cs : List ColumnRef} {ts rest : Tokens} → AreKeys cs ts rest
+      → length rest ≤ length ts
   keys_within no_keys = omega arith
   keys_within (keys_by cs) =
       omega (arith, list_shorter IsColumn _ (λ x ts rest c. column_shorter c) cs)
@@ -325,11 +338,13 @@ query_found (select_query items (source_of is join filter) (shaping_of keys havi
     let fs = filter_found filter n (omega arith) ks.1 in
     let js = join_found join fs.1 in
     let e = ends _ js.1 in
-    let s = selection_found items n (omega arith) (record { name = refl; joint = refl; alias = refl })
+    let s =
+    selection_found items n (omega arith) (record { name = refl; joint = refl; alias = refl })
     refl in
     rw (s, table_found is e.name, js.0, fs.0, ks.0, hs.0, os.0, ls.0, end) refl
 
-pub text_found : {q : QueryTree} {ts : Tokens} → IsText q ts → (n : ℕ) → length ts ≤ n → query_at n ts ≡ Some q
+pub text_found : {q : QueryTree} {ts : Tokens} → IsText q ts → (n : ℕ) → length ts ≤ n
+    → query_at n ts ≡ Some q
 text_found (bare is) n l = query_found is n l (omega arith) refl
 text_found (with_semicolon is) n l = query_found is n l (omega arith) refl
 
@@ -368,7 +383,8 @@ module _ {X : Type 0} (Is : X → Tokens → Tokens → Type 0) (s : Separator)
 
 -- ---- items
 
-plain_spelled : (v : Parsed) (ts rest : Tokens) → IsPart clause.OfRows 5 v ts rest → IfSome (plain_of v) (λ e. IsExpr e ts rest)
+plain_spelled : (v : Parsed) (ts rest : Tokens) → IsPart clause.OfRows 5 v ts rest
+    → IfSome (plain_of v) (λ e. IsExpr e ts rest)
 plain_spelled (expression e) ts rest is = is.expr
 plain_spelled _ ts rest is = tt
 
@@ -378,14 +394,16 @@ plain_what_spelled n ts =
     (λ p found. map_some _ _ _ (plain_of p.0) (plain_spelled p.0 ts p.1 found.is)
     (λ e is. an_expression is))
 
-called_spelled : (n : ℕ) (ts : Tokens) (c : AggOp × Tokens) → call_front ts ≡ Some c → IfSome (call_at (part_at n) c.0 c.1) (λ r. IsAgg r.0 ts r.1)
+called_spelled : (n : ℕ) (ts : Tokens) (c : AggOp × Tokens) → call_front ts ≡ Some c
+    → IfSome (call_at (part_at n) c.0 c.1) (λ r. IsAgg r.0 ts r.1)
 called_spelled n (token.Name w ∷ ts) c e = word_called (part_at n) (part_spelled n) w ts c e
 called_spelled n _ c e = absurd cc
 
 what_spelled : (n : ℕ) (ts : Tokens) → IfSome (what_at n ts) (λ r. IsWhat r.0 ts r.1)
 what_spelled n ts = go (call_front ts) refl
   where
-    go : (o : Option (AggOp × Tokens)) → call_front ts ≡ o → IfSome (what_by n ts o) (λ r. IsWhat r.0 ts r.1)
+    go : (o : Option (AggOp × Tokens)) → call_front ts ≡ o
+        → IfSome (what_by n ts o) (λ r. IsWhat r.0 ts r.1)
     go None e = plain_what_spelled n ts
     go (Some c) e =
         map_some _ _ _ (call_at (part_at n) c.0 c.1) (called_spelled n ts c e) (λ r is. an_agg is)
@@ -418,11 +436,13 @@ numbers_spelled name (token.Number n ∷ token.Sign sign.Close ∷ ts) e =
     rw e numbers_table
 numbers_spelled name _ e = tt
 
-named_spelled : (name : List ℕ) (ts : Tokens) → IfSome (table_named name ts) (λ r. IsTable r.0 (token.Name name ∷ ts) r.1)
+named_spelled : (name : List ℕ) (ts : Tokens)
+    → IfSome (table_named name ts) (λ r. IsTable r.0 (token.Name name ∷ ts) r.1)
 named_spelled name (token.Sign sign.Open ∷ ts) = go (bytes_eq name (codes "numbers")) refl
   where
     go : (b : Bool) → bytes_eq name (codes "numbers") ≡ b
-        → IfSome (cond b (count_behind ts) None) (λ r. IsTable r.0 (token.Name name ∷ token.Sign sign.Open ∷ ts) r.1)
+        → IfSome (cond b (count_behind ts) None)
+        (λ r. IsTable r.0 (token.Name name ∷ token.Sign sign.Open ∷ ts) r.1)
     go true e = numbers_spelled name ts ((bytes_eq-Decides name (codes "numbers")).0 e)
     go false e = tt
 named_spelled name _ = named_table
@@ -467,7 +487,8 @@ join_spelled _ = no_join
 
 -- ---- conditions
 
-truth_spelled : (k : Clause) (v : Parsed) (ts rest : Tokens) → IsPart k 1 v ts rest → IfSome (condition_of v) (λ c. IsCond (operands_in k) c ts rest)
+truth_spelled : (k : Clause) (v : Parsed) (ts rest : Tokens) → IsPart k 1 v ts rest
+    → IfSome (condition_of v) (λ c. IsCond (operands_in k) c ts rest)
 truth_spelled k (truth c) ts rest is = is.cond'
 truth_spelled k _ ts rest is = tt
 
@@ -502,7 +523,8 @@ keys_spelled (token.Keyword keyword.Group ∷ token.Keyword keyword.By ∷ ts) =
 keys_spelled (token.Keyword keyword.Group ∷ _) = tt
 keys_spelled _ = no_keys
 
-direction_spelled : (name : List ℕ) (ts : Tokens) → IsOrderKey (record { name = name; descending = (direction_at ts).0 }) (token.Name name ∷ ts) (direction_at ts).1
+direction_spelled : (name : List ℕ) (ts : Tokens) → IsOrderKey (record
+    { name = name; descending = (direction_at ts).0 }) (token.Name name ∷ ts) (direction_at ts).1
 direction_spelled name (token.Keyword keyword.Asc ∷ ts) = ascending
 direction_spelled name (token.Keyword keyword.Desc ∷ ts) = descending
 direction_spelled name _ = unstated
@@ -519,8 +541,10 @@ order_spelled (token.Keyword keyword.Order ∷ _) = tt
 order_spelled _ = no_order
 
 limit_spelled : (ts : Tokens) → IfSome (limit_at ts) (λ r. IsLimit r.0 ts r.1)
-limit_spelled (token.Keyword keyword.Limit ∷ token.Number n ∷ token.Keyword keyword.Offset ∷ token.Number m ∷ ts) = rows_behind
-limit_spelled (token.Keyword keyword.Limit ∷ token.Number n ∷ token.Keyword keyword.Offset ∷ ts) = tt
+limit_spelled (token.Keyword keyword.Limit ∷ token.Number n ∷ token.Keyword keyword.Offset
+    ∷ token.Number m ∷ ts) = rows_behind
+limit_spelled (token.Keyword keyword.Limit ∷ token.Number n ∷ token.Keyword keyword.Offset ∷ ts) =
+    tt
 limit_spelled (token.Keyword keyword.Limit ∷ token.Number n ∷ ts) = first_rows
 limit_spelled (token.Keyword keyword.Limit ∷ ts) = tt
 limit_spelled _ = no_limit

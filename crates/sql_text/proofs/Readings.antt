@@ -5,11 +5,14 @@ use Rattle.sql_text.specs.declared.stop.Stop.TheVariants as stop
 use Rattle.sql_text.proofs.QueryTexts.{text_found, text_spelled}
 
 -- the tokens of a spelled text are spelled
-spelled_at : (q : Query) (text : List ℕ) (ts : Tokens) → tokens_of text ≡ Some ts → Spells q text → IsText (query_tree q) ts
-spelled_at q text ts are s = subst (λ (x : Tokens). IsText (query_tree q) x) (same_Some s.tokens ts (sym s.are ∙ are)) s.text
+spelled_at : (q : Query) (text : List ℕ) (ts : Tokens) → tokens_of text ≡ Some ts → Spells q text
+    → IsText (query_tree q) ts
+spelled_at q text ts are s =
+    subst (λ (x : Tokens). IsText (query_tree q) x) (same_Some s.tokens ts (sym s.are ∙ are)) s.text
 
 -- what a spelled text is read as
-read_at : (q : Query) (text : List ℕ) (ts : Tokens) → tokens_of text ≡ Some ts → Spells q text → query_at (length ts) ts ≡ Some (query_tree q)
+read_at : (q : Query) (text : List ℕ) (ts : Tokens) → tokens_of text ≡ Some ts → Spells q text
+    → query_at (length ts) ts ≡ Some (query_tree q)
 read_at q text ts are s = text_found (spelled_at q text ts are s) (length ts) (omega arith)
 
 not_long : (n : ℕ) → n ≤ 65536 → nat_lt 65536 n ≡ false
@@ -42,6 +45,8 @@ is_refused stop.Syntax text ts short are none fails = inr (
 )
 is_refused stop.Memory text ts short are none fails = tt
 
-pub one_tree : (text : List ℕ) (p q : Query) → Spells p text → Spells q text → query_tree p ≡ query_tree q
+pub one_tree : (text : List ℕ) (p q : Query) → Spells p text → Spells q text
+    → query_tree p ≡ query_tree q
 one_tree text p q s t =
-    same_Some (query_tree p) (query_tree q) (sym (read_at p text s.tokens s.are s) ∙ read_at q text s.tokens s.are t)
+    same_Some (query_tree p) (query_tree q)
+    (sym (read_at p text s.tokens s.are s) ∙ read_at q text s.tokens s.are t)

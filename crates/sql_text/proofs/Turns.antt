@@ -21,10 +21,12 @@ level_below (joint.Arith op.Sub) = omega arith
 level_below (joint.Arith op.Mul) = omega arith
 
 -- a joint at the front, where it binds tightly enough
-pub if_level-found : (least : ℕ) (ts : List Token) (j : Joint) → least ≤ level j → if_level least ts (Some j) ≡ Some (j, ts)
+pub if_level-found : (least : ℕ) (ts : List Token) (j : Joint) → least ≤ level j
+    → if_level least ts (Some j) ≡ Some (j, ts)
 if_level-found least ts j h = grind arith
 
-pub if_level-none : (least : ℕ) (ts : List Token) (j : Joint) → level j < least → if_level least ts (Some j) ≡ None
+pub if_level-none : (least : ℕ) (ts : List Token) (j : Joint) → level j < least
+    → if_level least ts (Some j) ≡ None
 if_level-none least ts j h = grind arith
 
 loose_joint : (ts : List Token) (o : Option Joint) → if_level 7 ts o ≡ None
@@ -36,7 +38,8 @@ pub loose : (ts : List Token) → next_joint 7 ts ≡ None
 loose [] = refl
 loose (t ∷ ts) = loose_joint ts (joint_of t)
 
-tighter_joint : (p q : ℕ) (ts : List Token) (o : Option Joint) → p ≤ q → if_level p ts o ≡ None → if_level q ts o ≡ None
+tighter_joint : (p q : ℕ) (ts : List Token) (o : Option Joint) → p ≤ q → if_level p ts o ≡ None
+    → if_level q ts o ≡ None
 tighter_joint p q ts None h none = refl
 tighter_joint p q ts (Some j) h none = grind arith
 
@@ -64,12 +67,15 @@ pub end_of_turns : (k : Clause) (right : Reads) (least turns : ℕ) (v : Parsed)
     → 0 < turns → next_joint least ts ≡ None → joined k right least turns v ts ≡ Some (v, ts)
 unfolding joined
 end_of_turns k right least zero v ts h none = absurd (omega arith)
-end_of_turns k right least (suc turns) v ts h none = ap (joined_at k right (joined k right least turns) v ts) none
+end_of_turns k right least (suc turns) v ts h none =
+    ap (joined_at k right (joined k right least turns) v ts) none
 
 turned_by : (k : Clause) (right : Reads) (j : Joint) (v w u : Parsed) (mid rest : List Token)
-    → right k (suc (level j)) mid ≡ Some (w, rest) → combined k j v w ≡ Some u → turn_of k right j v mid ≡ Some (u, rest)
+    → right k (suc (level j)) mid ≡ Some (w, rest) → combined k j v w ≡ Some u
+    → turn_of k right j v mid ≡ Some (u, rest)
 turned_by k right j v w u mid rest read join =
-    ap (option_and_then (λ r. option_map (λ p. (p, r.1)) (combined k j v r.0))) read ∙ ap (option_map (λ p. (p, rest))) join
+    ap (option_and_then (λ r. option_map (λ p. (p, r.1)) (combined k j v r.0))) read
+    ∙ ap (option_map (λ p. (p, rest))) join
 
 pub turn : (k : Clause) (right : Reads) (least n turns : ℕ) (j : Joint) (v u : Parsed)
     (ts mid rest : List Token) → n ≡ suc turns → next_joint least ts ≡ Some (j, mid)
@@ -132,14 +138,16 @@ pub no_depth : (k : Clause) (least : ℕ) (ts : List Token) → part_at 0 k leas
 unfolding part_at
 no_depth k least ts = refl
 
-pub part_goes : (k : Clause) (depth least : ℕ) (ts : List Token) → 0 < depth → part_at depth k least ts
-    ≡ option_and_then (λ p. joined k (part_at (depth - 1)) least (suc (length p.1)) p.0 p.1) (first_part k (part_at (depth - 1)) ts)
+pub part_goes : (k : Clause) (depth least : ℕ) (ts : List Token) → 0 < depth
+    → part_at depth k least ts ≡ option_and_then (λ p. joined k (part_at (depth - 1)) least
+    (suc (length p.1)) p.0 p.1) (first_part k (part_at (depth - 1)) ts)
 unfolding part_at
 part_goes k zero least ts h = absurd (omega arith)
 part_goes k (suc depth) least ts h =
     let e : suc depth - 1 ≡ depth = omega arith in rw e refl
 
 -- a fault inside is a fault of the whole
-pub fault_goes : {Y W : Type 0} (e : Stop) (read : Option Y) (outer : Option W) → Fails e read → (read ≡ None → outer ≡ None) → Fails e outer
+pub fault_goes : {Y W : Type 0} (e : Stop) (read : Option Y) (outer : Option W) → Fails e read
+    → (read ≡ None → outer ≡ None) → Fails e outer
 fault_goes stop.Syntax read outer h k = k h
 fault_goes stop.Memory read outer h k = tt

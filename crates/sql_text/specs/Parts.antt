@@ -62,8 +62,8 @@ joint_of (token.Keyword k) = keyword_joint k
 joint_of (token.Sign s) = sign_joint s
 joint_of _ = None
 
--- How tightly a joint binds: those of a condition from 1 on, those of a negation from 4 on, since NOT stands at 3, and those of
--- an expression from 5 on.
+-- How tightly a joint binds: those of a condition from 1 on, those of a negation from 4 on, since
+-- NOT stands at 3, and those of an expression from 5 on.
 abbrev pub level : Joint → ℕ
 level joint.Or = 1
 level joint.And = 2
@@ -125,7 +125,8 @@ abbrev pub column_at : List ℕ → List Token → Parsed × List Token
 column_at name ts = (expression (column (dotted name ts).0), (dotted name ts).1)
 
 abbrev pub negative_at : List Token → Reading Parsed
-negative_at (token.Number n ∷ ts) = Some (expression (number (record { negative = true; size = n })), ts)
+negative_at (token.Number n ∷ ts) =
+    Some (expression (number (record { negative = true; size = n })), ts)
 negative_at _ = None
 
 abbrev pub after_close : List Token → Option (List Token)
@@ -170,7 +171,8 @@ abbrev pub called : List ℕ → List Token → Option (AggOp × List Token)
 called w (token.Sign sign.Open ∷ ts) = option_map (λ op. (op, ts)) (aggregate_of w)
 called w _ = None
 
-abbrev pub call_or_column : Reads → List ℕ → List Token → Option (AggOp × List Token) → Reading Parsed
+abbrev pub call_or_column : Reads → List ℕ → List Token → Option (AggOp × List Token)
+    → Reading Parsed
 call_or_column inner w ts None = Some (column_at w ts)
 call_or_column inner w ts (Some c) = option_map (λ r. (aggregate r.0, r.1)) (call_at inner c.0 c.1)
 
@@ -192,12 +194,14 @@ abbrev pub first_keyword : Clause → Reads → Keyword → List Token → Readi
 first_keyword k inner keyword.Not ts = option_and_then (λ p. negation_at p.0 p.1) (inner k 4 ts)
 first_keyword k inner _ ts = None
 
--- a part without joints: a column, a number, a string, a call, what stands in parentheses, or a negation
+-- a part without joints: a column, a number, a string, a call, what stands in parentheses, or a
+-- negation
 abbrev pub first_part : Clause → Reads → List Token → Reading Parsed
 first_part k inner [] = None
 first_part k inner (token.Name w ∷ ts) = word_at k inner w ts
 first_part k inner (token.Keyword word ∷ ts) = first_keyword k inner word ts
-first_part k inner (token.Number n ∷ ts) = Some (expression (number (record { negative = false; size = n })), ts)
+first_part k inner (token.Number n ∷ ts) =
+    Some (expression (number (record { negative = false; size = n })), ts)
 first_part k inner (token.LargeNumber ∷ ts) = None
 first_part k inner (token.Text t ∷ ts) = Some (string t, ts)
 first_part k inner (token.Sign s ∷ ts) = first_sign k inner s ts
@@ -207,21 +211,26 @@ first_part k inner (token.Sign s ∷ ts) = first_sign k inner s ts
 -- the part at the left with what the joint joins to it
 abbrev pub turn_of : Clause → Reads → Joint → Parsed → List Token → Reading Parsed
 turn_of k inner j left ts =
-    option_and_then (λ r. option_map (λ p. (p, r.1)) (combined k j left r.0)) (inner k (suc (level j)) ts)
+    option_and_then (λ r. option_map (λ p. (p, r.1)) (combined k j left r.0))
+    (inner k (suc (level j)) ts)
 
-abbrev pub joined_at : Clause → Reads → (Parsed → List Token → Reading Parsed) → Parsed → List Token → Option (Joint × List Token)
-    → Reading Parsed
+abbrev pub joined_at : Clause → Reads → (Parsed → List Token → Reading Parsed) → Parsed → List Token
+    → Option (Joint × List Token) → Reading Parsed
 joined_at k inner more left ts None = Some (left, ts)
-joined_at k inner more left ts (Some j) = option_and_then (λ p. more p.0 p.1) (turn_of k inner j.0 left j.1)
+joined_at k inner more left ts (Some j) =
+    option_and_then (λ p. more p.0 p.1) (turn_of k inner j.0 left j.1)
 
--- The part at the left, and what joints as tight as least join to it from the left on. The last number bounds the turns.
+-- The part at the left, and what joints as tight as least join to it from the left on. The last
+-- number bounds the turns.
 unfoldable pub joined : Clause → Reads → ℕ → ℕ → Parsed → List Token → Reading Parsed
 joined k inner least zero left ts = None
-joined k inner least (suc turns) left ts = joined_at k inner (joined k inner least turns) left ts (next_joint least ts)
+joined k inner least (suc turns) left ts =
+    joined_at k inner (joined k inner least turns) left ts (next_joint least ts)
 
--- A part whose joints bind at least so tightly. The first number bounds how deep parts stand in parts; the count of the
--- tokens is always enough.
+-- A part whose joints bind at least so tightly. The first number bounds how deep parts stand in
+-- parts; the count of the tokens is always enough.
 unfoldable pub part_at : ℕ → Reads
 part_at zero k least ts = None
 part_at (suc depth) k least ts =
-    option_and_then (λ p. joined k (part_at depth) least (suc (length p.1)) p.0 p.1) (first_part k (part_at depth) ts)
+    option_and_then (λ p. joined k (part_at depth) least (suc (length p.1)) p.0 p.1)
+    (first_part k (part_at depth) ts)

@@ -22,7 +22,8 @@ use Rattle.sql_text.specs.Parts.{Reading, plain_of, condition_of, dotted, called
 
 -- ---- lists
 
-abbrev pub list_behind : {X : Type 0} → (List Token → Reading (List X)) → X → List Token → Option (List Token) → Reading (List X)
+abbrev pub list_behind : {X : Type 0} → (List Token → Reading (List X)) → X → List Token
+    → Option (List Token) → Reading (List X)
 list_behind more x ts None = Some (x ∷ [], ts)
 list_behind more x ts (Some rest) = option_map (λ xs. (x ∷ xs.0, xs.1)) (more rest)
 
@@ -32,7 +33,8 @@ behind between.Comma (token.Sign sign.Comma ∷ ts) = Some ts
 behind between.And (token.Keyword keyword.And ∷ ts) = Some ts
 behind _ _ = None
 
--- What is read again and again as long as a separator stands behind it. The last number bounds the turns.
+-- What is read again and again as long as a separator stands behind it. The last number bounds the
+-- turns.
 unfoldable pub list_at : {X : Type 0} → (List Token → Reading X) → Separator → ℕ → List Token
     → Reading (List X)
 list_at read s zero ts = None
@@ -55,7 +57,8 @@ call_front (token.Name w ∷ ts) = called w ts
 call_front _ = None
 
 abbrev pub plain_what : ℕ → List Token → Reading ItemWhat
-plain_what depth ts = option_and_then (λ p. option_map (λ e. (plain_item e, p.1)) (plain_of p.0)) (part_at depth clause.OfRows 5 ts)
+plain_what depth ts = option_and_then (λ p. option_map (λ e. (plain_item e, p.1)) (plain_of p.0))
+    (part_at depth clause.OfRows 5 ts)
 
 abbrev pub what_by : ℕ → List Token → Option (AggOp × List Token) → Reading ItemWhat
 what_by depth ts None = plain_what depth ts
@@ -88,7 +91,8 @@ count_behind (token.Number n ∷ token.Sign sign.Close ∷ ts) = Some (table.Num
 count_behind _ = None
 
 abbrev pub table_named : List ℕ → List Token → Reading TableRef
-table_named name (token.Sign sign.Open ∷ ts) = if bytes_eq name (codes "numbers") then count_behind ts else None
+table_named name (token.Sign sign.Open ∷ ts) = if bytes_eq name (codes "numbers")
+    then count_behind ts else None
 table_named name ts = Some (table.Named name, ts)
 
 abbrev pub table_at : List Token → Reading TableRef
@@ -135,7 +139,8 @@ some_join read = option_map (λ j. (Some j.0, j.1)) read
 
 abbrev pub join_at : List Token → Reading (Option Join)
 join_at (token.Keyword keyword.Join ∷ ts) = some_join (joined_table_at ts)
-join_at (token.Keyword keyword.Inner ∷ token.Keyword keyword.Join ∷ ts) = some_join (joined_table_at ts)
+join_at (token.Keyword keyword.Inner ∷ token.Keyword keyword.Join ∷ ts) =
+    some_join (joined_table_at ts)
 join_at (token.Keyword keyword.Inner ∷ ts) = None
 join_at ts = Some (None, ts)
 

@@ -24,7 +24,8 @@ pub const COMPARISON: u8 = 4;
 
 pub const EXPRESSION: u8 = 5;
 
-/// The clause in which a part stands. HAVING is over groups: its operands are a column, a call, a plain number or a string.
+/// The clause in which a part stands. HAVING is over groups: its operands are a column, a call, a
+/// plain number or a string.
 #[derive(Clone, Copy, Debug, PartialEq, Eq)]
 pub enum Clause {
     OfRows,
@@ -40,7 +41,8 @@ pub enum Joint {
     Or,
 }
 
-// A part of an expression or a condition. It is small, since the reading of nested parts holds many of them on the stack.
+// A part of an expression or a condition. It is small, since the reading of nested parts holds many
+// of them on the stack.
 #[derive(Drop)]
 pub enum Part {
     Plain(Box<ExprOf<ColumnRef>>),
@@ -183,7 +185,8 @@ fn calculated(
 }
 
 fn compared(alloc: Global, op: CompareOp, left: Part, right: Part) -> Result<Part, Stop>
-    ensures { (k : Kind) → Gives parsed result (combined k (Compare op) (parsed left) (parsed right)) }
+    ensures { (k : Kind)
+        → Gives parsed result (combined k (Compare op) (parsed left) (parsed right)) }
 {
     let a = side_of(left)?;
     let b = side_of(right)?;
@@ -236,7 +239,8 @@ fn column_at<'a>(
 }
 
 fn number_part(alloc: Global, negative: bool, size: u64) -> Result<Part, Stop>
-    ensures { Gives parsed result (Some (expression (number (record { negative = negative; size = size })))) }
+    ensures { Gives parsed result
+        (Some (expression (number (record { negative = negative; size = size })))) }
 {
     plain_part(alloc, ExprOf::Number(Number { negative, size }))
 }
@@ -262,7 +266,8 @@ fn after_close(tokens: &[Token]) -> Result<&[Token], Stop>
 
 // An expression stands in parentheses, but not in HAVING.
 fn closed_at(clause: Clause, part: Part, tokens: &[Token]) -> Result<(Part, &[Token]), Stop>
-    ensures { Gives (λ p. (parsed p.0, p.1.now)) result (closed_at clause (parsed part) tokens.now) }
+    ensures { Gives (λ p. (parsed p.0, p.1.now)) result
+        (closed_at clause (parsed part) tokens.now) }
 {
     match part {
         Part::Plain(e) => match clause {
@@ -295,7 +300,8 @@ fn call_over(
     part: Part,
     tokens: &[Token],
 ) -> Result<(AggCall<ColumnRef>, &[Token]), Stop>
-    ensures { Gives (λ p. (call_tree p.0, p.1.now)) result (call_over op (Some (parsed part, tokens.now))) }
+    ensures { Gives (λ p. (call_tree p.0, p.1.now)) result
+        (call_over op (Some (parsed part, tokens.now))) }
 {
     let e = plain_of(part)?;
     let rest = after_close(tokens)?;
@@ -303,7 +309,8 @@ fn call_over(
     Ok((AggCall { op, arg }, rest))
 }
 
-/// The aggregate that the word calls where a parenthesis stands behind it, and the tokens behind that.
+/// The aggregate that the word calls where a parenthesis stands behind it, and the tokens behind
+/// that.
 pub fn called<'a>(word: &[u8], tokens: &'a [Token]) -> Option<(AggOp, &'a [Token])>
     ensures { option_map (λ p. (p.0, p.1.now)) result ≡ called word.now tokens.now }
 {
@@ -314,7 +321,8 @@ pub fn called<'a>(word: &[u8], tokens: &'a [Token]) -> Option<(AggOp, &'a [Token
 }
 
 fn negated(alloc: Global, part: Part) -> Result<Part, Stop>
-    ensures { (rest : List Token) → Gives (λ p. (parsed p, rest)) result (negation_at (parsed part) rest) }
+    ensures { (rest : List Token)
+        → Gives (λ p. (parsed p, rest)) result (negation_at (parsed part) rest) }
 {
     match part {
         Part::Condition(c) => condition_part(alloc, CondOf::Not(c)),
@@ -350,7 +358,8 @@ fn word_at<'a>(
     tokens: &'a [Token],
     depth: usize,
 ) -> Result<(Part, &'a [Token]), Stop>
-    ensures { Gives (λ p. (parsed p.0, p.1.now)) result (word_at clause (part_at depth) word.now tokens.now) }
+    ensures { Gives (λ p. (parsed p.0, p.1.now)) result
+        (word_at clause (part_at depth) word.now tokens.now) }
 {
     match clause {
         Clause::OfRows => column_at(alloc, word, tokens),
@@ -372,7 +381,8 @@ fn first_sign(
     tokens: &[Token],
     depth: usize,
 ) -> Result<(Part, &[Token]), Stop>
-    ensures { Gives (λ p. (parsed p.0, p.1.now)) result (first_sign clause (part_at depth) sign tokens.now) }
+    ensures { Gives (λ p. (parsed p.0, p.1.now)) result
+        (first_sign clause (part_at depth) sign tokens.now) }
 {
     match sign {
         Sign::Minus => negative_at(alloc, tokens),
@@ -392,7 +402,8 @@ fn first_keyword(
     tokens: &[Token],
     depth: usize,
 ) -> Result<(Part, &[Token]), Stop>
-    ensures { Gives (λ p. (parsed p.0, p.1.now)) result (first_keyword clause (part_at depth) keyword tokens.now) }
+    ensures { Gives (λ p. (parsed p.0, p.1.now)) result
+        (first_keyword clause (part_at depth) keyword tokens.now) }
 {
     match keyword {
         Keyword::Not => {
@@ -403,7 +414,8 @@ fn first_keyword(
     }
 }
 
-// A part without joints: a column, a number, a string, a call, what stands in parentheses, or a negation.
+// A part without joints: a column, a number, a string, a call, what stands in parentheses, or a
+// negation.
 #[cycle(part)]
 fn first_part(
     alloc: Global,
@@ -411,7 +423,8 @@ fn first_part(
     tokens: &[Token],
     depth: usize,
 ) -> Result<(Part, &[Token]), Stop>
-    ensures { Gives (λ p. (parsed p.0, p.1.now)) result (first_part clause (part_at depth) tokens.now) }
+    ensures { Gives (λ p. (parsed p.0, p.1.now)) result
+        (first_part clause (part_at depth) tokens.now) }
 {
     let (token, rest) = next_token(tokens)?;
     match token {
@@ -424,8 +437,8 @@ fn first_part(
     }
 }
 
-/// The part at the front whose joints bind at least so tightly, and the tokens behind it. `depth` bounds how deep parts
-/// stand in parts; the count of the tokens is always enough.
+/// The part at the front whose joints bind at least so tightly, and the tokens behind it. `depth`
+/// bounds how deep parts stand in parts; the count of the tokens is always enough.
 #[cycle(part)]
 pub fn part_at(
     alloc: Global,
@@ -453,7 +466,8 @@ fn turn_of(
     tokens: &[Token],
     depth: usize,
 ) -> Result<(Part, &[Token]), Stop>
-    ensures { Gives (λ p. (parsed p.0, p.1.now)) result (turn_of clause (part_at depth) joint (parsed left) tokens.now) }
+    ensures { Gives (λ p. (parsed p.0, p.1.now)) result
+        (turn_of clause (part_at depth) joint (parsed left) tokens.now) }
 {
     let (right, rest) = part_at(alloc, clause, level_above(joint), tokens, depth)?;
     Ok((combined(alloc, clause, joint, left, right)?, rest))
@@ -469,7 +483,8 @@ fn joined(
     tokens: &[Token],
     depth: usize,
 ) -> Result<(Part, &[Token]), Stop>
-    ensures { Gives (λ p. (parsed p.0, p.1.now)) result (joined clause (part_at depth) least (suc (length tokens.now)) (parsed first) tokens.now) }
+    ensures { Gives (λ p. (parsed p.0, p.1.now)) result
+        (joined clause (part_at depth) least (suc (length tokens.now)) (parsed first) tokens.now) }
 {
     let mut part = first;
     let mut rest = tokens;

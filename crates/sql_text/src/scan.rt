@@ -111,7 +111,8 @@ fn text_byte(place: TextPlace, b: u8) -> TextByte
     }
 }
 
-// The content of the string that begins behind its quote, and how many bytes it takes with its last quote.
+// The content of the string that begins behind its quote, and how many bytes it takes with its last
+// quote.
 fn text_at(alloc: Global, bytes: &[u8]) -> Result<(Bytes, usize), Stop>
     ensures read { Gives (λ p. p) result (text_at Middle bytes.now) }
     ensures within { IfOk result (λ p. p.1 ≤ length bytes.now) }

@@ -37,7 +37,8 @@ impl From<chunk_data::Memory> for Stop {
 
 /// The token at the front, and the tokens behind it.
 pub fn next_token(tokens: &[Token]) -> Result<(&Token, &[Token]), Stop>
-    ensures { MatchResult result (λ p. tokens.now ≡ p.0.now ∷ p.1.now) (λ e. (e ≡ Syntax) × (tokens.now ≡ [])) }
+    ensures { MatchResult result (λ p. tokens.now ≡ p.0.now ∷ p.1.now)
+        (λ e. (e ≡ Syntax) × (tokens.now ≡ [])) }
 {
     match tokens.split_first() {
         Some((token, rest)) => Ok((token, rest)),

@@ -34,7 +34,8 @@ fn count_behind(tokens: &[Token]) -> Result<(TableRef, &[Token]), Stop>
     }
 }
 
-// `numbers` has a meaning of its own only before a parenthesis, which stands behind no other name of a table.
+// `numbers` has a meaning of its own only before a parenthesis, which stands behind no other name
+// of a table.
 fn table_named(name: Bytes, tokens: &[Token]) -> Result<(TableRef, &[Token]), Stop>
     ensures { Gives (λ p. (p.0, p.1.now)) result (table_named name tokens.now) }
 {

@@ -47,5 +47,6 @@ pub fn parse(alloc: Global, text: &[u8]) -> Result<Query, ParseRefusal>
 
 /// No text is spelled by two queries.
 pub fn one_reading()
-    ensures { (text : Seq ℕ) (p q : Query) → Spells p text → Spells q text → query_tree p ≡ query_tree q }
+    ensures { (text : Seq ℕ) (p q : Query) → Spells p text → Spells q text
+        → query_tree p ≡ query_tree q }
 {}

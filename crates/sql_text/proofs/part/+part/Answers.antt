@@ -3,13 +3,16 @@ use Rattle.sql_text.proofs.Turns.{turn, no_turn, no_turns, end_of_turns, no_dept
 use Rattle.sql_text.proofs.part.+part.Goals as goal
 
 pub part_at-returns-then-depth-eq0 : goal.part_at-returns-then-depth-eq0
-part_at-returns-then-depth-eq0 t c = ap (λ d. part_at d c.args.clause c.args.least c.args.tokens.now) c.if-depth-eq0.true ∙ no_depth c.args.clause c.args.least c.args.tokens.now
+part_at-returns-then-depth-eq0 t c = ap (λ d. part_at d c.args.clause c.args.least
+    c.args.tokens.now) c.if-depth-eq0.true ∙ no_depth c.args.clause c.args.least c.args.tokens.now
 
 pub part_at-returns-in_err-first : goal.part_at-returns-in_err-first
-part_at-returns-in_err-first t c = rw (part_goes c.args.clause c.args.depth c.args.least c.args.tokens.now (omega arith)) (search rules)
+part_at-returns-in_err-first t c = rw (part_goes c.args.clause c.args.depth c.args.least
+    c.args.tokens.now (omega arith)) (search rules)
 
 pub part_at-returns : goal.part_at-returns
-part_at-returns t c = rw (part_goes c.args.clause c.args.depth c.args.least c.args.tokens.now (omega arith)) (search rules)
+part_at-returns t c = rw (part_goes c.args.clause c.args.depth c.args.least c.args.tokens.now
+    (omega arith)) (search rules)
 
 pub joined-returns-in-None : goal.joined-returns-in-None
 joined-returns-in-None t c =
