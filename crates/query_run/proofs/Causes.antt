@@ -1,13 +1,13 @@
 -- Why a plan gave no text, as what is said of the command, its part and the box that served it.
-use Rattle.std.proofs.Common.{◌≡◌, ◌≢◌, ℕ, zero, suc, ◌<◌, ◌≤◌, true, List, [], ◌∷◌, length, map, Some, refl, sym, ap, subst, ◌∙◌, arith, inl, inr}
-use Rattle.query_run.proofs.Prelude.{IfSome, slice_get, All, length-map, Rose, Files, part_bad_place, kind_of, BadPlace, Checked, PartSpec, Spec, IsWithinLimits, Command, BoxPicture, IsSourceKind, HasNoReader, OfPart, IsLongFile, raised, WorkFault, box_at, DraftNode, plan_nodes, forms, kinds-same, HasStock, kinds_of, spec_at, taken_at, FailsWith, LeavesRack, PlanFaultHolds, RanWith, RunsPlan, PlanFault}
+use Rattle.query_run.proofs.Prelude.{AreLawfulOver, BadPlace, Begins, BoxPicture, Checked, Command, DraftNode, FailsAtPart, FailsWith, Files, GraphForm, HasNoReader, HasStock, IfSome, IsFileNamed, IsListNamed, IsLongFile, IsPartNamed, IsPlanFault, IsRunnable, IsSourceKind, KeepsBehind, Kind, LeavesPlan, LeavesRack, List, OfPart, Option, PartFailsFor, PartFailure, PartName, PartSpec, PlanFailsFor, PlanFailure, PlanFault, PlanFaultHolds, RanPlan, RanWith, Rose, RunsPlan, Some, Spec, Tells, UsedPart, WorkFault, ap, arith, bad_line_in, both_ways, box_at, cases_lt, failure_of, file_bytes, inl, inr, is_some, kind_of, kinds_for, kinds_reserved, length, length-map, part_bad_place, plan_nodes, plan_of, raised, refl, reserves_from, spec_at, specs_in, subst, sym, taken_at, true, used_part, ℕ, ◌<◌, ◌∙◌, ◌≡◌, ◌≤◌}
 use Rattle.query_model.specs.declared.processor_spec.Kind.TheVariants as kind
 use Rattle.query_model.specs.declared.processor_spec.Spec.TheVariants as spec
 use Rattle.proc_api.specs.declared.status.WorkFault.TheVariants as fault
 use Rattle.plan_run.specs.declared.run.PlanFault.TheVariants as end
-use Rattle.query_run.specs.Names.{PartName, PartFailure, PlanFailure, IsRunnable, OverFiles, RanPlan, plan_of, specs_in, IsCheckedCommand, FailsAtPart, LeavesPlan, PartFailsFor, PlanFailsFor, ServesPart, IsPlanFault, Tells, failure_of, name_at, name_of, part_of_node, part_place}
 use Rattle.query_run.specs.declared.ending.PartFailure.TheVariants as part
-use Rattle.query_run.proofs.Plans.{IsUsedPart, ended-files, ended-kind, ended-lawful, part_at, plan_stock, ran-at}
+use Rattle.query_run.proofs.Flaws.{flawed-unlawful}
+use Rattle.query_run.proofs.Grown.{RanCopies, Served, formed, names_of, served, serves}
+use Rattle.query_run.proofs.Plans.{AreCopies, ended-files, ended-lawful, kinds-for-same, loaded-kind, ran-at}
 
 -- ---- counts
 
@@ -24,228 +24,236 @@ none-rose p n q h none = omega (arith, h, none)
 
 -- ---- a plan's faults
 
-no-list-at : (specs : List Spec) (n : ℕ) → All (λ (s : Spec). kind_of s ≢ kind.List) specs
-    → n < length specs → kind_of (spec_at specs n) ≡ kind.List → ⊥
-unfolding spec_at
-no-list-at specs n all lt = all n spec.Collect lt
-
--- what a plan without list files answers: no fault of a list, and want of memory as itself
-pub plan-fault : (specs : List Spec) (before after : List BoxPicture) (f : PlanFault)
-    → All (λ (s : Spec). kind_of s ≢ kind.List) specs → HasStock (kinds_of specs) before
-    → PlanFaultHolds f (RunsPlan specs before after) → IsPlanFault f
-plan-fault specs before after (end.Fault node fault.Memory) lists stock h = h.fault.not_memory refl
-plan-fault specs before after (end.Fault node (fault.BadList line)) lists stock h =
-    let lt : node < length h.ended = h.fault.in_range in
-    let listed : kind_of (spec_at specs node) ≡ kind.List =
-    sym (ended-kind specs before after h.ended stock h.runs node lt) ∙ h.fault.keeps.holds in
-    no-list-at specs node lists (subst (λ k. node < k) h.runs.count lt) listed
-plan-fault specs before after f lists stock h = tt
-
--- ---- what a lawful box's fault says of its part
-
--- where the box reads this part and its reader tells these files
-of-part : (p : BoxPicture) (part : PartSpec) (files : Files) (P : PartSpec → Files → Type 0)
-    → p.spec ≡ Some (spec.Csv part) → p.files ≡ Some files
-    → OfPart p.spec (λ part. IfSome p.files (P part)) → P part files
-of-part p part files P s f h =
-    let at_part : OfPart (Some (spec.Csv part)) (λ part. IfSome p.files (P part)) =
-    subst (λ s. OfPart s (λ part. IfSome p.files (P part))) s h in
-    subst (λ o. IfSome o (P part)) f at_part
+-- want of memory is told as itself
+pub plan-fault : (form : GraphForm) (kinds : List Kind) (R : List BoxPicture → Type 0)
+    (f : PlanFault) → PlanFaultHolds f (Begins form kinds) R → IsPlanFault f
+plan-fault form kinds R (end.Fault node fault.Memory) h = h.holds.grown.holds.not_memory refl
+plan-fault form kinds R f h = tt
 
 -- ---- the run of a query's plan
 
--- the place that was noted of a node is that of its spec
-place-at : (specs : List Spec) (n : ℕ) → n < length specs
-    → slice_get (map part_place specs) n ≡ Some (part_place (spec_at specs n))
-unfolding spec_at
-place-at [] n lt = absurd (omega (arith, lt))
-place-at (s ∷ specs) zero lt = refl
-place-at (s ∷ specs) (suc n) lt = place-at specs n (omega (arith, lt))
+module _ {c : Command} {q : Checked} {before : List BoxPicture} {nodes : List DraftNode}
+    (after : List BoxPicture) (copies : AreCopies c q nodes) (runnable : IsRunnable c q before)
+    (stock : HasStock (kinds_for nodes) before)
+    (keeps : KeepsBehind (length nodes) (formed nodes)) where
+  abbrev Runs : List BoxPicture → Type 0
+  Runs = RunsPlan (specs_in nodes) (kinds_reserved (reserves_from 0 nodes)) before after
 
-module _ (c : Command) (within : IsWithinLimits c) (q : Checked) (h : IsCheckedCommand c q)
-    (before after : List BoxPicture) (runnable : IsRunnable c q before)
-    (nodes : List DraftNode) (same : forms nodes ≡ forms (plan_nodes (plan_of c q))) where
-  abbrev specs : List Spec
-  specs = specs_in nodes
-
-  pub stock : HasStock (kinds_of specs) before
-  stock =
-      subst (λ ks. HasStock ks before) (sym (kinds-same nodes (plan_nodes (plan_of c q)) same))
-      (plan_stock c q h before runnable.boxes)
+  abbrev names : ℕ → PartName
+  names = names_of c nodes
 
   -- the plan ran
-  abbrev pub ran : (ended : List BoxPicture) → RunsPlan specs before after ended
-      → RanPlan c q before after
-  ran ended run = record { nodes = nodes; same = same; ended = ended; runs = run }
+  abbrev pub ran : (ended : List BoxPicture) → Runs ended → RanPlan c q before after
+  ran ended run = record { nodes = nodes; same = copies.same; ended = ended; runs = run }
 
-  module _ (ended : List BoxPicture) (run : RunsPlan specs before after ended) (node : ℕ)
-      (lt : node < length ended) (source : IsSourceKind (box_at ended node).kind) where
-    kind_source : IsSourceKind (kind_of (spec_at specs node))
-    kind_source = subst IsSourceKind (ended-kind specs before after ended stock run node lt) source
+  module _ (node : ℕ) (f : WorkFault)
+      (g : Begins (formed nodes) (kinds_for nodes) (FailsWith Runs node f)) where
+    abbrev ended : List BoxPicture
+    ended = g.holds.ended
 
-    in_specs : node < length specs
-    in_specs = subst (λ n. node < n) run.count lt
+    abbrev run : Runs ended
+    run = g.holds.runs
 
-    in_nodes : node < length nodes
-    in_nodes = subst (λ n. node < n) (length-map nodes (λ (n : DraftNode). n.spec)) in_specs
+    abbrev box : BoxPicture
+    box = box_at ended node
 
-    -- the node reads a part that the query uses
-    abbrev part_of : PartSpec
-    part_of = (part_at c within q h nodes same node in_nodes kind_source).0
+    so : RanCopies c q before after nodes ended
+    so = record { copies = copies; runnable = runnable; stock = stock; run = run }
 
-    loaded : spec_at specs node ≡ spec.Csv part_of
-    loaded = (part_at c within q h nodes same node in_nodes kind_source).1
-
-    uses : IsUsedPart c q part_of
-    uses = (part_at c within q h nodes same node in_nodes kind_source).2
+    lt : node < length ended
+    lt = g.holds.grown.holds.in_range
 
     -- the box that ran it, as it was taken and as it was given back
     abbrev taken : BoxPicture
-    taken = taken_at (kinds_of specs) before node
+    taken = taken_at (kinds_for nodes) before node
 
     abbrev given : BoxPicture
     given = box_at run.given node
 
-    ran_part : RanWith (spec.Csv part_of) taken (box_at ended node)
-    ran_part =
-        subst (λ s. RanWith s taken (box_at ended node)) loaded
-        (ran-at specs before after ended stock run node lt)
+    -- it was loaded
+    ran-with : (s : Spec) × RanWith s taken box
+    ran-with = elim (cases_lt node (length nodes)) [
+      | inl less ↦
+          (spec_at (specs_in nodes) node, ran-at nodes before after ended stock run node less)
+      | inr past ↦ elim (run.ran_kept node (rw length-map past) lt) [
+        | inl still ↦
+            absurd (both_ways _ (ap is_some still.1) g.holds.grown.holds.keeps.born)
+        | inr r ↦ r
+      ]
+    ]
 
-    serves : ServesPart c q before specs node (part_of_node c.tables specs node)
-    serves = record {
-      part = part_of;
-      loaded = loaded;
-      header = uses.header_is;
-      table = uses.table;
-      declared = uses.declared;
-      named = ap (name_at c.tables)
-          (place-at specs node in_specs ∙ ap (λ s. Some (part_place s)) loaded)
-          ∙ ap (λ t. record { table = name_of t; part = part_of.part }) uses.declared;
-      used = λ files told. uses.among files;
-    }
+    -- a box that keeps a fault of a reader is a source's
+    at-source : (HasNoReader box → ⊥) → IsSourceKind box.kind
+    at-source some = elim g.holds.reader [ inl source ↦ source | inr none ↦ absurd (some none) ]
 
-    fails-at : (f : PartFailure) → PartFailsFor f part_of before taken given
-        → FailsAtPart (part_of_node c.tables specs node) f c q before after
-    unfolding serves
-    fails-at f why = record {
+    fails-at : IsSourceKind box.kind → (f : PartFailure)
+        → PartFailsFor f c q (names node) before taken given
+        → FailsAtPart (names node) f c q before after
+    fails-at source f why = record {
       runnable = runnable;
       ran = ran ended run;
       node = node;
-      serves = serves;
+      serves = serves so node lt source;
       fails = why;
     }
 
-    given_faults : given.faults ≡ (box_at ended node).faults
-    given_faults = (run.unloaded node in_specs).counts.faults
+    given_faults : given.faults ≡ box.faults
+    given_faults = (run.unloaded node lt).counts.faults
 
-    given_pendings : given.pendings ≡ (box_at ended node).pendings
-    given_pendings = (run.unloaded node in_specs).counts.pendings
+    given_pendings : given.pendings ≡ box.pendings
+    given_pendings = (run.unloaded node lt).counts.pendings
 
-    -- what a lawful box says of its part, over the files that it tells
-    due : (P : PartSpec → Files → Type 0)
-        → ((box_at ended node).lawful ≡ true
-        → OfPart (box_at ended node).spec (λ part. IfSome (box_at ended node).files (P part)))
-        → OverFiles before (P part_of)
-    due P is_due = λ files told.
-        let lawful = ended-lawful specs before after ended stock run files told node lt in
-        of-part (box_at ended node) part_of files P ran_part.spec
-        (ended-files specs before after ended stock run files told node lt kind_source)
-        (is_due lawful)
+    -- what a lawful box says of what it reads, over the files that it tells
+    module _ (files : Files) (honest : AreLawfulOver files before) where
+      tells : (P : PartSpec → Files → Type 0) (Q : Type 0)
+          → ((part : PartSpec) → IsPartNamed c q files (names node) (used_part part)
+          → part.header ≡ c.header → P part files → kind.Csv ≡ box.kind → Q)
+          → ((list : PartSpec) → IsListNamed c q (names node) 0 list.path → P list files
+          → kind.List ≡ box.kind → Q)
+          → (box.lawful ≡ true → OfPart box.spec (λ part. IfSome box.files (P part))) → Q
+      tells P Q csv list due =
+          go box.spec refl
+          (served so keeps g.boxes g.kinds_are g.starting g.holds.grown.births
+          g.holds.grown.are files honest node lt)
+          (due (ended-lawful nodes before after ended stock run files honest node lt))
+        where
+          loaded : (s : Spec) → box.spec ≡ Some s → kind_of s ≡ box.kind
+          loaded s e = loaded-kind nodes before after ended stock run node s lt e
+
+          told : IsSourceKind box.kind → box.files ≡ Some files
+          told = ended-files nodes before after ended stock run files honest node lt
+
+          go : (o : Option Spec) → box.spec ≡ o → Served c q files (names node) o
+              → OfPart o (λ part. IfSome box.files (P part)) → Q
+          go (Some (spec.Csv part)) e s d =
+              csv part s.0 s.1
+              (rw (told (subst IsSourceKind (loaded (spec.Csv part) e) tt)) at d)
+              (loaded (spec.Csv part) e)
+          go (Some (spec.List l)) e s d =
+              list l s (rw (told (subst IsSourceKind (loaded (spec.List l) e) tt)) at d)
+              (loaded (spec.List l) e)
+          go o e s d = absurd d
 
   -- ---- each fault
 
-  -- a box that keeps a fault of a reader is a source's
-  module _ (node : ℕ) (f : WorkFault) (w : FailsWith (RunsPlan specs before after) node f) where
-    at_source : (HasNoReader (box_at w.ended node) → ⊥) → IsSourceKind (box_at w.ended node).kind
-    at_source some = elim w.reader [ inl source ↦ source | inr none ↦ absurd (some none) ]
+  abbrev Fails : ℕ → WorkFault → Type 0
+  Fails node f = Begins (formed nodes) (kinds_for nodes) (FailsWith Runs node f)
 
-    ran-with : RanWith (spec_at specs node) (taken_at (kinds_of specs) before node)
-        (box_at w.ended node)
-    ran-with = ran-at specs before after w.ended stock w.runs node w.fault.in_range
-
-  abbrev names : ℕ → PartName
-  names node = part_of_node c.tables specs node
-
-  read-cause : (node : ℕ) → FailsWith (RunsPlan specs before after) node fault.Read
+  read-cause : (node : ℕ) → Fails node fault.Read
       → FailsAtPart (names node) part.Read c q before after
-  read-cause node w =
-      let r = ran-with node fault.Read w in
-      let some = w.fault.keeps.holds in
-      let lt = w.fault.in_range in
-      let source = at_source node fault.Read w (λ none.
+  read-cause node g =
+      let r = (ran-with node fault.Read g).1 in
+      let some = g.holds.grown.holds.keeps.holds in
+      let source = at-source node fault.Read g (λ none.
       let zero_faults = none-rose _ _ _ r.faults_since none.faults in
       omega (arith, zero_faults, some)) in
-      fails-at w.ended w.runs node lt source part.Read
-      (subst (λ n. Rose (taken_at (kinds_of specs) before node).faults n)
-      (sym (given_faults w.ended w.runs node lt source))
-      (rose-by-one _ (box_at w.ended node).notes.faults (box_at w.ended node).faults some
+      fails-at node fault.Read g source part.Read
+      (subst (λ n. Rose (taken node fault.Read g).faults n) (sym (given_faults node fault.Read g))
+      (rose-by-one _ (box node fault.Read g).notes.faults (box node fault.Read g).faults some
       r.faults_since))
 
-  stalled-cause : (node : ℕ) → FailsWith (RunsPlan specs before after) node fault.Stalled
+  stalled-cause : (node : ℕ) → Fails node fault.Stalled
       → FailsAtPart (names node) part.Stalled c q before after
-  stalled-cause node w =
-      let r = ran-with node fault.Stalled w in
-      let many = w.fault.keeps.holds in
-      let lt = w.fault.in_range in
-      let source = at_source node fault.Stalled w (λ none.
+  stalled-cause node g =
+      let r = (ran-with node fault.Stalled g).1 in
+      let many = g.holds.grown.holds.keeps.holds in
+      let source = at-source node fault.Stalled g (λ none.
       let zero_pendings = none-rose _ _ _ r.pendings_since none.pendings in
       omega (arith, zero_pendings, many)) in
-      fails-at w.ended w.runs node lt source part.Stalled
-      (subst (λ n. raised (taken_at (kinds_of specs) before node).pendings 1000000 ≤ n)
-      (sym (given_pendings w.ended w.runs node lt source))
-      (rose-by-many _ (box_at w.ended node).notes.pendings (box_at w.ended node).pendings many
-      r.pendings_since))
+      fails-at node fault.Stalled g source part.Stalled
+      (subst (λ n. raised (taken node fault.Stalled g).pendings 1000000 ≤ n)
+      (sym (given_pendings node fault.Stalled g))
+      (rose-by-many _ (box node fault.Stalled g).notes.pendings
+      (box node fault.Stalled g).pendings many r.pendings_since))
 
-  long-cause : (node : ℕ) → FailsWith (RunsPlan specs before after) node fault.TooLong
+  long-cause : (node : ℕ) → Fails node fault.TooLong
       → FailsAtPart (names node) part.TooLong c q before after
-  long-cause node w =
-      let long = w.fault.keeps.holds in
-      let lt = w.fault.in_range in
-      let source = at_source node fault.TooLong w (λ none.
+  long-cause node g =
+      let long = g.holds.grown.holds.keeps.holds in
+      let source = at-source node fault.TooLong g (λ none.
       let given = none.given in omega (arith, given, long)) in
-      fails-at w.ended w.runs node lt source part.TooLong
-      (due w.ended w.runs node lt source (λ part files. IsLongFile files part.path)
-      w.fault.keeps.is_due)
+      fails-at node fault.TooLong g source part.TooLong (λ files told.
+      tells node fault.TooLong g files told (λ part files. IsLongFile files part.path)
+      ((path : List ℕ) × IsFileNamed c q files (names node) path × IsLongFile files path)
+      (λ part named header long is. (part.path, inr (used_part part, named, refl), long))
+      (λ list named long is. (list.path, inl named, long)) g.holds.grown.holds.keeps.is_due)
 
-  bad-cause : (node : ℕ) (place : BadPlace)
-      → FailsWith (RunsPlan specs before after) node (fault.Bad place)
+  bad-cause : (node : ℕ) (place : BadPlace) → Fails node (fault.Bad place)
       → FailsAtPart (names node) (part.Bad place) c q before after
-  bad-cause node place w =
-      let lt = w.fault.in_range in
-      let source : IsSourceKind (box_at w.ended node).kind =
-      subst IsSourceKind (sym w.fault.keeps.holds) tt in
-      fails-at w.ended w.runs node lt source (part.Bad place)
-      (due w.ended w.runs node lt source
+  bad-cause node place g =
+      let source : IsSourceKind (box node (fault.Bad place) g).kind =
+      subst IsSourceKind (sym g.holds.grown.holds.keeps.holds) tt in
+      fails-at node (fault.Bad place) g source (part.Bad place) (λ files told.
+      tells node (fault.Bad place) g files told
       (λ part files. part_bad_place part.header part.types files part.path ≡ Some place)
-      w.fault.keeps.is_due)
+      ((p : UsedPart) × IsPartNamed c q files (names node) p
+      × (part_bad_place c.header p.types files p.path ≡ Some place))
+      (λ part named header bad is. (
+        used_part part,
+        named,
+        subst (λ b. part_bad_place b part.types files part.path ≡ Some place) header bad,
+      ))
+      (λ list named bad is.
+      let wrong : kind.List ≡ kind.Csv = is ∙ g.holds.grown.holds.keeps.holds in absurd cc)
+      g.holds.grown.holds.keeps.is_due)
 
-  leaves : LeavesRack (kinds_of specs) before after → LeavesPlan c q before after
-  leaves left =
-      subst (λ ks. LeavesRack ks before after)
-      (kinds-same nodes (plan_nodes (plan_of c q)) same) left
+  bad-list-cause : (node line : ℕ) → Fails node (fault.BadList line)
+      → FailsAtPart (names node) (part.BadList line) c q before after
+  bad-list-cause node line g =
+      let source : IsSourceKind (box node (fault.BadList line) g).kind =
+      subst IsSourceKind (sym g.holds.grown.holds.keeps.holds) tt in
+      fails-at node (fault.BadList line) g source (part.BadList line) (λ files told.
+      tells node (fault.BadList line) g files told
+      (λ part files. bad_line_in (file_bytes files part.path) ≡ Some line)
+      ((path : List ℕ) × IsListNamed c q (names node) 0 path
+      × (bad_line_in (file_bytes files path) ≡ Some line))
+      (λ part named header bad is.
+      let wrong : kind.Csv ≡ kind.List = is ∙ g.holds.grown.holds.keeps.holds in absurd cc)
+      (λ list named bad is. (list.path, named, bad)) g.holds.grown.holds.keeps.is_due)
+
+  leaves : LeavesRack (kinds_for nodes) before after → LeavesPlan c q before after
+  leaves left = subst (λ ks. LeavesRack ks before after)
+      (kinds-for-same nodes (plan_nodes (plan_of c q)) copies.same) left
 
   -- every failure of the plan has its cause
-  plan-cause : (f : PlanFault) → LeavesRack (kinds_of specs) before after
-      → PlanFaultHolds f (RunsPlan specs before after)
+  plan-cause : (f : PlanFault) → LeavesRack (kinds_for nodes) before after
+      → PlanFaultHolds f (Begins (formed nodes) (kinds_for nodes)) Runs
       → PlanFailsFor (failure_of f names) c q before after
-  plan-cause (end.Fault node fault.Read) left f = read-cause node f
-  plan-cause (end.Fault node fault.Stalled) left f = stalled-cause node f
-  plan-cause (end.Fault node fault.TooLong) left f = long-cause node f
-  plan-cause (end.Fault node (fault.Bad place)) left f = bad-cause node place f
-  plan-cause (end.Stuck k) left f = record {
+  plan-cause (end.Fault node fault.Read) left g = read-cause node g
+  plan-cause (end.Fault node fault.Stalled) left g = stalled-cause node g
+  plan-cause (end.Fault node fault.TooLong) left g = long-cause node g
+  plan-cause (end.Fault node (fault.Bad place)) left g = bad-cause node place g
+  plan-cause (end.Fault node (fault.BadList line)) left g = bad-list-cause node line g
+  plan-cause (end.Stuck k) left g = record {
     runnable = runnable;
-    ran = ran f.ended f.runs;
-    report = f.report;
-    node = f.node;
-    stuck = f.stuck;
-    of_kind = f.of_kind;
+    ran = ran g.ended g.runs;
+    node = g.node;
+    in_range = g.stuck.in_range;
+    stopped = inl (g.report, g.stuck);
+    of_kind = g.of_kind;
+    unlawful = g.stuck.unlawful;
   }
-  plan-cause f left h = leaves left
+  plan-cause (end.BadGrowth k) left g = record {
+    runnable = runnable;
+    ran = ran g.holds.ended g.holds.runs;
+    node = g.holds.node;
+    in_range = g.holds.bad.bad.in_range;
+    stopped = inr (record {
+      boxes = g.boxes;
+      kinds_are = g.kinds_are;
+      starting = g.starting;
+      holds = (g.holds.flaw, g.holds.bad);
+    });
+    of_kind = g.holds.of_kind;
+    unlawful = flawed-unlawful copies runnable stock keeps k g;
+  }
+  plan-cause f left g = leaves left
 
   -- a failure that was told has its cause
   pub told-cause : (f : PlanFault) (told : PlanFailure) → Tells told (failure_of f names)
-      → LeavesRack (kinds_of specs) before after
-      → PlanFaultHolds f (RunsPlan specs before after) → PlanFailsFor told c q before after
+      → LeavesRack (kinds_for nodes) before after
+      → PlanFaultHolds f (Begins (formed nodes) (kinds_for nodes)) Runs
+      → PlanFailsFor told c q before after
   told-cause f told (inl e) left why =
       subst (λ x. PlanFailsFor x c q before after) (sym e) (plan-cause f left why)
   told-cause f told (inr e) left why =

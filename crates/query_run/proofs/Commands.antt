@@ -1,9 +1,6 @@
 -- The query that was read of a command and checked, and the plan that it has.
-use Rattle.std.proofs.Common.{◌≡◌, ◌≤◌, Bool, true, false, not, ◌||◌, List, [], ◌∷◌, length, map, Option, Some, None, is_some, option_map, refl, sym, ap, ap₂, subst, ◌∙◌, arith}
-use Rattle.std.specs.Prelude.{◌==◌}
-use Rattle.query_run.proofs.Prelude.{All, IsTypedQuery, from_types, BothOrNone, IsChecked, IsCheckedJoin, IsShape, use_of, join_use, used_tables, need, FromColumn, from_columns, join_tables, refusal_of, output_names, sort_key, Join, OrderKey, Query, Schema, TableDecl, Checked, CheckedJoin, Shape, Plain, Grouped, Kind, QueryTree, condition, IsReadFrom, analysable_of_read, is_grouped, one_tree, same_grouped, IsWithinLimits, Command, IsPlannable, UsesNoList, IsTypedSelect, typed-select, are_grouped, are_some, are_tested, are_two, clause_need, few_sources, need_by_clauses, recursion_from_All}
+use Rattle.query_run.proofs.Prelude.{Bool, BothOrNone, Checked, CheckedJoin, Command, FromColumn, Grouped, IsAccepted, IsChecked, IsCheckedCommand, IsCheckedJoin, IsReadFrom, IsShape, IsTypedQuery, IsTypedSelect, IsWithinLimits, Join, Kind, List, NamesFewPaths, None, Option, OrderKey, Plain, Query, QueryTree, Schema, Shape, Some, [], analysable_of_read, ap, ap₂, are_grouped, are_some, are_tested, are_two, arith, clause_need, condition, false, few_sources, from_columns, from_types, is_grouped, is_some, join_tables, join_use, length, map, need, need_by_clauses, not, one_tree, option_map, output_names, refl, refusal_of, same_grouped, schemas_of, sort_key, stock_of, subst, sym, tables_used, true, typed-select, use_of, used_tables, ◌==◌, ◌||◌, ◌∙◌, ◌∷◌, ◌≡◌, ◌≤◌}
 use Rattle.query_model.specs.declared.processor_spec.Kind.TheVariants as kind
-use Rattle.query_run.specs.Names.{NamesFewPaths, stock_of, IsAccepted, IsCheckedCommand, UsesLists, schemas_of, tables_used}
 
 -- ---- what was read and checked
 
@@ -20,46 +17,24 @@ used_are command q checked is = ap₂ (λ u us. u ∷ us) is.from (joined q.join
     joined (Some x) None h = absurd h
     joined (Some x) (Some y) h = ap (λ u. u ∷ []) h.0
 
--- A query that was read from the command's text and analysed against its schemas is the command's,
--- where it uses no list of files, and else it isn't built.
-module _ (command : Command) (q : Query) (read : IsReadFrom q command.query) (schemas : List Schema)
-    (are : schemas ≡ schemas_of command) (checked : Checked)
-    (accepted : refusal_of q schemas ≡ None)
-    (is : IsChecked q schemas checked) (typed : IsTypedQuery (from_types q schemas) checked)
-    (tables : List TableDecl) (same : tables ≡ command.tables) where
-  abbrev of_command : refusal_of q (schemas_of command) ≡ None
-  of_command = subst (λ (s : List Schema). refusal_of q s ≡ None) are accepted
-
-  abbrev checked_is : IsChecked q (schemas_of command) checked
-  checked_is = subst (λ (s : List Schema). IsChecked q s checked) are is
-
-  pub checked_command : All (UsesNoList tables) (used_tables checked)
-      → IsCheckedCommand command checked
-  checked_command none = record {
-    query = q;
-    read = read;
-    accepted = of_command;
-    is = checked_is;
-    typed = subst (λ (s : List Schema). IsTypedQuery (from_types q s) checked) are typed;
-    planned = subst (All (UsesNoList command.tables)) (used_are command q checked checked_is)
-        (subst (λ t. All (UsesNoList t) (used_tables checked)) same none);
-  }
-
-  pub listed_command : (All (UsesNoList tables) (used_tables checked) → ⊥) → UsesLists command
-  listed_command some = record {
-    query = q;
-    read = read;
-    accepted = of_command;
-    listed = λ none. some (subst (λ t. All (UsesNoList t) (used_tables checked)) (sym same)
-        (subst (All (UsesNoList command.tables)) (sym (used_are command q checked checked_is))
-        none));
-  }
+-- A query that was read from the command's text and analysed against its schemas is the command's.
+pub checked_command : (command : Command) (q : Query) → IsReadFrom q command.query
+    → (schemas : List Schema) → schemas ≡ schemas_of command → (checked : Checked)
+    → refusal_of q schemas ≡ None → IsChecked q schemas checked
+    → IsTypedQuery (from_types q schemas) checked → IsCheckedCommand command checked
+checked_command command q read schemas are checked accepted is typed = record {
+  query = q;
+  read = read;
+  accepted = subst (λ (s : List Schema). refusal_of q s ≡ None) are accepted;
+  is = subst (λ (s : List Schema). IsChecked q s checked) are is;
+  typed = subst (λ (s : List Schema). IsTypedQuery (from_types q s) checked) are typed;
+}
 
 -- a command that is checked is accepted
 pub accepted_of : (command : Command) (checked : Checked) → IsCheckedCommand command checked
     → IsAccepted command
 accepted_of command checked h =
-    record { query = h.query; read = h.read; accepted = h.accepted; planned = h.planned }
+    record { query = h.query; read = h.read; accepted = h.accepted }
 
 -- two queries that are read from one text use the same tables
 pub same_tables : (command : Command) (p q : Query) → IsReadFrom p command.query
@@ -69,14 +44,6 @@ same_tables command p q a b =
     ap (λ (t : QueryTree). map (use_of (schemas_of command)) (t.from ∷ join_tables t.join)) trees
 
 -- ---- the plan
-
--- the query is one that is planned
-pub plannable : (command : Command) (checked : Checked) → IsCheckedCommand command checked
-    → IsPlannable checked command.tables
-plannable command checked h =
-    recursion_from_All (UsesNoList command.tables) (used_tables checked)
-    (subst (All (UsesNoList command.tables)) (sym (used_are command h.query checked h.is))
-    h.planned)
 
 -- a checked command's query is typed by the columns of its tables
 pub typed_by_tables : (command : Command) (checked : Checked) → IsCheckedCommand command checked
@@ -180,12 +147,12 @@ stock_serves command q within h few k =
         → clause_need command.tables command.threads (used_tables q) joined filtered grouped tested
         ordered limited k ≤ stock_of k
     go kind.Csv j f g t o l =
-        let sources = few_sources command.tables (used_tables q) (plannable command q h) few in
+        let sources = few_sources command.tables (used_tables q) few in
         let parts = sources.parts in omega (arith, parts, two q.join)
     go kind.List j f g t o l =
-        let sources = few_sources command.tables (used_tables q) (plannable command q h) few in
-        let none = sources.lists in omega (arith, none)
+        let sources = few_sources command.tables (used_tables q) few in
+        let lists = sources.lists in omega (arith, lists, two q.join)
     go kind.Numbers j f g t o l =
-        let sources = few_sources command.tables (used_tables q) (plannable command q h) few in
+        let sources = few_sources command.tables (used_tables q) few in
         let numbers = sources.numbers in omega (arith, numbers, two q.join)
     go k j f g t o l = let most = within.few_threads in grind (arith, most)

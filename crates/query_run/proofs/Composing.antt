@@ -1,13 +1,13 @@
 -- From the chunks that a plan's graph gives to the text of one answer of a command.
-use Rattle.std.proofs.Common.{◌≡◌, ◌⊎◌, ℕ, ◌+◌, ◌-◌, ◌<◌, Bool, true, false, if◌then◌else◌, List, [], ◌∷◌, ◌++◌, map, length, refl, ap, sym, subst, ◌∙◌, arith, Option, Some, None, inl, inr, length-append, flat_map}
-use Rattle.query_run.proofs.Prelude.{IfSome, All, get_or-map, length-map, All-append, Row, ColumnType, SortKey, AllPartsValid, Files, database, join_use, parts_used, IsValidUsed, flow, kind_of, answer_text, rows_text, Checked, Spec, Shape, Plain, heading, Kind, map-map, IsWithinLimits, Command, BoxPicture, handed_out_by, IsSourceKind, chunk_rows, box_at, no_draft, ports_of, with_nodes, DraftNode, NodePort, HasEnough, SelectPlan, body_nodes, collect_node, join_valid, needed_valid, plan_nodes, plan_valid, shape_of, pulled_rows, NodeForm, forms, node_form, Stream, all_rows, rows_of, order_of, source_types, HasEnded, HasPulled, parts_of, pulled_at, since-pulled, both-valid, joined-valid, table-valid, QueryAnswered, planned-ended, HasStock, kinds_of, spec_at}
+use Rattle.query_run.proofs.Prelude.{All, All-append, AllPartsValid, AreLawfulOver, Bool, BoxPicture, Checked, ColumnType, Command, DraftNode, Files, GivesText, GrowsLawfully, HasEnded, HasEnough, HasGrown, HasPulled, HasStock, IfSome, IsCertain, IsDone, IsPlain, IsRunnable, IsUngrown, IsValidUsed, KeepsBehind, Kind, List, MakesText, NodeForm, NodePort, None, Option, Plain, PulledMore, PullsItsFlow, QueryAnswered, Row, RunsPlan, SelectPlan, Shape, Some, SortKey, Spec, Stream, [], all_rows, answer_text, ap, arith, body_nodes, born_wires, both-valid, both_ways, box_at, chunk_rows, collect_node, database, false, flat_map, flow, get_or-map, grown-lists, handed_out_by, heading, if◌then◌else◌, inl, inr, join_use, join_valid, joined-valid, kind_of, kinds_for, kinds_reserved, length, length-append, length-map, lists-valid, map, needed_valid, node_form, order_of, parts_of, parts_used, plan_nodes, plan_of, plan_valid, planned-ended, ports_of, pulled_at, pulled_rows, refl, reserves_from, rows_of, rows_text, same_kind, shape_of, since-pulled, source_types, spec_at, specs_in, subst, sym, table-valid, true, ℕ, ◌++◌, ◌+◌, ◌-◌, ◌<◌, ◌∙◌, ◌∷◌, ◌≡◌, ◌⊎◌}
 use Rattle.query_model.specs.declared.processor_spec.Kind.TheVariants as kind
 use Rattle.query_model.specs.declared.processor_spec.Spec.TheVariants as spec
-use Rattle.query_run.specs.Names.{AreLawfulOver, IsPlain, IsRunnable, PulledMore, plan_of, specs_in, IsCheckedCommand, IsCertain, MakesText, PullsItsFlow, GivesText}
-use Rattle.query_run.proofs.Causes.{ran, stock}
-use Rattle.query_run.proofs.Commands.{plannable, typed_by_tables}
-use Rattle.query_run.proofs.Plans.{ended-files, ended-kind, ended-lawful, ran-at, small_plan}
-use Rattle.query_run.proofs.Pulling.{kind-pulled}
+use Rattle.query_run.proofs.Causes.{ran}
+use Rattle.query_run.proofs.Commands.{typed_by_tables}
+use Rattle.query_run.proofs.Grown.{formed, grows}
+use Rattle.query_run.proofs.Plans.{AreCopies, ended-kind, loaded-kind, small_plan}
+use Rattle.query_run.proofs.Pulling.{kept-other, kind-pulled}
+use Rattle.query_run.proofs.Reserves.{kept-sources}
 
 -- the rows under the names, where those head them
 pub headed : (header : Bool) (names : List (List ℕ)) (rows : List Row)
@@ -30,25 +30,42 @@ cut_or_valid : (s : Shape) (from types : List ColumnType) (rows : ℕ) (keys : L
 cut_or_valid (Plain items) from types rows [] all join e = inr (tt, refl, e)
 cut_or_valid s from types rows keys all join e = inl e
 
+-- a node of another kind than lists
+ungrown-kind : (k : Kind) (s : Spec) → same_kind kind.List k ≡ false
+    → same_kind (kind_of s) k ≡ true → IsUngrown s
+ungrown-kind k (spec.List list) told of = absurd (both_ways (same_kind kind.List k) told of)
+ungrown-kind k s told of = tt
+
 -- ---- an ended plan
 
-module _ (c : Command) (within : IsWithinLimits c) (q : Checked) (h : IsCheckedCommand c q)
-    (before after : List BoxPicture) (runnable : IsRunnable c q before)
-    (nodes : List DraftNode) (same : forms nodes ≡ forms (plan_nodes (plan_of c q)))
-    (text : List ℕ)
-    (g : GivesText c.header q.names (specs_in nodes) (with_nodes nodes no_draft).wires before after
-    text) where
+module _ {c : Command} {q : Checked} {before after : List BoxPicture} {nodes : List DraftNode}
+    (copies : AreCopies c q nodes) (runnable : IsRunnable c q before)
+    (stock : HasStock (kinds_for nodes) before)
+    (keeps : KeepsBehind (length nodes) (formed nodes)) (text : List ℕ)
+    (g : GivesText c.header q.names (specs_in nodes) (kinds_reserved (reserves_from 0 nodes))
+    (formed nodes) before after text) where
   abbrev plan : SelectPlan
   plan = plan_of c q
 
   abbrev specs : List Spec
   specs = specs_in nodes
 
-  abbrev ended : List BoxPicture
-  ended = g.gives.ended
+  abbrev kept : List Kind
+  kept = kinds_reserved (reserves_from 0 nodes)
 
-  taken : HasStock (kinds_of specs) before
-  taken = stock c within q h before after runnable nodes same
+  abbrev ended : List BoxPicture
+  ended = g.gives.holds.ended
+
+  abbrev run : RunsPlan specs kept before after ended
+  run = g.gives.holds.runs
+
+  abbrev grown : HasGrown (record {
+    ranks = (formed nodes).ranks;
+    wires = (formed nodes).wires;
+    reserves = (formed nodes).reserves;
+    boxes = g.gives.boxes;
+  }) ended (λ wires. IsDone wires ended)
+  grown = g.gives.holds.done
 
   -- the collector's node
   abbrev last : ℕ
@@ -59,70 +76,70 @@ module _ (c : Command) (within : IsWithinLimits c) (q : Checked) (h : IsCheckedC
 
   nodes_count : length nodes ≡ last + 1
   nodes_count =
-      sym (length-map nodes node_form) ∙ ap (λ (l : List NodeForm). length l) same
+      sym (length-map nodes node_form) ∙ ap (λ (l : List NodeForm). length l) copies.same
       ∙ length-map (plan_nodes plan) node_form ∙ count
-
-  specs_count : length specs ≡ last + 1
-  specs_count = length-map nodes (λ (n : DraftNode). n.spec) ∙ nodes_count
 
   in_ended : (n : ℕ) → n < length nodes → n < length ended
   in_ended n lt =
-      let all = g.gives.runs.count in
+      let all = run.count in
       let each = length-map nodes (λ (n : DraftNode). n.spec) in
       omega (arith, lt, all, each)
 
   module _ (files : Files) (honest : AreLawfulOver files before) where
-    loaded : (n : ℕ) (s : Spec) → n < length ended → (box_at ended n).spec ≡ Some s
-        → spec_at specs n ≡ s
-    loaded n s lt is =
-        let e : Some (spec_at specs n) ≡ Some s =
-        sym (ran-at specs before after ended taken g.gives.runs n lt).spec ∙ is in
-        cc
+    lawfully : GrowsLawfully files nodes (formed nodes).wires (formed nodes).reserves g.gives.boxes
+        ended grown.births
+    lawfully = grows (record { copies = copies; runnable = runnable; stock = stock; run = run })
+        keeps g.gives.boxes g.gives.kinds_are g.gives.starting grown.births grown.are files honest
 
     abbrev has_ended : HasEnded files nodes ended
     has_ended = record {
-      specs = g.gives.runs.loaded ∙ map-map Some (λ (n : DraftNode). n.spec) nodes;
-      lawful = ended-lawful specs before after ended taken g.gives.runs files honest;
-      told = λ n part lt is.
-          ended-files specs before after ended taken g.gives.runs files honest n lt
-          (subst (λ s. IsSourceKind (kind_of s)) (sym (loaded n (spec.Csv part) lt is)) tt);
-      done = g.gives.done;
+      more = flat_map born_wires grown.births;
+      count = let lt = in_ended in let all = run.count in
+          let each = length-map nodes (λ (n : DraftNode). n.spec) in omega (arith, all, each);
+      specs = lawfully.specs;
+      lawful = lawfully.lawful;
+      told = lawfully.told;
+      grown = grown-lists files nodes (formed nodes).wires (formed nodes).reserves g.gives.boxes
+          ended grown.births lawfully;
+      done = grown.holds;
     }
 
     answered : QueryAnswered q c.header files c.tables plan nodes ended has_ended last
     answered =
         planned-ended q c.tables c.threads c.chunk_rows c.header files nodes ended has_ended last
-        (plannable c q h) (typed_by_tables c q h)
-        (let some = within.some_threads in omega (arith, some))
-        (small_plan c within q h nodes same runnable.paths) same count
+        (typed_by_tables c q copies.checked)
+        (let some = copies.within.some_threads in omega (arith, some))
+        (small_plan copies runnable.paths) copies.same count
 
     abbrev rows : List Row
-    rows = chunk_rows (g.gives.done.pulled last 0)
+    rows = chunk_rows (has_ended.done.pulled last 0)
 
     text_is : text ≡ answer_text c.header q.names rows
     text_is =
-        let lt : last < length ended = in_ended last (let n = nodes_count in omega (arith, n)) in
+        let lt : last < length nodes = let n = nodes_count in omega (arith, n) in
         let collected = answered.run.collected in
         let of_kind : (box_at ended last).kind ≡ kind.Collect =
-        ended-kind specs before after ended taken g.gives.runs last lt
-        ∙ ap kind_of (loaded last spec.Collect lt collected.loaded) in
-        let place : length specs - 1 ≡ last = let n = specs_count in omega (arith, n) in
+        sym (loaded-kind nodes before after ended stock run last spec.Collect (in_ended last lt)
+        collected.loaded) in
+        let place : length specs - 1 ≡ last =
+        let n = nodes_count in
+        let each = length-map nodes (λ (n : DraftNode). n.spec) in omega (arith, n, each) in
         g.is
         ∙ ap (λ l. answer_text c.header q.names (chunk_rows l))
-        (g.gives.rows
+        (g.gives.holds.rows
         ∙ ap (λ n. handed_out_by (box_at ended n).kind (box_at ended n).work) place
         ∙ ap (λ k. handed_out_by k (box_at ended last).work) of_kind ∙ collected.gathered)
 
     joined : join_valid (parts_of files) plan.join ≡ true
         → All (IsValidUsed c.header files) (flat_map (parts_used files c.tables) (join_use q.join))
-    joined = joined-valid c.tables c.header c.chunk_rows files q.from q.join (plannable c q h).1
+    joined e = (joined-valid c.tables c.header c.chunk_rows files q.from q.join e).0
 
     all_parts : plan_valid (parts_of files) plan ≡ true → AllPartsValid c.header files c.tables q
     all_parts all =
         let both = both-valid (parts_of files) plan.sources plan.join all in
         All-append (IsValidUsed c.header files) (parts_used files c.tables q.from)
         (flat_map (parts_used files c.tables) (join_use q.join))
-        (table-valid c.tables c.header c.chunk_rows files q.from (plannable c q h).0 both.0)
+        (table-valid c.tables c.header c.chunk_rows files q.from both.0).parts
         (joined both.1)
 
     certain : IsCertain c.header files c.tables q
@@ -143,46 +160,62 @@ module _ (c : Command) (within : IsWithinLimits c) (q : Checked) (h : IsCheckedC
           ]
     ]
 
-    -- a kind pulled what its nodes did
-    nodes_pulled : (k : Kind) (n : ℕ)
-        → pulled_rows k 0 nodes (pulled_at ended g.gives.done.pulled) ≡ n
+    -- a kind of which nothing is kept pulled what its nodes did
+    nodes_pulled : (k : Kind) (n : ℕ) → same_kind kind.List k ≡ false → same_kind kind.Csv k ≡ false
+        → pulled_rows k 0 nodes (pulled_at ended has_ended.done.pulled) ≡ n
         → PulledMore k before after (Some n)
     unfolding spec_at
-    nodes_pulled k n e =
-        let f : NodePort → Stream = pulled_at ended g.gives.done.pulled in
-        kind-pulled specs before after ended taken g.gives.runs k n
-        (elim (since-pulled k f 0 nodes ended
-        (let all = g.gives.runs.count in
-        let each = length-map nodes (λ (n : DraftNode). n.spec) in omega (arith, all, each))
+    nodes_pulled k n list csv e =
+        let f : NodePort → Stream = pulled_at ended has_ended.done.pulled in
+        let others = kept-sources (λ j. same_kind j k ≡ false) csv 0 nodes in
+        let each = length-map nodes (λ (n : DraftNode). n.spec) in
+        kind-pulled specs kept before after ended stock run k others n
+        (elim (since-pulled k f 0 nodes ended has_ended.count
+        (λ i le lt. kept-other specs kept before after ended stock run k others i
+        (rw length-map le) lt)
         (λ i z lt is. (
-          ended-kind specs before after ended taken g.gives.runs i (in_ended i lt)
+          ended-kind nodes before after ended stock run i lt
               ∙ ap kind_of (get_or-map (λ (n : DraftNode). n.spec) nodes i z spec.Collect lt
               ∙ ap (λ (n : DraftNode). n.spec) is),
-          subst (λ m. HasPulled (box_at ended i)
+          λ of. subst (λ m. HasPulled (box_at ended i)
               (length (all_rows (rows_of (map f (ports_of m 0 z.takes))))))
-              (let e : i ≡ 0 + i = omega arith in e) (answered.run.counted i z lt is),
+              (let e : i ≡ 0 + i = omega arith in e)
+              (answered.run.counted i z lt is (ungrown-kind k z.spec list of)),
         ))) [ inl a ↦ inl (a ∙ e) | inr b ↦ inr b ])
+
+    -- nothing is told of sources
+    told-kind : (k : Kind)
+        → ((n : ℕ) → same_kind kind.List k ≡ false → same_kind kind.Csv k ≡ false
+        → pulled_rows k 0 nodes (pulled_at ended has_ended.done.pulled) ≡ n
+        → PulledMore k before after (Some n))
+        → IfSome (flow k q (database c.header files c.tables) rows)
+        (λ n. pulled_rows k 0 nodes (pulled_at ended has_ended.done.pulled) ≡ n)
+        → PulledMore k before after (flow k q (database c.header files c.tables) rows)
+    told-kind kind.Csv more h = tt
+    told-kind kind.List more h = tt
+    told-kind k more h =
+        if-some (flow k q (database c.header files c.tables) rows) (λ n. more n refl refl) h
 
     pub flow_told : PullsItsFlow c files text before after
     flow_told = record {
       answer = record {
         checked = q;
-        is_checked = h;
+        is_checked = copies.checked;
         certain = certain;
+        lists = lists-valid c.tables c.header c.chunk_rows files q.from q.join plan refl refl
+            answered.valid;
         rows = rows;
         is_answer = answered.answer;
         is = text_is;
       };
-      pulled = λ unlimited k.
-          if-some (flow k q (database c.header files c.tables) rows) (nodes_pulled k)
-          (answered.pulled unlimited k);
-      collected = nodes_pulled kind.Collect (length rows) answered.collected;
+      pulled = λ unlimited k. told-kind k (nodes_pulled k) (answered.pulled unlimited k);
+      collected = nodes_pulled kind.Collect (length rows) refl refl answered.collected;
     }
 
   -- what a run of the plan gave is the text of an answer
   pub makes_text : MakesText c q text before after
   makes_text = record {
     runnable = runnable;
-    ran = ran c within q h before after runnable nodes same ended g.gives.runs;
+    ran = ran after copies runnable stock keeps ended run;
     answers = λ files told. flow_told files told;
   }

@@ -1,16 +1,13 @@
 -- The corollaries of the theorem on how a run ends, and completeness.
-use Rattle.std.proofs.Common.{◌≡◌, ◌≢◌, ◌⊎◌, inl, inr, ℕ, List, ap, sym, subst, ◌∙◌, refl, arith, Option, Some, None}
-use Rattle.query_run.proofs.Prelude.{All, All-contains, Untouched, IsDue, Files, UsedPart, used_parts, IsValidUsed, part_bad_place, refusal_of, BadPlace, Query, Refusal, Schema, Checked, Kind, same_refusal, IsRefused, ParseRefusal, one_tree, IsWithinLimits, Command, command_means, limits_kept, BoxPicture, IsBlank, IsLongFile, plan_nodes, first_crowded, UsesNoList, used_part, kinds-same, HasStock, GivesBack, lawful-not-stuck, runs-give-back}
+use Rattle.query_run.proofs.Prelude.{All, All-contains, Answered, AreLawfulOver, AreRefused, BadPlace, BoxPicture, Checked, Command, Declared, Ending, Ends, EndsEarly, EndsFor, EndsUnlawful, Failed, FailsAtPart, FailsFor, Failure, Files, GivesBack, HasBoxes, HasStock, IsAccepted, IsAnswerable, IsBlank, IsCheckedCommand, IsDue, IsEither, IsHonest, IsListDeclared, IsListNamed, IsListUsed, IsLongFile, IsRefused, IsRefusedFor, IsRefusedQuery, IsRun, IsRunnable, IsShort, IsValidList, IsValidUsed, IsWithinLimits, Kind, LackBoxes, LacksBoxes, LeavesBoxes, List, MakesText, MeanNothing, NameManyPaths, NamesFewPaths, None, OfChecked, OfCommand, OfQuery, Option, ParseRefusal, PartName, PlanFailsFor, PlanFailure, PulledRows, Query, RanPlan, ReaderFails, Refusal, Refused, Schema, Shortage, Some, SucceedsUnless, TakesBoxes, Untouched, UsedPart, WriteFailed, WritesAnswer, arith, bad_line_in, both_ways, boxes_for, command_means, failure_status, file_bytes, first_crowded, inl, inr, kinds_reserved, limits_kept, one_tree, plan_kinds, plan_nodes, plan_of, plan_status, query_status, refl, refusal_of, refused_status, reserves_from, runs-give-back, same_refusal, schemas_of, specs_in, status_of, subst, sym, text_status, used_parts, used_tables, ℕ, ◌∙◌, ◌≡◌, ◌≢◌, ◌⊎◌}
 use Rattle.query_model.specs.declared.query.Refusal.TheVariants as refuse
 use Rattle.sql_text.specs.declared.limits.ParseRefusal.TheVariants as parse
-use Rattle.query_run.specs.Names.{PartName, Refused, PlanFailure, Failure, Ending, Shortage, status_of, failure_status, plan_status, refused_status, text_status, query_status, AreLawfulOver, HasBoxes, IsHonest, IsRunnable, IsShort, LacksBoxes, NamesFewPaths, RanPlan, boxes_for, plan_kinds, plan_of, specs_in, schemas_of, OfCommand, OfChecked, OfQuery, IsAccepted, IsCheckedCommand, IsRefusedFor, IsRefusedQuery, EndsStuck, FailsAtPart, FailsFor, PlanFailsFor, TakesBoxes, AreRefused, Ends, EndsEarly, EndsFor, IsAnswerable, IsEither, IsRun, LackBoxes, LeavesBoxes, MakesText, MeanNothing, NameManyPaths, PulledRows, ReaderFails, SucceedsUnless, WritesAnswer}
 use Rattle.query_run.specs.declared.ending.Refused.TheVariants as refused
 use Rattle.query_run.specs.declared.ending.PartFailure.TheVariants as part
 use Rattle.query_run.specs.declared.ending.PlanFailure.TheVariants as plan
 use Rattle.query_run.specs.declared.ending.Failure.TheVariants as failure
-use Rattle.query_run.specs.declared.ending.Ending.TheVariants.{Answered, Failed, WriteFailed}
-use Rattle.query_run.proofs.Commands.{accepted_of, same_need, same_tables, same_uses, stock_serves}
-use Rattle.query_run.proofs.Plans.{plan_stock}
+use Rattle.query_run.proofs.Commands.{accepted_of, same_need, same_uses, stock_serves}
+use Rattle.query_run.proofs.Plans.{ended-lawful, kinds-for-same, plan_stock}
 
 -- words mean one command
 same_command : {P Q : Command → Type 0} {words : List (List ℕ)}
@@ -82,9 +79,6 @@ accepted_memory : (command : Command) (r : Refused) → IsAccepted command → I
     → refused_status r ≡ 7
 accepted_memory command (refused.Text refusal) a h = text_not_refused command refusal a h
 accepted_memory command (refused.Query refusal) a h = query_not_refused command refusal a h
-accepted_memory command refused.NotBuilt a h =
-    absurd (h.listed (subst (All (UsesNoList command.tables))
-    (same_tables command a.query h.query a.read h.read) a.planned))
 
 -- a refusal has status 2, and want of memory 7
 refused_either : (command : Command) (r : Refused) → IsRefusedFor r command
@@ -96,7 +90,6 @@ refused_either command (refused.Query refusal) h =
       | inl memory ↦ inr memory
       | inr due ↦ inl due.0
     ]
-refused_either command refused.NotBuilt h = inl refl
 
 either_status : (m n status other : ℕ) → status ≡ other → IsEither m n other → IsEither m n status
 either_status m n status other s (inl h) = inl (s ∙ h)
@@ -122,57 +115,60 @@ not_crowded c a b =
 -- ---- the run of a plan
 
 module _ (before after : List BoxPicture) where
-  -- over valid parts no part is bad
-  not_bad : (files : Files) (c : Command) (q : Checked) (name : PartName) (place : BadPlace)
-      → AreLawfulOver files before
-      → IsAnswerable files c → IsCheckedCommand c q
-      → FailsAtPart name (part.Bad place) c q before after → ⊥
-  not_bad files c q name place told a is h =
-      let part = h.serves.part in
-      let valid : IsValidUsed c.header files (used_part part) =
-      All-contains (IsValidUsed c.header files) (used_parts files c.tables q) (used_part part)
-      (a.valid q is) (h.serves.used files told) in
-      let bad : part_bad_place part.header part.types files part.path ≡ Some place =
-      h.fails files told in
-      let wrong : Some place ≡ None =
-      sym bad ∙ ap (λ b. part_bad_place b part.types files part.path) h.serves.header
-      ∙ valid.1 in
-      absurd cc
+  module _ (files : Files) (c : Command) (q : Checked) (name : PartName)
+      (told : AreLawfulOver files before) (a : IsAnswerable files c)
+      (is : IsCheckedCommand c q) where
+    -- over valid parts no part is bad
+    not_bad : (place : BadPlace) → FailsAtPart name (part.Bad place) c q before after → ⊥
+    not_bad place h =
+        let bad = h.fails files told in
+        let valid = All-contains (IsValidUsed c.header files) (used_parts files c.tables q) bad.0
+        (a.valid q is) bad.1.used in
+        clash valid.1 bad.2
 
-  -- nor too long
-  not_long : (files : Files) (c : Command) (q : Checked) (name : PartName)
-      → AreLawfulOver files before
-      → IsAnswerable files c → IsCheckedCommand c q → FailsAtPart name part.TooLong c q before after
-      → ⊥
-  not_long files c q name told a is h =
-      All-contains (λ (p : UsedPart). IsLongFile files p.path → ⊥) (used_parts files c.tables q)
-      (used_part h.serves.part)
-      (a.within q is) (h.serves.used files told) (h.fails files told)
+    -- nor a list
+    good_list : (path : List ℕ) → IsListNamed c q name 0 path
+        → bad_line_in (file_bytes files path) ≡ None
+    good_list path n =
+        let used = All-contains (IsListUsed files c.tables) (used_tables q) (Declared n.list.place)
+        (a.lists q is) n.list.used in
+        let declared = subst (λ o. IsListDeclared files o) n.list.declared used in
+        (subst (λ d. IsValidList files d) n.list.names_list declared).1
 
-  -- with lawful boxes no run ends stuck
-  not_stuck : (files : Files) (k : Kind) (c : Command) (q : Checked) → AreLawfulOver files before
-      → IsCheckedCommand c q → EndsStuck k c q before after → ⊥
-  not_stuck files k c q told is h =
-      lawful-not-stuck (specs_in h.ran.nodes) before after k
+    not_bad_list : (line : ℕ) → FailsAtPart name (part.BadList line) c q before after → ⊥
+    not_bad_list line h =
+        let bad = h.fails files told in
+        clash (good_list bad.0 bad.1) bad.2
+
+    -- nor is one too long
+    not_long : FailsAtPart name part.TooLong c q before after → ⊥
+    not_long h =
+        let long = h.fails files told in
+        elim long.1 [
+          | inl list ↦ a.lists_within q is long.0 list.list long.2
+          | inr p ↦
+              All-contains (λ (p : UsedPart). IsLongFile files p.path → ⊥)
+              (used_parts files c.tables q) p.0 (a.within q is) p.1.used
+              (subst (λ path. IsLongFile files path) (sym p.2) long.2)
+        ]
+
+  -- with lawful boxes no run ends by an unlawful one
+  not_unlawful : (files : Files) (k : Kind) (c : Command) (q : Checked) → AreLawfulOver files before
+      → IsCheckedCommand c q → EndsUnlawful k c q before after → ⊥
+  not_unlawful files k c q told is h =
+      both_ways _ h.unlawful (ended-lawful h.ran.nodes before after h.ran.ended
       (subst (λ ks. HasStock ks before)
-      (sym (kinds-same h.ran.nodes (plan_nodes (plan_of c q)) h.ran.same))
-      (plan_stock c q is before h.runnable.boxes)) told.lawful
-      (record {
-        ended = h.ran.ended;
-        runs = h.ran.runs;
-        report = h.report;
-        node = h.node;
-        stuck = h.stuck;
-        of_kind = h.of_kind;
-      })
+      (sym (kinds-for-same h.ran.nodes (plan_nodes (plan_of c q)) h.ran.same))
+      (plan_stock c q before h.runnable.boxes)) h.ran.runs files told h.node h.in_range)
 
   -- the boxes of a plan that ran were taken and given back
   gives_back : (c : Command) (q : Checked) → RanPlan c q before after
       → GivesBack (plan_kinds c q) before after
   gives_back c q r =
       subst (λ ks. GivesBack ks before after)
-      (kinds-same r.nodes (plan_nodes (plan_of c q)) r.same)
-      (runs-give-back (specs_in r.nodes) before after r.ended r.runs)
+      (kinds-for-same r.nodes (plan_nodes (plan_of c q)) r.same)
+      (runs-give-back (specs_in r.nodes) (kinds_reserved (reserves_from 0 r.nodes)) before after
+      r.ended r.runs)
 
   -- why a plan took no box: too many paths, too few boxes or want of memory
   abbrev TakesNone : PlanFailure → Command → Checked → Type 0
@@ -212,7 +208,9 @@ module _ (before after : List BoxPicture) where
   plan_memory (plan.Stock s) files c q within honest a is well h =
       absurd (not_short files c q before s within is h.0 honest h.1)
   plan_memory (plan.Part name (part.Bad place)) files c q within honest a is well h =
-      absurd (not_bad files c q name place honest.boxes_are a is h)
+      absurd (not_bad files c q name honest.boxes_are a is place h)
+  plan_memory (plan.Part name (part.BadList line)) files c q within honest a is well h =
+      absurd (not_bad_list files c q name honest.boxes_are a is line h)
   plan_memory (plan.Part name part.Read) files c q within honest a is well h =
       absurd (well name (inl h))
   plan_memory (plan.Part name part.Stalled) files c q within honest a is well h =
@@ -220,7 +218,7 @@ module _ (before after : List BoxPicture) where
   plan_memory (plan.Part name part.TooLong) files c q within honest a is well h =
       absurd (not_long files c q name honest.boxes_are a is h)
   plan_memory (plan.Unlawful k) files c q within honest a is well h =
-      absurd (not_stuck files k c q honest.boxes_are is h)
+      absurd (not_unlawful files k c q honest.boxes_are is h)
   plan_memory plan.Memory files c q within honest a is well h = refl
 
 -- ---- statuses of failures

@@ -8,3 +8,8 @@ pub mod Composing
 pub mod Corollaries
 pub mod Planned
 pub mod Stocks
+pub mod Reserves
+pub mod Kept
+pub mod Grown
+pub mod Flaws
+pub mod NextKept

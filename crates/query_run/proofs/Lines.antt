@@ -1,8 +1,5 @@
 -- A line that is written in pieces.
-use Rattle.std.proofs.Common.{◌≡◌, ℕ, ◌+◌, ◌<◌, List, [], ◌∷◌, ◌++◌, length, take, drop, get_or, Option, Err, sym, ap, subst, ◌∙◌, append-nil, flat_map}
-use Rattle.query_run.proofs.Prelude.{take_more, take-append-drop, flat_map-append, GrewBy, GrewByPrefix, GrewByPrefix-after, GrewByPrefix-append}
-use Rattle.query_run.specs.declared.telling.Piece.{Piece}
-use Rattle.query_run.specs.Endings.{Writes, piece_bytes}
+use Rattle.query_run.proofs.Prelude.{Err, GrewBy, GrewByPrefix, GrewByPrefix-after, GrewByPrefix-append, List, Option, Piece, Writes, [], ap, append-nil, drop, flat_map, flat_map-append, get_or, length, piece_bytes, subst, sym, take, take-append-drop, take_more, ℕ, ◌++◌, ◌+◌, ◌<◌, ◌∙◌, ◌∷◌, ◌≡◌}
 
 -- the bytes of the pieces before a place, of the piece there, and of those behind it
 split-bytes : (ps : List Piece) (i : ℕ) (d : Piece) → i < length ps

@@ -1,11 +1,10 @@
 -- The graph that is run is that of the query's plan.
-use Rattle.std.proofs.Common.{◌≡◌, ◌≢◌, ℕ, ◌≤◌, List, [], ◌∷◌, length, map, count_by, sym, ap, subst, ◌∙◌, arith, length-append}
-use Rattle.query_run.proofs.Prelude.{slice_get, All, length-map, map-id, Wire, kind_of, Checked, TableDecl, Spec, Kind, map-map, IsWithinLimits, Command, BoxPicture, IsGraph, is_of, no_draft, with_nodes, DraftNode, body_nodes, collect_node, plan_nodes, NodeForm, node_form, Plan, PlanNode, boxes_needed, edge_of, node_of, plan_ranks, plan_wires, wire_of, HasStock, kinds_of, LeavesRack, PlanFaultHolds, RunsPlan, PlanFault}
-use Rattle.query_model.specs.declared.processor_spec.Kind.TheVariants as kind
-use Rattle.query_run.specs.Names.{PlanFailure, PartPlace, Shortage, HasBoxes, IsRunnable, IsShort, boxes_for, plan_of, specs_in, IsCheckedCommand, PlanFailsFor, MakesText, GivesText, IsPlanFault, IsPlanned, Tells, failure_of, name_at, node_specs, part_place}
-use Rattle.query_run.proofs.Causes.{plan-fault, stock, told-cause}
+use Rattle.query_run.proofs.Prelude.{Begins, BoxPicture, Checked, Command, DraftNode, GivesText, GraphForm, HasBoxes, HasStock, IsCheckedCommand, IsGraph, IsPlanned, IsRunnable, IsShort, IsWithinLimits, KeepsBehind, Kind, LeavesRack, List, MakesText, NodeForm, PartPlace, Plan, PlanFailsFor, PlanFailure, PlanFault, PlanFaultHolds, PlanNode, RunsPlan, Shortage, Spec, TableDecl, Tells, [], ap, ap₂, arith, body_nodes, boxes_for, boxes_needed, collect_node, count_by, edge_of, edges_kept, failure_of, is_of, kinds_for, kinds_reserved, kinds_taken, length, length-append, length-map, length-replicate, map, map-id, map-map, name_at, no_draft, node_form, node_of, node_specs, places_in, plan_nodes, plan_of, plan_ranks, plan_wires, replicate, reserved_nodes, reserves_behind, reserves_from, slice_get, specs_in, subst, sym, wire_of, with_nodes, ℕ, ◌++◌, ◌+◌, ◌∙◌, ◌∷◌, ◌≡◌, ◌≤◌}
+use Rattle.query_run.proofs.Causes.{told-cause}
 use Rattle.query_run.proofs.Composing.{makes_text}
-use Rattle.query_run.proofs.Plans.{no_list}
+use Rattle.query_run.proofs.Grown.{formed}
+use Rattle.query_run.proofs.Plans.{AreCopies, kinds-for-same, plan_stock}
+use Rattle.query_run.proofs.Reserves.{edges-as-nodes, keeps-behind, kinds-length}
 
 module _ (c : Command) (q : Checked) (p : Plan) (planned : IsPlanned c q p)
     (boxes : List BoxPicture) where
@@ -26,78 +25,151 @@ module _ {c : Command} {q : Checked} {p : Plan} {specs : List Spec} (within : Is
     abbrev nodes : List DraftNode
     nodes = planned.laid.copies
 
+    copies : AreCopies c q nodes
+    copies = record { within = within; checked = h; same = planned.laid.same }
+
     of_nodes : specs ≡ specs_in nodes
     of_nodes =
         specs_are ∙ ap node_specs planned.laid.nodes
         ∙ map-map (λ (n : PlanNode). n.spec) node_of nodes
 
-    specs_count : length specs ≡ length p.nodes
-    specs_count = ap (λ l. length l) specs_are ∙ length-map p.nodes (λ (n : PlanNode). n.spec)
+    abbrev wires_are : plan_wires p ≡ (with_nodes nodes no_draft).wires
+    wires_are = ap (map wire_of) planned.laid.edges
+        ∙ map-map wire_of edge_of (with_nodes nodes no_draft).wires
+        ∙ map-id (with_nodes nodes no_draft).wires
 
-    pub made-no-list : All (λ (s : Spec). kind_of s ≢ kind.List) specs
-    made-no-list =
-        subst (λ l. All (λ (s : Spec). kind_of s ≢ kind.List) l) (sym of_nodes)
-        (no_list c within q h nodes planned.laid.same)
+    nodes_count : length p.nodes ≡ length nodes
+    nodes_count = ap (λ l. length l) planned.laid.nodes ∙ length-map nodes node_of
 
-    pub some-nodes : 1 ≤ length specs
+    edges_count : length p.edges ≡ length (with_nodes nodes no_draft).wires
+    edges_count = ap (λ l. length l) planned.laid.edges
+        ∙ length-map (with_nodes nodes no_draft).wires edge_of
+
+    ranks_are : plan_ranks p ≡ map (λ (n : DraftNode). n.rank) nodes
+    ranks_are = ap (map (λ (n : PlanNode). n.rank)) planned.laid.nodes
+        ∙ map-map (λ (n : PlanNode). n.rank) node_of nodes
+
+    few_kept : length nodes + reserved_nodes (reserves_from 0 nodes) ≤ 124
+    few_kept = subst (λ rs. length nodes + reserved_nodes rs ≤ 124) planned.laid.reserves
+        (subst (λ n. n + reserved_nodes p.reserves ≤ 124) nodes_count planned.sound.few)
+
+    -- few enough edges are kept
+    pub few-edges : length p.edges + edges_kept p.reserves ≤ 1024
+    few-edges =
+        let few = planned.sound.few_edges in
+        let kept = ap edges_kept planned.laid.reserves in
+        omega (arith, few, kept, few_kept, edges-as-nodes 0 nodes)
+
+    -- the graph that the code made is that of the nodes
+    made-form : (form : GraphForm)
+        → form.ranks ≡ plan_ranks p ++ replicate (length (kinds_reserved p.reserves)) 0
+        → form.wires ≡ plan_wires p
+        → form.reserves ≡ reserves_behind (length p.nodes) (length p.edges) p.reserves
+        → form ≡ formed nodes
+    made-form form ranks wires reserves =
+        let r : form.ranks ≡ (formed nodes).ranks =
+        ranks ∙ ap₂ (λ l rs. l ++ replicate (length (kinds_reserved rs)) 0) ranks_are
+        planned.laid.reserves
+        ∙ ap (λ n. map (λ (n : DraftNode). n.rank) nodes ++ replicate n 0)
+        (kinds-length (reserves_from 0 nodes)) in
+        let rs : form.reserves ≡ (formed nodes).reserves =
+        reserves
+        ∙ ap (λ l. reserves_behind (length p.nodes) (length p.edges) l) planned.laid.reserves
+        ∙ ap₂ (λ n e. reserves_behind n e (reserves_from 0 nodes)) nodes_count edges_count in
+        λ i. record { ranks = r i; wires = (wires ∙ wires_are) i; reserves = rs i }
+
+    some-nodes : 1 ≤ length nodes
     some-nodes =
         let steps : List DraftNode = plan_nodes (plan_of c q) in
-        let of = ap (λ l. length l) of_nodes ∙ length-map nodes (λ (n : DraftNode). n.spec) in
         let same = sym (length-map nodes node_form)
         ∙ ap (λ (l : List NodeForm). length l) planned.laid.same ∙ length-map steps node_form in
         let last = length-append (body_nodes (plan_of c q)) (collect_node ∷ []) in
-        omega (arith, of, same, last)
+        omega (arith, same, last)
 
-    pub few-nodes : length specs ≤ 256
-    few-nodes = let few = planned.sound.few in omega (arith, specs_count, few)
+    specs_count : length specs ≡ length nodes
+    specs_count = ap (λ l. length l) of_nodes ∙ length-map nodes (λ (n : DraftNode). n.spec)
 
-    pub one-each : {ranks : List ℕ} → ranks ≡ plan_ranks p → length ranks ≡ length specs
-    one-each ranks_are =
-        ap (λ l. length l) ranks_are ∙ length-map p.nodes (λ (n : PlanNode). n.rank)
-        ∙ sym specs_count
+    keeps : KeepsBehind (length nodes) (formed nodes)
+    keeps =
+        let ranks : List ℕ = map (λ (n : DraftNode). n.rank) nodes in
+        let len : length ranks ≡ length nodes = length-map nodes (λ (n : DraftNode). n.rank) in
+        let base : IsGraph ranks (with_nodes nodes no_draft).wires [] =
+        subst (λ r. IsGraph r (with_nodes nodes no_draft).wires []) ranks_are
+        (subst (λ w. IsGraph (plan_ranks p) w []) wires_are planned.sound.graph) in
+        let edges = planned.sound.few_edges in
+        rw len at (keeps-behind ranks (with_nodes nodes no_draft).wires base nodes (sym len)
+        (omega (arith, len, few_kept))
+        (omega (arith, edges, edges_count, few_kept, edges-as-nodes 0 nodes)))
 
-    pub made-graph : {ranks : List ℕ} {wires : List Wire} → ranks ≡ plan_ranks p
-        → wires ≡ plan_wires p → IsGraph ranks wires []
-    made-graph {ranks} {wires} ranks_are wires_are =
-        subst (λ r. IsGraph r wires []) (sym ranks_are)
-        (subst (λ w. IsGraph (plan_ranks p) w []) (sym wires_are) planned.sound.graph)
+    -- the code's graph, with the kinds that it keeps
+    module _ {kept : List Kind} {form : GraphForm} (kept_are : kept ≡ kinds_reserved p.reserves)
+        (ranks : form.ranks ≡ plan_ranks p ++ replicate (length (kinds_reserved p.reserves)) 0)
+        (wires : form.wires ≡ plan_wires p)
+        (reserves : form.reserves ≡ reserves_behind (length p.nodes) (length p.edges) p.reserves)
+      where
+        of_kept : kept ≡ kinds_reserved (reserves_from 0 nodes)
+        of_kept = kept_are ∙ ap kinds_reserved planned.laid.reserves
 
-    module _ {before : List BoxPicture} (runnable : IsRunnable c q before) where
-      pub made-stock : HasStock (kinds_of specs) before
-      made-stock =
-          subst (λ l. HasStock (kinds_of l) before) (sym of_nodes)
-          (stock c within q h before before runnable nodes planned.laid.same)
+        of_form : form ≡ formed nodes
+        of_form = made-form form ranks wires reserves
 
-      pub made-fault : (after : List BoxPicture) (f : PlanFault)
-          → PlanFaultHolds f (RunsPlan specs before after) → IsPlanFault f
-      made-fault after f why = plan-fault specs before after f made-no-list made-stock why
+        pub made-some : 1 ≤ length specs
+        made-some = omega (arith, some-nodes, specs_count)
 
-      pub made-text : {wires : List Wire} {after : List BoxPicture} (text : List ℕ)
-          → wires ≡ plan_wires p → GivesText c.header q.names specs wires before after text
-          → MakesText c q text before after
-      made-text {wires} {after} text wires_are g =
-          let of_wires : wires ≡ (with_nodes nodes no_draft).wires =
-          wires_are ∙ ap (map wire_of) planned.laid.edges
-          ∙ map-map wire_of edge_of (with_nodes nodes no_draft).wires
-          ∙ map-id (with_nodes nodes no_draft).wires in
-          makes_text c within q h before after runnable nodes planned.laid.same text
-          (subst (λ w. GivesText c.header q.names (specs_in nodes) w before after text) of_wires
-          (subst (λ l. GivesText c.header q.names l wires before after text) of_nodes g))
+        pub one-each : length form.ranks ≡ length specs + length kept
+        one-each =
+            let of = ap (λ (f : GraphForm). length f.ranks) of_form in
+            let all = length-append (map (λ (n : DraftNode). n.rank) nodes)
+            (replicate (reserved_nodes (reserves_from 0 nodes)) 0) in
+            let first = length-map nodes (λ (n : DraftNode). n.rank) in
+            let last = length-replicate {A = ℕ} (reserved_nodes (reserves_from 0 nodes)) 0 in
+            let kinds = ap (λ (l : List Kind). length l) of_kept in
+            omega (
+              arith,
+              of,
+              all,
+              first,
+              last,
+              kinds,
+              specs_count,
+              kinds-length (reserves_from 0 nodes),
+            )
 
-      pub made-cause : {after : List BoxPicture} (f : PlanFault) (told : PlanFailure)
-          {tables : List TableDecl} {places seen : List PartPlace} → tables ≡ c.tables
-          → seen ≡ places → places ≡ map part_place (node_specs p.nodes)
-          → Tells told (failure_of f (λ node. name_at tables (slice_get seen node)))
-          → LeavesRack (kinds_of specs) before after
-          → PlanFaultHolds f (RunsPlan specs before after) → PlanFailsFor told c q before after
-      made-cause {after} f told {tables} {places}
-          {seen} tables_are seen_are places_are tells left why =
-          let of_places : seen ≡ map part_place (specs_in nodes) =
-          seen_are ∙ places_are ∙ ap (map part_place) (sym specs_are ∙ of_nodes) in
-          told-cause c within q h before after runnable nodes planned.laid.same f told
-          (subst (λ l. Tells told (failure_of f (λ node. name_at c.tables (slice_get l node))))
-          of_places
-          (subst (λ t. Tells told (failure_of f (λ node. name_at t (slice_get seen node))))
-          tables_are tells))
-          (subst (λ l. LeavesRack (kinds_of l) before after) of_nodes left)
-          (subst (λ l. PlanFaultHolds f (RunsPlan l before after)) of_nodes why)
+        pub made-graph : KeepsBehind (length specs) form
+        made-graph = subst (λ f. KeepsBehind (length specs) f) (sym of_form)
+            (subst (λ n. KeepsBehind n (formed nodes)) (sym specs_count) keeps)
+
+        module _ {before : List BoxPicture} (runnable : IsRunnable c q before) where
+          stock : HasStock (kinds_for nodes) before
+          stock = subst (λ ks. HasStock ks before)
+              (sym (kinds-for-same nodes (plan_nodes (plan_of c q)) planned.laid.same))
+              (plan_stock c q before runnable.boxes)
+
+          abbrev of_kinds : kinds_taken specs kept ≡ kinds_for nodes
+          of_kinds = ap₂ (λ l k. kinds_taken l k) of_nodes of_kept
+
+          pub made-stock : HasStock (kinds_taken specs kept) before
+          made-stock = subst (λ ks. HasStock ks before) (sym of_kinds) stock
+
+          pub made-text : {after : List BoxPicture} (text : List ℕ)
+              → GivesText c.header q.names specs kept form before after text
+              → MakesText c q text before after
+          made-text {after} text g =
+              makes_text copies runnable stock keeps text (rw (of_nodes, of_kept, of_form) at g)
+
+          pub made-cause : {after : List BoxPicture} (f : PlanFault) (told : PlanFailure)
+              {tables : List TableDecl} {places seen : List PartPlace} → tables ≡ c.tables
+              → seen ≡ places → places ≡ places_in (node_specs p.nodes) p.reserves
+              → Tells told (failure_of f (λ node. name_at tables (slice_get seen node)))
+              → LeavesRack (kinds_taken specs kept) before after
+              → PlanFaultHolds f (Begins form (kinds_taken specs kept))
+              (RunsPlan specs kept before after)
+              → PlanFailsFor told c q before after
+          made-cause {after} f told {tables} {places}
+              {seen} tables_are seen_are places_are tells left why =
+              let of_places : seen ≡ places_in (specs_in nodes) (reserves_from 0 nodes) =
+              seen_are ∙ places_are
+              ∙ ap₂ (λ l rs. places_in l rs) (sym specs_are ∙ of_nodes) planned.laid.reserves in
+              told-cause after copies runnable stock keeps f told
+              (rw (of_places, tables_are) at tells) (rw (of_nodes, of_kept) at left)
+              (rw (of_nodes, of_kept, of_form) at why)

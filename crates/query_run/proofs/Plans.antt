@@ -1,20 +1,41 @@
 -- The nodes of a checked query's plan, and the boxes that they take from a rack.
-use Rattle.std.proofs.Common.{◌≡◌, ◌≢◌, ℕ, zero, suc, ◌<◌, ◌≤◌, true, List, [], ◌∷◌, length, count_by, Some, refl, sym, subst, ◌∙◌, arith, flat_map}
-use Rattle.query_run.proofs.Prelude.{All, AllByRecursion, Contains-append_right, UsedPart, length-map, All-cons, All-nil, Files, join_use, parts_used, used_parts, kind_of, Checked, PartSpec, Spec, Kind, IsWithinLimits, Command, BoxPicture, no_box, IsSourceKind, is_of, box_at, DraftNode, IsSmall, plan_nodes, forms, plan-needs, is-small, IsStep, PartHas, kinds-counted, IsPartOf, in-front, joined-parts, table-parts, IsQueryPlan, plan-steps, query-plan, taken_for, HasStock, kinds_of, spec_at, taken_at, RanWith, RunsPlan, taken-all, taken-length}
-use Rattle.query_model.specs.declared.processor_spec.Kind.TheVariants as kind
+use Rattle.query_run.proofs.Prelude.{AllByRecursion, AreLawfulOver, BoxPicture, Checked, Command, Contains, Contains-append_right, DraftNode, Files, HasBoxes, HasStock, IsCheckedCommand, IsListNamed, IsListOf, IsPartNamed, IsPartOf, IsQueryPlan, IsSmall, IsSourceKind, IsStep, IsWithinLimits, Kind, KnownPorts, List, NamesFewPaths, PartSpec, PlanReserve, RanWith, ReadsNamed, RunsPlan, Some, SourceHas, Spec, TableDecl, UsedPart, [], ap, ap₂, arith, at-recursion, both_ways, box_at, boxes-counted, boxes_for, boxes_reserved, cases_lt, collect_node, cond, count_by, ended-later, flat_map, forms, get_or, get_or-map, get_or_default, in-front, inl, inr, is-small, is_some, join_use, joined-parts, kind_of, kinds-counted, kinds-same, kinds_for, kinds_of, kinds_reserved, length, length-map, map, name_at, name_of, part_place, parts_used, plan-needs, plan-steps, plan_kinds, plan_nodes, plan_of, query-plan, refl, reserves-same, reserves_from, same_kind, slice_get, spec_at, specs_in, subst, suc, sum_by, sum_by-append, sum_by-cons, sym, table-parts, taken-has, taken_at, true, used_part, used_parts, used_tables, zero, ℕ, ◌++◌, ◌<◌, ◌∙◌, ◌∷◌, ◌≡◌}
 use Rattle.query_model.specs.declared.processor_spec.Spec.TheVariants as spec
-use Rattle.query_run.specs.Names.{AreLawfulOver, HasBoxes, NamesFewPaths, boxes_for, plan_kinds, plan_of, specs_in, IsCheckedCommand}
-use Rattle.query_run.proofs.Commands.{plannable, typed_by_tables}
+use Rattle.query_run.proofs.Commands.{typed_by_tables}
 
 -- ---- the plan of a query
 
+reserved-counted : (k : Kind) (rs : List PlanReserve)
+    → count_by (λ j. same_kind j k) (kinds_reserved rs) ≡ sum_by (boxes_reserved k) rs
+reserved-counted k [] = refl
+reserved-counted k (r ∷ rs) =
+    omega (
+      arith,
+      sum_by-append (λ (j : Kind). cond (same_kind j k) 1 0) r.kinds (kinds_reserved rs),
+      sum_by-cons (boxes_reserved k) r rs,
+      reserved-counted k rs,
+    )
+
 -- a rack with the boxes that the query needs has the stock of its plan
-pub plan_stock : (c : Command) (q : Checked) → IsCheckedCommand c q → (boxes : List BoxPicture)
+pub plan_stock : (c : Command) (q : Checked) (boxes : List BoxPicture)
     → HasBoxes (boxes_for c q) boxes → HasStock (plan_kinds c q) boxes
-plan_stock c q h boxes enough k =
-    subst (λ n. n ≤ count_by (is_of k) boxes)
-    (sym (kinds-counted k (plan_nodes (plan_of c q))
-    ∙ plan-needs q c.tables c.threads c.chunk_rows c.header k (plannable c q h))) (enough k)
+plan_stock c q boxes enough k =
+    let nodes : List DraftNode = plan_nodes (plan_of c q) in
+    omega (
+      arith,
+      sum_by-append (λ (j : Kind). cond (same_kind j k) 1 0) (kinds_of (specs_in nodes))
+          (kinds_reserved (reserves_from 0 nodes)),
+      reserved-counted k (reserves_from 0 nodes),
+      kinds-counted k nodes,
+      boxes-counted k 0 nodes,
+      plan-needs q c.tables c.threads c.chunk_rows c.header k,
+      enough k,
+    )
+
+-- copies of nodes take boxes of the same kinds
+pub kinds-for-same : (xs ys : List DraftNode) → forms xs ≡ forms ys → kinds_for xs ≡ kinds_for ys
+kinds-for-same xs ys e = ap₂ (λ ks rs. ks ++ kinds_reserved rs) (kinds-same xs ys e)
+    (reserves-same xs ys e 0)
 
 -- ---- the parts that nodes read
 
@@ -22,112 +43,173 @@ plan_stock c q h boxes enough k =
 abbrev pub IsUsedPart : Command → Checked → PartSpec → Type 0
 IsUsedPart c q part = IsPartOf c.header c.tables (λ files. used_parts files c.tables q) part
 
-module _ (c : Command) (within : IsWithinLimits c) (q : Checked) (h : IsCheckedCommand c q)
-    (nodes : List DraftNode) (same : forms nodes ≡ forms (plan_nodes (plan_of c q))) where
+-- the query uses the list, which is read as the command says
+abbrev pub IsUsedList : Command → Checked → PartSpec → Type 0
+IsUsedList c q list =
+    IsListOf c.header c.tables (used_tables q) (λ files. used_parts files c.tables q) list
+
+-- copies of the nodes of a checked query's plan
+pub record AreCopies (c : Command) (q : Checked) (nodes : List DraftNode) : Type 0 where
+  pub within : IsWithinLimits c
+  pub checked : IsCheckedCommand c q
+  pub same : forms nodes ≡ forms (plan_nodes (plan_of c q))
+
+module _ {c : Command} {q : Checked} {nodes : List DraftNode} (copies : AreCopies c q nodes) where
   query_plan : IsQueryPlan (plan_of c q)
   query_plan =
-      query-plan q c.tables c.threads c.chunk_rows c.header (plannable c q h)
-      (typed_by_tables c q h) (let some = within.some_threads in omega (arith, some))
+      query-plan q c.tables c.threads c.chunk_rows c.header
+      (typed_by_tables c q copies.checked)
+      (let some = copies.within.some_threads in omega (arith, some))
 
   pub small_plan : NamesFewPaths c q → IsSmall (plan_of c q)
   small_plan few =
-      is-small q c.tables c.threads c.chunk_rows c.header (plannable c q h) few
-      within.few_threads
+      is-small q c.tables c.threads c.chunk_rows c.header few copies.within.few_threads
 
   -- each node's kind is known, and a part that it reads is one that the query uses
-  pub steps_are : AllByRecursion (IsStep (IsUsedPart c q)) nodes
+  pub steps_are : AllByRecursion (IsStep (IsUsedPart c q) (IsUsedList c q)) nodes
   steps_are =
-      let p = plannable c q h in
       let used : Files → List UsedPart = λ files. used_parts files c.tables q in
       let more : Files → List UsedPart =
       λ files. flat_map (parts_used files c.tables) (join_use q.join) in
-      plan-steps (IsUsedPart c q) (plan_of c q) nodes query_plan.is (
-        table-parts c.tables c.header c.chunk_rows used q.from p.0
+      plan-steps (IsUsedPart c q) (IsUsedList c q) (plan_of c q) nodes query_plan.is (
+        table-parts c.header c.tables c.chunk_rows (used_tables q) used q.from
+            (0, omega arith, refl)
             (λ files u m. in-front u (parts_used files c.tables q.from) (more files) m),
-        joined-parts c.tables c.header c.chunk_rows used q.from q.join p.1
+        joined-parts c.header c.tables c.chunk_rows (used_tables q) used q.from q.join
+            (λ u m. Contains-append_right (q.from ∷ []) (join_use q.join) u m)
             (λ files u m.
             Contains-append_right (parts_used files c.tables q.from) (more files) u m),
-      ) same
+      ) copies.same
 
-  -- none is a list
-  pub no_list : All (λ (s : Spec). kind_of s ≢ kind.List) (specs_in nodes)
-  no_list = go nodes steps_are
-    where
-      one : (s : Spec) → PartHas (IsUsedPart c q) s → kind_of s ≢ kind.List
-      one (spec.List list) h e = h
-      one s h e = absurd cc
+  step-at : (n : ℕ) → n < length nodes
+      → IsStep (IsUsedPart c q) (IsUsedList c q) (get_or nodes n collect_node)
+  step-at n lt = at-recursion (IsStep (IsUsedPart c q) (IsUsedList c q)) nodes steps_are n _ lt
+      (get_or_default nodes n (get_or nodes n collect_node) collect_node lt)
 
-      go : (xs : List DraftNode) → AllByRecursion (IsStep (IsUsedPart c q)) xs
-          → All (λ (s : Spec). kind_of s ≢ kind.List) (specs_in xs)
-      go [] h = All-nil (λ (s : Spec). kind_of s ≢ kind.List)
-      go (x ∷ xs) h = All-cons (λ (s : Spec). kind_of s ≢ kind.List) x.spec (specs_in xs)
-          (one x.spec h.0.1) (go xs h.1)
-
-  -- a node of a source's kind reads a part that the query uses
-  pub part_at : (n : ℕ) → n < length nodes → IsSourceKind (kind_of (spec_at (specs_in nodes) n))
-      → (part : PartSpec) × (spec_at (specs_in nodes) n ≡ spec.Csv part) × IsUsedPart c q part
+  spec-is : (n : ℕ) → n < length nodes
+      → spec_at (specs_in nodes) n ≡ (get_or nodes n collect_node).spec
   unfolding spec_at
-  part_at n lt source = go nodes n steps_are lt source
+  spec-is n lt = get_or-map (λ (z : DraftNode). z.spec) nodes n collect_node spec.Collect lt
+
+  -- what a node reads is a part, or a list, that the query uses
+  pub source-at : (n : ℕ) → n < length nodes
+      → SourceHas (IsUsedPart c q) (IsUsedList c q) (spec_at (specs_in nodes) n)
+  source-at n lt =
+      subst (SourceHas (IsUsedPart c q) (IsUsedList c q)) (sym (spec-is n lt)) (step-at n lt).1
+
+  -- the ports of a list's node
+  pub list-ports : (n : ℕ) (list : PartSpec) → n < length nodes
+      → spec_at (specs_in nodes) n ≡ spec.List list
+      → (get_or (map (λ (z : DraftNode). z.takes) nodes) n 0 ≡ 0)
+      × (get_or (map (λ (z : DraftNode). z.gives) nodes) n 0 ≡ 1)
+  list-ports n list lt is =
+      let z : DraftNode = get_or nodes n collect_node in
+      let h =
+      subst (λ s. KnownPorts s z.takes z.gives) (sym (spec-is n lt) ∙ is) (step-at n lt).0 in (
+        get_or-map (λ (z : DraftNode). z.takes) nodes n collect_node 0 lt ∙ h.0,
+        get_or-map (λ (z : DraftNode). z.gives) nodes n collect_node 0 lt ∙ h.1,
+      )
+
+  -- a used list has the name that is noted of its part k
+  pub list-named : (list : PartSpec) (u : IsUsedList c q list) (k : ℕ)
+      → IsListNamed c q
+      (name_at c.tables (Some (record { table = list.table; part = k }))) k list.path
+  list-named list u k = record {
+    list = record {
+      place = list.table;
+      used = u.is_used;
+      table = u.table;
+      declared = u.declared;
+      names_list = u.names_list;
+    };
+    named = ap (λ t. record { table = name_of t; part = k }) u.declared;
+  }
+
+  -- and so has a used part
+  pub part-named : (files : Files) (p : UsedPart) (table : TableDecl)
+      → slice_get c.tables p.table ≡ Some table → Contains (used_parts files c.tables q) p
+      → IsPartNamed c q files
+      (name_at c.tables (Some (record { table = p.table; part = p.part }))) p
+  part-named files p table declared used = record {
+    used = used;
+    table = table;
+    declared = declared;
+    named = ap (λ t. record { table = name_of t; part = p.part }) declared;
+  }
+
+  -- a node of a source's kind reads the part or list with the name that is noted of it
+  pub reads-named : (n : ℕ) → n < length nodes → IsSourceKind (kind_of (spec_at (specs_in nodes) n))
+      → ReadsNamed c q (name_at c.tables (Some (part_place (spec_at (specs_in nodes) n))))
+      (spec_at (specs_in nodes) n)
+  reads-named n lt source = one (spec_at (specs_in nodes) n) (source-at n lt) source
     where
-      one : (s : Spec) → PartHas (IsUsedPart c q) s → IsSourceKind (kind_of s)
-          → (part : PartSpec) × (s ≡ spec.Csv part) × IsUsedPart c q part
-      one (spec.Csv part) h source = (part, refl, h)
-      one (spec.List list) h source = absurd h
+      one : (s : Spec) → SourceHas (IsUsedPart c q) (IsUsedList c q) s → IsSourceKind (kind_of s)
+          → ReadsNamed c q (name_at c.tables (Some (part_place s))) s
+      one (spec.Csv part) h source =
+          λ files. part-named files (used_part part) h.table h.declared (h.among files)
+      one (spec.List list) h source =
+          subst (λ k. IsListNamed c q
+          (name_at c.tables (Some (record { table = list.table; part = k })))
+          0 list.path) (sym h.part_is) (list-named list h 0)
       one s h source = absurd source
 
-      go : (xs : List DraftNode) (n : ℕ) → AllByRecursion (IsStep (IsUsedPart c q)) xs
-          → n < length xs → IsSourceKind (kind_of (spec_at (specs_in xs) n))
-          → (part : PartSpec) × (spec_at (specs_in xs) n ≡ spec.Csv part) × IsUsedPart c q part
-      go [] n h lt source = absurd (omega (arith, lt))
-      go (x ∷ xs) zero h lt source = one x.spec h.0.1 source
-      go (x ∷ xs) (suc n) h lt source = go xs n h.1 (omega (arith, lt)) source
-
--- ---- boxes by their places
-
-pub at-all : (P : BoxPicture → Type 0) (boxes : List BoxPicture) (n : ℕ) → All P boxes
-    → n < length boxes → P (box_at boxes n)
-unfolding box_at
-at-all P boxes n all lt = all n no_box lt
-
--- a taken box is as all boxes of the rack
-pub taken-has : (P : BoxPicture → Type 0) (kinds : List Kind) (boxes : List BoxPicture) (n : ℕ)
-    → HasStock kinds boxes → All P boxes → n < length kinds → P (taken_at kinds boxes n)
-taken-has P kinds boxes n stock all lt =
-    at-all P (taken_for kinds boxes) n (taken-all P kinds boxes stock all)
-    (subst (λ k. n < k) (sym (taken-length kinds boxes)) lt)
+-- the place that was noted of a node is that of its spec
+pub place-at : (specs : List Spec) (n : ℕ) → n < length specs
+    → slice_get (map part_place specs) n ≡ Some (part_place (spec_at specs n))
+unfolding spec_at
+place-at [] n lt = absurd (omega (arith, lt))
+place-at (s ∷ specs) zero lt = refl
+place-at (s ∷ specs) (suc n) lt = place-at specs n (omega (arith, lt))
 
 -- ---- the boxes as a run left them
 
-module _ (specs : List Spec) (before after ended : List BoxPicture)
-    (stock : HasStock (kinds_of specs) before) (run : RunsPlan specs before after ended) where
-  kinds-length : length (kinds_of specs) ≡ length specs
-  kinds-length = length-map specs kind_of
+module _ (nodes : List DraftNode) (before after ended : List BoxPicture)
+    (stock : HasStock (kinds_for nodes) before)
+    (run : RunsPlan (specs_in nodes) (kinds_reserved (reserves_from 0 nodes)) before after
+    ended) where
+  abbrev specs : List Spec
+  specs = specs_in nodes
+
+  abbrev kept : List Kind
+  kept = kinds_reserved (reserves_from 0 nodes)
 
   -- the box that a node ran
-  pub ran-at : (n : ℕ) → n < length ended
-      → RanWith (spec_at specs n) (taken_at (kinds_of specs) before n) (box_at ended n)
-  ran-at n lt = run.ran n (subst (λ k. n < k) run.count lt)
+  pub ran-at : (n : ℕ) → n < length nodes
+      → RanWith (spec_at specs n) (taken_at (kinds_for nodes) before n) (box_at ended n)
+  ran-at n lt = run.ran n (rw length-map lt)
 
-  pub ended-has : (P : BoxPicture → Type 0) (n : ℕ) → n < length ended → All P before
-      → P (taken_at (kinds_of specs) before n)
-  ended-has P n lt all =
-      taken-has P (kinds_of specs) before n stock all
-      (subst (λ k. n < k) (run.count ∙ sym kinds-length) lt)
-
-  pub ended-kind : (n : ℕ) → n < length ended → (box_at ended n).kind ≡ kind_of (spec_at specs n)
+  pub ended-kind : (n : ℕ) → n < length nodes → (box_at ended n).kind ≡ kind_of (spec_at specs n)
   ended-kind n lt = let r = ran-at n lt in r.kind ∙ sym r.of_kind
 
-  pub ended-lawful : (files : Files) → AreLawfulOver files before → (n : ℕ) → n < length ended
-      → (box_at ended n).lawful ≡ true
-  ended-lawful files honest n lt =
-      let r = ran-at n lt in
-      r.lawful ∙ ended-has (λ (p : BoxPicture). p.lawful ≡ true) n lt honest.lawful
+  -- a loaded box is of the kind of its spec
+  pub loaded-kind : (n : ℕ) (s : Spec) → n < length ended → (box_at ended n).spec ≡ Some s
+      → kind_of s ≡ (box_at ended n).kind
+  loaded-kind n s lt is = elim (cases_lt n (length nodes)) [
+    | inl less ↦
+        let r = ran-at n less in
+        let e : Some (spec_at specs n) ≡ Some s = sym r.spec ∙ is in
+        let same : spec_at specs n ≡ s = cc in
+        ap kind_of (sym same) ∙ r.of_kind ∙ sym r.kind
+    | inr past ↦ elim (run.ran_kept n (rw length-map past) lt) [
+      | inl still ↦ absurd (both_ways _ (ap is_some still.1) (ap is_some is))
+      | inr r ↦
+          let e : Some r.0 ≡ Some s = sym r.1.spec ∙ is in
+          let same : r.0 ≡ s = cc in
+          ap kind_of (sym same) ∙ r.1.of_kind ∙ sym r.1.kind
+    ]
+  ]
 
-  -- a source tells the files of an honest rack
-  pub ended-files : (files : Files) → AreLawfulOver files before → (n : ℕ) → n < length ended
-      → IsSourceKind (kind_of (spec_at specs n)) → (box_at ended n).files ≡ Some files
-  ended-files files honest n lt source =
-      let r = ran-at n lt in
-      r.files
-      ∙ ended-has (λ (p : BoxPicture). IsSourceKind p.kind → p.files ≡ Some files) n lt honest.told
-      (subst IsSourceKind r.of_kind source)
+  module _ (files : Files) (honest : AreLawfulOver files before) (n : ℕ)
+      (lt : n < length ended) where
+    pub ended-lawful : (box_at ended n).lawful ≡ true
+    ended-lawful = (ended-later specs kept before after ended run n lt).lawful
+        ∙ taken-has specs kept before after ended run (λ (p : BoxPicture). p.lawful ≡ true) stock
+        honest.lawful n lt
+
+    -- a source tells the files of an honest rack
+    pub ended-files : IsSourceKind (box_at ended n).kind → (box_at ended n).files ≡ Some files
+    ended-files source =
+        let l = ended-later specs kept before after ended run n lt in
+        l.files ∙ taken-has specs kept before after ended run
+        (λ (p : BoxPicture). IsSourceKind p.kind → p.files ≡ Some files) stock honest.told n lt
+        (subst IsSourceKind l.kind source)

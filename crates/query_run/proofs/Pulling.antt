@@ -1,7 +1,6 @@
 -- The rows that the boxes of a rack pulled in a run, kind by kind.
-use Rattle.std.proofs.Common.{◌≡◌, ◌⊎◌, ℕ, suc, ◌+◌, ◌<◌, Bool, true, false, cond, List, [], ◌∷◌, ◌++◌, length, count_by, Some, refl, sym, ap, subst, ◌∙◌, arith, inl, inr, length-append}
-use Rattle.query_run.proofs.Prelude.{length-map, kind_of, Spec, Kind, BoxPicture, is_of, same_kind, box_at, HasFullCount, pulled_since, first_of, without_first, taken_for, left_after, HasStock, kinds_of, RunsPlan, some-rest, stock-here, stock-step, taken-length}
-use Rattle.query_run.specs.Racks.{pulled_by, PulledMore}
+use Rattle.query_run.proofs.Prelude.{All, Bool, BoxPicture, HasFullCount, HasStock, Kind, List, PulledMore, RunsPlan, Some, Spec, [], ap, arith, both_ways, cases_Bool, box_at, cases_lt, cond, count_by, ended-later, false, first_of, get_or, get_or-append-add, get_or-map, inl, inr, is_of, kind_of, kinds_of, kinds_taken, left_after, length, length-append, length-map, no_box, pulled_by, pulled_since, refl, same_kind, some-rest, stock-here, stock-step, subst, suc, sym, taken-kinds, taken-length, taken_for, true, without_first, ℕ, ◌++◌, ◌+◌, ◌-◌, ◌<◌, ◌∙◌, ◌∷◌, ◌≡◌, ◌≤◌, ◌⊎◌}
+use Rattle.query_model.specs.declared.processor_spec.Kind.TheVariants as kind
 
 pulled-append : (k : Kind) (xs ys : List BoxPicture)
     → pulled_by k (xs ++ ys) ≡ pulled_by k xs + pulled_by k ys
@@ -13,19 +12,12 @@ pulled-without : (k j : Kind) (boxes : List BoxPicture) → 0 < count_by (is_of 
     → pulled_by k boxes ≡ cond (is_of k (first_of j boxes))
     (first_of j boxes).pulled 0 + pulled_by k (without_first j boxes)
 pulled-without k j [] some = absurd (omega (arith, some))
-pulled-without k j (p ∷ boxes) some =
-    go (is_of j p) refl (λ e. pulled-without k j boxes (some-rest j p boxes e some))
-  where
-    go : (t : Bool) → is_of j p ≡ t
-        → (is_of j p ≡ false
-        → pulled_by k boxes ≡ cond (is_of k (first_of j boxes))
-        (first_of j boxes).pulled 0 + pulled_by k (without_first j boxes))
-        → pulled_by k (p ∷ boxes)
-        ≡ cond (is_of k (cond t p (first_of j boxes)))
-        (cond t p (first_of j boxes)).pulled 0 + pulled_by k
-        (cond t boxes (p ∷ without_first j boxes))
-    go true e later = refl
-    go false e later = let rest = later e in omega (arith, rest)
+pulled-without k j (p ∷ boxes) some = elim (cases_Bool (is_of j p)) [
+  | inl here ↦ rw here refl
+  | inr other ↦
+      let rest = pulled-without k j boxes (some-rest j p boxes other some) in
+      rw other (omega (arith, rest))
+]
 
 -- what the rack's boxes have pulled is what the taken ones have, and what those that are left have
 pub pulled-taken : (k : Kind) (kinds : List Kind) (boxes : List BoxPicture) → HasStock kinds boxes
@@ -38,16 +30,18 @@ pulled-taken k (j ∷ kinds) boxes h =
 
 -- ---- taken boxes, as a run left them, and as they were given back
 
-pub record IsGivenMore (p q r : BoxPicture) : Type 0 where
+-- a box of the kind pulled what it had, and what it pulled since it was loaded
+pub record IsGivenMore (k : Kind) (p q r : BoxPicture) : Type 0 where
   pub ran : q.kind ≡ p.kind
   pub given : r.kind ≡ p.kind
-  pub pulled : r.pulled ≡ p.pulled + q.notes.pulled
+  pub pulled : is_of k p ≡ true → r.pulled ≡ p.pulled + q.notes.pulled
 
-share-more : (b : Bool) (m n o : ℕ) → o ≡ m + n → cond b o 0 ≡ cond b m 0 + cond b n 0
-share-more true m n o e = e
+share-more : (b : Bool) (m n o : ℕ) → (b ≡ true → o ≡ m + n)
+    → cond b o 0 ≡ cond b m 0 + cond b n 0
+share-more true m n o e = e refl
 share-more false m n o e = refl
 
-given-more : (k : Kind) (p q r : BoxPicture) → IsGivenMore p q r
+given-more : (k : Kind) (p q r : BoxPicture) → IsGivenMore k p q r
     → cond (is_of k r) r.pulled 0 ≡ cond (is_of k p) p.pulled 0 + cond (is_of k q) q.notes.pulled 0
 given-more k p q r h =
     ap (λ j. cond (same_kind j k) r.pulled 0) h.given
@@ -56,7 +50,8 @@ given-more k p q r h =
 
 pub pulled-given : (k : Kind) (taken ended given : List BoxPicture) → length ended ≡ length taken
     → length given ≡ length taken
-    → ((n : ℕ) → n < length taken → IsGivenMore (box_at taken n) (box_at ended n) (box_at given n))
+    → ((n : ℕ) → n < length taken
+    → IsGivenMore k (box_at taken n) (box_at ended n) (box_at given n))
     → pulled_by k given ≡ pulled_by k taken + pulled_since k ended
 unfolding box_at
 pulled-given k [] [] [] el gl each = refl
@@ -70,54 +65,88 @@ pulled-given k taken ended given el gl each = absurd (omega (arith, el, gl))
 at-append : (xs ys : List BoxPicture) (n : ℕ)
     → box_at (xs ++ ys) (length xs + n) ≡ box_at ys n
 unfolding box_at
-at-append [] ys n = ap (λ m. box_at ys m) (let e : 0 + n ≡ n = omega arith in e)
-at-append (x ∷ xs) ys n =
-    let e : suc (length xs) + n ≡ suc (length xs + n) = omega arith in
-    ap (λ m. box_at (x ∷ (xs ++ ys)) m) e ∙ at-append xs ys n
+at-append xs ys n = get_or-append-add xs ys n no_box
 
 -- ---- over a rack
 
-module _ (specs : List Spec) (before after ended : List BoxPicture)
-    (stock : HasStock (kinds_of specs) before) (run : RunsPlan specs before after ended) where
+module _ (specs : List Spec) (kept : List Kind) (before after ended : List BoxPicture)
+    (stock : HasStock (kinds_taken specs kept) before)
+    (run : RunsPlan specs kept before after ended) (k : Kind)
+    (others : All (λ j. same_kind j k ≡ false) kept) where
+  abbrev kinds : List Kind
+  kinds = kinds_taken specs kept
+
   abbrev left : List BoxPicture
-  left = left_after (kinds_of specs) before
+  left = left_after kinds before
 
   abbrev taken : List BoxPicture
-  taken = taken_for (kinds_of specs) before
+  taken = taken_for kinds before
 
-  taken-count : length taken ≡ length specs
-  taken-count = taken-length (kinds_of specs) before ∙ length-map specs kind_of
+  same-count : length taken ≡ length ended
+  same-count =
+      let count = run.count in
+      let all = length-append (kinds_of specs) kept in
+      let each = length-map specs kind_of in
+      omega (arith, taken-length kinds before, count, all, each)
+
+  -- a box that is kept for another node isn't of the kind
+  other-kind : (n : ℕ) → length specs ≤ n → n < length taken → is_of k (box_at taken n) ≡ false
+  unfolding box_at
+  other-kind n le lt =
+      let each : length (kinds_of specs) ≡ length specs = length-map specs kind_of in
+      let all = length-append (kinds_of specs) kept in
+      let len = taken-length kinds before in
+      let place : n ≡ length (kinds_of specs) + (n - length specs) = omega (arith, le, each) in
+      let at : (box_at taken n).kind ≡ get_or kept (n - length specs) kind.Csv =
+      sym (get_or-map (λ (p : BoxPicture). p.kind) taken n no_box kind.Csv lt)
+      ∙ ap (λ l. get_or l n kind.Csv) (taken-kinds kinds before stock)
+      ∙ ap (λ m. get_or kinds m kind.Csv) place
+      ∙ get_or-append-add (kinds_of specs) kept (n - length specs) kind.Csv in
+      ap (λ j. same_kind j k) at
+      ∙ others (n - length specs) kind.Csv (omega (arith, le, lt, len, all, each))
+
+  pub kept-other : (n : ℕ) → length specs ≤ n → n < length ended → is_of k (box_at ended n) ≡ false
+  kept-other n le lt =
+      let in_taken : n < length taken = subst (λ m. n < m) (sym same-count) lt in
+      ap (λ j. same_kind j k) (ended-later specs kept before after ended run n lt).kind
+      ∙ other-kind n le in_taken
 
   each-given : (n : ℕ) → n < length taken
-      → IsGivenMore (box_at taken n) (box_at ended n) (box_at run.given n)
+      → IsGivenMore k (box_at taken n) (box_at ended n) (box_at run.given n)
   each-given n lt =
-      let in_specs : n < length specs = subst (λ k. n < k) taken-count lt in
-      let r = run.ran n in_specs in
-      let u = run.unloaded n in_specs in
-      record { ran = r.kind; given = u.kind ∙ r.kind; pulled = u.counts.pulled ∙ r.pulled }
+      let in_ended : n < length ended = subst (λ m. n < m) same-count lt in
+      let l = ended-later specs kept before after ended run n in_ended in
+      let u = run.unloaded n in_ended in
+      record {
+        ran = l.kind;
+        given = u.kind ∙ l.kind;
+        pulled = λ of. elim (cases_lt n (length specs)) [
+          | inl less ↦ u.counts.pulled ∙ (run.ran n less).pulled
+          | inr past ↦ absurd (both_ways _ (other-kind n past lt) of)
+        ];
+      }
 
   -- the rack's boxes have pulled what they had, and what the taken ones pulled since they were
   -- loaded
-  pub pulled-after : (k : Kind) → pulled_by k after ≡ pulled_by k before + pulled_since k ended
-  pulled-after k =
+  pub pulled-after : pulled_by k after ≡ pulled_by k before + pulled_since k ended
+  pulled-after =
       let rack : pulled_by k after ≡ pulled_by k left + pulled_by k run.given =
       ap (λ l. pulled_by k l) run.rack
       ∙ pulled-append k left run.given in
       let had : pulled_by k before ≡ pulled_by k taken + pulled_by k left =
-      pulled-taken k (kinds_of specs) before stock in
+      pulled-taken k kinds before stock in
       let more : pulled_by k run.given ≡ pulled_by k taken + pulled_since k ended =
-      pulled-given k taken ended run.given (run.count ∙ sym taken-count)
-      (run.given_count ∙ sym taken-count) each-given in
+      pulled-given k taken ended run.given (sym same-count) (run.given_count ∙ sym same-count)
+      each-given in
       omega (arith, rack, had, more)
 
   -- where the ended boxes of a kind pulled so many rows, or one has a full count
-  pub kind-pulled : (k : Kind) (n : ℕ) → (pulled_since k ended ≡ n) ⊎ HasFullCount k ended
+  pub kind-pulled : (n : ℕ) → (pulled_since k ended ≡ n) ⊎ HasFullCount k ended
       → PulledMore k before after (Some n)
-  kind-pulled k n (inl e) = let all = pulled-after k in inl (omega (arith, all, e))
-  kind-pulled k n (inr x) =
+  kind-pulled n (inl e) = let all = pulled-after in inl (omega (arith, all, e))
+  kind-pulled n (inr x) =
       let lt = x.in_range in
-      let in_specs : x.place < length specs = subst (λ m. x.place < m) run.count lt in
-      let u = run.unloaded x.place in_specs in
+      let u = run.unloaded x.place x.in_range in
       let there : box_at after (length left + x.place) ≡ box_at run.given x.place =
       ap (λ l. box_at l (length left + x.place)) run.rack ∙ at-append left run.given x.place in
       let count : length after ≡ length left + length run.given =
@@ -125,7 +154,7 @@ module _ (specs : List Spec) (before after ended : List BoxPicture)
       let given = run.given_count in
       inr (record {
         place = length left + x.place;
-        in_range = omega (arith, count, given, in_specs);
+        in_range = omega (arith, count, given, lt);
         of_kind = ap (λ (p : BoxPicture). is_of k p) there ∙ ap (λ j. same_kind j k) u.kind
             ∙ x.of_kind;
         full = ap (λ (p : BoxPicture). p.pulled) there ∙ u.counts.pulled ∙ x.full;

@@ -1,10 +1,12 @@
 -- Why a run failed before its first byte was written, each cause once.
-use Rattle.std.specs.Prelude.{◌≡◌, ◌⊎◌, ℕ, ◌≤◌, List, slice_get, Some, None}
+use Rattle.std.specs.Prelude.{◌≡◌, ◌⊎◌, ℕ, ◌+◌, ◌<◌, ◌≤◌, false, List, length, slice_get, take, Some, None}
 use Rattle.std.specs.List.{Contains}
 use Rattle.outside_io.specs.Counts.{Rose}
-use Rattle.query_model.specs.Database.{used_parts, used_tables, part_bad_place}
+use Rattle.query_model.specs.Names.{Files, UsedPart, bad_line_in, file_bytes, part_bad_place, used_parts, used_tables}
+use Rattle.query_model.specs.declared.query.PartsDecl.TheVariants.{ListFile}
 use Rattle.query_model.specs.declared.query.TableDecl.{TableDecl}
 use Rattle.query_model.specs.declared.checked.Checked.{Checked}
+use Rattle.query_model.specs.declared.checked.TableUse.TheVariants.{Declared}
 use Rattle.query_model.specs.declared.processor_spec.PartSpec.{PartSpec}
 use Rattle.query_model.specs.declared.processor_spec.Spec.{Spec}
 use Rattle.query_model.specs.declared.processor_spec.Kind.{Kind}
@@ -14,8 +16,11 @@ use Rattle.command_line.specs.declared.words.Command.{Command}
 use Rattle.proc_api.specs.Names.{BoxPicture, IsLongFile, raised}
 use Rattle.exec_laws.specs.Names.{box_at, IsStuck}
 use Rattle.exec_laws.specs.declared.edges.StuckNode.{StuckNode}
+use Rattle.exec_laws.specs.declared.growth.GrowthFlaw.{GrowthFlaw}
 use Rattle.plan_ends.specs.Ended.{used_part}
-use Rattle.plan_run.specs.Plans.{GivesBack, kinds_of, spec_at, taken_at}
+use Rattle.plan_graph.specs.declared.nodes.DraftNode.{DraftNode}
+use Rattle.pipeline_exec.specs.Ends.{EndsBadly}
+use Rattle.plan_run.specs.Plans.{Begins, GivesBack, spec_at, taken_at}
 use Rattle.query_run.specs.declared.ending.PartName.{PartName}
 use Rattle.query_run.specs.declared.ending.PartFailure.{PartFailure}
 use Rattle.query_run.specs.declared.ending.PartFailure.TheVariants as part
@@ -23,9 +28,12 @@ use Rattle.query_run.specs.declared.ending.PlanFailure.{PlanFailure}
 use Rattle.query_run.specs.declared.ending.PlanFailure.TheVariants as plan
 use Rattle.query_run.specs.declared.ending.Failure.{Failure}
 use Rattle.query_run.specs.declared.ending.Failure.TheVariants as failure
+use Rattle.select_planner.specs.Boxes.{reserved_nodes}
 use Rattle.select_planner.specs.Refusals.{first_crowded}
-use Rattle.query_run.specs.Racks.{boxes_for, plan_kinds, specs_in, IsRunnable, IsShort, NamesFewPaths, OverFiles, RanPlan}
+use Rattle.select_planner.specs.Shapes.{reserves_from}
+use Rattle.query_run.specs.Racks.{boxes_for, kinds_for, plan_kinds, specs_in, IsRunnable, IsShort, NamesFewPaths, OverFiles, RanPlan}
 use Rattle.query_run.specs.Commands.{IsRefusedFor, OfCommand, OfQuery}
+use Rattle.query_run.specs.Steps.{formed}
 
 -- ---- what is left of the rack
 
@@ -35,29 +43,70 @@ TakesBoxes words before after = OfQuery words (λ c q. GivesBack (plan_kinds c q
 
 -- ---- the part of a failure
 
--- The node reads a part that the query uses, and the name is that of its table and its number
--- there.
-pub record ServesPart (command : Command) (q : Checked) (before : List BoxPicture)
-    (specs : List Spec) (node : ℕ) (name : PartName) : Type 0 where
-  pub part : PartSpec
-  pub loaded : spec_at specs node ≡ spec.Csv part
-  pub header : part.header ≡ command.header
+-- the query uses this part over the files, and it has this name
+pub record IsPartNamed (c : Command) (q : Checked) (files : Files) (name : PartName) (p : UsedPart)
+    : Type 0 where
+  pub used : Contains (used_parts files c.tables q) p
   pub table : TableDecl
-  pub declared : slice_get command.tables part.table ≡ Some table
-  pub named : name ≡ record { table = table.schema.name; part = part.part }
-  pub used : OverFiles before
-      (λ files. Contains (used_parts files command.tables q) (used_part part))
+  pub declared : slice_get c.tables p.table ≡ Some table
+  pub named : name ≡ record { table = table.schema.name; part = p.part }
 
--- What a part or its device failed by, by the one box that served it, before and after. The place
--- and
--- the length go by the files that lawful sources tell.
-abbrev pub PartFailsFor : PartFailure → PartSpec → (before : List BoxPicture)
+-- the query uses a table whose parts the list at the path names
+pub record UsesList (c : Command) (q : Checked) (path : List ℕ) : Type 0 where
+  pub place : ℕ
+  pub used : Contains (used_tables q) (Declared place)
+  pub table : TableDecl
+  pub declared : slice_get c.tables place ≡ Some table
+  pub names_list : table.parts ≡ ListFile path
+
+-- so it is, and the name is that of part k of the table, where part 0 is the list
+pub record IsListNamed (c : Command) (q : Checked) (name : PartName) (k : ℕ) (path : List ℕ)
+    : Type 0 where
+  pub list : UsesList c q path
+  pub named : name ≡ record { table = list.table.schema.name; part = k }
+
+-- the file of a part or of a list with this name
+abbrev pub IsFileNamed : Command → Checked → Files → PartName → List ℕ → Type 0
+IsFileNamed c q files name path = IsListNamed c q name 0 path
+    ⊎ ((p : UsedPart) × IsPartNamed c q files name p × (p.path ≡ path))
+
+-- a node of this spec reads the part or the list with this name
+abbrev pub ReadsNamed : Command → Checked → PartName → Spec → Type 0
+ReadsNamed c q name (spec.Csv part) = (files : Files) → IsPartNamed c q files name (used_part part)
+ReadsNamed c q name (spec.List list) = IsListNamed c q name 0 list.path
+ReadsNamed c q name _ = ⊥
+
+-- the box of the node is one of those that are kept for a list: the Pth of them serves its part P
+pub record KeptNamed (c : Command) (q : Checked) (nodes : List DraftNode) (node : ℕ)
+    (name : PartName) : Type 0 where
+  pub lister : ℕ
+  pub list : PartSpec
+  pub reads : spec_at (specs_in nodes) lister ≡ spec.List list
+  pub place : ℕ
+  pub in_range : place < 32
+  pub is : node ≡ length nodes + reserved_nodes (reserves_from 0 (take lister nodes)) + place
+  pub named : IsListNamed c q name (place + 1) list.path
+
+-- the box of the node serves the part or the list with this name
+abbrev pub ServesNamed : Command → Checked → List DraftNode → ℕ → PartName → Type 0
+ServesNamed c q nodes node name =
+    ReadsNamed c q name (spec_at (specs_in nodes) node) ⊎ KeptNamed c q nodes node name
+
+-- What the part or list with this name failed by, or its device, by the one box that served it,
+-- before and after. The place, the line and the length go by the files that lawful sources tell.
+abbrev pub PartFailsFor : PartFailure → Command → Checked → PartName → (before : List BoxPicture)
     → (taken given : BoxPicture) → Type 0
-PartFailsFor (part.Bad place) p before taken given =
-    OverFiles before (λ files. part_bad_place p.header p.types files p.path ≡ Some place)
-PartFailsFor part.Read p before taken given = Rose taken.faults given.faults
-PartFailsFor part.Stalled p before taken given = raised taken.pendings 1000000 ≤ given.pendings
-PartFailsFor part.TooLong p before taken given = OverFiles before (λ files. IsLongFile files p.path)
+PartFailsFor (part.Bad place) c q name before taken given = OverFiles before (λ files.
+    (p : UsedPart) × IsPartNamed c q files name p
+    × (part_bad_place c.header p.types files p.path ≡ Some place))
+PartFailsFor (part.BadList line) c q name before taken given = OverFiles before (λ files.
+    (path : List ℕ) × IsListNamed c q name 0 path
+    × (bad_line_in (file_bytes files path) ≡ Some line))
+PartFailsFor part.Read c q name before taken given = Rose taken.faults given.faults
+PartFailsFor part.Stalled c q name before taken given =
+    raised taken.pendings 1000000 ≤ given.pendings
+PartFailsFor part.TooLong c q name before taken given = OverFiles before (λ files.
+    (path : List ℕ) × IsFileNamed c q files name path × IsLongFile files path)
 
 -- ---- the run of a plan
 
@@ -67,20 +116,26 @@ pub record FailsAtPart (name : PartName) (f : PartFailure) (c : Command) (q : Ch
   pub runnable : IsRunnable c q before
   pub ran : RanPlan c q before after
   pub node : ℕ
-  pub serves : ServesPart c q before (specs_in ran.nodes) node name
-  pub fails : PartFailsFor f serves.part before
-      (taken_at (kinds_of (specs_in ran.nodes)) before node) (box_at ran.runs.given node)
+  pub serves : ServesNamed c q ran.nodes node name
+  pub fails : PartFailsFor f c q name before (taken_at (kinds_for ran.nodes) before node)
+      (box_at ran.runs.given node)
 
--- The plan ran and ended stuck, at a node whose box is of the kind and isn't lawful.
-pub record EndsStuck (k : Kind) (c : Command) (q : Checked)
-    (before after : List BoxPicture) : Type 0
+-- the run was left stuck with this node, or ended by a growth of the node that has a flaw
+abbrev pub IsStoppedBy : List DraftNode → (ended : List BoxPicture) → (node : ℕ) → Type 0
+IsStoppedBy nodes ended node = ((report : List StuckNode) × IsStuck ended report node)
+    ⊎ Begins (formed nodes) (kinds_for nodes) (λ b. (f : GrowthFlaw) × EndsBadly b ended node f)
+
+-- The plan ran, and was stopped by a node whose box is of the kind and isn't lawful.
+pub record EndsUnlawful (k : Kind) (c : Command) (q : Checked) (before after : List BoxPicture)
+    : Type 0
   where
     pub runnable : IsRunnable c q before
     pub ran : RanPlan c q before after
-    pub report : List StuckNode
     pub node : ℕ
-    pub stuck : IsStuck ran.ended report node
+    pub in_range : node < length ran.ended
+    pub stopped : IsStoppedBy ran.nodes ran.ended node
     pub of_kind : (box_at ran.ended node).kind ≡ k
+    pub unlawful : (box_at ran.ended node).lawful ≡ false
 
 -- the rack is as it was, or the boxes of the plan were taken and given back
 abbrev pub LeavesPlan : Command → Checked → (before after : List BoxPicture) → Type 0
@@ -95,7 +150,7 @@ PlanFailsFor (plan.Paths name count) c q before after =
 PlanFailsFor (plan.Stock s) c q before after =
     NamesFewPaths c q × IsShort (boxes_for c q) before s × (after ≡ before)
 PlanFailsFor (plan.Part name f) c q before after = FailsAtPart name f c q before after
-PlanFailsFor (plan.Unlawful k) c q before after = EndsStuck k c q before after
+PlanFailsFor (plan.Unlawful k) c q before after = EndsUnlawful k c q before after
 PlanFailsFor plan.Memory c q before after = LeavesPlan c q before after
 
 -- ---- the run of words

@@ -1,6 +1,5 @@
 -- What a command's text means: its checked query, or why it is refused.
 use Rattle.std.specs.Prelude.{◌≡◌, ℕ, List, map, Some, None}
-use Rattle.std.specs.List.{All}
 use Rattle.query_model.specs.Names.{IsDue, IsTypedQuery, from_types, IsChecked, use_of, query_tables, refusal_of}
 use Rattle.query_model.specs.declared.query.Query.{Query}
 use Rattle.query_model.specs.declared.query.Refusal.{Refusal}
@@ -11,7 +10,6 @@ use Rattle.query_model.specs.declared.checked.TableUse.{TableUse}
 use Rattle.sql_text.specs.Refusals.{IsReadFrom, IsRefused}
 use Rattle.command_line.specs.Words.{command_of}
 use Rattle.command_line.specs.declared.words.Command.{Command}
-use Rattle.select_planner.specs.Steps.{UsesNoList}
 use Rattle.query_run.specs.declared.ending.Refused.{Refused}
 use Rattle.query_run.specs.declared.ending.Refused.TheVariants as refused
 
@@ -28,23 +26,11 @@ pub record OfCommand (words : List (List ℕ)) (P : Command → Type 0) : Type 0
 abbrev pub tables_used : Query → Command → List TableUse
 tables_used q command = map (use_of (schemas_of command)) (query_tables q)
 
--- no table that a query uses is a list of files
-abbrev pub UsesNoLists : Query → Command → Type 0
-UsesNoLists q command = All (UsesNoList command.tables) (tables_used q command)
-
 -- a query is read from the command's text, and no condition refuses it
 pub record IsAccepted (command : Command) : Type 0 where
   pub query : Query
   pub read : IsReadFrom query command.query
   pub accepted : refusal_of query (schemas_of command) ≡ None
-  pub planned : UsesNoLists query command
-
--- the same, but that it uses a list of files
-pub record UsesLists (command : Command) : Type 0 where
-  pub query : Query
-  pub read : IsReadFrom query command.query
-  pub accepted : refusal_of query (schemas_of command) ≡ None
-  pub listed : UsesNoLists query command → ⊥
 
 -- a query is read from the command's text, not refused, and checked so
 pub record IsCheckedCommand (command : Command) (checked : Checked) : Type 0 where
@@ -53,7 +39,6 @@ pub record IsCheckedCommand (command : Command) (checked : Checked) : Type 0 whe
   pub accepted : refusal_of query (schemas_of command) ≡ None
   pub is : IsChecked query (schemas_of command) checked
   pub typed : IsTypedQuery (from_types query (schemas_of command)) checked
-  pub planned : UsesNoLists query command
 
 -- the command has a checked query, and this is true of it
 pub record OfChecked (command : Command) (P : Checked → Type 0) : Type 0 where
@@ -75,4 +60,3 @@ pub record IsRefusedQuery (command : Command) (refusal : Refusal) : Type 0 where
 abbrev pub IsRefusedFor : Refused → Command → Type 0
 IsRefusedFor (refused.Text refusal) command = IsRefused refusal command.query
 IsRefusedFor (refused.Query refusal) command = IsRefusedQuery command refusal
-IsRefusedFor refused.NotBuilt command = UsesLists command

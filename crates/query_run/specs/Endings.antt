@@ -1,5 +1,5 @@
 -- How a run ends: its status, and the line that tells of it.
-use Rattle.std.specs.Prelude.{◌⊎◌, ℕ, List, [], ◌∷◌, ◌++◌, codes, decimal, Option, Result, OnOk, OnErr}
+use Rattle.std.specs.Prelude.{◌⊎◌, ℕ, zero, suc, List, [], ◌∷◌, ◌++◌, codes, decimal, Option, Result, OnOk, OnErr}
 use Rattle.outside_io.specs.Growth.{GrewBy, GrewByPrefix}
 use Rattle.query_model.specs.declared.places.BadField.{BadField}
 use Rattle.query_model.specs.declared.query.Refusal.{Refusal}
@@ -37,10 +37,10 @@ query_status _ = 2
 abbrev pub refused_status : Refused → ℕ
 refused_status (refused.Text refusal) = text_status refusal
 refused_status (refused.Query refusal) = query_status refusal
-refused_status refused.NotBuilt = 2
 
 abbrev pub part_status : PartFailure → ℕ
 part_status (part.Bad place) = 3
+part_status (part.BadList line) = 3
 part_status part.Read = 4
 part_status part.Stalled = 4
 part_status part.TooLong = 6
@@ -99,9 +99,14 @@ kind_name kind.MergeSorted = codes "MergeSorted"
 kind_name kind.Limit = codes "Limit"
 kind_name kind.Collect = codes "Collect"
 
+-- a part of a table, or its list
+abbrev pub place_words : ℕ → List ℕ
+place_words zero = codes " list"
+place_words (suc k) = codes " part " ++ decimal (suc k)
+
 -- a table's part, as lines name it
 abbrev pub part_words : PartName → List ℕ
-part_words name = codes "table " ++ name.table ++ codes " part " ++ decimal name.part
+part_words name = codes "table " ++ name.table ++ place_words name.part
 
 -- what is wrong with a record, as lines say it
 abbrev pub field_words : BadField → List ℕ
@@ -111,17 +116,18 @@ field_words (field.Fields n) = codes " fields " ++ decimal n
 abbrev pub refused_line : Refused → List ℕ
 refused_line (refused.Text refusal) = text_line refusal
 refused_line (refused.Query refusal) = query_line refusal
-refused_line refused.NotBuilt = codes "qrun: refused: NotBuilt"
 
 -- what stands before and behind the part's name
 abbrev pub part_front : PartFailure → List ℕ
 part_front (part.Bad place) = codes "qrun: bad data: "
+part_front (part.BadList line) = codes "qrun: bad list: "
 part_front part.Read = codes "qrun: read fault: "
 part_front part.Stalled = codes "qrun: stalled: "
 part_front part.TooLong = codes "qrun: limit: bytes of "
 
 abbrev pub part_back : PartFailure → List ℕ
 part_back (part.Bad place) = codes " row " ++ decimal place.row ++ field_words place.field
+part_back (part.BadList line) = []
 part_back part.Read = []
 part_back part.Stalled = []
 part_back part.TooLong = codes ", at most 1073741824"
@@ -137,6 +143,8 @@ plan_line (plan.Paths name count) =
     ++ codes ", at most 32"
 plan_line (plan.Stock s) =
     codes "qrun: limit: boxes of kind " ++ kind_name s.kind ++ stock_words s.needed s.there
+plan_line (plan.Part name (part.BadList line)) =
+    codes "qrun: bad list: table " ++ name.table ++ codes " line " ++ decimal line
 plan_line (plan.Part name f) = part_front f ++ part_words name ++ part_back f
 plan_line (plan.Unlawful k) = codes "qrun: limit: unlawful box of kind " ++ kind_name k
 plan_line plan.Memory = codes "qrun: out of memory"

@@ -5,6 +5,7 @@ use Rattle.std.specs.List.{All}
 use Rattle.outside_io.specs.Growth.{GrewBy, GrewByPrefix, Untouched}
 use Rattle.chunk_data.specs.Values.{Row}
 use Rattle.query_model.specs.Names.{IsAnswer, output_rows, flow, answer_text, Files, UsedPart, database, join_use, parts_used, used_parts, AllPartsValid, IsValidUsed}
+use Rattle.query_model.specs.Database.{AllListsValid}
 use Rattle.query_model.specs.declared.checked.Checked.{Checked}
 use Rattle.query_model.specs.declared.checked.Shape.{Shape}
 use Rattle.query_model.specs.declared.checked.Shape.TheVariants.{Grouped, Plain}
@@ -22,7 +23,7 @@ use Rattle.query_run.specs.Endings.{status_of, line_of, TellsLine}
 use Rattle.plan_meaning.specs.Plans.{HasEnough}
 use Rattle.query_run.specs.Racks.{boxes_for, IsHonest, IsRunnable, LacksBoxes, NamesFewPaths, OverFiles, PulledMore, RanPlan}
 use Rattle.query_run.specs.Commands.{IsAccepted, IsCheckedCommand, OfCommand, OfQuery}
-use Rattle.query_run.specs.Causes.{FailsAtPart, FailsFor, TakesBoxes}
+use Rattle.query_run.specs.Causes.{FailsAtPart, FailsFor, TakesBoxes, UsesList}
 
 -- ---- answers
 
@@ -49,11 +50,13 @@ IsCertain header files tables q =
     AllPartsValid header files tables q ⊎ IsCutShort header files tables q
 
 -- The text is that of an answer: a query is read from the command's text, not refused and checked
--- so, its answer is certain, and the rows are one answer of it over the files.
+-- so, its answer is certain, each list that it uses is valid, and the rows are one answer of it
+-- over the files.
 pub record IsTextOfAnswer (command : Command) (files : Files) (text : List ℕ) : Type 0 where
   pub checked : Checked
   pub is_checked : IsCheckedCommand command checked
   pub certain : IsCertain command.header files command.tables checked
+  pub lists : AllListsValid files command.tables checked
   pub rows : List Row
   pub is_answer : IsAnswer checked (database command.header files command.tables) rows
   pub is : text ≡ answer_text command.header checked.names rows
@@ -144,13 +147,16 @@ LeavesBoxes words before after status =
     TakesBoxes words before after ⊎ ((after ≡ before) × EndsEarly words before status)
 
 -- What a command needs to be answered: its text is accepted, no table of its query names too many
--- paths, and each part that it uses is there, valid and no longer than a part may be.
+-- paths, and each part and list that it uses is there, valid and no longer than a part may be.
 pub record IsAnswerable (files : Files) (c : Command) : Type 0 where
   pub accepted : IsAccepted c
   pub paths : (q : Checked) → IsCheckedCommand c q → NamesFewPaths c q
   pub valid : (q : Checked) → IsCheckedCommand c q → AllPartsValid c.header files c.tables q
+  pub lists : (q : Checked) → IsCheckedCommand c q → AllListsValid files c.tables q
   pub within : (q : Checked) → IsCheckedCommand c q
       → All (λ (p : UsedPart). IsLongFile files p.path → ⊥) (used_parts files c.tables q)
+  pub lists_within : (q : Checked) → IsCheckedCommand c q → (path : List ℕ) → UsesList c q path
+      → IsLongFile files path → ⊥
 
 -- the reader of a box that served a part failed, or stalled
 abbrev pub ReaderFails : List (List ℕ) → (before after : List BoxPicture) → Type 0

@@ -1,5 +1,5 @@
 -- Racks of boxes, as a run finds them and as it leaves them.
-use Rattle.std.specs.Prelude.{◌≡◌, ◌⊎◌, ℕ, ◌+◌, ◌<◌, ◌≤◌, cond, true, List, [], ◌∷◌, map, count_by, Option, Some, None, IfSome}
+use Rattle.std.specs.Prelude.{◌≡◌, ◌⊎◌, ℕ, ◌+◌, ◌<◌, ◌≤◌, cond, true, List, [], ◌∷◌, flat_map, map, count_by, Option, Some, None, IfSome}
 use Rattle.std.specs.List.{All}
 use Rattle.query_model.specs.Names.{Files, used_tables, need}
 use Rattle.query_model.specs.declared.checked.Checked.{Checked}
@@ -11,17 +11,19 @@ use Rattle.proc_api.specs.Names.{BoxPicture, IsSourceKind, is_of, kind_place}
 use Rattle.plan_graph.specs.declared.nodes.DraftNode.{DraftNode}
 use Rattle.plan_meaning.specs.Names.{SelectPlan, plan_nodes, forms}
 use Rattle.select_planner.specs.Refusals.{first_crowded}
+use Rattle.select_planner.specs.Shapes.{reserves_from}
 use Rattle.select_planner.specs.Steps.{select_plan}
+use Rattle.select_planner.specs.declared.nodes.PlanReserve.{PlanReserve}
 use Rattle.plan_ends.specs.Ended.{HasFullCount}
-use Rattle.plan_run.specs.Plans.{kinds_of, RunsPlan}
+use Rattle.plan_run.specs.Plans.{kinds_taken, RunsPlan}
 use Rattle.query_run.specs.declared.stock.Shortage.{Shortage}
 
 -- ---- honest racks
 
--- the stock of each kind that is built; lists of parts aren't
+-- the stock of each kind
 abbrev pub stock_of : Kind → ℕ
 stock_of kind.Csv = 64
-stock_of kind.List = 0
+stock_of kind.List = 2
 stock_of kind.Numbers = 2
 stock_of kind.Filter = 17
 stock_of kind.Expression = 17
@@ -61,9 +63,16 @@ plan_of c q = select_plan q c.tables c.threads c.chunk_rows c.header
 abbrev pub specs_in : List DraftNode → List Spec
 specs_in nodes = map (λ (n : DraftNode). n.spec) nodes
 
--- the kinds of the plan's nodes, in order
+-- the kinds that are kept, in the order of the reserves
+abbrev pub kinds_reserved : List PlanReserve → List Kind
+kinds_reserved reserves = flat_map (λ (r : PlanReserve). r.kinds) reserves
+
+-- the kinds of the boxes that nodes take, in order, and then of those that are kept for them
+abbrev pub kinds_for : List DraftNode → List Kind
+kinds_for nodes = kinds_taken (specs_in nodes) (kinds_reserved (reserves_from 0 nodes))
+
 abbrev pub plan_kinds : Command → Checked → List Kind
-plan_kinds c q = kinds_of (specs_in (plan_nodes (plan_of c q)))
+plan_kinds c q = kinds_for (plan_nodes (plan_of c q))
 
 -- how many boxes of a kind the plan needs
 abbrev pub boxes_for : Command → Checked → Kind → ℕ
@@ -94,13 +103,13 @@ pub record IsRunnable (c : Command) (q : Checked) (before : List BoxPicture) : T
   pub paths : NamesFewPaths c q
   pub boxes : HasBoxes (boxes_for c q) before
 
--- A run of copies of the nodes of a query's plan. It says which box of the rack was taken for each
--- node, how the run left that box, and how it was given back.
+-- A run of copies of the nodes of a query's plan, with what is kept for them. It says which box of
+-- the rack was taken for each node, how the run left that box, and how it was given back.
 pub record RanPlan (c : Command) (q : Checked) (before after : List BoxPicture) : Type 0 where
   pub nodes : List DraftNode
   pub same : forms nodes ≡ forms (plan_nodes (plan_of c q))
   pub ended : List BoxPicture
-  pub runs : RunsPlan (specs_in nodes) before after ended
+  pub runs : RunsPlan (specs_in nodes) (kinds_reserved (reserves_from 0 nodes)) before after ended
 
 -- ---- pulled rows
 

@@ -1,21 +1,27 @@
 -- What the steps of an answer give: the plan's graph, the text of what it gives, and why it fails.
-use Rattle.std.specs.Prelude.{◌≡◌, ◌⊎◌, ℕ, Bool, List, [], length, map, slice_get, Option, Some, None, ⊤}
+use Rattle.std.specs.Prelude.{◌≡◌, ◌⊎◌, ℕ, ◌+◌, ◌++◌, ◌∷◌, zero, suc, Bool, List, [], flat_map, length, map, replicate, slice_get, slice_index_or, sum_by, Option, Some, None, ⊤}
 use Rattle.chunk_data.specs.Values.{Table}
-use Rattle.port_word.specs.declared.flags.Wire.{Wire}
+use Rattle.port_word.specs.declared.flags.Reserve.{Reserve}
 use Rattle.query_model.specs.Texts.{answer_text}
 use Rattle.query_model.specs.declared.query.TableDecl.{TableDecl}
+use Rattle.query_model.specs.declared.processor_spec.Kind.{Kind}
 use Rattle.query_model.specs.declared.processor_spec.Spec.{Spec}
 use Rattle.query_model.specs.declared.checked.Checked.{Checked}
 use Rattle.query_model.specs.declared.processor_spec.Spec.TheVariants as spec
 use Rattle.proc_api.specs.Names.{BoxPicture, chunk_rows}
 use Rattle.proc_api.specs.declared.status.WorkFault.TheVariants as fault
 use Rattle.command_line.specs.declared.words.Command.{Command}
+use Rattle.plan_graph.specs.Drafts.{no_draft, with_nodes}
+use Rattle.plan_graph.specs.declared.nodes.DraftNode.{DraftNode}
 use Rattle.plan_meaning.specs.Plans.{plan_nodes}
 use Rattle.select_planner.specs.declared.nodes.Plan.{Plan}
 use Rattle.select_planner.specs.declared.nodes.PlanNode.{PlanNode}
-use Rattle.select_planner.specs.Shapes.{IsSound, LaysDown}
+use Rattle.select_planner.specs.declared.nodes.PlanReserve.{PlanReserve}
+use Rattle.select_planner.specs.Boxes.{reserved_nodes}
+use Rattle.select_planner.specs.Shapes.{IsSound, LaysDown, reserves_from}
 use Rattle.query_run.specs.Racks.{plan_of}
-use Rattle.plan_run.specs.Plans.{GivesRows, RunsPlan}
+use Rattle.plan_run.specs.Plans.{Begins, GivesRows, RunsPlan, kinds_taken}
+use Rattle.plan_run.specs.declared.run.GraphForm.{GraphForm}
 use Rattle.plan_run.specs.declared.run.PlanFault.{PlanFault}
 use Rattle.plan_run.specs.declared.run.PlanFault.TheVariants as end
 use Rattle.query_run.specs.declared.ending.PartName.{PartName}
@@ -30,7 +36,8 @@ use Rattle.query_run.specs.declared.planning.PartPlace.{PartPlace}
 abbrev pub node_specs : List PlanNode → List Spec
 node_specs nodes = map (λ (n : PlanNode). n.spec) nodes
 
--- the part that a source reads, by the places of its table and of itself; no other kind reads one
+-- the part that a source reads, by the places of its table and of itself, 0 of a list; no other
+-- kind reads one
 abbrev pub part_place : Spec → PartPlace
 part_place (spec.Csv part) = record { table = part.table; part = part.part }
 part_place (spec.List list) = record { table = list.table; part = list.part }
@@ -47,9 +54,45 @@ name_at tables (Some place) = record {
   part = place.part;
 }
 
--- the name of the part that a node reads
-abbrev pub part_of_node : List TableDecl → List Spec → ℕ → PartName
-part_of_node tables specs node = name_at tables (slice_get (map part_place specs) node)
+abbrev pub spec_read : List Spec → ℕ → Spec
+spec_read specs n = slice_index_or specs n spec.Collect
+
+-- the parts of so many boxes that are kept for the list of a table, from part k on
+abbrev pub kept_places : (table k count : ℕ) → List PartPlace
+kept_places table k zero = []
+kept_places table k (suc n) = record { table = table; part = k } ∷ kept_places table (k + 1) n
+
+-- The parts that the nodes of a plan read, and those that are kept for lists: the box at place P of
+-- a list's reserve, from 1, serves its part P.
+abbrev pub places_in : List Spec → List PlanReserve → List PartPlace
+places_in specs reserves = map part_place specs ++ flat_map
+    (λ (r : PlanReserve). kept_places (part_place (spec_read specs r.node)).table 1
+    (length r.kinds)) reserves
+
+-- the edges that are kept for nodes that grow
+abbrev pub edges_kept : List PlanReserve → ℕ
+edges_kept reserves = sum_by (λ (r : PlanReserve). r.edges) reserves
+
+-- the reserves with their nodes and edges numbered behind so many
+abbrev pub reserves_behind : (nodes edges : ℕ) → List PlanReserve → List Reserve
+reserves_behind nodes edges [] = []
+reserves_behind nodes edges (r ∷ reserves) = record {
+  node = r.node;
+  first_node = nodes;
+  nodes = length r.kinds;
+  first_edge = edges;
+  edges = r.edges;
+} ∷ reserves_behind (nodes + length r.kinds) (edges + r.edges) reserves
+
+-- the graph of these nodes, with what is kept for them
+abbrev pub formed : List DraftNode → GraphForm
+formed nodes = record {
+  ranks = map (λ (n : DraftNode). n.rank) nodes
+      ++ replicate (reserved_nodes (reserves_from 0 nodes)) 0;
+  wires = (with_nodes nodes no_draft).wires;
+  reserves = reserves_behind (length nodes) (length (with_nodes nodes no_draft).wires)
+      (reserves_from 0 nodes);
+}
 
 -- the plan is that of the query
 pub record IsPlanned (c : Command) (q : Checked) (p : Plan) : Type 0 where
@@ -58,24 +101,26 @@ pub record IsPlanned (c : Command) (q : Checked) (p : Plan) : Type 0 where
 
 -- ---- what it gives
 
--- a run of these specs over these wires gave chunks, and this is the text of their rows
-pub record GivesText (header : Bool) (names : List (List ℕ)) (specs : List Spec) (wires : List Wire)
-    (before after : List BoxPicture) (text : List ℕ) : Type 0 where
+-- a run of these specs over this graph gave chunks, and this is the text of their rows
+pub record GivesText (header : Bool) (names : List (List ℕ)) (specs : List Spec) (kept : List Kind)
+    (form : GraphForm) (before after : List BoxPicture) (text : List ℕ) : Type 0 where
   pub chunks : List Table
-  pub gives : GivesRows (RunsPlan specs before after) wires (length specs) chunks
+  pub gives : Begins form (kinds_taken specs kept)
+      (GivesRows (RunsPlan specs kept before after) (length specs) chunks)
   pub is : text ≡ answer_text header names (chunk_rows chunks)
 
 -- ---- why it gives nothing
 
--- a fault of a plan without list files, which isn't want of memory
+-- a fault of a plan, which isn't want of memory
 abbrev pub IsPlanFault : PlanFault → Type 0
 IsPlanFault (end.Fault node fault.Memory) = ⊥
-IsPlanFault (end.Fault node (fault.BadList line)) = ⊥
+IsPlanFault (end.Fault node (fault.BadList line)) = ⊤
 IsPlanFault (end.Fault node fault.Read) = ⊤
 IsPlanFault (end.Fault node fault.Stalled) = ⊤
 IsPlanFault (end.Fault node fault.TooLong) = ⊤
 IsPlanFault (end.Fault node (fault.Bad place)) = ⊤
 IsPlanFault (end.Stuck k) = ⊤
+IsPlanFault (end.BadGrowth k) = ⊤
 IsPlanFault end.Memory = ⊤
 
 -- why a plan gave nothing, where these are the names of the parts that its nodes read
@@ -85,8 +130,9 @@ failure_of (end.Fault node fault.Read) names = plan.Part (names node) part.Read
 failure_of (end.Fault node fault.Stalled) names = plan.Part (names node) part.Stalled
 failure_of (end.Fault node fault.TooLong) names = plan.Part (names node) part.TooLong
 failure_of (end.Fault node fault.Memory) names = plan.Memory
-failure_of (end.Fault node (fault.BadList line)) names = plan.Memory
+failure_of (end.Fault node (fault.BadList line)) names = plan.Part (names node) (part.BadList line)
 failure_of (end.Stuck k) names = plan.Unlawful k
+failure_of (end.BadGrowth k) names = plan.Unlawful k
 failure_of end.Memory names = plan.Memory
 
 -- the failure, or want of memory

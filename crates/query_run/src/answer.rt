@@ -1,12 +1,10 @@
-ghost use Rattle.std.specs.Prelude.{◌≡◌, ◌≢◌, ◌≤◌, [], length, map, slice_get, string_bytes, IfOk, IfErr, Some, None, if◌then◌else◌};
+ghost use Rattle.std.specs.Prelude.{◌≡◌, ◌+◌, ◌≤◌, length, map, slice_get, string_bytes, IfOk, IfErr, Some, None, if◌then◌else◌};
 ghost use Rattle.std.specs.List.{All};
 ghost use Rattle.std.specs.Option.{option_copied};
-ghost use Rattle.query_model.specs.Kinds.{kind_of};
-ghost use Rattle.query_model.specs.declared.processor_spec.Kind.TheVariants as kinds;
 ghost use Rattle.command_line.specs.Words.{IsWithinLimits};
-ghost use Rattle.proc_api.specs.Names.{IsBlank, IsGraph};
+ghost use Rattle.proc_api.specs.Names.{IsBlank};
 ghost use Rattle.plan_run.specs.Stock.{HasStock};
-ghost use Rattle.plan_run.specs.Plans.{kinds_of, LeavesRack, PlanFaultHolds, RunsPlan};
+ghost use Rattle.plan_run.specs.Plans.{kinds_taken, Begins, KeepsBehind, LeavesRack, PlanFaultHolds, RunsPlan};
 ghost use Rattle.query_run.specs.declared.ending.PlanFailure.TheVariants as failures;
 ghost use Rattle.query_run.specs.Names.{IsRunnable, IsCheckedCommand, OfQuery, FailsFor, PlanFailsFor, MakesText, failure_of, name_at, GivesText, IsPlanFault, IsPlanned, Tells};
 
@@ -113,7 +111,7 @@ fn planned_text<R: AllocGlobal + Threads + Sync>(
         (map (λ b. seen (b.vtable, b.value)) rack.old.boxes.items)
         (map (λ b. seen (b.vtable, b.value)) rack.new.boxes.items)) }
 {
-    let Ok(places) = part_places(rt.alloc(), plan.nodes.as_slice()) else {
+    let Ok(places) = part_places(rt.alloc(), &plan) else {
         return Err(PlanFailure::Memory);
     };
     let Ok(graph) = graph_of(rt.alloc(), plan) else {
@@ -145,23 +143,23 @@ fn graph_text<R: AllocGlobal + Threads + Sync>(
     workers: u32,
 ) -> Result<Vec<u8>, PlanFault>
     requires blank { All IsBlank (map (λ b. seen (b.vtable, b.value)) rack.old.boxes.items) }
-    requires stock { HasStock (kinds_of graph.specs.items)
+    requires stock { HasStock (kinds_taken graph.specs.items graph.kept)
         (map (λ b. seen (b.vtable, b.value)) rack.old.boxes.items) }
-    requires no_list { All (λ s. kind_of s ≢ kinds.List) graph.specs.items }
     requires some_nodes { 1 ≤ length graph.specs.items }
-    requires few_nodes { length graph.specs.items ≤ 256 }
     requires some_workers { 1 ≤ workers }
     requires few_workers { workers ≤ 16 }
-    requires one_each { length graph.ranks ≡ length graph.specs.items }
-    requires graph { IsGraph graph.ranks graph.wires [] }
-    ensures rack { LeavesRack (kinds_of graph.specs.items)
+    requires one_each { length graph.form.ranks ≡ length graph.specs.items + length graph.kept }
+    requires graph { KeepsBehind (length graph.specs.items) graph.form }
+    ensures rack { LeavesRack (kinds_taken graph.specs.items graph.kept)
         (map (λ b. seen (b.vtable, b.value)) rack.old.boxes.items)
         (map (λ b. seen (b.vtable, b.value)) rack.new.boxes.items) }
     ensures blank { All IsBlank (map (λ b. seen (b.vtable, b.value)) rack.new.boxes.items) }
-    ensures text { IfOk result (λ text. GivesText header names.now graph.specs.items graph.wires
-        (map (λ b. seen (b.vtable, b.value)) rack.old.boxes.items)
+    ensures text { IfOk result (λ text. GivesText header names.now graph.specs.items graph.kept
+        graph.form (map (λ b. seen (b.vtable, b.value)) rack.old.boxes.items)
         (map (λ b. seen (b.vtable, b.value)) rack.new.boxes.items) text.items) }
-    ensures fault { IfErr result (λ f. PlanFaultHolds f (RunsPlan graph.specs.items
+    ensures fault { IfErr result (λ f. PlanFaultHolds f
+        (Begins graph.form (kinds_taken graph.specs.items graph.kept))
+        (RunsPlan graph.specs.items graph.kept
         (map (λ b. seen (b.vtable, b.value)) rack.old.boxes.items)
         (map (λ b. seen (b.vtable, b.value)) rack.new.boxes.items))) }
 {
@@ -209,8 +207,11 @@ fn failure_of(
             at_part(alloc, tables, places, node, PartFailure::TooLong)
         }
         PlanFault::Fault(_, WorkFault::Memory) => unreachable!(),
-        PlanFault::Fault(_, WorkFault::BadList(_)) => unreachable!(),
+        PlanFault::Fault(node, WorkFault::BadList(line)) => {
+            at_part(alloc, tables, places, node, PartFailure::BadList(line))
+        }
         PlanFault::Stuck(kind) => PlanFailure::Unlawful(kind),
+        PlanFault::BadGrowth(kind) => PlanFailure::Unlawful(kind),
         PlanFault::Memory => PlanFailure::Memory,
     }
 }

@@ -1,18 +1,14 @@
 ghost use Rattle.std.specs.Prelude.{◌≡◌, map, IfOk, IfErr};
-ghost use Rattle.std.specs.Bool.{Decides};
-ghost use Rattle.std.specs.List.{All};
-ghost use Rattle.query_model.specs.Database.{join_use, used_tables};
 ghost use Rattle.query_model.specs.declared.query.Query.{Query};
 ghost use Rattle.sql_text.specs.Refusals.{IsReadFrom};
-ghost use Rattle.select_planner.specs.Steps.{NamesPaths, UsesNoList};
 ghost use Rattle.query_run.specs.Commands.{IsCheckedCommand, IsRefusedFor};
 
 use crate::ending::Refused;
 use chunk_data::{List, Memory};
 use command_line::Command;
 use query_model::analysis::analyse;
-use query_model::checked::{Checked, CheckedJoin, TableUse};
-use query_model::query::{ColumnDecl, PartsDecl, Query, Refusal, Schema, TableDecl};
+use query_model::checked::Checked;
+use query_model::query::{ColumnDecl, Query, Refusal, Schema, TableDecl};
 use sql_text::parse;
 use std::alloc::Global;
 
@@ -37,51 +33,8 @@ fn analysed(alloc: Global, query: Query, command: &Command) -> Result<Checked, R
         return Err(Refused::Query(Refusal::Memory));
     };
     match analyse(alloc, query, &schemas) {
-        Ok(checked) => {
-            if uses_no_lists(&checked, command.tables.as_slice()) {
-                Ok(checked)
-            } else {
-                Err(Refused::NotBuilt)
-            }
-        }
+        Ok(checked) => Ok(checked),
         Err(refusal) => Err(Refused::Query(refusal)),
-    }
-}
-
-// Whether no table that the query uses is a list of files.
-fn uses_no_lists(checked: &Checked, tables: &[TableDecl]) -> bool
-    ensures { Decides result (All (UsesNoList tables.now) (used_tables checked.now)) }
-{
-    uses_no_list(checked.from, tables) && joins_no_list(&checked.join, tables)
-}
-
-fn joins_no_list(join: &Option<CheckedJoin>, tables: &[TableDecl]) -> bool
-    ensures { Decides result (All (UsesNoList tables.now) (join_use join.now)) }
-{
-    match join {
-        Some(join) => uses_no_list(join.table, tables),
-        None => true,
-    }
-}
-
-fn uses_no_list(table: TableUse, tables: &[TableDecl]) -> bool
-    ensures { Decides result (UsesNoList tables.now table) }
-{
-    match table {
-        TableUse::Numbers(_) => true,
-        TableUse::Declared(place) => match tables.get(place as usize) {
-            Some(decl) => names_paths(&decl.parts),
-            None => true,
-        },
-    }
-}
-
-fn names_paths(parts: &PartsDecl) -> bool
-    ensures { Decides result (NamesPaths parts.now) }
-{
-    match parts {
-        PartsDecl::Paths(_) => true,
-        PartsDecl::ListFile(_) => false,
     }
 }
 

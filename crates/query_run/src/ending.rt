@@ -11,7 +11,8 @@ use query_model::processor_spec::Kind;
 use query_model::query::Refusal;
 use sql_text::ParseRefusal;
 
-/// A part as lines name it: its table's name, and its number in the table, from 1.
+/// A part as lines name it: its table's name, and its number in the table, from 1; 0 is the list
+/// that names the table's parts.
 #[derive(Debug, Drop)]
 pub(crate) struct PartName {
     pub table: Bytes,
@@ -25,14 +26,14 @@ pub(crate) enum Refused {
     Text(ParseRefusal),
     /// The query that was read meets a condition.
     Query(Refusal),
-    /// The query has no plan yet: a table that it uses is a list of files.
-    NotBuilt,
 }
 
 /// What a part failed by, or the device that it was read from.
 #[derive(Clone, Copy, Debug)]
 pub(crate) enum PartFailure {
     Bad(BadPlace),
+    /// The list has this bad line.
+    BadList(u64),
     Read,
     Stalled,
     TooLong,
@@ -92,7 +93,6 @@ fn refused_status(refused: &Refused) -> u8
     match refused {
         Refused::Text(refusal) => text_status(*refusal),
         Refused::Query(refusal) => query_status(refusal),
-        Refused::NotBuilt => 2,
     }
 }
 
@@ -101,6 +101,7 @@ fn part_status(failure: PartFailure) -> u8
 {
     match failure {
         PartFailure::Bad(_) => 3,
+        PartFailure::BadList(_) => 3,
         PartFailure::Read => 4,
         PartFailure::Stalled => 4,
         PartFailure::TooLong => 6,

@@ -1,33 +1,67 @@
-// The graph of a plan, and the parts that its nodes read.
-ghost use Rattle.std.specs.Prelude.{◌≡◌, map, IfOk, slice_get};
+// The graph of a plan, and the parts that its boxes serve.
+ghost use Rattle.std.specs.Prelude.{◌≡◌, ◌+◌, ◌++◌, ◌≤◌, length, map, replicate, IfOk, OnOk, slice_get};
 ghost use Rattle.select_planner.specs.Shapes.{plan_ranks, plan_wires, wire_of};
-ghost use Rattle.query_run.specs.Steps.{name_of, name_at, node_specs, part_place};
+ghost use Rattle.select_planner.specs.Boxes.{reserved_nodes};
+ghost use Rattle.query_run.specs.Racks.{kinds_reserved};
+ghost use Rattle.query_run.specs.Steps.{edges_kept, kept_places, name_of, name_at, node_specs, part_place, places_in, reserves_behind, spec_read};
 
 use crate::ending::PartName;
 use chunk_data::{Bytes, List, Memory};
-use plan_run::PlanGraph;
-use port_word::Wire;
-use query_model::processor_spec::Spec;
+use plan_run::{GraphForm, PlanGraph};
+use port_word::{Reserve, Wire};
+use query_model::processor_spec::{Kind, Spec};
 use query_model::query::TableDecl;
-use select_planner::{Plan, PlanEdge, PlanNode};
+use select_planner::{Plan, PlanEdge, PlanNode, PlanReserve};
 use std::alloc::Global;
 
-/// The part that a node reads: the place of its table, from 0, and its own in the table, from 1.
+/// The part that a box serves: the place of its table, from 0, and its own in the table, from 1; a
+/// list of parts has 0.
 #[derive(Clone, Copy, Debug)]
 pub(crate) struct PartPlace {
     pub table: u32,
     pub part: u32,
 }
 
-/// The parts that nodes read, in their order.
-pub(crate) fn part_places(alloc: Global, nodes: &[PlanNode]) -> Result<Vec<PartPlace>, Memory>
-    ensures { IfOk result (λ places. places.items ≡ map part_place (node_specs nodes.now)) }
+/// The parts that nodes read, in their order, and then those of the boxes that are kept for lists:
+/// the box at place P of a list's reserve, from 1, serves its part P.
+pub(crate) fn part_places(alloc: Global, plan: &Plan) -> Result<Vec<PartPlace>, Memory>
+    ensures { IfOk result (λ places. places.items
+        ≡ places_in (node_specs plan.now.nodes) plan.now.reserves) }
 {
     let mut places = Vec::new(alloc);
+    let nodes = plan.nodes.as_slice();
     for node in nodes {
         places.push(part_place(&node.spec))?;
     }
+    for reserve in plan.reserves.as_slice() {
+        add_kept(
+            &mut places,
+            table_read(nodes, reserve.node),
+            reserve.kinds.len(),
+        )?;
+    }
     Ok(places)
+}
+
+// The table of the part that a node reads.
+fn table_read(nodes: &[PlanNode], node: u32) -> u32
+    ensures { result ≡ (part_place (spec_read (node_specs nodes.now) node)).table }
+{
+    match nodes.get(node as usize) {
+        Some(node) => part_place(&node.spec).table,
+        None => 0,
+    }
+}
+
+// Adds the places of so many boxes that are kept for the list of a table.
+fn add_kept(places: &mut Vec<PartPlace>, table: u32, count: usize) -> Result<(), Memory>
+    requires { count ≤ 256 }
+    ensures { OnOk result (places.new.items ≡ places.old.items ++ kept_places table 1 count) }
+{
+    for part in 0..count {
+        places.push(place_of(table, part as u32 + 1))?;
+    }
+    Ok(())
 }
 
 fn part_place(spec: &Spec) -> PartPlace
@@ -47,7 +81,7 @@ fn place_of(table: u32, part: u32) -> PartPlace
     PartPlace { table, part }
 }
 
-/// The name of the part that a node reads.
+/// The name of the part that a box serves.
 pub(crate) fn part_name(
     alloc: Global,
     tables: &[TableDecl],
@@ -77,28 +111,97 @@ fn table_name(alloc: Global, tables: &[TableDecl], table: u32) -> Result<Bytes, 
     }
 }
 
-/// The graph of a plan: its nodes and edges.
+/// The graph of a plan: its nodes and edges, and what it keeps.
 pub(crate) fn graph_of(alloc: Global, plan: Plan) -> Result<PlanGraph, Memory>
+    requires { length plan.edges + edges_kept plan.reserves ≤ 1024 }
     ensures specs { IfOk result (λ g. g.specs.items ≡ node_specs plan.nodes) }
-    ensures ranks { IfOk result (λ g. g.ranks ≡ plan_ranks plan) }
-    ensures wires { IfOk result (λ g. g.wires ≡ plan_wires plan) }
+    ensures ranks { IfOk result (λ g. g.form.ranks ≡ plan_ranks plan
+        ++ replicate (length (kinds_reserved plan.reserves)) 0) }
+    ensures wires { IfOk result (λ g. g.form.wires ≡ plan_wires plan) }
+    ensures kept { IfOk result (λ g. g.kept ≡ kinds_reserved plan.reserves) }
+    ensures reserves { IfOk result (λ g. g.form.reserves
+        ≡ reserves_behind (length plan.nodes) (length plan.edges) plan.reserves) }
 {
-    let Plan { nodes, edges, .. } = plan;
-    let ranks = ranks_of(alloc, nodes.as_slice())?;
+    let Plan {
+        nodes,
+        edges,
+        reserves,
+    } = plan;
     let wires = wires_of(alloc, edges.as_slice())?;
+    let kept = kinds_kept(alloc, reserves.as_slice())?;
+    let ranks = ranks_of(alloc, nodes.as_slice(), kept.len())?;
+    let reserves = reserves_of(alloc, nodes.len(), edges.len(), reserves.as_slice())?;
     Ok(PlanGraph {
         specs: specs_of(alloc, nodes)?,
-        ranks,
-        wires,
+        kept,
+        form: GraphForm {
+            ranks,
+            wires,
+            reserves,
+        },
     })
 }
 
-fn ranks_of(alloc: Global, nodes: &[PlanNode]) -> Result<List<u32>, Memory>
-    ensures { IfOk result (λ ranks. ranks ≡ map (λ (n : PlanNode). n.rank) nodes.now) }
+/// The kinds of the boxes that are kept, in the order of the reserves.
+fn kinds_kept(alloc: Global, reserves: &[PlanReserve]) -> Result<List<Kind>, Memory>
+    ensures { IfOk result (λ kinds. kinds ≡ kinds_reserved reserves.now) }
+{
+    let mut kinds = Vec::new(alloc);
+    for reserve in reserves {
+        add_kinds(&mut kinds, reserve.kinds.as_slice())?;
+    }
+    Ok(List::from_vec(kinds))
+}
+
+fn add_kinds(kinds: &mut Vec<Kind>, more: &[Kind]) -> Result<(), Memory>
+    ensures { OnOk result (kinds.new.items ≡ kinds.old.items ++ more.now) }
+{
+    for kind in more {
+        kinds.push(*kind)?;
+    }
+    Ok(())
+}
+
+/// The reserves, whose nodes and edges are numbered behind so many.
+fn reserves_of(
+    alloc: Global,
+    nodes: usize,
+    edges: usize,
+    reserves: &[PlanReserve],
+) -> Result<List<Reserve>, Memory>
+    requires few_nodes { nodes + reserved_nodes reserves.now ≤ 256 }
+    requires few_edges { edges + edges_kept reserves.now ≤ 1024 }
+    ensures { IfOk result (λ all. all ≡ reserves_behind nodes edges reserves.now) }
+{
+    let mut all = Vec::new(alloc);
+    let mut first_node = nodes as u32;
+    let mut first_edge = edges as u32;
+    for reserve in reserves {
+        let kept = reserve.kinds.len() as u32;
+        all.push(Reserve {
+            node: reserve.node,
+            first_node,
+            nodes: kept,
+            first_edge,
+            edges: reserve.edges,
+        })?;
+        first_node += kept;
+        first_edge += reserve.edges;
+    }
+    Ok(List::from_vec(all))
+}
+
+/// The ranks of the nodes, and those of so many that aren't born.
+fn ranks_of(alloc: Global, nodes: &[PlanNode], unborn: usize) -> Result<List<u32>, Memory>
+    ensures { IfOk result (λ ranks. ranks ≡ map (λ (n : PlanNode). n.rank) nodes.now
+        ++ replicate unborn 0) }
 {
     let mut ranks = Vec::new(alloc);
     for node in nodes {
         ranks.push(node.rank)?;
+    }
+    for _kept in 0..unborn {
+        ranks.push(0)?;
     }
     Ok(List::from_vec(ranks))
 }

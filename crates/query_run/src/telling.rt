@@ -2,7 +2,7 @@ ghost use Rattle.std.specs.Prelude.{◌≡◌, ◌≤◌, ◌++◌, ◌∷◌, [
 ghost use Rattle.outside_io.specs.Counts.{Rose};
 ghost use Rattle.query_run.specs.declared.ending.PlanFailure.TheVariants as plan;
 ghost use Rattle.query_run.specs.declared.ending.PartFailure.TheVariants as part;
-ghost use Rattle.query_run.specs.Endings.{text_line, query_line, refused_line, kind_name, part_words, field_words, plan_line, failure_line, piece_bytes, TellsLine, Writes};
+ghost use Rattle.query_run.specs.Endings.{text_line, query_line, refused_line, kind_name, part_words, place_words, field_words, plan_line, failure_line, piece_bytes, TellsLine, Writes};
 
 use crate::ending::{Failure, PartFailure, PartName, PlanFailure, Refused};
 use itoa::Buffer;
@@ -114,7 +114,6 @@ fn refused_pieces(refused: &Refused) -> Line<'_>
             let (front, name) = query_line(refusal);
             named(front, name)
         }
-        Refused::NotBuilt => named(b"qrun: refused: NotBuilt", b""),
     }
 }
 
@@ -160,6 +159,7 @@ fn part_pieces(name: &PartName, failure: PartFailure) -> Line<'_>
 {
     match failure {
         PartFailure::Bad(place) => place_pieces(name, place),
+        PartFailure::BadList(line) => line_pieces(name, line),
         PartFailure::Read => named_part(b"qrun: read fault: ", name, b""),
         PartFailure::Stalled => named_part(b"qrun: stalled: ", name, b""),
         PartFailure::TooLong => {
@@ -172,14 +172,44 @@ fn named_part<'a>(front: &'static [u8], name: &'a PartName, back: &'static [u8])
     ensures { flat_map piece_bytes result
         ≡ front.now ++ part_words name.now ++ back.now ++ 10 ∷ [] }
 {
+    let (word, number) = place_words(name.part);
     [
         Piece::Text(front),
         Piece::Text(b"table "),
         Piece::Text(name.table.as_slice()),
-        Piece::Text(b" part "),
-        Piece::Number(name.part as u64),
+        Piece::Text(word),
+        number,
         Piece::Text(back),
         END,
+        NONE,
+        NONE,
+        NONE,
+    ]
+}
+
+/// A part of a table, or its list.
+fn place_words(part: u32) -> (&'static [u8], Piece<'static>)
+    ensures { result.0.now ++ piece_bytes result.1 ≡ place_words part }
+{
+    if part == 0 {
+        (b" list", NONE)
+    } else {
+        (b" part ", Piece::Number(part as u64))
+    }
+}
+
+fn line_pieces(name: &PartName, line: u64) -> Line<'_>
+    ensures { flat_map piece_bytes result
+        ≡ plan_line (plan.Part name.now (part.BadList line)) ++ 10 ∷ [] }
+{
+    [
+        Piece::Text(b"qrun: bad list: "),
+        Piece::Text(b"table "),
+        Piece::Text(name.table.as_slice()),
+        Piece::Text(b" line "),
+        Piece::Number(line),
+        END,
+        NONE,
         NONE,
         NONE,
         NONE,
@@ -190,13 +220,14 @@ fn place_pieces(name: &PartName, place: BadPlace) -> Line<'_>
     ensures { flat_map piece_bytes result
         ≡ plan_line (plan.Part name.now (part.Bad place)) ++ 10 ∷ [] }
 {
+    let (part, of_part) = place_words(name.part);
     let (word, number) = field_words(place.field);
     [
         Piece::Text(b"qrun: bad data: "),
         Piece::Text(b"table "),
         Piece::Text(name.table.as_slice()),
-        Piece::Text(b" part "),
-        Piece::Number(name.part as u64),
+        Piece::Text(part),
+        of_part,
         Piece::Text(b" row "),
         Piece::Number(place.row),
         Piece::Text(word),

@@ -1,5 +1,4 @@
-use Rattle.std.proofs.Common.{◌++◌, ap₂, flat_map, ◌∙◌}
-use Rattle.query_run.proofs.Prelude.{Table, chunk_rows, rows_text, heading}
+use Rattle.query_run.proofs.Prelude.{Table, ap₂, chunk_rows, flat_map, heading, rows_text, ◌++◌, ◌∙◌}
 use Rattle.query_run.proofs.Composing.{headed}
 use Rattle.query_run.proofs.answer.graph_text.Goals as goal
 

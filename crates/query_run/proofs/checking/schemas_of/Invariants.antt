@@ -1,5 +1,4 @@
-use Rattle.std.proofs.Common.{◌≡◌, take, map}
-use Rattle.query_run.proofs.Prelude.{TableDecl}
+use Rattle.query_run.proofs.Prelude.{TableDecl, map, take, ◌≡◌}
 use Rattle.query_run.proofs.checking.schemas_of.Given as goal
 
 abbrev pub invariant-loop-table : goal.invariant-loop-table

@@ -1,5 +1,4 @@
-use Rattle.std.proofs.Common.{◌≡◌}
-use Rattle.query_run.specs.Steps.{node_specs}
+use Rattle.query_run.proofs.Prelude.{node_specs, ◌≡◌}
 use Rattle.query_run.proofs.planning.specs_of.Given as goal
 
 abbrev pub invariant-loop-node : goal.invariant-loop-node

@@ -1,5 +1,4 @@
-use Rattle.std.proofs.Common.{◌≡◌, map, take}
-use Rattle.query_run.proofs.Prelude.{wire_of}
+use Rattle.query_run.proofs.Prelude.{map, take, wire_of, ◌≡◌}
 use Rattle.query_run.proofs.planning.wires_of.Given as goal
 
 abbrev pub invariant-loop-edge : goal.invariant-loop-edge

@@ -1,5 +1,4 @@
-use Rattle.std.proofs.Common.{map}
-use Rattle.query_run.proofs.Prelude.{boxes_needed}
+use Rattle.query_run.proofs.Prelude.{boxes_needed, map}
 use Rattle.query_run.proofs.Stocks.{HasBefore}
 use Rattle.query_run.proofs.stock.first_shortage.Given as goal
 

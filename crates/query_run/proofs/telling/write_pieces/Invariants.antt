@@ -1,6 +1,4 @@
-use Rattle.std.proofs.Common.{◌≤◌, take, flat_map}
-use Rattle.query_run.proofs.Prelude.{GrewBy}
-use Rattle.query_run.specs.Endings.{piece_bytes}
+use Rattle.query_run.proofs.Prelude.{GrewBy, flat_map, piece_bytes, take, ◌≤◌}
 use Rattle.query_run.proofs.telling.write_pieces.Given as goal
 
 abbrev pub invariant-loop-i : goal.invariant-loop-i

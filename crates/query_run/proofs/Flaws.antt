@@ -1,0 +1,302 @@
+-- A lawful box never lets a plan's graph grow by a growth that has a flaw.
+use Rattle.query_run.proofs.Prelude.{All, All-append, All-cons, All-from_get_or, All-get_or, All-nil, AllByRecursion, Begins, Birth, Bool, BoxPicture, Checked, Command, DraftNode, Edge, FlawedWith, GrowthForm, HasStock, IsAdded, IsBirth, IsListGrowth, IsRunnable, KeepsBehind, Kind, List, MayGrow, Me, New, None, Option, PartSpec, Reserve, RunsPlan, Some, Spec, Who, Wire, [], and_parts, ap, arith, births_of, born_wires, both_ways, box_at, cases_Bool, cases_lt, cond, end_node, eq-eqb, false, few-paths-in, flat_map, get_or, grown_ranks, grown_wires, growth_flaw, growth_list, growths_of, has_wrong_end, holds_node, inl, input_count, inr, is_named, is_reserved, is_some, kept_growths, kinds_for, kinds_reserved, le-leb, left_of, length, list-growth-has-no-flaw, list_any, list_growth, ltb-true, map, new_wire, new_wires, no_wire, not-false, or_parts, paths_in, rank_at, refl, reserve_of, reserved_nodes, reserves_from, set_ranks, set_ranks-other, sources-left, spec_at, specs_in, subst, sum_by, sum_by-cons, sym, take, true, wire_at, ℕ, ◌++◌, ◌+◌, ◌<◌, ◌==◌, ◌∙◌, ◌∷◌, ◌≡◌, ◌≢◌, ◌≤◌}
+use Rattle.query_model.specs.declared.processor_spec.Kind.TheVariants as kind
+use Rattle.query_model.specs.declared.processor_spec.Spec.TheVariants as spec
+use Rattle.query_run.proofs.Grown.{RanCopies, blank-kept, ended-within, formed, kept-kind, list-reads, none-kept-at, ranked-list, ranked-within, unfed-first}
+use Rattle.query_run.proofs.Plans.{AreCopies, loaded-kind}
+use Rattle.query_run.proofs.Kept.{Away, away-held, none-placed, others-all}
+use Rattle.query_run.proofs.Reserves.{IsListReserve, held-of, holds-one, holds-within, kept-of, past-of}
+
+-- ---- the wires of births
+
+-- what is true of a wire between named ends is true of all wires of a growth
+ends-all : (n : ℕ) (places : List ℕ) (count : ℕ) (P : Wire → Type 0)
+    → ((e : Edge) → has_wrong_end count e ≡ false → P (new_wire n places e)) → (edges : List Edge)
+    → list_any (has_wrong_end count) edges ≡ false → All P (new_wires n places edges)
+ends-all n places count P each [] h = All-nil P
+ends-all n places count P each (e ∷ edges) h =
+    let both = or_parts _ _ h in
+    All-cons P (new_wire n places e) (new_wires n places edges) (each e both.0)
+    (ends-all n places count P each edges both.1)
+
+-- an end that is named is the node that grew, or one of the new nodes
+named-end : (n : ℕ) (places : List ℕ) (count : ℕ) (q : ℕ) → length places ≡ count → n ≢ q
+    → ((k : ℕ) → k < length places → get_or places k 0 ≢ q) → (w : Who)
+    → is_named count w ≡ true → end_node n places w ≢ q
+named-end n places count q len own away Me h = own
+named-end n places count q len own away (New k) h =
+    let lt = ltb-true k count h in away k (omega (arith, lt, len))
+
+-- no wire of these births begins or ends at the node
+abbrev Misses : ℕ → Wire → Type 0
+Misses q w = (w.from ≢ q) × (w.to ≢ q)
+
+module _ (R : List Reserve) (before after : List BoxPicture) (n q : ℕ)
+    (each : (b : Birth) → IsBirth R before after b → b.expander ≢ n
+    → (b.expander ≢ q) × Away q b) where
+  birth-misses : (b : Birth) → IsBirth R before after b → b.expander ≢ n
+      → All (Misses q) (born_wires b)
+  birth-misses b i other =
+      let x = each b i other in
+      let count : ℕ = length b.growth.specs in
+      ends-all b.expander b.places count (Misses q) (λ e wrong.
+      let named = and_parts _ _ (not-false _ (or_parts _ _ wrong).0) in (
+        named-end b.expander b.places count q i.as_many x.0 x.1 e.from.who named.0,
+        named-end b.expander b.places count q i.as_many x.0 x.1 e.to.who named.1,
+      )) b.growth.edges i.ends
+
+  -- no wire of births of which none is of node n is at node q
+  all-miss : (births : List Birth) → AllByRecursion (IsBirth R before after) births
+      → births_of n births ≡ [] → All (Misses q) (flat_map born_wires births)
+  all-miss births h none = go births (others-all R before after n
+      (λ (b : Birth). All (Misses q) (born_wires b)) birth-misses births h none)
+    where
+      go : (births : List Birth) → AllByRecursion (λ (b : Birth). All (Misses q) (born_wires b))
+          births → All (Misses q) (flat_map born_wires births)
+      go [] h = All-nil (Misses q)
+      go (b ∷ births) h =
+          All-append (Misses q) (born_wires b) (flat_map born_wires births) h.0 (go births h.1)
+
+-- the rank of a node that no birth took is as it was
+rank-stays : (q : ℕ) (births : List Birth) (ranks : List ℕ) → AllByRecursion (Away q) births
+    → rank_at (grown_ranks ranks births) q ≡ rank_at ranks q
+rank-stays q [] ranks h = refl
+rank-stays q (b ∷ births) ranks h =
+    rank-stays q births (set_ranks ranks b.places b.growth.ranks) h.1
+    ∙ set_ranks-other ranks b.places b.growth.ranks q h.0
+
+-- no wire goes to a node without inputs
+none-to : (n : ℕ) (wires : List Wire) → input_count wires n ≡ 0 → All (λ w. w.to ≢ n) wires
+none-to n [] e = All-nil (λ w. w.to ≢ n)
+none-to n (w ∷ wires) e = elim (cases_Bool (w.to == n)) [
+  | inl same ↦
+      let one = ap (λ t. let k : ℕ = cond t 1 0 in k) same in
+      absurd (omega (arith, e, one, sum_by-cons (λ (v : Wire). cond (v.to == n) 1 0) w wires))
+  | inr other ↦
+      let one = ap (λ t. let k : ℕ = cond t 1 0 in k) other in
+      All-cons (λ w. w.to ≢ n) w wires (λ e. both_ways _ other (eq-eqb w.to n e))
+      (none-to n wires
+      (omega (arith, e, one, sum_by-cons (λ (v : Wire). cond (v.to == n) 1 0) w wires)))
+]
+
+-- ---- a plan's graph
+
+module _ {c : Command} {q : Checked} {before after : List BoxPicture} {nodes : List DraftNode}
+    (copies : AreCopies c q nodes) (runnable : IsRunnable c q before)
+    (stock : HasStock (kinds_for nodes) before)
+    (keeps : KeepsBehind (length nodes) (formed nodes)) (k : Kind)
+    (g : Begins (formed nodes) (kinds_for nodes)
+    (FlawedWith (RunsPlan (specs_in nodes) (kinds_reserved (reserves_from 0 nodes)) before after)
+    k))
+  where
+    abbrev run : RunsPlan (specs_in nodes) (kinds_reserved (reserves_from 0 nodes)) before after
+        g.holds.ended
+    run = g.holds.runs
+
+    abbrev ended : List BoxPicture
+    ended = g.holds.ended
+
+    ran : RanCopies c q before after nodes ended
+    ran = record { copies = copies; runnable = runnable; stock = stock; run = run }
+
+    abbrev node : ℕ
+    node = g.holds.node
+
+    abbrev box : BoxPicture
+    box = box_at ended node
+
+    abbrev R : List Reserve
+    R = (formed nodes).reserves
+
+    abbrev started : List BoxPicture
+    started = g.boxes
+
+    abbrev grown : List BoxPicture
+    grown = g.holds.bad.grown
+
+    abbrev births : List Birth
+    births = g.holds.bad.births
+
+    abbrev wires : List Wire
+    wires = (formed nodes).wires
+
+    module _ (lawful : box.lawful ≡ true) where
+      lawful-before : (box_at grown node).lawful ≡ true
+      lawful-before = sym g.holds.bad.same.lawful ∙ lawful
+
+      -- it grew by this growth alone
+      none-before : births_of node births ≡ []
+      none-before =
+          let start = none-kept-at ran keeps g.boxes g.kinds_are g.starting node in
+          let kept = g.holds.bad.are.grew node lawful-before
+          ∙ ap (λ l. l ++ growths_of node births) start in
+          let now : kept_growths (box_at grown node) ≡ [] =
+          ap (λ o. cond (is_some (box_at grown node).spec) (growth_list o) [])
+          (g.holds.bad.once lawful) ∙ none-of (is_some (box_at grown node).spec) in
+          map-nil births (sym kept ∙ now)
+        where
+          none-of : (b : Bool) → cond b (growth_list None) [] ≡ []
+          none-of true = refl
+          none-of false = refl
+
+          map-nil : (bs : List Birth) → growths_of node bs ≡ [] → births_of node bs ≡ []
+          map-nil bs e = go (births_of node bs) e
+            where
+              go : (l : List Birth) → map (λ (b : Birth). b.growth) l ≡ [] → l ≡ []
+              go [] e = refl
+              go (b ∷ l) e = absurd cc
+
+      module _ (list : PartSpec) (is : box.spec ≡ Some (spec.List list))
+          (may : IsListGrowth list box.files g.holds.bad.bad.growth) where
+        own : node < length nodes
+        own = elim (cases_lt node (length nodes)) [
+          | inl lt ↦ lt
+          | inr le ↦
+              let csv = kept-kind ran node le g.holds.bad.bad.in_range in
+              let wrong : kind.List ≡ kind.Csv =
+              loaded-kind nodes before after ended stock run node (spec.List list)
+              g.holds.bad.bad.in_range is ∙ csv in
+              absurd cc
+        ]
+
+        reads : spec_at (specs_in nodes) node ≡ spec.List list
+        reads = list-reads ran node list own is
+
+        reserve : IsListReserve (reserve_of R node)
+            (length nodes + reserved_nodes (reserves_from 0 (take node nodes)))
+        reserve = kept-of nodes (length wires) node list own reads
+
+        abbrev first : ℕ
+        first = (reserve_of R node).first_node
+
+        held : (j : ℕ) → j < 32 → holds_node (first + j) (reserve_of R node) ≡ true
+        held = held-of nodes (length wires) node list own reads
+
+        past : (j : ℕ) → j < 32 → (length nodes ≤ first + j)
+            × (first + j < length nodes + reserved_nodes (reserves_from 0 nodes))
+        past = past-of nodes (length wires) node list own reads
+
+        -- the new nodes of other births are neither the list nor kept for it
+        away-list : (b : Birth) → IsBirth R started grown b → b.expander ≢ node → Away node b
+        away-list b i other j lt e =
+            let past = (holds-within _ b.expander (length nodes) (length wires)
+            (reserves_from 0 nodes) (i.reserved j lt)).0 in
+            let less = own in absurd (omega (arith, past, e, less))
+
+        away-kept : (j : ℕ) → j < 32 → (b : Birth) → IsBirth R started grown b → b.expander ≢ node
+            → Away (first + j) b
+        away-kept j lt = away-held R started grown (λ q m n.
+            holds-one q m n (length nodes) (length wires) (reserves_from 0 nodes)) node (first + j)
+            (held j lt)
+
+        all-away : (q : ℕ)
+            → ((b : Birth) → IsBirth R started grown b → b.expander ≢ node → Away q b)
+            → AllByRecursion (Away q) births
+        all-away q away = others-all R started grown node (Away q) away births g.holds.bad.are.each
+            none-before
+
+        -- those that are kept for it are blank still
+        blank : (j : ℕ) → j < 32 → (box_at grown (first + j)).spec ≡ None
+        blank j lt =
+            let w = past j lt in
+            g.holds.bad.are.stay_blank (first + j)
+            (blank-kept ran keeps g.boxes g.kinds_are g.starting (first + j) w.0 w.1)
+            (none-placed (first + j) births (all-away (first + j) (away-kept j lt)))
+
+        missed-kept : (j : ℕ) → j < 32 → All (Misses (first + j)) (flat_map born_wires births)
+        missed-kept j lt = all-miss R started grown node (first + j) (λ b i other. (
+          λ e. both_ways _ (ap is_some (blank j lt)) (rw e at i.grown),
+          away-kept j lt b i other,
+        )) births g.holds.bad.are.each none-before
+
+        missed-list : All (Misses node) (flat_map born_wires births)
+        missed-list = all-miss R started grown node node
+            (λ b i other. (other, away-list b i other)) births g.holds.bad.are.each none-before
+
+        abbrev all_wires : List Wire
+        all_wires = grown_wires wires births
+
+        unfed : (e : ℕ) → e < length all_wires → (wire_at all_wires e).to ≢ node
+        unfolding wire_at
+        unfed e lt =
+            All-get_or (λ (w : Wire). w.to ≢ node) all_wires e no_wire lt
+            (All-append (λ (w : Wire). w.to ≢ node) wires (flat_map born_wires births)
+            (none-to node wires (unfed-first ran node list own reads))
+            (λ m d within_wires. (missed-list m d within_wires).1))
+
+        unwired : (e j : ℕ) → e < length all_wires → j < 32
+            → ((wire_at all_wires e).from ≢ first + j) × ((wire_at all_wires e).to ≢ first + j)
+        unfolding wire_at
+        unwired e j lt few =
+            let w = past j few in
+            All-get_or (Misses (first + j)) all_wires e no_wire lt
+            (All-append (Misses (first + j)) wires (flat_map born_wires births)
+            (All-from_get_or (Misses (first + j)) wires no_wire (λ m within_wires. (
+              λ is. reserved-wire (keeps.reserves_fit.from_added m within_wires) is w,
+              λ is. reserved-wire (keeps.reserves_fit.to_added m within_wires) is w,
+            ))) (missed-kept j few))
+          where
+            reserved-wire : {n m : ℕ} → IsAdded (length (formed nodes).ranks) R n → n ≡ m
+                → (length nodes ≤ m) × (m < length nodes + reserved_nodes (reserves_from 0 nodes))
+                → ⊥
+            reserved-wire {n} {m} a is w =
+                let at : is_reserved R m ≡ true =
+                keeps.kept m (ranked-within nodes m w.1) ∙ le-leb (length nodes) m w.0 in
+                both_ways _ (subst (λ k. is_reserved R k ≡ false) is a.unreserved) at
+
+        abbrev paths : List (List ℕ)
+        paths = paths_in (Some may.text)
+
+        few : length paths ≤ 32
+        few = few-paths-in (Some may.text)
+
+        no-flaw : growth_flaw (grown_ranks (formed nodes).ranks births) all_wires
+            (left_of R ended births node) node (list_growth list paths) ≡ None
+        no-flaw =
+            let none = ap (λ (bs : List Birth). sum_by (λ (b : Birth). length b.growth.edges) bs)
+            none-before in
+            let nodes_are = reserve.nodes in
+            let edges_are = reserve.edges in
+            list-growth-has-no-flaw (grown_ranks (formed nodes).ranks births) all_wires
+            (left_of R ended births node) node first 32 list paths g.holds.bad.graph
+            (let rank = rank-stays node births (formed nodes).ranks (all-away node away-list) in
+            let above = ranked-list ran node own in omega (arith, rank, above))
+            (rw nodes_are (sources-left ended [] first 32 (λ j lt.
+            let w = past j lt in
+            let other : first + j ≢ node = λ e. (let le = w.0 in let less = own in
+            absurd (omega (arith, le, e, less))) in
+            let at = g.holds.bad.others (first + j) other in (
+              refl,
+              (
+                ap (λ (p : BoxPicture). p.spec) at ∙ blank j lt,
+                kept-kind ran (first + j) w.0 (ended-within ran (first + j) w.1),
+              ),
+            ))))
+            few (omega (arith, few, none, edges_are)) few unfed
+            (λ e j lt less. unwired e j lt (omega (arith, less, few)))
+            (λ j lt e.
+            let le = (past j (omega (arith, lt, few))).0 in
+            let less = own in absurd (omega (arith, le, e, less)))
+
+      flawed : ⊥
+      flawed = go box.spec refl (g.holds.bad.bad.may_grow lawful)
+        where
+          go : (o : Option Spec) → box.spec ≡ o
+              → MayGrow o box.files (Some g.holds.bad.bad.growth) → ⊥
+          go (Some (spec.List list)) e m =
+              let none = no-flaw list e m in
+              let some =
+              ap (λ (f : GrowthForm). growth_flaw (grown_ranks (formed nodes).ranks births)
+              (grown_wires wires births) (left_of R ended births node) node f) (sym m.is)
+              ∙ g.holds.bad.bad.flawed in
+              let wrong : Some g.holds.flaw ≡ None = sym some ∙ none in
+              absurd cc
+          go None e m = m
+          go (Some s) e m = m
+
+    -- so a box whose growth has a flaw isn't lawful
+    pub flawed-unlawful : box.lawful ≡ false
+    flawed-unlawful = elim (cases_Bool box.lawful) [
+      | inl lawful ↦ absurd (flawed lawful)
+      | inr not ↦ not
+    ]

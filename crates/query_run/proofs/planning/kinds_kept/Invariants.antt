@@ -1,0 +1,5 @@
+use Rattle.query_run.proofs.Prelude.{kinds_reserved, take, ◌≡◌}
+use Rattle.query_run.proofs.planning.kinds_kept.Given as goal
+
+abbrev pub invariant-loop-reserve : goal.invariant-loop-reserve
+invariant-loop-reserve l = l.kinds.items ≡ kinds_reserved (take l.reserve-index l.reserves)
