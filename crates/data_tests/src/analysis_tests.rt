@@ -1,132 +1,79 @@
-// Analysis of texts, over the tables t(a Int64, b String), u(a UInt64), w(k Int64, v UInt64, s String) and
-// twice(a Int64, a String).
-use crate::halves;
-use chunk_data::{Bytes, ColumnType, List};
-use query_model::analysis::analyse;
+// Analysis of texts.
+use crate::literals::{analysed, halves, repeated, utf8};
 use query_model::checked::{Checked, Grouping, Shape};
-use query_model::query::{ColumnDecl, Refusal, Schema};
-use sql_text::parse;
+use query_model::query::Refusal;
 use std::alloc::Global;
 use std::process::Abort;
 use std::test::Fail;
 
-fn bytes(alloc: Global, text: &str) -> Result<Bytes, Fail> {
-    Ok(Bytes::from_slice(alloc, text.as_bytes())?)
-}
-
-fn declared(alloc: Global, table: &str, columns: &[(&str, ColumnType)]) -> Result<Schema, Fail> {
-    let mut list = Vec::new(alloc);
-    for column in columns {
-        list.push(ColumnDecl {
-            name: bytes(alloc, column.0)?,
-            kind: column.1,
-        })?;
-    }
-    Ok(Schema {
-        name: bytes(alloc, table)?,
-        columns: List::from_vec(list),
-    })
-}
-
-fn tables(alloc: Global) -> Result<List<Schema>, Fail> {
-    let t = [("a", ColumnType::Int64), ("b", ColumnType::Text)];
-    let u = [("a", ColumnType::UInt64)];
-    let w = [
-        ("k", ColumnType::Int64),
-        ("v", ColumnType::UInt64),
-        ("s", ColumnType::Text),
-    ];
-    let twice = [("a", ColumnType::Int64), ("a", ColumnType::Text)];
-    let mut list = Vec::new(alloc);
-    list.push(declared(alloc, "t", &t)?)?;
-    list.push(declared(alloc, "u", &u)?)?;
-    list.push(declared(alloc, "w", &w)?)?;
-    list.push(declared(alloc, "twice", &twice)?)?;
-    Ok(List::from_vec(list))
-}
+const TABLES: &str = "t ia tb;u ua;w ik uv ts;twice ia ta";
 
 /// A refusal's word, with the name that it carries behind it.
-fn refused(alloc: Global, refusal: Refusal) -> Result<Vec<u8>, Fail> {
-    let (word, name) = match refusal {
-        Refusal::UnknownTable(name) => ("UnknownTable ", name),
-        Refusal::UnknownColumn(name) => ("UnknownColumn ", name),
-        Refusal::AmbiguousColumn(name) => ("AmbiguousColumn ", name),
-        Refusal::NotGrouped(name) => ("NotGrouped ", name),
-        Refusal::BadOrderKey(name) => ("BadOrderKey ", name),
-        Refusal::BadJoinKey => ("BadJoinKey", Bytes::new(alloc)),
-        Refusal::TypeMismatch => ("TypeMismatch", Bytes::new(alloc)),
-        Refusal::TooWide => ("TooWide", Bytes::new(alloc)),
-        Refusal::Memory => ("Memory", Bytes::new(alloc)),
+fn refused(alloc: Global, refusal: Refusal) -> Result<String, Fail> {
+    let (word, name) = match &refusal {
+        Refusal::UnknownTable(name) => ("UnknownTable", name),
+        Refusal::UnknownColumn(name) => ("UnknownColumn", name),
+        Refusal::AmbiguousColumn(name) => ("AmbiguousColumn", name),
+        Refusal::NotGrouped(name) => ("NotGrouped", name),
+        Refusal::BadOrderKey(name) => ("BadOrderKey", name),
+        _ => return Ok(format!(in alloc; "{refusal:?}")?),
     };
-    let mut text = Vec::from_slice(alloc, word.as_bytes())?;
-    text.extend_from_slice(name.as_slice())?;
-    Ok(text)
+    Ok(format!(in alloc; "{word} {}", utf8(name))?)
 }
 
-fn write_places(alloc: Global, text: &mut Vec<u8>, word: &str, places: &[u32]) -> Result<(), Fail> {
-    text.extend_from_slice(word.as_bytes())?;
+fn add_places(text: &mut String, word: &str, places: &[u32]) -> Result<(), Fail> {
+    let alloc = *text.allocator();
+    text.push_str(word)?;
     for place in places {
-        text.extend_from_slice(format!(in alloc; " {place}")?.as_bytes())?;
+        text.push_str(format!(in alloc; " {place}")?.as_str())?;
     }
     Ok(())
 }
 
-fn write_groups(alloc: Global, text: &mut Vec<u8>, groups: &Grouping) -> Result<(), Fail> {
-    write_places(alloc, text, " keys", groups.keys.as_slice())?;
-    write_places(alloc, text, " picks", groups.picks.as_slice())?;
+fn add_groups(text: &mut String, groups: &Grouping) -> Result<(), Fail> {
+    let alloc = *text.allocator();
+    add_places(text, " keys", groups.keys.as_slice())?;
+    add_places(text, " picks", groups.picks.as_slice())?;
     let calls = groups.calls.len();
-    text.extend_from_slice(format!(in alloc; " calls {calls}")?.as_bytes())?;
-    if groups.having.is_some() {
-        text.extend_from_slice(b" having")?;
-    }
-    if groups.lone {
-        text.extend_from_slice(b" lone")?;
-    }
-    Ok(())
+    let having = if groups.having.is_some() {
+        " having"
+    } else {
+        ""
+    };
+    let lone = if groups.lone { " lone" } else { "" };
+    Ok(text.push_str(format!(in alloc; " calls {calls}{having}{lone}")?.as_str())?)
 }
 
-/// The output names, each with its type, the pairs of ON, the groups, and the order.
-fn checked_text(alloc: Global, checked: &Checked) -> Result<Vec<u8>, Fail> {
-    let mut text = Vec::new(alloc);
+/// The output names, the pairs of ON, the groups, and the order.
+fn checked_text(alloc: Global, checked: &Checked) -> Result<String, Fail> {
+    let mut text = String::new(alloc);
     for name in checked.names.as_slice() {
-        text.extend_from_slice(name.as_slice())?;
-        text.push(b' ')?;
+        text.push_str(utf8(name))?;
+        text.push(' ')?;
     }
-    text.push(b'|')?;
-    match &checked.join {
-        Some(join) => {
-            for pair in join.pairs.as_slice() {
-                let (left, right) = (pair.left, pair.right);
-                text.extend_from_slice(format!(in alloc; " {left}={right}")?.as_bytes())?;
-            }
+    text.push('|')?;
+    if let Some(join) = &checked.join {
+        for pair in join.pairs.as_slice() {
+            let (left, right) = (pair.left, pair.right);
+            text.push_str(format!(in alloc; " {left}={right}")?.as_str())?;
         }
-        None => {}
     }
-    match &checked.shape {
-        Shape::Plain(_) => {}
-        Shape::Grouped(groups) => write_groups(alloc, &mut text, groups)?,
+    if let Shape::Grouped(groups) = &checked.shape {
+        add_groups(&mut text, groups)?;
     }
     for key in checked.order.as_slice() {
         let sign = if key.descending { "-" } else { "+" };
         let column = key.column;
-        text.extend_from_slice(format!(in alloc; " {sign}{column}")?.as_bytes())?;
+        text.push_str(format!(in alloc; " {sign}{column}")?.as_str())?;
     }
     Ok(text)
 }
 
-fn outcome(alloc: Global, answer: Result<Checked, Refusal>) -> Result<Vec<u8>, Fail> {
-    match answer {
+/// What analysis tells of the query that the text spells.
+fn told(alloc: Global, text: &str) -> Result<String, Fail> {
+    match analysed(alloc, TABLES, text)? {
         Ok(checked) => checked_text(alloc, &checked),
         Err(refusal) => refused(alloc, refusal),
-    }
-}
-
-/// What analysis tells of the query that the text spells.
-fn told(alloc: Global, text: &str) -> Result<Vec<u8>, Fail> {
-    let tables = tables(alloc)?;
-    match parse(alloc, text.as_bytes()) {
-        Ok(query) => outcome(alloc, analyse(alloc, query, &tables)),
-        Err(_) => Err(Fail::new("not a query")),
     }
 }
 
@@ -134,8 +81,7 @@ fn told(alloc: Global, text: &str) -> Result<Vec<u8>, Fail> {
 fn check_each(rt: &impl Abort, alloc: Global, cases: &[&str]) -> Result<(), Fail> {
     for case in cases {
         let (text, expected) = halves(case);
-        let told = told(alloc, text)?;
-        assert_eq!(rt; told.as_slice(), expected.as_bytes(), "{text}");
+        assert_eq!(rt; told(alloc, text)?.as_str(), expected, "{text}");
     }
     Ok(())
 }
@@ -254,23 +200,6 @@ fn order_keys_name_one_item(rt: HostRuntime) -> Result<(), Fail> {
     check_each(&rt, rt.alloc(), &cases)
 }
 
-/// The text with `piece` repeated between its two ends.
-fn repeated(
-    alloc: Global,
-    front: &str,
-    piece: &str,
-    count: usize,
-    behind: &str,
-) -> Result<String, Fail> {
-    let mut text = String::new(alloc);
-    text.push_str(front)?;
-    for _ in 0..count {
-        text.push_str(piece)?;
-    }
-    text.push_str(behind)?;
-    Ok(text)
-}
-
 #[test]
 fn queries_are_at_most_64_wide(rt: HostRuntime) -> Result<(), Fail> {
     let alloc = rt.alloc();
@@ -290,11 +219,7 @@ fn queries_are_at_most_64_wide(rt: HostRuntime) -> Result<(), Fail> {
         for (count, refused) in [(63, false), (64, wide)] {
             let text = repeated(alloc, front, piece, count, behind)?;
             let told = told(alloc, text.as_str())?;
-            assert_eq!(rt;
-                told.as_slice() == b"TooWide".as_slice(),
-                refused,
-                "{front}{count}"
-            );
+            assert_eq!(rt; told.as_str() == "TooWide", refused, "{front}{count}");
         }
     }
     Ok(())

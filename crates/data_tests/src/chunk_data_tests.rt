@@ -54,31 +54,6 @@ fn ordered(chunk: &Chunk, i: usize, j: usize, column: u32, descending: bool) -> 
     None
 }
 
-#[test]
-fn one_column_is_kept_and_gathered(rt: HostRuntime) -> Result<(), Fail> {
-    let alloc = rt.alloc();
-    let mut chunk = numbers(alloc, &[1, 2, 3])?;
-    assert_eq!(rt; chunk.rows(), 3);
-    chunk.keep(&[true, false, true]);
-    expect_rows(&rt, alloc, &chunk, "1|\n3|\n")?;
-    assert_eq!(rt; chunk.rows(), 2);
-    expect_rows(&rt, alloc, &chunk.gather(&[1, 0])?, "3|\n1|\n")
-}
-
-#[test]
-fn one_column_is_split_and_appended(rt: HostRuntime) -> Result<(), Fail> {
-    let alloc = rt.alloc();
-    let mut chunk = numbers(alloc, &[1, 3])?;
-    assert_eq!(rt; chunk.rows(), 2);
-    let front = chunk.split_front(1)?;
-    expect_rows(&rt, alloc, &front, "1|\n")?;
-    expect_rows(&rt, alloc, &chunk, "3|\n")?;
-    assert!(rt; chunk.append(numbers(alloc, &[3, 1])?).is_ok());
-    expect_rows(&rt, alloc, &chunk, "3|\n3|\n1|\n")?;
-    assert_eq!(rt; ordered(&chunk, 0, 2, 0, true), Some(Ordering::Less));
-    Ok(())
-}
-
 // The texts as a column.
 fn column_of_texts(alloc: Global, texts: &[&[u8]]) -> Result<Column, Memory> {
     let mut column = Texts::new(alloc);

@@ -1,7 +1,7 @@
-use crate::halves;
-use chunk_data::{ColumnType, List};
+use crate::literals::{halves, utf8};
+use chunk_data::{Bytes, ColumnType};
 use command_line::{Command, WordsRefusal, read_words};
-use query_model::query::{ColumnDecl, PartsDecl, TableDecl};
+use query_model::query::{PartsDecl, TableDecl};
 use std::alloc::Global;
 use std::test::Fail;
 
@@ -146,42 +146,25 @@ static CASES: [&str; 111] = [
      UInt64,price UInt64|4|8192|header",
 ];
 
-// Adds a text of ASCII bytes.
-fn add(text: &mut String, bytes: &[u8]) -> Result<(), Fail> {
-    for byte in bytes {
-        text.push(*byte as char)?;
-    }
-    Ok(())
+// Adds a sign and a text.
+fn add(text: &mut String, sign: &str, bytes: &Bytes) -> Result<(), Fail> {
+    text.push_str(sign)?;
+    Ok(text.push_str(utf8(bytes))?)
 }
 
-fn add_parts(text: &mut String, parts: &PartsDecl) -> Result<(), Fail> {
-    match parts {
-        PartsDecl::ListFile(path) => {
-            text.push('@')?;
-            add(text, path.as_slice())?;
-        }
+// Adds a table as it is declared.
+fn add_table(text: &mut String, table: &TableDecl) -> Result<(), Fail> {
+    add(text, "", &table.schema.name)?;
+    match &table.parts {
+        PartsDecl::ListFile(path) => add(text, "=@", path)?,
         PartsDecl::Paths(paths) => {
-            let mut first = true;
-            for path in paths.as_slice() {
-                if !first {
-                    text.push('+')?;
-                }
-                first = false;
-                add(text, path.as_slice())?;
+            for (i, path) in paths.as_slice().iter().enumerate() {
+                add(text, if i > 0 { "+" } else { "=" }, path)?;
             }
         }
     }
-    Ok(())
-}
-
-fn add_columns(text: &mut String, columns: &List<ColumnDecl>) -> Result<(), Fail> {
-    let mut first = true;
-    for column in columns.as_slice() {
-        if !first {
-            text.push(',')?;
-        }
-        first = false;
-        add(text, column.name.as_slice())?;
+    for (i, column) in table.schema.columns.as_slice().iter().enumerate() {
+        add(text, if i > 0 { "," } else { ":" }, &column.name)?;
         text.push_str(match column.kind {
             ColumnType::Int64 => " Int64",
             ColumnType::UInt64 => " UInt64",
@@ -191,32 +174,17 @@ fn add_columns(text: &mut String, columns: &List<ColumnDecl>) -> Result<(), Fail
     Ok(())
 }
 
-// Adds the tables as they are declared.
-fn add_tables(text: &mut String, tables: &List<TableDecl>) -> Result<(), Fail> {
-    let mut first = true;
-    for table in tables.as_slice() {
-        if !first {
-            text.push(';')?;
-        }
-        first = false;
-        add(text, table.schema.name.as_slice())?;
-        text.push('=')?;
-        add_parts(text, &table.parts)?;
-        text.push(':')?;
-        add_columns(text, &table.schema.columns)?;
-    }
-    Ok(())
-}
-
 fn shown_command(alloc: Global, command: &Command) -> Result<String, Fail> {
     let mut text = String::new(alloc);
-    add(&mut text, command.query.as_slice())?;
-    text.push('|')?;
-    add_tables(&mut text, &command.tables)?;
-    let threads = command.threads;
-    let rows = command.chunk_rows;
-    text.push_str(format!(in alloc; "|{threads}|{rows}|")?.as_str())?;
-    text.push_str(if command.header { "header" } else { "" })?;
+    add(&mut text, "", &command.query)?;
+    for (i, table) in command.tables.as_slice().iter().enumerate() {
+        text.push_str(if i > 0 { ";" } else { "|" })?;
+        add_table(&mut text, table)?;
+    }
+    let (threads, rows) = (command.threads, command.chunk_rows);
+    let header = if command.header { "header" } else { "" };
+    let tables = if command.tables.len() == 0 { "|" } else { "" };
+    text.push_str(format!(in alloc; "{tables}|{threads}|{rows}|{header}")?.as_str())?;
     Ok(text)
 }
 

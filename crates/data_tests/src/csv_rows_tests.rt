@@ -2,6 +2,7 @@
 // What a part of a table gives is told by RFC 4180 and that crate's description of its dialect.
 ghost use Rattle.std.specs.Prelude.{◌<◌};
 
+use crate::literals::types_of;
 use chunk_data::{Bytes, ColumnType, List};
 use csv::{ByteRecord, ReaderBuilder};
 use csv_rows::{RowReader, RowsFault, write_rows};
@@ -10,19 +11,6 @@ use query_model::plain::{bad_field, row_spelled, row_text};
 use std::alloc::Global;
 use std::io::Cursor;
 use std::test::Fail;
-
-// The types that the letters stand for.
-fn kinds_of(alloc: Global, letters: &str) -> Result<List<ColumnType>, Fail> {
-    let mut kinds = Vec::new(alloc);
-    for letter in letters.as_bytes() {
-        kinds.push(match *letter {
-            b'i' => ColumnType::Int64,
-            b'u' => ColumnType::UInt64,
-            _ => ColumnType::Text,
-        })?;
-    }
-    Ok(List::from_vec(kinds))
-}
 
 // Adds a line that tells the place.
 fn tell_place(out: &mut Vec<u8>, place: BadPlace) -> Result<(), Fail> {
@@ -123,7 +111,7 @@ fn rows_of(
     most: usize,
     letters: &str,
 ) -> Result<Vec<u8>, Fail> {
-    let kinds = kinds_of(alloc, letters)?;
+    let kinds = types_of(alloc, letters)?;
     let read = read_rows(alloc, bytes, header, most, &kinds)?;
     let plain = plain_rows(alloc, bytes, header, kinds.as_slice())?;
     if read.as_slice() != plain.as_slice() {
@@ -298,7 +286,7 @@ fn draw_field(bytes: &mut Vec<u8>, seed: &mut u64, kind: ColumnType) -> Result<(
 // A part of a few records with the types' fields, most of the time, or of pieces alone.
 fn draw_part(alloc: Global, seed: &mut u64, letters: &str) -> Result<Vec<u8>, Fail> {
     let mut bytes = Vec::new(alloc);
-    let kinds = kinds_of(alloc, letters)?;
+    let kinds = types_of(alloc, letters)?;
     if draw(seed, 8) == 0 {
         bytes.extend_from_slice("\u{feff}".as_bytes())?;
     }

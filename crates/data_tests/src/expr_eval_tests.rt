@@ -1,268 +1,168 @@
-ghost use Rattle.std.specs.Prelude.{◌≡◌, length, IfOk};
-ghost use Rattle.chunk_data.specs.Columns.{values};
-
-use chunk_data::{Bytes, Chunk, Column, List, Texts};
+// Items and conditions over a row of an Int64, an UInt64 and a Text.
+use crate::literals::{analysed, chunk_of};
+use chunk_data::Chunk;
 use expr_eval::{eval, is_typed, is_typed_cond, mask};
-use query_model::checked::{Cond, Expr};
-use query_model::query::{ArithOp, CompareOp, CondOf, ExprOf, Number, Operand};
+use query_model::checked::{Checked, Expr, Shape};
+use query_model::query::{ArithOp, ExprOf, Number};
 use std::alloc::Global;
 use std::test::Fail;
 
-// What stands in an expression of the tests: the Int64 column, the UInt64 column, the Text column,
-// or a number.
-#[derive(Clone, Copy)]
-enum Leaf {
-    Int,
-    UInt,
-    Text,
-    Plus(u64),
-    Minus(u64),
-}
-
-fn operand(leaf: Leaf) -> Expr {
-    match leaf {
-        Leaf::Int => ExprOf::Column(0),
-        Leaf::UInt => ExprOf::Column(1),
-        Leaf::Text => ExprOf::Column(2),
-        Leaf::Plus(size) => ExprOf::Number(Number {
-            negative: false,
-            size,
-        }),
-        Leaf::Minus(size) => ExprOf::Number(Number {
-            negative: true,
-            size,
-        }),
+fn checked(alloc: Global, query: &str) -> Result<Checked, Fail> {
+    match analysed(alloc, "t ia ub tc", query)? {
+        Ok(checked) => Ok(checked),
+        Err(_) => Err("the query is refused".into()),
     }
 }
 
-fn arith(alloc: Global, op: ArithOp, left: Leaf, right: Leaf) -> Result<Expr, Fail> {
-    let left = Box::new(alloc, operand(left))?;
-    let right = Box::new(alloc, operand(right))?;
-    Ok(ExprOf::Arith(op, left, right))
-}
-
-fn compare(op: CompareOp, left: Leaf, right: Leaf) -> Cond {
-    CondOf::Compare(
-        op,
-        Operand::Plain(operand(left)),
-        Operand::Plain(operand(right)),
-    )
-}
-
-// A Text column of one text.
-fn text_column(alloc: Global, text: &str) -> Result<Column, Fail>
-    ensures { IfOk result (λ c. length (values c) ≡ 1) }
-{
-    let mut texts = Texts::new(alloc);
-    texts.push(text.as_bytes())?;
-    Ok(Column::of_texts(texts))
-}
-
-// A chunk of one row.
-fn row(alloc: Global, int: i64, uint: u64, text: &str) -> Result<Chunk, Fail> {
-    let texts = text_column(alloc, text)?;
-    let ints = Column::of_ints(Vec::from_slice(alloc, &[int])?);
-    let uints = Column::of_uints(Vec::from_slice(alloc, &[uint])?);
-    let columns = List::from_vec(vec![in alloc; ints, uints, texts]?);
-    let chunk = Chunk::of_columns(alloc, columns, 1)?;
-    Ok(chunk)
-}
-
-// The column of an item's values, printed; empty where it is no item.
-fn printed(alloc: Global, expr: &Expr, chunk: &Chunk) -> Result<String, Fail> {
-    if !is_typed(expr, chunk.types().as_slice()) {
-        return Ok(String::new(alloc));
-    }
+// The column of an expression's values, printed.
+fn printed_values(alloc: Global, expr: &Expr, chunk: &Chunk) -> Result<String, Fail> {
     match expr {
-        ExprOf::Number(_) => return Ok(String::new(alloc)),
-        _ => {}
+        ExprOf::Number(_) => Err("this is no item".into()),
+        expr if is_typed(expr, chunk.types().as_slice()) => {
+            let column = eval(alloc, expr, chunk)?;
+            Ok(format!(in alloc; "{column:?}")?)
+        }
+        _ => Err("this is no item".into()),
     }
-    let column = eval(alloc, expr, chunk)?;
-    Ok(format!(in alloc; "{column:?}")?)
 }
 
-// The truth at the first row; none where the condition is not typed.
-fn truth(alloc: Global, cond: &Cond, chunk: &Chunk) -> Result<Option<bool>, Fail> {
-    if !is_typed_cond(cond, chunk.types().as_slice()) {
-        return Ok(None);
+// The first item of a query without groups.
+fn first_item(query: &Checked) -> Option<&Expr> {
+    match &query.shape {
+        Shape::Plain(items) => items.as_slice().first(),
+        _ => None,
     }
-    let truths = mask(alloc, cond, chunk)?;
-    Ok(truths.as_slice().first().copied())
+}
+
+// The column of an item's values, printed.
+fn printed(alloc: Global, item: &str, row: &str) -> Result<String, Fail> {
+    let chunk = chunk_of(alloc, "iut", row)?;
+    let query = checked(alloc, format!(in alloc; "SELECT {item} FROM t")?.as_str())?;
+    match first_item(&query) {
+        Some(expr) => printed_values(alloc, expr, &chunk),
+        None => Err("this is no item".into()),
+    }
+}
+
+// The truth at the row.
+fn truth(alloc: Global, cond: &str, row: &str) -> Result<bool, Fail> {
+    let chunk = chunk_of(alloc, "iut", row)?;
+    let query = checked(
+        alloc,
+        format!(in alloc; "SELECT a FROM t WHERE {cond}")?.as_str(),
+    )?;
+    match &query.filter {
+        Some(cond) if is_typed_cond(cond, chunk.types().as_slice()) => {
+            let truths = mask(alloc, cond, &chunk)?;
+            Ok(truths.as_slice() == [true].as_slice())
+        }
+        _ => Err("this is no condition".into()),
+    }
 }
 
 #[test]
 fn results_are_taken_modulo_2_to_64(rt: HostRuntime) -> Result<(), Fail> {
-    let alloc = rt.alloc();
-    for (int, uint, op, left, right, want) in [
-        (0, 0, ArithOp::Sub, Leaf::UInt, Leaf::Plus(1), "Int64([-1])"),
-        (0, 3, ArithOp::Sub, Leaf::Plus(1), Leaf::UInt, "Int64([-2])"),
+    for (row, item, want) in [
+        ("0,0,", "b - 1", "Int64([-1])"),
+        ("0,3,", "1 - b", "Int64([-2])"),
+        ("0,18446744073709551615,", "b + 1", "UInt64([0])"),
         (
-            0,
-            u64::MAX,
-            ArithOp::Add,
-            Leaf::UInt,
-            Leaf::Plus(1),
-            "UInt64([0])",
-        ),
-        (
-            4_611_686_018_427_387_904,
-            0,
-            ArithOp::Mul,
-            Leaf::Int,
-            Leaf::Plus(2),
+            "4611686018427387904,0,",
+            "a * 2",
             "Int64([-9223372036854775808])",
         ),
-        (-1, 0, ArithOp::Sub, Leaf::Plus(5), Leaf::Int, "Int64([6])"),
-        (-3, 0, ArithOp::Mul, Leaf::Int, Leaf::Int, "Int64([9])"),
-        (0, 5, ArithOp::Mul, Leaf::UInt, Leaf::UInt, "UInt64([25])"),
-        (0, 5, ArithOp::Sub, Leaf::UInt, Leaf::UInt, "Int64([0])"),
+        ("-1,0,", "5 - a", "Int64([6])"),
+        ("-3,0,", "a * a", "Int64([9])"),
+        ("0,5,", "b * b", "UInt64([25])"),
+        ("0,5,", "b - b", "Int64([0])"),
     ] {
-        let chunk = row(alloc, int, uint, "")?;
-        let expr = arith(alloc, op, left, right)?;
-        assert_eq!(rt; printed(alloc, &expr, &chunk)?.as_str(), want);
+        assert_eq!(rt; printed(rt.alloc(), item, row)?.as_str(), want, "{item}");
     }
     Ok(())
 }
 
 #[test]
 fn numbers_are_compared_by_their_exact_values(rt: HostRuntime) -> Result<(), Fail> {
-    let alloc = rt.alloc();
-    let least = 9_223_372_036_854_775_808;
-    for (int, uint, op, left, right, want) in [
-        (-1, 0, CompareOp::Lt, Leaf::Int, Leaf::UInt, Some(true)),
-        (
-            i64::MAX,
-            least,
-            CompareOp::Lt,
-            Leaf::Int,
-            Leaf::UInt,
-            Some(true),
-        ),
-        (
-            i64::MAX,
-            least,
-            CompareOp::Le,
-            Leaf::UInt,
-            Leaf::Int,
-            Some(false),
-        ),
-        (7, 7, CompareOp::Eq, Leaf::UInt, Leaf::Int, Some(true)),
-        (
-            -1,
-            0,
-            CompareOp::Lt,
-            Leaf::Int,
-            Leaf::Plus(u64::MAX),
-            Some(true),
-        ),
-        (
-            i64::MIN,
-            0,
-            CompareOp::Gt,
-            Leaf::Int,
-            Leaf::Minus(least + 1),
-            Some(true),
-        ),
-        (
-            i64::MIN,
-            0,
-            CompareOp::Ge,
-            Leaf::Int,
-            Leaf::Minus(least),
-            Some(true),
-        ),
-        (0, 5, CompareOp::Gt, Leaf::UInt, Leaf::Minus(1), Some(true)),
-        (0, 5, CompareOp::Le, Leaf::Plus(5), Leaf::UInt, Some(true)),
-        (
-            0,
-            0,
-            CompareOp::Ne,
-            Leaf::Minus(0),
-            Leaf::Plus(0),
-            Some(false),
-        ),
-        (0, 0, CompareOp::Eq, Leaf::Text, Leaf::Plus(0), None),
+    for (row, cond, want) in [
+        ("-1,0,", "a < b", true),
+        ("9223372036854775807,9223372036854775808,", "a < b", true),
+        ("9223372036854775807,9223372036854775808,", "b <= a", false),
+        ("7,7,", "b = a", true),
+        ("-1,0,", "a < 18446744073709551615", true),
+        ("-9223372036854775808,0,", "a > -9223372036854775809", true),
+        ("-9223372036854775808,0,", "a >= -9223372036854775808", true),
+        ("0,5,", "b > -1", true),
+        ("0,5,", "5 <= b", true),
+        ("0,0,", "-0 != 0", false),
     ] {
-        let chunk = row(alloc, int, uint, "")?;
-        assert_eq!(rt; truth(alloc, &compare(op, left, right), &chunk)?, want);
+        assert_eq!(rt; truth(rt.alloc(), cond, row)?, want, "{cond}");
     }
     Ok(())
 }
 
 #[test]
 fn texts_are_compared_by_bytes(rt: HostRuntime) -> Result<(), Fail> {
-    let alloc = rt.alloc();
-    for (text, op, other, want) in [
-        ("ab", CompareOp::Lt, "b", true),
-        ("ab", CompareOp::Lt, "abc", true),
-        ("ab", CompareOp::Eq, "ab", true),
-        ("b", CompareOp::Le, "abc", false),
-        ("", CompareOp::Ne, "a", true),
+    for (row, cond, want) in [
+        ("0,0,ab", "c < 'b'", true),
+        ("0,0,ab", "c < 'abc'", true),
+        ("0,0,ab", "c = 'ab'", true),
+        ("0,0,b", "c <= 'abc'", false),
+        ("0,0,", "c != 'a'", true),
     ] {
-        let chunk = row(alloc, 0, 0, text)?;
-        let right = Operand::Text(Bytes::from_slice(alloc, other.as_bytes())?);
-        let cond = CondOf::Compare(op, Operand::Plain(operand(Leaf::Text)), right);
-        assert_eq!(rt; truth(alloc, &cond, &chunk)?, Some(want));
+        assert_eq!(rt; truth(rt.alloc(), cond, row)?, want, "{cond}");
     }
     Ok(())
-}
-
-// Whether the column has 1.
-fn is_one(alloc: Global, leaf: Leaf) -> Result<Box<Cond>, Fail> {
-    let cond = Box::new(alloc, compare(CompareOp::Eq, leaf, Leaf::Plus(1)))?;
-    Ok(cond)
-}
-
-fn both(alloc: Global) -> Result<Cond, Fail> {
-    let left = is_one(alloc, Leaf::Int)?;
-    let right = is_one(alloc, Leaf::UInt)?;
-    Ok(CondOf::And(left, right))
-}
-
-fn either(alloc: Global) -> Result<Cond, Fail> {
-    let left = is_one(alloc, Leaf::Int)?;
-    let right = is_one(alloc, Leaf::UInt)?;
-    Ok(CondOf::Or(left, right))
-}
-
-fn neither(alloc: Global) -> Result<Cond, Fail> {
-    let inner = Box::new(alloc, either(alloc)?)?;
-    Ok(CondOf::Not(inner))
 }
 
 #[test]
 fn conditions_are_combined(rt: HostRuntime) -> Result<(), Fail> {
     let alloc = rt.alloc();
-    for (int, uint, all, any) in [
-        (1, 1, true, true),
-        (1, 0, false, true),
-        (0, 1, false, true),
-        (0, 0, false, false),
+    for (row, all, any) in [
+        ("1,1,", true, true),
+        ("1,0,", false, true),
+        ("0,1,", false, true),
+        ("0,0,", false, false),
     ] {
-        let chunk = row(alloc, int, uint, "")?;
-        assert_eq!(rt; truth(alloc, &both(alloc)?, &chunk)?, Some(all));
-        assert_eq!(rt; truth(alloc, &either(alloc)?, &chunk)?, Some(any));
-        assert_eq!(rt; truth(alloc, &neither(alloc)?, &chunk)?, Some(!any));
+        assert_eq!(rt; truth(alloc, "a = 1 AND b = 1", row)?, all);
+        assert_eq!(rt; truth(alloc, "a = 1 OR b = 1", row)?, any);
+        assert_eq!(rt; truth(alloc, "NOT (a = 1 OR b = 1)", row)?, !any);
     }
     Ok(())
+}
+
+fn number(negative: bool, size: u64) -> Expr {
+    ExprOf::Number(Number { negative, size })
 }
 
 #[test]
 fn operands_of_arithmetic_have_one_type(rt: HostRuntime) -> Result<(), Fail> {
     let alloc = rt.alloc();
-    let chunk = row(alloc, 0, 0, "")?;
+    let chunk = chunk_of(alloc, "iut", "0,0,")?;
     for (left, right, want) in [
-        (Leaf::Int, Leaf::UInt, false),
-        (Leaf::Plus(1), Leaf::Plus(2), false),
-        (Leaf::Text, Leaf::Plus(1), false),
-        (Leaf::UInt, Leaf::Minus(1), false),
-        (Leaf::UInt, Leaf::Minus(0), true),
-        (Leaf::Int, Leaf::Plus(9_223_372_036_854_775_808), false),
-        (Leaf::Int, Leaf::Plus(9_223_372_036_854_775_807), true),
-        (Leaf::Int, Leaf::Minus(9_223_372_036_854_775_808), true),
-        (Leaf::Plus(u64::MAX), Leaf::UInt, true),
+        (ExprOf::Column(0), ExprOf::Column(1), false),
+        (number(false, 1), number(false, 2), false),
+        (ExprOf::Column(2), number(false, 1), false),
+        (ExprOf::Column(1), number(true, 1), false),
+        (ExprOf::Column(1), number(true, 0), true),
+        (
+            ExprOf::Column(0),
+            number(false, 9_223_372_036_854_775_808),
+            false,
+        ),
+        (
+            ExprOf::Column(0),
+            number(false, 9_223_372_036_854_775_807),
+            true,
+        ),
+        (
+            ExprOf::Column(0),
+            number(true, 9_223_372_036_854_775_808),
+            true,
+        ),
+        (number(false, u64::MAX), ExprOf::Column(1), true),
     ] {
-        let expr = arith(alloc, ArithOp::Add, left, right)?;
+        let (left, right) = (Box::new(alloc, left)?, Box::new(alloc, right)?);
+        let expr = ExprOf::Arith(ArithOp::Add, left, right);
         assert_eq!(rt; is_typed(&expr, chunk.types().as_slice()), want);
     }
     Ok(())

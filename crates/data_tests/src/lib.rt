@@ -1,8 +1,8 @@
 //! Tests of what reads, checks and computes, a module for each crate that they test.
 //!
-//! They show what no contract says: worked values from outside, that each public call succeeds where
-//! memory is ample, and files that fail in mid-stream. A crate with tests is proved twice, so that they
-//! stand together, above the crates that they test.
+//! They show what no contract says: worked values from outside, that each public call succeeds
+//! where memory is ample, and files that fail in mid-stream. A crate with tests is proved twice, so
+//! that they stand together, above the crates that they test.
 #![tactic(auto)]
 
 #[cfg(test)]
@@ -16,6 +16,8 @@ mod csv_rows_tests;
 #[cfg(test)]
 mod expr_eval_tests;
 #[cfg(test)]
+mod literals;
+#[cfg(test)]
 mod outside_io_tests;
 #[cfg(test)]
 mod query_model_tests;
@@ -25,10 +27,3 @@ mod select_planner_tests;
 mod sql_grammar_tests;
 #[cfg(test)]
 mod sql_text_tests;
-
-/// The two halves of a case, between which a `~` stands.
-#[cfg(test)]
-fn halves(case: &str) -> (&str, &str) {
-    let mut halves = case.split('~');
-    (halves.next().unwrap_or(""), halves.next().unwrap_or(""))
-}

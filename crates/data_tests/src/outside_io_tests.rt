@@ -1,5 +1,6 @@
 ghost use Rattle.std.specs.Prelude.{IsSome};
 
+use crate::literals::bytes as text;
 use chunk_data::{Bytes, List};
 use outside_io::{
     Fake, FakeKind, FileEntry, FileReader, Got, MemFiles, MemSink, RealFiles, RealSink, Sink,
@@ -52,24 +53,14 @@ fn letters_of<F: FileReader>(
     Ok(letters)
 }
 
-fn text(alloc: Global, s: &str) -> Result<Bytes, Fail> {
-    Ok(Bytes::from_slice(alloc, s.as_bytes())?)
-}
-
 fn files(alloc: Global) -> Result<List<FileEntry>, Fail> {
     let mut files = Vec::new(alloc);
-    files.push(FileEntry {
-        path: text(alloc, "empty")?,
-        bytes: text(alloc, "")?,
-    })?;
-    files.push(FileEntry {
-        path: text(alloc, "six")?,
-        bytes: text(alloc, "abcdef")?,
-    })?;
-    files.push(FileEntry {
-        path: text(alloc, "six")?,
-        bytes: text(alloc, "hidden")?,
-    })?;
+    for (path, content) in [("empty", ""), ("six", "abcdef"), ("six", "hidden")] {
+        files.push(FileEntry {
+            path: text(alloc, path)?,
+            bytes: text(alloc, content)?,
+        })?;
+    }
     Ok(List::from_vec(files))
 }
 

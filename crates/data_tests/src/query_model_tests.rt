@@ -1,3 +1,4 @@
+use crate::literals::bytes;
 use chunk_data::{Bytes, ColumnType};
 use query_model::arithmetic::{add_int, add_uint, mul_int, mul_uint, sub_int, sub_uint};
 use query_model::numerals::{spelled_int, spelled_uint};
@@ -52,7 +53,7 @@ fn results_are_taken_modulo_2_to_64(rt: HostRuntime) {
 fn fields(alloc: Global, texts: [&str; 3]) -> Result<Vec<Bytes>, Fail> {
     let mut fields = Vec::new(alloc);
     for text in texts {
-        fields.push(Bytes::from_slice(alloc, text.as_bytes())?)?;
+        fields.push(bytes(alloc, text)?)?;
     }
     Ok(fields)
 }

@@ -1,5 +1,4 @@
-ghost use Rattle.std.specs.Prelude.{◌≡◌, ◌≤◌, [], IfOk};
-ghost use Rattle.select_planner.specs.Steps.{IsPlannable};
+ghost use Rattle.std.specs.Prelude.{◌≤◌};
 
 use chunk_data::{List, SortKey};
 use query_model::checked::{Checked, CheckedJoin, KeyPair, Shape, TableUse};
@@ -12,9 +11,7 @@ use std::test::Fail;
 
 // SELECT number FROM numbers(3) WHERE number < 2 LIMIT 1, also ordered by number DESC, or joined
 // with numbers(2).
-fn numbers_query(alloc: Global, ordered: bool, joined: bool) -> Result<Checked, Fail>
-    ensures { IfOk result (λ q. IsPlannable q []) }
-{
+fn numbers_query(alloc: Global, ordered: bool, joined: bool) -> Result<Checked, Fail> {
     let mut items = Vec::new(alloc);
     items.push(ExprOf::Column(0))?;
     let two = Number {
@@ -48,8 +45,8 @@ fn numbers_query(alloc: Global, ordered: bool, joined: bool) -> Result<Checked, 
     })
 }
 
-// The plan of so many lanes has so many nodes and edges, and a filter, an expression and, where it is
-// ordered, a sort in each lane.
+// The plan of so many lanes has so many nodes and edges, and a filter, an expression and, where it
+// is ordered, a sort in each lane.
 fn has_plan(
     rt: &impl Abort,
     alloc: Global,

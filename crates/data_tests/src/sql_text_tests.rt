@@ -1,255 +1,163 @@
 // Texts of queries, and what they are read as.
-use crate::halves;
-use chunk_data::Bytes;
+use crate::literals::{halves, repeated, utf8};
 use query_model::query::{
-    AggCall, AggOp, ArithOp, ColumnRef, CompareOp, CondOf, ExprOf, Item, ItemKind, Items, Join,
-    Number, Operand, OrderKey, Query, Span, TableRef,
+    AggCall, ColumnRef, CondOf, ExprOf, Item, ItemKind, Items, Number, Operand, Query, Span,
+    TableRef,
 };
 use sql_text::{ParseRefusal, parse};
-use std::alloc::{AllocError, Global};
+use std::alloc::Global;
 use std::test::Fail;
 
-fn write_column(out: &mut Vec<u8>, column: &ColumnRef) -> Result<(), AllocError> {
-    if let Some(table) = &column.table {
-        out.extend_from_slice(table.as_slice())?;
-        out.extend_from_slice(b".")?;
-    }
-    out.extend_from_slice(column.name.as_slice())
-}
-
-fn write_number(alloc: Global, out: &mut Vec<u8>, number: Number) -> Result<(), AllocError> {
-    if number.negative {
-        out.extend_from_slice(b"-")?;
-    }
-    let size = number.size;
-    let digits = format!(in alloc; "{size}")?;
-    out.extend_from_slice(digits.as_bytes())
-}
-
-fn arith_sign(op: ArithOp) -> &'static [u8] {
-    match op {
-        ArithOp::Add => b" + ",
-        ArithOp::Sub => b" - ",
-        ArithOp::Mul => b" * ",
+fn column_text(alloc: Global, column: &ColumnRef) -> Result<String, Fail> {
+    let name = utf8(&column.name);
+    match &column.table {
+        Some(table) => Ok(format!(in alloc; "{}.{name}", utf8(table))?),
+        None => Ok(String::from_str(alloc, name)?),
     }
 }
 
 // A column, a number, or arithmetic in parentheses.
-fn write_expr(
-    alloc: Global,
-    out: &mut Vec<u8>,
-    expr: &ExprOf<ColumnRef>,
-) -> Result<(), AllocError> {
+fn expr_text(alloc: Global, expr: &ExprOf<ColumnRef>) -> Result<String, Fail> {
     match expr {
-        ExprOf::Column(column) => write_column(out, column),
-        ExprOf::Number(number) => write_number(alloc, out, *number),
+        ExprOf::Column(column) => column_text(alloc, column),
+        ExprOf::Number(Number { negative, size }) => {
+            let sign = if *negative { "-" } else { "" };
+            Ok(format!(in alloc; "{sign}{size}")?)
+        }
         ExprOf::Arith(op, left, right) => {
-            out.extend_from_slice(b"(")?;
-            write_expr(alloc, out, left)?;
-            out.extend_from_slice(arith_sign(*op))?;
-            write_expr(alloc, out, right)?;
-            out.extend_from_slice(b")")
+            let left = expr_text(alloc, left)?;
+            let right = expr_text(alloc, right)?;
+            Ok(format!(in alloc; "({left} {op:?} {right})")?)
         }
     }
 }
 
-fn aggregate_name(op: AggOp) -> &'static [u8] {
-    match op {
-        AggOp::Count => b"count",
-        AggOp::Sum => b"sum",
-        AggOp::Min => b"min",
-        AggOp::Max => b"max",
-    }
+fn call_text(alloc: Global, call: &AggCall<ColumnRef>) -> Result<String, Fail> {
+    let argument = match &call.arg {
+        Some(expr) => expr_text(alloc, expr)?,
+        None => String::new(alloc),
+    };
+    Ok(format!(in alloc; "{:?}({argument})", call.op)?)
 }
 
-fn write_call(
-    alloc: Global,
-    out: &mut Vec<u8>,
-    call: &AggCall<ColumnRef>,
-) -> Result<(), AllocError> {
-    out.extend_from_slice(aggregate_name(call.op))?;
-    out.extend_from_slice(b"(")?;
-    if let Some(e) = &call.arg {
-        write_expr(alloc, out, e)?;
-    }
-    out.extend_from_slice(b")")
-}
-
-fn write_text(out: &mut Vec<u8>, text: &Bytes) -> Result<(), AllocError> {
-    out.extend_from_slice(b"<")?;
-    out.extend_from_slice(text.as_slice())?;
-    out.extend_from_slice(b">")
-}
-
-fn write_operand(
-    alloc: Global,
-    out: &mut Vec<u8>,
-    operand: &Operand<ColumnRef>,
-) -> Result<(), AllocError> {
+fn operand_text(alloc: Global, operand: &Operand<ColumnRef>) -> Result<String, Fail> {
     match operand {
-        Operand::Plain(expr) => write_expr(alloc, out, expr),
-        Operand::Text(text) => write_text(out, text),
-        Operand::Agg(call) => write_call(alloc, out, call),
+        Operand::Plain(expr) => expr_text(alloc, expr),
+        Operand::Text(text) => Ok(format!(in alloc; "<{}>", utf8(text))?),
+        Operand::Agg(call) => call_text(alloc, call),
     }
 }
 
-fn compare_sign(op: CompareOp) -> &'static [u8] {
-    match op {
-        CompareOp::Eq => b" = ",
-        CompareOp::Ne => b" != ",
-        CompareOp::Lt => b" < ",
-        CompareOp::Le => b" <= ",
-        CompareOp::Gt => b" > ",
-        CompareOp::Ge => b" >= ",
-    }
+fn both(alloc: Global, left: String, word: &str, right: String) -> Result<String, Fail> {
+    Ok(format!(in alloc; "{{{left} {word} {right}}}")?)
 }
 
 // Comparisons stand in brackets, AND and OR in braces.
-fn write_condition(
-    alloc: Global,
-    out: &mut Vec<u8>,
-    condition: &CondOf<ColumnRef>,
-) -> Result<(), AllocError> {
+fn condition_text(alloc: Global, condition: &CondOf<ColumnRef>) -> Result<String, Fail> {
     match condition {
         CondOf::Compare(op, left, right) => {
-            out.extend_from_slice(b"[")?;
-            write_operand(alloc, out, left)?;
-            out.extend_from_slice(compare_sign(*op))?;
-            write_operand(alloc, out, right)?;
-            out.extend_from_slice(b"]")
+            let left = operand_text(alloc, left)?;
+            let right = operand_text(alloc, right)?;
+            Ok(format!(in alloc; "[{left} {op:?} {right}]")?)
         }
         CondOf::And(left, right) => {
-            out.extend_from_slice(b"{")?;
-            write_condition(alloc, out, left)?;
-            out.extend_from_slice(b" AND ")?;
-            write_condition(alloc, out, right)?;
-            out.extend_from_slice(b"}")
+            let left = condition_text(alloc, left)?;
+            both(alloc, left, "AND", condition_text(alloc, right)?)
         }
         CondOf::Or(left, right) => {
-            out.extend_from_slice(b"{")?;
-            write_condition(alloc, out, left)?;
-            out.extend_from_slice(b" OR ")?;
-            write_condition(alloc, out, right)?;
-            out.extend_from_slice(b"}")
+            let left = condition_text(alloc, left)?;
+            both(alloc, left, "OR", condition_text(alloc, right)?)
         }
         CondOf::Not(inner) => {
-            out.extend_from_slice(b"NOT ")?;
-            write_condition(alloc, out, inner)
+            let inner = condition_text(alloc, inner)?;
+            Ok(format!(in alloc; "NOT {inner}")?)
         }
     }
 }
 
-fn write_item(alloc: Global, out: &mut Vec<u8>, item: &Item) -> Result<(), AllocError> {
-    match &item.what {
-        ItemKind::Plain(expr) => write_expr(alloc, out, expr)?,
-        ItemKind::Agg(call) => write_call(alloc, out, call)?,
-    }
-    if let Some(alias) = &item.alias {
-        out.extend_from_slice(b" AS ")?;
-        out.extend_from_slice(alias.as_slice())?;
-    }
-    Ok(())
-}
-
-fn write_items(alloc: Global, out: &mut Vec<u8>, items: &[Item]) -> Result<(), AllocError> {
+fn write_items(alloc: Global, out: &mut String, items: &[Item]) -> Result<(), Fail> {
     for (i, item) in items.iter().enumerate() {
-        if i > 0 {
-            out.extend_from_slice(b", ")?;
+        out.push_str(if i > 0 { ", " } else { "" })?;
+        let text = match &item.what {
+            ItemKind::Plain(expr) => expr_text(alloc, expr)?,
+            ItemKind::Agg(call) => call_text(alloc, call)?,
+        };
+        out.push_str(text.as_str())?;
+        if let Some(alias) = &item.alias {
+            out.push_str(" AS ")?;
+            out.push_str(utf8(alias))?;
         }
-        write_item(alloc, out, item)?;
     }
     Ok(())
 }
 
-fn write_table(alloc: Global, out: &mut Vec<u8>, table: &TableRef) -> Result<(), AllocError> {
+fn table_text(alloc: Global, table: &TableRef) -> Result<String, Fail> {
     match table {
-        TableRef::Named(name) => out.extend_from_slice(name.as_slice()),
-        TableRef::Numbers(count) => {
-            let name = format!(in alloc; "numbers {count}")?;
-            out.extend_from_slice(name.as_bytes())
-        }
+        TableRef::Named(name) => Ok(String::from_str(alloc, utf8(name))?),
+        TableRef::Numbers(count) => Ok(format!(in alloc; "numbers {count}")?),
     }
 }
 
-fn write_join(alloc: Global, out: &mut Vec<u8>, join: &Join) -> Result<(), AllocError> {
-    out.extend_from_slice(b" with ")?;
-    write_table(alloc, out, &join.table)?;
-    for pair in join.pairs.as_slice() {
-        out.extend_from_slice(b" on ")?;
-        write_column(out, &pair.left)?;
-        out.extend_from_slice(b" = ")?;
-        write_column(out, &pair.right)?;
-    }
-    Ok(())
+// A word, and what stands behind it.
+fn write(out: &mut String, word: &str, behind: String) -> Result<(), Fail> {
+    out.push_str(word)?;
+    Ok(out.push_str(behind.as_str())?)
 }
 
-fn write_order(out: &mut Vec<u8>, order: &[OrderKey]) -> Result<(), AllocError> {
-    for key in order {
-        out.extend_from_slice(b" by ")?;
-        out.extend_from_slice(key.name.as_slice())?;
-        if key.descending {
-            out.extend_from_slice(b" down")?;
+fn write_tables(alloc: Global, out: &mut String, query: &Query) -> Result<(), Fail> {
+    write(out, " of ", table_text(alloc, &query.from)?)?;
+    if let Some(join) = &query.join {
+        write(out, " with ", table_text(alloc, &join.table)?)?;
+        for pair in join.pairs.as_slice() {
+            write(out, " on ", column_text(alloc, &pair.left)?)?;
+            write(out, " = ", column_text(alloc, &pair.right)?)?;
         }
     }
     Ok(())
 }
 
-fn write_limit(alloc: Global, out: &mut Vec<u8>, limit: Option<Span>) -> Result<(), AllocError> {
-    if let Some(Span { count, skip }) = limit {
-        let span = format!(in alloc; " first {count} behind {skip}")?;
-        out.extend_from_slice(span.as_bytes())?;
+fn write_clauses(alloc: Global, out: &mut String, query: &Query) -> Result<(), Fail> {
+    if let Some(filter) = &query.filter {
+        write(out, " where ", condition_text(alloc, filter)?)?;
     }
-    Ok(())
-}
-
-fn write_groups(alloc: Global, out: &mut Vec<u8>, query: &Query) -> Result<(), AllocError> {
     for key in query.keys.as_slice() {
-        out.extend_from_slice(b" each ")?;
-        write_column(out, key)?;
+        write(out, " each ", column_text(alloc, key)?)?;
     }
     if let Some(having) = &query.having {
-        out.extend_from_slice(b" having ")?;
-        write_condition(alloc, out, having)?;
+        write(out, " having ", condition_text(alloc, having)?)?;
     }
     Ok(())
 }
 
-fn write_query(alloc: Global, out: &mut Vec<u8>, query: &Query) -> Result<(), AllocError> {
+fn write_order(alloc: Global, out: &mut String, query: &Query) -> Result<(), Fail> {
+    for key in query.order.as_slice() {
+        out.push_str(" by ")?;
+        out.push_str(utf8(&key.name))?;
+        out.push_str(if key.descending { " down" } else { "" })?;
+    }
+    if let Some(Span { count, skip }) = query.limit {
+        out.push_str(format!(in alloc; " first {count} behind {skip}")?.as_str())?;
+    }
+    Ok(())
+}
+
+fn query_text(alloc: Global, query: &Query) -> Result<String, Fail> {
+    let mut out = String::new(alloc);
     match &query.items {
-        Items::Star => out.extend_from_slice(b"*")?,
-        Items::Listed(items) => write_items(alloc, out, items.as_slice())?,
+        Items::Star => out.push('*')?,
+        Items::Listed(items) => write_items(alloc, &mut out, items.as_slice())?,
     }
-    out.extend_from_slice(b" of ")?;
-    write_table(alloc, out, &query.from)?;
-    if let Some(join) = &query.join {
-        write_join(alloc, out, join)?;
-    }
-    if let Some(filter) = &query.filter {
-        out.extend_from_slice(b" where ")?;
-        write_condition(alloc, out, filter)?;
-    }
-    write_groups(alloc, out, query)?;
-    write_order(out, query.order.as_slice())?;
-    write_limit(alloc, out, query.limit)
-}
-
-fn refusal_name(refusal: ParseRefusal) -> &'static [u8] {
-    match refusal {
-        ParseRefusal::TooLong => b"TooLong",
-        ParseRefusal::Syntax => b"Syntax",
-        ParseRefusal::NumberTooLarge => b"NumberTooLarge",
-        ParseRefusal::TooComplex => b"TooComplex",
-        ParseRefusal::Memory => b"Memory",
-    }
-}
-
-fn answer_of(alloc: Global, text: &[u8]) -> Result<Vec<u8>, AllocError> {
-    let mut out = Vec::new(alloc);
-    match parse(alloc, text) {
-        Ok(query) => write_query(alloc, &mut out, &query)?,
-        Err(refusal) => out.extend_from_slice(refusal_name(refusal))?,
-    }
+    write_tables(alloc, &mut out, query)?;
+    write_clauses(alloc, &mut out, query)?;
+    write_order(alloc, &mut out, query)?;
     Ok(out)
+}
+
+fn answer_of(alloc: Global, text: &str) -> Result<String, Fail> {
+    match parse(alloc, text.as_bytes()) {
+        Ok(query) => query_text(alloc, &query),
+        Err(refusal) => Ok(format!(in alloc; "{refusal:?}")?),
+    }
 }
 
 static ITEMS: [&str; 34] = [
@@ -265,14 +173,14 @@ static ITEMS: [&str; 34] = [
     "SELECT t.a, b FROM t~t.a, b of t",
     "SELECT a.b.c FROM t~Syntax",
     "SELECT a. FROM t~Syntax",
-    "SELECT a - b - c FROM t~((a - b) - c) of t",
-    "SELECT a - (b - c) FROM t~(a - (b - c)) of t",
-    "SELECT a + b * c FROM t~(a + (b * c)) of t",
-    "SELECT a * b + c FROM t~((a * b) + c) of t",
-    "SELECT a * b * c FROM t~((a * b) * c) of t",
-    "SELECT (a + b) * c FROM t~((a + b) * c) of t",
-    "SELECT a+-1 FROM t~(a + -1) of t",
-    "SELECT a - - 1 FROM t~(a - -1) of t",
+    "SELECT a - b - c FROM t~((a Sub b) Sub c) of t",
+    "SELECT a - (b - c) FROM t~(a Sub (b Sub c)) of t",
+    "SELECT a + b * c FROM t~(a Add (b Mul c)) of t",
+    "SELECT a * b + c FROM t~((a Mul b) Add c) of t",
+    "SELECT a * b * c FROM t~((a Mul b) Mul c) of t",
+    "SELECT (a + b) * c FROM t~((a Add b) Mul c) of t",
+    "SELECT a+-1 FROM t~(a Add -1) of t",
+    "SELECT a - - 1 FROM t~(a Sub -1) of t",
     "SELECT a - -b FROM t~Syntax",
     "SELECT -5, 0, 18446744073709551615 FROM t~-5, 0, 18446744073709551615 of t",
     "SELECT 007 FROM t~7 of t",
@@ -290,40 +198,41 @@ static ITEMS: [&str; 34] = [
 ];
 
 static FILTERS: [&str; 29] = [
-    "SELECT a FROM t WHERE a = 1~a of t where [a = 1]",
-    "SELECT a FROM t WHERE a == 1~a of t where [a = 1]",
-    "SELECT a FROM t WHERE a != 1~a of t where [a != 1]",
-    "SELECT a FROM t WHERE a <> 1~a of t where [a != 1]",
-    "SELECT a FROM t WHERE a<1 OR a<=1~a of t where {[a < 1] OR [a <= 1]}",
-    "SELECT a FROM t WHERE a>1 AND a>=1~a of t where {[a > 1] AND [a >= 1]}",
+    "SELECT a FROM t WHERE a = 1~a of t where [a Eq 1]",
+    "SELECT a FROM t WHERE a == 1~a of t where [a Eq 1]",
+    "SELECT a FROM t WHERE a != 1~a of t where [a Ne 1]",
+    "SELECT a FROM t WHERE a <> 1~a of t where [a Ne 1]",
+    "SELECT a FROM t WHERE a<1 OR a<=1~a of t where {[a Lt 1] OR [a Le 1]}",
+    "SELECT a FROM t WHERE a>1 AND a>=1~a of t where {[a Gt 1] AND [a Ge 1]}",
     "SELECT a FROM t WHERE a = 1 OR b = 2 AND c = 3~\
-     a of t where {[a = 1] OR {[b = 2] AND [c = 3]}}",
+     a of t where {[a Eq 1] OR {[b Eq 2] AND [c Eq 3]}}",
     "SELECT a FROM t WHERE a = 1 AND b = 2 OR c = 3~\
-     a of t where {{[a = 1] AND [b = 2]} OR [c = 3]}",
+     a of t where {{[a Eq 1] AND [b Eq 2]} OR [c Eq 3]}",
     "SELECT a FROM t WHERE (a = 1 OR b = 2) AND c = 3~\
-     a of t where {{[a = 1] OR [b = 2]} AND [c = 3]}",
-    "SELECT a FROM t WHERE a = 1 OR b = 2 OR c = 3~a of t where {{[a = 1] OR [b = 2]} OR [c = 3]}",
-    "SELECT a FROM t WHERE NOT NOT a = 1~a of t where NOT NOT [a = 1]",
-    "SELECT a FROM t WHERE NOT a = 1 AND b = 2~a of t where {NOT [a = 1] AND [b = 2]}",
-    "SELECT a FROM t WHERE NOT (a = 1 AND b = 2)~a of t where NOT {[a = 1] AND [b = 2]}",
-    "SELECT a FROM t WHERE (a) = 1~a of t where [a = 1]",
-    "SELECT a FROM t WHERE (a = 1)~a of t where [a = 1]",
-    "SELECT a FROM t WHERE ((a + 1) * 2 = (b))~a of t where [((a + 1) * 2) = b]",
+     a of t where {{[a Eq 1] OR [b Eq 2]} AND [c Eq 3]}",
+    "SELECT a FROM t WHERE a = 1 OR b = 2 OR c = 3~\
+     a of t where {{[a Eq 1] OR [b Eq 2]} OR [c Eq 3]}",
+    "SELECT a FROM t WHERE NOT NOT a = 1~a of t where NOT NOT [a Eq 1]",
+    "SELECT a FROM t WHERE NOT a = 1 AND b = 2~a of t where {NOT [a Eq 1] AND [b Eq 2]}",
+    "SELECT a FROM t WHERE NOT (a = 1 AND b = 2)~a of t where NOT {[a Eq 1] AND [b Eq 2]}",
+    "SELECT a FROM t WHERE (a) = 1~a of t where [a Eq 1]",
+    "SELECT a FROM t WHERE (a = 1)~a of t where [a Eq 1]",
+    "SELECT a FROM t WHERE ((a + 1) * 2 = (b))~a of t where [((a Add 1) Mul 2) Eq b]",
     "SELECT a FROM t WHERE a~Syntax",
     "SELECT a FROM t WHERE (a = 1) = 1~Syntax",
     "SELECT a FROM t WHERE a = b = c~Syntax",
     "SELECT a FROM t WHERE a + NOT b = c~Syntax",
     "SELECT a FROM t WHERE ('x') = a~Syntax",
-    "SELECT a FROM t WHERE a < 'it''s'~a of t where [a < <it's>]",
-    "SELECT a FROM t WHERE a = 'it\\'s'~a of t where [a = <it's>]",
-    "SELECT a FROM t WHERE '\\\\' = ''~a of t where [<\\> = <>]",
+    "SELECT a FROM t WHERE a < 'it''s'~a of t where [a Lt <it's>]",
+    "SELECT a FROM t WHERE a = 'it\\'s'~a of t where [a Eq <it's>]",
+    "SELECT a FROM t WHERE '\\\\' = ''~a of t where [<\\> Eq <>]",
     "SELECT a FROM t WHERE a = '\\x'~Syntax",
     "SELECT a FROM t WHERE a = 'x~Syntax",
     "SELECT a FROM t WHERE a = '\u{e9}' AND b = 'FROM'~\
-     a of t where {[a = <\u{e9}>] AND [b = <FROM>]}",
+     a of t where {[a Eq <\u{e9}>] AND [b Eq <FROM>]}",
     "SELECT a FROM t WHERE~Syntax",
     "SELECT a FROM t WHERE a = 1 ORDER BY a, b desc LIMIT 3~\
-     a of t where [a = 1] by a by b down first 3 behind 0",
+     a of t where [a Eq 1] by a by b down first 3 behind 0",
 ];
 
 static REFUSED: [&str; 24] = [
@@ -378,10 +287,10 @@ static CLAUSES: [&str; 52] = [
     "SELECT a FROM numbers()~Syntax",
     "SELECT a FROM numbers(-3)~Syntax",
     "SELECT a FROM t(3)~Syntax",
-    "SELECT count() FROM t~count() of t",
-    "SELECT COUNT(*) AS n FROM t~count() AS n of t",
+    "SELECT count() FROM t~Count() of t",
+    "SELECT COUNT(*) AS n FROM t~Count() AS n of t",
     "SELECT count(a) FROM t~Syntax",
-    "SELECT Sum(a + b * 2), mIn(a), max((a)) FROM t~sum((a + (b * 2))), min(a), max(a) of t",
+    "SELECT Sum(a + b * 2), mIn(a), max((a)) FROM t~Sum((a Add (b Mul 2))), Min(a), Max(a) of t",
     "SELECT sum() FROM t~Syntax",
     "SELECT sum(*) FROM t~Syntax",
     "SELECT sum('x') FROM t~Syntax",
@@ -393,15 +302,15 @@ static CLAUSES: [&str; 52] = [
     "SELECT a FROM t GROUP BY t.a, b~a of t each t.a each b",
     "SELECT a FROM t GROUP a~Syntax",
     "SELECT a FROM t GROUP BY a + 1~Syntax",
-    "SELECT a FROM t HAVING a = 1~a of t having [a = 1]",
+    "SELECT a FROM t HAVING a = 1~a of t having [a Eq 1]",
     "SELECT a FROM t GROUP BY a HAVING count() > 1 AND (NOT sum(b) = -2 OR min(c) < 'x')~\
-     a of t each a having {[count() > 1] AND {NOT [sum(b) = -2] OR [min(c) < <x>]}}",
+     a of t each a having {[Count() Gt 1] AND {NOT [Sum(b) Eq -2] OR [Min(c) Lt <x>]}}",
     "SELECT a FROM t HAVING a + 1 = 2~Syntax",
     "SELECT a FROM t HAVING (a) = 2~Syntax",
     "SELECT a FROM t HAVING count() = sum(a) * 2~Syntax",
     "SELECT a FROM t JOIN u ON t.a = u.a~a of t with u on t.a = u.a",
     "SELECT a FROM t INNER JOIN numbers(9) ON a == number AND b = c WHERE a = 1~\
-     a of t with numbers 9 on a = number on b = c where [a = 1]",
+     a of t with numbers 9 on a = number on b = c where [a Eq 1]",
     "SELECT a FROM t JOIN u~Syntax",
     "SELECT a FROM t JOIN u ON a~Syntax",
     "SELECT a FROM t JOIN u ON a < b~Syntax",
@@ -409,9 +318,9 @@ static CLAUSES: [&str; 52] = [
     "SELECT a FROM t LEFT JOIN u ON a = b~Syntax",
     "SELECT a FROM t WHERE a = 1 JOIN u ON a = b~Syntax",
     "SELECT shop, count() AS n, sum(qty * price) AS total FROM sales WHERE price > 50 GROUP BY \
-     shop HAVING count() > 1 ORDER BY total DESC, shop LIMIT 10~shop, count() AS n, sum((qty * \
-     price)) AS total of sales where [price > 50] each shop having [count() > 1] by total down by \
-     shop first 10 behind 0",
+     shop HAVING count() > 1 ORDER BY total DESC, shop LIMIT 10~shop, Count() AS n, \
+     Sum((qty Mul price)) AS total of sales where [price Gt 50] each shop \
+     having [Count() Gt 1] by total down by shop first 10 behind 0",
 ];
 
 #[test]
@@ -419,63 +328,53 @@ fn texts_have_their_answers(rt: HostRuntime) -> Result<(), Fail> {
     for cases in [ITEMS.as_slice(), &FILTERS, &REFUSED, &CLAUSES] {
         for case in cases {
             let (text, answer) = halves(case);
-            let found = answer_of(rt.alloc(), text.as_bytes())?;
-            assert_eq!(rt; found.as_slice(), answer.as_bytes(), "{text}");
+            let found = answer_of(rt.alloc(), text)?;
+            assert_eq!(rt; found.as_str(), answer, "{text}");
         }
     }
     Ok(())
 }
 
-// `front`, n times `middle`, and `back`
-fn repeated(
-    alloc: Global,
-    front: &[u8],
-    middle: &[u8],
-    n: usize,
-    back: &[u8],
-) -> Result<Vec<u8>, AllocError> {
-    let mut text = Vec::from_slice(alloc, front)?;
-    for _ in 0..n {
-        text.extend_from_slice(middle)?;
-    }
-    text.extend_from_slice(back)?;
-    Ok(text)
-}
-
-fn refusal_of(alloc: Global, text: &[u8]) -> Option<ParseRefusal> {
-    parse(alloc, text).err()
-}
-
+// The front, a piece so many times, and the end.
 #[test]
 fn limits_are_kept(rt: HostRuntime) -> Result<(), Fail> {
     let alloc = rt.alloc();
-    let front = b"SELECT a FROM t";
-    let long = repeated(alloc, front, b" ", 65_536 - 15, b"")?;
-    assert_eq!(rt; long.len(), 65_536);
-    assert_eq!(rt; refusal_of(alloc, long.as_slice()), None);
-    let longer = repeated(alloc, front, b" ", 65_537 - 15, b"")?;
-    assert_eq!(rt;
-        refusal_of(alloc, longer.as_slice()),
-        Some(ParseRefusal::TooLong)
-    );
-    let many = repeated(alloc, b"SELECT a", b"+a", 1_000, b" FROM t")?;
-    assert_eq!(rt; refusal_of(alloc, many.as_slice()), None);
-    let more = repeated(alloc, b"SELECT a", b"+a", 1_001, b" FROM t")?;
-    assert_eq!(rt;
-        refusal_of(alloc, more.as_slice()),
-        Some(ParseRefusal::TooComplex)
-    );
-    let deep = repeated(alloc, b"SELECT ", b"(", 1_000, b"a FROM t")?;
-    assert_eq!(rt;
-        refusal_of(alloc, deep.as_slice()),
-        Some(ParseRefusal::Syntax)
-    );
-    let nots = repeated(alloc, b"SELECT a FROM t WHERE", b" NOT", 1_000, b" a = 1")?;
-    assert_eq!(rt; refusal_of(alloc, nots.as_slice()), None);
-    let nested = repeated(alloc, b"SELECT a FROM t WHERE ", b"a = (", 1_000, b"")?;
-    assert_eq!(rt;
-        refusal_of(alloc, nested.as_slice()),
-        Some(ParseRefusal::Syntax)
-    );
+    for (front, piece, times, end, refusal) in [
+        ("SELECT a FROM t", " ", 65_521, "", None),
+        (
+            "SELECT a FROM t",
+            " ",
+            65_522,
+            "",
+            Some(ParseRefusal::TooLong),
+        ),
+        ("SELECT a", "+a", 1_000, " FROM t", None),
+        (
+            "SELECT a",
+            "+a",
+            1_001,
+            " FROM t",
+            Some(ParseRefusal::TooComplex),
+        ),
+        (
+            "SELECT ",
+            "(",
+            1_000,
+            "a FROM t",
+            Some(ParseRefusal::Syntax),
+        ),
+        ("SELECT a FROM t WHERE", " NOT", 1_000, " a = 1", None),
+        (
+            "SELECT a FROM t WHERE ",
+            "a = (",
+            1_000,
+            "",
+            Some(ParseRefusal::Syntax),
+        ),
+    ] {
+        let text = repeated(alloc, front, piece, times, end)?;
+        let found = parse(alloc, text.as_str().as_bytes()).err();
+        assert_eq!(rt; found, refusal, "{front}{piece} {times} times");
+    }
     Ok(())
 }
