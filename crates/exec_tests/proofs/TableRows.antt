@@ -39,7 +39,8 @@ module _ {n : ℕ} {st : NodeState} {t : ExecTable} {s : NodeSeat} (is : Is n st
     pair = is.pair;
     seat = m.seat;
     number = sym (ap (λ (v : NodeView). v.number) m.now) ∙ is.number;
-    state = state-made is.seat m ∙ (λ i. state_after (record (view s) { state = is.state i }) p (q i));
+    state = state-made is.seat m
+        ∙ (λ i. state_after (record (view s) { state = is.state i }) p (q i));
   }
 
 -- a node that was charged keeps its token

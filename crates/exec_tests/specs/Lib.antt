@@ -1,2 +1,3 @@
 pub mod NamedCells
+pub mod Scripts
 pub mod TableRows

@@ -8,7 +8,7 @@ ghost use Rattle.proc_api.specs.Names.{BoxPicture, FollowsKept, IsRunning, MaySc
 use chunk_data::{Chunk, ColumnType, List, Value};
 use csv_rows::RowReader;
 use port_word::{Action, Flags, Port, PortView};
-use proc_api::{BadField, BadPlace, LoadRefusal, Processor, Status, Wake, WorkFault};
+use proc_api::{BadField, BadPlace, Growth, LoadRefusal, Processor, Status, Wake, WorkFault};
 use query_model::processor_spec::Spec;
 use std::alloc::Global;
 use std::test::Fail;
@@ -127,6 +127,76 @@ fn make(b: &mut Box<dyn Processor + Send>, text: &mut String) -> Result<bool, Fa
 {
     match b.work() {
         Ok(()) => Ok(true),
+        Err(fault) => {
+            show_fault(text, fault)?;
+            Ok(false)
+        }
+    }
+}
+
+fn expand(b: &mut Box<dyn Processor + Send>) -> Result<Growth, WorkFault>
+    requires running { IsRunning (seen b.old) }
+    requires answer { (seen b.old).notes.answer ≡ Some (Prepared answered.ExpandPipeline) }
+    requires not_acted { (seen b.old).notes.acted ≡ false }
+    ensures running { OnOk result (IsRunning (seen b.new)) }
+    ensures follows { OnOk result ((v : Picture) → FollowsKept (seen b.old) v
+        → FollowsKept (seen b.new) v) }
+{
+    b.expand()
+}
+
+// Each new source's part and path.
+fn show_growth(text: &mut String, growth: &Growth) -> Result<(), Fail> {
+    let alloc = *text.allocator();
+    for node in growth.nodes.as_slice() {
+        if let Spec::Csv(part) = &node.spec {
+            text.push_str(format!(in alloc; "{} ", part.part)?.as_str())?;
+            for byte in part.path.as_slice() {
+                text.push(*byte as char)?;
+            }
+            text.push(' ')?;
+        }
+    }
+    Ok(())
+}
+
+// The view gets so many inputs more.
+fn widen(view: &mut PortView, more: usize) -> Result<(), Fail>
+    requires { view.old.actions ≡ [] }
+    ensures follows { OnOk result ((p : BoxPicture) → FollowsKept p view.old
+        → FollowsKept p view.new) }
+    ensures taken { OnOk result (view.new.actions ≡ []) }
+{
+    let inputs = view.inputs();
+    let outputs = view.outputs();
+    if inputs > 32 || outputs > 16 || more > 32 - inputs {
+        return Err("too many inputs".into());
+    }
+    view.grow(inputs + more, outputs)?;
+    Ok(())
+}
+
+// Grows the view by an input for each new source, which are shown; false after a fault, which is
+// shown.
+fn grow(
+    b: &mut Box<dyn Processor + Send>,
+    view: &mut PortView,
+    text: &mut String,
+) -> Result<bool, Fail>
+    requires running { IsRunning (seen b.old) }
+    requires follows { FollowsKept (seen b.old) view.old }
+    requires answer { (seen b.old).notes.answer ≡ Some (Prepared answered.ExpandPipeline) }
+    requires not_acted { (seen b.old).notes.acted ≡ false }
+    requires taken { view.old.actions ≡ [] }
+    ensures running { IfOk result (λ more. more ≡ true → IsRunning (seen b.new)) }
+    ensures follows { IfOk result (λ more. more ≡ true → FollowsKept (seen b.new) view.new) }
+{
+    match expand(b) {
+        Ok(growth) => {
+            show_growth(text, &growth)?;
+            widen(view, growth.edges.len())?;
+            Ok(true)
+        }
         Err(fault) => {
             show_fault(text, fault)?;
             Ok(false)
@@ -272,6 +342,7 @@ fn go_on(
             let more = match status {
                 Status::Ready => make(b, text)?,
                 Status::Async => fetch_all(b, text)?,
+                Status::ExpandPipeline => grow(b, view, text)?,
                 Status::Finished => {
                     show_end(b, view, text)?;
                     false
@@ -332,8 +403,8 @@ fn take_step(
 
 /// What the box does, with so many inputs and outputs, from its load by a script to its unload. A
 /// step is `n3` where output 3 needs a chunk, `e0` where input 0 ends, and `0:1;2` where a chunk of
-/// these rows, in columns of these types, comes at input 0. Behind a step without a `+` the box goes
-/// on.
+/// these rows, in columns of these types, comes at input 0. Behind a step without a `+` the box
+/// goes on.
 pub(crate) fn driven(
     alloc: Global,
     b: &mut Box<dyn Processor + Send>,

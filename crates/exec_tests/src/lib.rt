@@ -1,7 +1,7 @@
 //! Tests of ports, graphs, processors and executors, a module for each crate that they test.
 //!
-//! They drive boxes of their own, and show what no contract says: that each public call succeeds where
-//! memory is ample, and how a run ends over boxes that don't keep the contract of processors.
+//! They drive boxes of their own, and show what no contract says: that each public call succeeds
+//! where memory is ample, and how a run ends over boxes that don't keep the contract of processors.
 #![tactic(auto)]
 
 #[cfg(test)]
@@ -14,6 +14,8 @@ mod exec_core_tests;
 mod flow_procs_tests;
 #[cfg(test)]
 mod join_proc_tests;
+#[cfg(test)]
+mod list_source_tests;
 #[cfg(test)]
 mod pipeline_exec_tests;
 #[cfg(test)]

@@ -1,12 +1,12 @@
-ghost use Rattle.std.specs.Prelude.{◌≡◌, ◌≤◌, IfOk, OnOk, map};
+ghost use Rattle.std.specs.Prelude.{◌≡◌, ◌≤◌, IfOk, OnOk, length, map, true};
 ghost use Rattle.std.specs.List.{All};
-ghost use Rattle.proc_api.specs.Clauses.{IsFresh};
-ghost use Rattle.pipeline_exec.specs.Ends.{IsNoList};
+ghost use Rattle.proc_api.specs.Clauses.{IsBlank, IsFresh};
+ghost use Rattle.proc_api.specs.Reserves.{AreStarting, IsAdded};
 
 use crate::scripted::{Gate, Role, make_box, part};
 use exec_graph::GraphBuilder;
 use flow_procs::{Collect, Numbers};
-use pipeline_exec::{ExecEnd, RunResult, run_graph};
+use pipeline_exec::{ExecEnd, GrowthFlaw, RunResult, run_graph};
 use proc_api::{Processor, Status, WorkFault};
 use query_model::processor_spec::{Kind, Spec};
 use std::alloc::Global;
@@ -15,10 +15,11 @@ use std::sync::atomic::{AtomicBool, AtomicU64, Ordering};
 use std::test::Fail;
 use std::thread::Threads;
 
-// What a box of the kind is loaded with; none is a List, since that would grow the graph.
+// What a box of the kind is loaded with.
 fn spec_for(alloc: Global, kind: Kind) -> Result<Spec, Fail> {
     match kind {
         Kind::Csv => Ok(Spec::Csv(part(alloc))),
+        Kind::List => Ok(Spec::List(part(alloc))),
         Kind::Numbers => Ok(Spec::Numbers(3, 1)),
         Kind::Collect => Ok(Spec::Collect),
         _ => Err("a box is of another kind".into()),
@@ -27,17 +28,12 @@ fn spec_for(alloc: Global, kind: Kind) -> Result<Spec, Fail> {
 
 // Loads the box.
 fn loaded(alloc: Global, b: Box<dyn Processor + Send>) -> Result<Box<dyn Processor + Send>, Fail>
-    ensures fresh { IfOk result (λ b. IsFresh (seen b)) }
-    ensures no_list { IfOk result (λ b. IsNoList (seen b)) }
+    ensures { IfOk result (λ b. IsFresh (seen b)) }
 {
     let mut b = b;
     match b.load(spec_for(alloc, b.kind())?) {
-        Ok(()) => {}
-        Err(_) => return Err("a blank box was not loaded".into()),
-    }
-    match b.kind() {
-        Kind::Csv | Kind::Numbers | Kind::Collect => Ok(b),
-        _ => Err("a box is of another kind".into()),
+        Ok(()) => Ok(b),
+        Err(_) => Err("a blank box was not loaded".into()),
     }
 }
 
@@ -48,10 +44,9 @@ fn add(
     b: Box<dyn Processor + Send>,
     rank: u32,
 ) -> Result<(), Fail>
-    ensures all_fresh { OnOk result (All IsFresh (map (λ b. seen b) builder.old.boxes.items)
-        → All IsFresh (map (λ b. seen b) builder.new.boxes.items)) }
-    ensures no_lists { OnOk result (All IsNoList (map (λ b. seen b) builder.old.boxes.items)
-        → All IsNoList (map (λ b. seen b) builder.new.boxes.items)) }
+    ensures { OnOk result
+        (AreStarting builder.old.reserves (map (λ b. seen b) builder.old.boxes.items)
+        → AreStarting builder.new.reserves (map (λ b. seen b) builder.new.boxes.items)) }
 {
     let b = match loaded(alloc, b) {
         Ok(b) => b,
@@ -64,11 +59,21 @@ fn add(
     Ok(())
 }
 
+// Whether the node is there; nothing is reserved here.
+#[tactic(auto, using(exec_graph::proofs::Refusals::added))]
+fn is_added(builder: &GraphBuilder, node: u32) -> bool
+    ensures added { result ≡ true → IsAdded (length builder.now.ranks) builder.now.reserves node }
+    ensures alone { result ≡ true → length builder.now.reserves ≡ 0 }
+{
+    (node as usize) < builder.ranks.len() && builder.reserves.len() == 0
+}
+
 // Adds an edge between the first ports of two nodes.
 fn connect(builder: &mut GraphBuilder, from: u32, to: u32) -> Result<(), Fail>
     ensures boxes { builder.new.boxes.items ≡ builder.old.boxes.items }
+    ensures reserves { builder.new.reserves ≡ builder.old.reserves }
 {
-    if from as usize >= builder.ranks.len() || to as usize >= builder.ranks.len() {
+    if !is_added(builder, from) || !is_added(builder, to) {
         return Err("a node is missing".into());
     }
     match builder.connect(from, 0, to, 0) {
@@ -109,8 +114,7 @@ fn run_built<R: AllocGlobal + Threads + Sync>(
     builder: GraphBuilder,
     workers: u32,
 ) -> Result<(Vec<Box<dyn Processor + Send>>, ExecEnd), Fail>
-    requires fresh { All IsFresh (map (λ b. seen b) builder.boxes.items) }
-    requires no_lists { All IsNoList (map (λ b. seen b) builder.boxes.items) }
+    requires starting { AreStarting builder.reserves (map (λ b. seen b) builder.boxes.items) }
     requires workers { (1 ≤ workers) × (workers ≤ 16) }
 {
     match builder.finish() {
@@ -168,6 +172,74 @@ fn a_fault_ends_the_run_and_gives_all_boxes_back(rt: HostRuntime) -> Result<(), 
     let (boxes, end) = run_boxes(&rt, boxes, true, 2)?;
     assert_eq!(rt; boxes.len(), 3);
     assert!(rt; matches!(end, ExecEnd::Fault(1, WorkFault::Bad(_))));
+    Ok(())
+}
+
+// Keeps the blanks and an edge for node 0.
+fn reserve(builder: &mut GraphBuilder, blanks: Vec<Box<dyn Processor + Send>>) -> Result<(), Fail>
+    requires { All IsBlank (map (λ b. seen b) blanks.items) }
+    ensures { OnOk result
+        (AreStarting builder.old.reserves (map (λ b. seen b) builder.old.boxes.items)
+        → AreStarting builder.new.reserves (map (λ b. seen b) builder.new.boxes.items)) }
+{
+    if !is_added(builder, 0) {
+        return Err("a node is missing".into());
+    }
+    match builder.reserve(0, blanks, 1) {
+        Ok(()) => Ok(()),
+        Err(_) => Err("nothing was reserved".into()),
+    }
+}
+
+// The box, made blank, where it is to be kept for a growth.
+fn blanks_of(
+    alloc: Global,
+    b: Box<dyn Processor + Send>,
+    kept: bool,
+) -> Result<Vec<Box<dyn Processor + Send>>, Fail>
+    ensures { IfOk result (λ boxes. All IsBlank (map (λ b. seen b) boxes.items)) }
+{
+    let mut boxes = Vec::new(alloc);
+    if kept {
+        let mut b = b;
+        b.unload();
+        boxes.push(b)?;
+    }
+    Ok(boxes)
+}
+
+// Runs a box alone that grows, with a reserve of the blanks and an edge.
+fn run_growing<R: AllocGlobal + Threads + Sync>(
+    rt: &R,
+    growing: Box<dyn Processor + Send>,
+    blanks: Vec<Box<dyn Processor + Send>>,
+) -> Result<ExecEnd, Fail>
+    requires { All IsBlank (map (λ b. seen b) blanks.items) }
+{
+    let mut builder = GraphBuilder::new(rt.alloc());
+    add(rt.alloc(), &mut builder, growing, 1)?;
+    reserve(&mut builder, blanks)?;
+    let (_, end) = run_built(rt, builder, 1)?;
+    Ok(end)
+}
+
+#[test]
+fn a_growth_with_a_flaw_ends_the_run(rt: HostRuntime) -> Result<(), Fail> {
+    for (role, kept, flaw) in [
+        (Role::Loop, false, GrowthFlaw::WrongEnd),
+        (Role::Source, false, GrowthFlaw::TooManyNodes),
+        (Role::Source, true, GrowthFlaw::NoBlank(Kind::Csv)),
+    ] {
+        let filter = Box::new(rt.alloc(), make_box(rt, Kind::Filter, Role::Give, 0)?)?;
+        let blanks = blanks_of(rt.alloc(), filter, kept)?;
+        let growing = Box::new(rt.alloc(), make_box(rt, Kind::List, role, 0)?)?;
+        let end = run_growing(&rt, growing, blanks)?;
+        let ExecEnd::BadGrowth(node, found) = end else {
+            return Err("the growth had no flaw".into())
+        };
+        assert_eq!(rt; node, 0);
+        assert_eq!(rt; found, flaw);
+    }
     Ok(())
 }
 

@@ -4,7 +4,7 @@ ghost use Rattle.proc_api.specs.Clauses.{IsBlank};
 
 use crate::scripted::{Role, make_box, part};
 use chunk_data::{Chunk, List};
-use plan_run::{PlanFault, PlanGraph, run_plan};
+use plan_run::{GraphForm, PlanFault, PlanGraph, run_plan};
 use port_word::Wire;
 use proc_api::{Processor, Rack, WorkFault};
 use query_model::processor_spec::{Kind, Spec};
@@ -75,8 +75,12 @@ fn run_pair<R: Abort + AllocGlobal + Threads + Sync>(
     assert!(rt; rack.count(Kind::Collect) > 0);
     let plan = PlanGraph {
         specs,
-        ranks: pair_ranks(rt.alloc())?,
-        wires: pair_wires(rt.alloc())?,
+        kept: List::new(rt.alloc()),
+        form: GraphForm {
+            ranks: pair_ranks(rt.alloc())?,
+            wires: pair_wires(rt.alloc())?,
+            reserves: List::new(rt.alloc()),
+        },
     };
     Ok(run_plan(rt, rack, plan, 1))
 }

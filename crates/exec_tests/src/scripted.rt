@@ -1,14 +1,15 @@
 // Processors that keep to a script, and not to the contract of their kind.
-ghost use Rattle.std.specs.Prelude.{◌≡◌, ◌<◌};
-ghost use Rattle.std.specs.Option.{option_map, unwrap_or};
-ghost use Rattle.query_model.specs.declared.processor_spec.Spec.TheVariants as spec;
+ghost use Rattle.std.specs.Prelude.{◌≡◌, ◌<◌, IfOk};
 ghost use Rattle.port_word.specs.Names.{in_count, ChangedByCalls};
+ghost use Rattle.proc_api.specs.Forms.{growth_form};
 ghost use Rattle.proc_api.specs.Names.{no_notes};
+ghost use Rattle.exec_tests.specs.Scripts.{script_growth, script_spec, test_part};
 
-use chunk_data::{Bytes, Chunk, List};
+use chunk_data::{Bytes, Chunk, List, Memory};
 use port_word::PortView;
 use proc_api::{
-    BadField, BadPlace, BoxNotes, Growth, LoadRefusal, Processor, Status, Wake, WorkFault,
+    BadField, BadPlace, BoxNotes, Edge, End, GrowNode, Growth, LoadRefusal, Processor, Status,
+    Wake, Who, WorkFault,
 };
 use query_model::processor_spec::{Kind, PartSpec, Spec};
 use std::alloc::Global;
@@ -33,6 +34,10 @@ pub(crate) enum Role {
     Balk,
     /// Is ready, works once, which asks that it meets another there, and then gives.
     Meet,
+    /// Lets the graph grow by an edge from itself to itself.
+    Loop,
+    /// Lets the graph grow by a source that is joined to its first input.
+    Source,
 }
 
 /// Where two boxes meet that work at the same time.
@@ -62,7 +67,12 @@ pub(crate) struct Scripted<R> {
     role: Role,
     pub gate: Option<Gate>,
     loaded: bool,
+    /// Whether its part is a list of parts.
+    lists: bool,
     part: Option<PartSpec>,
+    /// Whether it grows by a source, and whether it has grown.
+    adds: bool,
+    grown: bool,
     chunks: Vec<Chunk>,
     notes: BoxNotes,
     rt: R,
@@ -70,21 +80,20 @@ pub(crate) struct Scripted<R> {
 
 impl<R: Abort + AllocGlobal + Drop + Send> Processor for Scripted<R> {
     ghost use Rattle.std.specs.Prelude.{false, Some, None, if◌then◌else◌};
-    ghost use Rattle.std.specs.Option.{option_map, unwrap_or};
-    ghost use Rattle.query_model.specs.declared.processor_spec.Spec.TheVariants as spec;
     ghost use Rattle.proc_api.specs.Boxes.{idle_work};
+    ghost use Rattle.exec_tests.specs.Scripts.{script_growth, script_spec};
 
     ghost seen = { λ p. record {
       kind = p.kind;
       lawful = false;
       files = None;
-      spec = if p.loaded then Some (unwrap_or (option_map spec.Csv p.part) spec.Collect) else None;
+      spec = if p.loaded then Some (script_spec p.lists p.part) else None;
       faults = 0;
       pendings = 0;
       pulled = 0;
       work = record idle_work { gathered = p.chunks.items };
       notes = record p.notes { given = 0 };
-      growth = None;
+      growth = if p.grown then Some (script_growth p.adds) else None;
     } };
 
     ghost stands = { λ p. None };
@@ -94,13 +103,14 @@ impl<R: Abort + AllocGlobal + Drop + Send> Processor for Scripted<R> {
     }
 
     fn load(&mut self, spec: Spec) -> Result<(), LoadRefusal> {
-        if self.loaded {
+        if self.loaded || spec.kind() != self.kind {
             self.rt.abort()
         }
-        must_be(&self.rt, spec.kind(), self.kind);
-        let part = part_of(&self.rt, spec);
+        let (lists, part) = part_of(&self.rt, spec);
+        self.lists = lists;
         self.part = part;
         self.loaded = true;
+        self.grown = false;
         self.notes = new_notes(&self.rt);
         Ok(())
     }
@@ -115,13 +125,14 @@ impl<R: Abort + AllocGlobal + Drop + Send> Processor for Scripted<R> {
             Role::Take => take(&self.rt, &mut self.chunks, view, false),
             Role::Work => take(&self.rt, &mut self.chunks, view, true),
             Role::Balk => Status::NeedData,
+            Role::Loop | Role::Source => Status::ExpandPipeline,
         };
         self.notes.note_view(view, status);
         status
     }
 
     fn work(&mut self) -> Result<(), WorkFault> {
-        must_be(&self.rt, self.kind, Kind::Csv);
+        must_be_source(&self.rt, self.kind);
         let fault = match &self.gate {
             Some(gate) if gate.is_met() => {
                 self.role = Role::Give;
@@ -143,7 +154,12 @@ impl<R: Abort + AllocGlobal + Drop + Send> Processor for Scripted<R> {
     }
 
     fn expand(&mut self) -> Result<Growth, WorkFault> {
-        self.rt.abort()
+        let Ok(growth) = growth_of(self.rt.alloc(), self.adds) else {
+            self.rt.abort()
+        };
+        self.grown = true;
+        self.notes.note_act();
+        Ok(growth)
     }
 
     fn take_rows(&mut self) -> Vec<Chunk> {
@@ -155,29 +171,54 @@ impl<R: Abort + AllocGlobal + Drop + Send> Processor for Scripted<R> {
 
     fn unload(&mut self) {
         self.loaded = false;
+        self.grown = false;
         self.notes = new_notes(&self.rt);
     }
 }
 
-fn must_be(rt: &impl Abort, a: Kind, b: Kind)
-    ensures { a ≡ b }
+fn must_be_source(rt: &impl Abort, kind: Kind)
+    ensures { kind ≡ Kind.Csv }
 {
-    match (a, b) {
-        (Kind::Csv, Kind::Csv) => {}
-        (Kind::Collect, Kind::Collect) => {}
+    match kind {
+        Kind::Csv => {}
         _ => rt.abort(),
     }
 }
 
-/// The part of a source's spec, and none of a collector's.
-fn part_of(rt: &impl Abort, given: Spec) -> Option<PartSpec>
-    ensures { given ≡ unwrap_or (option_map spec.Csv result) spec.Collect }
+/// Whether a source's spec is of a list, and its part; a collector has none.
+fn part_of(rt: &impl Abort, given: Spec) -> (bool, Option<PartSpec>)
+    ensures { given ≡ script_spec result.0 result.1 }
 {
     match given {
-        Spec::Csv(part) => Some(part),
-        Spec::Collect => None,
+        Spec::Csv(part) => (false, Some(part)),
+        Spec::List(part) => (true, Some(part)),
+        Spec::Collect => (false, None),
         _ => rt.abort(),
     }
+}
+
+/// A growth by a source, or by an edge from the box to itself.
+fn growth_of(alloc: Global, adds: bool) -> Result<Growth, Memory>
+    ensures { IfOk result (λ g. growth_form g ≡ script_growth adds) }
+{
+    let mut nodes = List::new(alloc);
+    let mut from = Who::Me;
+    if adds {
+        let spec = Spec::Csv(part(alloc));
+        nodes = List::from_vec(vec![in alloc; GrowNode { spec, rank: 0 }]?);
+        from = Who::New(0);
+    }
+    let edge = Edge {
+        from: End { who: from, port: 0 },
+        to: End {
+            who: Who::Me,
+            port: 0,
+        },
+    };
+    Ok(Growth {
+        nodes,
+        edges: List::from_vec(vec![in alloc; edge]?),
+    })
 }
 
 fn new_notes<R: Abort + AllocGlobal>(rt: &R) -> BoxNotes
@@ -257,7 +298,10 @@ pub(crate) fn make_box<R: Abort + AllocGlobal + Copy + Drop + Send>(
         role,
         gate: None,
         loaded: false,
+        lists: false,
         part: None,
+        adds: matches!(role, Role::Source),
+        grown: false,
         chunks: held,
         notes: new_notes(&rt),
         rt,
@@ -265,7 +309,9 @@ pub(crate) fn make_box<R: Abort + AllocGlobal + Copy + Drop + Send>(
 }
 
 /// A part that a source may be loaded with.
-pub(crate) fn part(alloc: Global) -> PartSpec {
+pub(crate) fn part(alloc: Global) -> PartSpec
+    ensures { result ≡ test_part }
+{
     PartSpec {
         table: 0,
         part: 1,

@@ -6,8 +6,8 @@ use Rattle.query_model.specs.declared.processor_spec.Spec.{Spec}
 use Rattle.proc_api.proofs.Follows.{follows-new}
 use Rattle.exec_tests.proofs.driven.load.Goals as goal
 
-first_view : (p q : BoxPicture) (s : Spec) (r : Result (Unit {0}) LoadRefusal) → OnOk r (Loads p s q)
-    → OnOk r ((inputs outputs : ℕ) → FollowsKept q (new_picture inputs outputs))
+first_view : (p q : BoxPicture) (s : Spec) (r : Result (Unit {0}) LoadRefusal) → OnOk r
+    (Loads p s q) → OnOk r ((inputs outputs : ℕ) → FollowsKept q (new_picture inputs outputs))
 first_view p q s (Ok u) l = λ inputs outputs. follows-new q inputs outputs l.fresh.notes
 first_view p q s (Err e) l = tt
 

@@ -30,7 +30,8 @@ seen_actions v (Output o) g c e = e
 
 pub returns-clause-follows : goal.returns-clause-follows
 returns-clause-follows c = λ p f. rw c.see.ensures.after
-    (seen_follows p _ c.args.port c.args.flags c.args.chunk c.inputs-inputs.ensures.sound c.requires f)
+    (seen_follows p _ c.args.port c.args.flags c.args.chunk c.inputs-inputs.ensures.sound c.requires
+    f)
 
 pub returns-clause-taken : goal.returns-clause-taken
 returns-clause-taken c = rw c.see.ensures.after

@@ -1,8 +1,10 @@
-use Rattle.std.proofs.Common.{◌≡◌, ℕ, zero, suc, ◌<◌, List, [], ◌∷◌, true, refl, sym, subst, arith}
+use Rattle.std.proofs.Common.{◌≡◌, ℕ, zero, suc, ◌<◌, [], ◌∷◌, true, refl, sym, subst, arith, nat_le, length}
 use Rattle.port_word.specs.declared.flags.Wire.{Wire}
 use Rattle.proc_api.specs.Names.{IsEdge, IsGraph, is_gapless}
 use Rattle.proc_api.specs.Settled.{wire_at}
 use Rattle.proc_api.specs.Graphs.{rank_at}
+use Rattle.proc_api.specs.Reserves.{AreReserves, IsAdded, is_reserved}
+use Rattle.plan_run.specs.Plans.{KeepsBehind}
 use Rattle.exec_tests.proofs.plan_run_tests.run_pair.Goals as goal
 
 abbrev wire : Wire
@@ -40,12 +42,31 @@ is_graph = record {
   gapless = has_no_gap;
 }
 
-graph_of : (ranks : List ℕ) (wires : List Wire) → ranks ≡ 1 ∷ 2 ∷ [] → wires ≡ wire ∷ []
-    → IsGraph ranks wires []
-graph_of ranks wires r w =
-    subst (λ l. IsGraph l wires []) (sym r)
-    (subst (λ l. IsGraph (1 ∷ 2 ∷ []) l []) (sym w) is_graph)
+is_kept_behind : (n : ℕ) → n < 2 → is_reserved [] n ≡ nat_le 2 n
+is_kept_behind zero lt = refl
+is_kept_behind (suc zero) lt = refl
+is_kept_behind (suc (suc n)) lt = absurd (omega (arith, lt))
+
+are_reserves : AreReserves 2 1 (wire ∷ []) []
+are_reserves = record {
+  growing = λ k lt. absurd (omega (arith, lt));
+  nodes_within = λ k lt. absurd (omega (arith, lt));
+  edges_behind = λ k lt. absurd (omega (arith, lt));
+  edges_within = λ k lt. absurd (omega (arith, lt));
+  apart = λ j k below lt. absurd (omega (arith, lt));
+  from_added = λ e lt. subst (λ (w : Wire). IsAdded 2 [] w.from) (sym (only_wire e lt))
+      (record { in_range = omega arith; unreserved = refl });
+  to_added = λ e lt. subst (λ (w : Wire). IsAdded 2 [] w.to) (sym (only_wire e lt))
+      (record { in_range = omega arith; unreserved = refl });
+}
+
+keeps_behind : KeepsBehind 2
+    (record { ranks = 1 ∷ 2 ∷ []; wires = wire ∷ []; reserves = [] })
+keeps_behind = record { graph = is_graph; reserves_fit = are_reserves; kept = is_kept_behind }
 
 pub run_plan-requires-clause-graph : goal.run_plan-requires-clause-graph
 run_plan-requires-clause-graph g c κs lives =
-    graph_of _ _ c.in_ok-pair_ranks.ensures c.in_ok-pair_wires.ensures
+    let two : length c.push-2.new.self.items ≡ 2 =
+    omega (arith, c.in_ok-push-2.ensures.len, c.in_ok-push.ensures.len, c.new-specs.ensures.len) in
+    rw two (rw c.in_ok-pair_ranks.ensures (rw c.in_ok-pair_wires.ensures (rw c.new-2.ensures
+    keeps_behind)))

@@ -12,7 +12,8 @@ sees-requires c = (
 
 pub push-requires-clause-ready : goal.push-requires-clause-ready
 push-requires-clause-ready c = let j = length (end_of_view (view c.sees.new.seat) 0).chunks in
-    and_from _ _ (can-act (c.sees.ensures.saw c.if-not-sees.false 0 1 (begun c.requires c.token_in.ensures c.begin.ensures (search rules))) (Push j) refl)
+    and_from _ _ (can-act (c.sees.ensures.saw c.if-not-sees.false 0 1
+    (begun c.requires c.token_in.ensures c.begin.ensures (search rules))) (Push j) refl)
     (let z : eqb j j ≡ true = grind arith in z)
 
 pub push-requires-clause-slot : goal.push-requires-clause-slot
