@@ -9,13 +9,13 @@ use Rattle.query_model.specs.declared.processor_spec.Kind.{Kind}
 use Rattle.query_model.specs.declared.processor_spec.Kind.TheVariants as kind
 use Rattle.proc_api.specs.Names.{BoxPicture, IsBlank, IsLawfulBlank, IsSourceKind, is_of, same_kind}
 use Rattle.query_run.specs.Racks.{AreLawfulOver, HasStandardStock, IsHonest, stock_of}
-use Rattle.qrun.specs.declared.racks.TheConstants.{OTHERS, SOURCES}
-use Rattle.qrun.specs.Stocking.{is_made, made, with_each, with_more, Adds, AddsEach, IsServing, IsStocked}
+use Rattle.qrun.specs.declared.racks.TheConstants.{LISTS, OTHERS, SOURCES}
+use Rattle.qrun.specs.Stocking.{with_each, with_more, Adds, AddsEach, AddsTold, IsServing, IsStocked}
 
 -- a new box of the kind was added
 pub adds_one : (k : Kind) (files : Option Files) (before after : List BoxPicture) (p : BoxPicture)
     → IsLawfulBlank k p → (IsSourceKind k → p.files ≡ files) → after ≡ before ++ p ∷ []
-    → Adds k 1 files before after
+    → AddsTold k 1 files before after
 adds_one k files before after p new told last = λ stock s.
     subst (IsStocked files (with_more k 1 stock)) (sym last) (record {
       each = All-append (IsServing files) before (p ∷ []) s.each
@@ -31,77 +31,52 @@ adds_one k files before after p new told last = λ stock s.
           grind (arith, both, was, same);
     })
 
+-- and one of a kind that reads no file
+pub adds_other : (k : Kind) (before after : List BoxPicture) (p : BoxPicture)
+    → IsLawfulBlank k p → (IsSourceKind k → ⊥) → after ≡ before ++ p ∷ [] → Adds k 1 before after
+adds_other k before after p new without last = λ files.
+    adds_one k files before after p new (λ source. absurd (without source)) last
+
 -- none was
 pub adds_none : (k : Kind) (files : Option Files) (boxes : List BoxPicture)
-    → Adds k 0 files boxes boxes
+    → AddsTold k 0 files boxes boxes
 adds_none k files boxes = λ stock s.
     record { each = s.each; count = λ j. let was = s.count j in grind (arith, was) }
 
--- and of a kind that is made
-pub adds_made : (k : Kind) (files : Option Files) (before after : List BoxPicture) (p : BoxPicture)
-    → IsLawfulBlank k p → (IsSourceKind k → ⊥) → is_made k ≡ true → after ≡ before ++ p ∷ []
-    → Adds k (made k 1) files before after
-adds_made k files before after p new without is last =
-    subst (λ t. Adds k (cond t 1 0) files before after) (sym is)
-    (adds_one k files before after p new (λ source. absurd (without source)) last)
-
 -- and so many more
 pub adds_more : (k : Kind) (n m : ℕ) (files : Option Files) (a b c : List BoxPicture)
-    → Adds k n files a b → Adds k m files b c → Adds k (n + m) files a c
+    → AddsTold k n files a b → AddsTold k m files b c → AddsTold k (n + m) files a c
 adds_more k n m files a b c h g = λ stock s.
     let x = g (with_more k n stock) (h stock s) in
     record { each = x.each; count = λ j. let now = x.count j in grind (arith, now) }
 
--- where boxes of the kind are made or aren't
-pub made_none : (k : Kind) (files : Option Files) (boxes : List BoxPicture)
-    → Adds k (made k 0) files boxes boxes
-made_none k files boxes = choose (is_made k)
-  where
-    choose : (t : Bool) → Adds k (cond t 0 0) files boxes boxes
-    choose true = adds_none k files boxes
-    choose false = adds_none k files boxes
-
-pub made_more : (k : Kind) (n : ℕ) (files : Option Files) (a b c : List BoxPicture)
-    → Adds k (made k n) files a b → Adds k (made k 1) files b c → Adds k (made k (n + 1)) files a c
-made_more k n files a b c = choose (is_made k)
-  where
-    choose : (t : Bool) → Adds k (cond t n 0) files a b → Adds k (cond t 1 0) files b c
-        → Adds k (cond t (n + 1) 0) files a c
-    choose true = adds_more k n 1 files a b c
-    choose false = adds_more k 0 0 files a b c
-
-pub made_all : (k : Kind) (n m : ℕ) (files : Option Files) (a b : List BoxPicture)
-    → n ≡ m → Adds k (made k n) files a b → Adds k (made k m) files a b
-made_all k n m files a b e h = subst (λ i. Adds k (made k i) files a b) e h
-
 -- until there are so many
 pub adds_all : (k : Kind) (n m : ℕ) (files : Option Files) (a b : List BoxPicture)
-    → n ≡ m → Adds k n files a b → Adds k m files a b
-adds_all k n m files a b e h = subst (λ i. Adds k i files a b) e h
+    → n ≡ m → AddsTold k n files a b → AddsTold k m files a b
+adds_all k n m files a b e h = subst (λ i. AddsTold k i files a b) e h
 
 -- several kinds in turn
 
 with_one : (xs : List (Kind × ℕ)) (x : Kind × ℕ) (stock : Kind → ℕ)
-    → with_each (xs ++ x ∷ []) stock ≡ with_more x.0 (made x.0 x.1) (with_each xs stock)
+    → with_each (xs ++ x ∷ []) stock ≡ with_more x.0 x.1 (with_each xs stock)
 with_one [] x stock = refl
-with_one (y ∷ xs) x stock = with_one xs x (with_more y.0 (made y.0 y.1) stock)
+with_one (y ∷ xs) x stock = with_one xs x (with_more y.0 y.1 stock)
 
 -- and one kind more
-pub adds_next : (more : List (Kind × ℕ)) (i : ℕ) (x : Kind × ℕ) (files : Option Files)
-    (a b c : List BoxPicture) → i < length more → x ≡ get_or more i x
-    → AddsEach (take i more) files a b → Adds x.0 (made x.0 x.1) files b c
-    → AddsEach (take (i + 1) more) files a c
-adds_next more i x files a b c lt at h g =
+pub adds_next : (more : List (Kind × ℕ)) (i : ℕ) (x : Kind × ℕ) (a b c : List BoxPicture)
+    → i < length more → x ≡ get_or more i x
+    → AddsEach (take i more) a b → Adds x.0 x.1 b c → AddsEach (take (i + 1) more) a c
+adds_next more i x a b c lt at h g =
     let next : take (i + 1) more ≡ take i more ++ x ∷ [] =
     take_more more i x lt ∙ ap (λ y. take i more ++ y ∷ []) (sym at) in
-    subst (λ l. AddsEach l files a c) (sym next) (λ stock s.
+    subst (λ l. AddsEach l a c) (sym next) (λ files stock s.
     subst (λ f. IsStocked files f c) (sym (with_one (take i more) x stock))
-    (g (with_each (take i more) stock) (h stock s)))
+    (g files (with_each (take i more) stock) (h files stock s)))
 
 -- and all of them
-pub adds_every : (more : List (Kind × ℕ)) (i : ℕ) (files : Option Files) (a b : List BoxPicture)
-    → length more ≤ i → AddsEach (take i more) files a b → AddsEach more files a b
-adds_every more i files a b le h = subst (λ l. AddsEach l files a b) (take_all i more le) h
+pub adds_every : (more : List (Kind × ℕ)) (i : ℕ) (a b : List BoxPicture)
+    → length more ≤ i → AddsEach (take i more) a b → AddsEach more a b
+adds_every more i a b le h = subst (λ l. AddsEach l a b) (take_all i more le) h
 
 -- an empty rack
 pub stocked_none : {A : Type 0} (files : Option Files) (f : A → BoxPicture) (items : List A)
@@ -117,16 +92,21 @@ all_blank files stock boxes h = λ k d l. (h.each k d l).blank
 -- ---- the standard stock
 
 abbrev pub standard : Kind → ℕ
-standard = with_each OTHERS (with_more kind.Csv SOURCES (λ _. 0))
+standard = with_each OTHERS (with_more kind.List LISTS (with_more kind.Csv SOURCES (λ _. 0)))
 
--- where so many sources and other boxes are the standard ones
-pub standard_when : (files : Option Files) (sources : ℕ) (others : List (Kind × ℕ))
-    (boxes : List BoxPicture) → sources ≡ SOURCES → others ≡ OTHERS
-    → IsStocked files (with_each others (with_more kind.Csv sources (λ _. 0))) boxes
+-- where so many sources, lists and other boxes are the standard ones
+pub standard_when : (files : Option Files) (sources lists : ℕ) (others : List (Kind × ℕ))
+    (boxes : List BoxPicture) → sources ≡ SOURCES → lists ≡ LISTS → others ≡ OTHERS
+    → IsStocked files
+    (with_each others (with_more kind.List lists (with_more kind.Csv sources (λ _. 0)))) boxes
     → IsStocked files standard boxes
-standard_when files sources others boxes s o h =
-    subst (λ n. IsStocked files (with_each OTHERS (with_more kind.Csv n (λ _. 0))) boxes) s
-    (subst (λ l. IsStocked files (with_each l (with_more kind.Csv sources (λ _. 0))) boxes) o h)
+standard_when files sources lists others boxes s m o h =
+    subst (λ n. IsStocked files
+    (with_each OTHERS (with_more kind.List LISTS (with_more kind.Csv n (λ _. 0)))) boxes) s
+    (subst (λ n. IsStocked files
+    (with_each OTHERS (with_more kind.List n (with_more kind.Csv sources (λ _. 0)))) boxes) m
+    (subst (λ l. IsStocked files
+    (with_each l (with_more kind.List lists (with_more kind.Csv sources (λ _. 0)))) boxes) o h))
 
 has_stock : (k : Kind) → stock_of k ≤ standard k
 has_stock kind.Csv = omega arith

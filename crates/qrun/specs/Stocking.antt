@@ -1,10 +1,9 @@
 -- Racks that are filled with new boxes, one after another.
-use Rattle.std.specs.Prelude.{◌≡◌, ℕ, ◌+◌, cond, Bool, true, false, List, ◌∷◌, [], count_by, Option}
+use Rattle.std.specs.Prelude.{◌≡◌, ℕ, ◌+◌, cond, true, List, ◌∷◌, [], count_by, Option}
 use Rattle.std.specs.List.{All}
 use Rattle.outside_io.specs.Growth.{GrewBy}
 use Rattle.query_model.specs.Database.{Files}
 use Rattle.query_model.specs.declared.processor_spec.Kind.{Kind}
-use Rattle.query_model.specs.declared.processor_spec.Kind.TheVariants as kind
 use Rattle.proc_api.specs.Names.{BoxPicture, IsBlank, IsSourceKind, is_of, same_kind}
 use Rattle.query_run.specs.Names.{OfCommand, IsTextOfAnswer}
 
@@ -24,39 +23,23 @@ pub record IsStocked (files : Option Files) (stock : Kind → ℕ) (boxes : List
 abbrev pub with_more : Kind → ℕ → (Kind → ℕ) → Kind → ℕ
 with_more k n stock j = cond (same_kind k j) n 0 + stock j
 
--- so many boxes of the kind were added
-abbrev pub Adds : Kind → ℕ → Option Files → (before after : List BoxPicture) → Type 0
-Adds k n files before after = (stock : Kind → ℕ)
+-- so many boxes of the kind were added, which tell these files where they are sources
+abbrev pub AddsTold : Kind → ℕ → Option Files → (before after : List BoxPicture) → Type 0
+AddsTold k n files before after = (stock : Kind → ℕ)
     → IsStocked files stock before → IsStocked files (with_more k n stock) after
 
--- whether boxes of the kind are in the program's rack and read no file
-abbrev pub is_made : Kind → Bool
-is_made kind.Csv = false
-is_made kind.List = false
-is_made kind.Numbers = true
-is_made kind.Filter = true
-is_made kind.Expression = true
-is_made kind.Resize = true
-is_made kind.PartialAggregate = true
-is_made kind.MergeAggregate = true
-is_made kind.HashJoin = true
-is_made kind.Sort = true
-is_made kind.MergeSorted = true
-is_made kind.Limit = true
-is_made kind.Collect = true
+-- so many boxes of a kind that reads no file
+abbrev pub Adds : Kind → ℕ → (before after : List BoxPicture) → Type 0
+Adds k n before after = (files : Option Files) → AddsTold k n files before after
 
--- how many are made of so many of a kind
-abbrev pub made : Kind → ℕ → ℕ
-made k n = cond (is_made k) n 0
-
--- so many more of each kind in turn, where they are made
+-- so many more of each kind in turn
 abbrev pub with_each : List (Kind × ℕ) → (Kind → ℕ) → Kind → ℕ
 with_each [] stock = stock
-with_each (p ∷ more) stock = with_each more (with_more p.0 (made p.0 p.1) stock)
+with_each (p ∷ more) stock = with_each more (with_more p.0 p.1 stock)
 
 -- they were added
-abbrev pub AddsEach : List (Kind × ℕ) → Option Files → (before after : List BoxPicture) → Type 0
-AddsEach more files before after = (stock : Kind → ℕ)
+abbrev pub AddsEach : List (Kind × ℕ) → (before after : List BoxPicture) → Type 0
+AddsEach more before after = (files : Option Files) → (stock : Kind → ℕ)
     → IsStocked files stock before → IsStocked files (with_each more stock) after
 
 -- exactly the text of an answer of the words' query over the files was written

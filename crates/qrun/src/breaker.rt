@@ -10,10 +10,11 @@ use port_word::PortView;
 use proc_api::{Growth, LoadRefusal, Processor, Status, Wake, WorkFault};
 use query_model::processor_spec::{Kind, Spec};
 use sort_procs::{MergeSorted, Sort};
+use std::alloc::Global;
 
-/// A processor of a kind that gives no row before an input has ended, or each has given one: one type
-/// of box for these kinds, since what proves a function that makes boxes goes over each of their
-/// types.
+/// A processor of a kind that gives no row before an input has ended, or each has given one: one
+/// type of box for these kinds, since what proves a function that makes boxes goes over each of
+/// their types.
 #[derive(Drop)]
 pub(crate) enum Breaker {
     PartialAggregate(PartialAggregate),
@@ -21,6 +22,27 @@ pub(crate) enum Breaker {
     HashJoin(HashJoin),
     Sort(Sort),
     MergeSorted(MergeSorted),
+}
+
+impl Breaker {
+    /// A new one of the kind, where it is one of theirs.
+    pub(crate) fn of(alloc: Global, kind: Kind) -> Option<Breaker> {
+        match kind {
+            Kind::PartialAggregate => Some(Breaker::PartialAggregate(PartialAggregate::new(alloc))),
+            Kind::MergeAggregate => Some(Breaker::MergeAggregate(MergeAggregate::new(alloc))),
+            Kind::HashJoin => Some(Breaker::HashJoin(HashJoin::new(alloc))),
+            Kind::Sort => Some(Breaker::Sort(Sort::new(alloc))),
+            Kind::MergeSorted => Some(Breaker::MergeSorted(MergeSorted::new(alloc))),
+            Kind::Csv
+            | Kind::List
+            | Kind::Numbers
+            | Kind::Filter
+            | Kind::Expression
+            | Kind::Resize
+            | Kind::Limit
+            | Kind::Collect => None,
+        }
+    }
 }
 
 /// A call of the processor that it is.

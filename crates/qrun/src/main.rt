@@ -3,21 +3,20 @@
 
 mod breaker;
 mod racks;
+mod real_source;
 #[cfg(test)]
 mod tests;
 
 use crate::breaker::Breaker;
-use crate::racks::{OTHERS, SOURCES, unload_rack};
-use aggregate_proc::{MergeAggregate, PartialAggregate};
+use crate::racks::{LISTS, OTHERS, SOURCES, unload_rack};
+use crate::real_source::RealSource;
 use chunk_data::Memory;
-use csv_procs::CsvSource;
+use csv_procs::{CsvSource, ListSource};
 use flow_procs::{Collect, Expression, Filter, Limit, Numbers, Resize};
-use join_proc::HashJoin;
 use outside_io::{RealFiles, RealSink, Sink};
 use proc_api::Rack;
 use query_model::processor_spec::Kind;
 use query_run::run;
-use sort_procs::{MergeSorted, Sort};
 use std::env;
 use std::io::ErrorKind;
 use std::process::ExitCode;
@@ -67,9 +66,14 @@ fn run_words<R: AllocGlobal + Threads + Sync>(
 ) -> Result<u8, Memory> {
     let alloc = rt.alloc();
     let mut rack = Rack::new(alloc);
-    for _source in 0..SOURCES {
-        let source = Box::new(alloc, CsvSource::new(alloc, RealFiles::new(*rt)))?;
-        rack.boxes.push(source)?;
+    for place in 0..SOURCES + LISTS {
+        let reader = RealFiles::new(*rt);
+        let source = if place < SOURCES {
+            RealSource::Part(CsvSource::new(alloc, reader))
+        } else {
+            RealSource::List(ListSource::new(alloc, reader))
+        };
+        rack.boxes.push(Box::new(alloc, source)?)?;
     }
     for i in 0..OTHERS.len() {
         let (kind, count) = OTHERS[i];
@@ -79,25 +83,14 @@ fn run_words<R: AllocGlobal + Threads + Sync>(
                 Kind::Filter => rack.boxes.push(Box::new(alloc, Filter::new(alloc))?)?,
                 Kind::Expression => rack.boxes.push(Box::new(alloc, Expression::new(alloc))?)?,
                 Kind::Resize => rack.boxes.push(Box::new(alloc, Resize::new(alloc))?)?,
-                Kind::PartialAggregate => {
-                    let partial = Breaker::PartialAggregate(PartialAggregate::new(alloc));
-                    rack.boxes.push(Box::new(alloc, partial)?)?
-                }
-                Kind::MergeAggregate => {
-                    let merge = Breaker::MergeAggregate(MergeAggregate::new(alloc));
-                    rack.boxes.push(Box::new(alloc, merge)?)?
-                }
-                Kind::HashJoin => {
-                    let join = Breaker::HashJoin(HashJoin::new(alloc));
-                    rack.boxes.push(Box::new(alloc, join)?)?
-                }
-                Kind::Sort => {
-                    let sort = Breaker::Sort(Sort::new(alloc));
-                    rack.boxes.push(Box::new(alloc, sort)?)?
-                }
-                Kind::MergeSorted => {
-                    let merge = Breaker::MergeSorted(MergeSorted::new(alloc));
-                    rack.boxes.push(Box::new(alloc, merge)?)?
+                Kind::PartialAggregate
+                | Kind::MergeAggregate
+                | Kind::HashJoin
+                | Kind::Sort
+                | Kind::MergeSorted => {
+                    if let Some(breaker) = Breaker::of(alloc, kind) {
+                        rack.boxes.push(Box::new(alloc, breaker)?)?
+                    }
                 }
                 Kind::Limit => rack.boxes.push(Box::new(alloc, Limit::new(alloc))?)?,
                 Kind::Collect => rack.boxes.push(Box::new(alloc, Collect::new(alloc))?)?,

@@ -7,8 +7,11 @@ ghost use Rattle.plan_run.specs.OneBox.{OnlyBox};
 use proc_api::{Processor, Rack};
 use query_model::processor_spec::Kind;
 
-/// How many boxes that read a file lie in the standard rack.
+/// How many boxes that read a part lie in the standard rack.
 pub(crate) const SOURCES: u32 = 64;
+
+/// How many boxes that read a list of parts lie in it.
+pub(crate) const LISTS: u32 = 2;
 
 /// How many boxes of each other kind lie in it.
 pub(crate) const OTHERS: [(Kind, u32); 11] = [

@@ -5,26 +5,25 @@ ghost use Rattle.std.specs.List.{All};
 ghost use Rattle.outside_io.specs.Counts.{Rose};
 ghost use Rattle.outside_io.specs.Scripts.{IsRising};
 ghost use Rattle.outside_io.specs.Told.{files_of as told_pairs};
-ghost use Rattle.query_model.specs.declared.processor_spec.Kind.TheVariants as kind;
 ghost use Rattle.proc_api.specs.Clauses.{IsBlank, IsLawfulBlank};
-ghost use Rattle.csv_procs.specs.PartSeen.{source_seen};
 ghost use Rattle.query_run.specs.Names.{OfCommand, IsAnswerable, IsEither, ReaderFails, IsHonest};
-ghost use Rattle.qrun.specs.Stocking.{Adds, WroteAnswer};
-ghost use Rattle.qrun.specs.declared.racks.TheConstants.{OTHERS as others_of_rack, SOURCES as sources_of_rack};
+ghost use Rattle.qrun.specs.Stocking.{AddsTold, WroteAnswer};
+ghost use Rattle.qrun.specs.declared.racks.TheConstants.{LISTS as lists_of_rack, OTHERS as others_of_rack, SOURCES as sources_of_rack};
 
 mod boxes;
 mod cases;
 mod devices;
 mod groups;
 mod joins;
+mod lists;
 mod orders;
 mod plans;
 mod queries;
 
-use crate::racks::{OTHERS, SOURCES};
+use crate::racks::{LISTS, OTHERS, SOURCES};
 use crate::tests::boxes::add_each;
 use chunk_data::{Bytes, Chunk, List, Memory};
-use csv_procs::CsvSource;
+use csv_procs::{CsvSource, ListSource};
 use outside_io::{Failed, Fake, FakeKind, FileEntry, FileReader, Got, MemFiles, MemSink, Sink};
 use port_word::PortView;
 use proc_api::{Growth, LoadRefusal, Processor, Rack, Status, Wake, WorkFault};
@@ -104,9 +103,10 @@ fn is_met(works: &AtomicU64) -> bool {
 }
 
 impl Processor for Counted {
-    ghost use Rattle.csv_procs.specs.PartSeen.{source_seen};
+    ghost use Rattle.query_model.specs.declared.processor_spec.Kind.TheVariants as kind;
+    ghost use Rattle.csv_procs.specs.Names.{seen_by};
 
-    ghost seen = { λ c. source_seen c.source };
+    ghost seen = { λ c. seen_by kind.Csv c.source };
 
     ghost stands = { λ c. c.source.stands };
 
@@ -164,7 +164,7 @@ struct Setting<'a> {
     fake: Option<Fake>,
     /// How often a reader has nothing yet before its first byte.
     waits: u64,
-    /// The place of the one source whose reader is so, or else all are.
+    /// The place of the one source whose reader is so among those of its kind, or else all are.
     only: Option<u32>,
     /// How many sources and other boxes lie in the rack, where it isn't the standard one.
     stock: Option<(u32, &'a [(Kind, u32)])>,
@@ -204,13 +204,18 @@ fn text(alloc: Global, bytes: &[u8]) -> Result<Bytes, AllocError>
     Ok(Bytes::from_vec(Vec::from_slice(alloc, bytes)?))
 }
 
-fn words_of(alloc: Global, query: &str, declaration: &str) -> Result<Vec<String>, AllocError> {
+/// The words, between which a bar stands.
+fn bars(alloc: Global, text: &str) -> Result<Vec<String>, AllocError> {
     let mut words = Vec::new(alloc);
-    words.push(String::from_str(alloc, "--query")?)?;
-    words.push(String::from_str(alloc, query)?)?;
-    words.push(String::from_str(alloc, "--tables")?)?;
-    words.push(String::from_str(alloc, declaration)?)?;
+    for word in text.split('|') {
+        words.push(String::from_str(alloc, word)?)?;
+    }
     Ok(words)
+}
+
+fn words_of(alloc: Global, query: &str, declaration: &str) -> Result<Vec<String>, Fail> {
+    let words = format!(in alloc; "--query|{query}|--tables|{declaration}")?;
+    Ok(bars(alloc, words.as_str())?)
 }
 
 /// The one file `f.csv`.
@@ -256,9 +261,8 @@ fn script_of(alloc: Global, fake: Option<Fake>) -> Result<List<Fake>, AllocError
     }
 }
 
-fn source_of(alloc: Global, setting: &Setting<'_>, place: u32) -> Result<CsvSource<SlowFiles>, Fail>
-    ensures blank { IfOk result (λ s. IsLawfulBlank kind.Csv (source_seen s)) }
-    ensures files { IfOk result (λ s. s.files ≡ Some (told_pairs setting.now.files.now)) }
+fn reader_of(alloc: Global, setting: &Setting<'_>, place: u32) -> Result<SlowFiles, Fail>
+    ensures { IfOk result (λ r. r.files.files ≡ setting.now.files.now) }
 {
     let (fake, waits) = match setting.only {
         Some(only) if only != place => (None, 0),
@@ -266,12 +270,11 @@ fn source_of(alloc: Global, setting: &Setting<'_>, place: u32) -> Result<CsvSour
     };
     let script = script_of(alloc, fake)?;
     let files = copy_files(alloc, setting.files)?;
-    let files = SlowFiles {
+    Ok(SlowFiles {
         files: MemFiles::new(alloc, files, script),
         waits,
         pendings: 0,
-    };
-    Ok(CsvSource::new(alloc, files))
+    })
 }
 
 /// The outcomes of words that run over one rack, and the kinds of its boxes before and after each
@@ -282,34 +285,64 @@ struct Runs {
     kinds: String,
 }
 
-/// Adds a new source that tells the files.
+/// Adds a new source of the kind that tells the files.
 fn put_told(
     rack: &mut Rack,
+    kind: Kind,
     files: &List<FileEntry>,
     b: Box<dyn Processor + Send>,
 ) -> Result<(), AllocError>
-    requires new { IsLawfulBlank kind.Csv (seen b) }
+    requires new { IsLawfulBlank kind (seen b) }
     requires told { (seen b).files ≡ Some (told_pairs files.now) }
-    ensures { OnOk result (Adds kind.Csv 1 (Some (told_pairs files.now))
+    ensures { OnOk result (AddsTold kind 1 (Some (told_pairs files.now))
         (map (λ b. seen b) rack.old.boxes.items) (map (λ b. seen b) rack.new.boxes.items)) }
 {
     rack.boxes.push(b)?;
     Ok(())
 }
 
+/// Adds a source of parts, or of lists of them.
+fn add_told<R: AllocGlobal + Threads + Sync>(
+    rt: &R,
+    rack: &mut Rack,
+    setting: &Setting<'_>,
+    kind: Kind,
+    place: u32,
+) -> Result<(), Fail>
+    ensures { OnOk result (AddsTold kind 1 (Some (told_pairs setting.now.files.now))
+        (map (λ b. seen (b.vtable, b.value)) rack.old.boxes.items)
+        (map (λ b. seen (b.vtable, b.value)) rack.new.boxes.items)) }
+{
+    let reader = reader_of(rt.alloc(), setting, place)?;
+    match kind {
+        Kind::Csv => {
+            let source = Box::new(rt.alloc(), CsvSource::new(rt.alloc(), reader))?;
+            put_told(rack, kind, setting.files, source)?;
+            Ok(())
+        }
+        Kind::List => {
+            let source = Box::new(rt.alloc(), ListSource::new(rt.alloc(), reader))?;
+            put_told(rack, kind, setting.files, source)?;
+            Ok(())
+        }
+        _ => Err("no source".into()),
+    }
+}
+
+/// Adds so many sources of the kind.
 fn add_told_sources<R: AllocGlobal + Threads + Sync>(
     rt: &R,
     rack: &mut Rack,
     setting: &Setting<'_>,
+    kind: Kind,
     count: u32,
 ) -> Result<(), Fail>
-    ensures { OnOk result (Adds kind.Csv count (Some (told_pairs setting.now.files.now))
+    ensures { OnOk result (AddsTold kind count (Some (told_pairs setting.now.files.now))
         (map (λ b. seen (b.vtable, b.value)) rack.old.boxes.items)
         (map (λ b. seen (b.vtable, b.value)) rack.new.boxes.items)) }
 {
     for n in 0..count {
-        let source = Box::new(rt.alloc(), source_of(rt.alloc(), setting, n)?)?;
-        put_told(rack, setting.files, source)?;
+        add_told(rt, rack, setting, kind, n)?;
     }
     Ok(())
 }
@@ -321,8 +354,8 @@ fn run_setting<R: AllocGlobal + Threads + Sync>(
     setting: &Setting<'_>,
 ) -> Result<Runs, Fail> {
     match setting.stock {
-        None => run_stocked(rt, words, setting, SOURCES, &OTHERS, true),
-        Some((sources, others)) => run_stocked(rt, words, setting, sources, others, false),
+        None => run_stocked(rt, words, setting, (SOURCES, LISTS), &OTHERS, true),
+        Some((sources, others)) => run_stocked(rt, words, setting, (sources, 0), others, false),
     }
 }
 
@@ -330,15 +363,16 @@ fn run_stocked<R: AllocGlobal + Threads + Sync>(
     rt: &R,
     words: &[String],
     setting: &Setting<'_>,
-    sources: u32,
+    sources: (u32, u32),
     others: &[(Kind, u32)],
     standard: bool,
 ) -> Result<Runs, Fail>
-    requires { IsTrue standard
-        → (sources ≡ sources_of_rack) × (others.now ≡ others_of_rack) }
+    requires { IsTrue standard → (sources.0 ≡ sources_of_rack) × (sources.1 ≡ lists_of_rack)
+        × (others.now ≡ others_of_rack) }
 {
     let mut rack = Rack::new(rt.alloc());
-    add_told_sources(rt, &mut rack, setting, sources)?;
+    add_told_sources(rt, &mut rack, setting, Kind::Csv, sources.0)?;
+    add_told_sources(rt, &mut rack, setting, Kind::List, sources.1)?;
     add_each(rt, &mut rack, others)?;
     run_shown(rt, words, &mut rack, setting, standard)
 }
@@ -447,6 +481,7 @@ fn show_kinds(kinds: &mut String, rack: &Rack) -> Result<(), Fail> {
 fn letter_of(kind: Kind) -> char {
     match kind {
         Kind::Csv => 's',
+        Kind::List => 't',
         Kind::Numbers => 'n',
         Kind::Filter => 'f',
         Kind::Expression => 'e',
@@ -458,7 +493,6 @@ fn letter_of(kind: Kind) -> char {
         Kind::MergeSorted => 'm',
         Kind::Limit => 'l',
         Kind::Collect => 'c',
-        _ => '?',
     }
 }
 

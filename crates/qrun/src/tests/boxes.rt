@@ -1,10 +1,9 @@
 // Boxes for the racks of worked runs. What is known of a new processor is known of its box where it
 // is handed to a function that asks for it. A function that hands out a box that it made itself, as
 // those below, may stand in tests alone.
-ghost use Rattle.std.specs.Prelude.{◌≡◌, true, Option, OnOk, map};
-ghost use Rattle.query_model.specs.Database.{Files};
+ghost use Rattle.std.specs.Prelude.{OnOk, map};
 ghost use Rattle.proc_api.specs.Clauses.{IsLawfulBlank, IsSourceKind};
-ghost use Rattle.qrun.specs.Stocking.{is_made, made, Adds, AddsEach};
+ghost use Rattle.qrun.specs.Stocking.{Adds, AddsEach};
 
 use aggregate_proc::{MergeAggregate, PartialAggregate};
 use chunk_data::Memory;
@@ -18,8 +17,7 @@ use sort_procs::{MergeSorted, Sort};
 fn put(rack: &mut Rack, kind: Kind, b: Box<dyn Processor + Send>) -> Result<(), Memory>
     requires new { IsLawfulBlank kind (seen b) }
     requires without_file { IsSourceKind kind → ⊥ }
-    requires made { is_made kind ≡ true }
-    ensures { (files : Option Files) → OnOk result (Adds kind (made kind 1) files
+    ensures { OnOk result (Adds kind 1
         (map (λ b. seen b) rack.old.boxes.items) (map (λ b. seen b) rack.new.boxes.items)) }
 {
     rack.boxes.push(b)?;
@@ -29,78 +27,44 @@ fn put(rack: &mut Rack, kind: Kind, b: Box<dyn Processor + Send>) -> Result<(), 
 // Makes a box of a kind that waits for its inputs and adds it; of no other kind. It stands apart,
 // since what proves a function that makes boxes goes over each of their types.
 fn add_breaker<R: AllocGlobal>(rt: &R, rack: &mut Rack, kind: Kind) -> Result<(), Memory>
-    ensures { (files : Option Files) → OnOk result (Adds kind (made kind 1) files
+    ensures { OnOk result (Adds kind 1
         (map (λ b. seen (b.vtable, b.value)) rack.old.boxes.items)
         (map (λ b. seen (b.vtable, b.value)) rack.new.boxes.items)) }
 {
+    let alloc = rt.alloc();
     match kind {
         Kind::PartialAggregate => {
-            let partial = Box::new(rt.alloc(), PartialAggregate::new(rt.alloc()))?;
-            put(rack, kind, partial)
+            put(rack, kind, Box::new(alloc, PartialAggregate::new(alloc))?)
         }
-        Kind::MergeAggregate => {
-            let merge = Box::new(rt.alloc(), MergeAggregate::new(rt.alloc()))?;
-            put(rack, kind, merge)
-        }
-        Kind::HashJoin => {
-            let join = Box::new(rt.alloc(), HashJoin::new(rt.alloc()))?;
-            put(rack, kind, join)
-        }
-        Kind::Sort => {
-            let sort = Box::new(rt.alloc(), Sort::new(rt.alloc()))?;
-            put(rack, kind, sort)
-        }
-        Kind::MergeSorted => {
-            let merge = Box::new(rt.alloc(), MergeSorted::new(rt.alloc()))?;
-            put(rack, kind, merge)
-        }
+        Kind::MergeAggregate => put(rack, kind, Box::new(alloc, MergeAggregate::new(alloc))?),
+        Kind::HashJoin => put(rack, kind, Box::new(alloc, HashJoin::new(alloc))?),
+        Kind::Sort => put(rack, kind, Box::new(alloc, Sort::new(alloc))?),
+        Kind::MergeSorted => put(rack, kind, Box::new(alloc, MergeSorted::new(alloc))?),
         _ => Err(Memory),
     }
 }
 
-// Makes a box of the kind and adds it, where such boxes are made and read no file.
+// Makes a box of the kind and adds it, where its kind reads no file.
 fn add_box<R: AllocGlobal>(rt: &R, rack: &mut Rack, kind: Kind) -> Result<(), Memory>
-    ensures { (files : Option Files) → OnOk result (Adds kind (made kind 1) files
+    ensures { OnOk result (Adds kind 1
         (map (λ b. seen (b.vtable, b.value)) rack.old.boxes.items)
         (map (λ b. seen (b.vtable, b.value)) rack.new.boxes.items)) }
 {
+    let alloc = rt.alloc();
     match kind {
-        Kind::Numbers => {
-            let numbers = Box::new(rt.alloc(), Numbers::new(rt.alloc()))?;
-            put(rack, kind, numbers)
-        }
-        Kind::Filter => {
-            let filter = Box::new(rt.alloc(), Filter::new(rt.alloc()))?;
-            put(rack, kind, filter)
-        }
-        Kind::Expression => {
-            let expression = Box::new(rt.alloc(), Expression::new(rt.alloc()))?;
-            put(rack, kind, expression)
-        }
-        Kind::Resize => {
-            let resize = Box::new(rt.alloc(), Resize::new(rt.alloc()))?;
-            put(rack, kind, resize)
-        }
-        Kind::Limit => {
-            let limit = Box::new(rt.alloc(), Limit::new(rt.alloc()))?;
-            put(rack, kind, limit)
-        }
-        Kind::Collect => {
-            let collect = Box::new(rt.alloc(), Collect::new(rt.alloc()))?;
-            put(rack, kind, collect)
-        }
-        Kind::PartialAggregate
-        | Kind::MergeAggregate
-        | Kind::HashJoin
-        | Kind::Sort
-        | Kind::MergeSorted => add_breaker(rt, rack, kind),
-        Kind::Csv | Kind::List => Ok(()),
+        Kind::Numbers => put(rack, kind, Box::new(alloc, Numbers::new(alloc))?),
+        Kind::Filter => put(rack, kind, Box::new(alloc, Filter::new(alloc))?),
+        Kind::Expression => put(rack, kind, Box::new(alloc, Expression::new(alloc))?),
+        Kind::Resize => put(rack, kind, Box::new(alloc, Resize::new(alloc))?),
+        Kind::Limit => put(rack, kind, Box::new(alloc, Limit::new(alloc))?),
+        Kind::Collect => put(rack, kind, Box::new(alloc, Collect::new(alloc))?),
+        _ => add_breaker(rt, rack, kind),
     }
 }
 
-/// Adds so many blank boxes of a kind, where they are made and read no file.
+/// Adds so many blank boxes of a kind that reads no file.
 fn add_boxes<R: AllocGlobal>(rt: &R, rack: &mut Rack, kind: Kind, count: u32) -> Result<(), Memory>
-    ensures { (files : Option Files) → OnOk result (Adds kind (made kind count) files
+    ensures { OnOk result (Adds kind count
         (map (λ b. seen (b.vtable, b.value)) rack.old.boxes.items)
         (map (λ b. seen (b.vtable, b.value)) rack.new.boxes.items)) }
 {
@@ -110,13 +74,13 @@ fn add_boxes<R: AllocGlobal>(rt: &R, rack: &mut Rack, kind: Kind, count: u32) ->
     Ok(())
 }
 
-/// Adds so many blank boxes of each kind, where they are made and read no file.
+/// Adds so many blank boxes of each kind, none of which reads a file.
 pub(crate) fn add_each<R: AllocGlobal>(
     rt: &R,
     rack: &mut Rack,
     stock: &[(Kind, u32)],
 ) -> Result<(), Memory>
-    ensures { (files : Option Files) → OnOk result (AddsEach stock.now files
+    ensures { OnOk result (AddsEach stock.now
         (map (λ b. seen (b.vtable, b.value)) rack.old.boxes.items)
         (map (λ b. seen (b.vtable, b.value)) rack.new.boxes.items)) }
 {

@@ -15,17 +15,19 @@ pub(super) fn fields(case: &str) -> (&str, &str, &str, &str) {
 
 // The status that a line's front stands for.
 fn status_of(told: &str) -> u8 {
-    if told.starts_with("qrun: usage") {
-        1
-    } else if told.starts_with("qrun: refused") {
-        2
-    } else if told.starts_with("qrun: bad data") {
-        3
-    } else if told.starts_with("qrun: limit") {
-        6
-    } else {
-        0
+    for (front, status) in [
+        ("qrun: usage", 1),
+        ("qrun: refused", 2),
+        ("qrun: bad", 3),
+        ("qrun: read fault", 4),
+        ("qrun: stalled", 4),
+        ("qrun: limit", 6),
+    ] {
+        if told.starts_with(front) {
+            return status;
+        }
     }
+    0
 }
 
 /// A run wrote this answer and told nothing, or told this line, with its status, and wrote nothing.

@@ -2,17 +2,18 @@
 ghost use Rattle.std.specs.Prelude.{IsSome, OnOk, Some, map};
 ghost use Rattle.outside_io.specs.Told.{files_of as told_pairs};
 ghost use Rattle.query_model.specs.declared.processor_spec.Kind.TheVariants as kind;
-ghost use Rattle.qrun.specs.Stocking.{Adds};
+ghost use Rattle.qrun.specs.Stocking.{AddsTold};
 
 use super::cases::{check, fields};
 use super::plans::SIZES;
 use super::{
-    Counted, Outcome, Setting, USAGE, ample, letter_of, one_file, put_told, run_once, run_setting,
-    run_shown, script_of, source_of, text, told_by, words_of,
+    Counted, Outcome, Setting, ample, letter_of, one_file, put_told, reader_of, run_once,
+    run_setting, run_shown, script_of, text, words_of,
 };
 use crate::racks::OTHERS;
 use crate::tests::boxes::add_each;
 use chunk_data::Bytes;
+use csv_procs::CsvSource;
 use csv_rows::{FetchFault, Fetched, fetch};
 use outside_io::{Fake, FakeKind, FileReader, MemFiles, MemSink};
 use proc_api::Rack;
@@ -24,42 +25,35 @@ use std::sync::atomic::{AtomicU64, Ordering};
 use std::test::Fail;
 use std::thread::Threads;
 
-/// A sink of lines that takes three bytes a call, and fails after so many: the line is cut there,
-/// and all else is the same.
+/// A sink of lines that takes so many bytes a call, and fails after some: the line, with a name or
+/// numbers, is cut there, and all else is the same.
 #[test]
 fn lines_are_cut_where_their_sink_fails(rt: HostRuntime) -> Result<(), Fail> {
-    let words = words_of(rt.alloc(), "SELECT cost FROM t", "t=f.csv:a Int64")?;
-    let cases: [(usize, &str); 5] = [
-        (0, ""),
-        (10, "qrun: refu"),
-        (32, "qrun: refused: UnknownColumn cos"),
-        (33, "qrun: refused: UnknownColumn cost"),
-        (34, "qrun: refused: UnknownColumn cost\n"),
+    let cases: [(usize, &str, u8, &str); 2] = [
+        (
+            3,
+            "SELECT cost FROM t",
+            2,
+            "qrun: refused: UnknownColumn cost\n",
+        ),
+        (
+            80,
+            "SELECT a FROM t",
+            6,
+            "qrun: limit: boxes of kind Csv needed 1, rack has 0\n",
+        ),
     ];
-    for (room, line) in cases.iter() {
-        let mut rack = Rack::new(rt.alloc());
-        let mut out = MemSink::new(rt.alloc(), 80, 80)?;
-        let mut err = MemSink::new(rt.alloc(), 3, *room)?;
-        let status = run(&rt, words.as_slice(), &mut rack, &mut out, &mut err);
-        assert_eq!(rt; status, 2);
-        assert_eq!(rt; out.written().len(), 0);
-        assert_eq!(rt; err.written(), line.as_bytes());
-    }
-    Ok(())
-}
-
-/// A line with numbers, cut where its sink fails.
-#[test]
-fn numbers_are_cut_where_their_sink_fails(rt: HostRuntime) -> Result<(), Fail> {
-    let words = words_of(rt.alloc(), "SELECT a FROM t", "t=f.csv:a Int64")?;
-    let line = "qrun: limit: boxes of kind Csv needed 1, rack has 0\n";
-    for room in 0..53 {
-        let mut rack = Rack::new(rt.alloc());
-        let mut out = MemSink::new(rt.alloc(), 80, 80)?;
-        let mut err = MemSink::new(rt.alloc(), 80, room)?;
-        let status = run(&rt, words.as_slice(), &mut rack, &mut out, &mut err);
-        assert_eq!(rt; status, 6);
-        assert_eq!(rt; err.written(), &line.as_bytes()[..room.min(line.len())]);
+    for (step, query, wanted, line) in cases.iter() {
+        let words = words_of(rt.alloc(), query, "t=f.csv:a Int64")?;
+        for room in 0..53 {
+            let mut rack = Rack::new(rt.alloc());
+            let mut out = MemSink::new(rt.alloc(), 80, 80)?;
+            let mut err = MemSink::new(rt.alloc(), *step, room)?;
+            let status = run(&rt, words.as_slice(), &mut rack, &mut out, &mut err);
+            assert_eq!(rt; status, *wanted);
+            assert_eq!(rt; out.written().len(), 0);
+            assert_eq!(rt; err.written(), &line.as_bytes()[..room.min(line.len())]);
+        }
     }
     Ok(())
 }
@@ -70,35 +64,22 @@ fn numbers_are_cut_where_their_sink_fails(rt: HostRuntime) -> Result<(), Fail> {
 fn readers_fail_and_wait(rt: HostRuntime) -> Result<(), Fail> {
     let words = words_of(rt.alloc(), "SELECT a FROM t", "t=f.csv:a Int64")?;
     let fault = "qrun: read fault: table t part 1\n";
-    let cases: [(u64, FakeKind, u8, &str, &str); 8] = [
-        (1, FakeKind::Fail, 4, "", fault),
-        (2, FakeKind::Fail, 4, "", fault),
-        (3, FakeKind::Fail, 4, "", fault),
-        (4, FakeKind::Fail, 0, "7\n", ""),
-        (1, FakeKind::Pend, 4, "", fault),
-        (2, FakeKind::Pend, 0, "7\n", ""),
-        (3, FakeKind::Pend, 0, "7\n", ""),
-        (4, FakeKind::Pend, 0, "7\n", ""),
+    let cases: [(u64, FakeKind, &str); 8] = [
+        (1, FakeKind::Fail, fault),
+        (2, FakeKind::Fail, fault),
+        (3, FakeKind::Fail, fault),
+        (4, FakeKind::Fail, "7\n"),
+        (1, FakeKind::Pend, fault),
+        (2, FakeKind::Pend, "7\n"),
+        (3, FakeKind::Pend, "7\n"),
+        (4, FakeKind::Pend, "7\n"),
     ];
     let files = one_file(rt.alloc(), b"7\n")?;
-    for (call, kind, status, written, line) in cases.iter() {
+    for (call, kind, told) in cases.iter() {
+        let (call, kind) = (*call, *kind);
         let mut setting = ample(&files);
-        setting.fake = Some(Fake {
-            call: *call,
-            kind: *kind,
-        });
-        let outcome = run_once(&rt, words.as_slice(), &setting)?;
-        assert_eq!(rt; outcome.status, *status, "status at call {call}");
-        assert_eq!(rt;
-            outcome.out.as_slice(),
-            written.as_bytes(),
-            "text at call {call}"
-        );
-        assert_eq!(rt;
-            outcome.err.as_slice(),
-            line.as_bytes(),
-            "line at call {call}"
-        );
+        setting.fake = Some(Fake { call, kind });
+        check(&rt, told, &run_once(&rt, words.as_slice(), &setting)?, told)?;
     }
     Ok(())
 }
@@ -107,7 +88,8 @@ fn readers_fail_and_wait(rt: HostRuntime) -> Result<(), Fail> {
 #[test]
 fn a_missing_kind_is_told(rt: HostRuntime) -> Result<(), Fail> {
     let cases: [&str; 13] = [
-        "serrc~1~SELECT a FROM t WHERE a = 7~qrun: limit: boxes of kind Filter needed 1, rack has 0\n",
+        "serrc~1~SELECT a FROM t WHERE a = 7~\
+         qrun: limit: boxes of kind Filter needed 1, rack has 0\n",
         "sferrc~2~SELECT a FROM t WHERE a = 7~\
          qrun: limit: boxes of kind Filter needed 2, rack has 1\n",
         "serrc~1~SELECT a FROM t~7\n",
@@ -151,48 +133,24 @@ fn a_missing_kind_is_told(rt: HostRuntime) -> Result<(), Fail> {
 }
 
 /// A query over the one file by so many lanes.
-fn words_by_lanes(alloc: Global, query: &str, lanes: &str) -> Result<Vec<String>, AllocError> {
-    let mut words = words_of(alloc, query, "t=f.csv:a Int64")?;
-    words.push(String::from_str(alloc, "--threads")?)?;
-    words.push(String::from_str(alloc, lanes)?)?;
-    Ok(words)
+fn words_by_lanes(alloc: Global, query: &str, lanes: &str) -> Result<Vec<String>, Fail> {
+    words_of(
+        alloc,
+        query,
+        format!(in alloc; "t=f.csv:a Int64|--threads|{lanes}")?.as_str(),
+    )
 }
 
 /// The boxes that weren't taken lie in front, and then the taken ones in the order of the plan. The
 /// same words run again.
 #[test]
 fn boxes_come_back_in_their_order(rt: HostRuntime) -> Result<(), Fail> {
-    let cases: [(&str, u8, &str, &str); 5] = [
-        (
-            "SELECT a FROM t WHERE a = 7",
-            0,
-            "7\n",
-            "ssffeerrlc|sfelsrferc|lsfesrferc|",
-        ),
-        (
-            "SELECT a FROM t",
-            0,
-            "7\n8\n",
-            "ssffeerrlc|sffelsrerc|fflsesrerc|",
-        ),
-        (
-            "SELECT a FROM t LIMIT 2",
-            0,
-            "7\n8\n",
-            "ssffeerrlc|sffesrerlc|ffsesrerlc|",
-        ),
-        (
-            "SELECT b FROM t",
-            2,
-            "qrun: refused: UnknownColumn b\n",
-            "ssffeerrlc|ssffeerrlc|ssffeerrlc|",
-        ),
-        (
-            "",
-            2,
-            "qrun: refused: Syntax\n",
-            "ssffeerrlc|ssffeerrlc|ssffeerrlc|",
-        ),
+    let cases: [&str; 5] = [
+        "SELECT a FROM t WHERE a = 7~7\n~ssffeerrlc|sfelsrferc|lsfesrferc|",
+        "SELECT a FROM t~7\n8\n~ssffeerrlc|sffelsrerc|fflsesrerc|",
+        "SELECT a FROM t LIMIT 2~7\n8\n~ssffeerrlc|sffesrerlc|ffsesrerlc|",
+        "SELECT b FROM t~qrun: refused: UnknownColumn b\n~ssffeerrlc|ssffeerrlc|ssffeerrlc|",
+        "~qrun: refused: Syntax\n~ssffeerrlc|ssffeerrlc|ssffeerrlc|",
     ];
     let files = one_file(rt.alloc(), b"7\n8\n")?;
     let others = [
@@ -202,7 +160,8 @@ fn boxes_come_back_in_their_order(rt: HostRuntime) -> Result<(), Fail> {
         (Kind::Limit, 1),
         (Kind::Collect, 1),
     ];
-    for (query, status, told, kinds) in cases.iter() {
+    for case in cases.iter() {
+        let (query, told, kinds, _) = fields(case);
         let words = words_by_lanes(rt.alloc(), query, "1")?;
         let mut setting = ample(&files);
         setting.stock = Some((2, &others));
@@ -210,10 +169,9 @@ fn boxes_come_back_in_their_order(rt: HostRuntime) -> Result<(), Fail> {
         let runs = run_setting(&rt, words.as_slice(), &setting)?;
         assert_eq!(rt; runs.outcomes.len(), 2);
         for outcome in runs.outcomes.as_slice() {
-            assert_eq!(rt; outcome.status, *status, "status of {query}");
-            assert_eq!(rt; told_by(outcome), told.as_bytes(), "{query}");
+            check(&rt, case, outcome, told)?;
         }
-        assert_eq!(rt; runs.kinds.as_str(), *kinds, "rack of {query}");
+        assert_eq!(rt; runs.kinds.as_str(), kinds, "rack of {query}");
     }
     Ok(())
 }
@@ -230,60 +188,37 @@ fn a_fault_leaves_the_rack_for_another_run(rt: HostRuntime) -> Result<(), Fail> 
         call: 3,
         kind: FakeKind::Fail,
     });
-    let wanted: [(u8, &str, &str); 2] = [
-        (4, "", "qrun: read fault: table t part 2\n"),
-        (0, "4\n", ""),
-    ];
+    let wanted = ["qrun: read fault: table t part 2\n", "4\n"];
     for size in SIZES.iter() {
         let words = count_words(rt.alloc(), *size)?;
         let runs = run_setting(&rt, words.as_slice(), &setting)?;
         assert_eq!(rt; runs.outcomes.len(), 2);
-        for ((status, written, line), outcome) in wanted
-            .iter()
-            .zip(runs.outcomes.as_slice().iter())
-        {
-            assert_eq!(rt; outcome.status, *status);
-            assert_eq!(rt; outcome.out.as_slice(), written.as_bytes());
-            assert_eq!(rt; outcome.err.as_slice(), line.as_bytes());
+        for (told, outcome) in wanted.iter().zip(runs.outcomes.as_slice().iter()) {
+            check(&rt, told, outcome, told)?;
         }
     }
     Ok(())
 }
 
 // The rows of four parts are counted, by so many lanes and rows of a chunk.
-fn count_words(alloc: Global, size: (&str, &str)) -> Result<Vec<String>, AllocError> {
-    let mut words = words_of(
-        alloc,
-        "SELECT count() FROM t",
-        "t=f.csv+f.csv+f.csv+f.csv:a Int64",
-    )?;
+fn count_words(alloc: Global, size: (&str, &str)) -> Result<Vec<String>, Fail> {
     let (lanes, rows) = size;
-    for word in ["--threads", lanes, "--chunk", rows] {
-        words.push(String::from_str(alloc, word)?)?;
-    }
-    Ok(words)
+    let table = "t=f.csv+f.csv+f.csv+f.csv:a Int64";
+    let words = format!(in alloc; "{table}|--threads|{lanes}|--chunk|{rows}")?;
+    words_of(alloc, "SELECT count() FROM t", words.as_str())
 }
 
 /// A reader of the first of four parts that has nothing yet 999,999 times before its block.
 #[test]
 fn a_reader_may_wait_many_times(rt: HostRuntime) -> Result<(), Fail> {
-    let outcome = count_waiting(&rt, 999_999)?;
-    assert_eq!(rt; outcome.status, 0);
-    assert_eq!(rt; outcome.out.as_slice(), b"4\n".as_slice());
-    Ok(())
+    check(&rt, "waits", &count_waiting(&rt, 999_999)?, "4\n")
 }
 
 /// And one more time.
 #[test]
 fn a_reader_stalls_at_a_million_waits(rt: HostRuntime) -> Result<(), Fail> {
     let outcome = count_waiting(&rt, 1_000_000)?;
-    assert_eq!(rt; outcome.status, 4);
-    assert_eq!(rt; outcome.out.len(), 0);
-    assert_eq!(rt;
-        outcome.err.as_slice(),
-        b"qrun: stalled: table t part 1\n".as_slice()
-    );
-    Ok(())
+    check(&rt, "stalls", &outcome, "qrun: stalled: table t part 1\n")
 }
 
 fn count_waiting<R: AllocGlobal + Threads + Sync>(rt: &R, waits: u64) -> Result<Outcome, Fail> {
@@ -300,8 +235,11 @@ fn count_waiting<R: AllocGlobal + Threads + Sync>(rt: &R, waits: u64) -> Result<
 #[test]
 fn two_sources_meet_at_work(rt: HostRuntime) -> Result<(), Fail> {
     let alloc = rt.alloc();
-    let mut words = words_of(alloc, "SELECT a FROM t", "t=f.csv+f.csv:a Int64")?;
-    words.push(String::from_str(alloc, "--threads=2")?)?;
+    let words = words_of(
+        alloc,
+        "SELECT a FROM t",
+        "t=f.csv+f.csv:a Int64|--threads=2",
+    )?;
     let files = one_file(alloc, b"1\n")?;
     let setting = ample(&files);
     let prepared = [new_count(alloc)?, new_count(alloc)?];
@@ -346,19 +284,19 @@ fn put_counted<R: AllocGlobal + Threads + Sync>(
     works: (&Arc<AtomicU64, Global>, &Arc<AtomicU64, Global>),
     missed: &Arc<AtomicU64, Global>,
 ) -> Result<(), Fail>
-    ensures { OnOk result (Adds kind.Csv 1 (Some (told_pairs setting.now.files.now))
+    ensures { OnOk result (AddsTold kind.Csv 1 (Some (told_pairs setting.now.files.now))
         (map (λ b. seen (b.vtable, b.value)) rack.old.boxes.items)
         (map (λ b. seen (b.vtable, b.value)) rack.new.boxes.items)) }
 {
     let source = Counted {
-        source: source_of(rt.alloc(), setting, 0)?,
+        source: CsvSource::new(rt.alloc(), reader_of(rt.alloc(), setting, 0)?),
         prepared: Arc::try_clone(prepared)?,
         works: Arc::try_clone(works.0)?,
         others: Arc::try_clone(works.1)?,
         missed: Arc::try_clone(missed)?,
     };
     let source = Box::new(rt.alloc(), source)?;
-    put_told(rack, setting.files, source)?;
+    put_told(rack, Kind::Csv, setting.files, source)?;
     Ok(())
 }
 
@@ -388,29 +326,21 @@ fn chunks_follow_each_other(rt: HostRuntime) -> Result<(), Fail> {
 #[test]
 fn sinks_take_little(rt: HostRuntime) -> Result<(), Fail> {
     let words = words_of(rt.alloc(), "SELECT a FROM t", "t=f.csv:a Int64")?;
-    let cases: [(usize, u8, &str, &str); 4] = [
-        (9, 0, "123\n4567\n", ""),
-        (8, 5, "123\n4567", "qrun: write fault\n"),
-        (5, 5, "123\n4", "qrun: write fault\n"),
-        (0, 5, "", "qrun: write fault\n"),
-    ];
     let files = one_file(rt.alloc(), b"123\n4567\n")?;
-    for (room, status, written, line) in cases.iter() {
+    let whole = "123\n4567\n";
+    for room in [9, 8, 5, 0] {
         let mut setting = ample(&files);
         setting.step = 1;
-        setting.room = *room;
+        setting.room = room;
         let outcome = run_once(&rt, words.as_slice(), &setting)?;
-        assert_eq!(rt; outcome.status, *status, "status with room for {room}");
-        assert_eq!(rt;
-            outcome.out.as_slice(),
-            written.as_bytes(),
-            "text with room for {room}"
-        );
-        assert_eq!(rt;
-            outcome.err.as_slice(),
-            line.as_bytes(),
-            "line with room for {room}"
-        );
+        let (status, line) = if room == 9 {
+            (0, "")
+        } else {
+            (5, "qrun: write fault\n")
+        };
+        assert_eq!(rt; outcome.status, status, "status with room for {room}");
+        assert_eq!(rt; outcome.out.as_slice(), &whole.as_bytes()[..room]);
+        assert_eq!(rt; outcome.err.as_slice(), line.as_bytes());
     }
     Ok(())
 }
@@ -421,15 +351,18 @@ fn words_and_files_may_be_missing(rt: HostRuntime) -> Result<(), Fail> {
     let words = words_of(rt.alloc(), "SELECT a FROM t", "t=g.csv:a Int64")?;
     let files = one_file(rt.alloc(), b"1\n")?;
     let missing = run_once(&rt, words.as_slice(), &ample(&files))?;
-    assert_eq!(rt; missing.status, 4);
-    assert_eq!(rt;
-        missing.err.as_slice(),
-        b"qrun: read fault: table t part 1\n".as_slice()
-    );
-    let none = run_once(&rt, &[], &ample(&files))?;
-    assert_eq!(rt; none.status, 1);
-    assert_eq!(rt; none.err.as_slice(), USAGE.as_bytes());
-    Ok(())
+    check(
+        &rt,
+        "no file",
+        &missing,
+        "qrun: read fault: table t part 1\n",
+    )?;
+    check(
+        &rt,
+        "no words",
+        &run_once(&rt, &[], &ample(&files))?,
+        "usage",
+    )
 }
 
 /// One read after another over a file at the limit, and one byte beyond it.

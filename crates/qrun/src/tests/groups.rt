@@ -64,11 +64,11 @@ fn groups_are_ordered_and_limited(rt: HostRuntime) -> Result<(), Fail> {
          qrun: bad data: table t part 2 row 2 fields 2\n",
         "a Int64~SELECT count() FROM numbers(0)~~0\n",
     ];
-    check_sized(&rt, &rt, &cases)
+    check_sized(&rt, &rt, &cases, &SIZES)
 }
 
-/// Words that are a command, over one part, by every number of lanes and rows of a chunk: the words,
-/// the part, and what is written.
+/// Words that are a command, over one part, by every number of lanes and rows of a chunk: the
+/// words, the part, and what is written.
 #[test]
 fn reports_are_written(rt: HostRuntime) -> Result<(), Fail> {
     let cases: [&str; 2] = [

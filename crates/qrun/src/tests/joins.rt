@@ -1,32 +1,14 @@
 // Queries over two tables that are joined, by every number of lanes and rows of a chunk.
 use super::cases::{check, fields};
-use super::plans::{SIZES, answer_words};
+use super::plans::{SIZES, answer_sized, parts_of};
 use super::queries::repeated;
-use super::{Outcome, ample, run_once, text, words_of};
-use chunk_data::List;
-use outside_io::FileEntry;
+use super::{ample, run_once, words_of};
 use std::process::Abort;
 use std::test::Fail;
 use std::thread::Threads;
 
 /// Two tables of two numbers, of one part each.
 const PAIRS: &str = "l=p0.csv:k Int64,a Int64;r=p1.csv:k Int64,b Int64";
-
-/// The query over the tables, by so many lanes and rows of a chunk.
-fn answer_joined<R: AllocGlobal + Threads + Sync>(
-    rt: &R,
-    query: &str,
-    tables: &str,
-    parts: &str,
-    size: (&str, &str),
-) -> Result<Outcome, Fail> {
-    let tables = if tables == "" { PAIRS } else { tables };
-    let (lanes, rows) = size;
-    let words = format!(in rt.alloc();
-        "--query|{query}|--tables|{tables}|--threads|{lanes}|--chunk|{rows}"
-    )?;
-    answer_words(rt, words.as_str(), parts)
-}
 
 /// By every size each case's run wrote its answer, or told its line. A case is the query, the
 /// tables, or none for the two of numbers, their parts in turn, and what is written or told.
@@ -38,7 +20,8 @@ fn check_joined<R: AllocGlobal + Threads + Sync>(
     for case in cases.iter() {
         let (query, tables, parts, told) = fields(case);
         for size in SIZES.iter() {
-            let outcome = answer_joined(rt, query, tables, parts, *size)?;
+            let tables = if tables == "" { PAIRS } else { tables };
+            let outcome = answer_sized(rt, tables, query, parts, *size)?;
             check(abort, case, &outcome, told)?;
         }
     }
@@ -125,7 +108,7 @@ fn bad_parts_of_joined_tables_are_told(rt: HostRuntime) -> Result<(), Fail> {
     check_joined(&rt, &rt, &cases)?;
     for size in SIZES.iter() {
         let query = "SELECT a FROM l JOIN r ON l.k = r.k LIMIT 1";
-        let outcome = answer_joined(&rt, query, "", "1,10\nz,11\n|1,20\n", *size)?;
+        let outcome = answer_sized(&rt, PAIRS, query, "1,10\nz,11\n|1,20\n", *size)?;
         let told = if outcome.status == 0 {
             "10\n"
         } else {
@@ -155,7 +138,7 @@ fn refusals_of_joins_are_told(rt: HostRuntime) -> Result<(), Fail> {
     ];
     for (query, code) in cases.iter() {
         let tables = "t=p0.csv:a Int64,b String;u=p1.csv:a UInt64";
-        let outcome = answer_joined(&rt, query, tables, "1,x\n|1\n", ("1", "1"))?;
+        let outcome = answer_sized(&rt, tables, query, "1,x\n|1\n", ("1", "1"))?;
         let line = format!(in rt.alloc(); "qrun: refused: {code}\n")?;
         check(&rt, query, &outcome, line.as_str())?;
     }
@@ -168,7 +151,7 @@ fn many_matches_pass_in_chunks(rt: HostRuntime) -> Result<(), Fail> {
     let rows = repeated(rt.alloc(), "", "7,1\n", 3000, "")?;
     let parts = format!(in rt.alloc(); "{rows}|{rows}")?;
     let query = "SELECT count(), sum(a + b) FROM l JOIN r ON l.k = r.k";
-    let outcome = answer_joined(&rt, query, "", parts.as_str(), ("2", "8192"))?;
+    let outcome = answer_sized(&rt, PAIRS, query, parts.as_str(), ("2", "8192"))?;
     check(&rt, query, &outcome, "9000000,18000000\n")?;
     Ok(())
 }
@@ -178,18 +161,7 @@ fn many_matches_pass_in_chunks(rt: HostRuntime) -> Result<(), Fail> {
 fn joined_rows_are_written_piece_by_piece(rt: HostRuntime) -> Result<(), Fail> {
     let query = "SELECT l.k, a, b FROM l JOIN r ON l.k = r.k ORDER BY k, a, b";
     let words = words_of(rt.alloc(), query, PAIRS)?;
-    let mut files = Vec::new(rt.alloc());
-    let tables: [(&str, &str); 2] = [
-        ("p0.csv", "1,10\n1,11\n2,12\n"),
-        ("p1.csv", "1,20\n1,21\n1,22\n3,23\n"),
-    ];
-    for (path, bytes) in tables.iter() {
-        files.push(FileEntry {
-            path: text(rt.alloc(), path.as_bytes())?,
-            bytes: text(rt.alloc(), bytes.as_bytes())?,
-        })?;
-    }
-    let files = List::from_vec(files);
+    let files = parts_of(rt.alloc(), "1,10\n1,11\n2,12\n|1,20\n1,21\n1,22\n3,23\n")?;
     let mut setting = ample(&files);
     setting.step = 1;
     let whole = run_once(&rt, words.as_slice(), &setting)?;

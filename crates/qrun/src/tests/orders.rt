@@ -44,7 +44,7 @@ fn rows_come_in_their_order(rt: HostRuntime) -> Result<(), Fail> {
         "a Int64~SELECT a FROM t ORDER BY a LIMIT 0~1\n|2\n3,4\n~\
          qrun: bad data: table t part 2 row 2 fields 2\n",
     ];
-    check_sized(&rt, &rt, &cases)
+    check_sized(&rt, &rt, &cases, &SIZES)
 }
 
 /// Rows that the keys don't tell apart come in either order.

@@ -1,7 +1,7 @@
 // Plans of lanes, parts, numbers and limits, by every number of lanes and rows of a chunk.
 use super::cases::{check, fields};
 use super::queries::repeated;
-use super::{Outcome, ample, run_once, text, told_by, words_of};
+use super::{Outcome, ample, bars, run_once, text, words_of};
 use chunk_data::List;
 use outside_io::FileEntry;
 use std::alloc::{AllocError, Global};
@@ -20,7 +20,7 @@ pub(super) const SIZES: [(&str, &str); 6] = [
 ];
 
 /// Files `p0.csv`, `p1.csv`, .., between which a bar stands.
-fn parts_of(alloc: Global, parts: &str) -> Result<List<FileEntry>, Fail> {
+pub(super) fn parts_of(alloc: Global, parts: &str) -> Result<List<FileEntry>, Fail> {
     let mut files = Vec::new(alloc);
     for part in parts.split('|') {
         let path = format!(in alloc; "p{}.csv", files.len())?;
@@ -32,12 +32,14 @@ fn parts_of(alloc: Global, parts: &str) -> Result<List<FileEntry>, Fail> {
     Ok(List::from_vec(files))
 }
 
-/// Table `t` over so many of them.
+/// Table `t` over so many of them, or the tables that are told.
 fn declared(alloc: Global, parts: usize, columns: &str) -> Result<String, Fail> {
+    if columns.contains('=') {
+        return Ok(String::from_str(alloc, columns)?);
+    }
     let mut words = String::from_str(alloc, "t=p0.csv")?;
     for n in 1..parts {
-        let more = format!(in alloc; "+p{n}.csv")?;
-        words.push_str(more.as_str())?;
+        words.push_str(format!(in alloc; "+p{n}.csv")?.as_str())?;
     }
     words.push(':')?;
     words.push_str(columns)?;
@@ -54,26 +56,24 @@ pub(super) fn answer_sized<R: AllocGlobal + Threads + Sync>(
 ) -> Result<Outcome, Fail> {
     let files = parts_of(rt.alloc(), parts)?;
     let declaration = declared(rt.alloc(), files.len(), columns)?;
-    let mut words = words_of(rt.alloc(), query, declaration.as_str())?;
     let (lanes, rows) = size;
-    for word in ["--threads", lanes, "--chunk", rows] {
-        words.push(String::from_str(rt.alloc(), word)?)?;
-    }
-    run_once(rt, words.as_slice(), &ample(&files))
+    let front = format!(in rt.alloc(); "--query|{query}|--tables|{declaration}")?;
+    let words = format!(in rt.alloc(); "{front}|--threads|{lanes}|--chunk|{rows}")?;
+    run_once(
+        rt,
+        bars(rt.alloc(), words.as_str())?.as_slice(),
+        &ample(&files),
+    )
 }
 
 /// The words, between which a bar stands, over the parts.
 pub(super) fn answer_words<R: AllocGlobal + Threads + Sync>(
     rt: &R,
-    bars: &str,
+    words: &str,
     parts: &str,
 ) -> Result<Outcome, Fail> {
     let files = parts_of(rt.alloc(), parts)?;
-    let mut words = Vec::new(rt.alloc());
-    for word in bars.split('|') {
-        words.push(String::from_str(rt.alloc(), word)?)?;
-    }
-    run_once(rt, words.as_slice(), &ample(&files))
+    run_once(rt, bars(rt.alloc(), words)?.as_slice(), &ample(&files))
 }
 
 /// The lines of a text in the order of their bytes.
@@ -106,15 +106,16 @@ pub(super) fn lines_each<R: AllocGlobal + Threads + Sync>(
     Ok(())
 }
 
-/// By every size each case's run wrote its answer, or told its line.
+/// By each size each case's run wrote its answer, or told its line.
 pub(super) fn check_sized<R: AllocGlobal + Threads + Sync>(
     rt: &R,
     abort: &impl Abort,
     cases: &[&str],
+    sizes: &[(&str, &str)],
 ) -> Result<(), Fail> {
     for case in cases.iter() {
         let (columns, query, parts, told) = fields(case);
-        for size in SIZES.iter() {
+        for size in sizes.iter() {
             let outcome = answer_sized(rt, columns, query, parts, *size)?;
             check(abort, case, &outcome, told)?;
         }
@@ -209,40 +210,36 @@ fn a_bad_part_is_told_unless_a_limit_was_reached(rt: HostRuntime) -> Result<(), 
     Ok(())
 }
 
-/// How many paths a table has, the query, the status, and what is written or told.
+/// How many paths a table has, the query, and what is written or told.
 #[test]
 fn a_table_has_at_most_32_paths(rt: HostRuntime) -> Result<(), Fail> {
     let all = repeated(rt.alloc(), "", "1\n", 32, "")?;
-    let cases: [(u32, &str, u8, &str); 4] = [
-        (32, "SELECT a FROM t", 0, all.as_str()),
+    let cases: [(u32, &str, &str); 4] = [
+        (31, "SELECT a FROM t", all.as_str()),
         (
-            33,
+            32,
             "SELECT a FROM t",
-            6,
             "qrun: limit: paths of t are 33, at most 32\n",
         ),
-        (33, "SELECT b FROM t", 2, "qrun: refused: UnknownColumn b\n"),
-        (33, "SELECT c FROM u", 0, "1\n"),
+        (32, "SELECT b FROM t", "qrun: refused: UnknownColumn b\n"),
+        (32, "SELECT c FROM u", "1\n"),
     ];
-    for (paths, query, status, told) in cases.iter() {
-        let tables = repeated(
-            rt.alloc(),
-            "t=p0.csv",
-            "+p0.csv",
-            *paths - 1,
-            ":a Int64;u=p0.csv:c Int64",
-        )?;
+    for (more, query, told) in cases.iter() {
+        let end = ":a Int64;u=p0.csv:c Int64";
+        let tables = repeated(rt.alloc(), "t=p0.csv", "+p0.csv", *more, end)?;
         let words = words_of(rt.alloc(), query, tables.as_str())?;
         let files = parts_of(rt.alloc(), "1\n")?;
-        let outcome = run_once(&rt, words.as_slice(), &ample(&files))?;
-        assert_eq!(rt; outcome.status, *status, "status of {query}");
-        assert_eq!(rt; told_by(&outcome), told.as_bytes(), "{query}");
+        check(
+            &rt,
+            query,
+            &run_once(&rt, words.as_slice(), &ample(&files))?,
+            told,
+        )?;
         // Nor are its paths counted after its boxes.
         let mut bare = ample(&files);
         bare.stock = Some((0, &[]));
-        let outcome = run_once(&rt, words.as_slice(), &bare)?;
-        if *status != 0 {
-            assert_eq!(rt; told_by(&outcome), told.as_bytes(), "{query} without boxes");
+        if told.starts_with("qrun") {
+            check(&rt, query, &run_once(&rt, words.as_slice(), &bare)?, told)?;
         }
     }
     Ok(())
@@ -260,7 +257,7 @@ fn words_are_read(rt: HostRuntime) -> Result<(), Fail> {
          qrun: bad data: table t part 1 row 1 column 1\n",
         "--query|SELECT c FROM u|--tables|t=@list.txt:a Int64;u=p0.csv:c Int64~7\n~7\n",
         "--query|SELECT a FROM t|--tables|t=@list.txt:a Int64;u=p0.csv:c Int64~7\n~\
-         qrun: refused: NotBuilt\n",
+         qrun: read fault: table t list\n",
         "--query|SELECT c FROM t|--tables|t=@list.txt:a Int64;u=p0.csv:c Int64~7\n~\
          qrun: refused: UnknownColumn c\n",
     ];
@@ -289,12 +286,8 @@ fn other_words_are_no_command(rt: HostRuntime) -> Result<(), Fail> {
     for more in cases.iter() {
         let front = "--query|SELECT a FROM t|--tables|t=p0.csv:a Int64";
         let words = format!(in rt.alloc(); "{front}{more}")?;
-        check(
-            &rt,
-            more,
-            &answer_words(&rt, words.as_str(), "1\n")?,
-            "usage",
-        )?;
+        let outcome = answer_words(&rt, words.as_str(), "1\n")?;
+        check(&rt, more, &outcome, "usage")?;
     }
     Ok(())
 }

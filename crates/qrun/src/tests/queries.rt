@@ -1,28 +1,12 @@
 // Queries: what is written, and what is told of those that are refused.
+use super::answer;
 use super::cases::{check, fields};
-use super::plans::answer_sized;
-use super::{answer, told_by};
+use super::plans::check_sized;
 use std::alloc::{AllocError, Global};
-use std::process::Abort;
 use std::test::Fail;
-use std::thread::Threads;
 
-// Each case's outcome over its one file, on one thread and on several. One chunk has all rows, so
-// that they come in their order.
-fn check_each<R: AllocGlobal + Threads + Sync>(
-    rt: &R,
-    abort: &impl Abort,
-    cases: &[&str],
-) -> Result<(), Fail> {
-    for case in cases.iter() {
-        let (columns, query, file, told) = fields(case);
-        for threads in ["1", "4", "16"] {
-            let outcome = answer_sized(rt, columns, query, file, (threads, "8192"))?;
-            check(abort, case, &outcome, told)?;
-        }
-    }
-    Ok(())
-}
+// One thread and several. One chunk has all rows, so that they come in their order.
+const LANES: [(&str, &str); 3] = [("1", "8192"), ("4", "8192"), ("16", "8192")];
 
 /// Valid files: the columns, the query, the file, and what is written.
 #[test]
@@ -44,7 +28,7 @@ fn answers_are_written(rt: HostRuntime) -> Result<(), Fail> {
         "a String,b String~SELECT a, b FROM t~,\n\"\",\n~\"\",\"\"\n\"\",\"\"\n",
         "a String~SELECT a FROM t~ x \n~\" x \"\n",
     ];
-    check_each(&rt, &rt, &cases)
+    check_sized(&rt, &rt, &cases, &LANES)
 }
 
 /// Bytes that are no text of Unicode.
@@ -73,7 +57,7 @@ fn other_ends_tell_their_line(rt: HostRuntime) -> Result<(), Fail> {
         "a Int64,a Int64~SELECT a FROM t~1\n~usage",
         "~SELECT a FROM t~1\n~usage",
     ];
-    check_each(&rt, &rt, &cases)
+    check_sized(&rt, &rt, &cases, &LANES)
 }
 
 /// Items with arithmetic: the columns, the query, the file, and what is written.
@@ -90,7 +74,7 @@ fn items_are_evaluated(rt: HostRuntime) -> Result<(), Fail> {
         "a Int64~SELECT a * -1, 2 - a FROM t~5\n~-5,-3\n",
         "u UInt64~SELECT u + -0 FROM t~5\n~5\n",
     ];
-    check_each(&rt, &rt, &cases)
+    check_sized(&rt, &rt, &cases, &LANES)
 }
 
 /// Conditions on numbers: the columns, the query, the file, and what is written.
@@ -109,7 +93,7 @@ fn conditions_choose_rows(rt: HostRuntime) -> Result<(), Fail> {
         "a Int64~SELECT a FROM t WHERE 1 <> 1~1\n2\n~",
         "a Int64~SELECT a FROM t WHERE 2 <= a~1\n2\n~2\n",
     ];
-    check_each(&rt, &rt, &cases)
+    check_sized(&rt, &rt, &cases, &LANES)
 }
 
 /// Conditions on texts, names, and the ways that a query may be written.
@@ -130,7 +114,7 @@ fn texts_and_names_are_read(rt: HostRuntime) -> Result<(), Fail> {
         "a Int64~\tSELECT\r\na ,(a+1)FROM t~1\n~1,2\n",
         "count Int64~SELECT count FROM t~1\n~1\n",
     ];
-    check_each(&rt, &rt, &cases)
+    check_sized(&rt, &rt, &cases, &LANES)
 }
 
 /// Refused texts and queries over `a Int64,b String`, and what the line says behind `refused: `.
@@ -172,9 +156,7 @@ fn refusals_are_told(rt: HostRuntime) -> Result<(), Fail> {
     for (query, code) in cases.iter() {
         let outcome = answer(&rt, "a Int64,b String", query, b"1,x\n")?;
         let line = format!(in rt.alloc(); "qrun: refused: {code}\n")?;
-        assert_eq!(rt; outcome.err.as_slice(), line.as_bytes(), "line of {query}");
-        assert_eq!(rt; outcome.status, 2, "status of {query}");
-        assert_eq!(rt; outcome.out.len(), 0, "nothing written for {query}");
+        check(&rt, query, &outcome, line.as_str())?;
     }
     Ok(())
 }
@@ -195,61 +177,25 @@ pub(super) fn repeated(
     Ok(query)
 }
 
-/// Queries at a limit and one beyond it: the front, the piece and how often it stands, the end, the
-/// status, and what is written or told.
+/// Queries at a limit and one beyond it: how often the piece stands, the front, the piece, the end,
+/// and what is written or told.
 #[test]
 fn queries_keep_the_limits(rt: HostRuntime) -> Result<(), Fail> {
-    let cases: [(&str, &str, u32, &str, u8, &str); 8] = [
-        ("SELECT a FROM t WHERE ", "NOT ", 1000, "a = 1", 0, "1\n"),
-        (
-            "SELECT a FROM t WHERE a = 1",
-            " AND a = 1",
-            1000,
-            "",
-            0,
-            "1\n",
-        ),
-        ("SELECT a", "+a", 1000, " FROM t", 0, "1001\n"),
-        (
-            "SELECT a",
-            "+a",
-            1001,
-            " FROM t",
-            2,
-            "qrun: refused: TooComplex\n",
-        ),
-        ("SELECT a", ",b", 63, " FROM t WHERE a = 2", 0, ""),
-        (
-            "SELECT a",
-            ",a",
-            64,
-            " FROM t",
-            2,
-            "qrun: refused: TooWide\n",
-        ),
-        ("SELECT a FROM t", " ", 65_521, "", 0, "1\n"),
-        (
-            "SELECT a FROM t",
-            " ",
-            65_522,
-            "",
-            2,
-            "qrun: refused: TooLong\n",
-        ),
+    let cases: [(u32, &str); 8] = [
+        (1000, "SELECT a FROM t WHERE ~NOT ~a = 1~1\n"),
+        (1000, "SELECT a FROM t WHERE a = 1~ AND a = 1~~1\n"),
+        (1000, "SELECT a~+a~ FROM t~1001\n"),
+        (1001, "SELECT a~+a~ FROM t~qrun: refused: TooComplex\n"),
+        (63, "SELECT a~,b~ FROM t WHERE a = 2~"),
+        (64, "SELECT a~,a~ FROM t~qrun: refused: TooWide\n"),
+        (65_521, "SELECT a FROM t~ ~~1\n"),
+        (65_522, "SELECT a FROM t~ ~~qrun: refused: TooLong\n"),
     ];
-    for (front, piece, times, end, status, told) in cases.iter() {
+    for (times, case) in cases.iter() {
+        let (front, piece, end, told) = fields(case);
         let query = repeated(rt.alloc(), front, piece, *times, end)?;
         let outcome = answer(&rt, "a Int64,b String", query.as_str(), b"1,x\n")?;
-        assert_eq!(rt;
-            outcome.status,
-            *status,
-            "status of {front}{piece} {times} times"
-        );
-        assert_eq!(rt;
-            told_by(&outcome),
-            told.as_bytes(),
-            "{front}{piece} {times} times"
-        );
+        check(&rt, case, &outcome, told)?;
     }
     Ok(())
 }
@@ -260,7 +206,5 @@ fn parentheses_nest_a_thousand_deep(rt: HostRuntime) -> Result<(), Fail> {
     let opened = repeated(rt.alloc(), "SELECT a FROM t WHERE ", "(", 1000, "a = 1")?;
     let query = repeated(rt.alloc(), opened.as_str(), ")", 1000, "")?;
     let outcome = answer(&rt, "a Int64,b String", query.as_str(), b"1,x\n2,y\n")?;
-    assert_eq!(rt; outcome.status, 0);
-    assert_eq!(rt; outcome.out.as_slice(), b"1\n".as_slice());
-    Ok(())
+    check(&rt, "parentheses", &outcome, "1\n")
 }
