@@ -7,9 +7,10 @@ abbrev pub one_more : ℕ → ℕ
 one_more count = min (count + 1) (2 ^ 64 - 1)
 
 -- the count rose, or it stands at its last value
-abbrev pub Rose : ℕ → ℕ → Type 0
-Rose old new = one_more old ≤ new
+abbrev pub CountIncreased : ℕ → ℕ → Type 0
+CountIncreased old new = one_more old ≤ new
 
 -- a count that rises from a later value has risen from an earlier one
-pub Rose-earlier : (earlier old new : ℕ) → earlier ≤ old → Rose old new → Rose earlier new
-Rose-earlier earlier old new kept rose = omega arith
+pub CountIncreased-earlier : (earlier old new : ℕ) → earlier ≤ old → CountIncreased old new
+    → CountIncreased earlier new
+CountIncreased-earlier earlier old new kept rose = omega arith

@@ -2,7 +2,7 @@
 use Rattle.std.specs.Prelude.{◌≡◌, ℕ, ◌<◌, ◌≤◌, List, [], length, map, slice_index_or, Option, Some, None, ⊤}
 use Rattle.outside_io.specs.declared.entries.FileEntry.{FileEntry}
 use Rattle.outside_io.specs.declared.memory_files.Standing.{Standing}
-use Rattle.outside_io.specs.Told.{file_bytes}
+use Rattle.outside_io.specs.Told.{told_bytes}
 
 abbrev pub path_at : List FileEntry → ℕ → List ℕ
 path_at entries i = slice_index_or (map (λ (e : FileEntry). e.path) entries) i []
@@ -14,7 +14,7 @@ bytes_at entries i = slice_index_or (map (λ (e : FileEntry). e.bytes) entries) 
 pub record IsEntryOf (entries : List FileEntry) (path : List ℕ) (i : ℕ) : Type 0 where
   pub within : i < length entries
   pub path_is : path_at entries i ≡ path
-  pub bytes_are : file_bytes entries path ≡ Some (bytes_at entries i)
+  pub bytes_are : told_bytes entries path ≡ Some (bytes_at entries i)
 
 -- the path and the place
 abbrev pub stand_of : List FileEntry → Option Standing → Option (List ℕ × ℕ)

@@ -15,7 +15,7 @@ use Rattle.outside_io.specs.Scripts.{next_fake}
 -- made
 pub record FilesState : Type 0 where
   pub files : List FileEntry
-  pub stands : Option (List ℕ × ℕ)
+  pub position : Option (List ℕ × ℕ)
   pub faults : ℕ
   pub pendings : ℕ
   pub script : List Fake
@@ -31,7 +31,7 @@ fake_of s = next_fake s.script s.calls
 
 -- how many bytes are left in the file from where the reader stands
 abbrev pub bytes_left : FilesState → ℕ
-bytes_left s = length (unwrap_or (told_content (Some s.files) s.stands) []) - place_of s.stands
+bytes_left s = length (unwrap_or (told_content (Some s.files) s.position) []) - place_of s.position
 
 -- a block, where so many bytes are left
 abbrev pub block_got : ℕ → ℕ → Got

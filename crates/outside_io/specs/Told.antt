@@ -8,15 +8,15 @@ abbrev pub files_of : List FileEntry → List (List ℕ × List ℕ)
 files_of entries = map (λ (e : FileEntry). (e.path, e.bytes)) entries
 
 -- the bytes of the first file with this path
-unfoldable pub file_bytes : List FileEntry → List ℕ → Option (List ℕ)
-file_bytes [] path = None
-file_bytes (e ∷ es) path = if bytes_eq e.path path then Some e.bytes else file_bytes es path
+unfoldable pub told_bytes : List FileEntry → List ℕ → Option (List ℕ)
+told_bytes [] path = None
+told_bytes (e ∷ es) path = if bytes_eq e.path path then Some e.bytes else told_bytes es path
 
 -- the bytes of the file in which the reader stands, where files are told
 abbrev pub told_content : Option (List FileEntry) → Option (List ℕ × ℕ) → Option (List ℕ)
 told_content None stand = None
 told_content (Some files) None = None
-told_content (Some files) (Some stand) = file_bytes files stand.0
+told_content (Some files) (Some stand) = told_bytes files stand.0
 
 -- the place at which the reader stands
 abbrev pub place_of : Option (List ℕ × ℕ) → ℕ

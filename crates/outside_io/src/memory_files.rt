@@ -1,6 +1,6 @@
 ghost use Rattle.std.specs.Prelude.{◌≡◌, ◌<◌, ◌≤◌, ◌-◌, min, length, take, drop, Some, None, IfSome, IfNone, IsSome, IsNone, IsOk, OnOk, OnErr, ◌↔◌};
 ghost use Rattle.outside_io.specs.MemStates.{counted, fake_of, bytes_left, read_answer};
-ghost use Rattle.outside_io.specs.Told.{file_bytes, moved_by, GivesNext, StandsAtEnd};
+ghost use Rattle.outside_io.specs.Told.{told_bytes, moved_by, GivesNext, StandsAtEnd};
 ghost use Rattle.outside_io.specs.Counts.{one_more};
 ghost use Rattle.outside_io.specs.Scripts.{IsRising};
 ghost use Rattle.outside_io.specs.Reads.{OnBytes, OnEnd, OnPending};
@@ -39,7 +39,7 @@ impl Model for MemFiles {
 
     ghost view = { λ s. record {
       files = s.entries;
-      stands = stand_of s.entries s.standing;
+      position = stand_of s.entries s.standing;
       faults = s.faults;
       pendings = s.pendings;
       script = s.script.0;
@@ -52,7 +52,7 @@ impl Model for MemFiles {
 /// The index of the first entry with the path.
 fn find_entry(entries: &List<FileEntry>, path: &Bytes) -> Option<usize>
     ensures found { IfSome result (λ i. IsEntryOf entries.now path.now i) }
-    ensures absent { IfNone result (file_bytes entries.now path.now ≡ None) }
+    ensures absent { IfNone result (told_bytes entries.now path.now ≡ None) }
 {
     for (i, entry) in entries.as_slice().iter().enumerate() {
         if entry.path.as_slice() == path.as_slice() {
@@ -80,7 +80,7 @@ impl MemFiles {
         requires { IsRising script }
         ensures { result ≡ record {
           files = files;
-          stands = None;
+          position = None;
           faults = 0;
           pendings = 0;
           script = script;
@@ -102,7 +102,7 @@ impl FileReader for MemFiles {
 
     ghost files = { λ s. Some s.files };
 
-    ghost stands = { λ s. s.stands };
+    ghost position = { λ s. s.position };
 
     ghost faults = { λ s. s.faults };
 
@@ -110,16 +110,16 @@ impl FileReader for MemFiles {
 
     fn open_path(&mut self, path: &Bytes) -> Result<(), Failed>
         ensures exact { IsOk result ↔
-            (IsNone (fake_of self.old) × IsSome (file_bytes self.old.files path.now)) }
+            (IsNone (fake_of self.old) × IsSome (told_bytes self.old.files path.now)) }
         ensures opened { OnOk result
-            (self.new ≡ record (counted self.old) { stands = Some (path.now, 0) }) }
+            (self.new ≡ record (counted self.old) { position = Some (path.now, 0) }) }
         ensures fault { OnErr result
             (self.new
-            ≡ record (counted self.old) { stands = None; faults = one_more self.old.faults }) }
+            ≡ record (counted self.old) { position = None; faults = one_more self.old.faults }) }
         ensures faults_kept { self.old.faults ≤ self.new.faults }
     {
         self.standing = None;
-        let fake = self.script.turn();
+        let fake = self.script.next_call();
         let found = find_entry(&self.entries, path);
         match (fake, found) {
             (None, Some(index)) => {
@@ -134,25 +134,26 @@ impl FileReader for MemFiles {
     }
 
     fn read_some(&mut self, buf: &mut [u8]) -> Result<Got, Failed>
-        requires stands { IsSome self.old.stands }
+        requires position { IsSome self.old.position }
         requires room { 0 < length buf.old }
         ensures answer { result ≡
             read_answer (fake_of self.old) (length buf.old) (bytes_left self.old) }
         ensures bytes { OnBytes result
-            (λ n. GivesNext (Some self.old.files) self.old.stands n buf.new) }
+            (λ n. GivesNext (Some self.old.files) self.old.position n buf.new) }
         ensures moved { OnBytes result
-            (λ n. self.new ≡ record (counted self.old) { stands = moved_by n self.old.stands }) }
-        ensures end { OnEnd result (StandsAtEnd (Some self.old.files) self.old.stands) }
+            (λ n. self.new
+            ≡ record (counted self.old) { position = moved_by n self.old.position }) }
+        ensures end { OnEnd result (StandsAtEnd (Some self.old.files) self.old.position) }
         ensures at_end { OnEnd result (self.new ≡ counted self.old) }
         ensures pending { OnPending result
             (self.new ≡ record (counted self.old) { pendings = one_more self.old.pendings }) }
         ensures fault { OnErr result
             (self.new ≡ record (counted self.old) { faults = one_more self.old.faults }) }
-        ensures stays_open { IsSome self.new.stands }
+        ensures stays_open { IsSome self.new.position }
         ensures faults_kept { self.old.faults ≤ self.new.faults }
         ensures pendings_kept { self.old.pendings ≤ self.new.pendings }
     {
-        match self.script.turn() {
+        match self.script.next_call() {
             Some(FakeKind::Fail) => {
                 self.faults = self.faults.saturating_add(1);
                 Err(Failed)
@@ -180,7 +181,7 @@ impl FileReader for MemFiles {
     }
 
     fn shut(&mut self)
-        ensures { self.new ≡ record self.old { stands = None } }
+        ensures { self.new ≡ record self.old { position = None } }
     {
         self.standing = None;
     }

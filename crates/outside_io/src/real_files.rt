@@ -33,7 +33,7 @@ where
     /// A reader of the system's files, none of which stands open.
     pub fn new(rt: R) -> RealFiles<R>
         ensures told { ⟦<RealFiles<R> as FileReader>⟧.files result ≡ None }
-        ensures closed { ⟦<RealFiles<R> as FileReader>⟧.stands result ≡ None }
+        ensures closed { ⟦<RealFiles<R> as FileReader>⟧.position result ≡ None }
         ensures faults { ⟦<RealFiles<R> as FileReader>⟧.faults result ≡ 0 }
         ensures pendings { ⟦<RealFiles<R> as FileReader>⟧.pendings result ≡ 0 }
     {
@@ -93,7 +93,7 @@ where
 
     ghost files = { λ _. None };
 
-    ghost stands = { λ s. option_map (λ o. (o.path, o.place)) s.opened };
+    ghost position = { λ s. option_map (λ o. (o.path, o.place)) s.opened };
 
     ghost faults = { λ s. s.faults };
 

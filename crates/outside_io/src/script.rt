@@ -43,7 +43,7 @@ impl Script {
     }
 
     /// Counts a call, and gives the fake that it meets.
-    pub(crate) fn turn(&mut self) -> Option<FakeKind>
+    pub(crate) fn next_call(&mut self) -> Option<FakeKind>
         ensures fake { result ≡ next_fake self.old.0 self.old.1 }
         ensures counted { self.new ≡ (self.old.0, one_more self.old.1) }
     {

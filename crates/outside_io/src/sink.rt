@@ -1,5 +1,5 @@
 ghost use Rattle.std.specs.Prelude.{◌≡◌, ℕ, ◌<◌, ◌≤◌, List, length, take, Option, IfOk, OnOk, OnErr};
-ghost use Rattle.outside_io.specs.Counts.{Rose};
+ghost use Rattle.outside_io.specs.Counts.{CountIncreased};
 ghost use Rattle.outside_io.specs.Growth.{GrewBy, GrewByPrefix, Untouched};
 
 use crate::entries::{Failed, WriteFault};
@@ -18,7 +18,7 @@ pub trait Sink {
         ensures grew { IfOk result
             (λ n. GrewBy (written self.old) (written self.new) (take n piece.now)) }
         ensures untouched { OnErr result (Untouched (written self.old) (written self.new)) }
-        ensures fault { OnErr result (Rose (faults self.old) (faults self.new)) }
+        ensures fault { OnErr result (CountIncreased (faults self.old) (faults self.new)) }
         ensures faultless { OnOk result (faults self.new ≡ faults self.old) }
         ensures faults_kept { faults self.old ≤ faults self.new };
 }
@@ -28,7 +28,7 @@ pub fn write_all<S: Sink>(sink: &mut S, bytes: &[u8]) -> Result<(), WriteFault>
     ensures grew { OnOk result (GrewBy (S.written sink.old) (S.written sink.new) bytes.now) }
     ensures grew_by_prefix { OnErr result
         (GrewByPrefix (S.written sink.old) (S.written sink.new) bytes.now) }
-    ensures fault { OnErr result (Rose (S.faults sink.old) (S.faults sink.new)) }
+    ensures fault { OnErr result (CountIncreased (S.faults sink.old) (S.faults sink.new)) }
     ensures faultless { OnOk result (S.faults sink.new ≡ S.faults sink.old) }
     ensures faults_kept { S.faults sink.old ≤ S.faults sink.new }
 {

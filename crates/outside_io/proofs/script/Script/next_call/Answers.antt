@@ -1,6 +1,6 @@
 use Rattle.std.proofs.Common.{arith}
 use Rattle.outside_io.proofs.Fakes.{ended-placed, later-placed, taken-placed, none-now, taken-now, next-is}
-use Rattle.outside_io.proofs.script.Script.turn.Goals as goal
+use Rattle.outside_io.proofs.script.Script.next_call.Goals as goal
 
 pub invariant_of-self : goal.invariant_of-self
 invariant_of-self c =
