@@ -42,12 +42,12 @@ follows-same p q v e f = record {
 }
 
 -- as many ports as the last view had are those that the spec's ports stand still at
-pub stands-still : (s : Option Spec) (kept : Option PortFlags) (m n : ℕ) → AreAsKept kept m n
+pub position-still : (s : Option Spec) (kept : Option PortFlags) (m n : ℕ) → AreAsKept kept m n
     → StandStill s kept m n
-stands-still (Some Spec.Resize) kept m n h = h
-stands-still (Some (Spec.MergeAggregate groups)) kept m n h = h
-stands-still (Some (Spec.MergeSorted order)) kept m n h = h
-stands-still s kept m n h = tt
+position-still (Some Spec.Resize) kept m n h = h
+position-still (Some (Spec.MergeAggregate groups)) kept m n h = h
+position-still (Some (Spec.MergeSorted order)) kept m n h = h
+position-still s kept m n h = tt
 
 pub as-kept-noted : (q : BoxPicture) (w : Picture) (m n : ℕ) → q.notes.view ≡ Some (port_flags w)
     → in_count w ≡ m → out_count w ≡ n → AreAsKept q.notes.view m n

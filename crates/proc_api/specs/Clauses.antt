@@ -93,7 +93,7 @@ pub record Unloads (p q : BoxPicture) : Type 0 where
   pub counts : SameCounts p q
 
 -- a blank box of the kind that keeps the contract, with a count of pulled rows of 0
-pub record IsLawfulBlank (k : Kind) (p : BoxPicture) : Type 0 where
+pub record IsUnloadedProcessor (k : Kind) (p : BoxPicture) : Type 0 where
   pub kind : p.kind ≡ k
   pub lawful : p.lawful ≡ true
   pub blank : IsBlank p

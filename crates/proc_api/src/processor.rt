@@ -19,7 +19,7 @@ pub trait Processor: Drop + Send {
 
     /// Where its reader stands: a path, and the place in its file; none where it has no reader, or
     /// that is shut.
-    ghost stands: { Self → Option (List ℕ × ℕ) };
+    ghost position: { Self → Option (List ℕ × ℕ) };
 
     /// The kind of processor, which never changes.
     fn kind(&self) -> Kind
@@ -97,14 +97,14 @@ pub trait Processor: Drop + Send {
     /// Makes the processor blank, and shuts its reader.
     fn unload(&mut self)
         ensures unloads { Unloads (seen self.old) (seen self.new) }
-        ensures shut { stands self.new ≡ None };
+        ensures shut { position self.new ≡ None };
 }
 
 /// A box is a processor as what it holds, so that code for processors serves boxes.
 impl Processor for Box<dyn Processor + Send> {
     ghost seen = { λ b. (Processor-box b).seen b.value };
 
-    ghost stands = { λ b. (Processor-box b).stands b.value };
+    ghost position = { λ b. (Processor-box b).position b.value };
 
     fn kind(&self) -> Kind {
         (**self).kind()
