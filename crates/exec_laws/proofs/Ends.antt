@@ -1,6 +1,6 @@
--- Where nothing is due: either each born node is over, or some resting node's view belies its last
--- status.
-use Rattle.exec_laws.proofs.Words.{BearsOut, Belies, CellPicture, Edge, HasEdge, Input, IsBorn, IsNothingDue, IsOver, IsStuck, IsTrue, List, MarkTells, Output, Running, StuckNode, Wire, [], append-nil, append_assoc, box_at, boxes_of, cell_at, input_count, length, length-map, no_cell, output_count, pushes_to, refl, rules, stuck_from, wire_at, ℕ, ◌<◌, ◌≡◌}
+-- Where nothing is due: either each born node is over, or some resting node's view contradicts its
+-- last status.
+use Rattle.exec_laws.proofs.Words.{CellPicture, ContradictsStatus, Edge, HasEdge, Input, IsBorn, IsNothingDue, IsOver, IsStuck, IsTrue, List, MarkTells, Output, Running, StuckNode, SupportsStatus, Wire, [], append-nil, append_assoc, box_at, boxes_of, cell_at, input_count, length, length-map, no_cell, output_count, pushes_to, refl, rules, stuck_from, wire_at, ℕ, ◌<◌, ◌≡◌}
 use Rattle.exec_laws.proofs.Settled.{all-over, end-here, end-node, end-shown, node-there, over-holds}
 use Rattle.exec_laws.specs.Ends.{IsDone}
 use Rattle.std.proofs.Math.ListN.{get_or-map}
@@ -20,8 +20,8 @@ module _ (wires : List Wire) (cells : List CellPicture) (edges : ℕ → Edge)
   pub marks-tell : (n : ℕ) → n < length cells → MarkTells (cell_at cells n)
   marks-tell n h1 = search (rules, over-holds r quiet due)
 
-  -- where each resting node's view bears out its last status, the run is done
-  module _ (rest : (n : ℕ) → n < length cells → BearsOut (cell_at cells n)) where
+  -- where each resting node's view supports its last status, the run is done
+  module _ (rest : (n : ℕ) → n < length cells → SupportsStatus (cell_at cells n)) where
     over : (n : ℕ) → n < length cells → IsBorn (cell_at cells n).box
         → IsOver (input_count wires n) (output_count wires n) (cell_at cells n).box
         (cell_at cells n).view
@@ -67,8 +67,8 @@ module _ (wires : List Wire) (cells : List CellPicture) (edges : ℕ → Edge)
           (search (rules, passed, ports, from_kept, to_kept, from_end, to_end));
     }
 
-  -- Where the view of a resting node belies its last status, its box isn't lawful, and the run is
-  -- stuck there.
-  pub run-stuck : (n : ℕ) (report : List StuckNode) → n < length cells → Belies (cell_at cells n)
-      → report ≡ stuck_from 0 (boxes_of cells) → IsStuck (boxes_of cells) report n
+  -- Where the view of a resting node contradicts its last status, its box isn't lawful, and the run
+  -- is stuck there.
+  pub run-stuck : (n : ℕ) (report : List StuckNode) → n < length cells → ContradictsStatus
+      (cell_at cells n) → report ≡ stuck_from 0 (boxes_of cells) → IsStuck (boxes_of cells) report n
   run-stuck n report h1 h2 h3 = search (rules, boxes-len, box-of, marks-tell)

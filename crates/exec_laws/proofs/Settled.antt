@@ -1,4 +1,4 @@
--- Where nothing is due, and each node at rest rests as its view bears out, every node is over.
+-- Where nothing is due, and each node at rest rests as its view supports, every node is over.
 use Rattle.exec_laws.proofs.Words.{Bool, CellPicture, Edge, HasEdge, HasPort, Input, IsBorn, IsOver, List, NodeHolds, NodeState, Option, Output, Picture, Port, Rests, Running, Status, WaitsForData, WaitsForRoom, Wire, [], arith, false, false_from_ne_true, get_or-le-sum_by, input_count, is_out_finished, is_resting, is_waiting, number_at, output_count, rank_at, refl, rules, suc, sum_by, true, wire_at, zero, ℕ, ◌+◌, ◌<◌, ◌≡◌, ◌≤◌}
 use Rattle.exec_laws.proofs.Nodes.{busy-born}
 use Rattle.exec_laws.proofs.Seeing.{port-below, port-shown}

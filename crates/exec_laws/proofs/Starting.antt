@@ -1,5 +1,5 @@
 -- A graph before its first move.
-use Rattle.exec_laws.proofs.Words.{Bool, BoxPicture, CellPicture, Edge, EndHolds, HasEdge, HoldsGraph, Input, IsBorn, IsFresh, IsNewNode, IsPort, List, MarkHolds, NodeHolds, None, Output, Port, Running, StandStill, Wire, ap, arith, cases_Bool, cond, false, false_from_ne_true, follows-new, get_or-replicate, in_count, inl, input_at, input_count, inr, length, length-replicate, new_edge, new_input, new_picture, no_flags, no_lists, out_count, output_at, output_count, pushes_to, refl, rules, sound-new, stands-still, suc, true, wire_at, zero, ℕ, ◌<◌, ◌==◌, ◌∙◌, ◌≡◌}
+use Rattle.exec_laws.proofs.Words.{Bool, BoxPicture, CellPicture, Edge, EndHolds, HasEdge, HoldsGraph, Input, IsBorn, IsFresh, IsNewNode, IsPort, List, MarkHolds, NodeHolds, None, Output, Port, Running, StandStill, Wire, ap, arith, cases_Bool, cond, false, false_from_ne_true, follows-new, get_or-replicate, in_count, inl, input_at, input_count, inr, length, length-replicate, new_edge, new_input, new_picture, no_flags, no_lists, out_count, output_at, output_count, position-still, pushes_to, refl, rules, sound-new, suc, true, wire_at, zero, ℕ, ◌<◌, ◌==◌, ◌∙◌, ◌≡◌}
 use Rattle.exec_laws.proofs.Nodes.{not-blank}
 use Rattle.exec_laws.proofs.Seeing.{port-below}
 use Rattle.exec_laws.proofs.Sides.{input-itself, output-known, quiet-end}
@@ -28,7 +28,7 @@ new-node wires n c fresh h =
     let outs : ℕ = output_count wires n in
     let shown = new-view ins outs in
     let still : StandStill c.box.spec c.box.notes.view ins outs =
-    rw fresh.notes (stands-still c.box.spec None ins outs tt) in
+    rw fresh.notes (position-still c.box.spec None ins outs tt) in
     record {
       box = search (rules, fresh.notes, fresh.keeps, still);
       view = rw h.view record { sound = sound-new ins outs; ins = shown.0; outs = shown.1 };

@@ -1,5 +1,5 @@
 -- A node that has seen its ports is prepared.
-use Rattle.exec_laws.proofs.Words.{BoxHolds, BoxPicture, CellPicture, Edge, Flags, HasFinished, Holds, Input, IsOver, IsPort, IsTrue, Knows, List, Lists, MarkHolds, NodeHolds, Output, Picture, Port, Prepared, Running, Some, Status, StatusComes, StatusHolds, Turns, ViewHolds, Wire, [], ap, append-nil, append_assoc, as-kept-noted, changed-by-both, chunks_of, difference-calls, false, follows-noted, get_or-eq_default, in_count, inl, input_after, input_at, input_count, kept_input-of, kept_inputs-of, kept_output-of, kept_outputs-of, out_count, output_after, output_at, output_count, port_flags, pushed_at, pushes_to, refl, rules, stands-still, state_after, sym, taken_out, with_pulled, with_pushed, ℕ, ◌++◌, ◌<◌, ◌∙◌, ◌≡◌, ◌≢◌, ◌≤◌}
+use Rattle.exec_laws.proofs.Words.{BoxHolds, BoxPicture, CellPicture, Edge, Flags, HasFinished, Holds, Input, IsOver, IsPort, IsTrue, Knows, List, Lists, MarkHolds, NodeHolds, Output, Picture, Port, Prepared, Running, Some, Status, StatusComes, StatusHolds, Turns, ViewHolds, Wire, [], ap, append-nil, append_assoc, as-kept-noted, changed-by-both, chunks_of, difference-calls, false, follows-noted, get_or-eq_default, in_count, inl, input_after, input_at, input_count, kept_input-of, kept_inputs-of, kept_output-of, kept_outputs-of, out_count, output_after, output_at, output_count, port_flags, position-still, pushed_at, pushes_to, refl, rules, state_after, sym, taken_out, with_pulled, with_pushed, ℕ, ◌++◌, ◌<◌, ◌∙◌, ◌≡◌, ◌≢◌, ◌≤◌}
 use Rattle.exec_laws.proofs.Nodes.{busy-born, moved-on}
 use Rattle.exec_laws.proofs.Ports.{Lies, changed-inputs, changed-outputs, full-unpushed, lies-after, past-unpushed, taken-left}
 use Rattle.exec_laws.proofs.Seeing.{port-below}
@@ -97,7 +97,7 @@ module _ (wires : List Wire) (n : ℕ) (c d : CellPicture) (t : Turns c d)
   turned-view : ViewHolds (input_count wires n) (output_count wires n) d.view
   turned-view = search (rules, explained, changed-inputs, ins-left, changed-outputs, outs-left)
 
-  ruleset box_laws = (as-kept-noted, ins-left, outs-left, was-lawful, stands-still)
+  ruleset box_laws = (as-kept-noted, ins-left, outs-left, was-lawful, position-still)
 
   ruleset chunk_laws = (past, pushed-by-actions, past-unpushed, turned-view, explained)
 

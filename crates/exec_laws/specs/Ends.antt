@@ -140,11 +140,11 @@ pub record MarkTells (c : CellPicture) : Type 0 where
   pub last : is_resting c.mark.state ≡ true → last_status c.box.notes.answer ≡ c.mark.last
   pub may_rest : is_resting c.mark.state ≡ true → MayRest c.box.notes.answer
 
--- the view bears out the last status of a node at rest
-abbrev pub BearsOut : CellPicture → Type 0
-BearsOut c = is_resting c.mark.state ≡ true → Rests c.mark.last c.view
+-- the view supports the last status of a node at rest
+abbrev pub SupportsStatus : CellPicture → Type 0
+SupportsStatus c = is_resting c.mark.state ≡ true → Rests c.mark.last c.view
 
--- the node rests, and its view belies its last status
-pub record Belies (c : CellPicture) : Type 0 where
+-- the node rests, and its view contradicts its last status
+pub record ContradictsStatus (c : CellPicture) : Type 0 where
   pub resting : is_resting c.mark.state ≡ true
   pub denied : Rests c.mark.last c.view → ⊥
