@@ -1,5 +1,5 @@
 -- How a run ends.
-use Rattle.pipeline_exec.proofs.Words.{BearsOut, Belies, Board, Bool, BoxPicture, Cell, CellPicture, FailsAt, GivenBack, Gives, IsDone, IsFault, IsNothingDue, IsStuck, IsUnderWay, List, MarkTells, Option, Status, StuckNode, WorkFault, [], ap, append-nil, append_assoc, arith, box-of, box_at, boxes_of, cell_at, cells_of, cond, drop, drop-cons, false, is_resting, length, length-map, map, no_box, refl, rules, run-done, run-stuck, stuck_from, suc, sym, true, ℕ, ◌++◌, ◌+◌, ◌<◌, ◌∙◌, ◌∷◌, ◌≡◌, ◌≢◌}
+use Rattle.pipeline_exec.proofs.Words.{Board, Bool, BoxPicture, Cell, CellPicture, ContradictsStatus, FailsAt, GivenBack, Gives, IsDone, IsFault, IsNothingDue, IsStuck, IsUnderWay, List, MarkTells, Option, Status, StuckNode, SupportsStatus, WorkFault, [], ap, append-nil, append_assoc, arith, box-of, box_at, boxes_of, cell_at, cells_of, cond, drop, drop-cons, false, is_resting, length, length-map, map, no_box, refl, rules, run-done, run-stuck, stuck_from, suc, sym, true, ℕ, ◌++◌, ◌+◌, ◌<◌, ◌∙◌, ◌∷◌, ◌≡◌, ◌≢◌}
 use Rattle.pipeline_exec.proofs.Creating.{boxes-are}
 use Rattle.proc_api.specs.declared.status.WorkFault.TheVariants as fault
 
@@ -28,12 +28,12 @@ more-stuck cells n items lt t =
 -- ---- the end
 
 module _ (b : Board) (u : IsUnderWay b) (settled : IsNothingDue b.cells) where
-  pub is-done : ((n : ℕ) → n < length b.cells → BearsOut (cell_at b.cells n))
+  pub is-done : ((n : ℕ) → n < length b.cells → SupportsStatus (cell_at b.cells n))
       → IsDone b.wires (boxes_of b.cells)
   is-done h1 = search (rules, run-done)
 
-  pub is-stuck : (n : ℕ) (report : List StuckNode) → n < length b.cells → Belies (cell_at b.cells n)
-      → report ≡ stuck_from 0 (boxes_of b.cells) → IsStuck (boxes_of b.cells) report n
+  pub is-stuck : (n : ℕ) (report : List StuckNode) → n < length b.cells → ContradictsStatus (cell_at
+      b.cells n) → report ≡ stuck_from 0 (boxes_of b.cells) → IsStuck (boxes_of b.cells) report n
   is-stuck n report h1 h2 h3 = search (rules, run-stuck)
 
 pub is-fault : (n : ℕ) (cells : List CellPicture) (f : WorkFault) → FailsAt n f cells

@@ -56,7 +56,7 @@ fn carry<P: Processor>(state: &mut ExecutorState<P>, n: usize, action: Action)
     let port = port_of(&action);
     let e = edge_at_port(&state.cells, n, port);
     let wire = wire_of(state.wires.as_slice(), e);
-    tell(&mut state.cells, peer_of(&wire, port), is_told(&action));
+    tell_node(&mut state.cells, peer_of(&wire, port), is_told(&action));
     act_at(&mut state.edges, e, action);
 }
 
@@ -97,7 +97,7 @@ pub(crate) fn edge_at_port<P: Processor>(cells: &Vec<Cell<P>>, n: usize, port: P
 }
 
 /// Tells node m that one of its ports has changed, where it is told.
-fn tell<P: Processor>(cells: &mut Vec<Cell<P>>, m: usize, told: bool)
+fn tell_node<P: Processor>(cells: &mut Vec<Cell<P>>, m: usize, told: bool)
     requires { m < length cells.old.items }
     ensures { TellsNode told m (cells_of P.seen cells.old.items) (cells_of P.seen cells.new.items) }
 {

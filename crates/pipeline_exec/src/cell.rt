@@ -71,7 +71,7 @@ pub(crate) fn prepare_cell<P: Processor>(cell: &mut Cell<P>)
     ensures { Turns (cell_picture P.seen cell.old) (cell_picture P.seen cell.new) }
 {
     let status = cell.processor.prepare(&mut cell.ports.view);
-    leave(status, &mut cell.ports.view);
+    shut_finished_ports(status, &mut cell.ports.view);
     cell.ports.mark = NodeMark {
         state: state_after(status),
         last: Some(status),
@@ -79,7 +79,7 @@ pub(crate) fn prepare_cell<P: Processor>(cell: &mut Cell<P>)
 }
 
 /// Where the processor has finished, leaves no port open. A lawful one leaves none itself.
-fn leave(status: Status, view: &mut PortView)
+fn shut_finished_ports(status: Status, view: &mut PortView)
     ensures { Leaves status view.old view.new }
 {
     if let Status::Finished = status {

@@ -1,7 +1,7 @@
 ghost use Rattle.std.specs.Prelude.{◌≡◌, ℕ, ◌+◌, ◌<◌, ◌≤◌, ◌++◌, ◌∷◌, cond, true, false, length, IfSome, IfNone, vec_capacity, []};
 ghost use Rattle.port_word.specs.Names.{in_count, out_count, output_at, WaitsForData, WaitsForRoom};
 ghost use Rattle.proc_api.specs.Settled.{Rests};
-ghost use Rattle.exec_laws.specs.Names.{BearsOut, Belies, MarkTells, boxes_of, cell_at, is_resting, stuck_from};
+ghost use Rattle.exec_laws.specs.Names.{ContradictsStatus, MarkTells, SupportsStatus, boxes_of, cell_at, is_resting, stuck_from};
 ghost use Rattle.pipeline_exec.specs.Cells.{cell_picture, cells_of};
 ghost use Rattle.pipeline_exec.specs.Resting.{HasNoRoom, HasOpenOutput, has_room, is_wanting};
 
@@ -10,33 +10,35 @@ use exec_laws::{NodeState, StuckNode};
 use port_word::PortView;
 use proc_api::{Processor, Status};
 
-/// The first node at rest whose view belies its last status.
+/// The first node at rest whose view contradicts its last status.
 pub(crate) fn first_unlawful<P: Processor>(cells: &Vec<Cell<P>>) -> Option<usize>
     ensures in_range { IfSome result (λ n. n < length cells.now.items) }
-    ensures found { IfSome result (λ n. Belies (cell_at (cells_of P.seen cells.now.items) n)) }
+    ensures found { IfSome result
+        (λ n. ContradictsStatus (cell_at (cells_of P.seen cells.now.items) n)) }
     ensures missing { IfNone result ((n : ℕ) → n < length cells.now.items
-        → BearsOut (cell_at (cells_of P.seen cells.now.items) n)) }
+        → SupportsStatus (cell_at (cells_of P.seen cells.now.items) n)) }
 {
     for n in 0..cells.len() {
-        if !is_borne_out(cells, n) {
+        if !is_supported(cells, n) {
             return Some(n);
         }
     }
     None
 }
 
-fn is_borne_out<P: Processor>(cells: &Vec<Cell<P>>, n: usize) -> bool
+fn is_supported<P: Processor>(cells: &Vec<Cell<P>>, n: usize) -> bool
     requires { n < length cells.now.items }
-    ensures yes { result ≡ true → BearsOut (cell_at (cells_of P.seen cells.now.items) n) }
-    ensures denied { result ≡ false → Belies (cell_at (cells_of P.seen cells.now.items) n) }
+    ensures yes { result ≡ true → SupportsStatus (cell_at (cells_of P.seen cells.now.items) n) }
+    ensures denied { result ≡ false
+        → ContradictsStatus (cell_at (cells_of P.seen cells.now.items) n) }
 {
-    bears_out(&cells[n])
+    supports_status(&cells[n])
 }
 
-/// Whether the node is at rest and its view bears out its last status, or it isn't at rest.
-fn bears_out<P: Processor>(cell: &Cell<P>) -> bool
-    ensures yes { result ≡ true → BearsOut (cell_picture P.seen cell.now) }
-    ensures denied { result ≡ false → Belies (cell_picture P.seen cell.now) }
+/// Whether the node is at rest and its view supports its last status, or it isn't at rest.
+fn supports_status<P: Processor>(cell: &Cell<P>) -> bool
+    ensures yes { result ≡ true → SupportsStatus (cell_picture P.seen cell.now) }
+    ensures denied { result ≡ false → ContradictsStatus (cell_picture P.seen cell.now) }
 {
     match cell.ports.mark.state {
         NodeState::Resting => rests(cell.ports.mark.last, &cell.ports.view),
@@ -44,7 +46,7 @@ fn bears_out<P: Processor>(cell: &Cell<P>) -> bool
     }
 }
 
-/// Whether the view bears out the last status.
+/// Whether the view supports the last status.
 fn rests(last: Option<Status>, view: &PortView) -> bool
     ensures yes { result ≡ true → Rests last view.now }
     ensures denied { result ≡ false → Rests last view.now → ⊥ }

@@ -1,5 +1,5 @@
 use Rattle.pipeline_exec.proofs.Imports.{cell-told}
-use Rattle.pipeline_exec.proofs.actions.tell.Goals as goal
+use Rattle.pipeline_exec.proofs.actions.tell_node.Goals as goal
 
 pub returns : goal.returns
 returns g c =
