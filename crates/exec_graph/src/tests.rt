@@ -37,7 +37,7 @@ impl<R: Abort + Drop + Send> Processor for Idle<R> {
       growth = None;
     } };
 
-    ghost stands = { λ p. None };
+    ghost position = { λ p. None };
 
     fn kind(&self) -> Kind {
         Kind::Csv
