@@ -1,5 +1,5 @@
 -- The clauses of the calls of a shell, from what its kernel and its notes do.
-use Rattle.proc_shell.proofs.Imports.{All, All-behind, All-cons, All-nil, AllFit, AllOutputsFinished, AnswerComes, Bool, BoxPicture, Err, Fails, FaultHolds, FaultInCall, FaultIsDue, Faults, FitsInput, FollowsKept, HasNotedEnd, HasSize, HasSpecPorts, Held, IfErr, IfSome, IsAtMost, IsBadFile, IsBegun, IsKernelOf, IsLoadRefused, IsPulled, IsRunning, IsShelled, IsSourceKind, IsValid, IsWorkOf, Keeps, KeepsLimits, KeepsMeant, KernelState, Kind, List, Lists, Loads, Made, Makes, MakesTypes, MayExpand, Means, Moves, None, Notes, NotesNoEnd, Nothing, Ok, OnOk, Option, OwnState, PartFails, PartPrepares, PartWorks, Passes, Picture, Prepared, PreparesLawfully, Progresses, ReaderView, Result, RowCount, ShellPart, ShutsPart, Some, Spec, Status, StatusComes, Suits, Table, Takes, Unworked, WorkFault, Works, WorksHeld, [], ap, append-nil, ap₂, arith, both-same, changed-by-both, chunk_rows, common_steps, false, file_in, file_of, files_by, gathered_with, growth_in, held_made, held_option, held_unworked, in_count, inl, inr, is_some, is_wanted, kept_input, kept_inputs, kept_output, kept_outputs, kind_of, length, most_rows, no_lists, no_table, none-pulled, noted_by, option_map, out_count, own_of, part, part_seen, pulled_at, reading_of, refl, rows_of, rows_pulled, shell_seen, source_of, subst, sym, total-nothing, total_rows, true, unworked_at, with_chunk, with_view, work_of, ℕ, ◌++◌, ◌+◌, ◌<◌, ◌==◌, ◌||◌, ◌∙◌, ◌∷◌, ◌≡◌, ◌≢◌, ◌≤◌, ◌⊎◌}
+use Rattle.proc_shell.proofs.Imports.{All, All-behind, All-cons, All-nil, AllFit, AllOutputsFinished, AnswerComes, Bool, BoxPicture, Continues, Err, Fails, FaultHolds, FaultInCall, FaultIsDue, Faults, FitsInput, FollowsKept, HasNotedEnd, HasSize, HasSpecPorts, Held, IfErr, IfSome, IsAtMost, IsBadFile, IsBegun, IsKernelOf, IsLoadRefused, IsPulled, IsRunning, IsShelled, IsSourceKind, IsValid, IsWorkOf, Keeps, KeepsLimits, KeepsMeant, KernelState, Kind, List, Lists, Loads, Made, Makes, MakesTypes, MayExpand, Means, Moves, None, Notes, NotesNoEnd, Nothing, Ok, OnOk, Option, OwnState, PartFails, PartPrepares, PartWorks, Passes, Picture, Prepared, PreparesLawfully, Progresses, ReaderView, Result, RowCount, ShellPart, ShutsPart, Some, Spec, Status, StatusComes, Table, Takes, Unworked, WorkFault, Works, WorksHeld, [], ap, append-nil, ap₂, arith, both-same, changed-by-both, chunk_rows, common_steps, false, file_in, file_of, files_by, gathered_with, growth_in, held_made, held_option, held_unworked, in_count, inl, inr, is_some, is_wanted, kept_input, kept_inputs, kept_output, kept_outputs, kind_of, length, most_rows, no_lists, no_table, none-pulled, noted_by, option_map, out_count, own_of, part, part_seen, pulled_at, reading_of, refl, rows_of, rows_pulled, shell_seen, source_of, subst, sym, total-nothing, total_rows, true, unworked_at, with_chunk, with_view, work_of, ℕ, ◌++◌, ◌+◌, ◌<◌, ◌==◌, ◌||◌, ◌∙◌, ◌∷◌, ◌≡◌, ◌≢◌, ◌≤◌, ◌⊎◌}
 use Rattle.query_model.specs.declared.processor_spec.Kind.TheVariants as kind
 use Rattle.proc_api.specs.declared.status.Status.TheVariants as status
 use Rattle.proc_api.specs.declared.status.WorkFault.TheVariants as fault
@@ -40,12 +40,12 @@ pub wanted-made : (wants : ℕ → Bool) (makes : Bool) (h : Held) → is_wanted
 wanted-made wants makes h e f = grind (arith, common_steps, never-true)
 
 -- a kernel of the same kind and spec that holds what it wanted
-pub suits-so : (k : Kind) (x y : KernelState) (wants : ℕ → Bool) (makes : Bool) (h : Held)
+pub continues-so : (k : Kind) (x y : KernelState) (wants : ℕ → Bool) (makes : Bool) (h : Held)
     → IsKernelOf x y → (x.kind ≡ k) × (kind_of x.spec ≡ k) → IsShelled x.spec
     → ((i : ℕ) (unworked made : List Table) → ((i ≡ 0) × (unworked ≡ [])) ⊎ (wants i ≡ true)
     → (makes ≡ false → made ≡ []) → IsWorkOf (Some y.spec) (work_of y i unworked made))
-    → is_wanted wants makes h ≡ true → Suits k x y h
-suits-so k x y wants makes h same kind shelled uses wanted =
+    → is_wanted wants makes h ≡ true → Continues k x y h
+continues-so k x y wants makes h same kind shelled uses wanted =
     grind (arith, common_steps, wanted-source, wanted-made)
 
 -- ---- load
@@ -168,7 +168,7 @@ limits-stay k d p q n m w st fits kernel notes faultless = grind (arith, common_
 -- a prepare after which the kernel has the state b
 module _ (k : Kind) (d : Option ReaderView) (p : ShellPart) (b : OwnState) (j : Held)
     (notes : Notes) (n m : RowCount) (v w : Picture) (st : Status)
-    (so : Suits k p.kernel (record p.kernel { own = b }) j) where
+    (so : Continues k p.kernel (record p.kernel { own = b }) j) where
   abbrev after : BoxPicture
   after = part_seen k d m (part (record p.kernel { own = b }) j notes)
 
@@ -226,34 +226,34 @@ module _ (k : Kind) (d : Option ReaderView) (p : ShellPart) (b : OwnState) (j : 
 
 -- a prepare that takes one turn
 pub passes-once : (k : Kind) (p q : ShellPart) (n m : RowCount) (v w : Picture) (st : Status)
-    → Suits k p.kernel q.kernel q.held → out_count v ≤ 16 → HasSpecPorts p.kernel v
+    → Continues k p.kernel q.kernel q.held → out_count v ≤ 16 → HasSpecPorts p.kernel v
     → Passes p v n q w m st → PartPrepares k p v n q w m st
 passes-once k p q n m v w st so few ports x = record {
-  suits = so;
+  continues = so;
   changed = changed-by-both v x.view w x.pushes.changed x.turns.moves.changed;
   grows = x.counts.grows;
   since = x.counts.since;
   fits = p.notes.fits;
   notes = x.notes;
   lawful = λ d run f.
-      subst (λ z. Suits k p.kernel z q.held → Passes p v n (part z q.held q.notes) w m st
+      subst (λ z. Continues k p.kernel z q.held → Passes p v n (part z q.held q.notes) w m st
       → PreparesLawfully (part_seen k d n p) v (part_seen k d m (part z q.held q.notes)) w st)
       (sym so.kernel) (λ so x. prepares-fit _ _ _ _ _ _ _ _ _ _ _ so few ports x f run) so x;
 }
 
 -- a prepare over a view with other ports
 pub shuts-once : (k : Kind) (p q : ShellPart) (n m : RowCount) (v w : Picture) (st : Status)
-    → Suits k p.kernel q.kernel q.held → (HasSpecPorts p.kernel v → ⊥)
+    → Continues k p.kernel q.kernel q.held → (HasSpecPorts p.kernel v → ⊥)
     → ShutsPart p v n q w m st → PartPrepares k p v n q w m st
 shuts-once k p q n m v w st so never x = record {
-  suits = so;
+  continues = so;
   changed = x.changed;
   grows = x.counts.grows;
   since = x.counts.since;
   fits = false;
   notes = x.notes;
   lawful = λ d run f.
-      subst (λ z. Suits k p.kernel z q.held → ShutsPart p v n (part z q.held q.notes) w m st
+      subst (λ z. Continues k p.kernel z q.held → ShutsPart p v n (part z q.held q.notes) w m st
       → PreparesLawfully (part_seen k d n p) v (part_seen k d m (part z q.held q.notes)) w st)
       (sym so.kernel) (λ so x. prepares-misfit _ _ _ _ _ _ _ _ _ _ _ so never x run) so x;
 }
@@ -262,7 +262,8 @@ shuts-once k p q n m v w st so never x = record {
 
 -- A work after which the kernel has the state b, and from which o came.
 module _ (k : Kind) (d : Option ReaderView) (count : RowCount) (x : KernelState) (n : Notes)
-    (b : OwnState) (o : Option Table) (so : Suits k x (record x { own = b }) (held_option o)) where
+    (b : OwnState) (o : Option Table)
+    (so : Continues k x (record x { own = b }) (held_option o)) where
   abbrev s : Spec
   s = x.spec
 
@@ -409,13 +410,13 @@ works-part k d count p q w = go p.held w.works
         → Works (part_seen k d count (part p.kernel h p.notes)) (part_seen k d count j)
 
     to : (h : Held) (o : Option Table) → q.held ≡ held_option o
-        → (Suits k p.kernel (record p.kernel { own = q.kernel.own }) (held_option o)
+        → (Continues k p.kernel (record p.kernel { own = q.kernel.own }) (held_option o)
         → X h (part (record p.kernel { own = q.kernel.own }) (held_option o)
         (record p.notes { acted = true }))) → X h q
     to h o e f =
         let at : q ≡ part (record p.kernel { own = q.kernel.own }) (held_option o)
-        (record p.notes { acted = true }) = λ i. part (w.suits.kernel i) (e i) (w.notes i) in
-        subst (X h) (sym at) (f (subst (λ z. Suits k p.kernel z.kernel z.held) at w.suits))
+        (record p.notes { acted = true }) = λ i. part (w.continues.kernel i) (e i) (w.notes i) in
+        subst (X h) (sym at) (f (subst (λ z. Continues k p.kernel z.kernel z.held) at w.continues))
 
     go : (h : Held) → WorksHeld p.kernel h q.kernel.own q.held → X h q
     go Nothing y = to Nothing y.out y.held (λ so.

@@ -37,7 +37,7 @@ collect_uses chunks handed_out i unworked made e none =
 
 pub collect_shelled : IsShelled spec.Collect
 collect_shelled = record {
-  still = λ growth kept m n had h stands. (h.0 ∙ sym had.0, h.1 ∙ sym had.1);
+  still = λ growth kept m n had h position. (h.0 ∙ sym had.0, h.1 ∙ sym had.1);
   enough_one = λ ins enough growth m n h. absurd enough;
   lets_push = λ x own worked outs more growth inputs outputs o pushed rest ports by others h. h;
   into = λ p ins outs seen uses sizes t. into-collect p ins outs uses t;

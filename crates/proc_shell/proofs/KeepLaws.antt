@@ -1,5 +1,5 @@
 -- A shell keeps the contract of its kernel's kind over a prepare.
-use Rattle.proc_shell.proofs.Imports.{All, All-append, All-behind, All-weaker, AllFit, AllOutputsClosed, AnswerComes, AreOpen, ArePortsOf, Bool, BoxPicture, CountsRows, EndsNow, Flags, FollowsKept, GrowthForm, HadPorts, HasEnough, HasNotedEnd, HasReadEnough, HasSize, HasSpecPorts, HasSpecView, Held, IfSome, InputFollows, IsOver, IsPulled, IsReadUp, IsRunning, IsShelled, Keeps, KeepsMeant, KeepsOver, KernelState, Kind, List, Lists, MakesTypes, MayBeInput, Means, Moves, None, Notes, NotesEnd, Nothing, Option, OwnState, Passes, Picture, PortFlags, Prepared, PullsOne, Pushes, ReaderView, RowCount, Some, Spec, StandStill, Status, StaysFit, Suits, Table, [], ap, append-nil, append_assoc, append_cancel_right, ap₂, arith, both_ways, by-place, cases_eq, cases_lt, chunk_rows, common_steps, cond, cond_both, counted-more, enough-more, eq-eqb, false, false_from_ne_true, fits-front, front-all, gathered_with, get_or, growth_in, held_made, held_unworked, in_count, inl, input_at, inr, is_ended, is_in_finished, is_out_finished, kept_input, kept_input-of, kept_input-past, kept_inputs, kept_inputs-of, kept_output, kept_output-of, kept_output-past, kept_outputs, kept_outputs-of, kept_ports, length, length-map, makes-more, may-be-input, ne_eqb, never-enough, no_flags, not-true, or_cases, out_count, output_at, own_of, part, part_seen, port_flags, pulled-last, pulled-more, pulled_at, pushed_at, raised, reading_of, refl, rows_pulled, source_of, subst, sym, taken_out, total_rows, true, unworked_at, with_pulled, with_pushed, ℕ, ◌++◌, ◌<◌, ◌==◌, ◌||◌, ◌∙◌, ◌∷◌, ◌≡◌, ◌≢◌, ◌≤◌, ◌⊎◌}
+use Rattle.proc_shell.proofs.Imports.{All, All-append, All-behind, All-weaker, AllFit, AllOutputsClosed, AnswerComes, AreOpen, ArePortsOf, Bool, BoxPicture, Continues, CountsRows, EndsNow, Flags, FollowsKept, GrowthForm, HadPorts, HasEnough, HasNotedEnd, HasReadEnough, HasSize, HasSpecPorts, HasSpecView, Held, IfSome, InputFollows, IsOver, IsPulled, IsReadUp, IsRunning, IsShelled, Keeps, KeepsMeant, KeepsOver, KernelState, Kind, List, Lists, MakesTypes, MayBeInput, Means, Moves, None, Notes, NotesEnd, Nothing, Option, OwnState, Passes, Picture, PortFlags, Prepared, PullsOne, Pushes, ReaderView, RowCount, Some, Spec, StandStill, Status, StaysFit, Table, [], ap, append-nil, append_assoc, append_cancel_right, ap₂, arith, both_ways, by-place, cases_eq, cases_lt, chunk_rows, common_steps, cond, cond_both, counted-more, enough-more, eq-eqb, false, false_from_ne_true, fits-front, front-all, gathered_with, get_or, growth_in, held_made, held_unworked, in_count, inl, input_at, inr, is_ended, is_in_finished, is_out_finished, kept_input, kept_input-of, kept_input-past, kept_inputs, kept_inputs-of, kept_output, kept_output-of, kept_output-past, kept_outputs, kept_outputs-of, kept_ports, length, length-map, makes-more, may-be-input, ne_eqb, never-enough, no_flags, not-true, or_cases, out_count, output_at, own_of, part, part_seen, port_flags, pulled-last, pulled-more, pulled_at, pushed_at, raised, reading_of, refl, rows_pulled, source_of, subst, sym, taken_out, total_rows, true, unworked_at, with_pulled, with_pushed, ℕ, ◌++◌, ◌<◌, ◌==◌, ◌||◌, ◌∙◌, ◌∷◌, ◌≡◌, ◌≢◌, ◌≤◌, ◌⊎◌}
 use Rattle.query_model.specs.declared.processor_spec.Spec.TheVariants as spec
 use Rattle.proc_api.specs.declared.status.Status.TheVariants as status
 use Rattle.proc_shell.proofs.PortMoves.{all-or, both-none, kept-count, never-true, outs-count}
@@ -77,7 +77,7 @@ pulled-so h m v u w old new pushes counts =
 -- then a turn is taken, which leaves b and k.
 module _ (kind : Kind) (d : Option ReaderView) (kernel : KernelState) (b : OwnState) (h k : Held)
     (first last : Notes) (old new : RowCount) (v w : Picture) (st : Status)
-    (so : Suits kind kernel (record kernel { own = b }) k)
+    (so : Continues kind kernel (record kernel { own = b }) k)
     (g : Passes (part kernel h first) v old (part (record kernel { own = b }) k last) w new st)
     (few : out_count v ≤ 16) (ports : HasSpecPorts kernel v)
     (run : IsRunning (part_seen kind d old (part kernel h first)))

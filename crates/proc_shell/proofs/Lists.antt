@@ -61,7 +61,7 @@ list-pushes list x own worked outs more growth m n o pushed rest ports (inl at) 
 
 pub list_shelled : (list : PartSpec) → IsShelled (spec.List list)
 list_shelled list = record {
-  still = λ growth kept m n had h stands. (h.0 ∙ sym had.0, h.1 ∙ sym had.1);
+  still = λ growth kept m n had h position. (h.0 ∙ sym had.0, h.1 ∙ sym had.1);
   enough_one = λ ins enough growth m n h. absurd enough;
   lets_push = list-pushes list;
   into = λ p ins outs seen uses sizes t. into-list list p ins outs seen t;

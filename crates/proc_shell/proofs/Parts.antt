@@ -99,7 +99,7 @@ from-part part p ins outs seen uses k =
 
 pub part_shelled : (part : PartSpec) → IsShelled (spec.Csv part)
 part_shelled part = record {
-  still = λ growth kept m n had h stands. (h.0 ∙ sym had.0, h.1 ∙ sym had.1);
+  still = λ growth kept m n had h position. (h.0 ∙ sym had.0, h.1 ∙ sym had.1);
   enough_one = λ ins enough growth m n h. absurd enough;
   lets_push = pushes-in-order (spec.Csv part) (in-order part) (λ growth m n h. h.1);
   into = λ p ins outs seen uses sizes t. into-part part p ins outs sizes t;

@@ -1,5 +1,5 @@
 -- A prepare that works at once what it pulled is two prepares and a work between them.
-use Rattle.proc_shell.proofs.Imports.{AreAsKept, AreMoved, Bool, BoxPicture, CountsRows, FollowsKept, HasSpecPorts, Held, IsKernelOf, IsRunning, IsSound, IsWorkOf, Keeps, KernelState, Kind, List, Option, PartPrepares, PartWorks, PassesOn, Picture, PreparesLawfully, Pushes, ReaderView, Ready, RowCount, ShellPart, Some, Spec, Status, StaysFit, Suits, Table, Takes, Turns, Unworked, WorksHeld, [], and_parts, ap, arith, changed-by-both, common_steps, follows-noted, goes-on, growth_in, held_made, held_option, held_unworked, in_count, is_wanted, lists-pulled, lists-pushed, ltb-true, nat_lt, out_count, part, part_seen, port_flags, refl, rows-both, rows_pulled, source_of, stands-still, subst, sym, true, with_pulled, with_pushed, with_view, work_of, ℕ, ◌&&◌, ◌<◌, ◌∙◌, ◌∷◌, ◌≡◌, ◌≤◌}
+use Rattle.proc_shell.proofs.Imports.{AreAsKept, AreMoved, Bool, BoxPicture, Continues, CountsRows, FollowsKept, HasSpecPorts, Held, IsKernelOf, IsRunning, IsSound, IsWorkOf, Keeps, KernelState, Kind, List, Option, PartPrepares, PartWorks, PassesOn, Picture, PreparesLawfully, Pushes, ReaderView, Ready, RowCount, ShellPart, Some, Spec, Status, StaysFit, Table, Takes, Turns, Unworked, WorksHeld, [], and_parts, ap, arith, changed-by-both, common_steps, follows-noted, goes-on, growth_in, held_made, held_option, held_unworked, in_count, is_wanted, lists-pulled, lists-pushed, ltb-true, nat_lt, out_count, part, part_seen, port_flags, position-still, refl, rows-both, rows_pulled, source_of, subst, sym, true, with_pulled, with_pushed, with_view, work_of, ℕ, ◌&&◌, ◌<◌, ◌∙◌, ◌∷◌, ◌≡◌, ◌≤◌}
 use Rattle.proc_shell.proofs.BoxLaws.{held-source, held-worked, limits-stay, passes-once, works-part}
 use Rattle.proc_shell.proofs.PortMoves.{kept-count, outs-count, same-ports}
 
@@ -8,7 +8,7 @@ pub still-ports : (k : Kind) (p q : ShellPart) (n m : RowCount) (v w : Picture) 
     → PartPrepares k p v n q w m s → HasSpecPorts p.kernel v → HasSpecPorts q.kernel w
 still-ports k p q n m v w s x ports =
     let g = goes-on v w x.changed in
-    subst (λ z. HasSpecPorts z w) (sym x.suits.kernel)
+    subst (λ z. HasSpecPorts z w) (sym x.continues.kernel)
     (same-ports p.kernel.spec (growth_in p.kernel.spec p.kernel.stage) (in_count v) (out_count v)
     (in_count w)
     (out_count w) (sym g.ins) (sym g.outs) ports)
@@ -18,7 +18,7 @@ module _ (k : Kind) (p a b q : ShellPart) (n m l : RowCount) (v u w : Picture) (
     (last : PartPrepares k b u m q w l s) where
   spec-stays : Some b.kernel.spec ≡ Some p.kernel.spec
   spec-stays =
-      ap (λ z. Some z.spec) work.suits.kernel ∙ ap (λ z. Some z.spec) first.suits.kernel
+      ap (λ z. Some z.spec) work.continues.kernel ∙ ap (λ z. Some z.spec) first.continues.kernel
 
   noted : b.notes.view ≡ Some (port_flags u)
   noted = ap (λ z. z.view) work.notes ∙ ap (λ z. z.view) first.notes
@@ -66,14 +66,14 @@ module _ (k : Kind) (p a b q : ShellPart) (n m l : RowCount) (v u w : Picture) (
       after = record {
         loaded = refl;
         faultless = ap (λ z. z.fault) first.notes ∙ run.faultless;
-        not_handed_out = ap (λ z. z.stage.handed_out) first.suits.kernel ∙ run.not_handed_out;
+        not_handed_out = ap (λ z. z.stage.handed_out) first.continues.kernel ∙ run.not_handed_out;
       }
 
       between : IsRunning B
       between = record {
         loaded = refl;
         faultless = ap (λ z. z.fault) work.notes ∙ after.faultless;
-        not_handed_out = ap (λ z. z.stage.handed_out) work.suits.kernel ∙ after.not_handed_out;
+        not_handed_out = ap (λ z. z.stage.handed_out) work.continues.kernel ∙ after.not_handed_out;
       }
 
       y : PreparesLawfully B u Q w s
@@ -84,25 +84,25 @@ module _ (k : Kind) (p a b q : ShellPart) (n m l : RowCount) (v u w : Picture) (
         fits = ap (λ z. z.fits) work.notes ∙ x.fits fit;
         ports =
             let g = goes-on v u first.changed in
-            subst (λ z. HasSpecPorts z u) (sym work.suits.kernel)
-            (subst (λ z. HasSpecPorts z u) (sym first.suits.kernel)
+            subst (λ z. HasSpecPorts z u) (sym work.continues.kernel)
+            (subst (λ z. HasSpecPorts z u) (sym first.continues.kernel)
             (same-ports p.kernel.spec (growth_in p.kernel.spec p.kernel.stage) (in_count v)
             (out_count v) (in_count u)
             (out_count u) (sym g.ins) (sym g.outs) fit.ports));
         still =
-            stands-still (Some b.kernel.spec) b.notes.view (in_count u) (out_count u)
+            position-still (Some b.kernel.spec) b.notes.view (in_count u) (out_count u)
             (subst (λ z. AreAsKept z (in_count u) (out_count u)) (sym noted)
             (sym (kept-count u), sym (outs-count u)));
       }
 
   pub prepares-twice : PartPrepares k p v n q w l s
   prepares-twice = record {
-    suits = record {
+    continues = record {
       kernel = kernel-both;
-      kind = first.suits.kind;
-      shelled = first.suits.shelled;
+      kind = first.continues.kind;
+      shelled = first.continues.shelled;
       uses = subst (λ z. IsWorkOf z (work_of q.kernel (source_of q.held) (held_unworked q.held)
-          (held_made q.held))) spec-stays last.suits.uses;
+          (held_made q.held))) spec-stays last.continues.uses;
     };
     changed = changed-by-both v u w first.changed last.changed;
     grows = omega (arith, first.grows, last.grows);
@@ -123,7 +123,7 @@ pub record PassesChunks (x : KernelState) : Type 0 where
 
 -- chunks are moved by one turn
 pub turns-once : (k : Kind) (x y : KernelState) (h i j : Held) (n m : RowCount) (v u w : Picture)
-    (s : Status) → Suits k x y j → HasSpecPorts x v → out_count v ≤ 16 → Pushes h i v u
+    (s : Status) → Continues k x y j → HasSpecPorts x v → out_count v ≤ 16 → Pushes h i v u
     → Turns x y.own i j u w s → CountsRows (rows_pulled u w) n m → AreMoved k x h v n y j w m s
 turns-once k x y h i j n m v u w s so ports few pushes turns counts = λ notes.
     passes-once k (part x h notes) (part y j (with_view w s notes)) n m v w s so few ports
@@ -140,7 +140,7 @@ turns-once k x y h i j n m v u w s so ports few pushes turns counts = λ notes.
 pub turns-again : (k : Kind) (wants : ℕ → Bool) (makes : Bool) (p a : ShellPart) (y : KernelState)
     (i h : Held) (n m l : RowCount) (v u t w : Picture) (r s : Status) → PassesChunks a.kernel
     → r ≡ Ready → HasSpecPorts p.kernel v → out_count v ≤ 16
-    → is_wanted wants makes a.held ≡ true → PassesOn a.held i u t → Suits k a.kernel y h
+    → is_wanted wants makes a.held ≡ true → PassesOn a.held i u t → Continues k a.kernel y h
     → Turns a.kernel y.own i h t w s → CountsRows (rows_pulled t w) m l
     → PartPrepares k p v n a u m r → PartPrepares k p v n (part y h (with_view w s a.notes)) w l s
 turns-again k wants makes p a y i h n m l v u t w r s passes ready ports few wanted on so turns
@@ -179,12 +179,12 @@ turns-again k wants makes p a y i h n m l v u t w r s passes ready ports few wan
 
     uses : UsesHeld (Some a.kernel.spec) (Unworked on.input on.chunk)
     uses = subst (UsesHeld (Some a.kernel.spec)) on.before
-        (subst (λ z. UsesHeld z a.held) (sym (ap (λ z. Some z.spec) first.suits.kernel))
-        first.suits.uses)
+        (subst (λ z. UsesHeld z a.held) (sym (ap (λ z. Some z.spec) first.continues.kernel))
+        first.continues.uses)
 
     work : PartWorks k a b
     work = record {
-      suits = record {
+      continues = record {
         kernel = refl;
         kind = so.kind;
         shelled = so.shelled;

@@ -139,7 +139,7 @@ pub shelled-of : (s : Spec) (inputs : ℕ) → is_plain s ≡ true → HasPortCo
     IsWorkOf (Some s) p.work → KeepsRows (Some s) p ins outs → KeepsMade s p ins outs) → IsShelled s
 shelled-of s inputs e c k into from =
     shelled-plain s e
-    (λ growth kept m n had h stands. let x = c.ports growth (length kept.inputs)
+    (λ growth kept m n had h position. let x = c.ports growth (length kept.inputs)
     (length kept.outputs) had in let y = c.ports growth m n h in (y.0 ∙ sym x.0, y.1 ∙ sym x.1))
     (λ ins enough growth m n h. (c.ports growth m n h).1)
     (pushes-in-order s k (λ growth m n h. (c.ports growth m n h).1)) into from

@@ -115,7 +115,7 @@ pub record ShutsPart (p : ShellPart) (v : Picture) (n : RowCount) (q : ShellPart
   pub notes : q.notes ≡ with_view w s (record p.notes { fits = false })
 
 -- a kernel of the kind, which goes on with another state of its own and a chunk that is held
-pub record Suits (k : Kind) (x y : KernelState) (h : Held) : Type 0 where
+pub record Continues (k : Kind) (x y : KernelState) (h : Held) : Type 0 where
   pub kernel : IsKernelOf x y
   pub kind : (x.kind ≡ k) × (kind_of x.spec ≡ k)
   pub shelled : IsShelled x.spec
@@ -125,7 +125,7 @@ pub record Suits (k : Kind) (x y : KernelState) (h : Held) : Type 0 where
 pub record PartPrepares (k : Kind) (p : ShellPart) (v : Picture) (n : RowCount) (q : ShellPart)
     (w : Picture) (m : RowCount) (s : Status)
     : Type 0 where
-  pub suits : Suits k p.kernel q.kernel q.held
+  pub continues : Continues k p.kernel q.kernel q.held
   pub changed : ChangedByCalls v w
   pub grows : n.total ≤ m.total
   pub since : m.total + n.since ≡ n.total + m.since
@@ -161,7 +161,7 @@ WorksHeld x (Unworked i t) new k = TakesHeld x i t new k
 
 -- a work, before which no chunk waits
 pub record PartWorks (k : Kind) (p q : ShellPart) : Type 0 where
-  pub suits : Suits k p.kernel q.kernel q.held
+  pub continues : Continues k p.kernel q.kernel q.held
   pub works : WorksHeld p.kernel p.held q.kernel.own q.held
   pub notes : q.notes ≡ record p.notes { acted = true }
 

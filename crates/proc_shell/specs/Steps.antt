@@ -47,10 +47,10 @@ is_due (Some (Scheduled wake.Later)) acted = true
 is_due a acted = false
 
 -- where one of them may be called no chunk waits to be pushed
-abbrev pub suits : Option Answer → Bool → Held → Bool
-suits a acted Nothing = true
-suits a acted (Unworked i c) = true
-suits a acted (Made c) = not (is_due a acted)
+abbrev pub may_hold : Option Answer → Bool → Held → Bool
+may_hold a acted Nothing = true
+may_hold a acted (Unworked i c) = true
+may_hold a acted (Made c) = not (is_due a acted)
 
 -- so many rows were counted
 pub record CountsRows (rows : ℕ) (old new : RowCount) : Type 0 where

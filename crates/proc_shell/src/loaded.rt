@@ -1,5 +1,5 @@
 ghost use Rattle.std.specs.Prelude.{◌≡◌};
-ghost use Rattle.proc_shell.specs.Names.{Fails, IfErr, IfOk, IsBegun, IsKernelOf, IsLeftOf, OnOk, WorksHeld, [], held_made, is_wanted, kind_of, part, suits, true};
+ghost use Rattle.proc_shell.specs.Names.{Fails, IfErr, IfOk, IsBegun, IsKernelOf, IsLeftOf, OnOk, WorksHeld, [], held_made, is_wanted, kind_of, may_hold, part, true};
 
 use crate::held::{Held, held_of, unworked_of};
 use crate::kernel::Kernel;
@@ -17,7 +17,7 @@ pub struct Loaded<K: Kernel> {
     pub kernel: K,
     pub held: Held,
     pub notes: BoxNotes,
-    ghost ready: { suits notes.answer notes.acted held ≡ true },
+    ghost ready: { may_hold notes.answer notes.acted held ≡ true },
     ghost wanted: { is_wanted (K.open_to kernel) K.makes held ≡ true },
 }
 

@@ -30,11 +30,11 @@ impl<K: Kernel> Model for Shell<K> {
 }
 
 impl<K: Kernel> Shell<K> {
-    ghost use Rattle.proc_shell.specs.Names.{IsLawfulBlank, view_seen};
+    ghost use Rattle.proc_shell.specs.Names.{IsUnloadedProcessor, view_seen};
 
     /// A blank processor of the kernel's kind.
     pub fn new(alloc: Global) -> Shell<K>
-        ensures { IsLawfulBlank K.kind_is (view_seen K.kind_is result) }
+        ensures { IsUnloadedProcessor K.kind_is (view_seen K.kind_is result) }
     {
         Shell {
             alloc,
@@ -49,7 +49,7 @@ impl<K: Kernel + Send> Processor for Shell<K> {
 
     ghost seen = { view_seen K.kind_is };
 
-    ghost stands = { λ s. None };
+    ghost position = { λ s. None };
 
     fn kind(&self) -> Kind {
         K::kind()

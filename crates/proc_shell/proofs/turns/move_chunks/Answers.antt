@@ -6,17 +6,22 @@ use Rattle.proc_shell.proofs.turns.move_chunks.Goals as goal
 
 pub loop-next-init : goal.loop-next-init
 loop-next-init g c = (
-  turns-once _ _ _ _ _ _ _ _ _ _ _ _ c.turn-status.ensures.same c.requires.ports c.requires.few
-      c.push_made.ensures c.turn-status.ensures.turns c.turn-status.ensures.counts,
-  c.turn-status.ensures.wanted,
-  c.turn-status.ensures.ready,
+  turns-once _ _ _ _ _ _ _ _ _ _ _ _ c.run_turn-status.ensures.same c.requires.ports c.requires.few
+      c.push_made.ensures c.run_turn-status.ensures.turns c.run_turn-status.ensures.counts,
+  c.run_turn-status.ensures.wanted,
+  c.run_turn-status.ensures.ready,
   search rules,
-  omega (arith, c.requires.few_in, c.push_made.ensures.ins, c.turn-status.ensures.turns.moves.ins),
+  omega (
+    arith,
+    c.requires.few_in,
+    c.push_made.ensures.ins,
+    c.run_turn-status.ensures.turns.moves.ins,
+  ),
 )
 
 pub loop-next-preserved : goal.loop-next-preserved
 loop-next-preserved g c =
-    let t = c.turn-status-in-loop-next in
+    let t = c.run_turn-status-in-loop-next in
     let l = c.loop-next in
     let of : c.kind.result ≡ kind.Resize = search rules in
     let ready : l.status ≡ Ready = search rules in (

@@ -1,5 +1,5 @@
 use Rattle.proc_shell.proofs.Imports.{Finished, HasSpecPorts, ap, refl, sym, with_view, ◌∙◌}
-use Rattle.proc_shell.proofs.BoxLaws.{shuts-once, suits-so}
+use Rattle.proc_shell.proofs.BoxLaws.{continues-so, shuts-once}
 use Rattle.proc_shell.proofs.PortMoves.{same-ports, unless-true}
 use Rattle.proc_shell.proofs.loaded.Loaded.prepare.Goals as goal
 
@@ -10,7 +10,7 @@ returns-then-not-fits g c =
     λ ports. unless-true _ c.fits.ensures c.if-not-fits.true (same-ports _ _ _ _ _ _
     (sym c.inputs.ensures.count) (sym c.outputs.ensures.count) ports) in
     shuts-once _ _ _ _ _ _ _ _
-    (suits-so _ _ _ _ _ _ refl (g.met.K.Kernel.of_kind k) (g.met.K.Kernel.shelled k)
+    (continues-so _ _ _ _ _ _ refl (g.met.K.Kernel.of_kind k) (g.met.K.Kernel.shelled k)
     (g.met.K.Kernel.uses k) c.args.self.now.wanted) never (record {
       changed = c.shut_down.ensures.changed;
       shut = c.shut_down.ensures.shut;

@@ -1,10 +1,11 @@
 use Rattle.proc_shell.proofs.Imports.{ap, arith, raised, ◌∙◌}
-use Rattle.proc_shell.proofs.BoxLaws.{rows-turned, suits-so}
-use Rattle.proc_shell.proofs.turns.turn.Goals as goal
+use Rattle.proc_shell.proofs.BoxLaws.{continues-so, rows-turned}
+use Rattle.proc_shell.proofs.turns.run_turn.Goals as goal
 
 pub returns-clause-same : goal.returns-clause-same
 returns-clause-same g c =
-    suits-so _ _ _ _ _ _ c.take_turn-status.ensures.same (g.met.K.Kernel.of_kind c.args.kernel.now)
+    continues-so _ _ _ _ _ _ c.take_turn-status.ensures.same
+    (g.met.K.Kernel.of_kind c.args.kernel.now)
     (g.met.K.Kernel.shelled c.args.kernel.now)
     (g.met.K.Kernel.uses c.take_turn-status.new.kernel) c.take_turn-status.ensures.wanted
 
