@@ -1,5 +1,5 @@
 -- Operators on numbers are those on values.
-use Rattle.expr_eval.proofs.Imports.{arith, ArithOp, Bool, Int, List, Sub, UInt, arith_value, exact_result, int_wrap, map, plain_value, pos, refl, residue, result_type, sided, w64, wrapped, zip, ℕ, ℤ, ◌-ℤ◌, ◌≡◌}
+use Rattle.expr_eval.proofs.Imports.{arith, ArithOp, Bool, Int, List, Sub, UInt, arith_value, exact_result, int_wrap, map, plain_value, pos, refl, residue, result_type, swap_if, w64, wrapped, zip, ℕ, ℤ, ◌-ℤ◌, ◌≡◌}
 use Rattle.chunk_data.specs.declared.typed_value.ColumnType.TheVariants as column
 use Rattle.expr_eval.proofs.Onto.{map-map, same_maps, zip-map}
 
@@ -36,18 +36,18 @@ int_behind_plain : (op : ArithOp) (x z : ℤ)
 unfolding wrapped
 int_behind_plain op x z = grind arith
 
-pub int_beside_at : (swapped : Bool) (op : ArithOp) (x z : ℤ) → sided swapped (arith_value op)
-    (Int x) (plain_value z) ≡ Int (int_wrap w64 (sided swapped (exact_result op) x z))
+pub int_beside_at : (swapped : Bool) (op : ArithOp) (x z : ℤ) → swap_if swapped (arith_value op)
+    (Int x) (plain_value z) ≡ Int (int_wrap w64 (swap_if swapped (exact_result op) x z))
 int_beside_at swapped op x z = grind (arith, int_before_plain, int_behind_plain)
 
 pub uint_beside_at : (swapped : Bool) (op : ArithOp) (x y : ℕ) → (op ≡ Sub → ⊥)
-    → sided swapped (arith_value op) (UInt x) (UInt y)
-    ≡ UInt (residue (sided swapped (exact_result op) (pos x) (pos y)))
+    → swap_if swapped (arith_value op) (UInt x) (UInt y)
+    ≡ UInt (residue (swap_if swapped (exact_result op) (pos x) (pos y)))
 uint_beside_at swapped op x y not = grind (arith, uint_pair_at)
 
 pub uint_difference_beside_at : (swapped : Bool) (op : ArithOp) (x y : ℕ) → op ≡ Sub
-    → sided swapped (arith_value op) (UInt x) (UInt y)
-    ≡ Int (int_wrap w64 (sided swapped (λ a b. a -ℤ b) (pos x) (pos y)))
+    → swap_if swapped (arith_value op) (UInt x) (UInt y)
+    ≡ Int (int_wrap w64 (swap_if swapped (λ a b. a -ℤ b) (pos x) (pos y)))
 uint_difference_beside_at swapped op x y e = grind (arith, uint_difference_at)
 
 -- what one list gives, seen under a constructor

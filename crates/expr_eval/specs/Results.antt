@@ -15,9 +15,9 @@ abbrev pub residue : ℤ → ℕ
 residue z = unsigned_abs (int_rem_euclid z (pos (2 ^ 64)))
 
 -- the operator at two operands, the second of which is written in front where `swapped` is true
-abbrev pub sided : {X Y : Type 0} → Bool → (X → X → Y) → X → X → Y
-sided false f x y = f x y
-sided true f x y = f y x
+abbrev pub swap_if : {X Y : Type 0} → Bool → (X → X → Y) → X → X → Y
+swap_if false f x y = f x y
+swap_if true f x y = f y x
 
 -- the type of the result of an operator at operands of these types
 abbrev pub arith_type : ArithOp → ColumnType → ColumnType → ColumnType

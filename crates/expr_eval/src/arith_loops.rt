@@ -4,7 +4,7 @@ ghost use Rattle.std.specs.Prelude.{◌≡◌, ◌-ℤ◌, pos, length, map, IfO
 ghost use Rattle.std.specs.List.{zip};
 ghost use Rattle.std.specs.Int.{int_wrap, w64};
 ghost use Rattle.query_model.specs.Expressions.{exact_result};
-ghost use Rattle.expr_eval.specs.Results.{residue, sided};
+ghost use Rattle.expr_eval.specs.Results.{residue, swap_if};
 
 use chunk_data::Memory;
 use query_model::arithmetic::{add_int, add_uint, mul_int, mul_uint, sub_int, sub_uint};
@@ -100,7 +100,7 @@ pub(crate) fn uint_differences_beside(
     y: u64,
 ) -> Result<Vec<i64>, Memory>
     ensures { IfOk result (λ v. v.items
-        ≡ map (λ x. int_wrap w64 (sided swapped (λ a b. a -ℤ b) (pos x) (pos y))) xs.now) }
+        ≡ map (λ x. int_wrap w64 (swap_if swapped (λ a b. a -ℤ b) (pos x) (pos y))) xs.now) }
 {
     if swapped {
         Ok(xs.iter().map(|x| uint_difference(y, *x)).collect(alloc)?)
@@ -144,7 +144,7 @@ pub(crate) fn int_results_beside(
     y: i64,
 ) -> Result<Vec<i64>, Memory>
     ensures { IfOk result
-        (λ v. v.items ≡ map (λ x. int_wrap w64 (sided swapped (exact_result op) x y)) xs.now) }
+        (λ v. v.items ≡ map (λ x. int_wrap w64 (swap_if swapped (exact_result op) x y)) xs.now) }
 {
     each_beside!(alloc, op, swapped, xs, y, int_result)
 }
@@ -158,7 +158,7 @@ pub(crate) fn uint_results_beside(
     y: u64,
 ) -> Result<Vec<u64>, Memory>
     ensures { IfOk result (λ v. v.items
-        ≡ map (λ x. residue (sided swapped (exact_result op) (pos x) (pos y))) xs.now) }
+        ≡ map (λ x. residue (swap_if swapped (exact_result op) (pos x) (pos y))) xs.now) }
 {
     each_beside!(alloc, op, swapped, xs, y, uint_result)
 }

@@ -3,7 +3,7 @@ ghost use Rattle.std.specs.Option.{option_map};
 ghost use Rattle.std.specs.List.{zip};
 ghost use Rattle.chunk_data.specs.Columns.{kind_of, values};
 ghost use Rattle.query_model.specs.Names.{value_of, type_of, number_of, plain_value, arith_value, IsItem, IsTyped, plain_of, CanHold, AreNumbersAlike, AreAlike};
-ghost use Rattle.expr_eval.specs.Results.{IsMade, sided, result_type, arith_type};
+ghost use Rattle.expr_eval.specs.Results.{IsMade, swap_if, result_type, arith_type};
 
 use crate::arith_loops::{
     int_results, int_results_beside, int_results_onto, uint_differences, uint_differences_beside,
@@ -55,7 +55,7 @@ fn int_beside(
 ) -> Result<Column, Memory>
     ensures kind { IfOk result (λ c. kind_of c ≡ ColumnType.Int64) }
     ensures values { IfOk result (λ c. values c
-        ≡ map (λ v. sided swapped (arith_value op) v (plain_value y)) (map Value.Int xs.now)) }
+        ≡ map (λ v. swap_if swapped (arith_value op) v (plain_value y)) (map Value.Int xs.now)) }
 {
     match int_results_beside(alloc, swapped, op, xs, y) {
         Ok(numbers) => Ok(Column::of_ints(numbers)),
@@ -73,7 +73,7 @@ fn uint_beside(
 ) -> Result<Column, Memory>
     ensures kind { IfOk result (λ c. kind_of c ≡ result_type op ColumnType.UInt64) }
     ensures values { IfOk result (λ c. values c
-        ≡ map (λ v. sided swapped (arith_value op) v (Value.UInt y)) (map Value.UInt xs.now)) }
+        ≡ map (λ v. swap_if swapped (arith_value op) v (Value.UInt y)) (map Value.UInt xs.now)) }
 {
     match op {
         ArithOp::Sub => match uint_differences_beside(alloc, swapped, xs, y) {
@@ -98,7 +98,7 @@ fn beside(
     requires { CanHold (kind_of column.now) (number_of n) }
     ensures kind { IfOk result (λ c. kind_of c ≡ result_type op (kind_of column.now)) }
     ensures values { IfOk result (λ c. values c ≡ map
-        (λ v. sided swapped (arith_value op) v (plain_value (number_of n))) (values column.now)) }
+        (λ v. swap_if swapped (arith_value op) v (plain_value (number_of n))) (values column.now)) }
 {
     match column.kind() {
         ColumnType::Int64 => int_beside(alloc, swapped, op, column.ints(), number_as_int(n)),
@@ -202,7 +202,7 @@ fn number_beside(
     requires held { CanHold (type_of expr.now chunk.now.types) (number_of n) }
     ensures kind { IfOk result
         (λ c. kind_of c ≡ result_type op (type_of expr.now chunk.now.types)) }
-    ensures values { IfOk result (λ c. values c ≡ map (λ row. sided swapped (arith_value op)
+    ensures values { IfOk result (λ c. values c ≡ map (λ row. swap_if swapped (arith_value op)
         (value_of expr.now row) (plain_value (number_of n))) chunk.now.rows) }
 {
     let column = beside(alloc, swapped, op, column_at(expr, &made, chunk), n)?;
