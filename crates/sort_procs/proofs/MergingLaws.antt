@@ -1,6 +1,6 @@
 -- What a merge has made, as chunks are taken, ends noted and first rows made.
 use Rattle.std.proofs.Common.{◌≡◌, ◌≢◌, ℕ, zero, suc, ◌<◌, ◌||◌, nat_lt, Bool, true, false, List, [], ◌∷◌, ◌++◌, length, get_or, set, append_assoc, refl, sym, ap, ap₂, subst, ◌∙◌, arith, inl, inr, IsPermutation, IsSorted}
-use Rattle.sort_procs.proofs.Imports.{AllByRecursion, AreInputsSorted, AreMerged, Contains, Contains-append_left, Contains-append_right, InOrder, InputHead, IsBeforeNone, IsPermutation-append_comm, IsPermutation-append_left, IsPermutation-append_right, IsPermutation-middle, IsPermutation-refl, IsPermutation-trans, Lists, Row, SortKey, Table, all-more, all_rows, append-nil, cases_eq, chunk-elsewhere, chunk-here, chunk_rows, every-append, every-back, every-contains, every-front, every-none, every-permuted, every-weaker, get_or-set_other, get_or-set_same, head_at, head_rows, is_lt, no-rows, no_lists, one-more, order-back, order-cross, order-from_sorted, order-front, order-joined, row_cmp, rows-ordered, sorted-from_order, with_chunk}
+use Rattle.sort_procs.proofs.Imports.{AllByRecursion, AreInputsSorted, AreMerged, Contains, Contains-append_left, Contains-append_right, InOrder, InputHead, IsBeforeNone, IsPermutation-append_comm, IsPermutation-append_left, IsPermutation-append_right, IsPermutation-middle, IsPermutation-trans, Lists, Row, SortKey, Table, all-more, cases_eq, chunk-elsewhere, chunk-here, chunk_rows, every-append, every-back, every-contains, every-front, every-none, every-permuted, every-weaker, get_or-set_other, get_or-set_same, head_at, head_rows, is_lt, no-rows, no_lists, one-more, order-back, order-cross, order-from_sorted, order-front, order-joined, row_cmp, rows-ordered, sorted-from_order, with_chunk}
 use Rattle.proc_api.specs.Made.{AreLast, HeldBack, is_ready_head, no_head}
 
 -- more rows behind those that are held of one input
@@ -15,11 +15,7 @@ moved m f b t = subst (λ l. IsPermutation l (m ++ (f ++ (t ++ b))))
 -- what holds of the new element at place i, and of the old ones elsewhere
 pub set-each : {X : Type 0} (xs : List X) (i : ℕ) (new d : X) (P : ℕ → X → Type 0) → i < length xs
     → P i new → ((j : ℕ) → j ≢ i → P j (get_or xs j d)) → (j : ℕ) → P j (get_or (set xs i new) j d)
-set-each xs i new d P lt here there j = elim (cases_eq j i) [
-  | inl z ↦ subst (λ n. P n (get_or (set xs i new) n d)) (sym z)
-      (subst (P i) (sym (get_or-set_same xs i new d lt)) here)
-  | inr ne ↦ subst (P j) (sym (get_or-set_other xs i j new d ne)) (there j ne)
-]
+set-each xs i new d P lt here there j = grind (arith, cases_eq, get_or-set_same, get_or-set_other)
 
 -- the rows that are held of input i, among those of all
 record AmongHeads (heads : List InputHead) (i : ℕ) (new : InputHead) : Type 0 where
@@ -38,10 +34,8 @@ among (h ∷ heads) (suc i) new lt =
     record {
       front = h.rows ++ m.front;
       back = m.back;
-      old_are = ap (λ l. h.rows ++ l) m.old_are
-          ∙ sym (append_assoc h.rows m.front ((head_at heads i).rows ++ m.back));
-      new_are = ap (λ l. h.rows ++ l) m.new_are
-          ∙ sym (append_assoc h.rows m.front (new.rows ++ m.back));
+      old_are = grind (arith, append_assoc);
+      new_are = grind (arith, append_assoc);
     }
 
 every-head : (P : Row → Type 0) (heads : List InputHead)
@@ -59,10 +53,9 @@ every-both P Q R f (x ∷ xs) h k = (f x h.0 k.0, every-both P Q R f xs h.1 k.1)
 pub same-heads : (old new : List InputHead) → length new ≡ length old
     → ((j : ℕ) → (head_at new j).rows ≡ (head_at old j).rows) → head_rows new ≡ head_rows old
 same-heads [] [] l e = refl
-same-heads [] (n ∷ new) l e = absurd (omega (arith, l))
-same-heads (o ∷ old) [] l e = absurd (omega (arith, l))
 same-heads (o ∷ old) (n ∷ new) l e =
     ap₂ (λ a b. a ++ b) (e 0) (same-heads old new (omega (arith, l)) (λ j. e (suc j)))
+same-heads _ _ l e = absurd (omega (arith, l))
 
 module _ (keys : List SortKey) where
   abbrev lt : Row → Row → Bool
@@ -71,41 +64,19 @@ module _ (keys : List SortKey) where
   front-sorted : (xs ys : List Row) → IsSorted (row_cmp keys) (xs ++ ys)
       → IsSorted (row_cmp keys) xs
   front-sorted xs ys h =
-      let o = rows-ordered keys in
-      sorted-from_order lt o xs (order-front lt o xs ys (order-from_sorted lt o (xs ++ ys) h))
+      grind (arith, sorted-from_order, order-front, order-from_sorted, rows-ordered keys)
 
   -- nothing is held and made
   pub merged-none : (heads : List InputHead) → head_rows heads ≡ []
       → ((j : ℕ) → (head_at heads j).rows ≡ []) → AreMerged keys heads no_lists []
-  merged-none heads none each = record {
-    same_rows = subst (λ l. IsPermutation (all_rows 32 no_lists) l) (sym none)
-        (subst (λ l. IsPermutation l []) (sym (no-rows 32)) (IsPermutation-refl []));
-    heads_are = λ i lt. record { front = []; is = sym (each i) };
-    in_order = λ s k d low high. absurd (omega (arith, high));
-    before_held = λ s. subst (AllByRecursion (λ y. IsBeforeNone keys y [])) (sym none) tt;
-    held_back = λ some. absurd (omega (arith, some));
-  }
+  merged-none heads none each = grind (arith, no-rows)
 
   -- ends are noted
   pub merged-noted : (old new : List InputHead) (worked : Lists) (made : List Row)
       → length new ≡ length old → ((j : ℕ) → (head_at new j).rows ≡ (head_at old j).rows)
       → ((j : ℕ) → j < 32 → (head_at old j).ended ≡ true → (head_at new j).ended ≡ true)
       → AreMerged keys old worked made → AreMerged keys new worked made
-  merged-noted old new worked made l e ends h =
-      let same = same-heads old new l e in
-      record {
-        same_rows = subst (λ l. IsPermutation (all_rows 32 worked) (made ++ l)) (sym same)
-            h.same_rows;
-        heads_are = λ i lt. subst (λ l. AreLast l (chunk_rows (worked i))) (sym (e i))
-            (h.heads_are i lt);
-        in_order = h.in_order;
-        before_held = λ s. subst (AllByRecursion (λ y. IsBeforeNone keys y made)) (sym same)
-            (h.before_held s);
-        held_back = λ some i lt. elim (h.held_back some i lt) [
-          | inl ended ↦ inl (ends i lt ended)
-          | inr w ↦ inr w
-        ];
-      }
+  merged-noted old new worked made l e ends h = grind (arith, same-heads)
 
   -- ---- a chunk is taken
 

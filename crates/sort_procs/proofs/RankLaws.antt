@@ -1,8 +1,9 @@
 -- A lower rank is that of a row that comes before, so that places sorted by ranks and keys are
 -- those
 -- of the rows in order.
-use Rattle.std.proofs.Common.{◌<ℤ◌, ◌+ℤ◌, ◌≡◌, ◌⊎◌, ℕ, ℤ, pos, zero, suc, ◌+◌, ◌*◌, ◌^◌, ◌<◌, ◌≤◌, leb, Bool, true, false, List, [], ◌∷◌, length, map, get_or, drop, take, ◌++◌, refl, sym, ap, subst, ◌∙◌, arith, inl, inr, IsPermutation}
-use Rattle.sort_procs.proofs.Imports.{AgreeOnKey, All, All-append, All-map, All-permutation, AreBytes, Equal, HasRank, Int, IsKeyRank, IsPermutation-map, IsRank, IsSortedBy, IsTable, IsTotalOrder, IsValueRank, Less, Ordering, Ranked, Row, SortKey, SortsPlaces, Table, Text, UInt, Value, bool_cmp, bool_cmp_total, cases_lt, column_fits, count_up, drop-cons, drop_all, get_or-eq_default, get_or-map, get_or_past, int_cmp, int_cmp_is, ints, is_lt, key_cmp, le-leb, length-map, lt-leb, lt-ltb, map-append, map-map, mul-le-mul_left, mul-suc, nat_cmp, nat_cmp_total, on_total, ordering_reverse, ordering_then, place_cmp, place_of, ranked_cmp, row_at, row_cmp, row_cmp_total, rows_at, take_all, take_more, text_cmp, text_rank, then_total, tied_itself, type_of, value_at, value_cmp, value_cmp_total, weight}
+use Rattle.std.proofs.lemmas.Grind.{common_steps}
+use Rattle.std.proofs.Common.{◌≡◌, ◌⊎◌, ℕ, zero, suc, ◌+◌, ◌*◌, ◌<◌, ◌≤◌, leb, Bool, false, List, [], ◌∷◌, length, map, get_or, drop, take, ◌++◌, refl, sym, ap, subst, ◌∙◌, arith, inl, inr, IsPermutation}
+use Rattle.sort_procs.proofs.Imports.{AgreeOnKey, All, All-map, All-permutation, AreBytes, Equal, HasRank, IsPermutation-map, IsRank, IsSortedBy, IsTable, IsTotalOrder, Less, Ordering, Ranked, Row, SortKey, SortsPlaces, Table, Text, bool_cmp, bool_cmp_total, cases_lt, column_fits, count_up, drop-cons, drop_all, get_or-eq_default, get_or-map, get_or_past, ints, is_lt, le-leb, length-map, lt-leb, lt-ltb, map-append, map-map, mul-le-mul_left, mul-suc, nat_cmp, nat_cmp_total, on_total, ordering_reverse, ordering_then, place_cmp, place_of, ranked_cmp, row_at, row_cmp, row_cmp_total, rows_at, take_all, take_more, text_cmp, text_rank, then_total, tied_itself, type_of, value_at, value_cmp_total, weight}
 use Rattle.chunk_data.specs.declared.typed_value.ColumnType.TheVariants as column
 
 -- ---- texts
@@ -10,11 +11,7 @@ use Rattle.chunk_data.specs.declared.typed_value.ColumnType.TheVariants as colum
 rank-below : (n i : ℕ) (a : List ℕ) → AreBytes n i a → text_rank n i a < weight n
 unfolding text_rank weight AreBytes
 rank-below zero i a h = omega arith
-rank-below (suc n) i a h =
-    let rest = rank-below n (suc i) a h.1 in
-    let byte : get_or a i 0 ≤ 255 = let lt = h.0 in omega (arith, lt) in
-    let most = mul-le-mul_left (weight n) byte in
-    omega (arith, rest, most)
+rank-below (suc n) i a h = grind (arith, mul-le-mul_left, rank-below n (suc i) a h.1)
 
 -- behind the last byte nothing counts
 rank-past : (n i : ℕ) (a : List ℕ) → length a ≤ i → text_rank n i a ≡ 0
@@ -47,80 +44,20 @@ texts-less (suc n) i a b f g lt = elim (cases_lt i (length b)) [
         → text_cmp (drop (suc i) a) (drop (suc i) b) ≡ Less)
         → ordering_then (nat_cmp x y) (text_cmp (drop (suc i) a) (drop (suc i) b)) ≡ Less
     first x y d e rest =
-        let by : Ordering → Ordering =
-        (λ o. ordering_then o (text_cmp (drop (suc i) a) (drop (suc i) b))) in
-        elim (cases_lt x y) [
-          | inl less ↦ ap by (nat-less x y less)
-          | inr le ↦ elim (cases_lt y x) [
-            | inl more ↦ absurd (
-                let m = mul-le-mul_left (weight n) more in
-                let s = mul-suc (weight n) y in
-                let p = ap (λ k. weight n * k) d in
-                let q = ap (λ k. weight n * k) e in
-                let below = rank-below n (suc i) b g.1 in
-                omega (arith, lt, m, s, p, q, below))
-            | inr ge ↦
-                let same : x ≡ y = omega (arith, le, ge) in
-                ap by (ap (nat_cmp x) (sym same) ∙ nat-same x)
-                ∙ rest (let w = ap (λ k. weight n * k) (d ∙ same ∙ sym e) in omega (arith, lt, w))
-          ]
-        ]
+        let below = rank-below n (suc i) b g.1 in
+        let next = mul-suc (weight n) y in
+        grind (arith, nat-less, nat-same, mul-le-mul_left, cases_lt x y, cases_lt y x)
 
 -- the first 8 bytes of a text
-pub eight-bytes : (bytes : List ℕ) → ((k : ℕ) → get_or bytes k 0 < 256)
+pub eight_bytes : (bytes : List ℕ) → ((k : ℕ) → get_or bytes k 0 < 256)
     → (((get_or bytes 0 0 * 16777216 + get_or bytes 1 0 * 65536)
     + (get_or bytes 2 0 * 256 + get_or bytes 3 0)) * 4294967296
     + ((get_or bytes 4 0 * 16777216 + get_or bytes 5 0 * 65536)
     + (get_or bytes 6 0 * 256 + get_or bytes 7 0)) ≡ text_rank 8 0 bytes) × AreBytes 8 0 bytes
 unfolding text_rank weight AreBytes
-eight-bytes bytes h = (
-  omega arith,
-  (h 0, (h 1, (h 2, (h 3, (h 4, (h 5, (h 6, (h 7, tt)))))))),
-)
+eight_bytes bytes h = grind arith
 
 -- ---- values and rows
-
-pub int-rank : (xs : List ℤ) (i r : ℕ) (d : ℤ) → i < length (map Int xs)
-    → pos r ≡ get_or xs i d +ℤ pos (2 ^ 63) → IsValueRank (value_at (map Int xs) i) r
-int-rank xs i r d lt h =
-    subst (λ v. IsValueRank v r) (sym
-    (get_or-map Int xs i d (Text []) (let l = length-map xs Int in omega (arith, l, lt)))) h
-
-pub uint-rank : (xs : List ℕ) (i r d : ℕ) → i < length (map UInt xs) → r ≡ get_or xs i d
-    → IsValueRank (value_at (map UInt xs) i) r
-uint-rank xs i r d lt h =
-    subst (λ v. IsValueRank v r) (sym
-    (get_or-map UInt xs i d (Text []) (let l = length-map xs UInt in omega (arith, l, lt)))) h
-
-pub text-rank : (xs : List (List ℕ)) (i r : ℕ) (d : List ℕ) → i < length (map Text xs)
-    → IsValueRank (Text (get_or xs i d)) r → IsValueRank (value_at (map Text xs) i) r
-text-rank xs i r d lt h =
-    subst (λ v. IsValueRank v r) (sym
-    (get_or-map Text xs i d (Text []) (let l = length-map xs Text in omega (arith, l, lt)))) h
-
-ints-less : (a b : ℤ) (r s : ℕ) → pos r ≡ a +ℤ pos (2 ^ 63) → pos s ≡ b +ℤ pos (2 ^ 63) → r < s
-    → int_cmp a b ≡ Less
-ints-less a b r s h k lt =
-    let less : a <ℤ b = omega (arith, ints, h, k, lt) in
-    sym (int_cmp_is a b Less less)
-
-ranks-less : (v w : Value) (r s : ℕ) → type_of v ≡ type_of w → IsValueRank v r → IsValueRank w s
-    → r < s → value_cmp v w ≡ Less
-ranks-less (Int a) (Int b) r s t h k lt = ints-less a b r s h k lt
-ranks-less (UInt a) (UInt b) r s t h k lt = nat-less a b (omega (arith, h, k, lt))
-ranks-less (Text a) (Text b) r s t h k lt =
-    texts-less 8 0 a b h.1 k.1 (omega (arith, h.0, k.0, lt))
-ranks-less v w r s t h k lt = absurd (cc)
-
-keys-less : (d : Bool) (v w : Value) (r s : ℕ) → type_of v ≡ type_of w → IsKeyRank d v r
-    → IsKeyRank d w s → r < s → key_cmp d v w ≡ Less
-keys-less false v w r s t h k lt =
-    ranks-less v w h.rank k.rank t h.is k.is
-    (let a = h.turned in let b = k.turned in omega (arith, a, b, lt))
-keys-less true v w r s t h k lt =
-    sym (value_cmp_total.antisymm w v)
-    ∙ ranks-less w v k.rank h.rank (sym t) k.is h.is
-    (let a = h.turned in let b = k.turned in let c = k.within in omega (arith, a, b, c, lt))
 
 -- the values of the first key have one type
 abbrev AreAlike : List SortKey → Row → Row → Type 0
@@ -130,10 +67,7 @@ AreAlike (key ∷ keys) a b = type_of (value_at a key.column) ≡ type_of (value
 rows-less : (keys : List SortKey) (a b : Row) (r s : ℕ) → AreAlike keys a b → IsRank keys a r
     → IsRank keys b s → r < s → row_cmp keys a b ≡ Less
 unfolding row_cmp
-rows-less [] a b r s t h k lt = absurd (omega (arith, h, k, lt))
-rows-less (key ∷ keys) a b r s t h k lt =
-    ap (λ o. ordering_then o (row_cmp keys a b))
-    (keys-less key.descending (value_at a key.column) (value_at b key.column) r s t h k lt)
+rows-less keys a b r s t h k lt = grind (arith, value_cmp_total, nat-less, texts-less, ints)
 
 -- ---- the order by which places are sorted
 
@@ -155,23 +89,8 @@ module _ (keys : List SortKey) (rows : List Row) where
   pub in-order : (a b : Ranked) → AreAlike keys (row_at rows a.place) (row_at rows b.place)
       → HasRank keys rows a → HasRank keys rows b → is_lt (ranked_cmp keys rows b a) ≡ false
       → by (row_at rows b.place) (row_at rows a.place) ≡ false
-  in-order a b t h k e = elim (cases_lt a.rank b.rank) [
-    | inl less ↦ less-not (row_cmp_total keys) (row_at rows a.place) (row_at rows b.place)
-        (rows-less keys (row_at rows a.place) (row_at rows b.place) a.rank b.rank t h.ranks k.ranks
-        less)
-    | inr le ↦ elim (cases_lt b.rank a.rank) [
-      | inl more ↦ absurd (let c : true ≡ false =
-          ap (λ o. is_lt (ordering_then o (place_cmp keys rows b.place a.place)))
-          (sym (nat-less b.rank a.rank more)) ∙ e in cc)
-      | inr ge ↦
-          let same : b.rank ≡ a.rank = omega (arith, le, ge) in
-          let first : nat_cmp b.rank a.rank ≡ Equal = ap (λ x. nat_cmp x a.rank) same
-          ∙ nat-same a.rank in
-          sym (ap (λ o. is_lt (ordering_then o (place_cmp keys rows b.place a.place))) first
-          ∙ rw (lt-leb (length rows) a.place h.within, lt-leb (length rows) b.place k.within) refl)
-          ∙ e
-    ]
-  ]
+  in-order a b t h k e =
+      grind (arith, cases_lt, less-not, row_cmp_total, rows-less, nat-less, nat-same, lt-leb)
 
 -- the rows at all places, in order
 all-places : (rows : List Row) (k : ℕ) → k ≤ length rows
@@ -179,10 +98,7 @@ all-places : (rows : List Row) (k : ℕ) → k ≤ length rows
 unfolding count_up
 all-places rows zero le = refl
 all-places rows (suc k) le =
-    let next : k + 1 ≡ suc k = omega arith in
-    map-append (row_at rows) (count_up k) (k ∷ [])
-    ∙ ap (λ l. l ++ row_at rows k ∷ []) (all-places rows k (omega (arith, le)))
-    ∙ sym (take_more rows k [] (omega (arith, le))) ∙ ap (λ n. take n rows) next
+    grind (arith, map-append, take_more, all-places rows k (omega (arith, le)))
 
 -- rows of a table have values of one type at the first key
 alike : (keys : List SortKey) (t : Table) (i j : ℕ) → IsTable t
@@ -232,27 +148,11 @@ sorts keys t old new fit agree places ranked same sorted =
     no_rank = record { rank = 0; place = 0 }
 
 -- places of which one is past the last row
-pub places-out : (keys : List SortKey) (rows : List Row) (i j n : ℕ) (r : Ordering)
+pub places_out : (keys : List SortKey) (rows : List Row) (i j n : ℕ) (r : Ordering)
     → n ≡ length rows → ((i < n) × (n ≤ j)) ⊎ (n ≤ i) → r ≡ bool_cmp (leb n i) (leb n j)
     → r ≡ place_cmp keys rows i j
-places-out keys rows i j n r count (inl h) e = e ∙ go count
-  where
-    go : n ≡ length rows → bool_cmp (leb n i) (leb n j) ≡ place_cmp keys rows i j
-    go z = rw (sym z, lt-leb n i h.0, le-leb n j h.1) refl
-places-out keys rows i j n r count (inr le) e = e ∙ go count
-  where
-    go : n ≡ length rows → bool_cmp (leb n i) (leb n j) ≡ place_cmp keys rows i j
-    go z = elim (cases_lt j n) [
-      | inl less ↦ rw (sym z, le-leb n i le, lt-leb n j less) refl
-      | inr more ↦ rw (
-        sym z,
-        le-leb n i le,
-        le-leb n j more,
-        get_or_past rows i [] (omega (arith, z, le)),
-        get_or_past rows j [] (omega (arith, z, more)),
-      )
-          (sym (tied_itself (row_cmp_total keys) []))
-    ]
+places_out keys rows i j n r count h e = grind
+    (arith, cases_lt j n, le-leb, lt-leb, get_or_past, tied_itself (row_cmp_total keys) [])
 
 -- the places of all ranks
 pub places-within : (ranks : List Ranked) (n i : ℕ) (places : List ℕ) → length ranks ≤ i
@@ -265,17 +165,12 @@ places-within ranks n i places le e h =
 pub rows-gathered : (rows : List Row) (ranks : List Ranked) (i : ℕ) (places : List ℕ)
     → length ranks ≤ i → places ≡ map place_of (take i ranks)
     → map (row_at rows) places ≡ rows_at rows ranks
-rows-gathered rows ranks i places le e =
-    ap (map (row_at rows)) (e ∙ ap (map place_of) (take_all i ranks le))
-    ∙ map-map (row_at rows) place_of ranks
+rows-gathered rows ranks i places le e = grind (arith, take_all, map-map)
 
 pub ranks-none : (keys : List SortKey) (rows : List Row) (ranks : List Ranked) → ranks ≡ []
     → (map place_of ranks ≡ count_up 0) × All (HasRank keys rows) ranks
 unfolding count_up
-ranks-none keys rows ranks e = (
-  ap (map place_of) e,
-  subst (All (HasRank keys rows)) (sym e) (λ k d lt. absurd (omega (arith, lt))),
-)
+ranks-none keys rows ranks e = grind arith
 
 pub ranks-more : (keys : List SortKey) (rows : List Row) (ranks more : List Ranked) (place r : ℕ)
     → place < length rows → IsRank keys (row_at rows place) r
@@ -283,15 +178,4 @@ pub ranks-more : (keys : List SortKey) (rows : List Row) (ranks more : List Rank
     → All (HasRank keys rows) ranks
     → (map place_of more ≡ count_up (place + 1)) × All (HasRank keys rows) more
 unfolding count_up
-ranks-more keys rows ranks more place r lt is e places all = (
-  ap (map place_of) e ∙ map-append place_of ranks (record { rank = r; place = place } ∷ [])
-      ∙ ap (λ l. l ++ place ∷ []) places ∙ ap count_up next,
-  subst (All (HasRank keys rows)) (sym e)
-      (All-append (HasRank keys rows) ranks (record { rank = r; place = place } ∷ []) all
-      (λ k d less. let z : k ≡ 0 = omega (arith, less) in
-      subst (λ n. HasRank keys rows (get_or (record { rank = r; place = place } ∷ []) n d)) (sym z)
-      (record { within = lt; ranks = is }))),
-)
-  where
-    next : suc place ≡ place + 1
-    next = omega arith
+ranks-more keys rows ranks more place r lt is e places all = grind (arith, common_steps, map-append)

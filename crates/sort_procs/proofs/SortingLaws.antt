@@ -1,6 +1,6 @@
 -- A sort gathers the rows of its chunks, and then makes them in order.
 use Rattle.sort_procs.proofs.Imports.{AgreeOnKey, All, AllByRecursion, AreKeysWithin, AreSorted, IsPermutation-append_right, IsPermutation-sym, IsPermutation-trans, IsSortOf, Makes, Offer, OfferComes, Offers, OwnState, Picture, PutsInOrder, Ranked, Row, SortKey, SortSpec, SortsPlaces, Table, WantsMore, append-nil, chunk_rows, drop-drop, every-permuted, every-turned, in_count, input_at, is_in_finished, is_lt, length-append, length-drop, length-map, length-take, length_permutation, lt-ltb, ltb-true, makes-nothing, map-append, or_right, order-cross, order-from_sorted, order-front, order-joined, ordered, ordered-order, ordered-same, row_at, row_cmp, rows-ordered, rows_at, rows_left, sorted-from_order, sorting_own, take-append-drop}
-use Rattle.std.proofs.Common.{Bool, IsPermutation, IsSorted, IsTrue, List, None, Option, Some, [], ap, append_assoc, arith, drop, false, get_or, inl, inr, length, max, min, nat_lt, refl, subst, sym, take, true, ℕ, ◌++◌, ◌+◌, ◌-◌, ◌<◌, ◌||◌, ◌↔◌, ◌∙◌, ◌∷◌, ◌≡◌, ◌⊎◌}
+use Rattle.std.proofs.Common.{Bool, IsPermutation, IsSorted, IsTrue, List, None, Option, Some, [], ap, append_assoc, arith, drop, false, inl, inr, length, max, min, nat_lt, refl, subst, sym, take, true, ℕ, ◌++◌, ◌+◌, ◌-◌, ◌<◌, ◌||◌, ◌↔◌, ◌∙◌, ◌∷◌, ◌≡◌, ◌⊎◌}
 use Rattle.query_model.specs.declared.processor_spec.Spec.TheVariants as spec
 
 nothing-of : (rows : List Row) → (0 < length rows → ⊥) → rows ≡ []
@@ -95,10 +95,10 @@ module _ (order : SortSpec) where
       noted = λ over. z ∙ or_right was fin (at ∙ over 0 (omega (arith, one)) w);
     }
 
-    pub has-left : (sorted : Bool) (n : ℕ) → sorted ≡ false → n ≡ length rows.rows
+    pub has_left : (sorted : Bool) (n : ℕ) → sorted ≡ false → n ≡ length rows.rows
         → IsTrue (nat_lt 0 n) ↔ (0 < length (rows_left keys sorted places next rows.rows))
-    has-left true n e count = absurd (cc)
-    has-left false n e count =
+    has_left true n e count = absurd (cc)
+    has_left false n e count =
         let l = length_permutation _ _ (ordered-same lt (rows-ordered keys) rows.rows) in (
           λ t. omega (arith, ltb-true 0 n t, count, l),
           λ some. lt-ltb 0 n (omega (arith, some, count, l)),
@@ -182,32 +182,23 @@ module _ (order : SortSpec) where
         ended = refl;
       }
 
-  pub puts-now : (ended sorted : Bool) (places old : List Ranked) (next : ℕ) (rows : Table)
+  pub puts_now : (ended sorted : Bool) (places old : List Ranked) (next : ℕ) (rows : Table)
       → sorted ≡ false → 0 < length (sorting_own keys ended sorted old next rows).unmade
       → SortsPlaces keys rows.rows places
       → PutsInOrder keys (sorting_own keys ended sorted old next rows)
       (sorting_own keys ended true places 0 rows)
-  puts-now false sorted places old next rows e some h = absurd (omega (arith, some))
-  puts-now true true places old next rows e some h = absurd (cc)
-  puts-now true false places old next rows e some h =
+  puts_now true false places old next rows e some h =
       puts places old next rows (let l = length_permutation _ _
       (ordered-same lt (rows-ordered keys) rows.rows) in omega (arith, some, l)) h
+  puts_now ended sorted places old next rows e some h = grind arith
 
   -- the keys' columns are there where there are rows
   pub agree : (ended sorted : Bool) (places : List Ranked) (next : ℕ) (rows : Table)
       → rows.types ≡ order.types → (0 < length rows.rows → AreKeysWithin order) → sorted ≡ false
       → 0 < length (sorting_own keys ended sorted places next rows).unmade
       → All (AgreeOnKey rows.types rows.types) keys
-  agree false sorted places next rows typed keyed e some = absurd (omega (arith, some))
-  agree true true places next rows typed keyed e some = absurd (cc)
-  agree true false places next rows typed keyed e some =
-      let l = length_permutation _ _ (ordered-same lt (rows-ordered keys) rows.rows) in
-      let within = keyed (omega (arith, some, l)) in
-      let count = ap length typed in
-      λ k d less.
-      let a = within k d less in
-      let b : (get_or keys k d).column < length rows.types = omega (arith, a, count) in
-      (b, b, refl)
+  agree ended sorted places next rows typed keyed e some =
+      grind (arith, length_permutation, ordered-same, rows-ordered)
 
   pub makes-chunk : (ended sorted : Bool) (places : List Ranked) (next count : ℕ) (rows c : Table)
       → sorted ≡ true → (sorted ≡ true → ended ≡ true)
@@ -216,8 +207,7 @@ module _ (order : SortSpec) where
       → Makes (spec.Sort order) (sorting_own keys ended sorted places next rows)
       (sorting_own keys ended sorted places (next + count) rows) (Some c)
   makes-chunk true true places next count rows c e f = makes-next places next rows count c
-  makes-chunk false sorted places next count rows c e f = absurd (let g = f e in cc)
-  makes-chunk true false places next count rows c e f = absurd (cc)
+  makes-chunk ended sorted places next count rows c e f = grind arith
 
   pub makes-after : (a b c : OwnState) (t : Option Table) → PutsInOrder keys a b
       → Makes (spec.Sort order) b c t → Makes (spec.Sort order) a c t
@@ -227,9 +217,6 @@ module _ (order : SortSpec) where
     types = m.types;
     sizes = m.sizes;
     progress = m.progress;
-    nothing = λ none.
-        let e = p.same none in
-        let r = m.nothing (ap (λ o. o.unmade) e ∙ none) in
-        (r.0 ∙ e, r.1);
+    nothing = grind arith;
     ends = λ i n. sym p.ended ∙ m.ends i n;
   }

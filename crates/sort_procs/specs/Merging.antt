@@ -47,7 +47,7 @@ merge_order order = record {
 
 pub merge_shelled : (order : SortSpec) → IsShelled (spec.MergeSorted order)
 merge_shelled order =
-    shelled-plain (spec.MergeSorted order) refl (λ growth kept m n had h stands. stands)
+    shelled-plain (spec.MergeSorted order) refl (λ growth kept m n had h position. position)
     (λ ins enough growth m n h. h)
     (pushes-in-order (spec.MergeSorted order) (merge_order order) (λ growth m n h. h))
     (λ p ins outs uses h. h) (λ p ins outs seen uses h. h)

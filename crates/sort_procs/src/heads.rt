@@ -102,6 +102,7 @@ pub(crate) fn first_head(heads: &[Head], order: &SortSpec) -> usize
 }
 
 // Whether the first row of the one comes before that of the other. One without rows comes last.
+#[tactic(auto, using(crate::proofs::HeadLaws::used_compares))]
 fn comes_before(head: &Head, other: &Head, order: &SortSpec) -> bool
     requires here { is_used head.now ≡ false → FitsOrder order.now head.now.chunk.types }
     requires there { is_used other.now ≡ false → FitsOrder order.now other.now.chunk.types }

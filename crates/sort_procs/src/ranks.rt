@@ -88,6 +88,7 @@ fn compare_ranked(rows: &Chunk, keys: &[SortKey], a: Ranked, b: Ranked) -> Order
 }
 
 // How the rows at two places compare by the keys. Places past the last row come behind all others.
+#[tactic(auto, using(crate::proofs::RankLaws::places_out))]
 fn compare_places(rows: &Chunk, keys: &[SortKey], i: usize, j: usize) -> Ordering
     requires { All (AgreeOnKey rows.now.types rows.now.types) keys.now }
     ensures { result ≡ place_cmp keys.now rows.now.rows i j }
@@ -129,6 +130,7 @@ fn int_rank(number: i64) -> u64
 }
 
 // The first 8 bytes as a number, of which the first counts most.
+#[tactic(auto, using(crate::proofs::RankLaws::eight_bytes))]
 fn text_rank(bytes: &[u8]) -> u64
     ensures { IsValueRank (Text bytes.now) result }
 {

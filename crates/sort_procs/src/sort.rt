@@ -52,6 +52,7 @@ impl Sorting {
     }
 
     // Whether rows are left.
+    #[tactic(auto, using(crate::proofs::SortingLaws::has_left))]
     fn has_rows(&self) -> bool
         ensures { IsTrue result ↔ (0 < length
             (rows_left self.now.order.keys self.now.sorted self.now.places.items self.now.next
@@ -65,6 +66,7 @@ impl Sorting {
     }
 
     // Finds the places of the rows in order, once.
+    #[tactic(auto, using(crate::proofs::SortingLaws::agree, crate::proofs::SortingLaws::puts_now))]
     fn put_in_order(&mut self, alloc: Global) -> Result<(), Memory>
         requires ended { self.old.ended ≡ true }
         requires some { 0 < length (own_of self.old).unmade }

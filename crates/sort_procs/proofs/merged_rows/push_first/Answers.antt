@@ -1,4 +1,4 @@
-use Rattle.std.proofs.Common.{◌≡◌, ◌<◌, [], ◌∷◌, length, map, ap, sym, subst, ◌∙◌, arith}
+use Rattle.std.proofs.Common.{◌≡◌, ◌<◌, [], ◌∷◌, length, map, ap, sym, ◌∙◌, arith}
 use Rattle.sort_procs.proofs.Imports.{FitsTypes, Joined-all, Joined-long, Joined-more, first_row, fits_long, kind_of, length-map}
 use Rattle.sort_procs.proofs.MergeLaws.{pushed-value}
 use Rattle.sort_procs.proofs.merged_rows.push_first.Goals as goal
@@ -6,8 +6,7 @@ use Rattle.sort_procs.proofs.merged_rows.push_first.Goals as goal
 pub loop-c-preserved : goal.loop-c-preserved
 loop-c-preserved c =
     let row = first_row c.args.head.now in
-    let fits : FitsTypes (map kind_of c.args.columns.now) row =
-    subst (λ t. FitsTypes t row) (sym c.requires.kinds) c.requires.fits in
+    let fits : FitsTypes (map kind_of c.args.columns.now) row = grind arith in
     let wide : length c.args.columns.now ≡ length c.args.head.now.chunk.types =
     sym (length-map c.args.columns.now kind_of) ∙ ap length c.requires.kinds in
     let here : c.loop-c.c < length c.args.head.now.chunk.types =
@@ -18,7 +17,4 @@ loop-c-preserved c =
     c.requires.unused c.column.ensures.values) c.in_ok-push_value.ensures.ok
 
 pub returns-clause-ok : goal.returns-clause-ok
-returns-clause-ok c =
-    let row = first_row c.args.head.now in
-    Joined-all c.loop-c.invariant (fits_long c.args.columns.now row (λ v. v ∷ [])
-    (subst (λ t. FitsTypes t row) (sym c.requires.kinds) c.requires.fits)) (omega arith)
+returns-clause-ok c = grind (arith, Joined-all, fits_long)

@@ -1,5 +1,5 @@
 use Rattle.sort_procs.proofs.RankLaws.{places-within, rows-gathered}
-use Rattle.std.proofs.Common.{IfOk, length, subst, ◌∙◌, ◌≡◌}
+use Rattle.std.proofs.Common.{arith, length, ◌∙◌}
 use Rattle.sort_procs.proofs.ranks.gather_ranked.Goals as goal
 
 pub gather-requires : goal.gather-requires
@@ -8,7 +8,4 @@ gather-requires c = places-within c.args.ranks.now (length c.args.rows.now.rows)
     (c.as_slice.ensures.value ∙ c.loop-ranked.invariant) c.requires
 
 pub returns-clause-rows : goal.returns-clause-rows
-returns-clause-rows c = subst (λ l. IfOk c.gather.result (λ t. t.rows ≡ l))
-    (rows-gathered c.args.rows.now.rows c.args.ranks.now c.loop-ranked.ranked-index
-    c.as_slice.result.now c.loop-ranked-test.false
-    (c.as_slice.ensures.value ∙ c.loop-ranked.invariant)) c.gather.ensures.rows
+returns-clause-rows c = grind (arith, rows-gathered)

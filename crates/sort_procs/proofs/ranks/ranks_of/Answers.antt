@@ -1,4 +1,5 @@
 use Rattle.std.proofs.Common.{arith}
+use Rattle.std.proofs.lemmas.Grind.{common_steps}
 use Rattle.sort_procs.proofs.RankLaws.{ranks-more, ranks-none}
 use Rattle.sort_procs.proofs.ranks.ranks_of.Goals as goal
 
@@ -9,11 +10,4 @@ loop-place-init c =
     record { places = r.0; ranked = r.1 }
 
 pub loop-place-preserved : goal.loop-place-preserved
-loop-place-preserved c =
-    let count = c.rows-n.ensures.count in
-    let less = c.loop-place-test.true in
-    let r = ranks-more c.args.keys.now c.args.rows.now.rows c.loop-place.ranks.items
-    c.push.new.self.items c.loop-place.place c.rank_of-rank.result (omega (arith, count, less))
-    c.rank_of-rank.ensures c.in_ok-push.ensures.items c.loop-place.invariant.places
-    c.loop-place.invariant.ranked in
-    record { places = r.0; ranked = r.1 }
+loop-place-preserved c = grind (arith, common_steps, ranks-more)
