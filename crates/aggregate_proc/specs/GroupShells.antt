@@ -28,7 +28,7 @@ grouping_shelled false g =
     (record { ports = λ growth m n h. h }) (partial_order g)
     (λ p ins outs uses h. h) (λ p ins outs seen uses h. h)
 grouping_shelled true g =
-    shelled-plain (spec.MergeAggregate g) refl (λ growth kept m n had h stands. stands)
+    shelled-plain (spec.MergeAggregate g) refl (λ growth kept m n had h position. position)
     (λ ins enough growth m n h. h)
     (pushes-in-order (spec.MergeAggregate g) (merge_order g) (λ growth m n h. h))
     (λ p ins outs uses h. h) (λ p ins outs seen uses h. h)

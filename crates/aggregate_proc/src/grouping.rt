@@ -67,6 +67,13 @@ impl Grouped for PartialGroups {
     }
 }
 
+// One call in place of an assignment, since what an assignment drops is proved at each.
+fn put_phase(old: &mut Phase, phase: Phase)
+    ensures { old.new ≡ phase }
+{
+    *old = phase;
+}
+
 /// Grouping inside its shell.
 #[derive(Drop)]
 pub struct Grouping<G: Grouped> {
@@ -190,8 +197,8 @@ impl<G: Grouped> Grouping<G> {
             (own_in G.merges self.new) }
     {
         match replace(&mut self.phase, Phase::Failed) {
-            Phase::Gathering(table) => self.phase = Phase::Ended(table),
-            other => self.phase = other,
+            Phase::Gathering(table) => put_phase(&mut self.phase, Phase::Ended(table)),
+            other => put_phase(&mut self.phase, other),
         }
     }
 
@@ -220,12 +227,12 @@ impl<G: Grouped> Grouping<G> {
     {
         let count = (chunk.rows() - next).min((self.group.rows as usize).max(1));
         if count == 0 {
-            self.phase = Phase::Giving(chunk, next);
+            put_phase(&mut self.phase, Phase::Giving(chunk, next));
             return Ok(None);
         }
         match part_of(alloc, &chunk, next, count) {
             Ok(part) => {
-                self.phase = Phase::Giving(chunk, next + count);
+                put_phase(&mut self.phase, Phase::Giving(chunk, next + count));
                 Ok(Some(part))
             }
             Err(_) => Err(WorkFault::Memory),
@@ -292,13 +299,13 @@ impl<G: Grouped> Kernel for Grouping<G> {
         match replace(&mut self.phase, Phase::Failed) {
             Phase::Gathering(table) => {
                 if !same_types(chunk.types().as_slice(), table.types().as_slice()) {
-                    self.phase = Phase::Gathering(table);
+                    put_phase(&mut self.phase, Phase::Gathering(table));
                     return Ok(None);
                 }
                 let _rows = chunk.rows();
                 match table.add(&chunk) {
                     Ok(table) => {
-                        self.phase = Phase::Gathering(table);
+                        put_phase(&mut self.phase, Phase::Gathering(table));
                         Ok(None)
                     }
                     Err(memory) => Err(memory),
@@ -312,7 +319,7 @@ impl<G: Grouped> Kernel for Grouping<G> {
     fn make(&mut self, alloc: Global) -> Result<Option<Chunk>, WorkFault> {
         match replace(&mut self.phase, Phase::Failed) {
             Phase::Gathering(table) => {
-                self.phase = Phase::Gathering(table);
+                put_phase(&mut self.phase, Phase::Gathering(table));
                 Ok(None)
             }
             Phase::Ended(table) => match whole_chunk(alloc, G::merges(), &self.group, table) {

@@ -9,6 +9,7 @@ returns-in-Ok-clause-makes g c =
     search rules in
     let within = c.requires.within in
     let some = c.if-count-eq0.false in
-    makes-part g.G.Grouped.merges group rows c.args.next c.min-count.result c.in-Ok.part
-    c.in-Ok.ensures.rows (omega (arith, some)) (omega (arith, count, within))
-    (omega (arith, count)) (c.in-Ok.ensures.types ∙ c.requires.types)
+    rw c.put_phase-in-Ok.ensures (makes-part g.G.Grouped.merges group rows c.args.next
+    c.min-count.result c.in-Ok.part c.in-Ok.ensures.rows (omega (arith, some))
+    (omega (arith, count, within)) (omega (arith, count))
+    (c.in-Ok.ensures.types ∙ c.requires.types))

@@ -14,8 +14,8 @@ returns-in-Ok-clause-takes g c = λ wanted.
     let same = sym (c.as_slice.ensures ∙ c.types.ensures)
     ∙ c.same_types.ensures.0 c.if-not-same_types.false ∙ c.as_slice-in-Gathering.ensures
     ∙ c.types-in-Gathering.ensures in
-    subst (λ (p : Phase). Takes (spec_for m k.group)
+    rw c.put_phase-in-Ok.ensures (subst (λ (p : Phase). Takes (spec_for m k.group)
     (phase_own m k.group p) c.args._input c.args.chunk (table_own c.in-Ok.table) None)
     (sym here)
     (takes m k.group c.in-Gathering.table c.in-Ok.table c.args._input c.args.chunk t wanted
-    c.requires same c.rows-rows.ensures.fit c.in-Ok.ensures)
+    c.requires same c.rows-rows.ensures.fit c.in-Ok.ensures))
