@@ -94,7 +94,7 @@ join_order join = record {
 pub join_shelled : (join : JoinSpec) → IsShelled (spec.HashJoin join)
 join_shelled join =
     shelled-plain (spec.HashJoin join) refl
-    (λ growth kept m n had h stands. (h.0 ∙ sym had.0, h.1 ∙ sym had.1))
+    (λ growth kept m n had h position. (h.0 ∙ sym had.0, h.1 ∙ sym had.1))
     (λ ins enough growth m n h. h.1)
     (pushes-in-order (spec.HashJoin join) (join_order join) (λ growth m n h. h.1))
     (λ p ins outs uses h. h) (λ p ins outs seen uses h. h)

@@ -36,6 +36,13 @@ pub(crate) enum Phase {
     Failed,
 }
 
+// One call in place of an assignment, since what an assignment drops is proved at each.
+fn put_phase(old: &mut Phase, phase: Phase)
+    ensures { old.new ≡ phase }
+{
+    *old = phase;
+}
+
 /// A join inside its shell.
 #[derive(Drop)]
 pub struct Joining {
@@ -62,8 +69,8 @@ impl Joining {
         ensures { self.new ≡ with_end self.old }
     {
         match replace(&mut self.phase, Phase::Failed) {
-            Phase::Gathering(rows) => self.phase = Phase::Ended(rows),
-            other => self.phase = other,
+            Phase::Gathering(rows) => put_phase(&mut self.phase, Phase::Ended(rows)),
+            other => put_phase(&mut self.phase, other),
         }
     }
 
@@ -100,7 +107,7 @@ impl Joining {
     {
         match index.left_rows(alloc, &self.join, chunk) {
             Ok(left) => {
-                self.phase = Phase::Joining(index, left);
+                put_phase(&mut self.phase, Phase::Joining(index, left));
                 Ok(None)
             }
             Err(memory) => Err(memory),
@@ -121,12 +128,12 @@ impl Joining {
         ensures fails { IfErr result (λ f. f ≡ fault.Memory) }
     {
         if left.is_joined() {
-            self.phase = Phase::Joining(index, left);
+            put_phase(&mut self.phase, Phase::Joining(index, left));
             return Ok(None);
         }
         match left.next_chunk(alloc, &self.join, &index) {
             Ok(chunk) => {
-                self.phase = Phase::Joining(index, left);
+                put_phase(&mut self.phase, Phase::Joining(index, left));
                 Ok(Some(chunk))
             }
             Err(_) => Err(WorkFault::Memory),
@@ -197,12 +204,12 @@ impl Kernel for Joining {
             Phase::Gathering(mut rows) => {
                 // Until the right side's end is noted no left chunk is wanted.
                 if input != 1 {
-                    self.phase = Phase::Gathering(rows);
+                    put_phase(&mut self.phase, Phase::Gathering(rows));
                     return Ok(None);
                 }
                 match rows.append(chunk) {
                     Ok(()) => {
-                        self.phase = Phase::Gathering(rows);
+                        put_phase(&mut self.phase, Phase::Gathering(rows));
                         Ok(None)
                     }
                     Err(_) => Err(Memory),
@@ -226,7 +233,7 @@ impl Kernel for Joining {
         match replace(&mut self.phase, Phase::Failed) {
             Phase::Joining(index, left) => self.make_some(alloc, index, left),
             other => {
-                self.phase = other;
+                put_phase(&mut self.phase, other);
                 Ok(None)
             }
         }

@@ -11,8 +11,9 @@ returns-in-Ok-clause-makes c =
     let e = ap (λ (v : JoiningView). v.join) c.self.view_is in
     let is = subst (λ (j : JoinSpec). IsJoining j x old) (sym e) c.requires in
     let s = c.in-Ok.ensures.joins in
-    subst (λ (j : JoinSpec). Makes (spec.HashJoin j) (joining_own j x old) (joining_own join x new)
+    rw c.put_phase-in-Ok.ensures (subst
+    (λ (j : JoinSpec). Makes (spec.HashJoin j) (joining_own j x old) (joining_own join x new)
     (Some c.in-Ok.chunk)) e (makes join x old new c.in-Ok.chunk s
     (s.types ∙ ap₂ ◌++◌ is.left_types is.right_types)
     (some-left join.pairs x.rows.rows old is.fit
-    (leb-false (length old.starts.items) old.at (sym c.is_joined.ensures ∙ c.if-is_joined.false))))
+    (leb-false (length old.starts.items) old.at (sym c.is_joined.ensures ∙ c.if-is_joined.false)))))

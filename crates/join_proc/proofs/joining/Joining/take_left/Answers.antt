@@ -6,7 +6,8 @@ pub returns-in-Ok-clause-takes : goal.returns-in-Ok-clause-takes
 returns-in-Ok-clause-takes c =
     let join = c.self.inside.join in
     let x = c.left_rows.new.self in
-    subst (λ (j : JoinSpec). Takes (spec.HashJoin j) (gathered_own c.args.index.rows) 0 c.args.chunk
+    rw c.put_phase.ensures (subst
+    (λ (j : JoinSpec). Takes (spec.HashJoin j) (gathered_own c.args.index.rows) 0 c.args.chunk
     (joining_own join x c.in-Ok.left) None) (ap (λ (v : JoiningView). v.join) c.self.view_is)
     (takes-left join (gathered_own c.args.index.rows) x c.in-Ok.left c.args.chunk refl refl
-    (ap (λ (t : Table). t ∷ []) (sym c.in-Ok.ensures.rows)) c.in-Ok.ensures.starts)
+    (ap (λ (t : Table). t ∷ []) (sym c.in-Ok.ensures.rows)) c.in-Ok.ensures.starts))
