@@ -2,7 +2,7 @@
 use Rattle.std.proofs.Common.{◌≡◌, ℕ, ◌+◌, ◌<◌, List, [], ◌++◌, length, take, drop, refl, ap, ap₂, sym, ◌∙◌, arith, length-append, Option, Some, ◌∷◌}
 use Rattle.csv_rows.proofs.Prelude.{IfSome, IsSome, drop-take, take-append-drop, take-take, take_all}
 use Rattle.outside_io.specs.declared.entries.FileEntry.{FileEntry}
-use Rattle.outside_io.specs.Told.{files_of, file_bytes, moved_by, GivesNext, StandsAtEnd}
+use Rattle.outside_io.specs.Told.{files_of, told_bytes, moved_by, GivesNext, StandsAtEnd}
 use Rattle.query_model.specs.Database.{file_bytes as pair_bytes}
 use Rattle.csv_rows.specs.Fetching.{HoldsFront, IsFile, IsLongFile}
 
@@ -14,9 +14,9 @@ some_such : {X : Type 0} (o : Option X) {Q : Type 0} → IsSome o → ((x : X) �
 some_such o s h = grind arith
 
 -- nothing is held of a file that was just opened
-pub HoldsFront-start : (files : Option (List FileEntry)) (stands : Option (List ℕ × ℕ))
-    (path : List ℕ) → stands ≡ Some (path, 0) → HoldsFront files stands path []
-HoldsFront-start files stands path h = grind (arith, if_told)
+pub HoldsFront-start : (files : Option (List FileEntry)) (position : Option (List ℕ × ℕ))
+    (path : List ℕ) → position ≡ Some (path, 0) → HoldsFront files position path []
+HoldsFront-start files position path h = grind (arith, if_told)
 
 take_both : (a b : ℕ) (xs : List ℕ) → take (a + b) xs ≡ take a xs ++ take b (drop a xs)
 take_both a b xs = sym (take-append-drop a (take (a + b) xs))
@@ -30,7 +30,7 @@ pub HoldsFront-block : {files : Option (List FileEntry)} {old new : Option (List
 HoldsFront-block {files = files} {path = path} {held = held} block h next moved = record {
   at = moved ∙ ap (moved_by (length block)) h.at
       ∙ ap (λ k. Some (path, k)) (sym (length-append held block));
-  front = if_told files (λ all there. if_told (file_bytes all path) (λ content is.
+  front = if_told files (λ all there. if_told (told_bytes all path) (λ content is.
       let front = rw (there, is) at h.front in
       let given = rw (h.at, there, is) at next in (
         rw length-append given.0,
@@ -41,11 +41,11 @@ HoldsFront-block {files = files} {path = path} {held = held} block h next moved 
 }
 
 -- what is held at the file's end is the file
-pub HoldsFront-whole : {files : Option (List FileEntry)} {stands : Option (List ℕ × ℕ)}
-    {path held : List ℕ} → HoldsFront files stands path held → StandsAtEnd files stands
-    → IfSome files (λ all. IsSome (file_bytes all path)) → IsFile files path held
+pub HoldsFront-whole : {files : Option (List FileEntry)} {position : Option (List ℕ × ℕ)}
+    {path held : List ℕ} → HoldsFront files position path held → StandsAtEnd files position
+    → IfSome files (λ all. IsSome (told_bytes all path)) → IsFile files path held
 HoldsFront-whole {files = files} {path = path} {held = held} h end found =
-    if_told files (λ all there. some_such (file_bytes all path) (rw there at found) (λ content is.
+    if_told files (λ all there. some_such (told_bytes all path) (rw there at found) (λ content is.
     let front = rw (there, is) at h.front in
     let whole = rw (h.at, there, is) at end in
     is ∙ ap Some (sym (front.1 ∙ take_all (length held) content (omega (arith, whole))))))
@@ -54,12 +54,12 @@ HoldsFront-whole {files = files} {path = path} {held = held} h end found =
 pub HoldsFront-beyond : {files : Option (List FileEntry)} {old : Option (List ℕ × ℕ)}
     {path held : List ℕ} {limit : ℕ} → (block : List ℕ) → HoldsFront files old path held
     → GivesNext files old (length block) block → limit < length held + length block
-    → IfSome files (λ all. IsSome (file_bytes all path)) → IsLongFile files path limit
+    → IfSome files (λ all. IsSome (told_bytes all path)) → IsLongFile files path limit
 HoldsFront-beyond block h next beyond found = grind (arith, if_told, some_such)
 
 -- the reader's told bytes are those of the files as pairs
 pub told_as_pairs : (told : List FileEntry) (path : List ℕ)
-    → pair_bytes (files_of told) path ≡ file_bytes told path
-unfolding file_bytes
+    → pair_bytes (files_of told) path ≡ told_bytes told path
+unfolding told_bytes
 told_as_pairs [] path = refl
 told_as_pairs (e ∷ told) path = grind (arith, told_as_pairs told path)

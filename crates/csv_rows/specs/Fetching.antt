@@ -1,7 +1,7 @@
 -- What a fetch of a file's bytes gives, block by block.
 use Rattle.std.specs.Prelude.{◌≡◌, ℕ, ◌+◌, ◌<◌, ◌≤◌, List, ◌++◌, length, take, Option, Some, IfSome, Result, Ok, Err, ⊤}
 use Rattle.outside_io.specs.declared.entries.FileEntry.{FileEntry}
-use Rattle.outside_io.specs.Told.{file_bytes, moved_by, GivesNext}
+use Rattle.outside_io.specs.Told.{told_bytes, moved_by, GivesNext}
 use Rattle.csv_rows.specs.declared.file_fetch.Fetched.{Fetched}
 use Rattle.csv_rows.specs.declared.file_fetch.Fetched.TheVariants.{More, Whole, Pending}
 use Rattle.csv_rows.specs.declared.file_fetch.FetchFault.{FetchFault}
@@ -71,19 +71,19 @@ abbrev pub Begins : List ℕ → List ℕ → Type 0
 Begins held content = (length held ≤ length content) × (held ≡ take (length held) content)
 
 -- the reader stands behind the held bytes, which begin the file where it is told
-pub record HoldsFront (files : Option (List FileEntry)) (stands : Option (List ℕ × ℕ))
+pub record HoldsFront (files : Option (List FileEntry)) (position : Option (List ℕ × ℕ))
     (path held : List ℕ) : Type 0 where
-  pub at : stands ≡ Some (path, length held)
-  pub front : IfSome files (λ all. IfSome (file_bytes all path) (Begins held))
+  pub at : position ≡ Some (path, length held)
+  pub front : IfSome files (λ all. IfSome (told_bytes all path) (Begins held))
 
 -- these are the bytes of the file, where it is told
 abbrev pub IsFile : Option (List FileEntry) → List ℕ → List ℕ → Type 0
-IsFile files path bytes = IfSome files (λ all. file_bytes all path ≡ Some bytes)
+IsFile files path bytes = IfSome files (λ all. told_bytes all path ≡ Some bytes)
 
 -- the file is there and has more bytes than the limit
 pub record PassesAll (all : List FileEntry) (path : List ℕ) (limit : ℕ) : Type 0 where
   pub bytes : List ℕ
-  pub are : file_bytes all path ≡ Some bytes
+  pub are : told_bytes all path ≡ Some bytes
   pub long : limit < length bytes
 
 -- the same, where the file is told

@@ -1,5 +1,5 @@
 ghost use Rattle.std.specs.Prelude.{◌≡◌, ◌+◌, ◌<◌, ◌≤◌, ◌++◌, length, IsSome, IfOk, IfErr, OnOk, OnErr};
-ghost use Rattle.outside_io.specs.Counts.{Rose};
+ghost use Rattle.outside_io.specs.Counts.{CountIncreased};
 ghost use Rattle.outside_io.specs.Told.{StandsAtEnd};
 ghost use Rattle.csv_rows.specs.Fetching.{HoldsMore, OnMore, OnPending, OnRead, OnTooLong, OnWhole, PassesLimit, UnlessMore};
 
@@ -35,17 +35,19 @@ pub fn fetch<F: FileReader>(
     held: &mut Bytes,
     limit: u64,
 ) -> Result<Fetched, FetchFault>
-    requires { IsSome (F.stands reader.old) }
+    requires { IsSome (F.position reader.old) }
     ensures told { F.files reader.new ≡ F.files reader.old }
-    ensures more { OnMore result (HoldsMore (F.files reader.old) (F.stands reader.old)
-        (F.stands reader.new) held.old held.new limit) }
-    ensures whole { OnWhole result (StandsAtEnd (F.files reader.old) (F.stands reader.old)) }
-    ensures stays_at_end { OnWhole result (F.stands reader.new ≡ F.stands reader.old) }
-    ensures pending { OnPending result (Rose (F.pendings reader.old) (F.pendings reader.new)) }
-    ensures stays_pending { OnPending result (F.stands reader.new ≡ F.stands reader.old) }
-    ensures read { IfErr result (λ e. OnRead e (Rose (F.faults reader.old) (F.faults reader.new))) }
+    ensures more { OnMore result (HoldsMore (F.files reader.old) (F.position reader.old)
+        (F.position reader.new) held.old held.new limit) }
+    ensures whole { OnWhole result (StandsAtEnd (F.files reader.old) (F.position reader.old)) }
+    ensures stays_at_end { OnWhole result (F.position reader.new ≡ F.position reader.old) }
+    ensures pending { OnPending result
+        (CountIncreased (F.pendings reader.old) (F.pendings reader.new)) }
+    ensures stays_pending { OnPending result (F.position reader.new ≡ F.position reader.old) }
+    ensures read { IfErr result
+        (λ e. OnRead e (CountIncreased (F.faults reader.old) (F.faults reader.new))) }
     ensures too_long { IfErr result (λ e. OnTooLong e (PassesLimit (F.files reader.old)
-        (F.stands reader.old) (F.stands reader.new) held.old limit)) }
+        (F.position reader.old) (F.position reader.new) held.old limit)) }
     ensures held { UnlessMore result (held.new ≡ held.old) }
     ensures faults_kept { F.faults reader.old ≤ F.faults reader.new }
     ensures pendings_kept { F.pendings reader.old ≤ F.pendings reader.new }
