@@ -1,15 +1,15 @@
 -- What a step of the fetch does, by what the reader gave.
-use Rattle.csv_procs.proofs.Imports.{Bool, Fetching, FileState, HoldsFront, HoldsFront-block, HoldsFront-whole, HoldsMore, IsAfter, IsFile, IsKnownOf, IsTiedTo, IsWholeFile, List, Notes, Ok, PartSpec, Paths, ReaderState, Rows, StandsAtEnd, Steps, StepsTo, Wake, ap, arith, bad_place, false, inl, length, length-append, raised, refl, stage_in, subst, sym, true, ℕ, ◌+◌, ◌-◌, ◌∙◌, ◌≡◌, ◌≤◌}
+use Rattle.csv_procs.proofs.Imports.{Bool, Fetching, FileState, HoldsFront, HoldsFront-block, HoldsFront-whole, HoldsMore, IsAfter, IsFile, IsKnownOf, IsWholeFile, List, MatchesReader, Notes, Ok, PartSpec, Paths, ReaderState, Rows, StandsAtEnd, Steps, StepsTo, Wake, ap, arith, bad_place, false, inl, length, length-append, raised, refl, stage_in, subst, sym, true, ℕ, ◌+◌, ◌-◌, ◌∙◌, ◌≡◌, ◌≤◌}
 use Rattle.proc_api.specs.declared.status.Wake.TheVariants as wake
 
 module _ (x y : ReaderState) (after : IsAfter x y) (lists : Bool) (part : PartSpec) (held : List ℕ)
-    (n : Notes) (tied : IsTiedTo x.files x.stands lists part (stage_in part (Fetching held)) n.given
-    n.pendings) where
+    (n : Notes) (tied : MatchesReader x.files x.position lists part (stage_in part (Fetching held))
+    n.given n.pendings) where
   -- nothing but bytes is noted
   noting : (given : ℕ) (s : FileState) (a : Wake) (n' : Notes) → n.given ≤ given
       → n' ≡ record n { given = given }
       → StepsTo x.files lists part (Fetching held) n s (record n { given = given }) a
-      × IsTiedTo x.files y.stands lists part (stage_in part s) given n.pendings
+      × MatchesReader x.files y.position lists part (stage_in part s) given n.pendings
       → Steps x y lists part (Fetching held) s n n' (Ok a)
   noting given s a n' le noted comes = rw noted (record {
     after = after;
@@ -21,7 +21,7 @@ module _ (x y : ReaderState) (after : IsAfter x y) (lists : Bool) (part : PartSp
   })
 
   -- more of the file is held
-  pub more-step : (grown : List ℕ) (n' : Notes) → HoldsMore x.files x.stands y.stands held grown
+  pub more-step : (grown : List ℕ) (n' : Notes) → HoldsMore x.files x.position y.position held grown
       1073741824 → n' ≡ record n { given = raised n.given (length grown - length held) }
       → Steps x y lists part (Fetching held) (Fetching grown) n n' (Ok wake.Later)
   more-step grown n' more noted =
@@ -36,7 +36,7 @@ module _ (x y : ReaderState) (after : IsAfter x y) (lists : Bool) (part : PartSp
         record {
           shut = λ e. absurd (cc);
           front = λ e e'. record {
-            front = subst (HoldsFront x.files y.stands part.path) (sym more.added)
+            front = subst (HoldsFront x.files y.position part.path) (sym more.added)
                 (HoldsFront-block more.block front.front more.reads.next more.reads.moved);
             found = front.found;
             given_is = given;
@@ -48,7 +48,7 @@ module _ (x y : ReaderState) (after : IsAfter x y) (lists : Bool) (part : PartSp
       )
 
   -- the file is fetched whole
-  pub whole-step : (s : FileState) (n' : Notes) → StandsAtEnd x.files x.stands → n' ≡ n
+  pub whole-step : (s : FileState) (n' : Notes) → StandsAtEnd x.files x.position → n' ≡ n
       → IsWholeFile lists part.header held s
       → Steps x y lists part (Fetching held) s n n' (Ok wake.Ready)
   whole-step s n' end same whole =
@@ -59,7 +59,7 @@ module _ (x y : ReaderState) (after : IsAfter x y) (lists : Bool) (part : PartSp
 
       tie : (b : Bool) (s : FileState) → (stage_in part s).opened ≡ true
           → (stage_in part s).fetched ≡ true → IsKnownOf b part held (stage_in part s)
-          → IsTiedTo x.files y.stands b part (stage_in part s) n.given n.pendings
+          → MatchesReader x.files y.position b part (stage_in part s) n.given n.pendings
       tie b s opened fetched known = record {
         shut = λ e. absurd (let wrong = sym opened ∙ e in cc);
         front = λ e e'. absurd (let wrong = sym fetched ∙ e' in cc);
@@ -70,7 +70,7 @@ module _ (x y : ReaderState) (after : IsAfter x y) (lists : Bool) (part : PartSp
 
       comes : (b : Bool) (s : FileState) → IsWholeFile b part.header held s
           → StepsTo x.files b part (Fetching held) n s n wake.Ready
-          × IsTiedTo x.files y.stands b part (stage_in part s) n.given n.pendings
+          × MatchesReader x.files y.position b part (stage_in part s) n.given n.pendings
       comes false (Rows r) w = (
         record { bytes = held; are = is-file; whole = w },
         tie false (Rows r) refl refl (ap (λ c. bad_place (c + 1) part.types r.rest) w.1

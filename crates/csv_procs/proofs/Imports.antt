@@ -1,7 +1,7 @@
 -- The names from outside that this crate's proofs use, in one place.
-pub use Rattle.csv_procs.specs.Fetching.{FaultComes, IsAfter, IsKnownOf, IsRead, ReaderState, Stand, StaysAt, StepComes, StepsTo, Told}
+pub use Rattle.csv_procs.specs.Fetching.{FaultComes, IsAfter, IsKnownOf, IsRead, Position, ReaderState, StaysAt, StepComes, StepsTo, Told}
 pub use Rattle.csv_procs.specs.ListLines.{AreOf, AreTaken}
-pub use Rattle.csv_procs.specs.Names.{GivesLeft, HasFitLeft, IsLineTaken, IsNext, IsNextOfList, IsSome, IsSpecOf, IsTied, IsTiedTo, IsWholeFile, Steps, files_of, inputs_in, is_path, kind_for, left_rows, list_bad_line, list_paths, listed_edge, listed_part, lists_in, max, open_in, sourcing, stage_in, without_cr}
+pub use Rattle.csv_procs.specs.Names.{GivesLeft, HasFitLeft, IsLineTaken, IsNext, IsNextOfList, IsSome, IsSpecOf, IsWholeFile, MatchesReader, PartMatchesReader, Steps, files_of, inputs_in, is_path, kind_for, left_rows, list_bad_line, list_paths, listed_edge, listed_part, lists_in, max, open_in, sourcing, stage_in, without_cr}
 pub use Rattle.csv_procs.specs.Parts.{is_fetched, is_grown, paths_of, spec_for, types_or, unmade_in}
 pub use Rattle.csv_procs.specs.Prelude.{Fetching, FileState, Growth, HoldsFront, HoldsMore, IsFile, ListedPaths, Paths, Rows, Shut, StandsAtEnd, bad_line_in, filter, growth_form, list_growth, rows_of}
 pub use Rattle.csv_procs.specs.SourceShells.{list_uses, source_uses}

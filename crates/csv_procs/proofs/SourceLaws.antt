@@ -1,5 +1,5 @@
 -- The clauses of a source's calls.
-use Rattle.csv_procs.proofs.Imports.{ArePartBytes, AreResized, Bool, BoxPicture, Err, Expands, Fails, FaultComes, FaultHolds, FaultInCall, FaultIsDue, Faults, Fetching, FileState, Growth, Held, IfErr, IfOk, IfSome, IsFile, IsLongFile, IsLongTold, IsRead, IsTied, IsTiedTo, IsWholeFile, IsWorkOf, KeepsList, KeepsPart, KeepsRows, KeepsSame, Kind, KnowsList, List, ListedPaths, Lists, None, Notes, NotesEnd, OfPart, Ok, Option, OwnState, PartSpec, Paths, Prepared, ReaderState, ReaderView, Result, RowCount, Rows, Schedules, Shut, Some, Stand, Status, StaysAt, StepComes, StepsTo, Told, Wake, WakeComes, WorkFault, ap, arith, bad_line_in, bad_place, bad_place_in, chunk_rows, cond, false, file_of, files_of, good_rows, grown-keeps, growth_form, had-same, held_made, held_unworked, inl, inr, is_fetched, is_grown, kept_input, kept_inputs, kept_output, kept_outputs, kind_for, length, list_growth, list_uses, lists_in, option_map, part, part_seen, paths_of, refl, rows_of, source_of, source_uses, sourcing, spec_for, spec_growth, stage_in, subst, sym, told_as_pairs, true, unmade_in, with_answer, ℕ, ◌++◌, ◌+◌, ◌<◌, ◌∙◌, ◌≡◌}
+use Rattle.csv_procs.proofs.Imports.{ArePartBytes, AreResized, Bool, BoxPicture, Err, Expands, Fails, FaultComes, FaultHolds, FaultInCall, FaultIsDue, Faults, Fetching, FileState, Growth, Held, IfErr, IfOk, IfSome, IsFile, IsLongFile, IsLongTold, IsRead, IsWholeFile, IsWorkOf, KeepsList, KeepsPart, KeepsRows, KeepsSame, Kind, KnowsList, List, ListedPaths, Lists, MatchesReader, None, Notes, NotesEnd, OfPart, Ok, Option, OwnState, PartMatchesReader, PartSpec, Paths, Position, Prepared, ReaderState, ReaderView, Result, RowCount, Rows, Schedules, Shut, Some, Status, StaysAt, StepComes, StepsTo, Told, Wake, WakeComes, WorkFault, ap, arith, bad_line_in, bad_place, bad_place_in, chunk_rows, cond, false, file_of, files_of, good_rows, grown-keeps, growth_form, had-same, held_made, held_unworked, inl, inr, is_fetched, is_grown, kept_input, kept_inputs, kept_output, kept_outputs, kind_for, length, list_growth, list_uses, lists_in, option_map, part, part_seen, paths_of, refl, rows_of, source_of, source_uses, sourcing, spec_for, spec_growth, stage_in, subst, sym, told_as_pairs, true, unmade_in, with_answer, ℕ, ◌++◌, ◌+◌, ◌<◌, ◌∙◌, ◌≡◌}
 use Rattle.proc_api.specs.declared.status.Wake.TheVariants as wake
 use Rattle.proc_api.specs.declared.status.WorkFault.TheVariants as fault
 
@@ -18,37 +18,38 @@ source told f pd count lists part' s h n =
     part_seen (kind_for lists) (reads told f pd) count (part (sourcing lists part' s) h n)
 
 -- a bad place or line that is found is that of the file
-pub fault-told : (told : Told) (stands : Stand) (f pd : ℕ) (k : Kind) (count : RowCount)
+pub fault-told : (told : Told) (position : Position) (f pd : ℕ) (k : Kind) (count : RowCount)
     (lists : Bool) (part' : PartSpec) (s : FileState) (h : Held) (n : Notes)
-    → IsTiedTo told stands lists part' (stage_in part' s) n.given n.pendings
+    → MatchesReader told position lists part' (stage_in part' s) n.given n.pendings
     → (e : WorkFault) → Fails (sourcing lists part' s) e
     → FaultIsDue (Some e) (part_seen k (reads told f pd) count (part (sourcing lists part' s) h n))
-fault-told told stands f pd k count lists part' s h n t fault.Memory y = tt
-fault-told None stands f pd k count false part' s h n t (fault.Bad place) y = tt
-fault-told None stands f pd k count true part' s h n t (fault.BadList line) y = tt
-fault-told (Some all) stands f pd k count false part' (Rows r) h n t (fault.Bad place) y =
+fault-told told position f pd k count lists part' s h n t fault.Memory y = tt
+fault-told None position f pd k count false part' s h n t (fault.Bad place) y = tt
+fault-told None position f pd k count true part' s h n t (fault.BadList line) y = tt
+fault-told (Some all) position f pd k count false part' (Rows r) h n t (fault.Bad place) y =
     let read = t.read refl in
     ap (bad_place_in part'.header part'.types) (told_as_pairs all part'.path ∙ read.are)
     ∙ sym read.known ∙ y.1
-fault-told (Some all) stands f pd k count true part' (Paths l) h n t (fault.BadList line) y =
+fault-told (Some all) position f pd k count true part' (Paths l) h n t (fault.BadList line) y =
     let read = t.read refl in
     ap bad_line_in (told_as_pairs all part'.path ∙ read.are) ∙ sym read.known.1 ∙ y.1
-fault-told (Some all) stands f pd k count false part' s h n t (fault.Bad place) y =
+fault-told (Some all) position f pd k count false part' s h n t (fault.Bad place) y =
     absurd (let e = y.1 in cc)
-fault-told (Some all) stands f pd k count true part' s h n t (fault.BadList line) y =
+fault-told (Some all) position f pd k count true part' s h n t (fault.BadList line) y =
     absurd (let e = y.1 in cc)
-fault-told told stands f pd k count true part' s h n t (fault.Bad place) y =
+fault-told told position f pd k count true part' s h n t (fault.Bad place) y =
     absurd (let e = y.0 in cc)
-fault-told told stands f pd k count false part' s h n t (fault.BadList line) y =
+fault-told told position f pd k count false part' s h n t (fault.BadList line) y =
     absurd (let e = y.0 in cc)
-fault-told told stands f pd k count lists part' s h n t e y = absurd y
+fault-told told position f pd k count lists part' s h n t e y = absurd y
 
--- what a source without a fault is tied to
-pub tied-now : (told : Told) (stands : Stand) (lists : Bool) (part' : PartSpec) (s : FileState)
-    (h : Held) (n : Notes) → IsTied told stands (Some (part (sourcing lists part' s) h n))
-    → n.fault ≡ None → IsTiedTo told stands lists part' (stage_in part' s) n.given n.pendings
-tied-now told stands false part' s h n tied faultless = tied faultless
-tied-now told stands true part' s h n tied faultless = tied faultless
+-- a source without a fault matches its reader
+pub tied-now : (told : Told) (position : Position) (lists : Bool) (part' : PartSpec) (s : FileState)
+    (h : Held) (n : Notes)
+    → PartMatchesReader told position (Some (part (sourcing lists part' s) h n)) → n.fault ≡ None
+    → MatchesReader told position lists part' (stage_in part' s) n.given n.pendings
+tied-now told position false part' s h n tied faultless = tied faultless
+tied-now told position true part' s h n tied faultless = tied faultless
 
 told-bytes : (told : Told) (path bytes : List ℕ) → IsFile told path bytes
     → ArePartBytes (option_map files_of told) path bytes
@@ -286,7 +287,7 @@ module _ (d e : ReaderState) (count : RowCount) (lists : Bool) (part' : PartSpec
 -- ---- expand
 
 -- a valid list that names a path grows by its paths
-module _ (told : Told) (stands : Stand) (f pd : ℕ) (count : RowCount) (list : PartSpec)
+module _ (told : Told) (position : Position) (f pd : ℕ) (count : RowCount) (list : PartSpec)
     (h : Held) (n : Notes) (g : Growth) (asks : n.answer ≡ Some (Prepared Status.ExpandPipeline))
     (faultless : n.fault ≡ None) where
   abbrev Had : Bool → FileState → BoxPicture
@@ -296,7 +297,7 @@ module _ (told : Told) (stands : Stand) (f pd : ℕ) (count : RowCount) (list : 
   Has b s = source told f pd count b list s h (record n { acted = true })
 
   abbrev Ties : Bool → FileState → Type 0
-  Ties b s = IsTiedTo told stands b list (stage_in list s) n.given n.pendings
+  Ties b s = MatchesReader told position b list (stage_in list s) n.given n.pendings
 
   pub by-paths : (l : ListedPaths) → l.bad_line ≡ None → l.grown ≡ false → 0 < length l.paths
       → growth_form g ≡ list_growth list l.paths → Ties true (Paths l)

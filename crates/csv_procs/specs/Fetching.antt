@@ -1,6 +1,6 @@
 -- What a schedule of a source does, and what ties its part to its reader.
 use Rattle.std.specs.Prelude.{◌-◌, ◌<◌, ◌≡◌, ◌≤◌, ◌⊎◌}
-use Rattle.csv_procs.specs.Prelude.{Bool, Err, Fetched, Fetching, FileEntry, FileState, HoldsFront, HoldsMore, IfSome, IsFile, IsLongFile, IsSome, List, None, Notes, Ok, Option, PartSpec, PassesLimit, Paths, Result, Rose, Rows, ShellPart, Shut, Some, Spec, Stage, StandsAtEnd, Wake, WorkFault, bad_line_in, bad_place, false, file_bytes, length, part_records, paths_in, raised, true, ℕ}
+use Rattle.csv_procs.specs.Prelude.{Bool, CountIncreased, Err, Fetched, Fetching, FileEntry, FileState, HoldsFront, HoldsMore, IfSome, IsFile, IsLongFile, IsSome, List, None, Notes, Ok, Option, PartSpec, PassesLimit, Paths, Result, Rows, ShellPart, Shut, Some, Spec, Stage, StandsAtEnd, Wake, WorkFault, bad_line_in, bad_place, false, length, part_records, paths_in, raised, told_bytes, true, ℕ}
 use Rattle.query_model.specs.declared.processor_spec.Spec.TheVariants as spec
 use Rattle.csv_rows.specs.declared.file_fetch.Fetched.TheVariants as fetched
 use Rattle.proc_api.specs.declared.status.Wake.TheVariants as wake
@@ -8,8 +8,8 @@ use Rattle.proc_api.specs.declared.status.WorkFault.TheVariants as fault
 use Rattle.csv_procs.specs.Parts.{IsWholeFile, stage_in}
 
 -- where a reader stands: a path, and the place in its file
-abbrev pub Stand : Type 0
-Stand = Option (List ℕ × ℕ)
+abbrev pub Position : Type 0
+Position = Option (List ℕ × ℕ)
 
 abbrev pub Told : Type 0
 Told = Option (List FileEntry)
@@ -17,7 +17,7 @@ Told = Option (List FileEntry)
 -- a reader: the files that it tells, where it stands, and its counts
 pub record ReaderState : Type 0 where
   pub files : Told
-  pub stands : Stand
+  pub position : Position
   pub faults : ℕ
   pub pendings : ℕ
 
@@ -28,10 +28,10 @@ pub record IsAfter (x y : ReaderState) : Type 0 where
   pub pendings_kept : x.pendings ≤ y.pendings
 
 -- the held bytes begin the file, and are all that the reader gave
-pub record HoldsPart (told : Told) (stands : Stand) (part : PartSpec) (held : List ℕ) (given : ℕ)
-    : Type 0 where
-  pub front : HoldsFront told stands part.path held
-  pub found : IfSome told (λ all. IsSome (file_bytes all part.path))
+pub record HoldsPart (told : Told) (position : Position) (part : PartSpec) (held : List ℕ)
+    (given : ℕ) : Type 0 where
+  pub front : HoldsFront told position part.path held
+  pub found : IfSome told (λ all. IsSome (told_bytes all part.path))
   pub given_is : given ≡ length held
 
 -- the bad place is that of the bytes, or the paths and the bad line are
@@ -47,51 +47,51 @@ pub record HasRead (told : Told) (lists : Bool) (part : PartSpec) (g : Stage) : 
   pub known : IsKnownOf lists part bytes g
 
 -- how far the part is, by its reader's files and where that stands, within the limits
-pub record IsTiedTo (told : Told) (stands : Stand) (lists : Bool) (part : PartSpec) (g : Stage)
-    (given pendings : ℕ) : Type 0 where
+pub record MatchesReader (told : Told) (position : Position) (lists : Bool) (part : PartSpec)
+    (g : Stage) (given pendings : ℕ) : Type 0 where
   pub shut : g.opened ≡ false → given ≡ 0
-  pub front : g.opened ≡ true → g.fetched ≡ false → HoldsPart told stands part g.held given
+  pub front : g.opened ≡ true → g.fetched ≡ false → HoldsPart told position part g.held given
   pub read : g.fetched ≡ true → HasRead told lists part g
   pub few_pendings : pendings < 1000000
   pub few_bytes : given ≤ 1073741824
 
-abbrev pub IsTiedSpec : Told → Stand → Spec → Stage → (given pendings : ℕ) → Type 0
-IsTiedSpec told stands (spec.Csv part) g given pendings =
-    IsTiedTo told stands false part g given pendings
-IsTiedSpec told stands (spec.List list) g given pendings =
-    IsTiedTo told stands true list g given pendings
-IsTiedSpec told stands s g given pendings = Unit {0}
+abbrev pub SpecMatchesReader : Told → Position → Spec → Stage → (given pendings : ℕ) → Type 0
+SpecMatchesReader told position (spec.Csv part) g given pendings =
+    MatchesReader told position false part g given pendings
+SpecMatchesReader told position (spec.List list) g given pendings =
+    MatchesReader told position true list g given pendings
+SpecMatchesReader told position s g given pendings = Unit {0}
 
 -- as long as no fault is kept
-abbrev pub IsTied : Told → Stand → Option ShellPart → Type 0
-IsTied told stands None = Unit {0}
-IsTied told stands (Some p) = p.notes.fault ≡ None
-    → IsTiedSpec told stands p.kernel.spec p.kernel.stage p.notes.given p.notes.pendings
+abbrev pub PartMatchesReader : Told → Position → Option ShellPart → Type 0
+PartMatchesReader told position None = Unit {0}
+PartMatchesReader told position (Some p) = p.notes.fault ≡ None
+    → SpecMatchesReader told position p.kernel.spec p.kernel.stage p.notes.given p.notes.pendings
 
 -- ---- one read
 
 -- the bytes of a read pass the limit
 pub record ReadsTooMany (x y : ReaderState) (held : List ℕ) (n n' : Notes) : Type 0 where
   pub count : ℕ
-  pub passes : PassesLimit x.files x.stands y.stands held 1073741824 count
+  pub passes : PassesLimit x.files x.position y.position held 1073741824 count
   pub noted : n' ≡ record n { given = raised n.given count }
 
 -- what a read gave, and what was noted of it
 abbrev pub ReadGives : (x y : ReaderState) → (held grown : List ℕ) → (n n' : Notes)
     → Result Fetched WorkFault → Type 0
 ReadGives x y held grown n n' (Ok fetched.More) =
-    HoldsMore x.files x.stands y.stands held grown 1073741824
+    HoldsMore x.files x.position y.position held grown 1073741824
     × (n' ≡ record n { given = raised n.given (length grown - length held) })
 ReadGives x y held grown n n' (Ok fetched.Whole) =
-    StandsAtEnd x.files x.stands × (grown ≡ held) × (n' ≡ n)
+    StandsAtEnd x.files x.position × (grown ≡ held) × (n' ≡ n)
 ReadGives x y held grown n n' (Ok fetched.Pending) =
-    Rose x.pendings y.pendings × (y.stands ≡ x.stands) × (grown ≡ held)
+    CountIncreased x.pendings y.pendings × (y.position ≡ x.position) × (grown ≡ held)
     × (n' ≡ record n { pendings = raised n.pendings 1 }) × (n'.pendings < 1000000)
 ReadGives x y held grown n n' (Err fault.Stalled) =
-    Rose x.pendings y.pendings × (n' ≡ record n { pendings = raised n.pendings 1 })
+    CountIncreased x.pendings y.pendings × (n' ≡ record n { pendings = raised n.pendings 1 })
     × (1000000 ≤ n'.pendings)
 ReadGives x y held grown n n' (Err fault.Read) =
-    Rose x.faults y.faults × (n' ≡ record n { faults = raised n.faults 1 })
+    CountIncreased x.faults y.faults × (n' ≡ record n { faults = raised n.faults 1 })
 ReadGives x y held grown n n' (Err fault.TooLong) = ReadsTooMany x y held n n'
 ReadGives x y held grown n n' (Err fault.Memory) = n' ≡ n
 ReadGives x y held grown n n' (Err e) = ⊥
@@ -119,7 +119,7 @@ IsWithin n = (n.pendings < 1000000) × (n.given ≤ 1073741824)
 -- why a step fails
 abbrev pub FaultComes : WorkFault → (x y : ReaderState) → PartSpec → Notes → Type 0
 FaultComes fault.Memory x y part n = IsWithin n
-FaultComes fault.Read x y part n = IsWithin n × Rose x.faults y.faults × (0 < n.faults)
+FaultComes fault.Read x y part n = IsWithin n × CountIncreased x.faults y.faults × (0 < n.faults)
 FaultComes fault.Stalled x y part n = (n.pendings ≡ 1000000) × (n.given ≤ 1073741824)
 FaultComes fault.TooLong x y part n =
     (n.pendings < 1000000) × (1073741824 < n.given) × IsLongFile x.files part.path 1073741824
@@ -136,7 +136,7 @@ StaysAt _ _ = ⊥
 abbrev pub StepComes : Result Wake WorkFault → (x y : ReaderState) → Bool → PartSpec
     → (s s' : FileState) → (n n' : Notes) → Type 0
 StepComes (Ok a) x y lists part s s' n n' = StepsTo x.files lists part s n s' n' a
-    × IsTiedTo x.files y.stands lists part (stage_in part s') n'.given n'.pendings
+    × MatchesReader x.files y.position lists part (stage_in part s') n'.given n'.pendings
 StepComes (Err e) x y lists part s s' n n' = FaultComes e x y part n' × StaysAt s s'
 
 -- A step. The reader's counts never fall, and what is noted of them rose by no more.

@@ -7,7 +7,7 @@ pub record SourceView : Type 0 where
   pub faults : ℕ
   pub pendings : ℕ
   -- where the reader stands
-  pub stands : Option (List ℕ × ℕ)
+  pub position : Option (List ℕ × ℕ)
   pub count : RowCount
   pub loaded : Option ShellPart
 

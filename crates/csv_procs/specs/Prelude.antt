@@ -5,7 +5,7 @@ pub use Rattle.csv_procs.specs.declared.file_state.FileState.TheVariants.{Fetchi
 pub use Rattle.csv_rows.specs.RowsLeft.{at_end}
 pub use Rattle.csv_rows.specs.Fetching.{HoldsFront, HoldsMore, IsFile, IsLongFile, PassesLimit}
 pub use Rattle.csv_rows.specs.declared.file_fetch.Fetched.{Fetched}
-pub use Rattle.outside_io.specs.Counts.{Rose}
+pub use Rattle.outside_io.specs.Counts.{CountIncreased}
 pub use Rattle.outside_io.specs.Told.{StandsAtEnd}
 pub use Rattle.outside_io.specs.declared.entries.FileEntry.{FileEntry}
 pub use Rattle.proc_api.specs.Forms.{growth_form}
@@ -16,5 +16,5 @@ pub use Rattle.proc_shell.specs.Kernels.{KernelState, Stage, rows_of}
 pub use Rattle.proc_shell.specs.Prelude.{BadPlace, Bool, BoxPicture, ColumnType, Err, Files, IfSome, IsSome, Kind, List, None, Notes, Ok, Option, PartSpec, Result, Row, RowCount, Some, Spec, Table, Wake, WorkFault, [], cond, false, idle_own, length, raised, true, ℕ}
 pub use Rattle.proc_shell.specs.declared.kernel.Offer.{Offer}
 pub use Rattle.proc_shell.specs.Shells.{ReaderView, ShellPart, shell_seen}
-unfoldable pub use Rattle.outside_io.specs.Told.{file_bytes}
+unfoldable pub use Rattle.outside_io.specs.Told.{told_bytes}
 unfoldable pub use Rattle.proc_shell.specs.Prelude.{bad_place, good_rows, part_records}

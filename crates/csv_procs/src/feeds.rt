@@ -1,5 +1,5 @@
 ghost use Rattle.std.specs.Prelude.{◌≡◌};
-ghost use Rattle.csv_procs.specs.Names.{IfOk, IfSome, IsAfter, IsSome, IsWholeFile, OnErr, OnOk, ReadGives, ReaderState, Rose, Some, file_bytes, lists_in};
+ghost use Rattle.csv_procs.specs.Names.{CountIncreased, IfOk, IfSome, IsAfter, IsSome, IsWholeFile, OnErr, OnOk, ReadGives, ReaderState, Some, lists_in, told_bytes};
 
 use crate::file_kernel::FileKernel;
 use crate::file_state::FileState;
@@ -29,14 +29,15 @@ pub trait Feeds {
     /// Opens a file at its first byte.
     fn open_file(&mut self, path: &Bytes) -> Result<(), Failed>
         ensures after { IsAfter (reader self.old) (reader self.new) }
-        ensures opened { OnOk result ((reader self.new).stands ≡ Some (path.now, 0)) }
+        ensures opened { OnOk result ((reader self.new).position ≡ Some (path.now, 0)) }
         ensures found { OnOk result (IfSome (reader self.old).files
-            (λ all. IsSome (file_bytes all path.now))) }
-        ensures fault { OnErr result (Rose (reader self.old).faults (reader self.new).faults) };
+            (λ all. IsSome (told_bytes all path.now))) }
+        ensures fault { OnErr result
+            (CountIncreased (reader self.old).faults (reader self.new).faults) };
 
     /// Makes one read of the file in which it stands, and notes what it gave.
     fn fetch_more(&mut self, held: &mut Bytes, notes: &mut BoxNotes) -> Result<Fetched, WorkFault>
-        requires { IsSome (reader self.old).stands }
+        requires { IsSome (reader self.old).position }
         ensures after { IsAfter (reader self.old) (reader self.new) }
         ensures gives { ReadGives (reader self.old) (reader self.new) held.old held.new notes.old
             notes.new result };
@@ -45,7 +46,7 @@ pub trait Feeds {
 impl<R: FileReader> Feeds for R {
     ghost reader = { λ r. record {
       files = R.files r;
-      stands = R.stands r;
+      position = R.position r;
       faults = R.faults r;
       pendings = R.pendings r;
     } };

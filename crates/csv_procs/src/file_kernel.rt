@@ -1,5 +1,5 @@
 ghost use Rattle.std.specs.Prelude.{◌≡◌};
-ghost use Rattle.csv_procs.specs.Names.{Bool, FileState as State, Grows, IfOk, IsTiedTo, OnErr, PartSpec as Part, Steps, kind_for, open_in, sourcing, stage_in, true, ℕ};
+ghost use Rattle.csv_procs.specs.Names.{Bool, FileState as State, Grows, IfOk, MatchesReader, OnErr, PartSpec as Part, Steps, kind_for, open_in, sourcing, stage_in, true, ℕ};
 
 use crate::feeds::Feeds;
 use chunk_data::Memory;
@@ -22,7 +22,7 @@ pub trait FileKernel: Kernel {
         reader: &mut F,
         notes: &mut BoxNotes,
     ) -> Result<Wake, WorkFault>
-        requires { IsTiedTo (F.reader reader.old).files (F.reader reader.old).stands lists
+        requires { MatchesReader (F.reader reader.old).files (F.reader reader.old).position lists
             (part_of self.old) (stage_in (part_of self.old) (file_of self.old))
             notes.old.given notes.old.pendings }
         ensures part { part_of self.new ≡ part_of self.old }

@@ -21,7 +21,7 @@ pub struct FileSource<R: FileReader, K: FileKernel> {
 }
 
 impl<R: FileReader, K: FileKernel> Model for FileSource<R, K> {
-    ghost use Rattle.csv_procs.specs.Names.{IsTied, SourceView, codes, files_of, option_map, part};
+    ghost use Rattle.csv_procs.specs.Names.{PartMatchesReader, SourceView, codes, files_of, option_map, part};
     ghost use Rattle.query_model.specs.contracts.processor_spec.Spec as spec;
 
     ghost Value = { SourceView };
@@ -32,21 +32,21 @@ impl<R: FileReader, K: FileKernel> Model for FileSource<R, K> {
       files = option_map files_of (R.files s.reader);
       faults = R.faults s.reader;
       pendings = R.pendings s.reader;
-      stands = R.stands s.reader;
+      position = R.position s.reader;
       count = s.pulled;
       loaded = option_map (λ l. part (K.state l.kernel) l.held l.notes) s.loaded;
     } };
 
-    ghost invariant = { λ s. IsTied (R.files s.reader) (R.stands s.reader)
+    ghost invariant = { λ s. PartMatchesReader (R.files s.reader) (R.position s.reader)
         (option_map (λ l. part (K.state l.kernel) l.held l.notes) s.loaded) };
 }
 
 impl<R: FileReader, K: FileKernel> FileSource<R, K> {
-    ghost use Rattle.csv_procs.specs.Names.{IsLawfulBlank, files_of, option_map, seen_by};
+    ghost use Rattle.csv_procs.specs.Names.{IsUnloadedProcessor, files_of, option_map, seen_by};
 
     /// A blank source, which reads by this reader.
     pub fn new(alloc: Global, reader: R) -> FileSource<R, K>
-        ensures blank { IsLawfulBlank K.kind_is (seen_by K.kind_is result) }
+        ensures blank { IsUnloadedProcessor K.kind_is (seen_by K.kind_is result) }
         ensures files { result.files ≡ option_map files_of (R.files reader) }
         ensures faults { result.faults ≡ R.faults reader }
         ensures pendings { result.pendings ≡ R.pendings reader }
@@ -85,7 +85,7 @@ impl<R: FileReader, K: FileKernel + Send> Processor for FileSource<R, K> {
 
     ghost seen = { seen_by K.kind_is };
 
-    ghost stands = { λ s. s.stands };
+    ghost position = { λ s. s.position };
 
     fn kind(&self) -> Kind {
         K::kind()

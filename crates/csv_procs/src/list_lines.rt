@@ -51,7 +51,7 @@ fn take_line(alloc: Global, line: &[u8], paths: &mut Vec<Bytes>) -> Result<bool,
     if line.is_empty() {
         return Ok(true);
     }
-    if !is_path(line) || paths.len() >= MOST_PATHS {
+    if !is_listed_path(line) || paths.len() >= MOST_PATHS {
         return Ok(false);
     }
     paths.push(Bytes::from_slice(alloc, line)?)?;
@@ -59,7 +59,7 @@ fn take_line(alloc: Global, line: &[u8], paths: &mut Vec<Bytes>) -> Result<bool,
 }
 
 // Whether the line is a path.
-fn is_path(line: &[u8]) -> bool
+fn is_listed_path(line: &[u8]) -> bool
     ensures { result ≡ is_path line.now }
 {
     !line.is_empty() && line.len() <= MOST_PATH_BYTES && is_text(line) && has_no_zero(line)

@@ -28,7 +28,7 @@ returns-clause-fault g c =
     (reads (R.files r) (R.faults r) (R.pendings r)) c.self.inside.pulled
     (part (K.state l.kernel) l.held l.notes) (part (K.state m.kernel) m.held m.notes) c.work.result
     (g.met.K.Kernel.of_kind l.kernel).0 running c.work.ensures.fault c.work.ensures.fails
-    (rw shows (fault-told (R.files r) (R.stands r) (R.faults r) (R.pendings r) K.kind_is
+    (rw shows (fault-told (R.files r) (R.position r) (R.faults r) (R.pendings r) K.kind_is
     c.self.inside.pulled F.lists (F.part_of l.kernel) (F.file_of l.kernel) l.held l.notes
-    (tied-now (R.files r) (R.stands r) F.lists (F.part_of l.kernel) (F.file_of l.kernel) l.held
+    (tied-now (R.files r) (R.position r) F.lists (F.part_of l.kernel) (F.file_of l.kernel) l.held
     l.notes (rw (c.in-Some.is, shows) at c.self.invariant) running.faultless))))
