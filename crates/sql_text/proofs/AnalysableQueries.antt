@@ -1,11 +1,7 @@
 -- What analysis asks of a query holds of each query that is read: WHERE has no call, HAVING has the
 -- operands of groups, and each call has its argument.
-use Rattle.sql_text.proofs.Imports.{◌≡◌, ℕ, true, List, [], ◌∷◌, map, flat_map, Option, Some, None, option_map, refl, is_some, All, All-nil, All-cons, All-head, All-tail, All-append, All-weaker, formula, operands_of, item_calls, calls_of, IsNoCall, takes_argument, HasItsArgument, IsAnalysable, AggOp, AggCall, ColumnRef, ExprOf, Operand, Item, ItemKind, Query, has_argument, CallTree, Side, Condition, ItemWhat, ItemTree, Selection, QueryTree, call_tree, side, item_what, item_tree, Tokens, IsAgg, count_rows, count_star, call_over, IsOperand, an_expr, a_string, IsGroupOperand as IsGroupSide, a_call, IsCond, one_conj, disjunction, IsConj, one_neg, conjunction, IsNeg, negation, enclosed_cond, comparison, AreListed, last_one, one_more, IsWhat, an_expression, an_agg, IsItem, unnamed, named, IsSelection, all_columns, some_items, IsFilter, no_filter, filter_by, IsHaving, no_having, having_by, source_of, shaping_of, IsQuery, select_query, IsText, bare, with_semicolon, laid_expr, laid_call, laid_side, laid_condition, laid_what, laid_item, laid_items, laid, sides_of_are, items_are, IsReadFrom, sym, ◌∙◌}
+use Rattle.sql_text.proofs.Imports.{◌≡◌, ℕ, List, [], ◌∷◌, map, flat_map, Option, option_map, is_some, All, All-nil, All-cons, All-head, All-tail, All-append, All-weaker, formula, operands_of, item_calls, calls_of, IsNoCall, HasItsArgument, IsAnalysable, AggCall, ColumnRef, ExprOf, Operand, Item, ItemKind, Query, CallTree, Side, Condition, ItemTree, Selection, QueryTree, call_tree, side, item_tree, Tokens, IsAgg, IsOperand, IsGroupOperand as IsGroupSide, IsCond, one_conj, disjunction, IsConj, one_neg, conjunction, IsNeg, negation, enclosed_cond, comparison, AreListed, last_one, one_more, IsItem, IsSelection, all_columns, some_items, IsFilter, no_filter, filter_by, IsHaving, no_having, having_by, source_of, shaping_of, IsQuery, select_query, IsText, bare, with_semicolon, laid_expr, laid_call, laid_side, laid_condition, laid_item, laid_items, laid, sides_of_are, items_are, IsReadFrom, sym, ◌∙◌, arith}
 use Rattle.query_model.specs.Names.{cond_operands, listed, IsGroupOperand}
-use Rattle.query_model.specs.declared.query.AggOp.TheVariants as agg
-use Rattle.query_model.specs.declared.query.ExprOf.TheVariants as expr
-use Rattle.query_model.specs.declared.query.Operand.TheVariants as operand
-use Rattle.query_model.specs.declared.query.ItemKind.TheVariants as kind
 use Rattle.sql_grammar.specs.declared.Sign.TheVariants as sign
 use Rattle.sql_grammar.specs.declared.Token.TheVariants as token
 
@@ -25,22 +21,14 @@ one c h = All-cons HasItsArgument c [] h (All-nil HasItsArgument)
 
 -- ---- the query of a tree that is spelled
 
-takes_one : (op : AggOp) → has_argument op ≡ true → true ≡ takes_argument op
-takes_one agg.Count h = absurd cc
-takes_one _ h = refl
-
 agg_argument : {c : CallTree} {ts rest : Tokens} → IsAgg c ts rest → HasItsArgument (laid_call c)
-agg_argument (count_rows known) = refl
-agg_argument (count_star known) = refl
-agg_argument (call_over {op = op} known has e) = takes_one op has
+agg_argument is = grind arith
 
 row_side : (s : Side) (ts rest : Tokens) → IsOperand s ts rest → IsNoCall (laid_side s)
-row_side s ts rest (an_expr e) = tt
-row_side s ts rest a_string = tt
+row_side s ts rest a = grind arith
 
 group_side : (s : Side) (ts rest : Tokens) → IsGroupSide s ts rest → IsGroupWith (laid_side s)
-group_side s ts rest (a_call {c = c} is) = (tt, one (laid_call c) (agg_argument is))
-group_side s ts rest _ = (tt, All-nil HasItsArgument)
+group_side s ts rest a = grind (arith, one, laid_call, agg_argument)
 
 module _ (Op : Side → Tokens → Tokens → Type 0) (P : Operand ColumnRef → Type 0)
     (each : (s : Side) (ts rest : Tokens) → Op s ts rest → P (laid_side s)) where
@@ -65,14 +53,9 @@ module _ (Op : Side → Tokens → Tokens → Type 0) (P : Operand ColumnRef →
         All-cons P (laid_side a) (laid_side b ∷ []) (each _ _ _ l)
         (All-cons P (laid_side b) [] (each _ _ _ r) (All-nil P))
 
-what_arguments : {w : ItemWhat} {ts rest : Tokens} → IsWhat w ts rest → HaveArguments (laid_what w)
-what_arguments (an_expression e) = All-nil HasItsArgument
-what_arguments (an_agg {c = c} is) = one (laid_call c) (agg_argument is)
-
 item_arguments : {i : ItemTree} {ts rest : Tokens} → IsItem i ts rest
     → HaveArguments (laid_item i).what
-item_arguments (unnamed w) = what_arguments w
-item_arguments (named w) = what_arguments w
+item_arguments a = grind (arith, one, laid_call, agg_argument)
 
 items_arguments : {is : List ItemTree} {ts rest : Tokens}
     → AreListed IsItem (token.Sign sign.Comma) is ts rest
@@ -119,31 +102,20 @@ unlaid g h P back (x ∷ xs) all =
     (unlaid g h P back xs (All-tail P (h (g x)) (map h (map g xs)) all))
 
 no_call : (o : Operand ColumnRef) → IsNoCall (laid_side (side o)) → IsNoCall o
-no_call (operand.Agg c) h = h
-no_call _ h = tt
+no_call o h = grind arith
 
 some_laid : (a : Option (ExprOf ColumnRef))
     → is_some (option_map laid_expr (option_map formula a)) ≡ is_some a
-some_laid None = refl
-some_laid (Some e) = refl
+some_laid a = grind arith
 
 argument : (c : AggCall ColumnRef) → HasItsArgument (laid_call (call_tree c)) → HasItsArgument c
 argument c h = sym (some_laid c.arg) ∙ h
 
 group_operand : (o : Operand ColumnRef) → IsGroupWith (laid_side (side o)) → IsGroupWith o
-group_operand (operand.Plain (expr.Column c)) h = h
-group_operand (operand.Plain (expr.Number n)) h = h
-group_operand (operand.Plain (expr.Arith' op p a q b)) h = h
-group_operand (operand.Text t) h = h
-group_operand (operand.Agg c) h =
-    (tt, one c (argument c (All-head HasItsArgument (laid_call (call_tree c)) [] h.1)))
+group_operand o h = grind (arith, one, argument, laid_call, call_tree)
 
 item_calls_are : (i : Item) → HaveArguments (laid_item (item_tree i)).what → HaveArguments i.what
-item_calls_are i h = go i.what h
-  where
-    go : (k : ItemKind) → HaveArguments (laid_what (item_what k)) → HaveArguments k
-    go (kind.Plain e) h = All-nil HasItsArgument
-    go (kind.Agg c) h = one c (argument c (All-head HasItsArgument (laid_call (call_tree c)) [] h))
+item_calls_are i h = grind arith
 
 flattened : {A : Type 0} (f : A → List (AggCall ColumnRef)) (xs : List A)
     → All (λ x. All HasItsArgument (f x)) xs → All HasItsArgument (flat_map f xs)

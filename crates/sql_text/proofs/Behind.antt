@@ -1,5 +1,5 @@
 -- A spelling takes at least one token of what it begins with.
-use Rattle.sql_text.proofs.Imports.{◌<◌, List, ◌∷◌, length, arith, Clause, ColumnRef, Join, NamePair, OrderKey, TableRef, Expression, CallTree, Side, Condition, ItemWhat, ItemTree, Selection, Tokens, IsColumn, unqualified, qualified, IsExpr, one_term, sum, difference, IsTerm, one_factor, product, IsFactor, a_column, a_number, negative, enclosed, IsAgg, count_rows, count_star, call_over, IsOperand, an_expr, a_string, IsGroupOperand, a_key, a_call, a_constant, a_negative, a_text, IsCond, one_conj, disjunction, IsConj, one_neg, conjunction, IsNeg, negation, enclosed_cond, comparison, AreListed, last_one, one_more, IsWhat, an_expression, an_agg, IsItem, unnamed, named, IsSelection, all_columns, some_items, IsTable, named_table, numbers_table, IsPair, equal_columns, IsJoined, table_on, IsOrderKey, unstated, ascending, descending, Token}
+use Rattle.sql_text.proofs.Imports.{◌<◌, List, ◌∷◌, length, arith, Clause, ColumnRef, Join, NamePair, OrderKey, TableRef, Expression, CallTree, Side, Condition, ItemWhat, ItemTree, Selection, Tokens, IsColumn, IsExpr, one_term, sum, difference, IsTerm, one_factor, product, IsFactor, a_column, a_number, negative, enclosed, IsAgg, call_over, IsOperand, an_expr, IsGroupOperand, a_key, a_call, IsCond, one_conj, disjunction, IsConj, one_neg, conjunction, IsNeg, negation, enclosed_cond, comparison, AreListed, last_one, one_more, IsWhat, an_expression, an_agg, IsItem, IsSelection, IsTable, IsPair, equal_columns, IsJoined, table_on, IsOrderKey, Token}
 use Rattle.sql_text.specs.declared.part.Clause.TheVariants as clause
 use Rattle.sql_grammar.specs.declared.Token.TheVariants as token
 
@@ -7,8 +7,7 @@ abbrev pub IsShorter : Tokens → Tokens → Type 0
 IsShorter rest ts = length rest < length ts
 
 pub column_shorter : {c : ColumnRef} {ts rest : Tokens} → IsColumn c ts rest → IsShorter rest ts
-column_shorter unqualified = omega arith
-column_shorter qualified = omega arith
+column_shorter a = grind arith
 
 mutual
   pub expr_shorter : {e : Expression} {ts rest : Tokens} → IsExpr e ts rest → IsShorter rest ts
@@ -27,9 +26,8 @@ mutual
   factor_shorter (enclosed e) = omega (arith, expr_shorter e)
 
 pub agg_shorter : {c : CallTree} {ts rest : Tokens} → IsAgg c ts rest → IsShorter rest ts
-agg_shorter (count_rows h) = omega arith
-agg_shorter (count_star h) = omega arith
 agg_shorter (call_over h k e) = omega (arith, expr_shorter e)
+agg_shorter _ = omega arith
 
 -- the operands of a clause's conditions
 abbrev pub operands_in : Clause → Side → Tokens → Tokens → Type 0
@@ -39,12 +37,9 @@ operands_in clause.OfGroups s ts rest = IsGroupOperand s ts rest
 pub operand_shorter : (k : Clause) (s : Side) (ts rest : Tokens) → operands_in k s ts rest
     → IsShorter rest ts
 operand_shorter clause.OfRows s ts rest (an_expr e) = expr_shorter e
-operand_shorter clause.OfRows s ts rest a_string = omega arith
 operand_shorter clause.OfGroups s ts rest (a_key c) = column_shorter c
 operand_shorter clause.OfGroups s ts rest (a_call c) = agg_shorter c
-operand_shorter clause.OfGroups s ts rest a_constant = omega arith
-operand_shorter clause.OfGroups s ts rest a_negative = omega arith
-operand_shorter clause.OfGroups s ts rest a_text = omega arith
+operand_shorter _ s ts rest _ = omega arith
 
 module _ (k : Clause) where
   mutual
@@ -77,28 +72,22 @@ what_shorter (an_expression e) = expr_shorter e
 what_shorter (an_agg c) = agg_shorter c
 
 pub item_shorter : {i : ItemTree} {ts rest : Tokens} → IsItem i ts rest → IsShorter rest ts
-item_shorter (unnamed w) = what_shorter w
-item_shorter (named w) = omega (arith, what_shorter w)
+item_shorter a = grind (arith, what_shorter)
 
 pub selection_shorter : {s : Selection} {ts rest : Tokens} → IsSelection s ts rest
     → IsShorter rest ts
-selection_shorter all_columns = omega arith
-selection_shorter (some_items is) = list_shorter IsItem _ (λ x ts rest i. item_shorter i) is
+selection_shorter a = grind (arith, list_shorter, item_shorter)
 
 pub table_shorter : {t : TableRef} {ts rest : Tokens} → IsTable t ts rest → IsShorter rest ts
-table_shorter named_table = omega arith
-table_shorter numbers_table = omega arith
+table_shorter a = grind arith
 
 pub pair_shorter : {p : NamePair} {ts rest : Tokens} → IsPair p ts rest → IsShorter rest ts
 pair_shorter (equal_columns a b) = omega (arith, column_shorter a, column_shorter b)
 
 pub joined_shorter : {j : Join} {ts rest : Tokens} → IsJoined j ts rest → IsShorter rest ts
 joined_shorter (table_on t ps) =
-    let pairs = list_shorter IsPair _ (λ x ts rest p. pair_shorter p) ps in
-    omega (arith, table_shorter t, pairs)
+    omega (arith, table_shorter t, list_shorter IsPair _ (λ x ts rest p. pair_shorter p) ps)
 
 pub order_key_shorter : {k : OrderKey} {ts rest : Tokens} → IsOrderKey k ts rest
     → IsShorter rest ts
-order_key_shorter unstated = omega arith
-order_key_shorter ascending = omega arith
-order_key_shorter descending = omega arith
+order_key_shorter a = grind arith

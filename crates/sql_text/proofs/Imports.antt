@@ -27,13 +27,13 @@ pub use Rattle.sql_grammar.specs.declared.TextPlace.TheVariants.{Middle}
 pub use Rattle.sql_grammar.specs.declared.Token.{Token}
 pub use Rattle.sql_text.specs.Answers.{Fails}
 pub use Rattle.sql_text.specs.Parts.{Parsed, Reading, Reads, aggregate, calculated, call_at, call_or_column, called, closed_at, column_at, combined, condition_of, count_at, dotted, expression, first_keyword, first_part, first_sign, if_both, if_level, joined_at, joint_of, keyword_joint, level, negation_at, negative_at, next_joint, over, parsed, plain_of, side_of, sign_joint, string, truth, turn_of, word_at}
-pub use Rattle.sql_text.specs.Queries.{after_equal, alias_at, behind, call_front, clause_at, column_ref_at, columns_at, condition_at, count_behind, direction_at, from_at, is_end, item_at, item_of, items_at, join_at, joined_table_at, keys_at, limit_at, list_behind, on_at, order_at, order_key_at, order_keys_at, pair_at, pair_behind, pair_with, pairs_at, plain_what, query_at, selection_at, some_join, table_at, table_named, what_at, what_by, with_alias}
+pub use Rattle.sql_text.specs.Queries.{Ending, after_equal, alias_at, behind, call_front, clause_at, column_ref_at, columns_at, condition_at, count_behind, direction_at, ending_at, from_at, is_end, item_at, item_of, items_at, join_at, joined_table_at, keys_at, limit_at, list_behind, on_at, order_at, order_key_at, order_keys_at, pair_at, pair_behind, pair_with, pairs_at, plain_what, query_at, query_of, selection_at, some_join, span_at_end, table_at, table_named, what_at, what_by, with_alias}
 pub use Rattle.sql_text.specs.Refusals.{IsReadFrom, IsRefused, early_refusal, refusal_of, refusal_of_tokens, token_refusal}
 pub use Rattle.sql_text.specs.declared.limits.ParseRefusal.{ParseRefusal}
 pub use Rattle.sql_text.specs.declared.lists.Separator.{Separator}
 pub use Rattle.sql_text.specs.declared.part.Clause.{Clause}
-pub use Rattle.sql_text.specs.declared.part.Joint.{Joint}
-pub use Rattle.sql_text.specs.declared.stop.Stop.{Stop}
+pub use Rattle.sql_text.specs.declared.part.BinaryOperator.{BinaryOperator}
+pub use Rattle.sql_text.specs.declared.parse_error.ParseError.{ParseError}
 pub use Rattle.std.proofs.Common.{Bool, IfSome, List, None, Option, Some, [], add-one, ap, append_assoc, arith, cond, drop, false, flat_map, get_or, inl, inr, length, map, nat_le, option_and_then, option_map, refl, rules, subst, suc, sym, take, true, zero, ℕ, ◌*◌, ◌++◌, ◌+◌, ◌-◌, ◌<◌, ◌∙◌, ◌∷◌, ◌≡◌, ◌≤◌}
 pub use Rattle.std.proofs.Math.Seq.{drop-cons}
 pub use Rattle.std.proofs.lemmas.List.{append-nil, drop_all}

@@ -1,15 +1,9 @@
 -- One turn of the reading of a list.
-use Rattle.sql_text.proofs.Imports.{◌≡◌, ℕ, suc, ◌<◌, List, [], ◌∷◌, ◌++◌, Some, None, option_map, ◌∙◌, refl, append_assoc, Token, Stop, Fails, Reading, behind, list_at, Separator}
-use Rattle.sql_text.proofs.Turns.{fault_goes, some_turns}
+use Rattle.sql_text.proofs.Imports.{◌≡◌, ℕ, suc, ◌<◌, List, [], ◌∷◌, ◌++◌, Some, None, option_map, ◌∙◌, refl, append_assoc, Token, ParseError, Fails, Reading, behind, list_at, Separator, arith}
+use Rattle.sql_text.proofs.Turns.{some_turns}
 
 abbrev with_front : {X : Type 0} → List X → Reading (List X) → Reading (List X)
 with_front front read = option_map (λ xs. (front ++ xs.0, xs.1)) read
-
-one_before : {X : Type 0} (front : List X) (x : X) (read : Reading (List X))
-    → with_front front (option_map (λ xs. (x ∷ xs.0, xs.1)) read)
-    ≡ with_front (front ++ x ∷ []) read
-one_before front x None = refl
-one_before front x (Some r) = rw append_assoc refl
 
 -- The reading is the one that goes on behind the elements before, at ts, with so many turns.
 pub record IsAt {X : Type 0} (read : List Token → Reading X)
@@ -23,19 +17,16 @@ module _ {X : Type 0} {read : List Token → Reading X} {s : Separator}
   pub at_next : {m : ℕ} → n ≡ suc m → (x : X) (mid after : List Token) → read ts ≡ Some (x, mid)
       → behind s mid ≡ Some after → IsAt read s reading (front ++ x ∷ []) m after
   unfolding list_at
-  at_next {m = m} is x mid after found more = record {
-    same = at.same ∙ rw (is, found, more) (one_before front x (list_at read s m after));
-  }
+  at_next {m = m} is x mid after found more = grind (arith, append_assoc)
 
   pub at_end : 0 < n → (x : X) (rest : List Token) → read ts ≡ Some (x, rest)
       → behind s rest ≡ None → reading ≡ Some (front ++ x ∷ [], rest)
   unfolding list_at
   at_end h x rest found none = at.same ∙ rw ((some_turns n h).1, found, none) refl
 
-  pub at_fault : 0 < n → (e : Stop) → Fails e (read ts) → Fails e reading
+  pub at_fault : 0 < n → (e : ParseError) → Fails e (read ts) → Fails e reading
   unfolding list_at
-  at_fault h e fails =
-      fault_goes e (read ts) reading fails (λ none. at.same ∙ rw ((some_turns n h).1, none) refl)
+  at_fault h e fails = grind arith
 
   pub no_turns : n ≡ 0 → reading ≡ None
   unfolding list_at

@@ -1,11 +1,10 @@
 -- What is spelled is read.
-use Rattle.sql_text.proofs.Imports.{◌≡◌, ℕ, suc, ◌≤◌, true, List, ◌∷◌, length, Some, None, option_and_then, option_map, refl, ap, ◌∙◌, arith, column, AggOp, ColumnRef, CompareOp, aggregate_of, has_argument, Expression, CallTree, Side, plain, text, call, Condition, compare, Tokens, IsColumn, unqualified, qualified, IsExpr, one_term, sum, difference, IsTerm, one_factor, product, IsFactor, a_column, a_number, negative, enclosed, IsAgg, count_rows, count_star, call_over as over, an_expr, a_string, a_key, a_call, a_constant, a_negative, a_text, IsComparison, equal, not_equal, less, less_equal, greater, greater_equal, IsCond, one_conj, disjunction, IsConj, one_neg, conjunction, IsNeg, negation, enclosed_cond, comparison, Sign, Clause, Parsed, expression, string, aggregate, truth, Reads, joint_of, if_level, next_joint, combined, side_of, dotted, closed_at, call_at, called, call_or_column, negation_at, first_part, part_at}
-use Rattle.query_model.specs.declared.query.AggOp.TheVariants as agg
+use Rattle.sql_text.proofs.Imports.{◌≡◌, ℕ, suc, ◌≤◌, true, List, ◌∷◌, length, Some, None, option_and_then, refl, ap, ◌∙◌, arith, column, AggOp, ColumnRef, CompareOp, aggregate_of, has_argument, Expression, CallTree, Side, plain, text, call, Condition, compare, Tokens, IsColumn, unqualified, IsExpr, one_term, sum, difference, IsTerm, one_factor, product, IsFactor, a_column, a_number, negative, enclosed, IsAgg, count_rows, count_star, call_over as over, an_expr, a_key, a_call, IsComparison, IsCond, one_conj, disjunction, IsConj, one_neg, conjunction, IsNeg, negation, enclosed_cond, comparison, Sign, Clause, Parsed, expression, string, aggregate, truth, Reads, joint_of, if_level, next_joint, combined, side_of, dotted, closed_at, call_at, called, negation_at, first_part, part_at}
 use Rattle.query_model.specs.declared.query.ArithOp.TheVariants as op
 use Rattle.sql_grammar.specs.declared.Token.TheVariants as token
 use Rattle.sql_grammar.specs.declared.Sign.TheVariants as sign
 use Rattle.sql_text.specs.declared.part.Clause.TheVariants as clause
-use Rattle.sql_text.specs.declared.part.Joint.TheVariants as joint
+use Rattle.sql_text.specs.declared.part.BinaryOperator.TheVariants as joint
 use Rattle.sql_text.specs.Parts.{call_over}
 use Rattle.sql_text.proofs.Behind.{operands_in, expr_shorter, term_shorter, factor_shorter, operand_shorter, cond_shorter, conj_shorter, neg_shorter}
 use Rattle.sql_text.proofs.Turns.{ends_name, if_level-none, loose, tighter, Goes, from_first, onward, deeper}
@@ -14,22 +13,17 @@ use Rattle.sql_text.proofs.Turns.{ends_name, if_level-none, loose, tighter, Goes
 
 pub dotted_found : (name : List ℕ) (ts : Tokens) → ends_name ts ≡ true
     → dotted name ts ≡ (record { table = None; name = name }, ts)
-dotted_found name (token.Sign sign.Dot ∷ ts) h = cc
-dotted_found name _ h = refl
+dotted_found name ts h = grind arith
 
 -- nothing is called where no parenthesis stands behind the word
 pub nothing_called : (w : List ℕ) (ts : Tokens) → ends_name ts ≡ true → called w ts ≡ None
-nothing_called w (token.Sign sign.Open ∷ ts) h = cc
-nothing_called w _ h = refl
+nothing_called w ts h = grind arith
 
 column_found : (k : Clause) (n : ℕ) {c : ColumnRef} {ts rest : Tokens} → IsColumn c ts rest
     → ends_name rest ≡ true → first_part k (part_at n) ts ≡ Some (expression (column c), rest)
-column_found clause.OfRows n (unqualified {name = name} {rest = rest}) h =
-    rw (dotted_found name rest h) refl
-column_found clause.OfGroups n (unqualified {name = name} {rest = rest}) h =
-    rw (nothing_called name rest h, dotted_found name rest h) refl
-column_found clause.OfRows n qualified h = refl
-column_found clause.OfGroups n qualified h = refl
+column_found k n (unqualified {name = name} {rest = rest}) h =
+    grind (arith, dotted_found, nothing_called)
+column_found k n a h = grind (arith, dotted_found, nothing_called)
 
 -- what stands in parentheses
 inside_found : (k : Clause) (n : ℕ) (v : Parsed) (ts rest : Tokens) → part_at n k 1 ts ≡ Some (
@@ -39,7 +33,8 @@ inside_found : (k : Clause) (n : ℕ) (v : Parsed) (ts rest : Tokens) → part_a
     → first_part k (part_at n) (token.Sign sign.Open ∷ ts) ≡ Some (v, rest)
 inside_found k n v ts rest read close = ap (option_and_then (λ p. closed_at k p.0 p.1)) read ∙ close
 
--- What is spelled so is read at each level up to top, where no joint of bar or above follows.
+-- What is spelled so is read at each level up to top, where no binary operator of bar or above
+-- follows.
 abbrev pub ReadsAs : Clause → ℕ → ℕ → Parsed → Tokens → Tokens → Type 0
 ReadsAs k top bar v ts rest = (n least : ℕ) → least ≤ top → ends_name rest ≡ true
     → next_joint bar rest ≡ None → length ts ≤ suc n → Goes k n least v ts rest
@@ -90,32 +85,12 @@ pub record Calls (n : ℕ) (c : CallTree) (ts rest : Tokens) : Type 0 where
 
 over_read : (inner : Reads) (op : AggOp) (ts : Tokens) → has_argument op ≡ true
     → call_at inner op ts ≡ call_over op (inner clause.OfRows 5 ts)
-over_read inner agg.Count ts h = absurd cc
-over_read inner agg.Sum ts h = refl
-over_read inner agg.Min ts h = refl
-over_read inner agg.Max ts h = refl
+over_read inner op ts h = grind arith
 
 pub agg_found : {c : CallTree} {ts rest : Tokens} → IsAgg c ts rest → (n : ℕ) → length ts ≤ suc n
     → Calls n c ts rest
-agg_found (count_rows {w = w} {rest = rest} h) n l =
-    record {
-      word = w;
-      op = agg.Count;
-      inside = token.Sign sign.Close ∷ rest;
-      front = refl;
-      known =
-          h;
-      read = refl;
-    }
-agg_found (count_star {w = w} {rest = rest} h) n l =
-    record {
-      word = w;
-      op = agg.Count;
-      inside = token.Sign sign.Star ∷ token.Sign sign.Close ∷ rest;
-      front = refl;
-      known = h;
-      read = refl;
-    }
+agg_found (count_rows {w = w} {rest = rest} h) n l = grind arith
+agg_found (count_star {w = w} {rest = rest} h) n l = grind arith
 agg_found (over {w = w} {op = op} {e = e} {ts = ts} {rest = rest} h k is) n l = record {
   word = w;
   op = op;
@@ -129,11 +104,7 @@ agg_found (over {w = w} {op = op} {e = e} {ts = ts} {rest = rest} h k is) n l = 
 -- a call is read as one in HAVING
 call_found : (n : ℕ) (c : CallTree) (ts rest : Tokens) → Calls n c ts rest
     → first_part clause.OfGroups (part_at n) ts ≡ Some (aggregate c, rest)
-call_found n c ts rest it =
-    ap (first_part clause.OfGroups (part_at n)) it.front
-    ∙ ap (λ o. call_or_column (part_at n) it.word (token.Sign sign.Open ∷ it.inside)
-    (option_map (λ op. (op, it.inside)) o)) it.known
-    ∙ ap (option_map (λ r. (aggregate r.0, r.1))) it.read
+call_found n c ts rest it = grind arith
 
 -- ---- conditions
 
@@ -143,33 +114,23 @@ of_side (text t) = string t
 of_side (call c) = aggregate c
 
 of_operand : (s : Side) → side_of (of_side s) ≡ Some s
-of_operand (plain e) = refl
-of_operand (text t) = refl
-of_operand (call c) = refl
+of_operand s = grind arith
 
 operand_found : (c : Clause) (s : Side) (ts rest : Tokens) → operands_in c s ts rest
     → ReadsAs c 5 6 (of_side s) ts rest
 operand_found clause.OfRows s ts rest (an_expr e) n least k h none l =
     expr_found e n least k h none l
-operand_found clause.OfRows s ts rest a_string n least k h none l = from_first refl
 operand_found clause.OfGroups s ts rest (a_key c) n least k h none l =
     from_first (column_found clause.OfGroups n c h)
 operand_found clause.OfGroups s ts rest (a_call c) n least k h none l =
     from_first (call_found n _ _ _ (agg_found c n l))
-operand_found clause.OfGroups s ts rest a_constant n least k h none l = from_first refl
-operand_found clause.OfGroups s ts rest a_negative n least k h none l = from_first refl
-operand_found clause.OfGroups s ts rest a_text n least k h none l = from_first refl
+operand_found _ s ts rest _ n least k h none l = from_first refl
 
--- the joint of a comparison, behind which a name may stand
+-- the binary operator of a comparison, behind which a name may stand
 comparison_joint : {o : CompareOp} {s : Sign} → IsComparison o s
     → (joint_of (token.Sign s) ≡ Some (joint.Compare o))
     × ((ts : Tokens) → ends_name (token.Sign s ∷ ts) ≡ true)
-comparison_joint equal = (refl, λ ts. refl)
-comparison_joint not_equal = (refl, λ ts. refl)
-comparison_joint less = (refl, λ ts. refl)
-comparison_joint less_equal = (refl, λ ts. refl)
-comparison_joint greater = (refl, λ ts. refl)
-comparison_joint greater_equal = (refl, λ ts. refl)
+comparison_joint a = grind arith
 
 compared : (c : Clause) (o : CompareOp) (a b : Side)
     → combined c (joint.Compare o) (of_side a) (of_side b) ≡ Some (truth (compare o a b))

@@ -1,12 +1,12 @@
 -- What is read is spelled so.
-use Rattle.sql_text.proofs.Imports.{◌≡◌, ℕ, zero, suc, ◌≤◌, Bool, true, false, cond, nat_le, List, [], ◌∷◌, length, Option, Some, None, option_and_then, option_map, IfSome, refl, sym, ap, subst, ◌∙◌, arith, same_Some, number, AggOp, ArithOp, CompareOp, aggregate_of, has_argument, Expression, CallTree, Side, plain, text, Condition, compare, both, Tokens, IsColumn, unqualified, qualified, IsExpr, one_term, sum, difference, IsTerm, one_factor, product, IsFactor, a_column, a_number, negative, enclosed, IsAgg, count_rows, count_star, call_over as called_over, IsOperand, an_expr, a_string, IsGroupOperand, a_key, a_call, a_constant, a_negative, a_text, IsComparison, equal, not_equal, less, less_equal, greater, greater_equal, IsCond, one_conj, disjunction, IsConj, one_neg, conjunction, IsNeg, negation, enclosed_cond, comparison, Token, Keyword, Sign, Joint, Clause, Parsed, expression, string, aggregate, truth, Reading, Reads, sign_joint, keyword_joint, joint_of, level, if_level, next_joint, if_both, calculated, combined, side_of, plain_of, dotted, column_at, negative_at, closed_at, count_at, over, call_at, called, call_or_column, word_at, negation_at, first_sign, first_keyword, first_part, turn_of, joined_at, joined, part_at}
+use Rattle.sql_text.proofs.Imports.{◌≡◌, ℕ, zero, suc, ◌≤◌, true, false, List, ◌∷◌, length, Option, Some, None, option_and_then, option_map, IfSome, refl, sym, subst, arith, number, AggOp, ArithOp, CompareOp, aggregate_of, has_argument, Expression, CallTree, Side, plain, text, Condition, compare, both, Tokens, IsColumn, unqualified, qualified, IsExpr, one_term, sum, difference, IsTerm, one_factor, product, IsFactor, a_column, a_number, negative, enclosed, IsAgg, count_rows, count_star, call_over as called_over, an_expr, a_string, IsGroupOperand, a_key, a_call, a_constant, a_negative, a_text, IsComparison, equal, not_equal, less, less_equal, greater, greater_equal, IsCond, one_conj, disjunction, IsConj, one_neg, conjunction, IsNeg, negation, enclosed_cond, comparison, Token, Sign, BinaryOperator, Clause, Parsed, expression, string, aggregate, truth, Reading, Reads, sign_joint, joint_of, level, if_level, next_joint, if_both, calculated, combined, side_of, plain_of, dotted, column_at, negative_at, closed_at, count_at, over, call_at, called, call_or_column, word_at, negation_at, first_sign, first_part, turn_of, joined_at, joined, part_at}
 use Rattle.query_model.specs.Formulas.{arith as arithmetic}
 use Rattle.query_model.specs.declared.query.AggOp.TheVariants as agg
 use Rattle.query_model.specs.declared.query.ArithOp.TheVariants as op
 use Rattle.sql_grammar.specs.declared.Token.TheVariants as token
 use Rattle.sql_grammar.specs.declared.Keyword.TheVariants as keyword
 use Rattle.sql_grammar.specs.declared.Sign.TheVariants as sign
-use Rattle.sql_text.specs.declared.part.Joint.TheVariants as joint
+use Rattle.sql_text.specs.declared.part.BinaryOperator.TheVariants as joint
 use Rattle.sql_text.specs.declared.part.Clause.TheVariants as clause
 use Rattle.sql_text.specs.Parts.{call_over}
 use Rattle.sql_text.proofs.Turns.{level_below, loose, tighter}
@@ -14,13 +14,11 @@ use Rattle.sql_text.proofs.Behind.{operands_in}
 
 pub bind : {A B : Type 0} (P : A → Type 0) (Q : B → Type 0) (f : A → Option B) (o : Option A)
     → IfSome o P → ((x : A) → P x → IfSome (f x) Q) → IfSome (option_and_then f o) Q
-bind P Q f None h k = tt
-bind P Q f (Some x) h k = k x h
+bind P Q f o h k = grind arith
 
 pub map_some : {A B : Type 0} (P : A → Type 0) (Q : B → Type 0) (f : A → B) (o : Option A)
     → IfSome o P → ((x : A) → P x → Q (f x)) → IfSome (option_map f o) Q
-map_some P Q f None h k = tt
-map_some P Q f (Some x) h k = k x h
+map_some P Q f o h k = grind arith
 
 -- ---- parts by how tightly they hold together
 
@@ -44,7 +42,7 @@ abbrev pub AsCall : Clause → CallTree → Tokens → Tokens → Type 0
 AsCall clause.OfRows c ts rest = ⊥
 AsCall clause.OfGroups c ts rest = IsAgg c ts rest
 
--- a part that may stand beside a joint of a lower level
+-- a part that may stand beside a binary operator of a lower level
 abbrev pub IsPart : Clause → ℕ → Parsed → Tokens → Tokens → Type 0
 IsPart k tight (expression e) ts rest = AsPlain k tight e ts rest
 IsPart k tight (string t) ts rest = ts ≡ token.Text t ∷ rest
@@ -53,19 +51,7 @@ IsPart k tight (truth c) ts rest = AsCond k tight c ts rest
 
 lower : (k : Clause) (p q : ℕ) (v : Parsed) (ts rest : Tokens) → p ≤ q → IsPart k q v ts rest
     → IsPart k p v ts rest
-lower clause.OfRows p q (expression e) ts rest h is = record {
-  expr = is.expr;
-  term = λ i. is.term (omega arith);
-  factor = λ i. is.factor (omega arith);
-}
-lower clause.OfGroups p q (expression e) ts rest h is = is
-lower k p q (string t) ts rest h is = is
-lower k p q (aggregate c) ts rest h is = is
-lower k p q (truth c) ts rest h is = record {
-  cond' = is.cond';
-  conj = λ i. is.conj (omega arith);
-  neg = λ i. is.neg (omega arith);
-}
+lower k p q v ts rest h is = grind arith
 
 pub a_factor : (tight : ℕ) {e : Expression} {ts rest : Tokens} → IsFactor e ts rest
     → AsExpr tight e ts rest
@@ -76,7 +62,7 @@ pub a_neg : (k : Clause) (tight : ℕ) {c : Condition} {ts rest : Tokens}
     → IsNeg (operands_in k) c ts rest → AsCond k tight c ts rest
 a_neg k tight n = record { cond' = one_conj (one_neg n); conj = λ i. one_neg n; neg = λ i. n }
 
--- A part, behind which no joint binds so tightly.
+-- A part, behind which no binary operator binds so tightly.
 pub record Found (k : Clause) (least : ℕ) (v : Parsed) (ts rest : Tokens) : Type 0 where
   pub is : IsPart k least v ts rest
   pub none : next_joint least rest ≡ None
@@ -89,15 +75,12 @@ AreSpelled inner = (k : Clause) (least : ℕ) (ts : Tokens) → least ≤ 7
 
 count_spelled : (w : List ℕ) (ts : Tokens) → aggregate_of w ≡ Some agg.Count
     → IfSome (count_at ts) (λ r. IsAgg r.0 (token.Name w ∷ token.Sign sign.Open ∷ ts) r.1)
-count_spelled w (token.Sign sign.Close ∷ ts) h = count_rows h
-count_spelled w (token.Sign sign.Star ∷ token.Sign sign.Close ∷ ts) h = count_star h
-count_spelled w _ h = tt
+count_spelled w ts h = grind (arith, count_rows, count_star)
 
 over_spelled : (w : List ℕ) (op : AggOp) (v : Parsed) (ts mid : Tokens) → aggregate_of w ≡ Some op
     → has_argument op ≡ true → IsPart clause.OfRows 5 v ts mid → IfSome (option_and_then (λ e. over
     op e mid) (plain_of v)) (λ r. IsAgg r.0 (token.Name w ∷ token.Sign sign.Open ∷ ts) r.1)
-over_spelled w op (expression e) ts (token.Sign sign.Close ∷ rest) h k is = called_over h k is.expr
-over_spelled w op _ ts _ h k is = tt
+over_spelled w op v ts mid h k is = grind (arith, called_over)
 
 read_over_spelled : (inner : Reads) → AreSpelled inner → (w : List ℕ) (op : AggOp) (ts : Tokens)
     → aggregate_of w ≡ Some op → has_argument op ≡ true → IfSome (call_over op
@@ -109,26 +92,12 @@ read_over_spelled inner h w op ts known has =
 pub call_spelled : (inner : Reads) → AreSpelled inner → (w : List ℕ) (op : AggOp) (ts : Tokens)
     → aggregate_of w ≡ Some op
     → IfSome (call_at inner op ts) (λ r. IsAgg r.0 (token.Name w ∷ token.Sign sign.Open ∷ ts) r.1)
-call_spelled inner h w agg.Count ts known = count_spelled w ts known
-call_spelled inner h w agg.Sum ts known = read_over_spelled inner h w agg.Sum ts known refl
-call_spelled inner h w agg.Min ts known = read_over_spelled inner h w agg.Min ts known refl
-call_spelled inner h w agg.Max ts known = read_over_spelled inner h w agg.Max ts known refl
+call_spelled inner h w op ts known = grind (arith, count_spelled, read_over_spelled)
 
 -- what is called stands behind a parenthesis
 pub called_is : (w : List ℕ) (ts : Tokens) (c : AggOp × Tokens) → called w ts ≡ Some c
     → (ts ≡ token.Sign sign.Open ∷ c.1) × (aggregate_of w ≡ Some c.0)
-called_is w (token.Sign sign.Open ∷ ts) c e = go (aggregate_of w) refl e
-  where
-    go : (o : Option AggOp) → aggregate_of w ≡ o → option_map (λ op. (op, ts)) o ≡ Some c
-        → (token.Sign sign.Open ∷ ts ≡ token.Sign sign.Open ∷ c.1) × (aggregate_of w ≡ Some c.0)
-    go None k m = absurd cc
-    go (Some op) k m =
-        let same : (op, ts) ≡ c = same_Some (op, ts) c m in (
-          ap (λ (p : AggOp × Tokens). token.Sign sign.Open ∷ p.1) same,
-          k
-              ∙ ap (λ (p : AggOp × Tokens). Some p.0) same,
-        )
-called_is w _ c e = absurd cc
+called_is w x1 c e = grind arith
 
 -- a call that is found at a word
 pub word_called : (inner : Reads) → AreSpelled inner
@@ -143,8 +112,7 @@ word_called inner h w ts c e =
 
 pub dotted_spelled : (name : List ℕ) (ts : Tokens)
     → IsColumn (dotted name ts).0 (token.Name name ∷ ts) (dotted name ts).1
-dotted_spelled name (token.Sign sign.Dot ∷ token.Name c ∷ ts) = qualified
-dotted_spelled name _ = unqualified
+dotted_spelled name ts = grind (arith, qualified, unqualified)
 
 column_spelled : (k : Clause) (w : List ℕ) (ts : Tokens)
     → IsPart k 7 (column_at w ts).0 (token.Name w ∷ ts) (column_at w ts).1
@@ -160,8 +128,7 @@ word_spelled clause.OfGroups inner h w ts = go (called w ts) refl
         → IfSome (call_or_column inner w ts o)
         (λ r. IsPart clause.OfGroups 7 r.0 (token.Name w ∷ ts) r.1)
     go None e = column_spelled clause.OfGroups w ts
-    go (Some c) e =
-        map_some _ _ _ (call_at inner c.0 c.1) (word_called inner h w ts c e) (λ r is. is)
+    go (Some c) e = grind (arith, map_some, word_called inner h w ts c e)
 
 number_spelled : (k : Clause) (n : ℕ) (ts : Tokens) → IsPart k 7
     (expression (number (record { negative = false; size = n }))) (token.Number n ∷ ts) ts
@@ -171,8 +138,7 @@ number_spelled clause.OfGroups n ts = a_constant
 negative_spelled : (k : Clause) (ts : Tokens)
     → IfSome (negative_at ts) (λ r. IsPart k 7 r.0 (token.Sign sign.Minus ∷ ts) r.1)
 negative_spelled clause.OfRows (token.Number n ∷ ts) = a_factor 7 negative
-negative_spelled clause.OfGroups (token.Number n ∷ ts) = a_negative
-negative_spelled k _ = tt
+negative_spelled k a = grind (arith, a_factor, negative, a_negative)
 
 closed_spelled : (k : Clause) (v : Parsed) (ts mid : Tokens) → IsPart k 1 v ts mid
     → IfSome (closed_at k v mid) (λ r. IsPart k 7 r.0 (token.Sign sign.Open ∷ ts) r.1)
@@ -188,33 +154,17 @@ negation_spelled k _ ts rest is = tt
 
 sign_spelled : (k : Clause) (inner : Reads) → AreSpelled inner → (s : Sign) (ts : Tokens)
     → IfSome (first_sign k inner s ts) (λ r. IsPart k 7 r.0 (token.Sign s ∷ ts) r.1)
-sign_spelled k inner h sign.Open ts =
-    bind _ _ _ (inner k 1 ts) (h k 1 ts (omega arith))
-    (λ p found. closed_spelled k p.0 ts p.1 found.is)
-sign_spelled k inner h sign.Minus ts = negative_spelled k ts
-sign_spelled k inner h _ ts = tt
-
-keyword_spelled : (k : Clause) (inner : Reads) → AreSpelled inner → (w : Keyword) (ts : Tokens)
-    → IfSome (first_keyword k inner w ts) (λ r. IsPart k 7 r.0 (token.Keyword w ∷ ts) r.1)
-keyword_spelled k inner h keyword.Not ts =
-    bind _ _ _ (inner k 4 ts) (h k 4 ts (omega arith))
-    (λ p found. negation_spelled k p.0 ts p.1 found.is)
-keyword_spelled k inner h _ ts = tt
+sign_spelled k inner h s ts = grind (arith, bind, closed_spelled, negative_spelled)
 
 first_spelled : (k : Clause) (inner : Reads) → AreSpelled inner → (ts : Tokens)
     → IfSome (first_part k inner ts) (λ r. IsPart k 7 r.0 ts r.1)
-first_spelled k inner h [] = tt
-first_spelled k inner h (token.Name w ∷ ts) = word_spelled k inner h w ts
-first_spelled k inner h (token.Keyword w ∷ ts) = keyword_spelled k inner h w ts
-first_spelled k inner h (token.Number n ∷ ts) = number_spelled k n ts
-first_spelled k inner h (token.LargeNumber ∷ ts) = tt
-first_spelled k inner h (token.Text t ∷ ts) = refl
-first_spelled k inner h (token.Sign s ∷ ts) = sign_spelled k inner h s ts
+first_spelled k inner h ts =
+    grind (arith, word_spelled, number_spelled, sign_spelled, bind, negation_spelled)
 
--- ---- parts with their joints
+-- ---- parts with their binary operators
 
--- the token of a joint
-abbrev IsJoint : Joint → Token → Type 0
+-- the token of a binary operator
+abbrev IsJoint : BinaryOperator → Token → Type 0
 IsJoint (joint.Arith op.Add) t = t ≡ token.Sign sign.Plus
 IsJoint (joint.Arith op.Sub) t = t ≡ token.Sign sign.Minus
 IsJoint (joint.Arith op.Mul) t = t ≡ token.Sign sign.Star
@@ -223,130 +173,66 @@ IsJoint joint.And t = t ≡ token.Keyword keyword.And
 IsJoint joint.Or t = t ≡ token.Keyword keyword.Or
 
 sign_is : (s : Sign) → IfSome (sign_joint s) (λ j. IsJoint j (token.Sign s))
-sign_is sign.Plus = refl
-sign_is sign.Minus = refl
-sign_is sign.Star = refl
-sign_is sign.Equal = (sign.Equal, refl, equal)
-sign_is sign.NotEqual = (sign.NotEqual, refl, not_equal)
-sign_is sign.Less = (sign.Less, refl, less)
-sign_is sign.LessEqual = (sign.LessEqual, refl, less_equal)
-sign_is sign.Greater = (sign.Greater, refl, greater)
-sign_is sign.GreaterEqual = (sign.GreaterEqual, refl, greater_equal)
-sign_is _ = tt
-
-keyword_is : (k : Keyword) → IfSome (keyword_joint k) (λ j. IsJoint j (token.Keyword k))
-keyword_is keyword.And = refl
-keyword_is keyword.Or = refl
-keyword_is _ = tt
+sign_is s = grind (arith, equal, not_equal, less, less_equal, greater, greater_equal)
 
 token_is : (t : Token) → IfSome (joint_of t) (λ j. IsJoint j t)
-token_is (token.Keyword k) = keyword_is k
-token_is (token.Sign s) = sign_is s
-token_is _ = tt
+token_is t = grind (arith, sign_is)
 
--- the joint at the front, where none binds more tightly than bound
-record Joins (least bound : ℕ) (ts mid : Tokens) (j : Joint) : Type 0 where
+-- the binary operator at the front, where none binds more tightly than bound
+record Joins (least bound : ℕ) (ts mid : Tokens) (j : BinaryOperator) : Type 0 where
   token : Token
   front : ts ≡ token ∷ mid
   is : IsJoint j token
   low : least ≤ level j
   high : level j ≤ bound
 
-high_level : (bound : ℕ) (ts : Tokens) (j : Joint) → if_level (suc bound) ts (Some j) ≡ None
-    → level j ≤ bound
+high_level : (bound : ℕ) (ts : Tokens) (j : BinaryOperator)
+    → if_level (suc bound) ts (Some j) ≡ None → level j ≤ bound
 high_level bound ts j none = grind arith
 
-joins_by : (least bound : ℕ) (t : Token) (ts : Tokens) (j : Joint) → IsJoint j t → level j ≤ bound
-    → (b : Bool) → nat_le least (level j) ≡ b → IfSome {T = Joint × Tokens}
-    (cond b (Some (j, ts)) None) (λ n. Joins least bound (t ∷ ts) n.1 n.0)
-joins_by least bound t ts j is high true e =
-    record { token = t; front = refl; is = is; low = grind arith; high = high }
-joins_by least bound t ts j is high false e = tt
-
-if_level-joins : (least bound : ℕ) (t : Token) (ts : Tokens) (o : Option Joint)
+if_level-joins : (least bound : ℕ) (t : Token) (ts : Tokens) (o : Option BinaryOperator)
     → IfSome o (λ j. IsJoint j t) → if_level (suc bound) ts o ≡ None
     → IfSome (if_level least ts o) (λ n. Joins least bound (t ∷ ts) n.1 n.0)
-if_level-joins least bound t ts None is none = tt
-if_level-joins least bound t ts (Some j) is none =
-    joins_by least bound t ts j is (high_level bound ts j none) (nat_le least (level j)) refl
+if_level-joins least bound t ts o is none = grind (arith, high_level)
 
 next_joins : (least bound : ℕ) (ts : Tokens) → next_joint (suc bound) ts ≡ None
     → IfSome (next_joint least ts) (λ n. Joins least bound ts n.1 n.0)
-next_joins least bound [] none = tt
-next_joins least bound (t ∷ ts) none =
-    if_level-joins least bound t ts (joint_of t) (token_is t) none
+next_joins least bound ts none = grind (arith, if_level-joins, token_is, joint_of)
 
 -- arithmetic of two expressions, which HAVING hasn't
 arith_spelled : (k : Clause) (o : ArithOp) (bound : ℕ) (v w : Parsed) (ts mid rest : Tokens)
     (t : Token) → IsJoint (joint.Arith o) t → level (joint.Arith o) ≤ bound
     → IsPart k bound v ts (t ∷ mid) → IsPart k (suc (level (joint.Arith o))) w mid rest
     → IfSome (calculated k o v w) (λ u. IsPart k (level (joint.Arith o)) u ts rest)
-arith_spelled clause.OfRows op.Add bound (expression a) (expression b) ts mid rest t is h l r =
-    record {
-      expr = sum (subst (λ (x : Token). IsExpr a ts (x ∷ mid)) is l.expr) (r.term
-          (omega arith));
-      term = λ k. absurd (omega arith);
-      factor = λ k. absurd (omega arith);
-    }
-arith_spelled clause.OfRows op.Sub bound (expression a) (expression b) ts mid rest t is h l r =
-    record {
-      expr = difference (subst (λ (x : Token). IsExpr a ts (x ∷ mid)) is l.expr) (r.term
-          (omega arith));
-      term = λ k. absurd (omega arith);
-      factor = λ k. absurd (omega arith);
-    }
-arith_spelled clause.OfRows op.Mul bound (expression a) (expression b) ts mid rest t is h l r =
-    let p : IsTerm (arithmetic op.Mul a b) ts rest = product (subst (λ (x : Token). IsTerm a ts
-    (x ∷ mid)) is (l.term (omega arith))) (r.factor (omega arith)) in
-    record { expr = one_term p; term = λ k. p; factor = λ k. absurd (omega arith) }
-arith_spelled _ o bound v w ts mid rest t is h l r = tt
+arith_spelled k o bound v w ts mid rest t is h l r =
+    grind (arith, sum, difference, arithmetic, product, one_term)
 
 -- a part that may be a side of a comparison
 as_operand : (k : Clause) (tight : ℕ) (v : Parsed) (ts rest : Tokens) → IsPart k tight v ts rest
     → IfSome (side_of v) (λ s. operands_in k s ts rest)
-as_operand clause.OfRows tight (expression e) ts rest is = an_expr is.expr
-as_operand clause.OfGroups tight (expression e) ts rest is = is
-as_operand clause.OfRows tight (string t) ts rest is =
-    subst (λ (x : Tokens). IsOperand (text t) x rest) (sym is) a_string
-as_operand clause.OfGroups tight (string t) ts rest is =
-    subst (λ (x : Tokens). IsGroupOperand (text t) x rest) (sym is) a_text
-as_operand clause.OfRows tight (aggregate c) ts rest is = absurd is
-as_operand clause.OfGroups tight (aggregate c) ts rest is = a_call is
-as_operand k tight (truth c) ts rest is = tt
+as_operand k tight v ts rest is = grind (arith, an_expr, text, a_string, a_text, a_call)
 
 module _ (k : Clause) where
   sides_compared : (o : CompareOp) (v w : Option Side) (ts mid rest : Tokens) (s : Sign)
       → IsComparison o s → IfSome v (λ a. operands_in k a ts (token.Sign s ∷ mid))
       → IfSome w (λ b. operands_in k b mid rest)
       → IfSome (if_both (λ l r. truth (compare o l r)) v w) (λ u. IsPart k 4 u ts rest)
-  sides_compared o None w ts mid rest s is l r = tt
-  sides_compared o (Some a) None ts mid rest s is l r = tt
   sides_compared o (Some a) (Some b) ts mid rest s is l r = a_neg k 4 (comparison l is r)
+  sides_compared o _ _ ts mid rest s is l r = tt
 
   and_spelled : (bound : ℕ) (v w : Parsed) (ts mid rest : Tokens) (t : Token)
       → t ≡ token.Keyword keyword.And → 2 ≤ bound → IsPart k bound v ts (t ∷ mid)
       → IsPart k 3 w mid rest → IfSome (combined k joint.And v w) (λ u. IsPart k 2 u ts rest)
-  and_spelled bound (truth a) (truth b) ts mid rest t is h l r =
-      let c : IsConj (operands_in k) (both a b) ts rest = conjunction (subst (λ (x : Token). IsConj
-      (operands_in k) a ts (x ∷ mid)) is (l.conj h)) (r.neg (omega arith)) in
-      record { cond' = one_conj c; conj = λ i. c; neg = λ i. absurd (omega arith) }
-  and_spelled bound _ _ ts mid rest t is h l r = tt
+  and_spelled bound v w ts mid rest t is h l r =
+      grind (arith, operands_in, both, conjunction, one_conj)
 
   or_spelled : (bound : ℕ) (v w : Parsed) (ts mid rest : Tokens) (t : Token)
       → t ≡ token.Keyword keyword.Or → IsPart k bound v ts (t ∷ mid) → IsPart k 2 w mid rest
       → IfSome (combined k joint.Or v w) (λ u. IsPart k 1 u ts rest)
-  or_spelled bound (truth a) (truth b) ts mid rest t is l r =
-      record {
-        cond' = disjunction (subst (λ (x : Token). IsCond (operands_in k) a ts (x ∷ mid)) is
-            l.cond') (r.conj (omega arith));
-        conj = λ i. absurd (omega arith);
-        neg =
-            λ i. absurd (omega arith);
-      }
-  or_spelled bound _ _ ts mid rest t is l r = tt
+  or_spelled bound v w ts mid rest t is l r = grind (arith, operands_in, disjunction)
 
-  combined_spelled : (j : Joint) (bound : ℕ) (v w : Parsed) (ts mid rest : Tokens) (t : Token)
-      → IsJoint j t → level j ≤ bound → IsPart k bound v ts (t ∷ mid) → IsPart k
+  combined_spelled : (j : BinaryOperator) (bound : ℕ) (v w : Parsed) (ts mid rest : Tokens)
+      (t : Token) → IsJoint j t → level j ≤ bound → IsPart k bound v ts (t ∷ mid) → IsPart k
       (suc (level j)) w mid rest → IfSome (combined k j v w) (λ u. IsPart k (level j) u ts rest)
   combined_spelled (joint.Arith o) bound v w ts mid rest t is h l r =
       arith_spelled k o bound v w ts mid rest t is h l r
@@ -360,7 +246,7 @@ module _ (k : Clause) where
   combined_spelled joint.Or bound v w ts mid rest t is h l r =
       or_spelled bound v w ts mid rest t is l r
 
--- a part with all that joints of its level join to it
+-- a part with all that binary operators of its level join to it
 record IsTurned (k : Clause) (tight : ℕ) (v : Parsed) (ts rest : Tokens) : Type 0 where
   is : IsPart k tight v ts rest
   none : next_joint (suc tight) rest ≡ None
@@ -371,7 +257,7 @@ GoOn k more least = (bound : ℕ) (v : Parsed) (ts mid : Tokens) → least ≤ b
     mid → next_joint (suc bound) mid ≡ None → IfSome (more v mid) (λ r. Found k least r.0 ts r.1)
 
 module _ (k : Clause) (right : Reads) (h : AreSpelled right) where
-  turn_spelled : (j : Joint) (bound : ℕ) (v : Parsed) (ts mid : Tokens) (t : Token)
+  turn_spelled : (j : BinaryOperator) (bound : ℕ) (v : Parsed) (ts mid : Tokens) (t : Token)
       → IsJoint j t → level j ≤ bound → IsPart k bound v ts (t ∷ mid)
       → IfSome (turn_of k right j v mid) (λ r. IsTurned k (level j) r.0 ts r.1)
   turn_spelled j bound v ts mid t is high left =
@@ -382,10 +268,10 @@ module _ (k : Clause) (right : Reads) (h : AreSpelled right) where
 
   joined_at-spelled : (more : Parsed → Tokens → Reading Parsed) (least : ℕ) → GoOn k more least
       → (bound : ℕ) (v : Parsed) (ts mid : Tokens) → least ≤ bound → IsPart k bound v ts mid
-      → (o : Option (Joint × Tokens)) → next_joint least mid ≡ o → IfSome o (λ n. Joins least bound
+      → (o : Option (BinaryOperator × Tokens)) → next_joint least mid ≡ o
+      → IfSome o (λ n. Joins least bound
       mid n.1 n.0) → IfSome (joined_at k right more v mid o) (λ r. Found k least r.0 ts r.1)
-  joined_at-spelled more least go bound v ts mid i is None e joins =
-      record { is = lower k least bound v ts mid i is; none = e }
+  joined_at-spelled more least go bound v ts mid i is None e joins = grind (arith, lower)
   joined_at-spelled more least go bound v ts mid i is (Some n) e joins =
       bind _ _ _ (turn_of k right n.0 v n.1)
       (turn_spelled n.0 bound v ts n.1 joins.token joins.is joins.high

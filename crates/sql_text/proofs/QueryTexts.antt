@@ -1,5 +1,5 @@
 -- A query is read exactly where one is spelled.
-use Rattle.sql_text.proofs.Imports.{◌≡◌, ℕ, zero, suc, ◌≤◌, Bool, true, false, cond, List, [], ◌∷◌, length, Option, Some, None, option_and_then, option_map, IfSome, refl, ap, subst, ◌∙◌, arith, codes, bytes_eq, IfSome_then, bytes_eq-Decides, AggOp, ColumnRef, Join, NamePair, OrderKey, Span, TableRef, Expression, CallTree, count_rows, count_star, call_over, Condition, ItemWhat, plain_item, call_item, ItemTree, Selection, listed, QueryTree, Tokens, IsExpr, IsColumn, unqualified, qualified, one_term, sum, difference, IsTerm, one_factor, product, IsFactor, a_column, a_number, negative, enclosed, IsAgg, IsCond, AreListed, last_one as the_last, one_more as and_more, IsWhat, an_expression, an_agg, IsItem, unnamed, named, IsSelection, all_columns, some_items, IsTable, named_table, numbers_table, IsPair, equal_columns, IsJoined, table_on, IsJoin, no_join, join_of as joined_with, inner_join, IsFilter, no_filter, filter_by, AreKeys, no_keys, keys_by, IsHaving, no_having, having_by, IsOrderKey, unstated, ascending, descending, IsOrder, no_order, order_by, IsLimit, no_limit, first_rows, rows_behind, source_of, shaping_of, IsQuery, select_query, IsText, bare, with_semicolon, Token, Separator, Clause, Parsed, expression, truth, Reading, next_joint, plain_of, condition_of, call_at, part_at, list_behind, list_at, behind, alias_at, call_front, plain_what, what_by, what_at, item_of, with_alias, item_at, items_at, selection_at, count_behind, table_named, table_at, from_at, column_ref_at, after_equal, pair_with, pair_behind, pair_at, pairs_at, on_at, joined_table_at, some_join, join_at, condition_at, clause_at, columns_at, keys_at, direction_at, order_key_at, order_keys_at, order_at, limit_at, is_end, query_at, same_Some}
+use Rattle.sql_text.proofs.Imports.{◌≡◌, ℕ, zero, suc, ◌≤◌, Bool, true, false, cond, List, [], ◌∷◌, length, Option, Some, None, option_and_then, option_map, IfSome, refl, ap, ◌∙◌, arith, codes, bytes_eq, IfSome_then, bytes_eq-Decides, AggOp, ColumnRef, Join, NamePair, OrderKey, Span, TableRef, Expression, CallTree, Condition, ItemWhat, plain_item, ItemTree, Selection, listed, QueryTree, Tokens, IsExpr, IsColumn, unqualified, qualified, one_term, sum, difference, IsTerm, one_factor, product, IsFactor, a_column, a_number, negative, enclosed, IsAgg, IsCond, AreListed, last_one as the_last, one_more as and_more, IsWhat, an_expression, an_agg, IsItem, unnamed, named, IsSelection, all_columns, some_items, IsTable, named_table, numbers_table, IsPair, equal_columns, IsJoined, table_on, IsJoin, no_join, join_of as joined_with, inner_join, IsFilter, no_filter, filter_by, AreKeys, no_keys, keys_by, IsHaving, no_having, having_by, IsOrderKey, unstated, ascending, descending, IsOrder, no_order, order_by, IsLimit, no_limit, first_rows, rows_behind, source_of, shaping_of, IsQuery, select_query, IsText, bare, with_semicolon, Token, Separator, Clause, Parsed, expression, Reading, next_joint, plain_of, condition_of, call_at, part_at, list_behind, list_at, behind, alias_at, call_front, plain_what, what_by, what_at, item_of, with_alias, item_at, items_at, selection_at, count_behind, table_named, table_at, from_at, column_ref_at, after_equal, pair_behind, pair_at, on_at, joined_table_at, some_join, join_at, condition_at, clause_at, columns_at, keys_at, direction_at, order_key_at, order_keys_at, order_at, limit_at, is_end, span_at_end, Ending, ending_at, query_of, query_at}
 use Rattle.query_model.specs.declared.query.TableRef.TheVariants as table
 use Rattle.sql_grammar.specs.declared.Token.TheVariants as token
 use Rattle.sql_grammar.specs.declared.Keyword.TheVariants as keyword
@@ -21,8 +21,7 @@ mark between.Comma = token.Sign sign.Comma
 mark between.And = token.Keyword keyword.And
 
 mark_behind : (s : Separator) (ts : Tokens) → behind s (mark s ∷ ts) ≡ Some ts
-mark_behind between.Comma ts = refl
-mark_behind between.And ts = refl
+mark_behind s ts = grind arith
 
 module _ {X : Type 0} (Is : X → Tokens → Tokens → Type 0) (s : Separator)
     (read : Tokens → Reading X) where
@@ -86,11 +85,7 @@ what_found (an_expression {e = e} {ts = ts} {rest = rest} is) n l ends none =
     ∙ ap (option_and_then (λ p. option_map (λ e. (plain_item e, p.1)) (plain_of p.0)))
     (plain_found n is l ends none)
 what_found (an_agg {c = c} {ts = ts} {rest = rest} is) n l ends none =
-    let call : Calls n c ts rest = agg_found is n (omega arith) in
-    ap (what_at n) call.front
-    ∙ ap (λ o. what_by n (token.Name call.word ∷ token.Sign sign.Open ∷ call.inside)
-    (option_map (λ op. (op, call.inside)) o)) call.known
-    ∙ ap (option_map (λ r. (call_item r.0, r.1))) call.read
+    grind (arith, Calls n c ts rest, agg_found is n (omega arith))
 
 -- what ends an item
 record EndsItem (rest : Tokens) : Type 0 where
@@ -100,8 +95,7 @@ record EndsItem (rest : Tokens) : Type 0 where
 
 item_from : (n : ℕ) (w : ItemWhat) (alias : Option (List ℕ)) (ts mid rest : Tokens) → what_at n ts ≡
     Some (w, mid) → alias_at mid ≡ Some (alias, rest) → item_at n ts ≡ Some (item_of w alias, rest)
-item_from n w alias ts mid rest read more =
-    ap (option_and_then (λ w. with_alias w.0 (alias_at w.1))) read ∙ ap (with_alias w) more
+item_from n w alias ts mid rest read more = grind arith
 
 item_found : (n : ℕ) {i : ItemTree} {ts rest : Tokens} → IsItem i ts rest → length ts ≤ n
     → EndsItem rest → item_at n ts ≡ Some (i, rest)
@@ -111,9 +105,7 @@ item_found n (named {w = w} {name = name} {ts = ts} {rest = rest} is) l ends =
     item_from n w (Some name) ts _ rest (what_found is n l refl refl) refl
 
 agg_no_star : {c : CallTree} {ts rest : Tokens} → IsAgg c ts rest → is_star ts ≡ false
-agg_no_star (count_rows h) = refl
-agg_no_star (count_star h) = refl
-agg_no_star (call_over h k e) = refl
+agg_no_star a = grind arith
 
 item_no_star : {i : ItemTree} {ts rest : Tokens} → IsItem i ts rest → is_star ts ≡ false
 item_no_star (unnamed (an_expression e)) = (expr_begins e).0
@@ -123,8 +115,7 @@ item_no_star (named (an_agg c)) = agg_no_star c
 
 no_star : {is : List ItemTree} {ts rest : Tokens}
     → AreListed IsItem (token.Sign sign.Comma) is ts rest → is_star ts ≡ false
-no_star (the_last i) = item_no_star i
-no_star (and_more i is) = item_no_star i
+no_star a = grind (arith, item_no_star)
 
 selection_found : {s : Selection} {ts rest : Tokens} → IsSelection s ts rest → (n : ℕ) → length ts
     ≤ n → EndsItem rest → behind between.Comma rest ≡ None → selection_at n ts ≡ Some (s, rest)
@@ -150,8 +141,7 @@ numbers_named n rest = refl
 
 named_found : (name : List ℕ) (rest : Tokens) → ends_name rest ≡ true
     → table_named name rest ≡ Some (table.Named name, rest)
-named_found name (token.Sign sign.Open ∷ ts) h = cc
-named_found name _ h = refl
+named_found name rest h = grind arith
 
 table_found : {t : TableRef} {ts rest : Tokens} → IsTable t ts rest → ends_name rest ≡ true
     → table_at ts ≡ Some (t, rest)
@@ -165,9 +155,7 @@ column_found qualified h = refl
 
 pair_found : {p : NamePair} {ts rest : Tokens} → IsPair p ts rest → ends_name rest ≡ true
     → pair_at ts ≡ Some (p, rest)
-pair_found (equal_columns {a = a} {b = b} {ts = ts} {mid = mid} {rest = rest} left right) h =
-    ap (option_and_then (λ l. pair_behind l.0 (after_equal l.1))) (column_found left refl)
-    ∙ ap (pair_with a) (column_found right h)
+pair_found (equal_columns left right) h = grind (arith, column_found)
 
 abbrev EndsName : Tokens → Type 0
 EndsName rest = ends_name rest ≡ true
@@ -209,16 +197,7 @@ simple : {rest : Tokens} → ends_name rest ≡ true → behind between.And rest
 simple a b c d e = record { name = a; no_and = b; no_comma = c; joint = d; no_direction = e }
 
 ends : (rest : Tokens) → rank rest ≤ 6 → Ends rest
-ends [] h = simple refl refl refl refl refl
-ends (token.Sign sign.Semicolon ∷ ts) h = simple refl refl refl refl refl
-ends (token.Keyword keyword.Limit ∷ ts) h = simple refl refl refl refl refl
-ends (token.Keyword keyword.Order ∷ ts) h = simple refl refl refl refl refl
-ends (token.Keyword keyword.Having ∷ ts) h = simple refl refl refl refl refl
-ends (token.Keyword keyword.Group ∷ ts) h = simple refl refl refl refl refl
-ends (token.Keyword keyword.Where ∷ ts) h = simple refl refl refl refl refl
-ends (token.Keyword keyword.Join ∷ ts) h = simple refl refl refl refl refl
-ends (token.Keyword keyword.Inner ∷ ts) h = simple refl refl refl refl refl
-ends _ h = absurd (omega arith)
+ends rest h = grind (arith, simple)
 
 -- the clause is read so, and begins with a keyword of its own or where the rest does
 abbrev IsFound : {A : Type 0} → Reading A → A → Tokens → Tokens → ℕ → Type 0
@@ -231,11 +210,7 @@ passed k e h = (e, omega arith)
 
 limit_found : {l : Option Span} {ts rest : Tokens} → IsLimit l ts rest → rank rest ≤ 0
     → IsFound (limit_at ts) l ts rest 1
-limit_found (no_limit {rest = token.Keyword keyword.Limit ∷ ts}) h = absurd (omega arith)
-limit_found no_limit h = passed 0 refl h
-limit_found (first_rows {rest = token.Keyword keyword.Offset ∷ ts}) h = absurd (omega arith)
-limit_found first_rows h = (refl, omega arith)
-limit_found rows_behind h = (refl, omega arith)
+limit_found is h = grind arith
 
 -- what may stand behind a key without a direction
 abbrev EndsKey : Tokens → Type 0
@@ -244,8 +219,7 @@ EndsKey rest = direction_at rest ≡ (false, rest)
 order_key_found : {k : OrderKey} {ts rest : Tokens} → IsOrderKey k ts rest → EndsKey rest
     → order_key_at ts ≡ Some (k, rest)
 order_key_found (unstated {name = name} {rest = rest}) ends = rw ends refl
-order_key_found ascending ends = refl
-order_key_found descending ends = refl
+order_key_found _ ends = refl
 
 order_found : {os : List OrderKey} {ts rest : Tokens} → IsOrder os ts rest → rank rest ≤ 1
     → IsFound (order_at ts) os ts rest 2
@@ -308,9 +282,7 @@ join_found (inner_join {rest = rest} (table_on is pairs)) h =
 -- each optional clause leaves no more tokens than there were
 module _ where
   join_within : {j : Option Join} {ts rest : Tokens} → IsJoin j ts rest → length rest ≤ length ts
-  join_within no_join = omega arith
-  join_within (joined_with j) = omega (arith, joined_shorter j)
-  join_within (inner_join j) = omega (arith, joined_shorter j)
+  join_within a = grind (arith, joined_shorter)
 
   filter_within : {f : Option Condition} {ts rest : Tokens} → IsFilter f ts rest
       → length rest ≤ length ts
@@ -319,9 +291,7 @@ module _ where
 
   keys_within : {cs : List ColumnRef} {ts rest : Tokens} → AreKeys cs ts rest
       → length rest ≤ length ts
-  keys_within no_keys = omega arith
-  keys_within (keys_by cs) =
-      omega (arith, list_shorter IsColumn _ (λ x ts rest c. column_shorter c) cs)
+  keys_within a = grind (arith, list_shorter, column_shorter)
 
 query_found : {q : QueryTree} {ts rest : Tokens} → IsQuery q ts rest → (n : ℕ) → length ts ≤ n
     → rank rest ≤ 0 → is_end rest ≡ true → query_at n ts ≡ Some q
@@ -345,19 +315,14 @@ query_found (select_query items (source_of is join filter) (shaping_of keys havi
 
 pub text_found : {q : QueryTree} {ts : Tokens} → IsText q ts → (n : ℕ) → length ts ≤ n
     → query_at n ts ≡ Some q
-text_found (bare is) n l = query_found is n l (omega arith) refl
-text_found (with_semicolon is) n l = query_found is n l (omega arith) refl
+text_found x0 n l = grind (arith, query_found)
 
 -- ---- what is read is spelled so
 
 -- ---- lists
 
 behind_is : (s : Separator) (ts rest : Tokens) → behind s ts ≡ Some rest → ts ≡ mark s ∷ rest
-behind_is between.Comma (token.Sign sign.Comma ∷ ts) rest h =
-    ap (λ l. mark between.Comma ∷ l) (same_Some ts rest h)
-behind_is between.And (token.Keyword keyword.And ∷ ts) rest h =
-    ap (λ l. mark between.And ∷ l) (same_Some ts rest h)
-behind_is _ _ rest h = absurd cc
+behind_is s ts rest h = grind arith
 
 module _ {X : Type 0} (Is : X → Tokens → Tokens → Type 0) (s : Separator)
     (read : Tokens → Reading X) (each : (ts : Tokens) → IfSome (read ts) (λ r. Is r.0 ts r.1)) where
@@ -367,32 +332,18 @@ module _ {X : Type 0} (Is : X → Tokens → Tokens → Type 0) (s : Separator)
   behind_spelled : (more : Tokens → Reading (List X))
       → ((ts : Tokens) → IfSome (more ts) (Listed ts)) → (x : X) (ts mid : Tokens) → Is x ts mid
       → (o : Option Tokens) → behind s mid ≡ o → IfSome (list_behind more x mid o) (Listed ts)
-  behind_spelled more h x ts mid is None e = the_last is
-  behind_spelled more h x ts mid is (Some rest) e =
-      map_some (Listed rest) (Listed ts) (λ xs. (x ∷ xs.0, xs.1)) (more rest) (h rest)
-      (λ r are. and_more (subst (λ (m : Tokens). Is x ts m) (behind_is s mid rest e) is) are)
+  behind_spelled more h x ts mid is o e = grind (arith, map_some, behind_is, the_last, and_more)
 
   list_spelled : (turns : ℕ) (ts : Tokens) → IfSome (list_at read s turns ts) (Listed ts)
   unfolding list_at
   list_spelled zero ts = tt
-  list_spelled (suc turns) ts =
-      bind (λ x. Is x.0 ts x.1) (Listed ts)
-      (λ x. list_behind (list_at read s turns) x.0 x.1 (behind s x.1)) (read ts) (each ts)
-      (λ x is. behind_spelled (list_at read s turns) (list_spelled turns) x.0 ts x.1 is
-      (behind s x.1) refl)
+  list_spelled (suc turns) ts = grind (arith, bind, behind_spelled, list_spelled turns)
 
 -- ---- items
 
-plain_spelled : (v : Parsed) (ts rest : Tokens) → IsPart clause.OfRows 5 v ts rest
-    → IfSome (plain_of v) (λ e. IsExpr e ts rest)
-plain_spelled (expression e) ts rest is = is.expr
-plain_spelled _ ts rest is = tt
-
 plain_what_spelled : (n : ℕ) (ts : Tokens) → IfSome (plain_what n ts) (λ r. IsWhat r.0 ts r.1)
 plain_what_spelled n ts =
-    bind _ _ _ (part_at n clause.OfRows 5 ts) (part_spelled n clause.OfRows 5 ts (omega arith))
-    (λ p found. map_some _ _ _ (plain_of p.0) (plain_spelled p.0 ts p.1 found.is)
-    (λ e is. an_expression is))
+    grind (arith, part_spelled n clause.OfRows 5 ts (omega arith), an_expression)
 
 called_spelled : (n : ℕ) (ts : Tokens) (c : AggOp × Tokens) → call_front ts ≡ Some c
     → IfSome (call_at (part_at n) c.0 c.1) (λ r. IsAgg r.0 ts r.1)
@@ -410,17 +361,14 @@ what_spelled n ts = go (call_front ts) refl
 
 name_spelled : (w : ItemWhat) (ts mid : Tokens) → IsWhat w ts (token.Keyword keyword.As ∷ mid)
     → IfSome (with_alias w (alias_at (token.Keyword keyword.As ∷ mid))) (λ r. IsItem r.0 ts r.1)
-name_spelled w ts (token.Name name ∷ rest) is = named is
-name_spelled w ts _ is = tt
+name_spelled w ts mid is = grind (arith, named)
 
 alias_spelled : (w : ItemWhat) (ts mid : Tokens) → IsWhat w ts mid
     → IfSome (with_alias w (alias_at mid)) (λ r. IsItem r.0 ts r.1)
-alias_spelled w ts (token.Keyword keyword.As ∷ mid) is = name_spelled w ts mid is
-alias_spelled w ts _ is = unnamed is
+alias_spelled w ts mid is = grind (arith, name_spelled, unnamed)
 
 item_spelled : (n : ℕ) (ts : Tokens) → IfSome (item_at n ts) (λ r. IsItem r.0 ts r.1)
-item_spelled n ts =
-    bind _ _ _ (what_at n ts) (what_spelled n ts) (λ w is. alias_spelled w.0 ts w.1 is)
+item_spelled n ts = grind (arith, bind, alias_spelled, what_spelled n ts)
 
 selection_spelled : (n : ℕ) (ts : Tokens) → IfSome (selection_at n ts) (λ r. IsSelection r.0 ts r.1)
 selection_spelled n (token.Sign sign.Star ∷ ts) = all_columns
@@ -432,9 +380,7 @@ selection_spelled n ts =
 
 numbers_spelled : (name : List ℕ) (ts : Tokens) → name ≡ codes "numbers"
     → IfSome (count_behind ts) (λ r. IsTable r.0 (token.Name name ∷ token.Sign sign.Open ∷ ts) r.1)
-numbers_spelled name (token.Number n ∷ token.Sign sign.Close ∷ ts) e =
-    rw e numbers_table
-numbers_spelled name _ e = tt
+numbers_spelled name ts e = grind (arith, numbers_table)
 
 named_spelled : (name : List ℕ) (ts : Tokens)
     → IfSome (table_named name ts) (λ r. IsTable r.0 (token.Name name ∷ ts) r.1)
@@ -448,12 +394,10 @@ named_spelled name (token.Sign sign.Open ∷ ts) = go (bytes_eq name (codes "num
 named_spelled name _ = named_table
 
 table_spelled : (ts : Tokens) → IfSome (table_at ts) (λ r. IsTable r.0 ts r.1)
-table_spelled (token.Name name ∷ ts) = named_spelled name ts
-table_spelled _ = tt
+table_spelled ts = grind (arith, named_spelled)
 
 column_spelled : (ts : Tokens) → IfSome (column_ref_at ts) (λ r. IsColumn r.0 ts r.1)
-column_spelled (token.Name name ∷ ts) = dotted_spelled name ts
-column_spelled _ = tt
+column_spelled ts = grind (arith, dotted_spelled)
 
 right_spelled : (left : ColumnRef) (ts mid : Tokens) → IsColumn left ts mid
     → IfSome (pair_behind left (after_equal mid)) (λ r. IsPair r.0 ts r.1)
@@ -462,43 +406,36 @@ right_spelled left ts (token.Sign sign.Equal ∷ mid) is =
 right_spelled left ts _ is = tt
 
 pair_spelled : (ts : Tokens) → IfSome (pair_at ts) (λ r. IsPair r.0 ts r.1)
-pair_spelled ts =
-    bind _ _ _ (column_ref_at ts) (column_spelled ts) (λ l is. right_spelled l.0 ts l.1 is)
+pair_spelled ts = grind (arith, bind, right_spelled, column_spelled ts)
 
 on_spelled : (t : TableRef) (ts mid : Tokens) → IsTable t ts mid
     → IfSome (on_at t mid) (λ r. IsJoined r.0 (token.Keyword keyword.Join ∷ ts) r.1)
 on_spelled t ts (token.Keyword keyword.On ∷ mid) is =
-    map_some _ _ _ (pairs_at mid) (list_spelled IsPair between.And pair_at pair_spelled
-    (length mid) mid) (λ r are. table_on is are)
+    grind (arith, list_spelled IsPair between.And pair_at pair_spelled (length mid) mid, table_on)
 on_spelled t ts _ is = tt
 
 joined_spelled : (ts : Tokens)
     → IfSome (joined_table_at ts) (λ r. IsJoined r.0 (token.Keyword keyword.Join ∷ ts) r.1)
-joined_spelled ts =
-    bind _ _ _ (table_at ts) (table_spelled ts) (λ t is. on_spelled t.0 ts t.1 is)
+joined_spelled ts = grind (arith, bind, on_spelled, table_spelled ts)
 
 join_spelled : (ts : Tokens) → IfSome (join_at ts) (λ r. IsJoin r.0 ts r.1)
 join_spelled (token.Keyword keyword.Join ∷ ts) =
     map_some _ _ _ (joined_table_at ts) (joined_spelled ts) (λ r is. joined_with is)
 join_spelled (token.Keyword keyword.Inner ∷ token.Keyword keyword.Join ∷ ts) =
     map_some _ _ _ (joined_table_at ts) (joined_spelled ts) (λ r is. inner_join is)
-join_spelled (token.Keyword keyword.Inner ∷ ts) = tt
-join_spelled _ = no_join
+join_spelled _ = grind (arith, no_join)
 
 -- ---- conditions
 
 truth_spelled : (k : Clause) (v : Parsed) (ts rest : Tokens) → IsPart k 1 v ts rest
     → IfSome (condition_of v) (λ c. IsCond (operands_in k) c ts rest)
-truth_spelled k (truth c) ts rest is = is.cond'
-truth_spelled k _ ts rest is = tt
+truth_spelled k v ts rest is = grind arith
 
 cond_spelled : (n : ℕ) (k : Clause) (ts : Tokens) (Is : Option Condition → Tokens → Type 0)
     → ((c : Condition) (rest : Tokens) → IsCond (operands_in k) c ts rest → Is (Some c) rest)
     → IfSome (condition_at n k ts) (λ r. Is r.0 r.1)
 cond_spelled n k ts Is by =
-    bind _ _ _ (part_at n k 1 ts) (part_spelled n k 1 ts (omega arith))
-    (λ p found. map_some _ _ _ (condition_of p.0) (truth_spelled k p.0 ts p.1 found.is)
-    (λ c is. by c p.1 is))
+    grind (arith, bind, map_some, truth_spelled, part_spelled n k 1 ts (omega arith))
 
 filter_spelled : (n : ℕ) (ts : Tokens)
     → IfSome (clause_at n clause.OfRows ts) (λ r. IsFilter r.0 ts r.1)
@@ -525,13 +462,10 @@ keys_spelled _ = no_keys
 
 direction_spelled : (name : List ℕ) (ts : Tokens) → IsOrderKey (record
     { name = name; descending = (direction_at ts).0 }) (token.Name name ∷ ts) (direction_at ts).1
-direction_spelled name (token.Keyword keyword.Asc ∷ ts) = ascending
-direction_spelled name (token.Keyword keyword.Desc ∷ ts) = descending
-direction_spelled name _ = unstated
+direction_spelled name ts = grind (arith, ascending, descending, unstated)
 
 order_key_spelled : (ts : Tokens) → IfSome (order_key_at ts) (λ r. IsOrderKey r.0 ts r.1)
-order_key_spelled (token.Name name ∷ ts) = direction_spelled name ts
-order_key_spelled _ = tt
+order_key_spelled ts = grind (arith, direction_spelled)
 
 order_spelled : (ts : Tokens) → IfSome (order_at ts) (λ r. IsOrder r.0 ts r.1)
 order_spelled (token.Keyword keyword.Order ∷ token.Keyword keyword.By ∷ ts) =
@@ -541,21 +475,13 @@ order_spelled (token.Keyword keyword.Order ∷ _) = tt
 order_spelled _ = no_order
 
 limit_spelled : (ts : Tokens) → IfSome (limit_at ts) (λ r. IsLimit r.0 ts r.1)
-limit_spelled (token.Keyword keyword.Limit ∷ token.Number n ∷ token.Keyword keyword.Offset
-    ∷ token.Number m ∷ ts) = rows_behind
-limit_spelled (token.Keyword keyword.Limit ∷ token.Number n ∷ token.Keyword keyword.Offset ∷ ts) =
-    tt
-limit_spelled (token.Keyword keyword.Limit ∷ token.Number n ∷ ts) = first_rows
-limit_spelled (token.Keyword keyword.Limit ∷ ts) = tt
-limit_spelled _ = no_limit
+limit_spelled ts = grind (arith, rows_behind, first_rows, no_limit)
 
 -- ---- queries
 
-ended_spelled : (q : QueryTree) (ts rest : Tokens) → IsQuery q ts rest
-    → IfSome (cond (is_end rest) (Some q) None) (λ q. IsText q ts)
-ended_spelled q ts [] is = bare is
-ended_spelled q ts (token.Sign sign.Semicolon ∷ []) is = with_semicolon is
-ended_spelled q ts _ is = tt
+ended_spelled : (q : Option Span → QueryTree) (l : Option Span) (ts rest : Tokens)
+    → IsQuery (q l) ts rest → IfSome (cond (is_end rest) (Some l) None) (λ l. IsText (q l) ts)
+ended_spelled q l ts rest is = grind (arith, bare, with_semicolon)
 
 data IsFrom : TableRef → Tokens → Tokens → Type 0 where
   from_table : {t : TableRef} {ts rest : Tokens} → IsTable t ts rest
@@ -578,10 +504,16 @@ text_spelled n (token.Keyword keyword.Select ∷ ts) =
     bind _ _ _ (from_at s.1) (from_spelled s.1) (λ t table.
     bind _ _ _ (join_at t.1) (join_spelled t.1) (λ j join.
     bind _ _ _ (clause_at n clause.OfRows j.1) (filter_spelled n j.1) (λ f filter.
-    bind _ _ _ (keys_at f.1) (keys_spelled f.1) (λ k keys.
-    bind _ _ _ (clause_at n clause.OfGroups k.1) (having_spelled n k.1) (λ h having.
-    bind _ _ _ (order_at h.1) (order_spelled h.1) (λ o order.
-    bind _ _ _ (limit_at o.1) (limit_spelled o.1) (λ l limit.
-    ended_spelled _ (token.Keyword keyword.Select ∷ ts) l.1
-    (whole items table join filter keys having order limit)))))))))
+    let whole_ts = token.Keyword keyword.Select ∷ ts in
+    let query = query_of s.0 t.0 j.0 f.0 in
+    let Spelled = λ (e : Ending). IsText (query e) whole_ts in
+    map_some Spelled (λ q. IsText q whole_ts) query (ending_at n f.1)
+    (bind _ Spelled _ (keys_at f.1) (keys_spelled f.1) (λ k keys.
+    bind _ Spelled _ (clause_at n clause.OfGroups k.1) (having_spelled n k.1) (λ h having.
+    bind _ Spelled _ (order_at h.1) (order_spelled h.1) (λ o order.
+    let ended : Option Span → Ending = λ l. (k.0, h.0, o.0, l) in
+    map_some (λ l. Spelled (ended l)) Spelled ended (span_at_end o.1)
+    (bind _ _ _ (limit_at o.1) (limit_spelled o.1) (λ l limit.
+    ended_spelled (λ x. query (ended x)) l.0 whole_ts l.1
+    (whole items table join filter keys having order limit))) (λ l is. is))))) (λ e is. is)))))
 text_spelled n _ = tt

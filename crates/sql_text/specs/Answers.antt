@@ -1,14 +1,14 @@
 -- What a function that reads tokens or bytes answers.
 use Rattle.std.specs.Prelude.{◌≡◌, Option, Some, None, Result, Ok, Err}
-use Rattle.sql_text.specs.declared.stop.Stop.{Stop}
-use Rattle.sql_text.specs.declared.stop.Stop.TheVariants as stop
+use Rattle.sql_text.specs.declared.parse_error.ParseError.{ParseError}
+use Rattle.sql_text.specs.declared.parse_error.ParseError.TheVariants as error
 
 -- Where nothing is read the answer is Syntax, and where memory runs out it is Memory.
-abbrev pub Fails : {Y : Type 0} → Stop → Option Y → Type 0
-Fails stop.Syntax read = read ≡ None
-Fails stop.Memory read = Unit {0}
+abbrev pub Fails : {Y : Type 0} → ParseError → Option Y → Type 0
+Fails error.Syntax read = read ≡ None
+Fails error.Memory read = Unit {0}
 
 -- what is read, seen by view, is answered
-abbrev pub Gives : {X Y : Type 0} → (X → Y) → Result X Stop → Option Y → Type 0
+abbrev pub Gives : {X Y : Type 0} → (X → Y) → Result X ParseError → Option Y → Type 0
 Gives view (Ok x) read = read ≡ Some (view x)
 Gives view (Err e) read = Fails e read

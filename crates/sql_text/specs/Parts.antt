@@ -16,8 +16,8 @@ use Rattle.sql_grammar.specs.declared.Keyword.TheVariants as keyword
 use Rattle.sql_grammar.specs.declared.Sign.TheVariants as sign
 use Rattle.sql_text.specs.declared.part.Clause.{Clause}
 use Rattle.sql_text.specs.declared.part.Clause.TheVariants as clause
-use Rattle.sql_text.specs.declared.part.Joint.{Joint}
-use Rattle.sql_text.specs.declared.part.Joint.TheVariants as joint
+use Rattle.sql_text.specs.declared.part.BinaryOperator.{BinaryOperator}
+use Rattle.sql_text.specs.declared.part.BinaryOperator.TheVariants as joint
 use Rattle.sql_text.specs.declared.part.Part.{Part}
 use Rattle.sql_text.specs.declared.part.Part.TheVariants as part'
 
@@ -40,7 +40,7 @@ Reading A = Option (A × List Token)
 
 -- ---- what joins two parts
 
-abbrev pub sign_joint : Sign → Option Joint
+abbrev pub sign_joint : Sign → Option BinaryOperator
 sign_joint sign.Plus = Some (joint.Arith op.Add)
 sign_joint sign.Minus = Some (joint.Arith op.Sub)
 sign_joint sign.Star = Some (joint.Arith op.Mul)
@@ -52,19 +52,19 @@ sign_joint sign.Greater = Some (joint.Compare order.Gt)
 sign_joint sign.GreaterEqual = Some (joint.Compare order.Ge)
 sign_joint _ = None
 
-abbrev pub keyword_joint : Keyword → Option Joint
+abbrev pub keyword_joint : Keyword → Option BinaryOperator
 keyword_joint keyword.And = Some joint.And
 keyword_joint keyword.Or = Some joint.Or
 keyword_joint _ = None
 
-abbrev pub joint_of : Token → Option Joint
+abbrev pub joint_of : Token → Option BinaryOperator
 joint_of (token.Keyword k) = keyword_joint k
 joint_of (token.Sign s) = sign_joint s
 joint_of _ = None
 
--- How tightly a joint binds: those of a condition from 1 on, those of a negation from 4 on, since
--- NOT stands at 3, and those of an expression from 5 on.
-abbrev pub level : Joint → ℕ
+-- How tightly a binary operator binds: those of a condition from 1 on, those of a negation from 4
+-- on, since NOT stands at 3, and those of an expression from 5 on.
+abbrev pub level : BinaryOperator → ℕ
 level joint.Or = 1
 level joint.And = 2
 level (joint.Compare o) = 4
@@ -72,12 +72,12 @@ level (joint.Arith op.Add) = 5
 level (joint.Arith op.Sub) = 5
 level (joint.Arith op.Mul) = 6
 
-abbrev pub if_level : ℕ → List Token → Option Joint → Option (Joint × List Token)
+abbrev pub if_level : ℕ → List Token → Option BinaryOperator → Option (BinaryOperator × List Token)
 if_level least ts None = None
 if_level least ts (Some j) = if nat_le least (level j) then Some (j, ts) else None
 
--- the joint at the front, where it binds at least so tightly
-abbrev pub next_joint : ℕ → List Token → Option (Joint × List Token)
+-- the binary operator at the front, where it binds at least so tightly
+abbrev pub next_joint : ℕ → List Token → Option (BinaryOperator × List Token)
 next_joint least [] = None
 next_joint least (t ∷ ts) = if_level least ts (joint_of t)
 
@@ -104,7 +104,7 @@ abbrev pub calculated : Clause → ArithOp → Parsed → Parsed → Option Pars
 calculated clause.OfRows o a b = if_both (λ l r. expression (arith o l r)) (plain_of a) (plain_of b)
 calculated clause.OfGroups o a b = None
 
-abbrev pub combined : Clause → Joint → Parsed → Parsed → Option Parsed
+abbrev pub combined : Clause → BinaryOperator → Parsed → Parsed → Option Parsed
 combined k (joint.Arith o) a b = calculated k o a b
 combined k (joint.Compare o) a b = if_both (λ l r. truth (compare o l r)) (side_of a) (side_of b)
 combined k joint.And a b = if_both (λ l r. truth (both l r)) (condition_of a) (condition_of b)
@@ -112,7 +112,7 @@ combined k joint.Or a b = if_both (λ l r. truth (either l r)) (condition_of a) 
 
 -- ---- single parts
 
--- what reads a part, in a clause, whose joints bind at least so tightly
+-- what reads a part, in a clause, whose binary operators bind at least so tightly
 abbrev pub Reads : Type 0
 Reads = Clause → ℕ → List Token → Reading Parsed
 
@@ -194,8 +194,8 @@ abbrev pub first_keyword : Clause → Reads → Keyword → List Token → Readi
 first_keyword k inner keyword.Not ts = option_and_then (λ p. negation_at p.0 p.1) (inner k 4 ts)
 first_keyword k inner _ ts = None
 
--- a part without joints: a column, a number, a string, a call, what stands in parentheses, or a
--- negation
+-- a part without binary operators: a column, a number, a string, a call, what stands in
+-- parentheses, or a negation
 abbrev pub first_part : Clause → Reads → List Token → Reading Parsed
 first_part k inner [] = None
 first_part k inner (token.Name w ∷ ts) = word_at k inner w ts
@@ -206,29 +206,29 @@ first_part k inner (token.LargeNumber ∷ ts) = None
 first_part k inner (token.Text t ∷ ts) = Some (string t, ts)
 first_part k inner (token.Sign s ∷ ts) = first_sign k inner s ts
 
--- ---- parts with their joints
+-- ---- parts with their binary operators
 
--- the part at the left with what the joint joins to it
-abbrev pub turn_of : Clause → Reads → Joint → Parsed → List Token → Reading Parsed
+-- the part at the left with what the binary operator joins to it
+abbrev pub turn_of : Clause → Reads → BinaryOperator → Parsed → List Token → Reading Parsed
 turn_of k inner j left ts =
     option_and_then (λ r. option_map (λ p. (p, r.1)) (combined k j left r.0))
     (inner k (suc (level j)) ts)
 
 abbrev pub joined_at : Clause → Reads → (Parsed → List Token → Reading Parsed) → Parsed → List Token
-    → Option (Joint × List Token) → Reading Parsed
+    → Option (BinaryOperator × List Token) → Reading Parsed
 joined_at k inner more left ts None = Some (left, ts)
 joined_at k inner more left ts (Some j) =
     option_and_then (λ p. more p.0 p.1) (turn_of k inner j.0 left j.1)
 
--- The part at the left, and what joints as tight as least join to it from the left on. The last
--- number bounds the turns.
+-- The part at the left, and what binary operators as tight as least join to it from the left on.
+-- The last number bounds the turns.
 unfoldable pub joined : Clause → Reads → ℕ → ℕ → Parsed → List Token → Reading Parsed
 joined k inner least zero left ts = None
 joined k inner least (suc turns) left ts =
     joined_at k inner (joined k inner least turns) left ts (next_joint least ts)
 
--- A part whose joints bind at least so tightly. The first number bounds how deep parts stand in
--- parts; the count of the tokens is always enough.
+-- A part whose binary operators bind at least so tightly. The first number bounds how deep parts
+-- stand in parts; the count of the tokens is always enough.
 unfoldable pub part_at : ℕ → Reads
 part_at zero k least ts = None
 part_at (suc depth) k least ts =

@@ -212,21 +212,36 @@ is_end _ = false
 abbrev pub reads : {A B : Type 0} → Reading A → (A → List Token → Option B) → Option B
 reads read more = option_and_then (λ r. more r.0 r.1) read
 
+-- LIMIT at the end of the text
+abbrev pub span_at_end : List Token → Option (Option Span)
+span_at_end ts = reads (limit_at ts) (λ l ts. if is_end ts then Some l else None)
+
+-- groups, their condition, the order and the span
+abbrev pub Ending : Type 0
+Ending = List ColumnRef × Option Condition × List OrderKey × Option Span
+
 -- GROUP BY and the clauses behind it, up to the end of the text
+abbrev pub ending_at : ℕ → List Token → Option Ending
+ending_at depth ts =
+    reads (keys_at ts) (λ k ts. reads (clause_at depth clause.OfGroups ts) (λ h ts.
+    reads (order_at ts) (λ o ts. option_map (λ l. (k, h, o, l)) (span_at_end ts))))
+
+-- the query of these rows, with what is made of them
+abbrev pub query_of : Selection → TableRef → Option Join → Option Condition → Ending → QueryTree
+query_of s t j f e = record {
+  items = s;
+  from = t;
+  join = j;
+  filter = f;
+  keys = e.0;
+  having = e.1;
+  order = e.2;
+  limit = e.3;
+}
+
 abbrev pub shaped : ℕ → Selection → TableRef → Option Join → Option Condition → List Token
     → Option QueryTree
-shaped depth s t j f ts =
-    reads (keys_at ts) (λ k ts. reads (clause_at depth clause.OfGroups ts) (λ h ts.
-    reads (order_at ts) (λ o ts. reads (limit_at ts) (λ l ts. if is_end ts then Some (record {
-      items = s;
-      from = t;
-      join = j;
-      filter = f;
-      keys = k;
-      having = h;
-      order = o;
-      limit = l;
-    }) else None))))
+shaped depth s t j f ts = option_map (query_of s t j f) (ending_at depth ts)
 
 abbrev pub after_select : List Token → Option (List Token)
 after_select (token.Keyword keyword.Select ∷ ts) = Some ts

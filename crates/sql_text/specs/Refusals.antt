@@ -9,8 +9,8 @@ use Rattle.sql_grammar.specs.declared.Keyword.TheVariants as keyword
 use Rattle.sql_grammar.specs.declared.Sign.TheVariants as sign
 use Rattle.sql_text.specs.declared.limits.ParseRefusal.{ParseRefusal}
 use Rattle.sql_text.specs.declared.limits.ParseRefusal.TheVariants as refusal
-use Rattle.sql_text.specs.declared.stop.Stop.{Stop}
-use Rattle.sql_text.specs.declared.stop.Stop.TheVariants as stop
+use Rattle.sql_text.specs.declared.parse_error.ParseError.{ParseError}
+use Rattle.sql_text.specs.declared.parse_error.ParseError.TheVariants as error
 
 abbrev pub is_large : Token → Bool
 is_large (token.Name w) = false
@@ -57,9 +57,9 @@ IsRefused refusal.NumberTooLarge text = early_refusal text ≡ Some refusal.Numb
 IsRefused refusal.TooComplex text = early_refusal text ≡ Some refusal.TooComplex
 IsRefused refusal.Memory text = Unit {0}
 
-abbrev pub refusal_of : Stop → ParseRefusal
-refusal_of stop.Syntax = refusal.Syntax
-refusal_of stop.Memory = refusal.Memory
+abbrev pub refusal_of : ParseError → ParseRefusal
+refusal_of error.Syntax = refusal.Syntax
+refusal_of error.Memory = refusal.Memory
 
 -- a query that is read from a text
 pub record IsReadFrom (q : Query) (text : List ℕ) : Type 0 where

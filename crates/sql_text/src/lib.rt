@@ -3,10 +3,10 @@
 
 mod limits;
 mod lists;
+mod parse_error;
 mod part;
 mod queries;
 mod scan;
-mod stop;
 mod tables;
 mod texts;
 

@@ -9,8 +9,8 @@ ghost use Rattle.sql_text.specs.Answers.{Gives};
 ghost use Rattle.sql_text.specs.Parts.{Reading};
 ghost use Rattle.sql_text.specs.Queries.{behind, list_at, alias_at, call_front, plain_what, what_at, item_at, selection_at, column_ref_at, direction_at, order_key_at};
 
+use crate::parse_error::ParseError;
 use crate::part::{Clause, EXPRESSION, call_at, called, part_at, plain_of};
-use crate::stop::Stop;
 use crate::tables::{column_ref_at, name_at};
 use chunk_data::{Bytes, List};
 use query_model::query::{AggOp, ColumnRef, Item, ItemKind, Items, OrderKey};
@@ -46,7 +46,7 @@ pub trait Listed: Drop {
     ghost reading: { ℕ → Seq Piece → Reading Tree };
 
     /// The element at the front, and the tokens behind it. `depth` is that of `part_at`.
-    fn read(alloc: Global, tokens: &[Token], depth: usize) -> Result<(Self, &[Token]), Stop>
+    fn read(alloc: Global, tokens: &[Token], depth: usize) -> Result<(Self, &[Token]), ParseError>
         ensures { Gives (λ p. (tree p.0, p.1.now)) result (reading depth tokens.now) };
 
     ghost first: { trees [] ≡ [] };
@@ -60,7 +60,7 @@ pub fn list_at<T: Listed>(
     separator: Separator,
     tokens: &[Token],
     depth: usize,
-) -> Result<(List<T>, &[Token]), Stop>
+) -> Result<(List<T>, &[Token]), ParseError>
     ensures { Gives (λ p. (T.trees p.0, p.1.now)) result
         (list_at (T.reading depth) separator (length tokens.now) tokens.now) }
 {
@@ -68,7 +68,7 @@ pub fn list_at<T: Listed>(
     let mut rest = tokens;
     for _turn in 0..tokens.len() {
         match T::read(alloc, rest, depth) {
-            Err(stop) => return Err(stop),
+            Err(error) => return Err(error),
             Ok((element, after)) => {
                 elements.push(element)?;
                 match behind(separator, after) {
@@ -78,10 +78,10 @@ pub fn list_at<T: Listed>(
             }
         }
     }
-    Err(Stop::Syntax)
+    Err(ParseError::Syntax)
 }
 
-fn alias_at(tokens: &[Token]) -> Result<(Option<Bytes>, &[Token]), Stop>
+fn alias_at(tokens: &[Token]) -> Result<(Option<Bytes>, &[Token]), ParseError>
     ensures { Gives (λ p. (p.0, p.1.now)) result (alias_at tokens.now) }
 {
     match tokens.split_first() {
@@ -103,7 +103,11 @@ fn call_front(tokens: &[Token]) -> Option<(AggOp, &[Token])>
     }
 }
 
-fn plain_what(alloc: Global, tokens: &[Token], depth: usize) -> Result<(ItemKind, &[Token]), Stop>
+fn plain_what(
+    alloc: Global,
+    tokens: &[Token],
+    depth: usize,
+) -> Result<(ItemKind, &[Token]), ParseError>
     ensures { Gives (λ p. (item_what p.0, p.1.now)) result (plain_what depth tokens.now) }
 {
     let (part, rest) = part_at(alloc, Clause::OfRows, EXPRESSION, tokens, depth)?;
@@ -111,7 +115,11 @@ fn plain_what(alloc: Global, tokens: &[Token], depth: usize) -> Result<(ItemKind
     Ok((ItemKind::Plain(Box::into_inner(expr)), rest))
 }
 
-fn what_at(alloc: Global, tokens: &[Token], depth: usize) -> Result<(ItemKind, &[Token]), Stop>
+fn what_at(
+    alloc: Global,
+    tokens: &[Token],
+    depth: usize,
+) -> Result<(ItemKind, &[Token]), ParseError>
     ensures { Gives (λ p. (item_what p.0, p.1.now)) result (what_at depth tokens.now) }
 {
     match call_front(tokens) {
@@ -136,7 +144,7 @@ impl Listed for Item {
 
     ghost more = { λ xs x. map-append item_tree xs (x ∷ []) };
 
-    fn read(alloc: Global, tokens: &[Token], depth: usize) -> Result<(Item, &[Token]), Stop> {
+    fn read(alloc: Global, tokens: &[Token], depth: usize) -> Result<(Item, &[Token]), ParseError> {
         let (what, rest) = what_at(alloc, tokens, depth)?;
         let (alias, rest) = alias_at(rest)?;
         Ok((Item { what, alias }, rest))
@@ -148,7 +156,7 @@ pub fn selection_at(
     alloc: Global,
     tokens: &[Token],
     depth: usize,
-) -> Result<(Items, &[Token]), Stop>
+) -> Result<(Items, &[Token]), ParseError>
     ensures { Gives (λ p. (selection p.0, p.1.now)) result (selection_at depth tokens.now) }
 {
     match tokens.split_first() {
@@ -173,7 +181,7 @@ impl Listed for ColumnRef {
 
     ghost more = { λ cs c. refl };
 
-    fn read(_: Global, tokens: &[Token], _: usize) -> Result<(ColumnRef, &[Token]), Stop> {
+    fn read(_: Global, tokens: &[Token], _: usize) -> Result<(ColumnRef, &[Token]), ParseError> {
         column_ref_at(tokens)
     }
 }
@@ -202,7 +210,7 @@ impl Listed for OrderKey {
 
     ghost more = { λ ks k. refl };
 
-    fn read(_: Global, tokens: &[Token], _: usize) -> Result<(OrderKey, &[Token]), Stop> {
+    fn read(_: Global, tokens: &[Token], _: usize) -> Result<(OrderKey, &[Token]), ParseError> {
         let (name, rest) = name_at(tokens)?;
         let (descending, rest) = direction_at(rest);
         Ok((OrderKey { name, descending }, rest))

@@ -1,14 +1,14 @@
 // Expressions and conditions.
 ghost use Rattle.std.specs.Prelude.{◌≡◌, ℕ, suc, ◌+◌, ◌<◌, ◌≤◌, length, List, Some, None, option_map, OnOk, IfOk};
 ghost use Rattle.query_model.specs.Formulas.{formula, number};
-ghost use Rattle.sql_text.specs.declared.part.Joint.TheVariants.{Arith, Compare, And, Or};
+ghost use Rattle.sql_text.specs.declared.part.BinaryOperator.TheVariants.{Arith, Compare, And, Or};
 ghost use Rattle.sql_grammar.specs.Trees.{side, call_tree, condition, condition as condition_tree};
 ghost use Rattle.sql_grammar.specs.declared.Token.{Token};
 ghost use Rattle.sql_text.specs.declared.part.Clause.{Clause as Kind};
 ghost use Rattle.sql_text.specs.Answers.{Gives};
 ghost use Rattle.sql_text.specs.Parts.{expression, truth, parsed, calculated, sign_joint, keyword_joint, joint_of, level, next_joint, combined, side_of, plain_of, condition_of, column_at, negative_at, after_close, closed_at, count_at, call_over, called, call_at, word_at, negation_at, first_sign, first_keyword, first_part, turn_of, joined, part_at};
 
-use crate::stop::{Stop, next_token};
+use crate::parse_error::{ParseError, next_token};
 use crate::tables::dotted_at;
 use chunk_data::Bytes;
 use query_model::query::{
@@ -17,7 +17,7 @@ use query_model::query::{
 use sql_grammar::{Keyword, Sign, Token, aggregate_of};
 use std::alloc::Global;
 
-/// The least level of the joints of a condition, of a comparison, and of an expression.
+/// The least level of the binary operators of a condition, of a comparison, and of an expression.
 pub const CONDITION: u8 = 1;
 
 pub const COMPARISON: u8 = 4;
@@ -34,7 +34,7 @@ pub enum Clause {
 
 // What joins two parts.
 #[derive(Clone, Copy)]
-pub enum Joint {
+pub enum BinaryOperator {
     Arith(ArithOp),
     Compare(CompareOp),
     And,
@@ -51,34 +51,34 @@ pub enum Part {
     Condition(Box<CondOf<ColumnRef>>),
 }
 
-fn sign_joint(sign: Sign) -> Option<Joint>
+fn sign_joint(sign: Sign) -> Option<BinaryOperator>
     ensures { result ≡ sign_joint sign }
 {
     match sign {
-        Sign::Plus => Some(Joint::Arith(ArithOp::Add)),
-        Sign::Minus => Some(Joint::Arith(ArithOp::Sub)),
-        Sign::Star => Some(Joint::Arith(ArithOp::Mul)),
-        Sign::Equal => Some(Joint::Compare(CompareOp::Eq)),
-        Sign::NotEqual => Some(Joint::Compare(CompareOp::Ne)),
-        Sign::Less => Some(Joint::Compare(CompareOp::Lt)),
-        Sign::LessEqual => Some(Joint::Compare(CompareOp::Le)),
-        Sign::Greater => Some(Joint::Compare(CompareOp::Gt)),
-        Sign::GreaterEqual => Some(Joint::Compare(CompareOp::Ge)),
+        Sign::Plus => Some(BinaryOperator::Arith(ArithOp::Add)),
+        Sign::Minus => Some(BinaryOperator::Arith(ArithOp::Sub)),
+        Sign::Star => Some(BinaryOperator::Arith(ArithOp::Mul)),
+        Sign::Equal => Some(BinaryOperator::Compare(CompareOp::Eq)),
+        Sign::NotEqual => Some(BinaryOperator::Compare(CompareOp::Ne)),
+        Sign::Less => Some(BinaryOperator::Compare(CompareOp::Lt)),
+        Sign::LessEqual => Some(BinaryOperator::Compare(CompareOp::Le)),
+        Sign::Greater => Some(BinaryOperator::Compare(CompareOp::Gt)),
+        Sign::GreaterEqual => Some(BinaryOperator::Compare(CompareOp::Ge)),
         Sign::Open | Sign::Close | Sign::Comma | Sign::Dot | Sign::Semicolon => None,
     }
 }
 
-fn keyword_joint(keyword: Keyword) -> Option<Joint>
+fn keyword_joint(keyword: Keyword) -> Option<BinaryOperator>
     ensures { result ≡ keyword_joint keyword }
 {
     match keyword {
-        Keyword::And => Some(Joint::And),
-        Keyword::Or => Some(Joint::Or),
+        Keyword::And => Some(BinaryOperator::And),
+        Keyword::Or => Some(BinaryOperator::Or),
         _ => None,
     }
 }
 
-fn joint_of(token: &Token) -> Option<Joint>
+fn joint_of(token: &Token) -> Option<BinaryOperator>
     ensures { result ≡ joint_of token.now }
 {
     match token {
@@ -88,30 +88,30 @@ fn joint_of(token: &Token) -> Option<Joint>
     }
 }
 
-// How tightly a joint binds; NOT stands between AND and the comparisons.
-fn level(joint: Joint) -> u8
+// How tightly a binary operator binds; NOT stands between AND and the comparisons.
+fn level(joint: BinaryOperator) -> u8
     ensures is { result ≡ level joint }
     ensures bound { result ≤ 6 }
 {
     match joint {
-        Joint::Or => 1,
-        Joint::And => 2,
-        Joint::Compare(_) => 4,
-        Joint::Arith(ArithOp::Add | ArithOp::Sub) => 5,
-        Joint::Arith(ArithOp::Mul) => 6,
+        BinaryOperator::Or => 1,
+        BinaryOperator::And => 2,
+        BinaryOperator::Compare(_) => 4,
+        BinaryOperator::Arith(ArithOp::Add | ArithOp::Sub) => 5,
+        BinaryOperator::Arith(ArithOp::Mul) => 6,
     }
 }
 
-// The level of what may stand at a joint's right.
-fn level_above(joint: Joint) -> u8
+// The level of what may stand at a binary operator's right.
+fn level_above(joint: BinaryOperator) -> u8
     ensures is { result ≡ suc (level joint) }
     ensures bound { result ≤ 7 }
 {
     level(joint) + 1
 }
 
-// The joint at the front, where it binds at least so tightly, and the tokens behind it.
-fn next_joint(least: u8, tokens: &[Token]) -> Option<(Joint, &[Token])>
+// The binary operator at the front, where it binds at least so tightly, and the tokens behind it.
+fn next_joint(least: u8, tokens: &[Token]) -> Option<(BinaryOperator, &[Token])>
     ensures { option_map (λ p. (p.0, p.1.now)) result ≡ next_joint least tokens.now }
 {
     let (token, rest) = tokens.split_first()?;
@@ -123,42 +123,42 @@ fn next_joint(least: u8, tokens: &[Token]) -> Option<(Joint, &[Token])>
     }
 }
 
-fn side_of(part: Part) -> Result<Operand<ColumnRef>, Stop>
+fn side_of(part: Part) -> Result<Operand<ColumnRef>, ParseError>
     ensures { Gives side result (side_of (parsed part)) }
 {
     match part {
         Part::Plain(e) => Ok(Operand::Plain(Box::into_inner(e))),
         Part::Text(t) => Ok(Operand::Text(t)),
         Part::Call(c) => Ok(Operand::Agg(Box::into_inner(c))),
-        Part::Condition(_) => Err(Stop::Syntax),
+        Part::Condition(_) => Err(ParseError::Syntax),
     }
 }
 
-pub fn plain_of(part: Part) -> Result<Box<ExprOf<ColumnRef>>, Stop>
+pub fn plain_of(part: Part) -> Result<Box<ExprOf<ColumnRef>>, ParseError>
     ensures { Gives (λ e. formula e.value) result (plain_of (parsed part)) }
 {
     match part {
         Part::Plain(e) => Ok(e),
-        Part::Text(_) | Part::Call(_) | Part::Condition(_) => Err(Stop::Syntax),
+        Part::Text(_) | Part::Call(_) | Part::Condition(_) => Err(ParseError::Syntax),
     }
 }
 
-pub fn condition_of(part: Part) -> Result<Box<CondOf<ColumnRef>>, Stop>
+pub fn condition_of(part: Part) -> Result<Box<CondOf<ColumnRef>>, ParseError>
     ensures { Gives (λ c. condition c.value) result (condition_of (parsed part)) }
 {
     match part {
         Part::Condition(c) => Ok(c),
-        Part::Plain(_) | Part::Text(_) | Part::Call(_) => Err(Stop::Syntax),
+        Part::Plain(_) | Part::Text(_) | Part::Call(_) => Err(ParseError::Syntax),
     }
 }
 
-fn plain_part(alloc: Global, expr: ExprOf<ColumnRef>) -> Result<Part, Stop>
+fn plain_part(alloc: Global, expr: ExprOf<ColumnRef>) -> Result<Part, ParseError>
     ensures { Gives parsed result (Some (expression (formula expr))) }
 {
     Ok(Part::Plain(Box::new(alloc, expr)?))
 }
 
-fn condition_part(alloc: Global, condition: CondOf<ColumnRef>) -> Result<Part, Stop>
+fn condition_part(alloc: Global, condition: CondOf<ColumnRef>) -> Result<Part, ParseError>
     ensures { Gives parsed result (Some (truth (condition_tree condition))) }
 {
     Ok(Part::Condition(Box::new(alloc, condition)?))
@@ -171,7 +171,7 @@ fn calculated(
     op: ArithOp,
     left: Part,
     right: Part,
-) -> Result<Part, Stop>
+) -> Result<Part, ParseError>
     ensures { Gives parsed result (calculated clause op (parsed left) (parsed right)) }
 {
     match clause {
@@ -180,11 +180,11 @@ fn calculated(
             let b = plain_of(right)?;
             plain_part(alloc, ExprOf::Arith(op, a, b))
         }
-        Clause::OfGroups => Err(Stop::Syntax),
+        Clause::OfGroups => Err(ParseError::Syntax),
     }
 }
 
-fn compared(alloc: Global, op: CompareOp, left: Part, right: Part) -> Result<Part, Stop>
+fn compared(alloc: Global, op: CompareOp, left: Part, right: Part) -> Result<Part, ParseError>
     ensures { (k : Kind)
         → Gives parsed result (combined k (Compare op) (parsed left) (parsed right)) }
 {
@@ -193,7 +193,7 @@ fn compared(alloc: Global, op: CompareOp, left: Part, right: Part) -> Result<Par
     condition_part(alloc, CondOf::Compare(op, a, b))
 }
 
-fn both_of(alloc: Global, left: Part, right: Part) -> Result<Part, Stop>
+fn both_of(alloc: Global, left: Part, right: Part) -> Result<Part, ParseError>
     ensures { (k : Kind) → Gives parsed result (combined k And (parsed left) (parsed right)) }
 {
     let a = condition_of(left)?;
@@ -201,7 +201,7 @@ fn both_of(alloc: Global, left: Part, right: Part) -> Result<Part, Stop>
     condition_part(alloc, CondOf::And(a, b))
 }
 
-fn either_of(alloc: Global, left: Part, right: Part) -> Result<Part, Stop>
+fn either_of(alloc: Global, left: Part, right: Part) -> Result<Part, ParseError>
     ensures { (k : Kind) → Gives parsed result (combined k Or (parsed left) (parsed right)) }
 {
     let a = condition_of(left)?;
@@ -212,17 +212,17 @@ fn either_of(alloc: Global, left: Part, right: Part) -> Result<Part, Stop>
 fn combined(
     alloc: Global,
     clause: Clause,
-    joint: Joint,
+    joint: BinaryOperator,
     left: Part,
     right: Part,
-) -> Result<Part, Stop>
+) -> Result<Part, ParseError>
     ensures { Gives parsed result (combined clause joint (parsed left) (parsed right)) }
 {
     match joint {
-        Joint::Arith(op) => calculated(alloc, clause, op, left, right),
-        Joint::Compare(op) => compared(alloc, op, left, right),
-        Joint::And => both_of(alloc, left, right),
-        Joint::Or => either_of(alloc, left, right),
+        BinaryOperator::Arith(op) => calculated(alloc, clause, op, left, right),
+        BinaryOperator::Compare(op) => compared(alloc, op, left, right),
+        BinaryOperator::And => both_of(alloc, left, right),
+        BinaryOperator::Or => either_of(alloc, left, right),
     }
 }
 
@@ -231,56 +231,56 @@ fn column_at<'a>(
     alloc: Global,
     name: &Bytes,
     tokens: &'a [Token],
-) -> Result<(Part, &'a [Token]), Stop>
+) -> Result<(Part, &'a [Token]), ParseError>
     ensures { Gives (λ p. (parsed p.0, p.1.now)) result (Some (column_at name.now tokens.now)) }
 {
     let (column, rest) = dotted_at(name.copy()?, tokens)?;
     Ok((plain_part(alloc, ExprOf::Column(column))?, rest))
 }
 
-fn number_part(alloc: Global, negative: bool, size: u64) -> Result<Part, Stop>
+fn number_part(alloc: Global, negative: bool, size: u64) -> Result<Part, ParseError>
     ensures { Gives parsed result
         (Some (expression (number (record { negative = negative; size = size })))) }
 {
     plain_part(alloc, ExprOf::Number(Number { negative, size }))
 }
 
-fn negative_at(alloc: Global, tokens: &[Token]) -> Result<(Part, &[Token]), Stop>
+fn negative_at(alloc: Global, tokens: &[Token]) -> Result<(Part, &[Token]), ParseError>
     ensures { Gives (λ p. (parsed p.0, p.1.now)) result (negative_at tokens.now) }
 {
     match next_token(tokens)? {
         (Token::Number(size), rest) => Ok((number_part(alloc, true, *size)?, rest)),
-        _ => Err(Stop::Syntax),
+        _ => Err(ParseError::Syntax),
     }
 }
 
-fn after_close(tokens: &[Token]) -> Result<&[Token], Stop>
+fn after_close(tokens: &[Token]) -> Result<&[Token], ParseError>
     ensures { Gives (λ rest. rest.now) result (after_close tokens.now) }
 {
     let (token, rest) = next_token(tokens)?;
     match token {
         Token::Sign(Sign::Close) => Ok(rest),
-        _ => Err(Stop::Syntax),
+        _ => Err(ParseError::Syntax),
     }
 }
 
 // An expression stands in parentheses, but not in HAVING.
-fn closed_at(clause: Clause, part: Part, tokens: &[Token]) -> Result<(Part, &[Token]), Stop>
+fn closed_at(clause: Clause, part: Part, tokens: &[Token]) -> Result<(Part, &[Token]), ParseError>
     ensures { Gives (λ p. (parsed p.0, p.1.now)) result
         (closed_at clause (parsed part) tokens.now) }
 {
     match part {
         Part::Plain(e) => match clause {
             Clause::OfRows => Ok((Part::Plain(e), after_close(tokens)?)),
-            Clause::OfGroups => Err(Stop::Syntax),
+            Clause::OfGroups => Err(ParseError::Syntax),
         },
-        Part::Text(_) | Part::Call(_) => Err(Stop::Syntax),
+        Part::Text(_) | Part::Call(_) => Err(ParseError::Syntax),
         Part::Condition(c) => Ok((Part::Condition(c), after_close(tokens)?)),
     }
 }
 
 // What `count` is called with, behind the first parenthesis: nothing, or a star.
-fn count_at(tokens: &[Token]) -> Result<(AggCall<ColumnRef>, &[Token]), Stop>
+fn count_at(tokens: &[Token]) -> Result<(AggCall<ColumnRef>, &[Token]), ParseError>
     ensures { Gives (λ p. (call_tree p.0, p.1.now)) result (count_at tokens.now) }
 {
     let count = AggCall {
@@ -290,7 +290,7 @@ fn count_at(tokens: &[Token]) -> Result<(AggCall<ColumnRef>, &[Token]), Stop>
     match tokens {
         [Token::Sign(Sign::Close), ..] => Ok((count, &tokens[1..])),
         [Token::Sign(Sign::Star), Token::Sign(Sign::Close), ..] => Ok((count, &tokens[2..])),
-        _ => Err(Stop::Syntax),
+        _ => Err(ParseError::Syntax),
     }
 }
 
@@ -299,7 +299,7 @@ fn call_over(
     op: AggOp,
     part: Part,
     tokens: &[Token],
-) -> Result<(AggCall<ColumnRef>, &[Token]), Stop>
+) -> Result<(AggCall<ColumnRef>, &[Token]), ParseError>
     ensures { Gives (λ p. (call_tree p.0, p.1.now)) result
         (call_over op (Some (parsed part, tokens.now))) }
 {
@@ -320,13 +320,13 @@ pub fn called<'a>(word: &[u8], tokens: &'a [Token]) -> Option<(AggOp, &'a [Token
     }
 }
 
-fn negated(alloc: Global, part: Part) -> Result<Part, Stop>
+fn negated(alloc: Global, part: Part) -> Result<Part, ParseError>
     ensures { (rest : List Token)
         → Gives (λ p. (parsed p, rest)) result (negation_at (parsed part) rest) }
 {
     match part {
         Part::Condition(c) => condition_part(alloc, CondOf::Not(c)),
-        Part::Plain(_) | Part::Text(_) | Part::Call(_) => Err(Stop::Syntax),
+        Part::Plain(_) | Part::Text(_) | Part::Call(_) => Err(ParseError::Syntax),
     }
 }
 
@@ -337,7 +337,7 @@ pub fn call_at(
     op: AggOp,
     tokens: &[Token],
     depth: usize,
-) -> Result<(AggCall<ColumnRef>, &[Token]), Stop>
+) -> Result<(AggCall<ColumnRef>, &[Token]), ParseError>
     ensures { Gives (λ p. (call_tree p.0, p.1.now)) result (call_at (part_at depth) op tokens.now) }
 {
     match op {
@@ -357,7 +357,7 @@ fn word_at<'a>(
     word: &Bytes,
     tokens: &'a [Token],
     depth: usize,
-) -> Result<(Part, &'a [Token]), Stop>
+) -> Result<(Part, &'a [Token]), ParseError>
     ensures { Gives (λ p. (parsed p.0, p.1.now)) result
         (word_at clause (part_at depth) word.now tokens.now) }
 {
@@ -380,7 +380,7 @@ fn first_sign(
     sign: Sign,
     tokens: &[Token],
     depth: usize,
-) -> Result<(Part, &[Token]), Stop>
+) -> Result<(Part, &[Token]), ParseError>
     ensures { Gives (λ p. (parsed p.0, p.1.now)) result
         (first_sign clause (part_at depth) sign tokens.now) }
 {
@@ -390,7 +390,7 @@ fn first_sign(
             let (part, rest) = part_at(alloc, clause, CONDITION, tokens, depth)?;
             closed_at(clause, part, rest)
         }
-        _ => Err(Stop::Syntax),
+        _ => Err(ParseError::Syntax),
     }
 }
 
@@ -401,7 +401,7 @@ fn first_keyword(
     keyword: Keyword,
     tokens: &[Token],
     depth: usize,
-) -> Result<(Part, &[Token]), Stop>
+) -> Result<(Part, &[Token]), ParseError>
     ensures { Gives (λ p. (parsed p.0, p.1.now)) result
         (first_keyword clause (part_at depth) keyword tokens.now) }
 {
@@ -410,19 +410,19 @@ fn first_keyword(
             let (part, rest) = part_at(alloc, clause, COMPARISON, tokens, depth)?;
             Ok((negated(alloc, part)?, rest))
         }
-        _ => Err(Stop::Syntax),
+        _ => Err(ParseError::Syntax),
     }
 }
 
-// A part without joints: a column, a number, a string, a call, what stands in parentheses, or a
-// negation.
+// A part without binary operators: a column, a number, a string, a call, what stands in
+// parentheses, or a negation.
 #[cycle(part)]
 fn first_part(
     alloc: Global,
     clause: Clause,
     tokens: &[Token],
     depth: usize,
-) -> Result<(Part, &[Token]), Stop>
+) -> Result<(Part, &[Token]), ParseError>
     ensures { Gives (λ p. (parsed p.0, p.1.now)) result
         (first_part clause (part_at depth) tokens.now) }
 {
@@ -431,41 +431,42 @@ fn first_part(
         Token::Name(name) => word_at(alloc, clause, name, rest, depth),
         Token::Keyword(keyword) => first_keyword(alloc, clause, *keyword, rest, depth),
         Token::Number(size) => Ok((number_part(alloc, false, *size)?, rest)),
-        Token::LargeNumber => Err(Stop::Syntax),
+        Token::LargeNumber => Err(ParseError::Syntax),
         Token::Text(text) => Ok((Part::Text(text.copy()?), rest)),
         Token::Sign(sign) => first_sign(alloc, clause, *sign, rest, depth),
     }
 }
 
-/// The part at the front whose joints bind at least so tightly, and the tokens behind it. `depth`
-/// bounds how deep parts stand in parts; the count of the tokens is always enough.
+/// The part at the front whose binary operators bind at least so tightly, and the tokens behind it.
+/// `depth` bounds how deep parts stand in parts; the count of the tokens is always enough.
 #[cycle(part)]
+#[tactic(auto, using(crate::proofs::Turns::no_depth, crate::proofs::Turns::part_goes))]
 pub fn part_at(
     alloc: Global,
     clause: Clause,
     least: u8,
     tokens: &[Token],
     depth: usize,
-) -> Result<(Part, &[Token]), Stop>
+) -> Result<(Part, &[Token]), ParseError>
     ensures { Gives (λ p. (parsed p.0, p.1.now)) result (part_at depth clause least tokens.now) }
 {
     if depth == 0 {
-        return Err(Stop::Syntax);
+        return Err(ParseError::Syntax);
     }
     let (first, rest) = first_part(alloc, clause, tokens, depth - 1)?;
     joined(alloc, clause, least, first, rest, depth - 1)
 }
 
-// The part at the left, and what the joint joins to it.
+// The part at the left, and what the binary operator joins to it.
 #[cycle(part)]
 fn turn_of(
     alloc: Global,
     clause: Clause,
-    joint: Joint,
+    joint: BinaryOperator,
     left: Part,
     tokens: &[Token],
     depth: usize,
-) -> Result<(Part, &[Token]), Stop>
+) -> Result<(Part, &[Token]), ParseError>
     ensures { Gives (λ p. (parsed p.0, p.1.now)) result
         (turn_of clause (part_at depth) joint (parsed left) tokens.now) }
 {
@@ -473,8 +474,9 @@ fn turn_of(
     Ok((combined(alloc, clause, joint, left, right)?, rest))
 }
 
-// The part at the left, and all that joints as tight as `least` join to it.
+// The part at the left, and all that binary operators as tight as `least` join to it.
 #[cycle(part)]
+#[tactic(auto, using(crate::proofs::Turns::turn, crate::proofs::Turns::no_turn, crate::proofs::Turns::no_turns, crate::proofs::Turns::end_of_turns, crate::proofs::Turns::fault_goes))]
 fn joined(
     alloc: Global,
     clause: Clause,
@@ -482,7 +484,7 @@ fn joined(
     first: Part,
     tokens: &[Token],
     depth: usize,
-) -> Result<(Part, &[Token]), Stop>
+) -> Result<(Part, &[Token]), ParseError>
     ensures { Gives (λ p. (parsed p.0, p.1.now)) result
         (joined clause (part_at depth) least (suc (length tokens.now)) (parsed first) tokens.now) }
 {
@@ -497,9 +499,9 @@ fn joined(
                     part = next;
                     rest = after;
                 }
-                Err(stop) => return Err(stop),
+                Err(error) => return Err(error),
             },
         }
     }
-    Err(Stop::Syntax)
+    Err(ParseError::Syntax)
 }

@@ -2,18 +2,18 @@
 ghost use Rattle.std.specs.Prelude.{◌≡◌, Some, None, option_map, OnOk, IfOk};
 ghost use Rattle.sql_grammar.specs.Trees.{condition, query_tree, selection};
 ghost use Rattle.sql_text.specs.Answers.{Gives};
-ghost use Rattle.sql_text.specs.Queries.{join_at, condition_at, clause_at, keys_at, order_at, offset_at, limit_at, is_end, shaped, after_select, query_at};
+ghost use Rattle.sql_text.specs.Queries.{join_at, condition_at, clause_at, keys_at, order_at, offset_at, limit_at, is_end, span_at_end, ending_at, shaped, after_select, query_at};
 
 use crate::lists::{Separator, list_at, selection_at};
+use crate::parse_error::{ParseError, next_token};
 use crate::part::{CONDITION, Clause, condition_of, part_at};
-use crate::stop::{Stop, next_token};
 use crate::tables::{from_at, joined_table_at};
 use chunk_data::List;
 use query_model::query::{ColumnRef, CondOf, Items, Join, OrderKey, Query, Span, TableRef};
 use sql_grammar::{Keyword, Sign, Token};
 use std::alloc::Global;
 
-fn join_at(alloc: Global, tokens: &[Token]) -> Result<(Option<Join>, &[Token]), Stop>
+fn join_at(alloc: Global, tokens: &[Token]) -> Result<(Option<Join>, &[Token]), ParseError>
     ensures { Gives (λ p. (p.0, p.1.now)) result (join_at tokens.now) }
 {
     match tokens {
@@ -29,7 +29,7 @@ fn join_at(alloc: Global, tokens: &[Token]) -> Result<(Option<Join>, &[Token]), 
             let (join, rest) = joined_table_at(alloc, &tokens[2..])?;
             Ok((Some(join), rest))
         }
-        [Token::Keyword(Keyword::Inner), ..] => Err(Stop::Syntax),
+        [Token::Keyword(Keyword::Inner), ..] => Err(ParseError::Syntax),
         _ => Ok((None, tokens)),
     }
 }
@@ -40,7 +40,7 @@ fn condition_at(
     clause: Clause,
     tokens: &[Token],
     depth: usize,
-) -> Result<(Option<CondOf<ColumnRef>>, &[Token]), Stop>
+) -> Result<(Option<CondOf<ColumnRef>>, &[Token]), ParseError>
     ensures { Gives (λ p. (option_map condition p.0, p.1.now)) result
         (condition_at depth clause tokens.now) }
 {
@@ -54,7 +54,7 @@ fn clause_at(
     clause: Clause,
     tokens: &[Token],
     depth: usize,
-) -> Result<(Option<CondOf<ColumnRef>>, &[Token]), Stop>
+) -> Result<(Option<CondOf<ColumnRef>>, &[Token]), ParseError>
     ensures { Gives (λ p. (option_map condition p.0, p.1.now)) result
         (clause_at depth clause tokens.now) }
 {
@@ -69,7 +69,7 @@ fn clause_at(
     }
 }
 
-fn keys_at(alloc: Global, tokens: &[Token]) -> Result<(List<ColumnRef>, &[Token]), Stop>
+fn keys_at(alloc: Global, tokens: &[Token]) -> Result<(List<ColumnRef>, &[Token]), ParseError>
     ensures { Gives (λ p. (p.0, p.1.now)) result (keys_at tokens.now) }
 {
     match tokens {
@@ -78,12 +78,12 @@ fn keys_at(alloc: Global, tokens: &[Token]) -> Result<(List<ColumnRef>, &[Token]
             Token::Keyword(Keyword::By),
             ..
         ] => { list_at(alloc, Separator::Comma, &tokens[2..], 0) }
-        [Token::Keyword(Keyword::Group), ..] => Err(Stop::Syntax),
+        [Token::Keyword(Keyword::Group), ..] => Err(ParseError::Syntax),
         _ => Ok((List::new(alloc), tokens)),
     }
 }
 
-fn order_at(alloc: Global, tokens: &[Token]) -> Result<(List<OrderKey>, &[Token]), Stop>
+fn order_at(alloc: Global, tokens: &[Token]) -> Result<(List<OrderKey>, &[Token]), ParseError>
     ensures { Gives (λ p. (p.0, p.1.now)) result (order_at tokens.now) }
 {
     match tokens {
@@ -92,12 +92,12 @@ fn order_at(alloc: Global, tokens: &[Token]) -> Result<(List<OrderKey>, &[Token]
             Token::Keyword(Keyword::By),
             ..
         ] => { list_at(alloc, Separator::Comma, &tokens[2..], 0) }
-        [Token::Keyword(Keyword::Order), ..] => Err(Stop::Syntax),
+        [Token::Keyword(Keyword::Order), ..] => Err(ParseError::Syntax),
         _ => Ok((List::new(alloc), tokens)),
     }
 }
 
-fn offset_at(count: u64, tokens: &[Token]) -> Result<(Option<Span>, &[Token]), Stop>
+fn offset_at(count: u64, tokens: &[Token]) -> Result<(Option<Span>, &[Token]), ParseError>
     ensures { Gives (λ p. (p.0, p.1.now)) result (offset_at count tokens.now) }
 {
     match tokens {
@@ -105,19 +105,19 @@ fn offset_at(count: u64, tokens: &[Token]) -> Result<(Option<Span>, &[Token]), S
             let skip = *skip;
             Ok((Some(Span { count, skip }), &tokens[2..]))
         }
-        [Token::Keyword(Keyword::Offset), ..] => Err(Stop::Syntax),
+        [Token::Keyword(Keyword::Offset), ..] => Err(ParseError::Syntax),
         _ => Ok((Some(Span { count, skip: 0 }), tokens)),
     }
 }
 
-fn limit_at(tokens: &[Token]) -> Result<(Option<Span>, &[Token]), Stop>
+fn limit_at(tokens: &[Token]) -> Result<(Option<Span>, &[Token]), ParseError>
     ensures { Gives (λ p. (p.0, p.1.now)) result (limit_at tokens.now) }
 {
     match tokens {
         [Token::Keyword(Keyword::Limit), Token::Number(count), ..] => {
             offset_at(*count, &tokens[2..])
         }
-        [Token::Keyword(Keyword::Limit), ..] => Err(Stop::Syntax),
+        [Token::Keyword(Keyword::Limit), ..] => Err(ParseError::Syntax),
         _ => Ok((None, tokens)),
     }
 }
@@ -128,7 +128,45 @@ fn is_end(tokens: &[Token]) -> bool
     matches!(tokens, [] | [Token::Sign(Sign::Semicolon)])
 }
 
-// The query of these rows, with what is made of them: GROUP BY and the clauses behind it.
+// LIMIT at the end of the text.
+fn span_at_end(tokens: &[Token]) -> Result<Option<Span>, ParseError>
+    ensures { Gives (λ p. p) result (span_at_end tokens.now) }
+{
+    let (limit, rest) = limit_at(tokens)?;
+    if is_end(rest) {
+        Ok(limit)
+    } else {
+        Err(ParseError::Syntax)
+    }
+}
+
+/// What stands behind a query's rows: groups, their condition, the order and the span.
+#[derive(Drop)]
+struct Ending {
+    keys: List<ColumnRef>,
+    having: Option<CondOf<ColumnRef>>,
+    order: List<OrderKey>,
+    limit: Option<Span>,
+}
+
+// GROUP BY and the clauses behind it, up to the end of the text.
+fn ending_at(alloc: Global, tokens: &[Token], depth: usize) -> Result<Ending, ParseError>
+    ensures { Gives (λ e. (e.keys, option_map condition e.having, e.order, e.limit)) result
+        (ending_at depth tokens.now) }
+{
+    let (keys, rest) = keys_at(alloc, tokens)?;
+    let (having, rest) = clause_at(alloc, Clause::OfGroups, rest, depth)?;
+    let (order, rest) = order_at(alloc, rest)?;
+    let limit = span_at_end(rest)?;
+    Ok(Ending {
+        keys,
+        having,
+        order,
+        limit,
+    })
+}
+
+// The query of these rows, with what is made of them.
 fn shaped(
     alloc: Global,
     items: Items,
@@ -137,40 +175,34 @@ fn shaped(
     filter: Option<CondOf<ColumnRef>>,
     tokens: &[Token],
     depth: usize,
-) -> Result<Query, Stop>
+) -> Result<Query, ParseError>
     ensures { Gives query_tree result
         (shaped depth (selection items) from join (option_map condition filter) tokens.now) }
 {
-    let (keys, rest) = keys_at(alloc, tokens)?;
-    let (having, rest) = clause_at(alloc, Clause::OfGroups, rest, depth)?;
-    let (order, rest) = order_at(alloc, rest)?;
-    match limit_at(rest) {
-        Ok((limit, rest)) if is_end(rest) => Ok(Query {
-            items,
-            from,
-            join,
-            filter,
-            keys,
-            having,
-            order,
-            limit,
-        }),
-        Ok(_) => Err(Stop::Syntax),
-        Err(stop) => Err(stop),
-    }
+    let ending = ending_at(alloc, tokens, depth)?;
+    Ok(Query {
+        items,
+        from,
+        join,
+        filter,
+        keys: ending.keys,
+        having: ending.having,
+        order: ending.order,
+        limit: ending.limit,
+    })
 }
 
-fn after_select(tokens: &[Token]) -> Result<&[Token], Stop>
+fn after_select(tokens: &[Token]) -> Result<&[Token], ParseError>
     ensures { Gives (λ rest. rest.now) result (after_select tokens.now) }
 {
     match next_token(tokens)? {
         (Token::Keyword(Keyword::Select), rest) => Ok(rest),
-        _ => Err(Stop::Syntax),
+        _ => Err(ParseError::Syntax),
     }
 }
 
 /// The query that the tokens are, all of them. `depth` is that of `part_at`.
-pub fn query_at(alloc: Global, tokens: &[Token], depth: usize) -> Result<Query, Stop>
+pub fn query_at(alloc: Global, tokens: &[Token], depth: usize) -> Result<Query, ParseError>
     ensures { Gives query_tree result (query_at depth tokens.now) }
 {
     let (items, rest) = selection_at(alloc, after_select(tokens)?, depth)?;

@@ -5,7 +5,7 @@ ghost use Rattle.sql_grammar.specs.Tokens.{is_blank, is_word_byte, keyword_of, w
 ghost use Rattle.sql_grammar.specs.declared.TextPlace.TheVariants.{Middle};
 ghost use Rattle.sql_text.specs.Answers.{Gives};
 
-use crate::stop::Stop;
+use crate::parse_error::ParseError;
 use chunk_data::Bytes;
 use sql_grammar::{
     Sign, TextByte, TextPlace, Token, begins_with_letter, is_letter, is_word_byte, keyword_of,
@@ -31,7 +31,7 @@ fn word_at(bytes: &[u8]) -> &[u8]
     &bytes[..word_len(bytes)]
 }
 
-fn word_token(alloc: Global, word: &[u8]) -> Result<Token, Stop>
+fn word_token(alloc: Global, word: &[u8]) -> Result<Token, ParseError>
     ensures { Gives (λ t. t) result (Some (word_token word.now (keyword_of word.now))) }
 {
     match keyword_of(word) {
@@ -113,7 +113,7 @@ fn text_byte(place: TextPlace, b: u8) -> TextByte
 
 // The content of the string that begins behind its quote, and how many bytes it takes with its last
 // quote.
-fn text_at(alloc: Global, bytes: &[u8]) -> Result<(Bytes, usize), Stop>
+fn text_at(alloc: Global, bytes: &[u8]) -> Result<(Bytes, usize), ParseError>
     ensures read { Gives (λ p. p) result (text_at Middle bytes.now) }
     ensures within { IfOk result (λ p. p.1 ≤ length bytes.now) }
 {
@@ -127,12 +127,12 @@ fn text_at(alloc: Global, bytes: &[u8]) -> Result<(Bytes, usize), Stop>
             }
             TextByte::Passed(next) => place = next,
             TextByte::Behind => return Ok((Bytes::from_vec(content), i)),
-            TextByte::Bad => return Err(Stop::Syntax),
+            TextByte::Bad => return Err(ParseError::Syntax),
         }
     }
     match place {
         TextPlace::BehindQuote => Ok((Bytes::from_vec(content), bytes.len())),
-        TextPlace::Middle | TextPlace::BehindBackslash => Err(Stop::Syntax),
+        TextPlace::Middle | TextPlace::BehindBackslash => Err(ParseError::Syntax),
     }
 }
 
@@ -178,31 +178,31 @@ fn comparison_sign(b: u8, more: &[u8]) -> Option<(Sign, usize)>
     }
 }
 
-fn word_front(alloc: Global, bytes: &[u8]) -> Result<(Token, usize), Stop>
+fn word_front(alloc: Global, bytes: &[u8]) -> Result<(Token, usize), ParseError>
     ensures { Gives (λ p. p) result (Some (word_front bytes.now)) }
 {
     let word = word_at(bytes);
     Ok((word_token(alloc, word)?, word.len()))
 }
 
-fn number_front(bytes: &[u8]) -> Result<(Token, usize), Stop>
+fn number_front(bytes: &[u8]) -> Result<(Token, usize), ParseError>
     ensures { Gives (λ p. p) result (number_front bytes.now) }
 {
     let digits = digits_at(bytes);
     if begins_with_letter(&bytes[digits.len()..]) {
-        return Err(Stop::Syntax);
+        return Err(ParseError::Syntax);
     }
     Ok((number_token(digits), digits.len()))
 }
 
-fn text_front(alloc: Global, bytes: &[u8]) -> Result<(Token, usize), Stop>
+fn text_front(alloc: Global, bytes: &[u8]) -> Result<(Token, usize), ParseError>
     ensures { Gives (λ p. p) result (text_front bytes.now) }
 {
     let (content, len) = text_at(alloc, bytes)?;
     Ok((Token::Text(content), len + 1))
 }
 
-fn sign_front(b: u8, more: &[u8]) -> Result<(Token, usize), Stop>
+fn sign_front(b: u8, more: &[u8]) -> Result<(Token, usize), ParseError>
     ensures { Gives (λ p. p) result (sign_front b more.now) }
 {
     if let Some(sign) = single_sign(b) {
@@ -210,12 +210,17 @@ fn sign_front(b: u8, more: &[u8]) -> Result<(Token, usize), Stop>
     }
     match comparison_sign(b, more) {
         Some((sign, len)) => Ok((Token::Sign(sign), len)),
-        None => Err(Stop::Syntax),
+        None => Err(ParseError::Syntax),
     }
 }
 
 // The token at the front, and how many bytes it takes.
-fn token_at(alloc: Global, first: u8, more: &[u8], bytes: &[u8]) -> Result<(Token, usize), Stop>
+fn token_at(
+    alloc: Global,
+    first: u8,
+    more: &[u8],
+    bytes: &[u8],
+) -> Result<(Token, usize), ParseError>
     requires { bytes.now ≡ first ∷ more.now }
     ensures { Gives (λ p. p) result (token_front bytes.now) }
 {
@@ -239,7 +244,8 @@ fn next_byte(bytes: &[u8]) -> Option<(u8, &[u8])>
 }
 
 /// The tokens of a text.
-pub fn tokens_of(alloc: Global, text: &[u8]) -> Result<Vec<Token>, Stop>
+#[tactic(auto, using(crate::proofs::Bytes::tokens_passed, crate::proofs::Bytes::tokens_blank, crate::proofs::Bytes::tokens_end))]
+pub fn tokens_of(alloc: Global, text: &[u8]) -> Result<Vec<Token>, ParseError>
     ensures { Gives (λ v. v.items) result (tokens_of text.now) }
 {
     let mut tokens = Vec::new(alloc);
@@ -261,7 +267,7 @@ pub fn tokens_of(alloc: Global, text: &[u8]) -> Result<Vec<Token>, Stop>
                 tokens.push(token)?;
                 taken = len.saturating_sub(1);
             }
-            Err(stop) => return Err(stop),
+            Err(error) => return Err(error),
         }
     }
     Ok(tokens)

@@ -5,23 +5,24 @@ ghost use Rattle.sql_grammar.specs.Names.{query_tree, Spells};
 ghost use Rattle.sql_text.specs.Refusals.{IsReadFrom, IsRefused, refusal_of};
 
 use crate::limits::{MAX_TEXT, ParseRefusal, token_refusal};
+use crate::parse_error::ParseError;
 use crate::queries::query_at;
 use crate::scan::tokens_of;
-use crate::stop::Stop;
 use query_model::query::Query;
 use std::alloc::Global;
 
-fn refusal_of(stop: Stop) -> ParseRefusal
-    ensures { result ≡ refusal_of stop }
+fn refusal_of(error: ParseError) -> ParseRefusal
+    ensures { result ≡ refusal_of error }
 {
-    match stop {
-        Stop::Syntax => ParseRefusal::Syntax,
-        Stop::Memory => ParseRefusal::Memory,
+    match error {
+        ParseError::Syntax => ParseRefusal::Syntax,
+        ParseError::Memory => ParseRefusal::Memory,
     }
 }
 
 /// The query that spells the text, up to the boxes that it lies in. Refusals other than Memory come
 /// in the order of `ParseRefusal`.
+#[tactic(auto, using(crate::proofs::Readings::is_refused))]
 pub fn parse(alloc: Global, text: &[u8]) -> Result<Query, ParseRefusal>
     // What `Ok` means.
     ensures read { IfOk result (λ q. IsReadFrom q text.now) }
@@ -33,7 +34,7 @@ pub fn parse(alloc: Global, text: &[u8]) -> Result<Query, ParseRefusal>
     }
     let tokens = match tokens_of(alloc, text) {
         Ok(tokens) => tokens,
-        Err(stop) => return Err(refusal_of(stop)),
+        Err(error) => return Err(refusal_of(error)),
     };
     let tokens = tokens.as_slice();
     if let Some(refusal) = token_refusal(tokens) {
@@ -41,7 +42,7 @@ pub fn parse(alloc: Global, text: &[u8]) -> Result<Query, ParseRefusal>
     }
     match query_at(alloc, tokens, tokens.len()) {
         Ok(query) => Ok(query),
-        Err(stop) => Err(refusal_of(stop)),
+        Err(error) => Err(refusal_of(error)),
     }
 }
 

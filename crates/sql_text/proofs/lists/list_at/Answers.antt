@@ -3,7 +3,7 @@ use Rattle.sql_text.proofs.ListTurns.{at_next, at_end, at_fault, no_turns}
 use Rattle.sql_text.proofs.lists.list_at.Goals as goal
 
 pub returns-in-Err : goal.returns-in-Err
-returns-in-Err g c = at_fault c.loop-turn.invariant (omega arith) c.in-Err.stop c.in-Err.ensures
+returns-in-Err g c = at_fault c.loop-turn.invariant (omega arith) c.in-Err.error c.in-Err.ensures
 
 pub loop-turn-preserved : goal.loop-turn-preserved
 loop-turn-preserved g c =

@@ -1,19 +1,7 @@
 use Rattle.sql_text.proofs.Imports.{◌≡◌, ◌-◌, sym, ap, ◌∙◌, arith, behind_token, tokens_behind}
 use Rattle.sql_text.proofs.Turns.{fault_goes}
-use Rattle.sql_text.proofs.Bytes.{tokens_with, tokens_passed, tokens_blank, tokens_front, token_step, tokens_end}
+use Rattle.sql_text.proofs.Bytes.{tokens_with, tokens_front, token_step}
 use Rattle.sql_text.proofs.scan.tokens_of.Goals as goal
-
-pub loop-first-preserved-then-taken-gt0 : goal.loop-first-preserved-then-taken-gt0
-loop-first-preserved-then-taken-gt0 c =
-    c.loop-first.invariant ∙ ap (tokens_with c.loop-first.tokens.items)
-    (tokens_passed c.loop-first.taken c.in-Some.first c.in-Some.more.now c.loop-first.rest.now
-    c.in-Some.ensures (omega arith))
-
-pub loop-first-preserved-then-is_blank : goal.loop-first-preserved-then-is_blank
-loop-first-preserved-then-is_blank c =
-    c.loop-first.invariant ∙ ap (tokens_with c.loop-first.tokens.items)
-    (tokens_blank c.loop-first.taken c.in-Some.first c.in-Some.more.now c.loop-first.rest.now
-    c.in-Some.ensures (omega arith) (sym c.if-is_blank.ensures))
 
 pub loop-first-preserved : goal.loop-first-preserved
 loop-first-preserved c =
@@ -33,12 +21,7 @@ pub returns-in-Err : goal.returns-in-Err
 returns-in-Err c =
     let front = c.loop-first.tokens.items in
     let bytes = c.in-Some.more.now in
-    fault_goes c.in-Err.stop _ _ c.in-Err.ensures (λ none. c.loop-first.invariant
+    fault_goes c.in-Err.error _ _ c.in-Err.ensures (λ none. c.loop-first.invariant
     ∙ ap (tokens_with front) (tokens_front c.loop-first.taken c.in-Some.first bytes
     c.loop-first.rest.now c.in-Some.ensures (omega arith) (sym c.if-is_blank.ensures))
     ∙ ap (λ r. tokens_with front (behind_token r (λ n. tokens_behind n bytes))) none)
-
-pub returns : goal.returns
-returns c =
-    c.loop-first.invariant ∙ tokens_end c.loop-first.taken c.loop-first.tokens.items
-    c.loop-first.rest.now c.in_default.ensures
