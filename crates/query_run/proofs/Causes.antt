@@ -1,5 +1,5 @@
 -- Why a plan gave no text, as what is said of the command, its part and the box that served it.
-use Rattle.query_run.proofs.Prelude.{AreLawfulOver, BadPlace, Begins, BoxPicture, Checked, Command, DraftNode, FailsAtPart, FailsWith, Files, GraphForm, HasNoReader, HasStock, IfSome, IsFileNamed, IsListNamed, IsLongFile, IsPartNamed, IsPlanFault, IsRunnable, IsSourceKind, KeepsBehind, Kind, LeavesPlan, LeavesRack, List, OfPart, Option, PartFailsFor, PartFailure, PartName, PartSpec, PlanFailsFor, PlanFailure, PlanFault, PlanFaultHolds, RanPlan, RanWith, Rose, RunsPlan, Some, Spec, Tells, UsedPart, WorkFault, ap, arith, bad_line_in, both_ways, box_at, cases_lt, failure_of, file_bytes, inl, inr, is_some, kind_of, kinds_for, kinds_reserved, length, length-map, part_bad_place, plan_nodes, plan_of, raised, refl, reserves_from, spec_at, specs_in, subst, sym, taken_at, true, used_part, ℕ, ◌<◌, ◌∙◌, ◌≡◌, ◌≤◌}
+use Rattle.query_run.proofs.Prelude.{AreLawfulOver, BadPlace, Begins, BoxPicture, Checked, Command, CountIncreased, DraftNode, FailsAtPart, FailsWith, Files, GraphForm, HasNoReader, HasStock, IfSome, IsFileNamed, IsListNamed, IsLongFile, IsPartNamed, IsPlanFault, IsRunnable, IsSourceKind, KeepsBehind, Kind, LeavesPlan, LeavesRack, List, OfPart, Option, PartFailsFor, PartFailure, PartName, PartSpec, PlanFailsFor, PlanFailure, PlanFault, PlanFaultHolds, RanPlan, RanWith, RunsPlan, Some, Spec, Tells, UsedPart, WorkFault, ap, arith, bad_line_in, both_ways, box_at, cases_lt, failure_of, file_bytes, inl, inr, is_some, kind_of, kinds_for, kinds_reserved, length, length-map, part_bad_place, plan_nodes, plan_of, raised, refl, reserves_from, spec_at, specs_in, subst, sym, taken_at, true, used_part, ℕ, ◌<◌, ◌∙◌, ◌≡◌, ◌≤◌}
 use Rattle.query_model.specs.declared.processor_spec.Kind.TheVariants as kind
 use Rattle.query_model.specs.declared.processor_spec.Spec.TheVariants as spec
 use Rattle.proc_api.specs.declared.status.WorkFault.TheVariants as fault
@@ -12,7 +12,7 @@ use Rattle.query_run.proofs.Plans.{AreCopies, ended-files, ended-lawful, kinds-f
 -- ---- counts
 
 -- a count that rose since `load` has risen
-rose-by-one : (p n q : ℕ) → 0 < n → raised p n ≤ q → Rose p q
+rose-by-one : (p n q : ℕ) → 0 < n → raised p n ≤ q → CountIncreased p q
 rose-by-one p n q some h = omega (arith, some, h)
 
 rose-by-many : (p n q : ℕ) → 1000000 ≤ n → raised p n ≤ q → raised p 1000000 ≤ q
@@ -148,7 +148,8 @@ module _ {c : Command} {q : Checked} {before : List BoxPicture} {nodes : List Dr
       let zero_faults = none-rose _ _ _ r.faults_since none.faults in
       omega (arith, zero_faults, some)) in
       fails-at node fault.Read g source part.Read
-      (subst (λ n. Rose (taken node fault.Read g).faults n) (sym (given_faults node fault.Read g))
+      (subst (λ n. CountIncreased (taken node fault.Read g).faults n)
+      (sym (given_faults node fault.Read g))
       (rose-by-one _ (box node fault.Read g).notes.faults (box node fault.Read g).faults some
       r.faults_since))
 

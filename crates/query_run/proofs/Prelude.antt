@@ -13,7 +13,7 @@ pub use Rattle.exec_laws.specs.Births.{AreBirths, Birth, IsBirth, TakeBlanks, al
 pub use Rattle.exec_laws.specs.Growths.{end_node, form_kind, growth_flaw, has_wrong_end, is_named, new_wire, new_wires, places_for}
 pub use Rattle.exec_laws.specs.Names.{IsDone}
 pub use Rattle.outside_io.proofs.Growing.{GrewByPrefix-after, GrewByPrefix-append}
-pub use Rattle.outside_io.specs.Counts.{Rose, Rose-earlier}
+pub use Rattle.outside_io.specs.Counts.{CountIncreased, CountIncreased-earlier}
 pub use Rattle.outside_io.specs.Growth.{GrewBy, GrewByPrefix, Untouched}
 pub use Rattle.pipeline_exec.specs.Ends.{HasGrown}
 pub use Rattle.plan_ends.proofs.Columns.{IsTypedSelect, typed-select}

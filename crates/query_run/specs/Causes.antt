@@ -1,7 +1,7 @@
 -- Why a run failed before its first byte was written, each cause once.
 use Rattle.std.specs.Prelude.{◌≡◌, ◌⊎◌, ℕ, ◌+◌, ◌<◌, ◌≤◌, false, List, length, slice_get, take, Some, None}
 use Rattle.std.specs.List.{Contains}
-use Rattle.outside_io.specs.Counts.{Rose}
+use Rattle.outside_io.specs.Counts.{CountIncreased}
 use Rattle.query_model.specs.Names.{Files, UsedPart, bad_line_in, file_bytes, part_bad_place, used_parts, used_tables}
 use Rattle.query_model.specs.declared.query.PartsDecl.TheVariants.{ListFile}
 use Rattle.query_model.specs.declared.query.TableDecl.{TableDecl}
@@ -102,7 +102,7 @@ PartFailsFor (part.Bad place) c q name before taken given = OverFiles before (λ
 PartFailsFor (part.BadList line) c q name before taken given = OverFiles before (λ files.
     (path : List ℕ) × IsListNamed c q name 0 path
     × (bad_line_in (file_bytes files path) ≡ Some line))
-PartFailsFor part.Read c q name before taken given = Rose taken.faults given.faults
+PartFailsFor part.Read c q name before taken given = CountIncreased taken.faults given.faults
 PartFailsFor part.Stalled c q name before taken given =
     raised taken.pendings 1000000 ≤ given.pendings
 PartFailsFor part.TooLong c q name before taken given = OverFiles before (λ files.

@@ -8,7 +8,7 @@ ghost use Rattle.plan_run.specs.Plans.{kinds_taken, Begins, KeepsBehind, LeavesR
 ghost use Rattle.query_run.specs.declared.ending.PlanFailure.TheVariants as failures;
 ghost use Rattle.query_run.specs.Names.{IsRunnable, IsCheckedCommand, OfQuery, FailsFor, PlanFailsFor, MakesText, failure_of, name_at, GivesText, IsPlanFault, IsPlanned, Tells};
 
-use crate::checking::checked_query;
+use crate::checking::check_command;
 use crate::ending::{Failure, PartFailure, PlanFailure};
 use crate::planning::{PartPlace, graph_of, part_name, part_places};
 use crate::stock::first_shortage;
@@ -40,7 +40,7 @@ pub(crate) fn make_text<R: AllocGlobal + Threads + Sync>(
         (map (λ b. seen (b.vtable, b.value)) rack.new.boxes.items)) }
 {
     match read_words(rt.alloc(), words) {
-        Ok(command) => match checked_query(rt.alloc(), &command) {
+        Ok(command) => match check_command(rt.alloc(), &command) {
             Ok(checked) => match checked_text(rt, command, checked, rack) {
                 Ok(text) => Ok(text),
                 Err(failure) => Err(Failure::Plan(failure)),

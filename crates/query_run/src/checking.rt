@@ -13,7 +13,7 @@ use sql_text::parse;
 use std::alloc::Global;
 
 /// The checked query of the command's text.
-pub(crate) fn checked_query(alloc: Global, command: &Command) -> Result<Checked, Refused>
+pub(crate) fn check_command(alloc: Global, command: &Command) -> Result<Checked, Refused>
     ensures checked { IfOk result (IsCheckedCommand command.now) }
     ensures refused { IfErr result (λ r. IsRefusedFor r command.now) }
 {

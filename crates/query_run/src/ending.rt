@@ -1,5 +1,5 @@
 ghost use Rattle.std.specs.Prelude.{◌≡◌, ◌≤◌};
-ghost use Rattle.outside_io.specs.Counts.{Rose};
+ghost use Rattle.outside_io.specs.Counts.{CountIncreased};
 ghost use Rattle.query_run.specs.Endings.{text_status, query_status, refused_status, part_status, plan_status, failure_status, status_of, line_of, TellsLine};
 
 use crate::stock::Shortage;
@@ -148,7 +148,8 @@ impl Ending {
     /// not reported.
     pub(crate) fn tell<E: Sink>(&self, err: &mut E)
         ensures line { TellsLine (line_of self.now)
-            (E.written err.old) (E.written err.new) (Rose (E.faults err.old) (E.faults err.new)) }
+            (E.written err.old) (E.written err.new)
+            (CountIncreased (E.faults err.old) (E.faults err.new)) }
         ensures faults_kept { E.faults err.old ≤ E.faults err.new }
     {
         match self {

@@ -1,5 +1,5 @@
 ghost use Rattle.std.specs.Prelude.{◌≡◌, ◌≤◌, ◌++◌, ◌∷◌, [], codes, decimal, flat_map};
-ghost use Rattle.outside_io.specs.Counts.{Rose};
+ghost use Rattle.outside_io.specs.Counts.{CountIncreased};
 ghost use Rattle.query_run.specs.declared.ending.PlanFailure.TheVariants as plan;
 ghost use Rattle.query_run.specs.declared.ending.PartFailure.TheVariants as part;
 ghost use Rattle.query_run.specs.Endings.{text_line, query_line, refused_line, kind_name, part_words, place_words, field_words, plan_line, failure_line, piece_bytes, TellsLine, Writes};
@@ -30,7 +30,8 @@ const NONE: Piece<'static> = Piece::Text(b"");
 /// Writes the pieces one after another, until the sink fails.
 pub(crate) fn tell<E: Sink>(err: &mut E, pieces: &[Piece<'_>])
     ensures line { TellsLine (flat_map piece_bytes pieces.now)
-        (E.written err.old) (E.written err.new) (Rose (E.faults err.old) (E.faults err.new)) }
+        (E.written err.old) (E.written err.new)
+        (CountIncreased (E.faults err.old) (E.faults err.new)) }
     ensures faults_kept { E.faults err.old ≤ E.faults err.new }
 {
     let _ = write_pieces(err, pieces);
@@ -39,7 +40,7 @@ pub(crate) fn tell<E: Sink>(err: &mut E, pieces: &[Piece<'_>])
 fn write_pieces<E: Sink>(err: &mut E, pieces: &[Piece<'_>]) -> Result<(), WriteFault>
     ensures line { Writes (flat_map piece_bytes pieces.now)
         (E.written err.old) (E.written err.new)
-        (Rose (E.faults err.old) (E.faults err.new)) result }
+        (CountIncreased (E.faults err.old) (E.faults err.new)) result }
     ensures faults_kept { E.faults err.old ≤ E.faults err.new }
 {
     for i in 0..pieces.len() {
@@ -54,7 +55,7 @@ fn write_pieces<E: Sink>(err: &mut E, pieces: &[Piece<'_>]) -> Result<(), WriteF
 fn write_piece<E: Sink>(err: &mut E, piece: Piece<'_>) -> Result<(), WriteFault>
     ensures line { Writes (piece_bytes piece.entry)
         (E.written err.old) (E.written err.new)
-        (Rose (E.faults err.old) (E.faults err.new)) result }
+        (CountIncreased (E.faults err.old) (E.faults err.new)) result }
     ensures faults_kept { E.faults err.old ≤ E.faults err.new }
 {
     match piece {
@@ -72,8 +73,8 @@ pub(crate) fn failure_pieces(failure: &Failure) -> Line<'_>
 {
     match failure {
         Failure::Usage => named(
-            b"qrun: usage: qrun --query QUERY [--tables TABLES] [--threads N] [--chunk N] [--header]",
-            b"",
+            b"qrun: usage: qrun --query QUERY [--tables TABLES] [--threads N] [--chunk N]",
+            b" [--header]",
         ),
         Failure::Refused(refused) => refused_pieces(refused),
         Failure::Plan(failure) => plan_pieces(failure),

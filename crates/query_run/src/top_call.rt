@@ -1,6 +1,6 @@
 ghost use Rattle.std.specs.Prelude.{map, string_bytes};
 ghost use Rattle.std.specs.List.{All};
-ghost use Rattle.outside_io.specs.Counts.{Rose};
+ghost use Rattle.outside_io.specs.Counts.{CountIncreased};
 ghost use Rattle.proc_api.specs.Clauses.{IsBlank};
 ghost use Rattle.query_run.specs.Headline.{EndsFor, IsRun};
 
@@ -30,8 +30,10 @@ pub fn run<R: AllocGlobal + Threads + Sync, O: Sink, E: Sink>(
     ensures { IsRun (map string_bytes words.now)
         (map (λ b. seen (b.vtable, b.value)) rack.old.boxes.items)
         (map (λ b. seen (b.vtable, b.value)) rack.new.boxes.items) result
-        (O.written out.old) (O.written out.new) (Rose (O.faults out.old) (O.faults out.new))
-        (E.written err.old) (E.written err.new) (Rose (E.faults err.old) (E.faults err.new)) }
+        (O.written out.old) (O.written out.new)
+        (CountIncreased (O.faults out.old) (O.faults out.new))
+        (E.written err.old) (E.written err.new)
+        (CountIncreased (E.faults err.old) (E.faults err.new)) }
 {
     let ending = end_of(rt, words, rack, out);
     ending.tell(err);
@@ -48,7 +50,8 @@ fn end_of<R: AllocGlobal + Threads + Sync, O: Sink>(
     ensures ends { EndsFor result (map string_bytes words.now)
         (map (λ b. seen (b.vtable, b.value)) rack.old.boxes.items)
         (map (λ b. seen (b.vtable, b.value)) rack.new.boxes.items)
-        (O.written out.old) (O.written out.new) (Rose (O.faults out.old) (O.faults out.new)) }
+        (O.written out.old) (O.written out.new)
+        (CountIncreased (O.faults out.old) (O.faults out.new)) }
     ensures blank { All IsBlank (map (λ b. seen (b.vtable, b.value)) rack.new.boxes.items) }
 {
     match make_text(rt, words, rack) {

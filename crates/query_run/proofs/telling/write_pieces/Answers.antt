@@ -1,4 +1,4 @@
-use Rattle.query_run.proofs.Prelude.{Rose-earlier}
+use Rattle.query_run.proofs.Prelude.{CountIncreased-earlier}
 use Rattle.query_run.proofs.Lines.{writes-cut}
 use Rattle.query_run.proofs.telling.write_pieces.Goals as goal
 
@@ -6,4 +6,4 @@ pub returns-in-Err-clause-line : goal.returns-in-Err-clause-line
 returns-in-Err-clause-line g c =
     writes-cut c.args.pieces.now c.loop-i.i _ _ _ _ _ _ c.loop-i-test.true c.loop-i.invariant.grew
     c.in-Err.ensures.line.grew_by_prefix
-    (Rose-earlier _ _ _ c.loop-i.invariant.kept c.in-Err.ensures.line.fault)
+    (CountIncreased-earlier _ _ _ c.loop-i.invariant.kept c.in-Err.ensures.line.fault)
