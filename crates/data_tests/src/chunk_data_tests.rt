@@ -1,12 +1,15 @@
 ghost use Rattle.std.specs.Prelude.{◌≡◌, ◌∷◌, [], IfOk};
+ghost use Rattle.chunk_data.specs.Columns.{kind_of};
 
+use crate::literals::{check_each, halves};
 use chunk_data::{
     Bytes, Chunk, Column, ColumnType, List, Memory, SortKey, Texts, Value, empty_columns,
     truncate_columns,
 };
+use query_model::plain::row_text;
 use std::alloc::Global;
 use std::cmp::Ordering;
-use std::process::Abort;
+use std::str::from_utf8;
 use std::test::Fail;
 
 // A chunk of one Int64 column.
@@ -17,37 +20,18 @@ fn numbers(alloc: Global, values: &[i64]) -> Result<Chunk, Memory>
     Chunk::of_columns(alloc, List::from_vec(vec![in alloc; column]?), values.len())
 }
 
-// The value, with a bar after it.
-fn show(text: &mut String, value: &Value) -> Result<(), Fail> {
-    let alloc = *text.allocator();
-    match value {
-        Value::Int(number) => text.push_str(format!(in alloc; "{number}")?.as_str())?,
-        Value::UInt(number) => text.push_str(format!(in alloc; "{number}")?.as_str())?,
-        Value::Text(bytes) => {
-            for byte in bytes.as_slice() {
-                text.push(*byte as char)?;
-            }
-        }
-    }
-    text.push('|')?;
-    Ok(())
-}
-
-// The rows, a line each.
-fn expect_rows(rt: &impl Abort, alloc: Global, chunk: &Chunk, want: &str) -> Result<(), Fail> {
-    let mut text = String::new(alloc);
+// The rows, a line each, and a point.
+fn add_rows(out: &mut String, chunk: &Chunk) -> Result<(), Fail> {
+    let alloc = *out.allocator();
     for i in 0..chunk.rows() {
-        for value in chunk.row(i)?.as_slice() {
-            show(&mut text, value)?;
-        }
-        text.push('\n')?;
+        let line = row_text(alloc, chunk.row(i)?.as_slice())?;
+        out.push_str(from_utf8(&line).unwrap_or("?"))?;
     }
-    assert_eq!(rt; text.as_str(), want);
-    Ok(())
+    Ok(out.push('.')?)
 }
 
 // How two rows compare by one column.
-fn ordered(chunk: &Chunk, i: usize, j: usize, column: u32, descending: bool) -> Option<Ordering> {
+fn compared(chunk: &Chunk, i: usize, j: usize, column: u32, descending: bool) -> Option<Ordering> {
     if i < chunk.rows() && j < chunk.rows() && (column as usize) < chunk.types().len() {
         return Some(chunk.compare_rows(i, chunk, j, &[SortKey { column, descending }]));
     }
@@ -55,7 +39,9 @@ fn ordered(chunk: &Chunk, i: usize, j: usize, column: u32, descending: bool) -> 
 }
 
 // The texts as a column.
-fn column_of_texts(alloc: Global, texts: &[&[u8]]) -> Result<Column, Memory> {
+fn column_of_texts(alloc: Global, texts: &[&[u8]]) -> Result<Column, Memory>
+    ensures { IfOk result (λ c. kind_of c ≡ ColumnType.Text) }
+{
     let mut column = Texts::new(alloc);
     for text in texts {
         column.push(text)?;
@@ -79,54 +65,54 @@ fn places(alloc: Global) -> Result<Chunk, Memory> {
     )
 }
 
+// How two rows compare by a column, and in which direction.
+fn order_text(alloc: Global, text: &str) -> Result<String, Fail> {
+    let (i, rest) = halves(text, ' ');
+    let (j, rest) = halves(rest, ' ');
+    let (column, sign) = halves(rest, ' ');
+    let (i, j) = (i.parse().unwrap_or(9), j.parse().unwrap_or(9));
+    let column = column.parse().unwrap_or(9);
+    let order = compared(&places(alloc)?, i, j, column, sign == "-");
+    Ok(format!(in alloc; "{order:?}")?)
+}
+
+static ORDERS: [&str; 8] = [
+    "0 1 0 +~Some(Less)",
+    "0 1 0 -~Some(Greater)",
+    "0 2 0 +~Some(Equal)",
+    "3 0 1 +~Some(Greater)",
+    "1 0 2 +~Some(Less)",
+    "2 1 2 +~Some(Less)",
+    "2 1 2 -~Some(Greater)",
+    "3 2 2 +~Some(Less)",
+];
+
 #[test]
 fn rows_of_all_types_are_compared(rt: HostRuntime) -> Result<(), Fail> {
-    let chunk = places(rt.alloc())?;
-    let cases = [
-        (0, 1, 0, false, Ordering::Less),
-        (0, 1, 0, true, Ordering::Greater),
-        (0, 2, 0, false, Ordering::Equal),
-        (3, 0, 1, false, Ordering::Greater),
-        (1, 0, 2, false, Ordering::Less),
-        (2, 1, 2, false, Ordering::Less),
-        (2, 1, 2, true, Ordering::Greater),
-        (3, 2, 2, false, Ordering::Less),
-    ];
-    for (i, j, column, descending, order) in cases {
-        assert_eq!(rt; ordered(&chunk, i, j, column, descending), Some(order));
+    check_each(&rt, rt.alloc(), &ORDERS, order_text)
+}
+
+fn gathered_and_kept(alloc: Global, out: &mut String) -> Result<(), Fail> {
+    let mut chunk = places(alloc)?;
+    if chunk.rows() != 4 {
+        return Err("there are four rows".into());
     }
-    Ok(())
-}
-
-#[test]
-fn texts_are_kept_and_gathered(rt: HostRuntime) -> Result<(), Fail> {
-    let alloc = rt.alloc();
-    let mut chunk = places(alloc)?;
-    assert_eq!(rt; chunk.rows(), 4);
-    expect_rows(
-        &rt,
-        alloc,
-        &chunk.gather(&[1, 3, 1])?,
-        "3|0|ab|\n0|18446744073709551615||\n3|0|ab|\n",
-    )?;
+    add_rows(out, &chunk.gather(&[1, 3, 1])?)?;
     chunk.keep(&[false, true, true, false]);
-    expect_rows(&rt, alloc, &chunk, "3|0|ab|\n-5|1|a|\n")
+    add_rows(out, &chunk)
 }
 
-#[test]
-fn texts_are_split_and_appended(rt: HostRuntime) -> Result<(), Fail> {
-    let alloc = rt.alloc();
+fn split_and_appended(alloc: Global, out: &mut String) -> Result<(), Fail> {
     let mut chunk = places(alloc)?;
-    assert_eq!(rt; chunk.rows(), 4);
+    if chunk.rows() != 4 {
+        return Err("there are four rows".into());
+    }
     let mut front = chunk.split_front(2)?;
-    expect_rows(&rt, alloc, &front, "-5|7|b|\n3|0|ab|\n")?;
-    assert!(rt; front.append(chunk).is_ok());
-    expect_rows(
-        &rt,
-        alloc,
-        &front,
-        "-5|7|b|\n3|0|ab|\n-5|1|a|\n0|18446744073709551615||\n",
-    )
+    add_rows(out, &front)?;
+    if front.append(chunk).is_err() {
+        return Err("no memory".into());
+    }
+    add_rows(out, &front)
 }
 
 // A row of a number and a text.
@@ -137,113 +123,188 @@ fn row(alloc: Global, number: i64, text: &[u8]) -> Result<List<Value>, Memory>
     Ok(List::from_vec(vec![in alloc; Value::Int(number), Value::Text(text)]?))
 }
 
-#[test]
-fn rows_are_pushed(rt: HostRuntime) -> Result<(), Fail> {
-    let alloc = rt.alloc();
+fn pushed(alloc: Global, out: &mut String) -> Result<(), Fail> {
     let types = List::from_vec(vec![in alloc; ColumnType::Int64, ColumnType::Text]?);
     let mut chunk = Chunk::new(alloc, &types)?;
     chunk.push_row(row(alloc, 2, b"x")?)?;
     chunk.push_row(row(alloc, -1, b"")?)?;
-    expect_rows(&rt, alloc, &chunk, "2|x|\n-1||\n")
+    add_rows(out, &chunk)
 }
 
-#[test]
-fn rows_without_columns_are_counted(rt: HostRuntime) -> Result<(), Fail> {
-    let alloc = rt.alloc();
+fn without_columns(alloc: Global, out: &mut String) -> Result<(), Fail> {
     let mut chunk = Chunk::of_columns(alloc, List::new(alloc), 3)?;
-    assert_eq!(rt; chunk.rows(), 3);
+    if chunk.rows() != 3 {
+        return Err("there are three rows".into());
+    }
     chunk.keep(&[true, false, true]);
-    expect_rows(&rt, alloc, &chunk, "\n\n")
+    add_rows(out, &chunk)
 }
 
-#[test]
-fn lists_are_pushed_to_and_copied(rt: HostRuntime) -> Result<(), Fail> {
-    let alloc = rt.alloc();
-    let mut numbers = List::new(alloc);
-    assert!(rt; numbers.push(7u32).is_ok());
-    assert!(rt; numbers.push(8).is_ok());
-    let copy = numbers.copy()?;
-    assert_eq!(rt; copy.into_vec().as_slice(), [7, 8].as_slice());
-    let mut text = Bytes::from_slice(alloc, b"ab")?;
-    assert!(rt; text.push(0).is_ok());
-    text.extend_from_slice(b"c")?;
-    assert_eq!(rt; text.copy()?.into_vec().as_slice(), b"ab\0c".as_slice());
-    let keys = List::from_vec(vec![in alloc;
-        SortKey {
-            column: 1,
-            descending: true
-        },
-    ]?);
-    assert_eq!(rt; keys.copy()?.as_slice(), keys.as_slice());
-    Ok(())
-}
-
-#[test]
-fn chunks_are_cut_and_put_side_by_side(rt: HostRuntime) -> Result<(), Fail> {
-    let alloc = rt.alloc();
+fn cut_and_beside(alloc: Global, out: &mut String) -> Result<(), Fail> {
     let mut left = numbers(alloc, &[1, 2, 3, 4])?;
     left.truncate(3);
     left.remove_front(1);
-    expect_rows(&rt, alloc, &left, "2|\n3|\n")?;
+    add_rows(out, &left)?;
     let right = numbers(alloc, &[5, 6])?;
-    assert_eq!(rt; right.rows(), left.rows());
-    expect_rows(&rt, alloc, &left.beside(right)?, "2|5|\n3|6|\n")
+    if right.rows() != left.rows() {
+        return Err("there are two rows".into());
+    }
+    add_rows(out, &left.beside(right)?)
 }
 
+// The rows after each step of what a chunk goes through.
+fn changes_text(alloc: Global, text: &str) -> Result<String, Fail> {
+    let mut out = String::new(alloc);
+    match text {
+        "gathered and kept" => gathered_and_kept(alloc, &mut out)?,
+        "split and appended" => split_and_appended(alloc, &mut out)?,
+        "pushed" => pushed(alloc, &mut out)?,
+        "without columns" => without_columns(alloc, &mut out)?,
+        _ => cut_and_beside(alloc, &mut out)?,
+    }
+    Ok(out)
+}
+
+static CHANGES: [&str; 5] = [
+    "gathered and kept~3,0,\"ab\"\n0,18446744073709551615,\"\"\n3,0,\"ab\"\n.\
+     3,0,\"ab\"\n-5,1,\"a\"\n.",
+    "split and appended~-5,7,\"b\"\n3,0,\"ab\"\n.\
+     -5,7,\"b\"\n3,0,\"ab\"\n-5,1,\"a\"\n0,18446744073709551615,\"\"\n.",
+    "pushed~2,\"x\"\n-1,\"\"\n.",
+    "without columns~\n\n.",
+    "cut and beside~2\n3\n.2,5\n3,6\n.",
+];
+
 #[test]
-fn signed_columns_grow(rt: HostRuntime) -> Result<(), Fail> {
-    let alloc = rt.alloc();
+fn rows_are_gathered_kept_split_appended_pushed_cut_and_joined(
+    rt: HostRuntime,
+) -> Result<(), Fail> {
+    check_each(&rt, rt.alloc(), &CHANGES, changes_text)
+}
+
+fn list(alloc: Global) -> Result<String, Fail> {
+    let mut numbers = List::new(alloc);
+    if numbers.push(7u32).is_err() || numbers.push(8).is_err() {
+        return Err("no memory".into());
+    }
+    Ok(format!(in alloc; "{:?}", numbers.copy()?.into_vec())?)
+}
+
+fn bytes(alloc: Global) -> Result<String, Fail> {
+    let mut text = Bytes::from_slice(alloc, b"ab")?;
+    text.push(0)?;
+    text.extend_from_slice(b"c")?;
+    Ok(format!(in alloc; "{:?}", text.copy()?.into_vec())?)
+}
+
+fn sort_keys(alloc: Global) -> Result<String, Fail> {
+    let key = SortKey {
+        column: 1,
+        descending: true,
+    };
+    let keys = List::from_vec(vec![in alloc; key]?);
+    Ok(format!(in alloc; "{:?}", keys.copy()?.as_slice())?)
+}
+
+fn grown_ints(alloc: Global) -> Result<Column, Memory>
+    ensures { IfOk result (λ c. kind_of c ≡ ColumnType.Int64) }
+{
     let mut ints = Column::new(alloc, ColumnType::Int64);
     ints.reserve(2)?;
     ints.push_int(4)?;
     ints.push(Value::Int(-4))?;
-    assert_eq!(rt; ints.ints(), [4, -4].as_slice());
     let front = ints.front(1)?;
-    assert!(rt; ints.append_moved(front).is_ok());
-    assert_eq!(rt; ints.into_ints().as_slice(), [4, -4, 4].as_slice());
-    Ok(())
+    match ints.append_moved(front) {
+        Ok(()) => Ok(ints),
+        Err(_) => Err(Memory),
+    }
 }
 
-#[test]
-fn unsigned_columns_grow(rt: HostRuntime) -> Result<(), Fail> {
-    let alloc = rt.alloc();
+fn signed(alloc: Global) -> Result<String, Fail> {
+    let ints = grown_ints(alloc)?;
+    let before = format!(in alloc; "{:?}", ints.ints())?;
+    Ok(format!(in alloc; "{before} {:?}", ints.into_ints())?)
+}
+
+fn grown_uints(alloc: Global) -> Result<Column, Memory>
+    ensures { IfOk result (λ c. kind_of c ≡ ColumnType.UInt64) }
+{
     let mut uints = Column::new(alloc, ColumnType::UInt64);
     uints.push_uint(6)?;
     uints.push_copy(&Value::UInt(7))?;
     uints.remove_front(1);
-    assert_eq!(rt; uints.uints(), [7].as_slice());
-    assert_eq!(rt; uints.into_uints().as_slice(), [7].as_slice());
-    Ok(())
+    Ok(uints)
 }
 
-#[test]
-fn text_columns_grow(rt: HostRuntime) -> Result<(), Fail> {
-    let alloc = rt.alloc();
-    let more = column_of_texts(alloc, &[b"cd", b"", b"e"])?;
+fn unsigned(alloc: Global) -> Result<String, Fail> {
+    let uints = grown_uints(alloc)?;
+    let before = format!(in alloc; "{:?}", uints.uints())?;
+    Ok(format!(in alloc; "{before} {:?}", uints.into_uints())?)
+}
+
+fn appended_texts(alloc: Global) -> Result<Column, Memory>
+    ensures { IfOk result (λ c. kind_of c ≡ ColumnType.Text) }
+{
     let mut texts = Column::new(alloc, ColumnType::Text);
     texts.push_text(b"ab")?;
-    assert!(rt; more.kind() == ColumnType::Text);
-    texts.append(&more)?;
+    texts.append(&column_of_texts(alloc, &[b"cd", b"", b"e"])?)?;
     texts.truncate(3);
     texts.remove_front(1);
-    assert_eq!(rt; texts.len(), 2);
-    assert_eq!(rt; texts.text(0), b"cd".as_slice());
-    let texts = texts.into_texts();
-    assert_eq!(rt; texts.len(), 2);
-    assert_eq!(rt; texts.get(1), b"".as_slice());
-    Ok(())
+    Ok(texts)
 }
 
-#[test]
-fn columns_are_taken_and_truncated(rt: HostRuntime) -> Result<(), Fail> {
-    let alloc = rt.alloc();
+// The number of texts and the first of a column, and of its texts that and the second.
+fn texts(alloc: Global) -> Result<String, Fail> {
+    let column = appended_texts(alloc)?;
+    let count = column.len();
+    if count < 2 {
+        return Err("there are two texts".into());
+    }
+    let before = format!(in alloc; "{count} {:?}", column.text(0))?;
+    let texts = column.into_texts();
+    if texts.len() < 2 {
+        return Err("there are two texts".into());
+    }
+    Ok(format!(in alloc; "{before} {} {:?}", texts.len(), texts.get(1))?)
+}
+
+// The lengths of truncated columns, and the types of empty ones.
+fn columns(alloc: Global) -> Result<String, Fail> {
     let mut columns = places(alloc)?.into_columns().into_vec();
     truncate_columns(&mut columns, 3);
+    let mut out = String::new(alloc);
     for column in &columns {
-        assert_eq!(rt; column.len(), 3);
+        write!(out, "{} ", column.len())?;
     }
-    let empty = empty_columns(alloc, &[ColumnType::Text, ColumnType::Int64])?;
-    assert_eq!(rt; empty.len(), 2);
-    assert!(rt; empty[1].kind() == ColumnType::Int64);
-    Ok(())
+    for column in &empty_columns(alloc, &[ColumnType::Text, ColumnType::Int64])? {
+        write!(out, "{:?} ", column.kind())?;
+    }
+    Ok(out)
+}
+
+fn growth_text(alloc: Global, text: &str) -> Result<String, Fail> {
+    match text {
+        "list" => list(alloc),
+        "bytes" => bytes(alloc),
+        "keys" => sort_keys(alloc),
+        "signed" => signed(alloc),
+        "unsigned" => unsigned(alloc),
+        "texts" => texts(alloc),
+        _ => columns(alloc),
+    }
+}
+
+static GROWN: [&str; 7] = [
+    "list~[7, 8]",
+    "bytes~[97, 98, 0, 99]",
+    "keys~[SortKey { column: 1, descending: true }]",
+    "signed~[4, -4, 4] [4, -4, 4]",
+    "unsigned~[7] [7]",
+    "texts~2 [99, 100] 2 []",
+    "columns~3 3 3 Text Int64 ",
+];
+
+#[test]
+fn lists_and_columns_grow_and_are_copied_cut_and_taken(rt: HostRuntime) -> Result<(), Fail> {
+    check_each(&rt, rt.alloc(), &GROWN, growth_text)
 }

@@ -1,8 +1,8 @@
-use crate::literals::{halves, utf8};
-use chunk_data::{Bytes, ColumnType};
+use crate::literals::{check_each, halves, utf8};
+use chunk_data::ColumnType;
 use command_line::{Command, WordsRefusal, read_words};
 use query_model::query::{PartsDecl, TableDecl};
-use std::alloc::Global;
+use std::alloc::{AllocError, Global};
 use std::test::Fail;
 
 // Words, which line breaks part, and what they mean: the query, the tables, the number of workers,
@@ -146,58 +146,56 @@ static CASES: [&str; 111] = [
      UInt64,price UInt64|4|8192|header",
 ];
 
-// Adds a sign and a text.
-fn add(text: &mut String, sign: &str, bytes: &Bytes) -> Result<(), Fail> {
-    text.push_str(sign)?;
-    Ok(text.push_str(utf8(bytes))?)
-}
-
-// Adds a table as it is declared.
-fn add_table(text: &mut String, table: &TableDecl) -> Result<(), Fail> {
-    add(text, "", &table.schema.name)?;
+// A table as it is declared.
+fn write_table(out: &mut String, table: &TableDecl) -> Result<(), AllocError> {
+    out.push_str(utf8(&table.schema.name))?;
     match &table.parts {
-        PartsDecl::ListFile(path) => add(text, "=@", path)?,
+        PartsDecl::ListFile(path) => write!(out, "=@{}", utf8(path))?,
         PartsDecl::Paths(paths) => {
             for (i, path) in paths.as_slice().iter().enumerate() {
-                add(text, if i > 0 { "+" } else { "=" }, path)?;
+                write!(out, "{}{}", if i > 0 { '+' } else { '=' }, utf8(path))?;
             }
         }
     }
     for (i, column) in table.schema.columns.as_slice().iter().enumerate() {
-        add(text, if i > 0 { "," } else { ":" }, &column.name)?;
-        text.push_str(match column.kind {
-            ColumnType::Int64 => " Int64",
-            ColumnType::UInt64 => " UInt64",
-            ColumnType::Text => " String",
-        })?;
+        let kind = match column.kind {
+            ColumnType::Int64 => "Int64",
+            ColumnType::UInt64 => "UInt64",
+            ColumnType::Text => "String",
+        };
+        write!(
+            out,
+            "{}{} {kind}",
+            if i > 0 { ',' } else { ':' },
+            utf8(&column.name)
+        )?;
     }
     Ok(())
 }
 
-fn shown_command(alloc: Global, command: &Command) -> Result<String, Fail> {
-    let mut text = String::new(alloc);
-    add(&mut text, "", &command.query)?;
+fn write_command(out: &mut String, command: &Command) -> Result<(), AllocError> {
+    out.push_str(utf8(&command.query))?;
     for (i, table) in command.tables.as_slice().iter().enumerate() {
-        text.push_str(if i > 0 { ";" } else { "|" })?;
-        add_table(&mut text, table)?;
+        out.push(if i > 0 { ';' } else { '|' })?;
+        write_table(out, table)?;
     }
     let (threads, rows) = (command.threads, command.chunk_rows);
     let header = if command.header { "header" } else { "" };
     let tables = if command.tables.len() == 0 { "|" } else { "" };
-    text.push_str(format!(in alloc; "{tables}|{threads}|{rows}|{header}")?.as_str())?;
-    Ok(text)
+    write!(out, "{tables}|{threads}|{rows}|{header}")
 }
 
-// What words mean.
-fn shown(alloc: Global, words: &[String]) -> Result<String, Fail> {
+fn shown(alloc: Global, words: &[String]) -> Result<String, AllocError> {
+    let mut out = String::new(alloc);
     match read_words(alloc, words) {
-        Ok(command) => shown_command(alloc, &command),
-        Err(WordsRefusal::Usage) => Ok(String::from_str(alloc, "usage")?),
-        Err(WordsRefusal::Memory) => Ok(String::from_str(alloc, "memory")?),
+        Ok(command) => write_command(&mut out, &command)?,
+        Err(WordsRefusal::Usage) => out.push_str("usage")?,
+        Err(WordsRefusal::Memory) => out.push_str("memory")?,
     }
+    Ok(out)
 }
 
-fn words_of(alloc: Global, text: &str) -> Result<Vec<String>, Fail> {
+fn words_of(alloc: Global, text: &str) -> Result<Vec<String>, AllocError> {
     let mut words = Vec::new(alloc);
     for word in text.split('\n') {
         words.push(String::from_str(alloc, word)?)?;
@@ -205,51 +203,58 @@ fn words_of(alloc: Global, text: &str) -> Result<Vec<String>, Fail> {
     Ok(words)
 }
 
+fn command_text(alloc: Global, text: &str) -> Result<String, Fail> {
+    Ok(shown(alloc, words_of(alloc, text)?.as_slice())?)
+}
+
 #[test]
 fn words_mean_what_clap_and_the_forms_say(rt: HostRuntime) -> Result<(), Fail> {
-    let alloc = rt.alloc();
-    for case in CASES.iter() {
-        let (text, want) = halves(case);
-        let words = words_of(alloc, text)?;
-        assert_eq!(rt; shown(alloc, words.as_slice())?.as_str(), want, "{text}");
-    }
-    Ok(())
+    check_each(&rt, rt.alloc(), &CASES, command_text)
 }
 
 // So the program's words are where one of them isn't UTF-8.
 #[test]
 fn no_words_are_a_faulty_command_line(rt: HostRuntime) -> Result<(), Fail> {
-    let alloc = rt.alloc();
-    let none: Vec<String> = Vec::new(alloc);
-    assert_eq!(rt; shown(alloc, none.as_slice())?.as_str(), "usage");
+    assert!(rt; shown(rt.alloc(), &[])?.as_str() == "usage");
     Ok(())
 }
 
-// Whether so many tables, each with so many parts and columns, are declared.
-fn takes(alloc: Global, tables: u32, parts: u32, columns: u32) -> Result<bool, Fail> {
-    let mut text = String::from_str(alloc, "--query\nq\n--tables\n")?;
-    for table in 0..tables {
-        text.push_str(if table == 0 { "" } else { ";" })?;
-        text.push_str(format!(in alloc; "t{table}=p")?.as_str())?;
-        for part in 1..parts {
-            text.push_str(format!(in alloc; "+p{part}")?.as_str())?;
-        }
-        text.push_str(":c Int64")?;
-        for column in 1..columns {
-            text.push_str(format!(in alloc; ",c{column} Int64")?.as_str())?;
-        }
+// Adds words with a number in each, from 1 on.
+fn write_numbered(
+    out: &mut String,
+    word: &str,
+    count: &str,
+    behind: &str,
+) -> Result<(), AllocError> {
+    for i in 1..count.parse().unwrap_or(0u32) {
+        write!(out, "{word}{i}{behind}")?;
     }
-    let words = words_of(alloc, text.as_str())?;
-    Ok(read_words(alloc, words.as_slice()).is_ok())
+    Ok(())
+}
+
+// The parts and columns of a table.
+fn declared(alloc: Global, parts: &str, columns: &str) -> Result<String, AllocError> {
+    let mut text = String::from_str(alloc, "=p")?;
+    write_numbered(&mut text, "+p", parts, "")?;
+    text.push_str(":c Int64")?;
+    write_numbered(&mut text, ",c", columns, " Int64")?;
+    Ok(text)
+}
+
+// Whether so many tables, each with so many parts and columns, are declared.
+fn acceptance_text(alloc: Global, text: &str) -> Result<String, Fail> {
+    let (tables, rest) = halves(text, ' ');
+    let (parts, columns) = halves(rest, ' ');
+    let table = declared(alloc, parts, columns)?;
+    let mut text = format!(in alloc; "--query\nq\n--tables\nt{table}")?;
+    write_numbered(&mut text, ";t", tables, table.as_str())?;
+    let taken = read_words(alloc, words_of(alloc, text.as_str())?.as_slice()).is_ok();
+    Ok(format!(in alloc; "{taken}")?)
 }
 
 // The limit of 32 parts isn't one of the words.
 #[test]
 fn eight_tables_of_64_columns_are_the_most(rt: HostRuntime) -> Result<(), Fail> {
-    let alloc = rt.alloc();
-    assert!(rt; takes(alloc, 8, 1, 64)?);
-    assert!(rt; !takes(alloc, 9, 1, 1)?);
-    assert!(rt; !takes(alloc, 1, 1, 65)?);
-    assert!(rt; takes(alloc, 1, 33, 1)?);
-    Ok(())
+    let cases = ["8 1 64~true", "9 1 1~false", "1 1 65~false", "1 33 1~true"];
+    check_each(&rt, rt.alloc(), &cases, acceptance_text)
 }

@@ -2,7 +2,7 @@
 // What a part of a table gives is told by RFC 4180 and that crate's description of its dialect.
 ghost use Rattle.std.specs.Prelude.{◌<◌};
 
-use crate::literals::types_of;
+use crate::literals::{check_each, halves, types_of};
 use chunk_data::{Bytes, ColumnType, List};
 use csv::{ByteRecord, ReaderBuilder};
 use csv_rows::{RowReader, RowsFault, write_rows};
@@ -10,18 +10,17 @@ use query_model::places::{BadField, BadPlace};
 use query_model::plain::{bad_field, row_spelled, row_text};
 use std::alloc::Global;
 use std::io::Cursor;
+use std::slice::from_ref;
+use std::str::from_utf8;
 use std::test::Fail;
 
-// Adds a line that tells the place.
-fn tell_place(out: &mut Vec<u8>, place: BadPlace) -> Result<(), Fail> {
-    let alloc = *out.allocator();
-    let row = place.row;
-    let line = match place.field {
+// A line that tells the place.
+fn place_text(alloc: Global, BadPlace { row, field }: BadPlace) -> Result<Vec<u8>, Fail> {
+    let line = match field {
         BadField::Column(column) => format!(in alloc; "bad {row} {column}\n")?,
         BadField::Fields(fields) => format!(in alloc; "bad {row} of {fields}\n")?,
     };
-    out.extend_from_slice(line.as_bytes())?;
-    Ok(())
+    Ok(line.into_bytes())
 }
 
 fn fields_of(alloc: Global, record: &ByteRecord) -> Result<Vec<Bytes>, Fail> {
@@ -32,6 +31,24 @@ fn fields_of(alloc: Global, record: &ByteRecord) -> Result<Vec<Bytes>, Fail> {
     Ok(fields)
 }
 
+// The line of a record, and whether it is a row.
+fn record_text(
+    alloc: Global,
+    record: &ByteRecord,
+    row: u64,
+    kinds: &[ColumnType],
+) -> Result<(Vec<u8>, bool), Fail> {
+    let fields = fields_of(alloc, record)?;
+    if let Some(values) = row_spelled(alloc, kinds, &fields)? {
+        return Ok((row_text(alloc, values.as_slice())?, true));
+    }
+    if kinds.len() > 9 {
+        return Err("too many columns".into());
+    }
+    let field = bad_field(kinds, &fields);
+    Ok((place_text(alloc, BadPlace { row, field })?, false))
+}
+
 // The rows of a part, and its bad place, by the records of the `csv` crate.
 fn plain_rows(
     alloc: Global,
@@ -40,9 +57,6 @@ fn plain_rows(
     kinds: &[ColumnType],
 ) -> Result<Vec<u8>, Fail> {
     let mut out = Vec::new(alloc);
-    if kinds.len() > 9 {
-        return Err("too many columns".into());
-    }
     let mut reader = ReaderBuilder::new()
         .has_headers(header)
         .flexible(true)
@@ -50,25 +64,33 @@ fn plain_rows(
     let mut record = ByteRecord::new(alloc);
     // A part has no more records than bytes.
     for row in 1..bytes.len() as u64 + 2 {
-        match reader.read_byte_record(&mut record) {
-            Ok(true) => {}
-            Ok(false) => return Ok(out),
-            Err(_) => return Err("a record was not read".into()),
+        if !reader.read_byte_record(&mut record)? {
+            return Ok(out);
         }
-        let fields = fields_of(alloc, &record)?;
-        match row_spelled(alloc, kinds, &fields)? {
-            Some(values) => {
-                let line = row_text(alloc, values.as_slice())?;
-                out.extend_from_slice(&line)?;
-            }
-            None => {
-                let field = bad_field(kinds, &fields);
-                tell_place(&mut out, BadPlace { row, field })?;
-                return Ok(out);
-            }
+        let (line, more) = record_text(alloc, &record, row, kinds)?;
+        out.extend_from_slice(&line)?;
+        if !more {
+            return Ok(out);
         }
     }
     Err("records go on and on".into())
+}
+
+// The next rows, and whether there may be more.
+fn next_rows(
+    alloc: Global,
+    reader: &mut RowReader,
+    most: usize,
+    kinds: &List<ColumnType>,
+) -> Result<(Vec<u8>, bool), Fail> {
+    if kinds.len() > 9 {
+        return Err("too many columns".into());
+    }
+    match reader.next_chunk(alloc, kinds, most) {
+        Ok(chunk) => Ok((write_rows(alloc, None, from_ref(&chunk))?, true)),
+        Err(RowsFault::Bad(place)) => Ok((place_text(alloc, place)?, false)),
+        Err(RowsFault::Memory) => Err("no memory".into()),
+    }
 }
 
 // The same by chunks of the reader of rows.
@@ -80,24 +102,15 @@ fn read_rows(
     kinds: &List<ColumnType>,
 ) -> Result<Vec<u8>, Fail> {
     let mut out = Vec::new(alloc);
-    if kinds.as_slice().len() > 9 {
-        return Err("too many columns".into());
-    }
     let mut reader = RowReader::new(alloc, Vec::from_slice(alloc, bytes)?, header)?;
     for _chunk in 0..bytes.len() as u64 + 2 {
         if reader.is_over() {
             return Ok(out);
         }
-        match reader.next_chunk(alloc, kinds, most) {
-            Ok(chunk) => {
-                let lines = write_rows(alloc, None, &[chunk])?;
-                out.extend_from_slice(&lines)?;
-            }
-            Err(RowsFault::Bad(place)) => {
-                tell_place(&mut out, place)?;
-                return Ok(out);
-            }
-            Err(RowsFault::Memory) => return Err("no memory".into()),
+        let (lines, more) = next_rows(alloc, &mut reader, most, kinds)?;
+        out.extend_from_slice(&lines)?;
+        if !more {
+            return Ok(out);
         }
     }
     Err("chunks go on and on".into())
@@ -120,123 +133,131 @@ fn rows_of(
     Ok(read)
 }
 
-// The bytes of a text, with `"` for each `'`.
-fn quoted(alloc: Global, text: &str) -> Result<Vec<u8>, Fail> {
-    let mut bytes = Vec::new(alloc);
-    for byte in text.as_bytes() {
-        bytes.push(if *byte == b'\'' { b'"' } else { *byte })?;
+// The rows of a part in chunks of one row, of two and of many, which must agree.
+fn rows_text(alloc: Global, text: &str) -> Result<String, Fail> {
+    let (letters, text) = halves(text, '|');
+    let part = text.replace(alloc, "'", "\"")?;
+    let (bytes, header) = (part.as_bytes(), letters.starts_with('h'));
+    let letters = letters.trim_start_matches('h');
+    let rows = rows_of(alloc, bytes, header, 8192, letters)?;
+    for most in [1, 2] {
+        if rows_of(alloc, bytes, header, most, letters)?.as_slice() != rows.as_slice() {
+            return Err("the chunks differ".into());
+        }
     }
-    Ok(bytes)
+    Ok(from_utf8(&rows).unwrap_or("?").replace(alloc, "\"", "'")?)
 }
+
+static RECORDS: [&str; 23] = [
+    "tt|~",
+    "htt|~",
+    "tt|\n\r\n\r~",
+    "tt|a,b\nc,d\n~'a','b'\n'c','d'\n",
+    "tt|a,b\r\nc,d\r\n~'a','b'\n'c','d'\n",
+    "tt|a,b\rc,d\r~'a','b'\n'c','d'\n",
+    "tt|a,b\nc,d~'a','b'\n'c','d'\n",
+    "tt|\n\r\n\na,b\n\n\r\nc,d\n\n~'a','b'\n'c','d'\n",
+    "tt|,\n,~'',''\n'',''\n",
+    "tt|a'b''c,d'\n~'a''b''''c','d'''\n",
+    "tt|'a'b'c',d\n~'ab''c''','d'\n",
+    "tt|'a,''b',''\n~'a,''b',''\n",
+    "tt|'a\r\nb','c\rd'\r\n~'a\r\nb','c\rd'\n",
+    "tt|a,'b\nc~'a','b\nc'\n",
+    "tt|a,'~'a',''\n",
+    "tt|\u{feff}a,b\n\u{feff}c,d\n~'a','b'\n'\u{feff}c','d'\n",
+    "tt|\u{feff}'a',b\n~'a','b'\n",
+    "tt|\n\u{feff}'a',b\n~'\u{feff}''a''','b'\n",
+    "htt|x\na,b\n~'a','b'\n",
+    "htt|'x\ny'z\r\n\r\na,b~'a','b'\n",
+    "htt|x~",
+    "tt|a,b\nc\n~'a','b'\nbad 2 of 1\n",
+    "tt|a,b\n\nc,d,\n~'a','b'\nbad 2 of 3\n",
+];
 
 #[test]
 fn records_are_those_of_the_dialect(rt: HostRuntime) -> Result<(), Fail> {
-    let alloc = rt.alloc();
-    for (text, header, want) in [
-        ("", false, ""),
-        ("", true, ""),
-        ("\n\r\n\r", false, ""),
-        ("a,b\nc,d\n", false, "'a','b'\n'c','d'\n"),
-        ("a,b\r\nc,d\r\n", false, "'a','b'\n'c','d'\n"),
-        ("a,b\rc,d\r", false, "'a','b'\n'c','d'\n"),
-        ("a,b\nc,d", false, "'a','b'\n'c','d'\n"),
-        ("\n\r\n\na,b\n\n\r\nc,d\n\n", false, "'a','b'\n'c','d'\n"),
-        (",\n,", false, "'',''\n'',''\n"),
-        ("a'b''c,d'\n", false, "'a''b''''c','d'''\n"),
-        ("'a'b'c',d\n", false, "'ab''c''','d'\n"),
-        ("'a,''b',''\n", false, "'a,''b',''\n"),
-        ("'a\r\nb','c\rd'\r\n", false, "'a\r\nb','c\rd'\n"),
-        ("a,'b\nc", false, "'a','b\nc'\n"),
-        ("a,'", false, "'a',''\n"),
-        (
-            "\u{feff}a,b\n\u{feff}c,d\n",
-            false,
-            "'a','b'\n'\u{feff}c','d'\n",
-        ),
-        ("\u{feff}'a',b\n", false, "'a','b'\n"),
-        ("\n\u{feff}'a',b\n", false, "'\u{feff}''a''','b'\n"),
-        ("x\na,b\n", true, "'a','b'\n"),
-        ("'x\ny'z\r\n\r\na,b", true, "'a','b'\n"),
-        ("x", true, ""),
-        ("a,b\nc\n", false, "'a','b'\nbad 2 of 1\n"),
-        ("a,b\n\nc,d,\n", false, "'a','b'\nbad 2 of 3\n"),
-    ] {
-        let bytes = quoted(alloc, text)?;
-        let lines = quoted(alloc, want)?;
-        for most in [1, 2, 8192] {
-            let rows = rows_of(alloc, &bytes, header, most, "tt")?;
-            assert_eq!(rt; rows.as_slice(), lines.as_slice(), "at {text}");
-        }
-    }
-    Ok(())
+    check_each(&rt, rt.alloc(), &RECORDS, rows_text)
 }
+
+// The rows of a field as an Int64 and as an UInt64, with each end of a line, which must agree.
+fn numerals_text(alloc: Global, text: &str) -> Result<String, Fail> {
+    let mut out = String::new(alloc);
+    for letter in ["i", "u"] {
+        let rows = rows_of(alloc, text.as_bytes(), false, 8, letter)?;
+        for end in ["\n", "\r\n"] {
+            let part = format!(in alloc; "{text}{end}")?;
+            let same = rows_of(alloc, part.as_bytes(), false, 8, letter)?;
+            if rows.as_slice() != same.as_slice() {
+                return Err("the ends differ".into());
+            }
+        }
+        out.push_str(from_utf8(&rows).unwrap_or("?"))?;
+    }
+    Ok(out)
+}
+
+static NUMERALS: [&str; 27] = [
+    "7~7\n7\n",
+    "\"7\"~7\n7\n",
+    "\"\"7~7\n7\n",
+    "-7~-7\nbad 1 1\n",
+    "-0~0\nbad 1 1\n",
+    "007~7\n7\n",
+    "000000000000000000000000000000001~1\n1\n",
+    "999999999999999999~999999999999999999\n999999999999999999\n",
+    "-99999999999999999~-99999999999999999\nbad 1 1\n",
+    "1000000000000000000~1000000000000000000\n1000000000000000000\n",
+    "9223372036854775807~9223372036854775807\n9223372036854775807\n",
+    "9223372036854775808~bad 1 1\n9223372036854775808\n",
+    "-9223372036854775808~-9223372036854775808\nbad 1 1\n",
+    "-9223372036854775809~bad 1 1\nbad 1 1\n",
+    "9999999999999999999~bad 1 1\n9999999999999999999\n",
+    "10000000000000000000~bad 1 1\n10000000000000000000\n",
+    "18446744073709551615~bad 1 1\n18446744073709551615\n",
+    "18446744073709551616~bad 1 1\nbad 1 1\n",
+    "\"\"~bad 1 1\nbad 1 1\n",
+    "-~bad 1 1\nbad 1 1\n",
+    "--1~bad 1 1\nbad 1 1\n",
+    "+1~bad 1 1\nbad 1 1\n",
+    " 1~bad 1 1\nbad 1 1\n",
+    "1 ~bad 1 1\nbad 1 1\n",
+    "1/~bad 1 1\nbad 1 1\n",
+    "1:~bad 1 1\nbad 1 1\n",
+    "1234567890123456/7~bad 1 1\nbad 1 1\n",
+];
 
 #[test]
 fn numbers_are_those_that_fields_spell(rt: HostRuntime) -> Result<(), Fail> {
-    let alloc = rt.alloc();
-    for (text, shown, int, uint) in [
-        ("7", "7", true, true),
-        ("\"7\"", "7", true, true),
-        ("\"\"7", "7", true, true),
-        ("-7", "-7", true, false),
-        ("-0", "0", true, false),
-        ("007", "7", true, true),
-        ("000000000000000000000000000000001", "1", true, true),
-        ("999999999999999999", "999999999999999999", true, true),
-        ("-99999999999999999", "-99999999999999999", true, false),
-        ("1000000000000000000", "1000000000000000000", true, true),
-        ("9223372036854775807", "9223372036854775807", true, true),
-        ("9223372036854775808", "9223372036854775808", false, true),
-        ("-9223372036854775808", "-9223372036854775808", true, false),
-        ("-9223372036854775809", "", false, false),
-        ("9999999999999999999", "9999999999999999999", false, true),
-        ("10000000000000000000", "10000000000000000000", false, true),
-        ("18446744073709551615", "18446744073709551615", false, true),
-        ("18446744073709551616", "", false, false),
-        ("\"\"", "", false, false),
-        ("-", "", false, false),
-        ("--1", "", false, false),
-        ("+1", "", false, false),
-        (" 1", "", false, false),
-        ("1 ", "", false, false),
-        ("1/", "", false, false),
-        ("1:", "", false, false),
-        ("1234567890123456/7", "", false, false),
-    ] {
-        for (kind, taken) in [("i", int), ("u", uint)] {
-            let line = if taken { shown.as_bytes() } else { b"bad 1 1" };
-            let mut want = Vec::from_slice(alloc, line)?;
-            want.push(b'\n')?;
-            for end in ["", "\n", "\r\n"] {
-                let part = format!(in alloc; "{text}{end}")?;
-                let rows = rows_of(alloc, part.as_bytes(), false, 8, kind)?;
-                assert_eq!(rt; rows.as_slice(), want.as_slice(), "at {text}");
-            }
-        }
-    }
-    Ok(())
+    check_each(&rt, rt.alloc(), &NUMERALS, numerals_text)
 }
+
+// How many bytes the rows of a part have by three lists of types.
+fn shown_bytes(alloc: Global, part: &[u8]) -> Result<u64, Fail> {
+    let mut shown = 0u64;
+    for kinds in ["t", "tu", "iu"] {
+        let rows = rows_of(alloc, part, false, 2, kinds)?;
+        shown = shown.wrapping_add(rows.len() as u64);
+    }
+    Ok(shown)
+}
+
+static ENDS: [&str; 9] = [
+    "", "\n", "\r", "\"\n", ",", ",2", ",2\n", ",2\r\n", ",2\n3,4",
+];
 
 #[test]
 fn fields_end_at_each_place_of_a_block(rt: HostRuntime) -> Result<(), Fail> {
-    let alloc = rt.alloc();
-    let ends = [
-        "", "\n", "\r", "\"\n", ",", ",2", ",2\n", ",2\r\n", ",2\n3,4",
-    ];
     let mut shown = 0u64;
     for place in 0..4608usize {
         let (size, byte) = (place / 256, (place % 256) as u8);
         for around in ["", "\""] {
-            for end in ends {
-                let mut part = Vec::from_slice(alloc, around.as_bytes())?;
+            for end in ENDS.iter() {
+                let mut part = Vec::from_slice(rt.alloc(), around.as_bytes())?;
                 part.extend_from_slice(&[b'1'; 18][..size])?;
                 part.push(byte)?;
                 part.extend_from_slice(around.as_bytes())?;
                 part.extend_from_slice(end.as_bytes())?;
-                for kinds in ["t", "tu", "iu"] {
-                    let rows = rows_of(alloc, &part, false, 2, kinds)?;
-                    shown = shown.wrapping_add(rows.len() as u64);
-                }
+                shown = shown.wrapping_add(shown_bytes(rt.alloc(), &part)?);
             }
         }
     }
@@ -256,14 +277,13 @@ fn draw(seed: &mut u64, limit: u64) -> u64
 }
 
 // Anything that a text may have.
+static PIECES: [&str; 17] = [
+    "\"", "\"\"", ",", "\n", "\r", "\r\n", "", " ", "-", "1", "x", "\u{feff}", "\u{0}", "18446744",
+    "07370955", "00000000", "abcdefgh",
+];
+
 fn draw_piece(bytes: &mut Vec<u8>, seed: &mut u64) -> Result<(), Fail> {
-    let pieces = [
-        "\"", "\"\"", ",", "\n", "\r", "\r\n", "", " ", "-", "1", "x", "\u{feff}", "\u{0}",
-        "18446744", "07370955", "00000000", "abcdefgh",
-    ];
-    let piece = pieces[draw(seed, 17) as usize];
-    bytes.extend_from_slice(piece.as_bytes())?;
-    Ok(())
+    Ok(bytes.extend_from_slice(PIECES[draw(seed, 17) as usize].as_bytes())?)
 }
 
 // A field that spells a value of the type, most of the time.

@@ -6,28 +6,39 @@ use query_model::checked::Checked;
 use query_model::query::{ColumnDecl, Refusal, Schema};
 use sql_text::parse;
 use std::alloc::{AllocError, Global};
+use std::process::Abort;
 use std::str::from_utf8;
 use std::test::Fail;
 
-/// The two halves of a case, between which a `~` stands.
-pub(crate) fn halves(case: &str) -> (&str, &str) {
-    case.split_once('~').unwrap_or((case, ""))
+/// Each case is a text, a `~`, and what is told of the text.
+pub(crate) fn check_each<F: Fn(Global, &str) -> Result<String, Fail>>(
+    rt: &impl Abort,
+    alloc: Global,
+    cases: &[&str],
+    told: F,
+) -> Result<(), Fail>
+    requires { F.IsAlwaysCallable told }
+{
+    for case in cases {
+        let (text, expected) = halves(case, '~');
+        assert_eq!(rt; told(alloc, text)?.as_str(), expected, "{text}");
+    }
+    Ok(())
 }
 
-/// The text with `piece` repeated between its two ends.
-pub(crate) fn repeated(
-    alloc: Global,
-    front: &str,
-    piece: &str,
-    times: usize,
-    behind: &str,
-) -> Result<String, AllocError> {
-    let mut text = String::from_str(alloc, front)?;
-    for _ in 0..times {
-        text.push_str(piece)?;
-    }
-    text.push_str(behind)?;
-    Ok(text)
+/// What stands before the sign, and behind it.
+pub(crate) fn halves(text: &str, sign: char) -> (&str, &str) {
+    text.split_once(sign).unwrap_or((text, ""))
+}
+
+/// The text of four parts between which a `|` stands: a front, a piece, how often it comes, and an
+/// end.
+pub(crate) fn repeated(alloc: Global, text: &str) -> Result<String, AllocError> {
+    let (front, rest) = halves(text, '|');
+    let (piece, rest) = halves(rest, '|');
+    let (times, end) = halves(rest, '|');
+    let pieces = piece.repeat(alloc, times.parse().unwrap_or(0))?;
+    format!(in alloc; "{front}{pieces}{end}")
 }
 
 pub(crate) fn bytes(alloc: Global, text: &str) -> Result<Bytes, Fail> {
@@ -96,15 +107,18 @@ pub(crate) fn tables_of(alloc: Global, texts: &str) -> Result<List<Schema>, Fail
     Ok(List::from_vec(tables))
 }
 
-/// What analysis makes of the query that the text spells.
+/// What analysis makes of the query that the text spells, alone in a list, which is dropped by one
+/// call.
 pub(crate) fn analysed(
     alloc: Global,
     tables: &str,
     text: &str,
-) -> Result<Result<Checked, Refusal>, Fail> {
+) -> Result<Vec<Result<Checked, Refusal>>, Fail> {
+    let mut ended = Vec::with_capacity(alloc, 1)?;
     let tables = tables_of(alloc, tables)?;
     match parse(alloc, text.as_bytes()) {
-        Ok(query) => Ok(analyse(alloc, query, &tables)),
-        Err(_) => Err("not a query".into()),
+        Ok(query) => ended.push_reserved(analyse(alloc, query, &tables)),
+        Err(_) => return Err("not a query".into()),
     }
+    Ok(ended)
 }

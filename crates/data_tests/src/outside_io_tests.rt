@@ -1,6 +1,7 @@
-ghost use Rattle.std.specs.Prelude.{IsSome};
+ghost use Rattle.std.specs.Prelude.{IfOk, IsSome};
+ghost use Rattle.outside_io.specs.Scripts.{IsRising};
 
-use crate::literals::bytes as text;
+use crate::literals::{bytes as text, check_each, halves};
 use chunk_data::{Bytes, List};
 use outside_io::{
     Fake, FakeKind, FileEntry, FileReader, Got, MemFiles, MemSink, RealFiles, RealSink, Sink,
@@ -8,54 +9,59 @@ use outside_io::{
 };
 use std::alloc::{AllocError, Global};
 use std::fs;
+use std::str::from_utf8;
 use std::test::Fail;
 
 /// What four reads of four bytes answer, a letter each: a digit for a block, `e` for the end, `p`
-/// for pending, `f` for failed. The bytes of the blocks go to `bytes`.
-fn reads<F: FileReader>(
-    reader: &mut F,
-    bytes: &mut Vec<u8>,
-    letters: &mut Vec<u8>,
-) -> Result<(), AllocError>
-    requires { IsSome (F.stands reader.old) }
+/// for pending, `f` for failed. The bytes of the blocks follow.
+fn add_reads<F: FileReader>(reader: &mut F, out: &mut String) -> Result<(), AllocError>
+    requires { IsSome (F.position reader.old) }
 {
+    let mut bytes = String::new(*out.allocator());
     let mut buf = [0u8; 4];
     for _ in 0..4 {
-        match reader.read_some(&mut buf) {
+        let letter = match reader.read_some(&mut buf) {
             Ok(Got::Bytes(n)) => {
-                bytes.extend_from_slice(&buf[..n])?;
-                letters.push(if n == 4 { b'4' } else { b'2' })?;
+                bytes.push_str(from_utf8(&buf[..n]).unwrap_or("?"))?;
+                if n == 4 { '4' } else { '2' }
             }
-            Ok(Got::End) => letters.push(b'e')?,
-            Ok(Got::Pending) => letters.push(b'p')?,
-            Err(_) => letters.push(b'f')?,
+            Ok(Got::End) => 'e',
+            Ok(Got::Pending) => 'p',
+            Err(_) => 'f',
+        };
+        out.push(letter)?;
+    }
+    out.push_str(bytes.as_str())
+}
+
+/// Opens the path and reads it; the letters are `o` or `f` for the opening, and those of the reads.
+fn add_letters<F: FileReader>(
+    reader: &mut F,
+    path: &Bytes,
+    out: &mut String,
+) -> Result<(), AllocError> {
+    match reader.open_path(path) {
+        Ok(()) => {
+            out.push('o')?;
+            add_reads(reader, out)?;
         }
+        Err(_) => out.push('f')?,
+    }
+    reader.shut();
+    out.push(' ')
+}
+
+fn add_each<F: FileReader>(reader: &mut F, paths: &[&[u8]], out: &mut String) -> Result<(), Fail> {
+    for path in paths {
+        add_letters(reader, &Bytes::from_slice(*out.allocator(), path)?, out)?;
     }
     Ok(())
 }
 
-/// Opens the path and reads it; the letters are `o` or `f` for the opening, and those of `reads`.
-fn letters_of<F: FileReader>(
-    alloc: Global,
-    reader: &mut F,
-    path: &Bytes,
-    bytes: &mut Vec<u8>,
-) -> Result<Vec<u8>, AllocError> {
-    let mut letters = Vec::new(alloc);
-    match reader.open_path(path) {
-        Ok(()) => {
-            letters.push(b'o')?;
-            reads(reader, bytes, &mut letters)?;
-        }
-        Err(_) => letters.push(b'f')?,
-    }
-    reader.shut();
-    Ok(letters)
-}
-
 fn files(alloc: Global) -> Result<List<FileEntry>, Fail> {
     let mut files = Vec::new(alloc);
-    for (path, content) in [("empty", ""), ("six", "abcdef"), ("six", "hidden")] {
+    for file in ["empty=", "six=abcdef", "six=hidden"] {
+        let (path, content) = halves(file, '=');
         files.push(FileEntry {
             path: text(alloc, path)?,
             bytes: text(alloc, content)?,
@@ -64,100 +70,92 @@ fn files(alloc: Global) -> Result<List<FileEntry>, Fail> {
     Ok(List::from_vec(files))
 }
 
-#[test]
-fn memory_files_follow_their_script(rt: HostRuntime) -> Result<(), Fail> {
-    let alloc = rt.alloc();
-    for (call, kind, want, want_bytes) in [
-        (9, FakeKind::Fail, "o42ee", "abcdef"),
-        (1, FakeKind::Fail, "f", ""),
-        (1, FakeKind::Pend, "f", ""),
-        (2, FakeKind::Fail, "of42e", "abcdef"),
-        (2, FakeKind::Pend, "op42e", "abcdef"),
-        (3, FakeKind::Fail, "o4f2e", "abcdef"),
-        (3, FakeKind::Pend, "o4p2e", "abcdef"),
-        (4, FakeKind::Fail, "o42fe", "abcdef"),
-        (4, FakeKind::Pend, "o42pe", "abcdef"),
-        (5, FakeKind::Pend, "o42ep", "abcdef"),
-    ] {
-        let script = Vec::from_array(alloc, [Fake { call, kind }])?;
-        let mut reader = MemFiles::new(alloc, files(alloc)?, List::from_vec(script));
-        let mut bytes = Vec::new(alloc);
-        let letters = letters_of(alloc, &mut reader, &text(alloc, "six")?, &mut bytes)?;
-        assert_eq!(rt; letters.as_slice(), want.as_bytes(), "at {call}");
-        assert_eq!(rt; bytes.as_slice(), want_bytes.as_bytes(), "at {call}");
-    }
-    Ok(())
+fn script(alloc: Global, call: u64, letter: &str) -> Result<List<Fake>, AllocError>
+    ensures { IfOk result (λ script. IsRising script) }
+{
+    let kind = match letter {
+        "p" => FakeKind::Pend,
+        _ => FakeKind::Fail,
+    };
+    Ok(List::from_vec(vec![in alloc; Fake { call, kind }]?))
 }
 
-#[test]
-fn memory_files_open_what_is_there(rt: HostRuntime) -> Result<(), Fail> {
-    let alloc = rt.alloc();
-    let mut reader = MemFiles::new(alloc, files(alloc)?, List::new(alloc));
-    for (path, want) in [("empty", "oeeee"), ("five", "f"), ("six", "o42ee")] {
-        let mut bytes = Vec::new(alloc);
-        let letters = letters_of(alloc, &mut reader, &text(alloc, path)?, &mut bytes)?;
-        assert_eq!(rt; letters.as_slice(), want.as_bytes(), "at {path}");
+// The call that is pending or fails, none for 0, and the paths that one reader opens.
+fn reads_text(alloc: Global, text: &str) -> Result<String, Fail> {
+    let (call, rest) = halves(text, ' ');
+    let (kind, paths) = halves(rest, ' ');
+    let script = script(alloc, call.parse().unwrap_or(0), kind)?;
+    let mut reader = MemFiles::new(alloc, files(alloc)?, script);
+    let mut out = String::new(alloc);
+    for path in paths.split(' ') {
+        add_letters(
+            &mut reader,
+            &Bytes::from_slice(alloc, path.as_bytes())?,
+            &mut out,
+        )?;
     }
-    Ok(())
+    Ok(out)
+}
+
+static SCRIPTS: [&str; 11] = [
+    "9 f six~o42eeabcdef ",
+    "1 f six~f ",
+    "1 p six~f ",
+    "2 f six~of42eabcdef ",
+    "2 p six~op42eabcdef ",
+    "3 f six~o4f2eabcdef ",
+    "3 p six~o4p2eabcdef ",
+    "4 f six~o42feabcdef ",
+    "4 p six~o42peabcdef ",
+    "5 p six~o42epabcdef ",
+    "0 f empty five six~oeeee f o42eeabcdef ",
+];
+
+#[test]
+fn memory_files_open_what_is_there_and_follow_their_script(rt: HostRuntime) -> Result<(), Fail> {
+    check_each(&rt, rt.alloc(), &SCRIPTS, reads_text)
+}
+
+// A sink with room for five bytes: whether it took each piece whole, and what it then holds.
+fn writes_text(alloc: Global, text: &str) -> Result<String, Fail> {
+    let mut sink = MemSink::new(alloc, 1, 5)?;
+    let mut out = String::new(alloc);
+    for piece in text.split(' ') {
+        let whole = write_all(&mut sink, piece.as_bytes()).is_ok();
+        write!(out, "{whole} {} ", from_utf8(sink.written()).unwrap_or("?"))?;
+    }
+    Ok(out)
 }
 
 #[test]
 fn memory_sink_takes_steps_up_to_its_room(rt: HostRuntime) -> Result<(), Fail> {
-    let alloc = rt.alloc();
-    let mut sink = MemSink::new(alloc, 1, 5)?;
-    for (piece, want, whole) in [
-        ("ab", "ab", true),
-        ("", "ab", true),
-        ("cd", "abcd", true),
-        ("efg", "abcde", false),
-        ("h", "abcde", false),
-        ("", "abcde", true),
-    ] {
-        assert_eq!(rt;
-            write_all(&mut sink, piece.as_bytes()).is_ok(),
-            whole,
-            "at {piece}"
-        );
-        assert_eq!(rt; sink.written(), want.as_bytes(), "at {piece}");
-    }
-    Ok(())
+    let case = "ab  cd efg h ~true ab true ab true abcd false abcde false abcde true abcde ";
+    check_each(&rt, rt.alloc(), &[case], writes_text)
 }
 
 #[test]
 fn real_files_read_back_what_was_written(rt: HostRuntime) -> Result<(), Fail> {
-    let alloc = rt.alloc();
     let name = "outside_io_read_back.txt";
     fs::write(&rt, name, "abcdef")?;
+    let mut out = String::new(rt.alloc());
     let mut reader = RealFiles::new(rt.clone()?);
-    let mut bytes = Vec::new(alloc);
-    let letters = letters_of(alloc, &mut reader, &text(alloc, name)?, &mut bytes)?;
-    assert_eq!(rt; letters.as_slice(), "o42ee".as_bytes());
-    assert_eq!(rt; bytes.as_slice(), "abcdef".as_bytes());
+    add_each(&mut reader, &[name.as_bytes()], &mut out)?;
     fs::remove_file(&rt, name)?;
-    for (path, want) in [
-        (name.as_bytes(), "f"),
-        (&[0xff], "f"),
-        (".".as_bytes(), "offff"),
-    ] {
-        let path = Bytes::from_slice(alloc, path)?;
-        let letters = letters_of(alloc, &mut reader, &path, &mut bytes)?;
-        assert_eq!(rt; letters.as_slice(), want.as_bytes());
-    }
+    add_each(&mut reader, &[name.as_bytes(), &[0xff], b"."], &mut out)?;
+    assert!(rt; out.as_str() == "o42eeabcdef f f offff ");
     Ok(())
 }
 
 #[test]
-fn real_sink_writes_through(rt: HostRuntime) -> Result<(), Fail> {
-    let alloc = rt.alloc();
-    let mut bytes = Vec::new(alloc);
+fn real_sink_writes_through(rt: HostRuntime) {
+    let mut bytes = Vec::new(rt.alloc());
     let mut sink = RealSink::new(&mut bytes);
-    assert!(rt; write_all(&mut sink, b"abc").is_ok());
-    assert!(rt; write_all(&mut sink, b"").is_ok());
-    assert!(rt; write_all(&mut sink, b"d").is_ok());
+    let mut whole = true;
+    for piece in ["abc", "", "d"] {
+        whole &= write_all(&mut sink, piece.as_bytes()).is_ok();
+    }
     drop(sink);
-    assert_eq!(rt; bytes.as_slice(), b"abcd".as_slice());
+    assert!(rt; whole && bytes.as_slice() == b"abcd".as_slice());
     let mut room = [0u8; 2];
-    let mut sink = RealSink::new(room.as_mut_slice());
-    assert!(rt; write_all(&mut sink, b"abc").is_err());
-    Ok(())
+    assert!(rt; write_all(&mut RealSink::new(room.as_mut_slice()), b"abc").is_err());
 }

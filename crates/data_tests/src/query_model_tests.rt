@@ -1,98 +1,101 @@
-use crate::literals::bytes;
+use crate::literals::{bytes, check_each, halves, types_of};
 use chunk_data::{Bytes, ColumnType};
 use query_model::arithmetic::{add_int, add_uint, mul_int, mul_uint, sub_int, sub_uint};
 use query_model::numerals::{spelled_int, spelled_uint};
-use query_model::places::BadField;
 use query_model::plain::{bad_field, row_spelled, rows_text};
 use query_model::processor_spec::{Kind, Spec};
 use query_model::query::Span;
 use std::alloc::Global;
+use std::slice::from_ref;
+use std::str::from_utf8;
 use std::test::Fail;
 
+// The Int64 and the UInt64 that a field spells.
+fn numerals_text(alloc: Global, text: &str) -> Result<String, Fail> {
+    let field = text.as_bytes();
+    Ok(format!(in alloc; "{:?} {:?}", spelled_int(field), spelled_uint(field))?)
+}
+
+static FIELDS: [&str; 17] = [
+    "~None None",
+    "-~None None",
+    "+1~None None",
+    " 1~None None",
+    "1e3~None None",
+    "--1~None None",
+    "-0~Some(0) None",
+    "007~Some(7) Some(7)",
+    "-042~Some(-42) None",
+    "9223372036854775807~Some(9223372036854775807) Some(9223372036854775807)",
+    "9223372036854775808~None Some(9223372036854775808)",
+    "-9223372036854775808~Some(-9223372036854775808) None",
+    "-9223372036854775809~None None",
+    "18446744073709551615~None Some(18446744073709551615)",
+    "0000018446744073709551615~None Some(18446744073709551615)",
+    "18446744073709551616~None None",
+    "99999999999999999999999~None None",
+];
+
 #[test]
-fn fields_spell_numbers(rt: HostRuntime) {
-    for (field, int, uint) in [
-        ("", None, None),
-        ("-", None, None),
-        ("+1", None, None),
-        (" 1", None, None),
-        ("1e3", None, None),
-        ("--1", None, None),
-        ("-0", Some(0), None),
-        ("007", Some(7), Some(7)),
-        ("-042", Some(-42), None),
-        (
-            "9223372036854775807",
-            Some(i64::MAX),
-            Some(9_223_372_036_854_775_807),
-        ),
-        ("9223372036854775808", None, Some(9_223_372_036_854_775_808)),
-        ("-9223372036854775808", Some(i64::MIN), None),
-        ("-9223372036854775809", None, None),
-        ("18446744073709551615", None, Some(u64::MAX)),
-        ("0000018446744073709551615", None, Some(u64::MAX)),
-        ("18446744073709551616", None, None),
-        ("99999999999999999999999", None, None),
-    ] {
-        assert_eq!(rt; spelled_int(field.as_bytes()), int, "Int64 of {field}");
-        assert_eq!(rt; spelled_uint(field.as_bytes()), uint, "UInt64 of {field}");
-    }
+fn fields_spell_numbers(rt: HostRuntime) -> Result<(), Fail> {
+    check_each(&rt, rt.alloc(), &FIELDS, numerals_text)
 }
 
 #[test]
 fn results_are_taken_modulo_2_to_64(rt: HostRuntime) {
-    assert_eq!(rt; add_uint(u64::MAX, 1), 0);
-    assert_eq!(rt; add_int(i64::MAX, 1), i64::MIN);
-    assert_eq!(rt; sub_uint(0, 1), -1);
-    assert_eq!(rt; sub_int(i64::MIN, 1), i64::MAX);
-    assert_eq!(rt; mul_uint(1 << 63, 2), 0);
-    assert_eq!(rt; mul_int(4_611_686_018_427_387_904, 2), i64::MIN);
+    assert!(rt; add_uint(u64::MAX, 1) == 0 && add_int(i64::MAX, 1) == i64::MIN);
+    assert!(rt; sub_uint(0, 1) == -1 && sub_int(i64::MIN, 1) == i64::MAX);
+    assert!(rt; mul_uint(1 << 63, 2) == 0 && mul_int(4_611_686_018_427_387_904, 2) == i64::MIN);
 }
 
-/// The texts as fields of a record.
-fn fields(alloc: Global, texts: [&str; 3]) -> Result<Vec<Bytes>, Fail> {
+fn fields_of(alloc: Global, text: &str) -> Result<Vec<Bytes>, Fail> {
     let mut fields = Vec::new(alloc);
-    for text in texts {
-        fields.push(bytes(alloc, text)?)?;
+    for field in text.split('|') {
+        fields.push(bytes(alloc, field)?)?;
     }
     Ok(fields)
 }
 
-#[test]
-fn records_become_texts(rt: HostRuntime) -> Result<(), Fail> {
-    let alloc = rt.alloc();
-    let types = [ColumnType::Int64, ColumnType::UInt64, ColumnType::Text];
-    let record = fields(alloc, ["-007", "18446744073709551615", "say \"hi\",\nbye"])?;
-    let mut rows = Vec::new(alloc);
-    match row_spelled(alloc, &types, &record)? {
-        Some(row) => rows.push(row)?,
-        None => {}
+// The text of a record's row, or its bad field.
+fn shown(alloc: Global, types: &[ColumnType], fields: &[Bytes]) -> Result<String, Fail> {
+    if let Some(row) = row_spelled(alloc, types, fields)? {
+        let text = rows_text(alloc, from_ref(&row))?;
+        return Ok(String::from_str(alloc, from_utf8(&text).unwrap_or("?"))?);
     }
-    let text = rows_text(alloc, &rows)?;
-    assert_eq!(rt;
-        text.as_slice(),
-        b"-7,18446744073709551615,\"say \"\"hi\"\",\nbye\"\n".as_slice()
-    );
-    Ok(())
+    if types.len() > 9 {
+        return Err("too many columns".into());
+    }
+    Ok(format!(in alloc; "{:?}", bad_field(types, fields))?)
 }
 
+// A record: its types, and its fields between `|`s.
+fn record_text(alloc: Global, text: &str) -> Result<String, Fail> {
+    let (letters, rest) = halves(text, '|');
+    shown(
+        alloc,
+        types_of(alloc, letters)?.as_slice(),
+        &fields_of(alloc, rest)?,
+    )
+}
+
+static RECORDS: [&str; 3] = [
+    "iut|-007|18446744073709551615|say \"hi\",\nbye~\
+     -7,18446744073709551615,\"say \"\"hi\"\",\nbye\"\n",
+    "iut|1|z|z~Column(2)",
+    "i|1|z|z~Fields(3)",
+];
+
 #[test]
-fn bad_fields_are_counted_from_one(rt: HostRuntime) -> Result<(), Fail> {
-    let alloc = rt.alloc();
-    let record = fields(alloc, ["1", "z", "z"])?;
-    let two = bad_field(
-        &[ColumnType::Int64, ColumnType::UInt64, ColumnType::Text],
-        &record,
-    );
-    assert_eq!(rt; two, BadField::Column(2));
-    let three = bad_field(&[ColumnType::Int64], &record);
-    assert_eq!(rt; three, BadField::Fields(3));
-    Ok(())
+fn records_become_texts_and_bad_fields_are_counted_from_one(rt: HostRuntime) -> Result<(), Fail> {
+    check_each(&rt, rt.alloc(), &RECORDS, record_text)
+}
+
+fn kind_of(spec: Spec) -> Kind {
+    spec.kind()
 }
 
 #[test]
 fn a_spec_has_its_kind(rt: HostRuntime) {
-    let limit = Spec::Limit(Span { count: 1, skip: 0 });
-    assert_eq!(rt; limit.kind(), Kind::Limit);
-    assert_eq!(rt; Spec::Numbers(3, 1).kind(), Kind::Numbers);
+    assert!(rt; kind_of(Spec::Limit(Span { count: 1, skip: 0 })) == Kind::Limit);
+    assert!(rt; kind_of(Spec::Numbers(3, 1)) == Kind::Numbers);
 }

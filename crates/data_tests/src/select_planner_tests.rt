@@ -1,102 +1,75 @@
-ghost use Rattle.std.specs.Prelude.{◌≤◌};
-
-use chunk_data::{List, SortKey};
-use query_model::checked::{Checked, CheckedJoin, KeyPair, Shape, TableUse};
+use crate::literals::{analysed, check_each, halves};
+use chunk_data::List;
+use query_model::checked::{Checked, CheckedJoin, KeyPair, TableUse};
 use query_model::processor_spec::Kind;
-use query_model::query::{CompareOp, CondOf, ExprOf, Number, Operand, Span, TableDecl};
+use query_model::query::TableDecl;
 use select_planner::{needs, plan};
-use std::alloc::Global;
-use std::process::Abort;
+use std::alloc::{AllocError, Global};
 use std::test::Fail;
 
-// SELECT number FROM numbers(3) WHERE number < 2 LIMIT 1, also ordered by number DESC, or joined
-// with numbers(2).
-fn numbers_query(alloc: Global, ordered: bool, joined: bool) -> Result<Checked, Fail> {
-    let mut items = Vec::new(alloc);
-    items.push(ExprOf::Column(0))?;
-    let two = Number {
-        negative: false,
-        size: 2,
-    };
-    let left = Operand::Plain(ExprOf::Column(0));
-    let right = Operand::Plain(ExprOf::Number(two));
-    let mut order = Vec::new(alloc);
-    if ordered {
-        order.push(SortKey {
-            column: 0,
-            descending: true,
-        })?;
-    }
-    let mut pairs = Vec::new(alloc);
-    pairs.push(KeyPair { left: 0, right: 0 })?;
-    let second = CheckedJoin {
+// A join with numbers(2) of the first columns.
+fn numbers_join(alloc: Global) -> Result<CheckedJoin, AllocError> {
+    let pairs = vec![in alloc; KeyPair { left: 0, right: 0 }]?;
+    Ok(CheckedJoin {
         table: TableUse::Numbers(2),
         pairs: List::from_vec(pairs),
-    };
-    Ok(Checked {
-        from: TableUse::Numbers(3),
-        join: if joined { Some(second) } else { None },
-        filter: Some(CondOf::Compare(CompareOp::Lt, left, right)),
-        shape: Shape::Plain(List::from_vec(items)),
-        names: List::new(alloc),
-        types: List::new(alloc),
-        order: List::from_vec(order),
-        limit: Some(Span { count: 1, skip: 0 }),
     })
 }
 
-// The plan of so many lanes has so many nodes and edges, and a filter, an expression and, where it
-// is ordered, a sort in each lane.
-fn has_plan(
-    rt: &impl Abort,
-    alloc: Global,
-    lanes: u32,
-    ordered: bool,
-    nodes: usize,
-    edges: usize,
-) -> Result<(), Fail>
-    requires some { 1 ≤ lanes }
-    requires few { lanes ≤ 16 }
-{
-    let query = numbers_query(alloc, ordered, false)?;
+static KINDS: [Kind; 8] = [
+    Kind::Numbers,
+    Kind::Csv,
+    Kind::HashJoin,
+    Kind::Filter,
+    Kind::Expression,
+    Kind::Sort,
+    Kind::MergeSorted,
+    Kind::Resize,
+];
+
+// How many nodes and edges the query's plan has, and how many boxes of each kind.
+fn shown(alloc: Global, query: &Checked, lanes: u32) -> Result<String, Fail> {
     let tables: List<TableDecl> = List::new(alloc);
-    let made = plan(alloc, &query, &tables, lanes, 8192, false)?;
-    assert_eq!(rt; made.nodes.len(), nodes);
-    assert_eq!(rt; made.edges.len(), edges);
-    assert_eq!(rt; needs(&made, Kind::Filter), lanes as usize);
-    assert_eq!(rt; needs(&made, Kind::Expression), lanes as usize);
-    assert_eq!(rt;
-        needs(&made, Kind::Sort),
-        if ordered { lanes as usize } else { 0 }
-    );
-    assert_eq!(rt;
-        needs(&made, Kind::MergeSorted),
-        if ordered { 1 } else { 0 }
-    );
-    assert_eq!(rt; needs(&made, Kind::Resize), if ordered { 1 } else { 2 });
-    assert_eq!(rt; needs(&made, Kind::Csv), 0);
-    Ok(())
+    let lanes = lanes.clamp(1, 16);
+    let made = plan(alloc, query, &tables, lanes, 8192, false)?;
+    let mut text = format!(in alloc; "{} {}:", made.nodes.len(), made.edges.len())?;
+    for kind in KINDS.iter() {
+        write!(text, " {}", needs(&made, *kind))?;
+    }
+    Ok(text)
 }
 
-#[test]
-fn lanes_are_laid_down(rt: HostRuntime) -> Result<(), Fail> {
-    has_plan(&rt, rt.alloc(), 1, false, 7, 6)?;
-    has_plan(&rt, rt.alloc(), 2, false, 9, 9)?;
-    has_plan(&rt, rt.alloc(), 16, false, 37, 51)?;
-    has_plan(&rt, rt.alloc(), 1, true, 8, 7)?;
-    has_plan(&rt, rt.alloc(), 2, true, 11, 11)?;
-    has_plan(&rt, rt.alloc(), 16, true, 53, 67)
+// The plan of so many lanes, or of so many behind a `+` where the query is joined.
+fn plan_text(alloc: Global, text: &str) -> Result<String, Fail> {
+    let (lanes, query) = halves(text, ' ');
+    let mut ended = analysed(alloc, "t ia", query)?;
+    let Some(Ok(query)) = ended.as_mut_slice().first_mut() else {
+        return Err("the query is refused".into());
+    };
+    if lanes.starts_with('+') {
+        query.join = Some(numbers_join(alloc)?);
+    }
+    shown(
+        alloc,
+        query,
+        lanes.trim_start_matches('+').parse().unwrap_or(1),
+    )
 }
 
+static PLANS: [&str; 7] = [
+    "1 SELECT number FROM numbers(3) WHERE number < 2 LIMIT 1~7 6: 1 0 0 1 1 0 0 2",
+    "2 SELECT number FROM numbers(3) WHERE number < 2 LIMIT 1~9 9: 1 0 0 2 2 0 0 2",
+    "16 SELECT number FROM numbers(3) WHERE number < 2 LIMIT 1~37 51: 1 0 0 16 16 0 0 2",
+    "1 SELECT number FROM numbers(3) WHERE number < 2 ORDER BY number DESC LIMIT 1~\
+     8 7: 1 0 0 1 1 1 1 1",
+    "2 SELECT number FROM numbers(3) WHERE number < 2 ORDER BY number DESC LIMIT 1~\
+     11 11: 1 0 0 2 2 2 1 1",
+    "16 SELECT number FROM numbers(3) WHERE number < 2 ORDER BY number DESC LIMIT 1~\
+     53 67: 1 0 0 16 16 16 1 1",
+    "+16 SELECT number FROM numbers(3) WHERE number < 2 LIMIT 1~41 55: 2 0 1 16 16 0 0 4",
+];
+
 #[test]
-fn two_tables_are_joined(rt: HostRuntime) -> Result<(), Fail> {
-    let query = numbers_query(rt.alloc(), false, true)?;
-    let tables: List<TableDecl> = List::new(rt.alloc());
-    let made = plan(rt.alloc(), &query, &tables, 16, 8192, false)?;
-    assert_eq!(rt; made.nodes.len(), 41);
-    assert_eq!(rt; made.edges.len(), 55);
-    assert_eq!(rt; needs(&made, Kind::Numbers), 2);
-    assert_eq!(rt; needs(&made, Kind::Resize), 4);
-    assert_eq!(rt; needs(&made, Kind::HashJoin), 1);
-    Ok(())
+fn lanes_are_laid_down_and_two_tables_joined(rt: HostRuntime) -> Result<(), Fail> {
+    check_each(&rt, rt.alloc(), &PLANS, plan_text)
 }

@@ -1,166 +1,176 @@
 // Texts of queries, and what they are read as.
-use crate::literals::{halves, repeated, utf8};
+use crate::literals::{check_each, repeated, utf8};
 use query_model::query::{
     AggCall, ColumnRef, CondOf, ExprOf, Item, ItemKind, Items, Number, Operand, Query, Span,
     TableRef,
 };
-use sql_text::{ParseRefusal, parse};
-use std::alloc::Global;
+use sql_text::parse;
+use std::alloc::{AllocError, Global};
 use std::test::Fail;
 
-fn column_text(alloc: Global, column: &ColumnRef) -> Result<String, Fail> {
-    let name = utf8(&column.name);
-    match &column.table {
-        Some(table) => Ok(format!(in alloc; "{}.{name}", utf8(table))?),
-        None => Ok(String::from_str(alloc, name)?),
+fn write_column(out: &mut String, column: &ColumnRef) -> Result<(), AllocError> {
+    if let Some(table) = &column.table {
+        write!(out, "{}.", utf8(table))?;
     }
+    out.push_str(utf8(&column.name))
 }
 
 // A column, a number, or arithmetic in parentheses.
-fn expr_text(alloc: Global, expr: &ExprOf<ColumnRef>) -> Result<String, Fail> {
+fn write_expr(out: &mut String, expr: &ExprOf<ColumnRef>) -> Result<(), AllocError> {
     match expr {
-        ExprOf::Column(column) => column_text(alloc, column),
+        ExprOf::Column(column) => write_column(out, column),
         ExprOf::Number(Number { negative, size }) => {
-            let sign = if *negative { "-" } else { "" };
-            Ok(format!(in alloc; "{sign}{size}")?)
+            write!(out, "{}{size}", if *negative { "-" } else { "" })
         }
         ExprOf::Arith(op, left, right) => {
-            let left = expr_text(alloc, left)?;
-            let right = expr_text(alloc, right)?;
-            Ok(format!(in alloc; "({left} {op:?} {right})")?)
+            out.push('(')?;
+            write_expr(out, left)?;
+            write!(out, " {op:?} ")?;
+            write_expr(out, right)?;
+            out.push(')')
         }
     }
 }
 
-fn call_text(alloc: Global, call: &AggCall<ColumnRef>) -> Result<String, Fail> {
-    let argument = match &call.arg {
-        Some(expr) => expr_text(alloc, expr)?,
-        None => String::new(alloc),
-    };
-    Ok(format!(in alloc; "{:?}({argument})", call.op)?)
-}
-
-fn operand_text(alloc: Global, operand: &Operand<ColumnRef>) -> Result<String, Fail> {
-    match operand {
-        Operand::Plain(expr) => expr_text(alloc, expr),
-        Operand::Text(text) => Ok(format!(in alloc; "<{}>", utf8(text))?),
-        Operand::Agg(call) => call_text(alloc, call),
+fn write_call(out: &mut String, call: &AggCall<ColumnRef>) -> Result<(), AllocError> {
+    write!(out, "{:?}(", call.op)?;
+    if let Some(expr) = &call.arg {
+        write_expr(out, expr)?;
     }
+    out.push(')')
 }
 
-fn both(alloc: Global, left: String, word: &str, right: String) -> Result<String, Fail> {
-    Ok(format!(in alloc; "{{{left} {word} {right}}}")?)
+fn write_operand(out: &mut String, operand: &Operand<ColumnRef>) -> Result<(), AllocError> {
+    match operand {
+        Operand::Plain(expr) => write_expr(out, expr),
+        Operand::Text(text) => write!(out, "<{}>", utf8(text)),
+        Operand::Agg(call) => write_call(out, call),
+    }
 }
 
 // Comparisons stand in brackets, AND and OR in braces.
-fn condition_text(alloc: Global, condition: &CondOf<ColumnRef>) -> Result<String, Fail> {
+fn write_condition(out: &mut String, condition: &CondOf<ColumnRef>) -> Result<(), AllocError> {
     match condition {
         CondOf::Compare(op, left, right) => {
-            let left = operand_text(alloc, left)?;
-            let right = operand_text(alloc, right)?;
-            Ok(format!(in alloc; "[{left} {op:?} {right}]")?)
+            out.push('[')?;
+            write_operand(out, left)?;
+            write!(out, " {op:?} ")?;
+            write_operand(out, right)?;
+            out.push(']')
         }
         CondOf::And(left, right) => {
-            let left = condition_text(alloc, left)?;
-            both(alloc, left, "AND", condition_text(alloc, right)?)
+            out.push('{')?;
+            write_condition(out, left)?;
+            out.push_str(" AND ")?;
+            write_condition(out, right)?;
+            out.push('}')
         }
         CondOf::Or(left, right) => {
-            let left = condition_text(alloc, left)?;
-            both(alloc, left, "OR", condition_text(alloc, right)?)
+            out.push('{')?;
+            write_condition(out, left)?;
+            out.push_str(" OR ")?;
+            write_condition(out, right)?;
+            out.push('}')
         }
         CondOf::Not(inner) => {
-            let inner = condition_text(alloc, inner)?;
-            Ok(format!(in alloc; "NOT {inner}")?)
+            out.push_str("NOT ")?;
+            write_condition(out, inner)
         }
     }
 }
 
-fn write_items(alloc: Global, out: &mut String, items: &[Item]) -> Result<(), Fail> {
+fn write_item(out: &mut String, item: &Item) -> Result<(), AllocError> {
+    match &item.what {
+        ItemKind::Plain(expr) => write_expr(out, expr)?,
+        ItemKind::Agg(call) => write_call(out, call)?,
+    }
+    match &item.alias {
+        Some(alias) => write!(out, " AS {}", utf8(alias)),
+        None => Ok(()),
+    }
+}
+
+fn write_items(out: &mut String, items: &[Item]) -> Result<(), AllocError> {
     for (i, item) in items.iter().enumerate() {
         out.push_str(if i > 0 { ", " } else { "" })?;
-        let text = match &item.what {
-            ItemKind::Plain(expr) => expr_text(alloc, expr)?,
-            ItemKind::Agg(call) => call_text(alloc, call)?,
-        };
-        out.push_str(text.as_str())?;
-        if let Some(alias) = &item.alias {
-            out.push_str(" AS ")?;
-            out.push_str(utf8(alias))?;
-        }
+        write_item(out, item)?;
     }
     Ok(())
 }
 
-fn table_text(alloc: Global, table: &TableRef) -> Result<String, Fail> {
+fn write_table(out: &mut String, word: &str, table: &TableRef) -> Result<(), AllocError> {
     match table {
-        TableRef::Named(name) => Ok(String::from_str(alloc, utf8(name))?),
-        TableRef::Numbers(count) => Ok(format!(in alloc; "numbers {count}")?),
+        TableRef::Named(name) => write!(out, " {word} {}", utf8(name)),
+        TableRef::Numbers(count) => write!(out, " {word} numbers {count}"),
     }
 }
 
-// A word, and what stands behind it.
-fn write(out: &mut String, word: &str, behind: String) -> Result<(), Fail> {
-    out.push_str(word)?;
-    Ok(out.push_str(behind.as_str())?)
-}
-
-fn write_tables(alloc: Global, out: &mut String, query: &Query) -> Result<(), Fail> {
-    write(out, " of ", table_text(alloc, &query.from)?)?;
+fn write_tables(out: &mut String, query: &Query) -> Result<(), AllocError> {
+    write_table(out, "of", &query.from)?;
     if let Some(join) = &query.join {
-        write(out, " with ", table_text(alloc, &join.table)?)?;
+        write_table(out, "with", &join.table)?;
         for pair in join.pairs.as_slice() {
-            write(out, " on ", column_text(alloc, &pair.left)?)?;
-            write(out, " = ", column_text(alloc, &pair.right)?)?;
+            out.push_str(" on ")?;
+            write_column(out, &pair.left)?;
+            out.push_str(" = ")?;
+            write_column(out, &pair.right)?;
         }
     }
     Ok(())
 }
 
-fn write_clauses(alloc: Global, out: &mut String, query: &Query) -> Result<(), Fail> {
+fn write_clauses(out: &mut String, query: &Query) -> Result<(), AllocError> {
     if let Some(filter) = &query.filter {
-        write(out, " where ", condition_text(alloc, filter)?)?;
+        out.push_str(" where ")?;
+        write_condition(out, filter)?;
     }
     for key in query.keys.as_slice() {
-        write(out, " each ", column_text(alloc, key)?)?;
+        out.push_str(" each ")?;
+        write_column(out, key)?;
     }
     if let Some(having) = &query.having {
-        write(out, " having ", condition_text(alloc, having)?)?;
+        out.push_str(" having ")?;
+        write_condition(out, having)?;
     }
     Ok(())
 }
 
-fn write_order(alloc: Global, out: &mut String, query: &Query) -> Result<(), Fail> {
+fn write_order(out: &mut String, query: &Query) -> Result<(), AllocError> {
     for key in query.order.as_slice() {
-        out.push_str(" by ")?;
-        out.push_str(utf8(&key.name))?;
-        out.push_str(if key.descending { " down" } else { "" })?;
+        let down = if key.descending { " down" } else { "" };
+        write!(out, " by {}{down}", utf8(&key.name))?;
     }
-    if let Some(Span { count, skip }) = query.limit {
-        out.push_str(format!(in alloc; " first {count} behind {skip}")?.as_str())?;
+    match query.limit {
+        Some(Span { count, skip }) => write!(out, " first {count} behind {skip}"),
+        None => Ok(()),
     }
-    Ok(())
 }
 
-fn query_text(alloc: Global, query: &Query) -> Result<String, Fail> {
-    let mut out = String::new(alloc);
+fn write_query(out: &mut String, query: &Query) -> Result<(), AllocError> {
     match &query.items {
         Items::Star => out.push('*')?,
-        Items::Listed(items) => write_items(alloc, &mut out, items.as_slice())?,
+        Items::Listed(items) => write_items(out, items.as_slice())?,
     }
-    write_tables(alloc, &mut out, query)?;
-    write_clauses(alloc, &mut out, query)?;
-    write_order(alloc, &mut out, query)?;
+    write_tables(out, query)?;
+    write_clauses(out, query)?;
+    write_order(out, query)
+}
+
+fn query_text(alloc: Global, text: &str) -> Result<String, Fail> {
+    // A list of one is dropped by one call.
+    let mut ended = Vec::with_capacity(alloc, 1)?;
+    ended.push_reserved(parse(alloc, text.as_bytes()));
+    let mut out = String::new(alloc);
+    match ended.as_slice().first() {
+        Some(Ok(query)) => write_query(&mut out, query)?,
+        Some(Err(refusal)) => write!(out, "{refusal:?}")?,
+        None => {}
+    }
     Ok(out)
 }
 
-fn answer_of(alloc: Global, text: &str) -> Result<String, Fail> {
-    match parse(alloc, text.as_bytes()) {
-        Ok(query) => query_text(alloc, &query),
-        Err(refusal) => Ok(format!(in alloc; "{refusal:?}")?),
-    }
-}
-
-static ITEMS: [&str; 34] = [
+static TEXTS: [&str; 139] = [
+    // Items.
     "SELECT a FROM t LIMIT 1~a of t first 1 behind 0",
     "SELECT a FROM numbers(3)~a of numbers 3",
     "SELECT a FROM t~a of t",
@@ -195,9 +205,7 @@ static ITEMS: [&str; 34] = [
     "SELECT count, sum, numbers FROM min~count, sum, numbers of min",
     "SELECT _a1 FROM _~_a1 of _",
     "SELECT a, FROM t~Syntax",
-];
-
-static FILTERS: [&str; 29] = [
+    // Conditions.
     "SELECT a FROM t WHERE a = 1~a of t where [a Eq 1]",
     "SELECT a FROM t WHERE a == 1~a of t where [a Eq 1]",
     "SELECT a FROM t WHERE a != 1~a of t where [a Ne 1]",
@@ -233,9 +241,7 @@ static FILTERS: [&str; 29] = [
     "SELECT a FROM t WHERE~Syntax",
     "SELECT a FROM t WHERE a = 1 ORDER BY a, b desc LIMIT 3~\
      a of t where [a Eq 1] by a by b down first 3 behind 0",
-];
-
-static REFUSED: [&str; 24] = [
+    // No queries.
     "~Syntax",
     "  \t\r\n~Syntax",
     ";;~Syntax",
@@ -260,10 +266,7 @@ static REFUSED: [&str; 24] = [
     "SELECT a FROM t ORDER~Syntax",
     "SELECT count() FROM t ON~Syntax",
     "SELECT a FROM t OFFSET 'x~Syntax",
-];
-
-/// Texts with every clause.
-static CLAUSES: [&str; 52] = [
+    // Every clause.
     "SELECT a FROM t LIMIT 3~a of t first 3 behind 0",
     "SELECT a FROM t LIMIT 3 OFFSET 2~a of t first 3 behind 2",
     "SELECT a FROM t LIMIT 0;~a of t first 0 behind 0",
@@ -325,56 +328,26 @@ static CLAUSES: [&str; 52] = [
 
 #[test]
 fn texts_have_their_answers(rt: HostRuntime) -> Result<(), Fail> {
-    for cases in [ITEMS.as_slice(), &FILTERS, &REFUSED, &CLAUSES] {
-        for case in cases {
-            let (text, answer) = halves(case);
-            let found = answer_of(rt.alloc(), text)?;
-            assert_eq!(rt; found.as_str(), answer, "{text}");
-        }
-    }
-    Ok(())
+    check_each(&rt, rt.alloc(), &TEXTS, query_text)
 }
 
-// The front, a piece so many times, and the end.
+fn refusal_text(alloc: Global, text: &str) -> Result<String, Fail> {
+    let text = repeated(alloc, text)?;
+    let refusal = parse(alloc, text.as_str().as_bytes()).err();
+    Ok(format!(in alloc; "{refusal:?}")?)
+}
+
+static LIMITS: [&str; 7] = [
+    "SELECT a FROM t| |65521|~None",
+    "SELECT a FROM t| |65522|~Some(TooLong)",
+    "SELECT a|+a|1000| FROM t~None",
+    "SELECT a|+a|1001| FROM t~Some(TooComplex)",
+    "SELECT |(|1000|a FROM t~Some(Syntax)",
+    "SELECT a FROM t WHERE| NOT|1000| a = 1~None",
+    "SELECT a FROM t WHERE |a = (|1000|~Some(Syntax)",
+];
+
 #[test]
 fn limits_are_kept(rt: HostRuntime) -> Result<(), Fail> {
-    let alloc = rt.alloc();
-    for (front, piece, times, end, refusal) in [
-        ("SELECT a FROM t", " ", 65_521, "", None),
-        (
-            "SELECT a FROM t",
-            " ",
-            65_522,
-            "",
-            Some(ParseRefusal::TooLong),
-        ),
-        ("SELECT a", "+a", 1_000, " FROM t", None),
-        (
-            "SELECT a",
-            "+a",
-            1_001,
-            " FROM t",
-            Some(ParseRefusal::TooComplex),
-        ),
-        (
-            "SELECT ",
-            "(",
-            1_000,
-            "a FROM t",
-            Some(ParseRefusal::Syntax),
-        ),
-        ("SELECT a FROM t WHERE", " NOT", 1_000, " a = 1", None),
-        (
-            "SELECT a FROM t WHERE ",
-            "a = (",
-            1_000,
-            "",
-            Some(ParseRefusal::Syntax),
-        ),
-    ] {
-        let text = repeated(alloc, front, piece, times, end)?;
-        let found = parse(alloc, text.as_str().as_bytes()).err();
-        assert_eq!(rt; found, refusal, "{front}{piece} {times} times");
-    }
-    Ok(())
+    check_each(&rt, rt.alloc(), &LIMITS, refusal_text)
 }
