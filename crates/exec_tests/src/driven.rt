@@ -5,13 +5,19 @@ ghost use Rattle.proc_api.specs.declared.status.Answer.TheVariants.{Prepared, Sc
 ghost use Rattle.proc_api.specs.declared.status.Status.TheVariants as answered;
 ghost use Rattle.proc_api.specs.Names.{BoxPicture, FollowsKept, IsRunning, MaySchedule};
 
-use chunk_data::{Chunk, ColumnType, List, Value};
+use chunk_data::{Bytes, Chunk, ColumnType, List, Value};
 use csv_rows::RowReader;
 use port_word::{Action, Flags, Port, PortView};
 use proc_api::{BadField, BadPlace, Growth, LoadRefusal, Processor, Status, Wake, WorkFault};
 use query_model::processor_spec::Spec;
-use std::alloc::Global;
+use std::alloc::{AllocError, Global};
+use std::process::Abort;
 use std::test::Fail;
+
+/// What stands before the sign, and behind it.
+pub(crate) fn halves(text: &str, sign: char) -> (&str, &str) {
+    text.split_once(sign).unwrap_or((text, ""))
+}
 
 /// The types that the letters stand for: `i` for Int64, `t` for Text.
 pub(crate) fn types_of(alloc: Global, letters: &str) -> Result<List<ColumnType>, Fail> {
@@ -27,11 +33,8 @@ pub(crate) fn types_of(alloc: Global, letters: &str) -> Result<List<ColumnType>,
 
 // The rows, between which a `;` stands.
 fn chunk_of(alloc: Global, letters: &str, rows: &str) -> Result<Chunk, Fail> {
-    let mut bytes = Vec::new(alloc);
-    for byte in rows.as_bytes() {
-        bytes.push(if *byte == b';' { b'\n' } else { *byte })?;
-    }
     let types = types_of(alloc, letters)?;
+    let bytes = rows.replace(alloc, ";", "\n")?.into_bytes();
     if types.len() > 9 {
         return Err("too many columns".into());
     }
@@ -44,10 +47,9 @@ fn chunk_of(alloc: Global, letters: &str, rows: &str) -> Result<Chunk, Fail> {
 // Each row's first value, of a joined row the first of either half, and a blank; of many rows their
 // number.
 fn show(text: &mut String, chunk: &Chunk) -> Result<(), Fail> {
-    let alloc = *text.allocator();
     let rows = chunk.rows();
     if rows > 9 {
-        return Ok(text.push_str(format!(in alloc; "{rows} rows")?.as_str())?);
+        return Ok(write!(text, "{rows} rows")?);
     }
     for i in 0..rows {
         for (place, value) in chunk.row(i)?.as_slice().iter().enumerate() {
@@ -60,30 +62,29 @@ fn show(text: &mut String, chunk: &Chunk) -> Result<(), Fail> {
     Ok(())
 }
 
-fn show_value(text: &mut String, value: &Value) -> Result<(), Fail> {
-    let alloc = *text.allocator();
+fn show_value(text: &mut String, value: &Value) -> Result<(), AllocError> {
     match value {
-        Value::Int(number) => text.push_str(format!(in alloc; "{number}")?.as_str())?,
-        Value::UInt(number) => text.push_str(format!(in alloc; "{number}")?.as_str())?,
-        Value::Text(bytes) => {
-            for byte in bytes.as_slice() {
-                text.push(*byte as char)?;
-            }
-        }
+        Value::Int(number) => write!(text, "{number}"),
+        Value::UInt(number) => write!(text, "{number}"),
+        Value::Text(bytes) => show_bytes(text, bytes),
+    }
+}
+
+fn show_bytes(text: &mut String, bytes: &Bytes) -> Result<(), AllocError> {
+    for byte in bytes.as_slice() {
+        text.push(*byte as char)?;
     }
     Ok(())
 }
 
-fn show_fault(text: &mut String, fault: WorkFault) -> Result<(), Fail> {
-    let alloc = *text.allocator();
-    let told = match fault {
-        WorkFault::Bad(BadPlace { row, field }) => match field {
-            BadField::Column(column) => format!(in alloc; "bad {row} {column}")?,
-            BadField::Fields(fields) => format!(in alloc; "bad {row} of {fields}")?,
-        },
-        _ => format!(in alloc; "{fault:?}")?,
+fn show_fault(text: &mut String, fault: WorkFault) -> Result<(), AllocError> {
+    let WorkFault::Bad(BadPlace { row, field }) = fault else {
+        return write!(text, "{fault:?}");
     };
-    Ok(text.push_str(told.as_str())?)
+    match field {
+        BadField::Column(column) => write!(text, "bad {row} {column}"),
+        BadField::Fields(fields) => write!(text, "bad {row} of {fields}"),
+    }
 }
 
 pub(crate) fn load(b: &mut Box<dyn Processor + Send>, spec: Spec) -> Result<(), LoadRefusal>
@@ -146,14 +147,11 @@ fn expand(b: &mut Box<dyn Processor + Send>) -> Result<Growth, WorkFault>
 }
 
 // Each new source's part and path.
-fn show_growth(text: &mut String, growth: &Growth) -> Result<(), Fail> {
-    let alloc = *text.allocator();
+fn show_growth(text: &mut String, growth: &Growth) -> Result<(), AllocError> {
     for node in growth.nodes.as_slice() {
         if let Spec::Csv(part) = &node.spec {
-            text.push_str(format!(in alloc; "{} ", part.part)?.as_str())?;
-            for byte in part.path.as_slice() {
-                text.push(*byte as char)?;
-            }
+            write!(text, "{} ", part.part)?;
+            show_bytes(text, &part.path)?;
             text.push(' ')?;
         }
     }
@@ -401,24 +399,23 @@ fn take_step(
     go_on(b, view, text)
 }
 
-/// What the box does, with so many inputs and outputs, from its load by a script to its unload. A
-/// step is `n3` where output 3 needs a chunk, `e0` where input 0 ends, and `0:1;2` where a chunk of
-/// these rows, in columns of these types, comes at input 0. Behind a step without a `+` the box
-/// goes on.
-pub(crate) fn driven(
+// What the box does, from its load by a script to its unload, with so many inputs and outputs and
+// columns of these types.
+fn driven(
     alloc: Global,
     b: &mut Box<dyn Processor + Send>,
     spec: Spec,
-    ports: (usize, usize),
-    letters: &str,
+    ports: &str,
     script: &str,
 ) -> Result<String, Fail> {
-    let (inputs, outputs) = ports;
-    if inputs > 32 || outputs > 16 {
-        return Err("too many ports".into());
-    }
     if load(b, spec).is_err() {
         return Err("a blank box was not loaded".into());
+    }
+    let (inputs, rest) = halves(ports, ' ');
+    let (outputs, letters) = halves(rest, ' ');
+    let (inputs, outputs) = (inputs.parse().unwrap_or(99), outputs.parse().unwrap_or(99));
+    if inputs > 32 || outputs > 16 {
+        return Err("too many ports".into());
     }
     let mut text = String::new(alloc);
     let mut view = PortView::new(alloc, inputs, outputs)?;
@@ -429,4 +426,30 @@ pub(crate) fn driven(
     }
     b.unload();
     Ok(text)
+}
+
+/// Drives a box through several loads. Between a case's `/`s stand how the box is made, its inputs,
+/// outputs and columns' types, a script, and then for each load its words, a script of its own
+/// behind a `|` or none, a `~`, and what the box does. A step of a script is `n3` where output 3
+/// needs a chunk, `e0` where input 0 ends, and `0:1;2` where a chunk of these rows comes at input
+/// 0. Behind a step without a `+` the box goes on.
+pub(crate) fn drive<F: Fn(Global, &str, &str) -> Result<Spec, Fail>>(
+    rt: &impl Abort,
+    alloc: Global,
+    b: &mut Box<dyn Processor + Send>,
+    case: &str,
+    spec: F,
+) -> Result<(), Fail>
+    requires { F.IsAlwaysCallable spec }
+{
+    let (made, rest) = halves(case, '/');
+    let (ports, rest) = halves(rest, '/');
+    let (script, loads) = halves(rest, '/');
+    for load in loads.split('/') {
+        let (load, expected) = halves(load, '~');
+        let (words, own) = load.split_once('|').unwrap_or((load, script));
+        let text = driven(alloc, b, spec(alloc, made, words)?, ports, own)?;
+        assert_eq!(rt; text.as_str(), expected, "{case}");
+    }
+    Ok(())
 }

@@ -56,7 +56,7 @@ fn two_nodes(rt: &HostRuntime) -> Result<CoreState, Fail>
 
 /// A chunk's way over the edge: the consumer wants it, the producer pushes, rests and gives its
 /// tokens back, and the consumer, which was told meanwhile, pulls.
-const CHUNK_PASSES: [(u32, Step); 18] = [
+static CHUNK_PASSES: [(u32, Step); 18] = [
     (1, Step::TokenIn),
     (1, Step::Begin),
     (1, Step::Look(0)),
@@ -99,7 +99,6 @@ fn replayed(rt: &HostRuntime, start: CoreState, events: &[Event]) -> Result<Core
 fn a_chunk_passes_an_edge(rt: HostRuntime) -> Result<(), Fail> {
     let events = events_of(&rt, &CHUNK_PASSES)?;
     let core = replayed(&rt, two_nodes(&rt)?, events.as_slice())?;
-    assert_eq!(rt; core.pending, 1);
     let [port] = core.ports.as_slice() else {
         return Err("there is one edge".into());
     };
@@ -107,16 +106,15 @@ fn a_chunk_passes_an_edge(rt: HostRuntime) -> Result<(), Fail> {
         needed: true,
         ..NO_FLAGS
     };
-    assert_eq!(rt; port.flags, needed);
-    assert_eq!(rt; port.slot, None);
-    assert_eq!(rt; port.pushed.as_slice(), [7].as_slice());
-    assert_eq!(rt; port.pulled.as_slice(), [7].as_slice());
+    assert!(rt; core.pending == 1 && port.flags == needed && port.slot == None);
+    assert!(rt;
+        port.pushed.as_slice() == [7].as_slice() && port.pulled.as_slice() == [7].as_slice()
+    );
     let [producer, consumer] = core.nodes.as_slice() else {
         return Err("there are two nodes".into());
     };
-    assert_eq!(rt; (producer.word, producer.tokens), (0, 0));
-    assert_eq!(rt; (consumer.word, consumer.held), (HELD, true));
-    assert_eq!(rt; consumer.owes.as_slice(), [0].as_slice());
+    assert!(rt; producer.word == 0 && producer.tokens == 0 && consumer.word == HELD);
+    assert!(rt; consumer.held && consumer.owes.as_slice() == [0].as_slice());
     Ok(())
 }
 
@@ -153,8 +151,7 @@ fn reserved_node(rt: &HostRuntime) -> Result<CoreState, Fail>
 #[test]
 fn a_born_node_begins_with_a_token(rt: HostRuntime) -> Result<(), Fail> {
     let start = reserved_node(&rt)?;
-    assert_eq!(rt; start.pending, 1);
-    assert_eq!(rt; start.nodes.get(0).word, FIRST);
+    assert!(rt; start.pending == 1 && start.nodes.get(0).word == FIRST);
     let steps = [(1, Step::TokenIn), (1, Step::Birth), (1, Step::Begin)];
     let bad = events_of(&rt, &steps)?;
     let ended = replay(rt.alloc(), start, bad.as_slice());
@@ -167,12 +164,11 @@ fn a_born_node_begins_with_a_token(rt: HostRuntime) -> Result<(), Fail> {
     ];
     let events = events_of(&rt, &steps)?;
     let core = replayed(&rt, reserved_node(&rt)?, events.as_slice())?;
-    assert_eq!(rt; core.pending, 3);
     let [live, born] = core.nodes.as_slice() else {
         return Err("there are two nodes".into());
     };
-    assert_eq!(rt; live.word, FIRST);
-    assert_eq!(rt; (born.word, born.held, born.tokens), (HELD, true, 1));
+    assert!(rt; core.pending == 3 && live.word == FIRST);
+    assert!(rt; born.word == HELD && born.held && born.tokens == 1);
     Ok(())
 }
 
@@ -253,12 +249,11 @@ fn walk(rt: &HostRuntime, count: usize) -> Result<(Vec<Event>, CoreState), Fail>
 #[test]
 fn a_walk_of_steps_is_accepted(rt: HostRuntime) -> Result<(), Fail> {
     let (events, last) = walk(&rt, 10_000)?;
-    assert_eq!(rt; events.len(), 10_000);
     let core = replayed(&rt, growing_nodes(&rt)?, events.as_slice())?;
-    assert_eq!(rt; core.pending, last.pending);
-    for n in 0..core.nodes.len() {
-        let (node, same) = (core.nodes.get(n), last.nodes.as_slice());
-        assert_eq!(rt; Some(node.word), same.get(n).map(|node| node.word));
+    assert!(rt; events.len() == 10_000 && core.pending == last.pending);
+    assert!(rt; core.nodes.len() == last.nodes.len());
+    for (node, same) in core.nodes.as_slice().iter().zip(last.nodes.as_slice()) {
+        assert!(rt; node.word == same.word);
     }
     let Some(port) = core.ports.as_slice().first() else {
         return Err("a port is missing".into());

@@ -15,8 +15,6 @@ mod flow_procs_tests;
 #[cfg(test)]
 mod join_proc_tests;
 #[cfg(test)]
-mod list_source_tests;
-#[cfg(test)]
 mod pipeline_exec_tests;
 #[cfg(test)]
 mod plan_run_tests;

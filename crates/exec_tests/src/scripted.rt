@@ -96,7 +96,7 @@ impl<R: Abort + AllocGlobal + Drop + Send> Processor for Scripted<R> {
       growth = if p.grown then Some (script_growth p.adds) else None;
     } };
 
-    ghost stands = { λ p. None };
+    ghost position = { λ p. None };
 
     fn kind(&self) -> Kind {
         self.kind
