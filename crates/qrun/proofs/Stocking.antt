@@ -7,14 +7,14 @@ use Rattle.std.proofs.lemmas.List.Sums.{sum_by-append}
 use Rattle.query_model.specs.Database.{Files}
 use Rattle.query_model.specs.declared.processor_spec.Kind.{Kind}
 use Rattle.query_model.specs.declared.processor_spec.Kind.TheVariants as kind
-use Rattle.proc_api.specs.Names.{BoxPicture, IsBlank, IsLawfulBlank, IsSourceKind, is_of, same_kind}
+use Rattle.proc_api.specs.Names.{BoxPicture, IsBlank, IsSourceKind, IsUnloadedProcessor, is_of, same_kind}
 use Rattle.query_run.specs.Racks.{AreLawfulOver, HasStandardStock, IsHonest, stock_of}
 use Rattle.qrun.specs.declared.racks.TheConstants.{LISTS, OTHERS, SOURCES}
 use Rattle.qrun.specs.Stocking.{with_each, with_more, Adds, AddsEach, AddsTold, IsServing, IsStocked}
 
 -- a new box of the kind was added
 pub adds_one : (k : Kind) (files : Option Files) (before after : List BoxPicture) (p : BoxPicture)
-    → IsLawfulBlank k p → (IsSourceKind k → p.files ≡ files) → after ≡ before ++ p ∷ []
+    → IsUnloadedProcessor k p → (IsSourceKind k → p.files ≡ files) → after ≡ before ++ p ∷ []
     → AddsTold k 1 files before after
 adds_one k files before after p new told last = λ stock s.
     subst (IsStocked files (with_more k 1 stock)) (sym last) (record {
@@ -33,7 +33,8 @@ adds_one k files before after p new told last = λ stock s.
 
 -- and one of a kind that reads no file
 pub adds_other : (k : Kind) (before after : List BoxPicture) (p : BoxPicture)
-    → IsLawfulBlank k p → (IsSourceKind k → ⊥) → after ≡ before ++ p ∷ [] → Adds k 1 before after
+    → IsUnloadedProcessor k p → (IsSourceKind k → ⊥) → after ≡ before ++ p ∷ []
+    → Adds k 1 before after
 adds_other k before after p new without last = λ files.
     adds_one k files before after p new (λ source. absurd (without source)) last
 

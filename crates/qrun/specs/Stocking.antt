@@ -1,11 +1,11 @@
 -- Racks that are filled with new boxes, one after another.
-use Rattle.std.specs.Prelude.{◌≡◌, ℕ, ◌+◌, cond, true, List, ◌∷◌, [], count_by, Option}
+use Rattle.std.specs.Prelude.{◌≡◌, ◌⊎◌, ℕ, ◌+◌, cond, true, List, ◌∷◌, [], count_by, Option}
 use Rattle.std.specs.List.{All}
 use Rattle.outside_io.specs.Growth.{GrewBy}
 use Rattle.query_model.specs.Database.{Files}
 use Rattle.query_model.specs.declared.processor_spec.Kind.{Kind}
 use Rattle.proc_api.specs.Names.{BoxPicture, IsBlank, IsSourceKind, is_of, same_kind}
-use Rattle.query_run.specs.Names.{OfCommand, IsTextOfAnswer}
+use Rattle.query_run.specs.Names.{IsAnswerable, IsEither, IsTextOfAnswer, OfCommand, ReaderFails}
 
 -- the box is blank and meets its contract; where it is a source, its reader tells these files
 pub record IsServing (files : Option Files) (p : BoxPicture) : Type 0 where
@@ -46,3 +46,11 @@ AddsEach more before after = (files : Option Files) → (stock : Kind → ℕ)
 abbrev pub WroteAnswer : List (List ℕ) → Files → (before after : Option (List ℕ)) → Type 0
 WroteAnswer words files before after =
     (text : List ℕ) × OfCommand words (λ c. IsTextOfAnswer c files text) × GrewBy before after text
+
+-- a run over an honest rack that tells these files: what it wrote is an answer, and it succeeds
+-- where its command can be answered and no device fails
+pub record IsAnsweredOver (files : Files) (words : List (List ℕ)) (before after : List BoxPicture)
+    (status : ℕ) (out₀ out : Option (List ℕ)) (write : Type 0) : Type 0 where
+  pub answered : status ≡ 0 → WroteAnswer words files out₀ out
+  pub succeeds : OfCommand words (IsAnswerable files)
+      → (ReaderFails words before after ⊎ write → ⊥) → IsEither 0 7 status

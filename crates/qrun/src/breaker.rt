@@ -67,7 +67,7 @@ impl Processor for Breaker {
       | breaker.MergeSorted p ↦ view_seen kind.MergeSorted p
     ] };
 
-    ghost stands = { λ s. None };
+    ghost position = { λ s. None };
 
     fn kind(&self) -> Kind {
         of_each!(self, processor => processor.kind())

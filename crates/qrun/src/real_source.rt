@@ -33,9 +33,9 @@ impl Processor for RealSource {
       | source.List p ↦ seen_by kind.List p
     ] };
 
-    ghost stands = { elim [
-      | source.Part p ↦ p.stands
-      | source.List p ↦ p.stands
+    ghost position = { elim [
+      | source.Part p ↦ p.position
+      | source.List p ↦ p.position
     ] };
 
     fn kind(&self) -> Kind {

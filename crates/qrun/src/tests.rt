@@ -1,13 +1,13 @@
 // Worked runs over files and sinks in memory. What each must give is told by the description of
 // the program, and not taken from its output.
-ghost use Rattle.std.specs.Prelude.{◌≡◌, ◌⊎◌, ◌≤◌, map, string_bytes, IfOk, IsTrue, OnOk, Some};
+ghost use Rattle.std.specs.Prelude.{◌≡◌, map, string_bytes, IfOk, IsTrue, OnOk, Some};
 ghost use Rattle.std.specs.List.{All};
-ghost use Rattle.outside_io.specs.Counts.{Rose};
+ghost use Rattle.outside_io.specs.Counts.{CountIncreased};
 ghost use Rattle.outside_io.specs.Scripts.{IsRising};
 ghost use Rattle.outside_io.specs.Told.{files_of as told_pairs};
-ghost use Rattle.proc_api.specs.Clauses.{IsBlank, IsLawfulBlank};
-ghost use Rattle.query_run.specs.Names.{OfCommand, IsAnswerable, IsEither, ReaderFails, IsHonest};
-ghost use Rattle.qrun.specs.Stocking.{AddsTold, WroteAnswer};
+ghost use Rattle.proc_api.specs.Clauses.{IsBlank, IsUnloadedProcessor};
+ghost use Rattle.query_run.specs.Names.{IsHonest};
+ghost use Rattle.qrun.specs.Stocking.{AddsTold, IsAnsweredOver};
 ghost use Rattle.qrun.specs.declared.racks.TheConstants.{LISTS as lists_of_rack, OTHERS as others_of_rack, SOURCES as sources_of_rack};
 
 mod boxes;
@@ -35,10 +35,6 @@ use std::sync::atomic::{AtomicU64, Ordering};
 use std::test::Fail;
 use std::thread::Threads;
 
-/// The line of words that are no command.
-const USAGE: &str =
-    "qrun: usage: qrun --query QUERY [--tables TABLES] [--threads N] [--chunk N] [--header]\n";
-
 /// Files in memory whose reader has nothing yet so many times before the first byte.
 #[derive(Drop)]
 struct SlowFiles {
@@ -52,7 +48,7 @@ impl FileReader for SlowFiles {
 
     ghost files = { λ s. Some s.files.files };
 
-    ghost stands = { λ s. s.files.stands };
+    ghost position = { λ s. s.files.position };
 
     ghost faults = { λ s. s.files.faults };
 
@@ -82,33 +78,37 @@ impl FileReader for SlowFiles {
     }
 }
 
-/// A source that counts its calls of `prepare`, and whose work looks for that of another source.
+/// A source that marks its calls, and whose work waits for that of another source.
 #[derive(Drop)]
-struct Counted {
+struct Marking {
     source: CsvSource<SlowFiles>,
-    prepared: Arc<AtomicU64, Global>,
-    works: Arc<AtomicU64, Global>,
-    others: Arc<AtomicU64, Global>,
-    missed: Arc<AtomicU64, Global>,
+    marks: Arc<AtomicU64, Global>,
+    /// Its mark of a call of `prepare`; that of its work stands two bits higher.
+    mark: u64,
 }
 
-/// Whether the count rises in so many looks.
-fn is_met(works: &AtomicU64) -> bool {
+/// The marks of the works of both, and of a work that didn't see the other's.
+const WORKED: u64 = 12;
+
+const MISSED: u64 = 16;
+
+/// Whether both have worked after so many looks.
+fn is_met(marks: &AtomicU64) -> bool {
     for _look in 0..100_000_000u64 {
-        if works.load(Ordering::SeqCst) > 0 {
+        if marks.load(Ordering::SeqCst) & WORKED == WORKED {
             return true;
         }
     }
     false
 }
 
-impl Processor for Counted {
+impl Processor for Marking {
     ghost use Rattle.query_model.specs.declared.processor_spec.Kind.TheVariants as kind;
     ghost use Rattle.csv_procs.specs.Names.{seen_by};
 
     ghost seen = { λ c. seen_by kind.Csv c.source };
 
-    ghost stands = { λ c. c.source.stands };
+    ghost position = { λ c. c.source.position };
 
     fn kind(&self) -> Kind {
         self.source.kind()
@@ -119,14 +119,14 @@ impl Processor for Counted {
     }
 
     fn prepare(&mut self, view: &mut PortView) -> Status {
-        self.prepared.fetch_add(1, Ordering::SeqCst);
+        self.marks.fetch_or(self.mark, Ordering::SeqCst);
         self.source.prepare(view)
     }
 
     fn work(&mut self) -> Result<(), WorkFault> {
-        self.works.fetch_add(1, Ordering::SeqCst);
-        if !is_met(&self.others) {
-            self.missed.fetch_add(1, Ordering::SeqCst);
+        self.marks.fetch_or(self.mark << 2, Ordering::SeqCst);
+        if !is_met(&self.marks) {
+            self.marks.fetch_or(MISSED, Ordering::SeqCst);
         }
         self.source.work()
     }
@@ -148,55 +148,40 @@ impl Processor for Counted {
     }
 }
 
-/// What a run gave: its status, and what came to its sinks.
-#[derive(Debug, Drop)]
+/// What a run gave: its status, and the sinks of its answer and of its line.
+#[derive(Drop)]
 struct Outcome {
     status: u8,
-    out: Vec<u8>,
-    err: Vec<u8>,
+    out: MemSink,
+    err: MemSink,
 }
 
-/// What a rack is made of, and the sink that takes its answer.
+/// How the readers and sinks of a run are, and how often it runs.
 #[derive(Clone, Copy)]
-struct Setting<'a> {
-    files: &'a List<FileEntry>,
+struct Setting {
     /// The call of a reader that fails or has nothing yet.
     fake: Option<Fake>,
     /// How often a reader has nothing yet before its first byte.
     waits: u64,
     /// The place of the one source whose reader is so among those of its kind, or else all are.
     only: Option<u32>,
-    /// How many sources and other boxes lie in the rack, where it isn't the standard one.
-    stock: Option<(u32, &'a [(Kind, u32)])>,
     /// How often the words run.
     runs: u32,
-    /// How many bytes the sink takes in a call, and in all.
-    step: usize,
-    room: usize,
+    /// How many bytes the sink of the answer takes in a call, and in all.
+    out: (usize, usize),
+    /// And that of the line.
+    err: (usize, usize),
 }
 
-/// The standard rack over the files, and ample room.
-fn ample(files: &List<FileEntry>) -> Setting<'_> {
-    Setting {
-        files,
-        fake: None,
-        waits: 0,
-        only: None,
-        stock: None,
-        runs: 1,
-        step: 4096,
-        room: 4096,
-    }
-}
-
-/// What was written, or the line that was told.
-fn told_by(outcome: &Outcome) -> &[u8] {
-    if outcome.status == 0 {
-        outcome.out.as_slice()
-    } else {
-        outcome.err.as_slice()
-    }
-}
+/// Readers that don't fail, and ample room.
+const AMPLE: Setting = Setting {
+    fake: None,
+    waits: 0,
+    only: None,
+    runs: 1,
+    out: (4096, 65_536),
+    err: (80, 400),
+};
 
 fn text(alloc: Global, bytes: &[u8]) -> Result<Bytes, AllocError>
     ensures { IfOk result (λ t. t ≡ bytes.now) }
@@ -211,11 +196,6 @@ fn bars(alloc: Global, text: &str) -> Result<Vec<String>, AllocError> {
         words.push(String::from_str(alloc, word)?)?;
     }
     Ok(words)
-}
-
-fn words_of(alloc: Global, query: &str, declaration: &str) -> Result<Vec<String>, Fail> {
-    let words = format!(in alloc; "--query|{query}|--tables|{declaration}")?;
-    Ok(bars(alloc, words.as_str())?)
 }
 
 /// The one file `f.csv`.
@@ -261,15 +241,20 @@ fn script_of(alloc: Global, fake: Option<Fake>) -> Result<List<Fake>, AllocError
     }
 }
 
-fn reader_of(alloc: Global, setting: &Setting<'_>, place: u32) -> Result<SlowFiles, Fail>
-    ensures { IfOk result (λ r. r.files.files ≡ setting.now.files.now) }
+fn reader_of(
+    alloc: Global,
+    files: &List<FileEntry>,
+    setting: Setting,
+    place: u32,
+) -> Result<SlowFiles, Fail>
+    ensures { IfOk result (λ r. r.files.files ≡ files.now) }
 {
     let (fake, waits) = match setting.only {
         Some(only) if only != place => (None, 0),
         _ => (setting.fake, setting.waits),
     };
     let script = script_of(alloc, fake)?;
-    let files = copy_files(alloc, setting.files)?;
+    let files = copy_files(alloc, files)?;
     Ok(SlowFiles {
         files: MemFiles::new(alloc, files, script),
         waits,
@@ -277,7 +262,7 @@ fn reader_of(alloc: Global, setting: &Setting<'_>, place: u32) -> Result<SlowFil
     })
 }
 
-/// The outcomes of words that run over one rack, and the kinds of its boxes before and after each
+/// The outcomes of words that run over one rack, and the letters of its boxes before and after each
 /// run.
 #[derive(Drop)]
 struct Runs {
@@ -292,7 +277,7 @@ fn put_told(
     files: &List<FileEntry>,
     b: Box<dyn Processor + Send>,
 ) -> Result<(), AllocError>
-    requires new { IsLawfulBlank kind (seen b) }
+    requires new { IsUnloadedProcessor kind (seen b) }
     requires told { (seen b).files ≡ Some (told_pairs files.now) }
     ensures { OnOk result (AddsTold kind 1 (Some (told_pairs files.now))
         (map (λ b. seen b) rack.old.boxes.items) (map (λ b. seen b) rack.new.boxes.items)) }
@@ -305,24 +290,25 @@ fn put_told(
 fn add_told<R: AllocGlobal + Threads + Sync>(
     rt: &R,
     rack: &mut Rack,
-    setting: &Setting<'_>,
+    files: &List<FileEntry>,
+    setting: Setting,
     kind: Kind,
     place: u32,
 ) -> Result<(), Fail>
-    ensures { OnOk result (AddsTold kind 1 (Some (told_pairs setting.now.files.now))
+    ensures { OnOk result (AddsTold kind 1 (Some (told_pairs files.now))
         (map (λ b. seen (b.vtable, b.value)) rack.old.boxes.items)
         (map (λ b. seen (b.vtable, b.value)) rack.new.boxes.items)) }
 {
-    let reader = reader_of(rt.alloc(), setting, place)?;
+    let reader = reader_of(rt.alloc(), files, setting, place)?;
     match kind {
         Kind::Csv => {
             let source = Box::new(rt.alloc(), CsvSource::new(rt.alloc(), reader))?;
-            put_told(rack, kind, setting.files, source)?;
+            put_told(rack, kind, files, source)?;
             Ok(())
         }
         Kind::List => {
             let source = Box::new(rt.alloc(), ListSource::new(rt.alloc(), reader))?;
-            put_told(rack, kind, setting.files, source)?;
+            put_told(rack, kind, files, source)?;
             Ok(())
         }
         _ => Err("no source".into()),
@@ -333,36 +319,58 @@ fn add_told<R: AllocGlobal + Threads + Sync>(
 fn add_told_sources<R: AllocGlobal + Threads + Sync>(
     rt: &R,
     rack: &mut Rack,
-    setting: &Setting<'_>,
+    files: &List<FileEntry>,
+    setting: Setting,
     kind: Kind,
     count: u32,
 ) -> Result<(), Fail>
-    ensures { OnOk result (AddsTold kind count (Some (told_pairs setting.now.files.now))
+    ensures { OnOk result (AddsTold kind count (Some (told_pairs files.now))
         (map (λ b. seen (b.vtable, b.value)) rack.old.boxes.items)
         (map (λ b. seen (b.vtable, b.value)) rack.new.boxes.items)) }
 {
     for n in 0..count {
-        add_told(rt, rack, setting, kind, n)?;
+        add_told(rt, rack, files, setting, kind, n)?;
     }
     Ok(())
 }
 
-/// The words over a rack of the setting.
+/// The words over the standard rack, or over one of boxes of these letters.
 fn run_setting<R: AllocGlobal + Threads + Sync>(
     rt: &R,
     words: &[String],
-    setting: &Setting<'_>,
+    files: &List<FileEntry>,
+    stock: Option<&str>,
+    setting: Setting,
 ) -> Result<Runs, Fail> {
-    match setting.stock {
-        None => run_stocked(rt, words, setting, (SOURCES, LISTS), &OTHERS, true),
-        Some((sources, others)) => run_stocked(rt, words, setting, (sources, 0), others, false),
+    let Some(letters) = stock else {
+        return run_stocked(rt, words, files, setting, (SOURCES, LISTS), &OTHERS, true);
+    };
+    let mut sources: u32 = 0;
+    let mut others = Vec::new(rt.alloc());
+    for letter in letters.chars() {
+        sources = sources.saturating_add((letter == 's') as u32);
+        for (kind, _) in OTHERS {
+            if letter_of(kind) == letter {
+                others.push((kind, 1))?;
+            }
+        }
     }
+    run_stocked(
+        rt,
+        words,
+        files,
+        setting,
+        (sources, 0),
+        others.as_slice(),
+        false,
+    )
 }
 
 fn run_stocked<R: AllocGlobal + Threads + Sync>(
     rt: &R,
     words: &[String],
-    setting: &Setting<'_>,
+    files: &List<FileEntry>,
+    setting: Setting,
     sources: (u32, u32),
     others: &[(Kind, u32)],
     standard: bool,
@@ -371,10 +379,10 @@ fn run_stocked<R: AllocGlobal + Threads + Sync>(
         × (others.now ≡ others_of_rack) }
 {
     let mut rack = Rack::new(rt.alloc());
-    add_told_sources(rt, &mut rack, setting, Kind::Csv, sources.0)?;
-    add_told_sources(rt, &mut rack, setting, Kind::List, sources.1)?;
+    add_told_sources(rt, &mut rack, files, setting, Kind::Csv, sources.0)?;
+    add_told_sources(rt, &mut rack, files, setting, Kind::List, sources.1)?;
     add_each(rt, &mut rack, others)?;
-    run_shown(rt, words, &mut rack, setting, standard)
+    run_shown(rt, words, &mut rack, files, setting, standard)
 }
 
 /// Runs by a rack that is the standard one or not.
@@ -382,20 +390,21 @@ fn run_shown<R: AllocGlobal + Threads + Sync>(
     rt: &R,
     words: &[String],
     rack: &mut Rack,
-    setting: &Setting<'_>,
+    files: &List<FileEntry>,
+    setting: Setting,
     standard: bool,
 ) -> Result<Runs, Fail>
     requires blank { All IsBlank (map (λ b. seen (b.vtable, b.value)) rack.old.boxes.items) }
-    requires honest { IsTrue standard → IsHonest (told_pairs setting.now.files.now)
+    requires honest { IsTrue standard → IsHonest (told_pairs files.now)
         (map (λ b. seen (b.vtable, b.value)) rack.old.boxes.items) }
 {
     let mut kinds = String::new(rt.alloc());
     show_kinds(&mut kinds, rack)?;
     let mut outcomes = Vec::new(rt.alloc());
-    outcomes.push(outcome_of(rt, words, rack, setting, standard)?)?;
+    outcomes.push(outcome_of(rt, words, rack, files, setting, standard)?)?;
     show_kinds(&mut kinds, rack)?;
     for _run in 1..setting.runs {
-        outcomes.push(outcome_of(rt, words, rack, setting, false)?)?;
+        outcomes.push(outcome_of(rt, words, rack, files, setting, false)?)?;
         show_kinds(&mut kinds, rack)?;
     }
     Ok(Runs { outcomes, kinds })
@@ -413,13 +422,11 @@ fn run_honest<R: AllocGlobal + Threads + Sync, O: Sink, E: Sink>(
     requires blank { All IsBlank (map (λ b. seen (b.vtable, b.value)) rack.old.boxes.items) }
     requires honest { IsHonest (told_pairs files.now)
         (map (λ b. seen (b.vtable, b.value)) rack.old.boxes.items) }
-    ensures answered { result ≡ 0 → WroteAnswer (map string_bytes words.now) (told_pairs files.now)
-        (O.written out.old) (O.written out.new) }
-    ensures succeeds { OfCommand (map string_bytes words.now) (IsAnswerable (told_pairs files.now))
-        → (ReaderFails (map string_bytes words.now)
+    ensures answered { IsAnsweredOver (told_pairs files.now) (map string_bytes words.now)
         (map (λ b. seen (b.vtable, b.value)) rack.old.boxes.items)
-        (map (λ b. seen (b.vtable, b.value)) rack.new.boxes.items)
-        ⊎ Rose (O.faults out.old) (O.faults out.new) → ⊥) → IsEither 0 7 result }
+        (map (λ b. seen (b.vtable, b.value)) rack.new.boxes.items) result
+        (O.written out.old) (O.written out.new)
+        (CountIncreased (O.faults out.old) (O.faults out.new)) }
     ensures blank { All IsBlank (map (λ b. seen (b.vtable, b.value)) rack.new.boxes.items) }
 {
     run(rt, words, rack, out, err)
@@ -429,18 +436,18 @@ fn status_by<R: AllocGlobal + Threads + Sync, O: Sink, E: Sink>(
     rt: &R,
     words: &[String],
     rack: &mut Rack,
-    setting: &Setting<'_>,
+    files: &List<FileEntry>,
     honest: bool,
     out: &mut O,
     err: &mut E,
 ) -> u8
     requires blank { All IsBlank (map (λ b. seen (b.vtable, b.value)) rack.old.boxes.items) }
-    requires honest { IsTrue honest → IsHonest (told_pairs setting.now.files.now)
+    requires honest { IsTrue honest → IsHonest (told_pairs files.now)
         (map (λ b. seen (b.vtable, b.value)) rack.old.boxes.items) }
     ensures { All IsBlank (map (λ b. seen (b.vtable, b.value)) rack.new.boxes.items) }
 {
     if honest {
-        run_honest(rt, words, rack, setting.files, out, err)
+        run_honest(rt, words, rack, files, out, err)
     } else {
         run(rt, words, rack, out, err)
     }
@@ -450,23 +457,24 @@ fn outcome_of<R: AllocGlobal + Threads + Sync>(
     rt: &R,
     words: &[String],
     rack: &mut Rack,
-    setting: &Setting<'_>,
+    files: &List<FileEntry>,
+    setting: Setting,
     honest: bool,
 ) -> Result<Outcome, Fail>
     requires blank { All IsBlank (map (λ b. seen (b.vtable, b.value)) rack.old.boxes.items) }
-    requires honest { IsTrue honest → IsHonest (told_pairs setting.now.files.now)
+    requires honest { IsTrue honest → IsHonest (told_pairs files.now)
         (map (λ b. seen (b.vtable, b.value)) rack.old.boxes.items) }
     ensures { All IsBlank (map (λ b. seen (b.vtable, b.value)) rack.new.boxes.items) }
 {
-    let step = if setting.step == 0 { 1 } else { setting.step };
-    let mut out = MemSink::new(rt.alloc(), step, setting.room)?;
-    let mut err = MemSink::new(rt.alloc(), 80, 400)?;
-    let status = status_by(rt, words, rack, setting, honest, &mut out, &mut err);
-    Ok(Outcome {
-        status,
-        out: Vec::from_slice(rt.alloc(), out.written())?,
-        err: Vec::from_slice(rt.alloc(), err.written())?,
-    })
+    let mut out = sink_of(rt.alloc(), setting.out)?;
+    let mut err = sink_of(rt.alloc(), setting.err)?;
+    let status = status_by(rt, words, rack, files, honest, &mut out, &mut err);
+    Ok(Outcome { status, out, err })
+}
+
+// A sink that takes so many bytes in a call, and in all.
+fn sink_of(alloc: Global, (step, room): (usize, usize)) -> Result<MemSink, Memory> {
+    MemSink::new(alloc, if step == 0 { 1 } else { step }, room)
 }
 
 // A letter for each box of a rack, and a bar.
@@ -494,30 +502,4 @@ fn letter_of(kind: Kind) -> char {
         Kind::Limit => 'l',
         Kind::Collect => 'c',
     }
-}
-
-/// The first outcome of the words over a rack of the setting.
-fn run_once<R: AllocGlobal + Threads + Sync>(
-    rt: &R,
-    words: &[String],
-    setting: &Setting<'_>,
-) -> Result<Outcome, Fail> {
-    let Runs { outcomes, .. } = run_setting(rt, words, setting)?;
-    let mut outcomes = outcomes;
-    if outcomes.is_empty() {
-        return Err("nothing ran".into());
-    }
-    Ok(outcomes.remove(0))
-}
-
-/// The query over the one file, with ample room.
-fn answer<R: AllocGlobal + Threads + Sync>(
-    rt: &R,
-    columns: &str,
-    query: &str,
-    bytes: &[u8],
-) -> Result<Outcome, Fail> {
-    let declaration = format!(in rt.alloc(); "t=f.csv:{columns}")?;
-    let words = words_of(rt.alloc(), query, declaration.as_str())?;
-    run_once(rt, words.as_slice(), &ample(&one_file(rt.alloc(), bytes)?))
 }

@@ -2,7 +2,7 @@
 // is handed to a function that asks for it. A function that hands out a box that it made itself, as
 // those below, may stand in tests alone.
 ghost use Rattle.std.specs.Prelude.{OnOk, map};
-ghost use Rattle.proc_api.specs.Clauses.{IsLawfulBlank, IsSourceKind};
+ghost use Rattle.proc_api.specs.Clauses.{IsSourceKind, IsUnloadedProcessor};
 ghost use Rattle.qrun.specs.Stocking.{Adds, AddsEach};
 
 use aggregate_proc::{MergeAggregate, PartialAggregate};
@@ -15,7 +15,7 @@ use sort_procs::{MergeSorted, Sort};
 
 // Adds a new box of a kind that reads no file.
 fn put(rack: &mut Rack, kind: Kind, b: Box<dyn Processor + Send>) -> Result<(), Memory>
-    requires new { IsLawfulBlank kind (seen b) }
+    requires new { IsUnloadedProcessor kind (seen b) }
     requires without_file { IsSourceKind kind → ⊥ }
     ensures { OnOk result (Adds kind 1
         (map (λ b. seen b) rack.old.boxes.items) (map (λ b. seen b) rack.new.boxes.items)) }
@@ -44,6 +44,21 @@ fn add_breaker<R: AllocGlobal>(rt: &R, rack: &mut Rack, kind: Kind) -> Result<()
     }
 }
 
+// And of a kind that computes rows.
+fn add_step<R: AllocGlobal>(rt: &R, rack: &mut Rack, kind: Kind) -> Result<(), Memory>
+    ensures { OnOk result (Adds kind 1
+        (map (λ b. seen (b.vtable, b.value)) rack.old.boxes.items)
+        (map (λ b. seen (b.vtable, b.value)) rack.new.boxes.items)) }
+{
+    let alloc = rt.alloc();
+    match kind {
+        Kind::Filter => put(rack, kind, Box::new(alloc, Filter::new(alloc))?),
+        Kind::Expression => put(rack, kind, Box::new(alloc, Expression::new(alloc))?),
+        Kind::Resize => put(rack, kind, Box::new(alloc, Resize::new(alloc))?),
+        _ => add_breaker(rt, rack, kind),
+    }
+}
+
 // Makes a box of the kind and adds it, where its kind reads no file.
 fn add_box<R: AllocGlobal>(rt: &R, rack: &mut Rack, kind: Kind) -> Result<(), Memory>
     ensures { OnOk result (Adds kind 1
@@ -53,12 +68,9 @@ fn add_box<R: AllocGlobal>(rt: &R, rack: &mut Rack, kind: Kind) -> Result<(), Me
     let alloc = rt.alloc();
     match kind {
         Kind::Numbers => put(rack, kind, Box::new(alloc, Numbers::new(alloc))?),
-        Kind::Filter => put(rack, kind, Box::new(alloc, Filter::new(alloc))?),
-        Kind::Expression => put(rack, kind, Box::new(alloc, Expression::new(alloc))?),
-        Kind::Resize => put(rack, kind, Box::new(alloc, Resize::new(alloc))?),
         Kind::Limit => put(rack, kind, Box::new(alloc, Limit::new(alloc))?),
         Kind::Collect => put(rack, kind, Box::new(alloc, Collect::new(alloc))?),
-        _ => add_breaker(rt, rack, kind),
+        _ => add_step(rt, rack, kind),
     }
 }
 

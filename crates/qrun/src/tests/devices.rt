@@ -4,21 +4,19 @@ ghost use Rattle.outside_io.specs.Told.{files_of as told_pairs};
 ghost use Rattle.query_model.specs.declared.processor_spec.Kind.TheVariants as kind;
 ghost use Rattle.qrun.specs.Stocking.{AddsTold};
 
-use super::cases::{check, fields};
-use super::plans::SIZES;
+use super::cases::{SIZES, check_case, check_cases};
 use super::{
-    Counted, Outcome, Setting, ample, letter_of, one_file, put_told, reader_of, run_once,
-    run_setting, run_shown, script_of, text, words_of,
+    AMPLE, Marking, Runs, Setting, bars, one_file, put_told, reader_of, run_setting, run_shown,
+    script_of, text,
 };
 use crate::racks::OTHERS;
 use crate::tests::boxes::add_each;
-use chunk_data::Bytes;
+use chunk_data::{Bytes, List};
 use csv_procs::CsvSource;
 use csv_rows::{FetchFault, Fetched, fetch};
-use outside_io::{Fake, FakeKind, FileReader, MemFiles, MemSink};
+use outside_io::{Fake, FakeKind, FileEntry, FileReader, MemFiles};
 use proc_api::Rack;
 use query_model::processor_spec::Kind;
-use query_run::run;
 use std::alloc::{AllocError, Global};
 use std::sync::Arc;
 use std::sync::atomic::{AtomicU64, Ordering};
@@ -29,30 +27,23 @@ use std::thread::Threads;
 /// numbers, is cut there, and all else is the same.
 #[test]
 fn lines_are_cut_where_their_sink_fails(rt: HostRuntime) -> Result<(), Fail> {
-    let cases: [(usize, &str, u8, &str); 2] = [
+    static CASES: [(usize, &str); 2] = [
         (
             3,
-            "SELECT cost FROM t",
-            2,
-            "qrun: refused: UnknownColumn cost\n",
+            "a Int64~SELECT cost FROM t~~!refused: UnknownColumn cost~",
         ),
         (
             80,
-            "SELECT a FROM t",
-            6,
-            "qrun: limit: boxes of kind Csv needed 1, rack has 0\n",
+            "a Int64~SELECT a FROM t~~!limit: boxes of kind Csv needed 1, rack has 0~",
         ),
     ];
-    for (step, query, wanted, line) in cases.iter() {
-        let words = words_of(rt.alloc(), query, "t=f.csv:a Int64")?;
+    for (step, case) in CASES.iter() {
         for room in 0..53 {
-            let mut rack = Rack::new(rt.alloc());
-            let mut out = MemSink::new(rt.alloc(), 80, 80)?;
-            let mut err = MemSink::new(rt.alloc(), *step, room)?;
-            let status = run(&rt, words.as_slice(), &mut rack, &mut out, &mut err);
-            assert_eq!(rt; status, *wanted);
-            assert_eq!(rt; out.written().len(), 0);
-            assert_eq!(rt; err.written(), &line.as_bytes()[..room.min(line.len())]);
+            let setting = Setting {
+                err: (*step, room),
+                ..AMPLE
+            };
+            check_case(&rt, &rt, case, "", setting)?;
         }
     }
     Ok(())
@@ -62,116 +53,82 @@ fn lines_are_cut_where_their_sink_fails(rt: HostRuntime) -> Result<(), Fail> {
 /// end.
 #[test]
 fn readers_fail_and_wait(rt: HostRuntime) -> Result<(), Fail> {
-    let words = words_of(rt.alloc(), "SELECT a FROM t", "t=f.csv:a Int64")?;
-    let fault = "qrun: read fault: table t part 1\n";
-    let cases: [(u64, FakeKind, &str); 8] = [
-        (1, FakeKind::Fail, fault),
-        (2, FakeKind::Fail, fault),
-        (3, FakeKind::Fail, fault),
-        (4, FakeKind::Fail, "7\n"),
-        (1, FakeKind::Pend, fault),
-        (2, FakeKind::Pend, "7\n"),
-        (3, FakeKind::Pend, "7\n"),
-        (4, FakeKind::Pend, "7\n"),
+    const READ: &str = "a Int64~SELECT a FROM t~7\n~7\n";
+    const FAULT: &str = "a Int64~SELECT a FROM t~7\n~!read fault: table t part 1";
+    static CASES: [(u64, FakeKind, &str); 8] = [
+        (1, FakeKind::Fail, FAULT),
+        (2, FakeKind::Fail, FAULT),
+        (3, FakeKind::Fail, FAULT),
+        (4, FakeKind::Fail, READ),
+        (1, FakeKind::Pend, FAULT),
+        (2, FakeKind::Pend, READ),
+        (3, FakeKind::Pend, READ),
+        (4, FakeKind::Pend, READ),
     ];
-    let files = one_file(rt.alloc(), b"7\n")?;
-    for (call, kind, told) in cases.iter() {
+    for (call, kind, case) in CASES.iter() {
         let (call, kind) = (*call, *kind);
-        let mut setting = ample(&files);
-        setting.fake = Some(Fake { call, kind });
-        check(&rt, told, &run_once(&rt, words.as_slice(), &setting)?, told)?;
+        let setting = Setting {
+            fake: Some(Fake { call, kind }),
+            ..AMPLE
+        };
+        check_case(&rt, &rt, case, "", setting)?;
     }
     Ok(())
 }
 
-/// Racks of few boxes, told by their letters, the lanes, the query, and what is written or told.
+/// Racks of few boxes.
 #[test]
 fn a_missing_kind_is_told(rt: HostRuntime) -> Result<(), Fail> {
-    let cases: [&str; 13] = [
-        "serrc~1~SELECT a FROM t WHERE a = 7~\
-         qrun: limit: boxes of kind Filter needed 1, rack has 0\n",
-        "sferrc~2~SELECT a FROM t WHERE a = 7~\
-         qrun: limit: boxes of kind Filter needed 2, rack has 1\n",
-        "serrc~1~SELECT a FROM t~7\n",
-        "~1~SELECT a FROM t WHERE a = 7~qrun: limit: boxes of kind Csv needed 1, rack has 0\n",
-        "errc~1~SELECT number FROM numbers(3)~\
-         qrun: limit: boxes of kind Numbers needed 1, rack has 0\n",
-        "sfrrc~1~SELECT a FROM t WHERE a = 7~\
-         qrun: limit: boxes of kind Expression needed 1, rack has 0\n",
-        "sec~1~SELECT a FROM t~qrun: limit: boxes of kind Resize needed 2, rack has 0\n",
-        "serrc~1~SELECT a FROM t LIMIT 1~qrun: limit: boxes of kind Limit needed 1, rack has 0\n",
-        "~1~SELECT b FROM t~qrun: refused: UnknownColumn b\n",
+    static CASES: [&str; 13] = [
+        "t=p0.csv:a Int64|--threads|1~SELECT a FROM t WHERE a = 7~7\n~\
+         !limit: boxes of kind Filter needed 1, rack has 0~serrc",
+        "t=p0.csv:a Int64|--threads|2~SELECT a FROM t WHERE a = 7~7\n~\
+         !limit: boxes of kind Filter needed 2, rack has 1~sferrc",
+        "t=p0.csv:a Int64|--threads|1~SELECT a FROM t~7\n~7\n~serrc",
+        "t=p0.csv:a Int64|--threads|1~SELECT a FROM t WHERE a = 7~7\n~\
+         !limit: boxes of kind Csv needed 1, rack has 0~",
+        "t=p0.csv:a Int64|--threads|1~SELECT number FROM numbers(3)~7\n~\
+         !limit: boxes of kind Numbers needed 1, rack has 0~errc",
+        "t=p0.csv:a Int64|--threads|1~SELECT a FROM t WHERE a = 7~7\n~\
+         !limit: boxes of kind Expression needed 1, rack has 0~sfrrc",
+        "t=p0.csv:a Int64|--threads|1~SELECT a FROM t~7\n~\
+         !limit: boxes of kind Resize needed 2, rack has 0~sec",
+        "t=p0.csv:a Int64|--threads|1~SELECT a FROM t LIMIT 1~7\n~\
+         !limit: boxes of kind Limit needed 1, rack has 0~serrc",
+        "t=p0.csv:a Int64|--threads|1~SELECT b FROM t~7\n~!refused: UnknownColumn b~",
         // a sort a lane and a merge, groups a lane and their merge
-        "seeeerrmc~4~SELECT a FROM t ORDER BY a~\
-         qrun: limit: boxes of kind Sort needed 4, rack has 0\n",
-        "seeeerroooooc~4~SELECT a FROM t ORDER BY a~\
-         qrun: limit: boxes of kind MergeSorted needed 1, rack has 0\n",
-        "seeeeerpppgc~4~SELECT count() FROM t~\
-         qrun: limit: boxes of kind PartialAggregate needed 4, rack has 3\n",
-        "seeeeerppppc~4~SELECT count() FROM t~\
-         qrun: limit: boxes of kind MergeAggregate needed 1, rack has 0\n",
+        "t=p0.csv:a Int64|--threads|4~SELECT a FROM t ORDER BY a~7\n~\
+         !limit: boxes of kind Sort needed 4, rack has 0~seeeerrmc",
+        "t=p0.csv:a Int64|--threads|4~SELECT a FROM t ORDER BY a~7\n~\
+         !limit: boxes of kind MergeSorted needed 1, rack has 0~seeeerroooooc",
+        "t=p0.csv:a Int64|--threads|4~SELECT count() FROM t~7\n~\
+         !limit: boxes of kind PartialAggregate needed 4, rack has 3~seeeeerpppgc",
+        "t=p0.csv:a Int64|--threads|4~SELECT count() FROM t~7\n~\
+         !limit: boxes of kind MergeAggregate needed 1, rack has 0~seeeeerppppc",
     ];
-    let files = one_file(rt.alloc(), b"7\n")?;
-    for case in cases.iter() {
-        let (letters, lanes, query, told) = fields(case);
-        let words = words_by_lanes(rt.alloc(), query, lanes)?;
-        let mut sources: u32 = 0;
-        let mut others = Vec::new(rt.alloc());
-        for letter in letters.chars() {
-            sources = sources.saturating_add((letter == 's') as u32);
-            for (kind, _) in OTHERS {
-                if letter_of(kind) == letter {
-                    others.push((kind, 1))?;
-                }
-            }
-        }
-        let mut setting = ample(&files);
-        setting.stock = Some((sources, others.as_slice()));
-        check(&rt, case, &run_once(&rt, words.as_slice(), &setting)?, told)?;
-    }
-    Ok(())
-}
-
-/// A query over the one file by so many lanes.
-fn words_by_lanes(alloc: Global, query: &str, lanes: &str) -> Result<Vec<String>, Fail> {
-    words_of(
-        alloc,
-        query,
-        format!(in alloc; "t=f.csv:a Int64|--threads|{lanes}")?.as_str(),
-    )
+    check_cases(&rt, &rt, &CASES, &[""])
 }
 
 /// The boxes that weren't taken lie in front, and then the taken ones in the order of the plan. The
 /// same words run again.
 #[test]
 fn boxes_come_back_in_their_order(rt: HostRuntime) -> Result<(), Fail> {
-    let cases: [&str; 5] = [
-        "SELECT a FROM t WHERE a = 7~7\n~ssffeerrlc|sfelsrferc|lsfesrferc|",
-        "SELECT a FROM t~7\n8\n~ssffeerrlc|sffelsrerc|fflsesrerc|",
-        "SELECT a FROM t LIMIT 2~7\n8\n~ssffeerrlc|sffesrerlc|ffsesrerlc|",
-        "SELECT b FROM t~qrun: refused: UnknownColumn b\n~ssffeerrlc|ssffeerrlc|ssffeerrlc|",
-        "~qrun: refused: Syntax\n~ssffeerrlc|ssffeerrlc|ssffeerrlc|",
+    static CASES: [&str; 5] = [
+        "a Int64~SELECT a FROM t WHERE a = 7~7\n8\n~\
+         7\n/7\n/ssffeerrlc|sfelsrferc|lsfesrferc|~ssffeerrlc",
+        "a Int64~SELECT a FROM t~7\n8\n~\
+         7\n8\n/7\n8\n/ssffeerrlc|sffelsrerc|fflsesrerc|~ssffeerrlc",
+        "a Int64~SELECT a FROM t LIMIT 2~7\n8\n~\
+         7\n8\n/7\n8\n/ssffeerrlc|sffesrerlc|ffsesrerlc|~ssffeerrlc",
+        "a Int64~SELECT b FROM t~7\n8\n~\
+         !refused: UnknownColumn b/!refused: UnknownColumn b/ssffeerrlc|ssffeerrlc|ssffeerrlc|~\
+         ssffeerrlc",
+        "a Int64~~7\n8\n~\
+         !refused: Syntax/!refused: Syntax/ssffeerrlc|ssffeerrlc|ssffeerrlc|~ssffeerrlc",
     ];
-    let files = one_file(rt.alloc(), b"7\n8\n")?;
-    let others = [
-        (Kind::Filter, 2),
-        (Kind::Expression, 2),
-        (Kind::Resize, 2),
-        (Kind::Limit, 1),
-        (Kind::Collect, 1),
-    ];
-    for case in cases.iter() {
-        let (query, told, kinds, _) = fields(case);
-        let words = words_by_lanes(rt.alloc(), query, "1")?;
-        let mut setting = ample(&files);
-        setting.stock = Some((2, &others));
-        setting.runs = 2;
-        let runs = run_setting(&rt, words.as_slice(), &setting)?;
-        assert_eq!(rt; runs.outcomes.len(), 2);
-        for outcome in runs.outcomes.as_slice() {
-            check(&rt, case, outcome, told)?;
-        }
-        assert_eq!(rt; runs.kinds.as_str(), kinds, "rack of {query}");
+    let setting = Setting { runs: 2, ..AMPLE };
+    for case in CASES.iter() {
+        check_case(&rt, &rt, case, "|--threads|1", setting)?;
     }
     Ok(())
 }
@@ -180,54 +137,56 @@ fn boxes_come_back_in_their_order(rt: HostRuntime) -> Result<(), Fail> {
 /// the same rack.
 #[test]
 fn a_fault_leaves_the_rack_for_another_run(rt: HostRuntime) -> Result<(), Fail> {
-    let files = one_file(rt.alloc(), b"1\n")?;
-    let mut setting = ample(&files);
-    setting.runs = 2;
-    setting.only = Some(1);
-    setting.fake = Some(Fake {
-        call: 3,
-        kind: FakeKind::Fail,
-    });
-    let wanted = ["qrun: read fault: table t part 2\n", "4\n"];
+    let setting = Setting {
+        runs: 2,
+        only: Some(1),
+        fake: Some(Fake {
+            call: 3,
+            kind: FakeKind::Fail,
+        }),
+        ..AMPLE
+    };
+    let case = "t=p0.csv+p0.csv+p0.csv+p0.csv:a Int64~SELECT count() FROM t~1\n~\
+                !read fault: table t part 2/4\n";
     for size in SIZES.iter() {
-        let words = count_words(rt.alloc(), *size)?;
-        let runs = run_setting(&rt, words.as_slice(), &setting)?;
-        assert_eq!(rt; runs.outcomes.len(), 2);
-        for (told, outcome) in wanted.iter().zip(runs.outcomes.as_slice().iter()) {
-            check(&rt, told, outcome, told)?;
-        }
+        check_case(&rt, &rt, case, size, setting)?;
     }
     Ok(())
-}
-
-// The rows of four parts are counted, by so many lanes and rows of a chunk.
-fn count_words(alloc: Global, size: (&str, &str)) -> Result<Vec<String>, Fail> {
-    let (lanes, rows) = size;
-    let table = "t=f.csv+f.csv+f.csv+f.csv:a Int64";
-    let words = format!(in alloc; "{table}|--threads|{lanes}|--chunk|{rows}")?;
-    words_of(alloc, "SELECT count() FROM t", words.as_str())
 }
 
 /// A reader of the first of four parts that has nothing yet 999,999 times before its block.
 #[test]
 fn a_reader_may_wait_many_times(rt: HostRuntime) -> Result<(), Fail> {
-    check(&rt, "waits", &count_waiting(&rt, 999_999)?, "4\n")
+    let case = "t=p0.csv+p0.csv+p0.csv+p0.csv:a Int64~SELECT count() FROM t~1\n~4\n";
+    check_case(
+        &rt,
+        &rt,
+        case,
+        "|--threads|1|--chunk|8192",
+        waiting(999_999),
+    )
 }
 
 /// And one more time.
 #[test]
 fn a_reader_stalls_at_a_million_waits(rt: HostRuntime) -> Result<(), Fail> {
-    let outcome = count_waiting(&rt, 1_000_000)?;
-    check(&rt, "stalls", &outcome, "qrun: stalled: table t part 1\n")
+    let case = "t=p0.csv+p0.csv+p0.csv+p0.csv:a Int64~SELECT count() FROM t~1\n~\
+                !stalled: table t part 1";
+    check_case(
+        &rt,
+        &rt,
+        case,
+        "|--threads|1|--chunk|8192",
+        waiting(1_000_000),
+    )
 }
 
-fn count_waiting<R: AllocGlobal + Threads + Sync>(rt: &R, waits: u64) -> Result<Outcome, Fail> {
-    let words = count_words(rt.alloc(), ("1", "8192"))?;
-    let files = one_file(rt.alloc(), b"1\n")?;
-    let mut setting = ample(&files);
-    setting.only = Some(0);
-    setting.waits = waits;
-    run_once(rt, words.as_slice(), &setting)
+fn waiting(waits: u64) -> Setting {
+    Setting {
+        waits,
+        only: Some(0),
+        ..AMPLE
+    }
 }
 
 /// The query runs through the boxes, and the works of two sources run at the same time: each is
@@ -235,112 +194,96 @@ fn count_waiting<R: AllocGlobal + Threads + Sync>(rt: &R, waits: u64) -> Result<
 #[test]
 fn two_sources_meet_at_work(rt: HostRuntime) -> Result<(), Fail> {
     let alloc = rt.alloc();
-    let words = words_of(
+    let words = bars(
         alloc,
-        "SELECT a FROM t",
-        "t=f.csv+f.csv:a Int64|--threads=2",
+        "--query|SELECT a FROM t|--tables|t=f.csv+f.csv:a Int64|--threads=2",
     )?;
     let files = one_file(alloc, b"1\n")?;
-    let setting = ample(&files);
-    let prepared = [new_count(alloc)?, new_count(alloc)?];
-    let works = [new_count(alloc)?, new_count(alloc)?];
-    let missed = new_count(alloc)?;
-    let mut rack = Rack::new(alloc);
-    put_counted(
-        &rt,
-        &mut rack,
-        &setting,
-        &prepared[0],
-        (&works[0], &works[1]),
-        &missed,
-    )?;
-    put_counted(
-        &rt,
-        &mut rack,
-        &setting,
-        &prepared[1],
-        (&works[1], &works[0]),
-        &missed,
-    )?;
-    add_each(&rt, &mut rack, &OTHERS)?;
-    let runs = run_shown(&rt, words.as_slice(), &mut rack, &setting, false)?;
+    let marks = Arc::new(alloc, AtomicU64::new(0))?;
+    let runs = run_marked(&rt, words.as_slice(), &files, &marks)?;
     for outcome in runs.outcomes.as_slice() {
         assert_eq!(rt; outcome.status, 0);
-        assert_eq!(rt; outcome.out.as_slice(), b"1\n1\n".as_slice());
+        assert_eq!(rt; outcome.out.written(), b"1\n1\n".as_slice());
     }
     assert_eq!(rt; runs.outcomes.len(), 1);
-    assert_eq!(rt; missed.load(Ordering::SeqCst), 0);
-    assert!(rt; prepared[0].load(Ordering::SeqCst) > 0);
-    assert!(rt; prepared[1].load(Ordering::SeqCst) > 0);
+    // Both were prepared and worked, and neither missed the other.
+    assert_eq!(rt; marks.load(Ordering::SeqCst), 15);
     Ok(())
 }
 
-/// Adds a source that counts, with the count of its works and that of the other's.
-fn put_counted<R: AllocGlobal + Threads + Sync>(
+fn run_marked<R: AllocGlobal + Threads + Sync>(
+    rt: &R,
+    words: &[String],
+    files: &List<FileEntry>,
+    marks: &Arc<AtomicU64, Global>,
+) -> Result<Runs, Fail> {
+    let mut rack = Rack::new(rt.alloc());
+    put_marking(rt, &mut rack, files, marks, 1)?;
+    put_marking(rt, &mut rack, files, marks, 2)?;
+    add_each(rt, &mut rack, &OTHERS)?;
+    run_shown(rt, words, &mut rack, files, AMPLE, false)
+}
+
+/// Adds a source that marks its calls so.
+fn put_marking<R: AllocGlobal + Threads + Sync>(
     rt: &R,
     rack: &mut Rack,
-    setting: &Setting<'_>,
-    prepared: &Arc<AtomicU64, Global>,
-    works: (&Arc<AtomicU64, Global>, &Arc<AtomicU64, Global>),
-    missed: &Arc<AtomicU64, Global>,
+    files: &List<FileEntry>,
+    marks: &Arc<AtomicU64, Global>,
+    mark: u64,
 ) -> Result<(), Fail>
-    ensures { OnOk result (AddsTold kind.Csv 1 (Some (told_pairs setting.now.files.now))
+    ensures { OnOk result (AddsTold kind.Csv 1 (Some (told_pairs files.now))
         (map (λ b. seen (b.vtable, b.value)) rack.old.boxes.items)
         (map (λ b. seen (b.vtable, b.value)) rack.new.boxes.items)) }
 {
-    let source = Counted {
-        source: CsvSource::new(rt.alloc(), reader_of(rt.alloc(), setting, 0)?),
-        prepared: Arc::try_clone(prepared)?,
-        works: Arc::try_clone(works.0)?,
-        others: Arc::try_clone(works.1)?,
-        missed: Arc::try_clone(missed)?,
+    let marks = Arc::try_clone(marks)?;
+    let reader = reader_of(rt.alloc(), files, AMPLE, 0)?;
+    let source = CsvSource::new(rt.alloc(), reader);
+    let source = Marking {
+        source,
+        marks,
+        mark,
     };
-    let source = Box::new(rt.alloc(), source)?;
-    put_told(rack, Kind::Csv, setting.files, source)?;
+    put_told(rack, Kind::Csv, files, Box::new(rt.alloc(), source)?)?;
     Ok(())
-}
-
-fn new_count(alloc: Global) -> Result<Arc<AtomicU64, Global>, Fail> {
-    Ok(Arc::new(alloc, AtomicU64::new(0))?)
 }
 
 /// More rows than one chunk holds.
 #[test]
 fn chunks_follow_each_other(rt: HostRuntime) -> Result<(), Fail> {
-    let mut bytes = Vec::new(rt.alloc());
-    for _row in 0..20_000 {
-        bytes.extend_from_slice(b"7\n")?;
-    }
-    let words = words_of(rt.alloc(), "SELECT a FROM t WHERE a = 7", "t=f.csv:a Int64")?;
-    let files = one_file(rt.alloc(), bytes.as_slice())?;
-    let mut setting = ample(&files);
-    setting.stock = Some((1, &OTHERS));
-    setting.room = 65_536;
-    let outcome = run_once(&rt, words.as_slice(), &setting)?;
-    assert_eq!(rt; outcome.status, 0);
-    assert!(rt; outcome.out.as_slice() == bytes.as_slice());
-    Ok(())
+    let case = "a Int64~SELECT a FROM t WHERE a = 7~^20000*7\n^~^20000*7\n^";
+    check_case(&rt, &rt, case, "", AMPLE)
 }
 
-/// A sink that takes one byte a call, one that fails after five bytes, and one that takes nothing.
+/// A sink that takes one byte a call gets the whole text; one that fails after some got these.
 #[test]
 fn sinks_take_little(rt: HostRuntime) -> Result<(), Fail> {
-    let words = words_of(rt.alloc(), "SELECT a FROM t", "t=f.csv:a Int64")?;
-    let files = one_file(rt.alloc(), b"123\n4567\n")?;
-    let whole = "123\n4567\n";
-    for room in [9, 8, 5, 0] {
-        let mut setting = ample(&files);
-        setting.step = 1;
-        setting.room = room;
-        let outcome = run_once(&rt, words.as_slice(), &setting)?;
-        let (status, line) = if room == 9 {
-            (0, "")
-        } else {
-            (5, "qrun: write fault\n")
+    static CASES: [(usize, &str); 6] = [
+        (9, "a Int64~SELECT a FROM t~123\n4567\n~123\n4567\n"),
+        (
+            8,
+            "a Int64~SELECT a FROM t~123\n4567\n~123\n4567!write fault",
+        ),
+        (5, "a Int64~SELECT a FROM t~123\n4567\n~123\n4!write fault"),
+        (0, "a Int64~SELECT a FROM t~123\n4567\n~!write fault"),
+        (
+            4096,
+            "l,r~SELECT l.k, a, b FROM l JOIN r ON l.k = r.k ORDER BY k, a, b~\
+             1,10\n1,11\n2,12\n|1,20\n1,21\n1,22\n3,23\n~\
+             1,10,20\n1,10,21\n1,10,22\n1,11,20\n1,11,21\n1,11,22\n",
+        ),
+        (
+            5,
+            "l,r~SELECT l.k, a, b FROM l JOIN r ON l.k = r.k ORDER BY k, a, b~\
+             1,10\n1,11\n2,12\n|1,20\n1,21\n1,22\n3,23\n~1,10,!write fault",
+        ),
+    ];
+    for (room, case) in CASES.iter() {
+        let setting = Setting {
+            out: (1, *room),
+            ..AMPLE
         };
-        assert_eq!(rt; outcome.status, status, "status with room for {room}");
-        assert_eq!(rt; outcome.out.as_slice(), &whole.as_bytes()[..room]);
-        assert_eq!(rt; outcome.err.as_slice(), line.as_bytes());
+        check_case(&rt, &rt, case, "", setting)?;
     }
     Ok(())
 }
@@ -348,21 +291,11 @@ fn sinks_take_little(rt: HostRuntime) -> Result<(), Fail> {
 /// A missing file, and no words.
 #[test]
 fn words_and_files_may_be_missing(rt: HostRuntime) -> Result<(), Fail> {
-    let words = words_of(rt.alloc(), "SELECT a FROM t", "t=g.csv:a Int64")?;
-    let files = one_file(rt.alloc(), b"1\n")?;
-    let missing = run_once(&rt, words.as_slice(), &ample(&files))?;
-    check(
-        &rt,
-        "no file",
-        &missing,
-        "qrun: read fault: table t part 1\n",
-    )?;
-    check(
-        &rt,
-        "no words",
-        &run_once(&rt, &[], &ample(&files))?,
-        "usage",
-    )
+    static CASES: [&str; 2] = [
+        "t=g.csv:a Int64~SELECT a FROM t~1\n~!read fault: table t part 1",
+        "--~~1\n~!usage",
+    ];
+    check_cases(&rt, &rt, &CASES, &[""])
 }
 
 /// One read after another over a file at the limit, and one byte beyond it.
@@ -392,7 +325,7 @@ fn fetched(alloc: Global, bytes: &[u8]) -> Result<String, Fail> {
 }
 
 fn first_fetch(alloc: Global, files: &mut MemFiles, held: &mut Bytes) -> Result<String, AllocError>
-    requires { IsSome files.old.stands }
+    requires { IsSome files.old.position }
 {
     match fetch(files, held, 10) {
         Ok(Fetched::Whole) => String::from_str(alloc, "whole"),
@@ -404,7 +337,7 @@ fn first_fetch(alloc: Global, files: &mut MemFiles, held: &mut Bytes) -> Result<
 }
 
 fn second_fetch(alloc: Global, files: &mut MemFiles, held: &mut Bytes) -> Result<String, AllocError>
-    requires { IsSome files.old.stands }
+    requires { IsSome files.old.position }
 {
     match fetch(files, held, 10) {
         Ok(Fetched::Whole) => String::from_str(alloc, "more whole"),

@@ -1,17 +1,19 @@
 // Queries: what is written, and what is told of those that are refused.
-use super::answer;
-use super::cases::{check, fields};
-use super::plans::check_sized;
-use std::alloc::{AllocError, Global};
+use super::cases::check_cases;
+use super::{AMPLE, bars, one_file, run_setting};
 use std::test::Fail;
 
 // One thread and several. One chunk has all rows, so that they come in their order.
-const LANES: [(&str, &str); 3] = [("1", "8192"), ("4", "8192"), ("16", "8192")];
+static LANES: [&str; 3] = [
+    "|--threads|1|--chunk|8192",
+    "|--threads|4|--chunk|8192",
+    "|--threads|16|--chunk|8192",
+];
 
 /// Valid files: the columns, the query, the file, and what is written.
 #[test]
 fn answers_are_written(rt: HostRuntime) -> Result<(), Fail> {
-    let cases: [&str; 13] = [
+    static CASES: [&str; 13] = [
         "a Int64,b String~SELECT a FROM t~7,x\n7,y\n~7\n7\n",
         "a Int64,b String~SELECT a FROM t~~",
         "a String,b String,c String~SELECT a, b, c FROM t~\"say \"\"hi\"\"\",\"a,b\",\"x\ny\"\n~\
@@ -28,42 +30,50 @@ fn answers_are_written(rt: HostRuntime) -> Result<(), Fail> {
         "a String,b String~SELECT a, b FROM t~,\n\"\",\n~\"\",\"\"\n\"\",\"\"\n",
         "a String~SELECT a FROM t~ x \n~\" x \"\n",
     ];
-    check_sized(&rt, &rt, &cases, &LANES)
+    check_cases(&rt, &rt, &CASES, &LANES)
 }
 
 /// Bytes that are no text of Unicode.
 #[test]
 fn any_bytes_are_a_text(rt: HostRuntime) -> Result<(), Fail> {
-    let outcome = answer(&rt, "a String", "SELECT a FROM t", b"\xff\n")?;
-    assert_eq!(rt; outcome.status, 0);
-    assert_eq!(rt; outcome.out.as_slice(), b"\"\xff\"\n".as_slice());
+    let words = bars(
+        rt.alloc(),
+        "--query|SELECT a FROM t|--tables|t=f.csv:a String",
+    )?;
+    let files = one_file(rt.alloc(), b"\xff\n")?;
+    let runs = run_setting(&rt, words.as_slice(), &files, None, AMPLE)?;
+    for outcome in runs.outcomes.as_slice() {
+        assert_eq!(rt; outcome.status, 0);
+        assert_eq!(rt; outcome.out.written(), b"\"\xff\"\n".as_slice());
+    }
+    assert_eq!(rt; runs.outcomes.len(), 1);
     Ok(())
 }
 
 /// What is not answered: the columns, the query, the file, the status and the line.
 #[test]
 fn other_ends_tell_their_line(rt: HostRuntime) -> Result<(), Fail> {
-    let cases: [&str; 11] = [
-        "a Int64~SELECT a FROM t~1\nz\n~qrun: bad data: table t part 1 row 2 column 1\n",
-        "a Int64~SELECT a FROM t~1\n2,3\n~qrun: bad data: table t part 1 row 2 fields 2\n",
-        "a Int64,b Int64~SELECT a FROM t~1,2\n3\n~qrun: bad data: table t part 1 row 2 fields 1\n",
+    static CASES: [&str; 11] = [
+        "a Int64~SELECT a FROM t~1\nz\n~!bad data: table t part 1 row 2 column 1",
+        "a Int64~SELECT a FROM t~1\n2,3\n~!bad data: table t part 1 row 2 fields 2",
+        "a Int64,b Int64~SELECT a FROM t~1,2\n3\n~!bad data: table t part 1 row 2 fields 1",
         "a Int64~SELECT a FROM t~9223372036854775808\n~\
-         qrun: bad data: table t part 1 row 1 column 1\n",
-        "a UInt64~SELECT a FROM t~-1\n~qrun: bad data: table t part 1 row 1 column 1\n",
-        "a Int64~SELECT a FROM t~+1\n~qrun: bad data: table t part 1 row 1 column 1\n",
-        "a Int64~SELECT a FROM t~ 1\n~qrun: bad data: table t part 1 row 1 column 1\n",
-        "a Int64,b Int64~SELECT a FROM t~1,x\n~qrun: bad data: table t part 1 row 1 column 2\n",
-        "a Int32~SELECT a FROM t~1\n~usage",
-        "a Int64,a Int64~SELECT a FROM t~1\n~usage",
-        "~SELECT a FROM t~1\n~usage",
+         !bad data: table t part 1 row 1 column 1",
+        "a UInt64~SELECT a FROM t~-1\n~!bad data: table t part 1 row 1 column 1",
+        "a Int64~SELECT a FROM t~+1\n~!bad data: table t part 1 row 1 column 1",
+        "a Int64~SELECT a FROM t~ 1\n~!bad data: table t part 1 row 1 column 1",
+        "a Int64,b Int64~SELECT a FROM t~1,x\n~!bad data: table t part 1 row 1 column 2",
+        "a Int32~SELECT a FROM t~1\n~!usage",
+        "a Int64,a Int64~SELECT a FROM t~1\n~!usage",
+        "~SELECT a FROM t~1\n~!usage",
     ];
-    check_sized(&rt, &rt, &cases, &LANES)
+    check_cases(&rt, &rt, &CASES, &LANES)
 }
 
 /// Items with arithmetic: the columns, the query, the file, and what is written.
 #[test]
 fn items_are_evaluated(rt: HostRuntime) -> Result<(), Fail> {
-    let cases: [&str; 7] = [
+    static CASES: [&str; 7] = [
         // arithmetic wraps, and a difference is an Int64
         "a UInt64,b UInt64~SELECT a - b FROM t~0,1\n~-1\n",
         "a UInt64~SELECT a + 1 FROM t~18446744073709551615\n~0\n",
@@ -74,13 +84,13 @@ fn items_are_evaluated(rt: HostRuntime) -> Result<(), Fail> {
         "a Int64~SELECT a * -1, 2 - a FROM t~5\n~-5,-3\n",
         "u UInt64~SELECT u + -0 FROM t~5\n~5\n",
     ];
-    check_sized(&rt, &rt, &cases, &LANES)
+    check_cases(&rt, &rt, &CASES, &LANES)
 }
 
 /// Conditions on numbers: the columns, the query, the file, and what is written.
 #[test]
 fn conditions_choose_rows(rt: HostRuntime) -> Result<(), Fail> {
-    let cases: [&str; 9] = [
+    static CASES: [&str; 9] = [
         // no row passes
         "a Int64~SELECT a FROM t WHERE a > 5~1\n2\n3\n~",
         // numbers of two types are compared by value
@@ -93,13 +103,13 @@ fn conditions_choose_rows(rt: HostRuntime) -> Result<(), Fail> {
         "a Int64~SELECT a FROM t WHERE 1 <> 1~1\n2\n~",
         "a Int64~SELECT a FROM t WHERE 2 <= a~1\n2\n~2\n",
     ];
-    check_sized(&rt, &rt, &cases, &LANES)
+    check_cases(&rt, &rt, &CASES, &LANES)
 }
 
 /// Conditions on texts, names, and the ways that a query may be written.
 #[test]
 fn texts_and_names_are_read(rt: HostRuntime) -> Result<(), Fail> {
-    let cases: [&str; 10] = [
+    static CASES: [&str; 10] = [
         // texts are compared by bytes
         "a Int64,b String~SELECT a FROM t WHERE b = 'x'~1,x\n2,y\n3,x\n~1\n3\n",
         "b String~SELECT b FROM t WHERE b < 'b'~a\nB\nb\n~\"a\"\n\"B\"\n",
@@ -114,97 +124,60 @@ fn texts_and_names_are_read(rt: HostRuntime) -> Result<(), Fail> {
         "a Int64~\tSELECT\r\na ,(a+1)FROM t~1\n~1,2\n",
         "count Int64~SELECT count FROM t~1\n~1\n",
     ];
-    check_sized(&rt, &rt, &cases, &LANES)
+    check_cases(&rt, &rt, &CASES, &LANES)
 }
 
-/// Refused texts and queries over `a Int64,b String`, and what the line says behind `refused: `.
+/// Refused texts and queries.
 #[test]
 fn refusals_are_told(rt: HostRuntime) -> Result<(), Fail> {
-    let cases: [(&str, &str); 28] = [
-        ("", "Syntax"),
-        ("SELECT FROM t", "Syntax"),
-        ("SELECT a b FROM t", "Syntax"),
-        ("SELECT a FROM t WHERE a", "Syntax"),
-        ("SELECT a FROM t; ;", "Syntax"),
-        ("SELECT a FROM t WHERE b = 'x", "Syntax"),
-        (
-            "SELECT a FROM t LIMIT 18446744073709551616",
-            "NumberTooLarge",
-        ),
-        ("SELECT b FROM t GROUP BY a", "NotGrouped b"),
-        ("SELECT a, count() FROM t", "NotGrouped a"),
-        ("SELECT a FROM t GROUP BY a HAVING b = 'x'", "NotGrouped b"),
-        ("SELECT sum(b) FROM t", "TypeMismatch"),
-        ("SELECT a FROM t JOIN u ON t.a = u.a", "UnknownTable u"),
-        ("SELECT a FROM x", "UnknownTable x"),
-        ("SELECT c FROM x", "UnknownTable x"),
-        ("SELECT c FROM t", "UnknownColumn c"),
-        ("SELECT A FROM t", "UnknownColumn A"),
-        ("SELECT a, d + c FROM t WHERE e = 1", "UnknownColumn d"),
-        ("SELECT u . a FROM t", "UnknownColumn u.a"),
-        ("SELECT a FROM t WHERE c = 1", "UnknownColumn c"),
-        ("SELECT a + b FROM t", "TypeMismatch"),
-        ("SELECT a FROM t WHERE b = 1", "TypeMismatch"),
-        ("SELECT 1 FROM t", "TypeMismatch"),
-        ("SELECT 1 + 1 FROM t", "TypeMismatch"),
-        ("SELECT a - 9223372036854775808 FROM t", "TypeMismatch"),
-        ("SELECT a FROM t ORDER BY t.a", "Syntax"),
-        ("SELECT a FROM t ORDER BY b", "BadOrderKey b"),
-        ("SELECT a + 1 FROM t ORDER BY a", "BadOrderKey a"),
-        ("SELECT a, b AS a FROM t ORDER BY b, a", "BadOrderKey b"),
+    static CASES: [&str; 28] = [
+        "a Int64,b String~~1,x\n~!refused: Syntax",
+        "a Int64,b String~SELECT FROM t~1,x\n~!refused: Syntax",
+        "a Int64,b String~SELECT a b FROM t~1,x\n~!refused: Syntax",
+        "a Int64,b String~SELECT a FROM t WHERE a~1,x\n~!refused: Syntax",
+        "a Int64,b String~SELECT a FROM t; ;~1,x\n~!refused: Syntax",
+        "a Int64,b String~SELECT a FROM t WHERE b = 'x~1,x\n~!refused: Syntax",
+        "a Int64,b String~SELECT a FROM t LIMIT 18446744073709551616~\
+         1,x\n~!refused: NumberTooLarge",
+        "a Int64,b String~SELECT b FROM t GROUP BY a~1,x\n~!refused: NotGrouped b",
+        "a Int64,b String~SELECT a, count() FROM t~1,x\n~!refused: NotGrouped a",
+        "a Int64,b String~SELECT a FROM t GROUP BY a HAVING b = 'x'~1,x\n~!refused: NotGrouped b",
+        "a Int64,b String~SELECT sum(b) FROM t~1,x\n~!refused: TypeMismatch",
+        "a Int64,b String~SELECT a FROM t JOIN u ON t.a = u.a~1,x\n~!refused: UnknownTable u",
+        "a Int64,b String~SELECT a FROM x~1,x\n~!refused: UnknownTable x",
+        "a Int64,b String~SELECT c FROM x~1,x\n~!refused: UnknownTable x",
+        "a Int64,b String~SELECT c FROM t~1,x\n~!refused: UnknownColumn c",
+        "a Int64,b String~SELECT A FROM t~1,x\n~!refused: UnknownColumn A",
+        "a Int64,b String~SELECT a, d + c FROM t WHERE e = 1~1,x\n~!refused: UnknownColumn d",
+        "a Int64,b String~SELECT u . a FROM t~1,x\n~!refused: UnknownColumn u.a",
+        "a Int64,b String~SELECT a FROM t WHERE c = 1~1,x\n~!refused: UnknownColumn c",
+        "a Int64,b String~SELECT a + b FROM t~1,x\n~!refused: TypeMismatch",
+        "a Int64,b String~SELECT a FROM t WHERE b = 1~1,x\n~!refused: TypeMismatch",
+        "a Int64,b String~SELECT 1 FROM t~1,x\n~!refused: TypeMismatch",
+        "a Int64,b String~SELECT 1 + 1 FROM t~1,x\n~!refused: TypeMismatch",
+        "a Int64,b String~SELECT a - 9223372036854775808 FROM t~1,x\n~!refused: TypeMismatch",
+        "a Int64,b String~SELECT a FROM t ORDER BY t.a~1,x\n~!refused: Syntax",
+        "a Int64,b String~SELECT a FROM t ORDER BY b~1,x\n~!refused: BadOrderKey b",
+        "a Int64,b String~SELECT a + 1 FROM t ORDER BY a~1,x\n~!refused: BadOrderKey a",
+        "a Int64,b String~SELECT a, b AS a FROM t ORDER BY b, a~1,x\n~!refused: BadOrderKey b",
     ];
-    for (query, code) in cases.iter() {
-        let outcome = answer(&rt, "a Int64,b String", query, b"1,x\n")?;
-        let line = format!(in rt.alloc(); "qrun: refused: {code}\n")?;
-        check(&rt, query, &outcome, line.as_str())?;
-    }
-    Ok(())
+    check_cases(&rt, &rt, &CASES, &[""])
 }
 
-/// A front, a piece so many times, and an end.
-pub(super) fn repeated(
-    alloc: Global,
-    front: &str,
-    piece: &str,
-    times: u32,
-    end: &str,
-) -> Result<String, AllocError> {
-    let mut query = String::from_str(alloc, front)?;
-    for _ in 0..times {
-        query.push_str(piece)?;
-    }
-    query.push_str(end)?;
-    Ok(query)
-}
-
-/// Queries at a limit and one beyond it: how often the piece stands, the front, the piece, the end,
-/// and what is written or told.
+/// Queries at a limit and one beyond it.
 #[test]
 fn queries_keep_the_limits(rt: HostRuntime) -> Result<(), Fail> {
-    let cases: [(u32, &str); 8] = [
-        (1000, "SELECT a FROM t WHERE ~NOT ~a = 1~1\n"),
-        (1000, "SELECT a FROM t WHERE a = 1~ AND a = 1~~1\n"),
-        (1000, "SELECT a~+a~ FROM t~1001\n"),
-        (1001, "SELECT a~+a~ FROM t~qrun: refused: TooComplex\n"),
-        (63, "SELECT a~,b~ FROM t WHERE a = 2~"),
-        (64, "SELECT a~,a~ FROM t~qrun: refused: TooWide\n"),
-        (65_521, "SELECT a FROM t~ ~~1\n"),
-        (65_522, "SELECT a FROM t~ ~~qrun: refused: TooLong\n"),
+    static CASES: [&str; 9] = [
+        "a Int64,b String~SELECT a FROM t WHERE ^1000*NOT ^a = 1~1,x\n~1\n",
+        "a Int64,b String~SELECT a FROM t WHERE a = 1^1000* AND a = 1^~1,x\n~1\n",
+        "a Int64,b String~SELECT a^1000*+a^ FROM t~1,x\n~1001\n",
+        "a Int64,b String~SELECT a^1001*+a^ FROM t~1,x\n~!refused: TooComplex",
+        "a Int64,b String~SELECT a^63*,b^ FROM t WHERE a = 2~1,x\n~",
+        "a Int64,b String~SELECT a^64*,a^ FROM t~1,x\n~!refused: TooWide",
+        "a Int64,b String~SELECT a FROM t^65521* ^~1,x\n~1\n",
+        "a Int64,b String~SELECT a FROM t^65522* ^~1,x\n~!refused: TooLong",
+        // parentheses as deep as the limit allows
+        "a Int64,b String~SELECT a FROM t WHERE ^1000*(^a = 1^1000*)^~1,x\n2,y\n~1\n",
     ];
-    for (times, case) in cases.iter() {
-        let (front, piece, end, told) = fields(case);
-        let query = repeated(rt.alloc(), front, piece, *times, end)?;
-        let outcome = answer(&rt, "a Int64,b String", query.as_str(), b"1,x\n")?;
-        check(&rt, case, &outcome, told)?;
-    }
-    Ok(())
-}
-
-/// Parentheses as deep as the limit allows.
-#[test]
-fn parentheses_nest_a_thousand_deep(rt: HostRuntime) -> Result<(), Fail> {
-    let opened = repeated(rt.alloc(), "SELECT a FROM t WHERE ", "(", 1000, "a = 1")?;
-    let query = repeated(rt.alloc(), opened.as_str(), ")", 1000, "")?;
-    let outcome = answer(&rt, "a Int64,b String", query.as_str(), b"1,x\n2,y\n")?;
-    check(&rt, "parentheses", &outcome, "1\n")
+    check_cases(&rt, &rt, &CASES, &[""])
 }
