@@ -1,7 +1,7 @@
 #!/usr/bin/env bash
-# Times `quantity * price` and `price > 50 AND quantity < 3` over chunks of Int64 columns, beside plain loops over slices
-# that make the same vectors, and prints a table. It is no test. The program (expressions.rattle) is proved and built in a
-# temporary copy of the crates.
+# Times `quantity * price` and `price > 50 AND quantity < 3` over chunks of Int64 columns, beside
+# plain loops over slices that make the same vectors, and prints a table. It is no test. The program
+# (expressions.rattle) is proved and built in a temporary copy of the crates.
 set -euo pipefail
 here=$(cd "$(dirname "${BASH_SOURCE[0]}")" && pwd)
 copy=$(mktemp -d)
@@ -13,15 +13,18 @@ for crate in chunk_data query_model expr_eval; do
 done
 grep -E '^(chunk_data|query_model|expr_eval):' "$here/../crates.txt" >"$copy/crates.txt"
 echo 'expr_bench: chunk_data query_model expr_eval' >>"$copy/crates.txt"
-mkdir -p "$copy/crates/expr_bench/src"
-cp "$here/expressions.rattle" "$copy/crates/expr_bench/src/main.rt"
-(cd "$copy/crates/expr_bench" && rt run -- eval 10 10) >"$copy/log" 2>&1 || { cat "$copy/log" >&2; exit 1; }
+crate=$copy/crates/expr_bench
+mkdir -p "$crate/src"
+cp "$here/expressions.rattle" "$crate/src/main.rt"
+(cd "$crate" && rt run -- eval 10 10) >"$copy/log" 2>&1 || { cat "$copy/log" >&2; exit 1; }
+program=$crate/out/expr_bench
 
 # KIND ROWS: the least processor time of five runs over some 10^9 rows, in seconds
 seconds() {
     local best=999999 user system
     for _ in 1 2 3 4 5; do
-        /usr/bin/time -f '%U %S' -o "$copy/time" "$copy/crates/expr_bench/out/expr_bench" "$1" "$2" $((1000000000 / $2)) >/dev/null
+        /usr/bin/time -f '%U %S' -o "$copy/time" \
+            "$program" "$1" "$2" $((1000000000 / $2)) >/dev/null
         read -r user system <"$copy/time"
         best=$(awk -v a="$best" -v u="$user" -v s="$system" 'BEGIN { print u + s < a ? u + s : a }')
     done
@@ -31,7 +34,10 @@ seconds() {
 for rows in 8192 65536; do
     for pair in 'eval product' 'mask condition'; do
         read -r call plain <<<"$pair"
-        awk -v call="$call" -v rows="$rows" -v a="$(seconds "$call" "$rows")" -v b="$(seconds "$plain" "$rows")" \
-            'BEGIN { printf "%-4s over %5d rows: %5.2f G rows/s, plain loop %5.2f G rows/s, %.2f times its time\n", call, rows, 1 / a, 1 / b, a / b }'
+        awk -v call="$call" -v rows="$rows" \
+            -v a="$(seconds "$call" "$rows")" -v b="$(seconds "$plain" "$rows")" 'BEGIN {
+            printf "%-4s over %5d rows: %5.2f G rows/s, " \
+                "plain loop %5.2f G rows/s, %.2f times its time\n", call, rows, 1 / a, 1 / b, a / b
+        }'
     done
 done

@@ -1,7 +1,8 @@
 #!/usr/bin/env bash
-# Times `SELECT a * b + 1 FROM t WHERE c > 50 AND d = 'x'` over a file of some 200 MB, of whose rows a quarter pass, beside the
-# projection of the same columns, and beside sqlite3 and mlr where they are installed, and prints a table. It is no test. The
-# data is made once, in bench/data/, which isn't committed.
+# Times `SELECT a * b + 1 FROM t WHERE c > 50 AND d = 'x'` over a file of some 200 MB, of whose rows
+# a quarter pass, beside the projection of the same columns, and beside sqlite3 and mlr where they
+# are installed, and prints a table. It is no test. The data is made once, in bench/data/, which
+# isn't committed.
 set -euo pipefail
 here=$(cd "$(dirname "${BASH_SOURCE[0]}")" && pwd)
 rows=${ROWS:-8000000}
@@ -14,11 +15,12 @@ mkdir -p "$data"
 
 . "$here/measure.sh"
 tables="t=$file:a Int64,b Int64,c Int64,d String"
-measure 'qrun' "$here/../qrun" --query "SELECT a * b + 1 FROM t WHERE c > 50 AND d = 'x'" --tables "$tables"
+query="SELECT a * b + 1 FROM t WHERE c > 50 AND d = 'x'"
+measure 'qrun' "$here/../qrun" --query "$query" --tables "$tables"
 measure 'qrun (all columns)' "$here/../qrun" --query 'SELECT a, b, c, d FROM t' --tables "$tables"
 if command -v sqlite3 >/dev/null; then
     measure 'sqlite3 (import, select)' sqlite3 -csv :memory: \
-        'CREATE TABLE t(a INTEGER, b INTEGER, c INTEGER, d TEXT)' ".import $file t" "SELECT a * b + 1 FROM t WHERE c > 50 AND d = 'x'"
+        'CREATE TABLE t(a INTEGER, b INTEGER, c INTEGER, d TEXT)' ".import $file t" "$query"
 fi
 if command -v mlr >/dev/null; then
     measure 'mlr filter, put' mlr --csv --implicit-csv-header --headerless-csv-output \

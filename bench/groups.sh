@@ -26,7 +26,8 @@ for keys in k m s n 'k, s' ''; do
     done
     if command -v sqlite3 >/dev/null; then
         measure "sqlite3 ${keys:-no keys}" sqlite3 -csv :memory: \
-            'CREATE TABLE t(k INTEGER, m INTEGER, s TEXT, n TEXT, v INTEGER)' ".import $file t" "$query"
+            'CREATE TABLE t(k INTEGER, m INTEGER, s TEXT, n TEXT, v INTEGER)' \
+            ".import $file t" "$query"
     fi
 done
 # a million groups of which none is written, and reading alone: no row passes

@@ -1,8 +1,8 @@
 #!/usr/bin/env bash
-# Times joins of five million rows with 1,000 and 100,000 rows: with one match a row, with three, and
-# with none, beside reading alone, in one lane and in four, and beside sqlite3 where it is installed.
-# Then a join of 3,000 by 3,000 equal keys, nine million rows, with its memory. It is no test. The
-# data is made once, in bench/data/, which isn't committed.
+# Times joins of five million rows with 1,000 and 100,000 rows: with one match a row, with three,
+# and with none, beside reading alone, in one lane and in four, and beside sqlite3 where it is
+# installed. Then a join of 3,000 by 3,000 equal keys, nine million rows, with its memory. It is no
+# test. The data is made once, in bench/data/, which isn't committed.
 set -euo pipefail
 here=$(cd "$(dirname "${BASH_SOURCE[0]}")" && pwd)
 rows=${ROWS:-5000000}

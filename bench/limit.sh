@@ -1,7 +1,7 @@
 #!/usr/bin/env bash
 # Times the first five rows of a file of some 200 MB, beside all of its rows and beside `head` and
-# mlr: the file is fetched whole, and no chunk is made past the fifth row. It is no test. The data is
-# made once, in bench/data/, which isn't committed.
+# mlr: the file is fetched whole, and no chunk is made past the fifth row. It is no test. The data
+# is made once, in bench/data/, which isn't committed.
 set -euo pipefail
 here=$(cd "$(dirname "${BASH_SOURCE[0]}")" && pwd)
 rows=${ROWS:-8000000}

@@ -14,7 +14,8 @@ mkdir -p "$data"
 
 . "$here/measure.sh"
 tables="t=$file:a Int64,b Int64,c Int64,d String"
-for order in '' 'ORDER BY b, a' 'ORDER BY d, a' 'ORDER BY b, a LIMIT 10' 'ORDER BY d, a LIMIT 10'; do
+for order in '' 'ORDER BY b, a' 'ORDER BY d, a' \
+    'ORDER BY b, a LIMIT 10' 'ORDER BY d, a LIMIT 10'; do
     for lanes in 1 4; do
         measure "${order:-no order}, $lanes" "$here/../qrun" --threads "$lanes" \
             --query "SELECT a, b, d FROM t $order" --tables "$tables"
