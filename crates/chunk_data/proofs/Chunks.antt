@@ -1,5 +1,5 @@
 -- chunks
-use Rattle.chunk_data.proofs.Imports.{arith, All, AreColumns, AreLong, Bool, Column, ColumnType, FitsTypes, IsTable, List, Row, Table, Value, [], ap, count_by, drop, get_or, get_or-map, joined, kept, kind_of, length, length-map, map, map-append, nil_from_length, refl, row_at, rows_of, sym, take, take_at, take_more, value_at, values, ℕ, ◌++◌, ◌+◌, ◌-◌, ◌<◌, ◌∙◌, ◌∷◌, ◌≡◌, ◌≤◌}
+use Rattle.chunk_data.proofs.Imports.{arith, All, AreColumns, AreLong, Bool, Column, ColumnType, FitsTypes, IsTable, List, Row, Table, Value, [], ap, count_by, drop, get_or, get_or-map, append_each, kept, column_type, length, length-map, map, map-append, nil_from_length, refl, row_at, rows_of, sym, take, take_at, take_more, value_at, values, ℕ, ◌++◌, ◌+◌, ◌-◌, ◌<◌, ◌∙◌, ◌∷◌, ◌≡◌, ◌≤◌}
 use Rattle.chunk_data.proofs.Rows.{length-rows_of, AreLong-joined, rows_of-joined, AreLong-row, rows_of_push, AreLong-kept, rows_of-kept, column_of-rows_of, AreLong-places, rows_of-places, AreLong-take, rows_of-take, AreLong-drop, rows_of-drop}
 use Rattle.chunk_data.proofs.ColumnLists.{AreLong-at}
 use Rattle.chunk_data.proofs.Laws.{length-FitsTypes, rows_fit, AreLong-append, rows_of-append}
@@ -17,7 +17,7 @@ no_rows : (types : List ColumnType) → rows_of {X = Value} 0 (map (λ _. []) ty
 no_rows [] = refl
 no_rows (t ∷ types) = refl
 
-pub AreColumns-empty : (types : List ColumnType) (columns : List Column) → map kind_of columns
+pub AreColumns-empty : (types : List ColumnType) (columns : List Column) → map column_type columns
     ≡ types → map values columns ≡ map (λ _. []) types → AreColumns types columns 0
 AreColumns-empty types columns k v = record { kinds = k; long = rw v (all_empty types) }
 
@@ -25,36 +25,39 @@ pub rows_of_empty : (types : List ColumnType) (columns : List Column)
     → map values columns ≡ map (λ _. []) types → rows_of 0 (map values columns) ≡ []
 rows_of_empty types columns v = rw v (no_rows types)
 
-same_long : (types : List ColumnType) (columns others : List Column) → map kind_of columns ≡ types
-    → map kind_of others ≡ types → length (map values others) ≡ length (map values columns)
+same_long : (types : List ColumnType) (columns others : List Column)
+    → map column_type columns ≡ types → map column_type others ≡ types
+    → length (map values others) ≡ length (map values columns)
 same_long types columns others e k = search (arith, length-map)
 
 pub AreColumns-joined : (types : List ColumnType) (columns others now : List Column) (n m : ℕ) →
-    AreColumns types columns n → AreColumns types others m → map kind_of now ≡ map kind_of columns →
-    map values now ≡ joined (map values columns) (map values others) → AreColumns types now (n + m)
+    AreColumns types columns n → AreColumns types others m
+    → map column_type now ≡ map column_type columns → map values now
+    ≡ append_each (map values columns) (map values others) → AreColumns types now (n + m)
 AreColumns-joined types columns others now n m h k e v = search (arith, AreLong-joined)
 
 pub rows_of_joined : (types : List ColumnType) (columns others now : List Column) (n m : ℕ)
     → AreColumns types columns n → AreColumns types others m
-    → map values now ≡ joined (map values columns) (map values others) → rows_of (n + m)
+    → map values now ≡ append_each (map values columns) (map values others) → rows_of (n + m)
     (map values now) ≡ rows_of n (map values columns) ++ rows_of m (map values others)
 rows_of_joined types columns others now n m h k v = search (arith, rows_of-joined, same_long)
 
 pub AreColumns-push : (types : List ColumnType) (columns now : List Column) (row : List Value)
-    (n : ℕ) → AreColumns types columns n → map kind_of now ≡ map kind_of columns → map values now
-    ≡ joined (map values columns) (map (λ v. v ∷ []) row) → AreColumns types now (n + 1)
+    (n : ℕ) → AreColumns types columns n → map column_type now ≡ map column_type columns
+    → map values now ≡ append_each (map values columns) (map (λ v. v ∷ []) row)
+    → AreColumns types now (n + 1)
 AreColumns-push types columns now row n h e v = search (arith, AreLong-joined, AreLong-row)
 
 pub rows_of_pushed : (types : List ColumnType) (columns now : List Column) (row : List Value)
     (n : ℕ) → AreColumns types columns n → FitsTypes types row
-    → map values now ≡ joined (map values columns) (map (λ v. v ∷ []) row)
+    → map values now ≡ append_each (map values columns) (map (λ v. v ∷ []) row)
     → rows_of (n + 1) (map values now) ≡ rows_of n (map values columns) ++ row ∷ []
 rows_of_pushed types columns now row n h t v =
     search (arith, length-FitsTypes, length-map, rows_of_push)
 
 pub AreColumns-kept : (types : List ColumnType) (columns now : List Column) (mask : List Bool)
-    (n : ℕ) → AreColumns types columns n → length mask ≡ n → map kind_of now ≡ map kind_of columns
-    → map values now ≡ map (kept mask) (map values columns)
+    (n : ℕ) → AreColumns types columns n → length mask ≡ n → map column_type now
+    ≡ map column_type columns → map values now ≡ map (kept mask) (map values columns)
     → AreColumns types now (count_by (λ m. m) mask)
 AreColumns-kept types columns now mask n h l e v = search (arith, AreLong-kept)
 
@@ -79,8 +82,9 @@ appended {us = us} {ys = ys} e k = ap (λ l. l ++ ys) e ∙ ap (λ l. us ++ l) k
 -- the Vec has `len` columns
 pub kept_step : (types : List ColumnType) (columns given now : List Column) (mask : List Bool)
     (n count len : ℕ) → AreColumns types columns n → given ≡ columns → length now ≡ length given
-    → len ≡ length columns → length mask ≡ n → count ≡ count_by (λ m. m) mask → map kind_of now
-    ≡ map kind_of given → map values now ≡ map (kept mask) (map values given) → (AreColumns types
+    → len ≡ length columns → length mask ≡ n → count ≡ count_by (λ m. m) mask → map column_type now
+    ≡ map column_type given → map values now ≡ map (kept mask) (map values given)
+    → (AreColumns types
     (take len (now ++ drop (length now) columns)) count) × (rows_of count (map values
     (take len (now ++ drop (length now) columns))) ≡ kept mask (rows_of n (map values columns)))
 kept_step types columns given now mask n count len h g l w m e k v =
@@ -89,18 +93,19 @@ kept_step types columns given now mask n count len h g l w m e k v =
 pub joined_step : (types : List ColumnType) (columns given now others others_given : List Column)
     (n m count len : ℕ) → AreColumns types columns n → AreColumns types others m → given ≡ columns
     → others_given ≡ others → length now ≡ length given → len ≡ length columns → count ≡ n + m
-    → map kind_of now ≡ map kind_of given → map values now ≡ joined (map values given) (map values
+    → map column_type now ≡ map column_type given
+    → map values now ≡ append_each (map values given) (map values
     others_given) → (AreColumns types (take len (now ++ drop (length now) columns)) count)
     × (rows_of count (map values (take len (now ++ drop (length now) columns)))
     ≡ rows_of n (map values columns) ++ rows_of m (map values others))
 joined_step types columns given now others others_given n m count len h o g og l w e k v =
     let back : take len (now ++ drop (length now) columns) ≡ now =
     written_back columns now len (l ∙ ap length g) w in
-    let cells : map values now ≡ joined (map values columns) (map values others) = v
-    ∙ ap (λ l. joined (map values l) (map values others_given)) g
-    ∙ ap (λ l. joined (map values columns) (map values l)) og in
+    let cells : map values now ≡ append_each (map values columns) (map values others) = v
+    ∙ ap (λ l. append_each (map values l) (map values others_given)) g
+    ∙ ap (λ l. append_each (map values columns) (map values l)) og in
     rw (back, e) (
-      AreColumns-joined types columns others now n m h o (k ∙ ap (λ l. map kind_of l) g)
+      AreColumns-joined types columns others now n m h o (k ∙ ap (λ l. map column_type l) g)
           cells,
       rows_of_joined types columns others now n m h o cells,
     )
@@ -108,18 +113,19 @@ joined_step types columns given now others others_given n m count len h o g og l
 pub push_step : (types : List ColumnType) (columns given now : List Column)
     (row row_given : List Value) (n count len : ℕ) → AreColumns types columns n
     → FitsTypes types row → given ≡ columns → row_given ≡ row → length now ≡ length given
-    → len ≡ length columns → count ≡ n + 1 → map kind_of now ≡ map kind_of given
-    → map values now ≡ joined (map values given) (map (λ v. v ∷ []) row_given) → (AreColumns types
+    → len ≡ length columns → count ≡ n + 1 → map column_type now ≡ map column_type given
+    → map values now ≡ append_each (map values given) (map (λ v. v ∷ []) row_given)
+    → (AreColumns types
     (take len (now ++ drop (length now) columns)) count) × (rows_of count (map values
     (take len (now ++ drop (length now) columns))) ≡ rows_of n (map values columns) ++ row ∷ [])
 push_step types columns given now row row_given n count len h t g rg l w e k v =
     let back : take len (now ++ drop (length now) columns) ≡ now =
     written_back columns now len (l ∙ ap length g) w in
-    let cells : map values now ≡ joined (map values columns) (map (λ v. v ∷ []) row) = v
-    ∙ ap (λ l. joined (map values l) (map (λ v. v ∷ []) row_given)) g
-    ∙ ap (λ r. joined (map values columns) (map (λ v. v ∷ []) r)) rg in
+    let cells : map values now ≡ append_each (map values columns) (map (λ v. v ∷ []) row) = v
+    ∙ ap (λ l. append_each (map values l) (map (λ v. v ∷ []) row_given)) g
+    ∙ ap (λ r. append_each (map values columns) (map (λ v. v ∷ []) r)) rg in
     rw (back, e) (
-      AreColumns-push types columns now row n h (k ∙ ap (λ l. map kind_of l) g) cells,
+      AreColumns-push types columns now row n h (k ∙ ap (λ l. map column_type l) g) cells,
       rows_of_pushed types columns now row n h t cells,
     )
 
@@ -152,14 +158,14 @@ pub beside_long : (columns others all : List Column) (n m k : ℕ) → all ≡ c
 beside_long columns others all n m k e kn mn h g = search (arith, map-append, AreLong-append)
 
 pub beside_kinds : (columns others all : List Column) (types more : List ColumnType)
-    → all ≡ columns ++ others → map kind_of columns ≡ types → map kind_of others ≡ more
-    → map kind_of all ≡ types ++ more
+    → all ≡ columns ++ others → map column_type columns ≡ types → map column_type others ≡ more
+    → map column_type all ≡ types ++ more
 beside_kinds columns others all types more e k l = search (arith, map-append, appended)
 
 pub beside_rows : (columns others all : List Column) (n m k : ℕ) (rows more : List Row)
     → all ≡ columns ++ others → k ≡ n → m ≡ n → AreLong m (map values others)
     → rows_of n (map values columns) ≡ rows → rows_of m (map values others) ≡ more
-    → rows_of k (map values all) ≡ joined rows more
+    → rows_of k (map values all) ≡ append_each rows more
 beside_rows columns others all n m k rows more e kn mn g r t =
     search (arith, map-append, rows_of-append)
 
@@ -174,14 +180,15 @@ column_long columns n i x h lt is =
 
 pub places_step : (types : List ColumnType) (columns given now : List Column) (places : List ℕ)
     (n : ℕ) → AreColumns types columns n → All (λ p. p < n) places → given ≡ columns
-    → map kind_of now ≡ map kind_of given → map values now ≡ map (λ column. map (value_at column)
+    → map column_type now ≡ map column_type given
+    → map values now ≡ map (λ column. map (value_at column)
     places) (map values given) → (AreColumns types now (length places)) × (rows_of (length places)
     (map values now) ≡ map (row_at (rows_of n (map values columns))) places)
 places_step types columns given now places n h a g k v =
     let cells : map values now ≡ map (λ column. map (value_at column) places) (map values columns) =
     v ∙ ap (λ l. map (λ column. map (value_at column) places) (map values l)) g in (
       record {
-        kinds = k ∙ ap (λ l. map kind_of l) g ∙ h.kinds;
+        kinds = k ∙ ap (λ l. map column_type l) g ∙ h.kinds;
         long =
             rw cells (AreLong-places places (map values columns) _);
       },
@@ -199,14 +206,14 @@ row_more columns n i at x v row h lt la is e r =
     rw (more, same, map-append, map-append, ← r, ← e) refl
 
 pub front_step : (types : List ColumnType) (columns given now : List Column) (m n : ℕ)
-    → AreColumns types columns n → m ≤ n → given ≡ columns → map kind_of now ≡ map kind_of given
-    → map values now ≡ map (take m) (map values given) → (AreColumns types now m)
+    → AreColumns types columns n → m ≤ n → given ≡ columns → map column_type now ≡ map column_type
+    given → map values now ≡ map (take m) (map values given) → (AreColumns types now m)
     × (rows_of m (map values now) ≡ take m (rows_of n (map values columns)))
 front_step types columns given now m n h le g k v =
     let cells : map values now ≡ map (take m) (map values columns) = v
     ∙ ap (λ l. map (take m) (map values l)) g in (
       record {
-        kinds = k ∙ ap (λ l. map kind_of l) g ∙ h.kinds;
+        kinds = k ∙ ap (λ l. map column_type l) g ∙ h.kinds;
         long =
             rw cells (AreLong-take m n _ h.long le);
       },
@@ -216,7 +223,8 @@ front_step types columns given now m n h le g k v =
 -- the first m of n rows are left
 pub left_step : (types : List ColumnType) (columns given now : List Column) (m n len : ℕ) →
     AreColumns types columns n → m ≤ n → given ≡ columns → length now ≡ length given → len ≡ length
-    columns → map kind_of now ≡ map kind_of given → map values now ≡ map (take m) (map values given)
+    columns → map column_type now ≡ map column_type given
+    → map values now ≡ map (take m) (map values given)
     → (AreColumns types (take len (now ++ drop (length now) columns)) m) × (rows_of m (map values
     (take len (now ++ drop (length now) columns))) ≡ take m (rows_of n (map values columns)))
 left_step types columns given now m n len h le g l w k v =
@@ -226,7 +234,8 @@ left_step types columns given now m n len h le g l w k v =
 
 pub rest_step : (types : List ColumnType) (columns given now : List Column) (m n len : ℕ) →
     AreColumns types columns n → given ≡ columns → length now ≡ length given → len ≡ length columns
-    → map kind_of now ≡ map kind_of given → map values now ≡ map (drop m) (map values given) →
+    → map column_type now ≡ map column_type given → map values now ≡ map (drop m) (map values given)
+    →
     (AreColumns types (take len (now ++ drop (length now) columns)) (n - m)) × (rows_of (n - m) (map
     values (take len (now ++ drop (length now) columns))) ≡ drop m (rows_of n (map values columns)))
 rest_step types columns given now m n len h g l w k v =
@@ -236,7 +245,7 @@ rest_step types columns given now m n len h g l w k v =
     ∙ ap (λ l. map (drop m) (map values l)) g in
     rw back (
       record {
-        kinds = k ∙ ap (λ l. map kind_of l) g ∙ h.kinds;
+        kinds = k ∙ ap (λ l. map column_type l) g ∙ h.kinds;
         long =
             rw cells (AreLong-drop m n _ h.long);
       },
@@ -245,7 +254,7 @@ rest_step types columns given now m n len h g l w k v =
 
 pub rest_step_at : (types : List ColumnType) (columns given now : List Column) (m n len count : ℕ)
     → AreColumns types columns n → given ≡ columns → length now ≡ length given
-    → len ≡ length columns → map kind_of now ≡ map kind_of given
+    → len ≡ length columns → map column_type now ≡ map column_type given
     → map values now ≡ map (drop m) (map values given) → count ≡ n - m
     → (AreColumns types (take len (now ++ drop (length now) columns)) count) × (rows_of count (map
     values (take len (now ++ drop (length now) columns))) ≡ drop m (rows_of n (map values columns)))

@@ -1,5 +1,5 @@
 -- loops over the columns of a list
-use Rattle.chunk_data.proofs.Imports.{AreLong, Column, ColumnType, FitsType, FitsTypes, List, Value, [], add-one, ap, arith, get_or, get_or-map, joined, kind_of, length, length-map, map, map-set, refl, set, set-get_or, subst, suc, sym, take, take_all, take_at, values, zero, ℕ, ◌++◌, ◌+◌, ◌<◌, ◌∙◌, ◌∷◌, ◌≡◌, ◌≤◌}
+use Rattle.chunk_data.proofs.Imports.{AreLong, Column, ColumnType, FitsType, FitsTypes, List, Value, [], add-one, ap, arith, get_or, get_or-map, append_each, column_type, length, length-map, map, map-set, refl, set, set-get_or, subst, suc, sym, take, take_all, take_at, values, zero, ℕ, ◌++◌, ◌+◌, ◌<◌, ◌∙◌, ◌∷◌, ◌≡◌, ◌≤◌}
 use Rattle.chunk_data.proofs.Laws.{length-FitsTypes, FitsTypes-at}
 
 -- the first i elements changed
@@ -53,7 +53,7 @@ joined_more (suc i) (column ∷ columns) (other ∷ others) d e h k =
     ap (λ l. (column ++ other) ∷ l) (joined_more i columns others d e (omega arith) (omega arith))
 
 joined_all : {X : Type 0} (i : ℕ) (columns others : List (List X)) → length columns ≤ i
-    → length others ≡ length columns → joined_front i columns others ≡ joined columns others
+    → length others ≡ length columns → joined_front i columns others ≡ append_each columns others
 joined_all zero [] others h e = refl
 joined_all zero (column ∷ columns) others h e = absurd (omega arith)
 joined_all (suc i) [] others h e = refl
@@ -88,7 +88,7 @@ AreLong-at n (column ∷ columns) (suc i) d h lt = AreLong-at n columns i d h.1 
 
 -- ---- a loop that changes each column's values by f
 pub record Mapped (f : List Value → List Value) (old now : List Column) (i : ℕ) : Type 0 where
-  pub kinds : map kind_of now ≡ map kind_of old
+  pub kinds : map column_type now ≡ map column_type old
   pub cells : map values now ≡ changed f i (map values old)
 
 -- the values of column i are those that it had
@@ -102,14 +102,15 @@ pub Mapped-long : {f : List Value → List Value} {old now : List Column} {i : �
     → length now ≡ length old
 Mapped-long {old = old} {now = now} h = search (arith, length-map)
 
-same_kinds : (now : List Column) (i : ℕ) (y d : Column) → kind_of y ≡ kind_of (get_or now i d)
-    → i < length now → map kind_of (set now i y) ≡ map kind_of now
+same_kinds : (now : List Column) (i : ℕ) (y d : Column) → column_type y ≡ column_type
+    (get_or now i d) → i < length now → map column_type (set now i y) ≡ map column_type now
 same_kinds now i y d e lt =
-    map-set kind_of now i y ∙ rw e (ap (λ k. set (map kind_of now) i k) (sym
-    (get_or-map kind_of now i d (kind_of d) lt)) ∙ set-get_or (map kind_of now) i (kind_of d))
+    map-set column_type now i y ∙ rw e (ap (λ k. set (map column_type now) i k) (sym
+    (get_or-map column_type now i d (column_type d) lt))
+    ∙ set-get_or (map column_type now) i (column_type d))
 
 pub Mapped-more : {f : List Value → List Value} {old now : List Column} {i : ℕ} → (d y : Column)
-    → Mapped f old now i → i < length now → kind_of y ≡ kind_of (get_or now i d)
+    → Mapped f old now i → i < length now → column_type y ≡ column_type (get_or now i d)
     → values y ≡ f (values (get_or now i d)) → Mapped f old (set now i y) (i + 1)
 Mapped-more {f = f} {old = old} {now = now} {i = i} d y h lt k v =
     let long : length now ≡ length old = Mapped-long h in
@@ -129,7 +130,7 @@ Mapped-all {f = f} {old = old} {now = now} {i = i} h le = h.cells
 
 -- ---- a loop that appends to each column the values beside it
 pub record Joined (others : List (List Value)) (old now : List Column) (i : ℕ) : Type 0 where
-  pub kinds : map kind_of now ≡ map kind_of old
+  pub kinds : map column_type now ≡ map column_type old
   pub cells : map values now ≡ joined_front i (map values old) others
 
 pub Joined-none : (others : List (List Value)) (old : List Column) → Joined others old old 0
@@ -141,7 +142,7 @@ Joined-long {old = old} {now = now} h = search (arith, length-map)
 
 pub Joined-more : {others : List (List Value)} {old now : List Column} {i : ℕ}
     → (d y : Column) (more : List Value) → Joined others old now i → length others ≡ length old
-    → i < length now → kind_of y ≡ kind_of (get_or now i d) → more ≡ get_or others i more
+    → i < length now → column_type y ≡ column_type (get_or now i d) → more ≡ get_or others i more
     → values y ≡ values (get_or now i d) ++ more → Joined others old (set now i y) (i + 1)
 Joined-more {others = others} {old = old} {now = now} {i = i} d y more h e lt k m v =
     let long : length now ≡ length old = Joined-long h in
@@ -160,7 +161,7 @@ Joined-more {others = others} {old = old} {now = now} {i = i} d y more h e lt k 
 
 -- column i was left as it is
 pub Joined-same : {others : List (List Value)} {old now : List Column} {i : ℕ} → (d y : Column)
-    → Joined others old now i → i < length now → kind_of y ≡ kind_of (get_or now i d)
+    → Joined others old now i → i < length now → column_type y ≡ column_type (get_or now i d)
     → values y ≡ values (get_or now i d) → Joined others old (set now i y) i
 Joined-same {now = now} {i = i} d y h lt k v =
     let same : map values (set now i y) ≡ map values now = map-set values now i y
@@ -170,7 +171,7 @@ Joined-same {now = now} {i = i} d y h lt k v =
 
 pub Joined-all : {others : List (List Value)} {old now : List Column} {i : ℕ}
     → Joined others old now i → length others ≡ length old → length now ≤ i
-    → map values now ≡ joined (map values old) others
+    → map values now ≡ append_each (map values old) others
 Joined-all {others = others} {old = old} {now = now} {i = i} h e le =
     search (arith, joined_all, length-map, Joined-long)
 
@@ -180,16 +181,17 @@ Joined-back {others = others} {old = old} {i = i} n h a = search (arith, joined_
 
 -- lists that agree agree at a place
 pub agrees_at : {X : Type 0} (f : X → ColumnType) (others : List X) (old now : List Column) (i : ℕ)
-    (o : X) (d : Column) → map f others ≡ map kind_of old → map kind_of now ≡ map kind_of old
-    → i < length now → o ≡ get_or others i o → f o ≡ kind_of (get_or now i d)
+    (o : X) (d : Column) → map f others ≡ map column_type old → map column_type now ≡ map
+    column_type old → i < length now → o ≡ get_or others i o → f o ≡ column_type (get_or now i d)
 agrees_at f others old now i o d e k lt is =
     let n : length others ≡ length now = sym (length-map others f) ∙ ap length (e ∙ sym k)
-    ∙ length-map now kind_of in
-    ap f is ∙ sym (get_or-map f others i o (kind_of d) (omega arith))
-    ∙ ap (λ l. get_or l i (kind_of d)) (e ∙ sym k) ∙ get_or-map kind_of now i d (kind_of d) lt
+    ∙ length-map now column_type in
+    ap f is ∙ sym (get_or-map f others i o (column_type d) (omega arith))
+    ∙ ap (λ l. get_or l i (column_type d)) (e ∙ sym k)
+    ∙ get_or-map column_type now i d (column_type d) lt
 
 pub agreed_long : {X Y : Type 0} (f : X → ColumnType) (others : List X) (old : List Column)
-    (g : X → Y) → map f others ≡ map kind_of old → length (map g others) ≡ length old
+    (g : X → Y) → map f others ≡ map column_type old → length (map g others) ≡ length old
 agreed_long f others old g e = search (arith, length-map)
 
 pub other_at : {X Y : Type 0} (g : X → Y) (others : List X) (i : ℕ) (o : X) → o ≡ get_or others i o
@@ -198,19 +200,20 @@ other_at g others i o is lt = ap g is ∙ sym (get_or-map g others i o (g o) lt)
 
 -- what a row that fits puts beside a column fits it
 pub fits_at : (old now : List Column) (row : List Value) (i : ℕ) (v : Value) (d : Column)
-    → FitsTypes (map kind_of old) row → map kind_of now ≡ map kind_of old → i < length now
-    → v ≡ get_or row i v → FitsType (kind_of (get_or now i d)) v
+    → FitsTypes (map column_type old) row → map column_type now ≡ map column_type old
+    → i < length now → v ≡ get_or row i v → FitsType (column_type (get_or now i d)) v
 fits_at old now row i v d h k lt is =
-    let wide : length row ≡ length now = length-FitsTypes (map kind_of old) row h
-    ∙ ap length (sym k) ∙ length-map now kind_of in
-    let here : FitsType (get_or (map kind_of old) i (kind_of d)) (get_or row i v) =
-    FitsTypes-at (map kind_of old) row i (kind_of d) v h (omega arith) in
-    let kind : get_or (map kind_of old) i (kind_of d) ≡ kind_of (get_or now i d) =
-    ap (λ l. get_or l i (kind_of d)) (sym k) ∙ get_or-map kind_of now i d (kind_of d) lt in
+    let wide : length row ≡ length now = length-FitsTypes (map column_type old) row h
+    ∙ ap length (sym k) ∙ length-map now column_type in
+    let here : FitsType (get_or (map column_type old) i (column_type d)) (get_or row i v) =
+    FitsTypes-at (map column_type old) row i (column_type d) v h (omega arith) in
+    let kind : get_or (map column_type old) i (column_type d) ≡ column_type (get_or now i d) =
+    ap (λ l. get_or l i (column_type d)) (sym k)
+    ∙ get_or-map column_type now i d (column_type d) lt in
     let P : ColumnType → Type 0 = λ t. FitsType t (get_or row i v) in
-    let Q : Value → Type 0 = λ w. FitsType (kind_of (get_or now i d)) w in
+    let Q : Value → Type 0 = λ w. FitsType (column_type (get_or now i d)) w in
     subst Q (sym is) (subst P kind here)
 
 pub fits_long : {Y : Type 0} (columns : List Column) (row : List Value) (g : Value → Y)
-    → FitsTypes (map kind_of columns) row → length (map g row) ≡ length columns
+    → FitsTypes (map column_type columns) row → length (map g row) ≡ length columns
 fits_long columns row g h = search (arith, length-map, length-FitsTypes)

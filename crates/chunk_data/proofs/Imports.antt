@@ -1,5 +1,5 @@
 -- The names from outside that this crate's proofs use, in one place.
-pub use Rattle.chunk_data.specs.Names.{AgreeOnKey, AreColumns, AreEnds, AreLong, Column, ColumnType, FitsType, FitsTypes, IsTable, Row, SortKey, Table, Value, adds, cut, joined, kept, key_cmp, kind_of, row_at, rows_of, value_at, values}
+pub use Rattle.chunk_data.specs.Names.{AgreeOnKey, AreColumns, AreEnds, AreLong, Column, ColumnType, FitsType, FitsTypes, IsTable, Row, SortKey, Table, Value, adds, cut, append_each, kept, key_cmp, column_type, row_at, rows_of, value_at, values}
 pub use Rattle.chunk_data.specs.declared.typed_column.Column.TheVariants.{Int64, Text, UInt64}
 pub use Rattle.std.proofs.Common.{Bool, List, [], add-one, add-zero, ap, arith, cond, drop, false, get_or, length, length-append, map, pos, refl, replicate, set, slice_index_or, subst, suc, sym, take, true, zero, ℕ, ◌++◌, ◌+◌, ◌-◌, ◌<◌, ◌∙◌, ◌∷◌, ◌≡◌, ◌≤◌}
 pub use Rattle.std.proofs.Crossing.{crosses}

@@ -1,5 +1,5 @@
 -- The law between rows and columns, for all code that works column by column.
-use Rattle.chunk_data.proofs.Imports.{All, AreLong, Column, ColumnType, FitsType, FitsTypes, Int64, List, Row, Text, UInt64, Value, [], adds, ap, arith, get_or, get_or-replicate, joined, kind_of, length, length-map, length-replicate, map, refl, replicate, rows_of, suc, sym, value_at, values, zero, ℕ, ◌++◌, ◌+◌, ◌<◌, ◌∙◌, ◌∷◌, ◌≡◌}
+use Rattle.chunk_data.proofs.Imports.{All, AreLong, Column, ColumnType, FitsType, FitsTypes, Int64, List, Row, Text, UInt64, Value, [], adds, ap, arith, get_or, get_or-replicate, append_each, column_type, length, length-map, length-replicate, map, refl, replicate, rows_of, suc, sym, value_at, values, zero, ℕ, ◌++◌, ◌+◌, ◌<◌, ◌∙◌, ◌∷◌, ◌≡◌}
 use Rattle.chunk_data.specs.declared.typed_value.ColumnType.TheVariants as type
 use Rattle.chunk_data.specs.declared.typed_value.Value.TheVariants as value
 use Rattle.chunk_data.proofs.Rows.{AreLong-joined, AreLong-row}
@@ -41,14 +41,14 @@ rows_of_made value es rows columns n c e = rw (c, e) (rows_of-made value es rows
 
 -- ---- columns beside columns make longer rows
 joined-replicate : {X : Type 0} (n : ℕ) (rows : List (List X)) → length rows ≡ n
-    → joined (replicate n []) rows ≡ rows
+    → append_each (replicate n []) rows ≡ rows
 joined-replicate zero [] e = refl
 joined-replicate zero (row ∷ rows) e = absurd (omega arith)
 joined-replicate (suc n) [] e = absurd (omega arith)
 joined-replicate (suc n) (row ∷ rows) e = ap (λ l. row ∷ l) (joined-replicate n rows (omega arith))
 
 joined-adds : {X : Type 0} (column : List X) (rows others : List (List X))
-    → adds column (joined rows others) ≡ joined (adds column rows) others
+    → adds column (append_each rows others) ≡ append_each (adds column rows) others
 joined-adds [] rows others = refl
 joined-adds (x ∷ column) [] others = refl
 joined-adds (x ∷ column) (row ∷ rows) [] = refl
@@ -61,14 +61,14 @@ AreLong-append n [] others h k = k
 AreLong-append n (column ∷ columns) others h k = (h.0, AreLong-append n columns others h.1 k)
 
 pub rows_of-append : {X : Type 0} (n : ℕ) (columns others : List (List X)) → AreLong n others
-    → rows_of n (columns ++ others) ≡ joined (rows_of n columns) (rows_of n others)
+    → rows_of n (columns ++ others) ≡ append_each (rows_of n columns) (rows_of n others)
 rows_of-append n [] others k = search (arith, joined-replicate, length-rows_of)
 rows_of-append n (column ∷ columns) others k = ap (λ l. adds column l)
     (rows_of-append n columns others k) ∙ joined-adds column (rows_of n columns) (rows_of n others)
 
 -- ---- a row that is pushed value by value
 pub AreLong_push : {X : Type 0} (n : ℕ) (columns : List (List X)) (row : List X) → AreLong n columns
-    → AreLong (n + 1) (joined columns (map (λ v. v ∷ []) row))
+    → AreLong (n + 1) (append_each columns (map (λ v. v ∷ []) row))
 AreLong_push n columns row h = search (arith, AreLong-joined, AreLong-row)
 
 -- ---- rows that fit types
@@ -94,7 +94,7 @@ all_mapped P f h (x ∷ xs) = λ k d lt. elim k as (λ k. k < length (map f (x �
     (x ∷ xs)) k d)) [ zero ↦ λ _. h x | suc k ↦ λ lt. all_mapped P f h xs k d (omega arith) ] lt
 
 -- a column's values fit its type
-pub all_fit : (column : Column) → All (FitsType (kind_of column)) (values column)
+pub all_fit : (column : Column) → All (FitsType (column_type column)) (values column)
 all_fit (Int64 numbers) = all_mapped (FitsType type.Int64) value.Int (λ x. refl) numbers.items
 all_fit (UInt64 numbers) = all_mapped (FitsType type.UInt64) value.UInt (λ x. refl) numbers.items
 all_fit (Text texts) = all_mapped (FitsType type.Text) value.Text (λ x. refl) texts
@@ -116,11 +116,11 @@ all_adds t types (x ∷ column) (row ∷ rows) e h r =
 
 -- each row of columns fits their types
 pub rows_fit : (columns : List Column) (n : ℕ) → AreLong n (map values columns)
-    → All (FitsTypes (map kind_of columns)) (rows_of n (map values columns))
+    → All (FitsTypes (map column_type columns)) (rows_of n (map values columns))
 rows_fit [] n h = search (arith, get_or-replicate, length-replicate)
-rows_fit (column ∷ columns) n h = all_adds (kind_of column) (map kind_of columns) (values column)
-    (rows_of n (map values columns)) (h.0 ∙ sym (length-rows_of n (map values columns) h.1))
-    (all_fit column) (rows_fit columns n h.1)
+rows_fit (column ∷ columns) n h = all_adds (column_type column) (map column_type columns)
+    (values column) (rows_of n (map values columns)) (h.0
+    ∙ sym (length-rows_of n (map values columns) h.1)) (all_fit column) (rows_fit columns n h.1)
 
 -- ---- a column of rows that fit
 pub column_fits : (types : List ColumnType) (rows : List Row) (c : ℕ) (t : ColumnType)

@@ -1,5 +1,5 @@
 -- rows and the columns that they are made of
-use Rattle.chunk_data.proofs.Imports.{All, AreLong, Bool, List, [], adds, ap, arith, cond, count_by, drop, drop-replicate, false, get_or, get_or-replicate, is_count_by, joined, kept, length, length-append, length-drop, length-map, length-replicate, length-take-le, map, refl, replicate, replicate-append-replicate, rows_of, suc, sym, take, take-replicate, true, zero, ℕ, ◌++◌, ◌+◌, ◌-◌, ◌<◌, ◌∙◌, ◌∷◌, ◌≡◌, ◌≤◌}
+use Rattle.chunk_data.proofs.Imports.{All, AreLong, Bool, List, [], adds, ap, arith, cond, count_by, drop, drop-replicate, false, get_or, get_or-replicate, is_count_by, append_each, kept, length, length-append, length-drop, length-map, length-replicate, length-take-le, map, refl, replicate, replicate-append-replicate, rows_of, suc, sym, take, take-replicate, true, zero, ℕ, ◌++◌, ◌+◌, ◌-◌, ◌<◌, ◌∙◌, ◌∷◌, ◌≡◌, ◌≤◌}
 
 length-adds : {X : Type 0} (column : List X) (rows : List (List X)) → length column ≡ length rows
     → length (adds column rows) ≡ length column
@@ -26,7 +26,7 @@ adds-append (x ∷ a) b (row ∷ r) s e = ap (λ l. (x ∷ row) ∷ l) (adds-app
 
 -- ---- more rows
 pub AreLong-joined : {X : Type 0} (n m : ℕ) (columns others : List (List X)) → AreLong n columns
-    → AreLong m others → AreLong (n + m) (joined columns others)
+    → AreLong m others → AreLong (n + m) (append_each columns others)
 AreLong-joined n m [] others h k = tt
 AreLong-joined n m (column ∷ columns) [] h k = tt
 AreLong-joined n m (column ∷ columns) (other ∷ others) h k = (
@@ -37,7 +37,7 @@ AreLong-joined n m (column ∷ columns) (other ∷ others) h k = (
 
 pub rows_of-joined : {X : Type 0} (n m : ℕ) (columns others : List (List X)) → AreLong n columns
     → AreLong m others → length others ≡ length columns
-    → rows_of (n + m) (joined columns others) ≡ rows_of n columns ++ rows_of m others
+    → rows_of (n + m) (append_each columns others) ≡ rows_of n columns ++ rows_of m others
 rows_of-joined n m [] [] h k e = sym (replicate-append-replicate n m [])
 rows_of-joined n m [] (other ∷ others) h k e = absurd (omega arith)
 rows_of-joined n m (column ∷ columns) [] h k e = absurd (omega arith)
@@ -55,7 +55,7 @@ rows_of-row (x ∷ row) = ap (λ l. adds (x ∷ []) l) (rows_of-row row)
 
 pub rows_of_push : {X : Type 0} (n : ℕ) (columns : List (List X)) (row : List X) → AreLong n columns
     → length row ≡ length columns
-    → rows_of (n + 1) (joined columns (map (λ v. v ∷ []) row)) ≡ rows_of n columns ++ row ∷ []
+    → rows_of (n + 1) (append_each columns (map (λ v. v ∷ []) row)) ≡ rows_of n columns ++ row ∷ []
 rows_of_push n columns row h e =
     search (arith, rows_of-joined, AreLong-row, length-map, rows_of-row)
 

@@ -9,10 +9,10 @@ use Rattle.chunk_data.specs.declared.typed_value.Value.TheVariants as value
 use Rattle.chunk_data.specs.Rows.{AreLong}
 
 -- the type of a column's values
-abbrev pub kind_of : Column → ColumnType
-kind_of (Int64 numbers) = type.Int64
-kind_of (UInt64 numbers) = type.UInt64
-kind_of (Text texts) = type.Text
+abbrev pub column_type : Column → ColumnType
+column_type (Int64 numbers) = type.Int64
+column_type (UInt64 numbers) = type.UInt64
+column_type (Text texts) = type.Text
 
 -- a column's values, from the first row to the last
 abbrev pub values : Column → List Value
@@ -22,5 +22,5 @@ values (Text texts) = map value.Text texts
 
 -- the columns have the types, and each has `count` values
 pub record AreColumns (types : List ColumnType) (columns : List Column) (count : ℕ) : Type 0 where
-  pub kinds : map kind_of columns ≡ types
+  pub kinds : map column_type columns ≡ types
   pub long : AreLong count (map values columns)

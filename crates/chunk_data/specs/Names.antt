@@ -1,7 +1,7 @@
 -- The names of this crate's definitions in one place: who needs several of its files imports from
 -- here.
-pub use Rattle.chunk_data.specs.Columns.{AreColumns, kind_of, values}
-pub use Rattle.chunk_data.specs.Rows.{AreLong, adds, joined, kept, row_at, rows_of}
+pub use Rattle.chunk_data.specs.Columns.{AreColumns, column_type, values}
+pub use Rattle.chunk_data.specs.Rows.{AreLong, adds, append_each, kept, row_at, rows_of}
 pub use Rattle.chunk_data.specs.Texts.{AreEnds, cut}
 pub use Rattle.chunk_data.specs.Values.{AgreeOnKey, FitsType, FitsTypes, IsTable, Row, Table, key_cmp, text_cmp, type_of, value_at, value_cmp}
 unfoldable pub use Rattle.chunk_data.specs.Values.{row_cmp}

@@ -25,10 +25,10 @@ AreLong n (column ∷ columns) = (length column ≡ n) × AreLong n columns
 
 -- each column with the values of the one beside it after its own, or each row with those of the row
 -- beside it
-abbrev pub joined : {X : Type 0} → List (List X) → List (List X) → List (List X)
-joined [] others = []
-joined (column ∷ columns) [] = []
-joined (column ∷ columns) (other ∷ others) = (column ++ other) ∷ joined columns others
+abbrev pub append_each : {X : Type 0} → List (List X) → List (List X) → List (List X)
+append_each [] others = []
+append_each (column ∷ columns) [] = []
+append_each (column ∷ columns) (other ∷ others) = (column ++ other) ∷ append_each columns others
 
 -- the row at a place, which is in range
 abbrev pub row_at : {X : Type 0} → List (List X) → ℕ → List X

@@ -1,6 +1,6 @@
 ghost use Rattle.std.specs.Prelude.{◌≡◌, ℕ, ◌+◌, ◌≤◌, ◌<◌, ◌++◌, ◌∷◌, [], length, map, take, drop, OnOk, OnErr, IfOk};
 ghost use Rattle.std.specs.List.{All, count_by};
-ghost use Rattle.chunk_data.specs.Names.{FitsTypes, value_at, kind_of, values, kept, joined, AreLong};
+ghost use Rattle.chunk_data.specs.Names.{FitsTypes, value_at, column_type, values, kept, append_each, AreLong};
 
 use crate::lists::{List, Memory};
 use crate::typed_column::Column;
@@ -16,7 +16,7 @@ pub(crate) fn count_true(mask: &[bool]) -> usize
 
 /// A column without values for each type.
 pub fn empty_columns(alloc: Global, kinds: &[ColumnType]) -> Result<Vec<Column>, Memory>
-    ensures kinds { IfOk result (λ v. map kind_of v.items ≡ kinds.now) }
+    ensures kinds { IfOk result (λ v. map column_type v.items ≡ kinds.now) }
     ensures empty { IfOk result (λ v. map values v.items ≡ map (λ _. []) kinds.now) }
 {
     let mut columns = Vec::new(alloc);
@@ -29,7 +29,7 @@ pub fn empty_columns(alloc: Global, kinds: &[ColumnType]) -> Result<Vec<Column>,
 /// Keeps in each column the values whose place in the mask has true.
 pub(crate) fn keep_all(columns: &mut [Column], mask: &[bool])
     requires { AreLong (length mask.now) (map values columns.old) }
-    ensures kinds { map kind_of columns.new ≡ map kind_of columns.old }
+    ensures kinds { map column_type columns.new ≡ map column_type columns.old }
     ensures kept { map values columns.new ≡ map (kept mask.now) (map values columns.old) }
 {
     for i in 0..columns.len() {
@@ -40,7 +40,7 @@ pub(crate) fn keep_all(columns: &mut [Column], mask: &[bool])
 /// Leaves of each column the first n values: a reader takes back the fields of a record that it
 /// gives up.
 pub fn truncate_columns(columns: &mut [Column], n: usize)
-    ensures kinds { map kind_of columns.new ≡ map kind_of columns.old }
+    ensures kinds { map column_type columns.new ≡ map column_type columns.old }
     ensures front { map values columns.new ≡ map (take n) (map values columns.old) }
 {
     for i in 0..columns.len() {
@@ -54,11 +54,11 @@ pub(crate) fn append_all(
     others: &[Column],
     count: usize,
 ) -> Result<(), Memory>
-    requires agree { map kind_of others.now ≡ map kind_of columns.old }
+    requires agree { map column_type others.now ≡ map column_type columns.old }
     requires long { AreLong count (map values columns.old) }
-    ensures kinds { map kind_of columns.new ≡ map kind_of columns.old }
+    ensures kinds { map column_type columns.new ≡ map column_type columns.old }
     ensures ok { OnOk result
-        (map values columns.new ≡ joined (map values columns.old) (map values others.now)) }
+        (map values columns.new ≡ append_each (map values columns.old) (map values others.now)) }
     ensures err { OnErr result (map values columns.new ≡ map values columns.old) }
 {
     for i in 0..columns.len() {
@@ -75,11 +75,12 @@ pub(crate) fn append_all(
 
 /// Appends each value of the row to the column beside it; after an error none has changed.
 pub(crate) fn push_all(columns: &mut [Column], row: &[Value], count: usize) -> Result<(), Memory>
-    requires fits { FitsTypes (map kind_of columns.old) row.now }
+    requires fits { FitsTypes (map column_type columns.old) row.now }
     requires long { AreLong count (map values columns.old) }
-    ensures kinds { map kind_of columns.new ≡ map kind_of columns.old }
+    ensures kinds { map column_type columns.new ≡ map column_type columns.old }
     ensures ok { OnOk result
-        (map values columns.new ≡ joined (map values columns.old) (map (λ v. v ∷ []) row.now)) }
+        (map values columns.new
+        ≡ append_each (map values columns.old) (map (λ v. v ∷ []) row.now)) }
     ensures err { OnErr result (map values columns.new ≡ map values columns.old) }
 {
     for i in 0..columns.len() {
@@ -96,7 +97,7 @@ pub(crate) fn push_all(columns: &mut [Column], row: &[Value], count: usize) -> R
 
 /// The types of the columns.
 pub(crate) fn kinds_of(alloc: Global, columns: &[Column]) -> Result<List<ColumnType>, Memory>
-    ensures { IfOk result (λ l. l ≡ map kind_of columns.now) }
+    ensures { IfOk result (λ l. l ≡ map column_type columns.now) }
 {
     let mut kinds = Vec::with_capacity(alloc, columns.len())?;
     for column in columns {
@@ -128,7 +129,7 @@ pub(crate) fn gather_all(
 ) -> Result<Vec<Column>, Memory>
     requires long { AreLong count (map values columns.now) }
     requires in_range { All (λ p. p < count) places.now }
-    ensures kinds { IfOk result (λ v. map kind_of v.items ≡ map kind_of columns.now) }
+    ensures kinds { IfOk result (λ v. map column_type v.items ≡ map column_type columns.now) }
     ensures gathered { IfOk result (λ v. map values v.items
         ≡ map (λ column. map (value_at column) places.now) (map values columns.now)) }
 {
@@ -160,7 +161,7 @@ pub(crate) fn row_of(
 
 /// Each column's first n values, copied.
 pub(crate) fn front_all(alloc: Global, columns: &[Column], n: usize) -> Result<Vec<Column>, Memory>
-    ensures kinds { IfOk result (λ v. map kind_of v.items ≡ map kind_of columns.now) }
+    ensures kinds { IfOk result (λ v. map column_type v.items ≡ map column_type columns.now) }
     ensures front { IfOk result (λ v. map values v.items ≡ map (take n) (map values columns.now)) }
 {
     let mut front = Vec::new(alloc);
@@ -172,7 +173,7 @@ pub(crate) fn front_all(alloc: Global, columns: &[Column], n: usize) -> Result<V
 
 /// Leaves of each column what follows its first n values.
 pub(crate) fn remove_front_all(columns: &mut [Column], n: usize)
-    ensures kinds { map kind_of columns.new ≡ map kind_of columns.old }
+    ensures kinds { map column_type columns.new ≡ map column_type columns.old }
     ensures rest { map values columns.new ≡ map (drop n) (map values columns.old) }
 {
     for i in 0..columns.len() {

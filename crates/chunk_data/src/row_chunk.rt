@@ -1,6 +1,6 @@
 ghost use Rattle.std.specs.Prelude.{◌≡◌, ℕ, ◌+◌, ◌≤◌, ◌<◌, ◌++◌, ◌∷◌, [], length, map, take, drop, slice_index_or, OnOk, OnErr, IfOk, MatchResult};
 ghost use Rattle.std.specs.List.{All};
-ghost use Rattle.chunk_data.specs.Names.{FitsTypes, IsTable, value_at, kind_of, values, joined, kept, row_at, rows_of, AreLong};
+ghost use Rattle.chunk_data.specs.Names.{FitsTypes, IsTable, value_at, column_type, values, append_each, kept, row_at, rows_of, AreLong};
 
 use crate::column_list::{
     append_all, beside_all, count_true, empty_columns, front_all, gather_all, keep_all, kinds_of,
@@ -13,7 +13,7 @@ use std::alloc::Global;
 use std::marker::Model;
 
 /// Rows of one list of types, kept by column.
-#[derive(Debug, Drop)]
+#[derive(Drop)]
 pub struct Chunk {
     alloc: Global,
     kinds: List<ColumnType>,
@@ -57,7 +57,7 @@ impl Chunk {
     /// A chunk of these columns, which are moved; without columns it may have any number of rows.
     pub fn of_columns(alloc: Global, columns: List<Column>, rows: usize) -> Result<Chunk, Memory>
         requires { AreLong rows (map values columns) }
-        ensures types { IfOk result (λ c. c.types ≡ map kind_of columns) }
+        ensures types { IfOk result (λ c. c.types ≡ map column_type columns) }
         ensures rows { IfOk result (λ c. c.rows ≡ rows_of rows (map values columns)) }
     {
         let kinds = kinds_of(alloc, columns.as_slice())?;
@@ -71,7 +71,7 @@ impl Chunk {
 
     /// The columns, which are moved.
     pub fn into_columns(self) -> List<Column>
-        ensures types { map kind_of result ≡ self.types }
+        ensures types { map column_type result ≡ self.types }
         ensures long { AreLong (length self.rows) (map values result) }
         ensures rows { rows_of (length self.rows) (map values result) ≡ self.rows }
     {
@@ -97,7 +97,8 @@ impl Chunk {
     /// Column c, which has each row's value at c.
     pub fn column(&self, c: usize) -> &Column
         requires { c < length self.now.types }
-        ensures kind { kind_of result.now ≡ slice_index_or self.now.types c (kind_of result.now) }
+        ensures kind { column_type result.now
+            ≡ slice_index_or self.now.types c (column_type result.now) }
         ensures values { values result.now ≡ map (λ row. value_at row c) self.now.rows }
     {
         &self.columns[c]
@@ -152,7 +153,7 @@ impl Chunk {
     pub fn beside(self, other: Chunk) -> Result<Chunk, Memory>
         requires { length other.rows ≡ length self.rows }
         ensures types { IfOk result (λ c. c.types ≡ self.types ++ other.types) }
-        ensures rows { IfOk result (λ c. c.rows ≡ joined self.rows other.rows) }
+        ensures rows { IfOk result (λ c. c.rows ≡ append_each self.rows other.rows) }
     {
         let alloc = self.alloc;
         let rows = self.rows();

@@ -1,5 +1,5 @@
 ghost use Rattle.std.specs.Prelude.{◌≡◌, ◌<◌, ◌++◌, ◌∷◌, [], length, map, OnOk, OnErr, IfErr};
-ghost use Rattle.chunk_data.specs.Names.{value_at, kind_of, values};
+ghost use Rattle.chunk_data.specs.Names.{value_at, column_type, values};
 
 use crate::lists::Memory;
 use crate::text_column::Texts;
@@ -10,7 +10,7 @@ use crate::typed_value::{ColumnType, Value};
 impl Column {
     /// A column of these numbers, which are moved.
     pub fn of_ints(numbers: Vec<i64>) -> Self
-        ensures kind { kind_of result ≡ ColumnType.Int64 }
+        ensures kind { column_type result ≡ ColumnType.Int64 }
         ensures values { values result ≡ map Value.Int numbers.items }
     {
         Column::Int64(numbers)
@@ -18,7 +18,7 @@ impl Column {
 
     /// A column of these numbers, which are moved.
     pub fn of_uints(numbers: Vec<u64>) -> Self
-        ensures kind { kind_of result ≡ ColumnType.UInt64 }
+        ensures kind { column_type result ≡ ColumnType.UInt64 }
         ensures values { values result ≡ map Value.UInt numbers.items }
     {
         Column::UInt64(numbers)
@@ -26,7 +26,7 @@ impl Column {
 
     /// A column of these texts, which are moved.
     pub fn of_texts(texts: Texts) -> Self
-        ensures kind { kind_of result ≡ ColumnType.Text }
+        ensures kind { column_type result ≡ ColumnType.Text }
         ensures values { values result ≡ map Value.Text texts }
     {
         Column::Text(texts)
@@ -34,7 +34,7 @@ impl Column {
 
     /// The numbers of an Int64 column.
     pub fn ints(&self) -> &[i64]
-        requires { kind_of self.now ≡ ColumnType.Int64 }
+        requires { column_type self.now ≡ ColumnType.Int64 }
         ensures { values self.now ≡ map Value.Int result.now }
     {
         match self {
@@ -45,7 +45,7 @@ impl Column {
 
     /// The numbers of a UInt64 column.
     pub fn uints(&self) -> &[u64]
-        requires { kind_of self.now ≡ ColumnType.UInt64 }
+        requires { column_type self.now ≡ ColumnType.UInt64 }
         ensures { values self.now ≡ map Value.UInt result.now }
     {
         match self {
@@ -56,7 +56,7 @@ impl Column {
 
     /// The texts of a Text column.
     pub fn texts(&self) -> &Texts
-        requires { kind_of self.now ≡ ColumnType.Text }
+        requires { column_type self.now ≡ ColumnType.Text }
         ensures { values self.now ≡ map Value.Text result.now }
     {
         match self {
@@ -67,7 +67,7 @@ impl Column {
 
     /// Text i of a Text column.
     pub fn text(&self, i: usize) -> &[u8]
-        requires kind { kind_of self.now ≡ ColumnType.Text }
+        requires kind { column_type self.now ≡ ColumnType.Text }
         requires in_range { i < length (values self.now) }
         ensures { Value.Text result.now ≡ value_at (values self.now) i }
     {
@@ -79,7 +79,7 @@ impl Column {
 
     /// The numbers of an Int64 column, which is moved.
     pub fn into_ints(self) -> Vec<i64>
-        requires { kind_of self ≡ ColumnType.Int64 }
+        requires { column_type self ≡ ColumnType.Int64 }
         ensures { values self ≡ map Value.Int result.items }
     {
         match self {
@@ -90,7 +90,7 @@ impl Column {
 
     /// The numbers of a UInt64 column, which is moved.
     pub fn into_uints(self) -> Vec<u64>
-        requires { kind_of self ≡ ColumnType.UInt64 }
+        requires { column_type self ≡ ColumnType.UInt64 }
         ensures { values self ≡ map Value.UInt result.items }
     {
         match self {
@@ -101,7 +101,7 @@ impl Column {
 
     /// The texts of a Text column, which is moved.
     pub fn into_texts(self) -> Texts
-        requires { kind_of self ≡ ColumnType.Text }
+        requires { column_type self ≡ ColumnType.Text }
         ensures { values self ≡ map Value.Text result }
     {
         match self {
@@ -112,8 +112,8 @@ impl Column {
 
     /// Adds the number to an Int64 column; after an error nothing has changed.
     pub fn push_int(&mut self, number: i64) -> Result<(), Memory>
-        requires { kind_of self.old ≡ ColumnType.Int64 }
-        ensures kind { kind_of self.new ≡ kind_of self.old }
+        requires { column_type self.old ≡ ColumnType.Int64 }
+        ensures kind { column_type self.new ≡ column_type self.old }
         ensures ok { OnOk result (values self.new ≡ values self.old ++ Value.Int number ∷ []) }
         ensures err { OnErr result (values self.new ≡ values self.old) }
     {
@@ -126,8 +126,8 @@ impl Column {
 
     /// Adds the number to a UInt64 column; after an error nothing has changed.
     pub fn push_uint(&mut self, number: u64) -> Result<(), Memory>
-        requires { kind_of self.old ≡ ColumnType.UInt64 }
-        ensures kind { kind_of self.new ≡ kind_of self.old }
+        requires { column_type self.old ≡ ColumnType.UInt64 }
+        ensures kind { column_type self.new ≡ column_type self.old }
         ensures ok { OnOk result (values self.new ≡ values self.old ++ Value.UInt number ∷ []) }
         ensures err { OnErr result (values self.new ≡ values self.old) }
     {
@@ -140,8 +140,8 @@ impl Column {
 
     /// Adds the text to a Text column; after an error nothing has changed.
     pub fn push_text(&mut self, text: &[u8]) -> Result<(), Memory>
-        requires { kind_of self.old ≡ ColumnType.Text }
-        ensures kind { kind_of self.new ≡ kind_of self.old }
+        requires { column_type self.old ≡ ColumnType.Text }
+        ensures kind { column_type self.new ≡ column_type self.old }
         ensures ok { OnOk result (values self.new ≡ values self.old ++ Value.Text text.now ∷ []) }
         ensures err { OnErr result (values self.new ≡ values self.old) }
     {
@@ -154,8 +154,8 @@ impl Column {
     /// The other's values after its own, as `append`; an empty column takes the other's memory.
     /// After an error the other comes back and nothing has changed.
     pub fn append_moved(&mut self, other: Column) -> Result<(), Column>
-        requires { kind_of other ≡ kind_of self.old }
-        ensures kind { kind_of self.new ≡ kind_of self.old }
+        requires { column_type other ≡ column_type self.old }
+        ensures kind { column_type self.new ≡ column_type self.old }
         ensures ok { OnOk result (values self.new ≡ values self.old ++ values other) }
         ensures err { OnErr result (values self.new ≡ values self.old) }
         ensures returned { IfErr result (λ c. c ≡ other) }

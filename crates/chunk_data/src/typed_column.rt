@@ -1,6 +1,6 @@
 ghost use Rattle.std.specs.Prelude.{◌≡◌, ℕ, ◌+◌, ◌≤◌, ◌<◌, ◌++◌, ◌∷◌, List, [], length, map, take, drop, slice_index_or, OnOk, OnErr, IfOk};
 ghost use Rattle.std.specs.List.{All};
-ghost use Rattle.chunk_data.specs.Names.{FitsType, value_at, value_cmp, kind_of, values, kept};
+ghost use Rattle.chunk_data.specs.Names.{FitsType, value_at, value_cmp, column_type, values, kept};
 
 use crate::compact::{
     copy_items, front_items, gather_ints, gather_uints, keep_items, remove_front,
@@ -22,7 +22,7 @@ pub enum Column {
 impl Column {
     /// A column without values; it takes no memory.
     pub fn new(alloc: Global, kind: ColumnType) -> Self
-        ensures kind { kind_of result ≡ kind }
+        ensures kind { column_type result ≡ kind }
         ensures empty { values result ≡ [] }
     {
         match kind {
@@ -34,7 +34,7 @@ impl Column {
 
     /// The type of its values.
     pub fn kind(&self) -> ColumnType
-        ensures { result ≡ kind_of self.now }
+        ensures { result ≡ column_type self.now }
     {
         match self {
             Column::Int64(_) => ColumnType::Int64,
@@ -56,7 +56,7 @@ impl Column {
 
     /// Makes room for n more values, of a Text column without their bytes; the values stay.
     pub fn reserve(&mut self, n: usize) -> Result<(), Memory>
-        ensures kind { kind_of self.new ≡ kind_of self.old }
+        ensures kind { column_type self.new ≡ column_type self.old }
         ensures values { values self.new ≡ values self.old }
     {
         match self {
@@ -70,8 +70,8 @@ impl Column {
     /// Adds a value that fits the column's type; after an error nothing has changed and the value
     /// is dropped.
     pub fn push(&mut self, value: Value) -> Result<(), Memory>
-        requires { FitsType (kind_of self.old) value }
-        ensures kind { kind_of self.new ≡ kind_of self.old }
+        requires { FitsType (column_type self.old) value }
+        ensures kind { column_type self.new ≡ column_type self.old }
         ensures ok { OnOk result (values self.new ≡ values self.old ++ value ∷ []) }
         ensures err { OnErr result (values self.new ≡ values self.old) }
     {
@@ -86,8 +86,8 @@ impl Column {
 
     /// The same for a value that is only lent.
     pub fn push_copy(&mut self, value: &Value) -> Result<(), Memory>
-        requires { FitsType (kind_of self.old) value.now }
-        ensures kind { kind_of self.new ≡ kind_of self.old }
+        requires { FitsType (column_type self.old) value.now }
+        ensures kind { column_type self.new ≡ column_type self.old }
         ensures ok { OnOk result (values self.new ≡ values self.old ++ value.now ∷ []) }
         ensures err { OnErr result (values self.new ≡ values self.old) }
     {
@@ -114,7 +114,7 @@ impl Column {
 
     /// How value i compares with the other column's value j.
     pub fn compare(&self, i: usize, other: &Column, j: usize) -> Ordering
-        requires kinds { kind_of other.now ≡ kind_of self.now }
+        requires kinds { column_type other.now ≡ column_type self.now }
         requires here { i < length (values self.now) }
         requires there { j < length (values other.now) }
         ensures { result
@@ -132,7 +132,7 @@ impl Column {
     #[tactic(auto, using(crate::proofs::Cells::maps))]
     pub fn keep(&mut self, mask: &[bool])
         requires { length mask.now ≡ length (values self.old) }
-        ensures kind { kind_of self.new ≡ kind_of self.old }
+        ensures kind { column_type self.new ≡ column_type self.old }
         ensures kept { values self.new ≡ kept mask.now (values self.old) }
     {
         match self {
@@ -145,7 +145,7 @@ impl Column {
     /// The first n stay.
     #[tactic(auto, using(crate::proofs::Cells::maps))]
     pub fn truncate(&mut self, n: usize)
-        ensures kind { kind_of self.new ≡ kind_of self.old }
+        ensures kind { column_type self.new ≡ column_type self.old }
         ensures front { values self.new ≡ take n (values self.old) }
     {
         match self {
@@ -157,8 +157,8 @@ impl Column {
 
     /// The other's values after its own; after an error nothing has changed.
     pub fn append(&mut self, other: &Column) -> Result<(), Memory>
-        requires { kind_of other.now ≡ kind_of self.old }
-        ensures kind { kind_of self.new ≡ kind_of self.old }
+        requires { column_type other.now ≡ column_type self.old }
+        ensures kind { column_type self.new ≡ column_type self.old }
         ensures ok { OnOk result (values self.new ≡ values self.old ++ values other.now) }
         ensures err { OnErr result (values self.new ≡ values self.old) }
     {
@@ -179,7 +179,7 @@ impl Column {
     #[tactic(auto, using(crate::proofs::Cells::maps))]
     pub fn gather(&self, places: &[usize]) -> Result<Column, Memory>
         requires { All (λ p. p < length (values self.now)) places.now }
-        ensures kind { IfOk result (λ c. kind_of c ≡ kind_of self.now) }
+        ensures kind { IfOk result (λ c. column_type c ≡ column_type self.now) }
         ensures values { IfOk result (λ c. values c ≡ map (value_at (values self.now)) places.now) }
     {
         match self {
@@ -191,7 +191,7 @@ impl Column {
 
     /// The same values.
     pub fn copy(&self) -> Result<Column, Memory>
-        ensures kind { IfOk result (λ c. kind_of c ≡ kind_of self.now) }
+        ensures kind { IfOk result (λ c. column_type c ≡ column_type self.now) }
         ensures values { IfOk result (λ c. values c ≡ values self.now) }
     {
         match self {
@@ -204,7 +204,7 @@ impl Column {
     /// A copy of the first n values.
     #[tactic(auto, using(crate::proofs::Cells::maps))]
     pub fn front(&self, n: usize) -> Result<Column, Memory>
-        ensures kind { IfOk result (λ c. kind_of c ≡ kind_of self.now) }
+        ensures kind { IfOk result (λ c. column_type c ≡ column_type self.now) }
         ensures front { IfOk result (λ c. values c ≡ take n (values self.now)) }
     {
         match self {
@@ -217,7 +217,7 @@ impl Column {
     /// What follows the first n values stays.
     #[tactic(auto, using(crate::proofs::Cells::maps))]
     pub fn remove_front(&mut self, n: usize)
-        ensures kind { kind_of self.new ≡ kind_of self.old }
+        ensures kind { column_type self.new ≡ column_type self.old }
         ensures rest { values self.new ≡ drop n (values self.old) }
     {
         match self {

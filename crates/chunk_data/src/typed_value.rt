@@ -9,7 +9,7 @@ pub enum ColumnType {
 }
 
 /// One value: a 64-bit number, or a text of any bytes.
-#[derive(Debug, Drop)]
+#[derive(Drop)]
 pub enum Value {
     Int(i64),
     UInt(u64),

@@ -1,9 +1,9 @@
-use Rattle.chunk_data.proofs.Imports.{arith, kind_of, length, length-map, map, values, ◌<◌, ◌∙◌, ◌≡◌}
+use Rattle.chunk_data.proofs.Imports.{arith, column_type, length, length-map, map, values, ◌<◌, ◌∙◌, ◌≡◌}
 use Rattle.chunk_data.proofs.ColumnLists.{Joined-more, Joined-all, Joined-back, Joined-same, Joined-long, agrees_at, agreed_long, other_at}
 use Rattle.chunk_data.proofs.column_list.append_all.Goals as goal
 
 pub append-requires : goal.append-requires
-append-requires c = agrees_at kind_of _ _ _ _ _ _ c.requires.agree c.loop-i.invariant.kinds
+append-requires c = agrees_at column_type _ _ _ _ _ _ c.requires.agree c.loop-i.invariant.kinds
     (omega arith) c.index-others-i.is
 
 pub returns-in-Err-clause-kinds : goal.returns-in-Err-clause-kinds
@@ -19,7 +19,7 @@ returns-in-Err-clause-err c =
 pub loop-i-preserved : goal.loop-i-preserved
 loop-i-preserved c =
     let long : length (map values c.args.others.now) ≡ length c.args.columns.now =
-    agreed_long kind_of _ _ values c.requires.agree in
+    agreed_long column_type _ _ values c.requires.agree in
     let lt : c.loop-i.i < length c.args.others.now =
     omega (arith, long, length-map c.args.others.now values, Joined-long c.loop-i.invariant) in
     Joined-more c.index-columns-i.result _ _ c.loop-i.invariant long (omega arith)
@@ -27,4 +27,5 @@ loop-i-preserved c =
 
 pub returns-clause-ok : goal.returns-clause-ok
 returns-clause-ok c =
-    Joined-all c.loop-i.invariant (agreed_long kind_of _ _ values c.requires.agree) (omega arith)
+    Joined-all c.loop-i.invariant (agreed_long column_type _ _ values c.requires.agree)
+    (omega arith)

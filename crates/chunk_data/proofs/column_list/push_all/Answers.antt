@@ -1,4 +1,4 @@
-use Rattle.chunk_data.proofs.Imports.{[], arith, kind_of, length, length-map, map, ◌<◌, ◌∙◌, ◌∷◌, ◌≡◌}
+use Rattle.chunk_data.proofs.Imports.{[], arith, column_type, length, length-map, map, ◌<◌, ◌∙◌, ◌∷◌, ◌≡◌}
 use Rattle.chunk_data.proofs.ColumnLists.{Joined-more, Joined-all, Joined-back, Joined-same, Joined-long, fits_at, fits_long, other_at}
 use Rattle.chunk_data.proofs.Laws.{length-FitsTypes}
 use Rattle.chunk_data.proofs.column_list.push_all.Goals as goal
@@ -36,6 +36,6 @@ pub bounds-row-i : goal.bounds-row-i
 bounds-row-i c = omega (
   arith,
   length-FitsTypes _ _ c.requires.fits,
-  length-map c.args.columns.now kind_of,
+  length-map c.args.columns.now column_type,
   Joined-long c.loop-i.invariant,
 )
