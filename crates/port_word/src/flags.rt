@@ -1,7 +1,7 @@
 use chunk_data::Chunk;
 
 /// The flags of a port. It counts as finished where either end set its flag.
-#[derive(Clone, Copy, Debug, PartialEq, Eq)]
+#[derive(Clone, Copy, PartialEq, Eq)]
 pub struct Flags {
     /// The consumer wants a chunk.
     pub needed: bool,
@@ -14,14 +14,14 @@ pub struct Flags {
 }
 
 /// A port of a node, by its number among the node's inputs or outputs.
-#[derive(Clone, Copy, Debug, PartialEq, Eq)]
+#[derive(Clone, Copy, PartialEq, Eq)]
 pub enum Port {
     Input(usize),
     Output(usize),
 }
 
 /// What a node did to one of its ports: to an input, or, for Push and Finish, to an output.
-#[derive(Debug, Drop)]
+#[derive(Drop)]
 pub enum Action {
     Want(usize),
     Unwant(usize),
@@ -32,7 +32,7 @@ pub enum Action {
 }
 
 /// A connection: output `out` of the node `from` to input `input` of the node `to`.
-#[derive(Clone, Copy, Debug, PartialEq, Eq)]
+#[derive(Clone, Copy, PartialEq, Eq)]
 pub struct Wire {
     pub from: u32,
     pub out: u32,
@@ -42,7 +42,7 @@ pub struct Wire {
 
 /// The nodes and edges that are kept for the growth of `node`: `nodes` many nodes from `first_node`
 /// on, and `edges` many edges from `first_edge` on.
-#[derive(Clone, Copy, Debug, PartialEq, Eq)]
+#[derive(Clone, Copy, PartialEq, Eq)]
 pub struct Reserve {
     pub node: u32,
     pub first_node: u32,

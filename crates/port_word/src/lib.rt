@@ -18,8 +18,6 @@
 mod flags;
 mod notes;
 mod port_view;
-#[cfg(test)]
-mod tests;
 
 pub use flags::{Action, Flags, Port, Reserve, Wire};
 pub use port_view::{InputPort, PortView};

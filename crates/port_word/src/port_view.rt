@@ -8,7 +8,7 @@ use std::alloc::Global;
 use std::marker::Model;
 
 /// An input: its flags, and its chunk from when it is seen until this node pulls it.
-#[derive(Debug, Drop)]
+#[derive(Drop)]
 pub struct InputPort {
     pub flags: Flags,
     pub chunk: Option<Chunk>,
@@ -16,7 +16,7 @@ pub struct InputPort {
 
 /// A node's picture of its ports. Every number of a port is in range as a condition. No call but
 /// `new` and `grow` takes memory.
-#[derive(Debug, Drop)]
+#[derive(Drop)]
 pub struct PortView {
     inputs: Vec<InputPort>,
     outputs: Vec<Flags>,
