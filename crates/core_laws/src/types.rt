@@ -3,7 +3,7 @@ use port_word::{Flags, Reserve, Wire};
 
 /// How many nodes and workers an execution has, its wires, and what is kept for growth. Wire k is
 /// edge k, and the reserved edges follow the wires.
-#[derive(Debug, Drop)]
+#[derive(Drop)]
 pub struct Sizes {
     pub nodes: u32,
     pub wires: List<Wire>,
@@ -12,7 +12,7 @@ pub struct Sizes {
 }
 
 /// What a node knows of one of its ports, by the edge.
-#[derive(Clone, Copy, Debug, PartialEq, Eq)]
+#[derive(Clone, Copy, PartialEq, Eq)]
 pub struct Sight {
     pub edge: u32,
     pub flags: Flags,
@@ -20,7 +20,7 @@ pub struct Sight {
 
 /// An edge: its flags, the chunk in its slot, the chunks pushed and pulled so far, and its wire.
 /// Chunks are named by numbers.
-#[derive(Debug, Drop)]
+#[derive(Drop)]
 pub struct PortState {
     pub flags: Flags,
     pub slot: Option<u64>,
@@ -31,7 +31,7 @@ pub struct PortState {
 
 /// A node: its word, and what its seat's view holds. `seen`, `unlooked` and `owes` name each edge
 /// at most once.
-#[derive(Debug, Drop)]
+#[derive(Drop)]
 pub struct NodeState {
     pub word: u64,
     pub held: bool,
@@ -42,7 +42,7 @@ pub struct NodeState {
 }
 
 /// The state of the execution table: edge e is `ports[e]`, node n is `nodes[n]`.
-#[derive(Debug, Drop)]
+#[derive(Drop)]
 pub struct CoreState {
     pub sizes: Sizes,
     pub ports: List<PortState>,
@@ -53,7 +53,7 @@ pub struct CoreState {
 
 /// What a held end of an edge does to its port: six of the kinds of step, with the chunk that is
 /// pushed.
-#[derive(Clone, Copy, Debug, PartialEq, Eq)]
+#[derive(Clone, Copy, PartialEq, Eq)]
 pub enum Act {
     Want,
     Unwant,
@@ -64,7 +64,7 @@ pub enum Act {
 }
 
 /// One atomic operation of a seat, with the edge that it names.
-#[derive(Clone, Copy, Debug, PartialEq, Eq)]
+#[derive(Clone, Copy, PartialEq, Eq)]
 pub enum Step {
     Look(u32),
     Want(u32),
@@ -88,7 +88,7 @@ pub enum Step {
 }
 
 /// A step and the seat that makes it: a node's number, or a worker's behind them.
-#[derive(Clone, Copy, Debug, PartialEq, Eq)]
+#[derive(Clone, Copy, PartialEq, Eq)]
 pub struct Event {
     pub seat: u32,
     pub step: Step,
