@@ -12,7 +12,7 @@ use chunk_data::Memory;
 use core_laws::{Act, CoreState, Event, Step};
 use std::alloc::Global;
 
-#[derive(Clone, Copy, Debug, PartialEq, Eq, Drop)]
+#[derive(Clone, Copy, PartialEq, Eq, Drop)]
 pub enum ReplayEnd {
     /// The event at this place, counted from 0, is no step.
     BadEvent(u64),
