@@ -11,8 +11,8 @@ abbrev pub partial : Combine → List Value → List Value
 partial op [] = []
 partial op (v ∷ vs) = combined op (v ∷ vs) ∷ []
 
-abbrev pub joined : List (List Value) → List Value
-joined vss = flat_map (λ vs. vs) vss
+abbrev pub all_values : List (List Value) → List Value
+all_values vss = flat_map (λ vs. vs) vss
 
 abbrev pub partials : Combine → List (List Value) → List Value
 partials op vss = flat_map (partial op) vss
@@ -22,7 +22,7 @@ exact_sum-append [] ys = omega (arith, ints)
 exact_sum-append (x ∷ xs) ys = let more = exact_sum-append xs ys in omega (arith, ints, more)
 
 uint_sums : (vss : List (List Value))
-    → list_all is_uint (partials added vss) ≡ list_all is_uint (joined vss)
+    → list_all is_uint (partials added vss) ≡ list_all is_uint (all_values vss)
 unfolding combined
 uint_sums [] = refl
 uint_sums ([] ∷ vss) = uint_sums vss
@@ -32,12 +32,12 @@ uint_sums ((v ∷ vs) ∷ vss) = search (arith, is_uint-wrapped, list_all-append
 sum_of_parts : (op : Combine) (sum : List Value → ℤ) → sum [] ≡ pos 0
     → ((xs ys : List Value) → sum (xs ++ ys) ≡ sum xs +ℤ sum ys)
     → ((v : Value) (vs : List Value) → Same (exact (combined op (v ∷ vs))) (sum (v ∷ vs)))
-    → (vss : List (List Value)) → Same (exact_sum (partials op vss)) (sum (joined vss))
+    → (vss : List (List Value)) → Same (exact_sum (partials op vss)) (sum (all_values vss))
 sum_of_parts op sum none more part [] = ap (λ z. int_wrap w64 z) (sym none)
 sum_of_parts op sum none more part ([] ∷ vss) = sum_of_parts op sum none more part vss
 sum_of_parts op sum none more part ((v ∷ vs) ∷ vss) =
     Same-add _ _ _ _ (part v vs) (sum_of_parts op sum none more part vss)
-    ∙ ap (λ z. int_wrap w64 z) (sym (more (v ∷ vs) (joined vss)))
+    ∙ ap (λ z. int_wrap w64 z) (sym (more (v ∷ vs) (all_values vss)))
 
 module _ (f : Value → Value → Value) (assoc : (a b c : Value) → f (f a b) c ≡ f a (f b c)) where
   fold-out : (a b : Value) (vs : List Value) → fold f (f a b) vs ≡ f a (fold f b vs)
@@ -47,20 +47,23 @@ module _ (f : Value → Value → Value) (assoc : (a b c : Value) → f (f a b) 
   -- the choice of all is the choice of what the parts leave
   choice_of_parts : (op : Combine)
       → ((v : Value) (vs : List Value) → combined op (v ∷ vs) ≡ fold f v vs)
-      → (a : Value) (vss : List (List Value)) → fold f a (partials op vss) ≡ fold f a (joined vss)
+      → (a : Value) (vss : List (List Value))
+      → fold f a (partials op vss) ≡ fold f a (all_values vss)
   choice_of_parts op is a [] = refl
   choice_of_parts op is a ([] ∷ vss) = choice_of_parts op is a vss
   choice_of_parts op is a ((v ∷ vs) ∷ vss) =
       search (arith, fold-out, fold-append, choice_of_parts op is (f a (combined op (v ∷ vs))) vss)
 
   pub chosen_of_parts : (op : Combine) → ((v : Value) (vs : List Value) → combined op (v ∷ vs) ≡
-      fold f v vs) → (vss : List (List Value)) → chosen f (partials op vss) ≡ chosen f (joined vss)
+      fold f v vs) → (vss : List (List Value))
+      → chosen f (partials op vss) ≡ chosen f (all_values vss)
   unfolding chosen
   chosen_of_parts op is [] = refl
   chosen_of_parts op is ([] ∷ vss) = chosen_of_parts op is vss
   chosen_of_parts op is ((v ∷ vs) ∷ vss) =
-      choice_of_parts op is (combined op (v ∷ vs)) vss ∙ ap (λ w. fold f w (joined vss)) (is v vs)
-      ∙ sym (fold-append f v vs (joined vss))
+      choice_of_parts op is (combined op (v ∷ vs)) vss
+      ∙ ap (λ w. fold f w (all_values vss)) (is v vs)
+      ∙ sym (fold-append f v vs (all_values vss))
 
   module _ (comm : (a b : Value) → f a b ≡ f b a) where
     record SameChoice (xs ys : List Value) : Type 0 where
@@ -138,7 +141,7 @@ greater-comm = search (arith, above_total, value_cmp-IsAntisymmetric)
 
 -- merged partial aggregates are the aggregate of all
 pub combined-merge : (op : Combine) (vss : List (List Value))
-    → combined (merge_of op) (partials op vss) ≡ combined op (joined vss)
+    → combined (merge_of op) (partials op vss) ≡ combined op (all_values vss)
 unfolding combined wrapped chosen
 combined-merge counted vss =
     wrapped-Same true _ _
@@ -149,7 +152,7 @@ combined-merge counts_added vss =
     (λ v vs. exact-wrapped true (exact_sum (v ∷ vs))) vss)
 combined-merge added vss =
     ap₂ wrapped (uint_sums vss) refl
-    ∙ wrapped-Same (list_all is_uint (joined vss)) _ _
+    ∙ wrapped-Same (list_all is_uint (all_values vss)) _ _
     (sum_of_parts added exact_sum refl exact_sum-append
     (λ v vs. exact-wrapped (list_all is_uint (v ∷ vs)) (exact_sum (v ∷ vs))) vss)
 combined-merge least vss = search (arith, chosen_of_parts, lesser-assoc)

@@ -10,7 +10,7 @@ pub use Rattle.query_model.specs.Flow.{flow, groups_tested, if_grouped, if_order
 pub use Rattle.query_model.specs.Formulas.{Formula, arith, column, formula, number}
 pub use Rattle.query_model.specs.Groups.{Call, Combine, added, call_of, call_type, combine_of, counted, counts_added, distinct_rows, exact_sum, greater, greatest, grouped_by, groups, groups_or_default, least, lesser, merge_of, merged_groups, rows_with, state_calls}
 pub use Rattle.query_model.specs.Kinds.{kind_of}
-pub use Rattle.query_model.specs.Need.{having_need, if_declared, if_filtered, if_joined, if_limited, if_unordered, list_sources_need, need, part_sources_need, sorts_need, table_need, tables_need}
+pub use Rattle.query_model.specs.Need.{having_need, if_declared, if_filtered, if_joined, if_limited, if_unordered, list_sources_need, query_boxes, part_sources_need, sorts_need, table_need, tables_need}
 pub use Rattle.query_model.specs.Numbers.{exact, is_uint}
 pub use Rattle.query_model.specs.Numerals.{and_then, with_digit}
 pub use Rattle.query_model.specs.Parts.{SpelledFront, bad_field, parts_rows, row_then}

@@ -60,17 +60,18 @@ if_limited (Some span) n = n
 
 -- How many boxes of the kind the plan of the query over the declared tables takes, with so many
 -- lanes. The sources that are kept for the paths of a list file count among them.
-abbrev pub need : Checked → List TableDecl → (lanes : ℕ) → Kind → ℕ
-need q tables lanes kind.Csv = tables_need part_sources_need 0 q tables
-need q tables lanes kind.List = tables_need list_sources_need 0 q tables
-need q tables lanes kind.Numbers = tables_need (λ decl. 0) 1 q tables
-need q tables lanes kind.Filter = if_filtered q.filter lanes + having_need q.shape 1
-need q tables lanes kind.Expression = lanes + if_grouped q.shape 1
-need q tables lanes kind.Resize = if_joined q.join 3 1 + if_plain q.shape (if_unordered q.order 1)
-need q tables lanes kind.PartialAggregate = if_grouped q.shape lanes
-need q tables lanes kind.MergeAggregate = if_grouped q.shape 1
-need q tables lanes kind.HashJoin = if_joined q.join 1 0
-need q tables lanes kind.Sort = if_ordered q.order (sorts_need q.shape lanes)
-need q tables lanes kind.MergeSorted = if_ordered q.order (if_plain q.shape 1)
-need q tables lanes kind.Limit = if_limited q.limit 1
-need q tables lanes kind.Collect = 1
+abbrev pub query_boxes : Checked → List TableDecl → (lanes : ℕ) → Kind → ℕ
+query_boxes q tables lanes kind.Csv = tables_need part_sources_need 0 q tables
+query_boxes q tables lanes kind.List = tables_need list_sources_need 0 q tables
+query_boxes q tables lanes kind.Numbers = tables_need (λ decl. 0) 1 q tables
+query_boxes q tables lanes kind.Filter = if_filtered q.filter lanes + having_need q.shape 1
+query_boxes q tables lanes kind.Expression = lanes + if_grouped q.shape 1
+query_boxes q tables lanes kind.Resize =
+    if_joined q.join 3 1 + if_plain q.shape (if_unordered q.order 1)
+query_boxes q tables lanes kind.PartialAggregate = if_grouped q.shape lanes
+query_boxes q tables lanes kind.MergeAggregate = if_grouped q.shape 1
+query_boxes q tables lanes kind.HashJoin = if_joined q.join 1 0
+query_boxes q tables lanes kind.Sort = if_ordered q.order (sorts_need q.shape lanes)
+query_boxes q tables lanes kind.MergeSorted = if_ordered q.order (if_plain q.shape 1)
+query_boxes q tables lanes kind.Limit = if_limited q.limit 1
+query_boxes q tables lanes kind.Collect = 1

@@ -39,28 +39,29 @@ fn place_where(
 /// The checked query of a query that no condition refuses.
 fn checked_query(
     alloc: Global,
-    query: Query,
+    query: &Query,
     tables: &[Schema],
     columns: &[FromColumn],
     left: &[FromColumn],
     right: &[FromColumn],
     names: List<Bytes>,
 ) -> Result<Checked, Memory>
-    requires analysable { IsAnalysable query }
-    requires columns { columns.now ≡ from_columns query tables.now }
-    requires left { left.now ≡ table_columns tables.now query.from }
-    requires right { right.now ≡ flat_map (table_columns tables.now) (join_tables query.join) }
-    requires names { names ≡ output_names query.items columns.now }
-    requires accepted { refusal_of query tables.now ≡ None }
-    ensures checked { IfOk result (IsChecked query tables.now) }
-    ensures typed { IfOk result (IsTypedQuery (from_types query tables.now)) }
+    requires analysable { IsAnalysable query.now }
+    requires columns { columns.now ≡ from_columns query.now tables.now }
+    requires left { left.now ≡ table_columns tables.now query.now.from }
+    requires right { right.now ≡ flat_map (table_columns tables.now) (join_tables query.now.join) }
+    requires names { names ≡ output_names query.now.items columns.now }
+    requires accepted { refusal_of query.now tables.now ≡ None }
+    ensures checked { IfOk result (IsChecked query.now tables.now) }
+    ensures typed { IfOk result (IsTypedQuery (from_types query.now tables.now)) }
 {
+    // What is dropped by cases is made last.
+    let types = types_of_items(alloc, &query.items, columns)?;
+    let order = place_order(alloc, query.order.as_slice(), names.as_slice())?;
     let from = table_use(&query.from, tables)?;
     let join = place_join(alloc, &query.join, tables, left, right)?;
     let filter = place_where(alloc, &query.filter, columns)?;
-    let shape = made_shape(alloc, &query, columns)?;
-    let types = types_of_items(alloc, &query.items, columns)?;
-    let order = place_order(alloc, query.order.as_slice(), names.as_slice())?;
+    let shape = made_shape(alloc, query, columns)?;
     Ok(Checked {
         from,
         join,
@@ -77,33 +78,25 @@ fn checked_query(
 /// the JOIN table `right`.
 fn analysed(
     alloc: Global,
-    query: Query,
+    query: &Query,
     tables: &[Schema],
     columns: &[FromColumn],
     left: &[FromColumn],
     right: &[FromColumn],
 ) -> Result<Checked, Refusal>
-    requires analysable { IsAnalysable query }
-    requires columns { columns.now ≡ from_columns query tables.now }
-    requires left { left.now ≡ table_columns tables.now query.from }
-    requires right { right.now ≡ flat_map (table_columns tables.now) (join_tables query.join) }
-    ensures checked { IfOk result (IsChecked query tables.now) }
-    ensures accepted { OnOk result (refusal_of query tables.now ≡ None) }
-    ensures typed { IfOk result (IsTypedQuery (from_types query tables.now)) }
-    ensures refused { IfErr result (IsDue query tables.now) }
+    requires analysable { IsAnalysable query.now }
+    requires columns { columns.now ≡ from_columns query.now tables.now }
+    requires left { left.now ≡ table_columns tables.now query.now.from }
+    requires right { right.now ≡ flat_map (table_columns tables.now) (join_tables query.now.join) }
+    ensures checked { IfOk result (IsChecked query.now tables.now) }
+    ensures accepted { OnOk result (refusal_of query.now tables.now ≡ None) }
+    ensures typed { IfOk result (IsTypedQuery (from_types query.now tables.now)) }
+    ensures refused { IfErr result (IsDue query.now tables.now) }
 {
     let Ok(names) = names_of(alloc, &query.items, columns) else {
         return Err(Refusal::Memory);
     };
-    match first_refusal(
-        alloc,
-        &query,
-        tables,
-        columns,
-        left,
-        right,
-        names.as_slice(),
-    ) {
+    match first_refusal(alloc, query, tables, columns, left, right, names.as_slice()) {
         Ok(None) => match checked_query(alloc, query, tables, columns, left, right, names) {
             Ok(checked) => Ok(checked),
             Err(_) => Err(Refusal::Memory),
@@ -113,14 +106,12 @@ fn analysed(
     }
 }
 
-/// The query with places in the place of names. Refusals come in the order of `Refusal`, and a name
-/// that one carries is the first in the text's order: items, ON, WHERE, GROUP BY, HAVING, ORDER BY.
-pub fn analyse(alloc: Global, query: Query, tables: &List<Schema>) -> Result<Checked, Refusal>
-    requires { IsAnalysable query }
-    ensures checked { IfOk result (IsChecked query tables.now) }
-    ensures accepted { OnOk result (refusal_of query tables.now ≡ None) }
-    ensures typed { IfOk result (IsTypedQuery (from_types query tables.now)) }
-    ensures refused { IfErr result (IsDue query tables.now) }
+fn analysed_over(alloc: Global, query: &Query, tables: &List<Schema>) -> Result<Checked, Refusal>
+    requires { IsAnalysable query.now }
+    ensures checked { IfOk result (IsChecked query.now tables.now) }
+    ensures accepted { OnOk result (refusal_of query.now tables.now ≡ None) }
+    ensures typed { IfOk result (IsTypedQuery (from_types query.now tables.now)) }
+    ensures refused { IfErr result (IsDue query.now tables.now) }
 {
     let schemas = tables.as_slice();
     let Ok(mut columns) = table_columns_of(alloc, &query.from, schemas) else {
@@ -134,4 +125,16 @@ pub fn analyse(alloc: Global, query: Query, tables: &List<Schema>) -> Result<Che
         }
         Err(_) => Err(Refusal::Memory),
     }
+}
+
+/// The query with places in the place of names. Refusals come in the order of `Refusal`, and a name
+/// that one carries is the first in the text's order: items, ON, WHERE, GROUP BY, HAVING, ORDER BY.
+pub fn analyse(alloc: Global, query: Query, tables: &List<Schema>) -> Result<Checked, Refusal>
+    requires { IsAnalysable query }
+    ensures checked { IfOk result (IsChecked query tables.now) }
+    ensures accepted { OnOk result (refusal_of query tables.now ≡ None) }
+    ensures typed { IfOk result (IsTypedQuery (from_types query tables.now)) }
+    ensures refused { IfErr result (IsDue query tables.now) }
+{
+    analysed_over(alloc, &query, tables)
 }

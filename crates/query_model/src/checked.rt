@@ -9,21 +9,21 @@ pub type Expr = ExprOf<u32>;
 pub type Cond = CondOf<u32>;
 
 /// A declared table by its place, from 0, or `numbers(N)`.
-#[derive(Clone, Copy, Debug, PartialEq, Eq)]
+#[derive(Clone, Copy, PartialEq, Eq)]
 pub enum TableUse {
     Declared(u32),
     Numbers(u64),
 }
 
 /// A pair of columns that must agree: a place in the FROM table and one in the JOIN table.
-#[derive(Clone, Copy, Debug, PartialEq, Eq)]
+#[derive(Clone, Copy, PartialEq, Eq)]
 pub struct KeyPair {
     pub left: u32,
     pub right: u32,
 }
 
 /// The table that is joined, and the pairs on which its rows must agree.
-#[derive(Debug, Drop)]
+#[derive(Drop)]
 pub struct CheckedJoin {
     pub table: TableUse,
     pub pairs: List<KeyPair>,
@@ -32,7 +32,7 @@ pub struct CheckedJoin {
 /// Groups: the places of the keys in From, and the calls of the items and then of HAVING. HAVING
 /// and `picks` have places in a row of the keys and then the calls. `lone` says that there is no
 /// GROUP BY.
-#[derive(Debug, Drop)]
+#[derive(Drop)]
 pub struct Grouping {
     pub keys: List<u32>,
     pub calls: List<AggCall<u32>>,
@@ -42,7 +42,7 @@ pub struct Grouping {
 }
 
 /// What SELECT makes of rows: the items' values, or groups.
-#[derive(Debug, Drop)]
+#[derive(Drop)]
 pub enum Shape {
     Plain(List<Expr>),
     Grouped(Grouping),
@@ -50,7 +50,7 @@ pub enum Shape {
 
 /// A query with places where the parsed one has names. `order` has places of items, and `names` and
 /// `types` are those of the items.
-#[derive(Debug, Drop)]
+#[derive(Drop)]
 pub struct Checked {
     pub from: TableUse,
     pub join: Option<CheckedJoin>,

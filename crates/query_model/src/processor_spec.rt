@@ -25,7 +25,7 @@ pub enum Kind {
 }
 
 /// A part of a table, or its list file.
-#[derive(Debug, Drop)]
+#[derive(Drop)]
 pub struct PartSpec {
     /// The place of the table among the declarations, from 0.
     pub table: u32,
@@ -40,14 +40,14 @@ pub struct PartSpec {
 }
 
 /// The state of an aggregate call, and the type of its column.
-#[derive(Clone, Copy, Debug, PartialEq, Eq)]
+#[derive(Clone, Copy, PartialEq, Eq)]
 pub struct StateCall {
     pub op: AggOp,
     pub kind: ColumnType,
 }
 
 /// Groups by the first columns, and a state for each call.
-#[derive(Debug, Drop)]
+#[derive(Drop)]
 pub struct GroupSpec {
     pub keys: List<ColumnType>,
     pub calls: List<StateCall>,
@@ -58,7 +58,7 @@ pub struct GroupSpec {
 }
 
 /// A join of two inputs of these types, on pairs of their columns.
-#[derive(Debug, Drop)]
+#[derive(Drop)]
 pub struct JoinSpec {
     pub pairs: List<KeyPair>,
     pub left: List<ColumnType>,
@@ -68,7 +68,7 @@ pub struct JoinSpec {
 }
 
 /// An order of rows of these types.
-#[derive(Debug, Drop)]
+#[derive(Drop)]
 pub struct SortSpec {
     pub keys: List<SortKey>,
     pub types: List<ColumnType>,
@@ -77,7 +77,7 @@ pub struct SortSpec {
 }
 
 /// What a processor is to do.
-#[derive(Debug, Drop)]
+#[derive(Drop)]
 pub enum Spec {
     Csv(PartSpec),
     List(PartSpec),

@@ -9,7 +9,7 @@ pub struct ColumnRef {
 }
 
 /// A plain number: its digits' value, and whether `-` stands in front. `-0` is 0.
-#[derive(Clone, Copy, Debug, PartialEq, Eq)]
+#[derive(Clone, Copy, PartialEq, Eq)]
 pub struct Number {
     pub negative: bool,
     pub size: u64,
@@ -44,7 +44,7 @@ pub enum AggOp {
 }
 
 /// An expression over columns: names in a parsed query, places in a checked one.
-#[derive(Debug, Drop)]
+#[derive(Drop)]
 pub enum ExprOf<C> {
     Column(C),
     Number(Number),
@@ -52,14 +52,14 @@ pub enum ExprOf<C> {
 }
 
 /// A call of an aggregate; `count` has no argument, each other has one.
-#[derive(Debug, Drop)]
+#[derive(Drop)]
 pub struct AggCall<C> {
     pub op: AggOp,
     pub arg: Option<ExprOf<C>>,
 }
 
 /// A side of a comparison. A call stands only in HAVING of a parsed query.
-#[derive(Debug, Drop)]
+#[derive(Drop)]
 pub enum Operand<C> {
     Plain(ExprOf<C>),
     Text(Bytes),
@@ -67,7 +67,7 @@ pub enum Operand<C> {
 }
 
 /// A condition on rows.
-#[derive(Debug, Drop)]
+#[derive(Drop)]
 pub enum CondOf<C> {
     Compare(CompareOp, Operand<C>, Operand<C>),
     And(Box<CondOf<C>>, Box<CondOf<C>>),
@@ -76,21 +76,21 @@ pub enum CondOf<C> {
 }
 
 /// What an item of SELECT is.
-#[derive(Debug, Drop)]
+#[derive(Drop)]
 pub enum ItemKind {
     Plain(ExprOf<ColumnRef>),
     Agg(AggCall<ColumnRef>),
 }
 
 /// An item of SELECT, with its name behind AS.
-#[derive(Debug, Drop)]
+#[derive(Drop)]
 pub struct Item {
     pub what: ItemKind,
     pub alias: Option<Bytes>,
 }
 
 /// All columns, or a list of items.
-#[derive(Debug, Drop)]
+#[derive(Drop)]
 pub enum Items {
     Star,
     Listed(List<Item>),
@@ -118,21 +118,21 @@ pub struct Join {
 }
 
 /// A key of ORDER BY: the name of an item, and whether DESC stands behind it.
-#[derive(Debug, Drop)]
+#[derive(Drop)]
 pub struct OrderKey {
     pub name: Bytes,
     pub descending: bool,
 }
 
 /// LIMIT and OFFSET; `skip` is 0 where there is no OFFSET.
-#[derive(Clone, Copy, Debug, PartialEq, Eq)]
+#[derive(Clone, Copy, PartialEq, Eq)]
 pub struct Span {
     pub count: u64,
     pub skip: u64,
 }
 
 /// A query as it is parsed. `keys` are those of GROUP BY, `filter` is the condition of WHERE.
-#[derive(Debug, Drop)]
+#[derive(Drop)]
 pub struct Query {
     pub items: Items,
     pub from: TableRef,
@@ -145,28 +145,28 @@ pub struct Query {
 }
 
 /// A declared column.
-#[derive(Debug, Drop)]
+#[derive(Drop)]
 pub struct ColumnDecl {
     pub name: Bytes,
     pub kind: ColumnType,
 }
 
 /// A table's name and columns.
-#[derive(Debug, Drop)]
+#[derive(Drop)]
 pub struct Schema {
     pub name: Bytes,
     pub columns: List<ColumnDecl>,
 }
 
 /// The paths of a table's parts, or the path of the file that lists them.
-#[derive(Debug, Drop)]
+#[derive(Drop)]
 pub enum PartsDecl {
     Paths(List<Bytes>),
     ListFile(Bytes),
 }
 
 /// A declared table.
-#[derive(Debug, Drop)]
+#[derive(Drop)]
 pub struct TableDecl {
     pub schema: Schema,
     pub parts: PartsDecl,

@@ -8,7 +8,7 @@ use std::alloc::Global;
 use std::marker::Model;
 
 /// A column of From: its table's name, its own name and its type.
-#[derive(Debug, Drop)]
+#[derive(Drop)]
 pub(crate) struct FromColumn {
     table: Bytes,
     own: Bytes,

@@ -12,7 +12,7 @@ use crate::query::{
 use chunk_data::ColumnType;
 
 /// What an expression is: a plain number, a value of a type, or neither, where types don't fit.
-#[derive(Clone, Copy, Debug, PartialEq, Eq)]
+#[derive(Clone, Copy, PartialEq, Eq)]
 pub(crate) enum ExprKind {
     Plain(Number),
     Typed(ColumnType),

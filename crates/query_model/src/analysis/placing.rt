@@ -15,7 +15,7 @@ use chunk_data::{List, Memory};
 use std::alloc::Global;
 
 /// Where names have their places: among the columns of From, or among the keys of a row of groups.
-#[derive(Clone, Copy, Debug, PartialEq, Eq)]
+#[derive(Clone, Copy, PartialEq, Eq)]
 pub(crate) enum Scope {
     Rows,
     Groups,

@@ -15,37 +15,37 @@ checked_join q schemas left right o j l r h = absurd h
 
 pub place_join-requires-clause-few : goal.place_join-requires-clause-few
 place_join-requires-clause-few c =
-    rw c.requires.left (narrow c.args.query c.args.tables.now c.requires.accepted).left
+    rw c.requires.left (narrow c.args.query.now c.args.tables.now c.requires.accepted).left
 
 pub place_join-requires-clause-few_right : goal.place_join-requires-clause-few_right
 place_join-requires-clause-few_right c =
-    rw c.requires.right (narrow c.args.query c.args.tables.now c.requires.accepted).right
+    rw c.requires.right (narrow c.args.query.now c.args.tables.now c.requires.accepted).right
 
 pub place_where-requires : goal.place_where-requires
 place_where-requires c =
-    rw c.requires.columns (narrow c.args.query c.args.tables.now c.requires.accepted).width
+    rw c.requires.columns (narrow c.args.query.now c.args.tables.now c.requires.accepted).width
 
 pub made_shape-requires-clause-few : goal.made_shape-requires-clause-few
 made_shape-requires-clause-few c =
-    rw c.requires.columns (narrow c.args.query c.args.tables.now c.requires.accepted).width
+    rw c.requires.columns (narrow c.args.query.now c.args.tables.now c.requires.accepted).width
 
 pub made_shape-requires-clause-few_keys : goal.made_shape-requires-clause-few_keys
 made_shape-requires-clause-few_keys c =
-    (narrow c.args.query c.args.tables.now c.requires.accepted).keys
+    (narrow c.args.query.now c.args.tables.now c.requires.accepted).keys
 
 pub made_shape-requires-clause-plain : goal.made_shape-requires-clause-plain
-made_shape-requires-clause-plain c = λ h. ungrouped_items c.args.query h
+made_shape-requires-clause-plain c = λ h. ungrouped_items c.args.query.now h
 
 pub made_shape-requires-clause-grouped : goal.made_shape-requires-clause-grouped
 made_shape-requires-clause-grouped c =
-    rw c.requires.columns (λ h. (are_keys c.args.query c.args.tables.now
-    (accepted c.args.query c.args.tables.now c.requires.accepted) h).items)
+    rw c.requires.columns (λ h. (are_keys c.args.query.now c.args.tables.now
+    (accepted c.args.query.now c.args.tables.now c.requires.accepted) h).items)
 
 pub returns-clause-checked : goal.returns-clause-checked
 returns-clause-checked c = record {
   from = c.in_ok-from.ensures;
-  join = checked_join c.args.query c.args.tables.now c.args.left.now c.args.right.now
-      c.args.query.join c.in_ok-join.join c.requires.left c.requires.right c.in_ok-join.ensures;
+  join = checked_join c.args.query.now c.args.tables.now c.args.left.now c.args.right.now
+      c.args.query.now.join c.in_ok-join.join c.requires.left c.requires.right c.in_ok-join.ensures;
   filter = rw c.requires.columns at c.in_ok-filter.ensures;
   shape = rw c.requires.columns at c.in_ok-shape.ensures;
   names = rw c.requires.columns at c.requires.names;
@@ -57,5 +57,5 @@ returns-clause-checked c = record {
 
 pub returns-clause-typed : goal.returns-clause-typed
 returns-clause-typed c =
-    checked_is_typed c.args.query c.args.tables.now _ c.requires.analysable c.requires.accepted
+    checked_is_typed c.args.query.now c.args.tables.now _ c.requires.analysable c.requires.accepted
     (returns-clause-checked c)
