@@ -9,7 +9,7 @@ use std::marker::Model;
 
 /// What a processor keeps from `load` on beside its state, but for the count of pulled rows, which
 /// outlives a load. It takes its room at once, so that `prepare` needs none.
-#[derive(Debug, Drop)]
+#[derive(Drop)]
 pub struct BoxNotes {
     viewed: bool,
     inputs: Vec<Flags>,

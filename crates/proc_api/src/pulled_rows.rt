@@ -5,7 +5,7 @@ use std::marker::Model;
 
 /// The count of the rows that a processor pulled, over all its loads. At its last value it stands
 /// still.
-#[derive(Debug, Drop)]
+#[derive(Drop)]
 pub struct PulledRows {
     total: u64,
     at_load: u64,

@@ -18,21 +18,21 @@ pub enum Status {
 }
 
 /// What a processor answers to `schedule`: `work` may be called, or `schedule` once more.
-#[derive(Clone, Copy, Debug, PartialEq, Eq)]
+#[derive(Clone, Copy, PartialEq, Eq)]
 pub enum Wake {
     Ready,
     Later,
 }
 
 /// The last answer of a processor.
-#[derive(Clone, Copy, Debug, PartialEq, Eq)]
+#[derive(Clone, Copy, PartialEq, Eq)]
 pub enum Answer {
     Prepared(Status),
     Scheduled(Wake),
 }
 
 /// Why a processor was not loaded.
-#[derive(Clone, Copy, Debug, PartialEq, Eq)]
+#[derive(Clone, Copy, PartialEq, Eq)]
 pub enum LoadRefusal {
     NotBlank,
     WrongKind,
