@@ -1,7 +1,7 @@
 use proc_api::Processor;
 
 /// Why a node was not added.
-#[derive(Clone, Copy, Debug, PartialEq, Eq)]
+#[derive(Clone, Copy, PartialEq, Eq)]
 pub enum AddCause {
     /// 256 nodes are there.
     TooManyNodes,
@@ -30,7 +30,7 @@ pub enum BuildRefusal {
 }
 
 /// Why nothing was reserved.
-#[derive(Clone, Copy, Debug, PartialEq, Eq)]
+#[derive(Clone, Copy, PartialEq, Eq)]
 pub enum ReserveCause {
     /// There would be more than 256 nodes.
     TooManyNodes,

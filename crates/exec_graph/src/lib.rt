@@ -5,8 +5,6 @@ mod causes;
 mod edges;
 mod graph;
 mod reserves;
-#[cfg(test)]
-mod tests;
 
 pub use causes::{
     AddCause, BuildCause, BuildRefusal, NotAdded, NotBuilt, NotReserved, ReserveCause,
