@@ -1,5 +1,5 @@
 -- A box works, or fetches.
-use Rattle.exec_laws.proofs.Words.{arith, ActsCell, BoxPicture, CellPicture, Edge, IsBorn, KeepsBox, List, NodeHolds, Running, StaysBox, StaysOrActs, Wire, follows-same, inl, inr, refl, rules, wire_at, ℕ, ◌<◌, ◌≡◌}
+use Rattle.exec_laws.proofs.Words.{arith, ActsCell, BoxPicture, CellPicture, EdgeState, IsBorn, KeepsBox, List, NodeHolds, Running, StaysBox, StaysOrActs, Wire, follows-same, inl, inr, refl, rules, wire_at, ℕ, ◌<◌, ◌≡◌}
 use Rattle.exec_laws.proofs.Nodes.{busy-born, not-blank}
 use Rattle.exec_laws.proofs.Sides.{same-at, stays-end}
 
@@ -23,7 +23,7 @@ keeps-born p q b s g = search (rules, not-blank)
 
 -- ---- the nodes and their edges
 
-module _ {count : ℕ} {wires : List Wire} {cells : ℕ → CellPicture} {edges : ℕ → Edge}
+module _ {count : ℕ} {wires : List Wire} {cells : ℕ → CellPicture} {edges : ℕ → EdgeState}
     (r : Running count wires cells edges) where
   acted-node : (n : ℕ) → n < count → (d : CellPicture) → ActsCell (cells n) d
       → NodeHolds wires n d (r.pulled n) (r.pushed n)

@@ -1,5 +1,5 @@
 -- An action of a node is carried out on its edge, and the node at the other end is told.
-use Rattle.exec_laws.proofs.Words.{Action, BoxPicture, CellPicture, Edge, Input, IsEnd, IsSound, List, Lists, MarkHolds, NodeHolds, NodeState, None, Option, Output, Picture, Port, QuietBut, Running, Status, Touches, Wire, action_port, after_action, ap, append_assoc, arith, chunks_of, eq-eqb, false, follows-taken, in_count, in_count-with_actions, input_at, is_told, out_count, out_count-with_actions, output_at, peer, refl, rules, sym, told_if, true, wire_at, with_actions, ℕ, ◌&&◌, ◌++◌, ◌==◌, ◌∙◌, ◌∷◌, ◌≡◌, ◌≢◌}
+use Rattle.exec_laws.proofs.Words.{Action, BoxPicture, CellPicture, EdgeState, Input, IsEnd, IsSound, List, Lists, MarkHolds, NodeHolds, NodeState, None, Option, Output, Picture, Port, QuietBut, Running, Status, Touches, Wire, action_port, after_action, ap, append_assoc, arith, chunks_of, eq-eqb, false, follows-taken, in_count, in_count-with_actions, input_at, is_told, out_count, out_count-with_actions, output_at, peer, refl, rules, sym, told_if, true, wire_at, with_actions, ℕ, ◌&&◌, ◌++◌, ◌==◌, ◌∙◌, ◌∷◌, ◌≡◌, ◌≢◌}
 use Rattle.exec_laws.proofs.Nodes.{apart, other-end, touched-on}
 use Rattle.exec_laws.proofs.Ports.{port_allows, push-away, push-here}
 use Rattle.exec_laws.proofs.Sides.{Passes, QuietEnd, acts-here, acts-there, end-quiet, quiet-end}
@@ -14,18 +14,18 @@ mark-taken s last m n p v xs h1 = search rules
 -- ---- the action
 
 -- the other end of an edge where one end carried it out
-peer-acts : (a : Action) (q : Port) (w : Wire) (n m : ℕ) (c : CellPicture) (e : Edge) → m ≢ n
+peer-acts : (a : Action) (q : Port) (w : Wire) (n m : ℕ) (c : CellPicture) (e : EdgeState) → m ≢ n
     → IsEnd w n (action_port a) → IsEnd w m q → port_allows (action_port a) a e.flags ≡ true
     → QuietEnd q c e → QuietEnd q (told_if (is_told a && true) c) (after_action a e)
 peer-acts a q w n m c e h1 h2 h3 h4 h5 = search rules
 
 -- an action at an input leaves the edge's chunk
-chunk-kept : (a : Action) (i : ℕ) (e : Edge) → Input i ≡ action_port a
+chunk-kept : (a : Action) (i : ℕ) (e : EdgeState) → Input i ≡ action_port a
     → (after_action a e).chunk ≡ e.chunk
 chunk-kept a i e h1 = grind arith
 
 -- what passed at the action's port adds up, where the edge is empty if it has no data
-acts-passes : (p : Port) (a : Action) (rest : List Action) (c : CellPicture) (e : Edge)
+acts-passes : (p : Port) (a : Action) (rest : List Action) (c : CellPicture) (e : EdgeState)
     (ins outs : Lists) → p ≡ action_port a → c.view.actions ≡ a ∷ rest
     → ((o : ℕ) → p ≡ Output o → e.flags.has_data ≡ false → e.chunk ≡ None)
     → port_allows (action_port a) a e.flags ≡ true
@@ -39,7 +39,7 @@ acts-passes (Output o) a rest c e ins outs at acts empty may = λ l pushed.
     rw (acts, append_assoc l, same, ← append_assoc l) at pushed
 
 -- and at another port
-acts-away : (p : Port) (a : Action) (rest : List Action) (c : CellPicture) (e : Edge)
+acts-away : (p : Port) (a : Action) (rest : List Action) (c : CellPicture) (e : EdgeState)
     (ins outs : Lists) → p ≢ action_port a → c.view.actions ≡ a ∷ rest
     → Passes p c (record c { view = with_actions c.view rest }) e e ins outs ins outs
 unfolding with_actions input_at
@@ -47,17 +47,17 @@ acts-away (Input i) a rest c e ins outs ne acts = refl
 acts-away (Output o) a rest c e ins outs ne acts = λ l pushed.
     rw (acts, push-away o a rest ne) at pushed
 
-module _ {count : ℕ} {wires : List Wire} {cells : ℕ → CellPicture} {edges : ℕ → Edge}
+module _ {count : ℕ} {wires : List Wire} {cells : ℕ → CellPicture} {edges : ℕ → EdgeState}
     (r : Running count wires cells edges) (n : ℕ) (quiet : QuietBut n cells)
     (old : NodeHolds wires n (cells n) (r.pulled n) (r.pushed n))
     (a : Action) (rest : List Action) (acts : (cells n).view.actions ≡ a ∷ rest)
-    (after : ℕ → CellPicture) (moved : ℕ → Edge)
+    (after : ℕ → CellPicture) (moved : ℕ → EdgeState)
     (t : Touches wires n (action_port a) (after_action a) edges moved)
     (own : after n ≡ record (cells n) { view = with_actions (cells n).view rest })
     (sound : IsSound (after n).view)
     (others : (m : ℕ) → m ≢ n → after m
     ≡ told_if (is_told a && (m == peer (wire_at wires t.edge) (action_port a))) (cells m)) where
-  abbrev e : Edge
+  abbrev e : EdgeState
   e = edges t.edge
 
   abbrev w : Wire

@@ -1,6 +1,6 @@
 -- Where nothing is due: either each born node is over, or some resting node's view contradicts its
 -- last status.
-use Rattle.exec_laws.proofs.Words.{CellPicture, ContradictsStatus, Edge, HasEdge, Input, IsBorn, IsNothingDue, IsOver, IsStuck, IsTrue, List, MarkTells, Output, Running, StuckNode, SupportsStatus, Wire, [], append-nil, append_assoc, box_at, boxes_of, cell_at, input_count, length, length-map, no_cell, output_count, pushes_to, refl, rules, stuck_from, wire_at, ℕ, ◌<◌, ◌≡◌}
+use Rattle.exec_laws.proofs.Words.{CellPicture, ContradictsStatus, EdgeState, HasEdge, Input, IsBorn, IsNothingDue, IsOver, IsStuck, IsTrue, List, MarkTells, Output, Running, StuckNode, SupportsStatus, Wire, [], append-nil, append_assoc, box_at, boxes_of, cell_at, input_count, length, length-map, no_cell, output_count, pushes_to, refl, rules, stuck_from, wire_at, ℕ, ◌<◌, ◌≡◌}
 use Rattle.exec_laws.proofs.Settled.{all-over, end-here, end-node, end-shown, node-there, over-holds}
 use Rattle.exec_laws.specs.Ends.{IsDone}
 use Rattle.std.proofs.Math.ListN.{get_or-map}
@@ -10,7 +10,7 @@ pub box-of : (cells : List CellPicture) (n : ℕ) → box_at (boxes_of cells) n 
 unfolding box_at
 box-of cells n = get_or-map (λ (c : CellPicture). c.box) cells n no_cell
 
-module _ (wires : List Wire) (cells : List CellPicture) (edges : ℕ → Edge)
+module _ (wires : List Wire) (cells : List CellPicture) (edges : ℕ → EdgeState)
     (r : Running (length cells) wires (cell_at cells) edges)
     (quiet : (m : ℕ) → (cell_at cells m).view.actions ≡ []) (due : IsNothingDue cells) where
   boxes-len : length (boxes_of cells) ≡ length cells

@@ -1,6 +1,6 @@
 -- A graph that has grown is running on: new nodes as before their first move, new wires over which
 -- nothing passed, and a node with new ports.
-use Rattle.exec_laws.proofs.Words.{ArePortsOf, AsksToGrow, Bool, BoxPicture, CellPicture, Edge, EndHolds, Files, FollowsKept, GrewCell, GrowthForm, HasEdge, HoldsGraph, Input, InputPort, IsBorn, IsFresh, IsListGrowth, IsNewNode, IsPort, IsTrue, List, Lists, MayGrow, Me, New, NewEdge, NodeHolds, None, Option, Output, PartSpec, Picture, Port, Running, Some, Spec, Who, Wire, [], after_grow, ap, arith, both_ways, cases_Bool, cases_eq, cases_lt, chunks_of, cond, count_by, end_node, eq-eqb, false, false_from_ne_true, follows-same, get_or, get_or-append_right, get_or-eq_default, get_or-replicate, get_or_append_left, grown_inputs, has_wrong_end, in_count, inl, input-of-count, input_at, input_count, inr, is_me, is_named, kept_input, kept_inputs, kept_output, kept_outputs, length, length-append, length-replicate, list_any, listed_edges, ltb-true, ne_eqb, new_edge, new_input, new_wire, new_wires, no_flags, no_input, no_lists, no_wire, not, or_parts, out_count, output-of-count, output_at, output_count, over_flags, pushes_to, refl, rules, sound-grow, subst, suc, sum_by-cons, sym, true, wire_at, ℕ, ◌++◌, ◌+◌, ◌-◌, ◌<◌, ◌==◌, ◌∙◌, ◌∷◌, ◌≡◌, ◌≢◌, ◌≤◌, ◌⊎◌}
+use Rattle.exec_laws.proofs.Words.{ArePortsOf, AsksToGrow, Bool, BoxPicture, CellPicture, EdgeState, EndHolds, Files, FollowsKept, GrewCell, GrowthForm, HasEdge, HoldsGraph, Input, InputPort, IsBorn, IsFresh, IsListGrowth, IsNewNode, IsPort, IsTrue, List, Lists, MayGrow, Me, New, NewEdge, NodeHolds, None, Option, Output, PartSpec, Picture, Port, Running, Some, Spec, Who, Wire, [], after_grow, ap, arith, both_ways, cases_Bool, cases_eq, cases_lt, chunks_of, cond, count_by, end_node, eq-eqb, false, false_from_ne_true, follows-same, get_or, get_or-append_right, get_or-eq_default, get_or-replicate, get_or_append_left, grown_inputs, has_wrong_end, in_count, inl, input-of-count, input_at, input_count, inr, is_me, is_named, kept_input, kept_inputs, kept_output, kept_outputs, length, length-append, length-replicate, list_any, listed_edges, ltb-true, ne_eqb, new_edge, new_input, new_wire, new_wires, no_flags, no_input, no_lists, no_wire, not, or_parts, out_count, output-of-count, output_at, output_count, over_flags, pushes_to, refl, rules, sound-grow, subst, suc, sum_by-cons, sym, true, wire_at, ℕ, ◌++◌, ◌+◌, ◌-◌, ◌<◌, ◌==◌, ◌∙◌, ◌∷◌, ◌≡◌, ◌≢◌, ◌≤◌, ◌⊎◌}
 use Rattle.exec_laws.proofs.GrownGraphs.{not-false}
 use Rattle.exec_laws.proofs.Nodes.{busy-born, not-blank}
 use Rattle.exec_laws.proofs.Seeing.{port-below}
@@ -161,7 +161,7 @@ ports-before s files g i o h k = grind (arith, grew-list, no-outputs)
 
 -- ---- the graph runs on
 
-module _ {count : ℕ} {wires : List Wire} {cells : ℕ → CellPicture} {edges : ℕ → Edge}
+module _ {count : ℕ} {wires : List Wire} {cells : ℕ → CellPicture} {edges : ℕ → EdgeState}
     (r : Running count wires cells edges) (quiet : (m : ℕ) → (cells m).view.actions ≡ [])
     (n : ℕ) (lt : n < count) (due : (cells n).mark.state ≡ node.AtWork call.Expand)
     (more : List Wire) (g : HoldsGraph count (wires ++ more)) (is_new : ℕ → Bool)
@@ -174,7 +174,7 @@ module _ {count : ℕ} {wires : List Wire} {cells : ℕ → CellPicture} {edges 
     (ins_are : input_count (wires ++ more) n ≡ input_count wires n + grown_inputs (Some growth))
     (outs_are : output_count (wires ++ more) n
     ≡ output_count wires n + count_by (λ (e : NewEdge). is_me e.from.who) growth.edges)
-    (after : ℕ → CellPicture) (moved : ℕ → Edge)
+    (after : ℕ → CellPicture) (moved : ℕ → EdgeState)
     (own : GrewCell growth (wires ++ more) n (cells n) (after n))
     (newborn : (m : ℕ) → is_new m ≡ true
     → IsFresh (after m).box × IsNewNode (wires ++ more) m (after m))

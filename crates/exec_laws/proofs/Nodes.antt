@@ -1,5 +1,5 @@
 -- Where one node moved, and others were at most told, the graph is running on.
-use Rattle.exec_laws.proofs.Words.{Bool, CellPicture, Edge, EndHolds, HasEdge, HoldsGraph, Input, IsBorn, IsEnd, IsSome, List, Lists, NodeHolds, None, Option, Output, Port, Running, Touches, Wire, ap, arith, cases_eq, chunks_of, cond, eq-eqb, inl, input_at, inr, length, ne_eqb, peer, refl, rules, subst, sym, told_if, wire_at, ℕ, ◌++◌, ◌<◌, ◌==◌, ◌∙◌, ◌≡◌, ◌≢◌}
+use Rattle.exec_laws.proofs.Words.{Bool, CellPicture, EdgeState, EndHolds, HasEdge, HoldsGraph, Input, IsBorn, IsEnd, IsSome, List, Lists, NodeHolds, None, Option, Output, Port, Running, Touches, Wire, ap, arith, cases_eq, chunks_of, cond, eq-eqb, inl, input_at, inr, length, ne_eqb, peer, refl, rules, subst, sym, told_if, wire_at, ℕ, ◌++◌, ◌<◌, ◌==◌, ◌∙◌, ◌≡◌, ◌≢◌}
 use Rattle.exec_laws.proofs.Sides.{Moves, end-told}
 use Rattle.exec_laws.specs.declared.edges.NodeState.TheVariants as node
 
@@ -20,7 +20,7 @@ pub not-blank : {A : Type 0} (s : Option A) → IsSome s → s ≡ None → ⊥
 not-blank s h1 h2 = grind arith
 
 -- a node that isn't unborn is born
-pub busy-born : (count : ℕ) (wires : List Wire) (cells : ℕ → CellPicture) (edges : ℕ → Edge)
+pub busy-born : (count : ℕ) (wires : List Wire) (cells : ℕ → CellPicture) (edges : ℕ → EdgeState)
     → Running count wires cells edges → (n : ℕ) → n < count → (cells n).mark.state ≢ node.Unborn
     → IsBorn (cells n).box
 busy-born count wires cells edges h1 n h2 h3 = search rules
@@ -42,8 +42,8 @@ lists-here n new old = ap (λ b. cond b new (old n)) (eq-eqb n n refl)
 lists-there : (n m : ℕ) (new : Lists) (old : ℕ → Lists) → m ≢ n → with_lists n new old m ≡ old m
 lists-there n m new old ne = ap (λ b. cond b new (old m)) (ne_eqb m n ne)
 
-module _ {count : ℕ} {wires : List Wire} {cells : ℕ → CellPicture} {edges : ℕ → Edge}
-    (r : Running count wires cells edges) (n : ℕ) (after : ℕ → CellPicture) (moved : ℕ → Edge)
+module _ {count : ℕ} {wires : List Wire} {cells : ℕ → CellPicture} {edges : ℕ → EdgeState}
+    (r : Running count wires cells edges) (n : ℕ) (after : ℕ → CellPicture) (moved : ℕ → EdgeState)
     (rung : ℕ → Bool) (others : (m : ℕ) → m ≢ n → after m ≡ told_if (rung m) (cells m)) where
   -- It is running on where node n and its ends of edges moved on, the other ends hold, of nodes
   -- told or not, and edges elsewhere are as they were.
@@ -111,7 +111,7 @@ module _ {count : ℕ} {wires : List Wire} {cells : ℕ → CellPicture} {edges 
 
   -- It is running on where the edge at a port of node n moved on: what holds at its two ends, and
   -- at the node's other ports, is given.
-  module _ (p : Port) (how : Edge → Edge) (t : Touches wires n p how edges moved) where
+  module _ (p : Port) (how : EdgeState → EdgeState) (t : Touches wires n p how edges moved) where
     pub touched-on : NodeHolds wires n (after n) (r.pulled n) (r.pushed n)
         → Moves p (cells n) (after n) (edges t.edge) (how (edges t.edge))
         (r.pulled n) (r.pushed n) (r.pulled n) (r.pushed n)

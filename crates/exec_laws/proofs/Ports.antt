@@ -1,5 +1,5 @@
 -- What actions leave at one port.
-use Rattle.exec_laws.proofs.Words.{Action, Bool, ChangedByCalls, EachAction, Edge, Flags, Input, InputAllows, InputPort, IsDone, List, None, Option, Output, OutputAllows, Picture, Port, PortCall, Table, [], action_port, after_action, after_call, after_calls, ap, arith, chunk_after, chunk_step, chunks_of, eqb-true, false, holds_data, in_count, in_count-with_actions, in_count-with_input, in_count-with_output, input_after, input_allows, input_step, is_some, out_count, out_count-with_actions, out_count-with_input, out_count-with_output, output_allows, output_step, pushes_to, refl, rules, taken_out, true, with_actions, with_input, with_output, ℕ, ◌++◌, ◌||◌, ◌∙◌, ◌∷◌, ◌≡◌, ◌≤◌, ◌⊎◌}
+use Rattle.exec_laws.proofs.Words.{Action, Bool, ChangedByCalls, EachAction, EdgeState, Flags, Input, InputAllows, InputPort, IsDone, List, None, Option, Output, OutputAllows, Picture, Port, PortCall, Table, [], action_port, after_action, after_call, after_calls, ap, arith, chunk_after, chunk_step, chunks_of, eqb-true, false, holds_data, in_count, in_count-with_actions, in_count-with_input, in_count-with_output, input_after, input_allows, input_step, is_some, out_count, out_count-with_actions, out_count-with_input, out_count-with_output, output_allows, output_step, pushes_to, refl, rules, taken_out, true, with_actions, with_input, with_output, ℕ, ◌++◌, ◌||◌, ◌∙◌, ◌∷◌, ◌≡◌, ◌≤◌, ◌⊎◌}
 
 -- ---- an input and its chunk, while its node acts
 
@@ -76,7 +76,7 @@ unfolding pushes_to
 push-away o a xs h1 = grind arith
 
 -- what is pushed here lies in the edge, which was empty
-pub push-here : (a : Action) (xs : List Action) (o : ℕ) (e : Edge) → Output o ≡ action_port a
+pub push-here : (a : Action) (xs : List Action) (o : ℕ) (e : EdgeState) → Output o ≡ action_port a
     → (e.flags.has_data ≡ false → e.chunk ≡ None) → port_allows (action_port a) a e.flags ≡ true
     → chunks_of e.chunk ++ pushes_to o (a ∷ xs)
     ≡ chunks_of (after_action a e).chunk ++ pushes_to o xs

@@ -1,5 +1,5 @@
 -- A due node sees one of its ports.
-use Rattle.exec_laws.proofs.Words.{CellPicture, Edge, Flags, HasEdge, HasPort, HoldsGraph, Input, IsPort, IsSound, List, Lists, MaySee, NodeHolds, Option, Output, Picture, Port, Running, Table, Touches, ViewHolds, Wire, [], actions-with_input, actions-with_output, after_see, ap, append_assoc, cases_eq, chunks_of, false, follows-seen-input, follows-seen-output, in_count, in_count-with_input, in_count-with_output, inl, input-below-count, input_at, input_at-with_input, input_at-with_input-other, input_at-with_output, input_count, inr, lifted, out_count, out_count-with_input, out_count-with_output, output-below-count, output_at-with_input, output_at-with_output, output_at-with_output-other, output_count, port_flags, rules, sym, unloaded, ℕ, ◌++◌, ◌<◌, ◌∙◌, ◌≡◌, ◌≢◌, ◌⊎◌}
+use Rattle.exec_laws.proofs.Words.{CellPicture, EdgeState, Flags, HasEdge, HasPort, HoldsGraph, Input, IsPort, IsSound, List, Lists, MaySee, NodeHolds, Option, Output, Picture, Port, Running, Table, Touches, ViewHolds, Wire, [], actions-with_input, actions-with_output, after_see, ap, append_assoc, cases_eq, chunks_of, false, follows-seen-input, follows-seen-output, in_count, in_count-with_input, in_count-with_output, inl, input-below-count, input_at, input_at-with_input, input_at-with_input-other, input_at-with_output, input_count, inr, lifted, out_count, out_count-with_input, out_count-with_output, output-below-count, output_at-with_input, output_at-with_output, output_at-with_output-other, output_count, port_flags, rules, sym, unloaded, ℕ, ◌++◌, ◌<◌, ◌∙◌, ◌≡◌, ◌≢◌, ◌⊎◌}
 use Rattle.exec_laws.proofs.Nodes.{busy-born, touched-on}
 use Rattle.exec_laws.proofs.Sides.{Passes, QuietEnd, SameAt, end-quiet, output-known, quiet-end, stays-end}
 use Rattle.exec_laws.specs.declared.edges.NodeState.TheVariants as node
@@ -38,11 +38,11 @@ pub see-elsewhere : (p q : Port) (v : Picture) (f : Flags) (x : Option Table) �
 see-elsewhere p q v f x h1 = search (rules, other_ports)
 
 -- the view shows the edge's flags at the port, and what it showed at others
-pub see-knows : (p : Port) (v : Picture) (e : Edge) → HasPort v p
+pub see-knows : (p : Port) (v : Picture) (e : EdgeState) → HasPort v p
     → port_flags (after_see v p e.flags (lifted p e)) p ≡ e.flags
 see-knows p v e h1 = search (rules, input_at-with_input, output_at-with_output)
 
-pub see-keeps : (p q : Port) (v : Picture) (e : Edge) (f : Flags) → HasPort v p
+pub see-keeps : (p q : Port) (v : Picture) (e : EdgeState) (f : Flags) → HasPort v p
     → (q ≡ p → e.flags ≡ f) → port_flags v q ≡ f
     → port_flags (after_see v p e.flags (lifted p e)) q ≡ f
 see-keeps p q v e f ours same h = elim (port-cases q p) [
@@ -61,19 +61,19 @@ see-keeps p q v e f ours same h = elim (port-cases q p) [
     shown : (x : Port) (u w : Picture) → SameAt x u w → port_flags u x ≡ port_flags w x
     shown x u w k = search rules
 
-own-sees : (p : Port) (c : CellPicture) (e : Edge) → HasPort c.view p → QuietEnd p c e
+own-sees : (p : Port) (c : CellPicture) (e : EdgeState) → HasPort c.view p → QuietEnd p c e
     → QuietEnd p (record c { view = after_see c.view p e.flags (lifted p e) }) (unloaded p e)
 own-sees p c e h1 h2 = search (rules, input_at-with_input, output-known, output_at-with_output)
 
 -- the chunks that lie at a port, in the view and in the edge, are the same ones
-own-lying : (i : ℕ) (c : CellPicture) (e : Edge) → i < in_count c.view → QuietEnd (Input i) c e
+own-lying : (i : ℕ) (c : CellPicture) (e : EdgeState) → i < in_count c.view → QuietEnd (Input i) c e
     → chunks_of (input_at c.view i).chunk ++ chunks_of e.chunk
     ≡ chunks_of (input_at (after_see c.view (Input i) e.flags (lifted (Input i) e)) i).chunk
     ++ chunks_of (unloaded (Input i) e).chunk
 own-lying i c e h1 h2 = search (rules, input_at-with_input)
 
 -- and what passed there adds up
-seen-passes : (p : Port) (c : CellPicture) (e : Edge) (ins outs : Lists) → HasPort c.view p
+seen-passes : (p : Port) (c : CellPicture) (e : EdgeState) (ins outs : Lists) → HasPort c.view p
     → QuietEnd p c e
     → Passes p c (record c { view = after_see c.view p e.flags (lifted p e) }) e (unloaded p e)
     ins outs ins outs
@@ -83,7 +83,7 @@ seen-passes (Input i) c e ins outs h k =
 seen-passes (Output o) c e ins outs h k = λ l pushed.
     rw (actions-with_output c.view o e.flags) pushed
 
-module _ {count : ℕ} {wires : List Wire} {cells : ℕ → CellPicture} {edges : ℕ → Edge}
+module _ {count : ℕ} {wires : List Wire} {cells : ℕ → CellPicture} {edges : ℕ → EdgeState}
     (r : Running count wires cells edges) (quiet : (m : ℕ) → (cells m).view.actions ≡ [])
     (n : ℕ) (lt : n < count) (due : (cells n).mark.state ≡ node.Due) where
   own-node : NodeHolds wires n (cells n) (r.pulled n) (r.pushed n)
@@ -100,7 +100,7 @@ module _ {count : ℕ} {wires : List Wire} {cells : ℕ → CellPicture} {edges 
     pub may-see : MaySee (cells n).view p (edges e).flags (lifted p (edges e))
     may-see = search (rules, ours, own-end, quiet n)
 
-  module _ (p : Port) (after : ℕ → CellPicture) (moved : ℕ → Edge)
+  module _ (p : Port) (after : ℕ → CellPicture) (moved : ℕ → EdgeState)
       (t : Touches wires n p (unloaded p) edges moved)
       (own : after n ≡ record (cells n) {
         view = after_see (cells n).view p (edges t.edge).flags (lifted p (edges t.edge));
@@ -110,7 +110,7 @@ module _ {count : ℕ} {wires : List Wire} {cells : ℕ → CellPicture} {edges 
     pub seen : Running count wires after moved
     seen =
         let v : Picture = (cells n).view in
-        let e : Edge = edges t.edge in
+        let e : EdgeState = edges t.edge in
         let counts = see-counts p v e.flags (lifted p e) in
         let actions = see-actions p v e.flags (lifted p e) in
         let there = ours p t.edge t.is_there in

@@ -1,5 +1,5 @@
 -- Where nothing is due, and each node at rest rests as its view supports, every node is over.
-use Rattle.exec_laws.proofs.Words.{Bool, CellPicture, Edge, HasEdge, HasPort, Input, IsBorn, IsOver, List, NodeHolds, NodeState, Option, Output, Picture, Port, Rests, Running, Status, WaitsForData, WaitsForRoom, Wire, [], arith, false, false_from_ne_true, get_or-le-sum_by, input_count, is_out_finished, is_resting, is_waiting, number_at, output_count, rank_at, refl, rules, suc, sum_by, true, wire_at, zero, ℕ, ◌+◌, ◌<◌, ◌≡◌, ◌≤◌}
+use Rattle.exec_laws.proofs.Words.{Bool, CellPicture, EdgeState, HasEdge, HasPort, Input, IsBorn, IsOver, List, NodeHolds, NodeState, Option, Output, Picture, Port, Rests, Running, Status, WaitsForData, WaitsForRoom, Wire, [], arith, false, false_from_ne_true, get_or-le-sum_by, input_count, is_out_finished, is_resting, is_waiting, number_at, output_count, rank_at, refl, rules, suc, sum_by, true, wire_at, zero, ℕ, ◌+◌, ◌<◌, ◌≡◌, ◌≤◌}
 use Rattle.exec_laws.proofs.Nodes.{busy-born}
 use Rattle.exec_laws.proofs.Seeing.{port-below, port-shown}
 use Rattle.exec_laws.proofs.Sides.{QuietEnd, end-quiet}
@@ -16,7 +16,7 @@ rests-case : (last : Option Status) (view : Picture) → Rests last view → (Wa
     → (WaitsForRoom view → ⊥) → ⊥
 rests-case last view h1 h2 h3 = search rules
 
-module _ {count : ℕ} {wires : List Wire} {cells : ℕ → CellPicture} {edges : ℕ → Edge}
+module _ {count : ℕ} {wires : List Wire} {cells : ℕ → CellPicture} {edges : ℕ → EdgeState}
     (r : Running count wires cells edges) (quiet : (m : ℕ) → (cells m).view.actions ≡ [])
     (due : (n : ℕ) → n < count → is_waiting (cells n).mark.state ≡ false) where
   abbrev is_open : ℕ → Bool

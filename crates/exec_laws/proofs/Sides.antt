@@ -1,5 +1,5 @@
 -- One end of an edge, as its node's view shows it, when an end sees the edge or acts on it.
-use Rattle.exec_laws.proofs.Words.{Action, Bool, CellPicture, Edge, EndHolds, Flags, Input, InputFollows, InputHolds, List, Lists, NodeMark, NodeState, Output, OutputHolds, Picture, Port, Table, [], action_port, after_action, arith, chunks_of, cond, input_at, output_at, pushes_to, refl, rules, told, told_if, with_actions, ◌++◌, ◌∷◌, ◌≡◌, ◌≢◌}
+use Rattle.exec_laws.proofs.Words.{Action, Bool, CellPicture, EdgeState, EndHolds, Flags, Input, InputFollows, InputHolds, List, Lists, NodeMark, NodeState, Output, OutputHolds, Picture, Port, Table, [], action_port, after_action, arith, chunks_of, cond, input_at, output_at, pushes_to, refl, rules, told, told_if, with_actions, ◌++◌, ◌∷◌, ◌≡◌, ◌≢◌}
 use Rattle.exec_laws.proofs.Ports.{step-away}
 use Rattle.exec_laws.specs.declared.edges.NodeState.TheVariants as node
 
@@ -15,23 +15,23 @@ output-known s f g h1 = search rules
 -- ---- an end without actions
 
 -- an end of an edge, where none of its node's actions waits
-abbrev pub QuietEnd : Port → CellPicture → Edge → Type 0
+abbrev pub QuietEnd : Port → CellPicture → EdgeState → Type 0
 QuietEnd (Input i) c e = InputHolds c.mark.state (input_at c.view i) e.flags e.chunk
 QuietEnd (Output o) c e = OutputHolds c.mark.state (output_at c.view o) e.flags
 
-pub end-quiet : (p : Port) (c : CellPicture) (e : Edge) → c.view.actions ≡ [] → EndHolds p c e
+pub end-quiet : (p : Port) (c : CellPicture) (e : EdgeState) → c.view.actions ≡ [] → EndHolds p c e
     → QuietEnd p c e
 end-quiet p c e h1 h2 = search rules
 
-pub quiet-end : (p : Port) (c : CellPicture) (e : Edge) → c.view.actions ≡ [] → QuietEnd p c e
+pub quiet-end : (p : Port) (c : CellPicture) (e : EdgeState) → c.view.actions ≡ [] → QuietEnd p c e
     → EndHolds p c e
 quiet-end p c e h1 h2 = search rules
 
 -- ---- the own end of an edge
 
 -- What was pulled or pushed at an end, with what lies there or waits, is what it was.
-abbrev pub Passes : Port → (c d : CellPicture) (e f : Edge) (ins outs more_ins more_outs : Lists)
-    → Type 0
+abbrev pub Passes : Port
+    → (c d : CellPicture) (e f : EdgeState) (ins outs more_ins more_outs : Lists) → Type 0
 Passes (Input i) c d e f ins outs more_ins more_outs =
     (more_ins i ++ chunks_of (input_at d.view i).chunk) ++ chunks_of f.chunk
     ≡ (ins i ++ chunks_of (input_at c.view i).chunk) ++ chunks_of e.chunk
@@ -40,8 +40,8 @@ Passes (Output o) c d e f ins outs more_ins more_outs = (l : List Table)
     → more_outs o ≡ (l ++ chunks_of f.chunk) ++ pushes_to o d.view.actions
 
 -- A node's end of an edge moved on: it holds, and what passed adds up.
-pub record Moves (p : Port) (c d : CellPicture) (e f : Edge) (ins outs more_ins more_outs : Lists)
-    : Type 0 where
+pub record Moves (p : Port) (c d : CellPicture) (e f : EdgeState)
+    (ins outs more_ins more_outs : Lists) : Type 0 where
   pub holds : EndHolds p d f
   pub passes : Passes p c d e f ins outs more_ins more_outs
 
@@ -54,7 +54,7 @@ pub same-at : (p : Port) (u v : Picture) → u ≡ v → SameAt p u v
 same-at p u v h1 = search rules
 
 -- an end at which its node sees the same, and rests only if it did
-pub stays-end : (p : Port) (c d : CellPicture) (e : Edge) (ins outs : Lists)
+pub stays-end : (p : Port) (c d : CellPicture) (e : EdgeState) (ins outs : Lists)
     → SameAt p d.view c.view → d.view.actions ≡ c.view.actions
     → (d.mark.state ≡ node.Resting → c.mark.state ≡ node.Resting) → EndHolds p c e
     → Moves p c d e e ins outs ins outs
@@ -66,20 +66,20 @@ told-rests : (b : Bool) (m : NodeMark) → (cond b (told m) m).state ≡ node.Re
     → m.state ≡ node.Resting
 told-rests b m h1 = grind arith
 
-pub end-told : (b : Bool) (p : Port) (c : CellPicture) (e : Edge) → EndHolds p c e
+pub end-told : (b : Bool) (p : Port) (c : CellPicture) (e : EdgeState) → EndHolds p c e
     → EndHolds p (told_if b c) e
 end-told b p c e h = (stays-end p c (told_if b c) e (λ _. []) (λ _. [])
     (same-at p c.view c.view refl) refl (told-rests b c.mark) h).holds
 
 -- the first action was carried out at this end, or at another end of the node: the view shows what
 -- the rest will leave
-pub acts-here : (a : Action) (c : CellPicture) (rest : List Action) (e : Edge)
+pub acts-here : (a : Action) (c : CellPicture) (rest : List Action) (e : EdgeState)
     → c.view.actions ≡ a ∷ rest → EndHolds (action_port a) c e
     → EndHolds (action_port a) (record c { view = with_actions c.view rest }) (after_action a e)
 unfolding with_actions input_at output_at
 acts-here a c rest e h1 h2 = search rules
 
-pub acts-there : (p : Port) (a : Action) (c : CellPicture) (rest : List Action) (e : Edge)
+pub acts-there : (p : Port) (a : Action) (c : CellPicture) (rest : List Action) (e : EdgeState)
     → c.view.actions ≡ a ∷ rest → p ≢ action_port a → EndHolds p c e
     → EndHolds p (record c { view = with_actions c.view rest }) e
 unfolding with_actions input_at output_at

@@ -1,5 +1,5 @@
 -- A graph before its first move.
-use Rattle.exec_laws.proofs.Words.{Bool, BoxPicture, CellPicture, Edge, EndHolds, HasEdge, HoldsGraph, Input, IsBorn, IsFresh, IsNewNode, IsPort, List, MarkHolds, NodeHolds, None, Output, Port, Running, StandStill, Wire, ap, arith, cases_Bool, cond, false, false_from_ne_true, follows-new, get_or-replicate, in_count, inl, input_at, input_count, inr, length, length-replicate, new_edge, new_input, new_picture, no_flags, no_lists, out_count, output_at, output_count, position-still, pushes_to, refl, rules, sound-new, suc, true, wire_at, zero, ℕ, ◌<◌, ◌==◌, ◌∙◌, ◌≡◌}
+use Rattle.exec_laws.proofs.Words.{Bool, BoxPicture, CellPicture, EdgeState, EndHolds, HasEdge, HoldsGraph, Input, IsBorn, IsFresh, IsNewNode, IsPort, List, MarkHolds, NodeHolds, None, Output, Port, Running, StandStill, Wire, ap, arith, cases_Bool, cond, false, false_from_ne_true, follows-new, get_or-replicate, in_count, inl, input_at, input_count, inr, length, length-replicate, new_edge, new_input, new_picture, no_flags, no_lists, out_count, output_at, output_count, position-still, pushes_to, refl, rules, sound-new, suc, true, wire_at, zero, ℕ, ◌<◌, ◌==◌, ◌∙◌, ◌≡◌}
 use Rattle.exec_laws.proofs.Nodes.{not-blank}
 use Rattle.exec_laws.proofs.Seeing.{port-below}
 use Rattle.exec_laws.proofs.Sides.{input-itself, output-known, quiet-end}
@@ -46,7 +46,7 @@ new-end p m n c h1 h2 =
 
 -- A graph of fresh boxes, and of blank ones at nodes that are reserved, with new views and edges.
 module _ (count : ℕ) (wires : List Wire) (g : HoldsGraph count wires) (cells : ℕ → CellPicture)
-    (edges : ℕ → Edge) (reserved : ℕ → Bool)
+    (edges : ℕ → EdgeState) (reserved : ℕ → Bool)
     (fresh : (n : ℕ) → n < count → reserved n ≡ false → IsFresh (cells n).box)
     (blank : (n : ℕ) → n < count → reserved n ≡ true
     → ((cells n).box.spec ≡ None) × ((cells n).mark.state ≡ node.Unborn))

@@ -1,5 +1,5 @@
 -- A node that has seen its ports is prepared.
-use Rattle.exec_laws.proofs.Words.{BoxHolds, BoxPicture, CellPicture, Edge, Flags, HasFinished, Holds, Input, IsOver, IsPort, IsTrue, Knows, List, Lists, MarkHolds, NodeHolds, Output, Picture, Port, Prepared, Running, Some, Status, StatusComes, StatusHolds, Turns, ViewHolds, Wire, [], ap, append-nil, append_assoc, as-kept-noted, changed-by-both, chunks_of, difference-calls, false, follows-noted, get_or-eq_default, in_count, inl, input_after, input_at, input_count, kept_input-of, kept_inputs-of, kept_output-of, kept_outputs-of, out_count, output_after, output_at, output_count, port_flags, position-still, pushed_at, pushes_to, refl, rules, state_after, sym, taken_out, with_pulled, with_pushed, ℕ, ◌++◌, ◌<◌, ◌∙◌, ◌≡◌, ◌≢◌, ◌≤◌}
+use Rattle.exec_laws.proofs.Words.{BoxHolds, BoxPicture, CellPicture, EdgeState, Flags, HasFinished, Holds, Input, IsOver, IsPort, IsTrue, Knows, List, Lists, MarkHolds, NodeHolds, Output, Picture, Port, Prepared, Running, Some, Status, StatusComes, StatusHolds, Turns, ViewHolds, Wire, [], ap, append-nil, append_assoc, as-kept-noted, changed-by-both, chunks_of, difference-calls, false, follows-noted, get_or-eq_default, in_count, inl, input_after, input_at, input_count, kept_input-of, kept_inputs-of, kept_output-of, kept_outputs-of, out_count, output_after, output_at, output_count, port_flags, position-still, pushed_at, pushes_to, refl, rules, state_after, sym, taken_out, with_pulled, with_pushed, ℕ, ◌++◌, ◌<◌, ◌∙◌, ◌≡◌, ◌≢◌, ◌≤◌}
 use Rattle.exec_laws.proofs.Nodes.{busy-born, moved-on}
 use Rattle.exec_laws.proofs.Ports.{Lies, changed-inputs, changed-outputs, full-unpushed, lies-after, past-unpushed, taken-left}
 use Rattle.exec_laws.proofs.Seeing.{port-below}
@@ -43,7 +43,7 @@ module _ (wires : List Wire) (n : ℕ) (c d : CellPicture) (t : Turns c d)
   outs-left : out_count t.left ≡ output_count wires n
   outs-left = changed-outputs c.view t.left t.prepares.changed ∙ h.view.outs
 
-  lies : (i : ℕ) (e : Edge) → (input_at c.view i).flags ≡ e.flags → QuietEnd (Input i) c e
+  lies : (i : ℕ) (e : EdgeState) → (input_at c.view i).flags ≡ e.flags → QuietEnd (Input i) c e
       → Lies (input_at c.view i).chunk e.chunk (input_after i d.view.actions e.flags)
       (input_at d.view i).chunk
   lies i e knows k =
@@ -61,7 +61,7 @@ module _ (wires : List Wire) (n : ℕ) (c d : CellPicture) (t : Turns c d)
   pushed-by-actions o = search (rules, full-unpushed, explained)
 
   -- an end of an edge that the view knows moves on: it shows the edge as its actions will leave it
-  turned-end : (p : Port) (e : Edge) → port_flags c.view p ≡ e.flags → QuietEnd p c e
+  turned-end : (p : Port) (e : EdgeState) → port_flags c.view p ≡ e.flags → QuietEnd p c e
       → Moves p c d e e pulled pushed ins outs
   unfolding pushes_to
   turned-end (Input i) e knows k =
@@ -144,7 +144,7 @@ module _ (wires : List Wire) (n : ℕ) (c d : CellPicture) (t : Turns c d)
 -- ---- the graph
 
 -- A due node that knows its ports was prepared: the graph runs on, and its actions wait.
-pub turned : {count : ℕ} {wires : List Wire} {cells : ℕ → CellPicture} {edges : ℕ → Edge}
+pub turned : {count : ℕ} {wires : List Wire} {cells : ℕ → CellPicture} {edges : ℕ → EdgeState}
     (r : Running count wires cells edges) → ((m : ℕ) → (cells m).view.actions ≡ [])
     → (n : ℕ) → n < count → (cells n).mark.state ≡ node.Due
     → ((p : Port) → IsPort (input_count wires n) (output_count wires n) p → Knows (cells n) p edges)

@@ -1,5 +1,5 @@
 -- The moves of an executor, and what each does.
-use Rattle.exec_laws.specs.Prelude.{Action, BoxPicture, ChangedByCalls, Close, CountsOn, Edge, Finish, GrowthForm, Input, IsAllFinished, KeepsSame, MayGrow, NodeMark, NodeState, NotesView, Output, Picture, Port, PreparesLawfully, Pull, PulledOn, Push, SameBox, SameChunks, Status, Table, Unwant, Want, Wire, after_grow, input_count, new_picture, output_count, port_flags}
+use Rattle.exec_laws.specs.Prelude.{Action, BoxPicture, ChangedByCalls, Close, CountsOn, EdgeState, Finish, GrowthForm, Input, IsAllFinished, KeepsSame, MayGrow, NodeMark, NodeState, NotesView, Output, Picture, Port, PreparesLawfully, Pull, PulledOn, Push, SameBox, SameChunks, Status, Table, Unwant, Want, Wire, after_grow, input_count, new_picture, output_count, port_flags}
 use Rattle.exec_laws.specs.Runs.{AreEdgesOf, CellPicture, HasEdge, IsBorn, MarkHolds, port_edge}
 use Rattle.std.specs.Prelude.{Bool, IsTrue, List, None, Option, Some, cond, false, true, ℕ, ◌==◌, ◌≡◌, ◌≢◌, ◌⊎◌}
 use Rattle.proc_api.specs.declared.status.Status.TheVariants as status
@@ -69,25 +69,25 @@ pub record KeepsBox (p q : BoxPicture) : Type 0 where
 
 -- the chunk that comes with an edge's flags: the one that lies there, unless the consumer closed
 -- the edge
-abbrev pub lifted : Port → Edge → Option Table
+abbrev pub lifted : Port → EdgeState → Option Table
 lifted (Input i) e = cond e.flags.fin_in None e.chunk
 lifted (Output o) e = None
 
 -- the edge without it
-abbrev pub unloaded : Port → Edge → Edge
+abbrev pub unloaded : Port → EdgeState → EdgeState
 unloaded (Input i) e = record { flags = e.flags; chunk = cond e.flags.fin_in e.chunk None }
 unloaded (Output o) e = e
 
 -- the edge at a port of node n moved on in this way, and no other did
-pub record Touches (wires : List Wire) (n : ℕ) (p : Port) (how : Edge → Edge)
-    (edges moved : ℕ → Edge) : Type 0 where
+pub record Touches (wires : List Wire) (n : ℕ) (p : Port) (how : EdgeState → EdgeState)
+    (edges moved : ℕ → EdgeState) : Type 0 where
   pub edge : ℕ
   pub is_there : HasEdge wires n p edge
   pub here : moved edge ≡ how (edges edge)
   pub elsewhere : (e : ℕ) → e ≢ edge → moved e ≡ edges e
 
 -- the view shows the edge's flags at the port
-abbrev pub Knows : CellPicture → Port → (ℕ → Edge) → Type 0
+abbrev pub Knows : CellPicture → Port → (ℕ → EdgeState) → Type 0
 Knows c p edges = port_flags c.view p ≡ (edges (port_edge c.inputs c.outputs p)).flags
 
 -- ---- its box is prepared
@@ -142,7 +142,7 @@ is_told (Push o chunk) = true
 is_told (Finish o) = true
 
 -- the edge at the action's port after it
-abbrev pub after_action : Action → Edge → Edge
+abbrev pub after_action : Action → EdgeState → EdgeState
 after_action (Want i) e = record e { flags = record e.flags { needed = true } }
 after_action (Unwant i) e = record e { flags = record e.flags { needed = false } }
 after_action (Pull i) e = record e { flags = record e.flags { has_data = false } }

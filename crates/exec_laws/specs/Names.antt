@@ -6,7 +6,7 @@ pub use Rattle.exec_laws.specs.Ends.{SupportsStatus, ContradictsStatus, EdgeDone
 pub use Rattle.exec_laws.specs.Moves.{Acts, ActsCell, Grew, GrewCell, IsNewNode, KeepsBox, Knows, Leaves, Prepares, StaysBox, StaysOrActs, Touches, Turns, action_port, after_action, is_resting, is_told, is_waiting, lifted, new_mark, state_after, told, told_if, told_state, unloaded}
 pub use Rattle.exec_laws.specs.Runs.{AreEdgesOf, AsksToGrow, BoxHolds, CellPicture, EndHolds, HasEdge, HasFinished, HoldsGraph, InputHolds, IsAtRest, IsBorn, IsEnd, IsOver, IsPort, MarkHolds, MayCall, MayRest, NodeHolds, OutputHolds, QuietBut, Running, ViewHolds, chunks_of, last_answer, new_edge, no_cell, peer, port_edge, cell_at, edge_at, number_at}
 unfoldable pub use Rattle.exec_laws.specs.Runs.{box_at}
-pub use Rattle.exec_laws.specs.declared.edges.Edge.{Edge}
+pub use Rattle.exec_laws.specs.declared.edges.EdgeState.{EdgeState}
 pub use Rattle.exec_laws.specs.declared.edges.NodeMark.{NodeMark}
 pub use Rattle.exec_laws.specs.declared.edges.NodeState.{NodeState}
 pub use Rattle.exec_laws.specs.declared.edges.StuckNode.{StuckNode}

@@ -1,6 +1,6 @@
 -- The names from outside that this crate speaks of, in one place.
 pub use Rattle.exec_laws.specs.declared.edges.DueCall.{DueCall}
-pub use Rattle.exec_laws.specs.declared.edges.Edge.{Edge}
+pub use Rattle.exec_laws.specs.declared.edges.EdgeState.{EdgeState}
 pub use Rattle.exec_laws.specs.declared.edges.NodeMark.{NodeMark}
 pub use Rattle.exec_laws.specs.declared.edges.NodeState.{NodeState}
 pub use Rattle.exec_laws.specs.declared.edges.StuckNode.{StuckNode}

@@ -1,5 +1,5 @@
 -- What is true of a running graph between two moves: of each node, and of each edge.
-use Rattle.exec_laws.specs.Prelude.{AllInputsFinished, Answer, ArePortsOf, BoxPicture, DueCall, Edge, Flags, FollowsKept, Input, InputFollows, InputPort, IsAllFinished, IsGraph, IsRunning, IsSound, Keeps, Lists, MaySchedule, MayWork, NodeMark, NodeState, Output, OutputAllows, OutputFollows, Picture, Port, Prepared, ProducerKnows, Reserve, Rests, Scheduled, StandStill, Status, StatusComes, Table, Wire, in_count, input_after, input_at, input_count, is_out_finished, kept_inputs, kept_output, kept_outputs, new_picture, no_box, no_flags, out_count, output_after, output_at, output_count, pushes_to, wire_at}
+use Rattle.exec_laws.specs.Prelude.{AllInputsFinished, Answer, ArePortsOf, BoxPicture, DueCall, EdgeState, Flags, FollowsKept, Input, InputFollows, InputPort, IsAllFinished, IsGraph, IsRunning, IsSound, Keeps, Lists, MaySchedule, MayWork, NodeMark, NodeState, Output, OutputAllows, OutputFollows, Picture, Port, Prepared, ProducerKnows, Reserve, Rests, Scheduled, StandStill, Status, StatusComes, Table, Wire, in_count, input_after, input_at, input_count, is_out_finished, kept_inputs, kept_output, kept_outputs, new_picture, no_box, no_flags, out_count, output_after, output_at, output_count, pushes_to, wire_at}
 use Rattle.std.specs.Prelude.{IsSome, IsTrue, List, None, Option, Some, [], false, is_some, length, slice_index_or, true, ℕ, ⊤, ◌++◌, ◌<◌, ◌||◌, ◌∷◌, ◌≡◌, ◌≢◌, ◌≤◌}
 use Rattle.proc_api.specs.declared.status.Status.TheVariants as status
 use Rattle.exec_laws.specs.declared.edges.DueCall.TheVariants as call
@@ -16,7 +16,7 @@ pub record CellPicture : Type 0 where
   pub inputs : List ℕ
   pub outputs : List ℕ
 
-abbrev pub new_edge : Edge
+abbrev pub new_edge : EdgeState
 new_edge = record { flags = no_flags; chunk = None }
 
 abbrev pub no_cell : CellPicture
@@ -34,7 +34,7 @@ box_at boxes n = slice_index_or boxes n no_box
 abbrev pub cell_at : List CellPicture → ℕ → CellPicture
 cell_at cells n = slice_index_or cells n no_cell
 
-abbrev pub edge_at : List Edge → ℕ → Edge
+abbrev pub edge_at : List EdgeState → ℕ → EdgeState
 edge_at edges e = slice_index_or edges e new_edge
 
 -- the number at a place of a list of edges' numbers
@@ -183,7 +183,7 @@ pub record InputHolds (m : NodeState) (c : InputPort) (g : Flags)
 
 -- An edge at a port of a node, whose own actions there aren't all carried out: the view shows the
 -- edge as they will leave it.
-abbrev pub EndHolds : Port → CellPicture → Edge → Type 0
+abbrev pub EndHolds : Port → CellPicture → EdgeState → Type 0
 EndHolds (Input i) c e =
     InputHolds c.mark.state (input_at c.view i) (input_after i c.view.actions e.flags) e.chunk
 EndHolds (Output o) c e =
@@ -202,7 +202,7 @@ pub record HoldsGraph (nodes : ℕ) (wires : List Wire) : Type 0 where
 -- Each born node of the graph holds, and so do both ends of each edge, for some lists of chunks.
 -- The chunks pushed are those pulled, then that at the consumer, as its view shows, then that in
 -- the edge, and then those whose push isn't carried out. A node that isn't born has nothing to do.
-pub record Running (count : ℕ) (wires : List Wire) (cells : ℕ → CellPicture) (edges : ℕ → Edge)
+pub record Running (count : ℕ) (wires : List Wire) (cells : ℕ → CellPicture) (edges : ℕ → EdgeState)
     : Type 0 where
   pub graph : HoldsGraph count wires
   pub pulled : ℕ → Lists

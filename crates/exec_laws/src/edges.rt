@@ -7,8 +7,8 @@ use proc_api::Status;
 
 /// A connection between two ports: their flags, and the chunk that was pushed and that its consumer
 /// hasn't seen yet.
-#[derive(Debug, Drop)]
-pub struct Edge {
+#[derive(Drop)]
+pub struct EdgeState {
     pub flags: Flags,
     pub chunk: Option<Chunk>,
 }
@@ -20,12 +20,12 @@ const NO_FLAGS: Flags = Flags {
     fin_in: false,
 };
 
-impl Edge {
+impl EdgeState {
     /// A connection over which nothing has passed yet.
-    pub fn new() -> Edge
+    pub fn new() -> EdgeState
         ensures { result ≡ new_edge }
     {
-        Edge {
+        EdgeState {
             flags: NO_FLAGS,
             chunk: None,
         }
@@ -33,7 +33,7 @@ impl Edge {
 }
 
 /// The call that the box of a node at work is due.
-#[derive(Clone, Copy, Debug, PartialEq, Eq)]
+#[derive(Clone, Copy, PartialEq, Eq)]
 pub enum DueCall {
     Work,
     Schedule,
@@ -42,7 +42,7 @@ pub enum DueCall {
 }
 
 /// What an executor does next with a node.
-#[derive(Clone, Copy, Debug, PartialEq, Eq)]
+#[derive(Clone, Copy, PartialEq, Eq)]
 pub enum NodeState {
     /// Nothing, until a port changes.
     Resting,
@@ -57,7 +57,7 @@ pub enum NodeState {
 }
 
 /// What an executor remembers of a node: what comes next, and the last answer to `prepare`.
-#[derive(Clone, Copy, Debug, PartialEq, Eq)]
+#[derive(Clone, Copy, PartialEq, Eq)]
 pub struct NodeMark {
     pub state: NodeState,
     pub last: Option<Status>,
@@ -93,7 +93,7 @@ impl NodeMark {
 }
 
 /// A node that isn't over when nothing is due: its number, and its last status, if it was prepared.
-#[derive(Clone, Copy, Debug, PartialEq, Eq)]
+#[derive(Clone, Copy, PartialEq, Eq)]
 pub struct StuckNode {
     pub node: u32,
     pub last: Option<Status>,

@@ -22,7 +22,7 @@ pub enum GrowthFlaw {
 }
 
 /// An unborn node, and the kind of its box.
-#[derive(Clone, Copy, Debug, PartialEq, Eq)]
+#[derive(Clone, Copy, PartialEq, Eq)]
 pub struct Blank {
     pub node: u32,
     pub kind: Kind,
