@@ -2,7 +2,7 @@ use query_model::processor_spec::Spec;
 
 /// A node of a plan: what its box is loaded with, its rank, and which open ends it takes: `takes`
 /// many from place `offset` on. Its `gives` outputs stand in their place.
-#[derive(Debug, Drop)]
+#[derive(Drop)]
 pub struct DraftNode {
     pub spec: Spec,
     pub rank: u32,
@@ -12,7 +12,7 @@ pub struct DraftNode {
 }
 
 /// A port of a node, by its number among the node's inputs or outputs.
-#[derive(Clone, Copy, Debug, PartialEq, Eq)]
+#[derive(Clone, Copy, PartialEq, Eq)]
 pub struct NodePort {
     pub node: u32,
     pub port: u32,
