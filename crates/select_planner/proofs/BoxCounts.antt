@@ -1,6 +1,6 @@
 -- The boxes of a kind that a query's plan uses are as many as the query needs.
 use Rattle.std.proofs.lemmas.Grind.{common_steps}
-use Rattle.select_planner.proofs.Prelude.{Checked, CheckedJoin, ColumnType, Cond, Count, Declared, DraftNode, Grouped, Kind, Numbers, PartsDecl, Plain, Shape, SortKey, Span, TableDecl, TableUse, append-nil, append_assoc, count_by-le-length, counted, each_kept, filter_count, gather_count, if_declared, if_filtered, if_limited, if_ordered, if_unordered, kind_of, length-take-le, limit_count, list_sources_need, need, none-of, of_kind, part_sources_need, plan-counted, plan_count, plan_nodes, same_kind, sort_count, sources_count, sum_by-append, sum_by-cons, sum_by-replicate, sum_by-take-le, sum_by_more, table_need, take_more, Bool, List, None, Option, Some, [], ap, arith, cond, false, get_or, length, refl, replicate, slice_get, suc, sum_by, sym, take, true, ℕ, ◌*◌, ◌++◌, ◌+◌, ◌<◌, ◌∙◌, ◌∷◌, ◌≡◌, ◌≤◌, PlanReserve, reserved_nodes, boxes_reserved, boxes_taken, PlanNode, kept_at, reserves_from, Reading, declared_sources, order_of, part_sources, path_sources, select_plan, table_sources}
+use Rattle.select_planner.proofs.Prelude.{Checked, CheckedJoin, ColumnType, Cond, Count, Declared, DraftNode, Grouped, Kind, Numbers, PartsDecl, Plain, Shape, SortKey, Span, TableDecl, TableUse, append-nil, append_assoc, count_by-le-length, counted, each_kept, filter_count, gather_count, if_declared, if_filtered, if_limited, if_ordered, if_unordered, kind_of, length-take-le, limit_count, list_sources_need, query_boxes, none-of, of_kind, part_sources_need, plan-counted, plan_count, plan_nodes, same_kind, sort_count, sources_count, sum_by-append, sum_by-cons, sum_by-replicate, sum_by-take-le, sum_by_more, table_need, take_more, Bool, List, None, Option, Some, [], ap, arith, cond, false, get_or, length, refl, replicate, slice_get, suc, sum_by, sym, take, true, ℕ, ◌*◌, ◌++◌, ◌+◌, ◌<◌, ◌∙◌, ◌∷◌, ◌≡◌, ◌≤◌, PlanReserve, reserved_nodes, boxes_reserved, boxes_taken, PlanNode, kept_at, reserves_from, Reading, declared_sources, order_of, part_sources, path_sources, select_plan, table_sources}
 use Rattle.query_model.specs.declared.processor_spec.Kind.TheVariants as kind
 use Rattle.query_model.specs.declared.processor_spec.Spec.TheVariants as spec
 
@@ -73,7 +73,8 @@ none-ordered : (keys : List SortKey) → if_ordered keys 0 ≡ 0
 none-ordered keys = grind arith
 
 plan-need : (q : Checked) (tables : List TableDecl) (lanes rows : ℕ) (header : Bool) (k : Kind)
-    → plan_count (boxes_for k) (select_plan q tables lanes rows header) ≡ need q tables lanes k
+    → plan_count (boxes_for k) (select_plan q tables lanes rows header)
+    ≡ query_boxes q tables lanes k
 plan-need q tables lanes rows header k = go k q.shape q.join refl refl
   where
     from : (k : Kind) → sources_count (boxes_for k) (table_sources tables header rows q.from)
@@ -83,7 +84,8 @@ plan-need q tables lanes rows header k = go k q.shape q.join refl refl
     from k = sources-need k tables header rows q.from
 
     go : (k : Kind) (s : Shape) (j : Option CheckedJoin) → q.shape ≡ s → q.join ≡ j
-        → plan_count (boxes_for k) (select_plan q tables lanes rows header) ≡ need q tables lanes k
+        → plan_count (boxes_for k) (select_plan q tables lanes rows header)
+        ≡ query_boxes q tables lanes k
     go kind.Limit (Plain items) None is at =
         let read = from kind.Limit in let filter = filter-need kind.Limit q.filter lanes in
         let limit = limit-need kind.Limit q.limit in
@@ -132,7 +134,7 @@ plan-need q tables lanes rows header k = go k q.shape q.join refl refl
 -- The nodes of a kind of a query's plan are as many as the query needs.
 pub plan-needs : (q : Checked) (tables : List TableDecl) (lanes rows : ℕ) (header : Bool) (k : Kind)
     → counted (boxes_for k) (plan_nodes (select_plan q tables lanes rows header))
-    ≡ need q tables lanes k
+    ≡ query_boxes q tables lanes k
 plan-needs q tables lanes rows header k = search (arith, plan-counted, plan-need)
 
 -- ---- what is kept

@@ -1,5 +1,5 @@
 -- What was laid down is a graph, and takes as many boxes of each kind as the query needs.
-use Rattle.select_planner.proofs.Prelude.{Bool, List, [], ap, arith, cond, length, map, subst, sum_by, sym, ℕ, ◌++◌, ◌+◌, ◌∙◌, ◌∷◌, ◌≡◌, Checked, Draft, DraftNode, IsGraph, IsSmall, Kind, NodeForm, TableDecl, append-nil, append_assoc, counted, counted-same, kind-same, length-map, map-id, map-map, need, no_draft, of_kind, plan-graph, plan_nodes, same_kind, sum_by-map, with_node, with_nodes, Plan, reserved_nodes, boxes_needed, boxes_taken, boxes_reserved, edge_of, wire_of, plan_ranks, plan_wires, IsSound, LaysDown, select_plan}
+use Rattle.select_planner.proofs.Prelude.{Bool, List, [], ap, arith, cond, length, map, subst, sum_by, sym, ℕ, ◌++◌, ◌+◌, ◌∙◌, ◌∷◌, ◌≡◌, Checked, Draft, DraftNode, IsGraph, IsSmall, Kind, NodeForm, TableDecl, append-nil, append_assoc, counted, counted-same, kind-same, length-map, map-id, map-map, query_boxes, no_draft, of_kind, plan-graph, plan_nodes, same_kind, sum_by-map, with_node, with_nodes, Plan, reserved_nodes, boxes_needed, boxes_taken, boxes_reserved, edge_of, wire_of, plan_ranks, plan_wires, IsSound, LaysDown, select_plan}
 use Rattle.query_model.specs.declared.processor_spec.Kind.TheVariants as kind
 use Rattle.select_planner.proofs.BoxCounts.{boxes-counted, boxes_for, nodes-kept, plan-needs}
 
@@ -8,7 +8,7 @@ use Rattle.select_planner.proofs.BoxCounts.{boxes-counted, boxes_for, nodes-kept
 -- A plan that was laid down takes as many boxes of each kind as the query needs.
 pub needs-are : (q : Checked) (tables : List TableDecl) (lanes rows : ℕ) (header : Bool) (p : Plan)
     → LaysDown (plan_nodes (select_plan q tables lanes rows header)) p → (k : Kind)
-    → boxes_needed p k ≡ need q tables lanes k
+    → boxes_needed p k ≡ query_boxes q tables lanes k
 needs-are q tables lanes rows header p l k =
     let steps : List DraftNode = plan_nodes (select_plan q tables lanes rows header) in
     let taken : boxes_taken k p.nodes ≡ counted (of_kind k) l.copies = grind (arith, sum_by-map) in

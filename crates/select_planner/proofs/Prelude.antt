@@ -19,7 +19,7 @@ pub use Rattle.proc_api.specs.Forms.{expression, filter, spec_form, unboxed}
 pub use Rattle.query_model.specs.Names.{Cond, if_declared, if_filtered, if_limited, if_ordered, if_unordered, join_use, list_sources_need, part_sources_need, table_need}
 pub use Rattle.query_model.specs.declared.query.ColumnDecl.{ColumnDecl}
 pub use Rattle.query_model.specs.declared.query.Schema.{Schema}
-pub use Rattle.select_planner.specs.Prelude.{AllByRecursion, Checked, CheckedJoin, ColumnType, Declared, DraftNode, Grouped, IsGraph, JoinSpec, Kind, ListFile, Numbers, PartSpec, PartsDecl, Paths, Plain, Shape, SortKey, Spec, TableDecl, TableUse, column_types, forms, kind_of, need, no_draft, same_kind, used_tables, with_nodes}
+pub use Rattle.select_planner.specs.Prelude.{AllByRecursion, Checked, CheckedJoin, ColumnType, Declared, DraftNode, Grouped, IsGraph, JoinSpec, Kind, ListFile, Numbers, PartSpec, PartsDecl, Paths, Plain, Shape, SortKey, Spec, TableDecl, TableUse, column_types, forms, kind_of, query_boxes, no_draft, same_kind, used_tables, with_nodes}
 pub use Rattle.std.proofs.lemmas.Bool.Decides.{nat_tests}
 pub use Rattle.std.proofs.lemmas.List.{append-nil, append_assoc, length-map, length-take-le, map-append, map-id, take_more}
 pub use Rattle.std.proofs.lemmas.List.Sums.{count_by-le-length, sum_by-append, sum_by-cons, sum_by-take-le, sum_by_more}

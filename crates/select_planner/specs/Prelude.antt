@@ -2,7 +2,7 @@
 pub use Rattle.plan_meaning.specs.Names.{PlanJoin, SelectPlan, forms, shape_of}
 pub use Rattle.plan_meaning.specs.Prelude.{AllByRecursion, Checked, ColumnType, DraftNode, Grouped, JoinSpec, Kind, PartSpec, Plain, Shape, SortKey, SortSpec, Spec, Wire, kind_of, no_draft, same_kind, source_nodes, with_nodes}
 pub use Rattle.proc_api.specs.Graphs.{IsGraph}
-pub use Rattle.query_model.specs.Names.{column_types, need, numbers, used_tables}
+pub use Rattle.query_model.specs.Names.{column_types, query_boxes, numbers, used_tables}
 pub use Rattle.query_model.specs.declared.checked.CheckedJoin.{CheckedJoin}
 pub use Rattle.query_model.specs.declared.checked.TableUse.{TableUse}
 pub use Rattle.query_model.specs.declared.checked.TableUse.TheVariants.{Declared, Numbers}

@@ -1,6 +1,6 @@
 -- A plan that was laid down by a list of nodes.
 use Rattle.std.specs.Prelude.{List, [], cond, length, map, replicate, suc, ℕ, ◌++◌, ◌+◌, ◌∷◌, ◌≡◌, ◌≤◌}
-use Rattle.select_planner.specs.Prelude.{Checked, DraftNode, IsGraph, Kind, TableDecl, Wire, forms, kind_of, need, no_draft, same_kind, with_nodes}
+use Rattle.select_planner.specs.Prelude.{Checked, DraftNode, IsGraph, Kind, TableDecl, Wire, forms, kind_of, query_boxes, no_draft, same_kind, with_nodes}
 use Rattle.query_model.specs.declared.processor_spec.Kind.TheVariants as kind
 use Rattle.select_planner.specs.Boxes.{reserved_nodes}
 use Rattle.select_planner.specs.Counts.{boxes_needed}
@@ -37,7 +37,7 @@ reserves_from n (node ∷ nodes) = kept_at n node ++ reserves_from (suc n) nodes
 -- the plan is a graph, and takes as many boxes of each kind as the query needs
 pub record IsSound (q : Checked) (tables : List TableDecl) (lanes : ℕ) (p : Plan) : Type 0 where
   pub graph : IsGraph (plan_ranks p) (plan_wires p) []
-  pub needed : (k : Kind) → boxes_needed p k ≡ need q tables lanes k
+  pub needed : (k : Kind) → boxes_needed p k ≡ query_boxes q tables lanes k
   pub few : length p.nodes + reserved_nodes p.reserves ≤ 124
   pub few_edges : length p.edges ≤ 140
 

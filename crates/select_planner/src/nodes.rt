@@ -6,14 +6,14 @@ use chunk_data::{Bytes, List};
 use query_model::processor_spec::{Kind, Spec};
 
 /// A node: what its box is loaded with, and its rank.
-#[derive(Debug, Drop)]
+#[derive(Drop)]
 pub struct PlanNode {
     pub spec: Spec,
     pub rank: u32,
 }
 
 /// An edge from an output of a node to an input of another.
-#[derive(Clone, Copy, Debug, PartialEq, Eq)]
+#[derive(Clone, Copy, PartialEq, Eq)]
 pub struct PlanEdge {
     pub from: u32,
     pub out: u32,
@@ -22,7 +22,7 @@ pub struct PlanEdge {
 }
 
 /// The boxes and edges that are kept for a node that grows.
-#[derive(Debug, Drop)]
+#[derive(Drop)]
 pub struct PlanReserve {
     pub node: u32,
     pub kinds: List<Kind>,
@@ -31,7 +31,7 @@ pub struct PlanReserve {
 
 /// The nodes of a query's pipeline in the order of the steps, the edges between them, and what is
 /// kept for growth. There are at most 256 nodes, the reserved ones included.
-#[derive(Debug, Drop)]
+#[derive(Drop)]
 pub struct Plan {
     pub nodes: List<PlanNode>,
     pub edges: List<PlanEdge>,

@@ -1,5 +1,5 @@
 // The steps of a plan.
-ghost use Rattle.std.specs.Prelude.{◌≡◌, ◌+◌, ◌≤◌, ◌++◌, map, length, replicate, IfOk, IfErr, OnOk};
+ghost use Rattle.std.specs.Prelude.{◌≡◌, ◌+◌, ◌≤◌, ◌++◌, [], map, length, replicate, IfOk, IfErr, OnOk};
 ghost use Rattle.query_model.specs.Database.{used_tables};
 ghost use Rattle.query_model.specs.declared.checked.Shape.TheVariants.{Grouped};
 ghost use Rattle.query_model.specs.declared.processor_spec.Kind.TheVariants as csv;
@@ -48,8 +48,9 @@ pub fn plan(
         rows: chunk_rows,
         place: 0,
     };
-    match lay_steps(alloc, query, tables.as_slice(), lanes, reading) {
-        Ok(nodes) => match plan_of(alloc, nodes) {
+    let mut nodes = List::new(alloc);
+    match lay_steps(alloc, &mut nodes, query, tables.as_slice(), lanes, reading) {
+        Ok(()) => match plan_of(alloc, nodes) {
             Ok(plan) => Ok(plan),
             Err(_) => Err(PlanRefusal::Memory),
         },
@@ -57,27 +58,27 @@ pub fn plan(
     }
 }
 
-/// The nodes, step by step.
+/// Adds the nodes, step by step.
 fn lay_steps(
     alloc: Global,
+    nodes: &mut List<DraftNode>,
     query: &Checked,
     tables: &[TableDecl],
     lanes: u32,
     reading: Reading,
-) -> Result<List<DraftNode>, Memory>
+) -> Result<(), Memory>
+    requires empty { nodes.old ≡ [] }
     requires few_lanes { lanes ≤ 16 }
     requires few_parts { first_crowded tables.now (used_tables query.now) ≡ None }
     requires at_start { reading.place ≡ 0 }
-    ensures { IfOk result (λ nodes. forms nodes ≡ forms
+    ensures { OnOk result (forms nodes.new ≡ forms
         (plan_nodes (select_plan query.now tables.now lanes reading.rows reading.header))) }
 {
-    let mut nodes = List::new(alloc);
-    add_read(alloc, &mut nodes, query, tables, lanes, reading)?;
-    add_filters(alloc, &mut nodes, &query.filter, 5, lanes)?;
-    add_shape(alloc, &mut nodes, query, tables, reading.rows, lanes)?;
-    add_limit(&mut nodes, &query.limit)?;
-    add_joint(&mut nodes, Spec::Collect, 14, 1, 0)?;
-    Ok(nodes)
+    add_read(alloc, nodes, query, tables, lanes, reading)?;
+    add_filters(alloc, nodes, &query.filter, 5, lanes)?;
+    add_shape(alloc, nodes, query, tables, reading.rows, lanes)?;
+    add_limit(nodes, &query.limit)?;
+    add_joint(nodes, Spec::Collect, 14, 1, 0)
 }
 
 /// Adds what reads the table of FROM into the lanes, or its join with a second table.
@@ -126,16 +127,14 @@ fn add_shape(
         (shape_of query.now.shape (source_types tables.now query.now.from query.now.join) rows)
         (order_of query.now.types rows query.now.order) lanes)) }
 {
-    let order = order_of(query, rows)?;
     match &query.shape {
         Shape::Plain(items) => {
             add_items(alloc, nodes, items, 6, lanes)?;
-            add_gather(nodes, order, lanes)?;
-            Ok(())
+            add_gather(nodes, order_of(query, rows)?, lanes)
         }
         Shape::Grouped(grouping) => {
             let types = source_types(alloc, query, tables)?;
-            add_groups(alloc, nodes, grouping, types.as_slice(), rows, order, lanes)
+            add_groups(alloc, nodes, query, grouping, types.as_slice(), rows, lanes)
         }
     }
 }
@@ -145,23 +144,30 @@ fn add_shape(
 fn add_groups(
     alloc: Global,
     nodes: &mut List<DraftNode>,
+    query: &Checked,
     grouping: &Grouping,
     types: &[ColumnType],
     rows: u32,
-    order: Option<SortSpec>,
     lanes: u32,
 ) -> Result<(), Memory>
     ensures { OnOk result (forms nodes.new ≡ forms nodes.old
-        ++ forms (shape_nodes (shape_of (Grouped grouping.now) types.now rows) order lanes)) }
+        ++ forms (shape_nodes (shape_of (Grouped grouping.now) types.now rows)
+        (order_of query.now.types rows query.now.order) lanes)) }
 {
-    let arguments = arguments_of(alloc, grouping.keys.as_slice(), grouping.calls.as_slice())?;
-    add_items(alloc, nodes, &arguments, 6, lanes)?;
+    // What a step alone needs is dropped with it.
+    {
+        let arguments = arguments_of(alloc, grouping.keys.as_slice(), grouping.calls.as_slice())?;
+        add_items(alloc, nodes, &arguments, 6, lanes)?;
+    }
     let groups = group_spec(alloc, grouping, types, rows)?;
     add_partials(nodes, &groups, lanes)?;
     add_joint(nodes, Spec::MergeAggregate(groups), 8, lanes, 1)?;
     add_filters(alloc, nodes, &grouping.having, 9, 1)?;
-    let picks = columns_of(alloc, grouping.picks.as_slice())?;
-    add_items(alloc, nodes, &picks, 10, 1)?;
+    {
+        let picks = columns_of(alloc, grouping.picks.as_slice())?;
+        add_items(alloc, nodes, &picks, 10, 1)?;
+    }
+    let order = order_of(query, rows)?;
     add_sort(nodes, order)?;
     Ok(())
 }
