@@ -39,7 +39,7 @@ pub use Rattle.query_model.proofs.TypedQueries.{IsOfKind, IsTypeOf, both, call_i
 pub use Rattle.query_model.specs.Database.{IsListDeclared, IsListUsed, IsValidList, bad_line_in, column_types, part_paths, paths_in, paths_unless}
 pub use Rattle.query_model.specs.ListFiles.{is_path, list_bad_line, list_paths}
 unfoldable pub use Rattle.query_model.specs.ListFiles.{bad_line, lines_from}
-pub use Rattle.query_model.specs.Names.{AreColumnsFrom, ArePicks, ArePlainItems, BothOrNone, CanBePicked, Cond, Database, EachWith, Expr, Files, FromColumn, HasItsArgument, IsAnalysable, IsAnswer, IsChecked, IsCheckedJoin, IsGrouping, IsItem, IsPick, IsPlacedCall, IsPlacedItem, IsShape, IsTypedCall, IsTypedCond, IsTypedFilter, IsTypedQuery, IsTypedShape, IsValidPart, IsValidUsed, UsedPart, agg_kind, call_type, calls_of, columns_if, database, declared_table, file_bytes, filtered_rows, first_name, first_of_all, flow, from_columns, from_types, group_types as group_row_types, groups_tested, having_need, holds, if_declared, if_filtered, if_grouped, if_joined, if_limited, if_ordered, if_plain, if_unordered, is_grouped, is_join_pair, is_key_of, is_typed, item_calls, item_columns, item_kind, item_names, item_row, join_tables, join_use, joined_rows, joined_table, joins, key_place, kind_of, known_kind, known_type, limited, list_sources_need, listed, meant, meant_type, need, numbered_parts, numbers, operands_of, output_names, output_rows, output_types, pair_of, part_rows, part_sources_need, parts_declared, parts_used, place_in, place_of, rows_in, rows_joined, rows_tested, rows_where, same_column, same_known_type, same_type, selected_rows, sort_key, sorts_need, source_rows, source_table, star_name, table_columns, table_need, types_of, unknown_table, use_of, used_table, used_tables}
+pub use Rattle.query_model.specs.Names.{AreColumnsFrom, ArePicks, ArePlainItems, BothOrNone, CanBePicked, Cond, Database, EachWith, Expr, Files, FromColumn, HasItsArgument, IsAnalysable, IsAnswer, IsChecked, IsCheckedJoin, IsGrouping, IsItem, IsPick, IsPlacedCall, IsPlacedItem, IsShape, IsTypedCall, IsTypedCond, IsTypedFilter, IsTypedQuery, IsTypedShape, IsValidPart, IsValidUsed, UsedPart, agg_kind, call_type, calls_of, columns_if, database, declared_table, file_bytes, filtered_rows, first_name, first_of_all, flow, from_columns, from_types, group_types as group_row_types, groups_tested, having_need, holds, if_declared, if_filtered, if_grouped, if_joined, if_limited, if_ordered, if_plain, if_unordered, is_grouped, is_join_pair, is_key_of, is_typed, item_calls, item_columns, item_kind, item_names, item_row, join_tables, join_use, joined_rows, joined_table, joins, key_place, kind_of, known_kind, known_type, limited, list_sources_need, listed, meant, meant_type, query_boxes, numbered_parts, numbers, operands_of, output_names, output_rows, output_types, pair_of, part_rows, part_sources_need, parts_declared, parts_used, place_in, place_of, rows_in, rows_joined, rows_tested, rows_where, same_column, same_known_type, same_type, selected_rows, sort_key, sorts_need, source_rows, source_table, star_name, table_columns, table_need, types_of, unknown_table, use_of, used_table, used_tables}
 pub use Rattle.query_model.specs.Typing.{IsTypedArgument}
 pub use Rattle.query_model.specs.declared.query.ColumnRef.{ColumnRef}
 pub use Rattle.query_model.specs.declared.query.Item.{Item}
