@@ -1,5 +1,5 @@
 -- The state before the first move.
-use Rattle.pipeline_exec.proofs.Words.{AreEdgesOf, AreFirstPorts, AreNewEdges, AreNewFrom, AreReserves, AreStarting, Bool, BoxPicture, Cell, CellPicture, Edge, Fills, HasEdge, HasWire, HoldsGraph, Input, IsFresh, IsGraph, IsUnderWay, List, NodeMark, NodePorts, None, Output, Port, Reserve, Side, StartsAs, Wire, [], ap, are_left, arith, both_ways, box-of, box_at, boxes_of, cases_lt, cell_at, cell_picture, cells_of, cond_both, edge_at, eq-eqb, false, first_mark, get_or-eq_default, inl, input-of-count, input_count, inr, is_end, is_reserved, length, length-append, length-map, map, new_mark, new_picture, no_cell, output-of-count, output_count, port_count, port_on, refl, reserve_at, reserve_of, rules, started, subst, suc, sym, true, wire_at, zero, ℕ, ◌++◌, ◌+◌, ◌<◌, ◌==◌, ◌∙◌, ◌∷◌, ◌≡◌, ◌≤◌}
+use Rattle.pipeline_exec.proofs.Words.{AreEdgesOf, AreFirstPorts, AreNewEdges, AreNewFrom, AreReserves, AreStarting, Bool, BoxPicture, Cell, CellPicture, EdgeState, Fills, HasEdge, HasWire, HoldsGraph, Input, IsFresh, IsGraph, IsUnderWay, List, NodeMark, NodePorts, None, Output, Port, Reserve, Side, StartsAs, Wire, [], ap, are_left, arith, both_ways, box-of, box_at, boxes_of, cases_lt, cell_at, cell_picture, cells_of, cond_both, edge_at, eq-eqb, false, first_mark, get_or-eq_default, inl, input-of-count, input_count, inr, is_end, is_reserved, length, length-append, length-map, map, new_mark, new_picture, no_cell, output-of-count, output_count, port_count, port_on, refl, reserve_at, reserve_of, rules, started, subst, suc, sym, true, wire_at, zero, ℕ, ◌++◌, ◌+◌, ◌<◌, ◌==◌, ◌∙◌, ◌∷◌, ◌≡◌, ◌≤◌}
 use Rattle.exec_laws.specs.declared.edges.NodeState.TheVariants as node
 
 -- ---- edges of a node
@@ -92,7 +92,7 @@ unborn-mark false outputs m e = ((λ _. e), (λ f. absurd (cc)))
 
 pub state-started : {P : Type 0} (seen : P → BoxPicture) (ranks : List ℕ) (wires : List Wire)
     (rs : List Reserve) (cells : List (Cell P)) (all : List P) (ports : List NodePorts)
-    (edges : List Edge) (left : List ℕ) → IsGraph ranks wires rs → length all ≡ length ranks
+    (edges : List EdgeState) (left : List ℕ) → IsGraph ranks wires rs → length all ≡ length ranks
     → AreReserves (length ranks) (length wires) wires rs → AreStarting rs (map seen all)
     → AreNewFrom rs wires 0 ports → AreNewEdges (length wires) edges → Fills cells all ports
     → left ≡ are_left rs (length all)

@@ -1,5 +1,5 @@
 -- A move of one node keeps the state of the run.
-use Rattle.pipeline_exec.proofs.Words.{Action, Board, Carries, CarriesOne, CellPicture, ChangesCell, Edge, Flags, HasEdge, Inputs, IsCarrying, IsOnBoard, IsPort, IsTurning, IsUnderWay, KeepsBox, Knows, List, MovesEdge, NodeHolds, None, Option, Outputs, Picture, Port, QuietBut, Running, SeesPort, Shows, Side, Some, Stays, Table, TakesAction, Touches, Turns, [], action_port, ap, apart, arith, at-node, busy-born, carried, cases_eq, cell_at, edge_at, inl, input_count, inr, is_told, keeps-born, keeps-both, keeps-itself, length, lifted, may-see, ne_eqb, output_count, peer, port_count, port_edge, port_on, refl, rules, see-actions, see-keeps, see-knows, seen, subst, sym, told_if, turned, unloaded, wire_at, ℕ, ◌&&◌, ◌+◌, ◌<◌, ◌==◌, ◌∙◌, ◌≡◌, ◌≢◌}
+use Rattle.pipeline_exec.proofs.Words.{Action, Board, Carries, CarriesOne, CellPicture, ChangesCell, EdgeState, Flags, HasEdge, Inputs, IsCarrying, IsOnBoard, IsPort, IsTurning, IsUnderWay, KeepsBox, Knows, List, MovesEdge, NodeHolds, None, Option, Outputs, Picture, Port, QuietBut, Running, SeesPort, Shows, Side, Some, Stays, Table, TakesAction, Touches, Turns, [], action_port, ap, apart, arith, at-node, busy-born, carried, cases_eq, cell_at, edge_at, inl, input_count, inr, is_told, keeps-born, keeps-both, keeps-itself, length, lifted, may-see, ne_eqb, output_count, peer, port_count, port_edge, port_on, refl, rules, see-actions, see-keeps, see-knows, seen, subst, sym, told_if, turned, unloaded, wire_at, ℕ, ◌&&◌, ◌+◌, ◌<◌, ◌==◌, ◌∙◌, ◌≡◌, ◌≢◌}
 use Rattle.exec_laws.specs.declared.edges.NodeState.TheVariants as node
 
 -- ---- what stays of the boxes
@@ -9,7 +9,7 @@ stay-both a b c h1 h2 = search (rules, keeps-both)
 
 -- where one cell has changed, and what stays of its box is known
 pub stay-changed : (n : ℕ) (R : CellPicture → CellPicture → Type 0) (b : Board)
-    (cells : List CellPicture) (edges : List Edge) → ChangesCell n R b.cells cells
+    (cells : List CellPicture) (edges : List EdgeState) → ChangesCell n R b.cells cells
     → KeepsBox (cell_at b.cells n).box (cell_at cells n).box
     → Stays b (record b { cells = cells; edges = edges })
 stay-changed n R b cells edges h1 h2 = record {
@@ -54,19 +54,19 @@ module _ (n : ℕ) (b : Board) (t : IsTurning n b) where
   turning-node = search (rules, busy-born, busy)
 
 -- an edge that was unloaded keeps its flags, and so do the others
-same-flags : (p : Port) (e : ℕ) (es moved : List Edge) → MovesEdge e (unloaded p) es moved
+same-flags : (p : Port) (e : ℕ) (es moved : List EdgeState) → MovesEdge e (unloaded p) es moved
     → (x : ℕ) → (edge_at moved x).flags ≡ (edge_at es x).flags
 same-flags p e es moved m x = elim (cases_eq x e) [
   | inl at ↦
       let kept : (unloaded p (edge_at es e)).flags ≡ (edge_at es e).flags = grind arith in
       rw (at, m.here) kept
-  | inr ne ↦ ap (λ (y : Edge). y.flags) (m.others x ne)
+  | inr ne ↦ ap (λ (y : EdgeState). y.flags) (m.others x ne)
 ]
 
 -- a port of a side, by the values that the code has
 pub shows-seen : (n : ℕ) (b : Board) → IsTurning n b → (side : Side) (k : ℕ)
     → k < port_count b.wires n side → (p : Port) (e : ℕ) (f : Flags) (x : Option Table)
-    (after : List CellPicture) (moved : List Edge) → p ≡ port_on side k
+    (after : List CellPicture) (moved : List EdgeState) → p ≡ port_on side k
     → e ≡ port_edge (cell_at b.cells n).inputs (cell_at b.cells n).outputs p
     → f ≡ (edge_at b.edges e).flags → x ≡ lifted p (edge_at b.edges e)
     → MovesEdge e (unloaded p) b.edges moved → ChangesCell n (SeesPort p f x) b.cells after

@@ -16,7 +16,7 @@ pub use Rattle.exec_laws.specs.declared.edges.StuckNode.{StuckNode}
 pub use Rattle.pipeline_exec.specs.Cells.{AreCalled, AreFirstEdges, AreFirstPorts, AreNewEdges, AreNewFrom, AreNewPorts, Board, Carries, CarriesOne, Changes, ChangesCell, Each, FailsAt, Fills, HasFault, HasWire, IsCalled, IsCarrying, IsClear, IsCleared, IsOnBoard, IsTurning, IsUnderWay, MayBeCalled, MovesEdge, SeesPort, Shows, Stays, TakesAction, TellsNode, board_of, cell_picture, cells_of, first_mark, is_end, port_count, port_on}
 pub use Rattle.pipeline_exec.specs.Ends.{EndHolds, EndsBadly, EndsSettled, IsFaultEnd}
 pub use Rattle.pipeline_exec.specs.Growing.{AreFree, ArePortsAt, Avoids, Bears, BearsSome, Bore, CarriesOut, FailedBox, Gives, GrewBox, Grows, GrowsAndFails, GrowsAndSpoils, GrowsTo, IsBornCell, IsFree, MayCarryOut, RoundEndHolds, Widened, are_left, begun, forms_of, is_unborn, kinds_of, left_at, place_at, ranks_of, unborn_of}
-pub use Rattle.pipeline_exec.specs.Prelude.{Blank, Cell, DueCall, Edge, ExecEnd, ExecutorState, Grew, GrowNode, GrowthFlaw, Inputs, IsDone, Kind, Loads, NodeFault, NodeMark, NodePorts, NodeState, Outputs, Reserve, RoundEnd, SameBox, Side, Spec, is_reserved, kind_of, spec_form}
+pub use Rattle.pipeline_exec.specs.Prelude.{Blank, Cell, DueCall, EdgeState, ExecEnd, ExecutorState, Grew, GrowNode, GrowthFlaw, Inputs, IsDone, Kind, Loads, NodeFault, NodeMark, NodePorts, NodeState, Outputs, Reserve, RoundEnd, SameBox, Side, Spec, is_reserved, kind_of, spec_form}
 pub use Rattle.pipeline_exec.specs.Resting.{has_room, is_wanting}
 pub use Rattle.proc_api.proofs.Imports.{All-permutation, Any-from_list_any, remove}
 pub use Rattle.proc_api.specs.Forms.{growth_form}

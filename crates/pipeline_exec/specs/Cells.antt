@@ -1,5 +1,5 @@
 -- The state of a run, as data: a cell for each node, and the graph's wires and edges.
-use Rattle.pipeline_exec.specs.Prelude.{Action, Acts, AreEdgesOf, BoxPicture, Cell, CellPicture, DueCall, Edge, ExecutorState, Flags, FollowsKept, HasEdge, HasInputWire, HasOutputWire, Input, Inputs, IsBorn, IsGraph, IsPort, IsRunning, IsSound, KeepsBox, KeepsFault, Knows, MayCall, NodeFault, NodeMark, NodePorts, Output, Outputs, Port, QuietBut, Reserve, Running, Scheduled, Side, StaysOrActs, Table, TakesFirst, Wake, Wire, WorkFault, action_port, after_action, after_see, cell_at, edge_at, input_count, is_reserved, is_told, new_edge, new_mark, new_picture, no_cell, output_count, peer, port_edge, reserve_of, told_if, wire_at}
+use Rattle.pipeline_exec.specs.Prelude.{Action, Acts, AreEdgesOf, BoxPicture, Cell, CellPicture, DueCall, EdgeState, ExecutorState, Flags, FollowsKept, HasEdge, HasInputWire, HasOutputWire, Input, Inputs, IsBorn, IsGraph, IsPort, IsRunning, IsSound, KeepsBox, KeepsFault, Knows, MayCall, NodeFault, NodeMark, NodePorts, Output, Outputs, Port, QuietBut, Reserve, Running, Scheduled, Side, StaysOrActs, Table, TakesFirst, Wake, Wire, WorkFault, action_port, after_action, after_see, cell_at, edge_at, input_count, is_reserved, is_told, new_edge, new_mark, new_picture, no_cell, output_count, peer, port_edge, reserve_of, told_if, wire_at}
 use Rattle.std.specs.Prelude.{Bool, IfSome, List, None, Option, Some, [], false, length, map, slice_index_or, true, ℕ, ⊤, ◌&&◌, ◌+◌, ◌<◌, ◌==◌, ◌∷◌, ◌≡◌, ◌≢◌, ◌≤◌}
 use Rattle.proc_api.specs.declared.status.Wake.TheVariants as wake
 use Rattle.exec_laws.specs.declared.edges.DueCall.TheVariants as call
@@ -24,7 +24,7 @@ cells_of seen cells = map (cell_picture seen) cells
 pub record Board : Type 0 where
   pub wires : List Wire
   pub cells : List CellPicture
-  pub edges : List Edge
+  pub edges : List EdgeState
   pub ranks : List ℕ
   pub reserves : List Reserve
   -- for each node how many edges of its reserve aren't wired
@@ -52,7 +52,7 @@ abbrev pub ChangesCell : ℕ → (CellPicture → CellPicture → Type 0) → Li
 ChangesCell n R cells after = Changes no_cell n R cells after
 
 -- one edge alone has moved on, in this way
-abbrev pub MovesEdge : ℕ → (Edge → Edge) → List Edge → List Edge → Type 0
+abbrev pub MovesEdge : ℕ → (EdgeState → EdgeState) → List EdgeState → List EdgeState → Type 0
 MovesEdge e how edges moved = Changes new_edge e (λ before now. now ≡ how before) edges moved
 
 -- ---- the run
@@ -127,7 +127,7 @@ pub record AreNewPorts (wires : List Wire) (n : ℕ) (ports : NodePorts) : Type 
   pub mark : ports.mark ≡ new_mark (output_count wires n)
   pub edges : AreEdgesOf wires n ports.inputs.items ports.outputs.items
 
-pub record AreNewEdges (count : ℕ) (edges : List Edge) : Type 0 where
+pub record AreNewEdges (count : ℕ) (edges : List EdgeState) : Type 0 where
   pub len : length edges ≡ count
   pub each : (e : ℕ) → e < count → edge_at edges e ≡ new_edge
 

@@ -4,7 +4,7 @@ ghost use Rattle.pipeline_exec.specs.Cells.{Carries, CarriesOne, ChangesCell, Is
 
 use crate::cell::{Cell, edge_of_cell};
 use crate::executor_state::{ExecutorState, wire_of};
-use exec_laws::Edge;
+use exec_laws::EdgeState;
 use port_word::{Action, Port, Wire};
 use proc_api::Processor;
 
@@ -112,14 +112,14 @@ fn tell_cell<P: Processor>(cell: &mut Cell<P>, told: bool)
     }
 }
 
-fn act_at(edges: &mut Vec<Edge>, e: usize, action: Action)
+fn act_at(edges: &mut Vec<EdgeState>, e: usize, action: Action)
     requires { e < length edges.old.items }
     ensures { MovesEdge e (after_action action) edges.old.items edges.new.items }
 {
     act_on(&mut edges[e], action);
 }
 
-fn act_on(edge: &mut Edge, action: Action)
+fn act_on(edge: &mut EdgeState, action: Action)
     ensures { edge.new ≡ after_action action edge.old }
 {
     match action {

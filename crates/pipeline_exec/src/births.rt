@@ -14,7 +14,7 @@ use crate::executor_state::{ExecutorState, count_ports, edge_numbers, holds_node
 use crate::growth::{GrownGraph, check_growth, is_unborn, reserve_of, unborn_of};
 use crate::rounds::mark_of;
 use chunk_data::{List, Memory};
-use exec_laws::{DueCall, Edge, GrowthFlaw, NodeState};
+use exec_laws::{DueCall, EdgeState, GrowthFlaw, NodeState};
 use port_word::{Reserve, Wire};
 use proc_api::{GrowNode, Growth, Processor, WorkFault};
 use query_model::processor_spec::Spec;
@@ -217,11 +217,11 @@ fn ports_at(
     Ok(all)
 }
 
-fn add_edges(edges: &mut Vec<Edge>, count: usize) -> Result<(), Memory>
+fn add_edges(edges: &mut Vec<EdgeState>, count: usize) -> Result<(), Memory>
     ensures { OnOk result (edges.new.items ≡ edges.old.items ++ replicate count new_edge) }
 {
     for _edge in 0..count {
-        edges.push(Edge::new())?;
+        edges.push(EdgeState::new())?;
     }
     Ok(())
 }

@@ -6,7 +6,7 @@ ghost use Rattle.pipeline_exec.specs.Cells.{AreFirstEdges, AreFirstPorts, AreNew
 
 use crate::cell::{Cell, NodePorts, Side, port_on};
 use chunk_data::{List, Memory};
-use exec_laws::{Edge, NodeMark, NodeState};
+use exec_laws::{EdgeState, NodeMark, NodeState};
 use port_word::{Port, PortView, Reserve, Wire};
 use std::alloc::Global;
 
@@ -15,7 +15,7 @@ use std::alloc::Global;
 pub(crate) struct ExecutorState<P> {
     pub cells: Vec<Cell<P>>,
     pub wires: List<Wire>,
-    pub edges: Vec<Edge>,
+    pub edges: Vec<EdgeState>,
     pub ranks: Vec<u32>,
     pub reserves: List<Reserve>,
     /// For each node how many edges of its reserve aren't wired.
@@ -156,12 +156,12 @@ fn edge_at(wires: &[Wire], n: usize, port: Port) -> usize
 }
 
 /// New edges, one for each wire.
-pub(crate) fn new_edges(alloc: Global, count: usize) -> Result<Vec<Edge>, Memory>
+pub(crate) fn new_edges(alloc: Global, count: usize) -> Result<Vec<EdgeState>, Memory>
     ensures { IfOk result (λ edges. AreNewEdges count edges.items) }
 {
     let mut edges = Vec::with_capacity(alloc, count)?;
     for _edge in 0..count {
-        edges.push(Edge::new())?;
+        edges.push(EdgeState::new())?;
     }
     Ok(edges)
 }

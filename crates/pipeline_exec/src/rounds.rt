@@ -11,7 +11,7 @@ use crate::calls::call_nodes;
 use crate::cell::{Cell, Side, port_on, prepare_cell, see};
 use crate::executor_state::ExecutorState;
 use chunk_data::Chunk;
-use exec_laws::{Edge, NodeMark, NodeState};
+use exec_laws::{EdgeState, NodeMark, NodeState};
 use port_word::{Flags, Port};
 use proc_api::Processor;
 use std::alloc::Global;
@@ -160,14 +160,14 @@ fn show_port<P: Processor>(state: &mut ExecutorState<P>, n: usize, side: Side, k
     see_at(&mut state.cells, n, port, flags, chunk);
 }
 
-fn flags_at(edges: &Vec<Edge>, e: usize) -> Flags
+fn flags_at(edges: &Vec<EdgeState>, e: usize) -> Flags
     requires { e < length edges.now.items }
     ensures { result ≡ (edge_at edges.now.items e).flags }
 {
     edges[e].flags
 }
 
-fn lift_at(edges: &mut Vec<Edge>, e: usize, port: Port) -> Option<Chunk>
+fn lift_at(edges: &mut Vec<EdgeState>, e: usize, port: Port) -> Option<Chunk>
     requires { e < length edges.old.items }
     ensures chunk { result ≡ lifted port (edge_at edges.old.items e) }
     ensures edges { MovesEdge e (unloaded port) edges.old.items edges.new.items }
@@ -176,7 +176,7 @@ fn lift_at(edges: &mut Vec<Edge>, e: usize, port: Port) -> Option<Chunk>
 }
 
 /// Takes the chunk that lies in the edge for an input, unless the input is closed.
-fn lift(edge: &mut Edge, port: Port) -> Option<Chunk>
+fn lift(edge: &mut EdgeState, port: Port) -> Option<Chunk>
     ensures chunk { result ≡ lifted port edge.old }
     ensures edge { edge.new ≡ unloaded port edge.old }
 {

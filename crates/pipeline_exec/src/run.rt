@@ -14,14 +14,14 @@ use crate::growth::edges_left;
 use crate::rounds::run_rounds;
 use chunk_data::{List, Memory};
 use exec_graph::Graph;
-use exec_laws::{Edge, GrowthFlaw, StuckNode};
+use exec_laws::{EdgeState, GrowthFlaw, StuckNode};
 use port_word::{Reserve, Wire};
 use proc_api::{Processor, WorkFault};
 use std::alloc::Global;
 use std::thread::Threads;
 
 /// How a run ended.
-#[derive(Debug, Drop)]
+#[derive(Drop)]
 pub enum ExecEnd {
     /// All nodes are over, and the chunks pulled at each edge are those pushed, but for what a
     /// consumer closed.
@@ -99,10 +99,7 @@ fn run_boxes<P: Processor, R: Threads + Sync>(
       boxes = map P.seen boxes.old.items;
     }) (map P.seen boxes.new.items) }
 {
-    let ports = match new_ports(alloc, boxes.len(), wires.as_slice(), reserves.as_slice()) {
-        Ok(ports) => ports,
-        Err(Memory) => return ExecEnd::Memory,
-    };
+    // Cells and ports are made last, since more is to be dropped with them.
     let edges = match new_edges(alloc, wires.len()) {
         Ok(edges) => edges,
         Err(Memory) => return ExecEnd::Memory,
@@ -111,10 +108,14 @@ fn run_boxes<P: Processor, R: Threads + Sync>(
         Ok(left) => left,
         Err(Memory) => return ExecEnd::Memory,
     };
-    let Ok(cells) = Vec::with_capacity(alloc, boxes.len()) else {
+    let Ok(report) = Vec::with_capacity(alloc, boxes.len()) else {
         return ExecEnd::Memory
     };
-    let Ok(report) = Vec::with_capacity(alloc, boxes.len()) else {
+    let ports = match new_ports(alloc, boxes.len(), wires.as_slice(), reserves.as_slice()) {
+        Ok(ports) => ports,
+        Err(Memory) => return ExecEnd::Memory,
+    };
+    let Ok(cells) = Vec::with_capacity(alloc, boxes.len()) else {
         return ExecEnd::Memory
     };
     let state = ExecutorState {
