@@ -121,9 +121,11 @@ pub(crate) fn give_back(rack: &mut Rack, boxes: Vec<Box<dyn Processor + Send>>)
     put_back(rack, boxes);
 }
 
-fn unload_boxes(boxes: &mut Vec<Box<dyn Processor + Send>>)
-    ensures { UnloadsFirst (length boxes.old.items) (map (λ b. seen b) boxes.old.items)
+/// Unloads each of the boxes, so that it is blank whatever it was.
+pub fn unload_boxes(boxes: &mut Vec<Box<dyn Processor + Send>>)
+    ensures unloaded { UnloadsFirst (length boxes.old.items) (map (λ b. seen b) boxes.old.items)
         (map (λ b. seen b) boxes.new.items) }
+    ensures blank { All IsBlank (map (λ b. seen b) boxes.new.items) }
 {
     for i in 0..boxes.len() {
         unload_at(boxes, i);

@@ -4,4 +4,5 @@
 mod boxes;
 mod run;
 
+pub use boxes::unload_boxes;
 pub use run::{GraphForm, PlanFault, PlanGraph, run_plan};

@@ -35,7 +35,7 @@ pub struct GraphForm {
 }
 
 /// Why a plan gave no rows.
-#[derive(Clone, Copy, Debug, PartialEq, Eq)]
+#[derive(Clone, Copy, PartialEq, Eq)]
 pub enum PlanFault {
     /// The box of this node answered this fault, which isn't `Memory`.
     Fault(u32, WorkFault),
