@@ -1,5 +1,5 @@
 -- The names from outside that this crate's proofs use, in one place.
-pub use Rattle.chunk_data.proofs.Imports.{Equal, Greater, Less, Ordering, get_or_default, kind_of, values}
+pub use Rattle.chunk_data.proofs.Imports.{Equal, Greater, Less, Ordering, get_or_default, column_type, values}
 pub use Rattle.chunk_data.proofs.Laws.{AreLong_of_made, rows_of_made}
 pub use Rattle.chunk_data.specs.declared.typed_column.Column.{Column}
 pub use Rattle.expr_eval.specs.Results.{IsMade, arith_type, flipped, residue, result_type, swap_if}

@@ -1,5 +1,5 @@
 -- What operators give at each pair of values.
-use Rattle.chunk_data.specs.Names.{Table, kind_of, values}
+use Rattle.chunk_data.specs.Names.{Table, column_type, values}
 use Rattle.chunk_data.specs.declared.typed_column.Column.{Column}
 use Rattle.query_model.specs.Expressions.{Expr, gives_uint, is_uint_column, type_of, value_of}
 use Rattle.query_model.specs.Prelude.{ColumnType, int_rem_euclid}
@@ -34,7 +34,7 @@ abbrev pub IsMade : Expr → Table → Option Column → Type 0
 IsMade (expr.Column c) table made = made ≡ None
 IsMade (expr.Number n) table made = made ≡ None
 IsMade (expr.Arith' op p a q b) table None = ⊥
-IsMade (expr.Arith' op p a q b) table (Some c) = (kind_of c ≡ type_of (expr.Arith' op p a q b)
+IsMade (expr.Arith' op p a q b) table (Some c) = (column_type c ≡ type_of (expr.Arith' op p a q b)
     table.types) × (values c ≡ map (value_of (expr.Arith' op p a q b)) table.rows)
 
 -- the comparison that is true of two operands in the other order

@@ -1,7 +1,7 @@
 ghost use Rattle.std.specs.Prelude.{◌≡◌, pos, length, map, IfOk, IfSome, None, false};
 ghost use Rattle.std.specs.List.{zip};
 ghost use Rattle.std.specs.Ordering.{int_cmp};
-ghost use Rattle.chunk_data.specs.Columns.{kind_of, values};
+ghost use Rattle.chunk_data.specs.Columns.{column_type, values};
 ghost use Rattle.query_model.specs.Names.{value_of, type_of, operand_value, holds, number_of, plain_value, passes, compared, IsTyped, IsTypedOperand, IsTypedCond, operand_type, is_text, plain_of};
 
 use crate::compare_loops::{
@@ -9,7 +9,7 @@ use crate::compare_loops::{
     number_as_wide, numbers_pass, text_mask, text_mask_beside, text_passes, uint_far_mask,
     uint_mask, uint_mask_beside,
 };
-use crate::expression::{column_at, made, plain_number};
+use crate::expression::{arith_column, column_at, plain_number};
 use chunk_data::{Bytes, Chunk, Column, ColumnType, Memory, Value};
 use query_model::checked::{Cond, Expr};
 use query_model::query::{CompareOp, CondOf, ExprOf, Number, Operand};
@@ -66,7 +66,7 @@ fn column_beside(
     column: &Column,
     n: Number,
 ) -> Result<Vec<bool>, Memory>
-    requires { is_text (kind_of column.now) ≡ false }
+    requires { is_text (column_type column.now) ≡ false }
     ensures { IfOk result (λ m. m.items
         ≡ map (λ v. passes op (compared v (plain_value (number_of n)))) (values column.now)) }
 {
@@ -90,7 +90,7 @@ fn ints_and_column(
     xs: &[i64],
     right: &Column,
 ) -> Result<Vec<bool>, Memory>
-    requires { is_text (kind_of right.now) ≡ false }
+    requires { is_text (column_type right.now) ≡ false }
     ensures { IfOk result (λ m. m.items
         ≡ map (λ p. passes op (compared p.0 p.1)) (zip (map Value.Int xs.now) (values right.now))) }
 {
@@ -114,7 +114,7 @@ fn uints_and_column(
     xs: &[u64],
     right: &Column,
 ) -> Result<Vec<bool>, Memory>
-    requires { is_text (kind_of right.now) ≡ false }
+    requires { is_text (column_type right.now) ≡ false }
     ensures { IfOk result (λ m. m.items ≡ map (λ p. passes op (compared p.0 p.1))
         (zip (map Value.UInt xs.now) (values right.now))) }
 {
@@ -133,7 +133,7 @@ fn uints_and_column(
 
 // The comparison at each pair of values of two columns, both of numbers or both of texts.
 fn columns(alloc: Global, op: CompareOp, left: &Column, right: &Column) -> Result<Vec<bool>, Memory>
-    requires alike { is_text (kind_of left.now) ≡ is_text (kind_of right.now) }
+    requires alike { is_text (column_type left.now) ≡ is_text (column_type right.now) }
     requires long { length (values right.now) ≡ length (values left.now) }
     ensures { IfOk result (λ m. m.items
         ≡ map (λ p. passes op (compared p.0 p.1)) (zip (values left.now) (values right.now))) }
@@ -168,7 +168,7 @@ fn number_compared(
     ensures { IfOk result (λ m. m.items ≡ map (λ row. passes op
         (compared (value_of expr.now row) (plain_value (number_of n)))) chunk.now.rows) }
 {
-    let column = made(alloc, expr, chunk)?;
+    let column = arith_column(alloc, expr, chunk)?;
     let mask = column_beside(alloc, op, column_at(expr, &column, chunk), n)?;
     Ok(mask)
 }
@@ -190,8 +190,8 @@ fn expressions_compared(
     ensures { IfOk result (λ m. m.items ≡ map (λ row. passes op
         (compared (value_of left.now row) (value_of right.now row))) chunk.now.rows) }
 {
-    let left_made = made(alloc, left, chunk)?;
-    let right_made = made(alloc, right, chunk)?;
+    let left_made = arith_column(alloc, left, chunk)?;
+    let right_made = arith_column(alloc, right, chunk)?;
     let here = column_at(left, &left_made, chunk);
     let there = column_at(right, &right_made, chunk);
     let mask = columns(alloc, op, here, there)?;

@@ -1,7 +1,7 @@
 ghost use Rattle.std.specs.Prelude.{◌≡◌, pos, length, map, IfOk, None, Some};
 ghost use Rattle.std.specs.Option.{option_map};
 ghost use Rattle.std.specs.List.{zip};
-ghost use Rattle.chunk_data.specs.Columns.{kind_of, values};
+ghost use Rattle.chunk_data.specs.Columns.{column_type, values};
 ghost use Rattle.query_model.specs.Names.{value_of, type_of, number_of, plain_value, arith_value, IsItem, IsTyped, plain_of, CanHold, AreNumbersAlike, AreAlike};
 ghost use Rattle.expr_eval.specs.Results.{IsMade, swap_if, result_type, arith_type};
 
@@ -53,7 +53,7 @@ fn int_beside(
     xs: &[i64],
     y: i64,
 ) -> Result<Column, Memory>
-    ensures kind { IfOk result (λ c. kind_of c ≡ ColumnType.Int64) }
+    ensures kind { IfOk result (λ c. column_type c ≡ ColumnType.Int64) }
     ensures values { IfOk result (λ c. values c
         ≡ map (λ v. swap_if swapped (arith_value op) v (plain_value y)) (map Value.Int xs.now)) }
 {
@@ -71,7 +71,7 @@ fn uint_beside(
     xs: &[u64],
     y: u64,
 ) -> Result<Column, Memory>
-    ensures kind { IfOk result (λ c. kind_of c ≡ result_type op ColumnType.UInt64) }
+    ensures kind { IfOk result (λ c. column_type c ≡ result_type op ColumnType.UInt64) }
     ensures values { IfOk result (λ c. values c
         ≡ map (λ v. swap_if swapped (arith_value op) v (Value.UInt y)) (map Value.UInt xs.now)) }
 {
@@ -95,8 +95,8 @@ fn beside(
     column: &Column,
     n: Number,
 ) -> Result<Column, Memory>
-    requires { CanHold (kind_of column.now) (number_of n) }
-    ensures kind { IfOk result (λ c. kind_of c ≡ result_type op (kind_of column.now)) }
+    requires { CanHold (column_type column.now) (number_of n) }
+    ensures kind { IfOk result (λ c. column_type c ≡ result_type op (column_type column.now)) }
     ensures values { IfOk result (λ c. values c ≡ map
         (λ v. swap_if swapped (arith_value op) v (plain_value (number_of n))) (values column.now)) }
 {
@@ -109,7 +109,7 @@ fn beside(
 
 // The operator at each pair of Int64.
 fn int_pairs(alloc: Global, op: ArithOp, xs: &[i64], ys: &[i64]) -> Result<Column, Memory>
-    ensures kind { IfOk result (λ c. kind_of c ≡ ColumnType.Int64) }
+    ensures kind { IfOk result (λ c. column_type c ≡ ColumnType.Int64) }
     ensures values { IfOk result (λ c. values c
         ≡ map (λ p. arith_value op p.0 p.1) (zip (map Value.Int xs.now) (map Value.Int ys.now))) }
 {
@@ -121,7 +121,7 @@ fn int_pairs(alloc: Global, op: ArithOp, xs: &[i64], ys: &[i64]) -> Result<Colum
 
 // The operator at each pair of UInt64.
 fn uint_pairs(alloc: Global, op: ArithOp, xs: &[u64], ys: &[u64]) -> Result<Column, Memory>
-    ensures kind { IfOk result (λ c. kind_of c ≡ result_type op ColumnType.UInt64) }
+    ensures kind { IfOk result (λ c. column_type c ≡ result_type op ColumnType.UInt64) }
     ensures values { IfOk result (λ c. values c
         ≡ map (λ p. arith_value op p.0 p.1) (zip (map Value.UInt xs.now) (map Value.UInt ys.now))) }
 {
@@ -139,8 +139,8 @@ fn uint_pairs(alloc: Global, op: ArithOp, xs: &[u64], ys: &[u64]) -> Result<Colu
 
 // The operator at each pair of values.
 fn pairs(alloc: Global, op: ArithOp, left: &Column, right: &Column) -> Result<Column, Memory>
-    requires { AreNumbersAlike (kind_of left.now) (kind_of right.now) }
-    ensures kind { IfOk result (λ c. kind_of c ≡ result_type op (kind_of left.now)) }
+    requires { AreNumbersAlike (column_type left.now) (column_type right.now) }
+    ensures kind { IfOk result (λ c. column_type c ≡ result_type op (column_type left.now)) }
     ensures values { IfOk result (λ c. values c
         ≡ map (λ p. arith_value op p.0 p.1) (zip (values left.now) (values right.now))) }
 {
@@ -153,9 +153,9 @@ fn pairs(alloc: Global, op: ArithOp, left: &Column, right: &Column) -> Result<Co
 
 // The same in the left column's memory, where the results are of its type.
 fn pairs_onto(alloc: Global, op: ArithOp, left: Column, right: &Column) -> Result<Column, Memory>
-    requires alike { AreNumbersAlike (kind_of left) (kind_of right.now) }
+    requires alike { AreNumbersAlike (column_type left) (column_type right.now) }
     requires long { length (values right.now) ≡ length (values left) }
-    ensures kind { IfOk result (λ c. kind_of c ≡ result_type op (kind_of left)) }
+    ensures kind { IfOk result (λ c. column_type c ≡ result_type op (column_type left)) }
     ensures values { IfOk result
         (λ c. values c ≡ map (λ p. arith_value op p.0 p.1) (zip (values left) (values right.now))) }
 {
@@ -173,7 +173,7 @@ pub(crate) fn column_at<'a>(expr: &Expr, made: &'a Option<Column>, chunk: &'a Ch
     requires typed { IsTyped chunk.now.types expr.now }
     requires not_plain { plain_of expr.now ≡ None }
     requires made { IsMade expr.now chunk.now made.now }
-    ensures kind { kind_of result.now ≡ type_of expr.now chunk.now.types }
+    ensures kind { column_type result.now ≡ type_of expr.now chunk.now.types }
     ensures values { values result.now ≡ map (value_of expr.now) chunk.now.rows }
 {
     match made {
@@ -201,7 +201,7 @@ fn number_beside(
     requires made { IsMade expr.now chunk.now made }
     requires held { CanHold (type_of expr.now chunk.now.types) (number_of n) }
     ensures kind { IfOk result
-        (λ c. kind_of c ≡ result_type op (type_of expr.now chunk.now.types)) }
+        (λ c. column_type c ≡ result_type op (type_of expr.now chunk.now.types)) }
     ensures values { IfOk result (λ c. values c ≡ map (λ row. swap_if swapped (arith_value op)
         (value_of expr.now row) (plain_value (number_of n))) chunk.now.rows) }
 {
@@ -228,7 +228,7 @@ fn expressions(
     requires left_made { IsMade left.now chunk.now left_made }
     requires right_made { IsMade right.now chunk.now right_made }
     ensures kind { IfOk result
-        (λ c. kind_of c ≡ result_type op (type_of left.now chunk.now.types)) }
+        (λ c. column_type c ≡ result_type op (type_of left.now chunk.now.types)) }
     ensures values { IfOk result (λ c. values c ≡ map
         (λ row. arith_value op (value_of left.now row) (value_of right.now row)) chunk.now.rows) }
 {
@@ -262,7 +262,7 @@ fn arith(
         (plain_of right.now) (type_of right.now chunk.now.types) }
     requires left_made { IsMade left.now chunk.now left_made }
     requires right_made { IsMade right.now chunk.now right_made }
-    ensures kind { IfOk result (λ c. kind_of c
+    ensures kind { IfOk result (λ c. column_type c
         ≡ arith_type op (type_of left.now chunk.now.types) (type_of right.now chunk.now.types)) }
     ensures values { IfOk result (λ c. values c ≡ map
         (λ row. arith_value op (value_of left.now row) (value_of right.now row)) chunk.now.rows) }
@@ -287,7 +287,11 @@ fn arith(
 
 /// The column of the expression's values, where it is neither a column reference nor a plain
 /// number.
-pub(crate) fn made(alloc: Global, expr: &Expr, chunk: &Chunk) -> Result<Option<Column>, Memory>
+pub(crate) fn arith_column(
+    alloc: Global,
+    expr: &Expr,
+    chunk: &Chunk,
+) -> Result<Option<Column>, Memory>
     requires { IsTyped chunk.now.types expr.now }
     ensures { IfOk result (λ m. IsMade expr.now chunk.now m) }
 {
@@ -295,8 +299,8 @@ pub(crate) fn made(alloc: Global, expr: &Expr, chunk: &Chunk) -> Result<Option<C
         ExprOf::Column(_) => Ok(None),
         ExprOf::Number(_) => Ok(None),
         ExprOf::Arith(op, left, right) => {
-            let left_made = made(alloc, left, chunk)?;
-            let right_made = made(alloc, right, chunk)?;
+            let left_made = arith_column(alloc, left, chunk)?;
+            let right_made = arith_column(alloc, right, chunk)?;
             let column = arith(alloc, *op, left, left_made, right, right_made, chunk)?;
             Ok(Some(column))
         }
@@ -307,7 +311,7 @@ pub(crate) fn made(alloc: Global, expr: &Expr, chunk: &Chunk) -> Result<Option<C
 /// is read in place.
 pub fn eval(alloc: Global, expr: &Expr, chunk: &Chunk) -> Result<Column, Memory>
     requires { IsItem chunk.now.types expr.now }
-    ensures kind { IfOk result (λ c. kind_of c ≡ type_of expr.now chunk.now.types) }
+    ensures kind { IfOk result (λ c. column_type c ≡ type_of expr.now chunk.now.types) }
     ensures values { IfOk result (λ c. values c ≡ map (value_of expr.now) chunk.now.rows) }
 {
     match expr {
@@ -316,7 +320,7 @@ pub fn eval(alloc: Global, expr: &Expr, chunk: &Chunk) -> Result<Column, Memory>
             Ok(column)
         }
         ExprOf::Number(_) => unreachable!(),
-        ExprOf::Arith(_, _, _) => match made(alloc, expr, chunk)? {
+        ExprOf::Arith(_, _, _) => match arith_column(alloc, expr, chunk)? {
             Some(column) => Ok(column),
             None => unreachable!(),
         },

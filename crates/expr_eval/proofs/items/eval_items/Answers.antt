@@ -1,4 +1,4 @@
-use Rattle.expr_eval.proofs.Imports.{AreLong_of_made, ap, arith, kind_of, map, rows_of_made, take_all, type_of, value_of, values, ◌∙◌, ◌≡◌}
+use Rattle.expr_eval.proofs.Imports.{AreLong_of_made, ap, arith, column_type, map, rows_of_made, take_all, type_of, value_of, values, ◌∙◌, ◌≡◌}
 use Rattle.expr_eval.proofs.items.eval_items.Goals as goal
 
 pub of_columns-requires : goal.of_columns-requires
@@ -11,7 +11,7 @@ of_columns-requires c =
 
 pub returns-in-Ok-clause-types : goal.returns-in-Ok-clause-types
 returns-in-Ok-clause-types c =
-    c.in-Ok.ensures.types ∙ ap (map kind_of) c.from_vec.ensures ∙ c.loop-item.invariant.0
+    c.in-Ok.ensures.types ∙ ap (map column_type) c.from_vec.ensures ∙ c.loop-item.invariant.0
     ∙ ap (map (λ e. type_of e c.args.chunk.now.types))
     (take_all c.loop-item.item-index c.args.items.now (omega arith))
 

@@ -1,5 +1,5 @@
 use Rattle.expr_eval.proofs.Imports.{type_of, value_of}
-use Rattle.expr_eval.proofs.expression.+made.Goals as goal
+use Rattle.expr_eval.proofs.expression.+arith_column.Goals as goal
 
 pub returns-in_ok-column-in-Arith : goal.returns-in_ok-column-in-Arith
 unfolding value_of type_of
