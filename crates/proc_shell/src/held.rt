@@ -5,7 +5,7 @@ use chunk_data::Chunk;
 
 /// What lies between the inputs and the outputs: nothing, a chunk of an input that isn't worked
 /// yet, or one that can be pushed.
-#[derive(Debug, Drop)]
+#[derive(Drop)]
 pub enum Held {
     Nothing,
     Unworked(usize, Chunk),

@@ -10,7 +10,7 @@ use query_model::processor_spec::{Kind, Spec};
 use std::alloc::Global;
 
 /// What a kernel offers where its shell holds no chunk.
-#[derive(Clone, Copy, Debug, PartialEq, Eq)]
+#[derive(Clone, Copy, PartialEq, Eq)]
 pub enum Offer {
     /// Rows can be made.
     Rows,
