@@ -3,7 +3,7 @@ pub use Rattle.chunk_data.proofs.Chunks.{AreColumns-empty, AreColumns-push, rows
 pub use Rattle.chunk_data.proofs.ColumnLists.{Joined, Joined-all, Joined-long, Joined-more, fits_long}
 pub use Rattle.chunk_data.proofs.Imports.{Equal, Less, Ordering}
 pub use Rattle.chunk_data.proofs.Laws.{column_fits, length-FitsTypes, length-rows_of}
-pub use Rattle.chunk_data.specs.Names.{AgreeOnKey, AreColumns, FitsTypes, IsTable, Row, Table, joined, key_cmp, kind_of, row_at, rows_of, text_cmp, type_of, value_at, value_cmp, values}
+pub use Rattle.chunk_data.specs.Names.{AgreeOnKey, AreColumns, FitsTypes, IsTable, Row, Table, append_each, key_cmp, column_type, row_at, rows_of, text_cmp, type_of, value_at, value_cmp, values}
 pub use Rattle.chunk_data.specs.declared.lists.Memory.{Memory}
 pub use Rattle.chunk_data.specs.declared.typed_column.Column.{Column}
 pub use Rattle.proc_api.proofs.Imports.{All, All-permutation, AllByRecursion, Contains, IsPermutation-append_comm, IsPermutation-append_left, IsPermutation-append_right, IsPermutation-middle, IsPermutation-refl, IsPermutation-trans, IsSortedBy, Picture, SortKey, get_or-eq_default, in_count, input_at, list_all, ranks_by, row_cmp_total}

@@ -1,7 +1,7 @@
 -- The clauses of a merge's kernel.
 use Rattle.std.proofs.lemmas.Grind.{common_steps}
 use Rattle.std.proofs.Common.{◌≡◌, ◌⊎◌, ℕ, suc, ◌+◌, ◌<◌, ◌≤◌, max, ◌&&◌, not, true, false, List, [], ◌∷◌, ◌++◌, length, map, take, drop, get_or, set, append_assoc, Some, None, Result, IfOk, refl, sym, ap, ap₂, subst, ◌∙◌, arith, inl, inr}
-use Rattle.sort_procs.proofs.Imports.{AreBlank, AreColumns, AreColumns-push, AreHeadsOf, AreMerged, Begins, Column, FitsTypes, Head, InputHead, IsFirstOf, IsTable, Leaves, Makes, Memory, MergesRows, MergesSome, NotesEnds, Offer, OfferComes, Offers, Picture, Row, SortSpec, Table, Takes, WantsMore, and_parts, append-nil, at, cases_lt, chunk_rows, cond_both, drop-cons, drop_all, first_row, get_or-map, get_or-set_same, head_at, head_of, head_rows, heads_of, in_count, is_lt, is_open_at, is_ready, is_ready_head, is_used, joined, kind_of, le-leb, le-ltb, leb-false, leb-true, length-FitsTypes, length-append, length-drop, length-map, length-rows_of, length-set, list_all, list_all-map, lt-leb, lt-ltb, map-set, merging_own, nil_from_length, no_head, not-true, or_left, row_cmp, rows_of, rows_of_pushed, value_at, values, with_chunk, written_back}
+use Rattle.sort_procs.proofs.Imports.{AreBlank, AreColumns, AreColumns-push, AreHeadsOf, AreMerged, Begins, Column, FitsTypes, Head, InputHead, IsFirstOf, IsTable, Leaves, Makes, Memory, MergesRows, MergesSome, NotesEnds, Offer, OfferComes, Offers, Picture, Row, SortSpec, Table, Takes, WantsMore, and_parts, append-nil, at, cases_lt, chunk_rows, cond_both, drop-cons, drop_all, first_row, get_or-map, get_or-set_same, head_at, head_of, head_rows, heads_of, in_count, is_lt, is_open_at, is_ready, is_ready_head, is_used, append_each, column_type, le-leb, le-ltb, leb-false, leb-true, length-FitsTypes, length-append, length-drop, length-map, length-rows_of, length-set, list_all, list_all-map, lt-leb, lt-ltb, map-set, merging_own, nil_from_length, no_head, not-true, or_left, row_cmp, rows_of, rows_of_pushed, value_at, values, with_chunk, written_back}
 use Rattle.query_model.specs.declared.processor_spec.Spec.TheVariants as spec
 use Rattle.sort_procs.proofs.HeadLaws.{all-pass, each-passes, head-at, read-at}
 use Rattle.sort_procs.proofs.MergingLaws.{merged-made, merged-none, merged-noted, merged-taken, same-heads, set-each}
@@ -173,8 +173,9 @@ module _ {order : SortSpec} {old now : List Head} {n i : ℕ} {columns : List Co
   least j lt g rest is = grind (arith, head-at, used-none, leb-false, drop-cons, free)
 
   rows-more : (more : List Column) → FitsTypes order.types (first_row (at now i))
-      → map kind_of more ≡ map kind_of columns
-      → map values more ≡ joined (map values columns) (map (λ v. v ∷ []) (first_row (at now i)))
+      → map column_type more ≡ map column_type columns
+      → map values more
+      ≡ append_each (map values columns) (map (λ v. v ∷ []) (first_row (at now i)))
       → MergesRows order old (set now i next) (n + 1) more
   rows-more more fits k v = record {
     are = AreColumns-push order.types columns more (first_row (at now i)) n h.are k v;
@@ -213,9 +214,9 @@ module _ {order : SortSpec} {old now : List Head} {n i : ℕ} {columns : List Co
   step-fits = grind (arith, common_steps, same, length-set, set-each, free)
 
   pub step-rows : (more : List Column) → IsTable (get_or now i u).chunk
-      → map kind_of more ≡ map kind_of columns
+      → map column_type more ≡ map column_type columns
       → map values more
-      ≡ joined (map values columns) (map (λ v. v ∷ []) (first_row (get_or now i x)))
+      ≡ append_each (map values columns) (map (λ v. v ∷ []) (first_row (get_or now i x)))
       → MergesRows order old later (n + 1) more
   step-rows more table k v = grind (arith, common_steps, read-at, same, rows-more, free, leb-false)
 
@@ -232,7 +233,7 @@ first-used order heads i are f used = grind (arith, all-pass, least)
 -- a chunk of the columns
 pub merged-chunk : (order : SortSpec) (old new : List Head) (n : ℕ) (columns : List Column)
     (r : Result Table Memory) → MergesRows order old new n columns → n ≤ max order.rows 1
-    → (0 < n) ⊎ (list_all is_used new ≡ true) → IfOk r (λ c. c.types ≡ map kind_of columns)
+    → (0 < n) ⊎ (list_all is_used new ≡ true) → IfOk r (λ c. c.types ≡ map column_type columns)
     → IfOk r (λ c. c.rows ≡ rows_of n (map values columns)) → IfOk r (MergesSome order old new)
 merged-chunk order old new n columns r h few some types rows = grind (arith, length-rows_of)
 

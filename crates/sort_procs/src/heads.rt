@@ -12,7 +12,7 @@ use query_model::processor_spec::SortSpec;
 
 /// What a merge holds of an input: its last chunk, of which so many rows were made, and whether its
 /// end was noted.
-#[derive(Debug, Drop)]
+#[derive(Drop)]
 pub(crate) struct Head {
     pub(crate) chunk: Chunk,
     pub(crate) place: usize,

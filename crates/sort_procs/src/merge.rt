@@ -16,7 +16,7 @@ use std::alloc::Global;
 pub type MergeSorted = Shell<Merging>;
 
 /// A merge inside its shell. It has a head for as many inputs as a node may have.
-#[derive(Debug, Drop)]
+#[derive(Drop)]
 pub struct Merging {
     order: SortSpec,
     heads: Vec<Head>,

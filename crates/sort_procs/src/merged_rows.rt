@@ -1,6 +1,6 @@
 ghost use Rattle.std.specs.Prelude.{◌≡◌, ◌<◌, ◌≤◌, ◌⊎◌, ◌++◌, ◌∷◌, [], true, false, length, map, OnOk, IfOk};
 ghost use Rattle.std.specs.List.{list_all};
-ghost use Rattle.chunk_data.specs.Names.{AreColumns, FitsTypes, joined, kind_of, value_at, values};
+ghost use Rattle.chunk_data.specs.Names.{AreColumns, FitsTypes, append_each, column_type, value_at, values};
 ghost use Rattle.sort_procs.specs.Heads.{AreHeadsOf, first_row, is_ready, is_used};
 ghost use Rattle.sort_procs.specs.Merging.{MergesRows, MergesSome};
 
@@ -59,12 +59,12 @@ fn merge_rows(
 
 // Adds the head's first row to the columns.
 fn push_first(columns: &mut [Column], head: &Head) -> Result<(), Memory>
-    requires kinds { map kind_of columns.old ≡ head.now.chunk.types }
+    requires kinds { map column_type columns.old ≡ head.now.chunk.types }
     requires unused { is_used head.now ≡ false }
     requires fits { FitsTypes head.now.chunk.types (first_row head.now) }
-    ensures kinds { OnOk result (map kind_of columns.new ≡ map kind_of columns.old) }
+    ensures kinds { OnOk result (map column_type columns.new ≡ map column_type columns.old) }
     ensures ok { OnOk result (map values columns.new
-        ≡ joined (map values columns.old) (map (λ v. v ∷ []) (first_row head.now))) }
+        ≡ append_each (map values columns.old) (map (λ v. v ∷ []) (first_row head.now))) }
 {
     for c in 0..columns.len() {
         push_value(&mut columns[c], head.chunk.column(c), head.place)?;
@@ -74,9 +74,9 @@ fn push_first(columns: &mut [Column], head: &Head) -> Result<(), Memory>
 
 // Adds a copy of the other column's value i.
 fn push_value(column: &mut Column, other: &Column, i: usize) -> Result<(), Memory>
-    requires kinds { kind_of other.now ≡ kind_of column.old }
+    requires kinds { column_type other.now ≡ column_type column.old }
     requires in_range { i < length (values other.now) }
-    ensures kind { kind_of column.new ≡ kind_of column.old }
+    ensures kind { column_type column.new ≡ column_type column.old }
     ensures ok { OnOk result (values column.new
         ≡ values column.old ++ value_at (values other.now) i ∷ []) }
 {

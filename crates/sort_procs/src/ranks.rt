@@ -11,7 +11,7 @@ use std::cmp::Ordering;
 
 /// A row by its place, with a number that goes before the keys: it is lower only where the row
 /// comes first.
-#[derive(Clone, Copy, Debug, PartialEq, Eq)]
+#[derive(Clone, Copy, PartialEq, Eq)]
 pub(crate) struct Ranked {
     pub(crate) rank: u64,
     pub(crate) place: usize,

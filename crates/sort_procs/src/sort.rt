@@ -18,7 +18,7 @@ pub type Sort = Shell<Sorting>;
 
 /// A sort inside its shell. It gathers all rows in one chunk, and then their places in order, of
 /// which so many are made.
-#[derive(Debug, Drop)]
+#[derive(Drop)]
 pub struct Sorting {
     order: SortSpec,
     rows: Chunk,
