@@ -1,6 +1,6 @@
 ghost use Rattle.std.specs.Prelude.{◌≡◌, ◌≢◌, ◌<◌, ◌++◌, ◌∷◌, [], fold, length, map, flat_map, slice_index_or, OnOk, IfOk};
 ghost use Rattle.std.specs.List.{All};
-ghost use Rattle.chunk_data.specs.Names.{kind_of, row_at, value_at, values};
+ghost use Rattle.chunk_data.specs.Names.{column_type, row_at, value_at, values};
 ghost use Rattle.chunk_data.specs.declared.typed_value.ColumnType.TheVariants as type;
 ghost use Rattle.key_codes.specs.Keys.{FindsCode, HasKey, IsCell, IsSeenFor, byte_codes, codes_in, first_of, key_at, kind_at, number_codes, places_from, row_code, same_code, value_bytes, value_code, with_key};
 
@@ -59,10 +59,10 @@ pub fn type_at(types: &[ColumnType], c: usize) -> ColumnType
 
 // A number by its bits.
 fn number_at(column: &Column, i: usize) -> u64
-    requires kind { kind_of column.now ≢ type.Text }
+    requires kind { column_type column.now ≢ type.Text }
     requires within { i < length (values column.now) }
     ensures code { result ∷ [] ≡ value_code (value_at (values column.now) i) }
-    ensures cell { IsCell (kind_of column.now) (value_at (values column.now) i) }
+    ensures cell { IsCell (column_type column.now) (value_at (values column.now) i) }
 {
     match column {
         Column::Int64(numbers) => numbers[i].cast_unsigned(),
@@ -73,10 +73,10 @@ fn number_at(column: &Column, i: usize) -> u64
 
 // A text by its bytes.
 fn text_at(column: &Column, i: usize) -> &[u8]
-    requires kind { kind_of column.now ≡ type.Text }
+    requires kind { column_type column.now ≡ type.Text }
     requires within { i < length (values column.now) }
     ensures code { result.now ≡ value_code (value_at (values column.now) i) }
-    ensures cell { IsCell (kind_of column.now) (value_at (values column.now) i) }
+    ensures cell { IsCell (column_type column.now) (value_at (values column.now) i) }
 {
     match column {
         Column::Text(texts) => texts.get(i),
@@ -89,7 +89,7 @@ fn push_value(code: &mut Vec<u8>, column: &Column, i: usize) -> Result<(), Memor
     requires { i < length (values column.now) }
     ensures code { OnOk result
         (code.new.items ≡ code.old.items ++ value_bytes (value_at (values column.now) i)) }
-    ensures cell { IsCell (kind_of column.now) (value_at (values column.now) i) }
+    ensures cell { IsCell (column_type column.now) (value_at (values column.now) i) }
 {
     match column {
         Column::Int64(numbers) => code.extend_from_slice(&numbers[i].to_le_bytes())?,

@@ -1,5 +1,5 @@
 use Rattle.std.proofs.Common.{◌<◌, ◌++◌, length, get_or, ap, ◌∙◌, arith}
-use Rattle.key_codes.proofs.Prelude.{kind_of, row_at, value_at, value_bytes, values}
+use Rattle.key_codes.proofs.Prelude.{column_type, row_at, value_at, value_bytes, values}
 use Rattle.key_codes.proofs.KeyLaws.{bytes-next, cell-type, cell-value, cells-next}
 use Rattle.key_codes.proofs.key_code.write_code.Goals as goal
 
@@ -18,6 +18,6 @@ loop-place-preserved c =
       bytes-next places k row c.push_value.new.code.items cell lt (c.in_ok-push_value.ensures.code
           ∙ ap (λ l. l ++ value_bytes cell) c.loop-place.invariant.0) is,
       cells-next types places k row c.loop-place.invariant.1 lt
-          (cell-type types at (kind_of c.column.result.now) cell _ c.column.ensures.kind within is
-          c.push_value.ensures.cell),
+          (cell-type types at (column_type c.column.result.now) cell _ c.column.ensures.kind within
+          is c.push_value.ensures.cell),
     )
