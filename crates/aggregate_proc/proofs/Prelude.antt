@@ -14,7 +14,7 @@ pub use Rattle.aggregate_proc.specs.Tables.{AreCalls, Folding, GroupsMore, HasKe
 pub use Rattle.aggregate_proc.specs.declared.fold.Fold.{Fold}
 pub use Rattle.aggregate_proc.specs.declared.phase.Phase.{Phase}
 pub use Rattle.chunk_data.proofs.ColumnLists.{changed, changed_all, changed_more, get_or-changed}
-pub use Rattle.chunk_data.proofs.Imports.{AreLong, adds, kind_of, row_at, values}
+pub use Rattle.chunk_data.proofs.Imports.{AreLong, adds, column_type, row_at, values}
 pub use Rattle.chunk_data.proofs.Rows.{length-rows_of}
 pub use Rattle.chunk_data.specs.declared.typed_column.Column.{Column}
 pub use Rattle.indexmap.specs.IndexSet.{insert_key}

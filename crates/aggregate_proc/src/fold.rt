@@ -1,5 +1,5 @@
 ghost use Rattle.std.specs.Prelude.{◌≡◌, ◌≢◌, true, IsTrue, if◌then◌else◌, List, [], length, map, OnOk, IfOk};
-ghost use Rattle.chunk_data.specs.Columns.{kind_of, values};
+ghost use Rattle.chunk_data.specs.Columns.{column_type, values};
 ghost use Rattle.chunk_data.specs.declared.typed_value.Value.{Value};
 ghost use Rattle.chunk_data.specs.declared.typed_value.Value.TheVariants as value;
 ghost use Rattle.aggregate_proc.specs.Cells.{cell_kind, cell_values, can_fold as may_fold, FitsColumn};
@@ -11,7 +11,7 @@ use std::alloc::Global;
 use std::marker::Model;
 
 /// What a column of a group table makes of the values of a group.
-#[derive(Clone, Copy, Debug, PartialEq, Eq)]
+#[derive(Clone, Copy, PartialEq, Eq)]
 pub(crate) enum Fold {
     /// The first value: a key's column keeps it.
     First,
@@ -24,7 +24,7 @@ pub(crate) enum Fold {
 }
 
 /// The values of a column of a group table. Texts lie apart, since each may be replaced.
-#[derive(Debug, Drop)]
+#[derive(Drop)]
 pub(crate) enum Cells {
     Ints(Vec<i64>),
     UInts(Vec<u64>),
@@ -56,7 +56,7 @@ impl Cells {
 
 /// A column of a group table, of which value i is made of the values of group i in a column of the
 /// input.
-#[derive(Debug, Drop)]
+#[derive(Drop)]
 pub(crate) struct FoldColumn {
     op: Fold,
     input: usize,
@@ -271,7 +271,7 @@ impl FoldColumn {
 
     /// The values of all groups, as a column of a chunk.
     pub(crate) fn into_column(self, alloc: Global) -> Result<Column, Memory>
-        ensures kind { IfOk result (λ c. kind_of c ≡ self.kind) }
+        ensures kind { IfOk result (λ c. column_type c ≡ self.kind) }
         ensures values { IfOk result (λ c. values c ≡ self.values) }
     {
         let FoldColumn { cells, .. } = self;

@@ -1,6 +1,6 @@
 ghost use Rattle.std.specs.Prelude.{◌≡◌, ◌≤◌, ◌<◌, ◌++◌, List as Seq, [], length, map, IfOk, OnOk};
 ghost use Rattle.std.specs.List.{All};
-ghost use Rattle.chunk_data.specs.Columns.{kind_of, values};
+ghost use Rattle.chunk_data.specs.Columns.{column_type, values};
 ghost use Rattle.chunk_data.specs.Rows.{rows_of};
 ghost use Rattle.query_model.specs.Sources.{count_up};
 ghost use Rattle.aggregate_proc.specs.Cells.{FitsColumn};
@@ -69,7 +69,7 @@ fn add_to_each(
 
 // Each column's values, as the columns of a chunk.
 fn columns_of(alloc: Global, columns: Vec<FoldColumn>) -> Result<List<Column>, Memory>
-    ensures kinds { IfOk result (λ l. map kind_of l ≡ map (λ c. c.kind) columns.items) }
+    ensures kinds { IfOk result (λ l. map column_type l ≡ map (λ c. c.kind) columns.items) }
     ensures values { IfOk result (λ l. map values l ≡ map (λ c. c.values) columns.items) }
 {
     let mut made = Vec::with_capacity(alloc, columns.len())?;

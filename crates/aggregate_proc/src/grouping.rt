@@ -1,5 +1,5 @@
 ghost use Rattle.std.specs.Prelude.{◌≡◌, ◌↔◌, ◌+◌, ◌<◌, ◌≤◌, Bool, true, false, [], ◌∷◌, drop, length, map, take, IsTrue, IfOk, IfErr, OnOk};
-ghost use Rattle.chunk_data.specs.Columns.{kind_of, values};
+ghost use Rattle.chunk_data.specs.Columns.{column_type, values};
 ghost use Rattle.chunk_data.specs.Values.{default_value};
 ghost use Rattle.proc_api.specs.Grouped.{default_states, group_types};
 ghost use Rattle.proc_api.specs.declared.status.WorkFault.TheVariants as fault;
@@ -40,7 +40,7 @@ pub trait Grouped: Drop {
 }
 
 /// Rows by themselves.
-#[derive(Clone, Copy, Debug, Drop)]
+#[derive(Clone, Copy, Drop)]
 pub struct SingleRows;
 
 impl Grouped for SingleRows {
@@ -54,7 +54,7 @@ impl Grouped for SingleRows {
 }
 
 /// Partial groups, each a row of its key and its states.
-#[derive(Clone, Copy, Debug, Drop)]
+#[derive(Clone, Copy, Drop)]
 pub struct PartialGroups;
 
 impl Grouped for PartialGroups {
@@ -112,7 +112,7 @@ fn same_types(types: &[ColumnType], others: &[ColumnType]) -> bool
 
 // A column of one default value.
 fn default_column(alloc: Global, kind: ColumnType) -> Result<Column, Memory>
-    ensures kind { IfOk result (λ c. kind_of c ≡ kind) }
+    ensures kind { IfOk result (λ c. column_type c ≡ kind) }
     ensures values { IfOk result (λ c. values c ≡ default_value kind ∷ []) }
 {
     let mut column = Column::new(alloc, kind);
