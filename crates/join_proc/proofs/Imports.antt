@@ -3,7 +3,7 @@ pub use Rattle.key_codes.specs.declared.key_code.SeenKeys.{SeenKeys}
 pub use Rattle.std.proofs.Common.{Bool, IsPermutation, List, None, Some, [], ap, append_assoc, ap₂, arith, cond, drop, eq-eqb, false, filter, flat_map, fold, get_or, inl, inr, leb, length, ltb, map, max, nat_eq, ne_eqb, not, refl, set, subst, suc, sym, take, true, ℕ, ◌++◌, ◌+◌, ◌-◌, ◌<◌, ◌==◌, ◌||◌, ◌∙◌, ◌∷◌, ◌≡◌, ◌≤◌, ◌⊎◌}
 pub use Rattle.std.proofs.lemmas.Grind.{common_steps}
 pub use denote.Enum.Bare.{same_true, true_same}
-pub use Rattle.chunk_data.specs.Names.{Row, Table, joined, row_at, value_at, value_cmp}
+pub use Rattle.chunk_data.specs.Names.{Row, Table, append_each, row_at, value_at, value_cmp}
 pub use Rattle.indexmap.specs.IndexSet.{insert_key}
 pub use Rattle.join_proc.specs.Joinings.{IsJoining, IsNext, IsPhaseFor, JoiningView, gathered_own, is_open, joining_own, own_in, unmade_in, view_of, with_end}
 pub use Rattle.join_proc.specs.Joins.{AreFit, AreLinked, AreStarts, IsIndexOf, IsKeyPair, IsStart, JoinsRows, JoinsSome, Moves, PairsMore, key_codes, key_places, left_places, no_start, paired, right_places, row_after, rows_left, start_rows, starts_at}

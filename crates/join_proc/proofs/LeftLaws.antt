@@ -1,5 +1,5 @@
 -- What a left chunk still makes, and what is made of it pair by pair.
-use Rattle.join_proc.proofs.Imports.{All, All-append, All-from_recursion, All-set, AllByRecursion, AreCells, AreFit, AreStarts, IsIndexOf, IsStart, JoinIndex, JoinSpec, JoinsRows, JoinsSome, KeyPair, LeftRows, Moves, PairsMore, PlacePairs, Row, Start, Table, agree, cases_lt, codes_in, drop-cons, drop-set, drop_all, get_or_default, joined, joined_rows, key_at, kinds_at, left_places, length-append, ltb-true, no_start, paired, position_or_len, right_places, row_at, row_code, rows_left, same_code, start_rows, starts_at, Bool, List, [], ap, append_assoc, ap₂, arith, cond, drop, false, filter, flat_map, get_or, inl, inr, leb, length, ltb, map, max, refl, subst, suc, sym, true, ℕ, ◌++◌, ◌+◌, ◌<◌, ◌==◌, ◌∙◌, ◌∷◌, ◌≡◌, ◌≤◌, ◌⊎◌, eq-eqb, le-leb, lt-leb, ne_eqb}
+use Rattle.join_proc.proofs.Imports.{All, All-append, All-from_recursion, All-set, AllByRecursion, AreCells, AreFit, AreStarts, IsIndexOf, IsStart, JoinIndex, JoinSpec, JoinsRows, JoinsSome, KeyPair, LeftRows, Moves, PairsMore, PlacePairs, Row, Start, Table, agree, cases_lt, codes_in, drop-cons, drop-set, drop_all, get_or_default, append_each, joined_rows, key_at, kinds_at, left_places, length-append, ltb-true, no_start, paired, position_or_len, right_places, row_at, row_code, rows_left, same_code, start_rows, starts_at, Bool, List, [], ap, append_assoc, ap₂, arith, cond, drop, false, filter, flat_map, get_or, inl, inr, leb, length, ltb, map, max, refl, subst, suc, sym, true, ℕ, ◌++◌, ◌+◌, ◌<◌, ◌==◌, ◌∙◌, ◌∷◌, ◌≡◌, ◌≤◌, ◌⊎◌, eq-eqb, le-leb, lt-leb, ne_eqb}
 use Rattle.join_proc.proofs.AgreeLaws.{left-code}
 use Rattle.join_proc.proofs.IndexLaws.{first-row, next-match, next_row, rows-linked}
 use Rattle.join_proc.proofs.PlaceLaws.{filter-from, first-passes}
@@ -223,8 +223,8 @@ none-left pairs right l le = grind (arith, drop_all)
 -- ---- several pairs
 
 paired-push : (f g : ℕ → Row) (ps qs : List ℕ) (a b : ℕ) → length ps ≡ length qs
-    → joined (map f (ps ++ a ∷ [])) (map g (qs ++ b ∷ []))
-    ≡ joined (map f ps) (map g qs) ++ (f a ++ g b) ∷ []
+    → append_each (map f (ps ++ a ∷ [])) (map g (qs ++ b ∷ []))
+    ≡ append_each (map f ps) (map g qs) ++ (f a ++ g b) ∷ []
 paired-push f g [] [] a b e = refl
 paired-push f g [] (y ∷ qs) a b e = absurd (omega (arith, e))
 paired-push f g (x ∷ ps) [] a b e = absurd (omega (arith, e))
@@ -232,7 +232,7 @@ paired-push f g (x ∷ ps) (y ∷ qs) a b e =
     ap (λ l. (f x ++ g y) ∷ l) (paired-push f g ps qs a b (omega (arith, e)))
 
 pub paired-long : (f g : ℕ → Row) (ps qs : List ℕ) → length ps ≡ length qs
-    → length (joined (map f ps) (map g qs)) ≡ length ps
+    → length (append_each (map f ps) (map g qs)) ≡ length ps
 paired-long f g [] qs e = refl
 paired-long f g (x ∷ ps) [] e = absurd (omega (arith, e))
 paired-long f g (x ∷ ps) (y ∷ qs) e = ap suc (paired-long f g ps qs (omega (arith, e)))
@@ -260,7 +260,7 @@ joins-more pairs right first old new places more e h m =
           ∙ ap (λ n. n + 1) h.same ∙ sym (ap length m.rights
           ∙ length-append qs (m.start.next ∷ []));
       rows = ap (λ l. l ++ rows_left pairs right new)
-          (ap₂ (λ a b. joined (map (row_at left) a) (map (row_at right) b)) m.lefts m.rights
+          (ap₂ (λ a b. append_each (map (row_at left) a) (map (row_at right) b)) m.lefts m.rights
           ∙ paired-push (row_at left) (row_at right) ps qs m.start.left m.start.next h.same)
           ∙ append_assoc (paired left right places)
           ((row_at left m.start.left ++ row_at right m.start.next) ∷ [])

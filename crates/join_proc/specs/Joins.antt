@@ -1,5 +1,5 @@
 -- Where a right side's keys are, and the pairs of rows that a left chunk's rows make with them.
-use Rattle.chunk_data.specs.Names.{Row, Table, joined, row_at}
+use Rattle.chunk_data.specs.Names.{Row, Table, append_each, row_at}
 use Rattle.join_proc.specs.declared.join_index.JoinIndex.{JoinIndex}
 use Rattle.join_proc.specs.declared.left_rows.LeftRows.{LeftRows}
 use Rattle.join_proc.specs.declared.left_rows.PlacePairs.{PlacePairs}
@@ -105,7 +105,7 @@ pub record Moves (left next rows : ℕ) (old new : LeftRows) : Type 0 where
 -- the rows at the places, side by side
 abbrev pub paired : (left right : List Row) → PlacePairs → List Row
 paired left right places =
-    joined (map (row_at left) places.lefts.items) (map (row_at right) places.rights.items)
+    append_each (map (row_at left) places.lefts.items) (map (row_at right) places.rights.items)
 
 -- one pair more was taken of the rows that were left
 pub record PairsMore (pairs : List KeyPair) (right : List Row) (old new : LeftRows)

@@ -8,7 +8,7 @@ use query_model::processor_spec::JoinSpec;
 use std::alloc::Global;
 
 /// A row of the left side, and the next right row that it agrees with.
-#[derive(Clone, Copy, Debug, Drop)]
+#[derive(Clone, Copy, Drop)]
 pub(crate) struct Start {
     pub(crate) left: usize,
     pub(crate) next: usize,
