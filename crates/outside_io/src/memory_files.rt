@@ -14,14 +14,14 @@ use std::alloc::Global;
 use std::marker::Model;
 
 /// Where a reader stands: the entry's index, and the place in its bytes.
-#[derive(Clone, Copy, Debug, Drop)]
+#[derive(Clone, Copy, Drop)]
 struct Standing {
     index: usize,
     place: usize,
 }
 
 /// Files in memory, read by a script of fakes.
-#[derive(Debug, Drop)]
+#[derive(Drop)]
 pub struct MemFiles {
     entries: List<FileEntry>,
     standing: Option<Standing>,

@@ -7,7 +7,7 @@ use chunk_data::List;
 use std::marker::Model;
 
 /// A script and how many calls were made; it is seen as the pair of both.
-#[derive(Debug, Drop)]
+#[derive(Drop)]
 pub(crate) struct Script {
     fakes: List<Fake>,
     next: usize,
