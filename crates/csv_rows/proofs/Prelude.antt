@@ -1,5 +1,5 @@
 -- The names from outside that several files of proofs use, in one place.
-pub use Rattle.chunk_data.proofs.Imports.{AreLong, drop-drop, drop-take, get_or-map, kind_of, length-drop, map-set, row_at, rows_of, set-get_or, take-take, take_at, values}
+pub use Rattle.chunk_data.proofs.Imports.{AreLong, drop-drop, drop-take, get_or-map, column_type, length-drop, map-set, row_at, rows_of, set-get_or, take-take, take_at, values}
 pub use Rattle.chunk_data.proofs.Laws.{AreLong_push, length-FitsTypes, length-rows_of, rows_of_push}
 pub use Rattle.chunk_data.specs.declared.typed_column.Column.{Column}
 pub use Rattle.csv.specs.Machine.{Read, ends_at_end, is_end, state_code, step}

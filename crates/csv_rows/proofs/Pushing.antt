@@ -2,7 +2,7 @@
 use Rattle.chunk_data.proofs.ColumnLists.{Joined-back, Joined-none}
 use Rattle.csv_rows.proofs.FieldPlaces.{first_is, first_within}
 use Rattle.csv_rows.proofs.MachineSteps.{one_more, record_starts}
-use Rattle.csv_rows.proofs.Prelude.{AddsRecord, AddsSpelled, AreLong, AreLong_push, BeginsFields, Column, EndsRecord, FieldUpTo, HasMore, IsBadAt, Judged, Pushes, PushesFirst, ReadsFirst, ReadsFront, RowsLeft, TakesBack, TakesRow, at_end, bad_column, bad_field-lengths, bad_place, both_spelled, get_or-map, good_rows, kind_of, length-FitsTypes, length-append, length-map, length-rows_of, map-set, rows_of, rows_of_push, set-get_or, spelled_row, spelled_row-lengths, spelled_value, starts_line, starts_with, take_at, values}
+use Rattle.csv_rows.proofs.Prelude.{AddsRecord, AddsSpelled, AreLong, AreLong_push, BeginsFields, Column, EndsRecord, FieldUpTo, HasMore, IsBadAt, Judged, Pushes, PushesFirst, ReadsFirst, ReadsFront, RowsLeft, TakesBack, TakesRow, at_end, bad_column, bad_field-lengths, bad_place, both_spelled, get_or-map, good_rows, column_type, length-FitsTypes, length-append, length-map, length-rows_of, map-set, rows_of, rows_of_push, set-get_or, spelled_row, spelled_row-lengths, spelled_value, starts_line, starts_with, take_at, values}
 use Rattle.csv_rows.specs.declared.record_by_field.RecordRead.{RecordRead}
 use Rattle.query_model.specs.declared.places.BadField.TheVariants.{Fields as fields_field}
 use Rattle.std.proofs.Common.{Bool, List, None, [], ap, append_assoc, ap₂, arith, drop, false, get_or, length, map, refl, set, subst, suc, take, true, zero, ℕ, ◌++◌, ◌+◌, ◌<◌, ◌∙◌, ◌∷◌, ◌≡◌, ◌≢◌, ◌≤◌, sym}
@@ -11,13 +11,13 @@ use Rattle.std.proofs.Common.{Bool, List, None, [], ap, append_assoc, ap₂, ari
 abbrev pub Front : List (List ℕ) → List Column → List Column → Type 0
 Front [] old now = now ≡ old
 Front (f ∷ fields) (o ∷ old) (n ∷ now) =
-    (kind_of n ≡ kind_of o) × AddsSpelled f o n × Front fields old now
+    (column_type n ≡ column_type o) × AddsSpelled f o n × Front fields old now
 Front (f ∷ fields) old now = ⊥
 
 -- one field more
 pub front_more : (fields : List (List ℕ)) (f : List ℕ) (old now : List Column) (i : ℕ)
     (d y : Column) → Front fields old now → length fields ≡ i → i < length now
-    → kind_of y ≡ kind_of (get_or now i d) → AddsSpelled f (get_or now i d) y
+    → column_type y ≡ column_type (get_or now i d) → AddsSpelled f (get_or now i d) y
     → Front (fields ++ f ∷ []) old (set now i y)
 front_more [] f old [] i d y h e lt k a = absurd (omega (arith, lt))
 front_more [] f old (n ∷ now) zero d y h e lt k a =
@@ -44,8 +44,8 @@ front_all (f ∷ fields) (o ∷ old) (n ∷ now) h e =
 front_all (f ∷ fields) old now h e = absurd h
 
 pub front_kinds : (fields : List (List ℕ)) (old now : List Column) → Front fields old now
-    → map kind_of now ≡ map kind_of old
-front_kinds [] old now h = ap (map kind_of) h
+    → map column_type now ≡ map column_type old
+front_kinds [] old now h = ap (map column_type) h
 front_kinds (f ∷ fields) (o ∷ old) (n ∷ now) h = ap₂ ◌∷◌ h.0 (front_kinds fields old now h.2)
 front_kinds (f ∷ fields) old now h = absurd h
 
@@ -73,9 +73,9 @@ front_back fields old now h = record {
 -- the field behind them spells no value
 front_stops : (fields : List (List ℕ)) (f : List ℕ) (more : List (List ℕ)) (old now : List Column)
     (d : Column) → Front fields old now → length fields < length now
-    → spelled_value (kind_of (get_or now (length fields) d)) f ≡ None
-    → (spelled_row (map kind_of old) (fields ++ f ∷ more) ≡ None)
-    × ((c : ℕ) → bad_column c (map kind_of old) (fields ++ f ∷ more) ≡ c + length fields)
+    → spelled_value (column_type (get_or now (length fields) d)) f ≡ None
+    → (spelled_row (map column_type old) (fields ++ f ∷ more) ≡ None)
+    × ((c : ℕ) → bad_column c (map column_type old) (fields ++ f ∷ more) ≡ c + length fields)
 unfolding spelled_row bad_column
 front_stops [] f more old [] d h lt u = absurd (omega (arith, lt))
 front_stops [] f more old (n ∷ now) d h lt u = grind arith
@@ -85,10 +85,10 @@ front_stops (g ∷ fields) f more old now d h lt u = absurd h
 
 -- the same where column i was then left as it is
 pub back_at : (fields : List (List ℕ)) (old now : List Column) (i : ℕ) (d y : Column)
-    → Front fields old now → i < length now → kind_of y ≡ kind_of (get_or now i d)
+    → Front fields old now → i < length now → column_type y ≡ column_type (get_or now i d)
     → values y ≡ values (get_or now i d) → TakesBack old (set now i y)
 back_at fields old now i d y h lt k v = record {
-  kinds = same kind_of k ∙ (front_back fields old now h).kinds;
+  kinds = same column_type k ∙ (front_back fields old now h).kinds;
   front = λ n long. ap (map (take n)) (same values v) ∙ (front_back fields old now h).front n long;
 }
   where
@@ -112,10 +112,9 @@ row_none bytes at columns le h = grind (arith, record_starts)
 
 -- one field more, with a comma behind it
 pub row_more : {bytes f : List ℕ} {at place end i : ℕ} {old now : List Column} → (d y : Column)
-    → RowSoFar bytes at place old now i → i < length now → kind_of y ≡ kind_of (get_or now i d)
-    → FieldUpTo bytes place f end → AddsSpelled f (get_or now i d) y
-    → starts_with 44 (drop end bytes) ≡ true
-    → RowSoFar bytes at (end + 1) old (set now i y) (i + 1)
+    → RowSoFar bytes at place old now i → i < length now → column_type y
+    ≡ column_type (get_or now i d) → FieldUpTo bytes place f end → AddsSpelled f (get_or now i d) y
+    → starts_with 44 (drop end bytes) ≡ true → RowSoFar bytes at (end + 1) old (set now i y) (i + 1)
 row_more {bytes = bytes} {f = f} {end = end} {i = i} {old = old} {now = now} d y h lt k upto p
     comma =
     let there = first_within 44 bytes end comma in
@@ -130,7 +129,7 @@ row_more {bytes = bytes} {f = f} {end = end} {i = i} {old = old} {now = now} d y
 -- one field more, or one that spells no value, can be taken back
 pub row_back : {bytes f : List ℕ} {at place end i : ℕ} {old now : List Column} → (spelled : Bool)
     (d y : Column) → RowSoFar bytes at place old now i → i < length now
-    → kind_of y ≡ kind_of (get_or now i d) → FieldUpTo bytes place f end
+    → column_type y ≡ column_type (get_or now i d) → FieldUpTo bytes place f end
     → Pushes f spelled (get_or now i d) y → TakesBack old (set now i y)
 row_back {f = f} {i = i} {old = old} {now = now} true d y h lt k upto p =
     front_back (h.fields ++ f ∷ []) old (set now i y)
@@ -150,7 +149,7 @@ row_reads more h upto line = grind arith
 -- that field is the last, or spells no value
 pub row_ends : {bytes f : List ℕ} {at place end i : ℕ} {old now : List Column} {read : RecordRead}
     → (d y : Column) (more : List (List ℕ)) → RowSoFar bytes at place old now i → i < length now
-    → kind_of y ≡ kind_of (get_or now i d) → FieldUpTo bytes place f end
+    → column_type y ≡ column_type (get_or now i d) → FieldUpTo bytes place f end
     → Pushes f read.whole (get_or now i d) y → EndsRecord bytes end more read.next
     → read.count ≡ i + 1 + length more → read.last ≡ i → (read.whole ≡ true → more ≡ [])
     → PushesFirst bytes at read old (set now i y)
@@ -177,7 +176,7 @@ row_ends {f = f} {i = i} {old = old} {now = now} {read = read} d y more h lt k u
         )))
     judged false p last same =
         let stop = front_stops h.fields f more old now d h.added (omega (arith, lt, h.count))
-        (ap (λ k. spelled_value (kind_of (get_or now k d)) f) h.count ∙ p.0) in
+        (ap (λ k. spelled_value (column_type (get_or now k d)) f) h.count ∙ p.0) in
         record {
           low = omega (arith, lt, at-i, front_long h.fields old now h.added);
           unspelled = stop.0;
@@ -209,12 +208,12 @@ first_lengths number h many = grind (arith, length-map, spelled_row-lengths, bad
 -- the records in front of those that are left now are rows of the columns
 pub record ReadSoFar (old now : List Column) (before after : RowsLeft)
     (rows most : ℕ) : Type 0 where
-  pub kinds : map kind_of now ≡ map kind_of old
+  pub kinds : map column_type now ≡ map column_type old
   pub long : AreLong rows (map values now)
-  pub good : good_rows (map kind_of old) before.rest
-      ≡ rows_of rows (map values now) ++ good_rows (map kind_of old) after.rest
-  pub places : bad_place (before.count + 1) (map kind_of old) before.rest
-      ≡ bad_place (after.count + 1) (map kind_of old) after.rest
+  pub good : good_rows (map column_type old) before.rest
+      ≡ rows_of rows (map values now) ++ good_rows (map column_type old) after.rest
+  pub places : bad_place (before.count + 1) (map column_type old) before.rest
+      ≡ bad_place (after.count + 1) (map column_type old) after.rest
   pub within : rows ≤ most
   pub unread : rows ≡ 0 → after.rest ≡ before.rest
 
@@ -226,7 +225,7 @@ ReadSoFar-none old before most h = grind (arith, no_items, length-rows_of)
 -- one record more
 pub ReadSoFar-more : {old now new : List Column} {before after later : RowsLeft} {rows most : ℕ}
     → ReadSoFar old now before after rows most → rows < most
-    → map kind_of new ≡ map kind_of now → TakesRow after later now new
+    → map column_type new ≡ map column_type now → TakesRow after later now new
     → ReadSoFar old new before later (rows + 1) most
 ReadSoFar-more h lt k a =
     grind (arith, length-FitsTypes, length-map, rows_of_push, AreLong_push, append_assoc)
@@ -235,7 +234,7 @@ ReadSoFar-more h lt k a =
 pub ReadSoFar-stop : {old now : List Column} {before after : RowsLeft} {rows most : ℕ}
     → ReadSoFar old now before after rows most
     → (at_end before.rest ≡ false → 0 < most → 0 < rows)
-    → ReadsFront (map kind_of old) before after (map values now) rows most
+    → ReadsFront (map column_type old) before after (map values now) rows most
 ReadSoFar-stop h some = grind (arith, length-rows_of)
 
 -- a record was read, where none is left of some

@@ -4,7 +4,7 @@ use Rattle.std.specs.Prelude.{◌≡◌, ℕ, ◌+◌, ◌-◌, ◌<◌, ◌≤�
 use Rattle.csv.specs.Machine.{next_record}
 use Rattle.csv.specs.Reading.{default_config, records_from}
 use Rattle.csv.specs.declared.parser.State.TheVariants as st
-use Rattle.chunk_data.specs.Names.{kind_of, values, Row, AreLong, joined}
+use Rattle.chunk_data.specs.Names.{column_type, values, Row, AreLong, append_each}
 use Rattle.chunk_data.specs.declared.typed_value.Value.{Value}
 use Rattle.chunk_data.specs.declared.typed_column.Column.{Column}
 use Rattle.query_model.specs.Names.{spelled_value, spelled_row, bad_column, bad_field, part_records}
@@ -111,23 +111,23 @@ OnBad Memory P = ⊤
 -- a column got the value that the field spells at its end
 pub record AddsSpelled (field : List ℕ) (old new : Column) : Type 0 where
   pub value : Value
-  pub spells : spelled_value (kind_of old) field ≡ Some value
+  pub spells : spelled_value (column_type old) field ≡ Some value
   pub added : values new ≡ values old ++ value ∷ []
 
 -- what a field did to a column: its value was added, or it spells none
 abbrev pub Pushes : List ℕ → Bool → Column → Column → Type 0
 Pushes field true old new = AddsSpelled field old new
-Pushes field false old new = (spelled_value (kind_of old) field ≡ None) × (new ≡ old)
+Pushes field false old new = (spelled_value (column_type old) field ≡ None) × (new ≡ old)
 
 -- each column got its value of the row that the fields spell
 pub record AddsRecord (fields : List (List ℕ)) (old new : List Column) : Type 0 where
   pub row : Row
-  pub spells : spelled_row (map kind_of old) fields ≡ Some row
-  pub added : map values new ≡ joined (map values old) (map (λ v. v ∷ []) row)
+  pub spells : spelled_row (map column_type old) fields ≡ Some row
+  pub added : map values new ≡ append_each (map values old) (map (λ v. v ∷ []) row)
 
 -- what was added to columns can be taken back
 pub record TakesBack (old new : List Column) : Type 0 where
-  pub kinds : map kind_of new ≡ map kind_of old
+  pub kinds : map column_type new ≡ map column_type old
   pub front : (n : ℕ) → AreLong n (map values old)
       → map (take n) (map values new) ≡ map values old
 
@@ -139,8 +139,8 @@ pub record ReadsFirst (bytes : List ℕ) (at : ℕ) (fields : List (List ℕ)) (
 -- the field of this column is the first that spells no value of its column
 pub record StopsAt (column : ℕ) (fields : List (List ℕ)) (columns : List Column) : Type 0 where
   pub low : column < length columns
-  pub unspelled : spelled_row (map kind_of columns) fields ≡ None
-  pub first : bad_column 1 (map kind_of columns) fields ≡ column + 1
+  pub unspelled : spelled_row (map column_type columns) fields ≡ None
+  pub first : bad_column 1 (map column_type columns) fields ≡ column + 1
 
 -- the columns got a row of the fields, or the field of this column spells no value
 abbrev pub Judged : (whole : Bool) (last : ℕ) (fields : List (List ℕ)) (old new : List Column)
@@ -169,8 +169,8 @@ pub record IsBadAt (columns : List Column) (bytes : List ℕ) (at number : ℕ) 
   pub fields : List (List ℕ)
   pub next : ℕ
   pub reads : ReadsFirst bytes at fields next
-  pub unspelled : spelled_row (map kind_of columns) fields ≡ None
-  pub is : place ≡ record { row = number; field = bad_field (map kind_of columns) fields }
+  pub unspelled : spelled_row (map column_type columns) fields ≡ None
+  pub is : place ≡ record { row = number; field = bad_field (map column_type columns) fields }
 
 -- the rows of a part begin at the place, of which no more than `left` can come
 pub record StartsPart (header : Bool) (bytes : List ℕ) (at left : ℕ) : Type 0 where

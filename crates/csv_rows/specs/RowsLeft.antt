@@ -1,5 +1,5 @@
 -- The records of a part that are left.
-use Rattle.chunk_data.specs.Names.{AreLong, FitsTypes, Row, joined, kind_of, rows_of, values}
+use Rattle.chunk_data.specs.Names.{AreLong, FitsTypes, Row, append_each, column_type, rows_of, values}
 use Rattle.chunk_data.specs.declared.typed_column.Column.{Column}
 use Rattle.query_model.specs.Parts.{bad_place, good_rows}
 use Rattle.query_model.specs.Prelude.{ColumnType, Value}
@@ -33,9 +33,9 @@ pub record ReadsFront (types : List ColumnType) (old new : RowsLeft) (columns : 
 -- one record, which is a row, was taken and added to the columns
 pub record TakesRow (old new : RowsLeft) (before after : List Column) : Type 0 where
   pub row : Row
-  pub fits : FitsTypes (map kind_of before) row
-  pub good : good_rows (map kind_of before) old.rest
-      ≡ row ∷ good_rows (map kind_of before) new.rest
-  pub places : bad_place (old.count + 1) (map kind_of before) old.rest
-      ≡ bad_place (new.count + 1) (map kind_of before) new.rest
-  pub added : map values after ≡ joined (map values before) (map (λ v. v ∷ []) row)
+  pub fits : FitsTypes (map column_type before) row
+  pub good : good_rows (map column_type before) old.rest
+      ≡ row ∷ good_rows (map column_type before) new.rest
+  pub places : bad_place (old.count + 1) (map column_type before) old.rest
+      ≡ bad_place (new.count + 1) (map column_type before) new.rest
+  pub added : map values after ≡ append_each (map values before) (map (λ v. v ∷ []) row)

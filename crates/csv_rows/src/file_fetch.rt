@@ -10,7 +10,7 @@ use outside_io::{Failed, FileReader, Got};
 const BLOCK: usize = 65536;
 
 /// What one read gave.
-#[derive(Clone, Copy, Debug, PartialEq, Eq)]
+#[derive(Clone, Copy, PartialEq, Eq)]
 pub enum Fetched {
     More,
     /// The file's end was read.
@@ -19,7 +19,7 @@ pub enum Fetched {
 }
 
 /// Why a read gave nothing.
-#[derive(Clone, Copy, Debug, PartialEq, Eq)]
+#[derive(Clone, Copy, PartialEq, Eq)]
 pub enum FetchFault {
     Read,
     /// So many bytes were read that with those held they are more than the limit.

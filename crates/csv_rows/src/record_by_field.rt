@@ -1,6 +1,6 @@
 // Records, added to columns field by field as they are read.
 ghost use Rattle.std.specs.Prelude.{◌≡◌, ◌+◌, ◌<◌, ◌≤◌, ◌^◌, true, length, map, drop, IfOk, IfErr, OnErr};
-ghost use Rattle.chunk_data.specs.Names.{kind_of, values, AreLong};
+ghost use Rattle.chunk_data.specs.Names.{column_type, values, AreLong};
 ghost use Rattle.csv_rows.specs.Places.{starts_line, at_mark, AddsFirst, HasMore, IsBadAt, OnBad, PushesFirst, TakesBack};
 
 use crate::field_ends::{byte_at, field_at, line_end};
@@ -101,7 +101,7 @@ pub(crate) fn push_first(
     requires starts { starts_line (drop at bytes.now) ≡ true }
     requires long { AreLong rows (map values columns.old) }
     requires few { length columns.old < 2 ^ 32 }
-    ensures kinds { map kind_of columns.new ≡ map kind_of columns.old }
+    ensures kinds { map column_type columns.new ≡ map column_type columns.old }
     ensures ok { IfOk result (λ next. AddsFirst bytes.now at next columns.old columns.new) }
     ensures bad { IfErr result (λ e. OnBad e (IsBadAt columns.old bytes.now at row)) }
     ensures err { OnErr result (map values columns.new ≡ map values columns.old) }

@@ -1,6 +1,6 @@
 ghost use Rattle.std.specs.Prelude.{◌≡◌, [], ◌+◌, ◌<◌, ◌≤◌, ◌^◌, ◌∷◌, false, length, map, drop, IfOk, IfErr, OnOk, OnErr, Some};
 ghost use Rattle.csv.specs.Reading.{strip_bom};
-ghost use Rattle.chunk_data.specs.Names.{kind_of, values, AreLong, rows_of};
+ghost use Rattle.chunk_data.specs.Names.{column_type, values, AreLong, rows_of};
 ghost use Rattle.query_model.specs.Parts.{bad_place, part_records};
 ghost use Rattle.csv_rows.specs.Places.{StartsPart, OnBad};
 ghost use Rattle.csv_rows.specs.RowsLeft.{at_end, ReadsFront, TakesRow, TakesRows};
@@ -91,10 +91,11 @@ impl RowReader {
         requires left { at_end self.old.rest ≡ false }
         requires long { AreLong rows (map values columns.old) }
         requires few { length columns.old < 2 ^ 32 }
-        ensures kinds { map kind_of columns.new ≡ map kind_of columns.old }
+        ensures kinds { map column_type columns.new ≡ map column_type columns.old }
         ensures ok { OnOk result (TakesRow self.old self.new columns.old columns.new) }
         ensures bad { IfErr result (λ e. OnBad e (λ place.
-            bad_place (self.old.count + 1) (map kind_of columns.old) self.old.rest ≡ Some place)) }
+            bad_place (self.old.count + 1) (map column_type columns.old) self.old.rest
+            ≡ Some place)) }
         ensures err { OnErr result (map values columns.new ≡ map values columns.old) }
         ensures stays { OnErr result (self.new ≡ self.old) }
     {
@@ -153,7 +154,7 @@ const ROOM: usize = 8192;
 
 // A column without values for each type, with room for so many rows.
 fn roomy_columns(alloc: Global, kinds: &[ColumnType], room: usize) -> Result<Vec<Column>, Memory>
-    ensures kinds { IfOk result (λ v. map kind_of v.items ≡ kinds.now) }
+    ensures kinds { IfOk result (λ v. map column_type v.items ≡ kinds.now) }
     ensures empty { IfOk result (λ v. map values v.items ≡ map (λ _. []) kinds.now) }
 {
     let mut columns = Vec::new(alloc);
@@ -173,11 +174,12 @@ fn read_front(
 ) -> Result<usize, RowsFault>
     requires empty { AreLong 0 (map values columns.old) }
     requires few { length columns.old < 2 ^ 32 }
-    ensures kinds { map kind_of columns.new ≡ map kind_of columns.old }
+    ensures kinds { map column_type columns.new ≡ map column_type columns.old }
     ensures ok { IfOk result (λ n. ReadsFront
-        (map kind_of columns.old) reader.old reader.new (map values columns.new) n most) }
+        (map column_type columns.old) reader.old reader.new (map values columns.new) n most) }
     ensures bad { IfErr result (λ e. OnBad e (λ place.
-        bad_place (reader.old.count + 1) (map kind_of columns.old) reader.old.rest ≡ Some place)) }
+        bad_place (reader.old.count + 1) (map column_type columns.old) reader.old.rest
+        ≡ Some place)) }
 {
     let mut rows = 0usize;
     'rows: loop {

@@ -1,6 +1,6 @@
 // What the fields of a part add to columns.
 ghost use Rattle.std.specs.Prelude.{◌≡◌, IfOk, OnErr};
-ghost use Rattle.chunk_data.specs.Names.{kind_of, values};
+ghost use Rattle.chunk_data.specs.Names.{column_type, values};
 ghost use Rattle.csv_rows.specs.Places.{Pushes};
 
 use crate::short_numbers::{spelled_int, spelled_uint};
@@ -8,7 +8,7 @@ use chunk_data::{Column, ColumnType, Memory};
 use query_model::places::BadPlace;
 
 /// Why the rows of a part were not read.
-#[derive(Clone, Copy, Debug, PartialEq, Eq)]
+#[derive(Clone, Copy, PartialEq, Eq)]
 pub enum RowsFault {
     /// The first record that isn't good.
     Bad(BadPlace),
@@ -19,7 +19,7 @@ pub enum RowsFault {
 /// as it was.
 #[inline(always)]
 pub(crate) fn push_field(column: &mut Column, field: &[u8]) -> Result<bool, Memory>
-    ensures kind { kind_of column.new ≡ kind_of column.old }
+    ensures kind { column_type column.new ≡ column_type column.old }
     ensures ok { IfOk result (λ spelled. Pushes field.now spelled column.old column.new) }
     ensures err { OnErr result (values column.new ≡ values column.old) }
 {

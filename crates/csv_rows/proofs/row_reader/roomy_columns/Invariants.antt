@@ -1,7 +1,7 @@
-use Rattle.chunk_data.proofs.Imports.{[], kind_of, map, take, values, ◌≡◌}
+use Rattle.chunk_data.proofs.Imports.{[], column_type, map, take, values, ◌≡◌}
 use Rattle.csv_rows.proofs.row_reader.roomy_columns.Given as goal
 
 abbrev pub invariant-loop-kind : goal.invariant-loop-kind
 invariant-loop-kind l =
-    (map kind_of l.columns.items ≡ take l.kind-index l.kinds)
+    (map column_type l.columns.items ≡ take l.kind-index l.kinds)
     × (map values l.columns.items ≡ map (λ _. []) (take l.kind-index l.kinds))
