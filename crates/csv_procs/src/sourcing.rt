@@ -21,7 +21,7 @@ pub trait Sourced: Drop {
 }
 
 /// A part's rows.
-#[derive(Clone, Copy, Debug, Drop)]
+#[derive(Clone, Copy, Drop)]
 pub struct Parts;
 
 impl Sourced for Parts {
@@ -35,7 +35,7 @@ impl Sourced for Parts {
 }
 
 /// A list of parts.
-#[derive(Clone, Copy, Debug, Drop)]
+#[derive(Clone, Copy, Drop)]
 pub struct Lists;
 
 impl Sourced for Lists {
