@@ -1,8 +1,9 @@
 -- The tokens of a text, each as long as it can be.
-use Rattle.std.specs.Prelude.{ℕ, zero, suc, ◌+◌, ◌-◌, ◌*◌, ◌^◌, Bool, true, false, not, nat_lt, ◌==◌, ◌&&◌, ◌||◌, if◌then◌else◌, List, [], ◌∷◌, length, drop, map, find, take_while, fold, codes, Option, Some, None, option_map, is_some}
+use Rattle.std.specs.Prelude.{ℕ, zero, suc, ◌+◌, ◌-◌, ◌*◌, ◌^◌, Bool, true, false, not, nat_lt, ◌==◌, ◌&&◌, ◌||◌, if◌then◌else◌, List, [], ◌∷◌, length, drop, map, find, take_while, codes, Option, Some, None, option_map, is_some}
 use Rattle.std.specs.List.{list_all}
 use Rattle.std.specs.Char.{is_ascii_digit, is_ascii_alphabetic, to_ascii_lowercase}
 use Rattle.std.specs.Str.{bytes_eq}
+use Rattle.query_model.specs.Fields.{numeral_value}
 use Rattle.query_model.specs.declared.query.AggOp.{AggOp}
 use Rattle.query_model.specs.declared.query.AggOp.TheVariants as agg
 use Rattle.sql_grammar.specs.declared.Token.{Token}
@@ -99,9 +100,6 @@ has_argument agg.Max = true
 
 -- ---- numbers
 
-abbrev pub number_of : List ℕ → ℕ
-number_of digits = fold (λ n b. 10 * n + (b - 48)) 0 digits
-
 -- a number that is one of 64 bits
 abbrev pub fitting : ℕ → Option ℕ
 fitting n = if nat_lt n (2 ^ 64) then Some n else None
@@ -115,7 +113,7 @@ abbrev pub number_front : List ℕ → Option (Token × ℕ)
 number_front bs =
     let digits = take_while is_ascii_digit bs in
     if begins_with_letter (drop (length digits) bs) then None
-    else Some (number_token (fitting (number_of digits)), length digits)
+    else Some (number_token (fitting (numeral_value digits)), length digits)
 
 -- ---- strings
 

@@ -82,7 +82,7 @@ pub fn strings_are_read()
 {}
 
 /// A sign. `=` and `==` are one sign, and so are `!=` and `<>`.
-#[derive(Clone, Copy, Debug, PartialEq, Eq)]
+#[derive(Clone, Copy, PartialEq, Eq)]
 pub enum Sign {
     Open,
     Close,
@@ -100,7 +100,7 @@ pub enum Sign {
     GreaterEqual,
 }
 
-#[derive(Debug, Drop)]
+#[derive(Drop)]
 pub enum Token {
     Name(Bytes),
     Keyword(Keyword),
@@ -114,7 +114,7 @@ pub enum Token {
 
 /// Where a string is: in its middle, or behind a quote or a backslash, which may stand for more
 /// than themselves.
-#[derive(Clone, Copy, Debug, PartialEq, Eq)]
+#[derive(Clone, Copy, PartialEq, Eq)]
 pub enum TextPlace {
     Middle,
     BehindQuote,
@@ -122,7 +122,7 @@ pub enum TextPlace {
 }
 
 /// What a byte is to a string.
-#[derive(Clone, Copy, Debug, PartialEq, Eq)]
+#[derive(Clone, Copy, PartialEq, Eq)]
 pub enum TextByte {
     /// It is one of the content, and the string goes on.
     Content,
