@@ -1,4 +1,5 @@
 -- The names from outside that this crate's proofs use, in one place.
+pub use Rattle.query_model.specs.Fields.{numeral_value}
 pub use Rattle.query_model.specs.Formulas.{column, number}
 pub use Rattle.query_model.specs.Names.{HasItsArgument, IsAnalysable, IsNoCall, calls_of, formula, item_calls, operands_of, takes_argument}
 pub use Rattle.query_model.specs.declared.query.AggCall.{AggCall}
@@ -18,7 +19,7 @@ pub use Rattle.query_model.specs.declared.query.Span.{Span}
 pub use Rattle.query_model.specs.declared.query.TableRef.{TableRef}
 pub use Rattle.sql_grammar.proofs.Trees.{items_are, laid, laid_call, laid_condition, laid_expr, laid_item, laid_items, laid_side, laid_what, sides_of_are}
 pub use Rattle.sql_grammar.specs.Names.{AreKeys, AreListed, CallTree, Condition, Expression, IsAgg, IsColumn, IsComparison, IsCond, IsConj, IsExpr, IsFactor, IsFilter, IsGroupOperand, IsHaving, IsItem, IsJoin, IsJoined, IsLimit, IsNeg, IsOperand, IsOrder, IsOrderKey, IsPair, IsQuery, IsSelection, IsTable, IsTerm, IsText, IsWhat, ItemTree, ItemWhat, QueryTree, Selection, Side, Spells, Tokens, a_call, a_column, a_constant, a_key, a_negative, a_number, a_string, a_text, aggregate_of, all_columns, an_agg, an_expr, an_expression, ascending, bare, both, call, call_item, call_over, call_tree, compare, comparison, conjunction, count_rows, count_star, descending, difference, disjunction, enclosed, enclosed_cond, equal, equal_columns, filter_by, first_rows, greater, greater_equal, has_argument, having_by, inner_join, item_tree, item_what, join_of, keys_by, last_one, less, less_equal, listed, named, named_table, negation, negative, no_filter, no_having, no_join, no_keys, no_limit, no_order, not_equal, numbers_table, one_conj, one_factor, one_more, one_neg, one_term, order_by, plain, plain_item, product, qualified, query_tree, rows_behind, select_query, shaping_of, side, some_items, source_of, sum, table_on, text, tokens_of, unnamed, unqualified, unstated, with_semicolon}
-pub use Rattle.sql_grammar.specs.Tokens.{behind_token, fitting, is_blank, number_of, text_byte, text_end, text_on, token_front}
+pub use Rattle.sql_grammar.specs.Tokens.{behind_token, fitting, is_blank, text_byte, text_end, text_on, token_front}
 pub use Rattle.sql_grammar.specs.declared.Keyword.{Keyword}
 pub use Rattle.sql_grammar.specs.declared.Sign.{Sign}
 pub use Rattle.sql_grammar.specs.declared.TextByte.{TextByte}

@@ -5,7 +5,7 @@ ghost use Rattle.sql_text.specs.declared.parse_error.ParseError.TheVariants.{Mem
 use sql_grammar::Token;
 use std::alloc::{AllocError, AllocFailed};
 
-#[derive(Clone, Copy, Debug, PartialEq, Eq)]
+#[derive(Clone, Copy, PartialEq, Eq)]
 pub enum ParseError {
     Syntax,
     Memory,

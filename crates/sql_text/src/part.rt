@@ -26,7 +26,7 @@ pub const EXPRESSION: u8 = 5;
 
 /// The clause in which a part stands. HAVING is over groups: its operands are a column, a call, a
 /// plain number or a string.
-#[derive(Clone, Copy, Debug, PartialEq, Eq)]
+#[derive(Clone, Copy, PartialEq, Eq)]
 pub enum Clause {
     OfRows,
     OfGroups,

@@ -1,7 +1,8 @@
 // The tokens of a text.
 ghost use Rattle.std.specs.Prelude.{◌≡◌, ℕ, suc, ◌+◌, ◌-◌, ◌*◌, ◌<◌, ◌≤◌, ◌∷◌, length, drop, take_while, [], MatchOption, Some, option_map, IfOk, OnOk};
 ghost use Rattle.std.specs.Char.{is_ascii_digit};
-ghost use Rattle.sql_grammar.specs.Tokens.{is_blank, is_word_byte, keyword_of, word_token, word_front, number_of, fitting, number_token, begins_with_letter, number_front, text_byte, text_end, text_at, begins_with, single_sign, less_sign, comparison_sign, text_front, sign_front, token_front, tokens_behind, tokens_of};
+ghost use Rattle.query_model.specs.Fields.{numeral_value};
+ghost use Rattle.sql_grammar.specs.Tokens.{is_blank, is_word_byte, keyword_of, word_token, word_front, fitting, number_token, begins_with_letter, number_front, text_byte, text_end, text_at, begins_with, single_sign, less_sign, comparison_sign, text_front, sign_front, token_front, tokens_behind, tokens_of};
 ghost use Rattle.sql_grammar.specs.declared.TextPlace.TheVariants.{Middle};
 ghost use Rattle.sql_text.specs.Answers.{Gives};
 
@@ -55,7 +56,7 @@ fn digits_at(bytes: &[u8]) -> &[u8]
 
 // The number with one more digit, where both fit.
 fn with_digit(number: Option<u64>, digit: u8) -> Option<u64>
-    ensures { (n : ℕ) → number ≡ fitting n → result ≡ fitting (10 * n + (digit - 48)) }
+    ensures { (n : ℕ) → number ≡ fitting n → result ≡ fitting (n * 10 + (digit - 48)) }
 {
     let number = number?;
     number
@@ -63,8 +64,8 @@ fn with_digit(number: Option<u64>, digit: u8) -> Option<u64>
         .checked_add(u64::from(digit.saturating_sub(b'0')))
 }
 
-fn number_of(digits: &[u8]) -> Option<u64>
-    ensures { result ≡ fitting (number_of digits.now) }
+fn parse_digits(digits: &[u8]) -> Option<u64>
+    ensures { result ≡ fitting (numeral_value digits.now) }
 {
     let mut number = Some(0);
     for digit in digits {
@@ -74,9 +75,9 @@ fn number_of(digits: &[u8]) -> Option<u64>
 }
 
 fn number_token(digits: &[u8]) -> Token
-    ensures { result ≡ number_token (fitting (number_of digits.now)) }
+    ensures { result ≡ number_token (fitting (numeral_value digits.now)) }
 {
-    match number_of(digits) {
+    match parse_digits(digits) {
         Some(number) => Token::Number(number),
         None => Token::LargeNumber,
     }
