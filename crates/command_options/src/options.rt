@@ -9,7 +9,7 @@ use clap::{Arg, ArgAction, ArgMatches, Command, Error};
 use std::alloc::{AllocError, Global};
 
 /// The texts of the options that are given.
-#[derive(Debug, Drop)]
+#[derive(Drop)]
 pub struct OptionTexts {
     pub query: Bytes,
     pub tables: Option<Bytes>,
