@@ -12,7 +12,7 @@ use query_model::query::TableDecl;
 use std::alloc::Global;
 
 /// What the words ask for.
-#[derive(Debug, Drop)]
+#[derive(Drop)]
 pub struct Command {
     /// The query's text.
     pub query: Bytes,
@@ -26,7 +26,7 @@ pub struct Command {
 }
 
 /// Why words were not read.
-#[derive(Clone, Copy, Debug, PartialEq, Eq)]
+#[derive(Clone, Copy, PartialEq, Eq)]
 pub enum WordsRefusal {
     /// The words are no command.
     Usage,
