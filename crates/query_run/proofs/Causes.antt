@@ -6,7 +6,7 @@ use Rattle.proc_api.specs.declared.status.WorkFault.TheVariants as fault
 use Rattle.plan_run.specs.declared.run.PlanFault.TheVariants as end
 use Rattle.query_run.specs.declared.ending.PartFailure.TheVariants as part
 use Rattle.query_run.proofs.Flaws.{flawed-unlawful}
-use Rattle.query_run.proofs.Grown.{RanCopies, Served, formed, names_of, served, serves}
+use Rattle.query_run.proofs.Grown.{RanCopies, ReadsItsName, formed, names_of, reads-its-name, serves}
 use Rattle.query_run.proofs.Plans.{AreCopies, ended-files, ended-lawful, kinds-for-same, loaded-kind, ran-at}
 
 -- ---- counts
@@ -113,7 +113,7 @@ module _ {c : Command} {q : Checked} {before : List BoxPicture} {nodes : List Dr
           → (box.lawful ≡ true → OfPart box.spec (λ part. IfSome box.files (P part))) → Q
       tells P Q csv list due =
           go box.spec refl
-          (served so keeps g.boxes g.kinds_are g.starting g.holds.grown.births
+          (reads-its-name so keeps g.boxes g.kinds_are g.starting g.holds.grown.births
           g.holds.grown.are files honest node lt)
           (due (ended-lawful nodes before after ended stock run files honest node lt))
         where
@@ -123,7 +123,7 @@ module _ {c : Command} {q : Checked} {before : List BoxPicture} {nodes : List Dr
           told : IsSourceKind box.kind → box.files ≡ Some files
           told = ended-files nodes before after ended stock run files honest node lt
 
-          go : (o : Option Spec) → box.spec ≡ o → Served c q files (names node) o
+          go : (o : Option Spec) → box.spec ≡ o → ReadsItsName c q files (names node) o
               → OfPart o (λ part. IfSome box.files (P part)) → Q
           go (Some (spec.Csv part)) e s d =
               csv part s.0 s.1

@@ -1,5 +1,5 @@
 -- The query that was read of a command and checked, and the plan that it has.
-use Rattle.query_run.proofs.Prelude.{Bool, BothOrNone, Checked, CheckedJoin, Command, FromColumn, Grouped, IsAccepted, IsChecked, IsCheckedCommand, IsCheckedJoin, IsReadFrom, IsShape, IsTypedQuery, IsTypedSelect, IsWithinLimits, Join, Kind, List, NamesFewPaths, None, Option, OrderKey, Plain, Query, QueryTree, Schema, Shape, Some, [], analysable_of_read, ap, ap₂, are_grouped, are_some, are_tested, are_two, arith, clause_need, condition, false, few_sources, from_columns, from_types, is_grouped, is_some, join_tables, join_use, length, map, need, need_by_clauses, not, one_tree, option_map, output_names, refl, refusal_of, same_grouped, schemas_of, sort_key, stock_of, subst, sym, tables_used, true, typed-select, use_of, used_tables, ◌==◌, ◌||◌, ◌∙◌, ◌∷◌, ◌≡◌, ◌≤◌}
+use Rattle.query_run.proofs.Prelude.{Bool, BothOrNone, Checked, CheckedJoin, Command, FromColumn, Grouped, IsAccepted, IsChecked, IsCheckedCommand, IsCheckedJoin, IsReadFrom, IsShape, IsTypedQuery, IsTypedSelect, IsWithinLimits, Join, Kind, List, NamesFewPaths, None, Option, OrderKey, Plain, Query, QueryTree, Schema, Shape, Some, [], analysable_of_read, ap, ap₂, are_grouped, are_some, are_tested, are_two, arith, clause_need, condition, false, few_sources, from_columns, from_types, is_grouped, is_some, join_tables, join_use, length, map, query_boxes, need_by_clauses, not, one_tree, option_map, output_names, refl, refusal_of, same_grouped, schemas_of, sort_key, stock_of, subst, sym, tables_used, true, typed-select, use_of, used_tables, ◌==◌, ◌||◌, ◌∙◌, ◌∷◌, ◌≡◌, ◌≤◌}
 use Rattle.query_model.specs.declared.processor_spec.Kind.TheVariants as kind
 
 -- ---- what was read and checked
@@ -101,8 +101,8 @@ module _ (command : Command) (p q : Checked) (a : IsCheckedCommand command p)
       ∙ sym (used_are command b.query q b.is)
 
   -- and need the same boxes
-  pub same_need : (k : Kind) → need p command.tables command.threads k
-      ≡ need q command.tables command.threads k
+  pub same_need : (k : Kind) → query_boxes p command.tables command.threads k
+      ≡ query_boxes q command.tables command.threads k
   same_need k =
       let trees = one_tree command.query a.query b.query a.read.spells b.read.spells in
       let filters : is_some p.filter ≡ is_some q.filter =
@@ -133,7 +133,7 @@ module _ (command : Command) (p q : Checked) (a : IsCheckedCommand command p)
 -- the stock is enough for every plan within the limit of paths
 pub stock_serves : (command : Command) (q : Checked) → IsWithinLimits command
     → IsCheckedCommand command q → NamesFewPaths command q → (k : Kind)
-    → need q command.tables command.threads k ≤ stock_of k
+    → query_boxes q command.tables command.threads k ≤ stock_of k
 stock_serves command q within h few k =
     subst (λ n. n ≤ stock_of k) (sym (need_by_clauses command.tables command.threads q k))
     (go k (are_two (used_tables q)) (is_some q.filter) (are_grouped q.shape) (are_tested q.shape)

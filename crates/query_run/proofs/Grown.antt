@@ -14,11 +14,11 @@ names_of c nodes n =
     name_at c.tables (slice_get (places_in (specs_in nodes) (reserves_from 0 nodes)) n)
 
 -- what a box reads has this name
-abbrev pub Served : Command → Checked → Files → PartName → Option Spec → Type 0
-Served c q files name (Some (spec.Csv part)) =
+abbrev pub ReadsItsName : Command → Checked → Files → PartName → Option Spec → Type 0
+ReadsItsName c q files name (Some (spec.Csv part)) =
     IsPartNamed c q files name (used_part part) × (part.header ≡ c.header)
-Served c q files name (Some (spec.List list)) = IsListNamed c q name 0 list.path
-Served c q files name s = ⊤
+ReadsItsName c q files name (Some (spec.List list)) = IsListNamed c q name 0 list.path
+ReadsItsName c q files name s = ⊤
 
 kinds-count : (nodes : List DraftNode)
     → length (kinds_for nodes) ≡ length nodes + reserved_nodes (reserves_from 0 nodes)
@@ -255,23 +255,24 @@ module _ {c : Command} {q : Checked} {before after : List BoxPicture} {nodes : L
             (graph.graph.inputs n ∙ ports.0, graph.graph.outputs n ∙ ports.1);
       }
 
-      served-first : (s : Spec) → SourceHas (IsUsedPart c q) (IsUsedList c q) s
-          → Served c q files (name_at c.tables (Some (part_place s))) (Some s)
-      served-first (spec.Csv part) u = (
+      first-reads-its-name : (s : Spec) → SourceHas (IsUsedPart c q) (IsUsedList c q) s
+          → ReadsItsName c q files (name_at c.tables (Some (part_place s))) (Some s)
+      first-reads-its-name (spec.Csv part) u = (
         part-named x.copies files (used_part part) u.table u.declared (u.among files),
         u.header_is,
       )
-      served-first (spec.List list) u =
+      first-reads-its-name (spec.List list) u =
           subst (λ k. IsListNamed c q
           (name_at c.tables (Some (record { table = list.table; part = k })))
           0 list.path) (sym u.part_is) (list-named x.copies list u 0)
-      served-first s u = tt
+      first-reads-its-name s u = tt
 
-      pub served : (n : ℕ) → n < length ended → Served c q files (names n) (box_at ended n).spec
-      served n lt = elim (cases_lt n (length nodes)) [
+      pub reads-its-name : (n : ℕ) → n < length ended
+          → ReadsItsName c q files (names n) (box_at ended n).spec
+      reads-its-name n lt = elim (cases_lt n (length nodes)) [
         | inl less ↦
             rw ((ran-at nodes before after ended x.stock x.run n less).spec, named-first n less)
-            (served-first (spec_at specs n) (source-at x.copies n less))
+            (first-reads-its-name (spec_at specs n) (source-at x.copies n less))
         | inr past ↦ elim (cases_Bool (is_some (box_at ended n).spec)) [
           | inl born ↦
               let f = kept-list n past lt in
@@ -289,10 +290,10 @@ module _ {c : Command} {q : Checked} {before after : List BoxPicture} {nodes : L
               (paths_in (Some l.text)) f.place l.path l.in_range l.is)) in
               rw (l.loaded, named-kept n f)
               (part-named x.copies files p u.table u.declared among, u.header_is)
-          | inr unborn ↦ none-served (box_at ended n).spec unborn
+          | inr unborn ↦ none-reads (box_at ended n).spec unborn
         ]
       ]
         where
-          none-served : (o : Option Spec) → is_some o ≡ false → Served c q files (names n) o
-          none-served None e = tt
-          none-served (Some s) e = absurd cc
+          none-reads : (o : Option Spec) → is_some o ≡ false → ReadsItsName c q files (names n) o
+          none-reads None e = tt
+          none-reads (Some s) e = absurd cc

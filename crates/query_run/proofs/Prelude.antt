@@ -51,7 +51,7 @@ pub use Rattle.proc_api.specs.declared.growth.Who.TheVariants.{Me, New}
 pub use Rattle.proc_api.specs.declared.status.WorkFault.{WorkFault}
 pub use Rattle.query_model.proofs.Lists.{map-map}
 pub use Rattle.query_model.specs.Database.{IsListDeclared, IsListUsed, IsValidList, paths_in}
-pub use Rattle.query_model.specs.Names.{AllPartsValid, BothOrNone, Files, FromColumn, IsChecked, IsCheckedJoin, IsDue, IsShape, IsTypedQuery, IsValidUsed, UsedPart, answer_text, bad_line_in, database, file_bytes, flow, from_columns, from_types, is_grouped, join_tables, join_use, kind_of, need, numbered_parts, output_names, part_bad_place, parts_used, refusal_of, rows_text, sort_key, use_of, used_parts, used_tables}
+pub use Rattle.query_model.specs.Names.{AllPartsValid, BothOrNone, Files, FromColumn, IsChecked, IsCheckedJoin, IsDue, IsShape, IsTypedQuery, IsValidUsed, UsedPart, answer_text, bad_line_in, database, file_bytes, flow, from_columns, from_types, is_grouped, join_tables, join_use, kind_of, query_boxes, numbered_parts, output_names, part_bad_place, parts_used, refusal_of, rows_text, sort_key, use_of, used_parts, used_tables}
 pub use Rattle.query_model.specs.declared.checked.Checked.{Checked}
 pub use Rattle.query_model.specs.declared.checked.CheckedJoin.{CheckedJoin}
 pub use Rattle.query_model.specs.declared.checked.Shape.{Shape}

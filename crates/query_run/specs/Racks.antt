@@ -1,7 +1,7 @@
 -- Racks of boxes, as a run finds them and as it leaves them.
 use Rattle.std.specs.Prelude.{◌≡◌, ◌⊎◌, ℕ, ◌+◌, ◌<◌, ◌≤◌, cond, true, List, [], ◌∷◌, flat_map, map, count_by, Option, Some, None, IfSome}
 use Rattle.std.specs.List.{All}
-use Rattle.query_model.specs.Names.{Files, used_tables, need}
+use Rattle.query_model.specs.Names.{Files, used_tables, query_boxes}
 use Rattle.query_model.specs.declared.checked.Checked.{Checked}
 use Rattle.query_model.specs.declared.processor_spec.Spec.{Spec}
 use Rattle.query_model.specs.declared.processor_spec.Kind.{Kind}
@@ -76,7 +76,7 @@ plan_kinds c q = kinds_for (plan_nodes (plan_of c q))
 
 -- how many boxes of a kind the plan needs
 abbrev pub boxes_for : Command → Checked → Kind → ℕ
-boxes_for c q k = need q c.tables c.threads k
+boxes_for c q k = query_boxes q c.tables c.threads k
 
 -- of each kind the rack has as many boxes as are needed
 abbrev pub HasBoxes : (needed : Kind → ℕ) → List BoxPicture → Type 0

@@ -41,7 +41,7 @@ pub(crate) fn make_text<R: AllocGlobal + Threads + Sync>(
 {
     match read_words(rt.alloc(), words) {
         Ok(command) => match check_command(rt.alloc(), &command) {
-            Ok(checked) => match checked_text(rt, command, checked, rack) {
+            Ok(checked) => match checked_text(rt, &command, &checked, rack) {
                 Ok(text) => Ok(text),
                 Err(failure) => Err(Failure::Plan(failure)),
             },
@@ -55,18 +55,18 @@ pub(crate) fn make_text<R: AllocGlobal + Threads + Sync>(
 /// The text of the answer of a command's checked query.
 fn checked_text<R: AllocGlobal + Threads + Sync>(
     rt: &R,
-    command: Command,
-    checked: Checked,
+    command: &Command,
+    checked: &Checked,
     rack: &mut Rack,
 ) -> Result<Vec<u8>, PlanFailure>
-    requires within { IsWithinLimits command }
-    requires checked { IsCheckedCommand command checked }
+    requires within { IsWithinLimits command.now }
+    requires checked { IsCheckedCommand command.now checked.now }
     requires blank { All IsBlank (map (λ b. seen (b.vtable, b.value)) rack.old.boxes.items) }
     ensures blank { All IsBlank (map (λ b. seen (b.vtable, b.value)) rack.new.boxes.items) }
-    ensures text { IfOk result (λ text. MakesText command checked text.items
+    ensures text { IfOk result (λ text. MakesText command.now checked.now text.items
         (map (λ b. seen (b.vtable, b.value)) rack.old.boxes.items)
         (map (λ b. seen (b.vtable, b.value)) rack.new.boxes.items)) }
-    ensures cause { IfErr result (λ f. PlanFailsFor f command checked
+    ensures cause { IfErr result (λ f. PlanFailsFor f command.now checked.now
         (map (λ b. seen (b.vtable, b.value)) rack.old.boxes.items)
         (map (λ b. seen (b.vtable, b.value)) rack.new.boxes.items)) }
 {
@@ -74,7 +74,7 @@ fn checked_text<R: AllocGlobal + Threads + Sync>(
     let rows = command.chunk_rows;
     match plan(
         rt.alloc(),
-        &checked,
+        checked,
         &command.tables,
         lanes,
         rows,
@@ -92,22 +92,22 @@ fn checked_text<R: AllocGlobal + Threads + Sync>(
 /// The text of the answer of a checked query by its plan, for which the rack has the boxes.
 fn planned_text<R: AllocGlobal + Threads + Sync>(
     rt: &R,
-    command: Command,
-    checked: Checked,
+    command: &Command,
+    checked: &Checked,
     plan: Plan,
     rack: &mut Rack,
 ) -> Result<Vec<u8>, PlanFailure>
-    requires within { IsWithinLimits command }
-    requires checked { IsCheckedCommand command checked }
-    requires planned { IsPlanned command checked plan }
+    requires within { IsWithinLimits command.now }
+    requires checked { IsCheckedCommand command.now checked.now }
+    requires planned { IsPlanned command.now checked.now plan }
     requires blank { All IsBlank (map (λ b. seen (b.vtable, b.value)) rack.old.boxes.items) }
-    requires runnable { IsRunnable command checked
+    requires runnable { IsRunnable command.now checked.now
         (map (λ b. seen (b.vtable, b.value)) rack.old.boxes.items) }
     ensures blank { All IsBlank (map (λ b. seen (b.vtable, b.value)) rack.new.boxes.items) }
-    ensures text { IfOk result (λ text. MakesText command checked text.items
+    ensures text { IfOk result (λ text. MakesText command.now checked.now text.items
         (map (λ b. seen (b.vtable, b.value)) rack.old.boxes.items)
         (map (λ b. seen (b.vtable, b.value)) rack.new.boxes.items)) }
-    ensures cause { IfErr result (λ f. PlanFailsFor f command checked
+    ensures cause { IfErr result (λ f. PlanFailsFor f command.now checked.now
         (map (λ b. seen (b.vtable, b.value)) rack.old.boxes.items)
         (map (λ b. seen (b.vtable, b.value)) rack.new.boxes.items)) }
 {

@@ -13,14 +13,14 @@ use sql_text::ParseRefusal;
 
 /// A part as lines name it: its table's name, and its number in the table, from 1; 0 is the list
 /// that names the table's parts.
-#[derive(Debug, Drop)]
+#[derive(Drop)]
 pub(crate) struct PartName {
     pub table: Bytes,
     pub part: u32,
 }
 
 /// Why no checked query was had of a text.
-#[derive(Debug, Drop)]
+#[derive(Drop)]
 pub(crate) enum Refused {
     /// No query was read from the text.
     Text(ParseRefusal),
@@ -29,7 +29,7 @@ pub(crate) enum Refused {
 }
 
 /// What a part failed by, or the device that it was read from.
-#[derive(Clone, Copy, Debug)]
+#[derive(Clone, Copy)]
 pub(crate) enum PartFailure {
     Bad(BadPlace),
     /// The list has this bad line.
@@ -40,7 +40,7 @@ pub(crate) enum PartFailure {
 }
 
 /// Why the plan of a checked query gave no text.
-#[derive(Debug, Drop)]
+#[derive(Drop)]
 pub(crate) enum PlanFailure {
     /// A table of this name names so many paths.
     Paths(Bytes, u64),
@@ -53,7 +53,7 @@ pub(crate) enum PlanFailure {
 }
 
 /// Why a run failed before its first byte was written.
-#[derive(Debug, Drop)]
+#[derive(Drop)]
 pub(crate) enum Failure {
     Usage,
     Refused(Refused),
@@ -62,7 +62,7 @@ pub(crate) enum Failure {
 }
 
 /// How a run ended.
-#[derive(Debug, Drop)]
+#[derive(Drop)]
 pub(crate) enum Ending {
     Answered,
     Failed(Failure),

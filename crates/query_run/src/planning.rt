@@ -16,7 +16,7 @@ use std::alloc::Global;
 
 /// The part that a box serves: the place of its table, from 0, and its own in the table, from 1; a
 /// list of parts has 0.
-#[derive(Clone, Copy, Debug)]
+#[derive(Clone, Copy)]
 pub(crate) struct PartPlace {
     pub table: u32,
     pub part: u32,

@@ -24,7 +24,7 @@ const KINDS: [Kind; 13] = [
 ];
 
 /// A rack has fewer boxes of a kind than are needed.
-#[derive(Clone, Copy, Debug)]
+#[derive(Clone, Copy)]
 pub(crate) struct Shortage {
     pub kind: Kind,
     pub needed: usize,

@@ -13,7 +13,7 @@ use query_model::query::Refusal;
 use sql_text::ParseRefusal;
 
 /// A piece of a line.
-#[derive(Clone, Copy, Debug)]
+#[derive(Clone, Copy)]
 pub(crate) enum Piece<'a> {
     Text(&'a [u8]),
     /// In decimal.
