@@ -5,7 +5,7 @@ pub use Rattle.core_laws.specs.Steps.{Answer, acted, acting_end, after, allows, 
 pub use Rattle.core_laws.specs.Views.{adding, bit_of, counts, edges_of, end_of, flags_at, has, is_end, is_over, is_set, is_unborn, knows, listed, may_wire, names, no_flags, no_node, no_port, no_wire, node_at, node_of, once, port_at, port_of, put_node, put_port, reserved_edges, seeing, wire_ok, without}
 pub use Rattle.exec_table.specs.CoreNames.{Act, Close, CoreState, Finish, Flags, NodeState, PortState, Pull, Push, Sight, Sizes, Step, Unwant, Want, Wire}
 pub use Rattle.exec_table.specs.Words.{edge_count, first_word, flags_word, found_by, node_place, node_words, place, port_place, port_words, wire_of, wire_place, wire_word, wire_words, words_of, wire_in}
-pub use Rattle.exec_table.specs.Boards.{Board, Holds, Lane, LaneHolds, StageHolds, board_after, chunks_at, chunks_in, end_at, end_for, end_view, fits_end, home_of, is_over_stage, is_unborn_stage, lane_at, lanes_after, looked_at, no_end, no_lane, node_view, number_of, numbers, pulled_from, pushed_to, stage_at, stages_after, turn_at}
+pub use Rattle.exec_table.specs.Boards.{Board, Holds, Lane, LaneHolds, StageHolds, board_after, chunks_at, chunks_in, end_at, end_for, end_view, fits_end, home_of, is_over_stage, is_unborn_stage, lane_at, lanes_after, looked_at, no_end, no_lane, node_view, number_in_slot, numbers, pulled_from, pushed_to, stage_at, stages_after, turn_at}
 pub use Rattle.exec_table.specs.Rule.{Distinct, Fits, IsNoted, IsSeen, NotIn, Sat, Shown, Stp, aiming, first_view, no_view, one, start_board, start_stage, unstopped}
 pub use Rattle.exec_table.specs.Ready.{Did, can_act, end_of_view, front, has_learned, in_hand, is_at_hand, is_empty_hand, is_full_hand, ready, slot_act}
 pub use Rattle.exec_table.specs.declared.types.End.{End}
@@ -38,7 +38,7 @@ pub use Rattle.exec_table.specs.Closings.{IsFinal}
 pub use Rattle.exec_table.specs.Made.{just_first, rest_of, without_first, IsOpen}
 pub use Rattle.exec_table.specs.Plays.{Worked, next_worker, with_worker, first_or_none}
 pub use Rattle.exec_table.specs.Seats.{IsSeatOf, key_of, seen_in, view, HandHolds, Makes, Slots, edges_out, slots, slot_in, IsInHand, holds_chunk, slot_of, push_of}
-pub use Rattle.exec_table.specs.Surveys.{AreAll, Each, HasAll, IsBack, IsLent, Surveyed, joined, noted_word, noting, views}
+pub use Rattle.exec_table.specs.Surveys.{AreAll, Each, HasAll, IsBack, IsLent, Surveyed, joined_views, noted_word, noting, views}
 pub use Rattle.exec_table.specs.declared.rule.ExecTable.{ExecTable}
 pub use Rattle.exec_table.specs.declared.rule.NodeSeat.{NodeSeat}
 pub use Rattle.std.proofs.Math.Nat.{mod-eq_of_lt}

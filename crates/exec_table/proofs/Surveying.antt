@@ -1,5 +1,5 @@
 -- Views joined and words noted keep the rule.
-use Rattle.exec_table.proofs.Imports.{Allows, Board, Distinct, Fits, Holds, Joins, List, NodeView, Sat, Shown, Sizes, View, [], ap, arith, at_index, at_set, drop, cond, edge_count, eqb, false, get_elem?, get_or, inl, inr, keeps, length, no_view, refl, set, some, some-injective, some-ne-none, subst, suc, sym, take, unstopped, words_of, zero, length-map, map-append, ℕ, ⊎_elim, ◌++◌, ◌+◌, ◌<◌, ◌∙◌, ◌∷◌, ◌≡◌, ◌≢◌, ◌≤◌, ◌⊎◌, Enters, IsFinal, just_first, first_or_none, IsSeatOf, key_of, slots, view, ExecTable, AreAll, HasAll, Each, IsBack, IsLent, Surveyed, joined, noted_word, noting, views, NodeSeat, at_map, drop_at, ext_get_or, Chunk, Lane, None, Option, Seen, home_of, map, no_lane, none}
+use Rattle.exec_table.proofs.Imports.{Allows, Board, Distinct, Fits, Holds, Joins, List, NodeView, Sat, Shown, Sizes, View, [], ap, arith, at_index, at_set, drop, cond, edge_count, eqb, false, get_elem?, get_or, inl, inr, keeps, length, no_view, refl, set, some, some-injective, some-ne-none, subst, suc, sym, take, unstopped, words_of, zero, length-map, map-append, ℕ, ⊎_elim, ◌++◌, ◌+◌, ◌<◌, ◌∙◌, ◌∷◌, ◌≡◌, ◌≢◌, ◌≤◌, ◌⊎◌, Enters, IsFinal, just_first, first_or_none, IsSeatOf, key_of, slots, view, ExecTable, AreAll, HasAll, Each, IsBack, IsLent, Surveyed, joined_views, noted_word, noting, views, NodeSeat, at_map, drop_at, ext_get_or, Chunk, Lane, None, Option, Seen, home_of, map, no_lane, none}
 use Rattle.atomic_table.specs.Table.{Final as AtEnd}
 use Rattle.exec_table.specs.declared.shut.Final.{Final}
 use Rattle.exec_table.proofs.Wording.{pending-small}
@@ -27,7 +27,7 @@ apart-append (x ∷ xs) k d e ne = (
 
 -- a seat takes in the nodes of another
 pub joins : (key : Sizes) (id other : ℕ) (v w : View) → Joins (Shown key) id v other w
-    (joined v w) no_view
+    (joined_views v w) no_view
 joins key id other v w st r mine apart theirs = regrouped r refl refl owner
     (fits-set _ _ _ (Fits r.board owner) (fits-none r.board owner other no_view refl refl
     (omega arith)
@@ -48,13 +48,14 @@ joins key id other v w st r mine apart theirs = regrouped r refl refl owner
         (λ n. same n id (λ e. apart (sym e)))
 
     theirs_was : Fits r.board r.owner other w
-    theirs_was = r.seats other w (grind (arith, at_set st.views id other (joined v w) w theirs))
+    theirs_was =
+        r.seats other w (grind (arith, at_set st.views id other (joined_views v w) w theirs))
 
     it : Fits r.board owner id w
     it = fits-owned r.board r.owner owner other id w theirs_was
         (λ n q. grind (arith, q))
 
-    both : Fits r.board owner id (joined v w)
+    both : Fits r.board owner id (joined_views v w)
     both = record {
       each = λ i x q. grind (arith, was.each i x, it.each, at-append v.nodes w.nodes i x q);
       apart = apart-append v.nodes w.nodes was.apart it.apart (λ i j x y p q e.
@@ -220,7 +221,7 @@ left-views seats i s h = grind (arith, drop_at)
 -- a seat that has its node again
 pub is-back : (t : ExecTable) (was lent s : NodeSeat) (v : View) → IsSeatOf t was → IsLent was lent
     → first_or_none v.nodes ≡ view was → s.seat.table_id ≡ lent.seat.table_id
-    → s.seat.me ≡ (joined lent.seat.me.0 (just_first v), lent.seat.me.1) → s.node ≡ lent.node
+    → s.seat.me ≡ (joined_views lent.seat.me.0 (just_first v), lent.seat.me.1) → s.node ≡ lent.node
     → s.held ≡ lent.held → IsBack t was s
 is-back t was lent s v o l first table me node held = grind arith
 

@@ -81,15 +81,15 @@ node_view b n = record {
 abbrev pub numbers : ℕ → List ℕ
 numbers k = range_with_len 0 k
 
-abbrev pub number_of : ℕ → Option Chunk → Option ℕ
-number_of k None = None
-number_of k (Some x) = Some k
+abbrev pub number_in_slot : ℕ → Option Chunk → Option ℕ
+number_in_slot k None = None
+number_in_slot k (Some x) = Some k
 
 pub record LaneHolds (p : PortState) (l : Lane) : Type 0 where
   pub chunks : l.pushed ≡ l.pulled ++ chunks_in l.content
   pub pushed : p.pushed ≡ numbers (length l.pushed)
   pub pulled : p.pulled ≡ numbers (length l.pulled)
-  pub slot : p.slot ≡ number_of (length l.pulled) l.content
+  pub slot : p.slot ≡ number_in_slot (length l.pulled) l.content
   pub bare : p.wire ≡ None → l ≡ no_lane
 
 abbrev pub is_unborn_stage : Stage → Bool

@@ -8,8 +8,8 @@ use Rattle.exec_table.specs.Rule.{Sat, Stp}
 use Rattle.exec_table.specs.Seats.{IsSeatOf, key_of, slots, view, ExecTable, NodeSeat}
 
 -- a seat takes in the nodes of another
-abbrev pub joined : View → View → View
-joined v w = record v { nodes = v.nodes ++ w.nodes; noted = []; aim = 0 }
+abbrev pub joined_views : View → View → View
+joined_views v w = record v { nodes = v.nodes ++ w.nodes; noted = []; aim = 0 }
 
 -- a word as it is noted: without the stop bit
 abbrev pub noted_word : ℕ → ℕ → ℕ

@@ -152,9 +152,9 @@ pub(crate) struct Gather;
 
 impl Join<View> for Gather {
     ghost use Rattle.exec_table.specs.Rule.{no_view};
-    ghost use Rattle.exec_table.specs.Surveys.{joined};
+    ghost use Rattle.exec_table.specs.Surveys.{joined_views};
 
-    ghost both = { joined };
+    ghost both = { joined_views };
 
     ghost spent = { no_view };
 }

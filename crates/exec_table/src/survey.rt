@@ -3,7 +3,7 @@ ghost use Rattle.std.specs.Prelude.{◌≡◌, ◌∷◌, [], List, length};
 ghost use Rattle.exec_table.specs.Boards.{NodeView};
 ghost use Rattle.exec_table.specs.Made.{just_first, without_first};
 ghost use Rattle.exec_table.specs.Seats.{IsSeatOf, key_of};
-ghost use Rattle.exec_table.specs.Surveys.{AreAll, Each, HasAll, IsBack, IsLent, Surveyed, joined, noted_word, views};
+ghost use Rattle.exec_table.specs.Surveys.{AreAll, Each, HasAll, IsBack, IsLent, Surveyed, joined_views, noted_word, views};
 
 use crate::plays::{Enter, Gather, Note, Peel, Survey};
 use crate::rule::{ExecTable, NodeSeat};
@@ -26,7 +26,7 @@ impl ExecTable {
         requires seat { IsSeatOf self.now seat.old }
         ensures root { (root.new.table_id ≡ root.old.table_id)
             × (root.new.me ≡ (
-              joined root.old.me.0
+              joined_views root.old.me.0
                   (just_first seat.old.seat.me.0),
               root.old.me.1,
             )) }
@@ -45,7 +45,7 @@ impl ExecTable {
             × (root.new.me ≡ (without_first root.old.me.0, root.old.me.1)) }
         ensures seat { (seat.new.seat.table_id ≡ seat.old.seat.table_id)
             × (seat.new.seat.me
-            ≡ (joined seat.old.seat.me.0 (just_first root.old.me.0), seat.old.seat.me.1))
+            ≡ (joined_views seat.old.seat.me.0 (just_first root.old.me.0), seat.old.seat.me.1))
             × (seat.new.node ≡ seat.old.node) × (seat.new.held ≡ seat.old.held) }
     {
         let piece = self.table.shared.split_seat::<Peel>(root);

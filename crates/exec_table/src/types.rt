@@ -3,7 +3,7 @@ use chunk_data::{Chunk, List};
 use core_laws::{NodeState, Sizes, Wire};
 
 /// How far a node is.
-#[derive(Clone, Copy, Debug, PartialEq, Eq)]
+#[derive(Clone, Copy, PartialEq, Eq)]
 pub enum Stage {
     Unborn,
     /// It is live and hasn't begun.
@@ -45,7 +45,7 @@ pub struct View {
 }
 
 /// What `mark` made of the peer, or found.
-#[derive(Clone, Copy, Debug, PartialEq, Eq, Drop)]
+#[derive(Clone, Copy, PartialEq, Eq, Drop)]
 pub enum Marked {
     Charged,
     AlreadyDue,
@@ -54,14 +54,14 @@ pub enum Marked {
 
 /// Which ports of a node changed since it looked: a bit for each, and whether this is the first
 /// time that it begins.
-#[derive(Clone, Copy, Debug, PartialEq, Eq, Drop)]
+#[derive(Clone, Copy, PartialEq, Eq, Drop)]
 pub struct Updated {
     pub inputs: u32,
     pub outputs: u16,
     pub first: bool,
 }
 
-#[derive(Clone, Copy, Debug, PartialEq, Eq, Drop)]
+#[derive(Clone, Copy, PartialEq, Eq, Drop)]
 pub enum Rested {
     Idle,
     /// The node stays held: a port changed meanwhile.
@@ -69,7 +69,7 @@ pub enum Rested {
 }
 
 /// What a worker sees of the run.
-#[derive(Clone, Copy, Debug, PartialEq, Eq, Drop)]
+#[derive(Clone, Copy, PartialEq, Eq, Drop)]
 pub enum Seen {
     Pending(u64),
     Zero,
