@@ -1,5 +1,5 @@
 ghost use Rattle.std.specs.Prelude.{◌≡◌, ◌∷◌, [], IfOk};
-ghost use Rattle.chunk_data.specs.Columns.{kind_of};
+ghost use Rattle.chunk_data.specs.Columns.{column_type};
 
 use crate::literals::{check_each, halves};
 use chunk_data::{
@@ -40,7 +40,7 @@ fn compared(chunk: &Chunk, i: usize, j: usize, column: u32, descending: bool) ->
 
 // The texts as a column.
 fn column_of_texts(alloc: Global, texts: &[&[u8]]) -> Result<Column, Memory>
-    ensures { IfOk result (λ c. kind_of c ≡ ColumnType.Text) }
+    ensures { IfOk result (λ c. column_type c ≡ ColumnType.Text) }
 {
     let mut column = Texts::new(alloc);
     for text in texts {
@@ -207,7 +207,7 @@ fn sort_keys(alloc: Global) -> Result<String, Fail> {
 }
 
 fn grown_ints(alloc: Global) -> Result<Column, Memory>
-    ensures { IfOk result (λ c. kind_of c ≡ ColumnType.Int64) }
+    ensures { IfOk result (λ c. column_type c ≡ ColumnType.Int64) }
 {
     let mut ints = Column::new(alloc, ColumnType::Int64);
     ints.reserve(2)?;
@@ -227,7 +227,7 @@ fn signed(alloc: Global) -> Result<String, Fail> {
 }
 
 fn grown_uints(alloc: Global) -> Result<Column, Memory>
-    ensures { IfOk result (λ c. kind_of c ≡ ColumnType.UInt64) }
+    ensures { IfOk result (λ c. column_type c ≡ ColumnType.UInt64) }
 {
     let mut uints = Column::new(alloc, ColumnType::UInt64);
     uints.push_uint(6)?;
@@ -243,7 +243,7 @@ fn unsigned(alloc: Global) -> Result<String, Fail> {
 }
 
 fn appended_texts(alloc: Global) -> Result<Column, Memory>
-    ensures { IfOk result (λ c. kind_of c ≡ ColumnType.Text) }
+    ensures { IfOk result (λ c. column_type c ≡ ColumnType.Text) }
 {
     let mut texts = Column::new(alloc, ColumnType::Text);
     texts.push_text(b"ab")?;
