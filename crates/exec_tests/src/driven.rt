@@ -31,8 +31,8 @@ pub(crate) fn types_of(alloc: Global, letters: &str) -> Result<List<ColumnType>,
     Ok(List::from_vec(types))
 }
 
-// The rows, between which a `;` stands.
-fn chunk_of(alloc: Global, letters: &str, rows: &str) -> Result<Chunk, Fail> {
+/// The rows, between which a `;` stands.
+pub(crate) fn chunk_of(alloc: Global, letters: &str, rows: &str) -> Result<Chunk, Fail> {
     let types = types_of(alloc, letters)?;
     let bytes = rows.replace(alloc, ";", "\n")?.into_bytes();
     if types.len() > 9 {
@@ -234,8 +234,8 @@ fn see(view: &mut PortView, port: Port, flags: Flags, chunk: Option<Chunk>)
     view.see(port, flags, chunk)
 }
 
-// The consumer needs a chunk.
-fn need(view: &mut PortView, o: usize) -> Result<(), Fail>
+/// The consumer needs a chunk.
+pub(crate) fn need(view: &mut PortView, o: usize) -> Result<(), Fail>
     requires { view.old.actions ≡ [] }
     ensures follows { (p : BoxPicture) → FollowsKept p view.old → FollowsKept p view.new }
     ensures taken { view.new.actions ≡ [] }
@@ -250,8 +250,13 @@ fn need(view: &mut PortView, o: usize) -> Result<(), Fail>
     Ok(())
 }
 
-// A chunk comes at the input, or the producer finishes it.
-fn supply(view: &mut PortView, i: usize, chunk: Option<Chunk>) -> Result<(), Fail>
+/// A chunk comes at the input; where it is the last, or there is none, the producer finishes it.
+pub(crate) fn supply(
+    view: &mut PortView,
+    i: usize,
+    chunk: Option<Chunk>,
+    last: bool,
+) -> Result<(), Fail>
     requires { view.old.actions ≡ [] }
     ensures follows { (p : BoxPicture) → FollowsKept p view.old → FollowsKept p view.new }
     ensures taken { view.new.actions ≡ [] }
@@ -266,6 +271,7 @@ fn supply(view: &mut PortView, i: usize, chunk: Option<Chunk>) -> Result<(), Fai
     match chunk {
         Some(chunk) => {
             flags.has_data = true;
+            flags.fin_out = last;
             see(view, Port::Input(i), flags, Some(chunk));
         }
         None => {
@@ -366,10 +372,10 @@ fn act(view: &mut PortView, letters: &str, step: &str, alloc: Global) -> Result<
 {
     if let Some((i, rows)) = step.split_once(':') {
         let chunk = chunk_of(alloc, letters, rows)?;
-        return supply(view, i.parse().unwrap_or(99), Some(chunk));
+        return supply(view, i.parse().unwrap_or(99), Some(chunk), false);
     }
     if let Some(i) = step.strip_prefix('e') {
-        return supply(view, i.parse().unwrap_or(99), None);
+        return supply(view, i.parse().unwrap_or(99), None, true);
     }
     match step.strip_prefix('n') {
         Some(o) => need(view, o.parse().unwrap_or(99)),

@@ -11,6 +11,8 @@ mod driven;
 #[cfg(test)]
 mod exec_core_tests;
 #[cfg(test)]
+mod exec_graph_tests;
+#[cfg(test)]
 mod flow_procs_tests;
 #[cfg(test)]
 mod join_proc_tests;
@@ -18,6 +20,8 @@ mod join_proc_tests;
 mod pipeline_exec_tests;
 #[cfg(test)]
 mod plan_run_tests;
+#[cfg(test)]
+mod port_view_tests;
 #[cfg(test)]
 mod scripted;
 #[cfg(test)]

@@ -26,8 +26,11 @@ fn spec_for(alloc: Global, kind: Kind) -> Result<Spec, Fail> {
     }
 }
 
-// Loads the box.
-fn loaded(alloc: Global, b: Box<dyn Processor + Send>) -> Result<Box<dyn Processor + Send>, Fail>
+/// Loads the box.
+pub(crate) fn loaded(
+    alloc: Global,
+    b: Box<dyn Processor + Send>,
+) -> Result<Box<dyn Processor + Send>, Fail>
     ensures { IfOk result (λ b. IsFresh (seen b)) }
 {
     let mut b = b;
@@ -37,8 +40,8 @@ fn loaded(alloc: Global, b: Box<dyn Processor + Send>) -> Result<Box<dyn Process
     }
 }
 
-// Loads the box, and adds it as a node of the rank.
-fn add(
+/// Loads the box, and adds it as a node of the rank.
+pub(crate) fn add(
     alloc: Global,
     builder: &mut GraphBuilder,
     b: Box<dyn Processor + Send>,
@@ -59,9 +62,9 @@ fn add(
     Ok(())
 }
 
-// Whether the node is there; nothing is reserved here.
+/// Whether the node is there; nothing is reserved here.
 #[tactic(auto, using(exec_graph::proofs::Refusals::added))]
-fn is_added(builder: &GraphBuilder, node: u32) -> bool
+pub(crate) fn is_added(builder: &GraphBuilder, node: u32) -> bool
     ensures added { result ≡ true → IsAdded (length builder.now.ranks) builder.now.reserves node }
     ensures alone { result ≡ true → length builder.now.reserves ≡ 0 }
 {
