@@ -8,13 +8,12 @@ mod real_source;
 mod tests;
 
 use crate::breaker::Breaker;
-use crate::racks::{LISTS, OTHERS, SOURCES};
+use crate::racks::{LISTS, OTHERS, SOURCES, unload_rack};
 use crate::real_source::RealSource;
 use chunk_data::Memory;
 use csv_procs::{CsvSource, ListSource};
 use flow_procs::{Collect, Expression, Filter, Limit, Numbers, Resize};
 use outside_io::{RealFiles, RealSink, Sink};
-use plan_run::unload_boxes;
 use proc_api::Rack;
 use query_model::processor_spec::Kind;
 use query_run::run;
@@ -112,6 +111,6 @@ fn run_blank<R: AllocGlobal + Threads + Sync, O: Sink, E: Sink>(
     out: &mut O,
     err: &mut E,
 ) -> u8 {
-    unload_boxes(&mut rack.boxes);
+    unload_rack(rack);
     run(rt, words, rack, out, err)
 }

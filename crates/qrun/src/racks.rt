@@ -1,3 +1,10 @@
+ghost use Rattle.std.specs.Prelude.{◌<◌, length, map};
+ghost use Rattle.std.specs.List.{All};
+ghost use Rattle.proc_api.specs.Clauses.{IsBlank, Unloads};
+ghost use Rattle.exec_laws.specs.Runs.{box_at};
+ghost use Rattle.plan_run.specs.OneBox.{OnlyBox};
+
+use proc_api::{Processor, Rack};
 use query_model::processor_spec::Kind;
 
 /// How many boxes that read a part lie in the standard rack.
@@ -20,3 +27,34 @@ pub(crate) const OTHERS: [(Kind, u32); 11] = [
     (Kind::Limit, 1),
     (Kind::Collect, 1),
 ];
+
+/// Unloads each box of the rack, so that it is blank whatever it was.
+pub(crate) fn unload_rack(rack: &mut Rack)
+    ensures { All IsBlank (map (λ b. seen (b.vtable, b.value)) rack.new.boxes.items) }
+{
+    unload_boxes(&mut rack.boxes);
+}
+
+fn unload_boxes(boxes: &mut Vec<Box<dyn Processor + Send>>)
+    ensures { All IsBlank (map (λ b. seen b) boxes.new.items) }
+{
+    for i in 0..boxes.len() {
+        unload_at(boxes, i);
+    }
+}
+
+fn unload_at(boxes: &mut Vec<Box<dyn Processor + Send>>, i: usize)
+    requires { i < length boxes.old.items }
+    ensures only { OnlyBox i (map (λ b. seen b) boxes.old.items)
+        (map (λ b. seen b) boxes.new.items) }
+    ensures unloaded { Unloads (box_at (map (λ b. seen b) boxes.old.items) i)
+        (box_at (map (λ b. seen b) boxes.new.items) i) }
+{
+    unload_box(&mut boxes[i]);
+}
+
+fn unload_box(b: &mut Box<dyn Processor + Send>)
+    ensures { Unloads (seen b.old) (seen b.new) }
+{
+    b.unload();
+}
