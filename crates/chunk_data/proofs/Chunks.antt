@@ -1,5 +1,5 @@
 -- chunks
-use Rattle.chunk_data.proofs.Imports.{arith, All, AreColumns, AreLong, Bool, Column, ColumnType, FitsTypes, IsTable, List, Row, Table, Value, [], ap, count_by, drop, get_or, get_or-map, append_each, kept, column_type, length, length-map, map, map-append, nil_from_length, refl, row_at, rows_of, sym, take, take_at, take_more, value_at, values, ℕ, ◌++◌, ◌+◌, ◌-◌, ◌<◌, ◌∙◌, ◌∷◌, ◌≡◌, ◌≤◌}
+use Rattle.chunk_data.proofs.Imports.{arith, All, AreColumns, AreLong, Bool, Column, ColumnType, FitsTypes, IsTable, List, Row, Table, Value, [], ap, count_by, drop, get_or, get_or-map, append_each, kept, column_type, length, length-map, map, map-append, nil_from_length, refl, row_at, rows_of, sym, take, take_at, take_more, value_at, value_range, values, ℕ, ◌++◌, ◌+◌, ◌-◌, ◌<◌, ◌∙◌, ◌∷◌, ◌≡◌, ◌≤◌}
 use Rattle.chunk_data.proofs.Rows.{length-rows_of, AreLong-joined, rows_of-joined, AreLong-row, rows_of_push, AreLong-kept, rows_of-kept, column_of-rows_of, AreLong-places, rows_of-places, AreLong-take, rows_of-take, AreLong-drop, rows_of-drop}
 use Rattle.chunk_data.proofs.ColumnLists.{AreLong-at}
 use Rattle.chunk_data.proofs.Laws.{length-FitsTypes, rows_fit, AreLong-append, rows_of-append}
@@ -29,18 +29,6 @@ same_long : (types : List ColumnType) (columns others : List Column)
     → map column_type columns ≡ types → map column_type others ≡ types
     → length (map values others) ≡ length (map values columns)
 same_long types columns others e k = search (arith, length-map)
-
-pub AreColumns-joined : (types : List ColumnType) (columns others now : List Column) (n m : ℕ) →
-    AreColumns types columns n → AreColumns types others m
-    → map column_type now ≡ map column_type columns → map values now
-    ≡ append_each (map values columns) (map values others) → AreColumns types now (n + m)
-AreColumns-joined types columns others now n m h k e v = search (arith, AreLong-joined)
-
-pub rows_of_joined : (types : List ColumnType) (columns others now : List Column) (n m : ℕ)
-    → AreColumns types columns n → AreColumns types others m
-    → map values now ≡ append_each (map values columns) (map values others) → rows_of (n + m)
-    (map values now) ≡ rows_of n (map values columns) ++ rows_of m (map values others)
-rows_of_joined types columns others now n m h k v = search (arith, rows_of-joined, same_long)
 
 pub AreColumns-push : (types : List ColumnType) (columns now : List Column) (row : List Value)
     (n : ℕ) → AreColumns types columns n → map column_type now ≡ map column_type columns
@@ -90,24 +78,55 @@ pub kept_step : (types : List ColumnType) (columns given now : List Column) (mas
 kept_step types columns given now mask n count len h g l w m e k v =
     search (arith, written_back, AreColumns-kept, rows_of_kept)
 
-pub joined_step : (types : List ColumnType) (columns given now others others_given : List Column)
-    (n m count len : ℕ) → AreColumns types columns n → AreColumns types others m → given ≡ columns
-    → others_given ≡ others → length now ≡ length given → len ≡ length columns → count ≡ n + m
-    → map column_type now ≡ map column_type given
-    → map values now ≡ append_each (map values given) (map values
+column_at_long : (columns : List Column) (n i : ℕ) (x : Column) → AreLong n (map values columns)
+    → i < length columns → length (values (get_or columns i x)) ≡ n
+column_at_long columns n i x h lt =
+    let wide : i < length (map values columns) = rw length-map lt in
+    ap length (sym (get_or-map values columns i x (values x) lt))
+    ∙ AreLong-at n (map values columns) i (values x) h wide
+
+-- n values of each column from a place on
+ranges : (columns : List Column) (from n : ℕ)
+    → map (value_range from n) columns ≡ map (take n) (map (drop from) (map values columns))
+ranges [] from n = refl
+ranges (column ∷ columns) from n = ap (λ l. value_range from n column ∷ l) (ranges columns from n)
+
+pub all_reach : (columns : List Column) (n m : ℕ) → AreLong m (map values columns) → n ≤ m
+    → All (λ c. n ≤ length (values c)) columns
+all_reach columns n m h le = λ k d lt. omega (arith, column_at_long columns m k d h lt)
+
+pub ranges_step : (types : List ColumnType) (columns given now others others_given : List Column)
+    (n m from k count len : ℕ) → AreColumns types columns n → AreColumns types others m
+    → from + k ≤ m → given ≡ columns → others_given ≡ others → length now ≡ length given
+    → len ≡ length columns → count ≡ n + k → map column_type now ≡ map column_type given
+    → map values now ≡ append_each (map values given) (map (value_range from k)
     others_given) → (AreColumns types (take len (now ++ drop (length now) columns)) count)
     × (rows_of count (map values (take len (now ++ drop (length now) columns)))
-    ≡ rows_of n (map values columns) ++ rows_of m (map values others))
-joined_step types columns given now others others_given n m count len h o g og l w e k v =
+    ≡ rows_of n (map values columns) ++ take k (drop from (rows_of m (map values others))))
+ranges_step types columns given now others others_given n m from k count len h o le g og l w e t v =
     let back : take len (now ++ drop (length now) columns) ≡ now =
     written_back columns now len (l ∙ ap length g) w in
-    let cells : map values now ≡ append_each (map values columns) (map values others) = v
-    ∙ ap (λ l. append_each (map values l) (map values others_given)) g
-    ∙ ap (λ l. append_each (map values columns) (map values l)) og in
+    let part : List (List Value) = map (take k) (map (drop from) (map values others)) in
+    let cells : map values now ≡ append_each (map values columns) part = v
+    ∙ ap (λ l. append_each (map values l) (map (value_range from k) others_given)) g
+    ∙ ap (λ l. append_each (map values columns) (map (value_range from k) l)) og
+    ∙ ap (λ l. append_each (map values columns) l) (ranges others from k) in
+    let within : k ≤ m - from = omega arith in
+    let long : AreLong k part =
+    AreLong-take k (m - from) _ (AreLong-drop from m (map values others) o.long) within in
+    let rows : rows_of k part ≡ take k (drop from (rows_of m (map values others))) =
+    rows_of-take k (m - from) _ within
+    ∙ ap (λ l. take k l) (rows_of-drop from m (map values others) o.long) in
+    let wide : length part ≡ length (map values columns) =
+    length-map _ (take k) ∙ length-map _ (drop from)
+    ∙ same_long types columns others h.kinds o.kinds in
     rw (back, e) (
-      AreColumns-joined types columns others now n m h o (k ∙ ap (λ l. map column_type l) g)
-          cells,
-      rows_of_joined types columns others now n m h o cells,
+      record {
+        kinds = t ∙ ap (λ l. map column_type l) g ∙ h.kinds;
+        long = rw cells (AreLong-joined n k _ part h.long long);
+      },
+      rw cells (rows_of-joined n k _ part h.long long wide)
+          ∙ ap (λ l. rows_of n (map values columns) ++ l) rows,
     )
 
 pub push_step : (types : List ColumnType) (columns given now : List Column)

@@ -1,5 +1,5 @@
 -- texts that lie one after another
-use Rattle.chunk_data.proofs.Imports.{All, AreEnds, List, [], ap, arith, cut, drop, drop-append-le, drop-drop, drop-take, drop_at, get_or, get_or_default, length, length-append, length-drop, length-take-le, map, refl, slice_range, suc, sym, take, take-append-le, take-take, take_all, zero, ℕ, ◌++◌, ◌+◌, ◌-◌, ◌<◌, ◌∙◌, ◌∷◌, ◌≡◌, ◌≤◌}
+use Rattle.chunk_data.proofs.Imports.{All, AreEnds, List, [], ap, arith, cut, drop, drop-append-le, drop-drop, drop-take, drop_at, get_or, get_or-drop, get_or-map, get_or-take, get_or_default, length, length-append, length-drop, length-map, length-take-le, map, refl, slice_range, suc, sym, take, take-append-le, take-map, take-take, take_all, zero, ℕ, ◌++◌, ◌+◌, ◌-◌, ◌<◌, ◌∙◌, ◌∷◌, ◌≡◌, ◌≤◌}
 
 pub length-cut : (bytes : List ℕ) (from : ℕ) (ends : List ℕ)
     → length (cut bytes from ends) ≡ length ends
@@ -109,7 +109,7 @@ AreEnds-split from [] more middle total h k = rw h k
 AreEnds-split from (e ∷ ends) more middle total h k =
     (h.0, AreEnds-split e ends more middle total h.1 k)
 
-pub cut_joined : (xs ys : List ℕ) (ends more : List ℕ) → AreEnds 0 ends (length xs)
+cut_joined : (xs ys : List ℕ) (ends more : List ℕ) → AreEnds 0 ends (length xs)
     → cut (xs ++ ys) 0 (ends ++ map (λ e. length xs + e) more) ≡ cut xs 0 ends ++ cut ys 0 more
 cut_joined xs ys ends more h =
     let a : cut (xs ++ ys) 0 (ends ++ map (λ e. length xs + e) more)
@@ -124,7 +124,7 @@ cut_joined xs ys ends more h =
     rw z at c in
     cc
 
-pub AreEnds_joined : (xs ys : List ℕ) (ends more : List ℕ) → AreEnds 0 ends (length xs) → AreEnds 0
+AreEnds_joined : (xs ys : List ℕ) (ends more : List ℕ) → AreEnds 0 ends (length xs) → AreEnds 0
     more (length ys) → AreEnds 0 (ends ++ map (λ e. length xs + e) more) (length (xs ++ ys))
 AreEnds_joined xs ys ends more h k =
     let z : length xs + 0 ≡ length xs = omega arith in
@@ -251,6 +251,115 @@ cut_rest_of bytes ends n start h k e =
     let z : start - start ≡ 0 = omega arith in
     (rw z at b) ∙ ap (λ s. cut bytes s (drop n ends)) e ∙ cut_rest bytes 0 ends n k
 
+-- ---- n texts from a place on, behind those of another column
+moved_twice : (ends : List ℕ) (by start : ℕ)
+    → map (λ e. by + (e - start)) ends ≡ map (λ e. by + e) (map (λ e. e - start) ends)
+moved_twice [] by start = refl
+moved_twice (e ∷ ends) by start = ap (λ l. (by + (e - start)) ∷ l) (moved_twice ends by start)
+
+end_of_rest : (ends : List ℕ) (from n start : ℕ) → start ≡ get_or (0 ∷ ends) from 0
+    → from + n ≤ length ends → get_or (0 ∷ map (λ e. e - start) (drop from ends)) n 0
+    ≡ get_or (0 ∷ ends) (from + n) 0 - start
+end_of_rest ends from zero start e h =
+    let z : from + 0 ≡ from = omega arith in
+    rw (z, ← e) (omega arith)
+end_of_rest ends from (suc n) start e h =
+    let z : from + suc n ≡ suc (from + n) = omega arith in
+    let lt : n < length (drop from ends) = rw length-drop (omega arith) in
+    let f : ℕ → ℕ = λ k. k - start in
+    rw z (get_or-map f (drop from ends) n 0 0 lt ∙ ap f (get_or-drop from ends n 0))
+
+-- the bytes and the ends of these texts alone
+record IsRange (bytes ends part later : List ℕ) (from n : ℕ) : Type 0 where
+  pub are_ends : AreEnds 0 later (length part)
+  pub texts : cut part 0 later ≡ take n (drop from (cut bytes 0 ends))
+
+range_of : (bytes ends : List ℕ) (from n start end : ℕ) → AreEnds 0 ends (length bytes)
+    → from + n ≤ length ends → start ≡ get_or (0 ∷ ends) from 0
+    → end ≡ get_or (0 ∷ ends) (from + n) 0 → IsRange bytes ends (slice_range bytes start end)
+    (map (λ e. e - start) (slice_range ends from (from + n))) from n
+range_of bytes ends from n start end h le s e =
+    let rest : List ℕ = map (λ e. e - start) (drop from ends) in
+    let front : from ≤ length ends = omega arith in
+    let are : AreEnds 0 rest (length (drop start bytes)) =
+    AreEnds_rest bytes ends from start h front s in
+    let within : n ≤ length rest = rw (length-map, length-drop) (omega arith) in
+    let size : end - start ≡ get_or (0 ∷ rest) n 0 = ap (λ k. k - start) e
+    ∙ sym (end_of_rest ends from n start s le) in
+    let many : (from + n) - from ≡ n = omega arith in
+    let later : map (λ e. e - start) (take n (drop from ends)) ≡ take n rest =
+    sym (take-map (λ e. e - start) n (drop from ends)) in
+    rw (many, later) (
+    record {
+      are_ends = AreEnds_front (drop start bytes) rest n (end - start) size are within;
+      texts = cut_front_of (drop start bytes) rest n (end - start) size are within
+          ∙ ap (λ l. take n l) (cut_rest_of bytes ends from start h front s);
+    })
+
+pub start_le_start : (ends : List ℕ) (total from n : ℕ) → AreEnds 0 ends total
+    → from + n ≤ length ends → get_or (0 ∷ ends) from 0 ≤ get_or (0 ∷ ends) (from + n) 0
+start_le_start ends total from zero h le =
+    let z : from + 0 ≡ from = omega arith in
+    rw z (omega arith)
+start_le_start ends total from (suc n) h le =
+    let front : from ≤ length ends = omega arith in
+    let lt : n < length (drop from ends) = rw length-drop (omega arith) in
+    let z : from + suc n ≡ suc (from + n) = omega arith in
+    let above : get_or (0 ∷ ends) from 0 ≤ get_or (drop from ends) n 0 =
+    ends_above _ (drop from ends) total n 0 (AreEnds-rest 0 ends total from h front) lt in
+    let at : get_or (drop from ends) n 0 ≡ get_or (0 ∷ ends) (suc (from + n)) 0 =
+    get_or-drop from ends n 0 in
+    rw z (omega (arith, above, at))
+
+pub cut_range : (xs ys ends more : List ℕ) (from n by : ℕ) → AreEnds 0 ends (length xs)
+    → AreEnds 0 more (length ys) → from + n ≤ length more → by ≡ length xs
+    → cut (xs ++ slice_range ys (get_or (0 ∷ more) from 0) (get_or (0 ∷ more) (from + n) 0)) 0
+    (ends ++ map (λ e. by + (e - get_or (0 ∷ more) from 0)) (slice_range more from (from + n)))
+    ≡ cut xs 0 ends ++ take n (drop from (cut ys 0 more))
+cut_range xs ys ends more from n by h k le e =
+    let start : ℕ = get_or (0 ∷ more) from 0 in
+    let is = range_of ys more from n start _ k le refl refl in
+    rw (e, moved_twice (slice_range more from (from + n)) (length xs) start)
+    (cut_joined xs _ ends _ h ∙ ap (λ l. cut xs 0 ends ++ l) is.texts)
+
+pub AreEnds_range : (xs ys ends more : List ℕ) (from n by : ℕ) → AreEnds 0 ends (length xs)
+    → AreEnds 0 more (length ys) → from + n ≤ length more → by ≡ length xs → AreEnds 0
+    (ends ++ map (λ e. by + (e - get_or (0 ∷ more) from 0)) (slice_range more from (from + n)))
+    (length (xs ++ slice_range ys (get_or (0 ∷ more) from 0) (get_or (0 ∷ more) (from + n) 0)))
+AreEnds_range xs ys ends more from n by h k le e =
+    let start : ℕ = get_or (0 ∷ more) from 0 in
+    let is = range_of ys more from n start _ k le refl refl in
+    rw (e, moved_twice (slice_range more from (from + n)) (length xs) start)
+    (AreEnds_joined xs _ ends _ h is.are_ends)
+
+pub range_above : (ys more : List ℕ) (from n start : ℕ) → AreEnds 0 more (length ys)
+    → from + n ≤ length more → start ≡ get_or (0 ∷ more) from 0
+    → All (λ e. start ≤ e) (slice_range more from (from + n))
+range_above ys more from n start k le s = λ j d lt.
+    let many : (from + n) - from ≡ n = omega arith in
+    let front : from ≤ length more = omega arith in
+    let here : j < length (take n (drop from more)) = rw many at lt in
+    let size : length (take n (drop from more)) ≡ n =
+    length-take-le n (drop from more) (rw length-drop (omega arith)) in
+    let all : All (λ e. start ≤ e) (drop from more) =
+    rest_above more _ (length ys) from start k front s refl in
+    rw (many, get_or-take n (drop from more) j d (omega arith))
+    (all j d (rw length-drop (omega arith)))
+
+pub range_fits : (ys more : List ℕ) (from n start end by j d : ℕ) → AreEnds 0 more (length ys)
+    → from + n ≤ length more → start ≡ get_or (0 ∷ more) from 0
+    → end ≡ get_or (0 ∷ more) (from + n) 0 → j < length (slice_range more from (from + n))
+    → by + (get_or (slice_range more from (from + n)) j d - start)
+    ≤ by + length (slice_range ys start end)
+range_fits ys more from n start end by j d k le s e lt =
+    let is = range_of ys more from n start end k le s e in
+    let part : List ℕ = slice_range more from (from + n) in
+    let f : ℕ → ℕ = λ k. k - start in
+    let here : get_or (map f part) j 0 ≡ f (get_or part j d) = get_or-map f part j d 0 lt in
+    let below : get_or (map f part) j 0 ≤ length (slice_range ys start end) =
+    end_le_total 0 (map f part) _ j is.are_ends (rw length-map lt) in
+    omega (arith, here, below)
+
 pub ruleset cuts = (
   length-cut,
   get_or-cut,
@@ -258,8 +367,8 @@ pub ruleset cuts = (
   end_le_total,
   cut_more,
   AreEnds-push,
-  cut_joined,
-  AreEnds_joined,
+  start_le_start,
+  start_le_total,
   AreEnds_front,
   cut_front_of,
 )

@@ -1,6 +1,7 @@
 -- The law between rows and columns, for all code that works column by column.
-use Rattle.chunk_data.proofs.Imports.{All, AreLong, Column, ColumnType, FitsType, FitsTypes, Int64, List, Row, Text, UInt64, Value, [], adds, ap, arith, get_or, get_or-replicate, append_each, column_type, length, length-map, length-replicate, map, refl, replicate, rows_of, suc, sym, value_at, values, zero, ℕ, ◌++◌, ◌+◌, ◌<◌, ◌∙◌, ◌∷◌, ◌≡◌}
+use Rattle.chunk_data.proofs.Imports.{All, AreLong, Column, ColumnType, FitsType, FitsTypes, Int64, List, PlainColumn, Row, Text, UInt64, Value, [], adds, ap, arith, get_or, get_or-replicate, append_each, column_type, length, length-map, length-replicate, map, plain_column_type, plain_values, refl, replicate, rows_of, suc, sym, value_at, values, zero, ℕ, ◌++◌, ◌+◌, ◌<◌, ◌∙◌, ◌∷◌, ◌≡◌, PlainType, same_plain, true}
 use Rattle.chunk_data.specs.declared.typed_value.ColumnType.TheVariants as type
+use Rattle.chunk_data.specs.declared.typed_value.PlainType.TheVariants as plain
 use Rattle.chunk_data.specs.declared.typed_value.Value.TheVariants as value
 use Rattle.chunk_data.proofs.Rows.{AreLong-joined, AreLong-row}
 pub use Rattle.chunk_data.proofs.Rows.{length-rows_of, column_of-rows_of, row_of-rows_of, rows_of_push}
@@ -71,6 +72,13 @@ pub AreLong_push : {X : Type 0} (n : ℕ) (columns : List (List X)) (row : List 
     → AreLong (n + 1) (append_each columns (map (λ v. v ∷ []) row))
 AreLong_push n columns row h = search (arith, AreLong-joined, AreLong-row)
 
+-- ---- types, Nullable apart
+pub same_plain-is : (p q : PlainType) → same_plain p q ≡ true → p ≡ q
+same_plain-is plain.Int64 plain.Int64 h = refl
+same_plain-is plain.UInt64 plain.UInt64 h = refl
+same_plain-is plain.Text plain.Text h = refl
+same_plain-is p q h = absurd cc
+
 -- ---- rows that fit types
 pub length-FitsTypes : (types : List ColumnType) (row : Row) → FitsTypes types row
     → length row ≡ length types
@@ -93,11 +101,14 @@ all_mapped P f h [] = λ k d lt. absurd (omega arith)
 all_mapped P f h (x ∷ xs) = λ k d lt. elim k as (λ k. k < length (map f (x ∷ xs)) → P (get_or (map f
     (x ∷ xs)) k d)) [ zero ↦ λ _. h x | suc k ↦ λ lt. all_mapped P f h xs k d (omega arith) ] lt
 
+plain_fit : (plain : PlainColumn) → All (FitsType (plain_column_type plain)) (plain_values plain)
+plain_fit (Int64 numbers) = all_mapped (FitsType type.Int64) value.Int (λ x. refl) numbers.items
+plain_fit (UInt64 numbers) = all_mapped (FitsType type.UInt64) value.UInt (λ x. refl) numbers.items
+plain_fit (Text texts) = all_mapped (FitsType type.Text) value.Text (λ x. refl) texts
+
 -- a column's values fit its type
 pub all_fit : (column : Column) → All (FitsType (column_type column)) (values column)
-all_fit (Int64 numbers) = all_mapped (FitsType type.Int64) value.Int (λ x. refl) numbers.items
-all_fit (UInt64 numbers) = all_mapped (FitsType type.UInt64) value.UInt (λ x. refl) numbers.items
-all_fit (Text texts) = all_mapped (FitsType type.Text) value.Text (λ x. refl) texts
+all_fit column = plain_fit column.plain
 
 all_adds : (t : ColumnType) (types : List ColumnType) (column : List Value) (rows : List Row)
     → length column ≡ length rows → All (FitsType t) column → All (FitsTypes types) rows

@@ -9,6 +9,8 @@ use Rattle.chunk_data.specs.declared.typed_value.Value.{Value}
 use Rattle.chunk_data.specs.declared.typed_value.Value.TheVariants.{Int, UInt, Text}
 use Rattle.chunk_data.specs.declared.typed_value.ColumnType.{ColumnType}
 use Rattle.chunk_data.specs.declared.typed_value.ColumnType.TheVariants as column
+use Rattle.chunk_data.specs.declared.typed_value.PlainType.{PlainType}
+use Rattle.chunk_data.specs.declared.typed_value.PlainType.TheVariants as plain
 use Rattle.chunk_data.specs.declared.typed_value.SortKey.{SortKey}
 
 abbrev pub Row : Type 0
@@ -19,15 +21,51 @@ pub record Table : Type 0 where
   pub types : List ColumnType
   pub rows : List Row
 
--- the type of a value
-abbrev pub type_of : Value → ColumnType
-type_of (Int z) = column.Int64
-type_of (UInt n) = column.UInt64
-type_of (Text bytes) = column.Text
+-- the type of a column's values, NULL apart
+abbrev pub plain_type : ColumnType → PlainType
+plain_type column.Int64 = plain.Int64
+plain_type column.UInt64 = plain.UInt64
+plain_type column.Text = plain.Text
+
+-- whether a column of the type may have NULL; no type is Nullable yet
+abbrev pub is_nullable : ColumnType → Bool
+is_nullable column.Int64 = false
+is_nullable column.UInt64 = false
+is_nullable column.Text = false
+
+abbrev pub is_plain_int : PlainType → Bool
+is_plain_int plain.Int64 = true
+is_plain_int plain.UInt64 = false
+is_plain_int plain.Text = false
+
+abbrev pub is_plain_uint : PlainType → Bool
+is_plain_uint plain.Int64 = false
+is_plain_uint plain.UInt64 = true
+is_plain_uint plain.Text = false
+
+abbrev pub is_plain_text : PlainType → Bool
+is_plain_text plain.Int64 = false
+is_plain_text plain.UInt64 = false
+is_plain_text plain.Text = true
+
+abbrev pub same_plain : PlainType → PlainType → Bool
+same_plain plain.Int64 p = is_plain_int p
+same_plain plain.UInt64 p = is_plain_uint p
+same_plain plain.Text p = is_plain_text p
+
+-- whether the values are texts; else they are numbers
+abbrev pub is_text : ColumnType → Bool
+is_text t = is_plain_text (plain_type t)
+
+-- whether the types are one, Nullable apart
+abbrev pub same_type : ColumnType → ColumnType → Bool
+same_type s t = same_plain (plain_type s) (plain_type t)
 
 -- a column of the type may have the value
 abbrev pub FitsType : ColumnType → Value → Type 0
-FitsType t v = type_of v ≡ t
+FitsType t (Int z) = plain_type t ≡ plain.Int64
+FitsType t (UInt n) = plain_type t ≡ plain.UInt64
+FitsType t (Text bytes) = plain_type t ≡ plain.Text
 
 -- a row of the types: one value for each column, and each fits its column's type
 abbrev pub FitsTypes : List ColumnType → Row → Type 0
@@ -40,15 +78,22 @@ FitsTypes (t ∷ types) (v ∷ row) = FitsType t v × FitsTypes types row
 abbrev pub IsTable : Table → Type 0
 IsTable t = All (FitsTypes t.types) t.rows
 
+abbrev pub plain_default : PlainType → Value
+plain_default plain.Int64 = Int (pos 0)
+plain_default plain.UInt64 = UInt 0
+plain_default plain.Text = Text []
+
 -- 0, or the empty text
 abbrev pub default_value : ColumnType → Value
-default_value column.Int64 = Int (pos 0)
-default_value column.UInt64 = UInt 0
-default_value column.Text = Text []
+default_value t = plain_default (plain_type t)
 
 -- the value at a place of a row or a column, which is in range
 abbrev pub value_at : List Value → ℕ → Value
 value_at values c = slice_index_or values c (Text [])
+
+-- the type of a column, which is in range
+abbrev pub type_at : List ColumnType → ℕ → ColumnType
+type_at types c = slice_index_or types c column.Text
 
 -- the values at the places, in the places' order
 abbrev pub values_at : List ℕ → List Value → List Value

@@ -1,6 +1,6 @@
 ghost use Rattle.std.specs.Prelude.{◌≡◌, ℕ, ◌+◌, ◌≤◌, ◌<◌, ◌++◌, ◌∷◌, [], length, map, take, drop, OnOk, OnErr, IfOk};
 ghost use Rattle.std.specs.List.{All, count_by};
-ghost use Rattle.chunk_data.specs.Names.{FitsTypes, value_at, column_type, values, kept, append_each, AreLong};
+ghost use Rattle.chunk_data.specs.Names.{FitsTypes, value_at, column_type, values, kept, append_each, value_range, AreLong};
 
 use crate::lists::{List, Memory};
 use crate::typed_column::Column;
@@ -48,21 +48,25 @@ pub fn truncate_columns(columns: &mut [Column], n: usize)
     }
 }
 
-/// Appends each column of the others to the one beside it; after an error none has changed.
-pub(crate) fn append_all(
+/// Appends to each column so many values of the one beside it, from a place on; after an error
+/// none has changed.
+pub(crate) fn append_ranges(
     columns: &mut [Column],
     others: &[Column],
+    from: usize,
+    n: usize,
     count: usize,
 ) -> Result<(), Memory>
     requires agree { map column_type others.now ≡ map column_type columns.old }
     requires long { AreLong count (map values columns.old) }
+    requires in_range { All (λ c. from + n ≤ length (values c)) others.now }
     ensures kinds { map column_type columns.new ≡ map column_type columns.old }
-    ensures ok { OnOk result
-        (map values columns.new ≡ append_each (map values columns.old) (map values others.now)) }
+    ensures ok { OnOk result (map values columns.new
+        ≡ append_each (map values columns.old) (map (value_range from n) others.now)) }
     ensures err { OnErr result (map values columns.new ≡ map values columns.old) }
 {
     for i in 0..columns.len() {
-        match columns[i].append(&others[i]) {
+        match columns[i].append_range(&others[i], from, n) {
             Ok(()) => {}
             Err(memory) => {
                 truncate_columns(columns, count);
@@ -157,18 +161,6 @@ pub(crate) fn row_of(
         row.push(column.value(i)?)?;
     }
     Ok(List::from_vec(row))
-}
-
-/// Each column's first n values, copied.
-pub(crate) fn front_all(alloc: Global, columns: &[Column], n: usize) -> Result<Vec<Column>, Memory>
-    ensures kinds { IfOk result (λ v. map column_type v.items ≡ map column_type columns.now) }
-    ensures front { IfOk result (λ v. map values v.items ≡ map (take n) (map values columns.now)) }
-{
-    let mut front = Vec::new(alloc);
-    for column in columns {
-        front.push(column.front(n)?)?;
-    }
-    Ok(front)
 }
 
 /// Leaves of each column what follows its first n values.

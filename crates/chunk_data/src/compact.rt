@@ -55,16 +55,6 @@ pub(crate) fn copy_items<T: Copy>(items: &Vec<T>) -> Result<Vec<T>, Memory>
     Ok(Vec::from_slice(*items.allocator(), items.as_slice())?)
 }
 
-/// A copy of the first n.
-pub(crate) fn front_items<T: Copy>(items: &Vec<T>, n: usize) -> Result<Vec<T>, Memory>
-    ensures { IfOk result (λ v. v.items ≡ take n items.now.items) }
-{
-    if items.len() <= n {
-        return copy_items(items);
-    }
-    Ok(Vec::from_slice(*items.allocator(), &items.as_slice()[..n])?)
-}
-
 /// Drops the first n.
 pub(crate) fn remove_front<T: Copy>(items: &mut Vec<T>, n: usize)
     ensures { items.new.items ≡ drop n items.old.items }

@@ -25,5 +25,6 @@ pub use column_list::{empty_columns, truncate_columns};
 pub use lists::{Bytes, List, Memory};
 pub use row_chunk::Chunk;
 pub use text_column::Texts;
+pub use typed_access::PlainSlice;
 pub use typed_column::Column;
-pub use typed_value::{ColumnType, SortKey, Value};
+pub use typed_value::{ColumnType, PlainType, SortKey, Value, type_at};

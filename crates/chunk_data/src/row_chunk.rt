@@ -3,8 +3,8 @@ ghost use Rattle.std.specs.List.{All};
 ghost use Rattle.chunk_data.specs.Names.{FitsTypes, IsTable, value_at, column_type, values, append_each, kept, row_at, rows_of, AreLong};
 
 use crate::column_list::{
-    append_all, beside_all, count_true, empty_columns, front_all, gather_all, keep_all, kinds_of,
-    push_all, remove_front_all, row_of, truncate_columns,
+    append_ranges, beside_all, count_true, empty_columns, gather_all, keep_all, kinds_of, push_all,
+    remove_front_all, row_of, truncate_columns,
 };
 use crate::lists::{List, Memory};
 use crate::typed_column::Column;
@@ -178,27 +178,45 @@ impl Chunk {
             *self = other;
             return Ok(());
         }
-        self.append_copied(other)
-    }
-
-    // The same, whatever rows there are.
-    fn append_copied(&mut self, other: Chunk) -> Result<(), Chunk>
-        requires { other.types ≡ self.old.types }
-        ensures types { self.new.types ≡ self.old.types }
-        ensures ok { OnOk result (self.new.rows ≡ self.old.rows ++ other.rows) }
-        ensures err { MatchResult result (λ _. Unit {0})
-            (λ c. (c ≡ other) × (self.new.rows ≡ self.old.rows)) }
-    {
-        let Some(count) = self.count.checked_add(other.count) else {
-            return Err(other);
-        };
-        match append_all(&mut self.columns, other.columns.as_slice(), self.count) {
-            Ok(()) => {
-                self.count = count;
-                Ok(())
-            }
+        match self.append_range(&other, 0, other.rows()) {
+            Ok(()) => Ok(()),
             Err(_) => Err(other),
         }
+    }
+
+    /// So many of the other's rows, from a place on, after its own; after an error nothing has
+    /// changed.
+    pub fn append_range(&mut self, other: &Chunk, from: usize, n: usize) -> Result<(), Memory>
+        requires types { other.now.types ≡ self.old.types }
+        requires in_range { from + n ≤ length other.now.rows }
+        ensures types { self.new.types ≡ self.old.types }
+        ensures ok { OnOk result
+            (self.new.rows ≡ self.old.rows ++ take n (drop from other.now.rows)) }
+        ensures err { OnErr result (self.new.rows ≡ self.old.rows) }
+    {
+        let Some(count) = self.count.checked_add(n) else {
+            return Err(Memory);
+        };
+        append_ranges(
+            &mut self.columns,
+            other.columns.as_slice(),
+            from,
+            n,
+            self.count,
+        )?;
+        self.count = count;
+        Ok(())
+    }
+
+    /// A copy of so many rows, from a place on.
+    pub fn copy_range(&self, from: usize, n: usize) -> Result<Chunk, Memory>
+        requires { from + n ≤ length self.now.rows }
+        ensures types { IfOk result (λ c. c.types ≡ self.now.types) }
+        ensures rows { IfOk result (λ c. c.rows ≡ take n (drop from self.now.rows)) }
+    {
+        let mut range = Chunk::new(self.alloc, self.types())?;
+        range.append_range(self, from, n)?;
+        Ok(range)
     }
 
     /// The rows at the places, in the places' order.
@@ -235,15 +253,8 @@ impl Chunk {
             (λ c. (c.rows ≡ take n self.old.rows) × (self.new.rows ≡ drop n self.old.rows)) }
         ensures err { OnErr result (self.new.rows ≡ self.old.rows) }
     {
-        let kinds = self.kinds.copy()?;
-        let columns = front_all(self.alloc, self.columns.as_slice(), n)?;
-        remove_front_all(&mut self.columns, n);
-        self.count -= n;
-        Ok(Chunk {
-            alloc: self.alloc,
-            kinds,
-            columns,
-            count: n,
-        })
+        let front = self.copy_range(0, n)?;
+        self.remove_front(n);
+        Ok(front)
     }
 }

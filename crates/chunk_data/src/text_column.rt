@@ -1,9 +1,9 @@
 ghost use Rattle.std.specs.Prelude.{◌≡◌, ℕ, ◌+◌, ◌≤◌, ◌<◌, ◌++◌, ◌∷◌, List, [], length, ◌^◌, map, take, drop, ◌-◌, slice_index, slice_index_or, OnOk, OnErr, IfOk};
-ghost use Rattle.std.specs.List.{All};
+ghost use Rattle.std.specs.List.{All, slice_range};
 ghost use Rattle.std.specs.Vec.{vec_len, vec_capacity};
 ghost use Rattle.chunk_data.specs.Names.{kept, cut, AreEnds};
 
-use crate::compact::{copy_items, front_items, remove_front};
+use crate::compact::{copy_items, remove_front};
 use crate::lists::{Bytes, Memory};
 use std::alloc::Global;
 use std::marker::Model;
@@ -107,15 +107,20 @@ impl Texts {
         shift_down(&mut self.ends, start);
     }
 
-    /// The other's texts after its own; after an error nothing has changed.
-    pub fn append(&mut self, other: &Texts) -> Result<(), Memory>
-        ensures ok { OnOk result (self.new ≡ self.old ++ other.now) }
+    /// So many of the other's texts, from a place on, after its own; after an error nothing has
+    /// changed.
+    pub fn append_range(&mut self, other: &Texts, from: usize, n: usize) -> Result<(), Memory>
+        requires { from + n ≤ length other.now }
+        ensures ok { OnOk result (self.new ≡ self.old ++ take n (drop from other.now)) }
         ensures err { OnErr result (self.new ≡ self.old) }
     {
-        self.ends.try_reserve(other.ends.len())?;
+        self.ends.try_reserve(n)?;
+        let ends = other.ends.as_slice();
         let by = self.bytes.len();
-        self.bytes.extend_from_slice(other.bytes.as_slice())?;
-        push_shifted(&mut self.ends, other.ends.as_slice(), by);
+        self.bytes
+            .extend_from_slice(bytes_of(other.bytes.as_slice(), ends, from, n))?;
+        let start = start_of(ends, from);
+        push_moved(&mut self.ends, &ends[from..from + n], start, by);
         Ok(())
     }
 
@@ -126,21 +131,6 @@ impl Texts {
         Ok(Texts {
             bytes: copy_items(&self.bytes)?,
             ends: copy_items(&self.ends)?,
-        })
-    }
-
-    /// A copy of the first n texts.
-    pub fn front(&self, n: usize) -> Result<Texts, Memory>
-        ensures { IfOk result (λ t. t ≡ take n self.now) }
-    {
-        if self.ends.len() <= n {
-            let texts = self.copy()?;
-            return Ok(texts);
-        }
-        let size = start_of(self.ends.as_slice(), n);
-        Ok(Texts {
-            bytes: front_items(&self.bytes, size)?,
-            ends: front_items(&self.ends, n)?,
         })
     }
 
@@ -176,14 +166,15 @@ fn shift_down(ends: &mut Vec<usize>, by: usize)
     }
 }
 
-// Each end of the others, moved up, after the ends; room was reserved.
-fn push_shifted(ends: &mut Vec<usize>, others: &[usize], by: usize)
+// Each end of the others, counted from `start` and moved up, after the ends; room was reserved.
+fn push_moved(ends: &mut Vec<usize>, others: &[usize], start: usize, by: usize)
     requires room { vec_len ends.old + length others.now ≤ vec_capacity ends.old }
-    requires fits { All (λ end. by + end < 2 ^ 64) others.now }
-    ensures { ends.new.items ≡ ends.old.items ++ map (λ end. by + end) others.now }
+    requires above { All (λ end. start ≤ end) others.now }
+    requires fits { All (λ end. by + (end - start) < 2 ^ 64) others.now }
+    ensures { ends.new.items ≡ ends.old.items ++ map (λ end. by + (end - start)) others.now }
 {
     for end in others {
-        let _ = ends.push(by + *end);
+        let _ = ends.push(by + (*end - start));
     }
 }
 
@@ -217,6 +208,19 @@ fn start_of(ends: &[usize], i: usize) -> usize
     ensures { result ≡ slice_index (0 ∷ ends.now) i }
 {
     if i == 0 { 0 } else { ends[i - 1] }
+}
+
+// The bytes of n texts from a place on.
+#[tactic(auto, using(crate::proofs::Cuts::cuts))]
+fn bytes_of<'a>(bytes: &'a [u8], ends: &[usize], from: usize, n: usize) -> &'a [u8]
+    requires ends { AreEnds 0 ends.now (length bytes.now) }
+    requires in_range { from + n ≤ length ends.now }
+    ensures { result.now ≡ slice_range bytes.now (slice_index (0 ∷ ends.now) from)
+        (slice_index (0 ∷ ends.now) (from + n)) }
+{
+    let start = start_of(ends, from);
+    let end = start_of(ends, from + n);
+    &bytes[start..end]
 }
 
 #[tactic(auto, using(crate::proofs::Cuts::cuts))]

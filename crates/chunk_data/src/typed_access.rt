@@ -1,10 +1,18 @@
-ghost use Rattle.std.specs.Prelude.{◌≡◌, ◌<◌, ◌++◌, ◌∷◌, [], length, map, OnOk, OnErr, IfErr};
-ghost use Rattle.chunk_data.specs.Names.{value_at, column_type, values};
+ghost use Rattle.std.specs.Prelude.{◌≡◌, ◌<◌, ◌++◌, ◌∷◌, [], length, map, None, OnOk, OnErr};
+ghost use Rattle.chunk_data.specs.Names.{value_at, column_type, slice_type, slice_values, values};
 
 use crate::lists::Memory;
 use crate::text_column::Texts;
-use crate::typed_column::Column;
+use crate::typed_column::{Column, PlainColumn};
 use crate::typed_value::{ColumnType, Value};
+
+/// Values without NULL, as a column keeps them.
+#[derive(Clone, Copy)]
+pub enum PlainSlice<'a> {
+    Ints(&'a [i64]),
+    UInts(&'a [u64]),
+    Texts(&'a Texts),
+}
 
 // The calls of paths that every row takes: they know the column's type, and make no `Value`.
 impl Column {
@@ -13,7 +21,9 @@ impl Column {
         ensures kind { column_type result ≡ ColumnType.Int64 }
         ensures values { values result ≡ map Value.Int numbers.items }
     {
-        Column::Int64(numbers)
+        Column {
+            plain: PlainColumn::Int64(numbers),
+        }
     }
 
     /// A column of these numbers, which are moved.
@@ -21,7 +31,9 @@ impl Column {
         ensures kind { column_type result ≡ ColumnType.UInt64 }
         ensures values { values result ≡ map Value.UInt numbers.items }
     {
-        Column::UInt64(numbers)
+        Column {
+            plain: PlainColumn::UInt64(numbers),
+        }
     }
 
     /// A column of these texts, which are moved.
@@ -29,7 +41,28 @@ impl Column {
         ensures kind { column_type result ≡ ColumnType.Text }
         ensures values { values result ≡ map Value.Text texts }
     {
-        Column::Text(texts)
+        Column {
+            plain: PlainColumn::Text(texts),
+        }
+    }
+
+    /// Its values as they are kept, for loops over all of them.
+    pub fn plain(&self) -> PlainSlice<'_>
+        ensures kind { slice_type result ≡ column_type self.now }
+        ensures values { slice_values result ≡ values self.now }
+    {
+        match &self.plain {
+            PlainColumn::Int64(numbers) => PlainSlice::Ints(numbers.as_slice()),
+            PlainColumn::UInt64(numbers) => PlainSlice::UInts(numbers.as_slice()),
+            PlainColumn::Text(texts) => PlainSlice::Texts(texts),
+        }
+    }
+
+    /// Which of its values aren't NULL, in a column that may have NULL; no type allows it today.
+    pub fn validity(&self) -> Option<&[bool]>
+        ensures { result ≡ None }
+    {
+        None
     }
 
     /// The numbers of an Int64 column.
@@ -37,8 +70,8 @@ impl Column {
         requires { column_type self.now ≡ ColumnType.Int64 }
         ensures { values self.now ≡ map Value.Int result.now }
     {
-        match self {
-            Column::Int64(numbers) => numbers.as_slice(),
+        match &self.plain {
+            PlainColumn::Int64(numbers) => numbers.as_slice(),
             _ => unreachable!(),
         }
     }
@@ -48,8 +81,8 @@ impl Column {
         requires { column_type self.now ≡ ColumnType.UInt64 }
         ensures { values self.now ≡ map Value.UInt result.now }
     {
-        match self {
-            Column::UInt64(numbers) => numbers.as_slice(),
+        match &self.plain {
+            PlainColumn::UInt64(numbers) => numbers.as_slice(),
             _ => unreachable!(),
         }
     }
@@ -59,8 +92,8 @@ impl Column {
         requires { column_type self.now ≡ ColumnType.Text }
         ensures { values self.now ≡ map Value.Text result.now }
     {
-        match self {
-            Column::Text(texts) => texts,
+        match &self.plain {
+            PlainColumn::Text(texts) => texts,
             _ => unreachable!(),
         }
     }
@@ -71,8 +104,8 @@ impl Column {
         requires in_range { i < length (values self.now) }
         ensures { Value.Text result.now ≡ value_at (values self.now) i }
     {
-        match self {
-            Column::Text(texts) => texts.get(i),
+        match &self.plain {
+            PlainColumn::Text(texts) => texts.get(i),
             _ => unreachable!(),
         }
     }
@@ -82,30 +115,8 @@ impl Column {
         requires { column_type self ≡ ColumnType.Int64 }
         ensures { values self ≡ map Value.Int result.items }
     {
-        match self {
-            Column::Int64(numbers) => numbers,
-            _ => unreachable!(),
-        }
-    }
-
-    /// The numbers of a UInt64 column, which is moved.
-    pub fn into_uints(self) -> Vec<u64>
-        requires { column_type self ≡ ColumnType.UInt64 }
-        ensures { values self ≡ map Value.UInt result.items }
-    {
-        match self {
-            Column::UInt64(numbers) => numbers,
-            _ => unreachable!(),
-        }
-    }
-
-    /// The texts of a Text column, which is moved.
-    pub fn into_texts(self) -> Texts
-        requires { column_type self ≡ ColumnType.Text }
-        ensures { values self ≡ map Value.Text result }
-    {
-        match self {
-            Column::Text(texts) => texts,
+        match self.plain {
+            PlainColumn::Int64(numbers) => numbers,
             _ => unreachable!(),
         }
     }
@@ -117,8 +128,8 @@ impl Column {
         ensures ok { OnOk result (values self.new ≡ values self.old ++ Value.Int number ∷ []) }
         ensures err { OnErr result (values self.new ≡ values self.old) }
     {
-        match self {
-            Column::Int64(numbers) => numbers.push(number)?,
+        match &mut self.plain {
+            PlainColumn::Int64(numbers) => numbers.push(number)?,
             _ => unreachable!(),
         }
         Ok(())
@@ -131,8 +142,8 @@ impl Column {
         ensures ok { OnOk result (values self.new ≡ values self.old ++ Value.UInt number ∷ []) }
         ensures err { OnErr result (values self.new ≡ values self.old) }
     {
-        match self {
-            Column::UInt64(numbers) => numbers.push(number)?,
+        match &mut self.plain {
+            PlainColumn::UInt64(numbers) => numbers.push(number)?,
             _ => unreachable!(),
         }
         Ok(())
@@ -145,28 +156,9 @@ impl Column {
         ensures ok { OnOk result (values self.new ≡ values self.old ++ Value.Text text.now ∷ []) }
         ensures err { OnErr result (values self.new ≡ values self.old) }
     {
-        match self {
-            Column::Text(texts) => texts.push(text),
+        match &mut self.plain {
+            PlainColumn::Text(texts) => texts.push(text),
             _ => unreachable!(),
-        }
-    }
-
-    /// The other's values after its own, as `append`; an empty column takes the other's memory.
-    /// After an error the other comes back and nothing has changed.
-    pub fn append_moved(&mut self, other: Column) -> Result<(), Column>
-        requires { column_type other ≡ column_type self.old }
-        ensures kind { column_type self.new ≡ column_type self.old }
-        ensures ok { OnOk result (values self.new ≡ values self.old ++ values other) }
-        ensures err { OnErr result (values self.new ≡ values self.old) }
-        ensures returned { IfErr result (λ c. c ≡ other) }
-    {
-        if self.len() == 0 {
-            *self = other;
-            return Ok(());
-        }
-        match self.append(&other) {
-            Ok(()) => Ok(()),
-            Err(_) => Err(other),
         }
     }
 }

@@ -2,18 +2,22 @@ ghost use Rattle.std.specs.Prelude.{◌≡◌, ℕ, ◌+◌, ◌≤◌, ◌<◌,
 ghost use Rattle.std.specs.List.{All};
 ghost use Rattle.chunk_data.specs.Names.{FitsType, value_at, value_cmp, column_type, values, kept};
 
-use crate::compact::{
-    copy_items, front_items, gather_ints, gather_uints, keep_items, remove_front,
-};
+use crate::compact::{copy_items, gather_ints, gather_uints, keep_items, remove_front};
 use crate::lists::Memory;
 use crate::text_column::Texts;
 use crate::typed_value::{ColumnType, Value};
 use std::alloc::Global;
 use std::cmp::Ordering;
 
-/// Values of one type, kept in one vector of that type.
+/// Values of one type. What they are kept in is known in this crate alone.
 #[derive(Debug, Drop)]
-pub enum Column {
+pub struct Column {
+    pub(crate) plain: PlainColumn,
+}
+
+/// Values without NULL, in one vector of their own type.
+#[derive(Debug, Drop)]
+pub(crate) enum PlainColumn {
     Int64(Vec<i64>),
     UInt64(Vec<u64>),
     Text(Texts),
@@ -26,9 +30,9 @@ impl Column {
         ensures empty { values result ≡ [] }
     {
         match kind {
-            ColumnType::Int64 => Column::Int64(Vec::new(alloc)),
-            ColumnType::UInt64 => Column::UInt64(Vec::new(alloc)),
-            ColumnType::Text => Column::Text(Texts::new(alloc)),
+            ColumnType::Int64 => Column::of_ints(Vec::new(alloc)),
+            ColumnType::UInt64 => Column::of_uints(Vec::new(alloc)),
+            ColumnType::Text => Column::of_texts(Texts::new(alloc)),
         }
     }
 
@@ -36,10 +40,10 @@ impl Column {
     pub fn kind(&self) -> ColumnType
         ensures { result ≡ column_type self.now }
     {
-        match self {
-            Column::Int64(_) => ColumnType::Int64,
-            Column::UInt64(_) => ColumnType::UInt64,
-            Column::Text(_) => ColumnType::Text,
+        match &self.plain {
+            PlainColumn::Int64(_) => ColumnType::Int64,
+            PlainColumn::UInt64(_) => ColumnType::UInt64,
+            PlainColumn::Text(_) => ColumnType::Text,
         }
     }
 
@@ -47,10 +51,10 @@ impl Column {
     pub fn len(&self) -> usize
         ensures { result ≡ length (values self.now) }
     {
-        match self {
-            Column::Int64(numbers) => numbers.len(),
-            Column::UInt64(numbers) => numbers.len(),
-            Column::Text(texts) => texts.len(),
+        match &self.plain {
+            PlainColumn::Int64(numbers) => numbers.len(),
+            PlainColumn::UInt64(numbers) => numbers.len(),
+            PlainColumn::Text(texts) => texts.len(),
         }
     }
 
@@ -59,10 +63,10 @@ impl Column {
         ensures kind { column_type self.new ≡ column_type self.old }
         ensures values { values self.new ≡ values self.old }
     {
-        match self {
-            Column::Int64(numbers) => numbers.try_reserve(n)?,
-            Column::UInt64(numbers) => numbers.try_reserve(n)?,
-            Column::Text(texts) => texts.reserve(n)?,
+        match &mut self.plain {
+            PlainColumn::Int64(numbers) => numbers.try_reserve(n)?,
+            PlainColumn::UInt64(numbers) => numbers.try_reserve(n)?,
+            PlainColumn::Text(texts) => texts.reserve(n)?,
         }
         Ok(())
     }
@@ -75,13 +79,7 @@ impl Column {
         ensures ok { OnOk result (values self.new ≡ values self.old ++ value ∷ []) }
         ensures err { OnErr result (values self.new ≡ values self.old) }
     {
-        match (self, value) {
-            (Column::Int64(numbers), Value::Int(number)) => numbers.push(number)?,
-            (Column::UInt64(numbers), Value::UInt(number)) => numbers.push(number)?,
-            (Column::Text(texts), Value::Text(text)) => texts.push(text.as_slice())?,
-            _ => unreachable!(),
-        }
-        Ok(())
+        self.push_copy(&value)
     }
 
     /// The same for a value that is only lent.
@@ -91,10 +89,10 @@ impl Column {
         ensures ok { OnOk result (values self.new ≡ values self.old ++ value.now ∷ []) }
         ensures err { OnErr result (values self.new ≡ values self.old) }
     {
-        match (self, value) {
-            (Column::Int64(numbers), Value::Int(number)) => numbers.push(*number)?,
-            (Column::UInt64(numbers), Value::UInt(number)) => numbers.push(*number)?,
-            (Column::Text(texts), Value::Text(text)) => texts.push(text.as_slice())?,
+        match (&mut self.plain, value) {
+            (PlainColumn::Int64(numbers), Value::Int(number)) => numbers.push(*number)?,
+            (PlainColumn::UInt64(numbers), Value::UInt(number)) => numbers.push(*number)?,
+            (PlainColumn::Text(texts), Value::Text(text)) => texts.push(text.as_slice())?,
             _ => unreachable!(),
         }
         Ok(())
@@ -105,10 +103,10 @@ impl Column {
         requires { i < length (values self.now) }
         ensures { IfOk result (λ v. v ≡ value_at (values self.now) i) }
     {
-        match self {
-            Column::Int64(numbers) => Ok(Value::Int(numbers[i])),
-            Column::UInt64(numbers) => Ok(Value::UInt(numbers[i])),
-            Column::Text(texts) => Ok(Value::Text(texts.copy_at(i)?)),
+        match &self.plain {
+            PlainColumn::Int64(numbers) => Ok(Value::Int(numbers[i])),
+            PlainColumn::UInt64(numbers) => Ok(Value::UInt(numbers[i])),
+            PlainColumn::Text(texts) => Ok(Value::Text(texts.copy_at(i)?)),
         }
     }
 
@@ -120,10 +118,10 @@ impl Column {
         ensures { result
             ≡ value_cmp (value_at (values self.now) i) (value_at (values other.now) j) }
     {
-        match (self, other) {
-            (Column::Int64(numbers), Column::Int64(others)) => numbers[i].cmp(&others[j]),
-            (Column::UInt64(numbers), Column::UInt64(others)) => numbers[i].cmp(&others[j]),
-            (Column::Text(texts), Column::Text(others)) => texts.get(i).cmp(others.get(j)),
+        match (&self.plain, &other.plain) {
+            (PlainColumn::Int64(xs), PlainColumn::Int64(ys)) => xs[i].cmp(&ys[j]),
+            (PlainColumn::UInt64(xs), PlainColumn::UInt64(ys)) => xs[i].cmp(&ys[j]),
+            (PlainColumn::Text(xs), PlainColumn::Text(ys)) => xs.get(i).cmp(ys.get(j)),
             _ => unreachable!(),
         }
     }
@@ -135,10 +133,10 @@ impl Column {
         ensures kind { column_type self.new ≡ column_type self.old }
         ensures kept { values self.new ≡ kept mask.now (values self.old) }
     {
-        match self {
-            Column::Int64(numbers) => keep_items(numbers, mask),
-            Column::UInt64(numbers) => keep_items(numbers, mask),
-            Column::Text(texts) => texts.keep(mask),
+        match &mut self.plain {
+            PlainColumn::Int64(numbers) => keep_items(numbers, mask),
+            PlainColumn::UInt64(numbers) => keep_items(numbers, mask),
+            PlainColumn::Text(texts) => texts.keep(mask),
         }
     }
 
@@ -148,28 +146,34 @@ impl Column {
         ensures kind { column_type self.new ≡ column_type self.old }
         ensures front { values self.new ≡ take n (values self.old) }
     {
-        match self {
-            Column::Int64(numbers) => numbers.truncate(n),
-            Column::UInt64(numbers) => numbers.truncate(n),
-            Column::Text(texts) => texts.truncate(n),
+        match &mut self.plain {
+            PlainColumn::Int64(numbers) => numbers.truncate(n),
+            PlainColumn::UInt64(numbers) => numbers.truncate(n),
+            PlainColumn::Text(texts) => texts.truncate(n),
         }
     }
 
-    /// The other's values after its own; after an error nothing has changed.
-    pub fn append(&mut self, other: &Column) -> Result<(), Memory>
-        requires { column_type other.now ≡ column_type self.old }
+    /// So many of the other's values, from a place on, after its own; after an error nothing has
+    /// changed.
+    #[tactic(auto, using(crate::proofs::Cells::maps))]
+    pub fn append_range(&mut self, other: &Column, from: usize, n: usize) -> Result<(), Memory>
+        requires kinds { column_type other.now ≡ column_type self.old }
+        requires in_range { from + n ≤ length (values other.now) }
         ensures kind { column_type self.new ≡ column_type self.old }
-        ensures ok { OnOk result (values self.new ≡ values self.old ++ values other.now) }
+        ensures ok { OnOk result
+            (values self.new ≡ values self.old ++ take n (drop from (values other.now))) }
         ensures err { OnErr result (values self.new ≡ values self.old) }
     {
-        match (self, other) {
-            (Column::Int64(numbers), Column::Int64(more)) => {
-                numbers.extend_from_slice(more.as_slice())?
+        match (&mut self.plain, &other.plain) {
+            (PlainColumn::Int64(numbers), PlainColumn::Int64(others)) => {
+                numbers.extend_from_slice(&others.as_slice()[from..from + n])?
             }
-            (Column::UInt64(numbers), Column::UInt64(more)) => {
-                numbers.extend_from_slice(more.as_slice())?
+            (PlainColumn::UInt64(numbers), PlainColumn::UInt64(others)) => {
+                numbers.extend_from_slice(&others.as_slice()[from..from + n])?
             }
-            (Column::Text(texts), Column::Text(more)) => texts.append(more)?,
+            (PlainColumn::Text(texts), PlainColumn::Text(others)) => {
+                texts.append_range(others, from, n)?
+            }
             _ => unreachable!(),
         }
         Ok(())
@@ -182,10 +186,10 @@ impl Column {
         ensures kind { IfOk result (λ c. column_type c ≡ column_type self.now) }
         ensures values { IfOk result (λ c. values c ≡ map (value_at (values self.now)) places.now) }
     {
-        match self {
-            Column::Int64(numbers) => { Ok(Column::Int64(gather_ints(numbers, places)?)) }
-            Column::UInt64(numbers) => { Ok(Column::UInt64(gather_uints(numbers, places)?)) }
-            Column::Text(texts) => Ok(Column::Text(texts.gather(places)?)),
+        match &self.plain {
+            PlainColumn::Int64(numbers) => Ok(Column::of_ints(gather_ints(numbers, places)?)),
+            PlainColumn::UInt64(numbers) => Ok(Column::of_uints(gather_uints(numbers, places)?)),
+            PlainColumn::Text(texts) => Ok(Column::of_texts(texts.gather(places)?)),
         }
     }
 
@@ -194,23 +198,10 @@ impl Column {
         ensures kind { IfOk result (λ c. column_type c ≡ column_type self.now) }
         ensures values { IfOk result (λ c. values c ≡ values self.now) }
     {
-        match self {
-            Column::Int64(numbers) => Ok(Column::Int64(copy_items(numbers)?)),
-            Column::UInt64(numbers) => Ok(Column::UInt64(copy_items(numbers)?)),
-            Column::Text(texts) => Ok(Column::Text(texts.copy()?)),
-        }
-    }
-
-    /// A copy of the first n values.
-    #[tactic(auto, using(crate::proofs::Cells::maps))]
-    pub fn front(&self, n: usize) -> Result<Column, Memory>
-        ensures kind { IfOk result (λ c. column_type c ≡ column_type self.now) }
-        ensures front { IfOk result (λ c. values c ≡ take n (values self.now)) }
-    {
-        match self {
-            Column::Int64(numbers) => Ok(Column::Int64(front_items(numbers, n)?)),
-            Column::UInt64(numbers) => Ok(Column::UInt64(front_items(numbers, n)?)),
-            Column::Text(texts) => Ok(Column::Text(texts.front(n)?)),
+        match &self.plain {
+            PlainColumn::Int64(numbers) => Ok(Column::of_ints(copy_items(numbers)?)),
+            PlainColumn::UInt64(numbers) => Ok(Column::of_uints(copy_items(numbers)?)),
+            PlainColumn::Text(texts) => Ok(Column::of_texts(texts.copy()?)),
         }
     }
 
@@ -220,10 +211,10 @@ impl Column {
         ensures kind { column_type self.new ≡ column_type self.old }
         ensures rest { values self.new ≡ drop n (values self.old) }
     {
-        match self {
-            Column::Int64(numbers) => remove_front(numbers, n),
-            Column::UInt64(numbers) => remove_front(numbers, n),
-            Column::Text(texts) => texts.remove_front(n),
+        match &mut self.plain {
+            PlainColumn::Int64(numbers) => remove_front(numbers, n),
+            PlainColumn::UInt64(numbers) => remove_front(numbers, n),
+            PlainColumn::Text(texts) => texts.remove_front(n),
         }
     }
 }
