@@ -1,15 +1,19 @@
 -- The tables that `--tables` declares.
-use Rattle.std.specs.Prelude.{ℕ, Bool, false, not, nat_le, ◌==◌, ◌&&◌, ◌||◌, if◌then◌else◌, List, [], ◌∷◌, length, map, bytes_eq, codes, Option, Some, None, option_map}
-use Rattle.std.specs.List.{list_all, before_first, after_first}
+use Rattle.std.specs.Prelude.{ℕ, Bool, true, false, not, nat_le, ◌==◌, ◌&&◌, ◌||◌, if◌then◌else◌, List, [], ◌∷◌, length, map, bytes_eq, codes, Option, Some, None, option_map}
+use Rattle.std.specs.List.{list_all, list_any, before_first, after_first}
 use Rattle.chunk_data.specs.declared.typed_value.ColumnType.{ColumnType}
 use Rattle.chunk_data.specs.declared.typed_value.ColumnType.TheVariants as column
-use Rattle.query_model.specs.Projection.{are_distinct}
 use Rattle.query_model.specs.declared.query.ColumnDecl.{ColumnDecl}
 use Rattle.query_model.specs.declared.query.PartsDecl.{PartsDecl}
 use Rattle.query_model.specs.declared.query.TableDecl.{TableDecl}
 use Rattle.query_model.specs.declared.query.PartsDecl.TheVariants.{Paths, ListFile}
 use Rattle.sql_grammar.specs.Tokens.{is_name}
 use Rattle.command_line.specs.Pieces.{pieces_of}
+
+-- whether no name stands twice
+abbrev pub are_distinct : List (List ℕ) → Bool
+are_distinct [] = true
+are_distinct (name ∷ names) = not (list_any (bytes_eq name) names) && are_distinct names
 
 -- the types, spelled so
 abbrev pub type_named : List ℕ → Option ColumnType

@@ -1,7 +1,6 @@
 -- How tables are written on the command line.
-use Rattle.command_line.specs.Tables.{is_path}
+use Rattle.command_line.specs.Tables.{are_distinct, is_path}
 use Rattle.query_model.specs.Prelude.{All, ColumnType, join_with_byte}
-use Rattle.query_model.specs.Projection.{are_distinct}
 use Rattle.query_model.specs.declared.query.ColumnDecl.{ColumnDecl}
 use Rattle.query_model.specs.declared.query.PartsDecl.{PartsDecl}
 use Rattle.query_model.specs.declared.query.PartsDecl.TheVariants.{ListFile, Paths}

@@ -1,6 +1,6 @@
 ghost use Rattle.std.specs.Prelude.{◌≡◌, ℕ, List, map, bytes_eq};
 ghost use Rattle.std.specs.List.{list_any};
-ghost use Rattle.query_model.specs.Projection.{are_distinct};
+ghost use Rattle.command_line.specs.Tables.{are_distinct};
 
 /// What has a name.
 pub trait Named {

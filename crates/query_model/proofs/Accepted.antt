@@ -1,9 +1,8 @@
 -- What holds of a query that no condition refuses.
-use Rattle.query_model.proofs.Imports.{All, All-cons, All-nil, AllByRecursion, ArithOp, Bool, CanBePicked, ColumnRef, ExprOf, FromColumn, HasNoCall, IsDue, Item, ItemKind, Join, Kind, List, None, Option, Query, Refusal, Schema, Some, [], ambiguous_among, ambiguous_column, ap, append-nil, arith, arith_kind, bad_join_key, bad_order_key, bare_columns, cond, expr_columns, expr_kind, false, filter, find, first_name, first_of_all, fits_where, flat_map, from_columns, holds_pairs, is_call, is_grouped, is_key_of, is_typed, item_kind, join_tables, length, length-append, list_all, list_any, listed, map, meant, nat_lt, not, not_grouped, not_grouped_over, not_keys, operands_of, option_map, order_over, pairs_fit, plain, refl, refusal_of, refusal_unless, star_name, sym, table_columns, text_columns, too_wide, true, type_mismatch, typed, types_fit_over, ungrouped_names, unknown_among, unknown_column, unknown_table, width_over, written, ℕ, ◌++◌, ◌==◌, ◌||◌, ◌∙◌, ◌∷◌, ◌≡◌, ◌≤◌}
+use Rattle.query_model.proofs.Imports.{All, All-cons, All-nil, AllByRecursion, ArithOp, Bool, CanBePicked, ColumnRef, ExprOf, FromColumn, HasNoCall, Item, ItemKind, Kind, List, None, Option, Query, Refusal, Schema, Some, [], ambiguous_column, and_parts, arith, arith_kind, bad_join_key, bad_order_key, bare_columns, cond, expr_columns, expr_kind, false, filter, find, first_name, first_of_all, fits_where, flat_map, from_columns, is_call, is_grouped, is_key_of, is_typed, item_kind, length, length-append, list_all, list_any, listed, map, meant, nat_lt, not, not_grouped, not_keys, operands_of, option_map, plain, refl, refusal_of, star_name, table_columns, text_columns, too_wide, true, type_mismatch, typed, ungrouped_names, unknown_column, written, ℕ, ◌++◌, ◌==◌, ◌||◌, ◌∷◌, ◌≡◌, ◌≤◌, join_columns, refusals, output_names}
 use Rattle.query_model.specs.declared.query.ExprOf.TheVariants as expr
 use Rattle.query_model.specs.declared.query.ItemKind.TheVariants as kind
 use Rattle.query_model.specs.declared.query.Refusal.TheVariants as refuse
-use Rattle.query_model.proofs.TypedQueries.{both}
 
 -- none of several stands
 none_of_all : {X : Type 0} (os : List (Option X)) → first_of_all os ≡ None
@@ -14,97 +13,39 @@ none_of_all (Some x ∷ os) h = absurd cc
 
 -- none of the conditions stands
 pub record IsAccepted (q : Query) (schemas : List Schema) : Type 0 where
-  pub known : unknown_column q schemas ≡ None
-  pub one : ambiguous_column q schemas ≡ None
-  pub typed : type_mismatch q schemas ≡ None
-  pub grouped : not_grouped q schemas ≡ None
-  pub narrow : too_wide q schemas ≡ None
+  pub known : unknown_column (from_columns q schemas) (text_columns q) ≡ None
+  pub one : ambiguous_column (from_columns q schemas) (text_columns q) ≡ None
+  pub pairs : bad_join_key (table_columns schemas q.from) (join_columns schemas q.join) q.join
+      ≡ None
+  pub typed : type_mismatch (from_columns q schemas) q ≡ None
+  pub grouped : not_grouped (from_columns q schemas) q ≡ None
+  pub ordered : bad_order_key (output_names q.items (from_columns q schemas)) q.order ≡ None
+  pub narrow : too_wide (from_columns q schemas) q ≡ None
+
+-- what is asked of the columns of From is what refuses the query
+pub refusal_over : (q : Query) (schemas : List Schema) (columns left right : List FromColumn)
+    → columns ≡ from_columns q schemas → left ≡ table_columns schemas q.from
+    → right ≡ join_columns schemas q.join
+    → first_of_all (refusals schemas columns left right q) ≡ refusal_of q schemas
+unfolding refusal_of
+refusal_over q schemas columns left right a b c = rw (a, b, c) refl
 
 pub accepted : (q : Query) (schemas : List Schema) → refusal_of q schemas ≡ None
     → IsAccepted q schemas
 unfolding refusal_of
 accepted q schemas h =
-    let none = none_of_all (
-    unknown_table q schemas ∷ unknown_column q schemas ∷ ambiguous_column q schemas
-    ∷ bad_join_key q schemas
-    ∷ type_mismatch q schemas ∷ not_grouped q schemas ∷ bad_order_key q schemas
-    ∷ too_wide q schemas ∷ []) h in
-    let later = none.1.1.1.1 in
+    let all = none_of_all (refusals schemas (from_columns q schemas) (table_columns schemas q.from)
+    (join_columns schemas q.join) q) h in
+    let later = all.1.1.1 in
     record {
-      known = none.1.0;
-      one = none.1.1.0;
-      typed = later.0;
-      grouped = later.1.0;
-      narrow =
-          later.1.1.1.0;
+      known = all.1.0;
+      one = all.1.1.0;
+      pairs = later.0;
+      typed = later.1.0;
+      grouped = later.1.1.0;
+      ordered = later.1.1.1.0;
+      narrow = later.1.1.1.1.0;
     }
-
--- The first condition that stands, step by step.
-
-module _ (q : Query) (schemas : List Schema) where
-  abbrev names_over : List FromColumn → Option Refusal
-  names_over columns = first_of_all
-      (unknown_among columns (text_columns q) ∷ ambiguous_among columns (text_columns q) ∷ [])
-
-  abbrev later_over : List FromColumn → Option Refusal
-  later_over columns =
-      first_of_all (refusal_unless (types_fit_over columns q) refuse.TypeMismatch
-      ∷ not_grouped_over columns q ∷ order_over columns q ∷ width_over columns q ∷ [])
-
-  abbrev bad_name : Option Refusal
-  bad_name = first_of_all (unknown_column q schemas ∷ ambiguous_column q schemas ∷ [])
-
-  abbrev behind_names : Option Refusal
-  behind_names =
-      first_of_all (bad_join_key q schemas ∷ type_mismatch q schemas ∷ not_grouped q schemas
-      ∷ bad_order_key q schemas ∷ too_wide q schemas ∷ [])
-
-  -- what is said of the columns is said of those of From
-  pub over_from : (columns : List FromColumn) → columns ≡ from_columns q schemas
-      → (o : Option Refusal) → o ≡ names_over columns → o ≡ bad_name
-  over_from columns e o h = h ∙ ap names_over e
-
-  -- an unknown table
-  pub table_is_first : (r : Refusal) → unknown_table q schemas ≡ Some r
-      → Some r ≡ refusal_of q schemas
-  unfolding refusal_of
-  table_is_first r h = search (arith)
-
-  -- a name
-  pub name_is_first : (r : Refusal) → unknown_table q schemas ≡ None → bad_name ≡ Some r
-      → Some r ≡ refusal_of q schemas
-  unfolding refusal_of
-  name_is_first r h k = search (arith)
-
-  none_before : unknown_table q schemas ≡ None → bad_name ≡ None
-      → refusal_of q schemas ≡ behind_names
-  unfolding refusal_of
-  none_before h k = search (arith)
-
-  same_pairs : (left right : List FromColumn) (o : Option Join) → left
-      ≡ table_columns schemas q.from → right ≡ flat_map (table_columns schemas) (join_tables o)
-      → pairs_fit left right o ≡ holds_pairs q schemas o
-  same_pairs left right None l r = refl
-  same_pairs left right (Some join) l r = search (arith, append-nil)
-
-  -- a pair of ON
-  pub pair_is_first : (left right : List FromColumn) → left ≡ table_columns schemas q.from
-      → right ≡ flat_map (table_columns schemas) (join_tables q.join)
-      → unknown_table q schemas ≡ None → bad_name ≡ None → pairs_fit left right q.join ≡ false
-      → Some refuse.BadJoinKey ≡ refusal_of q schemas
-  pair_is_first left right l r h k f = search (arith, none_before, same_pairs)
-
-  -- types and what comes behind them
-  pub later_is_first : (columns left right : List FromColumn) → columns ≡ from_columns q schemas
-      → left ≡ table_columns schemas q.from → right ≡ flat_map (table_columns schemas)
-      (join_tables q.join) → unknown_table q schemas ≡ None → bad_name ≡ None
-      → pairs_fit left right q.join ≡ true → later_over columns ≡ refusal_of q schemas
-  later_is_first columns left right e l r h k f =
-      ap later_over e
-      ∙ sym (none_before h k
-      ∙ ap (λ b. first_of_all (cond b None (Some refuse.BadJoinKey) ∷ type_mismatch q schemas
-      ∷ not_grouped q schemas ∷ bad_order_key q schemas ∷ too_wide q schemas ∷ []))
-      (sym (same_pairs left right q.join l r) ∙ f))
 
 -- what no name passes
 pub none_found : {A B : Type 0} (test : A → Bool) (f : A → B) (xs : List A)
@@ -135,7 +76,7 @@ pub record AllFit (columns : List FromColumn) (q : Query) : Type 0 where
 
 pub all_fit : (q : Query) (schemas : List Schema) → IsAccepted q schemas
     → AllFit (from_columns q schemas) q
-all_fit q schemas a = search (arith, both, unless)
+all_fit q schemas a = search (arith, and_parts, unless)
 
 -- Widths.
 
@@ -145,14 +86,14 @@ at_most n k = grind arith
 pub record IsNarrow (q : Query) (schemas : List Schema) : Type 0 where
   pub width : length (from_columns q schemas) ≤ 64
   pub left : length (table_columns schemas q.from) ≤ 64
-  pub right : length (flat_map (table_columns schemas) (join_tables q.join)) ≤ 64
+  pub right : length (join_columns schemas q.join) ≤ 64
   pub keys : length q.keys ≤ 64
 
 pub narrow : (q : Query) (schemas : List Schema) → refusal_of q schemas ≡ None → IsNarrow q schemas
 narrow q schemas none =
     let a = accepted q schemas none in
     let e = length-append (table_columns schemas q.from)
-    (flat_map (table_columns schemas) (join_tables q.join)) in
+    (join_columns schemas q.join) in
     let width : length (from_columns q schemas) ≤ 64 = search (arith, at_most) in
     record {
       width = width;
@@ -220,7 +161,7 @@ all_can_be_picked columns is_key [] h t = All-nil (λ (i : Item). CanBePicked is
 all_can_be_picked columns is_key (i ∷ items) h t =
     let each = none_twice (not_keys is_key i.what)
     (flat_map (λ (i : Item). not_keys is_key i.what) items) h in
-    let fits = both (is_typed (item_kind columns i.what))
+    let fits = and_parts (is_typed (item_kind columns i.what))
     (list_all (λ (i : Item). is_typed (item_kind columns i.what)) items) t in
     All-cons (λ (i : Item). CanBePicked is_key i.what) i items (can_be_picked columns is_key i.what
     each.0 fits.0) (all_can_be_picked columns is_key items each.1 fits.1)
@@ -253,7 +194,7 @@ are_keys q schemas a grouped =
     let is_key : ColumnRef → Bool = λ c. is_key_of columns q.keys c in
     let in_items = flat_map (λ (i : Item). not_keys is_key i.what) (listed q.items) in
     let in_having = filter (λ c. not (is_key c)) (flat_map bare_columns (operands_of q.having)) in
-    let none = no_first (ungrouped_names q schemas) (rw grouped at a.grouped) in
+    let none = no_first (ungrouped_names (from_columns q schemas) q) (rw grouped at a.grouped) in
     let last =
     none_twice (star_name q.items ++ map written in_items) (map written in_having) none in
     let first = none_twice (star_name q.items) (map written in_items) last.0 in
@@ -263,10 +204,3 @@ are_keys q schemas a grouped =
       having = none_left is_key (flat_map bare_columns (operands_of q.having))
           (none_mapped written in_having last.1);
     }
-
--- The refusal that is due.
-
-pub refusal_is_due : (q : Query) (schemas : List Schema) (r : Refusal)
-    → Some r ≡ refusal_of q schemas → IsDue q schemas r
-refusal_is_due q schemas refuse.Memory e = tt
-refusal_is_due q schemas r e = sym e

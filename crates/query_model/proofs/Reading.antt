@@ -1,5 +1,5 @@
 -- Reading a part field by field and record by record.
-use Rattle.query_model.proofs.Imports.{ColumnType, Fields, FitsType, FitsTypes, List, None, Option, Row, Some, SpelledFront, Value, [], ap, arith, bad_column, bad_field, both_spelled, cond, drop, drop_all, drop_more, get_or, is_some, length, length-append, refl, spelled_row, spelled_value, subst, suc, sym, type_of, ℕ, ◌++◌, ◌+◌, ◌<◌, ◌∷◌, ◌≡◌, ◌≢◌}
+use Rattle.query_model.proofs.Imports.{ColumnType, Fields, FitsType, FitsTypes, List, None, Option, Row, Some, SpelledFront, Value, [], ap, arith, bad_column, bad_field, both_spelled, cond, drop, drop_all, drop_more, get_or, is_some, length, length-append, refl, spelled_row, spelled_value, subst, suc, ℕ, ◌++◌, ◌+◌, ◌<◌, ◌∷◌, ◌≡◌, ◌≢◌}
 use Rattle.chunk_data.specs.declared.typed_value.ColumnType.TheVariants as column
 
 some_is : {A : Type 0} (x y : A) → Some x ≡ Some y → x ≡ y
@@ -72,7 +72,7 @@ spelled_value-fits : (t : ColumnType) (f : List ℕ) (v : Value) → spelled_val
     → FitsType t v
 spelled_value-fits column.Int64 f v h = search (arith, some_not_none, some_is)
 spelled_value-fits column.UInt64 f v h = search (arith, some_not_none, some_is)
-spelled_value-fits column.Text f v h = ap type_of (sym (some_is _ _ h))
+spelled_value-fits column.Text f v h = subst (FitsType column.Text) (some_is _ _ h) refl
 
 -- a row of the types, from as many fields
 pub record IsSpelled (types : List ColumnType) (fields : List (List ℕ)) (row : Row) : Type 0 where

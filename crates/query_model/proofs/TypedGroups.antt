@@ -1,5 +1,5 @@
 -- The checked query of a query that no condition refuses is typed.
-use Rattle.query_model.proofs.Imports.{AggCall, All, All-append, All-cons, All-head, All-map, All-nil, All-tail, All-weaker, ArePicks, ArePlainItems, Bool, CanBePicked, Checked, ColumnRef, ColumnType, CondOf, EachWith, Expr, FromColumn, Grouping, HasItsArgument, IsAnalysable, IsChecked, IsGrouping, IsItem, IsNoCall, IsPick, IsPlacedCall, IsPlacedItem, IsShape, IsTypedCall, IsTypedGrouping, IsTypedQuery, IsTypedShape, Item, ItemKind, Items, Kind, List, Listed, NamePair, None, Operand, Option, Query, Schema, Shape, Some, Star, [], agg_kind, ap, append_assoc, arith, bare_columns, call_type, calls_of, cond, cond_fits, cond_operands, expr_columns, expr_kind, false, filter, fits_where, flat_map, flat_map-append, from_columns, get_or-append-add, group_types, is_grouped, is_key_of, is_typed, item_calls, item_columns, item_kind, join_pairs, key_place, length, length-append, length-map, list_all, list_any, listed, map, means, meant, nat_lt, operand_columns, operands_of, place_in, place_of, plain, query_calls, refl, refusal_of, same_column, slice_index_or, subst, suc, sym, text_columns, true, typed, types_of, unfit, ℕ, ◌&&◌, ◌++◌, ◌+◌, ◌<◌, ◌==◌, ◌||◌, ◌∙◌, ◌∷◌, ◌≡◌, ◌≤◌}
+use Rattle.query_model.proofs.Imports.{AggCall, All, All-append, All-cons, All-head, All-map, All-nil, All-tail, All-weaker, ArePicks, ArePlainItems, Bool, CanBePicked, Checked, ColumnRef, ColumnType, CondOf, EachWith, Expr, FromColumn, Grouping, HasItsArgument, IsAnalysable, IsChecked, IsGrouping, IsItem, IsNoCall, IsPick, IsPlacedCall, IsPlacedItem, IsShape, IsTypedCall, IsTypedGrouping, IsTypedQuery, IsTypedShape, Item, ItemKind, Items, Kind, List, Listed, NamePair, None, Operand, Option, Query, Schema, Shape, Some, Star, [], agg_kind, and_parts, ap, append_assoc, arith, bare_columns, call_type, calls_of, cond, cond_fits, cond_operands, expr_columns, expr_kind, false, filter, fits_where, flat_map, flat_map-append, from_columns, get_or-append-add, group_types, is_grouped, is_key_of, is_typed, item_calls, item_columns, item_kind, join_pairs, key_place, length, length-append, length-map, list_all, list_any, listed, map, means, meant, nat_lt, operand_columns, operands_of, place_in, place_of, plain, query_calls, refl, refusal_of, same_column, slice_index_or, subst, suc, sym, text_columns, true, typed, type_at, types_of, unfit, ℕ, ◌&&◌, ◌++◌, ◌+◌, ◌<◌, ◌==◌, ◌||◌, ◌∙◌, ◌∷◌, ◌≡◌, ◌≤◌}
 use Rattle.chunk_data.specs.declared.typed_value.ColumnType.TheVariants as column
 use Rattle.query_model.specs.Names.{type_of}
 use Rattle.query_model.specs.declared.query.CondOf.TheVariants as cond'
@@ -10,7 +10,7 @@ use Rattle.query_model.specs.declared.checked.Shape.TheVariants as shape
 use Rattle.query_model.proofs.Placed.{All-front, All-behind}
 use Rattle.query_model.proofs.PlaceLaws.{place_within}
 use Rattle.query_model.proofs.CallLaws.{length_each}
-use Rattle.query_model.proofs.TypedQueries.{both, IsOfKind, IsFit, IsTypeOf, IsWellPlaced, HaveTypesOf, have_types_both, is_item, columns_are_typed, column_is_of_kind, every_column, expr_is_of_kind, call_is_of_kind, filter_is_typed}
+use Rattle.query_model.proofs.TypedQueries.{IsOfKind, IsFit, IsTypeOf, IsWellPlaced, HaveTypesOf, have_types_both, is_item, columns_are_typed, column_is_of_kind, every_column, expr_is_of_kind, call_is_of_kind, filter_is_typed}
 use Rattle.query_model.proofs.Accepted.{IsAccepted, accepted, knows_each, tells_each, AllFit, all_fit, AreKeys, are_keys}
 
 -- Names that mean one column.
@@ -68,9 +68,6 @@ module _ (columns : List FromColumn) where
 
   abbrev MeansOne : ColumnRef → Type 0
   MeansOne c = nat_lt 1 (length (meant c columns)) ≡ false
-
-  abbrev type_at : List ColumnType → ℕ → ColumnType
-  type_at types c = slice_index_or types c column.Text
 
   -- Keys.
 
@@ -164,7 +161,7 @@ module _ (columns : List FromColumn) where
   item_calls_fit : (items : List Item) → AreTyped items → All IsFitCall (calls_in_items items)
   item_calls_fit [] h = All-nil IsFitCall
   item_calls_fit (i ∷ items) h =
-      let each = both (is_typed (item_kind columns i.what))
+      let each = and_parts (is_typed (item_kind columns i.what))
       (list_all (λ (i : Item). is_typed (item_kind columns i.what)) items) h in
       All-append IsFitCall (item_calls i.what) (calls_in_items items) (here i.what each.0)
       (item_calls_fit items each.1)
@@ -183,11 +180,11 @@ module _ (columns : List FromColumn) where
   unfolding cond_operands cond_fits
   cond_calls_fit (cond'.Compare op a b) h = search (arith, IsFit)
   cond_calls_fit (cond'.And' p a q b) h =
-      let each = both (cond_fits columns a) (cond_fits columns b) h in
+      let each = and_parts (cond_fits columns a) (cond_fits columns b) h in
       rw (flat_map-append calls_of (cond_operands a) (cond_operands b))
       (All-append IsFitCall _ _ (cond_calls_fit a each.0) (cond_calls_fit b each.1))
   cond_calls_fit (cond'.Or' p a q b) h =
-      let each = both (cond_fits columns a) (cond_fits columns b) h in
+      let each = and_parts (cond_fits columns a) (cond_fits columns b) h in
       rw (flat_map-append calls_of (cond_operands a) (cond_operands b))
       (All-append IsFitCall _ _ (cond_calls_fit a each.0) (cond_calls_fit b each.1))
   cond_calls_fit (cond'.Not' p a) h = cond_calls_fit a h
@@ -274,7 +271,7 @@ plain_items_typed columns (Listed items) es is h = go items es is h
         → AreTyped columns items → All (IsItem (types_of columns)) es
     go [] [] is h = All-nil (IsItem (types_of columns))
     go (i ∷ items) (e ∷ es) is h =
-        let each = both (is_typed (item_kind columns i.what))
+        let each = and_parts (is_typed (item_kind columns i.what))
         (list_all (λ (i : Item). is_typed (item_kind columns i.what)) items) h in
         All-cons (IsItem (types_of columns)) e es (here i.what i.alias e is.0 each.0)
         (go items es is.1 each.1)
@@ -289,10 +286,10 @@ grouping_typed q columns g is can fit are known one =
     let front = key_types columns q.keys in
     let rest = types_of_calls columns g.calls in
     let types_are : group_types g (types_of columns) ≡ front ++ rest =
-    ap (λ keys. map (λ c. slice_index_or (types_of columns) c column.Text) keys ++ rest)
+    ap (λ keys. map (type_at (types_of columns)) keys ++ rest)
     is.keys in
     let long : length q.keys ≡ length front =
-    sym (length-map (map (place_in columns) q.keys) (type_at columns (types_of columns))
+    sym (length-map (map (place_in columns) q.keys) (type_at (types_of columns))
     ∙ length-map q.keys (place_in columns)) in
     record {
       keys = rw is.keys (keys_within columns q.keys (in_keys (IsKnown columns) q known));

@@ -1,8 +1,10 @@
 -- A query whose types fit has typed items and a typed condition, once its names have places.
-use Rattle.query_model.proofs.Imports.{Add, AggCall, AggOp, All, All-head, All-nil, AreColumnsFrom, AreNumbersAlike, ArithOp, Bool, BothOrNone, CanHold, ColumnRef, ColumnType, CompareOp, Cond, CondOf, Count, Expr, ExprOf, FromColumn, HasItsArgument, IsGroupedOperand, IsItem, IsPlaced, IsPlacedCall, IsPlacedCond, IsTyped, IsTypedCall, IsTypedCond, IsTypedFilter, IsTypedOperand, Kind, List, Mul, None, Operand, Option, Some, Sub, [], agg_kind, append-nil, arith, arith_kind, bare_columns, call_kind, call_type, calls_of, can_hold, comparable, cond, cond_fits, cond_operands, expr_columns, expr_kind, false, fits_where, flat_map, flat_map-append, gives_uint, if◌then◌else◌, is_some, is_text, is_typed, is_uint_column, known_kind, length, means, meant_type, not, operand_kind, operand_type, operands_of, place_in, place_of, plain, plain_of, plain_value, pos, refl, result_type, same_type, subst, suc, sym, takes_argument, true, typed, types_of, unfit, ℕ, ℤ, ⊤, ◌&&◌, ◌++◌, ◌+◌, ◌∙◌, ◌∷◌, ◌≡◌, ◌≤◌}
-use Rattle.chunk_data.specs.Values.{type_of as type_of_value}
-use Rattle.chunk_data.specs.declared.typed_value.ColumnType.TheVariants as column
-use Rattle.query_model.specs.Names.{type_of, plain_type as type_without_null}
+use Rattle.query_model.proofs.Imports.{AggCall, AggOp, All, All-head, All-nil, AreColumnsFrom, AreNumbersAlike, ArithOp, Bool, BothOrNone, CanHold, ColumnRef, ColumnType, CompareOp, Cond, CondOf, Count, Expr, ExprOf, FromColumn, HasItsArgument, IsGroupedOperand, IsItem, IsPlaced, IsPlacedCall, IsPlacedCond, IsTyped, IsTypedCall, IsTypedCond, IsTypedFilter, IsTypedOperand, Kind, List, None, Operand, Option, Some, [], agg_kind, and_parts, append-nil, arith, arith_kind, arith_type, bare_columns, call_kind, call_type, calls_of, can_hold, comparable, cond, cond_fits, cond_operands, expr_columns, expr_kind, false, fits_where, flat_map, flat_map-append, is_some, is_text, is_typed, known_kind, length, means, meant_type, not, not-true, operand_kind, operand_type, operands_of, place_in, place_of, plain, number_type, plain_of, plain_type, pos, refl, result_type, same_plain-is, same_type, subst, suc, sym, takes_argument, true, typed, types_of, unfit, ℕ, ℤ, ⊤, ◌&&◌, ◌++◌, ◌+◌, ◌∙◌, ◌∷◌, ◌≡◌, ◌≤◌}
+use Rattle.chunk_data.specs.declared.typed_value.PlainType.{PlainType}
+use Rattle.chunk_data.specs.declared.typed_value.PlainType.TheVariants as plain'
+use Rattle.query_model.specs.Names.{type_of}
+use Rattle.query_model.specs.Refusals.{plain_holds}
+use Rattle.query_model.specs.Typing.{PlainHolds}
 use Rattle.query_model.specs.declared.query.ExprOf.TheVariants as expr
 use Rattle.query_model.specs.declared.query.Operand.TheVariants as operand
 use Rattle.query_model.specs.declared.query.CondOf.TheVariants as cond'
@@ -32,29 +34,33 @@ column_is_of_kind c (x ∷ columns) = search (arith, column_is_of_kind c columns
 
 -- Arithmetic.
 
-held : (t : ColumnType) (z : ℤ) → can_hold t z ≡ true → CanHold t z
-held column.Int64 (pos n) h = grind arith
-held column.UInt64 (pos n) h = grind arith
-held t z h = grind arith
+held_plain : (p : PlainType) (z : ℤ) → plain_holds p z ≡ true → PlainHolds p z
+held_plain plain'.Int64 (pos n) h = grind arith
+held_plain plain'.UInt64 (pos n) h = grind arith
+held_plain p z h = grind arith
 
-alike_types : (op : ArithOp) (s t : ColumnType) → (same_type s t && not (is_text s)) ≡ true
-    → AreNumbersAlike s t
-    × ((if gives_uint op (is_uint_column s) (is_uint_column t) then column.UInt64 else column.Int64)
-    ≡ result_type op s)
-alike_types Add column.Int64 column.Int64 h = (refl, refl)
-alike_types Sub column.Int64 column.Int64 h = (refl, refl)
-alike_types Mul column.Int64 column.Int64 h = (refl, refl)
-alike_types Add column.UInt64 column.UInt64 h = (refl, refl)
-alike_types Sub column.UInt64 column.UInt64 h = (refl, refl)
-alike_types Mul column.UInt64 column.UInt64 h = (refl, refl)
-alike_types op s t h = search (arith)
+held : (t : ColumnType) (z : ℤ) → can_hold t z ≡ true → CanHold t z
+held t z h = held_plain (plain_type t) z h
+
+alike_types : (s t : ColumnType) → (same_type s t && not (is_text s)) ≡ true → AreNumbersAlike s t
+alike_types s t h =
+    let both = and_parts (same_type s t) (not (is_text s)) h in
+    (same_plain-is _ _ both.0, not-true (is_text s) both.1)
+
+-- the type of a result beside a plain number is that of two operands of the other's type
+pub type_before : (op : ArithOp) (t : ColumnType) (z : ℤ) → CanHold t z
+    → arith_type op (number_type z) t ≡ result_type op t
+type_before op t z h = grind arith
+
+pub type_behind : (op : ArithOp) (t : ColumnType) (z : ℤ) → CanHold t z
+    → arith_type op t (number_type z) ≡ result_type op t
+type_behind op t z h = grind arith
 
 module _ (types : List ColumnType) where
-  plain_type : (e : Expr) (z : ℤ) → plain_of e ≡ Some z
-      → type_of e types ≡ type_of_value (plain_value z)
+  pub type_of_number : (e : Expr) (z : ℤ) → plain_of e ≡ Some z → type_of e types ≡ number_type z
   unfolding type_of
-  plain_type (expr.Number n) z h = search (arith)
-  plain_type e z h = absurd cc
+  type_of_number (expr.Number n) z h = search (arith)
+  type_of_number e z h = absurd cc
 
   module _ (op : ArithOp) (p q : Place) (a b : Expr) where
     alike_arith : (s t : ColumnType) → IsOfKind types a (typed s) → IsOfKind types b (typed t)
@@ -63,25 +69,25 @@ module _ (types : List ColumnType) where
     alike_arith s t h k = go (same_type s t && not (is_text s)) refl
       where
         go : (x : Bool) → (same_type s t && not (is_text s)) ≡ x
-            → IsOfKind types (expr.Arith' op p a q b) (cond x (typed (result_type op s)) unfit)
+            → IsOfKind types (expr.Arith' op p a q b) (cond x (typed (arith_type op s t)) unfit)
         go true e =
-            let both = alike_types op s t e in
-            ((h.0, k.0, rw (h.1, k.1, h.2, k.2) both.0), refl, rw (h.2, k.2) both.1)
+            let alike = alike_types s t e in
+            ((h.0, k.0, rw (h.1, k.1, h.2, k.2) alike), refl, rw (h.2, k.2) refl)
         go false e = tt
 
     arith_is_of_kind : (x y : Kind) → IsOfKind types a x → IsOfKind types b y
         → IsOfKind types (expr.Arith' op p a q b) (arith_kind op x y)
     unfolding type_of
     arith_is_of_kind (typed s) (typed t) h k = alike_arith s t h k
-    arith_is_of_kind (typed t) (plain z) h k = search (arith, held, plain_type)
-    arith_is_of_kind (plain z) (typed t) h k = search (arith, held, plain_type)
+    arith_is_of_kind (typed t) (plain z) h k = search (arith, held, type_of_number, type_behind)
+    arith_is_of_kind (plain z) (typed t) h k = search (arith, held, type_of_number, type_before)
     arith_is_of_kind x y h k = tt
 
   -- Conditions.
 
   operand_is_of_kind : (e : Expr) (kind : Kind) → IsOfKind types e kind
       → IsOperandOfKind types (operand.Plain e) kind
-  operand_is_of_kind e (plain z) h = search (arith, plain_type)
+  operand_is_of_kind e (plain z) h = search (arith, type_of_number)
   operand_is_of_kind e (typed t) h = (h.0, h.2)
   operand_is_of_kind e unfit h = tt
 
@@ -105,10 +111,6 @@ module _ (types : List ColumnType) where
   columns_are_typed k (c ∷ columns) (expr.Column n ∷ es) h lt =
       search (arith, columns_are_typed (k + 1) columns es h.1 (omega (arith, lt)))
   columns_are_typed k columns es h lt = absurd h
-
-pub both : (a b : Bool) → (a && b) ≡ true → (a ≡ true) × (b ≡ true)
-both true b h = (refl, h)
-both false b h = absurd cc
 
 -- Placed expressions, calls and conditions.
 
@@ -240,13 +242,13 @@ module _ (types : List ColumnType) (columns : List FromColumn) (place : ColumnRe
       (placed_operand (k + length (calls_of a)) b d (rw append-nil at sides.1) is.2) fits
   cond_is_typed k (cond'.And' p a q b) (cond'.And' r c s d) h is fits =
       let sides = two_sides k (cond_operands a) (cond_operands b) h in
-      let each = both (cond_fits columns a) (cond_fits columns b) fits in (
+      let each = and_parts (cond_fits columns a) (cond_fits columns b) fits in (
         cond_is_typed k a c sides.0 is.0 each.0,
         cond_is_typed (k + length (flat_map calls_of (cond_operands a))) b d sides.1 is.1 each.1,
       )
   cond_is_typed k (cond'.Or' p a q b) (cond'.Or' r c s d) h is fits =
       let sides = two_sides k (cond_operands a) (cond_operands b) h in
-      let each = both (cond_fits columns a) (cond_fits columns b) fits in (
+      let each = and_parts (cond_fits columns a) (cond_fits columns b) fits in (
         cond_is_typed k a c sides.0 is.0 each.0,
         cond_is_typed (k + length (flat_map calls_of (cond_operands a))) b d sides.1 is.1 each.1,
       )

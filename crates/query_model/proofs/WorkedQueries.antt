@@ -8,7 +8,6 @@ use Rattle.query_model.specs.declared.query.CondOf.TheVariants as cond'
 use Rattle.query_model.specs.declared.query.ExprOf.TheVariants as expr
 use Rattle.query_model.specs.declared.query.ItemKind.TheVariants as kind
 use Rattle.query_model.specs.declared.query.Operand.TheVariants as operand
-use Rattle.query_model.specs.declared.query.TableRef.TheVariants as from
 use Rattle.query_model.specs.declared.checked.TableUse.TheVariants as used
 use Rattle.query_model.proofs.Ordered.{IsSorted-tested}
 use Rattle.query_model.proofs.RefusedRows.{bare, column_a, column_b, item, join_with, key, number, of_table, plain, select_items}

@@ -1,5 +1,5 @@
 -- Worked queries, by computation.
-use Rattle.query_model.proofs.Imports.{Add, AggCall, AggOp, BadPlace, Box, Checked, ColumnDecl, ColumnType, CompareOp, Cond, Count, Database, Declared, Expr, Global, Grouped, Int, IsAnswer, IsOrderedAnswer, IsPermutation, List, Min, Mul, None, Option, Paths, Plain, Row, Schema, Shape, Some, SortKey, Span, Sub, Sum, Table, Text, [], answer_text, arith, bad_line, bad_place, codes, database, false, flat_map, limited, lines_from, lit<, map, negsuc, output_rows, part_records, parts_rows, pos, projection_checked, refl, replicate, row_cmp, true, ℕ, ◌++◌, ◌∷◌, ◌≡◌}
+use Rattle.query_model.proofs.Imports.{Add, AggCall, AggOp, BadPlace, Box, Checked, ColumnDecl, ColumnType, CompareOp, Cond, Count, Database, Declared, Expr, Global, Grouped, Int, IsAnswer, IsOrderedAnswer, IsPermutation, List, Min, Mul, None, Option, Paths, Plain, Row, Schema, Shape, Some, SortKey, Span, Sub, Sum, Table, Text, [], answer_text, arith, bad_line, bad_place, codes, database, false, flat_map, limited, lines_from, lit<, map, negsuc, output_rows, part_records, parts_rows, pos, refl, replicate, row_cmp, true, ℕ, ◌++◌, ◌∷◌, ◌≡◌}
 use Rattle.query_model.specs.declared.places.BadField.TheVariants as bad
 use Rattle.query_model.proofs.Ordered.{IsSorted-tested, sorted_test}
 use Rattle.query_model.specs.declared.query.CondOf.TheVariants as cond'
@@ -243,7 +243,7 @@ schema_t = record {
 -- SELECT a FROM t, from the declaration `t=f.csv:a Int64,b String` and the file's bytes to the text
 abbrev pub text_over : List ℕ → List ℕ
 text_over bytes =
-    text_of (projection_checked schema_t (codes "a" ∷ []))
+    text_of select_a
     (database false ((codes "f.csv", bytes) ∷ [])
     (record { schema = schema_t; parts = Paths (codes "f.csv" ∷ []) } ∷ []))
 

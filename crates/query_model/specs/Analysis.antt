@@ -1,20 +1,15 @@
 -- What analysis asks and answers.
-use Rattle.std.specs.Prelude.{◌<◌, ◌≡◌}
-use Rattle.query_model.specs.Prelude.{AggCall, AggOp, All, Bool, Checked, ColumnRef, ColumnType, Count, Grouping, Item, ItemKind, List, Max, Min, None, Operand, Option, Query, Refusal, Schema, Shape, Some, Sum, TableRef, [], false, is_some, length, map, true, ⊤}
+use Rattle.std.specs.Prelude.{◌<◌, ◌≡◌, ◌⊎◌}
+use Rattle.query_model.specs.Prelude.{AggCall, AggOp, All, Bool, Checked, ColumnRef, ColumnType, Count, Grouping, ItemKind, List, Max, Min, None, Operand, Option, Query, Refusal, Schema, Shape, Some, Sum, false, is_some, length, true, ⊤}
 use Rattle.query_model.specs.Expressions.{Cond}
 use Rattle.query_model.specs.Typing.{IsItem, IsTypedCall, IsTypedCond, group_types}
 use Rattle.query_model.specs.Checks.{query_calls}
-use Rattle.query_model.specs.Refusals.{FromColumn, from_columns, listed, operands_of, refusal_of}
+use Rattle.query_model.specs.Refusals.{from_columns, operands_of, refusal_of, types_of}
 use Rattle.query_model.specs.declared.query.ExprOf.TheVariants as expr
 use Rattle.query_model.specs.declared.query.Operand.TheVariants as operand
 use Rattle.query_model.specs.declared.query.ItemKind.TheVariants as kind
-use Rattle.query_model.specs.declared.query.TableRef.TheVariants as table
 use Rattle.query_model.specs.declared.query.Refusal.TheVariants as refuse
 use Rattle.query_model.specs.declared.checked.Shape.TheVariants as shape
-
-abbrev pub IsNamed : TableRef → Type 0
-IsNamed (table.Named t) = ⊤
-IsNamed (table.Numbers n) = ⊥
 
 abbrev pub HasNoCall : ItemKind → Type 0
 HasNoCall (kind.Plain e) = ⊤
@@ -50,34 +45,13 @@ pub record IsAnalysable (q : Query) : Type 0 where
   pub having : All IsGroupOperand (operands_of q.having)
   pub calls : All HasItsArgument (query_calls q)
 
--- a query of one declared table, without grouping, order and limit
-pub record IsPlainQuery (q : Query) : Type 0 where
-  pub named : IsNamed q.from
-  pub one_table : q.join ≡ None
-  pub items : All (λ (i : Item). HasNoCall i.what) (listed q.items)
-  pub filter : All IsNoCall (operands_of q.filter)
-  pub ungrouped : q.keys ≡ []
-  pub no_having : q.having ≡ None
-  pub unordered : q.order ≡ []
-  pub unlimited : q.limit ≡ None
-
 -- the refusal is the one that is due; want of memory is free
 abbrev pub IsDue : Query → List Schema → Refusal → Type 0
-IsDue q schemas (refuse.UnknownTable name) = refusal_of q schemas ≡ Some (refuse.UnknownTable name)
-IsDue q schemas (refuse.UnknownColumn name) =
-    refusal_of q schemas ≡ Some (refuse.UnknownColumn name)
-IsDue q schemas (refuse.AmbiguousColumn name) =
-    refusal_of q schemas ≡ Some (refuse.AmbiguousColumn name)
-IsDue q schemas refuse.BadJoinKey = refusal_of q schemas ≡ Some refuse.BadJoinKey
-IsDue q schemas refuse.TypeMismatch = refusal_of q schemas ≡ Some refuse.TypeMismatch
-IsDue q schemas (refuse.NotGrouped name) = refusal_of q schemas ≡ Some (refuse.NotGrouped name)
-IsDue q schemas (refuse.BadOrderKey name) = refusal_of q schemas ≡ Some (refuse.BadOrderKey name)
-IsDue q schemas refuse.TooWide = refusal_of q schemas ≡ Some refuse.TooWide
-IsDue q schemas refuse.Memory = ⊤
+IsDue q schemas refusal = (refusal ≡ refuse.Memory) ⊎ (refusal_of q schemas ≡ Some refusal)
 
 -- the types of the columns of From
 abbrev pub from_types : Query → List Schema → List ColumnType
-from_types q schemas = map (λ (c : FromColumn). c.type) (from_columns q schemas)
+from_types q schemas = types_of (from_columns q schemas)
 
 abbrev pub IsTypedFilter : List ColumnType → Option Cond → Type 0
 IsTypedFilter types None = Unit {0}

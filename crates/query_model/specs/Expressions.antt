@@ -1,7 +1,7 @@
 -- The value of an expression and the truth of a condition, at a row.
-use Rattle.std.specs.Prelude.{if◌then◌else◌, ◌&&◌, ◌*ℤ◌, ◌+ℤ◌, ◌-ℤ◌, ◌<◌, ◌||◌}
-use Rattle.query_model.specs.Prelude.{Add, ArithOp, Bool, ColumnType, CompareOp, CondOf, ExprOf, List, Mul, None, Number, Operand, Option, Ordering, Row, Some, Sub, Value, [], false, filter, int_cmp, is_eq, is_ge, is_gt, is_le, is_lt, is_ne, neg_ℤ, negsuc, not, pos, slice_index_or, text_cmp, true, value_at, ℕ, ℤ}
-use Rattle.chunk_data.specs.Values.{type_of as type_of_value}
+use Rattle.std.specs.Prelude.{if◌then◌else◌, ◌&&◌, ◌*ℤ◌, ◌+ℤ◌, ◌-ℤ◌, ◌||◌}
+use Rattle.query_model.specs.Prelude.{Add, ArithOp, Bool, ColumnType, CompareOp, CondOf, ExprOf, List, Mul, None, Number, Operand, Option, Ordering, Row, Some, Sub, Value, [], false, filter, int_cmp, is_eq, is_ge, is_gt, is_le, is_lt, is_ne, neg_ℤ, negsuc, not, pos, text_cmp, value_at, ℕ, ℤ}
+use Rattle.chunk_data.specs.Values.{is_plain_uint, plain_type, type_at}
 use Rattle.query_model.specs.Numbers.{exact, is_uint, wrapped}
 use Rattle.chunk_data.specs.declared.typed_value.Value.TheVariants as value
 use Rattle.chunk_data.specs.declared.typed_value.ColumnType.TheVariants as column
@@ -26,6 +26,11 @@ abbrev pub plain_value : ℤ → Value
 plain_value (pos n) = value.UInt n
 plain_value (negsuc n) = value.Int (negsuc n)
 
+-- the type of its value
+abbrev pub number_type : ℤ → ColumnType
+number_type (pos n) = column.UInt64
+number_type (negsuc n) = column.Int64
+
 abbrev pub exact_result : ArithOp → ℤ → ℤ → ℤ
 exact_result Add a b = a +ℤ b
 exact_result Sub a b = a -ℤ b
@@ -49,22 +54,35 @@ value_of (expr.Number n) row = plain_value (number_of n)
 value_of (expr.Arith' op p a q b) row = arith_value op (value_of a row) (value_of b row)
 
 abbrev pub is_uint_column : ColumnType → Bool
-is_uint_column column.Int64 = false
-is_uint_column column.UInt64 = true
-is_uint_column column.Text = false
+is_uint_column t = is_plain_uint (plain_type t)
+
+-- the type of the result of an operator at operands of these types of numbers
+abbrev pub arith_type : ArithOp → ColumnType → ColumnType → ColumnType
+arith_type op s t = if gives_uint op (is_uint_column s) (is_uint_column t) then column.UInt64
+    else column.Int64
+
+-- the same where the operands' types are one
+abbrev pub result_type : ArithOp → ColumnType → ColumnType
+result_type op t = arith_type op t t
 
 -- the type of an expression over columns of these types
 unfoldable pub type_of : Expr → List ColumnType → ColumnType
-type_of (expr.Column c) types = slice_index_or types c column.Text
-type_of (expr.Number n) types = type_of_value (plain_value (number_of n))
-type_of (expr.Arith' op p a q b) types =
-    if gives_uint op (is_uint_column (type_of a types)) (is_uint_column (type_of b types))
-    then column.UInt64 else column.Int64
+type_of (expr.Column c) types = type_at types c
+type_of (expr.Number n) types = number_type (number_of n)
+type_of (expr.Arith' op p a q b) types = arith_type op (type_of a types) (type_of b types)
 
--- texts are compared by bytes, and numbers by their exact values
+-- Texts are compared by bytes, and numbers by their exact values. No checked condition compares a
+-- text and a number; there the text counts as 0.
 abbrev pub compared : Value → Value → Ordering
+compared (value.Int a) (value.Int b) = int_cmp a b
+compared (value.Int a) (value.UInt b) = int_cmp a (pos b)
+compared (value.Int a) (value.Text b) = int_cmp a (pos 0)
+compared (value.UInt a) (value.Int b) = int_cmp (pos a) b
+compared (value.UInt a) (value.UInt b) = int_cmp (pos a) (pos b)
+compared (value.UInt a) (value.Text b) = int_cmp (pos a) (pos 0)
+compared (value.Text a) (value.Int b) = int_cmp (pos 0) b
+compared (value.Text a) (value.UInt b) = int_cmp (pos 0) (pos b)
 compared (value.Text a) (value.Text b) = text_cmp a b
-compared a b = int_cmp (exact a) (exact b)
 
 abbrev pub passes : CompareOp → Ordering → Bool
 passes compare.Eq o = is_eq o
@@ -97,9 +115,3 @@ holds c row = truth_of c row
 abbrev pub rows_where : Option Cond → List Row → List Row
 rows_where None rows = rows
 rows_where (Some c) rows = filter (holds c) rows
-
--- each column of the expression is one of the first n
-abbrev pub IsWithin : Expr → ℕ → Type 0
-IsWithin (expr.Column c) n = c < n
-IsWithin (expr.Number m) n = Unit {0}
-IsWithin (expr.Arith' op p a q b) n = IsWithin a n × IsWithin b n

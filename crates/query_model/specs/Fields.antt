@@ -1,7 +1,9 @@
 -- The value that a field of a CSV record spells, and what a value is written as.
 use Rattle.std.specs.Prelude.{if◌then◌else◌, ◌&&◌, ◌*◌, ◌+◌, ◌-◌, ◌==◌, ◌^◌, ◌∷◌}
 use Rattle.query_model.specs.Prelude.{Bool, ColumnType, Int, List, None, Option, Row, Some, Text, UInt, Value, [], false, fold, list_all, nat_le, nat_lt, neg_ℤ, option_map, pos, ℕ, ℤ}
-use Rattle.chunk_data.specs.declared.typed_value.ColumnType.TheVariants as column
+use Rattle.chunk_data.specs.Values.{plain_type}
+use Rattle.chunk_data.specs.declared.typed_value.PlainType.{PlainType}
+use Rattle.chunk_data.specs.declared.typed_value.PlainType.TheVariants as plain
 
 abbrev pub is_digit : ℕ → Bool
 is_digit b = nat_le 48 b && nat_le b 57
@@ -25,11 +27,14 @@ spelled_int (b ∷ bytes) =
     if b == 45 then option_map (λ n. neg_ℤ (pos n)) (numeral_below (2 ^ 63 + 1) bytes)
     else option_map pos (numeral_below (2 ^ 63) (b ∷ bytes))
 
+abbrev pub spelled_plain : PlainType → List ℕ → Option Value
+spelled_plain plain.Int64 field = option_map Int (spelled_int field)
+spelled_plain plain.UInt64 field = option_map UInt (numeral_below (2 ^ 64) field)
+spelled_plain plain.Text field = Some (Text field)
+
 -- the value of a type that a field spells
 abbrev pub spelled_value : ColumnType → List ℕ → Option Value
-spelled_value column.Int64 field = option_map Int (spelled_int field)
-spelled_value column.UInt64 field = option_map UInt (numeral_below (2 ^ 64) field)
-spelled_value column.Text field = Some (Text field)
+spelled_value t field = spelled_plain (plain_type t) field
 
 -- a value in front of a row, where both are there
 abbrev pub both_spelled : Option Value → Option Row → Option Row

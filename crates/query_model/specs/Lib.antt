@@ -10,13 +10,13 @@ pub mod Answers
 pub mod Texts
 pub mod Refusals
 pub mod Formulas
+pub mod Trees
 pub mod ListFiles
 pub mod Checks
 pub mod Kinds
 pub mod Flow
 pub mod Numerals
 pub mod Database
-pub mod Projection
 pub mod Typing
 pub mod Analysis
 pub mod Placing

@@ -1,9 +1,11 @@
 -- Why a query is refused: conditions over the whole query, of which the first in this order counts.
 use Rattle.std.specs.Prelude.{if◌then◌else◌, ◌&&◌, ◌++◌, ◌+◌, ◌==◌, ◌^◌, ◌||◌, ◌∷◌}
-use Rattle.query_model.specs.Prelude.{Add, AggOp, ArithOp, Bool, ColumnDecl, ColumnRef, ColumnType, CondOf, Count, ExprOf, Item, ItemKind, Items, Join, List, Listed, Mul, NamePair, Named, None, Operand, Option, OrderKey, Query, Refusal, Schema, Some, Star, Sub, Sum, TableRef, [], bytes_eq, codes, decimal, false, filter, find, flat_map, is_some, length, list_all, list_any, map, nat_lt, negsuc, not, option_map, pos, true, ℕ, ℤ}
-use Rattle.query_model.specs.Expressions.{number_of, is_uint_column}
-use Rattle.query_model.specs.Typing.{is_text, plain_type}
+use Rattle.query_model.specs.Prelude.{AggOp, ArithOp, Bool, ColumnDecl, ColumnRef, ColumnType, CondOf, Count, ExprOf, Item, ItemKind, Items, Join, List, Listed, NamePair, Named, None, Operand, Option, OrderKey, Query, Refusal, Schema, Some, Star, Sum, TableRef, [], bytes_eq, codes, decimal, false, filter, find, flat_map, is_some, length, list_all, list_any, map, nat_lt, negsuc, not, option_map, pos, true, ℕ, ℤ}
+use Rattle.query_model.specs.Expressions.{arith_type, number_of, result_type}
+use Rattle.chunk_data.specs.Values.{is_text, plain_type, same_type}
 use Rattle.chunk_data.specs.declared.typed_value.ColumnType.TheVariants as column
+use Rattle.chunk_data.specs.declared.typed_value.PlainType.{PlainType}
+use Rattle.chunk_data.specs.declared.typed_value.PlainType.TheVariants as plain'
 use Rattle.query_model.specs.declared.query.ExprOf.TheVariants as expr
 use Rattle.query_model.specs.declared.query.Operand.TheVariants as operand
 use Rattle.query_model.specs.declared.query.CondOf.TheVariants as condition
@@ -23,6 +25,9 @@ pub record FromColumn : Type 0 where
 abbrev pub declared_column : List ℕ → ColumnDecl → FromColumn
 declared_column table c = record { table = table; name = c.name; type = c.kind }
 
+abbrev pub types_of : List FromColumn → List ColumnType
+types_of columns = map (λ (c : FromColumn). c.type) columns
+
 -- the columns of a declared table
 abbrev pub schema_columns : Schema → List FromColumn
 schema_columns s = map (declared_column s.name) s.columns
@@ -40,6 +45,10 @@ table_columns schemas (Numbers n) =
 abbrev pub join_tables : Option Join → List TableRef
 join_tables None = []
 join_tables (Some join) = join.table ∷ []
+
+-- the columns of the table that is joined
+abbrev pub join_columns : List Schema → Option Join → List FromColumn
+join_columns schemas join = flat_map (table_columns schemas) (join_tables join)
 
 abbrev pub join_pairs : Option Join → List NamePair
 join_pairs None = []
@@ -131,32 +140,29 @@ abbrev pub table_name : TableRef → List ℕ
 table_name (Named t) = t
 table_name (Numbers n) = codes "numbers"
 
-abbrev pub unknown_table : Query → List Schema → Option Refusal
-unknown_table q schemas = option_map (λ t. refuse.UnknownTable (table_name t))
-    (find (λ t. not (is_declared schemas t)) (query_tables q))
+-- the first of the tables that is not declared
+abbrev pub unknown_table : List Schema → List TableRef → Option Refusal
+unknown_table schemas tables = option_map (λ t. refuse.UnknownTable (table_name t))
+    (find (λ t. not (is_declared schemas t)) tables)
 
-abbrev pub unknown_column : Query → List Schema → Option Refusal
-unknown_column q schemas =
+-- the first of the names that means no column
+abbrev pub unknown_column : List FromColumn → List ColumnRef → Option Refusal
+unknown_column columns names =
     option_map (λ c. refuse.UnknownColumn (written c))
-    (find (λ c. length (meant c (from_columns q schemas)) == 0) (text_columns q))
+    (find (λ c. length (meant c columns) == 0) names)
 
-abbrev pub ambiguous_column : Query → List Schema → Option Refusal
-ambiguous_column q schemas =
+-- the first of the names that means more than one
+abbrev pub ambiguous_column : List FromColumn → List ColumnRef → Option Refusal
+ambiguous_column columns names =
     option_map (λ c. refuse.AmbiguousColumn (written c))
-    (find (λ c. nat_lt 1 (length (meant c (from_columns q schemas)))) (text_columns q))
+    (find (λ c. nat_lt 1 (length (meant c columns))) names)
 
--- the type of the column that a name means, taken without Nullable
+abbrev pub refusal_unless : Bool → Refusal → Option Refusal
+refusal_unless b refusal = if b then None else Some refusal
+
+-- the type of the column that a name means
 abbrev pub meant_type : List FromColumn → ColumnRef → Option ColumnType
-meant_type columns c = option_map (λ (m : FromColumn). plain_type m.type) (find (means c) columns)
-
-abbrev pub same_type : ColumnType → ColumnType → Bool
-same_type column.Int64 t = is_int64 t
-  where
-    is_int64 : ColumnType → Bool
-    is_int64 column.Int64 = true
-    is_int64 _ = false
-same_type column.UInt64 t = is_uint_column t
-same_type column.Text t = is_text t
+meant_type columns c = option_map (λ (m : FromColumn). m.type) (find (means c) columns)
 
 abbrev pub same_known_type : Option ColumnType → Option ColumnType → Bool
 same_known_type (Some a) (Some b) = same_type a b
@@ -169,13 +175,13 @@ joins left right a b = same_known_type (meant_type left a) (meant_type right b)
 abbrev pub is_join_pair : List FromColumn → List FromColumn → NamePair → Bool
 is_join_pair left right p = joins left right p.left p.right || joins left right p.right p.left
 
-abbrev pub holds_pairs : Query → List Schema → Option Join → Bool
-holds_pairs q schemas None = true
-holds_pairs q schemas (Some join) = list_all
-    (is_join_pair (table_columns schemas q.from) (table_columns schemas join.table)) join.pairs
+-- whether the pairs of a join are of two columns of the two tables
+abbrev pub pairs_fit : List FromColumn → List FromColumn → Option Join → Bool
+pairs_fit left right None = true
+pairs_fit left right (Some join) = list_all (is_join_pair left right) join.pairs
 
-abbrev pub bad_join_key : Query → List Schema → Option Refusal
-bad_join_key q schemas = if holds_pairs q schemas q.join then None else Some refuse.BadJoinKey
+abbrev pub bad_join_key : List FromColumn → List FromColumn → Option Join → Option Refusal
+bad_join_key left right join = refusal_unless (pairs_fit left right join) refuse.BadJoinKey
 
 -- types
 
@@ -185,22 +191,19 @@ pub data Kind : Type 0 where
   typed : ColumnType → Kind
   unfit : Kind
 
-abbrev pub can_hold : ColumnType → ℤ → Bool
-can_hold column.Int64 (pos n) = nat_lt n (2 ^ 63)
-can_hold column.Int64 (negsuc n) = nat_lt n (2 ^ 63)
-can_hold column.UInt64 (pos n) = nat_lt n (2 ^ 64)
-can_hold column.UInt64 (negsuc n) = false
-can_hold column.Text z = false
+abbrev pub plain_holds : PlainType → ℤ → Bool
+plain_holds plain'.Int64 (pos n) = nat_lt n (2 ^ 63)
+plain_holds plain'.Int64 (negsuc n) = nat_lt n (2 ^ 63)
+plain_holds plain'.UInt64 (pos n) = nat_lt n (2 ^ 64)
+plain_holds plain'.UInt64 (negsuc n) = false
+plain_holds plain'.Text z = false
 
--- the type of a result of operands of one type
-abbrev pub result_type : ArithOp → ColumnType → ColumnType
-result_type Add t = t
-result_type Sub t = column.Int64
-result_type Mul t = t
+abbrev pub can_hold : ColumnType → ℤ → Bool
+can_hold t z = plain_holds (plain_type t) z
 
 abbrev pub arith_kind : ArithOp → Kind → Kind → Kind
 arith_kind op (typed s) (typed t) = if same_type s t && not (is_text s)
-    then typed (result_type op s) else unfit
+    then typed (arith_type op s t) else unfit
 arith_kind op (typed t) (plain z) = if can_hold t z then typed (result_type op t) else unfit
 arith_kind op (plain z) (typed t) = if can_hold t z then typed (result_type op t) else unfit
 arith_kind op _ _ = unfit
@@ -263,12 +266,13 @@ abbrev pub item_kind : List FromColumn → ItemKind → Kind
 item_kind columns (kind.Plain e) = expr_kind columns e
 item_kind columns (kind.Agg call) = agg_kind columns call.op call.arg
 
-abbrev pub type_mismatch : Query → List Schema → Option Refusal
-type_mismatch q schemas =
-    let columns = from_columns q schemas in
-    if list_all (λ (i : Item). is_typed (item_kind columns i.what)) (listed q.items)
+abbrev pub types_fit : List FromColumn → Query → Bool
+types_fit columns q =
+    list_all (λ (i : Item). is_typed (item_kind columns i.what)) (listed q.items)
     && fits_where columns q.filter && fits_where columns q.having
-    then None else Some refuse.TypeMismatch
+
+abbrev pub type_mismatch : List FromColumn → Query → Option Refusal
+type_mismatch columns q = refusal_unless (types_fit columns q) refuse.TypeMismatch
 
 -- grouping
 
@@ -296,21 +300,32 @@ abbrev pub star_name : Items → List (List ℕ)
 star_name Star = codes "*" ∷ []
 star_name (Listed items) = []
 
+abbrev pub is_key_of : List FromColumn → List ColumnRef → ColumnRef → Bool
+is_key_of columns keys c = list_any (same_column columns c) keys
+
+-- the names in items that may not stand in a grouped query
+abbrev pub ungrouped_in_items : List FromColumn → List ColumnRef → List Item → List ColumnRef
+ungrouped_in_items columns keys items =
+    flat_map (λ (i : Item). not_keys (is_key_of columns keys) i.what) items
+
+-- the names in HAVING outside of calls
+abbrev pub bare_names : Option (CondOf ColumnRef) → List ColumnRef
+bare_names having = flat_map bare_columns (operands_of having)
+
 -- what may not stand in a grouped query, in the order of the text
-abbrev pub ungrouped_names : Query → List Schema → List (List ℕ)
-ungrouped_names q schemas =
-    let is_key : ColumnRef → Bool = λ c. list_any (same_column (from_columns q schemas) c) q.keys in
-    star_name q.items
-    ++ map written (flat_map (λ (i : Item). not_keys is_key i.what) (listed q.items))
-    ++ map written (filter (λ c. not (is_key c)) (flat_map bare_columns (operands_of q.having)))
+abbrev pub ungrouped_names : List FromColumn → Query → List (List ℕ)
+ungrouped_names columns q =
+    star_name q.items ++ map written (ungrouped_in_items columns q.keys (listed q.items))
+    ++ map written (filter (λ c. not (is_key_of columns q.keys c)) (bare_names q.having))
 
 abbrev pub first_name : List (List ℕ) → Option (List ℕ)
 first_name [] = None
 first_name (name ∷ names) = Some name
 
-abbrev pub not_grouped : Query → List Schema → Option Refusal
-not_grouped q schemas = if is_grouped q
-    then option_map refuse.NotGrouped (first_name (ungrouped_names q schemas)) else None
+abbrev pub not_grouped : List FromColumn → Query → Option Refusal
+not_grouped columns q =
+    if is_grouped q then option_map refuse.NotGrouped (first_name (ungrouped_names columns q))
+    else None
 
 -- output names and order
 
@@ -333,11 +348,11 @@ abbrev pub output_names : Items → List FromColumn → List (List ℕ)
 output_names Star columns = map (λ (c : FromColumn). c.name) columns
 output_names (Listed items) columns = item_names 1 items
 
-abbrev pub bad_order_key : Query → List Schema → Option Refusal
-bad_order_key q schemas =
-    let names = output_names q.items (from_columns q schemas) in
+-- the first key that is not exactly one of the output names
+abbrev pub bad_order_key : List (List ℕ) → List OrderKey → Option Refusal
+bad_order_key names order =
     option_map (λ (key : OrderKey). refuse.BadOrderKey key.name)
-    (find (λ (key : OrderKey). not (length (filter (bytes_eq key.name) names) == 1)) q.order)
+    (find (λ (key : OrderKey). not (length (filter (bytes_eq key.name) names) == 1)) order)
 
 -- widths
 
@@ -355,13 +370,13 @@ calls_in q = length (filter (λ (i : Item). is_call i.what) (listed q.items))
     + total (map operand_calls (operands_of q.having))
 
 -- what may not be more than 64
-abbrev pub widths : Query → List Schema → List ℕ
-widths q schemas =
-    length (from_columns q schemas) ∷ length (listed q.items) ∷ length q.keys ∷ length q.order
+abbrev pub widths : List FromColumn → Query → List ℕ
+widths columns q =
+    length columns ∷ length (listed q.items) ∷ length q.keys ∷ length q.order
     ∷ length (join_pairs q.join) ∷ calls_in q ∷ []
 
-abbrev pub too_wide : Query → List Schema → Option Refusal
-too_wide q schemas = if list_any (λ n. nat_lt 64 n) (widths q schemas) then Some refuse.TooWide
+abbrev pub too_wide : List FromColumn → Query → Option Refusal
+too_wide columns q = if list_any (λ n. nat_lt 64 n) (widths columns q) then Some refuse.TooWide
     else None
 
 abbrev pub first_of_all : {X : Type 0} → List (Option X) → Option X
@@ -369,10 +384,17 @@ first_of_all [] = None
 first_of_all (None ∷ rest) = first_of_all rest
 first_of_all (Some x ∷ rest) = Some x
 
+-- the conditions in their order, over the columns of From and those of its two tables
+abbrev pub refusals : List Schema → (columns left right : List FromColumn) → Query
+    → List (Option Refusal)
+refusals schemas columns left right q =
+    unknown_table schemas (query_tables q) ∷ unknown_column columns (text_columns q)
+    ∷ ambiguous_column columns (text_columns q) ∷ bad_join_key left right q.join
+    ∷ type_mismatch columns q ∷ not_grouped columns q
+    ∷ bad_order_key (output_names q.items columns) q.order ∷ too_wide columns q ∷ []
+
 -- the first condition that the query meets, with the name that it carries
 unfoldable pub refusal_of : Query → List Schema → Option Refusal
 refusal_of q schemas = first_of_all (
-    unknown_table q schemas ∷ unknown_column q schemas ∷ ambiguous_column q schemas
-    ∷ bad_join_key q schemas
-    ∷ type_mismatch q schemas ∷ not_grouped q schemas ∷ bad_order_key q schemas ∷ too_wide q schemas
-    ∷ [])
+    refusals schemas (from_columns q schemas) (table_columns schemas q.from)
+    (join_columns schemas q.join) q)

@@ -1,24 +1,15 @@
 -- Which expressions and conditions may be evaluated over columns of given types.
 use Rattle.std.specs.Prelude.{◌++◌, ◌<◌, ◌^◌, ◌≡◌}
-use Rattle.query_model.specs.Prelude.{AggCall, AggOp, Bool, ColumnType, Count, Grouping, List, Max, Min, None, Operand, Option, Some, Sum, false, length, map, negsuc, pos, slice_index_or, true, ℕ, ℤ}
+use Rattle.query_model.specs.Prelude.{AggCall, AggOp, ColumnType, Count, Grouping, List, Max, Min, None, Operand, Option, Some, Sum, false, length, map, negsuc, pos, ℕ, ℤ}
+use Rattle.chunk_data.specs.Values.{is_text, plain_type, type_at}
 use Rattle.chunk_data.specs.declared.typed_value.ColumnType.TheVariants as column
+use Rattle.chunk_data.specs.declared.typed_value.PlainType.{PlainType}
+use Rattle.chunk_data.specs.declared.typed_value.PlainType.TheVariants as plain
 use Rattle.query_model.specs.declared.query.ExprOf.TheVariants as expr
 use Rattle.query_model.specs.declared.query.Operand.TheVariants as operand
 use Rattle.query_model.specs.declared.query.CondOf.TheVariants as cond'
 use Rattle.query_model.specs.Expressions.{Expr, Cond, number_of, type_of}
 use Rattle.query_model.specs.Groups.{call_type}
-
--- the type without Nullable; no type is Nullable yet
-abbrev pub plain_type : ColumnType → ColumnType
-plain_type column.Int64 = column.Int64
-plain_type column.UInt64 = column.UInt64
-plain_type column.Text = column.Text
-
--- whether a column of the type may have NULL
-abbrev pub is_nullable : ColumnType → Bool
-is_nullable column.Int64 = false
-is_nullable column.UInt64 = false
-is_nullable column.Text = false
 
 -- the number of an expression that is a plain number
 abbrev pub plain_of : Expr → Option ℤ
@@ -26,19 +17,20 @@ plain_of (expr.Column c) = None
 plain_of (expr.Number n) = Some (number_of n)
 plain_of (expr.Arith' op p a q b) = None
 
+abbrev pub PlainHolds : PlainType → ℤ → Type 0
+PlainHolds plain.Int64 (pos n) = n < 2 ^ 63
+PlainHolds plain.Int64 (negsuc n) = n < 2 ^ 63
+PlainHolds plain.UInt64 (pos n) = n < 2 ^ 64
+PlainHolds plain.UInt64 (negsuc n) = ⊥
+PlainHolds plain.Text z = ⊥
+
 -- the type has the number
 abbrev pub CanHold : ColumnType → ℤ → Type 0
-CanHold column.Int64 (pos n) = n < 2 ^ 63
-CanHold column.Int64 (negsuc n) = n < 2 ^ 63
-CanHold column.UInt64 (pos n) = n < 2 ^ 64
-CanHold column.UInt64 (negsuc n) = ⊥
-CanHold column.Text z = ⊥
+CanHold t z = PlainHolds (plain_type t) z
 
 -- two columns of numbers of one type
 abbrev pub AreNumbersAlike : ColumnType → ColumnType → Type 0
-AreNumbersAlike column.Int64 t = t ≡ column.Int64
-AreNumbersAlike column.UInt64 t = t ≡ column.UInt64
-AreNumbersAlike column.Text t = ⊥
+AreNumbersAlike s t = (plain_type s ≡ plain_type t) × (is_text s ≡ false)
 
 -- Arithmetic is of two operands of one type of numbers. One of them may be a plain number that the
 -- other's type has.
@@ -72,11 +64,6 @@ IsTypedOperand types (operand.Plain e) = IsTyped types e
 IsTypedOperand types (operand.Text bytes) = Unit {0}
 IsTypedOperand types (operand.Agg call) = ⊥
 
-abbrev pub is_text : ColumnType → Bool
-is_text column.Int64 = false
-is_text column.UInt64 = false
-is_text column.Text = true
-
 -- the condition is typed by the columns' types: a comparison is of two numbers or of two texts
 abbrev pub IsTypedCond : List ColumnType → Cond → Type 0
 IsTypedCond types (cond'.Compare op a b) = IsTypedOperand types a × IsTypedOperand types b
@@ -102,5 +89,5 @@ IsTypedCall types call = IsTypedArgument types call.op call.arg
 -- the types of a row of groups: those of the keys, and then those of the calls
 abbrev pub group_types : Grouping → List ColumnType → List ColumnType
 group_types g types =
-    map (λ c. slice_index_or types c column.Text) g.keys
+    map (type_at types) g.keys
     ++ map (λ (call : AggCall ℕ). call_type call.op call.arg types) g.calls

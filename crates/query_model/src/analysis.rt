@@ -1,6 +1,6 @@
 // Queries checked against the declared tables.
-ghost use Rattle.std.specs.Prelude.{◌≡◌, ◌≤◌, None, flat_map, length, IfOk, IfErr, OnOk};
-ghost use Rattle.query_model.specs.Names.{from_columns, join_tables, output_names, refusal_of, table_columns, BothOrNone, IsChecked, IsPlacedCond, place_in, IsAnalysable, IsDue, IsTypedQuery, from_types};
+ghost use Rattle.std.specs.Prelude.{◌≡◌, ◌≤◌, None, length, IfOk, IfErr, OnOk};
+ghost use Rattle.query_model.specs.Names.{from_columns, join_columns, output_names, refusal_of, table_columns, BothOrNone, IsChecked, IsPlacedCond, place_in, IsAnalysable, IsDue, IsTypedQuery, from_types};
 
 mod columns;
 mod groups;
@@ -49,7 +49,7 @@ fn checked_query(
     requires analysable { IsAnalysable query.now }
     requires columns { columns.now ≡ from_columns query.now tables.now }
     requires left { left.now ≡ table_columns tables.now query.now.from }
-    requires right { right.now ≡ flat_map (table_columns tables.now) (join_tables query.now.join) }
+    requires right { right.now ≡ join_columns tables.now query.now.join }
     requires names { names ≡ output_names query.now.items columns.now }
     requires accepted { refusal_of query.now tables.now ≡ None }
     ensures checked { IfOk result (IsChecked query.now tables.now) }
@@ -76,6 +76,7 @@ fn checked_query(
 
 /// The query over the columns of its From, of which those of the FROM table are `left` and those of
 /// the JOIN table `right`.
+#[tactic(auto, using(crate::proofs::Accepted::refusal_over))]
 fn analysed(
     alloc: Global,
     query: &Query,
@@ -87,7 +88,7 @@ fn analysed(
     requires analysable { IsAnalysable query.now }
     requires columns { columns.now ≡ from_columns query.now tables.now }
     requires left { left.now ≡ table_columns tables.now query.now.from }
-    requires right { right.now ≡ flat_map (table_columns tables.now) (join_tables query.now.join) }
+    requires right { right.now ≡ join_columns tables.now query.now.join }
     ensures checked { IfOk result (IsChecked query.now tables.now) }
     ensures accepted { OnOk result (refusal_of query.now tables.now ≡ None) }
     ensures typed { IfOk result (IsTypedQuery (from_types query.now tables.now)) }

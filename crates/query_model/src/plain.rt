@@ -1,13 +1,13 @@
 // Plain, slow functions of the definitions.
 ghost use Rattle.std.specs.Prelude.{is_some, OnOk, ◌-◌, ◌^◌, ◌++◌};
-ghost use Rattle.query_model.specs.Names.{spelled_value, spelled_row, bad_column, bad_field as bad_field_of, quoted, doubled, separator, value_text as text_of_value, row_text as text_of_row, rows_text as text_of_rows, formula, type_of, gives_uint, IsWithin};
+ghost use Rattle.query_model.specs.Names.{spelled_value, spelled_row, bad_column, bad_field as bad_field_of, quoted, doubled, separator, value_text as text_of_value, row_text as text_of_row, rows_text as text_of_rows, formula, type_of, arith_type as type_of_result, gives_uint};
 ghost use Rattle.std.specs.Prelude.{◌≡◌, IfOk, length, ◌<◌};
 
 use crate::checked::{Cond, Expr};
 use crate::numerals::{spelled_int, spelled_uint};
 use crate::places::BadField;
 use crate::query::{ArithOp, ExprOf};
-use chunk_data::{Bytes, ColumnType, List, Memory, Value};
+use chunk_data::{Bytes, ColumnType, List, Memory, PlainType, Value, type_at};
 use std::alloc::{AllocError, Global};
 
 /// The same expression in boxes of its own.
@@ -38,7 +38,7 @@ pub fn boxed_cond(alloc: Global, cond: Cond) -> Result<Box<Cond>, Memory>
 }
 
 /// Whether arithmetic of two types gives a UInt64.
-pub fn results_in_uint(op: ArithOp, a: bool, b: bool) -> bool
+fn results_in_uint(op: ArithOp, a: bool, b: bool) -> bool
     ensures { result ≡ gives_uint op a b }
 {
     match op {
@@ -48,14 +48,26 @@ pub fn results_in_uint(op: ArithOp, a: bool, b: bool) -> bool
     }
 }
 
+/// The type of the result of an operator at operands of these types of numbers.
+pub fn arith_type(op: ArithOp, s: ColumnType, t: ColumnType) -> ColumnType
+    ensures { result ≡ type_of_result op s t }
+{
+    let left = matches!(s.plain(), PlainType::UInt64);
+    let right = matches!(t.plain(), PlainType::UInt64);
+    if results_in_uint(op, left, right) {
+        ColumnType::UInt64
+    } else {
+        ColumnType::Int64
+    }
+}
+
 /// The type of an expression over columns of these types.
 #[tactic(auto, unfolding(crate::specs::Expressions::type_of))]
 pub fn expr_type(e: &Expr, types: &[ColumnType]) -> ColumnType
-    requires { IsWithin e.now (length types.now) }
     ensures { result ≡ type_of e.now types.now }
 {
     match e {
-        ExprOf::Column(c) => types[*c as usize],
+        ExprOf::Column(c) => type_at(types, *c as usize),
         ExprOf::Number(n) => {
             if n.negative && n.size > 0 {
                 ColumnType::Int64
@@ -64,13 +76,9 @@ pub fn expr_type(e: &Expr, types: &[ColumnType]) -> ColumnType
             }
         }
         ExprOf::Arith(op, a, b) => {
-            let left = matches!(expr_type(a, types), ColumnType::UInt64);
-            let right = matches!(expr_type(b, types), ColumnType::UInt64);
-            if results_in_uint(*op, left, right) {
-                ColumnType::UInt64
-            } else {
-                ColumnType::Int64
-            }
+            let left = expr_type(a, types);
+            let right = expr_type(b, types);
+            arith_type(*op, left, right)
         }
     }
 }
@@ -79,16 +87,16 @@ pub fn expr_type(e: &Expr, types: &[ColumnType]) -> ColumnType
 pub fn value_spelled(alloc: Global, kind: ColumnType, field: &[u8]) -> Result<Option<Value>, Memory>
     ensures { IfOk result (λ v. v ≡ spelled_value kind field.now) }
 {
-    match kind {
-        ColumnType::Int64 => match spelled_int(field) {
+    match kind.plain() {
+        PlainType::Int64 => match spelled_int(field) {
             Some(number) => Ok(Some(Value::Int(number))),
             None => Ok(None),
         },
-        ColumnType::UInt64 => match spelled_uint(field) {
+        PlainType::UInt64 => match spelled_uint(field) {
             Some(number) => Ok(Some(Value::UInt(number))),
             None => Ok(None),
         },
-        ColumnType::Text => Ok(Some(Value::Text(Bytes::from_slice(alloc, field)?))),
+        PlainType::Text => Ok(Some(Value::Text(Bytes::from_slice(alloc, field)?))),
     }
 }
 
@@ -96,10 +104,10 @@ pub fn value_spelled(alloc: Global, kind: ColumnType, field: &[u8]) -> Result<Op
 pub fn spells(kind: ColumnType, field: &[u8]) -> bool
     ensures { result ≡ is_some (spelled_value kind field.now) }
 {
-    match kind {
-        ColumnType::Int64 => spelled_int(field).is_some(),
-        ColumnType::UInt64 => spelled_uint(field).is_some(),
-        ColumnType::Text => true,
+    match kind.plain() {
+        PlainType::Int64 => spelled_int(field).is_some(),
+        PlainType::UInt64 => spelled_uint(field).is_some(),
+        PlainType::Text => true,
     }
 }
 

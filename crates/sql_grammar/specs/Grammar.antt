@@ -2,7 +2,7 @@
 -- rest` says that the tokens ts begin with a spelling of the term e, and that rest is what follows
 -- it.
 use Rattle.std.specs.Prelude.{◌≡◌, ℕ, true, false, List, [], ◌∷◌, Option, Some, None, codes}
-use Rattle.sql_grammar.specs.QueryTypes.{column, number, arith, ColumnRef, AggOp, CompareOp, TableRef, NamePair, Join, OrderKey, Span, Query}
+use Rattle.sql_grammar.specs.QueryTypes.{AggOp, CallTree, ColumnRef, CompareOp, CondForm, Condition, Expression, ItemTree, ItemWhat, Join, NamePair, OrderKey, Query, QueryTree, Selection, Side, Span, TableRef, arith, both, call, call_item, column, compare, either, listed, negated, number, plain, plain_item, query_tree, star, text}
 use Rattle.query_model.specs.declared.query.ArithOp.TheVariants as op
 use Rattle.query_model.specs.declared.query.AggOp.TheVariants as agg
 use Rattle.query_model.specs.declared.query.CompareOp.TheVariants as order
@@ -13,7 +13,6 @@ use Rattle.sql_grammar.specs.declared.Keyword.TheVariants as keyword
 use Rattle.sql_grammar.specs.declared.Sign.{Sign}
 use Rattle.sql_grammar.specs.declared.Sign.TheVariants as sign
 use Rattle.sql_grammar.specs.Tokens.{aggregate_of, has_argument, tokens_of}
-use Rattle.sql_grammar.specs.Trees.{Expression, CallTree, Side, plain, text, call, Condition, compare, both, either, negated, ItemWhat, plain_item, call_item, ItemTree, Selection, star, listed, QueryTree, query_tree}
 
 abbrev pub Tokens : Type 0
 Tokens = List Token
@@ -94,32 +93,34 @@ pub data IsComparison : CompareOp → Sign → Type 0 where
   greater : IsComparison order.Gt sign.Greater
   greater_equal : IsComparison order.Ge sign.GreaterEqual
 
--- Conditions, over a relation of the operands of comparisons: WHERE and HAVING have each its own.
+-- Conditions, over any sides of comparisons and a relation of what spells them: WHERE and HAVING
+-- have each its own.
 mutual
   -- cond = conj {OR conj}
-  pub data IsCond (Op : Side → Tokens → Tokens → Type 0) : Condition → Tokens → Tokens
+  pub data IsCond {S : Type 0} (Op : S → Tokens → Tokens → Type 0) : CondForm S → Tokens → Tokens
       → Type 0 where
-    one_conj : {c : Condition} {ts rest : Tokens} → IsConj Op c ts rest → IsCond Op c ts rest
-    disjunction : {a b : Condition} {ts mid rest : Tokens}
+    one_conj : {c : CondForm S} {ts rest : Tokens} → IsConj Op c ts rest → IsCond Op c ts rest
+    disjunction : {a b : CondForm S} {ts mid rest : Tokens}
         → IsCond Op a ts (token.Keyword keyword.Or ∷ mid) → IsConj Op b mid rest
         → IsCond Op (either a b) ts rest
 
   -- conj = neg {AND neg}
-  pub data IsConj (Op : Side → Tokens → Tokens → Type 0) : Condition → Tokens → Tokens
+  pub data IsConj {S : Type 0} (Op : S → Tokens → Tokens → Type 0) : CondForm S → Tokens → Tokens
       → Type 0 where
-    one_neg : {c : Condition} {ts rest : Tokens} → IsNeg Op c ts rest → IsConj Op c ts rest
-    conjunction : {a b : Condition} {ts mid rest : Tokens}
+    one_neg : {c : CondForm S} {ts rest : Tokens} → IsNeg Op c ts rest → IsConj Op c ts rest
+    conjunction : {a b : CondForm S} {ts mid rest : Tokens}
         → IsConj Op a ts (token.Keyword keyword.And ∷ mid) → IsNeg Op b mid rest
         → IsConj Op (both a b) ts rest
 
   -- neg = NOT neg | "(" cond ")" | operand op operand
-  pub data IsNeg (Op : Side → Tokens → Tokens → Type 0) : Condition → Tokens → Tokens → Type 0 where
-    negation : {c : Condition} {ts rest : Tokens} → IsNeg Op c ts rest
+  pub data IsNeg {S : Type 0} (Op : S → Tokens → Tokens → Type 0) : CondForm S → Tokens → Tokens
+      → Type 0 where
+    negation : {c : CondForm S} {ts rest : Tokens} → IsNeg Op c ts rest
         → IsNeg Op (negated c) (token.Keyword keyword.Not ∷ ts) rest
-    enclosed_cond : {c : Condition} {ts rest : Tokens}
+    enclosed_cond : {c : CondForm S} {ts rest : Tokens}
         → IsCond Op c ts (token.Sign sign.Close ∷ rest)
         → IsNeg Op c (token.Sign sign.Open ∷ ts) rest
-    comparison : {o : CompareOp} {s : Sign} {a b : Side} {ts mid rest : Tokens}
+    comparison : {o : CompareOp} {s : Sign} {a b : S} {ts mid rest : Tokens}
         → Op a ts (token.Sign s ∷ mid) → IsComparison o s → Op b mid rest
         → IsNeg Op (compare o a b) ts rest
 
@@ -180,23 +181,31 @@ pub data IsJoin : Option Join → Tokens → Tokens → Type 0 where
   inner_join : {j : Join} {ts rest : Tokens} → IsJoined j ts rest
       → IsJoin (Some j) (token.Keyword keyword.Inner ∷ ts) rest
 
+-- [keyword x]: a clause that may be left out. It is nothing where its keyword doesn't stand, and
+-- else what stands behind that.
+pub data IsClause {A X : Type 0} (word : Token) (nothing : A) (some : X → A)
+    (Is : X → Tokens → Tokens → Type 0) : A → Tokens → Tokens → Type 0 where
+  no_clause : {rest : Tokens} → IsClause word nothing some Is nothing rest rest
+  clause_of : {x : X} {ts rest : Tokens} → Is x ts rest
+      → IsClause word nothing some Is (some x) (word ∷ ts) rest
+
 -- [WHERE cond]
-pub data IsFilter : Option Condition → Tokens → Tokens → Type 0 where
-  no_filter : {rest : Tokens} → IsFilter None rest rest
-  filter_by : {c : Condition} {ts rest : Tokens} → IsCond IsOperand c ts rest
-      → IsFilter (Some c) (token.Keyword keyword.Where ∷ ts) rest
+abbrev pub IsFilter : Option Condition → Tokens → Tokens → Type 0
+IsFilter = IsClause (token.Keyword keyword.Where) None Some (IsCond IsOperand)
+
+-- BY x {"," x}
+pub data AreBy {X : Type 0} (Is : X → Tokens → Tokens → Type 0) : List X → Tokens → Tokens
+    → Type 0 where
+  listed_by : {xs : List X} {ts rest : Tokens} → AreListed Is (token.Sign sign.Comma) xs ts rest
+      → AreBy Is xs (token.Keyword keyword.By ∷ ts) rest
 
 -- [GROUP BY column {"," column}]
-pub data AreKeys : List ColumnRef → Tokens → Tokens → Type 0 where
-  no_keys : {rest : Tokens} → AreKeys [] rest rest
-  keys_by : {cs : List ColumnRef} {ts rest : Tokens} → AreListed IsColumn (token.Sign sign.Comma) cs
-      ts rest → AreKeys cs (token.Keyword keyword.Group ∷ token.Keyword keyword.By ∷ ts) rest
+abbrev pub AreKeys : List ColumnRef → Tokens → Tokens → Type 0
+AreKeys = IsClause (token.Keyword keyword.Group) [] (λ keys. keys) (AreBy IsColumn)
 
 -- [HAVING hcond]
-pub data IsHaving : Option Condition → Tokens → Tokens → Type 0 where
-  no_having : {rest : Tokens} → IsHaving None rest rest
-  having_by : {c : Condition} {ts rest : Tokens}
-      → IsCond IsGroupOperand c ts rest → IsHaving (Some c) (token.Keyword keyword.Having ∷ ts) rest
+abbrev pub IsHaving : Option Condition → Tokens → Tokens → Type 0
+IsHaving = IsClause (token.Keyword keyword.Having) None Some (IsCond IsGroupOperand)
 
 -- key = name [ASC | DESC]
 pub data IsOrderKey : OrderKey → Tokens → Tokens → Type 0 where
@@ -210,21 +219,21 @@ pub data IsOrderKey : OrderKey → Tokens → Tokens → Type 0 where
       (token.Name name ∷ token.Keyword keyword.Desc ∷ rest) rest
 
 -- [ORDER BY key {"," key}]
-pub data IsOrder : List OrderKey → Tokens → Tokens → Type 0 where
-  no_order : {rest : Tokens} → IsOrder [] rest rest
-  order_by : {ks : List OrderKey} {ts rest : Tokens} → AreListed IsOrderKey (token.Sign sign.Comma)
-      ks ts rest → IsOrder ks (token.Keyword keyword.Order ∷ token.Keyword keyword.By ∷ ts) rest
+abbrev pub IsOrder : List OrderKey → Tokens → Tokens → Type 0
+IsOrder = IsClause (token.Keyword keyword.Order) [] (λ keys. keys) (AreBy IsOrderKey)
+
+pub data IsNumber : ℕ → Tokens → Tokens → Type 0 where
+  number_of : {n : ℕ} {rest : Tokens} → IsNumber n (token.Number n ∷ rest) rest
+
+-- number [OFFSET number]
+pub data IsSpan : Span → Tokens → Tokens → Type 0 where
+  span_of : {n m : ℕ} {ts rest : Tokens}
+      → IsClause (token.Keyword keyword.Offset) 0 (λ skip. skip) IsNumber m ts rest
+      → IsSpan (record { count = n; skip = m }) (token.Number n ∷ ts) rest
 
 -- [LIMIT number [OFFSET number]]
-pub data IsLimit : Option Span → Tokens → Tokens → Type 0 where
-  no_limit : {rest : Tokens} → IsLimit None rest rest
-  first_rows : {n : ℕ} {rest : Tokens}
-      → IsLimit (Some (record { count = n; skip = 0 }))
-      (token.Keyword keyword.Limit ∷ token.Number n ∷ rest) rest
-  rows_behind : {n m : ℕ} {rest : Tokens}
-      → IsLimit (Some (record { count = n; skip = m }))
-      (token.Keyword keyword.Limit ∷ token.Number n ∷ token.Keyword keyword.Offset ∷ token.Number m
-      ∷ rest) rest
+abbrev pub IsLimit : Option Span → Tokens → Tokens → Type 0
+IsLimit = IsClause (token.Keyword keyword.Limit) None Some IsSpan
 
 -- FROM table [[INNER] JOIN ..] [WHERE cond]
 pub data IsSource : TableRef → Option Join → Option Condition → Tokens → Tokens → Type 0 where

@@ -1,6 +1,5 @@
 pub mod Tokens
 pub mod QueryTypes
 pub mod Strings
-pub mod Trees
 pub mod Grammar
 pub mod Names

@@ -7,9 +7,11 @@ pub use Rattle.query_model.specs.declared.query.AggOp.{AggOp}
 pub use Rattle.query_model.specs.declared.query.ArithOp.{ArithOp}
 pub use Rattle.query_model.specs.declared.query.ColumnRef.{ColumnRef}
 pub use Rattle.query_model.specs.declared.query.CompareOp.{CompareOp}
+pub use Rattle.query_model.specs.declared.query.CondOf.{CondOf}
 pub use Rattle.query_model.specs.declared.query.ExprOf.{ExprOf}
 pub use Rattle.query_model.specs.declared.query.Item.{Item}
 pub use Rattle.query_model.specs.declared.query.ItemKind.{ItemKind}
+pub use Rattle.query_model.specs.declared.query.Items.{Items}
 pub use Rattle.query_model.specs.declared.query.Join.{Join}
 pub use Rattle.query_model.specs.declared.query.NamePair.{NamePair}
 pub use Rattle.query_model.specs.declared.query.Operand.{Operand}
@@ -17,8 +19,7 @@ pub use Rattle.query_model.specs.declared.query.OrderKey.{OrderKey}
 pub use Rattle.query_model.specs.declared.query.Query.{Query}
 pub use Rattle.query_model.specs.declared.query.Span.{Span}
 pub use Rattle.query_model.specs.declared.query.TableRef.{TableRef}
-pub use Rattle.sql_grammar.proofs.Trees.{items_are, laid, laid_call, laid_condition, laid_expr, laid_item, laid_items, laid_side, laid_what, sides_of_are}
-pub use Rattle.sql_grammar.specs.Names.{AreKeys, AreListed, CallTree, Condition, Expression, IsAgg, IsColumn, IsComparison, IsCond, IsConj, IsExpr, IsFactor, IsFilter, IsGroupOperand, IsHaving, IsItem, IsJoin, IsJoined, IsLimit, IsNeg, IsOperand, IsOrder, IsOrderKey, IsPair, IsQuery, IsSelection, IsTable, IsTerm, IsText, IsWhat, ItemTree, ItemWhat, QueryTree, Selection, Side, Spells, Tokens, a_call, a_column, a_constant, a_key, a_negative, a_number, a_string, a_text, aggregate_of, all_columns, an_agg, an_expr, an_expression, ascending, bare, both, call, call_item, call_over, call_tree, compare, comparison, conjunction, count_rows, count_star, descending, difference, disjunction, enclosed, enclosed_cond, equal, equal_columns, filter_by, first_rows, greater, greater_equal, has_argument, having_by, inner_join, item_tree, item_what, join_of, keys_by, last_one, less, less_equal, listed, named, named_table, negation, negative, no_filter, no_having, no_join, no_keys, no_limit, no_order, not_equal, numbers_table, one_conj, one_factor, one_more, one_neg, one_term, order_by, plain, plain_item, product, qualified, query_tree, rows_behind, select_query, shaping_of, side, some_items, source_of, sum, table_on, text, tokens_of, unnamed, unqualified, unstated, with_semicolon}
+pub use Rattle.sql_grammar.specs.Names.{AreKeys, AreListed, CallTree, Condition, Expression, IsAgg, IsColumn, IsComparison, IsCond, IsConj, IsExpr, IsFactor, IsFilter, IsGroupOperand, IsHaving, IsItem, IsJoin, IsJoined, IsLimit, IsNeg, IsOperand, IsOrder, IsOrderKey, IsPair, IsQuery, IsSelection, IsTable, IsTerm, IsText, IsWhat, ItemTree, ItemWhat, QueryTree, Selection, Side, Spells, Tokens, a_call, a_column, a_constant, a_key, a_negative, a_number, a_string, a_text, aggregate_of, all_columns, an_agg, an_expr, an_expression, ascending, bare, both, call, call_item, call_over, compare, comparison, conjunction, count_rows, count_star, descending, difference, disjunction, enclosed, enclosed_cond, equal, equal_columns, greater, greater_equal, has_argument, inner_join, item_tree, join_of, last_one, less, less_equal, listed, named, named_table, negation, negative, no_join, not_equal, numbers_table, one_conj, one_factor, one_more, one_neg, one_term, plain, plain_item, product, qualified, query_tree, select_query, shaping_of, some_items, source_of, sum, table_on, text, tokens_of, unnamed, unqualified, unstated, with_semicolon, AreBy, IsClause, IsNumber, IsSpan, clause_of, listed_by, no_clause, number_of, span_of}
 pub use Rattle.sql_grammar.specs.Tokens.{behind_token, fitting, is_blank, text_byte, text_end, text_on, token_front}
 pub use Rattle.sql_grammar.specs.declared.Keyword.{Keyword}
 pub use Rattle.sql_grammar.specs.declared.Sign.{Sign}
@@ -28,10 +29,10 @@ pub use Rattle.sql_grammar.specs.declared.TextPlace.TheVariants.{Middle}
 pub use Rattle.sql_grammar.specs.declared.Token.{Token}
 pub use Rattle.sql_text.specs.Answers.{Fails}
 pub use Rattle.sql_text.specs.Parts.{Parsed, Reading, Reads, aggregate, calculated, call_at, call_or_column, called, closed_at, column_at, combined, condition_of, count_at, dotted, expression, first_keyword, first_part, first_sign, if_both, if_level, joined_at, joint_of, keyword_joint, level, negation_at, negative_at, next_joint, over, parsed, plain_of, side_of, sign_joint, string, truth, turn_of, word_at}
-pub use Rattle.sql_text.specs.Queries.{Ending, after_equal, alias_at, behind, call_front, clause_at, column_ref_at, columns_at, condition_at, count_behind, direction_at, ending_at, from_at, is_end, item_at, item_of, items_at, join_at, joined_table_at, keys_at, limit_at, list_behind, on_at, order_at, order_key_at, order_keys_at, pair_at, pair_behind, pair_with, pairs_at, plain_what, query_at, query_of, selection_at, some_join, span_at_end, table_at, table_named, what_at, what_by, with_alias}
+pub use Rattle.sql_text.specs.Queries.{Ending, after_equal, alias_at, behind, call_front, clause_at, column_ref_at, condition_at, count_behind, direction_at, ending_at, from_at, is_end, item_at, item_of, items_at, join_at, joined_table_at, keys_at, limit_at, list_behind, on_at, order_at, order_key_at, pair_at, pair_behind, plain_what, query_at, query_of, selection_at, some_join, table_at, table_named, what_at, what_by, with_alias, by_at, clause_behind, filter_at, having_at, number_at, offset_at, reads, span_at, span_with, text_query}
 pub use Rattle.sql_text.specs.Refusals.{IsReadFrom, IsRefused, early_refusal, refusal_of, refusal_of_tokens, token_refusal}
 pub use Rattle.sql_text.specs.declared.limits.ParseRefusal.{ParseRefusal}
-pub use Rattle.sql_text.specs.declared.lists.Separator.{Separator}
+pub use Rattle.sql_text.specs.declared.lists.Mark.{Mark}
 pub use Rattle.sql_text.specs.declared.part.Clause.{Clause}
 pub use Rattle.sql_text.specs.declared.part.BinaryOperator.{BinaryOperator}
 pub use Rattle.sql_text.specs.declared.parse_error.ParseError.{ParseError}

@@ -1,5 +1,5 @@
 -- One turn of the reading of a list.
-use Rattle.sql_text.proofs.Imports.{◌≡◌, ℕ, suc, ◌<◌, List, [], ◌∷◌, ◌++◌, Some, None, option_map, ◌∙◌, refl, append_assoc, Token, ParseError, Fails, Reading, behind, list_at, Separator, arith}
+use Rattle.sql_text.proofs.Imports.{◌≡◌, ℕ, suc, ◌<◌, List, [], ◌∷◌, ◌++◌, Some, None, option_map, ◌∙◌, refl, append_assoc, Token, ParseError, Fails, Reading, behind, list_at, Mark, arith}
 use Rattle.sql_text.proofs.Turns.{some_turns}
 
 abbrev with_front : {X : Type 0} → List X → Reading (List X) → Reading (List X)
@@ -7,11 +7,11 @@ with_front front read = option_map (λ xs. (front ++ xs.0, xs.1)) read
 
 -- The reading is the one that goes on behind the elements before, at ts, with so many turns.
 pub record IsAt {X : Type 0} (read : List Token → Reading X)
-    (s : Separator) (reading : Reading (List X)) (front : List X) (n : ℕ)
+    (s : Mark) (reading : Reading (List X)) (front : List X) (n : ℕ)
     (ts : List Token) : Type 0 where
   pub same : reading ≡ with_front front (list_at read s n ts)
 
-module _ {X : Type 0} {read : List Token → Reading X} {s : Separator}
+module _ {X : Type 0} {read : List Token → Reading X} {s : Mark}
     {reading : Reading (List X)} {front : List X} {n : ℕ} {ts : List Token}
     (at : IsAt read s reading front n ts) where
   pub at_next : {m : ℕ} → n ≡ suc m → (x : X) (mid after : List Token) → read ts ≡ Some (x, mid)

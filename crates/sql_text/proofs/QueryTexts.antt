@@ -1,10 +1,10 @@
 -- A query is read exactly where one is spelled.
-use Rattle.sql_text.proofs.Imports.{◌≡◌, ℕ, zero, suc, ◌≤◌, Bool, true, false, cond, List, [], ◌∷◌, length, Option, Some, None, option_and_then, option_map, IfSome, refl, ap, ◌∙◌, arith, codes, bytes_eq, IfSome_then, bytes_eq-Decides, AggOp, ColumnRef, Join, NamePair, OrderKey, Span, TableRef, Expression, CallTree, Condition, ItemWhat, plain_item, ItemTree, Selection, listed, QueryTree, Tokens, IsExpr, IsColumn, unqualified, qualified, one_term, sum, difference, IsTerm, one_factor, product, IsFactor, a_column, a_number, negative, enclosed, IsAgg, IsCond, AreListed, last_one as the_last, one_more as and_more, IsWhat, an_expression, an_agg, IsItem, unnamed, named, IsSelection, all_columns, some_items, IsTable, named_table, numbers_table, IsPair, equal_columns, IsJoined, table_on, IsJoin, no_join, join_of as joined_with, inner_join, IsFilter, no_filter, filter_by, AreKeys, no_keys, keys_by, IsHaving, no_having, having_by, IsOrderKey, unstated, ascending, descending, IsOrder, no_order, order_by, IsLimit, no_limit, first_rows, rows_behind, source_of, shaping_of, IsQuery, select_query, IsText, bare, with_semicolon, Token, Separator, Clause, Parsed, expression, Reading, next_joint, plain_of, condition_of, call_at, part_at, list_behind, list_at, behind, alias_at, call_front, plain_what, what_by, what_at, item_of, with_alias, item_at, items_at, selection_at, count_behind, table_named, table_at, from_at, column_ref_at, after_equal, pair_behind, pair_at, on_at, joined_table_at, some_join, join_at, condition_at, clause_at, columns_at, keys_at, direction_at, order_key_at, order_keys_at, order_at, limit_at, is_end, span_at_end, Ending, ending_at, query_of, query_at}
+use Rattle.sql_text.proofs.Imports.{◌≡◌, ℕ, zero, suc, ◌≤◌, Bool, true, false, cond, List, [], ◌∷◌, length, Option, Some, None, option_and_then, option_map, IfSome, refl, ap, ◌∙◌, arith, codes, bytes_eq, IfSome_then, bytes_eq-Decides, AggOp, ColumnRef, Join, NamePair, OrderKey, Span, TableRef, Expression, CallTree, Condition, ItemWhat, plain_item, ItemTree, Selection, listed, QueryTree, Tokens, IsExpr, IsColumn, unqualified, qualified, one_term, sum, difference, IsTerm, one_factor, product, IsFactor, a_column, a_number, negative, enclosed, IsAgg, IsCond, AreListed, last_one as the_last, one_more as and_more, IsWhat, an_expression, an_agg, IsItem, unnamed, named, IsSelection, all_columns, some_items, IsTable, named_table, numbers_table, IsPair, equal_columns, IsJoined, table_on, IsJoin, no_join, join_of as joined_with, inner_join, IsFilter, AreKeys, IsHaving, IsOrderKey, unstated, ascending, descending, IsOrder, IsLimit, source_of, shaping_of, IsQuery, select_query, IsText, bare, with_semicolon, Token, Clause, Parsed, expression, Reading, next_joint, plain_of, condition_of, call_at, part_at, list_behind, list_at, behind, alias_at, call_front, plain_what, what_by, what_at, item_of, with_alias, item_at, items_at, selection_at, count_behind, table_named, table_at, from_at, column_ref_at, after_equal, pair_behind, pair_at, on_at, joined_table_at, some_join, join_at, condition_at, clause_at, keys_at, direction_at, order_key_at, order_at, limit_at, is_end, Ending, ending_at, query_of, query_at, AreBy, IsClause, IsGroupOperand, IsNumber, IsOperand, IsSpan, Mark, by_at, clause_behind, clause_of, filter_at, having_at, listed_by, no_clause, number_at, number_of, offset_at, reads, span_at, span_of, span_with, text_query}
 use Rattle.query_model.specs.declared.query.TableRef.TheVariants as table
 use Rattle.sql_grammar.specs.declared.Token.TheVariants as token
 use Rattle.sql_grammar.specs.declared.Keyword.TheVariants as keyword
 use Rattle.sql_grammar.specs.declared.Sign.TheVariants as sign
-use Rattle.sql_text.specs.declared.lists.Separator.TheVariants as between
+use Rattle.sql_text.specs.declared.lists.Mark.TheVariants as between
 use Rattle.sql_text.specs.declared.part.Clause.TheVariants as clause
 use Rattle.sql_text.proofs.Behind.{IsShorter, operands_in, expr_shorter, cond_shorter, column_shorter, item_shorter, selection_shorter, table_shorter, pair_shorter, joined_shorter, order_key_shorter, list_shorter}
 use Rattle.sql_text.proofs.Turns.{ends_name, tighter, deeper}
@@ -15,15 +15,25 @@ use Rattle.sql_text.proofs.PartsSpelled.{IsPart, bind, map_some, part_spelled, w
 
 -- ---- lists
 
--- the token of a separator
-abbrev mark : Separator → Token
+-- the token of a mark
+abbrev mark : Mark → Token
 mark between.Comma = token.Sign sign.Comma
 mark between.And = token.Keyword keyword.And
+mark between.Where = token.Keyword keyword.Where
+mark between.Group = token.Keyword keyword.Group
+mark between.By = token.Keyword keyword.By
+mark between.Having = token.Keyword keyword.Having
+mark between.Order = token.Keyword keyword.Order
+mark between.Limit = token.Keyword keyword.Limit
+mark between.Offset = token.Keyword keyword.Offset
 
-mark_behind : (s : Separator) (ts : Tokens) → behind s (mark s ∷ ts) ≡ Some ts
+mark_behind : (s : Mark) (ts : Tokens) → behind s (mark s ∷ ts) ≡ Some ts
 mark_behind s ts = grind arith
 
-module _ {X : Type 0} (Is : X → Tokens → Tokens → Type 0) (s : Separator)
+behind_is : (s : Mark) (ts rest : Tokens) → behind s ts ≡ Some rest → ts ≡ mark s ∷ rest
+behind_is s ts rest h = grind arith
+
+module _ {X : Type 0} (Is : X → Tokens → Tokens → Type 0) (s : Mark)
     (read : Tokens → Reading X) where
   module _ (less : (x : X) (ts rest : Tokens) → Is x ts rest → IsShorter rest ts)
       (most : ℕ) (Ends : Tokens → Type 0) (goes : (ts : Tokens) → Ends (mark s ∷ ts))
@@ -203,14 +213,56 @@ ends rest h = grind (arith, simple)
 abbrev IsFound : {A : Type 0} → Reading A → A → Tokens → Tokens → ℕ → Type 0
 IsFound read a ts rest k = (read ≡ Some (a, rest)) × (rank ts ≤ k)
 
--- no clause stands where the rest begins
-passed : {A : Type 0} {read : Reading A} {a : A} {rest : Tokens} (k : ℕ) → read ≡ Some (a, rest)
-    → rank rest ≤ k → IsFound read a rest rest (suc k)
-passed k e h = (e, omega arith)
+-- no clause of a mark stands where a later one begins
+not_behind : (m : Mark) (k : ℕ) (rest : Tokens) → ((ts : Tokens) → rank (mark m ∷ ts) ≡ suc k)
+    → rank rest ≤ k → behind m rest ≡ None
+not_behind m k rest at low = go (behind m rest) refl
+  where
+    go : (o : Option Tokens) → behind m rest ≡ o → o ≡ None
+    go None e = refl
+    go (Some ts) e =
+        let is = ap rank (behind_is m rest ts e) in absurd (omega (arith, at ts, is, low))
+
+-- a clause whose mark has the rank behind k, where what follows has at most that
+module _ {A X : Type 0} (m : Mark) (nothing : A) (some : X → A)
+    (Is : X → Tokens → Tokens → Type 0) (read : Tokens → Reading X) where
+  clause_found : (k n : ℕ) (rest : Tokens) → ((ts : Tokens) → rank (mark m ∷ ts) ≡ suc k)
+      → rank rest ≤ k → ((x : X) (ts : Tokens) → Is x ts rest → length ts ≤ n
+      → read ts ≡ Some (x, rest)) → {a : A} {ts : Tokens}
+      → IsClause (mark m) nothing some Is a ts rest → length ts ≤ n
+      → IsFound (clause_at m nothing some read ts) a ts rest (suc k)
+  clause_found k n rest at low found no_clause l =
+      (ap (clause_behind nothing some read rest) (not_behind m k rest at low), omega (arith, low))
+  clause_found k n rest at low found (clause_of {x = x} {ts = ts} is) l = (
+    ap (clause_behind nothing some read (mark m ∷ ts)) (mark_behind m ts)
+        ∙ ap (option_map (λ r. (some r.0, r.1))) (found x ts is (omega arith)),
+    omega (arith, at ts),
+  )
+
+by_found : {X : Type 0} (Is : X → Tokens → Tokens → Type 0) (read : Tokens → Reading X)
+    → ((x : X) (ts rest : Tokens) → Is x ts rest → IsShorter rest ts) → (Ends : Tokens → Type 0)
+    → ((ts : Tokens) → Ends (mark between.Comma ∷ ts))
+    → ((x : X) (ts rest : Tokens) → Is x ts rest → Ends rest → read ts ≡ Some (x, rest))
+    → {xs : List X} {ts rest : Tokens} → AreBy Is xs ts rest → Ends rest
+    → behind between.Comma rest ≡ None → by_at read ts ≡ Some (xs, rest)
+by_found Is read less Ends goes found (listed_by {ts = ts} are) ends none =
+    list_found Is between.Comma read less (length ts) Ends goes
+    (λ x ts rest is l. found x ts rest is) are (length ts) (omega arith) (omega arith) ends none
+
+no_offset : (rest : Tokens) → rank rest ≤ 0 → behind between.Offset rest ≡ None
+no_offset rest h = grind arith
+
+span_found : {s : Span} {ts rest : Tokens} → IsSpan s ts rest → rank rest ≤ 0
+    → span_at ts ≡ Some (s, rest)
+span_found (span_of {n = n} {rest = rest} no_clause) h = ap (span_with n)
+    (ap (clause_behind 0 (λ skip. skip) number_at rest) (no_offset rest h))
+span_found (span_of (clause_of number_of)) h = refl
 
 limit_found : {l : Option Span} {ts rest : Tokens} → IsLimit l ts rest → rank rest ≤ 0
     → IsFound (limit_at ts) l ts rest 1
-limit_found is h = grind arith
+limit_found {ts = ts} {rest = rest} is h =
+    clause_found between.Limit None Some IsSpan span_at 0 (length ts) rest (λ ts. refl) h
+    (λ x ts is l. span_found is h) is (omega arith)
 
 -- what may stand behind a key without a direction
 abbrev EndsKey : Tokens → Type 0
@@ -223,55 +275,49 @@ order_key_found _ ends = refl
 
 order_found : {os : List OrderKey} {ts rest : Tokens} → IsOrder os ts rest → rank rest ≤ 1
     → IsFound (order_at ts) os ts rest 2
-order_found (no_order {rest = token.Keyword keyword.Order ∷ ts}) h = absurd (omega arith)
-order_found no_order h = passed 1 refl h
-order_found (order_by {ts = ts} {rest = rest} keys) h =
-    let e = ends rest (omega arith) in (
-      list_found IsOrderKey between.Comma order_key_at (λ x ts rest k. order_key_shorter k)
-          (length ts) EndsKey (λ ts. refl) (λ x ts rest is l ends. order_key_found is ends) keys
-          (length ts) (omega arith) (omega arith) e.no_direction e.no_comma,
-      omega arith,
-    )
+order_found {ts = ts} {rest = rest} is h =
+    let e = ends rest (omega arith) in
+    clause_found between.Order [] (λ keys. keys) (AreBy IsOrderKey) (by_at order_key_at) 1
+    (length ts) rest (λ ts. refl) h (λ keys ts are l. by_found IsOrderKey order_key_at
+    (λ x ts rest k. order_key_shorter k) EndsKey (λ ts. refl)
+    (λ x ts rest is ends. order_key_found is ends) are e.no_direction e.no_comma) is (omega arith)
 
 cond_read : (n : ℕ) (k : Clause) {c : Condition} {ts rest : Tokens}
     → IsCond (operands_in k) c ts rest → length ts ≤ n → Ends rest
-    → condition_at n k ts ≡ Some (Some c, rest)
+    → condition_at n k ts ≡ Some (c, rest)
 cond_read n k {c = c} {ts = ts} {rest = rest} is l ends =
-    ap (option_and_then (λ p. option_map (λ c. (Some c, p.1)) (condition_of p.0)))
+    ap (option_and_then (λ p. option_map (λ c. (c, p.1)) (condition_of p.0)))
     (deeper n l (cond_shorter k is) (λ m i. cond_found k is m 1 (omega arith)
     ends.name (tighter 1 2 rest (omega arith) ends.joint) i) ends.joint)
 
 having_found : {c : Option Condition} {ts rest : Tokens} → IsHaving c ts rest → (n : ℕ)
-    → length ts ≤ n → rank rest ≤ 2 → IsFound (clause_at n clause.OfGroups ts) c ts rest 3
-having_found (no_having {rest = token.Keyword keyword.Having ∷ ts}) n l h = absurd (omega arith)
-having_found no_having n l h = passed 2 refl h
-having_found (having_by {ts = ts} {rest = rest} is) n l h =
-    (cond_read n clause.OfGroups is (omega arith) (ends rest (omega arith)), omega arith)
+    → length ts ≤ n → rank rest ≤ 2 → IsFound (having_at n ts) c ts rest 3
+having_found {rest = rest} is n l h =
+    clause_found between.Having None Some (IsCond IsGroupOperand) (condition_at n clause.OfGroups)
+    2 n rest (λ ts. refl) h
+    (λ c ts is l. cond_read n clause.OfGroups is l (ends rest (omega arith))) is l
 
 keys_found : {cs : List ColumnRef} {ts rest : Tokens} → AreKeys cs ts rest → rank rest ≤ 3
     → IsFound (keys_at ts) cs ts rest 4
-keys_found (no_keys {rest = token.Keyword keyword.Group ∷ ts}) h = absurd (omega arith)
-keys_found no_keys h = passed 3 refl h
-keys_found (keys_by {ts = ts} {rest = rest} columns) h =
-    let e = ends rest (omega arith) in (
-      list_found IsColumn between.Comma column_ref_at (λ x ts rest c. column_shorter c)
-          (length ts) EndsName (λ ts. refl) (λ x ts rest is l ends. column_found is ends) columns
-          (length ts) (omega arith) (omega arith) e.name e.no_comma,
-      omega arith,
-    )
+keys_found {ts = ts} {rest = rest} is h =
+    let e = ends rest (omega arith) in
+    clause_found between.Group [] (λ keys. keys) (AreBy IsColumn) (by_at column_ref_at) 3
+    (length ts) rest (λ ts. refl) h (λ keys ts are l. by_found IsColumn column_ref_at
+    (λ x ts rest c. column_shorter c) EndsName (λ ts. refl)
+    (λ x ts rest is ends. column_found is ends) are e.name e.no_comma) is (omega arith)
 
 filter_found : {c : Option Condition} {ts rest : Tokens} → IsFilter c ts rest → (n : ℕ)
-    → length ts ≤ n → rank rest ≤ 4 → IsFound (clause_at n clause.OfRows ts) c ts rest 5
-filter_found (no_filter {rest = token.Keyword keyword.Where ∷ ts}) n l h = absurd (omega arith)
-filter_found no_filter n l h = passed 4 refl h
-filter_found (filter_by {ts = ts} {rest = rest} is) n l h =
-    (cond_read n clause.OfRows is (omega arith) (ends rest (omega arith)), omega arith)
+    → length ts ≤ n → rank rest ≤ 4 → IsFound (filter_at n ts) c ts rest 5
+filter_found {rest = rest} is n l h =
+    clause_found between.Where None Some (IsCond IsOperand) (condition_at n clause.OfRows)
+    4 n rest (λ ts. refl) h
+    (λ c ts is l. cond_read n clause.OfRows is l (ends rest (omega arith))) is l
 
 join_found : {j : Option Join} {ts rest : Tokens} → IsJoin j ts rest → rank rest ≤ 5
     → IsFound (join_at ts) j ts rest 6
 join_found (no_join {rest = token.Keyword keyword.Join ∷ ts}) h = absurd (omega arith)
 join_found (no_join {rest = token.Keyword keyword.Inner ∷ ts}) h = absurd (omega arith)
-join_found no_join h = passed 5 refl h
+join_found no_join h = (refl, omega (arith, h))
 join_found (joined_with {rest = rest} (table_on is pairs)) h =
     let e = ends rest (omega arith) in
     (ap some_join (joined_found (table_on is pairs) e.name e.no_and), omega arith)
@@ -286,17 +332,17 @@ module _ where
 
   filter_within : {f : Option Condition} {ts rest : Tokens} → IsFilter f ts rest
       → length rest ≤ length ts
-  filter_within no_filter = omega arith
-  filter_within (filter_by c) = omega (arith, cond_shorter clause.OfRows c)
+  filter_within no_clause = omega arith
+  filter_within (clause_of c) = omega (arith, cond_shorter clause.OfRows c)
 
   keys_within : {cs : List ColumnRef} {ts rest : Tokens} → AreKeys cs ts rest
       → length rest ≤ length ts
   keys_within a = grind (arith, list_shorter, column_shorter)
 
 query_found : {q : QueryTree} {ts rest : Tokens} → IsQuery q ts rest → (n : ℕ) → length ts ≤ n
-    → rank rest ≤ 0 → is_end rest ≡ true → query_at n ts ≡ Some q
+    → rank rest ≤ 0 → query_at n ts ≡ Some (q, rest)
 query_found (select_query items (source_of is join filter) (shaping_of keys having order limit))
-    n l h end =
+    n l h =
     let ls = limit_found limit h in
     let os = order_found order ls.1 in
     let a = selection_shorter items in
@@ -311,20 +357,21 @@ query_found (select_query items (source_of is join filter) (shaping_of keys havi
     let s =
     selection_found items n (omega arith) (record { name = refl; joint = refl; alias = refl })
     refl in
-    rw (s, table_found is e.name, js.0, fs.0, ks.0, hs.0, os.0, ls.0, end) refl
+    rw (s, table_found is e.name, js.0, fs.0, ks.0, hs.0, os.0, ls.0) refl
+
+abbrev ended : QueryTree → Tokens → Option QueryTree
+ended q rest = cond (is_end rest) (Some q) None
 
 pub text_found : {q : QueryTree} {ts : Tokens} → IsText q ts → (n : ℕ) → length ts ≤ n
-    → query_at n ts ≡ Some q
-text_found x0 n l = grind (arith, query_found)
+    → text_query n ts ≡ Some q
+text_found (bare q) n l = ap (λ r. reads r ended) (query_found q n l (omega arith))
+text_found (with_semicolon q) n l = ap (λ r. reads r ended) (query_found q n l (omega arith))
 
 -- ---- what is read is spelled so
 
 -- ---- lists
 
-behind_is : (s : Separator) (ts rest : Tokens) → behind s ts ≡ Some rest → ts ≡ mark s ∷ rest
-behind_is s ts rest h = grind arith
-
-module _ {X : Type 0} (Is : X → Tokens → Tokens → Type 0) (s : Separator)
+module _ {X : Type 0} (Is : X → Tokens → Tokens → Type 0) (s : Mark)
     (read : Tokens → Reading X) (each : (ts : Tokens) → IfSome (read ts) (λ r. Is r.0 ts r.1)) where
   abbrev Listed : Tokens → List X × Tokens → Type 0
   Listed ts r = AreListed Is (mark s) r.0 ts r.1
@@ -431,34 +478,52 @@ truth_spelled : (k : Clause) (v : Parsed) (ts rest : Tokens) → IsPart k 1 v ts
     → IfSome (condition_of v) (λ c. IsCond (operands_in k) c ts rest)
 truth_spelled k v ts rest is = grind arith
 
-cond_spelled : (n : ℕ) (k : Clause) (ts : Tokens) (Is : Option Condition → Tokens → Type 0)
-    → ((c : Condition) (rest : Tokens) → IsCond (operands_in k) c ts rest → Is (Some c) rest)
-    → IfSome (condition_at n k ts) (λ r. Is r.0 r.1)
-cond_spelled n k ts Is by =
+cond_spelled : (n : ℕ) (k : Clause) (ts : Tokens)
+    → IfSome (condition_at n k ts) (λ r. IsCond (operands_in k) r.0 ts r.1)
+cond_spelled n k ts =
     grind (arith, bind, map_some, truth_spelled, part_spelled n k 1 ts (omega arith))
 
-filter_spelled : (n : ℕ) (ts : Tokens)
-    → IfSome (clause_at n clause.OfRows ts) (λ r. IsFilter r.0 ts r.1)
-filter_spelled n (token.Keyword keyword.Where ∷ ts) =
-    cond_spelled n clause.OfRows ts
-    (λ f rest. IsFilter f (token.Keyword keyword.Where ∷ ts) rest) (λ c rest is. filter_by is)
-filter_spelled n _ = no_filter
+-- ---- clauses
 
-having_spelled : (n : ℕ) (ts : Tokens)
-    → IfSome (clause_at n clause.OfGroups ts) (λ r. IsHaving r.0 ts r.1)
-having_spelled n (token.Keyword keyword.Having ∷ ts) =
-    cond_spelled n clause.OfGroups ts
-    (λ f rest. IsHaving f (token.Keyword keyword.Having ∷ ts) rest) (λ c rest is. having_by is)
-having_spelled n _ = no_having
+module _ {A X : Type 0} (m : Mark) (nothing : A) (some : X → A)
+    (Is : X → Tokens → Tokens → Type 0) (read : Tokens → Reading X)
+    (each : (ts : Tokens) → IfSome (read ts) (λ r. Is r.0 ts r.1)) where
+  abbrev IsSpelled : Tokens → A × Tokens → Type 0
+  IsSpelled ts r = IsClause (mark m) nothing some Is r.0 ts r.1
 
--- ---- groups, order and limit
+  clause_spelled : (ts : Tokens) → IfSome (clause_at m nothing some read ts) (IsSpelled ts)
+  clause_spelled ts = go (behind m ts) refl
+    where
+      go : (o : Option Tokens) → behind m ts ≡ o
+          → IfSome (clause_behind nothing some read ts o) (IsSpelled ts)
+      go None e = no_clause
+      go (Some rest) e =
+          rw (behind_is m ts rest e) (map_some (λ r. Is r.0 rest r.1)
+          (IsSpelled (mark m ∷ rest)) (λ r. (some r.0, r.1)) (read rest) (each rest)
+          (λ r is. clause_of is))
+
+by_spelled : {X : Type 0} (Is : X → Tokens → Tokens → Type 0) (read : Tokens → Reading X)
+    → ((ts : Tokens) → IfSome (read ts) (λ r. Is r.0 ts r.1)) → (ts : Tokens)
+    → IfSome (by_at read ts) (λ r. AreBy Is r.0 ts r.1)
+by_spelled Is read each (token.Keyword keyword.By ∷ ts) =
+    IfSome_then (list_at read between.Comma (length ts) ts)
+    (list_spelled Is between.Comma read each (length ts) ts) (λ r are. listed_by are)
+by_spelled Is read each _ = grind arith
+
+filter_spelled : (n : ℕ) (ts : Tokens) → IfSome (filter_at n ts) (λ r. IsFilter r.0 ts r.1)
+filter_spelled n ts =
+    clause_spelled between.Where None Some (IsCond IsOperand) (condition_at n clause.OfRows)
+    (cond_spelled n clause.OfRows) ts
+
+having_spelled : (n : ℕ) (ts : Tokens) → IfSome (having_at n ts) (λ r. IsHaving r.0 ts r.1)
+having_spelled n ts =
+    clause_spelled between.Having None Some (IsCond IsGroupOperand)
+    (condition_at n clause.OfGroups) (cond_spelled n clause.OfGroups) ts
 
 keys_spelled : (ts : Tokens) → IfSome (keys_at ts) (λ r. AreKeys r.0 ts r.1)
-keys_spelled (token.Keyword keyword.Group ∷ token.Keyword keyword.By ∷ ts) =
-    IfSome_then (columns_at ts) (list_spelled IsColumn between.Comma column_ref_at column_spelled
-    (length ts) ts) (λ r are. keys_by are)
-keys_spelled (token.Keyword keyword.Group ∷ _) = tt
-keys_spelled _ = no_keys
+keys_spelled ts =
+    clause_spelled between.Group [] (λ keys. keys) (AreBy IsColumn) (by_at column_ref_at)
+    (by_spelled IsColumn column_ref_at column_spelled) ts
 
 direction_spelled : (name : List ℕ) (ts : Tokens) → IsOrderKey (record
     { name = name; descending = (direction_at ts).0 }) (token.Name name ∷ ts) (direction_at ts).1
@@ -468,20 +533,25 @@ order_key_spelled : (ts : Tokens) → IfSome (order_key_at ts) (λ r. IsOrderKey
 order_key_spelled ts = grind (arith, direction_spelled)
 
 order_spelled : (ts : Tokens) → IfSome (order_at ts) (λ r. IsOrder r.0 ts r.1)
-order_spelled (token.Keyword keyword.Order ∷ token.Keyword keyword.By ∷ ts) =
-    IfSome_then (order_keys_at ts) (list_spelled IsOrderKey between.Comma order_key_at
-    order_key_spelled (length ts) ts) (λ r are. order_by are)
-order_spelled (token.Keyword keyword.Order ∷ _) = tt
-order_spelled _ = no_order
+order_spelled ts =
+    clause_spelled between.Order [] (λ keys. keys) (AreBy IsOrderKey) (by_at order_key_at)
+    (by_spelled IsOrderKey order_key_at order_key_spelled) ts
+
+number_spelled : (ts : Tokens) → IfSome (number_at ts) (λ r. IsNumber r.0 ts r.1)
+number_spelled (token.Number n ∷ ts) = number_of
+number_spelled _ = tt
+
+span_spelled : (ts : Tokens) → IfSome (span_at ts) (λ r. IsSpan r.0 ts r.1)
+span_spelled (token.Number n ∷ ts) =
+    map_some _ _ _ (offset_at ts)
+    (clause_spelled between.Offset 0 (λ skip. skip) IsNumber number_at number_spelled ts)
+    (λ m is. span_of is)
+span_spelled _ = tt
 
 limit_spelled : (ts : Tokens) → IfSome (limit_at ts) (λ r. IsLimit r.0 ts r.1)
-limit_spelled ts = grind (arith, rows_behind, first_rows, no_limit)
+limit_spelled ts = clause_spelled between.Limit None Some IsSpan span_at span_spelled ts
 
 -- ---- queries
-
-ended_spelled : (q : Option Span → QueryTree) (l : Option Span) (ts rest : Tokens)
-    → IsQuery (q l) ts rest → IfSome (cond (is_end rest) (Some l) None) (λ l. IsText (q l) ts)
-ended_spelled q l ts rest is = grind (arith, bare, with_semicolon)
 
 data IsFrom : TableRef → Tokens → Tokens → Type 0 where
   from_table : {t : TableRef} {ts rest : Tokens} → IsTable t ts rest
@@ -498,22 +568,28 @@ whole : {q : QueryTree} {ts a b c d e f g h : Tokens} → IsSelection q.items ts
 whole items (from_table table) join filter keys having order limit =
     select_query items (source_of table join filter) (shaping_of keys having order limit)
 
-pub text_spelled : (n : ℕ) (ts : Tokens) → IfSome (query_at n ts) (λ q. IsText q ts)
-text_spelled n (token.Keyword keyword.Select ∷ ts) =
+query_spelled : (n : ℕ) (ts : Tokens) → IfSome (query_at n ts) (λ q. IsQuery q.0 ts q.1)
+query_spelled n (token.Keyword keyword.Select ∷ ts) =
     bind _ _ _ (selection_at n ts) (selection_spelled n ts) (λ s items.
     bind _ _ _ (from_at s.1) (from_spelled s.1) (λ t table.
     bind _ _ _ (join_at t.1) (join_spelled t.1) (λ j join.
-    bind _ _ _ (clause_at n clause.OfRows j.1) (filter_spelled n j.1) (λ f filter.
-    let whole_ts = token.Keyword keyword.Select ∷ ts in
+    bind _ _ _ (filter_at n j.1) (filter_spelled n j.1) (λ f filter.
     let query = query_of s.0 t.0 j.0 f.0 in
-    let Spelled = λ (e : Ending). IsText (query e) whole_ts in
-    map_some Spelled (λ q. IsText q whole_ts) query (ending_at n f.1)
+    let Spelled = λ (e : Ending × Tokens). IsQuery (query e.0) (token.Keyword keyword.Select ∷ ts)
+    e.1 in
+    map_some Spelled (λ q. IsQuery q.0 (token.Keyword keyword.Select ∷ ts) q.1)
+    (λ e. (query e.0, e.1)) (ending_at n f.1)
     (bind _ Spelled _ (keys_at f.1) (keys_spelled f.1) (λ k keys.
-    bind _ Spelled _ (clause_at n clause.OfGroups k.1) (having_spelled n k.1) (λ h having.
+    bind _ Spelled _ (having_at n k.1) (having_spelled n k.1) (λ h having.
     bind _ Spelled _ (order_at h.1) (order_spelled h.1) (λ o order.
-    let ended : Option Span → Ending = λ l. (k.0, h.0, o.0, l) in
-    map_some (λ l. Spelled (ended l)) Spelled ended (span_at_end o.1)
-    (bind _ _ _ (limit_at o.1) (limit_spelled o.1) (λ l limit.
-    ended_spelled (λ x. query (ended x)) l.0 whole_ts l.1
-    (whole items table join filter keys having order limit))) (λ l is. is))))) (λ e is. is)))))
-text_spelled n _ = tt
+    map_some _ Spelled (λ l. ((k.0, h.0, o.0, l.0), l.1)) (limit_at o.1) (limit_spelled o.1)
+    (λ l limit. whole items table join filter keys having order limit))))) (λ e is. is)))))
+query_spelled n _ = tt
+
+ended_spelled : (q : QueryTree) (ts rest : Tokens) → IsQuery q ts rest
+    → IfSome (ended q rest) (λ q. IsText q ts)
+ended_spelled q ts rest is = grind (arith, bare, with_semicolon)
+
+pub text_spelled : (n : ℕ) (ts : Tokens) → IfSome (text_query n ts) (λ q. IsText q ts)
+text_spelled n ts =
+    bind _ _ _ (query_at n ts) (query_spelled n ts) (λ q is. ended_spelled q.0 ts q.1 is)

@@ -1,5 +1,5 @@
 -- What the reading of a text's tokens says of the text.
-use Rattle.sql_text.proofs.Imports.{◌≡◌, ℕ, ◌≤◌, false, List, length, Some, None, sym, ◌∙◌, arith, nat_lt, same_Some, none-some, Query, tokens_of, query_tree, Tokens, IsText, Spells, ParseError, Fails, query_at, token_refusal, early_refusal, IsRefused, IsReadFrom, refusal_of}
+use Rattle.sql_text.proofs.Imports.{◌≡◌, ℕ, ◌≤◌, false, List, length, Some, None, sym, ◌∙◌, arith, nat_lt, same_Some, none-some, Query, tokens_of, query_tree, Tokens, IsText, Spells, ParseError, Fails, text_query, token_refusal, early_refusal, IsRefused, IsReadFrom, refusal_of}
 use Rattle.sql_text.proofs.QueryTexts.{text_found, text_spelled}
 
 -- the tokens of a spelled text are spelled
@@ -9,7 +9,7 @@ spelled_at q text ts are s = grind arith
 
 -- what a spelled text is read as
 read_at : (q : Query) (text : List ℕ) (ts : Tokens) → tokens_of text ≡ Some ts → Spells q text
-    → query_at (length ts) ts ≡ Some (query_tree q)
+    → text_query (length ts) ts ≡ Some (query_tree q)
 read_at q text ts are s = text_found (spelled_at q text ts are s) (length ts) (omega arith)
 
 not_long : (n : ℕ) → n ≤ 65536 → nat_lt 65536 n ≡ false
@@ -21,13 +21,13 @@ early_is text ts short are = grind arith
 
 pub is_read : (q : Query) (text : List ℕ) (ts : Tokens) → length text ≤ 65536
     → tokens_of text ≡ Some ts → token_refusal ts ≡ None
-    → query_at (length ts) ts ≡ Some (query_tree q) → IsReadFrom q text
+    → text_query (length ts) ts ≡ Some (query_tree q) → IsReadFrom q text
 is_read q text ts short are none read =
     grind (arith, text_spelled (length ts) ts, early_is text ts short are)
 
 pub is_refused : (e : ParseError) (text : List ℕ) (ts : Tokens) → length text ≤ 65536
     → tokens_of text ≡ Some ts → token_refusal ts ≡ None
-    → Fails e (query_at (length ts) ts) → IsRefused (refusal_of e) text
+    → Fails e (text_query (length ts) ts) → IsRefused (refusal_of e) text
 is_refused e text ts short are none fails = grind (arith, early_is, none-some, read_at)
 
 pub one_tree : (text : List ℕ) (p q : Query) → Spells p text → Spells q text

@@ -1,13 +1,13 @@
 -- How parts of expressions and conditions are read, from the left.
 use Rattle.std.specs.Prelude.{ℕ, zero, suc, true, false, nat_le, if◌then◌else◌, List, [], ◌∷◌, length, Option, Some, None, option_map, option_and_then}
-use Rattle.query_model.specs.Formulas.{column, number, arith, formula}
+use Rattle.query_model.specs.Formulas.{column, number, arith, call_form, cond_form, formula}
 use Rattle.query_model.specs.declared.query.ArithOp.{ArithOp}
 use Rattle.query_model.specs.declared.query.AggOp.{AggOp}
 use Rattle.query_model.specs.declared.query.ColumnRef.{ColumnRef}
 use Rattle.query_model.specs.declared.query.ArithOp.TheVariants as op
 use Rattle.query_model.specs.declared.query.AggOp.TheVariants as agg
 use Rattle.query_model.specs.declared.query.CompareOp.TheVariants as order
-use Rattle.sql_grammar.specs.Names.{aggregate_of, Expression, CallTree, Side, plain, text, call, Condition, compare, both, either, negated, call_tree, condition}
+use Rattle.sql_grammar.specs.Names.{aggregate_of, Expression, CallTree, Side, plain, text, call, Condition, compare, both, either, negated}
 use Rattle.sql_grammar.specs.declared.Token.{Token}
 use Rattle.sql_grammar.specs.declared.Keyword.{Keyword}
 use Rattle.sql_grammar.specs.declared.Sign.{Sign}
@@ -31,8 +31,8 @@ pub data Parsed : Type 0 where
 abbrev pub parsed : Part → Parsed
 parsed (part'.Plain e) = expression (formula e.value)
 parsed (part'.Text t) = string t
-parsed (part'.Call c) = aggregate (call_tree c.value)
-parsed (part'.Condition c) = truth (condition c.value)
+parsed (part'.Call c) = aggregate (call_form c.value)
+parsed (part'.Condition c) = truth (cond_form c.value)
 
 -- what is read, and the tokens behind it
 abbrev pub Reading : Type 0 → Type 0

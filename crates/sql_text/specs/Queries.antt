@@ -9,13 +9,13 @@ use Rattle.query_model.specs.declared.query.OrderKey.{OrderKey}
 use Rattle.query_model.specs.declared.query.Span.{Span}
 use Rattle.query_model.specs.declared.query.TableRef.{TableRef}
 use Rattle.query_model.specs.declared.query.TableRef.TheVariants as table
-use Rattle.sql_grammar.specs.Trees.{Condition, ItemWhat, plain_item, call_item, ItemTree, Selection, star, listed, QueryTree}
+use Rattle.sql_grammar.specs.QueryTypes.{Condition, ItemWhat, plain_item, call_item, ItemTree, Selection, star, listed, QueryTree}
 use Rattle.sql_grammar.specs.declared.Token.{Token}
 use Rattle.sql_grammar.specs.declared.Token.TheVariants as token
 use Rattle.sql_grammar.specs.declared.Keyword.TheVariants as keyword
 use Rattle.sql_grammar.specs.declared.Sign.TheVariants as sign
-use Rattle.sql_text.specs.declared.lists.Separator.{Separator}
-use Rattle.sql_text.specs.declared.lists.Separator.TheVariants as between
+use Rattle.sql_text.specs.declared.lists.Mark.{Mark}
+use Rattle.sql_text.specs.declared.lists.Mark.TheVariants as mark
 use Rattle.sql_text.specs.declared.part.Clause.{Clause}
 use Rattle.sql_text.specs.declared.part.Clause.TheVariants as clause
 use Rattle.sql_text.specs.Parts.{Reading, plain_of, condition_of, dotted, called, call_at, part_at}
@@ -27,15 +27,22 @@ abbrev pub list_behind : {X : Type 0} → (List Token → Reading (List X)) → 
 list_behind more x ts None = Some (x ∷ [], ts)
 list_behind more x ts (Some rest) = option_map (λ xs. (x ∷ xs.0, xs.1)) (more rest)
 
--- behind the separator
-abbrev pub behind : Separator → List Token → Option (List Token)
-behind between.Comma (token.Sign sign.Comma ∷ ts) = Some ts
-behind between.And (token.Keyword keyword.And ∷ ts) = Some ts
+-- the tokens behind a mark
+abbrev pub behind : Mark → List Token → Option (List Token)
+behind mark.Comma (token.Sign sign.Comma ∷ ts) = Some ts
+behind mark.And (token.Keyword keyword.And ∷ ts) = Some ts
+behind mark.Where (token.Keyword keyword.Where ∷ ts) = Some ts
+behind mark.Group (token.Keyword keyword.Group ∷ ts) = Some ts
+behind mark.By (token.Keyword keyword.By ∷ ts) = Some ts
+behind mark.Having (token.Keyword keyword.Having ∷ ts) = Some ts
+behind mark.Order (token.Keyword keyword.Order ∷ ts) = Some ts
+behind mark.Limit (token.Keyword keyword.Limit ∷ ts) = Some ts
+behind mark.Offset (token.Keyword keyword.Offset ∷ ts) = Some ts
 behind _ _ = None
 
 -- What is read again and again as long as a separator stands behind it. The last number bounds the
 -- turns.
-unfoldable pub list_at : {X : Type 0} → (List Token → Reading X) → Separator → ℕ → List Token
+unfoldable pub list_at : {X : Type 0} → (List Token → Reading X) → Mark → ℕ → List Token
     → Reading (List X)
 list_at read s zero ts = None
 list_at read s (suc turns) ts =
@@ -77,7 +84,7 @@ abbrev pub item_at : ℕ → List Token → Reading ItemTree
 item_at depth ts = option_and_then (λ w. with_alias w.0 (alias_at w.1)) (what_at depth ts)
 
 abbrev pub items_at : ℕ → List Token → Reading (List ItemTree)
-items_at depth ts = list_at (item_at depth) between.Comma (length ts) ts
+items_at depth ts = list_at (item_at depth) mark.Comma (length ts) ts
 
 abbrev pub selection_at : ℕ → List Token → Reading Selection
 selection_at depth (token.Sign sign.Star ∷ ts) = Some (star, ts)
@@ -121,7 +128,7 @@ abbrev pub pair_at : List Token → Reading NamePair
 pair_at ts = option_and_then (λ l. pair_behind l.0 (after_equal l.1)) (column_ref_at ts)
 
 abbrev pub pairs_at : List Token → Reading (List NamePair)
-pairs_at ts = list_at pair_at between.And (length ts) ts
+pairs_at ts = list_at pair_at mark.And (length ts) ts
 
 abbrev pub join_of : TableRef → Reading (List NamePair) → Reading Join
 join_of t read = option_map (λ ps. (record { table = t; pairs = ps.0 }, ps.1)) read
@@ -144,30 +151,40 @@ join_at (token.Keyword keyword.Inner ∷ token.Keyword keyword.Join ∷ ts) =
 join_at (token.Keyword keyword.Inner ∷ ts) = None
 join_at ts = Some (None, ts)
 
+-- ---- clauses that may be left out
+
+-- What stands behind a clause's keyword, or nothing where the keyword doesn't stand.
+abbrev pub clause_behind : {A X : Type 0} → A → (X → A) → (List Token → Reading X) → List Token
+    → Option (List Token) → Reading A
+clause_behind nothing some read ts None = Some (nothing, ts)
+clause_behind nothing some read ts (Some rest) = option_map (λ r. (some r.0, r.1)) (read rest)
+
+abbrev pub clause_at : {A X : Type 0} → Mark → A → (X → A) → (List Token → Reading X) → List Token
+    → Reading A
+clause_at m nothing some read ts = clause_behind nothing some read ts (behind m ts)
+
+-- the list behind BY
+abbrev pub by_at : {X : Type 0} → (List Token → Reading X) → List Token → Reading (List X)
+by_at read ts = option_and_then (λ ts. list_at read mark.Comma (length ts) ts) (behind mark.By ts)
+
 -- ---- conditions
 
 -- behind WHERE or HAVING
-abbrev pub condition_at : ℕ → Clause → List Token → Reading (Option Condition)
+abbrev pub condition_at : ℕ → Clause → List Token → Reading Condition
 condition_at depth k ts =
-    option_and_then (λ p. option_map (λ c. (Some c, p.1)) (condition_of p.0)) (part_at depth k 1 ts)
+    option_and_then (λ p. option_map (λ c. (c, p.1)) (condition_of p.0)) (part_at depth k 1 ts)
 
--- WHERE or HAVING, and the condition behind it
-abbrev pub clause_at : ℕ → Clause → List Token → Reading (Option Condition)
-clause_at depth clause.OfRows (token.Keyword keyword.Where ∷ ts) =
-    condition_at depth clause.OfRows ts
-clause_at depth clause.OfGroups (token.Keyword keyword.Having ∷ ts) =
-    condition_at depth clause.OfGroups ts
-clause_at depth k ts = Some (None, ts)
+abbrev pub filter_at : ℕ → List Token → Reading (Option Condition)
+filter_at depth ts = clause_at mark.Where None Some (condition_at depth clause.OfRows) ts
+
+abbrev pub having_at : ℕ → List Token → Reading (Option Condition)
+having_at depth ts =
+    clause_at mark.Having None Some (condition_at depth clause.OfGroups) ts
 
 -- ---- groups, order and limit
 
-abbrev pub columns_at : List Token → Reading (List ColumnRef)
-columns_at ts = list_at column_ref_at between.Comma (length ts) ts
-
 abbrev pub keys_at : List Token → Reading (List ColumnRef)
-keys_at (token.Keyword keyword.Group ∷ token.Keyword keyword.By ∷ ts) = columns_at ts
-keys_at (token.Keyword keyword.Group ∷ ts) = None
-keys_at ts = Some ([], ts)
+keys_at ts = clause_at mark.Group [] (λ keys. keys) (by_at column_ref_at) ts
 
 abbrev pub direction_at : List Token → Bool × List Token
 direction_at (token.Keyword keyword.Asc ∷ ts) = (false, ts)
@@ -180,31 +197,24 @@ order_key name d = (record { name = name; descending = d.0 }, d.1)
 abbrev pub order_key_at : List Token → Reading OrderKey
 order_key_at ts = option_map (λ n. order_key n.0 (direction_at n.1)) (name_at ts)
 
-abbrev pub order_keys_at : List Token → Reading (List OrderKey)
-order_keys_at ts = list_at order_key_at between.Comma (length ts) ts
-
 abbrev pub order_at : List Token → Reading (List OrderKey)
-order_at (token.Keyword keyword.Order ∷ token.Keyword keyword.By ∷ ts) = order_keys_at ts
-order_at (token.Keyword keyword.Order ∷ ts) = None
-order_at ts = Some ([], ts)
+order_at ts = clause_at mark.Order [] (λ keys. keys) (by_at order_key_at) ts
 
-abbrev pub span_of : ℕ → ℕ → Option Span
-span_of count skip = Some (record { count = count; skip = skip })
+abbrev pub number_at : List Token → Reading ℕ
+number_at (token.Number n ∷ ts) = Some (n, ts)
+number_at _ = None
 
-abbrev pub offset_at : ℕ → List Token → Reading (Option Span)
-offset_at count (token.Keyword keyword.Offset ∷ token.Number n ∷ ts) = Some (span_of count n, ts)
-offset_at count (token.Keyword keyword.Offset ∷ ts) = None
-offset_at count ts = Some (span_of count 0, ts)
+abbrev pub offset_at : List Token → Reading ℕ
+offset_at ts = clause_at mark.Offset 0 (λ skip. skip) number_at ts
+
+abbrev pub span_with : ℕ → Reading ℕ → Reading Span
+span_with count read = option_map (λ m. (record { count = count; skip = m.0 }, m.1)) read
+
+abbrev pub span_at : List Token → Reading Span
+span_at ts = option_and_then (λ n. span_with n.0 (offset_at n.1)) (number_at ts)
 
 abbrev pub limit_at : List Token → Reading (Option Span)
-limit_at (token.Keyword keyword.Limit ∷ token.Number n ∷ ts) = offset_at n ts
-limit_at (token.Keyword keyword.Limit ∷ ts) = None
-limit_at ts = Some (None, ts)
-
-abbrev pub is_end : List Token → Bool
-is_end [] = true
-is_end (token.Sign sign.Semicolon ∷ []) = true
-is_end _ = false
+limit_at ts = clause_at mark.Limit None Some span_at ts
 
 -- ---- queries
 
@@ -212,19 +222,15 @@ is_end _ = false
 abbrev pub reads : {A B : Type 0} → Reading A → (A → List Token → Option B) → Option B
 reads read more = option_and_then (λ r. more r.0 r.1) read
 
--- LIMIT at the end of the text
-abbrev pub span_at_end : List Token → Option (Option Span)
-span_at_end ts = reads (limit_at ts) (λ l ts. if is_end ts then Some l else None)
-
 -- groups, their condition, the order and the span
 abbrev pub Ending : Type 0
 Ending = List ColumnRef × Option Condition × List OrderKey × Option Span
 
--- GROUP BY and the clauses behind it, up to the end of the text
-abbrev pub ending_at : ℕ → List Token → Option Ending
+-- GROUP BY and the clauses behind it
+abbrev pub ending_at : ℕ → List Token → Reading Ending
 ending_at depth ts =
-    reads (keys_at ts) (λ k ts. reads (clause_at depth clause.OfGroups ts) (λ h ts.
-    reads (order_at ts) (λ o ts. option_map (λ l. (k, h, o, l)) (span_at_end ts))))
+    reads (keys_at ts) (λ k ts. reads (having_at depth ts) (λ h ts.
+    reads (order_at ts) (λ o ts. option_map (λ l. ((k, h, o, l.0), l.1)) (limit_at ts))))
 
 -- the query of these rows, with what is made of them
 abbrev pub query_of : Selection → TableRef → Option Join → Option Condition → Ending → QueryTree
@@ -240,16 +246,27 @@ query_of s t j f e = record {
 }
 
 abbrev pub shaped : ℕ → Selection → TableRef → Option Join → Option Condition → List Token
-    → Option QueryTree
-shaped depth s t j f ts = option_map (query_of s t j f) (ending_at depth ts)
+    → Reading QueryTree
+shaped depth s t j f ts = option_map (λ e. (query_of s t j f e.0, e.1)) (ending_at depth ts)
 
 abbrev pub after_select : List Token → Option (List Token)
 after_select (token.Keyword keyword.Select ∷ ts) = Some ts
 after_select _ = None
 
--- the query that the tokens are, all of them
-abbrev pub query_at : ℕ → List Token → Option QueryTree
+-- the query at the front
+abbrev pub query_at : ℕ → List Token → Reading QueryTree
 query_at depth ts = option_and_then (λ ts. reads (selection_at depth ts) (λ s ts.
     reads (from_at ts) (λ t ts. reads (join_at ts) (λ j ts.
-    reads (clause_at depth clause.OfRows ts) (λ f ts. shaped depth s t j f ts)))))
+    reads (filter_at depth ts) (λ f ts. shaped depth s t j f ts)))))
     (after_select ts)
+
+-- ---- texts
+
+abbrev pub is_end : List Token → Bool
+is_end [] = true
+is_end (token.Sign sign.Semicolon ∷ []) = true
+is_end _ = false
+
+-- the query that the tokens of a text are, all of them
+abbrev pub text_query : ℕ → List Token → Option QueryTree
+text_query depth ts = reads (query_at depth ts) (λ q rest. if is_end rest then Some q else None)

@@ -1,13 +1,13 @@
 // Lists: items, columns, pairs and keys of an order.
 ghost use Rattle.std.specs.Prelude.{◌≡◌, ◌++◌, ◌∷◌, [], ℕ, length, List as Seq, map, Some, None, option_map, OnOk, IfOk, refl};
 ghost use Rattle.std.proofs.lemmas.List.{map-append};
-ghost use Rattle.sql_grammar.specs.Trees.{ItemTree, item_tree, item_what, selection};
+ghost use Rattle.query_model.specs.Trees.{ItemTree, item_tree, item_what, selection};
 ghost use Rattle.sql_grammar.specs.declared.Token.{Token as Piece};
 ghost use Rattle.query_model.specs.declared.query.ColumnRef.{ColumnRef as Column};
 ghost use Rattle.query_model.specs.declared.query.OrderKey.{OrderKey as Key};
 ghost use Rattle.sql_text.specs.Answers.{Gives};
 ghost use Rattle.sql_text.specs.Parts.{Reading};
-ghost use Rattle.sql_text.specs.Queries.{behind, list_at, alias_at, call_front, plain_what, what_at, item_at, selection_at, column_ref_at, direction_at, order_key_at};
+ghost use Rattle.sql_text.specs.Queries.{behind, by_at, list_at, alias_at, call_front, plain_what, what_at, item_at, selection_at, column_ref_at, direction_at, order_key_at};
 
 use crate::parse_error::ParseError;
 use crate::part::{Clause, EXPRESSION, call_at, called, part_at, plain_of};
@@ -17,19 +17,34 @@ use query_model::query::{AggOp, ColumnRef, Item, ItemKind, Items, OrderKey};
 use sql_grammar::{Keyword, Sign, Token};
 use std::alloc::Global;
 
-/// What stands between the elements of a list.
+/// A token that tells what stands behind it: another element of a list, or a clause.
 #[derive(Clone, Copy)]
-pub enum Separator {
+pub enum Mark {
     Comma,
     And,
+    Where,
+    Group,
+    By,
+    Having,
+    Order,
+    Limit,
+    Offset,
 }
 
-fn behind(separator: Separator, tokens: &[Token]) -> Option<&[Token]>
-    ensures { option_map (λ rest. rest.now) result ≡ behind separator tokens.now }
+/// The tokens behind the mark, where they begin with it.
+pub fn behind(mark: Mark, tokens: &[Token]) -> Option<&[Token]>
+    ensures { option_map (λ rest. rest.now) result ≡ behind mark tokens.now }
 {
-    match (separator, tokens.split_first()?) {
-        (Separator::Comma, (Token::Sign(Sign::Comma), rest)) => Some(rest),
-        (Separator::And, (Token::Keyword(Keyword::And), rest)) => Some(rest),
+    match (mark, tokens.split_first()?) {
+        (Mark::Comma, (Token::Sign(Sign::Comma), rest)) => Some(rest),
+        (Mark::And, (Token::Keyword(Keyword::And), rest)) => Some(rest),
+        (Mark::Where, (Token::Keyword(Keyword::Where), rest)) => Some(rest),
+        (Mark::Group, (Token::Keyword(Keyword::Group), rest)) => Some(rest),
+        (Mark::By, (Token::Keyword(Keyword::By), rest)) => Some(rest),
+        (Mark::Having, (Token::Keyword(Keyword::Having), rest)) => Some(rest),
+        (Mark::Order, (Token::Keyword(Keyword::Order), rest)) => Some(rest),
+        (Mark::Limit, (Token::Keyword(Keyword::Limit), rest)) => Some(rest),
+        (Mark::Offset, (Token::Keyword(Keyword::Offset), rest)) => Some(rest),
         _ => None,
     }
 }
@@ -57,7 +72,7 @@ pub trait Listed: Drop {
 /// The list at the front, and the tokens behind it. `depth` is that of `part_at`.
 pub fn list_at<T: Listed>(
     alloc: Global,
-    separator: Separator,
+    separator: Mark,
     tokens: &[Token],
     depth: usize,
 ) -> Result<(List<T>, &[Token]), ParseError>
@@ -79,6 +94,16 @@ pub fn list_at<T: Listed>(
         }
     }
     Err(ParseError::Syntax)
+}
+
+/// The list behind BY, and the tokens behind that.
+pub fn by_at<T: Listed>(alloc: Global, tokens: &[Token]) -> Result<(List<T>, &[Token]), ParseError>
+    ensures { Gives (λ p. (T.trees p.0, p.1.now)) result (by_at (T.reading 0) tokens.now) }
+{
+    match behind(Mark::By, tokens) {
+        Some(rest) => list_at(alloc, Mark::Comma, rest, 0),
+        None => Err(ParseError::Syntax),
+    }
 }
 
 fn alias_at(tokens: &[Token]) -> Result<(Option<Bytes>, &[Token]), ParseError>
@@ -162,7 +187,7 @@ pub fn selection_at(
     match tokens.split_first() {
         Some((Token::Sign(Sign::Star), rest)) => Ok((Items::Star, rest)),
         _ => {
-            let (items, rest) = list_at(alloc, Separator::Comma, tokens, depth)?;
+            let (items, rest) = list_at(alloc, Mark::Comma, tokens, depth)?;
             Ok((Items::Listed(items), rest))
         }
     }

@@ -1,8 +1,7 @@
 // Expressions and conditions.
 ghost use Rattle.std.specs.Prelude.{◌≡◌, ℕ, suc, ◌+◌, ◌<◌, ◌≤◌, length, List, Some, None, option_map, OnOk, IfOk};
-ghost use Rattle.query_model.specs.Formulas.{formula, number};
+ghost use Rattle.query_model.specs.Formulas.{call_form, cond_form, formula, number, operand_form};
 ghost use Rattle.sql_text.specs.declared.part.BinaryOperator.TheVariants.{Arith, Compare, And, Or};
-ghost use Rattle.sql_grammar.specs.Trees.{side, call_tree, condition, condition as condition_tree};
 ghost use Rattle.sql_grammar.specs.declared.Token.{Token};
 ghost use Rattle.sql_text.specs.declared.part.Clause.{Clause as Kind};
 ghost use Rattle.sql_text.specs.Answers.{Gives};
@@ -124,7 +123,7 @@ fn next_joint(least: u8, tokens: &[Token]) -> Option<(BinaryOperator, &[Token])>
 }
 
 fn side_of(part: Part) -> Result<Operand<ColumnRef>, ParseError>
-    ensures { Gives side result (side_of (parsed part)) }
+    ensures { Gives operand_form result (side_of (parsed part)) }
 {
     match part {
         Part::Plain(e) => Ok(Operand::Plain(Box::into_inner(e))),
@@ -144,7 +143,7 @@ pub fn plain_of(part: Part) -> Result<Box<ExprOf<ColumnRef>>, ParseError>
 }
 
 pub fn condition_of(part: Part) -> Result<Box<CondOf<ColumnRef>>, ParseError>
-    ensures { Gives (λ c. condition c.value) result (condition_of (parsed part)) }
+    ensures { Gives (λ c. cond_form c.value) result (condition_of (parsed part)) }
 {
     match part {
         Part::Condition(c) => Ok(c),
@@ -159,7 +158,7 @@ fn plain_part(alloc: Global, expr: ExprOf<ColumnRef>) -> Result<Part, ParseError
 }
 
 fn condition_part(alloc: Global, condition: CondOf<ColumnRef>) -> Result<Part, ParseError>
-    ensures { Gives parsed result (Some (truth (condition_tree condition))) }
+    ensures { Gives parsed result (Some (truth (cond_form condition))) }
 {
     Ok(Part::Condition(Box::new(alloc, condition)?))
 }
@@ -281,7 +280,7 @@ fn closed_at(clause: Clause, part: Part, tokens: &[Token]) -> Result<(Part, &[To
 
 // What `count` is called with, behind the first parenthesis: nothing, or a star.
 fn count_at(tokens: &[Token]) -> Result<(AggCall<ColumnRef>, &[Token]), ParseError>
-    ensures { Gives (λ p. (call_tree p.0, p.1.now)) result (count_at tokens.now) }
+    ensures { Gives (λ p. (call_form p.0, p.1.now)) result (count_at tokens.now) }
 {
     let count = AggCall {
         op: AggOp::Count,
@@ -300,7 +299,7 @@ fn call_over(
     part: Part,
     tokens: &[Token],
 ) -> Result<(AggCall<ColumnRef>, &[Token]), ParseError>
-    ensures { Gives (λ p. (call_tree p.0, p.1.now)) result
+    ensures { Gives (λ p. (call_form p.0, p.1.now)) result
         (call_over op (Some (parsed part, tokens.now))) }
 {
     let e = plain_of(part)?;
@@ -338,7 +337,7 @@ pub fn call_at(
     tokens: &[Token],
     depth: usize,
 ) -> Result<(AggCall<ColumnRef>, &[Token]), ParseError>
-    ensures { Gives (λ p. (call_tree p.0, p.1.now)) result (call_at (part_at depth) op tokens.now) }
+    ensures { Gives (λ p. (call_form p.0, p.1.now)) result (call_at (part_at depth) op tokens.now) }
 {
     match op {
         AggOp::Count => count_at(tokens),

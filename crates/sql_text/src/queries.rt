@@ -1,16 +1,17 @@
 // Clauses and queries.
 ghost use Rattle.std.specs.Prelude.{◌≡◌, Some, None, option_map, OnOk, IfOk};
-ghost use Rattle.sql_grammar.specs.Trees.{condition, query_tree, selection};
+ghost use Rattle.query_model.specs.Formulas.{cond_form};
+ghost use Rattle.query_model.specs.Trees.{query_tree, selection};
 ghost use Rattle.sql_text.specs.Answers.{Gives};
-ghost use Rattle.sql_text.specs.Queries.{join_at, condition_at, clause_at, keys_at, order_at, offset_at, limit_at, is_end, span_at_end, ending_at, shaped, after_select, query_at};
+ghost use Rattle.sql_text.specs.Queries.{join_at, condition_at, filter_at, having_at, keys_at, order_at, number_at, offset_at, span_at, limit_at, ending_at, shaped, after_select, query_at};
 
-use crate::lists::{Separator, list_at, selection_at};
+use crate::lists::{Mark, behind, by_at, selection_at};
 use crate::parse_error::{ParseError, next_token};
 use crate::part::{CONDITION, Clause, condition_of, part_at};
 use crate::tables::{from_at, joined_table_at};
 use chunk_data::List;
 use query_model::query::{ColumnRef, CondOf, Items, Join, OrderKey, Query, Span, TableRef};
-use sql_grammar::{Keyword, Sign, Token};
+use sql_grammar::{Keyword, Token};
 use std::alloc::Global;
 
 fn join_at(alloc: Global, tokens: &[Token]) -> Result<(Option<Join>, &[Token]), ParseError>
@@ -40,103 +41,107 @@ fn condition_at(
     clause: Clause,
     tokens: &[Token],
     depth: usize,
-) -> Result<(Option<CondOf<ColumnRef>>, &[Token]), ParseError>
-    ensures { Gives (λ p. (option_map condition p.0, p.1.now)) result
-        (condition_at depth clause tokens.now) }
+) -> Result<(CondOf<ColumnRef>, &[Token]), ParseError>
+    ensures { Gives (λ p. (cond_form p.0, p.1.now)) result (condition_at depth clause tokens.now) }
 {
     let (part, rest) = part_at(alloc, clause, CONDITION, tokens, depth)?;
-    Ok((Some(Box::into_inner(condition_of(part)?)), rest))
+    Ok((Box::into_inner(condition_of(part)?), rest))
 }
 
-// WHERE or HAVING, and the condition behind it.
-fn clause_at(
+fn filter_at(
     alloc: Global,
-    clause: Clause,
     tokens: &[Token],
     depth: usize,
 ) -> Result<(Option<CondOf<ColumnRef>>, &[Token]), ParseError>
-    ensures { Gives (λ p. (option_map condition p.0, p.1.now)) result
-        (clause_at depth clause tokens.now) }
+    ensures { Gives (λ p. (option_map cond_form p.0, p.1.now)) result (filter_at depth tokens.now) }
 {
-    match (clause, tokens.split_first()) {
-        (Clause::OfRows, Some((Token::Keyword(Keyword::Where), rest))) => {
-            condition_at(alloc, clause, rest, depth)
+    match behind(Mark::Where, tokens) {
+        Some(rest) => {
+            let (condition, rest) = condition_at(alloc, Clause::OfRows, rest, depth)?;
+            Ok((Some(condition), rest))
         }
-        (Clause::OfGroups, Some((Token::Keyword(Keyword::Having), rest))) => {
-            condition_at(alloc, clause, rest, depth)
+        None => Ok((None, tokens)),
+    }
+}
+
+fn having_at(
+    alloc: Global,
+    tokens: &[Token],
+    depth: usize,
+) -> Result<(Option<CondOf<ColumnRef>>, &[Token]), ParseError>
+    ensures { Gives (λ p. (option_map cond_form p.0, p.1.now)) result (having_at depth tokens.now) }
+{
+    match behind(Mark::Having, tokens) {
+        Some(rest) => {
+            let (condition, rest) = condition_at(alloc, Clause::OfGroups, rest, depth)?;
+            Ok((Some(condition), rest))
         }
-        _ => Ok((None, tokens)),
+        None => Ok((None, tokens)),
     }
 }
 
 fn keys_at(alloc: Global, tokens: &[Token]) -> Result<(List<ColumnRef>, &[Token]), ParseError>
     ensures { Gives (λ p. (p.0, p.1.now)) result (keys_at tokens.now) }
 {
-    match tokens {
-        [
-            Token::Keyword(Keyword::Group),
-            Token::Keyword(Keyword::By),
-            ..
-        ] => { list_at(alloc, Separator::Comma, &tokens[2..], 0) }
-        [Token::Keyword(Keyword::Group), ..] => Err(ParseError::Syntax),
-        _ => Ok((List::new(alloc), tokens)),
+    match behind(Mark::Group, tokens) {
+        Some(rest) => {
+            let (keys, rest) = by_at(alloc, rest)?;
+            Ok((keys, rest))
+        }
+        None => Ok((List::new(alloc), tokens)),
     }
 }
 
 fn order_at(alloc: Global, tokens: &[Token]) -> Result<(List<OrderKey>, &[Token]), ParseError>
     ensures { Gives (λ p. (p.0, p.1.now)) result (order_at tokens.now) }
 {
-    match tokens {
-        [
-            Token::Keyword(Keyword::Order),
-            Token::Keyword(Keyword::By),
-            ..
-        ] => { list_at(alloc, Separator::Comma, &tokens[2..], 0) }
-        [Token::Keyword(Keyword::Order), ..] => Err(ParseError::Syntax),
-        _ => Ok((List::new(alloc), tokens)),
+    match behind(Mark::Order, tokens) {
+        Some(rest) => {
+            let (keys, rest) = by_at(alloc, rest)?;
+            Ok((keys, rest))
+        }
+        None => Ok((List::new(alloc), tokens)),
     }
 }
 
-fn offset_at(count: u64, tokens: &[Token]) -> Result<(Option<Span>, &[Token]), ParseError>
-    ensures { Gives (λ p. (p.0, p.1.now)) result (offset_at count tokens.now) }
+fn number_at(tokens: &[Token]) -> Result<(u64, &[Token]), ParseError>
+    ensures { Gives (λ p. (p.0, p.1.now)) result (number_at tokens.now) }
 {
-    match tokens {
-        [Token::Keyword(Keyword::Offset), Token::Number(skip), ..] => {
-            let skip = *skip;
-            Ok((Some(Span { count, skip }), &tokens[2..]))
-        }
-        [Token::Keyword(Keyword::Offset), ..] => Err(ParseError::Syntax),
-        _ => Ok((Some(Span { count, skip: 0 }), tokens)),
+    match next_token(tokens)? {
+        (Token::Number(number), rest) => Ok((*number, rest)),
+        _ => Err(ParseError::Syntax),
     }
+}
+
+fn offset_at(tokens: &[Token]) -> Result<(u64, &[Token]), ParseError>
+    ensures { Gives (λ p. (p.0, p.1.now)) result (offset_at tokens.now) }
+{
+    match behind(Mark::Offset, tokens) {
+        Some(rest) => {
+            let (skip, rest) = number_at(rest)?;
+            Ok((skip, rest))
+        }
+        None => Ok((0, tokens)),
+    }
+}
+
+fn span_at(tokens: &[Token]) -> Result<(Span, &[Token]), ParseError>
+    ensures { Gives (λ p. (p.0, p.1.now)) result (span_at tokens.now) }
+{
+    let (count, rest) = number_at(tokens)?;
+    let (skip, rest) = offset_at(rest)?;
+    Ok((Span { count, skip }, rest))
 }
 
 fn limit_at(tokens: &[Token]) -> Result<(Option<Span>, &[Token]), ParseError>
     ensures { Gives (λ p. (p.0, p.1.now)) result (limit_at tokens.now) }
 {
-    match tokens {
-        [Token::Keyword(Keyword::Limit), Token::Number(count), ..] => {
-            offset_at(*count, &tokens[2..])
+    match behind(Mark::Limit, tokens) {
+        Some(rest) => {
+            let (span, rest) = span_at(rest)?;
+            Ok((Some(span), rest))
         }
-        [Token::Keyword(Keyword::Limit), ..] => Err(ParseError::Syntax),
-        _ => Ok((None, tokens)),
-    }
-}
-
-fn is_end(tokens: &[Token]) -> bool
-    ensures { result ≡ is_end tokens.now }
-{
-    matches!(tokens, [] | [Token::Sign(Sign::Semicolon)])
-}
-
-// LIMIT at the end of the text.
-fn span_at_end(tokens: &[Token]) -> Result<Option<Span>, ParseError>
-    ensures { Gives (λ p. p) result (span_at_end tokens.now) }
-{
-    let (limit, rest) = limit_at(tokens)?;
-    if is_end(rest) {
-        Ok(limit)
-    } else {
-        Err(ParseError::Syntax)
+        None => Ok((None, tokens)),
     }
 }
 
@@ -149,21 +154,28 @@ struct Ending {
     limit: Option<Span>,
 }
 
-// GROUP BY and the clauses behind it, up to the end of the text.
-fn ending_at(alloc: Global, tokens: &[Token], depth: usize) -> Result<Ending, ParseError>
-    ensures { Gives (λ e. (e.keys, option_map condition e.having, e.order, e.limit)) result
-        (ending_at depth tokens.now) }
+// GROUP BY and the clauses behind it.
+fn ending_at(
+    alloc: Global,
+    tokens: &[Token],
+    depth: usize,
+) -> Result<(Ending, &[Token]), ParseError>
+    ensures { Gives (λ p. (
+      (p.0.keys, option_map cond_form p.0.having, p.0.order, p.0.limit),
+      p.1.now,
+    )) result (ending_at depth tokens.now) }
 {
     let (keys, rest) = keys_at(alloc, tokens)?;
-    let (having, rest) = clause_at(alloc, Clause::OfGroups, rest, depth)?;
+    let (having, rest) = having_at(alloc, rest, depth)?;
     let (order, rest) = order_at(alloc, rest)?;
-    let limit = span_at_end(rest)?;
-    Ok(Ending {
+    let (limit, rest) = limit_at(rest)?;
+    let ending = Ending {
         keys,
         having,
         order,
         limit,
-    })
+    };
+    Ok((ending, rest))
 }
 
 // The query of these rows, with what is made of them.
@@ -175,12 +187,12 @@ fn shaped(
     filter: Option<CondOf<ColumnRef>>,
     tokens: &[Token],
     depth: usize,
-) -> Result<Query, ParseError>
-    ensures { Gives query_tree result
-        (shaped depth (selection items) from join (option_map condition filter) tokens.now) }
+) -> Result<(Query, &[Token]), ParseError>
+    ensures { Gives (λ p. (query_tree p.0, p.1.now)) result
+        (shaped depth (selection items) from join (option_map cond_form filter) tokens.now) }
 {
-    let ending = ending_at(alloc, tokens, depth)?;
-    Ok(Query {
+    let (ending, rest) = ending_at(alloc, tokens, depth)?;
+    let query = Query {
         items,
         from,
         join,
@@ -189,7 +201,8 @@ fn shaped(
         having: ending.having,
         order: ending.order,
         limit: ending.limit,
-    })
+    };
+    Ok((query, rest))
 }
 
 fn after_select(tokens: &[Token]) -> Result<&[Token], ParseError>
@@ -201,13 +214,17 @@ fn after_select(tokens: &[Token]) -> Result<&[Token], ParseError>
     }
 }
 
-/// The query that the tokens are, all of them. `depth` is that of `part_at`.
-pub fn query_at(alloc: Global, tokens: &[Token], depth: usize) -> Result<Query, ParseError>
-    ensures { Gives query_tree result (query_at depth tokens.now) }
+/// The query at the front, and the tokens behind it. `depth` is that of `part_at`.
+pub fn query_at(
+    alloc: Global,
+    tokens: &[Token],
+    depth: usize,
+) -> Result<(Query, &[Token]), ParseError>
+    ensures { Gives (λ p. (query_tree p.0, p.1.now)) result (query_at depth tokens.now) }
 {
     let (items, rest) = selection_at(alloc, after_select(tokens)?, depth)?;
     let (from, rest) = from_at(rest)?;
     let (join, rest) = join_at(alloc, rest)?;
-    let (filter, rest) = clause_at(alloc, Clause::OfRows, rest, depth)?;
+    let (filter, rest) = filter_at(alloc, rest, depth)?;
     shaped(alloc, items, from, join, filter, rest, depth)
 }

@@ -5,7 +5,7 @@ ghost use Rattle.sql_text.specs.Answers.{Gives};
 ghost use Rattle.sql_text.specs.Parts.{dotted};
 ghost use Rattle.sql_text.specs.Queries.{name_at, count_behind, table_named, table_at, from_at, column_ref_at, after_equal, pair_at, on_at, joined_table_at};
 
-use crate::lists::{Listed, Separator, list_at};
+use crate::lists::{Listed, Mark, list_at};
 use crate::parse_error::{ParseError, next_token};
 use chunk_data::Bytes;
 use query_model::query::{ColumnRef, Join, NamePair, TableRef};
@@ -122,7 +122,7 @@ fn on_at(alloc: Global, table: TableRef, tokens: &[Token]) -> Result<(Join, &[To
 {
     match next_token(tokens)? {
         (Token::Keyword(Keyword::On), rest) => {
-            let (pairs, rest) = list_at(alloc, Separator::And, rest, 0)?;
+            let (pairs, rest) = list_at(alloc, Mark::And, rest, 0)?;
             Ok((Join { table, pairs }, rest))
         }
         _ => Err(ParseError::Syntax),

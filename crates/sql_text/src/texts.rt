@@ -2,6 +2,8 @@
 ghost use Rattle.std.specs.Prelude.{◌≡◌, ℕ, List as Seq, true, false, IfOk, IfErr, length};
 ghost use Rattle.query_model.specs.declared.query.Query.{Query};
 ghost use Rattle.sql_grammar.specs.Names.{query_tree, Spells};
+ghost use Rattle.sql_text.specs.Answers.{Gives};
+ghost use Rattle.sql_text.specs.Queries.{is_end, text_query};
 ghost use Rattle.sql_text.specs.Refusals.{IsReadFrom, IsRefused, refusal_of};
 
 use crate::limits::{MAX_TEXT, ParseRefusal, token_refusal};
@@ -9,6 +11,7 @@ use crate::parse_error::ParseError;
 use crate::queries::query_at;
 use crate::scan::tokens_of;
 use query_model::query::Query;
+use sql_grammar::{Sign, Token};
 use std::alloc::Global;
 
 fn refusal_of(error: ParseError) -> ParseRefusal
@@ -17,6 +20,24 @@ fn refusal_of(error: ParseError) -> ParseRefusal
     match error {
         ParseError::Syntax => ParseRefusal::Syntax,
         ParseError::Memory => ParseRefusal::Memory,
+    }
+}
+
+fn is_end(tokens: &[Token]) -> bool
+    ensures { result ≡ is_end tokens.now }
+{
+    matches!(tokens, [] | [Token::Sign(Sign::Semicolon)])
+}
+
+// The query that the tokens of a text are, all of them.
+fn text_query(alloc: Global, tokens: &[Token]) -> Result<Query, ParseError>
+    ensures { Gives query_tree result (text_query (length tokens.now) tokens.now) }
+{
+    let (query, rest) = query_at(alloc, tokens, tokens.len())?;
+    if is_end(rest) {
+        Ok(query)
+    } else {
+        Err(ParseError::Syntax)
     }
 }
 
@@ -40,7 +61,7 @@ pub fn parse(alloc: Global, text: &[u8]) -> Result<Query, ParseRefusal>
     if let Some(refusal) = token_refusal(tokens) {
         return Err(refusal);
     }
-    match query_at(alloc, tokens, tokens.len()) {
+    match text_query(alloc, tokens) {
         Ok(query) => Ok(query),
         Err(error) => Err(refusal_of(error)),
     }

@@ -1,6 +1,6 @@
 // The columns of From.
-ghost use Rattle.std.specs.Prelude.{◌≡◌, ◌++◌, [], flat_map, IfOk, OnOk};
-ghost use Rattle.query_model.specs.Refusals.{FromColumn as Column, declared_column, is_in_table as is_of_table, join_tables, means, schema_columns, table_columns};
+ghost use Rattle.std.specs.Prelude.{◌≡◌, ◌++◌, [], IfOk, OnOk};
+ghost use Rattle.query_model.specs.Refusals.{FromColumn as Column, declared_column, is_in_table as is_of_table, join_columns, means, schema_columns, table_columns};
 
 use crate::query::{ColumnDecl, ColumnRef, Join, Schema, TableRef};
 use chunk_data::{Bytes, ColumnType, Memory};
@@ -142,7 +142,7 @@ pub(crate) fn push_joined(
     tables: &[Schema],
 ) -> Result<(), Memory>
     ensures { OnOk result (columns.new.items
-        ≡ columns.old.items ++ flat_map (table_columns tables.now) (join_tables join.now)) }
+        ≡ columns.old.items ++ join_columns tables.now join.now) }
 {
     match join {
         Some(join) => push_table(alloc, columns, &join.table, tables),

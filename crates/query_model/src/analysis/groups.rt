@@ -1,7 +1,7 @@
 // Grouping: what may not stand in a grouped query, and the checked grouping of one that may.
 ghost use Rattle.std.specs.Prelude.{◌≡◌, ◌+◌, ◌++◌, ◌≤◌, cond, filter, find, flat_map, length, map, not, option_map, IfOk, OnOk};
 ghost use Rattle.std.specs.List.{All, list_any};
-ghost use Rattle.query_model.specs.Names.{written as written_name, first_name, is_grouped as has_groups, listed, not_keys, IsPick, ArePicks, IsGrouping, item_calls, bare_names, ungrouped_in_items as items_ungrouped, is_call_item, AreAdded, CanBePicked, is_key_of, key_place, first_ungrouped, not_grouped_over};
+ghost use Rattle.query_model.specs.Names.{written as written_name, first_name, is_grouped as has_groups, listed, not_keys, IsPick, ArePicks, IsGrouping, item_calls, bare_names, ungrouped_in_items as items_ungrouped, is_call_item, AreAdded, CanBePicked, is_key_of, key_place, first_ungrouped, not_grouped as holds_ungrouped};
 
 use crate::analysis::columns::FromColumn;
 use crate::analysis::names::{
@@ -185,7 +185,7 @@ pub(crate) fn not_grouped(
     query: &Query,
     columns: &[FromColumn],
 ) -> Result<Option<Refusal>, Memory>
-    ensures { IfOk result (λ refusal. refusal ≡ not_grouped_over columns.now query.now) }
+    ensures { IfOk result (λ refusal. refusal ≡ holds_ungrouped columns.now query.now) }
 {
     if !is_grouped(query) {
         return Ok(None);

@@ -4,7 +4,6 @@ ghost use Rattle.std.specs.List.{list_all};
 ghost use Rattle.query_model.specs.Names.{is_join_pair as fits_tables, joins as are_joined, same_known_type, BothOrNone, pair_of, IsPlacedJoin, pairs_fit as all_pairs_fit};
 
 use crate::analysis::columns::FromColumn;
-use crate::analysis::kinds::same_type;
 use crate::analysis::names::meant_type;
 use crate::analysis::placing::{column_place, table_use};
 use crate::checked::{CheckedJoin, KeyPair};
@@ -17,7 +16,7 @@ fn are_of_one_type(a: Option<ColumnType>, b: Option<ColumnType>) -> bool
 {
     match a {
         Some(s) => match b {
-            Some(t) => same_type(s, t),
+            Some(t) => s.is_alike(t),
             None => false,
         },
         None => false,

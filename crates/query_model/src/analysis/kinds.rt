@@ -1,15 +1,16 @@
 // What expressions are, and whether types fit.
 ghost use Rattle.std.specs.Prelude.{◌≡◌};
 ghost use Rattle.std.specs.List.{list_all};
-ghost use Rattle.query_model.specs.Names.{number_of, can_hold as holds_number, result_type as type_of_result, arith_kind as kind_of_arith, known_kind as kind_known, expr_kind as kind_of_expr, call_kind as kind_of_call, agg_kind as kind_of_agg, operand_kind as kind_of_operand, item_kind as kind_of_item, comparable as are_comparable, cond_fits as fits, fits_where, is_typed as has_type, same_type as are_same, listed, is_text as is_text_column, as_kind, number_value, types_fit_over};
+ghost use Rattle.query_model.specs.Names.{number_of, can_hold as holds_number, arith_kind as kind_of_arith, known_kind as kind_known, expr_kind as kind_of_expr, call_kind as kind_of_call, agg_kind as kind_of_agg, operand_kind as kind_of_operand, item_kind as kind_of_item, comparable as are_comparable, cond_fits as fits, fits_where, is_typed as has_type, listed, as_kind, number_value, types_fit as all_types_fit};
 
 use crate::analysis::columns::FromColumn;
 use crate::analysis::names::meant_type;
+use crate::plain::arith_type;
 use crate::query::{
     AggCall, AggOp, ArithOp, ColumnRef, CondOf, ExprOf, Item, ItemKind, Items, Number, Operand,
     Query,
 };
-use chunk_data::ColumnType;
+use chunk_data::{ColumnType, PlainType};
 
 /// What an expression is: a plain number, a value of a type, or neither, where types don't fit.
 #[derive(Clone, Copy, PartialEq, Eq)]
@@ -19,35 +20,19 @@ pub(crate) enum ExprKind {
     Unfit,
 }
 
-fn is_text(kind: ColumnType) -> bool
-    ensures { result ≡ is_text_column kind }
-{
-    matches!(kind, ColumnType::Text)
-}
-
-pub(crate) fn same_type(s: ColumnType, t: ColumnType) -> bool
-    ensures { result ≡ are_same s t }
-{
-    match s {
-        ColumnType::Int64 => matches!(t, ColumnType::Int64),
-        ColumnType::UInt64 => matches!(t, ColumnType::UInt64),
-        ColumnType::Text => matches!(t, ColumnType::Text),
-    }
-}
-
 fn can_hold(kind: ColumnType, n: Number) -> bool
     ensures { result ≡ holds_number kind (number_of n) }
 {
-    match kind {
-        ColumnType::Int64 => {
+    match kind.plain() {
+        PlainType::Int64 => {
             if n.negative {
                 n.size <= 1 << 63
             } else {
                 n.size < 1 << 63
             }
         }
-        ColumnType::UInt64 => is_uint(n.negative, n.size),
-        ColumnType::Text => false,
+        PlainType::UInt64 => is_uint(n.negative, n.size),
+        PlainType::Text => false,
     }
 }
 
@@ -59,23 +44,13 @@ fn is_uint(negative: bool, size: u64) -> bool
     !negative || size == 0
 }
 
-fn result_type(op: ArithOp, operands: ColumnType) -> ColumnType
-    ensures { result ≡ type_of_result op operands }
-{
-    match op {
-        ArithOp::Add => operands,
-        ArithOp::Sub => ColumnType::Int64,
-        ArithOp::Mul => operands,
-    }
-}
-
 /// What arithmetic is of two operands with types.
 fn typed_arith(op: ArithOp, s: ColumnType, t: ColumnType) -> ExprKind
     ensures { as_kind result
         ≡ kind_of_arith op (as_kind (ExprKind.Typed s)) (as_kind (ExprKind.Typed t)) }
 {
-    if same_type(s, t) && !is_text(s) {
-        ExprKind::Typed(result_type(op, s))
+    if s.is_alike(t) && !s.is_text() {
+        ExprKind::Typed(arith_type(op, s, t))
     } else {
         ExprKind::Unfit
     }
@@ -87,7 +62,7 @@ fn arith_beside(op: ArithOp, t: ColumnType, n: Number) -> ExprKind
         ≡ kind_of_arith op (as_kind (ExprKind.Typed t)) (as_kind (ExprKind.Plain n)) }
 {
     if can_hold(t, n) {
-        ExprKind::Typed(result_type(op, t))
+        ExprKind::Typed(arith_type(op, t, t))
     } else {
         ExprKind::Unfit
     }
@@ -143,14 +118,23 @@ fn call_kind(op: AggOp, argument: ExprKind) -> ExprKind
     match op {
         AggOp::Count => ExprKind::Typed(ColumnType::UInt64),
         AggOp::Sum => match argument {
-            ExprKind::Typed(ColumnType::Int64) => ExprKind::Typed(ColumnType::Int64),
-            ExprKind::Typed(ColumnType::UInt64) => ExprKind::Typed(ColumnType::UInt64),
-            ExprKind::Typed(ColumnType::Text) => ExprKind::Unfit,
+            ExprKind::Typed(t) => summed_kind(t),
             ExprKind::Plain(_) => ExprKind::Unfit,
             ExprKind::Unfit => ExprKind::Unfit,
         },
         AggOp::Min => typed_or_unfit(argument),
         AggOp::Max => typed_or_unfit(argument),
+    }
+}
+
+/// What a sum is over values of a type; texts have none.
+fn summed_kind(t: ColumnType) -> ExprKind
+    ensures { as_kind result ≡ kind_of_call AggOp.Sum (as_kind (ExprKind.Typed t)) }
+{
+    if t.is_text() {
+        ExprKind::Unfit
+    } else {
+        ExprKind::Typed(t)
     }
 }
 
@@ -189,12 +173,12 @@ fn comparable(a: ExprKind, b: ExprKind) -> bool
 {
     match a {
         ExprKind::Typed(s) => match b {
-            ExprKind::Typed(t) => is_text(s) == is_text(t),
-            ExprKind::Plain(_) => !is_text(s),
+            ExprKind::Typed(t) => s.is_text() == t.is_text(),
+            ExprKind::Plain(_) => !s.is_text(),
             ExprKind::Unfit => false,
         },
         ExprKind::Plain(_) => match b {
-            ExprKind::Typed(t) => !is_text(t),
+            ExprKind::Typed(t) => !t.is_text(),
             ExprKind::Plain(_) => true,
             ExprKind::Unfit => false,
         },
@@ -269,7 +253,7 @@ fn list_fits(items: &[Item], columns: &[FromColumn]) -> bool
 
 /// Whether the types fit in items, WHERE and HAVING.
 pub(crate) fn types_fit(query: &Query, columns: &[FromColumn]) -> bool
-    ensures { result ≡ types_fit_over columns.now query.now }
+    ensures { result ≡ all_types_fit columns.now query.now }
 {
     items_fit(&query.items, columns)
         && filter_fits(&query.filter, columns)

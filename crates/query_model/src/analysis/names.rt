@@ -1,7 +1,7 @@
 // Names of tables and columns.
 ghost use Rattle.std.specs.Prelude.{◌≡◌, ◌++◌, ◌∷◌, [], IfOk, OnOk, bytes_eq, length, flat_map};
 ghost use Rattle.std.specs.List.{list_any};
-ghost use Rattle.query_model.specs.Names.{NamePair as Pair, meant, meant_type as type_meant, written as written_name, expr_columns, argument_columns, cond_operands, operands_of, item_columns, join_pairs, text_columns, listed, same_column as are_one_column, plain_type as type_without_null, columns_in, is_key_of, key_place as place_of_key, place_in, unknown_among, ambiguous_among};
+ghost use Rattle.query_model.specs.Names.{NamePair as Pair, meant, meant_type as type_meant, written as written_name, expr_columns, argument_columns, cond_operands, operands_of, item_columns, join_pairs, text_columns, listed, same_column as are_one_column, columns_in, is_key_of, key_place as place_of_key, place_in, unknown_column as unknown_among, ambiguous_column as ambiguous_among};
 
 use crate::analysis::columns::FromColumn;
 use crate::query::{
@@ -18,23 +18,12 @@ pub(crate) fn has_schema(name: &[u8], tables: &[Schema]) -> bool
     tables.iter().any(|schema| schema.name.as_slice() == name)
 }
 
-/// The type without Nullable.
-fn plain_type(kind: ColumnType) -> ColumnType
-    ensures { result ≡ type_without_null kind }
-{
-    match kind {
-        ColumnType::Int64 => ColumnType::Int64,
-        ColumnType::UInt64 => ColumnType::UInt64,
-        ColumnType::Text => ColumnType::Text,
-    }
-}
-
-/// The type of the first column that the name means, without Nullable.
+/// The type of the first column that the name means.
 pub(crate) fn meant_type(c: &ColumnRef, columns: &[FromColumn]) -> Option<ColumnType>
     ensures { result ≡ type_meant columns.now c.now }
 {
     match columns.iter().find(|column| column.is_meant(c)) {
-        Some(column) => Some(plain_type(column.kind())),
+        Some(column) => Some(column.kind()),
         None => None,
     }
 }

@@ -1,6 +1,6 @@
 // ORDER BY: the keys' places among the output names.
 ghost use Rattle.std.specs.Prelude.{◌≡◌, ℕ, List as Seq, bytes_eq, filter, length, map, IfOk};
-ghost use Rattle.query_model.specs.Names.{place_of, order_refusal, sort_key, OrderKey as Key};
+ghost use Rattle.query_model.specs.Names.{place_of, bad_order_key as order_refusal, sort_key, OrderKey as Key};
 
 use crate::query::{OrderKey, Refusal};
 use chunk_data::{Bytes, List, Memory, SortKey};

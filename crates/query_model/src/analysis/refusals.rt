@@ -1,6 +1,6 @@
 // Why a query is refused: each condition over the whole query, and the first that it meets.
-ghost use Rattle.std.specs.Prelude.{◌≡◌, ◌∷◌, [], flat_map, length, map, IfOk};
-ghost use Rattle.query_model.specs.Names.{unknown_table as table_refusal, calls_in, cond_operands, operand_calls, operands_of, total, from_columns, join_pairs, join_tables, output_names, table_columns, text_columns, first_of_all, refusal_of, undeclared_table, unknown_among, ambiguous_among, refusal_unless, types_fit_over, not_grouped_over, order_over, width_over};
+ghost use Rattle.std.specs.Prelude.{◌≡◌, ◌∷◌, [], length, map, IfOk};
+ghost use Rattle.query_model.specs.Names.{unknown_table as table_refusal, unknown_column as unknown_among, ambiguous_column as ambiguous_among, bad_join_key as pair_refusal, type_mismatch as type_refusal, not_grouped as group_refusal, bad_order_key as order_refusal, too_wide as width_refusal, refusals, calls_in, cond_operands, operand_calls, operands_of, total, join_pairs, output_names, query_tables, text_columns, first_of_all};
 
 use crate::analysis::columns::FromColumn;
 use crate::analysis::groups::{added, count_item_calls, not_grouped};
@@ -18,7 +18,7 @@ use std::alloc::Global;
 const WIDEST: usize = 64;
 
 fn undeclared(table: &TableRef, tables: &[Schema]) -> Result<Option<Refusal>, Memory>
-    ensures { IfOk result (λ refusal. refusal ≡ undeclared_table tables.now table.now) }
+    ensures { IfOk result (λ refusal. refusal ≡ table_refusal tables.now (table.now ∷ [])) }
 {
     match table {
         TableRef::Named(name) => {
@@ -35,7 +35,7 @@ fn undeclared(table: &TableRef, tables: &[Schema]) -> Result<Option<Refusal>, Me
 
 /// FROM or JOIN names no declared table.
 fn unknown_table(query: &Query, tables: &[Schema]) -> Result<Option<Refusal>, Memory>
-    ensures { IfOk result (λ refusal. refusal ≡ table_refusal query.now tables.now) }
+    ensures { IfOk result (λ refusal. refusal ≡ table_refusal tables.now (query_tables query.now)) }
 {
     match undeclared(&query.from, tables)? {
         Some(refusal) => Ok(Some(refusal)),
@@ -106,7 +106,7 @@ fn count_pairs(join: &Option<Join>) -> usize
 
 /// There are too many columns of From, items, keys, pairs or calls.
 fn too_wide(query: &Query, columns: &[FromColumn]) -> Result<Option<Refusal>, Memory>
-    ensures { IfOk result (λ refusal. refusal ≡ width_over columns.now query.now) }
+    ensures { IfOk result (λ refusal. refusal ≡ width_refusal columns.now query.now) }
 {
     let calls = count_calls(query)?;
     if columns.len() > WIDEST
@@ -128,9 +128,8 @@ fn order_or_width(
     columns: &[FromColumn],
     names: &[Bytes],
 ) -> Result<Option<Refusal>, Memory>
-    requires { names.now ≡ output_names query.now.items columns.now }
-    ensures { IfOk result (λ refusal. refusal
-        ≡ first_of_all (order_over columns.now query.now ∷ width_over columns.now query.now ∷ [])) }
+    ensures { IfOk result (λ refusal. refusal ≡ first_of_all
+        (order_refusal names.now query.now.order ∷ width_refusal columns.now query.now ∷ [])) }
 {
     match bad_order_key(query.order.as_slice(), names)? {
         Some(refusal) => Ok(Some(refusal)),
@@ -145,9 +144,8 @@ fn groups_or_later(
     columns: &[FromColumn],
     names: &[Bytes],
 ) -> Result<Option<Refusal>, Memory>
-    requires { names.now ≡ output_names query.now.items columns.now }
-    ensures { IfOk result (λ refusal. refusal ≡ first_of_all (not_grouped_over columns.now query.now
-        ∷ order_over columns.now query.now ∷ width_over columns.now query.now ∷ [])) }
+    ensures { IfOk result (λ refusal. refusal ≡ first_of_all (group_refusal columns.now query.now
+        ∷ order_refusal names.now query.now.order ∷ width_refusal columns.now query.now ∷ [])) }
 {
     match not_grouped(alloc, query, columns)? {
         Some(refusal) => Ok(Some(refusal)),
@@ -162,10 +160,9 @@ fn types_or_later(
     columns: &[FromColumn],
     names: &[Bytes],
 ) -> Result<Option<Refusal>, Memory>
-    requires { names.now ≡ output_names query.now.items columns.now }
-    ensures { IfOk result (λ refusal. refusal ≡ first_of_all (refusal_unless
-        (types_fit_over columns.now query.now) Refusal.TypeMismatch ∷ not_grouped_over columns.now
-        query.now ∷ order_over columns.now query.now ∷ width_over columns.now query.now ∷ [])) }
+    ensures { IfOk result (λ refusal. refusal ≡ first_of_all (type_refusal columns.now query.now
+        ∷ group_refusal columns.now query.now ∷ order_refusal names.now query.now.order
+        ∷ width_refusal columns.now query.now ∷ [])) }
 {
     if types_fit(query, columns) {
         groups_or_later(alloc, query, columns, names)
@@ -174,15 +171,35 @@ fn types_or_later(
     }
 }
 
-/// The first name that means no column, or more than one.
-fn bad_name(alloc: Global, query: &Query, columns: &[FromColumn]) -> Result<Option<Refusal>, Memory>
-    ensures { IfOk result (λ refusal. refusal ≡ first_of_all (unknown_among columns.now
-        (text_columns query.now) ∷ ambiguous_among columns.now (text_columns query.now) ∷ [])) }
+/// The first condition on names, pairs of ON or what comes behind them.
+fn names_or_later(
+    alloc: Global,
+    query: &Query,
+    columns: &[FromColumn],
+    left: &[FromColumn],
+    right: &[FromColumn],
+    names: &[Bytes],
+) -> Result<Option<Refusal>, Memory>
+    ensures { IfOk result (λ refusal. refusal ≡ first_of_all (
+        unknown_among columns.now (text_columns query.now)
+        ∷ ambiguous_among columns.now (text_columns query.now)
+        ∷ pair_refusal left.now right.now query.now.join
+        ∷ type_refusal columns.now query.now ∷ group_refusal columns.now query.now
+        ∷ order_refusal names.now query.now.order ∷ width_refusal columns.now query.now ∷ [])) }
 {
-    let names = names_in(alloc, query)?;
-    match unknown_column(names.as_slice(), columns)? {
-        Some(refusal) => Ok(Some(refusal)),
-        None => ambiguous_column(names.as_slice(), columns),
+    let used = names_in(alloc, query)?;
+    match unknown_column(used.as_slice(), columns)? {
+        Some(refusal) => return Ok(Some(refusal)),
+        None => {}
+    }
+    match ambiguous_column(used.as_slice(), columns)? {
+        Some(refusal) => return Ok(Some(refusal)),
+        None => {}
+    }
+    if pairs_fit(&query.join, left, right) {
+        types_or_later(alloc, query, columns, names)
+    } else {
+        Ok(Some(Refusal::BadJoinKey))
     }
 }
 
@@ -196,23 +213,12 @@ pub(crate) fn first_refusal(
     right: &[FromColumn],
     names: &[Bytes],
 ) -> Result<Option<Refusal>, Memory>
-    requires columns { columns.now ≡ from_columns query.now tables.now }
-    requires left { left.now ≡ table_columns tables.now query.now.from }
-    requires right { right.now ≡ flat_map (table_columns tables.now) (join_tables query.now.join) }
-    requires names { names.now ≡ output_names query.now.items columns.now }
-    ensures { IfOk result (λ refusal. refusal ≡ refusal_of query.now tables.now) }
+    requires { names.now ≡ output_names query.now.items columns.now }
+    ensures { IfOk result (λ refusal. refusal
+        ≡ first_of_all (refusals tables.now columns.now left.now right.now query.now)) }
 {
     match unknown_table(query, tables)? {
-        Some(refusal) => return Ok(Some(refusal)),
-        None => {}
-    }
-    match bad_name(alloc, query, columns)? {
-        Some(refusal) => return Ok(Some(refusal)),
-        None => {}
-    }
-    if pairs_fit(&query.join, left, right) {
-        types_or_later(alloc, query, columns, names)
-    } else {
-        Ok(Some(Refusal::BadJoinKey))
+        Some(refusal) => Ok(Some(refusal)),
+        None => names_or_later(alloc, query, columns, left, right, names),
     }
 }

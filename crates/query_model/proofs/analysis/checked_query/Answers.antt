@@ -1,4 +1,4 @@
-use Rattle.query_model.proofs.Imports.{BothOrNone, CheckedJoin, FromColumn, IsCheckedJoin, IsPlacedJoin, Join, List, None, Option, Query, Schema, Some, append-nil, flat_map, from_columns, join_tables, refl, table_columns, ◌∙◌, ◌≡◌}
+use Rattle.query_model.proofs.Imports.{BothOrNone, CheckedJoin, FromColumn, IsCheckedJoin, IsPlacedJoin, Join, List, None, Option, Query, Schema, Some, append-nil, refl, table_columns, ◌∙◌, ◌≡◌, join_columns}
 use Rattle.query_model.proofs.Accepted.{accepted, narrow, ungrouped_items, are_keys}
 use Rattle.query_model.proofs.TypedGroups.{checked_is_typed}
 use Rattle.query_model.proofs.analysis.checked_query.Goals as goal
@@ -6,7 +6,7 @@ use Rattle.query_model.proofs.analysis.checked_query.Goals as goal
 -- the join over the columns of the two tables
 checked_join : (q : Query) (schemas : List Schema) (left right : List FromColumn) (o : Option Join)
     (j : Option CheckedJoin) → left ≡ table_columns schemas q.from
-    → right ≡ flat_map (table_columns schemas) (join_tables o)
+    → right ≡ join_columns schemas o
     → BothOrNone (IsPlacedJoin schemas left right) o j → BothOrNone (IsCheckedJoin q schemas) o j
 checked_join q schemas left right None None l r h = tt
 checked_join q schemas left right (Some a) (Some b) l r h =

@@ -1,4 +1,4 @@
-use Rattle.query_model.proofs.Imports.{and_then, ap, arith, drop, length, sym, with_digits, ◌+◌, ◌<◌, ◌∙◌}
+use Rattle.query_model.proofs.Imports.{arith, length, ◌<◌}
 use Rattle.query_model.proofs.NumeralLaws.{with_digits-numeral, with_digits-step, with_digits-end}
 use Rattle.query_model.proofs.numerals.spelled_uint.Goals as goal
 

@@ -1,4 +1,4 @@
-use Rattle.query_model.proofs.Imports.{ap, arith, bad_column, cond, drop, length, refl, sym, ◌+◌, ◌<◌, ◌∙◌, ◌≡◌}
+use Rattle.query_model.proofs.Imports.{ap, arith, bad_column, cond, drop, length, sym, ◌+◌, ◌<◌, ◌∙◌}
 use Rattle.query_model.proofs.Reading.{bad_column-step, bad_column-end}
 use Rattle.query_model.proofs.plain.first_bad_column.Goals as goal
 

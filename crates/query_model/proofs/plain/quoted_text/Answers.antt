@@ -1,4 +1,3 @@
-use Rattle.query_model.proofs.Imports.{arith, [], ap, ◌++◌, ◌∙◌, ◌∷◌}
 use Rattle.query_model.proofs.TextLaws.{quoted-more, quoted-whole}
 use Rattle.query_model.proofs.plain.quoted_text.Goals as goal
 

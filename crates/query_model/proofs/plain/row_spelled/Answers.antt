@@ -1,4 +1,4 @@
-use Rattle.query_model.proofs.Imports.{arith, sym, ◌∙◌}
+use Rattle.query_model.proofs.Imports.{arith, sym}
 use Rattle.query_model.proofs.Reading.{spelled_row-lengths, none_spelled, front_grows, front_whole}
 use Rattle.query_model.proofs.plain.row_spelled.Goals as goal
 

@@ -1,4 +1,4 @@
-use Rattle.query_model.proofs.Imports.{arith, [], ap, ap₂, separator, sym, value_text, ◌++◌, ◌∙◌, ◌∷◌}
+use Rattle.query_model.proofs.Imports.{arith}
 use Rattle.query_model.proofs.TextLaws.{row_front-more, row_front-whole}
 use Rattle.query_model.proofs.plain.row_text.Goals as goal
 

@@ -1,4 +1,4 @@
-use Rattle.query_model.proofs.Imports.{arith, ap, ap₂, row_text, sym, ◌++◌, ◌∙◌}
+use Rattle.query_model.proofs.Imports.{arith}
 use Rattle.query_model.proofs.TextLaws.{rows_text-take, rows_text-whole}
 use Rattle.query_model.proofs.plain.rows_text.Goals as goal
 

@@ -1,4 +1,4 @@
-use Rattle.query_model.proofs.Imports.{arith, ap, cond, is_call_item, ◌+◌, ◌∙◌}
+use Rattle.query_model.proofs.Imports.{arith}
 use Rattle.query_model.proofs.CallLaws.{one_more_counted}
 use Rattle.query_model.proofs.analysis.groups.count_item_calls.Goals as goal
 

@@ -1,4 +1,4 @@
-use Rattle.query_model.proofs.Imports.{arith, ap, means, sym, ◌∙◌}
+use Rattle.query_model.proofs.Imports.{arith}
 use Rattle.query_model.proofs.PlaceLaws.{place_found, place_at_end}
 use Rattle.query_model.proofs.analysis.names.meant_place.Goals as goal
 

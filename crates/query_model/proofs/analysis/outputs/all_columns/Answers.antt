@@ -1,4 +1,4 @@
-use Rattle.query_model.proofs.Imports.{arith, AreColumnsFrom, subst, sym, take, ◌+◌}
+use Rattle.query_model.proofs.Imports.{arith}
 use Rattle.query_model.proofs.Placed.{columns_more}
 use Rattle.query_model.proofs.analysis.outputs.all_columns.Goals as goal
 

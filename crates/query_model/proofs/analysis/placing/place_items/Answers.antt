@@ -1,4 +1,4 @@
-use Rattle.query_model.proofs.Imports.{arith, Expr, IsPlacedItem, Item, place_in, subst}
+use Rattle.query_model.proofs.Imports.{arith}
 use Rattle.query_model.proofs.Placed.{each_more}
 use Rattle.query_model.proofs.analysis.placing.place_items.Goals as goal
 
