@@ -1,5 +1,5 @@
 -- Every step keeps the laws: of edges, of nodes, and of tokens.
-use Rattle.core_laws.proofs.Imports.{Act, Bool, Close, CoreState, EdgeHolds, Edges, EndTold, Finish, Flags, Laws, List, NodeHolds, NodeState, Nodes, None, Option, PortState, Pull, Push, Sees, Sight, Sizes, Some, Step, Tokens, Told, Unwant, Want, Wire, WireHolds, WordHolds, [], acted, acting_end, adding, after, and_parts, ap, arith, bit_at_end, bit_of, bit_or, born, both_ways, cases_Bool, cases_eq, changed, cond, cond_both, counted, counts, edges_of, end_of, eqb, eqb-true, false, fits, flags_at, fresh_sight, get_or-le-sum_by, get_or-set_other, get_or-set_same, get_or_default, has, holds, inl, inr, is_excused, is_none, is_none_of, is_over, is_set, is_unborn, is_updated, knows, lacks, learned, learning, left, length, length-set, looked, map-append, marked, may, may_act, may_wire, names, ne_eqb, no_node, no_port, node_at, node_of, not, once, or_cases, or_left, or_right, peer_in, port_after, port_at, port_of, put_node, refl, seeing, set, set-get_or, spent, subst, sum_by-le, sum_by-set, sym, taken, telling, tells, told, true, weight, wire_ok, wiring, without, ℕ, ◌&&◌, ◌*◌, ◌+◌, ◌-◌, ◌<◌, ◌^◌, ◌||◌, ◌∙◌, ◌∷◌, ◌≡◌, ◌≢◌, ◌≤◌}
+use Rattle.core_laws.proofs.Imports.{Act, Bool, Close, CoreState, EdgeHolds, Edges, EndTold, Finish, Flags, Laws, List, NodeHolds, NodeState, Nodes, None, Option, PortState, Pull, Push, Sees, Sight, Sizes, Some, Step, Tokens, Told, Unwant, Want, Wire, WireHolds, WordHolds, [], acted, acting_end, adding, after, and_parts, ap, arith, bit_at_end, bit_of, bit_or, born, both_ways, cases_Bool, cases_eq, changed, cond, cond_both, counted, counts, edges_of, end_of, eqb, eqb-true, false, fits, flags_at, fresh_sight, get_or-le-sum_by, get_or-set_other, get_or-set_same, get_or_default, has, holds, inl, inr, is_edge, is_excused, is_none, is_none_of, is_over, is_set, is_unborn, is_updated, knows, lacks, learned, learning, left, length, length-set, looked, map-append, marked, may, may_act, may_wire, names, ne_eqb, no_node, no_port, node_at, node_of, not, once, or_cases, or_left, or_right, peer_in, port_after, port_at, port_of, put_node, refl, seeing, set, set-get_or, spent, subst, sum_by-le, sum_by-set, sym, taken, telling, tells, told, true, weight, wire_ok, wiring, without, ℕ, ◌&&◌, ◌*◌, ◌+◌, ◌-◌, ◌<◌, ◌^◌, ◌||◌, ◌∙◌, ◌∷◌, ◌≡◌, ◌≢◌, ◌≤◌}
 use Rattle.core_laws.specs.declared.types.Step.TheVariants as step
 use Rattle.core_laws.proofs.Lists.{at_put, has-filter, once-filter, has-last, has-adding, once-last, once-adding, edges-seeing, seeing-here, seeing-other, flags-unknown, flags-last}
 use Rattle.core_laws.proofs.Bits.{zero-clear, pow-clear, or-other, or-here, or-more, word-one, word-idle, word-told, flip-other, flip-lone, word-born, end-within, at-end, peer-of, EndOf, end-of, an-end, not-not, both-ends}
@@ -19,7 +19,7 @@ Holds s nodes e p = EdgeHolds s nodes e p × Told nodes e p.wire p.flags
 same-kept : (c : CoreState) (stopped : Bool) → Edges c → Nodes c
     → Kept c (record c { stopped = stopped })
 same-kept c stopped edges nodes = record {
-  edges = record { count = edges.count; each = edges.each };
+  edges = record { count = edges.count; known = edges.known; each = edges.each };
   nodes = record { number = nodes.number; each = nodes.each; told = nodes.told };
   tokens = λ t. record { pending = t.pending; few = t.few };
 }
@@ -43,12 +43,16 @@ module _ (c : CoreState) (n : ℕ) (nd : NodeState) (inside : n < length c.nodes
 
   -- the laws of a state with these ports, this node, and another pending number
   frame : (ps : List PortState) (p : ℕ) → length ps ≡ length c.ports → NodeHolds nd
+      → ((d : ℕ) → knows d nd.seen ≡ true → d < length c.ports)
       → ((d : ℕ) → d < length c.ports → Holds c.sizes new d (port_of ps d))
       → (Tokens c → (nd.tokens ≤ 2) × (p + weight old ≡ c.pending + weight nd))
       → Edges c → Nodes c → Kept c (record c { ports = ps; nodes = new; pending = p })
-  frame ps p len holds each count edges nodes = record {
+  frame ps p len holds known each count edges nodes = record {
     edges = record {
       count = len ∙ edges.count;
+      known = λ m d k. subst (λ l. d < l) (sym len) (at_put
+          (λ y. knows d y.seen ≡ true → d < length c.ports) c.nodes n m nd no_node inside
+          (λ _. known d) (λ _. edges.known m d) k);
       each = λ d i. (each d (subst (λ k. d < k) len i)).0;
     };
     nodes = record {
@@ -177,6 +181,7 @@ module _ (c : CoreState) (n : ℕ) (nd : NodeState) (inside : n < length c.nodes
       → (Tokens c → (nd.tokens ≤ 2) × (p + weight old ≡ c.pending + weight nd))
       → Edges c → Nodes c → Kept c (record c { nodes = new; pending = p })
   view-kept p seen owes holds excused count edges nodes = frame c.ports p refl holds
+      (λ d z. edges.known n d (ap (λ y. knows d y) (sym seen) ∙ z))
       (λ d i. unmoved d (port_at c d) (ap (flags_at d) seen)
       (λ z. (edges.each d i).learned n (ap (λ y. knows d y) (sym seen) ∙ z))
       (λ b w q. excused d b w q ((edges.each d i).wired.sound w q))
@@ -194,6 +199,9 @@ owing-has false e d l = grind arith
 owing-more : (t : Bool) (e d : ℕ) (l : List ℕ) → has d l ≡ true
     → has d (cond t (adding e l) l) ≡ true
 owing-more t e d l h = grind (arith, owing-has t e d l)
+
+owing-here : (t : Bool) (e : ℕ) (l : List ℕ) → t ≡ true → has e (cond t (adding e l) l) ≡ true
+owing-here t e l h = grind (arith, owing-has t e e l)
 
 looking-has : (t : Bool) (e d : ℕ) (l : List ℕ)
     → has d (cond t (without e l) l) ≡ (not (t && eqb d e) && has d l)
@@ -244,6 +252,7 @@ moved-kept c n e b ps q f looks owes g x is m none edges nodes =
     subst (λ l. Kept c (put_node (record c { ports = l }) n nd)) is
     (frame c n nd inside (set c.ports e q) c.pending (length-set c.ports e q)
     (viewing-holds e f looks owes old (grind arith) known (nodes.each n))
+    (λ d z. edges.known n d (sym (seen d) ∙ z))
     (λ d i. at_put (Holds c.sizes (set c.nodes n nd) d) c.ports e d q no_port port_in
     (λ t. subst (λ k. Holds c.sizes (set c.nodes n nd) k q) (sym t)
     (moved c n nd inside e b (port_at c e) q f owes m x known refl
@@ -251,8 +260,7 @@ moved-kept c n e b ps q f looks owes g x is m none edges nodes =
       | inl y ↦ absurd (both_ways _ (none y) l)
       | inr y ↦ grind (arith, u, s, y, z)
     ])
-    (λ t. let o = owing-has owes e e old.owes in grind (arith, o, t))
-    (owing-more owes e e old.owes)
+    (owing-here owes e old.owes) (owing-more owes e e old.owes)
     (edges.each e port_in, nodes.told e port_in)))
     (λ ne. unmoved c n nd inside d (port_at c d) (seeing-other e d f old.seen ne)
     (λ z. (edges.each d i).learned n (sym (seen d) ∙ z))
@@ -286,10 +294,11 @@ moved-kept c n e b ps q f looks owes g x is m none edges nodes =
 -- each act of a held end
 act-kept : (a : Act) (c : CoreState) (n e : ℕ) → may_act a c n e ≡ true → Edges c → Nodes c
     → Kept c (acted a c n e)
-act-kept a c n e g edges nodes = moved-kept c n e (acting_end a) _ (port_after a (port_at c e))
-    (changed a (flags_at e (node_at c n).seen)) false (tells a (port_at c e).flags) (grind arith)
-    (end-of (acting_end a) n (port_at c e).wire (grind arith)) refl
-    (act-moves a (port_at c e) (flags_at e (node_at c n).seen) (grind arith))
+act-kept a c n e g edges nodes = let p = and_parts _ _ g in let q = and_parts _ _ p.0 in
+    moved-kept c n e (acting_end a) _ (port_after a (port_at c e))
+    (changed a (flags_at e (node_at c n).seen)) false (tells a (port_at c e).flags) q.0
+    (end-of (acting_end a) n (port_at c e).wire q.1) refl
+    (act-moves a (port_at c e) (flags_at e (node_at c n).seen) p.1)
     (λ z. absurd (both_ways false refl z)) edges nodes
 
 look-kept : (c : CoreState) (n e : ℕ) → holds c n e ≡ true → Edges c → Nodes c
@@ -510,7 +519,7 @@ mark-kept c n e m k inside some x edges nodes = record {
       nodes = set mid.nodes n (telling e (spent md.word) y);
     })) same (let nd = telling e (spent md.word) (node_at mid n) in
         frame mid n nd within mid.ports c.pending refl
-        (telling-holds (node_at mid n) (first.nodes.each n))
+        (telling-holds (node_at mid n) (first.nodes.each n)) (first.edges.known n)
         (λ d i. unmoved mid n nd within d (port_at c d) refl ((first.edges.each d i).learned n)
         (λ _ _ _ _ z. z)
         (λ b w q t z. elim (cases_eq d e) [
@@ -540,6 +549,17 @@ learning-holds e nd unknown h =
           grind (arith, q, o, once-last e known, unknown, once-adding e nd.unlooked);
     }
 
+-- what a node knows that learned e
+learning-knows : (e d : ℕ) (nd : NodeState)
+    → knows d (learning e nd).seen ≡ (knows d nd.seen || eqb e d)
+learning-knows e d nd = ap (has d) (map-append (λ (s : Sight). s.edge) nd.seen
+    (fresh_sight e ∷ [])) ∙ has-last e d (edges_of nd.seen)
+
+-- a node that learned an edge of the state knows no other than these
+learning-known : (c : CoreState) (n e : ℕ) → e < length c.ports → Edges c → (d : ℕ)
+    → knows d (learning e (node_at c n)).seen ≡ true → d < length c.ports
+learning-known c n e i edges d z = grind (arith, learning-knows, cases_eq, edges.known n d)
+
 -- an edge of a node that learned e
 learning-edge : (c : CoreState) (n e : ℕ) → n < length c.nodes → knows e (node_at c n).seen ≡ false
     → (d : ℕ) (p : PortState) → (d ≡ e → names n p.wire ≡ true) → Holds c.sizes c.nodes d p
@@ -548,27 +568,29 @@ learning-edge c n e inside unknown d p named h = unmoved c n (learning e nd) ins
     (flags-last e d nd.seen unknown)
     (λ z. elim (cases_eq d e) [
       | inl t ↦ named t
-      | inr ne ↦ h.0.learned n (grind (arith, known, z, ne_eqb e d (λ y. ne (sym y))))
+      | inr ne ↦ h.0.learned n (grind (arith, learning-knows, z, ne_eqb e d (λ y. ne (sym y))))
     ])
-    (λ b w _ _ z. let k = known in grind (arith, k, has-adding e d nd.unlooked, z))
+    (λ b w _ _ z. grind (arith, learning-knows, has-adding e d nd.unlooked, z))
     (λ _ _ _ _ z. or_right _ _ z) h
   where
     nd : NodeState
     nd = node_at c n
 
-    known : knows d (learning e nd).seen ≡ (knows d nd.seen || eqb e d)
-    known = ap (has d) (map-append (λ (s : Sight). s.edge) nd.seen (fresh_sight e ∷ []))
-        ∙ has-last e d (edges_of nd.seen)
-
-wired-kept : (c : CoreState) (n e : ℕ) → n < length c.nodes → names n (port_at c e).wire ≡ true
+wired-kept : (c : CoreState) (n e : ℕ) → is_edge c n e ≡ true → names n (port_at c e).wire ≡ true
     → Edges c → Nodes c → Kept c (learned c n e)
-wired-kept c n e inside named edges nodes = cond_both (knows e (node_at c n).seen) c _ (Kept c)
+wired-kept c n e here named edges nodes = cond_both (knows e (node_at c n).seen) c _ (Kept c)
     (λ _. same-kept c c.stopped edges nodes)
     (λ u. frame c n (learning e (node_at c n)) inside c.ports c.pending refl
-    (learning-holds e (node_at c n) u (nodes.each n))
+    (learning-holds e (node_at c n) u (nodes.each n)) (learning-known c n e port_in edges)
     (λ d i. learning-edge c n e inside u d (port_at c d)
     (λ t. subst (λ k. names n (port_at c k).wire ≡ true) (sym t) named)
     (edges.each d i, nodes.told d i)) (λ t. (t.few n, refl)) edges nodes)
+  where
+    inside : n < length c.nodes
+    inside = grind arith
+
+    port_in : e < length c.ports
+    port_in = grind arith
 
 -- a reserved edge gets its wire, and the node learns it
 wire-kept : (c : CoreState) (n e : ℕ) (w : Wire) → may c n (step.Wire e w) ≡ true
@@ -577,7 +599,7 @@ wire-kept c n e w g none edges nodes =
     cond_both (knows e (node_at c n).seen) (wiring c e w) _ (Kept c)
     (λ z. absurd (both_ways _ (unknown n) z))
     (λ u. frame c n nd inside (set c.ports e q) c.pending (length-set c.ports e q)
-    (learning-holds e (node_at c n) u (nodes.each n))
+    (learning-holds e (node_at c n) u (nodes.each n)) (learning-known c n e port_in edges)
     (λ d i. at_put (Holds c.sizes (set c.nodes n nd) d) c.ports e d q no_port port_in
     (λ t. subst (λ k. Holds c.sizes (set c.nodes n nd) k q) (sym t) here)
     (λ ne. learning-edge c n e inside u d (port_at c d) (λ t. absurd (ne t))
@@ -661,7 +683,7 @@ kept c n step.TokenOut g h k = counted-kept c n ((node_at c n).tokens - 1) (c.pe
 kept c n (step.Wire e w) g h k = cond_both (is_none (port_at c e).wire) _ c (Kept c)
     (λ q. wire-kept c n e w g (no-wire (port_at c e).wire q) h k) (λ _. same-kept c c.stopped h k)
 kept c n (step.Wired e) g h k = cond_both (names n (port_at c e).wire) _ c (Kept c)
-    (λ q. wired-kept c n e (grind arith) q h k) (λ _. same-kept c c.stopped h k)
+    (λ q. wired-kept c n e g q h k) (λ _. same-kept c c.stopped h k)
 kept c n step.Birth g h k = born-kept c n (grind arith) (grind arith) (grind arith) h k
 kept c n step.Stop g h k = same-kept c true h k
 kept c n step.See g h k = same-kept c c.stopped h k

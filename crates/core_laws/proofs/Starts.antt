@@ -98,6 +98,8 @@ wire-sound s e fit l = (and_parts _ _ (AllPass-from_list_all (wire_fits s) s.wir
 pub start-edges : (s : Sizes) → fits s ≡ true → Edges (start s)
 start-edges s fit = record {
   count = ports-length s;
+  known = λ n e k. let l = (learned-start s e n k).0 in
+      let z = ports-length s in omega (arith, l, z);
   each = λ e i. subst (λ p. EdgeHolds s (start s).nodes e p) (sym (port-start s e i)) (record {
     wired = record {
       sound = λ w q. let x = wire-is s e w q in

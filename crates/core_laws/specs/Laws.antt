@@ -44,8 +44,10 @@ pub record EdgeHolds (s : Sizes) (nodes : List NodeState) (e : ℕ) (p : PortSta
       → Sees b p.flags (flags_at e (node_of nodes (end_of b w)).seen)
   pub learned : (n : ℕ) → knows e (node_of nodes n).seen ≡ true → names n p.wire ≡ true
 
+-- there is a port for each edge, and no node has learned another
 pub record Edges (c : CoreState) : Type 0 where
   pub count : length c.ports ≡ length c.sizes.wires + reserved_edges c.sizes.reserves
+  pub known : (n e : ℕ) → knows e (node_of c.nodes n).seen ≡ true → e < length c.ports
   pub each : (e : ℕ) → e < length c.ports → EdgeHolds c.sizes c.nodes e (port_of c.ports e)
 
 -- ---- nodes

@@ -1,6 +1,6 @@
 -- What look, push, lift and pull do to the slots that are out with a seat.
-use Rattle.exec_table.proofs.Imports.{Flags, Wire, found_by, flags_word, Board, Bool, Chunk, Holds, List, NodeView, None, Option, Some, [], ap, arith, carried_after, cases_Bool, cond, deque_capacity, edge_count, end_of_view, End, no_end, get_or_past, cases_lt, both_ways, eqb, eqb-true, false, fits_end, has, holds, in_hand, inl, inr, is_empty_hand, is_end, is_full_hand, is_some, lane_at, length, node_view, not, once, port_at, refl, slot_act, subst, sym, true, ℕ, ◌&&◌, ◌<◌, ◌∙◌, ◌∷◌, ◌≡◌, HandHolds, IsInHand, IsSeatOf, Slots, edges_out, holds_chunk, key_of, slot_in, slot_of, slots, view, ExecTable, NodeSeat, beq}
-use Rattle.exec_table.proofs.Hands.{turn-of-end, view-turn}
+use Rattle.exec_table.proofs.Imports.{Flags, Wire, found_by, flags_word, Board, Bool, Chunk, Holds, List, NodeView, None, Option, Some, [], ap, arith, carried_after, cases_Bool, cond, deque_capacity, edge_count, end_of_view, End, no_end, get_or_past, cases_lt, both_ways, eqb, eqb-true, false, fits_end, has, holds, in_hand, inl, inr, is_empty_hand, is_end, is_full_hand, is_some, lane_at, length, node_view, not, once, port_at, refl, slot_act, subst, sym, true, ℕ, ◌&&◌, ◌<◌, ◌∙◌, ◌∷◌, ◌≡◌, HandHolds, IsInHand, Identity, IsSeatOf, Slots, edges_out, holds_chunk, slot_in, slot_of, slots, view, NodeSeat, beq}
+use Rattle.exec_table.proofs.Hands.{has-slot, turn-of-end, view-turn}
 use Rattle.exec_table.proofs.Stepping.{holds-in, lane-full}
 use Rattle.exec_table.proofs.SlotLists.{few-below, first-slot}
 use Rattle.exec_table.proofs.Seating.{known-wire}
@@ -13,23 +13,23 @@ pub slot-there : (e : ℕ) (l : Slots) (v : Option Chunk) → slot_in e l ≡ So
 slot-there e [] v h = grind (arith, h)
 slot-there e (y ∷ ys) v h = grind (arith, h, slot-there e ys v)
 
-pub held-there : (t : ExecTable) (s : NodeSeat) (e : ℕ) (v : Option Chunk) → IsSeatOf t s
+pub held-there : (t : Identity) (s : NodeSeat) (e : ℕ) (v : Option Chunk) → IsSeatOf t s
     → slot_of s e ≡ Some v → has e s.held.items ≡ true
 held-there t s e v o h = ap (has e) o.places ∙ slot-there e (slots s) v h
 
 -- there is room for one more slot
-pub room-for : (t : ExecTable) (s : NodeSeat) (e : ℕ) → IsSeatOf t s → e < edge_count (key_of t)
+pub room-for : (t : Identity) (s : NodeSeat) (e : ℕ) → IsSeatOf t s → e < edge_count t.sizes
     → has e s.held.items ≡ false → length s.held.items < deque_capacity s.held
 room-for t s e o less none = let r = o.room in
-    let n = few-below (edge_count (key_of t)) (e ∷ s.held.items)
+    let n = few-below (edge_count t.sizes) (e ∷ s.held.items)
     (let z = ap once o.places ∙ o.hand.once in grind (arith, z, none))
     (λ d q. elim (cases_Bool (eqb e d)) [
-      | inl y ↦ subst (λ k. k < edge_count (key_of t)) (eqb-true e d y) less
+      | inl y ↦ subst (λ k. k < edge_count t.sizes) (eqb-true e d y) less
       | inr y ↦ turned d (sym (o.hand.turns d) ∙ (sym (ap (has d) o.places) ∙ grind (arith, q, y)))
     ]) in omega (arith, n, r)
   where
-    turned : (d : ℕ) → is_some (end_of_view (view s) d).turn ≡ true → d < edge_count (key_of t)
-    turned d q = elim (cases_lt d (edge_count (key_of t))) [
+    turned : (d : ℕ) → is_some (end_of_view (view s) d).turn ≡ true → d < edge_count t.sizes
+    turned d q = elim (cases_lt d (edge_count t.sizes)) [
       | inl l ↦ l
       | inr past ↦ absurd (let n = o.ends in let z = ap (λ (x : End). is_some x.turn)
           (get_or_past (view s).ends d no_end (omega (arith, n, past))) in both_ways false refl
@@ -66,15 +66,7 @@ at-front s e ns v h first is = grind (arith, first-slot)
 -- the same slots and view, in another order
 pub hand-turned : (x : NodeView) (l k : Slots) → once (edges_out k) ≡ true
     → ((d : ℕ) → slot_in d k ≡ slot_in d l) → HandHolds x l → HandHolds x k
-hand-turned x l k one same h = record {
-  once = one;
-  turns = λ e. grind (arith, has-by e k, has-by e l, same e, h.turns e);
-  lies = λ e v q. grind (arith, same e, h.lies e v, q);
-}
-  where
-    has-by : (e : ℕ) (l : Slots) → has e (edges_out l) ≡ is_some (slot_in e l)
-    has-by e [] = refl
-    has-by e (y ∷ ys) = grind (arith, has-by e ys)
+hand-turned x l k one same h = grind (arith, has-slot, same, h.turns, h.lies)
 
 -- a slot that has a chunk
 pub full-slot : (y : Option (Option Chunk)) → holds_chunk y ≡ true

@@ -1,5 +1,5 @@
 -- The slots that are out with a seat, after each step of its node.
-use Rattle.exec_table.proofs.Imports.{Act, Close, Finish, Unwant, Want, may_act, Board, Bool, Chunk, CoreState, Holds, Lane, NodeView, None, Option, Pull, Push, Some, Step, Wire, [], acted, after, ap, arith, board_after, carried_after, cases_eq, cond, cond_both, end_of_view, eqb, false, fits_end, front, get_or, get_or-set_other, get_or-set_same, has, holds, inl, is_at_hand, is_end, is_none, keeps, lane_at, learned, length, looked_at, may, names, no_lane, no_port, node_at, node_view, not, port_after, port_at, port_of, refl, rest, set, slot_act, subst, sym, takes, true, turn_at, ℕ, ◌&&◌, ◌<◌, ◌^◌, ◌∙◌, ◌∷◌, ◌≡◌, ◌≢◌, HandHolds, Slots, edges_out, slot_in, eqb-true, once, ◌⊎◌}
+use Rattle.exec_table.proofs.Imports.{is_some, inr, Act, Close, Finish, Unwant, Want, may_act, Board, Bool, Chunk, CoreState, Holds, Lane, NodeView, None, Option, Pull, Push, Some, Step, Wire, [], acted, after, ap, arith, board_after, carried_after, cases_eq, cond, cond_both, end_of_view, eqb, false, fits_end, front, get_or, get_or-set_other, get_or-set_same, has, holds, inl, is_at_hand, is_end, is_none, keeps, lane_at, learned, length, looked_at, may, names, no_lane, no_port, node_view, not, port_after, port_at, port_of, refl, rest, set, slot_act, subst, sym, takes, true, turn_at, ℕ, ◌&&◌, ◌<◌, ◌∙◌, ◌∷◌, ◌≡◌, ◌≢◌, HandHolds, Slots, edges_out, slot_in, eqb-true, once, ◌⊎◌}
 use Rattle.exec_table.proofs.Readiness.{view-end}
 use Rattle.exec_table.proofs.Stepping.{act-parts, act-wire, holds-in}
 use Rattle.exec_table.proofs.Tied.{filled-hand, emptied-hand, look-nothing}
@@ -38,7 +38,8 @@ moves_slot s = false
 abbrev Wires : CoreState → CoreState → Type 0
 Wires d c = (e : ℕ) → (port_at d e).wire ≡ (port_at c e).wire
 
-act-wires : (a : Act) (c : CoreState) (n e : ℕ) → may_act a c n e ≡ true → Wires (acted a c n e) c
+act-wires : (a : Act) (c : CoreState) (n e : ℕ) → may_act a c n e ≡ true
+    → Wires (acted a c n e) c
 act-wires a c n e g d = grind (
   arith,
   act-wire a (port_at c e),
@@ -48,29 +49,36 @@ act-wires a c n e g d = grind (
   get_or-set_other c.ports e d (port_after a (port_at c e)) no_port,
 )
 
+-- a step by which a node may learn an edge
+abbrev pub may_learn : Step → Bool
+may_learn (step.Wire e w) = true
+may_learn (step.Wired e) = true
+may_learn s = false
+
+pub wires-kept : (c : CoreState) (n : ℕ) (s : Step) → may c n s ≡ true → may_learn s ≡ false
+    → Wires (after c n s) c
+wires-kept c n (step.Want e) g p = act-wires Want c n e g
+wires-kept c n (step.Unwant e) g p = act-wires Unwant c n e g
+wires-kept c n (step.Push e k) g p = act-wires (Push k) c n e g
+wires-kept c n (step.Pull e) g p = act-wires Pull c n e g
+wires-kept c n (step.Finish e) g p = act-wires Finish c n e g
+wires-kept c n (step.ClosePort e) g p = act-wires Close c n e g
+wires-kept c n s g p = λ e. grind (arith, p)
+
 -- an edge without a wire has nothing on it, so no end has its turn, nor where it gets one
 new-turn : (b : Board) (n d e : ℕ) (w : Wire) → Holds b → is_none (port_at b.core d).wire ≡ true
     → turn_for n (port_of (set b.core.ports d (record (port_at b.core d) { wire = Some w })) e).wire
     (lane_at b e) ≡ turn_in b n e
 new-turn b n d e w h none = grind (arith, home-turn, cases_eq, get_or-set_other)
 
-learned-ports : (c : CoreState) (n e : ℕ) → (learned c n e).ports ≡ c.ports
+pub learned-ports : (c : CoreState) (n e : ℕ) → (learned c n e).ports ≡ c.ports
 learned-ports c n e = grind arith
 
 pub turns-kept : (b : Board) (n : ℕ) (s : Step) (x : Option Chunk) → Holds b → may b.core n s ≡ true
     → moves_slot s ≡ false → (e : ℕ) → turn_in (board_after b n s x) n e ≡ turn_in b n e
-turns-kept b n (step.Want d) x h g q e = grind (arith, act-wires Want b.core n d g e)
-turns-kept b n (step.Unwant d) x h g q e = grind (arith, act-wires Unwant b.core n d g e)
-turns-kept b n (step.Finish d) x h g q e = grind (arith, act-wires Finish b.core n d g e)
-turns-kept b n (step.ClosePort d) x h g q e = grind (arith, act-wires Close b.core n d g e)
-turns-kept b n step.Rest x h g q e = cond_both (eqb (node_at b.core n).word (2 ^ 62)) _ b.core
-    (λ c. turn_for n (port_at c e).wire (lane_at b e) ≡ turn_in b n e) (λ _. refl) (λ _. refl)
 turns-kept b n (step.Wire d w) x h g q e = grind (arith, new-turn b n d e w h)
 turns-kept b n (step.Wired d) x h g q e = grind (arith, learned-ports b.core n d)
-turns-kept b n (step.Look d) x h g q e = absurd (let z : true ≡ false = q in cc)
-turns-kept b n (step.Push d k) x h g q e = absurd (let z : true ≡ false = q in cc)
-turns-kept b n (step.Pull d) x h g q e = absurd (let z : true ≡ false = q in cc)
-turns-kept b n s x h g q e = refl
+turns-kept b n s x h g q e = grind (arith, q, wires-kept b.core n s g)
 
 -- ---- lists of slots
 
@@ -86,6 +94,10 @@ hand-more : (x y : NodeView) (slots : Slots) (d : ℕ) (v : Option Chunk)
     → ((e : ℕ) → (end_of_view y e).turn ≡ cond (eqb e d) (Some v) (end_of_view x e).turn)
     → HandHolds x slots → HandHolds y ((d, v) ∷ slots)
 hand-more x y slots d v none same h = grind arith
+
+pub has-slot : (e : ℕ) (l : Slots) → has e (edges_out l) ≡ is_some (slot_in e l)
+has-slot e [] = refl
+has-slot e (y ∷ ys) = grind (arith, has-slot e ys)
 
 -- no slot, no value
 pub no-slot : (e : ℕ) (slots : Slots) → has e (edges_out slots) ≡ false → slot_in e slots ≡ None
@@ -104,6 +116,10 @@ hand-less x y slots d v same h = record {
 
 -- ---- after a step
 
+pub by_index : {A : Type 0} (e d : ℕ) (x y z : A) → (e ≡ d → x ≡ y) → (e ≢ d → x ≡ z)
+    → x ≡ cond (eqb e d) y z
+by_index e d x y z same other = grind (arith, cases_eq e d)
+
 -- the turns that a step leaves whose edge d has the lane l after it
 turn-set : (b c : Board) (n d : ℕ) (l : Lane) → Holds b → Holds c → d < length b.core.ports
     → c.lanes ≡ set b.lanes d l → Wires c.core b.core → (e : ℕ)
@@ -116,10 +132,6 @@ turn-set b c n d l h after i lanes wires e = view-turn c n e after
     (get_or-set_same b.lanes d l no_lane (let k = h.lane_count in omega (arith, k, i)))))
     (λ ne. ap (turn_for n (port_at b.core e).wire) (get_or-set_other b.lanes d e l no_lane ne)
     ∙ sym (view-turn b n e h)))
-  where
-    by_index : {A : Type 0} (e d : ℕ) (x y z : A) → (e ≡ d → x ≡ y) → (e ≢ d → x ≡ z)
-        → x ≡ cond (eqb e d) y z
-    by_index e d x y z same other = grind (arith, cases_eq e d)
 
 -- the turn of a slot that a look takes
 turn-looked : (b : Board) (n d : ℕ) → Holds b → holds b.core n d ≡ true
@@ -131,9 +143,12 @@ turn-looked b n d h g q = grind arith
 
 -- what lies in a slot that was out, or in the one that was taken
 taken-slot : (d e : ℕ) (c v : Option Chunk) (s t u : Option (Option Chunk))
-    → t ≡ cond (eqb e d) (Some c) u → cond (eqb d e) (Some c) s ≡ Some v
-    → (s ≡ Some v) ⊎ (t ≡ Some v)
-taken-slot d e c v s t u is q = grind arith
+    → t ≡ cond (eqb e d) (Some c) u → (e ≡ d → s ≡ None) → cond (eqb d e) (Some c) s ≡ Some v
+    → (s ≡ Some v) ⊎ ((s ≡ None) × (t ≡ Some v))
+taken-slot d e c v s t u is home q = elim (cases_eq e d) [
+  | inl at ↦ inr (home at, grind (arith, is, q, at))
+  | inr ne ↦ inl (grind (arith, q, ne))
+]
 
 -- the slots but the first
 pub rest-slots : (l ys : Slots) (e : ℕ) (u : Option Chunk) → once (edges_out l) ≡ true
@@ -170,20 +185,22 @@ module _ (b : Board) (n : ℕ) (h : Holds b) (slots : Slots) (hand : HandHolds (
         (λ r. ap (turn_for n w) (look-nothing (is_end true n w) l q) ∙ (sym (view-turn b n d h)
         ∙ ap (λ k. (end_of_view (node_view b n) k).turn) (sym (eqb-true e d r)))) (λ _. refl)) hand)
 
-    -- a slot that is out after a look was out, or has what lies in the port
+    -- a slot that is out after a look was out, or was taken with what lies in the port
     pub look-slots : (d : ℕ) (x : Option Chunk) → holds b.core n d ≡ true
         → Holds (board_after b n (step.Look d) x) → (e : ℕ) (v : Option Chunk)
         → slot_in e (carried_after slots (slot_act b n (step.Look d))) ≡ Some v
-        → (slot_in e slots ≡ Some v)
-        ⊎ ((end_of_view (node_view (board_after b n (step.Look d) x) n) e).turn ≡ Some v)
+        → (slot_in e slots ≡ Some v) ⊎ ((slot_in e slots ≡ None)
+        × ((end_of_view (node_view (board_after b n (step.Look d) x) n) e).turn ≡ Some v))
     look-slots d x g after e v = let l = lane_at b d in
         cond_both (not l.taken && fits_end (is_end true n (port_at b.core d).wire) l.content)
         (takes d l.content) keeps (λ z. slot_in e (carried_after slots z) ≡ Some v
-        → (slot_in e slots ≡ Some v)
-        ⊎ ((end_of_view (node_view (board_after b n (step.Look d) x) n) e).turn ≡ Some v))
+        → (slot_in e slots ≡ Some v) ⊎ ((slot_in e slots ≡ None)
+        × ((end_of_view (node_view (board_after b n (step.Look d) x) n) e).turn ≡ Some v)))
         (λ q. taken-slot d e l.content v _ _ _ (looked-turns d x g after e
         ∙ ap (λ t. cond (eqb e d) t (end_of_view (node_view b n) e).turn)
-        (turn-looked b n d h g q))) (λ _ r. inl r)
+        (turn-looked b n d h g q)) (λ at. ap (λ k. slot_in k slots) at
+        ∙ no-slot d slots (hand.turns d ∙ ap is_some (view-turn b n d h
+        ∙ home-turn n (port_at b.core d).wire l (grind arith))))) (λ _ r. inl r)
 
     -- a push or a pull, which leaves the lane m, whose slot is at home
     hand-given : (c : Board) (d : ℕ) (v : Option Chunk) (m : Lane) → Holds c

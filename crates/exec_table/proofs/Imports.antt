@@ -37,7 +37,7 @@ pub use Rattle.atomic_table.specs.declared.shared.Seat.{Seat}
 pub use Rattle.exec_table.specs.Closings.{IsFinal}
 pub use Rattle.exec_table.specs.Made.{just_first, rest_of, without_first, IsOpen}
 pub use Rattle.exec_table.specs.Plays.{Worked, next_worker, with_worker, first_or_none}
-pub use Rattle.exec_table.specs.Seats.{IsSeatOf, key_of, seen_in, view, HandHolds, Makes, Slots, edges_out, slots, slot_in, IsInHand, holds_chunk, slot_of, push_of}
+pub use Rattle.exec_table.specs.Seats.{Identity, IsSeatOf, identity_of, key_of, seen_in, view, HandHolds, Makes, Slots, edges_out, slots, slot_in, IsInHand, holds_chunk, slot_of, push_of}
 pub use Rattle.exec_table.specs.Surveys.{AreAll, Each, HasAll, IsBack, IsLent, Surveyed, joined_views, noted_word, noting, views}
 pub use Rattle.exec_table.specs.declared.rule.ExecTable.{ExecTable}
 pub use Rattle.exec_table.specs.declared.rule.NodeSeat.{NodeSeat}

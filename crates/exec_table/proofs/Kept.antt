@@ -1,5 +1,5 @@
 -- Each step of a node keeps the laws of a board, and leaves what other nodes see.
-use Rattle.exec_table.proofs.Imports.{Begun, Board, Born, Chunk, Close, Finish, Holds, NodeState, Option, Over, StageHolds, Step, Unwant, Want, Wire, ap, arith, at_put, bit_at_end, board_after, peer_in, born, cases_eq, cond_both, edge_count, end_for, eqb, false, has-last, is_none, knows, lane_at, laws-kept, learned, learning, left, length, length-set, map, map-append, marks-of, may, names, no_lane, no_node, node_at, node_of, node_view, or-more, or-other, port_at, put_node, range_with_len, refl, set, set-get_or, spent, stage_at, subst, sym, taken, telling, told, true, wiring, ℕ, ◌+◌, ◌-◌, ◌<◌, ◌^◌, ◌∙◌, ◌≡◌}
+use Rattle.exec_table.proofs.Imports.{Begun, Board, Born, Chunk, Close, Finish, Holds, NodeState, Option, Over, StageHolds, Step, Unwant, Want, Wire, ap, arith, at_put, bit_at_end, board_after, peer_in, born, cond_both, edge_count, end_for, eqb, false, is_none, knows, lane_at, laws-kept, learned, learning, left, length, length-set, map, marks-of, may, names, no_lane, no_node, node_at, node_of, node_view, or-more, or-other, port_at, put_node, range_with_len, refl, set, set-get_or, spent, stage_at, subst, sym, taken, telling, told, true, wiring, ℕ, ◌+◌, ◌-◌, ◌<◌, ◌^◌, ◌∙◌, ◌≡◌}
 use Rattle.exec_table.proofs.Moving.{board_of, Moved, none-moved, node-moved, same-stage, port-moved}
 use Rattle.exec_table.proofs.Stepping.{AtHand, look-moved, push-moved, pull-moved, still-moved, seen-stage, birth-stage}
 use Rattle.core_laws.specs.declared.types.Step.TheVariants as step
@@ -7,12 +7,12 @@ use Rattle.core_laws.specs.declared.types.Step.TheVariants as step
 -- ---- growth
 
 -- the view of a node that learned the edge e
-learn-stage : (b : Board) (n e : ℕ) → Holds b → e < length b.core.ports
+learn-stage : (b : Board) (n e : ℕ) → Holds b
     → StageHolds b.core.sizes n (learning e (node_at b.core n)) (stage_at b n)
-learn-stage b n e h i = grind (arith, map-append, has-last, cases_eq)
+learn-stage b n e h = grind (arith, h.stages n)
 
 -- no node has learned an edge without a wire
-unknown-edge : (b : Board) (n e : ℕ) → Holds b → e < length b.core.ports
+pub unknown-edge : (b : Board) (n e : ℕ) → Holds b → e < length b.core.ports
     → is_none (port_at b.core e).wire ≡ true → knows e (node_at b.core n).seen ≡ false
 unknown-edge b n e h i none = grind arith
 
@@ -82,7 +82,7 @@ moved b n (step.Mark e) x h i g k = let c = b.core in
     (telling e (spent (node_at c m).word) (node_at c n)) (told-moved b n m _ h y.peer_in y.small)
     (let l = length-set c.nodes m nd in let j : n < length c.nodes = grind arith in
     omega (arith, l, j))
-    (seen-stage b n _ h refl refl refl)
+    (seen-stage b n _ h refl refl)
 moved b n step.Begin x h i g k = node-moved b b n b.core.pending
     (taken b.core n (spent (node_at b.core n).word)) Begun (none-moved b n h) (grind arith)
     (grind (arith, h.stages n))
@@ -97,22 +97,21 @@ moved b n step.Over x h i g k = node-moved b b n b.core.pending
     (left (2 ^ 63) (node_at b.core n)) Over (none-moved b n h) (grind arith)
     (grind (arith, h.stages n))
 moved b n step.TokenIn x h i g k = same-stage b b n (b.core.pending + 1) _ (none-moved b n h)
-    (grind arith) (seen-stage b n _ h refl refl refl)
+    (grind arith) (seen-stage b n _ h refl refl)
 moved b n step.TokenOut x h i g k = same-stage b b n (b.core.pending - 1) _ (none-moved b n h)
-    (grind arith) (seen-stage b n _ h refl refl refl)
+    (grind arith) (seen-stage b n _ h refl refl)
 moved b n (step.Wire e w) x h i g k = let j : e < length b.core.ports = grind arith in
     cond_both (is_none (port_at b.core e).wire) (learned (wiring b.core e w) n e) b.core
     (λ c. Moved b (board_of c b.lanes b.stages) n)
     (λ none. learn-moved b (board_of (wiring b.core e w) b.lanes b.stages) n e
-    (wire-moved b n e w h j none) (grind arith) (learn-stage b n e h j)) (λ _. none-moved b n h)
+    (wire-moved b n e w h j none) (grind arith) (learn-stage b n e h)) (λ _. none-moved b n h)
 moved b n (step.Wired e) x h i g k = cond_both (names n (port_at b.core e).wire)
     (learned b.core n e) b.core (λ c. Moved b (board_of c b.lanes b.stages) n)
-    (λ _. learn-moved b b n e (none-moved b n h) (grind arith) (learn-stage b n e h (grind arith)))
+    (λ _. learn-moved b b n e (none-moved b n h) (grind arith) (learn-stage b n e h))
     (λ _. none-moved b n h)
 moved b n step.Birth x h i g k = node-moved b b n b.core.pending (born (node_at b.core n)) Born
     (none-moved b n h) (grind arith) (birth-stage b n h (grind arith))
-moved b n step.Stop x h i g k = absurd (let c = h.laws.nodes.number in grind (arith, c, i))
-moved b n step.See x h i g k = absurd (let c = h.laws.nodes.number in grind (arith, c, i))
+moved b n s x h i g k = absurd (let c = h.laws.nodes.number in grind (arith, c, i))
 
 -- the laws hold after it
 pub holds-after : (b : Board) (n : ℕ) (s : Step) (x : Option Chunk) → Holds b

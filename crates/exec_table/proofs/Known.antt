@@ -1,10 +1,9 @@
 -- What a seat knows after a step follows from what it knew before and what the step answered.
-use Rattle.exec_table.proofs.Imports.{Act, Board, Bool, Chunk, Close, CoreState, ExecTable, Finish, Holds, IsSeatOf, List, Lane, Makes, NodeSeat, NodeState, NodeView, None, Option, Pull, Push, Some, Step, Unwant, Want, [], acted, adding, after, ap, arith, bit_at_end, board_after, changed, cond, cond_both, edges_of, end-of, end_of_view, eqb, false, filter, fits_end, flags_at, get_or, get_or-set_same, has, is_end, is_none, is_over, is_set, is_updated, key_of, knows, lane_at, learned, learning, left, length, length-set, marked_by, may, may_act, names, no_node, no_wire, not, node_at, node_view, or_right, peer_in, port_at, refl, seeing, set, spent, subst, sym, taken, telling, tells, told, true, turn_at, view, wiring, ℕ, ◌&&◌, ◌-◌, ◌<◌, ◌^◌, ◌∙◌, ◌∷◌, ◌≡◌, ◌||◌}
-use Rattle.core_laws.specs.Steps.{Answer, already_due, answer, charged, over}
+use Rattle.exec_table.proofs.Imports.{Act, Board, Bool, Chunk, Close, CoreState, Identity, Finish, Holds, IsSeatOf, List, Lane, Makes, NodeSeat, NodeState, NodeView, Option, Pull, Push, Some, Step, Unwant, Want, [], acted, adding, after, ap, arith, bit_at_end, board_after, changed, cond, edges_of, end-of, End, end_for, end_of_view, Wire, filter, fits_end, flags_at, get_or, get_or-set_same, has, is_end, is_none, is_set, is_updated, knows, learned, learning, left, length, length-set, marked_by, may, may_act, names, no_node, no_wire, not, node_at, node_view, or_right, peer_in, port_at, refl, seeing, set, spent, subst, sym, taken, telling, tells, told, true, view, wiring, ℕ, ◌-◌, ◌<◌, ◌∙◌, ◌∷◌, ◌≡◌, ◌||◌}
+use Rattle.core_laws.specs.Steps.{Answer, answer}
 use Rattle.core_laws.specs.declared.types.Step.TheVariants as step
 use Rattle.exec_table.specs.Known.{is_due, price, state_acted, state_after, state_learned, state_taken}
-use Rattle.exec_table.proofs.Readiness.{edge-count}
-use Rattle.exec_table.proofs.Hands.{turn-of-end, view-turn}
+use Rattle.exec_table.proofs.Readiness.{view-end}
 use Rattle.exec_table.proofs.Seating.{known-wire}
 use Rattle.exec_table.proofs.Stepping.{act-parts, holds-in}
 
@@ -52,32 +51,13 @@ module _ (b : Board) (n : ℕ) (h : Holds b) (here : n < length b.core.nodes) wh
       due e k = λ i. has e nd.unlooked || (is_set (sym is i) 60
           || is_set (sym is i) (bit_at_end n (sym (known-wire b n e h k) i)))
 
-  learns : (e : ℕ) (d : CoreState) (t : Bool) → n < length d.nodes
-      → bare (node_at (cond t d (record d { nodes = set d.nodes n (learning e (node_at d n)) })) n)
-      ≡ cond t (bare (node_at d n)) (learning e (bare (node_at d n)))
-  learns e d true i = refl
-  learns e d false i = ap bare (get_or-set_same d.nodes n _ no_node i)
-
   -- the edge is learned where it may be
   wires : (e : ℕ) (d : CoreState) (t : Bool) → d.nodes ≡ c.nodes
       → bare (node_at (cond t (learned d n e) c) n) ≡ cond t (state_learned e (bare nd)) (bare nd)
-  wires e d true q = learns e d (knows e (node_at d n).seen)
-      (subst (λ l. n < length l) (sym q) here)
-      ∙ ap (λ l. state_learned e (bare (get_or l n no_node))) q
-  wires e d false q = refl
-
-  rests : (t : Bool) → bare (node_at (cond t (record c { nodes = set c.nodes n (left 0 nd) }) c) n)
-      ≡ cond t (left 0 (bare nd)) (bare nd)
-  rests true = ap bare (own _)
-  rests false = refl
+  wires e d t q = grind (arith, q, own (learning e nd))
 
   priced : (w : ℕ) → spent w ≡ price (marked_by w)
-  priced w = both (eqb w 0) (is_over w)
-    where
-      both : (t o : Bool) → cond t 1 0 ≡ price (cond t charged (cond o over already_due))
-      both true o = refl
-      both false true = refl
-      both false false = refl
+  priced w = grind arith
 
   pub state-after : (s : Step) → may c n s ≡ true
       → bare (node_at (after c n s) n) ≡ state_after (node_view b n) s (answer c n s)
@@ -95,7 +75,7 @@ module _ (b : Board) (n : ℕ) (h : Holds b) (here : n < length b.core.nodes) wh
       ∙ ap (λ k. bare (telling e k nd)) (priced (node_at c m).word)
   state-after step.Begin g = ap bare (own _) ∙ takes nd.word (spent nd.word) refl
   state-after step.Again g = ap bare (own _) ∙ takes nd.word 0 refl
-  state-after step.Rest g = rests (eqb nd.word (2 ^ 62))
+  state-after step.Rest g = grind (arith, own (left 0 nd))
   state-after step.Over g = ap bare (own _)
   state-after step.TokenIn g = ap bare (own _)
   state-after step.TokenOut g = ap bare (own _)
@@ -104,23 +84,30 @@ module _ (b : Board) (n : ℕ) (h : Holds b) (here : n < length b.core.nodes) wh
   state-after step.Birth g = ap bare (own _)
   state-after s g = refl
 
-module _ {t : ExecTable} {old new : NodeSeat} {s : Step} {x : Option Chunk} {a : Answer}
+-- an end that has the turn of a slot has what it may take
+end-fits : (n : ℕ) (k : Bool) (w : Option Wire) (l : Lane) (v : Option Chunk) → names n w ≡ true
+    → (end_for n k w l).turn ≡ Some v → fits_end (is_end true n w) v ≡ true
+end-fits n k w l v h q = grind arith
+
+module _ {t : Identity} {old new : NodeSeat} {s : Step} {x : Option Chunk} {a : Answer}
     (o : IsSeatOf t old) (m : Makes t old new s x a) where
   abbrev n : ℕ
   n = (view old).number
 
-  sizes : m.before.core.sizes ≡ key_of t
-  sizes = ap (λ (v : NodeView). v.sizes) m.was ∙ o.sizes
+  -- the node is one of the board
+  pub node-inside : n < length m.before.core.nodes
+  node-inside = let i = o.inside in let l = m.holds.laws.nodes.number in
+      let z = ap (λ (v : NodeView). v.sizes.nodes) m.was ∙ ap (λ z. z.nodes) o.sizes in
+      omega (arith, i, z, l)
 
   pub state-made : (view new).state ≡ state_after (view old) s a
-  state-made = let i = o.inside in let z = ap (λ z. z.nodes) sizes in
-      let l = m.holds.laws.nodes.number in sym (ap (λ (v : NodeView). v.state) m.now)
-      ∙ (state-after m.before n m.holds (omega (arith, i, z, l)) s m.may
+  state-made = sym (ap (λ (v : NodeView). v.state) m.now)
+      ∙ (state-after m.before n m.holds node-inside s m.may
       ∙ (λ i. state_after (m.was i) s (m.says i)))
 
   -- the wire of an edge from the start, which the node has learned
-  pub wire-made : (e : ℕ) → knows e (view new).state.seen ≡ true → e < length (key_of t).wires
-      → (end_of_view (view new) e).wire ≡ Some (get_or (key_of t).wires e no_wire)
+  pub wire-made : (e : ℕ) → knows e (view new).state.seen ≡ true → e < length t.sizes.wires
+      → (end_of_view (view new) e).wire ≡ Some (get_or t.sizes.wires e no_wire)
   wire-made e k i = let d = board_after m.before n s x in let same = m.seat.sizes in
       let is = ap (λ (v : NodeView). v.sizes) m.now ∙ same in
       let l = ap (λ z. length z.wires) is in let count = m.kept.laws.edges.count in
@@ -136,24 +123,8 @@ module _ {t : ExecTable} {old new : NodeSeat} {s : Step} {x : Option Chunk} {a :
       → fits_end (is_end true (view new).number (end_of_view (view new) e).wire) v ≡ true
   turn-fits e = subst (λ (y : NodeView). knows e y.state.seen ≡ true → (v : Option Chunk)
       → (end_of_view y e).turn ≡ Some v
-      → fits_end (is_end true y.number (end_of_view y e).wire) v ≡ true) m.now fits
-    where
-      d : Board
-      d = board_after m.before n s x
-
-      turned : (b : Bool) (l : Lane) (v : Option Chunk) → turn_at b l ≡ Some v
-          → fits_end b v ≡ true
-      turned b l v = cond_both (l.taken && fits_end b l.content) (Some l.content) None
-          (λ y. y ≡ Some v → fits_end b v ≡ true)
-          (λ t q. let is : l.content ≡ v = cc in subst (λ v. fits_end b v ≡ true) is (grind arith))
-          (λ _ q. absurd (let z : None ≡ Some v = q in cc))
-
-      fits : knows e (node_at d.core n).seen ≡ true → (v : Option Chunk)
-          → (end_of_view (node_view d n) e).turn ≡ Some v
-          → fits_end (is_end true n (end_of_view (node_view d n) e).wire) v ≡ true
-      fits k v q = let w = (port_at d.core e).wire in let l = lane_at d e in
-          let less = (m.kept.stages n).known e k in let count = edge-count d m.kept in
-          let named = (m.kept.laws.edges.each e (omega (arith, less, count))).learned n k in
-          ap (λ w. fits_end (is_end true n w) v) (known-wire d n e m.kept k)
-          ∙ turned (is_end true n w) l v (sym (turn-of-end n w l named)
-          ∙ (sym (view-turn d n e m.kept) ∙ q))
+      → fits_end (is_end true y.number (end_of_view y e).wire) v ≡ true) m.now
+      (λ k v q. let d = board_after m.before n s x in let edges = m.kept.laws.edges in
+      ap (λ w. fits_end (is_end true n w) v) (known-wire d n e m.kept k)
+      ∙ end-fits n _ _ _ v ((edges.each e (edges.known n e k)).learned n k)
+      (ap (λ (z : End). z.turn) (sym (view-end d n e m.kept)) ∙ q))

@@ -1,17 +1,18 @@
-mod Imports
-mod Readiness
+pub mod Imports
+pub mod Readiness
 mod Wording
 mod Moving
-mod Stepping
+pub mod Stepping
 mod Kept
 mod Tied
 mod Showing
-mod Hands
-mod Seating
+pub mod Hands
+pub mod Seating
 mod SlotLists
 mod Handling
 mod Working
 pub mod Known
+pub mod Ends
 mod Starting
 mod Surveying
 mod Cited

@@ -1,5 +1,5 @@
 -- What a seat may do by its view it may do by the core.
-use Rattle.exec_table.proofs.Imports.{Close, Finish, Pull, Push, Unwant, Want, Act, Board, Holds, Step, ap, arith, can_act, edge_count, end_for, end_of_view, end_view, false, get_or-map-range_with_len, has, knows, lane_at, length, may, may_act, no_end, node_at, node_view, ready, sym, true, Act, ℕ, ◌<◌, ◌∙◌, ◌≡◌, PortState, no_port, cases_lt, inl, inr, get_or_past, length-map-range_with_len, and_parts, and_from, lt-ltb}
+use Rattle.exec_table.proofs.Imports.{Close, Finish, Pull, Push, Unwant, Want, Act, Board, Holds, Step, ap, arith, can_act, edge_count, end_for, end_of_view, end_view, get_or-map-range_with_len, has, knows, lane_at, length, may, may_act, no_end, node_at, node_view, ready, sym, true, Act, ℕ, ◌<◌, ◌∙◌, ◌≡◌, PortState, no_port, cases_lt, inl, inr, get_or_past, length-map-range_with_len, and_parts, and_from, lt-ltb}
 use Rattle.core_laws.specs.declared.types.Step.TheVariants as step
 
 -- there is a node for each number below the nodes' count, and an edge for each below the edges'
@@ -27,8 +27,8 @@ act-may a b n e h i g = grind (arith, and_from, and_parts, node-count, lt-ltb, e
 pub ready-may : (b : Board) (n : ℕ) (s : Step) → Holds b → n < b.core.sizes.nodes
     → ready (node_view b n) s ≡ true → may b.core n s ≡ true
 ready-may b n (step.Look e) h i g = let k : knows e (node_at b.core n).seen ≡ true = grind arith in
-    let inside = (h.stages n).known e k in let nodes = node-count b h in
-    let edges = edge-count b h in grind (arith, nodes, edges, i, inside)
+    let inside = h.laws.edges.known n e k in let nodes = node-count b h in
+    grind (arith, nodes, i, inside)
 ready-may b n (step.Want e) h i g = act-may Want b n e h i g
 ready-may b n (step.Unwant e) h i g = act-may Unwant b n e h i g
 ready-may b n (step.Push e x) h i g = act-may (Push x) b n e h i
@@ -39,16 +39,13 @@ ready-may b n (step.ClosePort e) h i g = act-may Close b n e h i g
 ready-may b n (step.Mark e) h i g = let o : has e (node_at b.core n).owes ≡ true =
     (and_parts _ _ g).0 in let k : knows e (node_at b.core n).seen ≡ true = (and_parts _ _
     ((h.laws.nodes.each n).owes e o)).1 in
-    let inside = (h.stages n).known e k in let nodes = node-count b h in
-    let edges = edge-count b h in grind (arith, nodes, edges, i, inside)
-ready-may b n step.Begin h i g = let nodes = node-count b h in let u = (h.stages n).unborn in
-    let o = (h.stages n).over in grind (arith, nodes, i, u, o)
-ready-may b n (step.Wire e w) h i g = let nodes = node-count b h in let edges = edge-count b h in
-    grind (arith, nodes, edges, i)
-ready-may b n (step.Wired e) h i g = let nodes = node-count b h in let edges = edge-count b h in
-    grind (arith, nodes, edges, i)
-ready-may b n step.Birth h i g = let nodes = node-count b h in let u = (h.stages n).unborn in
-    grind (arith, nodes, i, u)
-ready-may b n step.Stop h i g = absurd (let z : true ≡ false = sym g in cc)
-ready-may b n step.See h i g = absurd (let z : true ≡ false = sym g in cc)
-ready-may b n s h i g = let nodes = node-count b h in grind (arith, nodes, i)
+    let inside = h.laws.edges.known n e k in let nodes = node-count b h in
+    grind (arith, nodes, i, inside)
+ready-may b n s h i g = grind (
+  arith,
+  node-count b h,
+  edge-count b h,
+  i,
+  (h.stages n).unborn,
+  (h.stages n).over,
+)

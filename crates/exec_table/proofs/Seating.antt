@@ -1,5 +1,5 @@
 -- What a seat is after a step of its node, and what the call tells.
-use Rattle.exec_table.proofs.Imports.{Allows, Answer, Board, Bool, Chunk, CoreState, Did, Fits, Holds, IsSeen, NodeView, None, Option, Sat, Shown, Sizes, Some, State, Step, View, Wire, [], aiming, and_parts, answer, ap, arith, board_after, carried_after, cases_Bool, edge_count, end_of_view, false, front, get_elem?, get_or, inl, inr, is_at_hand, keeps, knows, length, may, node_at, node_view, or_cases, place, port_at, refl, set-get_or, sizes-kept, slot_act, stepped, subst, sym, true, wire_of, wire_place, wire_word, words_of, ℕ, ◌+◌, ◌-◌, ◌<◌, ◌∙◌, ◌∷◌, ◌≡◌, ◌≤◌, wire_ok, EndOf, an-end, node_place, length-map-range_with_len, port_place, ready, Seat, HandHolds, IsSeatOf, Makes, Slots, edges_out, key_of, slots, view, ExecTable, NodeSeat, deque_capacity, both_ways, ⊎_elim, slot_in}
+use Rattle.exec_table.proofs.Imports.{Allows, Answer, Board, Bool, Chunk, CoreState, Did, Fits, Holds, IsSeen, NodeView, None, Option, Sat, Shown, Sizes, Some, State, Step, View, Wire, [], aiming, and_parts, answer, ap, arith, board_after, carried_after, cases_Bool, edge_count, end_of_view, false, front, get_elem?, get_or, inl, inr, is_at_hand, keeps, knows, length, may, node_at, node_view, or_cases, place, port_at, refl, set-get_or, sizes-kept, slot_act, stepped, subst, sym, true, wire_of, wire_place, wire_word, words_of, ℕ, ◌+◌, ◌-◌, ◌<◌, ◌∙◌, ◌∷◌, ◌≡◌, ◌≤◌, wire_ok, EndOf, an-end, node_place, length-map-range_with_len, port_place, ready, Seat, HandHolds, Identity, IsSeatOf, Makes, Slots, edges_out, identity_of, key_of, slots, view, ExecTable, NodeSeat, deque_capacity, ⊎_elim, slot_in}
 use Rattle.exec_table.specs.Plays.{node_of}
 use Rattle.exec_table.specs.Seats.{Carried}
 use Rattle.exec_table.proofs.Readiness.{view-end, edge-count}
@@ -7,7 +7,6 @@ use Rattle.exec_table.proofs.Wording.{op, read-wire}
 use Rattle.exec_table.proofs.Showing.{fits-one, fits-set, regrouped}
 use Rattle.exec_table.proofs.Tied.{tied}
 use Rattle.exec_table.proofs.Hands.{hand-after, moves_slot}
-use Rattle.core_laws.specs.declared.types.Step.TheVariants as step
 
 -- ---- wires
 
@@ -64,8 +63,7 @@ aim-allowed key slots id m x e i single sizes known at st r deep mine fit = (
     seen = subst (λ (y : NodeView). knows e y.state.seen ≡ true) here.is known
 
     inside : e < length b.core.ports
-    inside = let c = edge-count b r.holds in let z = (r.holds.stages x.number).known e seen in
-        omega (arith, c, z)
+    inside = r.holds.laws.edges.known x.number e seen
 
     edge : (a : Bool) × EndOf a x.number (port_at b.core e).wire
     edge = an-end x.number (port_at b.core e).wire
@@ -82,7 +80,7 @@ aim-allowed key slots id m x e i single sizes known at st r deep mine fit = (
 -- ---- a seat after a step
 
 -- the call made the step s, which put x; the slots that were out before it are `l`
-pub makes : {t : ExecTable} {old new : NodeSeat} {s : Step} {l : Slots} {x : Option Chunk}
+pub makes : {t : Identity} {old new : NodeSeat} {s : Step} {l : Slots} {x : Option Chunk}
     {found : ℕ} {a : Answer} → IsSeatOf t old → (d : Did (view old) s l found new.seat.me)
     → HandHolds (node_view (board_after d.before (view old).number s (front l)) (view old).number)
     (slots new) → new.seat.table_id ≡ old.seat.table_id → new.node ≡ old.node
@@ -105,19 +103,16 @@ makes {t} {old} {new} {s} {l} {x} o d hand table node places room put says kept 
     n : ℕ
     n = (view old).number
 
-    sizes : (board_after d.before n s (front l)).core.sizes ≡ key_of t
+    sizes : (board_after d.before n s (front l)).core.sizes ≡ t.sizes
     sizes = sizes-kept d.before.core n s ∙ (ap (λ x. x.sizes) d.was ∙ o.sizes)
 
 -- a step that moves no slot
 still : (s : Step) → moves_slot s ≡ false → (l : Slots) → (is_at_hand s l ≡ true)
     × ((b : Board) (n : ℕ) (x : Option Chunk) → (slot_act b n s ≡ keeps)
     × (board_after b n s x ≡ board_after b n s None))
-still (step.Look e) h l = absurd (both_ways true h refl)
-still (step.Push e k) h l = absurd (both_ways true h refl)
-still (step.Pull e) h l = absurd (both_ways true h refl)
-still s h l = (refl, (λ _ _ _. (refl, refl)))
+still s h l = (grind (arith, h), (λ b n x. (grind (arith, h), grind (arith, h))))
 
-pub quiet-makes : {t : ExecTable} {old new : NodeSeat} {found : ℕ} {a : Answer} {s : Step}
+pub quiet-makes : {t : Identity} {old new : NodeSeat} {found : ℕ} {a : Answer} {s : Step}
     → moves_slot s ≡ false → IsSeatOf t old → (d : Did (view old) s (slots old) found new.seat.me)
     → new.seat.table_id ≡ old.seat.table_id → new.node ≡ old.node → new.held ≡ old.held
     → answer d.before.core (view old).number s ≡ a → Makes t old new s None a
@@ -146,8 +141,8 @@ edge_place true z e = port_place z e
 edge_place false z e = wire_place z e
 
 -- the place names the edge
-pub place-edge : (k : Bool) (t : ExecTable) (s : NodeSeat) (e i : ℕ) → IsSeatOf t s
-    → i ≡ edge_place k (key_of t) e → i - edge_place k (view s).sizes 0 ≡ e
+pub place-edge : (k : Bool) (t : Identity) (s : NodeSeat) (e i : ℕ) → IsSeatOf t s
+    → i ≡ edge_place k t.sizes e → i - edge_place k (view s).sizes 0 ≡ e
 place-edge k t s e i o at = grind arith
 
 pub place-inside : (k : Bool) (t : ExecTable) (e i : ℕ) → e < edge_count (key_of t)
@@ -156,8 +151,8 @@ place-inside true t e i less at = grind arith
 place-inside false t e i less at = grind arith
 
 -- a step at a word of the edge e, by a seat whose slots may have changed meanwhile
-pub edge-asks : {t : ExecTable} {s : NodeSeat} {i count : ℕ} {f : ℕ → ℕ} (k : Bool)
-    (r : Seat (Option Chunk) View) (mk : NodeView → ℕ → Step) (e : ℕ) → IsSeatOf t s
+pub edge-asks : (t : ExecTable) {s : NodeSeat} {i count : ℕ} {f : ℕ → ℕ} (k : Bool)
+    (r : Seat (Option Chunk) View) (mk : NodeView → ℕ → Step) (e : ℕ) → IsSeatOf (identity_of t) s
     → r.table_id ≡ s.seat.table_id → r.me.0 ≡ s.seat.me.0 → e < edge_count (key_of t)
     → i ≡ edge_place k (key_of t) e → ready (view s) (mk (view s) e) ≡ true
     → is_at_hand (mk (view s) e) r.me.1 ≡ true
@@ -166,13 +161,13 @@ pub edge-asks : {t : ExecTable} {s : NodeSeat} {i count : ℕ} {f : ℕ → ℕ}
     → (r.table_id ≡ t.table.shared.table_id) × (i < t.table.shared.table_id.words)
     × Allows (Shown (key_of t)) count r.id r.me i f
     (Did (node_of r.me.0) (mk (node_of r.me.0) (i - edge_place k (node_of r.me.0).sizes 0)) r.me.1)
-edge-asks {t} {s} {i} {count} {f} k r mk e o table same less at g full ops = (
+edge-asks t {s} {i} {count} {f} k r mk e o table same less at g full ops = (
   table ∙ o.table,
   place-inside k t e i less at,
   subst (λ (v : View). Allows (Shown (key_of t)) count r.id (v, r.me.1) i f
       (Did (node_of v) (mk (node_of v) (i - edge_place k (node_of v).sizes 0)) r.me.1))
       (sym same) (subst (λ d. Allows (Shown (key_of t)) count r.id (s.seat.me.0, r.me.1) i f
-      (Did (view s) (mk (view s) d) r.me.1)) (sym (place-edge k t s e i o at))
+      (Did (view s) (mk (view s) d) r.me.1)) (sym (place-edge k (identity_of t) s e i o at))
       (tied (key_of t) count r.id (s.seat.me.0, r.me.1) (view s) (mk (view s) e) i f o.single g full
       (λ b h is sizes can. (
         at ∙ (ap (λ z. edge_place k z e) (sym sizes) ∙ sym (ops b.core (view s).number 0).0),
@@ -181,31 +176,32 @@ edge-asks {t} {s} {i} {count} {f} k r mk e o table same less at g full ops = (
 )
 
 -- what that step did
-pub edge-did : {t : ExecTable} {s : NodeSeat} {m n : Sat} {i found : ℕ} (k : Bool)
+pub edge-did : {t : Identity} {s : NodeSeat} {m n : Sat} {i found : ℕ} (k : Bool)
     (mk : NodeView → ℕ → Step) (e : ℕ) → IsSeatOf t s → m.0 ≡ s.seat.me.0
-    → i ≡ edge_place k (key_of t) e → Did (node_of m.0)
+    → i ≡ edge_place k t.sizes e → Did (node_of m.0)
     (mk (node_of m.0) (i - edge_place k (node_of m.0).sizes 0)) m.1 found n
     → Did (view s) (mk (view s) e) m.1 found n
 edge-did {t} {s} {m} {n} {i} {found} k mk e o same at d = grind (arith, place-edge)
 
 -- a step at a word that its place is computed of
-pub word-asks : {t : ExecTable} {s : NodeSeat} {i count : ℕ} {f : ℕ → ℕ} {sp : Step}
-    → IsSeatOf t s → i < t.table.shared.table_id.words → ready (view s) sp ≡ true
+pub word-asks : (t : ExecTable) {s : NodeSeat} {i count : ℕ} {f : ℕ → ℕ} {sp : Step}
+    → IsSeatOf (identity_of t) s → i < t.table.shared.table_id.words → ready (view s) sp ≡ true
     → is_at_hand sp (slots s) ≡ true
     → ((b : Board) → Holds b → node_view b (view s).number ≡ view s → b.core.sizes ≡ key_of t
     → may b.core (view s).number sp ≡ true
     → (i ≡ place b.core (view s).number sp) × ((w : ℕ) → f w ≡ op b.core (view s).number sp w))
     → (s.seat.table_id ≡ t.table.shared.table_id) × (i < t.table.shared.table_id.words)
     × Allows (Shown (key_of t)) count s.seat.id s.seat.me i f (Did (view s) sp (slots s))
-word-asks {t} {s} {i} {count} {f} {sp} o less g full at = search (arith, tied)
+word-asks t {s} {i} {count} {f} {sp} o less g full at = search (arith, tied)
 
 -- a step at the node's own word
-pub node-asks : {t : ExecTable} {s : NodeSeat} {i count : ℕ} {f : ℕ → ℕ} {sp : Step}
-    → IsSeatOf t s → i ≡ s.node + 1 → ready (view s) sp ≡ true → is_at_hand sp (slots s) ≡ true
+pub node-asks : (t : ExecTable) {s : NodeSeat} {i count : ℕ} {f : ℕ → ℕ} {sp : Step}
+    → IsSeatOf (identity_of t) s → i ≡ s.node + 1 → ready (view s) sp ≡ true
+    → is_at_hand sp (slots s) ≡ true
     → ((c : CoreState) (n w : ℕ) → (place c n sp ≡ node_place n) × (f w ≡ op c n sp w))
     → (s.seat.table_id ≡ t.table.shared.table_id) × (i < t.table.shared.table_id.words)
     × Allows (Shown (key_of t)) count s.seat.id s.seat.me i f (Did (view s) sp (slots s))
-node-asks {t} {s} o at g full ops = word-asks o
+node-asks t {s} o at g full ops = word-asks t o
     (let w = t.words in let n = t.nodes_are in let k = o.number in let l = o.inside in
     omega (arith, w, n, k, l, at)) g full (λ b h is sizes can. (
       at ∙ (ap (λ k. k + 1) o.number ∙ sym (ops b.core (view s).number 0).0),
@@ -215,14 +211,14 @@ node-asks {t} {s} o at g full ops = word-asks o
 -- ---- a seat that a call touched otherwise
 
 -- a seat of which only the slots that are out were touched
-pub seat-other : (t : ExecTable) (s r : NodeSeat) → IsSeatOf t s
+pub seat-other : (t : Identity) (s r : NodeSeat) → IsSeatOf t s
     → r.seat.table_id ≡ s.seat.table_id → r.seat.me.0.nodes ≡ s.seat.me.0.nodes → r.node ≡ s.node
     → HandHolds (view s) (slots r) → r.held.items ≡ edges_out (slots r)
     → deque_capacity r.held ≡ deque_capacity s.held → IsSeatOf t r
 seat-other t s r o table same node hand places room = grind arith
 
 -- what a call did, told of the seat from before a look-up
-pub makes-before : (t : ExecTable) (old mid new : NodeSeat) (s : Step) (x : Option Chunk)
+pub makes-before : (t : Identity) (old mid new : NodeSeat) (s : Step) (x : Option Chunk)
     (a : Answer)
     → view mid ≡ view old → slots mid ≡ slots old → Makes t mid new s x a → Makes t old new s x a
 makes-before t old mid new s x a same out m = record {
@@ -235,6 +231,6 @@ makes-before t old mid new s x a same out m = record {
   now = subst (λ (v : NodeView). node_view (board_after m.before v.number s x) v.number ≡ view new)
       same m.now;
   says = subst (λ (v : NodeView). answer m.before.core v.number s ≡ a) same m.says;
-  carried = λ k v q. ⊎_elim (λ z. inl (ap (slot_in k) (sym out) ∙ z)) (λ z. inr z)
-      (m.carried k v q);
+  carried = λ k v q. ⊎_elim (λ z. inl (ap (slot_in k) (sym out) ∙ z))
+      (λ z. inr (ap (slot_in k) (sym out) ∙ z.0, z.1)) (m.carried k v q);
 }

@@ -1,5 +1,5 @@
 -- Lists of slots as they turn, and how long a list without repetition can be.
-use Rattle.exec_table.proofs.Imports.{Chunk, List, Option, Some, [], and_parts, ap, arith, cond, drop, drop_more, eqb, false, filter, get_or, has, has-filter, length, map-append, not, once, once-filter, once-last, refl, suc, sym, take, take_more, true, turned, zero, ℕ, ◌&&◌, ◌++◌, ◌+◌, ◌<◌, ◌∙◌, ◌∷◌, ◌≡◌, ◌≤◌, cases_eq, Slots, edges_out, slot_in}
+use Rattle.exec_table.proofs.Imports.{Chunk, List, Option, Some, [], and_parts, ap, append_assoc, arith, cond, drop, drop_more, eqb, false, filter, get_or, has, has-filter, length, map-append, not, once, once-filter, once-last, refl, suc, sym, take, take_more, true, turned, zero, ℕ, ◌&&◌, ◌++◌, ◌+◌, ◌<◌, ◌∙◌, ◌∷◌, ◌≡◌, ◌≤◌, cases_eq, Slots, edges_out, slot_in}
 
 -- ---- how long a list is
 
@@ -56,10 +56,6 @@ pub rotated-next : (l now : List ℕ) (i : ℕ)
     → now ≡ drop (i + 1) l ++ take (i + 1) l
 rotated-next l now i is less = is ∙ (append_assoc (drop (i + 1) l) (take i l) (get_or l i 0 ∷ [])
     ∙ ap (λ z. drop (i + 1) l ++ z) (sym (take_more l i 0 less)))
-  where
-    append_assoc : (a b c : List ℕ) → (a ++ b) ++ c ≡ a ++ (b ++ c)
-    append_assoc [] b c = refl
-    append_assoc (y ∷ ys) b c = ap (λ z. y ∷ z) (append_assoc ys b c)
 
 -- the first slot is that of the edge that the data name first
 pub first-slot : (l : Slots) (e : ℕ) (ns : List ℕ) → edges_out l ≡ e ∷ ns

@@ -1,5 +1,5 @@
 -- The state at the start, and how the root's view is dealt to the nodes' seats.
-use Rattle.exec_table.proofs.Imports.{Begun, Chunk, CoreState, Distinct, Fits, Holds, IsSeen, LaneHolds, List, NodeState, NodeView, None, Option, PortState, Shown, Sizes, Splits, Stage, StageHolds, View, [], ap, arith, cases_lt, cond, edge_count, eqb, false, first_view, fits, get_elem?, get_or, get_or-map-range_with_len, get_or_past, home_of, inl, inr, knows, length, length-map, length-map-range_with_len, map, no_lane, no_node, node_at, node_view, one, opening, port_at, range_with_len, refl, set, some, some-injective, some-ne-none, start, start-laws, start_board, start_node, start_stage, subst, suc, sym, true, words_of, zero, ℕ, ⊎_elim, ◌++◌, ◌+◌, ◌-◌, ◌<◌, ◌∙◌, ◌∷◌, ◌≡◌, ◌≢◌, ◌≤◌, ◌⊎◌, length-set, deque_capacity, node_words, wire_words, port_words, length-append, rest_of, without_first, just_first, IsOpen, key_of, ExecTable, NodeSeat, learned-start, ports-length, append_assoc, replicate, first_or_none}
+use Rattle.exec_table.proofs.Imports.{Chunk, CoreState, Distinct, Fits, Holds, IsSeen, LaneHolds, List, NodeView, None, Option, PortState, Shown, Sizes, Splits, StageHolds, View, [], ap, arith, cases_lt, cond, edge_count, eqb, false, first_view, fits, get_elem?, get_or, get_or-map-range_with_len, get_or_past, home_of, inl, inr, length, length-map, length-map-range_with_len, map, no_lane, node_view, one, opening, port_at, range_with_len, refl, set, some, some-injective, some-ne-none, start, start-laws, start_board, start_node, start_stage, subst, suc, sym, true, words_of, zero, ℕ, ⊎_elim, ◌++◌, ◌+◌, ◌-◌, ◌<◌, ◌∙◌, ◌∷◌, ◌≡◌, ◌≢◌, ◌≤◌, ◌⊎◌, length-set, deque_capacity, node_words, wire_words, port_words, length-append, rest_of, without_first, just_first, IsOpen, key_of, ExecTable, identity_of, NodeSeat, learned-start, ports-length, append_assoc, replicate, first_or_none}
 use Rattle.exec_table.proofs.Hands.{view-turn, home-turn}
 use Rattle.exec_table.proofs.Showing.{fits-one, fits-owned, fits-set, regrouped}
 
@@ -19,9 +19,8 @@ port-bare s e = grind (
   get_or_past,
 )
 
-live-stage : (s : Sizes) (n : ℕ) → ((e : ℕ) → knows e (start_node s n).seen ≡ true
-    → e < edge_count s) → StageHolds s n (start_node s n) (start_stage s n)
-live-stage s n known = grind arith
+live-stage : (s : Sizes) (n : ℕ) → StageHolds s n (start_node s n) (start_stage s n)
+live-stage s n = grind arith
 
 pub start-holds : (s : Sizes) → fits s ≡ true → Holds (start_board s)
 start-holds s fit = record {
@@ -31,22 +30,14 @@ start-holds s fit = record {
       ∙ sym (length-map-range_with_len (start_node s) 0 s.nodes);
   lanes = λ e. subst (LaneHolds (port_at (start s) e)) (sym (lane-start (start s).ports e))
       (port-bare s e);
-  stages = λ n. elim (cases_lt n s.nodes) [
-    | inl i ↦ let here : node_at (start s) n ≡ start_node s n =
-        get_or-map-range_with_len (start_node s) 0 s.nodes n n no_node i (omega arith) in
-        subst (λ (z : NodeState × Stage). StageHolds s n z.0 z.1) (λ j. (
-          sym here j,
-          sym (get_or-map-range_with_len (start_stage s) 0 s.nodes n n Begun i (omega arith)) j,
-        )) (live-stage s n (λ e q. let k = (learned-start s e n
-        (ap (λ (y : NodeState). knows e y.seen) here ∙ q)).0 in omega (arith, k)))
-    | inr past ↦ grind (
-      arith,
-      get_or_past (start s).nodes n no_node (let l =
-          length-map-range_with_len (start_node s) 0 s.nodes in omega (arith, l, past)),
-      get_or_past (start_board s).stages n Begun (let l =
-          length-map-range_with_len (start_stage s) 0 s.nodes in omega (arith, l, past)),
-    )
-  ];
+  stages = λ n. grind (
+    arith,
+    cases_lt n s.nodes,
+    get_or-map-range_with_len,
+    length-map-range_with_len,
+    get_or_past,
+    live-stage s n,
+  );
 }
 
 -- ---- the rule
@@ -158,9 +149,18 @@ pub opened : (t : ExecTable) (s : NodeSeat) (k : ℕ) → s.seat.table_id ≡ t.
     → k < (key_of t).nodes → s.node ≡ k → s.seat.me ≡ (
       one (node_view (start_board (key_of t)) k),
       [],
-    ) → s.held.items ≡ [] → edge_count (key_of t) ≤ deque_capacity s.held → IsOpen t k s
+    ) → s.held.items ≡ [] → edge_count (key_of t) ≤ deque_capacity s.held
+    → IsOpen (identity_of t) k s
 opened t s k table less node me held room =
-    grind (arith, length-map-range_with_len, start-holds, view-turn, home-turn, lane-start)
+    grind (
+      arith,
+      length-map-range_with_len,
+      start-holds,
+      view-turn,
+      home-turn,
+      lane-start,
+      learned-start,
+    )
 
 -- the words of a state, put together
 pub words-made : (c : CoreState) (all : List ℕ) (p : ℕ) (ns ws fs : List ℕ) → c.stopped ≡ false

@@ -1,5 +1,5 @@
 -- Each step of a node leaves the laws that the core doesn't have, and the views of the other nodes.
-use Rattle.exec_table.proofs.Imports.{Act, Board, Bool, Born, Chunk, CoreState, EndOf, Holds, Lane, LaneHolds, NodeState, None, Option, PortState, Pull, Push, Some, StageHolds, Step, Wire, acted, acting_end, allows, ap, arith, board_after, born, changed, chunks_after, edges-seeing, edges_of, end-of, end_at, end_for, end_of, length-append, append-nil, false, flags_at, flip-lone, holds, is_end, is_some, is_unborn, knows, lane_at, length, looked, looked_at, may_act, names, no_lane, no_port, node_after, node_at, not, port_after, port_at, pulled_from, pushed_to, put_node, put_port, refl, set, set-get_or, stage_at, subst, sym, true, ℕ, ◌<◌, ◌∙◌, ◌∷◌, ◌≡◌, ◌≢◌, Content, [], map-id, map-range_with_len_more, numbers, ◌++◌, ◌+◌}
+use Rattle.exec_table.proofs.Imports.{Act, Board, Bool, Born, Chunk, CoreState, EndOf, Holds, Lane, LaneHolds, NodeState, None, Option, PortState, Pull, Push, Some, StageHolds, Step, Wire, acted, acting_end, allows, ap, arith, board_after, born, chunks_after, end-of, end_at, end_for, end_of, length-append, append-nil, false, flags_at, flip-lone, holds, is_end, is_some, is_unborn, knows, lane_at, length, looked, looked_at, may_act, names, no_lane, no_port, node_after, node_at, not, port_after, port_at, pulled_from, pushed_to, put_node, put_port, refl, set, set-get_or, stage_at, subst, sym, true, ℕ, ◌<◌, ◌∙◌, ◌∷◌, ◌≡◌, ◌≢◌, Content, [], map-id, map-range_with_len_more, numbers, ◌++◌, ◌+◌}
 use Rattle.exec_table.proofs.Moving.{board_of, Moved, none-moved, same-stage, port-moved}
 use Rattle.core_laws.specs.declared.types.Step.TheVariants as step
 
@@ -32,9 +32,8 @@ pub act-wire : (a : Act) (p : PortState) → (port_after a p).wire ≡ p.wire
 act-wire a p = grind arith
 
 pub seen-stage : (b : Board) (n : ℕ) (nd : NodeState) → Holds b → nd.word ≡ (node_at b.core n).word
-    → nd.held ≡ (node_at b.core n).held → edges_of nd.seen ≡ edges_of (node_at b.core n).seen
-    → StageHolds b.core.sizes n nd (stage_at b n)
-seen-stage b n nd h word held seen = grind arith
+    → nd.held ≡ (node_at b.core n).held → StageHolds b.core.sizes n nd (stage_at b n)
+seen-stage b n nd h word held = grind arith
 
 -- the end of an edge that another node has
 other-end : (a : Bool) (w : Wire) (m : ℕ) (k : Bool) (l g : Lane) → m ≢ end_of a w
@@ -48,24 +47,21 @@ edge-moved : (b : Board) (n e : ℕ) (a : Bool) (w : Wire) (nd : NodeState) (q :
     → q.wire ≡ (port_at b.core e).wire → LaneHolds q l
     → end_at (not a) None l ≡ end_at (not a) None (lane_at b e)
     → nd.word ≡ (node_at b.core n).word → nd.held ≡ (node_at b.core n).held
-    → edges_of nd.seen ≡ edges_of (node_at b.core n).seen
     → Moved b (board_of (put_node (put_port b.core e q) n nd) (set b.lanes e l) b.stages) n
-edge-moved b n e a w nd q l h g is end wire lane same word held seen =
+edge-moved b n e a w nd q l h g is end wire lane same word held =
     let i = holds-in b.core n e g in
     same-stage b (board_of (put_port b.core e q) (set b.lanes e l) b.stages) n b.core.pending nd
     (port-moved b b n e q l (none-moved b n h) i.1 lane (λ m ne.
     let k = knows e (node_at b.core m).seen in (λ j. end_for m k ((wire ∙ is) j) l)
     ∙ (other-end a w m k l (lane_at b e) (λ t. ne (t ∙ end)) same
-    ∙ (λ j. end_for m k (sym is j) (lane_at b e))))) i.0 (seen-stage b n nd h word held seen)
+    ∙ (λ j. end_for m k (sym is j) (lane_at b e))))) i.0 (seen-stage b n nd h word held)
 
 -- what the edge of an act has, by the act's sight
 sight : (v : Bool) (b : Board) (n e : ℕ) (w : Wire) → Holds b → e < length b.core.ports
     → (port_at b.core e).wire ≡ Some w → end_of v w ≡ n
     → (flags_at e (node_at b.core n).seen).has_data ≡ v → is_some (lane_at b e).content ≡ v
-sight true b n e w h i is end f =
-    grind (arith, lane-full, h.laws.edges.each e i, (h.laws.edges.each e i).sees true w is)
-sight false b n e w h i is end f =
-    grind (arith, lane-full, h.laws.edges.each e i, (h.laws.edges.each e i).sees false w is)
+sight v b n e w h i is end f =
+    grind (arith, lane-full, h.laws.edges.each e i, (h.laws.edges.each e i).sees v w is)
 
 act-moved : (a : Act) (b : Board) (n e : ℕ) (l : Lane) → Holds b → may_act a b.core n e ≡ true
     → ((w : Wire) → (port_at b.core e).wire ≡ Some w → end_of (acting_end a) w ≡ n
@@ -78,7 +74,6 @@ act-moved a b n e l h g lane = let parts = act-parts a b.core n e g in
     edge-moved b n e (acting_end a) x.wire
     (node_after a e (port_at b.core e).flags (node_at b.core n)) (port_after a (port_at b.core e)) l
     h parts.0 x.is x.end (act-wire a (port_at b.core e)) y.0 y.1 refl refl
-    (edges-seeing e (changed a (flags_at e (node_at b.core n).seen)) (node_at b.core n).seen)
 
 -- an act that moves no chunk
 pub still-moved : (a : Act) (b : Board) (n e : ℕ) → Holds b → may_act a b.core n e ≡ true
@@ -103,8 +98,7 @@ look-moved b n e x h g = let p = port_at b.core e in
     (board_of (record b.core { nodes = set b.core.nodes n (looked b.core n e); ports = ps })
     (set b.lanes e (looked_at a (lane_at b e))) b.stages) n) (set-get_or b.core.ports e no_port)
     (edge-moved b n e a y.wire (looked b.core n e) p (looked_at a (lane_at b e)) h g y.is y.end refl
-    (let l = h.lanes e in grind (arith, y.is, l)) (looked-else a (lane_at b e)) refl refl
-    (edges-seeing e p.flags (node_at b.core n).seen))
+    (let l = h.lanes e in grind (arith, y.is, l)) (looked-else a (lane_at b e)) refl refl)
 
 -- what a push or a pull finds at hand
 pub record AtHand (b : Board) (s : Step) (x : Option Chunk) : Type 0 where
@@ -137,4 +131,4 @@ pub birth-stage : (b : Board) (n : ℕ) → Holds b → is_unborn (node_at b.cor
     → StageHolds b.core.sizes n (born (node_at b.core n)) Born
 birth-stage b n h unborn = let nd = node_at b.core n in let w = (h.laws.nodes.each n).word in
     let x = flip-lone nd.word nd.held unborn w in
-    grind (arith, x.0, x.1 61, x.1 63, w.lone 61 62, w.held, (h.stages n).known)
+    grind (arith, x.0, x.1 61, x.1 63, w.lone 61 62, w.held)

@@ -1,5 +1,5 @@
 -- Views joined and words noted keep the rule.
-use Rattle.exec_table.proofs.Imports.{Allows, Board, Distinct, Fits, Holds, Joins, List, NodeView, Sat, Shown, Sizes, View, [], ap, arith, at_index, at_set, drop, cond, edge_count, eqb, false, get_elem?, get_or, inl, inr, keeps, length, no_view, refl, set, some, some-injective, some-ne-none, subst, suc, sym, take, unstopped, words_of, zero, length-map, map-append, ℕ, ⊎_elim, ◌++◌, ◌+◌, ◌<◌, ◌∙◌, ◌∷◌, ◌≡◌, ◌≢◌, ◌≤◌, ◌⊎◌, Enters, IsFinal, just_first, first_or_none, IsSeatOf, key_of, slots, view, ExecTable, AreAll, HasAll, Each, IsBack, IsLent, Surveyed, joined_views, noted_word, noting, views, NodeSeat, at_map, drop_at, ext_get_or, Chunk, Lane, None, Option, Seen, home_of, map, no_lane, none}
+use Rattle.exec_table.proofs.Imports.{Allows, Board, Distinct, Fits, Holds, Joins, List, NodeView, Sat, Shown, Sizes, View, [], ap, arith, at_index, at_set, drop, cond, edge_count, eqb, false, get_elem?, get_or, get_or_default, inl, inr, keeps, length, no_view, refl, set, some, some-injective, some-ne-none, subst, suc, sym, take, unstopped, words_of, zero, length-map, map-append, ℕ, ⊎_elim, ◌++◌, ◌+◌, ◌<◌, ◌∙◌, ◌∷◌, ◌≡◌, ◌≢◌, ◌≤◌, ◌⊎◌, Enters, IsFinal, just_first, first_or_none, IsSeatOf, slots, view, Identity, AreAll, HasAll, Each, IsBack, IsLent, Surveyed, joined_views, noted_word, noting, views, NodeSeat, at_map, drop_at, ext_get_or, Chunk, Lane, None, Option, Seen, home_of, map, no_lane, none}
 use Rattle.atomic_table.specs.Table.{Final as AtEnd}
 use Rattle.exec_table.specs.declared.shut.Final.{Final}
 use Rattle.exec_table.proofs.Wording.{pending-small}
@@ -105,12 +105,6 @@ note-allowed key slots id i m all next st r deep mine fit = (
     was : Fits r.board r.owner id m.0
     was = r.seats id m.0 mine
 
-read-at : {A : Type 0} (l : List A) (i : ℕ) (d : A) → i < length l
-    → get_elem? l i ≡ some (get_or l i d)
-read-at [] i d h = absurd (omega arith)
-read-at (x ∷ xs) zero d h = refl
-read-at (x ∷ xs) (suc i) d h = read-at xs i d (omega arith)
-
 -- once it has noted every word, one more load tells that they are the words of one state
 pub survey-allowed : (key : Sizes) (slots id i : ℕ) (m : Sat)
     → length m.0.noted ≡ (key.nodes + (edge_count key + edge_count key)) + 1
@@ -132,7 +126,8 @@ survey-allowed key slots id i m full st r deep mine fit = (
             r.holds.laws.nodes.number,
             r.holds.laws.edges.count,
           ))
-          (λ k l. sym (was.noted k (get_or m.0.noted k 0) (read-at m.0.noted k 0 l)).is);
+          (λ k l. sym (was.noted k (get_or m.0.noted k 0)
+          (at_index m.0.noted k _ l (get_or_default m.0.noted k 0 _ l))).is);
       seen = λ k x q. (was.each k x q).is;
     },
   ),
@@ -208,8 +203,8 @@ there (x ∷ xs) zero h = (x, refl)
 there (x ∷ xs) (suc i) h = there xs i (omega arith)
 
 -- who has the views of all seats has each node
-pub all-there : (t : ExecTable) (seats : List NodeSeat) (v : View) → AreAll t seats
-    → v.nodes ≡ views seats → HasAll (key_of t).nodes v
+pub all-there : (t : Identity) (seats : List NodeSeat) (v : View) → AreAll t seats
+    → v.nodes ≡ views seats → HasAll t.sizes.nodes v
 all-there t seats v all is n less = let c = all.0 in let s = there seats n (omega arith) in
     (n, view s.0, ap (λ l. get_elem? l n) is ∙ at_map view seats n s.0 s.1, (all.1 n s.0 s.1).1)
 
@@ -219,7 +214,7 @@ pub left-views : (seats : List NodeSeat) (i : ℕ) (s : NodeSeat) → get_elem? 
 left-views seats i s h = grind (arith, drop_at)
 
 -- a seat that has its node again
-pub is-back : (t : ExecTable) (was lent s : NodeSeat) (v : View) → IsSeatOf t was → IsLent was lent
+pub is-back : (t : Identity) (was lent s : NodeSeat) (v : View) → IsSeatOf t was → IsLent was lent
     → first_or_none v.nodes ≡ view was → s.seat.table_id ≡ lent.seat.table_id
     → s.seat.me ≡ (joined_views lent.seat.me.0 (just_first v), lent.seat.me.1) → s.node ≡ lent.node
     → s.held ≡ lent.held → IsBack t was s
@@ -229,8 +224,8 @@ is-back t was lent s v o l first table me node held = grind arith
 
 -- the last words and slots, and what a seat knew, are those of one state
 pub closing : (key : Sizes) (id : ℕ) (v : View) (nodes : List NodeView) (f : Final) (ws : List ℕ)
-    (xs : List (Option Chunk)) → AtEnd (Seen (Shown key) id v) ws xs → f.words.items ≡ ws
-    → f.chunks.items ≡ xs → v.nodes ≡ nodes → IsFinal nodes f
+    (xs : List (Option Chunk)) → AtEnd (Seen (Shown key) id v) ws xs → f.words ≡ ws
+    → f.left.items ≡ xs → v.nodes ≡ nodes → IsFinal nodes f
 closing key id v nodes f ws xs e words chunks is = let r = e.1.0 in record {
   shown = record {
     board = r.board;

@@ -1,6 +1,6 @@
 -- The tie of the running table to the core: an atomic step of a node's seat, whose view is ready
 -- for a step of the core, keeps the rule and tells that step.
-use Rattle.exec_table.proofs.Imports.{Allows, Board, Bool, Chunk, Did, Fits, Holds, IsSeen, Lane, List, NodeView, None, Option, Sat, Shown, Sizes, Some, State, Step, Valid, View, [], and_parts, ap, arith, board_after, cond_both, eqb-true, false, fits_end, found_by, front, get_elem?, get_or, home_of, homes_after, in_hand, is_at_hand, is_empty_hand, is_full_hand, lanes_after, length, looked_at, map, map-set, may, node_view, not, one, place, ready, refl, rest, set, set-get_or, sizes-kept, slot_act, some, stepped, subst, sym, true, words_of, ℕ, ◌&&◌, ◌<◌, ◌∙◌, ◌∷◌, ◌≡◌, ◌≢◌, ◌≤◌, suc, zero, end-of}
+use Rattle.exec_table.proofs.Imports.{Allows, Board, Bool, Chunk, Did, Fits, Holds, IsSeen, Lane, List, NodeView, None, Option, Sat, Shown, Sizes, Some, State, Step, Valid, View, [], and_parts, ap, arith, at_index, at_map, board_after, cond_both, eqb-true, false, fits_end, found_by, front, get_elem?, get_or, get_or_default, home_of, homes_after, in_hand, is_at_hand, is_empty_hand, is_full_hand, lanes_after, length, looked_at, map, map-set, may, node_view, not, one, place, ready, refl, rest, set, set-get_or, sizes-kept, slot_act, some, stepped, subst, sym, true, words_of, ℕ, ◌&&◌, ◌<◌, ◌∙◌, ◌∷◌, ◌≡◌, ◌≢◌, ◌≤◌, end-of}
 use Rattle.exec_table.proofs.Readiness.{ready-may, view-end}
 use Rattle.exec_table.proofs.Moving.{Moved}
 use Rattle.exec_table.proofs.Showing.{fits-set}
@@ -45,9 +45,7 @@ homes-kept b n s slots hand = refl
 
 read-map : {A B : Type 0} (f : A → B) (l : List A) (i : ℕ) (d : A) → i < length l
     → get_elem? (map f l) i ≡ some (f (get_or l i d))
-read-map f [] i d h = absurd (omega arith)
-read-map f (x ∷ xs) zero d h = refl
-read-map f (x ∷ xs) (suc i) d h = read-map f xs i d (omega arith)
+read-map f l i d h = at_map f l i _ (at_index l i _ h (get_or_default l i d _ h))
 
 slot-valid : (b : Board) (n : ℕ) (s : Step) (slots : List (ℕ × Option Chunk)) → Holds b
     → may b.core n s ≡ true → Valid (map home_of b.lanes) slots (slot_act b n s)

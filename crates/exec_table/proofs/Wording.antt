@@ -1,5 +1,5 @@
 -- Each step changes one word, as its atomic operation says, and leaves the others.
-use Rattle.exec_table.proofs.Imports.{Act, [], Bool, Board, Close, CoreState, Finish, Flags, Holds, Laws, List, NodeState, None, Option, PortState, Pull, Push, Some, Step, Unwant, Want, Wire, acted, after, ap, arith, bit_and, bit_at_end, bit_or, bit_xor, changed, cond, either, eqb, first_word, flags_word, get_or, get_or-append_right, get_or-map, get_or-set_other, get_or_append_left, is_none, learning, left, length, length-map, looked, map-set, map-set_same, marks-of, may, may_act, mod-eq_of_lt, no_node, no_port, node_after, node_at, node_place, node_words, peer_in, pending-most, place, port_after, port_at, port_place, port_words, put_node, put_port, refl, set, set-append_left, set-get_or, some-pending, spent, telling, told, true, wire_place, wire_word, wire_words, wiring, words_of, ℕ, ◌++◌, ◌+◌, ◌-◌, ◌%◌, ◌<◌, ◌^◌, ◌∙◌, ◌∷◌, ◌≡◌}
+use Rattle.exec_table.proofs.Imports.{Act, [], Bool, Board, Close, CoreState, Finish, Flags, Holds, Laws, List, NodeState, Option, PortState, Pull, Push, Some, Step, Unwant, Want, Wire, acted, after, ap, arith, bit_and, bit_at_end, bit_or, bit_xor, changed, cond, either, eqb, first_word, flags_word, get_or, get_or-append_right, get_or-map, get_or-set_other, get_or_append_left, is_none, learning, left, length, length-map, looked, map-set, map-set_same, marks-of, may, may_act, mod-eq_of_lt, no_node, no_port, node_after, node_at, node_place, node_words, peer_in, pending-most, place, port_after, port_at, port_place, port_words, put_node, put_port, refl, set, set-append_left, set-get_or, some-pending, spent, telling, told, true, wire_place, wire_word, wire_words, wiring, words_of, ℕ, ◌++◌, ◌+◌, ◌-◌, ◌%◌, ◌<◌, ◌^◌, ◌∙◌, ◌∷◌, ◌≡◌}
 use Rattle.core_laws.specs.declared.types.Step.TheVariants as step
 
 -- the operation of an act on its port's word
@@ -147,8 +147,7 @@ act-after a c n e l g = let i : e < length c.ports = grind arith in
 
 -- the wire word of an edge is 0 where it has no wire
 wire-none : (x : Option Wire) → eqb (wire_word x) 0 ≡ is_none x
-wire-none None = refl
-wire-none (Some w) = grind arith
+wire-none x = grind arith
 
 wire-after : (c : CoreState) (n e : ℕ) (w : Wire) → Laws c → e < length c.ports
     → words_of (after c n (step.Wire e w))
@@ -206,5 +205,4 @@ word-after b n (step.Wired e) h i g = let c = b.core in grind (
 )
 word-after b n step.Birth h i g =
     node-word b.core n _ (λ w. bit_xor w (2 ^ 60 + 2 ^ 61)) (grind arith) refl
-word-after b n step.Stop h i g = absurd (let c = h.laws.nodes.number in grind (arith, c, i))
-word-after b n step.See h i g = absurd (let c = h.laws.nodes.number in grind (arith, c, i))
+word-after b n s h i g = absurd (let c = h.laws.nodes.number in grind (arith, c, i))

@@ -1,5 +1,5 @@
 -- Marks, wires and workers: what their calls' proofs cite.
-use Rattle.exec_table.proofs.Imports.{Allows, Board, Bool, Step, board_after, Fits, Holds, None, Sat, Shown, Sizes, Some, Splits, View, Wire, ap, edge_count, arith, at_snoc, bit_at_or, bit_or, cond, end_of_view, false, first_word, get_elem?, get_or, keeps, length, may, node_view, or_comm, or_shifted, peer_in, port_at, refl, same_from_bits, set, some, subst, sym, true, wire_of, wire_ok, wire_word, words_of, ℕ, ⊎_elim, ◌+◌, ◌<◌, ◌^◌, ◌∙◌, ◌≡◌, ◌≤◌, le-leb, lt-leb, ready, Worked, next_worker, with_worker, wire_in, IsSeatOf, key_of, seen_in, view, ExecTable, NodeSeat}
+use Rattle.exec_table.proofs.Imports.{Allows, Board, Bool, Step, board_after, Fits, Holds, None, Sat, Shown, Sizes, Some, Splits, View, Wire, ap, edge_count, arith, at_snoc, bit_at_or, bit_or, cond, end_of_view, false, first_word, get_elem?, get_or, keeps, length, may, node_view, or_comm, or_shifted, peer_in, port_at, refl, same_from_bits, set, some, subst, sym, true, wire_of, wire_ok, wire_word, words_of, ℕ, ⊎_elim, ◌+◌, ◌<◌, ◌^◌, ◌∙◌, ◌≡◌, ◌≤◌, le-leb, lt-leb, ready, Worked, next_worker, with_worker, wire_in, ExecTable, Identity, IsSeatOf, identity_of, seen_in, view, NodeSeat}
 use Rattle.exec_table.proofs.Showing.{fits-none, fits-set, regrouped, stopped_at, stopped-fits, stopped-holds}
 use Rattle.exec_table.proofs.Wording.{pending-small}
 use Rattle.exec_table.proofs.Seating.{known-wire, wire-read}
@@ -20,8 +20,8 @@ pub wire-in-read : (b : Board) (e : ℕ) → Holds b → e < length b.core.ports
 wire-in-read b e h i = grind (arith, wire-read, few-nodes)
 
 -- an edge that is there, by a step that gives it a wire
-pub wire-inside : (t : ExecTable) (s : NodeSeat) (e : ℕ) (w : Wire) → IsSeatOf t s
-    → ready (view s) (step.Wire e w) ≡ true → e < edge_count (key_of t)
+pub wire-inside : (t : Identity) (s : NodeSeat) (e : ℕ) (w : Wire) → IsSeatOf t s
+    → ready (view s) (step.Wire e w) ≡ true → e < edge_count t.sizes
 wire-inside t s e w o g = grind (arith, o.sizes)
 
 pub wire-there-in : (b : Board) (n e : ℕ) (w : Wire) → may b.core n (step.Wire e w) ≡ true
@@ -33,8 +33,9 @@ pub peer-inside : (m n : ℕ) (w : Wire) → wire_ok m w ≡ true → peer_in n 
 peer-inside m n w ok = grind arith
 
 -- the wire that the word written says
-pub word-of-wire : (t : ExecTable) (s : NodeSeat) (e : ℕ) (w : Wire) (word : ℕ) → IsSeatOf t s
-    → ready (view s) (step.Wire e w) ≡ true → word ≡ wire_word (Some w) → wire_of word ≡ w
+pub word-of-wire : (t : ExecTable) (s : NodeSeat) (e : ℕ) (w : Wire) (word : ℕ)
+    → IsSeatOf (identity_of t) s → ready (view s) (step.Wire e w) ≡ true
+    → word ≡ wire_word (Some w) → wire_of word ≡ w
 word-of-wire t s e w word o g is = grind arith
 
 -- ---- workers
@@ -76,9 +77,9 @@ pub worker-allowed : (key : Sizes) (slots id : ℕ) (m : Sat) (s : Step) (f : �
     → ((b : Board) (n : ℕ) → board_after b n s None ≡ stopped_at (to b.core.stopped) b)
     → ((b : Board) (n : ℕ) → may b.core n s ≡ core.is_worker b.core n)
     → ((p : ℕ) (t : Bool) → p < 2 ^ 62 → f (p + cond t (2 ^ 63) 0) ≡ p + cond (to t) (2 ^ 63) 0)
-    → Allows (Shown key) slots id m 0 f
-    (λ n m'. (m' ≡ m) × ((k : ℕ) → m.0.worker ≡ Some k → Worked k s n))
-worker-allowed key slots id m s f to after worker word st r deep mine fit = (
+    → m.0.sizes ≡ key → Allows (Shown key) slots id m 0 f
+    (λ n m'. (m' ≡ m) × ((k : ℕ) → m.0.worker ≡ Some k → Worked m.0.sizes k s n))
+worker-allowed key slots id m s f to after worker word sizes st r deep mine fit = (
   m.0,
   keeps,
   tt,
@@ -98,7 +99,9 @@ worker-allowed key slots id m s f to after worker word st r deep mine fit = (
     (λ k q. record {
       before = b;
       holds = r.holds;
-      may = worker b _ ∙ worker-may b k ((r.seats id m.0 mine).worker k q);
+      sizes = same;
+      may = worker b _ ∙ (ap (λ z. core.is_worker b.core (z.nodes + k)) (sym same)
+          ∙ worker-may b k ((r.seats id m.0 mine).worker k q));
       kept = subst Holds (sym (after b _)) holds;
       word = ap (λ l. get_or l 0 0) r.words;
     }),
@@ -107,6 +110,9 @@ worker-allowed key slots id m s f to after worker word st r deep mine fit = (
   where
     b : Board
     b = r.board
+
+    same : b.core.sizes ≡ m.0.sizes
+    same = r.sizes ∙ sym sizes
 
     d : Board
     d = stopped_at (to b.core.stopped) b

@@ -1,6 +1,6 @@
 -- The whole state of a table as plain data: a state of the core, and beside it the chunks that it
 -- names by numbers, where they lie, and how far each node is.
-use Rattle.std.specs.Prelude.{◌≡◌, ℕ, ◌<◌, ◌||◌, ◌&&◌, cond, Bool, true, false, is_some, is_none, List, [], ◌∷◌, ◌++◌, map, length, Option, Some, None, slice_index_or, slice_set}
+use Rattle.std.specs.Prelude.{◌≡◌, ℕ, ◌||◌, ◌&&◌, cond, Bool, true, false, is_some, is_none, List, [], ◌∷◌, ◌++◌, map, length, Option, Some, None, slice_index_or, slice_set}
 use Rattle.std.specs.List.{range_with_len}
 use mathlib.Core.Option as maybe
 use Rattle.core_laws.specs.declared.types.Step.TheVariants as step
@@ -107,7 +107,6 @@ pub record StageHolds (s : Sizes) (n : ℕ) (nd : NodeState) (g : Stage) : Type 
   pub over : is_over nd.word ≡ is_over_stage g
   pub held : nd.held ≡ true → g ≡ Begun
   pub first : g ≡ Born → (is_set nd.word 60 || has_output n s.wires) ≡ true
-  pub known : (e : ℕ) → knows e nd.seen ≡ true → e < edge_count s
 
 pub record Holds (b : Board) : Type 0 where
   pub laws : Laws b.core

@@ -7,6 +7,6 @@ use Rattle.exec_table.specs.declared.shut.Final.{Final}
 -- the last words and what the seats knew show a state that meets the laws, and a slot that no seat
 -- held has what its port has
 pub record IsFinal (nodes : List NodeView) (f : Final) : Type 0 where
-  pub shown : Surveyed f.words.items nodes
+  pub shown : Surveyed f.words nodes
   pub slots : (e : ℕ) → (lane_at shown.board e).taken ≡ false
-      → slice_index_or f.chunks.items e None ≡ (lane_at shown.board e).content
+      → slice_index_or f.left.items e None ≡ (lane_at shown.board e).content

@@ -3,9 +3,9 @@ pub mod Words
 pub mod Boards
 pub mod Rule
 pub mod Ready
-pub mod Known
 pub mod Plays
 pub mod Seats
+pub mod Known
 pub mod Made
 pub mod Surveys
 pub mod Closings

@@ -7,21 +7,21 @@ use Rattle.exec_table.specs.CoreNames.{Sizes}
 use Rattle.exec_table.specs.Boards.{NodeView, View, node_view}
 use Rattle.exec_table.specs.Rule.{no_view, one, start_board}
 use Rattle.exec_table.specs.Plays.{node_of}
-use Rattle.exec_table.specs.Seats.{IsRootOf, IsSeatOf, key_of, slots, view, ExecTable, NodeSeat}
+use Rattle.exec_table.specs.Seats.{Identity, IsRootOf, IsSeatOf, identity_of, key_of, slots, view, NodeSeat}
 use Rattle.exec_table.specs.declared.make.Made.{Made}
 
 -- the seat of the node k, as at the start
-abbrev pub IsOpen : ExecTable → ℕ → NodeSeat → Type 0
-IsOpen t k s = IsSeatOf t s × (view s ≡ node_view (start_board (key_of t)) k) × (slots s ≡ [])
+abbrev pub IsOpen : Identity → ℕ → NodeSeat → Type 0
+IsOpen t k s = IsSeatOf t s × (view s ≡ node_view (start_board t.sizes) k) × (slots s ≡ [])
 
-abbrev pub AreOpen : ExecTable → Vec NodeSeat Global → Type 0
-AreOpen t nodes = (length nodes.items ≡ (key_of t).nodes)
+abbrev pub AreOpen : Identity → Vec NodeSeat Global → Type 0
+AreOpen t nodes = (length nodes.items ≡ t.sizes.nodes)
     × ((k : ℕ) (s : NodeSeat) → get_elem? nodes.items k ≡ some s → IsOpen t k s)
 
 pub record IsMade (z : Sizes) (m : Made) : Type 0 where
   pub key : key_of m.table ≡ z
-  pub nodes : AreOpen m.table m.nodes
-  pub root : IsRootOf m.table m.root
+  pub nodes : AreOpen (identity_of m.table) m.nodes
+  pub root : IsRootOf (identity_of m.table) m.root
   pub none_made : m.root.seat.me.0.made ≡ 0
 
 -- ---- views cut and joined
@@ -32,7 +32,7 @@ rest_of (x ∷ xs) = xs
 
 -- the first node of a seat goes to another seat
 abbrev pub without_first : View → View
-without_first v = record no_view { nodes = rest_of v.nodes; made = v.made }
+without_first v = record no_view { nodes = rest_of v.nodes; made = v.made; sizes = v.sizes }
 
 abbrev pub just_first : View → View
 just_first v = one (node_of v)

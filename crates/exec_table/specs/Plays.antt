@@ -1,15 +1,15 @@
 -- What each atomic step tells the seat that makes it.
 use Rattle.std.specs.Prelude.{◌≡◌, ℕ, ◌+◌, ◌-◌, List, [], ◌∷◌, length, Some, None, true, false}
 use Rattle.core_laws.specs.declared.types.Step.TheVariants as step
-use Rattle.exec_table.specs.CoreNames.{Step, wire_ok, may}
+use Rattle.exec_table.specs.CoreNames.{Sizes, Step, wire_ok, may}
 use Rattle.exec_table.specs.Words.{first_word, port_place, wire_place, wire_of}
 use Rattle.exec_table.specs.Boards.{Board, Holds, NodeView, View, board_after, Begun}
-use Rattle.exec_table.specs.Rule.{Sat, Stp, aiming, no_view}
+use Rattle.exec_table.specs.Rule.{Sat, Stp, aiming, no_sizes, no_view}
 use Rattle.exec_table.specs.Ready.{Did, end_of_view}
 
 abbrev pub no_node_view : NodeView
 no_node_view = record {
-  sizes = record { nodes = 0; wires = []; reserves = []; workers = 0 };
+  sizes = no_sizes;
   number = 0;
   state = record { word = 0; held = false; tokens = 0; seen = []; unlooked = []; owes = [] };
   stage = Begun;
@@ -54,20 +54,23 @@ aims st m found m' = let x = node_of m.0 in let e = wire_edge st x in
 
 -- ---- workers
 
--- a step of the worker k: the state before it, and the word 0 that it found
-pub record Worked (k : ℕ) (s : Step) (found : ℕ) : Type 0 where
+-- a step of the worker k of a table of these sizes: the state before it, and the word 0 that it
+-- found
+pub record Worked (z : Sizes) (k : ℕ) (s : Step) (found : ℕ) : Type 0 where
   pub before : Board
   pub holds : Holds before
-  pub may : may before.core (before.core.sizes.nodes + k) s ≡ true
-  pub kept : Holds (board_after before (before.core.sizes.nodes + k) s None)
+  pub sizes : before.core.sizes ≡ z
+  pub may : may before.core (z.nodes + k) s ≡ true
+  pub kept : Holds (board_after before (z.nodes + k) s None)
   pub word : found ≡ first_word before.core
 
 abbrev pub works : Step → Stp → Sat → ℕ → Sat → Type 0
-works s st m found m' = (m' ≡ m) × ((k : ℕ) → m.0.worker ≡ Some k → Worked k s found)
+works s st m found m' = (m' ≡ m) × ((k : ℕ) → m.0.worker ≡ Some k
+    → Worked m.0.sizes k s found)
 
 -- the root's view with one more worker made, and the view of that worker
 abbrev pub with_worker : View → View
-with_worker v = record no_view { made = v.made + 1 }
+with_worker v = record no_view { made = v.made + 1; sizes = v.sizes }
 
 abbrev pub next_worker : View → View
-next_worker v = record no_view { worker = Some v.made }
+next_worker v = record no_view { worker = Some v.made; sizes = v.sizes }

@@ -57,8 +57,18 @@ pub record Shown (key : Sizes) (s : State (Option Chunk) View) : Type 0 where
 
 -- ---- views
 
+abbrev pub no_sizes : Sizes
+no_sizes = record { nodes = 0; wires = []; reserves = []; workers = 0 }
+
 abbrev pub no_view : View
-no_view = record { nodes = []; noted = []; aim = 0; made = 0; worker = None }
+no_view = record {
+  nodes = [];
+  noted = [];
+  aim = 0;
+  made = 0;
+  worker = None;
+  sizes = no_sizes;
+}
 
 abbrev pub one : NodeView → View
 one x = record no_view { nodes = x ∷ [] }
@@ -82,4 +92,5 @@ start_board s = record {
 abbrev pub first_view : Sizes → View
 first_view s = record no_view {
   nodes = map (node_view (start_board s)) (range_with_len 0 s.nodes);
+  sizes = s;
 }

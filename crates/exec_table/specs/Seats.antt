@@ -1,6 +1,7 @@
 -- What clauses say of a table, its seats and their steps.
 use Rattle.std.specs.Prelude.{◌≡◌, ◌⊎◌, ℕ, ◌+◌, ◌<◌, ◌≤◌, ◌==◌, ◌^◌, ◌%◌, ◌/◌, cond, Bool, true, false, is_some, nat_le, List, [], ◌∷◌, length, map, Option, Some, None, Result, Ok, Err}
 use Rattle.std.specs.VecDeque.{deque_capacity}
+use Rattle.atomic_table.specs.Seated.{TableId}
 use Rattle.core_laws.specs.Steps as core
 use Rattle.core_laws.specs.declared.types.Step.TheVariants as step
 use Rattle.exec_table.specs.CoreNames.{Sizes, Step, Wire, has, knows, once, is_set, Answer, may, answer, Chunk}
@@ -62,34 +63,44 @@ push_of s e = step.Push e (length (end_of_view (view s) e).chunks)
 abbrev pub key_of : ExecTable → Sizes
 key_of t = t.table.shared.key
 
+-- what tells a table from others, and its sizes: all that a seat's law has of it
+pub record Identity : Type 0 where
+  pub id : TableId
+  pub sizes : Sizes
+
+abbrev pub identity_of : ExecTable → Identity
+identity_of t = record { id = t.table.shared.table_id; sizes = key_of t }
+
 -- the data of the seat name the slots that are out with it, each once
 pub record IsInHand (s : NodeSeat) : Type 0 where
   pub places : s.held.items ≡ edges_out (slots s)
   pub once : once s.held.items ≡ true
 
-pub record IsSeatOf (t : ExecTable) (s : NodeSeat) : Type 0 where
-  pub table : s.seat.table_id ≡ t.table.shared.table_id
+-- the seat of a node of the table
+pub record IsSeatOf (t : Identity) (s : NodeSeat) : Type 0 where
+  pub table : s.seat.table_id ≡ t.id
   pub single : s.seat.me.0.nodes ≡ view s ∷ []
-  pub sizes : (view s).sizes ≡ key_of t
+  pub sizes : (view s).sizes ≡ t.sizes
   pub number : s.node ≡ (view s).number
-  pub inside : (view s).number < (key_of t).nodes
-  pub ends : length (view s).ends ≡ edge_count (key_of t)
-  pub edges : (e : ℕ) → knows e (view s).state.seen ≡ true → e < edge_count (key_of t)
+  pub inside : (view s).number < t.sizes.nodes
+  pub ends : length (view s).ends ≡ edge_count t.sizes
+  pub edges : (e : ℕ) → knows e (view s).state.seen ≡ true → e < edge_count t.sizes
   pub owes : (e : ℕ) → has e (view s).state.owes ≡ true → knows e (view s).state.seen ≡ true
   pub hand : HandHolds (view s) (slots s)
   pub places : s.held.items ≡ edges_out (slots s)
-  pub room : edge_count (key_of t) ≤ deque_capacity s.held
+  pub room : edge_count t.sizes ≤ deque_capacity s.held
 
 -- ---- steps
 
--- a slot that is out is as it was, or has what lies in the port
+-- a slot that is out is as it was, or was at home and was taken with what lies in the port
 abbrev pub Carried : NodeSeat → NodeSeat → Type 0
 Carried old new = (d : ℕ) (v : Option Chunk) → slot_of new d ≡ Some v
-    → (slot_of old d ≡ Some v) ⊎ ((end_of_view (view new) d).turn ≡ Some v)
+    → (slot_of old d ≡ Some v)
+    ⊎ ((slot_of old d ≡ None) × ((end_of_view (view new) d).turn ≡ Some v))
 
 -- the call made the step s of the core, which put x into a slot, and answered a: there was a state
 -- that met the laws, in which the seat's view said what was so, as the new view says it after it
-pub record Makes (t : ExecTable) (old new : NodeSeat) (s : Step) (x : Option Chunk)
+pub record Makes (t : Identity) (old new : NodeSeat) (s : Step) (x : Option Chunk)
     (a : Answer) : Type 0 where
   pub seat : IsSeatOf t new
   pub before : Board
@@ -117,7 +128,7 @@ updated_of w = record {
 }
 
 -- the step tells the word whose ports are these
-pub record MakesUpdated (t : ExecTable) (old new : NodeSeat) (s : Step)
+pub record MakesUpdated (t : Identity) (old new : NodeSeat) (s : Step)
     (u : Updated) : Type 0 where
   pub word : ℕ
   pub ports : u ≡ updated_of word
@@ -139,22 +150,22 @@ seen_of Stopped = core.stopped
 -- ---- workers
 
 -- the root has no node, and is no worker
-pub record IsRootOf (t : ExecTable) (s : RootSeat) : Type 0 where
-  pub table : s.seat.table_id ≡ t.table.shared.table_id
-  pub view : s.seat.me ≡ (record no_view { made = s.seat.me.0.made }, [])
+pub record IsRootOf (t : Identity) (s : RootSeat) : Type 0 where
+  pub table : s.seat.table_id ≡ t.id
+  pub view : s.seat.me ≡ (record no_view { made = s.seat.me.0.made; sizes = t.sizes }, [])
 
-pub record IsWorkerOf (t : ExecTable) (s : WorkerSeat) : Type 0 where
-  pub table : s.seat.table_id ≡ t.table.shared.table_id
+pub record IsWorkerOf (t : Identity) (s : WorkerSeat) : Type 0 where
+  pub table : s.seat.table_id ≡ t.id
   pub number : ℕ
-  pub view : s.seat.me ≡ (record no_view { worker = Some number }, [])
+  pub view : s.seat.me ≡ (record no_view { worker = Some number; sizes = t.sizes }, [])
 
--- the step of the worker, from a state that met the laws, which answered a
-pub record WorkerDoes (s : WorkerSeat) (p : Step) (a : Answer) : Type 0 where
+-- the step of the worker, from a state of the table's sizes that met the laws, which answered a
+pub record WorkerDoes (t : Identity) (s : WorkerSeat) (p : Step) (a : Answer) : Type 0 where
   pub number : ℕ
   pub is : s.seat.me.0.worker ≡ Some number
   pub found : ℕ
-  pub did : Worked number p found
-  pub says : answer did.before.core (did.before.core.sizes.nodes + number) p ≡ a
+  pub did : Worked t.sizes number p found
+  pub says : answer did.before.core (t.sizes.nodes + number) p ≡ a
 
 -- what word 0 tells
 abbrev pub seen_in : ℕ → core.Seen

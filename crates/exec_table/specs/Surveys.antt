@@ -5,7 +5,7 @@ use lib.ListN.{get_elem?}
 use Rattle.exec_table.specs.Words.{words_of}
 use Rattle.exec_table.specs.Boards.{Board, Holds, NodeView, View, node_view}
 use Rattle.exec_table.specs.Rule.{Sat, Stp}
-use Rattle.exec_table.specs.Seats.{IsSeatOf, key_of, slots, view, ExecTable, NodeSeat}
+use Rattle.exec_table.specs.Seats.{Identity, IsSeatOf, slots, view, NodeSeat}
 
 -- a seat takes in the nodes of another
 abbrev pub joined_views : View → View → View
@@ -49,12 +49,12 @@ IsLent was s = (s.seat.table_id ≡ was.seat.table_id) × (s.seat.me.0.nodes ≡
     × (s.seat.me.1 ≡ was.seat.me.1) × (s.node ≡ was.node) × (s.held ≡ was.held)
 
 -- the seats are those of all nodes of the table, in order of their numbers
-abbrev pub AreAll : ExecTable → List NodeSeat → Type 0
-AreAll t seats = (length seats ≡ (key_of t).nodes)
+abbrev pub AreAll : Identity → List NodeSeat → Type 0
+AreAll t seats = (length seats ≡ t.sizes.nodes)
     × ((k : ℕ) (s : NodeSeat) → get_elem? seats k ≡ some s → IsSeatOf t s × ((view s).number ≡ k))
 
 -- the seat is one of the table again, and knows what it knew
-abbrev pub IsBack : ExecTable → NodeSeat → NodeSeat → Type 0
+abbrev pub IsBack : Identity → NodeSeat → NodeSeat → Type 0
 IsBack t was s = IsSeatOf t s × (view s ≡ view was) × (slots s ≡ slots was)
 
 abbrev pub views : List NodeSeat → List NodeView

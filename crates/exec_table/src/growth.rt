@@ -4,7 +4,7 @@ ghost use Rattle.core_laws.specs.Steps.{wired as tells_wired};
 ghost use Rattle.core_laws.specs.declared.types.Step.TheVariants as step;
 ghost use Rattle.exec_table.specs.Words.{wire_word as word_there, wire_in};
 ghost use Rattle.exec_table.specs.Ready.{ready};
-ghost use Rattle.exec_table.specs.Seats.{IsSeatOf, Makes, key_of, view, wire_found};
+ghost use Rattle.exec_table.specs.Seats.{IsSeatOf, Makes, identity_of, view, wire_found};
 
 use crate::plays::{Learn, SetWire};
 use crate::port_steps::wire_of;
@@ -39,9 +39,9 @@ fn refused(found: Option<Wire>) -> Result<(), Wire>
 impl ExecTable {
     /// The reserved edge gets this wire, unless it has one.
     pub fn wire(&self, seat: &mut NodeSeat, e: u32, w: Wire) -> Result<(), Wire>
-        requires seat { IsSeatOf self.now seat.old }
+        requires seat { IsSeatOf (identity_of self.now) seat.old }
         requires ready { ready (view seat.old) (step.Wire e w) ≡ true }
-        ensures { Makes self.now seat.old seat.new (step.Wire e w) None (tells_wired
+        ensures { Makes (identity_of self.now) seat.old seat.new (step.Wire e w) None (tells_wired
             (wire_found result)) }
     {
         let place = self.wire_place(e);
@@ -53,9 +53,10 @@ impl ExecTable {
 
     /// The edge's wire. Where it is one of the node, the node has learned it.
     pub fn wired(&self, seat: &mut NodeSeat, e: u32) -> Option<Wire>
-        requires seat { IsSeatOf self.now seat.old }
+        requires seat { IsSeatOf (identity_of self.now) seat.old }
         requires ready { ready (view seat.old) (step.Wired e) ≡ true }
-        ensures { Makes self.now seat.old seat.new (step.Wired e) None (tells_wired result) }
+        ensures { Makes (identity_of self.now) seat.old seat.new (step.Wired e) None
+            (tells_wired result) }
     {
         let place = self.wire_place(e);
         wire_in_word(self.table.shared.load::<Learn>(&mut seat.seat, place))

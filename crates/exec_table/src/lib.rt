@@ -14,7 +14,8 @@
 //! - `specs/Boards.antt`: a state of the core with its chunks, and the laws of both;
 //!   `specs/Ready.antt`: when a seat may make a step; `specs/Seats.antt`: what the clauses say
 //! - `specs/Known.antt`: what a seat knows after a step by what the step answered, which
-//!   `proofs/Known.antt` proves; users of the table show their conditions by it
+//!   `proofs/Known.antt` proves of the node's state, and `proofs/Ends.antt` of its stage, its edges
+//!   and its slots; users of the table show their conditions by it
 //! - `proofs/Wording.antt`: each step changes one word; `proofs/Kept.antt`: it keeps the laws;
 //!   `proofs/Tied.antt`: each step of a seat is one of the core; `proofs/Starting.antt`: the start
 //!   meets the laws

@@ -3,7 +3,7 @@ ghost use Rattle.std.specs.Prelude.{◌≡◌, ◌≤◌, [], cond, map, false, 
 ghost use Rattle.core_laws.specs.Start.{fits};
 ghost use Rattle.exec_table.specs.Made.{AreOpen, IsMade};
 ghost use Rattle.exec_table.specs.Rule.{first_view};
-ghost use Rattle.exec_table.specs.Seats.{IsRootOf, key_of};
+ghost use Rattle.exec_table.specs.Seats.{IsRootOf, identity_of, key_of};
 ghost use Rattle.exec_table.specs.Words.{flags_word as flags_word_there, wire_word as wire_word_there, words_of};
 
 use crate::growth::wire_word;
@@ -121,8 +121,9 @@ impl ExecTable {
         requires view { root.old.seat.me ≡ (first_view (key_of self.now), []) }
         requires room { (nodes.old.items ≡ []) ×
             ((key_of self.now).nodes ≤ vec_capacity nodes.old) }
-        ensures nodes { OnOk result (AreOpen self.now nodes.new) }
-        ensures root { OnOk result (IsRootOf self.now root.new × (root.new.seat.me.0.made ≡ 0)) }
+        ensures nodes { OnOk result (AreOpen (identity_of self.now) nodes.new) }
+        ensures root { OnOk result (IsRootOf (identity_of self.now) root.new
+            × (root.new.seat.me.0.made ≡ 0)) }
     {
         for i in 0..self.nodes {
             let held = VecDeque::with_capacity(alloc, self.edges as usize)?;

@@ -4,7 +4,7 @@ ghost use Rattle.core_laws.specs.Steps.{bit_at_end, is_idle as tells_idle, marke
 ghost use Rattle.core_laws.specs.declared.types.Step.TheVariants as step;
 ghost use Rattle.core_laws.specs.Views.{is_set as is_set_there, wire_ok};
 ghost use Rattle.exec_table.specs.Ready.{ready};
-ghost use Rattle.exec_table.specs.Seats.{IsSeatOf, Makes, MakesUpdated, is_idle, marked_of, updated_of as updated_there, view};
+ghost use Rattle.exec_table.specs.Seats.{IsSeatOf, Makes, MakesUpdated, identity_of, is_idle, marked_of, updated_of as updated_there, view};
 
 use crate::plays::{Again, Begin, Birth, Mark, Over, Rest, TokenIn, TokenOut};
 use crate::rule::{ExecTable, NodeSeat};
@@ -72,9 +72,9 @@ impl ExecTable {
     /// Tells the node at the other end of e that the port changed. Where that node's word was 0 it
     /// is charged with a token of this one.
     pub fn mark(&self, seat: &mut NodeSeat, e: u32) -> Marked
-        requires seat { IsSeatOf self.now seat.old }
+        requires seat { IsSeatOf (identity_of self.now) seat.old }
         requires ready { ready (view seat.old) (step.Mark e) ≡ true }
-        ensures { Makes self.now seat.old seat.new (step.Mark e) None (marked_peer
+        ensures { Makes (identity_of self.now) seat.old seat.new (step.Mark e) None (marked_peer
             (marked_of result)) }
     {
         let wire = self.wire_at(seat, e);
@@ -86,18 +86,18 @@ impl ExecTable {
 
     /// The node, which has a token, is held from now on. Its token goes where its word was 0.
     pub fn begin(&self, seat: &mut NodeSeat) -> Updated
-        requires seat { IsSeatOf self.now seat.old }
+        requires seat { IsSeatOf (identity_of self.now) seat.old }
         requires ready { ready (view seat.old) step.Begin ≡ true }
-        ensures { MakesUpdated self.now seat.old seat.new step.Begin result }
+        ensures { MakesUpdated (identity_of self.now) seat.old seat.new step.Begin result }
     {
         let place = seat.node as usize + 1;
         updated_of(self.table.shared.swap::<Begin>(&mut seat.seat, place, HELD))
     }
 
     pub fn again(&self, seat: &mut NodeSeat) -> Updated
-        requires seat { IsSeatOf self.now seat.old }
+        requires seat { IsSeatOf (identity_of self.now) seat.old }
         requires ready { ready (view seat.old) step.Again ≡ true }
-        ensures { MakesUpdated self.now seat.old seat.new step.Again result }
+        ensures { MakesUpdated (identity_of self.now) seat.old seat.new step.Again result }
     {
         let place = seat.node as usize + 1;
         updated_of(self.table.shared.swap::<Again>(&mut seat.seat, place, HELD))
@@ -105,9 +105,10 @@ impl ExecTable {
 
     /// The node is idle from now on, unless a port changed meanwhile.
     pub fn rest(&self, seat: &mut NodeSeat) -> Rested
-        requires seat { IsSeatOf self.now seat.old }
+        requires seat { IsSeatOf (identity_of self.now) seat.old }
         requires ready { ready (view seat.old) step.Rest ≡ true }
-        ensures { Makes self.now seat.old seat.new step.Rest None (tells_idle (is_idle result)) }
+        ensures { Makes (identity_of self.now) seat.old seat.new step.Rest None
+            (tells_idle (is_idle result)) }
     {
         let place = seat.node as usize + 1;
         let shared = &self.table.shared;
@@ -119,26 +120,26 @@ impl ExecTable {
     }
 
     pub fn over(&self, seat: &mut NodeSeat)
-        requires seat { IsSeatOf self.now seat.old }
+        requires seat { IsSeatOf (identity_of self.now) seat.old }
         requires ready { ready (view seat.old) step.Over ≡ true }
-        ensures { Makes self.now seat.old seat.new step.Over None nothing }
+        ensures { Makes (identity_of self.now) seat.old seat.new step.Over None nothing }
     {
         let place = seat.node as usize + 1;
         self.table.shared.swap::<Over>(&mut seat.seat, place, OVER);
     }
 
     pub fn token_in(&self, seat: &mut NodeSeat)
-        requires seat { IsSeatOf self.now seat.old }
+        requires seat { IsSeatOf (identity_of self.now) seat.old }
         requires ready { ready (view seat.old) step.TokenIn ≡ true }
-        ensures { Makes self.now seat.old seat.new step.TokenIn None nothing }
+        ensures { Makes (identity_of self.now) seat.old seat.new step.TokenIn None nothing }
     {
         self.table.shared.fetch_add::<TokenIn>(&mut seat.seat, 0, 1);
     }
 
     pub fn token_out(&self, seat: &mut NodeSeat)
-        requires seat { IsSeatOf self.now seat.old }
+        requires seat { IsSeatOf (identity_of self.now) seat.old }
         requires ready { ready (view seat.old) step.TokenOut ≡ true }
-        ensures { Makes self.now seat.old seat.new step.TokenOut None nothing }
+        ensures { Makes (identity_of self.now) seat.old seat.new step.TokenOut None nothing }
     {
         let shared = &self.table.shared;
         shared.fetch_sub::<TokenOut>(&mut seat.seat, 0, 1);
@@ -146,9 +147,9 @@ impl ExecTable {
 
     /// The unborn node is live and charged from now on, with the token that it had.
     pub fn birth(&self, seat: &mut NodeSeat)
-        requires seat { IsSeatOf self.now seat.old }
+        requires seat { IsSeatOf (identity_of self.now) seat.old }
         requires ready { ready (view seat.old) step.Birth ≡ true }
-        ensures { Makes self.now seat.old seat.new step.Birth None nothing }
+        ensures { Makes (identity_of self.now) seat.old seat.new step.Birth None nothing }
     {
         let place = seat.node as usize + 1;
         let shared = &self.table.shared;

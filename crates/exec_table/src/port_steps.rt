@@ -7,7 +7,7 @@ ghost use Rattle.port_word.specs.declared.flags.Flags.{Flags as FlagsOf};
 ghost use Rattle.exec_table.specs.Words.{edge_count, flags_word, port_place as place_of_port, wire_place as place_of_wire, wire_of as wire_in_word};
 ghost use Rattle.exec_table.specs.Ready.{ready, end_of_view};
 ghost use Rattle.exec_table.specs.Rule.{aiming};
-ghost use Rattle.exec_table.specs.Seats.{IsSeatOf, Makes, holds_chunk, key_of, push_of, slot_of, slots, view};
+ghost use Rattle.exec_table.specs.Seats.{IsSeatOf, Makes, holds_chunk, identity_of, key_of, push_of, slot_of, slots, view};
 
 use crate::plays::{Aim, ClosePort, Finish, Look, Pull, Push, Unwant, Want};
 use crate::rule::{ExecTable, NodeSeat};
@@ -63,9 +63,9 @@ impl ExecTable {
     // The wire of an edge that the seat has learned. It never changes, so this load is no step; the
     // seat's view names the edge until its next step, which is how a mark says what it tells of.
     pub(crate) fn wire_at(&self, seat: &mut NodeSeat, e: u32) -> Wire
-        requires seat { IsSeatOf self.now seat.old }
+        requires seat { IsSeatOf (identity_of self.now) seat.old }
         requires known { knows e (view seat.old).state.seen ≡ true }
-        ensures seat { IsSeatOf self.now seat.new }
+        ensures seat { IsSeatOf (identity_of self.now) seat.new }
         ensures view { seat.new.seat.me ≡ (aiming e (view seat.old), slots seat.old) }
         ensures wire { (end_of_view (view seat.old) e).wire ≡ Some result }
         ensures sound { wire_ok (key_of self.now).nodes result ≡ true }
@@ -77,9 +77,10 @@ impl ExecTable {
     /// The port's flags as they are. Where its slot's turn has come for this end, that of an input
     /// with data or of an output without, the seat takes the slot.
     pub fn look(&self, seat: &mut NodeSeat, e: u32) -> Flags
-        requires seat { IsSeatOf self.now seat.old }
+        requires seat { IsSeatOf (identity_of self.now) seat.old }
         requires ready { ready (view seat.old) (step.Look e) ≡ true }
-        ensures { Makes self.now seat.old seat.new (step.Look e) None (tells_flags result) }
+        ensures { Makes (identity_of self.now) seat.old seat.new (step.Look e) None
+            (tells_flags result) }
     {
         let wire = self.wire_at(seat, e);
         let place = self.port_place(e);
@@ -90,9 +91,9 @@ impl ExecTable {
     }
 
     pub fn want(&self, seat: &mut NodeSeat, e: u32)
-        requires seat { IsSeatOf self.now seat.old }
+        requires seat { IsSeatOf (identity_of self.now) seat.old }
         requires ready { ready (view seat.old) (step.Want e) ≡ true }
-        ensures { Makes self.now seat.old seat.new (step.Want e) None nothing }
+        ensures { Makes (identity_of self.now) seat.old seat.new (step.Want e) None nothing }
     {
         let place = self.port_place(e);
         let shared = &self.table.shared;
@@ -100,9 +101,9 @@ impl ExecTable {
     }
 
     pub fn unwant(&self, seat: &mut NodeSeat, e: u32)
-        requires seat { IsSeatOf self.now seat.old }
+        requires seat { IsSeatOf (identity_of self.now) seat.old }
         requires ready { ready (view seat.old) (step.Unwant e) ≡ true }
-        ensures { Makes self.now seat.old seat.new (step.Unwant e) None nothing }
+        ensures { Makes (identity_of self.now) seat.old seat.new (step.Unwant e) None nothing }
     {
         let place = self.port_place(e);
         let shared = &self.table.shared;
@@ -111,10 +112,11 @@ impl ExecTable {
 
     /// The chunk goes into the slot, whose turn this seat has.
     pub fn push(&self, seat: &mut NodeSeat, e: u32, chunk: Chunk)
-        requires seat { IsSeatOf self.now seat.old }
+        requires seat { IsSeatOf (identity_of self.now) seat.old }
         requires ready { ready (view seat.old) (push_of seat.old e) ≡ true }
         requires slot { slot_of seat.old e ≡ Some None }
-        ensures { Makes self.now seat.old seat.new (push_of seat.old e) (Some chunk) nothing }
+        ensures { Makes (identity_of self.now) seat.old seat.new (push_of seat.old e) (Some chunk)
+            nothing }
     {
         seat.bring_to_front(e);
         seat.held.pop_front();
@@ -130,9 +132,9 @@ impl ExecTable {
     /// The port's content, out of the slot, whose turn this seat has. This is no step: words and
     /// the seat's view stay.
     pub fn lift(&self, seat: &mut NodeSeat, e: u32) -> Chunk
-        requires seat { IsSeatOf self.now seat.old }
+        requires seat { IsSeatOf (identity_of self.now) seat.old }
         requires slot { holds_chunk (slot_of seat.old e) ≡ true }
-        ensures seat { IsSeatOf self.now seat.new }
+        ensures seat { IsSeatOf (identity_of self.now) seat.new }
         ensures view { view seat.new ≡ view seat.old }
         ensures content { (end_of_view (view seat.old) e).turn ≡ Some (Some result) }
         ensures lifted { slot_of seat.new e ≡ Some None }
@@ -147,10 +149,10 @@ impl ExecTable {
 
     /// Gives back the slot, out of which the chunk was lifted.
     pub fn pull(&self, seat: &mut NodeSeat, e: u32)
-        requires seat { IsSeatOf self.now seat.old }
+        requires seat { IsSeatOf (identity_of self.now) seat.old }
         requires ready { ready (view seat.old) (step.Pull e) ≡ true }
         requires slot { slot_of seat.old e ≡ Some None }
-        ensures { Makes self.now seat.old seat.new (step.Pull e) None nothing }
+        ensures { Makes (identity_of self.now) seat.old seat.new (step.Pull e) None nothing }
     {
         seat.bring_to_front(e);
         seat.held.pop_front();
@@ -160,9 +162,9 @@ impl ExecTable {
     }
 
     pub fn finish(&self, seat: &mut NodeSeat, e: u32)
-        requires seat { IsSeatOf self.now seat.old }
+        requires seat { IsSeatOf (identity_of self.now) seat.old }
         requires ready { ready (view seat.old) (step.Finish e) ≡ true }
-        ensures { Makes self.now seat.old seat.new (step.Finish e) None nothing }
+        ensures { Makes (identity_of self.now) seat.old seat.new (step.Finish e) None nothing }
     {
         let place = self.port_place(e);
         let shared = &self.table.shared;
@@ -170,9 +172,9 @@ impl ExecTable {
     }
 
     pub fn close_port(&self, seat: &mut NodeSeat, e: u32)
-        requires seat { IsSeatOf self.now seat.old }
+        requires seat { IsSeatOf (identity_of self.now) seat.old }
         requires ready { ready (view seat.old) (step.ClosePort e) ≡ true }
-        ensures { Makes self.now seat.old seat.new (step.ClosePort e) None nothing }
+        ensures { Makes (identity_of self.now) seat.old seat.new (step.ClosePort e) None nothing }
     {
         let place = self.port_place(e);
         let shared = &self.table.shared;

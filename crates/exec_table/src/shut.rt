@@ -2,38 +2,44 @@
 ghost use Rattle.std.specs.Prelude.{◌≡◌, ◌≤◌, [], vec_capacity, IfOk};
 ghost use Rattle.std.specs.Slots.{slots_items, slots_len, IsFull};
 ghost use Rattle.exec_table.specs.Closings.{IsFinal};
-ghost use Rattle.exec_table.specs.Seats.{IsRootOf};
+ghost use Rattle.exec_table.specs.Seats.{IsRootOf, identity_of};
 ghost use Rattle.exec_table.specs.Surveys.{AreAll, views};
 
 use crate::rule::{ExecTable, NodeSeat, RootSeat, WorkerSeat};
 use atomic_table::Closed;
-use chunk_data::{Chunk, Memory};
+use chunk_data::{Chunk, List, Memory};
 use std::alloc::Global;
 
 /// The last words, and what lies in the slot of each edge.
 #[derive(Drop)]
 pub struct Final {
-    pub words: Vec<u64>,
-    pub chunks: Vec<Option<Chunk>>,
+    pub words: List<u64>,
+    pub left: Vec<Option<Chunk>>,
 }
 
-// Moves all words and slots out.
-fn unload(mut closed: Closed<Option<Chunk>, Global>, mut room: Final) -> Final
+// Moves all words and slots out, into room that is there.
+fn unload(
+    mut closed: Closed<Option<Chunk>, Global>,
+    mut words: Vec<u64>,
+    mut left: Vec<Option<Chunk>>,
+) -> Final
     requires full { IsFull closed.words × IsFull closed.slots }
-    requires words { (room.words.items ≡ []) × (slots_len closed.words ≤ vec_capacity room.words) }
-    requires slots { (room.chunks.items ≡ [])
-        × (slots_len closed.slots ≤ vec_capacity room.chunks) }
-    ensures words { result.words.items ≡ slots_items closed.words }
-    ensures slots { result.chunks.items ≡ slots_items closed.slots }
+    requires words { (words.items ≡ []) × (slots_len closed.words ≤ vec_capacity words) }
+    requires slots { (left.items ≡ []) × (slots_len closed.slots ≤ vec_capacity left) }
+    ensures words { result.words ≡ slots_items closed.words }
+    ensures slots { result.left.items ≡ slots_items closed.slots }
 {
     for i in 0..closed.words.len() {
-        room.words.push_reserved(closed.word(i));
+        words.push_reserved(closed.word(i));
     }
     for i in 0..closed.slot_count() {
-        room.chunks.push_reserved(closed.take(i));
+        left.push_reserved(closed.take(i));
     }
     closed.free();
-    room
+    Final {
+        words: List::from_vec(words),
+        left,
+    }
 }
 
 impl ExecTable {
@@ -45,15 +51,13 @@ impl ExecTable {
         mut nodes: Vec<NodeSeat>,
         workers: Vec<WorkerSeat>,
     ) -> Result<Final, Memory>
-        requires root { IsRootOf self root }
-        requires nodes { AreAll self nodes.items }
+        requires root { IsRootOf (identity_of self) root }
+        requires nodes { AreAll (identity_of self) nodes.items }
         ensures { IfOk result (λ f. IsFinal (views nodes.items) f) }
     {
         let alloc = *nodes.allocator();
-        let room = Final {
-            words: Vec::with_capacity(alloc, self.table.word_count())?,
-            chunks: Vec::with_capacity(alloc, self.table.slot_count())?,
-        };
+        let words = Vec::with_capacity(alloc, self.table.word_count())?;
+        let left = Vec::with_capacity(alloc, self.table.slot_count())?;
         let RootSeat { mut seat } = root;
         self.gather(&mut seat, nodes.as_mut_slice());
         let ExecTable {
@@ -61,6 +65,6 @@ impl ExecTable {
             nodes: _,
             edges: _,
         } = self;
-        Ok(unload(table.close_with(seat), room))
+        Ok(unload(table.close_with(seat), words, left))
     }
 }

@@ -2,7 +2,7 @@
 ghost use Rattle.std.specs.Prelude.{◌≡◌, ◌∷◌, [], List, length};
 ghost use Rattle.exec_table.specs.Boards.{NodeView};
 ghost use Rattle.exec_table.specs.Made.{just_first, without_first};
-ghost use Rattle.exec_table.specs.Seats.{IsSeatOf, key_of};
+ghost use Rattle.exec_table.specs.Seats.{IsSeatOf, identity_of, key_of};
 ghost use Rattle.exec_table.specs.Surveys.{AreAll, Each, HasAll, IsBack, IsLent, Surveyed, joined_views, noted_word, views};
 
 use crate::plays::{Enter, Gather, Note, Peel, Survey};
@@ -23,7 +23,7 @@ impl ExecTable {
     // Takes the seat's node to the root.
     fn lend(&self, root: &mut AnySeat, seat: &mut NodeSeat)
         requires root { root.old.table_id ≡ self.now.table.shared.table_id }
-        requires seat { IsSeatOf self.now seat.old }
+        requires seat { IsSeatOf (identity_of self.now) seat.old }
         ensures root { (root.new.table_id ≡ root.old.table_id)
             × (root.new.me ≡ (
               joined_views root.old.me.0
@@ -72,7 +72,7 @@ impl ExecTable {
     pub(crate) fn gather(&self, root: &mut AnySeat, seats: &mut [NodeSeat])
         requires root { (root.old.table_id ≡ self.now.table.shared.table_id)
             × (root.old.me.0.nodes ≡ []) × (root.old.me.0.noted ≡ []) }
-        requires seats { AreAll self.now seats.old }
+        requires seats { AreAll (identity_of self.now) seats.old }
         ensures root { (root.new.table_id ≡ root.old.table_id)
             × (root.new.me.0.nodes ≡ views seats.old) × (root.new.me.0.noted ≡ []) }
         ensures seats { Each IsLent seats.old seats.new }
@@ -86,9 +86,9 @@ impl ExecTable {
     /// Reads each word at a moment at which no node can change one: the words, in which the stop
     /// bit is left unset, and what the seats know show one state that meets the laws.
     pub fn survey(&self, seats: &mut [NodeSeat], words: &mut [u64])
-        requires seats { AreAll self.now seats.old }
+        requires seats { AreAll (identity_of self.now) seats.old }
         requires words { length words.old ≡ self.now.table.shared.table_id.words }
-        ensures seats { Each (IsBack self.now) seats.old seats.new }
+        ensures seats { Each (IsBack (identity_of self.now)) seats.old seats.new }
         ensures shown { Surveyed words.new (views seats.old) }
     {
         let mut root = self.table.shared.load_new_seat::<Enter>(0).1;

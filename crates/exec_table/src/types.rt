@@ -42,6 +42,8 @@ pub struct View {
     pub made: u32,
     /// The number of the worker.
     pub worker: Option<u32>,
+    /// The sizes of the table, which the root and its workers know.
+    pub sizes: Sizes,
 }
 
 /// What `mark` made of the peer, or found.

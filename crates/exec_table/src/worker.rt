@@ -3,7 +3,7 @@ ghost use Rattle.std.specs.Prelude.{◌≡◌, ◌+◌, ◌<◌, [], Some};
 ghost use Rattle.core_laws.specs.Steps.{seen as tells_seen, nothing};
 ghost use Rattle.core_laws.specs.declared.types.Step.TheVariants as step;
 ghost use Rattle.exec_table.specs.Rule.{no_view};
-ghost use Rattle.exec_table.specs.Seats.{IsRootOf, IsWorkerOf, WorkerDoes, key_of, seen_in, seen_of};
+ghost use Rattle.exec_table.specs.Seats.{IsRootOf, IsWorkerOf, WorkerDoes, identity_of, key_of, seen_in, seen_of};
 
 use crate::plays::{MakeWorker, See, Stop};
 use crate::rule::{ExecTable, RootSeat, WorkerSeat};
@@ -26,11 +26,11 @@ fn seen(word: u64) -> Seen
 impl ExecTable {
     /// The seat of the next worker.
     pub fn worker(&self, root: &mut RootSeat) -> WorkerSeat
-        requires root { IsRootOf self.now root.old }
+        requires root { IsRootOf (identity_of self.now) root.old }
         requires spare { root.old.seat.me.0.made < (key_of self.now).workers }
-        ensures root { IsRootOf self.now root.new }
+        ensures root { IsRootOf (identity_of self.now) root.new }
         ensures made { root.new.seat.me.0.made ≡ root.old.seat.me.0.made + 1 }
-        ensures worker { IsWorkerOf self.now result }
+        ensures worker { IsWorkerOf (identity_of self.now) result }
         ensures number { result.seat.me.0.worker ≡ Some root.old.seat.me.0.made }
     {
         WorkerSeat {
@@ -40,10 +40,10 @@ impl ExecTable {
 
     /// Ends the run: every worker sees it from now on.
     pub fn stop(&self, seat: &mut WorkerSeat)
-        requires { IsWorkerOf self.now seat.old }
+        requires { IsWorkerOf (identity_of self.now) seat.old }
         ensures same { seat.new.seat.me ≡ seat.old.seat.me }
-        ensures worker { IsWorkerOf self.now seat.new }
-        ensures told { WorkerDoes seat.old step.Stop nothing }
+        ensures worker { IsWorkerOf (identity_of self.now) seat.new }
+        ensures told { WorkerDoes (identity_of self.now) seat.old step.Stop nothing }
     {
         let shared = &self.table.shared;
         shared.fetch_or::<Stop>(&mut seat.seat, 0, STOPPED);
@@ -51,10 +51,11 @@ impl ExecTable {
 
     /// Whether something is pending, and whether the run was stopped.
     pub fn see(&self, seat: &mut WorkerSeat) -> Seen
-        requires { IsWorkerOf self.now seat.old }
+        requires { IsWorkerOf (identity_of self.now) seat.old }
         ensures same { seat.new.seat.me ≡ seat.old.seat.me }
-        ensures worker { IsWorkerOf self.now seat.new }
-        ensures told { WorkerDoes seat.old step.See (tells_seen (seen_of result)) }
+        ensures worker { IsWorkerOf (identity_of self.now) seat.new }
+        ensures told { WorkerDoes (identity_of self.now) seat.old step.See
+            (tells_seen (seen_of result)) }
     {
         seen(self.table.shared.load::<See>(&mut seat.seat, 0))
     }

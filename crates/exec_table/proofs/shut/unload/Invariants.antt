@@ -3,15 +3,15 @@ use Rattle.exec_table.proofs.shut.unload.Given as goal
 
 abbrev pub invariant-loop-i : goal.invariant-loop-i
 invariant-loop-i l = record {
-  moved : l.room.words.items ≡ take l.i (slots_items l.closed.words);
-  room : vec_capacity l.room.words ≡ vec_capacity l.fn.room.words;
+  moved : l.words.items ≡ take l.i (slots_items l.closed.words);
+  room : vec_capacity l.words ≡ vec_capacity l.fn.words;
 }
 
 abbrev pub invariant-loop-i-2 : goal.invariant-loop-i-2
 invariant-loop-i-2 l = record {
-  words : l.room.words ≡ l.initial.room.words;
-  moved : l.room.chunks.items ≡ take l.i (slots_items l.fn.closed.slots);
-  room : vec_capacity l.room.chunks ≡ vec_capacity l.fn.room.chunks;
+  words : l.words ≡ l.initial.words;
+  moved : l.left.items ≡ take l.i (slots_items l.fn.closed.slots);
+  room : vec_capacity l.left ≡ vec_capacity l.fn.left;
   items : slots_items l.closed.slots ≡ slots_items l.fn.closed.slots;
   count : slots_len l.closed.slots ≡ slots_len l.fn.closed.slots;
   filled : Filled (slots_filled l.closed.slots) l.i (slots_len l.closed.slots);

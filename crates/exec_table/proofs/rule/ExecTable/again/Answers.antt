@@ -2,7 +2,7 @@ use Rattle.exec_table.proofs.Cited.{ap, arith, refl, sym, updated, ◌∙◌, re
 use Rattle.exec_table.proofs.rule.ExecTable.again.Goals as goal
 
 pub swap-requires : goal.swap-requires
-swap-requires c = node-asks c.requires.seat refl c.requires.ready refl
+swap-requires c = node-asks c.args.self.now c.requires.seat refl c.requires.ready refl
     (λ _ _ _. (refl, refl))
 
 pub returns : goal.returns

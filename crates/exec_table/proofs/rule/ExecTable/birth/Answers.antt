@@ -2,7 +2,7 @@ use Rattle.exec_table.proofs.Cited.{refl, node-asks, quiet-makes}
 use Rattle.exec_table.proofs.rule.ExecTable.birth.Goals as goal
 
 pub fetch_xor-requires : goal.fetch_xor-requires
-fetch_xor-requires c = node-asks c.requires.seat refl c.requires.ready refl
+fetch_xor-requires c = node-asks c.args.self.now c.requires.seat refl c.requires.ready refl
     (λ _ _ _. (refl, refl))
 
 pub returns : goal.returns

@@ -1,4 +1,4 @@
-use Rattle.exec_table.proofs.Cited.{[], ap, arith, get_elem?, length, no_view, one, refl, subst, sym, ℕ, ⊎_elim, ◌+◌, ◌<◌, ◌∙◌, ◌≡◌, IsOpen, rest_of, without_first, first_or_none, key_of, NodeSeat, length_push, first-of, one-more, opened, peels}
+use Rattle.exec_table.proofs.Cited.{[], ap, arith, get_elem?, length, no_view, one, refl, subst, sym, ℕ, ⊎_elim, ◌+◌, ◌<◌, ◌∙◌, ◌≡◌, IsOpen, rest_of, without_first, first_or_none, key_of, NodeSeat, length_push, first-of, one-more, opened, peels, identity_of}
 use Rattle.exec_table.proofs.rule.ExecTable.deal.Goals as goal
 
 pub split_seat-seat-requires : goal.split_seat-seat-requires
@@ -21,19 +21,20 @@ loop-i-preserved c = let t = c.args.self.now in let key = key_of t in
       seat = c.split_seat-seat.result;
       node = i;
       held = c.in_ok-held.held;
-    } in let at_start : IsOpen t i dealt = opened t dealt i (did.3 ∙ inv.table) less refl
+    } in let here = identity_of t in
+    let at_start : IsOpen here i dealt = opened t dealt i (did.3 ∙ inv.table) less refl
     (did.4 ∙ ap (λ l. (one (first_or_none l), [])) (ap (λ m. m.0.nodes) inv.view ∙ first))
     c.in_ok-held.ensures.items
     (let e = t.edges_are in let r = c.in_ok-held.ensures.capacity in omega (arith, e, r)) in
     record {
       table = did.0 ∙ inv.table;
       view = did.2 ∙ (ap (λ m. (without_first m.0, m.1)) inv.view
-          ∙ ap (λ l. (record no_view { nodes = rest_of l }, [])) first);
+          ∙ ap (λ l. (record no_view { nodes = rest_of l; sizes = key }, [])) first);
       count = ap length items ∙ (length_push c.loop-i.nodes.items dealt ∙ ap
           (λ k. k + 1) inv.count);
       room = c.push_reserved.ensures.capacity ∙ inv.room;
       each = λ k s h. ⊎_elim (λ z. inv.each k s z)
-          (λ (z : (k ≡ i) × (dealt ≡ s)). subst (λ (y : ℕ × NodeSeat). IsOpen t y.0 y.1)
+          (λ (z : (k ≡ i) × (dealt ≡ s)). subst (λ (y : ℕ × NodeSeat). IsOpen here y.0 y.1)
           (λ j. (sym z.0 j, z.1 j)) at_start) (one-more c.loop-i.nodes.items dealt s k i inv.count
           (ap (λ l. get_elem? l k) (sym items) ∙ h));
     }

@@ -1,11 +1,12 @@
-use Rattle.exec_table.proofs.Cited.{[], ap, arith, get_or, refl, some, subst, sym, ◌++◌, ◌∙◌, ◌∷◌, IsSeatOf, view, IsLent, at-now, each-all, each-next, next-view}
+use Rattle.exec_table.proofs.Cited.{[], ap, arith, get_or, refl, some, subst, sym, ◌++◌, ◌∙◌, ◌∷◌, IsSeatOf, view, IsLent, at-now, each-all, each-next, next-view, identity_of}
 use Rattle.exec_table.proofs.rule.ExecTable.gather.Goals as goal
 
 pub lend-requires-clause-seat : goal.lend-requires-clause-seat
 lend-requires-clause-seat c = let many = c.loop-i.auto.seats in let test = c.loop-i-test.true in
     let x = c.loop-i.invariant.seats _ _ (at-now c.loop-i.seats c.loop-i.i
     c.index-seats-i.result (omega arith) c.index-seats-i.is) in
-    subst (IsSeatOf c.args.self.now) (x.3 (omega arith)) (c.requires.seats.1 _ x.0 x.1).0
+    subst (IsSeatOf (identity_of c.args.self.now)) (x.3 (omega arith))
+    (c.requires.seats.1 _ x.0 x.1).0
 
 pub loop-i-init : goal.loop-i-init
 loop-i-init c = record {

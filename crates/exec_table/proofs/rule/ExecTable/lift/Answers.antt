@@ -14,7 +14,7 @@ returns-clause-seat c = let b = c.bring_to_front.ensures in let x = full-slot _ 
     let e = c.args.e in let old = c.args.seat.now in let o = c.requires.seat in
     let f = at-front c.bring_to_front.new.self e _ _ b.hand b.first.1 (b.slots e ∙ x.1) in
     let now = ap (λ m. m.1) c.exchange.ensures.3 ∙ ap (λ l. (e, None) ∷ rest l) f.1 in
-    seat-other c.args.self.now old _ o (c.exchange.ensures.0 ∙ b.same.0)
+    seat-other _ old _ o (c.exchange.ensures.0 ∙ b.same.0)
     (ap (λ m. m.0.nodes) c.exchange.ensures.3 ∙ ap (λ v. v.nodes) b.same.1) b.same.2
     (subst (HandHolds (view old)) (sym now) (hand-lifted (view old) e (Some x.0) f.0
     (subst (HandHolds (view old)) f.1 (hand-turned (view old) _ _

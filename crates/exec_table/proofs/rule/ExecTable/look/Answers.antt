@@ -3,14 +3,14 @@ use Rattle.core_laws.specs.declared.types.Step.TheVariants as step
 use Rattle.exec_table.proofs.rule.ExecTable.look.Goals as goal
 
 pub load-requires : goal.load-requires
-load-requires c = edge-asks true c.wire_at-wire.new.seat.seat (λ _. step.Look) c.args.e
-    c.wire_at-wire.ensures.seat refl refl
+load-requires c = edge-asks c.args.self.now true c.wire_at-wire.new.seat.seat (λ _. step.Look)
+    c.args.e c.wire_at-wire.ensures.seat refl refl
     (c.requires.seat.edges c.args.e (let g = c.requires.ready in grind arith))
     c.port_place-place.ensures (subst (λ m. ready (node_of m.0) (step.Look c.args.e) ≡ true)
     (sym c.wire_at-wire.ensures.view) c.requires.ready) refl (λ _ _ _. (refl, refl))
 
 pub take_slot-requires : goal.take_slot-requires
-take_slot-requires c = room-for c.args.self.now c.wire_at-wire.new.seat c.args.e
+take_slot-requires c = room-for _ c.wire_at-wire.new.seat c.args.e
     c.wire_at-wire.ensures.seat
     (c.requires.seat.edges c.args.e (let g = c.requires.ready in grind arith))
 
@@ -29,7 +29,7 @@ returns c = let o = c.wire_at-wire.ensures.seat in let mid = c.wire_at-wire.new.
     ∙ look-found b n e did.holds did.may) in
     let turn = look-turn b n e c.flags_of-flags.result c.wire_at-wire.result did.holds did.may
     (ap (λ x. (end_of_view x e).wire) (did.was ∙ same) ∙ c.wire_at-wire.ensures.wire) flags in
-    makes-before t old mid new (step.Look e) None _ same
+    makes-before _ old mid new (step.Look e) None _ same
     (ap (λ m. m.1) c.wire_at-wire.ensures.view) (makes {l = slots mid} o did
     (subst (HandHolds _) (sym did.hand) (hand-after b n did.holds (slots mid) hand (step.Look e)
     did.may refl did.kept)) (ap (λ z. z.table_id) took.same.0 ∙ c.load.ensures.0) took.same.1
@@ -37,6 +37,7 @@ returns c = let o = c.wire_at-wire.ensures.seat in let mid = c.wire_at-wire.new.
     (ap (λ k. beq c.flags_of-flags.result.has_data (eqb c.wire_at-wire.result.to k)) o.number
     ∙ turn) ∙ sym (ap edges_out did.hand))) took.same.2 refl (ap flags_answer (sym flags))
     (λ d v q. subst (λ (y : NodeView). (slot_in d (slots mid) ≡ Some v)
-    ⊎ ((end_of_view y d).turn ≡ Some v)) (sym (ap node_of did.view))
+    ⊎ ((slot_in d (slots mid) ≡ None) × ((end_of_view y d).turn ≡ Some v)))
+    (sym (ap node_of did.view))
     (look-slots b n did.holds (slots mid) hand e (front (slots mid)) did.may did.kept d v
     (sym (ap (slot_in d) did.hand) ∙ q))))

@@ -12,7 +12,7 @@ fetch_or-requires c = let o = c.wire_at-wire.ensures.seat in let mid = c.wire_at
     × (c.peer_of-peer.result.0 + 1 < t.table.shared.table_id.words)
     × Allows (Shown (key_of t)) t.table.shared.table_id.slots mid.seat.id mid.seat.me
     (c.peer_of-peer.result.0 + 1) (λ v. bit_or v c.bit.result)
-    (Did (view mid) (step.Mark k) (slots mid))) (sym aim) (word-asks o
+    (Did (view mid) (step.Mark k) (slots mid))) (sym aim) (word-asks t o
     (let k = t.words in let n = t.nodes_are in
     let i = peer-inside (key_of t).nodes mid.node w wire.sound in let q = p.peer in omega arith)
     (subst (λ x. ready x (step.Mark e) ≡ true) (sym same) c.requires.ready) refl
@@ -27,7 +27,7 @@ pub returns : goal.returns
 returns c = let mid = c.wire_at-wire.new.seat in let wire = c.wire_at-wire.ensures in
     let d = subst (λ k. Did (view mid) (step.Mark k) (slots mid) c.fetch_or.result
     c.fetch_or.new.seat.me) (ap (λ m. m.0.aim) wire.view) c.fetch_or.ensures.2 in
-    makes-before c.args.self.now c.args.seat.now mid _ (step.Mark c.args.e) None _
+    makes-before _ c.args.seat.now mid _ (step.Mark c.args.e) None _
     (ap (λ m. node_of m.0) wire.view) (ap (λ m. m.1) wire.view) (quiet-makes refl wire.seat d
     c.fetch_or.ensures.0 refl refl (ap marked_peer (ap marked_by (sym (d.word
     ∙ read-node d.before.core _ (marks-of d.before.core (view mid).number c.args.e d.may

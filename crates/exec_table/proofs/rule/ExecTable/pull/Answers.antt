@@ -4,15 +4,15 @@ use Rattle.exec_table.proofs.rule.ExecTable.pull.Goals as goal
 
 pub bring_to_front-requires-clause-there : goal.bring_to_front-requires-clause-there
 bring_to_front-requires-clause-there c =
-    held-there c.args.self.now c.args.seat.now c.args.e _ c.requires.seat c.requires.slot
+    held-there _ c.args.seat.now c.args.e _ c.requires.seat c.requires.slot
 
 pub fetch_and-requires : goal.fetch_and-requires
 fetch_and-requires c = let s = c.requires.seat in let b = c.bring_to_front.ensures in
     let f = at-front c.bring_to_front.new.self c.args.e _ _ b.hand b.first.1
     (b.slots c.args.e ∙ c.requires.slot) in
-    edge-asks true c.bring_to_front.new.self.seat (λ _. step.Pull) c.args.e s b.same.0 b.same.1
-    (search rules) c.port_place-place.ensures c.requires.ready (empty-front c.args.e _ f.0 f.1)
-    (λ _ _ _. (refl, refl))
+    edge-asks c.args.self.now true c.bring_to_front.new.self.seat (λ _. step.Pull) c.args.e s
+    b.same.0 b.same.1 (search rules) c.port_place-place.ensures c.requires.ready
+    (empty-front c.args.e _ f.0 f.1) (λ _ _ _. (refl, refl))
 
 pub returns : goal.returns
 returns c = let s = c.requires.seat in let old = c.args.seat.now in

@@ -4,13 +4,14 @@ use Rattle.exec_table.proofs.rule.ExecTable.push.Goals as goal
 
 pub bring_to_front-requires-clause-there : goal.bring_to_front-requires-clause-there
 bring_to_front-requires-clause-there c =
-    held-there c.args.self.now c.args.seat.now c.args.e _ c.requires.seat c.requires.slot
+    held-there _ c.args.seat.now c.args.e _ c.requires.seat c.requires.slot
 
 pub fetch_or-requires : goal.fetch_or-requires
 fetch_or-requires c = let s = c.requires.seat in let b = c.bring_to_front.ensures in
     let had = c.exchange.ensures.3 in
-    edge-asks true c.exchange.new.seat (λ x e. step.Push e (length (end_of_view x e).chunks))
-    c.args.e s (c.exchange.ensures.0 ∙ b.same.0) (ap (λ m. m.0) had ∙ b.same.1) (search rules)
+    edge-asks c.args.self.now true c.exchange.new.seat
+    (λ x e. step.Push e (length (end_of_view x e).chunks)) c.args.e s
+    (c.exchange.ensures.0 ∙ b.same.0) (ap (λ m. m.0) had ∙ b.same.1) (search rules)
     c.port_place-place.ensures c.requires.ready
     (full-front c.args.e _ c.args.chunk _ (ap (λ m. m.1) had)) (λ _ _ _. (refl, refl))
 

@@ -2,7 +2,7 @@ use Rattle.exec_table.proofs.Cited.{ap, arith, refl, sym, ◌^◌, ◌∙◌, ne
 use Rattle.exec_table.proofs.rule.ExecTable.rest.Goals as goal
 
 pub compare_exchange-requires : goal.compare_exchange-requires
-compare_exchange-requires c = node-asks c.requires.seat refl c.requires.ready refl
+compare_exchange-requires c = node-asks c.args.self.now c.requires.seat refl c.requires.ready refl
     (λ _ _ _. (refl, refl))
 
 pub returns-then-compare_exchange-eq-HELD : goal.returns-then-compare_exchange-eq-HELD

@@ -1,9 +1,9 @@
-use Rattle.exec_table.proofs.Cited.{ap, subst, sym, ◌∙◌, AreAll, views, closing}
+use Rattle.exec_table.proofs.Cited.{ap, subst, sym, ◌∙◌, AreAll, views, closing, identity_of}
 use Rattle.exec_table.proofs.rule.ExecTable.shut.Goals as goal
 
 pub gather-requires-clause-seats : goal.gather-requires-clause-seats
-gather-requires-clause-seats c = subst (AreAll c.args.self) (sym c.as_mut_slice.ensures.value)
-    c.requires.nodes
+gather-requires-clause-seats c = subst (AreAll (identity_of c.args.self))
+    (sym c.as_mut_slice.ensures.value) c.requires.nodes
 
 pub returns : goal.returns
 returns c = closing _ _ _ _ _ _ _ c.close_with.ensures.values.2 c.unload.ensures.words

@@ -1,4 +1,4 @@
-use Rattle.exec_table.proofs.Cited.{arith, bit_or, refl, true, ◌^◌, stop-word, worker-allowed}
+use Rattle.exec_table.proofs.Cited.{ap, arith, bit_or, refl, subst, true, Worked, ◌^◌, stop-word, worker-allowed}
 use Rattle.core_laws.specs.declared.types.Step.TheVariants as step
 use Rattle.exec_table.proofs.rule.ExecTable.stop.Goals as goal
 
@@ -8,5 +8,15 @@ fetch_or-requires c = let w = c.args.self.now.words in (
   omega arith,
   worker-allowed _ _ _ c.args.seat.now.seat.me step.Stop (λ n. bit_or n (2 ^ 63))
       (λ _. true) (λ _ _. refl)
-      (λ _ _. refl) stop-word,
+      (λ _ _. refl) stop-word (ap (λ m. m.0.sizes) c.requires.view),
 )
+
+pub returns-clause-told : goal.returns-clause-told
+returns-clause-told c = let s = c.requires in let is = ap (λ m. m.0.worker) s.view in record {
+  number = s.number;
+  is = is;
+  found = c.fetch_or.result;
+  did = subst (λ z. Worked z s.number step.Stop c.fetch_or.result) (ap (λ m. m.0.sizes) s.view)
+      (c.fetch_or.ensures.2.1 s.number is);
+  says = refl;
+}

@@ -1,11 +1,11 @@
-use Rattle.exec_table.proofs.Cited.{ap, arith, drop, get_or, ◌+◌, ◌∙◌, rest_of, first_or_none, view, IsBack, IsLent, views, all-there, at-now, each-all, each-next, enter-allowed, is-back, left-views}
+use Rattle.exec_table.proofs.Cited.{ap, arith, drop, get_or, ◌+◌, ◌∙◌, rest_of, first_or_none, view, IsBack, IsLent, views, all-there, at-now, each-all, each-next, enter-allowed, is-back, left-views, identity_of}
 use Rattle.exec_table.proofs.rule.ExecTable.survey.Goals as goal
 
 pub load_new_seat-requires : goal.load_new_seat-requires
 load_new_seat-requires c = let w = c.args.self.now.words in (omega arith, enter-allowed _ _ _)
 
 pub note-requires-clause-all : goal.note-requires-clause-all
-note-requires-clause-all c = all-there c.args.self.now c.args.seats.now c.gather.new.root.me.0
+note-requires-clause-all c = all-there _ c.args.seats.now c.gather.new.root.me.0
     c.requires.seats c.gather.ensures.root.1
 
 pub loop-i-init : goal.loop-i-init
@@ -42,13 +42,14 @@ loop-i-preserved c = let many = c.loop-i.auto.seats in let test = c.loop-i-test.
     let first = inv.nodes ∙ left-views seats i x.0 x.1 in record {
       table = did.root.0 ∙ inv.table;
       nodes = ap (λ m. m.0.nodes) did.root.1 ∙ ap rest_of first;
-      seats = each-next (IsBack c.args.self.now) IsLent seats c.loop-i.seats i x.0
-          c.give_back.new.seat x.1 (is-back c.args.self.now x.0 now c.give_back.new.seat
+      seats = each-next (IsBack (identity_of c.args.self.now)) IsLent seats c.loop-i.seats i x.0
+          c.give_back.new.seat x.1 (is-back _ x.0 now c.give_back.new.seat
           c.loop-i.root.me.0 (c.requires.seats.1 i x.0 x.1).0 (x.3 (omega arith))
           (ap first_or_none first) did.seat.0 did.seat.1 did.seat.2 did.seat.3) inv.seats;
     }
 
 pub returns-clause-seats : goal.returns-clause-seats
-returns-clause-seats c = each-all (IsBack c.args.self.now) IsLent _ _ _ c.loop-i.invariant.seats
+returns-clause-seats c = each-all (IsBack (identity_of c.args.self.now)) IsLent _ _ _
+    c.loop-i.invariant.seats
     (let e = c.loop-i-test.false in let n = c.loop-i.auto.seats in
     let m = c.gather.ensures.many in omega arith)

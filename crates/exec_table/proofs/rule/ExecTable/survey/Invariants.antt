@@ -1,9 +1,9 @@
-use Rattle.exec_table.proofs.Cited.{drop, IsBack, IsLent, views, ◌≡◌, Between}
+use Rattle.exec_table.proofs.Cited.{drop, IsBack, IsLent, views, ◌≡◌, Between, identity_of}
 use Rattle.exec_table.proofs.rule.ExecTable.survey.Given as goal
 
 abbrev pub invariant-loop-i : goal.invariant-loop-i
 invariant-loop-i l = record {
   table : l.root.table_id ≡ l.self.table.shared.table_id;
   nodes : l.root.me.0.nodes ≡ views (drop l.i l.fn.seats);
-  seats : Between (IsBack l.self) IsLent l.i l.fn.seats l.seats;
+  seats : Between (IsBack (identity_of l.self)) IsLent l.i l.fn.seats l.seats;
 }

@@ -2,8 +2,9 @@ use Rattle.exec_table.proofs.Cited.{arith, refl, quiet-makes, word-asks}
 use Rattle.exec_table.proofs.rule.ExecTable.token_out.Goals as goal
 
 pub fetch_sub-requires : goal.fetch_sub-requires
-fetch_sub-requires c = word-asks c.requires.seat (let w = c.args.self.now.words in omega arith)
-    c.requires.ready refl (λ b h is sizes can. (refl, (λ _. refl)))
+fetch_sub-requires c = word-asks c.args.self.now c.requires.seat
+    (let w = c.args.self.now.words in omega arith) c.requires.ready refl
+    (λ b h is sizes can. (refl, (λ _. refl)))
 
 pub returns : goal.returns
 returns c =

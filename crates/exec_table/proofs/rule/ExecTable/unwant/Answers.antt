@@ -4,8 +4,9 @@ use Rattle.exec_table.proofs.rule.ExecTable.unwant.Goals as goal
 
 pub fetch_and-requires : goal.fetch_and-requires
 fetch_and-requires c =
-    edge-asks true c.args.seat.now.seat (λ _. step.Unwant) c.args.e c.requires.seat refl refl
-    (search rules) c.port_place-place.ensures c.requires.ready refl (λ _ _ _. (refl, refl))
+    edge-asks c.args.self.now true c.args.seat.now.seat (λ _. step.Unwant) c.args.e
+    c.requires.seat refl refl (search rules) c.port_place-place.ensures c.requires.ready refl
+    (λ _ _ _. (refl, refl))
 
 pub returns : goal.returns
 returns c = quiet-makes refl c.requires.seat (edge-did {m = c.args.seat.now.seat.me} true

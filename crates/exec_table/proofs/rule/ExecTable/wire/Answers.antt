@@ -1,4 +1,4 @@
-use Rattle.exec_table.proofs.Cited.{Allows, Did, Shown, ap, either, eqb, false, refl, subst, sym, wire_place, ◌-◌, ◌<◌, ◌∙◌, ◌≡◌, key_of, slots, view, wire_in, wired, read-wire, edge-asks, edge-did, quiet-makes, wire-in-read, wire-inside, wire-there-in, word-of-wire}
+use Rattle.exec_table.proofs.Cited.{Allows, Did, Shown, ap, either, eqb, false, refl, subst, sym, wire_place, ◌-◌, ◌<◌, ◌∙◌, ◌≡◌, key_of, slots, view, wire_in, wired, read-wire, edge-asks, edge-did, quiet-makes, wire-in-read, wire-inside, wire-there-in, word-of-wire, identity_of}
 use Rattle.core_laws.specs.declared.types.Step.TheVariants as step
 use Rattle.exec_table.proofs.rule.ExecTable.wire.Goals as goal
 
@@ -10,8 +10,8 @@ compare_exchange-found-requires c = let s = c.requires.seat in let seat = c.args
     × Allows (Shown (key_of t)) t.table.shared.table_id.slots seat.seat.id seat.seat.me i
     (λ n. either (eqb n 0) c.wire_word-word.result n)
     (Did (view seat) (step.Wire (i - wire_place (view seat).sizes 0) v) (slots seat))) (sym is)
-    (edge-asks false seat.seat (λ _ e. step.Wire e c.args.w) c.args.e s refl refl
-    (wire-inside t seat c.args.e c.args.w s g) c.wire_place-place.ensures g refl
+    (edge-asks c.args.self.now false seat.seat (λ _ e. step.Wire e c.args.w) c.args.e s refl refl
+    (wire-inside (identity_of t) seat c.args.e c.args.w s g) c.wire_place-place.ensures g refl
     (λ _ _ v. (refl, ap (λ k. either (eqb v 0) k v) c.wire_word-word.ensures)))
 
 pub returns : goal.returns

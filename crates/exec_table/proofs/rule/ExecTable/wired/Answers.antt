@@ -3,9 +3,10 @@ use Rattle.core_laws.specs.declared.types.Step.TheVariants as step
 use Rattle.exec_table.proofs.rule.ExecTable.wired.Goals as goal
 
 pub load-requires : goal.load-requires
-load-requires c = edge-asks false c.args.seat.now.seat (λ _. step.Wired) c.args.e c.requires.seat
-    refl refl (let s = c.requires.seat.sizes in let g = c.requires.ready in grind arith)
-    c.wire_place-place.ensures c.requires.ready refl (λ _ _ _. (refl, refl))
+load-requires c = edge-asks c.args.self.now false c.args.seat.now.seat (λ _. step.Wired)
+    c.args.e c.requires.seat refl refl (let s = c.requires.seat.sizes in
+    let g = c.requires.ready in grind arith) c.wire_place-place.ensures c.requires.ready refl
+    (λ _ _ _. (refl, refl))
 
 pub returns : goal.returns
 returns c = let d = edge-did {m = c.args.seat.now.seat.me} false (λ _. step.Wired) c.args.e
