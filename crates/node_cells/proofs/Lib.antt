@@ -1,0 +1,9 @@
+mod Imports
+pub mod SettledLaws
+pub mod EndLaws
+pub mod StayLaws
+pub mod TurnLaws
+pub mod RestLaws
+pub mod BeginLaws
+pub mod WorkLaws
+mod QueueLaws

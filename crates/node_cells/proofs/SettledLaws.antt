@@ -1,0 +1,335 @@
+-- From all cells and a survey in which nothing is pending: a running graph in which nothing is due.
+use Rattle.node_cells.proofs.Imports.{InputHolds, MarkHolds, OutputAllows, OutputHolds, append_assoc, eq-eqb, is_over_stage, is_unborn_stage, ne_eqb, Board, Bool, BoxHolds, ConsumerSees, EdgeState, End, EndHolds, Flags, HasEdge, Input, InputFollows, InputPort, IsBorn, IsPort, Lane, List, NodeView, None, Option, Output, OutputFollows, Port, PortsPicture, ProducerKnows, ProducerSees, Running, Sees, Some, Table, Wire, [], and_parts, ap, append-nil, arith, cases_Bool, chunks_in, chunks_of, chunks_on, edge_of, edge-count, end_for, end_of, end_of_view, eqb-true, false, flags_at, has, inl, input_after, input_at, input_count, input_seen, inr, is_end, is_own_port, is_some, is_waiting, ◌⊎◌, knows, lane_at, length, lifted_of, node_at, output_after, output_at, output_count, output_seen, port_at, pulled_by, pushed_by, pushes_to, refl, rules, shown, slot_in, stage_at, subst, sym, taken_out, true, view-end, wire_at, ℕ, ◌++◌, ◌<◌, ◌||◌, ◌∙◌, ◌≡◌}
+use Rattle.node_ports.proofs.Shown.{chunks-on-edge, quiet-sight, shown-input, shown-output}
+use Rattle.std.specs.Prelude.{IsSome}
+use Rattle.node_cells.specs.Ends.{SettledLaw, AreSettled, CellAtHome, WholeCell, edge_of_board, lifted_at, picture_of, unlifted}
+use Rattle.exec_laws.proofs.Seeing.{port-below}
+use Rattle.exec_laws.proofs.Nodes.{apart}
+use Rattle.exec_laws.specs.Names.{NodeHolds as RunHolds}
+use Rattle.exec_table.proofs.Stepping.{lane-full}
+use Rattle.core_laws.proofs.Settled.{quiet-knows, quiet-node}
+use Rattle.core_laws.proofs.Kept.{held-word}
+use Rattle.core_laws.specs.Laws.{Knows}
+use Rattle.core_laws.specs.Views.{counts, is_over, is_unborn}
+use Rattle.exec_table.specs.declared.types.Stage.TheVariants.{Begun}
+use Rattle.exec_laws.specs.declared.edges.NodeState.TheVariants as node
+
+-- ---- what ends know
+
+input-follows : (p f : Flags) → ConsumerSees p f → InputFollows f p
+input-follows p f s = record {
+  needed = sym s.needed;
+  fin_in = sym s.fin_in;
+  fin_out = s.fin_out;
+  stays_empty = s.ended;
+  stays_full = λ e. s.has_data (and_parts f.has_data _ e).0;
+}
+
+output-follows : (p f : Flags) → ProducerSees p f → OutputFollows f p
+output-follows p f s = record { fin_out = sym s.fin_out; fin_in = s.fin_in }
+
+producer-knows : (p f : Flags) → Knows false f p → ProducerKnows f p
+producer-knows p f k = record { needed = k.0; has_data = k.1; fin_out = k.2; fin_in = k.3 }
+
+-- what the consumer lifted is the content
+lifted-content : (n : ℕ) (w : Option Wire) (l : Lane) (s : Option (Option Table)) (c : Table)
+    → is_end true n w ≡ true → lifted_of s (end_for n true w l).turn ≡ Some c
+    → l.content ≡ Some c
+lifted-content n w l s c h q = grind (arith, h, q)
+
+consumer-chunks : (n : ℕ) (w : Option Wire) (l : Lane) → is_end true n w ≡ true
+    → (end_for n true w l).chunks ≡ l.pulled
+consumer-chunks n w l h = grind arith
+
+producer-chunks : (n : ℕ) (w : Option Wire) (l : Lane) → is_end false n w ≡ true
+    → is_end true n w ≡ false → (end_for n true w l).chunks ≡ l.pushed
+producer-chunks n w l h k = grind arith
+
+taken-same : (x : Option Table) → taken_out x x ≡ []
+taken-same None = refl
+taken-same (Some c) = refl
+
+split-content : (x y : Option Table) → ((c : Table) → x ≡ Some c → y ≡ Some c)
+    → chunks_in y ≡ chunks_of x ++ chunks_of (unlifted x y)
+split-content None None h = refl
+split-content None (Some c) h = refl
+split-content (Some c) y h = ap chunks_in (h c refl)
+
+there-content : (x y : Option Table) → ((c : Table) → x ≡ Some c → y ≡ Some c)
+    → is_some y ≡ (is_some x || is_some (unlifted x y))
+there-content None None h = refl
+there-content None (Some c) h = refl
+there-content (Some c) y h = ap is_some (h c refl)
+
+one-content : (x y : Option Table) → is_some x ≡ true → unlifted x y ≡ None
+one-content None y h = absurd (let z : false ≡ true = h in cc)
+one-content (Some c) y h = refl
+
+zero-word : (w : ℕ) → counts w ≡ 0 → is_unborn w ≡ false → is_over w ≡ false → w ≡ 0
+zero-word w c u o = eqb-true w 0 (grind (arith, c, u, o))
+
+module _ (count : ℕ) (wires : List Wire) (b : Board) (cells : ℕ → WholeCell)
+    (s : AreSettled count wires b cells) where
+  abbrev at : ℕ → PortsPicture
+  at n = (cells n).ports
+
+  abbrev edge : ℕ → EdgeState
+  edge e = edge_of_board wires b cells e
+
+  -- ---- a node
+
+  pub quiet-due : (n : ℕ) → n < count → IsBorn (cells n).box
+      → is_waiting (cells n).mark.state ≡ false
+  quiet-due n lt born = elim (cases_Bool (is_waiting (cells n).mark.state)) [
+    | inl w ↦ let held = (s.home n lt born).home.waits w in
+        let on = sym (ap (λ (v : NodeView). v.state.held) (s.seen n lt)) ∙ held in
+        let one = (held-word b.core n on s.board.laws.nodes).0 in
+        let none = (quiet-node b.core n s.pending s.board.laws.tokens).0 in
+        absurd (omega (arith, one, none))
+    | inr z ↦ z
+  ]
+
+  idle : (n : ℕ) → n < count → IsBorn (cells n).box → (cells n).mark.state ≡ node.Resting
+      → (node_at b.core n).word ≡ 0
+  idle n lt born rest = let h = (s.home n lt born).home in
+      let stage : stage_at b n ≡ Begun = sym (ap (λ (v : NodeView). v.stage) (s.seen n lt))
+      ∙ h.begun rest in
+      let g = s.board.stages n in
+      zero-word (node_at b.core n).word (quiet-node b.core n s.pending s.board.laws.tokens).0
+      (g.unborn ∙ ap is_unborn_stage stage) (g.over ∙ ap is_over_stage stage)
+
+  -- ---- an end of an edge
+
+  module _ (e n : ℕ) (p : Port) (h : HasEdge wires n p e) where
+    own-count : IsPort (input_count wires n) (output_count wires n) p
+    own-count = port-below count wires s.graph n e p h
+
+    there : n < count
+    there = search (rules, s.graph)
+
+    cell : CellAtHome wires n (cells n)
+    cell = s.home n there (s.born e n p h)
+
+    own : is_own_port (at n) p
+    own = subst (λ (l : ℕ × ℕ). IsPort l.0 l.1 p)
+        (λ j. (sym cell.numbers.ins j, sym cell.numbers.outs j)) own-count
+
+    -- it is that of the port
+    edge-is : edge_of (at n) p ≡ e
+    edge-is = one-edge p (cell.numbers.at p own-count) h
+      where
+        one-edge : (p : Port) {f : ℕ} → HasEdge wires n p f → HasEdge wires n p e → f ≡ e
+        one-edge (Input i) a b = s.graph.graph.so_far.inputs_once _ e a.in_range b.in_range
+            (a.at_port.0 ∙ sym b.at_port.0) (a.at_port.1 ∙ sym b.at_port.1)
+        one-edge (Output o) a b = s.graph.graph.so_far.outputs_once _ e a.in_range b.in_range
+            (a.at_port.0 ∙ sym b.at_port.0) (a.at_port.1 ∙ sym b.at_port.1)
+
+    known : knows e (node_at b.core n).seen ≡ true
+    known = sym (ap (λ (v : NodeView). knows e v.state.seen) (s.seen n there))
+        ∙ (ap (λ e. knows e (at n).node.state.seen) (sym edge-is)
+        ∙ (cell.holds.ports.known p own).known)
+
+    inside : e < length b.core.ports
+    inside = let c = edge-count b s.board in let l = h.in_range in
+        let w = ap length s.wires_are in omega (arith, c, l, w)
+
+    wired : (port_at b.core e).wire ≡ Some (wire_at wires e)
+    unfolding wire_at
+    wired = (s.board.laws.edges.each e inside).wired.fixed
+        (let l = h.in_range in let w = ap length s.wires_are in omega (arith, l, w))
+        ∙ ap (λ l. Some (wire_at l e)) s.wires_are
+
+    end : end_of_view (at n).node e ≡ end_for n true (port_at b.core e).wire (lane_at b e)
+    end = ap (λ (v : NodeView). end_of_view v e) (s.seen n there)
+        ∙ (view-end b n e s.board ∙ ap (λ k. end_for n k (port_at b.core e).wire (lane_at b e))
+        known)
+
+    sight : flags_at e (at n).node.state.seen ≡ flags_at e (node_at b.core n).seen
+    sight = ap (λ (v : NodeView). flags_at e v.state.seen) (s.seen n there)
+
+    sees : (side : Bool) → end_of side (wire_at wires e) ≡ n
+        → Sees side (port_at b.core e).flags (flags_at e (at n).node.state.seen)
+    sees side is = subst (λ f. Sees side (port_at b.core e).flags f)
+        (ap (λ k. flags_at e (node_at b.core k).seen) is ∙ sym sight)
+        ((s.board.laws.edges.each e inside).sees side (wire_at wires e) wired)
+
+    knows-port : (side : Bool) → end_of side (wire_at wires e) ≡ n
+        → (cells n).mark.state ≡ node.Resting
+        → Knows side (flags_at e (at n).node.state.seen) (port_at b.core e).flags
+    knows-port side is rest = subst (λ f. Knows side f (port_at b.core e).flags)
+        (ap (λ k. flags_at e (node_at b.core k).seen) is ∙ sym sight)
+        (quiet-knows b.core e side (wire_at wires e) s.pending inside wired
+        (ap (λ k. (node_at b.core k).word) is ∙ idle n there (s.born e n p h) rest)
+        (ap (λ k. knows e (node_at b.core k).seen) is ∙ known)
+        (ap (λ k. has e (node_at b.core k).unlooked) is
+        ∙ (sym (ap (λ (v : NodeView). has e v.state.unlooked) (s.seen n there))
+        ∙ ap (has e) (cell.home.looked rest))) s.board.laws)
+
+  -- ---- the consumer's end
+
+  module _ (e i : ℕ) (n : ℕ) (h : HasEdge wires n (Input i) e) where
+    abbrev lifted : Option Table
+    lifted = lifted_at (at n) e
+
+    to-here : (wire_at wires e).to ≡ n
+    to-here = h.at_port.0
+
+    consumer : is_end true n (port_at b.core e).wire ≡ true
+    consumer = ap (is_end true n) (wired e n (Input i) h) ∙ eq-eqb (wire_at wires e).to n to-here
+
+    content : (c : Table) → lifted ≡ Some c → (lane_at b e).content ≡ Some c
+    content c q = lifted-content n (port_at b.core e).wire (lane_at b e) (slot_in e (at n).slots) c
+        consumer (ap (λ (z : End). lifted_of (slot_in e (at n).slots) z.turn)
+        (sym (end e n (Input i) h)) ∙ q)
+
+    edge-chunk : (edge e).chunk ≡ unlifted lifted (lane_at b e).content
+    edge-chunk = ap (λ k. unlifted (lifted_at (at k) e) (lane_at b e).content) to-here
+
+    in-view : input_at (at n).view i ≡ input_seen (at n).node (at n).slots e
+    in-view = quiet-sight (at n) (cell e n (Input i) h).holds.ports (s.still n) (Input i)
+        ∙ (shown-input (at n) i (own e n (Input i) h)
+        ∙ ap (input_seen (at n).node (at n).slots) (edge-is e n (Input i) h))
+
+    filled : (port_at b.core e).flags.has_data ≡ is_some (lane_at b e).content
+    filled = sym (lane-full (port_at b.core e) (lane_at b e)
+        (s.board.laws.edges.each e (inside e n (Input i) h)).content (s.board.lanes e))
+
+    pub input-end : EndHolds (Input i) (picture_of (cells n)) (edge e)
+    input-end = subst (λ l. InputHolds (cells n).mark.state (input_at (at n).view i)
+        (input_after i l (port_at b.core e).flags) (edge e).chunk) (sym (s.still n)) record {
+          follows = subst (λ (x : InputPort). InputFollows x.flags (port_at b.core e).flags)
+              (sym in-view) (input-follows (port_at b.core e).flags _
+              (sees e n (Input i) h true to-here));
+          data_there = filled ∙ (there-content lifted (lane_at b e).content content
+              ∙ λ j. is_some (sym in-view j).chunk || is_some (sym edge-chunk j));
+          one_chunk = λ q. edge-chunk ∙ one-content lifted (lane_at b e).content
+              (ap (λ (x : InputPort). is_some x.chunk) (sym in-view) ∙ q);
+          known = λ r. ap (λ (x : InputPort). x.flags) in-view
+              ∙ knows-port e n (Input i) h true to-here r;
+        }
+
+    -- what was pulled, with what lies in the view and in the edge
+    pub pulled-there : (pulled_by (at n) i ++ chunks_of (input_at (at n).view i).chunk)
+        ++ chunks_of (edge e).chunk ≡ (lane_at b e).pushed
+    unfolding input_at
+    pulled-there = let c = at n in let o = own e n (Input i) h in
+        let seen = shown-input c i o ∙ ap (input_seen c.node c.slots) (edge-is e n (Input i) h) in
+        let none : taken_out (input_at (shown c) i).chunk (input_at c.view i).chunk ≡ [] =
+        (λ j. taken_out (seen j).chunk (in-view j).chunk) ∙ taken-same lifted in
+        let pulled : chunks_on c.node c.inputs i ≡ (lane_at b e).pulled =
+        chunks-on-edge c.node c.inputs i o
+        ∙ (ap (λ e. (end_of_view c.node e).chunks) (edge-is e n (Input i) h)
+        ∙ (ap (λ (z : End). z.chunks) (end e n (Input i) h)
+        ∙ consumer-chunks n (port_at b.core e).wire (lane_at b e) consumer)) in
+        (λ j. ((pulled j ++ none j) ++ chunks_of (in-view j).chunk) ++ chunks_of (edge-chunk j))
+        ∙ ((λ j. (append-nil (lane_at b e).pulled j ++ chunks_of lifted)
+        ++ chunks_of (unlifted lifted (lane_at b e).content))
+        ∙ (append_assoc (lane_at b e).pulled _ _
+        ∙ (ap (λ l. (lane_at b e).pulled ++ l)
+        (sym (split-content lifted (lane_at b e).content content))
+        ∙ sym (s.board.lanes e).chunks)))
+
+  -- ---- the producer's end
+
+  module _ (e o : ℕ) (n : ℕ) (h : HasEdge wires n (Output o) e) where
+    from-here : (wire_at wires e).from ≡ n
+    from-here = h.at_port.0
+
+    producer : is_end false n (port_at b.core e).wire ≡ true
+    producer = ap (is_end false n) (wired e n (Output o) h)
+        ∙ eq-eqb (wire_at wires e).from n from-here
+
+    no-consumer : is_end true n (port_at b.core e).wire ≡ false
+    no-consumer = ap (is_end true n) (wired e n (Output o) h) ∙ ne_eqb (wire_at wires e).to n
+        (λ k. apart count wires s.graph e h.in_range (from-here ∙ sym k))
+
+    out-view : output_at (at n).view o ≡ flags_at e (at n).node.state.seen
+    out-view = ap (λ (x : InputPort). x.flags)
+        (quiet-sight (at n) (cell e n (Output o) h).holds.ports (s.still n) (Output o))
+        ∙ (shown-output (at n) o (own e n (Output o) h)
+        ∙ ap (output_seen (at n).node) (edge-is e n (Output o) h))
+
+    pub output-end : EndHolds (Output o) (picture_of (cells n)) (edge e)
+    output-end = let f = (port_at b.core e).flags in
+        subst (λ l. OutputHolds (cells n).mark.state (output_at (at n).view o) (output_after o l f)
+        × OutputAllows o l f) (sym (s.still n)) (
+          record {
+            follows = subst (λ x. OutputFollows x f) (sym out-view) (output-follows f _
+                (sees e n (Output o) h false from-here));
+            known = λ r. subst (λ x. ProducerKnows x f) (sym out-view) (producer-knows f _
+                (knows-port e n (Output o) h false from-here r));
+          },
+          tt,
+        )
+
+    pub pushed-there : pushed_by (at n) o ≡ (lane_at b e).pushed
+    unfolding pushes_to
+    pushed-there = let c = at n in let w = own e n (Output o) h in
+        (λ j. chunks_on c.node c.outputs o ++ pushes_to o (s.still n j))
+        ∙ (append-nil (chunks_on c.node c.outputs o)
+        ∙ (chunks-on-edge c.node c.outputs o w
+        ∙ (ap (λ e. (end_of_view c.node e).chunks) (edge-is e n (Output o) h)
+        ∙ (ap (λ (z : End). z.chunks) (end e n (Output o) h)
+        ∙ producer-chunks n (port_at b.core e).wire (lane_at b e) producer no-consumer))))
+
+  -- ---- the graph is running, and nothing is due
+
+  cell-holds : (n : ℕ) → CellAtHome wires n (cells n) → RunHolds wires n (picture_of (cells n))
+      (pulled_by (at n)) (pushed_by (at n))
+  cell-holds n c = let h = c.holds in record {
+    box = subst (λ (l : ℕ × ℕ). BoxHolds l.0 l.1 (cells n).box (pulled_by (at n))
+        (pushed_by (at n))) (λ j. (c.numbers.ins j, c.numbers.outs j)) h.box;
+    view = record {
+      sound = h.ports.sound;
+      ins = h.ports.ins ∙ c.numbers.ins;
+      outs = h.ports.outs ∙ c.numbers.outs;
+    };
+    numbers = c.numbers;
+    kept = h.kept;
+    mark = subst (λ (l : ℕ × ℕ). MarkHolds (cells n).mark.state (cells n).mark.last l.0 l.1
+        (cells n).box (at n).view) (λ j. (c.numbers.ins j, c.numbers.outs j)) h.mark;
+  }
+
+  pub settled-running : Running count wires (λ n. picture_of (cells n)) edge
+  unfolding pushes_to
+  settled-running = record {
+    graph = s.graph;
+    pulled = λ n. pulled_by (at n);
+    pushed = λ n. pushed_by (at n);
+    each = λ n lt born. cell-holds n (s.home n lt born);
+    unborn = s.unborn;
+    born = s.born;
+    ends = λ e n p h. end-there e n p h;
+    lists = λ e lt.
+        let w : Wire = wire_at wires e in
+        let from : HasEdge wires w.from (Output w.out) e =
+        record { in_range = lt; at_port = (refl, refl) } in
+        let to : HasEdge wires w.to (Input w.input) e =
+        record { in_range = lt; at_port = (refl, refl) } in
+        pushed-there e w.out w.from from ∙ (sym (pulled-there e w.input w.to to)
+        ∙ (sym (append-nil _) ∙ λ j. ((pulled_by (at w.to) w.input
+        ++ chunks_of (input_at (at w.to).view w.input).chunk) ++ chunks_of (edge e).chunk)
+        ++ pushes_to w.out (sym (s.still w.from) j)));
+  }
+    where
+      end-there : (e n : ℕ) (p : Port) → HasEdge wires n p e
+          → EndHolds p (picture_of (cells n)) (edge e)
+      end-there e n (Input i) h = input-end e i n h
+      end-there e n (Output o) h = output-end e o n h
+
+pub settled-law : SettledLaw
+settled-law count wires b cells s = record {
+  running = settled-running count wires b cells s;
+  quiet = s.still;
+  due = λ n lt. elim (cases_Option (cells n).box.spec) [
+    | inl born ↦ quiet-due count wires b cells s n lt born
+    | inr none ↦ ap is_waiting (s.unborn n lt none)
+  ];
+}
+  where
+    cases_Option : {A : Type 0} (x : Option A) → IsSome x ⊎ (x ≡ None)
+    cases_Option None = inr refl
+    cases_Option (Some y) = inl (some-is y)
+      where
+        some-is : {A : Type 0} (y : A) → IsSome (Some y)
+        some-is y = search rules

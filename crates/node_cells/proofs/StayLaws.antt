@@ -1,0 +1,49 @@
+-- What stays of a cell over the calls of a turn.
+use Rattle.node_cells.proofs.Imports.{BoxPicture, NodeCell, NodePorts, NodeSeat, SamePorts, Turns, ap, cell_ports, ports_picture, refl, subst, sym, view, ◌∙◌, ◌≡◌}
+use Rattle.node_cells.specs.Turns.{KeepsProcessor, Stays, turn_picture}
+use Rattle.node_ports.proofs.LoopLaws.{ports-both}
+use Rattle.exec_laws.proofs.Acting.{stays-both, stays-itself}
+use Rattle.exec_laws.specs.Names.{StaysBox}
+
+module _ {P : Type 0} (seen : P → BoxPicture) where
+  pub keeps-stays : (a b : NodeCell P) → KeepsProcessor a b → Stays seen a b
+  keeps-stays a b h = record {
+    box = subst (λ p. StaysBox (seen a.processor) (seen p)) (sym h.processor)
+        (stays-itself (seen a.processor));
+    growth = ap (λ p. (seen p).growth) h.processor;
+    ports = h.ports;
+  }
+
+  pub stay-both : (a b c : NodeCell P) → Stays seen a b → Stays seen b c → Stays seen a c
+  stay-both a b c h k = record {
+    box = stays-both (seen a.processor) (seen b.processor) (seen c.processor) h.box k.box;
+    growth = k.growth ∙ h.growth;
+    ports = ports-both (cell_ports a) (cell_ports b) (cell_ports c) h.ports k.ports;
+  }
+
+  pub turned-stays : (old new : NodeCell P)
+      → Turns (turn_picture seen old) (turn_picture seen new)
+      → (seen new.processor).growth ≡ (seen old.processor).growth
+      → cell_ports new ≡ record (cell_ports old) { view = new.ports.view } → Stays seen old new
+  turned-stays old new turns growth ports = record {
+    box = turns.prepares.stays;
+    growth = growth;
+    ports = subst (SamePorts (cell_ports old)) (sym ports) record {
+      inputs = refl;
+      outputs = refl;
+      sources = refl;
+      targets = refl;
+      number = refl;
+    };
+  }
+
+-- a step of the seat leaves its node
+pub number-ports : (p : NodePorts) (old new : NodeSeat) → (view new).number ≡ (view old).number
+    → SamePorts (ports_picture p old) (ports_picture p new)
+number-ports p old new q = record {
+  inputs = refl;
+  outputs = refl;
+  sources = refl;
+  targets = refl;
+  number = q;
+}

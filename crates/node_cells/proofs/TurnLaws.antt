@@ -1,0 +1,198 @@
+-- A node that has looked at its ports is prepared.
+use Rattle.node_cells.proofs.Imports.{Input, Output, Identity, InTurn, IsSeatOf, NodeCell, SameLists, SamePorts, cell_ports, view, Flags, None, BoxHolds, BoxPicture, CellPicture, FollowsKept, InputPort, IsDifference, Lists, MarkHolds, NodeMark, Option, Picture, PortsHold, PortsPicture, Some, Table, Turns, ViewHolds, [], ap, append-nil, chunks_on, input_at, length, pulled_by, pushed_by, pushes_to, refl, shown, subst, sym, taken_out, with_pulled, with_pushed, ℕ, ◌++◌, ◌∙◌, ◌≡◌, NodeHolds}
+use Rattle.node_ports.proofs.Shown.{quiet-sight}
+use Rattle.exec_laws.proofs.Turns.{explained, pushed-by-actions, turned-box, turned-kept, turned-mark, turned-view}
+use Rattle.exec_laws.specs.Names.{state_after}
+use Rattle.node_ports.specs.Sights.{Looked}
+use Rattle.node_ports.specs.Peers.{Carried}
+use Rattle.node_cells.specs.Turns.{IsDue, IsPrepared, turn_picture}
+use Rattle.proc_api.specs.declared.status.Status.{Status}
+use Rattle.port_word.specs.Names.{Explains}
+
+abbrev pub picture : BoxPicture → NodeMark → PortsPicture → CellPicture
+picture p m c = record { box = p; view = c.view; mark = m; inputs = c.inputs; outputs = c.outputs }
+
+module _ (p q : BoxPicture) (m k : NodeMark) (c : PortsPicture) (v : Picture)
+    (h : NodeHolds p m c) (quiet : c.view.actions ≡ [])
+    (t : Turns (picture p m c) (picture q k (record c { view = v }))) where
+  abbrev after : PortsPicture
+  after = record c { view = v }
+
+  seen-view : ViewHolds (length c.inputs) (length c.outputs) c.view
+  seen-view = record { sound = h.ports.sound; ins = h.ports.ins; outs = h.ports.outs }
+
+  new-view : ViewHolds (length c.inputs) (length c.outputs) v
+  new-view = turned-view (length c.inputs) (length c.outputs) (picture p m c) (picture q k after) t
+      quiet (pulled_by c) (pushed_by c) h.box seen-view
+
+  -- the view shows what the seat knows as its actions will leave it
+  new-difference : IsDifference (shown after) v
+  new-difference = let e = explained (length c.inputs) (length c.outputs) (picture p m c)
+      (picture q k after) t quiet (pulled_by c) (pushed_by c) h.box seen-view in
+      subst (λ (z : (ℕ → InputPort) × (ℕ → Flags)). Explains (λ i. (z.0 i).flags)
+      (λ i. (z.0 i).chunk) (λ o. z.1 o) v.actions v)
+      (λ j. (
+        (λ i. quiet-sight c h.ports quiet (Input i) j),
+        (λ o.
+            (quiet-sight c h.ports quiet (Output o) j).flags),
+      ))
+      e.explains
+
+  none-taken : (x : Option Table) → taken_out x x ≡ []
+  none-taken None = refl
+  none-taken (Some x) = refl
+
+  pulled-new : (i : ℕ) → with_pulled c.view t.left (pulled_by c) i ≡ pulled_by after i
+  pulled-new i = let same = quiet-sight c h.ports quiet (Input i) in
+      (λ j. (chunks_on c.node c.inputs i
+      ++ taken_out (input_at (shown c) i).chunk (same j).chunk)
+      ++ taken_out (same j).chunk (sym (t.leaves.chunks.inputs i) j))
+      ∙ (ap (λ l. (chunks_on c.node c.inputs i ++ l)
+      ++ taken_out (input_at (shown c) i).chunk (input_at v i).chunk)
+      (none-taken (input_at (shown c) i).chunk)
+      ∙ ap (λ l. l ++ taken_out (input_at (shown c) i).chunk (input_at v i).chunk)
+      (append-nil (chunks_on c.node c.inputs i)))
+
+  pushed-new : (o : ℕ) → with_pushed c.view t.left (pushed_by c) o ≡ pushed_by after o
+  unfolding pushes_to
+  pushed-new o = (λ j. (chunks_on c.node c.outputs o ++ pushes_to o (quiet j))
+      ++ pushed-by-actions (length c.inputs) (length c.outputs) (picture p m c) (picture q k after)
+      t
+      quiet (pulled_by c) (pushed_by c) h.box seen-view o j)
+      ∙ ap (λ l. l ++ pushes_to o v.actions) (append-nil (chunks_on c.node c.outputs o))
+
+  new-ports : PortsHold after
+  new-ports = record {
+    known = λ p own. let w = h.ports.known p own in record {
+      known = w.known;
+      wire = w.wire;
+      is = w.is;
+      at_port = w.at_port;
+      apart = w.apart;
+      other = w.other;
+    };
+    cover = λ e k. let w = h.ports.cover e k in record {
+      port = w.port;
+      there = w.there;
+      is = w.is;
+    };
+    unlooked = h.ports.unlooked;
+    peers = h.ports.peers;
+    ins = new-view.ins;
+    outs = new-view.outs;
+    needed = h.ports.needed;
+    needed_len = h.ports.needed_len;
+    difference = new-difference;
+    sound = new-view.sound;
+    held = h.ports.held;
+    ready = h.ports.ready;
+  }
+
+  pub turned-cell : NodeHolds q k after
+  turned-cell = let ins = length c.inputs in let outs = length c.outputs in record {
+    ports = new-ports;
+    box = subst (λ (l : Lists × Lists). BoxHolds ins outs q l.0 l.1)
+        (λ j. ((λ i. pulled-new i j), (λ o. pushed-new o j)))
+        (turned-box ins outs (picture p m c) (picture q k after) t quiet (pulled_by c)
+        (pushed_by c) h.box seen-view);
+    kept = λ e. turned-kept ins outs (picture p m c) (picture q k after) t quiet (pulled_by c)
+        (pushed_by c) h.box seen-view (λ f. e (marked ∙ ap state_after f));
+    mark = subst (λ (z : NodeMark). MarkHolds z.state z.last ins outs q v) (sym own)
+        (turned-mark ins outs (picture p m c) (picture q k after) t quiet (pulled_by c)
+        (pushed_by c) h.box seen-view);
+  }
+    where
+      own : k ≡ record { state = state_after t.answer; last = Some t.answer }
+      own = ap (λ (z : CellPicture). z.mark) t.own
+
+      marked : k.state ≡ state_after t.answer
+      marked = ap (λ (z : CellPicture). z.mark.state) t.own
+
+-- ---- the law where only ports moved
+
+-- the box and the mark are as they were
+pub moved-node : (p : BoxPicture) (m : NodeMark) (c d : PortsPicture) → NodeHolds p m c
+    → PortsHold d → SameLists c d → SamePorts c d → (FollowsKept p c.view → FollowsKept p d.view)
+    → MarkHolds m.state m.last (length d.inputs) (length d.outputs) p d.view → NodeHolds p m d
+moved-node p m c d h ports lists same follows mark = record {
+  ports = ports;
+  box = subst (λ (l : (ℕ × ℕ) × (Lists × Lists)). BoxHolds l.0.0 l.0.1 p l.1.0 l.1.1)
+      (λ j. (
+        (length (sym same.inputs j), length (sym same.outputs j)),
+        ((λ i. sym (lists.pulled i) j), (λ o. sym (lists.pushed o) j)),
+      )) h.box;
+  kept = λ k. follows (h.kept k);
+  mark = mark;
+}
+
+pub looked-due : {P : Type 0} (seen : P → BoxPicture) (t : Identity) (old new : NodeCell P)
+    → IsDue seen t old → IsSeatOf t new.seat → new.processor ≡ old.processor → new.mark ≡ old.mark
+    → Looked (cell_ports old) (cell_ports new) → IsDue seen t new
+looked-due seen t old new h seat box mark l = record {
+  holds = record {
+    cell = record {
+      seat = seat;
+      node = subst (λ p. NodeHolds (seen p) new.mark (cell_ports new)) (sym box)
+          (subst (λ m. NodeHolds (seen old.processor) m (cell_ports new)) (sym mark)
+          (moved-node (seen old.processor) old.mark (cell_ports old) (cell_ports new)
+          h.holds.cell.node l.may.holds l.lists l.ports (l.follows (seen old.processor))
+          (subst (λ s. MarkHolds s old.mark.last (length (cell_ports new).inputs)
+          (length (cell_ports new).outputs) (seen old.processor) (cell_ports new).view)
+          (sym h.due) tt)));
+    };
+    turn = l.may.turn;
+    stage = l.stage ∙ h.holds.stage;
+  };
+  quiet = l.may.quiet;
+  due = ap (λ (m : NodeMark). m.state) mark ∙ h.due;
+}
+
+pub cell-prepared : {P : Type 0} (seen : P → BoxPicture) (t : Identity) (old new : NodeCell P)
+    (s : Status) → IsDue seen t old → (view old.seat).state.unlooked ≡ []
+    → Turns (turn_picture seen old) (turn_picture seen new)
+    → new.mark ≡ record { state = state_after s; last = Some s }
+    → cell_ports new ≡ record (cell_ports old) { view = new.ports.view } → new.seat ≡ old.seat
+    → IsPrepared seen t new s
+cell-prepared seen t old new s h looked turns mark ports seat = record {
+  holds = record {
+    cell = record {
+      seat = subst (IsSeatOf t) (sym seat) h.holds.cell.seat;
+      node = subst (NodeHolds (seen new.processor) new.mark) (sym ports)
+          (turned-cell (seen old.processor) (seen new.processor) old.mark new.mark (cell_ports old)
+          new.ports.view h.holds.cell.node h.quiet
+          (subst (λ d. Turns (turn_picture seen old) (picture (seen new.processor) new.mark d))
+          ports turns));
+    };
+    turn = subst (λ s. InTurn (view s)) (sym seat) h.holds.turn;
+    stage = ap (λ s. (view s).stage) seat ∙ h.holds.stage;
+  };
+  mark = mark;
+  looked = ap (λ s. (view s).state.unlooked) seat ∙ looked;
+}
+
+-- ---- the law where actions are carried out
+
+pub carried-prepared : {P : Type 0} (seen : P → BoxPicture) (t : Identity) (old new : NodeCell P)
+    (s : Status) → IsPrepared seen t old s → IsSeatOf t new.seat → new.processor ≡ old.processor
+    → new.mark ≡ old.mark → Carried (cell_ports old) (cell_ports new) → IsPrepared seen t new s
+carried-prepared seen t old new s h seat box mark l =
+    let node = h.holds.cell.node in record {
+      holds = record {
+        cell = record {
+          seat = seat;
+          node = subst (λ p. NodeHolds (seen p) new.mark (cell_ports new)) (sym box)
+              (subst (λ m. NodeHolds (seen old.processor) m (cell_ports new)) (sym mark)
+              (moved-node (seen old.processor) old.mark (cell_ports old) (cell_ports new)
+              node l.may.holds l.lists l.ports (l.follows (seen old.processor))
+              (subst (λ (k : ℕ × ℕ). MarkHolds old.mark.state old.mark.last k.0 k.1
+              (seen old.processor) (cell_ports new).view)
+              (λ j. (length (sym l.ports.inputs j), length (sym l.ports.outputs j)))
+              (l.marks old.mark.state old.mark.last (length (cell_ports old).inputs)
+              (length (cell_ports old).outputs) (seen old.processor) node.mark))));
+        };
+        turn = l.may.turn;
+        stage = l.stage ∙ h.holds.stage;
+      };
+      mark = mark ∙ h.mark;
+      looked = l.unlooked ∙ h.looked;
+    }

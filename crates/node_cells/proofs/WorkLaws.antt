@@ -1,0 +1,102 @@
+-- The processor works, or fetches.
+use Rattle.node_cells.proofs.Imports.{Identity, BoxHolds, BoxPicture, MarkHolds, NodeCell, NodeHolds, NodeMark, PortsPicture, ap, cell_ports, false, is_over_stage, is_unborn_stage, length, pulled_by, pushed_by, rules, subst, sym, true, ℕ, ◌∙◌, ◌≡◌, ◌≢◌}
+use Rattle.node_cells.specs.Turns.{AtHome, IsAtWork, IsDue, Wakes, WakesTo, call_after}
+use Rattle.exec_laws.specs.Names.{Acts, MayCall}
+use Rattle.exec_laws.specs.declared.edges.DueCall.{DueCall}
+use Rattle.exec_laws.specs.declared.edges.DueCall.TheVariants as call
+use Rattle.exec_laws.specs.declared.edges.NodeState.TheVariants as node
+use Rattle.proc_api.specs.declared.status.Wake.{Wake}
+use Rattle.proc_api.specs.declared.status.Wake.TheVariants as wake
+use Rattle.proc_api.proofs.Follows.{follows-same}
+
+acts-box : (m n : ℕ) (p q : BoxPicture) (c : PortsPicture) → Acts p q
+    → BoxHolds m n p (pulled_by c) (pushed_by c) → BoxHolds m n q (pulled_by c) (pushed_by c)
+acts-box m n p q c a h = search (rules, a, h)
+
+-- the law after a call
+pub acted-node : (p q : BoxPicture) (m k : NodeMark) (c : PortsPicture) → NodeHolds p m c
+    → Acts p q → m.state ≢ node.Over
+    → MarkHolds k.state k.last (length c.inputs) (length c.outputs) q c.view → NodeHolds q k c
+acted-node p q m k c h a busy mark = record {
+  ports = h.ports;
+  box = acts-box (length c.inputs) (length c.outputs) p q c a h.box;
+  kept = λ _. follows-same p q c.view a.view (h.kept (λ o. absurd (busy o)));
+  mark = mark;
+}
+
+not-over : {P : Type 0} (seen : P → BoxPicture) (t : Identity) (d : DueCall) (c : NodeCell P)
+    → IsAtWork seen t d c → c.mark.state ≢ node.Over
+not-over seen t d c h o = let z : node.AtWork d ≡ node.Over = sym h.at_work ∙ o in cc
+
+pub worked-due : {P : Type 0} (seen : P → BoxPicture) (t : Identity) (c : NodeCell P) (q : P)
+    (k : NodeMark) → IsAtWork seen t call.Work c → Acts (seen c.processor) (seen q)
+    → k.state ≡ node.Due → IsDue seen t (record c { processor = q; mark = k })
+worked-due seen t c q k h a due = record {
+  holds = record {
+    cell = record {
+      seat = h.holds.cell.seat;
+      node = acted-node (seen c.processor) (seen q) c.mark k (cell_ports c) h.holds.cell.node a
+          (not-over seen t call.Work c h)
+          (subst (λ s. MarkHolds s k.last (length (cell_ports c).inputs)
+          (length (cell_ports c).outputs) (seen q) (cell_ports c).view) (sym due) tt);
+    };
+    turn = h.holds.turn;
+    stage = h.holds.stage;
+  };
+  quiet = h.quiet;
+  due = due;
+}
+
+may-after : (a : Wake) (p q : BoxPicture) → Wakes a p q → MayCall (call_after a) q
+may-after wake.Ready p q w = search (rules, w)
+may-after wake.Later p q w = search (rules, w)
+
+module _ {P : Type 0} (seen : P → BoxPicture) (t : Identity) (c : NodeCell P) (q : P)
+    (k : NodeMark) (h : IsAtWork seen t call.Schedule c) (a : Wake)
+    (w : Wakes a (seen c.processor) (seen q)) (at : k.state ≡ node.AtWork (call_after a)) where
+  abbrev after : NodeCell P
+  after = record c { processor = q; mark = k }
+
+  still-at-work : IsAtWork seen t (call_after a) after
+  still-at-work = record {
+    holds = record {
+      cell = record {
+        seat = h.holds.cell.seat;
+        node = acted-node (seen c.processor) (seen q) c.mark k (cell_ports c) h.holds.cell.node
+            w.acts
+            (not-over seen t call.Schedule c h)
+            (subst (λ s. MarkHolds s k.last (length (cell_ports c).inputs)
+            (length (cell_ports c).outputs) (seen q) (cell_ports c).view) (sym at)
+            (may-after a (seen c.processor) (seen q) w));
+      };
+      turn = h.holds.turn;
+      stage = h.holds.stage;
+    };
+    quiet = h.quiet;
+    at_work = at;
+  }
+
+  pub home : AtHome seen t after
+  home = record {
+    cell = still-at-work.holds.cell;
+    home = record {
+      actions = h.quiet;
+      tokens = h.holds.turn.tokens;
+      owes = h.holds.turn.owes;
+      waits = λ _. h.holds.turn.held;
+      idle = λ e. absurd (let z : node.AtWork (call_after a) ≡ node.Resting = sym at ∙ e in cc);
+      begun = λ e. absurd (let z : node.AtWork (call_after a) ≡ node.Resting = sym at ∙ e in cc);
+      looked = λ e. absurd (let z : node.AtWork (call_after a) ≡ node.Resting = sym at ∙ e in cc);
+      over = λ o. absurd (let f : false ≡ true = sym (ap is_over_stage h.holds.stage) ∙ o in cc);
+      unborn = λ o. absurd (let f : false ≡ true = sym (ap is_unborn_stage h.holds.stage) ∙ o in
+          cc);
+    };
+  }
+
+pub woken : {P : Type 0} (seen : P → BoxPicture) (t : Identity) (c : NodeCell P) (q : P)
+    (k : NodeMark) → IsAtWork seen t call.Schedule c → (a : Wake)
+    → Wakes a (seen c.processor) (seen q) → k.state ≡ node.AtWork (call_after a)
+    → WakesTo seen t a (record c { processor = q; mark = k })
+woken seen t c q k h wake.Ready w at = still-at-work seen t c q k h wake.Ready w at
+woken seen t c q k h wake.Later w at =
+    (home seen t c q k h wake.Later w at, still-at-work seen t c q k h wake.Later w at)

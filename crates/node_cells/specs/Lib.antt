@@ -1,0 +1,4 @@
+pub mod Prelude
+pub mod Cells
+pub mod Turns
+pub mod Ends

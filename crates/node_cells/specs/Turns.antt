@@ -1,0 +1,161 @@
+-- The turns of a node.
+use Rattle.std.specs.Prelude.{not, List, None, ℕ, ◌++◌, ◌∷◌, ◌||◌, ◌==◌, Bool, Option, Some, [], true, false, ◌≡◌, ◌≢◌}
+use Rattle.exec_table.specs.Seats.{Makes}
+use Rattle.core_laws.specs.Steps.{nothing}
+use Rattle.core_laws.specs.declared.types.Step.TheVariants as step
+use Rattle.exec_table.specs.declared.types.Updated.{Updated}
+use Rattle.node_cells.specs.Prelude.{Identity, is_over_stage, is_unborn_stage, BoxPicture, CellPicture, IsSeatOf, NodeCell, NodeSeat, Begun, view}
+use Rattle.node_cells.specs.Cells.{CellHolds, IsHome, cell_ports}
+use Rattle.node_ports.specs.Actions.{InTurn, SamePorts}
+use Rattle.node_ports.specs.Peers.{CarriesNext}
+use Rattle.node_ports.specs.declared.actions.Carry.{Carry}
+use Rattle.node_ports.specs.declared.actions.Carry.TheVariants as carry
+use Rattle.task_queue.specs.Queues.{put_by}
+use Rattle.task_queue.specs.declared.queue.QueuePass.{QueuePass}
+use Rattle.exec_laws.specs.Names.{Acts, StaysBox, state_after}
+use Rattle.node_cells.specs.declared.node_run.RunEnd.{RunEnd}
+use Rattle.node_cells.specs.declared.node_run.RunEnd.TheVariants as run
+use Rattle.exec_laws.specs.declared.edges.DueCall.{DueCall}
+use Rattle.exec_laws.specs.declared.edges.DueCall.TheVariants as call
+use Rattle.proc_api.specs.declared.status.Answer.TheVariants.{Scheduled}
+use Rattle.proc_api.specs.declared.status.Wake.{Wake}
+use Rattle.proc_api.specs.declared.status.Wake.TheVariants as wake
+use Rattle.exec_laws.specs.declared.edges.NodeState.TheVariants as node
+use Rattle.proc_api.specs.declared.status.Status.{Status}
+
+-- what an executor's moves see of a cell
+abbrev pub turn_picture : {P : Type 0} → (P → BoxPicture) → NodeCell P → CellPicture
+turn_picture seen c = record {
+  box = seen c.processor;
+  view = c.ports.view;
+  mark = c.mark;
+  inputs = c.ports.inputs.items;
+  outputs = c.ports.outputs.items;
+}
+
+-- what the calls of a turn leave of a cell: the processor is the one that it was, with what an end
+-- of the run says of its box, it names no other growth, and the ports are the same ones
+pub record Stays {P : Type 0} (seen : P → BoxPicture) (old new : NodeCell P) : Type 0 where
+  pub box : StaysBox (seen old.processor) (seen new.processor)
+  pub growth : (seen new.processor).growth ≡ (seen old.processor).growth
+  pub ports : SamePorts (cell_ports old) (cell_ports new)
+
+-- what a call that isn't one of the processor leaves: the processor as it is, and the same ports
+pub record KeepsProcessor {P : Type 0} (old new : NodeCell P) : Type 0 where
+  pub processor : new.processor ≡ old.processor
+  pub ports : SamePorts (cell_ports old) (cell_ports new)
+
+-- the cell of a node in a turn
+pub record TurnHolds {P : Type 0} (seen : P → BoxPicture) (t : Identity) (c : NodeCell P)
+    : Type 0 where
+  pub cell : CellHolds seen t c
+  pub turn : InTurn (view c.seat)
+  pub stage : (view c.seat).stage ≡ Begun
+
+-- it is to be prepared
+pub record IsDue {P : Type 0} (seen : P → BoxPicture) (t : Identity) (c : NodeCell P)
+    : Type 0 where
+  pub holds : TurnHolds seen t c
+  pub quiet : c.ports.view.actions ≡ []
+  pub due : c.mark.state ≡ node.Due
+
+-- it was prepared, after it had looked at all its ports; what it did may wait
+pub record IsPrepared {P : Type 0} (seen : P → BoxPicture) (t : Identity) (c : NodeCell P)
+    (s : Status) : Type 0 where
+  pub holds : TurnHolds seen t c
+  pub mark : c.mark ≡ record { state = state_after s; last = Some s }
+  pub looked : (view c.seat).state.unlooked ≡ []
+
+-- the same, and all was carried out
+pub record IsCarried {P : Type 0} (seen : P → BoxPicture) (t : Identity) (c : NodeCell P)
+    (s : Status) : Type 0 where
+  pub prepared : IsPrepared seen t c s
+  pub quiet : c.ports.view.actions ≡ []
+
+-- the node that was charged, if one was
+abbrev pub charged_by : Carry → List ℕ
+charged_by carry.Done = []
+charged_by carry.Told = []
+charged_by (carry.Charged n) = n ∷ []
+
+-- actions were carried out one after another, and charged these nodes, in order
+pub data Charges {P : Type 0} (t : Identity) (old : NodeCell P) : List ℕ → NodeCell P → Type 0 where
+  charges_none : Charges t old [] old
+  charges_more : {ns : List ℕ} {r : Carry} {mid new : NodeCell P} → Charges t old ns mid
+      → CarriesNext t r (cell_ports mid) new.ports new.seat
+      → Charges t old (ns ++ charged_by r) new
+
+-- actions were carried out, and each node that was charged was put into the queue, in order
+pub record Queues {P : Type 0} (t : Identity) (old new : NodeCell P) (before after : QueuePass)
+    : Type 0 where
+  pub charged : List ℕ
+  pub charges : Charges t old charged new
+  pub put : put_by after ≡ put_by before ++ charged
+
+-- the cell may go home
+pub record AtHome {P : Type 0} (seen : P → BoxPicture) (t : Identity) (c : NodeCell P)
+    : Type 0 where
+  pub cell : CellHolds seen t c
+  pub home : IsHome c.mark (cell_ports c)
+
+-- the node rests and its cell may go home, or it is to be prepared again
+abbrev pub RestsOrGoes : {P : Type 0} → (P → BoxPicture) → Identity → Bool → NodeCell P → Type 0
+RestsOrGoes seen t true c = AtHome seen t c
+RestsOrGoes seen t false c = IsDue seen t c
+
+-- whether a port is named, or the node begins for the first time: where not, its word was 0
+abbrev pub is_named_by : Updated → Bool
+is_named_by u = not (u.inputs == 0) || (not (u.outputs == 0) || u.first)
+
+-- a node that isn't held, and is neither unborn nor over
+pub record MayBegin {P : Type 0} (seen : P → BoxPicture) (t : Identity) (c : NodeCell P)
+    : Type 0 where
+  pub cell : CellHolds seen t c
+  pub quiet : c.ports.view.actions ≡ []
+  pub tokens : (view c.seat).state.tokens ≡ 0
+  pub owes : (view c.seat).state.owes ≡ []
+  pub free : (view c.seat).state.held ≡ false
+  pub born : is_unborn_stage (view c.seat).stage ≡ false
+  pub going : is_over_stage (view c.seat).stage ≡ false
+  pub mark : c.mark.state ≢ node.Over
+
+-- the token was taken back, where that was due
+pub record TakesBack (t : Identity) (b : Bool) (old new : NodeSeat) : Type 0 where
+  pub seat : IsSeatOf t new
+  pub took : b ≡ true → Makes t old new step.TokenOut None nothing
+  pub left : b ≡ false → new ≡ old
+
+-- the cell of a node that is due a call of its processor: all was carried out
+pub record IsAtWork {P : Type 0} (seen : P → BoxPicture) (t : Identity) (call : DueCall)
+    (c : NodeCell P) : Type 0 where
+  pub holds : TurnHolds seen t c
+  pub quiet : c.ports.view.actions ≡ []
+  pub at_work : c.mark.state ≡ node.AtWork call
+
+-- a call of `schedule` that answers no fault
+pub record Wakes (a : Wake) (p q : BoxPicture) : Type 0 where
+  pub acts : Acts p q
+  pub answer : q.notes.answer ≡ Some (Scheduled a)
+  pub not_acted : q.notes.acted ≡ false
+
+-- after it the node is to work, or it goes home, held, until its device has more
+abbrev pub WakesTo : {P : Type 0} → (P → BoxPicture) → Identity → Wake → NodeCell P → Type 0
+WakesTo seen t wake.Ready c = IsAtWork seen t call.Work c
+WakesTo seen t wake.Later c = AtHome seen t c × IsAtWork seen t call.Schedule c
+
+-- the call that comes after a schedule
+abbrev pub call_after : Wake → DueCall
+call_after wake.Ready = call.Work
+call_after wake.Later = call.Schedule
+
+-- what a node's run on a worker came to: its cell may go home, or its processor asks that the graph
+-- grows
+abbrev pub RunEndHolds : {P : Type 0} → (P → BoxPicture) → Identity → RunEnd → NodeCell P → Type 0
+RunEndHolds seen t run.Rests c = AtHome seen t c
+RunEndHolds seen t run.Waits c = AtHome seen t c
+RunEndHolds seen t run.Grows c = IsAtWork seen t call.Expand c
+
+-- the turn goes on, or ends so
+abbrev pub GoesOn : {P : Type 0} → (P → BoxPicture) → Identity → Option RunEnd → NodeCell P → Type 0
+GoesOn seen t None c = IsDue seen t c
+GoesOn seen t (Some e) c = RunEndHolds seen t e c

@@ -1,0 +1,32 @@
+//! A node of a port-driven executor: its processor, its picture of its ports and its seat of the
+//! execution table, and its turns, for every processor.
+//!
+//! A worker takes a due node's cell, and turns it until it may go home: the node looks at its
+//! ports, is prepared, what it did is carried out and its peers are told, and what comes next
+//! follows from the answer, as the comment on the status in ClickHouse's `IProcessor.h` has it. The
+//! law of a cell (`CellHolds`) speaks of this cell and its seat alone; what follows of all cells at
+//! home is `law_of_settled_cells`. Each call leaves the box the one that it was (`Stays`).
+//!
+//! - `cell.rt`: what belongs to one node
+//! - `preparation.rt`: a node looks at its ports and is prepared
+//! - `node_word.rt`: a node begins, carries out, rests, leaves: its steps at its own word
+//! - `calls.rt`: the calls of a processor that touch no port
+//! - `node_run.rt`: a node's run on a worker, turn after turn
+//! - `settled_cells.rt`: what follows of all cells where nothing is pending
+//! - `specs/Cells.antt`: the law of a cell; `specs/Turns.antt`: where a cell is in its turn, and
+//!   what stays of it; `specs/Ends.antt`: all cells at home, and the ends that follow
+#![tactic(auto)]
+
+mod calls;
+mod cell;
+mod node_run;
+mod node_word;
+mod preparation;
+mod settled_cells;
+
+pub use calls::{schedule, work};
+pub use cell::NodeCell;
+pub use node_run::{RunEnd, run_node};
+pub use node_word::{begin, carry, leave, rest, wake};
+pub use preparation::prepare;
+pub use settled_cells::law_of_settled_cells;

@@ -1,0 +1,5 @@
+pub mod Prelude
+pub mod Ports
+pub mod Actions
+pub mod Sights
+pub mod Peers
