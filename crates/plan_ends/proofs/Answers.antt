@@ -1,5 +1,5 @@
 -- The end of a run of a plan's graph, by its nodes and its collector.
-use Rattle.plan_ends.proofs.Prelude.{List, Some, [], ap, arith, get_or, inl, inr, is_some, length, length-append, map, refl, subst, suc, sym, true, zero, ℕ, ◌++◌, ◌+◌, ◌<◌, ◌∙◌, ◌∷◌, ◌≡◌, ◌≤◌, ◌⊎◌, AllByRecursion, AllPull, AllTyped, ArePortsOf, BoxPicture, Draft, DraftNode, EachGivesIf, Files, GivesIf, HasRun, IsGraphOf, IsSmall, KeepsCollect, KeepsRows, Lists, NodeForm, NodePort, PartSpec, PlanGraph, Pulls, SelectPlan, Spec, Stream, Wire, all_rows, box_at, collect_node, consumer_of, each-same, each-typed, few-inputs, few-outputs, fits, forms, get_or-map, get_or_at, get_or_default, graphs-same, input_count, length-map, map-append, no_draft, node_form, output-below-count, output_count, part_spec, plan-fits, plan-graph, plan_nodes, ports_of, producer_of, ranks-count, rows_of, spec_form, unboxed, wire_at, with_nodes, BoxGives, HasEnded, HasListed, HasPulled, IsKept, IsListedNode, IsOrdinary, IsReady, IsUngrown, in_stream, out_stream, parts_of, pulled_at, pushed_at, reading_in}
+use Rattle.plan_ends.proofs.Prelude.{List, Some, [], ap, arith, get_or, inl, inr, is_some, length, length-append, map, refl, subst, suc, sym, true, zero, ℕ, ◌++◌, ◌+◌, ◌<◌, ◌∙◌, ◌∷◌, ◌≡◌, ◌≤◌, ◌⊎◌, AllByRecursion, AllFitDraft, AllPull, AllTyped, ArePortsOf, BoxPicture, Draft, DraftNode, EachGivesIf, Files, GivesIf, HasRun, IsGraphOf, IsSmall, KeepsCollect, KeepsRows, Lists, NodeForm, NodePort, PartSpec, PlanGraph, Pulls, SelectPlan, Spec, Stream, Wire, all_rows, body_nodes, box_at, collect_node, collector, consumer_of, each-same, each-typed, few-inputs, few-outputs, fits, forms, get_or-map, get_or_at, get_or_default, graphs-same, input_count, length-map, map-append, no_draft, node_form, output-below-count, output_count, part_spec, plan-fits, plan-graph, plan_nodes, ports_of, producer_of, ranks-count, rows_of, spec_form, unboxed, wire_at, with_nodes, BoxGives, HasEnded, HasListed, HasPulled, IsKept, IsListedNode, IsOrdinary, IsReady, IsUngrown, in_stream, out_stream, parts_of, pulled_at, pushed_at, reading_in}
 use Rattle.query_model.specs.declared.processor_spec.Spec.TheVariants as spec
 use Rattle.plan_ends.proofs.GrownLists.{at-recursion}
 use Rattle.plan_ends.proofs.Pulled.{kept-counted}
@@ -37,10 +37,12 @@ each-gives files boxes pulled pushed n (node ∷ nodes) gives =
     )
 
 -- the collector's node is the last one
-collect-form : (p : SelectPlan) (nodes : List DraftNode) (last : ℕ)
-    → forms nodes ≡ forms (plan_nodes p) → length (plan_nodes p) ≡ last + 1
-    → get_or (forms nodes) last (node_form collect_node) ≡ node_form collect_node
-collect-form p nodes last e count = search (arith, length-map, length-append, map-append, get_or_at)
+collect-form : (body : List DraftNode) (rank : ℕ) (nodes : List DraftNode) (last : ℕ)
+    → forms nodes ≡ forms (body ++ collector rank ∷ [])
+    → length (body ++ collector rank ∷ []) ≡ last + 1
+    → get_or (forms nodes) last (node_form (collector rank)) ≡ node_form (collector rank)
+collect-form body rank nodes last e count =
+    search (arith, length-map, length-append, map-append, get_or_at)
 
 collect-spec : (s : Spec) → spec_form s ≡ unboxed spec.Collect → s ≡ spec.Collect
 collect-spec s e = grind arith
@@ -233,23 +235,25 @@ module _ (files : Files) (nodes : List DraftNode) (boxes : List BoxPicture)
               }),
         )
 
-    collected : (p : SelectPlan) (last : ℕ) → forms nodes ≡ forms (plan_nodes p)
-        → length (plan_nodes p) ≡ last + 1
+    collected : (body : List DraftNode) (rank last : ℕ)
+        → forms nodes ≡ forms (body ++ collector rank ∷ [])
+        → length (body ++ collector rank ∷ []) ≡ last + 1
         → HasCollected (box_at boxes last) (h.done.pulled last)
-    collected p last e count =
-        let same : length nodes ≡ length (plan_nodes p) =
+    collected body rank last e count =
+        let steps : List DraftNode = body ++ collector rank ∷ [] in
+        let same : length nodes ≡ length steps =
         sym (length-map nodes node_form) ∙ ap (λ (l : List NodeForm). length l) e
-        ∙ length-map (plan_nodes p) node_form in
+        ∙ length-map steps node_form in
         let lt : last < length nodes = omega (arith, same, count) in
         let in_boxes : last < length boxes =
         let all = h.count in omega (arith, lt, all) in
-        let z : DraftNode = get_or nodes last collect_node in
-        let form : node_form z ≡ node_form collect_node =
-        sym (get_or-map node_form nodes last collect_node (node_form collect_node) lt)
-        ∙ collect-form p nodes last e count in
+        let z : DraftNode = get_or nodes last (collector rank) in
+        let form : node_form z ≡ node_form (collector rank) =
+        sym (get_or-map node_form nodes last (collector rank) (node_form (collector rank)) lt)
+        ∙ collect-form body rank nodes last e count in
         let is : z.spec ≡ spec.Collect = collect-spec z.spec (ap (λ (f : NodeForm). f.spec) form) in
         let none : z.gives ≡ 0 = ap (λ (f : NodeForm). f.gives) form in
-        let there : node_at last z = (lt, get_or_default nodes last z collect_node lt) in
+        let there : node_at last z = (lt, get_or_default nodes last z (collector rank) lt) in
         let k = node-kept last z there
         (ordinary z (at-recursion IsReady nodes ready last z there.0 there.1)
         (subst IsUngrown (sym is) tt)) in
@@ -266,18 +270,52 @@ module _ (files : Files) (nodes : List DraftNode) (boxes : List BoxPicture)
               (h.done.running last in_boxes (ap is_some loaded)).not_handed_out;
         }
 
--- ---- the plan
+-- ---- a list of nodes
 
--- The end of a run of a plan's graph by lawful boxes loaded with copies of its nodes' specs: what
--- its nodes gave, the rows that each box counts, and that the collector has all of its input.
-pub record PlanRun (files : Files) (p : SelectPlan) (nodes : List DraftNode)
-    (boxes : List BoxPicture) (h : HasEnded files nodes boxes) (last : ℕ) : Type 0 where
-  pub run : HasRun (parts_of files) (plan_nodes p) (pulled_at boxes h.done.pulled)
+-- The end of a run of the graph of a list of nodes by lawful boxes loaded with copies of its nodes'
+-- specs: what its nodes gave, the rows that each box counts, and that the collector, its last node,
+-- has all of its input.
+pub record ListRun (files : Files) (steps nodes : List DraftNode) (boxes : List BoxPicture)
+    (h : HasEnded files nodes boxes) (last : ℕ) : Type 0 where
+  pub run : HasRun (parts_of files) steps (pulled_at boxes h.done.pulled)
       (pushed_at boxes h.done.pushed)
   pub collected : HasCollected (box_at boxes last) (h.done.pulled last)
   pub counted : (n : ℕ) (z : DraftNode) → n < length nodes → get_or nodes n z ≡ z
       → IsUngrown z.spec → HasPulled (box_at boxes n)
       (length (all_rows (rows_of (map (pulled_at boxes h.done.pulled) (ports_of n 0 z.takes)))))
+
+pub list-run : (files : Files) (body : List DraftNode) (rank : ℕ) (nodes : List DraftNode)
+    (boxes : List BoxPicture) (h : HasEnded files nodes boxes) (last : ℕ) → IsGraphOf nodes
+    → AllFitDraft (body ++ collector rank ∷ []) no_draft
+    → forms nodes ≡ forms (body ++ collector rank ∷ [])
+    → AllTyped (body ++ collector rank ∷ []) []
+    → AllByRecursion IsReady nodes → length (body ++ collector rank ∷ []) ≡ last + 1
+    → ListRun files (body ++ collector rank ∷ []) nodes boxes h last
+list-run files body rank nodes boxes h last g fit e typed ready count =
+    let steps : List DraftNode = body ++ collector rank ∷ [] in
+    let run = ended-run files nodes boxes h g ready in
+    let pulled : NodePort → Stream = pulled_at boxes h.done.pulled in
+    let pushed : NodePort → Stream = pushed_at boxes h.done.pushed in
+    let along : AllPull pulled pushed (with_nodes steps no_draft).wires =
+    subst (λ (d : Draft). AllPull pulled pushed d.wires) (graphs-same nodes steps no_draft e)
+    run.1 in
+    let each = each-typed (parts_of files) pulled pushed steps no_draft [] fit tt typed
+    (each-same (parts_of files) pulled pushed 0 nodes steps e run.0) along in
+    record {
+      run = record { each = each; along = along };
+      collected = collected files nodes boxes h g ready body rank last e count;
+      counted = λ n z lt is ungrown.
+          rw (ports-at (λ m (q : NodePort). in_stream (box_at boxes m) (h.done.pulled m) q.port) n 0
+          z.takes) (kept-counted z.spec files z.takes z.gives (box_at boxes n) (h.done.pulled n)
+          (h.done.pushed n) (node-kept files nodes boxes h g ready n z (lt, is)
+          (ordinary z (at-recursion IsReady nodes ready n z lt is) ungrown)) n);
+    }
+
+-- ---- the plan
+
+abbrev pub PlanRun : (files : Files) → SelectPlan → (nodes : List DraftNode)
+    → (boxes : List BoxPicture) → HasEnded files nodes boxes → ℕ → Type 0
+PlanRun files p nodes boxes h last = ListRun files (plan_nodes p) nodes boxes h last
 
 pub plan-run : (files : Files) (p : SelectPlan) (nodes : List DraftNode) (boxes : List BoxPicture)
     (h : HasEnded files nodes boxes) (last : ℕ) → IsSmall p
@@ -286,22 +324,5 @@ pub plan-run : (files : Files) (p : SelectPlan) (nodes : List DraftNode) (boxes 
     → PlanRun files p nodes boxes h last
 plan-run files p nodes boxes h last small e typed ready count =
     let g : PlanGraph nodes = plan-graph p nodes small e in
-    let run = ended-run files nodes boxes h g.graph ready in
-    let pulled : NodePort → Stream = pulled_at boxes h.done.pulled in
-    let pushed : NodePort → Stream = pushed_at boxes h.done.pushed in
-    let steps : List DraftNode = plan_nodes p in
-    let along : AllPull pulled pushed (with_nodes steps no_draft).wires =
-    subst (λ (d : Draft). AllPull pulled pushed d.wires) (graphs-same nodes steps no_draft e)
-    run.1 in
-    let fit = (fits steps (plan-fits p small).0).fit in
-    let each = each-typed (parts_of files) pulled pushed steps no_draft [] fit tt typed
-    (each-same (parts_of files) pulled pushed 0 nodes steps e run.0) along in
-    record {
-      run = record { each = each; along = along };
-      collected = collected files nodes boxes h g.graph ready p last e count;
-      counted = λ n z lt is ungrown.
-          rw (ports-at (λ m (q : NodePort). in_stream (box_at boxes m) (h.done.pulled m) q.port) n 0
-          z.takes) (kept-counted z.spec files z.takes z.gives (box_at boxes n) (h.done.pulled n)
-          (h.done.pushed n) (node-kept files nodes boxes h g.graph ready n z (lt, is)
-          (ordinary z (at-recursion IsReady nodes ready n z lt is) ungrown)) n);
-    }
+    list-run files (body_nodes p) 14 nodes boxes h last g.graph
+    (fits (plan_nodes p) (plan-fits p small).0).fit e typed ready count

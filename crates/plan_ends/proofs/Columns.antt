@@ -1,6 +1,6 @@
 -- The columns of a table that a query names are those of the table that its plan reads, and its
 -- checked types are those of the rows that its items make.
-use Rattle.plan_ends.proofs.Prelude.{Bool, IfSome, List, None, Option, Some, [], ap, append_assoc, ap₂, arith, bytes_eq, cond, false, filter, flat_map, length, length-append, map, not, option_map, refl, slice_index_or, subst, suc, sym, true, ℕ, ◌++◌, ◌+◌, ◌<◌, ◌==◌, ◌∙◌, ◌∷◌, ◌||◌, ◌≡◌, AggCall, All, All-behind, All-cons, All-front, All-head, All-nil, All-tail, AreColumnsFrom, AreKeyPairs, ArePlainItems, BothOrNone, Checked, CheckedJoin, ColumnDecl, ColumnRef, ColumnType, EachWith, Expr, FromColumn, Grouped, Grouping, IsAnalysable, IsChecked, IsCheckedJoin, IsGrouping, IsOfKind, IsPlacedItem, IsShape, IsTypedQuery, Item, ItemKind, Items, Join, KeyPair, Listed, NamePair, OrderKey, Plain, Query, Schema, Shape, SortKey, Star, TableDecl, TableRef, TableUse, accepted, all_fit, ambiguous_column, append-nil, are_keys, bad_join_key, bad_order_key, both, call_type, calls_of, column_is_of_kind, every_column, expr_is_of_kind, first_name, first_of_all, from_columns, from_types, get_or_at, group_row_types, holds_pairs, is_grouped, is_join_pair, is_key_of, is_typed, item_kind, item_names, join_spec, join_tables, key_place, known_type, length-map, list_all, listed, map-append, means, meant_type, none_found, not_grouped, operands_of, output_names, output_types, pair_of, place_in, place_of, refusal_of, same_type, sort_key, source_types, star_name, table_columns, tells_each, too_wide, type_mismatch, type_of, types_of, ungrouped_names, unknown_column, unknown_table, use_of, used_types}
+use Rattle.plan_ends.proofs.Prelude.{Bool, IfSome, List, None, Option, Some, [], ap, append_assoc, ap₂, arith, bytes_eq, cond, false, filter, flat_map, length, length-append, map, not, option_map, refl, slice_index_or, subst, suc, sym, true, ℕ, ◌++◌, ◌+◌, ◌<◌, ◌==◌, ◌∙◌, ◌∷◌, ◌≡◌, AggCall, All, All-behind, All-cons, All-front, All-head, All-nil, All-tail, AreColumnsFrom, AreKeyPairs, ArePlainItems, BothOrNone, Checked, CheckedJoin, ColumnDecl, ColumnRef, ColumnType, EachWith, Expr, FromColumn, Grouped, Grouping, IsAnalysable, IsChecked, IsCheckedJoin, IsGrouping, IsOfKind, IsPlacedItem, IsShape, IsTypedQuery, Item, ItemKind, Items, Join, KeyPair, Listed, NamePair, OrderKey, Plain, Query, Schema, Shape, SortKey, Star, TableDecl, TableRef, TableUse, accepted, all_fit, append-nil, are_keys, call_type, calls_of, column_is_of_kind, every_column, expr_is_of_kind, first_name, from_columns, from_types, get_or_at, group_row_types, is_grouped, is_join_pair, is_key_of, is_typed, item_kind, item_names, join_spec, join_tables, key_place, known_type, length-map, list_all, listed, map-append, means, meant_type, none_found, operands_of, output_names, output_types, pair_of, place_in, place_of, refusal_of, same_type, sort_key, source_types, star_name, table_columns, tells_each, type_of, types_of, ungrouped_names, use_of, used_types, join_columns, pairs_fit, and_parts}
 use Rattle.chunk_data.specs.declared.typed_value.ColumnType.TheVariants as column
 use Rattle.query_model.specs.declared.query.ExprOf.TheVariants as expr
 use Rattle.query_model.specs.declared.query.ItemKind.TheVariants as kind
@@ -48,7 +48,7 @@ items-types : (columns : List FromColumn) (items : List Item) (es : List Expr)
     → map (λ (i : Item). known_type (item_kind columns i.what)) items
     ≡ map (λ e. type_of e (types_of columns)) es
 items-types columns (i ∷ items) (e ∷ es) is h =
-    let each = both (is_typed (item_kind columns i.what))
+    let each = and_parts (is_typed (item_kind columns i.what))
     (list_all (λ (i : Item). is_typed (item_kind columns i.what)) items) h in
     ap₂ (λ t ts. t ∷ ts) (one i.what i.alias is.0 each.0) (items-types columns items es is.1 each.1)
   where
@@ -85,12 +85,6 @@ place-within test (x ∷ xs) some = grind (arith, place-within test xs)
 one-passes : (n : ℕ) → not (n == 1) ≡ false → 0 < n
 one-passes n h = grind arith
 
--- where there is no first refusal, there is none
-each-none : {X : Type 0} (all : List (Option X)) → first_of_all all ≡ None
-    → All (λ o. o ≡ None) all
-each-none (None ∷ all) h = All-cons (λ o. o ≡ None) None all refl (each-none all h)
-each-none all h = grind arith
-
 -- ---- the pairs of a join
 
 -- a column that a name means has a place and a type
@@ -121,7 +115,7 @@ pairs-fit : (left right : List FromColumn) (pairs : List NamePair)
     (map (pair_of left right) pairs)
 pairs-fit left right [] e = search (arith, All-nil)
 pairs-fit left right (p ∷ pairs) e =
-    let each = both (is_join_pair left right p) (list_all (is_join_pair left right) pairs) e in
+    let each = and_parts (is_join_pair left right p) (list_all (is_join_pair left right) pairs) e in
     All-cons (λ (p : KeyPair). IsPair (types_of left) (types_of right) p.left p.right)
     (pair_of left right p) (map (pair_of left right) pairs) (pair-is left right p each.0)
     (pairs-fit left right pairs each.1)
@@ -140,7 +134,7 @@ record AreRead (q : Query) (schemas : List Schema) (tables : List TableDecl) (fr
     (a : Option Join) (b : Option CheckedJoin) : Type 0 where
   pub types : types_of (flat_map (table_columns schemas) (q.from ∷ join_tables a))
       ≡ source_types tables from b
-  pub pairs : holds_pairs q schemas a ≡ true
+  pub pairs : pairs_fit (table_columns schemas q.from) (join_columns schemas a) a ≡ true
       → IfSome b (λ (j : CheckedJoin). AreKeyPairs (join_spec tables 0 from j))
 
 read-types : (q : Query) (schemas : List Schema) (tables : List TableDecl)
@@ -174,15 +168,6 @@ module _ (q : Query) (schemas : List Schema) (c : Checked) (none : refusal_of q 
   abbrev is_no_name : OrderKey → Bool
   is_no_name key = not (length (filter (bytes_eq key.name) names) == 1)
 
-  -- nothing refuses the pairs of the join, or the keys of the order
-  well-joined-ordered : (bad_join_key q schemas ≡ None) × (bad_order_key q schemas ≡ None)
-  unfolding refusal_of
-  well-joined-ordered =
-      let all = each-none (unknown_table q schemas ∷ unknown_column q schemas
-      ∷ ambiguous_column q schemas ∷ bad_join_key q schemas ∷ type_mismatch q schemas
-      ∷ not_grouped q schemas ∷ bad_order_key q schemas ∷ too_wide q schemas ∷ []) none in
-      (all 3 None (omega arith), all 6 None (omega arith))
-
   keys-within : (keys : List OrderKey) → All (λ key. is_no_name key ≡ false) keys
       → All Within (map (sort_key names) keys)
   keys-within [] h = All-nil Within
@@ -207,7 +192,7 @@ module _ (q : Query) (schemas : List Schema) (c : Checked) (none : refusal_of q 
       let rest : List ColumnType =
       map (λ (call : AggCall ℕ). call_type call.op call.arg types) g.calls in
       no-star q.items _ _
-      (subst (λ b. cond b (option_map refuse.NotGrouped (first_name (ungrouped_names q schemas)))
+      (subst (λ b. cond b (option_map refuse.NotGrouped (first_name (ungrouped_names columns q)))
       None ≡ None) e ok.grouped)
       ∙ picks-types columns (key_place columns q.keys) (is_key_of columns q.keys)
       (group_row_types g types)
@@ -232,12 +217,13 @@ module _ (q : Query) (schemas : List Schema) (c : Checked) (none : refusal_of q 
       → IsTypedQuery (from_types q schemas) c → IsTypedSelect tables c
   typed-select tables are can query =
       let t = read-types q schemas tables are c.from is.from q.join c.join is.join in
+      let ok = accepted q schemas none in
       record {
         typed = subst (λ types. IsTypedQuery types c) t.types query;
         made = grind (arith, made, shape_types);
         keys = rw is.order (keys-within q.order (none_found is_no_name
-            (λ (key : OrderKey). refuse.BadOrderKey key.name) q.order well-joined-ordered.1));
-        pairs = t.pairs (holds-if (holds_pairs q schemas q.join) well-joined-ordered.0);
+            (λ (key : OrderKey). refuse.BadOrderKey key.name) q.order ok.ordered));
+        pairs = t.pairs (holds-if _ ok.pairs);
       }
     where
       holds-if : (b : Bool) → cond b None (Some refuse.BadJoinKey) ≡ None → b ≡ true

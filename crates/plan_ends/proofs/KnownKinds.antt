@@ -1,5 +1,5 @@
 -- Plans have nodes of known kinds alone.
-use Rattle.plan_ends.proofs.Prelude.{IfSome, List, None, Option, Some, [], arith, refl, subst, suc, sym, zero, ℕ, ◌<◌, ◌∷◌, ◌≡◌, AllByRecursion, ArePortsOf, DraftNode, GrowthForm, IsPlan, IsSource, JoinsSources, NodeForm, PartSpec, PlanJoin, PlanShape, SelectPlan, SortSpec, Span, Spec, by-forms, every-append, every-weaker, forms, gather_nodes, lane_nodes, limit_nodes, node_form, plan_nodes, read_nodes, same-spec, shape_nodes, sort_nodes, source_nodes, ⊤, IsReady, IsStep, IsUngrown, KindGives, KnownPorts, SourceHas}
+use Rattle.plan_ends.proofs.Prelude.{IfSome, List, None, Option, Some, [], arith, refl, subst, suc, sym, zero, ℕ, ◌<◌, ◌∷◌, ◌≡◌, AllByRecursion, ArePortsOf, DraftNode, GrowthForm, IsPlan, IsSource, JoinsSources, NodeForm, PartSpec, PlanJoin, PlanShape, SelectPlan, SortSpec, Span, Spec, by-forms, every-append, every-front, every-weaker, forms, body_nodes, collect_node, gather_nodes, lane_nodes, lane_steps, limit_nodes, node_form, plan_nodes, read_nodes, read_steps, same-spec, select_steps, shape_nodes, sort_nodes, source_nodes, ⊤, IsReady, IsStep, IsUngrown, KindGives, KnownPorts, SourceHas}
 use Rattle.query_model.specs.declared.processor_spec.Spec.TheVariants as spec
 use Rattle.plan_ends.proofs.GroupLaws.{merged-gives, partial-gives}
 use Rattle.plan_ends.proofs.JoinLaws.{join-gives}
@@ -29,7 +29,8 @@ known-gives (spec.HashJoin join) h = join-gives join
 known-gives spec.Collect h = collect-gives
 known-gives (spec.List list) h = absurd h
 
-known-ready : (P L : PartSpec → Type 0) (n : DraftNode) → IsStep P L n → IsReady n
+-- a node of a known kind is ready
+pub known-ready : (P L : PartSpec → Type 0) (n : DraftNode) → IsStep P L n → IsReady n
 known-ready P L n h = go n.spec refl h.0
   where
     ordinary : IsUngrown n.spec → KnownPorts n.spec n.takes n.gives → IsReady n
@@ -69,6 +70,10 @@ module _ (Q : DraftNode → Type 0)
   limit-have : (l : Option Span) → AllByRecursion Q (limit_nodes l)
   limit-have l = grind arith
 
+  -- the steps in the lanes
+  pub lane-have : (p : SelectPlan) → AllByRecursion Q (lane_steps p)
+  lane-have p = grind (arith, every-append, shape-have, limit-have, lanes-have)
+
   plan-have : (p : SelectPlan) → AllByRecursion Q (read_nodes p.sources p.join p.lanes)
       → AllByRecursion Q (plan_nodes p)
   plan-have p read = grind (arith, every-append, shape-have, limit-have, lanes-have)
@@ -81,7 +86,7 @@ module _ (P L : PartSpec → Type 0) where
   known-form a b e h = grind (arith, same-spec)
 
   -- nodes of the same forms are known too
-  known-forms : (xs ys : List DraftNode) → forms xs ≡ forms ys → AllByRecursion (IsStep P L) ys
+  pub known-forms : (xs ys : List DraftNode) → forms xs ≡ forms ys → AllByRecursion (IsStep P L) ys
       → AllByRecursion (IsStep P L) xs
   known-forms xs ys e h =
       by-forms (λ xs ys. AllByRecursion (IsStep P L) ys → AllByRecursion (IsStep P L) xs) (λ h. tt)
@@ -112,11 +117,38 @@ module _ (P L : PartSpec → Type 0) where
       read None are more = search (arith, every-append, sources-known)
       read (Some j) are more = search (arith, every-append, sources-known)
 
+  -- all nodes but the collector
+  pub body-known : (p : SelectPlan) → IsPlan p → BothHave p
+      → AllByRecursion (IsStep P L) (body_nodes p)
+  body-known p is parts =
+      every-front (IsStep P L) (body_nodes p) (collect_node ∷ []) (plan-known p is parts)
+
+  -- the steps behind so many open ends
+  pub select-known : (ends : ℕ) (p : SelectPlan) → 0 < p.lanes → JoinsSources p.join
+      → IfSome p.join (λ (j : PlanJoin). AllByRecursion (SourceHas P L) j.sources)
+      → AllByRecursion (IsStep P L) (select_steps ends p)
+  select-known ends p some is parts =
+      every-append (IsStep P L) (read_steps ends p.join p.lanes) (lane_steps p)
+      (read p.join is parts) (lane-have (IsStep P L) of-step p)
+    where
+      read : (j : Option PlanJoin) → JoinsSources j
+          → IfSome j (λ (j : PlanJoin). AllByRecursion (SourceHas P L) j.sources)
+          → AllByRecursion (IsStep P L) (read_steps ends j p.lanes)
+      read None are more = search (arith)
+      read (Some j) are more = search (arith, every-append, sources-known)
+
   -- Each node of such a plan's graph is of a known kind, and what is true of the sources' parts is
   -- true of its part.
   pub plan-steps : (p : SelectPlan) (nodes : List DraftNode) → IsPlan p → BothHave p
       → forms nodes ≡ forms (plan_nodes p) → AllByRecursion (IsStep P L) nodes
   plan-steps p nodes is parts e = known-forms nodes (plan_nodes p) e (plan-known p is parts)
+
+-- nothing is asked of parts
+pub any-parts : (specs : List Spec) → AllByRecursion (SourceHas (λ part. ⊤) (λ list. ⊤)) specs
+any-parts [] = tt
+any-parts (spec.Csv part ∷ specs) = (tt, any-parts specs)
+any-parts (spec.List list ∷ specs) = (tt, any-parts specs)
+any-parts (s ∷ specs) = (tt, any-parts specs)
 
 -- each node of a plan's graph is ready
 pub plan-ready : (p : SelectPlan) (nodes : List DraftNode) → IsPlan p
@@ -126,12 +158,6 @@ plan-ready p nodes is e =
     (known-ready (λ part. ⊤) (λ list. ⊤)) nodes
     (plan-steps (λ part. ⊤) (λ list. ⊤) p nodes is (any-parts p.sources, joined p.join) e)
   where
-    any-parts : (specs : List Spec) → AllByRecursion (SourceHas (λ part. ⊤) (λ list. ⊤)) specs
-    any-parts [] = tt
-    any-parts (spec.Csv part ∷ specs) = (tt, any-parts specs)
-    any-parts (spec.List list ∷ specs) = (tt, any-parts specs)
-    any-parts (s ∷ specs) = (tt, any-parts specs)
-
     joined : (j : Option PlanJoin)
         → IfSome j (λ (j : PlanJoin). AllByRecursion (SourceHas (λ part. ⊤) (λ list. ⊤)) j.sources)
     joined None = tt

@@ -1,5 +1,5 @@
 -- The columns that a grouped query picks have the types of its items.
-use Rattle.plan_ends.proofs.Prelude.{Bool, List, [], ap₂, append_assoc, arith, cond, false, filter, flat_map, length, length-append, map, nat_lt, refl, sym, true, ℕ, ◌&&◌, ◌++◌, ◌+◌, ◌<◌, ◌∙◌, ◌∷◌, ◌||◌, ◌≡◌, AggCall, All, All-front, All-behind, All-head, All-tail, ArePicks, CanBePicked, ColumnRef, ColumnType, EachWith, ExprOf, FromColumn, HasItsArgument, IsOfKind, IsPick, IsPlacedCall, IsTypeOf, Item, ItemKind, agg_kind, both, call_is_of_kind, call_type, every_column, expr_columns, expr_is_of_kind, expr_kind, get_or_at, is_key_of, is_typed, item_calls, item_columns, item_kind, key_place, known_type, list_all, list_any, meant, nat_tests, place_in, place_of, same_column, type_of, types_of, typed, unfit}
+use Rattle.plan_ends.proofs.Prelude.{Bool, List, [], and_parts, ap₂, append_assoc, arith, cond, false, filter, flat_map, length, length-append, map, nat_lt, refl, sym, true, ℕ, ◌&&◌, ◌++◌, ◌+◌, ◌<◌, ◌∙◌, ◌∷◌, ◌||◌, ◌≡◌, AggCall, All, All-front, All-behind, All-head, All-tail, ArePicks, CanBePicked, ColumnRef, ColumnType, EachWith, ExprOf, FromColumn, HasItsArgument, IsOfKind, IsPick, IsPlacedCall, IsTypeOf, Item, ItemKind, agg_kind, call_is_of_kind, call_type, every_column, expr_columns, expr_is_of_kind, expr_kind, get_or_at, is_key_of, is_typed, item_calls, item_columns, item_kind, key_place, known_type, list_all, list_any, meant, nat_tests, place_in, place_of, same_column, type_of, types_of, typed, unfit}
 use Rattle.chunk_data.specs.declared.typed_value.ColumnType.TheVariants as column
 use Rattle.query_model.specs.Refusals.{Kind, plain}
 use Rattle.query_model.specs.declared.query.ExprOf.TheVariants as expr
@@ -100,7 +100,7 @@ module _ (columns : List FromColumn) (place : ColumnRef → ℕ) (is_key : Colum
       → ArePicks place k items picks → kind_types items ≡ map (type_at row) picks
   unfolding expr_columns
   picks-types front k (i ∷ items) (p ∷ picks) placed n e calls has one can t are =
-      let each = both (is_typed (item_kind columns i.what)) _ t in
+      let each = and_parts (is_typed (item_kind columns i.what)) _ t in
       let P : Item → Type 0 = (λ (i : Item). CanBePicked is_key i.what) in
       go i.what placed e calls has (All-head P i items can) each.0 are.0 are.1
       (All-front (MeansOne columns) (item_columns i.what) _ one)

@@ -1,6 +1,6 @@
 -- At the end of a run of a query's plan the collector has an answer of the query, and its boxes
 -- pulled their flow.
-use Rattle.plan_ends.proofs.Prelude.{Bool, IfSome, List, None, Option, Some, [], ap, arith, cond, flat_map, length, refl, slice_get, subst, suc, sym, true, ℕ, ◌++◌, ◌+◌, ◌<◌, ◌∙◌, ◌∷◌, ◌≡◌, ◌≤◌, ◌⊎◌, All, AllByRecursion, AllTyped, AreKeyPairs, BoxPicture, Checked, CheckedJoin, ColumnType, Database, Declared, DraftNode, Files, HasCalls, IsAnswer, IsCut, IsPlan, IsPlanOf, IsSmall, IsSource, IsTypedFilter, IsTypedShape, JoinsSources, Kind, ListFile, NodePort, Numbers, OneType, PartSpec, Parts, PartsDecl, Paths, Reading, SelectPlan, SortKey, Spec, Stream, Table, TableDecl, TableUse, append-nil, boxes_for, chunk_rows, counted, database, declared_sources, declared_table, flow, forms, get_or-map, get_or_past, join_of, join_pulls, join_spec, joined_table, length-map, none-of, of_kind, order_of, output_rows, part_paths, part_rows, part_sources, part_spec, path_sources, plan-needs, plan_keys, plan_nodes, plan_rows, plan_valid, plans-answer, pulled_rows, query-answers, read_rows, reading_of, rows_joined, same_kind, select_plan, shape-selects, shape_of, slice_get_cases, source_types, sources_rows, sum_by-cons, table_sources, types_declared, used_table, used_types, HasEnded, part_of, parts_of, pulled_at, pushed_at}
+use Rattle.plan_ends.proofs.Prelude.{Bool, IfSome, List, None, Option, Some, [], ap, arith, cond, flat_map, length, refl, slice_get, subst, suc, sym, true, ℕ, ◌+◌, ◌<◌, ◌∙◌, ◌∷◌, ◌≡◌, ◌⊎◌, All, AllByRecursion, AllTyped, AreKeyPairs, BoxPicture, Checked, CheckedJoin, ColumnType, Database, Declared, DraftNode, Files, HasCalls, IsAnswer, IsCut, IsPlan, IsPlanOf, IsSmall, IsSource, IsTypedFilter, IsTypedShape, JoinsSources, Kind, ListFile, NodePort, Numbers, OneType, PartSpec, Parts, PartsDecl, Paths, Reading, SelectPlan, SortKey, Spec, Stream, Table, TableDecl, TableUse, append-nil, boxes_for, chunk_rows, counted, database, declared_sources, declared_table, flow, forms, get_or-map, get_or_past, join_of, join_pulls, join_spec, joined_table, length-map, none-of, of_kind, order_of, output_rows, part_paths, part_rows, part_sources, part_spec, path_sources, plan-needs, plan_keys, plan_nodes, plan_rows, plan_valid, plans-answer, pulled_rows, query-answers, read_rows, reading_of, rows_joined, same_kind, select_plan, shape-selects, shape_of, slice_get_cases, source_types, sources_rows, sum_by-cons, table_sources, types_declared, used_table, used_types, HasEnded, part_of, parts_of, pulled_at, pushed_at}
 use Rattle.query_model.specs.declared.processor_spec.Kind.TheVariants as kind
 use Rattle.query_model.specs.declared.processor_spec.Spec.TheVariants as spec
 use Rattle.plan_ends.proofs.Answers.{plan-run, PlanRun}
@@ -23,7 +23,7 @@ table-at : (header : Bool) (files : Files) (tables : List TableDecl) (t : ℕ)
 table-at header files tables t = grind (arith, slice_get_cases, get_or-map, get_or_past, length-map)
 
 -- the types of a used table's columns
-types-used : (header : Bool) (files : Files) (tables : List TableDecl) (u : TableUse)
+pub types-used : (header : Bool) (files : Files) (tables : List TableDecl) (u : TableUse)
     → used_types tables u ≡ (used_table (database header files tables) u).types
 types-used header files tables u = grind (arith, table-at)
 
@@ -43,7 +43,7 @@ declared-rows files r (Paths paths) = paths-rows files (parts_of files) (λ part
 declared-rows files r (ListFile path) = search (arith, append-nil, paths-rows)
 
 -- the rows of a used table are those of its sources
-rows-used : (header : Bool) (files : Files) (tables : List TableDecl) (rows : ℕ) (u : TableUse)
+pub rows-used : (header : Bool) (files : Files) (tables : List TableDecl) (rows : ℕ) (u : TableUse)
     → sources_rows (parts_of files) (table_sources tables header rows u)
     ≡ (used_table (database header files tables) u).rows
 rows-used header files tables rows (Declared t) =
@@ -68,7 +68,7 @@ abbrev OfBoth : (Spec → Type 0) → PartSpec → Type 0
 OfBoth P part = P (spec.Csv part) × P (spec.List part)
 
 -- what holds of each source of a used table
-each-source : (P : Spec → Type 0) (tables : List TableDecl) (header : Bool) (rows : ℕ)
+pub each-source : (P : Spec → Type 0) (tables : List TableDecl) (header : Bool) (rows : ℕ)
     (u : TableUse)
     → ((part : PartSpec) → part.types ≡ used_types tables u → OfBoth P part)
     → ((n : ℕ) → u ≡ Numbers n → P (spec.Numbers n rows))

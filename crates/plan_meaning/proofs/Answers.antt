@@ -1,8 +1,9 @@
 -- What the last node of a plan has, all of whose input is done, is an answer.
-use Rattle.plan_meaning.proofs.Prelude.{All, List, None, [], arith, length, map, refl, subst, suc, true, ℕ, ◌++◌, ◌+◌, ◌∙◌, ◌∷◌, ◌≡◌, AllZip, Draft, DraftNode, FitsBlock, Fitted, Kind, Levels, NodePort, Wire, all-back, all-front, and_from, consumer_of, fits, length-append, length-map, no_draft, producer_of, ranks-count, taken_by, wires_to, with-append, with_node, with_nodes, AllPull, EachGives, HasRun, Pulls, pulled_rows, IsFront, Parts, Stream, IsPlan, IsSmall, IsTold, PlanAnswers, SelectPlan, body_nodes, collect_node, plan_nodes, plan_pulls}
+use Rattle.plan_meaning.proofs.Prelude.{All, List, None, [], ap, arith, get_or, length, map, refl, subst, suc, sym, true, ℕ, ◌++◌, ◌+◌, ◌∙◌, ◌∷◌, ◌≡◌, AllByRecursion, AllZip, AllInputsDone, Completes, Draft, DraftNode, FitsBlock, Fitted, Flow, IsOpenNode, Kind, Levels, Means, NodePort, Runs, Wire, all-back, all-front, and_from, consumer_of, fits, length-append, length-map, meant_by, no_draft, producer_of, pulled_by, ranks-count, taken_by, wires_to, with-append, with_node, with_nodes, AllPull, EachGives, HasRun, Pulls, pulled_rows, IsFront, Parts, Stream, IsPlan, IsSmall, IsTold, PlanAnswers, SelectPlan, body_nodes, collector, plan_nodes, plan_pulls}
 use Rattle.plan_meaning.proofs.Runs.{RunsOf, runs}
 use Rattle.plan_meaning.proofs.Completing.{all-inputs-done, completes}
 use Rattle.plan_meaning.proofs.Fitting.{body-level}
+use Rattle.plan_meaning.proofs.Fronts.{pulled-front}
 use Rattle.plan_meaning.proofs.Blocks.{Alone, only-one}
 use Rattle.plan_meaning.proofs.Plans.{PlanMade, plan-block}
 
@@ -13,51 +14,141 @@ gives-front parts pulled pushed n (x ∷ xs) ys g =
     (g.0, gives-front parts pulled pushed (suc n) xs ys g.1)
 
 -- one end, which the collector takes
-one-end : (pulled pushed : NodePort → Stream) (d : Draft)
+one-end : (pulled pushed : NodePort → Stream) (rank : ℕ) (d : Draft)
     → All (λ (w : Wire). Pulls (pulled (consumer_of w)) (pushed (producer_of w)))
-    (with_node collect_node d).wires
+    (with_node (collector rank) d).wires
     → (e : NodePort) → d.ends ≡ e ∷ [] → Pulls (pulled (record { node = length d.ranks; port = 0 }))
     (pushed e)
-one-end pulled pushed d h e is =
+one-end pulled pushed rank d h e is =
     let here : All (λ (w : Wire). Pulls (pulled (consumer_of w)) (pushed (producer_of w)))
-    (wires_to (length d.ranks) 0 (taken_by collect_node (e ∷ []))) =
+    (wires_to (length d.ranks) 0 (taken_by (collector rank) (e ∷ []))) =
     rw is at (all-back (λ (w : Wire). Pulls (pulled (consumer_of w)) (pushed (producer_of w)))
-    d.wires (wires_to (length d.ranks) 0 (taken_by collect_node d.ends)) h) in
+    d.wires (wires_to (length d.ranks) 0 (taken_by (collector rank) d.ends)) h) in
     here 0 (record { from = e.node; out = e.port; to = length d.ranks; input = 0 }) (omega arith)
 
+-- A list of nodes that leaves one open end of this rank.
+pub record LeavesOne (nodes : List DraftNode) : Type 0 where
+  pub rank : ℕ
+  pub block : FitsBlock nodes [] (rank ∷ [])
+
 -- a run of all nodes but the collector, and what the collector pulled
-record BodyRun (parts : Parts) (p : SelectPlan) (pulled pushed : NodePort → Stream)
+record BodyRun (parts : Parts) (nodes : List DraftNode) (pulled pushed : NodePort → Stream)
     (last : ℕ) : Type 0 where
   pub end : NodePort
-  pub body : RunsOf parts pulled 0 (body_nodes p) [] (pushed end ∷ [])
+  pub body : RunsOf parts pulled 0 nodes [] (pushed end ∷ [])
   pub pulls : Pulls (pulled (record { node = last; port = 0 })) (pushed end)
 
-body-run : (parts : Parts) (p : SelectPlan) (pulled pushed : NodePort → Stream) → IsSmall p
-    → HasRun parts (plan_nodes p) pulled pushed → (last : ℕ) → length (plan_nodes p) ≡ last + 1
-    → BodyRun parts p pulled pushed last
-body-run parts p pulled pushed small run last count =
-    let body : List DraftNode = body_nodes p in
+body-run : (parts : Parts) (body : List DraftNode) (rank : ℕ) (pulled pushed : NodePort → Stream)
+    → LeavesOne body → HasRun parts (body ++ collector rank ∷ []) pulled pushed
+    → (last : ℕ) → length (body ++ collector rank ∷ []) ≡ last + 1
+    → BodyRun parts body pulled pushed last
+body-run parts body rank pulled pushed leaves run last count =
     let d : Draft = with_nodes body no_draft in
-    let level : Levels body [] 1 14 = body-level p small in
-    let block : FitsBlock body [] (level.rank ∷ []) = level.block in
+    let block : FitsBlock body [] (leaves.rank ∷ []) = leaves.block in
     let fitted : Fitted body no_draft [] = fits body block.fit in
     let one : length d.ends ≡ 1 = grind (arith, length-map) in
-    let split = with-append body (collect_node ∷ []) no_draft in
-    let along : AllPull pulled pushed (with_node collect_node d).wires = grind arith in
+    let split = with-append body (collector rank ∷ []) no_draft in
+    let along : AllPull pulled pushed (with_node (collector rank) d).wires = grind arith in
     let first = all-front (λ (w : Wire). Pulls (pulled (consumer_of w)) (pushed (producer_of w)))
-    d.wires (wires_to (length d.ranks) 0 (taken_by collect_node d.ends)) along in
+    d.wires (wires_to (length d.ranks) 0 (taken_by (collector rank) d.ends)) along in
     let all = runs parts pulled pushed body no_draft fitted.fit (gives-front parts pulled pushed 0
-    body (collect_node ∷ []) run.each) first in
+    body (collector rank ∷ []) run.each) first in
     let end = only-one (λ l. RunsOf parts pulled 0 body [] (map pushed l)) d.ends one all in
     let place : length d.ranks ≡ last = grind (arith, ranks-count, length-append) in
     record {
       end = end.0;
       body = end.2;
-      pulls = grind (arith, one-end);
+      pulls = subst (λ n. Pulls (pulled (record { node = n; port = 0 })) (pushed end.0)) place
+          (one-end pulled pushed rank d along end.0 end.1);
+    }
+
+-- What the collector of any list of nodes has is a front of a flow that the nodes' meaning gives,
+-- at every moment of a run. Where the collector's input is done it is the whole flow, and certain.
+pub record Collected (parts : Parts) (nodes : List DraftNode) (pulled : NodePort → Stream)
+    (got : Stream) : Type 0 where
+  pub flow : Flow
+  pub means : Means parts nodes [] (flow ∷ [])
+  pub front : IsFront got flow
+  -- where each node has an output and none is a limit, and the input is done
+  pub counted : AllByRecursion IsOpenNode nodes → got.done ≡ true → (k : Kind)
+      → pulled_rows k 0 nodes pulled ≡ meant_by parts k nodes [] (flow ∷ []) means
+
+-- the one flow of a run's end
+record OneFlow (parts : Parts) (nodes : List DraftNode) (s : Stream)
+    (r : Runs parts nodes [] (s ∷ [])) : Type 0 where
+  pub flow : Flow
+  pub means : Means parts nodes [] (flow ∷ [])
+  pub front : IsFront s flow
+  pub counted : AllInputsDone parts nodes [] (s ∷ []) r → (k : Kind)
+      → pulled_by parts k nodes [] (s ∷ []) r ≡ meant_by parts k nodes [] (flow ∷ []) means
+
+one-flow : (parts : Parts) (nodes : List DraftNode) (s : Stream)
+    (r : Runs parts nodes [] (s ∷ [])) → Completes parts nodes [] [] (s ∷ []) r
+    → OneFlow parts nodes s r
+one-flow parts nodes s r c = go c.flows c.means c.fronts c.counted
+  where
+    go : (flows : List Flow) (m : Means parts nodes [] flows) → AllZip IsFront (s ∷ []) flows
+        → (AllInputsDone parts nodes [] (s ∷ []) r → (k : Kind)
+        → pulled_by parts k nodes [] (s ∷ []) r ≡ meant_by parts k nodes [] flows m)
+        → OneFlow parts nodes s r
+    go (f ∷ []) m z n = record { flow = f; means = m; front = z.0; counted = n }
+    go [] m z n = absurd z
+    go (f ∷ g ∷ flows) m z n = absurd z.1
+
+pub collected : (parts : Parts) (nodes : List DraftNode) (rank : ℕ)
+    (pulled pushed : NodePort → Stream) → LeavesOne nodes
+    → HasRun parts (nodes ++ collector rank ∷ []) pulled pushed
+    → (last : ℕ) → length (nodes ++ collector rank ∷ []) ≡ last + 1
+    → Collected parts nodes pulled (pulled (record { node = last; port = 0 }))
+collected parts nodes rank pulled pushed leaves run last count =
+    let b = body-run parts nodes rank pulled pushed leaves run last count in
+    let s : Stream = pushed b.end in
+    let c = completes parts nodes [] (s ∷ []) [] b.body.run tt in
+    let one = one-flow parts nodes s b.body.run c in
+    record {
+      flow = one.flow;
+      means = one.means;
+      front = pulled-front _ s one.flow b.pulls one.front;
+      counted = λ free done k.
+          let both = all-inputs-done parts nodes [] (s ∷ []) b.body.run free
+          (and_from _ _ (b.pulls.finished done) refl) in
+          sym (b.body.counted k) ∙ one.counted both.inputs k;
     }
 
 -- What the collector pulled is an answer. Where there is no limit, the nodes of each kind that is
 -- told of pulled as many rows as the plan says.
+pub body-answer : (parts : Parts) (p : SelectPlan) (rank : ℕ)
+    (pulled pushed : NodePort → Stream) → IsPlan p → IsSmall p
+    → HasRun parts (body_nodes p ++ collector rank ∷ []) pulled pushed
+    → (last : ℕ) → length (body_nodes p ++ collector rank ∷ []) ≡ last + 1
+    → (pulled (record { node = last; port = 0 })).done ≡ true
+    → PlanAnswers parts p (pulled (record { node = last; port = 0 })).rows
+    × (p.limit ≡ None → (k : Kind) → IsTold k
+    → pulled_rows k 0 (body_nodes p) pulled ≡ plan_pulls k parts p)
+body-answer parts p rank pulled pushed is small run last count done =
+    let level : Levels (body_nodes p) [] 1 14 = body-level p small in
+    let c = collected parts (body_nodes p) rank pulled pushed
+    (record { rank = level.rank; block = level.block }) run last count in
+    let block = plan-block parts p is in
+    let means = block.run [] (c.flow ∷ []) refl c.means in
+    let made = the-one c.flow means.0 in (
+      record {
+        answer = record {
+          ordered = made.ordered;
+          same_rows = made.same;
+          in_order = made.in_order;
+          is = c.front.all done ∙ made.is;
+        };
+        valid = made.valid (c.front.certain done);
+      },
+      λ unlimited k told. c.counted (block.all_open unlimited) done k
+          ∙ means.1 unlimited k told,
+    )
+  where
+    the-one : (f : Flow) → Alone (PlanMade parts p) (f ∷ []) → PlanMade parts p f
+    the-one f a = subst (PlanMade parts p) (sym (ap (λ l. get_or l 0 f) a.are)) a.has
+
+-- the same of the plan, whose collector has the last step's rank
 pub plans-answer : (parts : Parts) (p : SelectPlan) (pulled pushed : NodePort → Stream) → IsPlan p
     → IsSmall p → HasRun parts (plan_nodes p) pulled pushed
     → (last : ℕ) → length (plan_nodes p) ≡ last + 1
@@ -66,22 +157,4 @@ pub plans-answer : (parts : Parts) (p : SelectPlan) (pulled pushed : NodePort �
     × (p.limit ≡ None → (k : Kind) → IsTold k
     → pulled_rows k 0 (body_nodes p) pulled ≡ plan_pulls k parts p)
 plans-answer parts p pulled pushed is small run last count done =
-    let b = body-run parts p pulled pushed small run last count in
-    let s : Stream = pushed b.end in
-    let c = completes parts (body_nodes p) [] (s ∷ []) [] b.body.run tt in
-    let block = plan-block parts p is in
-    let means = block.run [] c.flows refl c.means in
-    let made : Alone (PlanMade parts p) c.flows = means.0 in
-    let front = subst (AllZip IsFront (s ∷ [])) made.are c.fronts in
-    let end : s.done ≡ true = b.pulls.finished done in (
-      record {
-        answer = record {
-          ordered = made.has.ordered;
-          same_rows = made.has.same;
-          in_order = made.has.in_order;
-          is = b.pulls.all done ∙ front.0.all end ∙ made.has.is;
-        };
-        valid = made.has.valid (front.0.certain end);
-      },
-      grind (arith, all-inputs-done, and_from),
-    )
+    body-answer parts p 14 pulled pushed is small run last count done

@@ -14,16 +14,18 @@ flow_made parts s t rows = record {
 }
 
 -- what a node made of the flows t, between xs and ys
-record NodeMade (parts : Parts) (node : DraftNode) (xs t ys before after : List Flow) : Type 0 where
-  pub outs : List (List Row)
-  pub makes : Makes parts node.spec (flow_rows t) outs
-  pub count : length outs ≡ node.gives
-  pub are : after ≡ xs ++ (flows_of (is_certain parts node.spec t) (is_needed parts node.spec t)
-      outs ++ ys)
-  pub pulled : (k : Kind) → if_kind k node (length (all_rows (flow_rows (taken_by node before))))
-      ≡ pulls k node.spec (length (all_rows (flow_rows t)))
+pub record NodeMade (parts : Parts) (node : DraftNode) (xs t ys before after : List Flow) : Type 0
+  where
+    pub outs : List (List Row)
+    pub makes : Makes parts node.spec (flow_rows t) outs
+    pub count : length outs ≡ node.gives
+    pub are : after ≡ xs ++ (flows_of (is_certain parts node.spec t) (is_needed parts node.spec t)
+        outs ++ ys)
+    pub pulled : (k : Kind) → if_kind k node (length (all_rows (flow_rows (taken_by node before))))
+        ≡ pulls k node.spec (length (all_rows (flow_rows t)))
 
-node-at : (parts : Parts) (node : DraftNode) (xs t ys before after : List Flow)
+-- a node between other open ends
+pub node-at : (parts : Parts) (node : DraftNode) (xs t ys before after : List Flow)
     → before ≡ xs ++ (t ++ ys) → length xs ≡ node.offset → length t ≡ node.takes
     → MeansNode parts node before after → NodeMade parts node xs t ys before after
 node-at parts node xs t ys before after is a b m = search (arith, run-at, replaced-at)
@@ -34,7 +36,7 @@ only-one P (x ∷ []) e h = (x, refl, h)
 only-one P xs e h = absurd (omega (arith, e))
 
 -- two lists of nodes, one behind the other
-record Split (parts : Parts) (front back : List DraftNode) (before after : List Flow)
+pub record Split (parts : Parts) (front back : List DraftNode) (before after : List Flow)
     (m : Means parts (front ++ back) before after) : Type 0 where
   pub middle : List Flow
   pub first : Means parts front before middle
@@ -42,7 +44,7 @@ record Split (parts : Parts) (front back : List DraftNode) (before after : List 
   pub pulled : (k : Kind) → meant_by parts k (front ++ back) before after m
       ≡ meant_by parts k front before middle first + meant_by parts k back middle after then'
 
-split : (parts : Parts) (front back : List DraftNode) (before after : List Flow)
+pub split : (parts : Parts) (front back : List DraftNode) (before after : List Flow)
     (m : Means parts (front ++ back) before after) → Split parts front back before after m
 split parts [] back before after m = record {
   middle = before;

@@ -1,23 +1,23 @@
 -- A plan's nodes counted step by step: their number, their inputs, those of a kind.
 use Rattle.plan_meaning.proofs.Prelude.{List, None, Option, Some, [], ap, arith, length, refl, suc, sum_by, zero, ℕ, ◌*◌, ◌++◌, ◌+◌, ◌∷◌, ◌≡◌, ◌≤◌, AllFitDraft, Cond, Draft, DraftNode, NodePort, SortSpec, Span, Spec, lane_nodes, length-append, run-length, source_nodes, sum_by-append, sum_by-cons, wires_to, with_node, with_nodes, PlanShape, plain, grouped, PlanJoin, SelectPlan, filter_nodes, limit_nodes, read_nodes, gather_nodes, sort_nodes, shape_nodes, plan_nodes, IsSmall, Count, counted, each_kept, kept_for, each_input, sources_count, read_count, filter_count, gather_count, sort_count, shape_count, limit_count, plan_count}
-use Rattle.query_model.specs.declared.processor_spec.Spec.TheVariants as spec
 
 -- ---- step by step
 
-counted-append : (w : Count) (xs ys : List DraftNode)
+-- counts of lists behind each other
+pub counted-append : (w : Count) (xs ys : List DraftNode)
     → counted w (xs ++ ys) ≡ counted w xs + counted w ys
 counted-append w xs ys = sum_by-append (λ (n : DraftNode). w n.spec n.takes) xs ys
 
-counted-cons : (w : Count) (x : DraftNode) (xs : List DraftNode)
+pub counted-cons : (w : Count) (x : DraftNode) (xs : List DraftNode)
     → counted w (x ∷ xs) ≡ w x.spec x.takes + counted w xs
 counted-cons w x xs = sum_by-cons (λ (n : DraftNode). w n.spec n.takes) x xs
 
-lanes-counted : (w : Count) (s : Spec) (rank i n : ℕ) → counted w (lane_nodes s rank i n) ≡ n * w s
-    1
+pub lanes-counted : (w : Count) (s : Spec) (rank i n : ℕ)
+    → counted w (lane_nodes s rank i n) ≡ n * w s 1
 lanes-counted w s rank i zero = omega arith
 lanes-counted w s rank i (suc n) = search (arith, counted-cons, lanes-counted w s rank (suc i) n)
 
-sources-counted : (w : Count) (i : ℕ) (specs : List Spec)
+pub sources-counted : (w : Count) (i : ℕ) (specs : List Spec)
     → counted w (source_nodes i specs) ≡ sources_count w specs
 sources-counted w i [] = refl
 sources-counted w i (s ∷ specs) =
@@ -29,7 +29,7 @@ read-counted w sources None lanes = search (arith, counted-append, counted-cons,
 read-counted w sources (Some j) lanes =
     simp (counted-append, counted-cons, sources-counted) (omega arith)
 
-filter-counted : (w : Count) (f : Option Cond) (rank n : ℕ)
+pub filter-counted : (w : Count) (f : Option Cond) (rank n : ℕ)
     → counted w (filter_nodes f rank n) ≡ filter_count w f n
 filter-counted w f rank n = grind (arith, lanes-counted)
 
@@ -41,14 +41,14 @@ sort-counted : (w : Count) (order : Option SortSpec) → counted w (sort_nodes o
     order
 sort-counted w order = grind (arith, counted-cons)
 
-shape-counted : (w : Count) (shape : PlanShape) (order : Option SortSpec) (lanes : ℕ)
+pub shape-counted : (w : Count) (shape : PlanShape) (order : Option SortSpec) (lanes : ℕ)
     → counted w (shape_nodes shape order lanes) ≡ shape_count w shape order lanes
 shape-counted w (plain items) order lanes =
     simp (counted-append, lanes-counted, gather-counted) (omega arith)
 shape-counted w (grouped arguments g having picks) order lanes =
     simp (counted-append, counted-cons, lanes-counted, filter-counted, sort-counted) (omega arith)
 
-limit-counted : (w : Count) (l : Option Span) → counted w (limit_nodes l) ≡ limit_count w l
+pub limit-counted : (w : Count) (l : Option Span) → counted w (limit_nodes l) ≡ limit_count w l
 limit-counted w l = grind (arith, counted-cons)
 
 -- A plan's nodes count what its steps say.
@@ -80,16 +80,16 @@ wires-counted (node ∷ nodes) d f = grind (
   counted-cons each_input node nodes,
 )
 
-sources-kept : (specs : List Spec)
+pub sources-kept : (specs : List Spec)
     → sources_count each_kept specs ≡ length specs + sum_by kept_for specs
 sources-kept [] = refl
 sources-kept (s ∷ specs) = search (arith, sum_by-cons, sources-kept specs)
 
-no-inputs : (specs : List Spec) → sources_count each_input specs ≡ 0
+pub no-inputs : (specs : List Spec) → sources_count each_input specs ≡ 0
 no-inputs [] = refl
 no-inputs (s ∷ specs) = search (arith, sum_by-cons, no-inputs specs)
 
-few-filters : (f : Option Cond) (lanes : ℕ) → (filter_count each_kept f lanes ≤ lanes)
+pub few-filters : (f : Option Cond) (lanes : ℕ) → (filter_count each_kept f lanes ≤ lanes)
     × (filter_count each_input f lanes ≤ lanes)
 few-filters f lanes = grind arith
 
@@ -98,7 +98,7 @@ few-shape : (shape : PlanShape) (order : Option SortSpec) (lanes : ℕ) → lane
     × (shape_count each_input shape order lanes ≤ 52)
 few-shape shape order lanes few = grind (arith, few-filters)
 
-few-limits : (l : Option Span) → (limit_count each_kept l ≤ 1) × (limit_count each_input l ≤ 1)
+pub few-limits : (l : Option Span) → (limit_count each_kept l ≤ 1) × (limit_count each_input l ≤ 1)
 few-limits l = grind arith
 
 -- A small plan has at most 124 nodes, with those that are kept, and few inputs.

@@ -1,7 +1,7 @@
 -- Each plan with few parts and lanes fits.
 use Rattle.std.proofs.lemmas.Grind.{common_steps}
-use Rattle.plan_meaning.proofs.Prelude.{List, None, Option, Some, [], arith, length, refl, replicate, ℕ, ◌++◌, ◌<◌, ◌∙◌, ◌∷◌, ◌≡◌, ◌≤◌, AllFitEnds, Cond, FitsBlock, Levels, SortSpec, Span, Spec, all-front', append-nil, block-append, joint-fit, joint-level, lanes-level, length-replicate, level-append, ranks_after, replaced-at, run-at, same-ranks, sources-fit, stay-level}
-use Rattle.plan_meaning.specs.Plans.{FewJoined, FewSources, IsSmall, PlanJoin, PlanShape, SelectPlan, body_nodes, filter_nodes, gather_nodes, grouped, limit_nodes, plain, plan_nodes, read_nodes, shape_nodes, sort_nodes}
+use Rattle.plan_meaning.proofs.Prelude.{List, None, Option, Some, [], arith, length, refl, replicate, ℕ, ◌++◌, ◌<◌, ◌∷◌, ◌≡◌, ◌≤◌, AllFitEnds, Cond, FitsBlock, Levels, SortSpec, Span, Spec, all-front', append-nil, block-append, joint-fit, joint-level, lanes-level, length-replicate, level-append, ranks_after, replaced-at, run-at, same-ranks, source_nodes, sources-fit, stay-level, subst}
+use Rattle.plan_meaning.specs.Plans.{FewJoined, FewSources, IsSmall, PlanJoin, PlanShape, SelectPlan, body_nodes, filter_nodes, gather_nodes, grouped, lane_steps, limit_nodes, plain, plan_nodes, read_nodes, read_steps, select_steps, shape_nodes, sort_nodes}
 use Rattle.query_model.specs.declared.processor_spec.Spec.TheVariants as spec
 
 filter-level : (f : Option Cond) (q n r t : ℕ) → r < q → q < t
@@ -27,32 +27,40 @@ join-fit j fj = grind (
   replaced-at,
 )
 
+-- so many open ends of one rank with the rows of FROM
+read-steps-level : (ends : ℕ) (join : Option PlanJoin) (lanes r : ℕ) → r < 2 → ends ≤ 32
+    → FewJoined join → lanes ≤ 16 → Levels (read_steps ends join lanes) (replicate ends r) lanes 5
+read-steps-level ends None lanes r low few fj fl =
+    joint-level spec.Resize 2 ends lanes r 5 low (omega arith) few fl
+read-steps-level ends (Some j) lanes r low few fj fl = record {
+  rank = 4;
+  low = omega arith;
+  block =
+      block-append
+      (joint-fit spec.Resize 2 ends 1 (replicate ends r) (length-replicate ends r)
+      (same-ranks ends r 2 low) few (omega arith))
+      (block-append (sources-fit j.sources 1 (2 ∷ []) refl)
+      (block-append (join-fit j fj)
+      (block-append
+      (joint-fit (spec.HashJoin j.join) 3 2 1 (2 ∷ 2 ∷ []) refl (same-ranks 2 2 3 (omega arith))
+      (omega arith) (omega arith))
+      (joint-fit spec.Resize 4 1 lanes (3 ∷ []) refl (same-ranks 1 3 4 (omega arith))
+      (omega arith) fl))));
+}
+
+-- the nodes that read are the sources, and the steps behind their ends
+pub read-is : (sources : List Spec) (join : Option PlanJoin) (lanes : ℕ)
+    → source_nodes 0 sources ++ read_steps (length sources) join lanes
+    ≡ read_nodes sources join lanes
+read-is sources None lanes = refl
+read-is sources (Some j) lanes = refl
+
 read-level : (sources : List Spec) (join : Option PlanJoin) (lanes : ℕ) → FewSources sources
     → FewJoined join → lanes ≤ 16 → Levels (read_nodes sources join lanes) [] lanes 5
-read-level sources None lanes fs fj fl =
-    let few = fs.few in
-    let p : ℕ = length sources in
-    level-append (record { rank = 1; low = omega arith; block = sources-fit sources 0 [] refl })
-    (λ r low. joint-level spec.Resize 2 p lanes r 5 low (omega arith) few fl)
-read-level sources (Some j) lanes fs fj fl =
-    let few = fs.few in
-    let p : ℕ = length sources in
-    record {
-      rank = 4;
-      low = omega arith;
-      block =
-          block-append (sources-fit sources 0 [] refl)
-          (block-append
-          (joint-fit spec.Resize 2 p 1 (replicate p 1) (length-replicate p 1)
-          (same-ranks p 1 2 (omega arith)) few (omega arith))
-          (block-append (sources-fit j.sources 1 (2 ∷ []) refl)
-          (block-append (join-fit j fj)
-          (block-append
-          (joint-fit (spec.HashJoin j.join) 3 2 1 (2 ∷ 2 ∷ []) refl (same-ranks 2 2 3 (omega arith))
-          (omega arith) (omega arith))
-          (joint-fit spec.Resize 4 1 lanes (3 ∷ []) refl (same-ranks 1 3 4 (omega arith))
-          (omega arith) fl)))));
-    }
+read-level sources join lanes fs fj fl =
+    subst (λ l. Levels l [] lanes 5) (read-is sources join lanes)
+    (level-append (record { rank = 1; low = omega arith; block = sources-fit sources 0 [] refl })
+    (λ r low. read-steps-level (length sources) join lanes r low fs.few fj fl))
 
 gather-level : (order : Option SortSpec) (lanes r : ℕ) → r < 11 → lanes ≤ 16
     → Levels (gather_nodes order lanes) (replicate lanes r) 1 13
@@ -87,14 +95,26 @@ limit-level None r low = stay-level 1 r 14 (omega (arith, low))
 limit-level (Some span) r low = joint-level (spec.Limit span) 13 1 1 r 14 low (omega arith)
     (omega arith) (omega arith)
 
+pub lane-steps-level : (p : SelectPlan) → IsSmall p → (r : ℕ) → r < 5
+    → Levels (lane_steps p) (replicate p.lanes r) 1 14
+lane-steps-level p s r low =
+    level-append (filter-level p.filter 5 p.lanes r 6 low (omega arith))
+    (λ u small. level-append (shape-level p.shape p.order p.lanes u small s.few_lanes)
+    (λ v under. limit-level p.limit v under))
+
+-- the steps behind so many ends fit, and leave one end open
+pub select-level : (p : SelectPlan) → IsSmall p → (ends r : ℕ) → r < 2 → ends ≤ 32
+    → Levels (select_steps ends p) (replicate ends r) 1 14
+select-level p s ends r low few =
+    level-append (read-steps-level ends p.join p.lanes r low few s.few_joined s.few_lanes)
+    (λ q less. lane-steps-level p s q less)
+
 -- the plan fits up to the collector, and leaves one end open
 pub body-level : (p : SelectPlan) → IsSmall p → Levels (body_nodes p) [] 1 14
 body-level p s =
     level-append
     (read-level p.sources p.join p.lanes s.few_sources s.few_joined s.few_lanes)
-    (λ r low. level-append (filter-level p.filter 5 p.lanes r 6 low (omega arith))
-    (λ u small. level-append (shape-level p.shape p.order p.lanes u small s.few_lanes)
-    (λ v under. limit-level p.limit v under)))
+    (λ r low. lane-steps-level p s r low)
 
 -- the plan fits, and leaves no end open
 pub plan-fits : (p : SelectPlan) → IsSmall p → AllFitEnds (plan_nodes p) []

@@ -1,6 +1,7 @@
 -- The meaning of a plan is the answer of its query.
-use Rattle.plan_meaning.proofs.Prelude.{Bool, IsPermutation, IsSorted, List, None, Option, Some, [], ap, ap₂, arith, cond, false, filter, flat_map, inl, inr, length, map, refl, suc, sym, true, zero, ℕ, ◌&&◌, ◌++◌, ◌+◌, ◌<◌, ◌||◌, ◌∙◌, ◌∷◌, ◌≡◌, ◌⊎◌, AggCall, AllByRecursion, AllZip, Cond, Expr, GroupSpec, IsPermutation-append, IsPermutation-filter, IsPermutation-joined_rows, IsPermutation-map, IsPermutation-same, IsPermutation-trans, Row, SortKey, SortSpec, Span, Spec, StateCall, and_from, and_parts, append-nil, both_ways, combine_of, count_up, filter-append, groups_or_default, holds, item_row, joined_rows, joint_node, lane_nodes, leb-true, length-append, length-map, length_permutation, limited, list_all, map-append, merged_groups, merged_in_any_order, or_cases, or_left, or_right, row_cmp, rows_where, source_nodes, Flow, Parts, all_certain, all_rows, any_needs, flow_rows, IsCut, IsNoLimit, IsPlan, IsSource, JoinsSources, PlanJoin, PlanShape, SelectPlan, all_valid, body_nodes, filter_nodes, filter_pulls, gather_nodes, gather_pulls, grouped, grouped_of, join_pulls, join_valid, limit_nodes, needed_valid, plain, plan_keys, plan_pulls, plan_rows, plan_valid, pulls, read_nodes, read_rows, read_valid, shape_nodes, shape_pulls, shape_rows, sort_nodes, sort_pulls, sources_rows, calls_from, merged_rows, partial_rows, Makes, is_certain, is_needed}
+use Rattle.plan_meaning.proofs.Prelude.{Bool, IsPermutation, IsSorted, List, None, Option, Some, [], ap, ap₂, arith, cond, false, filter, flat_map, inl, inr, length, map, refl, subst, suc, sym, true, zero, ℕ, ◌&&◌, ◌++◌, ◌+◌, ◌<◌, ◌||◌, ◌∙◌, ◌∷◌, ◌≡◌, ◌⊎◌, AggCall, AllByRecursion, AllZip, Cond, Expr, GroupSpec, IsPermutation-append, IsPermutation-filter, IsPermutation-joined_rows, IsPermutation-map, IsPermutation-same, IsPermutation-trans, Row, SortKey, SortSpec, Span, Spec, StateCall, and_from, and_parts, append-nil, both_ways, combine_of, count_up, filter-append, groups_or_default, holds, item_row, joined_rows, joint_node, lane_nodes, leb-true, length-append, length-map, length_permutation, limited, list_all, map-append, merged_groups, merged_in_any_order, or_cases, or_left, or_right, row_cmp, rows_where, source_nodes, Flow, Parts, all_certain, all_rows, any_needs, flow_rows, IsNoLimit, IsPlan, IsSource, JoinsSources, PlanJoin, PlanShape, SelectPlan, StopsEarly, all_valid, body_nodes, filter_nodes, filter_pulls, gather_nodes, gather_pulls, grouped, grouped_of, join_pulls, join_valid, joined_from, lane_steps, limit_nodes, made_pulls, made_rows, needed_valid, plain, plan_keys, plan_pulls, plan_valid, pulls, pulls_from, read_nodes, read_rows, read_steps, read_valid, select_steps, shape_nodes, shape_pulls, shape_rows, sort_nodes, sort_pulls, sources_rows, valid_from, calls_from, merged_rows, partial_rows, Makes, is_certain, is_needed}
 use Rattle.plan_meaning.proofs.Blocks.{Alone, Block, Both, Form, LaneMade, Spread, alone-to, block-so, block-then, form-block, joint-block, lanes-block, no-block, resize-behind, resize-block, sources-block}
+use Rattle.plan_meaning.proofs.Fitting.{read-is}
 use Rattle.query_model.specs.declared.processor_spec.Spec.TheVariants as spec
 
 -- ---- one flow
@@ -186,27 +187,20 @@ module _ {parts : Parts} {unlimited : Type 0} where
       (all_valid parts sources) true)) (λ k. refl)
       (sources-block sources 0 (λ l. l ≡ []) is (λ l e. ap length e))
 
-  read-block : (sources : List Spec) (join : Option PlanJoin) (lanes : ℕ) → 0 < lanes
-      → AllByRecursion IsSource sources → JoinsSources join
-      → Block parts unlimited (read_nodes sources join lanes) (λ l. l ≡ [])
-      (Spread lanes (read_rows parts sources join) (read_valid parts sources join)
-      (join_valid parts join)) (λ k. join_pulls k parts sources join)
-  read-block sources None lanes some is js =
-      let rows : List Row = sources_rows parts sources in
-      let valid : Bool = all_valid parts sources in
-      block-then (first-sources sources is)
-      (resize-block 2 (length sources) lanes rows valid true some)
-  read-block sources (Some j) lanes some is js =
-      let left : List Row = sources_rows parts sources in
+  -- open ends with the rows of FROM, joined with the second table where there is one
+  read-steps-block : (ends : ℕ) (join : Option PlanJoin) (lanes : ℕ) → 0 < lanes
+      → JoinsSources join → (left : List Row) (v : Bool)
+      → Block parts unlimited (read_steps ends join lanes) (Spread ends left v true)
+      (Spread lanes (joined_from parts join left) (valid_from parts join v)
+      (join_valid parts join)) (λ k. pulls_from k parts join left)
+  read-steps-block ends None lanes some js left v = resize-block 2 ends lanes left v true some
+  read-steps-block ends (Some j) lanes some js left v =
       let right : List Row = sources_rows parts j.sources in
-      let v : Bool = all_valid parts sources in
       let w : Bool = all_valid parts j.sources in
-      let n : ℕ = length sources in
       let m : ℕ = length j.sources in
       let rows : List Row = joined_rows j.join.pairs left right in
       block-so (λ l e. e) (λ l h. h) (λ k. omega arith)
-      (block-then (first-sources sources is)
-      (block-then (resize-block 2 n 1 left v true (omega arith))
+      (block-then (resize-block 2 ends 1 left v true (omega arith))
       (block-then (sources-block j.sources 1 (Spread 1 left v true) js (λ l h. h.count))
       (block-then
       (resize-behind 2 1 m 1 (Spread 1 left v true) right w true (omega arith) (λ l h. h.count))
@@ -225,7 +219,7 @@ module _ {parts : Parts} {unlimited : Type 0} where
       (let a = length_permutation _ _ h.0.same in
       let b = one-rows right w true p.1 h.1 in
       omega (arith, a, b, length-append p.0.rows (p.1.rows ++ []))))))
-      (resize-block 4 1 lanes rows (v && w) w some))))))
+      (resize-block 4 1 lanes rows (v && w) w some)))))
     where
       two-flows : {xs ys : List Row} {c d : Bool} {l : List Flow}
           → Both (Spread 1 xs c true) (Spread 1 ys d true) l
@@ -239,6 +233,20 @@ module _ {parts : Parts} {unlimited : Type 0} where
             are = b.are ∙ ap₂ (λ x y. x ++ y) a.are o.are;
             has = (a.has, o.has);
           }
+
+  read-block : (sources : List Spec) (join : Option PlanJoin) (lanes : ℕ) → 0 < lanes
+      → AllByRecursion IsSource sources → JoinsSources join
+      → Block parts unlimited (read_nodes sources join lanes) (λ l. l ≡ [])
+      (Spread lanes (read_rows parts sources join) (read_valid parts sources join)
+      (join_valid parts join)) (λ k. join_pulls k parts sources join)
+  read-block sources join lanes some is js =
+      subst (λ l. Block parts unlimited l (λ l. l ≡ [])
+      (Spread lanes (read_rows parts sources join) (read_valid parts sources join)
+      (join_valid parts join)) (λ k. join_pulls k parts sources join)) (read-is sources join lanes)
+      (block-so (λ l e. e) (λ l h. h) (λ k. omega arith)
+      (block-then (first-sources sources is)
+      (read-steps-block (length sources) join lanes some js (sources_rows parts sources)
+      (all_valid parts sources))))
 
   gather-block : (order : Option SortSpec) (lanes : ℕ) (rows : List Row) (c n : Bool)
       → Block parts unlimited (gather_nodes order lanes) (Spread lanes rows c n)
@@ -351,23 +359,25 @@ module _ {parts : Parts} {unlimited : Type 0} where
 
 -- ---- the whole
 
--- the one end of the plan
-pub record PlanMade (parts : Parts) (p : SelectPlan) (flow : Flow) : Type 0 where
+-- What a SELECT makes of the rows that it reads. `v` tells whether those are certain, and `n`
+-- whether what is needed before one of them is read is there.
+pub record SelectMade (p : SelectPlan) (rows : List Row) (v n : Bool) (flow : Flow) : Type 0 where
   pub ordered : List Row
-  pub same : IsPermutation (plan_rows parts p) ordered
+  pub same : IsPermutation (made_rows p rows) ordered
   pub in_order : IsSorted (row_cmp (plan_keys p.order)) ordered
   pub is : flow.rows ≡ limited p.limit ordered
-  pub valid : flow.certain ≡ true → (plan_valid parts p ≡ true) ⊎ IsCut parts p
+  pub valid : flow.certain ≡ true → (v ≡ true) ⊎ StopsEarly p rows v n
 
 -- the flow before the limit
-abbrev PlanOrdered : Parts → SelectPlan → Flow → Type 0
-PlanOrdered parts p = Ordered (plan_keys p.order) (plan_rows parts p) (plan_valid parts p)
-    (needed_valid p.shape p.order (plan_valid parts p) (join_valid parts p.join))
+abbrev SelectOrdered : SelectPlan → List Row → (v n : Bool) → Flow → Type 0
+SelectOrdered p rows v n = Ordered (plan_keys p.order) (made_rows p rows) v
+    (needed_valid p.shape p.order v n)
 
-limit-block : (parts : Parts) (p : SelectPlan) (limit : Option Span) → p.limit ≡ limit
-    → Block parts (p.limit ≡ None) (limit_nodes limit) (Alone (PlanOrdered parts p))
-    (Alone (PlanMade parts p)) (λ k. 0)
-limit-block parts p limit e = grind (
+limit-block : (parts : Parts) (p : SelectPlan) (rows : List Row) (v n : Bool)
+    (limit : Option Span) → p.limit ≡ limit
+    → Block parts (p.limit ≡ None) (limit_nodes limit) (Alone (SelectOrdered p rows v n))
+    (Alone (SelectMade p rows v n)) (λ k. 0)
+limit-block parts p rows v n limit e = grind (
   arith,
   no-block,
   form-block,
@@ -379,20 +389,41 @@ limit-block parts p limit e = grind (
   length_permutation,
 )
 
+-- What the steps in the lanes make of the rows that are read, whatever stood in FROM.
+pub lane-block : (parts : Parts) (p : SelectPlan) (rows : List Row) (v n : Bool)
+    → Block parts (p.limit ≡ None) (lane_steps p) (Spread p.lanes rows v n)
+    (Alone (SelectMade p rows v n)) (λ k. made_pulls k p rows)
+lane-block parts p rows v n =
+    block-so (λ l e. e) (λ l h. h) (λ k. omega arith)
+    (block-then (filter-block p.filter 5 p.lanes rows v n)
+    (block-then
+    (shape-block p.shape p.order p.lanes (rows_where p.filter rows) v n)
+    (limit-block parts p rows v n p.limit refl)))
+
+-- What the steps of a SELECT make of the rows that stand at the open ends in the place of its
+-- FROM table's sources.
+pub select-block : (parts : Parts) (p : SelectPlan) (ends : ℕ) (left : List Row) (v : Bool)
+    → 0 < p.lanes → JoinsSources p.join
+    → Block parts (p.limit ≡ None) (select_steps ends p) (Spread ends left v true)
+    (Alone (SelectMade p (joined_from parts p.join left) (valid_from parts p.join v)
+    (join_valid parts p.join)))
+    (λ k. pulls_from k parts p.join left + made_pulls k p (joined_from parts p.join left))
+select-block parts p ends left v some js =
+    block-then (read-steps-block ends p.join p.lanes some js left v)
+    (lane-block parts p (joined_from parts p.join left) (valid_from parts p.join v)
+    (join_valid parts p.join))
+
+-- the one end of the plan
+abbrev pub PlanMade : Parts → SelectPlan → Flow → Type 0
+PlanMade parts p = SelectMade p (read_rows parts p.sources p.join) (plan_valid parts p)
+    (join_valid parts p.join)
+
 -- What all nodes but the collector make. Where there is no limit, the nodes of a kind together pull
 -- as many rows as the plan says.
 pub plan-block : (parts : Parts) (p : SelectPlan) → IsPlan p
     → Block parts (p.limit ≡ None) (body_nodes p) (λ l. l ≡ []) (Alone (PlanMade parts p))
     (λ k. plan_pulls k parts p)
 plan-block parts p is =
-    let rows : List Row = read_rows parts p.sources p.join in
-    let all : Bool = plan_valid parts p in
-    let join : Bool = join_valid parts p.join in
-    let unlimited : Type 0 = p.limit ≡ None in
-    block-so (λ l e. e) (λ l h. h) (λ k. omega arith)
-    (block-then
-    (read-block p.sources p.join p.lanes is.some_lanes is.sources is.join)
-    (block-then (filter-block p.filter 5 p.lanes rows all join)
-    (block-then
-    (shape-block p.shape p.order p.lanes (rows_where p.filter rows) all join)
-    (limit-block parts p p.limit refl))))
+    block-then (read-block p.sources p.join p.lanes is.some_lanes is.sources is.join)
+    (lane-block parts p (read_rows parts p.sources p.join) (plan_valid parts p)
+    (join_valid parts p.join))

@@ -1,6 +1,6 @@
 -- Where the types at the open ends fit each node, each chunk that a run pulled fits, and so each
 -- node gives what its kind promises.
-use Rattle.plan_meaning.proofs.Prelude.{Any, List, [], arith, length, map, replicate, subst, suc, sym, ℕ, ◌++◌, ◌∙◌, ◌∷◌, ◌≡◌, length-map, AllByRecursion, AllFitDraft, AllZip, Draft, DraftNode, NodePort, Spec, every-append, every-front, every-weaker, given-map, given_by, ports-length, ports_of, taken-map, taken_by, with_node, with_nodes, AllTyped, EachGivesIf, FitFrom, HasTypes, MakesType, Types, TypesFit, TypesNode, pulled_types, Parts, Stream, AllPull, EachGives, Pulls}
+use Rattle.plan_meaning.proofs.Prelude.{Any, List, [], arith, length, map, replicate, subst, suc, sym, ℕ, ◌++◌, ◌∷◌, ◌≡◌, length-map, AllByRecursion, AllFitDraft, AllZip, Draft, DraftNode, NodePort, Spec, every-append, every-front, every-weaker, given-map, given_by, ports-length, ports_of, taken-map, taken_by, with_node, with_nodes, AllTyped, EachGivesIf, FitFrom, HasTypes, MakesType, Types, TypesFit, TypesNode, TypesTo, pulled_types, Parts, Stream, AllPull, EachGives, Pulls}
 use Rattle.plan_meaning.proofs.Runs.{next-node, node-pulls}
 use Rattle.plan_meaning.proofs.Zips.{zip-chain, zip-given, zip-taken}
 
@@ -63,3 +63,17 @@ each-typed parts pulled pushed (node ∷ nodes) d types f z t g w =
           (given_by node (replicate node.gives here.made) types) f.1 after t.1
           (subst (λ k. EachGivesIf parts k nodes pulled pushed) (sym next) g.1) w),
     )
+
+-- ---- lists of nodes
+
+-- a list of nodes behind another
+pub typed-append : (xs ys : List DraftNode) (a b c : List Types) → TypesTo xs a b → TypesTo ys b c
+    → TypesTo (xs ++ ys) a c
+typed-append [] ys a b c f g = subst (λ l. TypesTo ys l c) f g
+typed-append (x ∷ xs) ys a b c f g =
+    (f.0, typed-append xs ys (given_by x (replicate x.gives f.0.made) a) b c f.1 g)
+
+pub typed-all : (nodes : List DraftNode) (a b : List Types) → TypesTo nodes a b → AllTyped nodes a
+typed-all [] a b f = tt
+typed-all (node ∷ nodes) a b f =
+    (f.0, typed-all nodes (given_by node (replicate node.gives f.0.made) a) b f.1)

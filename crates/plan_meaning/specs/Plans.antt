@@ -35,17 +35,23 @@ pub record SelectPlan : Type 0 where
   pub limit : Option Span
   pub lanes : ℕ
 
-abbrev pub read_nodes : List Spec → Option PlanJoin → ℕ → List DraftNode
-read_nodes sources None lanes = source_nodes 0 sources ++ joint_node spec.Resize 2 (length sources)
-    lanes ∷ []
-read_nodes sources (Some j) lanes =
-    source_nodes 0 sources
-    ++ (joint_node spec.Resize 2 (length sources) 1
+-- From so many open ends with the rows of FROM to the lanes, joined with the second table where
+-- there is one. The ends are those of a table's sources, or the one end of a subquery.
+abbrev pub read_steps : ℕ → Option PlanJoin → ℕ → List DraftNode
+read_steps ends None lanes = joint_node spec.Resize 2 ends lanes ∷ []
+read_steps ends (Some j) lanes =
+    joint_node spec.Resize 2 ends 1
     ∷ (source_nodes 1 j.sources
     ++ (record { spec = spec.Resize; rank = 2; offset = 1; takes = length j.sources; gives = 1 }
     ∷ joint_node (spec.HashJoin j.join) 3 2 1
     ∷ joint_node spec.Resize 4 1 lanes
-    ∷ [])))
+    ∷ []))
+
+-- by cases, so that it stays folded where the join isn't known
+abbrev pub read_nodes : List Spec → Option PlanJoin → ℕ → List DraftNode
+read_nodes sources None lanes = source_nodes 0 sources ++ read_steps (length sources) None lanes
+read_nodes sources (Some j) lanes =
+    source_nodes 0 sources ++ read_steps (length sources) (Some j) lanes
 
 -- so many lanes to one, in the order of the keys where there is one
 abbrev pub gather_nodes : Option SortSpec → ℕ → List DraftNode
@@ -68,14 +74,26 @@ shape_nodes (grouped arguments g having picks) order lanes =
     ++ (lane_nodes (spec.Expression picks) 10 0 1
     ++ sort_nodes order))))
 
+-- what is made of the rows in the lanes, down to one end
+abbrev pub lane_steps : SelectPlan → List DraftNode
+lane_steps p =
+    filter_nodes p.filter 5 p.lanes
+    ++ (shape_nodes p.shape p.order p.lanes ++ limit_nodes p.limit)
+
+-- the steps behind so many open ends with the rows of FROM
+abbrev pub select_steps : ℕ → SelectPlan → List DraftNode
+select_steps ends p = read_steps ends p.join p.lanes ++ lane_steps p
+
 -- all nodes but the collector
 abbrev pub body_nodes : SelectPlan → List DraftNode
-body_nodes p = read_nodes p.sources p.join p.lanes
-    ++ (filter_nodes p.filter 5 p.lanes
-    ++ (shape_nodes p.shape p.order p.lanes ++ limit_nodes p.limit))
+body_nodes p = read_nodes p.sources p.join p.lanes ++ lane_steps p
+
+-- the collector of the one end that a list of nodes leaves open
+abbrev pub collector : ℕ → DraftNode
+collector rank = joint_node spec.Collect rank 1 0
 
 abbrev pub collect_node : DraftNode
-collect_node = joint_node spec.Collect 14 1 0
+collect_node = collector 14
 
 abbrev pub plan_nodes : SelectPlan → List DraftNode
 plan_nodes p = body_nodes p ++ collect_node ∷ []
@@ -135,16 +153,21 @@ sources_rows parts sources = flat_map (source_list parts) sources
 abbrev pub all_valid : Parts → List Spec → Bool
 all_valid parts sources = list_all (is_valid_source parts) sources
 
--- the rows that are read, whether all parts are valid, and whether those are that must be before a
--- row is read
+-- the rows that are read where FROM has these, and whether all parts are valid where those of FROM
+-- are; and whether those parts are valid that must be before a row is read
+abbrev pub joined_from : Parts → Option PlanJoin → List Row → List Row
+joined_from parts None left = left
+joined_from parts (Some j) left = joined_rows j.join.pairs left (sources_rows parts j.sources)
+
+abbrev pub valid_from : Parts → Option PlanJoin → Bool → Bool
+valid_from parts None left = left
+valid_from parts (Some j) left = left && all_valid parts j.sources
+
 abbrev pub read_rows : Parts → List Spec → Option PlanJoin → List Row
-read_rows parts sources None = sources_rows parts sources
-read_rows parts sources (Some j) = joined_rows j.join.pairs (sources_rows parts sources)
-    (sources_rows parts j.sources)
+read_rows parts sources join = joined_from parts join (sources_rows parts sources)
 
 abbrev pub read_valid : Parts → List Spec → Option PlanJoin → Bool
-read_valid parts sources None = all_valid parts sources
-read_valid parts sources (Some j) = all_valid parts sources && all_valid parts j.sources
+read_valid parts sources join = valid_from parts join (all_valid parts sources)
 
 abbrev pub join_valid : Parts → Option PlanJoin → Bool
 join_valid parts None = true
@@ -158,9 +181,13 @@ shape_rows (plain items) rows = map (item_row items) rows
 shape_rows (grouped arguments g having picks) rows =
     map (item_row picks) (rows_where having (grouped_of g (map (item_row arguments) rows)))
 
+-- what is made of the rows that are read, before order and limit
+abbrev pub made_rows : SelectPlan → List Row → List Row
+made_rows p rows = shape_rows p.shape (rows_where p.filter rows)
+
 -- the rows before order and limit
 abbrev pub plan_rows : Parts → SelectPlan → List Row
-plan_rows parts p = shape_rows p.shape (rows_where p.filter (read_rows parts p.sources p.join))
+plan_rows parts p = made_rows p (read_rows parts p.sources p.join)
 
 abbrev pub plan_valid : Parts → SelectPlan → Bool
 plan_valid parts p = read_valid parts p.sources p.join
@@ -181,10 +208,15 @@ abbrev pub HasEnough : Option Span → List Row → Type 0
 HasEnough None rows = ⊥
 HasEnough (Some span) rows = enough span ≤ length rows
 
--- a limit has enough rows, and what must be valid before a row passes is
-pub record IsCut (parts : Parts) (p : SelectPlan) : Type 0 where
-  pub enough_rows : HasEnough p.limit (plan_rows parts p)
-  pub needed : needed_valid p.shape p.order (plan_valid parts p) (join_valid parts p.join) ≡ true
+-- A limit has enough of what is made of the rows that are read, and what must be valid before a row
+-- passes is. `v` tells whether all that is read is valid, and `n` whether the second table is.
+pub record StopsEarly (p : SelectPlan) (rows : List Row) (v n : Bool) : Type 0 where
+  pub enough_rows : HasEnough p.limit (made_rows p rows)
+  pub needed : needed_valid p.shape p.order v n ≡ true
+
+abbrev pub IsCut : Parts → SelectPlan → Type 0
+IsCut parts p = StopsEarly p (read_rows parts p.sources p.join) (plan_valid parts p)
+    (join_valid parts p.join)
 
 -- What was collected is an answer over the rows before the first bad record of each part. All parts
 -- are valid, or a limit cut the run short.
@@ -198,10 +230,14 @@ pub record PlanAnswers (parts : Parts) (p : SelectPlan) (rows : List Row) : Type
 abbrev pub pulls : Kind → Spec → ℕ → ℕ
 pulls k s n = cond (same_kind (kind_of s) k) n 0
 
+-- a join of FROM's rows
+abbrev pub pulls_from : Kind → Parts → Option PlanJoin → List Row → ℕ
+pulls_from k parts None left = 0
+pulls_from k parts (Some j) left = pulls k (spec.HashJoin j.join)
+    (length left + length (sources_rows parts j.sources))
+
 abbrev pub join_pulls : Kind → Parts → List Spec → Option PlanJoin → ℕ
-join_pulls k parts sources None = 0
-join_pulls k parts sources (Some j) = pulls k (spec.HashJoin j.join)
-    (length (sources_rows parts sources) + length (sources_rows parts j.sources))
+join_pulls k parts sources join = pulls_from k parts join (sources_rows parts sources)
 
 abbrev pub filter_pulls : Kind → Option Cond → ℕ → ℕ
 filter_pulls k None n = 0
@@ -227,11 +263,14 @@ shape_pulls k (grouped arguments g having picks) order rows =
     + (pulls k (spec.Expression picks) (length (rows_where having groups)) + sort_pulls k order
     (length (rows_where having groups)))))
 
+-- of the rows that are read
+abbrev pub made_pulls : Kind → SelectPlan → List Row → ℕ
+made_pulls k p rows =
+    filter_pulls k p.filter (length rows) + shape_pulls k p.shape p.order (rows_where p.filter rows)
+
 abbrev pub plan_pulls : Kind → Parts → SelectPlan → ℕ
 plan_pulls k parts p =
-    join_pulls k parts p.sources
-    p.join + (filter_pulls k p.filter (length (read_rows parts p.sources p.join)) + shape_pulls
-    k p.shape p.order (rows_where p.filter (read_rows parts p.sources p.join)))
+    join_pulls k parts p.sources p.join + made_pulls k p (read_rows parts p.sources p.join)
 
 -- a kind of which the flow of a query tells; the numbers of rows at the others aren't told
 pub record IsTold (k : Kind) : Type 0 where

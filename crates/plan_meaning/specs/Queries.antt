@@ -1,9 +1,9 @@
 -- The plan of a checked query.
-use Rattle.std.specs.Prelude.{List, None, Option, Some, [], is_none, map, slice_index_or, ℕ, ◌++◌, ◌∷◌, ◌≡◌}
+use Rattle.std.specs.Prelude.{List, None, Option, Some, [], is_none, map, ℕ, ◌++◌, ◌∷◌, ◌≡◌}
 use Rattle.plan_meaning.specs.Prelude.{AggCall, AllByRecursion, Checked, ColumnType, Database, Expr, ExprOf, GroupSpec, Grouped, Grouping, Plain, Shape, StateCall, call_type, is_count, source_rows, source_table}
 use Rattle.plan_meaning.specs.Streams.{Parts}
 use Rattle.plan_meaning.specs.Plans.{PlanShape, SelectPlan, grouped, plain, plan_keys, read_rows}
-use Rattle.chunk_data.specs.declared.typed_value.ColumnType.TheVariants as column
+use Rattle.chunk_data.specs.Values.{type_at}
 use Rattle.query_model.specs.declared.query.ExprOf.TheVariants as expr
 
 abbrev pub with_argument : Option (ExprOf ℕ) → List Expr → List Expr
@@ -23,7 +23,7 @@ state_of types call = record { op = call.op; kind = call_type call.op call.arg t
 
 abbrev pub group_spec : Grouping → List ColumnType → ℕ → GroupSpec
 group_spec g types rows = record {
-  keys = map (λ c. slice_index_or types c column.Text) g.keys;
+  keys = map (type_at types) g.keys;
   calls = map (state_of types) g.calls;
   lone = g.lone;
   rows = rows;

@@ -72,3 +72,9 @@ abbrev pub AllTyped : List DraftNode → List Types → Type 0
 AllTyped [] before = ⊤
 AllTyped (node ∷ nodes) before = (t : TypesNode node before)
     × AllTyped nodes (given_by node (replicate node.gives t.made) before)
+
+-- the types fit each node in turn, and leave those
+abbrev pub TypesTo : List DraftNode → List Types → List Types → Type 0
+TypesTo [] before after = after ≡ before
+TypesTo (node ∷ nodes) before after = (t : TypesNode node before)
+    × TypesTo nodes (given_by node (replicate node.gives t.made) before) after

@@ -8,7 +8,7 @@ use Rattle.query_model.specs.declared.processor_spec.Spec.TheVariants as spec
 use Rattle.proc_api.specs.Graphs.{IsGraph}
 use Rattle.proc_api.specs.Reserves.{AreReserves, AreStarting, is_reserved}
 use Rattle.exec_laws.specs.declared.growth.GrowthFlaw.{GrowthFlaw}
-use Rattle.pipeline_exec.specs.Ends.{Begun, EndsBadly, HasGrown}
+use Rattle.pipeline_exec.specs.Ends.{Begun, EndsBadly, HasGrown, HasGrownByAll}
 use Rattle.proc_api.specs.Names.{BoxPicture, IsBlank, IsSourceKind, HasNoReader, Unloads, handed_out_by, raised}
 use Rattle.proc_api.specs.declared.status.WorkFault.{WorkFault}
 use Rattle.exec_laws.specs.Names.{box_at, IsDone, IsFault, IsStuck}
@@ -118,7 +118,7 @@ pub record GivesRows (R : List BoxPicture → Type 0) (nodes : ℕ) (chunks : Li
     : Type 0 where
   pub ended : List BoxPicture
   pub runs : R ended
-  pub done : HasGrown b ended (λ wires. IsDone wires ended)
+  pub done : HasGrownByAll b ended (λ wires. IsDone wires ended)
   pub rows : chunks ≡ handed_out_by (box_at ended (nodes - 1)).kind (box_at ended (nodes - 1)).work
 
 -- a box of a kind that reads no file has no reader

@@ -1,8 +1,7 @@
 // Copies of conditions and items, in boxes of their own.
 ghost use Rattle.std.specs.Prelude.{◌≡◌, map, IfOk};
-ghost use Rattle.query_model.specs.Formulas.{formula};
+ghost use Rattle.query_model.specs.Formulas.{argument_form, cond_form, formula, operand_form};
 ghost use Rattle.query_model.specs.declared.query.CondOf.TheVariants as condition;
-ghost use Rattle.proc_api.specs.Forms.{argument_form, operand_form, cond_form};
 
 use chunk_data::{List, Memory};
 use query_model::checked::{Cond, Expr};

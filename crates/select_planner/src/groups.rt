@@ -1,13 +1,12 @@
 // What a grouped query fills in of the steps.
-ghost use Rattle.std.specs.Prelude.{◌≡◌, ◌++◌, [], map, slice_index_or, IfOk, OnOk};
+ghost use Rattle.std.specs.Prelude.{◌≡◌, ◌++◌, [], map, IfOk, OnOk};
 ghost use Rattle.query_model.specs.Formulas.{formula};
-ghost use Rattle.query_model.specs.Names.{type_of};
-ghost use Rattle.chunk_data.specs.declared.typed_value.ColumnType.TheVariants.{Text};
+ghost use Rattle.chunk_data.specs.Values.{type_at as type_at_place};
 ghost use Rattle.plan_meaning.specs.Names.{call_arguments, columns_of, group_spec, state_of, with_argument};
 
-use chunk_data::{ColumnType, List, Memory};
+use chunk_data::{ColumnType, List, Memory, type_at};
 use query_model::checked::{Expr, Grouping};
-use query_model::plain::{copy_expr, results_in_uint};
+use query_model::plain::{copy_expr, expr_type};
 use query_model::processor_spec::{GroupSpec, StateCall};
 use query_model::query::{AggCall, AggOp, ExprOf};
 use std::alloc::Global;
@@ -76,11 +75,11 @@ pub(crate) fn group_spec(
 }
 
 fn key_types(alloc: Global, keys: &[u32], types: &[ColumnType]) -> Result<List<ColumnType>, Memory>
-    ensures { IfOk result (λ l. l ≡ map (λ c. slice_index_or types.now c Text) keys.now) }
+    ensures { IfOk result (λ l. l ≡ map (type_at_place types.now) keys.now) }
 {
     let mut of_keys = Vec::new(alloc);
     for key in keys {
-        of_keys.push(column_type(*key, types))?;
+        of_keys.push(type_at(types, *key as usize))?;
     }
     Ok(List::from_vec(of_keys))
 }
@@ -104,43 +103,7 @@ fn state_of(call: &AggCall<u32>, types: &[ColumnType]) -> StateCall
 {
     let kind = match (call.op, &call.arg) {
         (AggOp::Count, _) | (_, None) => ColumnType::UInt64,
-        (_, Some(e)) => argument_type(e, types),
+        (_, Some(e)) => expr_type(e, types),
     };
     StateCall { op: call.op, kind }
-}
-
-/// The type of an expression, of which a column past the last is a text.
-#[tactic(auto, unfolding(query_model::specs::Expressions::type_of))]
-fn argument_type(e: &Expr, types: &[ColumnType]) -> ColumnType
-    ensures { result ≡ type_of e.now types.now }
-{
-    match e {
-        ExprOf::Column(c) => column_type(*c, types),
-        ExprOf::Number(n) => {
-            if n.negative && n.size > 0 {
-                ColumnType::Int64
-            } else {
-                ColumnType::UInt64
-            }
-        }
-        ExprOf::Arith(op, a, b) => {
-            let left = matches!(argument_type(a, types), ColumnType::UInt64);
-            let right = matches!(argument_type(b, types), ColumnType::UInt64);
-            if results_in_uint(*op, left, right) {
-                ColumnType::UInt64
-            } else {
-                ColumnType::Int64
-            }
-        }
-    }
-}
-
-fn column_type(column: u32, types: &[ColumnType]) -> ColumnType
-    ensures { result ≡ slice_index_or types.now column Text }
-{
-    if (column as usize) < types.len() {
-        types[column as usize]
-    } else {
-        ColumnType::Text
-    }
 }
