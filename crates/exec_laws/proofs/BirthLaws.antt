@@ -1,5 +1,5 @@
 -- Births add up: those of a run are the ones so far, and then the next.
-use Rattle.exec_laws.proofs.Words.{rules, AllByRecursion, AreBirths, AreOnce, Birth, Bool, BoxPicture, GivesBox, GrowthForm, HasForm, IsBirth, IsBlank, IsBorn, IsSome, IsTrue, KeepsBox, List, MayGrow, None, Option, Reserve, Some, Spec, SpecForm, TakeBlanks, Wire, [], all_places, ap, append-nil, append_assoc, arith, births_of, blanks_of, box_at, cases_Bool, cases_eq, cases_lt, cond, eq-eqb, false, flat_map-append, form_kind, get_or, get_or-append_right, get_or_append_left, grown_ranks, grown_wires, growth_list, growths_of, inl, inr, is_place, is_some, kept_growths, length, length-append, list_any, list_any-append, map, map-append, ne_eqb, or_parts, or_right, places_for, refl, reserve_of, set_ranks, subst, suc, sum_by-append, sym, true, wired_by, zero, ℕ, ◌++◌, ◌+◌, ◌-◌, ◌<◌, ◌==◌, ◌||◌, ◌∙◌, ◌∷◌, ◌≡◌, ◌≤◌}
+use Rattle.exec_laws.proofs.Words.{rules, AllByRecursion, AreAllBorn, AreBirths, AreOnce, Birth, Bool, BoxPicture, GivesBox, GrowthForm, HasForm, IsBirth, IsBlank, IsBorn, IsSome, IsTrue, KeepsBox, List, MayGrow, None, Option, Reserve, Some, Spec, SpecForm, TakeBlanks, Wire, [], all_places, ap, append-nil, append_assoc, arith, births_of, blanks_of, box_at, cases_Bool, cases_eq, cases_lt, cond, eq-eqb, false, flat_map-append, form_kind, get_or, get_or-append_right, get_or_append_left, grown_ranks, grown_wires, growth_list, growths_of, inl, inr, is_place, is_some, kept_growths, length, length-append, list_any, list_any-append, map, map-append, ne_eqb, or_parts, or_right, places_for, refl, reserve_of, set_ranks, subst, suc, sum_by-append, sym, true, wired_by, zero, ℕ, ◌++◌, ◌+◌, ◌-◌, ◌<◌, ◌==◌, ◌||◌, ◌∙◌, ◌∷◌, ◌≡◌, ◌≤◌}
 use Rattle.exec_laws.proofs.Acting.{stays-both}
 use Rattle.exec_laws.proofs.Nodes.{not-blank}
 
@@ -150,7 +150,8 @@ gives-both p q r h k = search (rules, stays-both)
 module _ (reserves : List Reserve) (a b c : List BoxPicture)
     (k : (n : ℕ) → GivesBox (box_at a n) (box_at b n))
     (l : (n : ℕ) → GivesBox (box_at b n) (box_at c n)) (xs ys : List Birth)
-    (h : AreBirths reserves a b xs) (g : AreBirths reserves b c ys) where
+    (h : AreBirths reserves a b xs) (g : AreBirths reserves b c ys) (first : AreAllBorn a b xs)
+    (then : AreAllBorn b c ys) where
   stays-born : (n : ℕ) → IsBorn (box_at b n) → (box_at c n).spec ≡ (box_at b n).spec
   stays-born n born = ((l n).born born).same.spec
 
@@ -211,6 +212,12 @@ module _ (reserves : List Reserve) (a b c : List BoxPicture)
         (takes-then (e ++ z ∷ []) zs t.1),
   )
 
+  pub all-born-both : AreAllBorn a c (xs ++ ys)
+  all-born-both n lawful =
+      then n lawful ∙ ap (λ l. l ++ growths_of n ys) (first n (lawful-before n lawful))
+      ∙ append_assoc (kept_growths (box_at a n)) _ _
+      ∙ ap (λ l. kept_growths (box_at a n) ++ l) (sym (growths-append n xs ys))
+
   pub births-both : AreBirths reserves a c (xs ++ ys)
   births-both = record {
     each = all-both (IsBirth reserves a c) xs ys
@@ -243,16 +250,17 @@ module _ (reserves : List Reserve) (a b c : List BoxPicture)
     stay_blank = λ n none away.
         let both = or_parts (is_place xs n) (is_place ys n) (sym (is-place-both xs ys n) ∙ away) in
         g.stay_blank n (h.stay_blank n none both.0) both.1;
-    grew = λ n lawful.
-        g.grew n lawful ∙ ap (λ l. l ++ growths_of n ys) (h.grew n (lawful-before n lawful))
-        ∙ append_assoc (kept_growths (box_at a n)) _ _
-        ∙ ap (λ l. kept_growths (box_at a n) ++ l) (sym (growths-append n xs ys));
+    grew = λ n lawful some. all-born-both n lawful;
   }
 
 -- where each box stays, none was born
 pub no-births : (reserves : List Reserve) (a b : List BoxPicture)
     → ((n : ℕ) → KeepsBox (box_at a n) (box_at b n)) → AreBirths reserves a b []
-no-births reserves a b k = search (rules, append-nil, cases_Bool, none-of)
+no-births reserves a b k = search (rules, cases_Bool, none-of)
+
+pub none-born : (a b : List BoxPicture) → ((n : ℕ) → KeepsBox (box_at a n) (box_at b n))
+    → AreAllBorn a b []
+none-born a b k = search (rules, append-nil, cases_Bool, none-of)
 
 -- ---- what a lawful box may give
 
@@ -275,13 +283,14 @@ grown-by P n (b ∷ births) g rest h e = elim (cases_eq b.expander n) [
 
 -- a lawful box that hadn't grown before keeps, if any, a growth that it may give
 pub grows-lawfully : (reserves : List Reserve) (a b : List BoxPicture) (births : List Birth)
-    → AreBirths reserves a b births → (n : ℕ) → kept_growths (box_at a n) ≡ []
+    → AreBirths reserves a b births → AreAllBorn a b births → (n : ℕ)
+    → kept_growths (box_at a n) ≡ []
     → IsBorn (box_at b n) → IsTrue (box_at b n).lawful
     → MayGrow (box_at b n).spec (box_at b n).files (box_at b n).growth
-grows-lawfully reserves a b births h n none born lawful = go (box_at b n).growth refl
+grows-lawfully reserves a b births h all n none born lawful = go (box_at b n).growth refl
   where
     kept : growth_list (box_at b n).growth ≡ growths_of n births
-    kept = rw (born, none) at (h.grew n lawful)
+    kept = rw (born, none) at (all n lawful)
 
     go : (g : Option GrowthForm) → (box_at b n).growth ≡ g
         → MayGrow (box_at b n).spec (box_at b n).files g

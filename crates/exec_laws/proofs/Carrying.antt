@@ -6,7 +6,7 @@ use Rattle.exec_laws.proofs.Sides.{Passes, QuietEnd, acts-here, acts-there, end-
 
 -- ---- a view whose actions were taken
 
-mark-taken : (s : NodeState) (last : Option Status) (m n : ℕ) (p : BoxPicture) (v : Picture)
+pub mark-taken : (s : NodeState) (last : Option Status) (m n : ℕ) (p : BoxPicture) (v : Picture)
     (xs : List Action) → MarkHolds s last m n p v → MarkHolds s last m n p (with_actions v xs)
 unfolding with_actions input_at output_at in_count out_count
 mark-taken s last m n p v xs h1 = search rules

@@ -1,7 +1,7 @@
 -- The names that proofs about runs use, in one place: who needs several of them imports from here.
 pub use Rattle.exec_laws.specs.Births.{growth_list}
 pub use Rattle.exec_laws.specs.Growths.{all_kinds, end_node, end_rank, form_kind, has_gap, has_large_port, has_wrong_end, is_blank_of, is_named, is_out_of_order, is_port_taken, lacks_blank}
-pub use Rattle.exec_laws.specs.Names.{Acts, ActsCell, AreBirths, AreEdgesOf, AreOnce, AsksToGrow, Birth, BoxHolds, CellPicture, ContradictsStatus, EdgeState, EdgeDone, EndHolds, GivenBack, GivesBox, GrewCell, HasEdge, HasFinished, HasForm, HoldsGraph, InputHolds, IsAtRest, IsBirth, IsBorn, IsEnd, IsFault, IsNewNode, IsNothingDue, IsOver, IsPort, IsStuck, KeepsBox, KeepsFault, Knows, LawfulDone, Left, MarkHolds, MarkTells, MayRest, NodeHolds, NodeMark, NodeState, OutputHolds, QuietBut, Running, StaysBox, StaysOrActs, StuckNode, SupportsStatus, TakeBlanks, Touches, Turns, ViewHolds, WasLoaded, action_port, after_action, all_places, births_of, blanks_of, born_wires, boxes_of, cell_at, chunks_of, edge_at, form_at, grown_ranks, grown_wires, growth_flaw, growths_of, is_finished, is_place, is_resting, is_told, is_unfinished, is_waiting, kept_growths, last_answer, last_status, lifted, new_edge, new_mark, new_wire, new_wires, no_cell, number_at, peer, places_for, port_edge, reserve_of, set_ranks, state_after, stuck_from, told, told_if, told_state, unloaded, wired_by}
+pub use Rattle.exec_laws.specs.Names.{Acts, ActsCell, AreAllBorn, AreBirths, AreEdgesOf, AreOnce, AsksToGrow, Birth, BoxHolds, CellPicture, ContradictsStatus, EdgeState, EdgeDone, EndHolds, GivenBack, GivesBox, GrewCell, HasEdge, HasFinished, HasForm, HoldsGraph, InputHolds, IsAtRest, IsBirth, IsBorn, IsEnd, IsFault, IsNewNode, IsNothingDue, IsOver, IsPort, IsStuck, KeepsBox, KeepsFault, Knows, LawfulDone, Left, MarkHolds, MarkTells, MayRest, NodeHolds, NodeMark, NodeState, OutputHolds, QuietBut, Running, StaysBox, StaysOrActs, StuckNode, SupportsStatus, TakeBlanks, Touches, Turns, ViewHolds, WasLoaded, action_port, after_action, all_places, births_of, blanks_of, born_wires, boxes_of, cell_at, chunks_of, edge_at, form_at, grown_ranks, grown_wires, growth_flaw, growths_of, is_finished, is_place, is_resting, is_told, is_unfinished, is_waiting, kept_growths, last_answer, last_status, lifted, new_edge, new_mark, new_wire, new_wires, no_cell, number_at, peer, places_for, port_edge, reserve_of, set_ranks, state_after, stuck_from, told, told_if, told_state, unloaded, wired_by}
 pub use Rattle.exec_laws.specs.Prelude.{Action, Answer, ArePortsOf, Blank, Close, DueCall, Finish, GrowthForm, HasPort, Input, InputAllows, IsAllFinished, IsBlank, IsFresh, IsRunning, MayGrow, MaySchedule, MayWork, Me, New, NewEdge, Output, OutputAllows, Port, Prepared, ProducerKnows, Pull, Push, Reserve, Rests, Scheduled, SpecForm, Status, StatusComes, StatusHolds, StaysFit, Unwant, WaitsForData, WaitsForRoom, Want, Who, WorkFault, after_grow, chunk_after, chunk_step, input_after, input_allows, input_step, is_in_finished, is_me, output_after, output_allows, output_step, port_flags, same_kind}
 pub use Rattle.port_word.proofs.Differences.{Holds, difference-calls}
 pub use Rattle.port_word.proofs.Fitting.{sound-grow, sound-new}

@@ -3,7 +3,7 @@ use Rattle.exec_laws.specs.Prelude.{Blank, BoxPicture, GrowthFlaw, GrowthForm, I
 use Rattle.exec_laws.specs.Growths.{Left, form_kind, growth_flaw, has_wrong_end, new_wires, places_for}
 use Rattle.exec_laws.specs.Runs.{IsBorn, box_at}
 use Rattle.std.specs.List.{AllByRecursion, list_any}
-use Rattle.std.specs.Prelude.{Bool, IsTrue, List, None, Option, Some, [], cond, false, filter, flat_map, is_some, length, map, slice_index_or, slice_set, suc, sum_by, true, zero, ℕ, ⊤, ◌++◌, ◌+◌, ◌-◌, ◌<◌, ◌==◌, ◌||◌, ◌∷◌, ◌≡◌}
+use Rattle.std.specs.Prelude.{Bool, IsTrue, List, None, Option, Some, [], cond, false, filter, flat_map, is_some, length, map, slice_index_or, slice_set, suc, sum_by, true, zero, ℕ, ⊤, ◌++◌, ◌+◌, ◌-◌, ◌<◌, ◌==◌, ◌||◌, ◌∷◌, ◌≡◌, ◌≢◌}
 
 -- a growth of a node, and the nodes that its new nodes became, in order
 pub record Birth : Type 0 where
@@ -118,8 +118,8 @@ kept_growths p = cond (is_some p.spec) (growth_list p.growth) []
 abbrev pub growths_of : ℕ → List Birth → List GrowthForm
 growths_of n births = map (λ (b : Birth). b.growth) (births_of n births)
 
--- Growths in order, each of a node with a reserve. A lawful box grows once, by the growth that it
--- keeps.
+-- Growths in order, each of a node with a reserve. A lawful box of which a growth is among them
+-- keeps no other: it grows once.
 pub record AreBirths (reserves : List Reserve) (before after : List BoxPicture)
     (births : List Birth) : Type 0 where
   pub each : AllByRecursion (IsBirth reserves before after) births
@@ -127,8 +127,14 @@ pub record AreBirths (reserves : List Reserve) (before after : List BoxPicture)
   pub once : AreOnce (all_places births)
   pub stay_blank : (n : ℕ) → IsBlank (box_at before n) → is_place births n ≡ false
       → IsBlank (box_at after n)
-  pub grew : (n : ℕ) → IsTrue (box_at after n).lawful
+  pub grew : (n : ℕ) → IsTrue (box_at after n).lawful → growths_of n births ≢ []
       → kept_growths (box_at after n) ≡ kept_growths (box_at before n) ++ growths_of n births
+
+-- Each growth that a lawful box keeps is among the births. Where a run was stopped, a lawful box
+-- may have let the graph grow by what hadn't been born yet.
+abbrev pub AreAllBorn : (before after : List BoxPicture) → List Birth → Type 0
+AreAllBorn before after births = (n : ℕ) → IsTrue (box_at after n).lawful
+    → kept_growths (box_at after n) ≡ kept_growths (box_at before n) ++ growths_of n births
 
 -- ---- a growth that ends the run
 

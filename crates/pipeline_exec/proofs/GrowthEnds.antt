@@ -9,9 +9,15 @@ use Rattle.pipeline_exec.specs.declared.run.ExecEnd.TheVariants as end
 pub settled-end : (e : ExecEnd) (b d : Board) → GrowsTo b d
     → EndsSettled e d.wires (boxes_of d.cells) → EndHolds e (begun b) (boxes_of d.cells)
 settled-end end.Done b d g h =
-    record { births = g.grows.births; are = g.grows.are; holds = rw g.grows.wires at h }
+    record {
+      grown = record { births = g.grows.births; are = g.grows.are; holds = rw g.grows.wires at h };
+      all = g.grows.all;
+    }
 settled-end (end.Stuck report n) b d g h =
-    record { births = g.grows.births; are = g.grows.are; holds = h }
+    record {
+      grown = record { births = g.grows.births; are = g.grows.are; holds = h };
+      all = g.grows.all;
+    }
 settled-end (end.Fault n f) b d g h = absurd h
 settled-end (end.BadGrowth n f) b d g h = absurd h
 settled-end end.Memory b d g h = absurd h

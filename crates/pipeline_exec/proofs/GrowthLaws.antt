@@ -1,5 +1,5 @@
 -- A growth without a flaw, carried out, keeps the state of the run.
-use Rattle.pipeline_exec.proofs.Words.{AreBirths, AreFree, AsksToGrow, Avoids, Birth, Blank, Board, Bool, BoxPicture, CarriesOut, CellPicture, ChangesCell, EdgeState, GivesBox, GrewBox, GrewCell, GrowNode, GrowsTo, GrowthForm, HoldsGraph, Input, IsBorn, IsBornCell, IsFlawless, IsFresh, IsGraph, IsNewNode, IsTrue, IsUnderWay, Kind, Left, List, Loads, MarkHolds, MayCarryOut, Me, New, NewEdge, NodeState, None, Option, Output, Picture, Reserve, Running, Some, Spec, Status, Who, Wire, [], after_grow, and_parts, ap, append-nil, arith, blank_place, blanks_of, both_ways, box-of, boxes_of, busy-born, cases_Bool, cases_eq, cell_at, cond, count_by, drop, drop-cons, edge_at, end_node, eq-eqb, false, false_from_ne_true, form_at, form_kind, forms_of, get_or, get_or-replicate, get_or-set_other, get_or-set_same, get_or_append_left, graph-grown, grown, grown-counts, growth_flaw, growths_of, has_gap, has_wrong_end, inl, input_count, inr, is_blank_of, is_me, is_named, is_some, is_unborn, keeps-gives, keeps-itself, kept_growths, kind_of, kinds_of, left_at, length, length-append, length-map, length-replicate, length-set, list_any, list_any_at, ltb-false, ltb-true, map, ne_eqb, new_edge, new_wire, new_wires, no_wire, none-of, not, not-blank, not-false, or_parts, output_count, place-of, place_at, places_for, rank_at, refl, remove, replicate, reserve_of, same_kind, set_ranks, set_ranks-length, spec_form, stays-itself, subst, suc, sum_by-cons, sym, take, true, unborn_of, wire_at, wired_by, without_blank, zero, ℕ, ◌++◌, ◌+◌, ◌-◌, ◌<◌, ◌==◌, ◌∙◌, ◌∷◌, ◌≡◌, ◌≢◌, ◌≤◌, ◌⊎◌}
+use Rattle.pipeline_exec.proofs.Words.{AreAllBorn, AreBirths, AreFree, AsksToGrow, Avoids, Birth, Blank, Board, Bool, BoxPicture, CarriesOut, CellPicture, ChangesCell, EdgeState, GivesBox, GrewBox, GrewCell, GrowNode, GrowsTo, GrowthForm, HoldsGraph, Input, IsBorn, IsBornCell, IsFlawless, IsFresh, IsGraph, IsNewNode, IsTrue, IsUnderWay, Kind, Left, List, Loads, MarkHolds, MayCarryOut, Me, New, NewEdge, NodeState, None, Option, Output, Picture, Reserve, Running, Some, Spec, Status, Who, Wire, [], after_grow, and_parts, ap, append-nil, arith, blank_place, blanks_of, both_ways, box-of, boxes_of, busy-born, cases_Bool, cases_eq, cell_at, cond, count_by, drop, drop-cons, edge_at, end_node, eq-eqb, false, false_from_ne_true, form_at, form_kind, forms_of, get_or, get_or-replicate, get_or-set_other, get_or-set_same, get_or_append_left, graph-grown, grown, grown-counts, growth_flaw, growths_of, has_gap, has_wrong_end, inl, input_count, inr, is_blank_of, is_me, is_named, is_some, is_unborn, keeps-gives, keeps-itself, kept_growths, kind_of, kinds_of, left_at, length, length-append, length-map, length-replicate, length-set, list_any, list_any_at, ltb-false, ltb-true, map, ne_eqb, new_edge, new_wire, new_wires, no_wire, none-of, not, not-blank, not-false, or_parts, output_count, place-of, place_at, places_for, rank_at, refl, remove, replicate, reserve_of, same_kind, set_ranks, set_ranks-length, spec_form, stays-itself, subst, suc, sum_by-cons, sym, take, true, unborn_of, wire_at, wired_by, without_blank, zero, ℕ, ◌++◌, ◌+◌, ◌-◌, ◌<◌, ◌==◌, ◌∙◌, ◌∷◌, ◌≡◌, ◌≢◌, ◌≤◌, ◌⊎◌}
 use Rattle.std.proofs.Math.Seq.{get_or-append_right}
 use Rattle.std.specs.Prelude.{find}
 use Rattle.query_model.specs.declared.processor_spec.Spec.TheVariants as spec
@@ -416,6 +416,10 @@ module _ (b : Board) (u : IsUnderWay b) (n : ℕ) (lt : n < length b.cells)
             ]
       ]
 
+      all-born : AreAllBorn (boxes_of b.cells) (boxes_of d.cells) (birth ∷ [])
+      all-born m lawful = rw (box-of b.cells m, box-of d.cells m)
+          (grew-once m (rw (box-of d.cells m) at lawful))
+
       births : AreBirths b.reserves (boxes_of b.cells) (boxes_of d.cells) (birth ∷ [])
       births = record {
         each = (
@@ -448,8 +452,7 @@ module _ (b : Board) (u : IsUnderWay b) (n : ℕ) (lt : n < length b.cells)
             let old : is_new m ≡ false = rw append-nil at away in
             let ne : m ≢ n = (λ e. not-blank _ born-here (rw e at none_before)) in
             rw (box-of d.cells m, others m ne old) none_before;
-        grew = λ m lawful. rw (box-of b.cells m, box-of d.cells m)
-            (grew-once m (rw (box-of d.cells m) at lawful));
+        grew = λ m lawful some. all-born m lawful;
       }
 
       pub grown-board : GrowsTo b d
@@ -458,6 +461,7 @@ module _ (b : Board) (u : IsUnderWay b) (n : ℕ) (lt : n < length b.cells)
           births = birth ∷ [];
           gives = record { len = c.len ∙ a.len; each = given };
           are = births;
+          all = all-born;
           wires = c.wires_are ∙ ap (λ l. b.wires ++ l) (sym (append-nil more));
           ranks = c.ranks_are;
           reserves = c.reserves;

@@ -1,5 +1,5 @@
 -- Growths of a run add up, and how a round that ends the run ends.
-use Rattle.pipeline_exec.proofs.Words.{Board, CellPicture, ChangesCell, FailedBox, Gives, GivesBox, GrewBox, Grows, GrowsAndFails, GrowsAndSpoils, GrowsTo, GrowthFlaw, GrowthForm, IsBorn, IsUnderWay, List, RoundEnd, RoundEndHolds, Some, Stays, StaysBox, WorkFault, [], append-nil, arith, at-node, births-both, box-of, boxes_of, busy-born, cell_at, gives-both, growth_flaw, keeps-born, keeps-gives, keeps-itself, left_at, length, no-births, not-blank, ranks-append, refl, sym, wired-append, wires-append, ℕ, ◌++◌, ◌<◌, ◌∙◌, ◌≡◌}
+use Rattle.pipeline_exec.proofs.Words.{Board, CellPicture, ChangesCell, FailedBox, Gives, GivesBox, GrewBox, Grows, GrowsAndFails, GrowsAndSpoils, GrowsTo, GrowthFlaw, GrowthForm, IsBorn, IsUnderWay, List, RoundEnd, RoundEndHolds, Some, Stays, StaysBox, WorkFault, [], all-born-both, append-nil, arith, at-node, births-both, box-of, boxes_of, busy-born, cell_at, gives-both, growth_flaw, keeps-born, keeps-gives, keeps-itself, left_at, length, no-births, none-born, not-blank, ranks-append, refl, sym, wired-append, wires-append, ℕ, ◌++◌, ◌<◌, ◌∙◌, ◌≡◌}
 use Rattle.pipeline_exec.proofs.Moving.{stay-both, stay-changed}
 use Rattle.exec_laws.specs.declared.edges.DueCall.TheVariants as call
 use Rattle.exec_laws.specs.declared.edges.NodeState.TheVariants as node
@@ -11,6 +11,8 @@ stays-grows b d s = record {
   births = [];
   gives = record { len = s.len; each = λ n. keeps-gives _ _ (s.each n) };
   are = no-births b.reserves (boxes_of b.cells) (boxes_of d.cells)
+      (λ n. rw (box-of b.cells n, box-of d.cells n) (s.each n));
+  all = none-born (boxes_of b.cells) (boxes_of d.cells)
       (λ n. rw (box-of b.cells n, box-of d.cells n) (s.each n));
   wires = s.wires ∙ sym (append-nil b.wires);
   ranks = s.ranks;
@@ -44,7 +46,11 @@ grows-both a b c h k = record {
   are = births-both a.reserves (boxes_of a.cells) (boxes_of b.cells) (boxes_of c.cells)
       (λ n. rw (box-of a.cells n, box-of b.cells n) (h.gives.each n))
       (λ n. rw (box-of b.cells n, box-of c.cells n) (k.gives.each n)) h.births k.births h.are
-      (rw h.reserves at k.are);
+      (rw h.reserves at k.are) h.all k.all;
+  all = all-born-both a.reserves (boxes_of a.cells) (boxes_of b.cells) (boxes_of c.cells)
+      (λ n. rw (box-of a.cells n, box-of b.cells n) (h.gives.each n))
+      (λ n. rw (box-of b.cells n, box-of c.cells n) (k.gives.each n)) h.births k.births h.are
+      (rw h.reserves at k.are) h.all k.all;
   wires = k.wires ∙ rw h.wires (wires-append a.wires h.births k.births);
   ranks = k.ranks ∙ rw h.ranks (ranks-append a.ranks h.births k.births);
   reserves = k.reserves ∙ h.reserves;

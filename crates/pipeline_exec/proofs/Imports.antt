@@ -2,7 +2,7 @@
 pub use Rattle.pipeline_exec.proofs.BirthSteps.{bears-still, carries-out, gives-same, gives-some, more-bears, more-ports-at, next-dropped, next-form, next-is, on-err}
 pub use Rattle.pipeline_exec.proofs.Calling.{are-called, called-both, called-itself, calls-held, calls-stay, each-front, each-swapped, may-again, may-be-called, may-each}
 pub use Rattle.pipeline_exec.proofs.Creating.{found-some, has-wire, more-ports, state-started}
-pub use Rattle.pipeline_exec.proofs.GrowthEnds.{bad-end, failed-end}
+pub use Rattle.pipeline_exec.proofs.GrowthEnds.{bad-end, failed-end, settled-end}
 pub use Rattle.pipeline_exec.proofs.GrowthFlaws.{gap, lacks, large-port, out-of-order, taken}
 pub use Rattle.pipeline_exec.proofs.GrowthLaws.{blank-found, find-on, kinds-count}
 pub use Rattle.pipeline_exec.proofs.GrowthRuns.{ends-after, failed-grow, gives-after, grew-gives, grows-on, stays-grows}

@@ -1,5 +1,5 @@
 -- The ends of a run.
-use Rattle.pipeline_exec.specs.Prelude.{AreBirths, Birth, BoxPicture, ExecEnd, GrowthFlaw, IsBadGrowth, IsDone, IsFault, IsGraph, IsStuck, Reserve, SameBox, Wire, WorkFault, box_at, grown_ranks, grown_wires}
+use Rattle.pipeline_exec.specs.Prelude.{AreAllBorn, AreBirths, Birth, BoxPicture, ExecEnd, GrowthFlaw, IsBadGrowth, IsDone, IsFault, IsGraph, IsStuck, Reserve, SameBox, Wire, WorkFault, box_at, grown_ranks, grown_wires}
 use Rattle.std.specs.Prelude.{IsTrue, List, None, [], ℕ, ⊤, ◌≡◌, ◌≢◌}
 use Rattle.proc_api.specs.declared.status.WorkFault.TheVariants as fault
 use Rattle.pipeline_exec.specs.declared.run.ExecEnd.TheVariants as end
@@ -17,6 +17,12 @@ pub record HasGrown (b : Begun) (boxes : List BoxPicture) (P : List Wire → Typ
   pub are : AreBirths b.reserves b.boxes boxes births
   pub holds : P (grown_wires b.wires births)
 
+-- it has grown by each growth that a lawful box keeps
+pub record HasGrownByAll (b : Begun) (boxes : List BoxPicture) (P : List Wire → Type 0) : Type 0
+  where
+    pub grown : HasGrown b boxes P
+    pub all : AreAllBorn b.boxes boxes grown.births
+
 -- The last growth has a flaw. The graph had grown by the births before it, which left these boxes;
 -- that of the node is the same, and had not grown if it is lawful.
 pub record EndsBadly (b : Begun) (boxes : List BoxPicture) (node : ℕ)
@@ -32,8 +38,9 @@ pub record EndsBadly (b : Begun) (boxes : List BoxPicture) (node : ℕ)
 
 -- what each end says of the boxes as they are given back
 abbrev pub EndHolds : ExecEnd → Begun → List BoxPicture → Type 0
-EndHolds end.Done b boxes = HasGrown b boxes (λ wires. IsDone wires boxes)
-EndHolds (end.Stuck report node) b boxes = HasGrown b boxes (λ wires. IsStuck boxes report node)
+EndHolds end.Done b boxes = HasGrownByAll b boxes (λ wires. IsDone wires boxes)
+EndHolds (end.Stuck report node) b boxes =
+    HasGrownByAll b boxes (λ wires. IsStuck boxes report node)
 EndHolds (end.Fault node f) b boxes = HasGrown b boxes (λ wires. IsFault boxes node f)
 EndHolds (end.BadGrowth node f) b boxes = EndsBadly b boxes node f
 EndHolds end.Memory b boxes = ⊤

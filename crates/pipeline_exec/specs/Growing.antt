@@ -1,5 +1,5 @@
 -- How a graph grows, as the executor's code does it.
-use Rattle.pipeline_exec.specs.Prelude.{AreBirths, AreEdgesOf, AreOnce, AsksToGrow, Birth, Blank, CellPicture, GivesBox, Grew, GrowNode, GrowthFlaw, GrowthForm, HoldsGraph, IsBorn, IsNewNode, KeepsFault, Kind, Left, Loads, NodePorts, NodeState, Reserve, RoundEnd, Spec, SpecForm, StaysBox, Wire, WorkFault, after_grow, boxes_of, cell_at, form_at, grown_ranks, grown_wires, growth_flaw, holds_node, in_count, input_count, kind_of, new_edge, out_count, output_count, reserve_of, spec_form, wired_by}
+use Rattle.pipeline_exec.specs.Prelude.{AreAllBorn, AreBirths, AreEdgesOf, AreOnce, AsksToGrow, Birth, Blank, CellPicture, GivesBox, Grew, GrowNode, GrowthFlaw, GrowthForm, HoldsGraph, IsBorn, IsNewNode, KeepsFault, Kind, Left, Loads, NodePorts, NodeState, Reserve, RoundEnd, Spec, SpecForm, StaysBox, Wire, WorkFault, after_grow, boxes_of, cell_at, form_at, grown_ranks, grown_wires, growth_flaw, holds_node, in_count, input_count, kind_of, new_edge, out_count, output_count, reserve_of, spec_form, wired_by}
 use Rattle.pipeline_exec.specs.Cells.{AreNewPorts, Board, ChangesCell, FailsAt, IsUnderWay}
 use Rattle.pipeline_exec.specs.Ends.{Begun}
 use Rattle.std.specs.Prelude.{Bool, List, None, Some, [], cond, false, length, map, replicate, slice_index_or, slice_set, suc, true, zero, ℕ, ◌++◌, ◌+◌, ◌-◌, ◌<◌, ◌∷◌, ◌≡◌, ◌≢◌, ◌≤◌}
@@ -165,6 +165,7 @@ pub record Grows (b d : Board) : Type 0 where
   pub births : List Birth
   pub gives : Gives b.cells d.cells
   pub are : AreBirths b.reserves (boxes_of b.cells) (boxes_of d.cells) births
+  pub all : AreAllBorn (boxes_of b.cells) (boxes_of d.cells) births
   pub wires : d.wires ≡ grown_wires b.wires births
   pub ranks : d.ranks ≡ grown_ranks b.ranks births
   pub reserves : d.reserves ≡ b.reserves

@@ -2,7 +2,7 @@
 -- here.
 pub use Rattle.proc_api.specs.Boxes.{BoxPicture, FileSeen, Notes, PortFlags, RowCount, WorkState, file_of, idle_work, kept_ports, no_box, no_notes}
 pub use Rattle.proc_api.specs.Clauses.{CountsOn, EndsAtOnce, Expands, FaultHolds, FaultInCall, FaultIsDue, Faults, HasNoReader, IsBadFile, IsBlank, IsFresh, IsLoadRefused, IsLongFile, IsRunning, IsSourceKind, IsUnloadedProcessor, IsWanting, KeepsLimits, KeepsOver, KeepsSame, KeepsUnlessOut, Loads, MayBeReady, MayExpand, MaySchedule, MayWork, NeedsRoom, NotesView, OfPart, PreparesLawfully, Progresses, PulledOn, SameBox, SameCounts, SamePulled, Schedules, StatusComes, StatusHolds, UnlessStalled, UnlessTooLong, Unloads, WakeComes, Works, handed_out_by, port_flags}
-pub use Rattle.proc_api.specs.Forms.{GrowthForm, SpecForm, cond_form, expression, filter, spec_form, unboxed}
+pub use Rattle.proc_api.specs.Forms.{GrowthForm, SpecForm, expression, filter, spec_form, unboxed}
 pub use Rattle.proc_api.specs.Graphs.{IsEdge, IsGraph, IsGraphSoFar, all_below, follows_inputs, follows_outputs, has_input, has_output, input_count, is_gapless, output_count, reserved_edges}
 pub use Rattle.proc_api.specs.Grouped.{argument_types, calls_from, default_states, group_types, is_count, merged_rows, merged_states, partial_rows, partial_types}
 pub use Rattle.proc_api.specs.Growing.{ArePartBytes, IsListGrowth, IsListRead, IsListUnread, KnowsList, MayGrow, list_growth, listed_edge, listed_edges, listed_part, listed_parts}

@@ -1,5 +1,5 @@
 -- The query that was read of a command and checked, and the plan that it has.
-use Rattle.query_run.proofs.Prelude.{Bool, BothOrNone, Checked, CheckedJoin, Command, FromColumn, Grouped, IsAccepted, IsChecked, IsCheckedCommand, IsCheckedJoin, IsReadFrom, IsShape, IsTypedQuery, IsTypedSelect, IsWithinLimits, Join, Kind, List, NamesFewPaths, None, Option, OrderKey, Plain, Query, QueryTree, Schema, Shape, Some, [], analysable_of_read, ap, ap₂, are_grouped, are_some, are_tested, are_two, arith, clause_need, condition, false, few_sources, from_columns, from_types, is_grouped, is_some, join_tables, join_use, length, map, query_boxes, need_by_clauses, not, one_tree, option_map, output_names, refl, refusal_of, same_grouped, schemas_of, sort_key, stock_of, subst, sym, tables_used, true, typed-select, use_of, used_tables, ◌==◌, ◌||◌, ◌∙◌, ◌∷◌, ◌≡◌, ◌≤◌}
+use Rattle.query_run.proofs.Prelude.{Bool, BothOrNone, Checked, CheckedJoin, Command, FromColumn, Grouped, IsAccepted, IsChecked, IsCheckedCommand, IsCheckedJoin, IsReadFrom, IsShape, IsTypedQuery, IsTypedSelect, IsWithinLimits, Join, Kind, List, NamesFewPaths, None, Option, OrderKey, Plain, Query, QueryTree, Schema, Shape, Some, [], analysable_of_read, ap, ap₂, are_grouped, are_some, are_tested, are_two, arith, clause_need, cond_form, false, few_sources, from_columns, from_types, is_grouped, is_some, join_tables, join_use, length, map, query_boxes, need_by_clauses, not, one_tree, option_map, output_names, refl, refusal_of, same_grouped, schemas_of, sort_key, stock_of, subst, sym, tables_used, true, typed-select, use_of, used_tables, ◌==◌, ◌||◌, ◌∙◌, ◌∷◌, ◌≡◌, ◌≤◌}
 use Rattle.query_model.specs.declared.processor_spec.Kind.TheVariants as kind
 
 -- ---- what was read and checked
@@ -107,9 +107,9 @@ module _ (command : Command) (p q : Checked) (a : IsCheckedCommand command p)
       let trees = one_tree command.query a.query b.query a.read.spells b.read.spells in
       let filters : is_some p.filter ≡ is_some q.filter =
       sym (some_both _ a.query.filter p.filter a.is.filter)
-      ∙ sym (some_mapped condition a.query.filter)
+      ∙ sym (some_mapped cond_form a.query.filter)
       ∙ ap (λ (t : QueryTree). is_some t.filter) trees
-      ∙ some_mapped condition b.query.filter
+      ∙ some_mapped cond_form b.query.filter
       ∙ some_both _ b.query.filter q.filter b.is.filter in
       let limits : is_some p.limit ≡ is_some q.limit =
       ap is_some (a.is.limit ∙ ap (λ (t : QueryTree). t.limit) trees ∙ sym b.is.limit) in
@@ -121,9 +121,9 @@ module _ (command : Command) (p q : Checked) (a : IsCheckedCommand command p)
       let groups : are_grouped p.shape ≡ are_grouped q.shape =
       of_p.0 ∙ same_grouped a.query b.query trees ∙ sym of_q.0 in
       let tests : are_tested p.shape ≡ are_tested q.shape =
-      of_p.1 ∙ sym (some_mapped condition a.query.having)
+      of_p.1 ∙ sym (some_mapped cond_form a.query.having)
       ∙ ap (λ (t : QueryTree). is_some t.having) trees
-      ∙ some_mapped condition b.query.having ∙ sym of_q.1 in
+      ∙ some_mapped cond_form b.query.having ∙ sym of_q.1 in
       need_by_clauses command.tables command.threads p k
       ∙ ap (λ us. clause_need command.tables command.threads us (are_two us) (is_some p.filter)
       (are_grouped p.shape) (are_tested p.shape) (are_some p.order) (is_some p.limit) k) same_uses

@@ -65,7 +65,7 @@ module _ {c : Command} {q : Checked} {before after : List BoxPicture} {nodes : L
     reserves = (formed nodes).reserves;
     boxes = g.gives.boxes;
   }) ended (λ wires. IsDone wires ended)
-  grown = g.gives.holds.done
+  grown = g.gives.holds.done.grown
 
   -- the collector's node
   abbrev last : ℕ
@@ -100,7 +100,7 @@ module _ {c : Command} {q : Checked} {before after : List BoxPicture} {nodes : L
       lawful = lawfully.lawful;
       told = lawfully.told;
       grown = grown-lists files nodes (formed nodes).wires (formed nodes).reserves g.gives.boxes
-          ended grown.births lawfully;
+          ended grown.births lawfully g.gives.holds.done.all;
       done = grown.holds;
     }
 

@@ -62,13 +62,14 @@ text_not_refused command r a h = absurd (clash a.read.early h)
 due_status : (q : Query) (schemas : List Schema) (r : Refusal) → IsDue q schemas r
     → (query_status r ≡ 7) ⊎ ((query_status r ≡ 2) × (refusal_of q schemas ≡ Some r))
 due_status q schemas refuse.Memory h = inl refl
-due_status q schemas r h = inr (refl, h)
+due_status q schemas r (inl e) = absurd cc
+due_status q schemas r (inr e) = inr (refl, e)
 
 query_not_refused : (command : Command) (refusal : Refusal) → IsAccepted command
     → IsRefusedQuery command refusal → query_status refusal ≡ 7
 query_not_refused command refusal a h =
     let same = one_tree command.query h.query a.query h.read.spells a.read.spells in
-    let none = same_refusal h.query a.query (schemas_of command) same ∙ a.accepted in
+    let none = same_refusal h.query a.query same (schemas_of command) ∙ a.accepted in
     elim (due_status h.query (schemas_of command) refusal h.due) [
       | inl memory ↦ memory
       | inr due ↦ absurd (clash none due.1)

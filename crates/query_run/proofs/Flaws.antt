@@ -126,14 +126,7 @@ module _ {c : Command} {q : Checked} {before after : List BoxPicture} {nodes : L
 
       -- it grew by this growth alone
       none-before : births_of node births ≡ []
-      none-before =
-          let start = none-kept-at ran keeps g.boxes g.kinds_are g.starting node in
-          let kept = g.holds.bad.are.grew node lawful-before
-          ∙ ap (λ l. l ++ growths_of node births) start in
-          let now : kept_growths (box_at grown node) ≡ [] =
-          ap (λ o. cond (is_some (box_at grown node).spec) (growth_list o) [])
-          (g.holds.bad.once lawful) ∙ none-of (is_some (box_at grown node).spec) in
-          map-nil births (sym kept ∙ now)
+      none-before = map-nil births (none-of-it (growths_of node births) refl)
         where
           none-of : (b : Bool) → cond b (growth_list None) [] ≡ []
           none-of true = refl
@@ -145,6 +138,20 @@ module _ {c : Command} {q : Checked} {before after : List BoxPicture} {nodes : L
               go : (l : List Birth) → map (λ (b : Birth). b.growth) l ≡ [] → l ≡ []
               go [] e = refl
               go (b ∷ l) e = absurd cc
+
+          now : kept_growths (box_at grown node) ≡ []
+          now = ap (λ o. cond (is_some (box_at grown node).spec) (growth_list o) [])
+              (g.holds.bad.once lawful) ∙ none-of (is_some (box_at grown node).spec)
+
+          none-of-it : (l : List GrowthForm) → growths_of node births ≡ l
+              → growths_of node births ≡ []
+          none-of-it [] e = e
+          none-of-it (h ∷ l) e =
+              let some : growths_of node births ≢ [] =
+              (λ none. let no : h ∷ l ≡ [] = sym e ∙ none in cc) in
+              let start = none-kept-at ran keeps g.boxes g.kinds_are g.starting node in
+              sym (g.holds.bad.are.grew node lawful-before some
+              ∙ ap (λ l. l ++ growths_of node births) start) ∙ now
 
       module _ (list : PartSpec) (is : box.spec ≡ Some (spec.List list))
           (may : IsListGrowth list box.files g.holds.bad.bad.growth) where

@@ -350,9 +350,7 @@ module _ (files : Files) (nodes : List DraftNode) (edges : ℕ) (wires : List Wi
 
     none-earlier : births_of m taken.earlier ≡ []
     none-earlier =
-        let kept = g.are.grew m lister-lawful ∙ ap (λ l. l ++ growths_of m births) (g.ungrown m) in
         let one = at-most-one (box_at after m) in
-        let len = ap (λ l. length l) kept in
         let all = length-map (births_of m births) (λ (b : Birth). b.growth) in
         let parts = ap (λ l. length (births_of m l)) taken.split
         ∙ ap (λ l. length l)
@@ -360,6 +358,11 @@ module _ (files : Files) (nodes : List DraftNode) (edges : ℕ) (wires : List Wi
         ∙ length-append (births_of m taken.earlier) (births_of m (birth ∷ taken.later)) in
         let some : 1 ≤ length (births_of m (birth ∷ taken.later)) =
         rw (eq-eqb birth.expander m expander) (omega arith) in
+        let born : growths_of m births ≢ [] =
+        (λ none. let len = ap (λ l. length l) none in omega (arith, len, all, parts, some)) in
+        let kept = g.are.grew m lister-lawful born
+        ∙ ap (λ l. l ++ growths_of m births) (g.ungrown m) in
+        let len = ap (λ l. length l) kept in
         nil_from_length (births_of m taken.earlier) (omega (arith, one, len, all, parts, some))
 
     blanks : blanks_of before ([] ++ taken.earlier) (reserve_of R birth.expander).first_node

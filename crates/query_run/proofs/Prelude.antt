@@ -82,8 +82,9 @@ pub use Rattle.select_planner.specs.Steps.{order_of, source_types}
 pub use Rattle.select_planner.specs.declared.nodes.Plan.{Plan}
 pub use Rattle.select_planner.specs.declared.nodes.PlanNode.{PlanNode}
 pub use Rattle.select_planner.specs.declared.nodes.PlanReserve.{PlanReserve}
-pub use Rattle.sql_grammar.proofs.Trees.{same_grouped, same_refusal}
-pub use Rattle.sql_grammar.specs.Trees.{QueryTree, condition}
+pub use Rattle.query_model.proofs.SameTrees.{same_grouped, same_refusal}
+pub use Rattle.query_model.specs.Formulas.{cond_form}
+pub use Rattle.query_model.specs.Trees.{QueryTree}
 pub use Rattle.sql_text.proofs.AnalysableQueries.{analysable_of_read}
 pub use Rattle.sql_text.proofs.Readings.{one_tree}
 pub use Rattle.sql_text.specs.Refusals.{IsReadFrom, IsRefused}

@@ -1,5 +1,11 @@
-use Rattle.pipeline_exec.proofs.Imports.{bad-end, board_of, failed-end, length-map}
+use Rattle.pipeline_exec.proofs.Imports.{bad-end, board_of, failed-end, length-map, settled-end}
 use Rattle.pipeline_exec.proofs.run.run_state.Goals as goal
+
+pub returns-in-Ok-clause-end : goal.returns-in-Ok-clause-end
+returns-in-Ok-clause-end g c =
+    let seen = g.P.Processor.seen in
+    settled-end c.end_of.result (board_of seen c.args.state.now)
+    (board_of seen c.run_rounds.new.state) c.in-Ok.ensures.grows c.end_of.ensures
 
 pub returns-in-Err-Fault-clause-end : goal.returns-in-Err-Fault-clause-end
 returns-in-Err-Fault-clause-end g c =

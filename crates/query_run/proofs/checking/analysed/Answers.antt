@@ -1,4 +1,4 @@
-use Rattle.query_run.proofs.Prelude.{TableDecl, analysable_of_read, ap, map, ◌∙◌}
+use Rattle.query_run.proofs.Prelude.{IsDue, List, Schema, TableDecl, analysable_of_read, ap, map, subst, ◌∙◌}
 use Rattle.query_run.proofs.Commands.{checked_command}
 use Rattle.query_run.proofs.checking.analysed.Goals as goal
 
@@ -11,3 +11,12 @@ returns-in-Ok-analyse-clause-checked c =
     (c.in-Ok.ensures ∙ ap (map (λ (t : TableDecl). t.schema)) c.as_slice.ensures)
     c.in-Ok-analyse.checked c.in-Ok-analyse.ensures.accepted c.in-Ok-analyse.ensures.checked
     c.in-Ok-analyse.ensures.typed
+
+pub returns-clause-refused : goal.returns-clause-refused
+returns-clause-refused c = record {
+  query = c.args.query;
+  read = c.requires;
+  due = subst (λ (s : List Schema). IsDue c.args.query s c.in-Err.refusal)
+      (c.in-Ok.ensures ∙ ap (map (λ (t : TableDecl). t.schema)) c.as_slice.ensures)
+      c.in-Err.ensures.refused;
+}
