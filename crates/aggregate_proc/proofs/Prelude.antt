@@ -18,7 +18,7 @@ pub use Rattle.chunk_data.proofs.Imports.{AreLong, adds, column_type, row_at, va
 pub use Rattle.chunk_data.proofs.Rows.{length-rows_of}
 pub use Rattle.chunk_data.specs.declared.typed_column.Column.{Column}
 pub use Rattle.indexmap.specs.IndexSet.{insert_key}
-pub use Rattle.key_codes.specs.Keys.{AreCells, HasKey as HasKeyAt, IsSeenFor, codes_in, first_of, key_at, key_code, kind_at, kinds_at, places_from, row_code, same_code}
+pub use Rattle.key_codes.specs.Keys.{AreCells, HasKey as HasKeyAt, IsSeenFor, codes_in, first_of, key_at, key_code, kinds_at, places_from, row_code, same_code}
 pub use Rattle.proc_api.specs.Grouped.{argument_types, calls_from, default_states, group_types, merged_states}
 pub use Rattle.proc_shell.proofs.Imports.{ArePortsOf, HasNotedEnd, IsAtMost, IsPulled, Lists, MakesTypes, OwnState, Picture, Spec, cases_eq, cases_lt, chunk_rows, eqb-true, in_count, input_at, is_in_finished, most_rows, no-rows, no_lists, out_count}
 pub use Rattle.proc_shell.proofs.Through.{all-more, makes-nothing, rows-here}

@@ -1,6 +1,7 @@
 -- The values of a column of a group table, and which of them a column may fold.
-use Rattle.std.specs.Prelude.{◌≡◌, ◌≢◌, ◌<◌, Bool, true, false, List, length, map, slice_index_or}
+use Rattle.std.specs.Prelude.{◌≡◌, ◌≢◌, ◌<◌, Bool, true, false, List, length, map, not, slice_index_or}
 use Rattle.aggregate_proc.specs.Prelude.{ColumnType, Value}
+use Rattle.chunk_data.specs.Values.{is_text}
 use Rattle.chunk_data.specs.declared.typed_value.ColumnType.TheVariants as type
 use Rattle.chunk_data.specs.declared.typed_value.Value.TheVariants as value
 use Rattle.aggregate_proc.specs.declared.fold.Cells.{Cells}
@@ -25,8 +26,10 @@ can_fold fold.Count type.UInt64 = true
 can_fold fold.Count t = false
 can_fold fold.AddCounts type.UInt64 = true
 can_fold fold.AddCounts t = false
-can_fold fold.Add type.Text = false
-can_fold op t = true
+can_fold fold.Add t = not (is_text t)
+can_fold fold.First t = true
+can_fold fold.Least t = true
+can_fold fold.Greatest t = true
 
 -- a column of the input is of the type that it folds; a count takes none
 abbrev pub FitsColumn : List ColumnType → FoldColumn → Type 0

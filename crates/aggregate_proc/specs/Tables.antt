@@ -1,7 +1,7 @@
 -- A group table: of rows, their groups.
-use Rattle.std.specs.Prelude.{◌≡◌, ℕ, ◌≤◌, List, [], ◌∷◌, ◌++◌, length, map, slice_index_or}
+use Rattle.std.specs.Prelude.{◌≡◌, ℕ, ◌≤◌, List, [], ◌∷◌, ◌++◌, length, map}
 use Rattle.aggregate_proc.specs.Prelude.{All, AllByRecursion, Call, ColumnType, HasKeyAt, Row, SeenKeys, Value, codes_in, combined, count_up, distinct_rows, grouped_by, key_at, key_code, rows_of, rows_with, value_at}
-use Rattle.chunk_data.specs.declared.typed_value.ColumnType.TheVariants as column
+use Rattle.chunk_data.specs.Values.{type_at}
 use Rattle.aggregate_proc.specs.declared.fold.Fold.{Fold}
 use Rattle.aggregate_proc.specs.declared.fold.Fold.TheVariants as fold
 use Rattle.aggregate_proc.specs.Cells.{FitsColumn}
@@ -84,7 +84,7 @@ rows_in t = rows_of (length t.codes) (map (λ (c : FoldColumn). c.values) t.colu
 -- the columns that keep the first n values
 abbrev pub key_foldings : List ColumnType → ℕ → List Folding
 key_foldings types n =
-    map (λ c. record { op = fold.First; input = c; kind = slice_index_or types c column.Text })
+    map (λ c. record { op = fold.First; input = c; kind = type_at types c })
     (count_up n)
 
 -- the calls make of rows what is folded of them

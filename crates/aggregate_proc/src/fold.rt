@@ -205,10 +205,10 @@ fn fold_counts(states: &mut Vec<u64>, places: &[usize]) -> Result<(), Memory>
 pub(crate) fn can_fold(op: Fold, kind: ColumnType) -> bool
     ensures { result ≡ may_fold op kind }
 {
-    match (op, kind) {
-        (Fold::Count | Fold::AddCounts, kind) => kind == ColumnType::UInt64,
-        (Fold::Add, ColumnType::Text) => false,
-        _ => true,
+    match op {
+        Fold::Count | Fold::AddCounts => kind == ColumnType::UInt64,
+        Fold::Add => !kind.is_text(),
+        Fold::First | Fold::Least | Fold::Greatest => true,
     }
 }
 

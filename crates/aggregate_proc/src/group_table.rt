@@ -8,8 +8,8 @@ ghost use Rattle.aggregate_proc.specs.Folds.{with_rows};
 ghost use Rattle.aggregate_proc.specs.Tables.{GroupsMore, kinds_of, rows_in};
 
 use crate::fold::FoldColumn;
-use chunk_data::{Chunk, Column, ColumnType, List, Memory};
-use key_codes::{SeenKeys, find_places, type_at};
+use chunk_data::{Chunk, Column, ColumnType, List, Memory, type_at};
+use key_codes::{SeenKeys, find_places};
 use std::alloc::Global;
 use std::marker::Model;
 
@@ -25,8 +25,7 @@ pub(crate) struct GroupTable {
 }
 
 impl Model for GroupTable {
-    ghost use Rattle.std.specs.Prelude.{slice_index_or};
-    ghost use Rattle.chunk_data.specs.declared.typed_value.ColumnType.TheVariants as type;
+    ghost use Rattle.chunk_data.specs.Values.{type_at};
     ghost use Rattle.key_codes.specs.Keys.{IsSeenFor};
     ghost use Rattle.aggregate_proc.specs.Tables.{IsTable, TableView, table_view};
 
@@ -35,7 +34,7 @@ impl Model for GroupTable {
     ghost view = { λ t. table_view t.types t.keys t.seen t.columns.items };
 
     ghost invariant = { λ t. IsTable (table_view t.types t.keys t.seen t.columns.items)
-        × IsSeenFor t.keys (slice_index_or t.types 0 type.Text) t.seen };
+        × IsSeenFor t.keys (type_at t.types 0) t.seen };
 }
 
 // The first n columns.

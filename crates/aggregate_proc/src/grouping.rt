@@ -10,7 +10,7 @@ ghost use Rattle.aggregate_proc.specs.Tables.{rows_in};
 use crate::group_builder::{are_sound, new_table};
 use crate::group_table::GroupTable;
 use crate::phase::Phase;
-use chunk_data::{Chunk, Column, ColumnType, List, Memory};
+use chunk_data::{Chunk, Column, ColumnType, List, Memory, PlainType};
 use port_word::PortView;
 use proc_api::WorkFault;
 use proc_shell::{Kernel, Offer, Shell};
@@ -116,10 +116,10 @@ fn default_column(alloc: Global, kind: ColumnType) -> Result<Column, Memory>
     ensures values { IfOk result (λ c. values c ≡ default_value kind ∷ []) }
 {
     let mut column = Column::new(alloc, kind);
-    match kind {
-        ColumnType::Int64 => column.push_int(0)?,
-        ColumnType::UInt64 => column.push_uint(0)?,
-        ColumnType::Text => column.push_text(&[])?,
+    match kind.plain() {
+        PlainType::Int64 => column.push_int(0)?,
+        PlainType::UInt64 => column.push_uint(0)?,
+        PlainType::Text => column.push_text(&[])?,
     }
     Ok(column)
 }
@@ -153,21 +153,6 @@ fn whole_chunk(
         return default_chunk(alloc, group);
     }
     table.into_chunk()
-}
-
-// So many rows from a place on.
-fn part_of(alloc: Global, chunk: &Chunk, from: usize, count: usize) -> Result<Chunk, Memory>
-    requires { from + count ≤ length chunk.now.rows }
-    ensures types { IfOk result (λ c. c.types ≡ chunk.now.types) }
-    ensures rows { IfOk result (λ c. c.rows ≡ take count (drop from chunk.now.rows)) }
-{
-    let _rows = chunk.rows();
-    let mut places = Vec::with_capacity(alloc, count)?;
-    for i in 0..count {
-        places.push(from + i)?;
-    }
-    let part = chunk.gather(places.as_slice())?;
-    Ok(part)
 }
 
 impl<G: Grouped> Grouping<G> {
@@ -216,7 +201,7 @@ impl<G: Grouped> Grouping<G> {
     }
 
     // Makes a chunk of the rows from a place on.
-    fn give(&mut self, alloc: Global, chunk: Chunk, next: usize) -> Result<Option<Chunk>, WorkFault>
+    fn give(&mut self, chunk: Chunk, next: usize) -> Result<Option<Chunk>, WorkFault>
         requires types { chunk.types ≡ group_types self.old.group }
         requires within { next ≤ length chunk.rows }
         ensures group { self.new.group ≡ self.old.group }
@@ -230,7 +215,7 @@ impl<G: Grouped> Grouping<G> {
             put_phase(&mut self.phase, Phase::Giving(chunk, next));
             return Ok(None);
         }
-        match part_of(alloc, &chunk, next, count) {
+        match chunk.copy_range(next, count) {
             Ok(part) => {
                 put_phase(&mut self.phase, Phase::Giving(chunk, next + count));
                 Ok(Some(part))
@@ -323,10 +308,10 @@ impl<G: Grouped> Kernel for Grouping<G> {
                 Ok(None)
             }
             Phase::Ended(table) => match whole_chunk(alloc, G::merges(), &self.group, table) {
-                Ok(chunk) => self.give(alloc, chunk, 0),
+                Ok(chunk) => self.give(chunk, 0),
                 Err(_) => Err(WorkFault::Memory),
             },
-            Phase::Giving(chunk, next) => self.give(alloc, chunk, next),
+            Phase::Giving(chunk, next) => self.give(chunk, next),
             Phase::Failed => Ok(None),
         }
     }

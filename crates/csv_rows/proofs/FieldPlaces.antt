@@ -1,5 +1,5 @@
 -- Fields by their places.
-use Rattle.std.proofs.Common.{◌≡◌, ℕ, ◌+◌, ◌-◌, ◌<◌, ◌≤◌, ◌==◌, ◌||◌, Bool, true, false, List, [], ◌∷◌, ◌++◌, length, take, drop, get_or, sym, ap, ◌∙◌, arith, append_assoc, length-append, refl}
+use Rattle.std.proofs.Common.{◌≡◌, ℕ, ◌+◌, ◌<◌, ◌≤◌, ◌==◌, ◌||◌, Bool, true, false, List, [], ◌∷◌, ◌++◌, length, take, drop, get_or, sym, ap, ◌∙◌, arith, append_assoc, length-append, refl}
 use Rattle.csv_rows.proofs.Prelude.{EndsRecord, FieldUpTo, HasMore, SkipsEnds, append-nil, at_mark, dec_lt, default_config, drop-drop, drop_all, drop_more, eqb-true, first_or, is_line_end, next_record, no_mark, no_quote, part, prefix_len, records_at, starts_with, is_mark}
 use Rattle.csv.specs.declared.parser.State.TheVariants as st
 use Rattle.csv_rows.proofs.ByteRuns.{run_bound}

@@ -4,7 +4,7 @@ ghost use Rattle.chunk_data.specs.Names.{column_type, values};
 ghost use Rattle.csv_rows.specs.Places.{Pushes};
 
 use crate::short_numbers::{spelled_int, spelled_uint};
-use chunk_data::{Column, ColumnType, Memory};
+use chunk_data::{Column, Memory, PlainType};
 use query_model::places::BadPlace;
 
 /// Why the rows of a part were not read.
@@ -23,15 +23,15 @@ pub(crate) fn push_field(column: &mut Column, field: &[u8]) -> Result<bool, Memo
     ensures ok { IfOk result (λ spelled. Pushes field.now spelled column.old column.new) }
     ensures err { OnErr result (values column.new ≡ values column.old) }
 {
-    match column.kind() {
-        ColumnType::Int64 => match spelled_int(field) {
+    match column.kind().plain() {
+        PlainType::Int64 => match spelled_int(field) {
             Some(number) => column.push_int(number).map(|()| true),
             None => Ok(false),
         },
-        ColumnType::UInt64 => match spelled_uint(field) {
+        PlainType::UInt64 => match spelled_uint(field) {
             Some(number) => column.push_uint(number).map(|()| true),
             None => Ok(false),
         },
-        ColumnType::Text => column.push_text(field).map(|()| true),
+        PlainType::Text => column.push_text(field).map(|()| true),
     }
 }

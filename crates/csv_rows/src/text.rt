@@ -4,7 +4,7 @@ ghost use Rattle.chunk_data.specs.Names.{value_at, Table, row_at, values};
 ghost use Rattle.query_model.specs.Texts.{doubled, quoted, row_text as text_of_row, rows_text, separator, value_text};
 ghost use Rattle.csv_rows.specs.Lines.{heading};
 
-use chunk_data::{Bytes, Chunk, Column, List, Memory, Value};
+use chunk_data::{Bytes, Chunk, Column, List, Memory, PlainSlice, Value};
 use itoa::{Buffer, Integer};
 use query_model::plain::row_text;
 use std::alloc::Global;
@@ -94,10 +94,10 @@ fn append_value(
     ensures { OnOk result (
         out.new.items ≡ out.old.items ++ value_text (value_at (values column.now) i)) }
 {
-    match column {
-        Column::Int64(numbers) => append_number(out, digits, numbers[i]),
-        Column::UInt64(numbers) => append_number(out, digits, numbers[i]),
-        Column::Text(texts) => append_quoted(out, texts.get(i)),
+    match column.plain() {
+        PlainSlice::Ints(numbers) => append_number(out, digits, numbers[i]),
+        PlainSlice::UInts(numbers) => append_number(out, digits, numbers[i]),
+        PlainSlice::Texts(texts) => append_quoted(out, texts.get(i)),
     }
 }
 

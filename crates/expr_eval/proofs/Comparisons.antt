@@ -1,6 +1,5 @@
 -- Comparisons on numbers and texts are those on values.
-use Rattle.expr_eval.proofs.Imports.{arith, CompareOp, Int, UInt, Value, compared, false, flipped, int_cmp, int_cmp_total, is_text, nat_list_cmp_total, ordering_reverse, passes, plain_value, pos, ℕ, ℤ, ◌≡◌}
-use Rattle.chunk_data.specs.Values.{type_of as type_of_value}
+use Rattle.expr_eval.proofs.Imports.{arith, CompareOp, Int, UInt, Value, compared, false, flipped, int_cmp, int_cmp_total, is_text, nat_list_cmp_total, number_type, ordering_reverse, passes, plain_value, pos, ℕ, ℤ, ◌≡◌}
 
 compared-reverse : (a b : Value) → compared b a ≡ ordering_reverse (compared a b)
 compared-reverse a b = grind (arith, nat_list_cmp_total.antisymm, int_cmp_total.antisymm)
@@ -19,5 +18,5 @@ uint_compared x z = grind arith
 pub plains_compared : (y z : ℤ) → compared (plain_value y) (plain_value z) ≡ int_cmp y z
 plains_compared y z = grind arith
 
-pub plain_is_number : (z : ℤ) → is_text (type_of_value (plain_value z)) ≡ false
+pub plain_is_number : (z : ℤ) → is_text (number_type z) ≡ false
 plain_is_number z = grind arith

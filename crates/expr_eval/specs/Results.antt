@@ -1,12 +1,10 @@
 -- What operators give at each pair of values.
 use Rattle.chunk_data.specs.Names.{Table, column_type, values}
 use Rattle.chunk_data.specs.declared.typed_column.Column.{Column}
-use Rattle.query_model.specs.Expressions.{Expr, gives_uint, is_uint_column, type_of, value_of}
-use Rattle.query_model.specs.Prelude.{ColumnType, int_rem_euclid}
-use Rattle.query_model.specs.declared.query.ArithOp.{ArithOp}
+use Rattle.query_model.specs.Expressions.{Expr, type_of, value_of}
+use Rattle.query_model.specs.Prelude.{int_rem_euclid}
 use Rattle.query_model.specs.declared.query.CompareOp.{CompareOp}
-use Rattle.std.specs.Prelude.{Bool, None, Option, Some, false, if◌then◌else◌, map, pos, true, unsigned_abs, ℕ, ℤ, ◌^◌, ◌≡◌}
-use Rattle.chunk_data.specs.declared.typed_value.ColumnType.TheVariants as column
+use Rattle.std.specs.Prelude.{Bool, None, Option, Some, false, map, pos, true, unsigned_abs, ℕ, ℤ, ◌^◌, ◌≡◌}
 use Rattle.query_model.specs.declared.query.CompareOp.TheVariants as compare
 use Rattle.query_model.specs.declared.query.ExprOf.TheVariants as expr
 
@@ -18,15 +16,6 @@ residue z = unsigned_abs (int_rem_euclid z (pos (2 ^ 64)))
 abbrev pub swap_if : {X Y : Type 0} → Bool → (X → X → Y) → X → X → Y
 swap_if false f x y = f x y
 swap_if true f x y = f y x
-
--- the type of the result of an operator at operands of these types
-abbrev pub arith_type : ArithOp → ColumnType → ColumnType → ColumnType
-arith_type op s t = if gives_uint op (is_uint_column s) (is_uint_column t) then column.UInt64
-    else column.Int64
-
--- the type of the result of an operator at operands of this type of numbers
-abbrev pub result_type : ArithOp → ColumnType → ColumnType
-result_type op kind = arith_type op kind kind
 
 -- The column that was made of an expression at each row. None is made of a column reference, which
 -- is read in place, and none of a plain number.

@@ -1,4 +1,4 @@
-ghost use Rattle.std.specs.Prelude.{◌≡◌, pos, length, map, IfOk, IfSome, None, false};
+ghost use Rattle.std.specs.Prelude.{◌≡◌, pos, length, map, IfOk, IfSome, None, false, true};
 ghost use Rattle.std.specs.List.{zip};
 ghost use Rattle.std.specs.Ordering.{int_cmp};
 ghost use Rattle.chunk_data.specs.Columns.{column_type, values};
@@ -10,7 +10,7 @@ use crate::compare_loops::{
     uint_mask, uint_mask_beside,
 };
 use crate::expression::{arith_column, column_at, plain_number};
-use chunk_data::{Bytes, Chunk, Column, ColumnType, Memory, Value};
+use chunk_data::{Bytes, Chunk, Column, Memory, PlainType, Value};
 use query_model::checked::{Cond, Expr};
 use query_model::query::{CompareOp, CondOf, ExprOf, Number, Operand};
 use std::alloc::Global;
@@ -70,16 +70,16 @@ fn column_beside(
     ensures { IfOk result (λ m. m.items
         ≡ map (λ v. passes op (compared v (plain_value (number_of n)))) (values column.now)) }
 {
-    match column.kind() {
-        ColumnType::Int64 => {
+    match column.kind().plain() {
+        PlainType::Int64 => {
             let mask = ints_beside(alloc, op, column.ints(), n)?;
             Ok(mask)
         }
-        ColumnType::UInt64 => {
+        PlainType::UInt64 => {
             let mask = uints_beside(alloc, op, column.uints(), n)?;
             Ok(mask)
         }
-        ColumnType::Text => unreachable!(),
+        PlainType::Text => unreachable!(),
     }
 }
 
@@ -94,16 +94,16 @@ fn ints_and_column(
     ensures { IfOk result (λ m. m.items
         ≡ map (λ p. passes op (compared p.0 p.1)) (zip (map Value.Int xs.now) (values right.now))) }
 {
-    match right.kind() {
-        ColumnType::Int64 => {
+    match right.kind().plain() {
+        PlainType::Int64 => {
             let mask = int_mask(alloc, op, xs, right.ints())?;
             Ok(mask)
         }
-        ColumnType::UInt64 => {
+        PlainType::UInt64 => {
             let mask = int_uint_mask(alloc, op, xs, right.uints())?;
             Ok(mask)
         }
-        ColumnType::Text => unreachable!(),
+        PlainType::Text => unreachable!(),
     }
 }
 
@@ -118,16 +118,16 @@ fn uints_and_column(
     ensures { IfOk result (λ m. m.items ≡ map (λ p. passes op (compared p.0 p.1))
         (zip (map Value.UInt xs.now) (values right.now))) }
 {
-    match right.kind() {
-        ColumnType::Int64 => {
+    match right.kind().plain() {
+        PlainType::Int64 => {
             let mask = int_uint_mask(alloc, flip(op), right.ints(), xs)?;
             Ok(mask)
         }
-        ColumnType::UInt64 => {
+        PlainType::UInt64 => {
             let mask = uint_mask(alloc, op, xs, right.uints())?;
             Ok(mask)
         }
-        ColumnType::Text => unreachable!(),
+        PlainType::Text => unreachable!(),
     }
 }
 
@@ -138,16 +138,16 @@ fn columns(alloc: Global, op: CompareOp, left: &Column, right: &Column) -> Resul
     ensures { IfOk result (λ m. m.items
         ≡ map (λ p. passes op (compared p.0 p.1)) (zip (values left.now) (values right.now))) }
 {
-    match left.kind() {
-        ColumnType::Int64 => {
+    match left.kind().plain() {
+        PlainType::Int64 => {
             let mask = ints_and_column(alloc, op, left.ints(), right)?;
             Ok(mask)
         }
-        ColumnType::UInt64 => {
+        PlainType::UInt64 => {
             let mask = uints_and_column(alloc, op, left.uints(), right)?;
             Ok(mask)
         }
-        ColumnType::Text => {
+        PlainType::Text => {
             let mask = text_mask(alloc, op, left.texts(), right.texts())?;
             Ok(mask)
         }
@@ -265,7 +265,7 @@ fn text_compared(
     chunk: &Chunk,
 ) -> Result<Vec<bool>, Memory>
     requires typed { IsTyped chunk.now.types expr.now }
-    requires is_text { type_of expr.now chunk.now.types ≡ ColumnType.Text }
+    requires is_text { is_text (type_of expr.now chunk.now.types) ≡ true }
     ensures { IfOk result (λ m. m.items ≡ map (λ row. passes op
         (compared (value_of expr.now row) (Value.Text text.now))) chunk.now.rows) }
 {
@@ -289,7 +289,7 @@ fn beside_text(
     chunk: &Chunk,
 ) -> Result<Vec<bool>, Memory>
     requires typed { IsTypedOperand chunk.now.types left.now }
-    requires is_text { operand_type left.now chunk.now.types ≡ ColumnType.Text }
+    requires is_text { is_text (operand_type left.now chunk.now.types) ≡ true }
     ensures { IfOk result (λ m. m.items ≡ map (λ row. passes op
         (compared (operand_value left.now row) (Value.Text text.now))) chunk.now.rows) }
 {

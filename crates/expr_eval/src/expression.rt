@@ -2,14 +2,14 @@ ghost use Rattle.std.specs.Prelude.{◌≡◌, pos, length, map, IfOk, None, Som
 ghost use Rattle.std.specs.Option.{option_map};
 ghost use Rattle.std.specs.List.{zip};
 ghost use Rattle.chunk_data.specs.Columns.{column_type, values};
-ghost use Rattle.query_model.specs.Names.{value_of, type_of, number_of, plain_value, arith_value, IsItem, IsTyped, plain_of, CanHold, AreNumbersAlike, AreAlike};
-ghost use Rattle.expr_eval.specs.Results.{IsMade, swap_if, result_type, arith_type};
+ghost use Rattle.query_model.specs.Names.{value_of, type_of, number_of, plain_value, arith_type, arith_value, result_type, IsItem, IsTyped, plain_of, CanHold, AreNumbersAlike, AreAlike};
+ghost use Rattle.expr_eval.specs.Results.{IsMade, swap_if};
 
 use crate::arith_loops::{
     int_results, int_results_beside, int_results_onto, uint_differences, uint_differences_beside,
     uint_results, uint_results_beside,
 };
-use chunk_data::{Chunk, Column, ColumnType, Memory, Value};
+use chunk_data::{Chunk, Column, ColumnType, Memory, PlainType, Value};
 use query_model::checked::Expr;
 use query_model::query::{ArithOp, ExprOf, Number};
 use std::alloc::Global;
@@ -100,10 +100,10 @@ fn beside(
     ensures values { IfOk result (λ c. values c ≡ map
         (λ v. swap_if swapped (arith_value op) v (plain_value (number_of n))) (values column.now)) }
 {
-    match column.kind() {
-        ColumnType::Int64 => int_beside(alloc, swapped, op, column.ints(), number_as_int(n)),
-        ColumnType::UInt64 => uint_beside(alloc, swapped, op, column.uints(), number_as_uint(n)),
-        ColumnType::Text => unreachable!(),
+    match column.kind().plain() {
+        PlainType::Int64 => int_beside(alloc, swapped, op, column.ints(), number_as_int(n)),
+        PlainType::UInt64 => uint_beside(alloc, swapped, op, column.uints(), number_as_uint(n)),
+        PlainType::Text => unreachable!(),
     }
 }
 
@@ -144,10 +144,10 @@ fn pairs(alloc: Global, op: ArithOp, left: &Column, right: &Column) -> Result<Co
     ensures values { IfOk result (λ c. values c
         ≡ map (λ p. arith_value op p.0 p.1) (zip (values left.now) (values right.now))) }
 {
-    match left.kind() {
-        ColumnType::Int64 => int_pairs(alloc, op, left.ints(), right.ints()),
-        ColumnType::UInt64 => uint_pairs(alloc, op, left.uints(), right.uints()),
-        ColumnType::Text => unreachable!(),
+    match left.kind().plain() {
+        PlainType::Int64 => int_pairs(alloc, op, left.ints(), right.ints()),
+        PlainType::UInt64 => uint_pairs(alloc, op, left.uints(), right.uints()),
+        PlainType::Text => unreachable!(),
     }
 }
 
@@ -159,10 +159,13 @@ fn pairs_onto(alloc: Global, op: ArithOp, left: Column, right: &Column) -> Resul
     ensures values { IfOk result
         (λ c. values c ≡ map (λ p. arith_value op p.0 p.1) (zip (values left) (values right.now))) }
 {
-    match left {
-        Column::Int64(xs) => Ok(Column::of_ints(int_results_onto(op, xs, right.ints()))),
-        other => {
-            let made = pairs(alloc, op, &other, right)?;
+    match left.kind() {
+        ColumnType::Int64 => {
+            let results = int_results_onto(op, left.into_ints(), right.ints());
+            Ok(Column::of_ints(results))
+        }
+        ColumnType::UInt64 | ColumnType::Text => {
+            let made = pairs(alloc, op, &left, right)?;
             Ok(made)
         }
     }

@@ -1,9 +1,9 @@
-ghost use Rattle.std.specs.Prelude.{◌≡◌, ◌↔◌, length, IsTrue};
+ghost use Rattle.std.specs.Prelude.{◌≡◌, ◌↔◌, IsTrue};
 ghost use Rattle.std.specs.Option.{option_map};
 ghost use Rattle.query_model.specs.Names.{type_of, number_of, IsTyped, IsTypedOperand, IsTypedCond, operand_type, is_text, plain_of, CanHold, AreAlike, AreNumbersAlike};
 
 use crate::expression::plain_number;
-use chunk_data::ColumnType;
+use chunk_data::{ColumnType, PlainType};
 use query_model::checked::{Cond, Expr};
 use query_model::plain::expr_type;
 use query_model::query::{CondOf, ExprOf, Number, Operand};
@@ -12,16 +12,16 @@ use query_model::query::{CondOf, ExprOf, Number, Operand};
 fn can_hold(kind: ColumnType, n: Number) -> bool
     ensures { IsTrue result ↔ CanHold kind (number_of n) }
 {
-    match kind {
-        ColumnType::Int64 => {
+    match kind.plain() {
+        PlainType::Int64 => {
             if n.negative {
                 n.size <= 9223372036854775808
             } else {
                 n.size < 9223372036854775808
             }
         }
-        ColumnType::UInt64 => !n.negative || n.size == 0,
-        ColumnType::Text => false,
+        PlainType::UInt64 => !n.negative || n.size == 0,
+        PlainType::Text => false,
     }
 }
 
@@ -29,11 +29,7 @@ fn can_hold(kind: ColumnType, n: Number) -> bool
 fn numbers_alike(s: ColumnType, t: ColumnType) -> bool
     ensures { IsTrue result ↔ AreNumbersAlike s t }
 {
-    match s {
-        ColumnType::Int64 => matches!(t, ColumnType::Int64),
-        ColumnType::UInt64 => matches!(t, ColumnType::UInt64),
-        ColumnType::Text => false,
-    }
+    s.is_alike(t) && !s.is_text()
 }
 
 // Whether two operands, plain numbers or of these types, may stand in arithmetic.
@@ -52,10 +48,8 @@ fn alike(p: Option<Number>, s: ColumnType, q: Option<Number>, t: ColumnType) -> 
     }
 }
 
-// Whether two typed expressions may stand in arithmetic.
+// Whether two expressions may stand in arithmetic.
 fn operands_alike(left: &Expr, right: &Expr, types: &[ColumnType]) -> bool
-    requires left { IsTyped types.now left.now }
-    requires right { IsTyped types.now right.now }
     ensures { IsTrue result ↔ AreAlike (plain_of left.now) (type_of left.now types.now)
         (plain_of right.now) (type_of right.now types.now) }
 {
@@ -97,13 +91,12 @@ fn is_typed_operand(operand: &Operand<u32>, types: &[ColumnType]) -> bool
     }
 }
 
-// Whether a typed side of a comparison is a text.
+// Whether a side of a comparison is a text.
 fn operand_is_text(operand: &Operand<u32>, types: &[ColumnType]) -> bool
-    requires { IsTypedOperand types.now operand.now }
     ensures { result ≡ is_text (operand_type operand.now types.now) }
 {
     match operand {
-        Operand::Plain(expr) => matches!(expr_type(expr, types), ColumnType::Text),
+        Operand::Plain(expr) => expr_type(expr, types).is_text(),
         Operand::Text(_) => true,
         Operand::Agg(_) => true,
     }

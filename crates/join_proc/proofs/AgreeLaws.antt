@@ -1,5 +1,5 @@
 -- Rows agree exactly where their keys have one code.
-use Rattle.join_proc.proofs.Imports.{All, All-map, AllByRecursion, AreCells, AreKeyPairs, ColumnType, HasKey, IsKeyPair, IsSeenFor, JoinSpec, KeyPair, Row, agree, codes-agree, first_of, key_at, kind_at, kinds_at, left_places, length-map, recursion_from_All, right_places, row_code, same_code, same_row, same_row_is, SeenKeys, List, [], ap, ap₂, arith, length, map, refl, sym, true, ℕ, ◌<◌, ◌∙◌, ◌∷◌, ◌≡◌}
+use Rattle.join_proc.proofs.Imports.{All, All-map, AllByRecursion, AreCells, AreKeyPairs, ColumnType, HasKey, IsKeyPair, IsSeenFor, JoinSpec, KeyPair, Row, agree, codes-agree, first_of, key_at, type_at, kinds_at, left_places, length-map, recursion_from_All, right_places, row_code, same_code, same_row, same_row_is, SeenKeys, List, [], ap, ap₂, arith, length, map, refl, sym, true, ℕ, ◌<◌, ◌∙◌, ◌∷◌, ◌≡◌}
 use Rattle.key_codes.specs.declared.key_code.SeenKeys.TheVariants as seen
 
 -- rows agree where they have one key
@@ -26,15 +26,15 @@ sides-long : (pairs : List KeyPair)
 sides-long pairs = grind (arith, length-map)
 
 first-kinds : (join : JoinSpec) → AreKeyPairs join → 0 < length (left_places join.pairs)
-    → kind_at join.left (first_of (left_places join.pairs))
-    ≡ kind_at join.right (first_of (right_places join.pairs))
+    → type_at join.left (first_of (left_places join.pairs))
+    ≡ type_at join.right (first_of (right_places join.pairs))
 first-kinds join h some = go join.pairs
     (recursion_from_All (IsKeyPair join.left join.right) join.pairs h) some
   where
     go : (pairs : List KeyPair) → AllByRecursion (IsKeyPair join.left join.right) pairs
         → 0 < length (left_places pairs)
-        → kind_at join.left (first_of (left_places pairs))
-        ≡ kind_at join.right (first_of (right_places pairs))
+        → type_at join.left (first_of (left_places pairs))
+        ≡ type_at join.right (first_of (right_places pairs))
     go [] h some = absurd (omega (arith, some))
     go (pair ∷ pairs) h some = h.0.2
 
@@ -53,21 +53,21 @@ same-form : (n : ℕ) (t u : ColumnType) (x : SeenKeys) → (0 < n → t ≡ u)
     → IsSeenFor n t x → IsSeenFor n u x
 same-form n t u (seen.Whole some) e f = f
 same-form n t u (seen.Numbers numbers) e f = grind arith
-same-form n t u (seen.Bytes codes) e f = λ one. sym (e (omega (arith, one))) ∙ f one
+same-form n t u (seen.Bytes codes) e f = λ one. grind arith
 
 -- the form of either side's keys is that of the other's
 pub left-form : (join : JoinSpec) → AreKeyPairs join → (x : SeenKeys)
     → IsSeenFor (length (right_places join.pairs))
-    (kind_at join.right (first_of (right_places join.pairs))) x
+    (type_at join.right (first_of (right_places join.pairs))) x
     → IsSeenFor (length (left_places join.pairs))
-    (kind_at join.left (first_of (left_places join.pairs))) x
+    (type_at join.left (first_of (left_places join.pairs))) x
 left-form join h x f = grind (arith, same-form, first-kinds, sides-long)
 
 pub right-form : (join : JoinSpec) → AreKeyPairs join → (x : SeenKeys)
     → IsSeenFor (length (left_places join.pairs))
-    (kind_at join.left (first_of (left_places join.pairs))) x
+    (type_at join.left (first_of (left_places join.pairs))) x
     → IsSeenFor (length (right_places join.pairs))
-    (kind_at join.right (first_of (right_places join.pairs))) x
+    (type_at join.right (first_of (right_places join.pairs))) x
 right-form join h x f = grind (arith, sides-long, same-form, first-kinds)
 
 module _ (types : List ColumnType) (pairs : List KeyPair) where

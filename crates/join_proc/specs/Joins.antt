@@ -1,15 +1,14 @@
 -- Where a right side's keys are, and the pairs of rows that a left chunk's rows make with them.
-use Rattle.chunk_data.specs.Names.{Row, Table, append_each, row_at}
+use Rattle.chunk_data.specs.Names.{Row, Table, append_each, row_at, type_at}
 use Rattle.join_proc.specs.declared.join_index.JoinIndex.{JoinIndex}
 use Rattle.join_proc.specs.declared.left_rows.LeftRows.{LeftRows}
 use Rattle.join_proc.specs.declared.left_rows.PlacePairs.{PlacePairs}
 use Rattle.join_proc.specs.declared.left_rows.Start.{Start}
-use Rattle.key_codes.specs.Keys.{HasKey, IsSeenFor, codes_in, first_of, kind_at, places_from, row_code, same_code, with_key}
+use Rattle.key_codes.specs.Keys.{HasKey, IsSeenFor, codes_in, first_of, places_from, row_code, same_code, with_key}
 use Rattle.proc_api.specs.Prelude.{ColumnType, JoinSpec, KeyPair}
 use Rattle.query_model.specs.Names.{agree, joined_rows}
 use Rattle.std.specs.List.{All, position_or_len}
 use Rattle.std.specs.Prelude.{List, [], cond, drop, filter, flat_map, fold, length, map, max, nat_eq, nat_lt, slice_index_or, slice_set, suc, true, ℕ, ◌++◌, ◌+◌, ◌<◌, ◌∷◌, ◌≡◌, ◌≤◌, ◌⊎◌}
-use Rattle.chunk_data.specs.declared.typed_value.ColumnType.TheVariants as column
 
 -- the columns of either side that must agree
 abbrev pub left_places : List KeyPair → List ℕ
@@ -22,7 +21,7 @@ right_places pairs = map (λ (pair : KeyPair). pair.right) pairs
 abbrev pub IsKeyPair : (left right : List ColumnType) → KeyPair → Type 0
 IsKeyPair left right pair =
     (pair.left < length left) × (pair.right < length right)
-    × (slice_index_or left pair.left column.Text ≡ slice_index_or right pair.right column.Text)
+    × (type_at left pair.left ≡ type_at right pair.right)
 
 -- ---- the right side
 
@@ -49,7 +48,7 @@ pub record AreLinked (places : List ℕ) (from : ℕ) (firsts nexts : List ℕ) 
 -- the index of its rows by their columns of the pairs
 pub record IsIndexOf (pairs : List KeyPair) (x : JoinIndex) : Type 0 where
   pub form : IsSeenFor (length (right_places pairs))
-      (kind_at x.rows.types (first_of (right_places pairs))) x.seen
+      (type_at x.rows.types (first_of (right_places pairs))) x.seen
   pub cells : All (HasKey x.rows.types (right_places pairs)) x.rows.rows
   pub codes : codes_in x.seen ≡ key_codes (right_places pairs) x.rows.rows
   pub many : length x.firsts.items ≡ suc (length (codes_in x.seen))

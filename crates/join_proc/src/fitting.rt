@@ -2,8 +2,7 @@ ghost use Rattle.std.specs.Prelude.{◌≡◌, ◌↔◌, IsTrue, IfOk, map};
 ghost use Rattle.proc_api.specs.Keeping.{AreKeyPairs, FitsJoin};
 ghost use Rattle.join_proc.specs.Joins.{IsKeyPair, left_places, right_places};
 
-use chunk_data::{Chunk, ColumnType, Memory};
-use key_codes::type_at;
+use chunk_data::{Chunk, ColumnType, Memory, type_at};
 use query_model::checked::KeyPair;
 use query_model::processor_spec::JoinSpec;
 use std::alloc::Global;

@@ -6,8 +6,8 @@ ghost use Rattle.join_proc.specs.Joins.{AreLinked, AreStarts, IsIndexOf, starts_
 
 use crate::fitting::{left_columns, right_columns};
 use crate::left_rows::{LeftRows, Start};
-use chunk_data::{Chunk, Memory};
-use key_codes::{SeenKeys, find_places, type_at};
+use chunk_data::{Chunk, Memory, type_at};
+use key_codes::{SeenKeys, find_places};
 use query_model::processor_spec::JoinSpec;
 use std::alloc::Global;
 use std::mem::replace;

@@ -1,10 +1,9 @@
 -- Keys that have one code are one key.
 use Rattle.std.proofs.Common.{◌≡◌, ℕ, suc, ◌<◌, ◌+◌, ◌^◌, ◌≢◌, Bool, true, false, append_assoc, List, [], ◌∷◌, ◌++◌, length, map, flat_map, take, drop, get_or, refl, sym, ap, ap₂, ◌∙◌, arith, fold, w64, inl, inr, subst, cond, not, ◌||◌}
 use Rattle.chunk_data.specs.declared.typed_value.Value.TheVariants.{Int, UInt, Text}
-use Rattle.key_codes.proofs.Prelude.{AllByRecursion, AreCells, ColumnType, HasKey, IsCell, IsSame, Row, Value, append-nil, at_drop_more, cases_eq, drop_at, first_of, flat_map-append, from_le_bytes-to_le_bytes_8, get_or-map, get_or_default, key_at, key_code, kind_at, list_any, map-append, nat_list_eq_equiv, places_from, position_or_len, same_code, same_row, same_row_is, same_text, take-suc, take_at, to_le_bytes, value_at, value_bytes, value_code, with_key, from_le_bytes, cast_unsigned, cast_signed, kinds_at}
+use Rattle.key_codes.proofs.Prelude.{AllByRecursion, AreCells, ColumnType, HasKey, IsCell, IsSame, Row, Value, append-nil, at_drop_more, cases_eq, drop_at, first_of, flat_map-append, from_le_bytes-to_le_bytes_8, get_or-map, get_or_default, key_at, key_code, type_at, list_any, map-append, nat_list_eq_equiv, places_from, position_or_len, same_code, same_row, same_row_is, same_text, take-suc, take_at, to_le_bytes, value_at, value_bytes, value_code, with_key, from_le_bytes, cast_unsigned, cast_signed, kinds_at}
 use Rattle.std.proofs.lemmas.Grind.{common_steps}
 use Rattle.key_codes.proofs.CodeLaws.{map-insert}
-use Rattle.chunk_data.specs.declared.typed_value.ColumnType.TheVariants as column
 
 pub same_code_is : IsSame same_code
 same_code_is = record {
@@ -34,23 +33,18 @@ number-bytes m n xs ys p q e =
 
 values-one : (t : ColumnType) (v w : Value) (xs ys : List ℕ) → IsCell t v → IsCell t w
     → value_bytes v ++ xs ≡ value_bytes w ++ ys → AreOne v w xs ys
-values-one column.Int64 (Int y) (Int z) xs ys p q e =
-    let s = number-bytes (cast_unsigned w64 y) (cast_unsigned w64 z) xs ys p.1 q.1 e in
-    record { value = ap Int (sym p.0 ∙ ap (cast_signed w64) s.0 ∙ q.0); rest = s.1 }
-values-one column.UInt64 (UInt m) (UInt n) xs ys p q e =
-    let s = number-bytes m n xs ys p q e in record { value = ap UInt s.0; rest = s.1 }
-values-one column.Text (Text a) (Text b) xs ys p q e =
-    let s = number-bytes (length a) (length b) (a ++ xs) (b ++ ys) p q
+values-one t (Int y) (Int z) xs ys p q e =
+    let s = number-bytes (cast_unsigned w64 y) (cast_unsigned w64 z) xs ys p.2 q.2 e in
+    record { value = ap Int (sym p.1 ∙ ap (cast_signed w64) s.0 ∙ q.1); rest = s.1 }
+values-one t (UInt m) (UInt n) xs ys p q e =
+    let s = number-bytes m n xs ys p.1 q.1 e in record { value = ap UInt s.0; rest = s.1 }
+values-one t (Text a) (Text b) xs ys p q e =
+    let s = number-bytes (length a) (length b) (a ++ xs) (b ++ ys) p.1 q.1
     (sym (append_assoc (to_le_bytes w64 (length a)) a xs) ∙ e
     ∙ append_assoc (to_le_bytes w64 (length b)) b ys) in
     let r = split a b xs ys s.0 s.1 in
     record { value = ap Text r.0; rest = r.1 }
-values-one column.Int64 (Int y) w xs ys p q e = absurd q
-values-one column.Int64 v w xs ys p q e = absurd p
-values-one column.UInt64 (UInt m) w xs ys p q e = absurd q
-values-one column.UInt64 v w xs ys p q e = absurd p
-values-one column.Text (Text a) w xs ys p q e = absurd q
-values-one column.Text v w xs ys p q e = absurd p
+values-one t v w xs ys p q e = grind arith
 
 bytes-one : (types : List ColumnType) (a b : Row) → AreCells types a → AreCells types b
     → flat_map value_bytes a ≡ flat_map value_bytes b → a ≡ b
@@ -197,13 +191,13 @@ cells-append _ _ t v h p = absurd h
 
 pub cells-next : (types : List ColumnType) (places : List ℕ) (k : ℕ) (row : Row)
     → HasKey types (take k places) row → k < length places
-    → IsCell (kind_at types (get_or places k 0)) (value_at row (get_or places k 0))
+    → IsCell (type_at types (get_or places k 0)) (value_at row (get_or places k 0))
     → HasKey types (take (k + 1) places) row
 cells-next types places k row h lt cell =
     let next : k + 1 ≡ suc k = omega arith in
     let more = ap (λ n. take n places) next ∙ take-suc places k 0 lt in
     let kinds = ap (kinds_at types) more
-    ∙ map-append (kind_at types) (take k places) (get_or places k 0 ∷ []) in
+    ∙ map-append (type_at types) (take k places) (get_or places k 0 ∷ []) in
     subst (AreCells (kinds_at types (take (k + 1) places))) (sym (key-next places k row lt))
     (subst (λ ts. AreCells ts (key_at (take k places) row ++ value_at row (get_or places k 0) ∷ []))
     (sym kinds)
@@ -217,12 +211,12 @@ cell-value rows c i vs e lt = grind (arith, get_or-map)
 
 pub cell-type : (types : List ColumnType) (c : ℕ) (kind : ColumnType) (v w : Value)
     → kind ≡ get_or types c kind → c < length types → v ≡ w → IsCell kind v
-    → IsCell (kind_at types c) w
+    → IsCell (type_at types c) w
 cell-type types c kind v w e lt is h = grind (arith, get_or_default)
 
 -- a key of one value
 pub one-cells : (types : List ColumnType) (places : List ℕ) (row : Row) → length places ≡ 1
-    → IsCell (kind_at types (first_of places)) (value_at row (first_of places))
+    → IsCell (type_at types (first_of places)) (value_at row (first_of places))
     → HasKey types places row
 one-cells types [] row one cell = absurd (omega (arith, one))
 one-cells types (c ∷ []) row one cell = (cell, tt)

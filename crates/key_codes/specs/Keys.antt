@@ -6,22 +6,19 @@ use Rattle.query_model.specs.Prelude.{ColumnType, Int, Row, Text, UInt, Value, v
 use Rattle.std.specs.Cmp.Lexicographic.{pointwise}
 use Rattle.std.specs.Int.{cast_signed, cast_unsigned, to_le_bytes}
 use Rattle.std.specs.List.{position_or_len}
-use Rattle.std.specs.Prelude.{Bool, List, Vec, [], cond, flat_map, length, map, nat_eq, slice_index_or, ℕ, ◌++◌, ◌<◌, ◌^◌, ◌∷◌, ◌≡◌, ◌≢◌}
+use Rattle.std.specs.Prelude.{Bool, List, Vec, [], cond, flat_map, length, map, nat_eq, false, slice_index_or, true, ℕ, ◌++◌, ◌<◌, ◌^◌, ◌∷◌, ◌≡◌}
 use mir.Syntax.{w64}
-use Rattle.chunk_data.specs.declared.typed_value.ColumnType.TheVariants as column
+use Rattle.chunk_data.specs.Values.{is_text, plain_type, type_at}
+use Rattle.chunk_data.specs.declared.typed_value.PlainType.TheVariants as plain
 use Rattle.key_codes.specs.declared.key_code.SeenKeys.TheVariants as seen
 
 -- the key of a row: its values at the places
 abbrev pub key_at : List ℕ → Row → Row
 key_at places row = map (value_at row) places
 
--- the type of a column
-abbrev pub kind_at : List ColumnType → ℕ → ColumnType
-kind_at types c = slice_index_or types c column.Text
-
 -- the types of the key's values
 abbrev pub kinds_at : List ColumnType → List ℕ → List ColumnType
-kinds_at types places = map (kind_at types) places
+kinds_at types places = map (type_at types) places
 
 -- the key's first column
 abbrev pub first_of : List ℕ → ℕ
@@ -49,11 +46,10 @@ row_code places row = key_code (key_at places row)
 
 -- a value that a column of the type has
 abbrev pub IsCell : ColumnType → Value → Type 0
-IsCell column.Int64 (Int z) =
-    (cast_signed w64 (cast_unsigned w64 z) ≡ z) × (cast_unsigned w64 z < 2 ^ 64)
-IsCell column.UInt64 (UInt n) = n < 2 ^ 64
-IsCell column.Text (Text bytes) = length bytes < 2 ^ 64
-IsCell t v = ⊥
+IsCell t (Int z) = (plain_type t ≡ plain.Int64)
+    × (cast_signed w64 (cast_unsigned w64 z) ≡ z) × (cast_unsigned w64 z < 2 ^ 64)
+IsCell t (UInt n) = (plain_type t ≡ plain.UInt64) × (n < 2 ^ 64)
+IsCell t (Text bytes) = (plain_type t ≡ plain.Text) × (length bytes < 2 ^ 64)
 
 -- the values of columns of the types
 abbrev pub AreCells : List ColumnType → Row → Type 0
@@ -100,5 +96,5 @@ codes_in (seen.Bytes codes) = byte_codes codes
 -- keys of so many values, of which the first is of the type, are seen so
 abbrev pub IsSeenFor : ℕ → ColumnType → SeenKeys → Type 0
 IsSeenFor n t (seen.Whole some) = n ≡ 0
-IsSeenFor n t (seen.Numbers numbers) = (n ≡ 1) × (t ≢ column.Text)
-IsSeenFor n t (seen.Bytes codes) = n ≡ 1 → t ≡ column.Text
+IsSeenFor n t (seen.Numbers numbers) = (n ≡ 1) × (is_text t ≡ false)
+IsSeenFor n t (seen.Bytes codes) = n ≡ 1 → is_text t ≡ true

@@ -1,10 +1,9 @@
-ghost use Rattle.std.specs.Prelude.{◌≡◌, ◌≢◌, ◌<◌, ◌++◌, ◌∷◌, [], fold, length, map, flat_map, slice_index_or, OnOk, IfOk};
+ghost use Rattle.std.specs.Prelude.{◌≡◌, ◌<◌, ◌++◌, ◌∷◌, [], fold, length, map, flat_map, OnOk, IfOk, false, true};
 ghost use Rattle.std.specs.List.{All};
-ghost use Rattle.chunk_data.specs.Names.{column_type, row_at, value_at, values};
-ghost use Rattle.chunk_data.specs.declared.typed_value.ColumnType.TheVariants as type;
-ghost use Rattle.key_codes.specs.Keys.{FindsCode, HasKey, IsCell, IsSeenFor, byte_codes, codes_in, first_of, key_at, kind_at, number_codes, places_from, row_code, same_code, value_bytes, value_code, with_key};
+ghost use Rattle.chunk_data.specs.Names.{column_type, is_text, row_at, type_at, value_at, values};
+ghost use Rattle.key_codes.specs.Keys.{FindsCode, HasKey, IsCell, IsSeenFor, byte_codes, codes_in, first_of, key_at, number_codes, places_from, row_code, same_code, value_bytes, value_code, with_key};
 
-use chunk_data::{Chunk, Column, ColumnType, Memory};
+use chunk_data::{Chunk, Column, ColumnType, Memory, PlainSlice};
 use indexmap::IndexSet;
 use std::alloc::Global;
 
@@ -28,7 +27,7 @@ impl SeenKeys {
         if values == 0 {
             return SeenKeys::Whole(false);
         }
-        if values == 1 && first != ColumnType::Text {
+        if values == 1 && !first.is_text() {
             return SeenKeys::Numbers(IndexSet::new(alloc));
         }
         SeenKeys::Bytes(IndexSet::new(alloc))
@@ -46,42 +45,28 @@ impl SeenKeys {
     }
 }
 
-/// The type of a column, or Text where there is none.
-pub fn type_at(types: &[ColumnType], c: usize) -> ColumnType
-    ensures { result ≡ kind_at types.now c }
-{
-    if c < types.len() {
-        types[c]
-    } else {
-        ColumnType::Text
-    }
-}
-
 // A number by its bits.
 fn number_at(column: &Column, i: usize) -> u64
-    requires kind { column_type column.now ≢ type.Text }
+    requires kind { is_text (column_type column.now) ≡ false }
     requires within { i < length (values column.now) }
     ensures code { result ∷ [] ≡ value_code (value_at (values column.now) i) }
     ensures cell { IsCell (column_type column.now) (value_at (values column.now) i) }
 {
-    match column {
-        Column::Int64(numbers) => numbers[i].cast_unsigned(),
-        Column::UInt64(numbers) => numbers[i],
-        Column::Text(_) => unreachable!(),
+    match column.plain() {
+        PlainSlice::Ints(numbers) => numbers[i].cast_unsigned(),
+        PlainSlice::UInts(numbers) => numbers[i],
+        PlainSlice::Texts(_) => unreachable!(),
     }
 }
 
 // A text by its bytes.
 fn text_at(column: &Column, i: usize) -> &[u8]
-    requires kind { column_type column.now ≡ type.Text }
+    requires kind { is_text (column_type column.now) ≡ true }
     requires within { i < length (values column.now) }
     ensures code { result.now ≡ value_code (value_at (values column.now) i) }
     ensures cell { IsCell (column_type column.now) (value_at (values column.now) i) }
 {
-    match column {
-        Column::Text(texts) => texts.get(i),
-        _ => unreachable!(),
-    }
+    column.text(i)
 }
 
 // A value's bytes behind those that are there.
@@ -91,10 +76,10 @@ fn push_value(code: &mut Vec<u8>, column: &Column, i: usize) -> Result<(), Memor
         (code.new.items ≡ code.old.items ++ value_bytes (value_at (values column.now) i)) }
     ensures cell { IsCell (column_type column.now) (value_at (values column.now) i) }
 {
-    match column {
-        Column::Int64(numbers) => code.extend_from_slice(&numbers[i].to_le_bytes())?,
-        Column::UInt64(numbers) => code.extend_from_slice(&numbers[i].to_le_bytes())?,
-        Column::Text(texts) => {
+    match column.plain() {
+        PlainSlice::Ints(numbers) => code.extend_from_slice(&numbers[i].to_le_bytes())?,
+        PlainSlice::UInts(numbers) => code.extend_from_slice(&numbers[i].to_le_bytes())?,
+        PlainSlice::Texts(texts) => {
             let text = texts.get(i);
             code.extend_from_slice(&(text.len() as u64).to_le_bytes())?;
             code.extend_from_slice(text)?;
@@ -169,14 +154,14 @@ fn place_of_row(
 ) -> Result<usize, Memory>
     requires within { All (λ c. c < length chunk.now.types) places.now }
     requires row { i < length chunk.now.rows }
-    requires form { IsSeenFor (length places.now) (kind_at chunk.now.types (first_of places.now))
+    requires form { IsSeenFor (length places.now) (type_at chunk.now.types (first_of places.now))
         seen.old }
     ensures finds { IfOk result
         (FindsCode adds (row_code places.now (row_at chunk.now.rows i)) (codes_in seen.old)
         (codes_in seen.new)) }
     ensures cells { OnOk result (HasKey chunk.now.types places.now (row_at chunk.now.rows i)) }
     ensures form { OnOk result
-        (IsSeenFor (length places.now) (kind_at chunk.now.types (first_of places.now)) seen.new) }
+        (IsSeenFor (length places.now) (type_at chunk.now.types (first_of places.now)) seen.new) }
 {
     match seen {
         SeenKeys::Whole(some) => {
@@ -206,7 +191,7 @@ pub fn find_places(
     chunk: &Chunk,
 ) -> Result<Vec<usize>, Memory>
     requires within { All (λ c. c < length chunk.now.types) places.now }
-    requires form { IsSeenFor (length places.now) (kind_at chunk.now.types (first_of places.now))
+    requires form { IsSeenFor (length places.now) (type_at chunk.now.types (first_of places.now))
         seen.old }
     ensures places { IfOk result
         (λ v. v.items ≡ places_from adds same_code (codes_in seen.old)
@@ -216,7 +201,7 @@ pub fn find_places(
         (map (row_code places.now) chunk.now.rows)) }
     ensures cells { OnOk result (All (HasKey chunk.now.types places.now) chunk.now.rows) }
     ensures form { OnOk result
-        (IsSeenFor (length places.now) (kind_at chunk.now.types (first_of places.now)) seen.new) }
+        (IsSeenFor (length places.now) (type_at chunk.now.types (first_of places.now)) seen.new) }
 {
     let mut code = Vec::new(alloc);
     let mut found = Vec::with_capacity(alloc, chunk.rows())?;

@@ -9,4 +9,4 @@
 
 mod key_code;
 
-pub use key_code::{SeenKeys, find_places, type_at};
+pub use key_code::{SeenKeys, find_places};

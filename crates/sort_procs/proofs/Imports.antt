@@ -1,9 +1,9 @@
 -- The names from outside that this crate's proofs use, in one place.
-pub use Rattle.chunk_data.proofs.Chunks.{AreColumns-empty, AreColumns-push, rows_of_pushed, written_back}
-pub use Rattle.chunk_data.proofs.ColumnLists.{Joined, Joined-all, Joined-long, Joined-more, fits_long}
+pub use Rattle.chunk_data.proofs.Chunks.{written_back}
 pub use Rattle.chunk_data.proofs.Imports.{Equal, Less, Ordering}
 pub use Rattle.chunk_data.proofs.Laws.{column_fits, length-FitsTypes, length-rows_of}
-pub use Rattle.chunk_data.specs.Names.{AgreeOnKey, AreColumns, FitsTypes, IsTable, Row, Table, append_each, key_cmp, column_type, row_at, rows_of, text_cmp, type_of, value_at, value_cmp, values}
+pub use Rattle.chunk_data.specs.Names.{AgreeOnKey, AreColumns, FitsType, FitsTypes, IsTable, Row, Table, append_each, key_cmp, column_type, row_at, rows_of, text_cmp, value_at, value_cmp, values}
+pub use Rattle.chunk_data.specs.declared.typed_value.ColumnType.{ColumnType}
 pub use Rattle.chunk_data.specs.declared.lists.Memory.{Memory}
 pub use Rattle.chunk_data.specs.declared.typed_column.Column.{Column}
 pub use Rattle.proc_api.proofs.Imports.{All, All-permutation, AllByRecursion, Contains, IsPermutation-append_comm, IsPermutation-append_left, IsPermutation-append_right, IsPermutation-middle, IsPermutation-refl, IsPermutation-trans, IsSortedBy, Picture, SortKey, get_or-eq_default, in_count, input_at, list_all, ranks_by, row_cmp_total}
@@ -20,7 +20,7 @@ pub use Rattle.query_model.proofs.Lists.{map-map}
 pub use Rattle.query_model.proofs.ValueOrder.{value_cmp_total}
 pub use Rattle.query_model.specs.declared.processor_spec.SortSpec.{SortSpec}
 pub use Rattle.sort_procs.specs.Heads.{AreBlank, AreHeadsOf, IsFirstOf, NotesEnds, at, first_row, head_cmp, head_of, heads_of, is_over_at, is_ready, is_used, no_head}
-pub use Rattle.sort_procs.specs.Merging.{Merges, MergesRows, MergesSome, is_open_at, merging_own}
+pub use Rattle.sort_procs.specs.Merging.{Merges, MergesSome, is_open_at, merging_own}
 pub use Rattle.sort_procs.specs.Ranks.{HasRank, IsKeyRank, IsRank, IsValueRank, SortsPlaces, place_cmp, place_of, ranked_cmp, rows_at}
 pub use Rattle.sort_procs.specs.Sorted.{own_of}
 pub use Rattle.sort_procs.specs.Sorting.{PutsInOrder, rows_left, sorting_own}

@@ -1,7 +1,7 @@
 -- The clauses of a merge's kernel.
 use Rattle.std.proofs.lemmas.Grind.{common_steps}
-use Rattle.std.proofs.Common.{◌≡◌, ◌⊎◌, ℕ, suc, ◌+◌, ◌<◌, ◌≤◌, max, ◌&&◌, not, true, false, List, [], ◌∷◌, ◌++◌, length, map, take, drop, get_or, set, append_assoc, Some, None, Result, IfOk, refl, sym, ap, ap₂, subst, ◌∙◌, arith, inl, inr}
-use Rattle.sort_procs.proofs.Imports.{AreBlank, AreColumns, AreColumns-push, AreHeadsOf, AreMerged, Begins, Column, FitsTypes, Head, InputHead, IsFirstOf, IsTable, Leaves, Makes, Memory, MergesRows, MergesSome, NotesEnds, Offer, OfferComes, Offers, Picture, Row, SortSpec, Table, Takes, WantsMore, and_parts, append-nil, at, cases_lt, chunk_rows, cond_both, drop-cons, drop_all, first_row, get_or-map, get_or-set_same, head_at, head_of, head_rows, heads_of, in_count, is_lt, is_open_at, is_ready, is_ready_head, is_used, append_each, column_type, le-leb, le-ltb, leb-false, leb-true, length-FitsTypes, length-append, length-drop, length-map, length-rows_of, length-set, list_all, list_all-map, lt-leb, lt-ltb, map-set, merging_own, nil_from_length, no_head, not-true, or_left, row_cmp, rows_of, rows_of_pushed, value_at, values, with_chunk, written_back}
+use Rattle.std.proofs.Common.{◌≡◌, ℕ, suc, ◌+◌, ◌<◌, ◌≤◌, ◌&&◌, not, true, false, List, [], ◌∷◌, ◌++◌, length, take, drop, get_or, set, append_assoc, Some, None, refl, sym, ap, ap₂, subst, ◌∙◌, arith, inl, inr}
+use Rattle.sort_procs.proofs.Imports.{AreBlank, AreHeadsOf, AreMerged, Begins, Head, InputHead, IsFirstOf, Leaves, Makes, Merges, MergesSome, NotesEnds, Offer, OfferComes, Offers, Picture, Row, SortKey, SortSpec, Table, Takes, WantsMore, and_parts, append-nil, at, cases_lt, chunk_rows, cond_both, drop-cons, drop_all, first_row, get_or-set_same, head_at, head_of, head_rows, heads_of, in_count, is_lt, is_open_at, is_ready, is_ready_head, is_used, le-leb, le-ltb, leb-false, leb-true, length-append, length-drop, length-map, length-set, list_all, list_all-map, lt-leb, lt-ltb, map-set, merging_own, no_head, not-true, or_left, row_cmp, with_chunk, written_back}
 use Rattle.query_model.specs.declared.processor_spec.Spec.TheVariants as spec
 use Rattle.sort_procs.proofs.HeadLaws.{all-pass, each-passes, head-at, read-at}
 use Rattle.sort_procs.proofs.MergingLaws.{merged-made, merged-none, merged-noted, merged-taken, same-heads, set-each}
@@ -132,21 +132,12 @@ module _ (order : SortSpec) (heads : List Head) (i : ℕ) (t : Table) (are : Are
 
 -- ---- rows are made
 
-pub rows-none : (order : SortSpec) (heads : List Head) (columns : List Column)
-    → AreColumns order.types columns 0 → MergesRows order heads heads 0 columns
-rows-none order heads columns are = grind (arith, append-nil, nil_from_length, length-rows_of)
+pub rows-none : (keys : List SortKey) (heads : List Head) → Merges keys heads heads []
+rows-none keys heads = grind (arith, append-nil)
 
--- what is added to column c of what a row is pushed to
-pub pushed-value : (h : Head) (c : ℕ) (other : Column) → FitsTypes h.chunk.types (first_row h)
-    → c < length h.chunk.types → is_used h ≡ false
-    → values other ≡ map (λ row. value_at row c) h.chunk.rows
-    → value_at (values other) h.place ∷ []
-    ≡ get_or (map (λ v. v ∷ []) (first_row h)) c (value_at (values other) h.place ∷ [])
-pushed-value h c other fits lt unused e = grind (arith, leb-false, length-FitsTypes, get_or-map)
-
--- the first row of head i was added to the columns, by what was read of the head then
-module _ {order : SortSpec} {old now : List Head} {n i : ℕ} {columns : List Column}
-    (h : MergesRows order old now n columns) (are : AreHeadsOf order now)
+-- the first row of head i was added to what was made, by what was read of the head then
+module _ {order : SortSpec} {old now : List Head} {i : ℕ} {made : List Row}
+    (h : Merges order.keys old now made) (are : AreHeadsOf order now)
     (ready : list_all is_ready now ≡ true) (f : IsFirstOf order.keys now 32 i) {u x y z : Head}
     (in-u : u ≡ get_or now i u) (in-x : x ≡ get_or now i x) (in-y : y ≡ get_or now i y)
     (in-z : z ≡ get_or now i z) (unused : is_used (get_or now i u) ≡ false) where
@@ -172,29 +163,19 @@ module _ {order : SortSpec} {old now : List Head} {n i : ℕ} {columns : List Co
       → is_lt (row_cmp order.keys g (first_row (at now i))) ≡ false
   least j lt g rest is = grind (arith, head-at, used-none, leb-false, drop-cons, free)
 
-  rows-more : (more : List Column) → FitsTypes order.types (first_row (at now i))
-      → map column_type more ≡ map column_type columns
-      → map values more
-      ≡ append_each (map values columns) (map (λ v. v ∷ []) (first_row (at now i)))
-      → MergesRows order old (set now i next) (n + 1) more
-  rows-more more fits k v = record {
-    are = AreColumns-push order.types columns more (first_row (at now i)) n h.are k v;
-    merges = record {
-      ends = λ j. set-ends now i next f.in_range refl j ∙ h.merges.ends j;
-      means = λ worked made m.
-          subst (AreMerged order.keys (heads_of (set now i next)) worked)
-          (append_assoc made (rows_of n (map values columns)) (first_row (at now i) ∷ [])
-          ∙ ap (λ l. made ++ l) (sym (rows_of_pushed order.types columns more
-          (first_row (at now i)) n h.are fits v)))
-          (subst (λ l. AreMerged order.keys l worked ((made ++ rows_of n (map values columns))
-          ++ first_row (at now i) ∷ [])) (sym (map-set head_of now i next))
-          (merged-made order.keys (heads_of now) worked (made ++ rows_of n (map values columns)) i
-          (first_row (at now i)) (head_of next).rows (at now i).ended
-          (length-map now head_of ∙ are.count)
-          (let c = are.count in let lt = f.in_range in omega (arith, c, lt))
-          (head-at now i ∙ ap (λ r. record { rows = r; ended = (at now i).ended }) split) least
-          all-are-ready (h.merges.means worked made m)));
-    };
+  rows-more : Merges order.keys old (set now i next) (made ++ first_row (at now i) ∷ [])
+  rows-more = record {
+    ends = λ j. set-ends now i next f.in_range refl j ∙ h.ends j;
+    means = λ worked done m.
+        subst (AreMerged order.keys (heads_of (set now i next)) worked)
+        (append_assoc done made (first_row (at now i) ∷ []))
+        (subst (λ l. AreMerged order.keys l worked ((done ++ made) ++ first_row (at now i) ∷ []))
+        (sym (map-set head_of now i next))
+        (merged-made order.keys (heads_of now) worked (done ++ made) i (first_row (at now i))
+        (head_of next).rows (at now i).ended (length-map now head_of ∙ are.count)
+        (let c = are.count in let lt = f.in_range in omega (arith, c, lt))
+        (head-at now i ∙ ap (λ r. record { rows = r; ended = (at now i).ended }) split) least
+        all-are-ready (h.means worked done m)));
   }
     where
       split : (head_of (at now i)).rows ≡ first_row (at now i) ∷ (head_of next).rows
@@ -213,29 +194,24 @@ module _ {order : SortSpec} {old now : List Head} {n i : ℕ} {columns : List Co
   pub step-fits : AreHeadsOf order later
   step-fits = grind (arith, common_steps, same, length-set, set-each, free)
 
-  pub step-rows : (more : List Column) → IsTable (get_or now i u).chunk
-      → map column_type more ≡ map column_type columns
-      → map values more
-      ≡ append_each (map values columns) (map (λ v. v ∷ []) (first_row (get_or now i x)))
-      → MergesRows order old later (n + 1) more
-  step-rows more table k v = grind (arith, common_steps, read-at, same, rows-more, free, leb-false)
+  pub step-rows : Merges order.keys old later (made ++ first_row (get_or now i x) ∷ [])
+  step-rows = grind (arith, common_steps, read-at, same, rows-more)
 
   pub step-ready : (r : Head) → r ≡ get_or later i r → is_ready (get_or later i r) ≡ true
       → list_all is_ready later ≡ true
   step-ready r is e = grind (arith, length-set, same, ready-still, get_or-set_same, read-at)
+
+-- a head with rows, by what was read of it, has the order's types
+pub unused-types : (order : SortSpec) (heads : List Head) (i : ℕ) (u x : Head)
+    → AreHeadsOf order heads → i < length heads → u ≡ get_or heads i u → x ≡ get_or heads i x
+    → is_used (get_or heads i u) ≡ false → (get_or heads i x).chunk.types ≡ order.types
+unused-types order heads i u x are lt in-u in-x unused = grind (arith, read-at)
 
 -- where the first head has no row, none has one
 pub first-used : (order : SortSpec) (heads : List Head) (i : ℕ) → AreHeadsOf order heads
     → IsFirstOf order.keys heads 32 i → is_used (at heads i) ≡ true
     → list_all is_used heads ≡ true
 first-used order heads i are f used = grind (arith, all-pass, least)
-
--- a chunk of the columns
-pub merged-chunk : (order : SortSpec) (old new : List Head) (n : ℕ) (columns : List Column)
-    (r : Result Table Memory) → MergesRows order old new n columns → n ≤ max order.rows 1
-    → (0 < n) ⊎ (list_all is_used new ≡ true) → IfOk r (λ c. c.types ≡ map column_type columns)
-    → IfOk r (λ c. c.rows ≡ rows_of n (map values columns)) → IfOk r (MergesSome order old new)
-merged-chunk order old new n columns r h few some types rows = grind (arith, length-rows_of)
 
 pub makes : (order : SortSpec) (old new : List Head) (c : Table)
     → 0 < length (merging_own old).unmade → MergesSome order old new c

@@ -3,7 +3,7 @@
 -- of the rows in order.
 use Rattle.std.proofs.lemmas.Grind.{common_steps}
 use Rattle.std.proofs.Common.{◌≡◌, ◌⊎◌, ℕ, zero, suc, ◌+◌, ◌*◌, ◌<◌, ◌≤◌, leb, Bool, false, List, [], ◌∷◌, length, map, get_or, drop, take, ◌++◌, refl, sym, ap, subst, ◌∙◌, arith, inl, inr, IsPermutation}
-use Rattle.sort_procs.proofs.Imports.{AgreeOnKey, All, All-map, All-permutation, AreBytes, Equal, HasRank, IsPermutation-map, IsRank, IsSortedBy, IsTable, IsTotalOrder, Less, Ordering, Ranked, Row, SortKey, SortsPlaces, Table, Text, bool_cmp, bool_cmp_total, cases_lt, column_fits, count_up, drop-cons, drop_all, get_or-eq_default, get_or-map, get_or_past, ints, is_lt, le-leb, length-map, lt-leb, lt-ltb, map-append, map-map, mul-le-mul_left, mul-suc, nat_cmp, nat_cmp_total, on_total, ordering_reverse, ordering_then, place_cmp, place_of, ranked_cmp, row_at, row_cmp, row_cmp_total, rows_at, take_all, take_more, text_cmp, text_rank, then_total, tied_itself, type_of, value_at, value_cmp_total, weight}
+use Rattle.sort_procs.proofs.Imports.{AgreeOnKey, All, All-map, All-permutation, AreBytes, ColumnType, Equal, FitsType, HasRank, IsPermutation-map, IsRank, IsSortedBy, IsTable, IsTotalOrder, Less, Ordering, Ranked, Row, SortKey, SortsPlaces, Table, Text, bool_cmp, bool_cmp_total, cases_lt, column_fits, count_up, drop-cons, drop_all, get_or-eq_default, get_or-map, get_or_past, ints, is_lt, le-leb, length-map, lt-leb, lt-ltb, map-append, map-map, mul-le-mul_left, mul-suc, nat_cmp, nat_cmp_total, on_total, ordering_reverse, ordering_then, place_cmp, place_of, ranked_cmp, row_at, row_cmp, row_cmp_total, rows_at, take_all, take_more, text_cmp, text_rank, then_total, tied_itself, value_at, value_cmp_total, weight}
 use Rattle.chunk_data.specs.declared.typed_value.ColumnType.TheVariants as column
 
 -- ---- texts
@@ -59,10 +59,11 @@ eight_bytes bytes h = grind arith
 
 -- ---- values and rows
 
--- the values of the first key have one type
+-- the values of the first key fit one type
 abbrev AreAlike : List SortKey → Row → Row → Type 0
 AreAlike [] a b = Unit {0}
-AreAlike (key ∷ keys) a b = type_of (value_at a key.column) ≡ type_of (value_at b key.column)
+AreAlike (key ∷ keys) a b =
+    (t : ColumnType) × FitsType t (value_at a key.column) × FitsType t (value_at b key.column)
 
 rows-less : (keys : List SortKey) (a b : Row) (r s : ℕ) → AreAlike keys a b → IsRank keys a r
     → IsRank keys b s → r < s → row_cmp keys a b ≡ Less
@@ -107,13 +108,13 @@ alike : (keys : List SortKey) (t : Table) (i j : ℕ) → IsTable t
 alike [] t i j fit agree a b = tt
 alike (key ∷ keys) t i j fit agree a b =
     let c = key.column in
+    let of = get_or t.types c column.Int64 in
     let all = column_fits t.types t.rows c column.Int64 fit (agree 0 key (omega arith)).0 in
-    let at : (k : ℕ) → k < length t.rows
-    → type_of (value_at (row_at t.rows k) c) ≡ get_or t.types c column.Int64 =
+    let at : (k : ℕ) → k < length t.rows → FitsType of (value_at (row_at t.rows k) c) =
     (λ k lt. let f = (λ (row : Row). value_at row c) in
-    subst (λ v. type_of v ≡ get_or t.types c column.Int64) (get_or-map f t.rows k [] (Text []) lt)
+    subst (FitsType of) (get_or-map f t.rows k [] (Text []) lt)
     (all k (Text []) (let l = length-map t.rows f in omega (arith, l, lt)))) in
-    at i a ∙ sym (at j b)
+    (of, at i a, at j b)
 
 -- what the sort of ranks by ranks and keys gives
 pub sorts : (keys : List SortKey) (t : Table) (old new : List Ranked) → IsTable t

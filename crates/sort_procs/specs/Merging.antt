@@ -1,6 +1,5 @@
 -- The state of a merge, and what it makes of its heads.
-use Rattle.chunk_data.specs.Names.{AreColumns, Row, Table, rows_of, values}
-use Rattle.chunk_data.specs.declared.typed_column.Column.{Column}
+use Rattle.chunk_data.specs.Names.{Row, Table}
 use Rattle.proc_api.specs.Made.{AreMerged, OwnState, idle_own, ready_rows}
 use Rattle.proc_api.specs.Names.{Lists}
 use Rattle.proc_api.specs.Prelude.{SortKey, SortSpec, list_all}
@@ -8,7 +7,7 @@ use Rattle.proc_shell.proofs.Through.{IsInOrder, pushes-in-order, shelled-plain}
 use Rattle.proc_shell.specs.Kernels.{IsShelled}
 use Rattle.sort_procs.specs.Heads.{at, heads_of, is_used}
 use Rattle.sort_procs.specs.declared.heads.Head.{Head}
-use Rattle.std.specs.Prelude.{Bool, List, length, map, max, refl, true, ℕ, ◌++◌, ◌<◌, ◌≡◌, ◌≤◌, ◌⊎◌}
+use Rattle.std.specs.Prelude.{Bool, List, length, max, refl, true, ℕ, ◌++◌, ◌<◌, ◌≡◌, ◌≤◌, ◌⊎◌}
 use Rattle.query_model.specs.declared.processor_spec.Spec.TheVariants as spec
 
 abbrev pub merging_own : List Head → OwnState
@@ -23,12 +22,6 @@ pub record Merges (keys : List SortKey) (old new : List Head) (rows : List Row) 
   pub ends : (i : ℕ) → (at new i).ended ≡ (at old i).ended
   pub means : (worked : Lists) (made : List Row) → AreMerged keys (heads_of old) worked made
       → AreMerged keys (heads_of new) worked (made ++ rows)
-
--- so many rows were added to columns that had none
-pub record MergesRows (order : SortSpec) (old new : List Head) (n : ℕ) (columns : List Column)
-    : Type 0 where
-  pub are : AreColumns order.types columns n
-  pub merges : Merges order.keys old new (rows_of n (map values columns))
 
 -- a chunk of the first rows, which has some where there are
 pub record MergesSome (order : SortSpec) (old new : List Head) (t : Table) : Type 0 where

@@ -5,7 +5,7 @@ ghost use Rattle.chunk_data.specs.declared.typed_value.Value.TheVariants.{Text};
 ghost use Rattle.query_model.specs.Sources.{count_up};
 ghost use Rattle.sort_procs.specs.Ranks.{HasRank, IsKeyRank, IsRank, IsValueRank, place_cmp, place_of, ranked_cmp, rows_at, SortsPlaces};
 
-use chunk_data::{Chunk, Column, Memory, SortKey};
+use chunk_data::{Chunk, Column, Memory, PlainSlice, SortKey};
 use std::alloc::Global;
 use std::cmp::Ordering;
 
@@ -115,10 +115,10 @@ fn value_rank(column: &Column, i: usize) -> u64
     requires { i < length (values column.now) }
     ensures { IsValueRank (value_at (values column.now) i) result }
 {
-    match column {
-        Column::Int64(numbers) => int_rank(numbers[i]),
-        Column::UInt64(numbers) => numbers[i],
-        Column::Text(texts) => text_rank(texts.get(i)),
+    match column.plain() {
+        PlainSlice::Ints(numbers) => int_rank(numbers[i]),
+        PlainSlice::UInts(numbers) => numbers[i],
+        PlainSlice::Texts(texts) => text_rank(texts.get(i)),
     }
 }
 

@@ -1,5 +1,5 @@
 use Rattle.std.proofs.Common.{◌∙◌, sym, arith, [], refl}
-use Rattle.csv_rows.proofs.Pushing.{row_none, row_more, row_back, row_ends, row_beyond}
+use Rattle.csv_rows.proofs.Pushing.{back_at, row_none, row_more, row_back, row_ends, row_beyond}
 use Rattle.csv_rows.proofs.record_by_field.push_fields.Goals as goal
 
 pub loop-i-init : goal.loop-i-init
@@ -35,3 +35,18 @@ pub returns-then-not-byte_at-clause-back : goal.returns-then-not-byte_at-clause-
 returns-then-not-byte_at-clause-back c =
     row_back _ c.index-columns-i.result c.push_field.new.column c.loop-i.invariant (omega arith)
     c.in_ok-whole.ensures.kind c.in_ok-text.ensures c.in_ok-whole.ensures.ok
+
+pub returns-then-not-whole-clause-back : goal.returns-then-not-whole-clause-back
+returns-then-not-whole-clause-back c =
+    row_back _ c.index-columns-i.result c.push_field.new.column c.loop-i.invariant (omega arith)
+    c.in_ok-whole.ensures.kind c.in_ok-text.ensures c.in_ok-whole.ensures.ok
+
+pub returns-in_err-more-clause-back : goal.returns-in_err-more-clause-back
+returns-in_err-more-clause-back c =
+    row_back _ c.index-columns-i.result c.push_field.new.column c.loop-i.invariant (omega arith)
+    c.in_ok-whole.ensures.kind c.in_ok-text.ensures c.in_ok-whole.ensures.ok
+
+pub returns-in_err-whole-clause-back : goal.returns-in_err-whole-clause-back
+returns-in_err-whole-clause-back c =
+    back_at c.loop-i.invariant.fields _ _ _ c.index-columns-i.result c.push_field.new.column
+    c.loop-i.invariant.added (omega arith) c.in_err-whole.ensures.kind c.in_err-whole.ensures.err

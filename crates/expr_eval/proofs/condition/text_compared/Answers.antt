@@ -1,7 +1,7 @@
-use Rattle.expr_eval.proofs.Imports.{Text, ap, compared, get_or_default, is_text, length, number_of, passes, refl, text_cmp, type_of, value_at, value_of, ◌<◌, ◌∙◌}
+use Rattle.expr_eval.proofs.Imports.{Text, compared, get_or_default, length, number_of, passes, refl, text_cmp, type_of, value_at, value_of, ◌<◌, ◌∙◌}
 use Rattle.expr_eval.proofs.Onto.{each_is}
 use Rattle.expr_eval.proofs.Applied.{masked_one}
-use Rattle.expr_eval.proofs.Operands.{arith_not_text}
+use Rattle.expr_eval.proofs.Operands.{arith_not_text, text_type}
 use Rattle.expr_eval.proofs.Comparisons.{plain_is_number}
 use Rattle.expr_eval.proofs.condition.text_compared.Goals as goal
 
@@ -11,12 +11,12 @@ texts-requires c =
     let lt : c.in-Column.c < length c.args.chunk.now.types =
     rw c.in-Column.is at c.requires.typed in
     c.column-column.ensures.kind ∙ get_or_default c.args.chunk.now.types c.in-Column.c _ _ lt
-    ∙ (rw c.in-Column.is at c.requires.is_text)
+    ∙ text_type _ (rw c.in-Column.is at c.requires.is_text)
 
 pub unreachable-requires : goal.unreachable-requires
 unfolding type_of
 unreachable-requires c =
-    let e = ap is_text (rw c.in-Number.is at c.requires.is_text) in
+    let e = rw c.in-Number.is at c.requires.is_text in
     let f = plain_is_number (number_of c.in-Number.field-0) in absurd cc
 
 pub unreachable-requires-in-Arith : goal.unreachable-requires-in-Arith

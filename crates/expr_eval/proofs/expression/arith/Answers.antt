@@ -1,6 +1,6 @@
-use Rattle.expr_eval.proofs.Imports.{None, Some, ap, arith_type, arith_value, number_of, plain_of, plain_value, sym, type_of, value_of, ◌∙◌, ◌≡◌}
+use Rattle.expr_eval.proofs.Imports.{None, Some, ap, arith_type, arith_value, number_of, plain_of, plain_value, sym, type_before, type_behind, type_of, type_of_number, value_of, ◌∙◌, ◌≡◌}
 use Rattle.expr_eval.proofs.Onto.{same_maps}
-use Rattle.expr_eval.proofs.Operands.{plain_before, plain_behind, plain_value_of, plain_type_of, type_before, type_behind}
+use Rattle.expr_eval.proofs.Operands.{plain_before, plain_behind, plain_value_of}
 use Rattle.expr_eval.proofs.expression.arith.Goals as goal
 
 pub returns-in_ok-column-in-Some-clause-kind : goal.returns-in_ok-column-in-Some-clause-kind
@@ -10,7 +10,7 @@ returns-in_ok-column-in-Some-clause-kind c =
     let held = (plain_before _ _ _ _ _ e c.requires.alike).1 in
     c.in_ok-column-in-Some.ensures.kind
     ∙ sym (ap (λ s. arith_type c.args.op s (type_of c.args.right.now c.args.chunk.now.types))
-    (plain_type_of c.args.left.now _ c.args.chunk.now.types e) ∙ type_before c.args.op _ _ held)
+    (type_of_number c.args.chunk.now.types c.args.left.now _ e) ∙ type_before c.args.op _ _ held)
 
 pub returns-in_ok-column-in-Some-clause-values : goal.returns-in_ok-column-in-Some-clause-values
 returns-in_ok-column-in-Some-clause-values c =
@@ -29,9 +29,9 @@ returns-in_ok-column-in-Some-plain_number-clause-kind c =
     let e : plain_of c.args.right.now ≡ Some (number_of c.in-Some-plain_number.m) =
     rw c.in-Some-plain_number.is at c.plain_number-in-None.ensures in
     let held = plain_behind _ _ _ _ _ d e c.requires.alike in
-    c.in_ok-column-in-Some-plain_number.ensures.kind ∙ sym (ap (λ t. arith_type c.args.op
-    (type_of c.args.left.now c.args.chunk.now.types) t) (plain_type_of c.args.right.now _
-    c.args.chunk.now.types e) ∙ type_behind c.args.op _ _ held)
+    c.in_ok-column-in-Some-plain_number.ensures.kind
+    ∙ sym (ap (arith_type c.args.op (type_of c.args.left.now c.args.chunk.now.types))
+    (type_of_number c.args.chunk.now.types c.args.right.now _ e) ∙ type_behind c.args.op _ _ held)
 
 pub returns-in_ok-column-in-Some-plain_number-clause-values :
     goal.returns-in_ok-column-in-Some-plain_number-clause-values

@@ -5,7 +5,7 @@ use Rattle.expr_eval.proofs.expression.pairs_onto.Goals as goal
 
 pub returns-in-Int64-clause-values : goal.returns-in-Int64-clause-values
 returns-in-Int64-clause-values c =
-    rw c.in-Int64.is
+    rw c.into_ints.ensures
     (c.of_ints.ensures.values ∙ under Int Int Int (arith_value c.args.op)
-    (λ a b. int_wrap w64 (exact_result c.args.op a b)) c.in-Int64.xs.items c.ints.result.now
-    c.int_results_onto.ensures refl c.ints.ensures (λ a b. int_pair_at c.args.op a b))
+    (λ a b. int_wrap w64 (exact_result c.args.op a b)) c.into_ints.result.items c.ints.result.now
+    c.int_results_onto-results.ensures refl c.ints.ensures (λ a b. int_pair_at c.args.op a b))

@@ -1,5 +1,5 @@
 use Rattle.std.proofs.Common.{◌<◌, length, arith, subst}
-use Rattle.key_codes.proofs.Prelude.{IsSeenFor, first_of, kind_at, row_at, values}
+use Rattle.key_codes.proofs.Prelude.{IsSeenFor, first_of, type_at, row_at, values}
 use Rattle.key_codes.proofs.CodeLaws.{on-ok}
 use Rattle.key_codes.proofs.KeyLaws.{cell-type, cell-value, one-cells}
 use Rattle.key_codes.proofs.key_code.place_of_row.Goals as goal
@@ -21,7 +21,7 @@ pub returns-in-Numbers-clause-cells : goal.returns-in-Numbers-clause-cells
 returns-in-Numbers-clause-cells c =
     let t = c.args.chunk.now in
     let places = c.args.places.now in
-    let form = subst (IsSeenFor (length places) (kind_at t.types (first_of places)))
+    let form = subst (IsSeenFor (length places) (type_at t.types (first_of places)))
     c.in-Numbers.is c.requires.form in
     let lt : 0 < length places = omega (arith, form.0) in
     let is = cell-value t.rows (first_of places) c.args.i

@@ -1,0 +1,15 @@
+use Rattle.std.proofs.Common.{◌≡◌, ◌≤◌, ◌-◌, length, true}
+use Rattle.sort_procs.proofs.Imports.{AreHeadsOf, Merges, is_ready, list_all}
+use Rattle.sort_procs.proofs.merged_rows.merge_chunk.Given as goal
+
+abbrev pub invariant-fill : goal.invariant-fill
+invariant-fill l = record {
+  are : AreHeadsOf l.order l.heads;
+  ready : list_all is_ready l.heads ≡ true;
+  types : l.chunk.types ≡ l.order.types;
+  few : length l.chunk.rows ≤ l.most;
+  merges : Merges l.order.keys l.initial.heads l.heads l.chunk.rows;
+}
+
+abbrev pub decreases-fill : goal.decreases-fill
+decreases-fill l = l.most - length l.chunk.rows
