@@ -107,6 +107,7 @@ fn split_and_appended(alloc: Global, out: &mut String) -> Result<(), Fail> {
     if chunk.rows() != 4 {
         return Err("there are four rows".into());
     }
+    add_rows(out, &chunk.copy_range(1, 2)?)?;
     let mut front = chunk.split_front(2)?;
     add_rows(out, &front)?;
     if front.append(chunk).is_err() {
@@ -168,7 +169,7 @@ fn changes_text(alloc: Global, text: &str) -> Result<String, Fail> {
 static CHANGES: [&str; 5] = [
     "gathered and kept~3,0,\"ab\"\n0,18446744073709551615,\"\"\n3,0,\"ab\"\n.\
      3,0,\"ab\"\n-5,1,\"a\"\n.",
-    "split and appended~-5,7,\"b\"\n3,0,\"ab\"\n.\
+    "split and appended~3,0,\"ab\"\n-5,1,\"a\"\n.-5,7,\"b\"\n3,0,\"ab\"\n.\
      -5,7,\"b\"\n3,0,\"ab\"\n-5,1,\"a\"\n0,18446744073709551615,\"\"\n.",
     "pushed~2,\"x\"\n-1,\"\"\n.",
     "without columns~\n\n.",
@@ -213,11 +214,9 @@ fn grown_ints(alloc: Global) -> Result<Column, Memory>
     ints.reserve(2)?;
     ints.push_int(4)?;
     ints.push(Value::Int(-4))?;
-    let front = ints.front(1)?;
-    match ints.append_moved(front) {
-        Ok(()) => Ok(ints),
-        Err(_) => Err(Memory),
-    }
+    let copy = ints.copy()?;
+    ints.append_range(&copy, 0, copy.len())?;
+    Ok(ints)
 }
 
 fn signed(alloc: Global) -> Result<String, Fail> {
@@ -237,9 +236,7 @@ fn grown_uints(alloc: Global) -> Result<Column, Memory>
 }
 
 fn unsigned(alloc: Global) -> Result<String, Fail> {
-    let uints = grown_uints(alloc)?;
-    let before = format!(in alloc; "{:?}", uints.uints())?;
-    Ok(format!(in alloc; "{before} {:?}", uints.into_uints())?)
+    Ok(format!(in alloc; "{:?}", grown_uints(alloc)?.uints())?)
 }
 
 fn appended_texts(alloc: Global) -> Result<Column, Memory>
@@ -247,7 +244,10 @@ fn appended_texts(alloc: Global) -> Result<Column, Memory>
 {
     let mut texts = Column::new(alloc, ColumnType::Text);
     texts.push_text(b"ab")?;
-    texts.append(&column_of_texts(alloc, &[b"cd", b"", b"e"])?)?;
+    let more = column_of_texts(alloc, &[b"xyz", b"cd", b"", b"e"])?;
+    if more.len() == 4 {
+        texts.append_range(&more, 1, 3)?;
+    }
     texts.truncate(3);
     texts.remove_front(1);
     Ok(texts)
@@ -261,7 +261,7 @@ fn texts(alloc: Global) -> Result<String, Fail> {
         return Err("there are two texts".into());
     }
     let before = format!(in alloc; "{count} {:?}", column.text(0))?;
-    let texts = column.into_texts();
+    let texts = column.texts();
     if texts.len() < 2 {
         return Err("there are two texts".into());
     }
@@ -298,8 +298,8 @@ static GROWN: [&str; 7] = [
     "list~[7, 8]",
     "bytes~[97, 98, 0, 99]",
     "keys~[SortKey { column: 1, descending: true }]",
-    "signed~[4, -4, 4] [4, -4, 4]",
-    "unsigned~[7] [7]",
+    "signed~[4, -4, 4, -4] [4, -4, 4, -4]",
+    "unsigned~[7]",
     "texts~2 [99, 100] 2 []",
     "columns~3 3 3 Text Int64 ",
 ];

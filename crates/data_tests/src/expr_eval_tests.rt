@@ -1,6 +1,6 @@
 // Items and conditions over a row of an Int64, an UInt64 and a Text.
 use crate::literals::{analysed, check_each, chunk_of, halves};
-use chunk_data::{Chunk, ColumnType};
+use chunk_data::{Chunk, ColumnType, PlainSlice};
 use expr_eval::{eval, is_typed, is_typed_cond, mask};
 use query_model::checked::{Checked, Cond, Expr, Shape};
 use query_model::query::{ArithOp, ExprOf, Number};
@@ -12,7 +12,12 @@ fn shown_values(alloc: Global, item: &Expr, chunk: &Chunk) -> Result<String, Fai
     match item {
         ExprOf::Number(_) => Err("this is no item".into()),
         item if is_typed(item, chunk.types().as_slice()) => {
-            Ok(format!(in alloc; "{:?}", eval(alloc, item, chunk)?)?)
+            let column = eval(alloc, item, chunk)?;
+            match column.plain() {
+                PlainSlice::Ints(numbers) => Ok(format!(in alloc; "Int64({numbers:?})")?),
+                PlainSlice::UInts(numbers) => Ok(format!(in alloc; "UInt64({numbers:?})")?),
+                PlainSlice::Texts(_) => Err("an item of texts is a column".into()),
+            }
         }
         _ => Err("this is no item".into()),
     }

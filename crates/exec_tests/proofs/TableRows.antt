@@ -1,5 +1,5 @@
 -- Steps at a table of two nodes and one edge; and the names that the tests' proofs use.
-pub use Rattle.std.proofs.Common.{◌≡◌, ℕ, zero, suc, ◌-◌, ◌∷◌, ◌++◌, ◌∙◌, ◌&&◌, ◌||◌, Bool, true, false, List, [], Option, None, Some, ap, arith, cond, drop, eqb, get_or, inl, inr, is_some, length, length-append, refl, rules, subst, sym, take, ⊎_elim}
+pub use Rattle.std.proofs.Common.{◌≡◌, ℕ, zero, suc, ◌-◌, ◌∷◌, ◌++◌, ◌∙◌, ◌&&◌, ◌||◌, Bool, true, false, List, [], Option, None, Some, ap, arith, cond, drop, eqb, get_or, inl, inr, is_some, length, length-append, refl, rules, subst, sym, take, ⊎_elim, map, not, ◌+◌, ◌<◌}
 pub use Rattle.std.proofs.lemmas.Bool.{and_from, cases_Bool, eqb-true}
 use Rattle.std.proofs.Math.Seq.{take-append_seam}
 pub use Rattle.std.specs.Option.{option_to_list}
@@ -15,7 +15,7 @@ use Rattle.exec_table.specs.Known.{state_after}
 use Rattle.exec_table.specs.Made.{IsOpen}
 pub use Rattle.exec_table.specs.Ready.{can_act, end_of_view, ready}
 use Rattle.exec_table.specs.Rule.{start_board}
-pub use Rattle.exec_table.specs.Seats.{IsSeatOf, Makes, MakesUpdated, Slots, edges_out, holds_chunk, is_idle, key_of, marked_of, slot_in, slot_of, slots, updated_of, view}
+pub use Rattle.exec_table.specs.Seats.{Identity, IsSeatOf, Makes, MakesUpdated, Slots, edges_out, holds_chunk, identity_of, is_idle, key_of, marked_of, slot_in, slot_of, slots, updated_of, view}
 use Rattle.exec_table.specs.Surveys.{AreAll, Each, IsBack}
 use Rattle.exec_table.specs.declared.rule.ExecTable.{ExecTable}
 use Rattle.exec_table.specs.declared.rule.NodeSeat.{NodeSeat}
@@ -24,9 +24,10 @@ pub use Rattle.exec_table.specs.declared.types.Marked.TheVariants.{AlreadyDue, C
 pub use Rattle.exec_table.specs.declared.types.Rested.TheVariants.{UpdatedAgain}
 use Rattle.exec_table.specs.declared.types.Stage.TheVariants.{Born}
 use Rattle.exec_table.specs.declared.types.Updated.{Updated}
+use Rattle.exec_table.proofs.Hands.{has-slot}
 use Rattle.exec_table.proofs.Known.{state-made, turn-fits, wire-made}
 use Rattle.exec_tests.proofs.Fitting.{fit-last, fit-rest, fit-two}
-pub use Rattle.exec_tests.specs.TableRows.{Is, IsFirst, IsHeld, Saw, node, one_wire, pair_sizes, seen_as, was_charged}
+pub use Rattle.exec_tests.specs.TableRows.{Is, content, IsFirst, IsHeld, Saw, node, one_wire, pair_sizes, seen_as, was_charged}
 
 module _ {n : ℕ} {st : NodeState} {t : ExecTable} {s : NodeSeat} (is : Is n st t s) where
   pub can : (p : Step) → ready (record (view s) { state = st }) p ≡ true → ready (view s) p ≡ true
@@ -34,7 +35,8 @@ module _ {n : ℕ} {st : NodeState} {t : ExecTable} {s : NodeSeat} (is : Is n st
 
   -- a step that answered a
   pub stepped : {new : NodeSeat} {p : Step} {x : Option Chunk} {a b : Answer}
-      → Makes t s new p x a → a ≡ b → Is n (state_after (record (view s) { state = st }) p b) t new
+      → Makes (identity_of t) s new p x a → a ≡ b
+      → Is n (state_after (record (view s) { state = st }) p b) t new
   stepped {p = p} m q = record {
     pair = is.pair;
     seat = m.seat;
@@ -45,7 +47,8 @@ module _ {n : ℕ} {st : NodeState} {t : ExecTable} {s : NodeSeat} (is : Is n st
 
 -- a node that was charged keeps its token
 pub begun : {n : ℕ} {t : ExecTable} {s mid new : NodeSeat} {u : Updated} → IsFirst n t s
-    → Makes t s mid step.TokenIn None nothing → MakesUpdated t mid new step.Begin u
+    → Makes (identity_of t) s mid step.TokenIn None nothing
+    → MakesUpdated (identity_of t) mid new step.Begin u
     → was_charged u ≡ true → IsHeld n 1 t new
 begun {n = n} {t = t} {new = new} f first m h =
     subst (λ k. IsHeld n k t new) (kept m.word (ap was_charged (sym m.ports) ∙ h)) record {
@@ -56,29 +59,20 @@ begun {n = n} {t = t} {new = new} f first m h =
     }
   where
     kept : (w : ℕ) → was_charged (updated_of w) ≡ true → 1 - spent w ≡ 1
-    kept w h = elim (cases_Bool (eqb w 0)) [
-      | inl q ↦ absurd (let z : false ≡ true = ap (λ w. was_charged (updated_of w))
-          (sym (eqb-true w 0 q)) ∙ h in cc)
-      | inr q ↦ ap (λ t. 1 - cond t 1 0) q
-    ]
+    kept w h = grind (arith, h, cases_Bool (eqb w 0), eqb-true w 0)
 
 -- an edge that was due may be looked at
 pub only-due : (due : Bool) → without 0 (cond due (0 ∷ []) []) ≡ []
-only-due true = refl
-only-due false = refl
+only-due due = grind arith
 
 -- ---- looks
 
-in-slots : (l : Slots) → is_some (slot_in 0 l) ≡ has 0 (edges_out l)
-in-slots [] = refl
-in-slots (y ∷ ys) = grind (arith, in-slots ys)
-
 pub in-hand : {n : ℕ} {st : NodeState} {t : ExecTable} {s : NodeSeat} → Is n st t s
     → is_some (slot_of s 0) ≡ has 0 s.held.items
-in-hand {s = s} is = in-slots (slots s) ∙ ap (has 0) (sym is.seat.places)
+in-hand {s = s} is = sym (has-slot 0 (slots s)) ∙ ap (has 0) (sym is.seat.places)
 
 module _ {n k : ℕ} {t : ExecTable} {s new : NodeSeat} {f : Flags}
-    (h : IsHeld n k t s) (m : Makes t s new (step.Look 0) None (flags f)) where
+    (h : IsHeld n k t s) (m : Makes (identity_of t) s new (step.Look 0) None (flags f)) where
   abbrev pub looked : IsHeld n k t new
   looked = record {
     flags = f;
@@ -94,7 +88,7 @@ module _ {n k : ℕ} {t : ExecTable} {s new : NodeSeat} {f : Flags}
     fits = λ v q. subst (λ (y : ℕ × Option Wire). fits_end (is_end true y.0 y.1) v ≡ true)
         (λ i. (looked.is.number i, wire i)) (turn-fits h.is.seat m 0 seen v (⊎_elim
         (λ (e : slot_of s 0 ≡ Some v). absurd (let y : true ≡ false = ap is_some (sym e)
-        ∙ (in-hand h.is ∙ home) in cc)) (λ e. e) (m.carried 0 v q)));
+        ∙ (in-hand h.is ∙ home) in cc)) (λ e. e.1) (m.carried 0 v q)));
   }
     where
       seen : knows 0 (view new).state.seen ≡ true
@@ -112,21 +106,21 @@ module _ {n k : ℕ} {f : Flags} {t : ExecTable} {s : NodeSeat} (w : Saw n k f t
       && allows a (flags_at 0 (w.is.state i).seen)) ∙ h
 
 -- what the slot has that is out with an end
-pub may-push : (y : Option (Option Chunk)) → is_some y ≡ true
-    → ((v : Option Chunk) → y ≡ Some v → fits_end false v ≡ true) → y ≡ Some None
-may-push None q fits = absurd (let z : false ≡ true = q in cc)
-may-push (Some None) q fits = refl
-may-push (Some (Some x)) q fits = absurd (let z : false ≡ true = fits (Some x) refl in cc)
+pub filled : (b : Bool) (z : Option (Option Chunk)) → is_some z ≡ true
+    → ((v : Option Chunk) → z ≡ Some v → fits_end b v ≡ true) → content z ≡ Some b
+filled b None q fits = absurd (let z : false ≡ true = q in cc)
+filled b (Some v) q fits = grind (arith, fits v refl)
 
-pub may-lift : (y : Option (Option Chunk)) → is_some y ≡ true
-    → ((v : Option Chunk) → y ≡ Some v → fits_end true v ≡ true) → holds_chunk y ≡ true
-may-lift None q fits = absurd (let z : false ≡ true = q in cc)
-may-lift (Some None) q fits = absurd (let z : false ≡ true = fits None refl in cc)
-may-lift (Some (Some x)) q fits = refl
+pub full : (z : Option (Option Chunk)) → content z ≡ Some true → holds_chunk z ≡ true
+full z q = grind arith
+
+pub empty : (z : Option (Option Chunk)) → content z ≡ Some false → z ≡ Some None
+empty z q = grind arith
 
 -- ---- the start and the end
 
-first : (n : ℕ) (t : ExecTable) (s : NodeSeat) → key_of t ≡ pair_sizes → IsOpen t n s
+pub first : (n : ℕ) (t : ExecTable) (s : NodeSeat) → key_of t ≡ pair_sizes
+    → IsOpen (identity_of t) n s
     → (node_view (start_board pair_sizes) n).state ≡ node false 0 no_flags (0 ∷ []) false
     → (node_view (start_board pair_sizes) n).stage ≡ Born → IsFirst n t s
 first n t s pair given state stage =
@@ -140,19 +134,17 @@ first n t s pair given state stage =
       stage = ap (λ (v : NodeView). v.stage) is ∙ stage;
     }
 
-pub dealt : (t : ExecTable) (all l m : List NodeSeat) (a b : NodeSeat) → key_of t ≡ pair_sizes
-    → all ≡ l ++ b ∷ [] → l ≡ m ++ a ∷ [] → length all ≡ (key_of t).nodes
-    → ((k : ℕ) (s : NodeSeat) → get_elem? all k ≡ some s → IsOpen t k s)
-    → IsFirst 0 t a × IsFirst 1 t b
-dealt t all l m a b pair is rest count each = let n = count ∙ ap (λ z. z.nodes) pair in
-    let u = ap length is in let v = length-append l (b ∷ []) in
-    let fits : NodeSeat → ℕ → Type 0 = λ s k. IsOpen t k s in (
-      first 0 t a pair (fit-last fits l m a rest (fit-rest fits all l b is each) 0
-          (omega (arith, n, u, v))) refl refl,
-      first 1 t b pair (fit-last fits all l b is each 1 n) refl refl,
+pub dealt : (t : ExecTable) (all l m : List NodeSeat) (a b : NodeSeat)
+    → all ≡ l ++ b ∷ [] → l ≡ m ++ a ∷ [] → length all ≡ 2
+    → ((k : ℕ) (s : NodeSeat) → get_elem? all k ≡ some s → IsOpen (identity_of t) k s)
+    → IsOpen (identity_of t) 0 a × IsOpen (identity_of t) 1 b
+dealt t all l m a b is rest n each = let u = ap length is in let v = length-append l (b ∷ []) in
+    let fits : NodeSeat → ℕ → Type 0 = λ s k. IsOpen (identity_of t) k s in (
+      fit-last fits l m a rest (fit-rest fits all l b is each) 0 (omega (arith, n, u, v)),
+      fit-last fits all l b is each 1 n,
     )
 
-pub all-two : (t : ExecTable) (l : List NodeSeat) (a b : NodeSeat) → key_of t ≡ pair_sizes
+pub all-two : (t : Identity) (l : List NodeSeat) (a b : NodeSeat) → t.sizes ≡ pair_sizes
     → l ≡ a ∷ b ∷ [] → IsSeatOf t a × ((view a).number ≡ 0) → IsSeatOf t b × ((view b).number ≡ 1)
     → AreAll t l
 all-two t l a b pair is of-a of-b = (
@@ -161,7 +153,7 @@ all-two t l a b pair is of-a of-b = (
 )
 
 -- seats that a survey gave back, in the vector that lent them
-pub still-all : (t : ExecTable) (lent items news : List NodeSeat) (k : ℕ) → lent ≡ items
+pub still-all : (t : Identity) (lent items news : List NodeSeat) (k : ℕ) → lent ≡ items
     → k ≡ length items → length news ≡ length lent → AreAll t lent → Each (IsBack t) lent news
     → AreAll t (take k (news ++ drop (length news) items))
 still-all t lent items news k is many count all back = subst (AreAll t)

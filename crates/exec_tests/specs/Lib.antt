@@ -1,3 +1,4 @@
 pub mod NamedCells
 pub mod Scripts
 pub mod TableRows
+pub mod TableSlots

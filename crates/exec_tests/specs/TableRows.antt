@@ -1,11 +1,11 @@
 -- What the seats of a table of two nodes and one edge know.
-use Rattle.std.specs.Prelude.{◌≡◌, ℕ, ◌==◌, ◌||◌, cond, Bool, true, false, List, [], ◌∷◌, Option, Some}
+use Rattle.std.specs.Prelude.{◌≡◌, ℕ, ◌==◌, ◌||◌, cond, Bool, true, false, is_some, List, [], ◌∷◌, Option, Some, None}
 use Rattle.chunk_data.specs.Names.{Table as Chunk}
 use Rattle.core_laws.specs.Views.{no_flags, without}
 use Rattle.exec_table.specs.CoreNames.{Flags, NodeState, Sizes, Wire}
 use Rattle.exec_table.specs.Boards.{fits_end}
 use Rattle.exec_table.specs.Ready.{end_of_view}
-use Rattle.exec_table.specs.Seats.{IsSeatOf, key_of, slot_of, view}
+use Rattle.exec_table.specs.Seats.{IsSeatOf, identity_of, key_of, slot_of, view}
 use Rattle.exec_table.specs.declared.rule.ExecTable.{ExecTable}
 use Rattle.exec_table.specs.declared.rule.NodeSeat.{NodeSeat}
 use Rattle.exec_table.specs.declared.types.Stage.TheVariants.{Born}
@@ -34,7 +34,7 @@ node held tokens flags unlooked owes = record {
 -- the seat of the node n of such a table, which is in this state
 pub record Is (n : ℕ) (st : NodeState) (t : ExecTable) (s : NodeSeat) : Type 0 where
   pub pair : key_of t ≡ pair_sizes
-  pub seat : IsSeatOf t s
+  pub seat : IsSeatOf (identity_of t) s
   pub number : (view s).number ≡ n
   pub state : (view s).state ≡ st
 
@@ -55,6 +55,11 @@ pub record Saw (n tokens : ℕ) (flags : Flags) (t : ExecTable) (s : NodeSeat) :
   pub is : Is n (node true tokens flags [] false) t s
   pub wire : (end_of_view (view s) 0).wire ≡ Some one_wire
   pub fits : (v : Option Chunk) → slot_of s 0 ≡ Some v → fits_end (1 == n) v ≡ true
+
+-- whether a slot is out, and has a chunk
+abbrev pub content : Option (Option Chunk) → Option Bool
+content None = None
+content (Some x) = Some (is_some x)
 
 -- the node's word was not 0
 abbrev pub was_charged : Updated → Bool

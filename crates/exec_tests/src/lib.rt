@@ -27,6 +27,8 @@ mod scripted;
 #[cfg(test)]
 mod sort_procs_tests;
 #[cfg(test)]
+mod table_slots_tests;
+#[cfg(test)]
 mod table_tests;
 #[cfg(test)]
 mod task_queue_tests;

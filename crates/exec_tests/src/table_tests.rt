@@ -2,7 +2,7 @@
 ghost use Rattle.std.specs.Prelude.{◌≡◌, ℕ, true, false, [], IfOk, IfSome, IsTrue};
 ghost use Rattle.core_laws.specs.Views.{has};
 ghost use Rattle.exec_table.specs.Made.{IsMade};
-ghost use Rattle.exec_table.specs.Seats.{IsRootOf, IsSeatOf, view};
+ghost use Rattle.exec_table.specs.Seats.{IsRootOf, IsSeatOf, identity_of, view};
 ghost use Rattle.exec_tests.specs.TableRows.{Is, IsFirst, IsHeld, Saw, node, seen_as};
 
 use chunk_data::{Chunk, ColumnType, List, Value};
@@ -11,7 +11,7 @@ use exec_table::{ExecTable, Made, Marked, NodeSeat, Rested, RootSeat, Seen, Upda
 use std::test::Fail;
 use std::thread::join;
 
-fn wire(from: u32, out: u32, to: u32, input: u32) -> Wire
+pub(crate) fn wire(from: u32, out: u32, to: u32, input: u32) -> Wire
     ensures { result ≡ record { from = from; out = out; to = to; input = input } }
 {
     Wire {
@@ -67,7 +67,7 @@ fn a_worker_sees_the_consumers_pending(rt: HostRuntime) -> Result<(), Fail> {
 fn two_nodes(rt: &HostRuntime) -> Result<(ExecTable, NodeSeat, NodeSeat, RootSeat), Fail>
     ensures zero { IfOk result (λ p. IsFirst 0 p.0 p.1) }
     ensures one { IfOk result (λ p. IsFirst 1 p.0 p.2) }
-    ensures root { IfOk result (λ p. IsRootOf p.0 p.3 × (p.3.seat.me.0.made ≡ 0)) }
+    ensures root { IfOk result (λ p. IsRootOf (identity_of p.0) p.3 × (p.3.seat.me.0.made ≡ 0)) }
 {
     let sizes = Sizes {
         nodes: 2,
@@ -85,7 +85,7 @@ fn two_nodes(rt: &HostRuntime) -> Result<(ExecTable, NodeSeat, NodeSeat, RootSea
     Ok((table, zero, one, root))
 }
 
-fn chunk(rt: &HostRuntime) -> Result<Chunk, Fail> {
+pub(crate) fn chunk(rt: &HostRuntime) -> Result<Chunk, Fail> {
     let types = List::from_vec(vec![in rt.alloc(); ColumnType::Int64]?);
     let mut chunk = Chunk::new(rt.alloc(), &types)?;
     chunk.push_row(List::from_vec(vec![in rt.alloc(); Value::Int(7)]?))?;
@@ -111,7 +111,7 @@ fn has_slot(seat: &NodeSeat) -> bool
 // Looks, with the slot at home, until the port is so.
 fn sees(table: &ExecTable, seat: &mut NodeSeat, needed: bool, has_data: bool) -> bool
     requires { (n k : ℕ) × IsHeld n k table.now seat.old }
-    ensures seat { IsSeatOf table.now seat.new }
+    ensures seat { IsSeatOf (identity_of table.now) seat.new }
     ensures saw { IsTrue result → (n k : ℕ) → IsHeld n k table.now seat.old
         → Saw n k (seen_as needed has_data) table.now seat.new }
 {
@@ -163,7 +163,8 @@ fn gives(table: &ExecTable, seat: &mut NodeSeat, chunk: Chunk) -> bool
 
 fn takes(table: &ExecTable, seat: &mut NodeSeat) -> Option<Chunk>
     requires { (k : ℕ) × IsHeld 1 k table.now seat.old }
-    ensures { IfSome result (λ _. IsSeatOf table.now seat.new × ((view seat.new).number ≡ 1)) }
+    ensures { IfSome result (λ _. IsSeatOf (identity_of table.now) seat.new
+        × ((view seat.new).number ≡ 1)) }
 {
     if !sees(table, seat, true, true) || !has_slot(seat) {
         return None;
@@ -176,7 +177,8 @@ fn takes(table: &ExecTable, seat: &mut NodeSeat) -> Option<Chunk>
 // Node 0 rests, and gives its tokens back.
 fn rests(table: &ExecTable, seat: &mut NodeSeat) -> bool
     requires { Is 0 (node true 1 (seen_as true true) [] false) table.now seat.old }
-    ensures { IsTrue result → IsSeatOf table.now seat.new × ((view seat.new).number ≡ 0) }
+    ensures { IsTrue result → IsSeatOf (identity_of table.now) seat.new
+        × ((view seat.new).number ≡ 0) }
 {
     if table.rest(seat) != Rested::Idle {
         return false;
@@ -189,7 +191,8 @@ fn rests(table: &ExecTable, seat: &mut NodeSeat) -> bool
 // Node 1, which was told meanwhile, takes the chunk.
 fn takes_again(table: &ExecTable, seat: &mut NodeSeat) -> Option<Chunk>
     requires { Is 1 (node true 0 (seen_as true false) [] false) table.now seat.old }
-    ensures { IfSome result (λ _. IsSeatOf table.now seat.new × ((view seat.new).number ≡ 1)) }
+    ensures { IfSome result (λ _. IsSeatOf (identity_of table.now) seat.new
+        × ((view seat.new).number ≡ 1)) }
 {
     if table.rest(seat) != Rested::UpdatedAgain || table.again(seat) != updated(1, 0, false) {
         return None;
@@ -218,7 +221,7 @@ fn a_chunk_passes(rt: HostRuntime) -> Result<(), Fail> {
     assert_eq!(rt; words, at_last);
     let last = table.shut(root, nodes, vec![in rt.alloc(); worker]?)?;
     assert_eq!(rt; last.words.as_slice(), at_last.as_slice());
-    assert!(rt; matches!(last.chunks.as_slice(), [None]));
+    assert!(rt; matches!(last.left.as_slice(), [None]));
     Ok(())
 }
 
@@ -251,6 +254,6 @@ fn a_chunk_left_in_its_slot_is_handed_back(rt: HostRuntime) -> Result<(), Fail> 
     }
     let nodes = vec![in rt.alloc(); zero, one]?;
     let last = table.shut(root, nodes, Vec::new(rt.alloc()))?;
-    assert!(rt; matches!(last.chunks.as_slice(), [Some(_)]));
+    assert!(rt; matches!(last.left.as_slice(), [Some(_)]));
     Ok(())
 }

@@ -1,5 +1,5 @@
 use Rattle.core_laws.specs.declared.types.Step.TheVariants as step
-use Rattle.exec_tests.proofs.TableRows.{AlreadyDue, Push, and_from, ap, arith, begun, can, can-act, end_of_view, eqb, in-hand, length, marked_of, marked_peer, may-push, refl, rules, stepped, sym, true, view, ◌≡◌, ◌∙◌}
+use Rattle.exec_tests.proofs.TableRows.{AlreadyDue, Push, and_from, ap, arith, begun, can, empty, filled, can-act, end_of_view, eqb, false, in-hand, length, marked_of, marked_peer, refl, rules, stepped, sym, true, view, ◌≡◌, ◌∙◌}
 use Rattle.exec_tests.proofs.table_tests.gives.Goals as goal
 
 pub sees-requires : goal.sees-requires
@@ -19,7 +19,8 @@ push-requires-clause-ready c = let j = length (end_of_view (view c.sees.new.seat
 pub push-requires-clause-slot : goal.push-requires-clause-slot
 push-requires-clause-slot c = let w = c.sees.ensures.saw c.if-not-sees.false 0 1
     (begun c.requires c.token_in.ensures c.begin.ensures (search rules)) in
-    may-push _ (in-hand w.is ∙ (sym c.has_slot.ensures ∙ c.if-not-has_slot.false)) w.fits
+    empty _ (filled false _ (in-hand w.is ∙ (sym c.has_slot.ensures ∙ c.if-not-has_slot.false))
+    w.fits)
 
 pub mark-requires-clause-ready : goal.mark-requires-clause-ready
 mark-requires-clause-ready c = can (stepped (c.sees.ensures.saw c.if-not-sees.false 0 1

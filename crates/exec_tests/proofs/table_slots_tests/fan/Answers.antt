@@ -1,0 +1,25 @@
+use Rattle.exec_tests.proofs.TableRows.{[], ap, dealt, identity_of, option_to_list, refl, ◌++◌, ◌∙◌, ◌∷◌}
+use Rattle.exec_tests.proofs.TableSlots.{fresh}
+use Rattle.exec_tests.specs.TableSlots.{IsFresh}
+use Rattle.exec_tests.proofs.table_slots_tests.fan.Goals as goal
+use Rattle.exec_tests.proofs.table_slots_tests.fan.Goals.{After-drop-sizes-3}
+
+both : (c : After-drop-sizes-3) → IsFresh 0 (identity_of c.in_ok-table.field-0.table)
+    c.unwrap-zero.result × IsFresh 1 (identity_of c.in_ok-table.field-0.table) c.unwrap-one.result
+both c = let m = c.in_ok-table.ensures in let sizes = m.key ∙ (λ i. record {
+  nodes = 2;
+  wires = (c.from_vec.ensures ∙ (c.in_ok-wires.ensures.items ∙ (λ j. c.wire.ensures j
+      ∷ c.wire-2.ensures j ∷ c.wire-3.ensures j ∷ []))) i;
+  reserves = c.new.ensures i;
+  workers = 1;
+}) in let given = dealt c.in_ok-table.field-0.table _ _ _ _ _
+    (c.pop.ensures.items ∙ ap (λ r. c.pop.new.self.items ++ option_to_list r) c.unwrap-one.ensures)
+    (c.pop-2.ensures.items ∙ ap (λ r. c.pop-2.new.self.items ++ option_to_list r)
+    c.unwrap-zero.ensures) (m.nodes.0 ∙ ap (λ z. z.nodes) sizes) m.nodes.1 in
+    (fresh 0 _ _ sizes given.0 refl refl, fresh 1 _ _ sizes given.1 refl refl)
+
+pub returns-clause-zero : goal.returns-clause-zero
+returns-clause-zero c = (both c).0
+
+pub returns-clause-one : goal.returns-clause-one
+returns-clause-one c = (both c).1
