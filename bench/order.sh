@@ -10,7 +10,7 @@ file=$data/numbers_$rows.csv
 mkdir -p "$data"
 . "$here/numbers.sh"
 [ -s "$file" ] || numbers "$rows" >"$file"
-"$here/../qrun" --query "SELECT a FROM t" --tables "t=/dev/null:a Int64" # builds what is missing
+"$here/../qrun" --prove # builds what is missing
 
 . "$here/measure.sh"
 tables="t=$file:a Int64,b Int64,c Int64,d String"

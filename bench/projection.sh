@@ -16,7 +16,7 @@ if [ ! -s "$file" ]; then
                 rand() * 100000, i * 31 % 1000007, i % 12 + 1, i % 28 + 1
     }' >"$file"
 fi
-"$here/../qrun" --query "SELECT id FROM t" --tables "t=/dev/null:id Int64" # builds what is missing
+"$here/../qrun" --prove # builds what is missing
 
 . "$here/measure.sh"
 tables="t=$file:id Int64,shop String,quantity UInt64,price Int64,day String"
