@@ -2,3 +2,4 @@ pub mod Prelude
 pub mod Cells
 pub mod Turns
 pub mod Ends
+pub mod Stored
