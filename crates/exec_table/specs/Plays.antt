@@ -1,5 +1,5 @@
 -- What each atomic step tells the seat that makes it.
-use Rattle.std.specs.Prelude.{◌≡◌, ℕ, ◌+◌, ◌-◌, List, [], ◌∷◌, length, Some, None, true, false}
+use Rattle.std.specs.Prelude.{◌≡◌, ℕ, ◌+◌, ◌-◌, ◌^◌, ◌==◌, cond, List, [], ◌∷◌, length, Some, None, true, false}
 use Rattle.core_laws.specs.declared.types.Step.TheVariants as step
 use Rattle.exec_table.specs.CoreNames.{Sizes, Step, wire_ok, may}
 use Rattle.exec_table.specs.Words.{first_word, port_place, wire_place, wire_of}
@@ -36,8 +36,12 @@ port_edge st x = st.word - port_place x.sizes 0
 abbrev pub wire_edge : Stp → NodeView → ℕ
 wire_edge st x = st.word - wire_place x.sizes 0
 
-abbrev pub push_step : Stp → NodeView → Step
-push_step st x = step.Push (port_edge st x) (length (end_of_view x (port_edge st x)).chunks)
+-- the step at a port, by the operand: 0 of a look, the flag that is set, or all but the one unset
+abbrev pub port_step : Stp → NodeView → Step
+port_step st x = let e = port_edge st x in let k = st.first in cond (k == 0) (step.Look e)
+    (cond (k == 1) (step.Want e) (cond (k == 2 ^ 64 - 2) (step.Unwant e)
+    (cond (k == 2) (step.Push e (length (end_of_view x e).chunks))
+    (cond (k == 2 ^ 64 - 3) (step.Pull e) (cond (k == 4) (step.Finish e) (step.ClosePort e))))))
 
 abbrev pub wire_step : Stp → NodeView → Step
 wire_step st x = step.Wire (wire_edge st x) (wire_of st.second)
@@ -64,9 +68,10 @@ pub record Worked (z : Sizes) (k : ℕ) (s : Step) (found : ℕ) : Type 0 where
   pub kept : Holds (board_after before (z.nodes + k) s None)
   pub word : found ≡ first_word before.core
 
-abbrev pub works : Step → Stp → Sat → ℕ → Sat → Type 0
-works s st m found m' = (m' ≡ m) × ((k : ℕ) → m.0.worker ≡ Some k
-    → Worked m.0.sizes k s found)
+-- a worker looks at word 0, or sets its stop bit
+abbrev pub works : Stp → Sat → ℕ → Sat → Type 0
+works st m found m' = (m' ≡ m) × ((k : ℕ) → m.0.worker ≡ Some k
+    → Worked m.0.sizes k (cond (st.first == 0) step.See step.Stop) found)
 
 -- the root's view with one more worker made, and the view of that worker
 abbrev pub with_worker : View → View

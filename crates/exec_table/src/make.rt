@@ -54,23 +54,13 @@ fn node_words(alloc: Global, nodes: &[NodeState]) -> Result<Vec<u64>, Memory>
 fn wire_words(alloc: Global, ports: &[PortState]) -> Result<Vec<u64>, Memory>
     ensures { IfOk result (λ v. v.items ≡ map (λ p. wire_word_there p.wire) ports.now) }
 {
-    Ok(
-        ports
-            .iter()
-            .map(|port| word_of_wire(port.wire))
-            .collect(alloc)?,
-    )
+    Ok(ports.iter().map(|p| word_of_wire(p.wire)).collect(alloc)?)
 }
 
 fn port_words(alloc: Global, ports: &[PortState]) -> Result<Vec<u64>, Memory>
     ensures { IfOk result (λ v. v.items ≡ map (λ p. flags_word_there p.flags) ports.now) }
 {
-    Ok(
-        ports
-            .iter()
-            .map(|port| word_of_flags(port.flags))
-            .collect(alloc)?,
-    )
+    Ok(ports.iter().map(|p| word_of_flags(p.flags)).collect(alloc)?)
 }
 
 // All words of a state that nobody stopped.

@@ -1,6 +1,6 @@
 //! What each atomic step tells its seat.
 ghost use Rattle.core_laws.specs.declared.types.Step.TheVariants as step;
-ghost use Rattle.exec_table.specs.Plays.{does, port_edge, wire_edge, push_step, wire_step, marks, aims, works, with_worker, next_worker};
+ghost use Rattle.exec_table.specs.Plays.{does, port_step, wire_edge, wire_step, marks, aims, works, with_worker, next_worker};
 
 use crate::types::View;
 use atomic_table::{Join, Play, Split};
@@ -13,46 +13,11 @@ impl Play<Option<Chunk>, View> for Aim {
     ghost then = { aims };
 }
 
-pub(crate) struct Look;
+// A look at a port's word, or a change of one of its flags.
+pub(crate) struct AtPort;
 
-impl Play<Option<Chunk>, View> for Look {
-    ghost then = { does (λ st x. step.Look (port_edge st x)) };
-}
-
-pub(crate) struct Want;
-
-impl Play<Option<Chunk>, View> for Want {
-    ghost then = { does (λ st x. step.Want (port_edge st x)) };
-}
-
-pub(crate) struct Unwant;
-
-impl Play<Option<Chunk>, View> for Unwant {
-    ghost then = { does (λ st x. step.Unwant (port_edge st x)) };
-}
-
-pub(crate) struct Push;
-
-impl Play<Option<Chunk>, View> for Push {
-    ghost then = { does push_step };
-}
-
-pub(crate) struct Pull;
-
-impl Play<Option<Chunk>, View> for Pull {
-    ghost then = { does (λ st x. step.Pull (port_edge st x)) };
-}
-
-pub(crate) struct Finish;
-
-impl Play<Option<Chunk>, View> for Finish {
-    ghost then = { does (λ st x. step.Finish (port_edge st x)) };
-}
-
-pub(crate) struct ClosePort;
-
-impl Play<Option<Chunk>, View> for ClosePort {
-    ghost then = { does (λ st x. step.ClosePort (port_edge st x)) };
+impl Play<Option<Chunk>, View> for AtPort {
+    ghost then = { does port_step };
 }
 
 pub(crate) struct Mark;
@@ -115,16 +80,11 @@ impl Play<Option<Chunk>, View> for Birth {
     ghost then = { does (λ st x. step.Birth) };
 }
 
-pub(crate) struct Stop;
+// A worker's look at word 0, or its stop.
+pub(crate) struct AtFirst;
 
-impl Play<Option<Chunk>, View> for Stop {
-    ghost then = { works step.Stop };
-}
-
-pub(crate) struct See;
-
-impl Play<Option<Chunk>, View> for See {
-    ghost then = { works step.See };
+impl Play<Option<Chunk>, View> for AtFirst {
+    ghost then = { works };
 }
 
 // A worker's seat out of the root's.

@@ -9,7 +9,7 @@ ghost use Rattle.exec_table.specs.Ready.{ready, end_of_view};
 ghost use Rattle.exec_table.specs.Rule.{aiming};
 ghost use Rattle.exec_table.specs.Seats.{IsSeatOf, Makes, holds_chunk, identity_of, key_of, push_of, slot_of, slots, view};
 
-use crate::plays::{Aim, ClosePort, Finish, Look, Pull, Push, Unwant, Want};
+use crate::plays::{Aim, AtPort};
 use crate::rule::{ExecTable, NodeSeat};
 use chunk_data::Chunk;
 use core_laws::{Flags, Wire};
@@ -84,7 +84,7 @@ impl ExecTable {
     {
         let wire = self.wire_at(seat, e);
         let place = self.port_place(e);
-        let flags = flags_of(self.table.shared.load::<Look>(&mut seat.seat, place));
+        let flags = flags_of(self.table.shared.load::<AtPort>(&mut seat.seat, place));
         let is_turn = flags.has_data == (wire.to == seat.node);
         seat.take_slot(e, is_turn);
         flags
@@ -97,7 +97,7 @@ impl ExecTable {
     {
         let place = self.port_place(e);
         let shared = &self.table.shared;
-        shared.fetch_or::<Want>(&mut seat.seat, place, NEEDED);
+        shared.fetch_or::<AtPort>(&mut seat.seat, place, NEEDED);
     }
 
     pub fn unwant(&self, seat: &mut NodeSeat, e: u32)
@@ -107,7 +107,7 @@ impl ExecTable {
     {
         let place = self.port_place(e);
         let shared = &self.table.shared;
-        shared.fetch_and::<Unwant>(&mut seat.seat, place, !NEEDED);
+        shared.fetch_and::<AtPort>(&mut seat.seat, place, !NEEDED);
     }
 
     /// The chunk goes into the slot, whose turn this seat has.
@@ -126,7 +126,7 @@ impl ExecTable {
             Some(_) => unreachable!(),
         }
         let place = self.port_place(e);
-        shared.fetch_or::<Push>(&mut seat.seat, place, HAS_DATA);
+        shared.fetch_or::<AtPort>(&mut seat.seat, place, HAS_DATA);
     }
 
     /// The port's content, out of the slot, whose turn this seat has. This is no step: words and
@@ -158,7 +158,7 @@ impl ExecTable {
         seat.held.pop_front();
         let place = self.port_place(e);
         let shared = &self.table.shared;
-        shared.fetch_and::<Pull>(&mut seat.seat, place, !HAS_DATA);
+        shared.fetch_and::<AtPort>(&mut seat.seat, place, !HAS_DATA);
     }
 
     pub fn finish(&self, seat: &mut NodeSeat, e: u32)
@@ -168,7 +168,7 @@ impl ExecTable {
     {
         let place = self.port_place(e);
         let shared = &self.table.shared;
-        shared.fetch_or::<Finish>(&mut seat.seat, place, FIN_OUT);
+        shared.fetch_or::<AtPort>(&mut seat.seat, place, FIN_OUT);
     }
 
     pub fn close_port(&self, seat: &mut NodeSeat, e: u32)
@@ -178,6 +178,6 @@ impl ExecTable {
     {
         let place = self.port_place(e);
         let shared = &self.table.shared;
-        shared.fetch_or::<ClosePort>(&mut seat.seat, place, FIN_IN);
+        shared.fetch_or::<AtPort>(&mut seat.seat, place, FIN_IN);
     }
 }

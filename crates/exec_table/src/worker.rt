@@ -5,7 +5,7 @@ ghost use Rattle.core_laws.specs.declared.types.Step.TheVariants as step;
 ghost use Rattle.exec_table.specs.Rule.{no_view};
 ghost use Rattle.exec_table.specs.Seats.{IsRootOf, IsWorkerOf, WorkerDoes, identity_of, key_of, seen_in, seen_of};
 
-use crate::plays::{MakeWorker, See, Stop};
+use crate::plays::{AtFirst, MakeWorker};
 use crate::rule::{ExecTable, RootSeat, WorkerSeat};
 use crate::types::Seen;
 
@@ -46,7 +46,7 @@ impl ExecTable {
         ensures told { WorkerDoes (identity_of self.now) seat.old step.Stop nothing }
     {
         let shared = &self.table.shared;
-        shared.fetch_or::<Stop>(&mut seat.seat, 0, STOPPED);
+        shared.fetch_or::<AtFirst>(&mut seat.seat, 0, STOPPED);
     }
 
     /// Whether something is pending, and whether the run was stopped.
@@ -57,6 +57,6 @@ impl ExecTable {
         ensures told { WorkerDoes (identity_of self.now) seat.old step.See
             (tells_seen (seen_of result)) }
     {
-        seen(self.table.shared.load::<See>(&mut seat.seat, 0))
+        seen(self.table.shared.load::<AtFirst>(&mut seat.seat, 0))
     }
 }
