@@ -127,10 +127,8 @@ module _ (b : Board) (n : ℕ) (h : Holds b) (here : n < length b.core.nodes) wh
     still-core : (o : Bool) (e : ℕ) (y : End) → o ≡ false → c.core ≡ b.core → c.lanes ≡ b.lanes
         → (d : ℕ) → end_of_view (node_view c n) d
         ≡ cond (o && eqb d e) y (end_of_view (node_view b n) d)
-    still-core o e y q core lanes d = view-end c n d after ∙ ((λ i. end_for n
-        (knows d (node_at (core i) n).seen) (port_at (core i) d).wire (get_or (lanes i) d no_lane))
-        ∙ (sym (view-end b n d h)
-        ∙ ap (λ o. cond (o && eqb d e) y (end_of_view (node_view b n) d)) (sym q)))
+    still-core o e y q core lanes d =
+        grind (arith, view-end b n d h, view-end c n d after, q, core, lanes)
 
   -- each edge after a step, but one that was looked at
   ends-after : (s : Step) (x : Option Chunk) → may b.core n s ≡ true

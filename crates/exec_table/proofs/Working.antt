@@ -59,17 +59,11 @@ worker-may b k less = grind arith
 -- the stop bit is set, whatever it was
 pub stop-word : (p : ℕ) (t : Bool) → p < 2 ^ 62
     → bit_or (p + cond t (2 ^ 63) 0) (2 ^ 63) ≡ p + 2 ^ 63
-stop-word p t h = by t
+stop-word p t h = grind (arith, or_comm p (2 ^ 63), or_shifted 1 63 p, or_again p (2 ^ 63))
   where
-    once : bit_or p (2 ^ 63) ≡ p + 2 ^ 63
-    once = or_comm p (2 ^ 63) ∙ (or_shifted 1 63 p (omega arith) ∙ omega arith)
-
-    by : (t : Bool) → bit_or (p + cond t (2 ^ 63) 0) (2 ^ 63) ≡ p + 2 ^ 63
-    by false = ap (λ z. bit_or z (2 ^ 63)) (omega arith) ∙ once
-    by true = sym (ap (λ z. bit_or z (2 ^ 63)) once)
-        ∙ (same_from_bits (bit_or (bit_or p (2 ^ 63)) (2 ^ 63)) (bit_or p (2 ^ 63)) (λ i.
-        bit_at_or (bit_or p (2 ^ 63)) (2 ^ 63) i
-        ∙ (let z = bit_at_or p (2 ^ 63) i in omega (arith, z))) ∙ once)
+    or_again : (p k : ℕ) → bit_or (bit_or p k) k ≡ bit_or p k
+    or_again p k = same_from_bits _ _ (λ i. let z = bit_at_or p k i in
+        let y = bit_at_or (bit_or p k) k i in omega (arith, z, y))
 
 -- a worker may look at word 0, and may stop the run
 pub worker-allowed : (key : Sizes) (slots id : ℕ) (m : Sat) (s : Step) (f : ℕ → ℕ)
