@@ -1,5 +1,5 @@
 -- Marks, wires and workers: what their calls' proofs cite.
-use Rattle.exec_table.proofs.Imports.{Allows, Board, Bool, Step, board_after, Fits, Holds, None, Sat, Shown, Sizes, Some, Splits, View, Wire, ap, edge_count, arith, at_snoc, bit_at_or, bit_or, cond, end_of_view, false, first_word, get_elem?, get_or, keeps, length, may, node_view, or_comm, or_shifted, peer_in, port_at, refl, same_from_bits, set, some, subst, sym, true, wire_of, wire_ok, wire_word, words_of, ℕ, ⊎_elim, ◌+◌, ◌<◌, ◌^◌, ◌∙◌, ◌≡◌, ◌≤◌, le-leb, lt-leb, ready, Worked, next_worker, with_worker, wire_in, ExecTable, Identity, IsSeatOf, identity_of, seen_in, view, NodeSeat}
+use Rattle.exec_table.proofs.Imports.{Allows, Board, Bool, Step, board_after, Fits, Holds, None, Sat, Shown, Sizes, Some, Splits, View, Wire, ap, edge_count, arith, at_snoc, bit_at_or, bit_or, cond, end_of_view, first_word, get_elem?, get_or, keeps, length, may, node_view, or_comm, or_shifted, peer_in, port_at, refl, same_from_bits, set, some, subst, sym, true, wire_of, wire_ok, wire_word, words_of, ℕ, ⊎_elim, ◌+◌, ◌<◌, ◌^◌, ◌∙◌, ◌≡◌, ◌≤◌, le-leb, lt-leb, ready, Worked, next_worker, with_worker, wire_in, ExecTable, Identity, IsSeatOf, identity_of, seen_in, view, NodeSeat}
 use Rattle.exec_table.proofs.Showing.{fits-none, fits-set, regrouped, stopped_at, stopped-fits, stopped-holds}
 use Rattle.exec_table.proofs.Wording.{pending-small}
 use Rattle.exec_table.proofs.Seating.{known-wire, wire-read}
