@@ -36,12 +36,13 @@ port_edge st x = st.word - port_place x.sizes 0
 abbrev pub wire_edge : Stp → NodeView → ℕ
 wire_edge st x = st.word - wire_place x.sizes 0
 
--- the step at a port, by the operand: 0 of a look, the flag that is set, or all but the one unset
+-- the step at a port, by the operand: 0 of a look, the flag that is set, or all but the one unset;
+-- of any other operand a step that no node's seat may make
 abbrev pub port_step : Stp → NodeView → Step
 port_step st x = let e = port_edge st x in let k = st.first in cond (k == 0) (step.Look e)
     (cond (k == 1) (step.Want e) (cond (k == 2 ^ 64 - 2) (step.Unwant e)
-    (cond (k == 2) (step.Push e (length (end_of_view x e).chunks))
-    (cond (k == 2 ^ 64 - 3) (step.Pull e) (cond (k == 4) (step.Finish e) (step.ClosePort e))))))
+    (cond (k == 2) (step.Push e (length (end_of_view x e).chunks)) (cond (k == 2 ^ 64 - 3)
+    (step.Pull e) (cond (k == 4) (step.Finish e) (cond (k == 8) (step.ClosePort e) step.See))))))
 
 abbrev pub wire_step : Stp → NodeView → Step
 wire_step st x = step.Wire (wire_edge st x) (wire_of st.second)

@@ -1,20 +1,15 @@
 use Rattle.core_laws.specs.declared.types.Step.TheVariants as step
-use Rattle.exec_tests.proofs.TableRows.{AlreadyDue, Push, and_from, ap, arith, begun, can, empty, filled, can-act, end_of_view, eqb, false, in-hand, length, marked_of, marked_peer, refl, rules, stepped, sym, true, view, ◌≡◌, ◌∙◌}
+use Rattle.exec_tests.proofs.TableRows.{AlreadyDue, Push, and_from, ap, begun, can, empty, filled, can-act, false, in-hand, marked_of, marked_peer, refl, rules, stepped, sym, ◌≡◌, ◌∙◌}
+use Rattle.std.proofs.lemmas.Bool.{eq-eqb}
 use Rattle.exec_tests.proofs.table_tests.gives.Goals as goal
 
 pub sees-requires : goal.sees-requires
-sees-requires c = (
-  0,
-  1,
-  begun c.requires c.token_in.ensures c.begin.ensures
-      (search rules),
-)
+sees-requires c = (0, 1, begun c.requires c.token_in.ensures c.begin.ensures (search rules))
 
 pub push-requires-clause-ready : goal.push-requires-clause-ready
-push-requires-clause-ready c = let j = length (end_of_view (view c.sees.new.seat) 0).chunks in
-    and_from _ _ (can-act (c.sees.ensures.saw c.if-not-sees.false 0 1
-    (begun c.requires c.token_in.ensures c.begin.ensures (search rules))) (Push j) refl)
-    (let z : eqb j j ≡ true = grind arith in z)
+push-requires-clause-ready c = and_from _ _ (can-act (c.sees.ensures.saw c.if-not-sees.false 0 1
+    (begun c.requires c.token_in.ensures c.begin.ensures (search rules))) (Push 0) refl)
+    (eq-eqb _ _ refl)
 
 pub push-requires-clause-slot : goal.push-requires-clause-slot
 push-requires-clause-slot c = let w = c.sees.ensures.saw c.if-not-sees.false 0 1
