@@ -1,5 +1,5 @@
 -- What a seat knows of its edges, of its slots and of how far its node is, after a step.
-use Rattle.exec_table.proofs.Imports.{EdgeHolds, Answer, Begun, Board, Bool, Born, Chunk, CoreState, End, Flags, HandHolds, Holds, Identity, IsSeatOf, Lane, Makes, NodeSeat, NodeState, NodeView, None, Option, Over, PortState, Pull, Push, Slots, Some, Stage, Step, Wire, after, answer, ap, arith, board_after, both_ways, cases_Bool, cases_eq, cond, edges-seeing, edges_of, end_for, end_of_view, end_view, eq-eqb, eqb, false, flags_at, get_or, get_or-set_other, get_or-set_same, has, has-last, inl, inr, is_end, is_none, is_some, knows, lane_at, learned, length, looked_at, map-append, may, names, ne_eqb, no_flags, no_lane, no_port, node_at, node_of, node_view, port_at, port_of, pulled_from, pushed_to, refl, set, slot_in, slot_of, slots, stage_at, subst, sym, true, view, wired, wire_ok, wiring, ℕ, ◌&&◌, ◌<◌, ◌∙◌, ◌≡◌, ◌≢◌, ◌||◌, ◌⊎◌}
+use Rattle.exec_table.proofs.Imports.{EdgeHolds, Answer, Begun, Board, Bool, Born, Chunk, CoreState, End, Flags, HandHolds, Holds, Identity, IsSeatOf, Lane, Makes, NodeSeat, NodeView, None, Option, Over, PortState, Pull, Push, Slots, Some, Stage, Step, Wire, after, answer, ap, arith, board_after, both_ways, cases_Bool, cases_eq, cond, edges-seeing, edges_of, end_for, end_of_view, end_view, eq-eqb, eqb, false, flags_at, get_or, get_or-set_other, get_or-set_same, has-last, inl, inr, is_end, is_none, is_some, knows, lane_at, learned, length, looked_at, map-append, may, names, ne_eqb, no_flags, no_lane, no_port, node_at, node_of, node_view, port_at, port_of, pulled_from, pushed_to, refl, set, slot_in, slot_of, slots, stage_at, subst, sym, true, view, wire_ok, wiring, ℕ, ◌&&◌, ◌<◌, ◌∙◌, ◌≡◌, ◌≢◌, ◌||◌, ◌⊎◌}
 use Rattle.core_laws.proofs.Lists.{flags-last, seeing-other}
 use Rattle.core_laws.specs.Steps.{flags}
 use Rattle.core_laws.specs.declared.types.Step.TheVariants as step
@@ -75,17 +75,14 @@ module _ (b : Board) (n : ℕ) (h : Holds b) (here : n < length b.core.nodes) wh
     -- a step that learns no edge leaves each as it is, but for its lane
     plain-end : may_learn s ≡ false → (d : ℕ)
         → end_of_view (node_view c n) d ≡ end_for n (known d) (edge_wire d) (lane_at c d)
-    plain-end p d = view-end c n d after
-        ∙ (λ i. end_for n (same i) (wires-kept b.core n s g p d i) (lane_at c d))
-      where
-        same : knows d (node_at c.core n).seen ≡ known d
-        same = ap (λ (z : NodeState). knows d z.seen) (state-after b n h here s g)
-            ∙ ap (has d) (edges-after (node_view b n) s (answer b.core n s) p)
+    plain-end p d = let end = view-end c n d after in let wire = wires-kept b.core n s g p d in
+        let state = state-after b n h here s g in
+        let edges = edges-after (node_view b n) s (answer b.core n s) p in
+        grind (arith, end, wire, state, edges)
 
     same-end : may_learn s ≡ false → (d : ℕ) → lane_at c d ≡ lane_at b d
         → end_of_view (node_view c n) d ≡ end_of_view (node_view b n) d
-    same-end p d q = plain-end p d ∙ (ap (end_for n (known d) (edge_wire d)) q
-        ∙ sym (view-end b n d h))
+    same-end p d q = grind (arith, plain-end p d, q, view-end b n d h)
 
     -- the lane of the edge e changes
     lane-end : may_learn s ≡ false → (e : ℕ) (l : Lane) (y : End) → c.lanes ≡ set b.lanes e l
@@ -217,9 +214,7 @@ learned-sight x e d = grind (arith, flags-last e d x.state.seen)
 sight-still : (x : NodeView) (s : Step) (a : Answer) (d : ℕ) → is_at d s ≡ false
     → flags_at d (state_after x s a).seen ≡ flags_at d x.state.seen
 sight-still x (step.Look e) (flags f) d q = seeing-other e d f x.state.seen (away-at d e q)
-sight-still x (step.Wire e w) (wired o) d q = grind (arith, learned-sight x e d)
-sight-still x (step.Wired e) (wired o) d q = grind (arith, learned-sight x e d)
-sight-still x s a d q = grind (arith, q, seeing-other, away-at)
+sight-still x s a d q = grind (arith, q, seeing-other, away-at, learned-sight)
 
 module _ {t : Identity} {old new : NodeSeat} {s : Step} {x : Option Chunk} {a : Answer}
     (o : IsSeatOf t old) (m : Makes t old new s x a) where
@@ -227,9 +222,8 @@ module _ {t : Identity} {old new : NodeSeat} {s : Step} {x : Option Chunk} {a : 
   number-made = sym (ap (λ (v : NodeView). v.number) m.now)
 
   pub stage-made : (view new).stage ≡ stage_after (view old).stage s
-  stage-made = sym (ap (λ (v : NodeView). v.stage) m.now)
-      ∙ (stage-after m.before (view old).number m.holds (node-inside o m) s x
-      ∙ ap (λ (v : NodeView). stage_after v.stage s) m.was)
+  stage-made = let is = stage-after m.before (view old).number m.holds (node-inside o m) s x in
+      let was = m.was in let now = m.now in grind (arith, is, was, now)
 
   pub edges-made : may_learn s ≡ false
       → edges_of (view new).state.seen ≡ edges_of (view old).state.seen
@@ -238,17 +232,16 @@ module _ {t : Identity} {old new : NodeSeat} {s : Step} {x : Option Chunk} {a : 
   pub ends-made : (d : ℕ) → looks_at d s ≡ false
       → (is_at d s ≡ true → gives_back (view old) s ≡ true)
       → end_of_view (view new) d ≡ end_after (view old) s x a d
-  ends-made d away back = sym (ap (λ (v : NodeView). end_of_view v d) m.now)
-      ∙ (ends-after m.before (view old).number m.holds (node-inside o m) s x m.may m.kept d away
-      (λ q. ap (λ v. gives_back v s) m.was ∙ back q)
-      ∙ (λ i. end_after (m.was i) s x (m.says i) d))
+  ends-made d away back = let was = m.was in let now = m.now in let says = m.says in
+      let is = ends-after m.before _ m.holds (node-inside o m) s x m.may m.kept d away in
+      grind (arith, is, was, now, says, back)
 
   -- a slot is as it was where its end is, and at home where its end hasn't the turn
   pub slot-kept : (d : ℕ) → end_of_view (view new) d ≡ end_of_view (view old) d
       → slot_of new d ≡ slot_of old d
-  slot-kept d q = slot-same (slot_of old d) (slot_of new d) (end_of_view (view new) d).turn
-      (slot-turn (view new) (slots new) d m.seat.hand ∙ (ap (λ (z : End). is_some z.turn) q
-      ∙ sym (slot-turn (view old) (slots old) d o.hand))) (m.carried d)
+  slot-kept d q = let now = slot-turn (view new) (slots new) d m.seat.hand in
+      let was = slot-turn (view old) (slots old) d o.hand in
+      grind (arith, slot-same, now, was, q, m.carried d)
 
   pub slot-home : (d : ℕ) → (end_of_view (view new) d).turn ≡ None → slot_of new d ≡ None
   slot-home d q = no-slot d (slots new) (m.seat.hand.turns d ∙ ap is_some q)
@@ -313,13 +306,6 @@ module _ {t : Identity} {old new : NodeSeat} {e : ℕ} {x : Option Chunk} {f : F
           (let k = m.holds.lane_count in let j = inside in omega (arith, k, j)) i)))
 
   pub look-slot : slot_of new e ≡ slot_looked (slot_of old e) (end_of_view (view new) e).turn
-  look-slot = slot-taken (slot_of old e) (slot_of new e) (end_of_view (view new) e).turn
-      (slot-turn (view new) (slots new) e m.seat.hand)
-      (λ q. keeps (end_of_view (view old) e).turn
-      (sym (slot-turn (view old) (slots old) e o.hand) ∙ q) look-made.kept) (m.carried e)
-    where
-      keeps : (y : Option (Option Chunk)) → is_some y ≡ true
-          → ((v : Option Chunk) → y ≡ Some v → (end_of_view (view new) e).turn ≡ Some v)
-          → is_some (end_of_view (view new) e).turn ≡ true
-      keeps None q k = grind (arith, q)
-      keeps (Some v) q k = ap is_some (k v refl)
+  look-slot = let now = slot-turn (view new) (slots new) e m.seat.hand in
+      let was = slot-turn (view old) (slots old) e o.hand in
+      grind (arith, slot-taken, now, was, look-made.kept, m.carried e)

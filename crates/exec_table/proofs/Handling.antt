@@ -1,5 +1,5 @@
 -- What look, push, lift and pull do to the slots that are out with a seat.
-use Rattle.exec_table.proofs.Imports.{Flags, Wire, found_by, flags_word, Board, Bool, Chunk, Holds, List, NodeView, None, Option, Some, [], ap, arith, carried_after, cases_Bool, cond, deque_capacity, edge_count, end_of_view, End, no_end, get_or_past, cases_lt, both_ways, eqb, eqb-true, false, fits_end, has, holds, in_hand, inl, inr, is_empty_hand, is_end, is_full_hand, is_some, lane_at, length, node_view, not, once, port_at, refl, slot_act, subst, sym, true, ℕ, ◌&&◌, ◌<◌, ◌∙◌, ◌∷◌, ◌≡◌, HandHolds, IsInHand, Identity, IsSeatOf, Slots, edges_out, holds_chunk, slot_in, slot_of, slots, view, NodeSeat, beq}
+use Rattle.exec_table.proofs.Imports.{Flags, Wire, found_by, flags_word, Board, Bool, Chunk, Holds, List, NodeView, None, Option, Some, [], ap, arith, carried_after, cases_Bool, cond, deque_capacity, edge_count, end_of_view, get_or_past, cases_lt, eqb, false, fits_end, has, holds, in_hand, is_empty_hand, is_end, is_full_hand, lane_at, length, node_view, not, once, port_at, slot_act, true, ℕ, ◌&&◌, ◌<◌, ◌∙◌, ◌∷◌, ◌≡◌, HandHolds, IsInHand, Identity, IsSeatOf, Slots, edges_out, holds_chunk, slot_in, slot_of, slots, view, NodeSeat, beq}
 use Rattle.exec_table.proofs.Hands.{has-slot, turn-of-end, view-turn}
 use Rattle.exec_table.proofs.Stepping.{holds-in, lane-full}
 use Rattle.exec_table.proofs.SlotLists.{few-below, first-slot}
@@ -20,21 +20,10 @@ held-there t s e v o h = ap (has e) o.places ∙ slot-there e (slots s) v h
 -- there is room for one more slot
 pub room-for : (t : Identity) (s : NodeSeat) (e : ℕ) → IsSeatOf t s → e < edge_count t.sizes
     → has e s.held.items ≡ false → length s.held.items < deque_capacity s.held
-room-for t s e o less none = let r = o.room in
-    let n = few-below (edge_count t.sizes) (e ∷ s.held.items)
-    (let z = ap once o.places ∙ o.hand.once in grind (arith, z, none))
-    (λ d q. elim (cases_Bool (eqb e d)) [
-      | inl y ↦ subst (λ k. k < edge_count t.sizes) (eqb-true e d y) less
-      | inr y ↦ turned d (sym (o.hand.turns d) ∙ (sym (ap (has d) o.places) ∙ grind (arith, q, y)))
-    ]) in omega (arith, n, r)
-  where
-    turned : (d : ℕ) → is_some (end_of_view (view s) d).turn ≡ true → d < edge_count t.sizes
-    turned d q = elim (cases_lt d (edge_count t.sizes)) [
-      | inl l ↦ l
-      | inr past ↦ absurd (let n = o.ends in let z = ap (λ (x : End). is_some x.turn)
-          (get_or_past (view s).ends d no_end (omega (arith, n, past))) in both_ways false refl
-          (sym z ∙ q))
-    ]
+room-for t s e o less none = let few = few-below (edge_count t.sizes) (e ∷ s.held.items) in
+    let past = get_or_past (view s).ends in let turns = o.hand.turns in let once = o.hand.once in
+    let p = o.places in let ends = o.ends in let room = o.room in
+    grind (arith, few, past, turns, once, p, ends, room, cases_lt, cases_Bool, none, less)
 
 -- the slots after a look are those that the data name, if they take e just where its turn has come
 pub look-places : (b : Board) (n e : ℕ) (l : Slots) (held : List ℕ) (t : Bool) → Holds b

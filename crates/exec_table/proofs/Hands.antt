@@ -40,14 +40,10 @@ Wires d c = (e : ℕ) → (port_at d e).wire ≡ (port_at c e).wire
 
 act-wires : (a : Act) (c : CoreState) (n e : ℕ) → may_act a c n e ≡ true
     → Wires (acted a c n e) c
-act-wires a c n e g d = grind (
-  arith,
-  act-wire a (port_at c e),
-  cases_eq d e,
-  holds-in c n e,
-  get_or-set_same c.ports e (port_after a (port_at c e)) no_port,
-  get_or-set_other c.ports e d (port_after a (port_at c e)) no_port,
-)
+act-wires a c n e g d = let p = port_after a (port_at c e) in let which = cases_eq d e in
+    let wire = act-wire a (port_at c e) in let here = get_or-set_same c.ports e p no_port in
+    let other = get_or-set_other c.ports e d p no_port in let inside = holds-in c n e in
+    grind (arith, wire, which, inside, here, other)
 
 -- a step by which a node may learn an edge
 abbrev pub may_learn : Step → Bool

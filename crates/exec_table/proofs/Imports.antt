@@ -1,24 +1,17 @@
 -- The names from outside that this crate's proofs use, in one place.
-pub use Rattle.core_laws.specs.Laws.{Content, EdgeHolds, Edges, Laws, NodeHolds, Nodes, Sees, Tokens, WireHolds, WordHolds, ConsumerSees, ProducerSees}
-pub use Rattle.core_laws.specs.Start.{fits, has_output, is_reserved, start, start_node, start_port, start_word, fresh_sight}
-pub use Rattle.core_laws.specs.Steps.{Answer, acted, acting_end, after, allows, answer, bit_at_end, born, changed, chunks_after, counted, has_token, holds, is_edge, is_here, is_none_of, is_updated, learned, learning, left, looked, marked, may, may_act, may_begin, may_leave, may_take, node_after, peer_in, port_after, spent, taken, telling, tells, told, wiring, updated, is_idle, marked_by, marked_peer, seen, wired}
-pub use Rattle.core_laws.specs.Views.{adding, bit_of, counts, edges_of, end_of, flags_at, has, is_end, is_over, is_set, is_unborn, knows, listed, may_wire, names, no_flags, no_node, no_port, no_wire, node_at, node_of, once, port_at, port_of, put_node, put_port, reserved_edges, seeing, wire_ok, without}
-pub use Rattle.exec_table.specs.CoreNames.{Act, Close, CoreState, Finish, Flags, NodeState, PortState, Pull, Push, Sight, Sizes, Step, Unwant, Want, Wire}
+pub use Rattle.core_laws.specs.Laws.{Content, EdgeHolds, Laws}
+pub use Rattle.core_laws.specs.Start.{fits, start, start_node}
+pub use Rattle.core_laws.specs.Steps.{Answer, acted, acting_end, after, allows, answer, bit_at_end, born, changed, chunks_after, holds, is_updated, learned, learning, left, looked, may, may_act, node_after, peer_in, port_after, spent, taken, telling, tells, told, wiring, updated, is_idle, marked_by, marked_peer, seen, wired}
+pub use Rattle.core_laws.specs.Views.{adding, edges_of, end_of, flags_at, has, is_end, is_set, is_unborn, knows, names, no_flags, no_node, no_port, no_wire, node_at, node_of, once, port_at, port_of, put_node, put_port, seeing, wire_ok, without}
+pub use Rattle.exec_table.specs.CoreNames.{Act, Chunk, Close, CoreState, Finish, Flags, NodeState, PortState, Pull, Push, Sizes, Step, Unwant, Want, Wire}
 pub use Rattle.exec_table.specs.Words.{edge_count, first_word, flags_word, found_by, node_place, node_words, place, port_place, port_words, wire_of, wire_place, wire_word, wire_words, words_of, wire_in}
-pub use Rattle.exec_table.specs.Boards.{Board, Holds, Lane, LaneHolds, StageHolds, board_after, chunks_at, chunks_in, end_at, end_for, end_view, fits_end, home_of, is_over_stage, is_unborn_stage, lane_at, lanes_after, looked_at, no_end, no_lane, node_view, number_in_slot, numbers, pulled_from, pushed_to, stage_at, stages_after, turn_at}
-pub use Rattle.exec_table.specs.Rule.{Distinct, Fits, IsNoted, IsSeen, NotIn, Sat, Shown, Stp, aiming, first_view, no_view, one, start_board, start_stage, unstopped}
-pub use Rattle.exec_table.specs.Ready.{Did, can_act, end_of_view, front, has_learned, in_hand, is_at_hand, is_empty_hand, is_full_hand, ready, slot_act}
-pub use Rattle.exec_table.specs.declared.types.End.{End}
-pub use Rattle.exec_table.specs.declared.types.NodeView.{NodeView}
-pub use Rattle.exec_table.specs.declared.types.View.{View}
-pub use Rattle.exec_table.specs.declared.types.Stage.{Stage}
-pub use Rattle.exec_table.specs.declared.types.Stage.TheVariants.{Unborn, Born, Begun, Over}
-pub use Rattle.chunk_data.specs.Names.{Table as Chunk}
-pub use Rattle.std.proofs.Common.{Bool, List, None, Option, Some, [], ap, append-nil, arith, bit_and, bit_or, bit_xor, cond, drop, eqb, false, get_or, inl, inr, is_none, is_some, leb, length, ltb, map, max, not, refl, rules, set, subst, suc, sym, take, true, zero, ℕ, ⊎_elim, ◌&&◌, ◌*◌, ◌++◌, ◌+◌, ◌-◌, ◌/◌, ◌%◌, ◌<◌, ◌^◌, ◌||◌, ◌∙◌, ◌∷◌, ◌≡◌, ◌≢◌, ◌≤◌, ◌⊎◌, append_assoc, replicate, vec_capacity, add-one}
-pub use Rattle.std.proofs.lemmas.Bool.{and_from, and_parts, both_ways, eq-eqb, le-leb, le-ltb, lt-leb, lt-ltb, ltb-true, cases_Bool, cases_eq, cases_lt, cond_both, eqb-true, ne_eqb, or_cases, or_left, or_right}
-pub use Rattle.std.proofs.lemmas.List.{get_or-append_right, get_or-set_other, get_or-set_same, get_or_append_left, get_or_default, set-append_left, set-append_right, get_or_past, length-append, length-set, length-map, map-append, map-id, map-set, set-get_or, ext_get_or, length-take-le, length_push, get_or-map, drop_more, take_all, take_more}
-pub use Rattle.std.proofs.lemmas.List.FromFn.{get_or-map-range_with_len, length-map-range_with_len, length-range_with_len, map-range_with_len_more}
-pub use Rattle.std.specs.Int.{bit_at}
+pub use Rattle.exec_table.specs.Boards.{Begun, Board, Born, End, NodeView, Over, Stage, View, Holds, Lane, LaneHolds, StageHolds, board_after, end_at, end_for, end_view, fits_end, home_of, lane_at, lanes_after, looked_at, no_end, no_lane, node_view, numbers, pulled_from, pushed_to, stage_at, turn_at}
+pub use Rattle.exec_table.specs.Rule.{Distinct, Fits, IsSeen, Sat, Shown, aiming, first_view, no_view, one, start_board, start_stage, unstopped}
+pub use Rattle.exec_table.specs.Ready.{Did, can_act, end_of_view, front, in_hand, is_at_hand, is_empty_hand, is_full_hand, ready, slot_act}
+pub use Rattle.std.proofs.Common.{Bool, List, None, Option, Some, [], ap, append-nil, arith, bit_and, bit_or, bit_xor, cond, drop, eqb, false, get_or, inl, inr, is_none, is_some, length, map, not, refl, rules, set, subst, suc, sym, take, true, zero, ℕ, ⊎_elim, ◌&&◌, ◌++◌, ◌+◌, ◌-◌, ◌%◌, ◌<◌, ◌^◌, ◌||◌, ◌∙◌, ◌∷◌, ◌≡◌, ◌≢◌, ◌≤◌, ◌⊎◌, append_assoc, replicate, vec_capacity}
+pub use Rattle.std.proofs.lemmas.Bool.{and_from, and_parts, both_ways, eq-eqb, le-leb, lt-leb, lt-ltb, cases_Bool, cases_eq, cases_lt, cond_both, eqb-true, ne_eqb, or_cases, or_right}
+pub use Rattle.std.proofs.lemmas.List.{get_or-append_right, get_or-set_other, get_or-set_same, get_or_append_left, get_or_default, set-append_left, get_or_past, length-append, length-set, length-map, map-append, map-id, map-set, set-get_or, ext_get_or, length-take-le, length_push, get_or-map, drop_more, take_all, take_more}
+pub use Rattle.std.proofs.lemmas.List.FromFn.{get_or-map-range_with_len, length-map-range_with_len, map-range_with_len_more}
 pub use Rattle.std.specs.List.{filter, range_with_len}
 pub use Rattle.std.proofs.lemmas.Nat.{or_comm, or_shifted}
 pub use Rattle.std.proofs.lemmas.Nat.Bits.{bit_at_or, same_from_bits}
@@ -26,10 +19,10 @@ pub use Rattle.std.proofs.Math.Seq.{map-set_same}
 pub use prog.Atomic.{either}
 pub use lib.ListN.{get_elem?}
 pub use mathlib.Core.Option.{none, some, some-injective, some-ne-none}
-pub use Rattle.atomic_table.specs.Table.{Allows, Final, Joins, Me, Seen, Splits, State, Valid, put_back, carried_after, gives, homes_after, keeps, opening, rest, stepped, takes, turned, Enters, Act as SlotAct}
-pub use Rattle.atomic_table.proofs.Lists.{at_index, at_set, at_snoc, set_again, set_else, set_here, at_map, drop_at}
-pub use Rattle.core_laws.proofs.Kept.{Marks, laws-kept, marks-of, pending-most, sizes-kept, some-pending}
-pub use Rattle.core_laws.proofs.Bits.{EndOf, an-end, end-of, end-within, not-not, or-more, or-other, flip-lone, flip-other, peer-of}
+pub use Rattle.atomic_table.specs.Table.{Allows, Joins, Seen, Splits, State, Valid, carried_after, homes_after, keeps, opening, rest, stepped, takes, turned, Enters}
+pub use Rattle.atomic_table.proofs.Lists.{at_index, at_set, at_snoc, at_map, drop_at}
+pub use Rattle.core_laws.proofs.Kept.{laws-kept, marks-of, pending-most, sizes-kept, some-pending}
+pub use Rattle.core_laws.proofs.Bits.{EndOf, an-end, end-of, or-more, or-other, flip-lone}
 pub use Rattle.core_laws.proofs.Lists.{at_put, edges-seeing, has-filter, has-last, once-filter, once-last}
 pub use Rattle.core_laws.proofs.Starts.{start-laws, learned-start, ports-length}
 pub use Rattle.std.specs.VecDeque.{deque_capacity}
@@ -37,10 +30,8 @@ pub use Rattle.atomic_table.specs.declared.shared.Seat.{Seat}
 pub use Rattle.exec_table.specs.Closings.{IsFinal}
 pub use Rattle.exec_table.specs.Made.{just_first, rest_of, without_first, IsOpen}
 pub use Rattle.exec_table.specs.Plays.{Worked, next_worker, with_worker, first_or_none}
-pub use Rattle.exec_table.specs.Seats.{Identity, IsSeatOf, identity_of, key_of, seen_in, view, HandHolds, Makes, Slots, edges_out, slots, slot_in, IsInHand, holds_chunk, slot_of, push_of}
+pub use Rattle.exec_table.specs.Seats.{ExecTable, Identity, NodeSeat, IsSeatOf, identity_of, key_of, seen_in, view, HandHolds, Makes, Slots, edges_out, slots, slot_in, IsInHand, holds_chunk, slot_of, push_of}
 pub use Rattle.exec_table.specs.Surveys.{AreAll, Each, HasAll, IsBack, IsLent, Surveyed, joined_views, noted_word, noting, views}
-pub use Rattle.exec_table.specs.declared.rule.ExecTable.{ExecTable}
-pub use Rattle.exec_table.specs.declared.rule.NodeSeat.{NodeSeat}
 pub use Rattle.std.proofs.Math.Nat.{mod-eq_of_lt}
 pub use Rattle.std.specs.Slots.{slots_filled, slots_items, slots_len, slots_counts}
 pub use Rattle.std.specs.Slots.Ownership.{Filled}

@@ -1,5 +1,5 @@
 -- Each step of a node keeps the laws of a board, and leaves what other nodes see.
-use Rattle.exec_table.proofs.Imports.{Begun, Board, Born, Chunk, Close, Finish, Holds, NodeState, Option, Over, StageHolds, Step, Unwant, Want, Wire, ap, arith, at_put, bit_at_end, board_after, peer_in, born, cond_both, edge_count, end_for, eqb, false, is_none, knows, lane_at, laws-kept, learned, learning, left, length, length-set, map, marks-of, may, names, no_lane, no_node, node_at, node_of, node_view, or-more, or-other, port_at, put_node, range_with_len, refl, set, set-get_or, spent, stage_at, subst, sym, taken, telling, told, true, wiring, ℕ, ◌+◌, ◌-◌, ◌<◌, ◌^◌, ◌∙◌, ◌≡◌}
+use Rattle.exec_table.proofs.Imports.{Begun, Board, Born, Chunk, Close, Finish, Holds, Option, Over, StageHolds, Step, Unwant, Want, Wire, arith, bit_at_end, board_after, peer_in, born, cond_both, eqb, false, is_none, knows, lane_at, laws-kept, learned, learning, left, length, length-set, marks-of, may, names, no_lane, node_at, or-more, or-other, port_at, put_node, refl, set-get_or, spent, stage_at, subst, sym, taken, telling, told, true, wiring, ℕ, ◌+◌, ◌-◌, ◌<◌, ◌^◌, ◌≡◌}
 use Rattle.exec_table.proofs.Moving.{board_of, Moved, none-moved, node-moved, same-stage, port-moved}
 use Rattle.exec_table.proofs.Stepping.{AtHand, look-moved, push-moved, pull-moved, still-moved, seen-stage, birth-stage}
 use Rattle.core_laws.specs.declared.types.Step.TheVariants as step
@@ -29,36 +29,19 @@ wire-moved b n e w h i none = subst (λ l. Moved b (board_of (wiring b.core e w)
 learn-moved : (b d : Board) (n e : ℕ) → Moved b d n → n < length d.core.nodes
     → StageHolds d.core.sizes n (learning e (node_at d.core n)) (stage_at d n)
     → Moved b (board_of (learned d.core n e) d.lanes d.stages) n
-learn-moved b d n e w i s = cond_both (knows e (node_at d.core n).seen) d.core
-    (put_node d.core n (learning e (node_at d.core n)))
-    (λ c. Moved b (board_of c d.lanes d.stages) n) (λ _. w)
-    (λ _. same-stage b d n d.core.pending (learning e (node_at d.core n)) w i s)
+learn-moved b d n e w i s =
+    grind (arith, w, same-stage b d n d.core.pending (learning e (node_at d.core n)) w i s)
 
 -- ---- mark
 
 -- the node m is told by the bit k, which no view shows
 told-moved : (b : Board) (n m k : ℕ) → Holds b → m < length b.core.nodes → k < 48
     → Moved b (board_of (put_node b.core m (told k (node_at b.core m))) b.lanes b.stages) n
-told-moved b n m k h i small = let c = b.core in let nd = told k (node_at c m) in record {
-  others = λ q ne. let p : ◌≡◌ {A = NodeState} (record (node_of (set c.nodes m nd) q) { word = 0 })
-      (record (node_at c q) { word = 0 }) =
-      at_put (λ y. ◌≡◌ {A = NodeState} (record y { word = 0 }) (record (node_at c q) { word = 0 }))
-      c.nodes m q nd no_node i (λ t. ap (λ j. record (node_at c j) { word = 0 }) (sym t))
-      (λ _. refl) in λ j. record (node_view b q) {
-        state = p j;
-        ends = map (λ d. end_for q (knows d (p j).seen) (port_at c d).wire (lane_at b d))
-            (range_with_len 0 (edge_count c.sizes));
-      };
-  lanes = h.lanes;
-  stages = λ q. at_put (λ y. StageHolds c.sizes q y (stage_at b q)) c.nodes m q nd no_node i
-      (λ t. subst (λ j. StageHolds c.sizes j nd (stage_at b j)) (sym t) stage) (λ _. h.stages q);
-  lane_count = h.lane_count;
-  stage_count = h.stage_count ∙ sym (length-set c.nodes m nd);
-}
-  where
-    stage : StageHolds b.core.sizes m (told k (node_at b.core m)) (stage_at b m)
-    stage = let w = (node_at b.core m).word in
-        grind (arith, small, or-other w k 61, or-other w k 63, or-more w k 60, h.stages m)
+told-moved b n m k h i small = let nd = node_at b.core m in
+    let same = set-get_or b.stages m Begun in let x = or-more nd.word k 60 in
+    let y = or-other nd.word k 61 in let z = or-other nd.word k 63 in
+    let it = node-moved b b n m b.core.pending (told k nd) (stage_at b m) (none-moved b n h) i
+    (grind (arith, small, x, y, z, h.stages m)) (λ _. refl) in grind (arith, same, it)
 
 -- ---- all kinds
 
@@ -83,9 +66,9 @@ moved b n (step.Mark e) x h i g k = let c = b.core in
     (let l = length-set c.nodes m nd in let j : n < length c.nodes = grind arith in
     omega (arith, l, j))
     (seen-stage b n _ h refl refl)
-moved b n step.Begin x h i g k = node-moved b b n b.core.pending
+moved b n step.Begin x h i g k = node-moved b b n n b.core.pending
     (taken b.core n (spent (node_at b.core n).word)) Begun (none-moved b n h) (grind arith)
-    (grind (arith, h.stages n))
+    (grind (arith, h.stages n)) (λ ne. absurd (ne refl))
 moved b n step.Again x h i g k = same-stage b b n b.core.pending (taken b.core n 0)
     (none-moved b n h) (grind arith) (grind (arith, h.stages n))
 moved b n step.Rest x h i g k = cond_both (eqb (node_at b.core n).word (2 ^ 62))
@@ -93,9 +76,9 @@ moved b n step.Rest x h i g k = cond_both (eqb (node_at b.core n).word (2 ^ 62))
     (λ c. Moved b (board_of c b.lanes b.stages) n) (λ _. same-stage b b n b.core.pending
     (left 0 (node_at b.core n)) (none-moved b n h) (grind arith) (grind (arith, h.stages n)))
     (λ _. none-moved b n h)
-moved b n step.Over x h i g k = node-moved b b n b.core.pending
+moved b n step.Over x h i g k = node-moved b b n n b.core.pending
     (left (2 ^ 63) (node_at b.core n)) Over (none-moved b n h) (grind arith)
-    (grind (arith, h.stages n))
+    (grind (arith, h.stages n)) (λ ne. absurd (ne refl))
 moved b n step.TokenIn x h i g k = same-stage b b n (b.core.pending + 1) _ (none-moved b n h)
     (grind arith) (seen-stage b n _ h refl refl)
 moved b n step.TokenOut x h i g k = same-stage b b n (b.core.pending - 1) _ (none-moved b n h)
@@ -109,8 +92,8 @@ moved b n (step.Wired e) x h i g k = cond_both (names n (port_at b.core e).wire)
     (learned b.core n e) b.core (λ c. Moved b (board_of c b.lanes b.stages) n)
     (λ _. learn-moved b b n e (none-moved b n h) (grind arith) (learn-stage b n e h))
     (λ _. none-moved b n h)
-moved b n step.Birth x h i g k = node-moved b b n b.core.pending (born (node_at b.core n)) Born
-    (none-moved b n h) (grind arith) (birth-stage b n h (grind arith))
+moved b n step.Birth x h i g k = node-moved b b n n b.core.pending (born (node_at b.core n)) Born
+    (none-moved b n h) (grind arith) (birth-stage b n h (grind arith)) (λ ne. absurd (ne refl))
 moved b n s x h i g k = absurd (let c = h.laws.nodes.number in grind (arith, c, i))
 
 -- the laws hold after it

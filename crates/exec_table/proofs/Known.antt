@@ -1,8 +1,7 @@
 -- What a seat knows after a step follows from what it knew before and what the step answered.
-use Rattle.exec_table.proofs.Imports.{Act, Board, Bool, Chunk, Close, CoreState, Identity, Finish, Holds, IsSeatOf, List, Lane, Makes, NodeSeat, NodeState, NodeView, Option, Pull, Push, Some, Step, Unwant, Want, [], acted, adding, after, ap, arith, bit_at_end, board_after, changed, cond, edges_of, end-of, End, end_for, end_of_view, Wire, filter, fits_end, flags_at, get_or, get_or-set_same, has, is_end, is_none, is_set, is_updated, knows, learned, learning, left, length, length-set, marked_by, may, may_act, names, no_node, no_wire, not, node_at, node_view, or_right, peer_in, port_at, refl, seeing, set, spent, subst, sym, taken, telling, tells, told, true, view, wiring, ℕ, ◌-◌, ◌<◌, ◌∙◌, ◌∷◌, ◌≡◌, ◌||◌}
-use Rattle.core_laws.specs.Steps.{Answer, answer}
+use Rattle.exec_table.proofs.Imports.{Act, Answer, answer, Board, Bool, Chunk, Close, CoreState, Identity, Finish, Holds, IsSeatOf, List, Lane, Makes, NodeSeat, NodeState, NodeView, Option, Pull, Push, Some, Step, Unwant, Want, [], acted, adding, after, ap, arith, bit_at_end, board_after, changed, cond, end-of, end_for, end_of_view, Wire, filter, fits_end, flags_at, get_or, get_or-set_same, has, is_end, is_none, knows, learned, learning, left, length, length-set, marked_by, may, may_act, names, no_node, no_wire, not, node_at, node_view, or_right, peer_in, port_at, refl, seeing, set, spent, sym, taken, telling, tells, told, true, view, wiring, ℕ, ◌<◌, ◌∙◌, ◌∷◌, ◌≡◌}
 use Rattle.core_laws.specs.declared.types.Step.TheVariants as step
-use Rattle.exec_table.specs.Known.{is_due, price, state_acted, state_after, state_learned, state_taken}
+use Rattle.exec_table.specs.Known.{price, state_acted, state_after, state_learned, state_taken}
 use Rattle.exec_table.proofs.Readiness.{view-end}
 use Rattle.exec_table.proofs.Seating.{known-wire}
 use Rattle.exec_table.proofs.Stepping.{act-parts, holds-in}
@@ -14,9 +13,8 @@ bare nd = record nd { word = 0 }
 filter-same : (p q : ℕ → Bool) (l : List ℕ) → ((e : ℕ) → has e l ≡ true → p e ≡ q e)
     → filter p l ≡ filter q l
 filter-same p q [] h = refl
-filter-same p q (x ∷ xs) h = let here = h x (grind arith) in
-    let rest = filter-same p q xs (λ e k. h e (or_right _ _ k)) in
-    λ i. cond (here i) (x ∷ rest i) (rest i)
+filter-same p q (x ∷ xs) h =
+    grind (arith, h x, filter-same p q xs (λ e k. h e (or_right _ _ k)))
 
 module _ (b : Board) (n : ℕ) (h : Holds b) (here : n < length b.core.nodes) where
   abbrev c : CoreState
@@ -44,12 +42,7 @@ module _ (b : Board) (n : ℕ) (h : Holds b) (here : n < length b.core.nodes) wh
       ap not (sym sees.needed ∙ ap (λ m. (flags_at e (node_at c m).seen).needed) x.end)
 
   takes : (w k : ℕ) → w ≡ nd.word → bare (taken c n k) ≡ state_taken (node_view b n) w k
-  takes w k is = ap (λ l. bare (record nd { held = true; tokens = nd.tokens - k; unlooked = l }))
-      (filter-same (is_updated c n) (is_due (node_view b n) w) (edges_of nd.seen) due)
-    where
-      due : (e : ℕ) → knows e nd.seen ≡ true → is_updated c n e ≡ is_due (node_view b n) w e
-      due e k = λ i. has e nd.unlooked || (is_set (sym is i) 60
-          || is_set (sym is i) (bit_at_end n (sym (known-wire b n e h k) i)))
+  takes w k is = grind (arith, own (taken c n k), filter-same, known-wire b n, is)
 
   -- the edge is learned where it may be
   wires : (e : ℕ) (d : CoreState) (t : Bool) → d.nodes ≡ c.nodes
@@ -108,23 +101,16 @@ module _ {t : Identity} {old new : NodeSeat} {s : Step} {x : Option Chunk} {a : 
   -- the wire of an edge from the start, which the node has learned
   pub wire-made : (e : ℕ) → knows e (view new).state.seen ≡ true → e < length t.sizes.wires
       → (end_of_view (view new) e).wire ≡ Some (get_or t.sizes.wires e no_wire)
-  wire-made e k i = let d = board_after m.before n s x in let same = m.seat.sizes in
-      let is = ap (λ (v : NodeView). v.sizes) m.now ∙ same in
-      let l = ap (λ z. length z.wires) is in let count = m.kept.laws.edges.count in
-      let edge = m.kept.laws.edges.each e (omega (arith, i, l, count)) in
-      sym (ap (λ (v : NodeView). (end_of_view v e).wire) m.now)
-      ∙ (known-wire d n e m.kept (ap (λ (v : NodeView). knows e v.state.seen) m.now ∙ k)
-      ∙ (edge.wired.fixed (subst (λ z. e < length z.wires) (sym is) i)
-      ∙ ap (λ z. Some (get_or z.wires e no_wire)) is))
+  wire-made e k i = let d = board_after m.before n s x in let edges = m.kept.laws.edges in
+      let same = m.seat.sizes in let now = m.now in let count = edges.count in
+      let edge = edges.each e in let wire = known-wire d n e m.kept in
+      grind (arith, same, now, count, edge, wire, k)
 
   -- where the seat has the turn of the slot, it has what its end may take
   pub turn-fits : (e : ℕ) → knows e (view new).state.seen ≡ true → (v : Option Chunk)
       → (end_of_view (view new) e).turn ≡ Some v
       → fits_end (is_end true (view new).number (end_of_view (view new) e).wire) v ≡ true
-  turn-fits e = subst (λ (y : NodeView). knows e y.state.seen ≡ true → (v : Option Chunk)
-      → (end_of_view y e).turn ≡ Some v
-      → fits_end (is_end true y.number (end_of_view y e).wire) v ≡ true) m.now
-      (λ k v q. let d = board_after m.before n s x in let edges = m.kept.laws.edges in
-      ap (λ w. fits_end (is_end true n w) v) (known-wire d n e m.kept k)
-      ∙ end-fits n _ _ _ v ((edges.each e (edges.known n e k)).learned n k)
-      (ap (λ (z : End). z.turn) (sym (view-end d n e m.kept)) ∙ q))
+  turn-fits e k v q = let d = board_after m.before n s x in let edges = m.kept.laws.edges in
+      let now = m.now in let wire = known-wire d n e m.kept in let edge = edges.each e in
+      let there = edges.known n e in let end = view-end d n e m.kept in
+      grind (arith, now, wire, edge, there, end, end-fits, k, q)

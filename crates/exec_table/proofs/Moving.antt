@@ -1,6 +1,6 @@
 -- What changes of a board that only one node sees leave of it: the views of the other nodes, and
 -- the laws that the core doesn't have.
-use Rattle.exec_table.proofs.Imports.{Board, Holds, Lane, LaneHolds, List, NodeState, PortState, Stage, StageHolds, Begun, arith, cases_eq, edge_count, end_for, end_view, get_or, get_or-set_other, get_or-set_same, knows, lane_at, length, length-set, map, no_lane, no_node, no_port, node_view, port_at, put_node, put_port, range_with_len, refl, set, sym, ℕ, ◌<◌, ◌∙◌, ◌≡◌, ◌≢◌, CoreState, set-get_or, stage_at, node_at}
+use Rattle.exec_table.proofs.Imports.{Board, Holds, Lane, LaneHolds, List, NodeState, PortState, Stage, StageHolds, Begun, arith, cases_eq, edge_count, end_for, end_view, get_or, get_or-set_other, get_or-set_same, knows, lane_at, length, length-set, map, no_lane, no_node, no_port, node_view, port_at, put_node, put_port, range_with_len, refl, set, sym, ℕ, ◌<◌, ◌∙◌, ◌≡◌, ◌≢◌, CoreState, set-get_or, stage_at, node_at, NodeView}
 
 abbrev pub board_of : CoreState → List Lane → List Stage → Board
 board_of c lanes stages = record { core = c; lanes = lanes; stages = stages }
@@ -23,33 +23,40 @@ at_both {A} {B} P l k n m x d y c h i here other =
 pub none-moved : (b : Board) (n : ℕ) → Holds b → Moved b b n
 none-moved b n h = grind arith
 
--- one more change, of the node
-pub node-moved : (a b : Board) (n p : ℕ) (nd : NodeState) (g : Stage) → Moved a b n
-    → n < length b.core.nodes → StageHolds b.core.sizes n nd g → Moved a (board_of
-    (record (put_node b.core n nd) { pending = p }) b.lanes (set b.stages n g)) n
-node-moved a b n p nd g w i here = record {
-  others = λ m ne. (λ j. record (node_view b m) {
-    state = record (get_or-set_other b.core.nodes n m nd no_node ne j) { word = 0 };
-    stage = get_or-set_other b.stages n m g Begun ne j;
-    ends = map (λ e. end_for m (knows e (get_or-set_other b.core.nodes n m nd no_node ne j).seen)
-        (port_at b.core e).wire (lane_at b e)) (range_with_len 0 (edge_count b.core.sizes));
-  }) ∙ w.others m ne;
-  lanes = w.lanes;
-  stages = λ m. at_both (StageHolds b.core.sizes) b.core.nodes b.stages n m nd no_node g Begun i
-      (let c = w.stage_count in omega (arith, c, i)) here (w.stages m);
-  lane_count = w.lane_count;
-  stage_count = length-set b.stages n g ∙ (w.stage_count ∙ sym (length-set b.core.nodes n nd));
+-- what the node m is seen as, were it in this state and at this stage
+abbrev view_as : Board → ℕ → NodeState → Stage → NodeView
+view_as b m nd g = record (node_view b m) {
+  state = record nd { word = 0 };
+  stage = g;
+  ends = map (λ e. end_for m (knows e nd.seen) (port_at b.core e).wire (lane_at b e))
+      (range_with_len 0 (edge_count b.core.sizes));
 }
 
--- the same at the stage that the node has
+-- one more change, of the node k, in which the nodes but n see nothing
+pub node-moved : (a b : Board) (n k p : ℕ) (nd : NodeState) (g : Stage) → Moved a b n
+    → k < length b.core.nodes → StageHolds b.core.sizes k nd g
+    → (k ≢ n → view_as b k nd g ≡ node_view b k) → Moved a (board_of
+    (record (put_node b.core k nd) { pending = p }) b.lanes (set b.stages k g)) n
+node-moved a b n k p nd g w i here same = record {
+  others = λ m. at_both (λ q nd g. q ≢ n → view_as b q nd g ≡ node_view a q) b.core.nodes b.stages
+      k m nd no_node g Begun i j (λ ne. same ne ∙ w.others k ne) (w.others m);
+  lanes = w.lanes;
+  stages = λ m. at_both (StageHolds b.core.sizes) b.core.nodes b.stages k m nd no_node g Begun i j
+      here (w.stages m);
+  lane_count = w.lane_count;
+  stage_count = length-set b.stages k g ∙ (w.stage_count ∙ sym (length-set b.core.nodes k nd));
+}
+  where
+    j : k < length b.stages
+    j = let c = w.stage_count in omega (arith, c, i)
+
+-- the same at the stage that the node has, if it is n
 pub same-stage : (a b : Board) (n p : ℕ) (nd : NodeState) → Moved a b n → n < length b.core.nodes
     → StageHolds b.core.sizes n nd (stage_at b n)
     → Moved a (board_of (record (put_node b.core n nd) { pending = p }) b.lanes b.stages) n
-same-stage a b n p nd w i here = grind (
-  arith,
-  set-get_or b.stages n Begun,
-  node-moved a b n p nd (stage_at b n) w i here,
-)
+same-stage a b n p nd w i here = let same = set-get_or b.stages n Begun in
+    let it = node-moved a b n n p nd (stage_at b n) w i here (λ ne. absurd (ne refl)) in
+    grind (arith, same, it)
 
 -- one more change, of an edge, in which the other nodes see nothing
 pub port-moved : (a b : Board) (n e : ℕ) (q : PortState) (l : Lane) → Moved a b n

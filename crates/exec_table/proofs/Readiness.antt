@@ -1,5 +1,5 @@
 -- What a seat may do by its view it may do by the core.
-use Rattle.exec_table.proofs.Imports.{Close, Finish, Pull, Push, Unwant, Want, Act, Board, Holds, Step, ap, arith, can_act, edge_count, end_for, end_of_view, end_view, get_or-map-range_with_len, has, knows, lane_at, length, may, may_act, no_end, node_at, node_view, ready, sym, true, Act, ℕ, ◌<◌, ◌∙◌, ◌≡◌, PortState, no_port, cases_lt, inl, inr, get_or_past, length-map-range_with_len, and_parts, and_from, lt-ltb}
+use Rattle.exec_table.proofs.Imports.{Close, Finish, Pull, Push, Unwant, Want, Act, Board, Holds, Step, arith, can_act, edge_count, end_of_view, end_view, get_or-map-range_with_len, has, knows, length, may, may_act, no_end, node_at, node_view, ready, true, Act, ℕ, ◌<◌, ◌≡◌, no_port, cases_lt, get_or_past, length-map-range_with_len, and_parts, and_from, lt-ltb}
 use Rattle.core_laws.specs.declared.types.Step.TheVariants as step
 
 -- there is a node for each number below the nodes' count, and an edge for each below the edges'
@@ -11,14 +11,12 @@ edge-count b h = h.laws.edges.count
 
 -- what a view says of an edge
 pub view-end : (b : Board) (n e : ℕ) → Holds b → end_of_view (node_view b n) e ≡ end_view b n e
-view-end b n e h = let many = edge_count b.core.sizes in elim (cases_lt e many) [
-  | inl i ↦ get_or-map-range_with_len (end_view b n) 0 many e e no_end i (omega arith)
-  | inr past ↦ get_or_past (node_view b n).ends e no_end
-      (let l = length-map-range_with_len (end_view b n) 0 many in omega (arith, l, past))
-      ∙ sym (ap (λ (p : PortState). end_for n (knows e (node_at b.core n).seen) p.wire
-      (lane_at b e))
-      (get_or_past b.core.ports e no_port (let c = edge-count b h in omega (arith, c, past))))
-]
+view-end b n e h = let many = edge_count b.core.sizes in let f = end_view b n in
+    let in_map = get_or-map-range_with_len f 0 many e e no_end in
+    let none = get_or_past (node_view b n).ends e no_end in let cases = cases_lt e many in
+    let past = get_or_past b.core.ports e no_port in let count = edge-count b h in
+    let long = length-map-range_with_len f 0 many in
+    grind (arith, cases, in_map, past, none, long, count)
 
 act-may : (a : Act) (b : Board) (n e : ℕ) → Holds b → n < b.core.sizes.nodes
     → can_act a (node_view b n) e ≡ true → may_act a b.core n e ≡ true
@@ -41,11 +39,5 @@ ready-may b n (step.Mark e) h i g = let o : has e (node_at b.core n).owes ≡ tr
     ((h.laws.nodes.each n).owes e o)).1 in
     let inside = h.laws.edges.known n e k in let nodes = node-count b h in
     grind (arith, nodes, i, inside)
-ready-may b n s h i g = grind (
-  arith,
-  node-count b h,
-  edge-count b h,
-  i,
-  (h.stages n).unborn,
-  (h.stages n).over,
-)
+ready-may b n s h i g = let nodes = node-count b h in let edges = edge-count b h in
+    let stage = h.stages n in grind (arith, nodes, edges, i, stage.unborn, stage.over)

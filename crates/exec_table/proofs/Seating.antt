@@ -1,5 +1,5 @@
 -- What a seat is after a step of its node, and what the call tells.
-use Rattle.exec_table.proofs.Imports.{Allows, Answer, Board, Bool, Chunk, CoreState, Did, Fits, Holds, IsSeen, NodeView, None, Option, Sat, Shown, Sizes, Some, State, Step, View, Wire, [], aiming, and_parts, answer, ap, arith, board_after, carried_after, cases_Bool, edge_count, end_of_view, false, front, get_elem?, get_or, inl, inr, is_at_hand, keeps, knows, length, may, node_at, node_view, or_cases, place, port_at, refl, set-get_or, sizes-kept, slot_act, stepped, subst, sym, true, wire_of, wire_place, wire_word, words_of, ℕ, ◌+◌, ◌-◌, ◌<◌, ◌∙◌, ◌∷◌, ◌≡◌, ◌≤◌, wire_ok, EndOf, an-end, node_place, length-map-range_with_len, port_place, ready, Seat, HandHolds, Identity, IsSeatOf, Makes, Slots, edges_out, identity_of, key_of, slots, view, ExecTable, NodeSeat, deque_capacity, ⊎_elim, slot_in}
+use Rattle.exec_table.proofs.Imports.{Allows, Answer, Board, Bool, Chunk, CoreState, Did, Fits, Holds, IsSeen, NodeView, None, Option, Sat, Shown, Sizes, Some, State, Step, View, Wire, [], aiming, and_parts, answer, ap, arith, board_after, carried_after, cases_Bool, edge_count, end_of_view, false, front, get_elem?, get_or, inl, is_at_hand, keeps, knows, length, may, node_at, node_view, or_cases, place, port_at, refl, set-get_or, sizes-kept, slot_act, stepped, subst, sym, true, wire_of, wire_place, wire_word, words_of, ℕ, ◌+◌, ◌-◌, ◌<◌, ◌∙◌, ◌∷◌, ◌≡◌, ◌≤◌, wire_ok, EndOf, an-end, node_place, length-map-range_with_len, port_place, ready, Seat, HandHolds, Identity, IsSeatOf, Makes, Slots, edges_out, identity_of, key_of, slots, view, ExecTable, NodeSeat, deque_capacity, slot_in, first_or_none}
 use Rattle.exec_table.specs.Plays.{node_of}
 use Rattle.exec_table.specs.Seats.{Carried}
 use Rattle.exec_table.proofs.Readiness.{view-end, edge-count}
@@ -119,17 +119,9 @@ pub quiet-makes : {t : Identity} {old new : NodeSeat} {found : ℕ} {a : Answer}
 quiet-makes {t} {old} {new} {found} {a} {s} quiet o d table node held says =
     let same = (still s quiet (slots old)).1 d.before (view old).number (front (slots old)) in
     let is : slots new ≡ slots old = d.hand ∙ ap (carried_after (slots old)) same.0 in
-    makes o d (grind (
-      arith,
-      d.hand,
-      d.was,
-      o.hand,
-      hand-after d.before (view old).number d.holds
-          (slots old),
-      (still s quiet (slots old)).0,
-      d.may,
-      d.kept,
-    )) table node
+    let hand = hand-after d.before (view old).number d.holds (slots old) in
+    let free = (still s quiet (slots old)).0 in
+    makes o d (grind (arith, d.hand, d.was, o.hand, hand, free, d.may, d.kept)) table node
     (ap (λ h. h.items) held ∙ (o.places ∙ ap edges_out (sym is))) (ap deque_capacity held) same.1
     says (λ k v q. inl (ap (slot_in k) (sym is) ∙ q))
 
@@ -150,58 +142,58 @@ pub place-inside : (k : Bool) (t : ExecTable) (e i : ℕ) → e < edge_count (ke
 place-inside true t e i less at = grind arith
 place-inside false t e i less at = grind arith
 
--- a step at a word of the edge e, by a seat whose slots may have changed meanwhile
-pub edge-asks : (t : ExecTable) {s : NodeSeat} {i count : ℕ} {f : ℕ → ℕ} (k : Bool)
+-- what a step asks that makes f of the word i, for a seat that is then told so
+abbrev pub Asks : ExecTable → Seat (Option Chunk) View → ℕ → (ℕ → ℕ) → (ℕ → Sat → Type 0) → Type 0
+Asks t r i f told = let id = t.table.shared.table_id in (r.table_id ≡ id) × (i < id.words)
+    × Allows (Shown (key_of t)) id.slots r.id r.me i f told
+
+-- a step of a seat whose aim and slots may have changed meanwhile
+pub word-asks : (t : ExecTable) {s : NodeSeat} {i : ℕ} {f : ℕ → ℕ} {sp : Step}
+    (r : Seat (Option Chunk) View) → IsSeatOf (identity_of t) s → r.table_id ≡ s.seat.table_id
+    → r.me.0.nodes ≡ view s ∷ [] → i < t.table.shared.table_id.words → ready (view s) sp ≡ true
+    → is_at_hand sp r.me.1 ≡ true
+    → ((b : Board) → Holds b → node_view b (view s).number ≡ view s → b.core.sizes ≡ key_of t
+    → may b.core (view s).number sp ≡ true
+    → (i ≡ place b.core (view s).number sp) × ((w : ℕ) → f w ≡ op b.core (view s).number sp w))
+    → Asks t r i f (Did (view s) sp r.me.1)
+word-asks t {s} {i} {f} {sp} r o table single less g full at =
+    (table ∙ o.table, less, tied (key_of t) _ r.id r.me (view s) sp i f single g full at)
+
+-- a step at a word of the edge e
+pub edge-asks : (t : ExecTable) {s : NodeSeat} {i : ℕ} {f : ℕ → ℕ} (k : Bool)
     (r : Seat (Option Chunk) View) (mk : NodeView → ℕ → Step) (e : ℕ) → IsSeatOf (identity_of t) s
-    → r.table_id ≡ s.seat.table_id → r.me.0 ≡ s.seat.me.0 → e < edge_count (key_of t)
+    → r.table_id ≡ s.seat.table_id → r.me.0.nodes ≡ view s ∷ [] → e < edge_count (key_of t)
     → i ≡ edge_place k (key_of t) e → ready (view s) (mk (view s) e) ≡ true
     → is_at_hand (mk (view s) e) r.me.1 ≡ true
     → ((c : CoreState) (n w : ℕ) → (place c n (mk (view s) e) ≡ edge_place k c.sizes e)
     × (f w ≡ op c n (mk (view s) e) w))
-    → (r.table_id ≡ t.table.shared.table_id) × (i < t.table.shared.table_id.words)
-    × Allows (Shown (key_of t)) count r.id r.me i f
+    → Asks t r i f
     (Did (node_of r.me.0) (mk (node_of r.me.0) (i - edge_place k (node_of r.me.0).sizes 0)) r.me.1)
-edge-asks t {s} {i} {count} {f} k r mk e o table same less at g full ops = (
-  table ∙ o.table,
-  place-inside k t e i less at,
-  subst (λ (v : View). Allows (Shown (key_of t)) count r.id (v, r.me.1) i f
-      (Did (node_of v) (mk (node_of v) (i - edge_place k (node_of v).sizes 0)) r.me.1))
-      (sym same) (subst (λ d. Allows (Shown (key_of t)) count r.id (s.seat.me.0, r.me.1) i f
-      (Did (view s) (mk (view s) d) r.me.1)) (sym (place-edge k (identity_of t) s e i o at))
-      (tied (key_of t) count r.id (s.seat.me.0, r.me.1) (view s) (mk (view s) e) i f o.single g full
-      (λ b h is sizes can. (
-        at ∙ (ap (λ z. edge_place k z e) (sym sizes) ∙ sym (ops b.core (view s).number 0).0),
-        (λ w. (ops b.core (view s).number w).1),
-      )))),
-)
+edge-asks t {s} {i} {f} k r mk e o table single less at g full ops =
+    subst (λ (x : NodeView). Asks t r i f (Did x (mk x (i - edge_place k x.sizes 0)) r.me.1))
+    (sym (ap first_or_none single))
+    (subst (λ d. Asks t r i f (Did (view s) (mk (view s) d) r.me.1))
+    (sym (place-edge k (identity_of t) s e i o at)) (word-asks t r o table single
+    (place-inside k t e i less at) g full (λ b h is sizes can. (
+      at ∙ (ap (λ z. edge_place k z e) (sym sizes) ∙ sym (ops b.core (view s).number 0).0),
+      (λ w. (ops b.core (view s).number w).1),
+    ))))
 
 -- what that step did
-pub edge-did : {t : Identity} {s : NodeSeat} {m n : Sat} {i found : ℕ} (k : Bool)
-    (mk : NodeView → ℕ → Step) (e : ℕ) → IsSeatOf t s → m.0 ≡ s.seat.me.0
+pub edge-did : {t : Identity} {s : NodeSeat} {n : Sat} {i found : ℕ} (m : Sat) (k : Bool)
+    (mk : NodeView → ℕ → Step) (e : ℕ) → IsSeatOf t s → node_of m.0 ≡ view s
     → i ≡ edge_place k t.sizes e → Did (node_of m.0)
     (mk (node_of m.0) (i - edge_place k (node_of m.0).sizes 0)) m.1 found n
     → Did (view s) (mk (view s) e) m.1 found n
-edge-did {t} {s} {m} {n} {i} {found} k mk e o same at d = grind (arith, place-edge)
-
--- a step at a word that its place is computed of
-pub word-asks : (t : ExecTable) {s : NodeSeat} {i count : ℕ} {f : ℕ → ℕ} {sp : Step}
-    → IsSeatOf (identity_of t) s → i < t.table.shared.table_id.words → ready (view s) sp ≡ true
-    → is_at_hand sp (slots s) ≡ true
-    → ((b : Board) → Holds b → node_view b (view s).number ≡ view s → b.core.sizes ≡ key_of t
-    → may b.core (view s).number sp ≡ true
-    → (i ≡ place b.core (view s).number sp) × ((w : ℕ) → f w ≡ op b.core (view s).number sp w))
-    → (s.seat.table_id ≡ t.table.shared.table_id) × (i < t.table.shared.table_id.words)
-    × Allows (Shown (key_of t)) count s.seat.id s.seat.me i f (Did (view s) sp (slots s))
-word-asks t {s} {i} {count} {f} {sp} o less g full at = search (arith, tied)
+edge-did {t} {s} {n} {i} {found} m k mk e o same at d = grind (arith, place-edge)
 
 -- a step at the node's own word
-pub node-asks : (t : ExecTable) {s : NodeSeat} {i count : ℕ} {f : ℕ → ℕ} {sp : Step}
+pub node-asks : (t : ExecTable) {s : NodeSeat} {i : ℕ} {f : ℕ → ℕ} {sp : Step}
     → IsSeatOf (identity_of t) s → i ≡ s.node + 1 → ready (view s) sp ≡ true
     → is_at_hand sp (slots s) ≡ true
     → ((c : CoreState) (n w : ℕ) → (place c n sp ≡ node_place n) × (f w ≡ op c n sp w))
-    → (s.seat.table_id ≡ t.table.shared.table_id) × (i < t.table.shared.table_id.words)
-    × Allows (Shown (key_of t)) count s.seat.id s.seat.me i f (Did (view s) sp (slots s))
-node-asks t {s} o at g full ops = word-asks t o
+    → Asks t s.seat i f (Did (view s) sp (slots s))
+node-asks t {s} o at g full ops = word-asks t s.seat o refl o.single
     (let w = t.words in let n = t.nodes_are in let k = o.number in let l = o.inside in
     omega (arith, w, n, k, l, at)) g full (λ b h is sizes can. (
       at ∙ (ap (λ k. k + 1) o.number ∙ sym (ops b.core (view s).number 0).0),
@@ -216,21 +208,3 @@ pub seat-other : (t : Identity) (s r : NodeSeat) → IsSeatOf t s
     → HandHolds (view s) (slots r) → r.held.items ≡ edges_out (slots r)
     → deque_capacity r.held ≡ deque_capacity s.held → IsSeatOf t r
 seat-other t s r o table same node hand places room = grind arith
-
--- what a call did, told of the seat from before a look-up
-pub makes-before : (t : Identity) (old mid new : NodeSeat) (s : Step) (x : Option Chunk)
-    (a : Answer)
-    → view mid ≡ view old → slots mid ≡ slots old → Makes t mid new s x a → Makes t old new s x a
-makes-before t old mid new s x a same out m = record {
-  seat = m.seat;
-  before = m.before;
-  holds = m.holds;
-  was = subst (λ (v : NodeView). node_view m.before v.number ≡ v) same m.was;
-  may = subst (λ (v : NodeView). may m.before.core v.number s ≡ true) same m.may;
-  kept = subst (λ (v : NodeView). Holds (board_after m.before v.number s x)) same m.kept;
-  now = subst (λ (v : NodeView). node_view (board_after m.before v.number s x) v.number ≡ view new)
-      same m.now;
-  says = subst (λ (v : NodeView). answer m.before.core v.number s ≡ a) same m.says;
-  carried = λ k v q. ⊎_elim (λ z. inl (ap (slot_in k) (sym out) ∙ z))
-      (λ z. inr (ap (slot_in k) (sym out) ∙ z.0, z.1)) (m.carried k v q);
-}

@@ -1,5 +1,5 @@
 -- Lists of slots as they turn, and how long a list without repetition can be.
-use Rattle.exec_table.proofs.Imports.{Chunk, List, Option, Some, [], and_parts, ap, append_assoc, arith, cond, drop, drop_more, eqb, false, filter, get_or, has, has-filter, length, map-append, not, once, once-filter, once-last, refl, suc, sym, take, take_more, true, turned, zero, ℕ, ◌&&◌, ◌++◌, ◌+◌, ◌<◌, ◌∙◌, ◌∷◌, ◌≡◌, ◌≤◌, cases_eq, Slots, edges_out, slot_in}
+use Rattle.exec_table.proofs.Imports.{Chunk, List, Option, Some, [], and_parts, ap, append_assoc, arith, cond, drop, drop_more, eqb, false, filter, get_or, has, has-filter, length, map-append, not, once, once-filter, once-last, refl, suc, take, take_more, true, turned, zero, ℕ, ◌++◌, ◌+◌, ◌<◌, ◌∙◌, ◌∷◌, ◌≡◌, ◌≤◌, cases_eq, Slots, edges_out, slot_in}
 
 -- ---- how long a list is
 
@@ -19,10 +19,8 @@ pub few-below : (n : ℕ) (l : List ℕ) → once l ≡ true → ((e : ℕ) → 
 few-below zero [] h less = omega arith
 few-below zero (x ∷ xs) h less = let z = less x (grind arith) in absurd (omega arith)
 few-below (suc n) l h less = let t = λ (d : ℕ). not (eqb d n) in
-    let z = few-below n (filter t l) (once-filter t l h) (λ e q.
-    let y : (not (eqb e n) && has e l) ≡ true = sym (has-filter t l e) ∙ q in
-    let k = less e (and_parts (not (eqb e n)) _ y).1 in
-    let ne : eqb e n ≡ false = grind arith in grind arith) in
+    let z = few-below n (filter t l) (once-filter t l h)
+    (λ e q. grind (arith, has-filter t l e, less e)) in
     let y = without-one n l h in omega (arith, z, y)
 
 -- ---- turns
@@ -54,16 +52,10 @@ front-rotated l now i is less = is ∙ ap (λ z. z ++ take i l) (drop_more l i 0
 pub rotated-next : (l now : List ℕ) (i : ℕ)
     → now ≡ (drop (i + 1) l ++ take i l) ++ get_or l i 0 ∷ [] → i < length l
     → now ≡ drop (i + 1) l ++ take (i + 1) l
-rotated-next l now i is less = is ∙ (append_assoc (drop (i + 1) l) (take i l) (get_or l i 0 ∷ [])
-    ∙ ap (λ z. drop (i + 1) l ++ z) (sym (take_more l i 0 less)))
+rotated-next l now i is less = grind (arith, append_assoc, take_more l i 0 less)
 
 -- the first slot is that of the edge that the data name first
 pub first-slot : (l : Slots) (e : ℕ) (ns : List ℕ) → edges_out l ≡ e ∷ ns
     → (v : Option Chunk) × (ys : Slots) × (l ≡ (e, v) ∷ ys) × (edges_out ys ≡ ns)
 first-slot [] e ns h = absurd (let z : [] ≡ e ∷ ns = h in cc)
-first-slot (y ∷ ys) e ns h = (
-  y.1,
-  ys,
-  ap (λ k. (k, y.1) ∷ ys) (ap (λ l. get_or l 0 0) h),
-  ap (drop 1) h,
-)
+first-slot (y ∷ ys) e ns h = (y.1, ys, grind arith, ap (drop 1) h)

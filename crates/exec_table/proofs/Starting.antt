@@ -11,13 +11,7 @@ lane-start (p ∷ ps) zero = refl
 lane-start (p ∷ ps) (suc e) = lane-start ps e
 
 port-bare : (s : Sizes) (e : ℕ) → LaneHolds (port_at (start s) e) no_lane
-port-bare s e = grind (
-  arith,
-  cases_lt,
-  get_or-map-range_with_len,
-  ports-length,
-  get_or_past,
-)
+port-bare s e = grind (arith, cases_lt, get_or-map-range_with_len, ports-length, get_or_past)
 
 live-stage : (s : Sizes) (n : ℕ) → StageHolds s n (start_node s n) (start_stage s n)
 live-stage s n = grind arith
@@ -30,14 +24,8 @@ start-holds s fit = record {
       ∙ sym (length-map-range_with_len (start_node s) 0 s.nodes);
   lanes = λ e. subst (LaneHolds (port_at (start s) e)) (sym (lane-start (start s).ports e))
       (port-bare s e);
-  stages = λ n. grind (
-    arith,
-    cases_lt n s.nodes,
-    get_or-map-range_with_len,
-    length-map-range_with_len,
-    get_or_past,
-    live-stage s n,
-  );
+  stages = λ n. let which = cases_lt n s.nodes in let live = live-stage s n in
+      grind (arith, which, live, get_or-map-range_with_len, length-map-range_with_len, get_or_past);
 }
 
 -- ---- the rule
@@ -54,10 +42,7 @@ from-at s a (suc k) (suc i) x h = grind (arith, from-at s (a + 1) k i x h)
 
 from-apart : (s : Sizes) (a k : ℕ) → Distinct (nodes_from s a k)
 from-apart s a zero = tt
-from-apart s a (suc k) = (
-  (λ i x h e. let z = from-at s (a + 1) k i x h in grind arith),
-  from-apart s (a + 1) k,
-)
+from-apart s a (suc k) = grind (arith, from-at s (a + 1) k, from-apart s (a + 1) k)
 
 homes-start : (ps : List PortState) (n : ℕ) → n ≡ length ps
     → map some (replicate {A = Option Chunk} n None) ≡ map home_of (map (λ _. no_lane) ps)
@@ -152,15 +137,8 @@ pub opened : (t : ExecTable) (s : NodeSeat) (k : ℕ) → s.seat.table_id ≡ t.
     ) → s.held.items ≡ [] → edge_count (key_of t) ≤ deque_capacity s.held
     → IsOpen (identity_of t) k s
 opened t s k table less node me held room =
-    grind (
-      arith,
-      length-map-range_with_len,
-      start-holds,
-      view-turn,
-      home-turn,
-      lane-start,
-      learned-start,
-    )
+    let bare = lane-start in let none = home-turn in
+    grind (arith, length-map-range_with_len, start-holds, view-turn, none, bare, learned-start)
 
 -- the words of a state, put together
 pub words-made : (c : CoreState) (all : List ℕ) (p : ℕ) (ns ws fs : List ℕ) → c.stopped ≡ false

@@ -120,12 +120,8 @@ survey-allowed key slots id i m full st r deep mine fit = (
       board = stopped_at false r.board;
       holds = stopped-holds false r.board r.holds;
       all = ext_get_or 0 m.0.noted (words_of (unstopped r.board.core))
-          (grind (
-            arith,
-            words-count (unstopped r.board.core),
-            r.holds.laws.nodes.number,
-            r.holds.laws.edges.count,
-          ))
+          (let long = words-count (unstopped r.board.core) in let laws = r.holds.laws in
+          grind (arith, long, laws.nodes.number, laws.edges.count))
           (λ k l. sym (was.noted k (get_or m.0.noted k 0)
           (at_index m.0.noted k _ l (get_or_default m.0.noted k 0 _ l))).is);
       seen = λ k x q. (was.each k x q).is;
@@ -180,14 +176,10 @@ each-all P Q olds ss i each all k s h = let x = each k s h in let l = below ss k
 -- one more of a list is taken
 pub taken-next : {A : Type 0} (l now next : List A) (i : ℕ) (a : A) → now ≡ take i l
     → next ≡ now ++ a ∷ [] → get_elem? l i ≡ some a → next ≡ take (i + 1) l
-taken-next l now next i a is more h = more ∙ (ap (λ k. k ++ a ∷ []) is ∙ (sym (by l i a h)
-    ∙ ap (λ k. take k l) (let z : suc i ≡ i + 1 = omega arith in z)))
-  where
-    by : {A : Type 0} (l : List A) (i : ℕ) (a : A) → get_elem? l i ≡ some a
-        → take (suc i) l ≡ take i l ++ a ∷ []
-    by [] i a h = absurd (some-ne-none a (sym h))
-    by (x ∷ xs) zero a h = ap (λ y. y ∷ []) (some-injective x a h)
-    by (x ∷ xs) (suc i) a h = ap (λ l. x ∷ l) (by xs i a h)
+taken-next [] now next i a is more h = absurd (some-ne-none a (sym h))
+taken-next (x ∷ xs) now next zero a is more h = grind (arith, some-injective x a h)
+taken-next (x ∷ xs) now next (suc i) a is more h =
+    grind (arith, taken-next xs (take i xs) (take i xs ++ a ∷ []) i a refl refl h)
 
 pub next-view : (ss : List NodeSeat) (i : ℕ) (s : NodeSeat) → get_elem? ss i ≡ some s
     → views (take (i + 1) ss) ≡ views (take i ss) ++ view s ∷ []

@@ -46,12 +46,8 @@ set-behind (x ∷ p) t i j v e = grind (arith, set-behind p t (length p + j) j v
 module _ (c : CoreState) where
   pub read-node : (i : ℕ) → i < length c.nodes
       → get_or (words_of c) (node_place i) 0 ≡ (node_at c i).word
-  read-node i h = grind (
-    arith,
-    length-map,
-    get_or_append_left,
-    get_or-map (λ (y : NodeState). y.word) c.nodes i no_node 0 h,
-  )
+  read-node i h = let is = get_or-map (λ (y : NodeState). y.word) c.nodes i no_node 0 h in
+      grind (arith, length-map, get_or_append_left, is)
 
   -- a change of a node changes its word
   node-word : (n : ℕ) (nd : NodeState) (f : ℕ → ℕ) → n < length c.nodes
@@ -70,56 +66,40 @@ module _ (c : CoreState) where
 
   module _ (laws : Laws c) (e : ℕ) (h : e < length c.ports) where
     pub read-wire : get_or (words_of c) (wire_place c.sizes e) 0 ≡ wire_word (port_at c e).wire
-    read-wire = grind (
-      arith,
-      laws.nodes.number,
-      length-map,
-      get_or-append_right,
-      get_or_append_left,
-      get_or-map (λ (p : PortState). wire_word p.wire) c.ports e no_port 0 h,
-    )
+    read-wire = let is = get_or-map (λ (p : PortState). wire_word p.wire) c.ports e no_port 0 h in
+        let n = laws.nodes.number in
+        grind (arith, n, length-map, get_or-append_right, get_or_append_left, is)
 
     pub read-port : get_or (words_of c) (port_place c.sizes e) 0 ≡ flags_word (port_at c e).flags
-    read-port = grind (
-      arith,
-      laws.nodes.number,
-      laws.edges.count,
-      length-map,
-      get_or-append_right,
-      get_or-map (λ (p : PortState). flags_word p.flags) c.ports e no_port 0 h,
-    )
+    read-port = let is = get_or-map (λ (p : PortState). flags_word p.flags) c.ports e no_port 0 h in
+        let n = laws.nodes.number in let k = laws.edges.count in
+        grind (arith, n, k, length-map, get_or-append_right, is)
 
     -- a change of an edge's wire, or of its port's flags, changes that word
     wire-word : (q : PortState) (f : ℕ → ℕ) → q.flags ≡ (port_at c e).flags
         → f (wire_word (port_at c e).wire) ≡ wire_word q.wire
         → words_of (put_port c e q) ≡ word_changed c (wire_place c.sizes e) f
-    wire-word q f same is = grind (
-      arith,
-      read-wire,
-      laws.nodes.number,
-      length-map,
-      set-behind (first_word c ∷ node_words c) (wire_words c ++ port_words c)
-          (wire_place c.sizes e) e (wire_word q.wire),
-      set-append_left (wire_words c) (port_words c) e (wire_word q.wire),
-      map-set (λ (p : PortState). wire_word p.wire) c.ports e q,
-      map-set_same (λ (p : PortState). flags_word p.flags) c.ports e q no_port (ap flags_word same),
-    )
+    wire-word q f same is = let n = laws.nodes.number in
+        let behind = set-behind (first_word c ∷ node_words c) (wire_words c ++ port_words c)
+        (wire_place c.sizes e) e (wire_word q.wire) in
+        let ahead = set-append_left (wire_words c) (port_words c) e (wire_word q.wire) in
+        let now = map-set (λ (p : PortState). wire_word p.wire) c.ports e q in
+        let flags = map-set_same (λ (p : PortState). flags_word p.flags) c.ports e q no_port
+        (ap flags_word same) in
+        grind (arith, read-wire, n, length-map, behind, ahead, now, flags)
 
     flag-word : (q : PortState) (f : ℕ → ℕ) → q.wire ≡ (port_at c e).wire
         → f (flags_word (port_at c e).flags) ≡ flags_word q.flags
         → words_of (put_port c e q) ≡ word_changed c (port_place c.sizes e) f
-    flag-word q f same is = grind (
-      arith,
-      read-port,
-      laws.nodes.number,
-      laws.edges.count,
-      length-map,
-      set-behind (first_word c ∷ node_words c) (wire_words c ++ port_words c)
-          (port_place c.sizes e) (length c.ports + e) (flags_word q.flags),
-      set-behind (wire_words c) (port_words c) (length c.ports + e) e (flags_word q.flags),
-      map-set (λ (p : PortState). flags_word p.flags) c.ports e q,
-      map-set_same (λ (p : PortState). wire_word p.wire) c.ports e q no_port (ap wire_word same),
-    )
+    flag-word q f same is = let n = laws.nodes.number in let k = laws.edges.count in
+        let behind = set-behind (first_word c ∷ node_words c) (wire_words c ++ port_words c)
+        (port_place c.sizes e) (length c.ports + e) (flags_word q.flags) in
+        let last = set-behind (wire_words c) (port_words c) (length c.ports + e) e
+        (flags_word q.flags) in
+        let now = map-set (λ (p : PortState). flags_word p.flags) c.ports e q in
+        let wire = map-set_same (λ (p : PortState). wire_word p.wire) c.ports e q no_port
+        (ap wire_word same) in
+        grind (arith, read-port, n, k, length-map, behind, last, now, wire)
 
 -- ---- word 0
 
@@ -153,15 +133,10 @@ wire-after : (c : CoreState) (n e : ℕ) (w : Wire) → Laws c → e < length c.
     → words_of (after c n (step.Wire e w))
     ≡ word_changed c (wire_place c.sizes e) (op c n (step.Wire e w))
 wire-after c n e w l j = let f = λ (v : ℕ). either (eqb v 0) (wire_word (Some w)) v in
-    grind (
-      arith,
-      wire-word c l e j (record (port_at c e) { wire = Some w }) f refl,
-      same-node
-          (wiring c e w) n (learning e (node_at c n)) refl,
-      read-wire c l e j,
-      same-words c (wire_place c.sizes e) f,
-      wire-none (port_at c e).wire,
-    )
+    let now = wire-word c l e j (record (port_at c e) { wire = Some w }) f refl in
+    let node = same-node (wiring c e w) n (learning e (node_at c n)) refl in
+    let was = read-wire c l e j in let same = same-words c (wire_place c.sizes e) f in
+    let none = wire-none (port_at c e).wire in grind (arith, now, node, was, same, none)
 
 -- the words after a step of a node
 pub word-after : (b : Board) (n : ℕ) (s : Step) → Holds b → n < b.core.sizes.nodes
@@ -186,23 +161,17 @@ word-after b n step.Begin h i g = node-word b.core n _ (λ _. 2 ^ 62) (grind ari
 word-after b n step.Again h i g = node-word b.core n _ (λ _. 2 ^ 62) (grind arith) refl
 word-after b n step.Rest h i g = let c = b.core in let f = λ (w : ℕ). either (eqb w (2 ^ 62)) 0 w in
     let j : n < length c.nodes = grind arith in
-    grind (
-      arith,
-      node-word c n (left 0 (node_at c n)) f j,
-      read-node c n j,
-      same-words c (node_place n) f,
-    )
+    let now = node-word c n (left 0 (node_at c n)) f j in
+    let was = read-node c n j in let same = same-words c (node_place n) f in
+    grind (arith, now, was, same)
 word-after b n step.Over h i g = node-word b.core n _ (λ _. 2 ^ 63) (grind arith) refl
 word-after b n step.TokenIn h i g = grind (arith, count-up, pending-small, map-set_same)
 word-after b n step.TokenOut h i g =
     grind (arith, count-down, pending-small, some-pending, map-set_same)
 word-after b n (step.Wire e w) h i g = wire-after b.core n e w h.laws (grind arith)
-word-after b n (step.Wired e) h i g = let c = b.core in grind (
-  arith,
-  same-node c n
-      (learning e (node_at c n)) refl,
-  same-words c (wire_place c.sizes e) (λ w. w) refl,
-)
+word-after b n (step.Wired e) h i g = let c = b.core in
+    let node = same-node c n (learning e (node_at c n)) refl in
+    let same = same-words c (wire_place c.sizes e) (λ w. w) refl in grind (arith, node, same)
 word-after b n step.Birth h i g =
     node-word b.core n _ (λ w. bit_xor w (2 ^ 60 + 2 ^ 61)) (grind arith) refl
 word-after b n s h i g = absurd (let c = h.laws.nodes.number in grind (arith, c, i))

@@ -1,4 +1,4 @@
-use Rattle.exec_table.proofs.Cited.{None, ap, drop, once, refl, rest, rules, subst, sym, true, ◌∙◌, HandHolds, edges_out, slots, view, inl, slot_in, at-front, empty-front, hand-turned, held-there, hand-after, rest-slots, edge-asks, edge-did, makes}
+use Rattle.exec_table.proofs.Cited.{None, ap, drop, once, refl, rest, rules, subst, sym, true, ◌∙◌, HandHolds, edges_out, node_of, slots, view, inl, slot_in, at-front, empty-front, hand-turned, held-there, hand-after, rest-slots, edge-asks, edge-did, makes}
 use Rattle.core_laws.specs.declared.types.Step.TheVariants as step
 use Rattle.exec_table.proofs.rule.ExecTable.pull.Goals as goal
 
@@ -11,15 +11,15 @@ fetch_and-requires c = let s = c.requires.seat in let b = c.bring_to_front.ensur
     let f = at-front c.bring_to_front.new.self c.args.e _ _ b.hand b.first.1
     (b.slots c.args.e ∙ c.requires.slot) in
     edge-asks c.args.self.now true c.bring_to_front.new.self.seat (λ _. step.Pull) c.args.e s
-    b.same.0 b.same.1 (search rules) c.port_place-place.ensures c.requires.ready
-    (empty-front c.args.e _ f.0 f.1) (λ _ _ _. (refl, refl))
+    b.same.0 (ap (λ v. v.nodes) b.same.1 ∙ s.single) (search rules) c.port_place-place.ensures
+    c.requires.ready (empty-front c.args.e _ f.0 f.1) (λ _ _ _. (refl, refl))
 
 pub returns : goal.returns
 returns c = let s = c.requires.seat in let old = c.args.seat.now in
     let b = c.bring_to_front.ensures in let mid = c.bring_to_front.new.self in let e = c.args.e in
     let f = at-front mid e _ _ b.hand b.first.1 (b.slots e ∙ c.requires.slot) in
     let one = sym (ap once b.hand.places) ∙ b.hand.once in
-    let d = edge-did {m = mid.seat.me} true (λ _. step.Pull) e s b.same.1
+    let d = edge-did mid.seat.me true (λ _. step.Pull) e s (ap node_of b.same.1)
     c.port_place-place.ensures c.fetch_and.ensures.2 in let left = d.hand ∙ ap rest f.1 in
     makes {l = slots mid} s d (subst (HandHolds _) (sym d.hand)
     (hand-after d.before (view old).number d.holds (slots mid)

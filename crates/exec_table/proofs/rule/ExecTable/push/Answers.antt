@@ -1,4 +1,4 @@
-use Rattle.exec_table.proofs.Cited.{None, ap, board_after, drop, front, length, once, refl, rest, rules, subst, sym, true, ◌∙◌, ◌∷◌, end_of_view, HandHolds, edges_out, push_of, slots, view, inl, slot_in, at-front, full-front, hand-turned, held-there, hand-pushed, rest-slots, edge-asks, edge-did, makes}
+use Rattle.exec_table.proofs.Cited.{None, ap, board_after, drop, front, length, once, refl, rest, rules, subst, sym, true, ◌∙◌, ◌∷◌, end_of_view, HandHolds, edges_out, node_of, push_of, slots, view, inl, slot_in, at-front, full-front, hand-turned, held-there, hand-pushed, rest-slots, edge-asks, edge-did, makes}
 use Rattle.core_laws.specs.declared.types.Step.TheVariants as step
 use Rattle.exec_table.proofs.rule.ExecTable.push.Goals as goal
 
@@ -11,9 +11,10 @@ fetch_or-requires c = let s = c.requires.seat in let b = c.bring_to_front.ensure
     let had = c.exchange.ensures.3 in
     edge-asks c.args.self.now true c.exchange.new.seat
     (λ x e. step.Push e (length (end_of_view x e).chunks)) c.args.e s
-    (c.exchange.ensures.0 ∙ b.same.0) (ap (λ m. m.0) had ∙ b.same.1) (search rules)
-    c.port_place-place.ensures c.requires.ready
-    (full-front c.args.e _ c.args.chunk _ (ap (λ m. m.1) had)) (λ _ _ _. (refl, refl))
+    (c.exchange.ensures.0 ∙ b.same.0) (ap (λ m. m.0.nodes) had
+    ∙ (ap (λ v. v.nodes) b.same.1 ∙ s.single)) (search rules) c.port_place-place.ensures
+    c.requires.ready (full-front c.args.e _ c.args.chunk _ (ap (λ m. m.1) had))
+    (λ _ _ _. (refl, refl))
 
 pub returns : goal.returns
 returns c = let s = c.requires.seat in let old = c.args.seat.now in
@@ -21,9 +22,10 @@ returns c = let s = c.requires.seat in let old = c.args.seat.now in
     let e = c.args.e in let had = c.exchange.ensures.3 in let l = c.exchange.new.seat.me.1 in
     let f = at-front mid e _ _ b.hand b.first.1 (b.slots e ∙ c.requires.slot) in
     let one = sym (ap once b.hand.places) ∙ b.hand.once in
-    let d = edge-did {m = c.exchange.new.seat.me} true
-    (λ x e. step.Push e (length (end_of_view x e).chunks)) e s (ap (λ m. m.0) had ∙ b.same.1)
-    c.port_place-place.ensures c.fetch_or.ensures.2 in
+    let d = edge-did c.exchange.new.seat.me true
+    (λ x e. step.Push e (length (end_of_view x e).chunks)) e s
+    (ap (λ m. node_of m.0) had ∙ ap node_of b.same.1) c.port_place-place.ensures
+    c.fetch_or.ensures.2 in
     let left = d.hand ∙ (ap (λ m. rest m.1) had ∙ ap rest f.1) in
     makes {l = l} s d (subst (HandHolds _) (sym (d.hand ∙ ap (λ m. rest m.1) had))
     (hand-pushed d.before (view old).number d.holds (slots mid)

@@ -2,7 +2,8 @@ use Rattle.exec_table.proofs.Cited.{arith, refl, quiet-makes, word-asks}
 use Rattle.exec_table.proofs.rule.ExecTable.token_out.Goals as goal
 
 pub fetch_sub-requires : goal.fetch_sub-requires
-fetch_sub-requires c = word-asks c.args.self.now c.requires.seat
+fetch_sub-requires c = let o = c.requires.seat in
+    word-asks c.args.self.now c.args.seat.now.seat o refl o.single
     (let w = c.args.self.now.words in omega arith) c.requires.ready refl
     (λ b h is sizes can. (refl, (λ _. refl)))
 

@@ -3,12 +3,11 @@ use Rattle.core_laws.specs.declared.types.Step.TheVariants as step
 use Rattle.exec_table.proofs.rule.ExecTable.want.Goals as goal
 
 pub fetch_or-requires : goal.fetch_or-requires
-fetch_or-requires c =
-    edge-asks c.args.self.now true c.args.seat.now.seat (λ _. step.Want) c.args.e
-    c.requires.seat refl refl (search rules) c.port_place-place.ensures c.requires.ready refl
-    (λ _ _ _. (refl, refl))
+fetch_or-requires c = let o = c.requires.seat in
+    edge-asks c.args.self.now true c.args.seat.now.seat (λ _. step.Want) c.args.e o refl
+    o.single (search rules) c.port_place-place.ensures c.requires.ready refl (λ _ _ _. (refl, refl))
 
 pub returns : goal.returns
-returns c = quiet-makes refl c.requires.seat (edge-did {m = c.args.seat.now.seat.me} true
+returns c = quiet-makes refl c.requires.seat (edge-did c.args.seat.now.seat.me true
     (λ _. step.Want) c.args.e c.requires.seat refl c.port_place-place.ensures c.fetch_or.ensures.2)
     c.fetch_or.ensures.0 refl refl refl

@@ -1,4 +1,4 @@
-use Rattle.exec_table.proofs.Cited.{Allows, Did, Shown, ap, either, eqb, false, refl, subst, sym, wire_place, ◌-◌, ◌<◌, ◌∙◌, ◌≡◌, key_of, slots, view, wire_in, wired, read-wire, edge-asks, edge-did, quiet-makes, wire-in-read, wire-inside, wire-there-in, word-of-wire, identity_of}
+use Rattle.exec_table.proofs.Cited.{Asks, Did, ap, either, eqb, false, refl, subst, sym, wire_place, ◌-◌, ◌∙◌, slots, view, wire_in, wired, read-wire, edge-asks, edge-did, quiet-makes, wire-in-read, wire-inside, wire-there-in, word-of-wire, identity_of}
 use Rattle.core_laws.specs.declared.types.Step.TheVariants as step
 use Rattle.exec_table.proofs.rule.ExecTable.wire.Goals as goal
 
@@ -6,11 +6,9 @@ pub compare_exchange-found-requires : goal.compare_exchange-found-requires
 compare_exchange-found-requires c = let s = c.requires.seat in let seat = c.args.seat.now in
     let t = c.args.self.now in let i = c.wire_place-place.result in let g = c.requires.ready in
     let is = word-of-wire t seat c.args.e c.args.w _ s g c.wire_word-word.ensures in
-    subst (λ v. (seat.seat.table_id ≡ t.table.shared.table_id) × (i < t.table.shared.table_id.words)
-    × Allows (Shown (key_of t)) t.table.shared.table_id.slots seat.seat.id seat.seat.me i
-    (λ n. either (eqb n 0) c.wire_word-word.result n)
+    subst (λ v. Asks t seat.seat i (λ n. either (eqb n 0) c.wire_word-word.result n)
     (Did (view seat) (step.Wire (i - wire_place (view seat).sizes 0) v) (slots seat))) (sym is)
-    (edge-asks c.args.self.now false seat.seat (λ _ e. step.Wire e c.args.w) c.args.e s refl refl
+    (edge-asks t false seat.seat (λ _ e. step.Wire e c.args.w) c.args.e s refl s.single
     (wire-inside (identity_of t) seat c.args.e c.args.w s g) c.wire_place-place.ensures g refl
     (λ _ _ v. (refl, ap (λ k. either (eqb v 0) k v) c.wire_word-word.ensures)))
 
@@ -18,7 +16,7 @@ pub returns : goal.returns
 returns c = let s = c.requires.seat in let seat = c.args.seat.now in let e = c.args.e in
     let is = word-of-wire c.args.self.now seat e c.args.w _ s c.requires.ready
     c.wire_word-word.ensures in
-    let d = edge-did {m = seat.seat.me} false (λ _ e. step.Wire e c.args.w) e s refl
+    let d = edge-did seat.seat.me false (λ _ e. step.Wire e c.args.w) e s refl
     c.wire_place-place.ensures (subst (λ v. Did (view seat) (step.Wire (c.wire_place-place.result
     - wire_place (view seat).sizes 0) v) (slots seat) c.compare_exchange-found.result
     c.compare_exchange-found.new.seat.me) is c.compare_exchange-found.ensures.2) in
