@@ -1,33 +1,20 @@
 -- Steps at a table of two nodes and one edge; and the names that the tests' proofs use.
-pub use Rattle.std.proofs.Common.{◌≡◌, ℕ, zero, suc, ◌-◌, ◌∷◌, ◌++◌, ◌∙◌, ◌&&◌, ◌||◌, Bool, true, false, List, [], Option, None, Some, ap, arith, cond, drop, eqb, get_or, inl, inr, is_some, length, length-append, refl, rules, subst, sym, take, ⊎_elim, map, not, ◌+◌, ◌<◌}
-pub use Rattle.std.proofs.lemmas.Bool.{and_from, cases_Bool, eqb-true}
+pub use Rattle.exec_table.proofs.Imports.{take, Act, Answer, Bool, Flags, Identity, IsSeatOf, List, Makes, NodeState, None, Option, Pull, Push, Slots, Some, Step, Want, Wire, [], acting_end, allows, and_from, ap, arith, can_act, cases_Bool, cond, drop, edges_out, end_of_view, eqb, eqb-true, false, get_or, holds_chunk, identity_of, inl, inr, is_some, key_of, length, length-append, map, marked_peer, not, ready, refl, rules, slot_in, slot_of, slots, spent, subst, suc, sym, true, view, zero, ℕ, ⊎_elim, ◌&&◌, ◌++◌, ◌+◌, ◌-◌, ◌<◌, ◌||◌, ◌∙◌, ◌∷◌, ◌≡◌}
+use Rattle.exec_table.proofs.Imports.{AreAll, Chunk, Each, IsBack, IsOpen, fits_end, flags_at, get_elem?, has, is_end, knows, no_flags, no_wire, node_view, some, start_board, without}
 use Rattle.std.proofs.Math.Seq.{take-append_seam}
 pub use Rattle.std.specs.Option.{option_to_list}
-use mathlib.Core.Option.{some}
-use lib.ListN.{get_elem?}
-use Rattle.chunk_data.specs.Names.{Table as Chunk}
-use Rattle.core_laws.specs.Views.{flags_at, has, is_end, knows, no_flags, no_wire, without}
-pub use Rattle.core_laws.specs.Steps.{Answer, acting_end, allows, flags, is_idle as tells_idle, marked_peer, nothing, spent}
+pub use Rattle.core_laws.specs.Steps.{flags, is_idle as tells_idle, nothing}
 use Rattle.core_laws.specs.declared.types.Step.TheVariants as step
-pub use Rattle.exec_table.specs.CoreNames.{Act, Flags, NodeState, Pull, Push, Step, Want, Wire}
-use Rattle.exec_table.specs.Boards.{fits_end, node_view}
 use Rattle.exec_table.specs.Known.{state_after}
-use Rattle.exec_table.specs.Made.{IsOpen}
-pub use Rattle.exec_table.specs.Ready.{can_act, end_of_view, ready}
-use Rattle.exec_table.specs.Rule.{start_board}
-pub use Rattle.exec_table.specs.Seats.{Identity, IsSeatOf, Makes, MakesUpdated, Slots, edges_out, holds_chunk, identity_of, is_idle, key_of, marked_of, slot_in, slot_of, slots, updated_of, view}
-use Rattle.exec_table.specs.Surveys.{AreAll, Each, IsBack}
-use Rattle.exec_table.specs.declared.rule.ExecTable.{ExecTable}
-use Rattle.exec_table.specs.declared.rule.NodeSeat.{NodeSeat}
-use Rattle.exec_table.specs.declared.types.NodeView.{NodeView}
+pub use Rattle.exec_table.specs.Seats.{MakesUpdated, is_idle, marked_of, updated_of}
 pub use Rattle.exec_table.specs.declared.types.Marked.TheVariants.{AlreadyDue, Charged}
 pub use Rattle.exec_table.specs.declared.types.Rested.TheVariants.{UpdatedAgain}
-use Rattle.exec_table.specs.declared.types.Stage.TheVariants.{Born}
 use Rattle.exec_table.specs.declared.types.Updated.{Updated}
 use Rattle.exec_table.proofs.Hands.{has-slot}
 use Rattle.exec_table.proofs.Known.{state-made, turn-fits, wire-made}
 use Rattle.exec_tests.proofs.Fitting.{fit-last, fit-rest, fit-two}
-pub use Rattle.exec_tests.specs.TableRows.{Is, content, IsFirst, IsHeld, Saw, node, one_wire, pair_sizes, seen_as, was_charged}
+pub use Rattle.exec_table.specs.declared.types.NodeView.{NodeView}
+pub use Rattle.exec_tests.specs.TableRows.{Born, ExecTable, NodeSeat, Is, IsFirst, IsHeld, Saw, content, edge_wire, edges_in, idle, node, seen_as, sizes_of, was_charged}
 
 module _ {n : ℕ} {st : NodeState} {t : ExecTable} {s : NodeSeat} (is : Is n st t s) where
   pub can : (p : Step) → ready (record (view s) { state = st }) p ≡ true → ready (view s) p ≡ true
@@ -45,9 +32,13 @@ module _ {n : ℕ} {st : NodeState} {t : ExecTable} {s : NodeSeat} (is : Is n st
         ∙ (λ i. state_after (record (view s) { state = is.state i }) p (q i));
   }
 
+at-first : {n : ℕ} {t : ExecTable} {s : NodeSeat} → IsFirst false n (identity_of t) s
+    → Is n (idle false 0) t s
+at-first f = record { pair = f.sizes; seat = f.seat; number = f.number; state = f.state }
+
 -- a node that was charged keeps its token
-pub begun : {n : ℕ} {t : ExecTable} {s mid new : NodeSeat} {u : Updated} → IsFirst n t s
-    → Makes (identity_of t) s mid step.TokenIn None nothing
+pub begun : {n : ℕ} {t : ExecTable} {s mid new : NodeSeat} {u : Updated}
+    → IsFirst false n (identity_of t) s → Makes (identity_of t) s mid step.TokenIn None nothing
     → MakesUpdated (identity_of t) mid new step.Begin u
     → was_charged u ≡ true → IsHeld n 1 t new
 begun {n = n} {t = t} {new = new} f first m h =
@@ -55,7 +46,7 @@ begun {n = n} {t = t} {new = new} f first m h =
       flags = no_flags;
       unlooked = 0 ∷ [];
       only = refl;
-      is = stepped (stepped f.is first refl) m.makes refl;
+      is = stepped (stepped (at-first f) first refl) m.makes refl;
     }
   where
     kept : (w : ℕ) → was_charged (updated_of w) ≡ true → 1 - spent w ≡ 1
@@ -94,12 +85,12 @@ module _ {n k : ℕ} {t : ExecTable} {s new : NodeSeat} {f : Flags}
       seen : knows 0 (view new).state.seen ≡ true
       seen = ap (λ (z : NodeState). knows 0 z.seen) looked.is.state
 
-      wire : (end_of_view (view new) 0).wire ≡ Some one_wire
+      wire : (end_of_view (view new) 0).wire ≡ Some (edge_wire 0)
       wire = wire-made h.is.seat m 0 seen (let l = ap (λ z. length z.wires) h.is.pair in
           omega (arith, l)) ∙ ap (λ z. Some (get_or z.wires 0 no_wire)) h.is.pair
 
 module _ {n k : ℕ} {f : Flags} {t : ExecTable} {s : NodeSeat} (w : Saw n k f t s) where
-  pub can-act : (a : Act) → (is_end (acting_end a) n (Some one_wire) && allows a f) ≡ true
+  pub can-act : (a : Act) → (is_end (acting_end a) n (Some (edge_wire 0)) && allows a f) ≡ true
       → can_act a (view s) 0 ≡ true
   can-act a h = (λ i. (((w.is.state i).held && knows 0 (w.is.state i).seen)
       && is_end (acting_end a) (w.is.number i) (w.wire i))
@@ -119,20 +110,25 @@ empty z q = grind arith
 
 -- ---- the start and the end
 
-pub first : (n : ℕ) (t : ExecTable) (s : NodeSeat) → key_of t ≡ pair_sizes
-    → IsOpen (identity_of t) n s
-    → (node_view (start_board pair_sizes) n).state ≡ node false 0 no_flags (0 ∷ []) false
-    → (node_view (start_board pair_sizes) n).stage ≡ Born → IsFirst n t s
-first n t s pair given state stage =
-    let is = given.1 ∙ ap (λ z. node_view (start_board z) n) pair in record {
-      is = record {
-        pair = pair;
-        seat = given.0;
-        number = ap (λ (v : NodeView). v.number) is;
-        state = ap (λ (v : NodeView). v.state) is ∙ state;
-      };
-      stage = ap (λ (v : NodeView). v.stage) is ∙ stage;
+-- a seat as it was dealt
+pub first : (many one : Bool) (t : Identity) (s : NodeSeat) → t.sizes ≡ sizes_of many
+    → IsOpen t (cond one 1 0) s → IsFirst many (cond one 1 0) t s
+first many one t s sizes start =
+    let is = start.1 ∙ ap (λ z. node_view (start_board z) (cond one 1 0)) sizes in record {
+      sizes = sizes;
+      seat = start.0;
+      number = ap (λ (v : NodeView). v.number) is;
+      state = ap (λ (v : NodeView). v.state) is ∙ (unbegun many one).0;
+      stage = ap (λ (v : NodeView). v.stage) is ∙ (unbegun many one).1;
+      slots = start.2;
     }
+  where
+    unbegun : (many one : Bool) → let x = node_view (start_board (sizes_of many)) (cond one 1 0) in
+        (x.state ≡ idle many 0) × (x.stage ≡ Born)
+    unbegun false false = (refl, refl)
+    unbegun false true = (refl, refl)
+    unbegun true false = (refl, refl)
+    unbegun true true = (refl, refl)
 
 pub dealt : (t : ExecTable) (all l m : List NodeSeat) (a b : NodeSeat)
     → all ≡ l ++ b ∷ [] → l ≡ m ++ a ∷ [] → length all ≡ 2
@@ -144,7 +140,7 @@ dealt t all l m a b is rest n each = let u = ap length is in let v = length-appe
       fit-last fits all l b is each 1 n,
     )
 
-pub all-two : (t : Identity) (l : List NodeSeat) (a b : NodeSeat) → t.sizes ≡ pair_sizes
+pub all-two : (t : Identity) (l : List NodeSeat) (a b : NodeSeat) → t.sizes ≡ sizes_of false
     → l ≡ a ∷ b ∷ [] → IsSeatOf t a × ((view a).number ≡ 0) → IsSeatOf t b × ((view b).number ≡ 1)
     → AreAll t l
 all-two t l a b pair is of-a of-b = (

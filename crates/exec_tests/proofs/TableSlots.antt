@@ -1,48 +1,24 @@
 -- Steps at a table of two nodes and three edges.
-use Rattle.exec_tests.proofs.TableRows.{content, filled, Act, Answer, Bool, Flags, Identity, IsSeatOf, Makes, MakesUpdated, None, NodeState, Option, Some, Step, acting_end, allows, ap, arith, can_act, end_of_view, eqb, false, flags, get_or, nothing, refl, seen_as, slot_in, slot_of, subst, sym, true, view, ℕ, ◌&&◌, ◌+◌, ◌<◌, ◌∙◌, ◌≡◌}
-use Rattle.std.proofs.Common.{◌≢◌}
-use Rattle.std.proofs.lemmas.Bool.{ne_eqb}
-use Rattle.chunk_data.specs.Names.{Table as Chunk}
+use Rattle.exec_tests.proofs.TableRows.{IsFirst, NodeSeat, NodeView, content, edge_wire, edges_in, filled, idle, sizes_of, Act, Answer, Bool, Flags, Identity, IsSeatOf, Makes, MakesUpdated, None, NodeState, Option, Some, Step, acting_end, allows, ap, arith, can_act, end_of_view, eqb, false, flags, get_or, nothing, refl, seen_as, slot_in, slot_of, subst, sym, true, view, ℕ, ◌&&◌, ◌+◌, ◌<◌, ◌∙◌, ◌≡◌}
+use Rattle.exec_table.proofs.Imports.{Chunk, changed, edges_of, fits_end, flags_at, has, is_end, knows, ne_eqb, no_flags, no_wire, ready, ◌≢◌}
 use Rattle.core_laws.proofs.Lists.{seeing-here}
-use Rattle.core_laws.specs.Steps.{changed}
-use Rattle.core_laws.specs.Views.{edges_of, flags_at, has, is_end, knows, no_flags, no_wire}
 use Rattle.core_laws.specs.declared.types.Step.TheVariants as step
-use Rattle.exec_table.specs.Boards.{fits_end, node_view}
 use Rattle.exec_table.specs.Known.{LooksAt, is_at, slot_looked, state_acted, state_after}
-use Rattle.exec_table.specs.Made.{IsOpen}
-use Rattle.exec_table.specs.Ready.{ready}
-use Rattle.exec_table.specs.Rule.{start_board}
-use Rattle.exec_table.specs.declared.rule.NodeSeat.{NodeSeat}
-use Rattle.exec_table.specs.declared.types.NodeView.{NodeView}
-use Rattle.exec_table.specs.declared.types.Stage.TheVariants.{Born}
 use Rattle.exec_table.specs.declared.types.Updated.{Updated}
 use Rattle.exec_table.proofs.Ends.{edges-made, look-made, look-slot, number-made, same-made, stage-made}
 use Rattle.exec_table.proofs.Hands.{by_index, may_learn}
 use Rattle.exec_table.proofs.Known.{state-made, turn-fits, wire-made}
-use Rattle.exec_tests.specs.TableSlots.{IsFresh, Sees, fan_sizes, fan_wire, idle, put, three}
+use Rattle.exec_tests.specs.TableSlots.{Sees, put}
 
 -- ---- the start
 
-pub fresh : (n : ℕ) (t : Identity) (s : NodeSeat) → t.sizes ≡ fan_sizes → IsOpen t n s
-    → (node_view (start_board fan_sizes) n).state ≡ idle 0
-    → (node_view (start_board fan_sizes) n).stage ≡ Born → IsFresh n t s
-fresh n t s sizes start state stage =
-    let is = start.1 ∙ ap (λ z. node_view (start_board z) n) sizes in record {
-      sizes = sizes;
-      seat = start.0;
-      number = ap (λ (v : NodeView). v.number) is;
-      state = ap (λ (v : NodeView). v.state) is ∙ state;
-      stage = ap (λ (v : NodeView). v.stage) is ∙ stage;
-      slots = start.2;
-    }
+wire-at : (d : ℕ) → has d (edges_in true) ≡ true
+    → (d < 3) × (get_or (sizes_of true).wires d no_wire ≡ edge_wire d)
+wire-at d k = grind arith
 
-fan-wire : (d : ℕ) → has d three ≡ true
-    → (d < 3) × (get_or fan_sizes.wires d no_wire ≡ fan_wire d)
-fan-wire d k = grind arith
-
-module _ {n : ℕ} {t : Identity} {s mid : NodeSeat} (f : IsFresh n t s)
+module _ {n : ℕ} {t : Identity} {s mid : NodeSeat} (f : IsFirst true n t s)
     (first : Makes t s mid step.TokenIn None nothing) where
-  state-in : (view mid).state ≡ idle 1
+  state-in : (view mid).state ≡ idle true 1
   state-in = state-made f.seat first
       ∙ ap (λ (z : NodeState). record z { tokens = z.tokens + 1 }) f.state
 
@@ -59,7 +35,7 @@ module _ {n : ℕ} {t : Identity} {s mid : NodeSeat} (f : IsFresh n t s)
         number = number-made o m ∙ (number-made f.seat first ∙ f.number);
         held = ap (λ (z : NodeState). z.held) (state-made o m);
         learned = ap edges_of seen;
-        wire = λ d k. grind (arith, wire-made o m d (ap (knows d) seen ∙ k), fan-wire d k, f.sizes);
+        wire = λ d k. grind (arith, wire-made o m d (ap (knows d) seen ∙ k), wire-at d k, f.sizes);
         flags = λ d. ap (flags_at d) seen ∙ grind arith;
         slot = λ d. ap content ((same-made o m d refl).slot
             ∙ ((same-made f.seat first d refl).slot ∙ ap (slot_in d) f.slots));
@@ -69,19 +45,19 @@ module _ {n : ℕ} {t : Identity} {s mid : NodeSeat} (f : IsFresh n t s)
 
 module _ {n : ℕ} {f : ℕ → Flags} {y : ℕ → Option Bool} {t : Identity} {s : NodeSeat}
     (h : Sees n f y t s) where
-  here : (e : ℕ) → has e three ≡ true → knows e (view s).state.seen ≡ true
+  here : (e : ℕ) → has e (edges_in true) ≡ true → knows e (view s).state.seen ≡ true
   here e k = ap (has e) h.learned ∙ k
 
-  pub sees : (e : ℕ) → has e three ≡ true → ready (view s) (step.Look e) ≡ true
+  pub sees : (e : ℕ) → has e (edges_in true) ≡ true → ready (view s) (step.Look e) ≡ true
   sees e k = (λ i. h.held i && has e (h.learned i)) ∙ k
 
-  pub can : (a : Act) (e : ℕ) → has e three ≡ true
-      → (is_end (acting_end a) n (Some (fan_wire e)) && allows a (f e)) ≡ true
+  pub can : (a : Act) (e : ℕ) → has e (edges_in true) ≡ true
+      → (is_end (acting_end a) n (Some (edge_wire e)) && allows a (f e)) ≡ true
       → can_act a (view s) e ≡ true
   can a e k may = (λ i. ((h.held i && here e k i)
       && is_end (acting_end a) (h.number i) (h.wire e k i)) && allows a (h.flags e i)) ∙ may
 
-  module _ {new : NodeSeat} (e : ℕ) (k : has e three ≡ true) where
+  module _ {new : NodeSeat} (e : ℕ) (k : has e (edges_in true) ≡ true) where
     -- a step at the edge e, after which it is seen as g
     steps : {p : Step} {x : Option Chunk} {a : Answer} {g : Flags} → Makes t s new p x a
         → ((d : ℕ) → is_at d p ≡ eqb d e) → may_learn p ≡ false
@@ -98,7 +74,7 @@ module _ {n : ℕ} {f : ℕ → Flags} {y : ℕ → Option Bool} {t : Identity} 
         arith,
         wire-made h.seat m d (ap (has d) (edges-made h.seat m plain
             ∙ h.learned) ∙ l),
-        fan-wire d l,
+        wire-at d l,
         h.sizes,
       );
       flags = λ d. by_index d e _ _ _ (λ q. ap (λ c. flags_at c (view new).state.seen) q

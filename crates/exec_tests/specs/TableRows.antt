@@ -1,21 +1,52 @@
--- What the seats of a table of two nodes and one edge know.
-use Rattle.std.specs.Prelude.{◌≡◌, ℕ, ◌==◌, ◌||◌, cond, Bool, true, false, is_some, List, [], ◌∷◌, Option, Some, None}
-use Rattle.chunk_data.specs.Names.{Table as Chunk}
+-- What the seats of a table of two nodes and one edge, or three edges, know.
+use Rattle.std.specs.Prelude.{◌≡◌, ℕ, ◌==◌, ◌||◌, cond, Bool, true, false, is_some, List, [], ◌∷◌, map, Option, Some, None}
+use Rattle.core_laws.specs.Start.{fresh_sight}
 use Rattle.core_laws.specs.Views.{no_flags, without}
-use Rattle.exec_table.specs.CoreNames.{Flags, NodeState, Sizes, Wire}
+use Rattle.exec_table.specs.CoreNames.{Chunk, Flags, NodeState, Sizes, Wire}
 use Rattle.exec_table.specs.Boards.{fits_end}
 use Rattle.exec_table.specs.Ready.{end_of_view}
-use Rattle.exec_table.specs.Seats.{IsSeatOf, identity_of, key_of, slot_of, view}
-use Rattle.exec_table.specs.declared.rule.ExecTable.{ExecTable}
-use Rattle.exec_table.specs.declared.rule.NodeSeat.{NodeSeat}
-use Rattle.exec_table.specs.declared.types.Stage.TheVariants.{Born}
+use Rattle.exec_table.specs.Seats.{Identity, IsSeatOf, identity_of, key_of, slot_of, slots, view}
+pub use Rattle.exec_table.specs.declared.rule.ExecTable.{ExecTable}
+pub use Rattle.exec_table.specs.declared.rule.NodeSeat.{NodeSeat}
+pub use Rattle.exec_table.specs.declared.types.Stage.TheVariants.{Born}
 use Rattle.exec_table.specs.declared.types.Updated.{Updated}
 
-abbrev pub one_wire : Wire
-one_wire = record { from = 0; out = 0; to = 1; input = 0 }
+-- the edge e goes from the output e of node 0 to the input e of node 1
+abbrev pub edge_wire : ℕ → Wire
+edge_wire e = record { from = 0; out = e; to = 1; input = e }
 
-abbrev pub pair_sizes : Sizes
-pair_sizes = record { nodes = 2; wires = one_wire ∷ []; reserves = []; workers = 1 }
+-- one edge, or three
+abbrev pub edges_in : Bool → List ℕ
+edges_in false = 0 ∷ []
+edges_in true = 0 ∷ 1 ∷ 2 ∷ []
+
+abbrev pub sizes_of : Bool → Sizes
+sizes_of many = record {
+  nodes = 2;
+  wires = map edge_wire (edges_in many);
+  reserves = [];
+  workers = 1;
+}
+
+-- a node that hasn't begun, with these tokens
+abbrev pub idle : Bool → ℕ → NodeState
+idle many tokens = record {
+  word = 0;
+  held = false;
+  tokens = tokens;
+  seen = map fresh_sight (edges_in many);
+  unlooked = edges_in many;
+  owes = [];
+}
+
+-- the node n at the start
+pub record IsFirst (many : Bool) (n : ℕ) (t : Identity) (s : NodeSeat) : Type 0 where
+  pub sizes : t.sizes ≡ sizes_of many
+  pub seat : IsSeatOf t s
+  pub number : (view s).number ≡ n
+  pub state : (view s).state ≡ idle many 0
+  pub stage : (view s).stage ≡ Born
+  pub slots : slots s ≡ []
 
 abbrev pub seen_as : Bool → Bool → Flags
 seen_as needed has_data = record no_flags { needed = needed; has_data = has_data }
@@ -33,15 +64,10 @@ node held tokens flags unlooked owes = record {
 
 -- the seat of the node n of such a table, which is in this state
 pub record Is (n : ℕ) (st : NodeState) (t : ExecTable) (s : NodeSeat) : Type 0 where
-  pub pair : key_of t ≡ pair_sizes
+  pub pair : key_of t ≡ sizes_of false
   pub seat : IsSeatOf (identity_of t) s
   pub number : (view s).number ≡ n
   pub state : (view s).state ≡ st
-
--- as at the start
-pub record IsFirst (n : ℕ) (t : ExecTable) (s : NodeSeat) : Type 0 where
-  pub is : Is n (node false 0 no_flags (0 ∷ []) false) t s
-  pub stage : (view s).stage ≡ Born
 
 -- held, with so many tokens, and owes nothing
 pub record IsHeld (n tokens : ℕ) (t : ExecTable) (s : NodeSeat) : Type 0 where
@@ -53,7 +79,7 @@ pub record IsHeld (n tokens : ℕ) (t : ExecTable) (s : NodeSeat) : Type 0 where
 -- held, after a look that saw these flags; a slot that is out has what the end may take
 pub record Saw (n tokens : ℕ) (flags : Flags) (t : ExecTable) (s : NodeSeat) : Type 0 where
   pub is : Is n (node true tokens flags [] false) t s
-  pub wire : (end_of_view (view s) 0).wire ≡ Some one_wire
+  pub wire : (end_of_view (view s) 0).wire ≡ Some (edge_wire 0)
   pub fits : (v : Option Chunk) → slot_of s 0 ≡ Some v → fits_end (1 == n) v ≡ true
 
 -- whether a slot is out, and has a chunk

@@ -1,9 +1,9 @@
 //! Tests of the execution table.
-ghost use Rattle.std.specs.Prelude.{◌≡◌, ℕ, true, false, [], IfOk, IfSome, IsTrue};
+ghost use Rattle.std.specs.Prelude.{◌≡◌, ℕ, true, false, [], map, IfOk, IfSome, IsTrue};
 ghost use Rattle.core_laws.specs.Views.{has};
 ghost use Rattle.exec_table.specs.Made.{IsMade};
 ghost use Rattle.exec_table.specs.Seats.{IsRootOf, IsSeatOf, identity_of, view};
-ghost use Rattle.exec_tests.specs.TableRows.{Is, IsFirst, IsHeld, Saw, node, seen_as};
+ghost use Rattle.exec_tests.specs.TableRows.{Is, IsFirst, IsHeld, Saw, edge_wire, edges_in, node, seen_as};
 
 use chunk_data::{Chunk, ColumnType, List, Value};
 use core_laws::{Flags, Reserve, Sizes, Wire};
@@ -11,7 +11,7 @@ use exec_table::{ExecTable, Made, Marked, NodeSeat, Rested, RootSeat, Seen, Upda
 use std::test::Fail;
 use std::thread::join;
 
-pub(crate) fn wire(from: u32, out: u32, to: u32, input: u32) -> Wire
+fn wire(from: u32, out: u32, to: u32, input: u32) -> Wire
     ensures { result ≡ record { from = from; out = out; to = to; input = input } }
 {
     Wire {
@@ -62,16 +62,28 @@ fn a_worker_sees_the_consumers_pending(rt: HostRuntime) -> Result<(), Fail> {
     Ok(())
 }
 
-// ---- rows of calls at two nodes and an edge
+// ---- rows of calls at two nodes, with one edge or three
 
-fn two_nodes(rt: &HostRuntime) -> Result<(ExecTable, NodeSeat, NodeSeat, RootSeat), Fail>
-    ensures zero { IfOk result (λ p. IsFirst 0 p.0 p.1) }
-    ensures one { IfOk result (λ p. IsFirst 1 p.0 p.2) }
+fn wires(rt: &HostRuntime, many: bool) -> Result<Vec<Wire>, Fail>
+    ensures { IfOk result (λ v. v.items ≡ map edge_wire (edges_in many)) }
+{
+    if !many {
+        return Ok(vec![in rt.alloc(); wire(0, 0, 1, 0)]?);
+    }
+    Ok(vec![in rt.alloc(); wire(0, 0, 1, 0), wire(0, 1, 1, 1), wire(0, 2, 1, 2)]?)
+}
+
+pub(crate) fn two_nodes(
+    rt: &HostRuntime,
+    many: bool,
+) -> Result<(ExecTable, NodeSeat, NodeSeat, RootSeat), Fail>
+    ensures zero { IfOk result (λ p. IsFirst many 0 (identity_of p.0) p.1) }
+    ensures one { IfOk result (λ p. IsFirst many 1 (identity_of p.0) p.2) }
     ensures root { IfOk result (λ p. IsRootOf (identity_of p.0) p.3 × (p.3.seat.me.0.made ≡ 0)) }
 {
     let sizes = Sizes {
         nodes: 2,
-        wires: List::from_vec(vec![in rt.alloc(); wire(0, 0, 1, 0)]?),
+        wires: List::from_vec(wires(rt, many)?),
         reserves: List::new(rt.alloc()),
         workers: 1,
     };
@@ -132,7 +144,7 @@ fn sees(table: &ExecTable, seat: &mut NodeSeat, needed: bool, has_data: bool) ->
 
 // Node 1 begins, wants a chunk and charges node 0.
 fn asks(table: &ExecTable, seat: &mut NodeSeat) -> bool
-    requires { IsFirst 1 table.now seat.old }
+    requires { IsFirst false 1 (identity_of table.now) seat.old }
     ensures { IsTrue result
         → Is 1 (node true 0 (seen_as true false) [] false) table.now seat.new }
 {
@@ -146,7 +158,7 @@ fn asks(table: &ExecTable, seat: &mut NodeSeat) -> bool
 
 // Node 0 begins, pushes the chunk that is needed and tells node 1, which is held.
 fn gives(table: &ExecTable, seat: &mut NodeSeat, chunk: Chunk) -> bool
-    requires { IsFirst 0 table.now seat.old }
+    requires { IsFirst false 0 (identity_of table.now) seat.old }
     ensures { IsTrue result
         → Is 0 (node true 1 (seen_as true true) [] false) table.now seat.new }
 {
@@ -202,7 +214,7 @@ fn takes_again(table: &ExecTable, seat: &mut NodeSeat) -> Option<Chunk>
 
 #[test]
 fn a_chunk_passes(rt: HostRuntime) -> Result<(), Fail> {
-    let (table, mut zero, mut one, mut root) = two_nodes(&rt)?;
+    let (table, mut zero, mut one, mut root) = two_nodes(&rt, false)?;
     let mut worker = table.worker(&mut root);
     if !asks(&table, &mut one) || !gives(&table, &mut zero, chunk(&rt)?) {
         return Err("the chunk wasn't given".into());
@@ -227,7 +239,7 @@ fn a_chunk_passes(rt: HostRuntime) -> Result<(), Fail> {
 
 #[test]
 fn a_chunk_passes_between_threads(rt: HostRuntime) -> Result<(), Fail> {
-    let (table, mut zero, mut one, _) = two_nodes(&rt)?;
+    let (table, mut zero, mut one, _) = two_nodes(&rt, false)?;
     let chunk = chunk(&rt)?;
     if !asks(&table, &mut one) {
         return Err("node 1 didn't ask".into());
@@ -235,7 +247,7 @@ fn a_chunk_passes_between_threads(rt: HostRuntime) -> Result<(), Fail> {
     let (given, taken) = join(
         &rt,
         ||
-            requires { IsFirst 0 table zero }
+            requires { IsFirst false 0 (identity_of table) zero }
         { gives(&table, &mut zero, chunk) && sees(&table, &mut zero, true, false) },
         ||
             requires { (k : ℕ) × IsHeld 1 k table one }
@@ -248,7 +260,7 @@ fn a_chunk_passes_between_threads(rt: HostRuntime) -> Result<(), Fail> {
 
 #[test]
 fn a_chunk_left_in_its_slot_is_handed_back(rt: HostRuntime) -> Result<(), Fail> {
-    let (table, mut zero, mut one, root) = two_nodes(&rt)?;
+    let (table, mut zero, mut one, root) = two_nodes(&rt, false)?;
     if !asks(&table, &mut one) || !gives(&table, &mut zero, chunk(&rt)?) {
         return Err("the chunk wasn't given".into());
     }
