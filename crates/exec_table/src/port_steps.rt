@@ -65,6 +65,7 @@ impl ExecTable {
     pub(crate) fn wire_at(&self, seat: &mut NodeSeat, e: u32) -> Wire
         requires seat { IsSeatOf (identity_of self.now) seat.old }
         requires known { knows e (view seat.old).state.seen ≡ true }
+        ensures seat { IsSeatOf (identity_of self.now) seat.new }
         ensures same { (seat.new.seat.table_id ≡ seat.old.seat.table_id) ×
             (seat.new.node ≡ seat.old.node) × (seat.new.held ≡ seat.old.held) }
         ensures view { seat.new.seat.me ≡ (aiming e (view seat.old), slots seat.old) }
