@@ -4,3 +4,4 @@ pub mod QueueRule
 pub mod ShelfRule
 pub mod SlotValues
 pub mod Seats
+mod KeptNumbers

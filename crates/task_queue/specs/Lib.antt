@@ -5,3 +5,4 @@ pub mod Rules
 pub mod Steps
 pub mod Values
 pub mod Shelves
+pub mod Tasks

@@ -8,6 +8,7 @@
 //! trait `Placed` of its type says.
 //!
 //! - `queue.rt`: the queue, its rule and its passes
+//! - `tasks.rt`: what a worker has of a queue
 //! - `shelf.rt`: the shelf and its calls
 //! - `seat.rt`: the rule of a shelf, its seats, and what each of their steps tells
 //! - `layout.rt`: how values lie in slots, and the room that is kept for `clear`
@@ -17,7 +18,9 @@ mod layout;
 mod queue;
 mod seat;
 mod shelf;
+mod tasks;
 
 pub use queue::{QueuePass, TaskQueue};
 pub use seat::ShelfSeat;
 pub use shelf::{Placed, Shelf};
+pub use tasks::WorkerTasks;

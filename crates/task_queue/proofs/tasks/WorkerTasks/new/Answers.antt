@@ -1,0 +1,5 @@
+use Rattle.task_queue.proofs.KeptNumbers.{none-set}
+use Rattle.task_queue.proofs.tasks.WorkerTasks.new.Goals as goal
+
+pub invariant_of-result : goal.invariant_of-result
+invariant_of-result c = record { bare = λ _. none-set 256 }

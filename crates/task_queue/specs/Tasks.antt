@@ -1,0 +1,73 @@
+-- What a worker has of a queue.
+use Rattle.std.specs.Prelude.{◌≡◌, ◌⊎◌, ◌==◌, ◌||◌, ◌&&◌, ◌++◌, ◌∷◌, [], ℕ, Bool, List, None, Option, Some, false, true, not, slice_index_or}
+use Rattle.task_queue.specs.Queues.{WasAt, capacity_of, put_by, taken_by}
+use Rattle.task_queue.specs.declared.queue.TaskQueue.{TaskQueue}
+use Rattle.task_queue.specs.declared.tasks.WorkerTasks.{WorkerTasks}
+
+-- whether the number stays with the worker
+abbrev pub keeps : WorkerTasks → ℕ → Bool
+keeps w n = slice_index_or w.kept n false
+
+abbrev pub KeepsNone : WorkerTasks → Type 0
+KeepsNone w = (n : ℕ) → keeps w n ≡ false
+
+-- besides what it kept, the worker keeps n
+abbrev pub Keeps : ℕ → WorkerTasks → WorkerTasks → Type 0
+Keeps n old new = (m : ℕ) → keeps new m ≡ (n == m) || keeps old m
+
+-- of what it kept, the worker keeps n no more
+pub record LetsGo (n : ℕ) (old new : WorkerTasks) : Type 0 where
+  pub kept : keeps old n ≡ true
+  pub left : (m : ℕ) → keeps new m ≡ not (n == m) && keeps old m
+
+abbrev pub KeepsSame : WorkerTasks → WorkerTasks → Type 0
+KeepsSame old new = (m : ℕ) → keeps new m ≡ keeps old m
+
+-- n was put into the queue
+pub record IsPut (n : ℕ) (old new : WorkerTasks) : Type 0 where
+  pub put : put_by new.pass ≡ put_by old.pass ++ n ∷ []
+  pub kept : KeepsSame old new
+
+-- the queue was full at a moment, and n stays with the worker
+pub record IsGivenBack (q : TaskQueue) (n : ℕ) (old new : WorkerTasks) : Type 0 where
+  pub put : put_by new.pass ≡ put_by old.pass
+  pub kept : Keeps n old new
+  pub full : WasAt (capacity_of q) old.pass
+
+-- n was put into the queue or is kept, and nothing that was kept is lost
+pub record IsOffered (q : TaskQueue) (n : ℕ) (old new : WorkerTasks) : Type 0 where
+  pub taken : taken_by new.pass ≡ taken_by old.pass
+  pub went : IsPut n old new ⊎ IsGivenBack q n old new
+
+-- each of the numbers was put or is kept, in their order
+pub data AreOffered (q : TaskQueue) (old : WorkerTasks) : List ℕ → WorkerTasks → Type 0 where
+  offered_none : AreOffered q old [] old
+  offered_more : {ns : List ℕ} {n : ℕ} {mid new : WorkerTasks} → AreOffered q old ns mid
+      → IsOffered q n mid new → AreOffered q old (ns ++ n ∷ []) new
+
+-- n was taken out of the queue, where nothing was kept
+pub record IsTaken (n : ℕ) (old new : WorkerTasks) : Type 0 where
+  pub bare : KeepsNone old
+  pub taken : taken_by new.pass ≡ taken_by old.pass ++ n ∷ []
+  pub kept : KeepsNone new
+
+-- n was kept, and is no longer
+pub record IsLeftover (n : ℕ) (old new : WorkerTasks) : Type 0 where
+  pub taken : taken_by new.pass ≡ taken_by old.pass
+  pub kept : LetsGo n old new
+
+-- nothing was kept, and the queue was empty at a moment
+pub record IsIdle (old new : WorkerTasks) : Type 0 where
+  pub bare : KeepsNone old
+  pub taken : taken_by new.pass ≡ taken_by old.pass
+  pub kept : KeepsNone new
+  pub empty : WasAt 0 old.pass
+
+abbrev pub GivesNumber : Option ℕ → WorkerTasks → WorkerTasks → Type 0
+GivesNumber None old new = IsIdle old new
+GivesNumber (Some n) old new = IsLeftover n old new ⊎ IsTaken n old new
+
+-- what a worker gives next: a number that it kept, else one that it took
+pub record Gives (r : Option ℕ) (old new : WorkerTasks) : Type 0 where
+  pub put : put_by new.pass ≡ put_by old.pass
+  pub number : GivesNumber r old new

@@ -1,0 +1,91 @@
+//! What a worker has of a queue: its pass, and the numbers that the queue had no room for.
+ghost use Rattle.std.specs.Prelude.{◌≡◌, ℕ, ◌<◌, false, IfNone, IfSome, slice_index_or};
+ghost use Rattle.task_queue.specs.Queues.{IsPassOf};
+
+use crate::queue::{QueuePass, TaskQueue};
+use std::sync::Wait;
+
+/// How many numbers a worker can keep, counted from 0.
+const MOST_KEPT: u32 = 256;
+
+/// The pass of a worker, and the numbers that a full queue gave back. They stay with that worker,
+/// which takes them first, so that no worker waits for room in the queue.
+#[derive(Drop)]
+pub struct WorkerTasks {
+    pub pass: QueuePass,
+    pub kept: [bool; 256],
+    // Whether a number may be kept: mostly none is, and the places aren't looked through.
+    pub any: bool,
+    ghost bare: { any ≡ false → (n : ℕ) → slice_index_or kept n false ≡ false },
+}
+
+impl WorkerTasks {
+    ghost use Rattle.task_queue.specs.Tasks.{Gives, IsOffered, Keeps, KeepsNone, LetsGo};
+
+    /// A worker's pass, with no number that is kept.
+    pub fn new(pass: QueuePass) -> WorkerTasks
+        ensures pass { result.pass ≡ pass }
+        ensures bare { KeepsNone result }
+    {
+        WorkerTasks {
+            pass,
+            kept: [false; 256],
+            any: false,
+        }
+    }
+
+    fn keep(&mut self, n: u32)
+        requires { n < 256 }
+        ensures pass { self.new.pass ≡ self.old.pass }
+        ensures keeps { Keeps n self.old self.new }
+    {
+        self.any = true;
+        self.kept[n as usize] = true;
+    }
+
+    /// Puts a number at the back of the queue. Where the queue is full it stays with the worker:
+    /// this waits for no room.
+    pub fn offer<R: Wait>(&mut self, rt: &R, queue: &TaskQueue, n: u32)
+        requires pass { IsPassOf queue.now self.old.pass }
+        requires few { n < 256 }
+        ensures pass { IsPassOf queue.now self.new.pass }
+        ensures offered { IsOffered queue.now n self.old self.new }
+    {
+        match queue.put(rt, &mut self.pass, n) {
+            Ok(()) => {}
+            Err(_) => self.keep(n),
+        }
+    }
+
+    // The first number that is kept.
+    fn next_kept(&mut self) -> Option<u32>
+        ensures pass { self.new.pass ≡ self.old.pass }
+        ensures some { IfSome result (λ n. LetsGo n self.old self.new) }
+        ensures none { IfNone result (KeepsNone self.old × KeepsNone self.new) }
+    {
+        if !self.any {
+            return None;
+        }
+        for n in 0..MOST_KEPT {
+            if self.kept[n as usize] {
+                self.kept[n as usize] = false;
+                return Some(n);
+            }
+        }
+        self.any = false;
+        None
+    }
+
+    /// A number that is kept, else the one at the front of the queue. None comes only where the
+    /// queue was empty at a moment of the call.
+    pub fn next<R: Wait>(&mut self, rt: &R, queue: &TaskQueue) -> Option<u32>
+        requires { IsPassOf queue.now self.old.pass }
+        ensures pass { IsPassOf queue.now self.new.pass }
+        ensures next { Gives result self.old self.new }
+    {
+        match self.next_kept() {
+            Some(n) => Some(n),
+            None => queue.take(rt, &mut self.pass),
+        }
+    }
+}
