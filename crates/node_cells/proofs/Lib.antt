@@ -6,4 +6,5 @@ pub mod TurnLaws
 pub mod RestLaws
 pub mod BeginLaws
 pub mod WorkLaws
-mod QueueLaws
+pub mod ChargeLaws
+pub mod QueueLaws

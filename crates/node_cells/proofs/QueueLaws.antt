@@ -1,22 +1,64 @@
--- Charged nodes are put into the queue.
-use Rattle.node_cells.proofs.Imports.{Identity, NodeCell, ap, append-nil, append_assoc, cell_ports, sym, ◌++◌, ◌∙◌, ◌≡◌}
-use Rattle.node_cells.specs.Turns.{Queues, charged_by, charges_more, charges_none}
+-- Charged nodes are put into the queue, or stay with the worker.
+use Rattle.node_cells.proofs.Imports.{BoxPicture, Identity, NodeCell, [], ap, append-nil, cell_ports, subst, sym, ℕ, ◌++◌, ◌∙◌, ◌≡◌}
+use Rattle.node_cells.specs.Turns.{IsCarried, IsPrepared, Queues, Runs, Stays, runs_more, runs_none, charged_by, charges_more, charges_none}
 use Rattle.node_ports.specs.Peers.{CarriesNext}
 use Rattle.node_ports.specs.declared.actions.Carry.{Carry}
-use Rattle.task_queue.specs.Queues.{put_by}
-use Rattle.task_queue.specs.declared.queue.QueuePass.{QueuePass}
+use Rattle.node_ports.specs.declared.actions.Carry.TheVariants as carry
+use Rattle.task_queue.specs.Tasks.{AreOffered, IsOffered, Offers, offered_more, offered_none}
+use Rattle.proc_api.specs.declared.status.Status.{Status}
+use Rattle.task_queue.proofs.KeptNumbers.{offers-both, offers-none}
+use Rattle.task_queue.specs.declared.queue.TaskQueue.{TaskQueue}
+use Rattle.task_queue.specs.declared.tasks.WorkerTasks.{WorkerTasks}
 
-pub queues-none : {P : Type 0} (t : Identity) (c : NodeCell P) (p : QueuePass) → Queues t c c p p
-queues-none t c p = record { charged = _; charges = charges_none; put = sym (append-nil _) }
+pub queues-none : {P : Type 0} (t : Identity) (q : TaskQueue) (c : NodeCell P) (w : WorkerTasks)
+    → Queues t q c c w w
+queues-none t q c w = record { charged = _; charges = charges_none; offered = offered_none }
 
--- a further action was carried out, and what it charged was put
-pub queues-more : {P : Type 0} {t : Identity} {old mid : NodeCell P} {before p : QueuePass}
-    → Queues t old mid before p → {r s : Carry} (new : NodeCell P)
-    → CarriesNext t r (cell_ports mid) new.ports new.seat → r ≡ s
-    → (after : QueuePass) → put_by after ≡ put_by p ++ charged_by s → Queues t old new before after
-queues-more {before} {p} h {r} new c is after q = record {
-  charged = _;
-  charges = charges_more h.charges c;
-  put = q ∙ (ap (λ r. put_by p ++ charged_by r) (sym is) ∙ (ap (λ l. l ++ charged_by r) h.put
-      ∙ append_assoc (put_by before) h.charged (charged_by r)));
-}
+module _ {P : Type 0} {t : Identity} {q : TaskQueue} {old mid : NodeCell P}
+    {before between : WorkerTasks} (h : Queues t q old mid before between) {r : Carry} where
+  -- a further action was carried out, which charged no node
+  pub queues-silent : (s : Carry) (new : NodeCell P)
+      → CarriesNext t r (cell_ports mid) new.ports new.seat → r ≡ s → charged_by s ≡ []
+      → Queues t q old new before between
+  queues-silent s new c is none = record {
+    charged = _;
+    charges = charges_more h.charges c;
+    offered = subst (λ ns. AreOffered q before ns between)
+        (sym (ap (λ ns. h.charged ++ ns) (ap charged_by is ∙ none) ∙ append-nil h.charged)) h.offered;
+  }
+
+  -- or one that was offered
+  pub queues-charged : (n : ℕ) (new : NodeCell P) (after : WorkerTasks)
+      → CarriesNext t r (cell_ports mid) new.ports new.seat → r ≡ carry.Charged n
+      → IsOffered q n between after → Queues t q old new before after
+  queues-charged n new after c is offered = record {
+    charged = _;
+    charges = charges_more h.charges c;
+    offered = subst (λ ns. AreOffered q before ns after)
+        (sym (ap (λ s. h.charged ++ charged_by s) is)) (offered_more h.offered offered);
+  }
+
+module _ {P : Type 0} {seen : P → BoxPicture} {t : Identity} {q : TaskQueue} {old : NodeCell P}
+    {before : WorkerTasks} where
+  -- one more turn after others
+  pub runs-turn : {mid new prepared carried : NodeCell P} {between after : WorkerTasks}
+      {s : Status} → Runs seen t q old before mid between → Stays seen mid prepared
+      → IsPrepared seen t prepared s → Queues t q prepared carried between after
+      → IsCarried seen t carried s → Stays seen carried new → Runs seen t q old before new after
+  runs-turn h stays prepares queues carries follows = runs_more h record {
+    status = _;
+    prepared = _;
+    carried = _;
+    stays = stays;
+    prepares = prepares;
+    queues = queues;
+    carries = carries;
+    follows = follows;
+  }
+
+  -- over all turns nodes were offered, and that is all
+  pub runs-offers : {new : NodeCell P} {after : WorkerTasks}
+      → Runs seen t q old before new after → Offers q before after
+  runs-offers runs_none = offers-none q before
+  runs-offers {after} (runs_more {between} h turn) = offers-both q before between after
+      (runs-offers h) (turn.queues.charged, turn.queues.offered)

@@ -51,6 +51,24 @@ may-after : (a : Wake) (p q : BoxPicture) → Wakes a p q → MayCall (call_afte
 may-after wake.Ready p q w = search (rules, w)
 may-after wake.Later p q w = search (rules, w)
 
+-- a node that is due a call may go home
+pub at-work-home : {P : Type 0} (seen : P → BoxPicture) (t : Identity) (d : DueCall)
+    (c : NodeCell P) → IsAtWork seen t d c → AtHome seen t c
+at-work-home seen t d c h = record {
+  cell = h.holds.cell;
+  home = record {
+    actions = h.quiet;
+    tokens = h.holds.turn.tokens;
+    owes = h.holds.turn.owes;
+    waits = λ _. h.holds.turn.held;
+    idle = λ e. absurd (let z : node.AtWork d ≡ node.Resting = sym h.at_work ∙ e in cc);
+    begun = λ e. absurd (let z : node.AtWork d ≡ node.Resting = sym h.at_work ∙ e in cc);
+    looked = λ e. absurd (let z : node.AtWork d ≡ node.Resting = sym h.at_work ∙ e in cc);
+    over = λ o. absurd (let f : false ≡ true = sym (ap is_over_stage h.holds.stage) ∙ o in cc);
+    unborn = λ o. absurd (let f : false ≡ true = sym (ap is_unborn_stage h.holds.stage) ∙ o in cc);
+  };
+}
+
 module _ {P : Type 0} (seen : P → BoxPicture) (t : Identity) (c : NodeCell P) (q : P)
     (k : NodeMark) (h : IsAtWork seen t call.Schedule c) (a : Wake)
     (w : Wakes a (seen c.processor) (seen q)) (at : k.state ≡ node.AtWork (call_after a)) where
@@ -76,27 +94,11 @@ module _ {P : Type 0} (seen : P → BoxPicture) (t : Identity) (c : NodeCell P) 
     at_work = at;
   }
 
-  pub home : AtHome seen t after
-  home = record {
-    cell = still-at-work.holds.cell;
-    home = record {
-      actions = h.quiet;
-      tokens = h.holds.turn.tokens;
-      owes = h.holds.turn.owes;
-      waits = λ _. h.holds.turn.held;
-      idle = λ e. absurd (let z : node.AtWork (call_after a) ≡ node.Resting = sym at ∙ e in cc);
-      begun = λ e. absurd (let z : node.AtWork (call_after a) ≡ node.Resting = sym at ∙ e in cc);
-      looked = λ e. absurd (let z : node.AtWork (call_after a) ≡ node.Resting = sym at ∙ e in cc);
-      over = λ o. absurd (let f : false ≡ true = sym (ap is_over_stage h.holds.stage) ∙ o in cc);
-      unborn = λ o. absurd (let f : false ≡ true = sym (ap is_unborn_stage h.holds.stage) ∙ o in
-          cc);
-    };
-  }
-
 pub woken : {P : Type 0} (seen : P → BoxPicture) (t : Identity) (c : NodeCell P) (q : P)
     (k : NodeMark) → IsAtWork seen t call.Schedule c → (a : Wake)
     → Wakes a (seen c.processor) (seen q) → k.state ≡ node.AtWork (call_after a)
     → WakesTo seen t a (record c { processor = q; mark = k })
 woken seen t c q k h wake.Ready w at = still-at-work seen t c q k h wake.Ready w at
 woken seen t c q k h wake.Later w at =
-    (home seen t c q k h wake.Later w at, still-at-work seen t c q k h wake.Later w at)
+    let still = still-at-work seen t c q k h wake.Later w at in
+    (at-work-home seen t call.Schedule _ still, still)

@@ -1,5 +1,5 @@
 -- The turns of a node.
-use Rattle.std.specs.Prelude.{not, List, None, ℕ, ◌++◌, ◌∷◌, ◌||◌, ◌==◌, Bool, Option, Some, [], true, false, ◌≡◌, ◌≢◌}
+use Rattle.std.specs.Prelude.{◌⊎◌, not, List, None, ℕ, ◌++◌, ◌∷◌, ◌||◌, ◌==◌, Bool, Option, Some, [], true, false, ◌≡◌, ◌≢◌}
 use Rattle.exec_table.specs.Seats.{Makes}
 use Rattle.core_laws.specs.Steps.{nothing}
 use Rattle.core_laws.specs.declared.types.Step.TheVariants as step
@@ -10,15 +10,17 @@ use Rattle.node_ports.specs.Actions.{InTurn, SamePorts}
 use Rattle.node_ports.specs.Peers.{CarriesNext}
 use Rattle.node_ports.specs.declared.actions.Carry.{Carry}
 use Rattle.node_ports.specs.declared.actions.Carry.TheVariants as carry
-use Rattle.task_queue.specs.Queues.{put_by}
-use Rattle.task_queue.specs.declared.queue.QueuePass.{QueuePass}
-use Rattle.exec_laws.specs.Names.{Acts, StaysBox, state_after}
+use Rattle.task_queue.specs.Tasks.{AreOffered}
+use Rattle.task_queue.specs.declared.queue.TaskQueue.{TaskQueue}
+use Rattle.task_queue.specs.declared.tasks.WorkerTasks.{WorkerTasks}
+use Rattle.exec_laws.specs.Names.{Acts, KeepsFault, StaysBox, state_after}
 use Rattle.node_cells.specs.declared.node_run.RunEnd.{RunEnd}
 use Rattle.node_cells.specs.declared.node_run.RunEnd.TheVariants as run
 use Rattle.exec_laws.specs.declared.edges.DueCall.{DueCall}
 use Rattle.exec_laws.specs.declared.edges.DueCall.TheVariants as call
 use Rattle.proc_api.specs.declared.status.Answer.TheVariants.{Scheduled}
 use Rattle.proc_api.specs.declared.status.Wake.{Wake}
+use Rattle.proc_api.specs.declared.status.WorkFault.{WorkFault}
 use Rattle.proc_api.specs.declared.status.Wake.TheVariants as wake
 use Rattle.exec_laws.specs.declared.edges.NodeState.TheVariants as node
 use Rattle.proc_api.specs.declared.status.Status.{Status}
@@ -85,12 +87,13 @@ pub data Charges {P : Type 0} (t : Identity) (old : NodeCell P) : List ℕ → N
       → CarriesNext t r (cell_ports mid) new.ports new.seat
       → Charges t old (ns ++ charged_by r) new
 
--- actions were carried out, and each node that was charged was put into the queue, in order
-pub record Queues {P : Type 0} (t : Identity) (old new : NodeCell P) (before after : QueuePass)
-    : Type 0 where
+-- actions were carried out, and each node that was charged was put into the queue or stays with the
+-- worker, in order
+pub record Queues {P : Type 0} (t : Identity) (q : TaskQueue) (old new : NodeCell P)
+    (before after : WorkerTasks) : Type 0 where
   pub charged : List ℕ
   pub charges : Charges t old charged new
-  pub put : put_by after ≡ put_by before ++ charged
+  pub offered : AreOffered q before charged after
 
 -- the cell may go home
 pub record AtHome {P : Type 0} (seen : P → BoxPicture) (t : Identity) (c : NodeCell P)
@@ -132,6 +135,14 @@ pub record IsAtWork {P : Type 0} (seen : P → BoxPicture) (t : Identity) (call 
   pub quiet : c.ports.view.actions ≡ []
   pub at_work : c.mark.state ≡ node.AtWork call
 
+-- The processor answered a fault, which its box keeps. The node is still in its turn, and so held:
+-- something stays pending.
+pub record EndsInFault {P : Type 0} (seen : P → BoxPicture) (t : Identity) (f : WorkFault)
+    (c : NodeCell P) : Type 0 where
+  pub keeps : KeepsFault f (seen c.processor)
+  pub seat : IsSeatOf t c.seat
+  pub turn : InTurn (view c.seat)
+
 -- a call of `schedule` that answers no fault
 pub record Wakes (a : Wake) (p q : BoxPicture) : Type 0 where
   pub acts : Acts p q
@@ -148,14 +159,43 @@ abbrev pub call_after : Wake → DueCall
 call_after wake.Ready = call.Work
 call_after wake.Later = call.Schedule
 
--- what a node's run on a worker came to: its cell may go home, or its processor asks that the graph
--- grows
+-- a turn of a node on a worker: it was prepared, what it did was carried out and the nodes that were
+-- charged were queued, and what its answer asks for followed
+pub record Turn {P : Type 0} (seen : P → BoxPicture) (t : Identity) (q : TaskQueue)
+    (old new : NodeCell P) (before after : WorkerTasks) : Type 0 where
+  pub status : Status
+  pub prepared : NodeCell P
+  pub carried : NodeCell P
+  pub stays : Stays seen old prepared
+  pub prepares : IsPrepared seen t prepared status
+  pub queues : Queues t q prepared carried before after
+  pub carries : IsCarried seen t carried status
+  pub follows : Stays seen carried new
+
+-- one turn after another
+pub data Runs {P : Type 0} (seen : P → BoxPicture) (t : Identity) (q : TaskQueue) (old : NodeCell P)
+    (before : WorkerTasks) : NodeCell P → WorkerTasks → Type 0 where
+  runs_none : Runs seen t q old before old before
+  runs_more : {mid new : NodeCell P} {between after : WorkerTasks}
+      → Runs seen t q old before mid between → Turn seen t q mid new between after
+      → Runs seen t q old before new after
+
+-- what a node's run on a worker came to: its cell may go home
 abbrev pub RunEndHolds : {P : Type 0} → (P → BoxPicture) → Identity → RunEnd → NodeCell P → Type 0
 RunEndHolds seen t run.Rests c = AtHome seen t c
-RunEndHolds seen t run.Waits c = AtHome seen t c
-RunEndHolds seen t run.Grows c = IsAtWork seen t call.Expand c
+    × ((c.mark.state ≡ node.Resting) ⊎ (c.mark.state ≡ node.Over))
+RunEndHolds seen t run.Waits c = AtHome seen t c × IsAtWork seen t call.Schedule c
+RunEndHolds seen t run.Grows c = AtHome seen t c × IsAtWork seen t call.Expand c
 
 -- the turn goes on, or ends so
 abbrev pub GoesOn : {P : Type 0} → (P → BoxPicture) → Identity → Option RunEnd → NodeCell P → Type 0
 GoesOn seen t None c = IsDue seen t c
 GoesOn seen t (Some e) c = RunEndHolds seen t e c
+
+-- a call of the processor, after which the node was due and ran on or its run was over
+pub record Resumes {P : Type 0} (seen : P → BoxPicture) (t : Identity) (q : TaskQueue)
+    (old new : NodeCell P) (before after : WorkerTasks) : Type 0 where
+  pub called : NodeCell P
+  pub stays : Stays seen old called
+  pub runs : Runs seen t q called before new after
+  pub due : IsDue seen t called ⊎ (new ≡ called)

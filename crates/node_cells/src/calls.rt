@@ -4,7 +4,7 @@ ghost use Rattle.exec_laws.specs.Names.{Acts, KeepsFault, StaysBox};
 ghost use Rattle.exec_table.specs.Seats.{identity_of};
 ghost use Rattle.exec_laws.specs.declared.edges.DueCall.TheVariants.{Work, Schedule};
 ghost use Rattle.proc_api.specs.Names.{IsRunning, MaySchedule, MayWork};
-ghost use Rattle.node_cells.specs.Turns.{IsAtWork, IsDue, Stays, Wakes, WakesTo, call_after};
+ghost use Rattle.node_cells.specs.Turns.{EndsInFault, IsAtWork, IsDue, Stays, Wakes, WakesTo, call_after};
 
 use crate::cell::NodeCell;
 use exec_laws::{DueCall, NodeState};
@@ -40,7 +40,7 @@ pub fn work<P: Processor>(_table: &ExecTable, cell: &mut NodeCell<P>) -> Result<
     requires { IsAtWork P.seen (identity_of _table.now) Work cell.old }
     ensures stays { Stays P.seen cell.old cell.new }
     ensures ok { OnOk result (IsDue P.seen (identity_of _table.now) cell.new) }
-    ensures fault { IfErr result (λ f. KeepsFault f (P.seen cell.new.processor)) }
+    ensures fault { IfErr result (λ f. EndsInFault P.seen (identity_of _table.now) f cell.new) }
 {
     match work_box(&mut cell.processor) {
         Ok(()) => {
@@ -65,7 +65,7 @@ pub fn schedule<P: Processor>(_table: &ExecTable, cell: &mut NodeCell<P>) -> Res
     requires { IsAtWork P.seen (identity_of _table.now) Schedule cell.old }
     ensures stays { Stays P.seen cell.old cell.new }
     ensures ok { IfOk result (λ wake. WakesTo P.seen (identity_of _table.now) wake cell.new) }
-    ensures fault { IfErr result (λ f. KeepsFault f (P.seen cell.new.processor)) }
+    ensures fault { IfErr result (λ f. EndsInFault P.seen (identity_of _table.now) f cell.new) }
 {
     match schedule_box(&mut cell.processor) {
         Ok(wake) => {

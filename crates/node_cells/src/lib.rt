@@ -26,7 +26,7 @@ mod settled_cells;
 
 pub use calls::{schedule, work};
 pub use cell::NodeCell;
-pub use node_run::{RunEnd, run_node};
+pub use node_run::{RunEnd, resume, run_node};
 pub use node_word::{begin, carry, leave, rest, wake};
 pub use preparation::prepare;
 pub use settled_cells::law_of_settled_cells;

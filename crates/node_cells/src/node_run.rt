@@ -1,9 +1,8 @@
 //! A worker runs a node: turn after turn, until its cell may go home.
-ghost use Rattle.std.specs.Prelude.{◌≡◌, ◌++◌, ◌∷◌, [], IfErr, IfOk};
-ghost use Rattle.exec_laws.specs.Names.{KeepsFault};
+ghost use Rattle.std.specs.Prelude.{IfErr, IfOk};
 ghost use Rattle.exec_table.specs.Seats.{identity_of};
-ghost use Rattle.task_queue.specs.Queues.{IsPassOf, put_by};
-ghost use Rattle.node_cells.specs.Turns.{GoesOn, IsAtWork, IsCarried, IsDue, IsPrepared, KeepsProcessor, Queues, RunEndHolds, Stays};
+ghost use Rattle.task_queue.specs.Queues.{IsPassOf};
+ghost use Rattle.node_cells.specs.Turns.{EndsInFault, GoesOn, IsAtWork, IsCarried, IsDue, IsPrepared, KeepsProcessor, Queues, Resumes, RunEndHolds, Runs, Stays};
 ghost use Rattle.exec_laws.specs.declared.edges.DueCall.TheVariants.{Schedule};
 
 use crate::calls::{schedule, work};
@@ -14,7 +13,7 @@ use exec_table::ExecTable;
 use node_ports::Carry;
 use proc_api::{Processor, Status, Wake, WorkFault};
 use std::sync::Wait;
-use task_queue::{QueuePass, TaskQueue};
+use task_queue::{TaskQueue, WorkerTasks};
 
 /// What the run of a node came to.
 #[derive(Clone, Copy, PartialEq, Eq, Drop)]
@@ -27,42 +26,28 @@ pub enum RunEnd {
     Grows,
 }
 
-/// Puts the number of a charged node into the queue, which has room for every node.
-fn put<R: Wait>(rt: &R, queue: &TaskQueue, pass: &mut QueuePass, n: u32)
-    requires { IsPassOf queue.now pass.old }
-    ensures pass { IsPassOf queue.now pass.new }
-    ensures put { put_by pass.new ≡ put_by pass.old ++ n ∷ [] }
-{
-    for _ in rt.forever() {
-        match queue.put(rt, pass, n) {
-            Ok(()) => return,
-            Err(_) => {}
-        }
-    }
-    unreachable!()
-}
-
-/// Carries out all that waits in the view, and queues each node that was charged.
+/// Carries out all that waits in the view, and offers each node that was charged to the queue.
 fn carry_all<P: Processor, R: Wait>(
     rt: &R,
     table: &ExecTable,
     queue: &TaskQueue,
-    pass: &mut QueuePass,
+    tasks: &mut WorkerTasks,
     cell: &mut NodeCell<P>,
     status: Status,
 )
-    requires pass { IsPassOf queue.now pass.old }
+    requires pass { IsPassOf queue.now tasks.old.pass }
     requires cell { IsPrepared P.seen (identity_of table.now) cell.old status }
     ensures keeps { KeepsProcessor cell.old cell.new }
-    ensures pass { IsPassOf queue.now pass.new }
+    ensures pass { IsPassOf queue.now tasks.new.pass }
     ensures cell { IsCarried P.seen (identity_of table.now) cell.new status }
-    ensures queued { Queues (identity_of table.now) cell.old cell.new pass.old pass.new }
+    ensures queued { Queues (identity_of table.now) queue.now cell.old cell.new
+        tasks.old tasks.new }
 {
     for _ in rt.forever() {
         match carry(table, cell, status) {
             Carry::Done => return,
             Carry::Told => {}
-            Carry::Charged(n) => put(rt, queue, pass, n),
+            Carry::Charged(n) => tasks.offer(rt, queue, n),
         }
     }
     unreachable!()
@@ -76,7 +61,7 @@ fn fetch<P: Processor>(
     requires { IsAtWork P.seen (identity_of table.now) Schedule cell.old }
     ensures stays { Stays P.seen cell.old cell.new }
     ensures ok { IfOk result (λ end. GoesOn P.seen (identity_of table.now) end cell.new) }
-    ensures fault { IfErr result (λ f. KeepsFault f (P.seen cell.new.processor)) }
+    ensures fault { IfErr result (λ f. EndsInFault P.seen (identity_of table.now) f cell.new) }
 {
     match schedule(table, cell) {
         Ok(Wake::Later) => Ok(Some(RunEnd::Waits)),
@@ -98,7 +83,7 @@ fn follow<P: Processor>(
     requires { IsCarried P.seen (identity_of table.now) cell.old status }
     ensures stays { Stays P.seen cell.old cell.new }
     ensures ok { IfOk result (λ end. GoesOn P.seen (identity_of table.now) end cell.new) }
-    ensures fault { IfErr result (λ f. KeepsFault f (P.seen cell.new.processor)) }
+    ensures fault { IfErr result (λ f. EndsInFault P.seen (identity_of table.now) f cell.new) }
 {
     match status {
         Status::NeedData | Status::PortFull => {
@@ -126,19 +111,21 @@ pub fn run_node<P: Processor, R: Wait>(
     rt: &R,
     table: &ExecTable,
     queue: &TaskQueue,
-    pass: &mut QueuePass,
+    tasks: &mut WorkerTasks,
     cell: &mut NodeCell<P>,
 ) -> Result<RunEnd, WorkFault>
-    requires pass { IsPassOf queue.now pass.old }
+    requires pass { IsPassOf queue.now tasks.old.pass }
     requires cell { IsDue P.seen (identity_of table.now) cell.old }
-    ensures pass { IsPassOf queue.now pass.new }
+    ensures pass { IsPassOf queue.now tasks.new.pass }
     ensures stays { Stays P.seen cell.old cell.new }
+    ensures runs { Runs P.seen (identity_of table.now) queue.now cell.old tasks.old
+        cell.new tasks.new }
     ensures ok { IfOk result (λ end. RunEndHolds P.seen (identity_of table.now) end cell.new) }
-    ensures fault { IfErr result (λ f. KeepsFault f (P.seen cell.new.processor)) }
+    ensures fault { IfErr result (λ f. EndsInFault P.seen (identity_of table.now) f cell.new) }
 {
     for _ in rt.forever() {
         let status = prepare(table, cell);
-        carry_all(rt, table, queue, pass, cell, status);
+        carry_all(rt, table, queue, tasks, cell, status);
         match follow(table, cell, status) {
             Ok(None) => {}
             Ok(Some(end)) => return Ok(end),
@@ -146,4 +133,28 @@ pub fn run_node<P: Processor, R: Wait>(
         }
     }
     unreachable!()
+}
+
+/// Goes on with a node between two steps of work with its device.
+pub fn resume<P: Processor, R: Wait>(
+    rt: &R,
+    table: &ExecTable,
+    queue: &TaskQueue,
+    tasks: &mut WorkerTasks,
+    cell: &mut NodeCell<P>,
+) -> Result<RunEnd, WorkFault>
+    requires pass { IsPassOf queue.now tasks.old.pass }
+    requires cell { IsAtWork P.seen (identity_of table.now) Schedule cell.old }
+    ensures pass { IsPassOf queue.now tasks.new.pass }
+    ensures stays { Stays P.seen cell.old cell.new }
+    ensures runs { Resumes P.seen (identity_of table.now) queue.now cell.old cell.new
+        tasks.old tasks.new }
+    ensures ok { IfOk result (λ end. RunEndHolds P.seen (identity_of table.now) end cell.new) }
+    ensures fault { IfErr result (λ f. EndsInFault P.seen (identity_of table.now) f cell.new) }
+{
+    match fetch(table, cell) {
+        Ok(None) => run_node(rt, table, queue, tasks, cell),
+        Ok(Some(end)) => Ok(end),
+        Err(fault) => Err(fault),
+    }
 }

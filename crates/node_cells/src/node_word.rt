@@ -34,6 +34,7 @@ pub fn rest<P: Processor>(table: &ExecTable, cell: &mut NodeCell<P>, status: Sta
     requires carried { IsCarried P.seen (identity_of table.now) cell.old status }
     requires rests { cell.old.mark.state ≡ Resting }
     ensures rests { RestsOrGoes P.seen (identity_of table.now) result cell.new }
+    ensures mark { result ≡ true → cell.new.mark.state ≡ Resting }
     ensures keeps { KeepsProcessor cell.old cell.new }
 {
     match table.rest(&mut cell.seat) {
@@ -54,6 +55,7 @@ pub fn leave<P: Processor>(table: &ExecTable, cell: &mut NodeCell<P>, status: St
     requires carried { IsCarried P.seen (identity_of table.now) cell.old status }
     requires over { cell.old.mark.state ≡ Over }
     ensures home { AtHome P.seen (identity_of table.now) cell.new }
+    ensures mark { cell.new.mark.state ≡ Over }
     ensures keeps { KeepsProcessor cell.old cell.new }
 {
     table.over(&mut cell.seat);

@@ -1,9 +1,28 @@
 -- The numbers that a worker keeps.
-use Rattle.std.proofs.Common.{false, refl, suc, zero, ℕ, ◌≡◌, slice_index_or}
+use Rattle.std.proofs.Common.{List, [], append-nil, append_assoc, false, refl, slice_index_or, subst, suc, sym, zero, ℕ, ◌++◌, ◌∷◌, ◌≡◌}
 use Rattle.std.proofs.Math.ListN.{replicate}
+use Rattle.task_queue.specs.Tasks.{AreOffered, Offers, offered_more, offered_none}
+use Rattle.task_queue.specs.declared.queue.TaskQueue.{TaskQueue}
+use Rattle.task_queue.specs.declared.tasks.WorkerTasks.{WorkerTasks}
 
 -- of new places none is set
 pub none-set : (k n : ℕ) → slice_index_or (replicate k false) n false ≡ false
 none-set zero n = refl
 none-set (suc k) zero = refl
 none-set (suc k) (suc n) = none-set k n
+
+-- numbers that were offered after others
+pub offered-after : {q : TaskQueue} {a b : WorkerTasks} {ns : List ℕ} → AreOffered q a ns b
+    → {ms : List ℕ} {c : WorkerTasks} → AreOffered q b ms c → AreOffered q a (ns ++ ms) c
+offered-after {q} {a} {b} {ns} h offered_none = subst (λ l. AreOffered q a l b)
+    (sym (append-nil ns)) h
+offered-after {q} {a} {b} {ns} h (offered_more {ns = ms} {n} {mid} {new} k o) =
+    subst (λ l. AreOffered q a l new) (append_assoc ns ms (n ∷ []))
+    (offered_more (offered-after h k) o)
+
+pub offers-none : (q : TaskQueue) (a : WorkerTasks) → Offers q a a
+offers-none q a = ([], offered_none)
+
+pub offers-both : (q : TaskQueue) (a b c : WorkerTasks) → Offers q a b → Offers q b c
+    → Offers q a c
+offers-both q a b c h k = (h.0 ++ k.0, offered-after h.1 k.1)

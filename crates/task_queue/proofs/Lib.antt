@@ -4,4 +4,4 @@ pub mod QueueRule
 pub mod ShelfRule
 pub mod SlotValues
 pub mod Seats
-mod KeptNumbers
+pub mod KeptNumbers

@@ -45,6 +45,10 @@ pub data AreOffered (q : TaskQueue) (old : WorkerTasks) : List ℕ → WorkerTas
   offered_more : {ns : List ℕ} {n : ℕ} {mid new : WorkerTasks} → AreOffered q old ns mid
       → IsOffered q n mid new → AreOffered q old (ns ++ n ∷ []) new
 
+-- numbers were offered, and that is all
+abbrev pub Offers : TaskQueue → WorkerTasks → WorkerTasks → Type 0
+Offers q old new = (ns : List ℕ) × AreOffered q old ns new
+
 -- n was taken out of the queue, where nothing was kept
 pub record IsTaken (n : ℕ) (old new : WorkerTasks) : Type 0 where
   pub bare : KeepsNone old

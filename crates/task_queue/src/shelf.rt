@@ -1,5 +1,6 @@
 //! The shelf and its calls.
-ghost use Rattle.std.specs.Prelude.{◌≡◌, ℕ, ◌<◌, ◌+◌, ◌^◌, ◌∷◌, [], length, IfOk, IfErr, IfSome, IfNone, OnErr};
+ghost use Rattle.std.specs.Prelude.{◌≡◌, ℕ, ◌<◌, ◌≤◌, ◌+◌, ◌^◌, ◌∷◌, [], length, IfOk, IfErr, IfSome, IfNone, OnErr};
+ghost use Rattle.std.specs.VecDeque.{deque_capacity};
 ghost use Rattle.task_queue.specs.Rules.{all_parts};
 ghost use Rattle.task_queue.specs.Values.{AllFit};
 
@@ -31,7 +32,7 @@ pub struct Shelf<V: Placed + Send> {
 }
 
 impl<V: Placed + Send> Shelf<V> {
-    ghost use Rattle.task_queue.specs.Shelves.{held, parts, places, Holds, Lacks, LetsGo, IsSeatOf, IsIdleSeatOf, IsSameSeat, AreAllIdle};
+    ghost use Rattle.task_queue.specs.Shelves.{held, held as held_by, parts, places, Holds, Lacks, LetsGo, IsSeatOf, IsIdleSeatOf, IsSameSeat, AreAllIdle};
 
     /// Puts each value into its place. For want of memory they come back, in order.
     pub fn make(mut values: Vec<V>) -> Result<(Shelf<V>, ShelfSeat<V>), Vec<V>>
@@ -83,8 +84,22 @@ impl<V: Placed + Send> Shelf<V> {
         ensures err { OnErr result (parts from.new ≡ parts from.old) }
     {
         let held = VecDeque::with_capacity(self.alloc, self.table.slot_count())?;
+        Ok(self.seat_with_room(from, held))
+    }
+
+    /// The same, in room that was taken before.
+    pub fn seat_with_room(&self, from: &mut ShelfSeat<V>, held: VecDeque<u32>) -> ShelfSeat<V>
+        requires seat { IsSeatOf self.now from.old }
+        requires spare { 1 < parts from.old }
+        requires bare { held.items ≡ [] }
+        requires room { places self.now ≤ deque_capacity held }
+        ensures table { from.new.seat.table_id ≡ from.old.seat.table_id }
+        ensures held { held_by from.new ≡ held_by from.old }
+        ensures new { IsIdleSeatOf self.now result × (parts result ≡ 1) }
+        ensures shared { parts from.new + parts result ≡ parts from.old }
+    {
         let seat = self.table.shared.split_seat::<Share>(&mut from.seat);
-        Ok(ShelfSeat { seat, held })
+        ShelfSeat { seat, held }
     }
 
     // The value of place n, if it is at home.

@@ -1,6 +1,6 @@
 use Rattle.task_queue.proofs.Imports.{arith}
 use Rattle.task_queue.proofs.ShelfRule.{share-allowed}
-use Rattle.task_queue.proofs.shelf.Shelf.seat.Goals as goal
+use Rattle.task_queue.proofs.shelf.Shelf.seat_with_room.Goals as goal
 
 pub split_seat-seat-requires : goal.split_seat-seat-requires
 split_seat-seat-requires g c =
