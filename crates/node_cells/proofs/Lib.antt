@@ -8,3 +8,6 @@ pub mod BeginLaws
 pub mod WorkLaws
 pub mod ChargeLaws
 pub mod QueueLaws
+mod SizeLaws
+mod NewPorts
+mod NewCells

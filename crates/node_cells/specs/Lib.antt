@@ -3,3 +3,4 @@ pub mod Cells
 pub mod Turns
 pub mod Ends
 pub mod Stored
+pub mod NewCells

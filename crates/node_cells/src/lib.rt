@@ -12,6 +12,7 @@
 //! - `node_word.rt`: a node begins, carries out, rests, leaves: its steps at its own word
 //! - `calls.rt`: the calls of a processor that touch no port
 //! - `node_run.rt`: a node's run on a worker, turn after turn
+//! - `new_cells.rt`: the cells of a new table
 //! - `settled_cells.rt`: what follows of all cells where nothing is pending
 //! - `specs/Cells.antt`: the law of a cell; `specs/Turns.antt`: where a cell is in its turn, and
 //!   what stays of it; `specs/Ends.antt`: all cells at home, and the ends that follow
@@ -19,6 +20,7 @@
 
 mod calls;
 mod cell;
+mod new_cells;
 mod node_run;
 mod node_word;
 mod preparation;
@@ -26,6 +28,7 @@ mod settled_cells;
 
 pub use calls::{schedule, work};
 pub use cell::NodeCell;
+pub use new_cells::{Cells, make_cells};
 pub use node_run::{RunEnd, resume, run_node};
 pub use node_word::{begin, carry, leave, rest, wake};
 pub use preparation::prepare;

@@ -1,0 +1,266 @@
+-- The cells of a new table: one of a fresh processor may begin, and one of a blank one is kept.
+use Rattle.node_cells.proofs.Imports.{BoxHolds, BoxPicture, Identity, Input, IsPort, List, Lists, MarkHolds, NodeCell, NodeHolds, NodeView, Output, Picture, Port, SeatState, Wire, [], ap, arith, cases_Bool, cell_ports, cond, eq-eqb, false, identity_of, inl, inr, input_count, is_over_stage, is_unborn_stage, length, length-map, output_count, refl, subst, sym, true, view, wire_at, ℕ, ◌++◌, ◌<◌, ◌∙◌, ◌≡◌, ◌⊎◌}
+use Rattle.core_laws.specs.Start.{start_node}
+use Rattle.core_laws.specs.declared.types.Sizes.{Sizes}
+use Rattle.exec_laws.proofs.Starting.{new-node}
+use Rattle.exec_laws.specs.Names.{AreEdgesOf, new_mark}
+use Rattle.exec_laws.specs.Prelude.{IsBlank, IsFresh, Reserve, new_picture, no_box, no_lists}
+use Rattle.exec_laws.specs.declared.edges.NodeMark.{NodeMark}
+use Rattle.exec_laws.specs.declared.edges.NodeState.TheVariants as node
+use Rattle.exec_table.specs.Made.{IsMade, IsOpen}
+use Rattle.exec_table.specs.Rule.{start_stage}
+use Rattle.exec_table.specs.Seats.{IsRootOf, key_of}
+use Rattle.exec_table.specs.declared.make.Made.{Made}
+use Rattle.exec_table.specs.declared.rule.ExecTable.{ExecTable}
+use Rattle.exec_table.specs.declared.rule.RootSeat.{RootSeat}
+use Rattle.exec_table.specs.declared.types.Stage.TheVariants.{Begun, Born, Unborn}
+use Rattle.node_cells.proofs.NewPorts.{new-edges, new-ports, new_ports_picture, nothing-pulled, nothing-pushed, state-start}
+use Rattle.node_cells.specs.NewCells.{AreNewCells, AreNewNodes, AreNewPorts, Fills, HasPorts, HasWire, IsGraphOf, IsNewCell, IsNewNode, ends_at, first_mark, node_of_cell, sizes_of}
+use Rattle.node_cells.specs.Stored.{IsKept, StoredAs}
+use Rattle.node_cells.specs.Turns.{MayBegin}
+use Rattle.node_cells.specs.declared.new_cells.Cells.{Cells}
+use Rattle.node_cells.specs.declared.new_cells.NewNode.{NewNode}
+use Rattle.proc_api.proofs.Follows.{follows-new}
+use Rattle.proc_api.proofs.Graphs.{few-inputs, few-outputs, input-of-count, output-of-count}
+use Rattle.proc_api.specs.Reserves.{AreStarting, StartsAs, is_reserved}
+use Rattle.std.proofs.Common.{map, suc, zero, ◌∷◌}
+use Rattle.std.proofs.Math.ListN.{get_elem?, get_or}
+use Rattle.std.proofs.lemmas.Bool.{and_from, both_ways}
+use Rattle.std.proofs.lemmas.List.FromFn.{get_or-map-range_with_len}
+use mathlib.Core.Option.{some, some-injective, some-ne-none}
+
+module _ {P : Type 0} (seen : P → BoxPicture) (t : Identity)
+    (g : IsGraphOf t.sizes.nodes t.sizes.wires t.sizes.reserves) (n : ℕ) (inside : n < t.sizes.nodes)
+    (x : NodeCell P) (seat : IsOpen t n x.seat) (new : AreNewPorts t.sizes.wires n x.ports) where
+  abbrev box : BoxPicture
+  box = seen x.processor
+
+  abbrev many_in : ℕ
+  many_in = input_count t.sizes.wires n
+
+  abbrev many_out : ℕ
+  many_out = output_count t.sizes.wires n
+
+  first-ports : cell_ports x ≡ new_ports_picture t.sizes n inside g x.ports.inputs.items
+      x.ports.outputs.items x.ports.sources.items x.ports.targets.items new.inputs new.outputs
+  first-ports = λ j. record {
+    node = seat.1 j;
+    slots = seat.2 j;
+    view = new.view j;
+    inputs = x.ports.inputs.items;
+    outputs = x.ports.outputs.items;
+    sources = x.ports.sources.items;
+    targets = x.ports.targets.items;
+    needed = new.needed j;
+  }
+
+  new-numbers : AreEdgesOf t.sizes.wires n x.ports.inputs.items x.ports.outputs.items
+  new-numbers = new-edges t.sizes n inside g _ _ _ _ new.inputs new.outputs
+
+  -- a fresh box keeps its contract where nothing passed
+  fresh-box : IsFresh box → BoxHolds many_in many_out box no_lists no_lists
+  fresh-box fresh = (new-node t.sizes.wires n (record {
+    box = box;
+    view = new_picture many_in many_out;
+    mark = new_mark many_out;
+    inputs = x.ports.inputs.items;
+    outputs = x.ports.outputs.items;
+  }) fresh (record { view = refl; mark = refl; numbers = new-numbers })).box
+
+  fresh-node : IsFresh box → (m : NodeMark) → m.state ≡ node.Due → NodeHolds box m (cell_ports x)
+  fresh-node fresh m due = subst (NodeHolds box m) (sym first-ports) record {
+    ports = new-ports t.sizes n inside g _ _ _ _ new.inputs new.outputs;
+    box = subst (λ (z : ℕ × (ℕ × (Lists × Lists))). BoxHolds z.0 z.1.0 box z.1.1.0 z.1.1.1) (λ j. (
+      sym new.inputs.edges_len j,
+      (
+        sym new.outputs.edges_len j,
+        (
+          sym (nothing-pulled t.sizes n inside g _ _ _ _ new.inputs new.outputs) j,
+          sym (nothing-pushed t.sizes n inside g _ _ _ _ new.inputs new.outputs) j,
+        ),
+      ),
+    )) (fresh-box fresh);
+    kept = λ _. follows-new box many_in many_out fresh.notes;
+    mark = subst (λ k. MarkHolds k m.last (length x.ports.inputs.items)
+        (length x.ports.outputs.items) box (new_picture many_in many_out)) (sym due) tt;
+  }
+
+  state-is : (view x.seat).state ≡ record (start_node t.sizes n) { word = 0 }
+  state-is = ap (λ (v : NodeView). v.state) seat.1 ∙ state-start t.sizes n inside
+
+  stage-is : (view x.seat).stage ≡ start_stage t.sizes n
+  stage-is = ap (λ (v : NodeView). v.stage) seat.1
+      ∙ get_or-map-range_with_len (start_stage t.sizes) 0 t.sizes.nodes n n Begun inside
+      (omega arith)
+
+  new-begins : IsFresh box → is_reserved t.sizes.reserves n ≡ false → x.mark ≡ first_mark false
+      → MayBegin seen t x
+  new-begins fresh free mark =
+      let due : x.mark.state ≡ node.Due = ap (λ (m : NodeMark). m.state) mark in
+      let stage : (view x.seat).stage ≡ Born = stage-is ∙ ap (λ b. cond b Unborn Born) free in
+      record {
+        cell = record { seat = seat.0; node = fresh-node fresh x.mark due };
+        quiet = ap (λ (v : Picture). v.actions) new.view;
+        tokens = ap (λ (z : SeatState). z.tokens) state-is;
+        owes = ap (λ (z : SeatState). z.owes) state-is;
+        free = ap (λ (z : SeatState). z.held) state-is;
+        born = ap is_unborn_stage stage;
+        going = ap is_over_stage stage;
+        mark = λ over. let z : node.Due ≡ node.Over = sym due ∙ over in cc;
+      }
+
+  new-kept : IsBlank box → is_reserved t.sizes.reserves n ≡ true → IsKept seen t x
+  new-kept blank held = record {
+    seat = seat.0;
+    blank = blank;
+    quiet = ap (λ (v : Picture). v.actions) new.view;
+    unborn = ap is_unborn_stage (stage-is ∙ ap (λ b. cond b Unborn Born) held);
+    tokens = ap (λ (z : SeatState). z.tokens) state-is;
+    owes = ap (λ (z : SeatState). z.owes) state-is;
+    free = ap (λ (z : SeatState). z.held) state-is;
+  }
+
+  pub new-cell : StartsAs (is_reserved t.sizes.reserves n) box
+      → x.mark ≡ first_mark (is_reserved t.sizes.reserves n) → IsNewCell seen t n x
+  new-cell starts mark = record {
+    stored = elim (cases_Bool (is_reserved t.sizes.reserves n)) [
+      | inl held ↦ subst (λ k. StoredAs seen t k x)
+          (sym (ap (λ (m : NodeMark). m.state) (mark ∙ ap first_mark held)))
+          (new-kept (subst (λ b. StartsAs b box) held starts) held)
+      | inr free ↦ subst (λ k. StoredAs seen t k x)
+          (sym (ap (λ (m : NodeMark). m.state) (mark ∙ ap first_mark free)))
+          (new-begins (subst (λ b. StartsAs b box) free starts) free (mark ∙ ap first_mark free))
+    ];
+    number = ap (λ (v : NodeView). v.number) seat.1;
+    mark = mark;
+    edges = new-numbers;
+  }
+
+-- ---- the cells of a table
+
+elem-map : {A B : Type 0} (f : A → B) (xs : List A) (k : ℕ) (x : A) → get_elem? xs k ≡ some x
+    → get_elem? (map f xs) k ≡ some (f x)
+elem-map f [] k x h = absurd (some-ne-none x (sym h))
+elem-map f (y ∷ ys) zero x h = ap (λ z. some (f z)) (some-injective y x h)
+elem-map f (y ∷ ys) (suc k) x h = elem-map f ys k x h
+
+elem-below : {A : Type 0} (xs : List A) (k : ℕ) (x : A) → get_elem? xs k ≡ some x → k < length xs
+elem-below [] k x h = absurd (some-ne-none x (sym h))
+elem-below (y ∷ ys) zero x h = omega arith
+elem-below (y ∷ ys) (suc k) x h = let lt = elem-below ys k x h in omega (arith, lt)
+
+elem-or : {A : Type 0} (xs : List A) (k : ℕ) (x d : A) → get_elem? xs k ≡ some x → get_or xs k d ≡ x
+elem-or [] k x d h = absurd (some-ne-none x (sym h))
+elem-or (y ∷ ys) zero x d h = some-injective y x h
+elem-or (y ∷ ys) (suc k) x d h = elem-or ys k x d h
+
+pub cells-made : {P : Type 0} (seen : P → BoxPicture) (boxes : List P) (wires : List Wire)
+    (reserves : List Reserve) (workers : ℕ) (nodes : List NewNode) (m : Made) (c : Cells P)
+    → IsGraphOf (length boxes) wires reserves → AreStarting reserves (map seen boxes)
+    → AreNewNodes wires reserves nodes
+    → IsMade (sizes_of (length boxes) wires reserves workers) m → c.table ≡ m.table
+    → c.root ≡ m.root → Fills c.cells.items boxes nodes m.nodes.items
+    → AreNewCells seen (sizes_of (length boxes) wires reserves workers) boxes c
+cells-made {P} seen boxes wires reserves workers nodes m c g starting new made table root fills =
+    record {
+      key = ap key_of table ∙ made.key;
+      root = subst (λ (z : ExecTable × RootSeat). IsRootOf (identity_of z.0) z.1)
+          (λ j. (sym table j, sym root j)) made.root;
+      none_made = ap (λ (z : RootSeat). z.seat.me.0.made) root ∙ made.none_made;
+      processors = fills.processors;
+      each = λ k x is. new-cell seen t (subst (λ (s : Sizes). IsGraphOf s.nodes s.wires s.reserves)
+          (sym sizes) g) k (inside k x is) x (seat k x is) (ports k x is) (box k x is) (mark k x is);
+    }
+  where
+    t : Identity
+    t = identity_of c.table
+
+    sizes : t.sizes ≡ sizes_of (length boxes) wires reserves workers
+    sizes = ap key_of table ∙ made.key
+
+    node-at : (k : ℕ) (x : NodeCell P) → get_elem? c.cells.items k ≡ some x
+        → IsNewNode wires reserves k (node_of_cell x)
+    node-at k x is = new k (node_of_cell x) (subst (λ l. get_elem? l k ≡ some (node_of_cell x))
+        fills.nodes_are (elem-map node_of_cell c.cells.items k x is))
+
+    box-at : (k : ℕ) (x : NodeCell P) → get_elem? c.cells.items k ≡ some x
+        → get_elem? boxes k ≡ some x.processor
+    box-at k x is = subst (λ l. get_elem? l k ≡ some x.processor) fills.processors
+        (elem-map (λ (z : NodeCell P). z.processor) c.cells.items k x is)
+
+    below : (k : ℕ) (x : NodeCell P) → get_elem? c.cells.items k ≡ some x → k < length boxes
+    below k x is = elem-below boxes k x.processor (box-at k x is)
+
+    inside : (k : ℕ) (x : NodeCell P) → get_elem? c.cells.items k ≡ some x → k < t.sizes.nodes
+    inside k x is = subst (λ (s : Sizes). k < s.nodes) (sym sizes) (below k x is)
+
+    seat : (k : ℕ) (x : NodeCell P) → get_elem? c.cells.items k ≡ some x → IsOpen t k x.seat
+    seat k x is = subst (λ (z : ExecTable). IsOpen (identity_of z) k x.seat) (sym table)
+        (made.nodes.1 k x.seat (subst (λ l. get_elem? l k ≡ some x.seat) fills.seats_are
+        (elem-map (λ (z : NodeCell P). z.seat) c.cells.items k x is)))
+
+    ports : (k : ℕ) (x : NodeCell P) → get_elem? c.cells.items k ≡ some x
+        → AreNewPorts t.sizes.wires k x.ports
+    ports k x is =
+        subst (λ (s : Sizes). AreNewPorts s.wires k x.ports) (sym sizes) (node-at k x is).ports
+
+    box : (k : ℕ) (x : NodeCell P) → get_elem? c.cells.items k ≡ some x
+        → StartsAs (is_reserved t.sizes.reserves k) (seen x.processor)
+    box k x is = subst (λ (z : Sizes × BoxPicture). StartsAs (is_reserved z.0.reserves k) z.1)
+        (λ j. (
+          sym sizes j,
+          elem-or (map seen boxes) k (seen x.processor) no_box
+              (elem-map seen boxes k x.processor (box-at k x is)) j,
+        ))
+        (starting k (let l = length-map boxes seen in
+        let lt = below k x is in omega (arith, l, lt)))
+
+    mark : (k : ℕ) (x : NodeCell P) → get_elem? c.cells.items k ≡ some x
+        → x.mark ≡ first_mark (is_reserved t.sizes.reserves k)
+    mark k x is = (node-at k x is).mark
+        ∙ ap (λ (s : Sizes). first_mark (is_reserved s.reserves k)) (sym sizes)
+
+-- ---- the loops
+
+last-or : {A : Type 0} (l : List A) (a b : A) (k : ℕ) → get_elem? (l ++ a ∷ []) k ≡ some b
+    → (get_elem? l k ≡ some b) ⊎ ((k ≡ length l) × (a ≡ b))
+last-or [] a b zero h = inr (refl, some-injective a b h)
+last-or [] a b (suc k) h = absurd (some-ne-none b (sym h))
+last-or (y ∷ ys) a b zero h = inl h
+last-or (y ∷ ys) a b (suc k) h = elim (last-or ys a b k h) [
+  | inl is ↦ inl is
+  | inr at ↦ inr (ap suc at.0, at.1)
+]
+
+-- one more node
+pub more-nodes : (wires : List Wire) (rs : List Reserve) (all : List NewNode) (x : NewNode)
+    → AreNewNodes wires rs all → IsNewNode wires rs (length all) x
+    → AreNewNodes wires rs (all ++ x ∷ [])
+more-nodes wires rs all x h here k y is = elim (last-or all x y k is) [
+  | inl was ↦ h k y was
+  | inr at ↦ subst (λ (z : ℕ × NewNode). IsNewNode wires rs z.0 z.1) (λ j. (sym at.0 j, at.1 j)) here
+]
+
+-- a port that has an edge is found
+pub edge-found : (wires : List Wire) (n : ℕ) (p : Port) → HasWire wires n p
+    → ((e : ℕ) → e < length wires → ends_at (wire_at wires e) n p ≡ false) → ⊥
+edge-found wires n (Input i) h none = both_ways _ (none h.0 h.1.in_range)
+    (and_from _ _ (eq-eqb _ _ h.1.at_port.0) (eq-eqb _ _ h.1.at_port.1))
+edge-found wires n (Output o) h none = both_ways _ (none h.0 h.1.in_range)
+    (and_from _ _ (eq-eqb _ _ h.1.at_port.0) (eq-eqb _ _ h.1.at_port.1))
+
+-- the ports of a graph's nodes
+pub graph-ports : (nodes : ℕ) (wires : List Wire) (rs : List Reserve) → IsGraphOf nodes wires rs
+    → (n : ℕ) → HasPorts wires n
+graph-ports nodes wires rs g n = record {
+  few_edges = let few = g.graph.so_far.few_edges in omega (arith, few);
+  few_inputs = few-inputs g.ranks wires rs g.graph.so_far n;
+  few_outputs = few-outputs g.ranks wires rs g.graph.so_far n;
+  each = each;
+}
+  where
+    each : (p : Port) → IsPort (input_count wires n) (output_count wires n) p → HasWire wires n p
+    each (Input i) lt = let w = input-of-count g.ranks wires rs g.graph n i lt in
+        (w.edge, record { in_range = w.in_range; at_port = (w.to, w.input_is) })
+    each (Output o) lt = let w = output-of-count g.ranks wires rs g.graph n o lt in
+        (w.edge, record { in_range = w.in_range; at_port = (w.from, w.out_is) })

@@ -1,0 +1,118 @@
+-- Cells made of the seats of a new table.
+use Rattle.std.specs.Prelude.{Bool, List, None, false, length, map, replicate, true, ℕ, ◌&&◌, ◌+◌, ◌<◌, ◌==◌, ◌≡◌, ◌≤◌}
+use mathlib.Core.Option.{some}
+use lib.ListN.{get_elem?}
+use Rattle.core_laws.specs.declared.types.Sizes.{Sizes}
+use Rattle.exec_table.specs.Seats.{IsRootOf, identity_of, key_of}
+use Rattle.exec_laws.specs.Names.{AreEdgesOf, HasEdge, IsPort, number_at, peer}
+use Rattle.exec_laws.specs.Prelude.{Reserve, input_count, new_picture, output_count}
+use Rattle.exec_laws.specs.declared.edges.NodeState.TheVariants as node
+use Rattle.port_word.specs.declared.flags.Port.TheVariants.{Input, Output}
+use Rattle.proc_api.specs.Graphs.{IsGraph}
+use Rattle.proc_api.specs.Reserves.{AreReserves, is_reserved}
+use Rattle.node_ports.specs.declared.ports.NodePorts.{NodePorts}
+use Rattle.node_cells.specs.Prelude.{BoxPicture, Identity, NodeCell, NodeMark, NodeSeat, Port, Wire, view}
+use Rattle.node_cells.specs.Stored.{IsStored}
+use Rattle.node_cells.specs.declared.new_cells.Cells.{Cells}
+use Rattle.node_cells.specs.declared.new_cells.NewNode.{NewNode}
+unfoldable use Rattle.proc_api.specs.Names.{wire_at}
+
+-- the wires and the reserves are those of a graph of so many nodes
+pub record IsGraphOf (nodes : ℕ) (wires : List Wire) (reserves : List Reserve) : Type 0 where
+  pub ranks : List ℕ
+  pub graph : IsGraph ranks wires reserves
+  pub nodes_are : nodes ≡ length ranks
+  pub reserves_are : AreReserves nodes (length wires) wires reserves
+
+-- the sizes of the table for it, which has besides the workers the caller, who ends the run
+abbrev pub sizes_of : ℕ → List Wire → List Reserve → ℕ → Sizes
+sizes_of nodes wires reserves workers = record {
+  nodes = nodes;
+  wires = wires;
+  reserves = reserves;
+  workers = workers + 1;
+}
+
+-- ---- the ports of a node
+
+-- the port of this number at the consumer's side of a node, or at the producer's
+abbrev pub port_of_side : Bool → ℕ → Port
+port_of_side true k = Input k
+port_of_side false k = Output k
+
+-- an edge ends at the port
+abbrev pub HasWire : List Wire → ℕ → Port → Type 0
+HasWire wires n p = (e : ℕ) × HasEdge wires n p e
+
+-- whether the wire ends at the port
+abbrev pub ends_at : Wire → ℕ → Port → Bool
+ends_at w n (Input i) = (w.to == n) && (w.input == i)
+ends_at w n (Output o) = (w.from == n) && (w.out == o)
+
+-- each port of the node has an edge, and they are within the limits
+pub record HasPorts (wires : List Wire) (n : ℕ) : Type 0 where
+  pub few_edges : length wires ≤ 1024
+  pub few_inputs : input_count wires n ≤ 32
+  pub few_outputs : output_count wires n ≤ 16
+  pub each : (p : Port) → IsPort (input_count wires n) (output_count wires n) p → HasWire wires n p
+
+-- the edges at the first k ports of a side, and the nodes at their other ends
+pub record AreEnds (wires : List Wire) (n : ℕ) (consumer : Bool) (k : ℕ)
+    (edges peers : List ℕ) : Type 0 where
+  pub edges_len : length edges ≡ k
+  pub peers_len : length peers ≡ k
+  pub each : (i : ℕ) → i < k → HasEdge wires n (port_of_side consumer i) (number_at edges i)
+  pub others : (i : ℕ) → i < k
+      → number_at peers i ≡ peer (wire_at wires (number_at edges i)) (port_of_side consumer i)
+
+-- the ports of a node whose seat was just made
+pub record AreNewPorts (wires : List Wire) (n : ℕ) (p : NodePorts) : Type 0 where
+  pub view : p.view ≡ new_picture (input_count wires n) (output_count wires n)
+  pub inputs : AreEnds wires n true (input_count wires n) p.inputs.items p.sources.items
+  pub outputs : AreEnds wires n false (output_count wires n) p.outputs.items p.targets.items
+  pub needed : p.needed.items ≡ replicate (input_count wires n) false
+
+-- ---- cells
+
+-- a node that a reserve holds isn't born, and each other one is due
+abbrev pub first_mark : (reserved : Bool) → NodeMark
+first_mark true = record { state = node.Unborn; last = None }
+first_mark false = record { state = node.Due; last = None }
+
+pub record IsNewNode (wires : List Wire) (reserves : List Reserve) (n : ℕ)
+    (x : NewNode) : Type 0 where
+  pub ports : AreNewPorts wires n x.ports
+  pub mark : x.mark ≡ first_mark (is_reserved reserves n)
+
+abbrev pub AreNewNodes : List Wire → List Reserve → List NewNode → Type 0
+AreNewNodes wires reserves all =
+    (k : ℕ) (x : NewNode) → get_elem? all k ≡ some x → IsNewNode wires reserves k x
+
+abbrev pub node_of_cell : {P : Type 0} → NodeCell P → NewNode
+node_of_cell c = record { ports = c.ports; mark = c.mark }
+
+-- each cell has the processor, the node and the seat at its place
+pub record Fills {P : Type 0} (cells : List (NodeCell P)) (boxes : List P) (nodes : List NewNode)
+    (seats : List NodeSeat) : Type 0 where
+  pub processors : map (λ (c : NodeCell P). c.processor) cells ≡ boxes
+  pub nodes_are : map node_of_cell cells ≡ nodes
+  pub seats_are : map (λ (c : NodeCell P). c.seat) cells ≡ seats
+
+-- the cell of node n of a new table
+pub record IsNewCell {P : Type 0} (seen : P → BoxPicture) (t : Identity) (n : ℕ)
+    (c : NodeCell P) : Type 0 where
+  pub stored : IsStored seen t c
+  pub number : (view c.seat).number ≡ n
+  pub mark : c.mark ≡ first_mark (is_reserved t.sizes.reserves n)
+  pub edges : AreEdgesOf t.sizes.wires n c.ports.inputs.items c.ports.outputs.items
+
+-- a new table of these sizes, its root, of which no worker was made, and the cells of its nodes in
+-- order of their numbers, with these processors
+pub record AreNewCells {P : Type 0} (seen : P → BoxPicture) (z : Sizes) (boxes : List P)
+    (c : Cells P) : Type 0 where
+  pub key : key_of c.table ≡ z
+  pub root : IsRootOf (identity_of c.table) c.root
+  pub none_made : c.root.seat.me.0.made ≡ 0
+  pub processors : map (λ (x : NodeCell P). x.processor) c.cells.items ≡ boxes
+  pub each : (k : ℕ) (x : NodeCell P) → get_elem? c.cells.items k ≡ some x
+      → IsNewCell seen (identity_of c.table) k x
