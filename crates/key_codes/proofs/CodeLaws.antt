@@ -1,5 +1,5 @@
 -- Codes in a set, by which its keys are shown, and their places.
-use Rattle.std.proofs.Common.{◌≡◌, ℕ, ◌+◌, ◌||◌, ◌&&◌, Bool, true, false, cond, List, [], ◌∷◌, ◌++◌, length, map, Some, None, position, nat_eq, refl, ap, arith, Result, OnOk, sym, not, ◌∙◌, Ok, Err}
+use Rattle.std.proofs.Common.{◌≡◌, ℕ, ◌||◌, ◌&&◌, Bool, true, false, cond, List, [], ◌∷◌, ◌++◌, length, map, Some, None, position, nat_eq, refl, ap, arith, Result, OnOk, sym, ◌∙◌, Ok, Err}
 use Rattle.std.proofs.lemmas.Grind.{common_steps}
 use Rattle.key_codes.proofs.Prelude.{FindsCode, insert_key, list_any, position_or_len, prefix_len-le-length, same_code}
 
@@ -77,3 +77,7 @@ misses-number n ks p l e =
 
 pub on-ok : {A E : Type 0} (r : Result A E) {P : Type 0} → P → OnOk r P
 on-ok r p = grind arith
+
+pub on-ok-more : {A E : Type 0} (r : Result A E) {P Q : Type 0} → (P → Q) → OnOk r P → OnOk r Q
+on-ok-more (Ok v) f h = f h
+on-ok-more (Err e) f h = tt

@@ -1,7 +1,10 @@
 -- Keys that have one code are one key.
-use Rattle.std.proofs.Common.{◌≡◌, ℕ, suc, ◌<◌, ◌+◌, ◌^◌, ◌≢◌, Bool, true, false, append_assoc, List, [], ◌∷◌, ◌++◌, length, map, flat_map, take, drop, get_or, refl, sym, ap, ap₂, ◌∙◌, arith, fold, w64, inl, inr, subst, cond, not, ◌||◌}
+use Rattle.std.proofs.Common.{◌≡◌, ℕ, suc, ◌<◌, ◌≤◌, ◌+◌, ◌^◌, ◌≢◌, Bool, true, false, append_assoc, List, [], ◌∷◌, ◌++◌, length, map, flat_map, replicate, take, drop, get_or, refl, sym, ap, ap₂, ◌∙◌, arith, fold, w64, inl, inr, subst, cond, not, ◌||◌, IfOk, OnOk, Result, Vec, ℤ, pos}
 use Rattle.chunk_data.specs.declared.typed_value.Value.TheVariants.{Int, UInt, Text}
-use Rattle.key_codes.proofs.Prelude.{AllByRecursion, AreCells, ColumnType, HasKey, IsCell, IsSame, Row, Value, append-nil, at_drop_more, cases_eq, drop_at, first_of, flat_map-append, from_le_bytes-to_le_bytes_8, get_or-map, get_or_default, key_at, key_code, type_at, list_any, map-append, nat_list_eq_equiv, places_from, position_or_len, same_code, same_row, same_row_is, same_text, take-suc, take_at, to_le_bytes, value_at, value_bytes, value_code, with_key, from_le_bytes, cast_unsigned, cast_signed, kinds_at}
+use Rattle.chunk_data.specs.declared.typed_value.ColumnType.TheVariants as column
+use Rattle.chunk_data.specs.Values.{is_text, plain_type}
+use Rattle.chunk_data.specs.declared.typed_value.PlainType.TheVariants as plain
+use Rattle.key_codes.proofs.Prelude.{All, All-map, AllByRecursion, AreCells, ColumnType, FindsCode, FindsCodes, HasKey, IsCell, IsSame, Row, Value, append-nil, at_drop_more, cases_eq, cases_lt, drop_all, drop_at, first_of, flat_map-append, from_le_bytes-to_le_bytes_8, get_or-map, get_or_default, key_at, key_code, length-map, map-map, row_code, type_at, list_any, map-append, nat_list_eq_equiv, places_from, position_or_len, same_code, same_row, same_row_is, same_text, take-suc, take_at, to_le_bytes, value_at, value_bytes, value_code, with_key, from_le_bytes, cast_unsigned, cast_signed, kinds_at}
 use Rattle.std.proofs.lemmas.Grind.{common_steps}
 use Rattle.key_codes.proofs.CodeLaws.{map-insert}
 
@@ -222,21 +225,142 @@ one-cells types [] row one cell = absurd (omega (arith, one))
 one-cells types (c ∷ []) row one cell = (cell, tt)
 one-cells types (c ∷ d ∷ places) row one cell = absurd (omega (arith, one))
 
-pub place-next : (adds : Bool) (codes es : List (List ℕ)) (i : ℕ) (ps : List ℕ) (e : List ℕ)
-    → e ≡ get_or es i [] → i < length es
-    → (ps ++ position_or_len (same_code e) codes ∷ []) ++ places_from adds same_code
-    (with_key adds same_code codes e) (drop (i + 1) es)
-    ≡ ps ++ places_from adds same_code codes (drop i es)
-place-next adds codes es i ps e is lt =
-    append_assoc ps (position_or_len (same_code e) codes ∷ [])
-    (places_from adds same_code (with_key adds same_code codes e) (drop (i + 1) es))
-    ∙ ap (λ l. ps ++ l) (ap (λ x. places_from adds same_code codes (x ∷ drop (i + 1) es)) is
-    ∙ sym (at_drop_more (places_from adds same_code codes) es i [] lt))
+-- ---- codes found one by one
 
-pub codes-next : (adds : Bool) (codes es : List (List ℕ)) (i : ℕ) (e : List ℕ)
-    → e ≡ get_or es i [] → i < length es
-    → fold (with_key adds same_code) (with_key adds same_code codes e) (drop (i + 1) es)
-    ≡ fold (with_key adds same_code) codes (drop i es)
-codes-next adds codes es i e is lt =
-    ap (λ x. fold (with_key adds same_code) (with_key adds same_code codes x) (drop (i + 1) es)) is
-    ∙ sym (at_drop_more (fold (with_key adds same_code) codes) es i [] lt)
+module _ (adds : Bool) (codes old : List (List ℕ)) where
+  -- the first codes are found, and the rest are found among those that are seen now
+  pub record FindsSome (i : ℕ) (new : List (List ℕ)) (places : List ℕ) : Type 0 where
+    pub places_left : places ++ places_from adds same_code new (drop i codes)
+        ≡ places_from adds same_code old codes
+    pub codes_left : fold (with_key adds same_code) new (drop i codes)
+        ≡ fold (with_key adds same_code) old codes
+
+  pub finds-none : FindsSome 0 old []
+  finds-none = record { places_left = refl; codes_left = refl }
+
+  -- one code more
+  pub finds-next : (i : ℕ) (seen new : List (List ℕ)) (ps more : List ℕ) (code : List ℕ) (p : ℕ)
+      → i < length codes → code ≡ get_or codes i [] → FindsSome i seen ps
+      → FindsCode adds code seen new p → more ≡ ps ++ p ∷ [] → FindsSome (i + 1) new more
+  finds-next i seen new ps more code p lt is h f e = record {
+    places_left = ap₂ (λ l s. l ++ places_from adds same_code s (drop (i + 1) codes))
+        (e ∙ ap (λ q. ps ++ q ∷ []) f.is) f.codes
+        ∙ append_assoc ps (position_or_len (same_code code) seen ∷ [])
+        (places_from adds same_code (with_key adds same_code seen code) (drop (i + 1) codes))
+        ∙ ap (λ l. ps ++ l)
+        (ap (λ x. places_from adds same_code seen (x ∷ drop (i + 1) codes)) is
+        ∙ sym (at_drop_more (places_from adds same_code seen) codes i [] lt)) ∙ h.places_left;
+    codes_left = ap (λ s. fold (with_key adds same_code) s (drop (i + 1) codes)) f.codes
+        ∙ ap (λ x. fold (with_key adds same_code) (with_key adds same_code seen x)
+        (drop (i + 1) codes)) is
+        ∙ sym (at_drop_more (fold (with_key adds same_code) seen) codes i [] lt) ∙ h.codes_left;
+  }
+
+  -- none is left
+  pub finds-all : (i : ℕ) (new : List (List ℕ)) (ps : List ℕ) → length codes ≤ i
+      → FindsSome i new ps → FindsCodes adds codes old new ps
+  finds-all i new ps le h =
+      let none = drop_all i codes le in record {
+        is = sym (append-nil ps)
+            ∙ sym (ap (λ l. ps ++ places_from adds same_code new l) none) ∙ h.places_left;
+        seen = sym (ap (fold (with_key adds same_code) new) none) ∙ h.codes_left;
+      }
+
+-- ---- the codes of a chunk's keys
+
+-- a key of no columns
+pub whole-codes : (places : List ℕ) (rows : List Row) → length places ≡ 0
+    → replicate (length rows) [] ≡ map (row_code places) rows
+whole-codes [] [] e = refl
+whole-codes [] (row ∷ rows) e = ap (λ l. [] ∷ l) (whole-codes [] rows e)
+whole-codes (c ∷ places) rows e = absurd (omega (arith, e))
+
+-- a key of one
+pub one-codes : (places : List ℕ) (rows : List Row) (vs : List Value) → length places ≡ 1
+    → vs ≡ map (λ (row : Row). value_at row (first_of places)) rows
+    → map value_code vs ≡ map (row_code places) rows
+one-codes [] rows vs one e = absurd (omega (arith, one))
+one-codes (c ∷ []) rows vs one e =
+    ap (map value_code) e ∙ map-map value_code (λ (row : Row). value_at row c) rows
+one-codes (c ∷ d ∷ places) rows vs one e = absurd (omega (arith, one))
+
+pub one-keys : (types : List ColumnType) (places : List ℕ) (rows : List Row) (kind : ColumnType)
+    (vs : List Value) → length places ≡ 1 → kind ≡ get_or types (first_of places) kind
+    → first_of places < length types
+    → vs ≡ map (λ (row : Row). value_at row (first_of places)) rows → All (IsCell kind) vs
+    → All (HasKey types places) rows
+one-keys types places rows kind vs one e lt is cells = λ k d less.
+    let v = get_or vs k (Text []) in
+    let long = ap length is ∙ length-map rows (λ (row : Row). value_at row (first_of places)) in
+    let within : k < length vs = omega (arith, long, less) in
+    one-cells types places (get_or rows k d) one
+    (cell-type types (first_of places) kind v _ e lt
+    (ap (λ l. get_or l k (Text [])) is
+    ∙ get_or-map (λ (row : Row). value_at row (first_of places)) rows k d (Text []) less)
+    (cells k (Text []) within))
+
+-- texts are their own codes
+pub text-codes : (texts : List (List ℕ)) → texts ≡ map value_code (map Text texts)
+text-codes [] = refl
+text-codes (text ∷ texts) = ap (λ l. text ∷ l) (text-codes texts)
+
+pub text-cells : (kind : ColumnType) (texts : List (List ℕ)) → is_text kind ≡ true
+    → All (λ (text : List ℕ). length text < 2 ^ 64) texts → All (IsCell kind) (map Text texts)
+text-cells kind texts e h =
+    let plain : plain_type kind ≡ plain.Text = grind arith in
+    All-map (IsCell kind) Text texts (λ k d lt. (plain, h k d lt))
+
+-- the type of a column of a chunk
+pub kind-at : (types : List ColumnType) (c : ℕ) (kind : ColumnType) → kind ≡ get_or types c kind
+    → c < length types → kind ≡ type_at types c
+kind-at types c kind e lt = e ∙ get_or_default types c kind column.Text lt
+
+pub several-code : (places : List ℕ) (row : Row) (code : List ℕ) → length places ≢ 1
+    → code ≡ flat_map value_bytes (key_at places row) → code ≡ row_code places row
+several-code places row code ne e =
+    e ∙ sym (many-code (key_at places row) (λ f. ne (sym (length-map places (value_at row)) ∙ f)))
+
+-- each value of a column has what was seen of each
+pub cells-of : {A : Type 0} (kind : ColumnType) (value : A → Value) (xs : List A) (d : A) (i : ℕ)
+    → length xs ≤ i → ((k : ℕ) → k < i → IsCell kind (value (get_or xs k d)))
+    → All (IsCell kind) (map value xs)
+cells-of kind value xs d i le h = All-map (IsCell kind) value xs
+    (λ k e lt. subst (λ x. IsCell kind (value x)) (get_or_default xs k d e lt)
+    (h k (omega (arith, lt, le))))
+
+-- the bits of one number more
+pub ints-next : (numbers : List ℤ) (i : ℕ) (bits more : List ℕ) (b : ℕ) → i < length numbers
+    → more ≡ bits ++ b ∷ []
+    → map (λ n. n ∷ []) bits ≡ map value_code (map Int (take i numbers))
+    → b ∷ [] ≡ value_code (Int (get_or numbers i (pos 0)))
+    → map (λ n. n ∷ []) more ≡ map value_code (map Int (take (i + 1) numbers))
+ints-next numbers i bits more b lt e is code =
+    let next : i + 1 ≡ suc i = omega arith in
+    let z = get_or numbers i (pos 0) in
+    let taken = ap (λ n. take n numbers) next ∙ take-suc numbers i (pos 0) lt in
+    ap (map (λ n. n ∷ [])) e ∙ map-append (λ n. n ∷ []) bits (b ∷ [])
+    ∙ ap₂ ◌++◌ is (ap (λ c. c ∷ []) code)
+    ∙ sym (map-append value_code (map Int (take i numbers)) (Int z ∷ []))
+    ∙ sym (ap (map value_code) (map-append Int (take i numbers) (z ∷ [])))
+    ∙ sym (ap (λ l. map value_code (map Int l)) taken)
+
+pub cells-more : {A : Type 0} (kind : ColumnType) (value : A → Value) (xs : List A) (d : A) (i : ℕ)
+    → ((k : ℕ) → k < i → IsCell kind (value (get_or xs k d)))
+    → IsCell kind (value (get_or xs i d))
+    → (k : ℕ) → k < i + 1 → IsCell kind (value (get_or xs k d))
+cells-more kind value xs d i h cell k lt = elim (cases_lt k i) [
+  | inl before ↦ h k before
+  | inr le ↦
+      let same : i ≡ k = omega (arith, le, lt) in
+      subst (λ n. IsCell kind (value (get_or xs n d))) same cell
+]
+
+-- what is found of the codes is found of the keys
+module _ {Z E : Type 0} (r : Result (Vec ℕ Z) E) (adds : Bool) (codes old new es seen : List (List ℕ))
+    (same : codes ≡ es) (begun : seen ≡ old)
+    (h : IfOk r (λ (v : Vec ℕ Z). FindsCodes adds codes old new v.items)) where
+  pub found-places : IfOk r (λ (v : Vec ℕ Z). v.items ≡ places_from adds same_code seen es)
+  found-places = grind arith
+
+  pub found-codes : OnOk r (new ≡ fold (with_key adds same_code) seen es)
+  found-codes = grind arith

@@ -6,7 +6,7 @@ use Rattle.query_model.specs.Prelude.{ColumnType, Int, Row, Text, UInt, Value, v
 use Rattle.std.specs.Cmp.Lexicographic.{pointwise}
 use Rattle.std.specs.Int.{cast_signed, cast_unsigned, to_le_bytes}
 use Rattle.std.specs.List.{position_or_len}
-use Rattle.std.specs.Prelude.{Bool, List, Vec, [], cond, flat_map, length, map, nat_eq, false, slice_index_or, true, ℕ, ◌++◌, ◌<◌, ◌^◌, ◌∷◌, ◌≡◌}
+use Rattle.std.specs.Prelude.{Bool, List, Vec, [], cond, flat_map, fold, length, map, nat_eq, false, slice_index_or, true, ℕ, ◌++◌, ◌<◌, ◌^◌, ◌∷◌, ◌≡◌}
 use mir.Syntax.{w64}
 use Rattle.chunk_data.specs.Values.{is_text, plain_type, type_at}
 use Rattle.chunk_data.specs.declared.typed_value.PlainType.TheVariants as plain
@@ -81,6 +81,15 @@ pub record FindsCode (adds : Bool) (code : List ℕ) (old new : List (List ℕ))
   pub is : place ≡ position_or_len (same_code code) old
   pub codes : new ≡ with_key adds same_code old code
 
+-- The places of codes among those seen, each new one of which goes to the end where codes are added.
+pub record FindsCodes (adds : Bool) (codes old new : List (List ℕ)) (places : List ℕ) : Type 0 where
+  pub is : places ≡ places_from adds same_code old codes
+  pub seen : new ≡ fold (with_key adds same_code) old codes
+
+-- without columns all rows have one code, which is there once a row came
+abbrev pub whole_codes : Bool → List (List ℕ)
+whole_codes some = cond some ([] ∷ []) []
+
 abbrev pub number_codes : {S : Type 0} → IndexSet ℕ S → List (List ℕ)
 number_codes numbers = map (λ n. n ∷ []) numbers.keys
 
@@ -89,7 +98,7 @@ byte_codes {Z = Z} codes = map (λ (code : Vec ℕ Z). code.items) codes.keys
 
 -- the codes of the keys, in their order
 abbrev pub codes_in : SeenKeys → List (List ℕ)
-codes_in (seen.Whole some) = cond some ([] ∷ []) []
+codes_in (seen.Whole some) = whole_codes some
 codes_in (seen.Numbers numbers) = number_codes numbers
 codes_in (seen.Bytes codes) = byte_codes codes
 

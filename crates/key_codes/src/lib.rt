@@ -5,8 +5,10 @@
 //!   key of one number is looked up by its bits, one of a text by its bytes, one of several values
 //!   by the bytes of all; without columns nothing is looked up. Keys have one code where they are
 //!   one.
+//! - `places`: the places of the codes of a chunk, one loop a form of code.
 #![tactic(auto)]
 
 mod key_code;
+mod places;
 
 pub use key_code::{SeenKeys, find_places};

@@ -1,39 +1,89 @@
-use Rattle.std.proofs.Common.{◌≡◌, ◌+◌, ◌<◌, ◌++◌, [], ◌∷◌, ap₂, drop, fold, length, get_or, map, ap, ◌∙◌, sym, subst, arith, inl, inr}
-use Rattle.key_codes.proofs.Prelude.{HasKey, cases_lt, codes_in, get_or-map, get_or_default, length-map, places_from, row_at, row_code, same_code, with_key}
-use Rattle.key_codes.proofs.KeyLaws.{codes-next, place-next}
+use Rattle.std.proofs.Common.{[], ◌≡◌, ◌<◌, ◌∙◌, ◌∷◌, length, true, map, replicate, sym, ap, subst, arith}
+use Rattle.chunk_data.specs.Values.{is_text}
+use Rattle.key_codes.proofs.Prelude.{All, IsCell, IsSeenFor, byte_codes, codes_in, column_type, first_of, number_codes, type_at, value_code, values, whole_codes}
+use Rattle.key_codes.proofs.CodeLaws.{on-ok, on-ok-more}
+use Rattle.key_codes.proofs.KeyLaws.{found-codes, found-places, kind-at, one-codes, one-keys, text-cells, text-codes, whole-codes}
 use Rattle.key_codes.proofs.key_code.find_places.Goals as goal
 
-pub loop-i-preserved : goal.loop-i-preserved
-loop-i-preserved c =
-    let adds = c.args.adds in
-    let rows = c.args.chunk.now.rows in
-    let i = c.loop-i.i in
-    let f = row_code c.args.places.now in
-    let lt : i < length rows = omega (arith, c.rows-i-end.ensures.count) in
-    let code = f (row_at rows i) in
-    let is : code ≡ get_or (map f rows) i [] = sym (get_or-map f rows i [] [] lt) in
-    let within : i < length (map f rows) = omega (arith, lt, length-map rows f) in
-    let seen = c.in_ok-place_of_row.ensures.finds.codes in
-    let es = map f rows in (
-      ap₂ (λ ps s. ps ++ places_from adds same_code s (drop (i + 1) es))
-          (c.in_ok-push.ensures.items
-          ∙ ap (λ p. c.loop-i.found.items ++ p ∷ []) c.in_ok-place_of_row.ensures.finds.is) seen
-          ∙ place-next adds (codes_in c.loop-i.seen) es i c.loop-i.found.items code is within
-          ∙ c.loop-i.invariant.0,
-      ap (λ s. fold (with_key adds same_code) s (drop (i + 1) es)) seen
-          ∙ codes-next adds (codes_in c.loop-i.seen) es i code is within ∙ c.loop-i.invariant.1,
-      λ k less. elim (cases_lt k i) [
-        | inl before ↦ c.loop-i.invariant.2 k before
-        | inr le ↦
-            let same : i ≡ k = omega (arith, le, less) in
-            subst (λ n. HasKey c.args.chunk.now.types c.args.places.now (row_at rows n)) same
-            c.in_ok-place_of_row.ensures.cells
-      ],
-      c.in_ok-place_of_row.ensures.form,
-    )
+pub returns-in-Whole-clause-places : goal.returns-in-Whole-clause-places
+returns-in-Whole-clause-places c =
+    let places = c.args.places.now in
+    let t = c.args.chunk.now in
+    let form = subst (IsSeenFor (length places) (type_at t.types (first_of places))) c.in-Whole.is
+    c.requires.form in
+    found-places c.whole_places.result c.args.adds (replicate c.rows.result [])
+    (whole_codes c.in-Whole.some) (whole_codes c.whole_places.new.some) _ _
+    (ap (λ n. replicate n []) c.rows.ensures.count ∙ whole-codes places t.rows form)
+    (ap codes_in c.in-Whole.is) c.whole_places.ensures
 
-pub returns-clause-cells : goal.returns-clause-cells
-returns-clause-cells c = λ k d lt.
-    subst (HasKey c.args.chunk.now.types c.args.places.now)
-    (get_or_default c.args.chunk.now.rows k [] d lt)
-    (c.loop-i.invariant.2 k (omega (arith, lt, c.loop-i-test.false, c.rows-i-end.ensures.count)))
+pub returns-in-Whole-clause-seen : goal.returns-in-Whole-clause-seen
+returns-in-Whole-clause-seen c =
+    let places = c.args.places.now in
+    let t = c.args.chunk.now in
+    let form = subst (IsSeenFor (length places) (type_at t.types (first_of places))) c.in-Whole.is
+    c.requires.form in
+    found-codes c.whole_places.result c.args.adds (replicate c.rows.result [])
+    (whole_codes c.in-Whole.some) (whole_codes c.whole_places.new.some) _ _
+    (ap (λ n. replicate n []) c.rows.ensures.count ∙ whole-codes places t.rows form)
+    (ap codes_in c.in-Whole.is) c.whole_places.ensures
+
+pub returns-in_ok-bits-in-Numbers-clause-places : goal.returns-in_ok-bits-in-Numbers-clause-places
+returns-in_ok-bits-in-Numbers-clause-places c =
+    let places = c.args.places.now in
+    let t = c.args.chunk.now in
+    let form = subst (IsSeenFor (length places) (type_at t.types (first_of places))) c.in-Numbers.is
+    c.requires.form in
+    found-places c.number_places.result c.args.adds (map (λ n. n ∷ []) c.as_slice.result.now)
+    (number_codes c.in-Numbers.numbers) (number_codes c.number_places.new.seen) _ _
+    (ap (map (λ n. n ∷ [])) c.as_slice.ensures.value ∙ c.in_ok-bits-in-Numbers.ensures.codes
+    ∙ one-codes places t.rows (values c.column.result.now) form.0 c.column.ensures.values)
+    (ap codes_in c.in-Numbers.is) c.number_places.ensures
+
+pub returns-in_ok-bits-in-Numbers-clause-cells : goal.returns-in_ok-bits-in-Numbers-clause-cells
+returns-in_ok-bits-in-Numbers-clause-cells c =
+    let places = c.args.places.now in
+    let t = c.args.chunk.now in
+    let form = subst (IsSeenFor (length places) (type_at t.types (first_of places))) c.in-Numbers.is
+    c.requires.form in
+    let lt : 0 < length places = omega (arith, form.0) in
+    on-ok c.number_places.result (one-keys t.types places t.rows
+    (column_type c.column.result.now) (values c.column.result.now) form.0 c.column.ensures.kind
+    (c.requires.within 0 0 lt) c.column.ensures.values c.in_ok-bits-in-Numbers.ensures.cells)
+
+pub returns-then-places-eq1-clause-places : goal.returns-then-places-eq1-clause-places
+returns-then-places-eq1-clause-places c =
+    let places = c.args.places.now in
+    let t = c.args.chunk.now in
+    found-places c.text_places.result c.args.adds c.texts.result.now
+    (byte_codes c.in-Bytes.codes) (byte_codes c.text_places.new.seen) _ _
+    (text-codes c.texts.result.now ∙ ap (map value_code) (sym c.texts.ensures)
+    ∙ one-codes places t.rows (values c.column-then-places-eq1.result.now) c.if-places-eq1.true
+    c.column-then-places-eq1.ensures.values) (ap codes_in c.in-Bytes.is) c.text_places.ensures.finds
+
+pub returns-then-places-eq1-clause-seen : goal.returns-then-places-eq1-clause-seen
+returns-then-places-eq1-clause-seen c =
+    let places = c.args.places.now in
+    let t = c.args.chunk.now in
+    found-codes c.text_places.result c.args.adds c.texts.result.now
+    (byte_codes c.in-Bytes.codes) (byte_codes c.text_places.new.seen) _ _
+    (text-codes c.texts.result.now ∙ ap (map value_code) (sym c.texts.ensures)
+    ∙ one-codes places t.rows (values c.column-then-places-eq1.result.now) c.if-places-eq1.true
+    c.column-then-places-eq1.ensures.values) (ap codes_in c.in-Bytes.is) c.text_places.ensures.finds
+
+pub returns-then-places-eq1-clause-cells : goal.returns-then-places-eq1-clause-cells
+returns-then-places-eq1-clause-cells c =
+    let places = c.args.places.now in
+    let t = c.args.chunk.now in
+    let kind = column_type c.column-then-places-eq1.result.now in
+    let form = subst (IsSeenFor (length places) (type_at t.types (first_of places))) c.in-Bytes.is
+    c.requires.form in
+    let lt : 0 < length places = omega (arith, c.if-places-eq1.true) in
+    let within = c.requires.within 0 0 lt in
+    let text : is_text kind ≡ true = ap is_text
+    (kind-at t.types (first_of places) kind c.column-then-places-eq1.ensures.kind within)
+    ∙ form c.if-places-eq1.true in
+    on-ok-more c.text_places.result (λ cells. one-keys t.types places t.rows kind
+    (values c.column-then-places-eq1.result.now) c.if-places-eq1.true
+    c.column-then-places-eq1.ensures.kind within c.column-then-places-eq1.ensures.values
+    (subst (All (IsCell kind)) (sym c.texts.ensures) (text-cells kind c.texts.result.now text cells)))
+    c.text_places.ensures.cells

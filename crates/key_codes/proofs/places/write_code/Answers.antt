@@ -1,7 +1,7 @@
 use Rattle.std.proofs.Common.{◌<◌, ◌++◌, length, get_or, ap, ◌∙◌, arith}
 use Rattle.key_codes.proofs.Prelude.{column_type, row_at, value_at, value_bytes, values}
 use Rattle.key_codes.proofs.KeyLaws.{bytes-next, cell-type, cell-value, cells-next}
-use Rattle.key_codes.proofs.key_code.write_code.Goals as goal
+use Rattle.key_codes.proofs.places.write_code.Goals as goal
 
 pub loop-place-preserved : goal.loop-place-preserved
 loop-place-preserved c =

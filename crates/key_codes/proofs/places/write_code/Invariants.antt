@@ -1,6 +1,6 @@
 use Rattle.std.proofs.Common.{◌≡◌, flat_map, take}
 use Rattle.key_codes.proofs.Prelude.{HasKey, key_at, row_at, value_bytes}
-use Rattle.key_codes.proofs.key_code.write_code.Given as goal
+use Rattle.key_codes.proofs.places.write_code.Given as goal
 
 abbrev pub invariant-loop-place : goal.invariant-loop-place
 invariant-loop-place l =

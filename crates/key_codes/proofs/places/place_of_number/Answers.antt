@@ -1,7 +1,7 @@
 use Rattle.std.proofs.Common.{[], ◌∷◌, subst, sym}
 use Rattle.key_codes.proofs.CodeLaws.{finds-number, misses-number, puts-number}
 use Rattle.key_codes.proofs.Prelude.{FindsCode, number_codes}
-use Rattle.key_codes.proofs.key_code.place_of_number.Goals as goal
+use Rattle.key_codes.proofs.places.place_of_number.Goals as goal
 
 pub returns-in-Some : goal.returns-in-Some
 returns-in-Some c =

@@ -1,8 +1,8 @@
 use Rattle.std.proofs.Common.{Global, Vec, ℕ, subst, sym}
 use Rattle.key_codes.proofs.CodeLaws.{finds-code, misses-code, puts-code}
 use Rattle.key_codes.proofs.Prelude.{FindsCode, byte_codes}
-use Rattle.key_codes.proofs.key_code.place_of.Goals.{in-Ok, in-Err}
-use Rattle.key_codes.proofs.key_code.place_of.Goals as goal
+use Rattle.key_codes.proofs.places.place_of.Goals.{in-Ok, in-Err}
+use Rattle.key_codes.proofs.places.place_of.Goals as goal
 
 pub returns-in-Some : goal.returns-in-Some
 returns-in-Some c =
