@@ -1,8 +1,9 @@
 -- A node with a token begins: where its word was 0 the token is spent.
-use Rattle.node_cells.proofs.Imports.{Identity, is_over_stage, is_unborn_stage, stage_at, Answer, Bool, BoxPicture, IsSeatOf, Makes, MakesUpdated, NodeCell, NodeHolds, NodeMark, NodeSeat, NodeView, None, SeatState, and_parts, ap, arith, cases_Bool, cases_lt, cond, edges_of, eq-eqb, eqb-true, false, has, has-filter, inl, inr, is_due, is_set, knows, ne_eqb, node_at, nothing, ports_picture, refl, spent, state-made, state_taken, subst, sym, true, updated, view, ℕ, ◌*◌, ◌+◌, ◌-◌, ◌/◌, ◌%◌, ◌<◌, ◌^◌, ◌∙◌, ◌≡◌, ◌≢◌, ◌≤◌}
-use Rattle.node_ports.proofs.StillLaws.{StaysSeat, still-seat}
+use Rattle.node_cells.proofs.Imports.{Identity, is_over_stage, is_unborn_stage, stage_at, Answer, Bool, BoxPicture, IsSeatOf, Makes, MakesUpdated, NodeCell, NodeHolds, NodeMark, NodePorts, NodeSeat, NodeView, None, SeatState, ap, arith, cases_Bool, cases_lt, cond, eq-eqb, eqb-true, false, inl, inr, is_set, ne_eqb, node_at, nothing, ports_picture, refl, spent, state-made, state_taken, subst, sym, true, updated, view, ℕ, ◌+◌, ◌-◌, ◌/◌, ◌%◌, ◌^◌, ◌∙◌, ◌≡◌, ◌≢◌, ◌≤◌}
 use Rattle.exec_table.proofs.Ends.{number-made, stage-made}
-use Rattle.node_cells.proofs.RestLaws.{due-node, out-ends, still-node}
+use Rattle.node_cells.proofs.RestLaws.{due-node, quiet-node, taken-node}
+use Rattle.node_cells.proofs.UpdatedLaws.{high-bits, low-bits}
+use Rattle.node_ports.specs.Ports.{IsMerged}
 use Rattle.node_cells.specs.Turns.{AtHome, IsDue, MayBegin, TakesBack, is_named_by}
 use Rattle.exec_table.specs.Seats.{updated_of}
 use Rattle.exec_table.specs.declared.types.Updated.{Updated}
@@ -12,23 +13,9 @@ use Rattle.core_laws.specs.Laws.{is_named}
 use Rattle.core_laws.specs.declared.types.Step.TheVariants as step
 use Rattle.exec_laws.specs.declared.edges.NodeState.TheVariants as node
 use Rattle.std.specs.Int.{bit_at}
-use Rattle.std.proofs.lemmas.Nat.Bits.{bit_at-lt, bit_at-zero, bit_at_cat_high, bit_at_cat_low, same_from_bits}
+use Rattle.std.proofs.lemmas.Nat.Bits.{bit_at-lt, bit_at-zero, same_from_bits}
 
 -- ---- a word without bits
-
-low-bits : (w i : ℕ) → w % 2 ^ 32 ≡ 0 → i < 32 → bit_at w i ≡ 0
-low-bits w i z lt = let is : w ≡ w / 2 ^ 32 * 2 ^ 32 + 0 = omega (arith, z) in
-    ap (λ v. bit_at v i) is ∙ (bit_at_cat_low (w / 2 ^ 32) 32 0 i lt ∙ bit_at-zero i)
-
-high-bits : (w i : ℕ) → w / 2 ^ 32 % 2 ^ 16 ≡ 0 → 32 ≤ i → i < 48 → bit_at w i ≡ 0
-high-bits w i z le lt =
-    let is : w ≡ w / 2 ^ 32 * 2 ^ 32 + w % 2 ^ 32 = omega arith in
-    let few : w % 2 ^ 32 < 2 ^ 32 = omega arith in
-    let top : w / 2 ^ 32 ≡ w / 2 ^ 32 / 2 ^ 16 * 2 ^ 16 + 0 = omega (arith, z) in
-    ap (λ v. bit_at v i) is ∙ (bit_at_cat_high (w / 2 ^ 32) 32 (w % 2 ^ 32) i few le
-    ∙ (ap (λ v. bit_at v (i - 32)) top
-    ∙ (bit_at_cat_low (w / 2 ^ 32 / 2 ^ 16) 16 0 (i - 32) (omega (arith, le, lt))
-    ∙ bit_at-zero (i - 32))))
 
 named-high : (i : ℕ) → 48 ≤ i → is_named i ≡ true → i ≢ 60 → i ≢ 61 → i ≢ 62 → i ≢ 63 → ⊥
 named-high i le n a b c d = absurd (grind (
@@ -63,9 +50,13 @@ zero-word w low high first unborn held over named = same_from_bits w 0 (λ i. bi
 
     bit : (i : ℕ) → bit_at w i ≡ 0
     bit i = elim (cases_lt i 32) [
-      | inl lt ↦ low-bits w i low lt
+      | inl lt ↦ sym (low-bits 32 w i lt) ∙ (ap (λ v. bit_at v i) low ∙ bit_at-zero i)
       | inr le ↦ elim (cases_lt i 48) [
-        | inl lt ↦ high-bits w i high le lt
+        | inl lt ↦ ap (bit_at w) (omega (arith, le)) ∙ (sym (high-bits w (i - 32) (omega (
+          arith,
+          le,
+          lt,
+        ))) ∙ (ap (λ v. bit_at v (i - 32)) high ∙ bit_at-zero (i - 32)))
         | inr past ↦ elim (cases_Bool (is_set w i)) [
           | inl s ↦ absurd (far i past s)
           | inr u ↦ unset w i u
@@ -133,21 +124,39 @@ module _ {t : Identity} {old new : NodeSeat} (o : IsSeatOf t old) (f : IsFree ol
         | inr h ↦ ap (λ v. 1 - spent v) (unnamed h) ∙ ap (λ b. cond b 1 0) (sym h)
       ]
 
-  pub begin-ends : StaysSeat old new
-  begin-ends = still-seat o m.makes refl (λ _. refl)
-      (λ d q. (and_parts (is_due (view old) m.word d) (knows d (view old).state.seen)
-      (sym (has-filter (is_due (view old) m.word) (edges_of (view old).state.seen) d)
-      ∙ (sym (ap (λ (z : SeatState). has d z.unlooked) state-begun) ∙ q))).1)
-
   pub begin-stage : (view new).stage ≡ Begun
   begin-stage = stage-made o m.makes
 
-module _ {t : Identity} {old new : NodeSeat} (o : IsSeatOf t old)
-    (inside : (e : ℕ) → has e (view old).state.unlooked ≡ true
-    → knows e (view old).state.seen ≡ true) where
-  pub in-ends : Makes t old new step.TokenIn None nothing → StaysSeat old new
-  in-ends m = still-seat o m refl (λ _. refl)
-      (λ d q. inside d (sym (ap (λ (z : SeatState). has d z.unlooked) (state-made o m)) ∙ q))
+-- the token is spent, or was taken back
+record IsBack (old new : NodeSeat) : Type 0 where
+  state : (view new).state ≡ record (view old).state { tokens = 0 }
+  stage : (view new).stage ≡ (view old).stage
+  number : (view new).number ≡ (view old).number
+
+module _ {t : Identity} {old new : NodeSeat} (due : Bool) (o : IsSeatOf t old)
+    (w : TakesBack t due old new) (one : (view old).state.tokens ≡ cond due 1 0) where
+  back : IsBack old new
+  back = elim (cases_Bool due) [
+    | inl q ↦ record {
+      state = state-made o (w.took q) ∙ ap (λ k. record (view old).state { tokens = k - 1 })
+          (one ∙ ap (λ b. cond b 1 0) q);
+      stage = stage-made o (w.took q);
+      number = number-made o (w.took q);
+    }
+    | inr q ↦ record {
+      state = ap (λ s. (view s).state) (w.left q) ∙ ap (λ k. record (view old).state { tokens = k })
+          (one ∙ ap (λ b. cond b 1 0) q);
+      stage = ap (λ s. (view s).stage) (w.left q);
+      number = ap (λ s. (view s).number) (w.left q);
+    }
+  ]
+
+  back-node : (b : BoxPicture) (m : NodeMark) (p : NodePorts)
+      → NodeHolds b m (ports_picture p old) → NodeHolds b m (ports_picture p new)
+  back-node b m p h = elim (cases_Bool due) [
+    | inl q ↦ quiet-node b m p h o (w.took q) refl (λ _. refl) refl
+    | inr q ↦ subst (λ s. NodeHolds b m (ports_picture p s)) (sym (w.left q)) h
+  ]
 
 module _ {P : Type 0} (seen : P → BoxPicture) (t : Identity) (old : NodeCell P)
     (h : MayBegin seen t old) (a b : NodeSeat) (i : Makes t old.seat a step.TokenIn None nothing)
@@ -163,69 +172,51 @@ module _ {P : Type 0} (seen : P → BoxPicture) (t : Identity) (old : NodeCell P
   tokens-in = ap (λ (z : SeatState). z.tokens) (state-made h.cell.seat i)
       ∙ ap (λ k. k + 1) h.tokens
 
+  tokens-out : (view b).state.tokens ≡ cond (is_named_by u) 1 0
+  tokens-out = tokens-begun i.seat free u m tokens-in
+
   pub begun-tokens : is_named_by u ≡ true → (view b).state.tokens ≡ 1
-  begun-tokens q = tokens-begun i.seat free u m tokens-in ∙ ap (λ b. cond b 1 0) q
+  begun-tokens q = tokens-out ∙ ap (λ b. cond b 1 0) q
 
-  first : NodeHolds (seen old.processor) old.mark (ports_picture old.ports a)
-  first = still-node (seen old.processor) old.mark old.ports old.seat a h.cell.node
-      (in-ends h.cell.seat h.cell.node.ports.unlooked i)
+  module _ (c : NodeSeat) (w : TakesBack t (is_named_by u) b c) where
+    backed : IsBack b c
+    backed = back (is_named_by u) m.makes.seat w tokens-out
 
-  second : NodeHolds (seen old.processor) old.mark (ports_picture old.ports b)
-  second = still-node (seen old.processor) old.mark old.ports a b first
-      (begin-ends i.seat free u m)
+    pub begun-number : (view c).number ≡ (view old.seat).number
+    begun-number = backed.number ∙ (number-made i.seat m.makes ∙ number-made h.cell.seat i)
 
-  pub begun-number : (c : NodeSeat) → TakesBack t (is_named_by u) b c
-      → (view c).number ≡ (view old.seat).number
-  begun-number c w = elim (cases_Bool (is_named_by u)) [
-    | inl q ↦ number-made m.makes.seat (w.took q)
-    | inr q ↦ ap (λ s. (view s).number) (w.left q)
-  ] ∙ (number-made i.seat m.makes ∙ number-made h.cell.seat i)
+    begun-node : (v : Updated) → IsMerged old.ports.updated u v → NodeHolds (seen old.processor)
+        old.mark (ports_picture (record old.ports { updated = v }) c)
+    begun-node v merged = let p = seen old.processor in
+        back-node (is_named_by u) m.makes.seat w tokens-out p old.mark
+        (record old.ports { updated = v })
+        (taken-node p old.mark old.ports
+        (quiet-node p old.mark old.ports h.cell.node h.cell.seat i refl (λ _. refl) refl)
+        i.seat m refl (λ _. refl) refl v merged)
 
-  pub begun-due : (c : NodeSeat) → TakesBack t (is_named_by u) b c → (k : NodeMark)
-      → k.state ≡ node.Due → IsDue seen t (record old { seat = c; mark = k })
-  begun-due c w k due = elim (cases_Bool (is_named_by u)) [
-    | inl q ↦ let r = w.took q in record {
+    pub begun-due : (v : Updated) → IsMerged old.ports.updated u v → (k : NodeMark)
+        → k.state ≡ node.Due
+        → IsDue seen t (record old { seat = c; mark = k; ports = record old.ports { updated = v } })
+    begun-due v merged k due = record {
       holds = record {
         cell = record {
-          seat = r.seat;
-          node = due-node (seen old.processor) old.mark k (ports_picture old.ports c)
-              (still-node (seen old.processor) old.mark old.ports b c second
-              (out-ends m.makes.seat second.ports.unlooked r)) h.mark due;
+          seat = w.seat;
+          node = due-node (seen old.processor) old.mark k
+              (ports_picture (record old.ports { updated = v }) c) (begun-node v merged) h.mark due;
         };
         turn = record {
-          held = ap (λ (z : SeatState). z.held) (state-made m.makes.seat r)
+          held = ap (λ (z : SeatState). z.held) backed.state
               ∙ ap (λ (z : SeatState). z.held) (state-made i.seat m.makes);
-          owes = ap (λ (z : SeatState). z.owes) (state-made m.makes.seat r)
+          owes = ap (λ (z : SeatState). z.owes) backed.state
               ∙ (ap (λ (z : SeatState). z.owes) (state-made i.seat m.makes)
               ∙ (ap (λ (z : SeatState). z.owes) (state-made h.cell.seat i) ∙ h.owes));
-          tokens = ap (λ (z : SeatState). z.tokens) (state-made m.makes.seat r)
-              ∙ ap (λ k. k - 1) (begun-tokens q);
+          tokens = ap (λ (z : SeatState). z.tokens) backed.state;
         };
-        stage = stage-made m.makes.seat r ∙ begin-stage i.seat free u m;
+        stage = backed.stage ∙ begin-stage i.seat free u m;
       };
       quiet = h.quiet;
       due = due;
     }
-    | inr q ↦ subst (λ s. IsDue seen t (record old { seat = s; mark = k }))
-        (sym (w.left q)) (record {
-          holds = record {
-            cell = record {
-              seat = m.makes.seat;
-              node = let p = seen old.processor in
-                  due-node p old.mark k (ports_picture old.ports b) second h.mark due;
-            };
-            turn = record {
-              held = ap (λ (z : SeatState). z.held) (state-made i.seat m.makes);
-              owes = ap (λ (z : SeatState). z.owes) (state-made i.seat m.makes)
-                  ∙ (ap (λ (z : SeatState). z.owes) (state-made h.cell.seat i) ∙ h.owes);
-              tokens = tokens-begun i.seat free u m tokens-in ∙ ap (λ b. cond b 1 0) q;
-            };
-            stage = begin-stage i.seat free u m;
-          };
-          quiet = h.quiet;
-          due = due;
-        })
-  ]
 
 -- a node at rest may begin
 pub home-begins : {P : Type 0} (seen : P → BoxPicture) (t : Identity) (c : NodeCell P)

@@ -3,6 +3,7 @@ pub mod SettledLaws
 pub mod EndLaws
 pub mod StayLaws
 pub mod TurnLaws
+mod UpdatedLaws
 pub mod RestLaws
 pub mod BeginLaws
 pub mod WorkLaws

@@ -1,6 +1,6 @@
 -- From all cells and a survey in which nothing is pending: a running graph in which nothing is due.
-use Rattle.node_cells.proofs.Imports.{InputHolds, MarkHolds, OutputAllows, OutputHolds, append_assoc, eq-eqb, is_over_stage, is_unborn_stage, ne_eqb, Board, Bool, BoxHolds, ConsumerSees, EdgeState, End, EndHolds, Flags, HasEdge, Input, InputFollows, InputPort, IsBorn, IsPort, Lane, List, NodeView, None, Option, Output, OutputFollows, Port, PortsPicture, ProducerKnows, ProducerSees, Running, Sees, Some, Table, Wire, [], and_parts, ap, append-nil, arith, cases_Bool, chunks_in, chunks_of, chunks_on, edge_of, edge-count, end_for, end_of, end_of_view, eqb-true, false, flags_at, has, inl, input_after, input_at, input_count, input_seen, inr, is_end, is_own_port, is_some, is_waiting, ◌⊎◌, knows, lane_at, length, lifted_of, node_at, output_after, output_at, output_count, output_seen, port_at, pulled_by, pushed_by, pushes_to, refl, rules, shown, slot_in, stage_at, subst, sym, taken_out, true, view-end, wire_at, ℕ, ◌++◌, ◌<◌, ◌||◌, ◌∙◌, ◌≡◌}
-use Rattle.node_ports.proofs.Shown.{chunks-on-edge, quiet-sight, shown-input, shown-output}
+use Rattle.node_cells.proofs.Imports.{InputHolds, MarkHolds, OutputAllows, OutputHolds, append_assoc, is_over_stage, is_unborn_stage, ne_eqb, Board, Bool, BoxHolds, ConsumerSees, EdgeState, End, EndHolds, Flags, HasEdge, Input, InputFollows, InputPort, IsBorn, IsPort, Lane, List, NodeView, None, Option, Output, OutputFollows, Port, PortsPicture, ProducerKnows, ProducerSees, Running, Sees, Some, Table, Wire, and_parts, ap, append-nil, arith, cases_Bool, chunks_in, chunks_of, edge_of, edge-count, end_for, end_of, end_of_view, eqb-true, false, flags_at, has, inl, input_after, input_at, input_count, input_seen, inr, is_end, is_own_port, is_some, is_waiting, ◌⊎◌, knows, lane_at, length, lifted_of, node_at, output_after, output_at, output_count, output_seen, port_at, pulled_by, pushed_by, pushes_to, refl, rules, slot_in, stage_at, subst, sym, true, view-end, wire_at, ℕ, ◌++◌, ◌<◌, ◌||◌, ◌∙◌, ◌≡◌}
+use Rattle.node_ports.proofs.Shown.{end-side, end-there, is_input, passed, quiet-passed, quiet-seen, seen_at, sight}
 use Rattle.std.specs.Prelude.{IsSome}
 use Rattle.node_cells.specs.Ends.{SettledLaw, AreSettled, CellAtHome, WholeCell, edge_of_board, lifted_at, picture_of, unlifted}
 use Rattle.exec_laws.proofs.Seeing.{port-below}
@@ -44,10 +44,6 @@ consumer-chunks n w l h = grind arith
 producer-chunks : (n : ℕ) (w : Option Wire) (l : Lane) → is_end false n w ≡ true
     → is_end true n w ≡ false → (end_for n true w l).chunks ≡ l.pushed
 producer-chunks n w l h k = grind arith
-
-taken-same : (x : Option Table) → taken_out x x ≡ []
-taken-same None = refl
-taken-same (Some c) = refl
 
 split-content : (x y : Option Table) → ((c : Table) → x ≡ Some c → y ≡ Some c)
     → chunks_in y ≡ chunks_of x ++ chunks_of (unlifted x y)
@@ -144,20 +140,36 @@ module _ (count : ℕ) (wires : List Wire) (b : Board) (cells : ℕ → WholeCel
         ∙ (view-end b n e s.board ∙ ap (λ k. end_for n k (port_at b.core e).wire (lane_at b e))
         known)
 
-    sight : flags_at e (at n).node.state.seen ≡ flags_at e (node_at b.core n).seen
-    sight = ap (λ (v : NodeView). flags_at e v.state.seen) (s.seen n there)
+    same-flags : flags_at e (at n).node.state.seen ≡ flags_at e (node_at b.core n).seen
+    same-flags = ap (λ (v : NodeView). flags_at e v.state.seen) (s.seen n there)
 
-    sees : (side : Bool) → end_of side (wire_at wires e) ≡ n
-        → Sees side (port_at b.core e).flags (flags_at e (at n).node.state.seen)
-    sees side is = subst (λ f. Sees side (port_at b.core e).flags f)
-        (ap (λ k. flags_at e (node_at b.core k).seen) is ∙ sym sight)
+    abbrev side : Bool
+    side = is_input p
+
+    is : end_of side (wire_at wires e) ≡ n
+    is = end-there (wire_at wires e) n p h.at_port
+
+    on-side : is_end side n (port_at b.core e).wire ≡ true
+    on-side = ap (is_end side n) wired ∙ end-side (wire_at wires e) n p h.at_port
+
+    in-view : sight (at n).view p ≡ seen_at (at n) p
+    in-view = quiet-seen (at n) cell.holds.ports (s.still n) p own
+
+    -- what passed is what the board has of this end
+    passed-here : passed (at n) p ≡ (end_for n true (port_at b.core e).wire (lane_at b e)).chunks
+    passed-here = quiet-passed (at n) p own (s.still n) in-view
+        ∙ (ap (λ e. (end_of_view (at n).node e).chunks) edge-is
+        ∙ ap (λ (z : End). z.chunks) end)
+
+    sees : Sees side (port_at b.core e).flags (flags_at e (at n).node.state.seen)
+    sees = subst (λ f. Sees side (port_at b.core e).flags f)
+        (ap (λ k. flags_at e (node_at b.core k).seen) is ∙ sym same-flags)
         ((s.board.laws.edges.each e inside).sees side (wire_at wires e) wired)
 
-    knows-port : (side : Bool) → end_of side (wire_at wires e) ≡ n
-        → (cells n).mark.state ≡ node.Resting
+    knows-port : (cells n).mark.state ≡ node.Resting
         → Knows side (flags_at e (at n).node.state.seen) (port_at b.core e).flags
-    knows-port side is rest = subst (λ f. Knows side f (port_at b.core e).flags)
-        (ap (λ k. flags_at e (node_at b.core k).seen) is ∙ sym sight)
+    knows-port rest = subst (λ f. Knows side f (port_at b.core e).flags)
+        (ap (λ k. flags_at e (node_at b.core k).seen) is ∙ sym same-flags)
         (quiet-knows b.core e side (wire_at wires e) s.pending inside wired
         (ap (λ k. (node_at b.core k).word) is ∙ idle n there (s.born e n p h) rest)
         (ap (λ k. knows e (node_at b.core k).seen) is ∙ known)
@@ -171,24 +183,17 @@ module _ (count : ℕ) (wires : List Wire) (b : Board) (cells : ℕ → WholeCel
     abbrev lifted : Option Table
     lifted = lifted_at (at n) e
 
-    to-here : (wire_at wires e).to ≡ n
-    to-here = h.at_port.0
-
-    consumer : is_end true n (port_at b.core e).wire ≡ true
-    consumer = ap (is_end true n) (wired e n (Input i) h) ∙ eq-eqb (wire_at wires e).to n to-here
-
     content : (c : Table) → lifted ≡ Some c → (lane_at b e).content ≡ Some c
     content c q = lifted-content n (port_at b.core e).wire (lane_at b e) (slot_in e (at n).slots) c
-        consumer (ap (λ (z : End). lifted_of (slot_in e (at n).slots) z.turn)
+        (on-side e n (Input i) h) (ap (λ (z : End). lifted_of (slot_in e (at n).slots) z.turn)
         (sym (end e n (Input i) h)) ∙ q)
 
     edge-chunk : (edge e).chunk ≡ unlifted lifted (lane_at b e).content
-    edge-chunk = ap (λ k. unlifted (lifted_at (at k) e) (lane_at b e).content) to-here
+    edge-chunk = ap (λ k. unlifted (lifted_at (at k) e) (lane_at b e).content) h.at_port.0
 
-    in-view : input_at (at n).view i ≡ input_seen (at n).node (at n).slots e
-    in-view = quiet-sight (at n) (cell e n (Input i) h).holds.ports (s.still n) (Input i)
-        ∙ (shown-input (at n) i (own e n (Input i) h)
-        ∙ ap (input_seen (at n).node (at n).slots) (edge-is e n (Input i) h))
+    input-seen : input_at (at n).view i ≡ input_seen (at n).node (at n).slots e
+    input-seen = in-view e n (Input i) h
+        ∙ ap (input_seen (at n).node (at n).slots) (edge-is e n (Input i) h)
 
     filled : (port_at b.core e).flags.has_data ≡ is_some (lane_at b e).content
     filled = sym (lane-full (port_at b.core e) (lane_at b e)
@@ -198,56 +203,39 @@ module _ (count : ℕ) (wires : List Wire) (b : Board) (cells : ℕ → WholeCel
     input-end = subst (λ l. InputHolds (cells n).mark.state (input_at (at n).view i)
         (input_after i l (port_at b.core e).flags) (edge e).chunk) (sym (s.still n)) record {
           follows = subst (λ (x : InputPort). InputFollows x.flags (port_at b.core e).flags)
-              (sym in-view) (input-follows (port_at b.core e).flags _
-              (sees e n (Input i) h true to-here));
+              (sym input-seen) (input-follows (port_at b.core e).flags _
+              (sees e n (Input i) h));
           data_there = filled ∙ (there-content lifted (lane_at b e).content content
-              ∙ λ j. is_some (sym in-view j).chunk || is_some (sym edge-chunk j));
+              ∙ λ j. is_some (sym input-seen j).chunk || is_some (sym edge-chunk j));
           one_chunk = λ q. edge-chunk ∙ one-content lifted (lane_at b e).content
-              (ap (λ (x : InputPort). is_some x.chunk) (sym in-view) ∙ q);
-          known = λ r. ap (λ (x : InputPort). x.flags) in-view
-              ∙ knows-port e n (Input i) h true to-here r;
+              (ap (λ (x : InputPort). is_some x.chunk) (sym input-seen) ∙ q);
+          known = λ r. ap (λ (x : InputPort). x.flags) input-seen
+              ∙ knows-port e n (Input i) h r;
         }
 
     -- what was pulled, with what lies in the view and in the edge
     pub pulled-there : (pulled_by (at n) i ++ chunks_of (input_at (at n).view i).chunk)
         ++ chunks_of (edge e).chunk ≡ (lane_at b e).pushed
     unfolding input_at
-    pulled-there = let c = at n in let o = own e n (Input i) h in
-        let seen = shown-input c i o ∙ ap (input_seen c.node c.slots) (edge-is e n (Input i) h) in
-        let none : taken_out (input_at (shown c) i).chunk (input_at c.view i).chunk ≡ [] =
-        (λ j. taken_out (seen j).chunk (in-view j).chunk) ∙ taken-same lifted in
-        let pulled : chunks_on c.node c.inputs i ≡ (lane_at b e).pulled =
-        chunks-on-edge c.node c.inputs i o
-        ∙ (ap (λ e. (end_of_view c.node e).chunks) (edge-is e n (Input i) h)
-        ∙ (ap (λ (z : End). z.chunks) (end e n (Input i) h)
-        ∙ consumer-chunks n (port_at b.core e).wire (lane_at b e) consumer)) in
-        (λ j. ((pulled j ++ none j) ++ chunks_of (in-view j).chunk) ++ chunks_of (edge-chunk j))
-        ∙ ((λ j. (append-nil (lane_at b e).pulled j ++ chunks_of lifted)
-        ++ chunks_of (unlifted lifted (lane_at b e).content))
+    pulled-there = let pulled : pulled_by (at n) i ≡ (lane_at b e).pulled =
+        passed-here e n (Input i) h ∙ consumer-chunks n (port_at b.core e).wire (lane_at b e)
+        (on-side e n (Input i) h) in
+        (λ j. (pulled j ++ chunks_of (input-seen j).chunk) ++ chunks_of (edge-chunk j))
         ∙ (append_assoc (lane_at b e).pulled _ _
         ∙ (ap (λ l. (lane_at b e).pulled ++ l)
         (sym (split-content lifted (lane_at b e).content content))
-        ∙ sym (s.board.lanes e).chunks)))
+        ∙ sym (s.board.lanes e).chunks))
 
   -- ---- the producer's end
 
   module _ (e o : ℕ) (n : ℕ) (h : HasEdge wires n (Output o) e) where
-    from-here : (wire_at wires e).from ≡ n
-    from-here = h.at_port.0
-
-    producer : is_end false n (port_at b.core e).wire ≡ true
-    producer = ap (is_end false n) (wired e n (Output o) h)
-        ∙ eq-eqb (wire_at wires e).from n from-here
-
     no-consumer : is_end true n (port_at b.core e).wire ≡ false
     no-consumer = ap (is_end true n) (wired e n (Output o) h) ∙ ne_eqb (wire_at wires e).to n
-        (λ k. apart count wires s.graph e h.in_range (from-here ∙ sym k))
+        (λ k. apart count wires s.graph e h.in_range (h.at_port.0 ∙ sym k))
 
     out-view : output_at (at n).view o ≡ flags_at e (at n).node.state.seen
-    out-view = ap (λ (x : InputPort). x.flags)
-        (quiet-sight (at n) (cell e n (Output o) h).holds.ports (s.still n) (Output o))
-        ∙ (shown-output (at n) o (own e n (Output o) h)
-        ∙ ap (output_seen (at n).node) (edge-is e n (Output o) h))
+    out-view = ap (λ (x : InputPort). x.flags) (in-view e n (Output o) h)
+        ∙ ap (output_seen (at n).node) (edge-is e n (Output o) h)
 
     pub output-end : EndHolds (Output o) (picture_of (cells n)) (edge e)
     output-end = let f = (port_at b.core e).flags in
@@ -255,22 +243,16 @@ module _ (count : ℕ) (wires : List Wire) (b : Board) (cells : ℕ → WholeCel
         × OutputAllows o l f) (sym (s.still n)) (
           record {
             follows = subst (λ x. OutputFollows x f) (sym out-view) (output-follows f _
-                (sees e n (Output o) h false from-here));
+                (sees e n (Output o) h));
             known = λ r. subst (λ x. ProducerKnows x f) (sym out-view) (producer-knows f _
-                (knows-port e n (Output o) h false from-here r));
+                (knows-port e n (Output o) h r));
           },
           tt,
         )
 
     pub pushed-there : pushed_by (at n) o ≡ (lane_at b e).pushed
-    unfolding pushes_to
-    pushed-there = let c = at n in let w = own e n (Output o) h in
-        (λ j. chunks_on c.node c.outputs o ++ pushes_to o (s.still n j))
-        ∙ (append-nil (chunks_on c.node c.outputs o)
-        ∙ (chunks-on-edge c.node c.outputs o w
-        ∙ (ap (λ e. (end_of_view c.node e).chunks) (edge-is e n (Output o) h)
-        ∙ (ap (λ (z : End). z.chunks) (end e n (Output o) h)
-        ∙ producer-chunks n (port_at b.core e).wire (lane_at b e) producer no-consumer))))
+    pushed-there = passed-here e n (Output o) h ∙ producer-chunks n (port_at b.core e).wire
+        (lane_at b e) (on-side e n (Output o) h) no-consumer
 
   -- ---- the graph is running, and nothing is due
 
@@ -299,7 +281,7 @@ module _ (count : ℕ) (wires : List Wire) (b : Board) (cells : ℕ → WholeCel
     each = λ n lt born. cell-holds n (s.home n lt born);
     unborn = s.unborn;
     born = s.born;
-    ends = λ e n p h. end-there e n p h;
+    ends = λ e n p h. end-holds e n p h;
     lists = λ e lt.
         let w : Wire = wire_at wires e in
         let from : HasEdge wires w.from (Output w.out) e =
@@ -312,10 +294,10 @@ module _ (count : ℕ) (wires : List Wire) (b : Board) (cells : ℕ → WholeCel
         ++ pushes_to w.out (sym (s.still w.from) j)));
   }
     where
-      end-there : (e n : ℕ) (p : Port) → HasEdge wires n p e
+      end-holds : (e n : ℕ) (p : Port) → HasEdge wires n p e
           → EndHolds p (picture_of (cells n)) (edge e)
-      end-there e n (Input i) h = input-end e i n h
-      end-there e n (Output o) h = output-end e o n h
+      end-holds e n (Input i) h = input-end e i n h
+      end-holds e n (Output o) h = output-end e o n h
 
 pub settled-law : SettledLaw
 settled-law count wires b cells s = record {

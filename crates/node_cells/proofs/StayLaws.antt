@@ -4,6 +4,7 @@ use Rattle.node_cells.specs.Turns.{KeepsProcessor, Stays, turn_picture}
 use Rattle.node_ports.proofs.LoopLaws.{ports-both}
 use Rattle.exec_laws.proofs.Acting.{stays-both, stays-itself}
 use Rattle.exec_laws.specs.Names.{StaysBox}
+use Rattle.exec_table.specs.declared.types.Updated.{Updated}
 
 module _ {P : Type 0} (seen : P → BoxPicture) where
   pub keeps-stays : (a b : NodeCell P) → KeepsProcessor a b → Stays seen a b
@@ -37,10 +38,11 @@ module _ {P : Type 0} (seen : P → BoxPicture) where
     };
   }
 
--- a step of the seat leaves its node
-pub number-ports : (p : NodePorts) (old new : NodeSeat) → (view new).number ≡ (view old).number
-    → SamePorts (ports_picture p old) (ports_picture p new)
-number-ports p old new q = record {
+-- a step of the seat leaves its node, whatever ports are updated ones after it
+pub number-ports : (p : NodePorts) (u : Updated) (old new : NodeSeat)
+    → (view new).number ≡ (view old).number
+    → SamePorts (ports_picture p old) (ports_picture (record p { updated = u }) new)
+number-ports p u old new q = record {
   inputs = refl;
   outputs = refl;
   sources = refl;

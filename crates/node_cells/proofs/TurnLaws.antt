@@ -1,5 +1,5 @@
 -- A node that has looked at its ports is prepared.
-use Rattle.node_cells.proofs.Imports.{Input, Output, Identity, InTurn, IsSeatOf, NodeCell, SameLists, SamePorts, cell_ports, view, Flags, None, BoxHolds, BoxPicture, CellPicture, FollowsKept, InputPort, IsDifference, Lists, MarkHolds, NodeMark, Option, Picture, PortsHold, PortsPicture, Some, Table, Turns, ViewHolds, [], ap, append-nil, chunks_on, input_at, length, pulled_by, pushed_by, pushes_to, refl, shown, subst, sym, taken_out, with_pulled, with_pushed, ℕ, ◌++◌, ◌∙◌, ◌≡◌, NodeHolds}
+use Rattle.node_cells.proofs.Imports.{Input, Output, Identity, InTurn, IsSeatOf, NodeCell, NodePorts, NodeSeat, SameLists, SamePorts, cell_ports, view, Flags, None, BoxHolds, BoxPicture, CellPicture, FollowsKept, InputPort, IsDifference, Lists, MarkHolds, NodeMark, Option, Picture, PortsHold, PortsPicture, Some, Table, Turns, ViewHolds, [], ap, append-nil, chunks_on, input_at, length, ports_picture, pulled_by, pushed_by, pushes_to, refl, shown, subst, sym, taken_out, with_pulled, with_pushed, ℕ, ◌++◌, ◌∙◌, ◌≡◌, NodeHolds}
 use Rattle.node_ports.proofs.Shown.{quiet-sight}
 use Rattle.exec_laws.proofs.Turns.{explained, pushed-by-actions, turned-box, turned-kept, turned-mark, turned-view}
 use Rattle.exec_laws.specs.Names.{state_after}
@@ -77,6 +77,7 @@ module _ (p q : BoxPicture) (m k : NodeMark) (c : PortsPicture) (v : Picture)
       is = w.is;
     };
     unlooked = h.ports.unlooked;
+    updated = h.ports.updated;
     peers = h.ports.peers;
     ins = new-view.ins;
     outs = new-view.outs;
@@ -111,9 +112,9 @@ module _ (p q : BoxPicture) (m k : NodeMark) (c : PortsPicture) (v : Picture)
 -- ---- the law where only ports moved
 
 -- the box and the mark are as they were
-pub moved-node : (p : BoxPicture) (m : NodeMark) (c d : PortsPicture) → NodeHolds p m c
+moved-node : (p : BoxPicture) (m : NodeMark) (c d : PortsPicture) → NodeHolds p m c
     → PortsHold d → SameLists c d → SamePorts c d → (FollowsKept p c.view → FollowsKept p d.view)
-    → MarkHolds m.state m.last (length d.inputs) (length d.outputs) p d.view → NodeHolds p m d
+    → MarkHolds m.state m.last (length c.inputs) (length c.outputs) p d.view → NodeHolds p m d
 moved-node p m c d h ports lists same follows mark = record {
   ports = ports;
   box = subst (λ (l : (ℕ × ℕ) × (Lists × Lists)). BoxHolds l.0.0 l.0.1 p l.1.0 l.1.1)
@@ -122,29 +123,28 @@ moved-node p m c d h ports lists same follows mark = record {
         ((λ i. sym (lists.pulled i) j), (λ o. sym (lists.pushed o) j)),
       )) h.box;
   kept = λ k. follows (h.kept k);
-  mark = mark;
+  mark = subst (λ (k : ℕ × ℕ). MarkHolds m.state m.last k.0 k.1 p d.view)
+      (λ j. (length (sym same.inputs j), length (sym same.outputs j))) mark;
 }
 
-pub looked-due : {P : Type 0} (seen : P → BoxPicture) (t : Identity) (old new : NodeCell P)
-    → IsDue seen t old → IsSeatOf t new.seat → new.processor ≡ old.processor → new.mark ≡ old.mark
-    → Looked (cell_ports old) (cell_ports new) → IsDue seen t new
-looked-due seen t old new h seat box mark l = record {
+pub looked-due : {P : Type 0} (seen : P → BoxPicture) (t : Identity) (c : NodeCell P)
+    (p : NodePorts) (s : NodeSeat) → IsDue seen t c → IsSeatOf t s
+    → Looked (cell_ports c) (ports_picture p s)
+    → IsDue seen t (record c { ports = p; seat = s })
+looked-due seen t c p s h seat l = record {
   holds = record {
     cell = record {
       seat = seat;
-      node = subst (λ p. NodeHolds (seen p) new.mark (cell_ports new)) (sym box)
-          (subst (λ m. NodeHolds (seen old.processor) m (cell_ports new)) (sym mark)
-          (moved-node (seen old.processor) old.mark (cell_ports old) (cell_ports new)
-          h.holds.cell.node l.may.holds l.lists l.ports (l.follows (seen old.processor))
-          (subst (λ s. MarkHolds s old.mark.last (length (cell_ports new).inputs)
-          (length (cell_ports new).outputs) (seen old.processor) (cell_ports new).view)
-          (sym h.due) tt)));
+      node = moved-node (seen c.processor) c.mark (cell_ports c) (ports_picture p s)
+          h.holds.cell.node l.may.holds l.lists l.ports (l.follows (seen c.processor))
+          (subst (λ s. MarkHolds s c.mark.last (length (cell_ports c).inputs)
+          (length (cell_ports c).outputs) (seen c.processor) p.view) (sym h.due) tt);
     };
     turn = l.may.turn;
     stage = l.stage ∙ h.holds.stage;
   };
   quiet = l.may.quiet;
-  due = ap (λ (m : NodeMark). m.state) mark ∙ h.due;
+  due = h.due;
 }
 
 pub cell-prepared : {P : Type 0} (seen : P → BoxPicture) (t : Identity) (old new : NodeCell P)
@@ -172,27 +172,22 @@ cell-prepared seen t old new s h looked turns mark ports seat = record {
 
 -- ---- the law where actions are carried out
 
-pub carried-prepared : {P : Type 0} (seen : P → BoxPicture) (t : Identity) (old new : NodeCell P)
-    (s : Status) → IsPrepared seen t old s → IsSeatOf t new.seat → new.processor ≡ old.processor
-    → new.mark ≡ old.mark → Carried (cell_ports old) (cell_ports new) → IsPrepared seen t new s
-carried-prepared seen t old new s h seat box mark l =
-    let node = h.holds.cell.node in record {
-      holds = record {
-        cell = record {
-          seat = seat;
-          node = subst (λ p. NodeHolds (seen p) new.mark (cell_ports new)) (sym box)
-              (subst (λ m. NodeHolds (seen old.processor) m (cell_ports new)) (sym mark)
-              (moved-node (seen old.processor) old.mark (cell_ports old) (cell_ports new)
-              node l.may.holds l.lists l.ports (l.follows (seen old.processor))
-              (subst (λ (k : ℕ × ℕ). MarkHolds old.mark.state old.mark.last k.0 k.1
-              (seen old.processor) (cell_ports new).view)
-              (λ j. (length (sym l.ports.inputs j), length (sym l.ports.outputs j)))
-              (l.marks old.mark.state old.mark.last (length (cell_ports old).inputs)
-              (length (cell_ports old).outputs) (seen old.processor) node.mark))));
-        };
-        turn = l.may.turn;
-        stage = l.stage ∙ h.holds.stage;
-      };
-      mark = mark ∙ h.mark;
-      looked = l.unlooked ∙ h.looked;
-    }
+pub carried-prepared : {P : Type 0} (seen : P → BoxPicture) (t : Identity) (c : NodeCell P)
+    (p : NodePorts) (s : NodeSeat) (answer : Status) → IsPrepared seen t c answer → IsSeatOf t s
+    → Carried (cell_ports c) (ports_picture p s)
+    → IsPrepared seen t (record c { ports = p; seat = s }) answer
+carried-prepared seen t c p s answer h seat l = let node = h.holds.cell.node in record {
+  holds = record {
+    cell = record {
+      seat = seat;
+      node = moved-node (seen c.processor) c.mark (cell_ports c) (ports_picture p s) node
+          l.may.holds l.lists l.ports (l.follows (seen c.processor))
+          (l.marks c.mark.state c.mark.last (length (cell_ports c).inputs)
+          (length (cell_ports c).outputs) (seen c.processor) node.mark);
+    };
+    turn = l.may.turn;
+    stage = l.stage ∙ h.holds.stage;
+  };
+  mark = h.mark;
+  looked = l.unlooked ∙ h.looked;
+}

@@ -14,7 +14,7 @@ pub record NodeHolds (p : BoxPicture) (m : NodeMark) (c : PortsPicture) : Type 0
   pub mark : MarkHolds m.state m.last (length c.inputs) (length c.outputs) p c.view
 
 -- A node at home: nothing waits to be carried out or told, and it has no token. A node that rests
--- has looked at all its ports; one that is due a call is held.
+-- has looked at all its updated ports; one that is due a call is held.
 pub record IsHome (mark : NodeMark) (c : PortsPicture) : Type 0 where
   pub actions : c.view.actions ≡ []
   pub tokens : c.node.state.tokens ≡ 0

@@ -98,6 +98,7 @@ no_whole = record {
     sources = [];
     targets = [];
     needed = [];
+    updated = record { inputs = 0; outputs = 0; first = false };
   };
 }
 

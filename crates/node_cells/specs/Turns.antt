@@ -61,7 +61,7 @@ pub record IsDue {P : Type 0} (seen : P → BoxPicture) (t : Identity) (c : Node
   pub quiet : c.ports.view.actions ≡ []
   pub due : c.mark.state ≡ node.Due
 
--- it was prepared, after it had looked at all its ports; what it did may wait
+-- it was prepared, after it had looked at all its updated ports; what it did may wait
 pub record IsPrepared {P : Type 0} (seen : P → BoxPicture) (t : Identity) (c : NodeCell P)
     (s : Status) : Type 0 where
   pub holds : TurnHolds seen t c

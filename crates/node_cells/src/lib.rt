@@ -2,10 +2,10 @@
 //! execution table, and its turns, for every processor.
 //!
 //! A worker takes a due node's cell, and turns it until it may go home: the node looks at its
-//! ports, is prepared, what it did is carried out and its peers are told, and what comes next
-//! follows from the answer, as the comment on the status in ClickHouse's `IProcessor.h` has it. The
-//! law of a cell (`CellHolds`) speaks of this cell and its seat alone; what follows of all cells at
-//! home is `law_of_settled_cells`. Each call leaves the box the one that it was (`Stays`).
+//! updated ports, is prepared, what it did is carried out and its peers are told, and what comes
+//! next follows from the answer, as the comment on the status in ClickHouse's `IProcessor.h` has
+//! it. The law of a cell (`CellHolds`) speaks of this cell and its seat alone; what follows of all
+//! cells at home is `law_of_settled_cells`. Each call leaves the box the one that it was (`Stays`).
 //!
 //! - `cell.rt`: what belongs to one node
 //! - `preparation.rt`: a node looks at its ports and is prepared

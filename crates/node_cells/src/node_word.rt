@@ -10,7 +10,7 @@ ghost use Rattle.node_cells.specs.Turns.{AtHome, IsDue, KeepsProcessor, MayBegin
 use crate::cell::NodeCell;
 use exec_laws::NodeState;
 use exec_table::{ExecTable, NodeSeat, Rested, Updated};
-use node_ports::{Carry, carry_next};
+use node_ports::{Carry, carry_next, merge_updated};
 use proc_api::{Processor, Status};
 
 /// Carries out the first action that waits.
@@ -43,7 +43,8 @@ pub fn rest<P: Processor>(table: &ExecTable, cell: &mut NodeCell<P>, status: Sta
             true
         }
         Rested::UpdatedAgain => {
-            table.again(&mut cell.seat);
+            let updated = table.again(&mut cell.seat);
+            cell.ports.updated = merge_updated(cell.ports.updated, updated);
             cell.mark.state = NodeState::Due;
             false
         }
@@ -89,6 +90,7 @@ pub fn begin<P: Processor>(table: &ExecTable, cell: &mut NodeCell<P>)
     table.token_in(&mut cell.seat);
     let updated = table.begin(&mut cell.seat);
     take_back(table, &mut cell.seat, is_named_by(&updated));
+    cell.ports.updated = merge_updated(cell.ports.updated, updated);
     cell.mark.state = NodeState::Due;
 }
 

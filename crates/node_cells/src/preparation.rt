@@ -10,7 +10,7 @@ ghost use Rattle.node_cells.specs.Turns.{IsDue, IsPrepared, KeepsProcessor, Stay
 use crate::cell::NodeCell;
 use exec_laws::{DueCall, NodeMark, NodeState};
 use exec_table::ExecTable;
-use node_ports::look_at_all;
+use node_ports::look_at_updated;
 use port_word::PortView;
 use proc_api::{Processor, Status, shut_down};
 
@@ -81,17 +81,17 @@ fn prepare_box<P: Processor>(cell: &mut NodeCell<P>) -> Status
     status
 }
 
-/// Looks at all ports of a node that is due.
+/// Looks at the updated ports of a node that is due.
 fn look_ports<P: Processor>(table: &ExecTable, cell: &mut NodeCell<P>)
     requires { IsDue P.seen (identity_of table.now) cell.old }
     ensures due { IsDue P.seen (identity_of table.now) cell.new }
     ensures looked { (view cell.new.seat).state.unlooked ≡ [] }
     ensures keeps { KeepsProcessor cell.old cell.new }
 {
-    look_at_all(table, &mut cell.ports, &mut cell.seat);
+    look_at_updated(table, &mut cell.ports, &mut cell.seat);
 }
 
-/// The node looks at its ports and is prepared. What it did is yet to be carried out. As in
+/// The node looks at its updated ports and is prepared. What it did is yet to be carried out. As in
 /// ClickHouse's `IProcessor.h`, a prepare works on ports alone, takes little time, and is never
 /// made while the processor works.
 pub fn prepare<P: Processor>(table: &ExecTable, cell: &mut NodeCell<P>) -> Status

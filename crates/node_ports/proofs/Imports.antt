@@ -10,6 +10,7 @@ pub use Rattle.core_laws.proofs.Lists.{has-filter, seeing-here}
 pub use Rattle.core_laws.specs.declared.types.Step.{Step}
 pub use Rattle.port_word.specs.declared.flags.Wire.{Wire}
 pub use Rattle.exec_table.specs.declared.types.NodeView.{NodeView}
+pub use Rattle.exec_table.specs.declared.types.Updated.{Updated}
 pub use Rattle.exec_table.specs.declared.types.End.{End}
 pub use Rattle.exec_table.specs.declared.rule.NodeSeat.{NodeSeat}
 pub use Rattle.exec_table.specs.Known.{price, state_after as seat_after}
@@ -31,7 +32,7 @@ pub use Rattle.exec_laws.specs.Prelude.{BoxPicture, FollowsKept, Table, taken_ou
 pub use Rattle.exec_laws.proofs.Ports.{push-away}
 pub use Rattle.node_ports.specs.Actions.{Acted, MayAct, SameLists, SamePorts, step_of, untaken}
 pub use Rattle.port_word.specs.declared.flags.Action.TheVariants.{Close, Finish, Pull, Push, Unwant, Want}
-pub use Rattle.node_ports.specs.Ports.{HasPortOf, PortKnown, PortsHold, PortsPicture, chunks_on, edge_of, input_seen, is_own_port, lifted_of, output_seen, ports_picture, pulled_by, pushed_by, shown}
+pub use Rattle.node_ports.specs.Ports.{HasPortOf, PortKnown, PortsHold, PortsPicture, chunks_on, edge_of, input_seen, is_own_port, is_updated, lifted_of, output_seen, ports_picture, pulled_by, pushed_by, shown}
 pub use Rattle.node_ports.specs.declared.ports.NodePorts.{NodePorts}
 unfoldable pub use Rattle.exec_laws.specs.Prelude.{in_count, input_at, out_count, output_at, pushes_to}
 pub use Rattle.exec_laws.specs.declared.edges.NodeState.{NodeState}

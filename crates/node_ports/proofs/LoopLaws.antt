@@ -1,6 +1,7 @@
 -- Looks and actions, one after another.
-use Rattle.node_ports.proofs.Imports.{Bool, Input, List, Output, Port, PortsPicture, SameLists, SamePorts, [], ap, arith, cases_eq, edge_of, eq-eqb, false, has, inl, inr, is_own_port, length, port_edge, refl, sym, true, ℕ, ◌+◌, ◌||◌, ◌∙◌, ◌∷◌, ◌≡◌}
-use Rattle.node_ports.specs.Sights.{Looked, LookedAll, LookedAt, LookedBelow, MayLook}
+use Rattle.node_ports.proofs.Imports.{Input, IsPort, List, NodePorts, NodeSeat, Output, Port, PortsPicture, SameLists, SamePorts, Updated, [], ap, arith, cases_Bool, cases_eq, edge_of, eq-eqb, false, has, inl, inr, is_own_port, is_updated, length, port_edge, ports_picture, refl, subst, sym, true, view, ℕ, ◌+◌, ◌<◌, ◌||◌, ◌∙◌, ◌∷◌, ◌≡◌}
+use Rattle.node_ports.proofs.StillLaws.{StaysSeat, still-holds, still-lists}
+use Rattle.node_ports.specs.Sights.{Looked, LookedAll, LookedAt, LookedBelow, MayLook, nth_port}
 
 pub same-lists : (c : PortsPicture) → SameLists c c
 same-lists c = record { pulled = λ i. refl; pushed = λ o. refl }
@@ -44,28 +45,44 @@ looked-both a b c h k = record {
   follows = λ p f. k.follows p (h.follows p f);
 }
 
-pub looked-none : (side : ℕ → Port) (c : PortsPicture) → MayLook c → LookedBelow side 0 c c
-looked-none side c may = record {
-  looked = record {
-    may = may;
-    lists = same-lists c;
-    ports = same-ports c;
-    stage = refl;
-    fewer = λ e q. q;
-    follows = λ b f. f;
-  };
+pub looked-itself : (c : PortsPicture) → MayLook c → Looked c c
+looked-itself c may = record {
+  may = may;
+  lists = same-lists c;
+  ports = same-ports c;
+  stage = refl;
+  fewer = λ e q. q;
+  follows = λ b f. f;
+}
+
+-- a port that isn't among the updated ones was looked at
+pub looked-before : (c : PortsPicture) (p : Port) → MayLook c → is_own_port c p
+    → is_updated p c.updated ≡ false → LookedAt p c c
+looked-before c p may own none = record {
+  looked = looked-itself c may;
+  here = elim (cases_Bool (has (edge_of c p) c.node.state.unlooked)) [
+    | inl q ↦ absurd (let z : true ≡ false = sym (may.holds.updated p own q) ∙ none in cc)
+    | inr q ↦ q
+  ];
+}
+
+pub looked-none : (c : PortsPicture) → MayLook c → LookedBelow 0 c c
+looked-none c may = record {
+  looked = looked-itself c may;
   below = λ i lt. absurd (omega (arith, lt));
 }
 
-pub looked-more : (side : ℕ → Port) (k : ℕ) (c d e : PortsPicture) → LookedBelow side k c d
-    → LookedAt (side k) d e → LookedBelow side (k + 1) c e
-looked-more side k c d e h m = record {
+pub looked-more : (k : ℕ) (c d e : PortsPicture) → LookedBelow k c d
+    → LookedAt (nth_port (length c.inputs) k) d e → LookedBelow (k + 1) c e
+looked-more k c d e h m = record {
   looked = looked-both c d e h.looked m.looked;
   below = λ i lt. elim (cases_eq i k) [
-    | inl at ↦ ap (λ i. has (edge_of c (side i)) e.node.state.unlooked) at
-        ∙ (ap (λ x. has x e.node.state.unlooked) (sym (edge-stays c d h.looked.ports (side k)))
+    | inl at ↦ ap (λ i. has (edge_of c (nth_port (length c.inputs) i)) e.node.state.unlooked) at
+        ∙ (ap (λ x. has x e.node.state.unlooked) (sym (edge-stays c d h.looked.ports
+        (nth_port (length c.inputs) k)))
         ∙ m.here)
-    | inr ne ↦ m.looked.fewer (edge_of c (side i)) (h.below i (omega (arith, lt, ne)))
+    | inr ne ↦ m.looked.fewer (edge_of c (nth_port (length c.inputs) i))
+        (h.below i (omega (arith, lt, ne)))
   ];
 }
 
@@ -73,32 +90,62 @@ has-none : (xs : List ℕ) → ((x : ℕ) → has x xs ≡ true → ⊥) → xs 
 has-none [] h = refl
 has-none (x ∷ xs) h = absurd (h x (ap (λ b. b || has x xs) (eq-eqb x x refl)))
 
-pub looked-all : (c d e : PortsPicture) → LookedBelow Input (length c.inputs) c d
-    → LookedBelow Output (length d.outputs) d e → LookedAll c e
-looked-all c d e h k = record {
-  looked = looked-both c d e h.looked k.looked;
-  none = has-none e.node.state.unlooked (λ x q.
-      let p = k.looked.may.holds.cover x (k.looked.may.holds.unlooked x q) in
-      not-there x q p.port p.there p.is);
+-- each port has a number
+numbered : (m n : ℕ) (p : Port) → IsPort m n p → (k : ℕ) × (k < m + n) × (nth_port m k ≡ p)
+numbered m n (Input i) lt = (i, omega (arith, lt), grind (arith, lt))
+numbered m n (Output o) lt = (m + o, omega (arith, lt), grind arith)
+
+none-unlooked : (c d : PortsPicture) → LookedBelow (length c.inputs + length c.outputs) c d
+    → d.node.state.unlooked ≡ []
+none-unlooked c d h = has-none d.node.state.unlooked (λ x q.
+    let p = h.looked.may.holds.cover x (h.looked.may.holds.unlooked x q) in
+    let s = h.looked.ports in
+    let own = subst (λ (l : List ℕ × List ℕ). IsPort (length l.0) (length l.1) p.port)
+    (λ j. (s.inputs j, s.outputs j)) p.there in
+    let k = numbered (length c.inputs) (length c.outputs) p.port own in
+    let z : true ≡ false = sym q ∙ (ap (λ e. has e d.node.state.unlooked) (sym p.is
+    ∙ (edge-stays c d s p.port ∙ ap (edge_of c) (sym k.2))) ∙ h.below k.0 k.1) in cc)
+
+-- all were looked at: none is among the updated ones any more
+pub looked-all : (c : PortsPicture) (p : NodePorts) (s : NodeSeat) (u : Updated)
+    → LookedBelow (length c.inputs + length c.outputs) c (ports_picture p s)
+    → LookedAll c (ports_picture (record p { updated = u }) s)
+looked-all c p s u h = record {
+  looked = looked-both c (ports_picture p s) (ports_picture (record p { updated = u }) s) h.looked
+      record {
+        may = record {
+          holds = still-holds p u s s h.looked.may.holds stays;
+          turn = h.looked.may.turn;
+          quiet = h.looked.may.quiet;
+        };
+        lists = still-lists p u s s h.looked.may.holds stays;
+        ports = record {
+          inputs = refl;
+          outputs = refl;
+          sources = refl;
+          targets = refl;
+          number = refl;
+        };
+        stage = refl;
+        fewer = λ e q. q;
+        follows = λ b f. f;
+      };
+  none = none;
 }
   where
-    both : PortsPicture
-    both = c
+    none : (view s).state.unlooked ≡ []
+    none = none-unlooked c (ports_picture p s) h
 
-    not-there : (x : ℕ) → has x e.node.state.unlooked ≡ true → (p : Port) → is_own_port e p
-        → edge_of e p ≡ x → ⊥
-    not-there x q (Input i) own is = no-both (has x e.node.state.unlooked) q
-        (ap (λ y. has y e.node.state.unlooked) (sym is
-        ∙ (edge-stays d e k.looked.ports (Input i) ∙ edge-stays c d h.looked.ports (Input i)))
-        ∙ k.looked.fewer (edge_of c (Input i)) (h.below i
-        (let s = ap length k.looked.ports.inputs in
-        let r = ap length h.looked.ports.inputs in omega (arith, own, s, r))))
-      where
-        no-both : (b : Bool) → b ≡ true → b ≡ false → ⊥
-        no-both b t f = let z : true ≡ false = sym t ∙ f in cc
-    not-there x q (Output o) own is = no-both (has x e.node.state.unlooked) q
-        (ap (λ y. has y e.node.state.unlooked) (sym is ∙ edge-stays d e k.looked.ports (Output o))
-        ∙ k.below o (let s = ap length k.looked.ports.outputs in omega (arith, own, s)))
-      where
-        no-both : (b : Bool) → b ≡ true → b ≡ false → ⊥
-        no-both b t f = let z : true ≡ false = sym t ∙ f in cc
+    not-there : (e : ℕ) → has e (view s).state.unlooked ≡ true → ⊥
+    not-there e q = let z : true ≡ false = sym q ∙ ap (has e) none in cc
+
+    stays : StaysSeat p u s s
+    stays = record {
+      number = refl;
+      edges = refl;
+      unlooked = record {
+        known = λ e q. absurd (not-there e q);
+        named = λ q own k. absurd (not-there (edge_of (ports_picture p s) q) k);
+      };
+      same = λ d. record { flags = refl; end = refl; slot = refl };
+    }

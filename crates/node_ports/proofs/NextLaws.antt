@@ -1,5 +1,6 @@
 -- An action is carried out and its peer told.
-use Rattle.node_ports.proofs.Imports.{Identity, Acted, Action, Bool, BoxPicture, FollowsKept, MarkHolds, MayAct, NodePorts, NodeSeat, NodeState, Option, Picture, PortsHold, PortsPicture, SamePorts, Some, TakesFirst, action_port, ap, edge_of, edges_of, false, has, port_edge, ports_picture, refl, subst, sym, true, untaken, ℕ, ◌∙◌, ◌≡◌, ◌≢◌}
+use Rattle.node_ports.proofs.Imports.{Identity, Acted, Action, Bool, BoxPicture, FollowsKept, MarkHolds, MayAct, NodePorts, NodeSeat, NodeState, Option, Picture, PortsHold, PortsPicture, SamePorts, Some, TakesFirst, action_port, ap, edge_of, edges_of, false, has, port_edge, ports_picture, refl, subst, sym, true, untaken, view, ℕ, ◌∙◌, ◌≡◌, ◌≢◌}
+use Rattle.node_ports.proofs.Shown.{still-updated}
 use Rattle.node_ports.proofs.StillLaws.{StaysSeat, still-holds, still-lists}
 use Rattle.node_ports.proofs.LoopLaws.{lists-both, ports-both}
 use Rattle.node_ports.specs.Peers.{Carried, CarriesAction, TellsIfDue, Told, carry_of, is_to_tell}
@@ -13,11 +14,12 @@ unfoldable use Rattle.port_word.specs.Names.{with_actions}
 
 -- the law stands after the peer was told
 told-stays : {t : Identity} {e : ℕ} {b : Bool} (p : NodePorts) (mid new : NodeSeat)
-    → PortsHold (ports_picture p mid) → Told t e b mid new → StaysSeat mid new
+    → PortsHold (ports_picture p mid) → Told t e b mid new → StaysSeat p p.updated mid new
 told-stays p mid new h w = record {
   number = w.number;
   edges = ap edges_of w.edges;
-  unlooked = λ e q. h.unlooked e (ap (has e) (sym w.unlooked) ∙ q);
+  unlooked = still-updated (ports_picture p mid) h (view new).state.unlooked
+      (λ e q. ap (has e) (sym w.unlooked) ∙ q);
   same = w.same;
 }
 
@@ -62,11 +64,11 @@ module _ {t : Identity} {e : ℕ} {b : Bool} (p : NodePorts) {mid new : NodeSeat
   pub carried-told : Told t e b mid new → Carried (untaken a c) (ports_picture p new)
   carried-told w = let stays = told-stays p mid new h.holds w in record {
     may = record {
-      holds = still-holds p mid new h.holds stays;
+      holds = still-holds p p.updated mid new h.holds stays;
       turn = w.turn;
     };
     lists = lists-both (untaken a c) (ports_picture p mid) (ports_picture p new) h.lists
-        (still-lists p mid new h.holds stays);
+        (still-lists p p.updated mid new h.holds stays);
     ports = ports-both (untaken a c) (ports_picture p mid) (ports_picture p new)
         (untaken-ports a c (ports_picture p mid) h.ports) (record {
           inputs = refl;

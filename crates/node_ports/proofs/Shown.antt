@@ -1,5 +1,5 @@
 -- The ports as the seat knows them, and what a step at one of them, or at none, leaves.
-use Rattle.node_ports.proofs.Imports.{End, Input, InputAllows, InputPort, IsDifference, IsEnd, IsSound, List, NodeView, None, Option, Output, OutputAllows, Picture, Port, PortKnown, PortsHold, PortsPicture, HasPortOf, SameLists, SamePorts, Some, Table, Wire, [], ap, arith, cases_eq, cases_lt, chunk_after, chunks_on, edge_of, edges_of, end_of_view, false, flags_at, get_or, get_or-map, get_or_past, has, holds_data, in_count, inl, input_after, input_at, input_seen, inr, is_own_port, is_some, knows, length, length-map, map, no_input, number_at, out_count, output_after, output_at, output_seen, over_flags, port_chunk, port_edge, port_flags, pulled_by, pushed_by, pushes_to, shown, slot_in, subst, sym, taken_out, true, ℕ, ◌++◌, ◌<◌, ◌∙◌, ◌≡◌, ◌≢◌, ◌≤◌, ◌⊎◌}
+use Rattle.node_ports.proofs.Imports.{Bool, End, Input, InputAllows, InputPort, IsDifference, IsEnd, IsSound, List, NodeView, None, Option, Output, OutputAllows, Picture, Port, PortKnown, PortsHold, PortsPicture, HasPortOf, SameLists, SamePorts, Some, Table, Updated, Wire, [], ap, append-nil, arith, cases_eq, cases_lt, chunk_after, chunks_on, edge_of, edges_of, end_of, end_of_view, eq-eqb, false, flags_at, get_or, get_or-map, get_or_past, has, holds_data, in_count, inl, input_after, input_at, input_seen, inr, is_end, is_own_port, is_some, is_updated, knows, length, length-map, lifted_of, map, no_input, number_at, out_count, output_after, output_at, output_seen, over_flags, port_chunk, port_edge, port_flags, pulled_by, pushed_by, pushes_to, refl, shown, slot_in, subst, sym, taken_out, true, ℕ, ◌++◌, ◌<◌, ◌∙◌, ◌≡◌, ◌≢◌, ◌≤◌, ◌⊎◌}
 
 -- ---- ports
 
@@ -20,13 +20,28 @@ at-or-not (Some p) q =
 abbrev pub sight : Picture → Port → InputPort
 sight v p = record { flags = port_flags v p; chunk = port_chunk v p }
 
+abbrev pub is_input : Port → Bool
+is_input (Input i) = true
+is_input (Output o) = false
+
+pub end-there : (w : Wire) (n : ℕ) (p : Port) → IsEnd w n p → end_of (is_input p) w ≡ n
+end-there w n (Input i) h = h.0
+end-there w n (Output o) h = h.0
+
+-- the node is that end of the wire
+pub end-side : (w : Wire) (n : ℕ) (p : Port) → IsEnd w n p
+    → is_end (is_input p) n (Some w) ≡ true
+end-side w n p h = eq-eqb (end_of (is_input p) w) n (end-there w n p h)
+
+-- the chunk that was lifted out of the slot of the port's edge
+abbrev pub lifted_at : PortsPicture → Port → Option Table
+lifted_at c (Input i) = lifted_of (slot_in (edge_of c (Input i)) c.slots)
+    (end_of_view c.node (edge_of c (Input i))).turn
+lifted_at c (Output o) = None
+
 -- the port by its edge, as the seat knows it
 abbrev pub seen_at : PortsPicture → Port → InputPort
-seen_at c (Input i) = input_seen c.node c.slots (edge_of c (Input i))
-seen_at c (Output o) = record {
-  flags = output_seen c.node (edge_of c (Output o));
-  chunk = None;
-}
+seen_at c p = record { flags = flags_at (edge_of c p) c.node.state.seen; chunk = lifted_at c p }
 
 abbrev edges_at : PortsPicture → Port → List ℕ
 edges_at c (Input i) = c.inputs
@@ -88,6 +103,17 @@ pub port-chunks : (c : PortsPicture) (p : Port) → is_own_port c p
 port-chunks c (Input i) lt = chunks-on-edge c.node c.inputs i lt
 port-chunks c (Output o) lt = chunks-on-edge c.node c.outputs o lt
 
+-- what was pulled from the port, or pushed to it, and waits to be carried out
+abbrev pub waiting : PortsPicture → Port → List Table
+waiting c (Input i) = taken_out (lifted_at c (Input i)) (input_at c.view i).chunk
+waiting c (Output o) = pushes_to o c.view.actions
+
+pub passed-at : (c : PortsPicture) (p : Port) → is_own_port c p
+    → passed c p ≡ (end_of_view c.node (edge_of c p)).chunks ++ waiting c p
+passed-at c (Input i) lt = λ j. port-chunks c (Input i) lt j
+    ++ taken_out (shown-input c i lt j).chunk (input_at c.view i).chunk
+passed-at c (Output o) lt = λ j. port-chunks c (Output o) lt j ++ pushes_to o c.view.actions
+
 -- two ports have two edges
 pub apart-edges : (c : PortsPicture) → PortsHold c → (p q : Port) → is_own_port c p
     → is_own_port c q → Some p ≢ Some q → edge_of c q ≢ edge_of c p
@@ -140,6 +166,30 @@ quiet-sight c h q (Output o) = λ j. record {
   chunk = None;
 }
 
+pub quiet-seen : (c : PortsPicture) → PortsHold c → c.view.actions ≡ [] → (p : Port)
+    → is_own_port c p → sight c.view p ≡ seen_at c p
+quiet-seen c h q p own = quiet-sight c h q p ∙ shown-at c p own
+
+-- where no action waits nothing does
+quiet-waiting : (c : PortsPicture) (p : Port) → c.view.actions ≡ [] → sight c.view p ≡ seen_at c p
+    → waiting c p ≡ []
+unfolding pushes_to
+quiet-waiting c (Input i) q is =
+    ap (λ (x : InputPort). taken_out (lifted_at c (Input i)) x.chunk) is
+    ∙ taken-itself (lifted_at c (Input i))
+  where
+    taken-itself : (x : Option Table) → taken_out x x ≡ []
+    taken-itself None = refl
+    taken-itself (Some c) = refl
+quiet-waiting c (Output o) q is = ap (pushes_to o) q
+
+-- so what passed is what went by on the edge
+pub quiet-passed : (c : PortsPicture) (p : Port) → is_own_port c p → c.view.actions ≡ []
+    → sight c.view p ≡ seen_at c p → passed c p ≡ (end_of_view c.node (edge_of c p)).chunks
+quiet-passed c p own q is = passed-at c p own
+    ∙ (ap (λ l. (end_of_view c.node (edge_of c p)).chunks ++ l) (quiet-waiting c p q is)
+    ∙ append-nil (end_of_view c.node (edge_of c p)).chunks)
+
 pub differs-quiet : (p : Port) (x : InputPort) (v : Picture) → v.actions ≡ [] → sight v p ≡ x
     → Differs p x v
 differs-quiet (Input i) x v q is = (
@@ -180,12 +230,27 @@ pub record Here (c d : PortsPicture) (p : Port) : Type 0 where
   pub ready : IsReady d p (sight (shown d) p)
   pub passes : passed d p ≡ passed c p
 
+-- the edges of the list are learned ones, each the edge of an updated port
+pub record AreUpdated (c : PortsPicture) (u : Updated) (edges : List ℕ) : Type 0 where
+  pub known : (e : ℕ) → has e edges ≡ true → knows e c.node.state.seen ≡ true
+  pub named : (p : Port) → is_own_port c p → has (edge_of c p) edges ≡ true
+      → is_updated p u ≡ true
+
+-- fewer unlooked edges are so too
+pub still-updated : (c : PortsPicture) → PortsHold c → (edges : List ℕ)
+    → ((e : ℕ) → has e edges ≡ true → has e c.node.state.unlooked ≡ true)
+    → AreUpdated c c.updated edges
+still-updated c h edges fewer = record {
+  known = λ e q. h.unlooked e (fewer e q);
+  named = λ p own q. h.updated p own (fewer (edge_of c p) q);
+}
+
 -- Of all other ports the seat knows what it knew, and the view explains what it shows by the port
 -- as it was.
 pub record MovesAt (c d : PortsPicture) (at : Option Port) : Type 0 where
   pub ports : SamePorts c d
   pub edges : edges_of d.node.state.seen ≡ edges_of c.node.state.seen
-  pub unlooked : (e : ℕ) → has e d.node.state.unlooked ≡ true → knows e c.node.state.seen ≡ true
+  pub unlooked : AreUpdated c d.updated d.node.state.unlooked
   pub others : (q : Port) → is_own_port c q → at ≢ Some q → SameAt c d (edge_of c q)
   pub ins : in_count d.view ≡ in_count c.view
   pub outs : out_count d.view ≡ out_count c.view
@@ -311,7 +376,9 @@ module _ (c d : PortsPicture) (at : Option Port) (h : PortsHold c) (m : MovesAt 
   moved-holds = record {
     known = moved-known;
     cover = moved-cover;
-    unlooked = λ e k. same-known e ∙ m.unlooked e k;
+    unlooked = λ e k. same-known e ∙ m.unlooked.known e k;
+    updated = λ q own k. m.unlooked.named q (old-own q own)
+        (ap (λ e. has e d.node.state.unlooked) (sym (same-edge q)) ∙ k);
     peers = (
       ap length m.ports.sources ∙ (h.peers.0 ∙ ap length (sym m.ports.inputs)),
       ap length m.ports.targets ∙ (h.peers.1 ∙ ap length (sym m.ports.outputs)),

@@ -1,32 +1,44 @@
 -- A step of the seat at no port.
-use Rattle.node_ports.proofs.Imports.{Answer, Chunk, Identity, Input, IsSeatOf, Makes, NodePorts, NodeSeat, None, Option, Output, Picture, Port, PortsHold, SameLists, Some, Step, edge_of, edges_of, false, has, knows, ports_picture, refl, shown, true, view, ℕ, ◌≡◌}
-use Rattle.node_ports.proofs.Shown.{MovesAt, Waits, differs-at, moved-holds, moved-lists}
+use Rattle.node_ports.proofs.Imports.{Answer, Chunk, Identity, Input, IsSeatOf, Makes, NodePorts, NodeSeat, None, Option, Output, Picture, Port, PortsHold, PortsPicture, SameLists, SeatState, Some, Step, Updated, ap, edge_of, edges_of, false, has, ports_picture, refl, seat_after, shown, state-made, sym, view, ℕ, ◌∙◌, ◌≡◌}
+use Rattle.node_ports.proofs.Shown.{AreUpdated, MovesAt, Waits, differs-at, moved-holds, moved-lists, still-updated}
 use Rattle.exec_table.proofs.Hands.{may_learn}
 use Rattle.exec_table.proofs.Ends.{edges-made, number-made, same-made}
 use Rattle.exec_table.specs.Known.{IsSameAt, is_at}
 
--- what it leaves of the edges, the ends and the slots
-pub record StaysSeat (old new : NodeSeat) : Type 0 where
+-- what it leaves of the edges, the ends and the slots, where these are the updated ports after it
+pub record StaysSeat (p : NodePorts) (u : Updated) (old new : NodeSeat) : Type 0 where
   pub number : (view new).number ≡ (view old).number
   pub edges : edges_of (view new).state.seen ≡ edges_of (view old).state.seen
-  pub unlooked : (d : ℕ) → has d (view new).state.unlooked ≡ true
-      → knows d (view old).state.seen ≡ true
+  pub unlooked : AreUpdated (ports_picture p old) u (view new).state.unlooked
   pub same : (d : ℕ) → IsSameAt old new d
 
 pub still-seat : {t : Identity} {old new : NodeSeat} {s : Step} {x : Option Chunk} {a : Answer}
-    → IsSeatOf t old → Makes t old new s x a → may_learn s ≡ false
-    → ((d : ℕ) → is_at d s ≡ false) → ((d : ℕ) → has d (view new).state.unlooked ≡ true
-    → knows d (view old).state.seen ≡ true) → StaysSeat old new
-still-seat o m plain nowhere inside = record {
+    {p : NodePorts} {u : Updated} → IsSeatOf t old → Makes t old new s x a
+    → may_learn s ≡ false → ((d : ℕ) → is_at d s ≡ false)
+    → AreUpdated (ports_picture p old) u (view new).state.unlooked → StaysSeat p u old new
+still-seat o m plain nowhere named = record {
   number = number-made o m;
   edges = edges-made o m plain;
-  unlooked = inside;
+  unlooked = named;
   same = λ d. same-made o m d (nowhere d);
 }
 
-module _ (p : NodePorts) (old new : NodeSeat) (h : PortsHold (ports_picture p old))
-    (k : StaysSeat old new) where
-  still-moves : MovesAt (ports_picture p old) (ports_picture p new) None
+-- a step after which the same edges are unlooked
+pub still-quiet : {t : Identity} {old new : NodeSeat} {s : Step} {x : Option Chunk} {a : Answer}
+    {p : NodePorts} → PortsHold (ports_picture p old) → IsSeatOf t old → Makes t old new s x a
+    → may_learn s ≡ false → ((d : ℕ) → is_at d s ≡ false)
+    → (seat_after (view old) s a).unlooked ≡ (view old).state.unlooked
+    → StaysSeat p p.updated old new
+still-quiet {t} {old} {new} {s} {x} {a} {p} h o m plain nowhere same =
+    still-seat o m plain nowhere (still-updated (ports_picture p old) h (view new).state.unlooked
+    (λ e q. sym (ap (λ (z : SeatState). has e z.unlooked) (state-made o m) ∙ ap (has e) same) ∙ q))
+
+module _ (p : NodePorts) (u : Updated) (old new : NodeSeat) (h : PortsHold (ports_picture p old))
+    (k : StaysSeat p u old new) where
+  abbrev pub after : PortsPicture
+  after = ports_picture (record p { updated = u }) new
+
+  still-moves : MovesAt (ports_picture p old) after None
   still-moves = record {
     ports = record {
       inputs = refl;
@@ -56,8 +68,8 @@ module _ (p : NodePorts) (old new : NodeSeat) (h : PortsHold (ports_picture p ol
       waits (Input i) v = refl
       waits (Output o) v = refl
 
-  pub still-holds : PortsHold (ports_picture p new)
-  still-holds = moved-holds (ports_picture p old) (ports_picture p new) None h still-moves
+  pub still-holds : PortsHold after
+  still-holds = moved-holds (ports_picture p old) after None h still-moves
 
-  pub still-lists : SameLists (ports_picture p old) (ports_picture p new)
-  still-lists = moved-lists (ports_picture p old) (ports_picture p new) None h still-moves
+  pub still-lists : SameLists (ports_picture p old) after
+  still-lists = moved-lists (ports_picture p old) after None h still-moves

@@ -1,11 +1,12 @@
 -- What a node has of its ports, and the law that ties it to the node's seat.
-use Rattle.std.specs.Prelude.{Bool, List, None, Option, Some, [], false, is_some, length, map, slice_index_or, true, ℕ, ◌++◌, ◌<◌, ◌≡◌, ◌≢◌}
-use Rattle.node_ports.specs.Prelude.{Flags, InputPort, IsDifference, IsEnd, IsPort, IsSound, Lists, NodePorts, NodeSeat, NodeView, Input, Output, Picture, Port, Slots, Table, Wire, end_of_view, flags_at, has, holds_data, in_count, input_at, knows, out_count, output_at, peer, port_edge, pushes_to, slot_in, slots, taken_out, view}
+use Rattle.std.specs.Prelude.{Bool, List, None, Option, Some, [], false, is_some, length, map, slice_index_or, true, ℕ, ◌++◌, ◌<◌, ◌||◌, ◌≡◌, ◌≢◌}
+use Rattle.node_ports.specs.Prelude.{Flags, InputPort, IsDifference, IsEnd, IsPort, IsSound, Lists, NodePorts, NodeSeat, NodeView, Input, Output, Picture, Port, Slots, Table, Updated, Wire, end_of_view, flags_at, has, holds_data, in_count, input_at, is_set, knows, out_count, output_at, peer, port_edge, pushes_to, slot_in, slots, taken_out, view}
 
 -- ---- the picture
 
 -- what the seat knows, the slots that are out with it, the view that the processor gets, the edge
--- and the node at its other end for each port, and which inputs the shared ports say are needed
+-- and the node at its other end for each port, which inputs the shared ports say are needed, and
+-- which ports the node is yet to look at
 pub record PortsPicture : Type 0 where
   pub node : NodeView
   pub slots : Slots
@@ -15,6 +16,7 @@ pub record PortsPicture : Type 0 where
   pub sources : List ℕ
   pub targets : List ℕ
   pub needed : List Bool
+  pub updated : Updated
 
 abbrev pub ports_picture : NodePorts → NodeSeat → PortsPicture
 ports_picture p s = record {
@@ -26,7 +28,17 @@ ports_picture p s = record {
   sources = p.sources.items;
   targets = p.targets.items;
   needed = p.needed.items;
+  updated = p.updated;
 }
+
+-- whether the port is among the updated ones
+abbrev pub is_updated : Port → Updated → Bool
+is_updated (Input i) u = u.first || is_set u.inputs i
+is_updated (Output o) u = u.first || is_set u.outputs o
+
+-- the updated ports of both
+abbrev pub IsMerged : Updated → Updated → Updated → Type 0
+IsMerged some more all = (p : Port) → is_updated p all ≡ (is_updated p some || is_updated p more)
 
 -- ---- what the seat shows
 
@@ -90,13 +102,16 @@ pub record HasPortOf (c : PortsPicture) (e : ℕ) : Type 0 where
   pub there : is_own_port c port
   pub is : edge_of c port ≡ e
 
--- The ports are those of the edges that the seat has learned. The view shows them as the seat knows
--- them, but for the actions that wait. An open input with data has its chunk out of the slot, and
--- the slot of an output that was asked for and is empty is out with the seat.
+-- The ports are those of the edges that the seat has learned, and only updated ones are unlooked.
+-- The view shows them as the seat knows them, but for the actions that wait. An open input with
+-- data has its chunk out of the slot, and the slot of an output that was asked for and is empty is
+-- out with the seat.
 pub record PortsHold (c : PortsPicture) : Type 0 where
   pub known : (p : Port) → is_own_port c p → PortKnown c p
   pub cover : (e : ℕ) → knows e c.node.state.seen ≡ true → HasPortOf c e
   pub unlooked : (e : ℕ) → has e c.node.state.unlooked ≡ true → knows e c.node.state.seen ≡ true
+  pub updated : (p : Port) → is_own_port c p → has (edge_of c p) c.node.state.unlooked ≡ true
+      → is_updated p c.updated ≡ true
   pub peers : (length c.sources ≡ length c.inputs) × (length c.targets ≡ length c.outputs)
   pub ins : in_count c.view ≡ length c.inputs
   pub outs : out_count c.view ≡ length c.outputs

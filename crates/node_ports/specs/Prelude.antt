@@ -7,8 +7,9 @@ pub use Rattle.port_word.specs.declared.flags.Port.{Port}
 pub use Rattle.port_word.specs.declared.flags.Port.TheVariants.{Input, Output}
 pub use Rattle.port_word.specs.declared.flags.Wire.{Wire}
 pub use Rattle.port_word.specs.declared.port_view.InputPort.{InputPort}
-pub use Rattle.core_laws.specs.Views.{flags_at, has, knows}
+pub use Rattle.core_laws.specs.Views.{flags_at, has, is_set, knows}
 pub use Rattle.exec_table.specs.declared.types.NodeView.{NodeView}
+pub use Rattle.exec_table.specs.declared.types.Updated.{Updated}
 pub use Rattle.exec_table.specs.Seats.{Identity, IsSeatOf, Slots, end_of_view, slot_in, slot_of, slots, view}
 pub use Rattle.exec_table.specs.declared.rule.NodeSeat.{NodeSeat}
 pub use Rattle.exec_laws.specs.declared.edges.NodeState.{NodeState}

@@ -1,5 +1,5 @@
 -- A node looks at one of its ports.
-use Rattle.std.specs.Prelude.{Bool, None, Option, Some, [], false, not, true, ℕ, ◌&&◌, ◌<◌, ◌≡◌, ◌≢◌}
+use Rattle.std.specs.Prelude.{Bool, None, Option, Some, [], cond, false, length, nat_lt, not, true, ℕ, ◌-◌, ◌&&◌, ◌<◌, ◌≡◌, ◌≢◌}
 use Rattle.node_ports.specs.Prelude.{Identity, BoxPicture, Flags, FollowsKept, Input, IsSeatOf, NodePorts, NodeSeat, Output, Picture, Port, Table, end_of_view, has, input_at, slot_of, view}
 use Rattle.node_ports.specs.Ports.{PortsHold, PortsPicture, edge_of, ports_picture}
 use Rattle.node_ports.specs.Actions.{InTurn, SameLists, SamePorts}
@@ -45,18 +45,23 @@ pub record LookedAt (p : Port) (c d : PortsPicture) : Type 0 where
   pub looked : Looked c d
   pub here : has (edge_of c p) d.node.state.unlooked ≡ false
 
--- the first so many inputs, or outputs, are among them
-pub record LookedBelow (side : ℕ → Port) (k : ℕ) (c d : PortsPicture) : Type 0 where
+-- the port with this number, where the outputs come after the inputs
+abbrev pub nth_port : ℕ → ℕ → Port
+nth_port ins k = cond (nat_lt k ins) (Input k) (Output (k - ins))
+
+-- the first so many ports are among them
+pub record LookedBelow (k : ℕ) (c d : PortsPicture) : Type 0 where
   pub looked : Looked c d
-  pub below : (i : ℕ) → i < k → has (edge_of c (side i)) d.node.state.unlooked ≡ false
+  pub below : (i : ℕ) → i < k
+      → has (edge_of c (nth_port (length c.inputs) i)) d.node.state.unlooked ≡ false
 
 -- all of them
 pub record LookedAll (c d : PortsPicture) : Type 0 where
   pub looked : Looked c d
   pub none : d.node.state.unlooked ≡ []
 
--- a loop over the ports of a side, before the port k
-pub record LooksOn (t : Identity) (side : ℕ → Port) (k : ℕ) (c : PortsPicture) (p : NodePorts)
+-- a loop over the ports, before the port k
+pub record LooksOn (t : Identity) (k : ℕ) (c : PortsPicture) (p : NodePorts)
     (s : NodeSeat) : Type 0 where
   pub seat : IsSeatOf t s
-  pub looked : LookedBelow side k c (ports_picture p s)
+  pub looked : LookedBelow k c (ports_picture p s)

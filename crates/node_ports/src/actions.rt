@@ -10,7 +10,6 @@ ghost use Rattle.node_ports.specs.Peers.{CarriesAction, CarriesNext, MayCarry, O
 ghost use Rattle.node_ports.specs.declared.actions.Carry.TheVariants.{Done};
 
 use crate::ports::NodePorts;
-use crate::sights::number_at;
 use chunk_data::Chunk;
 use exec_table::{ExecTable, Marked, NodeSeat};
 use port_word::{Action, Port};
@@ -185,8 +184,8 @@ fn carry_action(
         (ports_picture ports.old seat.old) ports.new seat.new }
 {
     let port = port_of(&action);
-    let e = number_at(ports.inputs.as_slice(), ports.outputs.as_slice(), port);
-    let peer = number_at(ports.sources.as_slice(), ports.targets.as_slice(), port);
+    let e = ports.edge_at(port);
+    let peer = ports.peer_at(port);
     if !carry_out(table, ports, seat, e, action) {
         return Carry::Told;
     }

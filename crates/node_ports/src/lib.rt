@@ -9,7 +9,7 @@
 //! a box keeps of its chunks is never touched here.
 //!
 //! - `ports.rt`: what a node has of its ports
-//! - `sights.rt`: a node looks at its ports, and lifts a chunk that came
+//! - `sights.rt`: a node looks at its updated ports, and lifts a chunk that came
 //! - `actions.rt`: actions are carried out, and peers are told
 #![tactic(auto)]
 
@@ -19,4 +19,4 @@ mod sights;
 
 pub use actions::{Carry, carry_next};
 pub use ports::NodePorts;
-pub use sights::look_at_all;
+pub use sights::{look_at_updated, merge_updated};

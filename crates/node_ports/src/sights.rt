@@ -1,25 +1,40 @@
 //! A node looks at its ports.
-ghost use Rattle.std.specs.Prelude.{◌≡◌, ◌<◌, true, false, length};
-ghost use Rattle.port_word.specs.declared.flags.Port.TheVariants.{Input, Output};
-ghost use Rattle.exec_laws.specs.Names.{IsPort, port_edge};
+ghost use Rattle.std.specs.Prelude.{◌≡◌, true};
+ghost use Rattle.core_laws.specs.Views.{is_set};
 ghost use Rattle.port_word.specs.Sights.{HasPort};
 ghost use Rattle.exec_table.specs.Seats.{IsSeatOf, identity_of, holds_chunk, slot_of};
-ghost use Rattle.node_ports.specs.Ports.{is_own_port, ports_picture};
-ghost use Rattle.node_ports.specs.Sights.{Lifts, LookedAll, LookedAt, LookedBelow, MayLook, has_chunk, is_lift_due};
+ghost use Rattle.node_ports.specs.Ports.{IsMerged, is_own_port, is_updated, ports_picture};
+ghost use Rattle.node_ports.specs.Sights.{Lifts, LookedAll, LookedAt, MayLook, has_chunk, is_lift_due, nth_port};
 
 use crate::ports::NodePorts;
 use chunk_data::Chunk;
-use exec_table::{ExecTable, Flags, NodeSeat};
+use exec_table::{ExecTable, Flags, NodeSeat, Updated};
 use port_word::{Port, PortView};
 
-/// The number of the edge at a port, or of what else is kept for each port.
-pub(crate) fn number_at(inputs: &[u32], outputs: &[u32], port: Port) -> u32
-    requires { IsPort (length inputs.now) (length outputs.now) port }
-    ensures { result ≡ port_edge inputs.now outputs.now port }
+/// Whether the word has the bit k. It has none past its width.
+fn has_bit(word: u32, k: usize) -> bool
+    ensures { result ≡ is_set word k }
+{
+    k < 32 && word >> k as u32 & 1 == 1
+}
+
+fn is_updated(updated: &Updated, port: Port) -> bool
+    ensures { result ≡ is_updated port updated.now }
 {
     match port {
-        Port::Input(i) => inputs[i],
-        Port::Output(o) => outputs[o],
+        Port::Input(i) => updated.first || has_bit(updated.inputs, i),
+        Port::Output(o) => updated.first || has_bit(updated.outputs as u32, o),
+    }
+}
+
+/// The updated ports of both.
+pub fn merge_updated(some: Updated, more: Updated) -> Updated
+    ensures { IsMerged some more result }
+{
+    Updated {
+        inputs: some.inputs | more.inputs,
+        outputs: some.outputs | more.outputs,
+        first: some.first | more.first,
     }
 }
 
@@ -60,45 +75,54 @@ fn look_at(table: &ExecTable, ports: &mut NodePorts, seat: &mut NodeSeat, port: 
     ensures looked { LookedAt port (ports_picture ports.old seat.old)
         (ports_picture ports.new seat.new) }
 {
-    let e = number_at(ports.inputs.as_slice(), ports.outputs.as_slice(), port);
+    let e = ports.edge_at(port);
     let had = has_chunk(&ports.view, port);
     let flags = table.look(seat, e);
     let chunk = lift_if(table, seat, e, is_lift_due(port, had, flags));
     ports.view.see(port, flags, chunk);
 }
 
-fn look_at_inputs(table: &ExecTable, ports: &mut NodePorts, seat: &mut NodeSeat)
+/// Looks at the port, if it is among the updated ones.
+fn look_if_updated(table: &ExecTable, ports: &mut NodePorts, seat: &mut NodeSeat, port: Port)
     requires seat { IsSeatOf (identity_of table.now) seat.old }
     requires may { MayLook (ports_picture ports.old seat.old) }
+    requires own { is_own_port (ports_picture ports.old seat.old) port }
     ensures seat { IsSeatOf (identity_of table.now) seat.new }
-    ensures looked { LookedBelow Input (length ports.old.inputs.items)
-        (ports_picture ports.old seat.old) (ports_picture ports.new seat.new) }
+    ensures looked { LookedAt port (ports_picture ports.old seat.old)
+        (ports_picture ports.new seat.new) }
 {
-    for i in 0..ports.inputs.len() {
-        look_at(table, ports, seat, Port::Input(i));
+    if is_updated(&ports.updated, port) {
+        look_at(table, ports, seat, port);
     }
 }
 
-fn look_at_outputs(table: &ExecTable, ports: &mut NodePorts, seat: &mut NodeSeat)
-    requires seat { IsSeatOf (identity_of table.now) seat.old }
-    requires may { MayLook (ports_picture ports.old seat.old) }
-    ensures seat { IsSeatOf (identity_of table.now) seat.new }
-    ensures looked { LookedBelow Output (length ports.old.outputs.items)
-        (ports_picture ports.old seat.old) (ports_picture ports.new seat.new) }
+/// The port with this number, where the outputs come after the inputs.
+fn nth_port(inputs: usize, k: usize) -> Port
+    ensures { result ≡ nth_port inputs k }
 {
-    for o in 0..ports.outputs.len() {
-        look_at(table, ports, seat, Port::Output(o));
+    if k < inputs {
+        Port::Input(k)
+    } else {
+        Port::Output(k - inputs)
     }
 }
 
-/// Looks at each port.
-pub fn look_at_all(table: &ExecTable, ports: &mut NodePorts, seat: &mut NodeSeat)
+/// Looks at the updated ports, as in ClickHouse a node is prepared over those of its ports that
+/// changed since its last prepare. After it nothing is unlooked.
+pub fn look_at_updated(table: &ExecTable, ports: &mut NodePorts, seat: &mut NodeSeat)
     requires seat { IsSeatOf (identity_of table.now) seat.old }
     requires may { MayLook (ports_picture ports.old seat.old) }
     ensures seat { IsSeatOf (identity_of table.now) seat.new }
     ensures looked { LookedAll (ports_picture ports.old seat.old)
         (ports_picture ports.new seat.new) }
 {
-    look_at_inputs(table, ports, seat);
-    look_at_outputs(table, ports, seat);
+    let inputs = ports.inputs.len();
+    for k in 0..inputs + ports.outputs.len() {
+        look_if_updated(table, ports, seat, nth_port(inputs, k));
+    }
+    ports.updated = Updated {
+        inputs: 0,
+        outputs: 0,
+        first: false,
+    };
 }

@@ -17,12 +17,13 @@ returns-clause-due g c = begun-due g.P.Processor.seen (identity_of c.args.table.
     c.begin-updated.ensures c.take_back.new.seat
     (subst (λ b. TakesBack (identity_of c.args.table.now) b c.begin-updated.new.seat
     c.take_back.new.seat)
-    c.is_named_by.ensures c.take_back.ensures) _ refl
+    c.is_named_by.ensures c.take_back.ensures) c.merge_updated-cell.result
+    c.merge_updated-cell.ensures _ refl
 
 pub returns-clause-keeps : goal.returns-clause-keeps
 returns-clause-keeps g c = record {
   processor = refl;
-  ports = number-ports c.args.cell.now.ports c.args.cell.now.seat c.take_back.new.seat
+  ports = number-ports c.args.cell.now.ports _ c.args.cell.now.seat c.take_back.new.seat
       (begun-number g.P.Processor.seen (identity_of c.args.table.now) c.args.cell.now c.requires
       c.token_in.new.seat c.begin-updated.new.seat c.token_in.ensures c.begin-updated.result
       c.begin-updated.ensures c.take_back.new.seat

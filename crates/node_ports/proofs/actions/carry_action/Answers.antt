@@ -1,4 +1,4 @@
-use Rattle.node_ports.proofs.Imports.{Acted, identity_of, port_edge, ports_picture, subst, sym, ◌∙◌, refl, false, ap}
+use Rattle.node_ports.proofs.Imports.{Acted, edge_of, identity_of, port_edge, ports_picture, subst, sym, ◌∙◌, refl, false, ap}
 use Rattle.node_ports.specs.Peers.{TellsIfDue, carry_of}
 use Rattle.node_ports.proofs.ActLaws.{own-port}
 use Rattle.node_ports.proofs.NextLaws.{carried-free, carries-told}
@@ -28,11 +28,9 @@ returns-then-tell_peer-clause-carries c =
     carries-told c.carry_out.new.ports c.requires.may
     (subst (Acted c.args.action p d) is c.carry_out.ensures.acted)
     (sym is ∙ c.carry_out.ensures.told) c.tell_peer.ensures
-    (c.number_at-e.ensures ∙ λ j. port_edge (c.as_slice.ensures.value j)
-    (c.as_slice-2.ensures.value j) (c.port_of-port.ensures j))
-    (c.number_at-peer.ensures ∙ λ j. port_edge (c.as_slice-3.ensures.value j)
-    (c.as_slice-4.ensures.value j) (c.port_of-port.ensures j))
-    (ap (carry_of c.number_at-peer.result) (sym c.if-tell_peer.true))
+    (c.edge_at-e.ensures ∙ ap (edge_of p) c.port_of-port.ensures)
+    (c.peer_at-peer.ensures ∙ ap (port_edge p.sources p.targets) c.port_of-port.ensures)
+    (ap (carry_of c.peer_at-peer.result) (sym c.if-tell_peer.true))
 
 pub returns-else-tell_peer-clause-carries : goal.returns-else-tell_peer-clause-carries
 returns-else-tell_peer-clause-carries c =
@@ -42,8 +40,6 @@ returns-else-tell_peer-clause-carries c =
     carries-told c.carry_out.new.ports c.requires.may
     (subst (Acted c.args.action p d) is c.carry_out.ensures.acted)
     (sym is ∙ c.carry_out.ensures.told) c.tell_peer.ensures
-    (c.number_at-e.ensures ∙ λ j. port_edge (c.as_slice.ensures.value j)
-    (c.as_slice-2.ensures.value j) (c.port_of-port.ensures j))
-    (c.number_at-peer.ensures ∙ λ j. port_edge (c.as_slice-3.ensures.value j)
-    (c.as_slice-4.ensures.value j) (c.port_of-port.ensures j))
-    (ap (carry_of c.number_at-peer.result) (sym c.if-tell_peer.false))
+    (c.edge_at-e.ensures ∙ ap (edge_of p) c.port_of-port.ensures)
+    (c.peer_at-peer.ensures ∙ ap (port_edge p.sources p.targets) c.port_of-port.ensures)
+    (ap (carry_of c.peer_at-peer.result) (sym c.if-tell_peer.false))
