@@ -52,6 +52,7 @@ module _ {P : Type 0} (seen : P → BoxPicture) (t : Identity)
     sources = x.ports.sources.items;
     targets = x.ports.targets.items;
     needed = new.needed j;
+    updated = new.updated j;
   }
 
   new-numbers : AreEdgesOf t.sizes.wires n x.ports.inputs.items x.ports.outputs.items

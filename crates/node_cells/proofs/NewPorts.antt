@@ -13,8 +13,8 @@ use Rattle.exec_table.specs.Boards.{end_view, no_end, no_lane, node_view}
 use Rattle.exec_table.specs.Rule.{start_board}
 use Rattle.exec_table.specs.Words.{edge_count}
 use Rattle.node_cells.proofs.SizeLaws.{one-rank}
-use Rattle.node_cells.specs.NewCells.{AreEnds, IsGraphOf}
-use Rattle.node_ports.specs.Ports.{HasPortOf, PortKnown}
+use Rattle.node_cells.specs.NewCells.{AreEnds, IsGraphOf, all_updated}
+use Rattle.node_ports.specs.Ports.{HasPortOf, PortKnown, is_updated}
 use Rattle.port_word.proofs.Fitting.{sound-new}
 use Rattle.port_word.specs.Names.{holds_data}
 use Rattle.proc_api.specs.Names.{no_wire}
@@ -125,6 +125,7 @@ module _ (s : Sizes) (n : ℕ) (inside : n < s.nodes) (g : IsGraphOf s.nodes s.w
     sources = sources;
     targets = targets;
     needed = replicate many_in false;
+    updated = all_updated;
   }
 
   abbrev c : PortsPicture
@@ -248,6 +249,7 @@ module _ (s : Sizes) (n : ℕ) (inside : n < s.nodes) (g : IsGraphOf s.nodes s.w
         cover = covers;
         unlooked = λ e q. ap (λ (z : SeatState). has e (edges_of z.seen)) (state-start s n inside)
             ∙ (ap (λ (z : SeatState). has e z.unlooked) (sym (state-start s n inside)) ∙ q);
+        updated = λ p own unlooked. each-updated p;
         peers = (ins.peers_len ∙ sym ins.edges_len, outs.peers_len ∙ sym outs.edges_len);
         ins = shows.0 ∙ sym ins.edges_len;
         outs = shows.1 ∙ sym outs.edges_len;
@@ -265,6 +267,10 @@ module _ (s : Sizes) (n : ℕ) (inside : n < s.nodes) (g : IsGraphOf s.nodes s.w
         ready = λ o lt q empty. absurd (nothing-asked o lt (ap (λ (v : Picture). (output_at v o).needed) (sym shown-new) ∙ q));
       }
     where
+      each-updated : (p : Port) → is_updated p all_updated ≡ true
+      each-updated (Input i) = refl
+      each-updated (Output o) = refl
+
       nothing-held : (i : ℕ) → holds_data (input_at (new_picture many_in many_out) i).flags ≡ true → ⊥
       nothing-held i q = elim (cases_lt i many_in) [
         | inl lt ↦ grind (arith, q, get_or-replicate, lt)

@@ -4,6 +4,7 @@ use mathlib.Core.Option.{some}
 use lib.ListN.{get_elem?}
 use Rattle.core_laws.specs.declared.types.Sizes.{Sizes}
 use Rattle.exec_table.specs.Seats.{IsRootOf, identity_of, key_of}
+use Rattle.exec_table.specs.declared.types.Updated.{Updated}
 use Rattle.exec_laws.specs.Names.{AreEdgesOf, HasEdge, IsPort, number_at, peer}
 use Rattle.exec_laws.specs.Prelude.{Reserve, input_count, new_picture, output_count}
 use Rattle.exec_laws.specs.declared.edges.NodeState.TheVariants as node
@@ -65,12 +66,17 @@ pub record AreEnds (wires : List Wire) (n : ℕ) (consumer : Bool) (k : ℕ)
   pub others : (i : ℕ) → i < k
       → number_at peers i ≡ peer (wire_at wires (number_at edges i)) (port_of_side consumer i)
 
+-- a node that never began is yet to look at all its ports
+abbrev pub all_updated : Updated
+all_updated = record { inputs = 0; outputs = 0; first = true }
+
 -- the ports of a node whose seat was just made
 pub record AreNewPorts (wires : List Wire) (n : ℕ) (p : NodePorts) : Type 0 where
   pub view : p.view ≡ new_picture (input_count wires n) (output_count wires n)
   pub inputs : AreEnds wires n true (input_count wires n) p.inputs.items p.sources.items
   pub outputs : AreEnds wires n false (output_count wires n) p.outputs.items p.targets.items
   pub needed : p.needed.items ≡ replicate (input_count wires n) false
+  pub updated : p.updated ≡ all_updated
 
 -- ---- cells
 

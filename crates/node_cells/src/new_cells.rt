@@ -9,7 +9,7 @@ ghost use Rattle.node_cells.specs.NewCells.{AreEnds, AreNewCells, AreNewNodes, A
 use crate::cell::NodeCell;
 use chunk_data::{List, Memory};
 use exec_laws::{NodeMark, NodeState};
-use exec_table::{ExecTable, Made, NodeSeat, RootSeat, Sizes};
+use exec_table::{ExecTable, Made, NodeSeat, RootSeat, Sizes, Updated};
 use node_ports::NodePorts;
 use port_word::{Port, PortView, Reserve, Wire};
 use proc_api::Processor;
@@ -211,6 +211,11 @@ fn new_ports(alloc: Global, n: usize, wires: &[Wire]) -> Result<NodePorts, Memor
         sources: ins.peers,
         targets: outs.peers,
         needed,
+        updated: Updated {
+            inputs: 0,
+            outputs: 0,
+            first: true,
+        },
     })
 }
 
