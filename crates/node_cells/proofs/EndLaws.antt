@@ -14,16 +14,16 @@ module _ (wires : List Wire) (b : Board) (cells : List WholeCell)
   count : length (pictures cells) ≡ length cells
   count = length-map cells picture_of
 
-  running : Running (length (pictures cells)) wires (cell_at (pictures cells))
+  pub running : Running (length (pictures cells)) wires (cell_at (pictures cells))
       (edge_of_board wires b (whole_at cells))
   running = subst (λ (z : ℕ × (ℕ → CellPicture)). Running z.0 wires z.1
       (edge_of_board wires b (whole_at cells))) (λ j. (sym count j, (λ n. picture-at n j)))
       (settled-law (length cells) wires b (whole_at cells) s).running
 
-  quiet : (m : ℕ) → (cell_at (pictures cells) m).view.actions ≡ []
+  pub quiet : (m : ℕ) → (cell_at (pictures cells) m).view.actions ≡ []
   quiet m = ap (λ (c : CellPicture). c.view.actions) (sym (picture-at m)) ∙ s.still m
 
-  due : IsNothingDue (pictures cells)
+  pub due : IsNothingDue (pictures cells)
   due n lt = ap (λ (c : CellPicture). is_waiting c.mark.state) (sym (picture-at n))
       ∙ (settled-law (length cells) wires b (whole_at cells) s).due n (omega (arith, lt, count))
 

@@ -1,0 +1,38 @@
+-- What stands at a place of a list.
+use Rattle.node_ends.proofs.Imports.{List, [], ap, arith, drop, get_elem?, get_or, length, map, refl, some, some-injective, some-ne-none, suc, sym, take, zero, ℕ, ◌++◌, ◌<◌, ◌∷◌, ◌≡◌}
+
+pub there : {A : Type 0} (l : List A) (n : ℕ) → n < length l
+    → (a : A) × (get_elem? l n ≡ some a)
+there [] n lt = absurd (omega arith)
+there (x ∷ xs) zero lt = (x, refl)
+there (x ∷ xs) (suc n) lt = there xs n (omega arith)
+
+pub below : {A : Type 0} (l : List A) (n : ℕ) (a : A) → get_elem? l n ≡ some a → n < length l
+below [] n a e = absurd (some-ne-none a (sym e))
+below (x ∷ xs) zero a e = omega arith
+below (x ∷ xs) (suc n) a e = let h = below xs n a e in omega arith
+
+pub read-map : {A B : Type 0} (f : A → B) (l : List A) (n : ℕ) (a : A) (d : B)
+    → get_elem? l n ≡ some a → get_or (map f l) n d ≡ f a
+read-map f [] n a d e = absurd (some-ne-none a (sym e))
+read-map f (x ∷ xs) zero a d e = ap f (some-injective x a e)
+read-map f (x ∷ xs) (suc n) a d e = read-map f xs n a d e
+
+-- what is true of each element and of the default is true wherever one reads
+pub each-or-default : {A B : Type 0} (Q : B → Type 0) (f : A → B) (d : B) (l : List A)
+    → ((n : ℕ) (a : A) → get_elem? l n ≡ some a → Q (f a)) → Q d → (n : ℕ)
+    → Q (get_or (map f l) n d)
+each-or-default Q f d [] h q n = q
+each-or-default Q f d (x ∷ xs) h q zero = h 0 x refl
+each-or-default Q f d (x ∷ xs) h q (suc n) =
+    each-or-default Q f d xs (λ k a e. h (suc k) a e) q n
+
+-- a slice of the whole list was written
+pub written-whole : {A : Type 0} (w old : List A) (k : ℕ) → length w ≡ length old → k ≡ length w
+    → take k (w ++ drop (length w) old) ≡ w
+written-whole {A} w old k h is = rw is (by w old h)
+  where
+    by : (w old : List A) → length w ≡ length old → take (length w) (w ++ drop (length w) old) ≡ w
+    by [] old h = refl
+    by (x ∷ xs) [] h = absurd (omega (arith, h))
+    by (x ∷ xs) (y ∷ ys) h = ap (λ l. x ∷ l) (by xs ys (omega (arith, h)))

@@ -1,0 +1,162 @@
+-- The cells after a survey, whose seats know what they knew.
+use Rattle.node_ends.proofs.Imports.{AreAll, AreCells, AreSurveyed, AtHome, BoxPicture, Each, GivenBack, Identity, IsAtWork, IsBack, IsCellOf, IsSeatOf, List, MayBegin, NodeBody, NodeCell, NodeSeat, NodeState, StoredAs, Surveyed, [], ap, arith, at_map, bodies_of, body_of, boxes_in, cell_ports, get_elem?, length, length-map, map, map-map, refl, seats_of, some, some-injective, subst, suc, sym, view, views, ℕ, ◌∙◌, ◌∷◌, ◌≡◌, ◌≢◌}
+use Rattle.node_ends.proofs.Lists.{below, there}
+use Rattle.node_ends.proofs.Visits.{stored-cell}
+use Rattle.node_cells.specs.Cells.{CellHolds, IsHome, NodeHolds}
+use Rattle.exec_laws.specs.declared.edges.DueCall.{DueCall}
+use Rattle.exec_laws.specs.declared.edges.DueCall.TheVariants as call
+use Rattle.exec_laws.specs.declared.edges.NodeState.TheVariants as node
+
+-- ---- one cell
+
+module _ {P : Type 0} (seen : P → BoxPicture) (t : Identity) (was : NodeCell P) (s : NodeSeat)
+    (back : IsBack t was.seat s) where
+  abbrev now : NodeCell P
+  now = record was { seat = s }
+
+  same-ports : cell_ports was ≡ cell_ports now
+  same-ports j = record (cell_ports was) { node = sym back.1 j; slots = sym back.2 j }
+
+  back-cell : CellHolds seen t was → CellHolds seen t now
+  back-cell h = record {
+    seat = back.0;
+    node = subst (NodeHolds (seen was.processor) was.mark) same-ports h.node;
+  }
+
+  back-home : AtHome seen t was → AtHome seen t now
+  back-home h = record {
+    cell = back-cell h.cell;
+    home = subst (IsHome was.mark) same-ports h.home;
+  }
+
+  back-begins : MayBegin seen t was → MayBegin seen t now
+  back-begins h = record {
+    cell = back-cell h.cell;
+    quiet = h.quiet;
+    tokens = rw back.1 h.tokens;
+    owes = rw back.1 h.owes;
+    free = rw back.1 h.free;
+    born = rw back.1 h.born;
+    going = rw back.1 h.going;
+    mark = h.mark;
+  }
+
+  back-work : (k : DueCall) → IsAtWork seen t k was → IsAtWork seen t k now
+  back-work k h = record {
+    holds = record {
+      cell = back-cell h.holds.cell;
+      turn = rw back.1 h.holds.turn;
+      stage = rw back.1 h.holds.stage;
+    };
+    quiet = h.quiet;
+    at_work = h.at_work;
+  }
+
+  back-stored : (k : NodeState) → k ≢ node.Unborn → StoredAs seen t k was → StoredAs seen t k now
+  back-stored node.Unborn born h = absurd (born refl)
+  back-stored node.Due born h = back-begins h
+  back-stored node.Resting born h = back-home h
+  back-stored (node.AtWork call.Work) born h = h
+  back-stored (node.AtWork call.Schedule) born h = (back-home h.0, back-work call.Schedule h.1)
+  back-stored (node.AtWork call.Expand) born h = (back-home h.0, back-work call.Expand h.1)
+  back-stored node.Over born h = back-home h
+
+  back-is : (n : ℕ) → IsCellOf seen t n was → IsCellOf seen t n now
+  back-is n h = record {
+    between = record {
+      stored = back-stored was.mark.state h.between.born h.between.stored;
+      born = h.between.born;
+    };
+    number = rw back.1 h.number;
+    edges = h.edges;
+  }
+
+-- ---- all cells
+
+same-views : (t : Identity) (olds news : List NodeSeat) → length news ≡ length olds
+    → Each (IsBack t) olds news → views news ≡ views olds
+same-views t [] [] many e = refl
+same-views t [] (y ∷ ys) many e = absurd (omega (arith, many))
+same-views t (x ∷ xs) [] many e = absurd (omega (arith, many))
+same-views t (x ∷ xs) (y ∷ ys) many e =
+    let first = e 0 y refl in
+    let is : view y ≡ view x = first.2.1 ∙ ap view (sym (some-injective x first.0 first.1)) in
+    let more = same-views t xs ys (omega (arith, many)) (λ k s q. e (suc k) s q) in
+    λ j. is j ∷ more j
+
+pub all-seats : {P : Type 0} (seen : P → BoxPicture) (t : Identity) (cells : List (NodeCell P))
+    → AreCells seen t cells → AreAll t (seats_of cells)
+all-seats {P} seen t cells all = (
+  length-map cells (λ (c : NodeCell P). c.seat) ∙ all.count,
+  λ n s e. let c = there cells n (rw length-map at (below (seats_of cells) n s e)) in
+      subst (λ s. IsSeatOf t s × ((view s).number ≡ n))
+      (some-injective _ _ (sym (at_map (λ (c : NodeCell P). c.seat) cells n c.0 c.1) ∙ e))
+      ((stored-cell seen t c.0 (all.each n c.0 c.1).between).seat, (all.each n c.0 c.1).number),
+)
+
+module _ {P : Type 0} (t : Identity) (olds news : List (NodeCell P)) (h : AreSurveyed t olds news)
+  where
+    pub surveyed-count : length news ≡ length olds
+    surveyed-count = sym (length-map news body_of) ∙ (ap length h.bodies ∙ length-map olds body_of)
+
+    pub surveyed-views : views (seats_of news) ≡ views (seats_of olds)
+    surveyed-views = same-views t (seats_of olds) (seats_of news)
+        (rw (length-map, length-map) surveyed-count) h.seats
+
+    -- the cell that stood at the place
+    abbrev Was : ℕ → NodeCell P → Type 0
+    Was n c = (was : NodeCell P) × (get_elem? olds n ≡ some was) × (c ≡ record was { seat = c.seat })
+        × IsBack t was.seat c.seat
+
+    cell-was : (n : ℕ) (c : NodeCell P) → get_elem? news n ≡ some c → Was n c
+    cell-was n c e =
+        let was = there olds n (let lt = below news n c e in omega (arith, lt, surveyed-count)) in
+        let same : body_of c ≡ body_of was.0 = some-injective _ _ (sym (at_map body_of news n c e)
+        ∙ (ap (λ l. get_elem? l n) h.bodies ∙ at_map body_of olds n was.0 was.1)) in
+        let seat = h.seats n c.seat (at_map (λ (c : NodeCell P). c.seat) news n c e) in
+        let own = some-injective _ _ (sym seat.1
+        ∙ at_map (λ (c : NodeCell P). c.seat) olds n was.0 was.1) in (
+          was.0,
+          was.1,
+          λ j. record {
+            processor = (same j).processor;
+            mark = (same j).mark;
+            ports = (same j).ports;
+            seat = c.seat;
+          },
+          subst (λ s. IsBack t s c.seat) own seat.2,
+        )
+
+    module _ (seen : P → BoxPicture) where
+      pub surveyed-boxes : boxes_in seen news ≡ boxes_in seen olds
+      surveyed-boxes = let f = λ (b : NodeBody P). seen b.processor in
+          sym (map-map f body_of news) ∙ (ap (map f) h.bodies ∙ map-map f body_of olds)
+
+      pub surveyed-back : (boxes : List BoxPicture) → GivenBack boxes (boxes_in seen olds)
+          → GivenBack boxes (boxes_in seen news)
+      surveyed-back boxes back = subst (GivenBack boxes) (sym surveyed-boxes) back
+
+      pub surveyed-cells : AreCells seen t olds → AreCells seen t news
+      surveyed-cells all = record {
+        count = surveyed-count ∙ all.count;
+        graph = rw surveyed-count all.graph;
+        each = λ n c e. let w = cell-was n c e in subst (IsCellOf seen t n) (sym w.2)
+            (back-is seen t w.0 c.seat w.3 n (all.each n w.0 w.1));
+      }
+
+-- cells were taken apart, their seats surveyed, and put together again
+module _ {P : Type 0} (t : Identity) (olds news : List (NodeCell P)) (bodies : List (NodeBody P))
+    (seats after : List NodeSeat) (apart : bodies ≡ bodies_of olds) (seats-are : seats ≡ seats_of olds)
+    (each : Each (IsBack t) seats after) (together : bodies_of news ≡ bodies)
+    (back : seats_of news ≡ after) where
+  pub survey-made : AreSurveyed t olds news
+  survey-made = record {
+    bodies = together ∙ apart;
+    seats = subst (λ (l : List NodeSeat × List NodeSeat). Each (IsBack t) l.0 l.1)
+        (λ j. (seats-are j, sym back j)) each;
+  }
+
+  pub survey-shown : (words : List ℕ) → Surveyed words (views seats)
+      → Surveyed words (views (seats_of news))
+  survey-shown words shown = subst (Surveyed words)
+      (ap views seats-are ∙ sym (surveyed-views t olds news survey-made)) shown

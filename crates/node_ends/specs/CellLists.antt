@@ -1,0 +1,90 @@
+-- The cells of all nodes of a table, in order of their numbers.
+use Rattle.node_ends.specs.Prelude.{AreEdgesOf, AreSettled, Board, BoxPicture, CellPicture, Each, EndRoom, HoldsGraph, Identity, IsBack, IsDue, IsStored, NodeBody, NodeCell, NodeSeat, SurveyRoom, WholeCell, Wire, cell_ports, is_waiting, turn_picture, view, whole_at}
+use Rattle.exec_laws.specs.declared.edges.NodeState.TheVariants as node
+use Rattle.std.specs.Prelude.{Bool, List, [], false, length, map, true, vec_capacity, ℕ, ◌≡◌, ◌≢◌, ◌≤◌}
+use mathlib.Core.Option.{some}
+use lib.ListN.{get_elem?}
+
+-- ---- parts of cells
+
+abbrev pub body_of : {P : Type 0} → NodeCell P → NodeBody P
+body_of c = record { processor = c.processor; mark = c.mark; ports = c.ports }
+
+abbrev pub bodies_of : {P : Type 0} → List (NodeCell P) → List (NodeBody P)
+bodies_of cells = map body_of cells
+
+abbrev pub seats_of : {P : Type 0} → List (NodeCell P) → List NodeSeat
+seats_of {P} cells = map (λ (c : NodeCell P). c.seat) cells
+
+-- what is seen of the box of each cell
+abbrev pub boxes_in : {P : Type 0} → (P → BoxPicture) → List (NodeCell P) → List BoxPicture
+boxes_in {P} seen cells = map (λ (c : NodeCell P). seen c.processor) cells
+
+abbrev pub whole_of : {P : Type 0} → (P → BoxPicture) → NodeCell P → WholeCell
+whole_of seen c = record { box = seen c.processor; mark = c.mark; ports = cell_ports c }
+
+abbrev pub wholes_of : {P : Type 0} → (P → BoxPicture) → List (NodeCell P) → List WholeCell
+wholes_of seen cells = map (whole_of seen) cells
+
+abbrev pub pictures_of : {P : Type 0} → (P → BoxPicture) → List (NodeCell P) → List CellPicture
+pictures_of seen cells = map (turn_picture seen) cells
+
+-- ---- cells between two visits
+
+-- the cell of a born node
+pub record IsBetweenVisits {P : Type 0} (seen : P → BoxPicture) (t : Identity)
+    (c : NodeCell P) : Type 0 where
+  pub stored : IsStored seen t c
+  pub born : c.mark.state ≢ node.Unborn
+
+-- the cell may go home, or its node is to be prepared again
+abbrev pub HomeOrDue : {P : Type 0} → (P → BoxPicture) → Identity → Bool → NodeCell P → Type 0
+HomeOrDue seen t true c = IsBetweenVisits seen t c
+HomeOrDue seen t false c = IsDue seen t c
+
+-- the cell of the node n, which has all its edges
+pub record IsCellOf {P : Type 0} (seen : P → BoxPicture) (t : Identity) (n : ℕ)
+    (c : NodeCell P) : Type 0 where
+  pub between : IsBetweenVisits seen t c
+  pub number : (view c.seat).number ≡ n
+  pub edges : AreEdgesOf t.sizes.wires n c.ports.inputs.items c.ports.outputs.items
+
+-- the cells of all nodes of a graph that doesn't grow
+pub record AreCells {P : Type 0} (seen : P → BoxPicture) (t : Identity)
+    (cells : List (NodeCell P)) : Type 0 where
+  pub count : length cells ≡ t.sizes.nodes
+  pub graph : HoldsGraph (length cells) t.sizes.wires
+  pub each : (n : ℕ) (c : NodeCell P) → get_elem? cells n ≡ some c → IsCellOf seen t n c
+
+-- no node is due or at work
+abbrev pub AreAtRest : {P : Type 0} → List (NodeCell P) → Type 0
+AreAtRest {P} cells = (n : ℕ) (c : NodeCell P) → get_elem? cells n ≡ some c
+    → is_waiting c.mark.state ≡ false
+
+-- ---- a survey
+
+-- the cells have what they had, and seats that know what theirs knew
+pub record AreSurveyed {P : Type 0} (t : Identity) (old new : List (NodeCell P)) : Type 0 where
+  pub bodies : bodies_of new ≡ bodies_of old
+  pub seats : Each (IsBack t) (seats_of old) (seats_of new)
+
+-- room for so many cells, and for the words of the table
+pub record IsRoomFor {P : Type 0} (t : Identity) (count : ℕ) (r : SurveyRoom P) : Type 0 where
+  pub no_bodies : r.bodies.items ≡ []
+  pub no_seats : r.seats.items ≡ []
+  pub bodies : count ≤ vec_capacity r.bodies
+  pub seats : count ≤ vec_capacity r.seats
+  pub words : length r.words.items ≡ t.id.words
+
+-- the same, and for the report of a stuck run
+pub record IsEndRoomFor {P : Type 0} (t : Identity) (count : ℕ) (r : EndRoom P) : Type 0 where
+  pub survey : IsRoomFor t count r.survey
+  pub empty : r.report.items ≡ []
+  pub report : count ≤ vec_capacity r.report
+
+-- ---- where nothing is pending
+
+-- a state of the table in which nothing is pending has what the cells, which are at home, know
+pub record IsSettled (wires : List Wire) (cells : List WholeCell) : Type 0 where
+  pub board : Board
+  pub settled : AreSettled (length cells) wires board (whole_at cells)

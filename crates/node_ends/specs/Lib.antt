@@ -1,0 +1,4 @@
+pub mod Prelude
+pub mod CellLists
+pub mod RunEnds
+pub mod Resting

@@ -1,0 +1,209 @@
+//! The run goes on to its end.
+ghost use Rattle.std.specs.Prelude.{◌≡◌, ◌<◌, ◌≤◌, [], IfErr, IfOk, OnOk, length, slice_index_or, vec_capacity, false, true};
+ghost use Rattle.exec_laws.specs.Names.{GivenBack, is_waiting};
+ghost use Rattle.exec_table.specs.Seats.{identity_of, key_of};
+ghost use Rattle.node_ends.specs.CellLists.{AreAtRest, AreCells, IsEndRoomFor, IsRoomFor, IsSettled, boxes_in, wholes_of};
+ghost use Rattle.node_ends.specs.RunEnds.{EndHolds, StopsAt};
+
+use crate::cells_survey::{SurveyRoom, new_survey_room, survey_cells};
+use crate::node_visit::{NodeStop, visit};
+use crate::resting::{first_unlawful, list_stuck};
+use chunk_data::{List, Memory};
+use crossbeam_utils::Backoff;
+use exec_laws::{NodeState, StuckNode};
+use exec_table::ExecTable;
+use node_cells::NodeCell;
+use proc_api::Processor;
+use std::alloc::Global;
+use std::sync::Wait;
+
+/// How the run of a graph that doesn't grow ended.
+#[derive(Drop)]
+pub enum NodesEnd {
+    /// All nodes are over, and the chunks pulled at each edge are those pushed, but for what a
+    /// consumer closed.
+    Done,
+    /// Nothing is pending, and these nodes aren't over; the box of the named one isn't lawful.
+    Stuck(List<StuckNode>, u32),
+    /// The run was stopped at this node.
+    Stopped(u32, NodeStop),
+}
+
+/// What the end of a run needs, made before the run so that its end wants no memory.
+#[derive(Drop)]
+pub struct EndRoom<P> {
+    pub survey: SurveyRoom<P>,
+    pub report: Vec<StuckNode>,
+}
+
+/// Room for the end of the run of a graph of so many nodes.
+pub fn new_end_room<P: Drop>(
+    alloc: Global,
+    table: &ExecTable,
+    nodes: usize,
+) -> Result<EndRoom<P>, Memory>
+    ensures { IfOk result (λ room. IsEndRoomFor (identity_of table.now) nodes room) }
+{
+    let survey = new_survey_room(alloc, table, nodes)?;
+    let report = Vec::with_capacity(alloc, nodes)?;
+    Ok(EndRoom { survey, report })
+}
+
+fn is_nothing_pending(words: &[u64]) -> bool
+    ensures { result ≡ true → slice_index_or words.now 0 0 ≡ 0 }
+{
+    words.len() == 0 || words[0] == 0
+}
+
+/// Whether the node rests or is over.
+fn is_at_rest(state: NodeState) -> bool
+    ensures { result ≡ true → is_waiting state ≡ false }
+{
+    match state {
+        NodeState::Resting | NodeState::Over => true,
+        NodeState::Due | NodeState::AtWork(_) | NodeState::Unborn => false,
+    }
+}
+
+fn are_at_rest<P: Processor>(cells: &Vec<NodeCell<P>>) -> bool
+    ensures { result ≡ true → AreAtRest cells.now.items }
+{
+    for n in 0..cells.len() {
+        if !is_at_rest(cells[n].mark.state) {
+            return false;
+        }
+    }
+    true
+}
+
+/// Whether nothing is pending, and no node is due or at work.
+fn is_settled<P: Processor>(cells: &Vec<NodeCell<P>>, words: &[u64]) -> bool
+    ensures pending { result ≡ true → slice_index_or words.now 0 0 ≡ 0 }
+    ensures rest { result ≡ true → AreAtRest cells.now.items }
+{
+    is_nothing_pending(words) && are_at_rest(cells)
+}
+
+/// Pauses where a node waits for its device.
+fn pause_if_waiting<P: Processor>(backoff: &Backoff, cells: &Vec<NodeCell<P>>) {
+    if !are_at_rest(cells) {
+        backoff.snooze();
+    }
+}
+
+/// Takes up the node n, if the run left it due.
+fn visit_at<P: Processor, R: Wait>(
+    rt: &R,
+    table: &ExecTable,
+    cells: &mut Vec<NodeCell<P>>,
+    n: usize,
+    is_charged: bool,
+) -> Result<(), NodeStop>
+    requires in_range { n < length cells.old.items }
+    requires cells { AreCells P.seen (identity_of table.now) cells.old.items }
+    ensures back { GivenBack (boxes_in P.seen cells.old.items) (boxes_in P.seen cells.new.items) }
+    ensures count { length cells.new.items ≡ length cells.old.items }
+    ensures ok { OnOk result (AreCells P.seen (identity_of table.now) cells.new.items) }
+    ensures stop { IfErr result (λ s. StopsAt n s (boxes_in P.seen cells.new.items)) }
+{
+    visit(rt, table, &mut cells[n], is_charged)
+}
+
+/// Takes up each node that the run left due. A node at rest is due where its word isn't 0.
+fn visit_all<P: Processor, R: Wait>(
+    rt: &R,
+    table: &ExecTable,
+    cells: &mut Vec<NodeCell<P>>,
+    words: &[u64],
+) -> Result<(), (usize, NodeStop)>
+    requires cells { AreCells P.seen (identity_of table.now) cells.old.items }
+    ensures back { GivenBack (boxes_in P.seen cells.old.items) (boxes_in P.seen cells.new.items) }
+    ensures count { length cells.new.items ≡ length cells.old.items }
+    ensures ok { OnOk result (AreCells P.seen (identity_of table.now) cells.new.items) }
+    ensures stop { IfErr result (λ at. StopsAt at.0 at.1 (boxes_in P.seen cells.new.items)) }
+{
+    for n in 0..cells.len() {
+        let is_charged = n + 1 < words.len() && words[n + 1] != 0;
+        match visit_at(rt, table, cells, n, is_charged) {
+            Ok(()) => {}
+            Err(stop) => return Err((n, stop)),
+        }
+    }
+    Ok(())
+}
+
+/// Goes on until a survey finds nothing pending, or the run is stopped at a node.
+fn settle<P: Processor, R: Wait>(
+    rt: &R,
+    table: &ExecTable,
+    cells: &mut Vec<NodeCell<P>>,
+    room: &mut SurveyRoom<P>,
+) -> Result<(), (usize, NodeStop)>
+    requires cells { AreCells P.seen (identity_of table.now) cells.old.items }
+    requires some { 0 < length cells.old.items }
+    requires room { IsRoomFor (identity_of table.now) (length cells.old.items) room.old }
+    ensures back { GivenBack (boxes_in P.seen cells.old.items) (boxes_in P.seen cells.new.items) }
+    ensures settled { OnOk result
+        (IsSettled (key_of table.now).wires (wholes_of P.seen cells.new.items)) }
+    ensures stop { IfErr result (λ at. StopsAt at.0 at.1 (boxes_in P.seen cells.new.items)) }
+{
+    let backoff = Backoff::new();
+    for _ in rt.forever() {
+        survey_cells(table, cells, room);
+        if is_settled(cells, room.words.as_slice()) {
+            return Ok(());
+        }
+        match visit_all(rt, table, cells, room.words.as_slice()) {
+            Ok(()) => {}
+            Err(at) => return Err(at),
+        }
+        pause_if_waiting(&backoff, cells);
+    }
+    unreachable!()
+}
+
+/// The end of a run in which nothing is pending.
+fn settled_end<P: Processor>(
+    _table: &ExecTable,
+    cells: &Vec<NodeCell<P>>,
+    report: Vec<StuckNode>,
+) -> NodesEnd
+    requires settled { IsSettled (key_of _table.now).wires (wholes_of P.seen cells.now.items) }
+    requires few { length cells.now.items ≤ 256 }
+    requires empty { report.items ≡ [] }
+    requires room { length cells.now.items ≤ vec_capacity report }
+    ensures { EndHolds result (key_of _table.now).wires (boxes_in P.seen cells.now.items) }
+{
+    let mut report = report;
+    match first_unlawful(cells) {
+        Some(n) => {
+            list_stuck(&mut report, cells);
+            NodesEnd::Stuck(List::from_vec(report), n as u32)
+        }
+        None => NodesEnd::Done,
+    }
+}
+
+/// Ends the run of a graph that doesn't grow, after its workers. The room was made before, so that
+/// no end wants memory.
+pub fn end_nodes<P: Processor, R: Wait>(
+    rt: &R,
+    table: &ExecTable,
+    cells: &mut Vec<NodeCell<P>>,
+    room: EndRoom<P>,
+) -> NodesEnd
+    requires cells { AreCells P.seen (identity_of table.now) cells.old.items }
+    requires room { IsEndRoomFor (identity_of table.now) (length cells.old.items) room }
+    ensures back { GivenBack (boxes_in P.seen cells.old.items) (boxes_in P.seen cells.new.items) }
+    ensures end { EndHolds result (key_of table.now).wires (boxes_in P.seen cells.new.items) }
+{
+    if cells.len() == 0 {
+        return NodesEnd::Done;
+    }
+    let EndRoom { survey, report } = room;
+    let mut survey = survey;
+    match settle(rt, table, cells, &mut survey) {
+        Ok(()) => settled_end(table, cells, report),
+        Err((n, stop)) => NodesEnd::Stopped(n as u32, stop),
+    }
+}
