@@ -46,8 +46,9 @@ fn drive_each(rt: &impl Abort, alloc: Global, cases: &[&str]) -> Result<(), Fail
     Ok(())
 }
 
-// Of the three inputs of the merge the last has no rows.
-static CASES: [&str; 2] = [
+// Of the three inputs of the merges the last has no rows. In the second merge runs of several rows
+// meet ties.
+static CASES: [&str; 3] = [
     "Sort/1 1 iit/\
      n0 0:0,3,b;1,-1,abcdefghz;2,3,a 0:3,-1,abcdefgha;4,-9223372036854775808, e0/\
      1 2-~...4 1 3 |0 2 |end/\
@@ -58,6 +59,9 @@ static CASES: [&str; 2] = [
      n0 0:0,1,;1,4, 1:2,2,;3,4,;4,9, e2 0:5,4,;6,6, e0 e1/\
      1~...0 2 1 |.5 3 6 |.4 |.end/\
      1~...0 2 1 |.5 3 6 |.4 |.end",
+    "MergeSorted/3 1 iit/\
+     n0 0:0,1,;1,1,;2,1,;3,5, 1:4,1,;5,5,;6,5,;7,9, e2 e0 e1/\
+     1~...0 1 2 |4 3 |.5 6 7 |.end",
 ];
 
 #[test]

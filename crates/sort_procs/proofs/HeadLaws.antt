@@ -1,7 +1,9 @@
 -- What is held of the inputs of a merge, as ends are noted and the first row is looked for.
 use Rattle.std.proofs.lemmas.Grind.{common_steps}
-use Rattle.std.proofs.Common.{◌≡◌, ◌⊎◌, ℕ, suc, ◌+◌, ◌<◌, Bool, true, false, List, [], ◌∷◌, length, get_or, not, refl, sym, ◌∙◌, arith, inl, inr}
-use Rattle.sort_procs.proofs.Imports.{Head, IsFirstOf, IsStrictWeakOrder, SortKey, and_from, and_parts, at, cases_lt, get_or_past, get_or_read, head_at, head_cmp, head_of, heads_of, is_lt, is_used, leb-true, list_all, no_head, ranks_by, row_cmp_total, tied_itself}
+use Rattle.std.proofs.Common.{◌≡◌, ◌≢◌, ◌⊎◌, ℕ, suc, ◌+◌, ◌<◌, ◌≤◌, ◌-◌, ◌^◌, ◌&&◌, drop, min, Bool, true, false, List, [], ◌∷◌, length, get_or, not, Option, Some, None, refl, sym, ap, subst, ◌∙◌, arith, inl, inr}
+use Rattle.sort_procs.proofs.Imports.{All, GoesFirst, HasRows, Head, IsBeforeNone, IsRun, IsRunBefore, IsFirst, IsFirstBut, IsRankAt, Row, SortKey, SortSpec, Table, and_from, and_parts, at, every-append, get_or-drop, goes_by, leb-false, length-drop, next_rows, take_more, cases_lt, comes_before, first_row, get_or_read, head_at, head_of, heads_of, is_lt, is_used, list_all, nat_cmp, nat_cmp_total, no_head, Ordering, not-true, ordering_reverse, ordering_then, row_at, row_cmp, row_cmp_total, rows-ordered}
+use Rattle.std.specs.declared.cmp.Ordering.TheVariants.{Equal, Greater, Less}
+use Rattle.sort_procs.proofs.RankLaws.{AreAlike, alike, nat-less, nat-same, rows-less}
 
 -- a head that was read
 pub read-at : (heads : List Head) (i : ℕ) (x : Head) → i < length heads → x ≡ get_or heads i x
@@ -10,40 +12,202 @@ read-at heads i x lt is = sym is ∙ get_or_read heads i x lt is no_head
 
 -- ---- the first row
 
-heads-ordered : (keys : List SortKey) → IsStrictWeakOrder (λ h g. is_lt (head_cmp keys h g))
-heads-ordered keys = grind (arith, ranks_by, row_cmp_total keys)
-
--- heads of which one has no row
-pub used_compares : (keys : List SortKey) (h g : Head) → (is_used h ≡ true) ⊎ (is_used g ≡ true)
-    → not (is_used h) ≡ is_lt (head_cmp keys h g)
-used_compares keys h g e =
-    grind (arith, get_or_past, leb-true, tied_itself (row_cmp_total keys) [])
-
--- of head i and the first one before it that one is first which comes before the other
-pub first-step : (keys : List SortKey) (heads : List Head) (i k : ℕ) (x y : Head) (r : Bool)
-    (first : ℕ) → i < length heads → x ≡ get_or heads i x → y ≡ get_or heads k y
-    → r ≡ is_lt (head_cmp keys x y) → IsFirstOf keys heads i k
-    → ((r ≡ true) × (first ≡ i)) ⊎ ((r ≡ false) × (first ≡ k)) → IsFirstOf keys heads (i + 1) first
-first-step keys heads i k x y r first here is there e f by = elim by [
-  | inl w ↦ grind (arith, up-to, o, same, never-before, lt)
-  | inr w ↦ grind (arith, up-to, same)
-]
+-- unequal ranks tell what the keys do
+pub ranks_tell : (order : SortSpec) (t u : Table) (i j r s : ℕ) → IsRankAt order t i r
+    → IsRankAt order u j s
+    → ordering_then (nat_cmp r s) (row_cmp order.keys (row_at t.rows i) (row_at u.rows j))
+    ≡ row_cmp order.keys (row_at t.rows i) (row_at u.rows j)
+ranks_tell order t u i j r s h k = by (cases_lt r s) (cases_lt s r)
   where
-    lt : ℕ → ℕ → Bool
-    lt j m = is_lt (head_cmp keys (at heads j) (at heads m))
+    keys : List SortKey
+    keys = order.keys
 
-    o : IsStrictWeakOrder (λ h g. is_lt (head_cmp keys h g))
-    o = heads-ordered keys
+    a : Row
+    a = row_at t.rows i
 
-    same : lt i k ≡ r
-    same = grind (arith, get_or_read)
+    b : Row
+    b = row_at u.rows j
 
-    never-before : (b : Bool) → lt i i ≡ b → lt i i ≡ false
-    never-before false e = e
-    never-before true e = o.one_way (at heads i) (at heads i) e
+    here : AreAlike keys a b
+    here = alike keys t u i j h.table k.table (k.fits.types_are ∙ sym h.fits.types_are)
+        (subst (λ l. All (λ (key : SortKey). key.column < length l) keys) (sym h.fits.types_are)
+        h.fits.keys_within) h.within k.within
 
-    up-to : (m j : ℕ) → (j < i → lt j m ≡ false) → lt i m ≡ false → j < i + 1 → lt j m ≡ false
-    up-to m j below here less = grind (arith, cases_lt, lt)
+    there : AreAlike keys b a
+    there = alike keys u t j i k.table h.table (h.fits.types_are ∙ sym k.fits.types_are)
+        (subst (λ l. All (λ (key : SortKey). key.column < length l) keys) (sym k.fits.types_are)
+        k.fits.keys_within) k.within h.within
+
+    by : (r < s) ⊎ (s ≤ r) → (s < r) ⊎ (r ≤ s)
+        → ordering_then (nat_cmp r s) (row_cmp keys a b) ≡ row_cmp keys a b
+    by (inl lt) _ = rw (nat-less r s lt) (sym (rows-less keys a b r s here h.ranks k.ranks lt))
+    by (inr le) (inl lt) =
+        let o = row_cmp_total keys in
+        rw (nat_cmp_total.antisymm r s, nat-less s r lt)
+        (sym (o.antisymm a b
+        ∙ ap ordering_reverse (rows-less keys b a s r there k.ranks h.ranks lt)))
+    by (inr le) (inr ge) =
+        let e : s ≡ r = omega (arith, le, ge) in
+        subst (λ n. ordering_then (nat_cmp r n) (row_cmp keys a b) ≡ row_cmp keys a b) (sym e)
+        (rw (nat-same r) refl)
+
+module _ (keys : List SortKey) (heads : List Head) where
+  abbrev lt : ℕ → ℕ → Bool
+  lt j i = comes_before keys heads j (Some i)
+
+  chain : (i j k : ℕ) → lt i j ≡ false → lt j k ≡ false → lt i k ≡ false
+  chain i j k e f = let o = rows-ordered keys in
+      o.chain (first_row (at heads i)) (first_row (at heads j)) (first_row (at heads k)) e f
+
+  one-way : (i j : ℕ) → lt i j ≡ true → lt j i ≡ false
+  one-way i j e = let o = rows-ordered keys in
+      o.one_way (first_row (at heads i)) (first_row (at heads j)) e
+
+  not-itself : (i : ℕ) → lt i i ≡ false
+  not-itself i = by (lt i i) refl
+    where
+      by : (b : Bool) → lt i i ≡ b → lt i i ≡ false
+      by false e = e
+      by true e = one-way i i e
+
+  pub has-rows : (but n : ℕ) (first : Option ℕ) → n ≤ length heads
+      → IsFirstBut keys heads but n first → HasRows heads first
+  has-rows but n None few h = tt
+  has-rows but n (Some i) few h = (let l = h.below in omega (arith, l, few), h.unused)
+
+  -- a head that doesn't come before the first one
+  pub first-stays : (but i : ℕ) (first : Option ℕ) → IsFirstBut keys heads but i first
+      → (i ≢ but → (not (is_used (at heads i)) && comes_before keys heads i first) ≡ false)
+      → IsFirstBut keys heads but (i + 1) first
+  first-stays but i None h e = λ j less ne. elim (cases_lt j i) [
+    | inl below ↦ h j below ne
+    | inr le ↦
+        let z : i ≡ j = omega (arith, less, le) in
+        subst (λ m. is_used (at heads m) ≡ true) z
+        (used (is_used (at heads i)) (e (subst (λ m. m ≢ but) (sym z) ne)))
+  ]
+    where
+      used : (b : Bool) → (not b && true) ≡ false → b ≡ true
+      used true e = refl
+      used false e = absurd (cc)
+  first-stays but i (Some k) h e = record {
+    below = let l = h.below in omega (arith, l);
+    other = h.other;
+    unused = h.unused;
+    least = λ j less ne free. elim (cases_lt j i) [
+      | inl below ↦ h.least j below ne free
+      | inr le ↦
+          let z : i ≡ j = omega (arith, less, le) in
+          subst (λ m. lt m k ≡ false) z
+          (not-before (is_used (at heads i)) (lt i k)
+          (e (subst (λ m. m ≢ but) (sym z) ne))
+          (subst (λ m. is_used (at heads m) ≡ false) (sym z) free))
+    ];
+  }
+    where
+      not-before : (b c : Bool) → (not b && c) ≡ false → b ≡ false → c ≡ false
+      not-before false c e f = e
+      not-before true c e f = absurd (cc)
+
+  -- a head that comes before the first one
+  pub first-changes : (but i : ℕ) (first : Option ℕ) → IsFirstBut keys heads but i first → i ≢ but
+      → (not (is_used (at heads i)) && comes_before keys heads i first) ≡ true
+      → IsFirstBut keys heads but (i + 1) (Some i)
+  first-changes but i first h ne e = record {
+    below = omega arith;
+    other = ne;
+    unused = not-true (is_used (at heads i)) (and_parts _ _ e).0;
+    least = λ j less other free. elim (cases_lt j i) [
+      | inl below ↦ by first h (and_parts _ _ e).1 j below other free
+      | inr le ↦
+          let z : i ≡ j = omega (arith, less, le) in
+          subst (λ m. lt m i ≡ false) z (not-itself i)
+    ];
+  }
+    where
+      by : (f : Option ℕ) → IsFirstBut keys heads but i f → comes_before keys heads i f ≡ true
+          → (j : ℕ) → j < i → j ≢ but → is_used (at heads j) ≡ false → lt j i ≡ false
+      by None h c j below other free = absurd (let u = h j below other in cc)
+      by (Some k) h c j below other free = chain j k i (h.least j below other free) (one-way i k c)
+
+  -- the first head goes before the first of the others
+  pub goes-first : (but n i : ℕ) (second : Option ℕ) → n ≤ length heads → n ≤ but
+      → IsFirst keys heads but n i → IsFirstBut keys heads i n second
+      → GoesFirst keys heads i second
+  goes-first but n i second few out f s = record {
+    in_range = let l = f.below in omega (arith, few, l);
+    unused = f.unused;
+    rows = has-rows i n second few s;
+    behind = λ k is. by k (subst (IsFirstBut keys heads i n) is s);
+  }
+    where
+      by : (k : ℕ) → IsFirst keys heads i n k → lt k i ≡ false
+      by k g = f.least k g.below (λ z. let l = g.below in omega (arith, l, out, z)) g.unused
+
+-- ---- the run of a head
+
+module _ (keys : List SortKey) (f : Bool) (a b : Row) where
+  -- a row that doesn't go before the other doesn't come before it
+  pub stays-behind : goes_by f (row_cmp keys a b) ≡ false → is_lt (row_cmp keys a b) ≡ false
+  stays-behind e = by (row_cmp keys a b) e
+    where
+      by : (o : Ordering) → goes_by f o ≡ false → is_lt o ≡ false
+      by Less e = absurd (cc)
+      by Equal e = refl
+      by Greater e = refl
+
+  -- and none comes before one that does
+  pub goes-before : goes_by f (row_cmp keys a b) ≡ true → is_lt (row_cmp keys b a) ≡ false
+  goes-before e = let o = row_cmp_total keys in
+      ap is_lt (o.antisymm b a) ∙ by (row_cmp keys a b) e
+    where
+      by : (o : Ordering) → goes_by f o ≡ true → is_lt (ordering_reverse o) ≡ false
+      by Less e = refl
+      by Equal e = refl
+      by Greater e = absurd (cc)
+
+module _ (keys : List SortKey) (h : Head) where
+  pub run-more : (y : Row) (n : ℕ) → h.place + n < length h.chunk.rows
+      → IsBeforeNone keys y (next_rows h n)
+      → is_lt (row_cmp keys y (row_at h.chunk.rows (h.place + n))) ≡ false
+      → IsBeforeNone keys y (next_rows h (n + 1))
+  run-more y n lt b e =
+      let l = length-drop h.place h.chunk.rows in
+      subst (IsBeforeNone keys y)
+      (sym (take_more (drop h.place h.chunk.rows) n [] (omega (arith, l, lt))))
+      (every-append (λ x. is_lt (row_cmp keys y x) ≡ false) (next_rows h n)
+      (get_or (drop h.place h.chunk.rows) n [] ∷ []) b (
+        subst (λ x. is_lt (row_cmp keys y x) ≡ false)
+            (sym (get_or-drop h.place h.chunk.rows n [])) e,
+        tt,
+      ))
+
+  module _ (heads : List Head) (room most : ℕ)
+      (is : most ≡ min room (length h.chunk.rows - h.place)) (some : 0 < room)
+      (unused : is_used h ≡ false) (long : length h.chunk.rows < 2 ^ 64) where
+    left : h.place < length h.chunk.rows
+    left = leb-false (length h.chunk.rows) h.place unused
+
+    pub run-alone : IsRun keys heads h None room most
+    run-alone = record {
+      some = omega (arith, is, some, left);
+      few = omega (arith, is);
+      within = omega (arith, is, left);
+      fits = omega (arith, is, left, long);
+      before = λ k e. absurd (cc);
+      ends = λ less more. absurd (omega (arith, is, less, more, left));
+    }
+
+    pub run-before : (k n : ℕ) → IsRunBefore keys h (at heads k) most n
+        → IsRun keys heads h (Some k) room n
+    run-before k n r = record {
+      some = r.some;
+      few = let f = r.few in omega (arith, is, f);
+      within = let f = r.few in omega (arith, is, f, left);
+      fits = let f = r.few in omega (arith, is, f, left, long);
+      before = λ m e. grind arith;
+      ends = λ less more. (k, refl, r.ends (omega (arith, is, less, more, left)));
+    }
 
 -- ---- lists of heads
 

@@ -19,7 +19,7 @@ pub use Rattle.query_model.proofs.Imports.{IfOk, Int, IsPermutation-map, IsPermu
 pub use Rattle.query_model.proofs.Lists.{map-map}
 pub use Rattle.query_model.proofs.ValueOrder.{value_cmp_total}
 pub use Rattle.query_model.specs.declared.processor_spec.SortSpec.{SortSpec}
-pub use Rattle.sort_procs.specs.Heads.{AreBlank, AreHeadsOf, IsFirstOf, NotesEnds, at, first_row, head_cmp, head_of, heads_of, is_over_at, is_ready, is_used, no_head}
+pub use Rattle.sort_procs.specs.Heads.{AreBlank, AreHeadsOf, AreRanked, AreUsedFrom, GivesRanks, GoesFirst, HasRows, IsFirst, IsFirstBut, IsMoved, IsRankAt, IsRanked, IsRun, IsRunBefore, NotesEnds, at, comes_before, first_row, goes_by, head_of, heads_of, is_over_at, is_ready, is_used, next_rows, no_head}
 pub use Rattle.sort_procs.specs.Merging.{Merges, MergesSome, is_open_at, merging_own}
 pub use Rattle.sort_procs.specs.Ranks.{HasRank, IsKeyRank, IsRank, IsValueRank, SortsPlaces, place_cmp, place_of, ranked_cmp, rows_at}
 pub use Rattle.sort_procs.specs.Sorted.{own_of}
@@ -30,10 +30,10 @@ pub use Rattle.std.proofs.Math.Nat.{mul-le-mul_left, mul-suc}
 pub use Rattle.std.proofs.Math.Seq.{drop-cons}
 pub use Rattle.std.proofs.lemmas.Bool.{and_from, and_parts, cases_eq, cases_lt, cond_both, le-leb, le-ltb, leb-false, leb-true, lt-leb, lt-ltb, ltb-true, not-true, or_left, or_right}
 pub use Rattle.std.proofs.lemmas.Fn.{always_returns_same}
-pub use Rattle.std.proofs.lemmas.List.{append-nil, drop-drop, drop_all, get_or-map, get_or-set_other, get_or-set_same, get_or_past, get_or_read, length-append, length-drop, length-map, length-set, length-take, map-append, map-set, nil_from_length, take-append-drop, take_all, take_more}
+pub use Rattle.std.proofs.lemmas.List.{append-nil, drop-drop, drop_all, get_or-map, get_or-set_other, get_or-set_same, get_or_past, get_or_read, length-append, length-drop, length-map, length-set, length-take, map-append, map-set, nil_from_length, get_or-drop, set-get_or, set-set, take-append-drop, take_all, take_more}
 pub use Rattle.std.proofs.lemmas.List.Elements.{All-append, All-map, Contains-append_left, Contains-append_right}
 pub use Rattle.std.proofs.lemmas.List.Folds.{list_all-map}
-pub use Rattle.std.specs.Cmp.{IsStrictWeakOrder, IsTotalOrder, bool_cmp_total, int_cmp_is, nat_cmp_total, on_total, then_total}
+pub use Rattle.std.specs.Cmp.{IsTotalOrder, bool_cmp_total, int_cmp_is, nat_cmp_total, on_total, then_total}
 pub use Rattle.std.specs.Ordering.{bool_cmp, int_cmp, is_lt, nat_cmp, ordering_reverse, ordering_then}
 unfoldable pub use Rattle.query_model.proofs.Imports.{count_up, row_cmp}
 unfoldable pub use Rattle.sort_procs.specs.Ranks.{AreBytes, text_rank, weight}

@@ -1,10 +1,10 @@
 -- The clauses of a merge's kernel.
 use Rattle.std.proofs.lemmas.Grind.{common_steps}
-use Rattle.std.proofs.Common.{◌≡◌, ℕ, suc, ◌+◌, ◌<◌, ◌≤◌, ◌&&◌, not, true, false, List, [], ◌∷◌, ◌++◌, length, take, drop, get_or, set, append_assoc, Some, None, refl, sym, ap, ap₂, subst, ◌∙◌, arith, inl, inr}
-use Rattle.sort_procs.proofs.Imports.{AreBlank, AreHeadsOf, AreMerged, Begins, Head, InputHead, IsFirstOf, Leaves, Makes, Merges, MergesSome, NotesEnds, Offer, OfferComes, Offers, Picture, Row, SortKey, SortSpec, Table, Takes, WantsMore, and_parts, append-nil, at, cases_lt, chunk_rows, cond_both, drop-cons, drop_all, first_row, get_or-set_same, head_at, head_of, head_rows, heads_of, in_count, is_lt, is_open_at, is_ready, is_ready_head, is_used, le-leb, le-ltb, leb-false, leb-true, length-append, length-drop, length-map, length-set, list_all, list_all-map, lt-leb, lt-ltb, map-set, merging_own, no_head, not-true, or_left, row_cmp, with_chunk, written_back}
+use Rattle.std.proofs.Common.{◌≡◌, Bool, Option, ℕ, suc, ◌+◌, ◌<◌, ◌≤◌, ◌&&◌, not, true, false, List, [], ◌∷◌, ◌++◌, length, take, drop, get_or, set, append_assoc, Some, None, refl, sym, ap, ap₂, subst, ◌∙◌, arith, inl, inr}
+use Rattle.sort_procs.proofs.Imports.{AreBlank, AreHeadsOf, AreMerged, Begins, Head, InputHead, AreRanked, GivesRanks, get_or_past, AreUsedFrom, IsFirst, IsFirstBut, IsMoved, length-take, IsRanked, IsRun, AllByRecursion, IsBeforeNone, every-weaker, drop-drop, take-append-drop, next_rows, row_at, rows-ordered, get_or-set_other, Leaves, Makes, Merges, MergesSome, NotesEnds, Offer, OfferComes, Offers, Picture, Row, SortKey, SortSpec, Table, Takes, WantsMore, and_parts, append-nil, at, cases_lt, chunk_rows, cond_both, drop-cons, drop_all, first_row, get_or-set_same, head_at, head_of, head_rows, heads_of, in_count, is_lt, is_open_at, is_ready, is_ready_head, is_used, le-leb, le-ltb, leb-false, leb-true, length-append, length-drop, length-map, length-set, list_all, list_all-map, lt-leb, lt-ltb, map-set, merging_own, no_head, not-true, or_left, row_cmp, with_chunk, written_back}
 use Rattle.query_model.specs.declared.processor_spec.Spec.TheVariants as spec
 use Rattle.sort_procs.proofs.HeadLaws.{all-pass, each-passes, head-at, read-at}
-use Rattle.sort_procs.proofs.MergingLaws.{merged-made, merged-none, merged-noted, merged-taken, same-heads, set-each}
+use Rattle.sort_procs.proofs.MergingLaws.{IsLeastBut, merged-none, merged-noted, merged-run, merged-taken, same-heads, set-each}
 
 -- ---- heads, used and ready
 
@@ -108,7 +108,7 @@ set-ends heads i new lt e = grind (arith, common_steps, set-each)
 module _ (order : SortSpec) (heads : List Head) (i : ℕ) (t : Table) (are : AreHeadsOf order heads)
     (lt : i < 32) where
   abbrev new : Head
-  new = record { chunk = t; place = 0; ended = false }
+  new = record { chunk = t; place = 0; rank = 0; ended = false }
 
   here : i < length heads
   here = let c = are.count in omega (arith, lt, c)
@@ -132,86 +132,282 @@ module _ (order : SortSpec) (heads : List Head) (i : ℕ) (t : Table) (are : Are
 
 -- ---- rows are made
 
-pub rows-none : (keys : List SortKey) (heads : List Head) → Merges keys heads heads []
-rows-none keys heads = grind (arith, append-nil)
+pub ranked-fit : (order : SortSpec) (heads : List Head) → AreRanked order heads
+    → AreHeadsOf order heads
+ranked-fit order heads r = record {
+  count = r.count;
+  fits = λ i unused. let k = r.ranked i unused in k.fits;
+}
 
--- the first row of head i was added to what was made, by what was read of the head then
-module _ {order : SortSpec} {old now : List Head} {i : ℕ} {made : List Row}
-    (h : Merges order.keys old now made) (are : AreHeadsOf order now)
-    (ready : list_all is_ready now ≡ true) (f : IsFirstOf order.keys now 32 i) {u x y z : Head}
-    (in-u : u ≡ get_or now i u) (in-x : x ≡ get_or now i x) (in-y : y ≡ get_or now i y)
-    (in-z : z ≡ get_or now i z) (unused : is_used (get_or now i u) ≡ false) where
-  abbrev later : List Head
-  later = set now i (record {
-    chunk = (get_or now i z).chunk;
-    place = (get_or now i y).place + 1;
-    ended = (get_or now i z).ended;
-  })
+same-of : (old new : List Head) → length new ≡ length old
+    → ((j : ℕ) → head_of (at new j) ≡ head_of (at old j)) → heads_of new ≡ heads_of old
+same-of [] [] l e = refl
+same-of (o ∷ old) (n ∷ new) l e =
+    ap₂ (λ a b. a ∷ b) (e 0) (same-of old new (omega (arith, l)) (λ j. e (suc j)))
+same-of _ _ l e = absurd (omega (arith, l))
 
-  abbrev next : Head
-  next = record (at now i) { place = (at now i).place + 1 }
+-- heads that were given their ranks hold what they held
+pub ranks-given : (order : SortSpec) (old now : List Head) → AreHeadsOf order old
+    → list_all is_ready old ≡ true → GivesRanks order (length old) old now
+    → AreRanked order now × (list_all is_ready now ≡ true) × Merges order.keys old now []
+ranks-given order old now are ready g = (
+  record {
+    count = g.count ∙ are.count;
+    ranked = λ j. elim (cases_lt j (length old)) [
+      | inl lt ↦ let m = g.below j lt in m.ranked
+      | inr le ↦ λ unused. absurd (let c : false ≡ true = sym unused ∙ ap is_used
+          (g.above j le ∙ get_or_past old j no_head le) in cc)
+    ];
+  },
+  all-pass is_ready now (λ j lt.
+      let low : j < length old = (let n = g.count in omega (arith, lt, n)) in
+      sym (ready-same (at now j)) ∙ ap is_ready_head (each j) ∙ ready-same (at old j)
+      ∙ each-passes is_ready old ready j low),
+  record {
+    ends = λ j. ap (λ (h : InputHead). h.ended) (each j);
+    means = λ worked done m. subst (AreMerged order.keys (heads_of now) worked)
+        (sym (append-nil done))
+        (subst (λ l. AreMerged order.keys l worked done) (sym (same-of old now g.count each)) m);
+  },
+)
+  where
+    each : (j : ℕ) → head_of (at now j) ≡ head_of (at old j)
+    each j = elim (cases_lt j (length old)) [
+      | inr le ↦ ap head_of (g.above j le)
+      | inl lt ↦
+          let m = g.below j lt in
+          ap₂ (λ r b. record { rows = r; ended = b })
+          (ap₂ (λ k (t : Table). drop k t.rows) (m.place ∙ omega arith) m.chunk) m.ended
+    ]
 
-  same : set now i next ≡ later
-  same = grind (arith, read-at)
+every-one : {X : Type 0} (P : X → Type 0) → ((x : X) → P x) → (xs : List X)
+    → AllByRecursion P xs
+every-one P f [] = tt
+every-one P f (x ∷ xs) = (f x, every-one P f xs)
 
-  free : is_used (at now i) ≡ false
-  free = ap is_used (sym (read-at now i u f.in_range in-u)) ∙ unused
+-- the run of head i that goes before the first of the others was made
+module _ {order : SortSpec} {old now : List Head} {i n count room : ℕ} {made : List Row}
+    {second : Option ℕ} {next : Head} (h : Merges order.keys old now made)
+    (are : AreRanked order now) (ready : list_all is_ready now ≡ true)
+    (used : AreUsedFrom now count) (below : i < count) (few : count ≤ length now)
+    (others : IsFirstBut order.keys now i count second)
+    (run : IsRun order.keys now (at now i) second room n) (moved : IsMoved order n (at now i) next)
+  where
+    abbrev later : List Head
+    later = set now i next
 
-  -- it is first of those that have rows
-  least : (j : ℕ) → j < 32 → (g : Row) (rest : List Row)
-      → (head_at (heads_of now) j).rows ≡ g ∷ rest
-      → is_lt (row_cmp order.keys g (first_row (at now i))) ≡ false
-  least j lt g rest is = grind (arith, head-at, used-none, leb-false, drop-cons, free)
+    abbrev keys : List SortKey
+    keys = order.keys
 
-  rows-more : Merges order.keys old (set now i next) (made ++ first_row (at now i) ∷ [])
-  rows-more = record {
-    ends = λ j. set-ends now i next f.in_range refl j ∙ h.ends j;
-    means = λ worked done m.
-        subst (AreMerged order.keys (heads_of (set now i next)) worked)
-        (append_assoc done made (first_row (at now i) ∷ []))
-        (subst (λ l. AreMerged order.keys l worked ((done ++ made) ++ first_row (at now i) ∷ []))
-        (sym (map-set head_of now i next))
-        (merged-made order.keys (heads_of now) worked (done ++ made) i (first_row (at now i))
-        (head_of next).rows (at now i).ended (length-map now head_of ∙ are.count)
-        (let c = are.count in let lt = f.in_range in omega (arith, c, lt))
-        (head-at now i ∙ ap (λ r. record { rows = r; ended = (at now i).ended }) split) least
-        all-are-ready (h.means worked done m)));
-  }
-    where
-      split : (head_of (at now i)).rows ≡ first_row (at now i) ∷ (head_of next).rows
-      split = grind (arith, drop-cons, leb-false, free)
+    in-range : i < length now
+    in-range = omega (arith, below, few)
 
-      all-are-ready : (j : ℕ) → j < 32 → is_ready_head (head_at (heads_of now) j) ≡ true
-      all-are-ready j lt = grind (arith, head-at, ready-same, each-passes)
+    -- the row behind the run is next
+    abbrev stop : Row
+    stop = row_at (at now i).chunk.rows ((at now i).place + n)
 
-  -- where the head is ready still, all are
-  ready-still : is_ready next ≡ true → list_all is_ready (set now i next) ≡ true
-  ready-still r = all-pass is_ready (set now i next) (set-each now i next no_head
-      (λ j n. j < length (set now i next) → is_ready n ≡ true) f.in_range (λ lt. r)
-      (λ j ne lt. each-passes is_ready now ready j
-      (let l = length-set now i next in omega (arith, lt, l))))
+    next-row : first_row next ≡ stop
+    next-row = ap₂ (λ (t : Table) k. row_at t.rows k) moved.chunk moved.place
 
-  pub step-fits : AreHeadsOf order later
-  step-fits = grind (arith, common_steps, same, length-set, set-each, free)
+    next-free : is_used next ≡ false → (at now i).place + n < length (at now i).chunk.rows
+    next-free e = subst (λ (t : Table). (at now i).place + n < length t.rows) moved.chunk
+        (subst (λ k. k < length next.chunk.rows) moved.place
+        (leb-false (length next.chunk.rows) next.place e))
 
-  pub step-rows : Merges order.keys old later (made ++ first_row (get_or now i x) ∷ [])
-  step-rows = grind (arith, common_steps, read-at, same, rows-more)
+    -- no first row of another head comes before one that the first of them doesn't come before
+    abbrev NotBehind : Option ℕ → Row → Type 0
+    NotBehind None x = Unit {0}
+    NotBehind (Some k) x = is_lt (row_cmp keys (first_row (at now k)) x) ≡ false
 
-  pub step-ready : (r : Head) → r ≡ get_or later i r → is_ready (get_or later i r) ≡ true
-      → list_all is_ready later ≡ true
-  step-ready r is e = grind (arith, length-set, same, ready-still, get_or-set_same, read-at)
+    none-first : (o : Option ℕ) → IsFirstBut keys now i count o → (x : Row) → NotBehind o x
+        → IsLeastBut keys i (heads_of now) x
+    none-first o s x b j lt ne f rest is = by o s b
+      where
+        held : (head_of (at now j)).rows ≡ f ∷ rest
+        held = ap (λ (g : InputHead). g.rows) (sym (head-at now j)) ∙ is
 
--- a head with rows, by what was read of it, has the order's types
-pub unused-types : (order : SortSpec) (heads : List Head) (i : ℕ) (u x : Head)
-    → AreHeadsOf order heads → i < length heads → u ≡ get_or heads i u → x ≡ get_or heads i x
-    → is_used (get_or heads i u) ≡ false → (get_or heads i x).chunk.types ≡ order.types
-unused-types order heads i u x are lt in-u in-x unused = grind (arith, read-at)
+        unused : (c : Bool) → is_used (at now j) ≡ c → is_used (at now j) ≡ false
+        unused false e = e
+        unused true e = absurd (let l = ap length (sym (used-none (at now j) e) ∙ held) in
+            omega (arith, l))
 
--- where the first head has no row, none has one
-pub first-used : (order : SortSpec) (heads : List Head) (i : ℕ) → AreHeadsOf order heads
-    → IsFirstOf order.keys heads 32 i → is_used (at heads i) ≡ true
-    → list_all is_used heads ≡ true
-first-used order heads i are f used = grind (arith, all-pass, least)
+        free : is_used (at now j) ≡ false
+        free = unused (is_used (at now j)) refl
+
+        first-is : first_row (at now j) ≡ f
+        first-is = ap (λ l. get_or l 0 f) (sym (drop-cons (at now j).chunk.rows (at now j).place []
+            (leb-false (length (at now j).chunk.rows) (at now j).place free)) ∙ held)
+
+        within : j < count
+        within = elim (cases_lt j count) [
+          | inl less ↦ less
+          | inr le ↦ absurd (let c : false ≡ true = sym free ∙ used j le in cc)
+        ]
+
+        by : (p : Option ℕ) → IsFirstBut keys now i count p → NotBehind p x
+            → is_lt (row_cmp keys f x) ≡ false
+        by None t b = absurd (let c : false ≡ true = sym free ∙ t j within ne in cc)
+        by (Some k) t b = let o = rows-ordered keys in
+            o.chain f (first_row (at now k)) x
+            (subst (λ g. is_lt (row_cmp keys g (first_row (at now k))) ≡ false) first-is
+            (t.least j within ne free)) b
+
+    run-first-of : (o : Option ℕ) → IsFirstBut keys now i count o → (rows : List Row)
+        → ((k : ℕ) → o ≡ Some k → IsBeforeNone keys (first_row (at now k)) rows)
+        → AllByRecursion (IsLeastBut keys i (heads_of now)) rows
+    run-first-of None s rows b =
+        every-one (IsLeastBut keys i (heads_of now)) (λ x. none-first None s x tt) rows
+    run-first-of (Some k) s rows b =
+        every-weaker (NotBehind (Some k)) (IsLeastBut keys i (heads_of now))
+        (λ x c. none-first (Some k) s x c) rows (b k refl)
+
+    pub run-rows : Merges keys old later (made ++ next_rows (at now i) n)
+    run-rows = record {
+      ends = λ j. set-ends now i next in-range moved.ended j ∙ h.ends j;
+      means = λ worked done m.
+          subst (AreMerged keys (heads_of later) worked)
+          (append_assoc done made (next_rows (at now i) n))
+          (subst (λ l. AreMerged keys l worked ((done ++ made) ++ next_rows (at now i) n))
+          (sym (map-set head_of now i next))
+          (merged-run keys worked i (head_of next).rows next.ended
+          (let c = are.count in omega (arith, c, in-range)) (next_rows (at now i) n) (heads_of now)
+          (done ++ made) (length-map now head_of ∙ are.count)
+          (head-at now i ∙ ap₂ (λ r b. record { rows = r; ended = b }) split (sym moved.ended))
+          (run-first-of second others (next_rows (at now i) n) run.before)
+          (λ j lt ne. grind (arith, head-at, ready-same, each-passes, are.count))
+          (h.means worked done m)));
+    }
+      where
+        split : (head_of (at now i)).rows ≡ next_rows (at now i) n ++ (head_of next).rows
+        split = sym (take-append-drop n (drop (at now i).place (at now i).chunk.rows))
+            ∙ ap (λ l. next_rows (at now i) n ++ l)
+            (drop-drop n (at now i).place (at now i).chunk.rows
+            ∙ sym (ap₂ (λ k (t : Table). drop k t.rows) moved.place moved.chunk))
+
+    pub run-fits : AreRanked order later
+    run-fits = record {
+      count = length-set now i next ∙ are.count;
+      ranked = set-each now i next no_head (λ j g. IsRanked order g) in-range moved.ranked
+          (λ j ne. are.ranked j);
+    }
+
+    pub run-used : AreUsedFrom later count
+    run-used = set-each now i next no_head (λ j g. count ≤ j → is_used g ≡ true) in-range
+        (λ le. absurd (omega (arith, le, below))) (λ j ne. used j)
+
+    -- the first of the others is first of all, where the run ends before the room does
+    pub run-second : n < room → IsFirstBut keys later count count second
+    run-second more = by second others run.ends
+      where
+        by : (o : Option ℕ) → IsFirstBut keys now i count o
+            → (n < room → (at now i).place + n < length (at now i).chunk.rows
+            → (k : ℕ) × (o ≡ Some k) × (is_lt (row_cmp keys stop (first_row (at now k))) ≡ false))
+            → IsFirstBut keys later count count o
+        by None s ends = λ j less ne. set-each now i next no_head
+            (λ j g. j < count → is_used g ≡ true) in-range (λ lt. over (is_used next) refl)
+            (λ j ne lt. s j lt ne) j less
+          where
+            over : (b : Bool) → is_used next ≡ b → is_used next ≡ true
+            over true e = e
+            over false e = absurd (let w = ends more (next-free e) in cc)
+        by (Some k) s ends = record {
+          below = s.below;
+          other = λ z. let l = s.below in omega (arith, l, z);
+          unused = ap is_used same ∙ s.unused;
+          least = λ j less ne free. subst (λ g. is_lt (row_cmp keys (first_row (at later j))
+              (first_row g)) ≡ false) (sym same)
+              (set-each now i next no_head (λ j g. j < count → is_used g ≡ false
+              → is_lt (row_cmp keys (first_row g) (first_row (at now k))) ≡ false) in-range
+              (λ lt unused. not-first unused)
+              (λ j ne lt unused. s.least j lt ne unused) j less free);
+        }
+          where
+            same : at later k ≡ at now k
+            same = get_or-set_other now i k next no_head s.other
+
+            by-name : (m : ℕ) → Some k ≡ Some m
+                → is_lt (row_cmp keys stop (first_row (at now m))) ≡ false
+                → is_lt (row_cmp keys stop (first_row (at now k))) ≡ false
+            by-name m z e = grind arith
+
+            not-first : is_used next ≡ false
+                → is_lt (row_cmp keys (first_row next) (first_row (at now k))) ≡ false
+            not-first unused =
+                let w = ends more (next-free unused) in
+                subst (λ r. is_lt (row_cmp keys r (first_row (at now k))) ≡ false) (sym next-row)
+                (by-name w.0 w.1 w.2)
+
+-- what holds of the heads once a run was made
+pub record IsRunMade (order : SortSpec) (old later : List Head) (count n room : ℕ)
+    (second : Option ℕ) (before rows : List Row) : Type 0 where
+  pub fits : AreRanked order later
+  pub merges : Merges order.keys old later rows
+  pub used : AreUsedFrom later count
+  pub first : n < room → IsFirstBut order.keys later count count second
+  pub within : count ≤ length later
+  pub some : 0 < n
+  pub few : n ≤ room
+  pub long : length rows ≡ length before + n
+
+-- the same by what was read of the head
+pub run-made : {order : SortSpec} {old now : List Head} {i n count room : ℕ}
+    {made rows : List Row} {second : Option ℕ} {u x next : Head} → Merges order.keys old now made
+    → AreRanked order now → list_all is_ready now ≡ true → AreUsedFrom now count
+    → count ≤ length now
+    → IsFirst order.keys now count count i → IsFirstBut order.keys now i count second
+    → IsRun order.keys now (at now i) second room n → u ≡ get_or now i u → x ≡ get_or now i x
+    → rows ≡ made ++ next_rows (get_or now i u) n → IsMoved order n (get_or now i x) next
+    → IsRunMade order old (set now i next) count n room second made rows
+run-made {order} {old} {now} {i} {n} {count} {room} {made} {rows} {second} {u} {x} {next} h are
+    ready
+    used few first others run in-u in-x e moved =
+    record {
+      fits = run-fits h are ready used first.below few others run is-moved;
+      merges = subst (Merges order.keys old (set now i next)) (sym is)
+          (run-rows h are ready used first.below few others run is-moved);
+      used = run-used h are ready used first.below few others run is-moved;
+      first = run-second h are ready used first.below few others run is-moved;
+      within = let l = length-set now i next in omega (arith, l, few);
+      some = run.some;
+      few = run.few;
+      long =
+          let a = ap length is in
+          let b = length-append made (next_rows (at now i) n) in
+          let c = length-take n (drop (at now i).place (at now i).chunk.rows) in
+          let d = length-drop (at now i).place (at now i).chunk.rows in
+          let w = run.within in
+          omega (arith, a, b, c, d, w);
+    }
+  where
+    here : i < length now
+    here = let l = first.below in omega (arith, l, few)
+
+    is : rows ≡ made ++ next_rows (at now i) n
+    is = e ∙ ap (λ g. made ++ next_rows g n) (read-at now i u here in-u)
+
+    is-moved : IsMoved order n (at now i) next
+    is-moved = subst (λ g. IsMoved order n g next) (read-at now i x here in-x) moved
+
+-- where the head that changed is ready still, all are
+pub still-ready : (now : List Head) (i : ℕ) (next r : Head) → list_all is_ready now ≡ true
+    → i < length now → r ≡ get_or (set now i next) i r
+    → is_ready (get_or (set now i next) i r) ≡ true → list_all is_ready (set now i next) ≡ true
+still-ready now i next r ready here is e = all-pass is_ready (set now i next)
+    (set-each now i next no_head (λ j g. j < length (set now i next) → is_ready g ≡ true) here
+    (λ lt. subst (λ g. is_ready g ≡ true) (get_or-set_same now i next r here) e)
+    (λ j ne lt. each-passes is_ready now ready j
+    (let l = length-set now i next in omega (arith, lt, l))))
+
+-- where no head is first, none has rows
+pub none-left : (keys : List SortKey) (heads : List Head) (count : ℕ) (first : Option ℕ)
+    → AreUsedFrom heads count → IsFirstBut keys heads count count first
+    → ((i : ℕ) → first ≡ Some i → ⊥) → list_all is_used heads ≡ true
+none-left keys heads count (Some i) used h f = absurd (f i refl)
+none-left keys heads count None used h f = all-pass is_used heads (λ j lt.
+    elim (cases_lt j count) [
+      | inl less ↦ h j less (λ z. omega (arith, less, z))
+      | inr le ↦ used j le
+    ])
 
 pub makes : (order : SortSpec) (old new : List Head) (c : Table)
     → 0 < length (merging_own old).unmade → MergesSome order old new c

@@ -1,6 +1,6 @@
 -- What a merge has made, as chunks are taken, ends noted and first rows made.
 use Rattle.std.proofs.Common.{◌≡◌, ◌≢◌, ℕ, zero, suc, ◌<◌, ◌||◌, nat_lt, Bool, true, false, List, [], ◌∷◌, ◌++◌, length, get_or, set, append_assoc, refl, sym, ap, ap₂, subst, ◌∙◌, arith, inl, inr, IsPermutation, IsSorted}
-use Rattle.sort_procs.proofs.Imports.{AllByRecursion, AreInputsSorted, AreMerged, Contains, Contains-append_left, Contains-append_right, InOrder, InputHead, IsBeforeNone, IsPermutation-append_comm, IsPermutation-append_left, IsPermutation-append_right, IsPermutation-middle, IsPermutation-trans, Lists, Row, SortKey, Table, all-more, cases_eq, chunk-elsewhere, chunk-here, chunk_rows, every-append, every-back, every-contains, every-front, every-none, every-permuted, every-weaker, get_or-set_other, get_or-set_same, head_at, head_rows, is_lt, no-rows, no_lists, one-more, order-back, order-cross, order-from_sorted, order-front, order-joined, row_cmp, rows-ordered, sorted-from_order, with_chunk}
+use Rattle.sort_procs.proofs.Imports.{AllByRecursion, AreInputsSorted, AreMerged, Contains, Contains-append_left, Contains-append_right, InOrder, InputHead, IsBeforeNone, IsPermutation-append_comm, IsPermutation-append_left, IsPermutation-append_right, IsPermutation-middle, IsPermutation-trans, Lists, Row, SortKey, Table, all-more, cases_eq, chunk-elsewhere, chunk-here, chunk_rows, every-append, every-back, every-contains, every-front, every-none, every-permuted, every-weaker, get_or-set_other, get_or-set_same, head_at, head_rows, is_lt, no-rows, no_lists, one-more, append-nil, length-set, lt-ltb, or_right, set-get_or, set-set, order-back, order-cross, order-from_sorted, order-front, order-joined, row_cmp, rows-ordered, sorted-from_order, with_chunk}
 use Rattle.proc_api.specs.Made.{AreLast, HeldBack, is_ready_head, no_head}
 
 -- more rows behind those that are held of one input
@@ -322,3 +322,62 @@ module _ (keys : List SortKey) where
         by-head j less (f ∷ more) b is end r = holds j less f more is
         by-head j less [] true is end r = inl end
         by-head j less [] false is end r = absurd (cc)
+
+  -- ---- a run of first rows is made
+
+  -- no row that is held of another input than i comes before x
+  abbrev pub IsLeastBut : ℕ → List InputHead → Row → Type 0
+  IsLeastBut i heads x = (j : ℕ) → j < 32 → j ≢ i → (f : Row) (rest : List Row)
+      → (head_at heads j).rows ≡ f ∷ rest → lt f x ≡ false
+
+  abbrev pub AreReadyBut : ℕ → List InputHead → Type 0
+  AreReadyBut i heads = (j : ℕ) → j < 32 → j ≢ i → is_ready_head (head_at heads j) ≡ true
+
+  not-before-itself : (x : Row) → lt x x ≡ false
+  not-before-itself x = by (lt x x) refl
+    where
+      by : (b : Bool) → lt x x ≡ b → lt x x ≡ false
+      by false e = e
+      by true e = let o = rows-ordered keys in o.one_way x x e
+
+  module _ (worked : Lists) (i : ℕ) (rest : List Row) (e : Bool) (within : i < 32) where
+    abbrev holding : List Row → InputHead
+    holding rows = record { rows = rows; ended = e }
+
+    pub merged-run : (run : List Row) (heads : List InputHead) (made : List Row)
+        → length heads ≡ 32 → head_at heads i ≡ holding (run ++ rest)
+        → AllByRecursion (IsLeastBut i heads) run → AreReadyBut i heads
+        → AreMerged keys heads worked made
+        → AreMerged keys (set heads i (holding rest)) worked (made ++ run)
+    merged-run [] heads made count is least ready h =
+        subst (AreMerged keys (set heads i (holding rest)) worked) (sym (append-nil made))
+        (subst (λ l. AreMerged keys l worked made)
+        (sym (subst (λ n. set heads i n ≡ heads) is (set-get_or heads i no_head))) h)
+    merged-run (x ∷ run) heads made count is least ready h =
+        subst (AreMerged keys (set heads i (holding rest)) worked) (append_assoc made (x ∷ []) run)
+        (subst (λ l. AreMerged keys l worked ((made ++ x ∷ []) ++ run))
+        (set-set heads i (holding (run ++ rest)) (holding rest))
+        (merged-run run (set heads i (holding (run ++ rest))) (made ++ x ∷ [])
+        (length-set heads i (holding (run ++ rest)) ∙ count)
+        (get_or-set_same heads i (holding (run ++ rest)) no_head (omega (arith, within, count)))
+        (every-weaker (IsLeastBut i heads) (IsLeastBut i (set heads i (holding (run ++ rest))))
+        (λ y b j less ne f more z. b j less ne f more (ap (λ (n : InputHead). n.rows)
+        (sym (other j ne)) ∙ z)) run least.1)
+        (λ j less ne. ap is_ready_head (other j ne) ∙ ready j less ne)
+        (merged-made heads worked made i x (run ++ rest) e count within is
+        (λ j less f more z. elim (cases_eq j i) [
+          | inr ne ↦ least.0 j less ne f more z
+          | inl same ↦ subst (λ y. lt y x ≡ false)
+              (ap (λ l. get_or l 0 x) (sym (ap (λ (n : InputHead). n.rows) is)
+              ∙ ap (λ m. (head_at heads m).rows) (sym same) ∙ z)) (not-before-itself x)
+        ])
+        (λ j less. elim (cases_eq j i) [
+          | inr ne ↦ ready j less ne
+          | inl same ↦ subst (λ m. is_ready_head (head_at heads m) ≡ true) (sym same)
+              (subst (λ n. is_ready_head n ≡ true) (sym is)
+              (or_right e (nat_lt 0 (length (x ∷ (run ++ rest)))) (lt-ltb 0 _ (omega arith))))
+        ]) h)))
+      where
+        other : (j : ℕ) → j ≢ i
+            → head_at (set heads i (holding (run ++ rest))) j ≡ head_at heads j
+        other j ne = get_or-set_other heads i j (holding (run ++ rest)) no_head ne

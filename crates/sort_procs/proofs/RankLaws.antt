@@ -1,6 +1,5 @@
 -- A lower rank is that of a row that comes before, so that places sorted by ranks and keys are
--- those
--- of the rows in order.
+-- those of the rows in order.
 use Rattle.std.proofs.lemmas.Grind.{common_steps}
 use Rattle.std.proofs.Common.{◌≡◌, ◌⊎◌, ℕ, zero, suc, ◌+◌, ◌*◌, ◌<◌, ◌≤◌, leb, Bool, false, List, [], ◌∷◌, length, map, get_or, drop, take, ◌++◌, refl, sym, ap, subst, ◌∙◌, arith, inl, inr, IsPermutation}
 use Rattle.sort_procs.proofs.Imports.{AgreeOnKey, All, All-map, All-permutation, AreBytes, ColumnType, Equal, FitsType, HasRank, IsPermutation-map, IsRank, IsSortedBy, IsTable, IsTotalOrder, Less, Ordering, Ranked, Row, SortKey, SortsPlaces, Table, Text, bool_cmp, bool_cmp_total, cases_lt, column_fits, count_up, drop-cons, drop_all, get_or-eq_default, get_or-map, get_or_past, ints, is_lt, le-leb, length-map, lt-leb, lt-ltb, map-append, map-map, mul-le-mul_left, mul-suc, nat_cmp, nat_cmp_total, on_total, ordering_reverse, ordering_then, place_cmp, place_of, ranked_cmp, row_at, row_cmp, row_cmp_total, rows_at, take_all, take_more, text_cmp, text_rank, then_total, tied_itself, value_at, value_cmp_total, weight}
@@ -20,10 +19,10 @@ rank-past zero i a le = refl
 rank-past (suc n) i a le = rw (get_or-eq_default a 0 le, rank-past n (suc i) a (omega (arith, le)))
     (omega arith)
 
-nat-less : (x y : ℕ) → x < y → nat_cmp x y ≡ Less
+pub nat-less : (x y : ℕ) → x < y → nat_cmp x y ≡ Less
 nat-less x y lt = rw (lt-ltb x y lt) refl
 
-nat-same : (x : ℕ) → nat_cmp x x ≡ Equal
+pub nat-same : (x : ℕ) → nat_cmp x x ≡ Equal
 nat-same x = tied_itself nat_cmp_total x
 
 texts-less : (n i : ℕ) (a b : List ℕ) → AreBytes n i a → AreBytes n i b
@@ -60,12 +59,12 @@ eight_bytes bytes h = grind arith
 -- ---- values and rows
 
 -- the values of the first key fit one type
-abbrev AreAlike : List SortKey → Row → Row → Type 0
+abbrev pub AreAlike : List SortKey → Row → Row → Type 0
 AreAlike [] a b = Unit {0}
 AreAlike (key ∷ keys) a b =
     (t : ColumnType) × FitsType t (value_at a key.column) × FitsType t (value_at b key.column)
 
-rows-less : (keys : List SortKey) (a b : Row) (r s : ℕ) → AreAlike keys a b → IsRank keys a r
+pub rows-less : (keys : List SortKey) (a b : Row) (r s : ℕ) → AreAlike keys a b → IsRank keys a r
     → IsRank keys b s → r < s → row_cmp keys a b ≡ Less
 unfolding row_cmp
 rows-less keys a b r s t h k lt = grind (arith, value_cmp_total, nat-less, texts-less, ints)
@@ -101,20 +100,30 @@ all-places rows zero le = refl
 all-places rows (suc k) le =
     grind (arith, map-append, take_more, all-places rows k (omega (arith, le)))
 
--- rows of a table have values of one type at the first key
-alike : (keys : List SortKey) (t : Table) (i j : ℕ) → IsTable t
-    → All (AgreeOnKey t.types t.types) keys → i < length t.rows → j < length t.rows
-    → AreAlike keys (row_at t.rows i) (row_at t.rows j)
-alike [] t i j fit agree a b = tt
-alike (key ∷ keys) t i j fit agree a b =
-    let c = key.column in
-    let of = get_or t.types c column.Int64 in
-    let all = column_fits t.types t.rows c column.Int64 fit (agree 0 key (omega arith)).0 in
-    let at : (k : ℕ) → k < length t.rows → FitsType of (value_at (row_at t.rows k) c) =
-    (λ k lt. let f = (λ (row : Row). value_at row c) in
-    subst (FitsType of) (get_or-map f t.rows k [] (Text []) lt)
-    (all k (Text []) (let l = length-map t.rows f in omega (arith, l, lt)))) in
-    (of, at i a, at j b)
+-- a row of a table has a value of the column's type at the first key
+first-fits : (key : SortKey) (t : Table) (i : ℕ) → IsTable t → key.column < length t.types
+    → i < length t.rows
+    → FitsType (get_or t.types key.column column.Int64) (value_at (row_at t.rows i) key.column)
+first-fits key t i fit lt here =
+    let f = (λ (row : Row). value_at row key.column) in
+    subst (FitsType (get_or t.types key.column column.Int64))
+    (get_or-map f t.rows i [] (Text []) here)
+    (column_fits t.types t.rows key.column column.Int64 fit lt i (Text [])
+    (let l = length-map t.rows f in omega (arith, l, here)))
+
+-- rows of tables of the same types have values of one type there
+pub alike : (keys : List SortKey) (t u : Table) (i j : ℕ) → IsTable t → IsTable u
+    → u.types ≡ t.types → All (λ (key : SortKey). key.column < length t.types) keys
+    → i < length t.rows → j < length u.rows → AreAlike keys (row_at t.rows i) (row_at u.rows j)
+alike [] t u i j fit fit_u same within a b = tt
+alike (key ∷ keys) t u i j fit fit_u same within a b =
+    let lt = within 0 key (omega arith) in (
+      get_or t.types key.column column.Int64,
+      first-fits key t i fit lt a,
+      subst (λ l. FitsType (get_or l key.column column.Int64)
+          (value_at (row_at u.rows j) key.column)) same
+          (first-fits key u j fit_u (subst (λ l. key.column < length l) (sym same) lt) b),
+    )
 
 -- what the sort of ranks by ranks and keys gives
 pub sorts : (keys : List SortKey) (t : Table) (old new : List Ranked) → IsTable t
@@ -141,7 +150,9 @@ sorts keys t old new fit agree places ranked same sorted =
           let h = all k no_rank here in
           let g = all (k + 1) no_rank next in
           rw (get_or-map f new k no_rank d here, get_or-map f new (k + 1) no_rank d next)
-          (in-order keys t.rows a b (alike keys t a.place b.place fit agree h.within g.within) h g
+          (in-order keys t.rows a b
+          (alike keys t t a.place b.place fit fit refl
+          (λ m key lt. let both = agree m key lt in both.0) h.within g.within) h g
           (sorted k no_rank low next));
     }
   where

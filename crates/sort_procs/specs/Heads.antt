@@ -1,12 +1,15 @@
 -- What a merge holds of its inputs.
-use Rattle.chunk_data.specs.Names.{Row, row_at, row_cmp}
+use Rattle.chunk_data.specs.Names.{IsTable, Row, Table, row_at, row_cmp}
 use Rattle.proc_api.specs.Boxes.{InputHead}
+use Rattle.proc_api.specs.Made.{IsBeforeNone}
 use Rattle.proc_api.specs.Names.{FitsOrder}
 use Rattle.proc_api.specs.Prelude.{Picture, SortKey, SortSpec, in_count, input_at, is_in_finished}
+use Rattle.sort_procs.specs.Ranks.{IsRank}
 use Rattle.sort_procs.specs.declared.heads.Head.{Head}
-use Rattle.std.specs.Ordering.{bool_cmp, is_lt, ordering_then}
-use Rattle.std.specs.Prelude.{Bool, List, [], drop, false, leb, length, map, not, slice_index_or, ℕ, ◌&&◌, ◌<◌, ◌||◌, ◌≡◌, ◌≤◌}
+use Rattle.std.specs.Ordering.{is_lt}
+use Rattle.std.specs.Prelude.{Bool, List, None, Option, Some, [], drop, false, leb, length, map, not, slice_index_or, take, true, ℕ, ⊤, ◌&&◌, ◌+◌, ◌<◌, ◌^◌, ◌||◌, ◌≡◌, ◌≢◌, ◌≤◌}
 use Rattle.std.specs.declared.cmp.Ordering.{Ordering}
+use Rattle.std.specs.declared.cmp.Ordering.TheVariants.{Equal, Greater, Less}
 
 abbrev pub head_of : Head → InputHead
 head_of h = record { rows = drop h.place h.chunk.rows; ended = h.ended }
@@ -23,7 +26,8 @@ is_ready h = h.ended || not (is_used h)
 
 -- the head of an input, or of one that isn't there
 abbrev pub no_head : Head
-no_head = record { chunk = record { types = []; rows = [] }; place = 0; ended = false }
+no_head =
+    record { chunk = record { types = []; rows = [] }; place = 0; rank = 0; ended = false }
 
 abbrev pub at : List Head → ℕ → Head
 at heads i = slice_index_or heads i no_head
@@ -31,15 +35,26 @@ at heads i = slice_index_or heads i no_head
 abbrev pub first_row : Head → Row
 first_row h = row_at h.chunk.rows h.place
 
--- by their first rows; one without rows comes behind all others
-abbrev pub head_cmp : List SortKey → Head → Head → Ordering
-head_cmp keys h g =
-    ordering_then (bool_cmp (is_used h) (is_used g)) (row_cmp keys (first_row h) (first_row g))
+-- row i is there, fits the order, and has the rank
+pub record IsRankAt (order : SortSpec) (t : Table) (i r : ℕ) : Type 0 where
+  pub within : i < length t.rows
+  pub fits : FitsOrder order t.types
+  pub table : IsTable t
+  pub ranks : IsRank order.keys (row_at t.rows i) r
+
+-- a head's first row, if it has one, has its rank
+abbrev pub IsRanked : SortSpec → Head → Type 0
+IsRanked order h = is_used h ≡ false → IsRankAt order h.chunk h.place h.rank
 
 -- the heads of as many inputs as a node may have; a chunk of which rows are left fits the order
 pub record AreHeadsOf (order : SortSpec) (heads : List Head) : Type 0 where
   pub count : length heads ≡ 32
   pub fits : (i : ℕ) → is_used (at heads i) ≡ false → FitsOrder order (at heads i).chunk.types
+
+-- as many heads, whose first rows have their ranks
+pub record AreRanked (order : SortSpec) (heads : List Head) : Type 0 where
+  pub count : length heads ≡ 32
+  pub ranked : (i : ℕ) → IsRanked order (at heads i)
 
 -- n heads without rows, whose ends weren't noted
 pub record AreBlank (n : ℕ) (heads : List Head) : Type 0 where
@@ -60,7 +75,81 @@ pub record NotesEnds (v : Picture) (n : ℕ) (old new : List Head) : Type 0 wher
   pub below : (i : ℕ) → i < n → at new i ≡ noted (is_over_at v i) (at old i)
   pub above : (i : ℕ) → n ≤ i → at new i ≡ at old i
 
--- none of the first n heads comes before head i
-pub record IsFirstOf (keys : List SortKey) (heads : List Head) (n i : ℕ) : Type 0 where
+-- no head from the n-th on has rows
+abbrev pub AreUsedFrom : List Head → ℕ → Type 0
+AreUsedFrom heads n = (j : ℕ) → n ≤ j → is_used (at heads j) ≡ true
+
+-- a head, if there is one, has rows
+abbrev pub HasRows : List Head → Option ℕ → Type 0
+HasRows heads None = ⊤
+HasRows heads (Some k) = (k < length heads) × (is_used (at heads k) ≡ false)
+
+-- whether the first row of head i comes before that of another, if there is another
+abbrev pub comes_before : List SortKey → List Head → ℕ → Option ℕ → Bool
+comes_before keys heads i None = true
+comes_before keys heads i (Some k) =
+    is_lt (row_cmp keys (first_row (at heads i)) (first_row (at heads k)))
+
+-- of the first n heads but one, head i has a row, and none has one that comes before its first
+pub record IsFirst (keys : List SortKey) (heads : List Head) (but n i : ℕ) : Type 0 where
+  pub below : i < n
+  pub other : i ≢ but
+  pub unused : is_used (at heads i) ≡ false
+  pub least : (j : ℕ) → j < n → j ≢ but → is_used (at heads j) ≡ false
+      → comes_before keys heads j (Some i) ≡ false
+
+-- the first of the first n heads but one, or none where none of them has rows
+abbrev pub IsFirstBut : List SortKey → List Head → (but n : ℕ) → Option ℕ → Type 0
+IsFirstBut keys heads but n None = (j : ℕ) → j < n → j ≢ but → is_used (at heads j) ≡ true
+IsFirstBut keys heads but n (Some i) = IsFirst keys heads but n i
+
+-- head i has rows, and the other, if there is one, has rows and none that comes before its first
+pub record GoesFirst (keys : List SortKey) (heads : List Head) (i : ℕ) (other : Option ℕ)
+    : Type 0 where
   pub in_range : i < length heads
-  pub least : (j : ℕ) → j < n → is_lt (head_cmp keys (at heads j) (at heads i)) ≡ false
+  pub unused : is_used (at heads i) ≡ false
+  pub rows : HasRows heads other
+  pub behind : (k : ℕ) → other ≡ Some k → comes_before keys heads k (Some i) ≡ false
+
+-- the n rows that are next
+abbrev pub next_rows : Head → ℕ → List Row
+next_rows h n = take n (drop h.place h.chunk.rows)
+
+-- whether a row goes before another with which it compares so; the other may go first at a tie
+abbrev pub goes_by : (other_first : Bool) → Ordering → Bool
+goes_by f Less = true
+goes_by f Equal = not f
+goes_by f Greater = false
+
+-- of at most so many rows of head h those before the one that doesn't go before the other's first
+pub record IsRunBefore (keys : List SortKey) (h other : Head) (most n : ℕ) : Type 0 where
+  pub some : 0 < n
+  pub few : n ≤ most
+  pub before : IsBeforeNone keys (first_row other) (next_rows h n)
+  pub ends : n < most
+      → is_lt (row_cmp keys (row_at h.chunk.rows (h.place + n)) (first_row other)) ≡ false
+
+-- the run of the rows of head h that go before another's, if there is another, and fit the room
+pub record IsRun (keys : List SortKey) (heads : List Head) (h : Head) (other : Option ℕ)
+    (room n : ℕ) : Type 0 where
+  pub some : 0 < n
+  pub few : n ≤ room
+  pub within : h.place + n ≤ length h.chunk.rows
+  pub fits : h.place + n < 2 ^ 64
+  pub before : (k : ℕ) → other ≡ Some k → IsBeforeNone keys (first_row (at heads k)) (next_rows h n)
+  pub ends : n < room → h.place + n < length h.chunk.rows
+      → (k : ℕ) × (other ≡ Some k)
+      × (is_lt (row_cmp keys (row_at h.chunk.rows (h.place + n)) (first_row (at heads k))) ≡ false)
+
+-- so many more rows of the head are made
+pub record IsMoved (order : SortSpec) (n : ℕ) (old new : Head) : Type 0 where
+  pub chunk : new.chunk ≡ old.chunk
+  pub place : new.place ≡ old.place + n
+  pub ended : new.ended ≡ old.ended
+  pub ranked : IsRanked order new
+
+-- the first n heads have their ranks
+pub record GivesRanks (order : SortSpec) (n : ℕ) (old new : List Head) : Type 0 where
+  pub count : length new ≡ length old
+  pub below : (i : ℕ) → i < n → IsMoved order 0 (at old i) (at new i)
+  pub above : (i : ℕ) → n ≤ i → at new i ≡ at old i

@@ -33,6 +33,7 @@ fn no_heads(alloc: Global, order: &SortSpec) -> Result<Vec<Head>, Memory>
         heads.push(Head {
             chunk,
             place: 0,
+            rank: 0,
             ended: false,
         })?;
     }
@@ -107,6 +108,7 @@ impl Kernel for Merging {
         self.heads[input] = Head {
             chunk,
             place: 0,
+            rank: 0,
             ended: false,
         };
         Ok(None)

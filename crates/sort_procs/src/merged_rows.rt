@@ -1,15 +1,17 @@
-ghost use Rattle.std.specs.Prelude.{◌≡◌, ◌++◌, ◌∷◌, [], true, false, OnOk, IfOk};
+ghost use Rattle.std.specs.Prelude.{◌≡◌, ◌++◌, ◌+◌, ◌<◌, ◌≤◌, ◌^◌, length, true, OnOk, IfOk};
 ghost use Rattle.std.specs.List.{list_all};
-ghost use Rattle.sort_procs.specs.Heads.{AreHeadsOf, first_row, is_ready, is_used};
+ghost use Rattle.proc_api.specs.Made.{IsBeforeNone};
+ghost use Rattle.sort_procs.specs.Heads.{AreHeadsOf, AreRanked, at, first_row, GoesFirst, IsRankAt, IsRun, IsRunBefore, is_ready, next_rows};
 ghost use Rattle.sort_procs.specs.Merging.{MergesSome};
 
-use crate::heads::{Head, first_head};
+use crate::heads::{Head, first_but, goes_first, heads_in_use, move_head, rank_heads, row_rank};
 use chunk_data::{Chunk, Memory};
 use query_model::processor_spec::SortSpec;
 use std::alloc::Global;
 
 /// Moves the first rows of all heads in order to a chunk, until it is full or an input that hasn't
-/// ended has none.
+/// ended has none. A run of rows of one head goes at once. It ends where another head comes first,
+/// which is the one that was second.
 pub(crate) fn merge_chunk(
     alloc: Global,
     heads: &mut [Head],
@@ -22,26 +24,71 @@ pub(crate) fn merge_chunk(
 {
     let mut chunk = Chunk::new(alloc, &order.types)?;
     let most = (order.rows as usize).max(1);
+    rank_heads(heads, order);
+    let count = heads_in_use(heads);
+    let mut first = first_but(heads, order, count, count);
     'fill: while chunk.rows() < most {
-        let first = first_head(heads, order);
-        if heads[first].is_used() {
+        let Some(i) = first else {
+            return Ok(chunk);
+        };
+        let second = first_but(heads, order, i, count);
+        let run = run_length(heads, order, i, second, most - chunk.rows());
+        append_next(&mut chunk, &heads[i], run)?;
+        move_head(&mut heads[i], order, run);
+        if !heads[i].is_ready() {
             return Ok(chunk);
         }
-        push_first(&mut chunk, &heads[first])?;
-        heads[first].place += 1;
-        if !heads[first].is_ready() {
-            return Ok(chunk);
-        }
+        first = second;
     }
     Ok(chunk)
 }
 
-// Adds the head's first row.
-fn push_first(chunk: &mut Chunk, head: &Head) -> Result<(), Memory>
-    requires types { head.now.chunk.types ≡ chunk.old.types }
-    requires unused { is_used head.now ≡ false }
-    ensures types { chunk.new.types ≡ chunk.old.types }
-    ensures ok { OnOk result (chunk.new.rows ≡ chunk.old.rows ++ first_row head.now ∷ []) }
+// How many of the first head's rows go before the second's, and fit the room.
+fn run_length(
+    heads: &[Head],
+    order: &SortSpec,
+    first: usize,
+    second: Option<usize>,
+    room: usize,
+) -> usize
+    requires are { AreRanked order.now heads.now }
+    requires first { GoesFirst order.now.keys heads.now first second }
+    requires room { 0 < room }
+    ensures { IsRun order.now.keys heads.now (at heads.now first) second room result }
 {
-    chunk.append_range(&head.chunk, head.place, 1)
+    let most = room.min(heads[first].chunk.rows() - heads[first].place);
+    match second {
+        None => most,
+        Some(k) => run_before(&heads[first], &heads[k], order, most, first < k),
+    }
+}
+
+// How many of the head's next rows, at most so many, go before the other's first, as those do that
+// tie with it where the head is the lower. Each is looked at, since inputs may be out of order.
+fn run_before(head: &Head, other: &Head, order: &SortSpec, most: usize, lower: bool) -> usize
+    requires here { IsRankAt order.now head.now.chunk head.now.place head.now.rank }
+    requires there { IsRankAt order.now other.now.chunk other.now.place other.now.rank }
+    requires some { 0 < most }
+    requires few { head.now.place + most ≤ length head.now.chunk.rows }
+    requires fits { head.now.place + most < 2 ^ 64 }
+    requires first { IsBeforeNone order.now.keys (first_row other.now) (next_rows head.now 1) }
+    ensures { IsRunBefore order.now.keys head.now other.now most result }
+{
+    for n in 1..most {
+        let rank = row_rank(order, &head.chunk, head.place + n);
+        if goes_first(other, &head.chunk, head.place + n, rank, order, lower) {
+            return n;
+        }
+    }
+    most
+}
+
+// Adds the head's next rows.
+fn append_next(chunk: &mut Chunk, head: &Head, n: usize) -> Result<(), Memory>
+    requires types { head.now.chunk.types ≡ chunk.old.types }
+    requires within { head.now.place + n ≤ length head.now.chunk.rows }
+    ensures types { chunk.new.types ≡ chunk.old.types }
+    ensures ok { OnOk result (chunk.new.rows ≡ chunk.old.rows ++ next_rows head.now n) }
+{
+    chunk.append_range(&head.chunk, head.place, n)
 }

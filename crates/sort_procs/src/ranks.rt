@@ -64,8 +64,8 @@ fn ranks_of(alloc: Global, rows: &Chunk, keys: &[SortKey]) -> Result<Vec<Ranked>
     Ok(ranks)
 }
 
-// The rank of the row at a place: that of its first key, which goes before the others.
-fn rank_of(rows: &Chunk, keys: &[SortKey], place: usize) -> u64
+/// The rank of the row at a place: that of its first key, which goes before the others.
+pub(crate) fn rank_of(rows: &Chunk, keys: &[SortKey], place: usize) -> u64
     requires here { place < length rows.now.rows }
     requires keys { All (AgreeOnKey rows.now.types rows.now.types) keys.now }
     ensures { IsRank keys.now (row_at rows.now.rows place) result }

@@ -1,47 +1,75 @@
-use Rattle.std.proofs.Common.{arith, sym, ap, ◌∙◌, inl, inr}
-use Rattle.std.proofs.lemmas.Grind.{common_steps}
-use Rattle.sort_procs.proofs.Imports.{is_used, length-append}
-use Rattle.sort_procs.proofs.HeadLaws.{read-at}
-use Rattle.sort_procs.proofs.MergeLaws.{first-used, step-fits, step-ready, step-rows}
+use Rattle.std.proofs.Common.{arith, subst, sym, ◌∙◌, inl, inr}
+use Rattle.sort_procs.proofs.Imports.{IsFirstBut, Merges}
+use Rattle.sort_procs.proofs.MergeLaws.{none-left, ranked-fit, ranks-given, run-made, still-ready}
 use Rattle.sort_procs.proofs.merged_rows.merge_chunk.Goals as goal
 
-pub returns-then-is_used-clause-merges : goal.returns-then-is_used-clause-merges
-returns-then-is_used-clause-merges c =
+pub fill-init : goal.fill-init
+fill-init c =
+    let g = ranks-given c.args.order.now c.args.heads.now c.rank_heads.new.heads c.requires.heads
+    c.requires.ready c.rank_heads.ensures in
+    record {
+      are = g.0;
+      ready = g.1;
+      types = c.in_ok-chunk.ensures.types;
+      few = grind arith;
+      merges = subst (Merges c.args.order.now.keys c.args.heads.now c.rank_heads.new.heads)
+          (sym c.in_ok-chunk.ensures.rows) g.2;
+      within = c.heads_in_use-count.ensures.few;
+      behind = c.heads_in_use-count.ensures.behind;
+      first = λ less. c.first_but-first.ensures;
+    }
+
+pub returns-in_default-clause-merges : goal.returns-in_default-clause-merges
+returns-in_default-clause-merges c =
     let l = c.fill.invariant in
-    let f = c.first_head-first.ensures in
     record {
       types = l.types;
       merges = l.merges;
       few = grind arith;
-      some = inr (first-used c.args.order.now c.fill.heads c.first_head-first.result l.are f
-          (ap is_used (sym (read-at c.fill.heads c.first_head-first.result
-          c.index-heads-first.result f.in_range c.index-heads-first.is))
-          ∙ sym c.is_used.ensures.used ∙ c.if-is_used.true));
+      some = inr (none-left c.args.order.now.keys c.fill.heads _ c.fill.first l.behind
+          (l.first (omega (arith, c.fill-test.true, c.rows.ensures.count))) c.in_default.not-Some);
     }
+
+pub returns-then-not-is_ready-clause-heads : goal.returns-then-not-is_ready-clause-heads
+returns-then-not-is_ready-clause-heads c =
+    let l = c.fill.invariant in
+    let first = subst (IsFirstBut c.args.order.now.keys c.fill.heads _ _) c.in-Some.is
+    (l.first (omega (arith, c.fill-test.true, c.rows.ensures.count))) in
+    let s = run-made l.merges l.are l.ready l.behind l.within first c.first_but-second.ensures
+    c.run_length-run.ensures c.index-heads-i.is c.index-heads-i-in-fill.is
+    c.in_ok-append_next.ensures.ok c.move_head.ensures in
+    ranked-fit c.args.order.now _ s.fits
 
 pub returns-then-not-is_ready-clause-merges : goal.returns-then-not-is_ready-clause-merges
 returns-then-not-is_ready-clause-merges c =
     let l = c.fill.invariant in
+    let first = subst (IsFirstBut c.args.order.now.keys c.fill.heads _ _) c.in-Some.is
+    (l.first (omega (arith, c.fill-test.true, c.rows.ensures.count))) in
+    let s = run-made l.merges l.are l.ready l.behind l.within first c.first_but-second.ensures
+    c.run_length-run.ensures c.index-heads-i.is c.index-heads-i-in-fill.is
+    c.in_ok-append_next.ensures.ok c.move_head.ensures in
     record {
-      types = c.push_first.ensures.types ∙ l.types;
-      merges = rw c.in_ok-push_first.ensures.ok (step-rows l.merges l.are l.ready
-          c.first_head-first.ensures c.index-heads-first.is c.index-heads-first-in-fill.is
-          c.index-heads-first-in-fill-2.is c.index-heads-first-in-fill-3.is
-          (sym c.is_used.ensures.used ∙ c.if-is_used.false));
-      few = grind (arith, length-append);
-      some = inl (grind (arith, length-append));
+      types = c.append_next.ensures.types ∙ l.types;
+      merges = s.merges;
+      few = grind arith;
+      some = inl (grind arith);
     }
 
 pub fill-preserved : goal.fill-preserved
 fill-preserved c =
     let l = c.fill.invariant in
+    let first = subst (IsFirstBut c.args.order.now.keys c.fill.heads _ _) c.in-Some.is
+    (l.first (omega (arith, c.fill-test.true, c.rows.ensures.count))) in
+    let s = run-made l.merges l.are l.ready l.behind l.within first c.first_but-second.ensures
+    c.run_length-run.ensures c.index-heads-i.is c.index-heads-i-in-fill.is
+    c.in_ok-append_next.ensures.ok c.move_head.ensures in
     record {
-      are = grind (arith, common_steps, step-fits);
-      ready = grind (arith, step-ready);
-      types = c.push_first.ensures.types ∙ l.types;
-      few = grind (arith, length-append);
-      merges = rw c.in_ok-push_first.ensures.ok (step-rows l.merges l.are l.ready
-          c.first_head-first.ensures c.index-heads-first.is c.index-heads-first-in-fill.is
-          c.index-heads-first-in-fill-2.is c.index-heads-first-in-fill-3.is
-          (sym c.is_used.ensures.used ∙ c.if-is_used.false));
+      are = s.fits;
+      ready = grind (arith, still-ready);
+      types = c.append_next.ensures.types ∙ l.types;
+      few = grind arith;
+      merges = s.merges;
+      within = s.within;
+      behind = s.used;
+      first = λ less. s.first (grind arith);
     }
