@@ -30,8 +30,9 @@ use Rattle.std.proofs.lemmas.List.FromFn.{get_or-map-range_with_len}
 use mathlib.Core.Option.{some, some-injective, some-ne-none}
 
 module _ {P : Type 0} (seen : P → BoxPicture) (t : Identity)
-    (g : IsGraphOf t.sizes.nodes t.sizes.wires t.sizes.reserves) (n : ℕ) (inside : n < t.sizes.nodes)
-    (x : NodeCell P) (seat : IsOpen t n x.seat) (new : AreNewPorts t.sizes.wires n x.ports) where
+    (g : IsGraphOf t.sizes.nodes t.sizes.wires t.sizes.reserves) (n : ℕ)
+    (inside : n < t.sizes.nodes) (x : NodeCell P) (seat : IsOpen t n x.seat)
+    (new : AreNewPorts t.sizes.wires n x.ports) where
   abbrev box : BoxPicture
   box = seen x.processor
 
@@ -170,7 +171,8 @@ cells-made {P} seen boxes wires reserves workers nodes m c g starting new made t
       none_made = ap (λ (z : RootSeat). z.seat.me.0.made) root ∙ made.none_made;
       processors = fills.processors;
       each = λ k x is. new-cell seen t (subst (λ (s : Sizes). IsGraphOf s.nodes s.wires s.reserves)
-          (sym sizes) g) k (inside k x is) x (seat k x is) (ports k x is) (box k x is) (mark k x is);
+          (sym sizes) g) k (inside k x is) x (seat k x is) (ports k x is) (box k x is)
+          (mark k x is);
     }
   where
     t : Identity
@@ -239,7 +241,8 @@ pub more-nodes : (wires : List Wire) (rs : List Reserve) (all : List NewNode) (x
     → AreNewNodes wires rs (all ++ x ∷ [])
 more-nodes wires rs all x h here k y is = elim (last-or all x y k is) [
   | inl was ↦ h k y was
-  | inr at ↦ subst (λ (z : ℕ × NewNode). IsNewNode wires rs z.0 z.1) (λ j. (sym at.0 j, at.1 j)) here
+  | inr at ↦ subst (λ (z : ℕ × NewNode). IsNewNode wires rs z.0 z.1)
+      (λ j. (sym at.0 j, at.1 j)) here
 ]
 
 -- a port that has an edge is found

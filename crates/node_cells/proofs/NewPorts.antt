@@ -75,12 +75,13 @@ module _ (s : Sizes) (n : ℕ) (inside : n < s.nodes) where
       ∙ flags-fresh e (is_end_among n s.wires) (range_with_len 0 (length s.wires))
 
   end-start : (e : ℕ) → e < edge_count s → end_of_view here e ≡ end_view (start_board s) n e
-  end-start e lt = get_or-map-range_with_len (end_view (start_board s) n) 0 (edge_count s) e e no_end
-      lt (omega arith)
+  end-start e lt = get_or-map-range_with_len (end_view (start_board s) n) 0 (edge_count s) e e
+      no_end lt (omega arith)
 
   chunks-start : (e : ℕ) → (end_of_view here e).chunks ≡ []
   chunks-start e = elim (cases_lt e (edge_count s)) [
-    | inl lt ↦ ap (λ (z : End). z.chunks) (end-start e lt) ∙ grind (arith, lane-none (start s).ports e)
+    | inl lt ↦ ap (λ (z : End). z.chunks) (end-start e lt)
+        ∙ grind (arith, lane-none (start s).ports e)
     | inr le ↦ ap (λ (z : End). z.chunks) (get_or_past here.ends e no_end
         (let l = length-map-range_with_len (end_view (start_board s) n) 0 (edge_count s) in
         omega (arith, l, le)))
@@ -93,7 +94,8 @@ module _ (s : Sizes) (n : ℕ) (inside : n < s.nodes) where
 
   knows-start : (e : ℕ) → e < length s.wires → names n (Some (get_or s.wires e no_wire)) ≡ true
       → knows e here.state.seen ≡ true
-  knows-start e lt named = ap (λ (z : SeatState). knows e z.seen) state-start ∙ known-start n s.wires e lt named
+  knows-start e lt named = ap (λ (z : SeatState). knows e z.seen) state-start
+      ∙ known-start n s.wires e lt named
 
   wire-start : (e : ℕ) → e < length s.wires → names n (Some (get_or s.wires e no_wire)) ≡ true
       → (end_of_view here e).wire ≡ Some (get_or s.wires e no_wire)
@@ -101,7 +103,8 @@ module _ (s : Sizes) (n : ℕ) (inside : n < s.nodes) where
       let within : e < edge_count s = omega (arith, lt) in
       let port = get_or-map-range_with_len (start_port s) 0 (edge_count s) e e no_port within
       (omega arith) in
-      ap (λ (z : End). z.wire) (end-start e within) ∙ grind (arith, lt, named, port, knows-start e lt named)
+      ap (λ (z : End). z.wire) (end-start e within)
+      ∙ grind (arith, lt, named, port, knows-start e lt named)
 
 -- ---- the ports
 
@@ -263,15 +266,18 @@ module _ (s : Sizes) (n : ℕ) (inside : n < s.nodes) (g : IsGraphOf s.nodes s.w
           outputs_allow = λ o. tt;
         };
         sound = sound-new many_in many_out;
-        held = λ i q. absurd (nothing-held i (ap (λ (v : Picture). holds_data (input_at v i).flags) (sym shown-new) ∙ q));
-        ready = λ o lt q empty. absurd (nothing-asked o lt (ap (λ (v : Picture). (output_at v o).needed) (sym shown-new) ∙ q));
+        held = λ i q. absurd (nothing-held i
+            (ap (λ (v : Picture). holds_data (input_at v i).flags) (sym shown-new) ∙ q));
+        ready = λ o lt q empty. absurd (nothing-asked o lt
+            (ap (λ (v : Picture). (output_at v o).needed) (sym shown-new) ∙ q));
       }
     where
       each-updated : (p : Port) → is_updated p all_updated ≡ true
       each-updated (Input i) = refl
       each-updated (Output o) = refl
 
-      nothing-held : (i : ℕ) → holds_data (input_at (new_picture many_in many_out) i).flags ≡ true → ⊥
+      nothing-held : (i : ℕ) → holds_data (input_at (new_picture many_in many_out) i).flags ≡ true
+          → ⊥
       nothing-held i q = elim (cases_lt i many_in) [
         | inl lt ↦ grind (arith, q, get_or-replicate, lt)
         | inr le ↦ grind (arith, q, get_or_past, length-replicate, le)

@@ -27,7 +27,8 @@ two-pass t d [] h = refl
 two-pass t d (x ∷ xs) h = and_from _ _
     (and_from_places (list_all (t x)) (t x) refl (λ y ys. refl) xs d
     (λ k lt. h 0 (suc k) (omega arith) (omega (arith, lt))))
-    (two-pass t d xs (λ j k lt inside. h (suc j) (suc k) (omega (arith, lt)) (omega (arith, inside))))
+    (two-pass t d xs (λ j k lt inside. h (suc j) (suc k) (omega (arith, lt))
+    (omega (arith, inside))))
 
 -- an edge to a node of a higher rank joins two nodes
 pub one-rank : (ranks : List ℕ) (m n : ℕ) → m ≡ n → rank_at ranks n < rank_at ranks m → ⊥
