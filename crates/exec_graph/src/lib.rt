@@ -1,7 +1,8 @@
-//! A graph of boxed processors, and its builder.
+//! A graph of boxed processors, its builder, and the cells by which workers run it.
 #![tactic(auto)]
 
 mod causes;
+mod cells;
 mod edges;
 mod graph;
 mod reserves;

@@ -7,7 +7,8 @@ use Rattle.exec_laws.specs.declared.edges.NodeState.{NodeState}
 use Rattle.exec_laws.specs.declared.edges.NodeState.TheVariants as node
 
 -- the cell of a node that is kept for the growth of another
-pub record IsKept {P : Type 0} (seen : P → BoxPicture) (t : Identity) (c : NodeCell P) : Type 0 where
+pub record IsKept {P : Type 0} (seen : P → BoxPicture) (t : Identity) (c : NodeCell P)
+    : Type 0 where
   pub seat : IsSeatOf t c.seat
   pub blank : (seen c.processor).spec ≡ None
   pub quiet : c.ports.view.actions ≡ []
