@@ -1,6 +1,5 @@
 -- A node that was charged is one of the table's.
-use Rattle.node_cells.proofs.Imports.{Board, Identity, Makes, None, NodePorts, NodeSeat, NodeView, IsPort, Option, Port, PortsHold, PortsPicture, SamePorts, Some, Wire, ap, arith, edge_of, end_for, end_of_view, is_own_port, knows, lane_at, length, node_at, port_at, ports_picture, refl, subst, sym, true, view, view-end, ℕ, ◌<◌, ◌∙◌, ◌≡◌, ◌≤◌}
-use Rattle.node_cells.proofs.Imports.{Bool, Lane, false}
+use Rattle.node_cells.proofs.Imports.{Board, Bool, Identity, Lane, Makes, None, NodePorts, NodeSeat, NodeView, IsPort, Option, Port, PortsHold, PortsPicture, SamePorts, Some, Wire, ap, arith, edge_of, end_for, end_of_view, false, is_own_port, knows, lane_at, length, node_at, port_at, ports_picture, refl, subst, sym, true, view, view-end, ℕ, ◌<◌, ◌∙◌, ◌≡◌, ◌≤◌}
 use Rattle.exec_table.specs.Boards.{Holds, node_view}
 use Rattle.core_laws.specs.Views.{wire_ok}
 use Rattle.core_laws.specs.declared.types.Sizes.{Sizes}

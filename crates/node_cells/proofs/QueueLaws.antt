@@ -24,7 +24,8 @@ module _ {P : Type 0} {t : Identity} {q : TaskQueue} {old mid : NodeCell P}
     charged = _;
     charges = charges_more h.charges c;
     offered = subst (λ ns. AreOffered q before ns between)
-        (sym (ap (λ ns. h.charged ++ ns) (ap charged_by is ∙ none) ∙ append-nil h.charged)) h.offered;
+        (sym (ap (λ ns. h.charged ++ ns) (ap charged_by is ∙ none) ∙ append-nil h.charged))
+        h.offered;
   }
 
   -- or one that was offered

@@ -159,7 +159,7 @@ abbrev pub call_after : Wake → DueCall
 call_after wake.Ready = call.Work
 call_after wake.Later = call.Schedule
 
--- a turn of a node on a worker: it was prepared, what it did was carried out and the nodes that were
+-- a turn of a node on a worker: it was prepared, what it did was carried out, the nodes that were
 -- charged were queued, and what its answer asks for followed
 pub record Turn {P : Type 0} (seen : P → BoxPicture) (t : Identity) (q : TaskQueue)
     (old new : NodeCell P) (before after : WorkerTasks) : Type 0 where
@@ -173,8 +173,8 @@ pub record Turn {P : Type 0} (seen : P → BoxPicture) (t : Identity) (q : TaskQ
   pub follows : Stays seen carried new
 
 -- one turn after another
-pub data Runs {P : Type 0} (seen : P → BoxPicture) (t : Identity) (q : TaskQueue) (old : NodeCell P)
-    (before : WorkerTasks) : NodeCell P → WorkerTasks → Type 0 where
+pub data Runs {P : Type 0} (seen : P → BoxPicture) (t : Identity) (q : TaskQueue)
+    (old : NodeCell P) (before : WorkerTasks) : NodeCell P → WorkerTasks → Type 0 where
   runs_none : Runs seen t q old before old before
   runs_more : {mid new : NodeCell P} {between after : WorkerTasks}
       → Runs seen t q old before mid between → Turn seen t q mid new between after
