@@ -1,0 +1,6 @@
+use Rattle.std.proofs.Common.{◌≡◌}
+use Rattle.node_workers.specs.Workers.{IsWorkerAt, parts_of}
+use Rattle.node_workers.proofs.worker.run_worker.Given as goal
+
+abbrev pub invariant-loop : goal.invariant-loop
+invariant-loop g l = IsWorkerAt l.shared l.worker × (parts_of l.worker ≡ parts_of l.initial.worker)

@@ -1,0 +1,31 @@
+//! The workers of a port-driven executor.
+//!
+//! The cells of all nodes lie on a shelf. A worker takes a number, takes that node's cell from the
+//! shelf, runs the node until its cell may go home, and puts it back. It takes the numbers that it
+//! kept first, then those in the queue, and before each it sees whether anything is pending and
+//! whether the run was stopped. After a fault, or where a processor asks that the graph grows, it
+//! notes the cause in the cell, which goes home held, and stops the run of all.
+//!
+//! No processor is prepared by two threads at once, or while it works: each call of a box is made
+//! through its `NodeCell`, and only in a turn, in which the seat of that cell says held (`IsDue`,
+//! `IsAtWork` of `node_cells`, which `prepare`, `work` and `schedule` require). A node number has
+//! one seat, one cell holds it, and the shelf hands that cell to one worker at a time
+//! (`Shelf::take` and `put`).
+//!
+//! What is named of the boxes (`Naming`) is the same before and after: all that holds a cell is
+//! generic in the processor and in what is named.
+//!
+//! - `named_cell.rt`: a cell on the shelf, and which place it fits
+//! - `visit.rt`: a worker's visit of a node
+//! - `worker.rt`: what workers share, and a worker from its first number to its end
+//! - `specs/Named.antt`: when a cell fits its place; `specs/Visits.antt`: when a visit stops the
+//!   run; `specs/Workers.antt`: what workers share and have
+#![tactic(auto)]
+
+mod named_cell;
+mod visit;
+mod worker;
+
+pub use named_cell::{NamedCell, Naming, StopCause};
+pub use visit::visit_cell;
+pub use worker::{Shared, Worker, run_worker, run_workers};

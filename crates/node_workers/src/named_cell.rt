@@ -1,0 +1,40 @@
+//! A cell on the shelf.
+ghost use Rattle.std.specs.Prelude.{ℕ};
+ghost use Rattle.exec_laws.specs.Prelude.{BoxPicture};
+ghost use Rattle.exec_table.specs.Seats.{Identity};
+
+use node_cells::NodeCell;
+use proc_api::{Processor, WorkFault};
+use std::marker::PhantomData;
+use task_queue::Placed;
+
+/// The table of the cells' seats, and what the box of each node was before the run. It has no
+/// calls.
+pub trait Naming: Send + Sync {
+    ghost identity: { Identity };
+
+    ghost named: { ℕ → BoxPicture };
+}
+
+/// Why a worker stopped the run at a node.
+#[derive(Clone, Copy, PartialEq, Eq, Drop)]
+pub enum StopCause {
+    /// Its processor answered this fault.
+    Fault(WorkFault),
+    /// Its processor asks that the graph grows.
+    Grows,
+}
+
+/// A node's cell with the cause for which the run was stopped at it.
+#[derive(Drop)]
+pub struct NamedCell<P: Processor, J: Naming> {
+    pub cell: NodeCell<P>,
+    pub stopped: Option<StopCause>,
+    pub names: PhantomData<J>,
+}
+
+impl<P: Processor, J: Naming> Placed for NamedCell<P, J> {
+    ghost use Rattle.node_workers.specs.Named.{CellFits};
+
+    ghost fits = { λ c n. CellFits J.identity J.named P.seen n c.cell c.stopped };
+}
