@@ -356,8 +356,8 @@ cells-more kind value xs d i h cell k lt = elim (cases_lt k i) [
 ]
 
 -- what is found of the codes is found of the keys
-module _ {Z E : Type 0} (r : Result (Vec ℕ Z) E) (adds : Bool) (codes old new es seen : List (List ℕ))
-    (same : codes ≡ es) (begun : seen ≡ old)
+module _ {Z E : Type 0} (r : Result (Vec ℕ Z) E) (adds : Bool)
+    (codes old new es seen : List (List ℕ)) (same : codes ≡ es) (begun : seen ≡ old)
     (h : IfOk r (λ (v : Vec ℕ Z). FindsCodes adds codes old new v.items)) where
   pub found-places : IfOk r (λ (v : Vec ℕ Z). v.items ≡ places_from adds same_code seen es)
   found-places = grind arith

@@ -81,7 +81,7 @@ pub record FindsCode (adds : Bool) (code : List ℕ) (old new : List (List ℕ))
   pub is : place ≡ position_or_len (same_code code) old
   pub codes : new ≡ with_key adds same_code old code
 
--- The places of codes among those seen, each new one of which goes to the end where codes are added.
+-- The places of codes among those seen, where each new one goes to the end if codes are added.
 pub record FindsCodes (adds : Bool) (codes old new : List (List ℕ)) (places : List ℕ) : Type 0 where
   pub is : places ≡ places_from adds same_code old codes
   pub seen : new ≡ fold (with_key adds same_code) old codes

@@ -85,5 +85,6 @@ returns-then-places-eq1-clause-cells c =
     on-ok-more c.text_places.result (λ cells. one-keys t.types places t.rows kind
     (values c.column-then-places-eq1.result.now) c.if-places-eq1.true
     c.column-then-places-eq1.ensures.kind within c.column-then-places-eq1.ensures.values
-    (subst (All (IsCell kind)) (sym c.texts.ensures) (text-cells kind c.texts.result.now text cells)))
+    (subst (All (IsCell kind)) (sym c.texts.ensures)
+    (text-cells kind c.texts.result.now text cells)))
     c.text_places.ensures.cells

@@ -5,5 +5,6 @@ use Rattle.key_codes.proofs.places.code_places.Given as goal
 
 abbrev pub invariant-loop-i : goal.invariant-loop-i
 invariant-loop-i l =
-    FindsSome l.adds (map (row_code l.places) l.chunk.rows) (byte_codes l.initial.seen) l.i (byte_codes l.seen) l.found.items
+    FindsSome l.adds (map (row_code l.places) l.chunk.rows) (byte_codes l.initial.seen) l.i
+    (byte_codes l.seen) l.found.items
     × ((k : ℕ) → k < l.i → HasKey l.chunk.types l.places (row_at l.chunk.rows k))
