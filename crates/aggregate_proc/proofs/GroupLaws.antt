@@ -11,7 +11,7 @@ code_of n row = row_code (count_up n) row
 
 -- ---- the first columns
 
-pub first-long : (n : ℕ) → length (count_up n) ≡ n
+first-long : (n : ℕ) → length (count_up n) ≡ n
 unfolding count_up
 first-long zero = refl
 first-long (suc n) = grind (arith, length-append, first-long n)
@@ -24,13 +24,6 @@ unfolding count_up
 first-within zero m le = λ k d lt. absurd (omega (arith, lt))
 first-within (suc n) m le =
     grind (arith, common_steps, cases_eq, first-within n m (omega (arith, le)))
-
-pub first-first : (n : ℕ) → first_of (count_up n) ≡ 0
-unfolding count_up
-first-first zero = refl
-first-first (suc zero) = refl
-first-first (suc (suc n)) =
-    grind (arith, common_steps, first-long, get_or_append_left, first-first (suc n))
 
 -- each of the rows is among those that are one with it
 all-columns : (types : List ColumnType) (places : List ℕ) (more : List Row)

@@ -5,7 +5,7 @@ ghost use Rattle.aggregate_proc.specs.GroupKinds.{AreSound, call_foldings, empty
 ghost use Rattle.aggregate_proc.specs.Tables.{key_foldings, rows_in};
 
 use crate::fold::{Fold, FoldColumn, can_fold};
-use crate::group_table::GroupTable;
+use crate::group_table::{GroupTable, first_columns};
 use chunk_data::{ColumnType, List, Memory};
 use query_model::processor_spec::{GroupSpec, StateCall};
 use query_model::query::AggOp;
@@ -124,5 +124,12 @@ pub(crate) fn new_table(
     if !fit_columns(types.as_slice(), columns.as_slice()) {
         return Err(Memory);
     }
-    Ok(GroupTable::new(alloc, List::from_vec(types), keys, columns))
+    let first = first_columns(alloc, keys)?;
+    Ok(GroupTable::new(
+        alloc,
+        List::from_vec(types),
+        keys,
+        first.as_slice(),
+        columns,
+    ))
 }

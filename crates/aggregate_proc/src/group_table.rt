@@ -8,7 +8,7 @@ ghost use Rattle.aggregate_proc.specs.Folds.{with_rows};
 ghost use Rattle.aggregate_proc.specs.Tables.{GroupsMore, kinds_of, rows_in};
 
 use crate::fold::FoldColumn;
-use chunk_data::{Chunk, Column, ColumnType, List, Memory, type_at};
+use chunk_data::{Chunk, Column, ColumnType, List, Memory};
 use key_codes::{SeenKeys, find_places};
 use std::alloc::Global;
 use std::marker::Model;
@@ -25,8 +25,8 @@ pub(crate) struct GroupTable {
 }
 
 impl Model for GroupTable {
-    ghost use Rattle.chunk_data.specs.Values.{type_at};
-    ghost use Rattle.key_codes.specs.Keys.{IsSeenFor};
+    ghost use Rattle.key_codes.specs.Keys.{IsSeenFor, kinds_at};
+    ghost use Rattle.query_model.specs.Sources.{count_up};
     ghost use Rattle.aggregate_proc.specs.Tables.{IsTable, TableView, table_view};
 
     ghost Value = { TableView };
@@ -34,11 +34,11 @@ impl Model for GroupTable {
     ghost view = { λ t. table_view t.types t.keys t.seen t.columns.items };
 
     ghost invariant = { λ t. IsTable (table_view t.types t.keys t.seen t.columns.items)
-        × IsSeenFor t.keys (type_at t.types 0) t.seen };
+        × IsSeenFor (kinds_at t.types (count_up t.keys)) t.seen };
 }
 
-// The first n columns.
-fn first_columns(alloc: Global, n: usize) -> Result<Vec<usize>, Memory>
+/// The first n columns.
+pub(crate) fn first_columns(alloc: Global, n: usize) -> Result<Vec<usize>, Memory>
     ensures { IfOk result (λ v. v.items ≡ count_up n) }
 {
     let mut columns = Vec::with_capacity(alloc, n)?;
@@ -79,13 +79,15 @@ fn columns_of(alloc: Global, columns: Vec<FoldColumn>) -> Result<List<Column>, M
 }
 
 impl GroupTable {
-    /// A table without groups, of the columns.
+    /// A table without groups, of the columns, of which the first are the keys'.
     pub(crate) fn new(
         alloc: Global,
         types: List<ColumnType>,
         keys: usize,
+        first: &[usize],
         columns: Vec<FoldColumn>,
     ) -> GroupTable
+        requires first { first.now ≡ count_up keys }
         requires wide { keys ≤ length types }
         requires fits { All (FitsColumn types) columns.items }
         requires empty { All (λ c. c.values ≡ []) columns.items }
@@ -94,7 +96,7 @@ impl GroupTable {
         ensures columns { result.columns ≡ columns.items }
         ensures rows { rows_in result ≡ [] }
     {
-        let seen = SeenKeys::new(alloc, keys, type_at(types.as_slice(), 0));
+        let seen = SeenKeys::new(alloc, types.as_slice(), first);
         GroupTable {
             alloc,
             types,

@@ -1,6 +1,6 @@
 -- Rows agree exactly where their keys have one code.
 use Rattle.join_proc.proofs.Imports.{All, All-map, AllByRecursion, AreCells, AreKeyPairs, ColumnType, HasKey, IsKeyPair, IsSeenFor, JoinSpec, KeyPair, Row, agree, codes-agree, first_of, key_at, type_at, kinds_at, left_places, length-map, recursion_from_All, right_places, row_code, same_code, same_row, same_row_is, SeenKeys, List, [], ap, ap₂, arith, length, map, refl, sym, true, ℕ, ◌<◌, ◌∙◌, ◌∷◌, ◌≡◌}
-use Rattle.key_codes.specs.declared.key_code.SeenKeys.TheVariants as seen
+use Rattle.chunk_data.specs.Values.{plain_type}
 
 -- rows agree where they have one key
 agree-keys : (pairs : List KeyPair) (l r : Row)
@@ -9,7 +9,7 @@ agree-keys : (pairs : List KeyPair) (l r : Row)
 agree-keys [] l r = refl
 agree-keys (pair ∷ pairs) l r = grind (arith, agree-keys pairs l r)
 
--- the pairs are of columns of one type
+-- the pairs are of columns of one plain type
 pub pair-kinds : (join : JoinSpec) → AreKeyPairs join
     → kinds_at join.left (left_places join.pairs) ≡ kinds_at join.right (right_places join.pairs)
 pair-kinds join h = go join.pairs
@@ -18,26 +18,9 @@ pair-kinds join h = go join.pairs
     go : (pairs : List KeyPair) → AllByRecursion (IsKeyPair join.left join.right) pairs
         → kinds_at join.left (left_places pairs) ≡ kinds_at join.right (right_places pairs)
     go [] h = refl
-    go (pair ∷ pairs) h = ap₂ ◌∷◌ h.0.2 (go pairs h.1)
+    go (pair ∷ pairs) h = ap₂ ◌∷◌ (ap plain_type h.0.2) (go pairs h.1)
 
--- The columns of the pairs are of their sides: as many of either, the first two of one type.
-sides-long : (pairs : List KeyPair)
-    → length (left_places pairs) ≡ length (right_places pairs)
-sides-long pairs = grind (arith, length-map)
-
-first-kinds : (join : JoinSpec) → AreKeyPairs join → 0 < length (left_places join.pairs)
-    → type_at join.left (first_of (left_places join.pairs))
-    ≡ type_at join.right (first_of (right_places join.pairs))
-first-kinds join h some = go join.pairs
-    (recursion_from_All (IsKeyPair join.left join.right) join.pairs h) some
-  where
-    go : (pairs : List KeyPair) → AllByRecursion (IsKeyPair join.left join.right) pairs
-        → 0 < length (left_places pairs)
-        → type_at join.left (first_of (left_places pairs))
-        ≡ type_at join.right (first_of (right_places pairs))
-    go [] h some = absurd (omega (arith, some))
-    go (pair ∷ pairs) h some = h.0.2
-
+-- the columns of the pairs are of their sides
 pub left-within : (join : JoinSpec) → AreKeyPairs join
     → All (λ c. c < length join.left) (left_places join.pairs)
 left-within join h = All-map (λ c. c < length join.left) (λ (p : KeyPair). p.left) join.pairs
@@ -47,28 +30,6 @@ pub right-within : (join : JoinSpec) → AreKeyPairs join
     → All (λ c. c < length join.right) (right_places join.pairs)
 right-within join h = All-map (λ c. c < length join.right) (λ (p : KeyPair). p.right) join.pairs
     (λ k d lt. (h k d lt).1)
-
--- keys are seen by the first column's type, where there is one
-same-form : (n : ℕ) (t u : ColumnType) (x : SeenKeys) → (0 < n → t ≡ u)
-    → IsSeenFor n t x → IsSeenFor n u x
-same-form n t u (seen.Whole some) e f = f
-same-form n t u (seen.Numbers numbers) e f = grind arith
-same-form n t u (seen.Bytes codes) e f = λ one. grind arith
-
--- the form of either side's keys is that of the other's
-pub left-form : (join : JoinSpec) → AreKeyPairs join → (x : SeenKeys)
-    → IsSeenFor (length (right_places join.pairs))
-    (type_at join.right (first_of (right_places join.pairs))) x
-    → IsSeenFor (length (left_places join.pairs))
-    (type_at join.left (first_of (left_places join.pairs))) x
-left-form join h x f = grind (arith, same-form, first-kinds, sides-long)
-
-pub right-form : (join : JoinSpec) → AreKeyPairs join → (x : SeenKeys)
-    → IsSeenFor (length (left_places join.pairs))
-    (type_at join.left (first_of (left_places join.pairs))) x
-    → IsSeenFor (length (right_places join.pairs))
-    (type_at join.right (first_of (right_places join.pairs))) x
-right-form join h x f = grind (arith, sides-long, same-form, first-kinds)
 
 module _ (types : List ColumnType) (pairs : List KeyPair) where
   -- the row agrees with just those whose keys have the code

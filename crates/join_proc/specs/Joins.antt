@@ -4,7 +4,7 @@ use Rattle.join_proc.specs.declared.join_index.JoinIndex.{JoinIndex}
 use Rattle.join_proc.specs.declared.left_rows.LeftRows.{LeftRows}
 use Rattle.join_proc.specs.declared.left_rows.PlacePairs.{PlacePairs}
 use Rattle.join_proc.specs.declared.left_rows.Start.{Start}
-use Rattle.key_codes.specs.Keys.{HasKey, IsSeenFor, codes_in, first_of, places_from, row_code, same_code, with_key}
+use Rattle.key_codes.specs.Keys.{HasKey, IsSeenFor, codes_in, kinds_at, places_from, row_code, same_code, with_key}
 use Rattle.proc_api.specs.Prelude.{ColumnType, JoinSpec, KeyPair}
 use Rattle.query_model.specs.Names.{agree, joined_rows}
 use Rattle.std.specs.List.{All, position_or_len}
@@ -47,8 +47,7 @@ pub record AreLinked (places : List ℕ) (from : ℕ) (firsts nexts : List ℕ) 
 
 -- the index of its rows by their columns of the pairs
 pub record IsIndexOf (pairs : List KeyPair) (x : JoinIndex) : Type 0 where
-  pub form : IsSeenFor (length (right_places pairs))
-      (type_at x.rows.types (first_of (right_places pairs))) x.seen
+  pub form : IsSeenFor (kinds_at x.rows.types (right_places pairs)) x.seen
   pub cells : All (HasKey x.rows.types (right_places pairs)) x.rows.rows
   pub codes : codes_in x.seen ≡ key_codes (right_places pairs) x.rows.rows
   pub many : length x.firsts.items ≡ suc (length (codes_in x.seen))

@@ -1,12 +1,11 @@
 ghost use Rattle.std.specs.Prelude.{◌≡◌, ◌<◌, ◌≤◌, suc, [], length, slice_index_or, slice_set, IfOk, OnOk};
 ghost use Rattle.std.specs.List.{All};
 ghost use Rattle.proc_api.specs.Keeping.{AreKeyPairs};
-ghost use Rattle.key_codes.specs.Keys.{first_of};
 ghost use Rattle.join_proc.specs.Joins.{AreLinked, AreStarts, IsIndexOf, starts_at};
 
 use crate::fitting::{left_columns, right_columns};
 use crate::left_rows::{LeftRows, Start};
-use chunk_data::{Chunk, Memory, type_at};
+use chunk_data::{Chunk, Memory};
 use key_codes::{SeenKeys, find_places};
 use query_model::processor_spec::JoinSpec;
 use std::alloc::Global;
@@ -21,13 +20,6 @@ pub(crate) struct JoinIndex {
     /// By the places of the keys seen, and at the end for keys that weren't.
     pub(crate) firsts: Vec<usize>,
     pub(crate) nexts: Vec<usize>,
-}
-
-// The first column of a key, or 0 where it has none.
-fn first_column(columns: &[usize]) -> usize
-    ensures { result ≡ first_of columns.now }
-{
-    if columns.len() > 0 { columns[0] } else { 0 }
 }
 
 // Puts the row in front of those that have its key, and gives the first of these.
@@ -94,8 +86,7 @@ impl JoinIndex {
     {
         let columns = right_columns(alloc, join)?;
         let columns = columns.as_slice();
-        let kind = type_at(join.right.as_slice(), first_column(columns));
-        let mut seen = SeenKeys::new(alloc, columns.len(), kind);
+        let mut seen = SeenKeys::new(alloc, join.right.as_slice(), columns);
         let places = find_places(&mut seen, alloc, true, columns, &rows)?;
         let Some(keys) = seen.len().checked_add(1) else {
             return Err(Memory);

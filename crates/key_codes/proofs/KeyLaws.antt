@@ -2,9 +2,10 @@
 use Rattle.std.proofs.Common.{◌≡◌, ℕ, suc, ◌<◌, ◌≤◌, ◌+◌, ◌^◌, ◌≢◌, Bool, true, false, append_assoc, List, [], ◌∷◌, ◌++◌, length, map, flat_map, replicate, take, drop, get_or, refl, sym, ap, ap₂, ◌∙◌, arith, fold, w64, inl, inr, subst, cond, not, ◌||◌, IfOk, OnOk, Result, Vec, ℤ, pos}
 use Rattle.chunk_data.specs.declared.typed_value.Value.TheVariants.{Int, UInt, Text}
 use Rattle.chunk_data.specs.declared.typed_value.ColumnType.TheVariants as column
-use Rattle.chunk_data.specs.Values.{is_text, plain_type}
+use Rattle.chunk_data.specs.Values.{is_plain_text, is_text, plain_type}
+use Rattle.chunk_data.specs.declared.typed_value.PlainType.{PlainType}
 use Rattle.chunk_data.specs.declared.typed_value.PlainType.TheVariants as plain
-use Rattle.key_codes.proofs.Prelude.{All, All-map, AllByRecursion, AreCells, ColumnType, FindsCode, FindsCodes, HasKey, IsCell, IsSame, Row, Value, append-nil, at_drop_more, cases_eq, cases_lt, drop_all, drop_at, first_of, flat_map-append, from_le_bytes-to_le_bytes_8, get_or-map, get_or_default, key_at, key_code, length-map, map-map, row_code, type_at, list_any, map-append, nat_list_eq_equiv, places_from, position_or_len, same_code, same_row, same_row_is, same_text, take-suc, take_at, to_le_bytes, value_at, value_bytes, value_code, with_key, from_le_bytes, cast_unsigned, cast_signed, kinds_at}
+use Rattle.key_codes.proofs.Prelude.{All, All-map, AllByRecursion, AreCells, ColumnType, FindsCode, FindsCodes, HasKey, IsCell, IsSame, Row, Value, append-nil, at_drop_more, cases_eq, cases_lt, drop_all, drop_at, first_kind, first_of, flat_map-append, from_le_bytes-to_le_bytes_8, get_or-map, get_or_default, key_at, key_code, length-map, map-map, row_code, type_at, list_any, map-append, nat_list_eq_equiv, places_from, position_or_len, same_code, same_row, same_row_is, same_text, take-suc, take_at, to_le_bytes, value_at, value_bytes, value_code, with_key, from_le_bytes, cast_unsigned, cast_signed, kinds_at}
 use Rattle.std.proofs.lemmas.Grind.{common_steps}
 use Rattle.key_codes.proofs.CodeLaws.{map-insert}
 
@@ -34,7 +35,7 @@ number-bytes m n xs ys p q e =
       s.1,
     )
 
-values-one : (t : ColumnType) (v w : Value) (xs ys : List ℕ) → IsCell t v → IsCell t w
+values-one : (t : PlainType) (v w : Value) (xs ys : List ℕ) → IsCell t v → IsCell t w
     → value_bytes v ++ xs ≡ value_bytes w ++ ys → AreOne v w xs ys
 values-one t (Int y) (Int z) xs ys p q e =
     let s = number-bytes (cast_unsigned w64 y) (cast_unsigned w64 z) xs ys p.2 q.2 e in
@@ -49,7 +50,7 @@ values-one t (Text a) (Text b) xs ys p q e =
     record { value = ap Text r.0; rest = r.1 }
 values-one t v w xs ys p q e = grind arith
 
-bytes-one : (types : List ColumnType) (a b : Row) → AreCells types a → AreCells types b
+bytes-one : (types : List PlainType) (a b : Row) → AreCells types a → AreCells types b
     → flat_map value_bytes a ≡ flat_map value_bytes b → a ≡ b
 bytes-one [] [] [] p q e = refl
 bytes-one [] (v ∷ a) b p q e = absurd p
@@ -58,11 +59,11 @@ bytes-one (t ∷ types) (v ∷ a) (w ∷ b) p q e = let o = values-one t v w (fl
     (flat_map value_bytes b) p.0 q.0 e in ap₂ ◌∷◌ o.value (bytes-one types a b p.1 q.1 o.rest)
 bytes-one _ _ _ p q e = absurd q
 
-value-one : (t : ColumnType) (v w : Value) → IsCell t v → IsCell t w
+value-one : (t : PlainType) (v w : Value) → IsCell t v → IsCell t w
     → value_code v ≡ value_code w → v ≡ w
 value-one t v w p q e = grind arith
 
-cells-long : (types : List ColumnType) (a : Row) → AreCells types a → length a ≡ length types
+cells-long : (types : List PlainType) (a : Row) → AreCells types a → length a ≡ length types
 cells-long [] [] h = refl
 cells-long (t ∷ types) (v ∷ a) h = ap suc (cells-long types a h.1)
 cells-long _ _ h = absurd h
@@ -70,7 +71,7 @@ cells-long _ _ h = absurd h
 pub many-code : (key : Row) → length key ≢ 1 → key_code key ≡ flat_map value_bytes key
 many-code key ne = grind (arith, common_steps)
 
-key-one : (types : List ColumnType) (a b : Row) → AreCells types a → AreCells types b
+key-one : (types : List PlainType) (a b : Row) → AreCells types a → AreCells types b
     → key_code a ≡ key_code b → a ≡ b
 key-one types a b p q e =
     let l = cells-long types a p in
@@ -81,7 +82,7 @@ key-one types a b p q e =
           (sym (many-code a (λ f. ne (sym l ∙ f))) ∙ e ∙ many-code b (λ f. ne (sym m ∙ f)))
     ]
   where
-    single : (types : List ColumnType) (a b : Row) → AreCells types a → AreCells types b
+    single : (types : List PlainType) (a b : Row) → AreCells types a → AreCells types b
         → length a ≡ 1 → length b ≡ 1 → key_code a ≡ key_code b → a ≡ b
     single [] a b p q l m e = absurd (let n = cells-long [] a p in omega (arith, n, l))
     single (t ∷ types) [] b p q l m e = absurd p
@@ -96,7 +97,7 @@ both-or-none : (a b : Bool) (P : Type 0) → (a ≡ true → P) → (P → b ≡
 both-or-none a b P f g h k = grind (arith, common_steps)
 
 -- Keys have one code exactly where they are one.
-pub codes-agree : (types : List ColumnType) (a b : Row) → AreCells types a → AreCells types b
+pub codes-agree : (types : List PlainType) (a b : Row) → AreCells types a → AreCells types b
     → same_code (key_code a) (key_code b) ≡ same_row a b
 codes-agree types a b p q =
     both-or-none _ _ (a ≡ b) (λ s. key-one types a b p q (same_code_is.one _ _ s))
@@ -105,7 +106,7 @@ codes-agree types a b p q =
 
 -- ---- codes in place of keys
 
-module _ (types : List ColumnType) where
+module _ (types : List PlainType) where
   place-key : (k : Row) → AreCells types k → (keys : List Row)
       → AllByRecursion (AreCells types) keys
       → position_or_len (same_code (key_code k)) (map key_code keys)
@@ -186,7 +187,7 @@ bytes-next places k row code v lt e is =
     ∙ sym (ap (flat_map value_bytes) (key-next places k row lt)
     ∙ flat_map-append value_bytes key (value_at row (get_or places k 0) ∷ []))
 
-cells-append : (types : List ColumnType) (key : Row) (t : ColumnType) (v : Value)
+cells-append : (types : List PlainType) (key : Row) (t : PlainType) (v : Value)
     → AreCells types key → IsCell t v → AreCells (types ++ t ∷ []) (key ++ v ∷ [])
 cells-append [] [] t v h p = (p, tt)
 cells-append (u ∷ types) (w ∷ key) t v h p = (h.0, cells-append types key t v h.1 p)
@@ -194,13 +195,13 @@ cells-append _ _ t v h p = absurd h
 
 pub cells-next : (types : List ColumnType) (places : List ℕ) (k : ℕ) (row : Row)
     → HasKey types (take k places) row → k < length places
-    → IsCell (type_at types (get_or places k 0)) (value_at row (get_or places k 0))
+    → IsCell (plain_type (type_at types (get_or places k 0))) (value_at row (get_or places k 0))
     → HasKey types (take (k + 1) places) row
 cells-next types places k row h lt cell =
     let next : k + 1 ≡ suc k = omega arith in
     let more = ap (λ n. take n places) next ∙ take-suc places k 0 lt in
     let kinds = ap (kinds_at types) more
-    ∙ map-append (type_at types) (take k places) (get_or places k 0 ∷ []) in
+    ∙ map-append (λ c. plain_type (type_at types c)) (take k places) (get_or places k 0 ∷ []) in
     subst (AreCells (kinds_at types (take (k + 1) places))) (sym (key-next places k row lt))
     (subst (λ ts. AreCells ts (key_at (take k places) row ++ value_at row (get_or places k 0) ∷ []))
     (sym kinds)
@@ -213,13 +214,13 @@ pub cell-value : (rows : List Row) (c i : ℕ) (vs : List Value)
 cell-value rows c i vs e lt = grind (arith, get_or-map)
 
 pub cell-type : (types : List ColumnType) (c : ℕ) (kind : ColumnType) (v w : Value)
-    → kind ≡ get_or types c kind → c < length types → v ≡ w → IsCell kind v
-    → IsCell (type_at types c) w
+    → kind ≡ get_or types c kind → c < length types → v ≡ w → IsCell (plain_type kind) v
+    → IsCell (plain_type (type_at types c)) w
 cell-type types c kind v w e lt is h = grind (arith, get_or_default)
 
 -- a key of one value
 pub one-cells : (types : List ColumnType) (places : List ℕ) (row : Row) → length places ≡ 1
-    → IsCell (type_at types (first_of places)) (value_at row (first_of places))
+    → IsCell (plain_type (type_at types (first_of places))) (value_at row (first_of places))
     → HasKey types places row
 one-cells types [] row one cell = absurd (omega (arith, one))
 one-cells types (c ∷ []) row one cell = (cell, tt)
@@ -287,7 +288,8 @@ one-codes (c ∷ d ∷ places) rows vs one e = absurd (omega (arith, one))
 pub one-keys : (types : List ColumnType) (places : List ℕ) (rows : List Row) (kind : ColumnType)
     (vs : List Value) → length places ≡ 1 → kind ≡ get_or types (first_of places) kind
     → first_of places < length types
-    → vs ≡ map (λ (row : Row). value_at row (first_of places)) rows → All (IsCell kind) vs
+    → vs ≡ map (λ (row : Row). value_at row (first_of places)) rows
+    → All (IsCell (plain_type kind)) vs
     → All (HasKey types places) rows
 one-keys types places rows kind vs one e lt is cells = λ k d less.
     let v = get_or vs k (Text []) in
@@ -304,16 +306,33 @@ pub text-codes : (texts : List (List ℕ)) → texts ≡ map value_code (map Tex
 text-codes [] = refl
 text-codes (text ∷ texts) = ap (λ l. text ∷ l) (text-codes texts)
 
-pub text-cells : (kind : ColumnType) (texts : List (List ℕ)) → is_text kind ≡ true
-    → All (λ (text : List ℕ). length text < 2 ^ 64) texts → All (IsCell kind) (map Text texts)
-text-cells kind texts e h =
-    let plain : plain_type kind ≡ plain.Text = grind arith in
-    All-map (IsCell kind) Text texts (λ k d lt. (plain, h k d lt))
+pub text-cells : (t : PlainType) (texts : List (List ℕ)) → is_plain_text t ≡ true
+    → All (λ (text : List ℕ). length text < 2 ^ 64) texts → All (IsCell t) (map Text texts)
+text-cells t texts e h =
+    let plain : t ≡ plain.Text = grind arith in
+    All-map (IsCell t) Text texts (λ k d lt. (plain, h k d lt))
 
 -- the type of a column of a chunk
 pub kind-at : (types : List ColumnType) (c : ℕ) (kind : ColumnType) → kind ≡ get_or types c kind
-    → c < length types → kind ≡ type_at types c
-kind-at types c kind e lt = e ∙ get_or_default types c kind column.Text lt
+    → c < length types → type_at types c ≡ kind
+kind-at types c kind e lt = sym (e ∙ get_or_default types c kind column.Text lt)
+
+-- the form of a key of one value
+pub first-kind : (types : List ColumnType) (places : List ℕ) → 0 < length places
+    → first_kind (kinds_at types places) ≡ plain_type (type_at types (first_of places))
+first-kind types places some =
+    get_or-map (λ c. plain_type (type_at types c)) places 0 0 plain.Text some
+
+pub kinds-long : (types : List ColumnType) (places : List ℕ)
+    → length (kinds_at types places) ≡ length places
+kinds-long types places = length-map places (λ c. plain_type (type_at types c))
+
+pub one-form : (types : List ColumnType) (places : List ℕ) (b : Bool)
+    → length (kinds_at types places) ≡ 1 → is_plain_text (first_kind (kinds_at types places)) ≡ b
+    → (length places ≡ 1) × (is_text (type_at types (first_of places)) ≡ b)
+one-form types places b one e =
+    let long = sym (kinds-long types places) ∙ one in
+    (long, sym (ap is_plain_text (first-kind types places (omega (arith, long)))) ∙ e)
 
 pub several-code : (places : List ℕ) (row : Row) (code : List ℕ) → length places ≢ 1
     → code ≡ flat_map value_bytes (key_at places row) → code ≡ row_code places row
@@ -321,7 +340,7 @@ several-code places row code ne e =
     e ∙ sym (many-code (key_at places row) (λ f. ne (sym (length-map places (value_at row)) ∙ f)))
 
 -- each value of a column has what was seen of each
-pub cells-of : {A : Type 0} (kind : ColumnType) (value : A → Value) (xs : List A) (d : A) (i : ℕ)
+pub cells-of : {A : Type 0} (kind : PlainType) (value : A → Value) (xs : List A) (d : A) (i : ℕ)
     → length xs ≤ i → ((k : ℕ) → k < i → IsCell kind (value (get_or xs k d)))
     → All (IsCell kind) (map value xs)
 cells-of kind value xs d i le h = All-map (IsCell kind) value xs
@@ -344,7 +363,7 @@ ints-next numbers i bits more b lt e is code =
     ∙ sym (ap (map value_code) (map-append Int (take i numbers) (z ∷ [])))
     ∙ sym (ap (λ l. map value_code (map Int l)) taken)
 
-pub cells-more : {A : Type 0} (kind : ColumnType) (value : A → Value) (xs : List A) (d : A) (i : ℕ)
+pub cells-more : {A : Type 0} (kind : PlainType) (value : A → Value) (xs : List A) (d : A) (i : ℕ)
     → ((k : ℕ) → k < i → IsCell kind (value (get_or xs k d)))
     → IsCell kind (value (get_or xs i d))
     → (k : ℕ) → k < i + 1 → IsCell kind (value (get_or xs k d))

@@ -2,7 +2,7 @@
 pub use Rattle.chunk_data.proofs.Imports.{column_type, row_at, values}
 pub use Rattle.chunk_data.specs.Values.{type_at}
 pub use Rattle.indexmap.specs.IndexSet.{insert_key}
-pub use Rattle.key_codes.specs.Keys.{AreCells, FindsCode, FindsCodes, HasKey, IsCell, IsSeenFor, byte_codes, codes_in, first_of, key_at, key_code, kinds_at, number_codes, places_from, row_code, same_code, value_bytes, value_code, whole_codes, with_key}
+pub use Rattle.key_codes.specs.Keys.{AreCells, FindsCode, FindsCodes, HasKey, IsCell, IsSeenFor, byte_codes, codes_in, first_kind, first_of, key_at, key_code, kinds_at, number_codes, places_from, row_code, same_code, value_bytes, value_code, whole_codes, with_key}
 pub use Rattle.query_model.proofs.Distinct.{IsSame}
 pub use Rattle.query_model.proofs.Imports.{ColumnType, Row, Value, flat_map-append, same_row, value_at}
 pub use Rattle.query_model.proofs.Lists.{map-map}

@@ -8,7 +8,8 @@ use Rattle.std.specs.Int.{cast_signed, cast_unsigned, to_le_bytes}
 use Rattle.std.specs.List.{position_or_len}
 use Rattle.std.specs.Prelude.{Bool, List, Vec, [], cond, flat_map, fold, length, map, nat_eq, false, slice_index_or, true, ℕ, ◌++◌, ◌<◌, ◌^◌, ◌∷◌, ◌≡◌}
 use mir.Syntax.{w64}
-use Rattle.chunk_data.specs.Values.{is_text, plain_type, type_at}
+use Rattle.chunk_data.specs.Values.{is_plain_text, plain_type, type_at}
+use Rattle.chunk_data.specs.declared.typed_value.PlainType.{PlainType}
 use Rattle.chunk_data.specs.declared.typed_value.PlainType.TheVariants as plain
 use Rattle.key_codes.specs.declared.key_code.SeenKeys.TheVariants as seen
 
@@ -16,9 +17,13 @@ use Rattle.key_codes.specs.declared.key_code.SeenKeys.TheVariants as seen
 abbrev pub key_at : List ℕ → Row → Row
 key_at places row = map (value_at row) places
 
--- the types of the key's values
-abbrev pub kinds_at : List ColumnType → List ℕ → List ColumnType
-kinds_at types places = map (type_at types) places
+-- the plain types of the key's values
+abbrev pub kinds_at : List ColumnType → List ℕ → List PlainType
+kinds_at types places = map (λ c. plain_type (type_at types c)) places
+
+-- the first of them, where there is one
+abbrev pub first_kind : List PlainType → PlainType
+first_kind kinds = slice_index_or kinds 0 plain.Text
 
 -- the key's first column
 abbrev pub first_of : List ℕ → ℕ
@@ -44,18 +49,18 @@ key_code (v ∷ w ∷ key) = flat_map value_bytes (v ∷ w ∷ key)
 abbrev pub row_code : List ℕ → Row → List ℕ
 row_code places row = key_code (key_at places row)
 
--- a value that a column of the type has
-abbrev pub IsCell : ColumnType → Value → Type 0
-IsCell t (Int z) = (plain_type t ≡ plain.Int64)
+-- a value that a column of the plain type has
+abbrev pub IsCell : PlainType → Value → Type 0
+IsCell t (Int z) = (t ≡ plain.Int64)
     × (cast_signed w64 (cast_unsigned w64 z) ≡ z) × (cast_unsigned w64 z < 2 ^ 64)
-IsCell t (UInt n) = (plain_type t ≡ plain.UInt64) × (n < 2 ^ 64)
-IsCell t (Text bytes) = (plain_type t ≡ plain.Text) × (length bytes < 2 ^ 64)
+IsCell t (UInt n) = (t ≡ plain.UInt64) × (n < 2 ^ 64)
+IsCell t (Text bytes) = (t ≡ plain.Text) × (length bytes < 2 ^ 64)
 
--- the values of columns of the types
-abbrev pub AreCells : List ColumnType → Row → Type 0
+-- the values of columns of the plain types
+abbrev pub AreCells : List PlainType → Row → Type 0
 AreCells [] [] = Unit {0}
-AreCells (t ∷ types) (v ∷ key) = IsCell t v × AreCells types key
-AreCells types key = ⊥
+AreCells (t ∷ kinds) (v ∷ key) = IsCell t v × AreCells kinds key
+AreCells kinds key = ⊥
 
 -- the row has a key of columns of the types
 abbrev pub HasKey : List ColumnType → List ℕ → Row → Type 0
@@ -102,8 +107,9 @@ codes_in (seen.Whole some) = whole_codes some
 codes_in (seen.Numbers numbers) = number_codes numbers
 codes_in (seen.Bytes codes) = byte_codes codes
 
--- keys of so many values, of which the first is of the type, are seen so
-abbrev pub IsSeenFor : ℕ → ColumnType → SeenKeys → Type 0
-IsSeenFor n t (seen.Whole some) = n ≡ 0
-IsSeenFor n t (seen.Numbers numbers) = (n ≡ 1) × (is_text t ≡ false)
-IsSeenFor n t (seen.Bytes codes) = n ≡ 1 → is_text t ≡ true
+-- keys of values of the plain types are seen so
+abbrev pub IsSeenFor : List PlainType → SeenKeys → Type 0
+IsSeenFor kinds (seen.Whole some) = length kinds ≡ 0
+IsSeenFor kinds (seen.Numbers numbers) =
+    (length kinds ≡ 1) × (is_plain_text (first_kind kinds) ≡ false)
+IsSeenFor kinds (seen.Bytes codes) = length kinds ≡ 1 → is_plain_text (first_kind kinds) ≡ true

@@ -1,7 +1,7 @@
 ghost use Rattle.std.specs.Prelude.{◌≡◌, ◌≢◌, ◌<◌, ◌++◌, ◌∷◌, ◌^◌, [], length, map, flat_map, replicate, OnOk, IfOk, false};
 ghost use Rattle.std.specs.List.{All};
-ghost use Rattle.chunk_data.specs.Names.{column_type, is_text, row_at, value_at, values};
-ghost use Rattle.chunk_data.specs.declared.typed_value.ColumnType.TheVariants as column;
+ghost use Rattle.chunk_data.specs.Names.{column_type, is_text, plain_type, row_at, value_at, values};
+ghost use Rattle.chunk_data.specs.declared.typed_value.PlainType.TheVariants as plain;
 ghost use Rattle.chunk_data.specs.declared.typed_value.Value.TheVariants as value;
 ghost use Rattle.key_codes.specs.Keys.{FindsCode, FindsCodes, HasKey, IsCell, byte_codes, key_at, number_codes, row_code, value_bytes, value_code, whole_codes};
 
@@ -12,7 +12,7 @@ use std::alloc::Global;
 // The bits of an Int64.
 fn bits_of_int(number: i64) -> u64
     ensures code { result ∷ [] ≡ value_code (value.Int number) }
-    ensures cell { IsCell column.Int64 (value.Int number) }
+    ensures cell { IsCell plain.Int64 (value.Int number) }
 {
     number.cast_unsigned()
 }
@@ -21,7 +21,7 @@ fn bits_of_int(number: i64) -> u64
 fn int_bits(alloc: Global, numbers: &[i64]) -> Result<Vec<u64>, Memory>
     ensures codes { IfOk result
         (λ v. map (λ n. n ∷ []) v.items ≡ map value_code (map value.Int numbers.now)) }
-    ensures cells { OnOk result (All (IsCell column.Int64) (map value.Int numbers.now)) }
+    ensures cells { OnOk result (All (IsCell plain.Int64) (map value.Int numbers.now)) }
 {
     let mut bits = Vec::with_capacity(alloc, numbers.len())?;
     for i in 0..numbers.len() {
@@ -34,7 +34,7 @@ fn int_bits(alloc: Global, numbers: &[i64]) -> Result<Vec<u64>, Memory>
 fn uint_bits(alloc: Global, numbers: &[u64]) -> Result<Vec<u64>, Memory>
     ensures codes { IfOk result
         (λ v. map (λ n. n ∷ []) v.items ≡ map value_code (map value.UInt numbers.now)) }
-    ensures cells { OnOk result (All (IsCell column.UInt64) (map value.UInt numbers.now)) }
+    ensures cells { OnOk result (All (IsCell plain.UInt64) (map value.UInt numbers.now)) }
 {
     let mut bits = Vec::with_capacity(alloc, numbers.len())?;
     for i in 0..numbers.len() {
@@ -48,7 +48,8 @@ pub(crate) fn bits_of(alloc: Global, column: &Column) -> Result<Vec<u64>, Memory
     requires { is_text (column_type column.now) ≡ false }
     ensures codes { IfOk result
         (λ v. map (λ n. n ∷ []) v.items ≡ map value_code (values column.now)) }
-    ensures cells { OnOk result (All (IsCell (column_type column.now)) (values column.now)) }
+    ensures cells { OnOk result
+        (All (IsCell (plain_type (column_type column.now))) (values column.now)) }
 {
     match column.plain() {
         PlainSlice::Ints(numbers) => int_bits(alloc, numbers),
@@ -163,7 +164,7 @@ fn push_value(code: &mut Vec<u8>, column: &Column, i: usize) -> Result<(), Memor
     requires { i < length (values column.now) }
     ensures code { OnOk result
         (code.new.items ≡ code.old.items ++ value_bytes (value_at (values column.now) i)) }
-    ensures cell { IsCell (column_type column.now) (value_at (values column.now) i) }
+    ensures cell { IsCell (plain_type (column_type column.now)) (value_at (values column.now) i) }
 {
     match column.plain() {
         PlainSlice::Ints(numbers) => code.extend_from_slice(&numbers[i].to_le_bytes())?,

@@ -1,11 +1,11 @@
-use Rattle.aggregate_proc.proofs.Cited.{arith, ap, ◌∙◌, sym, subst, GroupsMore, TableView, table_view, codes_in, length-map, adds-rows, first-first, first-long, first-within, places-long}
+use Rattle.aggregate_proc.proofs.Cited.{arith, ap, ◌∙◌, sym, subst, GroupsMore, TableView, table_view, codes_in, length-map, adds-rows, first-within, places-long}
 use Rattle.aggregate_proc.proofs.group_table.GroupTable.add.Goals as goal
 
 pub find_places-requires-clause-within : goal.find_places-requires-clause-within
 find_places-requires-clause-within c = grind (arith, first-within)
 
 pub find_places-requires-clause-form : goal.find_places-requires-clause-form
-find_places-requires-clause-form c = grind (arith, first-long, first-first)
+find_places-requires-clause-form c = grind arith
 
 pub add_to_each-requires-clause-long : goal.add_to_each-requires-clause-long
 add_to_each-requires-clause-long c = grind (arith, places-long, length-map)
@@ -20,7 +20,7 @@ invariant_of-result c =
     (c.as_slice.ensures.value ∙ c.in_ok-first.ensures) c.in_ok-places.ensures.cells
     c.self.invariant.0 (c.as_slice-2.ensures.value ∙ c.in_ok-places.ensures.places)
     c.in_ok-places.ensures.seen c.in_ok-add_to_each.ensures in
-    (added.0, grind (arith, first-long, first-first))
+    (added.0, grind arith)
 
 pub returns : goal.returns
 returns c =

@@ -1,11 +1,11 @@
-use Rattle.join_proc.proofs.Cited.{arith, false, List, ◌≡◌, ◌<◌, ◌∙◌, length, map, ap, ap₂, refl, subst, sym, All, All-from_recursion, AreCells, ColumnType, JoinIndex, Row, codes_in, key_at, kinds_at, left_places, map-map, places_from, position_or_len, recursion_from_All, right_places, row_code, same_code, starts_at, left-form, left-within, pair-kinds, right-form, starts-left, keys-found, places-found, places-within}
+use Rattle.join_proc.proofs.Cited.{arith, false, List, ◌≡◌, ◌<◌, ◌∙◌, length, map, ap, ap₂, refl, subst, sym, All, All-from_recursion, AreCells, ColumnType, JoinIndex, Row, codes_in, key_at, kinds_at, left_places, map-map, places_from, position_or_len, recursion_from_All, right_places, row_code, same_code, starts_at, left-within, pair-kinds, starts-left, keys-found, places-found, places-within}
 use Rattle.join_proc.proofs.join_index.JoinIndex.left_rows.Goals as goal
 
 pub find_places-requires-clause-within : goal.find_places-requires-clause-within
 find_places-requires-clause-within c = grind (arith, left-within)
 
 pub find_places-requires-clause-form : goal.find_places-requires-clause-form
-find_places-requires-clause-form c = grind (arith, left-form)
+find_places-requires-clause-form c = grind (arith, pair-kinds)
 
 pub starts_of-requires : goal.starts_of-requires
 starts_of-requires c =
@@ -19,7 +19,7 @@ starts_of-requires c =
     (places-within same_code (codes_in x.seen) es (length c.as_slice-firsts.result.now) firsts))
 
 pub returns-clause-index : goal.returns-clause-index
-returns-clause-index c = grind (arith, keys-found, right-form)
+returns-clause-index c = grind (arith, keys-found, pair-kinds)
 
 pub returns-clause-starts : goal.returns-clause-starts
 returns-clause-starts c =
