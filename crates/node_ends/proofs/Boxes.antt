@@ -1,5 +1,5 @@
 -- The boxes are given back.
-use Rattle.node_ends.proofs.Imports.{BoxPicture, GivenBack, GivesBox, IsBorn, List, NodeCell, StaysBox, arith, box_at, boxes_in, get_or, get_or-map, get_or-set_other, get_or-set_same, length, length-map, length-set, map, map-set, refl, set, ℕ, ◌<◌, ◌∙◌, ◌≡◌}
+use Rattle.node_ends.proofs.Imports.{BoxPicture, GivenBack, GivesBox, IsBorn, List, NodeCell, StaysBox, arith, box_at, boxes_in, get_or, get_or-map, get_or-set_other, get_or-set_same, length, length-map, length-set, map, map-set, set, ℕ, ◌<◌, ◌∙◌, ◌≡◌}
 use Rattle.exec_laws.proofs.Acting.{keeps-itself}
 use Rattle.exec_laws.proofs.BirthLaws.{gives-both, keeps-gives}
 use Rattle.exec_laws.proofs.Nodes.{at-node, not-blank}
@@ -11,9 +11,7 @@ gives-stays p q born h = record {
   unborn = λ none. absurd (not-blank p.spec born none);
 }
 
-pub given-itself : (boxes : List BoxPicture) → GivenBack boxes boxes
-given-itself boxes = record { count = refl; each = λ n lt. keeps-gives _ _ (keeps-itself _) }
-
+-- boxes were given back, and those were given back
 pub given-both : (a b c : List BoxPicture) → GivenBack a b → GivenBack b c → GivenBack a c
 given-both a b c h k = record {
   count = k.count ∙ h.count;

@@ -10,10 +10,12 @@ use Rattle.proc_api.specs.Names.{no_box}
 module _ {P : Type 0} (seen : P → BoxPicture) (t : Identity) (cells : List (NodeCell P)) (n : ℕ)
     (x : NodeCell P) (all : AreCells seen t cells) (lt : n < length cells)
     (read : x ≡ get_or cells n x) where
+  -- it is the cell of its node
   pub own-cell : IsCellOf seen t n x
   own-cell = all.each n x (at_index cells n x lt read)
 
   module _ (y : NodeCell P) (stays : Stays seen x y) where
+    -- the boxes are given back
     pub boxes-back : GivenBack (boxes_in seen cells) (boxes_in seen (set cells n y))
     boxes-back = given-changed seen cells n x y lt read
         (stored-cell seen t x own-cell.between).node.box.running.loaded stays.box
@@ -26,6 +28,7 @@ module _ {P : Type 0} (seen : P → BoxPicture) (t : Identity) (cells : List (No
           (λ j. (sym stays.ports.inputs j, sym stays.ports.outputs j)) own-cell.edges;
     }
 
+    -- the cells are still those of all nodes
     pub cells-changed : IsBetweenVisits seen t y → AreCells seen t (set cells n y)
     cells-changed h = record {
       count = length-set cells n y ∙ all.count;
@@ -37,6 +40,7 @@ module _ {P : Type 0} (seen : P → BoxPicture) (t : Identity) (cells : List (No
           (at_set cells n k y c e);
     }
 
+    -- what stops the run at its box stops it at its node
     pub stops-at : (s : NodeStop) → StopHolds s (seen y.processor)
         → StopsAt n s (boxes_in seen (set cells n y))
     unfolding box_at

@@ -1,17 +1,20 @@
 -- What stands at a place of a list.
 use Rattle.node_ends.proofs.Imports.{List, [], ap, arith, drop, get_elem?, get_or, length, map, refl, some, some-injective, some-ne-none, suc, sym, take, zero, ℕ, ◌++◌, ◌<◌, ◌∷◌, ◌≡◌}
 
+-- something stands at each place below the length
 pub there : {A : Type 0} (l : List A) (n : ℕ) → n < length l
     → (a : A) × (get_elem? l n ≡ some a)
 there [] n lt = absurd (omega arith)
 there (x ∷ xs) zero lt = (x, refl)
 there (x ∷ xs) (suc n) lt = there xs n (omega arith)
 
+-- a place at which something stands is below the length
 pub below : {A : Type 0} (l : List A) (n : ℕ) (a : A) → get_elem? l n ≡ some a → n < length l
 below [] n a e = absurd (some-ne-none a (sym e))
 below (x ∷ xs) zero a e = omega arith
 below (x ∷ xs) (suc n) a e = let h = below xs n a e in omega arith
 
+-- what a function makes of what stands at a place
 pub read-map : {A B : Type 0} (f : A → B) (l : List A) (n : ℕ) (a : A) (d : B)
     → get_elem? l n ≡ some a → get_or (map f l) n d ≡ f a
 read-map f [] n a d e = absurd (some-ne-none a (sym e))

@@ -10,6 +10,7 @@ use Rattle.std.proofs.Common.{drop-cons}
 use Rattle.proc_api.specs.declared.status.Status.{Status}
 
 module _ {P : Type 0} (seen : P → BoxPicture) (cells : List (NodeCell P)) where
+  -- the pictures of the cells are those that the laws of ends speak of, and so are the boxes
   pub pictures-are : pictures (wholes_of seen cells) ≡ pictures_of seen cells
   pictures-are = map-map picture_of (whole_of seen) cells
 
@@ -38,6 +39,7 @@ module _ {P : Type 0} (seen : P → BoxPicture) (cells : List (NodeCell P)) wher
           omega (arith, lt, many, none)
 
   module _ (wires : List Wire) (s : IsSettled wires (wholes_of seen cells)) where
+    -- the marks say what the boxes last answered
     pub cells-tell : (n : ℕ) → n < length cells → MarkTells (cell_at (pictures_of seen cells) n)
     cells-tell n lt = subst (λ l. MarkTells (cell_at l n)) pictures-are
         (marks-tell wires (pictures (wholes_of seen cells))
@@ -46,6 +48,7 @@ module _ {P : Type 0} (seen : P → BoxPicture) (cells : List (NodeCell P)) wher
         (quiet wires s.board (wholes_of seen cells) s.settled)
         (due wires s.board (wholes_of seen cells) s.settled) n (omega (arith, lt, count)))
 
+    -- where each view supports its status the run is done
     pub settled-done
         : ((n : ℕ) → n < length cells → SupportsStatus (cell_at (pictures_of seen cells) n))
         → IsDone wires (boxes_in seen cells)
@@ -54,6 +57,7 @@ module _ {P : Type 0} (seen : P → BoxPicture) (cells : List (NodeCell P)) wher
         (λ n lt. subst (λ l. SupportsStatus (cell_at l n)) (sym pictures-are)
         (rests n (omega (arith, lt, count)))))
 
+    -- where one contradicts it the run is stuck there
     pub settled-stuck : (n : ℕ) (report : List StuckNode) → n < length cells
         → ContradictsStatus (cell_at (pictures_of seen cells) n)
         → report ≡ stuck_from 0 (boxes_in seen cells) → IsStuck (boxes_in seen cells) report n

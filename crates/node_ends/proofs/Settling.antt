@@ -47,6 +47,7 @@ module _ {P : Type 0} (seen : P → BoxPicture) (t : Identity) (cells : List (No
   graph : HoldsGraph (length (wholes_of seen cells)) t.sizes.wires
   graph = subst (λ k. HoldsGraph k t.sizes.wires) (sym (length-map cells (whole_of seen))) all.graph
 
+  -- the board of the survey has what the cells know
   pub settled-cells : 0 < length cells → get_or words 0 0 ≡ 0
       → IsSettled t.sizes.wires (wholes_of seen cells)
   settled-cells lt none = record {

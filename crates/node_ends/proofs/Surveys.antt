@@ -84,6 +84,7 @@ same-views t (x ∷ xs) (y ∷ ys) many e =
     let more = same-views t xs ys (omega (arith, many)) (λ k s q. e (suc k) s q) in
     λ j. is j ∷ more j
 
+-- the seats of the cells of all nodes are those of all nodes
 pub all-seats : {P : Type 0} (seen : P → BoxPicture) (t : Identity) (cells : List (NodeCell P))
     → AreCells seen t cells → AreAll t (seats_of cells)
 all-seats {P} seen t cells all = (
@@ -96,9 +97,11 @@ all-seats {P} seen t cells all = (
 
 module _ {P : Type 0} (t : Identity) (olds news : List (NodeCell P)) (h : AreSurveyed t olds news)
   where
+    -- there are as many
     pub surveyed-count : length news ≡ length olds
     surveyed-count = sym (length-map news body_of) ∙ (ap length h.bodies ∙ length-map olds body_of)
 
+    -- the seats know what they knew
     pub surveyed-views : views (seats_of news) ≡ views (seats_of olds)
     surveyed-views = same-views t (seats_of olds) (seats_of news)
         (rw (length-map, length-map) surveyed-count) h.seats
@@ -128,14 +131,17 @@ module _ {P : Type 0} (t : Identity) (olds news : List (NodeCell P)) (h : AreSur
         )
 
     module _ (seen : P → BoxPicture) where
+      -- the boxes are the same
       pub surveyed-boxes : boxes_in seen news ≡ boxes_in seen olds
       surveyed-boxes = let f = λ (b : NodeBody P). seen b.processor in
           sym (map-map f body_of news) ∙ (ap (map f) h.bodies ∙ map-map f body_of olds)
 
+      -- so what was given back before is given back after it
       pub surveyed-back : (boxes : List BoxPicture) → GivenBack boxes (boxes_in seen olds)
           → GivenBack boxes (boxes_in seen news)
       surveyed-back boxes back = subst (GivenBack boxes) (sym surveyed-boxes) back
 
+      -- the cells are still those of all nodes
       pub surveyed-cells : AreCells seen t olds → AreCells seen t news
       surveyed-cells all = record {
         count = surveyed-count ∙ all.count;
@@ -149,6 +155,7 @@ module _ {P : Type 0} (t : Identity) (olds news : List (NodeCell P)) (bodies : L
     (seats after : List NodeSeat) (apart : bodies ≡ bodies_of olds) (seats-are : seats ≡ seats_of olds)
     (each : Each (IsBack t) seats after) (together : bodies_of news ≡ bodies)
     (back : seats_of news ≡ after) where
+  -- the cells have what they had
   pub survey-made : AreSurveyed t olds news
   survey-made = record {
     bodies = together ∙ apart;
@@ -156,6 +163,7 @@ module _ {P : Type 0} (t : Identity) (olds news : List (NodeCell P)) (bodies : L
         (λ j. (seats-are j, sym back j)) each;
   }
 
+  -- what was shown with the seats is shown with those of the new cells
   pub survey-shown : (words : List ℕ) → Surveyed words (views seats)
       → Surveyed words (views (seats_of news))
   survey-shown words shown = subst (Surveyed words)

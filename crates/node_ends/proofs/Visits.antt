@@ -37,6 +37,7 @@ AreAtRestBelow {P} k cells = (n : ℕ) (c : NodeCell P) → n < k → get_elem? 
     → is_waiting c.mark.state ≡ false
 
 module _ {P : Type 0} (cells : List (NodeCell P)) where
+  -- one more of them rests
   pub rest-more : (k : ℕ) (x : NodeCell P) → AreAtRestBelow k cells → k < length cells
       → x ≡ get_or cells k x → is_waiting x.mark.state ≡ false → AreAtRestBelow (k + 1) cells
   rest-more k x below lt read rest n c less e = elim (cases_lt n k) [
@@ -47,5 +48,6 @@ module _ {P : Type 0} (cells : List (NodeCell P)) where
         ∙ (ap (get_elem? cells) (sym is) ∙ e))) rest
   ]
 
+  -- all rest
   pub rest-all : (k : ℕ) → AreAtRestBelow k cells → length cells ≤ k → AreAtRest cells
   rest-all k below all n c e = below n c (omega (arith, all, at-below cells n c e)) e
