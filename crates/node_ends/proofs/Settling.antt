@@ -65,8 +65,8 @@ module _ {P : Type 0} (seen : P → BoxPicture) (t : Identity) (cells : List (No
       });
       unborn = each (λ n w. w.box.spec ≡ None → w.mark.state ≡ node.Unborn)
           (λ n c e none. absurd (not-blank (seen c.processor).spec (loaded n c e) none));
-      still = each-or-default (λ (w : WholeCell). w.ports.view.actions ≡ []) (whole_of seen) no_whole
-          cells (λ n c e. (home n c e).home.actions) refl;
+      still = each-or-default (λ (w : WholeCell). w.ports.view.actions ≡ []) (whole_of seen)
+          no_whole cells (λ n c e. (home n c e).home.actions) refl;
       born = λ e n p h. each (λ n w. IsBorn w.box) loaded n
           (edge-node _ t.sizes.wires graph n p e h);
     };

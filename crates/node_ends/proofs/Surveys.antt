@@ -108,8 +108,8 @@ module _ {P : Type 0} (t : Identity) (olds news : List (NodeCell P)) (h : AreSur
 
     -- the cell that stood at the place
     abbrev Was : ℕ → NodeCell P → Type 0
-    Was n c = (was : NodeCell P) × (get_elem? olds n ≡ some was) × (c ≡ record was { seat = c.seat })
-        × IsBack t was.seat c.seat
+    Was n c = (was : NodeCell P) × (get_elem? olds n ≡ some was)
+        × (c ≡ record was { seat = c.seat }) × IsBack t was.seat c.seat
 
     cell-was : (n : ℕ) (c : NodeCell P) → get_elem? news n ≡ some c → Was n c
     cell-was n c e =
@@ -152,7 +152,8 @@ module _ {P : Type 0} (t : Identity) (olds news : List (NodeCell P)) (h : AreSur
 
 -- cells were taken apart, their seats surveyed, and put together again
 module _ {P : Type 0} (t : Identity) (olds news : List (NodeCell P)) (bodies : List (NodeBody P))
-    (seats after : List NodeSeat) (apart : bodies ≡ bodies_of olds) (seats-are : seats ≡ seats_of olds)
+    (seats after : List NodeSeat) (apart : bodies ≡ bodies_of olds)
+    (seats-are : seats ≡ seats_of olds)
     (each : Each (IsBack t) seats after) (together : bodies_of news ≡ bodies)
     (back : seats_of news ≡ after) where
   -- the cells have what they had

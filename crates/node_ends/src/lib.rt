@@ -1,10 +1,10 @@
 //! The end of a run of a graph that doesn't grow, after its workers: one caller has the table and
 //! the cells of all nodes.
 //!
-//! As the last worker it takes up each node that the run left due, until a survey of the table finds
-//! nothing pending. The run is then done where the view of each node at rest supports its last
-//! status, and else stuck at a node whose box isn't lawful, since in ClickHouse's `IProcessor.h` a
-//! status says what a processor waits for.
+//! As the last worker it takes up each node that the run left due, until a survey of the table
+//! finds nothing pending. The run is then done where the view of each node at rest supports its
+//! last status, and else stuck at a node whose box isn't lawful, since in ClickHouse's
+//! `IProcessor.h` a status says what a processor waits for.
 //!
 //! - `cells_survey.rt`: a survey of the table with the seats of all cells
 //! - `node_visit.rt`: a node that is due runs until it rests

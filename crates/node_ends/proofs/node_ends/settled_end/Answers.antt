@@ -3,8 +3,8 @@ use Rattle.node_ends.proofs.Reports.{cells-tell, settled-done, settled-stuck}
 use Rattle.node_ends.proofs.node_ends.settled_end.Goals as goal
 
 pub list_stuck-requires-clause-tells : goal.list_stuck-requires-clause-tells
-list_stuck-requires-clause-tells g c κs within = cells-tell g.P.Processor.seen c.args.cells.now.items _
-    c.requires.settled
+list_stuck-requires-clause-tells g c κs within = cells-tell g.P.Processor.seen
+    c.args.cells.now.items _ c.requires.settled
 
 pub returns-in-Some : goal.returns-in-Some
 returns-in-Some g c = settled-stuck g.P.Processor.seen c.args.cells.now.items _
