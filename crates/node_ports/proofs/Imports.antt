@@ -1,8 +1,8 @@
 -- The names from outside that this crate's proofs use, in one place.
-pub use Rattle.std.proofs.Common.{Bool, List, None, Option, Some, [], ap, append-nil, append_assoc, arith, cond, eqb, false, get_or, inl, inr, is_some, length, map, not, refl, set, subst, sym, true, ℕ, ◌&&◌, ◌++◌, ◌+◌, ◌<◌, ◌==◌, ◌||◌, ◌∙◌, ◌∷◌, ◌≡◌, ◌≢◌, ◌≤◌, ◌⊎◌}
+pub use Rattle.std.proofs.Common.{Bool, List, None, Option, Some, [], ap, append-nil, append_assoc, arith, cond, false, get_or, inl, inr, is_some, length, map, not, refl, set, subst, sym, true, ℕ, ◌&&◌, ◌++◌, ◌+◌, ◌<◌, ◌==◌, ◌||◌, ◌∙◌, ◌∷◌, ◌≡◌, ◌≢◌, ◌≤◌, ◌⊎◌}
 pub use Rattle.std.proofs.lemmas.Bool.{and_from, and_parts, cases_Bool, cases_eq, cases_lt, eq-eqb, ne_eqb}
 pub use Rattle.std.proofs.lemmas.List.{get_or-map, get_or-set_other, get_or-set_same, get_or_past, length-map, length-set}
-pub use Rattle.core_laws.specs.Laws.{ConsumerSees, ProducerSees, Sees}
+pub use Rattle.core_laws.specs.Laws.{Sees}
 pub use Rattle.core_laws.specs.Steps.{Answer, flags, marked_peer, nothing}
 pub use Rattle.core_laws.specs.Views.{edges_of, end_of, flags_at, has, is_end, knows, no_flags, node_at, port_at, without}
 pub use Rattle.core_laws.specs.declared.types.NodeState.{NodeState as SeatState}
@@ -20,7 +20,7 @@ pub use Rattle.exec_table.proofs.Known.{state-made}
 pub use Rattle.exec_table.proofs.Stepping.{holds-in}
 pub use Rattle.exec_table.proofs.Seating.{known-wire}
 pub use Rattle.chunk_data.specs.Names.{Table as Chunk}
-pub use Rattle.port_word.specs.Names.{InputAllows, IsDifference, IsDone, IsSound, MaySee, OutputAllows, Picture, TakesFirst, after_see, chunk_after, chunk_step, holds_data, input_after, input_allows, input_step, no_input, output_after, output_allows, output_step, over_flags, seen_chunk}
+pub use Rattle.port_word.specs.Names.{InputAllows, IsDifference, IsDone, IsSound, MaySee, OutputAllows, Picture, TakesFirst, after_see, chunk_after, chunk_step, holds_data, input_after, input_step, no_input, output_after, output_step, over_flags, seen_chunk}
 pub use Rattle.port_word.specs.Sights.{is_chunk_due, port_chunk, port_flags}
 pub use Rattle.port_word.specs.declared.flags.Action.{Action}
 pub use Rattle.port_word.specs.declared.flags.Flags.{Flags}

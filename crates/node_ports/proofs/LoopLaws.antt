@@ -1,5 +1,5 @@
 -- Looks and actions, one after another.
-use Rattle.node_ports.proofs.Imports.{Input, IsPort, List, NodePorts, NodeSeat, Output, Port, PortsPicture, SameLists, SamePorts, Updated, [], ap, arith, cases_Bool, cases_eq, edge_of, eq-eqb, false, has, inl, inr, is_own_port, is_updated, length, port_edge, ports_picture, refl, subst, sym, true, view, ℕ, ◌+◌, ◌<◌, ◌||◌, ◌∙◌, ◌∷◌, ◌≡◌}
+use Rattle.node_ports.proofs.Imports.{Input, IsPort, List, NodePorts, NodeSeat, Output, Port, PortsPicture, SameLists, SamePorts, Updated, [], ap, arith, cases_eq, edge_of, eq-eqb, false, has, inl, inr, length, port_edge, ports_picture, refl, subst, sym, true, view, ℕ, ◌+◌, ◌<◌, ◌||◌, ◌∙◌, ◌∷◌, ◌≡◌}
 use Rattle.node_ports.proofs.StillLaws.{StaysSeat, still-holds, still-lists}
 use Rattle.node_ports.specs.Sights.{Looked, LookedAll, LookedAt, LookedBelow, MayLook, nth_port}
 
@@ -53,17 +53,6 @@ looked-itself c may = record {
   stage = refl;
   fewer = λ e q. q;
   follows = λ b f. f;
-}
-
--- a port that isn't among the updated ones was looked at
-pub looked-before : (c : PortsPicture) (p : Port) → MayLook c → is_own_port c p
-    → is_updated p c.updated ≡ false → LookedAt p c c
-looked-before c p may own none = record {
-  looked = looked-itself c may;
-  here = elim (cases_Bool (has (edge_of c p) c.node.state.unlooked)) [
-    | inl q ↦ absurd (let z : true ≡ false = sym (may.holds.updated p own q) ∙ none in cc)
-    | inr q ↦ q
-  ];
 }
 
 pub looked-none : (c : PortsPicture) → MayLook c → LookedBelow 0 c c
