@@ -6,3 +6,4 @@ mod Reports
 mod Boxes
 mod Surveys
 mod CellChanges
+pub mod NewCells
