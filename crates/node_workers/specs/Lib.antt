@@ -1,3 +1,6 @@
 pub mod Named
 pub mod Visits
 pub mod Workers
+pub mod Rooms
+pub mod Ended
+pub mod NotStarted

@@ -18,14 +18,20 @@
 //! - `named_cell.rt`: a cell on the shelf, and which place it fits
 //! - `visit.rt`: a worker's visit of a node
 //! - `worker.rt`: what workers share, and a worker from its first number to its end
+//! - `rooms.rt`: the room of a run, which is taken before its first step
+//! - `run.rt`: a run of all cells by so many workers
 //! - `specs/Named.antt`: when a cell fits its place; `specs/Visits.antt`: when a visit stops the
-//!   run; `specs/Workers.antt`: what workers share and have
+//!   run; `specs/Workers.antt`: what workers share and have; `specs/Ended.antt`: the cells before
+//!   a run and after it
 #![tactic(auto)]
 
 mod named_cell;
+mod rooms;
+mod run;
 mod visit;
 mod worker;
 
-pub use named_cell::{NamedCell, Naming, StopCause};
+pub use named_cell::{EndedCell, NamedCell, Naming, StopCause};
+pub use run::{Ended, NotStarted, run_cells};
 pub use visit::visit_cell;
 pub use worker::{Shared, Worker, run_worker, run_workers};

@@ -33,6 +33,13 @@ pub struct NamedCell<P: Processor, J: Naming> {
     pub names: PhantomData<J>,
 }
 
+/// A node's cell as the workers left it, with the cause for which the run was stopped at it.
+#[derive(Drop)]
+pub struct EndedCell<P: Processor> {
+    pub cell: NodeCell<P>,
+    pub stopped: Option<StopCause>,
+}
+
 impl<P: Processor, J: Naming> Placed for NamedCell<P, J> {
     ghost use Rattle.node_workers.specs.Named.{CellFits};
 

@@ -1,0 +1,9 @@
+use Rattle.exec_table.specs.Seats.{identity_of}
+use Rattle.node_workers.specs.Ended.{named_by}
+use Rattle.node_workers.proofs.run.run_cells.Given as goal
+
+abbrev pub ghosts-run_named : goal.ghosts-run_named
+ghosts-run_named g a = record {
+  identity = identity_of a.table;
+  named = named_by g.P.Processor.seen a.cells.items;
+}

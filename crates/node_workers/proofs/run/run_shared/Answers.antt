@@ -1,0 +1,28 @@
+use Rattle.std.proofs.Common.{ap, drop, length, subst, sym, take, ℕ, ◌++◌, ◌∙◌}
+use lib.Seq.{take-append_seam}
+use Rattle.node_workers.proofs.EndLaws.{cleared-ended}
+use Rattle.node_workers.specs.Ended.{AreEnded}
+use Rattle.node_workers.specs.Workers.{parts_of}
+use Rattle.node_workers.specs.declared.worker.Worker.{Worker}
+use Rattle.task_queue.specs.Numbers.{total}
+use Rattle.task_queue.specs.Shelves.{places}
+use Rattle.node_workers.proofs.run.run_shared.Goals as goal
+
+pub clear-requires-after_bounds : goal.clear-requires-after_bounds
+clear-requires-after_bounds g c κs within =
+    let sum = total {V = Worker g.row.P.Denot g.row.J.Denot} parts_of in
+    let now = c.run_workers.new.workers in let left = drop (length now) c.args.workers.items in (
+      c.part_workers.ensures.parts ∙ (ap sum (ap (λ (n : ℕ). take n (now ++ left))
+          (sym (c.run_workers.auto.workers ∙ c.as_mut_slice.ensures.len))
+          ∙ take-append_seam now left)
+          ∙ (c.run_workers.ensures.parts
+          ∙ (ap sum c.as_mut_slice.ensures.value ∙ c.requires.whole))),
+      c.part_workers.ensures.idle,
+    )
+
+pub returns-clause-ended : goal.returns-clause-ended
+returns-clause-ended g c = subst
+    (AreEnded g.P.Processor.seen g.J.Naming.identity g.J.Naming.named (places c.args.shared.shelf))
+    (sym c.end_cells.ensures)
+    (cleared-ended g.P.Processor.seen g.J.Naming.identity g.J.Naming.named
+    (places c.args.shared.shelf) c.clear.result.items c.clear.ensures.count c.clear.ensures.fit)

@@ -1,0 +1,49 @@
+-- The cells of all nodes before a run and after it.
+use Rattle.std.specs.Prelude.{List, [], length, map, slice_index_or, ℕ, ◌≡◌, ◌≤◌}
+use mathlib.Core.Option.{some}
+use lib.ListN.{get_elem?}
+use Rattle.exec_laws.specs.Prelude.{BoxPicture}
+use Rattle.exec_table.specs.Seats.{Identity}
+use Rattle.node_cells.specs.Stored.{IsStored}
+use Rattle.node_cells.specs.declared.cell.NodeCell.{NodeCell}
+use Rattle.node_workers.specs.Named.{CellFits}
+use Rattle.node_workers.specs.declared.named_cell.EndedCell.{EndedCell}
+use Rattle.proc_api.specs.Names.{no_box}
+
+-- what stands where no run is named
+abbrev pub no_identity : Identity
+no_identity = record {
+  id = record {
+    words = 0;
+    slots = 0;
+    views_name = 0;
+    atom = 0;
+    block = 0;
+    offset = 0;
+    slot_names = [];
+  };
+  sizes = record { nodes = 0; wires = []; reserves = []; workers = 0 };
+}
+
+module _ {P : Type 0} (seen : P → BoxPicture) where
+  -- the cells of the first nodes, in order of their numbers, of which none is in a turn
+  pub record AreStored (t : Identity) (cells : List (NodeCell P)) : Type 0 where
+    pub few : length cells ≤ 256
+    pub stored : (n : ℕ) (c : NodeCell P) → get_elem? cells n ≡ some c → IsStored seen t c
+    pub numbers : (n : ℕ) (c : NodeCell P) → get_elem? cells n ≡ some c → c.seat.node ≡ n
+
+  -- what the boxes of the cells are
+  abbrev pub named_by : List (NodeCell P) → ℕ → BoxPicture
+  named_by cells n = slice_index_or (map (λ c. seen c.processor) cells) n no_box
+
+  -- each cell has the box that is named of its node
+  abbrev pub AreNamed : (ℕ → BoxPicture) → List (NodeCell P) → Type 0
+  AreNamed named cells =
+      (n : ℕ) (c : NodeCell P) → get_elem? cells n ≡ some c → named n ≡ seen c.processor
+
+  -- each cell is that of its node, with the box that was named
+  pub record AreEnded (t : Identity) (named : ℕ → BoxPicture) (count : ℕ)
+      (cells : List (EndedCell P)) : Type 0 where
+    pub many : length cells ≡ count
+    pub each : (n : ℕ) (d : EndedCell P) → get_elem? cells n ≡ some d
+        → CellFits t named seen n d.cell d.stopped

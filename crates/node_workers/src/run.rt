@@ -1,0 +1,294 @@
+//! A run of all cells by so many workers.
+ghost use Rattle.std.specs.Prelude.{◌≡◌, ◌+◌, ◌<◌, ◌≤◌, All, IfErr, IfOk, length};
+ghost use Rattle.exec_table.specs.Seats.{IsRootOf, IsWorkerOf, identity_of, key_of};
+ghost use Rattle.node_workers.specs.Ended.{AreEnded, AreNamed, AreStored, named_by};
+ghost use Rattle.node_workers.specs.NotStarted.{IsAsItWas};
+ghost use Rattle.node_workers.specs.Rooms.{IsDequeFor, IsRoomFor};
+ghost use Rattle.node_workers.specs.Workers.{IsShared, IsWorkerAt, parts_of};
+ghost use Rattle.task_queue.specs.Numbers.{total};
+ghost use Rattle.task_queue.specs.Queues.{IsPassOf};
+ghost use Rattle.task_queue.specs.Rules.{all_parts};
+ghost use Rattle.task_queue.specs.Shelves.{IsIdleSeatOf, parts, places};
+ghost use Rattle.task_queue.specs.Tasks.{Offers};
+
+use crate::named_cell::{EndedCell, NamedCell, Naming};
+use crate::rooms::{Rooms, end_cells, make_rooms, name_cells, unname_cells};
+use crate::worker::{Shared, Worker, run_workers};
+use exec_laws::NodeState;
+use exec_table::{ExecTable, RootSeat, WorkerSeat};
+use node_cells::NodeCell;
+use proc_api::Processor;
+use std::alloc::Global;
+use std::collections::VecDeque;
+use std::marker::Brand;
+use std::sync::Wait;
+use std::thread::Threads;
+use task_queue::{Shelf, ShelfSeat, TaskQueue, WorkerTasks};
+
+/// The table, its root, the workers' seats, and all cells in order of their numbers.
+#[derive(Drop)]
+pub struct Ended<P: Processor> {
+    pub table: ExecTable,
+    pub root: RootSeat,
+    pub workers: Vec<WorkerSeat>,
+    pub cells: Vec<EndedCell<P>>,
+}
+
+/// What is given back where memory is wanting: nothing ran.
+#[derive(Drop)]
+pub struct NotStarted<P: Processor> {
+    pub table: ExecTable,
+    pub root: RootSeat,
+    pub cells: Vec<NodeCell<P>>,
+}
+
+impl Naming for Brand {
+    ghost use Rattle.node_workers.specs.Ended.{no_identity};
+    ghost use Rattle.proc_api.specs.Names.{no_box};
+
+    ghost identity = { no_identity };
+
+    ghost named = { λ n. no_box };
+}
+
+/// Offers each node that a new table has charged: one that may begin and has no output.
+fn offer_first<P: Processor, R: Wait>(
+    rt: &R,
+    queue: &TaskQueue,
+    tasks: &mut WorkerTasks,
+    cells: &[NodeCell<P>],
+)
+    requires pass { IsPassOf queue.now tasks.old.pass }
+    requires few { length cells.now ≤ 256 }
+    ensures pass { IsPassOf queue.now tasks.new.pass }
+    ensures offers { Offers queue.now tasks.old tasks.new }
+{
+    for n in 0..cells.len() {
+        if cells[n].mark.state == NodeState::Due && cells[n].ports.outputs.is_empty() {
+            tasks.offer(rt, queue, n as u32);
+        }
+    }
+}
+
+/// A further worker, whose seats come from another.
+fn next_worker<P: Processor, J: Naming>(
+    shared: &Shared<P, J>,
+    root: &mut RootSeat,
+    from: &mut Worker<P, J>,
+    held: VecDeque<u32>,
+) -> Worker<P, J>
+    requires root { IsRootOf (identity_of shared.now.table) root.old }
+    requires spare { root.old.seat.me.0.made < (key_of shared.now.table).workers }
+    requires from { IsWorkerAt shared.now from.old }
+    requires share { 1 < parts_of from.old }
+    requires held { IsDequeFor (places shared.now.shelf) held }
+    ensures root { IsRootOf (identity_of shared.now.table) root.new }
+    ensures made { root.new.seat.me.0.made ≡ root.old.seat.me.0.made + 1 }
+    ensures from { IsWorkerAt shared.now from.new }
+    ensures worker { IsWorkerAt shared.now result × (parts_of result ≡ 1) }
+    ensures share { parts_of from.new + 1 ≡ parts_of from.old }
+{
+    Worker {
+        seat: shared.table.worker(root),
+        tasks: WorkerTasks::new(shared.queue.pass(&mut from.tasks.pass)),
+        shelf: shared.shelf.seat_with_room(&mut from.shelf, held),
+    }
+}
+
+/// All workers: the first, and one for each room.
+fn make_workers<P: Processor, J: Naming>(
+    shared: &Shared<P, J>,
+    root: &mut RootSeat,
+    mut first: Worker<P, J>,
+    mut held: Vec<VecDeque<u32>>,
+    mut workers: Vec<Worker<P, J>>,
+) -> Vec<Worker<P, J>>
+    requires root { IsRootOf (identity_of shared.now.table) root.old }
+    requires spare { root.old.seat.me.0.made + length held.items
+        ≤ (key_of shared.now.table).workers }
+    requires first { IsWorkerAt shared.now first × (parts_of first ≡ all_parts) }
+    requires few { length held.items ≤ 16 }
+    requires held { All (IsDequeFor (places shared.now.shelf)) held.items }
+    requires room { IsRoomFor (length held.items + 1) workers }
+    ensures root { IsRootOf (identity_of shared.now.table) root.new }
+    ensures workers { All (IsWorkerAt shared.now) result.items }
+    ensures whole { total parts_of result.items ≡ all_parts }
+    ensures count { length result.items ≡ length held.items + 1 }
+{
+    while let Some(held) = held.pop() {
+        let worker = next_worker(shared, root, &mut first, held);
+        workers.push_reserved(worker);
+    }
+    held.destroy_empty();
+    workers.push_reserved(first);
+    workers
+}
+
+/// Takes the workers apart: their seats of the table and those of the shelf.
+fn part_workers<P: Processor, J: Naming>(
+    mut workers: Vec<Worker<P, J>>,
+    seats: &mut Vec<WorkerSeat>,
+    shelf_seats: &mut Vec<ShelfSeat<NamedCell<P, J>>>,
+    _shared: &Shared<P, J>,
+)
+    requires workers { All (IsWorkerAt _shared.now) workers.items }
+    requires seats { IsRoomFor (length workers.items) seats.old }
+    requires shelf_seats { IsRoomFor (length workers.items) shelf_seats.old }
+    ensures seats { All (IsWorkerOf (identity_of _shared.now.table)) seats.new.items }
+    ensures idle { All (IsIdleSeatOf _shared.now.shelf) shelf_seats.new.items }
+    ensures parts { total parts shelf_seats.new.items ≡ total parts_of workers.items }
+{
+    while let Some(worker) = workers.pop() {
+        let Worker {
+            seat,
+            tasks: _,
+            shelf,
+        } = worker;
+        seats.push_reserved(seat);
+        shelf_seats.push_reserved(shelf);
+    }
+    workers.destroy_empty();
+}
+
+/// The room that is left once the workers stand and the cells lie on the shelf.
+#[derive(Drop)]
+struct EndRooms<P: Processor, J: Naming> {
+    seats: Vec<WorkerSeat>,
+    shelf_seats: Vec<ShelfSeat<NamedCell<P, J>>>,
+    ended: Vec<EndedCell<P>>,
+}
+
+/// The workers run, and all that they shared is taken back.
+fn run_shared<P: Processor, J: Naming, R: Threads + Wait + Sync>(
+    rt: &R,
+    shared: Shared<P, J>,
+    root: RootSeat,
+    mut workers: Vec<Worker<P, J>>,
+    rooms: EndRooms<P, J>,
+) -> Ended<P>
+    requires shared { IsShared J.identity shared }
+    requires root { IsRootOf (identity_of shared.table) root }
+    requires workers { All (IsWorkerAt shared) workers.items }
+    requires whole { total parts_of workers.items ≡ all_parts }
+    requires seats { IsRoomFor (length workers.items) rooms.seats }
+    requires shelf_seats { IsRoomFor (length workers.items) rooms.shelf_seats }
+    requires ended { IsRoomFor (places shared.shelf) rooms.ended }
+    ensures table { result.table ≡ shared.table }
+    ensures root { IsRootOf (identity_of result.table) result.root }
+    ensures workers { All (IsWorkerOf (identity_of result.table)) result.workers.items }
+    ensures ended { AreEnded P.seen J.identity J.named (places shared.shelf) result.cells.items }
+{
+    let EndRooms {
+        mut seats,
+        mut shelf_seats,
+        ended,
+    } = rooms;
+    run_workers(rt, &shared, workers.as_mut_slice());
+    part_workers(workers, &mut seats, &mut shelf_seats, &shared);
+    let Shared {
+        table,
+        queue: _,
+        shelf,
+    } = shared;
+    Ended {
+        table,
+        root,
+        workers: seats,
+        cells: end_cells(shelf.clear(shelf_seats), ended),
+    }
+}
+
+/// The part that is generic in what is named.
+fn run_named<P: Processor, J: Naming, R: Threads + Wait + Sync>(
+    rt: &R,
+    alloc: Global,
+    table: ExecTable,
+    mut root: RootSeat,
+    mut cells: Vec<NodeCell<P>>,
+    workers: u32,
+    queued: usize,
+) -> Result<Ended<P>, NotStarted<P>>
+    requires table { identity_of table ≡ J.identity }
+    requires root { IsRootOf (identity_of table) root }
+    requires workers { (1 ≤ workers) × (workers ≤ 16) }
+    requires queued { 0 < queued }
+    requires spare { root.seat.me.0.made + workers ≤ (key_of table).workers }
+    requires stored { AreStored P.seen J.identity cells.items }
+    requires named { AreNamed P.seen J.named cells.items }
+    ensures table { IfOk result (λ r. r.table ≡ table) }
+    ensures root { IfOk result (λ r. IsRootOf (identity_of table) r.root) }
+    ensures workers { IfOk result (λ r. All (IsWorkerOf (identity_of table)) r.workers.items) }
+    ensures ended { IfOk result (λ r.
+        AreEnded P.seen J.identity J.named (length cells.items) r.cells.items) }
+    ensures err { IfErr result (λ r. IsAsItWas table root cells r) }
+{
+    let Ok(rooms) = make_rooms::<P, J>(alloc, cells.len(), workers as usize, queued) else {
+        return Err(NotStarted { table, root, cells })
+    };
+    let Rooms {
+        queue,
+        pass,
+        held,
+        named,
+        workers,
+        shelf_seats,
+        seats,
+        ended,
+    } = rooms;
+    let mut tasks = WorkerTasks::new(pass);
+    offer_first(rt, &queue, &mut tasks, cells.as_slice());
+    match Shelf::make(name_cells(&mut cells, named)) {
+        Err(named) => {
+            unname_cells(named, &mut cells);
+            Err(NotStarted { table, root, cells })
+        }
+        Ok((shelf, shelf_seat)) => {
+            let shared = Shared {
+                table,
+                queue,
+                shelf,
+            };
+            let first = Worker {
+                seat: shared.table.worker(&mut root),
+                tasks,
+                shelf: shelf_seat,
+            };
+            let workers = make_workers(&shared, &mut root, first, held, workers);
+            let rooms = EndRooms {
+                seats,
+                shelf_seats,
+                ended,
+            };
+            Ok(run_shared(rt, shared, root, workers, rooms))
+        }
+    }
+}
+
+/// Runs the cells of all nodes, in order of their numbers, by so many workers until nothing is
+/// pending or the run was stopped. The queue has room for so many numbers; one that finds none
+/// stays with its worker, and where there is room for each node none does. All memory is taken
+/// before the first step; where it is wanting all is given back as it was. Afterwards each cell is
+/// that of its node, with the box that it had.
+pub fn run_cells<P: Processor, R: Threads + Wait + Sync>(
+    rt: &R,
+    alloc: Global,
+    table: ExecTable,
+    root: RootSeat,
+    cells: Vec<NodeCell<P>>,
+    workers: u32,
+    queued: usize,
+) -> Result<Ended<P>, NotStarted<P>>
+    requires root { IsRootOf (identity_of table) root }
+    requires workers { (1 ≤ workers) × (workers ≤ 16) }
+    requires queued { 0 < queued }
+    requires spare { root.seat.me.0.made + workers ≤ (key_of table).workers }
+    requires stored { AreStored P.seen (identity_of table) cells.items }
+    ensures table { IfOk result (λ r. r.table ≡ table) }
+    ensures root { IfOk result (λ r. IsRootOf (identity_of table) r.root) }
+    ensures workers { IfOk result (λ r. All (IsWorkerOf (identity_of table)) r.workers.items) }
+    ensures ended { IfOk result (λ r. AreEnded P.seen (identity_of table)
+        (named_by P.seen cells.items) (length cells.items) r.cells.items) }
+    ensures err { IfErr result (λ r. IsAsItWas table root cells r) }
+{
+    run_named::<P, Brand, R>(rt, alloc, table, root, cells, workers, queued)
+}
