@@ -1,2 +1,3 @@
 pub mod VisitLaws
 pub mod EndLaws
+pub mod NewCells

@@ -266,9 +266,8 @@ fn run_named<P: Processor, J: Naming, R: Threads + Wait + Sync>(
 
 /// Runs the cells of all nodes, in order of their numbers, by so many workers until nothing is
 /// pending or the run was stopped. The queue has room for so many numbers; one that finds none
-/// stays with its worker, and where there is room for each node none does. All memory is taken
-/// before the first step; where it is wanting all is given back as it was. Afterwards each cell is
-/// that of its node, with the box that it had.
+/// stays with its worker. All memory is taken before the first step; where it is wanting all is
+/// given back as it was. Afterwards each cell is that of its node, with the box that it had.
 pub fn run_cells<P: Processor, R: Threads + Wait + Sync>(
     rt: &R,
     alloc: Global,
