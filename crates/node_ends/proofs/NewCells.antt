@@ -17,8 +17,8 @@ pub new-cells : {P : Type 0} (seen : P → BoxPicture) (boxes : List P) (wires :
     → AreCells seen (identity_of c.table) c.cells.items
 new-cells {P} seen boxes wires reserves workers c g bare new =
     let count : length c.cells.items ≡ length boxes =
-        sym (length-map c.cells.items (λ (x : NodeCell P). x.processor))
-        ∙ ap length new.processors in
+    sym (length-map c.cells.items (λ (x : NodeCell P). x.processor))
+    ∙ ap length new.processors in
     record {
       count = count ∙ sym (ap (λ (z : Sizes). z.nodes) new.key);
       graph = record {

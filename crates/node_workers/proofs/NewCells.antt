@@ -18,9 +18,9 @@ pub new-stored : {P : Type 0} (seen : P → BoxPicture) (boxes : List P) (wires 
     → AreStored seen (identity_of c.table) c.cells.items
 new-stored {P} seen boxes wires reserves workers c g new = record {
   few = let many : length c.cells.items ≡ length boxes =
-        sym (length-map c.cells.items (λ (x : NodeCell P). x.processor))
-        ∙ ap length new.processors in
-    let l = g.nodes_are in let f = g.graph.so_far.few_nodes in omega (arith, many, l, f);
+      sym (length-map c.cells.items (λ (x : NodeCell P). x.processor))
+      ∙ ap length new.processors in
+      let l = g.nodes_are in let f = g.graph.so_far.few_nodes in omega (arith, many, l, f);
   stored = λ n x at. (new.each n x at).stored;
   numbers = λ n x at. let y = new.each n x at in
       (seat-as seen (identity_of c.table) x.mark.state x y.stored).number ∙ y.number;
