@@ -63,8 +63,8 @@ column_of types columns n c d h lt =
     sym (get_or-map values columns c d [] lt)
     ∙ sym (column_of-rows_of n (map values columns) c _ h.long wide)
 
-pub appended : {X : Type 0} {xs us ys vs : List X} → xs ≡ us → ys ≡ vs → xs ++ ys ≡ us ++ vs
-appended {us = us} {ys = ys} e k = ap (λ l. l ++ ys) e ∙ ap (λ l. us ++ l) k
+pub append_same : {X : Type 0} {xs us ys vs : List X} → xs ≡ us → ys ≡ vs → xs ++ ys ≡ us ++ vs
+append_same {us = us} {ys = ys} e k = ap (λ l. l ++ ys) e ∙ ap (λ l. us ++ l) k
 
 -- ---- the steps of the calls: `given` is the slice that was passed, `now` what is left there, and
 -- the Vec has `len` columns
@@ -179,7 +179,7 @@ beside_long columns others all n m k e kn mn h g = search (arith, map-append, Ar
 pub beside_kinds : (columns others all : List Column) (types more : List ColumnType)
     → all ≡ columns ++ others → map column_type columns ≡ types → map column_type others ≡ more
     → map column_type all ≡ types ++ more
-beside_kinds columns others all types more e k l = search (arith, map-append, appended)
+beside_kinds columns others all types more e k l = search (arith, map-append, append_same)
 
 pub beside_rows : (columns others all : List Column) (n m k : ℕ) (rows more : List Row)
     → all ≡ columns ++ others → k ≡ n → m ≡ n → AreLong m (map values others)

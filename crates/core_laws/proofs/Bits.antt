@@ -1,5 +1,5 @@
 -- The bits of node words, and the ends of edges.
-use Rattle.core_laws.proofs.Imports.{Bool, None, Option, Some, Wire, WordHolds, ap, arith, bit_at, bit_at-lt, bit_at-pow_other, bit_at-pow_same, bit_at-zero, bit_at_end, bit_at_or, bit_at_xor, bit_of, bit_or, bit_xor, both_ways, cases_Bool, cases_eq, end_of, eqb, eqb-true, false, inl, inr, is_end, is_named, is_set, is_unborn, max, names, not, peer_in, refl, subst, sym, true, wire_ok, ℕ, ◌+◌, ◌<◌, ◌^◌, ◌∙◌, ◌≡◌, ◌≢◌, ◌≤◌}
+use Rattle.core_laws.proofs.Imports.{Bool, None, Option, Some, Wire, WordHolds, ap, arith, bit_at, bit_at-lt, bit_at-pow_other, bit_at-pow_same, bit_at-zero, bit_at_end, bit_at_or, bit_at_xor, bit_of, bit_or, bit_xor, both_ways, cases_Bool, cases_eq, end_of, eqb, eqb-true, false, inl, inr, is_end, is_node_bit, is_set, is_unborn, max, names, not, peer_in, refl, subst, sym, true, wire_ok, ℕ, ◌+◌, ◌<◌, ◌^◌, ◌∙◌, ◌≡◌, ◌≢◌, ◌≤◌}
 
 -- no bit of 0 is set
 pub zero-clear : (k : ℕ) → is_set 0 k ≡ false
@@ -28,12 +28,12 @@ or-more w k i h = elim (cases_eq i k) [
 ]
 
 -- a word with one bit, of a node that is held where this is the bit held
-pub word-one : (k : ℕ) (on : Bool) → is_named k ≡ true → is_set (2 ^ k) 62 ≡ on
+pub word-one : (k : ℕ) (on : Bool) → is_node_bit k ≡ true → is_set (2 ^ k) 62 ≡ on
     → WordHolds (2 ^ k) on
 word-one k on named held = record {
   held = held;
   lone = λ i j _ _ ne z. pow-clear k j (λ e. ne (pow-only k i z ∙ sym e));
-  bits = λ i z. ap is_named (pow-only k i z) ∙ named;
+  bits = λ i z. ap is_node_bit (pow-only k i z) ∙ named;
 }
 
 -- the word of an idle node
@@ -101,9 +101,9 @@ word-born w on unborn h = let x = flip-lone w on unborn h in record {
     | inr y ↦ x.1 j b y
   ];
   bits = λ i z. elim (cases_eq i 60) [
-    | inl e ↦ ap is_named e
+    | inl e ↦ ap is_node_bit e
     | inr a ↦ elim (cases_eq i 61) [
-      | inl e ↦ ap is_named e
+      | inl e ↦ ap is_node_bit e
       | inr b ↦ h.bits i (sym (flip-other w i a b) ∙ z)
     ]
   ];

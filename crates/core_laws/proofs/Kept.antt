@@ -1,19 +1,19 @@
 -- Every step keeps the laws: of edges, of nodes, and of tokens.
-use Rattle.core_laws.proofs.Imports.{Act, Bool, Close, CoreState, EdgeHolds, Edges, EndTold, Finish, Flags, Laws, List, NodeHolds, NodeState, Nodes, None, Option, PortState, Pull, Push, Sees, Sight, Sizes, Some, Step, Tokens, Told, Unwant, Want, Wire, WireHolds, WordHolds, [], acted, acting_end, adding, after, and_parts, ap, arith, bit_at_end, bit_of, bit_or, born, both_ways, cases_Bool, cases_eq, changed, cond, cond_both, counted, counts, edges_of, end_of, eqb, eqb-true, false, fits, flags_at, fresh_sight, get_or-le-sum_by, get_or-set_other, get_or-set_same, get_or_default, has, holds, inl, inr, is_edge, is_excused, is_none, is_none_of, is_over, is_set, is_unborn, is_updated, knows, lacks, learned, learning, left, length, length-set, looked, map-append, marked, may, may_act, may_wire, names, ne_eqb, no_node, no_port, node_at, node_of, not, once, or_cases, or_left, or_right, peer_in, port_after, port_at, port_of, put_node, refl, seeing, set, set-get_or, spent, subst, sum_by-le, sum_by-set, sym, taken, telling, tells, told, true, weight, wire_ok, wiring, without, ℕ, ◌&&◌, ◌*◌, ◌+◌, ◌-◌, ◌<◌, ◌^◌, ◌||◌, ◌∙◌, ◌∷◌, ◌≡◌, ◌≢◌, ◌≤◌}
+use Rattle.core_laws.proofs.Imports.{Act, Bool, Close, CoreState, EdgeHolds, Edges, EndTold, EndsAreTold, Finish, Flags, Laws, List, NodeState, NodeStateHolds, Nodes, None, Option, PortState, Pull, Push, Sees, Sight, Sizes, Some, Step, TokensHold, Unwant, Want, Wire, WireHolds, WordHolds, [], acted, acting_end, adding, after, and_parts, ap, arith, bit_at_end, bit_of, bit_or, born, both_ways, cases_Bool, cases_eq, changed, cond, cond_both, counts, edges_of, end_of, eqb, eqb-true, false, fits, flags_at, fresh_sight, get_or-le-sum_by, get_or-set_other, get_or-set_same, get_or_default, has, inl, inr, is_edge, is_excused, is_held_end, is_none, is_none_of, is_over, is_set, is_unborn, is_updated, knows, lacks, learned, learning, left, length, length-set, looked, map-append, marked, may, may_act, may_wire, names, ne_eqb, no_node, no_port, node_at, node_of, not, once, or_cases, or_left, or_right, peer_in, port_after, port_at, port_of, put_node, refl, seeing, set, set-get_or, spent, subst, sum_by-le, sum_by-set, sym, taken, telling, tells, true, weight, wire_ok, wiring, with_bit, with_tokens, without, ℕ, ◌&&◌, ◌*◌, ◌+◌, ◌-◌, ◌<◌, ◌^◌, ◌||◌, ◌∙◌, ◌∷◌, ◌≡◌, ◌≢◌, ◌≤◌}
 use Rattle.core_laws.specs.declared.types.Step.TheVariants as step
 use Rattle.core_laws.proofs.Lists.{at_put, has-filter, once-filter, has-last, has-adding, once-last, once-adding, edges-seeing, seeing-here, seeing-other, flags-unknown, flags-last}
 use Rattle.core_laws.proofs.Bits.{zero-clear, pow-clear, or-other, or-here, or-more, word-one, word-idle, word-told, flip-other, flip-lone, word-born, end-within, at-end, peer-of, EndOf, end-of, an-end, not-not, both-ends}
-use Rattle.core_laws.proofs.Moves.{Moves, act-moves, same-flags, lacks-none, look-moves}
+use Rattle.core_laws.proofs.Moves.{EndMoves, act-moves, same-flags, lacks-none, look-moves}
 
 -- what a state has that a step left; the tokens may be counted apart
 pub record Kept (c d : CoreState) : Type 0 where
   pub edges : Edges d
   pub nodes : Nodes d
-  pub tokens : Tokens c → Tokens d
+  pub tokens : TokensHold c → TokensHold d
 
 -- the laws of the edge e, whose port is p
 abbrev Holds : Sizes → List NodeState → ℕ → PortState → Type 0
-Holds s nodes e p = EdgeHolds s nodes e p × Told nodes e p.wire p.flags
+Holds s nodes e p = EdgeHolds s nodes e p × EndsAreTold nodes e p.wire p.flags
 
 -- a step that changes neither ports nor nodes
 same-kept : (c : CoreState) (stopped : Bool) → Edges c → Nodes c
@@ -42,12 +42,12 @@ module _ (c : CoreState) (n : ℕ) (nd : NodeState) (inside : n < length c.nodes
       (λ e. q ∙ sym (ap (λ k. g (node_at c k)) e)) (λ _. refl)
 
   -- the laws of a state with these ports, this node, and another pending number
-  frame : (ps : List PortState) (p : ℕ) → length ps ≡ length c.ports → NodeHolds nd
+  frame : (ps : List PortState) (p : ℕ) → length ps ≡ length c.ports → NodeStateHolds nd
       → ((d : ℕ) → knows d nd.seen ≡ true → d < length c.ports)
       → ((d : ℕ) → d < length c.ports → Holds c.sizes new d (port_of ps d))
-      → (Tokens c → (nd.tokens ≤ 2) × (p + weight old ≡ c.pending + weight nd))
+      → (TokensHold c → (nd.tokens ≤ 2) × (p + weight old ≡ c.pending + weight nd))
       → Edges c → Nodes c → Kept c (record c { ports = ps; nodes = new; pending = p })
-  frame ps p len holds known each count edges nodes = record {
+  frame ps p len is_held_end known each count edges nodes = record {
     edges = record {
       count = len ∙ edges.count;
       known = λ m d k. subst (λ l. d < l) (sym len) (at_put
@@ -57,7 +57,8 @@ module _ (c : CoreState) (n : ℕ) (nd : NodeState) (inside : n < length c.nodes
     };
     nodes = record {
       number = length-set c.nodes n nd ∙ nodes.number;
-      each = λ m. at_put NodeHolds c.nodes n m nd no_node inside (λ _. holds) (λ _. nodes.each m);
+      each = λ m. at_put NodeStateHolds c.nodes n m nd no_node inside (λ _. is_held_end)
+          (λ _. nodes.each m);
       told = λ d i. (each d (subst (λ k. d < k) len i)).1;
     };
     tokens = λ t. record {
@@ -121,7 +122,7 @@ module _ (c : CoreState) (n : ℕ) (nd : NodeState) (inside : n < length c.nodes
 
   -- the edge e, whose port p the node leaves as q
   moved : (e : ℕ) (b : Bool) (p q : PortState) (f : Flags) (owes : Bool)
-      → Moves p (flags_at e old.seen) b q f owes → EndOf b n p.wire → knows e old.seen ≡ true
+      → EndMoves p (flags_at e old.seen) b q f owes → EndOf b n p.wire → knows e old.seen ≡ true
       → nd.seen ≡ seeing e f old.seen
       → (lacks b q.flags f ≡ true → (k : ℕ) → is_excused old e k ≡ true → is_excused nd e k ≡ true)
       → (owes ≡ true → has e nd.owes ≡ true) → (has e old.owes ≡ true → has e nd.owes ≡ true)
@@ -174,13 +175,13 @@ module _ (c : CoreState) (n : ℕ) (nd : NodeState) (inside : n < length c.nodes
       ]
 
   -- a step that changes no sight: what it owed it owes
-  view-kept : (p : ℕ) → nd.seen ≡ old.seen → nd.owes ≡ old.owes → NodeHolds nd
+  view-kept : (p : ℕ) → nd.seen ≡ old.seen → nd.owes ≡ old.owes → NodeStateHolds nd
       → ((d : ℕ) (b : Bool) (w : Wire) → (port_at c d).wire ≡ Some w
       → wire_ok c.sizes.nodes w ≡ true → end_of b w ≡ n → is_excused old d (bit_of b w) ≡ true
       → is_excused nd d (bit_of b w) ≡ true)
-      → (Tokens c → (nd.tokens ≤ 2) × (p + weight old ≡ c.pending + weight nd))
+      → (TokensHold c → (nd.tokens ≤ 2) × (p + weight old ≡ c.pending + weight nd))
       → Edges c → Nodes c → Kept c (record c { nodes = new; pending = p })
-  view-kept p seen owes holds excused count edges nodes = frame c.ports p refl holds
+  view-kept p seen owes is_held_end excused count edges nodes = frame c.ports p refl is_held_end
       (λ d z. edges.known n d (ap (λ y. knows d y) (sym seen) ∙ z))
       (λ d i. unmoved d (port_at c d) (ap (flags_at d) seen)
       (λ z. (edges.each d i).learned n (ap (λ y. knows d y) (sym seen) ∙ z))
@@ -221,7 +222,7 @@ viewing e f looks owes nd = record nd {
 }
 
 viewing-holds : (e : ℕ) (f : Flags) (looks owes : Bool) (nd : NodeState) → nd.held ≡ true
-    → knows e nd.seen ≡ true → NodeHolds nd → NodeHolds (viewing e f looks owes nd)
+    → knows e nd.seen ≡ true → NodeStateHolds nd → NodeStateHolds (viewing e f looks owes nd)
 viewing-holds e f looks owes nd held known h = record {
   word = h.word;
   owes = λ d z. let q = ap (has d) (edges-seeing e f nd.seen) in
@@ -244,8 +245,8 @@ viewing-holds e f looks owes nd held known h = record {
 
 -- a step of the held end b of the edge e, the node n, which leaves the ports as ps
 moved-kept : (c : CoreState) (n e : ℕ) (b : Bool) (ps : List PortState) (q : PortState) (f : Flags)
-    (looks owes : Bool) → holds c n e ≡ true → EndOf b n (port_at c e).wire → set c.ports e q ≡ ps
-    → Moves (port_at c e) (flags_at e (node_at c n).seen) b q f owes
+    (looks owes : Bool) → is_held_end c n e ≡ true → EndOf b n (port_at c e).wire → set c.ports e q
+    ≡ ps → EndMoves (port_at c e) (flags_at e (node_at c n).seen) b q f owes
     → (looks ≡ true → lacks b q.flags f ≡ false) → Edges c → Nodes c
     → Kept c (put_node (record c { ports = ps }) n (viewing e f looks owes (node_at c n)))
 moved-kept c n e b ps q f looks owes g x is m none edges nodes =
@@ -301,7 +302,7 @@ act-kept a c n e g edges nodes = let p = and_parts _ _ g in let q = and_parts _ 
     (act-moves a (port_at c e) (flags_at e (node_at c n).seen) p.1)
     (λ z. absurd (both_ways false refl z)) edges nodes
 
-look-kept : (c : CoreState) (n e : ℕ) → holds c n e ≡ true → Edges c → Nodes c
+look-kept : (c : CoreState) (n e : ℕ) → is_held_end c n e ≡ true → Edges c → Nodes c
     → Kept c (put_node c n (looked c n e))
 look-kept c n e g edges nodes =
     let x = an-end n (port_at c e).wire ((edges.each e (grind arith)).learned n (grind arith)) in
@@ -327,8 +328,8 @@ held-word c n h nodes = let x = (nodes.each n).word in let w = (node_at c n).wor
     (grind (arith, nonzero w 62, on, a, b), b)
 
 -- the node with another word and other tokens
-reworded : (nd : NodeState) (w t : ℕ) → WordHolds w nd.held → NodeHolds nd
-    → NodeHolds (record nd { word = w; tokens = t })
+reworded : (nd : NodeState) (w t : ℕ) → WordHolds w nd.held → NodeStateHolds nd
+    → NodeStateHolds (record nd { word = w; tokens = t })
 reworded nd w t word h =
     record { word = word; owes = h.owes; unlooked = h.unlooked; each_once = h.each_once }
 
@@ -405,8 +406,8 @@ born-kept c n inside unborn some edges nodes =
     (omega (arith, z), omega (arith, a, y, some))) edges nodes
 
 counted-kept : (c : CoreState) (n k p : ℕ) → n < length c.nodes
-    → (Tokens c → (k ≤ 2) × (p + (node_at c n).tokens ≡ c.pending + k)) → Edges c → Nodes c
-    → Kept c (counted c n k p)
+    → (TokensHold c → (k ≤ 2) × (p + (node_at c n).tokens ≡ c.pending + k)) → Edges c → Nodes c
+    → Kept c (with_tokens c n k p)
 counted-kept c n k p inside count edges nodes = view-kept c n (record (node_at c n) { tokens = k })
     inside p refl refl (reworded (node_at c n) (node_at c n).word k (nodes.each n).word
     (nodes.each n)) (λ _ _ _ _ _ _ z. z)
@@ -414,7 +415,7 @@ counted-kept c n k p inside count edges nodes = view-kept c n (record (node_at c
 
 -- a node with a token: some token is pending
 pub some-pending : (c : CoreState) (n : ℕ) → n < length c.nodes → 0 < (node_at c n).tokens
-    → Tokens c → 0 < c.pending
+    → TokensHold c → 0 < c.pending
 some-pending c n inside some h = let z = get_or-le-sum_by weight c.nodes n no_node inside in
     let p = h.pending in omega (arith, z, p, some)
 
@@ -433,7 +434,7 @@ counts-told w k small = grind (
 )
 
 -- the node n owes e a telling: its peer m has the bit k for it
-pub record Marks (c : CoreState) (n e m k : ℕ) : Type 0 where
+pub record OwesMark (c : CoreState) (n e m k : ℕ) : Type 0 where
   pub peer_in : m < length c.nodes
   pub small : k < 48
   pub apart : m ≢ n
@@ -442,7 +443,7 @@ pub record Marks (c : CoreState) (n e m k : ℕ) : Type 0 where
 
 -- who owes has a peer to tell
 pub marks-of : (c : CoreState) (n e : ℕ) → may c n (step.Mark e) ≡ true → Edges c → Nodes c
-    → Marks c n e (peer_in n (port_at c e).wire)
+    → OwesMark c n e (peer_in n (port_at c e).wire)
     (bit_at_end (peer_in n (port_at c e).wire) (port_at c e).wire)
 marks-of c n e g edges nodes =
     let o : has e (node_at c n).owes ≡ true = grind arith in
@@ -471,7 +472,7 @@ marks-of c n e g edges nodes =
         (sym q) (peer-of c.sizes.nodes w (sound w q) b n t)
 
 mark-kept : (c : CoreState) (n e m k : ℕ) → n < length c.nodes → 0 < (node_at c n).tokens
-    → Marks c n e m k → Edges c → Nodes c → Kept c (marked c n e m k)
+    → OwesMark c n e m k → Edges c → Nodes c → Kept c (marked c n e m k)
 mark-kept c n e m k inside some x edges nodes = record {
   edges = last.edges;
   nodes = last.nodes;
@@ -482,23 +483,24 @@ mark-kept c n e m k inside some x edges nodes = record {
     md = node_at c m
 
     mid : CoreState
-    mid = record c { nodes = set c.nodes m (told k md); pending = c.pending + spent md.word }
+    mid = record c { nodes = set c.nodes m (with_bit k md); pending = c.pending + spent md.word }
 
     first : Kept c mid
-    first = view-kept c m (told k md) x.peer_in (c.pending + spent md.word) refl refl
-        (reworded md (told k md).word md.tokens (word-told md.word k md.held x.small
+    first = view-kept c m (with_bit k md) x.peer_in (c.pending + spent md.word) refl refl
+        (reworded md (with_bit k md).word md.tokens (word-told md.word k md.held x.small
         (nodes.each m).word) (nodes.each m))
         (λ d b w _ _ _ z. let p = or-more md.word k 63 in let q = or-more md.word k (bit_of b w) in
         grind (arith, p, q, z))
         (λ t. let z = counts-told md.word k x.small in (t.few m, omega (arith, z))) edges nodes
 
     same : node_at mid n ≡ node_at c n
-    same = get_or-set_other c.nodes m n (told k md) no_node (λ z. x.apart (sym z))
+    same = get_or-set_other c.nodes m n (with_bit k md) no_node (λ z. x.apart (sym z))
 
     within : n < length mid.nodes
-    within = subst (λ z. n < z) (sym (length-set c.nodes m (told k md))) inside
+    within = subst (λ z. n < z) (sym (length-set c.nodes m (with_bit k md))) inside
 
-    telling-holds : (nd : NodeState) → NodeHolds nd → NodeHolds (telling e (spent md.word) nd)
+    telling-holds : (nd : NodeState) → NodeStateHolds nd
+        → NodeStateHolds (telling e (spent md.word) nd)
     telling-holds nd h = let t = λ (d : ℕ). not (eqb d e) in record {
       word = h.word;
       owes = λ d z. let y = has-filter t nd.owes d in grind (arith, y, z, h.owes d);
@@ -511,7 +513,7 @@ mark-kept c n e m k inside some x edges nodes = record {
     set-bit b w q t = let z = x.bit b w q t in
         subst (λ (y : ℕ × ℕ). is_set (node_at mid y.0).word y.1 ≡ true)
         (λ i. (sym z.0 i, sym z.1 i))
-        (ap (λ y. is_set y.word k) (get_or-set_same c.nodes m (told k md) no_node x.peer_in)
+        (ap (λ y. is_set y.word k) (get_or-set_same c.nodes m (with_bit k md) no_node x.peer_in)
         ∙ or-here md.word k)
 
     last : Kept mid (marked c n e m k)
@@ -536,8 +538,8 @@ mark-kept c n e m k inside some x edges nodes = record {
 
 -- ---- growth
 
-learning-holds : (e : ℕ) (nd : NodeState) → knows e nd.seen ≡ false → NodeHolds nd
-    → NodeHolds (learning e nd)
+learning-holds : (e : ℕ) (nd : NodeState) → knows e nd.seen ≡ false → NodeStateHolds nd
+    → NodeStateHolds (learning e nd)
 learning-holds e nd unknown h =
     let k = map-append (λ (s : Sight). s.edge) nd.seen (fresh_sight e ∷ []) in
     let known = edges_of nd.seen in record {
@@ -657,36 +659,39 @@ wire-kept c n e w g none edges nodes =
 -- ---- the laws are kept
 
 -- each kind of step keeps the laws of edges and of nodes, and those of tokens where they held
-pub kept : (c : CoreState) (n : ℕ) (s : Step) → may c n s ≡ true → Edges c → Nodes c
+pub each_step_keeps : (c : CoreState) (n : ℕ) (s : Step) → may c n s ≡ true → Edges c → Nodes c
     → Kept c (after c n s)
-kept c n (step.Look e) g h k = look-kept c n e g h k
-kept c n (step.Want e) g h k = act-kept Want c n e g h k
-kept c n (step.Unwant e) g h k = act-kept Unwant c n e g h k
-kept c n (step.Push e x) g h k = act-kept (Push x) c n e g h k
-kept c n (step.Pull e) g h k = act-kept Pull c n e g h k
-kept c n (step.Finish e) g h k = act-kept Finish c n e g h k
-kept c n (step.ClosePort e) g h k = act-kept Close c n e g h k
-kept c n (step.Mark e) g h k = mark-kept c n e _ _ (grind arith) (grind arith)
+each_step_keeps c n (step.Look e) g h k = look-kept c n e g h k
+each_step_keeps c n (step.Want e) g h k = act-kept Want c n e g h k
+each_step_keeps c n (step.Unwant e) g h k = act-kept Unwant c n e g h k
+each_step_keeps c n (step.Push e x) g h k = act-kept (Push x) c n e g h k
+each_step_keeps c n (step.Pull e) g h k = act-kept Pull c n e g h k
+each_step_keeps c n (step.Finish e) g h k = act-kept Finish c n e g h k
+each_step_keeps c n (step.ClosePort e) g h k = act-kept Close c n e g h k
+each_step_keeps c n (step.Mark e) g h k = mark-kept c n e _ _ (grind arith) (grind arith)
     (marks-of c n e g h k) h k
-kept c n step.Begin g h k = taken-kept c n (spent (node_at c n).word) (grind arith) (grind arith)
+each_step_keeps c n step.Begin g h k =
+    taken-kept c n (spent (node_at c n).word) (grind arith) (grind arith)
     (grind arith) (grind arith) h k
-kept c n step.Again g h k = let x = held-word c n (grind arith) k in let y = x.0 in
+each_step_keeps c n step.Again g h k = let x = held-word c n (grind arith) k in let y = x.0 in
     taken-kept c n 0 (grind arith) (omega arith) x.1 (omega (arith, y)) h k
-kept c n step.Rest g h k = rest-kept c n g h k
-kept c n step.Over g h k = left-kept c n (2 ^ 63) (grind arith) (grind arith) (grind arith)
+each_step_keeps c n step.Rest g h k = rest-kept c n g h k
+each_step_keeps c n step.Over g h k =
+    left-kept c n (2 ^ 63) (grind arith) (grind arith) (grind arith)
     (grind arith) (word-one 63 false refl refl) refl (λ _ _ _ _ _. refl) h k
-kept c n step.TokenIn g h k = counted-kept c n ((node_at c n).tokens + 1) (c.pending + 1)
+each_step_keeps c n step.TokenIn g h k = counted-kept c n ((node_at c n).tokens + 1) (c.pending + 1)
     (grind arith) (λ t. (grind arith, omega arith)) h k
-kept c n step.TokenOut g h k = counted-kept c n ((node_at c n).tokens - 1) (c.pending - 1)
+each_step_keeps c n step.TokenOut g h k =
+    counted-kept c n ((node_at c n).tokens - 1) (c.pending - 1)
     (grind arith) (λ t. let x = t.few n in let y : 0 < (node_at c n).tokens = grind arith in
     let p = some-pending c n (grind arith) y t in (omega (arith, x), omega (arith, p, y))) h k
-kept c n (step.Wire e w) g h k = cond_both (is_none (port_at c e).wire) _ c (Kept c)
+each_step_keeps c n (step.Wire e w) g h k = cond_both (is_none (port_at c e).wire) _ c (Kept c)
     (λ q. wire-kept c n e w g (no-wire (port_at c e).wire q) h k) (λ _. same-kept c c.stopped h k)
-kept c n (step.Wired e) g h k = cond_both (names n (port_at c e).wire) _ c (Kept c)
+each_step_keeps c n (step.Wired e) g h k = cond_both (names n (port_at c e).wire) _ c (Kept c)
     (λ q. wired-kept c n e g q h k) (λ _. same-kept c c.stopped h k)
-kept c n step.Birth g h k = born-kept c n (grind arith) (grind arith) (grind arith) h k
-kept c n step.Stop g h k = same-kept c true h k
-kept c n step.See g h k = same-kept c c.stopped h k
+each_step_keeps c n step.Birth g h k = born-kept c n (grind arith) (grind arith) (grind arith) h k
+each_step_keeps c n step.Stop g h k = same-kept c true h k
+each_step_keeps c n step.See g h k = same-kept c c.stopped h k
 
 -- no step changes the sizes
 pub sizes-kept : (c : CoreState) (n : ℕ) (s : Step) → (after c n s).sizes ≡ c.sizes
@@ -697,7 +702,7 @@ sizes-kept c n s = refl
 
 -- all of them
 pub laws-kept : (c : CoreState) (n : ℕ) (s : Step) → may c n s ≡ true → Laws c → Laws (after c n s)
-laws-kept c n s g h = let k = kept c n s g h.edges h.nodes in record {
+laws-kept c n s g h = let k = each_step_keeps c n s g h.edges h.nodes in record {
   fit = subst (λ z. fits z ≡ true) (sym (sizes-kept c n s)) h.fit;
   edges = k.edges;
   nodes = k.nodes;
@@ -705,7 +710,7 @@ laws-kept c n s g h = let k = kept c n s g h.edges h.nodes in record {
 }
 
 -- the pending number is at most three for each node
-pub pending-most : (c : CoreState) → Tokens c → c.pending ≤ length c.nodes * 3
+pub pending-most : (c : CoreState) → TokensHold c → c.pending ≤ length c.nodes * 3
 pending-most c h = let z = sum_by-le weight 3 c.nodes (λ k d l.
     let x = h.few k in let y : counts (node_at c k).word ≤ 1 = grind arith in
     subst (λ nd. weight nd ≤ 3) (get_or_default c.nodes k no_node d l) (omega (arith, x, y))) in

@@ -1,9 +1,9 @@
 -- What a step of one end of an edge does to the edge, to the end's own sight, and to the peer's.
-use Rattle.core_laws.proofs.Imports.{Act, Bool, Content, Finish, Flags, None, Option, PortState, Pull, Push, Sees, Some, [], acting_end, allows, ap, append-nil, arith, changed, false, is_some, lacks, listed, not, port_after, refl, sym, tells, true, ℕ, ◌++◌, ◌∙◌, ◌∷◌, ◌≡◌}
+use Rattle.core_laws.proofs.Imports.{Act, Bool, Content, Finish, Flags, None, Option, PortState, Pull, Push, Sees, Some, [], acting_end, allows, ap, append-nil, arith, changed, false, is_some, lacks, list_of_option, not, port_after, refl, sym, tells, true, ℕ, ◌++◌, ◌∙◌, ◌∷◌, ◌≡◌}
 
 -- the end b of the edge, which saw the port p as `was`, leaves it as q, sees it as f, and owes a
 -- telling where `owes` says so
-pub record Moves (p : PortState) (was : Flags) (b : Bool) (q : PortState) (f : Flags)
+pub record EndMoves (p : PortState) (was : Flags) (b : Bool) (q : PortState) (f : Flags)
     (owes : Bool) : Type 0 where
   pub wire : q.wire ≡ p.wire
   pub content : Content p → Sees b p.flags was → Content q
@@ -13,13 +13,13 @@ pub record Moves (p : PortState) (was : Flags) (b : Bool) (q : PortState) (f : F
   pub peer_lacks_less : owes ≡ false → (g : Flags) → lacks (not b) q.flags g ≡ true
       → lacks (not b) p.flags g ≡ true
 
-no-content : (x : Option ℕ) → is_some x ≡ false → listed x ≡ []
+no-content : (x : Option ℕ) → is_some x ≡ false → list_of_option x ≡ []
 no-content None h = refl
 no-content (Some x) h = grind arith
 
 -- each act of an end that may do it is such a step
 pub act-moves : (a : Act) (p : PortState) (f : Flags) → allows a f ≡ true
-    → Moves p f (acting_end a) (port_after a p) (changed a f) (tells a p.flags)
+    → EndMoves p f (acting_end a) (port_after a p) (changed a f) (tells a p.flags)
 act-moves (Push x) p f g = record {
   wire = refl;
   content = λ y s. record {
@@ -55,7 +55,7 @@ act-moves Finish p f g = record {
 act-moves Pull p f g = record {
   wire = refl;
   content = λ y _. record {
-    chunks = y.chunks ∙ sym (append-nil (p.pulled ++ listed p.slot));
+    chunks = y.chunks ∙ sym (append-nil (p.pulled ++ list_of_option p.slot));
     has_data = refl;
   };
   own = λ s. record {
@@ -105,7 +105,7 @@ lacks-none true f = grind arith
 lacks-none false f = grind arith
 
 -- a look leaves the port, and sees it as it is
-pub look-moves : (b : Bool) (p : PortState) (f : Flags) → Moves p f b p p.flags false
+pub look-moves : (b : Bool) (p : PortState) (f : Flags) → EndMoves p f b p p.flags false
 look-moves b p f = record {
   wire = refl;
   content = λ x _. x;

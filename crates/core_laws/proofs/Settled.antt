@@ -1,10 +1,10 @@
 -- What a state shows in which nothing is pending.
-use Rattle.core_laws.proofs.Imports.{Bool, CoreState, Flags, Knows, Laws, Nodes, Sees, Some, Tokens, Wire, and_parts, ap, arith, bit_of, cases_Bool, cases_lt, counts, end_of, false, flags_at, get_or-le-sum_by, get_or_past, has, inl, inr, is_over, is_set, knows, lacks, length, no_node, node_at, not, port_at, true, weight, ℕ, ◌<◌, ◌∙◌, ◌≡◌}
+use Rattle.core_laws.proofs.Imports.{Bool, CoreState, Flags, Knows, Laws, Nodes, Sees, Some, TokensHold, Wire, and_parts, ap, arith, bit_of, cases_Bool, cases_lt, counts, end_of, false, flags_at, get_or-le-sum_by, get_or_past, has, inl, inr, is_over, is_set, knows, lacks, length, no_node, node_at, not, port_at, true, weight, ℕ, ◌<◌, ◌∙◌, ◌≡◌}
 use Rattle.core_laws.proofs.Bits.{zero-clear}
 use Rattle.core_laws.proofs.Kept.{held-word}
 
 -- no node has a token, or is charged or held
-pub quiet-node : (c : CoreState) (n : ℕ) → c.pending ≡ 0 → Tokens c
+pub quiet-node : (c : CoreState) (n : ℕ) → c.pending ≡ 0 → TokensHold c
     → (counts (node_at c n).word ≡ 0) × ((node_at c n).tokens ≡ 0)
 quiet-node c n q h = let p = h.pending in
     let w : weight (node_at c n) ≡ 0 = elim (cases_lt n (length c.nodes)) [
@@ -13,7 +13,7 @@ quiet-node c n q h = let p = h.pending in
     ] in (omega (arith, w), omega (arith, w))
 
 -- no node owes a telling
-pub quiet-owes : (c : CoreState) (n e : ℕ) → c.pending ≡ 0 → Nodes c → Tokens c
+pub quiet-owes : (c : CoreState) (n e : ℕ) → c.pending ≡ 0 → Nodes c → TokensHold c
     → has e (node_at c n).owes ≡ true → ⊥
 quiet-owes c n e q nodes h z =
     let one = (held-word c n (and_parts _ _ ((nodes.each n).owes e z)).0 nodes).0 in

@@ -1,5 +1,5 @@
 -- The state at the start meets the laws.
-use Rattle.core_laws.proofs.Imports.{AllPass-from_list_all, Bool, EdgeHolds, Edges, Flags, Laws, List, NodeHolds, NodeState, Nodes, None, Sees, Sight, Sizes, Some, Tokens, Wire, WordHolds, [], and_parts, ap, arith, both_ways, cases_lt, cond_both, counts, edges_of, end_of, false, filter, fits, flags_at, fresh_sight, get_or, get_or-map-range_with_len, get_or_past, has, has_output, inl, inr, is_end_among, is_reserved, knows, lacks, leb, length, length-map-range_with_len, ltb, map, names, no_flags, no_node, no_port, no_wire, node_at, once, port_at, range_with_len, refl, reserved_edges, start, start_node, start_port, start_word, subst, suc, sum_by, sum_by-cons, sym, true, weight, wire_fits, wire_ok, zero, ℕ, ◌&&◌, ◌+◌, ◌<◌, ◌^◌, ◌∙◌, ◌∷◌, ◌≡◌, ◌≤◌}
+use Rattle.core_laws.proofs.Imports.{AllPass-from_list_all, Bool, EdgeHolds, Edges, Flags, Laws, List, NodeState, NodeStateHolds, Nodes, None, Sees, Sight, Sizes, Some, TokensHold, Wire, WordHolds, [], and_parts, ap, arith, both_ways, cases_lt, cond_both, counts, edges_of, end_of, false, filter, fits, flags_at, fresh_sight, get_or, get_or-map-range_with_len, get_or_past, has, has_output_edge, inl, inr, is_end_among, is_reserved_node, knows, lacks, leb, length, length-map-range_with_len, ltb, map, names, no_flags, no_node, no_port, no_wire, node_at, once, port_at, range_with_len, refl, reserved_edge_count, start, start_node, start_port, start_word, subst, suc, sum_by, sum_by-cons, sym, true, weight, wire_fits, wire_ok, zero, ℕ, ◌&&◌, ◌+◌, ◌<◌, ◌^◌, ◌∙◌, ◌∷◌, ◌≡◌, ◌≤◌}
 use Rattle.core_laws.proofs.Lists.{has-filter, once-filter}
 use Rattle.core_laws.proofs.Bits.{word-one, word-idle}
 use Rattle.core_laws.proofs.Moves.{same-flags, lacks-none}
@@ -7,7 +7,8 @@ use Rattle.core_laws.proofs.Moves.{same-flags, lacks-none}
 -- ---- ports and nodes
 
 -- there is a port for each edge
-pub ports-length : (s : Sizes) → length (start s).ports ≡ length s.wires + reserved_edges s.reserves
+pub ports-length : (s : Sizes) → length (start s).ports
+    ≡ length s.wires + reserved_edge_count s.reserves
 ports-length s = length-map-range_with_len (start_port s) 0 _
 
 port-start : (s : Sizes) (e : ℕ) → e < length (start s).ports
@@ -63,11 +64,11 @@ no-flags s e =
     (λ m. flags-fresh e (is_end_among m s.wires) (range_with_len 0 (length s.wires))) (λ _. refl)
 
 word-start : (s : Sizes) (n : ℕ) → WordHolds (start_word s n) false
-word-start s n = cond_both (is_reserved n s.reserves) (2 ^ 61) _ (λ w. WordHolds w false)
-    (λ _. word-one 61 false refl refl) (λ _. cond_both (has_output n s.wires) 0 (2 ^ 60)
+word-start s n = cond_both (is_reserved_node n s.reserves) (2 ^ 61) _ (λ w. WordHolds w false)
+    (λ _. word-one 61 false refl refl) (λ _. cond_both (has_output_edge n s.wires) 0 (2 ^ 60)
     (λ w. WordHolds w false) (λ _. word-idle) (λ _. word-one 60 false refl refl))
 
-node-start : (s : Sizes) (n : ℕ) → NodeHolds (start_node s n)
+node-start : (s : Sizes) (n : ℕ) → NodeStateHolds (start_node s n)
 node-start s n = record {
   word = word-start s n;
   owes = λ e z. absurd (both_ways false refl z);
@@ -118,7 +119,7 @@ start-edges s fit = record {
 pub start-nodes : (s : Sizes) → Nodes (start s)
 start-nodes s = record {
   number = length-map-range_with_len (start_node s) 0 s.nodes;
-  each = all-nodes s (λ _ y. NodeHolds y) (node-start s) (λ _. record {
+  each = all-nodes s (λ _ y. NodeStateHolds y) (node-start s) (λ _. record {
     word = word-idle;
     owes = λ e z. absurd (both_ways false refl z);
     unlooked = λ e z. z;
@@ -136,7 +137,7 @@ total-start s (x ∷ xs) = let a = sum_by-cons counts (start_word s x) (map (sta
     let b = sum_by-cons weight (start_node s x) (map (start_node s) xs) in
     let z = total-start s xs in omega (arith, a, b, z)
 
-pub start-tokens : (s : Sizes) → Tokens (start s)
+pub start-tokens : (s : Sizes) → TokensHold (start s)
 start-tokens s = record {
   pending = total-start s (range_with_len 0 s.nodes);
   few = all-nodes s (λ _ y. y.tokens ≤ 2) (λ _. omega arith) (λ _. omega arith);

@@ -2,14 +2,15 @@
 -- which speak of no node word; node words, views and told changes; tokens and the pending number.
 use Rattle.std.specs.Prelude.{◌≡◌, ◌≢◌, ℕ, ◌+◌, ◌<◌, ◌≤◌, ◌==◌, ◌||◌, ◌&&◌, not, nat_lt, Bool, true, false, is_some, List, [], ◌++◌, length, Option, Some, None, slice_index_or}
 use Rattle.std.specs.List.{sum_by}
-use Rattle.core_laws.specs.Views.{Flags, Wire, Sizes, PortState, NodeState, CoreState, no_flags, no_wire, node_of, port_of, has, once, edges_of, knows, flags_at, listed, end_of, bit_of, names, is_set, is_over, counts, wire_ok, may_wire, reserved_edges}
+use Rattle.core_laws.specs.Views.{Flags, Wire, Sizes, PortState, NodeState, CoreState, node_of, port_of, has, once, edges_of, knows, flags_at, list_of_option, end_of, bit_of, names, is_set, is_over, counts, wire_ok, may_wire, reserved_edge_count}
+use Rattle.port_word.specs.Pictures.{no_flags, no_wire}
 use Rattle.core_laws.specs.Start.{fits}
 
 -- ---- edges
 
 -- what was pushed is what was pulled and then what lies in the slot
 pub record Content (p : PortState) : Type 0 where
-  pub chunks : p.pushed ≡ p.pulled ++ listed p.slot
+  pub chunks : p.pushed ≡ p.pulled ++ list_of_option p.slot
   pub has_data : p.flags.has_data ≡ is_some p.slot
 
 -- what a consumer's sight f says of the word's flags p
@@ -46,25 +47,25 @@ pub record EdgeHolds (s : Sizes) (nodes : List NodeState) (e : ℕ) (p : PortSta
 
 -- there is a port for each edge, and no node has learned another
 pub record Edges (c : CoreState) : Type 0 where
-  pub count : length c.ports ≡ length c.sizes.wires + reserved_edges c.sizes.reserves
+  pub count : length c.ports ≡ length c.sizes.wires + reserved_edge_count c.sizes.reserves
   pub known : (n e : ℕ) → knows e (node_of c.nodes n).seen ≡ true → e < length c.ports
   pub each : (e : ℕ) → e < length c.ports → EdgeHolds c.sizes c.nodes e (port_of c.ports e)
 
 -- ---- nodes
 
 -- the bits that a node word may have
-abbrev pub is_named : ℕ → Bool
-is_named k = nat_lt k 48 || ((k == 60) || ((k == 61) || ((k == 62) || (k == 63))))
+abbrev pub is_node_bit : ℕ → Bool
+is_node_bit k = nat_lt k 48 || ((k == 60) || ((k == 61) || ((k == 62) || (k == 63))))
 
 -- the word of a node whose view says that it is held, or that it isn't; of the bits first, unborn,
 -- held and over at most one is set
 pub record WordHolds (w : ℕ) (on : Bool) : Type 0 where
   pub held : is_set w 62 ≡ on
   pub lone : (i j : ℕ) → 60 ≤ i → 60 ≤ j → i ≢ j → is_set w i ≡ true → is_set w j ≡ false
-  pub bits : (k : ℕ) → is_set w k ≡ true → is_named k ≡ true
+  pub bits : (k : ℕ) → is_set w k ≡ true → is_node_bit k ≡ true
 
 -- a node owes only while it is held; it owes and is to look at what it has learned, each edge once
-pub record NodeHolds (nd : NodeState) : Type 0 where
+pub record NodeStateHolds (nd : NodeState) : Type 0 where
   pub word : WordHolds nd.word nd.held
   pub owes : (e : ℕ) → has e nd.owes ≡ true → (nd.held && knows e nd.seen) ≡ true
   pub unlooked : (e : ℕ) → has e nd.unlooked ≡ true → knows e nd.seen ≡ true
@@ -87,22 +88,22 @@ abbrev pub EndTold : NodeState → NodeState → ℕ → Flags → Bool → Wire
 EndTold x y e p b w = lacks b p (flags_at e x.seen) ≡ true
     → (is_excused x e (bit_of b w) || has e y.owes) ≡ true
 
-abbrev pub Told : List NodeState → ℕ → Option Wire → Flags → Type 0
-Told nodes e wire p = (b : Bool) (w : Wire) → wire ≡ Some w
+abbrev pub EndsAreTold : List NodeState → ℕ → Option Wire → Flags → Type 0
+EndsAreTold nodes e wire p = (b : Bool) (w : Wire) → wire ≡ Some w
     → EndTold (node_of nodes (end_of b w)) (node_of nodes (end_of (not b) w)) e p b w
 
 pub record Nodes (c : CoreState) : Type 0 where
   pub number : length c.nodes ≡ c.sizes.nodes
-  pub each : (n : ℕ) → NodeHolds (node_of c.nodes n)
+  pub each : (n : ℕ) → NodeStateHolds (node_of c.nodes n)
   pub told : (e : ℕ) → e < length c.ports
-      → Told c.nodes e (port_of c.ports e).wire (port_of c.ports e).flags
+      → EndsAreTold c.nodes e (port_of c.ports e).wire (port_of c.ports e).flags
 
 -- ---- tokens
 
 abbrev pub weight : NodeState → ℕ
 weight nd = nd.tokens + counts nd.word
 
-pub record Tokens (c : CoreState) : Type 0 where
+pub record TokensHold (c : CoreState) : Type 0 where
   pub pending : c.pending ≡ sum_by weight c.nodes
   pub few : (n : ℕ) → (node_of c.nodes n).tokens ≤ 2
 
@@ -112,7 +113,7 @@ pub record Laws (c : CoreState) : Type 0 where
   pub fit : fits c.sizes ≡ true
   pub edges : Edges c
   pub nodes : Nodes c
-  pub tokens : Tokens c
+  pub tokens : TokensHold c
 
 -- what an end knows of a port once all changes were told and seen; a producer may see a need that
 -- was taken back

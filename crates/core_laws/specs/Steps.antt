@@ -6,7 +6,8 @@ pub use Rattle.core_laws.specs.declared.types.Act.{Act}
 pub use Rattle.core_laws.specs.declared.types.Act.TheVariants.{Want, Unwant, Push, Pull, Finish, Close}
 pub use Rattle.core_laws.specs.declared.types.Step.{Step}
 use Rattle.core_laws.specs.declared.types.Step.TheVariants as step
-use Rattle.core_laws.specs.Views.{Flags, Wire, PortState, NodeState, CoreState, no_flags, node_at, port_at, put_node, put_port, listed, has, adding, without, edges_of, knows, flags_at, seeing, bit_of, is_end, names, is_set, is_unborn, is_over, wire_ok, may_wire}
+use Rattle.core_laws.specs.Views.{Flags, Wire, PortState, NodeState, CoreState, node_at, port_at, put_node, put_port, list_of_option, has, adding, without, edges_of, knows, flags_at, seeing, bit_of, is_end, names, is_set, is_unborn, is_over, wire_ok, may_wire}
+use Rattle.port_word.specs.Pictures.{no_flags}
 
 -- ---- what a held end of an edge does to its port
 
@@ -43,7 +44,7 @@ tells a f = true
 -- the slot and the histories after it
 abbrev pub chunks_after : Act → PortState → PortState
 chunks_after (Push x) p = record p { slot = Some x; pushed = p.pushed ++ x ∷ [] }
-chunks_after Pull p = record p { slot = None; pulled = p.pulled ++ listed p.slot }
+chunks_after Pull p = record p { slot = None; pulled = p.pulled ++ list_of_option p.slot }
 chunks_after a p = p
 
 abbrev pub port_after : Act → PortState → PortState
@@ -63,11 +64,11 @@ abbrev pub is_edge : CoreState → ℕ → ℕ → Bool
 is_edge c n e = is_here c n && nat_lt e (length c.ports)
 
 -- the node is there, and is a held end of the edge that it has learned
-abbrev pub holds : CoreState → ℕ → ℕ → Bool
-holds c n e = is_edge c n e && ((node_at c n).held && knows e (node_at c n).seen)
+abbrev pub is_held_end : CoreState → ℕ → ℕ → Bool
+is_held_end c n e = is_edge c n e && ((node_at c n).held && knows e (node_at c n).seen)
 
 abbrev pub may_act : Act → CoreState → ℕ → ℕ → Bool
-may_act a c n e = (holds c n e && is_end (acting_end a) n (port_at c e).wire)
+may_act a c n e = (is_held_end c n e && is_end (acting_end a) n (port_at c e).wire)
     && allows a (flags_at e (node_at c n).seen)
 
 abbrev pub acted : Act → CoreState → ℕ → ℕ → CoreState
@@ -95,15 +96,15 @@ bit_at_end n (Some w) = cond (w.to == n) (bit_of true w) (bit_of false w)
 abbrev pub spent : ℕ → ℕ
 spent w = cond (w == 0) 1 0
 
-abbrev pub told : ℕ → NodeState → NodeState
-told k md = record md { word = bit_or md.word (2 ^ k) }
+abbrev pub with_bit : ℕ → NodeState → NodeState
+with_bit k md = record md { word = bit_or md.word (2 ^ k) }
 
 abbrev pub telling : ℕ → ℕ → NodeState → NodeState
 telling e k nd = record nd { tokens = nd.tokens - k; owes = without e nd.owes }
 
 -- the node n tells its peer m, whose bit for the edge is k
 abbrev pub marked : CoreState → ℕ → ℕ → ℕ → ℕ → CoreState
-marked c n e m k = put_node (put_node c m (told k (node_at c m))) n
+marked c n e m k = put_node (put_node c m (with_bit k (node_at c m))) n
     (telling e (spent (node_at c m).word) (node_at c n))
 
 -- whether the node is to look at the edge: it was, or its word says so
@@ -156,8 +157,8 @@ abbrev pub born : NodeState → NodeState
 born nd = record nd { word = bit_xor nd.word (2 ^ 60 + 2 ^ 61); tokens = nd.tokens - 1 }
 
 -- other tokens of the node, and another pending number
-abbrev pub counted : CoreState → ℕ → ℕ → ℕ → CoreState
-counted c n tokens pending = record (put_node c n (record (node_at c n) { tokens = tokens })) {
+abbrev pub with_tokens : CoreState → ℕ → ℕ → ℕ → CoreState
+with_tokens c n tokens pending = record (put_node c n (record (node_at c n) { tokens = tokens })) {
   pending = pending;
 }
 
@@ -166,7 +167,7 @@ is_worker c n = not (nat_lt n c.sizes.nodes) && nat_lt n (c.sizes.nodes + c.size
 
 -- the condition of a step of the seat n
 abbrev pub may : CoreState → ℕ → Step → Bool
-may c n (step.Look e) = holds c n e
+may c n (step.Look e) = is_held_end c n e
 may c n (step.Want e) = may_act Want c n e
 may c n (step.Unwant e) = may_act Unwant c n e
 may c n (step.Push e x) = may_act (Push x) c n e
@@ -202,8 +203,8 @@ after c n step.Begin = put_node c n (taken c n (spent (node_at c n).word))
 after c n step.Again = put_node c n (taken c n 0)
 after c n step.Rest = cond ((node_at c n).word == 2 ^ 62) (put_node c n (left 0 (node_at c n))) c
 after c n step.Over = put_node c n (left (2 ^ 63) (node_at c n))
-after c n step.TokenIn = counted c n ((node_at c n).tokens + 1) (c.pending + 1)
-after c n step.TokenOut = counted c n ((node_at c n).tokens - 1) (c.pending - 1)
+after c n step.TokenIn = with_tokens c n ((node_at c n).tokens + 1) (c.pending + 1)
+after c n step.TokenOut = with_tokens c n ((node_at c n).tokens - 1) (c.pending - 1)
 after c n (step.Wire e w) = cond (is_none (port_at c e).wire) (learned (wiring c e w) n e) c
 after c n (step.Wired e) = cond (names n (port_at c e).wire) (learned c n e) c
 after c n step.Birth = put_node c n (born (node_at c n))
@@ -224,16 +225,16 @@ pub data Seen : Type 0 where
   quiet : Seen
   stopped : Seen
 
-pub data Answer : Type 0 where
-  nothing : Answer
-  flags : Flags → Answer
-  marked_peer : Marked → Answer
+pub data StepAnswer : Type 0 where
+  nothing : StepAnswer
+  flags : Flags → StepAnswer
+  marked_peer : Marked → StepAnswer
   -- the node's word, whose bits name the updated ports
-  updated : ℕ → Answer
-  is_idle : Bool → Answer
+  updated : ℕ → StepAnswer
+  is_idle : Bool → StepAnswer
   -- the wire that was there before
-  wired : Option Wire → Answer
-  seen : Seen → Answer
+  wired : Option Wire → StepAnswer
+  seen : Seen → StepAnswer
 
 abbrev pub marked_by : ℕ → Marked
 marked_by w = cond (w == 0) charged (cond (is_over w) over already_due)
@@ -241,7 +242,7 @@ marked_by w = cond (w == 0) charged (cond (is_over w) over already_due)
 abbrev pub seen_in : CoreState → Seen
 seen_in c = cond c.stopped stopped (cond (c.pending == 0) quiet (pending c.pending))
 
-abbrev pub answer : CoreState → ℕ → Step → Answer
+abbrev pub answer : CoreState → ℕ → Step → StepAnswer
 answer c n (step.Look e) = flags (port_at c e).flags
 answer c n (step.Mark e) = marked_peer (marked_by (node_at c (peer_in n (port_at c e).wire)).word)
 answer c n step.Begin = updated (node_at c n).word

@@ -2,6 +2,7 @@
 use Rattle.std.specs.Prelude.{ℕ, ◌+◌, ◌==◌, ◌||◌, ◌&&◌, not, cond, Bool, true, false, nat_lt, nat_le, List, [], ◌∷◌, ◌++◌, map, Option, Some, None, slice_index_or, slice_set}
 use Rattle.std.specs.Int.{bit_at}
 use Rattle.std.specs.List.{list_any, filter}
+use Rattle.port_word.specs.Pictures.{no_flags}
 pub use Rattle.port_word.specs.declared.flags.Flags.{Flags}
 pub use Rattle.port_word.specs.declared.flags.Wire.{Wire}
 pub use Rattle.port_word.specs.declared.flags.Reserve.{Reserve}
@@ -11,17 +12,11 @@ pub use Rattle.core_laws.specs.declared.types.PortState.{PortState}
 pub use Rattle.core_laws.specs.declared.types.NodeState.{NodeState}
 pub use Rattle.core_laws.specs.declared.types.CoreState.{CoreState}
 
-abbrev pub no_flags : Flags
-no_flags = record { needed = false; has_data = false; fin_out = false; fin_in = false }
-
 abbrev pub no_port : PortState
 no_port = record { flags = no_flags; slot = None; pushed = []; pulled = []; wire = None }
 
 abbrev pub no_node : NodeState
 no_node = record { word = 0; held = false; tokens = 0; seen = []; unlooked = []; owes = [] }
-
-abbrev pub no_wire : Wire
-no_wire = record { from = 0; out = 0; to = 0; input = 0 }
 
 abbrev pub node_of : List NodeState → ℕ → NodeState
 node_of nodes n = slice_index_or nodes n no_node
@@ -41,9 +36,9 @@ put_node c n nd = record c { nodes = slice_set c.nodes n nd }
 abbrev pub put_port : CoreState → ℕ → PortState → CoreState
 put_port c e p = record c { ports = slice_set c.ports e p }
 
-abbrev pub listed : Option ℕ → List ℕ
-listed None = []
-listed (Some x) = x ∷ []
+abbrev pub list_of_option : Option ℕ → List ℕ
+list_of_option None = []
+list_of_option (Some x) = x ∷ []
 
 -- ---- sets of edges, as lists
 
@@ -126,6 +121,6 @@ edge_in e r = nat_le r.first_edge e && nat_lt e (r.first_edge + r.edges)
 abbrev pub may_wire : List Reserve → ℕ → Wire → Bool
 may_wire rs e w = list_any (λ r. edge_in e r && (of_reserve w.from r && of_reserve w.to r)) rs
 
-abbrev pub reserved_edges : List Reserve → ℕ
-reserved_edges [] = 0
-reserved_edges (r ∷ rs) = r.edges + reserved_edges rs
+abbrev pub reserved_edge_count : List Reserve → ℕ
+reserved_edge_count [] = 0
+reserved_edge_count (r ∷ rs) = r.edges + reserved_edge_count rs

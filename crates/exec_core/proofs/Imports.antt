@@ -3,8 +3,8 @@ pub use Rattle.core_laws.proofs.Kept.{laws-kept, marks-of, pending-most, some-pe
 pub use Rattle.core_laws.proofs.Starts.{start-laws}
 pub use Rattle.core_laws.specs.Laws.{Laws}
 pub use Rattle.core_laws.specs.Start.{charged, fits, fresh_sight, is_end_among, start_node, start_port}
-pub use Rattle.core_laws.specs.Steps.{after, is_updated, may, told}
-pub use Rattle.core_laws.specs.Views.{edges_of, flags_at, no_node, node_at, put_node, reserved_edges, seeing, without}
+pub use Rattle.core_laws.specs.Steps.{after, is_updated, may, with_bit}
+pub use Rattle.core_laws.specs.Views.{edges_of, flags_at, no_node, node_at, put_node, reserved_edge_count, seeing, without}
 pub use Rattle.core_laws.specs.declared.types.CoreState.{CoreState}
 pub use Rattle.core_laws.specs.declared.types.Event.{Event}
 pub use Rattle.core_laws.specs.declared.types.Sight.{Sight}

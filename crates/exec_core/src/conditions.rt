@@ -1,7 +1,7 @@
 //! The condition of each kind of step.
 ghost use Rattle.std.specs.Prelude.{◌≡◌};
 ghost use Rattle.core_laws.specs.Views.{wire_ok as wire_ok_there, may_wire as may_wire_there, of_reserve as of_reserve_there, edge_in as edge_in_there};
-ghost use Rattle.core_laws.specs.Steps.{holds as holds_there, may_act as may_act_there, is_here as is_here_there, is_edge as is_edge_there, may_begin as may_begin_there, may_leave as may_leave_there, may};
+ghost use Rattle.core_laws.specs.Steps.{is_held_end as holds_there, may_act as may_act_there, is_here as is_here_there, is_edge as is_edge_there, may_begin as may_begin_there, may_leave as may_leave_there, may};
 ghost use Rattle.core_laws.specs.declared.types.Step.TheVariants as step;
 
 use crate::lookups::{flags_at, has, is_end, is_set, knows, node, port};

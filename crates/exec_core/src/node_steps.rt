@@ -3,7 +3,7 @@
 ghost use Rattle.std.specs.Prelude.{◌≡◌, ◌≢◌, ◌+◌, ◌*◌, ◌^◌, ◌<◌, ◌≤◌, true, length, bit_or, bit_xor, IfOk};
 ghost use Rattle.core_laws.specs.Views.{node_at, put_node};
 ghost use Rattle.core_laws.specs.Laws.{Laws};
-ghost use Rattle.core_laws.specs.Steps.{is_updated as is_updated_there, taken, left as left_there, spent as spent_there, told as told_there, counted as counted_there, learned, wiring as wiring_there, may, after};
+ghost use Rattle.core_laws.specs.Steps.{is_updated as is_updated_there, taken, left as left_there, spent as spent_there, with_bit as told_there, with_tokens as counted_there, learned, wiring as wiring_there, may, after};
 ghost use Rattle.core_laws.specs.declared.types.Step.TheVariants as step;
 
 use crate::lookups::{NO_FLAGS, bit_at_end, has, is_set, knows, node, peer_in, port, wire_of};

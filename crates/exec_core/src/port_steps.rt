@@ -2,7 +2,7 @@
 //! is the whole of what is made; the one beside it is what the law of its name asks of it.
 ghost use Rattle.std.specs.Prelude.{◌≡◌, true, false, IfOk};
 ghost use Rattle.core_laws.specs.Views.{node_at, port_at, seeing};
-ghost use Rattle.core_laws.specs.Steps.{acting_end as acting_end_there, allows as allows_there, changed as changed_there, tells as tells_there, port_after as port_after_there, holds, acted, after};
+ghost use Rattle.core_laws.specs.Steps.{acting_end as acting_end_there, allows as allows_there, changed as changed_there, tells as tells_there, port_after as port_after_there, is_held_end, acted, after};
 ghost use Rattle.core_laws.specs.declared.types.Act.TheVariants.{Pull};
 ghost use Rattle.core_laws.specs.declared.types.Step.TheVariants as step;
 
@@ -16,7 +16,7 @@ use std::alloc::Global;
 
 /// The step `look`.
 pub(crate) fn look(alloc: Global, core: CoreState, n: u32, e: u32) -> CoreState
-    requires { holds core n e ≡ true }
+    requires { is_held_end core n e ≡ true }
     ensures sees { (node_at result n).seen ≡ seeing e (port_at core e).flags (node_at core n).seen }
     ensures exact { result ≡ after core n (step.Look e) }
 {
@@ -106,7 +106,7 @@ pub(crate) fn act_on(
     n: u32,
     e: u32,
 ) -> Result<CoreState, Memory>
-    requires { holds core n e ≡ true }
+    requires { is_held_end core n e ≡ true }
     ensures { IfOk result (λ c. c ≡ acted act core n e) }
 {
     let tells = tells(act, port(&core, e).flags);

@@ -1,7 +1,7 @@
 //! The state at the start.
 ghost use Rattle.std.specs.Prelude.{◌≡◌, ◌≤◌, ◌+◌, IfOk, length, true};
-ghost use Rattle.core_laws.specs.Views.{edges_of as edges_there, reserved_edges as reserved_there, counts as counts_there};
-ghost use Rattle.core_laws.specs.Start.{fits, start_port as start_port_there, ports_of as ports_there, start_node as start_node_there, start_word as start_word_there, charged as charged_there, has_output as has_output_there, is_reserved as is_reserved_there, start as start_there};
+ghost use Rattle.core_laws.specs.Views.{edges_of as edges_there, reserved_edge_count as reserved_there, counts as counts_there};
+ghost use Rattle.core_laws.specs.Start.{fits, start_port as start_port_there, sights_of as ports_there, start_node as start_node_there, start_word as start_word_there, charged as charged_there, has_output_edge as has_output_there, is_reserved_node as is_reserved_there, start as start_there};
 ghost use Rattle.core_laws.specs.Laws.{Laws};
 
 use crate::lookups::{NO_FLAGS, is_set, names};

@@ -120,16 +120,16 @@ neither true b e = absurd (cc)
 neither false b e = (refl, e)
 
 -- a picture that is sound, and whose actions explain it
-pub record Holds (ins : ℕ → Flags) (chunks : ℕ → Option Table) (outs : ℕ → Flags)
+pub record PictureHolds (ins : ℕ → Flags) (chunks : ℕ → Option Table) (outs : ℕ → Flags)
     (p : Picture) : Type 0 where
   pub sound : IsSound p
   pub explains : Explains ins chunks outs p.actions p
 
 pub holds-call : (ins : ℕ → Flags) (chunks : ℕ → Option Table) (outs : ℕ → Flags) (c : PortCall)
-    (p : Picture) → Holds ins chunks outs p → Holds ins chunks outs (after_call c p)
+    (p : Picture) → PictureHolds ins chunks outs p → PictureHolds ins chunks outs (after_call c p)
 unfolding with_actions with_input with_output
 holds-call ins chunks outs (pull_call i) p h =
-    cond-case (Holds ins chunks outs) (holds_data (input_at p i).flags)
+    cond-case (PictureHolds ins chunks outs) (holds_data (input_at p i).flags)
     (noted (with_input p i (emptied (input_at p i))) (Pull i)) p
     (λ e. let b = both (input_at p i).flags.has_data (input_at p i).flags.fin_in e in
     let lt : i < in_count p = open-in-range p i b.1 in
@@ -141,7 +141,8 @@ holds-call ins chunks outs (pull_call i) p h =
     })
     (λ e. h)
 holds-call ins chunks outs (need_call i true) p h =
-    cond-case (Holds ins chunks outs) ((input_at p i).flags.fin_in || (input_at p i).flags.needed) p
+    cond-case (PictureHolds ins chunks outs)
+    ((input_at p i).flags.fin_in || (input_at p i).flags.needed) p
     (with_actions (with_input p i (with_needed (input_at p i) true))
     (noted_want i true p.actions))
     (λ e. h)
@@ -153,7 +154,7 @@ holds-call ins chunks outs (need_call i true) p h =
           explains-want ins chunks outs p i true h.sound.once lt b.0 h.explains;
     })
 holds-call ins chunks outs (need_call i false) p h =
-    cond-case (Holds ins chunks outs)
+    cond-case (PictureHolds ins chunks outs)
     ((input_at p i).flags.fin_in || not (input_at p i).flags.needed) p (with_actions
     (with_input p i (with_needed (input_at p i) false)) (noted_want i false p.actions))
     (λ e. h)
@@ -165,7 +166,7 @@ holds-call ins chunks outs (need_call i false) p h =
           explains-want ins chunks outs p i false h.sound.once lt b.0 h.explains;
     })
 holds-call ins chunks outs (close_call i) p h =
-    cond-case (Holds ins chunks outs) (input_at p i).flags.fin_in p
+    cond-case (PictureHolds ins chunks outs) (input_at p i).flags.fin_in p
     (noted (with_input p i (closed (input_at p i))) (Close i))
     (λ e. h)
     (λ e. let lt : i < in_count p = open-in-range p i e in
@@ -176,7 +177,7 @@ holds-call ins chunks outs (close_call i) p h =
           (Close i) (steps-close p i lt e) h.explains;
     })
 holds-call ins chunks outs (push_call o chunk) p h =
-    cond-case (Holds ins chunks outs) (can_push (output_at p o))
+    cond-case (PictureHolds ins chunks outs) (can_push (output_at p o))
     (noted (with_output p o (record (output_at p o) { has_data = true })) (Push o chunk)) p
     (λ e. let b = may (output_at p o) e in
     let lt : o < out_count p = open-out-range p o b.1 in
@@ -188,7 +189,7 @@ holds-call ins chunks outs (push_call o chunk) p h =
     })
     (λ e. h)
 holds-call ins chunks outs (finish_call o) p h =
-    cond-case (Holds ins chunks outs) (is_out_finished (output_at p o)) p
+    cond-case (PictureHolds ins chunks outs) (is_out_finished (output_at p o)) p
     (noted (with_output p o (record (output_at p o) { fin_out = true })) (Finish o))
     (λ e. h)
     (λ e. let b = neither (output_at p o).fin_out (output_at p o).fin_in e in
@@ -201,7 +202,8 @@ holds-call ins chunks outs (finish_call o) p h =
     })
 
 pub holds-calls : (ins : ℕ → Flags) (chunks : ℕ → Option Table) (outs : ℕ → Flags) (calls : List
-    PortCall) (p : Picture) → Holds ins chunks outs p → Holds ins chunks outs (after_calls calls p)
+    PortCall) (p : Picture) → PictureHolds ins chunks outs p
+    → PictureHolds ins chunks outs (after_calls calls p)
 holds-calls ins chunks outs [] p h = h
 holds-calls ins chunks outs (c ∷ calls) p h =
     holds-calls ins chunks outs calls (after_call c p) (holds-call ins chunks outs c p h)
@@ -212,10 +214,10 @@ explains-itself p e = search (arith)
 
 -- from a picture without actions, calls leave a sound picture whose actions are all that changed
 pub difference-calls : (before after : Picture) → IsSound before → before.actions ≡ []
-    → ChangedByCalls before after → Holds (λ i. (input_at before i).flags)
+    → ChangedByCalls before after → PictureHolds (λ i. (input_at before i).flags)
     (λ i. (input_at before i).chunk) (λ o. output_at before o) after
 difference-calls before after s e c =
-    subst (λ p. Holds (λ i. (input_at before i).flags) (λ i. (input_at before i).chunk)
+    subst (λ p. PictureHolds (λ i. (input_at before i).flags) (λ i. (input_at before i).chunk)
     (λ o. output_at before o) p) (sym c.gives)
     (holds-calls _ _ _ c.calls before (record { sound = s; explains = explains-itself before e }))
 

@@ -1,5 +1,5 @@
 -- Each call leaves room for the actions that may still come.
-use Rattle.port_word.proofs.Imports.{Action, Bool, Close, Finish, Fits, Flags, InputPort, IsDone, IsSound, List, None, Option, Picture, Pull, Push, Table, [], action_room, arith, closed, emptied, false, get_or, get_or_append_left, get_or_default, holds_data, in_count, input_at, is_some, length, length-append, length-replicate, length-set, new_input, new_picture, no_flags, no_input, noted, noted_want, out_count, output_at, over_flags, replicate, set, subst, suc, sym, true, with_actions, with_input, with_needed, with_output, zero, ℕ, ◌++◌, ◌+◌, ◌<◌, ◌∙◌, ◌∷◌, ◌≡◌, ◌≤◌}
+use Rattle.port_word.proofs.Imports.{Action, Bool, Close, Finish, Fits, Flags, InputPort, IsSound, List, None, Option, Picture, Pull, Push, ShowsInFlags, Table, [], action_room, arith, closed, emptied, false, get_or, get_or_append_left, get_or_default, holds_data, in_count, input_at, is_some, length, length-append, length-replicate, length-set, new_input, new_picture, no_flags, no_input, noted, noted_want, out_count, output_at, over_flags, replicate, set, subst, suc, sym, true, with_actions, with_input, with_needed, with_output, zero, ℕ, ◌++◌, ◌+◌, ◌<◌, ◌∙◌, ◌∷◌, ◌≡◌, ◌≤◌}
 use Rattle.port_word.proofs.Slots.{each-map}
 use Rattle.port_word.proofs.Soundness.{Follows, done-follows, actions-fit, sound-pull, sound-close, sound-push, sound-finish, sound-want}
 
@@ -269,7 +269,8 @@ sound-grow p m n s =
     } in
     record {
       done =
-          each-map (IsDone p) (IsDone q) p.actions (done-follows p q (follows-grow p m n)) s.done;
+          each-map (ShowsInFlags p) (ShowsInFlags q) p.actions
+          (done-follows p q (follows-grow p m n)) s.done;
       once = s.once;
       held = λ i. grown-at (λ x. holds_data x.flags ≡ true → is_some x.chunk ≡ true) p.inputs m i
           new_input no_input (λ e. cc) (λ e. cc) (s.held i);

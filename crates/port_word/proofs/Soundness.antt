@@ -1,5 +1,5 @@
 -- Each call keeps what is true of every picture.
-use Rattle.port_word.proofs.Imports.{Action, Bool, Close, EachAction, Finish, Flags, InputPort, IsDone, IsOnce, IsSound, List, Picture, Pull, Push, Table, Unwant, Want, [], action_room, action_slot, ap, arith, cases_eq, closed, emptied, false, holds_data, in_count, input_at, is_some, length, noted, noted_want, out_count, output_at, refl, sym, true, with_actions, with_input, with_needed, with_output, ℕ, ◌*◌, ◌++◌, ◌+◌, ◌<◌, ◌∙◌, ◌∷◌, ◌≡◌, ◌≢◌, ◌≤◌}
+use Rattle.port_word.proofs.Imports.{Action, Bool, Close, EachAction, Finish, Flags, InputPort, IsOnce, IsSound, List, Picture, Pull, Push, ShowsInFlags, Table, Unwant, Want, [], action_room, action_slot, ap, arith, cases_eq, closed, emptied, false, holds_data, in_count, input_at, is_some, length, noted, noted_want, out_count, output_at, refl, sym, true, with_actions, with_input, with_needed, with_output, ℕ, ◌*◌, ◌++◌, ◌+◌, ◌<◌, ◌∙◌, ◌∷◌, ◌≡◌, ◌≢◌, ◌≤◌}
 use Rattle.port_word.proofs.Laws.{input_at-with_input, input_at-with_input-other, output_at-with_output, output_at-with_output-other, output_at-with_input, input_at-with_output, in_count-with_input, out_count-with_input, in_count-with_output, out_count-with_output, input_at-with_actions, output_at-with_actions, in_count-with_actions, out_count-with_actions}
 use Rattle.port_word.proofs.Slots.{each-append, each-map, once-append, once-fits, each-noted_want, once-noted_want}
 
@@ -16,7 +16,8 @@ pub record Follows (p q : Picture) : Type 0 where
   pub over : (o : ℕ) → o < out_count p → (output_at p o).fin_out ≡ true
       → (output_at q o).fin_out ≡ true
 
-pub done-follows : (p q : Picture) → Follows p q → (a : Action) → IsDone p a → IsDone q a
+pub done-follows : (p q : Picture) → Follows p q → (a : Action) → ShowsInFlags p a
+    → ShowsInFlags q a
 done-follows p q f (Want i) d = omega (arith, f.ins)
 done-follows p q f (Unwant i) d = omega (arith, f.ins)
 done-follows p q f (Pull i) d = (omega (arith, f.ins, d.0), f.empty i d.0 d.1)
@@ -91,7 +92,8 @@ follows-output p o x actions t = record {
 }
 
 sound-input : (p : Picture) (i : ℕ) (x : InputPort) (actions : List Action) → IsSound p → InputTurns
-    p i x → IsOnce actions → EachAction (IsDone (with_actions (with_input p i x) actions)) actions
+    p i x → IsOnce actions → EachAction (ShowsInFlags (with_actions (with_input p i x) actions))
+    actions
     → IsSound (with_actions (with_input p i x) actions)
 unfolding with_actions
 sound-input p i x actions s t once done = record {
@@ -104,22 +106,22 @@ sound-input p i x actions s t once done = record {
 }
 
 sound-output : (p : Picture) (o : ℕ) (f : Flags) (actions : List Action) → IsSound p
-    → IsOnce actions → EachAction (IsDone (with_actions (with_output p o f) actions)) actions
+    → IsOnce actions → EachAction (ShowsInFlags (with_actions (with_output p o f) actions)) actions
     → IsSound (with_actions (with_output p o f) actions)
 unfolding with_actions with_output input_at
 sound-output p o f actions s once done = search (arith)
 
 -- an action whose slot no other has goes last
 sound-noted-input : (p : Picture) (i : ℕ) (x : InputPort) (a : Action) → IsSound p
-    → InputTurns p i x → ((b : Action) → IsDone p b → action_slot b ≢ action_slot a)
-    → IsDone (noted (with_input p i x) a) a → IsSound (noted (with_input p i x) a)
+    → InputTurns p i x → ((b : Action) → ShowsInFlags p b → action_slot b ≢ action_slot a)
+    → ShowsInFlags (noted (with_input p i x) a) a → IsSound (noted (with_input p i x) a)
 unfolding with_input
 sound-noted-input p i x a s t fresh d =
     search (arith, sound-input, once-append, each-map, each-append, done-follows, follows-input)
 
 sound-noted-output : (p : Picture) (o : ℕ) (f : Flags) (a : Action) → IsSound p → OutputTurns p o f
-    → ((b : Action) → IsDone p b → action_slot b ≢ action_slot a)
-    → IsDone (noted (with_output p o f) a) a → IsSound (noted (with_output p o f) a)
+    → ((b : Action) → ShowsInFlags p b → action_slot b ≢ action_slot a)
+    → ShowsInFlags (noted (with_output p o f) a) a → IsSound (noted (with_output p o f) a)
 unfolding with_output
 sound-noted-output p o f a s t fresh d =
     search (arith, sound-output, once-append, each-map, each-append, done-follows, follows-output)
@@ -129,8 +131,8 @@ pub sound-want : (p : Picture) (i : ℕ) (b : Bool) → IsSound p → i < in_cou
 sound-want p i b s lt = search
     (arith, follows-input, sound-input, once-noted_want, each-noted_want, each-map, done-follows)
 
-fresh-push : (p : Picture) (o : ℕ) → (output_at p o).has_data ≡ false → (a : Action) → IsDone p a
-    → action_slot a ≢ 5 * o + 3
+fresh-push : (p : Picture) (o : ℕ) → (output_at p o).has_data ≡ false → (a : Action)
+    → ShowsInFlags p a → action_slot a ≢ 5 * o + 3
 fresh-push p i h (Want j) d = λ e. omega arith
 fresh-push p i h (Unwant j) d = λ e. omega arith
 fresh-push p i h (Pull j) d = λ e. omega arith
@@ -138,8 +140,8 @@ fresh-push p i h (Close j) d = λ e. omega arith
 fresh-push p i h (Push j chunk) d = λ e. let k : j ≡ i = omega arith in cc (h, d.1, k)
 fresh-push p i h (Finish j) d = λ e. omega arith
 
-fresh-finish : (p : Picture) (o : ℕ) → (output_at p o).fin_out ≡ false → (a : Action) → IsDone p a
-    → action_slot a ≢ 5 * o + 4
+fresh-finish : (p : Picture) (o : ℕ) → (output_at p o).fin_out ≡ false → (a : Action)
+    → ShowsInFlags p a → action_slot a ≢ 5 * o + 4
 fresh-finish p i h (Want j) d = λ e. omega arith
 fresh-finish p i h (Unwant j) d = λ e. omega arith
 fresh-finish p i h (Pull j) d = λ e. omega arith

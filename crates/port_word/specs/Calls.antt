@@ -63,6 +63,6 @@ after_grow p inputs outputs =
     }
 
 -- the first action is taken; nothing changes, and none comes, exactly where there is none
-abbrev pub TakesFirst : Picture → Option Action → Picture → Type 0
-TakesFirst p None q = (p.actions ≡ []) × (q ≡ p)
-TakesFirst p (Some a) q = (p.actions ≡ a ∷ q.actions) × (q ≡ with_actions p q.actions)
+abbrev pub TakesFirstAction : Picture → Option Action → Picture → Type 0
+TakesFirstAction p None q = (p.actions ≡ []) × (q ≡ p)
+TakesFirstAction p (Some a) q = (p.actions ≡ a ∷ q.actions) × (q ≡ with_actions p q.actions)

@@ -1,6 +1,7 @@
 -- A node's picture of its ports, as plain data, and the words by which contracts read it.
 use Rattle.std.specs.Prelude.{◌&&◌, ◌||◌}
 use Rattle.port_word.specs.Prelude.{Action, Bool, Flags, InputPort, List, None, false, length, not, slice_index_or, slice_set, true, ℕ}
+use Rattle.port_word.specs.declared.flags.Wire.{Wire}
 
 -- each input with its flags and its chunk, the flags of each output, and the actions not yet
 -- carried out
@@ -61,3 +62,6 @@ can_push f = f.needed && (not f.has_data && not f.fin_out)
 -- a finished flag of the port is set
 abbrev pub is_out_finished : Flags → Bool
 is_out_finished f = f.fin_out || f.fin_in
+
+abbrev pub no_wire : Wire
+no_wire = record { from = 0; out = 0; to = 0; input = 0 }

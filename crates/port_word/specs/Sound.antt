@@ -5,18 +5,18 @@ use Rattle.port_word.specs.Pictures.{Picture, input_at, output_at, in_count, out
 use Rattle.port_word.specs.Actions.{EachAction, IsOnce}
 
 -- the action is one of the node's ports', and what it did shows in the flags
-abbrev pub IsDone : Picture → Action → Type 0
-IsDone p (Want i) = i < in_count p
-IsDone p (Unwant i) = i < in_count p
-IsDone p (Pull i) = (i < in_count p) × ((input_at p i).flags.has_data ≡ false)
-IsDone p (Close i) = (i < in_count p) × ((input_at p i).flags.fin_in ≡ true)
-IsDone p (Push o chunk) = (o < out_count p) × ((output_at p o).has_data ≡ true)
-IsDone p (Finish o) = (o < out_count p) × ((output_at p o).fin_out ≡ true)
+abbrev pub ShowsInFlags : Picture → Action → Type 0
+ShowsInFlags p (Want i) = i < in_count p
+ShowsInFlags p (Unwant i) = i < in_count p
+ShowsInFlags p (Pull i) = (i < in_count p) × ((input_at p i).flags.has_data ≡ false)
+ShowsInFlags p (Close i) = (i < in_count p) × ((input_at p i).flags.fin_in ≡ true)
+ShowsInFlags p (Push o chunk) = (o < out_count p) × ((output_at p o).has_data ≡ true)
+ShowsInFlags p (Finish o) = (o < out_count p) × ((output_at p o).fin_out ≡ true)
 
 -- each action shows, each slot has at most one, an open input with data has its chunk, and a chunk
 -- lies only where there is data
 pub record IsSound (p : Picture) : Type 0 where
-  pub done : EachAction (IsDone p) p.actions
+  pub done : EachAction (ShowsInFlags p) p.actions
   pub once : IsOnce p.actions
   pub held : (i : ℕ) → holds_data (input_at p i).flags ≡ true → is_some (input_at p i).chunk ≡ true
   pub shown : (i : ℕ) → is_some (input_at p i).chunk ≡ true → (input_at p i).flags.has_data ≡ true

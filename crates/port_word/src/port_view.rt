@@ -1,5 +1,5 @@
 ghost use Rattle.std.specs.Prelude.{◌≡◌, ◌+◌, ◌<◌, ◌≤◌, ◌++◌, true, false, is_some, IfOk, OnOk, OnErr, IfErr, replicate, vec_capacity, vec_len};
-ghost use Rattle.port_word.specs.Names.{input_at, output_at, in_count, out_count, holds_data, is_in_finished, can_push, is_out_finished, new_input, no_flags, new_picture, after_pull, after_need, after_close, after_push, after_finish, after_grow, TakesFirst, MaySee, after_see, IsSound};
+ghost use Rattle.port_word.specs.Names.{input_at, output_at, in_count, out_count, holds_data, is_in_finished, can_push, is_out_finished, new_input, no_flags, new_picture, after_pull, after_need, after_close, after_push, after_finish, after_grow, TakesFirstAction, MaySee, after_see, IsSound};
 
 use crate::flags::{Action, Flags, Port};
 use crate::notes::{note, note_want};
@@ -262,7 +262,7 @@ impl PortView {
 
     /// Takes the first action that hasn't been taken yet.
     pub fn next_action(&mut self) -> Option<Action>
-        ensures taken { TakesFirst self.old result self.new }
+        ensures taken { TakesFirstAction self.old result self.new }
         ensures sound { IsSound self.new }
     {
         if self.actions.is_empty() {

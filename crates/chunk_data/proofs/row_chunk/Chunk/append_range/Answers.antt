@@ -1,5 +1,5 @@
 use Rattle.chunk_data.proofs.Imports.{AreColumns, ap, arith, drop, length, sym, take, ◌+◌, ◌∙◌, ◌≡◌}
-use Rattle.chunk_data.proofs.Chunks.{all_reach, appended, length_rows, ranges_step}
+use Rattle.chunk_data.proofs.Chunks.{all_reach, append_same, length_rows, ranges_step}
 use Rattle.chunk_data.proofs.row_chunk.Chunk.append_range.Goals as goal
 
 pub append_ranges-requires-clause-in_range : goal.append_ranges-requires-clause-in_range
@@ -32,5 +32,5 @@ returns-clause-ok c =
     (ranges_step _ _ _ _ _ _ _ _ c.args.from c.args.n _ _ c.self.invariant o (omega arith)
     c.deref_mut.ensures.value c.as_slice.ensures.value (omega arith) (omega arith)
     c.in-Some.ensures.1 c.append_ranges.ensures.kinds c.in_ok-append_ranges.ensures.ok).1
-    ∙ appended (ap (λ t. t.rows) c.self.view_is)
+    ∙ append_same (ap (λ t. t.rows) c.self.view_is)
     (ap (λ t. take c.args.n (drop c.args.from t.rows)) c.other.view_is)
