@@ -1,5 +1,5 @@
 -- What holds of a query that no condition refuses.
-use Rattle.query_model.proofs.Imports.{All, All-cons, All-nil, AllByRecursion, ArithOp, Bool, CanBePicked, ColumnRef, ExprOf, FromColumn, HasNoCall, Item, ItemKind, Kind, List, None, Option, Query, Refusal, Schema, Some, [], ambiguous_column, and_parts, arith, arith_kind, bad_join_key, bad_order_key, bare_columns, cond, expr_columns, expr_kind, false, filter, find, first_name, first_of_all, fits_where, flat_map, from_columns, is_call, is_grouped, is_key_of, is_typed, item_kind, length, length-append, list_all, list_any, listed, map, meant, nat_lt, not, not_grouped, not_keys, operands_of, option_map, plain, refl, refusal_of, star_name, table_columns, text_columns, too_wide, true, type_mismatch, typed, ungrouped_names, unknown_column, written, ℕ, ◌++◌, ◌==◌, ◌||◌, ◌∷◌, ◌≡◌, ◌≤◌, join_columns, refusals, output_names}
+use Rattle.query_model.proofs.Imports.{All, All-cons, All-nil, AllByRecursion, ArithOp, Bool, CanBePicked, ColumnRef, ExprOf, FromColumn, HasNoCall, Item, ItemKind, OperandTyping, List, None, Option, Query, Refusal, Schema, Some, [], ambiguous_column, and_parts, arith, arith_typing, bad_join_key, bad_order_key, bare_columns, cond, expr_columns, expr_typing, false, filter, find, first_name, first_of_all, fits_where, flat_map, from_columns, is_call, is_grouped, is_key_of, is_typed, item_typing, length, length-append, list_all, list_any, listed, map, meant, nat_lt, not, not_grouped, not_keys, operands_of, option_map, plain, refl, refusal_of, star_name, table_columns, text_columns, too_wide, true, type_mismatch, typed, ungrouped_names, unknown_column, written, ℕ, ◌++◌, ◌==◌, ◌||◌, ◌∷◌, ◌≡◌, ◌≤◌, join_columns, refusals, output_names}
 use Rattle.query_model.specs.declared.query.ExprOf.TheVariants as expr
 use Rattle.query_model.specs.declared.query.ItemKind.TheVariants as kind
 use Rattle.query_model.specs.declared.query.Refusal.TheVariants as refuse
@@ -12,7 +12,7 @@ none_of_all (None ∷ os) h = (refl, none_of_all os h)
 none_of_all (Some x ∷ os) h = absurd cc
 
 -- none of the conditions stands
-pub record IsAccepted (q : Query) (schemas : List Schema) : Type 0 where
+pub record IsWithoutRefusal (q : Query) (schemas : List Schema) : Type 0 where
   pub known : unknown_column (from_columns q schemas) (text_columns q) ≡ None
   pub one : ambiguous_column (from_columns q schemas) (text_columns q) ≡ None
   pub pairs : bad_join_key (table_columns schemas q.from) (join_columns schemas q.join) q.join
@@ -30,10 +30,10 @@ pub refusal_over : (q : Query) (schemas : List Schema) (columns left right : Lis
 unfolding refusal_of
 refusal_over q schemas columns left right a b c = rw (a, b, c) refl
 
-pub accepted : (q : Query) (schemas : List Schema) → refusal_of q schemas ≡ None
-    → IsAccepted q schemas
+pub unrefused_is_accepted : (q : Query) (schemas : List Schema) → refusal_of q schemas ≡ None
+    → IsWithoutRefusal q schemas
 unfolding refusal_of
-accepted q schemas h =
+unrefused_is_accepted q schemas h =
     let all = none_of_all (refusals schemas (from_columns q schemas) (table_columns schemas q.from)
     (join_columns schemas q.join) q) h in
     let later = all.1.1.1 in
@@ -55,11 +55,11 @@ none_found test f (x ∷ xs) h = search (arith, none_found test f xs)
 
 -- Each name means one column.
 
-pub knows_each : (q : Query) (schemas : List Schema) → IsAccepted q schemas
+pub knows_each : (q : Query) (schemas : List Schema) → IsWithoutRefusal q schemas
     → All (λ c. (length (meant c (from_columns q schemas)) == 0) ≡ false) (text_columns q)
 knows_each q schemas a = search (arith, none_found)
 
-pub tells_each : (q : Query) (schemas : List Schema) → IsAccepted q schemas
+pub tells_each : (q : Query) (schemas : List Schema) → IsWithoutRefusal q schemas
     → All (λ c. nat_lt 1 (length (meant c (from_columns q schemas))) ≡ false) (text_columns q)
 tells_each q schemas a = search (arith, none_found)
 
@@ -69,13 +69,13 @@ unless : (b : Bool) (r : Refusal) → cond b None (Some r) ≡ None → b ≡ tr
 unless true r h = refl
 unless false r h = absurd cc
 
-pub record AllFit (columns : List FromColumn) (q : Query) : Type 0 where
-  pub items : list_all (λ (i : Item). is_typed (item_kind columns i.what)) (listed q.items) ≡ true
+pub record AllTypesFit (columns : List FromColumn) (q : Query) : Type 0 where
+  pub items : list_all (λ (i : Item). is_typed (item_typing columns i.what)) (listed q.items) ≡ true
   pub filter : fits_where columns q.filter ≡ true
   pub having : fits_where columns q.having ≡ true
 
-pub all_fit : (q : Query) (schemas : List Schema) → IsAccepted q schemas
-    → AllFit (from_columns q schemas) q
+pub all_fit : (q : Query) (schemas : List Schema) → IsWithoutRefusal q schemas
+    → AllTypesFit (from_columns q schemas) q
 all_fit q schemas a = search (arith, and_parts, unless)
 
 -- Widths.
@@ -91,7 +91,7 @@ pub record IsNarrow (q : Query) (schemas : List Schema) : Type 0 where
 
 pub narrow : (q : Query) (schemas : List Schema) → refusal_of q schemas ≡ None → IsNarrow q schemas
 narrow q schemas none =
-    let a = accepted q schemas none in
+    let a = unrefused_is_accepted q schemas none in
     let e = length-append (table_columns schemas q.from)
     (join_columns schemas q.join) in
     let width : length (from_columns q schemas) ≤ 64 = search (arith, at_most) in
@@ -129,25 +129,25 @@ none_twice : {A : Type 0} (xs ys : List A) → xs ++ ys ≡ [] → (xs ≡ []) �
 none_twice [] ys h = (refl, h)
 none_twice (x ∷ xs) ys h = absurd cc
 
-untyped_arith : (op : ArithOp) (x y : Kind) → is_typed x ≡ false → is_typed y ≡ false
-    → is_typed (arith_kind op x y) ≡ false
+untyped_arith : (op : ArithOp) (x y : OperandTyping) → is_typed x ≡ false → is_typed y ≡ false
+    → is_typed (arith_typing op x y) ≡ false
 untyped_arith op (typed s) y h k = absurd cc
 untyped_arith op (plain z) (typed t) h k = absurd cc
 untyped_arith op x y h k = refl
 
 no_name : (columns : List FromColumn) (e : ExprOf ColumnRef) → expr_columns e ≡ []
-    → is_typed (expr_kind columns e) ≡ false
-unfolding expr_columns expr_kind
+    → is_typed (expr_typing columns e) ≡ false
+unfolding expr_columns expr_typing
 no_name columns (expr.Column c) h = absurd cc
 no_name columns (expr.Number n) h = refl
 no_name columns (expr.Arith' op p a q b) h =
     let each = none_twice (expr_columns a) (expr_columns b) h in
-    untyped_arith op (expr_kind columns a) (expr_kind columns b) (no_name columns a each.0)
+    untyped_arith op (expr_typing columns a) (expr_typing columns b) (no_name columns a each.0)
     (no_name columns b each.1)
 
 can_be_picked : (columns : List FromColumn) (is_key : ColumnRef → Bool) (k : ItemKind)
-    → not_keys is_key k ≡ [] → is_typed (item_kind columns k) ≡ true → CanBePicked is_key k
-unfolding expr_kind
+    → not_keys is_key k ≡ [] → is_typed (item_typing columns k) ≡ true → CanBePicked is_key k
+unfolding expr_typing
 can_be_picked columns is_key (kind.Plain (expr.Column c)) h t = search (arith)
 can_be_picked columns is_key (kind.Plain (expr.Number n)) h t = absurd cc
 can_be_picked columns is_key (kind.Plain (expr.Arith' op p a q b)) h t =
@@ -156,13 +156,13 @@ can_be_picked columns is_key (kind.Agg call) h t = tt
 
 all_can_be_picked : (columns : List FromColumn) (is_key : ColumnRef → Bool) (items : List Item)
     → flat_map (λ (i : Item). not_keys is_key i.what) items ≡ [] → list_all (λ (i : Item). is_typed
-    (item_kind columns i.what)) items ≡ true → All (λ (i : Item). CanBePicked is_key i.what) items
+    (item_typing columns i.what)) items ≡ true → All (λ (i : Item). CanBePicked is_key i.what) items
 all_can_be_picked columns is_key [] h t = All-nil (λ (i : Item). CanBePicked is_key i.what)
 all_can_be_picked columns is_key (i ∷ items) h t =
     let each = none_twice (not_keys is_key i.what)
     (flat_map (λ (i : Item). not_keys is_key i.what) items) h in
-    let fits = and_parts (is_typed (item_kind columns i.what))
-    (list_all (λ (i : Item). is_typed (item_kind columns i.what)) items) t in
+    let fits = and_parts (is_typed (item_typing columns i.what))
+    (list_all (λ (i : Item). is_typed (item_typing columns i.what)) items) t in
     All-cons (λ (i : Item). CanBePicked is_key i.what) i items (can_be_picked columns is_key i.what
     each.0 fits.0) (all_can_be_picked columns is_key items each.1 fits.1)
 
@@ -182,13 +182,13 @@ no_first (name ∷ names) h = absurd cc
 
 -- in a grouped query each item is a key or a call, and each column of HAVING outside a call is a
 -- key
-pub record AreKeys (columns : List FromColumn) (q : Query) : Type 0 where
+pub record AreKeysOrCalls (columns : List FromColumn) (q : Query) : Type 0 where
   pub items : All (λ (i : Item). CanBePicked (is_key_of columns q.keys) i.what) (listed q.items)
   pub having : All (λ c. is_key_of columns q.keys c ≡ true)
       (flat_map bare_columns (operands_of q.having))
 
-pub are_keys : (q : Query) (schemas : List Schema) → IsAccepted q schemas → is_grouped q ≡ true
-    → AreKeys (from_columns q schemas) q
+pub are_keys : (q : Query) (schemas : List Schema) → IsWithoutRefusal q schemas → is_grouped q
+    ≡ true → AreKeysOrCalls (from_columns q schemas) q
 are_keys q schemas a grouped =
     let columns = from_columns q schemas in
     let is_key : ColumnRef → Bool = λ c. is_key_of columns q.keys c in

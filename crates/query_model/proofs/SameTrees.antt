@@ -1,5 +1,5 @@
 -- Why a query is refused goes by its tree alone: queries of one tree are refused alike.
-use Rattle.query_model.proofs.Imports.{AggOp, Bool, ColumnRef, CondOf, ExprOf, FromColumn, Item, ItemKind, Items, List, Listed, None, Operand, Option, Query, Schema, Some, Star, [], agg_kind, ap, ap₂, arith_kind, bad_order_key, bare_columns, call_kind, calls_in, cond, cond_fits, cond_operands, expr_columns, expr_kind, filter, first_name, first_of_all, fits_where, flat_map, from_columns, is_call, is_grouped, is_some, is_typed, item_columns, item_kind, item_names, join_pairs, join_tables, length, list_all, list_any, listed, map, map-append, name_or, nat_lt, not, not_keys, operand_calls, operand_columns, operand_kind, operands_of, option_map, plain_name, refl, refusal_of, star_name, suc, sym, table_columns, text_columns, total, too_wide, types_fit, ungrouped_names, written, ℕ, ◌&&◌, ◌++◌, ◌+◌, ◌==◌, ◌||◌, ◌∙◌, ◌∷◌, ◌≡◌, arith, Join}
+use Rattle.query_model.proofs.Imports.{AggOp, Bool, ColumnRef, CondOf, ExprOf, FromColumn, Item, ItemKind, Items, List, Listed, None, Operand, Option, Query, Schema, Some, Star, [], agg_typing, ap, ap₂, arith_typing, bad_order_key, bare_columns, call_typing, calls_in, cond, cond_fits, cond_operands, expr_columns, expr_typing, filter, first_name, first_of_all, fits_where, flat_map, from_columns, is_call, is_grouped, is_some, is_typed, item_columns, item_typing, item_names, join_pairs, join_tables, length, list_all, list_any, listed, map, map-append, name_or, nat_lt, not, not_keys, operand_calls, operand_columns, operand_typing, operands_of, option_map, plain_name, refl, refusal_of, star_name, suc, sym, table_columns, text_columns, total, too_wide, types_fit, ungrouped_names, written, ℕ, ◌&&◌, ◌++◌, ◌+◌, ◌==◌, ◌||◌, ◌∙◌, ◌∷◌, ◌≡◌, arith, Join}
 use Rattle.query_model.specs.Formulas.{CallForm, argument_form, call_form, cond_form, formula, operand_form, sides_of}
 use Rattle.query_model.specs.Refusals.{ambiguous_column, argument_columns, bad_join_key, comparable, is_key_of, join_columns, not_grouped, output_names, refusal_unless, type_mismatch, ungrouped_in_items, bare_names, unknown_column, unknown_table, widths}
 use Rattle.query_model.specs.Trees.{ItemTree, QueryTree, item_tree, item_what, query_tree, selection}
@@ -14,10 +14,10 @@ use Rattle.query_model.specs.declared.query.Refusal.TheVariants as refuse
 
 record SameExpr (a b : ExprOf ColumnRef) : Type 0 where
   columns : expr_columns a ≡ expr_columns b
-  kind : (from : List FromColumn) → expr_kind from a ≡ expr_kind from b
+  kind : (from : List FromColumn) → expr_typing from a ≡ expr_typing from b
 
 same_expr : (a b : ExprOf ColumnRef) → formula a ≡ formula b → SameExpr a b
-unfolding expr_columns expr_kind
+unfolding expr_columns expr_typing
 same_expr (expr.Column c) (expr.Column d) e =
     let same : c ≡ d = cc in record { columns = cc; kind = λ from. cc }
 same_expr (expr.Number m) (expr.Number n) e =
@@ -28,20 +28,20 @@ same_expr (expr.Arith' o p a q b) (expr.Arith' u r c s d) e =
     let op : o ≡ u = cc in
     record {
       columns = ap₂ ◌++◌ left.columns right.columns;
-      kind = λ from. rw op (ap₂ (arith_kind u) (left.kind from) (right.kind from));
+      kind = λ from. rw op (ap₂ (arith_typing u) (left.kind from) (right.kind from));
     }
 same_expr a b e = absurd cc
 
 record SameArgument (a b : Option (ExprOf ColumnRef)) : Type 0 where
   columns : argument_columns a ≡ argument_columns b
-  kind : (from : List FromColumn) (op : AggOp) → agg_kind from op a ≡ agg_kind from op b
+  kind : (from : List FromColumn) (op : AggOp) → agg_typing from op a ≡ agg_typing from op b
 
 same_argument : (a b : Option (ExprOf ColumnRef)) → argument_form a ≡ argument_form b
     → SameArgument a b
 same_argument None None e = record { columns = refl; kind = λ from op. refl }
 same_argument (Some a) (Some b) e =
     let same = same_expr a b cc in
-    record { columns = same.columns; kind = λ from op. ap (call_kind op) (same.kind from) }
+    record { columns = same.columns; kind = λ from op. ap (call_typing op) (same.kind from) }
 same_argument a b e = absurd cc
 
 -- ---- sides of comparisons and conditions
@@ -50,7 +50,7 @@ record SameOperand (a b : Operand ColumnRef) : Type 0 where
   columns : operand_columns a ≡ operand_columns b
   bare : bare_columns a ≡ bare_columns b
   calls : operand_calls a ≡ operand_calls b
-  kind : (from : List FromColumn) → operand_kind from a ≡ operand_kind from b
+  kind : (from : List FromColumn) → operand_typing from a ≡ operand_typing from b
 
 same_operand : (a b : Operand ColumnRef) → operand_form a ≡ operand_form b → SameOperand a b
 same_operand (operand.Plain a) (operand.Plain b) e =
@@ -66,7 +66,7 @@ same_operand (operand.Agg a) (operand.Agg b) e =
       columns = same.columns;
       bare = refl;
       calls = refl;
-      kind = λ from. ap (λ op. agg_kind from op a.arg) op ∙ same.kind from b.op;
+      kind = λ from. ap (λ op. agg_typing from op a.arg) op ∙ same.kind from b.op;
     }
 same_operand a b e = absurd cc
 
@@ -138,7 +138,7 @@ same_where a b e = absurd cc
 
 record SameWhat (a b : ItemKind) : Type 0 where
   columns : item_columns a ≡ item_columns b
-  kind : (from : List FromColumn) → item_kind from a ≡ item_kind from b
+  kind : (from : List FromColumn) → item_typing from a ≡ item_typing from b
   call : is_call a ≡ is_call b
   outside : (is_key : ColumnRef → Bool) → not_keys is_key a ≡ not_keys is_key b
   name : (k : ℕ) → plain_name a k ≡ plain_name b k
@@ -177,7 +177,7 @@ same_what (kind.Agg a) (kind.Agg b) e =
     let same = same_argument a.arg b.arg (ap (λ (f : CallForm ColumnRef). f.arg) form) in
     record {
       columns = same.columns;
-      kind = λ from. ap (λ op. agg_kind from op a.arg) op ∙ same.kind from b.op;
+      kind = λ from. ap (λ op. agg_typing from op a.arg) op ∙ same.kind from b.op;
       call = refl;
       outside = λ is_key. refl;
       name = λ k. refl;
@@ -187,8 +187,8 @@ same_what a b e = absurd cc
 record SameListed (xs ys : List Item) : Type 0 where
   columns : flat_map (λ (i : Item). item_columns i.what) xs
       ≡ flat_map (λ (i : Item). item_columns i.what) ys
-  typed : (from : List FromColumn) → list_all (λ (i : Item). is_typed (item_kind from i.what)) xs
-      ≡ list_all (λ (i : Item). is_typed (item_kind from i.what)) ys
+  typed : (from : List FromColumn) → list_all (λ (i : Item). is_typed (item_typing from i.what)) xs
+      ≡ list_all (λ (i : Item). is_typed (item_typing from i.what)) ys
   outside : (is_key : ColumnRef → Bool) → flat_map (λ (i : Item). not_keys is_key i.what) xs
       ≡ flat_map (λ (i : Item). not_keys is_key i.what) ys
   call : list_any (λ (i : Item). is_call i.what) xs ≡ list_any (λ (i : Item). is_call i.what) ys

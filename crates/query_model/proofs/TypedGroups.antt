@@ -1,5 +1,5 @@
 -- The checked query of a query that no condition refuses is typed.
-use Rattle.query_model.proofs.Imports.{AggCall, All, All-append, All-cons, All-head, All-map, All-nil, All-tail, All-weaker, ArePicks, ArePlainItems, Bool, CanBePicked, Checked, ColumnRef, ColumnType, CondOf, EachWith, Expr, FromColumn, Grouping, HasItsArgument, IsAnalysable, IsChecked, IsGrouping, IsItem, IsNoCall, IsPick, IsPlacedCall, IsPlacedItem, IsShape, IsTypedCall, IsTypedGrouping, IsTypedQuery, IsTypedShape, Item, ItemKind, Items, Kind, List, Listed, NamePair, None, Operand, Option, Query, Schema, Shape, Some, Star, [], agg_kind, and_parts, ap, append_assoc, arith, bare_columns, call_type, calls_of, cond, cond_fits, cond_operands, expr_columns, expr_kind, false, filter, fits_where, flat_map, flat_map-append, from_columns, get_or-append-add, group_types, is_grouped, is_key_of, is_typed, item_calls, item_columns, item_kind, join_pairs, key_place, length, length-append, length-map, list_all, list_any, listed, map, means, meant, nat_lt, operand_columns, operands_of, place_in, place_of, plain, query_calls, refl, refusal_of, same_column, slice_index_or, subst, suc, sym, text_columns, true, typed, type_at, types_of, unfit, ℕ, ◌&&◌, ◌++◌, ◌+◌, ◌<◌, ◌==◌, ◌||◌, ◌∙◌, ◌∷◌, ◌≡◌, ◌≤◌}
+use Rattle.query_model.proofs.Imports.{AggCall, All, All-append, All-cons, All-head, All-map, All-nil, All-tail, All-weaker, ArePicks, ArePlainItems, Bool, CanBePicked, Checked, ColumnRef, ColumnType, CondOf, EachWith, Expr, FromColumn, Grouping, HasItsArgument, IsAnalysable, IsChecked, IsGrouping, IsItem, IsNoCall, IsPick, IsPlacedCall, IsPlacedItem, IsShape, IsTypedCall, IsTypedGrouping, IsTypedQuery, IsTypedShape, Item, ItemKind, Items, OperandTyping, List, Listed, NamePair, None, Operand, Option, Query, Schema, Shape, Some, Star, [], agg_typing, and_parts, ap, append_assoc, arith, bare_columns, call_type, calls_of, cond, cond_fits, cond_operands, expr_columns, expr_typing, false, filter, fits_where, flat_map, flat_map-append, from_columns, get_or-append-add, group_types, is_grouped, is_key_of, is_typed, item_calls, item_columns, item_typing, join_pairs, key_place, length, length-append, length-map, list_all, list_any, listed, map, means, meant, nat_lt, operand_columns, operands_of, place_in, place_of, plain, query_calls, refl, refusal_of, same_column, slice_index_or, subst, suc, sym, text_columns, true, typed, type_at, types_of, unfit, ℕ, ◌&&◌, ◌++◌, ◌+◌, ◌<◌, ◌==◌, ◌||◌, ◌∙◌, ◌∷◌, ◌≡◌, ◌≤◌}
 use Rattle.chunk_data.specs.declared.typed_value.ColumnType.TheVariants as column
 use Rattle.query_model.specs.Names.{type_of}
 use Rattle.query_model.specs.declared.query.CondOf.TheVariants as cond'
@@ -11,7 +11,7 @@ use Rattle.query_model.proofs.Placed.{All-front, All-behind}
 use Rattle.query_model.proofs.PlaceLaws.{place_within}
 use Rattle.query_model.proofs.CallLaws.{length_each}
 use Rattle.query_model.proofs.TypedQueries.{IsOfKind, IsFit, IsTypeOf, IsWellPlaced, HaveTypesOf, have_types_both, is_item, columns_are_typed, column_is_of_kind, every_column, expr_is_of_kind, call_is_of_kind, filter_is_typed}
-use Rattle.query_model.proofs.Accepted.{IsAccepted, accepted, knows_each, tells_each, AllFit, all_fit, AreKeys, are_keys}
+use Rattle.query_model.proofs.Accepted.{IsWithoutRefusal, unrefused_is_accepted, knows_each, tells_each, AllTypesFit, all_fit, AreKeysOrCalls, are_keys}
 
 -- Names that mean one column.
 
@@ -104,7 +104,7 @@ module _ (columns : List FromColumn) where
   -- Calls.
 
   abbrev IsFitCall : AggCall ColumnRef → Type 0
-  IsFitCall call = IsFit (agg_kind columns call.op call.arg)
+  IsFitCall call = IsFit (agg_typing columns call.op call.arg)
 
   abbrev ArePlacedCalls : List (AggCall ColumnRef) → List (AggCall ℕ) → Type 0
   ArePlacedCalls calls placed = EachWith (IsPlacedCall place) calls placed
@@ -123,7 +123,7 @@ module _ (columns : List FromColumn) where
   abbrev types_of_calls : List (AggCall ℕ) → List ColumnType
   types_of_calls calls = map (λ (call : AggCall ℕ). call_type call.op call.arg types) calls
 
-  call_type_at : (front rest : List ColumnType) (k : ℕ) (t : ColumnType) (x : Kind)
+  call_type_at : (front rest : List ColumnType) (k : ℕ) (t : ColumnType) (x : OperandTyping)
       → k ≡ length front → IsTypeOf t x → IsOfKind (front ++ t ∷ rest) (expr.Column k) x
   unfolding type_of
   call_type_at front rest k t (plain z) at h = absurd h
@@ -141,7 +141,7 @@ module _ (columns : List FromColumn) where
   calls_have_types front k [] [] at is has = tt
   calls_have_types front k (call ∷ calls) (p ∷ placed) at is has =
       let t = call_type p.op p.arg types in (
-        call_type_at front (types_of_calls placed) k t (agg_kind columns call.op call.arg) at
+        call_type_at front (types_of_calls placed) k t (agg_typing columns call.op call.arg) at
             (call_is_of_kind columns call p (All-head HasItsArgument call calls has) is.0).type,
         subst (λ types. HaveTypesOf types columns (k + 1) calls)
             (append_assoc front (t ∷ []) (types_of_calls placed))
@@ -153,7 +153,7 @@ module _ (columns : List FromColumn) where
   -- The calls of a query whose types fit.
 
   abbrev AreTyped : List Item → Type 0
-  AreTyped items = list_all (λ (i : Item). is_typed (item_kind columns i.what)) items ≡ true
+  AreTyped items = list_all (λ (i : Item). is_typed (item_typing columns i.what)) items ≡ true
 
   abbrev calls_in_items : List Item → List (AggCall ColumnRef)
   calls_in_items items = flat_map (λ (i : Item). item_calls i.what) items
@@ -161,19 +161,19 @@ module _ (columns : List FromColumn) where
   item_calls_fit : (items : List Item) → AreTyped items → All IsFitCall (calls_in_items items)
   item_calls_fit [] h = All-nil IsFitCall
   item_calls_fit (i ∷ items) h =
-      let each = and_parts (is_typed (item_kind columns i.what))
-      (list_all (λ (i : Item). is_typed (item_kind columns i.what)) items) h in
+      let each = and_parts (is_typed (item_typing columns i.what))
+      (list_all (λ (i : Item). is_typed (item_typing columns i.what)) items) h in
       All-append IsFitCall (item_calls i.what) (calls_in_items items) (here i.what each.0)
       (item_calls_fit items each.1)
     where
-      fit_typed : (k : Kind) → is_typed k ≡ true → IsFit k
+      fit_typed : (k : OperandTyping) → is_typed k ≡ true → IsFit k
       fit_typed (typed t) h = tt
       fit_typed k h = absurd cc
 
-      here : (k : ItemKind) → is_typed (item_kind columns k) ≡ true → All IsFitCall (item_calls k)
+      here : (k : ItemKind) → is_typed (item_typing columns k) ≡ true → All IsFitCall (item_calls k)
       here (kind.Plain e) h = All-nil IsFitCall
       here (kind.Agg call) h = All-cons IsFitCall call []
-          (fit_typed (agg_kind columns call.op call.arg) h) (All-nil IsFitCall)
+          (fit_typed (agg_typing columns call.op call.arg) h) (All-nil IsFitCall)
 
   cond_calls_fit : (c : CondOf ColumnRef) → cond_fits columns c ≡ true
       → All IsFitCall (flat_map calls_of (cond_operands c))
@@ -261,9 +261,9 @@ plain_items_typed columns (Listed items) es is h = go items es is h
   where
     here : (k : ItemKind) (alias : Option (List ℕ)) (e : Expr)
         → IsPlacedItem (place_in columns) (record { what = k; alias = alias }) e
-        → is_typed (item_kind columns k) ≡ true → IsItem (types_of columns) e
+        → is_typed (item_typing columns k) ≡ true → IsItem (types_of columns) e
     here (kind.Plain a) alias e is t =
-        is_item (types_of columns) e (expr_kind columns a) (expr_is_of_kind (types_of columns)
+        is_item (types_of columns) e (expr_typing columns a) (expr_is_of_kind (types_of columns)
         columns (place_in columns) a e (every_column columns (expr_columns a)) is) t
     here (kind.Agg call) alias e is t = absurd is
 
@@ -271,14 +271,15 @@ plain_items_typed columns (Listed items) es is h = go items es is h
         → AreTyped columns items → All (IsItem (types_of columns)) es
     go [] [] is h = All-nil (IsItem (types_of columns))
     go (i ∷ items) (e ∷ es) is h =
-        let each = and_parts (is_typed (item_kind columns i.what))
-        (list_all (λ (i : Item). is_typed (item_kind columns i.what)) items) h in
+        let each = and_parts (is_typed (item_typing columns i.what))
+        (list_all (λ (i : Item). is_typed (item_typing columns i.what)) items) h in
         All-cons (IsItem (types_of columns)) e es (here i.what i.alias e is.0 each.0)
         (go items es is.1 each.1)
     go items es is h = absurd is
 
 grouping_typed : (q : Query) (columns : List FromColumn) (g : Grouping) → IsGrouping q columns g
-    → IsAnalysable q → AllFit columns q → AreKeys columns q → All (IsKnown columns) (text_columns q)
+    → IsAnalysable q → AllTypesFit columns q → AreKeysOrCalls columns q
+    → All (IsKnown columns) (text_columns q)
     → All (MeansOne columns) (text_columns q) → IsTypedGrouping (types_of columns) g
 grouping_typed q columns g is can fit are known one =
     let in_items = calls_in_items columns (listed q.items) in
@@ -331,11 +332,11 @@ checked_is_typed q schemas c can none is =
           filter_is_typed (types_of columns) columns (place_in columns) 0 q.filter c.filter
           (every_column columns (flat_map bare_columns (operands_of q.filter)))
           (rw (no_calls (operands_of q.filter) can.filter) tt) is.filter
-          (all_fit q schemas (accepted q schemas none)).filter;
+          (all_fit q schemas (unrefused_is_accepted q schemas none)).filter;
     }
   where
-    ok : IsAccepted q schemas
-    ok = accepted q schemas none
+    ok : IsWithoutRefusal q schemas
+    ok = unrefused_is_accepted q schemas none
 
     shape_typed : (b : Bool) → is_grouped q ≡ b → (s : Shape) → IsShape q
         (from_columns q schemas) b s → IsTypedShape (types_of (from_columns q schemas)) s

@@ -1,5 +1,5 @@
 -- A query whose types fit has typed items and a typed condition, once its names have places.
-use Rattle.query_model.proofs.Imports.{AggCall, AggOp, All, All-head, All-nil, AreColumnsFrom, AreNumbersAlike, ArithOp, Bool, BothOrNone, CanHold, ColumnRef, ColumnType, CompareOp, Cond, CondOf, Count, Expr, ExprOf, FromColumn, HasItsArgument, IsGroupedOperand, IsItem, IsPlaced, IsPlacedCall, IsPlacedCond, IsTyped, IsTypedCall, IsTypedCond, IsTypedFilter, IsTypedOperand, Kind, List, None, Operand, Option, Some, [], agg_kind, and_parts, append-nil, arith, arith_kind, arith_type, bare_columns, call_kind, call_type, calls_of, can_hold, comparable, cond, cond_fits, cond_operands, expr_columns, expr_kind, false, fits_where, flat_map, flat_map-append, is_some, is_text, is_typed, known_kind, length, means, meant_type, not, not-true, operand_kind, operand_type, operands_of, place_in, place_of, plain, number_type, plain_of, plain_type, pos, refl, result_type, same_plain-is, same_type, subst, suc, sym, takes_argument, true, typed, types_of, unfit, ℕ, ℤ, ⊤, ◌&&◌, ◌++◌, ◌+◌, ◌∙◌, ◌∷◌, ◌≡◌, ◌≤◌}
+use Rattle.query_model.proofs.Imports.{AggCall, AggOp, All, All-head, All-nil, AreColumnsFrom, AreNumbersAlike, ArithOp, Bool, BothOrNone, CanHold, ColumnRef, ColumnType, CompareOp, Cond, CondOf, Count, Expr, ExprOf, FromColumn, HasItsArgument, IsGroupedOperand, IsItem, IsPlaced, IsPlacedCall, IsPlacedCond, IsTyped, IsTypedCall, IsTypedCond, IsTypedFilter, IsTypedOperand, OperandTyping, List, None, Operand, Option, Some, [], agg_typing, and_parts, append-nil, arith, arith_typing, arith_type, bare_columns, call_typing, call_type, calls_of, can_hold, comparable, cond, cond_fits, cond_operands, expr_columns, expr_typing, false, fits_where, flat_map, flat_map-append, is_some, is_text, is_typed, known_typing, length, means, meant_type, not, not-true, operand_typing, operand_type, operands_of, place_in, place_of, plain, number_type, plain_of, plain_type, pos, refl, result_type, same_plain-is, same_type, subst, suc, sym, takes_argument, true, typed, types_of, unfit, ℕ, ℤ, ⊤, ◌&&◌, ◌++◌, ◌+◌, ◌∙◌, ◌∷◌, ◌≡◌, ◌≤◌}
 use Rattle.chunk_data.specs.declared.typed_value.PlainType.{PlainType}
 use Rattle.chunk_data.specs.declared.typed_value.PlainType.TheVariants as plain'
 use Rattle.query_model.specs.Names.{type_of}
@@ -12,13 +12,13 @@ use Rattle.query_model.proofs.Placed.{All-front, All-behind}
 use Rattle.query_model.proofs.WorkedRows.{Place}
 
 -- A placed expression is of a kind. Nothing is said of one whose types don't fit.
-abbrev pub IsOfKind : List ColumnType → Expr → Kind → Type 0
+abbrev pub IsOfKind : List ColumnType → Expr → OperandTyping → Type 0
 IsOfKind types e (plain z) = IsTyped types e × (plain_of e ≡ Some z)
 IsOfKind types e (typed t) = IsTyped types e × (plain_of e ≡ None) × (type_of e types ≡ t)
 IsOfKind types e unfit = ⊤
 
 -- the same of a side of a comparison
-abbrev pub IsOperandOfKind : List ColumnType → Operand ℕ → Kind → Type 0
+abbrev pub IsOperandOfKind : List ColumnType → Operand ℕ → OperandTyping → Type 0
 IsOperandOfKind types o (plain z) = IsTypedOperand types o
     × (is_text (operand_type o types) ≡ false)
 IsOperandOfKind types o (typed t) = IsTypedOperand types o × (operand_type o types ≡ t)
@@ -27,7 +27,7 @@ IsOperandOfKind types o unfit = ⊤
 -- A column.
 
 pub column_is_of_kind : (c : ColumnRef) (columns : List FromColumn) → IsOfKind (types_of columns)
-    (expr.Column (place_of (means c) columns)) (known_kind (meant_type columns c))
+    (expr.Column (place_of (means c) columns)) (known_typing (meant_type columns c))
 unfolding type_of
 column_is_of_kind c [] = tt
 column_is_of_kind c (x ∷ columns) = search (arith, column_is_of_kind c columns)
@@ -64,7 +64,7 @@ module _ (types : List ColumnType) where
 
   module _ (op : ArithOp) (p q : Place) (a b : Expr) where
     alike_arith : (s t : ColumnType) → IsOfKind types a (typed s) → IsOfKind types b (typed t)
-        → IsOfKind types (expr.Arith' op p a q b) (arith_kind op (typed s) (typed t))
+        → IsOfKind types (expr.Arith' op p a q b) (arith_typing op (typed s) (typed t))
     unfolding type_of
     alike_arith s t h k = go (same_type s t && not (is_text s)) refl
       where
@@ -75,8 +75,8 @@ module _ (types : List ColumnType) where
             ((h.0, k.0, rw (h.1, k.1, h.2, k.2) alike), refl, rw (h.2, k.2) refl)
         go false e = tt
 
-    arith_is_of_kind : (x y : Kind) → IsOfKind types a x → IsOfKind types b y
-        → IsOfKind types (expr.Arith' op p a q b) (arith_kind op x y)
+    arith_is_of_kind : (x y : OperandTyping) → IsOfKind types a x → IsOfKind types b y
+        → IsOfKind types (expr.Arith' op p a q b) (arith_typing op x y)
     unfolding type_of
     arith_is_of_kind (typed s) (typed t) h k = alike_arith s t h k
     arith_is_of_kind (typed t) (plain z) h k = search (arith, held, type_of_number, type_behind)
@@ -85,21 +85,22 @@ module _ (types : List ColumnType) where
 
   -- Conditions.
 
-  operand_is_of_kind : (e : Expr) (kind : Kind) → IsOfKind types e kind
+  operand_is_of_kind : (e : Expr) (kind : OperandTyping) → IsOfKind types e kind
       → IsOperandOfKind types (operand.Plain e) kind
   operand_is_of_kind e (plain z) h = search (arith, type_of_number)
   operand_is_of_kind e (typed t) h = (h.0, h.2)
   operand_is_of_kind e unfit h = tt
 
-  comparison_is_typed : (op : CompareOp) (a b : Operand ℕ) (x y : Kind) → IsOperandOfKind types a x
-      → IsOperandOfKind types b y → comparable x y ≡ true → IsTypedCond types (cond'.Compare op a b)
+  comparison_is_typed : (op : CompareOp) (a b : Operand ℕ) (x y : OperandTyping)
+      → IsOperandOfKind types a x → IsOperandOfKind types b y → comparable x y ≡ true
+      → IsTypedCond types (cond'.Compare op a b)
   comparison_is_typed op a b (plain y) (plain z) h k e = (h.0, k.0, h.1 ∙ sym k.1)
   comparison_is_typed op a b (typed s) (typed t) h k e = search (arith)
   comparison_is_typed op a b x y h k e = search (arith)
 
   -- Items.
 
-  pub is_item : (e : Expr) (kind : Kind) → IsOfKind types e kind → is_typed kind ≡ true
+  pub is_item : (e : Expr) (kind : OperandTyping) → IsOfKind types e kind → is_typed kind ≡ true
       → IsItem types e
   is_item e (typed t) h k = record { typed = h.0; not_plain = h.1 }
   is_item e kind h k = absurd cc
@@ -117,7 +118,7 @@ module _ (types : List ColumnType) where
 -- a name whose place has the type of its column
 abbrev pub IsWellPlaced : List ColumnType → List FromColumn → (ColumnRef → ℕ) → ColumnRef → Type 0
 IsWellPlaced types columns place c =
-    IsOfKind types (expr.Column (place c)) (known_kind (meant_type columns c))
+    IsOfKind types (expr.Column (place c)) (known_typing (meant_type columns c))
 
 pub every_column : (columns : List FromColumn) (cs : List ColumnRef)
     → All (IsWellPlaced (types_of columns) columns (place_in columns)) cs
@@ -129,54 +130,58 @@ module _ (types : List ColumnType) (columns : List FromColumn) (place : ColumnRe
   Placed c = IsWellPlaced types columns place c
 
   pub expr_is_of_kind : (e : ExprOf ColumnRef) (p : Expr) → All (IsWellPlaced types columns place)
-      (expr_columns e) → IsPlaced place e p → IsOfKind types p (expr_kind columns e)
-  unfolding expr_columns expr_kind
+      (expr_columns e) → IsPlaced place e p → IsOfKind types p (expr_typing columns e)
+  unfolding expr_columns expr_typing
   expr_is_of_kind (expr.Column c) (expr.Column k) h is =
-      subst (λ (n : ℕ). IsOfKind types (expr.Column n) (known_kind (meant_type columns c))) (sym is)
+      subst (λ (n : ℕ). IsOfKind types (expr.Column n) (known_typing (meant_type columns c)))
+      (sym is)
       (All-head Placed c [] h)
   expr_is_of_kind (expr.Number m) (expr.Number n) h is = search (arith)
   expr_is_of_kind (expr.Arith' op p a q b) (expr.Arith' o r c s d) h is =
-      rw is.0 (arith_is_of_kind types o r s c d (expr_kind columns a) (expr_kind columns b)
+      rw is.0 (arith_is_of_kind types o r s c d (expr_typing columns a) (expr_typing columns b)
       (expr_is_of_kind a c (All-front Placed (expr_columns a) (expr_columns b) h) is.1)
       (expr_is_of_kind b d (All-behind Placed (expr_columns a) (expr_columns b) h) is.2))
   expr_is_of_kind e p h is = absurd is
 
 -- types that fit
-abbrev pub IsFit : Kind → Type 0
+abbrev pub IsFit : OperandTyping → Type 0
 IsFit (plain z) = ⊤
 IsFit (typed t) = ⊤
 IsFit unfit = ⊥
 
 -- the type of a call, where its types fit
-abbrev pub IsTypeOf : ColumnType → Kind → Type 0
+abbrev pub IsTypeOf : ColumnType → OperandTyping → Type 0
 IsTypeOf t (plain z) = ⊥
 IsTypeOf t (typed s) = t ≡ s
 IsTypeOf t unfit = ⊤
 
 -- a call that is placed: it is typed where its types fit, and its type is that of its kind
-pub record IsCallOfKind (types : List ColumnType) (call : AggCall ℕ) (kind : Kind) : Type 0 where
+pub record IsCallOfKind (types : List ColumnType) (call : AggCall ℕ) (kind : OperandTyping) : Type
+    0 where
   pub typed : IsFit kind → IsTypedCall types call
   pub type : IsTypeOf (call_type call.op call.arg types) kind
 
-over_argument : (types : List ColumnType) (op : AggOp) (e : Expr) (k : Kind) → true ≡ takes_argument
-    op → IsOfKind types e k → IsCallOfKind types (record { op = op; arg = Some e }) (call_kind op k)
+over_argument : (types : List ColumnType) (op : AggOp) (e : Expr) (k : OperandTyping) → true
+    ≡ takes_argument
+    op → IsOfKind types e k → IsCallOfKind types (record { op = op; arg = Some e })
+    (call_typing op k)
 over_argument types Count e k h is = absurd cc
 over_argument types op e (typed t) h is = search (arith)
 over_argument types op e k h is = record { typed = λ f. absurd f; type = tt }
 
 pub call_is_of_kind : (columns : List FromColumn) (call : AggCall ColumnRef) (placed : AggCall ℕ)
     → HasItsArgument call → IsPlacedCall (place_in columns) call placed
-    → IsCallOfKind (types_of columns) placed (agg_kind columns call.op call.arg)
+    → IsCallOfKind (types_of columns) placed (agg_typing columns call.op call.arg)
 call_is_of_kind columns call placed has is =
     rw (← is.0) (go call.op call.arg placed.arg has is.1)
   where
     go : (op : AggOp) (a : Option (ExprOf ColumnRef)) (p : Option Expr)
         → is_some a ≡ takes_argument op → BothOrNone (IsPlaced (place_in columns)) a p
-        → IsCallOfKind (types_of columns) (record { op = op; arg = p }) (agg_kind columns op a)
+        → IsCallOfKind (types_of columns) (record { op = op; arg = p }) (agg_typing columns op a)
     go Count None None h each = record { typed = λ f. tt; type = refl }
     go op None None h each = absurd cc
     go op (Some e) (Some p) h each =
-        over_argument (types_of columns) op p (expr_kind columns e) h
+        over_argument (types_of columns) op p (expr_typing columns e) h
         (expr_is_of_kind (types_of columns) columns (place_in columns) e p
         (every_column columns (expr_columns e)) each)
     go op a p h each = absurd each
@@ -185,7 +190,7 @@ call_is_of_kind columns call placed has is =
 abbrev pub HaveTypesOf : List ColumnType → List FromColumn → ℕ → List (AggCall ColumnRef) → Type 0
 HaveTypesOf types columns k [] = ⊤
 HaveTypesOf types columns k (call ∷ calls) = IsOfKind types (expr.Column k)
-    (agg_kind columns call.op call.arg) × HaveTypesOf types columns (k + 1) calls
+    (agg_typing columns call.op call.arg) × HaveTypesOf types columns (k + 1) calls
 
 pub have_types_both : (types : List ColumnType) (columns : List FromColumn) (k : ℕ)
     (xs ys : List (AggCall ColumnRef)) → HaveTypesOf types columns k (xs ++ ys)
@@ -205,13 +210,14 @@ module _ (types : List ColumnType) (columns : List FromColumn) (place : ColumnRe
     calls : HaveTypesOf types columns k (flat_map calls_of os)
 
   placed_operand : (k : ℕ) (a : Operand ColumnRef) (b : Operand ℕ) → ArePlaced k (a ∷ [])
-      → IsGroupedOperand place k a b → IsOperandOfKind types b (operand_kind columns a)
+      → IsGroupedOperand place k a b → IsOperandOfKind types b (operand_typing columns a)
   placed_operand k (operand.Plain e) (operand.Plain p) h is =
-      operand_is_of_kind types p (expr_kind columns e)
+      operand_is_of_kind types p (expr_typing columns e)
       (expr_is_of_kind types columns place e p (rw append-nil at h.names) is)
   placed_operand k (operand.Text a) (operand.Text bytes) h is = (tt, refl)
   placed_operand k (operand.Agg call) (operand.Plain (expr.Column c)) h is =
-      rw is (operand_is_of_kind types (expr.Column k) (agg_kind columns call.op call.arg) h.calls.0)
+      rw is (operand_is_of_kind types (expr.Column k) (agg_typing columns call.op call.arg)
+      h.calls.0)
   placed_operand k a b h is = absurd is
 
   two_sides : (k : ℕ) (a b : List (Operand ColumnRef)) → ArePlaced k (a ++ b)
@@ -237,7 +243,7 @@ module _ (types : List ColumnType) (columns : List FromColumn) (place : ColumnRe
   unfolding cond_operands cond_fits
   cond_is_typed k (cond'.Compare op a b) (cond'.Compare op2 c d) h is fits =
       let sides = two_sides k (a ∷ []) (b ∷ []) h in
-      comparison_is_typed types op2 c d (operand_kind columns a) (operand_kind columns b)
+      comparison_is_typed types op2 c d (operand_typing columns a) (operand_typing columns b)
       (placed_operand k a c sides.0 is.1)
       (placed_operand (k + length (calls_of a)) b d (rw append-nil at sides.1) is.2) fits
   cond_is_typed k (cond'.And' p a q b) (cond'.And' r c s d) h is fits =

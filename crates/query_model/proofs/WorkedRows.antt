@@ -67,8 +67,8 @@ abbrev pub text_of : Checked → Database → List ℕ
 text_of q db = answer_text false q.names (limited q.limit (output_rows q db))
 
 -- a query gives a text over the bytes of the parts of one table
-abbrev pub Gives : Checked → List ColumnType → List (List ℕ) → List ℕ → Type 0
-Gives q types parts text = text_of q (table_of types parts ∷ []) ≡ text
+abbrev pub QueryGives : Checked → List ColumnType → List (List ℕ) → List ℕ → Type 0
+QueryGives q types parts text = text_of q (table_of types parts ∷ []) ≡ text
 
 -- where a boxed part of an expression lies says nothing of its value
 abbrev pub Place : Type 0
@@ -76,28 +76,28 @@ Place = Box (Unit {0}) Global
 
 pub texts : (p q r : Place)
     -- SELECT a FROM t, over `7,x` and `7,y`
-    → Gives select_a int_text (codes "7,x\n7,y\n" ∷ []) (codes "7\n7\n")
+    → QueryGives select_a int_text (codes "7,x\n7,y\n" ∷ []) (codes "7\n7\n")
     -- over an empty file
-    × Gives select_a int_text ([] ∷ []) []
+    × QueryGives select_a int_text ([] ∷ []) []
     -- SELECT count(), sum(a), min(b) FROM t, over an empty file
-    × Gives (lone_calls (call Count None ∷ sum_of 0 ∷ call Min (Some (expr.Column 1)) ∷ [])
+    × QueryGives (lone_calls (call Count None ∷ sum_of 0 ∷ call Min (Some (expr.Column 1)) ∷ [])
     (0 ∷ 1 ∷ 2 ∷ [])) int_text ([] ∷ []) (codes "0,0,\"\"\n")
     -- SELECT sum(u) FROM t, over two parts whose sum wraps
-    × Gives (lone_calls (sum_of 0 ∷ []) (0 ∷ [])) (column.UInt64 ∷ [])
+    × QueryGives (lone_calls (sum_of 0 ∷ []) (0 ∷ [])) (column.UInt64 ∷ [])
     (codes "18446744073709551615\n" ∷ codes "2\n" ∷ []) (codes "1\n")
     -- SELECT a, b, c FROM t: the output is the file
-    × Gives (select (expr.Column 0 ∷ expr.Column 1 ∷ expr.Column 2 ∷ []))
+    × QueryGives (select (expr.Column 0 ∷ expr.Column 1 ∷ expr.Column 2 ∷ []))
     (column.Text ∷ column.Text ∷ column.Text ∷ [])
     (codes "\"say \"\"hi\"\"\",\"a,b\",\"x\ny\"\n" ∷ [])
     (codes "\"say \"\"hi\"\"\",\"a,b\",\"x\ny\"\n")
     -- a byte that is no text
-    × Gives (select (expr.Column 0 ∷ [])) (column.Text ∷ []) ((255 ∷ 10 ∷ []) ∷ [])
+    × QueryGives (select (expr.Column 0 ∷ [])) (column.Text ∷ []) ((255 ∷ 10 ∷ []) ∷ [])
     (34 ∷ 255 ∷ 34 ∷ 10 ∷ [])
     -- SELECT a FROM t WHERE a > 5
-    × Gives (select_where (compared compare.Gt (expr.Column 0) (plain_number 5)))
+    × QueryGives (select_where (compared compare.Gt (expr.Column 0) (plain_number 5)))
     (column.Int64 ∷ []) (codes "1\n2\n3\n" ∷ []) []
     -- SELECT k, count(), sum(v) FROM t GROUP BY k, over four parts
-    × Gives (select_from (Grouped (record {
+    × QueryGives (select_from (Grouped (record {
       keys = 0 ∷ [];
       calls = call Count None ∷ sum_of 1 ∷ [];
       having = None;
@@ -105,16 +105,16 @@ pub texts : (p q r : Place)
       lone = false;
     }))) (column.Text ∷ column.Int64 ∷ []) (replicate 4 (codes "x,1\n")) (codes "\"x\",4,4\n")
     -- SELECT a - b, over UInt64 columns
-    × Gives (select (expr.Arith' Sub p (expr.Column 0) q (expr.Column 1) ∷ []))
+    × QueryGives (select (expr.Arith' Sub p (expr.Column 0) q (expr.Column 1) ∷ []))
     (column.UInt64 ∷ column.UInt64 ∷ []) (codes "0,1\n" ∷ []) (codes "-1\n")
     -- SELECT a + 1, over UInt64
-    × Gives (select (expr.Arith' Add p (expr.Column 0) q (plain_number 1) ∷ []))
+    × QueryGives (select (expr.Arith' Add p (expr.Column 0) q (plain_number 1) ∷ []))
     (column.UInt64 ∷ []) (codes "18446744073709551615\n" ∷ []) (codes "0\n")
     -- SELECT a * 2, over Int64
-    × Gives (select (expr.Arith' Mul p (expr.Column 0) q (plain_number 2) ∷ [])) (column.Int64 ∷ [])
-    (codes "4611686018427387904\n" ∷ []) (codes "-9223372036854775808\n")
+    × QueryGives (select (expr.Arith' Mul p (expr.Column 0) q (plain_number 2) ∷ []))
+    (column.Int64 ∷ []) (codes "4611686018427387904\n" ∷ []) (codes "-9223372036854775808\n")
     -- SELECT a FROM t WHERE a < b AND NOT a = 7
-    × Gives (select_where (cond'.And' p (compared compare.Lt (expr.Column 0) (expr.Column 1))
+    × QueryGives (select_where (cond'.And' p (compared compare.Lt (expr.Column 0) (expr.Column 1))
     q (cond'.Not' r (compared compare.Eq (expr.Column 0) (plain_number 7)))))
     (column.Int64 ∷ column.UInt64 ∷ []) (codes "-1,0\n7,9\n5,5\n" ∷ []) (codes "-1\n")
 unfolding meaning_on_literals

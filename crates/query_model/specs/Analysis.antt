@@ -21,12 +21,12 @@ IsNoCall (operand.Text bytes) = ⊤
 IsNoCall (operand.Agg call) = ⊥
 
 -- an operand of HAVING: a column, a plain number, a text or a call
-abbrev pub IsGroupOperand : Operand ColumnRef → Type 0
-IsGroupOperand (operand.Plain (expr.Column c)) = ⊤
-IsGroupOperand (operand.Plain (expr.Number n)) = ⊤
-IsGroupOperand (operand.Plain (expr.Arith' op p a q b)) = ⊥
-IsGroupOperand (operand.Text bytes) = ⊤
-IsGroupOperand (operand.Agg call) = ⊤
+abbrev pub MayBeGroupOperand : Operand ColumnRef → Type 0
+MayBeGroupOperand (operand.Plain (expr.Column c)) = ⊤
+MayBeGroupOperand (operand.Plain (expr.Number n)) = ⊤
+MayBeGroupOperand (operand.Plain (expr.Arith' op p a q b)) = ⊥
+MayBeGroupOperand (operand.Text bytes) = ⊤
+MayBeGroupOperand (operand.Agg call) = ⊤
 
 abbrev pub takes_argument : AggOp → Bool
 takes_argument Count = false
@@ -42,12 +42,12 @@ HasItsArgument call = is_some call.arg ≡ takes_argument call.op
 -- operands of groups.
 pub record IsAnalysable (q : Query) : Type 0 where
   pub filter : All IsNoCall (operands_of q.filter)
-  pub having : All IsGroupOperand (operands_of q.having)
+  pub having : All MayBeGroupOperand (operands_of q.having)
   pub calls : All HasItsArgument (query_calls q)
 
 -- the refusal is the one that is due; want of memory is free
-abbrev pub IsDue : Query → List Schema → Refusal → Type 0
-IsDue q schemas refusal = (refusal ≡ refuse.Memory) ⊎ (refusal_of q schemas ≡ Some refusal)
+abbrev pub IsDueRefusal : Query → List Schema → Refusal → Type 0
+IsDueRefusal q schemas refusal = (refusal ≡ refuse.Memory) ⊎ (refusal_of q schemas ≡ Some refusal)
 
 -- the types of the columns of From
 abbrev pub from_types : Query → List Schema → List ColumnType

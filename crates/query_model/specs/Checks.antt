@@ -3,7 +3,7 @@
 use Rattle.std.specs.Prelude.{if◌then◌else◌, ◌++◌, ◌+◌, ◌==◌, ◌∷◌, ◌≡◌}
 use Rattle.query_model.specs.Prelude.{AggCall, Bool, Checked, CheckedJoin, ColumnRef, ColumnType, CondOf, ExprOf, Grouping, Item, ItemKind, Items, Join, KeyPair, List, Listed, NamePair, None, Operand, Option, OrderKey, Query, Schema, Shape, Some, Star, TableRef, TableUse, [], bytes_eq, false, flat_map, length, map, true, ℕ}
 use Rattle.query_model.specs.Expressions.{Expr, Cond}
-use Rattle.query_model.specs.Refusals.{FromColumn, Kind, typed, means, same_column, table_columns, from_columns, joins, listed, is_grouped, output_names, item_kind, cond_operands, operands_of, types_of}
+use Rattle.query_model.specs.Refusals.{FromColumn, OperandTyping, typed, means, same_column, table_columns, from_columns, joins, listed, is_grouped, output_names, item_typing, cond_operands, operands_of, types_of}
 use Rattle.chunk_data.specs.declared.typed_value.ColumnType.TheVariants as column
 use Rattle.query_model.specs.declared.query.ExprOf.TheVariants as expr
 use Rattle.query_model.specs.declared.query.Operand.TheVariants as operand
@@ -147,14 +147,14 @@ IsShape q columns false (shape.Plain es) =
 IsShape q columns true (shape.Grouped g) = IsGrouping q columns g
 IsShape q columns _ _ = ⊥
 
-abbrev pub known_type : Kind → ColumnType
+abbrev pub known_type : OperandTyping → ColumnType
 known_type (typed t) = t
 known_type _ = column.Text
 
 abbrev pub output_types : Items → List FromColumn → List ColumnType
 output_types Star columns = types_of columns
 output_types (Listed items) columns =
-    map (λ (i : Item). known_type (item_kind columns i.what)) items
+    map (λ (i : Item). known_type (item_typing columns i.what)) items
 
 -- the checked query of a query that no condition refuses
 pub record IsChecked (q : Query) (schemas : List Schema) (c : Checked) : Type 0 where

@@ -1,12 +1,12 @@
 -- What the steps of analysis answer.
 use Rattle.std.specs.Prelude.{◌++◌, ◌≡◌}
-use Rattle.query_model.specs.Prelude.{AggCall, Bool, CheckedJoin, ColumnRef, ExprKind, Item, ItemKind, Join, List, Operand, Option, OrderKey, Query, Schema, Scope, SortKey, bytes_eq, false, find, map, not, option_map, option_or, true, ℕ, ℤ, ⊤}
+use Rattle.query_model.specs.Prelude.{AggCall, Bool, CheckedJoin, ColumnRef, ExprTyping, Item, ItemKind, Join, List, Operand, Option, OrderKey, Query, Schema, Scope, SortKey, bytes_eq, false, find, map, not, option_map, option_or, true, ℕ, ℤ, ⊤}
 use Rattle.query_model.specs.Expressions.{number_of}
-use Rattle.query_model.specs.Refusals.{FromColumn, Kind, plain, typed, unfit, means, written, operand_columns, bare_columns, bare_names, is_key_of, listed, is_call, same_column, star_name, first_name, ungrouped_in_items}
+use Rattle.query_model.specs.Refusals.{FromColumn, OperandTyping, plain, typed, unfit, means, written, operand_columns, bare_columns, bare_names, is_key_of, listed, is_call, same_column, star_name, first_name, ungrouped_in_items}
 use Rattle.query_model.specs.Checks.{place_of, EachWith, IsPlacedCall, pair_of, use_of}
 use Rattle.query_model.specs.declared.query.ExprOf.TheVariants as expr
 use Rattle.query_model.specs.declared.query.ItemKind.TheVariants as kind
-use Rattle.query_model.specs.declared.analysis.kinds.ExprKind.TheVariants as expression
+use Rattle.query_model.specs.declared.analysis.operand_types.ExprTyping.TheVariants as expression
 use Rattle.query_model.specs.declared.analysis.placing.Scope.TheVariants as scope
 
 -- Places.
@@ -57,10 +57,10 @@ first_ungrouped columns q =
     (option_map written (find (λ c. not (is_key_of columns q.keys c)) (bare_names q.having))))
 
 -- what an expression is, with a plain number's value in the place of its spelling
-abbrev pub as_kind : ExprKind → Kind
-as_kind (expression.Plain n) = plain (number_of n)
-as_kind (expression.Typed t) = typed t
-as_kind expression.Unfit = unfit
+abbrev pub as_typing : ExprTyping → OperandTyping
+as_typing (expression.Plain n) = plain (number_of n)
+as_typing (expression.Typed t) = typed t
+as_typing expression.Unfit = unfit
 
 -- the number of a sign and a size
 abbrev pub number_value : Bool → ℕ → ℤ

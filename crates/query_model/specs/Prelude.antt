@@ -5,7 +5,7 @@ pub use Rattle.chunk_data.specs.declared.typed_value.SortKey.{SortKey}
 pub use Rattle.chunk_data.specs.declared.typed_value.Value.{Value}
 pub use Rattle.chunk_data.specs.declared.typed_value.Value.TheVariants.{Int, Text, UInt}
 pub use Rattle.csv.specs.Reading.{default_config, records, strip_bom}
-pub use Rattle.query_model.specs.declared.analysis.kinds.ExprKind.{ExprKind}
+pub use Rattle.query_model.specs.declared.analysis.operand_types.ExprTyping.{ExprTyping}
 pub use Rattle.query_model.specs.declared.analysis.placing.Scope.{Scope}
 pub use Rattle.query_model.specs.declared.checked.Checked.{Checked}
 pub use Rattle.query_model.specs.declared.checked.CheckedJoin.{CheckedJoin}

@@ -186,10 +186,10 @@ bad_join_key left right join = refusal_unless (pairs_fit left right join) refuse
 -- types
 
 -- what an operand is: a plain number, a value of a type, or neither, where types don't fit
-pub data Kind : Type 0 where
-  plain : ℤ → Kind
-  typed : ColumnType → Kind
-  unfit : Kind
+pub data OperandTyping : Type 0 where
+  plain : ℤ → OperandTyping
+  typed : ColumnType → OperandTyping
+  unfit : OperandTyping
 
 abbrev pub plain_holds : PlainType → ℤ → Bool
 plain_holds plain'.Int64 (pos n) = nat_lt n (2 ^ 63)
@@ -201,41 +201,41 @@ plain_holds plain'.Text z = false
 abbrev pub can_hold : ColumnType → ℤ → Bool
 can_hold t z = plain_holds (plain_type t) z
 
-abbrev pub arith_kind : ArithOp → Kind → Kind → Kind
-arith_kind op (typed s) (typed t) = if same_type s t && not (is_text s)
+abbrev pub arith_typing : ArithOp → OperandTyping → OperandTyping → OperandTyping
+arith_typing op (typed s) (typed t) = if same_type s t && not (is_text s)
     then typed (arith_type op s t) else unfit
-arith_kind op (typed t) (plain z) = if can_hold t z then typed (result_type op t) else unfit
-arith_kind op (plain z) (typed t) = if can_hold t z then typed (result_type op t) else unfit
-arith_kind op _ _ = unfit
+arith_typing op (typed t) (plain z) = if can_hold t z then typed (result_type op t) else unfit
+arith_typing op (plain z) (typed t) = if can_hold t z then typed (result_type op t) else unfit
+arith_typing op _ _ = unfit
 
-abbrev pub known_kind : Option ColumnType → Kind
-known_kind None = unfit
-known_kind (Some t) = typed t
+abbrev pub known_typing : Option ColumnType → OperandTyping
+known_typing None = unfit
+known_typing (Some t) = typed t
 
-unfoldable pub expr_kind : List FromColumn → ExprOf ColumnRef → Kind
-expr_kind columns (expr.Column c) = known_kind (meant_type columns c)
-expr_kind columns (expr.Number n) = plain (number_of n)
-expr_kind columns (expr.Arith' op p a q b) =
-    arith_kind op (expr_kind columns a) (expr_kind columns b)
+unfoldable pub expr_typing : List FromColumn → ExprOf ColumnRef → OperandTyping
+expr_typing columns (expr.Column c) = known_typing (meant_type columns c)
+expr_typing columns (expr.Number n) = plain (number_of n)
+expr_typing columns (expr.Arith' op p a q b) =
+    arith_typing op (expr_typing columns a) (expr_typing columns b)
 
 -- the kind of a call over an argument of a kind
-abbrev pub call_kind : AggOp → Kind → Kind
-call_kind Sum (typed t) = if is_text t then unfit else typed t
-call_kind Count _ = typed column.UInt64
-call_kind op (typed t) = typed t
-call_kind op _ = unfit
+abbrev pub call_typing : AggOp → OperandTyping → OperandTyping
+call_typing Sum (typed t) = if is_text t then unfit else typed t
+call_typing Count _ = typed column.UInt64
+call_typing op (typed t) = typed t
+call_typing op _ = unfit
 
-abbrev pub agg_kind : List FromColumn → AggOp → Option (ExprOf ColumnRef) → Kind
-agg_kind columns op None = typed column.UInt64
-agg_kind columns op (Some e) = call_kind op (expr_kind columns e)
+abbrev pub agg_typing : List FromColumn → AggOp → Option (ExprOf ColumnRef) → OperandTyping
+agg_typing columns op None = typed column.UInt64
+agg_typing columns op (Some e) = call_typing op (expr_typing columns e)
 
-abbrev pub operand_kind : List FromColumn → Operand ColumnRef → Kind
-operand_kind columns (operand.Plain e) = expr_kind columns e
-operand_kind columns (operand.Text bytes) = typed column.Text
-operand_kind columns (operand.Agg call) = agg_kind columns call.op call.arg
+abbrev pub operand_typing : List FromColumn → Operand ColumnRef → OperandTyping
+operand_typing columns (operand.Plain e) = expr_typing columns e
+operand_typing columns (operand.Text bytes) = typed column.Text
+operand_typing columns (operand.Agg call) = agg_typing columns call.op call.arg
 
 -- texts are compared with texts, and numbers with numbers
-abbrev pub comparable : Kind → Kind → Bool
+abbrev pub comparable : OperandTyping → OperandTyping → Bool
 comparable (typed s) (typed t) = is_text s == is_text t
   where
     infix 5 ◌==◌
@@ -249,7 +249,7 @@ comparable _ _ = false
 
 unfoldable pub cond_fits : List FromColumn → CondOf ColumnRef → Bool
 cond_fits columns (condition.Compare op a b) =
-    comparable (operand_kind columns a) (operand_kind columns b)
+    comparable (operand_typing columns a) (operand_typing columns b)
 cond_fits columns (condition.And' p a q b) = cond_fits columns a && cond_fits columns b
 cond_fits columns (condition.Or' p a q b) = cond_fits columns a && cond_fits columns b
 cond_fits columns (condition.Not' p a) = cond_fits columns a
@@ -258,17 +258,17 @@ abbrev pub fits_where : List FromColumn → Option (CondOf ColumnRef) → Bool
 fits_where columns None = true
 fits_where columns (Some c) = cond_fits columns c
 
-abbrev pub is_typed : Kind → Bool
+abbrev pub is_typed : OperandTyping → Bool
 is_typed (typed t) = true
 is_typed _ = false
 
-abbrev pub item_kind : List FromColumn → ItemKind → Kind
-item_kind columns (kind.Plain e) = expr_kind columns e
-item_kind columns (kind.Agg call) = agg_kind columns call.op call.arg
+abbrev pub item_typing : List FromColumn → ItemKind → OperandTyping
+item_typing columns (kind.Plain e) = expr_typing columns e
+item_typing columns (kind.Agg call) = agg_typing columns call.op call.arg
 
 abbrev pub types_fit : List FromColumn → Query → Bool
 types_fit columns q =
-    list_all (λ (i : Item). is_typed (item_kind columns i.what)) (listed q.items)
+    list_all (λ (i : Item). is_typed (item_typing columns i.what)) (listed q.items)
     && fits_where columns q.filter && fits_where columns q.having
 
 abbrev pub type_mismatch : List FromColumn → Query → Option Refusal

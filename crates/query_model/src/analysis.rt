@@ -1,12 +1,12 @@
 // Queries checked against the declared tables.
 ghost use Rattle.std.specs.Prelude.{◌≡◌, ◌≤◌, None, length, IfOk, IfErr, OnOk};
-ghost use Rattle.query_model.specs.Names.{from_columns, join_columns, output_names, refusal_of, table_columns, BothOrNone, IsChecked, IsPlacedCond, place_in, IsAnalysable, IsDue, IsTypedQuery, from_types};
+ghost use Rattle.query_model.specs.Names.{from_columns, join_columns, output_names, refusal_of, table_columns, BothOrNone, IsChecked, IsPlacedCond, place_in, IsAnalysable, IsDueRefusal, IsTypedQuery, from_types};
 
 mod columns;
 mod groups;
 mod join_keys;
-mod kinds;
 mod names;
+mod operand_types;
 mod ordering;
 mod outputs;
 mod placing;
@@ -92,7 +92,7 @@ fn analysed(
     ensures checked { IfOk result (IsChecked query.now tables.now) }
     ensures accepted { OnOk result (refusal_of query.now tables.now ≡ None) }
     ensures typed { IfOk result (IsTypedQuery (from_types query.now tables.now)) }
-    ensures refused { IfErr result (IsDue query.now tables.now) }
+    ensures refused { IfErr result (IsDueRefusal query.now tables.now) }
 {
     let Ok(names) = names_of(alloc, &query.items, columns) else {
         return Err(Refusal::Memory);
@@ -112,7 +112,7 @@ fn analysed_over(alloc: Global, query: &Query, tables: &List<Schema>) -> Result<
     ensures checked { IfOk result (IsChecked query.now tables.now) }
     ensures accepted { OnOk result (refusal_of query.now tables.now ≡ None) }
     ensures typed { IfOk result (IsTypedQuery (from_types query.now tables.now)) }
-    ensures refused { IfErr result (IsDue query.now tables.now) }
+    ensures refused { IfErr result (IsDueRefusal query.now tables.now) }
 {
     let schemas = tables.as_slice();
     let Ok(mut columns) = table_columns_of(alloc, &query.from, schemas) else {
@@ -135,7 +135,7 @@ pub fn analyse(alloc: Global, query: Query, tables: &List<Schema>) -> Result<Che
     ensures checked { IfOk result (IsChecked query tables.now) }
     ensures accepted { OnOk result (refusal_of query tables.now ≡ None) }
     ensures typed { IfOk result (IsTypedQuery (from_types query tables.now)) }
-    ensures refused { IfErr result (IsDue query tables.now) }
+    ensures refused { IfErr result (IsDueRefusal query tables.now) }
 {
     analysed_over(alloc, &query, tables)
 }

@@ -1,11 +1,11 @@
 // The outputs of a query: their names and types, and what is made of rows.
 ghost use Rattle.std.specs.Prelude.{◌≡◌, ◌++◌, ◌≤◌, codes, decimal, length, map, true, false, IfOk};
 ghost use Rattle.std.specs.List.{All};
-ghost use Rattle.query_model.specs.Names.{FromColumn as Column, plain_name as name_of_kind, name_or, item_names as names_of_items, output_names, item_kind as kind_of_item, is_grouped as has_groups, listed, AreColumnsFrom, ArePlainItems, IsShape, output_types, known_type as type_known, types_of, place_in, as_kind, is_key_of, CanBePicked, HasNoCall};
+ghost use Rattle.query_model.specs.Names.{FromColumn as Column, plain_name as name_of_kind, name_or, item_names as names_of_items, output_names, item_typing as typing_of_item, is_grouped as has_groups, listed, AreColumnsFrom, ArePlainItems, IsShape, output_types, known_type as type_known, types_of, place_in, as_typing, is_key_of, CanBePicked, HasNoCall};
 
 use crate::analysis::columns::FromColumn;
 use crate::analysis::groups::{is_grouped, made_groups};
-use crate::analysis::kinds::{ExprKind, item_kind};
+use crate::analysis::operand_types::{ExprTyping, item_typing};
 use crate::analysis::placing::place_items;
 use crate::checked::{Expr, Shape};
 use crate::query::{ColumnRef, ExprOf, Item, ItemKind, Items, Query};
@@ -89,20 +89,20 @@ pub(crate) fn names_of(
 }
 
 /// The type of an item that has one.
-fn known_type(kind: ExprKind) -> ColumnType
-    ensures { result ≡ type_known (as_kind kind) }
+fn known_type(kind: ExprTyping) -> ColumnType
+    ensures { result ≡ type_known (as_typing kind) }
 {
     match kind {
-        ExprKind::Typed(t) => t,
-        ExprKind::Plain(_) => ColumnType::Text,
-        ExprKind::Unfit => ColumnType::Text,
+        ExprTyping::Typed(t) => t,
+        ExprTyping::Plain(_) => ColumnType::Text,
+        ExprTyping::Unfit => ColumnType::Text,
     }
 }
 
 fn item_type(item: &Item, columns: &[FromColumn]) -> ColumnType
-    ensures { result ≡ type_known (kind_of_item columns.now item.now.what) }
+    ensures { result ≡ type_known (typing_of_item columns.now item.now.what) }
 {
-    known_type(item_kind(item, columns))
+    known_type(item_typing(item, columns))
 }
 
 fn item_types(
@@ -111,7 +111,7 @@ fn item_types(
     columns: &[FromColumn],
 ) -> Result<List<ColumnType>, Memory>
     ensures { IfOk result (λ types. types
-        ≡ map (λ (i : Item). type_known (kind_of_item columns.now i.what)) items.now) }
+        ≡ map (λ (i : Item). type_known (typing_of_item columns.now i.what)) items.now) }
 {
     let mut types = Vec::with_capacity(alloc, items.len())?;
     for item in items {

@@ -5,10 +5,10 @@ ghost use Rattle.query_model.specs.Names.{unknown_table as table_refusal, unknow
 use crate::analysis::columns::FromColumn;
 use crate::analysis::groups::{added, count_item_calls, not_grouped};
 use crate::analysis::join_keys::pairs_fit;
-use crate::analysis::kinds::types_fit;
 use crate::analysis::names::{
     ambiguous_column, has_schema, listed_items, names_in, unknown_column,
 };
+use crate::analysis::operand_types::types_fit;
 use crate::analysis::ordering::bad_order_key;
 use crate::query::{ColumnRef, CondOf, Join, Operand, Query, Refusal, Schema, TableRef};
 use chunk_data::{Bytes, Memory};

@@ -1,5 +1,5 @@
 use Rattle.query_model.proofs.Imports.{BothOrNone, CheckedJoin, FromColumn, IsCheckedJoin, IsPlacedJoin, Join, List, None, Option, Query, Schema, Some, append-nil, refl, table_columns, ◌∙◌, ◌≡◌, join_columns}
-use Rattle.query_model.proofs.Accepted.{accepted, narrow, ungrouped_items, are_keys}
+use Rattle.query_model.proofs.Accepted.{unrefused_is_accepted, narrow, ungrouped_items, are_keys}
 use Rattle.query_model.proofs.TypedGroups.{checked_is_typed}
 use Rattle.query_model.proofs.analysis.checked_query.Goals as goal
 
@@ -39,7 +39,7 @@ made_shape-requires-clause-plain c = λ h. ungrouped_items c.args.query.now h
 pub made_shape-requires-clause-grouped : goal.made_shape-requires-clause-grouped
 made_shape-requires-clause-grouped c =
     rw c.requires.columns (λ h. (are_keys c.args.query.now c.args.tables.now
-    (accepted c.args.query.now c.args.tables.now c.requires.accepted) h).items)
+    (unrefused_is_accepted c.args.query.now c.args.tables.now c.requires.accepted) h).items)
 
 pub returns-clause-checked : goal.returns-clause-checked
 returns-clause-checked c = record {
