@@ -1,5 +1,5 @@
 -- What the actions of a view push.
-use Rattle.proc_api.proofs.Imports.{Action, Bool, EachAction, IsDone, IsSound, List, None, Option, Picture, Push, Some, Table, Unwant, Want, [], ap, both_ways, cond, cond_both, eqb-true, false, input_at, noted_want, output_at, pulled_at, pushed_at, pushes_to, refl, taken_out, true, want_of, ℕ, ◌++◌, ◌==◌, ◌∙◌, ◌∷◌, ◌≡◌}
+use Rattle.proc_api.proofs.Imports.{Action, Bool, EachAction, IsSound, List, None, Option, Picture, Push, ShowsInFlags, Some, Table, Unwant, Want, [], ap, both_ways, cond, cond_both, eqb-true, false, input_at, noted_want, output_at, pulled_at, pushed_at, pushes_to, refl, taken_out, true, want_of, ℕ, ◌++◌, ◌==◌, ◌∙◌, ◌∷◌, ◌≡◌}
 
 more-or-same : (b : Bool) (chunk : Table) (xs ys zs : List Table) → xs ≡ ys ++ zs
     → cond b (chunk ∷ xs) xs ≡ cond b (chunk ∷ ys) ys ++ zs
@@ -39,7 +39,7 @@ pushes_to-noted_want o i b (a ∷ xs) = pushes_to-noted_want o i b xs
 
 -- a port without data has no push among actions that show
 pushes-shown : (p : Picture) (o : ℕ) (xs : List Action) → (output_at p o).has_data ≡ false
-    → EachAction (IsDone p) xs → pushes_to o xs ≡ []
+    → EachAction (ShowsInFlags p) xs → pushes_to o xs ≡ []
 unfolding pushes_to
 pushes-shown p o [] e h = refl
 pushes-shown p o (Push j chunk ∷ xs) e h =

@@ -1,5 +1,5 @@
 -- The view of a node is one that its box may be prepared against.
-use Rattle.proc_api.proofs.Imports.{Action, AreAsKept, BoxPicture, Flags, FollowsKept, Input, InputFollows, InputPort, IsSound, List, MaySee, None, Option, Output, OutputFollows, Picture, PortFlags, Some, Spec, StandStill, Table, TakesFirst, after_see, and_from, and_parts, ap, arith, get_or-replicate, in_count, in_count-with_input, in_count-with_output, input_at, input_at-with_input, input_at-with_input-other, input_at-with_output, kept_input, kept_inputs, kept_output, kept_outputs, length-map, length-replicate, new_input, new_picture, no_flags, no_input, no_notes, not, out_count, out_count-with_input, out_count-with_output, output_at, output_at-with_input, output_at-with_output, output_at-with_output-other, over_flags, port_flags, refl, seen_chunk, subst, sym, with_actions, with_input, with_output, ℕ, ◌<◌, ◌∙◌, ◌≡◌, ◌≤◌}
+use Rattle.proc_api.proofs.Imports.{Action, AreAsKept, BoxPicture, Flags, FollowsKept, Input, InputFollows, InputPort, IsSound, List, MaySee, None, Option, Output, OutputFollows, Picture, PortFlags, Some, Spec, StandStill, Table, TakesFirstAction, after_see, all_port_flags, and_from, and_parts, ap, arith, get_or-replicate, in_count, in_count-with_input, in_count-with_output, input_at, input_at-with_input, input_at-with_input-other, input_at-with_output, kept_input, kept_inputs, kept_output, kept_outputs, length-map, length-replicate, new_input, new_picture, no_flags, no_input, no_notes, not, out_count, out_count-with_input, out_count-with_output, output_at, output_at-with_input, output_at-with_output, output_at-with_output-other, over_flags, refl, seen_chunk, subst, sym, with_actions, with_input, with_output, ℕ, ◌<◌, ◌∙◌, ◌≡◌, ◌≤◌}
 use Rattle.proc_api.proofs.KeptFlags.{kept_input-of, kept_output-of, kept_inputs-of, kept_outputs-of}
 use Rattle.proc_api.proofs.ShutPorts.{by-place}
 
@@ -16,7 +16,7 @@ output-itself : (f : Flags) → OutputFollows f f
 output-itself f = record { fin_out = refl; fin_in = λ e. e }
 
 -- the view that a `prepare` leaves
-pub follows-noted : (q : BoxPicture) (w : Picture) → q.notes.view ≡ Some (port_flags w)
+pub follows-noted : (q : BoxPicture) (w : Picture) → q.notes.view ≡ Some (all_port_flags w)
     → FollowsKept q w
 follows-noted q w e =
     let ins = kept_inputs-of q w e in
@@ -49,8 +49,8 @@ position-still (Some (Spec.MergeAggregate groups)) kept m n h = h
 position-still (Some (Spec.MergeSorted order)) kept m n h = h
 position-still s kept m n h = tt
 
-pub as-kept-noted : (q : BoxPicture) (w : Picture) (m n : ℕ) → q.notes.view ≡ Some (port_flags w)
-    → in_count w ≡ m → out_count w ≡ n → AreAsKept q.notes.view m n
+pub as-kept-noted : (q : BoxPicture) (w : Picture) (m n : ℕ) → q.notes.view
+    ≡ Some (all_port_flags w) → in_count w ≡ m → out_count w ≡ n → AreAsKept q.notes.view m n
 unfolding in_count out_count
 as-kept-noted q w m n e ins outs = rw e (rw length-map (sym ins), sym outs)
 
@@ -145,7 +145,7 @@ follows-taken p v actions f = record {
 }
 
 -- the view once its first action was taken, if there was one
-pub follows-first : (p : BoxPicture) (v w : Picture) (a : Option Action) → TakesFirst v a w
+pub follows-first : (p : BoxPicture) (v w : Picture) (a : Option Action) → TakesFirstAction v a w
     → FollowsKept p v → FollowsKept p w
 follows-first p v w None t f = subst (λ x. FollowsKept p x) (sym t.1) f
 follows-first p v w (Some a) t f =

@@ -1,7 +1,7 @@
 -- The flags that a box keeps are those of the view that its last prepare left.
-use Rattle.proc_api.proofs.Imports.{BoxPicture, Flags, InputPort, MayBeInput, None, Option, Picture, PortFlags, Some, ap, arith, false, get_or, get_or-eq_default, get_or-map, get_or_default, in_count, inl, input_at, inr, kept_input, kept_inputs, kept_output, kept_outputs, kept_ports, length, length-map, map, no_flags, no_input, out_count, output_at, over_flags, port_flags, refl, ℕ, ◌<◌, ◌∙◌, ◌≡◌, ◌≤◌, ◌⊎◌}
+use Rattle.proc_api.proofs.Imports.{BoxPicture, Flags, InputPort, MayBeInput, None, Option, Picture, PortFlags, Some, all_port_flags, ap, arith, false, get_or, get_or-eq_default, get_or-map, get_or_default, in_count, inl, input_at, inr, kept_input, kept_inputs, kept_output, kept_outputs, kept_ports, length, length-map, map, no_flags, no_input, out_count, output_at, over_flags, refl, ℕ, ◌<◌, ◌∙◌, ◌≡◌, ◌≤◌, ◌⊎◌}
 
-module _ (q : BoxPicture) (w : Picture) (e : q.notes.view ≡ Some (port_flags w)) where
+module _ (q : BoxPicture) (w : Picture) (e : q.notes.view ≡ Some (all_port_flags w)) where
   pub kept_inputs-of : kept_inputs q ≡ in_count w
   unfolding kept_inputs in_count
   kept_inputs-of = ap (λ p. length (kept_ports p).inputs) e ∙ rw length-map refl

@@ -1,5 +1,5 @@
 -- Laws of racks.
-use Rattle.proc_api.proofs.Imports.{BoxPicture, IsPlaceOf, Kind, List, TakesOut, ap, count_by, count_by_more_no, drop, false, get_or, get_or-map, is_of, length, length-map, map, map-append, no_box, remove, split_at, suc, sym, take, take-map, ℕ, ◌++◌, ◌+◌, ◌<◌, ◌∙◌, ◌∷◌, ◌≡◌}
+use Rattle.proc_api.proofs.Imports.{BoxPicture, all_kinds, arith, kind_place, IsPlaceOf, Kind, List, TakesOut, ap, count_by, count_by_more_no, drop, false, get_or, get_or-map, is_of, length, length-map, map, map-append, no_box, remove, split_at, suc, sym, take, take-map, ℕ, ◌++◌, ◌+◌, ◌<◌, ◌∙◌, ◌∷◌, ◌≡◌}
 
 -- the box at the first place of a kind is the first of that kind
 pub takes_out_of : {A : Type 0} (f : A → BoxPicture) (k : Kind) (xs ys : List A) (i : ℕ) (x : A)
@@ -25,3 +25,7 @@ none_so_far f k xs i x e lt before not_it =
     let at : get_or (map f xs) i (f x) ≡ f x = get_or-map f xs i x (f x) lt ∙ ap f (sym e) in
     count_by_more_no (is_of k) (map f xs) i (f x) (rw length-map lt) (ap (is_of k) at ∙ not_it)
     ∙ before
+
+-- each kind stands at its place
+pub kind-at : (k d : Kind) → get_or all_kinds (kind_place k) d ≡ k
+kind-at k d = grind arith

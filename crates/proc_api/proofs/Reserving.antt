@@ -1,5 +1,5 @@
 -- What is reserved stays apart as nodes, edges and reserves are added, and as a graph is finished.
-use Rattle.proc_api.proofs.Imports.{All, Bool, BoxPicture, IsEdge, IsGraphSoFar, List, Reserve, Wire, [], ap, arith, cases_lt, false, get_or, get_or-append_seam, get_or-map, get_or_append_left, inl, inr, length, length-append, length-map, list_any, map, map-append, nat_lt, no_box, no_wire, rank_at, refl, reserved_edges, rules, subst, suc, sum_by-cons, sym, true, wire_at, zero, ℕ, ◌&&◌, ◌++◌, ◌+◌, ◌-◌, ◌<◌, ◌||◌, ◌∙◌, ◌∷◌, ◌≡◌, ◌≢◌, ◌≤◌}
+use Rattle.proc_api.proofs.Imports.{All, Bool, BoxPicture, IsEdge, IsGraphSoFar, List, Reserve, Wire, [], ap, arith, cases_lt, false, get_or, get_or-append_seam, get_or-map, get_or_append_left, inl, inr, length, length-append, length-map, map, map-append, nat_lt, no_box, no_wire, rank_at, refl, reserved_edges, subst, suc, sum_by-cons, sym, true, wire_at, ℕ, ◌&&◌, ◌++◌, ◌+◌, ◌-◌, ◌<◌, ◌||◌, ◌∙◌, ◌∷◌, ◌≡◌, ◌≢◌, ◌≤◌}
 use Rattle.std.specs.Prelude.{nat_le}
 use Rattle.std.proofs.lemmas.Bool.{le-leb, le-ltb, lt-leb, lt-ltb}
 use Rattle.std.proofs.lemmas.List.{get_or-append_right}

@@ -8,7 +8,7 @@ use Rattle.proc_api.proofs.Turns.{nothing-more, pushes-elsewhere}
 
 -- A chunk that lay at an input lies there or was pulled, and where data lay at an output no more
 -- was pushed.
-pub record GoesOn (v w : Picture) : Type 0 where
+pub record ShowsSame (v w : Picture) : Type 0 where
   pub ins : in_count w ≡ in_count v
   pub outs : out_count w ≡ out_count v
   pub chunk : (i : ℕ) → ((input_at w i).chunk ≡ (input_at v i).chunk)
@@ -16,10 +16,10 @@ pub record GoesOn (v w : Picture) : Type 0 where
   pub full : (o : ℕ) → (output_at v o).has_data ≡ true
       → ((output_at w o).has_data ≡ true) × (pushes_to o w.actions ≡ pushes_to o v.actions)
 
-goes-none : (v : Picture) → GoesOn v v
+goes-none : (v : Picture) → ShowsSame v v
 goes-none v = record { ins = refl; outs = refl; chunk = λ i. inl refl; full = λ o d. (d, refl) }
 
-goes-both : (v u w : Picture) → GoesOn v u → GoesOn u w → GoesOn v w
+goes-both : (v u w : Picture) → ShowsSame v u → ShowsSame u w → ShowsSame v w
 goes-both v u w a b = record {
   ins = b.ins ∙ a.ins;
   outs = b.outs ∙ a.outs;
@@ -38,7 +38,7 @@ empty-of f e =
 goes-input : (p : Picture) (i : ℕ) (x : InputPort) (actions : List Action)
     → (x.chunk ≡ (input_at p i).chunk) ⊎ (x.chunk ≡ None)
     → ((o : ℕ) → pushes_to o actions ≡ pushes_to o p.actions)
-    → GoesOn p (with_actions (with_input p i x) actions)
+    → ShowsSame p (with_actions (with_input p i x) actions)
 unfolding with_actions with_input input_at output_at in_count out_count
 goes-input p i x actions c same = record {
   ins = in_count-with_input p i x;
@@ -56,7 +56,7 @@ goes-output : (p : Picture) (o : ℕ) (f : Flags) (actions : List Action)
     → ((output_at p o).has_data ≡ true
     → (f.has_data ≡ true) × (pushes_to o actions ≡ pushes_to o p.actions))
     → ((j : ℕ) → j ≢ o → pushes_to j actions ≡ pushes_to j p.actions)
-    → GoesOn p (with_actions (with_output p o f) actions)
+    → ShowsSame p (with_actions (with_output p o f) actions)
 unfolding with_actions with_output input_at output_at in_count out_count
 goes-output p o f actions c same = record {
   ins = refl;
@@ -73,39 +73,40 @@ goes-output p o f actions c same = record {
       (λ ne d. (ap (λ g. g.has_data) (output_at-with_output-other p o j f ne) ∙ d, same j ne));
 }
 
-one-call : (c : PortCall) (p : Picture) → GoesOn p (after_call c p)
+one-call : (c : PortCall) (p : Picture) → ShowsSame p (after_call c p)
 unfolding with_input with_output pushes_to
-one-call (pull_call i) p = cond_both (holds_data (input_at p i).flags) _ p (GoesOn p)
+one-call (pull_call i) p = cond_both (holds_data (input_at p i).flags) _ p (ShowsSame p)
     (λ e. goes-input p i (emptied (input_at p i)) (p.actions ++ Pull i ∷ []) (inr refl)
     (λ o. nothing-more o (Pull i) p.actions refl)) (λ e. goes-none p)
 one-call (need_call i true) p =
-    cond_both ((input_at p i).flags.fin_in || (input_at p i).flags.needed) p _ (GoesOn p)
+    cond_both ((input_at p i).flags.fin_in || (input_at p i).flags.needed) p _ (ShowsSame p)
     (λ e. goes-none p) (λ e. goes-input p i (with_needed (input_at p i) true)
     (noted_want i true p.actions) (inl refl) (λ o. pushes_to-noted_want o i true p.actions))
 one-call (need_call i false) p =
-    cond_both ((input_at p i).flags.fin_in || not (input_at p i).flags.needed) p _ (GoesOn p)
+    cond_both ((input_at p i).flags.fin_in || not (input_at p i).flags.needed) p _ (ShowsSame p)
     (λ e. goes-none p) (λ e. goes-input p i (with_needed (input_at p i) false)
     (noted_want i false p.actions) (inl refl) (λ o. pushes_to-noted_want o i false p.actions))
-one-call (close_call i) p = cond_both (input_at p i).flags.fin_in p _ (GoesOn p) (λ e. goes-none p)
+one-call (close_call i) p =
+    cond_both (input_at p i).flags.fin_in p _ (ShowsSame p) (λ e. goes-none p)
     (λ e. goes-input p i (closed (input_at p i)) (p.actions ++ Close i ∷ []) (inl refl)
     (λ o. nothing-more o (Close i) p.actions refl))
-one-call (push_call o t) p = cond_both (can_push (output_at p o)) _ p (GoesOn p)
+one-call (push_call o t) p = cond_both (can_push (output_at p o)) _ p (ShowsSame p)
     (λ e. goes-output p o (record (output_at p o) { has_data = true }) (p.actions ++ Push o t ∷ [])
     (λ d. absurd (both_ways _ (empty-of (output_at p o) e) d))
     (λ j ne. nothing-more j (Push o t) p.actions (pushes-elsewhere o j t ne))) (λ e. goes-none p)
-one-call (finish_call o) p = cond_both (is_out_finished (output_at p o)) p _ (GoesOn p)
+one-call (finish_call o) p = cond_both (is_out_finished (output_at p o)) p _ (ShowsSame p)
     (λ e. goes-none p) (λ e. goes-output p o (record (output_at p o) { fin_out = true })
     (p.actions ++ Finish o ∷ []) (λ d. (d, nothing-more o (Finish o) p.actions refl))
     (λ j ne. nothing-more j (Finish o) p.actions refl))
 
-goes-calls : (calls : List PortCall) (p : Picture) → GoesOn p (after_calls calls p)
+goes-calls : (calls : List PortCall) (p : Picture) → ShowsSame p (after_calls calls p)
 goes-calls [] p = goes-none p
 goes-calls (c ∷ calls) p =
     goes-both p (after_call c p) (after_calls calls (after_call c p)) (one-call c p)
     (goes-calls calls (after_call c p))
 
-pub goes-on : (v w : Picture) → ChangedByCalls v w → GoesOn v w
-goes-on v w c = subst (GoesOn v) (sym c.gives) (goes-calls c.calls v)
+pub goes-on : (v w : Picture) → ChangedByCalls v w → ShowsSame v w
+goes-on v w c = subst (ShowsSame v) (sym c.gives) (goes-calls c.calls v)
 
 -- ---- two steps
 

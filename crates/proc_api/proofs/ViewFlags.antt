@@ -1,8 +1,9 @@
 -- Flags of a view, port by port.
-use Rattle.proc_api.proofs.Imports.{Flags, InputPort, List, Picture, [], ap, common_steps, get_or-map, in_count, input_at, length-map, map, no_input, out_count, output_at, over_flags, port_flags, take, take_all, take_more, ℕ, ◌++◌, ◌+◌, ◌<◌, ◌∙◌, ◌∷◌, ◌≡◌, ◌≤◌}
+use Rattle.proc_api.proofs.Imports.{Flags, InputPort, List, Picture, [], all_port_flags, ap, common_steps, get_or-map, in_count, input_at, length-map, map, no_input, out_count, output_at, over_flags, take, take_all, take_more, ℕ, ◌++◌, ◌+◌, ◌<◌, ◌∙◌, ◌∷◌, ◌≡◌, ◌≤◌}
 
 pub next_input : (v : Picture) (i : ℕ) → i < in_count v
-    → take (i + 1) (port_flags v).inputs ≡ take i (port_flags v).inputs ++ (input_at v i).flags ∷ []
+    → take (i + 1) (all_port_flags v).inputs ≡ take i (all_port_flags v).inputs
+    ++ (input_at v i).flags ∷ []
 unfolding input_at in_count
 next_input v i lt =
     let flags = λ (x : InputPort). x.flags in
@@ -15,8 +16,8 @@ pub next_output : (v : Picture) (o : ℕ) → o < out_count v
 unfolding output_at out_count
 next_output v o lt = take_more v.outputs o over_flags lt
 
-pub all_inputs : (v : Picture) (flags : List Flags) (n : ℕ) → flags ≡ take n (port_flags v).inputs
-    → in_count v ≤ n → flags ≡ (port_flags v).inputs
+pub all_inputs : (v : Picture) (flags : List Flags) (n : ℕ) → flags
+    ≡ take n (all_port_flags v).inputs → in_count v ≤ n → flags ≡ (all_port_flags v).inputs
 unfolding in_count
 all_inputs v flags n e le = e
     ∙ take_all n (map (λ (x : InputPort). x.flags) v.inputs) (rw length-map le)

@@ -1,5 +1,6 @@
 -- What contracts see of a boxed processor, as plain data.
-use Rattle.proc_api.specs.Prelude.{Answer, BadPlace, Bool, Files, Flags, Kind, List, None, Option, Row, Some, Spec, Table, WorkFault, [], false, length, no_flags, slice_index_or, true, ℕ}
+use Rattle.std.specs.Prelude.{◌==◌}
+use Rattle.proc_api.specs.Prelude.{Answer, BadPlace, Bool, Files, Flags, Kind, List, None, Option, Row, Some, Spec, Table, WorkFault, [], cond, false, length, no_flags, slice_index_or, true, ℕ}
 pub use Rattle.proc_api.specs.Forms.{GrowthForm}
 
 -- the flags of each port of a view
@@ -40,6 +41,32 @@ pub record WorkState : Type 0 where
   -- the paths of the list that it has fetched, and its bad line; one with a bad line names no path
   pub paths : List (List ℕ)
   pub bad_line : Option ℕ
+
+-- What a kind keeps for itself beside chunks that are pulled and made: the rows that it can make,
+-- the chunks that it has gathered, how many rows it has read, whether it has noted the end of its
+-- inputs, and what it holds of each.
+pub record OwnState : Type 0 where
+  pub unmade : List Row
+  pub gathered : List Table
+  pub read : ℕ
+  pub ended : Bool
+  pub heads : List InputHead
+
+abbrev pub own_of : WorkState → OwnState
+own_of w = record {
+  unmade = w.unmade;
+  gathered = w.gathered;
+  read = w.read;
+  ended = w.ended;
+  heads = w.heads;
+}
+
+abbrev pub idle_own : OwnState
+idle_own = record { unmade = []; gathered = []; read = 0; ended = false; heads = [] }
+
+-- the chunks of an input that are not worked yet
+abbrev pub unworked_at : WorkState → ℕ → List Table
+unworked_at w i = cond (i == w.source) w.unworked []
 
 -- a count of pulled rows, and by how much it rose since `load`
 pub record RowCount : Type 0 where

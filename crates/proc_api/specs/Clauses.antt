@@ -1,17 +1,15 @@
 -- The clauses of a processor's calls, over what is seen of the box before and after a call.
 use Rattle.std.specs.Prelude.{◌+◌, ◌<◌, ◌≡◌, ◌≢◌, ◌≤◌, ◌⊎◌}
-use Rattle.proc_api.specs.Prelude.{Answer, Files, Growth, IfSome, InputPort, IsAllFinished, IsSome, IsTrue, Kind, List, LoadRefusal, None, Option, PartSpec, Picture, Prepared, Scheduled, Some, Spec, Status, Table, WaitsForData, WaitsForRoom, Wake, WorkFault, [], bad_line_in, enough, false, file_bytes, kind_of, length, map, out_count, part_bad_place, true, ℕ, ⊤}
+use Rattle.proc_api.specs.Prelude.{Answer, Files, Growth, IfSome, InputPort, IsAllFinished, IsSome, IsTrue, Kind, List, LoadRefusal, None, Option, Picture, Prepared, Scheduled, Some, Spec, Status, WaitsForData, WaitsForRoom, Wake, WorkFault, bad_line_in, false, file_bytes, kind_of, length, map, out_count, part_bad_place, true, ℕ, ⊤}
 use Rattle.query_model.specs.declared.processor_spec.Kind.TheVariants as kind
 use Rattle.proc_api.specs.declared.status.Wake.TheVariants as wake
 use Rattle.proc_api.specs.declared.status.WorkFault.TheVariants as fault
+use Rattle.proc_api.specs.Boxes.{BoxPicture, FileSeen, PortFlags, file_of, no_notes}
 use Rattle.proc_api.specs.Forms.{growth_form}
-use Rattle.proc_api.specs.Boxes.{BoxPicture, FileSeen, PortFlags, WorkState, file_of, no_notes}
-use Rattle.proc_api.specs.Growing.{MayGrow}
-use Rattle.proc_api.specs.Histories.{Lists, no_lists, chunk_rows, with_pulled, with_pushed, rows_pulled, raised}
-use Rattle.proc_api.specs.Ports.{AllOutputsFinished, HasNoRoom, HasPorts, HasRoom, IsShut, SameChunks, StaysFit}
+use Rattle.proc_api.specs.Histories.{Lists, chunk_rows, no_lists, raised, rows_pulled, with_pulled, with_pushed}
 use Rattle.proc_api.specs.Keeping.{Keeps}
-use Rattle.proc_api.specs.Growing.{MayGrow}
-use Rattle.proc_api.specs.Forms.{GrowthForm}
+use Rattle.proc_api.specs.Ports.{AllOutputsFinished, HasNoRoom, HasPorts, HasRoom, IsShut, SameChunks, StaysFit}
+use Rattle.proc_api.specs.SpecContracts.{IsWanting, MayGrow, OfPart}
 
 -- ---- what stays
 
@@ -143,12 +141,13 @@ pub record KeepsLimits (p q : BoxPicture) : Type 0 where
 -- ---- prepare
 
 -- the flags of each port of a picture
-abbrev pub port_flags : Picture → PortFlags
-port_flags v = record { inputs = map (λ (x : InputPort). x.flags) v.inputs; outputs = v.outputs }
+abbrev pub all_port_flags : Picture → PortFlags
+all_port_flags v =
+    record { inputs = map (λ (x : InputPort). x.flags) v.inputs; outputs = v.outputs }
 
 -- what a prepare leaves besides: the view's flags and the answer
 pub record NotesView (p q : BoxPicture) (w : Picture) (s : Status) : Type 0 where
-  pub view : q.notes.view ≡ Some (port_flags w)
+  pub view : q.notes.view ≡ Some (all_port_flags w)
   pub answer : q.notes.answer ≡ Some (Prepared s)
   pub not_acted : q.notes.acted ≡ false
   pub growth : q.growth ≡ p.growth
@@ -183,23 +182,6 @@ pub record MayExpand (k : Kind) (f : FileSeen) : Type 0 where
 pub record IsFetching (p : BoxPicture) : Type 0 where
   pub source : IsSourceKind p.kind
   pub unfetched : p.work.fetched ≡ false
-
--- a limit asks for data only as long as it hasn't read enough
-abbrev pub IsWanting : Option Spec → (read : ℕ) → Type 0
-IsWanting None read = ⊤
-IsWanting (Some (Spec.Limit span)) read = read < enough span
-IsWanting (Some (Spec.Csv part)) read = ⊤
-IsWanting (Some (Spec.List list)) read = ⊤
-IsWanting (Some (Spec.Numbers n rows)) read = ⊤
-IsWanting (Some (Spec.Filter c)) read = ⊤
-IsWanting (Some (Spec.Expression items)) read = ⊤
-IsWanting (Some Spec.Resize) read = ⊤
-IsWanting (Some (Spec.PartialAggregate groups)) read = ⊤
-IsWanting (Some (Spec.MergeAggregate groups)) read = ⊤
-IsWanting (Some (Spec.HashJoin join)) read = ⊤
-IsWanting (Some (Spec.Sort order)) read = ⊤
-IsWanting (Some (Spec.MergeSorted order)) read = ⊤
-IsWanting (Some Spec.Collect) read = ⊤
 
 -- when an answer may come
 abbrev pub StatusComes : Status → BoxPicture → Type 0
@@ -330,12 +312,6 @@ FaultHolds (Some fault.TooLong) p = 1073741824 < p.notes.given
 FaultHolds (Some (fault.Bad place)) p = p.kind ≡ kind.Csv
 FaultHolds (Some (fault.BadList line)) p = p.kind ≡ kind.List
 
--- the part or list file of a spec
-abbrev pub OfPart : Option Spec → (PartSpec → Type 0) → Type 0
-OfPart (Some (Spec.Csv part)) P = P part
-OfPart (Some (Spec.List list)) P = P list
-OfPart _ P = ⊥
-
 -- the file has more bytes than a part or list may have
 pub record IsLongFile (files : Files) (path : List ℕ) : Type 0 where
   pub bytes : List ℕ
@@ -369,11 +345,6 @@ pub record Faults (f : WorkFault) (p q : BoxPicture) : Type 0 where
   pub is_due : IsTrue p.lawful → FaultIsDue (Some f) q
 
 -- ---- handing out
-
--- what `take_rows` gives: the chunks of a collector, and none of any other kind
-abbrev pub handed_out_by : Kind → WorkState → List Table
-handed_out_by kind.Collect w = w.gathered
-handed_out_by _ w = []
 
 -- what a lawful box keeps when it hands out its chunks; a box that has handed them out for good
 -- keeps nothing of them

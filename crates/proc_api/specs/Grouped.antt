@@ -1,6 +1,8 @@
 -- What a partial aggregate and a merge make of their rows.
-use Rattle.std.specs.Prelude.{◌++◌, ◌∷◌}
-use Rattle.proc_api.specs.Prelude.{AggCall, AggOp, Bool, ColumnType, ExprOf, GroupSpec, List, None, Row, Some, StateCall, [], combine_of, cond, count_up, default_value, false, groups, groups_or_default, length, map, merged_groups, suc, true, ℕ}
+use Rattle.std.specs.Prelude.{◌++◌, ◌∷◌, ◌≡◌}
+use Rattle.proc_api.specs.Prelude.{AggCall, AggOp, AllByRecursion, Bool, ColumnType, ExprOf, FitsTypes, GroupSpec, IsPermutation, List, None, Row, Some, StateCall, [], combine_of, cond, count_up, default_value, false, groups, groups_or_default, length, map, merged_groups, suc, true, ℕ}
+use Rattle.proc_api.specs.Boxes.{OwnState}
+use Rattle.proc_api.specs.Histories.{chunk_rows}
 
 abbrev pub is_count : AggOp → Bool
 is_count AggOp.Count = true
@@ -40,5 +42,24 @@ abbrev pub partial_types : GroupSpec → List ColumnType
 partial_types g = g.keys ++ argument_types g.calls
 
 -- the types of partial groups, and of their merge
-abbrev pub group_types : GroupSpec → List ColumnType
-group_types g = g.keys ++ map (λ (c : StateCall). c.kind) g.calls
+abbrev pub spec_group_types : GroupSpec → List ColumnType
+spec_group_types g = g.keys ++ map (λ (c : StateCall). c.kind) g.calls
+
+-- Nothing is made yet, and the groups of the rows, in some order of these, are gathered. The rows
+-- fit the types of the input.
+pub record AreGathering (types : List ColumnType) (groups : List Row → List Row) (own : OwnState)
+    (rows made : List Row)
+    : Type 0 where
+  pub nothing_made : made ≡ []
+  pub nothing_unmade : own.unmade ≡ []
+  pub order : List Row
+  pub same : IsPermutation rows order
+  pub fit : AllByRecursion (FitsTypes types) order
+  pub groups_are : chunk_rows own.gathered ≡ groups order
+
+-- The groups are gathered until the end is noted. From then on the rows that are made and those
+-- that can be made are what is made of all rows, in some order.
+pub record AreGrouped (types : List ColumnType) (groups whole : List Row → List Row)
+    (own : OwnState) (rows made : List Row) : Type 0 where
+  pub gathering : own.ended ≡ false → AreGathering types groups own rows made
+  pub grouped : own.ended ≡ true → IsPermutation (whole rows) (made ++ own.unmade)

@@ -63,3 +63,8 @@ last_count = 2 ^ 64 - 1
 -- a count after it rose by n; it stands still at its last value
 abbrev pub raised : ℕ → ℕ → ℕ
 raised count n = min (count + n) last_count
+
+-- the rows of the first n lists, one list after another
+unfoldable pub all_rows : ℕ → Lists → List Row
+all_rows zero lists = []
+all_rows (suc n) lists = all_rows n lists ++ chunk_rows (lists n)

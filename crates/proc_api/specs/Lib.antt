@@ -3,10 +3,12 @@ pub mod Settled
 pub mod Graphs
 pub mod Forms
 pub mod Boxes
-pub mod Growing
+pub mod KindRows
 pub mod Histories
 pub mod Grouped
-pub mod Made
+pub mod KindContract
+pub mod kinds
+pub mod SpecContracts
 pub mod Ports
 pub mod Keeping
 pub mod Clauses

@@ -1,56 +1,15 @@
 -- The ports of a processor, by its spec and its growth, and the view that it may be prepared
 -- against.
 use Rattle.std.specs.Prelude.{◌&&◌, ◌<◌, ◌≡◌, ◌≤◌}
-use Rattle.proc_api.specs.Prelude.{Bool, ChangedByCalls, Edge, Flags, Me, New, None, Option, Picture, Some, Spec, Who, can_push, count_by, false, holds_data, in_count, input_at, is_out_finished, length, not, out_count, output_at, true, ℕ, ⊤}
+use Rattle.proc_api.specs.Prelude.{Bool, ChangedByCalls, Flags, Picture, can_push, false, holds_data, in_count, input_at, is_out_finished, not, out_count, output_at, true, ℕ}
+use Rattle.proc_api.specs.Boxes.{BoxPicture, kept_input, kept_inputs, kept_output, kept_outputs}
 use Rattle.proc_api.specs.Histories.{pushes_to}
-use Rattle.proc_api.specs.Boxes.{BoxPicture, GrowthForm, PortFlags, kept_input, kept_output, kept_inputs, kept_outputs}
-
-abbrev pub is_me : Who → Bool
-is_me Me = true
-is_me (New n) = false
-
--- the inputs that a growth adds to the processor that grows
-abbrev pub grown_inputs : Option GrowthForm → ℕ
-grown_inputs None = 0
-grown_inputs (Some g) = count_by (λ (e : Edge). is_me e.to.who) g.edges
-
-abbrev pub AreCounts : (inputs outputs m n : ℕ) → Type 0
-AreCounts inputs outputs m n = (inputs ≡ m) × (outputs ≡ n)
-
--- So many inputs and outputs are the ports of the spec and the growth. Where the spec fixes no
--- number, any will do; a Resize has an output.
-abbrev pub ArePortsOf : Option Spec → Option GrowthForm → (inputs outputs : ℕ) → Type 0
-ArePortsOf None growth i o = ⊥
-ArePortsOf (Some (Spec.Csv part)) growth i o = AreCounts i o 0 1
-ArePortsOf (Some (Spec.List list)) growth i o = AreCounts i o (grown_inputs growth) 1
-ArePortsOf (Some (Spec.Numbers n rows)) growth i o = AreCounts i o 0 1
-ArePortsOf (Some (Spec.Filter c)) growth i o = AreCounts i o 1 1
-ArePortsOf (Some (Spec.Expression items)) growth i o = AreCounts i o 1 1
-ArePortsOf (Some Spec.Resize) growth i o = 0 < o
-ArePortsOf (Some (Spec.PartialAggregate groups)) growth i o = AreCounts i o 1 1
-ArePortsOf (Some (Spec.MergeAggregate groups)) growth i o = o ≡ 1
-ArePortsOf (Some (Spec.HashJoin join)) growth i o = AreCounts i o 2 1
-ArePortsOf (Some (Spec.Sort order)) growth i o = AreCounts i o 1 1
-ArePortsOf (Some (Spec.MergeSorted order)) growth i o = o ≡ 1
-ArePortsOf (Some (Spec.Limit span)) growth i o = AreCounts i o 1 1
-ArePortsOf (Some Spec.Collect) growth i o = AreCounts i o 1 0
+use Rattle.proc_api.specs.SpecContracts.{ArePortsOf, StandStill}
+pub use Rattle.proc_api.specs.KindContract.{is_me}
 
 -- the view has the ports of the processor's spec and growth
 abbrev pub HasPorts : BoxPicture → Picture → Type 0
 HasPorts p v = ArePortsOf p.spec p.growth (in_count v) (out_count v)
-
--- as many ports as the last view had
-abbrev pub AreAsKept : Option PortFlags → (inputs outputs : ℕ) → Type 0
-AreAsKept None inputs outputs = ⊤
-AreAsKept (Some ports) inputs outputs =
-    AreCounts inputs outputs (length ports.inputs) (length ports.outputs)
-
--- where the spec fixes no number of ports, it is that of the last view
-abbrev pub StandStill : Option Spec → Option PortFlags → (inputs outputs : ℕ) → Type 0
-StandStill (Some Spec.Resize) kept inputs outputs = AreAsKept kept inputs outputs
-StandStill (Some (Spec.MergeAggregate groups)) kept inputs outputs = AreAsKept kept inputs outputs
-StandStill (Some (Spec.MergeSorted order)) kept inputs outputs = AreAsKept kept inputs outputs
-StandStill _ kept inputs outputs = ⊤
 
 -- every view so far had the ports of the processor's spec and growth, and so has this one
 pub record StaysFit (p : BoxPicture) (v : Picture) : Type 0 where

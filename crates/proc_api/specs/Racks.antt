@@ -2,22 +2,7 @@
 use Rattle.std.specs.Prelude.{◌++◌, ◌<◌, ◌∷◌, ◌≡◌}
 use Rattle.proc_api.specs.Prelude.{Bool, Kind, List, None, Option, Some, count_by, length, nat_eq, slice_index_or, take, true, ℕ}
 use Rattle.proc_api.specs.Boxes.{BoxPicture, no_box}
-
--- the place of a kind in the order of kinds
-abbrev pub kind_place : Kind → ℕ
-kind_place Kind.Csv = 0
-kind_place Kind.List = 1
-kind_place Kind.Numbers = 2
-kind_place Kind.Filter = 3
-kind_place Kind.Expression = 4
-kind_place Kind.Resize = 5
-kind_place Kind.PartialAggregate = 6
-kind_place Kind.MergeAggregate = 7
-kind_place Kind.HashJoin = 8
-kind_place Kind.Sort = 9
-kind_place Kind.MergeSorted = 10
-kind_place Kind.Limit = 11
-kind_place Kind.Collect = 12
+use Rattle.proc_api.specs.KindRows.{kind_place}
 
 abbrev pub same_kind : Kind → Kind → Bool
 same_kind a b = nat_eq (kind_place a) (kind_place b)

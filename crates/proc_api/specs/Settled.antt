@@ -1,6 +1,7 @@
 -- What is known of nodes that rest and of their ports, and the wires of a graph by place.
 use Rattle.std.specs.Prelude.{◌<◌, ◌≡◌}
 use Rattle.proc_api.specs.Prelude.{Flags, List, None, Option, Picture, Some, Status, WaitsForData, WaitsForRoom, Wire, length, slice_index_or, true, ℕ}
+use Rattle.port_word.specs.Pictures.{no_wire}
 
 -- A node waits for data or for room, as its last status says and its picture shows. One that was
 -- never prepared has an output, and counts as one that waits for room.
@@ -19,9 +20,6 @@ pub record ProducerKnows (view port : Flags) : Type 0 where
   pub has_data : view.has_data ≡ port.has_data
   pub fin_out : view.fin_out ≡ port.fin_out
   pub fin_in : view.fin_in ≡ port.fin_in
-
-abbrev pub no_wire : Wire
-no_wire = record { from = 0; out = 0; to = 0; input = 0 }
 
 unfoldable pub wire_at : List Wire → ℕ → Wire
 wire_at wires e = slice_index_or wires e no_wire

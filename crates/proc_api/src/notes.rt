@@ -1,5 +1,5 @@
 ghost use Rattle.std.specs.Prelude.{◌≡◌, ◌≤◌};
-ghost use Rattle.proc_api.specs.Names.{IfOk, PortFlags, Prepared, Scheduled, Some, false, in_count, no_notes, out_count, port_flags, raised, true, vec_capacity};
+ghost use Rattle.proc_api.specs.Names.{IfOk, PortFlags, Prepared, Scheduled, Some, all_port_flags, false, in_count, no_notes, out_count, raised, true, vec_capacity};
 
 use crate::status::{Answer, Status, Wake, WorkFault};
 use chunk_data::Memory;
@@ -67,8 +67,12 @@ impl BoxNotes {
 
     /// Keeps the flags of the view that a `prepare` leaves, and its answer.
     pub fn note_view(&mut self, view: &PortView, status: Status)
-        ensures { self.new ≡ record self.old
-            { view = Some (port_flags view.now); answer = Some (Prepared status); acted = false } }
+        ensures { self.new ≡ record self.old {
+          view = Some (all_port_flags view.now);
+          answer = Some (Prepared status);
+          acted =
+              false;
+        } }
     {
         copy_inputs(&mut self.inputs, view);
         copy_outputs(&mut self.outputs, view);
@@ -138,7 +142,7 @@ impl BoxNotes {
 #[tactic(auto, using(crate::proofs::ViewFlags::copy_steps))]
 fn copy_inputs(flags: &mut Vec<Flags>, view: &PortView)
     requires { 32 ≤ vec_capacity flags.old }
-    ensures copied { flags.new.items ≡ (port_flags view.now).inputs }
+    ensures copied { flags.new.items ≡ (all_port_flags view.now).inputs }
     ensures room { 32 ≤ vec_capacity flags.new }
 {
     flags.clear();
@@ -151,7 +155,7 @@ fn copy_inputs(flags: &mut Vec<Flags>, view: &PortView)
 #[tactic(auto, using(crate::proofs::ViewFlags::copy_steps))]
 fn copy_outputs(flags: &mut Vec<Flags>, view: &PortView)
     requires { 16 ≤ vec_capacity flags.old }
-    ensures copied { flags.new.items ≡ (port_flags view.now).outputs }
+    ensures copied { flags.new.items ≡ (all_port_flags view.now).outputs }
     ensures room { 16 ≤ vec_capacity flags.new }
 {
     flags.clear();

@@ -1,16 +1,11 @@
--- By what a lawful processor lets its graph grow: by its spec and the files that its reader tells,
--- so that it is said of a box that faults later too. Only a list of parts grows, by a source a
--- path.
-use Rattle.std.specs.Prelude.{◌+◌, ◌<◌, ◌∷◌, ◌≡◌}
-use Rattle.proc_api.specs.Prelude.{Edge, Files, IfSome, List, Me, New, None, Option, PartSpec, Some, Spec, [], bad_line_in, false, file_bytes, length, map, paths_in, true, ℕ, ⊤}
+-- A list of parts grows by a source for each path, and passes on what these give.
+use Rattle.std.specs.Prelude.{◌++◌, ◌+◌, ◌<◌, ◌∷◌, ◌≡◌}
+use Rattle.proc_api.specs.Boxes.{kept_inputs, kept_output}
 use Rattle.query_model.specs.declared.processor_spec.Spec.TheVariants as spec
-use Rattle.proc_api.specs.Boxes.{FileSeen}
-use Rattle.proc_api.specs.Forms.{GrowthForm, SpecForm, unboxed}
-
--- the bytes of a part or list: those of its file, where files are told, and else any
-abbrev pub ArePartBytes : Option Files → List ℕ → List ℕ → Type 0
-ArePartBytes None path bytes = ⊤
-ArePartBytes (Some files) path bytes = file_bytes files path ≡ Some bytes
+use Rattle.proc_api.specs.Forms.{GrowthForm, SpecForm}
+use Rattle.proc_api.specs.KindContract.{AreCounts, BoxPicture, Edge, FileSeen, Files, IfSome, KindContract, List, Me, New, None, Option, PartSpec, Some, [], bad_line_in, chunk_by_chunk, false, file_of, grown_inputs, length, map, moved_work, paths_in, true, unboxed, ℕ}
+use Rattle.proc_api.specs.kinds.Csv.{ArePartBytes}
+use Rattle.proc_api.specs.kinds.Resize.{AreResized}
 
 -- the part of a path: the list's own, with that path and with its place, from 1, as part
 abbrev pub listed_part : PartSpec → ℕ → List ℕ → PartSpec
@@ -66,20 +61,36 @@ pub record IsListGrowth (list : PartSpec) (files : Option Files) (g : GrowthForm
   pub names_path : 0 < length (paths_in (Some text))
   pub is : g ≡ list_growth list (paths_in (Some text))
 
--- what a lawful box of the spec, whose reader tells these files, may let its graph grow by
-abbrev pub MayGrow : Option Spec → Option Files → Option GrowthForm → Type 0
-MayGrow s files None = ⊤
-MayGrow (Some (spec.List list)) files (Some g) = IsListGrowth list files g
-MayGrow None files (Some g) = ⊥
-MayGrow (Some (spec.Csv part)) files (Some g) = ⊥
-MayGrow (Some (spec.Numbers n rows)) files (Some g) = ⊥
-MayGrow (Some (spec.Filter c)) files (Some g) = ⊥
-MayGrow (Some (spec.Expression items)) files (Some g) = ⊥
-MayGrow (Some spec.Resize) files (Some g) = ⊥
-MayGrow (Some (spec.PartialAggregate groups)) files (Some g) = ⊥
-MayGrow (Some (spec.MergeAggregate groups)) files (Some g) = ⊥
-MayGrow (Some (spec.HashJoin join)) files (Some g) = ⊥
-MayGrow (Some (spec.Sort order)) files (Some g) = ⊥
-MayGrow (Some (spec.MergeSorted order)) files (Some g) = ⊥
-MayGrow (Some (spec.Limit span)) files (Some g) = ⊥
-MayGrow (Some spec.Collect) files (Some g) = ⊥
+-- A valid list is fetched, and each of its paths has its input.
+pub record HasReadList (p : BoxPicture) : Type 0 where
+  pub fetched : p.work.fetched ≡ true
+  pub valid : p.work.bad_line ≡ None
+  pub inputs : kept_inputs p ≡ length p.work.paths
+
+-- where it has made what its kind says
+pub record KeepsListed (list : PartSpec) (has_made : Type 0) (p : BoxPicture) : Type 0 where
+  pub knows : KnowsList list p.files (file_of p)
+  pub made : has_made
+  pub finished : (o : ℕ) → (kept_output p o).fin_out ≡ true → HasReadList p
+
+abbrev pub list_contract : PartSpec → KindContract
+list_contract list = record {
+  ports = λ growth i o. AreCounts i o (grown_inputs growth) 1;
+  fits = λ i types. types ≡ list.types;
+  types = λ ins types. types ≡ list.types;
+  most_rows = Some list.rows;
+  idle = λ w. w ≡ record (moved_work w) {
+    unmade = w.unmade;
+    opened = w.opened;
+    fetched = w.fetched;
+    paths = w.paths;
+    bad_line = w.bad_line;
+  };
+  made = λ own worked outs wait. AreResized worked outs (wait ++ own.unmade);
+  traits = record chunk_by_chunk {
+    ungrown = ⊥;
+    part = Some list;
+    grows = IsListGrowth list;
+    keeps = λ made p ins outs. KeepsListed list made p;
+  };
+}

@@ -1,0 +1,112 @@
+-- What is said of a kind of processors, in one record: that of each kind stands in the file of its
+-- name in `kinds/`, with the words of its own. Here is what several kinds share.
+use Rattle.std.specs.Prelude.{◌++◌, ◌<◌, ◌≡◌}
+pub use Rattle.proc_api.specs.Prelude.{All, AllByRecursion, Bool, ColumnType, Cond, Contains, Edge, Expr, Files, GroupSpec, IfSome, IsItem, IsPermutation, IsSorted, IsTypedCond, JoinSpec, KeyPair, List, Me, New, None, Option, PartSpec, Row, Some, SortKey, SortSpec, Span, Table, Who, [], bad_line_in, bad_place, cond, count_by, drop, enough, false, file_bytes, filter, flat_map, good_rows, holds, is_lt, item_row, joined_rows, length, limited, list_all, map, min, nat_lt, numbers, part_records, paths_in, row_cmp, slice_index_or, suc, true, type_of, zero, ℕ, ⊤}
+pub use Rattle.proc_api.specs.Boxes.{BoxPicture, FileSeen, InputHead, OwnState, PortFlags, WorkState, file_of, idle_work, kept_output, unworked_at}
+pub use Rattle.proc_api.specs.Forms.{GrowthForm, unboxed}
+pub use Rattle.proc_api.specs.Histories.{Lists, all_rows, chunk_rows}
+
+abbrev pub is_me : Who → Bool
+is_me Me = true
+is_me (New n) = false
+
+-- the inputs that a growth adds to the processor that grows
+abbrev pub grown_inputs : Option GrowthForm → ℕ
+grown_inputs None = 0
+grown_inputs (Some g) = count_by (λ (e : Edge). is_me e.to.who) g.edges
+
+abbrev pub AreCounts : (inputs outputs m n : ℕ) → Type 0
+AreCounts inputs outputs m n = (inputs ≡ m) × (outputs ≡ n)
+
+-- as many ports as the last view had
+abbrev pub AreAsKept : Option PortFlags → (inputs outputs : ℕ) → Type 0
+AreAsKept None inputs outputs = ⊤
+AreAsKept (Some ports) inputs outputs =
+    AreCounts inputs outputs (length ports.inputs) (length ports.outputs)
+
+-- ---- the record
+
+-- what is true of most kinds, and of few not
+pub record KindTraits : Type 1 where
+  -- where the spec fixes no number of ports, it is that of the last view
+  pub still : Option PortFlags → (inputs outputs : ℕ) → Type 0
+  -- it has noted the end of input i, before which it makes no rows, or pulls none of another
+  pub notes : OwnState → ℕ → Type 0
+  -- it has noted that end, where it reads an input to its end first, and a merge holds nothing
+  pub noted : OwnState → Type 0
+  -- it has read enough of what was pulled, and ends before its inputs do
+  pub enough : (ins : Lists) → Type 0
+  -- it asks for data only as long as it hasn't read enough
+  pub wanting : (read : ℕ) → Type 0
+  -- it closes no input before that is done
+  pub reads_whole : Type 0
+  -- its node has in every run the ports that the plan gives it
+  pub ungrown : Type 0
+  -- the part or list file of the spec, and by what it may let its graph grow, over the files that
+  -- its reader tells
+  pub part : Option PartSpec
+  pub grows : Option Files → GrowthForm → Type 0
+  -- what its box keeps, where the first of these says that it keeps what it has made
+  pub keeps : Type 0 → BoxPicture → (ins outs : Lists) → Type 0
+
+pub record KindContract : Type 1 where
+  -- so many inputs and outputs are the ports of the spec and the growth
+  pub ports : Option GrowthForm → (inputs outputs : ℕ) → Type 0
+  -- Chunks of these types fit an input: they are the types that the spec gives, or type its
+  -- condition, expressions and columns.
+  pub fits : ℕ → List ColumnType → Type 0
+  -- Chunks of these types may be pushed: they are the types of the rows that the spec makes, or of
+  -- a chunk that was pulled and fits, where rows are passed on as they are.
+  pub types : (ins : Lists) → List ColumnType → Type 0
+  -- the most rows of a chunk, where the spec states a number
+  pub most_rows : Option ℕ
+  -- what it doesn't use of the state is idle
+  pub idle : WorkState → Type 0
+  -- What it has made of its inputs: its own state, the chunks of each input that it worked, those
+  -- that left by each output, and the rows that wait.
+  pub made : OwnState → (worked outs : Lists) → (wait : List Row) → Type 0
+  pub traits : KindTraits
+
+-- ---- what several kinds share
+
+abbrev pub fixed_ports : (m n : ℕ) → Option GrowthForm → (inputs outputs : ℕ) → Type 0
+fixed_ports m n growth inputs outputs = AreCounts inputs outputs m n
+
+-- it goes on chunk by chunk to the ends of its inputs
+abbrev pub chunk_by_chunk : KindTraits
+chunk_by_chunk = record {
+  still = λ kept inputs outputs. ⊤;
+  notes = λ own i. ⊥;
+  noted = λ own. ⊤;
+  enough = λ ins. ⊥;
+  wanting = λ read. ⊤;
+  reads_whole = ⊤;
+  ungrown = ⊤;
+  part = None;
+  grows = λ files g. ⊥;
+  keeps = λ made p ins outs. made;
+}
+
+-- it reads all inputs to their ends before it makes a row
+abbrev pub reads_all_first : KindTraits
+reads_all_first =
+    record chunk_by_chunk { notes = λ own i. own.ended ≡ true; noted = λ own. own.ended ≡ true }
+
+abbrev pub no_table : Table
+no_table = record { types = []; rows = [] }
+
+-- a chunk that was pulled
+pub record IsPulled (ins : Lists) (types : List ColumnType) : Type 0 where
+  pub input : ℕ
+  pub place : ℕ
+  pub in_range : place < length (ins input)
+  pub is : (slice_index_or (ins input) place no_table).types ≡ types
+
+-- the chunks that are pulled and made, and all else idle
+abbrev pub moved_work : WorkState → WorkState
+moved_work w = record idle_work { unworked = w.unworked; source = w.source; made = w.made }
+
+-- beside those, the rows that can be made, what is gathered, and whether the end is noted
+abbrev pub IsGatheringWork : WorkState → Type 0
+IsGatheringWork w =
+    w ≡ record (moved_work w) { unmade = w.unmade; gathered = w.gathered; ended = w.ended }

@@ -1,0 +1,53 @@
+-- What is said of a kind by itself, in one row.
+use Rattle.proc_api.specs.Prelude.{Kind, List, Table, [], cond, false, true, Bool, ℕ}
+use Rattle.query_model.specs.declared.processor_spec.Kind.TheVariants as kind
+use Rattle.proc_api.specs.Boxes.{WorkState}
+use Rattle.std.specs.Prelude.{◌∷◌, codes}
+
+pub record KindRow : Type 0 where
+  pub place : ℕ
+  pub name : List ℕ
+  pub stock : ℕ
+  pub hands_out : Bool
+
+abbrev pub kind_row : (place : ℕ) → (name : List ℕ) → (stock : ℕ) → KindRow
+kind_row place name stock =
+    record { place = place; name = name; stock = stock; hands_out = false }
+
+abbrev pub row_of : Kind → KindRow
+row_of kind.Csv = kind_row 0 (codes "Csv") 64
+row_of kind.List = kind_row 1 (codes "List") 2
+row_of kind.Numbers = kind_row 2 (codes "Numbers") 2
+row_of kind.Filter = kind_row 3 (codes "Filter") 17
+row_of kind.Expression = kind_row 4 (codes "Expression") 17
+row_of kind.Resize = kind_row 5 (codes "Resize") 4
+row_of kind.PartialAggregate = kind_row 6 (codes "PartialAggregate") 16
+row_of kind.MergeAggregate = kind_row 7 (codes "MergeAggregate") 1
+row_of kind.HashJoin = kind_row 8 (codes "HashJoin") 1
+row_of kind.Sort = kind_row 9 (codes "Sort") 16
+row_of kind.MergeSorted = kind_row 10 (codes "MergeSorted") 1
+row_of kind.Limit = kind_row 11 (codes "Limit") 1
+row_of kind.Collect = record (kind_row 12 (codes "Collect") 1) { hands_out = true }
+
+-- all kinds, in their order
+abbrev pub all_kinds : List Kind
+all_kinds =
+    kind.Csv ∷ kind.List ∷ kind.Numbers ∷ kind.Filter ∷ kind.Expression ∷ kind.Resize
+    ∷ kind.PartialAggregate ∷ kind.MergeAggregate ∷ kind.HashJoin ∷ kind.Sort ∷ kind.MergeSorted
+    ∷ kind.Limit ∷ kind.Collect ∷ []
+
+-- the place of a kind in the order of kinds
+abbrev pub kind_place : Kind → ℕ
+kind_place k = (row_of k).place
+
+-- its name, as lines print it
+abbrev pub kind_name : Kind → List ℕ
+kind_name k = (row_of k).name
+
+-- how many boxes of a kind the standard stock has
+abbrev pub stock_of : Kind → ℕ
+stock_of k = (row_of k).stock
+
+-- what `take_rows` gives: the chunks of a collector, and none of any other kind
+abbrev pub handed_out_by : Kind → WorkState → List Table
+handed_out_by k w = cond (row_of k).hands_out w.gathered []

@@ -1,0 +1,13 @@
+pub mod Csv
+pub mod Resize
+pub mod List
+pub mod Numbers
+pub mod Filter
+pub mod Expression
+pub mod PartialAggregate
+pub mod MergeAggregate
+pub mod HashJoin
+pub mod Sort
+pub mod MergeSorted
+pub mod Limit
+pub mod Collect
