@@ -1,5 +1,5 @@
 -- A box works, or fetches.
-use Rattle.exec_laws.proofs.Words.{arith, ActsCell, BoxPicture, CellPicture, EdgeState, IsBorn, KeepsBox, List, NodeHolds, Running, StaysBox, StaysOrActs, Wire, follows-same, inl, inr, refl, rules, wire_at, ℕ, ◌<◌, ◌≡◌}
+use Rattle.exec_laws.proofs.Imports.{arith, ActsCell, BoxPicture, CellPicture, EdgeState, IsBorn, KeepsBox, List, NodeHolds, Running, StaysBox, StaysOrActs, Wire, follows-same, inl, inr, refl, rules, wire_at, ℕ, ◌<◌, ◌≡◌}
 use Rattle.exec_laws.proofs.Nodes.{busy-born, not-blank}
 use Rattle.exec_laws.proofs.Sides.{same-at, stays-end}
 
@@ -40,9 +40,9 @@ module _ {count : ℕ} {wires : List Wire} {cells : ℕ → CellPicture} {edges 
       }
 
   -- Each node was left as it was, or worked or fetched without a fault: it is due, or due a call.
-  pub acted : (after : ℕ → CellPicture) → ((n : ℕ) → StaysOrActs (cells n) (after n))
+  pub acting_runs_on : (after : ℕ → CellPicture) → ((n : ℕ) → StaysOrActs (cells n) (after n))
       → Running count wires after edges
-  acted after each =
+  acting_runs_on after each =
       let view : (n : ℕ) → (after n).view ≡ (cells n).view = grind arith in
       let spec : (n : ℕ) → (after n).box.spec ≡ (cells n).box.spec = grind arith in
       record {

@@ -1,5 +1,5 @@
 -- Births add up: those of a run are the ones so far, and then the next.
-use Rattle.exec_laws.proofs.Words.{rules, AllByRecursion, AreAllBorn, AreBirths, AreOnce, Birth, Bool, BoxPicture, GivesBox, GrowthForm, HasForm, IsBirth, IsBlank, IsBorn, IsSome, IsTrue, KeepsBox, List, MayGrow, None, Option, Reserve, Some, Spec, SpecForm, TakeBlanks, Wire, [], all_places, ap, append-nil, append_assoc, arith, births_of, blanks_of, box_at, cases_Bool, cases_eq, cases_lt, cond, eq-eqb, false, flat_map-append, form_kind, get_or, get_or-append_right, get_or_append_left, grown_ranks, grown_wires, growth_list, growths_of, inl, inr, is_place, is_some, kept_growths, length, length-append, list_any, list_any-append, map, map-append, ne_eqb, or_parts, or_right, places_for, refl, reserve_of, set_ranks, subst, suc, sum_by-append, sym, true, wired_by, zero, ℕ, ◌++◌, ◌+◌, ◌-◌, ◌<◌, ◌==◌, ◌||◌, ◌∙◌, ◌∷◌, ◌≡◌, ◌≤◌}
+use Rattle.exec_laws.proofs.Imports.{rules, AllByRecursion, AreAllBorn, AreBirths, AreOnce, Birth, Bool, BoxPicture, GivesBox, GrowthForm, HasForm, IsBirth, IsBlank, IsBorn, IsSome, IsTrue, KeepsBox, List, MayGrow, None, Option, Reserve, Some, Spec, SpecForm, TakeBlanks, Wire, [], all_places, ap, append-nil, append_assoc, arith, births_of, blanks_of, box_at, cases_Bool, cases_eq, cases_lt, cond, eq-eqb, false, flat_map-append, form_kind, get_or, get_or-append_right, get_or_append_left, grown_ranks, grown_wires, growth_list, growths_of, inl, inr, is_place, is_some, kept_growths, length, length-append, list_any, list_any-append, map, map-append, ne_eqb, or_parts, or_right, places_for, refl, reserve_of, set_ranks, subst, suc, sum_by-append, sym, true, wired_by, zero, ℕ, ◌++◌, ◌+◌, ◌-◌, ◌<◌, ◌==◌, ◌||◌, ◌∙◌, ◌∷◌, ◌≡◌, ◌≤◌}
 use Rattle.exec_laws.proofs.Acting.{stays-both}
 use Rattle.exec_laws.proofs.Nodes.{not-blank}
 

@@ -1,12 +1,12 @@
 -- An action of a node is carried out on its edge, and the node at the other end is told.
-use Rattle.exec_laws.proofs.Words.{Action, BoxPicture, CellPicture, EdgeState, Input, IsEnd, IsSound, List, Lists, MarkHolds, NodeHolds, NodeState, None, Option, Output, Picture, Port, QuietBut, Running, Status, Touches, Wire, action_port, after_action, ap, append_assoc, arith, chunks_of, eq-eqb, false, follows-taken, in_count, in_count-with_actions, input_at, is_told, out_count, out_count-with_actions, output_at, peer, refl, rules, sym, told_if, true, wire_at, with_actions, ℕ, ◌&&◌, ◌++◌, ◌==◌, ◌∙◌, ◌∷◌, ◌≡◌, ◌≢◌}
-use Rattle.exec_laws.proofs.Nodes.{apart, other-end, touched-on}
+use Rattle.exec_laws.proofs.Imports.{Action, BoxPicture, CellPicture, EdgeState, Input, IsEnd, IsSound, List, Lists, MarkHolds, NodeHolds, NodeStatus, None, Option, Output, Picture, Port, QuietBut, Running, Status, Touches, Wire, action_port, after_action, ap, append_assoc, arith, chunks_of, eq-eqb, false, follows-taken, in_count, in_count-with_actions, input_at, is_told, out_count, out_count-with_actions, output_at, peer, refl, rules, sym, told_if, true, wire_at, with_actions, ℕ, ◌&&◌, ◌++◌, ◌==◌, ◌∙◌, ◌∷◌, ◌≡◌, ◌≢◌}
+use Rattle.exec_laws.proofs.Nodes.{edge_ends_differ, other-end, touched-on}
 use Rattle.exec_laws.proofs.Ports.{port_allows, push-away, push-here}
-use Rattle.exec_laws.proofs.Sides.{Passes, QuietEnd, acts-here, acts-there, end-quiet, quiet-end}
+use Rattle.exec_laws.proofs.Sides.{QuietEnd, SidePasses, acts-here, acts-there, end-quiet, quiet-end}
 
 -- ---- a view whose actions were taken
 
-pub mark-taken : (s : NodeState) (last : Option Status) (m n : ℕ) (p : BoxPicture) (v : Picture)
+pub mark-taken : (s : NodeStatus) (last : Option Status) (m n : ℕ) (p : BoxPicture) (v : Picture)
     (xs : List Action) → MarkHolds s last m n p v → MarkHolds s last m n p (with_actions v xs)
 unfolding with_actions input_at output_at in_count out_count
 mark-taken s last m n p v xs h1 = search rules
@@ -29,7 +29,7 @@ acts-passes : (p : Port) (a : Action) (rest : List Action) (c : CellPicture) (e 
     (ins outs : Lists) → p ≡ action_port a → c.view.actions ≡ a ∷ rest
     → ((o : ℕ) → p ≡ Output o → e.flags.has_data ≡ false → e.chunk ≡ None)
     → port_allows (action_port a) a e.flags ≡ true
-    → Passes p c (record c { view = with_actions c.view rest }) e (after_action a e)
+    → SidePasses p c (record c { view = with_actions c.view rest }) e (after_action a e)
     ins outs ins outs
 unfolding with_actions input_at
 acts-passes (Input i) a rest c e ins outs at acts empty may =
@@ -41,7 +41,7 @@ acts-passes (Output o) a rest c e ins outs at acts empty may = λ l pushed.
 -- and at another port
 acts-away : (p : Port) (a : Action) (rest : List Action) (c : CellPicture) (e : EdgeState)
     (ins outs : Lists) → p ≢ action_port a → c.view.actions ≡ a ∷ rest
-    → Passes p c (record c { view = with_actions c.view rest }) e e ins outs ins outs
+    → SidePasses p c (record c { view = with_actions c.view rest }) e e ins outs ins outs
 unfolding with_actions input_at
 acts-away (Input i) a rest c e ins outs ne acts = refl
 acts-away (Output o) a rest c e ins outs ne acts = λ l pushed.
@@ -69,14 +69,14 @@ module _ {count : ℕ} {wires : List Wire} {cells : ℕ → CellPicture} {edges 
       let from = (rw is at t.is_there.at_port).0 in
       let lt = t.is_there.in_range in
       let h = end-quiet (Input w.input) (cells w.to) e
-      (quiet w.to (λ to. apart count wires r.graph t.edge lt (from ∙ sym to)))
+      (quiet w.to (λ to. edge_ends_differ count wires r.graph t.edge lt (from ∙ sym to)))
       (r.ends t.edge w.to (Input w.input) (record { in_range = lt; at_port = (refl, refl) })) in
       let there = h.data_there in
       grind (arith, there, none)
 
   -- the graph is running on, with one action less
-  pub carried : Running count wires after moved
-  carried =
+  pub carrying_runs_on : Running count wires after moved
+  carrying_runs_on =
       let c : CellPicture = cells n in
       let v : Picture = c.view in
       let end = r.ends t.edge n (action_port a) t.is_there in

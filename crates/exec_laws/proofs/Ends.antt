@@ -1,6 +1,6 @@
 -- Where nothing is due: either each born node is over, or some resting node's view contradicts its
 -- last status.
-use Rattle.exec_laws.proofs.Words.{CellPicture, ContradictsStatus, EdgeState, HasEdge, Input, IsBorn, IsNothingDue, IsOver, IsStuck, IsTrue, List, MarkTells, Output, Running, StuckNode, SupportsStatus, Wire, [], append-nil, append_assoc, box_at, boxes_of, cell_at, input_count, length, length-map, no_cell, output_count, pushes_to, refl, rules, stuck_from, wire_at, ℕ, ◌<◌, ◌≡◌}
+use Rattle.exec_laws.proofs.Imports.{CellPicture, ContradictsStatus, EdgeState, HasEdge, Input, IsBorn, IsNodeOver, IsNothingDue, IsStuck, IsTrue, List, MarkTells, Output, Running, StuckNode, SupportsStatus, Wire, [], append-nil, append_assoc, box_at, boxes_of, cell_at, input_count, length, length-map, no_cell, output_count, pushes_to, refl, rules, stuck_from, wire_at, ℕ, ◌<◌, ◌≡◌}
 use Rattle.exec_laws.proofs.Settled.{all-over, end-here, end-node, end-shown, node-there, over-holds}
 use Rattle.exec_laws.specs.Ends.{IsDone}
 use Rattle.std.proofs.Math.ListN.{get_or-map}
@@ -23,7 +23,7 @@ module _ (wires : List Wire) (cells : List CellPicture) (edges : ℕ → EdgeSta
   -- where each resting node's view supports its last status, the run is done
   module _ (rest : (n : ℕ) → n < length cells → SupportsStatus (cell_at cells n)) where
     over : (n : ℕ) → n < length cells → IsBorn (cell_at cells n).box
-        → IsOver (input_count wires n) (output_count wires n) (cell_at cells n).box
+        → IsNodeOver (input_count wires n) (output_count wires n) (cell_at cells n).box
         (cell_at cells n).view
     over n lt born = over-holds r quiet due n lt born (all-over r quiet due rest n lt)
 

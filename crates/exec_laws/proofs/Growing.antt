@@ -1,14 +1,14 @@
 -- A graph that has grown is running on: new nodes as before their first move, new wires over which
 -- nothing passed, and a node with new ports.
-use Rattle.exec_laws.proofs.Words.{ArePortsOf, AsksToGrow, Bool, BoxPicture, CellPicture, EdgeState, EndHolds, Files, FollowsKept, GrewCell, GrowthForm, HasEdge, HoldsGraph, Input, InputPort, IsBorn, IsFresh, IsListGrowth, IsNewNode, IsPort, IsTrue, List, Lists, MayGrow, Me, New, NewEdge, NodeHolds, None, Option, Output, PartSpec, Picture, Port, Running, Some, Spec, Who, Wire, [], after_grow, ap, arith, both_ways, cases_Bool, cases_eq, cases_lt, chunks_of, cond, count_by, end_node, eq-eqb, false, false_from_ne_true, follows-same, get_or, get_or-append_right, get_or-eq_default, get_or-replicate, get_or_append_left, grown_inputs, has_wrong_end, in_count, inl, input-of-count, input_at, input_count, inr, is_me, is_named, kept_input, kept_inputs, kept_output, kept_outputs, length, length-append, length-replicate, list_any, listed_edges, ltb-true, ne_eqb, new_edge, new_input, new_wire, new_wires, no_flags, no_input, no_lists, no_wire, not, or_parts, out_count, output-of-count, output_at, output_count, over_flags, pushes_to, refl, rules, sound-grow, subst, suc, sum_by-cons, sym, true, wire_at, ℕ, ◌++◌, ◌+◌, ◌-◌, ◌<◌, ◌==◌, ◌∙◌, ◌∷◌, ◌≡◌, ◌≢◌, ◌≤◌, ◌⊎◌}
+use Rattle.exec_laws.proofs.Imports.{ArePortsOf, AsksToGrow, Bool, BoxPicture, CellPicture, EdgeEndHolds, EdgeState, Files, FollowsKept, GrewCell, GrowthForm, HasEdge, HoldsGraph, Input, InputPort, IsBorn, IsFresh, IsListGrowth, IsNewNode, IsPort, IsTrue, List, Lists, MayGrow, Me, New, NewEdge, NodeHolds, None, Option, Output, PartSpec, Picture, Port, Running, Some, Spec, Who, Wire, [], after_grow, ap, arith, both_ways, cases_Bool, cases_eq, cases_lt, chunks_of, cond, count_by, end_node, eq-eqb, false, false_from_ne_true, follows-same, get_or, get_or-append_right, get_or-eq_default, get_or-replicate, get_or_append_left, grown_inputs, has_wrong_end, in_count, inl, input-of-count, input_at, input_count, inr, is_me, is_named, kept_input, kept_inputs, kept_output, kept_outputs, length, length-append, length-replicate, list_any, listed_edges, ltb-true, ne_eqb, new_edge, new_input, new_wire, new_wires, no_flags, no_input, no_lists, no_wire, not, or_parts, out_count, output-of-count, output_at, output_count, over_flags, pushes_to, refl, rules, sound-grow, subst, suc, sum_by-cons, sym, true, wire_at, ℕ, ◌++◌, ◌+◌, ◌-◌, ◌<◌, ◌==◌, ◌∙◌, ◌∷◌, ◌≡◌, ◌≢◌, ◌≤◌, ◌⊎◌}
 use Rattle.exec_laws.proofs.GrownGraphs.{not-false}
 use Rattle.exec_laws.proofs.Nodes.{busy-born, not-blank}
 use Rattle.exec_laws.proofs.Seeing.{port-below}
-use Rattle.exec_laws.proofs.Sides.{SameAt, input-itself, output-known, quiet-end, stays-end}
+use Rattle.exec_laws.proofs.Sides.{SamePort, input-itself, output-known, quiet-end, stays-end}
 use Rattle.exec_laws.proofs.Starting.{new-end, new-node, new-view}
 use Rattle.query_model.specs.declared.processor_spec.Spec.TheVariants as spec
 use Rattle.exec_laws.specs.declared.edges.DueCall.TheVariants as call
-use Rattle.exec_laws.specs.declared.edges.NodeState.TheVariants as node
+use Rattle.exec_laws.specs.declared.edges.NodeStatus.TheVariants as node
 
 -- ---- counts of ports
 
@@ -42,7 +42,7 @@ module _ (v : Picture) (ins outs : ℕ) (le_in : in_count v ≤ ins) (le_out : o
   unfolding in_count out_count
   wide-counts = grind (arith, length-append, length-replicate)
 
-  pub wide-old : (p : Port) → IsPort (in_count v) (out_count v) p → SameAt p wide v
+  pub wide-old : (p : Port) → IsPort (in_count v) (out_count v) p → SamePort p wide v
   unfolding in_count out_count input_at output_at
   wide-old (Input i) lt = get_or_append_left v.inputs _ no_input i lt
   wide-old (Output o) lt = get_or_append_left v.outputs _ over_flags o lt
@@ -137,20 +137,8 @@ pub record GrewList (s : Option Spec) (files : Option Files) (g : GrowthForm) : 
 
 grew-list : (s : Option Spec) (files : Option Files) (g : GrowthForm) → MayGrow s files (Some g)
     → GrewList s files g
-grew-list None files g h = absurd h
-grew-list (Some (spec.Csv part)) files g h = absurd h
 grew-list (Some (spec.List list)) files g h = record { list = list; is = refl; growth = h }
-grew-list (Some (spec.Numbers n rows)) files g h = absurd h
-grew-list (Some (spec.Filter c)) files g h = absurd h
-grew-list (Some (spec.Expression items)) files g h = absurd h
-grew-list (Some spec.Resize) files g h = absurd h
-grew-list (Some (spec.PartialAggregate groups)) files g h = absurd h
-grew-list (Some (spec.MergeAggregate groups)) files g h = absurd h
-grew-list (Some (spec.HashJoin join)) files g h = absurd h
-grew-list (Some (spec.Sort order)) files g h = absurd h
-grew-list (Some (spec.MergeSorted order)) files g h = absurd h
-grew-list (Some (spec.Limit span)) files g h = absurd h
-grew-list (Some spec.Collect) files g h = absurd h
+grew-list s files g h = absurd h
 
 -- where the grown ports are those of the spec and growth, the ones before were those of the spec
 ports-before : (s : Option Spec) (files : Option Files) (g : GrowthForm) (i o : ℕ)
@@ -378,7 +366,7 @@ module _ {count : ℕ} {wires : List Wire} {cells : ℕ → CellPicture} {edges 
     ShowsNew (Output o) v = output_at v o ≡ no_flags
 
     new-port : (p : Port) (c : CellPicture) → c.view.actions ≡ [] → ShowsNew p c.view
-        → EndHolds p c new_edge
+        → EdgeEndHolds p c new_edge
     new-port p c h1 h2 = search (rules, quiet-end, input-itself, output-known)
 
     shows-new : (e : ℕ) (p : Port) → HasEdge all n p e → length wires ≤ e
@@ -391,14 +379,14 @@ module _ {count : ℕ} {wires : List Wire} {cells : ℕ → CellPicture} {edges 
         (rw here.view.outs (past-old e (Output o) h le)) (port-below count all g n e (Output o) h))
 
     -- an old port of n shows what it did
-    same-port : (e : ℕ) (p : Port) → HasEdge wires n p e → SameAt p (after n).view (cells n).view
+    same-port : (e : ℕ) (p : Port) → HasEdge wires n p e → SamePort p (after n).view (cells n).view
     same-port e p h =
         rw own.view (wide-old (cells n).view _ _ le-in le-out p
         (rw (here.view.ins, here.view.outs) (port-below count wires r.graph n e p h)))
 
-    old-end : (e m : ℕ) (p : Port) → HasEdge wires m p e → EndHolds p (after m) (edges e)
+    old-end : (e m : ℕ) (p : Port) → HasEdge wires m p e → EdgeEndHolds p (after m) (edges e)
     old-end e m p h =
-        three (λ k. HasEdge wires k p e → EndHolds p (after k) (edges e)) m
+        three (λ k. HasEdge wires k p e → EdgeEndHolds p (after k) (edges e)) m
         (λ k. (stays-end p (cells n) (after n) (edges e) (r.pulled n) (r.pushed n) (same-port e p k)
         (rw own.view refl)
         (λ rests. let f : node.Due ≡ node.Resting = sym own.due ∙ rests in absurd (cc))
@@ -406,7 +394,7 @@ module _ {count : ℕ} {wires : List Wire} {cells : ℕ → CellPicture} {edges 
         (λ fresh k. absurd (both_ways _ (born-old m (r.born e m p k)) fresh))
         (λ ne old k. rw (others m ne old) (r.ends e m p k)) h
 
-    grown-end : (e m : ℕ) (p : Port) → HasEdge all m p e → EndHolds p (after m) (moved e)
+    grown-end : (e m : ℕ) (p : Port) → HasEdge all m p e → EdgeEndHolds p (after m) (moved e)
     grown-end e m p h = elim (cases_lt e (length wires)) [
       | inl le ↦ rw (old_edges e le) (old-end e m p (old-edge e m p h le))
       | inr le ↦ rw (new_edges e le h.in_range) (elim (new-end-at e m p h le) [
@@ -476,8 +464,8 @@ module _ {count : ℕ} {wires : List Wire} {cells : ℕ → CellPicture} {edges 
           rw (new_edges e le la, outs, ins.0, ins.1, same-actions w.from) refl
     ]
 
-    pub grown : Running count all after moved
-    grown = record {
+    pub growing_runs_on : Running count all after moved
+    growing_runs_on = record {
       graph = g;
       pulled = pulled;
       pushed = pushed;

@@ -1,5 +1,5 @@
 -- A graph with the nodes and wires of a growth that has no flaw is a graph.
-use Rattle.exec_laws.proofs.Words.{AreOnce, Bool, HasInputWire, HasOutputWire, IsEdge, IsGraph, IsGraphSoFar, List, Me, New, NewEdge, Who, Wire, [], and_parts, append-nil, append_assoc, arith, both_ways, cases_Bool, cases_eq, edge-added, end_node, end_rank, eq-eqb, false, get_or, get_or-append_right, get_or-set_other, get_or-set_same, get_or_append_left, has_gap, has_large_port, has_wrong_end, inl, input-below-count, input-of-count, input_count, inr, is-gapless, is_gapless, is_named, is_out_of_order, is_port_taken, length, length-append, length-set, list_any, list_any_at, ltb-true, ne_eqb, new_wire, new_wires, no_wire, not, or_parts, or_right, output-below-count, output-of-count, output_count, rank_at, refl, set, set_ranks, subst, suc, sym, true, wire-input, wire-output, wire_at, zero, ℕ, ◌++◌, ◌+◌, ◌<◌, ◌==◌, ◌∙◌, ◌∷◌, ◌≡◌, ◌≢◌, ◌≤◌}
+use Rattle.exec_laws.proofs.Imports.{AreOnce, Bool, HasInputWire, HasOutputWire, IsEdge, IsGraph, IsGraphSoFar, List, Me, New, NewEdge, Who, Wire, [], and_parts, append-nil, append_assoc, arith, both_ways, cases_Bool, cases_eq, edge-added, end_node, end_rank, eq-eqb, false, get_or, get_or-append_right, get_or-set_other, get_or-set_same, get_or_append_left, has_gap, has_large_port, has_wrong_end, inl, input-below-count, input-of-count, input_count, inr, is-gapless, is_gapless, is_named, is_out_of_order, is_port_taken, length, length-append, length-set, list_any, list_any_at, ltb-true, ne_eqb, new_wire, new_wires, no_wire, not, or_parts, or_right, output-below-count, output-of-count, output_count, rank_at, refl, set, set_ranks, subst, suc, sym, true, wire-input, wire-output, wire_at, zero, ℕ, ◌++◌, ◌+◌, ◌<◌, ◌==◌, ◌∙◌, ◌∷◌, ◌≡◌, ◌≢◌, ◌≤◌}
 
 -- ---- the ranks of new nodes
 

@@ -1,4 +1,4 @@
-pub mod Words
+pub mod Imports
 pub mod Settled
 pub mod Ports
 pub mod Sides

@@ -1,14 +1,14 @@
 -- Where one node moved, and others were at most told, the graph is running on.
-use Rattle.exec_laws.proofs.Words.{Bool, CellPicture, EdgeState, EndHolds, HasEdge, HoldsGraph, Input, IsBorn, IsEnd, IsSome, List, Lists, NodeHolds, None, Option, Output, Port, Running, Touches, Wire, ap, arith, cases_eq, chunks_of, cond, eq-eqb, inl, input_at, inr, length, ne_eqb, peer, refl, rules, subst, sym, told_if, wire_at, ℕ, ◌++◌, ◌<◌, ◌==◌, ◌∙◌, ◌≡◌, ◌≢◌}
-use Rattle.exec_laws.proofs.Sides.{Moves, end-told}
-use Rattle.exec_laws.specs.declared.edges.NodeState.TheVariants as node
+use Rattle.exec_laws.proofs.Imports.{Bool, CellPicture, EdgeEndHolds, EdgeState, HasEdge, HoldsGraph, Input, IsBorn, IsEnd, IsSome, List, Lists, NodeHolds, None, Option, Output, Port, Running, Touches, Wire, ap, arith, cases_eq, chunks_of, cond, eq-eqb, inl, input_at, inr, length, ne_eqb, peer, refl, rules, subst, sym, told_if, wire_at, ℕ, ◌++◌, ◌<◌, ◌==◌, ◌∙◌, ◌≡◌, ◌≢◌}
+use Rattle.exec_laws.proofs.Sides.{SideMoves, end-told}
+use Rattle.exec_laws.specs.declared.edges.NodeStatus.TheVariants as node
 
 -- ---- ends of edges
 
 -- the ends of an edge are two nodes
-pub apart : (count : ℕ) (wires : List Wire) → HoldsGraph count wires → (e : ℕ) → e < length wires
-    → (wire_at wires e).from ≢ (wire_at wires e).to
-apart count wires h1 e h2 = search rules
+pub edge_ends_differ : (count : ℕ) (wires : List Wire) → HoldsGraph count wires → (e : ℕ) → e
+    < length wires → (wire_at wires e).from ≢ (wire_at wires e).to
+edge_ends_differ count wires h1 e h2 = search rules
 
 -- the node at the other end, which is another node, is the peer
 pub other-end : (w : Wire) (n m : ℕ) (p q : Port) → IsEnd w n p → IsEnd w m q → m ≢ n → m ≡ peer w p
@@ -49,9 +49,9 @@ module _ {count : ℕ} {wires : List Wire} {cells : ℕ → CellPicture} {edges 
   -- told or not, and edges elsewhere are as they were.
   pub moved-on : (ins outs : Lists) → NodeHolds wires n (after n) ins outs
       → ((e : ℕ) (p : Port) → HasEdge wires n p e
-      → Moves p (cells n) (after n) (edges e) (moved e) (r.pulled n) (r.pushed n) ins outs)
+      → SideMoves p (cells n) (after n) (edges e) (moved e) (r.pulled n) (r.pushed n) ins outs)
       → ((e m : ℕ) (p : Port) → HasEdge wires m p e → m ≢ n
-      → EndHolds p (told_if (rung m) (cells m)) (moved e))
+      → EdgeEndHolds p (told_if (rung m) (cells m)) (moved e))
       → ((e : ℕ) → (wire_at wires e).from ≢ n → (wire_at wires e).to ≢ n → moved e ≡ edges e)
       → Running count wires after moved
   moved-on ins outs here own peers far = record {
@@ -72,7 +72,7 @@ module _ {count : ℕ} {wires : List Wire} {cells : ℕ → CellPicture} {edges 
         blank;
     born = λ e m p h. at-node (λ k. IsBorn (cells k).box → IsBorn (after k).box) n m
         (λ _. here.box.running.loaded) (λ ne b. rw (others m ne) b) (r.born e m p h);
-    ends = λ e m p h. at-node (λ k. HasEdge wires k p e → EndHolds p (after k) (moved e)) n m
+    ends = λ e m p h. at-node (λ k. HasEdge wires k p e → EdgeEndHolds p (after k) (moved e)) n m
         (λ k. (own e p k).holds) (λ ne k. rw (others m ne) (peers e m p k ne)) h;
     lists = λ e lt.
         let w : Wire = wire_at wires e in
@@ -82,7 +82,7 @@ module _ {count : ℕ} {wires : List Wire} {cells : ℕ → CellPicture} {edges 
         let outs_here = lists-here n outs r.pushed in
         elim (cases_eq w.to n) [
           | inl to ↦
-              let nf : w.from ≢ n = (λ f. apart count wires r.graph e lt (f ∙ sym to)) in
+              let nf : w.from ≢ n = (λ f. edge_ends_differ count wires r.graph e lt (f ∙ sym to)) in
               let end = own e (Input w.input) (record { in_range = lt; at_port = (to, refl) }) in
               let passes = end.passes in
               let x = view w.from nf in
@@ -113,19 +113,19 @@ module _ {count : ℕ} {wires : List Wire} {cells : ℕ → CellPicture} {edges 
   -- at the node's other ports, is given.
   module _ (p : Port) (how : EdgeState → EdgeState) (t : Touches wires n p how edges moved) where
     pub touched-on : NodeHolds wires n (after n) (r.pulled n) (r.pushed n)
-        → Moves p (cells n) (after n) (edges t.edge) (how (edges t.edge))
+        → SideMoves p (cells n) (after n) (edges t.edge) (how (edges t.edge))
         (r.pulled n) (r.pushed n) (r.pulled n) (r.pushed n)
-        → ((e : ℕ) (q : Port) → q ≢ p → EndHolds q (cells n) (edges e)
-        → Moves q (cells n) (after n) (edges e) (edges e)
+        → ((e : ℕ) (q : Port) → q ≢ p → EdgeEndHolds q (cells n) (edges e)
+        → SideMoves q (cells n) (after n) (edges e) (edges e)
         (r.pulled n) (r.pushed n) (r.pulled n) (r.pushed n))
         → ((m : ℕ) (q : Port) → HasEdge wires m q t.edge → m ≢ n
-        → EndHolds q (told_if (rung m) (cells m)) (how (edges t.edge)))
+        → EdgeEndHolds q (told_if (rung m) (cells m)) (how (edges t.edge)))
         → Running count wires after moved
     touched-on here own own_others peers =
         moved-on (r.pulled n) (r.pushed n) here
         (λ e q h. elim (cases_eq e t.edge) [
           | inl same ↦
-              let two = apart count wires r.graph t.edge t.is_there.in_range in
+              let two = edge_ends_differ count wires r.graph t.edge t.is_there.in_range in
               let there = t.is_there.at_port in
               let here = (rw same at h).at_port in
               let at : q ≡ p = search (rules, there, here) in

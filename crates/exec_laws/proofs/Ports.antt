@@ -1,5 +1,5 @@
 -- What actions leave at one port.
-use Rattle.exec_laws.proofs.Words.{Action, Bool, ChangedByCalls, EachAction, EdgeState, Flags, Input, InputAllows, InputPort, IsDone, List, None, Option, Output, OutputAllows, Picture, Port, PortCall, Table, [], action_port, after_action, after_call, after_calls, ap, arith, chunk_after, chunk_step, chunks_of, eqb-true, false, holds_data, in_count, in_count-with_actions, in_count-with_input, in_count-with_output, input_after, input_allows, input_step, is_some, out_count, out_count-with_actions, out_count-with_input, out_count-with_output, output_allows, output_step, pushes_to, refl, rules, taken_out, true, with_actions, with_input, with_output, ℕ, ◌++◌, ◌||◌, ◌∙◌, ◌∷◌, ◌≡◌, ◌≤◌, ◌⊎◌}
+use Rattle.exec_laws.proofs.Imports.{Action, Bool, ChangedByCalls, EachAction, EdgeState, Flags, Input, InputAllows, InputPort, List, None, Option, Output, OutputAllows, Picture, Port, PortCall, ShowsInFlags, Table, [], action_port, after_action, after_call, after_calls, ap, arith, chunk_after, chunk_step, chunks_of, eqb-true, false, holds_data, in_count, in_count-with_actions, in_count-with_input, in_count-with_output, input_after, input_allows, input_step, is_some, out_count, out_count-with_actions, out_count-with_input, out_count-with_output, output_allows, output_step, pushes_to, refl, rules, taken_out, true, with_actions, with_input, with_output, ℕ, ◌++◌, ◌||◌, ◌∙◌, ◌∷◌, ◌≡◌, ◌≤◌, ◌⊎◌}
 
 -- ---- an input and its chunk, while its node acts
 
@@ -44,14 +44,14 @@ full-unpushed o [] f allows full = refl
 full-unpushed o (a ∷ xs) f allows full =
     let on = full-on o a xs f allows.0 full in on.0 ∙ full-unpushed o xs _ allows.1 on.1
 
-past-on : (p : Picture) (o : ℕ) (a : Action) (xs : List Action) → out_count p ≤ o → IsDone p a
+past-on : (p : Picture) (o : ℕ) (a : Action) (xs : List Action) → out_count p ≤ o → ShowsInFlags p a
     → pushes_to o (a ∷ xs) ≡ pushes_to o xs
 unfolding pushes_to
 past-on p o a xs h1 h2 = search (rules, eqb-true)
 
 -- an action pushes to none but the outputs that there are
 pub past-unpushed : (p : Picture) (o : ℕ) → out_count p ≤ o → (xs : List Action)
-    → EachAction (IsDone p) xs → pushes_to o xs ≡ []
+    → EachAction (ShowsInFlags p) xs → pushes_to o xs ≡ []
 unfolding pushes_to
 past-unpushed p o le [] h = refl
 past-unpushed p o le (a ∷ xs) h = past-on p o a xs le h.0 ∙ past-unpushed p o le xs h.1

@@ -1,8 +1,8 @@
 -- A due node sees one of its ports.
-use Rattle.exec_laws.proofs.Words.{CellPicture, EdgeState, Flags, HasEdge, HasPort, HoldsGraph, Input, IsPort, IsSound, List, Lists, MaySee, NodeHolds, Option, Output, Picture, Port, Running, Table, Touches, ViewHolds, Wire, [], actions-with_input, actions-with_output, after_see, ap, append_assoc, cases_eq, chunks_of, false, follows-seen-input, follows-seen-output, in_count, in_count-with_input, in_count-with_output, inl, input-below-count, input_at, input_at-with_input, input_at-with_input-other, input_at-with_output, input_count, inr, lifted, out_count, out_count-with_input, out_count-with_output, output-below-count, output_at-with_input, output_at-with_output, output_at-with_output-other, output_count, port_flags, rules, sym, unloaded, ℕ, ◌++◌, ◌<◌, ◌∙◌, ◌≡◌, ◌≢◌, ◌⊎◌}
+use Rattle.exec_laws.proofs.Imports.{CellPicture, EdgeState, Flags, HasEdge, HasPort, HoldsGraph, Input, IsPort, IsSound, List, Lists, MaySee, NodeHolds, Option, Output, Picture, Port, Running, Table, Touches, ViewHolds, Wire, [], actions-with_input, actions-with_output, after_see, ap, append_assoc, cases_eq, chunks_of, false, follows-seen-input, follows-seen-output, in_count, in_count-with_input, in_count-with_output, inl, input-below-count, input_at, input_at-with_input, input_at-with_input-other, input_at-with_output, input_count, inr, lifted, out_count, out_count-with_input, out_count-with_output, output-below-count, output_at-with_input, output_at-with_output, output_at-with_output-other, output_count, port_flags, rules, sym, unloaded, ℕ, ◌++◌, ◌<◌, ◌∙◌, ◌≡◌, ◌≢◌, ◌⊎◌}
 use Rattle.exec_laws.proofs.Nodes.{busy-born, touched-on}
-use Rattle.exec_laws.proofs.Sides.{Passes, QuietEnd, SameAt, end-quiet, output-known, quiet-end, stays-end}
-use Rattle.exec_laws.specs.declared.edges.NodeState.TheVariants as node
+use Rattle.exec_laws.proofs.Sides.{QuietEnd, SamePort, SidePasses, end-quiet, output-known, quiet-end, stays-end}
+use Rattle.exec_laws.specs.declared.edges.NodeStatus.TheVariants as node
 
 -- ---- ports in range
 
@@ -34,7 +34,7 @@ ruleset other_inputs = (input_at-with_input-other, input_at-with_output)
 ruleset other_ports = (other_inputs, output_at-with_input, output_at-with_output-other)
 
 pub see-elsewhere : (p q : Port) (v : Picture) (f : Flags) (x : Option Table) → q ≢ p
-    → SameAt q (after_see v p f x) v
+    → SamePort q (after_see v p f x) v
 see-elsewhere p q v f x h1 = search (rules, other_ports)
 
 -- the view shows the edge's flags at the port, and what it showed at others
@@ -58,7 +58,7 @@ see-keeps p q v e f ours same h = elim (port-cases q p) [
     port-cases (Output o) (Output k) =
         elim (cases_eq o k) [ inl e ↦ inl (ap Output e) | inr ne ↦ inr (λ h. ne (cc)) ]
 
-    shown : (x : Port) (u w : Picture) → SameAt x u w → port_flags u x ≡ port_flags w x
+    shown : (x : Port) (u w : Picture) → SamePort x u w → port_flags u x ≡ port_flags w x
     shown x u w k = search rules
 
 own-sees : (p : Port) (c : CellPicture) (e : EdgeState) → HasPort c.view p → QuietEnd p c e
@@ -75,7 +75,7 @@ own-lying i c e h1 h2 = search (rules, input_at-with_input)
 -- and what passed there adds up
 seen-passes : (p : Port) (c : CellPicture) (e : EdgeState) (ins outs : Lists) → HasPort c.view p
     → QuietEnd p c e
-    → Passes p c (record c { view = after_see c.view p e.flags (lifted p e) }) e (unloaded p e)
+    → SidePasses p c (record c { view = after_see c.view p e.flags (lifted p e) }) e (unloaded p e)
     ins outs ins outs
 seen-passes (Input i) c e ins outs h k =
     append_assoc (ins i) _ _ ∙ ap (λ l. ins i ++ l) (sym (own-lying i c e h k))
@@ -107,8 +107,8 @@ module _ {count : ℕ} {wires : List Wire} {cells : ℕ → CellPicture} {edges 
       })
       (sound : IsSound (after n).view) (others : (m : ℕ) → m ≢ n → after m ≡ cells m) where
     -- it is running on
-    pub seen : Running count wires after moved
-    seen =
+    pub seeing_runs_on : Running count wires after moved
+    seeing_runs_on =
         let v : Picture = (cells n).view in
         let e : EdgeState = edges t.edge in
         let counts = see-counts p v e.flags (lifted p e) in

@@ -1,14 +1,14 @@
 -- Where nothing is due, and each node at rest rests as its view supports, every node is over.
-use Rattle.exec_laws.proofs.Words.{Bool, CellPicture, EdgeState, HasEdge, HasPort, Input, IsBorn, IsOver, List, NodeHolds, NodeState, Option, Output, Picture, Port, Rests, Running, Status, WaitsForData, WaitsForRoom, Wire, [], arith, false, false_from_ne_true, get_or-le-sum_by, input_count, is_out_finished, is_resting, is_waiting, number_at, output_count, rank_at, refl, rules, suc, sum_by, true, wire_at, zero, ℕ, ◌+◌, ◌<◌, ◌≡◌, ◌≤◌}
+use Rattle.exec_laws.proofs.Imports.{Bool, CellPicture, EdgeState, HasEdge, HasPort, Input, IsBorn, IsNodeOver, List, NodeHolds, NodeStatus, Option, Output, Picture, Port, Rests, Running, Status, WaitsForData, WaitsForRoom, Wire, [], arith, false, false_from_ne_true, get_or-le-sum_by, input_count, is_out_finished, is_resting, is_waiting, number_at, output_count, rank_at, refl, rules, suc, sum_by, true, wire_at, zero, ℕ, ◌+◌, ◌<◌, ◌≡◌, ◌≤◌}
 use Rattle.exec_laws.proofs.Nodes.{busy-born}
 use Rattle.exec_laws.proofs.Seeing.{port-below, port-shown}
 use Rattle.exec_laws.proofs.Sides.{QuietEnd, end-quiet}
-use Rattle.exec_laws.specs.declared.edges.NodeState.TheVariants as node
+use Rattle.exec_laws.specs.declared.edges.NodeStatus.TheVariants as node
 
 unless : (b c : Bool) → (b ≡ false → c ≡ true) → c ≡ false → b ≡ true
 unless b c h1 h2 = grind arith
 
-pub rests-so : (s : NodeState) → is_resting s ≡ true → s ≡ node.Resting
+pub rests-so : (s : NodeStatus) → is_resting s ≡ true → s ≡ node.Resting
 rests-so s h1 = grind arith
 
 -- a node that rests waits for data or for room
@@ -23,7 +23,7 @@ module _ {count : ℕ} {wires : List Wire} {cells : ℕ → CellPicture} {edges 
   is_open n = is_resting (cells n).mark.state
 
   pub over-holds : (n : ℕ) → n < count → IsBorn (cells n).box → is_open n ≡ false
-      → IsOver (input_count wires n) (output_count wires n) (cells n).box (cells n).view
+      → IsNodeOver (input_count wires n) (output_count wires n) (cells n).box (cells n).view
   over-holds n h1 h2 h3 = search rules
 
   open-node : (n : ℕ) → n < count → is_open n ≡ true

@@ -1,9 +1,9 @@
 -- A graph before its first move.
-use Rattle.exec_laws.proofs.Words.{Bool, BoxPicture, CellPicture, EdgeState, EndHolds, HasEdge, HoldsGraph, Input, IsBorn, IsFresh, IsNewNode, IsPort, List, MarkHolds, NodeHolds, None, Output, Port, Running, StandStill, Wire, ap, arith, cases_Bool, cond, false, false_from_ne_true, follows-new, get_or-replicate, in_count, inl, input_at, input_count, inr, length, length-replicate, new_edge, new_input, new_picture, no_flags, no_lists, out_count, output_at, output_count, position-still, pushes_to, refl, rules, sound-new, suc, true, wire_at, zero, ℕ, ◌<◌, ◌==◌, ◌∙◌, ◌≡◌}
+use Rattle.exec_laws.proofs.Imports.{Bool, BoxPicture, CellPicture, EdgeEndHolds, EdgeState, HasEdge, HoldsGraph, Input, IsBorn, IsFresh, IsNewNode, IsPort, List, MarkHolds, NodeHolds, None, Output, Port, Running, StandStill, Wire, ap, arith, cases_Bool, cond, false, false_from_ne_true, follows-new, get_or-replicate, in_count, inl, input_at, input_count, inr, length, length-replicate, new_edge, new_input, new_picture, no_flags, no_lists, out_count, output_at, output_count, position-still, pushes_to, refl, rules, sound-new, suc, true, wire_at, zero, ℕ, ◌<◌, ◌==◌, ◌∙◌, ◌≡◌}
 use Rattle.exec_laws.proofs.Nodes.{not-blank}
 use Rattle.exec_laws.proofs.Seeing.{port-below}
 use Rattle.exec_laws.proofs.Sides.{input-itself, output-known, quiet-end}
-use Rattle.exec_laws.specs.declared.edges.NodeState.TheVariants as node
+use Rattle.exec_laws.specs.declared.edges.NodeStatus.TheVariants as node
 
 -- a new view has these ports, on which nothing passed
 pub new-view : (m n : ℕ) → let v = new_picture m n in (in_count v ≡ m) × (out_count v ≡ n)
@@ -39,7 +39,7 @@ new-node wires n c fresh h =
 
 -- an end of an edge over which nothing passed yet
 pub new-end : (p : Port) (m n : ℕ) (c : CellPicture) → c.view ≡ new_picture m n → IsPort m n p
-    → EndHolds p c new_edge
+    → EdgeEndHolds p c new_edge
 new-end p m n c h1 h2 =
     let shown = new-view m n in
     search (rules, quiet-end, shown.2, input-itself, output-known, shown.3)
@@ -63,9 +63,9 @@ module _ (count : ℕ) (wires : List Wire) (g : HoldsGraph count wires) (cells :
   cell-at : (e n : ℕ) (p : Port) → HasEdge wires n p e → IsNewNode wires n (cells n)
   cell-at e n p h = cell n (node-there e n p h) (unwired e n p h)
 
-  pub started : Running count wires cells edges
+  pub start_runs : Running count wires cells edges
   unfolding pushes_to
-  started = record {
+  start_runs = record {
     graph = g;
     pulled = λ n. no_lists;
     pushed = λ n. no_lists;

@@ -1,18 +1,18 @@
 -- A node that has seen its ports is prepared.
-use Rattle.exec_laws.proofs.Words.{FollowsKept, BoxHolds, BoxPicture, CellPicture, EdgeState, Flags, HasFinished, Holds, Input, IsOver, IsPort, IsTrue, Knows, List, Lists, MarkHolds, NodeHolds, Output, Picture, Port, Prepared, Running, Some, Status, StatusComes, StatusHolds, Turns, ViewHolds, Wire, [], ap, append-nil, append_assoc, as-kept-noted, changed-by-both, chunks_of, difference-calls, false, follows-noted, get_or-eq_default, in_count, inl, input_after, input_at, input_count, kept_input-of, kept_inputs-of, kept_output-of, kept_outputs-of, out_count, output_after, output_at, output_count, port_flags, position-still, pushed_at, pushes_to, refl, rules, state_after, sym, taken_out, with_pulled, with_pushed, ℕ, ◌++◌, ◌<◌, ◌∙◌, ◌≡◌, ◌≢◌, ◌≤◌}
+use Rattle.exec_laws.proofs.Imports.{FollowsKept, BoxHolds, BoxPicture, CellPicture, EdgeState, Flags, HasFinished, PictureHolds, Input, IsNodeOver, IsPort, IsTrue, ViewKnows, List, Lists, MarkHolds, NodeHolds, Output, Picture, Port, Prepared, Running, Some, Status, StatusComes, StatusHolds, NodeTurns, ViewHolds, Wire, [], ap, append-nil, append_assoc, as-kept-noted, changed-by-both, chunks_of, difference-calls, false, follows-noted, get_or-eq_default, in_count, inl, input_after, input_at, input_count, kept_input-of, kept_inputs-of, kept_output-of, kept_outputs-of, out_count, output_after, output_at, output_count, port_flags, position-still, pushed_at, pushes_to, refl, rules, state_after, sym, taken_out, with_pulled, with_pushed, ℕ, ◌++◌, ◌<◌, ◌∙◌, ◌≡◌, ◌≢◌, ◌≤◌}
 use Rattle.exec_laws.proofs.Nodes.{busy-born, moved-on}
 use Rattle.exec_laws.proofs.Ports.{Lies, changed-inputs, changed-outputs, full-unpushed, lies-after, past-unpushed, taken-left}
 use Rattle.exec_laws.proofs.Seeing.{port-below}
-use Rattle.exec_laws.proofs.Sides.{Moves, QuietEnd, end-quiet, input-itself, output-known}
+use Rattle.exec_laws.proofs.Sides.{QuietEnd, SideMoves, end-quiet, input-itself, output-known}
 use Rattle.proc_api.specs.declared.status.Status.TheVariants as status
-use Rattle.exec_laws.specs.declared.edges.NodeState.TheVariants as node
+use Rattle.exec_laws.specs.declared.edges.NodeStatus.TheVariants as node
 
 -- ---- what the answer says of the node
 
 mark-after : (s : Status) (inputs outputs : ℕ) (q : BoxPicture) (v : Picture)
     → q.notes.answer ≡ Some (Prepared s) → q.notes.acted ≡ false
     → (IsTrue q.lawful → StatusHolds s v) → (IsTrue q.lawful → StatusComes s q)
-    → (s ≡ status.Finished → IsOver inputs outputs q v)
+    → (s ≡ status.Finished → IsNodeOver inputs outputs q v)
     → MarkHolds (state_after s) (Some s) inputs outputs q v
 mark-after s inputs outputs q v h1 h2 h3 h4 h5 = search rules
 
@@ -24,7 +24,7 @@ past v w ins i h1 h2 = search (rules, get_or-eq_default)
 -- ---- the node
 
 -- a node with m inputs and k outputs
-module _ (m k : ℕ) (c d : CellPicture) (t : Turns c d) (quiet : c.view.actions ≡ [])
+module _ (m k : ℕ) (c d : CellPicture) (t : NodeTurns c d) (quiet : c.view.actions ≡ [])
     (pulled pushed : Lists) (was : BoxHolds m k c.box pulled pushed)
     (seen : ViewHolds m k c.view) where
   abbrev ins : Lists
@@ -33,7 +33,7 @@ module _ (m k : ℕ) (c d : CellPicture) (t : Turns c d) (quiet : c.view.actions
   abbrev outs : Lists
   outs = with_pushed c.view t.left pushed
 
-  pub explained : Holds (λ i. (input_at c.view i).flags) (λ i. (input_at c.view i).chunk)
+  pub explained : PictureHolds (λ i. (input_at c.view i).flags) (λ i. (input_at c.view i).chunk)
       (λ o. output_at c.view o) d.view
   explained = difference-calls c.view d.view seen.sound quiet
       (changed-by-both c.view t.left d.view t.prepares.changed t.leaves.changed)
@@ -63,7 +63,7 @@ module _ (m k : ℕ) (c d : CellPicture) (t : Turns c d) (quiet : c.view.actions
 
   -- an end of an edge that the view knows moves on: it shows the edge as its actions will leave it
   turned-end : (p : Port) (e : EdgeState) → port_flags c.view p ≡ e.flags → QuietEnd p c e
-      → Moves p c d e e pulled pushed ins outs
+      → SideMoves p c d e e pulled pushed ins outs
   unfolding pushes_to
   turned-end (Input i) e knows end =
       let exact : (input_at d.view i).flags ≡ input_after i d.view.actions e.flags =
@@ -140,7 +140,7 @@ module _ (m k : ℕ) (c d : CellPicture) (t : Turns c d) (quiet : c.view.actions
         kept = λ l. has-finished l e;
       })
 
-turned-node : (wires : List Wire) (n : ℕ) (c d : CellPicture) (t : Turns c d)
+turned-node : (wires : List Wire) (n : ℕ) (c d : CellPicture) (t : NodeTurns c d)
     → c.view.actions ≡ [] → (pulled pushed : Lists) → NodeHolds wires n c pulled pushed
     → NodeHolds wires n d (with_pulled c.view t.left pulled) (with_pushed c.view t.left pushed)
 turned-node wires n c d t quiet pulled pushed h =
@@ -158,13 +158,15 @@ turned-node wires n c d t quiet pulled pushed h =
 -- ---- the graph
 
 -- A due node that knows its ports was prepared: the graph runs on, and its actions wait.
-pub turned : {count : ℕ} {wires : List Wire} {cells : ℕ → CellPicture} {edges : ℕ → EdgeState}
+pub prepared_runs_on : {count : ℕ} {wires : List Wire} {cells : ℕ → CellPicture}
+    {edges : ℕ → EdgeState}
     (r : Running count wires cells edges) → ((m : ℕ) → (cells m).view.actions ≡ [])
     → (n : ℕ) → n < count → (cells n).mark.state ≡ node.Due
-    → ((p : Port) → IsPort (input_count wires n) (output_count wires n) p → Knows (cells n) p edges)
-    → (after : ℕ → CellPicture) → Turns (cells n) (after n) → ((m : ℕ) → m ≢ n → after m ≡ cells m)
-    → Running count wires after edges
-turned {count} {wires} {cells} {edges} r quiet n lt due knows after t others =
+    → ((p : Port) → IsPort (input_count wires n) (output_count wires n) p
+    → ViewKnows (cells n) p edges)
+    → (after : ℕ → CellPicture) → NodeTurns (cells n) (after n)
+    → ((m : ℕ) → m ≢ n → after m ≡ cells m) → Running count wires after edges
+prepared_runs_on {count} {wires} {cells} {edges} r quiet n lt due knows after t others =
     let own : NodeHolds wires n (cells n) (r.pulled n) (r.pushed n) =
     r.each n lt (busy-born count wires cells edges r n lt (λ e.
     let f : node.Due ≡ node.Unborn = sym due ∙ e in cc)) in

@@ -4,6 +4,7 @@ use Rattle.exec_laws.specs.Prelude.{Blank, GrowthFlaw, GrowthForm, Kind, Me, New
 use Rattle.std.specs.List.{list_any}
 use Rattle.std.specs.Option.{option_map}
 use Rattle.std.specs.Prelude.{Bool, List, Option, Some, [], cond, count_by, false, find, if◌then◌else◌, length, map, nat_lt, not, slice_index_or, suc, true, ℕ, ◌&&◌, ◌++◌, ◌||◌, ◌∷◌}
+use Rattle.proc_api.specs.KindRows.{all_kinds}
 use Rattle.query_model.specs.declared.processor_spec.Kind.TheVariants as kinds
 use Rattle.exec_laws.specs.declared.growth.GrowthFlaw.TheVariants as flaw
 
@@ -81,11 +82,6 @@ is_port_taken wires (w ∷ more) =
 
 abbrev pub has_gap : List Wire → ℕ → Bool
 has_gap wires n = not (is_gapless wires n)
-
-abbrev pub all_kinds : List Kind
-all_kinds = kinds.Csv ∷ kinds.List ∷ kinds.Numbers ∷ kinds.Filter ∷ kinds.Expression ∷ kinds.Resize
-    ∷ kinds.PartialAggregate ∷ kinds.MergeAggregate ∷ kinds.HashJoin ∷ kinds.Sort
-    ∷ kinds.MergeSorted ∷ kinds.Limit ∷ kinds.Collect ∷ []
 
 -- whether there are fewer blanks of the kind than new nodes
 abbrev pub lacks_blank : List Kind → List Blank → Kind → Bool

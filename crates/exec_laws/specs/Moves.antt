@@ -1,10 +1,10 @@
 -- The moves of an executor, and what each does.
-use Rattle.exec_laws.specs.Prelude.{Action, BoxPicture, ChangedByCalls, Close, CountsOn, EdgeState, Finish, GrowthForm, Input, IsAllFinished, KeepsSame, MayGrow, NodeMark, NodeState, NotesView, Output, Picture, Port, PreparesLawfully, Pull, PulledOn, Push, SameBox, SameChunks, Status, Table, Unwant, Want, Wire, after_grow, input_count, new_picture, output_count, port_flags}
+use Rattle.exec_laws.specs.Prelude.{Action, BoxPicture, ChangedByCalls, Close, CountsOn, EdgeState, Finish, GrowthForm, Input, IsAllFinished, KeepsSame, MayGrow, NodeMark, NodeStatus, NotesView, Output, Picture, Port, PreparesLawfully, Pull, PulledOn, Push, SameBox, SameChunks, Status, Table, Unwant, Want, Wire, after_grow, input_count, new_picture, output_count, port_flags}
 use Rattle.exec_laws.specs.Runs.{AreEdgesOf, CellPicture, HasEdge, IsBorn, MarkHolds, port_edge}
 use Rattle.std.specs.Prelude.{Bool, IsTrue, List, None, Option, Some, cond, false, true, ℕ, ◌==◌, ◌≡◌, ◌≢◌, ◌⊎◌}
 use Rattle.proc_api.specs.declared.status.Status.TheVariants as status
 use Rattle.exec_laws.specs.declared.edges.DueCall.TheVariants as call
-use Rattle.exec_laws.specs.declared.edges.NodeState.TheVariants as node
+use Rattle.exec_laws.specs.declared.edges.NodeStatus.TheVariants as node
 
 -- ---- marks
 
@@ -13,7 +13,7 @@ abbrev pub new_mark : ℕ → NodeMark
 new_mark outputs = record { state = cond (outputs == 0) node.Due node.Resting; last = None }
 
 -- a node one of whose ports has changed
-abbrev pub told_state : NodeState → NodeState
+abbrev pub told_state : NodeStatus → NodeStatus
 told_state node.Resting = node.Due
 told_state node.Due = node.Due
 told_state (node.AtWork c) = node.AtWork c
@@ -24,14 +24,14 @@ abbrev pub told : NodeMark → NodeMark
 told m = record { state = told_state m.state; last = m.last }
 
 -- whether a node is due or at work
-abbrev pub is_waiting : NodeState → Bool
+abbrev pub is_waiting : NodeStatus → Bool
 is_waiting node.Resting = false
 is_waiting node.Due = true
 is_waiting (node.AtWork c) = true
 is_waiting node.Over = false
 is_waiting node.Unborn = false
 
-abbrev pub is_resting : NodeState → Bool
+abbrev pub is_resting : NodeStatus → Bool
 is_resting node.Resting = true
 is_resting node.Due = false
 is_resting (node.AtWork c) = false
@@ -43,7 +43,7 @@ abbrev pub told_if : Bool → CellPicture → CellPicture
 told_if b c = record c { mark = cond b (told c.mark) c.mark }
 
 -- what comes next after an answer to `prepare`
-abbrev pub state_after : Status → NodeState
+abbrev pub state_after : Status → NodeStatus
 state_after status.NeedData = node.Resting
 state_after status.PortFull = node.Resting
 state_after status.Ready = node.AtWork call.Work
@@ -87,8 +87,8 @@ pub record Touches (wires : List Wire) (n : ℕ) (p : Port) (how : EdgeState →
   pub elsewhere : (e : ℕ) → e ≢ edge → moved e ≡ edges e
 
 -- the view shows the edge's flags at the port
-abbrev pub Knows : CellPicture → Port → (ℕ → EdgeState) → Type 0
-Knows c p edges = port_flags c.view p ≡ (edges (port_edge c.inputs c.outputs p)).flags
+abbrev pub ViewKnows : CellPicture → Port → (ℕ → EdgeState) → Type 0
+ViewKnows c p edges = port_flags c.view p ≡ (edges (port_edge c.inputs c.outputs p)).flags
 
 -- ---- its box is prepared
 
@@ -102,18 +102,18 @@ pub record Prepares (p : BoxPicture) (v : Picture) (q : BoxPicture) (w : Picture
 
 -- What an executor does to the view besides: where the box has finished, it closes each input that
 -- isn't finished, and finishes each output that isn't.
-pub record Leaves (s : Status) (w u : Picture) : Type 0 where
+pub record LeavesView (s : Status) (w u : Picture) : Type 0 where
   pub changed : ChangedByCalls w u
   pub chunks : SameChunks w u
   pub same : (s ≡ status.Finished → IsAllFinished w) → u ≡ w
   pub finished : s ≡ status.Finished → IsAllFinished u
 
 -- A node that has seen its ports was prepared; what it did is yet to be carried out.
-pub record Turns (c d : CellPicture) : Type 0 where
+pub record NodeTurns (c d : CellPicture) : Type 0 where
   pub answer : Status
   pub left : Picture
   pub prepares : Prepares c.box c.view d.box left answer
-  pub leaves : Leaves answer left d.view
+  pub leaves : LeavesView answer left d.view
   pub own : d ≡ record c {
     box = d.box;
     view = d.view;

@@ -1,9 +1,9 @@
 -- What is true of a running graph between two moves: of each node, and of each edge.
-use Rattle.exec_laws.specs.Prelude.{AllInputsFinished, Answer, ArePortsOf, BoxPicture, DueCall, EdgeState, Flags, FollowsKept, Input, InputFollows, InputPort, IsAllFinished, IsGraph, IsRunning, IsSound, Keeps, Lists, MaySchedule, MayWork, NodeMark, NodeState, Output, OutputAllows, OutputFollows, Picture, Port, Prepared, ProducerKnows, Reserve, Rests, Scheduled, StandStill, Status, StatusComes, Table, Wire, in_count, input_after, input_at, input_count, is_out_finished, kept_inputs, kept_output, kept_outputs, new_picture, no_box, no_flags, out_count, output_after, output_at, output_count, pushes_to, wire_at}
+use Rattle.exec_laws.specs.Prelude.{AllInputsFinished, Answer, ArePortsOf, BoxPicture, DueCall, EdgeState, Flags, FollowsKept, Input, InputFollows, InputPort, IsAllFinished, IsGraph, IsRunning, IsSound, Keeps, Lists, MaySchedule, MayWork, NodeMark, NodeStatus, Output, OutputAllows, OutputFollows, Picture, Port, Prepared, ProducerKnows, Reserve, Rests, Scheduled, StandStill, Status, StatusComes, Table, Wire, in_count, input_after, input_at, input_count, is_out_finished, kept_inputs, kept_output, kept_outputs, new_picture, no_box, no_flags, out_count, output_after, output_at, output_count, pushes_to, wire_at}
 use Rattle.std.specs.Prelude.{IsSome, IsTrue, List, None, Option, Some, [], false, is_some, length, slice_index_or, true, ℕ, ⊤, ◌++◌, ◌<◌, ◌||◌, ◌∷◌, ◌≡◌, ◌≢◌, ◌≤◌}
 use Rattle.proc_api.specs.declared.status.Status.TheVariants as status
 use Rattle.exec_laws.specs.declared.edges.DueCall.TheVariants as call
-use Rattle.exec_laws.specs.declared.edges.NodeState.TheVariants as node
+use Rattle.exec_laws.specs.declared.edges.NodeStatus.TheVariants as node
 
 -- ---- the state
 
@@ -121,18 +121,18 @@ pub record IsAtRest (last : Option Status) (p : BoxPicture) (v : Picture) : Type
   pub rests : IsTrue p.lawful → Rests last v
 
 -- the node has finished, and so has each of its ports
-pub record IsOver (inputs outputs : ℕ) (p : BoxPicture) (v : Picture) : Type 0 where
+pub record IsNodeOver (inputs outputs : ℕ) (p : BoxPicture) (v : Picture) : Type 0 where
   pub answer : p.notes.answer ≡ Some (Prepared status.Finished)
   pub ports : IsAllFinished v
   pub kept : IsTrue p.lawful → HasFinished inputs outputs p
 
 -- what a mark says of the node
-abbrev pub MarkHolds : NodeState → Option Status → (inputs outputs : ℕ) → BoxPicture → Picture
+abbrev pub MarkHolds : NodeStatus → Option Status → (inputs outputs : ℕ) → BoxPicture → Picture
     → Type 0
 MarkHolds node.Resting last inputs outputs p v = IsAtRest last p v
 MarkHolds node.Due last inputs outputs p v = ⊤
 MarkHolds (node.AtWork c) last inputs outputs p v = MayCall c p
-MarkHolds node.Over last inputs outputs p v = IsOver inputs outputs p v
+MarkHolds node.Over last inputs outputs p v = IsNodeOver inputs outputs p v
 MarkHolds node.Unborn last inputs outputs p v = ⊥
 
 -- A box with so many inputs and outputs, whatever the mark is. A lawful box that has the ports of
@@ -168,13 +168,13 @@ chunks_of None = []
 chunks_of (Some chunk) = chunk ∷ []
 
 -- An output, as a view with this mark shows it, and the flags there. A node at rest knows the port.
-pub record OutputHolds (m : NodeState) (f g : Flags) : Type 0 where
+pub record OutputHolds (m : NodeStatus) (f g : Flags) : Type 0 where
   pub follows : OutputFollows f g
   pub known : m ≡ node.Resting → ProducerKnows f g
 
 -- An input, and the flags and the chunk there. There is data exactly where a chunk lies in the view
 -- or in the edge, and never in both.
-pub record InputHolds (m : NodeState) (c : InputPort) (g : Flags)
+pub record InputHolds (m : NodeStatus) (c : InputPort) (g : Flags)
     (chunk : Option Table) : Type 0 where
   pub follows : InputFollows c.flags g
   pub data_there : g.has_data ≡ (is_some c.chunk || is_some chunk)
@@ -183,10 +183,10 @@ pub record InputHolds (m : NodeState) (c : InputPort) (g : Flags)
 
 -- An edge at a port of a node, whose own actions there aren't all carried out: the view shows the
 -- edge as they will leave it.
-abbrev pub EndHolds : Port → CellPicture → EdgeState → Type 0
-EndHolds (Input i) c e =
+abbrev pub EdgeEndHolds : Port → CellPicture → EdgeState → Type 0
+EdgeEndHolds (Input i) c e =
     InputHolds c.mark.state (input_at c.view i) (input_after i c.view.actions e.flags) e.chunk
-EndHolds (Output o) c e =
+EdgeEndHolds (Output o) c e =
     OutputHolds c.mark.state (output_at c.view o) (output_after o c.view.actions e.flags)
     × OutputAllows o c.view.actions e.flags
 
@@ -211,7 +211,7 @@ pub record Running (count : ℕ) (wires : List Wire) (cells : ℕ → CellPictur
       → NodeHolds wires n (cells n) (pulled n) (pushed n)
   pub unborn : (n : ℕ) → n < count → (cells n).box.spec ≡ None → (cells n).mark.state ≡ node.Unborn
   pub born : (e n : ℕ) (p : Port) → HasEdge wires n p e → IsBorn (cells n).box
-  pub ends : (e n : ℕ) (p : Port) → HasEdge wires n p e → EndHolds p (cells n) (edges e)
+  pub ends : (e n : ℕ) (p : Port) → HasEdge wires n p e → EdgeEndHolds p (cells n) (edges e)
   pub lists : (e : ℕ) → e < length wires → let w = wire_at wires e in
       pushed w.from w.out
       ≡ ((pulled w.to w.input ++ chunks_of (input_at (cells w.to).view w.input).chunk)

@@ -43,7 +43,7 @@ pub enum DueCall {
 
 /// What an executor does next with a node.
 #[derive(Clone, Copy, PartialEq, Eq)]
-pub enum NodeState {
+pub enum NodeStatus {
     /// Nothing, until a port changes.
     Resting,
     /// A port may have changed since the node saw it, or its box has worked: it is prepared.
@@ -59,7 +59,7 @@ pub enum NodeState {
 /// What an executor remembers of a node: what comes next, and the last answer to `prepare`.
 #[derive(Clone, Copy, PartialEq, Eq)]
 pub struct NodeMark {
-    pub state: NodeState,
+    pub state: NodeStatus,
     pub last: Option<Status>,
 }
 
@@ -70,9 +70,9 @@ impl NodeMark {
         ensures { result ≡ new_mark outputs }
     {
         let state = if outputs == 0 {
-            NodeState::Due
+            NodeStatus::Due
         } else {
-            NodeState::Resting
+            NodeStatus::Resting
         };
         NodeMark { state, last: None }
     }
@@ -82,7 +82,7 @@ impl NodeMark {
         ensures { result ≡ told self }
     {
         let state = match self.state {
-            NodeState::Resting => NodeState::Due,
+            NodeStatus::Resting => NodeStatus::Due,
             state => state,
         };
         NodeMark {

@@ -14,5 +14,5 @@
 mod edges;
 mod growth;
 
-pub use edges::{DueCall, EdgeState, NodeMark, NodeState, StuckNode};
+pub use edges::{DueCall, EdgeState, NodeMark, NodeStatus, StuckNode};
 pub use growth::{Blank, GrowthFlaw};
