@@ -1,17 +1,17 @@
 -- What a seat knows of its edges, of its slots and of how far its node is, after a step.
-use Rattle.exec_table.proofs.Imports.{EdgeHolds, Answer, Begun, Board, Bool, Born, Chunk, CoreState, End, Flags, HandHolds, Holds, Identity, IsSeatOf, Lane, Makes, NodeSeat, NodeView, None, Option, Over, PortState, Pull, Push, Slots, Some, Stage, Step, Wire, after, answer, ap, arith, board_after, both_ways, cases_Bool, cases_eq, cond, edges-seeing, edges_of, end_for, end_of_view, end_view, eq-eqb, eqb, false, flags_at, get_or, get_or-set_other, get_or-set_same, has-last, inl, inr, is_end, is_none, is_some, knows, lane_at, learned, length, looked_at, map-append, may, names, ne_eqb, no_flags, no_lane, no_port, node_at, node_of, node_view, port_at, port_of, pulled_from, pushed_to, refl, set, slot_in, slot_of, slots, stage_at, subst, sym, true, view, wire_ok, wiring, ℕ, ◌&&◌, ◌<◌, ◌∙◌, ◌≡◌, ◌≢◌, ◌||◌, ◌⊎◌}
+use Rattle.exec_table.proofs.Imports.{EdgeHolds, StepAnswer, Begun, Board, Bool, Born, Chunk, CoreState, EdgeEnd, Flags, HandHolds, Holds, Identity, IsSeatOf, Lane, MakesStep, NodeSeat, NodeView, None, Option, Over, PortState, Pull, Push, Slots, Some, Stage, Step, Wire, after, answer, ap, arith, board_after, both_ways, cases_Bool, cases_eq, cond, edges-seeing, edges_of, end_for, end_of_view, end_view, eq-eqb, eqb, false, flags_at, get_or, get_or-set_other, get_or-set_same, has-last, inl, inr, is_end, is_none, is_some, knows, lane_at, learned, length, looked_at, map-append, may, names, ne_eqb, no_flags, no_lane, no_port, node_at, node_of, node_view, port_at, port_of, pulled_from, pushed_to, refl, set, slot_in, slot_of, slots, stage_at, subst, sym, true, view, wire_ok, wiring, ℕ, ◌&&◌, ◌<◌, ◌∙◌, ◌≡◌, ◌≢◌, ◌||◌, ◌⊎◌}
 use Rattle.core_laws.proofs.Lists.{flags-last, seeing-other}
 use Rattle.core_laws.specs.Steps.{flags}
 use Rattle.core_laws.specs.declared.types.Step.TheVariants as step
-use Rattle.exec_table.specs.Known.{IsSameAt, LooksAt, end_after, end_passed, end_wired, gives_back, is_at, looks_at, lying, slot_looked, stage_after, state_after, state_learned}
+use Rattle.exec_table.specs.Known.{IsSameAt, LooksAt, core_state_after, end_after, end_passed, end_wired, gives_back, is_at, looks_at, lying, slot_looked, stage_after, state_learned}
 use Rattle.exec_table.proofs.Hands.{by_index, has-slot, learned-ports, may_learn, no-slot, wires-kept}
 use Rattle.exec_table.proofs.Known.{node-inside, state-after, state-made}
 use Rattle.exec_table.proofs.Readiness.{view-end}
 use Rattle.exec_table.proofs.Stepping.{act-parts, holds-in, lane-full}
 
 -- a step that learns no edge leaves which edges are known
-edges-after : (x : NodeView) (s : Step) (a : Answer) → may_learn s ≡ false
-    → edges_of (state_after x s a).seen ≡ edges_of x.state.seen
+edges-after : (x : NodeView) (s : Step) (a : StepAnswer) → may_learn s ≡ false
+    → edges_of (core_state_after x s a).seen ≡ edges_of x.state.seen
 edges-after x s a p = grind (arith, edges-seeing)
 
 -- ---- ends, by their lanes
@@ -85,7 +85,7 @@ module _ (b : Board) (n : ℕ) (h : Holds b) (here : n < length b.core.nodes) wh
     same-end p d q = grind (arith, plain-end p d, q, view-end b n d h)
 
     -- the lane of the edge e changes
-    lane-end : may_learn s ≡ false → (e : ℕ) (l : Lane) (y : End) → c.lanes ≡ set b.lanes e l
+    lane-end : may_learn s ≡ false → (e : ℕ) (l : Lane) (y : EdgeEnd) → c.lanes ≡ set b.lanes e l
         → e < length b.core.ports → (d : ℕ)
         → (d ≡ e → end_for n (known e) (edge_wire e) l ≡ y)
         → end_of_view (node_view c n) d ≡ cond (eqb d e) y (end_of_view (node_view b n) d)
@@ -121,7 +121,7 @@ module _ (b : Board) (n : ℕ) (h : Holds b) (here : n < length b.core.nodes) wh
             ∙ ap (λ l. (port_of l d).wire) (learned-ports q n e)) i) (get_or (lanes i) d no_lane))
 
     -- nothing changes
-    still-core : (o : Bool) (e : ℕ) (y : End) → o ≡ false → c.core ≡ b.core → c.lanes ≡ b.lanes
+    still-core : (o : Bool) (e : ℕ) (y : EdgeEnd) → o ≡ false → c.core ≡ b.core → c.lanes ≡ b.lanes
         → (d : ℕ) → end_of_view (node_view c n) d
         ≡ cond (o && eqb d e) y (end_of_view (node_view b n) d)
     still-core o e y q core lanes d =
@@ -143,8 +143,8 @@ module _ (b : Board) (n : ℕ) (h : Holds b) (here : n < length b.core.nodes) wh
   ends-after (step.Pull e) x g after d away back = let p = act-parts Pull b.core n e g in
       lane-end (step.Pull e) x g after refl e _ _ refl (holds-in b.core n e p.0).1 d
       (λ t. pulled-end n (known e) (edge_wire e) (lane_at b e) p.1
-      (ap (λ (z : End). is_some z.turn) (sym (view-end b n e h)) ∙ back (eq-eqb d e t))
-      ∙ ap (λ (z : End). end_passed (lying z.turn) z) (sym (view-end b n e h)))
+      (ap (λ (z : EdgeEnd). is_some z.turn) (sym (view-end b n e h)) ∙ back (eq-eqb d e t))
+      ∙ ap (λ (z : EdgeEnd). end_passed (lying z.turn) z) (sym (view-end b n e h)))
   ends-after (step.Wire e w) x g after d away back = elim (cases_Bool (is_none (edge_wire e))) [
     | inl q ↦ let none = no-wire (edge_wire e) q in let bare = (h.lanes e).bare none in
         let i : e < length b.core.ports = grind arith in
@@ -211,13 +211,13 @@ learned-sight : (x : NodeView) (e d : ℕ)
     → flags_at d (state_learned e x.state).seen ≡ flags_at d x.state.seen
 learned-sight x e d = grind (arith, flags-last e d x.state.seen)
 
-sight-still : (x : NodeView) (s : Step) (a : Answer) (d : ℕ) → is_at d s ≡ false
-    → flags_at d (state_after x s a).seen ≡ flags_at d x.state.seen
+sight-still : (x : NodeView) (s : Step) (a : StepAnswer) (d : ℕ) → is_at d s ≡ false
+    → flags_at d (core_state_after x s a).seen ≡ flags_at d x.state.seen
 sight-still x (step.Look e) (flags f) d q = seeing-other e d f x.state.seen (away-at d e q)
 sight-still x s a d q = grind (arith, q, seeing-other, away-at, learned-sight)
 
-module _ {t : Identity} {old new : NodeSeat} {s : Step} {x : Option Chunk} {a : Answer}
-    (o : IsSeatOf t old) (m : Makes t old new s x a) where
+module _ {t : Identity} {old new : NodeSeat} {s : Step} {x : Option Chunk} {a : StepAnswer}
+    (o : IsSeatOf t old) (m : MakesStep t old new s x a) where
   pub number-made : (view new).number ≡ (view old).number
   number-made = sym (ap (λ (v : NodeView). v.number) m.now)
 
@@ -257,12 +257,12 @@ module _ {t : Identity} {old new : NodeSeat} {s : Step} {x : Option Chunk} {a : 
       same : end_of_view (view new) d ≡ end_of_view (view old) d
       same = ends-made d (grind (arith, q)) (λ t. absurd (both_ways _ q t)) ∙ grind (arith, q)
 
-abbrev flags_in : Answer → Flags
+abbrev flags_in : StepAnswer → Flags
 flags_in (flags f) = f
 flags_in a = no_flags
 
 module _ {t : Identity} {old new : NodeSeat} {e : ℕ} {x : Option Chunk} {f : Flags}
-    (o : IsSeatOf t old) (m : Makes t old new (step.Look e) x (flags f)) where
+    (o : IsSeatOf t old) (m : MakesStep t old new (step.Look e) x (flags f)) where
   abbrev n : ℕ
   n = (view old).number
 
@@ -275,8 +275,8 @@ module _ {t : Identity} {old new : NodeSeat} {e : ℕ} {x : Option Chunk} {f : F
   -- the edge that was looked at
   pub look-made : LooksAt (is_end true n (end_of_view (view old) e).wire) f
       (end_of_view (view old) e) (end_of_view (view new) e)
-  look-made = subst (λ (z : Option Wire × End × End). LooksAt (is_end true n z.0) f z.1 z.2)
-      (λ i. (sym (ap (λ (z : End). z.wire) before ∙ wired) i, sym before i, sym now i))
+  look-made = subst (λ (z : Option Wire × EdgeEnd × EdgeEnd). LooksAt (is_end true n z.0) f z.1 z.2)
+      (λ i. (sym (ap (λ (z : EdgeEnd). z.wire) before ∙ wired) i, sym before i, sym now i))
       (looked-end n w (lane_at b e) f (edge.learned n seen) (ap (λ (g : Flags). g.has_data)
       (sym (ap flags_in m.says)) ∙ sym (lane-full (port_at b.core e) (lane_at b e) edge.content
       (m.holds.lanes e))))

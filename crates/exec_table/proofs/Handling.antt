@@ -1,5 +1,5 @@
 -- What look, push, lift and pull do to the slots that are out with a seat.
-use Rattle.exec_table.proofs.Imports.{Flags, Wire, found_by, flags_word, Board, Bool, Chunk, Holds, List, NodeView, None, Option, Some, [], ap, arith, carried_after, cases_Bool, cond, deque_capacity, edge_count, end_of_view, get_or_past, cases_lt, eqb, false, fits_end, has, holds, in_hand, is_empty_hand, is_end, is_full_hand, lane_at, length, node_view, not, once, port_at, slot_act, true, ℕ, ◌&&◌, ◌<◌, ◌∙◌, ◌∷◌, ◌≡◌, HandHolds, IsInHand, Identity, IsSeatOf, Slots, edges_out, holds_chunk, slot_in, slot_of, slots, view, NodeSeat, beq}
+use Rattle.exec_table.proofs.Imports.{Flags, Wire, found_by, flags_word, Board, Bool, Chunk, Holds, List, NodeView, None, Option, Some, [], ap, arith, carried_after, cases_Bool, cond, deque_capacity, edge_count, end_of_view, get_or_past, cases_lt, eqb, false, fits_end, has, is_held_end, in_hand, is_empty_hand, is_end, is_full_hand, lane_at, length, node_view, not, once, port_at, slot_act, true, ℕ, ◌&&◌, ◌<◌, ◌∙◌, ◌∷◌, ◌≡◌, HandHolds, IsInHand, Identity, IsSeatOf, Slots, edges_out, holds_chunk, slot_in, slot_of, slots, view, NodeSeat, beq}
 use Rattle.exec_table.proofs.Hands.{has-slot, turn-of-end, view-turn}
 use Rattle.exec_table.proofs.Stepping.{holds-in, lane-full}
 use Rattle.exec_table.proofs.SlotLists.{few-below, first-slot}
@@ -27,7 +27,7 @@ room-for t s e o less none = let few = few-below (edge_count t.sizes) (e ∷ s.h
 
 -- the slots after a look are those that the data name, if they take e just where its turn has come
 pub look-places : (b : Board) (n e : ℕ) (l : Slots) (held : List ℕ) (t : Bool) → Holds b
-    → HandHolds (node_view b n) l → holds b.core n e ≡ true → held ≡ edges_out l
+    → HandHolds (node_view b n) l → is_held_end b.core n e ≡ true → held ≡ edges_out l
     → t ≡ fits_end (is_end true n (port_at b.core e).wire) (lane_at b e).content
     → cond (t && not (has e held)) (e ∷ held) held
     ≡ edges_out (carried_after l (slot_act b n (step.Look e)))
@@ -35,14 +35,14 @@ look-places b n e l held t h hand g places turn =
     grind (arith, view-turn, turn-of-end, holds-in)
 
 -- the turn of an end, by the flags and the wire that it reads
-pub look-turn : (b : Board) (n e : ℕ) (f : Flags) (w : Wire) → Holds b → holds b.core n e ≡ true
-    → (end_of_view (node_view b n) e).wire ≡ Some w → f ≡ (port_at b.core e).flags
+pub look-turn : (b : Board) (n e : ℕ) (f : Flags) (w : Wire) → Holds b → is_held_end b.core n e
+    ≡ true → (end_of_view (node_view b n) e).wire ≡ Some w → f ≡ (port_at b.core e).flags
     → beq f.has_data (eqb w.to n)
     ≡ fits_end (is_end true n (port_at b.core e).wire) (lane_at b e).content
 look-turn b n e f w h g is flags = grind (arith, lane-full, holds-in, known-wire)
 
 -- the flags that a look finds
-pub look-found : (b : Board) (n e : ℕ) → Holds b → holds b.core n e ≡ true
+pub look-found : (b : Board) (n e : ℕ) → Holds b → is_held_end b.core n e ≡ true
     → found_by b.core n (step.Look e) ≡ flags_word (port_at b.core e).flags
 look-found b n e h g = read-port b.core h.laws e (holds-in b.core n e g).1
 

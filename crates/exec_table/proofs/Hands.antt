@@ -1,5 +1,5 @@
 -- The slots that are out with a seat, after each step of its node.
-use Rattle.exec_table.proofs.Imports.{is_some, inr, Act, Close, Finish, Unwant, Want, may_act, Board, Bool, Chunk, CoreState, Holds, Lane, NodeView, None, Option, Pull, Push, Some, Step, Wire, [], acted, after, ap, arith, board_after, carried_after, cases_eq, cond, cond_both, end_of_view, eqb, false, fits_end, front, get_or, get_or-set_other, get_or-set_same, has, holds, inl, is_at_hand, is_end, is_none, keeps, lane_at, learned, length, looked_at, may, names, no_lane, no_port, node_view, not, port_after, port_at, port_of, refl, rest, set, slot_act, subst, sym, takes, true, turn_at, ℕ, ◌&&◌, ◌<◌, ◌∙◌, ◌∷◌, ◌≡◌, ◌≢◌, HandHolds, Slots, edges_out, slot_in, eqb-true, once, ◌⊎◌}
+use Rattle.exec_table.proofs.Imports.{is_some, inr, Act, Close, Finish, Unwant, Want, may_act, Board, Bool, Chunk, CoreState, Holds, Lane, NodeView, None, Option, Pull, Push, Some, Step, Wire, [], acted, after, ap, arith, board_after, carried_after, cases_eq, cond, cond_both, end_of_view, eqb, false, fits_end, front, get_or, get_or-set_other, get_or-set_same, has, is_held_end, inl, is_at_hand, is_end, is_none, keeps, lane_at, learned, length, looked_at, may, names, no_lane, no_port, node_view, not, port_after, port_at, port_of, refl, rest, set, slot_act, subst, sym, takes, true, turn_at, ℕ, ◌&&◌, ◌<◌, ◌∙◌, ◌∷◌, ◌≡◌, ◌≢◌, HandHolds, Slots, edges_out, slot_in, eqb-true, once, ◌⊎◌}
 use Rattle.exec_table.proofs.Readiness.{view-end}
 use Rattle.exec_table.proofs.Stepping.{act-parts, act-wire, holds-in}
 use Rattle.exec_table.proofs.Tied.{filled-hand, emptied-hand, look-nothing}
@@ -130,7 +130,7 @@ turn-set b c n d l h after i lanes wires e = view-turn c n e after
     ∙ sym (view-turn b n e h)))
 
 -- the turn of a slot that a look takes
-turn-looked : (b : Board) (n d : ℕ) → Holds b → holds b.core n d ≡ true
+turn-looked : (b : Board) (n d : ℕ) → Holds b → is_held_end b.core n d ≡ true
     → (not (lane_at b d).taken
     && fits_end (is_end true n (port_at b.core d).wire) (lane_at b d).content) ≡ true
     → turn_for n (port_at b.core d).wire (looked_at (is_end true n (port_at b.core d).wire)
@@ -154,7 +154,7 @@ rest-slots l ys e u one is d v q = grind (arith, no-slot e ys)
 module _ (b : Board) (n : ℕ) (h : Holds b) (slots : Slots) (hand : HandHolds (node_view b n) slots)
   where
     -- a look takes a slot, whose turn the view then has, or leaves all
-    looked-turns : (d : ℕ) (x : Option Chunk) → holds b.core n d ≡ true
+    looked-turns : (d : ℕ) (x : Option Chunk) → is_held_end b.core n d ≡ true
         → Holds (board_after b n (step.Look d) x) → (e : ℕ)
         → (end_of_view (node_view (board_after b n (step.Look d) x) n) e).turn
         ≡ cond (eqb e d) (turn_for n (port_at b.core d).wire (looked_at (is_end true n
@@ -162,7 +162,7 @@ module _ (b : Board) (n : ℕ) (h : Holds b) (slots : Slots) (hand : HandHolds (
     looked-turns d x g after = turn-set b (board_after b n (step.Look d) x) n d _ h after
         (holds-in b.core n d g).1 refl (λ _. refl)
 
-    hand-looked : (d : ℕ) (x : Option Chunk) → holds b.core n d ≡ true
+    hand-looked : (d : ℕ) (x : Option Chunk) → is_held_end b.core n d ≡ true
         → Holds (board_after b n (step.Look d) x)
         → HandHolds (node_view (board_after b n (step.Look d) x) n)
         (carried_after slots (slot_act b n (step.Look d)))
@@ -182,7 +182,7 @@ module _ (b : Board) (n : ℕ) (h : Holds b) (slots : Slots) (hand : HandHolds (
         ∙ ap (λ k. (end_of_view (node_view b n) k).turn) (sym (eqb-true e d r)))) (λ _. refl)) hand)
 
     -- a slot that is out after a look was out, or was taken with what lies in the port
-    pub look-slots : (d : ℕ) (x : Option Chunk) → holds b.core n d ≡ true
+    pub look-slots : (d : ℕ) (x : Option Chunk) → is_held_end b.core n d ≡ true
         → Holds (board_after b n (step.Look d) x) → (e : ℕ) (v : Option Chunk)
         → slot_in e (carried_after slots (slot_act b n (step.Look d))) ≡ Some v
         → (slot_in e slots ≡ Some v) ⊎ ((slot_in e slots ≡ None)

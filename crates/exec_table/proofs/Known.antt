@@ -1,7 +1,7 @@
 -- What a seat knows after a step follows from what it knew before and what the step answered.
-use Rattle.exec_table.proofs.Imports.{Act, Answer, answer, Board, Bool, Chunk, Close, CoreState, Identity, Finish, Holds, IsSeatOf, List, Lane, Makes, NodeSeat, NodeState, NodeView, Option, Pull, Push, Some, Step, Unwant, Want, [], acted, adding, after, ap, arith, bit_at_end, board_after, changed, cond, end-of, end_for, end_of_view, Wire, filter, fits_end, flags_at, get_or, get_or-set_same, has, is_end, is_none, knows, learned, learning, left, length, length-set, marked_by, may, may_act, names, no_node, no_wire, not, node_at, node_view, or_right, peer_in, port_at, refl, seeing, set, spent, sym, taken, telling, tells, told, true, view, wiring, ℕ, ◌<◌, ◌∙◌, ◌∷◌, ◌≡◌}
+use Rattle.exec_table.proofs.Imports.{Act, StepAnswer, answer, Board, Bool, Chunk, Close, CoreState, Identity, Finish, Holds, IsSeatOf, List, Lane, MakesStep, NodeSeat, NodeState, NodeView, Option, Pull, Push, Some, Step, Unwant, Want, [], acted, adding, after, ap, arith, bit_at_end, board_after, changed, cond, end-of, end_for, end_of_view, Wire, filter, fits_end, flags_at, get_or, get_or-set_same, has, is_end, is_none, knows, learned, learning, left, length, length-set, marked_by, may, may_act, names, no_node, no_wire, not, node_at, node_view, or_right, peer_in, port_at, refl, seeing, set, spent, sym, taken, telling, tells, with_bit, true, view, wiring, ℕ, ◌<◌, ◌∙◌, ◌∷◌, ◌≡◌}
 use Rattle.core_laws.specs.declared.types.Step.TheVariants as step
-use Rattle.exec_table.specs.Known.{price, state_acted, state_after, state_learned, state_taken}
+use Rattle.exec_table.specs.Known.{core_state_after, price, state_acted, state_learned, state_taken}
 use Rattle.exec_table.proofs.Readiness.{view-end}
 use Rattle.exec_table.proofs.Seating.{known-wire}
 use Rattle.exec_table.proofs.Stepping.{act-parts, holds-in}
@@ -53,7 +53,7 @@ module _ (b : Board) (n : ℕ) (h : Holds b) (here : n < length b.core.nodes) wh
   priced w = grind arith
 
   pub state-after : (s : Step) → may c n s ≡ true
-      → bare (node_at (after c n s) n) ≡ state_after (node_view b n) s (answer c n s)
+      → bare (node_at (after c n s) n) ≡ core_state_after (node_view b n) s (answer c n s)
   state-after (step.Look e) g = ap bare (own _)
   state-after (step.Want e) g = acts Want e (wants e g)
   state-after (step.Unwant e) g = acts Unwant e refl
@@ -62,7 +62,7 @@ module _ (b : Board) (n : ℕ) (h : Holds b) (here : n < length b.core.nodes) wh
   state-after (step.Finish e) g = acts Finish e refl
   state-after (step.ClosePort e) g = acts Close e refl
   state-after (step.Mark e) g = let m = peer_in n (port_at c e).wire in
-      let md = told (bit_at_end m (port_at c e).wire) (node_at c m) in
+      let md = with_bit (bit_at_end m (port_at c e).wire) (node_at c m) in
       ap bare (get_or-set_same (set c.nodes m md) n _ no_node
       (let l = length-set c.nodes m md in omega (arith, l, here)))
       ∙ ap (λ k. bare (telling e k nd)) (priced (node_at c m).word)
@@ -82,8 +82,8 @@ end-fits : (n : ℕ) (k : Bool) (w : Option Wire) (l : Lane) (v : Option Chunk) 
     → (end_for n k w l).turn ≡ Some v → fits_end (is_end true n w) v ≡ true
 end-fits n k w l v h q = grind arith
 
-module _ {t : Identity} {old new : NodeSeat} {s : Step} {x : Option Chunk} {a : Answer}
-    (o : IsSeatOf t old) (m : Makes t old new s x a) where
+module _ {t : Identity} {old new : NodeSeat} {s : Step} {x : Option Chunk} {a : StepAnswer}
+    (o : IsSeatOf t old) (m : MakesStep t old new s x a) where
   abbrev n : ℕ
   n = (view old).number
 
@@ -93,10 +93,10 @@ module _ {t : Identity} {old new : NodeSeat} {s : Step} {x : Option Chunk} {a : 
       let z = ap (λ (v : NodeView). v.sizes.nodes) m.was ∙ ap (λ z. z.nodes) o.sizes in
       omega (arith, i, z, l)
 
-  pub state-made : (view new).state ≡ state_after (view old) s a
+  pub state-made : (view new).state ≡ core_state_after (view old) s a
   state-made = sym (ap (λ (v : NodeView). v.state) m.now)
       ∙ (state-after m.before n m.holds node-inside s m.may
-      ∙ (λ i. state_after (m.was i) s (m.says i)))
+      ∙ (λ i. core_state_after (m.was i) s (m.says i)))
 
   -- the wire of an edge from the start, which the node has learned
   pub wire-made : (e : ℕ) → knows e (view new).state.seen ≡ true → e < length t.sizes.wires

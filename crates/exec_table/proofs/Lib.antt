@@ -15,4 +15,3 @@ pub mod Known
 pub mod Ends
 mod Starting
 mod Surveying
-mod Cited

@@ -1,10 +1,10 @@
 -- What a seat is after a step of its node, and what the call tells.
-use Rattle.exec_table.proofs.Imports.{Allows, Answer, Board, Bool, Chunk, CoreState, Did, Fits, Holds, IsSeen, NodeView, None, Option, Sat, Shown, Sizes, Some, State, Step, View, Wire, [], aiming, and_parts, answer, ap, arith, board_after, carried_after, cases_Bool, edge_count, end_of_view, false, front, get_elem?, get_or, inl, is_at_hand, keeps, knows, length, may, node_at, node_view, or_cases, place, port_at, refl, set-get_or, sizes-kept, slot_act, stepped, subst, sym, true, wire_of, wire_place, wire_word, words_of, ℕ, ◌+◌, ◌-◌, ◌<◌, ◌∙◌, ◌∷◌, ◌≡◌, ◌≤◌, wire_ok, EndOf, an-end, node_place, length-map-range_with_len, port_place, ready, Seat, HandHolds, Identity, IsSeatOf, Makes, Slots, edges_out, identity_of, key_of, slots, view, ExecTable, NodeSeat, deque_capacity, slot_in, first_or_none}
-use Rattle.exec_table.specs.Plays.{node_of}
-use Rattle.exec_table.specs.Seats.{Carried}
+use Rattle.exec_table.proofs.Imports.{Allows, StepAnswer, Board, Bool, Chunk, CoreState, Did, ViewFits, Holds, IsSeen, NodeView, None, Option, Sat, Shown, Sizes, Some, State, Step, View, Wire, [], aiming, and_parts, answer, ap, arith, board_after, carried_after, cases_Bool, edge_count, end_of_view, false, front, get_elem?, get_or, inl, is_at_hand, keeps, knows, length, may, node_at, node_view, or_cases, place, port_at, refl, set-get_or, sizes-kept, slot_act, stepped, subst, sym, true, wire_of, wire_place, wire_word, words_of, ℕ, ◌+◌, ◌-◌, ◌<◌, ◌∙◌, ◌∷◌, ◌≡◌, ◌≤◌, wire_ok, EndOf, an-end, node_place, length-map-range_with_len, port_place, ready, Seat, HandHolds, Identity, IsSeatOf, MakesStep, Slots, edges_out, identity_of, sizes_in, slots, view, ExecTable, NodeSeat, deque_capacity, slot_in, first_or_none}
+use Rattle.exec_table.specs.Plays.{first_node}
+use Rattle.exec_table.specs.Seats.{KeepsSlots}
 use Rattle.exec_table.proofs.Readiness.{view-end, edge-count}
 use Rattle.exec_table.proofs.Wording.{op, read-wire}
-use Rattle.exec_table.proofs.Showing.{fits-one, fits-set, regrouped}
+use Rattle.exec_table.proofs.Showing.{fits-one, fits-set, shown_by_other_views}
 use Rattle.exec_table.proofs.Tied.{tied}
 use Rattle.exec_table.proofs.Hands.{hand-after, moves_slot}
 
@@ -27,11 +27,13 @@ pub wire-told : (b : Board) (e : ℕ) (w : Wire) → Holds b → e < length b.co
 wire-told b e w h i is = grind (arith, read-wire, wire-read)
 
 -- the same board, seen by a seat with another view
-pub reseen : (key : Sizes) (st : State (Option Chunk) View) (r : Shown key st) (id i : ℕ) (m : Sat)
-    (w : View) → Fits r.board r.owner id w
+pub shown_to_new_view : (key : Sizes) (st : State (Option Chunk) View) (r : Shown key st) (id i : ℕ)
+    (m : Sat)
+    (w : View) → ViewFits r.board r.owner id w
     → Shown key (stepped st i (get_or st.words i 0) id m.1 w keeps)
-reseen key st r id i m w fits = regrouped r (set-get_or st.words i 0) refl r.owner
-    (fits-set _ _ _ (Fits r.board r.owner) fits (λ j v _. r.seats j v))
+shown_to_new_view key st r id i m w fits =
+    shown_by_other_views r (set-get_or st.words i 0) refl r.owner
+    (fits-set _ _ _ (ViewFits r.board r.owner) fits (λ j v _. r.seats j v))
 
 -- the seat may look a wire up
 pub aim-allowed : (key : Sizes) (slots id : ℕ) (m : Sat) (x : NodeView) (e i : ℕ)
@@ -43,7 +45,8 @@ aim-allowed key slots id m x e i single sizes known at st r deep mine fit = (
   aiming e x,
   keeps,
   tt,
-  reseen key st r id i m (aiming e x) (fits-one r.board r.owner id (aiming e x) x refl refl
+  shown_to_new_view key st r id i m (aiming e x)
+      (fits-one r.board r.owner id (aiming e x) x refl refl
       (omega arith) (λ k q. absurd (cc)) here),
   (
     refl,
@@ -81,13 +84,13 @@ aim-allowed key slots id m x e i single sizes known at st r deep mine fit = (
 
 -- the call made the step s, which put x; the slots that were out before it are `l`
 pub makes : {t : Identity} {old new : NodeSeat} {s : Step} {l : Slots} {x : Option Chunk}
-    {found : ℕ} {a : Answer} → IsSeatOf t old → (d : Did (view old) s l found new.seat.me)
+    {found : ℕ} {a : StepAnswer} → IsSeatOf t old → (d : Did (view old) s l found new.seat.me)
     → HandHolds (node_view (board_after d.before (view old).number s (front l)) (view old).number)
     (slots new) → new.seat.table_id ≡ old.seat.table_id → new.node ≡ old.node
     → new.held.items ≡ edges_out (slots new) → deque_capacity new.held ≡ deque_capacity old.held
     → board_after d.before (view old).number s (front l)
     ≡ board_after d.before (view old).number s x
-    → answer d.before.core (view old).number s ≡ a → Carried old new → Makes t old new s x a
+    → answer d.before.core (view old).number s ≡ a → KeepsSlots old new → MakesStep t old new s x a
 makes {t} {old} {new} {s} {l} {x} o d hand table node places room put says kept = record {
   seat = grind (arith, length-map-range_with_len, and_parts, sizes);
   before = d.before;
@@ -112,10 +115,10 @@ still : (s : Step) → moves_slot s ≡ false → (l : Slots) → (is_at_hand s 
     × (board_after b n s x ≡ board_after b n s None))
 still s h l = (grind (arith, h), (λ b n x. (grind (arith, h), grind (arith, h))))
 
-pub quiet-makes : {t : Identity} {old new : NodeSeat} {found : ℕ} {a : Answer} {s : Step}
+pub quiet-makes : {t : Identity} {old new : NodeSeat} {found : ℕ} {a : StepAnswer} {s : Step}
     → moves_slot s ≡ false → IsSeatOf t old → (d : Did (view old) s (slots old) found new.seat.me)
     → new.seat.table_id ≡ old.seat.table_id → new.node ≡ old.node → new.held ≡ old.held
-    → answer d.before.core (view old).number s ≡ a → Makes t old new s None a
+    → answer d.before.core (view old).number s ≡ a → MakesStep t old new s None a
 quiet-makes {t} {old} {new} {found} {a} {s} quiet o d table node held says =
     let same = (still s quiet (slots old)).1 d.before (view old).number (front (slots old)) in
     let is : slots new ≡ slots old = d.hand ∙ ap (carried_after (slots old)) same.0 in
@@ -137,38 +140,39 @@ pub place-edge : (k : Bool) (t : Identity) (s : NodeSeat) (e i : ℕ) → IsSeat
     → i ≡ edge_place k t.sizes e → i - edge_place k (view s).sizes 0 ≡ e
 place-edge k t s e i o at = grind arith
 
-pub place-inside : (k : Bool) (t : ExecTable) (e i : ℕ) → e < edge_count (key_of t)
-    → i ≡ edge_place k (key_of t) e → i < t.table.shared.table_id.words
+pub place-inside : (k : Bool) (t : ExecTable) (e i : ℕ) → e < edge_count (sizes_in t)
+    → i ≡ edge_place k (sizes_in t) e → i < t.table.shared.table_id.words
 place-inside true t e i less at = grind arith
 place-inside false t e i less at = grind arith
 
 -- what a step asks that makes f of the word i, for a seat that is then told so
 abbrev pub Asks : ExecTable → Seat (Option Chunk) View → ℕ → (ℕ → ℕ) → (ℕ → Sat → Type 0) → Type 0
 Asks t r i f told = let id = t.table.shared.table_id in (r.table_id ≡ id) × (i < id.words)
-    × Allows (Shown (key_of t)) id.slots r.id r.me i f told
+    × Allows (Shown (sizes_in t)) id.slots r.id r.me i f told
 
 -- a step of a seat whose aim and slots may have changed meanwhile
 pub word-asks : (t : ExecTable) {s : NodeSeat} {i : ℕ} {f : ℕ → ℕ} {sp : Step}
     (r : Seat (Option Chunk) View) → IsSeatOf (identity_of t) s → r.table_id ≡ s.seat.table_id
     → r.me.0.nodes ≡ view s ∷ [] → i < t.table.shared.table_id.words → ready (view s) sp ≡ true
     → is_at_hand sp r.me.1 ≡ true
-    → ((b : Board) → Holds b → node_view b (view s).number ≡ view s → b.core.sizes ≡ key_of t
+    → ((b : Board) → Holds b → node_view b (view s).number ≡ view s → b.core.sizes ≡ sizes_in t
     → may b.core (view s).number sp ≡ true
     → (i ≡ place b.core (view s).number sp) × ((w : ℕ) → f w ≡ op b.core (view s).number sp w))
     → Asks t r i f (Did (view s) sp r.me.1)
 word-asks t {s} {i} {f} {sp} r o table single less g full at =
-    (table ∙ o.table, less, tied (key_of t) _ r.id r.me (view s) sp i f single g full at)
+    (table ∙ o.table, less, tied (sizes_in t) _ r.id r.me (view s) sp i f single g full at)
 
 -- a step at a word of the edge e
 pub edge-asks : (t : ExecTable) {s : NodeSeat} {i : ℕ} {f : ℕ → ℕ} (k : Bool)
     (r : Seat (Option Chunk) View) (mk : NodeView → ℕ → Step) (e : ℕ) → IsSeatOf (identity_of t) s
-    → r.table_id ≡ s.seat.table_id → r.me.0.nodes ≡ view s ∷ [] → e < edge_count (key_of t)
-    → i ≡ edge_place k (key_of t) e → ready (view s) (mk (view s) e) ≡ true
+    → r.table_id ≡ s.seat.table_id → r.me.0.nodes ≡ view s ∷ [] → e < edge_count (sizes_in t)
+    → i ≡ edge_place k (sizes_in t) e → ready (view s) (mk (view s) e) ≡ true
     → is_at_hand (mk (view s) e) r.me.1 ≡ true
     → ((c : CoreState) (n w : ℕ) → (place c n (mk (view s) e) ≡ edge_place k c.sizes e)
     × (f w ≡ op c n (mk (view s) e) w))
     → Asks t r i f
-    (Did (node_of r.me.0) (mk (node_of r.me.0) (i - edge_place k (node_of r.me.0).sizes 0)) r.me.1)
+    (Did (first_node r.me.0) (mk (first_node r.me.0) (i - edge_place k (first_node r.me.0).sizes 0))
+    r.me.1)
 edge-asks t {s} {i} {f} k r mk e o table single less at g full ops =
     subst (λ (x : NodeView). Asks t r i f (Did x (mk x (i - edge_place k x.sizes 0)) r.me.1))
     (sym (ap first_or_none single))
@@ -181,9 +185,9 @@ edge-asks t {s} {i} {f} k r mk e o table single less at g full ops =
 
 -- what that step did
 pub edge-did : {t : Identity} {s : NodeSeat} {n : Sat} {i found : ℕ} (m : Sat) (k : Bool)
-    (mk : NodeView → ℕ → Step) (e : ℕ) → IsSeatOf t s → node_of m.0 ≡ view s
-    → i ≡ edge_place k t.sizes e → Did (node_of m.0)
-    (mk (node_of m.0) (i - edge_place k (node_of m.0).sizes 0)) m.1 found n
+    (mk : NodeView → ℕ → Step) (e : ℕ) → IsSeatOf t s → first_node m.0 ≡ view s
+    → i ≡ edge_place k t.sizes e → Did (first_node m.0)
+    (mk (first_node m.0) (i - edge_place k (first_node m.0).sizes 0)) m.1 found n
     → Did (view s) (mk (view s) e) m.1 found n
 edge-did {t} {s} {n} {i} {found} m k mk e o same at d = grind (arith, place-edge)
 

@@ -1,17 +1,17 @@
 -- What shows that a table whose views changed still keeps the rule.
-use Rattle.exec_table.proofs.Imports.{Board, Bool, Chunk, Fits, Holds, IsSeen, List, NodeView, Option, Shown, Sizes, Some, State, View, [], arith, at_set, get_elem?, set, some, ℕ, ◌<◌, ◌∙◌, ◌∷◌, ◌≡◌, ◌≢◌, ◌≤◌}
+use Rattle.exec_table.proofs.Imports.{Board, Bool, Chunk, Holds, IsSeen, List, NodeView, Option, Shown, Sizes, Some, State, View, ViewFits, [], arith, at_set, get_elem?, set, some, ℕ, ◌<◌, ◌∙◌, ◌∷◌, ◌≡◌, ◌≢◌, ◌≤◌}
 
 -- a view of no node fits
 pub fits-none : (b : Board) (owner : ℕ → ℕ) (j : ℕ) (v : View) → v.nodes ≡ [] → v.noted ≡ []
     → v.made ≤ b.core.sizes.workers → ((k : ℕ) → v.worker ≡ Some k → k < b.core.sizes.workers)
-    → Fits b owner j v
+    → ViewFits b owner j v
 fits-none b owner j v nodes noted made worker = grind arith
 
 -- a view of one node fits where the node is seen as it is
 pub fits-one : (b : Board) (owner : ℕ → ℕ) (j : ℕ) (v : View) (x : NodeView) → v.nodes ≡ x ∷ []
     → v.noted ≡ [] → v.made ≤ b.core.sizes.workers
     → ((k : ℕ) → v.worker ≡ Some k → k < b.core.sizes.workers) → IsSeen b owner j x
-    → Fits b owner j v
+    → ViewFits b owner j v
 fits-one b owner j v x nodes noted made worker seen = grind arith
 
 -- one of the views changed
@@ -21,10 +21,11 @@ pub fits-set : (vs : List View) (id : ℕ) (w : View) (F : ℕ → View → Type
 fits-set vs id w F new others j v q = grind (arith, at_set)
 
 -- the same board, shown by other views
-pub regrouped : {key : Sizes} {st now : State (Option Chunk) View} (r : Shown key st)
+pub shown_by_other_views : {key : Sizes} {st now : State (Option Chunk) View} (r : Shown key st)
     → now.words ≡ st.words → now.homes ≡ st.homes → (owner : ℕ → ℕ)
-    → ((j : ℕ) (v : View) → get_elem? now.views j ≡ some v → Fits r.board owner j v) → Shown key now
-regrouped r words homes owner seats = record {
+    → ((j : ℕ) (v : View) → get_elem? now.views j ≡ some v → ViewFits r.board owner j v)
+    → Shown key now
+shown_by_other_views r words homes owner seats = record {
   board = r.board;
   holds = r.holds;
   sizes = r.sizes;
@@ -35,8 +36,8 @@ regrouped r words homes owner seats = record {
 }
 
 -- a view that fits one owner of nodes fits another that gives it as much
-pub fits-owned : (b : Board) (owner now : ℕ → ℕ) (j k : ℕ) (v : View) → Fits b owner j v
-    → ((n : ℕ) → owner n ≡ j → now n ≡ k) → Fits b now k v
+pub fits-owned : (b : Board) (owner now : ℕ → ℕ) (j k : ℕ) (v : View) → ViewFits b owner j v
+    → ((n : ℕ) → owner n ≡ j → now n ≡ k) → ViewFits b now k v
 fits-owned b owner now j k v t to = record {
   each = λ i x q. let z = t.each i x q in
       record { is = z.is; inside = z.inside; owned = to x.number z.owned };
@@ -53,8 +54,8 @@ stopped_at t b = record b { core = record b.core { stopped = t } }
 pub stopped-holds : (t : Bool) (b : Board) → Holds b → Holds (stopped_at t b)
 stopped-holds t b h = grind arith
 
-pub stopped-fits : (t : Bool) (b : Board) (owner : ℕ → ℕ) (j : ℕ) (v : View) → Fits b owner j v
-    → Fits (stopped_at t b) owner j v
+pub stopped-fits : (t : Bool) (b : Board) (owner : ℕ → ℕ) (j : ℕ) (v : View) → ViewFits b owner j v
+    → ViewFits (stopped_at t b) owner j v
 stopped-fits t b owner j v f = record {
   each = λ i x q. let z = f.each i x q in record { is = z.is; inside = z.inside; owned = z.owned };
   apart = f.apart;

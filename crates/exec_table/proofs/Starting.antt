@@ -1,7 +1,7 @@
 -- The state at the start, and how the root's view is dealt to the nodes' seats.
-use Rattle.exec_table.proofs.Imports.{Chunk, CoreState, Distinct, Fits, Holds, IsSeen, LaneHolds, List, NodeView, None, Option, PortState, Shown, Sizes, Splits, StageHolds, View, [], ap, arith, cases_lt, cond, edge_count, eqb, false, first_view, fits, get_elem?, get_or, get_or-map-range_with_len, get_or_past, home_of, inl, inr, length, length-map, length-map-range_with_len, map, no_lane, node_view, one, opening, port_at, range_with_len, refl, set, some, some-injective, some-ne-none, start, start-laws, start_board, start_node, start_stage, subst, suc, sym, true, words_of, zero, ℕ, ⊎_elim, ◌++◌, ◌+◌, ◌-◌, ◌<◌, ◌∙◌, ◌∷◌, ◌≡◌, ◌≢◌, ◌≤◌, ◌⊎◌, length-set, deque_capacity, node_words, wire_words, port_words, length-append, rest_of, without_first, just_first, IsOpen, key_of, ExecTable, identity_of, NodeSeat, learned-start, ports-length, append_assoc, replicate, first_or_none}
+use Rattle.exec_table.proofs.Imports.{Chunk, CoreState, Distinct, ViewFits, Holds, IsSeen, LaneHolds, List, NodeView, None, Option, PortState, Shown, Sizes, Splits, StageHolds, View, [], ap, arith, cases_lt, cond, edge_count, eqb, false, first_view, fits, get_elem?, get_or, get_or-map-range_with_len, get_or_past, home_of, inl, inr, length, length-map, length-map-range_with_len, map, no_lane, node_view, one, opening, port_at, range_with_len, refl, set, some, some-injective, some-ne-none, start, start-laws, start_board, start_node, start_stage, subst, suc, sym, true, words_of, zero, ℕ, ⊎_elim, ◌++◌, ◌+◌, ◌-◌, ◌<◌, ◌∙◌, ◌∷◌, ◌≡◌, ◌≢◌, ◌≤◌, ◌⊎◌, length-set, deque_capacity, node_words, wire_words, port_words, length-append, rest_of, without_first_node, just_first, IsOpen, sizes_in, ExecTable, identity_of, NodeSeat, learned-start, ports-length, append_assoc, replicate, first_or_none}
 use Rattle.exec_table.proofs.Hands.{view-turn, home-turn}
-use Rattle.exec_table.proofs.Showing.{fits-one, fits-owned, fits-set, regrouped}
+use Rattle.exec_table.proofs.Showing.{fits-one, fits-owned, fits-set, shown_by_other_views}
 
 -- ---- the laws
 
@@ -64,7 +64,7 @@ starts s ws n fit words count = record {
 }
   where
     only : (j : ℕ) (v : View) → get_elem? (first_view s ∷ []) j ≡ some v
-        → Fits (start_board s) (λ _. 0) j v
+        → ViewFits (start_board s) (λ _. 0) j v
     only zero v q = grind (arith, from-at s 0 s.nodes, from-apart s 0 s.nodes)
     only (suc j) v q = absurd (some-ne-none v (sym q))
 
@@ -79,13 +79,14 @@ one-more (y ∷ ys) a b (suc j) n e h = grind (arith, one-more ys a b j (length 
 
 -- the first node of a seat goes to a new seat
 pub peels : (key : Sizes) (id : ℕ) (v : View) (x : NodeView) (xs : List NodeView) → v.nodes ≡ x ∷ xs
-    → Splits (Shown key) id v (without_first v) (just_first v)
-peels key id v x xs is st r mine = regrouped r refl refl owner (λ j u q. ⊎_elim
-    (fits-set _ _ _ (Fits r.board owner) left (λ j u. others j u) j u)
-    (λ (t : (j ≡ new) × (just_first v ≡ u)). subst (λ (z : ℕ × View). Fits r.board owner z.0 z.1)
+    → Splits (Shown key) id v (without_first_node v) (just_first v)
+peels key id v x xs is st r mine = shown_by_other_views r refl refl owner (λ j u q. ⊎_elim
+    (fits-set _ _ _ (ViewFits r.board owner) left (λ j u. others j u) j u)
+    (λ (t : (j ≡ new) × (just_first v ≡ u)). subst
+    (λ (z : ℕ × View). ViewFits r.board owner z.0 z.1)
     (λ k. (sym t.0 k, t.1 k)) right)
-    (one-more (set st.views id (without_first v)) (just_first v) u j new
-    (length-set st.views id (without_first v)) q))
+    (one-more (set st.views id (without_first_node v)) (just_first v) u j new
+    (length-set st.views id (without_first_node v)) q))
   where
     new : ℕ
     new = length st.views
@@ -93,7 +94,7 @@ peels key id v x xs is st r mine = regrouped r refl refl owner (λ j u q. ⊎_el
     owner : ℕ → ℕ
     owner n = cond (eqb n x.number) new (r.owner n)
 
-    was : Fits r.board r.owner id v
+    was : ViewFits r.board r.owner id v
     was = r.seats id v mine
 
     here : IsSeen r.board r.owner id x
@@ -102,7 +103,7 @@ peels key id v x xs is st r mine = regrouped r refl refl owner (λ j u q. ⊎_el
     apart : Distinct (x ∷ xs)
     apart = subst Distinct is was.apart
 
-    left : Fits r.board owner id (without_first v)
+    left : ViewFits r.board owner id (without_first_node v)
     left = record {
       each = λ i y q. let p = sym (ap (λ l. get_elem? (rest_of l) i) is) ∙ q in
           let z = was.each (suc i) y (ap (λ l. get_elem? l (suc i)) is ∙ p) in record {
@@ -116,12 +117,13 @@ peels key id v x xs is st r mine = regrouped r refl refl owner (λ j u q. ⊎_el
       worker = λ k p. absurd (cc);
     }
 
-    right : Fits r.board owner new (just_first v)
-    right = subst (λ y. Fits r.board owner new (one y)) (sym (ap first_or_none is))
+    right : ViewFits r.board owner new (just_first v)
+    right = subst (λ y. ViewFits r.board owner new (one y)) (sym (ap first_or_none is))
         (fits-one r.board owner new (one x) x refl refl (omega arith) (λ k p. absurd (cc))
         record { is = here.is; inside = here.inside; owned = grind arith })
 
-    others : (j : ℕ) (u : View) → j ≢ id → get_elem? st.views j ≡ some u → Fits r.board owner j u
+    others : (j : ℕ) (u : View) → j ≢ id → get_elem? st.views j ≡ some u
+        → ViewFits r.board owner j u
     others j u ne q = fits-owned r.board r.owner owner j j u (r.seats j u q)
         (λ n p. let o = here.owned in grind (arith, p, o, ne))
 
@@ -130,13 +132,13 @@ pub first-of : (s : Sizes) (i n : ℕ) → i < n
 first-of s i n h = ap (nodes_from s i) (let z : n - i ≡ suc (n - (i + 1)) = omega arith in z)
 
 -- a seat as it was dealt
-pub opened : (t : ExecTable) (s : NodeSeat) (k : ℕ) → s.seat.table_id ≡ t.table.shared.table_id
-    → k < (key_of t).nodes → s.node ≡ k → s.seat.me ≡ (
-      one (node_view (start_board (key_of t)) k),
+pub dealt_is_open : (t : ExecTable) (s : NodeSeat) (k : ℕ) → s.seat.table_id
+    ≡ t.table.shared.table_id → k < (sizes_in t).nodes → s.node ≡ k → s.seat.me ≡ (
+      one (node_view (start_board (sizes_in t)) k),
       [],
-    ) → s.held.items ≡ [] → edge_count (key_of t) ≤ deque_capacity s.held
+    ) → s.held.items ≡ [] → edge_count (sizes_in t) ≤ deque_capacity s.held
     → IsOpen (identity_of t) k s
-opened t s k table less node me held room =
+dealt_is_open t s k table less node me held room =
     let bare = lane-start in let none = home-turn in
     grind (arith, length-map-range_with_len, start-holds, view-turn, none, bare, learned-start)
 

@@ -1,13 +1,13 @@
 -- Each step of a node leaves the laws that the core doesn't have, and the views of the other nodes.
-use Rattle.exec_table.proofs.Imports.{Act, Board, Bool, Born, Chunk, CoreState, EndOf, Holds, Lane, LaneHolds, NodeState, None, Option, PortState, Pull, Push, Some, StageHolds, Step, Wire, acted, acting_end, allows, ap, arith, board_after, born, chunks_after, end-of, end_at, end_for, end_of, length-append, append-nil, false, flags_at, flip-lone, holds, is_end, is_some, is_unborn, knows, lane_at, length, looked, looked_at, may_act, names, no_lane, no_port, node_after, node_at, not, port_after, port_at, pulled_from, pushed_to, put_node, put_port, refl, set, set-get_or, stage_at, subst, sym, true, ℕ, ◌<◌, ◌∙◌, ◌∷◌, ◌≡◌, ◌≢◌, Content, [], map-id, map-range_with_len_more, numbers, ◌++◌, ◌+◌}
+use Rattle.exec_table.proofs.Imports.{Act, Board, Bool, Born, Chunk, CoreState, EndOf, Holds, Lane, LaneHolds, NodeState, None, Option, PortState, Pull, Push, Some, StageHolds, Step, Wire, acted, acting_end, allows, ap, arith, board_after, born, chunks_after, end-of, end_at, end_for, end_of, length-append, append-nil, false, flags_at, flip-lone, is_held_end, is_end, is_some, is_unborn, knows, lane_at, length, looked, looked_at, may_act, names, no_lane, no_port, node_after, node_at, not, port_after, port_at, pulled_from, pushed_to, put_node, put_port, refl, set, set-get_or, stage_at, subst, sym, true, ℕ, ◌<◌, ◌∙◌, ◌∷◌, ◌≡◌, ◌≢◌, Content, [], map-id, map-range_with_len_more, chunk_numbers, ◌++◌, ◌+◌}
 use Rattle.exec_table.proofs.Moving.{board_of, Moved, none-moved, same-stage, port-moved}
 use Rattle.core_laws.specs.declared.types.Step.TheVariants as step
 
 -- ---- steps at a port
 
-numbers-more : (k : ℕ) → numbers k ++ k ∷ [] ≡ numbers (k + 1)
-numbers-more k = sym (sym (map-id (numbers (k + 1))) ∙ (map-range_with_len_more (λ j. j) 0 k k
-    (omega arith) ∙ ap (λ l. l ++ k ∷ []) (map-id (numbers k))))
+numbers-more : (k : ℕ) → chunk_numbers k ++ k ∷ [] ≡ chunk_numbers (k + 1)
+numbers-more k = sym (sym (map-id (chunk_numbers (k + 1))) ∙ (map-range_with_len_more (λ j. j) 0 k k
+    (omega arith) ∙ ap (λ l. l ++ k ∷ []) (map-id (chunk_numbers k))))
 
 pub lane-full : (p : PortState) (l : Lane) → Content p → LaneHolds p l
     → is_some l.content ≡ p.flags.has_data
@@ -18,12 +18,12 @@ looked-else : (a : Bool) (l : Lane)
     → end_at (not a) None (looked_at a l) ≡ end_at (not a) None l
 looked-else a l = grind arith
 
-pub holds-in : (c : CoreState) (n e : ℕ) → holds c n e ≡ true
+pub holds-in : (c : CoreState) (n e : ℕ) → is_held_end c n e ≡ true
     → (n < length c.nodes) × (e < length c.ports)
 holds-in c n e g = grind arith
 
 pub act-parts : (a : Act) (c : CoreState) (n e : ℕ) → may_act a c n e ≡ true
-    → (holds c n e ≡ true) × (is_end (acting_end a) n (port_at c e).wire ≡ true)
+    → (is_held_end c n e ≡ true) × (is_end (acting_end a) n (port_at c e).wire ≡ true)
     × (allows a (flags_at e (node_at c n).seen) ≡ true)
 act-parts a c n e g = grind arith
 
@@ -43,7 +43,7 @@ other-end a w m k l g ne same = grind arith
 
 -- a change of a node, and of an edge of which it is the end a, that the other end doesn't see
 edge-moved : (b : Board) (n e : ℕ) (a : Bool) (w : Wire) (nd : NodeState) (q : PortState) (l : Lane)
-    → Holds b → holds b.core n e ≡ true → (port_at b.core e).wire ≡ Some w → end_of a w ≡ n
+    → Holds b → is_held_end b.core n e ≡ true → (port_at b.core e).wire ≡ Some w → end_of a w ≡ n
     → q.wire ≡ (port_at b.core e).wire → LaneHolds q l
     → end_at (not a) None l ≡ end_at (not a) None (lane_at b e)
     → nd.word ≡ (node_at b.core n).word → nd.held ≡ (node_at b.core n).held
@@ -88,7 +88,7 @@ still-moved a b n e h g same = subst (λ l. Moved b (board_of (acted a b.core n 
 look-end : (n : ℕ) (w : Option Wire) → names n w ≡ true → EndOf (is_end true n w) n w
 look-end n w h = grind arith
 
-pub look-moved : (b : Board) (n e : ℕ) (x : Option Chunk) → Holds b → holds b.core n e ≡ true
+pub look-moved : (b : Board) (n e : ℕ) (x : Option Chunk) → Holds b → is_held_end b.core n e ≡ true
     → Moved b (board_after b n (step.Look e) x) n
 look-moved b n e x h g = let p = port_at b.core e in
     let y = look-end n p.wire

@@ -1,10 +1,10 @@
 -- Views joined and words noted keep the rule.
-use Rattle.exec_table.proofs.Imports.{Allows, Board, Distinct, Fits, Holds, Joins, List, NodeView, Sat, Shown, Sizes, View, [], ap, arith, at_index, at_set, drop, cond, edge_count, eqb, false, get_elem?, get_or, get_or_default, inl, inr, keeps, length, no_view, refl, set, some, some-injective, some-ne-none, subst, suc, sym, take, unstopped, words_of, zero, length-map, map-append, ℕ, ⊎_elim, ◌++◌, ◌+◌, ◌<◌, ◌∙◌, ◌∷◌, ◌≡◌, ◌≢◌, ◌≤◌, ◌⊎◌, Enters, IsFinal, just_first, first_or_none, IsSeatOf, slots, view, Identity, AreAll, HasAll, Each, IsBack, IsLent, Surveyed, joined_views, noted_word, noting, views, NodeSeat, at_map, drop_at, ext_get_or, Chunk, Lane, None, Option, Seen, home_of, map, no_lane, none}
+use Rattle.exec_table.proofs.Imports.{Allows, Board, Distinct, ViewFits, Holds, Joins, List, NodeView, Sat, Shown, Sizes, View, [], ap, arith, at_index, at_set, drop, cond, edge_count, eqb, false, get_elem?, get_or, get_or_default, inl, inr, keeps, length, no_view, refl, set, some, some-injective, some-ne-none, subst, suc, sym, take, unstopped, words_of, zero, length-map, map-append, ℕ, ⊎_elim, ◌++◌, ◌+◌, ◌<◌, ◌∙◌, ◌∷◌, ◌≡◌, ◌≢◌, ◌≤◌, ◌⊎◌, Enters, IsFinal, just_first, first_or_none, IsSeatOf, slots, view, Identity, AreAll, HasAll, EachSeat, IsBack, IsLent, Surveyed, joined_views, noted_word, noting, views, NodeSeat, at_map, drop_at, ext_get_or, Chunk, Lane, None, Option, Seen, home_of, map, no_lane, none}
 use Rattle.atomic_table.specs.Table.{Final as AtEnd}
 use Rattle.exec_table.specs.declared.shut.Final.{Final}
 use Rattle.exec_table.proofs.Wording.{pending-small}
-use Rattle.exec_table.proofs.Seating.{reseen}
-use Rattle.exec_table.proofs.Showing.{fits-none, fits-owned, fits-set, regrouped, stopped_at, stopped-holds}
+use Rattle.exec_table.proofs.Seating.{shown_to_new_view}
+use Rattle.exec_table.proofs.Showing.{fits-none, fits-owned, fits-set, shown_by_other_views, stopped_at, stopped-holds}
 use Rattle.exec_table.proofs.Starting.{one-more, words-count}
 
 -- ---- joined views
@@ -28,10 +28,11 @@ apart-append (x ∷ xs) k d e ne = (
 -- a seat takes in the nodes of another
 pub joins : (key : Sizes) (id other : ℕ) (v w : View) → Joins (Shown key) id v other w
     (joined_views v w) no_view
-joins key id other v w st r mine apart theirs = regrouped r refl refl owner
-    (fits-set _ _ _ (Fits r.board owner) (fits-none r.board owner other no_view refl refl
+joins key id other v w st r mine apart theirs = shown_by_other_views r refl refl owner
+    (fits-set _ _ _ (ViewFits r.board owner) (fits-none r.board owner other no_view refl refl
     (omega arith)
-    (λ k p. absurd (cc))) (λ j u ne q. fits-set _ _ _ (λ j u. j ≢ other → Fits r.board owner j u)
+    (λ k p. absurd (cc)))
+    (λ j u ne q. fits-set _ _ _ (λ j u. j ≢ other → ViewFits r.board owner j u)
     (λ _. both) (λ j u a q b. others j u b a q) j u q ne))
   where
     owner : ℕ → ℕ
@@ -40,22 +41,22 @@ joins key id other v w st r mine apart theirs = regrouped r refl refl owner
     same : (n j : ℕ) → j ≢ other → r.owner n ≡ j → owner n ≡ j
     same n j ne q = grind (arith, q, ne)
 
-    mine_was : Fits r.board r.owner id v
+    mine_was : ViewFits r.board r.owner id v
     mine_was = r.seats id v mine
 
-    was : Fits r.board owner id v
+    was : ViewFits r.board owner id v
     was = fits-owned r.board r.owner owner id id v mine_was
         (λ n. same n id (λ e. apart (sym e)))
 
-    theirs_was : Fits r.board r.owner other w
+    theirs_was : ViewFits r.board r.owner other w
     theirs_was =
         r.seats other w (grind (arith, at_set st.views id other (joined_views v w) w theirs))
 
-    it : Fits r.board owner id w
+    it : ViewFits r.board owner id w
     it = fits-owned r.board r.owner owner other id w theirs_was
         (λ n q. grind (arith, q))
 
-    both : Fits r.board owner id (joined_views v w)
+    both : ViewFits r.board owner id (joined_views v w)
     both = record {
       each = λ i x q. grind (arith, was.each i x, it.each, at-append v.nodes w.nodes i x q);
       apart = apart-append v.nodes w.nodes was.apart it.apart (λ i j x y p q e.
@@ -66,7 +67,7 @@ joins key id other v w st r mine apart theirs = regrouped r refl refl owner
     }
 
     others : (j : ℕ) (u : View) → j ≢ other → j ≢ id → get_elem? st.views j ≡ some u
-        → Fits r.board owner j u
+        → ViewFits r.board owner j u
     others j u a b q = fits-owned r.board r.owner owner j j u (r.seats j u q) (λ n. same n j a)
 
 -- ---- noted words
@@ -85,7 +86,7 @@ note-allowed key slots id i m all next st r deep mine fit = (
   noting i (get_or st.words i 0) m.0,
   keeps,
   tt,
-  reseen key st r id i m (noting i (get_or st.words i 0) m.0) (record {
+  shown_to_new_view key st r id i m (noting i (get_or st.words i 0) m.0) (record {
     each = was.each;
     apart = was.apart;
     noted = λ j w q. ⊎_elim (λ (t : get_elem? m.0.noted j ≡ some w). was.noted j w t)
@@ -102,7 +103,7 @@ note-allowed key slots id i m all next st r deep mine fit = (
   refl,
 )
   where
-    was : Fits r.board r.owner id m.0
+    was : ViewFits r.board r.owner id m.0
     was = r.seats id m.0 mine
 
 -- once it has noted every word, one more load tells that they are the words of one state
@@ -113,7 +114,7 @@ survey-allowed key slots id i m full st r deep mine fit = (
   m.0,
   keeps,
   tt,
-  reseen key st r id i m m.0 was,
+  shown_to_new_view key st r id i m m.0 was,
   (
     refl,
     record {
@@ -129,15 +130,15 @@ survey-allowed key slots id i m full st r deep mine fit = (
   ),
 )
   where
-    was : Fits r.board r.owner id m.0
+    was : ViewFits r.board r.owner id m.0
     was = r.seats id m.0 mine
 
 -- a new seat knows nothing
 pub enter-allowed : (key : Sizes) (slots i : ℕ) → Enters (Shown key) slots i (λ n w. w ≡ no_view)
 enter-allowed key slots i st r deep fit = (
   no_view,
-  regrouped r refl refl r.owner (λ j u q. ⊎_elim (r.seats j u)
-      (λ (t : (j ≡ length st.views) × (no_view ≡ u)). subst (Fits r.board r.owner j) t.1
+  shown_by_other_views r refl refl r.owner (λ j u q. ⊎_elim (r.seats j u)
+      (λ (t : (j ≡ length st.views) × (no_view ≡ u)). subst (ViewFits r.board r.owner j) t.1
       (fits-none r.board r.owner j no_view refl refl (omega arith) (λ k p. absurd (cc))))
       (one-more st.views no_view u j (length st.views) refl q)),
   refl,
@@ -169,7 +170,7 @@ each-next P Q olds ss i s r at new each k t h = ⊎_elim
     (x.0, x.1, (λ l. x.2 (omega arith)), (λ l. x.3 (omega arith)))) (at_set ss i k r t h)
 
 pub each-all : (P Q : NodeSeat → NodeSeat → Type 0) (olds ss : List NodeSeat) (i : ℕ)
-    → Between P Q i olds ss → length ss ≤ i → Each P olds ss
+    → Between P Q i olds ss → length ss ≤ i → EachSeat P olds ss
 each-all P Q olds ss i each all k s h = let x = each k s h in let l = below ss k s h in
     (x.0, x.1, x.2 (omega arith))
 
@@ -215,10 +216,11 @@ is-back t was lent s v o l first table me node held = grind arith
 -- ---- the end
 
 -- the last words and slots, and what a seat knew, are those of one state
-pub closing : (key : Sizes) (id : ℕ) (v : View) (nodes : List NodeView) (f : Final) (ws : List ℕ)
+pub ends_are_final : (key : Sizes) (id : ℕ) (v : View) (nodes : List NodeView) (f : Final)
+    (ws : List ℕ)
     (xs : List (Option Chunk)) → AtEnd (Seen (Shown key) id v) ws xs → f.words ≡ ws
     → f.left.items ≡ xs → v.nodes ≡ nodes → IsFinal nodes f
-closing key id v nodes f ws xs e words chunks is = let r = e.1.0 in record {
+ends_are_final key id v nodes f ws xs e words chunks is = let r = e.1.0 in record {
   shown = record {
     board = r.board;
     holds = r.holds;

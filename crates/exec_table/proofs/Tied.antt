@@ -1,12 +1,12 @@
 -- The tie of the running table to the core: an atomic step of a node's seat, whose view is ready
 -- for a step of the core, keeps the rule and tells that step.
-use Rattle.exec_table.proofs.Imports.{Allows, Board, Bool, Chunk, Did, Fits, Holds, IsSeen, Lane, List, NodeView, None, Option, Sat, Shown, Sizes, Some, State, Step, Valid, View, [], and_parts, ap, arith, at_index, at_map, board_after, cond_both, eqb-true, false, fits_end, found_by, front, get_elem?, get_or, get_or_default, home_of, homes_after, in_hand, is_at_hand, is_empty_hand, is_full_hand, lanes_after, length, looked_at, map, map-set, may, node_view, not, one, place, ready, refl, rest, set, set-get_or, sizes-kept, slot_act, some, stepped, subst, sym, true, words_of, ℕ, ◌&&◌, ◌<◌, ◌∙◌, ◌∷◌, ◌≡◌, ◌≢◌, ◌≤◌, end-of}
+use Rattle.exec_table.proofs.Imports.{Allows, Board, Bool, Chunk, Did, ViewFits, Holds, IsSeen, Lane, List, NodeView, None, Option, Sat, Shown, Sizes, Some, State, Step, Valid, View, [], and_parts, ap, arith, at_index, at_map, board_after, cond_both, eqb-true, false, fits_end, found_by, front, get_elem?, get_or, get_or_default, home_of, homes_after, in_hand, is_at_hand, is_empty_hand, is_full_hand, lanes_after, length, looked_at, map, map-set, may, node_view, not, one, place, ready, refl, rest, set, set-get_or, sizes-kept, slot_act, some, stepped, subst, sym, true, words_of, ℕ, ◌&&◌, ◌<◌, ◌∙◌, ◌∷◌, ◌≡◌, ◌≢◌, ◌≤◌, end-of}
 use Rattle.exec_table.proofs.Readiness.{ready-may, view-end}
 use Rattle.exec_table.proofs.Moving.{Moved}
 use Rattle.exec_table.proofs.Showing.{fits-set}
 use Rattle.exec_table.proofs.Wording.{op, word-after}
 use Rattle.exec_table.proofs.Stepping.{AtHand, act-parts, holds-in}
-use Rattle.exec_table.proofs.Kept.{moved, holds-after}
+use Rattle.exec_table.proofs.Kept.{each_step_moves, holds-after}
 use Rattle.core_laws.specs.declared.types.Step.TheVariants as step
 
 -- ---- what is at hand
@@ -80,7 +80,7 @@ module _ (key : Sizes) (slots id : ℕ) (m : Sat) (x : NodeView) (s : Step) (i :
     handed = at-hand b n s m.1 r.holds (subst (λ y. ready y s ≡ true) here.is g) can hand
 
     did : Moved b d n
-    did = moved b n s (front m.1) r.holds here.inside can handed
+    did = each_step_moves b n s (front m.1) r.holds here.inside can handed
 
     what : (i ≡ place b.core n s) × ((w : ℕ) → f w ≡ op b.core n s w)
     what = at b r.holds (sym here.is) r.sizes can
@@ -96,7 +96,7 @@ module _ (key : Sizes) (slots id : ℕ) (m : Sat) (x : NodeView) (s : Step) (i :
         ∙ ap (op b.core n s) found) k)) ∙ sym (word-after b n s r.holds here.inside can)
 
     -- another seat has other nodes, and has noted no words
-    others : (j : ℕ) (v : View) → j ≢ id → Fits b r.owner j v → Fits d r.owner j v
+    others : (j : ℕ) (v : View) → j ≢ id → ViewFits b r.owner j v → ViewFits d r.owner j v
     others j v ne t = record {
       each = λ k y q. let z = t.each k y q in let z_owned = z.owned in record {
         is = z.is ∙ sym (did.others y.number (λ e. ne (sym z.owned ∙ (ap r.owner e ∙ here.owned))));
@@ -109,7 +109,7 @@ module _ (key : Sizes) (slots id : ℕ) (m : Sat) (x : NodeView) (s : Step) (i :
       worker = λ k q. subst (λ l. k < l.workers) (sym sizes) (t.worker k q);
     }
 
-    own : Fits d r.owner id (one (node_view d n))
+    own : ViewFits d r.owner id (one (node_view d n))
     own = grind (arith, sizes, here.inside, here.owned)
 
     keeps-rule : Shown key (stepped st i (f (get_or st.words i 0)) id m.1 (one (node_view d n))
@@ -121,7 +121,7 @@ module _ (key : Sizes) (slots id : ℕ) (m : Sat) (x : NodeView) (s : Step) (i :
       words = words;
       homes = ap (λ l. homes_after l m.1 (slot_act b n s)) r.homes ∙ homes-kept b n s m.1 hand;
       owner = r.owner;
-      seats = fits-set _ _ _ (Fits d r.owner) own (λ j v ne q. others j v ne (r.seats j v q));
+      seats = fits-set _ _ _ (ViewFits d r.owner) own (λ j v ne q. others j v ne (r.seats j v q));
     }
 
   -- the seat may make the step, and is told it

@@ -1,5 +1,5 @@
 -- Each step changes one word, as its atomic operation says, and leaves the others.
-use Rattle.exec_table.proofs.Imports.{Act, [], Bool, Board, Close, CoreState, Finish, Flags, Holds, Laws, List, NodeState, Option, PortState, Pull, Push, Some, Step, Unwant, Want, Wire, acted, after, ap, arith, bit_and, bit_at_end, bit_or, bit_xor, changed, cond, either, eqb, first_word, flags_word, get_or, get_or-append_right, get_or-map, get_or-set_other, get_or_append_left, is_none, learning, left, length, length-map, looked, map-set, map-set_same, marks-of, may, may_act, mod-eq_of_lt, no_node, no_port, node_after, node_at, node_place, node_words, peer_in, pending-most, place, port_after, port_at, port_place, port_words, put_node, put_port, refl, set, set-append_left, set-get_or, some-pending, spent, telling, told, true, wire_place, wire_word, wire_words, wiring, words_of, ℕ, ◌++◌, ◌+◌, ◌-◌, ◌%◌, ◌<◌, ◌^◌, ◌∙◌, ◌∷◌, ◌≡◌}
+use Rattle.exec_table.proofs.Imports.{Act, [], Bool, Board, Close, CoreState, Finish, Flags, Holds, Laws, List, NodeState, Option, PortState, Pull, Push, Some, Step, Unwant, Want, Wire, acted, after, ap, arith, bit_and, bit_at_end, bit_or, bit_xor, changed, cond, either, eqb, first_word, flags_word, get_or, get_or-append_right, get_or-map, get_or-set_other, get_or_append_left, is_none, learning, left, length, length-map, looked, map-set, map-set_same, marks-of, may, may_act, mod-eq_of_lt, no_node, no_port, node_after, node_at, node_place, node_words, peer_in, pending-most, place, port_after, port_at, port_place, port_words, put_node, put_port, refl, set, set-append_left, set-get_or, some-pending, spent, telling, with_bit, true, wire_place, wire_word, wire_words, wiring, words_of, ℕ, ◌++◌, ◌+◌, ◌-◌, ◌%◌, ◌<◌, ◌^◌, ◌∙◌, ◌∷◌, ◌≡◌}
 use Rattle.core_laws.specs.declared.types.Step.TheVariants as step
 
 -- the operation of an act on its port's word
@@ -153,10 +153,10 @@ word-after b n (step.ClosePort e) h i g = act-after Close b.core n e h.laws g
 word-after b n (step.Mark e) h i g = let c = b.core in
     let x = marks-of c n e g h.laws.edges h.laws.nodes in
     let m = peer_in n (port_at c e).wire in let k = bit_at_end m (port_at c e).wire in
-    same-node (put_node c m (told k (node_at c m))) n
+    same-node (put_node c m (with_bit k (node_at c m))) n
     (telling e (spent (node_at c m).word) (node_at c n))
-    (grind (arith, x.apart, get_or-set_other c.nodes m n (told k (node_at c m)) no_node))
-    ∙ node-word c m (told k (node_at c m)) (λ w. bit_or w (2 ^ k)) x.peer_in refl
+    (grind (arith, x.apart, get_or-set_other c.nodes m n (with_bit k (node_at c m)) no_node))
+    ∙ node-word c m (with_bit k (node_at c m)) (λ w. bit_or w (2 ^ k)) x.peer_in refl
 word-after b n step.Begin h i g = node-word b.core n _ (λ _. 2 ^ 62) (grind arith) refl
 word-after b n step.Again h i g = node-word b.core n _ (λ _. 2 ^ 62) (grind arith) refl
 word-after b n step.Rest h i g = let c = b.core in let f = λ (w : ℕ). either (eqb w (2 ^ 62)) 0 w in

@@ -1,6 +1,6 @@
 -- Marks, wires and workers: what their calls' proofs cite.
-use Rattle.exec_table.proofs.Imports.{Allows, Board, Bool, Step, board_after, Fits, Holds, None, Sat, Shown, Sizes, Some, Splits, View, Wire, ap, edge_count, arith, at_snoc, bit_at_or, bit_or, cond, end_of_view, first_word, get_elem?, get_or, keeps, length, may, node_view, or_comm, or_shifted, peer_in, port_at, refl, same_from_bits, set, some, subst, sym, true, wire_of, wire_ok, wire_word, words_of, ℕ, ⊎_elim, ◌+◌, ◌<◌, ◌^◌, ◌∙◌, ◌≡◌, ◌≤◌, le-leb, lt-leb, ready, Worked, next_worker, with_worker, wire_in, ExecTable, Identity, IsSeatOf, identity_of, seen_in, view, NodeSeat}
-use Rattle.exec_table.proofs.Showing.{fits-none, fits-set, regrouped, stopped_at, stopped-fits, stopped-holds}
+use Rattle.exec_table.proofs.Imports.{Allows, Board, Bool, Step, board_after, ViewFits, Holds, None, Sat, Shown, Sizes, Some, Splits, View, Wire, ap, edge_count, arith, at_snoc, bit_at_or, bit_or, cond, end_of_view, first_word, get_elem?, get_or, keeps, length, may, node_view, or_comm, or_shifted, peer_in, port_at, refl, same_from_bits, set, some, subst, sym, true, wire_of, wire_ok, wire_word, words_of, ℕ, ⊎_elim, ◌+◌, ◌<◌, ◌^◌, ◌∙◌, ◌≡◌, ◌≤◌, le-leb, lt-leb, ready, Worked, next_worker, with_worker, wire_in, ExecTable, Identity, IsSeatOf, identity_of, seen_in_word, view, NodeSeat}
+use Rattle.exec_table.proofs.Showing.{fits-none, fits-set, shown_by_other_views, stopped_at, stopped-fits, stopped-holds}
 use Rattle.exec_table.proofs.Wording.{pending-small}
 use Rattle.exec_table.proofs.Seating.{known-wire, wire-read}
 use Rattle.core_laws.specs.Steps as core
@@ -43,11 +43,12 @@ word-of-wire t s e w word o g is = grind arith
 -- the root may make one more worker
 pub worker-splits : (key : Sizes) (id : ℕ) (v : View) → v.made < key.workers
     → Splits (Shown key) id v (with_worker v) (next_worker v)
-worker-splits key id v spare st r mine = regrouped r refl refl r.owner (λ j u q. ⊎_elim
+worker-splits key id v spare st r mine = shown_by_other_views r refl refl r.owner (λ j u q. ⊎_elim
     (λ (t : get_elem? (set st.views id (with_worker v)) j ≡ some u).
-    fits-set _ _ _ (Fits r.board r.owner) (fits-none r.board r.owner id (with_worker v) refl refl
+    fits-set _ _ _ (ViewFits r.board r.owner)
+    (fits-none r.board r.owner id (with_worker v) refl refl
     (subst (λ s. v.made + 1 ≤ s.workers) (sym r.sizes) (omega arith)) (λ k p. absurd (cc)))
-    (λ j u _. r.seats j u) j u t) (λ (t : next_worker v ≡ u). subst (Fits r.board r.owner j) t
+    (λ j u _. r.seats j u) j u t) (λ (t : next_worker v ≡ u). subst (ViewFits r.board r.owner j) t
     (fits-none r.board r.owner j (next_worker v) refl refl (omega arith)
     (λ k p. subst (λ s. k < s.workers) (sym r.sizes) (let z : v.made ≡ k = cc in omega arith))))
     (at_snoc (set st.views id (with_worker v)) (next_worker v) u j q))
@@ -85,7 +86,7 @@ worker-allowed key slots id m s f to after worker word sizes st r deep mine fit 
         (word b.core.pending b.core.stopped (pending-small b r.holds));
     homes = r.homes;
     owner = r.owner;
-    seats = fits-set _ _ _ (Fits d r.owner) (still id m.0 (r.seats id m.0 mine))
+    seats = fits-set _ _ _ (ViewFits d r.owner) (still id m.0 (r.seats id m.0 mine))
         (λ j u _ q. still j u (r.seats j u q));
   },
   (
@@ -114,9 +115,9 @@ worker-allowed key slots id m s f to after worker word sizes st r deep mine fit 
     holds : Holds d
     holds = stopped-holds _ b r.holds
 
-    still : (j : ℕ) (v : View) → Fits b r.owner j v → Fits d r.owner j v
+    still : (j : ℕ) (v : View) → ViewFits b r.owner j v → ViewFits d r.owner j v
     still j v = stopped-fits _ b r.owner j v
 
 -- what word 0 tells
-pub seen-read : (b : Board) → Holds b → core.seen_in b.core ≡ seen_in (first_word b.core)
+pub seen-read : (b : Board) → Holds b → core.seen_in b.core ≡ seen_in_word (first_word b.core)
 seen-read b h = grind (arith, pending-small, le-leb, lt-leb)

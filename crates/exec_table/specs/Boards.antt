@@ -5,12 +5,12 @@ use Rattle.std.specs.List.{range_with_len}
 use mathlib.Core.Option as maybe
 use Rattle.core_laws.specs.declared.types.Step.TheVariants as step
 use Rattle.exec_table.specs.Words.{edge_count}
-pub use Rattle.exec_table.specs.declared.types.End.{End}
+pub use Rattle.exec_table.specs.declared.types.EdgeEnd.{EdgeEnd}
 pub use Rattle.exec_table.specs.declared.types.NodeView.{NodeView}
 pub use Rattle.exec_table.specs.declared.types.View.{View}
 pub use Rattle.exec_table.specs.declared.types.Stage.{Stage}
 pub use Rattle.exec_table.specs.declared.types.Stage.TheVariants.{Unborn, Born, Begun, Over}
-use Rattle.exec_table.specs.CoreNames.{CoreState, NodeState, PortState, Sizes, Step, Wire, node_at, port_at, is_end, knows, is_set, is_unborn, is_over, after, has_output, Laws, Chunk}
+use Rattle.exec_table.specs.CoreNames.{CoreState, NodeState, PortState, Sizes, Step, Wire, node_at, port_at, is_end, knows, is_set, is_unborn, is_over, after, has_output_edge, Laws, Chunk}
 
 -- an edge: the chunks pushed and pulled so far, the one that is between, and whether the slot is
 -- out with a seat
@@ -40,7 +40,7 @@ chunks_in (Some x) = x ∷ []
 
 -- ---- what a node's seat knows
 
-abbrev pub no_end : End
+abbrev pub no_end : EdgeEnd
 no_end = record { wire = None; chunks = []; turn = None }
 
 -- the content goes to the end that may take it: a chunk to the consumer, none to the producer
@@ -55,15 +55,15 @@ chunks_at false l = l.pushed
 abbrev pub turn_at : Bool → Lane → Option (Option Chunk)
 turn_at b l = cond (l.taken && fits_end b l.content) (Some l.content) None
 
-abbrev pub end_at : Bool → Option Wire → Lane → End
+abbrev pub end_at : Bool → Option Wire → Lane → EdgeEnd
 end_at b w l = record { wire = w; chunks = chunks_at b l; turn = turn_at b l }
 
 -- what the node n knows of an edge, which it has learned or not
-abbrev pub end_for : ℕ → Bool → Option Wire → Lane → End
+abbrev pub end_for : ℕ → Bool → Option Wire → Lane → EdgeEnd
 end_for n known w l = cond (is_end true n w) (end_at true (cond known w None) l)
     (cond (is_end false n w) (end_at false (cond known w None) l) no_end)
 
-abbrev pub end_view : Board → ℕ → ℕ → End
+abbrev pub end_view : Board → ℕ → ℕ → EdgeEnd
 end_view b n e = end_for n (knows e (node_at b.core n).seen) (port_at b.core e).wire (lane_at b e)
 
 abbrev pub node_view : Board → ℕ → NodeView
@@ -78,8 +78,8 @@ node_view b n = record {
 -- ---- laws
 
 -- the chunk pushed as the kth has the number k, counted from 0
-abbrev pub numbers : ℕ → List ℕ
-numbers k = range_with_len 0 k
+abbrev pub chunk_numbers : ℕ → List ℕ
+chunk_numbers k = range_with_len 0 k
 
 abbrev pub number_in_slot : ℕ → Option Chunk → Option ℕ
 number_in_slot k None = None
@@ -87,8 +87,8 @@ number_in_slot k (Some x) = Some k
 
 pub record LaneHolds (p : PortState) (l : Lane) : Type 0 where
   pub chunks : l.pushed ≡ l.pulled ++ chunks_in l.content
-  pub pushed : p.pushed ≡ numbers (length l.pushed)
-  pub pulled : p.pulled ≡ numbers (length l.pulled)
+  pub pushed : p.pushed ≡ chunk_numbers (length l.pushed)
+  pub pulled : p.pulled ≡ chunk_numbers (length l.pulled)
   pub slot : p.slot ≡ number_in_slot (length l.pulled) l.content
   pub bare : p.wire ≡ None → l ≡ no_lane
 
@@ -106,7 +106,7 @@ pub record StageHolds (s : Sizes) (n : ℕ) (nd : NodeState) (g : Stage) : Type 
   pub unborn : is_unborn nd.word ≡ is_unborn_stage g
   pub over : is_over nd.word ≡ is_over_stage g
   pub held : nd.held ≡ true → g ≡ Begun
-  pub first : g ≡ Born → (is_set nd.word 60 || has_output n s.wires) ≡ true
+  pub first : g ≡ Born → (is_set nd.word 60 || has_output_edge n s.wires) ≡ true
 
 pub record Holds (b : Board) : Type 0 where
   pub laws : Laws b.core

@@ -2,9 +2,9 @@
 use Rattle.std.specs.Prelude.{◌≡◌, ℕ, ◌+◌, ◌-◌, ◌==◌, ◌||◌, ◌&&◌, ◌++◌, not, cond, Bool, true, false, is_none, is_some, Option, Some, None}
 use Rattle.std.specs.List.{filter}
 use Rattle.core_laws.specs.Views.{edges_of, flags_at, has, is_set, knows, names, seeing, without}
-use Rattle.core_laws.specs.Steps.{Answer, Marked, bit_at_end, charged, flags, is_idle, learning, left, marked_peer, node_after, spent, telling, updated, wired}
+use Rattle.core_laws.specs.Steps.{Marked, StepAnswer, bit_at_end, charged, flags, is_idle, learning, left, marked_peer, node_after, spent, telling, updated, wired}
 use Rattle.core_laws.specs.declared.types.Step.TheVariants as step
-use Rattle.exec_table.specs.Boards.{Begun, Born, End, NodeView, Over, Stage, chunks_in}
+use Rattle.exec_table.specs.Boards.{Begun, Born, EdgeEnd, NodeView, Over, Stage, chunks_in}
 use Rattle.exec_table.specs.CoreNames.{Act, Chunk, Close, Finish, Flags, NodeState, Pull, Push, Step, Unwant, Want, Wire}
 use Rattle.exec_table.specs.Ready.{end_of_view}
 use Rattle.exec_table.specs.Seats.{NodeSeat, slot_of, view}
@@ -33,28 +33,29 @@ abbrev pub state_learned : ℕ → NodeState → NodeState
 state_learned e nd = cond (knows e nd.seen) nd (learning e nd)
 
 -- the node's state after its step s, which answered a
-abbrev pub state_after : NodeView → Step → Answer → NodeState
-state_after x (step.Look e) (flags f) = record x.state {
+abbrev pub core_state_after : NodeView → Step → StepAnswer → NodeState
+core_state_after x (step.Look e) (flags f) = record x.state {
   seen = seeing e f x.state.seen;
   unlooked = without e x.state.unlooked;
 }
-state_after x (step.Want e) a = state_acted Want x e
-state_after x (step.Unwant e) a = state_acted Unwant x e
-state_after x (step.Push e k) a = state_acted (Push k) x e
-state_after x (step.Pull e) a = state_acted Pull x e
-state_after x (step.Finish e) a = state_acted Finish x e
-state_after x (step.ClosePort e) a = state_acted Close x e
-state_after x (step.Mark e) (marked_peer m) = telling e (price m) x.state
-state_after x step.Begin (updated w) = state_taken x w (spent w)
-state_after x step.Again (updated w) = state_taken x w 0
-state_after x step.Rest (is_idle b) = cond b (left 0 x.state) x.state
-state_after x step.Over a = left 0 x.state
-state_after x step.TokenIn a = record x.state { tokens = x.state.tokens + 1 }
-state_after x step.TokenOut a = record x.state { tokens = x.state.tokens - 1 }
-state_after x (step.Wire e w) (wired o) = cond (is_none o) (state_learned e x.state) x.state
-state_after x (step.Wired e) (wired o) = cond (names x.number o) (state_learned e x.state) x.state
-state_after x step.Birth a = record x.state { tokens = x.state.tokens - 1 }
-state_after x s a = x.state
+core_state_after x (step.Want e) a = state_acted Want x e
+core_state_after x (step.Unwant e) a = state_acted Unwant x e
+core_state_after x (step.Push e k) a = state_acted (Push k) x e
+core_state_after x (step.Pull e) a = state_acted Pull x e
+core_state_after x (step.Finish e) a = state_acted Finish x e
+core_state_after x (step.ClosePort e) a = state_acted Close x e
+core_state_after x (step.Mark e) (marked_peer m) = telling e (price m) x.state
+core_state_after x step.Begin (updated w) = state_taken x w (spent w)
+core_state_after x step.Again (updated w) = state_taken x w 0
+core_state_after x step.Rest (is_idle b) = cond b (left 0 x.state) x.state
+core_state_after x step.Over a = left 0 x.state
+core_state_after x step.TokenIn a = record x.state { tokens = x.state.tokens + 1 }
+core_state_after x step.TokenOut a = record x.state { tokens = x.state.tokens - 1 }
+core_state_after x (step.Wire e w) (wired o) = cond (is_none o) (state_learned e x.state) x.state
+core_state_after x (step.Wired e) (wired o) =
+    cond (names x.number o) (state_learned e x.state) x.state
+core_state_after x step.Birth a = record x.state { tokens = x.state.tokens - 1 }
+core_state_after x s a = x.state
 
 -- ---- how far the node is, its edges and its slots
 
@@ -70,14 +71,14 @@ lying None = None
 lying (Some v) = v
 
 -- a chunk went by, and the slot was given back
-abbrev pub end_passed : Option Chunk → End → End
+abbrev pub end_passed : Option Chunk → EdgeEnd → EdgeEnd
 end_passed v e = record { wire = e.wire; chunks = e.chunks ++ chunks_in v; turn = None }
 
-abbrev pub end_wired : Option Wire → End → End
+abbrev pub end_wired : Option Wire → EdgeEnd → EdgeEnd
 end_wired w e = record e { wire = w }
 
 -- the edge d after the node's step s, which put v into the slot and answered a, but for a look at d
-abbrev pub end_after : NodeView → Step → Option Chunk → Answer → ℕ → End
+abbrev pub end_after : NodeView → Step → Option Chunk → StepAnswer → ℕ → EdgeEnd
 end_after x (step.Push e k) v a d =
     cond (d == e) (end_passed v (end_of_view x e)) (end_of_view x d)
 end_after x (step.Pull e) v a d =
@@ -95,7 +96,7 @@ is_turn false f = not f.has_data
 
 -- the end after a look that saw these flags: it has the turn exactly where they give it to this
 -- side, and one that it had it keeps
-pub record LooksAt (side : Bool) (f : Flags) (old new : End) : Type 0 where
+pub record LooksAt (side : Bool) (f : Flags) (old new : EdgeEnd) : Type 0 where
   pub wire : new.wire ≡ old.wire
   pub chunks : new.chunks ≡ old.chunks
   pub turn : is_some new.turn ≡ is_turn side f

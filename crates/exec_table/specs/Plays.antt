@@ -21,16 +21,16 @@ first_or_none [] = no_node_view
 first_or_none (x ∷ xs) = x
 
 -- the node of a seat that has one
-abbrev pub node_of : View → NodeView
-node_of v = first_or_none v.nodes
+abbrev pub first_node : View → NodeView
+first_node v = first_or_none v.nodes
 
 -- the step of the seat's node that the atomic step is
 abbrev pub does : (Stp → NodeView → Step) → Stp → Sat → ℕ → Sat → Type 0
-does s st m found m' = Did (node_of m.0) (s st (node_of m.0)) m.1 found m'
+does s st m found m' = Did (first_node m.0) (s st (first_node m.0)) m.1 found m'
 
 -- the edge whose port word it is
-abbrev pub port_edge : Stp → NodeView → ℕ
-port_edge st x = st.word - port_place x.sizes 0
+abbrev pub played_edge : Stp → NodeView → ℕ
+played_edge st x = st.word - port_place x.sizes 0
 
 -- the edge whose wire word it is
 abbrev pub wire_edge : Stp → NodeView → ℕ
@@ -39,7 +39,7 @@ wire_edge st x = st.word - wire_place x.sizes 0
 -- the step at a port, by the operand: 0 of a look, the flag that is set, or all but the one unset;
 -- of any other operand a step that no node's seat may make
 abbrev pub port_step : Stp → NodeView → Step
-port_step st x = let e = port_edge st x in let k = st.first in cond (k == 0) (step.Look e)
+port_step st x = let e = played_edge st x in let k = st.first in cond (k == 0) (step.Look e)
     (cond (k == 1) (step.Want e) (cond (k == 2 ^ 64 - 2) (step.Unwant e)
     (cond (k == 2) (step.Push e (length (end_of_view x e).chunks)) (cond (k == 2 ^ 64 - 3)
     (step.Pull e) (cond (k == 4) (step.Finish e) (cond (k == 8) (step.ClosePort e) step.See))))))
@@ -49,11 +49,11 @@ wire_step st x = step.Wire (wire_edge st x) (wire_of st.second)
 
 -- the peer is told of the edge whose wire the seat looked up last
 abbrev pub marks : Stp → Sat → ℕ → Sat → Type 0
-marks st m found m' = Did (node_of m.0) (step.Mark m.0.aim) m.1 found m'
+marks st m found m' = Did (first_node m.0) (step.Mark m.0.aim) m.1 found m'
 
 -- a look-up of an edge's wire: no step of the core
 abbrev pub aims : Stp → Sat → ℕ → Sat → Type 0
-aims st m found m' = let x = node_of m.0 in let e = wire_edge st x in
+aims st m found m' = let x = first_node m.0 in let e = wire_edge st x in
     (m' ≡ (aiming e x, m.1)) × ((end_of_view x e).wire ≡ Some (wire_of found))
     × (wire_ok x.sizes.nodes (wire_of found) ≡ true)
 

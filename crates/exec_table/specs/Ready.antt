@@ -4,11 +4,11 @@ use Rattle.std.specs.Prelude.{◌≡◌, ℕ, ◌==◌, ◌&&◌, not, cond, Boo
 use Rattle.atomic_table.specs.Table.{Act, keeps, takes, gives, carried_after}
 use Rattle.core_laws.specs.declared.types.Step.TheVariants as step
 use Rattle.exec_table.specs.Words.{found_by, edge_count}
-use Rattle.exec_table.specs.Boards.{Board, End, NodeView, Holds, node_view, board_after, lane_at, no_end, fits_end, is_unborn_stage, is_over_stage}
+use Rattle.exec_table.specs.Boards.{Board, EdgeEnd, NodeView, Holds, node_view, board_after, lane_at, no_end, fits_end, is_unborn_stage, is_over_stage}
 use Rattle.exec_table.specs.Rule.{Sat, one}
 use Rattle.exec_table.specs.CoreNames.{Act as PortAct, Close, Finish, Pull, Push, Step, Unwant, Want, has, knows, flags_at, is_end, wire_ok, may_wire, port_at, may, acting_end, allows, has_token, may_take, may_leave, is_none_of, Chunk}
 
-abbrev pub end_of_view : NodeView → ℕ → End
+abbrev pub end_of_view : NodeView → ℕ → EdgeEnd
 end_of_view x e = slice_index_or x.ends e no_end
 
 -- a held node that has learned the edge

@@ -6,7 +6,7 @@ use lib.ListN.{get_elem?}
 use Rattle.atomic_table.specs.Table.{State, Me, Step as TableStep}
 use Rattle.exec_table.specs.Words.{words_of}
 use Rattle.exec_table.specs.Boards.{Board, View, NodeView, Stage, Holds, node_view, home_of, no_lane, Unborn, Born}
-use Rattle.exec_table.specs.CoreNames.{CoreState, Sizes, start, is_reserved, Chunk}
+use Rattle.exec_table.specs.CoreNames.{CoreState, Sizes, start, is_reserved_node, Chunk}
 
 -- a seat, with the slots that are out with it
 abbrev pub Sat : Type 0
@@ -39,7 +39,7 @@ pub record IsNoted (b : Board) (owner : ℕ → ℕ) (j i w : ℕ) : Type 0 wher
   pub all : (n : ℕ) → n < b.core.sizes.nodes → owner n ≡ j
 
 -- what the view of the seat j says is so
-pub record Fits (b : Board) (owner : ℕ → ℕ) (j : ℕ) (v : View) : Type 0 where
+pub record ViewFits (b : Board) (owner : ℕ → ℕ) (j : ℕ) (v : View) : Type 0 where
   pub each : (i : ℕ) (x : NodeView) → get_elem? v.nodes i ≡ some x → IsSeen b owner j x
   pub apart : Distinct v.nodes
   pub noted : (i w : ℕ) → get_elem? v.noted i ≡ some w → IsNoted b owner j i w
@@ -53,7 +53,7 @@ pub record Shown (key : Sizes) (s : State (Option Chunk) View) : Type 0 where
   pub words : s.words ≡ words_of board.core
   pub homes : s.homes ≡ map home_of board.lanes
   pub owner : ℕ → ℕ
-  pub seats : (j : ℕ) (v : View) → get_elem? s.views j ≡ some v → Fits board owner j v
+  pub seats : (j : ℕ) (v : View) → get_elem? s.views j ≡ some v → ViewFits board owner j v
 
 -- ---- views
 
@@ -80,7 +80,7 @@ aiming e x = record (one x) { aim = e }
 -- ---- the start
 
 abbrev pub start_stage : Sizes → ℕ → Stage
-start_stage s n = cond (is_reserved n s.reserves) Unborn Born
+start_stage s n = cond (is_reserved_node n s.reserves) Unborn Born
 
 abbrev pub start_board : Sizes → Board
 start_board s = record {

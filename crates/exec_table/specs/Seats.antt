@@ -4,11 +4,11 @@ use Rattle.std.specs.VecDeque.{deque_capacity}
 use Rattle.atomic_table.specs.Seated.{TableId}
 use Rattle.core_laws.specs.Steps as core
 use Rattle.core_laws.specs.declared.types.Step.TheVariants as step
-use Rattle.exec_table.specs.CoreNames.{Sizes, Step, Wire, has, knows, once, is_set, Answer, may, answer, Chunk}
+use Rattle.exec_table.specs.CoreNames.{Sizes, Step, Wire, has, knows, once, is_set, StepAnswer, may, answer, Chunk}
 use Rattle.exec_table.specs.Words.{edge_count}
 use Rattle.exec_table.specs.Boards.{Board, Holds, NodeView, node_view, board_after}
 pub use Rattle.exec_table.specs.Ready.{end_of_view, is_full_hand as holds_chunk}
-use Rattle.exec_table.specs.Plays.{Worked, node_of}
+use Rattle.exec_table.specs.Plays.{Worked, first_node}
 pub use Rattle.exec_table.specs.declared.rule.ExecTable.{ExecTable}
 use Rattle.exec_table.specs.Rule.{no_view}
 pub use Rattle.exec_table.specs.declared.rule.NodeSeat.{NodeSeat}
@@ -47,7 +47,7 @@ pub record HandHolds (x : NodeView) (slots : Slots) : Type 0 where
 
 -- what a seat knows of its node
 abbrev pub view : NodeSeat → NodeView
-view s = node_of s.seat.me.0
+view s = first_node s.seat.me.0
 
 abbrev pub slots : NodeSeat → Slots
 slots s = s.seat.me.1
@@ -60,8 +60,8 @@ slot_of s e = slot_in e (slots s)
 abbrev pub push_of : NodeSeat → ℕ → Step
 push_of s e = step.Push e (length (end_of_view (view s) e).chunks)
 
-abbrev pub key_of : ExecTable → Sizes
-key_of t = t.table.shared.key
+abbrev pub sizes_in : ExecTable → Sizes
+sizes_in t = t.table.shared.key
 
 -- what tells a table from others, and its sizes: all that a seat's law has of it
 pub record Identity : Type 0 where
@@ -69,7 +69,7 @@ pub record Identity : Type 0 where
   pub sizes : Sizes
 
 abbrev pub identity_of : ExecTable → Identity
-identity_of t = record { id = t.table.shared.table_id; sizes = key_of t }
+identity_of t = record { id = t.table.shared.table_id; sizes = sizes_in t }
 
 -- the data of the seat name the slots that are out with it, each once
 pub record IsInHand (s : NodeSeat) : Type 0 where
@@ -93,15 +93,15 @@ pub record IsSeatOf (t : Identity) (s : NodeSeat) : Type 0 where
 -- ---- steps
 
 -- a slot that is out is as it was, or was at home and was taken with what lies in the port
-abbrev pub Carried : NodeSeat → NodeSeat → Type 0
-Carried old new = (d : ℕ) (v : Option Chunk) → slot_of new d ≡ Some v
+abbrev pub KeepsSlots : NodeSeat → NodeSeat → Type 0
+KeepsSlots old new = (d : ℕ) (v : Option Chunk) → slot_of new d ≡ Some v
     → (slot_of old d ≡ Some v)
     ⊎ ((slot_of old d ≡ None) × ((end_of_view (view new) d).turn ≡ Some v))
 
 -- the call made the step s of the core, which put x into a slot, and answered a: there was a state
 -- that met the laws, in which the seat's view said what was so, as the new view says it after it
-pub record Makes (t : Identity) (old new : NodeSeat) (s : Step) (x : Option Chunk)
-    (a : Answer) : Type 0 where
+pub record MakesStep (t : Identity) (old new : NodeSeat) (s : Step) (x : Option Chunk)
+    (a : StepAnswer) : Type 0 where
   pub seat : IsSeatOf t new
   pub before : Board
   pub holds : Holds before
@@ -110,7 +110,7 @@ pub record Makes (t : Identity) (old new : NodeSeat) (s : Step) (x : Option Chun
   pub kept : Holds (board_after before (view old).number s x)
   pub now : node_view (board_after before (view old).number s x) (view old).number ≡ view new
   pub says : answer before.core (view old).number s ≡ a
-  pub carried : Carried old new
+  pub carried : KeepsSlots old new
 
 -- ---- answers
 
@@ -132,7 +132,7 @@ pub record MakesUpdated (t : Identity) (old new : NodeSeat) (s : Step)
     (u : Updated) : Type 0 where
   pub word : ℕ
   pub ports : u ≡ updated_of word
-  pub makes : Makes t old new s None (core.updated word)
+  pub makes : MakesStep t old new s None (core.updated word)
 
 abbrev pub is_idle : Rested → Bool
 is_idle Idle = true
@@ -160,7 +160,7 @@ pub record IsWorkerOf (t : Identity) (s : WorkerSeat) : Type 0 where
   pub view : s.seat.me ≡ (record no_view { worker = Some number; sizes = t.sizes }, [])
 
 -- the step of the worker, from a state of the table's sizes that met the laws, which answered a
-pub record WorkerDoes (t : Identity) (s : WorkerSeat) (p : Step) (a : Answer) : Type 0 where
+pub record WorkerDoes (t : Identity) (s : WorkerSeat) (p : Step) (a : StepAnswer) : Type 0 where
   pub number : ℕ
   pub is : s.seat.me.0.worker ≡ Some number
   pub found : ℕ
@@ -168,5 +168,5 @@ pub record WorkerDoes (t : Identity) (s : WorkerSeat) (p : Step) (a : Answer) : 
   pub says : answer did.before.core (t.sizes.nodes + number) p ≡ a
 
 -- what word 0 tells
-abbrev pub seen_in : ℕ → core.Seen
-seen_in w = cond (nat_le (2 ^ 63) w) core.stopped (cond (w == 0) core.quiet (core.pending w))
+abbrev pub seen_in_word : ℕ → core.Seen
+seen_in_word w = cond (nat_le (2 ^ 63) w) core.stopped (cond (w == 0) core.quiet (core.pending w))

@@ -39,8 +39,8 @@ surveys st m n m' = (m' ≡ m) × Surveyed m.0.noted m.0.nodes
 -- ---- seats surveyed together
 
 -- each of the seats is, to the one that stood at its place, as P says
-abbrev pub Each : (NodeSeat → NodeSeat → Type 0) → List NodeSeat → List NodeSeat → Type 0
-Each P olds news = (k : ℕ) (s : NodeSeat) → get_elem? news k ≡ some s
+abbrev pub EachSeat : (NodeSeat → NodeSeat → Type 0) → List NodeSeat → List NodeSeat → Type 0
+EachSeat P olds news = (k : ℕ) (s : NodeSeat) → get_elem? news k ≡ some s
     → (was : NodeSeat) × (get_elem? olds k ≡ some was) × P was s
 
 -- the seat gave its node away

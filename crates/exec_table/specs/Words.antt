@@ -1,7 +1,7 @@
 -- The words of the table: what each says, and where it stands.
 use Rattle.std.specs.Prelude.{ℕ, ◌+◌, ◌*◌, ◌/◌, ◌%◌, ◌^◌, ◌==◌, cond, List, ◌∷◌, ◌++◌, map, length, Option, Some, None, slice_index_or}
 use Rattle.core_laws.specs.declared.types.Step.TheVariants as step
-use Rattle.exec_table.specs.CoreNames.{CoreState, Flags, NodeState, PortState, Sizes, Step, Wire, port_at, reserved_edges, peer_in}
+use Rattle.exec_table.specs.CoreNames.{CoreState, Flags, NodeState, PortState, Sizes, Step, Wire, port_at, reserved_edge_count, peer_in}
 
 abbrev pub flags_word : Flags → ℕ
 flags_word f = cond f.needed 1 0 + (cond f.has_data 2 0 + (cond f.fin_out 4 0 + cond f.fin_in 8 0))
@@ -40,7 +40,7 @@ abbrev pub words_of : CoreState → List ℕ
 words_of c = first_word c ∷ (node_words c ++ (wire_words c ++ port_words c))
 
 abbrev pub edge_count : Sizes → ℕ
-edge_count s = length s.wires + reserved_edges s.reserves
+edge_count s = length s.wires + reserved_edge_count s.reserves
 
 -- ---- places
 

@@ -4,7 +4,7 @@ ghost use Rattle.core_laws.specs.Steps.{wired as tells_wired};
 ghost use Rattle.core_laws.specs.declared.types.Step.TheVariants as step;
 ghost use Rattle.exec_table.specs.Words.{wire_word as word_there, wire_in};
 ghost use Rattle.exec_table.specs.Ready.{ready};
-ghost use Rattle.exec_table.specs.Seats.{IsSeatOf, Makes, identity_of, view, wire_found};
+ghost use Rattle.exec_table.specs.Seats.{IsSeatOf, MakesStep, identity_of, view, wire_found};
 
 use crate::plays::{Learn, SetWire};
 use crate::port_steps::wire_of;
@@ -41,7 +41,8 @@ impl ExecTable {
     pub fn wire(&self, seat: &mut NodeSeat, e: u32, w: Wire) -> Result<(), Wire>
         requires seat { IsSeatOf (identity_of self.now) seat.old }
         requires ready { ready (view seat.old) (step.Wire e w) ≡ true }
-        ensures { Makes (identity_of self.now) seat.old seat.new (step.Wire e w) None (tells_wired
+        ensures { MakesStep (identity_of self.now) seat.old seat.new (step.Wire e w) None
+            (tells_wired
             (wire_found result)) }
     {
         let place = self.wire_place(e);
@@ -55,7 +56,7 @@ impl ExecTable {
     pub fn wired(&self, seat: &mut NodeSeat, e: u32) -> Option<Wire>
         requires seat { IsSeatOf (identity_of self.now) seat.old }
         requires ready { ready (view seat.old) (step.Wired e) ≡ true }
-        ensures { Makes (identity_of self.now) seat.old seat.new (step.Wired e) None
+        ensures { MakesStep (identity_of self.now) seat.old seat.new (step.Wired e) None
             (tells_wired result) }
     {
         let place = self.wire_place(e);

@@ -37,4 +37,4 @@ pub use core_laws::{Flags, NodeState, Reserve, Sight, Sizes, Wire};
 pub use make::Made;
 pub use rule::{ExecTable, NodeSeat, OneState, RootSeat, WorkerSeat};
 pub use shut::Final;
-pub use types::{End, Marked, NodeView, Rested, Seen, Stage, Updated, View};
+pub use types::{EdgeEnd, Marked, NodeView, Rested, Seen, Stage, Updated, View};

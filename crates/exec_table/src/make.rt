@@ -1,9 +1,9 @@
 //! How a table is made.
 ghost use Rattle.std.specs.Prelude.{◌≡◌, ◌≤◌, [], cond, map, false, true, vec_capacity, IfOk, OnOk};
 ghost use Rattle.core_laws.specs.Start.{fits};
-ghost use Rattle.exec_table.specs.Made.{AreOpen, IsMade};
+ghost use Rattle.exec_table.specs.Made.{AreOpenSeats, IsNewTable};
 ghost use Rattle.exec_table.specs.Rule.{first_view};
-ghost use Rattle.exec_table.specs.Seats.{IsRootOf, identity_of, key_of};
+ghost use Rattle.exec_table.specs.Seats.{IsRootOf, identity_of, sizes_in};
 ghost use Rattle.exec_table.specs.Words.{flags_word as flags_word_there, wire_word as wire_word_there, words_of};
 
 use crate::growth::wire_word;
@@ -83,7 +83,7 @@ impl ExecTable {
     /// No node is held, no port has a flag, and the live nodes without output are charged.
     pub fn make(alloc: Global, sizes: &Sizes) -> Result<Made, Memory>
         requires { fits sizes.now ≡ true }
-        ensures { IfOk result (λ m. IsMade sizes.now m) }
+        ensures { IfOk result (λ m. IsNewTable sizes.now m) }
     {
         let core = CoreState::start(alloc, sizes)?;
         let words = words(alloc, &core)?;
@@ -108,10 +108,10 @@ impl ExecTable {
         nodes: &mut Vec<NodeSeat>,
     ) -> Result<(), Memory>
         requires seat { root.old.seat.table_id ≡ self.now.table.shared.table_id }
-        requires view { root.old.seat.me ≡ (first_view (key_of self.now), []) }
+        requires view { root.old.seat.me ≡ (first_view (sizes_in self.now), []) }
         requires room { (nodes.old.items ≡ []) ×
-            ((key_of self.now).nodes ≤ vec_capacity nodes.old) }
-        ensures nodes { OnOk result (AreOpen (identity_of self.now) nodes.new) }
+            ((sizes_in self.now).nodes ≤ vec_capacity nodes.old) }
+        ensures nodes { OnOk result (AreOpenSeats (identity_of self.now) nodes.new) }
         ensures root { OnOk result (IsRootOf (identity_of self.now) root.new
             × (root.new.seat.me.0.made ≡ 0)) }
     {

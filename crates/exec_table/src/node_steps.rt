@@ -4,7 +4,7 @@ ghost use Rattle.core_laws.specs.Steps.{bit_at_end, is_idle as tells_idle, marke
 ghost use Rattle.core_laws.specs.declared.types.Step.TheVariants as step;
 ghost use Rattle.core_laws.specs.Views.{is_set as is_set_there, wire_ok};
 ghost use Rattle.exec_table.specs.Ready.{ready};
-ghost use Rattle.exec_table.specs.Seats.{IsSeatOf, Makes, MakesUpdated, identity_of, is_idle, marked_of, updated_of as updated_there, view};
+ghost use Rattle.exec_table.specs.Seats.{IsSeatOf, MakesStep, MakesUpdated, identity_of, is_idle, marked_of, updated_of as updated_there, view};
 
 use crate::plays::{Again, Begin, Birth, Mark, Over, Rest, TokenIn, TokenOut};
 use crate::rule::{ExecTable, NodeSeat};
@@ -74,7 +74,7 @@ impl ExecTable {
     pub fn mark(&self, seat: &mut NodeSeat, e: u32) -> Marked
         requires seat { IsSeatOf (identity_of self.now) seat.old }
         requires ready { ready (view seat.old) (step.Mark e) ≡ true }
-        ensures { Makes (identity_of self.now) seat.old seat.new (step.Mark e) None (marked_peer
+        ensures { MakesStep (identity_of self.now) seat.old seat.new (step.Mark e) None (marked_peer
             (marked_of result)) }
     {
         let wire = self.wire_at(seat, e);
@@ -107,7 +107,7 @@ impl ExecTable {
     pub fn rest(&self, seat: &mut NodeSeat) -> Rested
         requires seat { IsSeatOf (identity_of self.now) seat.old }
         requires ready { ready (view seat.old) step.Rest ≡ true }
-        ensures { Makes (identity_of self.now) seat.old seat.new step.Rest None
+        ensures { MakesStep (identity_of self.now) seat.old seat.new step.Rest None
             (tells_idle (is_idle result)) }
     {
         let place = seat.node as usize + 1;
@@ -122,7 +122,7 @@ impl ExecTable {
     pub fn over(&self, seat: &mut NodeSeat)
         requires seat { IsSeatOf (identity_of self.now) seat.old }
         requires ready { ready (view seat.old) step.Over ≡ true }
-        ensures { Makes (identity_of self.now) seat.old seat.new step.Over None nothing }
+        ensures { MakesStep (identity_of self.now) seat.old seat.new step.Over None nothing }
     {
         let place = seat.node as usize + 1;
         self.table.shared.swap::<Over>(&mut seat.seat, place, OVER);
@@ -131,7 +131,7 @@ impl ExecTable {
     pub fn token_in(&self, seat: &mut NodeSeat)
         requires seat { IsSeatOf (identity_of self.now) seat.old }
         requires ready { ready (view seat.old) step.TokenIn ≡ true }
-        ensures { Makes (identity_of self.now) seat.old seat.new step.TokenIn None nothing }
+        ensures { MakesStep (identity_of self.now) seat.old seat.new step.TokenIn None nothing }
     {
         self.table.shared.fetch_add::<TokenIn>(&mut seat.seat, 0, 1);
     }
@@ -139,7 +139,7 @@ impl ExecTable {
     pub fn token_out(&self, seat: &mut NodeSeat)
         requires seat { IsSeatOf (identity_of self.now) seat.old }
         requires ready { ready (view seat.old) step.TokenOut ≡ true }
-        ensures { Makes (identity_of self.now) seat.old seat.new step.TokenOut None nothing }
+        ensures { MakesStep (identity_of self.now) seat.old seat.new step.TokenOut None nothing }
     {
         let shared = &self.table.shared;
         shared.fetch_sub::<TokenOut>(&mut seat.seat, 0, 1);
@@ -149,7 +149,7 @@ impl ExecTable {
     pub fn birth(&self, seat: &mut NodeSeat)
         requires seat { IsSeatOf (identity_of self.now) seat.old }
         requires ready { ready (view seat.old) step.Birth ≡ true }
-        ensures { Makes (identity_of self.now) seat.old seat.new step.Birth None nothing }
+        ensures { MakesStep (identity_of self.now) seat.old seat.new step.Birth None nothing }
     {
         let place = seat.node as usize + 1;
         let shared = &self.table.shared;

@@ -100,9 +100,9 @@ impl Split<View> for MakeWorker {
 pub(crate) struct Peel;
 
 impl Split<View> for Peel {
-    ghost use Rattle.exec_table.specs.Made.{without_first, just_first};
+    ghost use Rattle.exec_table.specs.Made.{without_first_node, just_first};
 
-    ghost left = { without_first };
+    ghost left = { without_first_node };
 
     ghost right = { just_first };
 }

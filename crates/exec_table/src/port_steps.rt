@@ -7,7 +7,7 @@ ghost use Rattle.port_word.specs.declared.flags.Flags.{Flags as FlagsOf};
 ghost use Rattle.exec_table.specs.Words.{edge_count, flags_word, port_place as place_of_port, wire_place as place_of_wire, wire_of as wire_in_word};
 ghost use Rattle.exec_table.specs.Ready.{ready, end_of_view};
 ghost use Rattle.exec_table.specs.Rule.{aiming};
-ghost use Rattle.exec_table.specs.Seats.{IsSeatOf, Makes, holds_chunk, identity_of, key_of, push_of, slot_of, slots, view};
+ghost use Rattle.exec_table.specs.Seats.{IsSeatOf, MakesStep, holds_chunk, identity_of, push_of, sizes_in, slot_of, slots, view};
 
 use crate::plays::{Aim, AtPort};
 use crate::rule::{ExecTable, NodeSeat};
@@ -47,15 +47,15 @@ pub(crate) fn wire_of(word: u64) -> Wire
 
 impl ExecTable {
     fn port_place(&self, e: u32) -> usize
-        requires { e < edge_count (key_of self.now) }
-        ensures { result ≡ place_of_port (key_of self.now) e }
+        requires { e < edge_count (sizes_in self.now) }
+        ensures { result ≡ place_of_port (sizes_in self.now) e }
     {
         self.nodes as usize + (self.edges as usize + e as usize) + 1
     }
 
     pub(crate) fn wire_place(&self, e: u32) -> usize
-        requires { e < edge_count (key_of self.now) }
-        ensures { result ≡ place_of_wire (key_of self.now) e }
+        requires { e < edge_count (sizes_in self.now) }
+        ensures { result ≡ place_of_wire (sizes_in self.now) e }
     {
         self.nodes as usize + e as usize + 1
     }
@@ -70,7 +70,7 @@ impl ExecTable {
             (seat.new.node ≡ seat.old.node) × (seat.new.held ≡ seat.old.held) }
         ensures view { seat.new.seat.me ≡ (aiming e (view seat.old), slots seat.old) }
         ensures wire { (end_of_view (view seat.old) e).wire ≡ Some result }
-        ensures sound { wire_ok (key_of self.now).nodes result ≡ true }
+        ensures sound { wire_ok (sizes_in self.now).nodes result ≡ true }
     {
         let place = self.wire_place(e);
         wire_of(self.table.shared.load::<Aim>(&mut seat.seat, place))
@@ -81,7 +81,7 @@ impl ExecTable {
     pub fn look(&self, seat: &mut NodeSeat, e: u32) -> Flags
         requires seat { IsSeatOf (identity_of self.now) seat.old }
         requires ready { ready (view seat.old) (step.Look e) ≡ true }
-        ensures { Makes (identity_of self.now) seat.old seat.new (step.Look e) None
+        ensures { MakesStep (identity_of self.now) seat.old seat.new (step.Look e) None
             (tells_flags result) }
     {
         let wire = self.wire_at(seat, e);
@@ -95,7 +95,7 @@ impl ExecTable {
     pub fn want(&self, seat: &mut NodeSeat, e: u32)
         requires seat { IsSeatOf (identity_of self.now) seat.old }
         requires ready { ready (view seat.old) (step.Want e) ≡ true }
-        ensures { Makes (identity_of self.now) seat.old seat.new (step.Want e) None nothing }
+        ensures { MakesStep (identity_of self.now) seat.old seat.new (step.Want e) None nothing }
     {
         let place = self.port_place(e);
         let shared = &self.table.shared;
@@ -105,7 +105,7 @@ impl ExecTable {
     pub fn unwant(&self, seat: &mut NodeSeat, e: u32)
         requires seat { IsSeatOf (identity_of self.now) seat.old }
         requires ready { ready (view seat.old) (step.Unwant e) ≡ true }
-        ensures { Makes (identity_of self.now) seat.old seat.new (step.Unwant e) None nothing }
+        ensures { MakesStep (identity_of self.now) seat.old seat.new (step.Unwant e) None nothing }
     {
         let place = self.port_place(e);
         let shared = &self.table.shared;
@@ -117,7 +117,8 @@ impl ExecTable {
         requires seat { IsSeatOf (identity_of self.now) seat.old }
         requires ready { ready (view seat.old) (push_of seat.old e) ≡ true }
         requires slot { slot_of seat.old e ≡ Some None }
-        ensures { Makes (identity_of self.now) seat.old seat.new (push_of seat.old e) (Some chunk)
+        ensures { MakesStep (identity_of self.now) seat.old seat.new (push_of seat.old e)
+            (Some chunk)
             nothing }
     {
         seat.bring_to_front(e);
@@ -154,7 +155,7 @@ impl ExecTable {
         requires seat { IsSeatOf (identity_of self.now) seat.old }
         requires ready { ready (view seat.old) (step.Pull e) ≡ true }
         requires slot { slot_of seat.old e ≡ Some None }
-        ensures { Makes (identity_of self.now) seat.old seat.new (step.Pull e) None nothing }
+        ensures { MakesStep (identity_of self.now) seat.old seat.new (step.Pull e) None nothing }
     {
         seat.bring_to_front(e);
         seat.held.pop_front();
@@ -166,7 +167,7 @@ impl ExecTable {
     pub fn finish(&self, seat: &mut NodeSeat, e: u32)
         requires seat { IsSeatOf (identity_of self.now) seat.old }
         requires ready { ready (view seat.old) (step.Finish e) ≡ true }
-        ensures { Makes (identity_of self.now) seat.old seat.new (step.Finish e) None nothing }
+        ensures { MakesStep (identity_of self.now) seat.old seat.new (step.Finish e) None nothing }
     {
         let place = self.port_place(e);
         let shared = &self.table.shared;
@@ -176,7 +177,8 @@ impl ExecTable {
     pub fn close_port(&self, seat: &mut NodeSeat, e: u32)
         requires seat { IsSeatOf (identity_of self.now) seat.old }
         requires ready { ready (view seat.old) (step.ClosePort e) ≡ true }
-        ensures { Makes (identity_of self.now) seat.old seat.new (step.ClosePort e) None nothing }
+        ensures { MakesStep (identity_of self.now) seat.old seat.new (step.ClosePort e) None
+            nothing }
     {
         let place = self.port_place(e);
         let shared = &self.table.shared;

@@ -1,9 +1,9 @@
 //! All words at one moment.
 ghost use Rattle.std.specs.Prelude.{◌≡◌, ◌∷◌, [], List, length};
 ghost use Rattle.exec_table.specs.Boards.{NodeView};
-ghost use Rattle.exec_table.specs.Made.{just_first, without_first};
-ghost use Rattle.exec_table.specs.Seats.{IsSeatOf, identity_of, key_of};
-ghost use Rattle.exec_table.specs.Surveys.{AreAll, Each, HasAll, IsBack, IsLent, Surveyed, joined_views, noted_word, views};
+ghost use Rattle.exec_table.specs.Made.{just_first, without_first_node};
+ghost use Rattle.exec_table.specs.Seats.{IsSeatOf, identity_of, sizes_in};
+ghost use Rattle.exec_table.specs.Surveys.{AreAll, EachSeat, HasAll, IsBack, IsLent, Surveyed, joined_views, noted_word, views};
 
 use crate::plays::{Enter, Gather, Note, Peel, Survey};
 use crate::rule::{ExecTable, NodeSeat};
@@ -42,7 +42,7 @@ impl ExecTable {
         requires seat { seat.old.seat.table_id ≡ self.now.table.shared.table_id }
         requires node { (x : NodeView) × (xs : List NodeView) × (root.old.me.0.nodes ≡ x ∷ xs) }
         ensures root { (root.new.table_id ≡ root.old.table_id)
-            × (root.new.me ≡ (without_first root.old.me.0, root.old.me.1)) }
+            × (root.new.me ≡ (without_first_node root.old.me.0, root.old.me.1)) }
         ensures seat { (seat.new.seat.table_id ≡ seat.old.seat.table_id)
             × (seat.new.seat.me
             ≡ (joined_views seat.old.seat.me.0 (just_first root.old.me.0), seat.old.seat.me.1))
@@ -55,7 +55,7 @@ impl ExecTable {
     // Reads each word, but for the stop bit. While the root has every node, none of them changes.
     fn note(&self, root: &mut AnySeat, words: &mut [u64])
         requires root { root.old.table_id ≡ self.now.table.shared.table_id }
-        requires all { HasAll (key_of self.now).nodes root.old.me.0 }
+        requires all { HasAll (sizes_in self.now).nodes root.old.me.0 }
         requires none { root.old.me.0.noted ≡ [] }
         requires words { length words.old ≡ self.now.table.shared.table_id.words }
         ensures root { (root.new.table_id ≡ root.old.table_id)
@@ -75,7 +75,7 @@ impl ExecTable {
         requires seats { AreAll (identity_of self.now) seats.old }
         ensures root { (root.new.table_id ≡ root.old.table_id)
             × (root.new.me.0.nodes ≡ views seats.old) × (root.new.me.0.noted ≡ []) }
-        ensures seats { Each IsLent seats.old seats.new }
+        ensures seats { EachSeat IsLent seats.old seats.new }
         ensures many { length seats.new ≡ length seats.old }
     {
         for i in 0..seats.len() {
@@ -88,7 +88,7 @@ impl ExecTable {
     pub fn survey(&self, seats: &mut [NodeSeat], words: &mut [u64])
         requires seats { AreAll (identity_of self.now) seats.old }
         requires words { length words.old ≡ self.now.table.shared.table_id.words }
-        ensures seats { Each (IsBack (identity_of self.now)) seats.old seats.new }
+        ensures seats { EachSeat (IsBack (identity_of self.now)) seats.old seats.new }
         ensures shown { Surveyed words.new (views seats.old) }
     {
         let mut root = self.table.shared.load_new_seat::<Enter>(0).1;

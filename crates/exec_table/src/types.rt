@@ -14,7 +14,7 @@ pub enum Stage {
 
 /// What a node knows of an edge beside the flags that it sees: its wire once it has learned it, the
 /// chunks that it pushed there or pulled there, and, while the slot is out with it, what lay there.
-pub struct End {
+pub struct EdgeEnd {
     pub wire: Option<Wire>,
     pub chunks: List<Chunk>,
     pub turn: Option<Option<Chunk>>,
@@ -27,7 +27,7 @@ pub struct NodeView {
     pub number: u32,
     pub state: NodeState,
     pub stage: Stage,
-    pub ends: List<End>,
+    pub ends: List<EdgeEnd>,
 }
 
 /// What a seat knows: of one node, of none, or while words are surveyed of all. No value of it is

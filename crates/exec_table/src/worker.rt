@@ -3,7 +3,7 @@ ghost use Rattle.std.specs.Prelude.{◌≡◌, ◌+◌, ◌<◌, [], Some};
 ghost use Rattle.core_laws.specs.Steps.{seen as tells_seen, nothing};
 ghost use Rattle.core_laws.specs.declared.types.Step.TheVariants as step;
 ghost use Rattle.exec_table.specs.Rule.{no_view};
-ghost use Rattle.exec_table.specs.Seats.{IsRootOf, IsWorkerOf, WorkerDoes, identity_of, key_of, seen_in, seen_of};
+ghost use Rattle.exec_table.specs.Seats.{IsRootOf, IsWorkerOf, WorkerDoes, identity_of, seen_in_word, seen_of, sizes_in};
 
 use crate::plays::{AtFirst, MakeWorker};
 use crate::rule::{ExecTable, RootSeat, WorkerSeat};
@@ -12,7 +12,7 @@ use crate::types::Seen;
 const STOPPED: u64 = 1 << 63;
 
 fn seen(word: u64) -> Seen
-    ensures { seen_of result ≡ seen_in word }
+    ensures { seen_of result ≡ seen_in_word word }
 {
     if word >= STOPPED {
         Seen::Stopped
@@ -27,7 +27,7 @@ impl ExecTable {
     /// The seat of the next worker.
     pub fn worker(&self, root: &mut RootSeat) -> WorkerSeat
         requires root { IsRootOf (identity_of self.now) root.old }
-        requires spare { root.old.seat.me.0.made < (key_of self.now).workers }
+        requires spare { root.old.seat.me.0.made < (sizes_in self.now).workers }
         ensures root { IsRootOf (identity_of self.now) root.new }
         ensures made { root.new.seat.me.0.made ≡ root.old.seat.me.0.made + 1 }
         ensures worker { IsWorkerOf (identity_of self.now) result }

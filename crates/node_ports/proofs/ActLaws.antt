@@ -1,6 +1,6 @@
 -- A step of the table carries an action out.
-use Rattle.node_ports.proofs.Imports.{Acted, Action, Bool, Chunk, Close, End, Finish, Flags, Input, Identity, InputPort, IsDone, IsPort, IsSeatOf, List, Makes, MayAct, NodePorts, NodeSeat, NodeView, None, Option, Output, Picture, Port, PortKnown, PortsPicture, Pull, Push, SeatState, Some, Table, Unwant, Want, [], action_port, and_from, ap, append-nil, append_assoc, arith, chunk_after, chunk_step, cond, edge_of, end_of_view, eq-eqb, false, flags_at, get_or, get_or-set_other, get_or-set_same, has, holds_data, in_count, input_at, input_step, is_end, is_own_port, is_some, knows, length, length-set, lifted_of, ne_eqb, not, nothing, out_count, output_at, output_step, ports_picture, push-away, pushes_to, ready, refl, seat_after, seeing-here, set, shown, slot_in, state-made, step_of, subst, sym, taken_out, true, untaken, view, ℕ, ◌++◌, ◌<◌, ◌∙◌, ◌∷◌, ◌≡◌, ◌≢◌}
-use Rattle.node_ports.proofs.Shown.{Differs, Here, IsReady, MovesAt, SameAt, Waits, apart-edges, differs-at, end-side, is_input, lifted_at, moved-holds, moved-lists, passed-at, shown-at, shown-input, sight, still-updated, waiting}
+use Rattle.node_ports.proofs.Imports.{Acted, Action, Bool, Chunk, Close, EdgeEnd, Finish, Flags, Input, Identity, InputPort, ShowsInFlags, IsPort, IsSeatOf, List, MakesStep, MayAct, NodePorts, NodeSeat, NodeView, None, Option, Output, Picture, Port, PortKnown, PortsPicture, Pull, Push, SeatState, Some, Table, Unwant, Want, [], action_port, and_from, ap, append-nil, append_assoc, arith, chunk_after, chunk_step, cond, edge_of, end_of_view, eq-eqb, false, flags_at, get_or, get_or-set_other, get_or-set_same, has, holds_data, in_count, input_at, input_step, is_end, is_own_port, is_some, knows, length, length-set, lifted_of, ne_eqb, not, nothing, out_count, output_at, output_step, ports_picture, push-away, pushes_to, ready, refl, seat_after, seeing-here, set, shown, slot_in, state-made, step_of, subst, sym, taken_out, true, untaken, view, ℕ, ◌++◌, ◌<◌, ◌∙◌, ◌∷◌, ◌≡◌, ◌≢◌}
+use Rattle.node_ports.proofs.Shown.{Differs, Here, IsPortReady, MovesAt, SameEdge, Waits, apart-edges, differs-at, end-side, is_input, lifted_at, moved-holds, moved-lists, passed-at, shown-at, shown-input, sight, still-updated, waiting}
 use Rattle.node_ports.specs.Peers.{is_to_tell}
 use Rattle.exec_table.proofs.Hands.{may_learn}
 use Rattle.exec_table.proofs.Ends.{edges-made, ends-made, number-made, same-made, slot-home, slot-kept, stage-made}
@@ -86,7 +86,7 @@ waits-acted (Output o) a c ne = sym (push-away o a c.view.actions ne)
 
 -- the port of an action that shows is in range
 pub done-there : (p : Picture) (a : Action) (m n : ℕ) → in_count p ≡ m → out_count p ≡ n
-    → IsDone p a → IsPort m n (action_port a)
+    → ShowsInFlags p a → IsPort m n (action_port a)
 done-there p (Want i) m n ins outs d = subst (λ k. i < k) ins d
 done-there p (Unwant i) m n ins outs d = subst (λ k. i < k) ins d
 done-there p (Pull i) m n ins outs d = subst (λ k. i < k) ins d.0
@@ -171,7 +171,7 @@ push-slot o chunk c h = let a = (h.holds.difference.outputs_allow o).0 in
 
 -- ---- the end after the action
 
-abbrev end_acted : Action → End → End
+abbrev end_acted : Action → EdgeEnd → EdgeEnd
 end_acted (Want i) z = z
 end_acted (Unwant i) z = z
 end_acted (Pull i) z = end_passed (lying z.turn) z
@@ -183,7 +183,7 @@ end-step : (a : Action) (x : NodeView) (e k : ℕ)
     → end_after x (step_of a e k) (put_by a) nothing e ≡ end_acted a (end_of_view x e)
 end-step a x e k = grind (arith, eq-eqb)
 
-wire-stays : (a : Action) (z : End) → (end_acted a z).wire ≡ z.wire
+wire-stays : (a : Action) (z : EdgeEnd) → (end_acted a z).wire ≡ z.wire
 wire-stays a z = grind arith
 
 -- ---- which inputs are needed after it
@@ -233,12 +233,12 @@ module _ {t : Identity} (old new : NodeSeat) (ports : NodePorts) (s : IsSeatOf t
   abbrev at : Action → ℕ
   at a = edge_of start (action_port a)
 
-  abbrev end_at : Action → End
+  abbrev end_at : Action → EdgeEnd
   end_at a = end_of_view (view old) (at a)
 
   abbrev Steps : Action → ℕ → Type 0
-  Steps a e = Makes t old new (step_of a e (length (end_of_view (view old) e).chunks)) (put_by a)
-      nothing
+  Steps a e = MakesStep t old new (step_of a e (length (end_of_view (view old) e).chunks))
+      (put_by a) nothing
 
   gives : (a : Action) → MayAct a start → (k : ℕ)
       → gives_back (view old) (step_of a (at a) k) ≡ true
@@ -262,7 +262,7 @@ module _ {t : Identity} (old new : NodeSeat) (ports : NodePorts) (s : IsSeatOf t
   lifts (Unwant i) h m = let q = end (Unwant i) h m in
       λ j. lifted_of (slot-kept s m (at (Unwant i)) q j) (q j).turn
   lifts (Pull i) h m = let q = end (Pull i) h m in
-      (λ j. lifted_of (slot-home s m (at (Pull i)) (ap (λ (z : End). z.turn) q) j) (q j).turn)
+      (λ j. lifted_of (slot-home s m (at (Pull i)) (ap (λ (z : EdgeEnd). z.turn) q) j) (q j).turn)
       ∙ sym (ap (λ b. cond b None (lifted_at start (Input i))) (eq-eqb i i refl))
   lifts (Close i) h m = let q = end (Close i) h m in
       λ j. lifted_of (slot-kept s m (at (Close i)) q j) (q j).turn
@@ -297,11 +297,11 @@ module _ {t : Identity} (old new : NodeSeat) (ports : NodePorts) (s : IsSeatOf t
   passes (Finish o) h m = λ j. (end (Finish o) h m j).chunks ++ pushes_to o ports.view.actions
 
   abbrev Readies : Action → Type 0
-  Readies a = IsReady (after_act ports new (needed_after a start.needed)) (action_port a)
+  Readies a = IsPortReady (after_act ports new (needed_after a start.needed)) (action_port a)
       (acted_sight (action_port a) a (sight (shown start) (action_port a)))
 
   ready-input : (a : Action) → MayAct a start → (i : ℕ) → action_port a ≡ Input i
-      → i < length start.inputs → IsReady (after_act ports new (needed_after a start.needed))
+      → i < length start.inputs → IsPortReady (after_act ports new (needed_after a start.needed))
       (Input i) (acted_sight (Input i) a (sight (shown start) (Input i)))
   ready-input a h i is lt = (
     needed-here a i start.needed _ is (let n = h.holds.needed_len in omega (arith, lt, n))
@@ -360,16 +360,16 @@ module _ {t : Identity} (old new : NodeSeat) (ports : NodePorts) (s : IsSeatOf t
 
     here : Here (untaken a start) d p
     here = record {
-      wire = ap (λ (z : End). z.wire) (end a h m) ∙ wire-stays a (end_at a);
+      wire = ap (λ (z : EdgeEnd). z.wire) (end a h m) ∙ wire-stays a (end_at a);
       differs = subst (λ y. Differs p y start.view) (sym sight-acted)
           (differs-acted p a start (sight (shown start) p)
           (differs-at (shown start) (untaken a start).view h.holds.difference p));
-      ready = subst (IsReady d p) (sym sight-acted) (readies a h m);
+      ready = subst (IsPortReady d p) (sym sight-acted) (readies a h m);
       passes = passed-at d p own ∙ (passes a h m ∙ sym (passed-at (untaken a start) p own));
     }
 
     same-there : (q : Port) → is_own_port start q → Some p ≢ Some q
-        → SameAt (untaken a start) d (edge_of start q)
+        → SameEdge (untaken a start) d (edge_of start q)
     same-there q l ne = let was = same-made s m (edge_of start q) (step-elsewhere a
         (edge_of start q) (at a) k (apart-edges (untaken a start) h.holds p q own l ne)) in
         record { flags = was.flags; end = was.end; slot = was.slot }

@@ -1,6 +1,6 @@
 -- A node looks at one of its ports.
-use Rattle.node_ports.proofs.Imports.{Answer, Bool, BoxPicture, Chunk, Flags, FollowsKept, Identity, Input, InputPort, IsEnd, IsSeatOf, IsSound, Makes, MaySee, NodePorts, NodeSeat, NodeView, None, Option, Output, Picture, Port, PortKnown, PortsHold, PortsPicture, SeatState, Sees, Some, Table, Wire, [], after_see, and_parts, ap, arith, cases_Bool, edge_of, edges_of, end_of, end_of_view, eq-eqb, false, flags, flags_at, has, has-filter, holds-in, holds_chunk, holds_data, in_count, inl, input_at, inr, is_chunk_due, is_end, is_own_port, is_some, knows, known-wire, lifted_of, ne_eqb, no_flags, node_at, not, out_count, port_at, port_chunk, port_flags, ports_picture, pushes_to, refl, seat_after, seeing-here, seen_chunk, shown, slot_of, slots, state-made, subst, sym, true, view, ℕ, ◌&&◌, ◌<◌, ◌==◌, ◌∙◌, ◌≡◌, ◌≢◌, ◌⊎◌}
-use Rattle.node_ports.proofs.Shown.{Here, IsReady, MovesAt, SameAt, Waits, apart-edges, differs-quiet, end-there, is_input, lifted_at, moved-holds, moved-lists, quiet-passed, quiet-seen, quiet-sight, seen_at, shown-at, sight, still-updated}
+use Rattle.node_ports.proofs.Imports.{StepAnswer, Bool, BoxPicture, Chunk, Flags, FollowsKept, Identity, Input, InputPort, IsEnd, IsSeatOf, IsSound, MakesStep, MaySee, NodePorts, NodeSeat, NodeView, None, Option, Output, Picture, Port, PortKnown, PortsHold, PortsPicture, SeatState, Sees, Some, Table, Wire, [], after_see, and_parts, ap, arith, cases_Bool, edge_of, edges_of, end_of, end_of_view, eq-eqb, false, flags, flags_at, has, has-filter, holds-in, holds_chunk, holds_data, in_count, inl, input_at, inr, is_chunk_due, is_end, is_own_port, is_some, knows, known-wire, lifted_of, ne_eqb, no_flags, node_at, not, out_count, port_at, port_chunk, port_flags, ports_picture, pushes_to, refl, seat_after, seeing-here, seen_chunk, shown, slot_of, slots, state-made, subst, sym, true, view, ℕ, ◌&&◌, ◌<◌, ◌==◌, ◌∙◌, ◌≡◌, ◌≢◌, ◌⊎◌}
+use Rattle.node_ports.proofs.Shown.{Here, IsPortReady, MovesAt, SameEdge, Waits, apart-edges, differs-quiet, end-there, is_input, lifted_at, moved-holds, moved-lists, quiet-passed, quiet-seen, quiet-sight, seen_at, shown-at, sight, still-updated}
 use Rattle.node_ports.specs.Sights.{Lifts, LookedAt, MayLook, has_chunk, is_lift_due}
 use Rattle.exec_table.proofs.Ends.{edges-made, look-made, look-slot, number-made, same-made, stage-made}
 use Rattle.exec_table.proofs.Hands.{has-slot}
@@ -50,12 +50,12 @@ empty-there (Some v) r None u h q bare = absurd (grind (arith, h.out))
 empty-there (Some v) r (Some x) (Some w) h q bare =
     grind (arith, h.slot, h.kept x refl, h.lies v refl, bare w refl)
 
-abbrev flags_in : Answer → Flags
+abbrev flags_in : StepAnswer → Flags
 flags_in (flags f) = f
 flags_in a = no_flags
 
 module _ {t : Identity} {old new : NodeSeat} {e : ℕ} {f : Flags} (o : IsSeatOf t old)
-    (m : Makes t old new (step.Look e) None (flags f))
+    (m : MakesStep t old new (step.Look e) None (flags f))
     (k : knows e (view old).state.seen ≡ true) where
   look-flags : flags_at e (view new).state.seen ≡ f
   look-flags = ap (λ z. flags_at e z.seen) (state-made o m) ∙ seeing-here e f (view old).state.seen
@@ -192,7 +192,8 @@ now_seen ports s f x p = record (ports_picture ports s) { view = after_see ports
 -- ---- a look at a port
 
 abbrev LooksHere : Identity → NodePorts → NodeSeat → NodeSeat → Flags → Port → Type 0
-LooksHere t ports old mid f p = Makes t old mid (step.Look (edge_of (ports_picture ports old) p))
+LooksHere t ports old mid f p =
+    MakesStep t old mid (step.Look (edge_of (ports_picture ports old) p))
     None (flags f)
 
 abbrev LiftsHere : Identity → NodePorts → NodeSeat → NodeSeat → NodeSeat → Flags → Option Table
@@ -311,7 +312,7 @@ module _ {t : Identity} {old mid : NodeSeat} {f : Flags} (ports : NodePorts) (o 
 
     now-ready : (p : Port) → is_own_port (ports_picture ports old) p → LooksHere t ports old mid f p
         → LiftsHere t ports old mid new f x p → IsSound (after_see ports.view p f x)
-        → IsReady (now_seen ports new f x p) p (sight (after_see ports.view p f x) p)
+        → IsPortReady (now_seen ports new f x p) p (sight (after_see ports.view p f x) p)
     now-ready (Input i) own m l sound = let there = own-there (ports_picture ports old) may.holds
         (Input i) own in (
           may.holds.needed i own ∙ (ap (λ (x : InputPort). x.flags.needed)
@@ -356,7 +357,7 @@ module _ {t : Identity} {old mid new : NodeSeat} {f : Flags} {x : Option Table} 
     chunk = sym (lies ports o may p own m l) j;
   }
 
-  same-there : (q : Port) → is_own_port was q → Some p ≢ Some q → SameAt was now (edge_of was q)
+  same-there : (q : Port) → is_own_port was q → Some p ≢ Some q → SameEdge was now (edge_of was q)
   same-there q k ne = let apart = apart-edges was may.holds p q own k ne in
       let s = same-made o m (edge_of was q) (ne_eqb (edge_of was q) at apart) in record {
         flags = ap (λ (v : NodeView). flags_at (edge_of was q) v.state.seen) l.same ∙ s.flags;
@@ -373,7 +374,7 @@ module _ {t : Identity} {old mid new : NodeSeat} {f : Flags} {x : Option Table} 
   here = record {
     wire = ap (λ v. (end_of_view v at).wire) l.same ∙ (look-made o m).wire;
     differs = differs-quiet p (sight (shown now) p) now.view quiet (is ∙ sym (shown-at now p own));
-    ready = subst (IsReady now p) (is ∙ sym (shown-at now p own))
+    ready = subst (IsPortReady now p) (is ∙ sym (shown-at now p own))
         (now-ready ports o may p own m l sound);
     passes = quiet-passed now p own quiet is
         ∙ (ap (λ v. (end_of_view v at).chunks) l.same ∙ ((look-made o m).chunks
@@ -438,9 +439,9 @@ module _ {t : Identity} {old mid : NodeSeat} {f : Flags} (ports : NodePorts) (o 
     (own : is_own_port (ports_picture ports old) p) {e : ℕ} {due : Bool}
     (at : e ≡ edge_of (ports_picture ports old) p)
     (is : due ≡ is_lift_due p (has_chunk p ports.view) f)
-    (m : Makes t old mid (step.Look e) None (flags f)) where
+    (m : MakesStep t old mid (step.Look e) None (flags f)) where
   look : LooksHere t ports old mid f p
-  look = subst (λ e. Makes t old mid (step.Look e) None (flags f)) at m
+  look = subst (λ e. MakesStep t old mid (step.Look e) None (flags f)) at m
 
   pub lift-ready : due ≡ true → holds_chunk (slot_of mid e) ≡ true
   lift-ready d = subst (λ e. holds_chunk (slot_of mid e) ≡ true) (sym at)

@@ -1,9 +1,9 @@
 -- An action is carried out and its peer told.
-use Rattle.node_ports.proofs.Imports.{Identity, Acted, Action, Bool, BoxPicture, FollowsKept, MarkHolds, MayAct, NodePorts, NodeSeat, NodeState, Option, Picture, PortsHold, PortsPicture, SamePorts, Some, TakesFirst, action_port, ap, edge_of, edges_of, false, has, port_edge, ports_picture, refl, subst, sym, true, untaken, view, ℕ, ◌∙◌, ◌≡◌, ◌≢◌}
+use Rattle.node_ports.proofs.Imports.{Identity, Acted, Action, Bool, BoxPicture, FollowsKept, MarkHolds, MayAct, NodePorts, NodeSeat, NodeStatus, Option, Picture, PortsHold, PortsPicture, SamePorts, Some, TakesFirstAction, action_port, ap, edge_of, edges_of, false, has, port_edge, ports_picture, refl, subst, sym, true, untaken, view, ℕ, ◌∙◌, ◌≡◌, ◌≢◌}
 use Rattle.node_ports.proofs.Shown.{still-updated}
 use Rattle.node_ports.proofs.StillLaws.{StaysSeat, still-holds, still-lists}
 use Rattle.node_ports.proofs.LoopLaws.{lists-both, ports-both}
-use Rattle.node_ports.specs.Peers.{Carried, CarriesAction, TellsIfDue, Told, carry_of, is_to_tell}
+use Rattle.node_ports.specs.Peers.{CarriesAction, HasCarriedOut, PeerIsTold, TellsIfDue, carry_of, is_to_tell}
 use Rattle.node_ports.proofs.ActLaws.{own-port}
 use Rattle.node_ports.specs.declared.actions.Carry.{Carry}
 use Rattle.node_ports.specs.declared.actions.Carry.TheVariants as carry
@@ -14,7 +14,7 @@ unfoldable use Rattle.port_word.specs.Names.{with_actions}
 
 -- the law stands after the peer was told
 told-stays : {t : Identity} {e : ℕ} {b : Bool} (p : NodePorts) (mid new : NodeSeat)
-    → PortsHold (ports_picture p mid) → Told t e b mid new → StaysSeat p p.updated mid new
+    → PortsHold (ports_picture p mid) → PeerIsTold t e b mid new → StaysSeat p p.updated mid new
 told-stays p mid new h w = record {
   number = w.number;
   edges = ap edges_of w.edges;
@@ -29,7 +29,7 @@ taken-follows : (a : Action) (c : PortsPicture) (b : BoxPicture) → FollowsKept
 unfolding with_actions
 taken-follows a c b f = follows-taken b (untaken a c).view c.view.actions f
 
-taken-marks : (a : Action) (c : PortsPicture) (s : NodeState) (last : Option Status) (m n : ℕ)
+taken-marks : (a : Action) (c : PortsPicture) (s : NodeStatus) (last : Option Status) (m n : ℕ)
     (b : BoxPicture) → MarkHolds s last m n b (untaken a c).view → MarkHolds s last m n b c.view
 unfolding with_actions
 taken-marks a c s last m n b h = mark-taken s last m n b (untaken a c).view c.view.actions h
@@ -44,7 +44,7 @@ untaken-ports a c d h = record {
 }
 
 module _ (a : Action) (c d : PortsPicture) (h : Acted a c d false) where
-  pub carried-free : Carried (untaken a c) d
+  pub carried-free : HasCarriedOut (untaken a c) d
   carried-free = record {
     may = record {
       holds = h.holds;
@@ -61,7 +61,7 @@ module _ (a : Action) (c d : PortsPicture) (h : Acted a c d false) where
 
 module _ {t : Identity} {e : ℕ} {b : Bool} (p : NodePorts) {mid new : NodeSeat} (a : Action)
     (c : PortsPicture) (h : Acted a c (ports_picture p mid) true) where
-  pub carried-told : Told t e b mid new → Carried (untaken a c) (ports_picture p new)
+  pub carried-told : PeerIsTold t e b mid new → HasCarriedOut (untaken a c) (ports_picture p new)
   carried-told w = let stays = told-stays p mid new h.holds w in record {
     may = record {
       holds = still-holds p p.updated mid new h.holds stays;
@@ -86,7 +86,7 @@ module _ {t : Identity} {e : ℕ} {b : Bool} (p : NodePorts) {mid new : NodeSeat
 
 module _ {t : Identity} (p : NodePorts) {mid new : NodeSeat} {a : Action} {c : PortsPicture}
     (may : MayAct a c) (h : Acted a c (ports_picture p mid) true) (due : true ≡ is_to_tell a c)
-    {e : ℕ} {b : Bool} (w : Told t e b mid new) (at : e ≡ edge_of c (action_port a)) where
+    {e : ℕ} {b : Bool} (w : PeerIsTold t e b mid new) (at : e ≡ edge_of c (action_port a)) where
   -- the peer was told, and is answered where that charged it
   pub carries-told : {n : ℕ} {r : Carry} → n ≡ port_edge c.sources c.targets (action_port a)
       → r ≡ carry_of n b → CarriesAction t a r c p new
@@ -98,14 +98,15 @@ module _ {t : Identity} (p : NodePorts) {mid new : NodeSeat} {a : Action} {c : P
     tells = subst (λ d. TellsIfDue d t a b c p new) due (record {
       acted = mid;
       acts = h;
-      told = subst (λ e. Told t e b mid new) at w;
+      told = subst (λ e. PeerIsTold t e b mid new) at w;
     });
     answer = answer ∙ ap (λ n. carry_of n b) q;
   }
 
 -- ---- the next action
 
-module _ (c : PortsPicture) (v : Picture) (a : Action) (t : TakesFirst c.view (Some a) v) where
+module _ (c : PortsPicture) (v : Picture) (a : Action)
+    (t : TakesFirstAction c.view (Some a) v) where
   abbrev taken : PortsPicture
   taken = record c { view = v }
 

@@ -1,5 +1,5 @@
 -- The ports as the seat knows them, and what a step at one of them, or at none, leaves.
-use Rattle.node_ports.proofs.Imports.{Bool, End, Input, InputAllows, InputPort, IsDifference, IsEnd, IsSound, List, NodeView, None, Option, Output, OutputAllows, Picture, Port, PortKnown, PortsHold, PortsPicture, HasPortOf, SameLists, SamePorts, Some, Table, Updated, Wire, [], ap, append-nil, arith, cases_eq, cases_lt, chunk_after, chunks_on, edge_of, edges_of, end_of, end_of_view, eq-eqb, false, flags_at, get_or, get_or-map, get_or_past, has, holds_data, in_count, inl, input_after, input_at, input_seen, inr, is_end, is_own_port, is_some, is_updated, knows, length, length-map, lifted_of, map, no_input, number_at, out_count, output_after, output_at, output_seen, over_flags, port_chunk, port_edge, port_flags, pulled_by, pushed_by, pushes_to, refl, shown, slot_in, subst, sym, taken_out, true, ℕ, ◌++◌, ◌<◌, ◌∙◌, ◌≡◌, ◌≢◌, ◌≤◌, ◌⊎◌}
+use Rattle.node_ports.proofs.Imports.{Bool, EdgeEnd, Input, InputAllows, InputPort, IsDifference, IsEnd, IsSound, List, NodeView, None, Option, Output, OutputAllows, Picture, Port, PortKnown, PortsHold, PortsPicture, HasPortOf, SameLists, SamePorts, Some, Table, Updated, Wire, [], ap, append-nil, arith, cases_eq, cases_lt, chunk_after, chunks_on, edge_of, edges_of, end_of, end_of_view, eq-eqb, false, flags_at, get_or, get_or-map, get_or_past, has, holds_data, in_count, inl, input_after, input_at, input_seen, inr, is_end, is_own_port, is_some, is_updated_port, knows, length, length-map, lifted_of, map, no_input, number_at, out_count, output_after, output_at, output_seen, over_flags, port_chunk, port_edge, port_flags, pulled_by, pushed_by, pushes_to, refl, shown, slot_in, subst, sym, taken_out, true, ℕ, ◌++◌, ◌<◌, ◌∙◌, ◌≡◌, ◌≢◌, ◌≤◌, ◌⊎◌}
 
 -- ---- ports
 
@@ -205,17 +205,17 @@ differs-quiet (Output o) x v q is = (
 -- ---- a step at one port, or at none
 
 -- of an edge the seat knows what it knew, and its slot is as it was
-pub record SameAt (c d : PortsPicture) (e : ℕ) : Type 0 where
+pub record SameEdge (c d : PortsPicture) (e : ℕ) : Type 0 where
   pub flags : flags_at e d.node.state.seen ≡ flags_at e c.node.state.seen
   pub end : end_of_view d.node e ≡ end_of_view c.node e
   pub slot : slot_in e d.slots ≡ slot_in e c.slots
 
 -- what a port keeps ready: an input what the shared port says of its need, and where it is open and
 -- has data its chunk; an output that was asked for and is empty its slot
-abbrev pub IsReady : PortsPicture → Port → InputPort → Type 0
-IsReady c (Input i) x = (get_or c.needed i false ≡ x.flags.needed)
+abbrev pub IsPortReady : PortsPicture → Port → InputPort → Type 0
+IsPortReady c (Input i) x = (get_or c.needed i false ≡ x.flags.needed)
     × (holds_data x.flags ≡ true → is_some x.chunk ≡ true)
-IsReady c (Output o) x = x.flags.needed ≡ true → x.flags.has_data ≡ false
+IsPortReady c (Output o) x = x.flags.needed ≡ true → x.flags.has_data ≡ false
     → slot_in (edge_of c (Output o)) c.slots ≡ Some None
 
 -- what waits at the port in the view
@@ -227,14 +227,14 @@ Waits (Output o) v w = pushes_to o w.actions ≡ pushes_to o v.actions
 pub record Here (c d : PortsPicture) (p : Port) : Type 0 where
   pub wire : (end_of_view d.node (edge_of c p)).wire ≡ (end_of_view c.node (edge_of c p)).wire
   pub differs : Differs p (sight (shown d) p) d.view
-  pub ready : IsReady d p (sight (shown d) p)
+  pub ready : IsPortReady d p (sight (shown d) p)
   pub passes : passed d p ≡ passed c p
 
 -- the edges of the list are learned ones, each the edge of an updated port
 pub record AreUpdated (c : PortsPicture) (u : Updated) (edges : List ℕ) : Type 0 where
   pub known : (e : ℕ) → has e edges ≡ true → knows e c.node.state.seen ≡ true
   pub named : (p : Port) → is_own_port c p → has (edge_of c p) edges ≡ true
-      → is_updated p u ≡ true
+      → is_updated_port p u ≡ true
 
 -- fewer unlooked edges are so too
 pub still-updated : (c : PortsPicture) → PortsHold c → (edges : List ℕ)
@@ -251,7 +251,7 @@ pub record MovesAt (c d : PortsPicture) (at : Option Port) : Type 0 where
   pub ports : SamePorts c d
   pub edges : edges_of d.node.state.seen ≡ edges_of c.node.state.seen
   pub unlooked : AreUpdated c d.updated d.node.state.unlooked
-  pub others : (q : Port) → is_own_port c q → at ≢ Some q → SameAt c d (edge_of c q)
+  pub others : (q : Port) → is_own_port c q → at ≢ Some q → SameEdge c d (edge_of c q)
   pub ins : in_count d.view ≡ in_count c.view
   pub outs : out_count d.view ≡ out_count c.view
   pub sound : IsSound d.view
@@ -287,7 +287,7 @@ module _ (c d : PortsPicture) (at : Option Port) (h : PortsHold c) (m : MovesAt 
     wire = was.wire;
     is = ap (λ e. (end_of_view d.node e).wire) (same-edge q) ∙ (elim (at-or-not at q) [
       | inl e ↦ (m.here q e).wire
-      | inr ne ↦ ap (λ (z : End). z.wire) (m.others q l ne).end
+      | inr ne ↦ ap (λ (z : EdgeEnd). z.wire) (m.others q l ne).end
     ] ∙ was.is);
     at_port = subst (λ n. IsEnd was.wire n q) (sym m.ports.number) was.at_port;
     apart = was.apart;
@@ -302,10 +302,10 @@ module _ (c d : PortsPicture) (at : Option Port) (h : PortsHold c) (m : MovesAt 
   }
 
   -- another port shows as before, and what went by there is what it was
-  seen-same : (q : Port) → SameAt c d (edge_of c q) → seen_at d q ≡ seen_at c q
+  seen-same : (q : Port) → SameEdge c d (edge_of c q) → seen_at d q ≡ seen_at c q
   seen-same (Input i) s = ap (input_seen d.node d.slots) (same-edge (Input i)) ∙ same s
     where
-      same : {e : ℕ} → SameAt c d e
+      same : {e : ℕ} → SameEdge c d e
           → input_seen d.node d.slots e ≡ input_seen c.node c.slots e
       same s = grind (arith, s.flags, s.end, s.slot)
   seen-same (Output o) s = ap (λ f. record { flags = f; chunk = None })
@@ -325,7 +325,7 @@ module _ (c d : PortsPicture) (at : Option Port) (h : PortsHold c) (m : MovesAt 
   chunks-elsewhere q ne = elim (own-or-past c q) [
     | inl lt ↦ port-chunks d q (new-own q lt) ∙ (ap (λ e. (end_of_view d.node e).chunks)
         (same-edge q)
-        ∙ (ap (λ (z : End). z.chunks) (m.others q lt ne).end ∙ sym (port-chunks c q lt)))
+        ∙ (ap (λ (z : EdgeEnd). z.chunks) (m.others q lt ne).end ∙ sym (port-chunks c q lt)))
     | inr past ↦ past-chunks d q (past-too q past) ∙ sym (past-chunks c q past)
   ]
 
@@ -335,7 +335,7 @@ module _ (c d : PortsPicture) (at : Option Port) (h : PortsHold c) (m : MovesAt 
   passes-elsewhere (Output o) ne = λ j. chunks-elsewhere (Output o) ne j
       ++ m.waits (Output o) ne j
 
-  ready-elsewhere : (q : Port) → is_own_port c q → at ≢ Some q → IsReady d q (sight (shown c) q)
+  ready-elsewhere : (q : Port) → is_own_port c q → at ≢ Some q → IsPortReady d q (sight (shown c) q)
   ready-elsewhere (Input i) lt ne = (
     m.needs i ne ∙ (h.needed i lt
         ∙ ap (λ (x : InputPort). x.flags.needed) (sym (shown-input c i lt))),
@@ -352,10 +352,10 @@ module _ (c d : PortsPicture) (at : Option Port) (h : PortsHold c) (m : MovesAt 
     | inr ne ↦ subst (λ x. Differs q x d.view) (sym (sight-elsewhere q ne)) (m.differs q ne)
   ]
 
-  all-ready : (q : Port) → is_own_port c q → IsReady d q (sight (shown d) q)
+  all-ready : (q : Port) → is_own_port c q → IsPortReady d q (sight (shown d) q)
   all-ready q lt = elim (at-or-not at q) [
     | inl e ↦ (m.here q e).ready
-    | inr ne ↦ subst (λ x. IsReady d q x) (sym (sight-elsewhere q ne)) (ready-elsewhere q lt ne)
+    | inr ne ↦ subst (λ x. IsPortReady d q x) (sym (sight-elsewhere q ne)) (ready-elsewhere q lt ne)
   ]
 
   all-pass : (q : Port) → passed d q ≡ passed c q

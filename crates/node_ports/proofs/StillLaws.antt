@@ -1,5 +1,5 @@
 -- A step of the seat at no port.
-use Rattle.node_ports.proofs.Imports.{Answer, Chunk, Identity, Input, IsSeatOf, Makes, NodePorts, NodeSeat, None, Option, Output, Picture, Port, PortsHold, PortsPicture, SameLists, SeatState, Some, Step, Updated, ap, edge_of, edges_of, false, has, ports_picture, refl, seat_after, shown, state-made, sym, view, ℕ, ◌∙◌, ◌≡◌}
+use Rattle.node_ports.proofs.Imports.{Chunk, Identity, Input, IsSeatOf, MakesStep, NodePorts, NodeSeat, None, Option, Output, Picture, Port, PortsHold, PortsPicture, SameLists, SeatState, Some, Step, StepAnswer, Updated, ap, edge_of, edges_of, false, has, ports_picture, refl, seat_after, shown, state-made, sym, view, ℕ, ◌∙◌, ◌≡◌}
 use Rattle.node_ports.proofs.Shown.{AreUpdated, MovesAt, Waits, differs-at, moved-holds, moved-lists, still-updated}
 use Rattle.exec_table.proofs.Hands.{may_learn}
 use Rattle.exec_table.proofs.Ends.{edges-made, number-made, same-made}
@@ -12,8 +12,8 @@ pub record StaysSeat (p : NodePorts) (u : Updated) (old new : NodeSeat) : Type 0
   pub unlooked : AreUpdated (ports_picture p old) u (view new).state.unlooked
   pub same : (d : ℕ) → IsSameAt old new d
 
-pub still-seat : {t : Identity} {old new : NodeSeat} {s : Step} {x : Option Chunk} {a : Answer}
-    {p : NodePorts} {u : Updated} → IsSeatOf t old → Makes t old new s x a
+pub still-seat : {t : Identity} {old new : NodeSeat} {s : Step} {x : Option Chunk} {a : StepAnswer}
+    {p : NodePorts} {u : Updated} → IsSeatOf t old → MakesStep t old new s x a
     → may_learn s ≡ false → ((d : ℕ) → is_at d s ≡ false)
     → AreUpdated (ports_picture p old) u (view new).state.unlooked → StaysSeat p u old new
 still-seat o m plain nowhere named = record {
@@ -24,8 +24,8 @@ still-seat o m plain nowhere named = record {
 }
 
 -- a step after which the same edges are unlooked
-pub still-quiet : {t : Identity} {old new : NodeSeat} {s : Step} {x : Option Chunk} {a : Answer}
-    {p : NodePorts} → PortsHold (ports_picture p old) → IsSeatOf t old → Makes t old new s x a
+pub still-quiet : {t : Identity} {old new : NodeSeat} {s : Step} {x : Option Chunk} {a : StepAnswer}
+    {p : NodePorts} → PortsHold (ports_picture p old) → IsSeatOf t old → MakesStep t old new s x a
     → may_learn s ≡ false → ((d : ℕ) → is_at d s ≡ false)
     → (seat_after (view old) s a).unlooked ≡ (view old).state.unlooked
     → StaysSeat p p.updated old new

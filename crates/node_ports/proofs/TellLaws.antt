@@ -1,6 +1,6 @@
 -- The peer is told, and the token that was made for it goes with it or is taken back.
-use Rattle.node_ports.proofs.Imports.{Identity, Makes, NodeSeat, None, SeatState, ap, arith, eq-eqb, false, marked_peer, nothing, price, state-made, true, view, without, ℕ, ◌+◌, ◌∙◌, ◌∷◌, ◌≡◌, [], refl}
-use Rattle.node_ports.specs.Peers.{OwesOne, Told}
+use Rattle.node_ports.proofs.Imports.{Identity, MakesStep, NodeSeat, None, SeatState, ap, arith, eq-eqb, false, marked_peer, nothing, price, state-made, true, view, without, ℕ, ◌+◌, ◌∙◌, ◌∷◌, ◌≡◌, [], refl}
+use Rattle.node_ports.specs.Peers.{OwesOne, PeerIsTold}
 use Rattle.exec_table.proofs.Ends.{number-made, same-made, stage-made}
 use Rattle.exec_table.specs.Known.{IsSameAt}
 use Rattle.core_laws.specs.Steps.{Marked, telling}
@@ -17,8 +17,8 @@ gone : (e : ℕ) → without e (e ∷ []) ≡ []
 gone e = grind (arith, eq-eqb)
 
 module _ {t : Identity} {old mid told : NodeSeat} {e : ℕ} (h : OwesOne t e old)
-    (m : Makes t old mid step.TokenIn None nothing) (w : Marked)
-    (n : Makes t mid told (step.Mark e) None (marked_peer w)) where
+    (m : MakesStep t old mid step.TokenIn None nothing) (w : Marked)
+    (n : MakesStep t mid told (step.Mark e) None (marked_peer w)) where
   state-told : (view told).state
       ≡ telling e (price w) (record (view old).state { tokens = (view old).state.tokens + 1 })
   state-told = state-made m.seat n ∙ ap (telling e (price w)) (state-made h.seat m)
@@ -29,7 +29,7 @@ module _ {t : Identity} {old mid told : NodeSeat} {e : ℕ} (h : OwesOne t e old
   same-told : (d : ℕ) → IsSameAt old told d
   same-told d = same-both old mid told d (same-made h.seat m d refl) (same-made m.seat n d refl)
 
-  pub told-charged : price w ≡ 1 → Told t e true old told
+  pub told-charged : price w ≡ 1 → PeerIsTold t e true old told
   told-charged one = record {
     marks = record {
       ready = mid;
@@ -55,8 +55,8 @@ module _ {t : Identity} {old mid told : NodeSeat} {e : ℕ} (h : OwesOne t e old
   }
 
   -- where the peer wasn't charged the token is left
-  pub told-free : price w ≡ 0 → {new : NodeSeat} → Makes t told new step.TokenOut None nothing
-      → Told t e false old new
+  pub told-free : price w ≡ 0 → {new : NodeSeat} → MakesStep t told new step.TokenOut None nothing
+      → PeerIsTold t e false old new
   told-free free {new} r = let out = state-made n.seat r in record {
     marks = record {
       ready = mid;

@@ -1,10 +1,10 @@
 -- The actions of a view are carried out, and peers are told.
 use Rattle.std.specs.Prelude.{Bool, None, Option, [], cond, false, not, slice_index_or, true, ℕ, ◌∷◌, ◌≡◌, ◌≢◌}
-use Rattle.node_ports.specs.Prelude.{Identity, Action, BoxPicture, Close, Finish, FollowsKept, IsSeatOf, MarkHolds, NodePorts, NodeSeat, NodeState, Pull, Push, Unwant, Want, view}
+use Rattle.node_ports.specs.Prelude.{Identity, Action, BoxPicture, Close, Finish, FollowsKept, IsSeatOf, MarkHolds, NodePorts, NodeSeat, NodeStatus, Pull, Push, Unwant, Want, view}
 use Rattle.core_laws.specs.Steps.{Marked, marked_peer, nothing}
 use Rattle.core_laws.specs.declared.types.Step.TheVariants as step
 use Rattle.exec_table.specs.Known.{IsSameAt, price}
-use Rattle.exec_table.specs.Seats.{Makes}
+use Rattle.exec_table.specs.Seats.{MakesStep}
 use Rattle.exec_laws.specs.Names.{action_port, port_edge}
 use Rattle.node_ports.specs.declared.actions.Carry.{Carry}
 use Rattle.node_ports.specs.declared.actions.Carry.TheVariants as carry
@@ -23,21 +23,21 @@ pub record OwesOne (t : Identity) (e : ℕ) (s : NodeSeat) : Type 0 where
 -- taken back
 abbrev pub TokenGoes : Bool → Identity → NodeSeat → NodeSeat → Type 0
 TokenGoes true t marked new = new ≡ marked
-TokenGoes false t marked new = Makes t marked new step.TokenOut None nothing
+TokenGoes false t marked new = MakesStep t marked new step.TokenOut None nothing
 
 -- the peer was marked as told of the edge, with a token made for it, and was charged or wasn't, by
 -- what the mark answered
 pub record Marks (t : Identity) (e : ℕ) (charged : Bool) (old new : NodeSeat) : Type 0 where
   pub ready : NodeSeat
-  pub token : Makes t old ready step.TokenIn None nothing
+  pub token : MakesStep t old ready step.TokenIn None nothing
   pub marked : NodeSeat
   pub answer : Marked
-  pub mark : Makes t ready marked (step.Mark e) None (marked_peer answer)
+  pub mark : MakesStep t ready marked (step.Mark e) None (marked_peer answer)
   pub spent : price answer ≡ cond charged 1 0
   pub goes : TokenGoes charged t marked new
 
 -- The peer was told. Nothing is owed any more, and no token is left. All else is as it was.
-pub record Told (t : Identity) (e : ℕ) (charged : Bool) (old new : NodeSeat) : Type 0 where
+pub record PeerIsTold (t : Identity) (e : ℕ) (charged : Bool) (old new : NodeSeat) : Type 0 where
   pub marks : Marks t e charged old new
   pub seat : IsSeatOf t new
   pub turn : InTurn (view new)
@@ -53,14 +53,14 @@ pub record MayCarry (c : PortsPicture) : Type 0 where
   pub turn : InTurn c.node
 
 -- Actions were carried out: the first ones of the view are gone.
-pub record Carried (c d : PortsPicture) : Type 0 where
+pub record HasCarriedOut (c d : PortsPicture) : Type 0 where
   pub may : MayCarry d
   pub lists : SameLists c d
   pub ports : SamePorts c d
   pub stage : d.node.stage ≡ c.node.stage
   pub unlooked : d.node.state.unlooked ≡ c.node.state.unlooked
   pub follows : (b : BoxPicture) → FollowsKept b c.view → FollowsKept b d.view
-  pub marks : (s : NodeState) (last : Option Status) (m n : ℕ) (b : BoxPicture)
+  pub marks : (s : NodeStatus) (last : Option Status) (m n : ℕ) (b : BoxPicture)
       → MarkHolds s last m n b c.view → MarkHolds s last m n b d.view
 
 -- whether the peer is to be told of the action: of a want it is unless the port says so already
@@ -77,7 +77,7 @@ pub record TellsPeer (t : Identity) (a : Action) (charged : Bool) (c : PortsPict
     (p : NodePorts) (new : NodeSeat) : Type 0 where
   pub acted : NodeSeat
   pub acts : Acted a c (ports_picture p acted) true
-  pub told : Told t (edge_of c (action_port a)) charged acted new
+  pub told : PeerIsTold t (edge_of c (action_port a)) charged acted new
 
 -- a peer that isn't to be told isn't charged
 abbrev pub TellsIfDue : Bool → Identity → Action → Bool → PortsPicture → NodePorts → NodeSeat
@@ -94,7 +94,7 @@ carry_of n false = carry.Told
 -- exactly where that charged it: the node at the other end of the action's port.
 pub record CarriesAction (t : Identity) (a : Action) (result : Carry) (c : PortsPicture)
     (p : NodePorts) (new : NodeSeat) : Type 0 where
-  pub carried : Carried (untaken a c) (ports_picture p new)
+  pub carried : HasCarriedOut (untaken a c) (ports_picture p new)
   pub fewer : p.view ≡ c.view
   pub own : is_own_port c (action_port a)
   pub charged : Bool
@@ -112,6 +112,6 @@ pub record CarriesFirst (t : Identity) (result : Carry) (c : PortsPicture) (p : 
 -- the next action was carried out, if there was one
 pub record CarriesNext (t : Identity) (result : Carry) (c : PortsPicture) (p : NodePorts)
     (new : NodeSeat) : Type 0 where
-  pub carried : Carried c (ports_picture p new)
+  pub carried : HasCarriedOut c (ports_picture p new)
   pub done : result ≡ carry.Done → (c.view.actions ≡ []) × (ports_picture p new ≡ c)
   pub first : result ≢ carry.Done → CarriesFirst t result c p new

@@ -32,13 +32,14 @@ ports_picture p s = record {
 }
 
 -- whether the port is among the updated ones
-abbrev pub is_updated : Port → Updated → Bool
-is_updated (Input i) u = u.first || is_set u.inputs i
-is_updated (Output o) u = u.first || is_set u.outputs o
+abbrev pub is_updated_port : Port → Updated → Bool
+is_updated_port (Input i) u = u.first || is_set u.inputs i
+is_updated_port (Output o) u = u.first || is_set u.outputs o
 
 -- the updated ports of both
 abbrev pub IsMerged : Updated → Updated → Updated → Type 0
-IsMerged some more all = (p : Port) → is_updated p all ≡ (is_updated p some || is_updated p more)
+IsMerged some more all =
+    (p : Port) → is_updated_port p all ≡ (is_updated_port p some || is_updated_port p more)
 
 -- ---- what the seat shows
 
@@ -111,7 +112,7 @@ pub record PortsHold (c : PortsPicture) : Type 0 where
   pub cover : (e : ℕ) → knows e c.node.state.seen ≡ true → HasPortOf c e
   pub unlooked : (e : ℕ) → has e c.node.state.unlooked ≡ true → knows e c.node.state.seen ≡ true
   pub updated : (p : Port) → is_own_port c p → has (edge_of c p) c.node.state.unlooked ≡ true
-      → is_updated p c.updated ≡ true
+      → is_updated_port p c.updated ≡ true
   pub peers : (length c.sources ≡ length c.inputs) × (length c.targets ≡ length c.outputs)
   pub ins : in_count c.view ≡ length c.inputs
   pub outs : out_count c.view ≡ length c.outputs

@@ -12,7 +12,7 @@ pub use Rattle.exec_table.specs.declared.types.NodeView.{NodeView}
 pub use Rattle.exec_table.specs.declared.types.Updated.{Updated}
 pub use Rattle.exec_table.specs.Seats.{Identity, IsSeatOf, Slots, end_of_view, slot_in, slot_of, slots, view}
 pub use Rattle.exec_table.specs.declared.rule.NodeSeat.{NodeSeat}
-pub use Rattle.exec_laws.specs.declared.edges.NodeState.{NodeState}
+pub use Rattle.exec_laws.specs.declared.edges.NodeStatus.{NodeStatus}
 pub use Rattle.exec_laws.specs.Names.{IsEnd, IsPort, MarkHolds, peer, port_edge}
 pub use Rattle.exec_laws.specs.Prelude.{BoxPicture, FollowsKept, Lists, Table, taken_out}
 pub use Rattle.node_ports.specs.declared.ports.NodePorts.{NodePorts}

@@ -6,7 +6,7 @@ ghost use Rattle.exec_laws.specs.Names.{action_port};
 ghost use Rattle.exec_table.specs.Seats.{IsSeatOf, identity_of, view};
 ghost use Rattle.node_ports.specs.Ports.{edge_of, ports_picture};
 ghost use Rattle.node_ports.specs.Actions.{Acted, MayAct};
-ghost use Rattle.node_ports.specs.Peers.{CarriesAction, CarriesNext, MayCarry, OwesOne, Told, is_to_tell};
+ghost use Rattle.node_ports.specs.Peers.{CarriesAction, CarriesNext, MayCarry, OwesOne, PeerIsTold, is_to_tell};
 ghost use Rattle.node_ports.specs.declared.actions.Carry.TheVariants.{Done};
 
 use crate::ports::NodePorts;
@@ -158,7 +158,7 @@ fn carry_out(
 /// with the token that was made for it.
 fn tell_peer(table: &ExecTable, seat: &mut NodeSeat, e: u32) -> bool
     requires { OwesOne (identity_of table.now) e seat.old }
-    ensures { Told (identity_of table.now) e result seat.old seat.new }
+    ensures { PeerIsTold (identity_of table.now) e result seat.old seat.new }
 {
     table.token_in(seat);
     match table.mark(seat, e) {

@@ -3,7 +3,7 @@ ghost use Rattle.std.specs.Prelude.{◌≡◌, true};
 ghost use Rattle.core_laws.specs.Views.{is_set};
 ghost use Rattle.port_word.specs.Sights.{HasPort};
 ghost use Rattle.exec_table.specs.Seats.{IsSeatOf, identity_of, holds_chunk, slot_of};
-ghost use Rattle.node_ports.specs.Ports.{IsMerged, is_own_port, is_updated, ports_picture};
+ghost use Rattle.node_ports.specs.Ports.{IsMerged, is_own_port, is_updated_port, ports_picture};
 ghost use Rattle.node_ports.specs.Sights.{Lifts, LookedAll, LookedAt, MayLook, has_chunk, is_lift_due, nth_port};
 
 use crate::ports::NodePorts;
@@ -19,7 +19,7 @@ fn has_bit(word: u32, k: usize) -> bool
 }
 
 fn is_updated(updated: &Updated, port: Port) -> bool
-    ensures { result ≡ is_updated port updated.now }
+    ensures { result ≡ is_updated_port port updated.now }
 {
     match port {
         Port::Input(i) => updated.first || has_bit(updated.inputs, i),

@@ -1,4 +1,5 @@
-use Rattle.exec_table.proofs.Cited.{NodeState, PortState, ap, flags_word, map, refl, wire_word, ◌++◌, ◌∙◌, ◌∷◌, [], words-made}
+use Rattle.exec_table.proofs.Imports.{NodeState, PortState, [], ap, flags_word, map, refl, wire_word, ◌++◌, ◌∙◌, ◌∷◌}
+use Rattle.exec_table.proofs.Starting.{words-made}
 use Rattle.exec_table.proofs.make.words.Goals as goal
 
 pub returns : goal.returns

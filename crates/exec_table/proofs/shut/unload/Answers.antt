@@ -1,4 +1,5 @@
-use Rattle.exec_table.proofs.Cited.{ap, arith, false, get_elem?, get_or, get_or-set_other, get_or-set_same, set, sym, ◌∙◌, dite, ℕ_discrete, slots_counts, slots_filled, taken-next}
+use Rattle.exec_table.proofs.Imports.{ap, arith, dite, false, get_elem?, get_or, get_or-set_other, get_or-set_same, set, slots_counts, slots_filled, sym, ℕ_discrete, ◌∙◌}
+use Rattle.exec_table.proofs.Surveying.{taken-next}
 use Rattle.exec_table.proofs.shut.unload.Goals as goal
 
 pub loop-i-preserved : goal.loop-i-preserved

@@ -1,4 +1,4 @@
-use Rattle.exec_table.proofs.Cited.{false, get_or, take, ℕ, ◌<◌, ◌≡◌, vec_capacity, slots_filled, slots_items, slots_len, Filled}
+use Rattle.exec_table.proofs.Imports.{Filled, false, get_or, slots_filled, slots_items, slots_len, take, vec_capacity, ℕ, ◌<◌, ◌≡◌}
 use Rattle.exec_table.proofs.shut.unload.Given as goal
 
 abbrev pub invariant-loop-i : goal.invariant-loop-i

@@ -1,5 +1,5 @@
 use Rattle.node_ports.proofs.Imports.{PortsHold, ports_picture, subst, sym}
-use Rattle.node_ports.specs.Peers.{Carried}
+use Rattle.node_ports.specs.Peers.{HasCarriedOut}
 use Rattle.node_ports.proofs.NextLaws.{not-done, untaken-is}
 use Rattle.node_ports.proofs.actions.carry_next.Goals as goal
 
@@ -17,7 +17,7 @@ returns-in-Some-clause-carries c = let p = ports_picture c.args.ports.now c.args
     let d = ports_picture c.carry_action.new.ports c.carry_action.new.seat in
     let is = untaken-is p c.next_action.new.self c.in-Some.action c.in-Some.ensures.taken in
     let r = c.carry_action.ensures.carries in record {
-      carried = subst (λ q. Carried q d) is r.carried;
+      carried = subst (λ q. HasCarriedOut q d) is r.carried;
       done = λ e. absurd (not-done _ r.charged r.answer e);
       first = λ e. record { action = c.in-Some.action; taken = _; is = is; carries = r };
     }

@@ -1,4 +1,6 @@
-use Rattle.exec_table.proofs.Cited.{ap, arith, refl, sym, updated, ◌∙◌, read-node, node-asks, quiet-makes}
+use Rattle.exec_table.proofs.Imports.{ap, arith, refl, sym, updated, ◌∙◌}
+use Rattle.exec_table.proofs.Wording.{read-node}
+use Rattle.exec_table.proofs.Seating.{node-asks, quiet-makes}
 use Rattle.exec_table.proofs.rule.ExecTable.again.Goals as goal
 
 pub swap-requires : goal.swap-requires

@@ -1,4 +1,5 @@
-use Rattle.exec_table.proofs.Cited.{refl, node-asks, quiet-makes}
+use Rattle.exec_table.proofs.Imports.{refl}
+use Rattle.exec_table.proofs.Seating.{node-asks, quiet-makes}
 use Rattle.exec_table.proofs.rule.ExecTable.birth.Goals as goal
 
 pub fetch_xor-requires : goal.fetch_xor-requires

@@ -1,4 +1,5 @@
-use Rattle.exec_table.proofs.Cited.{refl, rules, true, edge-asks, edge-did, quiet-makes}
+use Rattle.exec_table.proofs.Imports.{refl, rules, true}
+use Rattle.exec_table.proofs.Seating.{edge-asks, edge-did, quiet-makes}
 use Rattle.core_laws.specs.declared.types.Step.TheVariants as step
 use Rattle.exec_table.proofs.rule.ExecTable.close_port.Goals as goal
 

@@ -1,9 +1,10 @@
-use Rattle.exec_table.proofs.Cited.{[], ap, arith, get_elem?, length, no_view, one, refl, subst, sym, ℕ, ⊎_elim, ◌+◌, ◌<◌, ◌∙◌, ◌≡◌, IsOpen, rest_of, without_first, first_or_none, key_of, NodeSeat, length_push, first-of, one-more, opened, peels, identity_of}
+use Rattle.exec_table.proofs.Imports.{IsOpen, NodeSeat, [], ap, arith, first_or_none, get_elem?, identity_of, length, length_push, no_view, one, refl, rest_of, sizes_in, subst, sym, without_first_node, ℕ, ⊎_elim, ◌+◌, ◌<◌, ◌∙◌, ◌≡◌}
+use Rattle.exec_table.proofs.Starting.{dealt_is_open, first-of, one-more, peels}
 use Rattle.exec_table.proofs.rule.ExecTable.deal.Goals as goal
 
 pub split_seat-seat-requires : goal.split_seat-seat-requires
 split_seat-seat-requires c = let w = c.args.self.now.words in let inv = c.loop-i.invariant in
-    let key = key_of c.args.self.now in let t = c.loop-i-test.true in
+    let key = sizes_in c.args.self.now in let t = c.loop-i-test.true in
     let n = c.args.self.now.nodes_are in (
       inv.table,
       omega arith,
@@ -12,7 +13,7 @@ split_seat-seat-requires c = let w = c.args.self.now.words in let inv = c.loop-i
     )
 
 pub loop-i-preserved : goal.loop-i-preserved
-loop-i-preserved c = let t = c.args.self.now in let key = key_of t in
+loop-i-preserved c = let t = c.args.self.now in let key = sizes_in t in
     let inv = c.loop-i.invariant in
     let test = c.loop-i-test.true in let n = t.nodes_are in let i = c.loop-i.i in
     let less : i < key.nodes = omega arith in let first = first-of key i key.nodes less in
@@ -22,13 +23,13 @@ loop-i-preserved c = let t = c.args.self.now in let key = key_of t in
       node = i;
       held = c.in_ok-held.held;
     } in let here = identity_of t in
-    let at_start : IsOpen here i dealt = opened t dealt i (did.3 ∙ inv.table) less refl
+    let at_start : IsOpen here i dealt = dealt_is_open t dealt i (did.3 ∙ inv.table) less refl
     (did.4 ∙ ap (λ l. (one (first_or_none l), [])) (ap (λ m. m.0.nodes) inv.view ∙ first))
     c.in_ok-held.ensures.items
     (let e = t.edges_are in let r = c.in_ok-held.ensures.capacity in omega (arith, e, r)) in
     record {
       table = did.0 ∙ inv.table;
-      view = did.2 ∙ (ap (λ m. (without_first m.0, m.1)) inv.view
+      view = did.2 ∙ (ap (λ m. (without_first_node m.0, m.1)) inv.view
           ∙ ap (λ l. (record no_view { nodes = rest_of l; sizes = key }, [])) first);
       count = ap length items ∙ (length_push c.loop-i.nodes.items dealt ∙ ap
           (λ k. k + 1) inv.count);

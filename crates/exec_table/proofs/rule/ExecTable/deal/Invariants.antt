@@ -1,4 +1,5 @@
-use Rattle.exec_table.proofs.Cited.{[], get_elem?, length, no_view, some, ℕ, ◌-◌, ◌≡◌, IsOpen, key_of, NodeSeat, vec_capacity, nodes_from, identity_of}
+use Rattle.exec_table.proofs.Imports.{IsOpen, NodeSeat, [], get_elem?, identity_of, length, no_view, sizes_in, some, vec_capacity, ℕ, ◌-◌, ◌≡◌}
+use Rattle.exec_table.proofs.Starting.{nodes_from}
 use Rattle.exec_table.proofs.rule.ExecTable.deal.Given as goal
 
 abbrev pub invariant-loop-i : goal.invariant-loop-i
@@ -6,8 +7,8 @@ invariant-loop-i l = record {
   table : l.root.seat.table_id ≡ l.self.table.shared.table_id;
   view : l.root.seat.me ≡ (
     record no_view {
-      nodes = nodes_from (key_of l.self) l.i ((key_of l.self).nodes - l.i);
-      sizes = key_of l.self;
+      nodes = nodes_from (sizes_in l.self) l.i ((sizes_in l.self).nodes - l.i);
+      sizes = sizes_in l.self;
     },
     [],
   );

@@ -1,4 +1,5 @@
-use Rattle.exec_table.proofs.Cited.{[], ap, arith, get_or, refl, some, subst, sym, ◌++◌, ◌∙◌, ◌∷◌, IsSeatOf, view, IsLent, at-now, each-all, each-next, next-view, identity_of}
+use Rattle.exec_table.proofs.Imports.{IsLent, IsSeatOf, [], ap, arith, get_or, identity_of, refl, some, subst, sym, view, ◌++◌, ◌∙◌, ◌∷◌}
+use Rattle.exec_table.proofs.Surveying.{at-now, each-all, each-next, next-view}
 use Rattle.exec_table.proofs.rule.ExecTable.gather.Goals as goal
 
 pub lend-requires-clause-seat : goal.lend-requires-clause-seat

@@ -1,4 +1,5 @@
-use Rattle.exec_table.proofs.Cited.{take, [], IsLent, views, ◌≡◌, Between}
+use Rattle.exec_table.proofs.Imports.{IsLent, [], take, views, ◌≡◌}
+use Rattle.exec_table.proofs.Surveying.{Between}
 use Rattle.exec_table.proofs.rule.ExecTable.gather.Given as goal
 
 abbrev pub invariant-loop-i : goal.invariant-loop-i

@@ -1,4 +1,6 @@
-use Rattle.exec_table.proofs.Cited.{ap, arith, ◌∙◌, peels, joins}
+use Rattle.exec_table.proofs.Imports.{ap, arith, ◌∙◌}
+use Rattle.exec_table.proofs.Starting.{peels}
+use Rattle.exec_table.proofs.Surveying.{joins}
 use Rattle.exec_table.proofs.rule.ExecTable.give_back.Goals as goal
 
 pub split_seat-piece-requires : goal.split_seat-piece-requires

@@ -1,4 +1,6 @@
-use Rattle.exec_table.proofs.Cited.{None, Some, ap, once, rest, subst, sym, ◌∙◌, ◌∷◌, HandHolds, edges_out, view, at-front, full-slot, hand-lifted, hand-turned, seat-other}
+use Rattle.exec_table.proofs.Imports.{HandHolds, None, Some, ap, edges_out, once, rest, subst, sym, view, ◌∙◌, ◌∷◌}
+use Rattle.exec_table.proofs.Handling.{at-front, full-slot, hand-lifted, hand-turned}
+use Rattle.exec_table.proofs.Seating.{seat-other}
 use Rattle.exec_table.proofs.rule.ExecTable.lift.Goals as goal
 
 pub exchange-requires : goal.exchange-requires

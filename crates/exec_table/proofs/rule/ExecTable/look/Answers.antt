@@ -1,4 +1,9 @@
-use Rattle.exec_table.proofs.Cited.{None, Sat, ap, eqb, port_at, refl, sym, subst, ◌-◌, ◌<◌, ◌∙◌, ◌≡◌, aiming, deque_capacity, Did, end_of_view, false, has, HandHolds, edges_out, length, slots, view, beq, NodeView, Some, ◌⊎◌, front, slot_in, arith, node_of, true, flags_answer, look-found, look-places, look-turn, port_place, room-for, makes, edge-did, edge-asks, hand-after, look-slots}
+use Rattle.exec_table.proofs.Imports.{Did, HandHolds, NodeView, None, Sat, Some, aiming, ap, arith, beq, deque_capacity, edges_out, end_of_view, eqb, false, front, has, length, port_at, port_place, refl, slot_in, slots, subst, sym, true, view, ◌-◌, ◌<◌, ◌∙◌, ◌≡◌, ◌⊎◌}
+use Rattle.exec_table.specs.Plays.{first_node}
+use Rattle.core_laws.specs.Steps.{flags as flags_answer}
+use Rattle.exec_table.proofs.Handling.{look-found, look-places, look-turn, room-for}
+use Rattle.exec_table.proofs.Seating.{edge-asks, edge-did, makes}
+use Rattle.exec_table.proofs.Hands.{hand-after, look-slots}
 use Rattle.core_laws.specs.declared.types.Step.TheVariants as step
 use Rattle.exec_table.proofs.rule.ExecTable.look.Goals as goal
 
@@ -21,8 +26,8 @@ returns c = let o = c.requires.seat in let e = c.args.e in let old = c.args.seat
     let did : Did (view old) (step.Look e) (slots old) c.load.result new.seat.me = subst
     (λ z. Did (view old) (step.Look e) (slots old) c.load.result z.me) (sym took.same.0)
     (edge-did (aiming e (view old), slots old) true (λ _. step.Look) e o refl
-    c.port_place-place.ensures (subst (λ (m : Sat). Did (node_of m.0) (step.Look (place
-    - port_place (node_of m.0).sizes 0)) m.1 c.load.result c.load.new.seat.me) wire.view
+    c.port_place-place.ensures (subst (λ (m : Sat). Did (first_node m.0) (step.Look (place
+    - port_place (first_node m.0).sizes 0)) m.1 c.load.result c.load.new.seat.me) wire.view
     c.load.ensures.2)) in let b = did.before in let n = (view old).number in
     let hand = subst (λ x. HandHolds x (slots old)) (sym did.was) o.hand in
     let flags = c.flags_of-flags.ensures (port_at b.core e).flags (did.word
@@ -39,6 +44,6 @@ returns c = let o = c.requires.seat in let e = c.args.e in let old = c.args.seat
     (took.same.2 ∙ ap deque_capacity wire.same.2) refl (ap flags_answer (sym flags))
     (λ d v q. subst (λ (y : NodeView). (slot_in d (slots old) ≡ Some v)
     ⊎ ((slot_in d (slots old) ≡ None) × ((end_of_view y d).turn ≡ Some v)))
-    (sym (ap node_of did.view))
+    (sym (ap first_node did.view))
     (look-slots b n did.holds (slots old) hand e (front (slots old)) did.may did.kept d v
     (sym (ap (slot_in d) did.hand) ∙ q)))

@@ -1,4 +1,5 @@
-use Rattle.exec_table.proofs.Cited.{CoreState, [], ap, edge_count, first_view, fits, length, sym, words_of, ◌+◌, ◌∙◌, ports-length, starts, words-long}
+use Rattle.exec_table.proofs.Imports.{CoreState, [], ap, edge_count, first_view, fits, length, ports-length, sym, words_of, ◌+◌, ◌∙◌}
+use Rattle.exec_table.proofs.Starting.{starts, words-long}
 use Rattle.exec_table.proofs.rule.ExecTable.make.Goals as goal
 
 pub vacant-requires : goal.vacant-requires

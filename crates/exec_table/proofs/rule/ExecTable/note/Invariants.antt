@@ -1,4 +1,4 @@
-use Rattle.exec_table.proofs.Cited.{take, ◌≡◌}
+use Rattle.exec_table.proofs.Imports.{take, ◌≡◌}
 use Rattle.exec_table.proofs.rule.ExecTable.note.Given as goal
 
 abbrev pub invariant-loop-i : goal.invariant-loop-i

@@ -1,4 +1,5 @@
-use Rattle.exec_table.proofs.Cited.{refl, node-asks, quiet-makes}
+use Rattle.exec_table.proofs.Imports.{refl}
+use Rattle.exec_table.proofs.Seating.{node-asks, quiet-makes}
 use Rattle.exec_table.proofs.rule.ExecTable.over.Goals as goal
 
 pub swap-requires : goal.swap-requires

@@ -1,4 +1,8 @@
-use Rattle.exec_table.proofs.Cited.{None, ap, board_after, drop, front, length, once, refl, rest, rules, subst, sym, true, ◌∙◌, ◌∷◌, end_of_view, HandHolds, edges_out, node_of, push_of, slots, view, inl, slot_in, at-front, full-front, hand-turned, held-there, hand-pushed, rest-slots, edge-asks, edge-did, makes}
+use Rattle.exec_table.proofs.Imports.{HandHolds, None, ap, board_after, drop, edges_out, end_of_view, front, inl, length, once, push_of, refl, rest, rules, slot_in, slots, subst, sym, true, view, ◌∙◌, ◌∷◌}
+use Rattle.exec_table.specs.Plays.{first_node}
+use Rattle.exec_table.proofs.Handling.{at-front, full-front, hand-turned, held-there}
+use Rattle.exec_table.proofs.Hands.{hand-pushed, rest-slots}
+use Rattle.exec_table.proofs.Seating.{edge-asks, edge-did, makes}
 use Rattle.core_laws.specs.declared.types.Step.TheVariants as step
 use Rattle.exec_table.proofs.rule.ExecTable.push.Goals as goal
 
@@ -24,7 +28,7 @@ returns c = let s = c.requires.seat in let old = c.args.seat.now in
     let one = sym (ap once b.hand.places) ∙ b.hand.once in
     let d = edge-did c.exchange.new.seat.me true
     (λ x e. step.Push e (length (end_of_view x e).chunks)) e s
-    (ap (λ m. node_of m.0) had ∙ ap node_of b.same.1) c.port_place-place.ensures
+    (ap (λ m. first_node m.0) had ∙ ap first_node b.same.1) c.port_place-place.ensures
     c.fetch_or.ensures.2 in
     let left = d.hand ∙ (ap (λ m. rest m.1) had ∙ ap rest f.1) in
     makes {l = l} s d (subst (HandHolds _) (sym (d.hand ∙ ap (λ m. rest m.1) had))

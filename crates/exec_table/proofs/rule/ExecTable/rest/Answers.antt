@@ -1,4 +1,6 @@
-use Rattle.exec_table.proofs.Cited.{ap, arith, refl, sym, ◌^◌, ◌∙◌, ne_eqb, eq-eqb, is_idle, read-node, node-asks, quiet-makes}
+use Rattle.exec_table.proofs.Imports.{ap, arith, eq-eqb, is_idle, ne_eqb, refl, sym, ◌^◌, ◌∙◌}
+use Rattle.exec_table.proofs.Wording.{read-node}
+use Rattle.exec_table.proofs.Seating.{node-asks, quiet-makes}
 use Rattle.exec_table.proofs.rule.ExecTable.rest.Goals as goal
 
 pub compare_exchange-requires : goal.compare_exchange-requires

@@ -1,4 +1,5 @@
-use Rattle.exec_table.proofs.Cited.{ap, arith, bit_or, refl, subst, true, Worked, ◌^◌, stop-word, worker-allowed}
+use Rattle.exec_table.proofs.Imports.{Worked, ap, arith, bit_or, refl, subst, true, ◌^◌}
+use Rattle.exec_table.proofs.Working.{stop-word, worker-allowed}
 use Rattle.core_laws.specs.declared.types.Step.TheVariants as step
 use Rattle.exec_table.proofs.rule.ExecTable.stop.Goals as goal
 

@@ -1,4 +1,5 @@
-use Rattle.exec_table.proofs.Cited.{ap, arith, drop, get_or, ◌+◌, ◌∙◌, rest_of, first_or_none, view, IsBack, IsLent, views, all-there, at-now, each-all, each-next, enter-allowed, is-back, left-views, identity_of}
+use Rattle.exec_table.proofs.Imports.{IsBack, IsLent, ap, arith, drop, first_or_none, get_or, identity_of, rest_of, view, views, ◌+◌, ◌∙◌}
+use Rattle.exec_table.proofs.Surveying.{all-there, at-now, each-all, each-next, enter-allowed, is-back, left-views}
 use Rattle.exec_table.proofs.rule.ExecTable.survey.Goals as goal
 
 pub load_new_seat-requires : goal.load_new_seat-requires

@@ -1,4 +1,5 @@
-use Rattle.exec_table.proofs.Cited.{drop, IsBack, IsLent, views, ◌≡◌, Between, identity_of}
+use Rattle.exec_table.proofs.Imports.{IsBack, IsLent, drop, identity_of, views, ◌≡◌}
+use Rattle.exec_table.proofs.Surveying.{Between}
 use Rattle.exec_table.proofs.rule.ExecTable.survey.Given as goal
 
 abbrev pub invariant-loop-i : goal.invariant-loop-i

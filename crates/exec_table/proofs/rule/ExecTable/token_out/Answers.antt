@@ -1,4 +1,5 @@
-use Rattle.exec_table.proofs.Cited.{arith, refl, quiet-makes, word-asks}
+use Rattle.exec_table.proofs.Imports.{arith, refl}
+use Rattle.exec_table.proofs.Seating.{quiet-makes, word-asks}
 use Rattle.exec_table.proofs.rule.ExecTable.token_out.Goals as goal
 
 pub fetch_sub-requires : goal.fetch_sub-requires

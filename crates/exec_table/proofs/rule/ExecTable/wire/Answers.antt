@@ -1,4 +1,7 @@
-use Rattle.exec_table.proofs.Cited.{Asks, Did, ap, either, eqb, false, refl, subst, sym, wire_place, ◌-◌, ◌∙◌, slots, view, wire_in, wired, read-wire, edge-asks, edge-did, quiet-makes, wire-in-read, wire-inside, wire-there-in, word-of-wire, identity_of}
+use Rattle.exec_table.proofs.Seating.{Asks, edge-asks, edge-did, quiet-makes}
+use Rattle.exec_table.proofs.Imports.{Did, ap, either, eqb, false, identity_of, refl, slots, subst, sym, view, wire_in, wire_place, wired, ◌-◌, ◌∙◌}
+use Rattle.exec_table.proofs.Wording.{read-wire}
+use Rattle.exec_table.proofs.Working.{wire-in-read, wire-inside, wire-there-in, word-of-wire}
 use Rattle.core_laws.specs.declared.types.Step.TheVariants as step
 use Rattle.exec_table.proofs.rule.ExecTable.wire.Goals as goal
 

@@ -1,4 +1,7 @@
-use Rattle.exec_table.proofs.Cited.{ap, arith, false, refl, sym, wire_in, wired, ◌∙◌, read-wire, edge-asks, edge-did, quiet-makes, wire-in-read}
+use Rattle.exec_table.proofs.Imports.{ap, arith, false, refl, sym, wire_in, wired, ◌∙◌}
+use Rattle.exec_table.proofs.Wording.{read-wire}
+use Rattle.exec_table.proofs.Seating.{edge-asks, edge-did, quiet-makes}
+use Rattle.exec_table.proofs.Working.{wire-in-read}
 use Rattle.core_laws.specs.declared.types.Step.TheVariants as step
 use Rattle.exec_table.proofs.rule.ExecTable.wired.Goals as goal
 

@@ -1,4 +1,5 @@
-use Rattle.exec_table.proofs.Cited.{arith, worker-splits}
+use Rattle.exec_table.proofs.Imports.{arith}
+use Rattle.exec_table.proofs.Working.{worker-splits}
 use Rattle.exec_table.proofs.rule.ExecTable.worker.Goals as goal
 
 pub split_seat-requires : goal.split_seat-requires

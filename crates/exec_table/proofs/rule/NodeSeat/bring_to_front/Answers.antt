@@ -1,4 +1,5 @@
-use Rattle.exec_table.proofs.Cited.{ap, arith, eqb, false, get_or, has, has-last, length, ne_eqb, take, take_more, ◌<◌, ◌∙◌, ◌≡◌, front-rotated, rotated-next}
+use Rattle.exec_table.proofs.Imports.{ap, arith, eqb, false, get_or, has, has-last, length, ne_eqb, take, take_more, ◌<◌, ◌∙◌, ◌≡◌}
+use Rattle.exec_table.proofs.SlotLists.{front-rotated, rotated-next}
 use Rattle.exec_table.proofs.rule.NodeSeat.bring_to_front.Goals as goal
 
 pub loop-i-preserved : goal.loop-i-preserved

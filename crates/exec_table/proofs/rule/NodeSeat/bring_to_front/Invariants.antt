@@ -1,4 +1,4 @@
-use Rattle.exec_table.proofs.Cited.{deque_capacity, drop, false, has, take, ℕ, ◌++◌, ◌≡◌, IsInHand, slot_of}
+use Rattle.exec_table.proofs.Imports.{IsInHand, deque_capacity, drop, false, has, slot_of, take, ℕ, ◌++◌, ◌≡◌}
 use Rattle.exec_table.proofs.rule.NodeSeat.bring_to_front.Given as goal
 
 abbrev pub invariant-loop-i : goal.invariant-loop-i

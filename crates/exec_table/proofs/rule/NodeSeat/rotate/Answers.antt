@@ -1,4 +1,5 @@
-use Rattle.exec_table.proofs.Cited.{ap, once, sym, ◌∙◌, edges_out, slot_in, turned-edges, turned-once, turned-slots}
+use Rattle.exec_table.proofs.Imports.{ap, edges_out, once, slot_in, sym, ◌∙◌}
+use Rattle.exec_table.proofs.SlotLists.{turned-edges, turned-once, turned-slots}
 use Rattle.exec_table.proofs.rule.NodeSeat.rotate.Goals as goal
 
 pub returns-in-Some-clause-hand : goal.returns-in-Some-clause-hand
