@@ -1,5 +1,5 @@
 -- How often numbers stand in lists, and sums over lists.
-use Rattle.task_queue.proofs.Imports.{Bool, List, [], ap, append_assoc, arith, cond, dec_le, dite, drop, drop_at, eq-eqb, eqb, get_elem?, get_or, hit, le-ltb, length, lt-ltb, lt_of_not-le, ne_eqb, once_below, refl, set, some, some-injective, some-ne-none, subst, suc, sym, take, times, total, without, zero, ℕ, ℕ_discrete, ◌++◌, ◌+◌, ◌<◌, ◌∙◌, ◌∷◌, ◌≡◌, ◌≢◌, ◌≤◌}
+use Rattle.task_queue.proofs.Imports.{Bool, List, [], ap, append_assoc, arith, cond, dec_le, dite, drop, drop_at, eq-eqb, eqb, get_elem?, get_or, hit, le-ltb, length, lt-ltb, lt_of_not-le, ne_eqb, once_below, refl, set, some, some-injective, some-ne-none, subst, suc, sym, take, times, total_over, without_each, zero, ℕ, ℕ_discrete, ◌++◌, ◌+◌, ◌<◌, ◌∙◌, ◌∷◌, ◌≡◌, ◌≢◌, ◌≤◌}
 
 if_same : {A : Type 0} (a b : ℕ) (x y : A) → a ≡ b → cond (eqb a b) x y ≡ x
 if_same a b x y e = ap (λ (t : Bool). cond t x y) (eq-eqb a b e)
@@ -25,14 +25,14 @@ pub nil_from_times : (xs : List ℕ) → ((n : ℕ) → times n xs ≡ 0) → xs
 nil_from_times [] none = refl
 nil_from_times (x ∷ xs) none = absurd (let a = none x in let b = hit_same x in omega arith)
 
-without_same : (n x : ℕ) (xs : List ℕ) → n ≡ x → without n (x ∷ xs) ≡ without n xs
-without_same n x xs e = if_same n x (without n xs) (x ∷ without n xs) e
+without_same : (n x : ℕ) (xs : List ℕ) → n ≡ x → without_each n (x ∷ xs) ≡ without_each n xs
+without_same n x xs e = if_same n x (without_each n xs) (x ∷ without_each n xs) e
 
-without_other : (n x : ℕ) (xs : List ℕ) → n ≢ x → without n (x ∷ xs) ≡ x ∷ without n xs
-without_other n x xs e = if_other n x (without n xs) (x ∷ without n xs) e
+without_other : (n x : ℕ) (xs : List ℕ) → n ≢ x → without_each n (x ∷ xs) ≡ x ∷ without_each n xs
+without_other n x xs e = if_other n x (without_each n xs) (x ∷ without_each n xs) e
 
 -- what is taken out of a list doesn't stand in it
-pub times-without : (n : ℕ) (xs : List ℕ) → times n (without n xs) ≡ 0
+pub times-without : (n : ℕ) (xs : List ℕ) → times n (without_each n xs) ≡ 0
 times-without n [] = refl
 times-without n (x ∷ xs) = let t = times-without n xs in dite (ℕ_discrete n x)
     (λ same. ap (times n) (without_same n x xs same) ∙ t)
@@ -40,14 +40,14 @@ times-without n (x ∷ xs) = let t = times-without n xs in dite (ℕ_discrete n 
     ap (times n) (without_other n x xs other) ∙ omega arith)
 
 -- the others stand in it as before
-pub times-without-other : (m n : ℕ) (xs : List ℕ) → m ≢ n → times m (without n xs) ≡ times m xs
+pub times-without-other : (m n : ℕ) (xs : List ℕ) → m ≢ n → times m (without_each n xs) ≡ times m xs
 times-without-other m n [] e = refl
 times-without-other m n (x ∷ xs) e = let t = times-without-other m n xs e in dite (ℕ_discrete n x)
     (λ same. let h = hit_other m x (λ q. e (q ∙ sym same)) in
     ap (times m) (without_same n x xs same) ∙ omega arith)
     (λ other. ap (times m) (without_other n x xs other) ∙ omega arith)
 
-length-without : (n : ℕ) (xs : List ℕ) → length xs ≡ length (without n xs) + times n xs
+length-without : (n : ℕ) (xs : List ℕ) → length xs ≡ length (without_each n xs) + times n xs
 length-without n [] = omega arith
 length-without n (x ∷ xs) = let t = length-without n xs in dite (ℕ_discrete n x)
     (λ same. let h : hit n x ≡ 1 = if_same n x 1 0 same in
@@ -56,8 +56,8 @@ length-without n (x ∷ xs) = let t = length-without n xs in dite (ℕ_discrete 
     let l = ap length (without_other n x xs other) in omega arith)
 
 -- each number stands in the list once at most, and only where it is below c
-abbrev pub AreOnce : ℕ → List ℕ → Type 0
-AreOnce c xs = (n : ℕ) → times n xs ≤ once_below n c
+abbrev pub AreOnceBelow : ℕ → List ℕ → Type 0
+AreOnceBelow c xs = (n : ℕ) → times n xs ≤ once_below n c
 
 below_once : (n c : ℕ) → n < c → once_below n c ≡ 1
 below_once n c h = ap (λ (t : Bool). cond t 1 0) (lt-ltb n c h)
@@ -66,14 +66,15 @@ above_once : (n c : ℕ) → c ≤ n → once_below n c ≡ 0
 above_once n c h = ap (λ (t : Bool). cond t 1 0) (le-ltb n c h)
 
 -- such a list has no more than c numbers
-pub length-once : (c : ℕ) (xs : List ℕ) → AreOnce c xs → length xs ≤ c
+pub length-once : (c : ℕ) (xs : List ℕ) → AreOnceBelow c xs → length xs ≤ c
 length-once zero [] once = omega arith
 length-once zero (x ∷ xs) once =
     absurd (let h = hit_same x in let z = once x in let a = above_once x 0 (omega arith) in
     omega arith)
 length-once (suc c) xs once =
-    let rest : length (without c xs) ≤ c = length-once c (without c xs) (λ n. dite (ℕ_discrete n c)
-    (λ same. subst (λ z. times z (without c xs) ≤ once_below z c) (sym same)
+    let rest : length (without_each c xs) ≤ c =
+    length-once c (without_each c xs) (λ n. dite (ℕ_discrete n c)
+    (λ same. subst (λ z. times z (without_each c xs) ≤ once_below z c) (sym same)
     (let t = times-without c xs in omega arith))
     (λ other. let t = times-without-other n c xs other in let k = once n in dite (dec_le c n)
     (λ more. let a = above_once n (suc c) (omega arith) in omega arith)
@@ -83,24 +84,25 @@ length-once (suc c) xs once =
     omega arith
 
 -- one more number below c, which didn't stand in the list
-pub once-cons : (c n : ℕ) (xs : List ℕ) → AreOnce c xs → n < c → times n xs ≡ 0 → AreOnce c (n ∷ xs)
+pub once-cons : (c n : ℕ) (xs : List ℕ) → AreOnceBelow c xs → n < c → times n xs ≡ 0
+    → AreOnceBelow c (n ∷ xs)
 once-cons c n xs once less none m = dite (ℕ_discrete m n)
     (λ same. subst (λ z. times z (n ∷ xs) ≤ once_below z c) (sym same)
     (let a = hit_same n in let b = below_once n c less in omega arith))
     (λ other. let a = hit_other m n other in let b = once m in omega arith)
 
 -- a number of the list is below c
-pub below_from_once : (c n : ℕ) (xs : List ℕ) → AreOnce c xs → times n xs ≡ 1 → n < c
+pub below_from_once : (c n : ℕ) (xs : List ℕ) → AreOnceBelow c xs → times n xs ≡ 1 → n < c
 below_from_once c n xs once h = dite (dec_le c n)
     (λ more. absurd (let a = above_once n c more in let b = once n in omega arith))
     (λ less. lt_of_not-le less)
 
 -- n leaves a list, and the front of another with the same numbers
 pub times-both_without : (n : ℕ) (view all ns : List ℕ) → ((m : ℕ) → times m view ≡ times m all)
-    → all ≡ n ∷ ns → times n all ≡ 1 → (m : ℕ) → times m (without n view) ≡ times m ns
+    → all ≡ n ∷ ns → times n all ≡ 1 → (m : ℕ) → times m (without_each n view) ≡ times m ns
 times-both_without n view all ns same front one m = let f = ap (times n) front in
     let h = hit_same n in dite (ℕ_discrete m n)
-    (λ e. subst (λ z. times z (without n view) ≡ times z ns) (sym e)
+    (λ e. subst (λ z. times z (without_each n view) ≡ times z ns) (sym e)
     (let b = times-without n view in omega arith))
     (λ e. let a = times-without-other m n view e in let b = same m in let g = ap (times m) front in
     let k = hit_other m n e in omega arith)
@@ -158,19 +160,20 @@ times-take_next n xs i a at other none =
 module _ {V : Type 0} where
   -- the sum where one element changes
   pub total-set : (f : V → ℕ) (vs : List V) (j : ℕ) (v w : V) → get_elem? vs j ≡ some v
-      → total f (set vs j w) + f v ≡ total f vs + f w
+      → total_over f (set vs j w) + f v ≡ total_over f vs + f w
   total-set f [] j v w h = absurd (some-ne-none v (sym h))
   total-set f (x ∷ xs) zero v w h = let e = ap f (some-injective x v h) in omega arith
   total-set f (x ∷ xs) (suc j) v w h = let t = total-set f xs j v w h in omega arith
 
   -- the sum where one element comes last
-  pub total-push : (f : V → ℕ) (vs : List V) (v : V) → total f (vs ++ v ∷ []) ≡ total f vs + f v
+  pub total-push : (f : V → ℕ) (vs : List V) (v : V) → total_over f (vs ++ v ∷ [])
+      ≡ total_over f vs + f v
   total-push f [] v = omega arith
   total-push f (x ∷ xs) v = let t = total-push f xs v in omega arith
 
   -- one element alone gives no more than all
   pub total-ge : (f : V → ℕ) (vs : List V) (j : ℕ) (v : V) → get_elem? vs j ≡ some v
-      → f v ≤ total f vs
+      → f v ≤ total_over f vs
   total-ge f [] j v h = absurd (some-ne-none v (sym h))
   total-ge f (x ∷ xs) zero v h = let e = ap f (some-injective x v h) in omega arith
   total-ge f (x ∷ xs) (suc j) v h = let t = total-ge f xs j v h in omega arith
@@ -178,7 +181,7 @@ module _ {V : Type 0} where
   -- lists in which f gives the same at each place have one sum
   pub total-same : (f : V → ℕ) (xs ys : List V) → length ys ≡ length xs
       → ((i : ℕ) (d : V) → i < length xs → f (get_or ys i d) ≡ f (get_or xs i d))
-      → total f ys ≡ total f xs
+      → total_over f ys ≡ total_over f xs
   total-same f [] [] many same = refl
   total-same f [] (y ∷ ys) many same = absurd (omega arith)
   total-same f (x ∷ xs) [] many same = absurd (omega arith)
@@ -186,15 +189,15 @@ module _ {V : Type 0} where
       let t = total-same f xs ys (omega arith) (λ i d h. same (suc i) d (omega arith)) in
       let a = same 0 x (omega arith) in omega arith
 
-  total-zero : (f g : V → ℕ) → ((v : V) → f v ≡ 0 → g v ≡ 0) → (vs : List V) → total f vs ≡ 0
-      → total g vs ≡ 0
+  total-zero : (f g : V → ℕ) → ((v : V) → f v ≡ 0 → g v ≡ 0) → (vs : List V) → total_over f vs ≡ 0
+      → total_over g vs ≡ 0
   total-zero f g only [] h = refl
   total-zero f g only (x ∷ xs) h =
       let a = only x (omega arith) in let t = total-zero f g only xs (omega arith) in omega arith
 
   -- where one element alone gives as much by f as all, it does by each g that is 0 where f is
   pub total-single : (f g : V → ℕ) → ((v : V) → f v ≡ 0 → g v ≡ 0) → (vs : List V) (j : ℕ) (v : V)
-      → get_elem? vs j ≡ some v → total f vs ≡ f v → total g vs ≡ g v
+      → get_elem? vs j ≡ some v → total_over f vs ≡ f v → total_over g vs ≡ g v
   total-single f g only [] j v at h = absurd (some-ne-none v (sym at))
   total-single f g only (x ∷ xs) zero v at h =
       let a = ap f (some-injective x v at) in let b = ap g (some-injective x v at) in

@@ -7,11 +7,11 @@ pub use Rattle.std.proofs.lemmas.List.{length-map, length-replicate, map-append,
 pub use Rattle.std.proofs.lemmas.List.Elements.{All-pop}
 pub use Rattle.std.specs.Slots.{slots_counts, slots_filled, slots_items, slots_len}
 pub use Rattle.std.specs.Slots.Ownership.{Filled}
-pub use Rattle.task_queue.specs.Numbers.{hit, once_below, times, total, without}
+pub use Rattle.task_queue.specs.Numbers.{hit, once_below, times, total_over, without_each}
 pub use Rattle.task_queue.specs.Passages.{IsBalanced, IsMoment, empty_passage, with_put, with_taken}
-pub use Rattle.task_queue.specs.Rules.{HasRoom, IsHome, IsKept, IsOut, all_parts, held_at, whole_holding}
+pub use Rattle.task_queue.specs.Rules.{HasRoom, IsHome, IsKept, IsOut, all_shares, held_at, whole_holding}
 pub use Rattle.task_queue.specs.Shelves.{held, parts}
-pub use Rattle.task_queue.specs.Steps.{Claims, Returns, Takes, leaving, less_one_part, no_part, one_part, taking, with_parts_of}
+pub use Rattle.task_queue.specs.Steps.{Claims, Returns, Takes, leaving, less_one_share, no_share, one_share, taking, with_shares_of}
 pub use Rattle.task_queue.specs.Values.{AllFit, SlotsFit, values_of}
 pub use Rattle.task_queue.specs.declared.queue.Passage.{Passage}
 pub use Rattle.task_queue.specs.declared.seat.Holding.{Holding}

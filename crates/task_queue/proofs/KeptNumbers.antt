@@ -1,7 +1,7 @@
 -- The numbers that a worker keeps.
 use Rattle.std.proofs.Common.{List, [], append-nil, append_assoc, false, refl, slice_index_or, subst, suc, sym, zero, ℕ, ◌++◌, ◌∷◌, ◌≡◌}
 use Rattle.std.proofs.Math.ListN.{replicate}
-use Rattle.task_queue.specs.Tasks.{AreOffered, Offers, offered_more, offered_none}
+use Rattle.task_queue.specs.Tasks.{AreOffered, OffersNumbers, offered_more, offered_none}
 use Rattle.task_queue.specs.declared.queue.TaskQueue.{TaskQueue}
 use Rattle.task_queue.specs.declared.tasks.WorkerTasks.{WorkerTasks}
 
@@ -20,9 +20,9 @@ offered-after {q} {a} {b} {ns} h (offered_more {ns = ms} {n} {mid} {new} k o) =
     subst (λ l. AreOffered q a l new) (append_assoc ns ms (n ∷ []))
     (offered_more (offered-after h k) o)
 
-pub offers-none : (q : TaskQueue) (a : WorkerTasks) → Offers q a a
+pub offers-none : (q : TaskQueue) (a : WorkerTasks) → OffersNumbers q a a
 offers-none q a = ([], offered_none)
 
-pub offers-both : (q : TaskQueue) (a b c : WorkerTasks) → Offers q a b → Offers q b c
-    → Offers q a c
+pub offers-both : (q : TaskQueue) (a b c : WorkerTasks) → OffersNumbers q a b → OffersNumbers q b c
+    → OffersNumbers q a c
 offers-both q a b c h k = (h.0 ++ k.0, offered-after h.1 k.1)

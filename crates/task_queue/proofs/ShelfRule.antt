@@ -1,5 +1,5 @@
 -- Each step of a shelf keeps its rule, from its first state to its last.
-use Rattle.task_queue.proofs.Imports.{Act, AllFit, Allows, Bool, Claims, Final, Holding, IsHome, IsKept, IsOut, Joins, List, Me, Option, Returns, Seen, SlotsFit, Some, Splits, State, Takes, Valid, [], all_parts, ap, arith, at_index, at_map, carried_after, cond, dite, either, eq-eqb, eqb, get_elem?, get_or, get_or-set_other, get_or-set_same, gives, held_at, inl, inr, keeps, leaving, length, length-map, length-replicate, length-set, less_one_part, map, ne_eqb, no_part, none, one_part, opening, refl, replicate, set, set_again, set_else, set_here, some, some-ne-none, step, stepped, subst, suc, sym, takes, taking, times, total, whole_holding, with_parts_of, zero, ℕ, ℕ_discrete, ⊎_elim, ◌++◌, ◌+◌, ◌<◌, ◌∙◌, ◌∷◌, ◌≡◌, ◌≢◌, ◌≤◌, ◌⊎◌}
+use Rattle.task_queue.proofs.Imports.{Act, AllFit, Allows, Bool, Claims, Final, Holding, IsHome, IsKept, IsOut, Joins, List, Me, Option, Returns, Seen, SlotsFit, Some, Splits, State, Takes, Valid, [], all_shares, ap, arith, at_index, at_map, carried_after, cond, dite, either, eq-eqb, eqb, get_elem?, get_or, get_or-set_other, get_or-set_same, gives, held_at, inl, inr, keeps, leaving, length, length-map, length-replicate, length-set, less_one_share, map, ne_eqb, no_share, none, one_share, opening, refl, replicate, set, set_again, set_else, set_here, some, some-ne-none, step, stepped, subst, suc, sym, takes, taking, times, total_over, whole_holding, with_shares_of, zero, ℕ, ℕ_discrete, ⊎_elim, ◌++◌, ◌+◌, ◌<◌, ◌∙◌, ◌∷◌, ◌≡◌, ◌≢◌, ◌≤◌, ◌⊎◌}
 use mathlib.Core.Option as maybe
 use Rattle.task_queue.proofs.Counts.{hit_same, times-without-other, at_below, total-set, total-push, total-ge, total-single}
 
@@ -38,7 +38,8 @@ nothing-held n v bare =
 
 -- the place stays out where a seat comes to know more
 known-set : (vs : List Holding) (id n : ℕ) (v w : Holding) → get_elem? vs id ≡ some v
-    → held_at n v ≤ held_at n w → 1 ≤ total (held_at n) vs → 1 ≤ total (held_at n) (set vs id w)
+    → held_at n v ≤ held_at n w → 1 ≤ total_over (held_at n) vs → 1
+    ≤ total_over (held_at n) (set vs id w)
 known-set vs id n v w mine more known = let t = total-set (held_at n) vs id v w mine in omega arith
 
 -- ---- steps
@@ -148,8 +149,8 @@ module _ {V : Type 0} {fits : V → ℕ → Type 0} where
 
   -- the rule speaks of views only by the parts of all and by what is known to be out
   kept-views : (s : State (Option V) Holding) → IsKept fits s → (views : List Holding)
-      → total (λ v. v.parts) views ≡ total (λ v. v.parts) s.views
-      → ((n : ℕ) → total (held_at n) s.views ≤ total (held_at n) views)
+      → total_over (λ v. v.parts) views ≡ total_over (λ v. v.parts) s.views
+      → ((n : ℕ) → total_over (held_at n) s.views ≤ total_over (held_at n) views)
       → IsKept fits record { words = s.words; homes = s.homes; views = views }
   kept-views s kept views same more = record {
     wide = kept.wide;
@@ -166,26 +167,26 @@ module _ {V : Type 0} {fits : V → ℕ → Type 0} where
 
   -- one part of a seat may go to a new one
   pub share-allowed : (id : ℕ) (v : Holding) → 1 < v.parts
-      → Splits (IsKept fits) id v (less_one_part v) one_part
+      → Splits (IsKept fits) id v (less_one_share v) one_share
   share-allowed id v some_parts s kept mine =
-      let left = less_one_part v in let vs : List Holding = set s.views id left in
-      kept-views s kept (vs ++ one_part ∷ [])
+      let left = less_one_share v in let vs : List Holding = set s.views id left in
+      kept-views s kept (vs ++ one_share ∷ [])
       (let t = total-set (λ (u : Holding). u.parts) s.views id v left mine in
-      let q = total-push (λ (u : Holding). u.parts) vs one_part in omega arith)
+      let q = total-push (λ (u : Holding). u.parts) vs one_share in omega arith)
       (λ n. let t = total-set (held_at n) s.views id v left mine in
-      let q = total-push (held_at n) vs one_part in
+      let q = total-push (held_at n) vs one_share in
       let l = held_at-le n v left (λ p. omega arith) (omega arith) in omega arith)
 
   -- a seat may take in the parts of another, which holds nothing
   pub gather-allowed : (id : ℕ) (v : Holding) (other : ℕ) (w : Holding) → w.held ≡ []
-      → Joins (IsKept fits) id v other w (with_parts_of v w) no_part
+      → Joins (IsKept fits) id v other w (with_shares_of v w) no_share
   gather-allowed id v other w bare s kept mine apart theirs =
-      let both = with_parts_of v w in let vs : List Holding = set s.views id both in
-      kept-views s kept (set vs other no_part)
+      let both = with_shares_of v w in let vs : List Holding = set s.views id both in
+      kept-views s kept (set vs other no_share)
       (let t = total-set (λ (u : Holding). u.parts) s.views id v both mine in
-      let q = total-set (λ (u : Holding). u.parts) vs other w no_part theirs in omega arith)
+      let q = total-set (λ (u : Holding). u.parts) vs other w no_share theirs in omega arith)
       (λ n. let t = total-set (held_at n) s.views id v both mine in
-      let q = total-set (held_at n) vs other w no_part theirs in
+      let q = total-set (held_at n) vs other w no_share theirs in
       let l = held_at-le n v both (λ p. omega arith) (omega arith) in
       let b = nothing-held n w bare in omega arith)
 
@@ -216,7 +217,7 @@ module _ {V : Type 0} {fits : V → ℕ → Type 0} where
 
   -- where one seat has all parts and holds nothing, each place has a value that fits it
   pub fit-final : (ws : List ℕ) (xs : List (Option V)) (id : ℕ) (v : Holding)
-      → Final (Seen (IsKept fits) id v) ws xs → v.parts ≡ all_parts → v.held ≡ []
+      → Final (Seen (IsKept fits) id v) ws xs → v.parts ≡ all_shares → v.held ≡ []
       → SlotsFit fits (length xs) xs
   fit-final ws xs id v f all bare n less = let s = f.0 in let kept = f.1.0 in ⊎_elim
       (λ (t : IsHome fits s n). (t.value, f.4 n (Some t.value) t.here, t.fitting))

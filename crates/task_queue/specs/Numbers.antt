@@ -15,11 +15,11 @@ abbrev pub once_below : ℕ → ℕ → ℕ
 once_below n count = cond (nat_lt n count) 1 0
 
 -- the list with each n taken out
-abbrev pub without : ℕ → List ℕ → List ℕ
-without n [] = []
-without n (x ∷ xs) = cond (n == x) (without n xs) (x ∷ without n xs)
+abbrev pub without_each : ℕ → List ℕ → List ℕ
+without_each n [] = []
+without_each n (x ∷ xs) = cond (n == x) (without_each n xs) (x ∷ without_each n xs)
 
 -- what f gives for each, added up
-abbrev pub total : {V : Type 0} → (V → ℕ) → List V → ℕ
-total f [] = 0
-total f (v ∷ vs) = f v + total f vs
+abbrev pub total_over : {V : Type 0} → (V → ℕ) → List V → ℕ
+total_over f [] = 0
+total_over f (v ∷ vs) = f v + total_over f vs

@@ -11,8 +11,8 @@ abbrev pub put_by : QueuePass → List ℕ
 put_by p = (passes.view p.pass).put
 
 -- the numbers that were taken through the pass, in order
-abbrev pub taken_by : QueuePass → List ℕ
-taken_by p = (passes.view p.pass).taken
+abbrev pub taken_through : QueuePass → List ℕ
+taken_through p = (passes.view p.pass).taken
 
 abbrev pub capacity_of : TaskQueue → ℕ
 capacity_of q = passes.ruled_capacity q.queue
@@ -22,7 +22,7 @@ IsPassOf q p = passes.IsPassOf q.queue p.pass
 
 -- a pass of the queue through which nothing has gone
 abbrev pub IsNewPassOf : TaskQueue → QueuePass → Type 0
-IsNewPassOf q p = IsPassOf q p × (put_by p ≡ []) × (taken_by p ≡ [])
+IsNewPassOf q p = IsPassOf q p × (put_by p ≡ []) × (taken_through p ≡ [])
 
 -- it is a pass of the same queue, with the same number
 abbrev pub IsSamePass : QueuePass → QueuePass → Type 0

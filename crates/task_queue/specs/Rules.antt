@@ -5,15 +5,15 @@ use mathlib.Core.Option.{some}
 use lib.ListN.{get_elem?}
 use Rattle.atomic_table.specs.Table.{State}
 use Rattle.task_queue.specs.declared.seat.Holding.{Holding}
-use Rattle.task_queue.specs.Numbers.{times, total}
+use Rattle.task_queue.specs.Numbers.{times, total_over}
 
 -- the parts of all seats together
-abbrev pub all_parts : ℕ
-all_parts = 4294967296
+abbrev pub all_shares : ℕ
+all_shares = 4294967296
 
 -- what the first seat knows
 abbrev pub whole_holding : Holding
-whole_holding = record { parts = all_parts; held = [] }
+whole_holding = record { parts = all_shares; held = [] }
 
 -- how often a seat with a part of the shelf holds the place
 abbrev pub held_at : ℕ → Holding → ℕ
@@ -28,11 +28,11 @@ module _ {V : Type 0} where
 
   pub record IsOut (s : State (Option V) Holding) (n : ℕ) : Type 0 where
     pub word : slice_index s.words (n + 1) ≡ 0
-    pub known : 1 ≤ total (held_at n) s.views
+    pub known : 1 ≤ total_over (held_at n) s.views
 
   pub record IsKept (fits : V → ℕ → Type 0) (s : State (Option V) Holding) : Type 0 where
     pub wide : length s.words ≡ length s.homes + 1
-    pub whole : total (λ v. v.parts) s.views ≡ all_parts
+    pub whole : total_over (λ v. v.parts) s.views ≡ all_shares
     pub places : (n : ℕ) → n < length s.homes → IsHome fits s n ⊎ IsOut s n
 
   -- slot 0 has a list of no values, with room for so many

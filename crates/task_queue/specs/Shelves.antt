@@ -2,8 +2,8 @@
 use Rattle.std.specs.Prelude.{◌≡◌, ◌≢◌, ℕ, List, [], All}
 use Rattle.task_queue.specs.declared.seat.ShelfSeat.{ShelfSeat}
 use Rattle.task_queue.specs.declared.shelf.Shelf.{Shelf}
-use Rattle.task_queue.specs.Numbers.{times, total}
-use Rattle.task_queue.specs.Rules.{all_parts}
+use Rattle.task_queue.specs.Numbers.{times, total_over}
+use Rattle.task_queue.specs.Rules.{all_shares}
 
 module _ {V : Type 0} where
   -- the places whose values the seat holds, each once
@@ -41,4 +41,4 @@ module _ {V : Type 0} where
 
   -- these are all the seats of the shelf, and they hold nothing
   abbrev pub AreAllIdle : Shelf V → List (ShelfSeat V) → Type 0
-  AreAllIdle shelf seats = (total parts seats ≡ all_parts) × All (IsIdleSeatOf shelf) seats
+  AreAllIdle shelf seats = (total_over parts seats ≡ all_shares) × All (IsIdleSeatOf shelf) seats

@@ -2,27 +2,27 @@
 use Rattle.std.specs.Prelude.{◌≡◌, ◌≢◌, ℕ, ◌+◌, ◌-◌, [], ◌∷◌, Option, Some}
 use Rattle.atomic_table.specs.Table.{Me, Step, rest}
 use Rattle.task_queue.specs.declared.seat.Holding.{Holding}
-use Rattle.task_queue.specs.Numbers.{without}
+use Rattle.task_queue.specs.Numbers.{without_each}
 
 abbrev pub taking : ℕ → Holding → Holding
 taking n v = record { parts = v.parts; held = n ∷ v.held }
 
 abbrev pub leaving : ℕ → Holding → Holding
-leaving n v = record { parts = v.parts; held = without n v.held }
+leaving n v = record { parts = v.parts; held = without_each n v.held }
 
 -- a seat without one part, and a seat with just that part
-abbrev pub less_one_part : Holding → Holding
-less_one_part v = record { parts = v.parts - 1; held = v.held }
+abbrev pub less_one_share : Holding → Holding
+less_one_share v = record { parts = v.parts - 1; held = v.held }
 
-abbrev pub one_part : Holding
-one_part = record { parts = 1; held = [] }
+abbrev pub one_share : Holding
+one_share = record { parts = 1; held = [] }
 
 -- a seat with the parts of both, and a seat with none
-abbrev pub with_parts_of : Holding → Holding → Holding
-with_parts_of v w = record { parts = v.parts + w.parts; held = v.held }
+abbrev pub with_shares_of : Holding → Holding → Holding
+with_shares_of v w = record { parts = v.parts + w.parts; held = v.held }
 
-abbrev pub no_part : Holding
-no_part = record { parts = 0; held = [] }
+abbrev pub no_share : Holding
+no_share = record { parts = 0; held = [] }
 
 module _ {V : Type 0} where
   -- the value of the place n went from its home to the seat

@@ -1,6 +1,6 @@
 -- What a worker has of a queue.
 use Rattle.std.specs.Prelude.{◌≡◌, ◌⊎◌, ◌==◌, ◌||◌, ◌&&◌, ◌++◌, ◌∷◌, [], ℕ, Bool, List, None, Option, Some, false, true, not, slice_index_or}
-use Rattle.task_queue.specs.Queues.{WasAt, capacity_of, put_by, taken_by}
+use Rattle.task_queue.specs.Queues.{WasAt, capacity_of, put_by, taken_through}
 use Rattle.task_queue.specs.declared.queue.TaskQueue.{TaskQueue}
 use Rattle.task_queue.specs.declared.tasks.WorkerTasks.{WorkerTasks}
 
@@ -12,31 +12,31 @@ abbrev pub KeepsNone : WorkerTasks → Type 0
 KeepsNone w = (n : ℕ) → keeps w n ≡ false
 
 -- besides what it kept, the worker keeps n
-abbrev pub Keeps : ℕ → WorkerTasks → WorkerTasks → Type 0
-Keeps n old new = (m : ℕ) → keeps new m ≡ (n == m) || keeps old m
+abbrev pub KeepsNumber : ℕ → WorkerTasks → WorkerTasks → Type 0
+KeepsNumber n old new = (m : ℕ) → keeps new m ≡ (n == m) || keeps old m
 
 -- of what it kept, the worker keeps n no more
 pub record LetsGo (n : ℕ) (old new : WorkerTasks) : Type 0 where
   pub kept : keeps old n ≡ true
   pub left : (m : ℕ) → keeps new m ≡ not (n == m) && keeps old m
 
-abbrev pub KeepsSame : WorkerTasks → WorkerTasks → Type 0
-KeepsSame old new = (m : ℕ) → keeps new m ≡ keeps old m
+abbrev pub KeepsSameNumbers : WorkerTasks → WorkerTasks → Type 0
+KeepsSameNumbers old new = (m : ℕ) → keeps new m ≡ keeps old m
 
 -- n was put into the queue
 pub record IsPut (n : ℕ) (old new : WorkerTasks) : Type 0 where
   pub put : put_by new.pass ≡ put_by old.pass ++ n ∷ []
-  pub kept : KeepsSame old new
+  pub kept : KeepsSameNumbers old new
 
 -- the queue was full at a moment, and n stays with the worker
 pub record IsGivenBack (q : TaskQueue) (n : ℕ) (old new : WorkerTasks) : Type 0 where
   pub put : put_by new.pass ≡ put_by old.pass
-  pub kept : Keeps n old new
+  pub kept : KeepsNumber n old new
   pub full : WasAt (capacity_of q) old.pass
 
 -- n was put into the queue or is kept, and nothing that was kept is lost
 pub record IsOffered (q : TaskQueue) (n : ℕ) (old new : WorkerTasks) : Type 0 where
-  pub taken : taken_by new.pass ≡ taken_by old.pass
+  pub taken : taken_through new.pass ≡ taken_through old.pass
   pub went : IsPut n old new ⊎ IsGivenBack q n old new
 
 -- each of the numbers was put or is kept, in their order
@@ -46,32 +46,32 @@ pub data AreOffered (q : TaskQueue) (old : WorkerTasks) : List ℕ → WorkerTas
       → IsOffered q n mid new → AreOffered q old (ns ++ n ∷ []) new
 
 -- numbers were offered, and that is all
-abbrev pub Offers : TaskQueue → WorkerTasks → WorkerTasks → Type 0
-Offers q old new = (ns : List ℕ) × AreOffered q old ns new
+abbrev pub OffersNumbers : TaskQueue → WorkerTasks → WorkerTasks → Type 0
+OffersNumbers q old new = (ns : List ℕ) × AreOffered q old ns new
 
 -- n was taken out of the queue, where nothing was kept
 pub record IsTaken (n : ℕ) (old new : WorkerTasks) : Type 0 where
   pub bare : KeepsNone old
-  pub taken : taken_by new.pass ≡ taken_by old.pass ++ n ∷ []
+  pub taken : taken_through new.pass ≡ taken_through old.pass ++ n ∷ []
   pub kept : KeepsNone new
 
 -- n was kept, and is no longer
 pub record IsLeftover (n : ℕ) (old new : WorkerTasks) : Type 0 where
-  pub taken : taken_by new.pass ≡ taken_by old.pass
+  pub taken : taken_through new.pass ≡ taken_through old.pass
   pub kept : LetsGo n old new
 
 -- nothing was kept, and the queue was empty at a moment
 pub record IsIdle (old new : WorkerTasks) : Type 0 where
   pub bare : KeepsNone old
-  pub taken : taken_by new.pass ≡ taken_by old.pass
+  pub taken : taken_through new.pass ≡ taken_through old.pass
   pub kept : KeepsNone new
   pub empty : WasAt 0 old.pass
 
-abbrev pub GivesNumber : Option ℕ → WorkerTasks → WorkerTasks → Type 0
-GivesNumber None old new = IsIdle old new
-GivesNumber (Some n) old new = IsLeftover n old new ⊎ IsTaken n old new
+abbrev pub GivesTaskNumber : Option ℕ → WorkerTasks → WorkerTasks → Type 0
+GivesTaskNumber None old new = IsIdle old new
+GivesTaskNumber (Some n) old new = IsLeftover n old new ⊎ IsTaken n old new
 
 -- what a worker gives next: a number that it kept, else one that it took
-pub record Gives (r : Option ℕ) (old new : WorkerTasks) : Type 0 where
+pub record GivesTask (r : Option ℕ) (old new : WorkerTasks) : Type 0 where
   pub put : put_by new.pass ≡ put_by old.pass
-  pub number : GivesNumber r old new
+  pub number : GivesTaskNumber r old new

@@ -8,18 +8,21 @@
 //! trait `Placed` of its type says.
 //!
 //! - `queue.rt`: the queue, its rule and its passes
+//! - `bell.rt`: where those who find no number sleep
 //! - `tasks.rt`: what a worker has of a queue
 //! - `shelf.rt`: the shelf and its calls
 //! - `seat.rt`: the rule of a shelf, its seats, and what each of their steps tells
 //! - `layout.rt`: how values lie in slots, and the room that is kept for `clear`
 #![tactic(auto)]
 
+mod bell;
 mod layout;
 mod queue;
 mod seat;
 mod shelf;
 mod tasks;
 
+pub use bell::Bell;
 pub use queue::{QueuePass, TaskQueue};
 pub use seat::ShelfSeat;
 pub use shelf::{Placed, Shelf};

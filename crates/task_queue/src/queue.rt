@@ -1,7 +1,8 @@
 //! A queue of numbers whose passes count what goes in and out.
 ghost use Rattle.std.specs.Prelude.{◌≡◌, ◌<◌, ◌++◌, [], ◌∷◌, IfOk, MatchOption, MatchResult};
-ghost use Rattle.task_queue.specs.Queues.{put_by, taken_by, capacity_of, IsPassOf, IsNewPassOf, IsSamePass, WasAt};
+ghost use Rattle.task_queue.specs.Queues.{put_by, taken_through, capacity_of, IsPassOf, IsNewPassOf, IsSamePass, WasAt};
 
+use crate::bell::Bell;
 use crossbeam_queue::protocol::{Lesson, Outcome, Protocol, Split};
 use crossbeam_queue::{Pass, RuledArrayQueue};
 use std::alloc::{AllocError, Global};
@@ -63,10 +64,12 @@ impl Lesson<u32, Passage> for TakeNumber {
     ghost fact = { IsMoment };
 }
 
-/// A queue of numbers with room for a fixed count of them, oldest first.
+/// A queue of numbers with room for a fixed count of them, oldest first, and the bell of those who
+/// sleep until there is one.
 #[derive(Drop)]
 pub struct TaskQueue {
     pub queue: RuledArrayQueue<u32, Passage, Balance>,
+    pub bell: Bell,
 }
 
 /// The right to put numbers into a queue and to take them out, one thread at a time.
@@ -83,7 +86,8 @@ impl TaskQueue {
         ensures pass { IfOk result (λ made. IsNewPassOf made.0 made.1) }
     {
         let (queue, pass) = RuledArrayQueue::ruled(alloc, capacity)?;
-        Ok((TaskQueue { queue }, QueuePass { pass }))
+        let bell = Bell::new();
+        Ok((TaskQueue { queue, bell }, QueuePass { pass }))
     }
 
     /// A further pass. It takes no memory.
@@ -91,7 +95,7 @@ impl TaskQueue {
         requires { IsPassOf self.now from.old }
         ensures same { IsSamePass from.old from.new }
         ensures put { put_by from.new ≡ put_by from.old }
-        ensures taken { taken_by from.new ≡ taken_by from.old }
+        ensures taken { taken_through from.new ≡ taken_through from.old }
         ensures new { IsNewPassOf self.now result }
     {
         QueuePass {
@@ -104,7 +108,7 @@ impl TaskQueue {
     pub fn put<R: Wait>(&self, rt: &R, pass: &mut QueuePass, n: u32) -> Result<(), u32>
         requires { IsPassOf self.now pass.old }
         ensures same { IsSamePass pass.old pass.new }
-        ensures taken { taken_by pass.new ≡ taken_by pass.old }
+        ensures taken { taken_through pass.new ≡ taken_through pass.old }
         ensures put { MatchResult result
             (λ _. put_by pass.new ≡ put_by pass.old ++ n ∷ [])
             (λ back. (back ≡ n) × (put_by pass.new ≡ put_by pass.old)
@@ -120,8 +124,8 @@ impl TaskQueue {
         ensures same { IsSamePass pass.old pass.new }
         ensures put { put_by pass.new ≡ put_by pass.old }
         ensures taken { MatchOption result
-            ((taken_by pass.new ≡ taken_by pass.old) × WasAt 0 pass.old)
-            (λ n. taken_by pass.new ≡ taken_by pass.old ++ n ∷ []) }
+            ((taken_through pass.new ≡ taken_through pass.old) × WasAt 0 pass.old)
+            (λ n. taken_through pass.new ≡ taken_through pass.old ++ n ∷ []) }
     {
         self.queue.pop_as::<TakeNumber, R>(rt, &mut pass.pass)
     }

@@ -45,22 +45,22 @@ impl<V> Play<Option<V>, Holding> for GoHome {
 pub(crate) struct Share;
 
 impl Split<Holding> for Share {
-    ghost use Rattle.task_queue.specs.Steps.{less_one_part, one_part};
+    ghost use Rattle.task_queue.specs.Steps.{less_one_share, one_share};
 
-    ghost left = { less_one_part };
+    ghost left = { less_one_share };
 
-    ghost right = { λ v. one_part };
+    ghost right = { λ v. one_share };
 }
 
 // A seat takes in the parts of another, which holds nothing.
 pub(crate) struct Gather;
 
 impl Join<Holding> for Gather {
-    ghost use Rattle.task_queue.specs.Steps.{with_parts_of, no_part};
+    ghost use Rattle.task_queue.specs.Steps.{with_shares_of, no_share};
 
-    ghost both = { with_parts_of };
+    ghost both = { with_shares_of };
 
-    ghost spent = { no_part };
+    ghost spent = { no_share };
 }
 
 /// The right to take values from a shelf, with the places that it holds. The emptied slot of each

@@ -1,7 +1,7 @@
 //! The shelf and its calls.
 ghost use Rattle.std.specs.Prelude.{◌≡◌, ℕ, ◌<◌, ◌≤◌, ◌+◌, ◌^◌, ◌∷◌, [], length, IfOk, IfErr, IfSome, IfNone, OnErr};
 ghost use Rattle.std.specs.VecDeque.{deque_capacity};
-ghost use Rattle.task_queue.specs.Rules.{all_parts};
+ghost use Rattle.task_queue.specs.Rules.{all_shares};
 ghost use Rattle.task_queue.specs.Values.{AllFit};
 
 use crate::layout::{SpareRoom, give_back, keep_room, lay_out, take_room, unload};
@@ -40,7 +40,7 @@ impl<V: Placed + Send> Shelf<V> {
         requires fit { AllFit V.fits values.items }
         ensures places { IfOk result (λ made. places made.0 ≡ length values.items) }
         ensures seat { IfOk result (λ made. IsIdleSeatOf made.0 made.1) }
-        ensures whole { IfOk result (λ made. parts made.1 ≡ all_parts) }
+        ensures whole { IfOk result (λ made. parts made.1 ≡ all_shares) }
         ensures err { IfErr result (λ back. back.items ≡ values.items) }
     {
         let alloc = *values.allocator();

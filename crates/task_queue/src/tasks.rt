@@ -20,7 +20,7 @@ pub struct WorkerTasks {
 }
 
 impl WorkerTasks {
-    ghost use Rattle.task_queue.specs.Tasks.{Gives, IsOffered, Keeps, KeepsNone, LetsGo};
+    ghost use Rattle.task_queue.specs.Tasks.{GivesTask, IsOffered, KeepsNone, KeepsNumber, LetsGo};
 
     /// A worker's pass, with no number that is kept.
     pub fn new(pass: QueuePass) -> WorkerTasks
@@ -37,15 +37,26 @@ impl WorkerTasks {
     fn keep(&mut self, n: u32)
         requires { n < 256 }
         ensures pass { self.new.pass ≡ self.old.pass }
-        ensures keeps { Keeps n self.old self.new }
+        ensures keeps { KeepsNumber n self.old self.new }
     {
         self.any = true;
         self.kept[n as usize] = true;
     }
 
-    /// Puts a number at the back of the queue. Where the queue is full it stays with the worker:
-    /// this waits for no room.
+    /// Puts a number at the back of the queue, and wakes one who sleeps for want of a number. Where
+    /// the queue is full the number stays with the worker: this waits for no room.
     pub fn offer<R: Wait>(&mut self, rt: &R, queue: &TaskQueue, n: u32)
+        requires pass { IsPassOf queue.now self.old.pass }
+        requires few { n < 256 }
+        ensures pass { IsPassOf queue.now self.new.pass }
+        ensures offered { IsOffered queue.now n self.old self.new }
+    {
+        self.offer_again(rt, queue, n);
+        queue.bell.ring();
+    }
+
+    /// The same for a number that its worker has just had: nobody is woken for it.
+    pub fn offer_again<R: Wait>(&mut self, rt: &R, queue: &TaskQueue, n: u32)
         requires pass { IsPassOf queue.now self.old.pass }
         requires few { n < 256 }
         ensures pass { IsPassOf queue.now self.new.pass }
@@ -81,7 +92,7 @@ impl WorkerTasks {
     pub fn next<R: Wait>(&mut self, rt: &R, queue: &TaskQueue) -> Option<u32>
         requires { IsPassOf queue.now self.old.pass }
         ensures pass { IsPassOf queue.now self.new.pass }
-        ensures next { Gives result self.old self.new }
+        ensures next { GivesTask result self.old self.new }
     {
         match self.next_kept() {
             Some(n) => Some(n),

@@ -1,4 +1,4 @@
-use Rattle.task_queue.proofs.Imports.{All-pop, List, None, ShelfSeat, SlotsFit, Some, [], ap, arith, held, length, map, parts, refl, slots_counts, slots_items, subst, sym, times, total, ◌∙◌, ◌∷◌, ◌≡◌}
+use Rattle.task_queue.proofs.Imports.{All-pop, List, None, ShelfSeat, SlotsFit, Some, [], ap, arith, held, length, map, parts, refl, slots_counts, slots_items, subst, sym, times, total_over, ◌∙◌, ◌∷◌, ◌≡◌}
 use Rattle.task_queue.proofs.Counts.{nil_from_times, total-push}
 use Rattle.task_queue.proofs.ShelfRule.{gather-allowed, fit-final}
 use Rattle.task_queue.proofs.shelf.Shelf.clear.Goals as goal
@@ -12,7 +12,7 @@ loop-next-init g c =
       bare = s.slots ∙ ap (map (λ n. (n, None))) idle.1.1;
       none = nil_from_times s.seat.me.0.held (λ n. s.known n ∙ ap (times n) idle.1.1);
       whole = let t = total-push parts c.pop.new.self.items s in
-          let p = ap (total {V = ShelfSeat g.row.V.Denot} parts) popped in
+          let p = ap (total_over {V = ShelfSeat g.row.V.Denot} parts) popped in
           let w = c.requires.0 in omega arith;
       idle = idle.0;
     }
@@ -39,7 +39,7 @@ loop-next-preserved g c =
       bare = ap (λ m. m.1) did.2 ∙ inv.bare;
       none = ap (λ m. m.0.held) did.2 ∙ inv.none;
       whole = let t = total-push parts c.pop-in-loop-next.new.self.items s in
-          let q = ap (total {V = ShelfSeat g.row.V.Denot} parts) popped in
+          let q = ap (total_over {V = ShelfSeat g.row.V.Denot} parts) popped in
           let w = inv.whole in let p = ap (λ m. m.0.parts) did.2 in omega arith;
       idle = (All-pop (λ u. (u.seat.table_id ≡ c.args.self.table.shared.table_id) × (held u ≡ []))
           c.loop-next.seats.items c.pop-in-loop-next.new.self.items (Some s) popped inv.idle).0;
@@ -56,6 +56,6 @@ unload-requires-clause-fit g c =
     subst (λ k. SlotsFit g.V.Placed.fits k (slots_items slots)) (sym (slots_counts slots).0)
     (fit-final _ _ _ _ c.close_with.ensures.values.2 (omega arith) inv.none)
   where
-    nobody : (ss : List (ShelfSeat g.row.V.Denot)) → length ss ≡ 0 → total parts ss ≡ 0
+    nobody : (ss : List (ShelfSeat g.row.V.Denot)) → length ss ≡ 0 → total_over parts ss ≡ 0
     nobody [] none = refl
     nobody (s ∷ ss) none = absurd (omega arith)

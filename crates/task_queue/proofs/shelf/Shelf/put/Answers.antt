@@ -1,4 +1,4 @@
-use Rattle.task_queue.proofs.Imports.{Allows, IsKept, None, Returns, ap, arith, drop, map, none, once_below, refl, rest, step, subst, sym, times, without, ◌+◌, ◌∙◌}
+use Rattle.task_queue.proofs.Imports.{Allows, IsKept, None, Returns, ap, arith, drop, map, none, once_below, refl, rest, step, subst, sym, times, without_each, ◌+◌, ◌∙◌}
 use Rattle.task_queue.proofs.Counts.{below_from_once, times-both_without}
 use Rattle.task_queue.proofs.ShelfRule.{return-allowed}
 use Rattle.task_queue.proofs.shelf.Shelf.put.Goals as goal
@@ -33,7 +33,7 @@ invariant_of-seat g c =
       once = λ m. let a = ap (times m) left in let f = ap (times m) first.1 in let o = b.once m in
           let i = ap (λ t. once_below m t.slots) id in omega arith;
       known = λ m. let a = ap (times m) left in let v = ap (λ x. times m x.0.held) did in
-          let w = ap (λ x. times m (without c.args.n x.0.held)) swapped in
+          let w = ap (λ x. times m (without_each c.args.n x.0.held)) swapped in
           let one = c.bring_to_front.ensures.same c.args.n in let h = c.requires.holds in
           let k = times-both_without c.args.n b.seat.me.0.held b.held.items first.0 b.known first.1
           (omega arith) m in omega arith;
