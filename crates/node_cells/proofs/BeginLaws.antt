@@ -1,5 +1,5 @@
 -- A node with a token begins: where its word was 0 the token is spent.
-use Rattle.node_cells.proofs.Imports.{Identity, is_over_stage, is_unborn_stage, stage_at, Answer, Bool, BoxPicture, IsSeatOf, Makes, MakesUpdated, NodeCell, NodeHolds, NodeMark, NodePorts, NodeSeat, NodeView, None, SeatState, ap, arith, cases_Bool, cases_lt, cond, eq-eqb, eqb-true, false, inl, inr, is_set, ne_eqb, node_at, nothing, ports_picture, refl, spent, state-made, state_taken, subst, sym, true, updated, view, ℕ, ◌+◌, ◌-◌, ◌/◌, ◌%◌, ◌^◌, ◌∙◌, ◌≡◌, ◌≢◌, ◌≤◌}
+use Rattle.node_cells.proofs.Imports.{Identity, is_over_stage, is_unborn_stage, stage_at, StepAnswer, Bool, BoxPicture, IsSeatOf, MakesStep, MakesUpdated, NodeCell, CellNodeHolds, NodeMark, NodePorts, NodeSeat, NodeView, None, SeatState, ap, arith, cases_Bool, cases_lt, cond, eq-eqb, eqb-true, false, inl, inr, is_set, ne_eqb, node_at, nothing, ports_picture, refl, spent, state-made, state_taken, subst, sym, true, updated, view, ℕ, ◌+◌, ◌-◌, ◌/◌, ◌%◌, ◌^◌, ◌∙◌, ◌≡◌, ◌≢◌, ◌≤◌}
 use Rattle.exec_table.proofs.Ends.{number-made, stage-made}
 use Rattle.node_cells.proofs.RestLaws.{due-node, quiet-node, taken-node}
 use Rattle.node_cells.proofs.UpdatedLaws.{high-bits, low-bits}
@@ -9,15 +9,15 @@ use Rattle.exec_table.specs.Seats.{updated_of}
 use Rattle.exec_table.specs.declared.types.Updated.{Updated}
 use Rattle.exec_table.specs.declared.types.Stage.{Stage}
 use Rattle.exec_table.specs.declared.types.Stage.TheVariants.{Begun}
-use Rattle.core_laws.specs.Laws.{is_named}
+use Rattle.core_laws.specs.Laws.{is_node_bit}
 use Rattle.core_laws.specs.declared.types.Step.TheVariants as step
-use Rattle.exec_laws.specs.declared.edges.NodeState.TheVariants as node
+use Rattle.exec_laws.specs.declared.edges.NodeStatus.TheVariants as node
 use Rattle.std.specs.Int.{bit_at}
 use Rattle.std.proofs.lemmas.Nat.Bits.{bit_at-lt, bit_at-zero, same_from_bits}
 
 -- ---- a word without bits
 
-named-high : (i : ℕ) → 48 ≤ i → is_named i ≡ true → i ≢ 60 → i ≢ 61 → i ≢ 62 → i ≢ 63 → ⊥
+named-high : (i : ℕ) → 48 ≤ i → is_node_bit i ≡ true → i ≢ 60 → i ≢ 61 → i ≢ 62 → i ≢ 63 → ⊥
 named-high i le n a b c d = absurd (grind (
   arith,
   n,
@@ -34,7 +34,7 @@ unset w i h = let l = bit_at-lt w i in let ne : bit_at w i ≢ 1 = (λ e. let z 
 
 pub zero-word : (w : ℕ) → w % 2 ^ 32 ≡ 0 → w / 2 ^ 32 % 2 ^ 16 ≡ 0 → is_set w 60 ≡ false
     → is_set w 61 ≡ false → is_set w 62 ≡ false → is_set w 63 ≡ false
-    → ((k : ℕ) → is_set w k ≡ true → is_named k ≡ true) → w ≡ 0
+    → ((k : ℕ) → is_set w k ≡ true → is_node_bit k ≡ true) → w ≡ 0
 zero-word w low high first unborn held over named = same_from_bits w 0 (λ i. bit i ∙ sym
     (bit_at-zero i))
   where
@@ -66,16 +66,16 @@ zero-word w low high first unborn held over named = same_from_bits w 0 (λ i. bi
 
 -- ---- begin
 
-abbrev answer-word : Answer → ℕ
+abbrev answer-word : StepAnswer → ℕ
 answer-word (updated w) = w
 answer-word a = 0
 
-pub record IsFree (s : NodeSeat) : Type 0 where
+pub record IsFreeNode (s : NodeSeat) : Type 0 where
   pub free : (view s).state.held ≡ false
   pub born : is_unborn_stage (view s).stage ≡ false
   pub going : is_over_stage (view s).stage ≡ false
 
-module _ {t : Identity} {old new : NodeSeat} (o : IsSeatOf t old) (f : IsFree old) (u : Updated)
+module _ {t : Identity} {old new : NodeSeat} (o : IsSeatOf t old) (f : IsFreeNode old) (u : Updated)
     (m : MakesUpdated t old new step.Begin u) where
   abbrev n : ℕ
   n = (view old).number
@@ -152,16 +152,17 @@ module _ {t : Identity} {old new : NodeSeat} (due : Bool) (o : IsSeatOf t old)
   ]
 
   back-node : (b : BoxPicture) (m : NodeMark) (p : NodePorts)
-      → NodeHolds b m (ports_picture p old) → NodeHolds b m (ports_picture p new)
+      → CellNodeHolds b m (ports_picture p old) → CellNodeHolds b m (ports_picture p new)
   back-node b m p h = elim (cases_Bool due) [
     | inl q ↦ quiet-node b m p h o (w.took q) refl (λ _. refl) refl
-    | inr q ↦ subst (λ s. NodeHolds b m (ports_picture p s)) (sym (w.left q)) h
+    | inr q ↦ subst (λ s. CellNodeHolds b m (ports_picture p s)) (sym (w.left q)) h
   ]
 
 module _ {P : Type 0} (seen : P → BoxPicture) (t : Identity) (old : NodeCell P)
-    (h : MayBegin seen t old) (a b : NodeSeat) (i : Makes t old.seat a step.TokenIn None nothing)
+    (h : MayBegin seen t old) (a b : NodeSeat)
+    (i : MakesStep t old.seat a step.TokenIn None nothing)
     (u : Updated) (m : MakesUpdated t a b step.Begin u) where
-  free : IsFree a
+  free : IsFreeNode a
   free = record {
     free = ap (λ (z : SeatState). z.held) (state-made h.cell.seat i) ∙ h.free;
     born = ap is_unborn_stage (stage-made h.cell.seat i) ∙ h.born;
@@ -185,7 +186,7 @@ module _ {P : Type 0} (seen : P → BoxPicture) (t : Identity) (old : NodeCell P
     pub begun-number : (view c).number ≡ (view old.seat).number
     begun-number = backed.number ∙ (number-made i.seat m.makes ∙ number-made h.cell.seat i)
 
-    begun-node : (v : Updated) → IsMerged old.ports.updated u v → NodeHolds (seen old.processor)
+    begun-node : (v : Updated) → IsMerged old.ports.updated u v → CellNodeHolds (seen old.processor)
         old.mark (ports_picture (record old.ports { updated = v }) c)
     begun-node v merged = let p = seen old.processor in
         back-node (is_named_by u) m.makes.seat w tokens-out p old.mark

@@ -1,5 +1,5 @@
 -- A node that was charged is one of the table's.
-use Rattle.node_cells.proofs.Imports.{Board, Bool, Identity, Lane, Makes, None, NodePorts, NodeSeat, NodeView, IsPort, Option, Port, PortsHold, PortsPicture, SamePorts, Some, Wire, ap, arith, edge_of, end_for, end_of_view, false, is_own_port, knows, lane_at, length, node_at, port_at, ports_picture, refl, subst, sym, true, view, view-end, ℕ, ◌<◌, ◌∙◌, ◌≡◌, ◌≤◌}
+use Rattle.node_cells.proofs.Imports.{Board, Bool, Identity, Lane, MakesStep, None, NodePorts, NodeSeat, NodeView, IsPort, Option, Port, PortsHold, PortsPicture, SamePorts, Some, Wire, ap, arith, edge_of, end_for, end_of_view, false, is_own_port, knows, lane_at, length, node_at, port_at, ports_picture, refl, subst, sym, true, view, view-end, ℕ, ◌<◌, ◌∙◌, ◌≡◌, ◌≤◌}
 use Rattle.exec_table.specs.Boards.{Holds, node_view}
 use Rattle.core_laws.specs.Views.{wire_ok}
 use Rattle.core_laws.specs.declared.types.Sizes.{Sizes}
@@ -38,7 +38,7 @@ view-wire b h n e w at =
 
 -- the node at the other end of a port
 peer-of-port : (t : Identity) (c : PortsPicture) (seat ready : NodeSeat) → c.node ≡ view seat
-    → PortsHold c → Makes t seat ready step.TokenIn None nothing
+    → PortsHold c → MakesStep t seat ready step.TokenIn None nothing
     → (p : Port) → is_own_port c p → port_edge c.sources c.targets p < t.sizes.nodes
 peer-of-port t c seat ready is h m p own =
     let k : PortKnown c p = h.known p own in

@@ -9,6 +9,7 @@ pub mod BeginLaws
 pub mod WorkLaws
 pub mod ChargeLaws
 pub mod QueueLaws
+pub mod VisitLaws
 mod SizeLaws
 mod NewPorts
 mod NewCells

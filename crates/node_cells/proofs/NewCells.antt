@@ -1,21 +1,21 @@
 -- The cells of a new table: one of a fresh processor may begin, and one of a blank one is kept.
-use Rattle.node_cells.proofs.Imports.{BoxHolds, BoxPicture, Identity, Input, IsPort, List, Lists, MarkHolds, NodeCell, NodeHolds, NodeView, Output, Picture, Port, SeatState, Wire, [], ap, arith, cases_Bool, cell_ports, cond, eq-eqb, false, identity_of, inl, inr, input_count, is_over_stage, is_unborn_stage, length, length-map, output_count, refl, subst, sym, true, view, wire_at, ℕ, ◌++◌, ◌<◌, ◌∙◌, ◌≡◌, ◌⊎◌}
+use Rattle.node_cells.proofs.Imports.{BoxHolds, BoxPicture, Identity, Input, IsPort, List, Lists, MarkHolds, NodeCell, CellNodeHolds, NodeView, Output, Picture, Port, SeatState, Wire, [], ap, arith, cases_Bool, cell_ports, cond, eq-eqb, false, identity_of, inl, inr, input_count, is_over_stage, is_unborn_stage, length, length-map, output_count, refl, subst, sym, true, view, wire_at, ℕ, ◌++◌, ◌<◌, ◌∙◌, ◌≡◌, ◌⊎◌}
 use Rattle.core_laws.specs.Start.{start_node}
 use Rattle.core_laws.specs.declared.types.Sizes.{Sizes}
 use Rattle.exec_laws.proofs.Starting.{new-node}
 use Rattle.exec_laws.specs.Names.{AreEdgesOf, new_mark}
 use Rattle.exec_laws.specs.Prelude.{IsBlank, IsFresh, Reserve, new_picture, no_box, no_lists}
 use Rattle.exec_laws.specs.declared.edges.NodeMark.{NodeMark}
-use Rattle.exec_laws.specs.declared.edges.NodeState.TheVariants as node
-use Rattle.exec_table.specs.Made.{IsMade, IsOpen}
+use Rattle.exec_laws.specs.declared.edges.NodeStatus.TheVariants as node
+use Rattle.exec_table.specs.Made.{IsNewTable, IsOpen}
 use Rattle.exec_table.specs.Rule.{start_stage}
-use Rattle.exec_table.specs.Seats.{IsRootOf, key_of}
+use Rattle.exec_table.specs.Seats.{IsRootOf, sizes_in}
 use Rattle.exec_table.specs.declared.make.Made.{Made}
 use Rattle.exec_table.specs.declared.rule.ExecTable.{ExecTable}
 use Rattle.exec_table.specs.declared.rule.RootSeat.{RootSeat}
 use Rattle.exec_table.specs.declared.types.Stage.TheVariants.{Begun, Born, Unborn}
 use Rattle.node_cells.proofs.NewPorts.{new-edges, new-ports, new_ports_picture, nothing-pulled, nothing-pushed, state-start}
-use Rattle.node_cells.specs.NewCells.{AreNewCells, AreNewNodes, AreNewPorts, Fills, HasPorts, HasWire, IsGraphOf, IsNewCell, IsNewNode, ends_at, first_mark, node_of_cell, sizes_of}
+use Rattle.node_cells.specs.NewCells.{AreNewCells, AreNewNodes, AreNewPorts, Fills, HasEdgeAt, HasPortsWithinLimits, IsGraphOfNodes, IsNewCell, IsNewNodeAt, ends_at, first_mark, node_of_cell, sizes_of}
 use Rattle.node_cells.specs.Stored.{IsKept, StoredAs}
 use Rattle.node_cells.specs.Turns.{MayBegin}
 use Rattle.node_cells.specs.declared.new_cells.Cells.{Cells}
@@ -30,7 +30,7 @@ use Rattle.std.proofs.lemmas.List.FromFn.{get_or-map-range_with_len}
 use mathlib.Core.Option.{some, some-injective, some-ne-none}
 
 module _ {P : Type 0} (seen : P → BoxPicture) (t : Identity)
-    (g : IsGraphOf t.sizes.nodes t.sizes.wires t.sizes.reserves) (n : ℕ)
+    (g : IsGraphOfNodes t.sizes.nodes t.sizes.wires t.sizes.reserves) (n : ℕ)
     (inside : n < t.sizes.nodes) (x : NodeCell P) (seat : IsOpen t n x.seat)
     (new : AreNewPorts t.sizes.wires n x.ports) where
   abbrev box : BoxPicture
@@ -69,8 +69,9 @@ module _ {P : Type 0} (seen : P → BoxPicture) (t : Identity)
     outputs = x.ports.outputs.items;
   }) fresh (record { view = refl; mark = refl; numbers = new-numbers })).box
 
-  fresh-node : IsFresh box → (m : NodeMark) → m.state ≡ node.Due → NodeHolds box m (cell_ports x)
-  fresh-node fresh m due = subst (NodeHolds box m) (sym first-ports) record {
+  fresh-node : IsFresh box → (m : NodeMark) → m.state ≡ node.Due
+      → CellNodeHolds box m (cell_ports x)
+  fresh-node fresh m due = subst (CellNodeHolds box m) (sym first-ports) record {
     ports = new-ports t.sizes n inside g _ _ _ _ new.inputs new.outputs;
     box = subst (λ (z : ℕ × (ℕ × (Lists × Lists))). BoxHolds z.0 z.1.0 box z.1.1.0 z.1.1.1) (λ j. (
       sym new.inputs.edges_len j,
@@ -158,19 +159,20 @@ elem-or (y ∷ ys) (suc k) x d h = elem-or ys k x d h
 
 pub cells-made : {P : Type 0} (seen : P → BoxPicture) (boxes : List P) (wires : List Wire)
     (reserves : List Reserve) (workers : ℕ) (nodes : List NewNode) (m : Made) (c : Cells P)
-    → IsGraphOf (length boxes) wires reserves → AreStarting reserves (map seen boxes)
+    → IsGraphOfNodes (length boxes) wires reserves → AreStarting reserves (map seen boxes)
     → AreNewNodes wires reserves nodes
-    → IsMade (sizes_of (length boxes) wires reserves workers) m → c.table ≡ m.table
+    → IsNewTable (sizes_of (length boxes) wires reserves workers) m → c.table ≡ m.table
     → c.root ≡ m.root → Fills c.cells.items boxes nodes m.nodes.items
     → AreNewCells seen (sizes_of (length boxes) wires reserves workers) boxes c
 cells-made {P} seen boxes wires reserves workers nodes m c g starting new made table root fills =
     record {
-      key = ap key_of table ∙ made.key;
+      key = ap sizes_in table ∙ made.key;
       root = subst (λ (z : ExecTable × RootSeat). IsRootOf (identity_of z.0) z.1)
           (λ j. (sym table j, sym root j)) made.root;
       none_made = ap (λ (z : RootSeat). z.seat.me.0.made) root ∙ made.none_made;
       processors = fills.processors;
-      each = λ k x is. new-cell seen t (subst (λ (s : Sizes). IsGraphOf s.nodes s.wires s.reserves)
+      each = λ k x is. new-cell seen t
+          (subst (λ (s : Sizes). IsGraphOfNodes s.nodes s.wires s.reserves)
           (sym sizes) g) k (inside k x is) x (seat k x is) (ports k x is) (box k x is)
           (mark k x is);
     }
@@ -179,10 +181,10 @@ cells-made {P} seen boxes wires reserves workers nodes m c g starting new made t
     t = identity_of c.table
 
     sizes : t.sizes ≡ sizes_of (length boxes) wires reserves workers
-    sizes = ap key_of table ∙ made.key
+    sizes = ap sizes_in table ∙ made.key
 
     node-at : (k : ℕ) (x : NodeCell P) → get_elem? c.cells.items k ≡ some x
-        → IsNewNode wires reserves k (node_of_cell x)
+        → IsNewNodeAt wires reserves k (node_of_cell x)
     node-at k x is = new k (node_of_cell x) (subst (λ l. get_elem? l k ≡ some (node_of_cell x))
         fills.nodes_are (elem-map node_of_cell c.cells.items k x is))
 
@@ -237,16 +239,16 @@ last-or (y ∷ ys) a b (suc k) h = elim (last-or ys a b k h) [
 
 -- one more node
 pub more-nodes : (wires : List Wire) (rs : List Reserve) (all : List NewNode) (x : NewNode)
-    → AreNewNodes wires rs all → IsNewNode wires rs (length all) x
+    → AreNewNodes wires rs all → IsNewNodeAt wires rs (length all) x
     → AreNewNodes wires rs (all ++ x ∷ [])
 more-nodes wires rs all x h here k y is = elim (last-or all x y k is) [
   | inl was ↦ h k y was
-  | inr at ↦ subst (λ (z : ℕ × NewNode). IsNewNode wires rs z.0 z.1)
+  | inr at ↦ subst (λ (z : ℕ × NewNode). IsNewNodeAt wires rs z.0 z.1)
       (λ j. (sym at.0 j, at.1 j)) here
 ]
 
 -- a port that has an edge is found
-pub edge-found : (wires : List Wire) (n : ℕ) (p : Port) → HasWire wires n p
+pub edge-found : (wires : List Wire) (n : ℕ) (p : Port) → HasEdgeAt wires n p
     → ((e : ℕ) → e < length wires → ends_at (wire_at wires e) n p ≡ false) → ⊥
 edge-found wires n (Input i) h none = both_ways _ (none h.0 h.1.in_range)
     (and_from _ _ (eq-eqb _ _ h.1.at_port.0) (eq-eqb _ _ h.1.at_port.1))
@@ -254,8 +256,9 @@ edge-found wires n (Output o) h none = both_ways _ (none h.0 h.1.in_range)
     (and_from _ _ (eq-eqb _ _ h.1.at_port.0) (eq-eqb _ _ h.1.at_port.1))
 
 -- the ports of a graph's nodes
-pub graph-ports : (nodes : ℕ) (wires : List Wire) (rs : List Reserve) → IsGraphOf nodes wires rs
-    → (n : ℕ) → HasPorts wires n
+pub graph-ports : (nodes : ℕ) (wires : List Wire) (rs : List Reserve)
+    → IsGraphOfNodes nodes wires rs
+    → (n : ℕ) → HasPortsWithinLimits wires n
 graph-ports nodes wires rs g n = record {
   few_edges = let few = g.graph.so_far.few_edges in omega (arith, few);
   few_inputs = few-inputs g.ranks wires rs g.graph.so_far n;
@@ -263,7 +266,7 @@ graph-ports nodes wires rs g n = record {
   each = each;
 }
   where
-    each : (p : Port) → IsPort (input_count wires n) (output_count wires n) p → HasWire wires n p
+    each : (p : Port) → IsPort (input_count wires n) (output_count wires n) p → HasEdgeAt wires n p
     each (Input i) lt = let w = input-of-count g.ranks wires rs g.graph n i lt in
         (w.edge, record { in_range = w.in_range; at_port = (w.to, w.input_is) })
     each (Output o) lt = let w = output-of-count g.ranks wires rs g.graph n o lt in

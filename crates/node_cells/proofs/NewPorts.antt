@@ -1,8 +1,9 @@
 -- The ports of a new table's node are those of its seat, and nothing passed over them.
-use Rattle.node_cells.proofs.Imports.{Bool, End, HasEdge, Input, IsDifference, IsPort, List, NodeView, None, Option, Output, Picture, Port, PortsHold, PortsPicture, SeatState, Some, Table, Wire, [], ap, arith, cases_Bool, cases_lt, chunks_on, edge_of, edges_of, end_of_view, eq-eqb, eqb-true, false, flags_at, has, has-filter, inl, inr, input_at, input_count, input_seen, is_own_port, knows, length, output_at, output_count, output_seen, pulled_by, pushed_by, pushes_to, refl, shown, subst, sym, taken_out, true, wire_at, ℕ, ◌++◌, ◌+◌, ◌<◌, ◌∙◌, ◌≡◌, ◌≤◌}
+use Rattle.node_cells.proofs.Imports.{Bool, EdgeEnd, HasEdge, Input, IsDifference, IsPort, List, NodeView, None, Option, Output, Picture, Port, PortsHold, PortsPicture, SeatState, Some, Table, Wire, [], ap, arith, cases_Bool, cases_lt, chunks_on, edge_of, edges_of, end_of_view, eq-eqb, eqb-true, false, flags_at, has, has-filter, inl, inr, input_at, input_count, input_seen, is_own_port, knows, length, output_at, output_count, output_seen, pulled_by, pushed_by, pushes_to, refl, shown, subst, sym, taken_out, true, wire_at, ℕ, ◌++◌, ◌+◌, ◌<◌, ◌∙◌, ◌≡◌, ◌≤◌}
 use Rattle.core_laws.proofs.Starts.{learned-start}
-use Rattle.core_laws.specs.Start.{fresh_sight, is_end_among, ports_of, start, start_node, start_port}
-use Rattle.core_laws.specs.Views.{names, no_flags, no_node, no_port}
+use Rattle.core_laws.specs.Start.{fresh_sight, is_end_among, sights_of, start, start_node, start_port}
+use Rattle.core_laws.specs.Views.{names, no_node, no_port}
+use Rattle.port_word.specs.Pictures.{no_flags}
 use Rattle.core_laws.specs.declared.types.Sight.{Sight}
 use Rattle.core_laws.specs.declared.types.Sizes.{Sizes}
 use Rattle.exec_laws.proofs.Seeing.{port-below}
@@ -13,8 +14,8 @@ use Rattle.exec_table.specs.Boards.{end_view, no_end, no_lane, node_view}
 use Rattle.exec_table.specs.Rule.{start_board}
 use Rattle.exec_table.specs.Words.{edge_count}
 use Rattle.node_cells.proofs.SizeLaws.{one-rank}
-use Rattle.node_cells.specs.NewCells.{AreEnds, IsGraphOf, all_updated}
-use Rattle.node_ports.specs.Ports.{HasPortOf, PortKnown, is_updated}
+use Rattle.node_cells.specs.NewCells.{AreEdgesAndPeers, IsGraphOfNodes, all_updated}
+use Rattle.node_ports.specs.Ports.{HasPortOf, PortKnown, is_updated_port}
 use Rattle.port_word.proofs.Fitting.{sound-new}
 use Rattle.port_word.specs.Names.{holds_data}
 use Rattle.proc_api.specs.Names.{no_wire}
@@ -43,7 +44,7 @@ has-range a (suc n) e le lt = grind (arith, le, lt, has-range (a + 1) n e)
 
 -- the wires that name it
 known-start : (n : ℕ) (wires : List Wire) (e : ℕ) → e < length wires
-    → names n (Some (get_or wires e no_wire)) ≡ true → knows e (ports_of n wires) ≡ true
+    → names n (Some (get_or wires e no_wire)) ≡ true → knows e (sights_of n wires) ≡ true
 known-start n wires e lt named =
     let p = is_end_among n wires in
     let all = range_with_len 0 (length wires) in
@@ -80,9 +81,9 @@ module _ (s : Sizes) (n : ℕ) (inside : n < s.nodes) where
 
   chunks-start : (e : ℕ) → (end_of_view here e).chunks ≡ []
   chunks-start e = elim (cases_lt e (edge_count s)) [
-    | inl lt ↦ ap (λ (z : End). z.chunks) (end-start e lt)
+    | inl lt ↦ ap (λ (z : EdgeEnd). z.chunks) (end-start e lt)
         ∙ grind (arith, lane-none (start s).ports e)
-    | inr le ↦ ap (λ (z : End). z.chunks) (get_or_past here.ends e no_end
+    | inr le ↦ ap (λ (z : EdgeEnd). z.chunks) (get_or_past here.ends e no_end
         (let l = length-map-range_with_len (end_view (start_board s) n) 0 (edge_count s) in
         omega (arith, l, le)))
   ]
@@ -103,15 +104,15 @@ module _ (s : Sizes) (n : ℕ) (inside : n < s.nodes) where
       let within : e < edge_count s = omega (arith, lt) in
       let port = get_or-map-range_with_len (start_port s) 0 (edge_count s) e e no_port within
       (omega arith) in
-      ap (λ (z : End). z.wire) (end-start e within)
+      ap (λ (z : EdgeEnd). z.wire) (end-start e within)
       ∙ grind (arith, lt, named, port, knows-start e lt named)
 
 -- ---- the ports
 
-module _ (s : Sizes) (n : ℕ) (inside : n < s.nodes) (g : IsGraphOf s.nodes s.wires s.reserves)
+module _ (s : Sizes) (n : ℕ) (inside : n < s.nodes) (g : IsGraphOfNodes s.nodes s.wires s.reserves)
     (inputs outputs sources targets : List ℕ)
-    (ins : AreEnds s.wires n true (input_count s.wires n) inputs sources)
-    (outs : AreEnds s.wires n false (output_count s.wires n) outputs targets) where
+    (ins : AreEdgesAndPeers s.wires n true (input_count s.wires n) inputs sources)
+    (outs : AreEdgesAndPeers s.wires n false (output_count s.wires n) outputs targets) where
   abbrev many_in : ℕ
   many_in = input_count s.wires n
 
@@ -272,7 +273,7 @@ module _ (s : Sizes) (n : ℕ) (inside : n < s.nodes) (g : IsGraphOf s.nodes s.w
             (ap (λ (v : Picture). (output_at v o).needed) (sym shown-new) ∙ q));
       }
     where
-      each-updated : (p : Port) → is_updated p all_updated ≡ true
+      each-updated : (p : Port) → is_updated_port p all_updated ≡ true
       each-updated (Input i) = refl
       each-updated (Output o) = refl
 

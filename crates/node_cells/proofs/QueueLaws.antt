@@ -1,10 +1,11 @@
 -- Charged nodes are put into the queue, or stay with the worker.
-use Rattle.node_cells.proofs.Imports.{BoxPicture, Identity, NodeCell, [], ap, append-nil, cell_ports, subst, sym, ℕ, ◌++◌, ◌∙◌, ◌≡◌}
-use Rattle.node_cells.specs.Turns.{IsCarried, IsPrepared, Queues, Runs, Stays, runs_more, runs_none, charged_by, charges_more, charges_none}
+use Rattle.node_cells.proofs.Imports.{BoxPicture, Identity, NodeCell, None, Option, [], ap, append-nil, cell_ports, subst, sym, ℕ, ◌++◌, ◌∙◌, ◌≡◌}
+use Rattle.node_cells.specs.Turns.{IsCarried, IsPrepared, Queues, Runs, Stays, TakesTurns, Turn, runs_more, runs_none, charged_by, charges_more, charges_none}
+use Rattle.node_cells.specs.declared.stop_cause.StopCause.{StopCause}
 use Rattle.node_ports.specs.Peers.{CarriesNext}
 use Rattle.node_ports.specs.declared.actions.Carry.{Carry}
 use Rattle.node_ports.specs.declared.actions.Carry.TheVariants as carry
-use Rattle.task_queue.specs.Tasks.{AreOffered, IsOffered, Offers, offered_more, offered_none}
+use Rattle.task_queue.specs.Tasks.{AreOffered, IsOffered, OffersNumbers, offered_more, offered_none}
 use Rattle.proc_api.specs.declared.status.Status.{Status}
 use Rattle.task_queue.proofs.KeptNumbers.{offers-both, offers-none}
 use Rattle.task_queue.specs.declared.queue.TaskQueue.{TaskQueue}
@@ -39,14 +40,13 @@ module _ {P : Type 0} {t : Identity} {q : TaskQueue} {old mid : NodeCell P}
         (sym (ap (λ s. h.charged ++ charged_by s) is)) (offered_more h.offered offered);
   }
 
-module _ {P : Type 0} {seen : P → BoxPicture} {t : Identity} {q : TaskQueue} {old : NodeCell P}
-    {before : WorkerTasks} where
-  -- one more turn after others
-  pub runs-turn : {mid new prepared carried : NodeCell P} {between after : WorkerTasks}
-      {s : Status} → Runs seen t q old before mid between → Stays seen mid prepared
+module _ {P : Type 0} {seen : P → BoxPicture} {t : Identity} {q : TaskQueue} where
+  pub turn-of : {o : Option StopCause} {mid new prepared carried : NodeCell P}
+      {between after : WorkerTasks} {s : Status} → Stays seen None mid prepared
       → IsPrepared seen t prepared s → Queues t q prepared carried between after
-      → IsCarried seen t carried s → Stays seen carried new → Runs seen t q old before new after
-  runs-turn h stays prepares queues carries follows = runs_more h record {
+      → IsCarried seen t carried s → Stays seen o carried new
+      → Turn seen t q o mid new between after
+  turn-of stays prepares queues carries follows = record {
     status = _;
     prepared = _;
     carried = _;
@@ -57,9 +57,19 @@ module _ {P : Type 0} {seen : P → BoxPicture} {t : Identity} {q : TaskQueue} {
     follows = follows;
   }
 
-  -- over all turns nodes were offered, and that is all
-  pub runs-offers : {new : NodeCell P} {after : WorkerTasks}
-      → Runs seen t q old before new after → Offers q before after
-  runs-offers runs_none = offers-none q before
-  runs-offers {after} (runs_more {between} h turn) = offers-both q before between after
-      (runs-offers h) (turn.queues.charged, turn.queues.offered)
+  turn-offers : {o : Option StopCause} {old new : NodeCell P} {before after : WorkerTasks}
+      → Turn seen t q o old new before after → OffersNumbers q before after
+  turn-offers turn = (turn.queues.charged, turn.queues.offered)
+
+  module _ {old : NodeCell P} {before : WorkerTasks} where
+    runs-offers : {new : NodeCell P} {after : WorkerTasks} → Runs seen t q old before new after
+        → OffersNumbers q before after
+    runs-offers runs_none = offers-none q before
+    runs-offers {after} (runs_more {between} h turn) = offers-both q before between after
+        (runs-offers h) (turn-offers turn)
+
+    -- over all turns nodes were offered, and that is all
+    pub turns-offer : {o : Option StopCause} {new : NodeCell P} {after : WorkerTasks}
+        → TakesTurns seen t q o old new before after → OffersNumbers q before after
+    turns-offer {after} h = offers-both q before h.tasks after (runs-offers h.earlier)
+        (turn-offers h.last)

@@ -1,11 +1,11 @@
 -- A node leaves its turn, or begins another.
-use Rattle.node_cells.proofs.Imports.{Answer, Identity, SameLists, is_over_stage, is_unborn_stage, BoxHolds, BoxPicture, InTurn, IsSeatOf, Lists, Makes, MakesUpdated, MarkHolds, NodeCell, NodeHolds, NodeMark, NodePorts, NodeSeat, None, PortsPicture, SeatState, ap, arith, cell_ports, edges_of, false, is_due, is_waiting, length, nothing, ports_picture, refl, state-made, subst, sym, true, updated, view, ℕ, ◌∙◌, ◌≡◌, ◌≢◌}
+use Rattle.node_cells.proofs.Imports.{StepAnswer, Identity, SameLists, is_over_stage, is_unborn_stage, BoxHolds, BoxPicture, InTurn, IsSeatOf, Lists, MakesStep, MakesUpdated, MarkHolds, NodeCell, CellNodeHolds, NodeMark, NodePorts, NodeSeat, None, PortsPicture, SeatState, ap, arith, cell_ports, edges_of, false, is_due, is_waiting, length, nothing, ports_picture, refl, state-made, subst, sym, true, updated, view, ℕ, ◌∙◌, ◌≡◌, ◌≢◌}
 use Rattle.exec_table.proofs.Ends.{stage-made}
 use Rattle.node_cells.proofs.UpdatedLaws.{taken-updated}
 use Rattle.node_ports.proofs.StillLaws.{StaysSeat, still-holds, still-lists, still-quiet, still-seat}
 use Rattle.node_ports.specs.Ports.{IsMerged}
 use Rattle.exec_table.proofs.Hands.{may_learn}
-use Rattle.exec_table.specs.Known.{is_at, stage_after, state_after as seat_after}
+use Rattle.exec_table.specs.Known.{core_state_after as seat_after, is_at, stage_after}
 use Rattle.exec_table.specs.declared.types.Updated.{Updated}
 use Rattle.core_laws.specs.declared.types.Step.{Step}
 use Rattle.std.specs.List.{filter}
@@ -14,13 +14,13 @@ use Rattle.exec_table.specs.declared.types.Stage.{Stage}
 use Rattle.exec_table.specs.declared.types.Stage.TheVariants.{Begun}
 use Rattle.core_laws.specs.Steps.{is_idle, left}
 use Rattle.core_laws.specs.declared.types.Step.TheVariants as step
-use Rattle.exec_laws.specs.declared.edges.NodeState.TheVariants as node
+use Rattle.exec_laws.specs.declared.edges.NodeStatus.TheVariants as node
 use Rattle.proc_api.specs.declared.status.Status.{Status}
 
 -- the node's law stands, where these are the updated ports
 pub still-node : (b : BoxPicture) (m : NodeMark) (p : NodePorts) (u : Updated) (old new : NodeSeat)
-    → NodeHolds b m (ports_picture p old) → StaysSeat p u old new
-    → NodeHolds b m (ports_picture (record p { updated = u }) new)
+    → CellNodeHolds b m (ports_picture p old) → StaysSeat p u old new
+    → CellNodeHolds b m (ports_picture (record p { updated = u }) new)
 still-node b m p u old new h k = record {
   ports = still-holds p u old new h.ports k;
   box = subst (λ (l : Lists × Lists). BoxHolds (length p.inputs.items) (length p.outputs.items) b
@@ -33,29 +33,29 @@ still-node b m p u old new h k = record {
     lists = still-lists p u old new h.ports k
 
 module _ (b : BoxPicture) (m : NodeMark) (p : NodePorts) {t : Identity} {old new : NodeSeat}
-    {s : Step} {a : Answer} (h : NodeHolds b m (ports_picture p old)) (o : IsSeatOf t old)
-    (w : Makes t old new s None a) (plain : may_learn s ≡ false)
+    {s : Step} {a : StepAnswer} (h : CellNodeHolds b m (ports_picture p old)) (o : IsSeatOf t old)
+    (w : MakesStep t old new s None a) (plain : may_learn s ≡ false)
     (nowhere : (d : ℕ) → is_at d s ≡ false) where
   -- after a step of the seat that leaves the same edges unlooked
   pub quiet-node : (seat_after (view old) s a).unlooked ≡ (view old).state.unlooked
-      → NodeHolds b m (ports_picture p new)
+      → CellNodeHolds b m (ports_picture p new)
   quiet-node same = still-node b m p p.updated old new h
       (still-quiet h.ports o w plain nowhere same)
 
 -- after one that takes the node's word, the ports that the word names are updated ones besides
 pub taken-node : (b : BoxPicture) (m : NodeMark) (p : NodePorts) {t : Identity} {old new : NodeSeat}
-    {s : Step} {u : Updated} → NodeHolds b m (ports_picture p old) → IsSeatOf t old
+    {s : Step} {u : Updated} → CellNodeHolds b m (ports_picture p old) → IsSeatOf t old
     → (w : MakesUpdated t old new s u) → may_learn s ≡ false → ((d : ℕ) → is_at d s ≡ false)
     → (seat_after (view old) s (updated w.word)).unlooked
     ≡ filter (is_due (view old) w.word) (edges_of (view old).state.seen)
     → (v : Updated) → IsMerged p.updated u v
-    → NodeHolds b m (ports_picture (record p { updated = v }) new)
+    → CellNodeHolds b m (ports_picture (record p { updated = v }) new)
 taken-node b m p {t} {old} {new} h o w plain nowhere taken v merged = still-node b m p v old new h
     (still-seat o w.makes plain nowhere (taken-updated p h.ports o w taken v merged))
 
 -- and with another mark
-pub due-node : (b : BoxPicture) (m k : NodeMark) (c : PortsPicture) → NodeHolds b m c
-    → m.state ≢ node.Over → k.state ≡ node.Due → NodeHolds b k c
+pub due-node : (b : BoxPicture) (m k : NodeMark) (c : PortsPicture) → CellNodeHolds b m c
+    → m.state ≢ node.Over → k.state ≡ node.Due → CellNodeHolds b k c
 due-node b m k c h busy due = record {
   ports = h.ports;
   box = h.box;
@@ -67,7 +67,7 @@ due-node b m k c h busy due = record {
 
 module _ {P : Type 0} (seen : P → BoxPicture) (t : Identity) (old : NodeCell P) (s : Status)
     (h : IsCarried seen t old s) (mid new : NodeSeat) where
-  abbrev law : NodeHolds (seen old.processor) old.mark (cell_ports old)
+  abbrev law : CellNodeHolds (seen old.processor) old.mark (cell_ports old)
   law = h.prepared.holds.cell.node
 
   abbrev at : IsSeatOf t old.seat
@@ -77,10 +77,10 @@ module _ {P : Type 0} (seen : P → BoxPicture) (t : Identity) (old : NodeCell P
   turn = h.prepared.holds.turn
 
   -- a step by which the node leaves its turn, and the token that it got is taken back
-  pub left-home : {p : Step} {a : Answer} → (m : Makes t old.seat mid p None a)
+  pub left-home : {p : Step} {a : StepAnswer} → (m : MakesStep t old.seat mid p None a)
       → may_learn p ≡ false → ((d : ℕ) → is_at d p ≡ false)
       → seat_after (view old.seat) p a ≡ left 0 (view old.seat).state
-      → Makes t mid new step.TokenOut None nothing → (g : Stage) → stage_after Begun p ≡ g
+      → MakesStep t mid new step.TokenOut None nothing → (g : Stage) → stage_after Begun p ≡ g
       → is_waiting old.mark.state ≡ false → (old.mark.state ≡ node.Resting → g ≡ Begun)
       → (is_over_stage g ≡ true → old.mark.state ≡ node.Over) → is_unborn_stage g ≡ false
       → AtHome seen t (record old { seat = new })
@@ -118,7 +118,7 @@ module _ {P : Type 0} (seen : P → BoxPicture) (t : Identity) (old : NodeCell P
           ∙ (ap (λ g. stage_after g p) h.prepared.holds.stage ∙ staged))
 
   pub rested-due : (v u : Updated) (k : NodeMark)
-      → Makes t old.seat mid step.Rest None (is_idle false)
+      → MakesStep t old.seat mid step.Rest None (is_idle false)
       → MakesUpdated t mid new step.Again u → IsMerged old.ports.updated u v
       → old.mark.state ≡ node.Resting → k.state ≡ node.Due
       → IsDue seen t (record old { seat = new; mark = k; ports = record old.ports { updated = v } })
@@ -149,5 +149,5 @@ module _ {P : Type 0} (seen : P → BoxPicture) (t : Identity) (old : NodeCell P
       state-mid : (view mid).state ≡ (view old.seat).state
       state-mid = state-made at m
 
-      first : NodeHolds (seen old.processor) old.mark (ports_picture old.ports mid)
+      first : CellNodeHolds (seen old.processor) old.mark (ports_picture old.ports mid)
       first = quiet-node (seen old.processor) old.mark old.ports law at m refl (λ _. refl) refl

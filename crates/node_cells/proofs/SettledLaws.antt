@@ -1,10 +1,10 @@
 -- From all cells and a survey in which nothing is pending: a running graph in which nothing is due.
-use Rattle.node_cells.proofs.Imports.{InputHolds, MarkHolds, OutputAllows, OutputHolds, append_assoc, is_over_stage, is_unborn_stage, ne_eqb, Board, Bool, BoxHolds, ConsumerSees, EdgeState, End, EndHolds, Flags, HasEdge, Input, InputFollows, InputPort, IsBorn, IsPort, Lane, List, NodeView, None, Option, Output, OutputFollows, Port, PortsPicture, ProducerKnows, ProducerSees, Running, Sees, Some, Table, Wire, and_parts, ap, append-nil, arith, cases_Bool, chunks_in, chunks_of, edge_of, edge-count, end_for, end_of, end_of_view, eqb-true, false, flags_at, has, inl, input_after, input_at, input_count, input_seen, inr, is_end, is_own_port, is_some, is_waiting, ◌⊎◌, knows, lane_at, length, lifted_of, node_at, output_after, output_at, output_count, output_seen, port_at, pulled_by, pushed_by, pushes_to, refl, rules, slot_in, stage_at, subst, sym, true, view-end, wire_at, ℕ, ◌++◌, ◌<◌, ◌||◌, ◌∙◌, ◌≡◌}
+use Rattle.node_cells.proofs.Imports.{InputHolds, MarkHolds, OutputAllows, OutputHolds, append_assoc, is_over_stage, is_unborn_stage, ne_eqb, Board, Bool, BoxHolds, ConsumerSees, EdgeState, EdgeEnd, EdgeEndHolds, Flags, HasEdge, Input, InputFollows, InputPort, IsBorn, IsPort, Lane, List, NodeView, None, Option, Output, OutputFollows, Port, PortsPicture, ProducerKnows, ProducerSees, Running, Sees, Some, Table, Wire, and_parts, ap, append-nil, arith, cases_Bool, chunks_in, chunks_of, edge_of, edge-count, end_for, end_of, end_of_view, eqb-true, false, flags_at, has, inl, input_after, input_at, input_count, input_seen, inr, is_end, is_own_port, is_some, is_waiting, ◌⊎◌, knows, lane_at, length, lifted_of, node_at, output_after, output_at, output_count, output_seen, port_at, pulled_by, pushed_by, pushes_to, refl, rules, slot_in, stage_at, subst, sym, true, view-end, wire_at, ℕ, ◌++◌, ◌<◌, ◌||◌, ◌∙◌, ◌≡◌}
 use Rattle.node_ports.proofs.Shown.{end-side, end-there, is_input, passed, quiet-passed, quiet-seen, seen_at, sight}
 use Rattle.std.specs.Prelude.{IsSome}
 use Rattle.node_cells.specs.Ends.{SettledLaw, AreSettled, CellAtHome, WholeCell, edge_of_board, lifted_at, picture_of, unlifted}
 use Rattle.exec_laws.proofs.Seeing.{port-below}
-use Rattle.exec_laws.proofs.Nodes.{apart}
+use Rattle.exec_laws.proofs.Nodes.{edge_ends_differ}
 use Rattle.exec_laws.specs.Names.{NodeHolds as RunHolds}
 use Rattle.exec_table.proofs.Stepping.{lane-full}
 use Rattle.core_laws.proofs.Settled.{quiet-knows, quiet-node}
@@ -12,7 +12,7 @@ use Rattle.core_laws.proofs.Kept.{held-word}
 use Rattle.core_laws.specs.Laws.{Knows}
 use Rattle.core_laws.specs.Views.{counts, is_over, is_unborn}
 use Rattle.exec_table.specs.declared.types.Stage.TheVariants.{Begun}
-use Rattle.exec_laws.specs.declared.edges.NodeState.TheVariants as node
+use Rattle.exec_laws.specs.declared.edges.NodeStatus.TheVariants as node
 
 -- ---- what ends know
 
@@ -159,7 +159,7 @@ module _ (count : ℕ) (wires : List Wire) (b : Board) (cells : ℕ → WholeCel
     passed-here : passed (at n) p ≡ (end_for n true (port_at b.core e).wire (lane_at b e)).chunks
     passed-here = quiet-passed (at n) p own (s.still n) in-view
         ∙ (ap (λ e. (end_of_view (at n).node e).chunks) edge-is
-        ∙ ap (λ (z : End). z.chunks) end)
+        ∙ ap (λ (z : EdgeEnd). z.chunks) end)
 
     sees : Sees side (port_at b.core e).flags (flags_at e (at n).node.state.seen)
     sees = subst (λ f. Sees side (port_at b.core e).flags f)
@@ -185,7 +185,7 @@ module _ (count : ℕ) (wires : List Wire) (b : Board) (cells : ℕ → WholeCel
 
     content : (c : Table) → lifted ≡ Some c → (lane_at b e).content ≡ Some c
     content c q = lifted-content n (port_at b.core e).wire (lane_at b e) (slot_in e (at n).slots) c
-        (on-side e n (Input i) h) (ap (λ (z : End). lifted_of (slot_in e (at n).slots) z.turn)
+        (on-side e n (Input i) h) (ap (λ (z : EdgeEnd). lifted_of (slot_in e (at n).slots) z.turn)
         (sym (end e n (Input i) h)) ∙ q)
 
     edge-chunk : (edge e).chunk ≡ unlifted lifted (lane_at b e).content
@@ -199,7 +199,7 @@ module _ (count : ℕ) (wires : List Wire) (b : Board) (cells : ℕ → WholeCel
     filled = sym (lane-full (port_at b.core e) (lane_at b e)
         (s.board.laws.edges.each e (inside e n (Input i) h)).content (s.board.lanes e))
 
-    pub input-end : EndHolds (Input i) (picture_of (cells n)) (edge e)
+    pub input-end : EdgeEndHolds (Input i) (picture_of (cells n)) (edge e)
     input-end = subst (λ l. InputHolds (cells n).mark.state (input_at (at n).view i)
         (input_after i l (port_at b.core e).flags) (edge e).chunk) (sym (s.still n)) record {
           follows = subst (λ (x : InputPort). InputFollows x.flags (port_at b.core e).flags)
@@ -231,13 +231,13 @@ module _ (count : ℕ) (wires : List Wire) (b : Board) (cells : ℕ → WholeCel
   module _ (e o : ℕ) (n : ℕ) (h : HasEdge wires n (Output o) e) where
     no-consumer : is_end true n (port_at b.core e).wire ≡ false
     no-consumer = ap (is_end true n) (wired e n (Output o) h) ∙ ne_eqb (wire_at wires e).to n
-        (λ k. apart count wires s.graph e h.in_range (h.at_port.0 ∙ sym k))
+        (λ k. edge_ends_differ count wires s.graph e h.in_range (h.at_port.0 ∙ sym k))
 
     out-view : output_at (at n).view o ≡ flags_at e (at n).node.state.seen
     out-view = ap (λ (x : InputPort). x.flags) (in-view e n (Output o) h)
         ∙ ap (output_seen (at n).node) (edge-is e n (Output o) h)
 
-    pub output-end : EndHolds (Output o) (picture_of (cells n)) (edge e)
+    pub output-end : EdgeEndHolds (Output o) (picture_of (cells n)) (edge e)
     output-end = let f = (port_at b.core e).flags in
         subst (λ l. OutputHolds (cells n).mark.state (output_at (at n).view o) (output_after o l f)
         × OutputAllows o l f) (sym (s.still n)) (
@@ -295,7 +295,7 @@ module _ (count : ℕ) (wires : List Wire) (b : Board) (cells : ℕ → WholeCel
   }
     where
       end-holds : (e n : ℕ) (p : Port) → HasEdge wires n p e
-          → EndHolds p (picture_of (cells n)) (edge e)
+          → EdgeEndHolds p (picture_of (cells n)) (edge e)
       end-holds e n (Input i) h = input-end e i n h
       end-holds e n (Output o) h = output-end e o n h
 

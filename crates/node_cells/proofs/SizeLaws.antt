@@ -11,11 +11,11 @@ use Rattle.proc_api.specs.Graphs.{rank_at, reserved_edges}
 use Rattle.proc_api.specs.Reserves.{no_reserve}
 use Rattle.std.specs.List.{list_all}
 use Rattle.std.proofs.Math.ListN.{get_or}
-use Rattle.node_cells.specs.NewCells.{IsGraphOf, sizes_of}
+use Rattle.node_cells.specs.NewCells.{IsGraphOfNodes, sizes_of}
 unfoldable use Rattle.exec_laws.specs.Prelude.{wire_at}
 unfoldable use Rattle.proc_api.specs.Reserves.{reserve_at}
 
-edges-same : (rs : List Reserve) → core.reserved_edges rs ≡ reserved_edges rs
+edges-same : (rs : List Reserve) → core.reserved_edge_count rs ≡ reserved_edges rs
 edges-same [] = refl
 edges-same (r ∷ rs) = ap (λ n. r.edges + n) (edges-same rs)
     ∙ sym (sum_by-cons (λ (q : Reserve). q.edges) r rs)
@@ -35,7 +35,7 @@ pub one-rank : (ranks : List ℕ) (m n : ℕ) → m ≡ n → rank_at ranks n < 
 one-rank ranks m n e h = let same = ap (rank_at ranks) e in omega (arith, same, h)
 
 module _ (nodes workers : ℕ) (wires : List Wire) (rs : List Reserve)
-    (g : IsGraphOf nodes wires rs) where
+    (g : IsGraphOfNodes nodes wires rs) where
   wire-fits : (e : ℕ) → e < length wires
       → wire_fits (sizes_of nodes wires rs workers) (get_or wires e no_wire) ≡ true
   unfolding wire_at

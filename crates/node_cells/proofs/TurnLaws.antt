@@ -1,10 +1,10 @@
 -- A node that has looked at its ports is prepared.
-use Rattle.node_cells.proofs.Imports.{Input, Output, Identity, InTurn, IsSeatOf, NodeCell, NodePorts, NodeSeat, SameLists, SamePorts, cell_ports, view, Flags, None, BoxHolds, BoxPicture, CellPicture, FollowsKept, InputPort, IsDifference, Lists, MarkHolds, NodeMark, Option, Picture, PortsHold, PortsPicture, Some, Table, Turns, ViewHolds, [], ap, append-nil, chunks_on, input_at, length, ports_picture, pulled_by, pushed_by, pushes_to, refl, shown, subst, sym, taken_out, with_pulled, with_pushed, ℕ, ◌++◌, ◌∙◌, ◌≡◌, NodeHolds}
+use Rattle.node_cells.proofs.Imports.{Input, Output, Identity, InTurn, IsSeatOf, NodeCell, NodePorts, NodeSeat, SameLists, SamePorts, cell_ports, view, Flags, None, BoxHolds, BoxPicture, CellPicture, FollowsKept, InputPort, IsDifference, Lists, MarkHolds, NodeMark, Option, Picture, PortsHold, PortsPicture, Some, Table, NodeTurns, ViewHolds, [], ap, append-nil, chunks_on, input_at, length, ports_picture, pulled_by, pushed_by, pushes_to, refl, shown, subst, sym, taken_out, with_pulled, with_pushed, ℕ, ◌++◌, ◌∙◌, ◌≡◌, CellNodeHolds}
 use Rattle.node_ports.proofs.Shown.{quiet-sight}
 use Rattle.exec_laws.proofs.Turns.{explained, pushed-by-actions, turned-box, turned-kept, turned-mark, turned-view}
 use Rattle.exec_laws.specs.Names.{state_after}
 use Rattle.node_ports.specs.Sights.{Looked}
-use Rattle.node_ports.specs.Peers.{Carried}
+use Rattle.node_ports.specs.Peers.{HasCarriedOut}
 use Rattle.node_cells.specs.Turns.{IsDue, IsPrepared, turn_picture}
 use Rattle.proc_api.specs.declared.status.Status.{Status}
 use Rattle.port_word.specs.Names.{Explains}
@@ -13,8 +13,8 @@ abbrev pub picture : BoxPicture → NodeMark → PortsPicture → CellPicture
 picture p m c = record { box = p; view = c.view; mark = m; inputs = c.inputs; outputs = c.outputs }
 
 module _ (p q : BoxPicture) (m k : NodeMark) (c : PortsPicture) (v : Picture)
-    (h : NodeHolds p m c) (quiet : c.view.actions ≡ [])
-    (t : Turns (picture p m c) (picture q k (record c { view = v }))) where
+    (h : CellNodeHolds p m c) (quiet : c.view.actions ≡ [])
+    (t : NodeTurns (picture p m c) (picture q k (record c { view = v }))) where
   abbrev after : PortsPicture
   after = record c { view = v }
 
@@ -89,7 +89,7 @@ module _ (p q : BoxPicture) (m k : NodeMark) (c : PortsPicture) (v : Picture)
     ready = h.ports.ready;
   }
 
-  pub turned-cell : NodeHolds q k after
+  pub turned-cell : CellNodeHolds q k after
   turned-cell = let ins = length c.inputs in let outs = length c.outputs in record {
     ports = new-ports;
     box = subst (λ (l : Lists × Lists). BoxHolds ins outs q l.0 l.1)
@@ -112,9 +112,9 @@ module _ (p q : BoxPicture) (m k : NodeMark) (c : PortsPicture) (v : Picture)
 -- ---- the law where only ports moved
 
 -- the box and the mark are as they were
-moved-node : (p : BoxPicture) (m : NodeMark) (c d : PortsPicture) → NodeHolds p m c
+moved-node : (p : BoxPicture) (m : NodeMark) (c d : PortsPicture) → CellNodeHolds p m c
     → PortsHold d → SameLists c d → SamePorts c d → (FollowsKept p c.view → FollowsKept p d.view)
-    → MarkHolds m.state m.last (length c.inputs) (length c.outputs) p d.view → NodeHolds p m d
+    → MarkHolds m.state m.last (length c.inputs) (length c.outputs) p d.view → CellNodeHolds p m d
 moved-node p m c d h ports lists same follows mark = record {
   ports = ports;
   box = subst (λ (l : (ℕ × ℕ) × (Lists × Lists)). BoxHolds l.0.0 l.0.1 p l.1.0 l.1.1)
@@ -149,7 +149,7 @@ looked-due seen t c p s h seat l = record {
 
 pub cell-prepared : {P : Type 0} (seen : P → BoxPicture) (t : Identity) (old new : NodeCell P)
     (s : Status) → IsDue seen t old → (view old.seat).state.unlooked ≡ []
-    → Turns (turn_picture seen old) (turn_picture seen new)
+    → NodeTurns (turn_picture seen old) (turn_picture seen new)
     → new.mark ≡ record { state = state_after s; last = Some s }
     → cell_ports new ≡ record (cell_ports old) { view = new.ports.view } → new.seat ≡ old.seat
     → IsPrepared seen t new s
@@ -157,10 +157,10 @@ cell-prepared seen t old new s h looked turns mark ports seat = record {
   holds = record {
     cell = record {
       seat = subst (IsSeatOf t) (sym seat) h.holds.cell.seat;
-      node = subst (NodeHolds (seen new.processor) new.mark) (sym ports)
+      node = subst (CellNodeHolds (seen new.processor) new.mark) (sym ports)
           (turned-cell (seen old.processor) (seen new.processor) old.mark new.mark (cell_ports old)
           new.ports.view h.holds.cell.node h.quiet
-          (subst (λ d. Turns (turn_picture seen old) (picture (seen new.processor) new.mark d))
+          (subst (λ d. NodeTurns (turn_picture seen old) (picture (seen new.processor) new.mark d))
           ports turns));
     };
     turn = subst (λ s. InTurn (view s)) (sym seat) h.holds.turn;
@@ -174,7 +174,7 @@ cell-prepared seen t old new s h looked turns mark ports seat = record {
 
 pub carried-prepared : {P : Type 0} (seen : P → BoxPicture) (t : Identity) (c : NodeCell P)
     (p : NodePorts) (s : NodeSeat) (answer : Status) → IsPrepared seen t c answer → IsSeatOf t s
-    → Carried (cell_ports c) (ports_picture p s)
+    → HasCarriedOut (cell_ports c) (ports_picture p s)
     → IsPrepared seen t (record c { ports = p; seat = s }) answer
 carried-prepared seen t c p s answer h seat l = let node = h.holds.cell.node in record {
   holds = record {

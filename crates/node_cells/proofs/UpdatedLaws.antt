@@ -1,14 +1,14 @@
 -- A step that takes the node's word: the ports that the word names are updated ones from now on.
 use Rattle.node_cells.proofs.Imports.{Board, Identity, Input, IsSeatOf, MakesUpdated, NodePorts, NodeSeat, NodeView, Output, Port, PortsHold, PortsPicture, SeatState, Some, Wire, and_parts, ap, arith, edge_of, edges_of, end_of_view, false, has, has-filter, inl, inr, is_due, is_set, knows, node_at, ports_picture, state-made, sym, true, updated, view, ℕ, ◌+◌, ◌/◌, ◌%◌, ◌<◌, ◌==◌, ◌^◌, ◌||◌, ◌∙◌, ◌≡◌}
 use Rattle.node_ports.proofs.Shown.{AreUpdated}
-use Rattle.node_ports.specs.Ports.{IsMerged, PortKnown, is_updated}
+use Rattle.node_ports.specs.Ports.{IsMerged, PortKnown, is_updated_port}
 use Rattle.core_laws.specs.Steps.{bit_at_end}
 use Rattle.core_laws.specs.Views.{wire_ok}
 use Rattle.core_laws.specs.declared.types.Step.{Step}
 use Rattle.core_laws.proofs.Bits.{at-end}
 use Rattle.exec_laws.specs.Names.{IsEnd}
 use Rattle.exec_table.proofs.Seating.{known-wire}
-use Rattle.exec_table.specs.Known.{state_after as seat_after}
+use Rattle.exec_table.specs.Known.{core_state_after as seat_after}
 use Rattle.exec_table.specs.Seats.{updated_of}
 use Rattle.exec_table.specs.declared.types.Updated.{Updated}
 use Rattle.std.proofs.lemmas.Bool.{or_cases, or_left, or_right}
@@ -31,7 +31,7 @@ high-bits w o lt = low-bits 16 (w / 2 ^ 32) o lt
 
 -- the word names the port at this end of the wire exactly where the updated ports have it
 names-port : (nodes : ℕ) (w : Wire) (n x : ℕ) (p : Port) → wire_ok nodes w ≡ true → IsEnd w n p
-    → (is_set x 60 || is_set x (bit_at_end n (Some w))) ≡ is_updated p (updated_of x)
+    → (is_set x 60 || is_set x (bit_at_end n (Some w))) ≡ is_updated_port p (updated_of x)
 names-port nodes w n x (Input i) ok at = ap (λ b. is_set x 60 || b == 1)
     (ap (bit_at x) (at-end nodes w ok true n at.0 ∙ at.1)
     ∙ sym (low-bits 32 x i (grind (arith, ok, at.1))))
@@ -77,7 +77,7 @@ module _ {t : Identity} (p : NodePorts) {old new : NodeSeat} {s : Step} {u : Upd
     named = λ q own k. let port = h.known q own in let e = edge_of c q in
         merged q ∙ elim (or_cases _ _ (due e k).0) [
           | inl l ↦ or_left _ _ (h.updated q own l)
-          | inr r ↦ or_right _ _ (ap (is_updated q) m.ports
+          | inr r ↦ or_right _ _ (ap (is_updated_port q) m.ports
               ∙ (sym (names-port b.core.sizes.nodes port.wire n m.word q (wire-sound q port)
               port.at_port)
               ∙ ((λ j. is_set m.word 60 || is_set m.word (bit_at_end n (sym port.is j))) ∙ r)))

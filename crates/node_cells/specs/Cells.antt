@@ -2,12 +2,12 @@
 use Rattle.std.specs.Prelude.{IsTrue, [], false, length, true, ◌≡◌}
 use Rattle.node_cells.specs.Prelude.{Identity, BoxHolds, BoxPicture, FollowsKept, IsSeatOf, MarkHolds, NodeCell, NodeMark, Begun, is_over_stage, is_unborn_stage, is_waiting}
 use Rattle.node_ports.specs.Ports.{PortsHold, PortsPicture, ports_picture, pulled_by, pushed_by}
-use Rattle.exec_laws.specs.declared.edges.NodeState.TheVariants as node
+use Rattle.exec_laws.specs.declared.edges.NodeStatus.TheVariants as node
 
 -- The ports are those of the seat. The box keeps its contract of the chunks that this end pulled
 -- and pushed on the edges, with those that wait to be carried out, and may be prepared against its
 -- view. Its last answer is borne out as the mark says.
-pub record NodeHolds (p : BoxPicture) (m : NodeMark) (c : PortsPicture) : Type 0 where
+pub record CellNodeHolds (p : BoxPicture) (m : NodeMark) (c : PortsPicture) : Type 0 where
   pub ports : PortsHold c
   pub box : BoxHolds (length c.inputs) (length c.outputs) p (pulled_by c) (pushed_by c)
   pub kept : (m.state ≡ node.Over → IsTrue p.lawful) → FollowsKept p c.view
@@ -33,4 +33,4 @@ cell_ports c = ports_picture c.ports c.seat
 pub record CellHolds {P : Type 0} (seen : P → BoxPicture) (t : Identity) (c : NodeCell P)
     : Type 0 where
   pub seat : IsSeatOf t c.seat
-  pub node : NodeHolds (seen c.processor) c.mark (cell_ports c)
+  pub node : CellNodeHolds (seen c.processor) c.mark (cell_ports c)

@@ -8,10 +8,10 @@ use Rattle.proc_api.specs.Names.{no_box}
 use Rattle.exec_laws.specs.Names.{ContradictsStatus, IsDone, IsStuck, SupportsStatus, boxes_of, cell_at, stuck_from}
 use Rattle.exec_laws.specs.declared.edges.StuckNode.{StuckNode}
 use Rattle.node_ports.specs.Ports.{PortsPicture, lifted_of}
-use Rattle.node_cells.specs.Cells.{IsHome, NodeHolds}
+use Rattle.node_cells.specs.Cells.{CellNodeHolds, IsHome}
 use Rattle.exec_laws.specs.declared.edges.EdgeState.{EdgeState}
 use Rattle.exec_laws.specs.Names.{AreEdgesOf, HasEdge, HoldsGraph, IsBorn, Running, is_waiting}
-use Rattle.exec_laws.specs.declared.edges.NodeState.TheVariants as node
+use Rattle.exec_laws.specs.declared.edges.NodeStatus.TheVariants as node
 use Rattle.exec_table.specs.Boards.{Board, Holds, lane_at, node_view}
 use Rattle.core_laws.specs.Views.{port_at}
 unfoldable use Rattle.proc_api.specs.Names.{wire_at}
@@ -33,7 +33,7 @@ picture_of c = record {
 
 -- a born node's cell, which is at home
 pub record CellAtHome (wires : List Wire) (n : ℕ) (c : WholeCell) : Type 0 where
-  pub holds : NodeHolds c.box c.mark c.ports
+  pub holds : CellNodeHolds c.box c.mark c.ports
   pub home : IsHome c.mark c.ports
   pub numbers : AreEdgesOf wires n c.ports.inputs c.ports.outputs
 

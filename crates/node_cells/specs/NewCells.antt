@@ -3,11 +3,11 @@ use Rattle.std.specs.Prelude.{Bool, List, None, false, length, map, replicate, t
 use mathlib.Core.Option.{some}
 use lib.ListN.{get_elem?}
 use Rattle.core_laws.specs.declared.types.Sizes.{Sizes}
-use Rattle.exec_table.specs.Seats.{IsRootOf, identity_of, key_of}
+use Rattle.exec_table.specs.Seats.{IsRootOf, identity_of, sizes_in}
 use Rattle.exec_table.specs.declared.types.Updated.{Updated}
 use Rattle.exec_laws.specs.Names.{AreEdgesOf, HasEdge, IsPort, number_at, peer}
 use Rattle.exec_laws.specs.Prelude.{Reserve, input_count, new_picture, output_count}
-use Rattle.exec_laws.specs.declared.edges.NodeState.TheVariants as node
+use Rattle.exec_laws.specs.declared.edges.NodeStatus.TheVariants as node
 use Rattle.port_word.specs.declared.flags.Port.TheVariants.{Input, Output}
 use Rattle.proc_api.specs.Graphs.{IsGraph}
 use Rattle.proc_api.specs.Reserves.{AreReserves, is_reserved}
@@ -19,7 +19,7 @@ use Rattle.node_cells.specs.declared.new_cells.NewNode.{NewNode}
 unfoldable use Rattle.proc_api.specs.Names.{wire_at}
 
 -- the wires and the reserves are those of a graph of so many nodes
-pub record IsGraphOf (nodes : ℕ) (wires : List Wire) (reserves : List Reserve) : Type 0 where
+pub record IsGraphOfNodes (nodes : ℕ) (wires : List Wire) (reserves : List Reserve) : Type 0 where
   pub ranks : List ℕ
   pub graph : IsGraph ranks wires reserves
   pub nodes_are : nodes ≡ length ranks
@@ -42,8 +42,8 @@ port_of_side true k = Input k
 port_of_side false k = Output k
 
 -- an edge ends at the port
-abbrev pub HasWire : List Wire → ℕ → Port → Type 0
-HasWire wires n p = (e : ℕ) × HasEdge wires n p e
+abbrev pub HasEdgeAt : List Wire → ℕ → Port → Type 0
+HasEdgeAt wires n p = (e : ℕ) × HasEdge wires n p e
 
 -- whether the wire ends at the port
 abbrev pub ends_at : Wire → ℕ → Port → Bool
@@ -51,14 +51,15 @@ ends_at w n (Input i) = (w.to == n) && (w.input == i)
 ends_at w n (Output o) = (w.from == n) && (w.out == o)
 
 -- each port of the node has an edge, and they are within the limits
-pub record HasPorts (wires : List Wire) (n : ℕ) : Type 0 where
+pub record HasPortsWithinLimits (wires : List Wire) (n : ℕ) : Type 0 where
   pub few_edges : length wires ≤ 1024
   pub few_inputs : input_count wires n ≤ 32
   pub few_outputs : output_count wires n ≤ 16
-  pub each : (p : Port) → IsPort (input_count wires n) (output_count wires n) p → HasWire wires n p
+  pub each : (p : Port) → IsPort (input_count wires n) (output_count wires n) p
+      → HasEdgeAt wires n p
 
 -- the edges at the first k ports of a side, and the nodes at their other ends
-pub record AreEnds (wires : List Wire) (n : ℕ) (consumer : Bool) (k : ℕ)
+pub record AreEdgesAndPeers (wires : List Wire) (n : ℕ) (consumer : Bool) (k : ℕ)
     (edges peers : List ℕ) : Type 0 where
   pub edges_len : length edges ≡ k
   pub peers_len : length peers ≡ k
@@ -73,8 +74,9 @@ all_updated = record { inputs = 0; outputs = 0; first = true }
 -- the ports of a node whose seat was just made
 pub record AreNewPorts (wires : List Wire) (n : ℕ) (p : NodePorts) : Type 0 where
   pub view : p.view ≡ new_picture (input_count wires n) (output_count wires n)
-  pub inputs : AreEnds wires n true (input_count wires n) p.inputs.items p.sources.items
-  pub outputs : AreEnds wires n false (output_count wires n) p.outputs.items p.targets.items
+  pub inputs : AreEdgesAndPeers wires n true (input_count wires n) p.inputs.items p.sources.items
+  pub outputs : AreEdgesAndPeers wires n false (output_count wires n) p.outputs.items
+      p.targets.items
   pub needed : p.needed.items ≡ replicate (input_count wires n) false
   pub updated : p.updated ≡ all_updated
 
@@ -85,14 +87,14 @@ abbrev pub first_mark : (reserved : Bool) → NodeMark
 first_mark true = record { state = node.Unborn; last = None }
 first_mark false = record { state = node.Due; last = None }
 
-pub record IsNewNode (wires : List Wire) (reserves : List Reserve) (n : ℕ)
+pub record IsNewNodeAt (wires : List Wire) (reserves : List Reserve) (n : ℕ)
     (x : NewNode) : Type 0 where
   pub ports : AreNewPorts wires n x.ports
   pub mark : x.mark ≡ first_mark (is_reserved reserves n)
 
 abbrev pub AreNewNodes : List Wire → List Reserve → List NewNode → Type 0
 AreNewNodes wires reserves all =
-    (k : ℕ) (x : NewNode) → get_elem? all k ≡ some x → IsNewNode wires reserves k x
+    (k : ℕ) (x : NewNode) → get_elem? all k ≡ some x → IsNewNodeAt wires reserves k x
 
 abbrev pub node_of_cell : {P : Type 0} → NodeCell P → NewNode
 node_of_cell c = record { ports = c.ports; mark = c.mark }
@@ -116,7 +118,7 @@ pub record IsNewCell {P : Type 0} (seen : P → BoxPicture) (t : Identity) (n : 
 -- order of their numbers, with these processors
 pub record AreNewCells {P : Type 0} (seen : P → BoxPicture) (z : Sizes) (boxes : List P)
     (c : Cells P) : Type 0 where
-  pub key : key_of c.table ≡ z
+  pub key : sizes_in c.table ≡ z
   pub root : IsRootOf (identity_of c.table) c.root
   pub none_made : c.root.seat.me.0.made ≡ 0
   pub processors : map (λ (x : NodeCell P). x.processor) c.cells.items ≡ boxes

@@ -3,8 +3,8 @@ use Rattle.std.specs.Prelude.{None, [], false, true, ◌≡◌}
 use Rattle.node_cells.specs.Prelude.{BoxPicture, Identity, IsSeatOf, NodeCell, is_unborn_stage, view}
 use Rattle.node_cells.specs.Turns.{AtHome, IsAtWork, MayBegin}
 use Rattle.exec_laws.specs.declared.edges.DueCall.TheVariants as call
-use Rattle.exec_laws.specs.declared.edges.NodeState.{NodeState}
-use Rattle.exec_laws.specs.declared.edges.NodeState.TheVariants as node
+use Rattle.exec_laws.specs.declared.edges.NodeStatus.{NodeStatus}
+use Rattle.exec_laws.specs.declared.edges.NodeStatus.TheVariants as node
 
 -- the cell of a node that is kept for the growth of another
 pub record IsKept {P : Type 0} (seen : P → BoxPicture) (t : Identity) (c : NodeCell P)
@@ -18,14 +18,14 @@ pub record IsKept {P : Type 0} (seen : P → BoxPicture) (t : Identity) (c : Nod
   pub free : (view c.seat).state.held ≡ false
 
 -- A node that never began may begin. One that rests, or is over, is at home. One between two steps
--- of work with its device, or whose processor asks that the graph grows, is at home and held.
-abbrev pub StoredAs : {P : Type 0} → (P → BoxPicture) → Identity → NodeState → NodeCell P → Type 0
+-- of work with its device is at home and held.
+abbrev pub StoredAs : {P : Type 0} → (P → BoxPicture) → Identity → NodeStatus → NodeCell P → Type 0
 StoredAs seen t node.Unborn c = IsKept seen t c
 StoredAs seen t node.Due c = MayBegin seen t c
 StoredAs seen t node.Resting c = AtHome seen t c
 StoredAs seen t (node.AtWork call.Work) c = ⊥
 StoredAs seen t (node.AtWork call.Schedule) c = AtHome seen t c × IsAtWork seen t call.Schedule c
-StoredAs seen t (node.AtWork call.Expand) c = AtHome seen t c × IsAtWork seen t call.Expand c
+StoredAs seen t (node.AtWork call.Expand) c = ⊥
 StoredAs seen t node.Over c = AtHome seen t c
 
 abbrev pub IsStored : {P : Type 0} → (P → BoxPicture) → Identity → NodeCell P → Type 0

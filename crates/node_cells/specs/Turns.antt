@@ -1,6 +1,6 @@
 -- The turns of a node.
-use Rattle.std.specs.Prelude.{◌⊎◌, not, List, None, ℕ, ◌++◌, ◌∷◌, ◌||◌, ◌==◌, Bool, Option, Some, [], true, false, ◌≡◌, ◌≢◌}
-use Rattle.exec_table.specs.Seats.{Makes}
+use Rattle.std.specs.Prelude.{◌⊎◌, not, Err, IsTrue, List, None, Ok, Result, ℕ, ◌++◌, ◌∷◌, ◌||◌, ◌==◌, Bool, Option, Some, [], true, false, ◌≡◌, ◌≢◌}
+use Rattle.exec_table.specs.Seats.{MakesStep}
 use Rattle.core_laws.specs.Steps.{nothing}
 use Rattle.core_laws.specs.declared.types.Step.TheVariants as step
 use Rattle.exec_table.specs.declared.types.Updated.{Updated}
@@ -14,15 +14,18 @@ use Rattle.task_queue.specs.Tasks.{AreOffered}
 use Rattle.task_queue.specs.declared.queue.TaskQueue.{TaskQueue}
 use Rattle.task_queue.specs.declared.tasks.WorkerTasks.{WorkerTasks}
 use Rattle.exec_laws.specs.Names.{Acts, KeepsFault, StaysBox, state_after}
+use Rattle.node_cells.specs.Stops.{GrowthStays, StopHolds}
+use Rattle.node_cells.specs.declared.stop_cause.StopCause.{StopCause}
 use Rattle.node_cells.specs.declared.node_run.RunEnd.{RunEnd}
 use Rattle.node_cells.specs.declared.node_run.RunEnd.TheVariants as run
 use Rattle.exec_laws.specs.declared.edges.DueCall.{DueCall}
 use Rattle.exec_laws.specs.declared.edges.DueCall.TheVariants as call
 use Rattle.proc_api.specs.declared.status.Answer.TheVariants.{Scheduled}
+use Rattle.proc_api.specs.Names.{WakeComes}
 use Rattle.proc_api.specs.declared.status.Wake.{Wake}
 use Rattle.proc_api.specs.declared.status.WorkFault.{WorkFault}
 use Rattle.proc_api.specs.declared.status.Wake.TheVariants as wake
-use Rattle.exec_laws.specs.declared.edges.NodeState.TheVariants as node
+use Rattle.exec_laws.specs.declared.edges.NodeStatus.TheVariants as node
 use Rattle.proc_api.specs.declared.status.Status.{Status}
 
 -- what an executor's moves see of a cell
@@ -35,11 +38,12 @@ turn_picture seen c = record {
   outputs = c.ports.outputs.items;
 }
 
--- what the calls of a turn leave of a cell: the processor is the one that it was, with what an end
--- of the run says of its box, it names no other growth, and the ports are the same ones
-pub record Stays {P : Type 0} (seen : P → BoxPicture) (old new : NodeCell P) : Type 0 where
+-- what the calls of a turn leave of a cell, until that stops the run: the processor is the one that
+-- it was, with what an end of the run says of its box, and the ports are the same ones
+pub record Stays {P : Type 0} (seen : P → BoxPicture) (o : Option StopCause)
+    (old new : NodeCell P) : Type 0 where
   pub box : StaysBox (seen old.processor) (seen new.processor)
-  pub growth : (seen new.processor).growth ≡ (seen old.processor).growth
+  pub growth : GrowthStays o (seen old.processor) (seen new.processor)
   pub ports : SamePorts (cell_ports old) (cell_ports new)
 
 -- what a call that isn't one of the processor leaves: the processor as it is, and the same ports
@@ -125,7 +129,7 @@ pub record MayBegin {P : Type 0} (seen : P → BoxPicture) (t : Identity) (c : N
 -- the token was taken back, where that was due
 pub record TakesBack (t : Identity) (b : Bool) (old new : NodeSeat) : Type 0 where
   pub seat : IsSeatOf t new
-  pub took : b ≡ true → Makes t old new step.TokenOut None nothing
+  pub took : b ≡ true → MakesStep t old new step.TokenOut None nothing
   pub left : b ≡ false → new ≡ old
 
 -- the cell of a node that is due a call of its processor: all was carried out
@@ -135,11 +139,11 @@ pub record IsAtWork {P : Type 0} (seen : P → BoxPicture) (t : Identity) (call 
   pub quiet : c.ports.view.actions ≡ []
   pub at_work : c.mark.state ≡ node.AtWork call
 
--- The processor answered a fault, which its box keeps. The node is still in its turn, and so held:
--- something stays pending.
-pub record EndsInFault {P : Type 0} (seen : P → BoxPicture) (t : Identity) (f : WorkFault)
+-- A call of the processor stopped the run, for what its box keeps. The node is still in its turn,
+-- and so held: something stays pending.
+pub record IsStopped {P : Type 0} (seen : P → BoxPicture) (t : Identity) (s : StopCause)
     (c : NodeCell P) : Type 0 where
-  pub keeps : KeepsFault f (seen c.processor)
+  pub holds : StopHolds s (seen c.processor)
   pub seat : IsSeatOf t c.seat
   pub turn : InTurn (view c.seat)
 
@@ -148,6 +152,19 @@ pub record Wakes (a : Wake) (p q : BoxPicture) : Type 0 where
   pub acts : Acts p q
   pub answer : q.notes.answer ≡ Some (Scheduled a)
   pub not_acted : q.notes.acted ≡ false
+  pub comes : IsTrue p.lawful → WakeComes a p q
+
+-- what any call of `schedule` leaves
+abbrev pub AnswersWake : Result Wake WorkFault → BoxPicture → BoxPicture → Type 0
+AnswersWake (Ok a) p q = Wakes a p q
+AnswersWake (Err f) p q = KeepsFault f q
+
+-- a step of work with a device, and the work after the last one
+pub record Fetches (p q : BoxPicture) : Type 0 where
+  pub answer : Result Wake WorkFault
+  pub woken : BoxPicture
+  pub wakes : AnswersWake answer p woken
+  pub works : StaysBox woken q
 
 -- after it the node is to work, or it goes home, held, until its device has more
 abbrev pub WakesTo : {P : Type 0} → (P → BoxPicture) → Identity → Wake → NodeCell P → Type 0
@@ -160,42 +177,41 @@ call_after wake.Ready = call.Work
 call_after wake.Later = call.Schedule
 
 -- a turn of a node on a worker: it was prepared, what it did was carried out, the nodes that were
--- charged were queued, and what its answer asks for followed
+-- charged were queued, and what its answer asks for followed, which may have stopped the run
 pub record Turn {P : Type 0} (seen : P → BoxPicture) (t : Identity) (q : TaskQueue)
-    (old new : NodeCell P) (before after : WorkerTasks) : Type 0 where
+    (o : Option StopCause) (old new : NodeCell P) (before after : WorkerTasks) : Type 0 where
   pub status : Status
   pub prepared : NodeCell P
   pub carried : NodeCell P
-  pub stays : Stays seen old prepared
+  pub stays : Stays seen None old prepared
   pub prepares : IsPrepared seen t prepared status
   pub queues : Queues t q prepared carried before after
   pub carries : IsCarried seen t carried status
-  pub follows : Stays seen carried new
+  pub follows : Stays seen o carried new
 
--- one turn after another
+-- one turn after another, none of which stopped the run
 pub data Runs {P : Type 0} (seen : P → BoxPicture) (t : Identity) (q : TaskQueue)
     (old : NodeCell P) (before : WorkerTasks) : NodeCell P → WorkerTasks → Type 0 where
   runs_none : Runs seen t q old before old before
   runs_more : {mid new : NodeCell P} {between after : WorkerTasks}
-      → Runs seen t q old before mid between → Turn seen t q mid new between after
+      → Runs seen t q old before mid between → Turn seen t q None mid new between after
       → Runs seen t q old before new after
+
+-- the same, and a last turn
+pub record TakesTurns {P : Type 0} (seen : P → BoxPicture) (t : Identity) (q : TaskQueue)
+    (o : Option StopCause) (old new : NodeCell P) (before after : WorkerTasks) : Type 0 where
+  pub between : NodeCell P
+  pub tasks : WorkerTasks
+  pub earlier : Runs seen t q old before between tasks
+  pub last : Turn seen t q o between new tasks after
 
 -- what a node's run on a worker came to: its cell may go home
 abbrev pub RunEndHolds : {P : Type 0} → (P → BoxPicture) → Identity → RunEnd → NodeCell P → Type 0
 RunEndHolds seen t run.Rests c = AtHome seen t c
     × ((c.mark.state ≡ node.Resting) ⊎ (c.mark.state ≡ node.Over))
 RunEndHolds seen t run.Waits c = AtHome seen t c × IsAtWork seen t call.Schedule c
-RunEndHolds seen t run.Grows c = AtHome seen t c × IsAtWork seen t call.Expand c
 
 -- the turn goes on, or ends so
 abbrev pub GoesOn : {P : Type 0} → (P → BoxPicture) → Identity → Option RunEnd → NodeCell P → Type 0
 GoesOn seen t None c = IsDue seen t c
 GoesOn seen t (Some e) c = RunEndHolds seen t e c
-
--- a call of the processor, after which the node was due and ran on or its run was over
-pub record Resumes {P : Type 0} (seen : P → BoxPicture) (t : Identity) (q : TaskQueue)
-    (old new : NodeCell P) (before after : WorkerTasks) : Type 0 where
-  pub called : NodeCell P
-  pub stays : Stays seen old called
-  pub runs : Runs seen t q called before new after
-  pub due : IsDue seen t called ⊎ (new ≡ called)

@@ -12,24 +12,31 @@
 //! - `node_word.rt`: a node begins, carries out, rests, leaves: its steps at its own word
 //! - `calls.rt`: the calls of a processor that touch no port
 //! - `node_run.rt`: a node's run on a worker, turn after turn
+//! - `node_visit.rt`: a visit of a node whose cell lies on a shelf
+//! - `stop_cause.rt`: why the run of all stops at a node
 //! - `new_cells.rt`: the cells of a new table
 //! - `settled_cells.rt`: what follows of all cells where nothing is pending
 //! - `specs/Cells.antt`: the law of a cell; `specs/Turns.antt`: where a cell is in its turn, and
-//!   what stays of it; `specs/Ends.antt`: all cells at home, and the ends that follow
+//!   what stays of it; `specs/Stops.antt`: what stops the run of all; `specs/Visits.antt`: what a
+//!   visit does; `specs/Ends.antt`: all cells at home, and the ends that follow
 #![tactic(auto)]
 
 mod calls;
 mod cell;
 mod new_cells;
 mod node_run;
+mod node_visit;
 mod node_word;
 mod preparation;
 mod settled_cells;
+mod stop_cause;
 
-pub use calls::{schedule, work};
+pub use calls::{expand, schedule, work};
 pub use cell::NodeCell;
 pub use new_cells::{Cells, make_cells};
 pub use node_run::{RunEnd, resume, run_node};
+pub use node_visit::visit_node;
 pub use node_word::{begin, carry, leave, rest, wake};
 pub use preparation::prepare;
 pub use settled_cells::law_of_settled_cells;
+pub use stop_cause::StopCause;

@@ -1,14 +1,14 @@
 //! Cells made of the seats of a new table.
 ghost use Rattle.std.specs.Prelude.{◌≡◌, ◌<◌, ◌≤◌, [], length, map, vec_capacity, IfErr, IfOk, ℕ};
 ghost use Rattle.exec_laws.specs.Names.{HasEdge, peer};
-ghost use Rattle.exec_table.specs.Made.{IsMade};
+ghost use Rattle.exec_table.specs.Made.{IsNewTable};
 ghost use Rattle.proc_api.specs.Names.{input_count, output_count, wire_at};
 ghost use Rattle.proc_api.specs.Reserves.{AreStarting, holds_node, is_reserved};
-ghost use Rattle.node_cells.specs.NewCells.{AreEnds, AreNewCells, AreNewNodes, AreNewPorts, Fills, HasPorts, HasWire, IsGraphOf, IsNewNode, ends_at, first_mark, port_of_side, sizes_of};
+ghost use Rattle.node_cells.specs.NewCells.{AreEdgesAndPeers, AreNewCells, AreNewNodes, AreNewPorts, Fills, HasEdgeAt, HasPortsWithinLimits, IsGraphOfNodes, IsNewNodeAt, ends_at, first_mark, port_of_side, sizes_of};
 
 use crate::cell::NodeCell;
 use chunk_data::{List, Memory};
-use exec_laws::{NodeMark, NodeState};
+use exec_laws::{NodeMark, NodeStatus};
 use exec_table::{ExecTable, Made, NodeSeat, RootSeat, Sizes, Updated};
 use node_ports::NodePorts;
 use port_word::{Port, PortView, Reserve, Wire};
@@ -46,7 +46,7 @@ pub fn make_cells<P: Processor>(
     reserves: &List<Reserve>,
     workers: u32,
 ) -> Result<Cells<P>, Vec<P>>
-    requires graph { IsGraphOf (length boxes.items) wires.now reserves.now }
+    requires graph { IsGraphOfNodes (length boxes.items) wires.now reserves.now }
     requires few_workers { workers ≤ 16 }
     requires starting { AreStarting reserves.now (map P.seen boxes.items) }
     ensures cells { IfOk result (λ c. AreNewCells P.seen
@@ -74,9 +74,9 @@ fn new_table(
     reserves: &List<Reserve>,
     workers: u32,
 ) -> Result<Made, Memory>
-    requires graph { IsGraphOf nodes wires.now reserves.now }
+    requires graph { IsGraphOfNodes nodes wires.now reserves.now }
     requires few_workers { workers ≤ 16 }
-    ensures { IfOk result (λ m. IsMade (sizes_of nodes wires.now reserves.now workers) m) }
+    ensures { IfOk result (λ m. IsNewTable (sizes_of nodes wires.now reserves.now workers) m) }
 {
     let sizes = Sizes {
         nodes: nodes as u32,
@@ -143,7 +143,7 @@ fn new_nodes(
     wires: &[Wire],
     reserves: &[Reserve],
 ) -> Result<Vec<NewNode>, Memory>
-    requires { (n : ℕ) → HasPorts wires.now n }
+    requires { (n : ℕ) → HasPortsWithinLimits wires.now n }
     ensures { IfOk result (λ all. (length all.items ≡ count)
         × AreNewNodes wires.now reserves.now all.items) }
 {
@@ -161,8 +161,8 @@ fn new_node(
     wires: &[Wire],
     reserves: &[Reserve],
 ) -> Result<NewNode, Memory>
-    requires { HasPorts wires.now n }
-    ensures { IfOk result (λ x. IsNewNode wires.now reserves.now n x) }
+    requires { HasPortsWithinLimits wires.now n }
+    ensures { IfOk result (λ x. IsNewNodeAt wires.now reserves.now n x) }
 {
     let ports = new_ports(alloc, n, wires)?;
     let mark = first_mark(is_reserved(reserves, n));
@@ -173,9 +173,9 @@ fn first_mark(reserved: bool) -> NodeMark
     ensures { result ≡ first_mark reserved }
 {
     let state = if reserved {
-        NodeState::Unborn
+        NodeStatus::Unborn
     } else {
-        NodeState::Due
+        NodeStatus::Due
     };
     NodeMark { state, last: None }
 }
@@ -195,7 +195,7 @@ fn holds_node(reserve: &Reserve, n: usize) -> bool
 
 /// The ports of a node with a new view, in which no flag is set.
 fn new_ports(alloc: Global, n: usize, wires: &[Wire]) -> Result<NodePorts, Memory>
-    requires { HasPorts wires.now n }
+    requires { HasPortsWithinLimits wires.now n }
     ensures { IfOk result (λ p. AreNewPorts wires.now n p) }
 {
     let inputs = count_inputs(wires, n);
@@ -240,9 +240,9 @@ fn ends_of(
     count: usize,
 ) -> Result<Ends, Memory>
     requires few_edges { length wires.now ≤ 1024 }
-    requires each { (k : ℕ) → k < count → HasWire wires.now n (port_of_side consumer k) }
+    requires each { (k : ℕ) → k < count → HasEdgeAt wires.now n (port_of_side consumer k) }
     ensures { IfOk result
-        (λ ends. AreEnds wires.now n consumer count ends.edges.items ends.peers.items) }
+        (λ ends. AreEdgesAndPeers wires.now n consumer count ends.edges.items ends.peers.items) }
 {
     let mut edges = Vec::with_capacity(alloc, count)?;
     let mut peers = Vec::with_capacity(alloc, count)?;
@@ -282,7 +282,7 @@ fn peer_at(wires: &[Wire], e: usize, port: Port) -> u32
 /// The edge at the port of a node.
 #[tactic(auto, unfolding(proc_api::specs::Settled::wire_at))]
 fn edge_at(wires: &[Wire], n: usize, port: Port) -> usize
-    requires { HasWire wires.now n port }
+    requires { HasEdgeAt wires.now n port }
     ensures { HasEdge wires.now n port result }
 {
     for (e, wire) in wires.iter().enumerate() {

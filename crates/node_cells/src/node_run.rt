@@ -1,14 +1,18 @@
 //! A worker runs a node: turn after turn, until its cell may go home.
-ghost use Rattle.std.specs.Prelude.{IfErr, IfOk};
+ghost use Rattle.std.specs.Prelude.{IfErr, IfOk, None};
 ghost use Rattle.exec_table.specs.Seats.{identity_of};
 ghost use Rattle.task_queue.specs.Queues.{IsPassOf};
-ghost use Rattle.node_cells.specs.Turns.{EndsInFault, GoesOn, IsAtWork, IsCarried, IsDue, IsPrepared, KeepsProcessor, Queues, Resumes, RunEndHolds, Runs, Stays};
+ghost use Rattle.node_cells.specs.Stops.{stop_of};
+ghost use Rattle.node_cells.specs.Turns.{Fetches, GoesOn, IsAtWork, IsCarried, IsDue, IsPrepared, IsStopped, KeepsProcessor, Queues, RunEndHolds, Stays, TakesTurns};
+ghost use Rattle.node_cells.specs.Visits.{Resumes};
+ghost use Rattle.node_cells.specs.declared.stop_cause.StopCause.TheVariants.{Fault};
 ghost use Rattle.exec_laws.specs.declared.edges.DueCall.TheVariants.{Schedule};
 
-use crate::calls::{schedule, work};
+use crate::calls::{expand, schedule, work};
 use crate::cell::NodeCell;
 use crate::node_word::{carry, leave, rest};
 use crate::preparation::prepare;
+use crate::stop_cause::StopCause;
 use exec_table::ExecTable;
 use node_ports::Carry;
 use proc_api::{Processor, Status, Wake, WorkFault};
@@ -22,8 +26,6 @@ pub enum RunEnd {
     Rests,
     /// Its device has nothing yet: it is to be queued again.
     Waits,
-    /// Its processor asks that the graph grows.
-    Grows,
 }
 
 /// Carries out all that waits in the view, and offers each node that was charged to the queue.
@@ -59,9 +61,11 @@ fn fetch<P: Processor>(
     cell: &mut NodeCell<P>,
 ) -> Result<Option<RunEnd>, WorkFault>
     requires { IsAtWork P.seen (identity_of table.now) Schedule cell.old }
-    ensures stays { Stays P.seen cell.old cell.new }
+    ensures stays { Stays P.seen None cell.old cell.new }
+    ensures fetches { Fetches (P.seen cell.old.processor) (P.seen cell.new.processor) }
     ensures ok { IfOk result (λ end. GoesOn P.seen (identity_of table.now) end cell.new) }
-    ensures fault { IfErr result (λ f. EndsInFault P.seen (identity_of table.now) f cell.new) }
+    ensures fault { IfErr result
+        (λ f. IsStopped P.seen (identity_of table.now) (Fault f) cell.new) }
 {
     match schedule(table, cell) {
         Ok(Wake::Later) => Ok(Some(RunEnd::Waits)),
@@ -79,11 +83,11 @@ fn follow<P: Processor>(
     table: &ExecTable,
     cell: &mut NodeCell<P>,
     status: Status,
-) -> Result<Option<RunEnd>, WorkFault>
+) -> Result<Option<RunEnd>, StopCause>
     requires { IsCarried P.seen (identity_of table.now) cell.old status }
-    ensures stays { Stays P.seen cell.old cell.new }
+    ensures stays { Stays P.seen (stop_of result) cell.old cell.new }
     ensures ok { IfOk result (λ end. GoesOn P.seen (identity_of table.now) end cell.new) }
-    ensures fault { IfErr result (λ f. EndsInFault P.seen (identity_of table.now) f cell.new) }
+    ensures stop { IfErr result (λ s. IsStopped P.seen (identity_of table.now) s cell.new) }
 {
     match status {
         Status::NeedData | Status::PortFull => {
@@ -99,29 +103,35 @@ fn follow<P: Processor>(
         }
         Status::Ready => match work(table, cell) {
             Ok(()) => Ok(None),
-            Err(fault) => Err(fault),
+            Err(fault) => Err(StopCause::Fault(fault)),
         },
-        Status::Async => fetch(table, cell),
-        Status::ExpandPipeline => Ok(Some(RunEnd::Grows)),
+        Status::Async => match fetch(table, cell) {
+            Ok(end) => Ok(end),
+            Err(fault) => Err(StopCause::Fault(fault)),
+        },
+        Status::ExpandPipeline => match expand(table, cell) {
+            Ok(()) => Ok(None),
+            Err(stop) => Err(stop),
+        },
     }
 }
 
-/// Runs a due node until its cell may go home. After a fault the run of all is to be stopped.
+/// Runs a due node until its cell may go home, or the run of all is to be stopped.
 pub fn run_node<P: Processor, R: Wait>(
     rt: &R,
     table: &ExecTable,
     queue: &TaskQueue,
     tasks: &mut WorkerTasks,
     cell: &mut NodeCell<P>,
-) -> Result<RunEnd, WorkFault>
+) -> Result<RunEnd, StopCause>
     requires pass { IsPassOf queue.now tasks.old.pass }
     requires cell { IsDue P.seen (identity_of table.now) cell.old }
     ensures pass { IsPassOf queue.now tasks.new.pass }
-    ensures stays { Stays P.seen cell.old cell.new }
-    ensures runs { Runs P.seen (identity_of table.now) queue.now cell.old tasks.old
-        cell.new tasks.new }
+    ensures stays { Stays P.seen (stop_of result) cell.old cell.new }
+    ensures turns { TakesTurns P.seen (identity_of table.now) queue.now (stop_of result)
+        cell.old cell.new tasks.old tasks.new }
     ensures ok { IfOk result (λ end. RunEndHolds P.seen (identity_of table.now) end cell.new) }
-    ensures fault { IfErr result (λ f. EndsInFault P.seen (identity_of table.now) f cell.new) }
+    ensures stop { IfErr result (λ s. IsStopped P.seen (identity_of table.now) s cell.new) }
 {
     for _ in rt.forever() {
         let status = prepare(table, cell);
@@ -129,7 +139,7 @@ pub fn run_node<P: Processor, R: Wait>(
         match follow(table, cell, status) {
             Ok(None) => {}
             Ok(Some(end)) => return Ok(end),
-            Err(fault) => return Err(fault),
+            Err(stop) => return Err(stop),
         }
     }
     unreachable!()
@@ -142,19 +152,19 @@ pub fn resume<P: Processor, R: Wait>(
     queue: &TaskQueue,
     tasks: &mut WorkerTasks,
     cell: &mut NodeCell<P>,
-) -> Result<RunEnd, WorkFault>
+) -> Result<RunEnd, StopCause>
     requires pass { IsPassOf queue.now tasks.old.pass }
     requires cell { IsAtWork P.seen (identity_of table.now) Schedule cell.old }
     ensures pass { IsPassOf queue.now tasks.new.pass }
-    ensures stays { Stays P.seen cell.old cell.new }
-    ensures runs { Resumes P.seen (identity_of table.now) queue.now cell.old cell.new
-        tasks.old tasks.new }
+    ensures stays { Stays P.seen (stop_of result) cell.old cell.new }
+    ensures resumes { Resumes P.seen (identity_of table.now) queue.now (stop_of result)
+        cell.old cell.new tasks.old tasks.new }
     ensures ok { IfOk result (λ end. RunEndHolds P.seen (identity_of table.now) end cell.new) }
-    ensures fault { IfErr result (λ f. EndsInFault P.seen (identity_of table.now) f cell.new) }
+    ensures stop { IfErr result (λ s. IsStopped P.seen (identity_of table.now) s cell.new) }
 {
     match fetch(table, cell) {
         Ok(None) => run_node(rt, table, queue, tasks, cell),
         Ok(Some(end)) => Ok(end),
-        Err(fault) => Err(fault),
+        Err(fault) => Err(StopCause::Fault(fault)),
     }
 }

@@ -1,14 +1,14 @@
 //! What comes next with a node, by what its processor answered.
 ghost use Rattle.std.specs.Prelude.{◌≡◌, ◌≢◌, ◌<◌, true, false, length};
 ghost use Rattle.exec_table.specs.Seats.{IsSeatOf, identity_of, view};
-ghost use Rattle.exec_laws.specs.declared.edges.NodeState.TheVariants.{Due, Over, Resting};
+ghost use Rattle.exec_laws.specs.declared.edges.NodeStatus.TheVariants.{Due, Over, Resting};
 ghost use Rattle.node_ports.specs.Peers.{CarriesNext};
 ghost use Rattle.node_ports.specs.declared.actions.Carry.TheVariants.{Done};
 ghost use Rattle.node_cells.specs.Cells.{cell_ports};
 ghost use Rattle.node_cells.specs.Turns.{AtHome, IsDue, KeepsProcessor, MayBegin, TakesBack, is_named_by, IsCarried, IsPrepared, RestsOrGoes};
 
 use crate::cell::NodeCell;
-use exec_laws::NodeState;
+use exec_laws::NodeStatus;
 use exec_table::{ExecTable, NodeSeat, Rested, Updated};
 use node_ports::{Carry, carry_next, merge_updated};
 use proc_api::{Processor, Status};
@@ -45,7 +45,7 @@ pub fn rest<P: Processor>(table: &ExecTable, cell: &mut NodeCell<P>, status: Sta
         Rested::UpdatedAgain => {
             let updated = table.again(&mut cell.seat);
             cell.ports.updated = merge_updated(cell.ports.updated, updated);
-            cell.mark.state = NodeState::Due;
+            cell.mark.state = NodeStatus::Due;
             false
         }
     }
@@ -91,7 +91,7 @@ pub fn begin<P: Processor>(table: &ExecTable, cell: &mut NodeCell<P>)
     let updated = table.begin(&mut cell.seat);
     take_back(table, &mut cell.seat, is_named_by(&updated));
     cell.ports.updated = merge_updated(cell.ports.updated, updated);
-    cell.mark.state = NodeState::Due;
+    cell.mark.state = NodeStatus::Due;
 }
 
 /// A node at rest begins a turn.

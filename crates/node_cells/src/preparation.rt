@@ -1,14 +1,14 @@
 //! A turn of a held node: it looks at its ports and is prepared.
-ghost use Rattle.std.specs.Prelude.{◌≡◌, ◌<◌, true, false, Some, []};
+ghost use Rattle.std.specs.Prelude.{◌≡◌, ◌<◌, true, false, None, Some, []};
 ghost use Rattle.exec_table.specs.Seats.{identity_of, view};
 ghost use Rattle.port_word.specs.Names.{IsAllFinished};
 ghost use Rattle.proc_api.specs.Names.{AllOutputsFinished, FollowsKept, IsRunning};
-ghost use Rattle.exec_laws.specs.Names.{Leaves, Turns, state_after};
+ghost use Rattle.exec_laws.specs.Names.{LeavesView, NodeTurns, state_after};
 ghost use Rattle.node_cells.specs.Cells.{cell_ports};
 ghost use Rattle.node_cells.specs.Turns.{IsDue, IsPrepared, KeepsProcessor, Stays, turn_picture};
 
 use crate::cell::NodeCell;
-use exec_laws::{DueCall, NodeMark, NodeState};
+use exec_laws::{DueCall, NodeMark, NodeStatus};
 use exec_table::ExecTable;
 use node_ports::look_at_updated;
 use port_word::PortView;
@@ -16,7 +16,7 @@ use proc_api::{Processor, Status, shut_down};
 
 /// Where the processor has finished, leaves no port open. A lawful one leaves none itself.
 fn shut_finished_ports(status: Status, view: &mut PortView)
-    ensures { Leaves status view.old view.new }
+    ensures { LeavesView status view.old view.new }
 {
     if let Status::Finished = status {
         if !is_all_finished(view) {
@@ -49,15 +49,15 @@ fn are_outputs_finished(view: &PortView) -> bool
     true
 }
 
-fn state_after(status: Status) -> NodeState
+fn state_after(status: Status) -> NodeStatus
     ensures { result ≡ state_after status }
 {
     match status {
-        Status::NeedData | Status::PortFull => NodeState::Resting,
-        Status::Ready => NodeState::AtWork(DueCall::Work),
-        Status::ExpandPipeline => NodeState::AtWork(DueCall::Expand),
-        Status::Async => NodeState::AtWork(DueCall::Schedule),
-        Status::Finished => NodeState::Over,
+        Status::NeedData | Status::PortFull => NodeStatus::Resting,
+        Status::Ready => NodeStatus::AtWork(DueCall::Work),
+        Status::ExpandPipeline => NodeStatus::AtWork(DueCall::Expand),
+        Status::Async => NodeStatus::AtWork(DueCall::Schedule),
+        Status::Finished => NodeStatus::Over,
     }
 }
 
@@ -65,7 +65,7 @@ fn state_after(status: Status) -> NodeState
 fn prepare_box<P: Processor>(cell: &mut NodeCell<P>) -> Status
     requires running { IsRunning (P.seen cell.old.processor) }
     requires follows { FollowsKept (P.seen cell.old.processor) cell.old.ports.view }
-    ensures turns { Turns (turn_picture P.seen cell.old) (turn_picture P.seen cell.new) }
+    ensures turns { NodeTurns (turn_picture P.seen cell.old) (turn_picture P.seen cell.new) }
     ensures mark { cell.new.mark ≡ record { state = state_after result; last = Some result } }
     ensures ports { cell_ports cell.new
         ≡ record (cell_ports cell.old) { view = cell.new.ports.view } }
@@ -97,7 +97,7 @@ fn look_ports<P: Processor>(table: &ExecTable, cell: &mut NodeCell<P>)
 pub fn prepare<P: Processor>(table: &ExecTable, cell: &mut NodeCell<P>) -> Status
     requires { IsDue P.seen (identity_of table.now) cell.old }
     ensures prepared { IsPrepared P.seen (identity_of table.now) cell.new result }
-    ensures stays { Stays P.seen cell.old cell.new }
+    ensures stays { Stays P.seen None cell.old cell.new }
 {
     look_ports(table, cell);
     prepare_box(cell)

@@ -1,7 +1,7 @@
 use Rattle.node_cells.proofs.Imports.{arith, identity_of, refl, rules}
 use Rattle.node_cells.proofs.ChargeLaws.{charged-inside, few-nodes}
 use Rattle.node_cells.proofs.QueueLaws.{queues-charged, queues-none, queues-silent}
-use Rattle.exec_table.specs.Seats.{key_of}
+use Rattle.exec_table.specs.Seats.{sizes_in}
 use Rattle.node_cells.specs.Cells.{cell_ports}
 use Rattle.node_ports.specs.declared.actions.Carry.TheVariants as carry
 use Rattle.node_cells.proofs.node_run.carry_all.Goals as goal
@@ -25,7 +25,7 @@ pub offer-requires-clause-few : goal.offer-requires-clause-few
 offer-requires-clause-few g c =
     let i = charged-inside (identity_of c.args.table.now) (cell_ports c.loop.cell) _ _ _ _
     c.carry.ensures.carries c.in-Charged.is in
-    let f = few-nodes (key_of c.args.table.now) c.args.table.now.fit in omega (arith, i, f)
+    let f = few-nodes (sizes_in c.args.table.now) c.args.table.now.fit in omega (arith, i, f)
 
 pub loop-preserved : goal.loop-preserved
 loop-preserved g c = (

@@ -3,7 +3,7 @@ use Rattle.node_cells.proofs.StayLaws.{number-ports}
 use Rattle.exec_table.proofs.Ends.{number-made}
 use Rattle.node_cells.proofs.RestLaws.{left-home}
 use Rattle.exec_table.specs.declared.types.Stage.TheVariants.{Over}
-use Rattle.exec_laws.specs.declared.edges.NodeState.TheVariants as node
+use Rattle.exec_laws.specs.declared.edges.NodeStatus.TheVariants as node
 use Rattle.node_cells.proofs.node_word.leave.Goals as goal
 
 pub returns-clause-home : goal.returns-clause-home

@@ -1,4 +1,4 @@
-use Rattle.node_cells.proofs.Imports.{Makes, None, ap, false, identity_of, is_waiting, refl, subst, true, ◌∙◌, ◌≡◌}
+use Rattle.node_cells.proofs.Imports.{MakesStep, None, ap, false, identity_of, is_waiting, refl, subst, true, ◌∙◌, ◌≡◌}
 use Rattle.node_cells.proofs.StayLaws.{number-ports}
 use Rattle.exec_table.proofs.Ends.{number-made}
 use Rattle.node_cells.proofs.RestLaws.{left-home, rested-due}
@@ -12,8 +12,8 @@ pub returns-in-Idle-clause-rests : goal.returns-in-Idle-clause-rests
 returns-in-Idle-clause-rests g c = left-home g.P.Processor.seen (identity_of c.args.table.now)
     c.args.cell.now c.args.status
     c.requires.carried c.rest.new.seat c.token_out.new.seat
-    (subst (λ r. Makes (identity_of c.args.table.now) c.args.cell.now.seat c.rest.new.seat step.Rest
-    None
+    (subst (λ r. MakesStep (identity_of c.args.table.now) c.args.cell.now.seat c.rest.new.seat
+    step.Rest None
     (is_idle (says_idle r))) c.in-Idle.is c.rest.ensures) refl (λ _. refl) refl c.token_out.ensures
     Begun refl (ap is_waiting c.requires.rests) (λ _. refl)
     (λ o. absurd (let z : false ≡ true = o in cc)) refl
@@ -23,8 +23,8 @@ returns-in-UpdatedAgain-clause-rests g c = rested-due g.P.Processor.seen (identi
     c.args.table.now) c.args.cell.now
     c.args.status c.requires.carried c.rest.new.seat c.again-updated.new.seat
     c.merge_updated-cell.result c.again-updated.result _
-    (subst (λ r. Makes (identity_of c.args.table.now) c.args.cell.now.seat c.rest.new.seat step.Rest
-    None
+    (subst (λ r. MakesStep (identity_of c.args.table.now) c.args.cell.now.seat c.rest.new.seat
+    step.Rest None
     (is_idle (says_idle r))) c.in-UpdatedAgain.is c.rest.ensures) c.again-updated.ensures
     c.merge_updated-cell.ensures c.requires.rests refl
 

@@ -1,0 +1,41 @@
+-- What a visit of a node does, and what it leaves of the node's cell.
+use Rattle.node_cells.proofs.Imports.{BoxPicture, Identity, IsSeatOf, NodeCell, None, Option, Some, inl, inr, subst, sym, ◌≡◌}
+use Rattle.exec_laws.specs.declared.edges.DueCall.TheVariants as call
+use Rattle.exec_laws.specs.declared.edges.NodeStatus.{NodeStatus}
+use Rattle.exec_laws.specs.declared.edges.NodeStatus.TheVariants as node
+use Rattle.node_cells.proofs.QueueLaws.{turns-offer}
+use Rattle.node_cells.specs.Stored.{StoredAs}
+use Rattle.node_cells.specs.Visits.{LiesAs, Resumes, Visits, VisitsFrom}
+use Rattle.node_cells.specs.declared.stop_cause.StopCause.{StopCause}
+use Rattle.task_queue.proofs.KeptNumbers.{offers-none}
+use Rattle.task_queue.specs.Tasks.{OffersNumbers}
+use Rattle.task_queue.specs.declared.queue.TaskQueue.{TaskQueue}
+use Rattle.task_queue.specs.declared.tasks.WorkerTasks.{WorkerTasks}
+
+module _ {P : Type 0} (seen : P → BoxPicture) (t : Identity) where
+  pub seat-as : (s : NodeStatus) (c : NodeCell P) → StoredAs seen t s c → IsSeatOf t c.seat
+  seat-as node.Unborn c h = h.seat
+  seat-as node.Due c h = h.cell.seat
+  seat-as node.Resting c h = h.cell.seat
+  seat-as (node.AtWork call.Work) c h = absurd h
+  seat-as (node.AtWork call.Schedule) c h = h.0.cell.seat
+  seat-as (node.AtWork call.Expand) c h = absurd h
+  seat-as node.Over c h = h.cell.seat
+
+  -- the seat of a cell is one of the table's, whatever stopped the run at it
+  pub lies-seat : (o : Option StopCause) (c : NodeCell P) → LiesAs seen t o c → IsSeatOf t c.seat
+  lies-seat None c h = seat-as c.mark.state c h
+  lies-seat (Some s) c h = h.seat
+
+  module _ (q : TaskQueue) (o : Option StopCause) (old new : NodeCell P)
+      (before after : WorkerTasks) where
+    -- what a visit does by the state in which the cell lay
+    pub visits-as : (s : NodeStatus) → old.mark.state ≡ s
+        → VisitsFrom seen t q o s old new before after → Visits seen t q o old new before after
+    visits-as s is h = subst (λ z. VisitsFrom seen t q o z old new before after) (sym is) h
+
+    pub resumes-offer : Resumes seen t q o old new before after → OffersNumbers q before after
+    resumes-offer h = elim h.goes [
+      | inl r ↦ turns-offer r.turns
+      | inr e ↦ subst (OffersNumbers q before) (sym e.1) (offers-none q before)
+    ]
