@@ -1,16 +1,15 @@
 -- All cells, before the run and after it.
-use Rattle.std.proofs.Common.{List, [], ap, length, map, refl, slice_index_or, subst, suc, sym, zero, ℕ, ◌∙◌, ◌∷◌, ◌≡◌}
+use Rattle.std.proofs.Common.{List, None, [], ap, length, map, refl, slice_index_or, subst, suc, sym, zero, ℕ, ◌∙◌, ◌∷◌, ◌≡◌}
 use Rattle.std.proofs.lemmas.List.{length-map}
 use mathlib.Core.Option.{some, some-injective, some-ne-none}
 use lib.ListN.{get_elem?}
-use Rattle.exec_laws.proofs.Acting.{keeps-itself}
-use Rattle.exec_laws.specs.Names.{KeepsBox}
 use Rattle.exec_laws.specs.Prelude.{BoxPicture}
 use Rattle.exec_table.specs.Seats.{Identity}
 use Rattle.node_cells.specs.declared.cell.NodeCell.{NodeCell}
-use Rattle.node_workers.proofs.VisitLaws.{seat-as}
+use Rattle.node_cells.proofs.VisitLaws.{seat-as}
+use Rattle.node_workers.proofs.VisitLaws.{leave-itself}
 use Rattle.node_workers.specs.Ended.{AreEnded, AreNamed, AreStored, named_by}
-use Rattle.node_workers.specs.Named.{CellFits}
+use Rattle.node_workers.specs.Named.{CellFits, VisitsLeave}
 use Rattle.node_workers.specs.Rooms.{as_ended, as_named, node_cell}
 use Rattle.node_workers.specs.declared.named_cell.NamedCell.{NamedCell}
 use Rattle.proc_api.specs.Names.{no_box}
@@ -50,7 +49,9 @@ module _ {P : Type 0} (seen : P → BoxPicture) where
       (λ (d : NamedCell P J) n. CellFits t named seen n d.cell d.stopped) cells (λ n c at. record {
         seat = seat-as seen t c.mark.state c (h.stored n c at);
         number = h.numbers n c at;
-        box = subst (λ b. KeepsBox b (seen c.processor)) (sym (same n c at)) (keeps-itself _);
+        edges = h.edges n c at;
+        box = subst (λ b. VisitsLeave None b (seen c.processor)) (sym (same n c at))
+            (leave-itself _);
         lies = h.stored n c at;
       })
 

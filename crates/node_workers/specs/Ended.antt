@@ -2,6 +2,7 @@
 use Rattle.std.specs.Prelude.{List, [], length, map, slice_index_or, ℕ, ◌≡◌, ◌≤◌}
 use mathlib.Core.Option.{some}
 use lib.ListN.{get_elem?}
+use Rattle.exec_laws.specs.Names.{AreEdgesOf}
 use Rattle.exec_laws.specs.Prelude.{BoxPicture}
 use Rattle.exec_table.specs.Seats.{Identity}
 use Rattle.node_cells.specs.Stored.{IsStored}
@@ -31,6 +32,8 @@ module _ {P : Type 0} (seen : P → BoxPicture) where
     pub few : length cells ≤ 256
     pub stored : (n : ℕ) (c : NodeCell P) → get_elem? cells n ≡ some c → IsStored seen t c
     pub numbers : (n : ℕ) (c : NodeCell P) → get_elem? cells n ≡ some c → c.seat.node ≡ n
+    pub edges : (n : ℕ) (c : NodeCell P) → get_elem? cells n ≡ some c
+        → AreEdgesOf t.sizes.wires n c.ports.inputs.items c.ports.outputs.items
 
   -- what the boxes of the cells are
   abbrev pub named_by : List (NodeCell P) → ℕ → BoxPicture

@@ -1,21 +1,37 @@
 -- What a worker's visit of a node does.
-use Rattle.std.specs.Prelude.{Err, None, Ok, Option, Result, Some, ◌≢◌}
+use Rattle.std.specs.Prelude.{Bool, Err, None, Ok, Option, Result, Some, false, true, ◌≡◌, ◌≢◌}
 use Rattle.core_laws.specs.Steps.{nothing}
 use Rattle.core_laws.specs.declared.types.Step.TheVariants as step
+use Rattle.exec_laws.specs.Prelude.{BoxPicture}
+use Rattle.exec_laws.specs.declared.edges.NodeStatus.{NodeStatus}
 use Rattle.exec_table.specs.Seats.{Identity, WorkerDoes}
 use Rattle.exec_table.specs.declared.rule.WorkerSeat.{WorkerSeat}
+use Rattle.node_cells.specs.Visits.{Visits, run_end_of}
+use Rattle.node_cells.specs.declared.cell.NodeCell.{NodeCell}
 use Rattle.node_cells.specs.declared.node_run.RunEnd.{RunEnd}
 use Rattle.node_cells.specs.declared.node_run.RunEnd.TheVariants as run
-use Rattle.node_workers.specs.declared.named_cell.StopCause.{StopCause}
-use Rattle.node_workers.specs.declared.named_cell.StopCause.TheVariants as cause
-use Rattle.proc_api.specs.declared.status.WorkFault.{WorkFault}
+use Rattle.node_cells.specs.declared.stop_cause.StopCause.{StopCause}
+use Rattle.task_queue.specs.declared.queue.TaskQueue.{TaskQueue}
+use Rattle.task_queue.specs.declared.tasks.WorkerTasks.{WorkerTasks}
 
--- why the run of all is to stop after a node's run
-abbrev pub cause_of : Result RunEnd WorkFault → Option StopCause
-cause_of (Ok run.Rests) = None
-cause_of (Ok run.Waits) = None
-cause_of (Ok run.Grows) = Some cause.Grows
-cause_of (Err f) = Some (cause.Fault f)
+-- whether the node's device has nothing yet
+abbrev pub is_device_waiting : Result RunEnd StopCause → Bool
+is_device_waiting (Ok run.Rests) = false
+is_device_waiting (Ok run.Waits) = true
+is_device_waiting (Err s) = false
+
+-- Whether a node is to be queued again: its device has nothing yet, and nobody stopped the run at
+-- it.
+abbrev pub is_to_queue : Option StopCause → NodeStatus → Bool
+is_to_queue None s = is_device_waiting (Ok (run_end_of s))
+is_to_queue (Some c) s = false
+
+-- a cell at which the run was stopped before is left as it is, and each other one is visited
+abbrev pub VisitsCell : {P : Type 0} → (P → BoxPicture) → Identity → TaskQueue
+    → (was is : Option StopCause) → (old new : NodeCell P) → (before after : WorkerTasks) → Type 0
+VisitsCell seen t q None is old new before after = Visits seen t q is old new before after
+VisitsCell seen t q (Some c) is old new before after =
+    (is ≡ Some c) × (new ≡ old) × (after ≡ before)
 
 -- where a cause was noted at a node, the worker told all others to stop
 abbrev pub Stops : Identity → WorkerSeat → Option StopCause → Option StopCause → Type 0

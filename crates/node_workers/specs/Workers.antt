@@ -1,10 +1,25 @@
 -- What workers share, and what each has.
-use Rattle.std.specs.Prelude.{ℕ, ◌≡◌, ◌≤◌}
-use Rattle.exec_table.specs.Seats.{Identity, IsWorkerOf, identity_of}
+use Rattle.std.specs.Prelude.{ℕ, ◌≡◌, ◌≤◌, ◌⊎◌}
+use Rattle.core_laws.specs.Steps.{seen as tells_seen}
+use Rattle.core_laws.specs.declared.types.Step.TheVariants as step
+use Rattle.exec_table.specs.Seats.{Identity, IsWorkerOf, WorkerDoes, identity_of, seen_of}
+use Rattle.exec_table.specs.declared.rule.WorkerSeat.{WorkerSeat}
+use Rattle.exec_table.specs.declared.types.Seen.{Seen}
+use Rattle.exec_table.specs.declared.types.Seen.TheVariants.{Stopped, Zero}
 use Rattle.node_workers.specs.declared.worker.Shared.{Shared}
 use Rattle.node_workers.specs.declared.worker.Worker.{Worker}
 use Rattle.task_queue.specs.Queues.{IsPassOf}
 use Rattle.task_queue.specs.Shelves.{IsIdleSeatOf, parts, places}
+
+-- A worker of the table saw, at a moment, that nothing is pending or that the run was stopped.
+pub record SawEnd (t : Identity) (s : WorkerSeat) : Type 0 where
+  pub seen : Seen
+  pub is_end : (seen ≡ Zero) ⊎ (seen ≡ Stopped)
+  pub saw : WorkerDoes t s step.See (tells_seen (seen_of seen))
+
+pub record WorkerHasEnded (t : Identity) (s : WorkerSeat) : Type 0 where
+  pub seat : IsWorkerOf t s
+  pub saw : SawEnd t s
 
 module _ {P J : Type 0} where
   -- the table is the named one, and the places on the shelf are few enough for each to be kept
@@ -17,6 +32,11 @@ module _ {P J : Type 0} where
     pub seat : IsWorkerOf (identity_of s.table) w.seat
     pub pass : IsPassOf s.queue w.tasks.pass
     pub shelf : IsIdleSeatOf s.shelf w.shelf
+
+  -- the same, and the worker saw that it is to end
+  pub record IsWorkerOver (s : Shared P J) (w : Worker P J) : Type 0 where
+    pub at : IsWorkerAt s w
+    pub saw : SawEnd (identity_of s.table) w.seat
 
   -- the worker's share of the shelf
   abbrev pub parts_of : Worker P J → ℕ

@@ -3,8 +3,8 @@
 //! The cells of all nodes lie on a shelf. A worker takes a number, takes that node's cell from the
 //! shelf, runs the node until its cell may go home, and puts it back. It takes the numbers that it
 //! kept first, then those in the queue, and before each it sees whether anything is pending and
-//! whether the run was stopped. After a fault, or where a processor asks that the graph grows, it
-//! notes the cause in the cell, which goes home held, and stops the run of all.
+//! whether the run was stopped. After a fault, or a growth with a flaw, it notes the cause in the
+//! cell, which goes home held, and stops the run of all.
 //!
 //! No processor is prepared by two threads at once, or while it works: each call of a box is made
 //! through its `NodeCell`, and only in a turn, in which the seat of that cell says held (`IsDue`,
@@ -20,9 +20,9 @@
 //! - `worker.rt`: what workers share, and a worker from its first number to its end
 //! - `rooms.rt`: the room of a run, which is taken before its first step
 //! - `run.rt`: a run of all cells by so many workers
-//! - `specs/Named.antt`: when a cell fits its place; `specs/Visits.antt`: when a visit stops the
-//!   run; `specs/Workers.antt`: what workers share and have; `specs/Ended.antt`: the cells before
-//!   a run and after it
+//! - `specs/Named.antt`: when a cell fits its place; `specs/Visits.antt`: what a visit does;
+//!   `specs/Workers.antt`: what workers share and have, and when they end; `specs/Ended.antt`: the
+//!   cells before a run and after it
 #![tactic(auto)]
 
 mod named_cell;
@@ -31,7 +31,7 @@ mod run;
 mod visit;
 mod worker;
 
-pub use named_cell::{EndedCell, NamedCell, Naming, StopCause};
+pub use named_cell::{EndedCell, NamedCell, Naming};
 pub use run::{Ended, NotStarted, run_cells};
 pub use visit::visit_cell;
 pub use worker::{Shared, Worker, run_worker, run_workers};

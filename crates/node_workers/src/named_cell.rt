@@ -3,8 +3,8 @@ ghost use Rattle.std.specs.Prelude.{ℕ};
 ghost use Rattle.exec_laws.specs.Prelude.{BoxPicture};
 ghost use Rattle.exec_table.specs.Seats.{Identity};
 
-use node_cells::NodeCell;
-use proc_api::{Processor, WorkFault};
+use node_cells::{NodeCell, StopCause};
+use proc_api::Processor;
 use std::marker::PhantomData;
 use task_queue::Placed;
 
@@ -14,15 +14,6 @@ pub trait Naming: Send + Sync {
     ghost identity: { Identity };
 
     ghost named: { ℕ → BoxPicture };
-}
-
-/// Why a worker stopped the run at a node.
-#[derive(Clone, Copy, PartialEq, Eq, Drop)]
-pub enum StopCause {
-    /// Its processor answered this fault.
-    Fault(WorkFault),
-    /// Its processor asks that the graph grows.
-    Grows,
 }
 
 /// A node's cell with the cause for which the run was stopped at it.

@@ -1,20 +1,20 @@
 //! A run of all cells by so many workers.
 ghost use Rattle.std.specs.Prelude.{◌≡◌, ◌+◌, ◌<◌, ◌≤◌, All, IfErr, IfOk, length};
-ghost use Rattle.exec_table.specs.Seats.{IsRootOf, IsWorkerOf, identity_of, key_of};
+ghost use Rattle.exec_table.specs.Seats.{IsRootOf, identity_of, sizes_in};
 ghost use Rattle.node_workers.specs.Ended.{AreEnded, AreNamed, AreStored, named_by};
 ghost use Rattle.node_workers.specs.NotStarted.{IsAsItWas};
 ghost use Rattle.node_workers.specs.Rooms.{IsDequeFor, IsRoomFor};
-ghost use Rattle.node_workers.specs.Workers.{IsShared, IsWorkerAt, parts_of};
-ghost use Rattle.task_queue.specs.Numbers.{total};
+ghost use Rattle.node_workers.specs.Workers.{IsShared, IsWorkerAt, IsWorkerOver, WorkerHasEnded, parts_of};
+ghost use Rattle.task_queue.specs.Numbers.{total_over};
 ghost use Rattle.task_queue.specs.Queues.{IsPassOf};
-ghost use Rattle.task_queue.specs.Rules.{all_parts};
+ghost use Rattle.task_queue.specs.Rules.{all_shares};
 ghost use Rattle.task_queue.specs.Shelves.{IsIdleSeatOf, parts, places};
-ghost use Rattle.task_queue.specs.Tasks.{Offers};
+ghost use Rattle.task_queue.specs.Tasks.{OffersNumbers};
 
 use crate::named_cell::{EndedCell, NamedCell, Naming};
 use crate::rooms::{Rooms, end_cells, make_rooms, name_cells, unname_cells};
 use crate::worker::{Shared, Worker, run_workers};
-use exec_laws::NodeState;
+use exec_laws::NodeStatus;
 use exec_table::{ExecTable, RootSeat, WorkerSeat};
 use node_cells::NodeCell;
 use proc_api::Processor;
@@ -61,10 +61,10 @@ fn offer_first<P: Processor, R: Wait>(
     requires pass { IsPassOf queue.now tasks.old.pass }
     requires few { length cells.now ≤ 256 }
     ensures pass { IsPassOf queue.now tasks.new.pass }
-    ensures offers { Offers queue.now tasks.old tasks.new }
+    ensures offers { OffersNumbers queue.now tasks.old tasks.new }
 {
     for n in 0..cells.len() {
-        if cells[n].mark.state == NodeState::Due && cells[n].ports.outputs.is_empty() {
+        if cells[n].mark.state == NodeStatus::Due && cells[n].ports.outputs.is_empty() {
             tasks.offer(rt, queue, n as u32);
         }
     }
@@ -78,7 +78,7 @@ fn next_worker<P: Processor, J: Naming>(
     held: VecDeque<u32>,
 ) -> Worker<P, J>
     requires root { IsRootOf (identity_of shared.now.table) root.old }
-    requires spare { root.old.seat.me.0.made < (key_of shared.now.table).workers }
+    requires spare { root.old.seat.me.0.made < (sizes_in shared.now.table).workers }
     requires from { IsWorkerAt shared.now from.old }
     requires share { 1 < parts_of from.old }
     requires held { IsDequeFor (places shared.now.shelf) held }
@@ -105,14 +105,14 @@ fn make_workers<P: Processor, J: Naming>(
 ) -> Vec<Worker<P, J>>
     requires root { IsRootOf (identity_of shared.now.table) root.old }
     requires spare { root.old.seat.me.0.made + length held.items
-        ≤ (key_of shared.now.table).workers }
-    requires first { IsWorkerAt shared.now first × (parts_of first ≡ all_parts) }
+        ≤ (sizes_in shared.now.table).workers }
+    requires first { IsWorkerAt shared.now first × (parts_of first ≡ all_shares) }
     requires few { length held.items ≤ 16 }
     requires held { All (IsDequeFor (places shared.now.shelf)) held.items }
     requires room { IsRoomFor (length held.items + 1) workers }
     ensures root { IsRootOf (identity_of shared.now.table) root.new }
     ensures workers { All (IsWorkerAt shared.now) result.items }
-    ensures whole { total parts_of result.items ≡ all_parts }
+    ensures whole { total_over parts_of result.items ≡ all_shares }
     ensures count { length result.items ≡ length held.items + 1 }
 {
     while let Some(held) = held.pop() {
@@ -131,12 +131,13 @@ fn part_workers<P: Processor, J: Naming>(
     shelf_seats: &mut Vec<ShelfSeat<NamedCell<P, J>>>,
     _shared: &Shared<P, J>,
 )
-    requires workers { All (IsWorkerAt _shared.now) workers.items }
+    requires workers { All (IsWorkerOver _shared.now) workers.items }
     requires seats { IsRoomFor (length workers.items) seats.old }
     requires shelf_seats { IsRoomFor (length workers.items) shelf_seats.old }
-    ensures seats { All (IsWorkerOf (identity_of _shared.now.table)) seats.new.items }
+    ensures seats { All (WorkerHasEnded (identity_of _shared.now.table)) seats.new.items }
+    ensures count { length seats.new.items ≡ length workers.items }
     ensures idle { All (IsIdleSeatOf _shared.now.shelf) shelf_seats.new.items }
-    ensures parts { total parts shelf_seats.new.items ≡ total parts_of workers.items }
+    ensures parts { total_over parts shelf_seats.new.items ≡ total_over parts_of workers.items }
 {
     while let Some(worker) = workers.pop() {
         let Worker {
@@ -169,13 +170,14 @@ fn run_shared<P: Processor, J: Naming, R: Threads + Wait + Sync>(
     requires shared { IsShared J.identity shared }
     requires root { IsRootOf (identity_of shared.table) root }
     requires workers { All (IsWorkerAt shared) workers.items }
-    requires whole { total parts_of workers.items ≡ all_parts }
+    requires whole { total_over parts_of workers.items ≡ all_shares }
     requires seats { IsRoomFor (length workers.items) rooms.seats }
     requires shelf_seats { IsRoomFor (length workers.items) rooms.shelf_seats }
     requires ended { IsRoomFor (places shared.shelf) rooms.ended }
     ensures table { result.table ≡ shared.table }
     ensures root { IsRootOf (identity_of result.table) result.root }
-    ensures workers { All (IsWorkerOf (identity_of result.table)) result.workers.items }
+    ensures workers { All (WorkerHasEnded (identity_of result.table)) result.workers.items }
+    ensures count { length result.workers.items ≡ length workers.items }
     ensures ended { AreEnded P.seen J.identity J.named (places shared.shelf) result.cells.items }
 {
     let EndRooms {
@@ -212,12 +214,13 @@ fn run_named<P: Processor, J: Naming, R: Threads + Wait + Sync>(
     requires root { IsRootOf (identity_of table) root }
     requires workers { (1 ≤ workers) × (workers ≤ 16) }
     requires queued { 0 < queued }
-    requires spare { root.seat.me.0.made + workers ≤ (key_of table).workers }
+    requires spare { root.seat.me.0.made + workers ≤ (sizes_in table).workers }
     requires stored { AreStored P.seen J.identity cells.items }
     requires named { AreNamed P.seen J.named cells.items }
     ensures table { IfOk result (λ r. r.table ≡ table) }
     ensures root { IfOk result (λ r. IsRootOf (identity_of table) r.root) }
-    ensures workers { IfOk result (λ r. All (IsWorkerOf (identity_of table)) r.workers.items) }
+    ensures workers { IfOk result (λ r. All (WorkerHasEnded (identity_of table)) r.workers.items) }
+    ensures count { IfOk result (λ r. length r.workers.items ≡ workers) }
     ensures ended { IfOk result (λ r.
         AreEnded P.seen J.identity J.named (length cells.items) r.cells.items) }
     ensures err { IfErr result (λ r. IsAsItWas table root cells r) }
@@ -267,7 +270,8 @@ fn run_named<P: Processor, J: Naming, R: Threads + Wait + Sync>(
 /// Runs the cells of all nodes, in order of their numbers, by so many workers until nothing is
 /// pending or the run was stopped. The queue has room for so many numbers; one that finds none
 /// stays with its worker. All memory is taken before the first step; where it is wanting all is
-/// given back as it was. Afterwards each cell is that of its node, with the box that it had.
+/// given back as it was. Afterwards each cell is that of its node, with the box that it had, and
+/// each worker saw that nothing is pending or that the run was stopped.
 pub fn run_cells<P: Processor, R: Threads + Wait + Sync>(
     rt: &R,
     alloc: Global,
@@ -280,11 +284,12 @@ pub fn run_cells<P: Processor, R: Threads + Wait + Sync>(
     requires root { IsRootOf (identity_of table) root }
     requires workers { (1 ≤ workers) × (workers ≤ 16) }
     requires queued { 0 < queued }
-    requires spare { root.seat.me.0.made + workers ≤ (key_of table).workers }
+    requires spare { root.seat.me.0.made + workers ≤ (sizes_in table).workers }
     requires stored { AreStored P.seen (identity_of table) cells.items }
     ensures table { IfOk result (λ r. r.table ≡ table) }
     ensures root { IfOk result (λ r. IsRootOf (identity_of table) r.root) }
-    ensures workers { IfOk result (λ r. All (IsWorkerOf (identity_of table)) r.workers.items) }
+    ensures workers { IfOk result (λ r. All (WorkerHasEnded (identity_of table)) r.workers.items) }
+    ensures count { IfOk result (λ r. length r.workers.items ≡ workers) }
     ensures ended { IfOk result (λ r. AreEnded P.seen (identity_of table)
         (named_by P.seen cells.items) (length cells.items) r.cells.items) }
     ensures err { IfErr result (λ r. IsAsItWas table root cells r) }

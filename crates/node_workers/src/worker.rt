@@ -1,9 +1,9 @@
 //! A worker, from its first number to its end, and all workers beside each other.
 ghost use Rattle.std.specs.Prelude.{◌≡◌, ◌<◌, ◌≤◌, All};
-ghost use Rattle.node_workers.specs.Workers.{IsShared, IsWorkerAt, parts_of};
-ghost use Rattle.task_queue.specs.Numbers.{total};
+ghost use Rattle.node_workers.specs.Workers.{IsShared, IsWorkerAt, IsWorkerOver, parts_of};
+ghost use Rattle.task_queue.specs.Numbers.{total_over};
 ghost use Rattle.task_queue.specs.Shelves.{parts, places};
-ghost use Rattle.task_queue.specs.Tasks.{Offers};
+ghost use Rattle.task_queue.specs.Tasks.{OffersNumbers};
 
 use crate::named_cell::{NamedCell, Naming};
 use crate::visit::visit_cell;
@@ -46,7 +46,7 @@ fn visit<P: Processor, J: Naming, R: Wait>(
     requires place { n < places shared.now.shelf }
     ensures worker { IsWorkerAt shared.now worker.new }
     ensures parts { parts worker.new.shelf ≡ parts worker.old.shelf }
-    ensures offers { Offers shared.now.queue worker.old.tasks worker.new.tasks }
+    ensures offers { OffersNumbers shared.now.queue worker.old.tasks worker.new.tasks }
 {
     let mut named = shared.shelf.take(rt, &mut worker.shelf, n);
     let waits = visit_cell(
@@ -59,7 +59,7 @@ fn visit<P: Processor, J: Naming, R: Wait>(
     );
     shared.shelf.put(&mut worker.shelf, n, named);
     if waits {
-        worker.tasks.offer(rt, &shared.queue, n);
+        worker.tasks.offer_again(rt, &shared.queue, n);
     }
 }
 
@@ -86,8 +86,8 @@ fn visit_next<P: Processor, J: Naming, R: Wait>(
     }
 }
 
-/// A worker visits nodes until nothing is pending, or the run was stopped. It pauses where there is
-/// no number.
+/// A worker visits nodes until nothing is pending, or the run was stopped, which it lets all others
+/// see. Where there is no number it looks a few times more, and then sleeps until one is offered.
 pub fn run_worker<P: Processor, J: Naming, R: Wait>(
     rt: &R,
     shared: &Shared<P, J>,
@@ -95,17 +95,24 @@ pub fn run_worker<P: Processor, J: Naming, R: Wait>(
 )
     requires shared { IsShared J.identity shared.now }
     requires worker { IsWorkerAt shared.now worker.old }
-    ensures worker { IsWorkerAt shared.now worker.new }
+    ensures worker { IsWorkerOver shared.now worker.new }
     ensures parts { parts worker.new.shelf ≡ parts worker.old.shelf }
 {
     let backoff = Backoff::new();
+    let bell = &shared.queue.bell;
     for _ in rt.forever() {
+        let count = bell.count();
         match shared.table.see(&mut worker.seat) {
-            Seen::Zero | Seen::Stopped => return,
+            Seen::Zero | Seen::Stopped => {
+                bell.ring_for_all();
+                return;
+            }
             Seen::Pending(_) => {}
         }
         if visit_next(rt, shared, worker) {
             backoff.reset();
+        } else if backoff.is_completed() {
+            bell.sleep(rt, count);
         } else {
             backoff.snooze();
         }
@@ -121,8 +128,8 @@ pub fn run_workers<P: Processor, J: Naming, R: Threads + Wait + Sync>(
 )
     requires shared { IsShared J.identity shared.now }
     requires workers { All (IsWorkerAt shared.now) workers.old }
-    ensures workers { All (IsWorkerAt shared.now) workers.new }
-    ensures parts { total parts_of workers.new ≡ total parts_of workers.old }
+    ensures workers { All (IsWorkerOver shared.now) workers.new }
+    ensures parts { total_over parts_of workers.new ≡ total_over parts_of workers.old }
 {
     for_each_mut(
         rt,
@@ -131,7 +138,7 @@ pub fn run_workers<P: Processor, J: Naming, R: Threads + Wait + Sync>(
         &|_, worker: &mut Worker<P, J>| -> ()
             requires shared { IsShared J.identity shared.now }
             requires worker { IsWorkerAt shared.now worker.old }
-            ensures { IsWorkerAt shared.entry.now worker.new
+            ensures { IsWorkerOver shared.entry.now worker.new
                 × (parts_of worker.new ≡ parts_of worker.old) }
         { run_worker(rt, shared, worker) },
     );

@@ -4,7 +4,7 @@ use Rattle.node_workers.specs.Rooms.{IsDequeFor}
 use Rattle.node_workers.specs.Workers.{IsWorkerAt, parts_of}
 use Rattle.node_workers.specs.declared.worker.Worker.{Worker}
 use Rattle.task_queue.proofs.Counts.{total-push}
-use Rattle.task_queue.specs.Numbers.{total}
+use Rattle.task_queue.specs.Numbers.{total_over}
 use Rattle.task_queue.specs.Shelves.{places}
 use Rattle.node_workers.proofs.run.make_workers.Goals as goal
 
@@ -21,7 +21,7 @@ loop-held-preserved g c =
       spare = let s = inv.spare in omega arith;
       first = did.from;
       whole = let t = total-push parts_of c.loop-held.workers.items w in
-          let p = ap (total {V = Worker g.row.P.Denot g.row.J.Denot} parts_of) pushed in
+          let p = ap (total_over {V = Worker g.row.P.Denot g.row.J.Denot} parts_of) pushed in
           let k = inv.whole in omega arith;
       parts = let k = inv.parts in omega arith;
       many = let k = inv.many in omega arith;
@@ -41,6 +41,7 @@ returns-clause-workers g c =
 
 pub returns-clause-whole : goal.returns-clause-whole
 returns-clause-whole g c =
-    ap (total {V = Worker g.row.P.Denot g.row.J.Denot} parts_of) c.push_reserved-2.ensures.items
+    ap (total_over {V = Worker g.row.P.Denot g.row.J.Denot} parts_of)
+    c.push_reserved-2.ensures.items
     ∙ (total-push parts_of c.loop-held.workers.items c.loop-held.first
     ∙ c.loop-held.invariant.whole)

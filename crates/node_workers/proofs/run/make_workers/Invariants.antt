@@ -1,19 +1,19 @@
 use Rattle.std.proofs.Common.{All, length, vec_capacity, ◌+◌, ◌≡◌, ◌≤◌}
-use Rattle.exec_table.specs.Seats.{IsRootOf, identity_of, key_of}
+use Rattle.exec_table.specs.Seats.{IsRootOf, identity_of, sizes_in}
 use Rattle.node_workers.specs.Rooms.{IsDequeFor}
 use Rattle.node_workers.specs.Workers.{IsWorkerAt, parts_of}
-use Rattle.task_queue.specs.Numbers.{total}
-use Rattle.task_queue.specs.Rules.{all_parts}
+use Rattle.task_queue.specs.Numbers.{total_over}
+use Rattle.task_queue.specs.Rules.{all_shares}
 use Rattle.task_queue.specs.Shelves.{places}
 use Rattle.node_workers.proofs.run.make_workers.Given as goal
 
 abbrev pub invariant-loop-held : goal.invariant-loop-held
 invariant-loop-held g l = record {
   root : IsRootOf (identity_of l.shared.table) l.root;
-  spare : l.root.seat.me.0.made + length l.held.items ≤ (key_of l.shared.table).workers;
+  spare : l.root.seat.me.0.made + length l.held.items ≤ (sizes_in l.shared.table).workers;
   first : IsWorkerAt l.shared l.first;
-  whole : total parts_of l.workers.items + parts_of l.first ≡ all_parts;
-  parts : parts_of l.first + length l.workers.items ≡ all_parts;
+  whole : total_over parts_of l.workers.items + parts_of l.first ≡ all_shares;
+  parts : parts_of l.first + length l.workers.items ≡ all_shares;
   many : length l.workers.items + length l.held.items ≡ length l.fn.held.items;
   held : All (IsDequeFor (places l.shared.shelf)) l.held.items;
   room : length l.fn.held.items + 1 ≤ vec_capacity l.workers;

@@ -1,7 +1,7 @@
 use Rattle.std.proofs.Common.{subst, sym}
 use Rattle.task_queue.proofs.KeptNumbers.{offers-none}
 use Rattle.task_queue.specs.Queues.{IsPassOf}
-use Rattle.task_queue.specs.Tasks.{Offers, offered_more}
+use Rattle.task_queue.specs.Tasks.{OffersNumbers, offered_more}
 use Rattle.task_queue.specs.declared.tasks.WorkerTasks.{WorkerTasks}
 use Rattle.node_workers.proofs.run.offer_first.Goals as goal
 use Rattle.node_workers.proofs.run.offer_first.Goals.{else-eq, then-eq+then-is_empty}
@@ -12,12 +12,12 @@ loop-n-init g c = (c.requires.pass, offers-none _ _)
 pub loop-n-preserved : goal.loop-n-preserved
 loop-n-preserved g c = elim c.if-eq.branch [
   | then-eq+then-is_empty w ↦ subst (λ (t : WorkerTasks).
-      IsPassOf c.args.queue.now t.pass × Offers c.args.queue.now c.args.tasks.now t)
+      IsPassOf c.args.queue.now t.pass × OffersNumbers c.args.queue.now c.args.tasks.now t)
       (sym w.tasks-is) (
         w.offer.ensures.pass,
         (_, offered_more c.loop-n.invariant.1.1 w.offer.ensures.offered),
       )
   | else-eq w ↦ subst (λ (t : WorkerTasks).
-      IsPassOf c.args.queue.now t.pass × Offers c.args.queue.now c.args.tasks.now t)
+      IsPassOf c.args.queue.now t.pass × OffersNumbers c.args.queue.now c.args.tasks.now t)
       (sym w.tasks-is) c.loop-n.invariant
 ]

@@ -1,6 +1,6 @@
 use Rattle.task_queue.specs.Queues.{IsPassOf}
-use Rattle.task_queue.specs.Tasks.{Offers}
+use Rattle.task_queue.specs.Tasks.{OffersNumbers}
 use Rattle.node_workers.proofs.run.offer_first.Given as goal
 
 abbrev pub invariant-loop-n : goal.invariant-loop-n
-invariant-loop-n g l = IsPassOf l.queue l.tasks.pass × Offers l.queue l.initial.tasks l.tasks
+invariant-loop-n g l = IsPassOf l.queue l.tasks.pass × OffersNumbers l.queue l.initial.tasks l.tasks

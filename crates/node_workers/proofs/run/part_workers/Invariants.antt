@@ -1,17 +1,18 @@
 use Rattle.std.proofs.Common.{All, length, vec_capacity, ◌+◌, ◌≡◌, ◌≤◌}
-use Rattle.exec_table.specs.Seats.{IsWorkerOf, identity_of}
-use Rattle.node_workers.specs.Workers.{IsWorkerAt, parts_of}
-use Rattle.task_queue.specs.Numbers.{total}
+use Rattle.exec_table.specs.Seats.{identity_of}
+use Rattle.node_workers.specs.Workers.{IsWorkerOver, WorkerHasEnded, parts_of}
+use Rattle.task_queue.specs.Numbers.{total_over}
 use Rattle.task_queue.specs.Shelves.{IsIdleSeatOf, parts}
 use Rattle.node_workers.proofs.run.part_workers.Given as goal
 
 abbrev pub invariant-loop-worker : goal.invariant-loop-worker
 invariant-loop-worker g l = record {
-  left : All (IsWorkerAt l._shared) l.workers.items;
-  seats : All (IsWorkerOf (identity_of l._shared.table)) l.seats.items;
+  left : All (IsWorkerOver l._shared) l.workers.items;
+  seats : All (WorkerHasEnded (identity_of l._shared.table)) l.seats.items;
+  many : length l.seats.items + length l.workers.items ≡ length l.fn.workers.items;
   idle : All (IsIdleSeatOf l._shared.shelf) l.shelf_seats.items;
-  whole : total parts l.shelf_seats.items + total parts_of l.workers.items
-      ≡ total parts_of l.fn.workers.items;
+  whole : total_over parts l.shelf_seats.items + total_over parts_of l.workers.items
+      ≡ total_over parts_of l.fn.workers.items;
   seats_room : length l.seats.items + length l.workers.items ≤ vec_capacity l.seats;
   shelf_room : length l.shelf_seats.items + length l.workers.items ≤ vec_capacity l.shelf_seats;
 }

@@ -1,10 +1,11 @@
 use Rattle.std.proofs.Common.{All, ap, length, map, refl, subst, sym, ◌∙◌, ℕ}
 use Rattle.std.proofs.lemmas.List.{length-map}
-use Rattle.exec_table.specs.Seats.{IsWorkerOf, identity_of}
+use Rattle.exec_table.specs.Seats.{identity_of}
 use Rattle.exec_table.specs.declared.rule.ExecTable.{ExecTable}
 use Rattle.node_workers.proofs.EndLaws.{node_cells-named, stored-fit}
 use Rattle.node_workers.specs.Named.{CellFits}
 use Rattle.node_workers.specs.Rooms.{IsDequeFor, as_named, node_cell}
+use Rattle.node_workers.specs.Workers.{WorkerHasEnded}
 use Rattle.node_workers.specs.declared.named_cell.NamedCell.{NamedCell}
 use Rattle.task_queue.specs.Values.{AllFit}
 use Rattle.node_workers.proofs.run.run_named.Goals as goal
@@ -35,5 +36,6 @@ returns-in-Err-clause-err g c = record {
 
 pub returns-in-Ok-make-clause-workers : goal.returns-in-Ok-make-clause-workers
 returns-in-Ok-make-clause-workers g c =
-    subst (λ (t : ExecTable). All (IsWorkerOf (identity_of t)) c.run_shared.result.workers.items)
+    subst (λ (t : ExecTable). All (WorkerHasEnded (identity_of t))
+    c.run_shared.result.workers.items)
     c.run_shared.ensures.table c.run_shared.ensures.workers

@@ -1,16 +1,16 @@
-use Rattle.std.proofs.Common.{ap, drop, length, subst, sym, take, ℕ, ◌++◌, ◌∙◌}
+use Rattle.std.proofs.Common.{All, ap, drop, length, subst, sym, take, ℕ, ◌++◌, ◌∙◌}
 use lib.Seq.{take-append_seam}
 use Rattle.node_workers.proofs.EndLaws.{cleared-ended}
 use Rattle.node_workers.specs.Ended.{AreEnded}
-use Rattle.node_workers.specs.Workers.{parts_of}
+use Rattle.node_workers.specs.Workers.{IsWorkerOver, parts_of}
 use Rattle.node_workers.specs.declared.worker.Worker.{Worker}
-use Rattle.task_queue.specs.Numbers.{total}
+use Rattle.task_queue.specs.Numbers.{total_over}
 use Rattle.task_queue.specs.Shelves.{places}
 use Rattle.node_workers.proofs.run.run_shared.Goals as goal
 
 pub clear-requires-after_bounds : goal.clear-requires-after_bounds
 clear-requires-after_bounds g c κs within =
-    let sum = total {V = Worker g.row.P.Denot g.row.J.Denot} parts_of in
+    let sum = total_over {V = Worker g.row.P.Denot g.row.J.Denot} parts_of in
     let now = c.run_workers.new.workers in let left = drop (length now) c.args.workers.items in (
       c.part_workers.ensures.parts ∙ (ap sum (ap (λ (n : ℕ). take n (now ++ left))
           (sym (c.run_workers.auto.workers ∙ c.as_mut_slice.ensures.len))
@@ -19,6 +19,21 @@ clear-requires-after_bounds g c κs within =
           ∙ (ap sum c.as_mut_slice.ensures.value ∙ c.requires.whole))),
       c.part_workers.ensures.idle,
     )
+
+pub part_workers-requires-clause-workers : goal.part_workers-requires-clause-workers
+part_workers-requires-clause-workers g c κs within =
+    let now = c.run_workers.new.workers in let left = drop (length now) c.args.workers.items in
+    subst (All (IsWorkerOver c.args.shared)) (sym (ap (λ (n : ℕ). take n (now ++ left))
+    (sym (c.run_workers.auto.workers ∙ c.as_mut_slice.ensures.len)) ∙ take-append_seam now left))
+    c.run_workers.ensures.workers
+
+pub returns-clause-count : goal.returns-clause-count
+returns-clause-count g c =
+    let now = c.run_workers.new.workers in let left = drop (length now) c.args.workers.items in
+    let many = c.run_workers.auto.workers ∙ c.as_mut_slice.ensures.len in
+    c.part_workers.ensures.count
+    ∙ (ap length (ap (λ (n : ℕ). take n (now ++ left)) (sym many) ∙ take-append_seam now left)
+    ∙ (many ∙ c.args.workers.ok.0))
 
 pub returns-clause-ended : goal.returns-clause-ended
 returns-clause-ended g c = subst

@@ -1,9 +1,31 @@
-use Rattle.std.proofs.Common.{sym, ◌∙◌}
+use Rattle.std.proofs.Common.{ap, sym, ◌∙◌}
+use Rattle.exec_table.specs.Seats.{identity_of}
+use Rattle.node_workers.proofs.VisitLaws.{queue-again, visited-fits, visits-cell}
+use Rattle.node_workers.specs.Visits.{is_to_queue}
 use Rattle.task_queue.proofs.KeptNumbers.{offers-none}
 use Rattle.node_workers.proofs.visit.visit_cell.Goals as goal
 
 pub returns-in-Some-clause-offers : goal.returns-in-Some-clause-offers
 returns-in-Some-clause-offers g c = offers-none _ _
 
+pub returns-clause-fits : goal.returns-clause-fits
+returns-clause-fits g c = let ran = c.visit_node-ran.ensures in
+    visited-fits g.P.Processor.seen g.J.Naming.identity g.J.Naming.named
+    (identity_of c.args.table.now) _ c.args.named.now.cell c.visit_node-ran.new.cell
+    c.args.named.now.stopped _ _ c.requires.table c.in-None.is c.stop_of-cause.ensures
+    c.requires.fits ran.stays ran.blank ran.lies
+
 pub returns-clause-stops : goal.returns-clause-stops
 returns-clause-stops g c = λ d. c.stop_for.ensures.told (λ n. d (n ∙ sym c.in-None.is))
+
+pub returns-clause-visits : goal.returns-clause-visits
+returns-clause-visits g c = visits-cell g.P.Processor.seen (identity_of c.args.table.now)
+    c.args.queue.now c.args.named.now.cell c.visit_node-ran.new.cell c.args.tasks.now
+    c.visit_node-ran.new.tasks c.args.named.now.stopped _ _ c.in-None.is c.stop_of-cause.ensures
+    c.visit_node-ran.ensures.visits
+
+pub returns-clause-again : goal.returns-clause-again
+returns-clause-again g c = let cell = c.visit_node-ran.new.cell in
+    c.is_waiting.ensures ∙ (queue-again c.visit_node-ran.result cell.mark.state
+    c.visit_node-ran.ensures.end
+    ∙ ap (λ x. is_to_queue x cell.mark.state) (sym c.stop_of-cause.ensures))
