@@ -1,11 +1,23 @@
 -- One cell is visited, and all cells after it.
-use Rattle.node_ends.proofs.Imports.{AreCells, BoxPicture, GivenBack, Identity, IsBetweenVisits, IsCellOf, List, NodeCell, Stays, at_index, at_set, box_at, boxes_in, get_elem?, get_or, get_or-set_same, length, length-map, length-set, map, map-set, set, some, subst, sym, ℕ, ⊎_elim, ◌<◌, ◌∙◌, ◌≡◌, ◌≢◌}
-use Rattle.node_ends.proofs.Boxes.{given-changed}
+use Rattle.node_ends.proofs.Imports.{AreCells, BoxPicture, GivenBack, Identity, IsBetweenVisits, IsBorn, IsCellOf, List, NodeCell, None, Option, Stays, ap, at_index, at_set, box_at, boxes_in, get_elem?, get_or, get_or-map, get_or-set_same, length, length-map, length-set, map, map-set, refl, set, some, subst, sym, ℕ, ⊎_elim, ◌<◌, ◌∙◌, ◌≡◌, ◌≢◌}
+use Rattle.std.proofs.Common.{Err, IfErr, Ok, OnOk, Result}
+use Rattle.node_cells.specs.Stops.{GrowthStays, StopHolds, stop_of}
+use Rattle.node_cells.specs.declared.stop_cause.StopCause.{StopCause}
+use Rattle.node_ends.proofs.Boxes.{AreAllBorn, at-changed, given-changed}
+use Rattle.node_ends.proofs.Lists.{read-map, there}
 use Rattle.node_ends.proofs.Visits.{stored-cell}
-use Rattle.node_ends.specs.RunEnds.{StopHolds, StopsAt}
-use Rattle.node_ends.specs.declared.node_visit.NodeStop.{NodeStop}
+use Rattle.node_ends.specs.RunEnds.{GrowthsStay, StopsAt}
 use Rattle.exec_laws.specs.Names.{AreEdgesOf}
 use Rattle.proc_api.specs.Names.{no_box}
+
+-- the boxes of the cells of all nodes are those of born ones
+pub all-born : {P : Type 0} (seen : P → BoxPicture) (t : Identity) (cells : List (NodeCell P))
+    → AreCells seen t cells → AreAllBorn (boxes_in seen cells)
+unfolding box_at
+all-born {P} seen t cells all n lt =
+    let c = there cells n (rw length-map at lt) in
+    subst IsBorn (sym (read-map (λ (c : NodeCell P). seen c.processor) cells n c.0 no_box c.1))
+    (stored-cell seen t c.0 (all.each n c.0 c.1).between).node.box.running.loaded
 
 module _ {P : Type 0} (seen : P → BoxPicture) (t : Identity) (cells : List (NodeCell P)) (n : ℕ)
     (x : NodeCell P) (all : AreCells seen t cells) (lt : n < length cells)
@@ -14,7 +26,7 @@ module _ {P : Type 0} (seen : P → BoxPicture) (t : Identity) (cells : List (No
   pub own-cell : IsCellOf seen t n x
   own-cell = all.each n x (at_index cells n x lt read)
 
-  module _ (y : NodeCell P) (stays : Stays seen x y) where
+  module _ (o : Option StopCause) (y : NodeCell P) (stays : Stays seen o x y) where
     -- the boxes are given back
     pub boxes-back : GivenBack (boxes_in seen cells) (boxes_in seen (set cells n y))
     boxes-back = given-changed seen cells n x y lt read
@@ -40,16 +52,32 @@ module _ {P : Type 0} (seen : P → BoxPicture) (t : Identity) (cells : List (No
           (at_set cells n k y c e);
     }
 
-    -- what stops the run at its box stops it at its node
-    pub stops-at : (s : NodeStop) → StopHolds s (seen y.processor)
-        → StopsAt n s (boxes_in seen (set cells n y))
-    unfolding box_at
-    stops-at s h = record {
-      in_range = rw (length-map, length-set) lt;
-      stop = rw (
-        map-set,
-        get_or-set_same
-            (map (λ (c : NodeCell P). seen c.processor) cells) n (seen y.processor) no_box
-            (rw length-map lt),
-      ) h;
-    }
+  abbrev f : NodeCell P → BoxPicture
+  f c = seen c.processor
+
+  here : (y : NodeCell P) → box_at (boxes_in seen (set cells n y)) n ≡ seen y.processor
+  unfolding box_at
+  here y = rw map-set (get_or-set_same (map f cells) n (f y) no_box (rw length-map lt))
+
+  before : box_at (boxes_in seen cells) n ≡ seen x.processor
+  unfolding box_at
+  before = get_or-map f cells n x no_box lt ∙ ap f (sym read)
+
+  -- where it stopped nothing the growths stay
+  pub growths-changed : {A : Type 0} (r : Result A StopCause) (y : NodeCell P)
+      → Stays seen (stop_of r) x y
+      → OnOk r (GrowthsStay (boxes_in seen cells) (boxes_in seen (set cells n y)))
+  growths-changed (Ok v) y stays = λ k less.
+      at-changed seen cells n x y lt read (GrowthStays None) (λ p lawful. refl) stays.growth k
+  growths-changed (Err s) y stays = tt
+
+  -- what stops the run at its box stops it at its node
+  pub stops-at : {A : Type 0} (r : Result A StopCause) (y : NodeCell P)
+      → Stays seen (stop_of r) x y → IfErr r (λ s. StopHolds s (seen y.processor))
+      → IfErr r (λ s. StopsAt n s (boxes_in seen cells) (boxes_in seen (set cells n y)))
+  stops-at (Ok v) y stays h = tt
+  stops-at (Err s) y stays h = record {
+    in_range = rw (length-map, length-set) lt;
+    stop = rw (here y) h;
+    growth = rw (here y, before) stays.growth;
+  }

@@ -9,19 +9,19 @@ pub use Rattle.port_word.specs.declared.flags.Port.{Port}
 pub use Rattle.port_word.specs.declared.flags.Wire.{Wire}
 pub use Rattle.exec_table.specs.Boards.{node_view}
 pub use Rattle.exec_table.specs.Seats.{Identity, IsSeatOf, identity_of, view}
-pub use Rattle.exec_table.specs.Surveys.{AreAll, Each, IsBack, Surveyed, views}
+pub use Rattle.exec_table.specs.Surveys.{AreAll, EachSeat, IsBack, Surveyed, views}
 pub use Rattle.exec_table.specs.declared.rule.NodeSeat.{NodeSeat}
 pub use Rattle.exec_table.specs.declared.types.NodeView.{NodeView}
 pub use Rattle.exec_laws.specs.Names.{CellPicture, ContradictsStatus, GivenBack, GivesBox, HasEdge, HoldsGraph, IsBorn, IsDone, IsStuck, MarkTells, StaysBox, SupportsStatus, boxes_of, cell_at, is_resting, is_waiting, stuck_from}
 pub use Rattle.exec_laws.specs.Prelude.{BoxPicture}
-pub use Rattle.exec_laws.specs.declared.edges.NodeState.{NodeState}
+pub use Rattle.exec_laws.specs.declared.edges.NodeStatus.{NodeStatus}
 pub use Rattle.exec_laws.specs.declared.edges.StuckNode.{StuckNode}
 pub use Rattle.node_cells.specs.Cells.{cell_ports}
 pub use Rattle.node_cells.specs.Ends.{CellAtHome, WholeCell, no_whole, picture_of, pictures, whole_at}
 pub use Rattle.node_cells.specs.Stored.{StoredAs}
-pub use Rattle.node_cells.specs.Turns.{AtHome, IsAtWork, IsDue, MayBegin, Stays, turn_picture}
+pub use Rattle.node_cells.specs.Turns.{AtHome, IsAtWork, MayBegin, Stays, turn_picture}
 pub use Rattle.node_cells.specs.declared.cell.NodeCell.{NodeCell}
-pub use Rattle.node_ends.specs.CellLists.{AreAtRest, AreCells, AreSurveyed, IsBetweenVisits, IsCellOf, IsRoomFor, IsSettled, bodies_of, body_of, boxes_in, pictures_of, seats_of, whole_of, wholes_of}
+pub use Rattle.node_ends.specs.CellLists.{AreAtRest, AreCells, AreSurveyed, IsBetweenVisits, IsCellOf, IsSettled, IsSurveyRoom, bodies_of, body_of, boxes_in, pictures_of, seats_of, whole_of, wholes_of}
 pub use Rattle.node_ends.specs.declared.cells_survey.NodeBody.{NodeBody}
 unfoldable pub use Rattle.exec_laws.specs.Names.{box_at}
 pub use Rattle.port_word.specs.Names.{is_out_finished, output_at}

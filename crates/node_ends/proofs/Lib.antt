@@ -1,9 +1,9 @@
 mod Imports
-mod Lists
-mod Visits
+pub mod Lists
+pub mod Visits
 mod Settling
 mod Reports
-mod Boxes
+pub mod Boxes
 mod Surveys
-mod CellChanges
+pub mod CellChanges
 pub mod NewCells

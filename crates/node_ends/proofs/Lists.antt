@@ -1,5 +1,5 @@
 -- What stands at a place of a list.
-use Rattle.node_ends.proofs.Imports.{List, [], ap, arith, drop, get_elem?, get_or, length, map, refl, some, some-injective, some-ne-none, suc, sym, take, zero, ℕ, ◌++◌, ◌<◌, ◌∷◌, ◌≡◌}
+use Rattle.node_ends.proofs.Imports.{List, [], ap, arith, at_index, cases_lt, drop, get_elem?, get_or, inl, inr, length, map, refl, some, some-injective, some-ne-none, subst, suc, sym, take, zero, ℕ, ◌++◌, ◌+◌, ◌<◌, ◌∙◌, ◌∷◌, ◌≡◌, ◌≤◌}
 
 -- something stands at each place below the length
 pub there : {A : Type 0} (l : List A) (n : ℕ) → n < length l
@@ -39,3 +39,23 @@ written-whole {A} w old k h is = rw is (by w old h)
     by [] old h = refl
     by (x ∷ xs) [] h = absurd (omega (arith, h))
     by (x ∷ xs) (y ∷ ys) h = ap (λ l. x ∷ l) (by xs ys (omega (arith, h)))
+
+-- what is true at the first so many places
+abbrev pub EachBelow : {A : Type 0} → (A → Type 0) → ℕ → List A → Type 0
+EachBelow {A} Q k l = (n : ℕ) (a : A) → n < k → get_elem? l n ≡ some a → Q a
+
+module _ {A : Type 0} (Q : A → Type 0) (l : List A) where
+  -- it is true at one more
+  pub each-more : (k : ℕ) (x : A) → EachBelow Q k l → k < length l → x ≡ get_or l k x → Q x
+      → EachBelow Q (k + 1) l
+  each-more k x all lt read h n a less e = elim (cases_lt n k) [
+    | inl l ↦ all n a l e
+    | inr m ↦ let is : n ≡ k = omega (arith, less, m) in
+        subst Q (some-injective x a (sym (at_index l k x lt read)
+        ∙ (ap (get_elem? l) (sym is) ∙ e))) h
+  ]
+
+  -- it is true everywhere
+  pub each-all : (k : ℕ) → EachBelow Q k l → length l ≤ k → (n : ℕ) (a : A) → get_elem? l n ≡ some a
+      → Q a
+  each-all k all le n a e = all n a (omega (arith, le, below l n a e)) e

@@ -3,8 +3,8 @@ use Rattle.node_ends.proofs.Imports.{AreCells, BoxPicture, List, NodeCell, Wire,
 use Rattle.core_laws.specs.declared.types.Sizes.{Sizes}
 use Rattle.exec_laws.specs.Prelude.{Reserve}
 use Rattle.exec_laws.specs.declared.edges.NodeMark.{NodeMark}
-use Rattle.exec_laws.specs.declared.edges.NodeState.TheVariants as node
-use Rattle.node_cells.specs.NewCells.{AreNewCells, IsGraphOf, first_mark, sizes_of}
+use Rattle.exec_laws.specs.declared.edges.NodeStatus.TheVariants as node
+use Rattle.node_cells.specs.NewCells.{AreNewCells, IsGraphOfNodes, first_mark, sizes_of}
 use Rattle.node_cells.specs.declared.new_cells.Cells.{Cells}
 use Rattle.proc_api.specs.Graphs.{IsGraph}
 use Rattle.proc_api.specs.Reserves.{is_reserved}
@@ -12,7 +12,7 @@ use Rattle.proc_api.specs.Reserves.{is_reserved}
 -- they are the cells of all nodes of a graph that doesn't grow
 pub new-cells : {P : Type 0} (seen : P → BoxPicture) (boxes : List P) (wires : List Wire)
     (reserves : List Reserve) (workers : ℕ) (c : Cells P)
-    → IsGraphOf (length boxes) wires reserves → reserves ≡ []
+    → IsGraphOfNodes (length boxes) wires reserves → reserves ≡ []
     → AreNewCells seen (sizes_of (length boxes) wires reserves workers) boxes c
     → AreCells seen (identity_of c.table) c.cells.items
 new-cells {P} seen boxes wires reserves workers c g bare new =

@@ -8,6 +8,9 @@ use Rattle.port_word.specs.Names.{no_flags}
 use Rattle.proc_api.specs.Names.{no_box}
 use Rattle.std.proofs.Common.{drop-cons}
 use Rattle.proc_api.specs.declared.status.Status.{Status}
+use Rattle.node_ends.specs.RunEnds.{GrowthsStay, NodesEndHolds, SettledEndHolds}
+use Rattle.node_ends.specs.declared.node_ends.NodesEnd.{NodesEnd}
+use Rattle.node_ends.specs.declared.node_ends.NodesEnd.TheVariants as end
 
 module _ {P : Type 0} (seen : P → BoxPicture) (cells : List (NodeCell P)) where
   -- the pictures of the cells are those that the laws of ends speak of, and so are the boxes
@@ -99,3 +102,12 @@ module _ {P : Type 0} (seen : P → BoxPicture) (cells : List (NodeCell P)) wher
       → cell_at (pictures_of seen cells) n ≡ turn_picture seen x
   cell-read n x lt e = get_or-map (turn_picture seen) cells n x no_cell lt
       ∙ ap (turn_picture seen) (sym e)
+
+-- ---- the end of a run
+
+-- in an end in which nothing is pending the growths stay
+pub settled-ends : (e : NodesEnd) (wires : List Wire) (before after : List BoxPicture)
+    → SettledEndHolds e wires after → GrowthsStay before after → NodesEndHolds e wires before after
+settled-ends end.Done wires before after h g = (h, g)
+settled-ends (end.Stuck report n) wires before after h g = (h, g)
+settled-ends (end.Stopped n s) wires before after h g = absurd h

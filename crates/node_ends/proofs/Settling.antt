@@ -4,7 +4,7 @@ use Rattle.node_ends.proofs.Imports.{AreAtRest, AreCells, AtHome, BoxPicture, Ce
 use Rattle.node_ends.proofs.Lists.{each-or-default, read-map, there}
 use Rattle.node_ends.proofs.Visits.{at-rest-home}
 use Rattle.exec_laws.proofs.Nodes.{not-blank}
-use Rattle.exec_laws.specs.declared.edges.NodeState.TheVariants as node
+use Rattle.exec_laws.specs.declared.edges.NodeStatus.TheVariants as node
 
 none-left : (a b : ℕ) → a + b ≡ 0 → a ≡ 0
 none-left a b e = omega (arith, e)

@@ -1,11 +1,11 @@
 -- The cells after a survey, whose seats know what they knew.
-use Rattle.node_ends.proofs.Imports.{AreAll, AreCells, AreSurveyed, AtHome, BoxPicture, Each, GivenBack, Identity, IsAtWork, IsBack, IsCellOf, IsSeatOf, List, MayBegin, NodeBody, NodeCell, NodeSeat, NodeState, StoredAs, Surveyed, [], ap, arith, at_map, bodies_of, body_of, boxes_in, cell_ports, get_elem?, length, length-map, map, map-map, refl, seats_of, some, some-injective, subst, suc, sym, view, views, ℕ, ◌∙◌, ◌∷◌, ◌≡◌, ◌≢◌}
+use Rattle.node_ends.proofs.Imports.{AreAll, AreCells, AreSurveyed, AtHome, BoxPicture, EachSeat, Identity, IsAtWork, IsBack, IsCellOf, IsSeatOf, List, MayBegin, NodeBody, NodeCell, NodeSeat, NodeStatus, StoredAs, Surveyed, [], ap, arith, at_map, bodies_of, body_of, boxes_in, cell_ports, get_elem?, length, length-map, map, map-map, refl, seats_of, some, some-injective, subst, suc, sym, view, views, ℕ, ◌∙◌, ◌∷◌, ◌≡◌, ◌≢◌}
 use Rattle.node_ends.proofs.Lists.{below, there}
 use Rattle.node_ends.proofs.Visits.{stored-cell}
-use Rattle.node_cells.specs.Cells.{CellHolds, IsHome, NodeHolds}
+use Rattle.node_cells.specs.Cells.{CellHolds, CellNodeHolds, IsHome}
 use Rattle.exec_laws.specs.declared.edges.DueCall.{DueCall}
 use Rattle.exec_laws.specs.declared.edges.DueCall.TheVariants as call
-use Rattle.exec_laws.specs.declared.edges.NodeState.TheVariants as node
+use Rattle.exec_laws.specs.declared.edges.NodeStatus.TheVariants as node
 
 -- ---- one cell
 
@@ -20,7 +20,7 @@ module _ {P : Type 0} (seen : P → BoxPicture) (t : Identity) (was : NodeCell P
   back-cell : CellHolds seen t was → CellHolds seen t now
   back-cell h = record {
     seat = back.0;
-    node = subst (NodeHolds (seen was.processor) was.mark) same-ports h.node;
+    node = subst (CellNodeHolds (seen was.processor) was.mark) same-ports h.node;
   }
 
   back-home : AtHome seen t was → AtHome seen t now
@@ -52,13 +52,13 @@ module _ {P : Type 0} (seen : P → BoxPicture) (t : Identity) (was : NodeCell P
     at_work = h.at_work;
   }
 
-  back-stored : (k : NodeState) → k ≢ node.Unborn → StoredAs seen t k was → StoredAs seen t k now
+  back-stored : (k : NodeStatus) → k ≢ node.Unborn → StoredAs seen t k was → StoredAs seen t k now
   back-stored node.Unborn born h = absurd (born refl)
   back-stored node.Due born h = back-begins h
   back-stored node.Resting born h = back-home h
   back-stored (node.AtWork call.Work) born h = h
   back-stored (node.AtWork call.Schedule) born h = (back-home h.0, back-work call.Schedule h.1)
-  back-stored (node.AtWork call.Expand) born h = (back-home h.0, back-work call.Expand h.1)
+  back-stored (node.AtWork call.Expand) born h = h
   back-stored node.Over born h = back-home h
 
   back-is : (n : ℕ) → IsCellOf seen t n was → IsCellOf seen t n now
@@ -74,7 +74,7 @@ module _ {P : Type 0} (seen : P → BoxPicture) (t : Identity) (was : NodeCell P
 -- ---- all cells
 
 same-views : (t : Identity) (olds news : List NodeSeat) → length news ≡ length olds
-    → Each (IsBack t) olds news → views news ≡ views olds
+    → EachSeat (IsBack t) olds news → views news ≡ views olds
 same-views t [] [] many e = refl
 same-views t [] (y ∷ ys) many e = absurd (omega (arith, many))
 same-views t (x ∷ xs) [] many e = absurd (omega (arith, many))
@@ -136,10 +136,10 @@ module _ {P : Type 0} (t : Identity) (olds news : List (NodeCell P)) (h : AreSur
       surveyed-boxes = let f = λ (b : NodeBody P). seen b.processor in
           sym (map-map f body_of news) ∙ (ap (map f) h.bodies ∙ map-map f body_of olds)
 
-      -- so what was given back before is given back after it
-      pub surveyed-back : (boxes : List BoxPicture) → GivenBack boxes (boxes_in seen olds)
-          → GivenBack boxes (boxes_in seen news)
-      surveyed-back boxes back = subst (GivenBack boxes) (sym surveyed-boxes) back
+      -- so what is true of them before is true after it
+      pub surveyed-holds : (Q : List BoxPicture → Type 0) → Q (boxes_in seen olds)
+          → Q (boxes_in seen news)
+      surveyed-holds Q h = subst Q (sym surveyed-boxes) h
 
       -- the cells are still those of all nodes
       pub surveyed-cells : AreCells seen t olds → AreCells seen t news
@@ -154,13 +154,13 @@ module _ {P : Type 0} (t : Identity) (olds news : List (NodeCell P)) (h : AreSur
 module _ {P : Type 0} (t : Identity) (olds news : List (NodeCell P)) (bodies : List (NodeBody P))
     (seats after : List NodeSeat) (apart : bodies ≡ bodies_of olds)
     (seats-are : seats ≡ seats_of olds)
-    (each : Each (IsBack t) seats after) (together : bodies_of news ≡ bodies)
+    (each : EachSeat (IsBack t) seats after) (together : bodies_of news ≡ bodies)
     (back : seats_of news ≡ after) where
   -- the cells have what they had
   pub survey-made : AreSurveyed t olds news
   survey-made = record {
     bodies = together ∙ apart;
-    seats = subst (λ (l : List NodeSeat × List NodeSeat). Each (IsBack t) l.0 l.1)
+    seats = subst (λ (l : List NodeSeat × List NodeSeat). EachSeat (IsBack t) l.0 l.1)
         (λ j. (seats-are j, sym back j)) each;
   }
 

@@ -1,16 +1,18 @@
 -- What the cell of a node says between two visits.
-use Rattle.node_ends.proofs.Imports.{AreAtRest, AtHome, BoxPicture, Identity, IsBetweenVisits, List, NodeCell, NodeState, StoredAs, ap, arith, at_index, cases_lt, false, get_elem?, get_or, inl, inr, is_waiting, length, refl, some, some-injective, subst, sym, true, ℕ, ◌+◌, ◌<◌, ◌∙◌, ◌≡◌, ◌≢◌, ◌≤◌}
-use Rattle.node_ends.proofs.Lists.{below as at-below}
+use Rattle.node_ends.proofs.Imports.{AtHome, BoxPicture, Identity, IsBetweenVisits, NodeCell, NodeStatus, None, Stays, StoredAs, false, is_waiting, refl, subst, true, ◌≡◌, ◌≢◌}
 use Rattle.exec_laws.specs.declared.edges.DueCall.TheVariants as call
-use Rattle.exec_laws.specs.declared.edges.NodeState.TheVariants as node
+use Rattle.exec_laws.specs.declared.edges.NodeStatus.TheVariants as node
+use Rattle.exec_laws.proofs.Nodes.{not-blank}
+use Rattle.node_cells.proofs.StayLaws.{keeps-stays}
 use Rattle.node_cells.specs.Cells.{CellHolds}
+use Rattle.node_cells.specs.Stored.{IsKept, IsStored}
 
 module _ {P : Type 0} (seen : P → BoxPicture) (t : Identity) (c : NodeCell P) where
   -- where nothing more is due, the cell is at home
   pub at-rest-home : IsBetweenVisits seen t c → is_waiting c.mark.state ≡ false → AtHome seen t c
   at-rest-home h rest = by c.mark.state h.stored h.born rest
     where
-      by : (s : NodeState) → StoredAs seen t s c → s ≢ node.Unborn → is_waiting s ≡ false
+      by : (s : NodeStatus) → StoredAs seen t s c → s ≢ node.Unborn → is_waiting s ≡ false
           → AtHome seen t c
       by node.Resting h born rest = h
       by node.Over h born rest = h
@@ -22,32 +24,33 @@ module _ {P : Type 0} (seen : P → BoxPicture) (t : Identity) (c : NodeCell P) 
   pub stored-cell : IsBetweenVisits seen t c → CellHolds seen t c
   stored-cell h = by c.mark.state h.born h.stored
     where
-      by : (k : NodeState) → k ≢ node.Unborn → StoredAs seen t k c → CellHolds seen t c
+      by : (k : NodeStatus) → k ≢ node.Unborn → StoredAs seen t k c → CellHolds seen t c
       by node.Unborn born h = absurd (born refl)
       by node.Due born h = h.cell
       by node.Resting born h = h.cell
       by (node.AtWork call.Work) born h = absurd h
       by (node.AtWork call.Schedule) born h = h.0.cell
-      by (node.AtWork call.Expand) born h = h.0.cell
+      by (node.AtWork call.Expand) born h = absurd h
       by node.Over born h = h.cell
 
--- the first so many nodes are neither due nor at work
-abbrev pub AreAtRestBelow : {P : Type 0} → ℕ → List (NodeCell P) → Type 0
-AreAtRestBelow {P} k cells = (n : ℕ) (c : NodeCell P) → n < k → get_elem? cells n ≡ some c
-    → is_waiting c.mark.state ≡ false
+  -- a visit that stops nothing leaves it so
+  pub visited-between : (y : NodeCell P) → IsBetweenVisits seen t c → Stays seen None c y
+      → IsStored seen t y → IsBetweenVisits seen t y
+  visited-between y h s k = record {
+    stored = k;
+    born = λ unborn.
+        let kept : IsKept seen t y = subst (λ z. StoredAs seen t z y) unborn k in
+        not-blank (seen y.processor).spec
+        (rw s.box.same.spec (stored-cell h).node.box.running.loaded) kept.blank;
+  }
 
-module _ {P : Type 0} (cells : List (NodeCell P)) where
-  -- one more of them rests
-  pub rest-more : (k : ℕ) (x : NodeCell P) → AreAtRestBelow k cells → k < length cells
-      → x ≡ get_or cells k x → is_waiting x.mark.state ≡ false → AreAtRestBelow (k + 1) cells
-  rest-more k x below lt read rest n c less e = elim (cases_lt n k) [
-    | inl l ↦ below n c l e
-    | inr l ↦ let is : n ≡ k = omega (arith, less, l) in
-        subst (λ (c : NodeCell P). is_waiting c.mark.state ≡ false)
-        (some-injective x c (sym (at_index cells k x lt read)
-        ∙ (ap (get_elem? cells) (sym is) ∙ e))) rest
-  ]
+  -- a node that isn't due a visit stays
+  pub stays-unvisited : Stays seen None c c
+  stays-unvisited = keeps-stays seen c c record {
+    processor = refl;
+    ports = record { inputs = refl; outputs = refl; sources = refl; targets = refl; number = refl };
+  }
 
-  -- all rest
-  pub rest-all : (k : ℕ) → AreAtRestBelow k cells → length cells ≤ k → AreAtRest cells
-  rest-all k below all n c e = below n c (omega (arith, all, at-below cells n c e)) e
+-- nothing more is due of the node
+abbrev pub RestsOn : {P : Type 0} → NodeCell P → Type 0
+RestsOn c = is_waiting c.mark.state ≡ false

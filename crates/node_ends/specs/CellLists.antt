@@ -1,7 +1,8 @@
 -- The cells of all nodes of a table, in order of their numbers.
-use Rattle.node_ends.specs.Prelude.{AreEdgesOf, AreSettled, Board, BoxPicture, CellPicture, Each, EndRoom, HoldsGraph, Identity, IsBack, IsDue, IsStored, NodeBody, NodeCell, NodeSeat, SurveyRoom, WholeCell, Wire, cell_ports, is_waiting, turn_picture, view, whole_at}
-use Rattle.exec_laws.specs.declared.edges.NodeState.TheVariants as node
-use Rattle.std.specs.Prelude.{Bool, List, [], false, length, map, true, vec_capacity, ℕ, ◌≡◌, ◌≢◌, ◌≤◌}
+use Rattle.node_ends.specs.Prelude.{AreEdgesOf, AreSettled, Board, BoxPicture, CellPicture, EachSeat, EndRoom, HoldsGraph, Identity, IsBack, IsStored, NodeBody, NodeCell, NodeSeat, SurveyRoom, WholeCell, Wire, cell_ports, is_waiting, turn_picture, view, whole_at}
+use Rattle.exec_laws.specs.declared.edges.NodeStatus.TheVariants as node
+use Rattle.task_queue.specs.Queues.{IsPassOf}
+use Rattle.std.specs.Prelude.{List, [], false, length, map, vec_capacity, ℕ, ◌≡◌, ◌≢◌, ◌≤◌}
 use mathlib.Core.Option.{some}
 use lib.ListN.{get_elem?}
 
@@ -37,11 +38,6 @@ pub record IsBetweenVisits {P : Type 0} (seen : P → BoxPicture) (t : Identity)
   pub stored : IsStored seen t c
   pub born : c.mark.state ≢ node.Unborn
 
--- the cell may go home, or its node is to be prepared again
-abbrev pub HomeOrDue : {P : Type 0} → (P → BoxPicture) → Identity → Bool → NodeCell P → Type 0
-HomeOrDue seen t true c = IsBetweenVisits seen t c
-HomeOrDue seen t false c = IsDue seen t c
-
 -- the cell of the node n, which has all its edges
 pub record IsCellOf {P : Type 0} (seen : P → BoxPicture) (t : Identity) (n : ℕ)
     (c : NodeCell P) : Type 0 where
@@ -66,21 +62,22 @@ AreAtRest {P} cells = (n : ℕ) (c : NodeCell P) → get_elem? cells n ≡ some 
 -- the cells have what they had, and seats that know what theirs knew
 pub record AreSurveyed {P : Type 0} (t : Identity) (old new : List (NodeCell P)) : Type 0 where
   pub bodies : bodies_of new ≡ bodies_of old
-  pub seats : Each (IsBack t) (seats_of old) (seats_of new)
+  pub seats : EachSeat (IsBack t) (seats_of old) (seats_of new)
 
 -- room for so many cells, and for the words of the table
-pub record IsRoomFor {P : Type 0} (t : Identity) (count : ℕ) (r : SurveyRoom P) : Type 0 where
+pub record IsSurveyRoom {P : Type 0} (t : Identity) (count : ℕ) (r : SurveyRoom P) : Type 0 where
   pub no_bodies : r.bodies.items ≡ []
   pub no_seats : r.seats.items ≡ []
   pub bodies : count ≤ vec_capacity r.bodies
   pub seats : count ≤ vec_capacity r.seats
   pub words : length r.words.items ≡ t.id.words
 
--- the same, and for the report of a stuck run
+-- the same, and for the report of a stuck run, with a queue
 pub record IsEndRoomFor {P : Type 0} (t : Identity) (count : ℕ) (r : EndRoom P) : Type 0 where
-  pub survey : IsRoomFor t count r.survey
+  pub survey : IsSurveyRoom t count r.survey
   pub empty : r.report.items ≡ []
   pub report : count ≤ vec_capacity r.report
+  pub pass : IsPassOf r.queue r.tasks.pass
 
 -- ---- where nothing is pending
 

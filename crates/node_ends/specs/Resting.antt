@@ -17,5 +17,5 @@ pub record HasOpenOutput (v : Picture) : Type 0 where
   pub in_range : output < out_count v
   pub unfinished : is_out_finished (output_at v output) ≡ false
 
-abbrev pub HasNoRoom : Picture → Type 0
-HasNoRoom v = (o : ℕ) → o < out_count v → has_room (output_at v o) ≡ false
+abbrev pub HasNoOpenOutput : Picture → Type 0
+HasNoOpenOutput v = (o : ℕ) → o < out_count v → has_room (output_at v o) ≡ false

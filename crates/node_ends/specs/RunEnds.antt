@@ -1,20 +1,29 @@
 -- What each end of a run says of the boxes.
-use Rattle.node_ends.specs.Prelude.{AsksToGrow, BoxPicture, IsDone, IsStuck, KeepsFault, NodeStop, NodesEnd, Wire, box_at}
+use Rattle.node_cells.specs.Stops.{GrowthStays, StopHolds}
+use Rattle.node_cells.specs.declared.stop_cause.StopCause.{StopCause}
+use Rattle.node_ends.specs.Prelude.{BoxPicture, IsDone, IsStuck, NodesEnd, Wire, box_at}
 use Rattle.node_ends.specs.declared.node_ends.NodesEnd.TheVariants as end
-use Rattle.node_ends.specs.declared.node_visit.NodeStop.TheVariants as stop
-use Rattle.std.specs.Prelude.{List, length, ℕ, ◌<◌}
+use Rattle.std.specs.Prelude.{List, None, Some, length, ℕ, ◌<◌}
 
--- what stops a run at a node says of the node's box
-abbrev pub StopHolds : NodeStop → BoxPicture → Type 0
-StopHolds (stop.Fault f) p = KeepsFault f p
-StopHolds stop.Grows p = AsksToGrow p
+-- what calls that stop nothing leave of the growths that the boxes keep
+abbrev pub GrowthsStay : (before after : List BoxPicture) → Type 0
+GrowthsStay before after =
+    (n : ℕ) → n < length before → GrowthStays None (box_at before n) (box_at after n)
 
 -- the run is stopped at a node
-pub record StopsAt (n : ℕ) (s : NodeStop) (boxes : List BoxPicture) : Type 0 where
-  pub in_range : n < length boxes
-  pub stop : StopHolds s (box_at boxes n)
+pub record StopsAt (n : ℕ) (s : StopCause) (before after : List BoxPicture) : Type 0 where
+  pub in_range : n < length after
+  pub stop : StopHolds s (box_at after n)
+  pub growth : GrowthStays (Some s) (box_at before n) (box_at after n)
 
-abbrev pub EndHolds : NodesEnd → List Wire → List BoxPicture → Type 0
-EndHolds end.Done wires boxes = IsDone wires boxes
-EndHolds (end.Stuck report n) wires boxes = IsStuck boxes report n
-EndHolds (end.Stopped n s) wires boxes = StopsAt n s boxes
+-- the end of a run in which nothing is pending
+abbrev pub SettledEndHolds : NodesEnd → List Wire → List BoxPicture → Type 0
+SettledEndHolds end.Done wires boxes = IsDone wires boxes
+SettledEndHolds (end.Stuck report n) wires boxes = IsStuck boxes report n
+SettledEndHolds (end.Stopped n s) wires boxes = ⊥
+
+abbrev pub NodesEndHolds : NodesEnd → List Wire → (before after : List BoxPicture) → Type 0
+NodesEndHolds end.Done wires before after = IsDone wires after × GrowthsStay before after
+NodesEndHolds (end.Stuck report n) wires before after =
+    IsStuck after report n × GrowthsStay before after
+NodesEndHolds (end.Stopped n s) wires before after = StopsAt n s before after

@@ -2,7 +2,7 @@
 ghost use Rattle.std.specs.Prelude.{◌≡◌, ◌≤◌, [], IfOk, length, vec_capacity};
 ghost use Rattle.exec_table.specs.Seats.{identity_of};
 ghost use Rattle.exec_table.specs.Surveys.{AreAll, Surveyed, views};
-ghost use Rattle.node_ends.specs.CellLists.{AreSurveyed, IsRoomFor, bodies_of, seats_of};
+ghost use Rattle.node_ends.specs.CellLists.{AreSurveyed, IsSurveyRoom, bodies_of, seats_of};
 
 use chunk_data::Memory;
 use exec_laws::NodeMark;
@@ -42,7 +42,7 @@ pub(crate) fn new_survey_room<P: Drop>(
     table: &ExecTable,
     count: usize,
 ) -> Result<SurveyRoom<P>, Memory>
-    ensures { IfOk result (λ room. IsRoomFor (identity_of table.now) count room) }
+    ensures { IfOk result (λ room. IsSurveyRoom (identity_of table.now) count room) }
 {
     let words = new_words(alloc, table)?;
     let bodies = Vec::with_capacity(alloc, count)?;
@@ -127,11 +127,11 @@ pub(crate) fn survey_cells<P: Drop>(
     room: &mut SurveyRoom<P>,
 )
     requires seats { AreAll (identity_of table.now) (seats_of cells.old.items) }
-    requires room { IsRoomFor (identity_of table.now) (length cells.old.items) room.old }
+    requires room { IsSurveyRoom (identity_of table.now) (length cells.old.items) room.old }
     requires spare { length cells.old.items ≤ vec_capacity cells.old }
     ensures cells { AreSurveyed (identity_of table.now) cells.old.items cells.new.items }
     ensures shown { Surveyed room.new.words.items (views (seats_of cells.new.items)) }
-    ensures room { IsRoomFor (identity_of table.now) (length cells.old.items) room.new }
+    ensures room { IsSurveyRoom (identity_of table.now) (length cells.old.items) room.new }
 {
     take_apart(cells, &mut room.bodies, &mut room.seats);
     table.survey(room.seats.as_mut_slice(), room.words.as_mut_slice());

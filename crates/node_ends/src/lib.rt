@@ -7,7 +7,6 @@
 //! `IProcessor.h` a status says what a processor waits for.
 //!
 //! - `cells_survey.rt`: a survey of the table with the seats of all cells
-//! - `node_visit.rt`: a node that is due runs until it rests
 //! - `node_ends.rt`: the run goes on to its end
 //! - `resting.rt`: whether the views of nodes at rest support their last status
 //! - `specs/CellLists.antt`: the cells of all nodes; `specs/RunEnds.antt`: what each end says
@@ -15,9 +14,8 @@
 
 mod cells_survey;
 mod node_ends;
-mod node_visit;
 mod resting;
 
 pub use cells_survey::{NodeBody, SurveyRoom};
+pub use node_cells::StopCause;
 pub use node_ends::{EndRoom, NodesEnd, end_nodes, new_end_room};
-pub use node_visit::NodeStop;

@@ -1,21 +1,24 @@
 //! The run goes on to its end.
 ghost use Rattle.std.specs.Prelude.{◌≡◌, ◌<◌, ◌≤◌, [], IfErr, IfOk, OnOk, length, slice_index_or, vec_capacity, false, true};
 ghost use Rattle.exec_laws.specs.Names.{GivenBack, is_waiting};
-ghost use Rattle.exec_table.specs.Seats.{identity_of, key_of};
-ghost use Rattle.node_ends.specs.CellLists.{AreAtRest, AreCells, IsEndRoomFor, IsRoomFor, IsSettled, boxes_in, wholes_of};
-ghost use Rattle.node_ends.specs.RunEnds.{EndHolds, StopsAt};
+ghost use Rattle.exec_table.specs.Seats.{identity_of, sizes_in};
+ghost use Rattle.node_cells.specs.Stops.{StopHolds, stop_of};
+ghost use Rattle.node_cells.specs.Turns.{Stays};
+ghost use Rattle.node_ends.specs.CellLists.{AreAtRest, AreCells, IsBetweenVisits, IsEndRoomFor, IsSettled, IsSurveyRoom, boxes_in, wholes_of};
+ghost use Rattle.node_ends.specs.RunEnds.{GrowthsStay, NodesEndHolds, SettledEndHolds, StopsAt};
+ghost use Rattle.task_queue.specs.Queues.{IsPassOf};
 
 use crate::cells_survey::{SurveyRoom, new_survey_room, survey_cells};
-use crate::node_visit::{NodeStop, visit};
 use crate::resting::{first_unlawful, list_stuck};
 use chunk_data::{List, Memory};
 use crossbeam_utils::Backoff;
-use exec_laws::{NodeState, StuckNode};
+use exec_laws::{NodeStatus, StuckNode};
 use exec_table::ExecTable;
-use node_cells::NodeCell;
+use node_cells::{NodeCell, StopCause, visit_node};
 use proc_api::Processor;
 use std::alloc::Global;
 use std::sync::Wait;
+use task_queue::{TaskQueue, WorkerTasks};
 
 /// How the run of a graph that doesn't grow ended.
 #[derive(Drop)]
@@ -26,7 +29,7 @@ pub enum NodesEnd {
     /// Nothing is pending, and these nodes aren't over; the box of the named one isn't lawful.
     Stuck(List<StuckNode>, u32),
     /// The run was stopped at this node.
-    Stopped(u32, NodeStop),
+    Stopped(u32, StopCause),
 }
 
 /// What the end of a run needs, made before the run so that its end wants no memory.
@@ -34,6 +37,9 @@ pub enum NodesEnd {
 pub struct EndRoom<P> {
     pub survey: SurveyRoom<P>,
     pub report: Vec<StuckNode>,
+    /// The words of the table tell which nodes are charged, so that nothing is taken out of it.
+    pub queue: TaskQueue,
+    pub tasks: WorkerTasks,
 }
 
 /// Room for the end of the run of a graph of so many nodes.
@@ -46,7 +52,13 @@ pub fn new_end_room<P: Drop>(
 {
     let survey = new_survey_room(alloc, table, nodes)?;
     let report = Vec::with_capacity(alloc, nodes)?;
-    Ok(EndRoom { survey, report })
+    let (queue, pass) = TaskQueue::make(alloc, 1)?;
+    Ok(EndRoom {
+        survey,
+        report,
+        queue,
+        tasks: WorkerTasks::new(pass),
+    })
 }
 
 fn is_nothing_pending(words: &[u64]) -> bool
@@ -56,12 +68,12 @@ fn is_nothing_pending(words: &[u64]) -> bool
 }
 
 /// Whether the node rests or is over.
-fn is_at_rest(state: NodeState) -> bool
+fn is_at_rest(state: NodeStatus) -> bool
     ensures { result ≡ true → is_waiting state ≡ false }
 {
     match state {
-        NodeState::Resting | NodeState::Over => true,
-        NodeState::Due | NodeState::AtWork(_) | NodeState::Unborn => false,
+        NodeStatus::Resting | NodeStatus::Over => true,
+        NodeStatus::Due | NodeStatus::AtWork(_) | NodeStatus::Unborn => false,
     }
 }
 
@@ -91,40 +103,88 @@ fn pause_if_waiting<P: Processor>(backoff: &Backoff, cells: &Vec<NodeCell<P>>) {
     }
 }
 
+/// Whether a visit is due of a node in this state: one at rest is due where it was charged.
+fn is_due(state: NodeStatus, is_charged: bool) -> bool {
+    match state {
+        NodeStatus::Resting => is_charged,
+        NodeStatus::Due | NodeStatus::AtWork(_) => true,
+        NodeStatus::Over | NodeStatus::Unborn => false,
+    }
+}
+
+/// Takes up the node of a cell, if the run left it due.
+fn visit<P: Processor, R: Wait>(
+    rt: &R,
+    table: &ExecTable,
+    queue: &TaskQueue,
+    tasks: &mut WorkerTasks,
+    cell: &mut NodeCell<P>,
+    is_charged: bool,
+) -> Result<(), StopCause>
+    requires pass { IsPassOf queue.now tasks.old.pass }
+    requires cell { IsBetweenVisits P.seen (identity_of table.now) cell.old }
+    ensures pass { IsPassOf queue.now tasks.new.pass }
+    ensures stays { Stays P.seen (stop_of result) cell.old cell.new }
+    ensures ok { OnOk result (IsBetweenVisits P.seen (identity_of table.now) cell.new) }
+    ensures stop { IfErr result (λ s. StopHolds s (P.seen cell.new.processor)) }
+{
+    if !is_due(cell.mark.state, is_charged) {
+        return Ok(());
+    }
+    match visit_node(rt, table, queue, tasks, cell) {
+        Ok(_) => Ok(()),
+        Err(stop) => Err(stop),
+    }
+}
+
 /// Takes up the node n, if the run left it due.
 fn visit_at<P: Processor, R: Wait>(
     rt: &R,
     table: &ExecTable,
+    queue: &TaskQueue,
+    tasks: &mut WorkerTasks,
     cells: &mut Vec<NodeCell<P>>,
     n: usize,
     is_charged: bool,
-) -> Result<(), NodeStop>
+) -> Result<(), StopCause>
+    requires pass { IsPassOf queue.now tasks.old.pass }
     requires in_range { n < length cells.old.items }
     requires cells { AreCells P.seen (identity_of table.now) cells.old.items }
+    ensures pass { IsPassOf queue.now tasks.new.pass }
     ensures back { GivenBack (boxes_in P.seen cells.old.items) (boxes_in P.seen cells.new.items) }
     ensures count { length cells.new.items ≡ length cells.old.items }
     ensures ok { OnOk result (AreCells P.seen (identity_of table.now) cells.new.items) }
-    ensures stop { IfErr result (λ s. StopsAt n s (boxes_in P.seen cells.new.items)) }
+    ensures growth { OnOk result
+        (GrowthsStay (boxes_in P.seen cells.old.items) (boxes_in P.seen cells.new.items)) }
+    ensures stop { IfErr result (λ s.
+        StopsAt n s (boxes_in P.seen cells.old.items) (boxes_in P.seen cells.new.items)) }
 {
-    visit(rt, table, &mut cells[n], is_charged)
+    visit(rt, table, queue, tasks, &mut cells[n], is_charged)
 }
 
 /// Takes up each node that the run left due. A node at rest is due where its word isn't 0.
 fn visit_all<P: Processor, R: Wait>(
     rt: &R,
     table: &ExecTable,
+    queue: &TaskQueue,
+    tasks: &mut WorkerTasks,
     cells: &mut Vec<NodeCell<P>>,
     words: &[u64],
-) -> Result<(), (usize, NodeStop)>
+) -> Result<(), (usize, StopCause)>
+    requires pass { IsPassOf queue.now tasks.old.pass }
     requires cells { AreCells P.seen (identity_of table.now) cells.old.items }
+    ensures pass { IsPassOf queue.now tasks.new.pass }
     ensures back { GivenBack (boxes_in P.seen cells.old.items) (boxes_in P.seen cells.new.items) }
     ensures count { length cells.new.items ≡ length cells.old.items }
     ensures ok { OnOk result (AreCells P.seen (identity_of table.now) cells.new.items) }
-    ensures stop { IfErr result (λ at. StopsAt at.0 at.1 (boxes_in P.seen cells.new.items)) }
+    ensures growth { OnOk result
+        (GrowthsStay (boxes_in P.seen cells.old.items) (boxes_in P.seen cells.new.items)) }
+    ensures stop { IfErr result (λ at.
+        StopsAt at.0 at.1 (boxes_in P.seen cells.old.items) (boxes_in P.seen cells.new.items)) }
 {
     for n in 0..cells.len() {
         let is_charged = n + 1 < words.len() && words[n + 1] != 0;
-        match visit_at(rt, table, cells, n, is_charged) {
+        match visit_at(rt, table, queue, tasks, cells, n, is_charged) {
             Ok(()) => {}
             Err(stop) => return Err((n, stop)),
         }
@@ -136,16 +196,22 @@ fn visit_all<P: Processor, R: Wait>(
 fn settle<P: Processor, R: Wait>(
     rt: &R,
     table: &ExecTable,
+    queue: &TaskQueue,
+    tasks: &mut WorkerTasks,
     cells: &mut Vec<NodeCell<P>>,
     room: &mut SurveyRoom<P>,
-) -> Result<(), (usize, NodeStop)>
+) -> Result<(), (usize, StopCause)>
+    requires pass { IsPassOf queue.now tasks.old.pass }
     requires cells { AreCells P.seen (identity_of table.now) cells.old.items }
     requires some { 0 < length cells.old.items }
-    requires room { IsRoomFor (identity_of table.now) (length cells.old.items) room.old }
+    requires room { IsSurveyRoom (identity_of table.now) (length cells.old.items) room.old }
     ensures back { GivenBack (boxes_in P.seen cells.old.items) (boxes_in P.seen cells.new.items) }
     ensures settled { OnOk result
-        (IsSettled (key_of table.now).wires (wholes_of P.seen cells.new.items)) }
-    ensures stop { IfErr result (λ at. StopsAt at.0 at.1 (boxes_in P.seen cells.new.items)) }
+        (IsSettled (sizes_in table.now).wires (wholes_of P.seen cells.new.items)) }
+    ensures growth { OnOk result
+        (GrowthsStay (boxes_in P.seen cells.old.items) (boxes_in P.seen cells.new.items)) }
+    ensures stop { IfErr result (λ at.
+        StopsAt at.0 at.1 (boxes_in P.seen cells.old.items) (boxes_in P.seen cells.new.items)) }
 {
     let backoff = Backoff::new();
     for _ in rt.forever() {
@@ -153,7 +219,7 @@ fn settle<P: Processor, R: Wait>(
         if is_settled(cells, room.words.as_slice()) {
             return Ok(());
         }
-        match visit_all(rt, table, cells, room.words.as_slice()) {
+        match visit_all(rt, table, queue, tasks, cells, room.words.as_slice()) {
             Ok(()) => {}
             Err(at) => return Err(at),
         }
@@ -168,11 +234,11 @@ fn settled_end<P: Processor>(
     cells: &Vec<NodeCell<P>>,
     report: Vec<StuckNode>,
 ) -> NodesEnd
-    requires settled { IsSettled (key_of _table.now).wires (wholes_of P.seen cells.now.items) }
+    requires settled { IsSettled (sizes_in _table.now).wires (wholes_of P.seen cells.now.items) }
     requires few { length cells.now.items ≤ 256 }
     requires empty { report.items ≡ [] }
     requires room { length cells.now.items ≤ vec_capacity report }
-    ensures { EndHolds result (key_of _table.now).wires (boxes_in P.seen cells.now.items) }
+    ensures { SettledEndHolds result (sizes_in _table.now).wires (boxes_in P.seen cells.now.items) }
 {
     let mut report = report;
     match first_unlawful(cells) {
@@ -195,14 +261,19 @@ pub fn end_nodes<P: Processor, R: Wait>(
     requires cells { AreCells P.seen (identity_of table.now) cells.old.items }
     requires room { IsEndRoomFor (identity_of table.now) (length cells.old.items) room }
     ensures back { GivenBack (boxes_in P.seen cells.old.items) (boxes_in P.seen cells.new.items) }
-    ensures end { EndHolds result (key_of table.now).wires (boxes_in P.seen cells.new.items) }
+    ensures end { NodesEndHolds result (sizes_in table.now).wires (boxes_in P.seen cells.old.items)
+        (boxes_in P.seen cells.new.items) }
 {
     if cells.len() == 0 {
         return NodesEnd::Done;
     }
-    let EndRoom { survey, report } = room;
-    let mut survey = survey;
-    match settle(rt, table, cells, &mut survey) {
+    let EndRoom {
+        mut survey,
+        report,
+        queue,
+        mut tasks,
+    } = room;
+    match settle(rt, table, &queue, &mut tasks, cells, &mut survey) {
         Ok(()) => settled_end(table, cells, report),
         Err((n, stop)) => NodesEnd::Stopped(n as u32, stop),
     }

@@ -5,9 +5,9 @@ ghost use Rattle.proc_api.specs.Settled.{Rests};
 ghost use Rattle.exec_laws.specs.Names.{ContradictsStatus, MarkTells, SupportsStatus, cell_at, is_resting, stuck_from};
 ghost use Rattle.node_cells.specs.Turns.{turn_picture};
 ghost use Rattle.node_ends.specs.CellLists.{boxes_in, pictures_of};
-ghost use Rattle.node_ends.specs.Resting.{HasNoRoom, HasOpenOutput, has_room, is_wanting};
+ghost use Rattle.node_ends.specs.Resting.{HasNoOpenOutput, HasOpenOutput, has_room, is_wanting};
 
-use exec_laws::{NodeState, StuckNode};
+use exec_laws::{NodeStatus, StuckNode};
 use node_cells::NodeCell;
 use port_word::PortView;
 use proc_api::{Processor, Status};
@@ -43,8 +43,8 @@ fn supports_status<P: Processor>(cell: &NodeCell<P>) -> bool
     ensures denied { result ≡ false → ContradictsStatus (turn_picture P.seen cell.now) }
 {
     match cell.mark.state {
-        NodeState::Resting => rests(cell.mark.last, &cell.ports.view),
-        NodeState::Due | NodeState::AtWork(_) | NodeState::Over | NodeState::Unborn => true,
+        NodeStatus::Resting => rests(cell.mark.last, &cell.ports.view),
+        NodeStatus::Due | NodeStatus::AtWork(_) | NodeStatus::Over | NodeStatus::Unborn => true,
     }
 }
 
@@ -101,8 +101,8 @@ fn has_open_output(view: &PortView) -> bool
 }
 
 fn has_no_room(view: &PortView) -> bool
-    ensures yes { result ≡ true → HasNoRoom view.now }
-    ensures denied { result ≡ false → HasNoRoom view.now → ⊥ }
+    ensures yes { result ≡ true → HasNoOpenOutput view.now }
+    ensures denied { result ≡ false → HasNoOpenOutput view.now → ⊥ }
 {
     for o in 0..view.outputs() {
         if has_room(view, o) {
@@ -143,7 +143,7 @@ fn list_if_stuck<P: Processor>(report: &mut Vec<StuckNode>, node: u32, cell: &No
     ensures few { length report.new.items ≤ length report.old.items + 1 }
     ensures room { vec_capacity report.old ≤ vec_capacity report.new }
 {
-    if let NodeState::Resting = cell.mark.state {
+    if let NodeStatus::Resting = cell.mark.state {
         let _ = report.push(StuckNode {
             node,
             last: cell.mark.last,
