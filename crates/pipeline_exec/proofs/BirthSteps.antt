@@ -1,5 +1,5 @@
 -- The steps of a growth, each as the code makes it.
-use Rattle.pipeline_exec.proofs.Words.{AreFree, AreNewPorts, AreOnce, ArePortsAt, Avoids, Bears, BearsSome, Board, Bore, CarriesOut, CellPicture, ChangesCell, Err, Gives, GrowNode, IsFree, List, NodePorts, None, Ok, OnErr, Reserve, Result, SpecForm, Widened, Wire, [], ap, arith, at-node, cases_eq, cases_lt, cell_at, drop, drop-cons, form_at, forms_of, get_or, get_or-append_seam, get_or_append_left, inl, inr, keeps-gives, keeps-itself, length, length-append, new_edge, place_at, ranks_of, refl, remove, replicate, set_ranks, slice_index_or, slice_set, spec_form, subst, suc, sym, zero, ℕ, ◌++◌, ◌+◌, ◌-◌, ◌<◌, ◌∙◌, ◌∷◌, ◌≡◌, ◌≢◌, ◌≤◌, ◌⊎◌}
+use Rattle.pipeline_exec.proofs.Words.{AreFree, AreNewRoundPorts, AreOnce, ArePortsAt, Avoids, Bears, BearsSome, Bore, CarriesOut, CellPicture, ChangesCell, Err, ExecutorPicture, GivesBoxes, GrowNode, IsFreeBlank, List, None, Ok, OnErr, Reserve, Result, RoundPorts, SpecForm, Widened, Wire, [], ap, arith, at-node, cases_eq, cases_lt, cell_at, drop, drop-cons, form_at, forms_of, get_or, get_or-append_seam, get_or_append_left, inl, inr, keeps-gives, keeps-itself, length, length-append, new_edge, place_at, ranks_of, refl, remove, replicate, set_ranks, slice_index_or, slice_set, spec_form, subst, suc, sym, zero, ℕ, ◌++◌, ◌+◌, ◌-◌, ◌<◌, ◌∙◌, ◌∷◌, ◌≡◌, ◌≢◌, ◌≤◌, ◌⊎◌}
 use Rattle.pipeline_exec.proofs.GrowthLaws.{gives-loaded}
 use Rattle.pipeline_exec.proofs.Lists.{one-more}
 
@@ -16,10 +16,10 @@ none-free cells r places = record {
 }
 
 pub more-free : (cells : List CellPicture) (r : Reserve) (places : List ℕ) (k : ℕ)
-    → AreFree cells r places k → IsFree cells r (place_at places k)
+    → AreFree cells r places k → IsFreeBlank cells r (place_at places k)
     → ((j : ℕ) → j < k → place_at places j ≢ place_at places k) → AreFree cells r places (k + 1)
 more-free cells r places k h one apart = record {
-  each = one-more (λ j. IsFree cells r (place_at places j)) k h.each one;
+  each = one-more (λ j. IsFreeBlank cells r (place_at places j)) k h.each one;
   once = λ i j li lj e. elim (cases_lt i k) [
     | inl less ↦ elim (cases_lt j k) [
       | inl below ↦ h.once i j less below e
@@ -36,8 +36,8 @@ more-free cells r places k h one apart = record {
   ];
 }
 
-pub more-ports-at : (wires : List Wire) (places : List ℕ) (k : ℕ) (all : List NodePorts)
-    (p : NodePorts) → ArePortsAt wires places k all → AreNewPorts wires (place_at places k) p
+pub more-ports-at : (wires : List Wire) (places : List ℕ) (k : ℕ) (all : List RoundPorts)
+    (p : RoundPorts) → ArePortsAt wires places k all → AreNewRoundPorts wires (place_at places k) p
     → ArePortsAt wires places (k + 1) (all ++ p ∷ [])
 more-ports-at wires places k all p h one = record {
   len = let len = h.len in omega (arith, len, length-append all (p ∷ []));
@@ -46,16 +46,16 @@ more-ports-at wires places k all p h one = record {
     | inr le ↦
         let last : length all ≡ j = h.len ∙ omega (arith, lj, le) in
         let same : k ≡ j = omega (arith, lj, le) in
-        subst (λ m. AreNewPorts wires (place_at places j) (get_or (all ++ p ∷ []) m past)) last
+        subst (λ m. AreNewRoundPorts wires (place_at places j) (get_or (all ++ p ∷ []) m past)) last
         (rw (get_or-append_seam all p [] past)
-        (subst (λ m. AreNewPorts wires (place_at places m) p) same one))
+        (subst (λ m. AreNewRoundPorts wires (place_at places m) p) same one))
   ];
 }
 
 -- one more node is born
-pub more-bears : (places : List ℕ) (forms : List SpecForm) (ports : List NodePorts) (k : ℕ)
-    (cells mid after : List CellPicture) (own : NodePorts) → AreOnce places → k < length places
-    → Bears places forms ports k cells mid → ((past : NodePorts) → get_or ports k past ≡ own)
+pub more-bears : (places : List ℕ) (forms : List SpecForm) (ports : List RoundPorts) (k : ℕ)
+    (cells mid after : List CellPicture) (own : RoundPorts) → AreOnce places → k < length places
+    → Bears places forms ports k cells mid → ((past : RoundPorts) → get_or ports k past ≡ own)
     → ChangesCell (place_at places k) (Bore (form_at forms k) own) mid after
     → Bears places forms ports (k + 1) cells after
 more-bears places forms ports k cells mid after own once lk h is c = record {
@@ -79,7 +79,7 @@ more-bears places forms ports k cells mid after own once lk h is c = record {
 }
 
 -- the last one isn't, and was left as it was
-pub bears-still : (places : List ℕ) (forms : List SpecForm) (ports : List NodePorts) (k n : ℕ)
+pub bears-still : (places : List ℕ) (forms : List SpecForm) (ports : List RoundPorts) (k n : ℕ)
     (cells mid after : List CellPicture) → Bears places forms ports k cells mid
     → ChangesCell n (λ c d. d ≡ c) mid after → Bears places forms ports k cells after
 bears-still places forms ports k n cells mid after h c =
@@ -91,7 +91,7 @@ bears-still places forms ports k n cells mid after h c =
       others = λ m away. same m ∙ h.others m away;
     }
 
-pub none-bears : (places : List ℕ) (forms : List SpecForm) (ports : List NodePorts)
+pub none-bears : (places : List ℕ) (forms : List SpecForm) (ports : List RoundPorts)
     (cells : List CellPicture) → Bears places forms ports 0 cells cells
 none-bears places forms ports cells = record {
   len = refl;
@@ -162,9 +162,9 @@ find-place places (suc k) m = elim (cases_eq (place_at places k) m) [
 ]
 
 -- where the ports are those of the grown wires and the nodes are born, the growth is carried out
-pub carries-out : (n : ℕ) (places ranks : List ℕ) (forms : List SpecForm) (ports : List NodePorts)
-    (wires : List Wire) (count : ℕ) (b d : Board) (mid : List CellPicture) → Avoids places n
-    → d.wires ≡ wires → d.ranks ≡ ranks → d.reserves ≡ b.reserves
+pub carries-out : (n : ℕ) (places ranks : List ℕ) (forms : List SpecForm) (ports : List RoundPorts)
+    (wires : List Wire) (count : ℕ) (b d : ExecutorPicture) (mid : List CellPicture)
+    → Avoids places n → d.wires ≡ wires → d.ranks ≡ ranks → d.reserves ≡ b.reserves
     → d.left ≡ slice_set b.left n (slice_index_or b.left n 0 - count)
     → d.edges ≡ b.edges ++ replicate count new_edge → ChangesCell n (Widened wires n) b.cells mid
     → ArePortsAt wires places (length places) ports
@@ -199,7 +199,7 @@ carries-out n places ranks forms ports wires count b d mid other wired ranked ke
 
 -- one node's box was left as it was
 pub gives-same : (n : ℕ) (cells after : List CellPicture)
-    → ChangesCell n (λ c d. d.box ≡ c.box) cells after → Gives cells after
+    → ChangesCell n (λ c d. d.box ≡ c.box) cells after → GivesBoxes cells after
 gives-same n cells after c = record {
   len = c.len;
   each = λ m.
@@ -210,10 +210,10 @@ gives-same n cells after c = record {
 }
 
 -- whether or not all new nodes are born, the boxes are given back
-pub gives-some : (n : ℕ) (places : List ℕ) (forms : List SpecForm) (ports : List NodePorts)
+pub gives-some : (n : ℕ) (places : List ℕ) (forms : List SpecForm) (ports : List RoundPorts)
     (cells mid after : List CellPicture) → ChangesCell n (λ c d. d.box ≡ c.box) cells mid
     → ((k : ℕ) → k < length places → (cell_at cells (place_at places k)).box.spec ≡ None)
-    → length places ≤ length ports → BearsSome places forms ports mid after → Gives cells after
+    → length places ≤ length ports → BearsSome places forms ports mid after → GivesBoxes cells after
 gives-some n places forms ports cells mid after wide blank len h = record {
   len = h.bears.len ∙ wide.len;
   each = λ m.

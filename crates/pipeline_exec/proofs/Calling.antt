@@ -1,8 +1,8 @@
 -- The calls of a round, made of many nodes at the same time.
-use Rattle.pipeline_exec.proofs.Words.{Acts, ActsCell, All-from_get_or, AreCalled, Board, BoxPicture, Cell, CellPicture, DueCall, Each, ExecutorState, HasFault, HoldsAt, IfNone, IfSome, IfSome_then, IsCalled, IsClear, IsCleared, IsRunning, IsUnderWay, KeepsBox, KeepsFault, List, MayBeCalled, NodeFault, None, Option, SameBox, Stays, StaysOrActs, [], acted, ap, arith, board_of, busy-born, cases_eq, cases_lt, cell_at, cell_picture, cells_of, drop, get_or, get_or-append_right, get_or-drop, get_or-map, get_or_append_left, inl, inr, keeps-both, keeps-itself, length, length-append, length-drop, length-map, length-swap, no_cell, refl, subst, suc, swap, swapped_from_swap, sym, with_items, with_items_is, zero, ℕ, ◌++◌, ◌+◌, ◌-◌, ◌<◌, ◌∙◌, ◌∷◌, ◌≡◌, ◌≢◌, ◌≤◌}
+use Rattle.pipeline_exec.proofs.Words.{Acts, ActsCell, All-from_get_or, AreCalled, BoxPicture, Cell, CellPicture, DueCall, Each, ExecutorPicture, ExecutorState, HasFault, HoldsAt, IfNone, IfSome, IfSome_then, IsCalled, IsCleared, IsFaultless, IsRunning, IsUnderWay, KeepsBox, KeepsFault, List, MayBeCalled, NodeFault, None, Option, SameBox, StaysAll, StaysOrActs, [], acting_runs_on, ap, arith, board_of, busy-born, cases_eq, cases_lt, cell_at, cell_picture, cells_of, drop, get_or, get_or-append_right, get_or-drop, get_or-map, get_or_append_left, inl, inr, keeps-both, keeps-itself, length, length-append, length-drop, length-map, length-swap, no_cell, refl, subst, suc, swap, swapped_from_swap, sym, with_items, with_items_is, zero, ℕ, ◌++◌, ◌+◌, ◌-◌, ◌<◌, ◌∙◌, ◌∷◌, ◌≡◌, ◌≢◌, ◌≤◌}
 use Rattle.pipeline_exec.proofs.Moving.{on-board}
 use Rattle.std.specs.Prelude.{All}
-use Rattle.exec_laws.specs.declared.edges.NodeState.TheVariants as node
+use Rattle.exec_laws.specs.declared.edges.NodeStatus.TheVariants as node
 
 -- ---- elements that change places
 
@@ -101,7 +101,7 @@ absurd-work : (call : DueCall) → node.AtWork call ≡ node.Unborn → ⊥
 absurd-work call e = cc
 
 -- a node at work may get the call that it is due
-pub may-be-called : (b : Board) → IsUnderWay b → All MayBeCalled b.cells
+pub may-be-called : (b : ExecutorPicture) → IsUnderWay b → All MayBeCalled b.cells
 may-be-called b u = All-from_get_or MayBeCalled b.cells no_cell (λ n lt. record {
   may = λ call due.
       let busy : (cell_at b.cells n).mark.state ≢ node.Unborn = (λ e.
@@ -155,7 +155,7 @@ module _ {P : Type 0} (seen : P → BoxPicture) where
   pub are-called : (was cells after : List (Cell P)) (first : Option NodeFault)
       → Each IsCleared was cells → Each (IsCalled seen) cells after
       → IfSome first (λ f. f.node < length after × HoldsAt (HasFault {P = P} f.fault) after f.node)
-      → IfNone first (All (IsClear {P = P}) after)
+      → IfNone first (All (IsFaultless {P = P}) after)
       → AreCalled first (cells_of seen was) (cells_of seen after)
   are-called was cells after first cleared e found missing =
       let len : length after ≡ length was = e.len ∙ cleared.len in
@@ -183,13 +183,13 @@ module _ {P : Type 0} (seen : P → BoxPicture) (state : ExecutorState P) (lent 
     (first : Option NodeFault) (value : lent ≡ state.cells.items)
     (len : length after ≡ state.cells.len)
     (a : AreCalled first (cells_of seen lent) (cells_of seen after)) where
-  abbrev now : Board
+  abbrev now : ExecutorPicture
   now = board_of seen (record state { cells = with_items state.cells after })
 
   called : AreCalled first (cells_of seen state.cells.items) now.cells
   called = rw (with_items_is state.cells after len, ← value) a
 
-  pub calls-stay : Stays (board_of seen state) now
+  pub calls-stay : StaysAll (board_of seen state) now
   calls-stay = record {
     wires = refl;
     ranks = refl;
@@ -204,6 +204,6 @@ module _ {P : Type 0} (seen : P → BoxPicture) (state : ExecutorState P) (lent 
       let each = called.acted none in
       record {
         board = on-board (board_of seen state) now u.board refl refl refl refl called.len refl
-            (rw called.len (acted u.board.running (cell_at now.cells) each));
+            (rw called.len (acting_runs_on u.board.running (cell_at now.cells) each));
         quiet = λ n. elim (each n) [ inl s ↦ rw s (u.quiet n) | inr x ↦ rw x.own (u.quiet n) ];
       }

@@ -1,12 +1,12 @@
 -- The state before the first move.
-use Rattle.pipeline_exec.proofs.Words.{AreEdgesOf, AreFirstPorts, AreNewEdges, AreNewFrom, AreReserves, AreStarting, Bool, BoxPicture, Cell, CellPicture, EdgeState, Fills, HasEdge, HasWire, HoldsGraph, Input, IsFresh, IsGraph, IsUnderWay, List, NodeMark, NodePorts, None, Output, Port, Reserve, Side, StartsAs, Wire, [], ap, are_left, arith, both_ways, box-of, box_at, boxes_of, cases_lt, cell_at, cell_picture, cells_of, cond_both, edge_at, eq-eqb, false, first_mark, get_or-eq_default, inl, input-of-count, input_count, inr, is_end, is_reserved, length, length-append, length-map, map, new_mark, new_picture, no_cell, output-of-count, output_count, port_count, port_on, refl, reserve_at, reserve_of, rules, started, subst, suc, sym, true, wire_at, zero, ℕ, ◌++◌, ◌+◌, ◌<◌, ◌==◌, ◌∙◌, ◌∷◌, ◌≡◌, ◌≤◌}
-use Rattle.exec_laws.specs.declared.edges.NodeState.TheVariants as node
+use Rattle.pipeline_exec.proofs.Words.{AreEdgesOf, AreFirstPorts, AreNewEdges, AreNewFrom, AreReserves, AreStarting, Bool, BoxPicture, Cell, CellPicture, EdgeState, FillsRoundCells, HasEdge, HasWire, HoldsGraph, Input, IsFresh, IsGraph, IsUnderWay, List, NodeMark, None, Output, Port, Reserve, RoundPorts, Side, StartsAs, Wire, [], ap, are_left, arith, both_ways, box-of, box_at, boxes_of, cases_lt, cell_at, cell_picture, cells_of, cond_both, edge_at, eq-eqb, false, first_round_mark, get_or-eq_default, inl, input-of-count, input_count, inr, is_port_end, is_reserved, length, length-append, length-map, map, new_mark, new_picture, no_cell, output-of-count, output_count, port_count, port_on, refl, reserve_at, reserve_of, rules, start_runs, subst, suc, sym, true, wire_at, zero, ℕ, ◌++◌, ◌+◌, ◌<◌, ◌==◌, ◌∙◌, ◌∷◌, ◌≡◌, ◌≤◌}
+use Rattle.exec_laws.specs.declared.edges.NodeStatus.TheVariants as node
 
 -- ---- edges of a node
 
 -- a port that has a wire is found
 pub found-some : (wires : List Wire) (n : ℕ) (p : Port) → HasWire wires n p
-    → ((e : ℕ) → e < length wires → is_end (wire_at wires e) n p ≡ false) → ⊥
+    → ((e : ℕ) → e < length wires → is_port_end (wire_at wires e) n p ≡ false) → ⊥
 found-some wires n (Input i) h none =
     both_ways _ (none h.edge h.in_range) (search (rules, eq-eqb, h.to, h.input_is))
 found-some wires n (Output o) h none =
@@ -18,8 +18,8 @@ pub has-wire : (nodes : ℕ) (wires : List Wire) → HoldsGraph nodes wires
 has-wire nodes wires h1 n side k h2 = search (rules, input-of-count, output-of-count)
 
 -- the ports of one more node
-pub more-ports : (rs : List Reserve) (wires : List Wire) (k : ℕ) (all : List NodePorts)
-    (p : NodePorts) → AreNewFrom rs wires k all → AreFirstPorts rs wires (k + length all) p
+pub more-ports : (rs : List Reserve) (wires : List Wire) (k : ℕ) (all : List RoundPorts)
+    (p : RoundPorts) → AreNewFrom rs wires k all → AreFirstPorts rs wires (k + length all) p
     → AreNewFrom rs wires k (all ++ p ∷ [])
 more-ports rs wires k [] p new here =
     let e : k + 0 ≡ k = omega arith in (subst (λ m. AreFirstPorts rs wires m p) e here, tt)
@@ -35,7 +35,7 @@ more-ports rs wires k (q ∷ all) p new here =
 pub record IsFirstCell (rs : List Reserve) (wires : List Wire) (n : ℕ)
     (c : CellPicture) : Type 0 where
   pub view : c.view ≡ new_picture (input_count wires n) (output_count wires n)
-  pub mark : c.mark ≡ first_mark (is_reserved rs n) (output_count wires n)
+  pub mark : c.mark ≡ first_round_mark (is_reserved rs n) (output_count wires n)
   pub numbers : AreEdgesOf wires n c.inputs c.outputs
 
 cells-new : {P : Type 0} (seen : P → BoxPicture) (rs : List Reserve) (wires : List Wire) (k : ℕ)
@@ -85,17 +85,17 @@ starts : (reserved : Bool) (p : BoxPicture) → StartsAs reserved p
 starts true p h = ((λ e. absurd (cc)), (λ _. h))
 starts false p h = ((λ _. h), (λ e. absurd (cc)))
 
-unborn-mark : (reserved : Bool) (outputs : ℕ) (m : NodeMark) → m ≡ first_mark reserved outputs
+unborn-mark : (reserved : Bool) (outputs : ℕ) (m : NodeMark) → m ≡ first_round_mark reserved outputs
     → (reserved ≡ false → m ≡ new_mark outputs) × (reserved ≡ true → m.state ≡ node.Unborn)
 unborn-mark true outputs m e = ((λ f. absurd (cc)), (λ _. ap (λ (x : NodeMark). x.state) e))
 unborn-mark false outputs m e = ((λ _. e), (λ f. absurd (cc)))
 
 pub state-started : {P : Type 0} (seen : P → BoxPicture) (ranks : List ℕ) (wires : List Wire)
-    (rs : List Reserve) (cells : List (Cell P)) (all : List P) (ports : List NodePorts)
+    (rs : List Reserve) (cells : List (Cell P)) (all : List P) (ports : List RoundPorts)
     (edges : List EdgeState) (left : List ℕ) → IsGraph ranks wires rs → length all ≡ length ranks
     → AreReserves (length ranks) (length wires) wires rs → AreStarting rs (map seen all)
-    → AreNewFrom rs wires 0 ports → AreNewEdges (length wires) edges → Fills cells all ports
-    → left ≡ are_left rs (length all)
+    → AreNewFrom rs wires 0 ports → AreNewEdges (length wires) edges
+    → FillsRoundCells cells all ports → left ≡ are_left rs (length all)
     → IsUnderWay (record {
       wires = wires;
       cells = cells_of seen cells;
@@ -141,7 +141,7 @@ state-started {P} seen ranks wires rs cells all ports edges left g one h startin
         ranks_len = sym one ∙ sym all_len;
         left_len = ap length lefts ∙ left-length rs (length all) ∙ sym all_len;
         within = λ n. rw (all_len, one) (reserve-within (length ranks) rs n h.nodes_within);
-        running = rw all_len (started (length all) wires
+        running = rw all_len (start_runs (length all) wires
             (record { ranks = ranks; reserves = []; graph = graph; nodes_len = one }) now
             (edge_at edges) (is_reserved rs) (λ n lt. (start n lt).0)
             (λ n lt holds. ((start n lt).1 holds, (mark n lt).1 holds))

@@ -1,13 +1,13 @@
 -- How a run that has grown ends.
-use Rattle.pipeline_exec.proofs.Words.{Board, CellPicture, EndHolds, EndsBadly, EndsSettled, ExecEnd, GrowsAndFails, GrowsAndSpoils, GrowsTo, GrowthFlaw, IsFaultEnd, List, Reserve, Some, WorkFault, [], ap, are_left, arith, begun, box-of, boxes_of, cases_eq, cases_lt, cell_at, get_or, get_or-append_seam, get_or_append_left, grown_ranks, grown_wires, growth_flaw, inl, inr, left_at, left_of, length, length-map, refl, reserve_of, subst, suc, sym, wired_by, zero, ℕ, ◌+◌, ◌-◌, ◌<◌, ◌∙◌, ◌≡◌, ◌≤◌}
+use Rattle.pipeline_exec.proofs.Words.{CellPicture, EndsBadly, EndsSettled, ExecEnd, ExecEndHolds, ExecutorPicture, GrowsAndFails, GrowsAndSpoils, GrowsTo, GrowthFlaw, IsFaultEnd, List, Reserve, Some, WorkFault, [], ap, are_left, arith, begun, box-of, boxes_of, cases_eq, cases_lt, cell_at, get_or, get_or-append_seam, get_or_append_left, grown_ranks, grown_wires, growth_flaw, inl, inr, left_at, left_of, length, length-map, refl, reserve_of, subst, suc, sym, wired_by, zero, ℕ, ◌+◌, ◌-◌, ◌<◌, ◌∙◌, ◌≡◌, ◌≤◌}
 use Rattle.pipeline_exec.proofs.Creating.{left-length}
 use Rattle.pipeline_exec.proofs.GrowthLaws.{blanks-are}
 use Rattle.pipeline_exec.proofs.RunEnds.{is-fault}
 use Rattle.pipeline_exec.specs.declared.run.ExecEnd.TheVariants as end
 
 -- the end where nothing is due
-pub settled-end : (e : ExecEnd) (b d : Board) → GrowsTo b d
-    → EndsSettled e d.wires (boxes_of d.cells) → EndHolds e (begun b) (boxes_of d.cells)
+pub settled-end : (e : ExecEnd) (b d : ExecutorPicture) → GrowsTo b d
+    → EndsSettled e d.wires (boxes_of d.cells) → ExecEndHolds e (begun b) (boxes_of d.cells)
 settled-end end.Done b d g h =
     record {
       grown = record { births = g.grows.births; are = g.grows.are; holds = rw g.grows.wires at h };
@@ -23,8 +23,8 @@ settled-end (end.BadGrowth n f) b d g h = absurd h
 settled-end end.Memory b d g h = absurd h
 
 -- the end at a fault
-pub failed-end : (e : ExecEnd) (n : ℕ) (f : WorkFault) (b d : Board) → GrowsAndFails n f b d
-    → IsFaultEnd e n f → EndHolds e (begun b) (boxes_of d.cells)
+pub failed-end : (e : ExecEnd) (n : ℕ) (f : WorkFault) (b d : ExecutorPicture)
+    → GrowsAndFails n f b d → IsFaultEnd e n f → ExecEndHolds e (begun b) (boxes_of d.cells)
 failed-end end.Done n f b d g h = absurd h
 failed-end (end.Stuck report m) n f b d g h = absurd h
 failed-end (end.BadGrowth m x) n f b d g h = absurd h
@@ -50,7 +50,7 @@ edges-at rs (suc count) n lt = elim (cases_lt n count) [
       ∙ ap (λ m. (reserve_of rs m).edges) same
 ]
 
-pub bad-end : (n : ℕ) (f : GrowthFlaw) (b d : Board) → GrowsAndSpoils n f b d
+pub bad-end : (n : ℕ) (f : GrowthFlaw) (b d : ExecutorPicture) → GrowsAndSpoils n f b d
     → b.left ≡ are_left b.reserves (length b.cells) → EndsBadly (begun b) (boxes_of d.cells) n f
 bad-end n f b d g lefts =
     let mid = g.mid in

@@ -1,5 +1,5 @@
 -- The flaw of a growth, by the tests that are made in turn.
-use Rattle.pipeline_exec.proofs.Words.{Blank, Bool, GrowNode, Growth, GrowthFlaw, Kind, List, Option, Some, Wire, all_kinds, ap, ap₂, cond, false, find, forms_of, growth_flaw, growth_form, has_gap, has_large_port, has_wrong_end, is_out_of_order, is_port_taken, kinds_of, lacks_blank, le-ltb, length, length-map, list_any, new_wires, option_map, places_for, rank_at, ranks_of, refl, slice_index_or, sym, true, ℕ, ◌++◌, ◌∙◌, ◌∷◌, ◌≡◌, ◌≤◌}
+use Rattle.pipeline_exec.proofs.Words.{Blank, Bool, GrowNode, Growth, GrowthFlaw, Kind, List, Option, Some, Wire, all_kinds, ap, ap₂, cond, false, find, forms_of, grown_kinds, growth_flaw, growth_form, has_gap, has_large_port, has_wrong_end, is_out_of_order, is_port_taken, lacks_blank, le-ltb, length, length-map, list_any, new_wires, option_map, places_for, rank_at, ranks_of, refl, slice_index_or, sym, true, ℕ, ◌++◌, ◌∙◌, ◌∷◌, ◌≡◌, ◌≤◌}
 use Rattle.pipeline_exec.proofs.GrowthLaws.{kinds-are}
 use Rattle.proc_api.specs.declared.growth.Edge.{Edge}
 use Rattle.exec_laws.specs.declared.growth.GrowthFlaw.TheVariants as flaw
@@ -60,7 +60,7 @@ module _ (ranks : List ℕ) (wires : List Wire) (blanks : List Blank) (left n : 
         ∙ when _ _ _ (comes t)
 
     module _ (s : Bool) (small : Tested large s false) (places : List ℕ)
-        (at : places ≡ places_for (kinds_of nodes) blanks (length ranks)) (all : List Wire)
+        (at : places ≡ places_for (grown_kinds nodes) blanks (length ranks)) (all : List Wire)
         (copied : all ≡ wires) (qs : List ℕ) (qs_are : qs ≡ places) (x : Bool) where
       -- the flaws of the ports, and then of the blanks
       abbrev rest : List ℕ → List Kind → Option GrowthFlaw
@@ -68,14 +68,14 @@ module _ (ranks : List ℕ) (wires : List Wire) (blanks : List Blank) (left n : 
           (cond (list_any (has_gap (wires ++ new_wires n ps edges)) (n ∷ ps)) (Some flaw.PortGap)
           (option_map flaw.NoBlank (find (lacks_blank ks blanks) all_kinds)))
 
-      of-ports : flaw_now ≡ rest places (kinds_of nodes)
+      of-ports : flaw_now ≡ rest places (grown_kinds nodes)
       unfolding rank_at
       of-ports =
           same ∙ unless _ _ _ (le-ltb _ _ few) ∙ unless _ _ _ (le-ltb _ _ few_edges)
           ∙ unless _ _ _ ends_pass ∙ unless _ _ _ (comes in_order)
           ∙ unless _ _ _ (comes small)
           ∙ ap (λ ks. rest (places_for ks blanks (length ranks)) ks) (kinds-are nodes)
-          ∙ ap (λ ps. rest ps (kinds_of nodes)) (sym at)
+          ∙ ap (λ ps. rest ps (grown_kinds nodes)) (sym at)
 
       taken-at : is_port_taken wires (new_wires n places edges)
           ≡ is_port_taken all (new_wires n qs edges)
@@ -98,9 +98,10 @@ module _ (ranks : List ℕ) (wires : List Wire) (blanks : List Blank) (left n : 
         gap t = of-ports ∙ unless _ _ _ (taken-at ∙ comes free) ∙ when _ _ _ (gap-at ∙ comes t)
 
         pub lacks : Tested (list_any (has_gap ws) (n ∷ ps)) y false → (bs : List Blank)
-            → bs ≡ blanks → (o : Option Kind) → o ≡ find (lacks_blank (kinds_of nodes) bs) all_kinds
+            → bs ≡ blanks → (o : Option Kind) → o
+            ≡ find (lacks_blank (grown_kinds nodes) bs) all_kinds
             → flaw_now ≡ option_map flaw.NoBlank o
         lacks t bs bs_are o is =
             of-ports ∙ unless _ _ _ (taken-at ∙ comes free) ∙ unless _ _ _ (gap-at ∙ comes t)
             ∙ ap (option_map flaw.NoBlank) (sym (is
-            ∙ ap (λ l. find (lacks_blank (kinds_of nodes) l) all_kinds) bs_are))
+            ∙ ap (λ l. find (lacks_blank (grown_kinds nodes) l) all_kinds) bs_are))

@@ -1,10 +1,10 @@
 -- A growth without a flaw, carried out, keeps the state of the run.
-use Rattle.pipeline_exec.proofs.Words.{AreAllBorn, AreBirths, AreFree, AsksToGrow, Avoids, Birth, Blank, Board, Bool, BoxPicture, CarriesOut, CellPicture, ChangesCell, EdgeState, GivesBox, GrewBox, GrewCell, GrowNode, GrowsTo, GrowthForm, HoldsGraph, Input, IsBorn, IsBornCell, IsFlawless, IsFresh, IsGraph, IsNewNode, IsTrue, IsUnderWay, Kind, Left, List, Loads, MarkHolds, MayCarryOut, Me, New, NewEdge, NodeState, None, Option, Output, Picture, Reserve, Running, Some, Spec, Status, Who, Wire, [], after_grow, and_parts, ap, append-nil, arith, blank_place, blanks_of, both_ways, box-of, boxes_of, busy-born, cases_Bool, cases_eq, cell_at, cond, count_by, drop, drop-cons, edge_at, end_node, eq-eqb, false, false_from_ne_true, form_at, form_kind, forms_of, get_or, get_or-replicate, get_or-set_other, get_or-set_same, get_or_append_left, graph-grown, grown, grown-counts, growth_flaw, growths_of, has_gap, has_wrong_end, inl, input_count, inr, is_blank_of, is_me, is_named, is_some, is_unborn, keeps-gives, keeps-itself, kept_growths, kind_of, kinds_of, left_at, length, length-append, length-map, length-replicate, length-set, list_any, list_any_at, ltb-false, ltb-true, map, ne_eqb, new_edge, new_wire, new_wires, no_wire, none-of, not, not-blank, not-false, or_parts, output_count, place-of, place_at, places_for, rank_at, refl, remove, replicate, reserve_of, same_kind, set_ranks, set_ranks-length, spec_form, stays-itself, subst, suc, sum_by-cons, sym, take, true, unborn_of, wire_at, wired_by, without_blank, zero, ℕ, ◌++◌, ◌+◌, ◌-◌, ◌<◌, ◌==◌, ◌∙◌, ◌∷◌, ◌≡◌, ◌≢◌, ◌≤◌, ◌⊎◌}
+use Rattle.pipeline_exec.proofs.Words.{AreAllBorn, AreBirths, AreFree, AsksToGrow, Avoids, Birth, Blank, Bool, BoxPicture, CarriesOut, CellPicture, ChangesCell, EdgeState, ExecutorPicture, GivesBox, GrewBox, GrewCell, GrowNode, GrowsTo, GrowthForm, HoldsGraph, Input, IsBorn, IsBornCell, IsFlawless, IsFresh, IsGraph, IsNewNode, IsTrue, IsUnderWay, Kind, Left, List, Loads, MarkHolds, MayCarryOut, Me, New, NewEdge, NodeStatus, None, Option, Output, Picture, Reserve, Running, Some, Spec, Status, Who, Wire, [], after_grow, and_parts, ap, append-nil, arith, blank_place, blanks_of, both_ways, box-of, boxes_of, busy-born, cases_Bool, cases_eq, cell_at, cond, count_by, drop, drop-cons, edge_at, end_node, eq-eqb, false, false_from_ne_true, form_at, form_kind, forms_of, get_or, get_or-replicate, get_or-set_other, get_or-set_same, get_or_append_left, graph-grown, growing_runs_on, grown-counts, grown_kinds, growth_flaw, growths_of, has_gap, has_wrong_end, inl, input_count, inr, is_blank_of, is_me, is_named, is_some, is_unborn_state, keeps-gives, keeps-itself, kept_growths, kind_of, left_at, length, length-append, length-map, length-replicate, length-set, list_any, list_any_at, ltb-false, ltb-true, map, ne_eqb, new_edge, new_wire, new_wires, no_wire, none-of, not, not-blank, not-false, or_parts, output_count, place-of, place_at, places_for, rank_at, refl, remove, replicate, reserve_of, same_kind, set_ranks, set_ranks-length, spec_form, stays-itself, subst, suc, sum_by-cons, sym, take, true, unborn_of, wire_at, wired_by, without_blank, zero, ℕ, ◌++◌, ◌+◌, ◌-◌, ◌<◌, ◌==◌, ◌∙◌, ◌∷◌, ◌≡◌, ◌≢◌, ◌≤◌, ◌⊎◌}
 use Rattle.std.proofs.Math.Seq.{get_or-append_right}
 use Rattle.std.specs.Prelude.{find}
 use Rattle.query_model.specs.declared.processor_spec.Spec.TheVariants as spec
 use Rattle.exec_laws.specs.declared.edges.DueCall.TheVariants as call
-use Rattle.exec_laws.specs.declared.edges.NodeState.TheVariants as node
+use Rattle.exec_laws.specs.declared.edges.NodeStatus.TheVariants as node
 
 -- ---- kinds and places
 
@@ -23,17 +23,17 @@ form-kind (spec.MergeSorted order) = refl
 form-kind (spec.Limit span) = refl
 form-kind spec.Collect = refl
 
-pub kinds-are : (nodes : List GrowNode) → map form_kind (forms_of nodes) ≡ kinds_of nodes
+pub kinds-are : (nodes : List GrowNode) → map form_kind (forms_of nodes) ≡ grown_kinds nodes
 kinds-are [] = refl
 kinds-are (x ∷ nodes) = rw (form-kind x.spec) (ap (λ l. kind_of x.spec ∷ l) (kinds-are nodes))
 
 -- the new nodes of a kind
 pub kinds-count : (k : Kind) (nodes : List GrowNode)
-    → count_by (λ (j : Kind). same_kind j k) (kinds_of nodes)
+    → count_by (λ (j : Kind). same_kind j k) (grown_kinds nodes)
     ≡ count_by (λ (x : GrowNode). same_kind (kind_of x.spec) k) nodes
 kinds-count k [] = refl
 kinds-count k (x ∷ nodes) =
-    sum_by-cons (λ (j : Kind). cond (same_kind j k) 1 0) (kind_of x.spec) (kinds_of nodes)
+    sum_by-cons (λ (j : Kind). cond (same_kind j k) 1 0) (kind_of x.spec) (grown_kinds nodes)
     ∙ ap (λ n. cond (same_kind (kind_of x.spec) k) 1 0 + n) (kinds-count k nodes)
     ∙ sym (sum_by-cons (λ (y : GrowNode). cond (same_kind (kind_of y.spec) k) 1 0) x nodes)
 
@@ -76,8 +76,8 @@ wired-other n x ne = rw (ne_eqb x.expander n ne) refl
 -- ---- unborn nodes
 
 -- an unborn node is one whose box is blank
-marked : (b : Board) → IsUnderWay b → (m : ℕ) → m < length b.cells
-    → is_unborn (cell_at b.cells m).mark.state ≡ not (is_some (cell_at b.cells m).box.spec)
+marked : (b : ExecutorPicture) → IsUnderWay b → (m : ℕ) → m < length b.cells
+    → is_unborn_state (cell_at b.cells m).mark.state ≡ not (is_some (cell_at b.cells m).box.spec)
 marked b u m lt = elim (cases_Bool (is_some (cell_at b.cells m).box.spec)) [
   | inl born ↦ rw born (busy (cell_at b.cells m).mark.state _ _ _ _ _
       (u.board.running.each m lt born).mark)
@@ -85,8 +85,8 @@ marked b u m lt = elim (cases_Bool (is_some (cell_at b.cells m).box.spec)) [
       let none = none-of _ no_spec in rw (u.board.running.unborn m lt none, none) refl
 ]
   where
-    busy : (s : NodeState) (last : Option Status) (i o : ℕ) (p : BoxPicture) (v : Picture)
-        → MarkHolds s last i o p v → is_unborn s ≡ false
+    busy : (s : NodeStatus) (last : Option Status) (i o : ℕ) (p : BoxPicture) (v : Picture)
+        → MarkHolds s last i o p v → is_unborn_state s ≡ false
     busy node.Resting last i o p v h = refl
     busy node.Due last i o p v h = refl
     busy (node.AtWork c) last i o p v h = refl
@@ -98,7 +98,7 @@ either b true x y e f = rw e refl
 either b false x y e f = rw (e, f) refl
 
 -- the unborn nodes by their marks are those by their boxes, which stay
-pub blanks-are : (b : Board) → IsUnderWay b → (after : List CellPicture)
+pub blanks-are : (b : ExecutorPicture) → IsUnderWay b → (after : List CellPicture)
     → ((m : ℕ) → ((cell_at after m).box.spec ≡ (cell_at b.cells m).box.spec)
     × ((cell_at after m).box.kind ≡ (cell_at b.cells m).box.kind))
     → (first k : ℕ) → first + k ≤ length b.cells
@@ -144,7 +144,7 @@ no-flaw ranks wires left n g h =
 
 -- ---- the grown graph
 
-module _ (b : Board) (u : IsUnderWay b) (n : ℕ) (lt : n < length b.cells)
+module _ (b : ExecutorPicture) (u : IsUnderWay b) (n : ℕ) (lt : n < length b.cells)
     (due : (cell_at b.cells n).mark.state ≡ node.AtWork call.Expand) (g : GrowthForm)
     (as_many : length g.ranks ≡ length g.specs) (cells : List CellPicture)
     (a : ChangesCell n (GrewBox g) b.cells cells) (places : List ℕ)
@@ -287,7 +287,7 @@ module _ (b : Board) (u : IsUnderWay b) (n : ℕ) (lt : n < length b.cells)
             (ltb-true k (length places) lk) (eq-eqb _ _ refl))
     ends-moved (x ∷ es) h (suc e) le = ends-moved es (or_parts _ _ h).1 e (omega (arith, le))
 
-    module _ (reserve : r ≡ reserve_of b.reserves n) (d : Board)
+    module _ (reserve : r ≡ reserve_of b.reserves n) (d : ExecutorPicture)
         (c : CarriesOut n places (set_ranks b.ranks places g.ranks) g.specs (b.wires ++ more)
         (length g.edges) (record b { cells = cells }) d) where
       born-cell : (k : ℕ) → k < length places → IsBornCell (b.wires ++ more) (place_at places k)
@@ -320,7 +320,7 @@ module _ (b : Board) (u : IsUnderWay b) (n : ℕ) (lt : n < length b.cells)
       running =
           let ends : list_any (has_wrong_end (length places)) g.edges ≡ false =
           rw count flawless.flawless.ends in
-          grown u.board.running u.quiet n lt due more holds is_new
+          growing_runs_on u.board.running u.quiet n lt due more holds is_new
           (false_from_ne_true (is_new n)
           (λ h. let p = place-of places n h in other p.place p.in_range p.is))
           (λ m h. let p = place-of places m h in rw p.is at (below p.place p.in_range))

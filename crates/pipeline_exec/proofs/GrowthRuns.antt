@@ -1,12 +1,12 @@
 -- Growths of a run add up, and how a round that ends the run ends.
-use Rattle.pipeline_exec.proofs.Words.{Board, CellPicture, ChangesCell, FailedBox, Gives, GivesBox, GrewBox, Grows, GrowsAndFails, GrowsAndSpoils, GrowsTo, GrowthFlaw, GrowthForm, IsBorn, IsUnderWay, List, RoundEnd, RoundEndHolds, Some, Stays, StaysBox, WorkFault, [], all-born-both, append-nil, arith, at-node, births-both, box-of, boxes_of, busy-born, cell_at, gives-both, growth_flaw, keeps-born, keeps-gives, keeps-itself, left_at, length, no-births, none-born, not-blank, ranks-append, refl, sym, wired-append, wires-append, ℕ, ◌++◌, ◌<◌, ◌∙◌, ◌≡◌}
+use Rattle.pipeline_exec.proofs.Words.{CellPicture, ChangesCell, ExecutorPicture, FailedBox, GivesBox, GivesBoxes, GrewBox, GrowsAndFails, GrowsAndSpoils, GrowsByBirths, GrowsTo, GrowthFlaw, GrowthForm, IsBorn, IsUnderWay, List, RoundEnd, RoundEndHolds, Some, StaysAll, StaysBox, WorkFault, [], all-born-both, append-nil, arith, at-node, births-both, box-of, boxes_of, busy-born, cell_at, gives-both, growth_flaw, keeps-born, keeps-gives, keeps-itself, left_at, length, no-births, none-born, not-blank, ranks-append, refl, sym, wired-append, wires-append, ℕ, ◌++◌, ◌<◌, ◌∙◌, ◌≡◌}
 use Rattle.pipeline_exec.proofs.Moving.{stay-both, stay-changed}
 use Rattle.exec_laws.specs.declared.edges.DueCall.TheVariants as call
-use Rattle.exec_laws.specs.declared.edges.NodeState.TheVariants as node
+use Rattle.exec_laws.specs.declared.edges.NodeStatus.TheVariants as node
 use Rattle.pipeline_exec.specs.declared.births.RoundEnd.TheVariants as round
 
 -- where all boxes stay, the graph hasn't grown
-pub stays-grows : (b d : Board) → Stays b d → Grows b d
+pub stays-grows : (b d : ExecutorPicture) → StaysAll b d → GrowsByBirths b d
 stays-grows b d s = record {
   births = [];
   gives = record { len = s.len; each = λ n. keeps-gives _ _ (s.each n) };
@@ -20,7 +20,7 @@ stays-grows b d s = record {
   left = λ n. rw s.left (omega arith);
 }
 
-stays-same : (b : Board) → Stays b b
+stays-same : (b : ExecutorPicture) → StaysAll b b
 stays-same b = record {
   wires = refl;
   ranks = refl;
@@ -30,16 +30,17 @@ stays-same b = record {
   each = λ n. keeps-itself (cell_at b.cells n).box;
 }
 
-pub grows-itself : (b : Board) → IsUnderWay b → GrowsTo b b
+pub grows-itself : (b : ExecutorPicture) → IsUnderWay b → GrowsTo b b
 grows-itself b u = record { grows = stays-grows b b (stays-same b); under_way = u }
 
-pub gives-after : (a b c : List CellPicture) → Gives a b → Gives b c → Gives a c
+pub gives-after : (a b c : List CellPicture) → GivesBoxes a b → GivesBoxes b c → GivesBoxes a c
 gives-after a b c h k = record {
   len = k.len ∙ h.len;
   each = λ n. gives-both _ _ _ (h.each n) (k.each n);
 }
 
-pub grows-both : (a b c : Board) → Grows a b → Grows b c → Grows a c
+pub grows-both : (a b c : ExecutorPicture) → GrowsByBirths a b → GrowsByBirths b c
+    → GrowsByBirths a c
 grows-both a b c h k = record {
   births = h.births ++ k.births;
   gives = gives-after a.cells b.cells c.cells h.gives k.gives;
@@ -61,11 +62,11 @@ grows-both a b c h k = record {
       omega (arith, x, y, w);
 }
 
-pub grows-on : (a b c : Board) → Grows a b → GrowsTo b c → GrowsTo a c
+pub grows-on : (a b c : ExecutorPicture) → GrowsByBirths a b → GrowsTo b c → GrowsTo a c
 grows-on a b c h k = record { grows = grows-both a b c h k.grows; under_way = k.under_way }
 
 -- what ended the run after some growths
-pub ends-after : (e : RoundEnd) (a b c : Board) → Grows a b → RoundEndHolds e b c
+pub ends-after : (e : RoundEnd) (a b c : ExecutorPicture) → GrowsByBirths a b → RoundEndHolds e b c
     → RoundEndHolds e a c
 ends-after (round.Fault f) a b c h k =
     record { grows = grows-both a b c h k.grows; fails = k.fails }
@@ -79,7 +80,7 @@ ends-after round.Memory a b c h k = gives-after a.cells b.cells c.cells h.gives 
 -- one box alone has changed, and is given back
 pub changed-gives : (n : ℕ) (R : CellPicture → CellPicture → Type 0)
     (cells after : List CellPicture) → ChangesCell n R cells after → IsBorn (cell_at cells n).box
-    → StaysBox (cell_at cells n).box (cell_at after n).box → Gives cells after
+    → StaysBox (cell_at cells n).box (cell_at after n).box → GivesBoxes cells after
 changed-gives n R cells after c born stays = record {
   len = c.len;
   each = λ m. at-node (λ k. GivesBox (cell_at cells k).box (cell_at after k).box) n m
@@ -88,14 +89,15 @@ changed-gives n R cells after c born stays = record {
 }
 
 -- The box of node n, which asks to grow the graph, answers.
-module _ (n : ℕ) (b : Board) (u : IsUnderWay b) (lt : n < length b.cells)
+module _ (n : ℕ) (b : ExecutorPicture) (u : IsUnderWay b) (lt : n < length b.cells)
     (due : (cell_at b.cells n).mark.state ≡ node.AtWork call.Expand)
     (after : List CellPicture) where
   born : IsBorn (cell_at b.cells n).box
   born = busy-born _ _ _ _ u.board.running n lt (λ e.
       let f : node.AtWork call.Expand ≡ node.Unborn = sym due ∙ e in cc)
 
-  pub grew-gives : (g : GrowthForm) → ChangesCell n (GrewBox g) b.cells after → Gives b.cells after
+  pub grew-gives : (g : GrowthForm) → ChangesCell n (GrewBox g) b.cells after
+      → GivesBoxes b.cells after
   grew-gives g c = changed-gives n (GrewBox g) b.cells after c born c.here.stays
 
   pub failed-grow : (f : WorkFault) → ChangesCell n (FailedBox f) b.cells after
@@ -123,7 +125,8 @@ module _ (n : ℕ) (b : Board) (u : IsUnderWay b) (lt : n < length b.cells)
     };
   }
 
-pub ends-give : (e : RoundEnd) (b d : Board) → RoundEndHolds e b d → Gives b.cells d.cells
+pub ends-give : (e : RoundEnd) (b d : ExecutorPicture) → RoundEndHolds e b d
+    → GivesBoxes b.cells d.cells
 ends-give (round.Fault f) b d h = h.grows.gives
 ends-give (round.Flaw n f) b d h =
     let s = h.spoils in

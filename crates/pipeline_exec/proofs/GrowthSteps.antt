@@ -1,9 +1,9 @@
 -- A growth that the box of a node gave: it is checked, and carried out.
-use Rattle.pipeline_exec.proofs.Words.{AreFree, Blank, Board, Bool, CarriesOut, CellPicture, ChangesCell, GrewBox, GrowNode, GrowsAndSpoils, GrowsTo, Growth, GrowthFlaw, GrowthForm, IsUnderWay, Left, List, MayCarryOut, None, Option, Reserve, Some, Wire, [], ap, ap₂, arith, cell_at, cond, false, form_kind, forms_of, get_or, get_or_default, growth_flaw, growth_form, is_unborn, kinds_of, left_at, length, length-append, length-map, map, new_wires, places_for, ranks_of, reserve_of, set_ranks, spec_form, subst, suc, sym, true, unborn_of, zero, ℕ, ◌++◌, ◌+◌, ◌<◌, ◌∙◌, ◌∷◌, ◌≡◌, ◌≤◌}
+use Rattle.pipeline_exec.proofs.Words.{AreFree, Blank, Bool, CarriesOut, CellPicture, ChangesCell, ExecutorPicture, GrewBox, GrowNode, GrowsAndSpoils, GrowsTo, Growth, GrowthFlaw, GrowthForm, IsUnderWay, Left, List, MayCarryOut, None, Option, Reserve, Some, Wire, [], ap, ap₂, arith, cell_at, cond, false, form_kind, forms_of, get_or, get_or_default, grown_kinds, growth_flaw, growth_form, is_unborn_state, left_at, length, length-append, length-map, map, new_wires, places_for, ranks_of, reserve_of, set_ranks, spec_form, subst, suc, sym, true, unborn_of, zero, ℕ, ◌++◌, ◌+◌, ◌<◌, ◌∙◌, ◌∷◌, ◌≡◌, ◌≤◌}
 use Rattle.pipeline_exec.proofs.GrowthLaws.{grown-board, kinds-are, may-carry}
 use Rattle.pipeline_exec.proofs.GrowthRuns.{spoiled}
 use Rattle.exec_laws.specs.declared.edges.DueCall.TheVariants as call
-use Rattle.exec_laws.specs.declared.edges.NodeState.TheVariants as node
+use Rattle.exec_laws.specs.declared.edges.NodeStatus.TheVariants as node
 
 at-most-one : (t : Bool) (b : Blank) → length (let l : List Blank = cond t (b ∷ []) [] in l) ≤ 1
 at-most-one true b = omega arith
@@ -13,12 +13,12 @@ unborn-few : (cells : List CellPicture) (first k : ℕ) → length (unborn_of ce
 unborn-few cells first zero = omega arith
 unborn-few cells first (suc k) =
     let b : Blank = record { node = first + k; kind = (cell_at cells (first + k)).box.kind } in
-    let t : Bool = is_unborn (cell_at cells (first + k)).mark.state in
+    let t : Bool = is_unborn_state (cell_at cells (first + k)).mark.state in
     let l : List Blank = cond t (b ∷ []) [] in
     let one : length l ≤ 1 = at-most-one t b in
     omega (arith, unborn-few cells first k, one, length-append (unborn_of cells first k) l)
 
-module _ (b : Board) (u : IsUnderWay b) (n : ℕ) (lt : n < length b.cells)
+module _ (b : ExecutorPicture) (u : IsUnderWay b) (n : ℕ) (lt : n < length b.cells)
     (due : (cell_at b.cells n).mark.state ≡ node.AtWork call.Expand) (growth : Growth)
     (cells : List CellPicture) (a : ChangesCell n (GrewBox (growth_form growth)) b.cells cells)
     (r : Reserve) (reserve : r ≡ reserve_of b.reserves n) (blanks : List Blank)
@@ -58,12 +58,12 @@ module _ (b : Board) (u : IsUnderWay b) (n : ℕ) (lt : n < length b.cells)
 
   -- no flaw was found
   module _ (none : FlawIs None) (places : List ℕ)
-      (places_are : places ≡ places_for (kinds_of growth.nodes) blanks (length ranks))
+      (places_are : places ≡ places_for (grown_kinds growth.nodes) blanks (length ranks))
       (wires : List Wire) (wires_are : wires ≡ b.wires ++ new_wires n places growth.edges)
       (qs : List ℕ) (qs_are : qs ≡ places) (tested : AreFree cells r qs (length qs)) (wired : ℕ)
       (wired_is : wired ≡ length wires) (few : wired ≤ 1024) where
     at : places ≡ places_for (map form_kind form.specs) (left_at b n).blanks (length b.ranks)
-    at = places_are ∙ ap (λ l. places_for (kinds_of growth.nodes) blanks (length l)) ranks_are
+    at = places_are ∙ ap (λ l. places_for (grown_kinds growth.nodes) blanks (length l)) ranks_are
         ∙ ap (λ ks. places_for ks blanks (length b.ranks)) (sym (kinds-are growth.nodes))
         ∙ ap (λ l. places_for (map form_kind form.specs) l (length b.ranks)) all-blanks
 
@@ -91,7 +91,8 @@ module _ (b : Board) (u : IsUnderWay b) (n : ℕ) (lt : n < length b.cells)
         (sym a.len ∙ same)
         (may-carry b u n lt due form as-many cells a places at (flaw-at None none) r free few-all)))
 
-    pub grew : (d : Board) → CarriesOut n places (set_ranks b.ranks places (ranks_of growth.nodes))
+    pub grew : (d : ExecutorPicture) → CarriesOut n places
+        (set_ranks b.ranks places (ranks_of growth.nodes))
         (forms_of growth.nodes) wires (length growth.edges) (record b { cells = cells }) d
         → GrowsTo b d
     grew d c = grown-board b u n lt due form as-many cells a places at (flaw-at None none) r free

@@ -10,5 +10,5 @@ pub use Rattle.pipeline_exec.proofs.GrowthSteps.{bad-growth, few-blanks, grew, m
 pub use Rattle.pipeline_exec.proofs.Lists.{cell-changed, cell-read, cell-told, cells-below, cells-within, changed-if-err, changed-if-ok}
 pub use Rattle.pipeline_exec.proofs.Moving.{all-carried, carried-one, none-carried, prepared, prepared-stays, shows-seen, side-count, stay-both}
 pub use Rattle.pipeline_exec.proofs.RunEnds.{all-back, boxes-end, is-done, is-fault, is-stuck, more-stuck}
-pub use Rattle.pipeline_exec.proofs.Words.{ActsCell, All, All-permutation, AllWithin, AllWithin-more_set, AreFirstEdges, AreFirstPorts, AreFree, AreNewEdges, AreNewFrom, AreNewPorts, ArePortsAt, Bears, BearsSome, Blank, Bore, Carries, CellPicture, ChangesCell, EndHolds, GrowsTo, HasWire, IfErr-weaker, IsCalled, IsClear, IsUnderWay, KeepsFault, Kind, MayBeCalled, None, RoundEndHolds, Shows, Stays, StaysBox, SupportsStatus, [], ap, are_left, arith, begun, blank_place, board_of, boxes_of, cell_at, cell_picture, cells_of, cond, drop, eq-eqb, false, find, form_at, forms_of, get_or, get_or-take, get_or_default, has_gap, has_room, inr, is_blank_of, is_end, is_in_finished, is_out_finished, is_port_taken, is_resting, is_waiting, is_wanting, keeps-born, kind_of, kind_place, kinds_of, lacks_blank, le-ltb, length, length-map, length-take-le, list_any, map, new_edge, new_wires, on_ok_weaker, option_map, place_at, places_for, ranks_of, refl, replicate, reserve_of, rules, same_kind, same_true, set_ranks, slice_set, spec_form, stuck_from, subst, sym, take, true, unborn_of, vec_capacity, without_blank, ℕ, ◌++◌, ◌+◌, ◌-◌, ◌<◌, ◌∙◌, ◌∷◌, ◌≡◌, ◌≢◌, ◌≤◌}
+pub use Rattle.pipeline_exec.proofs.Words.{ActsCell, All, All-permutation, AllWithin, AllWithin-more_set, AreFirstEdges, AreFirstPorts, AreFree, AreNewEdges, AreNewFrom, AreNewRoundPorts, ArePortsAt, Bears, BearsSome, Blank, Bore, Carries, CellPicture, ChangesCell, ExecEndHolds, GrowsTo, HasWire, IfErr-weaker, IsCalled, IsFaultless, IsUnderWay, KeepsFault, Kind, MayBeCalled, None, RoundEndHolds, ShowsPorts, StaysAll, StaysBox, SupportsStatus, [], ap, are_left, arith, begun, blank_place, board_of, boxes_of, cell_at, cell_picture, cells_of, cond, drop, eq-eqb, false, find, form_at, forms_of, get_or, get_or-take, get_or_default, grown_kinds, has_gap, has_room, inr, is_blank_of, is_in_finished, is_out_finished, is_port_end, is_port_taken, is_resting, is_waiting, is_wanting, keeps-born, kind_of, kind_place, lacks_blank, le-ltb, length, length-map, length-take-le, list_any, map, new_edge, new_wires, on_ok_weaker, option_map, place_at, places_for, ranks_of, refl, replicate, reserve_of, rules, same_kind, same_true, set_ranks, slice_set, spec_form, stuck_from, subst, sym, take, true, unborn_of, vec_capacity, without_blank, ℕ, ◌++◌, ◌+◌, ◌-◌, ◌<◌, ◌∙◌, ◌∷◌, ◌≡◌, ◌≢◌, ◌≤◌}
 unfoldable pub use Rattle.pipeline_exec.proofs.Words.{input_at, output_at, wire_at}

@@ -1,17 +1,17 @@
 -- A move of one node keeps the state of the run.
-use Rattle.pipeline_exec.proofs.Words.{Action, Board, Carries, CarriesOne, CellPicture, ChangesCell, EdgeState, Flags, HasEdge, Inputs, IsCarrying, IsOnBoard, IsPort, IsTurning, IsUnderWay, KeepsBox, Knows, List, MovesEdge, NodeHolds, None, Option, Outputs, Picture, Port, QuietBut, Running, SeesPort, Shows, Side, Some, Stays, Table, TakesAction, Touches, Turns, [], action_port, ap, apart, arith, at-node, busy-born, carried, cases_eq, cell_at, edge_at, inl, input_count, inr, is_told, keeps-born, keeps-both, keeps-itself, length, lifted, may-see, ne_eqb, output_count, peer, port_count, port_edge, port_on, refl, rules, see-actions, see-keeps, see-knows, seen, subst, sym, told_if, turned, unloaded, wire_at, ℕ, ◌&&◌, ◌+◌, ◌<◌, ◌==◌, ◌∙◌, ◌≡◌, ◌≢◌}
-use Rattle.exec_laws.specs.declared.edges.NodeState.TheVariants as node
+use Rattle.pipeline_exec.proofs.Words.{Action, Carries, CarriesOne, CellPicture, ChangesCell, EdgeState, ExecutorPicture, Flags, HasEdge, Inputs, IsCarrying, IsOnBoard, IsPort, IsTurning, IsUnderWay, KeepsBox, List, MovesEdge, NodeHolds, NodeTurns, None, Option, Outputs, Picture, Port, QuietBut, Running, SeesPort, ShowsPorts, Side, Some, StaysAll, Table, TakesAction, Touches, ViewKnows, [], action_port, ap, arith, at-node, busy-born, carrying_runs_on, cases_eq, cell_at, edge_at, edge_ends_differ, inl, input_count, inr, is_told, keeps-born, keeps-both, keeps-itself, length, lifted, may-see, ne_eqb, output_count, peer, port_count, port_edge, port_on, prepared_runs_on, refl, rules, see-actions, see-keeps, see-knows, seeing_runs_on, subst, sym, told_if, unloaded, wire_at, ℕ, ◌&&◌, ◌+◌, ◌<◌, ◌==◌, ◌∙◌, ◌≡◌, ◌≢◌}
+use Rattle.exec_laws.specs.declared.edges.NodeStatus.TheVariants as node
 
 -- ---- what stays of the boxes
 
-pub stay-both : (a b c : Board) → Stays a b → Stays b c → Stays a c
+pub stay-both : (a b c : ExecutorPicture) → StaysAll a b → StaysAll b c → StaysAll a c
 stay-both a b c h1 h2 = search (rules, keeps-both)
 
 -- where one cell has changed, and what stays of its box is known
-pub stay-changed : (n : ℕ) (R : CellPicture → CellPicture → Type 0) (b : Board)
+pub stay-changed : (n : ℕ) (R : CellPicture → CellPicture → Type 0) (b : ExecutorPicture)
     (cells : List CellPicture) (edges : List EdgeState) → ChangesCell n R b.cells cells
     → KeepsBox (cell_at b.cells n).box (cell_at cells n).box
-    → Stays b (record b { cells = cells; edges = edges })
+    → StaysAll b (record b { cells = cells; edges = edges })
 stay-changed n R b cells edges h1 h2 = record {
   wires = refl;
   ranks = refl;
@@ -23,7 +23,7 @@ stay-changed n R b cells edges h1 h2 = record {
 }
 
 -- a graph is running on with the same wires and reserves
-pub on-board : (b d : Board) → IsOnBoard b → d.wires ≡ b.wires → d.ranks ≡ b.ranks
+pub on-board : (b d : ExecutorPicture) → IsOnBoard b → d.wires ≡ b.wires → d.ranks ≡ b.ranks
     → d.reserves ≡ b.reserves → d.left ≡ b.left → length d.cells ≡ length b.cells
     → length d.edges ≡ length b.edges
     → Running (length d.cells) d.wires (cell_at d.cells) (edge_at d.edges) → IsOnBoard d
@@ -45,7 +45,7 @@ quiet-on : (n : ℕ) (R : CellPicture → CellPicture → Type 0) (cells after :
 quiet-on n R cells after c h1 h2 m = at-node (λ k. (cell_at after k).view.actions ≡ []) n m h2
     (λ ne. rw (c.others m ne) (h1 m ne))
 
-module _ (n : ℕ) (b : Board) (t : IsTurning n b) where
+module _ (n : ℕ) (b : ExecutorPicture) (t : IsTurning n b) where
   busy : (cell_at b.cells n).mark.state ≢ node.Unborn
   busy e = let f : node.Due ≡ node.Unborn = sym t.due ∙ e in cc
 
@@ -64,13 +64,13 @@ same-flags p e es moved m x = elim (cases_eq x e) [
 ]
 
 -- a port of a side, by the values that the code has
-pub shows-seen : (n : ℕ) (b : Board) → IsTurning n b → (side : Side) (k : ℕ)
+pub shows-seen : (n : ℕ) (b : ExecutorPicture) → IsTurning n b → (side : Side) (k : ℕ)
     → k < port_count b.wires n side → (p : Port) (e : ℕ) (f : Flags) (x : Option Table)
     (after : List CellPicture) (moved : List EdgeState) → p ≡ port_on side k
     → e ≡ port_edge (cell_at b.cells n).inputs (cell_at b.cells n).outputs p
     → f ≡ (edge_at b.edges e).flags → x ≡ lifted p (edge_at b.edges e)
     → MovesEdge e (unloaded p) b.edges moved → ChangesCell n (SeesPort p f x) b.cells after
-    → Shows n side k (k + 1) b (record b { cells = after; edges = moved })
+    → ShowsPorts n side k (k + 1) b (record b { cells = after; edges = moved })
 shows-seen n b t side k lt p e f x after moved port is flags chunk m changed =
     let u = t.under_way in
     let v : Picture = (cell_at b.cells n).view in
@@ -84,7 +84,7 @@ shows-seen n b t side k lt p e f x after moved port is flags chunk m changed =
       turning = record {
         under_way = record {
           board = on-board b (record b { cells = after; edges = moved }) u.board refl refl refl refl
-              c.len m.len (rw c.len (seen u.board.running u.quiet n t.in_range t.due p
+              c.len m.len (rw c.len (seeing_runs_on u.board.running u.quiet n t.in_range t.due p
               (cell_at after) (edge_at moved) touched c.here.own c.here.sound c.others));
           quiet = quiet-on n _ b.cells after c (λ j _. u.quiet j)
               (rw c.here.own (see-actions p _ _ _ ∙ u.quiet n));
@@ -103,24 +103,24 @@ shows-seen n b t side k lt p e f x after moved port is flags chunk m changed =
 
 -- ---- the box is prepared
 
-pub side-count : (n : ℕ) (b : Board) → IsTurning n b
+pub side-count : (n : ℕ) (b : ExecutorPicture) → IsTurning n b
     → (length (cell_at b.cells n).inputs ≡ port_count b.wires n Inputs)
     × (length (cell_at b.cells n).outputs ≡ port_count b.wires n Outputs)
 side-count n b t = ((turning-node n b t).numbers.ins, (turning-node n b t).numbers.outs)
 
 -- a node that has seen both its sides was prepared
-module _ (n : ℕ) (a b c : Board) (ins outs : ℕ) (p : Shows n Inputs 0 ins a b)
-    (q : Shows n Outputs 0 outs b c) (all_ins : ins ≡ input_count a.wires n)
+module _ (n : ℕ) (a b c : ExecutorPicture) (ins outs : ℕ) (p : ShowsPorts n Inputs 0 ins a b)
+    (q : ShowsPorts n Outputs 0 outs b c) (all_ins : ins ≡ input_count a.wires n)
     (all_outs : outs ≡ output_count a.wires n)
-    (after : List CellPicture) (t : ChangesCell n Turns c.cells after) where
-  abbrev now : Board
+    (after : List CellPicture) (t : ChangesCell n NodeTurns c.cells after) where
+  abbrev now : ExecutorPicture
   now = record c { cells = after }
 
   same-wires : c.wires ≡ a.wires
   same-wires = q.stays.wires ∙ p.stays.wires
 
   knows-all : (x : Port) → IsPort (input_count c.wires n) (output_count c.wires n) x
-      → Knows (cell_at c.cells n) x (edge_at c.edges)
+      → ViewKnows (cell_at c.cells n) x (edge_at c.edges)
   knows-all x h1 = search (rules, same-wires)
 
   pub prepared : IsCarrying n now
@@ -128,24 +128,24 @@ module _ (n : ℕ) (a b c : Board) (ins outs : ℕ) (p : Shows n Inputs 0 ins a 
       let s = q.turning.under_way in
       record {
         board = on-board c now s.board refl refl refl refl t.len refl
-            (rw t.len (turned s.board.running s.quiet n q.turning.in_range q.turning.due knows-all
-            (cell_at after) t.here t.others));
+            (rw t.len (prepared_runs_on s.board.running s.quiet n q.turning.in_range q.turning.due
+            knows-all (cell_at after) t.here t.others));
         in_range = rw t.len q.turning.in_range;
         born = rw t.here.prepares.stays.same.spec (turning-node n c q.turning).box.running.loaded;
         quiet = λ m ne. rw (t.others m ne) (s.quiet m);
       }
 
-  pub prepared-stays : (e : Board) → Stays now e → Stays a e
+  pub prepared-stays : (e : ExecutorPicture) → StaysAll now e → StaysAll a e
   prepared-stays e h =
       let born = (turning-node n c q.turning).box.running.loaded in
       stay-both a b e p.stays (stay-both b c e q.stays (stay-both c now e
-      (stay-changed n Turns c after c.edges t (keeps-born _ _ born t.here.prepares.stays
+      (stay-changed n NodeTurns c after c.edges t (keeps-born _ _ born t.here.prepares.stays
       t.here.prepares.notes.growth)) h))
 
 -- ---- an action is carried out
 
 -- no action was left
-module _ (n : ℕ) (b : Board) (taken : List CellPicture) (k : IsCarrying n b)
+module _ (n : ℕ) (b : ExecutorPicture) (taken : List CellPicture) (k : IsCarrying n b)
     (c : ChangesCell n (TakesAction None) b.cells taken) where
   same-cell : (m : ℕ) → cell_at taken m ≡ cell_at b.cells m
   same-cell m = search (rules, at-node)
@@ -171,7 +171,7 @@ module _ (n : ℕ) (b : Board) (taken : List CellPicture) (k : IsCarrying n b)
   }
 
 -- the first action was taken off node n's view
-module _ (n : ℕ) (b : Board) (taken : List CellPicture) (k : IsCarrying n b) (a : Action)
+module _ (n : ℕ) (b : ExecutorPicture) (taken : List CellPicture) (k : IsCarrying n b) (a : Action)
     (c : ChangesCell n (TakesAction (Some a)) b.cells taken) where
   abbrev own : CellPicture
   own = cell_at b.cells n
@@ -191,7 +191,7 @@ module _ (n : ℕ) (b : Board) (taken : List CellPicture) (k : IsCarrying n b) (
   action-edge : HasEdge b.wires n (action_port a) edge_now
   action-edge = search (rules, carrying-node, action-port)
 
-  module _ (d : Board) (m : CarriesOne n a (record b { cells = taken }) d) where
+  module _ (d : ExecutorPicture) (m : CarriesOne n a (record b { cells = taken }) d) where
     at-edge : HasEdge b.wires n (action_port a) m.edge
     at-edge = subst (λ e. HasEdge b.wires n (action_port a) e) (sym m.edge_is) action-edge
 
@@ -200,7 +200,7 @@ module _ (n : ℕ) (b : Board) (taken : List CellPicture) (k : IsCarrying n b) (
 
     own-same : cell_at d.cells n ≡ cell_at taken n
     own-same =
-        let two = apart _ b.wires k.board.running.graph m.edge at-edge.in_range in
+        let two = edge_ends_differ _ b.wires k.board.running.graph m.edge at-edge.in_range in
         let end = at-edge.at_port in
         let other : n ≢ to = search (rules, two, end) in
         let off = ne_eqb n to other in
@@ -218,7 +218,8 @@ module _ (n : ℕ) (b : Board) (taken : List CellPicture) (k : IsCarrying n b) (
     carried-one = record {
       carrying = record {
         board = on-board b d k.board m.wires m.ranks m.reserves m.left (m.tells.len ∙ c.len)
-            m.moves.len (rw (m.tells.len, c.len, m.wires) (carried k.board.running n k.quiet
+            m.moves.len (rw (m.tells.len, c.len, m.wires)
+            (carrying_runs_on k.board.running n k.quiet
             carrying-node a (cell_at taken n).view.actions c.here.taken.0 (cell_at d.cells)
             (edge_at d.edges) record {
               edge = m.edge;

@@ -1,5 +1,5 @@
 -- How a run ends.
-use Rattle.pipeline_exec.proofs.Words.{Board, Bool, BoxPicture, Cell, CellPicture, ContradictsStatus, FailsAt, GivenBack, Gives, IsDone, IsFault, IsNothingDue, IsStuck, IsUnderWay, List, MarkTells, Option, Status, StuckNode, SupportsStatus, WorkFault, [], ap, append-nil, append_assoc, arith, box-of, box_at, boxes_of, cell_at, cells_of, cond, drop, drop-cons, false, is_resting, length, length-map, map, no_box, refl, rules, run-done, run-stuck, stuck_from, suc, sym, true, ℕ, ◌++◌, ◌+◌, ◌<◌, ◌∙◌, ◌∷◌, ◌≡◌, ◌≢◌}
+use Rattle.pipeline_exec.proofs.Words.{Bool, BoxPicture, Cell, CellPicture, ContradictsStatus, ExecutorPicture, FailsAt, GivenBack, GivesBoxes, IsDone, IsFault, IsNothingDue, IsStuck, IsUnderWay, List, MarkTells, Option, Status, StuckNode, SupportsStatus, WorkFault, [], ap, append-nil, append_assoc, arith, box-of, box_at, boxes_of, cell_at, cells_of, cond, drop, drop-cons, false, is_resting, length, length-map, map, no_box, refl, rules, run-done, run-stuck, stuck_from, suc, sym, true, ℕ, ◌++◌, ◌+◌, ◌<◌, ◌∙◌, ◌∷◌, ◌≡◌, ◌≢◌}
 use Rattle.pipeline_exec.proofs.Creating.{boxes-are}
 use Rattle.proc_api.specs.declared.status.WorkFault.TheVariants as fault
 
@@ -27,7 +27,7 @@ more-stuck cells n items lt t =
 
 -- ---- the end
 
-module _ (b : Board) (u : IsUnderWay b) (settled : IsNothingDue b.cells) where
+module _ (b : ExecutorPicture) (u : IsUnderWay b) (settled : IsNothingDue b.cells) where
   pub is-done : ((n : ℕ) → n < length b.cells → SupportsStatus (cell_at b.cells n))
       → IsDone b.wires (boxes_of b.cells)
   is-done h1 = search (rules, run-done)
@@ -46,7 +46,7 @@ pub boxes-end : {P : Type 0} (seen : P → BoxPicture) (cells : List (Cell P)) (
     → all ≡ map (λ (c : Cell P). c.processor) cells → boxes_of (cells_of seen cells) ≡ map seen all
 boxes-end seen cells all e = boxes-are seen cells ∙ ap (λ l. map seen l) (sym e)
 
-boxes-back : (cells after : List CellPicture) → Gives cells after
+boxes-back : (cells after : List CellPicture) → GivesBoxes cells after
     → GivenBack (boxes_of cells) (boxes_of after)
 boxes-back cells after h = record {
   count = rw (length-map, length-map) h.len;
@@ -56,7 +56,8 @@ boxes-back cells after h = record {
 pub all-back : {P : Type 0} (seen : P → BoxPicture) (cells after : List (Cell P))
     (all back : List P) → map (λ (c : Cell P). c.processor) cells ≡ all
     → back ≡ map (λ (c : Cell P). c.processor) after
-    → Gives (cells_of seen cells) (cells_of seen after) → GivenBack (map seen all) (map seen back)
+    → GivesBoxes (cells_of seen cells) (cells_of seen after)
+    → GivenBack (map seen all) (map seen back)
 all-back seen cells after all back e f s =
     rw (← boxes-end seen cells all (sym e), ← boxes-end seen after back f)
     (boxes-back (cells_of seen cells) (cells_of seen after) s)

@@ -1,9 +1,9 @@
 -- The state of a run, as data: a cell for each node, and the graph's wires and edges.
-use Rattle.pipeline_exec.specs.Prelude.{Action, Acts, AreEdgesOf, BoxPicture, Cell, CellPicture, DueCall, EdgeState, ExecutorState, Flags, FollowsKept, HasEdge, HasInputWire, HasOutputWire, Input, Inputs, IsBorn, IsGraph, IsPort, IsRunning, IsSound, KeepsBox, KeepsFault, Knows, MayCall, NodeFault, NodeMark, NodePorts, Output, Outputs, Port, QuietBut, Reserve, Running, Scheduled, Side, StaysOrActs, Table, TakesFirst, Wake, Wire, WorkFault, action_port, after_action, after_see, cell_at, edge_at, input_count, is_reserved, is_told, new_edge, new_mark, new_picture, no_cell, output_count, peer, port_edge, reserve_of, told_if, wire_at}
+use Rattle.pipeline_exec.specs.Prelude.{Action, Acts, AreEdgesOf, BoxPicture, Cell, CellPicture, DueCall, EdgeState, ExecutorState, Flags, FollowsKept, HasEdge, HasInputWire, HasOutputWire, Input, Inputs, IsBorn, IsGraph, IsPort, IsRunning, IsSound, KeepsBox, KeepsFault, MayCall, NodeFault, NodeMark, Output, Outputs, Port, QuietBut, Reserve, RoundPorts, Running, Scheduled, Side, StaysOrActs, Table, TakesFirstAction, ViewKnows, Wake, Wire, WorkFault, action_port, after_action, after_see, cell_at, edge_at, input_count, is_reserved, is_told, new_edge, new_mark, new_picture, no_cell, output_count, peer, port_edge, reserve_of, told_if, wire_at}
 use Rattle.std.specs.Prelude.{Bool, IfSome, List, None, Option, Some, [], false, length, map, slice_index_or, true, ℕ, ⊤, ◌&&◌, ◌+◌, ◌<◌, ◌==◌, ◌∷◌, ◌≡◌, ◌≢◌, ◌≤◌}
 use Rattle.proc_api.specs.declared.status.Wake.TheVariants as wake
 use Rattle.exec_laws.specs.declared.edges.DueCall.TheVariants as call
-use Rattle.exec_laws.specs.declared.edges.NodeState.TheVariants as node
+use Rattle.exec_laws.specs.declared.edges.NodeStatus.TheVariants as node
 
 -- ---- cells
 
@@ -21,7 +21,7 @@ abbrev pub cells_of : {P : Type 0} → (P → BoxPicture) → List (Cell P) → 
 cells_of seen cells = map (cell_picture seen) cells
 
 -- the wires, cells and edges
-pub record Board : Type 0 where
+pub record ExecutorPicture : Type 0 where
   pub wires : List Wire
   pub cells : List CellPicture
   pub edges : List EdgeState
@@ -30,7 +30,7 @@ pub record Board : Type 0 where
   -- for each node how many edges of its reserve aren't wired
   pub left : List ℕ
 
-abbrev pub board_of : {P : Type 0} → (P → BoxPicture) → ExecutorState P → Board
+abbrev pub board_of : {P : Type 0} → (P → BoxPicture) → ExecutorState P → ExecutorPicture
 board_of seen s = record {
   wires = s.wires;
   cells = cells_of seen s.cells.items;
@@ -58,7 +58,7 @@ MovesEdge e how edges moved = Changes new_edge e (λ before now. now ≡ how bef
 -- ---- the run
 
 -- A graph is running, and the nodes of its reserves are among its own.
-pub record IsOnBoard (b : Board) : Type 0 where
+pub record IsOnBoard (b : ExecutorPicture) : Type 0 where
   pub edges_len : length b.edges ≡ length b.wires
   pub graph : IsGraph b.ranks b.wires []
   pub ranks_len : length b.ranks ≡ length b.cells
@@ -67,25 +67,25 @@ pub record IsOnBoard (b : Board) : Type 0 where
   pub running : Running (length b.cells) b.wires (cell_at b.cells) (edge_at b.edges)
 
 -- It is between two moves: no action waits.
-pub record IsUnderWay (b : Board) : Type 0 where
+pub record IsUnderWay (b : ExecutorPicture) : Type 0 where
   pub board : IsOnBoard b
   pub quiet : (m : ℕ) → (cell_at b.cells m).view.actions ≡ []
 
 -- The node is due, and sees its ports.
-pub record IsTurning (n : ℕ) (b : Board) : Type 0 where
+pub record IsTurning (n : ℕ) (b : ExecutorPicture) : Type 0 where
   pub under_way : IsUnderWay b
   pub in_range : n < length b.cells
   pub due : (cell_at b.cells n).mark.state ≡ node.Due
 
 -- The node was prepared, and what it did is being carried out.
-pub record IsCarrying (n : ℕ) (b : Board) : Type 0 where
+pub record IsCarrying (n : ℕ) (b : ExecutorPicture) : Type 0 where
   pub board : IsOnBoard b
   pub in_range : n < length b.cells
   pub born : IsBorn (cell_at b.cells n).box
   pub quiet : QuietBut n (cell_at b.cells)
 
 -- all boxes are the same, with what they had besides, and so are the wires
-pub record Stays (b d : Board) : Type 0 where
+pub record StaysAll (b d : ExecutorPicture) : Type 0 where
   pub wires : d.wires ≡ b.wires
   pub ranks : d.ranks ≡ b.ranks
   pub reserves : d.reserves ≡ b.reserves
@@ -106,9 +106,9 @@ port_count wires n Inputs = input_count wires n
 port_count wires n Outputs = output_count wires n
 
 -- the wire has this port of the node at one of its ends
-abbrev pub is_end : Wire → ℕ → Port → Bool
-is_end w n (Input i) = (w.to == n) && (w.input == i)
-is_end w n (Output o) = (w.from == n) && (w.out == o)
+abbrev pub is_port_end : Wire → ℕ → Port → Bool
+is_port_end w n (Input i) = (w.to == n) && (w.input == i)
+is_port_end w n (Output o) = (w.from == n) && (w.out == o)
 
 -- a wire has the port of the node at one of its ends
 abbrev pub HasWire : List Wire → ℕ → Port → Type 0
@@ -122,7 +122,7 @@ pub record AreFirstEdges (wires : List Wire) (n k : ℕ) (side : Side)
   pub each : (i : ℕ) → i < k → HasEdge wires n (port_on side i) (slice_index_or numbers i 0)
 
 -- what a node has of its ports before the first move
-pub record AreNewPorts (wires : List Wire) (n : ℕ) (ports : NodePorts) : Type 0 where
+pub record AreNewRoundPorts (wires : List Wire) (n : ℕ) (ports : RoundPorts) : Type 0 where
   pub view : ports.view ≡ new_picture (input_count wires n) (output_count wires n)
   pub mark : ports.mark ≡ new_mark (output_count wires n)
   pub edges : AreEdgesOf wires n ports.inputs.items ports.outputs.items
@@ -132,26 +132,26 @@ pub record AreNewEdges (count : ℕ) (edges : List EdgeState) : Type 0 where
   pub each : (e : ℕ) → e < count → edge_at edges e ≡ new_edge
 
 -- the mark of a node before the first move: one that is reserved isn't born
-abbrev pub first_mark : (reserved : Bool) → ℕ → NodeMark
-first_mark true outputs = record { state = node.Unborn; last = None }
-first_mark false outputs = new_mark outputs
+abbrev pub first_round_mark : (reserved : Bool) → ℕ → NodeMark
+first_round_mark true outputs = record { state = node.Unborn; last = None }
+first_round_mark false outputs = new_mark outputs
 
 -- the same of a node that may be reserved
-pub record AreFirstPorts (reserves : List Reserve) (wires : List Wire) (n : ℕ) (ports : NodePorts)
+pub record AreFirstPorts (reserves : List Reserve) (wires : List Wire) (n : ℕ) (ports : RoundPorts)
     : Type 0 where
   pub view : ports.view ≡ new_picture (input_count wires n) (output_count wires n)
-  pub mark : ports.mark ≡ first_mark (is_reserved reserves n) (output_count wires n)
+  pub mark : ports.mark ≡ first_round_mark (is_reserved reserves n) (output_count wires n)
   pub edges : AreEdgesOf wires n ports.inputs.items ports.outputs.items
 
 -- the ports of the nodes from number n on, in order
-abbrev pub AreNewFrom : List Reserve → List Wire → ℕ → List NodePorts → Type 0
+abbrev pub AreNewFrom : List Reserve → List Wire → ℕ → List RoundPorts → Type 0
 AreNewFrom reserves wires n [] = ⊤
 AreNewFrom reserves wires n (p ∷ ports) =
     AreFirstPorts reserves wires n p × AreNewFrom reserves wires (n + 1) ports
 
 -- the cells have these processors and ports, in order
-pub record Fills {P : Type 0} (cells : List (Cell P)) (all : List P)
-    (of_nodes : List NodePorts) : Type 0 where
+pub record FillsRoundCells {P : Type 0} (cells : List (Cell P)) (all : List P)
+    (of_nodes : List RoundPorts) : Type 0 where
   pub processors : map (λ (c : Cell P). c.processor) cells ≡ all
   pub ports : map (λ (c : Cell P). c.ports) cells ≡ of_nodes
 
@@ -164,13 +164,13 @@ pub record SeesPort (p : Port) (f : Flags) (chunk : Option Table) (c d : CellPic
 
 -- Node n has seen the ports of a side from one number on to another, and still knows what it knew
 -- before.
-pub record Shows (n : ℕ) (side : Side) (from to : ℕ) (b d : Board) : Type 0 where
+pub record ShowsPorts (n : ℕ) (side : Side) (from to : ℕ) (b d : ExecutorPicture) : Type 0 where
   pub turning : IsTurning n d
-  pub stays : Stays b d
+  pub stays : StaysAll b d
   pub knows : (k : ℕ) → from ≤ k → k < to
-      → Knows (cell_at d.cells n) (port_on side k) (edge_at d.edges)
-  pub kept : (p : Port) → Knows (cell_at b.cells n) p (edge_at b.edges)
-      → Knows (cell_at d.cells n) p (edge_at d.edges)
+      → ViewKnows (cell_at d.cells n) (port_on side k) (edge_at d.edges)
+  pub kept : (p : Port) → ViewKnows (cell_at b.cells n) p (edge_at b.edges)
+      → ViewKnows (cell_at d.cells n) p (edge_at d.edges)
 
 -- a node may be prepared
 pub record MayPrepare (c : CellPicture) : Type 0 where
@@ -181,7 +181,7 @@ pub record MayPrepare (c : CellPicture) : Type 0 where
 
 -- the action was taken off the node's view
 pub record TakesAction (a : Option Action) (c d : CellPicture) : Type 0 where
-  pub taken : TakesFirst c.view a d.view
+  pub taken : TakesFirstAction c.view a d.view
   pub sound : IsSound d.view
   pub rest : d ≡ record c { view = d.view }
 
@@ -191,7 +191,7 @@ pub record TellsNode (told : Bool) (m : ℕ) (cells after : List CellPicture) : 
   pub each : (j : ℕ) → cell_at after j ≡ told_if (told && (j == m)) (cell_at cells j)
 
 -- the action's edge and its peer are there
-pub record MayCarryOne (n : ℕ) (a : Action) (b : Board) : Type 0 where
+pub record MayCarryOne (n : ℕ) (a : Action) (b : ExecutorPicture) : Type 0 where
   pub in_range : n < length b.cells
   pub number : IsPort (length (cell_at b.cells n).inputs) (length (cell_at b.cells n).outputs)
       (action_port a)
@@ -203,7 +203,7 @@ pub record MayCarryOne (n : ℕ) (a : Action) (b : Board) : Type 0 where
 
 -- One action of node n was carried out on its edge, and its peer was told unless the action is
 -- Unwant.
-pub record CarriesOne (n : ℕ) (a : Action) (b d : Board) : Type 0 where
+pub record CarriesOne (n : ℕ) (a : Action) (b d : ExecutorPicture) : Type 0 where
   pub edge : ℕ
   pub edge_is : edge
       ≡ port_edge (cell_at b.cells n).inputs (cell_at b.cells n).outputs (action_port a)
@@ -215,20 +215,20 @@ pub record CarriesOne (n : ℕ) (a : Action) (b d : Board) : Type 0 where
   pub left : d.left ≡ b.left
 
 -- one action more of node n is carried out
-pub record Carries (n : ℕ) (b d : Board) : Type 0 where
+pub record Carries (n : ℕ) (b d : ExecutorPicture) : Type 0 where
   pub carrying : IsCarrying n d
-  pub stays : Stays b d
+  pub stays : StaysAll b d
 
 -- ---- working
 
 -- the call may come
-pub record MayAct (call : DueCall) (p : BoxPicture) : Type 0 where
+pub record MayActOn (call : DueCall) (p : BoxPicture) : Type 0 where
   pub running : IsRunning p
   pub may : MayCall call p
 
 -- the call that a node is due may come, if it is at work
 pub record MayBeCalled (c : CellPicture) : Type 0 where
-  pub may : (call : DueCall) → c.mark.state ≡ node.AtWork call → MayAct call c.box
+  pub may : (call : DueCall) → c.mark.state ≡ node.AtWork call → MayActOn call c.box
 
 -- What a round's calls leave of a cell: where no fault is kept, the node was left as it was, or its
 -- box acted. A fault is one that the box keeps, unless there was one before.
@@ -249,8 +249,8 @@ pub record AreCalled (first : Option NodeFault) (cells after : List CellPicture)
   pub acted : first ≡ None → (n : ℕ) → StaysOrActs (cell_at cells n) (cell_at after n)
   pub failed : IfSome first (λ f. FailsAt f.node f.fault after)
 
-abbrev pub IsClear : {P : Type 0} → Cell P → Type 0
-IsClear c = c.fault ≡ None
+abbrev pub IsFaultless : {P : Type 0} → Cell P → Type 0
+IsFaultless c = c.fault ≡ None
 
 abbrev pub IsCleared : {P : Type 0} → Cell P → Cell P → Type 0
 IsCleared c d = d ≡ record c { fault = None }
@@ -264,13 +264,8 @@ pub record Each {A : Type 0} (R : A → A → Type 0) (xs ys : List A) : Type 0 
   pub at : (n : ℕ) (past : A) → n < length xs
       → R (slice_index_or xs n past) (slice_index_or ys n past)
 
--- the call that comes after a schedule
-abbrev pub call_after : Wake → DueCall
-call_after wake.Ready = call.Work
-call_after wake.Later = call.Schedule
-
 -- a call of `schedule` that answers no fault
-pub record Wakes (a : Wake) (p q : BoxPicture) : Type 0 where
+pub record WakesBox (a : Wake) (p q : BoxPicture) : Type 0 where
   pub acts : Acts p q
   pub answer : q.notes.answer ≡ Some (Scheduled a)
   pub not_acted : q.notes.acted ≡ false

@@ -37,13 +37,13 @@ pub record EndsBadly (b : Begun) (boxes : List BoxPicture) (node : ℕ)
   pub bad : IsBadGrowth b.ranks b.wires b.reserves births boxes node f
 
 -- what each end says of the boxes as they are given back
-abbrev pub EndHolds : ExecEnd → Begun → List BoxPicture → Type 0
-EndHolds end.Done b boxes = HasGrownByAll b boxes (λ wires. IsDone wires boxes)
-EndHolds (end.Stuck report node) b boxes =
+abbrev pub ExecEndHolds : ExecEnd → Begun → List BoxPicture → Type 0
+ExecEndHolds end.Done b boxes = HasGrownByAll b boxes (λ wires. IsDone wires boxes)
+ExecEndHolds (end.Stuck report node) b boxes =
     HasGrownByAll b boxes (λ wires. IsStuck boxes report node)
-EndHolds (end.Fault node f) b boxes = HasGrown b boxes (λ wires. IsFault boxes node f)
-EndHolds (end.BadGrowth node f) b boxes = EndsBadly b boxes node f
-EndHolds end.Memory b boxes = ⊤
+ExecEndHolds (end.Fault node f) b boxes = HasGrown b boxes (λ wires. IsFault boxes node f)
+ExecEndHolds (end.BadGrowth node f) b boxes = EndsBadly b boxes node f
+ExecEndHolds end.Memory b boxes = ⊤
 
 -- a fault but want of memory ends the run
 abbrev pub IsFaultEnd : ExecEnd → ℕ → WorkFault → Type 0

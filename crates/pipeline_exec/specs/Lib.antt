@@ -3,3 +3,4 @@ pub mod Resting
 pub mod Cells
 pub mod Ends
 pub mod Growing
+pub mod WorkerRuns

@@ -1,6 +1,6 @@
 ghost use Rattle.std.specs.Prelude.{◌≡◌, ◌<◌, true, false, length};
 ghost use Rattle.exec_laws.specs.Names.{IsPort, action_port, after_action, cell_at, is_told, peer, port_edge, told_if};
-ghost use Rattle.pipeline_exec.specs.Cells.{Carries, CarriesOne, ChangesCell, IsCarrying, IsUnderWay, MayCarryOne, MovesEdge, Stays, TakesAction, TellsNode, board_of, cell_picture, cells_of};
+ghost use Rattle.pipeline_exec.specs.Cells.{Carries, CarriesOne, ChangesCell, IsCarrying, IsUnderWay, MayCarryOne, MovesEdge, StaysAll, TakesAction, TellsNode, board_of, cell_picture, cells_of};
 
 use crate::cell::{Cell, edge_of_cell};
 use crate::executor_state::{ExecutorState, wire_of};
@@ -12,7 +12,7 @@ use proc_api::Processor;
 pub(crate) fn carry_actions<P: Processor>(state: &mut ExecutorState<P>, n: usize)
     requires { IsCarrying n (board_of P.seen state.old) }
     ensures under_way { IsUnderWay (board_of P.seen state.new) }
-    ensures stays { Stays (board_of P.seen state.old) (board_of P.seen state.new) }
+    ensures stays { StaysAll (board_of P.seen state.old) (board_of P.seen state.new) }
 {
     while carry_next(state, n) {}
 }

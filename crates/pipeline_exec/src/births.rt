@@ -4,17 +4,17 @@ ghost use Rattle.proc_api.specs.Graphs.{input_count, output_count};
 ghost use Rattle.proc_api.specs.Names.{IsRunning};
 ghost use Rattle.port_word.specs.Names.{in_count, out_count};
 ghost use Rattle.exec_laws.specs.Names.{AreOnce, AsksToGrow, HoldsGraph, cell_at, new_edge, set_ranks};
-ghost use Rattle.exec_laws.specs.declared.edges.NodeState.TheVariants.{AtWork};
+ghost use Rattle.exec_laws.specs.declared.edges.NodeStatus.TheVariants.{AtWork};
 ghost use Rattle.pipeline_exec.specs.Cells.{ChangesCell, IsUnderWay, board_of, cell_picture, cells_of};
-ghost use Rattle.pipeline_exec.specs.Growing.{AreFree, ArePortsAt, Avoids, Bears, BearsSome, Bore, CarriesOut, FailedBox, Gives, GrewBox, GrowsTo, IsFree, MayCarryOut, RoundEndHolds, Widened, WidenedPorts, forms_of, place_at, ranks_of};
+ghost use Rattle.pipeline_exec.specs.Growing.{AreFree, ArePortsAt, Avoids, Bears, BearsSome, Bore, CarriesOut, FailedBox, GivesBoxes, GrewBox, GrowsTo, IsFreeBlank, MayCarryOut, RoundEndHolds, Widened, WidenedPorts, forms_of, place_at, ranks_of};
 
 use crate::calls::NodeFault;
-use crate::cell::{Cell, NodePorts, Side};
+use crate::cell::{Cell, RoundPorts, Side};
 use crate::executor_state::{ExecutorState, count_ports, edge_numbers, holds_node, ports_of_node};
 use crate::growth::{GrownGraph, check_growth, is_unborn, reserve_of, unborn_of};
 use crate::rounds::mark_of;
 use chunk_data::{List, Memory};
-use exec_laws::{DueCall, EdgeState, GrowthFlaw, NodeState};
+use exec_laws::{DueCall, EdgeState, GrowthFlaw, NodeStatus};
 use port_word::{Reserve, Wire};
 use proc_api::{GrowNode, Growth, Processor, WorkFault};
 use query_model::processor_spec::Spec;
@@ -57,7 +57,7 @@ fn asks_to_grow<P: Processor>(cells: &Vec<Cell<P>>, n: usize) -> bool
         → (cell_at (cells_of P.seen cells.now.items) n).mark.state ≡ AtWork DueCall.Expand }
 {
     if n < cells.len() {
-        if let NodeState::AtWork(DueCall::Expand) = mark_of(cells, n).state {
+        if let NodeStatus::AtWork(DueCall::Expand) = mark_of(cells, n).state {
             return true;
         }
     }
@@ -145,7 +145,7 @@ fn are_free<P: Processor>(cells: &Vec<Cell<P>>, reserve: &Reserve, places: &[u32
 }
 
 fn is_free<P: Processor>(cells: &Vec<Cell<P>>, reserve: &Reserve, n: usize) -> bool
-    ensures { result ≡ true → IsFree (cells_of P.seen cells.now.items) reserve.now n }
+    ensures { result ≡ true → IsFreeBlank (cells_of P.seen cells.now.items) reserve.now n }
 {
     n < cells.len() && is_unborn(cells, n) && holds_node(reserve, n)
 }
@@ -177,7 +177,8 @@ fn carry_out<P: Processor>(
         grown.places.items (ranks_of growth.nodes)) (forms_of growth.nodes) grown.wires
         (length growth.edges) (board_of P.seen state.old) (board_of P.seen state.new)) }
     ensures gives { OnErr result
-        (Gives (cells_of P.seen state.old.cells.items) (cells_of P.seen state.new.cells.items)) }
+        (GivesBoxes (cells_of P.seen state.old.cells.items)
+        (cells_of P.seen state.new.cells.items)) }
 {
     let GrownGraph { places, wires } = grown;
     let Growth { nodes, edges } = growth;
@@ -204,7 +205,7 @@ fn ports_at(
     places: &[u32],
     nodes: usize,
     wires: &[Wire],
-) -> Result<Vec<NodePorts>, Memory>
+) -> Result<Vec<RoundPorts>, Memory>
     requires graph { HoldsGraph nodes wires.now }
     ensures { IfOk result
         (λ ports. ArePortsAt wires.now places.now (length places.now) ports.items) }
@@ -268,7 +269,7 @@ fn widen<P: Processor>(
 
 fn widen_ports(
     alloc: Global,
-    ports: &mut NodePorts,
+    ports: &mut RoundPorts,
     n: usize,
     nodes: usize,
     wires: &[Wire],
@@ -285,7 +286,7 @@ fn widen_ports(
     ports.view.grow(ins, outs)?;
     ports.inputs = inputs;
     ports.outputs = outputs;
-    ports.mark.state = NodeState::Due;
+    ports.mark.state = NodeStatus::Due;
     Ok(())
 }
 
@@ -307,7 +308,7 @@ fn bear<P: Processor>(
     cells: &mut Vec<Cell<P>>,
     places: &[u32],
     nodes: Vec<GrowNode>,
-    ports: Vec<NodePorts>,
+    ports: Vec<RoundPorts>,
 ) -> Result<(), Memory>
     requires within { (k : ℕ) → k < length places.now
         → place_at places.now k < length cells.old.items }
@@ -333,7 +334,7 @@ fn bear_at<P: Processor>(
     cells: &mut Vec<Cell<P>>,
     n: usize,
     spec: Spec,
-    ports: NodePorts,
+    ports: RoundPorts,
 ) -> Result<(), Memory>
     requires { n < length cells.old.items }
     ensures ok { OnOk result (ChangesCell n (Bore (spec_form spec) ports)
@@ -344,7 +345,7 @@ fn bear_at<P: Processor>(
     bear_cell(&mut cells[n], spec, ports)
 }
 
-fn bear_cell<P: Processor>(cell: &mut Cell<P>, spec: Spec, ports: NodePorts) -> Result<(), Memory>
+fn bear_cell<P: Processor>(cell: &mut Cell<P>, spec: Spec, ports: RoundPorts) -> Result<(), Memory>
     ensures ok { OnOk result (Bore (spec_form spec) ports (cell_picture P.seen cell.old)
         (cell_picture P.seen cell.new)) }
     ensures err { OnErr result (cell_picture P.seen cell.new ≡ cell_picture P.seen cell.old) }

@@ -1,10 +1,10 @@
 ghost use Rattle.std.specs.Prelude.{◌≡◌, ◌<◌, ◌≤◌, None, length, IfErr, IfNone, IfSome, OnOk};
 ghost use Rattle.std.specs.List.{All, HoldsAt};
-ghost use Rattle.pipeline_exec.specs.Cells.{AreCalled, Each, FailsAt, HasFault, IsCalled, IsClear, IsCleared, IsUnderWay, MayBeCalled, Stays, board_of, cell_picture, cells_of};
+ghost use Rattle.pipeline_exec.specs.Cells.{AreCalled, Each, FailsAt, HasFault, IsCalled, IsCleared, IsFaultless, IsUnderWay, MayBeCalled, StaysAll, board_of, cell_picture, cells_of};
 
 use crate::cell::{Cell, call_cell};
 use crate::executor_state::ExecutorState;
-use exec_laws::{DueCall, NodeState};
+use exec_laws::{DueCall, NodeStatus};
 use proc_api::{Processor, WorkFault};
 use query_model::processor_spec::Kind;
 use std::thread::{Threads, for_each_mut};
@@ -24,7 +24,7 @@ pub(crate) fn call_nodes<P: Processor, R: Threads + Sync>(
     workers: usize,
 ) -> Result<(), NodeFault>
     requires under_way { IsUnderWay (board_of P.seen state.old) }
-    ensures stays { Stays (board_of P.seen state.old) (board_of P.seen state.new) }
+    ensures stays { StaysAll (board_of P.seen state.old) (board_of P.seen state.new) }
     ensures under_way { OnOk result (IsUnderWay (board_of P.seen state.new)) }
     ensures fault { IfErr result (λ f.
         FailsAt f.node f.fault (cells_of P.seen state.new.cells.items)) }
@@ -71,7 +71,7 @@ fn clear_faults<P: Processor, R: Threads + Sync>(rt: &R, cells: &mut [Cell<P>])
 fn first_fault<P: Processor>(cells: &[Cell<P>]) -> Option<NodeFault>
     ensures found { IfSome result (λ f.
         f.node < length cells.now × HoldsAt (HasFault f.fault) cells.now f.node) }
-    ensures missing { IfNone result (All IsClear cells.now) }
+    ensures missing { IfNone result (All IsFaultless cells.now) }
 {
     for (node, cell) in cells.iter().enumerate() {
         if let Some(fault) = cell.fault {
@@ -109,7 +109,7 @@ fn call_gathered<P: Processor, R: Threads + Sync>(
 fn is_at_work<P>(cell: &Cell<P>) -> bool {
     matches!(
         cell.ports.mark.state,
-        NodeState::AtWork(DueCall::Work | DueCall::Schedule)
+        NodeStatus::AtWork(DueCall::Work | DueCall::Schedule)
     )
 }
 

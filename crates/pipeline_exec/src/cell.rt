@@ -1,19 +1,20 @@
 ghost use Rattle.std.specs.Prelude.{◌≡◌, ℕ, ◌<◌, true, false, length, None, IfOk, IfErr, OnOk};
 ghost use Rattle.port_word.specs.Names.{MaySee, IsAllFinished};
 ghost use Rattle.proc_api.specs.Names.{IsRunning, MaySchedule, MayWork, AllOutputsFinished};
-ghost use Rattle.exec_laws.specs.Names.{Acts, ActsCell, IsPort, KeepsFault, Leaves, StaysBox, Turns, port_edge, state_after};
-ghost use Rattle.exec_laws.specs.declared.edges.NodeState.TheVariants.{AtWork};
-ghost use Rattle.pipeline_exec.specs.Cells.{IsCalled, MayAct, MayBeCalled, MayPrepare, SeesPort, Wakes, call_after, cell_picture, port_on};
+ghost use Rattle.exec_laws.specs.Names.{Acts, ActsCell, IsPort, KeepsFault, LeavesView, NodeTurns, StaysBox, port_edge, state_after};
+ghost use Rattle.exec_laws.specs.declared.edges.NodeStatus.TheVariants.{AtWork};
+ghost use Rattle.pipeline_exec.specs.Cells.{IsCalled, MayActOn, MayBeCalled, MayPrepare, SeesPort, WakesBox, cell_picture, port_on};
+ghost use Rattle.node_cells.specs.Turns.{call_after};
 
 use chunk_data::Chunk;
-use exec_laws::{DueCall, NodeMark, NodeState};
+use exec_laws::{DueCall, NodeMark, NodeStatus};
 use port_word::{Flags, Port, PortView};
 use proc_api::{Processor, Status, Wake, WorkFault, shut_down};
 
 /// What the executor has of a node beside its processor: its view, its mark, and the numbers of the
 /// edges at its inputs and at its outputs.
 #[derive(Drop)]
-pub(crate) struct NodePorts {
+pub(crate) struct RoundPorts {
     pub view: PortView,
     pub mark: NodeMark,
     pub inputs: Vec<u32>,
@@ -24,7 +25,7 @@ pub(crate) struct NodePorts {
 #[derive(Drop)]
 pub(crate) struct Cell<P> {
     pub processor: P,
-    pub ports: NodePorts,
+    pub ports: RoundPorts,
     pub fault: Option<WorkFault>,
 }
 
@@ -68,7 +69,7 @@ pub(crate) fn see<P: Processor>(cell: &mut Cell<P>, port: Port, flags: Flags, ch
 /// Prepares a node that has seen its ports. What its processor did waits in the node's view.
 pub(crate) fn prepare_cell<P: Processor>(cell: &mut Cell<P>)
     requires { MayPrepare (cell_picture P.seen cell.old) }
-    ensures { Turns (cell_picture P.seen cell.old) (cell_picture P.seen cell.new) }
+    ensures { NodeTurns (cell_picture P.seen cell.old) (cell_picture P.seen cell.new) }
 {
     let status = cell.processor.prepare(&mut cell.ports.view);
     shut_finished_ports(status, &mut cell.ports.view);
@@ -80,7 +81,7 @@ pub(crate) fn prepare_cell<P: Processor>(cell: &mut Cell<P>)
 
 /// Where the processor has finished, leaves no port open. A lawful one leaves none itself.
 fn shut_finished_ports(status: Status, view: &mut PortView)
-    ensures { Leaves status view.old view.new }
+    ensures { LeavesView status view.old view.new }
 {
     if let Status::Finished = status {
         if !is_all_finished(view) {
@@ -113,15 +114,15 @@ fn are_outputs_finished(view: &PortView) -> bool
     true
 }
 
-fn state_after(status: Status) -> NodeState
+fn state_after(status: Status) -> NodeStatus
     ensures { result ≡ state_after status }
 {
     match status {
-        Status::NeedData | Status::PortFull => NodeState::Resting,
-        Status::Ready => NodeState::AtWork(DueCall::Work),
-        Status::ExpandPipeline => NodeState::AtWork(DueCall::Expand),
-        Status::Async => NodeState::AtWork(DueCall::Schedule),
-        Status::Finished => NodeState::Over,
+        Status::NeedData | Status::PortFull => NodeStatus::Resting,
+        Status::Ready => NodeStatus::AtWork(DueCall::Work),
+        Status::ExpandPipeline => NodeStatus::AtWork(DueCall::Expand),
+        Status::Async => NodeStatus::AtWork(DueCall::Schedule),
+        Status::Finished => NodeStatus::Over,
     }
 }
 
@@ -147,7 +148,7 @@ pub(crate) fn call_cell<P: Processor>(cell: &mut Cell<P>)
 fn is_fetching<P>(cell: &Cell<P>) -> bool
     ensures { result ≡ true → cell.now.fault ≡ None }
 {
-    cell.fault.is_none() && matches!(cell.ports.mark.state, NodeState::AtWork(DueCall::Schedule))
+    cell.fault.is_none() && matches!(cell.ports.mark.state, NodeStatus::AtWork(DueCall::Schedule))
 }
 
 fn call_once<P: Processor>(cell: &mut Cell<P>)
@@ -155,7 +156,7 @@ fn call_once<P: Processor>(cell: &mut Cell<P>)
     ensures called { IsCalled P.seen cell.old cell.new }
     ensures again { cell.new.fault ≡ None → MayBeCalled (cell_picture P.seen cell.new) }
 {
-    if let NodeState::AtWork(call) = cell.ports.mark.state {
+    if let NodeStatus::AtWork(call) = cell.ports.mark.state {
         cell.fault = match make_call(cell, call) {
             Ok(()) => None,
             Err(fault) => Some(fault),
@@ -166,7 +167,7 @@ fn call_once<P: Processor>(cell: &mut Cell<P>)
 /// After a work the node is due to be prepared, and after a schedule it is due the next call.
 fn make_call<P: Processor>(cell: &mut Cell<P>, call: DueCall) -> Result<(), WorkFault>
     requires due { cell.old.ports.mark.state ≡ AtWork call }
-    requires may { MayAct call (P.seen cell.old.processor) }
+    requires may { MayActOn call (P.seen cell.old.processor) }
     ensures stays { StaysBox (P.seen cell.old.processor) (P.seen cell.new.processor) }
     ensures growth { (P.seen cell.new.processor).growth ≡ (P.seen cell.old.processor).growth }
     ensures ok { OnOk result
@@ -176,14 +177,14 @@ fn make_call<P: Processor>(cell: &mut Cell<P>, call: DueCall) -> Result<(), Work
     match call {
         DueCall::Work => match work(&mut cell.processor) {
             Ok(()) => {
-                cell.ports.mark.state = NodeState::Due;
+                cell.ports.mark.state = NodeStatus::Due;
                 Ok(())
             }
             Err(fault) => Err(fault),
         },
         DueCall::Schedule => match schedule(&mut cell.processor) {
             Ok(wake) => {
-                cell.ports.mark.state = NodeState::AtWork(call_after(wake));
+                cell.ports.mark.state = NodeStatus::AtWork(call_after(wake));
                 Ok(())
             }
             Err(fault) => Err(fault),
@@ -219,7 +220,7 @@ fn schedule<P: Processor>(processor: &mut P) -> Result<Wake, WorkFault>
     requires fetching { MaySchedule (P.seen processor.old).notes.answer }
     ensures stays { StaysBox (P.seen processor.old) (P.seen processor.new) }
     ensures growth { (P.seen processor.new).growth ≡ (P.seen processor.old).growth }
-    ensures ok { IfOk result (λ wake. Wakes wake (P.seen processor.old) (P.seen processor.new)) }
+    ensures ok { IfOk result (λ wake. WakesBox wake (P.seen processor.old) (P.seen processor.new)) }
     ensures fault { IfErr result (λ f. KeepsFault f (P.seen processor.new)) }
 {
     processor.schedule()

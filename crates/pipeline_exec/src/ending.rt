@@ -3,10 +3,13 @@ ghost use Rattle.port_word.specs.Names.{in_count, out_count, output_at, WaitsFor
 ghost use Rattle.proc_api.specs.Settled.{Rests};
 ghost use Rattle.exec_laws.specs.Names.{ContradictsStatus, MarkTells, SupportsStatus, boxes_of, cell_at, is_resting, stuck_from};
 ghost use Rattle.pipeline_exec.specs.Cells.{cell_picture, cells_of};
-ghost use Rattle.pipeline_exec.specs.Resting.{HasNoRoom, HasOpenOutput, has_room, is_wanting};
+ghost use Rattle.node_ends.specs.Resting.{HasNoOpenOutput};
+ghost use Rattle.node_ends.specs.Resting.{HasOpenOutput};
+ghost use Rattle.node_ends.specs.Resting.{is_wanting};
+ghost use Rattle.node_ends.specs.Resting.{has_room};
 
 use crate::cell::Cell;
-use exec_laws::{NodeState, StuckNode};
+use exec_laws::{NodeStatus, StuckNode};
 use port_word::PortView;
 use proc_api::{Processor, Status};
 
@@ -41,7 +44,7 @@ fn supports_status<P: Processor>(cell: &Cell<P>) -> bool
     ensures denied { result ≡ false → ContradictsStatus (cell_picture P.seen cell.now) }
 {
     match cell.ports.mark.state {
-        NodeState::Resting => rests(cell.ports.mark.last, &cell.ports.view),
+        NodeStatus::Resting => rests(cell.ports.mark.last, &cell.ports.view),
         _ => true,
     }
 }
@@ -99,8 +102,8 @@ fn has_open_output(view: &PortView) -> bool
 }
 
 fn has_no_room(view: &PortView) -> bool
-    ensures yes { result ≡ true → HasNoRoom view.now }
-    ensures denied { result ≡ false → HasNoRoom view.now → ⊥ }
+    ensures yes { result ≡ true → HasNoOpenOutput view.now }
+    ensures denied { result ≡ false → HasNoOpenOutput view.now → ⊥ }
 {
     for o in 0..view.outputs() {
         if has_room(view, o) {
@@ -141,7 +144,7 @@ fn list_if_stuck<P: Processor>(report: &mut Vec<StuckNode>, node: u32, cell: &Ce
     ensures few { length report.new.items ≤ length report.old.items + 1 }
     ensures room { vec_capacity report.old ≤ vec_capacity report.new }
 {
-    if let NodeState::Resting = cell.ports.mark.state {
+    if let NodeStatus::Resting = cell.ports.mark.state {
         let _ = report.push(StuckNode {
             node,
             last: cell.ports.mark.last,

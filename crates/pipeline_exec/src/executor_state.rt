@@ -2,11 +2,11 @@ ghost use Rattle.std.specs.Prelude.{◌≡◌, ◌<◌, ◌≤◌, [], length, m
 ghost use Rattle.proc_api.specs.Names.{wire_at};
 ghost use Rattle.exec_laws.specs.Names.{HasEdge, HoldsGraph};
 ghost use Rattle.proc_api.specs.Reserves.{holds_node, is_reserved};
-ghost use Rattle.pipeline_exec.specs.Cells.{AreFirstEdges, AreFirstPorts, AreNewEdges, AreNewFrom, AreNewPorts, Fills, HasWire, is_end, port_count};
+ghost use Rattle.pipeline_exec.specs.Cells.{AreFirstEdges, AreFirstPorts, AreNewEdges, AreNewFrom, AreNewRoundPorts, FillsRoundCells, HasWire, is_port_end, port_count};
 
-use crate::cell::{Cell, NodePorts, Side, port_on};
+use crate::cell::{Cell, RoundPorts, Side, port_on};
 use chunk_data::{List, Memory};
-use exec_laws::{EdgeState, NodeMark, NodeState};
+use exec_laws::{EdgeState, NodeMark, NodeStatus};
 use port_word::{Port, PortView, Reserve, Wire};
 use std::alloc::Global;
 
@@ -46,7 +46,7 @@ pub(crate) fn new_ports(
     nodes: usize,
     wires: &[Wire],
     reserves: &[Reserve],
-) -> Result<Vec<NodePorts>, Memory>
+) -> Result<Vec<RoundPorts>, Memory>
     requires { HoldsGraph nodes wires.now }
     ensures { IfOk result
         (λ all. (length all.items ≡ nodes) × AreNewFrom reserves.now wires.now 0 all.items) }
@@ -66,13 +66,13 @@ fn first_ports(
     nodes: usize,
     wires: &[Wire],
     reserves: &[Reserve],
-) -> Result<NodePorts, Memory>
+) -> Result<RoundPorts, Memory>
     requires graph { HoldsGraph nodes wires.now }
     ensures { IfOk result (λ ports. AreFirstPorts reserves.now wires.now node ports) }
 {
     let mut ports = ports_of_node(alloc, node, nodes, wires)?;
     if is_reserved(reserves, node) {
-        ports.mark.state = NodeState::Unborn;
+        ports.mark.state = NodeStatus::Unborn;
     }
     Ok(ports)
 }
@@ -95,16 +95,16 @@ pub(crate) fn ports_of_node(
     node: usize,
     nodes: usize,
     wires: &[Wire],
-) -> Result<NodePorts, Memory>
+) -> Result<RoundPorts, Memory>
     requires graph { HoldsGraph nodes wires.now }
-    ensures { IfOk result (λ ports. AreNewPorts wires.now node ports) }
+    ensures { IfOk result (λ ports. AreNewRoundPorts wires.now node ports) }
 {
     let ins = count_ports(wires, node, Side::Inputs);
     let outs = count_ports(wires, node, Side::Outputs);
     let inputs = edge_numbers(alloc, node, Side::Inputs, ins, nodes, wires)?;
     let outputs = edge_numbers(alloc, node, Side::Outputs, outs, nodes, wires)?;
     let view = PortView::new(alloc, ins, outs)?;
-    Ok(NodePorts {
+    Ok(RoundPorts {
         view,
         mark: NodeMark::new(outs),
         inputs,
@@ -133,7 +133,7 @@ pub(crate) fn edge_numbers(
 }
 
 fn is_end(wire: &Wire, n: usize, port: Port) -> bool
-    ensures { result ≡ is_end wire.now n port }
+    ensures { result ≡ is_port_end wire.now n port }
 {
     match port {
         Port::Input(i) => wire.to as usize == n && wire.input as usize == i,
@@ -170,12 +170,12 @@ pub(crate) fn new_edges(alloc: Global, count: usize) -> Result<Vec<EdgeState>, M
 pub(crate) fn fill_cells<P: Drop>(
     cells: &mut Vec<Cell<P>>,
     processors: &mut Vec<P>,
-    ports: &mut Vec<NodePorts>,
+    ports: &mut Vec<RoundPorts>,
 )
     requires empty { cells.old.items ≡ [] }
     requires room { length processors.old.items ≤ vec_capacity cells.old }
     requires len { length ports.old.items ≡ length processors.old.items }
-    ensures cells { Fills cells.new.items processors.old.items ports.old.items }
+    ensures cells { FillsRoundCells cells.new.items processors.old.items ports.old.items }
     ensures processors { processors.new.items ≡ [] }
     ensures room { vec_capacity processors.old ≤ vec_capacity processors.new }
 {

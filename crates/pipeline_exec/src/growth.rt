@@ -8,13 +8,13 @@ ghost use Rattle.pipeline_exec.specs.Cells.{cells_of};
 ghost use Rattle.proc_api.specs.Ports.{is_me};
 ghost use Rattle.proc_api.specs.Racks.{same_kind};
 ghost use Rattle.query_model.specs.Kinds.{kind_of};
-ghost use Rattle.pipeline_exec.specs.Growing.{are_left, is_unborn, kinds_of, ranks_of, unborn_of};
+ghost use Rattle.pipeline_exec.specs.Growing.{are_left, grown_kinds, is_unborn_state, ranks_of, unborn_of};
 
 use crate::cell::Cell;
 use crate::rounds::mark_of;
 use chunk_data::{List, Memory};
 use exec_graph::{is_gapless, is_port_taken};
-use exec_laws::{Blank, GrowthFlaw, NodeState};
+use exec_laws::{Blank, GrowthFlaw, NodeStatus};
 use port_word::{Reserve, Wire};
 use proc_api::{Edge, GrowNode, Growth, Processor, Who};
 use query_model::processor_spec::Kind;
@@ -102,9 +102,9 @@ pub(crate) fn unborn_of<P: Processor>(
 
 pub(crate) fn is_unborn<P: Processor>(cells: &Vec<Cell<P>>, n: usize) -> bool
     requires { n < length cells.now.items }
-    ensures { result ≡ is_unborn (cell_at (cells_of P.seen cells.now.items) n).mark.state }
+    ensures { result ≡ is_unborn_state (cell_at (cells_of P.seen cells.now.items) n).mark.state }
 {
-    matches!(mark_of(cells, n).state, NodeState::Unborn)
+    matches!(mark_of(cells, n).state, NodeStatus::Unborn)
 }
 
 fn kind_of_cell<P: Processor>(cells: &Vec<Cell<P>>, n: usize) -> Kind
@@ -140,7 +140,7 @@ pub(crate) fn check_growth(
     ensures none { IfOk result (λ r. IfOk r (λ g. growth_flaw ranks.now wires.now
         (record { blanks = blanks.items; edges = edges_left }) n (growth_form growth.now) ≡ None)) }
     ensures places { IfOk result (λ r. IfOk r (λ g. g.places.items
-        ≡ places_for (kinds_of growth.now.nodes) blanks.items (length ranks.now))) }
+        ≡ places_for (grown_kinds growth.now.nodes) blanks.items (length ranks.now))) }
     ensures wires { IfOk result
         (λ r. IfOk r (λ g. g.wires ≡ wires.now ++ new_wires n g.places.items growth.now.edges)) }
 {
@@ -279,7 +279,7 @@ fn places_for(
     requires few { length nodes.now ≤ length blanks.items }
     requires blanks { length blanks.items ≤ 256 }
     ensures { IfOk result
-        (λ places. places.items ≡ places_for (kinds_of nodes.now) blanks.items past) }
+        (λ places. places.items ≡ places_for (grown_kinds nodes.now) blanks.items past) }
 {
     let mut blanks = blanks;
     let mut places = Vec::with_capacity(alloc, nodes.len())?;
@@ -305,7 +305,7 @@ fn take_blank(blanks: &mut Vec<Blank>, kind: Kind, past: u32) -> u32
 
 /// The first kind of which there are fewer blanks than new nodes.
 fn first_lacking(kinds: &[Kind], nodes: &[GrowNode], blanks: &[Blank]) -> Option<Kind>
-    ensures { result ≡ find (lacks_blank (kinds_of nodes.now) blanks.now) kinds.now }
+    ensures { result ≡ find (lacks_blank (grown_kinds nodes.now) blanks.now) kinds.now }
 {
     for kind in kinds {
         if count_blanks(*kind, blanks) < count_nodes(*kind, nodes) {

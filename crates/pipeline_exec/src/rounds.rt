@@ -1,9 +1,9 @@
 ghost use Rattle.std.specs.Prelude.{◌≡◌, ◌+◌, ◌<◌, true, false, length, IfErr, OnOk};
 ghost use Rattle.port_word.specs.Names.{MaySee};
-ghost use Rattle.exec_laws.specs.Names.{IsNothingDue, Turns, cell_at, edge_at, is_waiting, lifted, unloaded};
-ghost use Rattle.exec_laws.specs.declared.edges.NodeState.TheVariants.{Due};
+ghost use Rattle.exec_laws.specs.Names.{IsNothingDue, NodeTurns, cell_at, edge_at, is_waiting, lifted, unloaded};
+ghost use Rattle.exec_laws.specs.declared.edges.NodeStatus.TheVariants.{Due};
 ghost use Rattle.pipeline_exec.specs.Growing.{GrowsTo, RoundEndHolds};
-ghost use Rattle.pipeline_exec.specs.Cells.{ChangesCell, IsTurning, IsUnderWay, MayPrepare, MovesEdge, SeesPort, Shows, Stays, board_of, cells_of, port_count};
+ghost use Rattle.pipeline_exec.specs.Cells.{ChangesCell, IsTurning, IsUnderWay, MayPrepare, MovesEdge, SeesPort, ShowsPorts, StaysAll, board_of, cells_of, port_count};
 
 use crate::actions::{carry_actions, edge_at_port};
 use crate::births::{RoundEnd, grow_due};
@@ -11,7 +11,7 @@ use crate::calls::call_nodes;
 use crate::cell::{Cell, Side, port_on, prepare_cell, see};
 use crate::executor_state::ExecutorState;
 use chunk_data::Chunk;
-use exec_laws::{EdgeState, NodeMark, NodeState};
+use exec_laws::{EdgeState, NodeMark, NodeStatus};
 use port_word::{Flags, Port};
 use proc_api::Processor;
 use std::alloc::Global;
@@ -76,10 +76,10 @@ fn is_any_due<P: Processor>(cells: &Vec<Cell<P>>) -> bool
     false
 }
 
-fn is_waiting(state: NodeState) -> bool
+fn is_waiting(state: NodeStatus) -> bool
     ensures { result ≡ is_waiting state }
 {
-    matches!(state, NodeState::Due | NodeState::AtWork(_))
+    matches!(state, NodeStatus::Due | NodeStatus::AtWork(_))
 }
 
 pub(crate) fn mark_of<P: Processor>(cells: &Vec<Cell<P>>, n: usize) -> NodeMark
@@ -92,7 +92,7 @@ pub(crate) fn mark_of<P: Processor>(cells: &Vec<Cell<P>>, n: usize) -> NodeMark
 /// Prepares the due nodes one after another.
 fn prepare_due<P: Processor>(state: &mut ExecutorState<P>)
     requires { IsUnderWay (board_of P.seen state.old) }
-    ensures stays { Stays (board_of P.seen state.old) (board_of P.seen state.new) }
+    ensures stays { StaysAll (board_of P.seen state.old) (board_of P.seen state.new) }
     ensures under_way { IsUnderWay (board_of P.seen state.new) }
 {
     for n in 0..state.cells.len() {
@@ -107,7 +107,7 @@ fn is_due<P: Processor>(cells: &Vec<Cell<P>>, n: usize) -> bool
     ensures due { result ≡ true → (cell_at (cells_of P.seen cells.now.items) n).mark.state ≡ Due }
 {
     if n < cells.len() {
-        if let NodeState::Due = mark_of(cells, n).state {
+        if let NodeStatus::Due = mark_of(cells, n).state {
             return true;
         }
     }
@@ -117,7 +117,7 @@ fn is_due<P: Processor>(cells: &Vec<Cell<P>>, n: usize) -> bool
 /// A turn of a due node: it sees its ports and is prepared, and what it did is carried out.
 fn prepare_node<P: Processor>(state: &mut ExecutorState<P>, n: usize)
     requires { IsTurning n (board_of P.seen state.old) }
-    ensures stays { Stays (board_of P.seen state.old) (board_of P.seen state.new) }
+    ensures stays { StaysAll (board_of P.seen state.old) (board_of P.seen state.new) }
     ensures under_way { IsUnderWay (board_of P.seen state.new) }
 {
     let (inputs, outputs) = count_ports(&state.cells, n);
@@ -140,7 +140,7 @@ fn count_ports<P: Processor>(cells: &Vec<Cell<P>>, n: usize) -> (usize, usize)
 fn show_side<P: Processor>(state: &mut ExecutorState<P>, n: usize, side: Side, count: usize)
     requires turning { IsTurning n (board_of P.seen state.old) }
     requires count { count ≡ port_count state.old.wires n side }
-    ensures { Shows n side 0 count (board_of P.seen state.old) (board_of P.seen state.new) }
+    ensures { ShowsPorts n side 0 count (board_of P.seen state.old) (board_of P.seen state.new) }
 {
     for k in 0..count {
         show_port(state, n, side, k);
@@ -151,7 +151,7 @@ fn show_side<P: Processor>(state: &mut ExecutorState<P>, n: usize, side: Side, c
 fn show_port<P: Processor>(state: &mut ExecutorState<P>, n: usize, side: Side, k: usize)
     requires turning { IsTurning n (board_of P.seen state.old) }
     requires port { k < port_count state.old.wires n side }
-    ensures { Shows n side k (k + 1) (board_of P.seen state.old) (board_of P.seen state.new) }
+    ensures { ShowsPorts n side k (k + 1) (board_of P.seen state.old) (board_of P.seen state.new) }
 {
     let port = port_on(side, k);
     let e = edge_at_port(&state.cells, n, port);
@@ -209,7 +209,7 @@ fn see_at<P: Processor>(
 fn prepare_at<P: Processor>(cells: &mut Vec<Cell<P>>, n: usize)
     requires node { n < length cells.old.items }
     requires may { MayPrepare (cell_at (cells_of P.seen cells.old.items) n) }
-    ensures { ChangesCell n Turns (cells_of P.seen cells.old.items)
+    ensures { ChangesCell n NodeTurns (cells_of P.seen cells.old.items)
         (cells_of P.seen cells.new.items) }
 {
     prepare_cell(&mut cells[n]);

@@ -3,21 +3,23 @@ ghost use Rattle.proc_api.specs.Graphs.{IsGraph};
 ghost use Rattle.proc_api.specs.Reserves.{AreReserves, AreStarting};
 ghost use Rattle.exec_laws.specs.Ends.{GivenBack, IsNothingDue, boxes_of};
 ghost use Rattle.pipeline_exec.specs.Cells.{AreNewEdges, AreNewFrom, IsUnderWay, board_of, cells_of};
-ghost use Rattle.pipeline_exec.specs.Ends.{EndHolds, EndsSettled, IsFaultEnd};
-ghost use Rattle.pipeline_exec.specs.Growing.{Gives, are_left, begun};
+ghost use Rattle.pipeline_exec.specs.Ends.{EndsSettled, ExecEndHolds, IsFaultEnd};
+ghost use Rattle.pipeline_exec.specs.Growing.{GivesBoxes, are_left, begun};
 
 use crate::births::RoundEnd;
-use crate::cell::{Cell, NodePorts};
+use crate::cell::{Cell, RoundPorts};
 use crate::ending::{first_unlawful, list_stuck};
 use crate::executor_state::{ExecutorState, empty_cells, fill_cells, new_edges, new_ports};
 use crate::growth::edges_left;
 use crate::rounds::run_rounds;
+use crate::worker_run::run_new_cells;
 use chunk_data::{List, Memory};
 use exec_graph::Graph;
 use exec_laws::{EdgeState, GrowthFlaw, StuckNode};
 use port_word::{Reserve, Wire};
 use proc_api::{Processor, WorkFault};
 use std::alloc::Global;
+use std::sync::Wait;
 use std::thread::Threads;
 
 /// How a run ended.
@@ -43,17 +45,83 @@ pub struct RunResult {
 }
 
 /// Runs a graph to its end, with at most so many workers.
-pub fn run_graph<R: AllocGlobal + Threads + Sync>(rt: &R, graph: Graph, workers: u32) -> RunResult
+pub fn run_graph<R: AllocGlobal + Threads + Wait + Sync>(
+    rt: &R,
+    graph: Graph,
+    workers: u32,
+) -> RunResult
     requires some_workers { 1 ≤ workers }
     requires few_workers { workers ≤ 16 }
     requires starting { AreStarting graph.reserves (map (λ b. seen b) graph.boxes.items) }
     ensures back { GivenBack (map (λ b. seen b) graph.boxes.items)
         (map (λ b. seen b) result.boxes.items) }
-    ensures end { EndHolds result.end (record {
+    ensures end { ExecEndHolds result.end (record {
       ranks = graph.ranks;
       wires = graph.wires;
       reserves =
           graph.reserves;
+      boxes = map (λ b. seen b) graph.boxes.items;
+    })
+        (map (λ b. seen b) result.boxes.items) }
+{
+    // Growth isn't on the port-driven workers yet.
+    if graph.reserves.len() == 0 {
+        run_by_ports(rt, graph, workers)
+    } else {
+        run_in_rounds(rt, graph, workers)
+    }
+}
+
+/// Runs a graph without reserves, on which workers go by its ports. All memory is taken before the
+/// first step.
+fn run_by_ports<R: AllocGlobal + Threads + Wait + Sync>(
+    rt: &R,
+    graph: Graph,
+    workers: u32,
+) -> RunResult
+    requires some_workers { 1 ≤ workers }
+    requires few_workers { workers ≤ 16 }
+    requires bare { graph.reserves ≡ [] }
+    requires starting { AreStarting graph.reserves (map (λ b. seen b) graph.boxes.items) }
+    ensures back { GivenBack (map (λ b. seen b) graph.boxes.items)
+        (map (λ b. seen b) result.boxes.items) }
+    ensures end { ExecEndHolds result.end (record {
+      ranks = graph.ranks;
+      wires = graph.wires;
+      reserves = graph.reserves;
+      boxes = map (λ b. seen b) graph.boxes.items;
+    })
+        (map (λ b. seen b) result.boxes.items) }
+{
+    let Ok(mut room) = Vec::with_capacity(rt.alloc(), graph.boxes.len()) else {
+        return RunResult {
+            boxes: graph.boxes,
+            end: ExecEnd::Memory,
+        };
+    };
+    match graph.into_cells(workers) {
+        Ok(new) => {
+            let end = run_new_cells(rt, rt.alloc(), new, &mut room, workers);
+            RunResult { boxes: room, end }
+        }
+        Err(boxes) => RunResult {
+            boxes,
+            end: ExecEnd::Memory,
+        },
+    }
+}
+
+/// Runs a graph that may grow, in rounds.
+fn run_in_rounds<R: AllocGlobal + Threads + Sync>(rt: &R, graph: Graph, workers: u32) -> RunResult
+    requires some_workers { 1 ≤ workers }
+    requires few_workers { workers ≤ 16 }
+    requires starting { AreStarting graph.reserves (map (λ b. seen b) graph.boxes.items) }
+    ensures back { GivenBack (map (λ b. seen b) graph.boxes.items)
+        (map (λ b. seen b) result.boxes.items) }
+    ensures end { ExecEndHolds result.end (record {
+      ranks = graph.ranks;
+      wires = graph.wires;
+      reserves = graph.reserves;
       boxes = map (λ b. seen b) graph.boxes.items;
     })
         (map (λ b. seen b) result.boxes.items) }
@@ -92,7 +160,7 @@ fn run_boxes<P: Processor, R: Threads + Sync>(
     requires reserves { AreReserves (length ranks) (length wires) wires reserves }
     requires starting { AreStarting reserves (map P.seen boxes.old.items) }
     ensures back { GivenBack (map P.seen boxes.old.items) (map P.seen boxes.new.items) }
-    ensures end { EndHolds result (record {
+    ensures end { ExecEndHolds result (record {
       ranks = ranks;
       wires = wires;
       reserves = reserves;
@@ -134,7 +202,7 @@ fn run_in_cells<P: Processor, R: Threads + Sync>(
     rt: &R,
     alloc: Global,
     boxes: &mut Vec<P>,
-    mut ports: Vec<NodePorts>,
+    mut ports: Vec<RoundPorts>,
     state: ExecutorState<P>,
     report: Vec<StuckNode>,
     workers: usize,
@@ -153,7 +221,7 @@ fn run_in_cells<P: Processor, R: Threads + Sync>(
     requires report { report.items ≡ [] }
     requires report_room { length boxes.old.items ≤ vec_capacity report }
     ensures back { GivenBack (map P.seen boxes.old.items) (map P.seen boxes.new.items) }
-    ensures end { EndHolds result (record {
+    ensures end { ExecEndHolds result (record {
       ranks = state.ranks.items;
       wires = state.wires;
       reserves =
@@ -181,26 +249,25 @@ fn run_state<P: Processor, R: Threads + Sync>(
     requires room { length state.old.cells.items ≤ vec_capacity report }
     requires left { state.old.left.items
         ≡ are_left state.old.reserves (length state.old.cells.items) }
-    ensures gives { Gives (cells_of P.seen state.old.cells.items)
+    ensures gives { GivesBoxes (cells_of P.seen state.old.cells.items)
         (cells_of P.seen state.new.cells.items) }
-    ensures end { EndHolds result (begun (board_of P.seen state.old))
+    ensures end { ExecEndHolds result (begun (board_of P.seen state.old))
         (boxes_of (cells_of P.seen state.new.cells.items)) }
 {
     match run_rounds(rt, state, alloc, workers) {
         Ok(()) => end_of(state, report),
-        Err(RoundEnd::Fault(f)) => fault_end(f.node, f.fault),
+        Err(RoundEnd::Fault(f)) => fault_end(f.node as u32, f.fault),
         Err(RoundEnd::Flaw(n, flaw)) => ExecEnd::BadGrowth(n as u32, flaw),
         Err(RoundEnd::Memory) => ExecEnd::Memory,
     }
 }
 
-fn fault_end(node: usize, fault: WorkFault) -> ExecEnd
-    requires { node ≤ 256 }
+pub(crate) fn fault_end(node: u32, fault: WorkFault) -> ExecEnd
     ensures { IsFaultEnd result node fault }
 {
     match fault {
         WorkFault::Memory => ExecEnd::Memory,
-        fault => ExecEnd::Fault(node as u32, fault),
+        fault => ExecEnd::Fault(node, fault),
     }
 }
 

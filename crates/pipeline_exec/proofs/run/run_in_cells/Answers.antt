@@ -1,4 +1,4 @@
-use Rattle.pipeline_exec.proofs.Imports.{EndHolds, all-back, begun, board_of, boxes-end, map, state-started, subst, sym}
+use Rattle.pipeline_exec.proofs.Imports.{ExecEndHolds, all-back, begun, board_of, boxes-end, map, state-started, subst, sym}
 use Rattle.pipeline_exec.proofs.run.run_in_cells.Goals as goal
 
 pub run_state-end-requires-clause-under_way : goal.run_state-end-requires-clause-under_way
@@ -18,12 +18,12 @@ returns-clause-back g c =
 pub returns-clause-end : goal.returns-clause-end
 returns-clause-end g c =
     let s = c.args.state in
-    subst (λ l. EndHolds c.run_state-end.result
+    subst (λ l. ExecEndHolds c.run_state-end.result
     (record { ranks = s.ranks.items; wires = s.wires; reserves = s.reserves; boxes = l })
     (map g.P.Processor.seen c.empty_cells.new.processors.items))
     (boxes-end g.P.Processor.seen c.fill_cells.new.cells.items c.args.boxes.now.items
     (sym c.fill_cells.ensures.cells.processors))
-    (subst (λ l. EndHolds c.run_state-end.result
+    (subst (λ l. ExecEndHolds c.run_state-end.result
     (begun (board_of g.P.Processor.seen (record s { cells = c.fill_cells.new.cells }))) l)
     (boxes-end g.P.Processor.seen c.run_state-end.new.state.cells.items
     c.empty_cells.new.processors.items c.empty_cells.ensures) c.run_state-end.ensures.end)
